@@ -1,0 +1,61 @@
+//! The command line of `cephmeta`.
+ghost use Rattle.std.specs.Prelude.{◌≡◌, ◌≤◌, IfOk};
+
+use clap::error::ErrorKind;
+use clap::{Arg, Command, Error, value_parser};
+use std::alloc::Global;
+
+/// What the command line asks for: a script over a cluster of so many ranks.
+#[derive(Clone, Copy, Debug, PartialEq, Eq)]
+pub struct Options {
+    /// How many ranks the cluster has; 1, so far.
+    pub ranks: u8,
+    /// How many fragments a rank may cache; it has no effect yet.
+    pub cache: u32,
+}
+
+/// Reads the words of a command line, the program's own name first. An error is a text for the user with the status to
+/// exit with: 0 where help was asked for, and otherwise 2.
+pub fn settings(alloc: Global, words: &[String]) -> Result<Options, Error>
+    ensures ranks { IfOk result (λ s. s.ranks ≡ 1) }
+    ensures least { IfOk result (λ s. 512 ≤ s.cache) }
+    ensures most { IfOk result (λ s. s.cache ≤ 65536) }
+{
+    let mut program = program(alloc)?;
+    let matches = program.try_get_matches_from_mut(words)?;
+    if let Some(script) = matches.subcommand_matches("script") {
+        let ranks = script.get_one::<u8>("ranks");
+        let cache = script.get_one::<u32>("cache");
+        if let (Some(1), Some(cache)) = (ranks, cache) {
+            if 512 <= cache && cache <= 65536 {
+                return Ok(Options { ranks: 1, cache });
+            }
+        }
+    }
+    Err(program.error(ErrorKind::InvalidValue, "a number is out of its range")?)
+}
+
+// The command that clap parses.
+fn program<'a>(alloc: Global) -> Result<Command<'a>, Error> {
+    let ranks = Arg::new(alloc, "ranks")
+        .long("ranks")
+        .value_name("N")
+        .value_parser(value_parser!(u8).range(1..=1))
+        .default_value("1")
+        .help("Metadata server ranks in the cluster");
+    let cache = Arg::new(alloc, "cache")
+        .long("cache")
+        .value_name("M")
+        .value_parser(value_parser!(u32).range(512..=65536))
+        .default_value("4096")
+        .help("Fragments that a rank may cache");
+    let script = Command::new(alloc, "script")
+        .about("Runs a script from standard input over a cluster with an empty tree")
+        .arg(ranks)?
+        .arg(cache)?;
+    let program = Command::new(alloc, "cephmeta")
+        .about("A metadata cluster in one process")
+        .subcommand_required(true)
+        .subcommand(script)?;
+    Ok(program)
+}

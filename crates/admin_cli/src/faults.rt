@@ -1,0 +1,35 @@
+//! Why a script ends before its input does.
+
+use std::fmt;
+use thiserror::Error;
+
+/// What ended a script.
+#[derive(Clone, Copy, Debug, PartialEq, Eq)]
+pub enum FaultKind {
+    NotCommand,
+    TooLong,
+    ReadFault,
+    WriteFault,
+    OutOfMemory,
+}
+
+impl fmt::Display for FaultKind {
+    fn fmt<W: fmt::Write>(&self, f: &mut fmt::Formatter<W>) -> fmt::Result {
+        match self {
+            FaultKind::NotCommand => write!(f, "not a command"),
+            FaultKind::TooLong => write!(f, "too long"),
+            FaultKind::ReadFault => write!(f, "read fault"),
+            FaultKind::WriteFault => write!(f, "write fault"),
+            FaultKind::OutOfMemory => write!(f, "out of memory"),
+        }
+    }
+}
+
+/// A script's end before that of its input: the line that was being read or answered, all lines counted from 1, and what
+/// happened there.
+#[derive(Clone, Copy, Debug, PartialEq, Eq, Error)]
+#[error("line {line}: {kind}")]
+pub struct ScriptFault {
+    pub line: u64,
+    pub kind: FaultKind,
+}

@@ -1,0 +1,13 @@
+//! The engine of the `cephmeta` program: its command line, and the script that it runs over a cluster.
+#![tactic(auto)]
+
+mod command_line;
+mod commands;
+mod faults;
+mod script;
+
+
+pub use faults::{FaultKind, ScriptFault};
+pub use script::run_script;
+pub use command_line::{Options, settings};
+

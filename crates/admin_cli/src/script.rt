@@ -1,0 +1,71 @@
+//! Running a script.
+ghost use Rattle.std.specs.Prelude.{◌≡◌, ◌≤◌};
+
+use crate::commands::Admin;
+use crate::faults::{FaultKind, ScriptFault};
+use cluster_core::format;
+use script_text::{Line, LineBuffer, LineFault, NextLine, OutputFault, OutputLine, next_line, read_line, write_line};
+use std::alloc::Global;
+use std::io::{BufRead, BufReader, Read, Write};
+
+/// Runs a script over a cluster with an empty tree: for each line of the reader that is a command, one line is written
+/// with what became of it. A fault ends the script; what the lines before it printed has been written.
+pub fn run_script<H: AllocGlobal, R: Read + Drop, W: Write>(
+    rt: &H,
+    reader: R,
+    writer: &mut W,
+    ranks: u8,
+    cache: u32,
+) -> Result<(), ScriptFault>
+    requires ranked { ranks ≡ 1 }
+    requires least { 512 ≤ cache }
+    requires most { cache ≤ 65536 }
+{
+    let alloc = rt.alloc();
+    let mut admin = Admin::new(format(alloc, ranks, cache));
+    let Ok(mut buffer) = LineBuffer::new(alloc) else {
+        return Err(ScriptFault { line: 1, kind: FaultKind::OutOfMemory });
+    };
+    let Ok(mut reader) = BufReader::new(alloc, reader) else {
+        return Err(ScriptFault { line: 1, kind: FaultKind::OutOfMemory });
+    };
+    run_lines(alloc, &mut reader, &mut buffer, writer, &mut admin)
+}
+
+// Runs the lines of a reader, one after the other. More lines than 64 bits count are a read fault.
+fn run_lines<R: BufRead, W: Write>(
+    alloc: Global,
+    reader: &mut R,
+    buffer: &mut LineBuffer,
+    writer: &mut W,
+    admin: &mut Admin,
+) -> Result<(), ScriptFault> {
+    for line in 1..u64::MAX {
+        match next_line(reader, buffer) {
+            Ok(NextLine::Read) => {}
+            Ok(NextLine::End) => return Ok(()),
+            Err(LineFault::TooLong) => return Err(ScriptFault { line, kind: FaultKind::TooLong }),
+            Err(LineFault::Fault) => return Err(ScriptFault { line, kind: FaultKind::ReadFault }),
+        }
+        if let Err(kind) = run_line(alloc, buffer.as_bytes(), writer, admin) {
+            return Err(ScriptFault { line, kind });
+        }
+    }
+    Err(ScriptFault { line: u64::MAX, kind: FaultKind::ReadFault })
+}
+
+// Runs one line, and writes what it prints.
+fn run_line<W: Write>(alloc: Global, bytes: &[u8], writer: &mut W, admin: &mut Admin) -> Result<(), FaultKind> {
+    let Ok(line) = read_line(alloc, bytes) else { return Err(FaultKind::OutOfMemory) };
+    let output = match line {
+        Line::Nothing => return Ok(()),
+        Line::NotCommand => return Err(FaultKind::NotCommand),
+        Line::BadName(errno) => OutputLine::Errno(errno),
+        Line::Command(command) => admin.execute(alloc, command),
+    };
+    match write_line(alloc, writer, &output) {
+        Ok(()) => Ok(()),
+        Err(OutputFault::NoMemory) => Err(FaultKind::OutOfMemory),
+        Err(OutputFault::Write) => Err(FaultKind::WriteFault),
+    }
+}

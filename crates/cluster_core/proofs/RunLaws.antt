@@ -1,0 +1,198 @@
+-- Whole runs: the history grows, and each reply that was handed out stands in it.
+use Rattle.std.proofs.Common.{◌≡◌, ℕ, ◌+◌, ◌<◌, ◌≤◌, Bool, true, false, nat_lt, ◌&&◌, List, [], ◌∷◌, ◌++◌, take, drop, get_or, length, suc, ◌-◌, MatchBool, Result, Ok, Err, refl, sym, ap, subst, ◌∙◌, append_assoc, arith}
+use Rattle.std.proofs.Math.Seq.{get_or-append_seam}
+use Rattle.std.proofs.lemmas.List.{append-nil, length-append, length-drop, get_or_append_left, drop_more, take_more, take_all}
+use Rattle.std.proofs.lemmas.Bool.{eqb-true}
+use Rattle.std.specs.List.{slice_index_or, AllByRecursion}
+use Rattle.mds_types.specs.declared.entries.Entry.{Entry}
+use Rattle.mds_types.specs.declared.requests.Request.{Request}
+use Rattle.mds_types.specs.declared.replies.Reply.{Reply as Replied}
+use Rattle.mds_types.specs.declared.refusals.Refusal.{Refusal}
+use Rattle.mds_types.specs.declared.refusals.Refusal.TheVariants.{NoMemory, StoreFault, NoInodes, Trimmed, NotAuthority, Frozen, Pinned, NoSuchFrag, BadSplit, TooManyFrags, StaleJob, JobOutstanding, WrongExportState, InboxEmpty, InboxFull, NothingToEvict, Damaged, NotClean}
+use Rattle.cluster_core.specs.declared.answers.Answer.{Answer}
+use Rattle.cluster_core.specs.declared.answers.Answer.TheVariants.{Nothing, Reply}
+use Rattle.cluster_core.specs.declared.events.Event.{Event}
+use Rattle.cluster_core.specs.declared.events.Event.TheVariants.{Arrive, Serve}
+use Rattle.cluster_core.specs.Core.{Core, Kept}
+use Rattle.cluster_core.specs.Serve.{IsApplied, IsRepeated, IsLeftWaiting, IsTakenOut, ServesRequest, ServesInbox, entry_of, outcome_of}
+use Rattle.cluster_core.specs.Steps.{Steps, ArrivesInbox, MayRefuse, ranks}
+use Rattle.cluster_core.specs.Runs.{StepsBook, Runs, IsRun, StandsAt, IsOfHistory, BeginsWith}
+
+-- what one step leaves of the history, and what its answer says of it
+pub record IsStepOf (past now : List Entry) (result : Result Answer Refusal) : Type 0 where
+  pub grows : BeginsWith now past
+  pub told : IsOfHistory now result
+
+unchanged : (past now : List Entry) → now ≡ past → BeginsWith now past
+unchanged past now same = ([], same ∙ sym (append-nil past))
+
+refused : (past now : List Entry) (reason : Refusal) → now ≡ past → IsStepOf past now (Err reason)
+refused past now reason same = record { grows = unchanged past now same; told = tt }
+
+applied : (old new : Core) (past now : List Entry) (request : Request) (rest : List Request) (client tid place : ℕ) (reply : Replied)
+  → IsApplied old new past now request rest client tid place reply → IsStepOf past now (Ok (Reply client tid place true reply))
+applied old new past now request rest client tid place reply h =
+    let entry = entry_of old request in
+    let last : (e : Entry) → slice_index_or now place e ≡ entry = λ e. rw (h.appended, h.placed) (get_or-append_seam past entry [] e) in
+    record {
+      grows = (entry ∷ [], h.appended);
+      told = record {
+        in_range = rw (h.appended, h.placed) (omega (arith, length-append past (entry ∷ [])));
+        client_is = λ e. ap (λ (x : Entry). x.client) (last e) ∙ sym h.client_is;
+        tid_is = λ e. ap (λ (x : Entry). x.tid) (last e) ∙ sym h.tid_is;
+        reply_is = λ e. ap (λ (x : Entry). x.reply) (last e) ∙ sym h.replied
+      }
+    }
+
+both_true : (a b : Bool) → (a && b) ≡ true → (a ≡ true) × (b ≡ true)
+both_true true b h = (refl, h)
+both_true false b h = cc
+
+repeated : (old new : Core) (past now : List Entry) (request : Request) (rest : List Request) (client tid place : ℕ) (reply : Replied)
+  → IsRepeated old new past now request rest client tid place reply → IsStepOf past now (Ok (Reply client tid place false reply))
+repeated old new past now request rest client tid place reply h =
+    let pair = λ (e : Entry). both_true _ _ (h.kept.at.pair e) in
+    record {
+      grows = unchanged past now h.same;
+      told = rw h.same (record {
+        in_range = h.kept.at.in_range;
+        client_is = λ e. eqb-true _ _ (pair e).0 ∙ sym h.client_is;
+        tid_is = λ e. eqb-true _ _ (pair e).1 ∙ sym h.tid_is;
+        reply_is = λ e. sym (h.replied e)
+      })
+    }
+
+module _ (old new : Core) (past now : List Entry) where
+  waiting : (reason : Refusal) → IsLeftWaiting old new past now → IsStepOf past now (Err reason)
+  waiting reason h = refused past now reason h.same
+
+  arrived : (request : Request) (result : Result Answer Refusal) → ArrivesInbox old new past now request result → IsStepOf past now result
+  arrived request (Ok Nothing) h = record { grows = unchanged past now h.2; told = tt }
+  arrived request (Ok (Reply client tid place first reply)) h = absurd h
+  arrived request (Err InboxFull) h = waiting InboxFull h.1
+  arrived request (Err NoMemory) h = waiting NoMemory h.1
+  arrived request (Err StoreFault) h = absurd h
+  arrived request (Err NoInodes) h = absurd h
+  arrived request (Err Trimmed) h = absurd h
+  arrived request (Err NotAuthority) h = absurd h
+  arrived request (Err Frozen) h = absurd h
+  arrived request (Err Pinned) h = absurd h
+  arrived request (Err NoSuchFrag) h = absurd h
+  arrived request (Err BadSplit) h = absurd h
+  arrived request (Err TooManyFrags) h = absurd h
+  arrived request (Err StaleJob) h = absurd h
+  arrived request (Err JobOutstanding) h = absurd h
+  arrived request (Err WrongExportState) h = absurd h
+  arrived request (Err InboxEmpty) h = absurd h
+  arrived request (Err NothingToEvict) h = absurd h
+  arrived request (Err (Damaged object)) h = absurd h
+  arrived request (Err NotClean) h = absurd h
+
+  served : (request : Request) (rest : List Request) (result : Result Answer Refusal) → ServesRequest old new past now MayRefuse request rest result → IsStepOf past now result
+  served request rest (Ok Nothing) h = absurd h
+  served request rest (Ok (Reply client tid place true reply)) h = applied old new past now request rest client tid place reply h
+  served request rest (Ok (Reply client tid place false reply)) h = repeated old new past now request rest client tid place reply h
+  served request rest (Err Trimmed) h = refused past now Trimmed h.1.same
+  served request rest (Err NoInodes) h = refused past now NoInodes h.2.same
+  served request rest (Err NoMemory) h = waiting NoMemory h.1
+  served request rest (Err StoreFault) h = waiting StoreFault h.2
+  served request rest (Err NothingToEvict) h = waiting NothingToEvict h.2
+  served request rest (Err (Damaged object)) h = waiting (Damaged object) h.2
+  served request rest (Err NotAuthority) h = absurd h
+  served request rest (Err Frozen) h = absurd h
+  served request rest (Err Pinned) h = absurd h
+  served request rest (Err NoSuchFrag) h = absurd h
+  served request rest (Err BadSplit) h = absurd h
+  served request rest (Err TooManyFrags) h = absurd h
+  served request rest (Err StaleJob) h = absurd h
+  served request rest (Err JobOutstanding) h = absurd h
+  served request rest (Err WrongExportState) h = absurd h
+  served request rest (Err InboxEmpty) h = absurd h
+  served request rest (Err InboxFull) h = absurd h
+  served request rest (Err NotClean) h = absurd h
+
+  served_inbox : (result : Result Answer Refusal) (inbox : List Request) → ServesInbox old new past now MayRefuse result inbox → IsStepOf past now result
+  served_inbox result [] h = subst (IsStepOf past now) (sym h.0) (waiting InboxEmpty h.1)
+  served_inbox result (request ∷ rest) h = served request rest result h
+
+  at_rank : (here : Bool) (result : Result Answer Refusal) {done : Type 0} → (done → IsStepOf past now result) → MatchBool here done ((result ≡ Err NotAuthority) × IsLeftWaiting old new past now) → IsStepOf past now result
+  at_rank true result go h = go h
+  at_rank false result go h = subst (IsStepOf past now) (sym h.0) (waiting NotAuthority h.1)
+
+  -- one step adds to the history alone, and a reply that it hands out stands there
+  pub step_of : (result : Result Answer Refusal) (event : Event) → Steps old new past now result event → IsStepOf past now result
+  step_of result (Arrive rank request) h = at_rank (nat_lt rank.0 ranks) result (arrived request result) h
+  step_of result (Serve rank) h = at_rank (nat_lt rank.0 ranks) result (served_inbox result old.inbox) h
+
+-- what stands in a history stands in each that begins with it
+still_stands : (past now : List Entry) (client tid place : ℕ) (reply : Replied) → BeginsWith now past → StandsAt past client tid place reply → StandsAt now client tid place reply
+still_stands past now client tid place reply (rest, grown) h =
+    let same : (e : Entry) → slice_index_or now place e ≡ slice_index_or past place e = λ e. rw grown (get_or_append_left past rest e place h.in_range) in
+    record {
+      in_range = rw grown (omega (arith, length-append past rest, h.in_range));
+      client_is = λ e. ap (λ (x : Entry). x.client) (same e) ∙ h.client_is e;
+      tid_is = λ e. ap (λ (x : Entry). x.tid) (same e) ∙ h.tid_is e;
+      reply_is = λ e. ap (λ (x : Entry). x.reply) (same e) ∙ h.reply_is e
+    }
+
+still_told : (past now : List Entry) (result : Result Answer Refusal) → BeginsWith now past → IsOfHistory past result → IsOfHistory now result
+still_told past now (Ok Nothing) grown h = tt
+still_told past now (Ok (Reply client tid place first reply)) grown h = still_stands past now client tid place reply grown h
+still_told past now (Err reason) grown h = tt
+
+grown_twice : (a b c : List Entry) → BeginsWith b a → BeginsWith c b → BeginsWith c a
+grown_twice a b c (p, e) (q, f) = (p ++ q, f ∙ ap (λ xs. xs ++ q) e ∙ append_assoc a p q)
+
+run_of_no_events : (start end : Kept) → end ≡ start → IsRun start [] [] end
+run_of_no_events start end h = record {
+  ran = h;
+  same_opening = ap (λ (k : Kept). k.opening) h;
+  grows = unchanged start.history end.history (ap (λ (k : Kept). k.history) h);
+  told = tt
+}
+
+-- a run keeps the opening, the history and each reply
+pub run_of : (start : Kept) (events : List Event) (results : List (Result Answer Refusal)) (end : Kept) → Runs start events results end → IsRun start events results end
+run_of start [] [] end h = run_of_no_events start end h
+run_of start [] (result ∷ results) end h = absurd h
+run_of start (event ∷ events) [] end h = absurd h
+run_of start (event ∷ events) (result ∷ results) end (next, one, more) =
+    let first = step_of start.core next.core start.history next.history result event one.stepped in
+    let others = run_of next events results end more in
+    record {
+      ran = (next, one, more);
+      same_opening = others.same_opening ∙ one.same_opening;
+      grows = grown_twice start.history next.history end.history first.grows others.grows;
+      told = (still_told next.history end.history result others.grows first.told, others.told)
+    }
+
+-- one event more
+pub runs-push : (start middle end : Kept) (events : List Event) (results : List (Result Answer Refusal)) (result : Result Answer Refusal) (event : Event)
+  → Runs start events results middle → StepsBook middle end result event → Runs start (events ++ event ∷ []) (results ++ result ∷ []) end
+runs-push start middle end [] [] result event h one = (end, subst (λ k. StepsBook k end result event) h one, refl)
+runs-push start middle end [] (r ∷ results) result event h one = absurd h
+runs-push start middle end (e ∷ events) [] result event h one = absurd h
+runs-push start middle end (e ∷ events) (r ∷ results) result event (next, first, more) one =
+    (next, first, runs-push next middle end events results result event more one)
+
+-- the first of what is left of a list
+split_next : {A : Type 0} (n : ℕ) (xs : List A) (x : A) (rest : List A) → x ∷ rest ≡ drop n xs → (take (n + 1) xs ≡ take n xs ++ x ∷ []) × (rest ≡ drop (n + 1) xs)
+split_next n xs x rest left =
+    let long : suc (length rest) ≡ length xs - n = ap length left ∙ length-drop n xs in
+    let below : n < length xs = omega arith in
+    let e : x ∷ rest ≡ get_or xs n x ∷ drop (n + 1) xs = left ∙ drop_more xs n x below in
+    let head : x ≡ get_or xs n x = cc in
+    let tail : rest ≡ drop (n + 1) xs = cc in
+    (take_more xs n x below ∙ ap (λ y. take n xs ++ y ∷ []) (sym head), tail)
+
+-- one event more of those that are left
+pub run_more : (start middle end : Kept) (events rest : List Event) (results new_results : List (Result Answer Refusal)) (result : Result Answer Refusal) (event : Event) (n m : ℕ)
+  → Runs start (take n events) results middle → event ∷ rest ≡ drop n events → StepsBook middle end result event → m ≡ n + 1 → new_results ≡ results ++ result ∷ []
+  → Runs start (take m events) new_results end × (rest ≡ drop m events)
+run_more start middle end events rest results new_results result event n m h left one more grown =
+    let s = split_next n events event rest left in
+    rw (more, grown) (rw s.0 (runs-push start middle end (take n events) results result event h one), s.1)
+
+-- no event is left
+pub run_all : (start end : Kept) (events : List Event) (results : List (Result Answer Refusal)) (n : ℕ) → Runs start (take n events) results end → length events ≤ n → Runs start events results end
+run_all start end events results n h few = subst (λ es. Runs start es results end) (take_all n events few) h

@@ -1,0 +1,18 @@
+-- What contracts see of a cluster.
+use Rattle.std.specs.Prelude.{List}
+use Rattle.mds_types.specs.declared.entries.Entry.{Entry}
+use Rattle.mds_types.specs.declared.requests.Request.{Request}
+use Rattle.mds_types.specs.Tree.{Tree}
+use Rattle.inode_table.specs.Numbers.{Supply}
+
+-- a cluster of one rank: the tree that its fragments show, the requests that wait, and the inode numbers left
+pub record Core : Type 0 where
+  pub shown : Tree
+  pub inbox : List Request
+  pub numbers : Supply
+
+-- a book: a cluster, the history of what it answered, and the tree that it opened with
+pub record Kept : Type 0 where
+  pub opening : Tree
+  pub history : List Entry
+  pub core : Core

@@ -1,0 +1,13 @@
+pub use Rattle.mds_types.specs.Tree
+pub use Rattle.mds_types.specs.Step
+pub use Rattle.mds_types.specs.History
+pub use Rattle.inode_table.specs.Numbers
+pub mod Core
+pub mod Inbox
+pub mod Offer
+pub mod Prepared
+pub mod Runs
+pub mod Seen
+pub mod Serve
+pub mod Sound
+pub mod Steps

@@ -1,0 +1,47 @@
+-- Whole runs: what a list of events does to a book.
+use Rattle.std.specs.Prelude.{◌≡◌, ℕ, ◌<◌, true, false, List, [], ◌∷◌, ◌++◌, length, Result, Ok, Err}
+use Rattle.std.specs.List.{slice_index_or, AllByRecursion}
+use Rattle.mds_types.specs.declared.entries.Entry.{Entry}
+use Rattle.mds_types.specs.declared.replies.Reply.{Reply as Replied}
+use Rattle.mds_types.specs.declared.refusals.Refusal.{Refusal}
+use Rattle.cluster_core.specs.declared.answers.Answer.{Answer}
+use Rattle.cluster_core.specs.declared.answers.Answer.TheVariants.{Nothing, Reply}
+use Rattle.cluster_core.specs.declared.events.Event.{Event}
+use Rattle.cluster_core.specs.Core.{Kept}
+use Rattle.cluster_core.specs.Steps.{Steps}
+
+-- one event leads from a book to the next, with this result
+pub record StepsBook (old new : Kept) (result : Result Answer Refusal) (event : Event) : Type 0 where
+  pub stepped : Steps old.core new.core old.history new.history result event
+  pub same_opening : new.opening ≡ old.opening
+
+-- events lead from one book to another, one after the other, with a result for each
+abbrev pub Runs : Kept → List Event → List (Result Answer Refusal) → Kept → Type 0
+Runs start [] [] end = end ≡ start
+Runs start [] (result ∷ results) end = ⊥
+Runs start (event ∷ events) [] end = ⊥
+Runs start (event ∷ events) (result ∷ results) end = (next : Kept) × StepsBook start next result event × Runs next events results end
+
+-- the entry at a place is that of this client and transaction number, with this reply
+pub record StandsAt (history : List Entry) (client tid place : ℕ) (reply : Replied) : Type 0 where
+  pub in_range : place < length history
+  pub client_is : (e : Entry) → (slice_index_or history place e).client ≡ client
+  pub tid_is : (e : Entry) → (slice_index_or history place e).tid ≡ tid
+  pub reply_is : (e : Entry) → (slice_index_or history place e).reply ≡ reply
+
+-- a reply that was handed out is the history's
+abbrev pub IsOfHistory : List Entry → Result Answer Refusal → Type 0
+IsOfHistory history (Ok Nothing) = Unit {0}
+IsOfHistory history (Ok (Reply client tid place first reply)) = StandsAt history client tid place reply
+IsOfHistory history (Err reason) = Unit {0}
+
+-- one history begins with another
+abbrev pub BeginsWith : List Entry → List Entry → Type 0
+BeginsWith history past = (rest : List Entry) × (history ≡ past ++ rest)
+
+-- a run: the opening stays, the history grows, and each reply that was handed out is the history's at the end
+pub record IsRun (start : Kept) (events : List Event) (results : List (Result Answer Refusal)) (end : Kept) : Type 0 where
+  pub ran : Runs start events results end
+  pub same_opening : end.opening ≡ start.opening
+  pub grows : BeginsWith end.history start.history
+  pub told : AllByRecursion (IsOfHistory end.history) results

@@ -1,0 +1,38 @@
+-- What each event does to a cluster and its history.
+use Rattle.std.specs.Prelude.{◌≡◌, ℕ, true, false, nat_lt, MatchBool, ◌∷◌, [], ◌++◌, ◌<◌, List, length, Result, Ok, Err}
+use Rattle.mds_types.specs.declared.ids.Rank.{Rank}
+use Rattle.mds_types.specs.declared.entries.Entry.{Entry}
+use Rattle.mds_types.specs.declared.requests.Request.{Request}
+use Rattle.mds_types.specs.declared.refusals.Refusal.{Refusal}
+use Rattle.mds_types.specs.declared.refusals.Refusal.TheVariants.{NoMemory, NotAuthority, InboxFull}
+use Rattle.cluster_core.specs.declared.answers.Answer.{Answer}
+use Rattle.cluster_core.specs.declared.answers.Answer.TheVariants.{Nothing, Reply}
+use Rattle.cluster_core.specs.declared.events.Event.{Event}
+use Rattle.cluster_core.specs.declared.events.Event.TheVariants.{Arrive, Serve}
+use Rattle.cluster_core.specs.Core.{Core}
+use Rattle.cluster_core.specs.Serve.{IsLeftWaiting, ServesInbox}
+
+-- a cluster of one rank, so far
+abbrev pub ranks : ℕ
+ranks = 1
+
+-- an arriving request goes to the back of the rank's inbox; refused InboxFull exactly where 1024 requests wait there
+abbrev pub ArrivesInbox : (old new : Core) → (past now : List Entry) → Request → Result Answer Refusal → Type 0
+ArrivesInbox old new past now request (Ok Nothing) = (length old.inbox < 1024) × (new ≡ record old { inbox = old.inbox ++ request ∷ [] }) × (now ≡ past)
+ArrivesInbox old new past now request (Ok (Reply client tid place first reply)) = ⊥
+ArrivesInbox old new past now request (Err InboxFull) = (length old.inbox ≡ 1024) × IsLeftWaiting old new past now
+ArrivesInbox old new past now request (Err NoMemory) = (length old.inbox < 1024) × IsLeftWaiting old new past now
+ArrivesInbox old new past now request (Err other) = ⊥
+
+-- an event names a rank, and a rank that isn't there is refused NotAuthority before all else
+abbrev pub AtRank : (old new : Core) → (past now : List Entry) → Rank → Result Answer Refusal → Type 0 → Type 0
+AtRank old new past now rank result done = MatchBool (nat_lt rank.0 ranks) done ((result ≡ Err NotAuthority) × IsLeftWaiting old new past now)
+
+-- a cluster's fragments refuse for want of memory alone, so far
+abbrev pub MayRefuse : Refusal → Type 0
+MayRefuse reason = reason ≡ NoMemory
+
+-- one step
+abbrev pub Steps : (old new : Core) → (past now : List Entry) → Result Answer Refusal → Event → Type 0
+Steps old new past now result (Arrive rank request) = AtRank old new past now rank result (ArrivesInbox old new past now request result)
+Steps old new past now result (Serve rank) = AtRank old new past now rank result (ServesInbox old new past now MayRefuse result old.inbox)

@@ -1,0 +1,85 @@
+//! The cluster and its events.
+ghost use Rattle.std.specs.Prelude.{◌≡◌, ◌^◌, []};
+ghost use Rattle.std.specs.FinMap as map;
+ghost use Rattle.cluster_core.specs.Steps.{Steps, AtRank, ArrivesInbox, MayRefuse};
+ghost use Rattle.cluster_core.specs.Serve.{ServesInbox};
+
+use crate::answers::Answer;
+use crate::events::Event;
+use crate::inboxes::Inbox;
+use crate::serving::serve_front;
+use inode_table::Numbers;
+use mds_types::{Entry, Rank, Refusal, Request};
+use namespace_ops::PlainFrags;
+use std::alloc::Global;
+use std::marker::Model;
+
+/// A cluster of metadata server ranks that serve one tree; of one rank, so far.
+#[derive(Debug, Drop)]
+pub struct Cluster {
+    frags: PlainFrags,
+    inbox: Inbox,
+    numbers: Numbers,
+}
+
+impl Model for Cluster {
+    ghost use Rattle.std.specs.Coded.{codes};
+    ghost use Rattle.std.specs.FinMap as map;
+    ghost use Rattle.cluster_core.specs.Core.{Core};
+
+    ghost Value = { Core };
+
+    ghost coded = { Prim.hlevel (codes, map.code) };
+
+    ghost view = { λ c. record { shown = c.frags.tree; inbox = c.inbox; numbers = c.numbers } };
+}
+
+impl Cluster {
+    /// How many ranks there are.
+    pub const RANKS: u8 = 1;
+
+    /// A cluster that serves the empty tree.
+    pub(crate) fn new(alloc: Global) -> Cluster
+        ensures empty { result.shown ≡ map.empty }
+        ensures waiting { result.inbox ≡ [] }
+        ensures numbers { result.numbers ≡ record { rank = 0; next = 2 ^ 40 } }
+    {
+        Cluster {
+            frags: PlainFrags::new(alloc),
+            inbox: Inbox::new(alloc),
+            numbers: Numbers::from(Rank(0), Numbers::first_of(Rank(0)).0),
+        }
+    }
+
+    /// One event, one atomic step.
+    pub fn step(&mut self, alloc: Global, history: &mut Vec<Entry>, event: Event) -> Result<Answer, Refusal>
+        ensures { Steps self.old self.new history.old.items history.new.items result event }
+    {
+        match event {
+            Event::Arrive { rank, request } => self.arrive(rank, request),
+            Event::Serve { rank } => self.serve(alloc, history, rank),
+        }
+    }
+
+    /// A request comes in, and waits at the back of the rank's inbox.
+    pub fn arrive(&mut self, rank: Rank, request: Request) -> Result<Answer, Refusal>
+        ensures { AtRank self.old self.new [] [] rank result (ArrivesInbox self.old self.new [] [] request result) }
+    {
+        if rank.0 >= Cluster::RANKS {
+            return Err(Refusal::NotAuthority);
+        }
+        self.inbox.arrive(request)?;
+        Ok(Answer::Nothing)
+    }
+
+    /// The rank serves the request at the front of its inbox.
+    pub fn serve(&mut self, alloc: Global, history: &mut Vec<Entry>, rank: Rank) -> Result<Answer, Refusal>
+        ensures { AtRank self.old self.new history.old.items history.new.items rank result
+            (ServesInbox self.old self.new history.old.items history.new.items MayRefuse result self.old.inbox) }
+    {
+        if rank.0 >= Cluster::RANKS {
+            return Err(Refusal::NotAuthority);
+        }
+        serve_front(alloc, &mut self.frags, &mut self.inbox, &mut self.numbers, history)
+    }
+}

@@ -1,0 +1,36 @@
+//! Whole runs of a book.
+ghost use Rattle.std.specs.Prelude.{◌≡◌, ◌+◌, ◌<◌, ◌≤◌, ◌++◌, ◌∷◌, [], vec_len, vec_capacity, MatchResult};
+ghost use Rattle.cluster_core.specs.Sound.{IsSoundBook};
+ghost use Rattle.cluster_core.specs.Runs.{IsRun};
+
+use crate::answers::Answer;
+use crate::books::Book;
+use crate::events::Event;
+use mds_types::Refusal;
+use std::alloc::Global;
+
+/// Steps a book by each event of a list, one after the other, and answers a result for each. Each reply among them is the
+/// history's, which is legal from the opening tree. The list of results is reserved before the first event: an error says
+/// that this was refused, and that nothing was done.
+pub fn run(alloc: Global, book: &mut Book, events: Vec<Event>) -> Result<Vec<Result<Answer, Refusal>>, Refusal>
+    ensures ran { MatchResult result (λ results. IsRun book.old events.items results.items book.new) (λ reason. (reason ≡ Refusal.NoMemory) × (book.new ≡ book.old)) }
+    ensures sound { IsSoundBook book.new }
+{
+    let _ = book.history();
+    let mut results = Vec::with_capacity(alloc, events.len())?;
+    let mut events = events.into_iter();
+    while let Some(event) = events.next() {
+        put(&mut results, book.step(alloc, event));
+    }
+    Ok(results)
+}
+
+// Puts a result at the end of a list that has room for it.
+fn put(results: &mut Vec<Result<Answer, Refusal>>, newest: Result<Answer, Refusal>)
+    requires { vec_len results.old < vec_capacity results.old }
+    ensures items { results.new.items ≡ results.old.items ++ newest ∷ [] }
+    ensures len { vec_len results.new ≡ vec_len results.old + 1 }
+    ensures capacity { vec_capacity results.old ≤ vec_capacity results.new }
+{
+    let _ = results.push(newest);
+}

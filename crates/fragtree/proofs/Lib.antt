@@ -1,0 +1,5 @@
+pub mod Ranges
+pub mod Tilings
+pub mod Splits
+pub mod Merges
+pub mod TreeLaws

@@ -1,0 +1,134 @@
+-- What follows from the definitions of trees, picks, splits and merges.
+use Rattle.std.proofs.Common.{◌≡◌, ◌≢◌, ◌↔◌, ◌⊎◌, inl, inr, ℕ, zero, suc, ◌+◌, ◌/◌, ◌%◌, ◌^◌, ◌<◌, ◌≤◌, true, false, List, [], ◌∷◌, length, refl, sym, ap, subst, ◌∙◌, arith}
+use Rattle.std.proofs.lemmas.Bool.Decides.{nat_tests}
+use Rattle.std.proofs.lemmas.List.{get_or_default}
+use Rattle.mds_types.specs.Frag.{Fragment, IsFragment, Contains, ContainsFragment, root_fragment, span}
+use Rattle.mds_types.specs.declared.refusals.Refusal.{Refusal}
+use Rattle.mds_types.specs.declared.refusals.Refusal.TheVariants.{NoMemory, NoSuchFrag, BadSplit, TooManyFrags}
+use Rattle.fragtree.specs.FragTree.{Tiles, IsTree, HasLeaf, IsPick, IsChild, IsSplit, IsMerge, CanMerge, RefusesSplit, RefusesMerge, lies_inside}
+use Rattle.fragtree.specs.Places.{leaf_at}
+use Rattle.fragtree.proofs.Ranges.{span_pos, ends_within, next_multiple, range_from_Contains, Contains-from_range, range_from_inside, range_from_quotient, lies_inside-true}
+use Rattle.fragtree.proofs.Tilings.{between, low_le_high, low_place, pick_from_place, place_from_Contains}
+
+pub some_pick : (leaves : List Fragment) (hash : ℕ) → IsTree leaves → (leaf : Fragment) × IsPick leaves hash leaf
+some_pick leaves hash tree =
+    let w = low_place leaves tree.tiles hash in
+    (leaf_at leaves w.0, pick_from_place leaves tree.tiles hash w.0 w.1)
+
+-- a leaf that contains the hash is its pick
+pub pick_from_leaf : (leaves : List Fragment) (hash : ℕ) (leaf : Fragment) → IsTree leaves → HasLeaf leaves leaf → Contains leaf hash → IsPick leaves hash leaf
+pick_from_leaf leaves hash leaf tree (i, stands, is) has =
+    let same : leaf_at leaves i ≡ leaf = get_or_default leaves i root_fragment leaf stands ∙ is in
+    let place = place_from_Contains leaves tree.tiles hash i stands (subst (λ f. Contains f hash) (sym same) has) in
+    subst (IsPick leaves hash) same (pick_from_place leaves tree.tiles hash i place)
+
+pub one_pick : (leaves : List Fragment) (hash : ℕ) (f g : Fragment) → IsPick leaves hash f → IsPick leaves hash g → f ≡ g
+one_pick leaves hash f g p q = q.alone f p.stands p.contains
+
+first_or_later : (f g : Fragment) (fs : List Fragment) → HasLeaf (f ∷ fs) g → (f ≡ g) ⊎ HasLeaf fs g
+first_or_later f g fs (zero, stands, is) = inl is
+first_or_later f g fs (suc k, stands, is) = inr (k, omega (arith, stands), is)
+
+later : (f g : Fragment) (fs : List Fragment) → HasLeaf fs g → HasLeaf (f ∷ fs) g
+later f g fs (k, stands, is) = (suc k, omega (arith, stands), is)
+
+same_tiles : (low high : ℕ) (xs ys : List Fragment) → Tiles low high xs → Tiles low high ys → ((g : Fragment) → HasLeaf xs g → HasLeaf ys g) → xs ≡ ys
+same_tiles low high [] [] t u h = refl
+same_tiles low high [] (g ∷ gs) t u h = absurd (omega (arith, t, span_pos g.bits, low_le_high (low + span g.bits) high gs u.2))
+same_tiles low high (f ∷ fs) [] t u h = absurd (omega (arith, u, span_pos f.bits, low_le_high (low + span f.bits) high fs t.2))
+same_tiles low high (f ∷ fs) (g ∷ gs) t u h =
+    let same : g ≡ f = elim (first_or_later g f gs (h f (zero, omega arith, refl))) [
+      | inl is ↦ is
+      | inr out ↦ absurd (omega (arith, (between (low + span g.bits) high gs f u.2 out).1, t.1, span_pos g.bits))
+    ] in
+    let rest : Tiles (low + span f.bits) high gs = subst (λ (k : Fragment). Tiles (low + span k.bits) high gs) same u.2 in
+    let within : (k : Fragment) → HasLeaf fs k → HasLeaf gs k = λ k stands. elim (first_or_later g k gs (h k (later f k fs stands))) [
+      | inl is ↦ absurd (omega (arith, (between (low + span f.bits) high fs k t.2 stands).1, ap (λ (j : Fragment). j.value) is, u.1, span_pos f.bits))
+      | inr stays ↦ stays
+    ] in
+    ap (λ k. k ∷ fs) (sym same) ∙ ap (λ ks. g ∷ ks) (same_tiles (low + span f.bits) high fs gs t.2 rest within)
+
+pub same_trees : (xs ys : List Fragment) → IsTree xs → IsTree ys → ((g : Fragment) → HasLeaf xs g ↔ HasLeaf ys g) → xs ≡ ys
+same_trees xs ys t u h = same_tiles 0 (2 ^ 24) xs ys t.tiles u.tiles (λ g. (h g).0)
+
+-- what lies inside is contained, and another
+pub inside_iff : (f g : Fragment) → IsFragment f → IsFragment g → (lies_inside f g ≡ true) ↔ (ContainsFragment f g × (g ≢ f))
+inside_iff f g hf hg = (contained, inside) where
+  contained : lies_inside f g ≡ true → ContainsFragment f g × (g ≢ f)
+  contained e =
+      let more : f.bits < g.bits = grind (arith, nat_tests) in
+      let same : g.value / span f.bits ≡ f.value / span f.bits = grind (arith, nat_tests) in
+      ((omega arith, same), λ is. omega (arith, ap (λ (h : Fragment). h.bits) is))
+
+  inside : ContainsFragment f g × (g ≢ f) → lies_inside f g ≡ true
+  inside (within, other) =
+      let w = range_from_quotient f.value g.value (span f.bits) (span_pos f.bits) hf.justified within.1 in
+      let not_same : g.bits ≤ f.bits → ⊥ = λ le.
+      let bits : g.bits ≡ f.bits = omega (arith, within.0) in
+      let not_after : f.value < g.value → ⊥ = λ less. omega (arith, next_multiple f.value g.value (span f.bits) hf.justified (subst (λ b. g.value % span b ≡ 0) bits hg.justified) less, w.1) in
+      let values : g.value ≡ f.value = omega (arith, w.0) in
+      other (λ i. record { bits = bits i; value = values i }) in
+      lies_inside-true f g hf (omega arith) w.0 w.1
+
+module _ (old new : List Fragment) (f : Fragment) (tree : IsTree new) (hash : ℕ) (leaf : Fragment) (p : IsPick old hash leaf) where
+  -- after a split a hash of another leaf has its pick, and one of the split leaf has a child of it
+  pub pick_after_split : (nb : ℕ) → IsSplit old new f nb → leaf ≢ f → IsPick new hash leaf
+  pick_after_split nb s other = pick_from_leaf new hash leaf tree ((s.leaves leaf).1 (inl (p.stands, other))) p.contains
+
+  pub child_after_split : (nb : ℕ) → IsSplit old new f nb → leaf ≡ f → (child : Fragment) → IsPick new hash child → IsChild f nb child
+  child_after_split nb s is child q =
+      elim ((s.leaves child).0 q.stands) [
+        | inl (stands, other) ↦ absurd (other (p.alone child stands q.contains ∙ is))
+        | inr is_child ↦ is_child
+      ]
+
+  -- after a merge a hash of a leaf that wasn't merged has its pick, and one of a merged leaf has the merged one
+  pub pick_after_merge : IsMerge old new f → lies_inside f leaf ≡ false → IsPick new hash leaf
+  pick_after_merge m out = pick_from_leaf new hash leaf tree ((m.leaves leaf).1 (inl (p.stands, out))) p.contains
+
+  pub merged_after_merge : IsTree old → IsMerge old new f → lies_inside f leaf ≡ true → IsPick new hash f
+  merged_after_merge was m in_f =
+      let stands : HasLeaf new f = (m.leaves f).1 (inr refl) in
+      let hf = (between 0 (2 ^ 24) new f tree.tiles stands).0 in
+      let hl = (between 0 (2 ^ 24) old leaf was.tiles p.stands).0 in
+      let w = range_from_inside f leaf hf in_f in
+      let v = range_from_Contains leaf hash hl p.contains in
+      let ends = ends_within f leaf hf hl (omega (arith, w.0)) w.2 in
+      pick_from_leaf new hash f tree stands (Contains-from_range f hash hf (omega (arith, w.1, v.0)) (omega (arith, v.1, ends)))
+
+pub one_split_refusal : (leaves : List Fragment) (f : Fragment) (nb : ℕ) (a b : Refusal) → RefusesSplit leaves f nb a → RefusesSplit leaves f nb b → a ≡ b
+one_split_refusal leaves f nb NoSuchFrag NoSuchFrag h k = refl
+one_split_refusal leaves f nb NoSuchFrag BadSplit h k = absurd (h k.0)
+one_split_refusal leaves f nb NoSuchFrag TooManyFrags h k = absurd (h k.0)
+one_split_refusal leaves f nb NoSuchFrag NoMemory h k = absurd (h k.stands)
+one_split_refusal leaves f nb BadSplit NoSuchFrag h k = absurd (k h.0)
+one_split_refusal leaves f nb BadSplit BadSplit h k = refl
+one_split_refusal leaves f nb BadSplit TooManyFrags h k = absurd (h.1 k.1)
+one_split_refusal leaves f nb BadSplit NoMemory h k = absurd (h.1 k.fits)
+one_split_refusal leaves f nb TooManyFrags NoSuchFrag h k = absurd (k h.0)
+one_split_refusal leaves f nb TooManyFrags BadSplit h k = absurd (k.1 h.1)
+one_split_refusal leaves f nb TooManyFrags TooManyFrags h k = refl
+one_split_refusal leaves f nb TooManyFrags NoMemory h k = absurd (omega (arith, h.2, k.few))
+one_split_refusal leaves f nb NoMemory NoSuchFrag h k = absurd (k h.stands)
+one_split_refusal leaves f nb NoMemory BadSplit h k = absurd (k.1 h.fits)
+one_split_refusal leaves f nb NoMemory TooManyFrags h k = absurd (omega (arith, h.few, k.2))
+one_split_refusal leaves f nb NoMemory NoMemory h k = refl
+one_split_refusal leaves f nb NoSuchFrag _ h k = absurd k
+one_split_refusal leaves f nb BadSplit _ h k = absurd k
+one_split_refusal leaves f nb TooManyFrags _ h k = absurd k
+one_split_refusal leaves f nb NoMemory _ h k = absurd k
+one_split_refusal leaves f nb _ b h k = absurd h
+
+pub one_merge_refusal : (leaves : List Fragment) (f : Fragment) (a b : Refusal) → RefusesMerge leaves f a → RefusesMerge leaves f b → a ≡ b
+one_merge_refusal leaves f NoSuchFrag NoSuchFrag h k = refl
+one_merge_refusal leaves f NoSuchFrag TooManyFrags h k = absurd (omega (arith, ap (length {A = Fragment}) h, k))
+one_merge_refusal leaves f TooManyFrags NoSuchFrag h k = absurd (omega (arith, ap (length {A = Fragment}) k, h))
+one_merge_refusal leaves f TooManyFrags TooManyFrags h k = refl
+one_merge_refusal leaves f NoSuchFrag _ h k = absurd k
+one_merge_refusal leaves f TooManyFrags _ h k = absurd k
+one_merge_refusal leaves f _ b h k = absurd h
+
+pub refused_or_merged : (leaves : List Fragment) (f : Fragment) (a : Refusal) → RefusesMerge leaves f a → CanMerge leaves f → ⊥
+refused_or_merged leaves f NoSuchFrag h k = omega (arith, ap (length {A = Fragment}) h, k.some)
+refused_or_merged leaves f TooManyFrags h k = omega (arith, h, k.few)
+refused_or_merged leaves f _ h k = h

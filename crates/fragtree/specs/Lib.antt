@@ -1,0 +1,2 @@
+pub mod FragTree
+pub mod Places

@@ -1,0 +1,87 @@
+//! How a leaf is split.
+ghost use Rattle.std.specs.Prelude.{◌≡◌, ◌↔◌, ◌+◌, ◌-◌, ◌^◌, ◌<◌, ◌≤◌, ◌++◌, IsTrue, IfErr, OnErr, OnOk, take, drop, suc, vec_len, vec_capacity};
+ghost use Rattle.fragtree.specs.FragTree.{CanSplit, FitsSplit, IsSplit, IsTree, RefusesSplit};
+ghost use Rattle.fragtree.specs.Places.{first_children};
+ghost use Rattle.mds_types.specs.Frag.{child_of};
+
+use crate::places::place_of_leaf;
+use crate::tree::FragTree;
+use mds_types::{Frag, Refusal};
+
+impl FragTree {
+    /// Replaces the leaf by its children of so many more bits, 1 to 8, and to at most 24. The room is taken first, so a
+    /// refused split leaves all as it was.
+    pub fn split(&mut self, f: Frag, nb: u8) -> Result<(), Refusal>
+        ensures can { OnOk result (CanSplit self.old f nb) }
+        ensures split { OnOk result (IsSplit self.old self.new f nb) }
+        ensures refused { IfErr result (RefusesSplit self.old f nb) }
+        ensures err { OnErr result (self.new ≡ self.old) }
+        ensures valid { IsTree self.new }
+    {
+        let Some(place) = place_of_leaf(&self.leaves, f) else {
+            return Err(Refusal::NoSuchFrag);
+        };
+        if !fits_split(f, nb) {
+            return Err(Refusal::BadSplit);
+        }
+        let more = child_count(nb) - 1;
+        if self.leaves.len() + more > FragTree::MAX_LEAVES {
+            return Err(Refusal::TooManyFrags);
+        }
+        self.leaves.reserve(more)?;
+        put_children(&mut self.leaves, place, f, nb);
+        Ok(())
+    }
+}
+
+// Whether a fragment can be split by so many bits.
+fn fits_split(f: Frag, nb: u8) -> bool
+    ensures { IsTrue result ↔ FitsSplit f nb }
+{
+    1 <= nb && nb <= FragTree::MAX_SPLIT_BITS && nb <= Frag::MAX_BITS - f.bits()
+}
+
+// How many children of so many more bits a fragment has.
+fn child_count(nb: u8) -> usize
+    requires { nb ≤ 8 }
+    ensures count { result ≡ 2 ^ nb }
+    ensures few { result ≤ 256 }
+    ensures some { 1 ≤ result }
+{
+    1 << nb
+}
+
+// Puts the children of a leaf in its place, where there is room for them. What stands after the leaf is brought to the
+// front meanwhile.
+fn put_children(leaves: &mut Vec<Frag>, place: usize, f: Frag, nb: u8)
+    requires stands { place < vec_len leaves.old }
+    requires fits { FitsSplit f nb }
+    requires room { vec_len leaves.old - 1 + 2 ^ nb ≤ vec_capacity leaves.old }
+    ensures { leaves.new.items ≡ take place leaves.old.items ++ first_children f nb (2 ^ nb) ++ drop (suc place) leaves.old.items }
+{
+    let after = leaves.len() - place - 1;
+    leaves.rotate_right(after);
+    leaves.truncate(after + place);
+    push_children(leaves, f, nb);
+    leaves.rotate_left(after);
+}
+
+// Appends the children of a fragment, where there is room for them.
+fn push_children(leaves: &mut Vec<Frag>, f: Frag, nb: u8)
+    requires fits { FitsSplit f nb }
+    requires room { vec_len leaves.old + 2 ^ nb ≤ vec_capacity leaves.old }
+    ensures { leaves.new.items ≡ leaves.old.items ++ first_children f nb (2 ^ nb) }
+{
+    for i in 0..1 << nb {
+        let _ = leaves.push(child(f, i, nb));
+    }
+}
+
+// The child `i` of a fragment by so many bits.
+fn child(f: Frag, i: u32, nb: u8) -> Frag
+    requires fits { f.bits + nb ≤ 24 }
+    requires below { i < 2 ^ nb }
+    ensures { result ≡ child_of f i nb }
+{
+    f.child(i, nb).unwrap()
+}

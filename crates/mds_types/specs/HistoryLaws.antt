@@ -1,0 +1,50 @@
+-- Laws of histories: what one more entry changes.
+use Rattle.std.specs.Prelude.{◌≡◌, ℕ, suc, ◌<◌, ◌≤◌, ◌⊎◌, List, [], ◌∷◌, ◌++◌, take, length, map, Option, Some, None, Contains, option_map, refl}
+use Rattle.std.specs.List.{filter_map, slice_index_or}
+use Rattle.std.proofs.Common.{sym, ap, subst, ◌∙◌, inl, inr, ⊎_elim, arith}
+use Rattle.std.proofs.Math.Seq.{take-append_seam, get_or-append_seam}
+use Rattle.std.proofs.lemmas.Bool.{cases_lt}
+use Rattle.std.proofs.lemmas.List.{length-append, take-append-le, get_or_append_left}
+use Rattle.std.proofs.lemmas.List.Elements.{Contains-append_cases, filter_map-append}
+use Rattle.mds_types.specs.declared.ids.Ino.{Ino}
+use Rattle.mds_types.specs.declared.entries.Entry.{Entry}
+use Rattle.mds_types.specs.Tree.{Tree}
+use Rattle.mds_types.specs.Step.{step, number_or}
+use Rattle.mds_types.specs.History.{after, IsTaken, IsUsed, IsNext, IsLegal}
+
+-- the tree after one entry more
+pub after-push : (opening : Tree) (past : List Entry) (e : Entry) → after opening (past ++ e ∷ []) ≡ (step (after opening past) e.op (number_or e.number)).tree
+after-push opening [] e = refl
+after-push opening (x ∷ past) e = after-push (step opening x.op (number_or x.number)).tree past e
+
+-- one entry more is legal where it may come next
+pub legal-push : (opening : Tree) (past : List Entry) (e : Entry) → IsLegal opening past → IsNext opening past e → IsLegal opening (past ++ e ∷ [])
+legal-push opening past e legal next k d below = ⊎_elim earlier last (cases_lt k (length past))
+  where
+    earlier : k < length past → IsNext opening (take k (past ++ e ∷ [])) (slice_index_or (past ++ e ∷ []) k d)
+    earlier h =
+        let few : k ≤ length past = omega arith in
+        rw (take-append-le k past (e ∷ []) few, get_or_append_left past (e ∷ []) d k h) (legal k d h)
+    last : length past ≤ k → IsNext opening (take k (past ++ e ∷ [])) (slice_index_or (past ++ e ∷ []) k d)
+    last h =
+        let long : length past ≡ k = omega (arith, below, length-append past (e ∷ [])) in
+        subst (λ n. IsNext opening (take n (past ++ e ∷ [])) (slice_index_or (past ++ e ∷ []) n d)) long
+          (rw (take-append_seam past (e ∷ []), get_or-append_seam past e [] d) next)
+
+-- a number that is taken with one entry more was taken before or by that entry
+pub taken-push : (past : List Entry) (e : Entry) (n : ℕ) → IsTaken (past ++ e ∷ []) n → IsTaken past n ⊎ (e.number ≡ Some (record { 0 = n }))
+taken-push past e n (k, x, below, is, took) = ⊎_elim earlier last (cases_lt k (length past))
+  where
+    earlier : k < length past → IsTaken past n ⊎ (e.number ≡ Some (record { 0 = n }))
+    earlier h = inl (k, x, h, sym (get_or_append_left past (e ∷ []) x k h) ∙ is, took)
+    last : length past ≤ k → IsTaken past n ⊎ (e.number ≡ Some (record { 0 = n }))
+    last h =
+        let long : k ≡ length past = omega (arith, below, length-append past (e ∷ [])) in
+        let same : e ≡ x = sym (get_or-append_seam past e [] x) ∙ ap (λ i. slice_index_or (past ++ e ∷ []) i x) (sym long) ∙ is in
+        inr (ap (λ (y : Entry). y.number) same ∙ took)
+
+-- a number that is used with one entry more was used before or is that entry's
+pub used-push : (opening : Tree) (past : List Entry) (e : Entry) (n : ℕ) → IsUsed opening (past ++ e ∷ []) n → IsUsed opening past n ⊎ (e.number ≡ Some (record { 0 = n }))
+used-push opening past e n (inl one) = inl (inl one)
+used-push opening past e n (inr (inl stands)) = inl (inr (inl stands))
+used-push opening past e n (inr (inr taken)) = ⊎_elim (λ before. inl (inr (inr before))) inr (taken-push past e n taken)

@@ -1,0 +1,15 @@
+pub mod Decided
+pub mod Frag
+pub mod History
+pub mod HistoryLaws
+pub mod ListingLaws
+pub mod Name
+pub mod NameFault
+pub mod PlaceLaws
+pub mod Refusal
+pub mod Step
+pub mod StepLaws
+pub mod TargetFault
+pub mod Tree
+pub mod TreeLaws
+pub mod WellFormedLaws

@@ -1,0 +1,19 @@
+-- What becomes of bytes that are offered as a name, and the error number of each fault.
+use Rattle.std.specs.Prelude.{◌≡◌, ℕ, ◌<◌, ◌≤◌, List, length, Option, Some, None, Result, Ok, Err}
+use Rattle.mds_types.specs.declared.names.NameFault.{NameFault}
+use Rattle.mds_types.specs.declared.names.NameFault.TheVariants.{Invalid, TooLong, NoMemory}
+use Rattle.mds_types.specs.declared.errno.TheConstants.{EINVAL, ENAMETOOLONG}
+use Rattle.mds_types.specs.Name.{IsName}
+
+-- Ok exactly for a name, with those bytes; else the fault of its errno, unless memory is refused
+abbrev pub NameFromBytes : List ℕ → Result (List ℕ) NameFault → Type 0
+NameFromBytes bytes (Ok name) = IsName bytes × (name ≡ bytes)
+NameFromBytes bytes (Err NoMemory) = IsName bytes
+NameFromBytes bytes (Err TooLong) = 255 < length bytes
+NameFromBytes bytes (Err Invalid) = (length bytes ≤ 255) × (IsName bytes → ⊥)
+
+-- the error number that an operation on such a name answers
+abbrev pub name_errno : NameFault → Option ℕ
+name_errno Invalid = Some EINVAL
+name_errno TooLong = Some ENAMETOOLONG
+name_errno NoMemory = None

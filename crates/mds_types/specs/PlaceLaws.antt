@@ -1,0 +1,22 @@
+-- The order of places: total, and exact in that only equal places tie.
+use Rattle.std.specs.Prelude.{◌≡◌, ℕ, List, refl}
+use Rattle.std.specs.declared.cmp.Ordering.TheVariants.{Equal}
+use Rattle.std.specs.Ordering.{nat_cmp}
+use Rattle.std.specs.Cmp.{IsTotalOrder, on_total, then_total, nat_cmp_total}
+use Rattle.std.specs.Cmp.Lexicographic.{slice_cmp, nat_list_cmp_total}
+use Rattle.std.specs.FinMap.{IsAntisymmetric, nat_cmp-IsAntisymmetric}
+use Rattle.std.proofs.lemmas.Map.Lookups.{exact_unsigned, exact_bytes, exact_pairs}
+use Rattle.mds_types.specs.declared.ids.Ino.{Ino}
+use Rattle.mds_types.specs.declared.places.Place.{Place}
+use Rattle.mds_types.specs.Tree.{place_cmp}
+
+pub ino-exact : IsAntisymmetric (λ (a b : Ino). nat_cmp a.0 b.0)
+ino-exact a b tied = let same = nat_cmp-IsAntisymmetric a.0 b.0 tied in λ i. record { 0 = same i }
+
+pub place-exact : IsAntisymmetric place_cmp
+place-exact a b tied =
+    let same : (a.dir.0, a.name) ≡ (b.dir.0, b.name) = exact_pairs nat_cmp (slice_cmp nat_cmp) exact_unsigned exact_bytes (a.dir.0, a.name) (b.dir.0, b.name) tied in
+    λ i. record { dir = record { 0 = (same i).0 }; name = (same i).1 }
+
+pub place-total : IsTotalOrder place_cmp
+place-total = then_total (on_total (λ p. p.dir.0) nat_cmp_total) (on_total (λ p. p.name) nat_list_cmp_total)

@@ -1,0 +1,71 @@
+-- The plain tree: what the fragments, caches and objects of all ranks together mean.
+use Rattle.std.specs.Prelude.{◌≡◌, ℕ, Bool, true, false, ◌||◌, ◌&&◌, ◌==◌, ◌⊎◌, List, [], ◌∷◌, map, length, Option, Some, None}
+use Rattle.std.specs.List.{list_any}
+use Rattle.std.specs.declared.cmp.Ordering.{Ordering}
+use Rattle.std.specs.Ordering.{nat_cmp, ordering_then}
+use Rattle.std.specs.Cmp.Lexicographic.{slice_cmp}
+use Rattle.std.specs.FinMap as map
+use Rattle.mds_types.specs.declared.ids.Ino.{Ino}
+use Rattle.mds_types.specs.declared.places.Place.{Place}
+use Rattle.mds_types.specs.declared.inodes.Inode.{Inode}
+use Rattle.mds_types.specs.declared.inodes.Kind.{Kind}
+use Rattle.mds_types.specs.declared.inodes.Kind.TheVariants.{File, Dir, Symlink}
+
+-- places in order: by directory, and then by the bytes of the name
+abbrev pub place_cmp : Place → Place → Ordering
+place_cmp a b = ordering_then (nat_cmp a.dir.0 b.dir.0) (slice_cmp nat_cmp a.name b.name)
+
+-- the plain tree: a finite map from places, directory number and name, to inodes
+abbrev pub Tree : Type 0
+Tree = map.FinMap place_cmp Inode
+
+-- the place of a name in the directory of a number
+abbrev pub place_of : ℕ → List ℕ → Place
+place_of dir name = record { dir = record { 0 = dir }; name = name }
+
+-- what stands at a place
+abbrev pub at : Tree → ℕ → List ℕ → Option Inode
+at tree dir name = map.get tree (place_of dir name)
+
+-- a kind is that of a directory
+abbrev pub is_dir_kind : Kind → Bool
+is_dir_kind File = false
+is_dir_kind Dir = true
+is_dir_kind (Symlink target) = false
+
+-- an entry is that of the directory d
+abbrev pub is_entry_of_directory : ℕ → Place × Inode → Bool
+is_entry_of_directory d entry = is_dir_kind entry.1.kind && (entry.1.ino.0 == d)
+
+-- d is a directory of the tree now: the root, 1, or the number of an entry's directory
+unfoldable pub is_directory : Tree → ℕ → Bool
+is_directory tree d = (d == 1) || list_any (is_entry_of_directory d) (map.entries tree)
+
+-- the numbers of the inodes in the tree
+abbrev pub numbers : Tree → List ℕ
+numbers tree = map (λ e. e.1.ino.0) (map.entries tree)
+
+-- d is above x: a chain of one or more entries leads from d to x
+pub data IsAbove (tree : Tree) (d : ℕ) : ℕ → Type 0 where
+  -- x is an entry of d
+  child : (name : List ℕ) (inode : Inode) → at tree d name ≡ Some inode → IsAbove tree d inode.ino.0
+  -- x is an entry of a directory that d is above of
+  further : (m : ℕ) (name : List ℕ) (inode : Inode) → IsAbove tree d m → at tree m name ≡ Some inode → IsAbove tree d inode.ino.0
+
+-- the size that a kind prescribes: 0 for a directory, for a link the size of its target
+abbrev pub HasSize : Kind → ℕ → Type 0
+HasSize File size = Unit {0}
+HasSize Dir size = size ≡ 0
+HasSize (Symlink target) size = size ≡ length target
+
+-- what holds of every tree that operations lead to
+pub record IsWellFormed (tree : Tree) : Type 0 where
+  -- the root has no entry
+  pub rootless : (d : ℕ) (name : List ℕ) (inode : Inode) → at tree d name ≡ Some inode → inode.ino.0 ≡ 1 → ⊥
+  -- no number stands twice
+  pub once : (d d' : ℕ) (name name' : List ℕ) (inode inode' : Inode) → at tree d name ≡ Some inode → at tree d' name' ≡ Some inode' → inode.ino ≡ inode'.ino → (d ≡ d') × (name ≡ name')
+  -- each entry's directory is one of the tree
+  pub parents : (d : ℕ) (name : List ℕ) (inode : Inode) → at tree d name ≡ Some inode → is_directory tree d ≡ true
+  -- each entry's directory reaches the root by finitely many parents
+  pub rooted : (d : ℕ) (name : List ℕ) (inode : Inode) → at tree d name ≡ Some inode → (d ≡ 1) ⊎ IsAbove tree 1 d
+  pub sizes : (d : ℕ) (name : List ℕ) (inode : Inode) → at tree d name ≡ Some inode → HasSize inode.kind inode.size

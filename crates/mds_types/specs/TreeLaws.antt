@@ -1,0 +1,60 @@
+-- Laws of the plain tree.
+use Rattle.std.specs.Prelude.{◌≡◌, ℕ, Bool, true, false, cond, ◌||◌, ◌&&◌, ◌==◌, List, [], ◌∷◌, length, Option, Some, None, refl}
+use Rattle.std.specs.List.{list_any}
+use Rattle.std.specs.declared.cmp.Ordering.{Ordering}
+use Rattle.std.specs.declared.cmp.Ordering.TheVariants.{Less, Equal, Greater}
+use Rattle.std.specs.Ordering.{is_eq}
+use Rattle.std.specs.FinMap as map
+use Rattle.std.specs.FinMap.{find, put, entries-insert, get-entries, len-entries, len-empty}
+use Rattle.std.specs.FinMap.Entries.{by_order}
+use Rattle.std.proofs.Common.{sym, ap, ◌∙◌, arith}
+use Rattle.mds_types.specs.declared.places.Place.{Place}
+use Rattle.mds_types.specs.declared.inodes.Inode.{Inode}
+use Rattle.mds_types.specs.Tree.{Tree, place_cmp, is_directory, is_entry_of_directory}
+use Rattle.mds_types.specs.PlaceLaws.{place-total}
+
+or_swap : (a b c : Bool) → (a || (b || c)) ≡ (b || (a || c))
+or_swap true true c = refl
+or_swap true false c = refl
+or_swap false true c = refl
+or_swap false false c = refl
+
+-- a test of the entries, once a key that was absent has come in
+list_any-put : {K X : Type 0} (R : K → K → Ordering) (p : K × X → Bool) (k : K) (v : X) (es : List (K × X)) → find R k es ≡ None → list_any p (put R k v es) ≡ (p (k, v) || list_any p es)
+list_any-put R p k v [] absent = refl
+list_any-put R p k v (e ∷ es) absent = go (R k e.0) refl absent (list_any-put R p k v es)
+  where
+    go : (r : Ordering) → R k e.0 ≡ r → cond (is_eq (R k e.0)) (Some e.1) (find R k es) ≡ None → (find R k es ≡ None → list_any p (put R k v es) ≡ (p (k, v) || list_any p es)) → list_any p (by_order (R k e.0) ((k, v) ∷ e ∷ es) ((e.0, v) ∷ es) (e ∷ put R k v es)) ≡ (p (k, v) || (p e || list_any p es))
+    go Less is none more = ap (λ r. list_any p (by_order r ((k, v) ∷ e ∷ es) ((e.0, v) ∷ es) (e ∷ put R k v es))) is
+    go Equal is none more = let found : Some e.1 ≡ None = sym (ap (λ r. cond (is_eq r) (Some e.1) (find R k es)) is) ∙ none in cc
+    go Greater is none more =
+        ap (λ r. list_any p (by_order r ((k, v) ∷ e ∷ es) ((e.0, v) ∷ es) (e ∷ put R k v es))) is
+          ∙ ap (λ b. p e || b) (more (sym (ap (λ r. cond (is_eq r) (Some e.1) (find R k es)) is) ∙ none))
+          ∙ or_swap (p e) (p (k, v)) (list_any p es)
+
+-- the directories, once an inode stands at a place that was free
+pub is_directory-insert : (tree : Tree) (place : Place) (inode : Inode) (d : ℕ) → map.get tree place ≡ None
+  → is_directory (map.insert tree place inode) d ≡ (is_entry_of_directory d (place, inode) || is_directory tree d)
+unfolding is_directory
+is_directory-insert tree place inode d absent =
+    ap (λ es. (d == 1) || list_any (is_entry_of_directory d) es) (entries-insert place-total tree place inode)
+      ∙ ap (λ b. (d == 1) || b) (list_any-put place_cmp (is_entry_of_directory d) place inode (map.entries tree) (sym (get-entries tree place) ∙ absent))
+      ∙ or_swap (d == 1) (is_entry_of_directory d (place, inode)) (list_any (is_entry_of_directory d) (map.entries tree))
+
+no_entries : {A : Type 0} (es : List A) → length es ≡ 0 → es ≡ []
+no_entries [] none = refl
+no_entries (e ∷ es) none = absurd (omega arith)
+
+or_false : (b : Bool) → (b || false) ≡ b
+or_false true = refl
+or_false false = refl
+
+-- where nothing stands there is no entry
+pub entries-empty : map.entries (map.empty {K = Place} {X = Inode} {R = place_cmp}) ≡ []
+entries-empty = no_entries _ (sym (len-entries map.empty) ∙ len-empty place_cmp Inode)
+
+-- where nothing stands only the root is a directory
+pub is_directory-empty : (d : ℕ) → is_directory map.empty d ≡ (d == 1)
+unfolding is_directory
+is_directory-empty d =
+    ap (λ es. (d == 1) || list_any (is_entry_of_directory d) es) entries-empty ∙ or_false (d == 1)

@@ -1,0 +1,34 @@
+//! What a history is made of.
+ghost use Rattle.std.specs.Prelude.{◌≡◌, IfOk};
+
+use crate::ids::Ino;
+use crate::operations::Op;
+use crate::replies::Reply;
+use std::alloc::AllocError;
+
+/// A request that was applied, with its reply and the inode number that it took, if it made an inode.
+#[derive(Debug, Drop, PartialEq, Eq)]
+pub struct Entry {
+    pub client: u64,
+    pub tid: u64,
+    pub oldest: u64,
+    pub op: Op,
+    pub number: Option<Ino>,
+    pub reply: Reply,
+}
+
+impl Entry {
+    /// A copy. Takes memory for names, listings and targets.
+    pub fn try_clone(&self) -> Result<Entry, AllocError>
+        ensures { IfOk result (λ copy. copy ≡ self.now) }
+    {
+        Ok(Entry {
+            client: self.client,
+            tid: self.tid,
+            oldest: self.oldest,
+            op: self.op.try_clone()?,
+            number: self.number,
+            reply: self.reply.try_clone()?,
+        })
+    }
+}

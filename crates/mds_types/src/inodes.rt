@@ -1,0 +1,53 @@
+//! Inodes, which a directory's entries hold embedded, as CephFS keeps them.
+ghost use Rattle.std.specs.Prelude.{◌≡◌, ◌↔◌, IfOk, IsTrue};
+
+use crate::ids::Ino;
+use crate::modes::Mode;
+use crate::targets::Target;
+use std::alloc::AllocError;
+
+/// What an inode is.
+#[derive(Clone, Debug, Drop, PartialEq, Eq)]
+pub enum Kind {
+    File,
+    Dir,
+    /// A symbolic link, with what it points to.
+    Symlink(Target),
+}
+
+/// An inode. A directory has size 0, and a link the size of its target.
+#[derive(Clone, Debug, Drop, PartialEq, Eq)]
+pub struct Inode {
+    pub ino: Ino,
+    pub kind: Kind,
+    pub mode: Mode,
+    /// Bytes of the file's data, as clients report them.
+    pub size: u64,
+    /// The time of the last change, in the clients' unit.
+    pub mtime: u64,
+}
+
+impl Kind {
+    /// A copy. Takes memory for a link's target alone.
+    pub fn try_clone(&self) -> Result<Kind, AllocError>
+        ensures { IfOk result (λ copy. copy ≡ self.now) }
+    {
+        self.clone()
+    }
+
+    /// Whether this is a directory.
+    pub fn is_dir(&self) -> bool
+        ensures { IsTrue result ↔ (self.now ≡ Kind.Dir) }
+    {
+        matches!(self, Kind::Dir)
+    }
+}
+
+impl Inode {
+    /// A copy. Takes memory for a link's target alone.
+    pub fn try_clone(&self) -> Result<Inode, AllocError>
+        ensures { IfOk result (λ copy. copy ≡ self.now) }
+    {
+        self.clone()
+    }
+}

@@ -1,0 +1,39 @@
+//! The words that every layer of the metadata cluster speaks: ranks, inode numbers, directory fragments, names, inodes,
+//! requests with their replies and refusals, and the entries of a history. The definitions of the product's promises,
+//! from fragment arithmetic to the legal history, stand in `specs/`.
+#![tactic(auto)]
+
+mod entries;
+mod errno;
+mod frags;
+mod ids;
+mod inodes;
+mod listings;
+mod modes;
+mod names;
+mod object_names;
+mod operations;
+mod page_sizes;
+mod places;
+mod refusals;
+mod replies;
+mod requests;
+mod targets;
+
+
+pub use entries::Entry;
+pub use errno::{EEXIST, EINVAL, EISDIR, ENAMETOOLONG, ENOENT, ENOTDIR, ENOTEMPTY, ESTALE};
+pub use frags::Frag;
+pub use ids::{Ino, Rank};
+pub use inodes::{Inode, Kind};
+pub use listings::Listing;
+pub use modes::Mode;
+pub use names::{Name, NameFault};
+pub use object_names::ObjName;
+pub use operations::Op;
+pub use page_sizes::PageSize;
+pub use places::Place;
+pub use refusals::Refusal;
+pub use replies::Reply;
+pub use requests::Request;
+pub use targets::{Target, TargetFault};

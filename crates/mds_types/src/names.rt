@@ -1,0 +1,148 @@
+//! The name of a directory entry.
+ghost use Rattle.std.proofs.Common.{rules};
+ghost use Rattle.std.specs.Cmp.{partial_order_from_own_ties};
+ghost use Rattle.std.specs.Cmp.Rules.{comparing};
+ghost use Rattle.std.specs.Ordering.{nat_cmp, as_partial_cmp};
+ghost use Rattle.std.specs.Cmp.Lexicographic.{pointwise, slice_cmp};
+ghost use Rattle.std.specs.Prelude.{◌≡◌, ◌==◌, IfOk};
+ghost use Rattle.std.specs.List.{list_all};
+ghost use Rattle.mds_types.specs.Name.{IsName, is_dots, fits_name};
+ghost use Rattle.mds_types.specs.NameFault.{NameFromBytes, name_errno};
+
+use crate::errno::{EINVAL, ENAMETOOLONG};
+use std::alloc::{AllocError, Global};
+use std::cmp::Ordering;
+use std::marker::Model;
+
+/// A valid name: 1 to 255 bytes, none of them `/` or zero, and neither `.` nor `..`. Names are ordered by bytes.
+#[derive(Clone, Debug, Drop)]
+pub struct Name {
+    text: Vec<u8>,
+}
+
+impl Model for Name {
+    ghost use Rattle.std.specs.Prelude.{List, ℕ};
+    ghost use Rattle.mds_types.specs.Name.{IsName};
+
+    ghost Value = { List ℕ };
+
+    ghost view = { λ n. n.text.items };
+
+    ghost invariant = { λ n. IsName n.text.items };
+}
+
+/// Why bytes are no name, or could not be made one.
+#[derive(Clone, Copy, Debug, PartialEq, Eq)]
+pub enum NameFault {
+    /// Empty, `.`, `..`, or with a `/` or a zero byte.
+    Invalid,
+    /// More than 255 bytes, whatever they are.
+    TooLong,
+    /// The bytes are a name, but there was no memory for it.
+    NoMemory,
+}
+
+impl NameFault {
+    /// The error number that an operation on such a name answers; none for want of memory.
+    pub fn errno(self) -> Option<u16>
+        ensures { result ≡ name_errno self }
+    {
+        match self {
+            NameFault::Invalid => Some(EINVAL),
+            NameFault::TooLong => Some(ENAMETOOLONG),
+            NameFault::NoMemory => None,
+        }
+    }
+}
+
+impl Name {
+    /// The most bytes that a name has.
+    pub const MAX_LEN: usize = 255;
+
+    /// The name that these bytes are, or why they are none. Takes memory for the bytes.
+    pub fn from_bytes(alloc: Global, bytes: &[u8]) -> Result<Name, NameFault>
+        ensures { NameFromBytes bytes.now result }
+    {
+        if bytes.len() > Name::MAX_LEN {
+            return Err(NameFault::TooLong);
+        }
+        if bytes.is_empty() || is_dots(bytes) || !is_plain(bytes) {
+            return Err(NameFault::Invalid);
+        }
+        match Vec::from_slice(alloc, bytes) {
+            Ok(text) => Ok(Name { text }),
+            Err(AllocError) => Err(NameFault::NoMemory),
+        }
+    }
+
+    /// The bytes of the name.
+    pub fn as_bytes(&self) -> &[u8]
+        ensures bytes { result.now ≡ self.now }
+        ensures valid { IsName self.now }
+    {
+        self.text.as_slice()
+    }
+
+    /// A copy. Takes memory for the bytes.
+    pub fn try_clone(&self) -> Result<Name, AllocError>
+        ensures { IfOk result (λ copy. copy ≡ self.now) }
+    {
+        self.clone()
+    }
+}
+
+// Whether a name is `.` or `..`, which stand for directories of their own.
+fn is_dots(bytes: &[u8]) -> bool
+    ensures { result ≡ is_dots bytes.now }
+{
+    match bytes {
+        [first] => *first == b'.',
+        [first, second] => *first == b'.' && *second == b'.',
+        _ => false,
+    }
+}
+
+// Whether every byte may stand in a name.
+fn is_plain(bytes: &[u8]) -> bool
+    ensures { result ≡ list_all fits_name bytes.now }
+{
+    bytes.iter().all(|byte| *byte != 0 && *byte != b'/')
+}
+
+impl PartialEq for Name {
+    ghost eq = { pointwise ◌==◌ };
+
+    ghost laws = { Prim.search (comparing, rules) };
+
+    fn eq(&self, other: &Name) -> bool {
+        self.text.as_slice() == other.text.as_slice()
+    }
+}
+
+impl Eq for Name {
+    ghost laws = { Prim.search (comparing, rules) };
+}
+
+impl PartialOrd for Name {
+    ghost partial_cmp = { as_partial_cmp (slice_cmp nat_cmp) };
+
+    ghost laws = { partial_order_from_own_ties (Prim.search (comparing, rules)) (Prim.search (comparing, rules)) };
+
+    fn partial_cmp(&self, other: &Name) -> Option<Ordering> {
+        Some(self.cmp(other))
+    }
+}
+
+impl Ord for Name {
+    ghost cmp = { slice_cmp nat_cmp };
+
+    ghost total = { Prim.search (comparing, rules) };
+
+    ghost matches_partial_cmp = { Prim.search (comparing, rules) };
+
+    ghost matches_eq = { Prim.search (comparing, rules) };
+
+    fn cmp(&self, other: &Name) -> Ordering {
+        self.text.as_slice().cmp(other.text.as_slice())
+    }
+}

@@ -1,0 +1,116 @@
+//! The target of a symbolic link.
+ghost use Rattle.std.proofs.Common.{rules};
+ghost use Rattle.std.specs.Cmp.Lexicographic.{pointwise};
+ghost use Rattle.std.specs.Cmp.Rules.{comparing};
+ghost use Rattle.std.specs.List.{list_all};
+ghost use Rattle.std.specs.Prelude.{◌≡◌, ◌==◌, IfOk};
+ghost use Rattle.mds_types.specs.Name.{IsTarget, fits_target};
+ghost use Rattle.mds_types.specs.TargetFault.{TargetFromBytes, target_errno};
+
+use crate::errno::{EINVAL, ENAMETOOLONG, ENOENT};
+use std::alloc::{AllocError, Global};
+use std::marker::Model;
+
+/// What a symbolic link points to: 1 to 4095 bytes, none of them zero.
+#[derive(Clone, Debug, Drop)]
+pub struct Target {
+    text: Vec<u8>,
+}
+
+impl Model for Target {
+    ghost use Rattle.std.specs.Prelude.{List, ℕ};
+    ghost use Rattle.mds_types.specs.Name.{IsTarget};
+
+    ghost Value = { List ℕ };
+
+    ghost view = { λ t. t.text.items };
+
+    ghost invariant = { λ t. IsTarget t.text.items };
+}
+
+/// Why bytes are no target, or could not be made one.
+#[derive(Clone, Copy, Debug, PartialEq, Eq)]
+pub enum TargetFault {
+    /// No bytes at all.
+    Empty,
+    /// At most 4095 bytes, with a zero byte among them.
+    Invalid,
+    /// More than 4095 bytes, whatever they are.
+    TooLong,
+    /// The bytes are a target, but there was no memory for it.
+    NoMemory,
+}
+
+impl TargetFault {
+    /// The error number that an operation with such a target answers; none for want of memory.
+    pub fn errno(self) -> Option<u16>
+        ensures { result ≡ target_errno self }
+    {
+        match self {
+            TargetFault::Empty => Some(ENOENT),
+            TargetFault::Invalid => Some(EINVAL),
+            TargetFault::TooLong => Some(ENAMETOOLONG),
+            TargetFault::NoMemory => None,
+        }
+    }
+}
+
+impl Target {
+    /// The most bytes that a target has.
+    pub const MAX_LEN: usize = 4095;
+
+    /// The target that these bytes are, or why they are none. Takes memory for the bytes.
+    pub fn from_bytes(alloc: Global, bytes: &[u8]) -> Result<Target, TargetFault>
+        ensures { TargetFromBytes bytes.now result }
+    {
+        if bytes.len() > Target::MAX_LEN {
+            return Err(TargetFault::TooLong);
+        }
+        if bytes.is_empty() {
+            return Err(TargetFault::Empty);
+        }
+        if !has_no_zero(bytes) {
+            return Err(TargetFault::Invalid);
+        }
+        match Vec::from_slice(alloc, bytes) {
+            Ok(text) => Ok(Target { text }),
+            Err(AllocError) => Err(TargetFault::NoMemory),
+        }
+    }
+
+    /// The bytes of the target.
+    pub fn as_bytes(&self) -> &[u8]
+        ensures bytes { result.now ≡ self.now }
+        ensures valid { IsTarget self.now }
+    {
+        self.text.as_slice()
+    }
+
+    /// A copy. Takes memory for the bytes.
+    pub fn try_clone(&self) -> Result<Target, AllocError>
+        ensures { IfOk result (λ copy. copy ≡ self.now) }
+    {
+        self.clone()
+    }
+}
+
+// Whether every byte may stand in a target.
+fn has_no_zero(bytes: &[u8]) -> bool
+    ensures { result ≡ list_all fits_target bytes.now }
+{
+    bytes.iter().all(|byte| *byte != 0)
+}
+
+impl PartialEq for Target {
+    ghost eq = { pointwise ◌==◌ };
+
+    ghost laws = { Prim.search (comparing, rules) };
+
+    fn eq(&self, other: &Target) -> bool {
+        self.text.as_slice() == other.text.as_slice()
+    }
+}
+
+impl Eq for Target {
+    ghost laws = { Prim.search (comparing, rules) };
+}

@@ -1,0 +1,5 @@
+use Rattle.mds_types.specs.ListingLaws.{names_are_listed as law}
+use Rattle.namespace_ops.proofs.laws.names_are_listed.Goals as goal
+
+pub returns : goal.returns
+returns c = law

@@ -1,0 +1,5 @@
+use Rattle.mds_types.specs.WellFormedLaws.{step_keeps_well_formed as law}
+use Rattle.namespace_ops.proofs.laws.step_keeps_well_formed.Goals as goal
+
+pub returns : goal.returns
+returns c = law

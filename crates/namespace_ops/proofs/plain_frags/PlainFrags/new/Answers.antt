@@ -1,0 +1,6 @@
+use Rattle.std.proofs.Common.{◌≡◌}
+use Rattle.namespace_ops.proofs.Directories.{directories-empty}
+use Rattle.namespace_ops.proofs.plain_frags.PlainFrags.new.Goals as goal
+
+pub invariant_of-result : goal.invariant_of-result
+invariant_of-result c = rw (c.new.ensures.empty, c.new-2.ensures.empty) directories-empty

@@ -1,0 +1,30 @@
+-- What the operation table means, in laws that hold of every tree.
+use Rattle.std.specs.Prelude.{◌≡◌, ℕ, suc, ◌+◌, ◌≤◌, true, List, ◌++◌, take, slice_get, Option, Some}
+use Rattle.mds_types.specs.declared.inodes.Inode.{Inode}
+use Rattle.mds_types.specs.declared.operations.Op.{Op}
+use Rattle.mds_types.specs.Tree.{Tree, IsWellFormed}
+use Rattle.mds_types.specs.Step.{step, names_after}
+use Rattle.mds_types.specs.StepLaws.{ErrnoLeaves, TakesWhereMade, is_errno}
+use Rattle.mds_types.specs.ListingLaws.{IsListing}
+use Rattle.mds_types.specs.WellFormedLaws.{IsUnused}
+
+-- an errno leaves the tree
+abbrev pub ErrnoLeavesTree : Type 0
+ErrnoLeavesTree = (tree : Tree) (op : Op) (n : ℕ) → ErrnoLeaves tree (step tree op n)
+
+-- exactly an operation that makes an inode, and succeeds, takes its number
+abbrev pub MakingTakesNumber : Type 0
+MakingTakesNumber = (tree : Tree) (op : Op) (n : ℕ) → TakesWhereMade op (step tree op n)
+
+-- a step that is offered an unused number keeps the tree well formed
+abbrev pub StepKeepsWellFormed : Type 0
+StepKeepsWellFormed = (tree : Tree) (op : Op) (n : ℕ) → IsWellFormed tree → IsUnused tree n → IsWellFormed (step tree op n).tree
+
+-- the names of a listing are those of the directory that come after the given one, in order, with none left out
+abbrev pub NamesAreListed : Type 0
+NamesAreListed = (tree : Tree) (d : ℕ) (after : Option (List ℕ)) → IsListing tree d after (names_after tree d after)
+
+-- a listing that is paged by its last name is the whole listing
+abbrev pub PagesMakeUpListing : Type 0
+PagesMakeUpListing = (tree : Tree) (d : ℕ) (after : Option (List ℕ)) (i : ℕ) (row : List ℕ × Inode) → slice_get (names_after tree d after) i ≡ Some row
+  → take (suc i) (names_after tree d after) ++ names_after tree d (Some row.0) ≡ names_after tree d after

@@ -1,0 +1,9 @@
+pub use Rattle.mds_types.specs.Tree
+pub use Rattle.mds_types.specs.Step
+pub mod Changes
+pub mod Laws
+pub mod PlainFrags
+pub mod Planned
+pub mod Reasons
+pub mod Run
+pub mod Served

@@ -1,0 +1,18 @@
+-- Why fragments may refuse a call.
+use Rattle.std.specs.Prelude.{◌≡◌}
+use Rattle.std.proofs.Common.{sym, subst}
+use Rattle.mds_types.specs.declared.refusals.Refusal.{Refusal}
+use Rattle.mds_types.specs.declared.refusals.Refusal.TheVariants.{NoMemory, StoreFault, NoInodes, NothingToEvict, Damaged}
+
+-- want of memory, a fault of the store, a counter at its end, a cache where nothing can go, an object outside its format
+abbrev pub IsOfFragments : Refusal → Type 0
+IsOfFragments NoMemory = Unit {0}
+IsOfFragments StoreFault = Unit {0}
+IsOfFragments NoInodes = Unit {0}
+IsOfFragments NothingToEvict = Unit {0}
+IsOfFragments (Damaged object) = Unit {0}
+IsOfFragments other = ⊥
+
+-- fragments that refuse for want of memory alone
+pub refused_for_memory : (A : Type 0) (a b : A) (reason : Refusal) → reason ≡ NoMemory → IsOfFragments reason
+refused_for_memory A a b reason because = subst IsOfFragments (sym because) tt

@@ -1,0 +1,83 @@
+//! What operations need of a directory's fragments.
+ghost use Rattle.std.specs.Prelude.{◌≡◌, None, IfOk, IfErr, OnOk, take, length, nat_lt};
+ghost use Rattle.std.specs.Option.{option_copied};
+ghost use Rattle.std.specs.FinMap as map;
+ghost use Rattle.mds_types.specs.declared.operations.Op.{Op as Operation};
+ghost use Rattle.mds_types.specs.declared.places.Place.{Place as Spot};
+ghost use Rattle.mds_types.specs.declared.refusals.Refusal.{Refusal as Reason};
+ghost use Rattle.mds_types.specs.Tree.{Tree, is_directory, at};
+ghost use Rattle.mds_types.specs.Step.{names_after};
+ghost use Rattle.namespace_ops.specs.Changes.{IsReadyFor};
+ghost use Rattle.namespace_ops.specs.Reasons.{IsOfFragments};
+
+use mds_types::{Ino, Inode, Listing, Name, Op, PageSize, Place, Refusal};
+use std::alloc::Global;
+
+/// The fragments that operations read and change. Together they show one plain tree, whatever they are kept in.
+///
+/// A read may have to fetch what it reads, and can then be refused; it leaves the tree as it was, and so does a refusal.
+/// All growth that an operation can need is made by `ready`; the change that follows can't fail.
+pub trait Frags {
+    /// The plain tree that the fragments show.
+    ghost content: { Self → Tree };
+
+    /// The entry at the place can be changed with no further growth.
+    ghost IsReady: { Self → Spot → Type 0 };
+
+    /// What calls keep beside the content, as a count that only rises.
+    ghost Follows: { Self → Self → Type 0 };
+
+    /// A call that began in the first state and ended in the second may be refused for this reason.
+    ghost MayRefuse: { Self → Self → Reason → Type 0 };
+
+    /// Whether this is the number of a directory of the tree now.
+    fn is_dir(&self, dir: Ino) -> bool
+        ensures { result ≡ is_directory (content self.now) dir.0 };
+
+    /// The inode at a name, copied.
+    fn look(&mut self, dir: Ino, name: &Name) -> Result<Option<Inode>, Refusal>
+        ensures found { IfOk result (λ found. found ≡ at (content self.old) dir.0 name.now) }
+        ensures same { content self.new ≡ content self.old }
+        ensures follows { Follows self.old self.new }
+        ensures err { IfErr result (MayRefuse self.old self.new) };
+
+    /// The first `max` names of a directory greater than `after`, in order, with their inodes, and whether more follow.
+    fn list_after(
+        &mut self,
+        alloc: Global,
+        dir: Ino,
+        after: Option<&Name>,
+        max: PageSize,
+    ) -> Result<(Listing, bool), Refusal>
+        ensures listed { IfOk result (λ page. page.0 ≡ take max (names_after (content self.old) dir.0 (option_copied after.entry))) }
+        ensures more { IfOk result (λ page. page.1 ≡ nat_lt max (length (names_after (content self.old) dir.0 (option_copied after.entry)))) }
+        ensures same { content self.new ≡ content self.old }
+        ensures follows { Follows self.old self.new }
+        ensures err { IfErr result (MayRefuse self.old self.new) };
+
+    /// Makes every growth that the operation could need.
+    fn ready(&mut self, op: &Op) -> Result<(), Refusal>
+        ensures ready { OnOk result (IsReadyFor (IsReady self.new) op.now) }
+        ensures same { content self.new ≡ content self.old }
+        ensures follows { Follows self.old self.new }
+        ensures err { IfErr result (MayRefuse self.old self.new) };
+
+    /// Puts an inode at a place that is free and was made ready.
+    fn add(&mut self, place: Place, inode: Inode)
+        requires ready { IsReady self.old place }
+        requires free { map.get (content self.old) place ≡ None }
+        ensures added { content self.new ≡ map.insert (content self.old) place inode }
+        ensures follows { Follows self.old self.new };
+
+    /// Fragments refuse for these reasons alone.
+    ghost refused_for: { (a b : Self) (reason : Reason) → MayRefuse a b reason → IsOfFragments reason };
+
+    /// A call that did nothing keeps all.
+    ghost follows_self: { (a : Self) → Follows a a };
+
+    /// One call after another keeps what both keep.
+    ghost follows_on: { (a b c : Self) → Follows a b → Follows b c → Follows a c };
+
+    /// A reason of a call is one of all calls that it ends.
+    ghost refused_on: { (a b c : Self) (reason : Reason) → Follows a b → MayRefuse b c reason → MayRefuse a c reason };
+}

@@ -1,0 +1,18 @@
+//! The operations of clients, over any fragments: what each answers and what it changes is the operation table of
+//! `mds_types`.
+#![tactic(auto)]
+
+mod frags;
+mod laws;
+mod listing;
+mod plain_frags;
+mod planning;
+mod plans;
+mod serving;
+
+pub use frags::Frags;
+pub use laws::{errno_leaves_tree, making_takes_number, names_are_listed, pages_make_up_listing, step_keeps_well_formed};
+pub use plain_frags::PlainFrags;
+pub use planning::plan_op;
+pub use plans::{Change, Plan, carry_out};
+pub use serving::serve_op;

@@ -1,0 +1,25 @@
+//! Serving one operation.
+ghost use Rattle.std.specs.Prelude.{MatchResult};
+ghost use Rattle.mds_types.specs.Step.{step, number_or};
+ghost use Rattle.namespace_ops.specs.Served.{IsServed, IsRefused};
+
+use crate::frags::Frags;
+use crate::planning::plan_op;
+use crate::plans::carry_out;
+use mds_types::{Ino, Op, Refusal, Reply};
+use std::alloc::Global;
+
+/// Serves an operation: answers the reply of the operation table, and leaves the tree that the table leaves. A new inode
+/// takes the number given; where the table takes one and none is given, the operation is refused `NoInodes`. Any other
+/// refusal is one of the fragments', or want of memory. A refusal leaves the tree as it was.
+pub fn serve_op<F: Frags>(alloc: Global, frags: &mut F, op: &Op, number: Option<Ino>) -> Result<Reply, Refusal>
+    ensures served { let outcome = step (F.content frags.old) op.now (number_or number) in
+        MatchResult result
+            (IsServed (F.content frags.new) outcome number)
+            (IsRefused (F.content frags.old) (F.content frags.new) (F.MayRefuse frags.old frags.new) outcome number) }
+    ensures follows { F.Follows frags.old frags.new }
+{
+    let plan = plan_op(alloc, frags, op, number)?;
+    carry_out(frags, plan.change);
+    Ok(plan.reply)
+}

@@ -1,0 +1,6 @@
+pub mod EscapeLemmas
+pub mod NumberLemmas
+pub mod WordLemmas
+pub mod NameLemmas
+pub mod WriteLemmas
+pub mod LineLemmas

@@ -1,0 +1,12 @@
+pub mod Words
+pub mod Numbers
+pub mod Escapes
+pub mod Reading
+pub mod Arguments
+pub mod Script
+pub mod Output
+pub mod OutputLine
+pub mod Input
+pub mod Writing
+pub mod LineWriting
+pub mod Laws

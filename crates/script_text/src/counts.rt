@@ -1,0 +1,54 @@
+//! A number of words.
+ghost use Rattle.script_text.specs.Words.{words_of};
+ghost use Rattle.script_text.specs.Reading.{Gives, one, two, three};
+
+use crate::faults::{NOT_COMMAND, ReadError};
+use crate::words::next_word;
+
+/// Exactly one word.
+pub fn one(words: &[u8]) -> Result<&[u8], ReadError>
+    ensures { Gives (λ w. w.now) result (one (words_of words.now)) }
+{
+    let Some((first, rest)) = next_word(words) else {
+        return Err(NOT_COMMAND);
+    };
+    match next_word(rest) {
+        None => Ok(first),
+        Some(_) => Err(NOT_COMMAND),
+    }
+}
+
+/// Exactly two words.
+pub fn two(words: &[u8]) -> Result<(&[u8], &[u8]), ReadError>
+    ensures { Gives (λ w. (w.0.now, w.1.now)) result (two (words_of words.now)) }
+{
+    let Some((first, rest)) = next_word(words) else {
+        return Err(NOT_COMMAND);
+    };
+    let Some((second, rest)) = next_word(rest) else {
+        return Err(NOT_COMMAND);
+    };
+    match next_word(rest) {
+        None => Ok((first, second)),
+        Some(_) => Err(NOT_COMMAND),
+    }
+}
+
+/// Exactly three words.
+pub fn three(words: &[u8]) -> Result<(&[u8], &[u8], &[u8]), ReadError>
+    ensures { Gives (λ w. (w.0.now, w.1.now, w.2.now)) result (three (words_of words.now)) }
+{
+    let Some((first, rest)) = next_word(words) else {
+        return Err(NOT_COMMAND);
+    };
+    let Some((second, rest)) = next_word(rest) else {
+        return Err(NOT_COMMAND);
+    };
+    let Some((third, rest)) = next_word(rest) else {
+        return Err(NOT_COMMAND);
+    };
+    match next_word(rest) {
+        None => Ok((first, second, third)),
+        Some(_) => Err(NOT_COMMAND),
+    }
+}

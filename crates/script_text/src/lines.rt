@@ -1,0 +1,41 @@
+//! Lines of the script.
+ghost use Rattle.std.specs.Prelude.{◌≡◌, IfOk};
+ghost use Rattle.script_text.specs.Script.{line_of};
+
+use crate::commands::{Command, read_command};
+use crate::faults::{Fault, ReadError};
+use crate::words::{is_comment, is_printable, next_word};
+use std::alloc::{AllocError, Global};
+
+/// What a line of the script is.
+#[derive(Clone, Debug, Drop, PartialEq, Eq)]
+pub enum Line {
+    /// Empty, spaces or a comment: it prints nothing.
+    Nothing,
+    Command(Command),
+    /// A command with a name outside the rules of names: its error number. No request is made of it.
+    BadName(u16),
+    NotCommand,
+}
+
+/// What the line asks for. Its bytes are those without the LF. Takes memory for names.
+#[tactic(auto, unfolding(crate::specs::Script::line_of))]
+pub fn read_line(alloc: Global, bytes: &[u8]) -> Result<Line, AllocError>
+    ensures { IfOk result (λ line. line ≡ line_of bytes.now) }
+{
+    if is_comment(bytes) {
+        return Ok(Line::Nothing);
+    }
+    if !is_printable(bytes) {
+        return Ok(Line::NotCommand);
+    }
+    let Some((verb, args)) = next_word(bytes) else {
+        return Ok(Line::Nothing);
+    };
+    match read_command(alloc, verb, args) {
+        Ok(command) => Ok(Line::Command(command)),
+        Err(ReadError::Fault(Fault::NotCommand)) => Ok(Line::NotCommand),
+        Err(ReadError::Fault(Fault::BadName(errno))) => Ok(Line::BadName(errno)),
+        Err(ReadError::NoMemory) => Err(AllocError),
+    }
+}

@@ -1,0 +1,188 @@
+-- What the place of a key says of look-ups and edits of pairs in order.
+use Rattle.std.proofs.Common.{◌≡◌, ℕ, zero, suc, ◌<◌, ◌≤◌, add-one, Bool, true, false, not, ◌&&◌, T, List, [], ◌∷◌, length, get_or, set, drop, insert, remove, Some, None, Result, Ok, Err, Ordering, Less, Equal, Greater, is_lt, refl, sym, ap, ◌∙◌, subst, arith}
+use Rattle.std.proofs.lemmas.Bool.{false≢true}
+use Rattle.std.specs.List.{IsAllAdjacentAnswer}
+use Rattle.std.specs.Cmp.{IsTotalOrder, tied_itself, tied_back, alike_right}
+use Rattle.std.specs.Ordering.{ordering_index, ordering_reverse, eq_by_cmp}
+use Rattle.std.specs.List.Sorted.{IsSearchInRange, IsBinarySearchResult, IsNonDecreasingBy}
+use Rattle.std.specs.FinMap.Entries.{find, put, where_key, is_sorted, below_all}
+use Rattle.sorted_map.specs.SortedMap.{after, is_from}
+use Rattle.sorted_map.specs.Places.{IsAt, IsGap, IsPlace}
+
+first : (a b : Bool) → T (a && b) → T a
+first true b p = tt
+first false b p = absurd p
+
+second : (a b : Bool) → T (a && b) → T b
+second true b p = p
+second false b p = absurd p
+
+both : (a b : Bool) → T a → T b → T (a && b)
+both true b p q = q
+both false b p q = absurd p
+
+less : (r : Ordering) → T (is_lt r) → r ≡ Less
+less Less p = refl
+less Equal p = absurd p
+less Greater p = absurd p
+
+-- ---- what follows from a place, in any order
+
+module _ {K V : Type 0} (R : K → K → Ordering) (k : K) where
+  pub at_in_range : (es : List (K × V)) (i : ℕ) → IsAt R k es i → i < length es
+  at_in_range [] i h = absurd h
+  at_in_range (e ∷ es) zero h = omega arith
+  at_in_range (e ∷ es) (suc i) h = omega (arith, at_in_range es i h.1)
+
+  pub gap_in_range : (es : List (K × V)) (i : ℕ) → IsGap R k es i → i ≤ length es
+  gap_in_range [] zero h = omega arith
+  gap_in_range [] (suc i) h = absurd h
+  gap_in_range (e ∷ es) zero h = omega arith
+  gap_in_range (e ∷ es) (suc i) h = omega (arith, gap_in_range es i h.1)
+
+  pub find_gap : (es : List (K × V)) (i : ℕ) → IsGap R k es i → find R k es ≡ None
+  find_gap [] i h = refl
+  find_gap (e ∷ es) zero h = rw h.0 (find_gap es zero h.1)
+  find_gap (e ∷ es) (suc i) h = rw h.0 (find_gap es i h.1)
+
+  pub find_at : (es : List (K × V)) (i : ℕ) (d : K × V) → IsAt R k es i → find R k es ≡ Some (get_or es i d).1
+  find_at [] i d h = absurd h
+  find_at (e ∷ es) zero d h = rw h.0
+  find_at (e ∷ es) (suc i) d h = rw h.0 (find_at es i d h.1)
+
+  pub tied_at : (es : List (K × V)) (i : ℕ) (d : K × V) → IsAt R k es i → R k (get_or es i d).0 ≡ Equal
+  tied_at [] i d h = absurd h
+  tied_at (e ∷ es) zero d h = h.0
+  tied_at (e ∷ es) (suc i) d h = tied_at es i d h.1
+
+  pub put_gap : (v : V) (es : List (K × V)) (i : ℕ) → IsGap R k es i → put R k v es ≡ insert es i (k, v)
+  put_gap v [] zero h = refl
+  put_gap v [] (suc i) h = absurd h
+  put_gap v (e ∷ es) zero h = rw h.0
+  put_gap v (e ∷ es) (suc i) h = rw h.0 (ap (λ t. e ∷ t) (put_gap v es i h.1))
+
+  pub put_at : (v : V) (es : List (K × V)) (i : ℕ) (d : K × V) → IsAt R k es i → put R k v es ≡ set es i ((get_or es i d).0, v)
+  put_at v [] i d h = absurd h
+  put_at v (e ∷ es) zero d h = rw h.0
+  put_at v (e ∷ es) (suc i) d h = rw h.0 (ap (λ t. e ∷ t) (put_at v es i d h.1))
+
+  pub others_gap : (es : List (K × V)) (i : ℕ) → IsGap R k es i → where_key R (λ x. not (eq_by_cmp R k x)) es ≡ es
+  others_gap [] i h = refl
+  others_gap (e ∷ es) zero h = rw h.0 (ap (λ t. e ∷ t) (others_gap es zero h.1))
+  others_gap (e ∷ es) (suc i) h = rw h.0 (ap (λ t. e ∷ t) (others_gap es i h.1))
+
+  pub others_at : (es : List (K × V)) (i : ℕ) → IsAt R k es i → where_key R (λ x. not (eq_by_cmp R k x)) es ≡ remove es i
+  others_at [] i h = absurd h
+  others_at (e ∷ es) zero h = rw h.0 (others_gap es zero h.1)
+  others_at (e ∷ es) (suc i) h = rw h.0 (ap (λ t. e ∷ t) (others_at es i h.1))
+
+  pub after_gap : (es : List (K × V)) (i : ℕ) → IsGap R k es i → after R k es ≡ drop i es
+  after_gap [] zero h = refl
+  after_gap [] (suc i) h = refl
+  after_gap (e ∷ es) zero h = rw h.0 (ap (λ t. e ∷ t) (after_gap es zero h.1))
+  after_gap (e ∷ es) (suc i) h = rw h.0 (after_gap es i h.1)
+
+  pub after_at : (es : List (K × V)) (i : ℕ) → IsAt R k es i → after R k es ≡ drop (suc i) es
+  after_at [] i h = absurd h
+  after_at (e ∷ es) zero h = rw h.0 (after_gap es zero h.1)
+  after_at (e ∷ es) (suc i) h = rw h.0 (after_at es i h.1)
+
+  pub from_gap : (es : List (K × V)) (i : ℕ) → IsGap R k es i → where_key R (is_from R k) es ≡ drop i es
+  from_gap [] zero h = refl
+  from_gap [] (suc i) h = refl
+  from_gap (e ∷ es) zero h = rw h.0 (ap (λ t. e ∷ t) (from_gap es zero h.1))
+  from_gap (e ∷ es) (suc i) h = rw h.0 (from_gap es i h.1)
+
+  pub from_at : (es : List (K × V)) (i : ℕ) → IsAt R k es i → where_key R (is_from R k) es ≡ drop i es
+  from_at [] i h = absurd h
+  from_at (e ∷ es) zero h = rw h.0 (ap (λ t. e ∷ t) (from_gap es zero h.1))
+  from_at (e ∷ es) (suc i) h = rw h.0 (from_at es i h.1)
+
+-- ---- where a binary search ends, in a total order
+
+module _ {K : Type 0} {R : K → K → Ordering} (o : IsTotalOrder R) where
+  -- a lower key compares no higher with k
+  lower : (a b k : K) (r : Ordering) → R b k ≡ r → R a b ≡ Less → ordering_index (R a k) ≤ ordering_index r
+  lower a b k Less p q = rw (o.trans a b k q p) (omega arith)
+  lower a b k Equal p q = rw (sym (alike_right o b k a p) ∙ q) (omega arith)
+  lower a b k Greater p q = elim (R a k) as (λ s. ordering_index s ≤ 2) [ Less ↦ omega arith | Equal ↦ omega arith | Greater ↦ omega arith ]
+
+  turned : (x k : K) (r : Ordering) → R x k ≡ r → R k x ≡ ordering_reverse r
+  turned x k r e = o.antisymm k x ∙ ap ordering_reverse e
+
+module _ {K V : Type 0} {R : K → K → Ordering} (o : IsTotalOrder R) where
+  -- each key of a list is above one that is below all of them
+  below_at : (x : K) (es : List (K × V)) (i : ℕ) (d : K × V) → T (below_all R x es) → i < length es → R x (get_or es i d).0 ≡ Less
+  below_at x [] i d h lt = absurd (omega arith)
+  below_at x (e ∷ es) zero d h lt = less _ (first _ _ h)
+  below_at x (e ∷ es) (suc i) d h lt = below_at x es i d (second _ _ h) (omega arith)
+
+  -- a key that ties with one that is below all of a list would go before it
+  pub gap_tied : (x k : K) (es : List (K × V)) → R x k ≡ Equal → T (below_all R x es) → IsGap R k es zero
+  gap_tied x k [] t h = tt
+  gap_tied x k (e ∷ es) t h = (sym (o.congr x k e.0 t) ∙ less _ (first _ _ h), gap_tied x k es t (second _ _ h))
+
+  -- the first key stands at the first place
+  pub first_at : (es : List (K × V)) (x : K × V) → T (is_sorted R es) → 0 < length es → x ≡ get_or es 0 x → IsAt R x.0 es zero
+  first_at [] x s some e = absurd (omega arith)
+  first_at (y ∷ es) x s some e =
+      subst (λ (z : K × V). IsAt R z.0 (y ∷ es) zero) (sym e) (tied_itself o y.0, gap_tied y.0 y.0 es (tied_itself o y.0) (first _ _ s))
+
+  rises : (k : K) (es : List (K × V)) → T (is_sorted R es) → IsNonDecreasingBy (λ y. ordering_index (R y.0 k)) es
+  rises k [] s i j d le lt = absurd (omega arith)
+  rises k (e ∷ es) s zero zero d le lt = omega arith
+  rises k (e ∷ es) s zero (suc j) d le lt = lower o e.0 _ k _ refl (below_at e.0 es j d (first _ _ s) (omega arith))
+  rises k (e ∷ es) s (suc i) zero d le lt = absurd (omega arith)
+  rises k (e ∷ es) s (suc i) (suc j) d le lt = rises k es (second _ _ s) i j d (omega arith) (omega arith)
+
+  at_found : (k : K) (es : List (K × V)) (i : ℕ) → T (is_sorted R es) → i < length es → ((d : K × V) → R (get_or es i d).0 k ≡ Equal) → IsAt R k es i
+  at_found k [] i s lt tied = absurd (omega arith)
+  at_found k (e ∷ es) zero s lt tied = (tied_back o e.0 k (tied e), gap_tied e.0 k es (tied e) (first _ _ s))
+  at_found k (e ∷ es) (suc i) s lt tied = (
+    turned o e.0 k Less (sym (alike_right o (get_or es i e).0 k e.0 (tied e)) ∙ below_at e.0 es i e (first _ _ s) (omega arith)),
+    at_found k es i (second _ _ s) (omega arith) tied,
+  )
+
+  gap_found : (k : K) (es : List (K × V)) (i : ℕ) → i ≤ length es → ((j : ℕ) (d : K × V) → j < i → R (get_or es j d).0 k ≡ Less) → ((j : ℕ) (d : K × V) → i ≤ j → j < length es → R (get_or es j d).0 k ≡ Greater) → IsGap R k es i
+  gap_found k [] zero le below above = tt
+  gap_found k [] (suc i) le below above = absurd (omega arith)
+  gap_found k (e ∷ es) zero le below above = (
+    turned o e.0 k Greater (above zero e (omega arith) (omega arith)),
+    gap_found k es zero (omega arith) (λ j d lt. absurd (omega arith)) (λ j d le lt. above (suc j) d (omega arith) (omega arith)),
+  )
+  gap_found k (e ∷ es) (suc i) le below above = (
+    turned o e.0 k Less (below zero e (omega arith)),
+    gap_found k es i (omega arith) (λ j d lt. below (suc j) d (omega arith)) (λ j d le lt. above (suc j) d (omega arith) (omega arith)),
+  )
+
+  -- a binary search ends at the key, or at its gap
+  ends_at : (k : K) (es : List (K × V)) (r : Result ℕ ℕ) → T (is_sorted R es) → IsSearchInRange r (length es) → IsBinarySearchResult (λ y. R y.0 k) es r → IsPlace R k es r
+  ends_at k es (Ok i) s within found = at_found k es i s within found
+  ends_at k es (Err i) s within parted =
+      let parts = parted (rises k es s) in
+      gap_found k es i within (λ j d lt. parts.0 j d (omega arith) lt) (λ j d le lt. parts.1 j d le lt)
+
+  -- so does one that turns what k compares as
+  pub searched : (k : K) (es : List (K × V)) (r : Result ℕ ℕ) → T (is_sorted R es) → IsSearchInRange r (length es) → IsBinarySearchResult (λ y. ordering_reverse (R k y.0)) es r → IsPlace R k es r
+  searched k es r s within h =
+      ends_at k es r s within (subst (λ (by : K × V → Ordering). IsBinarySearchResult by es r) (λ i y. sym (o.antisymm y.0 k) i) h)
+
+-- ---- a list whose neighbours rise is in order
+
+module _ {K V : Type 0} {R : K → K → Ordering} (o : IsTotalOrder R) where
+  below_less : (x y : K) (es : List (K × V)) → R x y ≡ Less → T (below_all R y es) → T (below_all R x es)
+  below_less x y [] p h = tt
+  below_less x y (e ∷ es) p h = both _ _ (subst (λ r. T (is_lt r)) (sym (o.trans x y e.0 p (less _ (first _ _ h)))) tt) (below_less x y es p (second _ _ h))
+
+  adjacent : (es : List (K × V)) → ((j : ℕ) (d : K × V) → suc j < length es → true ≡ is_lt (R (get_or es j d).0 (get_or es (suc j) d).0)) → T (is_sorted R es)
+  adjacent [] h = tt
+  adjacent (e ∷ []) h = tt
+  adjacent (e ∷ f ∷ es) h =
+      let rest = adjacent (f ∷ es) (λ j d lt. h (suc j) d (omega arith)) in
+      let lower : T (is_lt (R e.0 f.0)) = subst T (h zero e (omega arith)) tt in
+      both _ _ (both _ _ lower (below_less e.0 f.0 es (less _ lower) (first _ _ rest))) rest
+
+  -- so says a test of the neighbours
+  pub rises_by : (es : List (K × V)) (r : Bool) → IsAllAdjacentAnswer (λ x y b. b ≡ is_lt (R x.0 y.0)) es r → r ≡ true → T (is_sorted R es)
+  rises_by es true h e = adjacent es (λ j d lt. rw add-one at (h j d (omega arith)))
+  rises_by es false h e = absurd (false≢true e)

@@ -1,0 +1,4 @@
+pub mod Laws
+pub mod Lending
+pub mod Places
+pub mod SortedMap

@@ -1,0 +1,22 @@
+-- Where a key stands among pairs in order. Only this crate's own contracts use these words.
+use Rattle.std.specs.Prelude.{◌≡◌, ℕ, zero, suc, List, [], ◌∷◌, Result, MatchResult, ⊤}
+use Rattle.std.specs.declared.cmp.Ordering.{Ordering}
+use Rattle.std.specs.declared.cmp.Ordering.TheVariants.{Less, Equal, Greater}
+
+module _ {K V : Type 0} (R : K → K → Ordering) (k : K) where
+  -- the key would go at place i: the keys before it are less, and those from it on are greater
+  abbrev pub IsGap : List (K × V) → ℕ → Type 0
+  IsGap [] zero = ⊤
+  IsGap [] (suc i) = ⊥
+  IsGap (e ∷ es) zero = (R k e.0 ≡ Less) × IsGap es zero
+  IsGap (e ∷ es) (suc i) = (R k e.0 ≡ Greater) × IsGap es i
+
+  -- the key stands at place i: the keys before it are less, and those after it are greater
+  abbrev pub IsAt : List (K × V) → ℕ → Type 0
+  IsAt [] i = ⊥
+  IsAt (e ∷ es) zero = (R k e.0 ≡ Equal) × IsGap es zero
+  IsAt (e ∷ es) (suc i) = (R k e.0 ≡ Greater) × IsAt es i
+
+  -- the place of the key, or its gap
+  abbrev pub IsPlace : List (K × V) → Result ℕ ℕ → Type 0
+  IsPlace es r = MatchResult r (IsAt es) (IsGap es)

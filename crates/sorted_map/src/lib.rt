@@ -1,0 +1,19 @@
+//! An ordered map that is kept as a vector in the order of its keys.
+//!
+//! Memory is taken by `reserve` and by a clone alone. What changes a map after that cannot fail, so a caller reserves
+//! all the room of a step first, and then makes changes that are sure to be made.
+#![tactic(auto)]
+
+mod compare;
+mod edits;
+mod iters;
+mod keys;
+mod lends;
+mod map;
+mod places;
+#[cfg(test)]
+mod tests;
+
+pub use iters::Iter;
+pub use keys::{ExactOrd, Probe};
+pub use map::SortedMap;
