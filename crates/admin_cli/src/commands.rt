@@ -15,7 +15,10 @@ pub struct Admin {
 impl Admin {
     /// An administrator of this book, who has read no line yet.
     pub fn new(book: Book) -> Admin {
-        Admin { book, operations: 0 }
+        Admin {
+            book,
+            operations: 0,
+        }
     }
 
     /// Does what a command asks for, and answers the line to print.
@@ -31,8 +34,19 @@ impl Admin {
     fn operate(&mut self, alloc: Global, op: Op) -> OutputLine {
         self.operations = self.operations.saturating_add(1);
         let tid = self.operations;
-        let request = Request { client: 0, tid, oldest: tid, op };
-        let arrived = self.book.step(alloc, Event::Arrive { rank: Rank(0), request });
+        let request = Request {
+            client: 0,
+            tid,
+            oldest: tid,
+            op,
+        };
+        let arrived = self.book.step(
+            alloc,
+            Event::Arrive {
+                rank: Rank(0),
+                request,
+            },
+        );
         if let Err(refusal) = arrived {
             return OutputLine::Refused(refusal);
         }
@@ -41,8 +55,22 @@ impl Admin {
 
     fn serve(&mut self, alloc: Global, rank: Rank) -> OutputLine {
         match self.book.step(alloc, Event::Serve { rank }) {
-            Ok(Answer::Reply { client, tid, place, first, reply }) => {
-                OutputLine::Reply { client, tid, place: place as u64, first, reply }
+            Ok(
+                Answer::Reply {
+                    client,
+                    tid,
+                    place,
+                    first,
+                    reply,
+                },
+            ) => {
+                OutputLine::Reply {
+                    client,
+                    tid,
+                    place: place as u64,
+                    first,
+                    reply,
+                }
             }
             Ok(Answer::Nothing) => unreachable!(),
             Err(refusal) => OutputLine::Refused(refusal),

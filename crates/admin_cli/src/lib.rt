@@ -6,8 +6,6 @@ mod commands;
 mod faults;
 mod script;
 
-
+pub use command_line::{Options, settings};
 pub use faults::{FaultKind, ScriptFault};
 pub use script::run_script;
-pub use command_line::{Options, settings};
-

@@ -4,7 +4,10 @@ ghost use Rattle.std.specs.Prelude.{◌≡◌, ◌≤◌};
 use crate::commands::Admin;
 use crate::faults::{FaultKind, ScriptFault};
 use cluster_core::format;
-use script_text::{Line, LineBuffer, LineFault, NextLine, OutputFault, OutputLine, next_line, read_line, write_line};
+use script_text::{
+    Line, LineBuffer, LineFault, NextLine, OutputFault, OutputLine, next_line, read_line,
+    write_line,
+};
 use std::alloc::Global;
 use std::io::{BufRead, BufReader, Read, Write};
 
@@ -24,10 +27,16 @@ pub fn run_script<H: AllocGlobal, R: Read + Drop, W: Write>(
     let alloc = rt.alloc();
     let mut admin = Admin::new(format(alloc, ranks, cache));
     let Ok(mut buffer) = LineBuffer::new(alloc) else {
-        return Err(ScriptFault { line: 1, kind: FaultKind::OutOfMemory });
+        return Err(ScriptFault {
+            line: 1,
+            kind: FaultKind::OutOfMemory,
+        });
     };
     let Ok(mut reader) = BufReader::new(alloc, reader) else {
-        return Err(ScriptFault { line: 1, kind: FaultKind::OutOfMemory });
+        return Err(ScriptFault {
+            line: 1,
+            kind: FaultKind::OutOfMemory,
+        });
     };
     run_lines(alloc, &mut reader, &mut buffer, writer, &mut admin)
 }
@@ -44,19 +53,35 @@ fn run_lines<R: BufRead, W: Write>(
         match next_line(reader, buffer) {
             Ok(NextLine::Read) => {}
             Ok(NextLine::End) => return Ok(()),
-            Err(LineFault::TooLong) => return Err(ScriptFault { line, kind: FaultKind::TooLong }),
-            Err(LineFault::Fault) => return Err(ScriptFault { line, kind: FaultKind::ReadFault }),
+            Err(LineFault::TooLong) => return Err(ScriptFault {
+                line,
+                kind: FaultKind::TooLong,
+            }),
+            Err(LineFault::Fault) => return Err(ScriptFault {
+                line,
+                kind: FaultKind::ReadFault,
+            }),
         }
         if let Err(kind) = run_line(alloc, buffer.as_bytes(), writer, admin) {
             return Err(ScriptFault { line, kind });
         }
     }
-    Err(ScriptFault { line: u64::MAX, kind: FaultKind::ReadFault })
+    Err(ScriptFault {
+        line: u64::MAX,
+        kind: FaultKind::ReadFault,
+    })
 }
 
 // Runs one line, and writes what it prints.
-fn run_line<W: Write>(alloc: Global, bytes: &[u8], writer: &mut W, admin: &mut Admin) -> Result<(), FaultKind> {
-    let Ok(line) = read_line(alloc, bytes) else { return Err(FaultKind::OutOfMemory) };
+fn run_line<W: Write>(
+    alloc: Global,
+    bytes: &[u8],
+    writer: &mut W,
+    admin: &mut Admin,
+) -> Result<(), FaultKind> {
+    let Ok(line) = read_line(alloc, bytes) else {
+        return Err(FaultKind::OutOfMemory)
+    };
     let output = match line {
         Line::Nothing => return Ok(()),
         Line::NotCommand => return Err(FaultKind::NotCommand),

@@ -17,10 +17,20 @@ fn main(rt: HostRuntime) -> io::Result<ExitCode> {
         Ok(options) => options,
         Err(error) => {
             error.print(&rt)?;
-            return Ok(ExitCode::from(if error.use_stderr() { BAD_COMMAND_LINE } else { 0 }));
+            return Ok(ExitCode::from(if error.use_stderr() {
+                BAD_COMMAND_LINE
+            } else {
+                0
+            }));
         }
     };
-    match run_script(&rt, rt.reader(), &mut io::writer(&rt), options.ranks, options.cache) {
+    match run_script(
+        &rt,
+        rt.reader(),
+        &mut io::writer(&rt),
+        options.ranks,
+        options.cache,
+    ) {
         Ok(()) => Ok(ExitCode::SUCCESS),
         Err(fault) => {
             eprintln!(rt; "{fault}")?;

@@ -29,19 +29,19 @@ abbrev took : Bool → Bool → ℕ → Option Ino
 took takes left n = cond {A = Option Ino} takes (offered left n) None
 
 taking : (tree : Tree) (request : Request) (s : Supply) (left : Bool) (takes : Bool)
-  → (left ≡ true → s.next < end_number s.rank)
-  → takes ≡ (step tree request.op (number_or (offered left s.next))).takes
-  → (offered left s.next ≡ None → takes ≡ false)
-  → IsTaking tree request s (took takes left s.next) (step tree request.op (number_or (offered left s.next)))
+    → (left ≡ true → s.next < end_number s.rank)
+    → takes ≡ (step tree request.op (number_or (offered left s.next))).takes
+    → (offered left s.next ≡ None → takes ≡ false)
+    → IsTaking tree request s (took takes left s.next) (step tree request.op (number_or (offered left s.next)))
 taking tree request s left false below takes numbered = record {
   same = sym (unused tree request.op _ 0 (sym takes));
   numbered = takes;
-  next_one = λ n is. cc
+  next_one = λ n is. cc;
 }
 taking tree request s true true below takes numbered = record {
   same = refl;
   numbered = takes;
-  next_one = λ n is. (cc, below refl)
+  next_one = λ n is. (cc, below refl);
 }
 taking tree request s false true below takes numbered = absurd (true≢false (numbered refl))
   where
@@ -52,11 +52,11 @@ taking tree request s false true below takes numbered = absurd (true≢false (nu
 taking_of : (core : Core) (request : Request) → (offer core.numbers ≡ None → (outcome_of core request).takes ≡ false) → IsTaking core.shown request core.numbers (number_of core request) (outcome_of core request)
 taking_of core request numbered =
     taking core.shown request core.numbers (nat_lt core.numbers.next (end_number core.numbers.rank)) (outcome_of core request).takes
-      (λ e. grind (arith, nat_tests)) refl numbered
+    (λ e. grind (arith, nat_tests)) refl numbered
 
 -- the supply afterwards
 after_taking-fresh : (opening : Tree) (past : List Entry) (s : Supply) (e : Entry)
-  → IsFresh opening past s → ((n : Ino) → e.number ≡ Some n → n.0 ≡ s.next) → IsFresh opening (past ++ e ∷ []) (after_taking s e.number)
+    → IsFresh opening past s → ((n : Ino) → e.number ≡ Some n → n.0 ≡ s.next) → IsFresh opening (past ++ e ∷ []) (after_taking s e.number)
 after_taking-fresh opening past s e fresh next_one = go e.number refl
   where
     go : (number : Option Ino) → e.number ≡ number → IsFresh opening (past ++ e ∷ []) (after_taking s number)
@@ -70,7 +70,7 @@ after_taking-supplied s (Some n) h next_one =
     record { ranked = h.ranked; started = omega (arith, h.started); ended = omega (arith, (next_one n refl).1) }
 
 lawful : (opening : Tree) (past : List Entry) (s : Supply) (number : Option Ino) → IsSupply s → IsFresh opening past s
-  → ((n : Ino) → number ≡ Some n → (n.0 ≡ s.next) × (s.next < end_number s.rank)) → IsLawful opening past number
+    → ((n : Ino) → number ≡ Some n → (n.0 ≡ s.next) × (s.next < end_number s.rank)) → IsLawful opening past number
 lawful opening past s None h fresh next_one = tt
 lawful opening past s (Some n) h fresh next_one = λ before.
     let w = next_one n refl in
@@ -80,7 +80,7 @@ lawful opening past s (Some n) h fresh next_one = λ before.
 
 -- a book stays sound where a request is applied
 pub sound-applied : (opening : Tree) (past now : List Entry) (old new : Core) (request : Request) (rest : List Request) (client tid place : ℕ) (reply : Reply)
-  → IsSound opening past old → IsApplied old new past now request rest client tid place reply → IsSound opening now new
+    → IsSound opening past old → IsApplied old new past now request rest client tid place reply → IsSound opening now new
 sound-applied opening past now old new request rest client tid place reply sound done =
     let e = entry_of old request in
     let t = taking_of old request done.numbered in
@@ -92,11 +92,11 @@ sound-applied opening past now old new request rest client tid place reply sound
       marked = done.is_new.marked;
       number = t.numbered ∙ ap (λ (o : Outcome). o.takes) (sym same);
       lawful = lawful opening past old.numbers e.number sound.supplied sound.fresh t.next_one;
-      reply = ap (λ (o : Outcome). o.reply) (sym same)
+      reply = ap (λ (o : Outcome). o.reply) (sym same);
     } in
     rw (done.left, done.appended) (record {
       legal = legal-push opening past e sound.legal next;
       replayed = ap (λ (o : Outcome). o.tree) (sym same) ∙ sym (after-push opening past e);
       supplied = after_taking-supplied old.numbers e.number sound.supplied t.next_one;
-      fresh = after_taking-fresh opening past old.numbers e sound.fresh (λ n is. (t.next_one n is).0)
+      fresh = after_taking-fresh opening past old.numbers e sound.fresh (λ n is. (t.next_one n is).0);
     })

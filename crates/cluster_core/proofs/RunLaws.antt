@@ -30,7 +30,7 @@ refused : (past now : List Entry) (reason : Refusal) → now ≡ past → IsStep
 refused past now reason same = record { grows = unchanged past now same; told = tt }
 
 applied : (old new : Core) (past now : List Entry) (request : Request) (rest : List Request) (client tid place : ℕ) (reply : Replied)
-  → IsApplied old new past now request rest client tid place reply → IsStepOf past now (Ok (Reply client tid place true reply))
+    → IsApplied old new past now request rest client tid place reply → IsStepOf past now (Ok (Reply client tid place true reply))
 applied old new past now request rest client tid place reply h =
     let entry = entry_of old request in
     let last : (e : Entry) → slice_index_or now place e ≡ entry = λ e. rw (h.appended, h.placed) (get_or-append_seam past entry [] e) in
@@ -40,8 +40,8 @@ applied old new past now request rest client tid place reply h =
         in_range = rw (h.appended, h.placed) (omega (arith, length-append past (entry ∷ [])));
         client_is = λ e. ap (λ (x : Entry). x.client) (last e) ∙ sym h.client_is;
         tid_is = λ e. ap (λ (x : Entry). x.tid) (last e) ∙ sym h.tid_is;
-        reply_is = λ e. ap (λ (x : Entry). x.reply) (last e) ∙ sym h.replied
-      }
+        reply_is = λ e. ap (λ (x : Entry). x.reply) (last e) ∙ sym h.replied;
+      };
     }
 
 both_true : (a b : Bool) → (a && b) ≡ true → (a ≡ true) × (b ≡ true)
@@ -49,7 +49,7 @@ both_true true b h = (refl, h)
 both_true false b h = cc
 
 repeated : (old new : Core) (past now : List Entry) (request : Request) (rest : List Request) (client tid place : ℕ) (reply : Replied)
-  → IsRepeated old new past now request rest client tid place reply → IsStepOf past now (Ok (Reply client tid place false reply))
+    → IsRepeated old new past now request rest client tid place reply → IsStepOf past now (Ok (Reply client tid place false reply))
 repeated old new past now request rest client tid place reply h =
     let pair = λ (e : Entry). both_true _ _ (h.kept.at.pair e) in
     record {
@@ -58,8 +58,8 @@ repeated old new past now request rest client tid place reply h =
         in_range = h.kept.at.in_range;
         client_is = λ e. eqb-true _ _ (pair e).0 ∙ sym h.client_is;
         tid_is = λ e. eqb-true _ _ (pair e).1 ∙ sym h.tid_is;
-        reply_is = λ e. sym (h.replied e)
-      })
+        reply_is = λ e. sym (h.replied e);
+      });
     }
 
 module _ (old new : Core) (past now : List Entry) where
@@ -132,7 +132,7 @@ still_stands past now client tid place reply (rest, grown) h =
       in_range = rw grown (omega (arith, length-append past rest, h.in_range));
       client_is = λ e. ap (λ (x : Entry). x.client) (same e) ∙ h.client_is e;
       tid_is = λ e. ap (λ (x : Entry). x.tid) (same e) ∙ h.tid_is e;
-      reply_is = λ e. ap (λ (x : Entry). x.reply) (same e) ∙ h.reply_is e
+      reply_is = λ e. ap (λ (x : Entry). x.reply) (same e) ∙ h.reply_is e;
     }
 
 still_told : (past now : List Entry) (result : Result Answer Refusal) → BeginsWith now past → IsOfHistory past result → IsOfHistory now result
@@ -148,7 +148,7 @@ run_of_no_events start end h = record {
   ran = h;
   same_opening = ap (λ (k : Kept). k.opening) h;
   grows = unchanged start.history end.history (ap (λ (k : Kept). k.history) h);
-  told = tt
+  told = tt;
 }
 
 -- a run keeps the opening, the history and each reply
@@ -163,12 +163,12 @@ run_of start (event ∷ events) (result ∷ results) end (next, one, more) =
       ran = (next, one, more);
       same_opening = others.same_opening ∙ one.same_opening;
       grows = grown_twice start.history next.history end.history first.grows others.grows;
-      told = (still_told next.history end.history result others.grows first.told, others.told)
+      told = (still_told next.history end.history result others.grows first.told, others.told);
     }
 
 -- one event more
 pub runs-push : (start middle end : Kept) (events : List Event) (results : List (Result Answer Refusal)) (result : Result Answer Refusal) (event : Event)
-  → Runs start events results middle → StepsBook middle end result event → Runs start (events ++ event ∷ []) (results ++ result ∷ []) end
+    → Runs start events results middle → StepsBook middle end result event → Runs start (events ++ event ∷ []) (results ++ result ∷ []) end
 runs-push start middle end [] [] result event h one = (end, subst (λ k. StepsBook k end result event) h one, refl)
 runs-push start middle end [] (r ∷ results) result event h one = absurd h
 runs-push start middle end (e ∷ events) [] result event h one = absurd h
@@ -187,8 +187,8 @@ split_next n xs x rest left =
 
 -- one event more of those that are left
 pub run_more : (start middle end : Kept) (events rest : List Event) (results new_results : List (Result Answer Refusal)) (result : Result Answer Refusal) (event : Event) (n m : ℕ)
-  → Runs start (take n events) results middle → event ∷ rest ≡ drop n events → StepsBook middle end result event → m ≡ n + 1 → new_results ≡ results ++ result ∷ []
-  → Runs start (take m events) new_results end × (rest ≡ drop m events)
+    → Runs start (take n events) results middle → event ∷ rest ≡ drop n events → StepsBook middle end result event → m ≡ n + 1 → new_results ≡ results ++ result ∷ []
+    → Runs start (take m events) new_results end × (rest ≡ drop m events)
 run_more start middle end events rest results new_results result event n m h left one more grown =
     let s = split_next n events event rest left in
     rw (more, grown) (rw s.0 (runs-push start middle end (take n events) results result event h one), s.1)

@@ -27,7 +27,7 @@ module _ (opening : Tree) (past now : List Entry) (old new : Core) (sound : IsSo
     legal = rw same sound.legal;
     replayed = rw (same, shown) sound.replayed;
     supplied = rw numbers sound.supplied;
-    fresh = rw (same, numbers) sound.fresh
+    fresh = rw (same, numbers) sound.fresh;
   }
 
   sound-waiting : IsLeftWaiting old new past now → IsSound opening now new
@@ -108,5 +108,5 @@ sound-empty core shown numbers = record {
   legal = λ k e below. absurd (omega arith);
   replayed = shown;
   supplied = rw numbers (record { ranked = omega arith; started = omega arith; ended = omega arith });
-  fresh = rw numbers (λ n low high used. absurd (unused-empty n low used))
+  fresh = rw numbers (λ n low high used. absurd (unused-empty n low used));
 }

@@ -67,5 +67,9 @@ pub fn format(alloc: Global, ranks: u8, cache: u32) -> Book
     ensures waiting { result.core.inbox ≡ [] }
     ensures numbers { result.core.numbers ≡ record { rank = 0; next = 2 ^ 40 } }
 {
-    Book { cluster: Cluster::new(alloc), history: Vec::new(alloc), opening: PlainTree::new(alloc) }
+    Book {
+        cluster: Cluster::new(alloc),
+        history: Vec::new(alloc),
+        opening: PlainTree::new(alloc),
+    }
 }

@@ -1,7 +1,7 @@
 //! The cluster and its events.
-ghost use Rattle.std.specs.Prelude.{◌≡◌, ◌^◌, []};
+ghost use Rattle.std.specs.Prelude.{◌≡◌, ◌^◌, [], nat_lt};
 ghost use Rattle.std.specs.FinMap as map;
-ghost use Rattle.cluster_core.specs.Steps.{Steps, AtRank, ArrivesInbox, MayRefuse};
+ghost use Rattle.cluster_core.specs.Steps.{Steps, AtRank, ArrivesInbox, MayRefuse, ranks};
 ghost use Rattle.cluster_core.specs.Serve.{ServesInbox};
 
 use crate::answers::Answer;
@@ -52,7 +52,12 @@ impl Cluster {
     }
 
     /// One event, one atomic step.
-    pub fn step(&mut self, alloc: Global, history: &mut Vec<Entry>, event: Event) -> Result<Answer, Refusal>
+    pub fn step(
+        &mut self,
+        alloc: Global,
+        history: &mut Vec<Entry>,
+        event: Event,
+    ) -> Result<Answer, Refusal>
         ensures { Steps self.old self.new history.old.items history.new.items result event }
     {
         match event {
@@ -65,7 +70,7 @@ impl Cluster {
     pub fn arrive(&mut self, rank: Rank, request: Request) -> Result<Answer, Refusal>
         ensures { AtRank self.old self.new [] [] rank result (ArrivesInbox self.old self.new [] [] request result) }
     {
-        if rank.0 >= Cluster::RANKS {
+        if !is_rank(rank) {
             return Err(Refusal::NotAuthority);
         }
         self.inbox.arrive(request)?;
@@ -73,13 +78,31 @@ impl Cluster {
     }
 
     /// The rank serves the request at the front of its inbox.
-    pub fn serve(&mut self, alloc: Global, history: &mut Vec<Entry>, rank: Rank) -> Result<Answer, Refusal>
+    pub fn serve(
+        &mut self,
+        alloc: Global,
+        history: &mut Vec<Entry>,
+        rank: Rank,
+    ) -> Result<Answer, Refusal>
         ensures { AtRank self.old self.new history.old.items history.new.items rank result
             (ServesInbox self.old self.new history.old.items history.new.items MayRefuse result self.old.inbox) }
     {
-        if rank.0 >= Cluster::RANKS {
+        if !is_rank(rank) {
             return Err(Refusal::NotAuthority);
         }
-        serve_front(alloc, &mut self.frags, &mut self.inbox, &mut self.numbers, history)
+        serve_front(
+            alloc,
+            &mut self.frags,
+            &mut self.inbox,
+            &mut self.numbers,
+            history,
+        )
     }
+}
+
+// Whether the rank is one of the cluster's.
+fn is_rank(rank: Rank) -> bool
+    ensures { result ≡ nat_lt rank.0 ranks }
+{
+    rank.0 < Cluster::RANKS
 }

@@ -31,6 +31,8 @@ impl PlainTree {
     pub fn new(alloc: Global) -> PlainTree
         ensures { result ≡ map.empty }
     {
-        PlainTree { entries: SortedMap::new(alloc) }
+        PlainTree {
+            entries: SortedMap::new(alloc),
+        }
     }
 }

@@ -12,7 +12,11 @@ use std::alloc::Global;
 /// Steps a book by each event of a list, one after the other, and answers a result for each. Each reply among them is the
 /// history's, which is legal from the opening tree. The list of results is reserved before the first event: an error says
 /// that this was refused, and that nothing was done.
-pub fn run(alloc: Global, book: &mut Book, events: Vec<Event>) -> Result<Vec<Result<Answer, Refusal>>, Refusal>
+pub fn run(
+    alloc: Global,
+    book: &mut Book,
+    events: Vec<Event>,
+) -> Result<Vec<Result<Answer, Refusal>>, Refusal>
     ensures ran { MatchResult result (λ results. IsRun book.old events.items results.items book.new) (λ reason. (reason ≡ Refusal.NoMemory) × (book.new ≡ book.old)) }
     ensures sound { IsSoundBook book.new }
 {

@@ -66,24 +66,46 @@ pub fn commit<F: Frags>(
     requires room { vec_len history.old < vec_capacity history.old }
     ensures tree { F.content frags.new ≡ changed (F.content frags.old) prepared.plan.change }
     ensures appended { history.new.items ≡ history.old.items ++ record {
-        client = request.client;
-        tid = request.tid;
-        oldest = request.oldest;
-        op = request.op;
-        number = prepared.plan.number;
-        reply = prepared.plan.reply
+      client = request.client;
+      tid = request.tid;
+      oldest = request.oldest;
+      op = request.op;
+      number = prepared.plan.number;
+      reply = prepared.plan.reply;
     } ∷ [] }
     ensures drawn { numbers.new ≡ prepared.numbers }
     ensures answer { result ≡ Answer.Reply request.client request.tid (vec_len history.old) true prepared.answer }
     ensures follows { F.Follows frags.old frags.new }
 {
-    let Request { client, tid, oldest, op } = request;
-    let Prepared { plan, answer, numbers: left } = prepared;
+    let Request {
+        client,
+        tid,
+        oldest,
+        op,
+    } = request;
+    let Prepared {
+        plan,
+        answer,
+        numbers: left,
+    } = prepared;
     let place = history.len();
     carry_out(frags, plan.change);
     *numbers = left;
-    let _ = history.push(Entry { client, tid, oldest, op, number: plan.number, reply: plan.reply });
-    Answer::Reply { client, tid, place, first: true, reply: answer }
+    let _ = history.push(Entry {
+        client,
+        tid,
+        oldest,
+        op,
+        number: plan.number,
+        reply: plan.reply,
+    });
+    Answer::Reply {
+        client,
+        tid,
+        place,
+        first: true,
+        reply: answer,
+    }
 }
 
 /// Serves the request at the front of the inbox: applies it if it is new, answers it again if it was applied before.
@@ -100,7 +122,9 @@ pub fn serve_front<F: Frags>(
         history.old.items history.new.items (F.MayRefuse frags.old frags.new) result inbox.old }
     ensures follows { F.Follows frags.old frags.new }
 {
-    let Some(front) = inbox.front() else { return Err(Refusal::InboxEmpty) };
+    let Some(front) = inbox.front() else {
+        return Err(Refusal::InboxEmpty)
+    };
     match standing_of(history, front.client, front.tid, front.oldest) {
         Seen::Trimmed => {
             let _ = inbox.take();
@@ -109,7 +133,9 @@ pub fn serve_front<F: Frags>(
         Seen::Kept(place) => answer_again(inbox, history, place),
         Seen::New => match prepare(alloc, frags, *numbers, history, &front.op) {
             Ok(prepared) => {
-                let Some(request) = inbox.take() else { unreachable!() };
+                let Some(request) = inbox.take() else {
+                    unreachable!()
+                };
                 Ok(commit(frags, numbers, history, request, prepared))
             }
             Err(Refusal::NoInodes) => {
@@ -128,6 +154,14 @@ fn answer_again(inbox: &mut Inbox, history: &[Entry], place: usize) -> Result<An
     ensures { RepeatsFront inbox.old inbox.new history.now place result }
 {
     let reply = history[place].reply.try_clone()?;
-    let Some(request) = inbox.take() else { unreachable!() };
-    Ok(Answer::Reply { client: request.client, tid: request.tid, place, first: false, reply })
+    let Some(request) = inbox.take() else {
+        unreachable!()
+    };
+    Ok(Answer::Reply {
+        client: request.client,
+        tid: request.tid,
+        place,
+        first: false,
+        reply,
+    })
 }

@@ -21,7 +21,7 @@ fn frag(text: &str) -> Result<Frag, Fail> {
 // The leaves as they are printed, each with a space after it.
 fn shown(alloc: Global, tree: &FragTree) -> Result<String, AllocError> {
     let mut text = String::new(alloc);
-    for leaf in tree.leaves(alloc)? {
+    for leaf in tree {
         let leaf_text = format!(in alloc; "{leaf} ")?;
         text.push_str(&leaf_text)?;
     }
@@ -32,6 +32,8 @@ fn shown(alloc: Global, tree: &FragTree) -> Result<String, AllocError> {
 fn a_new_directory_has_one_leaf(rt: HostRuntime) -> Result<(), Fail> {
     let tree = FragTree::whole(rt.alloc())?;
     assert_eq!(rt; tree.len(), 1);
+    assert_eq!(rt; tree.iter().len(), 1);
+    assert_eq!(rt; tree.iter().size_hint(), (1, Some(1)));
     assert_eq!(rt; shown(rt.alloc(), &tree)?.as_str(), "* ");
     assert_eq!(rt; tree.pick(0xffff_ffff), Frag::ROOT);
     Ok(())

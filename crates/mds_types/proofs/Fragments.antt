@@ -43,7 +43,7 @@ whole_below v k t =
 
 -- what is below all hashes and steps within the fragment
 pub child-bounds : (f : Fragment) (i nb : ℕ) → IsFragment f → f.bits + nb ≤ 24 → i < 2 ^ nb
-  → (f.value + i * span (f.bits + nb) + span (f.bits + nb) ≤ 2 ^ 24) × ((f.value + i * span (f.bits + nb)) % span (f.bits + nb) ≡ 0)
+    → (f.value + i * span (f.bits + nb) + span (f.bits + nb) ≤ 2 ^ 24) × ((f.value + i * span (f.bits + nb)) % span (f.bits + nb) ≡ 0)
 child-bounds f i nb h few below =
     let t = span (f.bits + nb) in
     let s : span f.bits ≡ 2 ^ nb * t = span-split f.bits nb few in
@@ -62,7 +62,7 @@ parent_is_fragment f h some =
     record {
       few_bits = omega (arith, h.few_bits);
       in_range = omega (arith, h.in_range);
-      justified = ap (λ n. (f.value - f.value % n) % s) (omega arith) ∙ whole_below f.value 1 s
+      justified = ap (λ n. (f.value - f.value % n) % s) (omega arith) ∙ whole_below f.value 1 s;
     }
 
 -- one digit more of a fragment's text
@@ -71,4 +71,4 @@ digits_more f k s size =
     let bound : f.value / s % 2 < 10 = omega arith in
     let same : 48 + f.value / s % 2 ≡ digit_at f k = ap (λ m. 48 + f.value / m % 2) size in
     ap (λ ds. map (digit_at f) (range_with_len 0 k) ++ ds) (decimal_digit (f.value / s % 2) bound ∙ ap (λ d. d ∷ []) same)
-      ∙ sym (map-range_with_len_more (digit_at f) 0 k k (omega arith))
+    ∙ sym (map-range_with_len_more (digit_at f) 0 k k (omega arith))

@@ -25,11 +25,12 @@ legal-push opening past e legal next k d below = ⊎_elim earlier last (cases_lt
     earlier h =
         let few : k ≤ length past = omega arith in
         rw (take-append-le k past (e ∷ []) few, get_or_append_left past (e ∷ []) d k h) (legal k d h)
+
     last : length past ≤ k → IsNext opening (take k (past ++ e ∷ [])) (slice_index_or (past ++ e ∷ []) k d)
     last h =
         let long : length past ≡ k = omega (arith, below, length-append past (e ∷ [])) in
         subst (λ n. IsNext opening (take n (past ++ e ∷ [])) (slice_index_or (past ++ e ∷ []) n d)) long
-          (rw (take-append_seam past (e ∷ []), get_or-append_seam past e [] d) next)
+        (rw (take-append_seam past (e ∷ []), get_or-append_seam past e [] d) next)
 
 -- a number that is taken with one entry more was taken before or by that entry
 pub taken-push : (past : List Entry) (e : Entry) (n : ℕ) → IsTaken (past ++ e ∷ []) n → IsTaken past n ⊎ (e.number ≡ Some (record { 0 = n }))
@@ -37,6 +38,7 @@ taken-push past e n (k, x, below, is, took) = ⊎_elim earlier last (cases_lt k 
   where
     earlier : k < length past → IsTaken past n ⊎ (e.number ≡ Some (record { 0 = n }))
     earlier h = inl (k, x, h, sym (get_or_append_left past (e ∷ []) x k h) ∙ is, took)
+
     last : length past ≤ k → IsTaken past n ⊎ (e.number ≡ Some (record { 0 = n }))
     last h =
         let long : k ≡ length past = omega (arith, below, length-append past (e ∷ [])) in

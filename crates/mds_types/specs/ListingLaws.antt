@@ -79,7 +79,7 @@ sorted_listed d after (e ∷ es) sorted = go (is_listed d after e) refl (sorted_
     go : (b : Bool) → is_listed d after e ≡ b → T (is_sorted (slice_cmp nat_cmp) (listed d after es)) → T (is_sorted (slice_cmp nat_cmp) (listed d after (e ∷ es)))
     go true is rest =
         subst (λ names. T (is_sorted (slice_cmp nat_cmp) names)) (sym (chosen d after e es true is))
-          (both_of _ _ (below_listed d after e.0 es (first_true _ _ is) (left_of _ _ sorted)) rest)
+        (both_of _ _ (below_listed d after e.0 es (first_true _ _ is) (left_of _ _ sorted)) rest)
     go false is rest = subst (λ names. T (is_sorted (slice_cmp nat_cmp) names)) (sym (chosen d after e es false is)) rest
 
 -- a place of the directory is found among places as its name among names
@@ -94,7 +94,7 @@ tied_place d name place false other = go (nat_cmp d place.dir.0) (ranks d place.
 
 -- one row more: found by its name where it is listed
 found_more : (here past tied : Bool) (row : Inode) (rest others : Option Inode) (p : Bool) → (tied ≡ true → past ≡ p) → rest ≡ cond p others None
-  → cond (here && past) (cond tied (Some row) rest) rest ≡ cond p (cond (here && tied) (Some row) others) None
+    → cond (here && past) (cond tied (Some row) rest) rest ≡ cond p (cond (here && tied) (Some row) others) None
 found_more true true true row rest others true same e = refl
 found_more true true true row rest others false same e = absurd (true≢false (same refl))
   where
@@ -110,7 +110,7 @@ found_more true false false row rest others p same e = e
 found_more false past tied row rest others p same e = e
 
 find_chosen : (name : List ℕ) (d : ℕ) (after : Option (List ℕ)) (e : Place × Inode) (es : List (Place × Inode)) (b : Bool) → is_listed d after e ≡ b
-  → find (slice_cmp nat_cmp) name (listed d after (e ∷ es)) ≡ cond b (cond (eq_by_cmp (slice_cmp nat_cmp) name e.0.name) (Some e.1) (find (slice_cmp nat_cmp) name (listed d after es))) (find (slice_cmp nat_cmp) name (listed d after es))
+    → find (slice_cmp nat_cmp) name (listed d after (e ∷ es)) ≡ cond b (cond (eq_by_cmp (slice_cmp nat_cmp) name e.0.name) (Some e.1) (find (slice_cmp nat_cmp) name (listed d after es))) (find (slice_cmp nat_cmp) name (listed d after es))
 find_chosen name d after e es true is = ap (find (slice_cmp nat_cmp) name) (chosen d after e es true is)
 find_chosen name d after e es false is = ap (find (slice_cmp nat_cmp) name) (chosen d after e es false is)
 
@@ -123,7 +123,7 @@ tied_name a b tied = exact_bytes a b (tie (slice_cmp nat_cmp a b) tied)
     tie Greater h = cc
 
 find_listed : (d : ℕ) (after : Option (List ℕ)) (name : List ℕ) (es : List (Place × Inode))
-  → find (slice_cmp nat_cmp) name (listed d after es) ≡ cond (is_after after name) (find place_cmp (place_of d name) es) None
+    → find (slice_cmp nat_cmp) name (listed d after es) ≡ cond (is_after after name) (find place_cmp (place_of d name) es) None
 find_listed d after name [] = none (is_after after name)
   where
     none : (b : Bool) → None ≡ cond {A = Option Inode} b None None
@@ -131,16 +131,16 @@ find_listed d after name [] = none (is_after after name)
     none false = refl
 find_listed d after name (e ∷ es) =
     find_chosen name d after e es _ refl
-      ∙ found_more (e.0.dir.0 == d) (is_after after e.0.name) (eq_by_cmp (slice_cmp nat_cmp) name e.0.name) e.1 _ (find place_cmp (place_of d name) es) (is_after after name)
-          (λ tied. ap (is_after after) (sym (tied_name name e.0.name tied))) (find_listed d after name es)
-      ∙ ap (λ b. cond (is_after after name) (cond b (Some e.1) (find place_cmp (place_of d name) es)) None) (sym (tied_place d name e.0 (e.0.dir.0 == d) refl))
+    ∙ found_more (e.0.dir.0 == d) (is_after after e.0.name) (eq_by_cmp (slice_cmp nat_cmp) name e.0.name) e.1 _ (find place_cmp (place_of d name) es) (is_after after name)
+    (λ tied. ap (is_after after) (sym (tied_name name e.0.name tied))) (find_listed d after name es)
+    ∙ ap (λ b. cond (is_after after name) (cond b (Some e.1) (find place_cmp (place_of d name) es)) None) (sym (tied_place d name e.0 (e.0.dir.0 == d) refl))
 
 -- the names after a given one are a listing
 pub names_are_listed : (tree : Tree) (d : ℕ) (after : Option (List ℕ)) → IsListing tree d after (names_after tree d after)
 unfolding names_after
 names_are_listed tree d after = record {
   rises = sorted_listed d after (finmap.entries tree) (finmap.entries_sorted tree);
-  exact = λ name. find_listed d after name (finmap.entries tree) ∙ ap (λ o. cond (is_after after name) o None) (sym (get-entries tree (place_of d name)))
+  exact = λ name. find_listed d after name (finmap.entries tree) ∙ ap (λ o. cond (is_after after name) o None) (sym (get-entries tree (place_of d name)));
 }
 
 not_after : (r : Ordering) → r ≡ Less → is_lt (ordering_reverse r) ≡ false
@@ -174,16 +174,16 @@ module _ {K X : Type 0} {R : K → K → Ordering} (o : IsTotalOrder R) where
   greater_than_row (e ∷ es) zero row sorted is =
       let same : e ≡ row = cc in
       subst (λ (x : K × X). greater x.0 (e ∷ es) ≡ es) same
-        (ap (λ r. cond (is_lt r) (e ∷ greater e.0 es) (greater e.0 es)) (tied_itself o e.0) ∙ all_greater e.0 es (left_of _ _ sorted))
+      (ap (λ r. cond (is_lt r) (e ∷ greater e.0 es) (greater e.0 es)) (tied_itself o e.0) ∙ all_greater e.0 es (left_of _ _ sorted))
   greater_than_row (e ∷ es) (suc i) row sorted is =
       let less : R e.0 row.0 ≡ Less = below_at e.0 es i row (left_of _ _ sorted) is in
       ap (λ b. cond b (e ∷ greater row.0 es) (greater row.0 es)) (ap is_lt (o.antisymm row.0 e.0) ∙ not_after _ less)
-        ∙ greater_than_row es i row (right_of _ _ sorted) is
+      ∙ greater_than_row es i row (right_of _ _ sorted) is
 
 -- listed after x, and listed after `after` and then greater than x, come to one where x itself comes after `after`
 narrowed : (here past greater : Bool) (row : List ℕ × Inode) (rest others : List (List ℕ × Inode)) (x : List ℕ) → (greater ≡ true → past ≡ true) → greater ≡ is_lt (slice_cmp nat_cmp x row.0)
-  → rest ≡ filter (λ p. is_lt (slice_cmp nat_cmp x p.0)) others
-  → cond (here && greater) (row ∷ rest) rest ≡ filter (λ p. is_lt (slice_cmp nat_cmp x p.0)) (cond (here && past) (row ∷ others) others)
+    → rest ≡ filter (λ p. is_lt (slice_cmp nat_cmp x p.0)) others
+    → cond (here && greater) (row ∷ rest) rest ≡ filter (λ p. is_lt (slice_cmp nat_cmp x p.0)) (cond (here && past) (row ∷ others) others)
 narrowed true true true row rest others x implies is e = ap (λ xs. row ∷ xs) e ∙ ap (λ b. cond b (row ∷ filter (λ p. is_lt (slice_cmp nat_cmp x p.0)) others) (filter (λ p. is_lt (slice_cmp nat_cmp x p.0)) others)) is
 narrowed true true false row rest others x implies is e = e ∙ ap (λ b. cond b (row ∷ filter (λ p. is_lt (slice_cmp nat_cmp x p.0)) others) (filter (λ p. is_lt (slice_cmp nat_cmp x p.0)) others)) is
 narrowed true false true row rest others x implies is e = let never : false ≡ true = implies refl in cc
@@ -194,12 +194,12 @@ chosen_by : (d : ℕ) (after : Option (List ℕ)) (e : Place × Inode) (es : Lis
 chosen_by d after e es = chosen d after e es (is_listed d after e) refl
 
 listed_narrowed : (d : ℕ) (after : Option (List ℕ)) (x : List ℕ) (es : List (Place × Inode)) → ((name : List ℕ) → is_lt (slice_cmp nat_cmp x name) ≡ true → is_after after name ≡ true)
-  → listed d (Some x) es ≡ filter (λ p. is_lt (slice_cmp nat_cmp x p.0)) (listed d after es)
+    → listed d (Some x) es ≡ filter (λ p. is_lt (slice_cmp nat_cmp x p.0)) (listed d after es)
 listed_narrowed d after x [] implies = refl
 listed_narrowed d after x (e ∷ es) implies =
     chosen_by d (Some x) e es
-      ∙ narrowed (e.0.dir.0 == d) (is_after after e.0.name) (is_lt (slice_cmp nat_cmp x e.0.name)) (named e) _ (listed d after es) x (implies e.0.name) refl (listed_narrowed d after x es implies)
-      ∙ sym (ap (filter (λ p. is_lt (slice_cmp nat_cmp x p.0))) (chosen_by d after e es))
+    ∙ narrowed (e.0.dir.0 == d) (is_after after e.0.name) (is_lt (slice_cmp nat_cmp x e.0.name)) (named e) _ (listed d after es) x (implies e.0.name) refl (listed_narrowed d after x es implies)
+    ∙ sym (ap (filter (λ p. is_lt (slice_cmp nat_cmp x p.0))) (chosen_by d after e es))
 
 -- a name greater than one that comes after `after` comes after it too
 after_chain : (after : Option (List ℕ)) (x : List ℕ) → is_after after x ≡ true → (name : List ℕ) → is_lt (slice_cmp nat_cmp x name) ≡ true → is_after after name ≡ true
@@ -216,7 +216,7 @@ second_true true b h = h
 second_true false b h = cc
 
 listed_after_by : (d : ℕ) (after : Option (List ℕ)) (e : Place × Inode) (es : List (Place × Inode)) (i : ℕ) (row : List ℕ × Inode) (b : Bool) → is_listed d after e ≡ b
-  → ((j : ℕ) → slice_get (listed d after es) j ≡ Some row → is_after after row.0 ≡ true) → slice_get (listed d after (e ∷ es)) i ≡ Some row → is_after after row.0 ≡ true
+    → ((j : ℕ) → slice_get (listed d after es) j ≡ Some row → is_after after row.0 ≡ true) → slice_get (listed d after (e ∷ es)) i ≡ Some row → is_after after row.0 ≡ true
 listed_after_by d after e es zero row true is others got =
     let same : Some (named e) ≡ Some row = sym (ap (λ names. slice_get names 0) (chosen d after e es true is)) ∙ got in
     let one : named e ≡ row = cc in
@@ -231,11 +231,11 @@ listed_after d after (e ∷ es) i row is = listed_after_by d after e es i row (i
 
 -- the names that follow a listed one are those listed after it: paged by its last name, a listing is whole
 pub pages_make_up : (tree : Tree) (d : ℕ) (after : Option (List ℕ)) (i : ℕ) (row : List ℕ × Inode) → slice_get (names_after tree d after) i ≡ Some row
-  → take (suc i) (names_after tree d after) ++ names_after tree d (Some row.0) ≡ names_after tree d after
+    → take (suc i) (names_after tree d after) ++ names_after tree d (Some row.0) ≡ names_after tree d after
 unfolding names_after
 pages_make_up tree d after i row is =
     let es = finmap.entries tree in
     let rest : listed d (Some row.0) es ≡ drop (suc i) (listed d after es) =
-      listed_narrowed d after row.0 es (after_chain after row.0 (listed_after d after es i row is))
-        ∙ greater_than_row nat_list_cmp_total (listed d after es) i row (sorted_listed d after es (finmap.entries_sorted tree)) is in
+    listed_narrowed d after row.0 es (after_chain after row.0 (listed_after d after es i row is))
+    ∙ greater_than_row nat_list_cmp_total (listed d after es) i row (sorted_listed d after es (finmap.entries_sorted tree)) is in
     ap (λ names. take (suc i) (listed d after es) ++ names) rest ∙ take-append-drop (suc i) (listed d after es)

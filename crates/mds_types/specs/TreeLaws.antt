@@ -29,17 +29,17 @@ list_any-put R p k v (e ∷ es) absent = go (R k e.0) refl absent (list_any-put 
     go Equal is none more = let found : Some e.1 ≡ None = sym (ap (λ r. cond (is_eq r) (Some e.1) (find R k es)) is) ∙ none in cc
     go Greater is none more =
         ap (λ r. list_any p (by_order r ((k, v) ∷ e ∷ es) ((e.0, v) ∷ es) (e ∷ put R k v es))) is
-          ∙ ap (λ b. p e || b) (more (sym (ap (λ r. cond (is_eq r) (Some e.1) (find R k es)) is) ∙ none))
-          ∙ or_swap (p e) (p (k, v)) (list_any p es)
+        ∙ ap (λ b. p e || b) (more (sym (ap (λ r. cond (is_eq r) (Some e.1) (find R k es)) is) ∙ none))
+        ∙ or_swap (p e) (p (k, v)) (list_any p es)
 
 -- the directories, once an inode stands at a place that was free
 pub is_directory-insert : (tree : Tree) (place : Place) (inode : Inode) (d : ℕ) → map.get tree place ≡ None
-  → is_directory (map.insert tree place inode) d ≡ (is_entry_of_directory d (place, inode) || is_directory tree d)
+    → is_directory (map.insert tree place inode) d ≡ (is_entry_of_directory d (place, inode) || is_directory tree d)
 unfolding is_directory
 is_directory-insert tree place inode d absent =
     ap (λ es. (d == 1) || list_any (is_entry_of_directory d) es) (entries-insert place-total tree place inode)
-      ∙ ap (λ b. (d == 1) || b) (list_any-put place_cmp (is_entry_of_directory d) place inode (map.entries tree) (sym (get-entries tree place) ∙ absent))
-      ∙ or_swap (d == 1) (is_entry_of_directory d (place, inode)) (list_any (is_entry_of_directory d) (map.entries tree))
+    ∙ ap (λ b. (d == 1) || b) (list_any-put place_cmp (is_entry_of_directory d) place inode (map.entries tree) (sym (get-entries tree place) ∙ absent))
+    ∙ or_swap (d == 1) (is_entry_of_directory d (place, inode)) (list_any (is_entry_of_directory d) (map.entries tree))
 
 no_entries : {A : Type 0} (es : List A) → length es ≡ 0 → es ≡ []
 no_entries [] none = refl

@@ -84,18 +84,18 @@ directory_stands : (tree : Tree) (d : ℕ) → is_directory tree d ≡ true → 
 unfolding is_directory
 directory_stands tree d here =
     ⊎_elim (λ one. inl (eqb-true d 1 one))
-      (λ some.
-        let w = any_found place-total (is_entry_of_directory d) (finmap.entries tree) (finmap.entries_sorted tree) some in
-        inr (w.0.0, w.0.1, get-entries tree w.0.0 ∙ w.1, eqb-true w.0.1.ino.0 d (second_true _ _ w.2)))
-      (or_cases (d == 1) (list_any (is_entry_of_directory d) (finmap.entries tree)) here)
+    (λ some.
+    let w = any_found place-total (is_entry_of_directory d) (finmap.entries tree) (finmap.entries_sorted tree) some in
+    inr (w.0.0, w.0.1, get-entries tree w.0.0 ∙ w.1, eqb-true w.0.1.ino.0 d (second_true _ _ w.2)))
+    (or_cases (d == 1) (list_any (is_entry_of_directory d) (finmap.entries tree)) here)
 
 -- a directory of a well-formed tree reaches the root
 reaches_root : (tree : Tree) (d : ℕ) → IsWellFormed tree → is_directory tree d ≡ true → (d ≡ 1) ⊎ IsAbove tree 1 d
 reaches_root tree d whole here =
     ⊎_elim inl
-      (λ (place, inode, stands, is). inr (subst (λ x. IsAbove tree 1 x) is
-        (⊎_elim (λ top. child place.name inode (ap (λ m. at tree m place.name) (sym top) ∙ stands)) (λ above. further place.dir.0 place.name inode above stands) (whole.rooted place.dir.0 place.name inode stands))))
-      (directory_stands tree d here)
+    (λ (place, inode, stands, is). inr (subst (λ x. IsAbove tree 1 x) is
+    (⊎_elim (λ top. child place.name inode (ap (λ m. at tree m place.name) (sym top) ∙ stands)) (λ above. further place.dir.0 place.name inode above stands) (whole.rooted place.dir.0 place.name inode stands))))
+    (directory_stands tree d here)
 
 -- a new inode at a free place of a directory that stands
 module _ (tree : Tree) (dir : ℕ) (new_name : List ℕ) (new : Inode) (free : at tree dir new_name ≡ None) where
@@ -107,7 +107,7 @@ module _ (tree : Tree) (dir : ℕ) (new_name : List ℕ) (new : Inode) (free : a
 
   -- what stands in the grown tree is the new inode, or stood before
   stands_by : (d : ℕ) (name : List ℕ) (inode : Inode) (b : Bool) → eq_by_cmp place_cmp (place_of d name) (place_of dir new_name) ≡ b → at grown d name ≡ Some inode
-    → ((place_of d name ≡ place_of dir new_name) × (new ≡ inode)) ⊎ (at tree d name ≡ Some inode)
+      → ((place_of d name ≡ place_of dir new_name) × (new ≡ inode)) ⊎ (at tree d name ≡ Some inode)
   stands_by d name inode true tied stands =
       let same : Some new ≡ Some inode = sym (at-grown d name ∙ ap (λ b. cond b (Some new) (at tree d name)) tied) ∙ stands in
       inl (place-exact _ _ (tie (place_cmp (place_of d name) (place_of dir new_name)) tied), cc)
@@ -152,25 +152,25 @@ module _ (tree : Tree) (dir : ℕ) (new_name : List ℕ) (new : Inode) (free : a
 
   -- the tree stays well formed where the number is neither the root's nor one that stands
   pub well-formed-grown : IsWellFormed tree → is_directory tree dir ≡ true → (new.ino.0 ≡ 1 → ⊥)
-    → ((d : ℕ) (name : List ℕ) (inode : Inode) → at tree d name ≡ Some inode → inode.ino.0 ≡ new.ino.0 → ⊥) → HasSize new.kind new.size → IsWellFormed grown
+      → ((d : ℕ) (name : List ℕ) (inode : Inode) → at tree d name ≡ Some inode → inode.ino.0 ≡ new.ino.0 → ⊥) → HasSize new.kind new.size → IsWellFormed grown
   well-formed-grown whole here rootless unused sized = record {
     rootless = λ d name inode h one. ⊎_elim (λ w. rootless (ap (λ (i : Inode). i.ino.0) w.1 ∙ one)) (λ before. whole.rootless d name inode before one) (stands d name inode h);
     once = λ d d' name name' inode inode' h h' same.
-      ⊎_elim
+        ⊎_elim
         (λ w. ⊎_elim
-          (λ w'. (dir_is d name w.0 ∙ sym (dir_is d' name' w'.0), name_is d name w.0 ∙ sym (name_is d' name' w'.0)))
-          (λ before'. absurd (unused d' name' inode' before' (ap (λ (i : _). i.0) (sym same) ∙ ap (λ (i : Inode). i.ino.0) (sym w.1))))
-          (stands d' name' inode' h'))
+        (λ w'. (dir_is d name w.0 ∙ sym (dir_is d' name' w'.0), name_is d name w.0 ∙ sym (name_is d' name' w'.0)))
+        (λ before'. absurd (unused d' name' inode' before' (ap (λ (i : _). i.0) (sym same) ∙ ap (λ (i : Inode). i.ino.0) (sym w.1))))
+        (stands d' name' inode' h'))
         (λ before. ⊎_elim
-          (λ w'. absurd (unused d name inode before (ap (λ (i : _). i.0) same ∙ ap (λ (i : Inode). i.ino.0) (sym w'.1))))
-          (λ before'. whole.once d d' name name' inode inode' before before' same)
-          (stands d' name' inode' h'))
+        (λ w'. absurd (unused d name inode before (ap (λ (i : _). i.0) same ∙ ap (λ (i : Inode). i.ino.0) (sym w'.1))))
+        (λ before'. whole.once d d' name name' inode inode' before before' same)
+        (stands d' name' inode' h'))
         (stands d name inode h);
     parents = λ d name inode h. ⊎_elim (λ w. still_directory d (ap (is_directory tree) (dir_is d name w.0) ∙ here)) (λ before. still_directory d (whole.parents d name inode before)) (stands d name inode h);
     rooted = λ d name inode h.
-      ⊎_elim (λ w. lifted d (subst (λ x. (x ≡ 1) ⊎ IsAbove tree 1 x) (sym (dir_is d name w.0)) (reaches_root tree dir whole here)))
+        ⊎_elim (λ w. lifted d (subst (λ x. (x ≡ 1) ⊎ IsAbove tree 1 x) (sym (dir_is d name w.0)) (reaches_root tree dir whole here)))
         (λ before. lifted d (whole.rooted d name inode before)) (stands d name inode h);
-    sizes = λ d name inode h. ⊎_elim (λ w. subst (λ (i : Inode). HasSize i.kind i.size) w.1 sized) (λ before. whole.sizes d name inode before) (stands d name inode h)
+    sizes = λ d name inode h. ⊎_elim (λ w. subst (λ (i : Inode). HasSize i.kind i.size) w.1 sized) (λ before. whole.sizes d name inode before) (stands d name inode h);
   }
     where
       lifted : (d : ℕ) → (d ≡ 1) ⊎ IsAbove tree 1 d → (d ≡ 1) ⊎ IsAbove grown 1 d
@@ -182,7 +182,7 @@ pub record IsUnused (tree : Tree) (n : ℕ) : Type 0 where
   pub not_there : (d : ℕ) (name : List ℕ) (inode : Inode) → at tree d name ≡ Some inode → inode.ino.0 ≡ n → ⊥
 
 made-well-formed : (tree : Tree) (dir : ℕ) (name : List ℕ) (inode : Inode) (other : Option Inode) → at tree dir name ≡ other → IsWellFormed tree → is_directory tree dir ≡ true
-  → IsUnused tree inode.ino.0 → HasSize inode.kind inode.size → IsWellFormed (made tree (place_of dir name) inode other).tree
+    → IsUnused tree inode.ino.0 → HasSize inode.kind inode.size → IsWellFormed (made tree (place_of dir name) inode other).tree
 made-well-formed tree dir name inode None free whole here unused sized = well-formed-grown tree dir name inode free whole here unused.not_root unused.not_there sized
 made-well-formed tree dir name inode (Some other) taken whole here unused sized = whole
 

@@ -2,7 +2,6 @@
 ghost use Rattle.std.specs.Prelude.{◌≡◌, ℕ, ◌+◌, ◌-◌, ◌*◌, ◌/◌, ◌%◌, ◌^◌, ◌<◌, ◌≤◌, ◌↔◌, IsTrue, SomeIff, MatchOption, Some};
 ghost use Rattle.mds_types.specs.Frag.{Fragment, IsFragment, root_fragment, word_of, Contains, ContainsFragment, child_of, parent_of, span, fragment_text};
 
-
 use std::fmt;
 use std::marker::Model;
 
@@ -92,7 +91,10 @@ impl Frag {
             return None;
         }
         let bits = self.bits + nb;
-        Some(Frag { value: self.value + i * span(bits), bits })
+        Some(Frag {
+            value: self.value + i * span(bits),
+            bits,
+        })
     }
 
     /// The fragment of one bit less around this one; the root fragment has none.
@@ -103,7 +105,10 @@ impl Frag {
             return None;
         }
         let bits = self.bits - 1;
-        Some(Frag { value: self.value - self.value % span(bits), bits })
+        Some(Frag {
+            value: self.value - self.value % span(bits),
+            bits,
+        })
     }
 }
 

@@ -32,7 +32,7 @@ impl Kind {
     pub fn try_clone(&self) -> Result<Kind, AllocError>
         ensures { IfOk result (λ copy. copy ≡ self.now) }
     {
-        self.clone()
+        Kind::clone(self)
     }
 
     /// Whether this is a directory.
@@ -48,6 +48,6 @@ impl Inode {
     pub fn try_clone(&self) -> Result<Inode, AllocError>
         ensures { IfOk result (λ copy. copy ≡ self.now) }
     {
-        self.clone()
+        Inode::clone(self)
     }
 }

@@ -20,7 +20,6 @@ mod replies;
 mod requests;
 mod targets;
 
-
 pub use entries::Entry;
 pub use errno::{EEXIST, EINVAL, EISDIR, ENAMETOOLONG, ENOENT, ENOTDIR, ENOTEMPTY, ESTALE};
 pub use frags::Frag;

@@ -80,7 +80,7 @@ impl Name {
         ensures bytes { result.now ≡ self.now }
         ensures valid { IsName self.now }
     {
-        self.text.as_slice()
+        &self.text
     }
 
     /// A copy. Takes memory for the bytes.

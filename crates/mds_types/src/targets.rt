@@ -83,7 +83,7 @@ impl Target {
         ensures bytes { result.now ≡ self.now }
         ensures valid { IsTarget self.now }
     {
-        self.text.as_slice()
+        &self.text
     }
 
     /// A copy. Takes memory for the bytes.

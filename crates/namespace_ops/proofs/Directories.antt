@@ -26,16 +26,16 @@ in_either false t o = refl
 
 -- a new inode at a free place
 pub directories-added : (tree : Tree) (dirs : Directories) (place : Place) (inode : Inode) → map.get tree place ≡ None → HoldsDirectories tree dirs
-  → HoldsDirectories (map.insert tree place inode) (with_directory dirs inode)
+    → HoldsDirectories (map.insert tree place inode) (with_directory dirs inode)
 directories-added tree dirs place inode free holds d =
     is_directory-insert tree place inode d free
-      ∙ ap (λ b. is_entry_of_directory d (place, inode) || b) (holds d)
-      ∙ go (is_dir_kind inode.kind)
+    ∙ ap (λ b. is_entry_of_directory d (place, inode) || b) (holds d)
+    ∙ go (is_dir_kind inode.kind)
   where
     go : (b : Bool) → ((b && (inode.ino.0 == d)) || ((d == 1) || is_some (map.get dirs (record { 0 = d })))) ≡ ((d == 1) || is_some (map.get (cond b (map.insert dirs inode.ino tt) dirs) (record { 0 = d })))
     go false = refl
     go true =
         ap (λ b. b || ((d == 1) || is_some (map.get dirs (record { 0 = d })))) (nat_eq_equiv.symm inode.ino.0 d)
-          ∙ in_either (d == inode.ino.0) (d == 1) (map.get dirs (record { 0 = d }))
-          ∙ ap (λ b. (d == 1) || is_some (cond b (Some tt) (map.get dirs (record { 0 = d })))) (sym (unsigned_tied d inode.ino.0))
-          ∙ ap (λ (o : Option (Unit {0})). (d == 1) || is_some o) (sym (get-insert (on_total (λ (n : Ino). n.0) nat_cmp_total) dirs inode.ino tt (record { 0 = d })))
+        ∙ in_either (d == inode.ino.0) (d == 1) (map.get dirs (record { 0 = d }))
+        ∙ ap (λ b. (d == 1) || is_some (cond b (Some tt) (map.get dirs (record { 0 = d })))) (sym (unsigned_tied d inode.ino.0))
+        ∙ ap (λ (o : Option (Unit {0})). (d == 1) || is_some o) (sym (get-insert (on_total (λ (n : Ino). n.0) nat_cmp_total) dirs inode.ino tt (record { 0 = d })))

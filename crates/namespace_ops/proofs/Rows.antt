@@ -15,8 +15,6 @@ use Rattle.mds_types.specs.Tree.{Tree, place_cmp, place_of}
 use Rattle.mds_types.specs.Step.{is_after, names_after}
 use Rattle.namespace_ops.specs.Run.{run}
 
-
-
 -- whether a place comes after a name of the directory; after none, whether it comes no earlier than the directory's names
 abbrev pub begins : ℕ → Option (List ℕ) → Place → Bool
 begins d None place = is_le (place_cmp (place_of d []) place)
@@ -84,19 +82,19 @@ none_later d after place [] past below = refl
 none_later d after place (e ∷ es) past below =
     let apart : (e.0.dir.0 == d) ≡ false = differs e.0.dir.0 d (λ same. omega (arith, dir_rises place e.0 (left_of _ _ below))) in
     ap (λ b. cond (b && is_after after e.0.name) (e ∷ filter (is_listed d after) es) (filter (is_listed d after) es)) apart
-      ∙ none_later d after place es past (right_of _ _ below)
+    ∙ none_later d after place es past (right_of _ _ below)
 
 -- one row more, by how its place stands
 row_more : (d : ℕ) (after : Option (List ℕ)) (e : Place × Inode) (es : List (Place × Inode)) → T (below_all place_cmp e.0 es)
-  → map named (filter (is_listed d after) es) ≡ run d (rows_from d after es) → Standing d after e.0
-  → map named (filter (is_listed d after) (e ∷ es)) ≡ run d (rows_from d after (e ∷ es))
+    → map named (filter (is_listed d after) es) ≡ run d (rows_from d after es) → Standing d after e.0
+    → map named (filter (is_listed d after) (e ∷ es)) ≡ run d (rows_from d after (e ∷ es))
 row_more d after e es below same (earlier outside other) =
     ap (λ b. map named (cond (b && is_after after e.0.name) (e ∷ filter (is_listed d after) es) (filter (is_listed d after) es))) other
-      ∙ same ∙ sym (ap (λ b. run d (cond b (e ∷ rows_from d after es) (rows_from d after es))) outside)
+    ∙ same ∙ sym (ap (λ b. run d (cond b (e ∷ rows_from d after es) (rows_from d after es))) outside)
 row_more d after e es below same (here starts inside) =
     ap (λ b. map named (cond (b && is_after after e.0.name) (e ∷ filter (is_listed d after) es) (filter (is_listed d after) es))) inside
-      ∙ both_ways (is_after after e.0.name)
-      ∙ sym (ap (λ b. run d (cond b (e ∷ rows_from d after es) (rows_from d after es))) starts)
+    ∙ both_ways (is_after after e.0.name)
+    ∙ sym (ap (λ b. run d (cond b (e ∷ rows_from d after es) (rows_from d after es))) starts)
   where
     both_ways : (b : Bool) → map named (cond b (e ∷ filter (is_listed d after) es) (filter (is_listed d after) es)) ≡ run d (cond b (e ∷ rows_from d after es) (rows_from d after es))
     both_ways true = ap (λ names. named e ∷ names) same ∙ sym (ap (λ b. cond b (named e ∷ run d (rows_from d after es)) []) inside)
@@ -104,8 +102,8 @@ row_more d after e es below same (here starts inside) =
 row_more d after e es below same (later starts past) =
     let other : (e.0.dir.0 == d) ≡ false = differs e.0.dir.0 d (λ is. omega (arith, is)) in
     ap (λ b. map named (cond (b && is_after after e.0.name) (e ∷ filter (is_listed d after) es) (filter (is_listed d after) es))) other
-      ∙ ap (map named) (none_later d after e.0 es past below)
-      ∙ sym (ap (λ b. run d (cond b (e ∷ rows_from d after es) (rows_from d after es))) starts ∙ ap (λ b. cond b (named e ∷ run d (rows_from d after es)) []) other)
+    ∙ ap (map named) (none_later d after e.0 es past below)
+    ∙ sym (ap (λ b. run d (cond b (e ∷ rows_from d after es) (rows_from d after es))) starts ∙ ap (λ b. cond b (named e ∷ run d (rows_from d after es)) []) other)
 
 -- the listed names are the run of neighbours from there on
 pub listed-run : (d : ℕ) (after : Option (List ℕ)) (es : List (Place × Inode)) → T (is_sorted place_cmp es) → map named (filter (is_listed d after) es) ≡ run d (rows_from d after es)

@@ -27,4 +27,4 @@ NamesAreListed = (tree : Tree) (d : ℕ) (after : Option (List ℕ)) → IsListi
 -- a listing that is paged by its last name is the whole listing
 abbrev pub PagesMakeUpListing : Type 0
 PagesMakeUpListing = (tree : Tree) (d : ℕ) (after : Option (List ℕ)) (i : ℕ) (row : List ℕ × Inode) → slice_get (names_after tree d after) i ≡ Some row
-  → take (suc i) (names_after tree d after) ++ names_after tree d (Some row.0) ≡ names_after tree d after
+    → take (suc i) (names_after tree d after) ++ names_after tree d (Some row.0) ≡ names_after tree d after

@@ -11,8 +11,14 @@ mod plans;
 mod serving;
 
 pub use frags::Frags;
-pub use laws::{errno_leaves_tree, making_takes_number, names_are_listed, pages_make_up_listing, step_keeps_well_formed};
+pub use laws::{
+    errno_leaves_tree, making_takes_number, names_are_listed, pages_make_up_listing,
+    step_keeps_well_formed,
+};
 pub use plain_frags::PlainFrags;
 pub use planning::plan_op;
 pub use plans::{Change, Plan, carry_out};
 pub use serving::serve_op;
+
+#[cfg(test)]
+mod tests;

@@ -44,7 +44,10 @@ impl PlainFrags {
     pub fn new(alloc: Global) -> PlainFrags
         ensures { result.tree ≡ map.empty }
     {
-        PlainFrags { entries: SortedMap::new(alloc), dirs: SortedMap::new(alloc) }
+        PlainFrags {
+            entries: SortedMap::new(alloc),
+            dirs: SortedMap::new(alloc),
+        }
     }
 }
 
@@ -74,14 +77,15 @@ impl Probe<Place> for DirFront {
 
     fn order(&self, other: &Place) -> Ordering {
         let empty: &[u8] = &[];
-        self.dir.cmp(&other.dir).then(empty.cmp(other.name.as_bytes()))
+        self.dir
+            .cmp(&other.dir)
+            .then(empty.cmp(other.name.as_bytes()))
     }
 }
 
 impl Frags for PlainFrags {
     ghost use Rattle.std.specs.Prelude.{◌≡◌, ◌<◌};
     ghost use Rattle.mds_types.specs.declared.refusals.Refusal.TheVariants.{NoMemory};
-
     ghost use Rattle.namespace_ops.specs.Reasons.{refused_for_memory};
 
     ghost content = { λ f. f.tree };
@@ -131,7 +135,11 @@ impl Frags for PlainFrags {
 }
 
 // The inode at a name, copied.
-fn inode_at(entries: &SortedMap<Place, Inode>, dir: Ino, name: &Name) -> Result<Option<Inode>, AllocError>
+fn inode_at(
+    entries: &SortedMap<Place, Inode>,
+    dir: Ino,
+    name: &Name,
+) -> Result<Option<Inode>, AllocError>
     ensures { IfOk result (λ found. found ≡ at (contents place_cmp entries.now) dir.0 name.now) }
 {
     match entries.get(&PlaceRef { dir, name }) {
@@ -141,7 +149,11 @@ fn inode_at(entries: &SortedMap<Place, Inode>, dir: Ino, name: &Name) -> Result<
 }
 
 // The rows from the first name of the directory that is greater than `after`.
-fn rows_after<'a>(entries: &'a SortedMap<Place, Inode>, dir: Ino, after: Option<&Name>) -> Iter<'a, Place, Inode>
+fn rows_after<'a>(
+    entries: &'a SortedMap<Place, Inode>,
+    dir: Ino,
+    after: Option<&Name>,
+) -> Iter<'a, Place, Inode>
     ensures { run dir.0 result ≡ names_after (contents place_cmp entries.entry.now) dir.0 (option_copied after.entry) }
 {
     match after {

@@ -12,11 +12,16 @@ use std::alloc::Global;
 /// Serves an operation: answers the reply of the operation table, and leaves the tree that the table leaves. A new inode
 /// takes the number given; where the table takes one and none is given, the operation is refused `NoInodes`. Any other
 /// refusal is one of the fragments', or want of memory. A refusal leaves the tree as it was.
-pub fn serve_op<F: Frags>(alloc: Global, frags: &mut F, op: &Op, number: Option<Ino>) -> Result<Reply, Refusal>
+pub fn serve_op<F: Frags>(
+    alloc: Global,
+    frags: &mut F,
+    op: &Op,
+    number: Option<Ino>,
+) -> Result<Reply, Refusal>
     ensures served { let outcome = step (F.content frags.old) op.now (number_or number) in
         MatchResult result
-            (IsServed (F.content frags.new) outcome number)
-            (IsRefused (F.content frags.old) (F.content frags.new) (F.MayRefuse frags.old frags.new) outcome number) }
+        (IsServed (F.content frags.new) outcome number)
+        (IsRefused (F.content frags.old) (F.content frags.new) (F.MayRefuse frags.old frags.new) outcome number) }
     ensures follows { F.Follows frags.old frags.new }
 {
     let plan = plan_op(alloc, frags, op, number)?;

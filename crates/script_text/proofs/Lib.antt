@@ -4,3 +4,4 @@ pub mod WordLemmas
 pub mod NameLemmas
 pub mod WriteLemmas
 pub mod LineLemmas
+pub mod PrintedNumbers

@@ -7,7 +7,8 @@ use Rattle.std.specs.Io.KnownBytes.{Consumes}
 use Rattle.script_text.specs.declared.line_reader.Shown.TheVariants.{More, LineEnd, InputEnd}
 use Rattle.script_text.specs.declared.line_reader.LineFault.{LineFault}
 use Rattle.script_text.specs.declared.line_reader.LineFault.TheVariants as faults
-use Rattle.script_text.specs.Input.{lines_of, is_not_lf, IsOfOneLine, IsFirstLine, IsTooLong, Overflows, Moves, GivesLine}
+use Rattle.script_text.specs.Input.{lines_of, IsFirstLine, IsTooLong, GivesLine}
+use Rattle.script_text.specs.Looks.{is_not_lf, IsOfOneLine, Overflows, Moves}
 
 -- a byte of one line, and the bytes after it
 line_parts : (byte : ℕ) (line : List ℕ) → IsOfOneLine (byte ∷ line) → (is_not_lf byte ≡ true) × IsOfOneLine line

@@ -1,8 +1,7 @@
 -- Names and targets as words: `%` and two hexadecimal digits stand for a byte.
-use Rattle.std.specs.Prelude.{ℕ, ◌+◌, ◌-◌, ◌*◌, ◌/◌, ◌%◌, Bool, not, ◌&&◌, ◌==◌, nat_lt, nat_le, if◌then◌else◌, List, [], ◌∷◌, Option, Some, None}
+use Rattle.std.specs.Prelude.{ℕ, ◌+◌, ◌-◌, ◌*◌, ◌/◌, ◌%◌, Bool, false, not, ◌&&◌, ◌==◌, nat_lt, nat_le, if◌then◌else◌, List, [], ◌∷◌, Option, Some, None}
 use Rattle.std.specs.List.{flat_map}
 use Rattle.std.specs.Fmt.{digit_glyph}
-use Rattle.std.specs.Prelude.{false}
 use Rattle.script_text.specs.Numbers.{digit_of}
 
 -- the value of a hexadecimal digit of either case, 0 to 15; 16 for a byte that is none

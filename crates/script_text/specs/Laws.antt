@@ -1,7 +1,14 @@
 -- What holds of the script's text as a whole.
-use Rattle.std.specs.Prelude.{◌≡◌, ℕ, ◌<◌, List, Some, All}
+use Rattle.std.specs.Prelude.{◌≡◌, ℕ, ◌^◌, ◌<◌, ◌≤◌, List, Some, All}
 use Rattle.script_text.specs.Escapes.{bytes_of, escaped}
+use Rattle.script_text.specs.Numbers.{number_of, octal_mode_of}
+use Rattle.script_text.specs.Output.{hexadecimal, octal}
+use Rattle.std.specs.Fmt.{decimal}
 
--- what is printed of bytes stands for these bytes again
-abbrev pub ReadsBack : Type 0
-ReadsBack = (bytes : List ℕ) → All (λ byte. byte < 256) bytes → bytes_of (escaped bytes) ≡ Some bytes
+-- what is printed of a name or a target stands for its bytes
+abbrev pub NamesReadBack : Type 0
+NamesReadBack = (bytes : List ℕ) → All (λ byte. byte < 256) bytes → bytes_of (escaped bytes) ≡ Some bytes
+
+-- what is printed of an inode number, another number or a mode stands for it
+abbrev pub NumbersReadBack : Type 0
+NumbersReadBack = (n : ℕ) → (n < 2 ^ 64 → number_of 16 (hexadecimal n) ≡ Some n) × (n < 2 ^ 64 → number_of 10 (decimal n) ≡ Some n) × (n ≤ 4095 → octal_mode_of (octal n) ≡ Some n)

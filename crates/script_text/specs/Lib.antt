@@ -7,6 +7,7 @@ pub mod Script
 pub mod Output
 pub mod OutputLine
 pub mod Input
+pub mod Looks
 pub mod Writing
 pub mod LineWriting
 pub mod Laws

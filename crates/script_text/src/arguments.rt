@@ -1,6 +1,5 @@
 //! The words after a command's first.
-ghost use Rattle.std.specs.Prelude.{◌≡◌, List, ℕ, option_map};
-ghost use Rattle.mds_types.specs.declared.ids.Ino.{Ino};
+ghost use Rattle.std.specs.Prelude.{◌≡◌, option_map};
 ghost use Rattle.script_text.specs.Reading.{Gives};
 ghost use Rattle.script_text.specs.Arguments.{ino_of, rank_of, mode_of, page_size_of, text_of, after_text_of, name_of, after_name_of, is_dash};
 

@@ -1,7 +1,12 @@
-//! Laws of the script's text.
-ghost use Rattle.script_text.specs.Laws.{ReadsBack};
+//! Laws of the script's text: what it prints can be read back.
+ghost use Rattle.script_text.specs.Laws.{NamesReadBack, NumbersReadBack};
 
 /// A name or a target is read back from what is printed of it.
 pub fn names_read_back()
-    ensures { ReadsBack }
+    ensures { NamesReadBack }
+{}
+
+/// An inode number, a mode or another number is read back from what is printed of it.
+pub fn numbers_read_back()
+    ensures { NumbersReadBack }
 {}

@@ -21,7 +21,7 @@ mod words;
 mod write_loop;
 
 pub use commands::Command;
-pub use laws::names_read_back;
+pub use laws::{names_read_back, numbers_read_back};
 pub use line_buffer::{LineBuffer, MAX_LINE_LEN};
 pub use line_reader::{LineFault, NextLine, next_line};
 pub use line_writer::{OutputFault, write_line};

@@ -1,8 +1,8 @@
 //! Lines from a reader, in memory that is taken once.
-ghost use Rattle.std.specs.Prelude.{◌≡◌, ◌+◌, ◌≤◌, ◌<◌, length, [], ◌++◌, Ok, IfOk, OnOk, IfSome, IfErr, vec_len, vec_capacity};
-ghost use Rattle.std.specs.Io.KnownBytes.{Consumes, IsAtEnd};
+ghost use Rattle.std.specs.Prelude.{◌≡◌, ◌≤◌, length, IfOk, OnOk, IfSome, IfErr};
 ghost use Rattle.std.specs.List.{prefix_len};
-ghost use Rattle.script_text.specs.Input.{is_not_lf, Moves, Overflows, GivesLine};
+ghost use Rattle.script_text.specs.Input.{GivesLine};
+ghost use Rattle.script_text.specs.Looks.{is_not_lf, Moves, Overflows};
 
 use crate::line_buffer::{LineBuffer, MAX_LINE_LEN};
 use std::io::BufRead;
@@ -60,7 +60,7 @@ pub fn next_line<R: BufRead>(reader: &mut R, line: &mut LineBuffer) -> Result<Ne
 // Moves the bytes that the reader shows to the end of the line, up to an LF, which is taken off too and not kept.
 fn take_shown<R: BufRead>(reader: &mut R, line: &mut LineBuffer) -> Result<Shown, LineFault>
     ensures moves { IfOk result (λ shown. Moves (R.remaining reader.old) (R.remaining reader.new) line.old line.new shown) }
-    ensures short { OnOk result (length line.new ≤ 16384) }
+    ensures short { OnOk result (length line.new ≤ MAX_LINE_LEN) }
     ensures long { IfErr result (λ fault. fault ≡ LineFault.TooLong → IfSome (R.remaining reader.old) (λ bytes. Overflows bytes line.old)) }
 {
     let Ok(shown) = reader.fill_buf() else {

@@ -4,6 +4,8 @@ use Rattle.std.specs.declared.cmp.Ordering.{Ordering}
 use Rattle.std.specs.FinMap as map
 use Rattle.std.specs.FinMap.{is_sorted, entries-from_sorted, entries_sorted, same_entries_map}
 use Rattle.sorted_map.specs.SortedMap.{Shown, contents}
+-- std's laws of `get` and `len`, under a path that an attribute can name: `#[tactic(auto, using(sorted_map::specs::Laws::gets))]`
+pub use Rattle.std.specs.FinMap.{gets}
 
 module _ {K V : Type 0} (R : K → K → Ordering) where
   -- what `len` ensures shows that the pairs are those of the finite map

@@ -11,7 +11,7 @@ invariant-loop-event l = record {
   left : into_iter_items l.events ≡ drop (vec_len l.results) l.fn.events.items;
   count : vec_len l.results + into_iter_len l.events ≡ length l.fn.events.items;
   room : length l.fn.events.items ≤ vec_capacity l.results;
-  sound : IsSoundBook l.book
+  sound : IsSoundBook l.book;
 }
 
 abbrev pub decreases-loop-event : goal.decreases-loop-event
