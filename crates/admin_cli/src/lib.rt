@@ -9,3 +9,6 @@ mod script;
 pub use command_line::{Options, settings};
 pub use faults::{FaultKind, ScriptFault};
 pub use script::run_script;
+
+#[cfg(test)]
+mod tests;

@@ -6,7 +6,7 @@ mod slow_table;
 
 use crate::{PlainFrags, serve_op};
 use mds_types::{
-    EEXIST, ENOENT, ESTALE, Ino, Inode, Kind, Listing, Mode, Name, Op, PageSize, Refusal, Reply,
+    EEXIST, ENOENT, ESTALE, Ino, Inode, Kind, Mode, Name, Op, PageSize, Refusal, Reply,
 };
 use refusing_frags::RefusingFrags;
 use slow_table::SlowTable;
@@ -68,43 +68,49 @@ fn names_of(alloc: Global, reply: Reply) -> Result<(Vec<Vec<u8>>, bool), Fail> {
     Ok((names, more))
 }
 
-#[test]
-fn answers_by_hand(rt: HostRuntime) -> Result<(), Fail> {
-    let alloc = rt.alloc();
-    let mut frags = PlainFrags::new(alloc);
-    let file = Inode {
+// Serves an operation that was made for it.
+fn answer(
+    alloc: Global,
+    frags: &mut PlainFrags,
+    op: Result<Op, Fail>,
+    number: Option<Ino>,
+) -> Result<Result<Reply, Refusal>, Fail> {
+    Ok(serve_op(alloc, frags, &op?, number))
+}
+
+fn file() -> Result<Reply, Fail> {
+    Ok(Reply::Entry(Inode {
         ino: FIRST,
         kind: Kind::File,
         mode: mode(0o644)?,
         size: 0,
         mtime: 7,
-    };
-    let made = serve_op(
-        alloc,
-        &mut frags,
-        &create(alloc, Ino(1), b"a")?,
-        Some(FIRST),
-    )?;
-    assert_eq!(rt; made, Reply::Entry(file.try_clone()?));
-    let found = serve_op(alloc, &mut frags, &lookup(alloc, Ino(1), b"a")?, None)?;
-    assert_eq!(rt; found, Reply::Entry(file));
-    let again = serve_op(
-        alloc,
-        &mut frags,
-        &mkdir(alloc, Ino(1), b"a")?,
-        Some(Ino(9)),
-    )?;
-    assert_eq!(rt; again, Reply::Errno(EEXIST));
-    let absent = serve_op(alloc, &mut frags, &lookup(alloc, Ino(1), b"b")?, None)?;
-    assert_eq!(rt; absent, Reply::Errno(ENOENT));
-    let in_file = serve_op(
-        alloc,
-        &mut frags,
-        &create(alloc, FIRST, b"b")?,
-        Some(Ino(9)),
-    )?;
-    assert_eq!(rt; in_file, Reply::Errno(ESTALE));
-    let unnumbered = serve_op(alloc, &mut frags, &create(alloc, Ino(1), b"b")?, None);
+    }))
+}
+
+#[test]
+fn a_file_is_made_and_found(rt: HostRuntime) -> Result<(), Fail> {
+    let alloc = rt.alloc();
+    let mut frags = PlainFrags::new(alloc);
+    let made = answer(alloc, &mut frags, create(alloc, Ino(1), b"a"), Some(FIRST))?;
+    assert_eq!(rt; made, Ok(file()?));
+    let found = answer(alloc, &mut frags, lookup(alloc, Ino(1), b"a"), None)?;
+    assert_eq!(rt; found, Ok(file()?));
+    let again = answer(alloc, &mut frags, mkdir(alloc, Ino(1), b"a"), Some(Ino(9)))?;
+    assert_eq!(rt; again, Ok(Reply::Errno(EEXIST)));
+    Ok(())
+}
+
+#[test]
+fn what_is_not_there_is_told_apart(rt: HostRuntime) -> Result<(), Fail> {
+    let alloc = rt.alloc();
+    let mut frags = PlainFrags::new(alloc);
+    let _ = answer(alloc, &mut frags, create(alloc, Ino(1), b"a"), Some(FIRST))?;
+    let absent = answer(alloc, &mut frags, lookup(alloc, Ino(1), b"b"), None)?;
+    assert_eq!(rt; absent, Ok(Reply::Errno(ENOENT)));
+    let in_file = answer(alloc, &mut frags, create(alloc, FIRST, b"b"), Some(Ino(9)))?;
+    assert_eq!(rt; in_file, Ok(Reply::Errno(ESTALE)));
+    let unnumbered = answer(alloc, &mut frags, create(alloc, Ino(1), b"b"), None)?;
     assert_eq!(rt; unnumbered, Err(Refusal::NoInodes));
     Ok(())
 }
@@ -117,7 +123,7 @@ fn lists_names_of_all_lengths_and_bytes(rt: HostRuntime) -> Result<(), Fail> {
     for byte in 1..=255u8 {
         if byte != b'/' && byte != b'.' {
             let name = [byte];
-            number += 1;
+            number = number.saturating_add(1);
             let _ = serve_op(
                 alloc,
                 &mut frags,
@@ -239,14 +245,8 @@ fn passes_on_what_other_fragments_refuse(rt: HostRuntime) -> Result<(), Fail> {
     assert_eq!(rt; refused, Err(Refusal::NoMemory));
     let unnumbered = serve_op(alloc, &mut frags, &create(alloc, Ino(1), b"a")?, None);
     assert_eq!(rt; unnumbered, Err(Refusal::NoInodes));
-    let listed = serve_op(alloc, &mut frags, &readdir(alloc, Ino(1), None, 1)?, None)?;
-    assert_eq!(rt;
-        listed,
-        Reply::Entries {
-            list: Listing::from_vec(Vec::new(alloc)),
-            more: false
-        }
-    );
+    let listed = serve_op(alloc, &mut frags, &readdir(alloc, Ino(1), None, 1)?, None);
+    assert_eq!(rt; listed, Err(Refusal::NoMemory));
     let stale = serve_op(alloc, &mut frags, &lookup(alloc, FIRST, b"a")?, None)?;
     assert_eq!(rt; stale, Reply::Errno(ESTALE));
     Ok(())

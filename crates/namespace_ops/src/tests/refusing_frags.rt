@@ -41,12 +41,12 @@ impl Frags for RefusingFrags {
 
     fn list_after(
         &mut self,
-        alloc: Global,
+        _alloc: Global,
         _dir: Ino,
         _after: Option<&Name>,
         _max: PageSize,
     ) -> Result<(Listing, bool), Refusal> {
-        Ok((Listing::from_vec(Vec::new(alloc)), false))
+        Err(Refusal::NoMemory)
     }
 
     fn ready(&mut self, _op: &Op) -> Result<(), Refusal> {
