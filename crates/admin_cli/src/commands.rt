@@ -1,5 +1,7 @@
 //! Commands over a book.
 
+ghost use Rattle.std.specs.Prelude.{◌≡◌, ◌+◌, ◌<◌, ◌^◌};
+
 use cluster_core::{Answer, Book, Event};
 use mds_types::{Op, Rank, Request};
 use script_text::{Command, OutputLine};
@@ -13,16 +15,23 @@ pub struct Admin {
 }
 
 impl Admin {
+    ghost use Rattle.admin_cli.specs.Execute.{Executes, OperatesLine, ServesLine};
+
     /// An administrator of this book, who has read no line yet.
-    pub fn new(book: Book) -> Admin {
+    pub fn new(book: Book) -> Admin
+        ensures { result ≡ record { book = book; operations = 0 } }
+    {
         Admin {
             book,
             operations: 0,
         }
     }
 
-    /// Does what a command asks for, and answers the line to print.
-    pub fn execute(&mut self, alloc: Global, command: Command) -> OutputLine {
+    /// Does what a command asks for, and answers the line to print. So many lines were read that one more fits 64 bits.
+    pub fn execute(&mut self, alloc: Global, command: Command) -> OutputLine
+        requires { self.old.operations + 1 < 2 ^ 64 }
+        ensures { Executes self.old self.new command result }
+    {
         match command {
             Command::Operation(op) => self.operate(alloc, op),
             Command::Serve(rank) => self.serve(alloc, rank),
@@ -31,8 +40,12 @@ impl Admin {
 
     // An operation alone arrives at rank 0 as client 0, with the number of such lines so far as its transaction number and
     // its oldest, and is served there.
-    fn operate(&mut self, alloc: Global, op: Op) -> OutputLine {
-        self.operations = self.operations.saturating_add(1);
+    fn operate(&mut self, alloc: Global, op: Op) -> OutputLine
+        requires { self.old.operations + 1 < 2 ^ 64 }
+        ensures count { self.new.operations ≡ self.old.operations + 1 }
+        ensures operated { OperatesLine self.old.book self.new.book self.new.operations op result }
+    {
+        self.operations += 1;
         let tid = self.operations;
         let request = Request {
             client: 0,
@@ -53,7 +66,10 @@ impl Admin {
         self.serve(alloc, Rank(0))
     }
 
-    fn serve(&mut self, alloc: Global, rank: Rank) -> OutputLine {
+    fn serve(&mut self, alloc: Global, rank: Rank) -> OutputLine
+        ensures count { self.new.operations ≡ self.old.operations }
+        ensures served { ServesLine self.old.book self.new.book rank result }
+    {
         match self.book.step(alloc, Event::Serve { rank }) {
             Ok(
                 Answer::Reply {

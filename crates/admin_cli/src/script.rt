@@ -1,5 +1,5 @@
 //! Running a script.
-ghost use Rattle.std.specs.Prelude.{◌≡◌, ◌≤◌};
+ghost use Rattle.std.specs.Prelude.{◌≡◌, ◌+◌, ◌<◌, ◌≤◌, ◌^◌};
 
 use crate::commands::Admin;
 use crate::faults::{FaultKind, ScriptFault};
@@ -48,7 +48,9 @@ fn run_lines<R: BufRead, W: Write>(
     buffer: &mut LineBuffer,
     writer: &mut W,
     admin: &mut Admin,
-) -> Result<(), ScriptFault> {
+) -> Result<(), ScriptFault>
+    requires { admin.old.operations ≡ 0 }
+{
     for line in 1..u64::MAX {
         match next_line(reader, buffer) {
             Ok(NextLine::Read) => {}
@@ -78,7 +80,10 @@ fn run_line<W: Write>(
     bytes: &[u8],
     writer: &mut W,
     admin: &mut Admin,
-) -> Result<(), FaultKind> {
+) -> Result<(), FaultKind>
+    requires { admin.old.operations + 1 < 2 ^ 64 }
+    ensures { admin.new.operations ≤ admin.old.operations + 1 }
+{
     let Ok(line) = read_line(alloc, bytes) else {
         return Err(FaultKind::OutOfMemory)
     };

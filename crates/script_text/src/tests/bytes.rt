@@ -1,5 +1,9 @@
 //! Bytes in and out, through readers and writers that give and take little at a time.
-use crate::{LineBuffer, LineFault, MAX_LINE_LEN, NextLine, WriteFault, next_line, write_all_of};
+use crate::{
+    LineBuffer, LineFault, MAX_LINE_LEN, NextLine, OutputFault, OutputLine, WriteFault,
+    names_read_back, next_line, numbers_read_back, write_all_of, write_line,
+};
+use mds_types::Refusal;
 use std::alloc::Global;
 use std::io;
 use std::io::{BufRead, Read, Write};
@@ -145,5 +149,29 @@ fn writes(rt: HostRuntime) -> Result<(), Fail> {
     };
     assert_eq!(rt; write_all_of(&mut writer, b"abzd"), Err(WriteFault));
     assert_eq!(rt; writer.bytes.as_slice(), b"ab".as_slice());
+    Ok(())
+}
+
+#[test]
+fn line_written(rt: HostRuntime) -> Result<(), Fail> {
+    let alloc = rt.alloc();
+    let line = OutputLine::Refused(Refusal::InboxEmpty);
+    let mut writer = Narrow {
+        bytes: Vec::new(alloc),
+        calls_left: 11,
+    };
+    assert_eq!(rt; write_line(alloc, &mut writer, &line), Ok(()));
+    assert_eq!(rt; writer.bytes.as_slice(), b"refused 14\n".as_slice());
+    let mut writer = Narrow {
+        bytes: Vec::new(alloc),
+        calls_left: 9,
+    };
+    assert_eq!(rt;
+        write_line(alloc, &mut writer, &line),
+        Err(OutputFault::Write)
+    );
+    assert_eq!(rt; writer.bytes.as_slice(), b"refused 1".as_slice());
+    names_read_back();
+    numbers_read_back();
     Ok(())
 }

@@ -1,0 +1,20 @@
+-- The two steps of an operation alone.
+use Rattle.std.proofs.Common.{refl}
+use Rattle.admin_cli.proofs.Operated.{served_after}
+use Rattle.admin_cli.proofs.commands.Admin.operate.Goals as goal
+
+pub returns-in-Err-clause-operated : goal.returns-in-Err-clause-operated
+returns-in-Err-clause-operated c = record {
+  middle = c.step-arrived.new.self;
+  arrived = c.step-arrived.result;
+  stepped = record { stepped = c.step-arrived.ensures.stepped; same_opening = c.step-arrived.ensures.opening };
+  rest = rw c.in-Err.is (refl, refl);
+}
+
+pub returns-clause-operated : goal.returns-clause-operated
+returns-clause-operated c = rw c.serve.ensures.count (record {
+  middle = c.step-arrived.new.self;
+  arrived = c.step-arrived.result;
+  stepped = record { stepped = c.step-arrived.ensures.stepped; same_opening = c.step-arrived.ensures.opening };
+  rest = served_after _ _ c.step-arrived.result _ c.in_default.not-Err c.serve.ensures.served;
+})

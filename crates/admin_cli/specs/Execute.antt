@@ -1,0 +1,44 @@
+-- What a command of the script does to a book, and the line that it prints.
+use Rattle.std.specs.Prelude.{◌≡◌, ℕ, ◌+◌, Result, Ok, Err}
+use Rattle.mds_types.specs.declared.ids.Rank.{Rank}
+use Rattle.mds_types.specs.declared.requests.Request.{Request}
+use Rattle.mds_types.specs.declared.refusals.Refusal.{Refusal}
+use Rattle.mds_types.specs.declared.operations.Op.{Op}
+use Rattle.cluster_core.specs.declared.answers.Answer.{Answer}
+use Rattle.cluster_core.specs.declared.answers.Answer.TheVariants.{Nothing, Reply}
+use Rattle.cluster_core.specs.declared.events.Event.TheVariants.{Arrive, Serve as ServeEvent}
+use Rattle.cluster_core.specs.Core.{Kept}
+use Rattle.cluster_core.specs.Runs.{StepsBook}
+use Rattle.script_text.specs.declared.commands.Command.{Command}
+use Rattle.script_text.specs.declared.commands.Command.TheVariants.{Operation, Serve}
+use Rattle.script_text.specs.declared.output_lines.OutputLine.{OutputLine}
+use Rattle.script_text.specs.declared.output_lines.OutputLine.TheVariants.{Reply as ReplyLine, Refused}
+use Rattle.admin_cli.specs.declared.commands.Admin.{Admin}
+
+-- the line is that of a serve's result
+abbrev pub ShowsServed : Result Answer Refusal → OutputLine → Type 0
+ShowsServed (Ok Nothing) line = ⊥
+ShowsServed (Ok (Reply client tid place first reply)) line = line ≡ ReplyLine client tid place first reply
+ShowsServed (Err refusal) line = line ≡ Refused refusal
+
+-- a rank served the front of its inbox
+pub record ServesLine (old new : Kept) (rank : Rank) (line : OutputLine) : Type 0 where
+  pub result : Result Answer Refusal
+  pub stepped : StepsBook old new result (ServeEvent rank)
+  pub shown : ShowsServed result line
+
+-- an operation alone: it arrives at rank 0 as client 0 with this transaction number, and is served there if it wasn't refused
+abbrev pub OperatesAfter : (middle new : Kept) → Result Answer Refusal → OutputLine → Type 0
+OperatesAfter middle new (Ok answer) line = ServesLine middle new (record { 0 = 0 }) line
+OperatesAfter middle new (Err refusal) line = (new ≡ middle) × (line ≡ Refused refusal)
+
+pub record OperatesLine (old new : Kept) (tid : ℕ) (op : Op) (line : OutputLine) : Type 0 where
+  pub middle : Kept
+  pub arrived : Result Answer Refusal
+  pub stepped : StepsBook old middle arrived (Arrive (record { 0 = 0 }) (record { client = 0; tid = tid; oldest = tid; op = op }))
+  pub rest : OperatesAfter middle new arrived line
+
+-- a command, with the count of lines that were an operation alone
+abbrev pub Executes : (old new : Admin) → Command → OutputLine → Type 0
+Executes old new (Operation op) line = (new.operations ≡ old.operations + 1) × OperatesLine old.book new.book new.operations op line
+Executes old new (Serve rank) line = (new.operations ≡ old.operations) × ServesLine old.book new.book rank line
