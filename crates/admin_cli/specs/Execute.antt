@@ -1,7 +1,6 @@
 -- What a command of the script does to a book, and the line that it prints.
 use Rattle.std.specs.Prelude.{◌≡◌, ℕ, ◌+◌, Result, Ok, Err}
 use Rattle.mds_types.specs.declared.ids.Rank.{Rank}
-use Rattle.mds_types.specs.declared.requests.Request.{Request}
 use Rattle.mds_types.specs.declared.refusals.Refusal.{Refusal}
 use Rattle.mds_types.specs.declared.operations.Op.{Op}
 use Rattle.cluster_core.specs.declared.answers.Answer.{Answer}

@@ -3,7 +3,7 @@ use Rattle.std.proofs.Common.{◌≡◌, ℕ, ◌+◌, ◌<◌, ◌≤◌, Bool,
 use Rattle.std.proofs.Math.Seq.{get_or-append_seam}
 use Rattle.std.proofs.lemmas.List.{append-nil, length-append, length-drop, get_or_append_left, drop_more, take_more, take_all}
 use Rattle.std.proofs.lemmas.Bool.{eqb-true}
-use Rattle.std.specs.List.{slice_index_or, AllByRecursion}
+use Rattle.std.specs.List.{slice_index_or}
 use Rattle.mds_types.specs.declared.entries.Entry.{Entry}
 use Rattle.mds_types.specs.declared.requests.Request.{Request}
 use Rattle.mds_types.specs.declared.replies.Reply.{Reply as Replied}
@@ -14,7 +14,7 @@ use Rattle.cluster_core.specs.declared.answers.Answer.TheVariants.{Nothing, Repl
 use Rattle.cluster_core.specs.declared.events.Event.{Event}
 use Rattle.cluster_core.specs.declared.events.Event.TheVariants.{Arrive, Serve}
 use Rattle.cluster_core.specs.Core.{Core, Kept}
-use Rattle.cluster_core.specs.Serve.{IsApplied, IsRepeated, IsLeftWaiting, IsTakenOut, ServesRequest, ServesInbox, entry_of, outcome_of}
+use Rattle.cluster_core.specs.Serve.{IsApplied, IsRepeated, IsLeftWaiting, ServesRequest, ServesInbox, entry_of}
 use Rattle.cluster_core.specs.Steps.{Steps, ArrivesInbox, MayRefuse, ranks}
 use Rattle.cluster_core.specs.Runs.{StepsBook, Runs, IsRun, StandsAt, IsOfHistory, BeginsWith}
 

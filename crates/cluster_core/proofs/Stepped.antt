@@ -1,7 +1,6 @@
 -- A book stays sound at every step, and begins sound.
-use Rattle.std.proofs.Common.{◌≡◌, ℕ, ◌+◌, ◌*◌, ◌^◌, ◌<◌, ◌≤◌, Bool, true, false, nat_lt, ◌⊎◌, inl, inr, List, [], ◌∷◌, ◌++◌, map, length, Contains, MatchBool, Result, Ok, Err, refl, sym, ap, subst, ◌∙◌, arith}
+use Rattle.std.proofs.Common.{◌≡◌, ℕ, ◌^◌, ◌≤◌, Bool, true, false, nat_lt, inl, inr, List, [], ◌∷◌, map, length, MatchBool, Result, Ok, Err, ap, arith}
 use Rattle.std.specs.FinMap as finmap
-use Rattle.mds_types.specs.declared.ids.Rank.{Rank}
 use Rattle.mds_types.specs.declared.entries.Entry.{Entry}
 use Rattle.mds_types.specs.declared.requests.Request.{Request}
 use Rattle.mds_types.specs.declared.refusals.Refusal.{Refusal}
@@ -9,15 +8,14 @@ use Rattle.mds_types.specs.declared.refusals.Refusal.TheVariants.{NoMemory, Stor
 use Rattle.mds_types.specs.Tree.{Tree, numbers}
 use Rattle.mds_types.specs.TreeLaws.{entries-empty}
 use Rattle.mds_types.specs.History.{IsUsed}
-use Rattle.inode_table.specs.Numbers.{Supply, IsSupply, first_number, end_number}
 use Rattle.cluster_core.specs.declared.answers.Answer.{Answer}
 use Rattle.cluster_core.specs.declared.answers.Answer.TheVariants.{Nothing, Reply}
 use Rattle.cluster_core.specs.declared.events.Event.{Event}
 use Rattle.cluster_core.specs.declared.events.Event.TheVariants.{Arrive, Serve}
 use Rattle.cluster_core.specs.Core.{Core}
 use Rattle.cluster_core.specs.Serve.{IsLeftWaiting, IsTakenOut, ServesRequest, ServesInbox}
-use Rattle.cluster_core.specs.Steps.{Steps, AtRank, ArrivesInbox, MayRefuse, ranks}
-use Rattle.cluster_core.specs.Sound.{IsFresh, IsSound}
+use Rattle.cluster_core.specs.Steps.{Steps, ArrivesInbox, MayRefuse, ranks}
+use Rattle.cluster_core.specs.Sound.{IsSound}
 use Rattle.cluster_core.proofs.Applied.{sound-applied}
 
 module _ (opening : Tree) (past now : List Entry) (old new : Core) (sound : IsSound opening past old) where

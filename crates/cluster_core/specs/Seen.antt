@@ -1,5 +1,5 @@
 -- What a request is to a history.
-use Rattle.std.specs.Prelude.{◌≡◌, ℕ, List}
+use Rattle.std.specs.Prelude.{ℕ, List}
 use Rattle.mds_types.specs.declared.entries.Entry.{Entry}
 use Rattle.mds_types.specs.History.{IsTrimmed, IsKeptAt, IsNew}
 use Rattle.cluster_core.specs.declared.seen.Seen.{Seen}

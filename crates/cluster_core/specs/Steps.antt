@@ -1,5 +1,5 @@
 -- What each event does to a cluster and its history.
-use Rattle.std.specs.Prelude.{◌≡◌, ℕ, true, false, nat_lt, MatchBool, ◌∷◌, [], ◌++◌, ◌<◌, List, length, Result, Ok, Err}
+use Rattle.std.specs.Prelude.{◌≡◌, ℕ, nat_lt, MatchBool, ◌∷◌, [], ◌++◌, ◌<◌, List, length, Result, Ok, Err}
 use Rattle.mds_types.specs.declared.ids.Rank.{Rank}
 use Rattle.mds_types.specs.declared.entries.Entry.{Entry}
 use Rattle.mds_types.specs.declared.requests.Request.{Request}

@@ -1,6 +1,13 @@
 //! The plain tree as a value.
-ghost use Rattle.std.specs.Prelude.{◌≡◌, IfOk};
+ghost use Rattle.std.specs.Prelude.{◌≡◌, ◌↔◌, IfOk, IsTrue};
+ghost use Rattle.std.specs.Cmp.{on_per, on_equiv, partial_equiv_from_equiv};
+ghost use Rattle.std.specs.Cmp.Lexicographic.{pointwise, lists_equiv};
 ghost use Rattle.std.specs.FinMap as map;
+ghost use Rattle.std.proofs.Common.{rules};
+ghost use Rattle.mds_types.specs.Decided.{decided, pair_decides};
+ghost use Rattle.mds_types.specs.declared.places.Place as PlaceValue;
+ghost use Rattle.mds_types.specs.declared.inodes.Inode as InodeValue;
+ghost use Rattle.sorted_map.specs.SortedMap.{pairs_eq};
 
 use mds_types::{Inode, Place};
 use sorted_map::SortedMap;
@@ -35,4 +42,34 @@ impl PlainTree {
             entries: SortedMap::new(alloc),
         }
     }
+
+    /// A copy. Takes memory for the entries.
+    pub fn try_clone(&self) -> Result<PlainTree, AllocError>
+        ensures { IfOk result (λ copy. copy ≡ self.now) }
+    {
+        Ok(PlainTree {
+            entries: self.entries.clone()?,
+        })
+    }
+}
+
+impl PartialEq for PlainTree {
+    ghost eq = { λ a b. pointwise (pairs_eq ⟦<Place as PartialEq>⟧.eq ⟦<Inode as PartialEq>⟧.eq) (map.entries a) (map.entries b) };
+
+    ghost laws = { on_per (λ t. map.entries t) (partial_equiv_from_equiv (lists_equiv (decided (pairs_eq ⟦<Place as PartialEq>⟧.eq ⟦<Inode as PartialEq>⟧.eq) (pair_decides ⟦<Place as PartialEq>⟧.eq ⟦<Inode as PartialEq>⟧.eq (λ (a b : PlaceValue.Place). Prim.search rules) (λ (a b : InodeValue.Inode). Prim.search rules))))) };
+
+    /// Whether both are the same tree.
+    fn eq(&self, other: &PlainTree) -> bool
+        ensures value { result ≡ pointwise (pairs_eq ⟦<Place as PartialEq>⟧.eq ⟦<Inode as PartialEq>⟧.eq) (map.entries self.now) (map.entries other.now) }
+        ensures same { IsTrue result ↔ (self.now ≡ other.now) }
+    {
+        // The contract of `len` is what says here that the keys of a map rise.
+        let _ = self.entries.len();
+        let _ = other.entries.len();
+        self.entries == other.entries
+    }
+}
+
+impl Eq for PlainTree {
+    ghost laws = { on_equiv (λ t. map.entries t) (lists_equiv (decided (pairs_eq ⟦<Place as PartialEq>⟧.eq ⟦<Inode as PartialEq>⟧.eq) (pair_decides ⟦<Place as PartialEq>⟧.eq ⟦<Inode as PartialEq>⟧.eq (λ (a b : PlaceValue.Place). Prim.search rules) (λ (a b : InodeValue.Inode). Prim.search rules)))) };
 }

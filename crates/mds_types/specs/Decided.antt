@@ -1,5 +1,5 @@
 -- Equality tests that are true exactly of equal values, as the laws of `PartialEq` ask for them.
-use Rattle.std.specs.Prelude.{◌≡◌, Bool, true, false, ◌&&◌, refl}
+use Rattle.std.specs.Prelude.{◌≡◌, Bool, ◌&&◌, refl}
 use Rattle.std.specs.Bool.{Decides}
 use Rattle.std.specs.Cmp.{IsEquivalence}
 use Rattle.std.proofs.Common.{sym, ap}

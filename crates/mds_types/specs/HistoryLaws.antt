@@ -1,12 +1,10 @@
 -- Laws of histories: what one more entry changes.
-use Rattle.std.specs.Prelude.{◌≡◌, ℕ, suc, ◌<◌, ◌≤◌, ◌⊎◌, List, [], ◌∷◌, ◌++◌, take, length, map, Option, Some, None, Contains, option_map, refl}
-use Rattle.std.specs.List.{filter_map, slice_index_or}
+use Rattle.std.specs.Prelude.{◌≡◌, ℕ, ◌<◌, ◌≤◌, ◌⊎◌, List, [], ◌∷◌, ◌++◌, take, length, Some, refl}
+use Rattle.std.specs.List.{slice_index_or}
 use Rattle.std.proofs.Common.{sym, ap, subst, ◌∙◌, inl, inr, ⊎_elim, arith}
 use Rattle.std.proofs.Math.Seq.{take-append_seam, get_or-append_seam}
 use Rattle.std.proofs.lemmas.Bool.{cases_lt}
 use Rattle.std.proofs.lemmas.List.{length-append, take-append-le, get_or_append_left}
-use Rattle.std.proofs.lemmas.List.Elements.{Contains-append_cases, filter_map-append}
-use Rattle.mds_types.specs.declared.ids.Ino.{Ino}
 use Rattle.mds_types.specs.declared.entries.Entry.{Entry}
 use Rattle.mds_types.specs.Tree.{Tree}
 use Rattle.mds_types.specs.Step.{step, number_or}

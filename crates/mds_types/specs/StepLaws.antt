@@ -1,8 +1,7 @@
 -- Laws of the operation table.
 use Rattle.std.specs.Prelude.{◌≡◌, ℕ, Bool, true, false, cond, not, ◌&&◌, Option, Some, None, refl}
-use Rattle.std.proofs.Common.{sym, ap}
+use Rattle.std.proofs.Common.{sym}
 use Rattle.mds_types.specs.declared.errno.TheConstants.{ESTALE}
-use Rattle.mds_types.specs.declared.ids.Ino.{Ino}
 use Rattle.mds_types.specs.declared.places.Place.{Place}
 use Rattle.mds_types.specs.declared.inodes.Inode.{Inode}
 use Rattle.mds_types.specs.declared.operations.Op.{Op}

@@ -1,6 +1,6 @@
 -- Every step of the operation table keeps the tree well formed.
-use Rattle.std.specs.Prelude.{◌≡◌, ℕ, zero, suc, Bool, true, false, cond, ◌||◌, ◌&&◌, ◌==◌, T, List, [], ◌∷◌, Option, Some, None, refl}
-use Rattle.std.proofs.Common.{sym, ap, subst, ◌∙◌, ⊎_elim, ◌⊎◌, inl, inr, arith}
+use Rattle.std.specs.Prelude.{◌≡◌, ℕ, Bool, true, false, cond, ◌||◌, ◌&&◌, ◌==◌, T, List, [], ◌∷◌, Option, Some, None, refl}
+use Rattle.std.proofs.Common.{sym, ap, subst, ◌∙◌, ⊎_elim, ◌⊎◌, inl, inr}
 use Rattle.std.proofs.lemmas.Bool.{eqb-true}
 use Rattle.std.specs.List.{list_any}
 use Rattle.std.specs.declared.cmp.Ordering.{Ordering}
@@ -12,8 +12,7 @@ use Rattle.std.specs.FinMap.{find, is_sorted, get-entries, get-insert}
 use Rattle.std.specs.FinMap.Entries.{below_all, find_tied}
 use Rattle.mds_types.specs.declared.places.Place.{Place}
 use Rattle.mds_types.specs.declared.inodes.Inode.{Inode}
-use Rattle.mds_types.specs.declared.inodes.Kind.{Kind}
-use Rattle.mds_types.specs.declared.inodes.Kind.TheVariants.{File, Dir, Symlink}
+use Rattle.mds_types.specs.declared.inodes.Kind.TheVariants.{File, Dir}
 use Rattle.mds_types.specs.declared.errno.TheConstants.{ESTALE}
 use Rattle.mds_types.specs.declared.operations.Op.{Op}
 use Rattle.mds_types.specs.declared.operations.Op.TheVariants.{Lookup, Readdir, Create, Mkdir}

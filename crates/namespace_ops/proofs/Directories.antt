@@ -1,12 +1,12 @@
 -- The set of directories beside a tree.
-use Rattle.std.proofs.Common.{◌≡◌, ℕ, Bool, true, false, cond, ◌||◌, ◌&&◌, ◌==◌, is_some, Option, Some, None, refl, sym, ap, ◌∙◌}
+use Rattle.std.proofs.Common.{◌≡◌, Bool, true, false, cond, ◌||◌, ◌&&◌, ◌==◌, is_some, Option, Some, None, refl, sym, ap, ◌∙◌}
 use Rattle.std.specs.FinMap as map
 use Rattle.std.specs.FinMap.{get-empty, get-insert}
 use Rattle.std.specs.Cmp.{on_total, nat_cmp_total, nat_eq_equiv, unsigned_tied}
 use Rattle.mds_types.specs.declared.ids.Ino.{Ino}
 use Rattle.mds_types.specs.declared.places.Place.{Place}
 use Rattle.mds_types.specs.declared.inodes.Inode.{Inode}
-use Rattle.mds_types.specs.Tree.{Tree, is_directory, is_dir_kind, is_entry_of_directory}
+use Rattle.mds_types.specs.Tree.{Tree, is_dir_kind, is_entry_of_directory}
 use Rattle.mds_types.specs.TreeLaws.{is_directory-empty, is_directory-insert}
 use Rattle.namespace_ops.specs.PlainFrags.{ino_cmp, Directories, HoldsDirectories, with_directory}
 

@@ -1,10 +1,10 @@
 -- What the operation table means, in laws that hold of every tree.
-use Rattle.std.specs.Prelude.{◌≡◌, ℕ, suc, ◌+◌, ◌≤◌, true, List, ◌++◌, take, slice_get, Option, Some}
+use Rattle.std.specs.Prelude.{◌≡◌, ℕ, suc, List, ◌++◌, take, slice_get, Option, Some}
 use Rattle.mds_types.specs.declared.inodes.Inode.{Inode}
 use Rattle.mds_types.specs.declared.operations.Op.{Op}
 use Rattle.mds_types.specs.Tree.{Tree, IsWellFormed}
 use Rattle.mds_types.specs.Step.{step, names_after}
-use Rattle.mds_types.specs.StepLaws.{ErrnoLeaves, TakesWhereMade, is_errno}
+use Rattle.mds_types.specs.StepLaws.{ErrnoLeaves, TakesWhereMade}
 use Rattle.mds_types.specs.ListingLaws.{IsListing}
 use Rattle.mds_types.specs.WellFormedLaws.{IsUnused}
 

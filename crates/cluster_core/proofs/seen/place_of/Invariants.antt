@@ -1,4 +1,4 @@
-use Rattle.std.proofs.Common.{◌≡◌, drop, false}
+use Rattle.std.proofs.Common.{◌≡◌, drop}
 use Rattle.std.specs.List.{list_any}
 use Rattle.mds_types.specs.History.{is_pair}
 use Rattle.cluster_core.proofs.seen.place_of.Given as goal

@@ -1,5 +1,5 @@
 -- The bits below a parent's are taken off the value.
-use Rattle.std.proofs.Common.{ℕ, ◌≡◌, ◌<◌, arith}
+use Rattle.std.proofs.Common.{◌<◌, arith}
 use Rattle.mds_types.proofs.Fragments.{parent_is_fragment}
 use Rattle.mds_types.proofs.frags.Frag.parent.Goals as goal
 

@@ -1,4 +1,3 @@
-use Rattle.std.proofs.Common.{◌≡◌}
 use Rattle.namespace_ops.proofs.Directories.{directories-empty}
 use Rattle.namespace_ops.proofs.plain_frags.PlainFrags.new.Goals as goal
 

@@ -1,6 +1,5 @@
-use Rattle.std.proofs.Common.{◌≡◌, Bool, ◌||◌, ◌==◌, is_some, sym, ap, ◌∙◌}
+use Rattle.std.proofs.Common.{◌||◌, is_some, sym, ap, ◌∙◌}
 use Rattle.std.specs.FinMap as map
-use Rattle.mds_types.specs.Tree.{is_directory}
 use Rattle.sorted_map.specs.SortedMap.{contents}
 use Rattle.namespace_ops.specs.PlainFrags.{ino_cmp}
 use Rattle.namespace_ops.proofs.plain_frags.PlainFragsFrags.is_dir.Goals as goal
