@@ -235,19 +235,27 @@ fn agrees_with_the_slow_table(rt: HostRuntime) -> Result<(), Fail> {
 #[test]
 fn passes_on_what_other_fragments_refuse(rt: HostRuntime) -> Result<(), Fail> {
     let alloc = rt.alloc();
-    let mut frags = RefusingFrags;
-    let refused = serve_op(
+    let mut frags = RefusingFrags {
+        plain: PlainFrags::new(alloc),
+        growths: 1,
+    };
+    let made = serve_op(
         alloc,
         &mut frags,
         &create(alloc, Ino(1), b"a")?,
         Some(FIRST),
+    )?;
+    assert_eq!(rt; made, file()?);
+    let refused = serve_op(
+        alloc,
+        &mut frags,
+        &create(alloc, Ino(1), b"b")?,
+        Some(Ino(FIRST.0 + 1)),
     );
     assert_eq!(rt; refused, Err(Refusal::NoMemory));
-    let unnumbered = serve_op(alloc, &mut frags, &create(alloc, Ino(1), b"a")?, None);
+    let unnumbered = serve_op(alloc, &mut frags, &create(alloc, Ino(1), b"b")?, None);
     assert_eq!(rt; unnumbered, Err(Refusal::NoInodes));
-    let listed = serve_op(alloc, &mut frags, &readdir(alloc, Ino(1), None, 1)?, None);
-    assert_eq!(rt; listed, Err(Refusal::NoMemory));
-    let stale = serve_op(alloc, &mut frags, &lookup(alloc, FIRST, b"a")?, None)?;
-    assert_eq!(rt; stale, Reply::Errno(ESTALE));
+    let left = serve_op(alloc, &mut frags, &lookup(alloc, Ino(1), b"b")?, None)?;
+    assert_eq!(rt; left, Reply::Errno(ENOENT));
     Ok(())
 }

@@ -1,23 +1,24 @@
-//! Fragments that show the empty tree and refuse every growth.
-ghost use Rattle.std.specs.FinMap as map;
-
+//! Fragments that refuse growth after growth was given a number of times.
 use crate::frags::Frags;
+use crate::plain_frags::PlainFrags;
 use mds_types::{Ino, Inode, Listing, Name, Op, PageSize, Place, Refusal};
 use std::alloc::Global;
 
-/// Fragments with no entry, and no memory for one.
+/// Plain fragments that give so many growths, and refuse each one after them.
 #[derive(Drop)]
-pub struct RefusingFrags;
+pub struct RefusingFrags {
+    pub plain: PlainFrags,
+    pub growths: u8,
+}
 
 impl Frags for RefusingFrags {
-    ghost use Rattle.std.specs.Prelude.{◌≡◌};
-    ghost use Rattle.std.specs.FinMap as map;
+    ghost use Rattle.std.specs.Prelude.{◌≡◌, ◌<◌};
     ghost use Rattle.mds_types.specs.declared.refusals.Refusal.TheVariants.{NoMemory};
     ghost use Rattle.namespace_ops.specs.Reasons.{refused_for_memory};
 
-    ghost content = { λ f. map.empty };
+    ghost content = { λ f. f.plain.tree };
 
-    ghost IsReady = { λ f place. ⊥ };
+    ghost IsReady = { λ f place. (0 < f.plain.entries_left) × (0 < f.plain.dirs_left) };
 
     ghost Follows = { λ a b. Unit {0} };
 
@@ -32,28 +33,32 @@ impl Frags for RefusingFrags {
     ghost refused_on = { λ a b c reason p because. because };
 
     fn is_dir(&self, dir: Ino) -> bool {
-        dir == Ino::ROOT
+        self.plain.is_dir(dir)
     }
 
-    fn look(&mut self, _dir: Ino, _name: &Name) -> Result<Option<Inode>, Refusal> {
-        Ok(None)
+    fn look(&mut self, dir: Ino, name: &Name) -> Result<Option<Inode>, Refusal> {
+        self.plain.look(dir, name)
     }
 
     fn list_after(
         &mut self,
-        _alloc: Global,
-        _dir: Ino,
-        _after: Option<&Name>,
-        _max: PageSize,
+        alloc: Global,
+        dir: Ino,
+        after: Option<&Name>,
+        max: PageSize,
     ) -> Result<(Listing, bool), Refusal> {
-        Err(Refusal::NoMemory)
+        self.plain.list_after(alloc, dir, after, max)
     }
 
-    fn ready(&mut self, _op: &Op) -> Result<(), Refusal> {
-        Err(Refusal::NoMemory)
+    fn ready(&mut self, op: &Op) -> Result<(), Refusal> {
+        if self.growths == 0 {
+            return Err(Refusal::NoMemory);
+        }
+        self.growths -= 1;
+        self.plain.ready(op)
     }
 
-    fn add(&mut self, _place: Place, _inode: Inode) {
-        unreachable!()
+    fn add(&mut self, place: Place, inode: Inode) {
+        self.plain.add(place, inode)
     }
 }
