@@ -1,10 +1,10 @@
 //! The plain tree as a value.
 ghost use Rattle.std.specs.Prelude.{◌≡◌, ◌↔◌, IfOk, IsTrue};
-ghost use Rattle.std.specs.Cmp.{on_per, on_equiv, partial_equiv_from_equiv};
+ghost use Rattle.std.specs.Cmp.{on_per, on_equiv, partial_equiv_from_equiv, decided};
 ghost use Rattle.std.specs.Cmp.Lexicographic.{pointwise, lists_equiv};
 ghost use Rattle.std.specs.FinMap as map;
 ghost use Rattle.std.proofs.Common.{rules};
-ghost use Rattle.mds_types.specs.Decided.{decided, pair_decides};
+ghost use Rattle.mds_types.specs.Decided.{pair_decides};
 ghost use Rattle.mds_types.specs.declared.places.Place as PlaceValue;
 ghost use Rattle.mds_types.specs.declared.inodes.Inode as InodeValue;
 ghost use Rattle.sorted_map.specs.SortedMap.{pairs_eq};

@@ -1,3 +1,4 @@
+pub mod Bools
 pub mod Decided
 pub mod Frag
 pub mod History

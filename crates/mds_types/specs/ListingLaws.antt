@@ -16,6 +16,7 @@ use Rattle.mds_types.specs.declared.places.Place.{Place}
 use Rattle.mds_types.specs.declared.inodes.Inode.{Inode}
 use Rattle.mds_types.specs.Tree.{Tree, place_cmp, place_of, at}
 use Rattle.mds_types.specs.Step.{is_after, names_after}
+use Rattle.mds_types.specs.Bools.{left_of, right_of, both_of, first_true, second_true}
 
 -- names in order with the inodes that they have in a directory: just those greater than `after`, and none is left out
 pub record IsListing (tree : Tree) (d : ℕ) (after : Option (List ℕ)) (names : List (List ℕ × Inode)) : Type 0 where
@@ -31,18 +32,6 @@ named e = (e.0.name, e.1)
 abbrev listed : ℕ → Option (List ℕ) → List (Place × Inode) → List (List ℕ × Inode)
 listed d after es = map named (filter (is_listed d after) es)
 
-left_of : (a b : Bool) → T (a && b) → T a
-left_of true b h = tt
-left_of false b h = h
-
-right_of : (a b : Bool) → T (a && b) → T b
-right_of true b h = h
-right_of false b h = absurd h
-
-both_of : (a b : Bool) → T a → T b → T (a && b)
-both_of true b p q = q
-both_of false b p q = p
-
 -- in one directory places are ordered as their names
 same_dir : (d : ℕ) (a b : Place) → (a.dir.0 == d) ≡ true → (b.dir.0 == d) ≡ true → place_cmp a b ≡ slice_cmp nat_cmp a.name b.name
 same_dir d a b p q = go (nat_cmp a.dir.0 b.dir.0) (ranks a.dir.0 b.dir.0)
@@ -56,10 +45,6 @@ same_dir d a b p q = go (nat_cmp a.dir.0 b.dir.0) (ranks a.dir.0 b.dir.0)
 chosen : (d : ℕ) (after : Option (List ℕ)) (e : Place × Inode) (es : List (Place × Inode)) (b : Bool) → is_listed d after e ≡ b → listed d after (e ∷ es) ≡ cond b (named e ∷ listed d after es) (listed d after es)
 chosen d after e es true is = ap (λ c. map named (cond c (e ∷ filter (is_listed d after) es) (filter (is_listed d after) es))) is
 chosen d after e es false is = ap (λ c. map named (cond c (e ∷ filter (is_listed d after) es) (filter (is_listed d after) es))) is
-
-first_true : (a b : Bool) → (a && b) ≡ true → a ≡ true
-first_true true b h = refl
-first_true false b h = h
 
 -- the names behind a name of the directory are greater
 below_listed : (d : ℕ) (after : Option (List ℕ)) (place : Place) (es : List (Place × Inode)) → (place.dir.0 == d) ≡ true → T (below_all place_cmp place es) → T (below_all (slice_cmp nat_cmp) place.name (listed d after es))
@@ -210,10 +195,6 @@ after_chain (Some a) x past name less = ap is_lt (nat_list_cmp_total.trans a x n
     less_is Less h = refl
     less_is Equal h = cc
     less_is Greater h = cc
-
-second_true : (a b : Bool) → (a && b) ≡ true → b ≡ true
-second_true true b h = h
-second_true false b h = cc
 
 listed_after_by : (d : ℕ) (after : Option (List ℕ)) (e : Place × Inode) (es : List (Place × Inode)) (i : ℕ) (row : List ℕ × Inode) (b : Bool) → is_listed d after e ≡ b
     → ((j : ℕ) → slice_get (listed d after es) j ≡ Some row → is_after after row.0 ≡ true) → slice_get (listed d after (e ∷ es)) i ≡ Some row → is_after after row.0 ≡ true

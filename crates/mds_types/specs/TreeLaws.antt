@@ -12,6 +12,7 @@ use Rattle.mds_types.specs.declared.places.Place.{Place}
 use Rattle.mds_types.specs.declared.inodes.Inode.{Inode}
 use Rattle.mds_types.specs.Tree.{Tree, place_cmp, is_directory, is_entry_of_directory}
 use Rattle.mds_types.specs.PlaceLaws.{place-total}
+use Rattle.std.proofs.Math.Bool.{or-false}
 
 or_swap : (a b c : Bool) → (a || (b || c)) ≡ (b || (a || c))
 or_swap true true c = refl
@@ -45,10 +46,6 @@ no_entries : {A : Type 0} (es : List A) → length es ≡ 0 → es ≡ []
 no_entries [] none = refl
 no_entries (e ∷ es) none = absurd (omega arith)
 
-or_false : (b : Bool) → (b || false) ≡ b
-or_false true = refl
-or_false false = refl
-
 -- where nothing stands there is no entry
 pub entries-empty : map.entries (map.empty {K = Place} {X = Inode} {R = place_cmp}) ≡ []
 entries-empty = no_entries _ (sym (len-entries map.empty) ∙ len-empty place_cmp Inode)
@@ -57,4 +54,4 @@ entries-empty = no_entries _ (sym (len-entries map.empty) ∙ len-empty place_cm
 pub is_directory-empty : (d : ℕ) → is_directory map.empty d ≡ (d == 1)
 unfolding is_directory
 is_directory-empty d =
-    ap (λ es. (d == 1) || list_any (is_entry_of_directory d) es) entries-empty ∙ or_false (d == 1)
+    ap (λ es. (d == 1) || list_any (is_entry_of_directory d) es) entries-empty ∙ or-false (d == 1)

@@ -21,22 +21,7 @@ use Rattle.mds_types.specs.Step.{Outcome, answers, directory_of, found, made, ne
 use Rattle.mds_types.specs.Tree.{Tree, place_cmp, place_of, at, is_directory, is_entry_of_directory, IsAbove, child, further, HasSize, IsWellFormed}
 use Rattle.mds_types.specs.TreeLaws.{is_directory-insert}
 use Rattle.mds_types.specs.PlaceLaws.{place-total, place-exact}
-
-left_of : (a b : Bool) → T (a && b) → T a
-left_of true b h = tt
-left_of false b h = h
-
-right_of : (a b : Bool) → T (a && b) → T b
-right_of true b h = h
-right_of false b h = absurd h
-
-first_true : (a b : Bool) → (a && b) ≡ true → a ≡ true
-first_true true b h = refl
-first_true false b h = h
-
-second_true : (a b : Bool) → (a && b) ≡ true → b ≡ true
-second_true true b h = h
-second_true false b h = cc
+use Rattle.mds_types.specs.Bools.{left_of, right_of, first_true, second_true}
 
 -- an entry that passes a test is found at its key
 module _ {K X : Type 0} {R : K → K → Ordering} (o : IsTotalOrder R) where

@@ -9,15 +9,12 @@ use Rattle.mds_types.specs.declared.inodes.Inode.{Inode}
 use Rattle.mds_types.specs.Tree.{Tree, is_dir_kind, is_entry_of_directory}
 use Rattle.mds_types.specs.TreeLaws.{is_directory-empty, is_directory-insert}
 use Rattle.namespace_ops.specs.PlainFrags.{ino_cmp, Directories, HoldsDirectories, with_directory}
-
-or_false : (b : Bool) → (b || false) ≡ b
-or_false true = refl
-or_false false = refl
+use Rattle.std.proofs.Math.Bool.{or-false}
 
 -- an empty tree has the root alone
 pub directories-empty : HoldsDirectories map.empty map.empty
 directories-empty d =
-    is_directory-empty d ∙ sym (ap (λ (o : Option (Unit {0})). (d == 1) || is_some o) (get-empty ino_cmp (record { 0 = d })) ∙ or_false (d == 1))
+    is_directory-empty d ∙ sym (ap (λ (o : Option (Unit {0})). (d == 1) || is_some o) (get-empty ino_cmp (record { 0 = d })) ∙ or-false (d == 1))
 
 in_either : (m t : Bool) (o : Option (Unit {0})) → (m || (t || is_some o)) ≡ (t || is_some (cond m (Some tt) o))
 in_either true true o = refl

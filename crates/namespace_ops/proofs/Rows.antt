@@ -14,6 +14,7 @@ use Rattle.mds_types.specs.declared.inodes.Inode.{Inode}
 use Rattle.mds_types.specs.Tree.{Tree, place_cmp, place_of}
 use Rattle.mds_types.specs.Step.{is_after, names_after}
 use Rattle.namespace_ops.specs.Run.{run}
+use Rattle.mds_types.specs.Bools.{left_of, right_of}
 
 -- whether a place comes after a name of the directory; after none, whether it comes no earlier than the directory's names
 abbrev pub begins : ℕ → Option (List ℕ) → Place → Bool
@@ -55,14 +56,6 @@ begins_by d (Some name) place Greater is h = earlier (ap (λ r. is_lt (ordering_
 
 standing : (d : ℕ) (after : Option (List ℕ)) (place : Place) → Standing d after place
 standing d after place = begins_by d after place (nat_cmp d place.dir.0) refl (ranks d place.dir.0)
-
-left_of : (a b : Bool) → T (a && b) → T a
-left_of true b h = tt
-left_of false b h = h
-
-right_of : (a b : Bool) → T (a && b) → T b
-right_of true b h = h
-right_of false b h = absurd h
 
 -- a greater place is in no lesser directory
 dir_rises_by : (a b : Place) (r : Ordering) → MatchOrdering r (a.dir.0 < b.dir.0) (a.dir.0 ≡ b.dir.0) (b.dir.0 < a.dir.0) → T (is_lt (ordering_then r (slice_cmp nat_cmp a.name b.name))) → b.dir.0 < a.dir.0 → ⊥
