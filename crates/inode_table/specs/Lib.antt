@@ -1,1 +1,2 @@
+pub mod Dirs
 pub mod Numbers

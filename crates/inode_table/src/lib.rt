@@ -1,6 +1,12 @@
-//! Inode numbers: which numbers each rank hands out.
+//! Inode numbers and the directory table: which numbers each rank hands out, and where each directory stands.
 #![tactic(auto)]
 
+mod dirs;
+mod homes;
 mod numbers;
+#[cfg(test)]
+mod tests;
 
+pub use dirs::Dirs;
+pub use homes::Home;
 pub use numbers::Numbers;

@@ -1,5 +1,5 @@
 -- Every step of the operation table keeps the tree well formed.
-use Rattle.std.specs.Prelude.{◌≡◌, ℕ, Bool, true, false, cond, ◌||◌, ◌&&◌, ◌==◌, T, List, [], ◌∷◌, Option, Some, None, refl}
+use Rattle.std.specs.Prelude.{◌≡◌, ℕ, Bool, true, false, cond, ◌||◌, ◌==◌, T, List, [], ◌∷◌, Option, Some, None, refl}
 use Rattle.std.proofs.Common.{sym, ap, subst, ◌∙◌, ⊎_elim, ◌⊎◌, inl, inr}
 use Rattle.std.proofs.lemmas.Bool.{eqb-true}
 use Rattle.std.specs.List.{list_any}
@@ -21,7 +21,7 @@ use Rattle.mds_types.specs.Step.{Outcome, answers, directory_of, found, made, ne
 use Rattle.mds_types.specs.Tree.{Tree, place_cmp, place_of, at, is_directory, is_entry_of_directory, IsAbove, child, further, HasSize, IsWellFormed}
 use Rattle.mds_types.specs.TreeLaws.{is_directory-insert}
 use Rattle.mds_types.specs.PlaceLaws.{place-total, place-exact}
-use Rattle.mds_types.specs.Bools.{left_of, right_of, first_true, second_true}
+use Rattle.mds_types.specs.Bools.{left_of, right_of, second_true}
 
 -- an entry that passes a test is found at its key
 module _ {K X : Type 0} {R : K → K → Ordering} (o : IsTotalOrder R) where

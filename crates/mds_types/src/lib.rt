@@ -20,6 +20,9 @@ mod replies;
 mod requests;
 mod targets;
 
+#[cfg(test)]
+mod tests;
+
 pub use entries::Entry;
 pub use errno::{EEXIST, EINVAL, EISDIR, ENAMETOOLONG, ENOENT, ENOTDIR, ENOTEMPTY, ESTALE};
 pub use frags::Frag;

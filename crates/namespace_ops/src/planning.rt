@@ -1,6 +1,7 @@
 //! Planning one operation: its checks, in their order, and all growth that it needs.
 ghost use Rattle.std.specs.Prelude.{◌≡◌, cond, Option, MatchResult};
 ghost use Rattle.mds_types.specs.declared.ids.Ino.{Ino as Number};
+ghost use Rattle.mds_types.specs.declared.inodes.Kind.TheVariants.{File, Dir};
 ghost use Rattle.mds_types.specs.Tree.{is_directory, at, place_of};
 ghost use Rattle.mds_types.specs.Step.{step, found, page, made, answers, names_after, new_inode, number_or};
 ghost use Rattle.std.specs.Option.{option_copied};
@@ -42,39 +43,13 @@ pub fn plan_op<F: Frags>(
             name,
             mode,
             mtime,
-        } => {
-            make(
-                frags,
-                op,
-                *dir,
-                name,
-                New {
-                    kind: Kind::File,
-                    mode: *mode,
-                    mtime: *mtime,
-                },
-                number,
-            )
-        }
+        } => make(frags, op, *dir, name, file(*mode, *mtime), number),
         Op::Mkdir {
             dir,
             name,
             mode,
             mtime,
-        } => {
-            make(
-                frags,
-                op,
-                *dir,
-                name,
-                New {
-                    kind: Kind::Dir,
-                    mode: *mode,
-                    mtime: *mtime,
-                },
-                number,
-            )
-        }
+        } => make(frags, op, *dir, name, directory(*mode, *mtime), number),
     }
 }
 
@@ -121,6 +96,26 @@ struct New {
     kind: Kind,
     mode: Mode,
     mtime: u64,
+}
+
+fn file(mode: Mode, mtime: u64) -> New
+    ensures { result ≡ record { kind = File; mode = mode; mtime = mtime } }
+{
+    New {
+        kind: Kind::File,
+        mode,
+        mtime,
+    }
+}
+
+fn directory(mode: Mode, mtime: u64) -> New
+    ensures { result ≡ record { kind = Dir; mode = mode; mtime = mtime } }
+{
+    New {
+        kind: Kind::Dir,
+        mode,
+        mtime,
+    }
 }
 
 // Plans a new inode of size 0 at a name that has to be free.

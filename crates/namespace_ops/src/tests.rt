@@ -1,14 +1,14 @@
 //! The operations on the plain fragments, beside a plain, slow program for the operation table, with answers by hand; and
-//! on fragments of another kind.
+//! on fragments of another kind, with room for one entry.
 
-mod refusing_frags;
+mod one_entry_frags;
 mod slow_table;
 
 use crate::{PlainFrags, serve_op};
 use mds_types::{
     EEXIST, ENOENT, ESTALE, Ino, Inode, Kind, Mode, Name, Op, PageSize, Refusal, Reply,
 };
-use refusing_frags::RefusingFrags;
+use one_entry_frags::OneEntryFrags;
 use slow_table::SlowTable;
 use std::alloc::Global;
 use std::test::Fail;
@@ -233,29 +233,46 @@ fn agrees_with_the_slow_table(rt: HostRuntime) -> Result<(), Fail> {
 }
 
 #[test]
-fn passes_on_what_other_fragments_refuse(rt: HostRuntime) -> Result<(), Fail> {
+fn fragments_of_another_kind_serve(rt: HostRuntime) -> Result<(), Fail> {
     let alloc = rt.alloc();
-    let mut frags = RefusingFrags {
-        plain: PlainFrags::new(alloc),
-        growths: 1,
-    };
+    let mut frags = OneEntryFrags { only: None };
     let made = serve_op(
         alloc,
         &mut frags,
         &create(alloc, Ino(1), b"a")?,
         Some(FIRST),
-    )?;
-    assert_eq!(rt; made, file()?);
-    let refused = serve_op(
+    );
+    assert_eq!(rt; made, Ok(file()?));
+    let found = serve_op(alloc, &mut frags, &lookup(alloc, Ino(1), b"a")?, None);
+    assert_eq!(rt; found, Ok(file()?));
+    let absent = serve_op(alloc, &mut frags, &lookup(alloc, Ino(1), b"b")?, None);
+    assert_eq!(rt; absent, Ok(Reply::Errno(ENOENT)));
+    let in_file = serve_op(alloc, &mut frags, &lookup(alloc, FIRST, b"b")?, None);
+    assert_eq!(rt; in_file, Ok(Reply::Errno(ESTALE)));
+    Ok(())
+}
+
+#[test]
+fn what_fragments_refuse_is_passed_on(rt: HostRuntime) -> Result<(), Fail> {
+    let alloc = rt.alloc();
+    let mut frags = OneEntryFrags { only: None };
+    let listed = serve_op(
         alloc,
         &mut frags,
-        &create(alloc, Ino(1), b"b")?,
-        Some(Ino(FIRST.0 + 1)),
+        &readdir(alloc, Ino(1), None, 1)?,
+        None,
     );
+    assert_eq!(rt; listed, Err(Refusal::NoMemory));
+    let _ = serve_op(
+        alloc,
+        &mut frags,
+        &create(alloc, Ino(1), b"a")?,
+        Some(FIRST),
+    );
+    let second = create(alloc, Ino(1), b"b")?;
+    let refused = serve_op(alloc, &mut frags, &second, Some(Ino(FIRST.0 + 1)));
     assert_eq!(rt; refused, Err(Refusal::NoMemory));
-    let unnumbered = serve_op(alloc, &mut frags, &create(alloc, Ino(1), b"b")?, None);
+    let unnumbered = serve_op(alloc, &mut frags, &second, None);
     assert_eq!(rt; unnumbered, Err(Refusal::NoInodes));
-    let left = serve_op(alloc, &mut frags, &lookup(alloc, Ino(1), b"b")?, None)?;
-    assert_eq!(rt; left, Reply::Errno(ENOENT));
     Ok(())
 }

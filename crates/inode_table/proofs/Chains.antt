@@ -1,0 +1,260 @@
+-- Chains of parents in a directory table, and what a change of the table leaves of them.
+use Rattle.std.proofs.Common.{◌≡◌, ◌==◌, ◌||◌, ◌-◌, ◌<◌, ◌≤◌, ◌↔◌, ℕ, zero, suc, Bool, true, false, cond, is_some, Option, Some, None, ◌⊎◌, inl, inr, refl, sym, ap, subst, ◌∙◌, arith}
+use Rattle.std.specs.Ordering.{nat_cmp}
+use Rattle.std.specs.Cmp.{nat_cmp_total, unsigned_tied}
+use Rattle.std.specs.FinMap as map
+use Rattle.std.specs.FinMap.{get-empty, get-insert, get-remove, len-remove, empty_of_len}
+use Rattle.std.proofs.lemmas.Bool.Decides.{nat_tests}
+use Rattle.inode_table.specs.declared.homes.Home.{Home}
+use Rattle.inode_table.specs.Dirs.{Homes, IsAbove, parent, further, Reaches, IsRooted, MayCome, MayMove, IsChildless, is_known}
+
+is_same : (a b : ℕ) → a ≡ b → (a == b) ≡ true
+is_same a b same = grind (arith, nat_tests)
+
+is_apart : (a b : ℕ) → (a ≡ b → ⊥) → (a == b) ≡ false
+is_apart a b apart = grind (arith, nat_tests)
+
+pub same_or_apart : (a b : ℕ) → (a ≡ b) ⊎ (a ≡ b → ⊥)
+same_or_apart a b = go (a == b) refl
+  where
+    go : (t : Bool) → (a == b) ≡ t → (a ≡ b) ⊎ (a ≡ b → ⊥)
+    go true is = inl (grind (arith, nat_tests))
+    go false is = inr (λ same. let t : true ≡ false = sym (is_same a b same) ∙ is in cc)
+
+none_there : (o : Option Home) → o ≡ None → is_some o ≡ true → ⊥
+none_there None is some = cc
+none_there (Some home) is some = cc
+
+-- what a table answers after a change
+get_put : (homes : Homes) (d : ℕ) (home : Home) → map.get (map.insert homes d home) d ≡ Some home
+get_put homes d home = get-insert nat_cmp_total homes d home d ∙ ap (λ b. cond b (Some home) (map.get homes d)) (unsigned_tied d d ∙ is_same d d refl)
+
+get_beside : (homes : Homes) (d : ℕ) (home : Home) (x : ℕ) → (x ≡ d → ⊥) → map.get (map.insert homes d home) x ≡ map.get homes x
+get_beside homes d home x apart = get-insert nat_cmp_total homes d home x ∙ ap (λ b. cond b (Some home) (map.get homes x)) (unsigned_tied x d ∙ is_apart x d apart)
+
+get_removed : (homes : Homes) (d : ℕ) → map.get (map.remove homes d) d ≡ None
+get_removed homes d = get-remove nat_cmp_total homes d d ∙ ap (λ b. cond b None (map.get homes d)) (unsigned_tied d d ∙ is_same d d refl)
+
+get_left : (homes : Homes) (d x : ℕ) → (x ≡ d → ⊥) → map.get (map.remove homes d) x ≡ map.get homes x
+get_left homes d x apart = get-remove nat_cmp_total homes d x ∙ ap (λ b. cond b None (map.get homes x)) (unsigned_tied x d ∙ is_apart x d apart)
+
+-- a chain whose directories keep their homes stays
+kept_chain : (old new : Homes) (Good : ℕ → Type 0) → ((x : ℕ) → Good x → map.get new x ≡ map.get old x) → ((x : ℕ) (home : Home) → Good x → map.get old x ≡ Some home → Good home.parent.0)
+    → (n x : ℕ) → Good x → Reaches old n x → Reaches new n x
+kept_chain old new Good same closed zero x good reaches = reaches
+kept_chain old new Good same closed (suc n) x good (home, is, reaches) =
+    (home, same x good ∙ is, kept_chain old new Good same closed n home.parent.0 (closed x home good is) reaches)
+
+-- the root has no home, so a directory with a home isn't the root
+not_root : (homes : Homes) (x : ℕ) (home : Home) → map.get homes 1 ≡ None → map.get homes x ≡ Some home → x ≡ 1 → ⊥
+not_root homes x home rootless is root = let clash : None ≡ Some home = sym rootless ∙ ap (λ k. map.get homes k) (sym root) ∙ is in cc
+
+-- the parent of a directory reaches the root with one step fewer
+pub parent_reaches : (homes : Homes) (n x : ℕ) (home : Home) → map.get homes 1 ≡ None → map.get homes x ≡ Some home → Reaches homes n x → (m : ℕ) × (n ≡ suc m) × Reaches homes m home.parent.0
+parent_reaches homes zero x home rootless is root = absurd (not_root homes x home rootless is root)
+parent_reaches homes (suc n) x home rootless is (other, stands, reaches) =
+    let alike : other ≡ home = cc in
+    (n, refl, subst (λ (h : Home). Reaches homes n h.parent.0) alike reaches)
+
+-- a known directory reaches the root
+known_reaches : (homes : Homes) → IsRooted homes → (x : ℕ) → is_known homes x ≡ true → (n : ℕ) × Reaches homes n x
+known_reaches homes rooted x known = go (same_or_apart x 1)
+  where
+    there : (o : Option Home) → map.get homes x ≡ o → is_some o ≡ true → (n : ℕ) × Reaches homes n x
+    there None is none = cc
+    there (Some home) is some = rooted.rooted x home is
+
+    go : (x ≡ 1) ⊎ (x ≡ 1 → ⊥) → (n : ℕ) × Reaches homes n x
+    go (inl root) = (0, root)
+    go (inr apart) = there (map.get homes x) refl (sym (ap (λ b. b || is_some (map.get homes x)) (is_apart x 1 apart)) ∙ known)
+
+-- the table of the root alone
+pub empty_rooted : IsRooted map.empty
+empty_rooted = record {
+  rootless = get-empty nat_cmp 1;
+  rooted = λ x home is. let clash : None ≡ Some home = sym (get-empty nat_cmp x) ∙ is in cc;
+}
+
+-- a new directory comes in
+pub adopted_rooted : (homes : Homes) (d : ℕ) (home : Home) → IsRooted homes → MayCome homes d home → IsRooted (map.insert homes d home)
+adopted_rooted homes d home rooted may = record {
+  rootless = get_beside homes d home 1 (λ root. may.other (sym root)) ∙ rooted.rootless;
+  rooted = λ x h is. go x h is (same_or_apart x d);
+}
+  where
+    Good : ℕ → Type 0
+    Good x = (n : ℕ) × Reaches homes n x
+
+    new : Homes
+    new = map.insert homes d home
+
+    other : (x : ℕ) → Good x → x ≡ d → ⊥
+    other x (zero, root) same = may.other (sym same ∙ root)
+    other x (suc n, (h, is, reaches)) same = let clash : None ≡ Some h = sym may.fresh ∙ ap (λ k. map.get homes k) (sym same) ∙ is in cc
+
+    beside : (x : ℕ) → Good x → map.get new x ≡ map.get homes x
+    beside x good = get_beside homes d home x (other x good)
+
+    closed : (x : ℕ) (h : Home) → Good x → map.get homes x ≡ Some h → Good h.parent.0
+    closed x h (n, reaches) is = let shorter = parent_reaches homes n x h rooted.rootless is reaches in (shorter.0, shorter.2)
+
+    still : (x : ℕ) → Good x → (n : ℕ) × Reaches new n x
+    still x (n, reaches) = (n, kept_chain homes new Good beside closed n x (n, reaches) reaches)
+
+    go : (x : ℕ) (h : Home) → map.get new x ≡ Some h → (x ≡ d) ⊎ (x ≡ d → ⊥) → (n : ℕ) × Reaches new n x
+    go x h is (inl same) =
+        let up = still home.parent.0 (known_reaches homes rooted home.parent.0 may.parent_known) in
+        (suc up.0, (home, ap (λ k. map.get new k) same ∙ get_put homes d home, up.1))
+    go x h is (inr apart) = still x (rooted.rooted x h (sym (get_beside homes d home x apart) ∙ is))
+
+-- a directory moves to a place that is not below it
+pub moved_rooted : (homes : Homes) (d : ℕ) (home : Home) → IsRooted homes → MayMove homes d home → IsRooted (map.insert homes d home)
+moved_rooted homes d home rooted may = record {
+  rootless = get_beside homes d home 1 root_stays ∙ rooted.rootless;
+  rooted = λ x h is. go x h is (same_or_apart x d);
+}
+  where
+    new : Homes
+    new = map.insert homes d home
+
+    root_stays : 1 ≡ d → ⊥
+    root_stays same = none_there (map.get homes d) (ap (λ k. map.get homes k) (sym same) ∙ rooted.rootless) may.there
+
+    Good : ℕ → Type 0
+    Good x = (x ≡ d → ⊥) × (IsAbove homes d x → ⊥)
+
+    beside : (x : ℕ) → Good x → map.get new x ≡ map.get homes x
+    beside x good = get_beside homes d home x good.0
+
+    closed : (x : ℕ) (h : Home) → Good x → map.get homes x ≡ Some h → Good h.parent.0
+    closed x h good is = (λ same. good.1 (parent x h is same), λ above. good.1 (further x h is above))
+
+    up : (n : ℕ) × Reaches new n home.parent.0
+    up =
+        let before = known_reaches homes rooted home.parent.0 may.parent_known in
+        (before.0, kept_chain homes new Good beside closed before.0 home.parent.0 (may.other, may.not_below) before.1)
+
+    moved : (x : ℕ) → x ≡ d → (n : ℕ) × Reaches new n x
+    moved x same = (suc up.0, (home, ap (λ k. map.get new k) same ∙ get_put homes d home, up.1))
+
+    still_by : (n x : ℕ) (h : Home) → map.get homes x ≡ Some h → (m : ℕ) × Reaches new m h.parent.0 → (x ≡ d) ⊎ (x ≡ d → ⊥) → (m : ℕ) × Reaches new m x
+    still_by n x h is rest (inl same) = moved x same
+    still_by n x h is rest (inr apart) = (suc rest.0, (h, get_beside homes d home x apart ∙ is, rest.1))
+
+    still : (n x : ℕ) → Reaches homes n x → (m : ℕ) × Reaches new m x
+    still zero x root = (0, root)
+    still (suc n) x (h, is, reaches) = still_by n x h is (still n h.parent.0 reaches) (same_or_apart x d)
+
+    go : (x : ℕ) (h : Home) → map.get new x ≡ Some h → (x ≡ d) ⊎ (x ≡ d → ⊥) → (n : ℕ) × Reaches new n x
+    go x h is (inl same) = moved x same
+    go x h is (inr apart) = let before = rooted.rooted x h (sym (get_beside homes d home x apart) ∙ is) in still before.0 x before.1
+
+-- a directory goes that is no one's parent
+pub dropped_rooted : (homes : Homes) (d : ℕ) → IsRooted homes → IsChildless homes d → IsRooted (map.remove homes d)
+dropped_rooted homes d rooted childless = record {
+  rootless = root_by (same_or_apart 1 d);
+  rooted = λ x h is. go x h is (same_or_apart x d);
+}
+  where
+    new : Homes
+    new = map.remove homes d
+
+    root_by : (1 ≡ d) ⊎ (1 ≡ d → ⊥) → map.get new 1 ≡ None
+    root_by (inl same) = ap (λ k. map.get new k) same ∙ get_removed homes d
+    root_by (inr apart) = get_left homes d 1 apart ∙ rooted.rootless
+
+    Good : ℕ → Type 0
+    Good x = x ≡ d → ⊥
+
+    go : (x : ℕ) (h : Home) → map.get new x ≡ Some h → (x ≡ d) ⊎ (x ≡ d → ⊥) → (n : ℕ) × Reaches new n x
+    go x h is (inl same) = let clash : None ≡ Some h = sym (get_removed homes d) ∙ ap (λ k. map.get new k) (sym same) ∙ is in cc
+    go x h is (inr apart) =
+        let before = rooted.rooted x h (sym (get_left homes d x apart) ∙ is) in
+        (before.0, kept_chain homes new Good (λ y good. get_left homes d y good) (λ y k good stands same. childless y k stands same) before.0 x apart before.1)
+
+-- two chains from a directory to the root are of one length
+same_height : (homes : Homes) (n m x : ℕ) → map.get homes 1 ≡ None → Reaches homes n x → Reaches homes m x → n ≡ m
+same_height homes zero zero x rootless root other = refl
+same_height homes zero (suc m) x rootless root (h, is, reaches) = absurd (not_root homes x h rootless is root)
+same_height homes (suc n) zero x rootless (h, is, reaches) root = absurd (not_root homes x h rootless is root)
+same_height homes (suc n) (suc m) x rootless (h, is, reaches) (k, stands, others) =
+    let alike : k ≡ h = cc in
+    ap suc (same_height homes n m h.parent.0 rootless reaches (subst (λ (j : Home). Reaches homes m j.parent.0) alike others))
+
+-- a chain that is shorter than that of x doesn't go through x
+around : (homes : Homes) (height x : ℕ) → map.get homes 1 ≡ None → Reaches homes height x → (m y : ℕ) → m < height → Reaches homes m y → Reaches (map.remove homes x) m y
+around homes height x rootless tall zero y less root = root
+around homes height x rootless tall (suc m) y less (h, is, reaches) =
+    (h, get_left homes x y apart ∙ is, around homes height x rootless tall m h.parent.0 (omega arith) reaches)
+  where
+    apart : y ≡ x → ⊥
+    apart same =
+        let length : height ≡ suc m = same_height homes height (suc m) x rootless tall (subst (λ z. Reaches homes (suc m) z) same (h, is, reaches)) in
+        omega arith
+
+-- a table has one directory fewer without one of its own
+one_fewer : (homes : Homes) (x : ℕ) (home : Home) → map.get homes x ≡ Some home → suc (map.len (map.remove homes x)) ≡ map.len homes
+one_fewer homes x home is =
+    let gone : map.len (map.remove homes x) ≡ map.len homes - 1 = len-remove nat_cmp_total homes x ∙ ap (λ (o : Option Home). cond (is_some o) (map.len homes - 1) (map.len homes)) is in
+    let some : map.len homes ≡ 0 → ⊥ = λ none. let clash : None ≡ Some home = sym (get-empty nat_cmp x) ∙ ap (λ (m : Homes). map.get m x) (sym (empty_of_len homes none)) ∙ is in cc in
+    omega arith
+
+-- a chain is no longer than the table
+pub within_table : (n : ℕ) (homes : Homes) (x : ℕ) → map.get homes 1 ≡ None → Reaches homes n x → n ≤ map.len homes
+within_table zero homes x rootless root = omega arith
+within_table (suc n) homes x rootless (h, is, reaches) =
+    let left = map.remove homes x in
+    let none : map.get left 1 ≡ None = get_left homes x 1 (λ same. not_root homes x h rootless is (sym same)) ∙ rootless in
+    let rest = within_table n left h.parent.0 none (around homes (suc n) x rootless (h, is, reaches) n h.parent.0 (omega arith) reaches) in
+    let fewer = one_fewer homes x h is in
+    omega arith
+
+parent_of : Option Home → ℕ
+parent_of None = 0
+parent_of (Some home) = home.parent.0
+
+-- how many parents lead on from a directory, counted no further than so many
+pub climbed : ℕ → Homes → ℕ → ℕ
+climbed zero homes x = 0
+climbed (suc fuel) homes x = cond (is_some (map.get homes x)) (suc (climbed fuel homes (parent_of (map.get homes x)))) 0
+
+climbed_is : (fuel : ℕ) (homes : Homes) (n x : ℕ) → map.get homes 1 ≡ None → Reaches homes n x → n ≤ fuel → climbed fuel homes x ≡ n
+unfolding climbed parent_of
+climbed_is zero homes n x rootless reaches few = let none : 0 ≡ n = omega arith in none
+climbed_is (suc fuel) homes zero x rootless root few =
+    let none : map.get homes x ≡ None = ap (λ k. map.get homes k) root ∙ rootless in
+    ap (λ (o : Option Home). cond (is_some o) (suc (climbed fuel homes (parent_of o))) 0) none
+climbed_is (suc fuel) homes (suc n) x rootless (h, is, reaches) few =
+    ap (λ (o : Option Home). cond (is_some o) (suc (climbed fuel homes (parent_of o))) 0) is
+    ∙ ap suc (climbed_is fuel homes n h.parent.0 rootless reaches (omega arith))
+
+-- a step to the parent is one step less to go
+pub nearer : (homes : Homes) (x : ℕ) (home : Home) → IsRooted homes → map.get homes x ≡ Some home → climbed (map.len homes) homes home.parent.0 < climbed (map.len homes) homes x
+nearer homes x home rooted is =
+    let up = rooted.rooted x home is in
+    let rest = parent_reaches homes up.0 x home rooted.rootless is up.1 in
+    let few : up.0 ≤ map.len homes = within_table up.0 homes x rooted.rootless up.1 in
+    let here : climbed (map.len homes) homes x ≡ up.0 = climbed_is (map.len homes) homes up.0 x rooted.rootless up.1 few in
+    let longer : up.0 ≡ suc rest.0 = rest.1 in
+    let there : climbed (map.len homes) homes home.parent.0 ≡ rest.0 = climbed_is (map.len homes) homes rest.0 home.parent.0 rooted.rootless rest.2 (omega arith) in
+    omega arith
+
+-- where a directory isn't the parent of x, it is above x exactly if it is above the parent of x
+pub above_parent : (homes : Homes) (d x : ℕ) (home : Home) → map.get homes x ≡ Some home → (home.parent.0 ≡ d → ⊥) → IsAbove homes d x ↔ IsAbove homes d home.parent.0
+above_parent homes d x home is apart = (down, λ above. further x home is above)
+  where
+    down : IsAbove homes d x → IsAbove homes d home.parent.0
+    down (parent x h stands same) = let alike : h ≡ home = cc in absurd (apart (sym (ap (λ (j : Home). j.parent.0) alike) ∙ same))
+    down (further x h stands above) = let alike : h ≡ home = cc in subst (λ (j : Home). IsAbove homes d j.parent.0) alike above
+
+-- above what has no home there is nothing
+pub none_above : (homes : Homes) (d x : ℕ) → map.get homes x ≡ None → IsAbove homes d x → ⊥
+none_above homes d _ none (parent x h stands same) = let clash : None ≡ Some h = sym none ∙ stands in cc
+none_above homes d _ none (further x h stands above) = let clash : None ≡ Some h = sym none ∙ stands in cc
+
+-- what a comparison of numbers told
+pub are_same : (a b : ℕ) → true ≡ (a == b) → a ≡ b
+are_same a b told = grind (arith, nat_tests)
+
+pub are_apart : (a b : ℕ) → false ≡ (a == b) → a ≡ b → ⊥
+are_apart a b told same = let clash : false ≡ true = told ∙ is_same a b same in cc
