@@ -1,0 +1,4 @@
+pub mod Rooms
+pub mod Seen
+pub mod Table
+pub mod TableLaws

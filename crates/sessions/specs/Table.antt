@@ -1,0 +1,79 @@
+-- The session table, without a word of memory, and what it says of a history.
+use Rattle.std.specs.Prelude.{◌≡◌, ℕ, ◌≤◌, max, false, List, Option, Some, None}
+use Rattle.std.specs.List.{list_any, slice_index_or}
+use Rattle.std.specs.Ordering.{nat_cmp}
+use Rattle.std.specs.FinMap as map
+use Rattle.sorted_map.specs.SortedMap.{is_from}
+use Rattle.mds_types.specs.declared.replies.Reply.{Reply}
+use Rattle.mds_types.specs.declared.entries.Entry.{Entry}
+use Rattle.mds_types.specs.History.{mark, is_pair, IsPairAt}
+use Rattle.sessions.specs.declared.clients.KeptReply.{KeptReply}
+
+-- what is known of a client: its mark, and the replies that are kept, by transaction number
+pub record Row : Type 0 where
+  pub mark : ℕ
+  pub kept : map.FinMap nat_cmp KeptReply
+
+-- the rows by client
+abbrev pub Table : Type 0
+Table = map.FinMap nat_cmp Row
+
+-- the row of a client of which nothing is known
+abbrev pub no_row : Row
+no_row = record { mark = 0; kept = map.empty }
+
+-- the row that was found, or else that one
+abbrev pub row_or_none : Option Row → Row
+row_or_none None = no_row
+row_or_none (Some row) = row
+
+-- what is known of this client,
+abbrev pub row_in : Table → ℕ → Row
+row_in table client = row_or_none (map.get table client)
+
+-- its mark,
+abbrev pub mark_in : Table → ℕ → ℕ
+mark_in table client = (row_in table client).mark
+
+-- and what is kept for its transaction number
+abbrev pub kept_in : Table → ℕ → ℕ → Option KeptReply
+kept_in table client tid = map.get (row_in table client).kept tid
+
+-- a row with one more reply: the mark rises to the request's oldest
+abbrev pub noted_row : Row → ℕ → ℕ → ℕ → Reply → Row
+noted_row row tid oldest place reply = record {
+  mark = max row.mark oldest;
+  kept = map.insert row.kept tid (record { place = place; reply = reply });
+}
+
+-- a row without the replies below its mark
+abbrev pub trimmed_row : Row → Row
+trimmed_row row = record { mark = row.mark; kept = map.retain_keys row.kept (is_from nat_cmp row.mark) }
+
+-- the table with one more reply to a client
+abbrev pub noted : Table → ℕ → ℕ → ℕ → ℕ → Reply → Table
+noted table client tid oldest place reply = map.insert table client (noted_row (row_in table client) tid oldest place reply)
+
+-- the table with the row that was found trimmed
+abbrev pub trimmed_found : Table → ℕ → Option Row → Table
+trimmed_found table client None = table
+trimmed_found table client (Some row) = map.insert table client (trimmed_row row)
+
+-- the table without a client's replies below its mark
+abbrev pub trimmed : Table → ℕ → Table
+trimmed table client = trimmed_found table client (map.get table client)
+
+-- the reply of the entry where the pair of client and transaction number stands
+pub record IsReplyAt (history : List Entry) (client tid : ℕ) (kept : KeptReply) : Type 0 where
+  pub at : IsPairAt history client tid kept.place
+  pub same : (e : Entry) → kept.reply ≡ (slice_index_or history kept.place e).reply
+
+-- what is kept for a pair: the reply of its entry if it stands in the history and isn't below the mark, and else nothing
+abbrev pub IsKeptFor : List Entry → ℕ → ℕ → Option KeptReply → Type 0
+IsKeptFor history client tid (Some kept) = (mark history client ≤ tid) × IsReplyAt history client tid kept
+IsKeptFor history client tid None = mark history client ≤ tid → list_any (is_pair client tid) history ≡ false
+
+-- the table is that of the history: each client's mark, and the replies at or above it
+pub record IsTableOf (history : List Entry) (table : Table) : Type 0 where
+  pub marks : (client : ℕ) → mark_in table client ≡ mark history client
+  pub replies : (client tid : ℕ) → IsKeptFor history client tid (kept_in table client tid)

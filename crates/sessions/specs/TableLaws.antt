@@ -1,0 +1,174 @@
+-- Laws of the table: that of no requests, that with one more, and what it tells.
+use Rattle.std.specs.Prelude.{◌≡◌, ℕ, ◌<◌, ◌≤◌, Bool, true, false, cond, ◌&&◌, ◌||◌, ◌==◌, max, List, [], ◌∷◌, ◌++◌, length, Option, Some, None, refl}
+use Rattle.std.specs.Ordering.{nat_cmp, is_le, eq_by_cmp}
+use Rattle.std.specs.declared.cmp.Ordering.{Ordering}
+use Rattle.std.specs.declared.cmp.Ordering.TheVariants.{Less, Equal, Greater}
+use Rattle.std.specs.Cmp.{nat_cmp_total, unsigned_tied, nat_eq_equiv, ranked}
+use Rattle.std.specs.FinMap as map
+use Rattle.std.specs.FinMap.{nat_cmp-IsAntisymmetric, get-empty, get-insert, get-retain_keys}
+use Rattle.std.proofs.Common.{sym, ap, subst, ◌∙◌, inl, inr, ⊎_elim, arith, eqb-true, eq-eqb}
+use Rattle.std.proofs.lemmas.Bool.{false≢true}
+use Rattle.std.proofs.lemmas.List.{length-append, get_or_append_left}
+use Rattle.std.proofs.lemmas.List.Folds.{list_any-append}
+use Rattle.std.proofs.lemmas.Map.Keys.{le_from_is_le}
+use Rattle.std.proofs.Math.Bool.{or-false}
+use Rattle.std.proofs.Math.Seq.{get_or-append_seam}
+use Rattle.sorted_map.specs.SortedMap.{is_from}
+use Rattle.mds_types.specs.declared.replies.Reply.{Reply}
+use Rattle.mds_types.specs.declared.entries.Entry.{Entry}
+use Rattle.mds_types.specs.History.{mark, is_pair}
+use Rattle.sessions.specs.declared.clients.KeptReply.{KeptReply}
+use Rattle.sessions.specs.declared.seen.Seen.{Seen}
+use Rattle.sessions.specs.declared.seen.Seen.TheVariants.{New, Kept, Trimmed}
+use Rattle.sessions.specs.Table.{Row, Table, row_or_none, row_in, kept_in, noted_row, trimmed_row, noted, trimmed, trimmed_found, IsReplyAt, IsKeptFor, IsTableOf}
+use Rattle.sessions.specs.Seen.{SeesInTable, IsSeen}
+
+is_from_le : {a b : ℕ} → a ≤ b → is_le (nat_cmp a b) ≡ true
+is_from_le {a} {b} low = go (nat_cmp a b) refl
+  where
+    go : (r : Ordering) → r ≡ nat_cmp a b → is_le r ≡ true
+    go Less e = refl
+    go Equal e = refl
+    go Greater e = let high : b < a = ranked a b Greater e in absurd (omega arith)
+
+-- the mark after one entry more
+pub mark-push : (past : List Entry) (e : Entry) (client : ℕ) → mark (past ++ e ∷ []) client ≡ cond (e.client == client) (max (mark past client) e.oldest) (mark past client)
+mark-push [] e client = go (e.client == client)
+  where
+    go : (b : Bool) → cond b (max e.oldest 0) 0 ≡ cond b (max 0 e.oldest) 0
+    go true = omega arith
+    go false = refl
+mark-push (x ∷ past) e client =
+    ap (λ m. cond (x.client == client) (max x.oldest m) m) (mark-push past e client) ∙ go (x.client == client) (e.client == client) (mark past client)
+  where
+    go : (a b : Bool) (m : ℕ) → cond a (max x.oldest (cond b (max m e.oldest) m)) (cond b (max m e.oldest) m) ≡ cond b (max (cond a (max x.oldest m) m) e.oldest) (cond a (max x.oldest m) m)
+    go true true m = omega arith
+    go true false m = refl
+    go false true m = refl
+    go false false m = refl
+
+-- the table of no requests
+pub table-none : IsTableOf [] map.empty
+table-none = record {
+  marks = λ client. ap (λ (o : Option Row). (row_or_none o).mark) (get-empty nat_cmp client);
+  replies = λ client tid. rw (get-empty nat_cmp client) (rw (get-empty nat_cmp tid) (λ _. refl));
+}
+
+-- what the table tells is what the history tells
+pub sees : (history : List Entry) (table : Table) (client tid oldest : ℕ) (seen : Seen) → IsTableOf history table → SeesInTable table client tid oldest seen → IsSeen history client tid oldest seen
+sees history table client tid oldest Trimmed h s = ⊎_elim (λ below. inl (subst (λ m. tid < m) (h.marks client) below)) inr s
+sees history table client tid oldest (Kept place reply) h (marked, own, is) =
+    let kept = subst (IsKeptFor history client tid) is (h.replies client tid) in
+    (record { marked = kept.0; own = own; at = kept.1.at }, kept.1.same)
+sees history table client tid oldest New h (marked, own, is) =
+    let above = subst (λ m. m ≤ tid) (h.marks client) marked in
+    record { marked = above; own = own; absent = subst (IsKeptFor history client tid) is (h.replies client tid) above }
+
+-- a client's row once a request was applied
+row_after : (table : Table) (client tid oldest place : ℕ) (reply : Reply) (q : ℕ) →
+    row_in (trimmed (noted table client tid oldest place reply) client) q ≡ cond (q == client) (trimmed_row (noted_row (row_in table client) tid oldest place reply)) (row_in table q)
+row_after table client tid oldest place reply q =
+    let row = noted_row (row_in table client) tid oldest place reply in
+    let there = get-insert nat_cmp_total table client row client ∙ ap (λ b. cond b (Some row) (map.get table client)) (unsigned_tied client client ∙ eq-eqb client client refl) in
+    ap (λ o. row_in (trimmed_found (map.insert table client row) client o) q) there
+    ∙ ap row_or_none (get-insert nat_cmp_total (map.insert table client row) client (trimmed_row row) q
+    ∙ ap (cond (eq_by_cmp nat_cmp q client) (Some (trimmed_row row))) (get-insert nat_cmp_total table client row q)
+    ∙ ap (λ b. cond b (Some (trimmed_row row)) (cond b (Some row) (map.get table q))) (unsigned_tied q client))
+    ∙ go row (q == client)
+  where
+    go : (row : Row) (b : Bool) → row_or_none (cond b (Some (trimmed_row row)) (cond b (Some row) (map.get table q))) ≡ cond b (trimmed_row row) (row_in table q)
+    go row true = refl
+    go row false = refl
+
+-- a reply stays that of its place
+still_there : (past : List Entry) (e : Entry) (client tid : ℕ) (kept : KeptReply) → IsReplyAt past client tid kept → IsReplyAt (past ++ e ∷ []) client tid kept
+still_there past e client tid kept h = record {
+  at = record {
+    in_range = omega (arith, length-append past (e ∷ []), h.at.in_range);
+    pair = λ d. rw (get_or_append_left past (e ∷ []) d kept.place h.at.in_range) (h.at.pair d);
+  };
+  same = λ d. h.same d ∙ ap (λ (x : Entry). x.reply) (sym (get_or_append_left past (e ∷ []) d kept.place h.at.in_range));
+}
+
+-- what is kept for another pair than the entry's
+others_kept : (past : List Entry) (e : Entry) (client tid : ℕ) → is_pair client tid e ≡ false → mark past client ≤ mark (past ++ e ∷ []) client
+    → (mark past client ≤ tid → mark (past ++ e ∷ []) client ≤ tid) → (o : Option KeptReply) → IsKeptFor past client tid o → IsKeptFor (past ++ e ∷ []) client tid o
+others_kept past e client tid other rises stays (Some kept) (marked, h) = (stays marked, still_there past e client tid kept h)
+others_kept past e client tid other rises stays None absent =
+    λ marked. list_any-append (is_pair client tid) past (e ∷ []) ∙ ap (λ b. b || (is_pair client tid e || false)) (absent (omega arith)) ∙ or-false (is_pair client tid e) ∙ other
+
+-- what is kept for the entry's own client
+own_kept : (past : List Entry) (e : Entry) (tid : ℕ) → (row : Row) → row.mark ≡ mark past e.client → ((t : ℕ) → IsKeptFor past e.client t (map.get row.kept t))
+    → IsKeptFor (past ++ e ∷ []) e.client tid (map.get (trimmed_row (noted_row row e.tid e.oldest (length past) e.reply)).kept tid)
+own_kept past e tid row is h =
+    subst (IsKeptFor (past ++ e ∷ []) e.client tid) (sym kept) (go (is_le (nat_cmp risen tid)) refl (tid == e.tid) refl)
+  where
+    risen : ℕ
+    risen = max row.mark e.oldest
+
+    new : KeptReply
+    new = record { place = length past; reply = e.reply }
+
+    marked : mark (past ++ e ∷ []) e.client ≡ risen
+    marked = mark-push past e e.client ∙ ap (λ b. cond b (max (mark past e.client) e.oldest) (mark past e.client)) (eq-eqb e.client e.client refl) ∙ ap (λ m. max m e.oldest) (sym is)
+
+    kept : map.get (trimmed_row (noted_row row e.tid e.oldest (length past) e.reply)).kept tid ≡ cond (is_le (nat_cmp risen tid)) (cond (tid == e.tid) (Some new) (map.get row.kept tid)) None
+    kept =
+        get-retain_keys (map.insert row.kept e.tid new) (is_from nat_cmp risen) tid (λ x t. ap (is_from nat_cmp risen) (sym (nat_cmp-IsAntisymmetric tid x t)))
+        ∙ ap (λ o. cond (is_le (nat_cmp risen tid)) o None) (get-insert nat_cmp_total row.kept e.tid new tid ∙ ap (λ b. cond b (Some new) (map.get row.kept tid)) (unsigned_tied tid e.tid))
+
+    at_end : tid ≡ e.tid → IsReplyAt (past ++ e ∷ []) e.client tid new
+    at_end same = record {
+      at = record {
+        in_range = omega (arith, length-append past (e ∷ []));
+        pair = λ d. rw (get_or-append_seam past e [] d, eq-eqb e.client e.client refl) (eq-eqb e.tid tid (sym same));
+      };
+      same = λ d. ap (λ (x : Entry). x.reply) (sym (get_or-append_seam past e [] d));
+    }
+
+    other : (tid == e.tid) ≡ false → is_pair e.client tid e ≡ false
+    other apart = ap (λ b. b && (e.tid == tid)) (eq-eqb e.client e.client refl) ∙ nat_eq_equiv.symm e.tid tid ∙ apart
+
+    go : (b : Bool) → is_le (nat_cmp risen tid) ≡ b → (c : Bool) → (tid == e.tid) ≡ c → IsKeptFor (past ++ e ∷ []) e.client tid (cond b (cond c (Some new) (map.get row.kept tid)) None)
+    go true above true same = let low = le_from_is_le risen tid above in (subst (λ m. m ≤ tid) (sym marked) low, at_end (eqb-true tid e.tid same))
+    go true above false apart =
+        let low = le_from_is_le risen tid above in
+        others_kept past e e.client tid (other apart) (omega (arith, marked, is)) (λ _. subst (λ m. m ≤ tid) (sym marked) low) (map.get row.kept tid) (h tid)
+    go false below c _ = λ low. absurd (false≢true (sym below ∙ is_from_le (subst (λ m. m ≤ tid) marked low)))
+
+-- once an applied request is noted and its client trimmed, the table is that of the history with its entry
+pub table-push : (past : List Entry) (table : Table) (e : Entry) → IsTableOf past table
+    → IsTableOf (past ++ e ∷ []) (trimmed (noted table e.client e.tid e.oldest (length past) e.reply) e.client)
+table-push past table e h = record { marks = marks; replies = replies }
+  where
+    row : Row
+    row = row_in table e.client
+
+    after : Row
+    after = trimmed_row (noted_row row e.tid e.oldest (length past) e.reply)
+
+    now : ℕ → Row
+    now q = row_in (trimmed (noted table e.client e.tid e.oldest (length past) e.reply) e.client) q
+
+    is : (q : ℕ) → now q ≡ cond (q == e.client) after (row_in table q)
+    is q = row_after table e.client e.tid e.oldest (length past) e.reply q
+
+    unmarked : (q : ℕ) → (q == e.client) ≡ false → mark (past ++ e ∷ []) q ≡ mark past q
+    unmarked q apart = mark-push past e q ∙ ap (λ b. cond b (max (mark past q) e.oldest) (mark past q)) (nat_eq_equiv.symm e.client q ∙ apart)
+
+    marks : (q : ℕ) → (now q).mark ≡ mark (past ++ e ∷ []) q
+    marks q = ap (λ (r : Row). r.mark) (is q) ∙ go (q == e.client) refl
+      where
+        go : (b : Bool) → (q == e.client) ≡ b → (cond b after (row_in table q)).mark ≡ mark (past ++ e ∷ []) q
+        go true same = let one = eqb-true q e.client same in
+            ap (λ m. max m e.oldest) (h.marks e.client) ∙ sym (mark-push past e q ∙ ap (λ b. cond b (max (mark past q) e.oldest) (mark past q)) (nat_eq_equiv.symm e.client q ∙ same) ∙ ap (λ c. max (mark past c) e.oldest) one)
+        go false apart = h.marks q ∙ sym (unmarked q apart)
+
+    replies : (q tid : ℕ) → IsKeptFor (past ++ e ∷ []) q tid (map.get (now q).kept tid)
+    replies q tid = subst (λ (r : Row). IsKeptFor (past ++ e ∷ []) q tid (map.get r.kept tid)) (sym (is q)) (go (q == e.client) refl)
+      where
+        go : (b : Bool) → (q == e.client) ≡ b → IsKeptFor (past ++ e ∷ []) q tid (map.get (cond b after (row_in table q)).kept tid)
+        go true same = subst (λ c. IsKeptFor (past ++ e ∷ []) c tid (map.get after.kept tid)) (sym (eqb-true q e.client same)) (own_kept past e tid row (h.marks e.client) (h.replies e.client))
+        go false apart =
+            let grown = unmarked q apart in
+            others_kept past e q tid (ap (λ b. b && (e.tid == tid)) (nat_eq_equiv.symm e.client q ∙ apart)) (omega (arith, grown)) (λ low. subst (λ m. m ≤ tid) (sym grown) low) (kept_in table q tid) (h.replies q tid)

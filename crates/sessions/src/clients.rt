@@ -1,0 +1,87 @@
+//! What is kept for one client.
+ghost use Rattle.std.specs.Prelude.{◌≡◌, ◌<◌, OnOk, OnErr};
+ghost use Rattle.sessions.specs.Table.{no_row, noted_row, trimmed_row};
+ghost use Rattle.sessions.specs.Seen.{SeesInRow};
+
+use crate::seen::Seen;
+use mds_types::Reply;
+use sorted_map::SortedMap;
+use std::alloc::{AllocError, Global};
+use std::marker::Model;
+
+/// A reply that was given, and the place of its entry in the history.
+#[derive(Debug, Drop)]
+pub(crate) struct KeptReply {
+    place: usize,
+    reply: Reply,
+}
+
+/// A client's mark, and the replies that are kept for its transaction numbers.
+#[derive(Debug, Drop)]
+pub(crate) struct Client {
+    mark: u64,
+    kept: SortedMap<u64, KeptReply>,
+}
+
+impl Model for Client {
+    ghost use Rattle.std.specs.Ordering.{nat_cmp};
+    ghost use Rattle.std.specs.Coded.{codes};
+    ghost use Rattle.std.specs.FinMap as map;
+    ghost use Rattle.sorted_map.specs.SortedMap.{contents};
+    ghost use Rattle.sessions.specs.Rooms.{Session};
+
+    ghost Value = { Session };
+
+    ghost coded = { Prim.hlevel (codes, map.code) };
+
+    ghost view = { λ c. record { row = record { mark = c.mark; kept = contents nat_cmp c.kept }; room = c.kept.room } };
+}
+
+impl Client {
+    /// A client of which nothing is known.
+    pub(crate) fn new(alloc: Global) -> Client
+        ensures { result.row ≡ no_row }
+    {
+        Client {
+            mark: 0,
+            kept: SortedMap::new(alloc),
+        }
+    }
+
+    /// Makes room for one more reply.
+    pub(crate) fn reserve(&mut self) -> Result<(), AllocError>
+        ensures room { OnOk result (0 < self.new.room) }
+        ensures same { self.new.row ≡ self.old.row }
+    {
+        self.kept.reserve(1)
+    }
+
+    /// Keeps a reply, for which there is room.
+    pub(crate) fn keep(&mut self, tid: u64, oldest: u64, place: usize, reply: Reply)
+        requires { 0 < self.old.room }
+        ensures { self.new.row ≡ noted_row self.old.row tid oldest place reply }
+    {
+        self.mark = self.mark.max(oldest);
+        let _ = self.kept.insert(tid, KeptReply { place, reply });
+    }
+
+    /// Forgets the replies below the mark.
+    pub(crate) fn trim(&mut self)
+        ensures { self.new.row ≡ trimmed_row self.old.row }
+    {
+        self.kept.remove_below(&self.mark);
+    }
+
+    /// What a request of the client is to the applied ones.
+    pub(crate) fn seen(&self, tid: u64, oldest: u64) -> Seen<'_>
+        ensures { SeesInRow self.now.row tid oldest result }
+    {
+        if tid < self.mark || tid < oldest {
+            return Seen::Trimmed;
+        }
+        match self.kept.get(&tid) {
+            Some(kept) => Seen::Kept(kept.place, &kept.reply),
+            None => Seen::New,
+        }
+    }
+}

@@ -1,0 +1,13 @@
+//! The session table: for each client its mark, the greatest `oldest` among its applied requests, and the replies that
+//! were given to its transaction numbers at or above the mark. It tells whether a request that came again was applied
+//! before, without a walk of the history: a look-up of the client and one of the number.
+#![tactic(auto)]
+
+mod clients;
+mod seen;
+mod session_table;
+#[cfg(test)]
+mod tests;
+
+pub use seen::Seen;
+pub use session_table::Sessions;
