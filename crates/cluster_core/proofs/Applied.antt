@@ -11,6 +11,7 @@ use Rattle.mds_types.specs.StepLaws.{unused}
 use Rattle.mds_types.specs.History.{after, IsNext, IsLawful}
 use Rattle.mds_types.specs.HistoryLaws.{after-push, legal-push, used-push}
 use Rattle.inode_table.specs.Numbers.{Supply, IsSupply, offer, first_number, end_number}
+use Rattle.sessions.specs.TableLaws.{table-push}
 use Rattle.cluster_core.specs.Core.{Core}
 use Rattle.cluster_core.specs.Offer.{after_taking}
 use Rattle.cluster_core.specs.Serve.{IsApplied, entry_of, number_of, outcome_of}
@@ -99,4 +100,5 @@ sound-applied opening past now old new request rest client tid place reply sound
       replayed = ap (λ (o : Outcome). o.tree) (sym same) ∙ sym (after-push opening past e);
       supplied = after_taking-supplied old.numbers e.number sound.supplied t.next_one;
       fresh = after_taking-fresh opening past old.numbers e sound.fresh (λ n is. (t.next_one n is).0);
+      kept = table-push past old.sessions e sound.kept;
     })

@@ -8,6 +8,7 @@ use Rattle.mds_types.specs.declared.refusals.Refusal.TheVariants.{NoMemory, Stor
 use Rattle.mds_types.specs.Tree.{Tree, numbers}
 use Rattle.mds_types.specs.TreeLaws.{entries-empty}
 use Rattle.mds_types.specs.History.{IsUsed}
+use Rattle.sessions.specs.TableLaws.{table-none}
 use Rattle.cluster_core.specs.declared.answers.Answer.{Answer}
 use Rattle.cluster_core.specs.declared.answers.Answer.TheVariants.{Nothing, Reply}
 use Rattle.cluster_core.specs.declared.events.Event.{Event}
@@ -20,22 +21,23 @@ use Rattle.cluster_core.proofs.Applied.{sound-applied}
 
 module _ (opening : Tree) (past now : List Entry) (old new : Core) (sound : IsSound opening past old) where
   -- the inbox has no part in it
-  sound-same : now ≡ past → new.shown ≡ old.shown → new.numbers ≡ old.numbers → IsSound opening now new
-  sound-same same shown numbers = record {
+  sound-same : now ≡ past → new.shown ≡ old.shown → new.numbers ≡ old.numbers → new.sessions ≡ old.sessions → IsSound opening now new
+  sound-same same shown numbers sessions = record {
     legal = rw same sound.legal;
     replayed = rw (same, shown) sound.replayed;
     supplied = rw numbers sound.supplied;
     fresh = rw (same, numbers) sound.fresh;
+    kept = rw (same, sessions) sound.kept;
   }
 
   sound-waiting : IsLeftWaiting old new past now → IsSound opening now new
-  sound-waiting h = sound-same h.same (ap (λ (c : Core). c.shown) h.left) (ap (λ (c : Core). c.numbers) h.left)
+  sound-waiting h = sound-same h.same (ap (λ (c : Core). c.shown) h.left) (ap (λ (c : Core). c.numbers) h.left) (ap (λ (c : Core). c.sessions) h.left)
 
   sound-out : {rest : List Request} → IsTakenOut old new past now rest → IsSound opening now new
-  sound-out h = sound-same h.same (ap (λ (c : Core). c.shown) h.left) (ap (λ (c : Core). c.numbers) h.left)
+  sound-out h = sound-same h.same (ap (λ (c : Core). c.shown) h.left) (ap (λ (c : Core). c.numbers) h.left) (ap (λ (c : Core). c.sessions) h.left)
 
   arrived : (request : Request) (result : Result Answer Refusal) → ArrivesInbox old new past now request result → IsSound opening now new
-  arrived request (Ok Nothing) h = sound-same h.2 (ap (λ (c : Core). c.shown) h.1) (ap (λ (c : Core). c.numbers) h.1)
+  arrived request (Ok Nothing) h = sound-same h.2 (ap (λ (c : Core). c.shown) h.1) (ap (λ (c : Core). c.numbers) h.1) (ap (λ (c : Core). c.sessions) h.1)
   arrived request (Ok (Reply client tid place first reply)) h = absurd h
   arrived request (Err InboxFull) h = sound-waiting h.1
   arrived request (Err NoMemory) h = sound-waiting h.1
@@ -59,7 +61,7 @@ module _ (opening : Tree) (past now : List Entry) (old new : Core) (sound : IsSo
   served : (request : Request) (rest : List Request) (result : Result Answer Refusal) → ServesRequest old new past now MayRefuse request rest result → IsSound opening now new
   served request rest (Ok Nothing) h = absurd h
   served request rest (Ok (Reply client tid place true reply)) h = sound-applied opening past now old new request rest client tid place reply sound h
-  served request rest (Ok (Reply client tid place false reply)) h = sound-same h.same (ap (λ (c : Core). c.shown) h.left) (ap (λ (c : Core). c.numbers) h.left)
+  served request rest (Ok (Reply client tid place false reply)) h = sound-same h.same (ap (λ (c : Core). c.shown) h.left) (ap (λ (c : Core). c.numbers) h.left) (ap (λ (c : Core). c.sessions) h.left)
   served request rest (Err Trimmed) h = sound-out h.1
   served request rest (Err NoInodes) h = sound-out h.2
   served request rest (Err NoMemory) h = sound-waiting h.1
@@ -101,10 +103,11 @@ unused-empty n low (inr (inl (k, below, is))) =
 unused-empty n low (inr (inr (k, x, below, is, took))) = omega arith
 
 -- an empty book is sound
-pub sound-empty : (core : Core) → core.shown ≡ finmap.empty → core.numbers ≡ record { rank = 0; next = 2 ^ 40 } → IsSound finmap.empty [] core
-sound-empty core shown numbers = record {
+pub sound-empty : (core : Core) → core.shown ≡ finmap.empty → core.numbers ≡ record { rank = 0; next = 2 ^ 40 } → core.sessions ≡ finmap.empty → IsSound finmap.empty [] core
+sound-empty core shown numbers sessions = record {
   legal = λ k e below. absurd (omega arith);
   replayed = shown;
   supplied = rw numbers (record { ranked = omega arith; started = omega arith; ended = omega arith });
   fresh = rw numbers (λ n low high used. absurd (unused-empty n low used));
+  kept = rw sessions table-none;
 }

@@ -7,7 +7,6 @@ pub mod Inbox
 pub mod Offer
 pub mod Prepared
 pub mod Runs
-pub mod Seen
 pub mod Serve
 pub mod Sound
 pub mod Steps

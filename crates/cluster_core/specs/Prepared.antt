@@ -11,4 +11,5 @@ use Rattle.cluster_core.specs.declared.serving.Prepared.{Prepared}
 pub record IsPrepared (tree : Tree) (IsReady : Place → Type 0) (outcome : Outcome) (numbers : Supply) (prepared : Prepared) : Type 0 where
   pub planned : IsPlanned tree IsReady outcome (offer numbers) prepared.plan
   pub copied : prepared.answer ≡ prepared.plan.reply
+  pub kept : prepared.kept ≡ prepared.plan.reply
   pub drawn : prepared.numbers ≡ after_taking numbers prepared.plan.number

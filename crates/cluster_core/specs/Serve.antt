@@ -10,6 +10,7 @@ use Rattle.mds_types.specs.declared.refusals.Refusal.TheVariants.{NoMemory, Stor
 use Rattle.mds_types.specs.Step.{Outcome, step, number_or}
 use Rattle.mds_types.specs.History.{IsTrimmed, IsKeptAt, IsNew}
 use Rattle.inode_table.specs.Numbers.{offer}
+use Rattle.sessions.specs.Table.{Table, noted, trimmed}
 use Rattle.namespace_ops.specs.Served.{LacksNumber}
 use Rattle.cluster_core.specs.declared.answers.Answer.{Answer}
 use Rattle.cluster_core.specs.declared.answers.Answer.TheVariants.{Nothing, Reply}
@@ -35,6 +36,10 @@ entry_of core request = record {
   reply = (outcome_of core request).reply;
 }
 
+-- the sessions with the reply of an entry at this place; what its client's mark leaves behind is forgotten
+abbrev pub with_entry : Table → ℕ → Entry → Table
+with_entry sessions place e = trimmed (noted sessions e.client e.tid e.oldest place e.reply) e.client
+
 -- the cluster once a request has left the inbox, and nothing else happened
 abbrev pub without_front : Core → List Request → Core
 without_front core rest = record core { inbox = rest }
@@ -49,7 +54,7 @@ pub record IsApplied (old new : Core) (past now : List Entry) (request : Request
   -- where the table takes a number, there is one
   pub numbered : offer old.numbers ≡ None → (outcome_of old request).takes ≡ false
   pub appended : now ≡ past ++ entry_of old request ∷ []
-  pub left : new ≡ record { shown = (outcome_of old request).tree; inbox = rest; numbers = after_taking old.numbers (number_of old request) }
+  pub left : new ≡ record { shown = (outcome_of old request).tree; inbox = rest; numbers = after_taking old.numbers (number_of old request); sessions = with_entry old.sessions (length past) (entry_of old request) }
 
 -- a request that was applied before is answered again: the reply of its place, and nothing changes but the inbox
 pub record IsRepeated (old new : Core) (past now : List Entry) (request : Request) (rest : List Request) (client tid place : ℕ) (reply : Replied) : Type 0 where
@@ -94,10 +99,10 @@ abbrev pub ServesInbox : (old new : Core) → (past now : List Entry) → (MayRe
 ServesInbox old new past now MayRefuse result [] = (result ≡ Err InboxEmpty) × IsLeftWaiting old new past now
 ServesInbox old new past now MayRefuse result (request ∷ rest) = ServesRequest old new past now MayRefuse request rest result
 
--- the front is answered again from this place of the history; for want of memory it stays
-abbrev pub RepeatsFront : (old new : List Request) → List Entry → ℕ → Result Answer Refusal → Type 0
-RepeatsFront old new history at (Ok Nothing) = ⊥
-RepeatsFront old new history at (Ok (Reply client tid place first reply)) =
-    (request : Request) × (old ≡ request ∷ new) × (client ≡ request.client) × (tid ≡ request.tid) × (place ≡ at) × (first ≡ false) × ((e : Entry) → reply ≡ (slice_index_or history at e).reply)
-RepeatsFront old new history at (Err NoMemory) = new ≡ old
-RepeatsFront old new history at (Err other) = ⊥
+-- the front is answered again with the reply that it got at this place; for want of memory it stays
+abbrev pub RepeatsFront : (old new : List Request) → ℕ → Replied → Result Answer Refusal → Type 0
+RepeatsFront old new at said (Ok Nothing) = ⊥
+RepeatsFront old new at said (Ok (Reply client tid place first reply)) =
+    (request : Request) × (old ≡ request ∷ new) × (client ≡ request.client) × (tid ≡ request.tid) × (place ≡ at) × (first ≡ false) × (reply ≡ said)
+RepeatsFront old new at said (Err NoMemory) = new ≡ old
+RepeatsFront old new at said (Err other) = ⊥

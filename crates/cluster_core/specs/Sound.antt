@@ -4,18 +4,21 @@ use Rattle.mds_types.specs.declared.entries.Entry.{Entry}
 use Rattle.mds_types.specs.Tree.{Tree}
 use Rattle.mds_types.specs.History.{after, IsLegal, IsUsed}
 use Rattle.inode_table.specs.Numbers.{Supply, IsSupply, first_number, end_number}
+use Rattle.sessions.specs.Table.{IsTableOf}
 use Rattle.cluster_core.specs.Core.{Core, Kept}
 
 -- of a rank's range, only numbers below its next are used
 abbrev pub IsFresh : Tree → List Entry → Supply → Type 0
 IsFresh opening history s = (n : ℕ) → first_number s.rank ≤ n → n < end_number s.rank → IsUsed opening history n → n < s.next
 
--- the history is legal from the opening tree, the shown tree is the tree after it, and no number is given twice
+-- the history is legal from the opening tree, the shown tree is the tree after it, no number is given twice, and the sessions
+-- are those of the history
 pub record IsSound (opening : Tree) (history : List Entry) (core : Core) : Type 0 where
   pub legal : IsLegal opening history
   pub replayed : core.shown ≡ after opening history
   pub supplied : IsSupply core.numbers
   pub fresh : IsFresh opening history core.numbers
+  pub kept : IsTableOf history core.sessions
 
 -- a book is sound if its parts are
 abbrev pub IsSoundBook : Kept → Type 0

@@ -2,6 +2,7 @@
 ghost use Rattle.std.specs.Prelude.{◌≡◌, ◌^◌, [], nat_lt};
 ghost use Rattle.std.specs.FinMap as map;
 ghost use Rattle.cluster_core.specs.Steps.{Steps, AtRank, ArrivesInbox, MayRefuse, ranks};
+ghost use Rattle.sessions.specs.Table.{IsTableOf};
 ghost use Rattle.cluster_core.specs.Serve.{ServesInbox};
 
 use crate::answers::Answer;
@@ -11,6 +12,7 @@ use crate::serving::serve_front;
 use inode_table::Numbers;
 use mds_types::{Entry, Rank, Refusal, Request};
 use namespace_ops::PlainFrags;
+use sessions::Sessions;
 use std::alloc::Global;
 use std::marker::Model;
 
@@ -20,18 +22,20 @@ pub struct Cluster {
     frags: PlainFrags,
     inbox: Inbox,
     numbers: Numbers,
+    sessions: Sessions,
 }
 
 impl Model for Cluster {
     ghost use Rattle.std.specs.Coded.{codes};
     ghost use Rattle.std.specs.FinMap as map;
+    ghost use Rattle.sessions.specs.Rooms.{table};
     ghost use Rattle.cluster_core.specs.Core.{Core};
 
     ghost Value = { Core };
 
     ghost coded = { Prim.hlevel (codes, map.code) };
 
-    ghost view = { λ c. record { shown = c.frags.tree; inbox = c.inbox; numbers = c.numbers } };
+    ghost view = { λ c. record { shown = c.frags.tree; inbox = c.inbox; numbers = c.numbers; sessions = table c.sessions } };
 }
 
 impl Cluster {
@@ -43,21 +47,24 @@ impl Cluster {
         ensures empty { result.shown ≡ map.empty }
         ensures waiting { result.inbox ≡ [] }
         ensures numbers { result.numbers ≡ record { rank = 0; next = 2 ^ 40 } }
+        ensures sessions { result.sessions ≡ map.empty }
     {
         Cluster {
             frags: PlainFrags::new(alloc),
             inbox: Inbox::new(alloc),
             numbers: Numbers::from(Rank(0), Numbers::first_of(Rank(0)).0),
+            sessions: Sessions::new(alloc),
         }
     }
 
-    /// One event, one atomic step.
+    /// One event, one atomic step. The history is that whose replies the cluster's sessions keep.
     pub fn step(
         &mut self,
         alloc: Global,
         history: &mut Vec<Entry>,
         event: Event,
     ) -> Result<Answer, Refusal>
+        requires { IsTableOf history.old.items self.old.sessions }
         ensures { Steps self.old self.new history.old.items history.new.items result event }
     {
         match event {
@@ -84,6 +91,7 @@ impl Cluster {
         history: &mut Vec<Entry>,
         rank: Rank,
     ) -> Result<Answer, Refusal>
+        requires { IsTableOf history.old.items self.old.sessions }
         ensures { AtRank self.old self.new history.old.items history.new.items rank result
             (ServesInbox self.old self.new history.old.items history.new.items MayRefuse result self.old.inbox) }
     {
@@ -95,6 +103,7 @@ impl Cluster {
             &mut self.frags,
             &mut self.inbox,
             &mut self.numbers,
+            &mut self.sessions,
             history,
         )
     }

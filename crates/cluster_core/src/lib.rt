@@ -8,7 +8,6 @@ mod events;
 mod inboxes;
 mod plain_trees;
 mod runs;
-mod seen;
 mod serving;
 mod supplies;
 

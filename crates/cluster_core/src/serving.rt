@@ -4,16 +4,18 @@ ghost use Rattle.mds_types.specs.Step.{step, number_or};
 ghost use Rattle.inode_table.specs.Numbers.{offer};
 ghost use Rattle.namespace_ops.specs.Planned.{IsReadyToChange, changed};
 ghost use Rattle.namespace_ops.specs.Served.{IsRefused};
+ghost use Rattle.sessions.specs.Table.{IsTableOf, noted, trimmed};
+ghost use Rattle.sessions.specs.Rooms.{IsReady, table};
 ghost use Rattle.cluster_core.specs.Serve.{ServesInbox, RepeatsFront};
 ghost use Rattle.cluster_core.specs.Prepared.{IsPrepared};
 
 use crate::answers::Answer;
 use crate::inboxes::Inbox;
-use crate::seen::{Seen, standing_of};
 use crate::supplies::supply_after;
 use inode_table::Numbers;
 use mds_types::{Entry, Op, Refusal, Reply, Request};
 use namespace_ops::{Frags, Plan, carry_out, plan_op};
+use sessions::{Seen, Sessions};
 use std::alloc::Global;
 
 /// All that applying a request needs, made before its first change.
@@ -22,16 +24,21 @@ pub struct Prepared {
     plan: Plan,
     /// The reply once more, for the client.
     answer: Reply,
+    /// And once more, for the sessions.
+    kept: Reply,
     /// The rank's numbers afterwards.
     numbers: Numbers,
 }
 
-/// Makes everything that applying an operation needs: room for its entry in the history, its plan, the copy of its reply.
+/// Makes everything that applying an operation of a client needs: room for its entry in the history and for its reply in the
+/// sessions, its plan, the copies of its reply.
 pub fn prepare<F: Frags>(
     alloc: Global,
     frags: &mut F,
     numbers: Numbers,
+    sessions: &mut Sessions,
     history: &mut Vec<Entry>,
+    client: u64,
     op: &Op,
 ) -> Result<Prepared, Refusal>
     ensures prepared { let outcome = step (F.content frags.old) op.now (number_or (offer numbers)) in
@@ -39,17 +46,22 @@ pub fn prepare<F: Frags>(
         (IsPrepared (F.content frags.old) (F.IsReady frags.new) outcome numbers)
         (IsRefused (F.content frags.old) (F.content frags.new) (F.MayRefuse frags.old frags.new) outcome (offer numbers)) }
     ensures room { OnOk result (vec_len history.new < vec_capacity history.new) }
+    ensures reserved { OnOk result (IsReady sessions.new client) }
     ensures past { history.new.items ≡ history.old.items }
+    ensures known { table sessions.new ≡ table sessions.old }
     ensures same { F.content frags.new ≡ F.content frags.old }
     ensures follows { F.Follows frags.old frags.new }
 {
     history.reserve(1)?;
+    sessions.reserve(alloc, client)?;
     let plan = plan_op(alloc, frags, op, numbers.peek())?;
     let answer = plan.reply.try_clone()?;
+    let kept = plan.reply.try_clone()?;
     let numbers = supply_after(numbers, plan.number);
     Ok(Prepared {
         plan,
         answer,
+        kept,
         numbers,
     })
 }
@@ -58,12 +70,14 @@ pub fn prepare<F: Frags>(
 pub fn commit<F: Frags>(
     frags: &mut F,
     numbers: &mut Numbers,
+    sessions: &mut Sessions,
     history: &mut Vec<Entry>,
     request: Request,
     prepared: Prepared,
 ) -> Answer
     requires ready { IsReadyToChange (F.content frags.old) (F.IsReady frags.old) prepared.plan.change }
     requires room { vec_len history.old < vec_capacity history.old }
+    requires reserved { IsReady sessions.old request.client }
     ensures tree { F.content frags.new ≡ changed (F.content frags.old) prepared.plan.change }
     ensures appended { history.new.items ≡ history.old.items ++ record {
       client = request.client;
@@ -74,6 +88,7 @@ pub fn commit<F: Frags>(
       reply = prepared.plan.reply;
     } ∷ [] }
     ensures drawn { numbers.new ≡ prepared.numbers }
+    ensures known { table sessions.new ≡ trimmed (noted (table sessions.old) request.client request.tid request.oldest (vec_len history.old) prepared.kept) request.client }
     ensures answer { result ≡ Answer.Reply request.client request.tid (vec_len history.old) true prepared.answer }
     ensures follows { F.Follows frags.old frags.new }
 {
@@ -86,11 +101,14 @@ pub fn commit<F: Frags>(
     let Prepared {
         plan,
         answer,
+        kept,
         numbers: left,
     } = prepared;
     let place = history.len();
     carry_out(frags, plan.change);
     *numbers = left;
+    sessions.keep(client, tid, oldest, place, kept);
+    sessions.trim(client);
     let _ = history.push(Entry {
         client,
         tid,
@@ -114,29 +132,39 @@ pub fn serve_front<F: Frags>(
     frags: &mut F,
     inbox: &mut Inbox,
     numbers: &mut Numbers,
+    sessions: &mut Sessions,
     history: &mut Vec<Entry>,
 ) -> Result<Answer, Refusal>
+    requires known { IsTableOf history.old.items (table sessions.old) }
     ensures served { ServesInbox
-        (record { shown = F.content frags.old; inbox = inbox.old; numbers = numbers.old })
-        (record { shown = F.content frags.new; inbox = inbox.new; numbers = numbers.new })
+        (record { shown = F.content frags.old; inbox = inbox.old; numbers = numbers.old; sessions = table sessions.old })
+        (record { shown = F.content frags.new; inbox = inbox.new; numbers = numbers.new; sessions = table sessions.new })
         history.old.items history.new.items (F.MayRefuse frags.old frags.new) result inbox.old }
     ensures follows { F.Follows frags.old frags.new }
 {
     let Some(front) = inbox.front() else {
         return Err(Refusal::InboxEmpty)
     };
-    match standing_of(history, front.client, front.tid, front.oldest) {
+    match sessions.seen(front.client, front.tid, front.oldest) {
         Seen::Trimmed => {
             let _ = inbox.take();
             Err(Refusal::Trimmed)
         }
-        Seen::Kept(place) => answer_again(inbox, history, place),
-        Seen::New => match prepare(alloc, frags, *numbers, history, &front.op) {
+        Seen::Kept(place, reply) => answer_again(inbox, place, reply),
+        Seen::New => match prepare(
+            alloc,
+            frags,
+            *numbers,
+            sessions,
+            history,
+            front.client,
+            &front.op,
+        ) {
             Ok(prepared) => {
                 let Some(request) = inbox.take() else {
                     unreachable!()
                 };
-                Ok(commit(frags, numbers, history, request, prepared))
+                Ok(commit(frags, numbers, sessions, history, request, prepared))
             }
             Err(Refusal::NoInodes) => {
                 let _ = inbox.take();
@@ -147,13 +175,12 @@ pub fn serve_front<F: Frags>(
     }
 }
 
-// Answers the request at the front as the entry at this place was answered.
-fn answer_again(inbox: &mut Inbox, history: &[Entry], place: usize) -> Result<Answer, Refusal>
-    requires stands { place < length history.now }
+// Answers the request at the front with the reply of its entry at this place.
+fn answer_again(inbox: &mut Inbox, place: usize, reply: &Reply) -> Result<Answer, Refusal>
     requires waits { 0 < length inbox.old }
-    ensures { RepeatsFront inbox.old inbox.new history.now place result }
+    ensures { RepeatsFront inbox.old inbox.new place reply.now result }
 {
-    let reply = history[place].reply.try_clone()?;
+    let reply = reply.try_clone()?;
     let Some(request) = inbox.take() else {
         unreachable!()
     };

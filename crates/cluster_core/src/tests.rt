@@ -1,6 +1,6 @@
 //! What no clause says of a book: that steps succeed, and what they answer in rows worked by hand.
 
-use crate::{Answer, Book, Event, format, run};
+use crate::{Answer, Book, Event, PlainTree, format, run};
 use mds_types::{Entry, Ino, Inode, Kind, Mode, Name, Op, Rank, Refusal, Reply, Request};
 use std::alloc::Global;
 use std::test::Fail;
@@ -162,5 +162,15 @@ fn a_run_answers_each_event(rt: HostRuntime) -> Result<(), Fail> {
     };
     assert_eq!(rt; book.history().len(), 1);
     assert_eq!(rt; book.history()[0], expected);
+    Ok(())
+}
+
+#[test]
+fn events_and_trees_are_copied(rt: HostRuntime) -> Result<(), Fail> {
+    let alloc = rt.alloc();
+    let event = arrive(1, 5, 5, mkdir(alloc, b"d")?);
+    assert_eq!(rt; event.try_clone()?, event);
+    let tree = PlainTree::new(alloc);
+    assert_eq!(rt; tree.try_clone()?, tree);
     Ok(())
 }
