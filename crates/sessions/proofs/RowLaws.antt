@@ -78,6 +78,7 @@ module _ (m : map.FinMap nat_cmp Session) (client : ℕ) where
       go q true one = ap Some same ∙ ap (option_map (λ (t : Session). t.row)) is ∙ sym (get-rows m client) ∙ ap (map.get (rows m)) (sym (eqb-true q client one))
       go q false apart = refl
 
+  -- a session is found as it was written
   pub found_written : (w : Session) → map.get {R = nat_cmp} (map.from_sorted (map.entries (map.insert m client w))) client ≡ Some w
   found_written w =
       ap (λ (n : map.FinMap nat_cmp Session). map.get {R = nat_cmp} n client) (contents-entries (map.insert m client w))

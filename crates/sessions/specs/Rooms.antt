@@ -23,7 +23,7 @@ rows clients = map.from_sorted (map (λ e. (e.0, e.1.row)) (map.entries clients)
 abbrev pub table : Held → Table
 table held = rows held.clients
 
--- one more reply fits in the session that was found; for a client of none there is room, and a session set aside
+-- room for one more reply: in the session that was found, or for a client more and its session, set aside
 abbrev pub HasRoom : Held → Option Session → Type 0
 HasRoom held (Some session) = 0 < session.room
 HasRoom held None = (0 < held.room) × IsSome held.spare

@@ -52,7 +52,7 @@ impl Sessions {
         }
     }
 
-    /// What a request of the client is to the applied ones. Takes no memory.
+    /// What a request of the client is to the applied ones. Takes no memory, and two look-ups by binary search.
     pub fn seen(&self, client: u64, tid: u64, oldest: u64) -> Seen<'_>
         ensures standing { SeesInTable (table self.now) client tid oldest result }
         ensures history { (history : List Entry) → IsTableOf history (table self.now) → IsSeen history client tid oldest result }
@@ -64,7 +64,8 @@ impl Sessions {
         }
     }
 
-    /// Makes room for one more reply to the client, so that keeping it can't fail.
+    /// Makes room for one more reply to the client, so that keeping it can't fail. May be refused for want of memory
+    /// alone; the table stays as it was in either case.
     pub fn reserve(&mut self, alloc: Global, client: u64) -> Result<(), Refusal>
         ensures ready { OnOk result (IsReady self.new client) }
         ensures same { table self.new ≡ table self.old }
@@ -83,7 +84,8 @@ impl Sessions {
         Ok(())
     }
 
-    /// Keeps the reply to a request that was applied at this place of the history. It can't fail.
+    /// Keeps the reply to a request that was applied at this place of the history, for which room was made. It can't
+    /// fail. The client's mark rises to the request's `oldest`.
     pub fn keep(&mut self, client: u64, tid: u64, oldest: u64, place: usize, reply: Reply)
         requires { IsReady self.old client }
         ensures { table self.new ≡ noted (table self.old) client tid oldest place reply }
