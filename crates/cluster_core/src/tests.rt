@@ -135,33 +135,89 @@ fn an_inbox_holds_1024_requests(rt: HostRuntime) -> Result<(), Fail> {
     Ok(())
 }
 
+// The requests of client 1 in a row of repeats and trimmed copies: transaction number, oldest, and what is asked for; between
+// them, serves.
+const ROW: [Option<(u64, u64, Asked)>; 12] = [
+    Some((5, 5, Asked::MakeD)),
+    Some((5, 5, Asked::MakeX)),
+    None,
+    None,
+    Some((6, 6, Asked::FindD)),
+    None,
+    Some((5, 5, Asked::FindD)),
+    None,
+    Some((7, 8, Asked::FindD)),
+    None,
+    Some((7, 2, Asked::FindD)),
+    None,
+];
+
+#[derive(Clone, Copy)]
+enum Asked {
+    MakeD,
+    MakeX,
+    FindD,
+}
+
+fn asked_event(alloc: Global, step: Option<(u64, u64, Asked)>) -> Result<Event, Fail> {
+    let Some((tid, oldest, asked)) = step else {
+        return Ok(serve())
+    };
+    let op = match asked {
+        Asked::MakeD => mkdir(alloc, b"d")?,
+        Asked::MakeX => mkdir(alloc, b"x")?,
+        Asked::FindD => lookup(alloc, b"d")?,
+    };
+    Ok(arrive(1, tid, oldest, op))
+}
+
+// What the row answers, event by event.
+fn row_answers() -> Result<[Result<Answer, Refusal>; 12], Fail> {
+    let waits = || Ok(Answer::Nothing);
+    Ok([
+        waits(),
+        waits(),
+        replied(1, 5, 0, true, directory(FIRST)?),
+        replied(1, 5, 0, false, directory(FIRST)?),
+        waits(),
+        replied(1, 6, 1, true, directory(FIRST)?),
+        waits(),
+        Err(Refusal::Trimmed),
+        waits(),
+        Err(Refusal::Trimmed),
+        waits(),
+        replied(1, 7, 2, true, directory(FIRST)?),
+    ])
+}
+
 #[test]
 fn a_run_answers_each_event(rt: HostRuntime) -> Result<(), Fail> {
     let alloc = rt.alloc();
     let mut book = format(alloc, 1, 512);
     let mut events = Vec::new(alloc);
-    events.push(arrive(1, 5, 5, mkdir(alloc, b"d")?))?;
-    events.push(arrive(1, 5, 5, lookup(alloc, b"x")?))?;
-    events.push(serve())?;
-    events.push(serve())?;
-    events.push(serve())?;
+    for step in ROW {
+        events.push(asked_event(alloc, step)?)?;
+    }
     let results = run(alloc, &mut book, events)?;
-    assert_eq!(rt; results.len(), 5);
-    assert_eq!(rt; results[0], Ok(Answer::Nothing));
-    assert_eq!(rt; results[1], Ok(Answer::Nothing));
-    assert_eq!(rt; results[2], replied(1, 5, 0, true, directory(FIRST)?));
-    assert_eq!(rt; results[3], replied(1, 5, 0, false, directory(FIRST)?));
-    assert_eq!(rt; results[4], Err(Refusal::InboxEmpty));
+    let wanted = row_answers()?;
+    assert_eq!(rt; results.as_slice(), wanted.as_slice());
+    Ok(())
+}
+
+#[test]
+fn an_entry_holds_what_was_asked_and_answered(rt: HostRuntime) -> Result<(), Fail> {
+    let alloc = rt.alloc();
+    let mut book = format(alloc, 1, 512);
+    let _ = ask(alloc, &mut book, 1, 5, 4, mkdir(alloc, b"d")?)?;
     let expected = Entry {
         client: 1,
         tid: 5,
-        oldest: 5,
+        oldest: 4,
         op: mkdir(alloc, b"d")?,
         number: Some(Ino(FIRST)),
         reply: directory(FIRST)?,
     };
-    assert_eq!(rt; book.history().len(), 1);
-    assert_eq!(rt; book.history()[0], expected);
+    assert_eq!(rt; book.history(), [expected].as_slice());
     Ok(())
 }
 
