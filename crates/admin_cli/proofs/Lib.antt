@@ -1,1 +1,3 @@
 pub mod Operated
+pub mod LineLemmas
+pub mod Progress

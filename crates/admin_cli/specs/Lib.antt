@@ -1,1 +1,2 @@
 pub mod Execute
+pub mod Scripts

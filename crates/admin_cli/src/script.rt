@@ -1,5 +1,7 @@
 //! Running a script.
-ghost use Rattle.std.specs.Prelude.{◌≡◌, ◌+◌, ◌<◌, ◌≤◌, ◌^◌};
+ghost use Rattle.std.specs.Prelude.{◌≡◌, ◌+◌, ◌<◌, ◌≤◌, ◌^◌, length};
+ghost use Rattle.script_text.specs.declared.line_buffer.TheConstants.{MAX_LINE_LEN};
+ghost use Rattle.admin_cli.specs.Scripts.{EndsLine, RunsInput, RunsNew};
 
 use crate::commands::Admin;
 use crate::faults::{FaultKind, ScriptFault};
@@ -23,23 +25,37 @@ pub fn run_script<H: AllocGlobal, R: Read + Drop, W: Write>(
     requires ranked { ranks ≡ 1 }
     requires least { 512 ≤ cache }
     requires most { cache ≤ 65536 }
+    ensures { RunsNew (R.remaining reader) (W.contents writer.old) (W.contents writer.new) result }
 {
     let alloc = rt.alloc();
     let mut admin = Admin::new(format(alloc, ranks, cache));
+    run_input(alloc, reader, writer, &mut admin)
+}
+
+// Takes the memory that reading needs, and runs the lines of a reader.
+fn run_input<R: Read + Drop, W: Write>(
+    alloc: Global,
+    reader: R,
+    writer: &mut W,
+    admin: &mut Admin,
+) -> Result<(), ScriptFault>
+    requires { admin.old.operations ≡ 0 }
+    ensures { RunsInput admin.old (R.remaining reader) (W.contents writer.old) (W.contents writer.new) result }
+{
     let Ok(mut buffer) = LineBuffer::new(alloc) else {
-        return Err(ScriptFault {
-            line: 1,
-            kind: FaultKind::OutOfMemory,
-        });
+        return Err(NO_MEMORY_AT_START);
     };
     let Ok(mut reader) = BufReader::new(alloc, reader) else {
-        return Err(ScriptFault {
-            line: 1,
-            kind: FaultKind::OutOfMemory,
-        });
+        return Err(NO_MEMORY_AT_START);
     };
-    run_lines(alloc, &mut reader, &mut buffer, writer, &mut admin)
+    run_lines(alloc, &mut reader, &mut buffer, writer, admin)
 }
+
+// The memory that reading needs was refused before the first line.
+const NO_MEMORY_AT_START: ScriptFault = ScriptFault {
+    line: 1,
+    kind: FaultKind::OutOfMemory,
+};
 
 // Runs the lines of a reader, one after the other. More lines than 64 bits count are a read fault.
 fn run_lines<R: BufRead, W: Write>(
@@ -50,6 +66,7 @@ fn run_lines<R: BufRead, W: Write>(
     admin: &mut Admin,
 ) -> Result<(), ScriptFault>
     requires { admin.old.operations ≡ 0 }
+    ensures { RunsInput admin.old (R.remaining reader.old) (W.contents writer.old) (W.contents writer.new) result }
 {
     for line in 1..u64::MAX {
         match next_line(reader, buffer) {
@@ -81,8 +98,10 @@ fn run_line<W: Write>(
     writer: &mut W,
     admin: &mut Admin,
 ) -> Result<(), FaultKind>
-    requires { admin.old.operations + 1 < 2 ^ 64 }
-    ensures { admin.new.operations ≤ admin.old.operations + 1 }
+    requires room { admin.old.operations + 1 < 2 ^ 64 }
+    requires short { length bytes.now ≤ MAX_LINE_LEN }
+    ensures count { admin.new.operations ≤ admin.old.operations + 1 }
+    ensures ends { EndsLine admin.old admin.new bytes.now (W.contents writer.old) (W.contents writer.new) result }
 {
     let Ok(line) = read_line(alloc, bytes) else {
         return Err(FaultKind::OutOfMemory)

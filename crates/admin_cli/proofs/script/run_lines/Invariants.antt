@@ -1,6 +1,10 @@
 use Rattle.std.proofs.Common.{◌<◌}
+use Rattle.admin_cli.proofs.Progress.{IsReached}
 use Rattle.admin_cli.proofs.script.run_lines.Given as goal
 
--- no more operations than lines
+-- the lines before this one were done, with no more operations than lines
 abbrev pub invariant-loop-line : goal.invariant-loop-line
-invariant-loop-line g l = l.admin.operations < l.line
+invariant-loop-line g l = record {
+  few : l.admin.operations < l.line;
+  reached : IsReached l.initial.admin l.admin (g.R.Read.remaining l.initial.reader) (g.R.Read.remaining l.reader) (g.W.Write.contents l.initial.writer) (g.W.Write.contents l.writer) l.line;
+}

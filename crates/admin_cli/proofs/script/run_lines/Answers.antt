@@ -1,0 +1,29 @@
+use Rattle.std.proofs.Common.{◌≡◌, arith}
+use Rattle.admin_cli.proofs.Progress.{go_on, finish, stop_reading, stop_long, stop_line}
+use Rattle.admin_cli.proofs.script.run_lines.Goals as goal
+
+pub returns-in-Ok-End : goal.returns-in-Ok-End
+returns-in-Ok-End g c = finish _ _ _ _ _ _ _ c.loop-line.invariant.reached (rw c.in-Ok-End.field-0-is at c.in-Ok-End.ensures)
+
+pub returns-in-Err-TooLong : goal.returns-in-Err-TooLong
+returns-in-Err-TooLong g c = stop_long _ _ _ _ _ _ _ c.loop-line.invariant.reached (rw c.in-Err-TooLong.field-0-is at c.in-Err-TooLong.ensures)
+
+pub returns-in-Err-Fault : goal.returns-in-Err-Fault
+returns-in-Err-Fault g c = stop_reading _ _ _ _ _ _ _ c.loop-line.invariant.reached
+
+pub returns-in-Err : goal.returns-in-Err
+returns-in-Err g c =
+    stop_line _ _ c.run_line.new.admin _ _ _ _ _ _ _ c.next_line.new.line c.in-Err.kind c.loop-line.invariant.reached (rw c.in-Ok-Read.field-0-is at c.in-Ok-Read.ensures)
+    (rw (← c.as_bytes.ensures.bytes) c.in-Err.ensures.ends)
+
+pub returns : goal.returns
+returns g c =
+    let last : c.loop-line.line ≡ 18446744073709551615 = omega (arith, c.loop-line.auto.line-end, c.loop-line-test.false) in
+    stop_reading c.args.admin.now c.loop-line.admin _ _ _ _ 18446744073709551615 (rw last at c.loop-line.invariant.reached)
+
+pub loop-line-preserved : goal.loop-line-preserved
+loop-line-preserved g c = record {
+  few = omega (arith, c.run_line.ensures.count, c.loop-line.invariant.few);
+  reached = go_on _ _ _ _ _ _ _ _ _ _ c.next_line.new.line c.in_default.field-0 c.loop-line.invariant.reached (rw c.in-Ok-Read.field-0-is at c.in-Ok-Read.ensures)
+      (rw (← c.as_bytes.ensures.bytes) c.in_default.ensures.ends);
+}

@@ -1,0 +1,103 @@
+-- What a script does to a book, line after line, and what it writes.
+use Rattle.std.specs.Prelude.{◌≡◌, ℕ, ◌+◌, ◌^◌, ◌<◌, ◌≤◌, List, [], ◌∷◌, ◌++◌, length, codes, Option, IfSome, Result, Ok, Err}
+use Rattle.std.specs.Io.KnownBytes.{Appends}
+use Rattle.std.specs.FinMap as map
+use Rattle.cluster_core.specs.Core.{Kept}
+use Rattle.script_text.specs.declared.line_buffer.TheConstants.{MAX_LINE_LEN}
+use Rattle.script_text.specs.declared.lines.Line.{Line}
+use Rattle.script_text.specs.declared.lines.Line.TheVariants as line
+use Rattle.script_text.specs.declared.output_lines.OutputLine.{OutputLine}
+use Rattle.script_text.specs.declared.output_lines.OutputLine.TheVariants.{Errno}
+use Rattle.script_text.specs.Input.{lines_of}
+use Rattle.script_text.specs.Script.{line_of}
+use Rattle.script_text.specs.OutputLine.{output_line}
+use Rattle.admin_cli.specs.declared.commands.Admin.{Admin}
+use Rattle.admin_cli.specs.declared.faults.ScriptFault.{ScriptFault}
+use Rattle.admin_cli.specs.declared.faults.FaultKind.{FaultKind}
+use Rattle.admin_cli.specs.declared.faults.FaultKind.TheVariants.{NotCommand, TooLong, ReadFault, WriteFault, OutOfMemory}
+use Rattle.admin_cli.specs.Execute.{Executes}
+
+-- a printed line with its LF
+abbrev pub text_of : OutputLine → List ℕ
+text_of line = output_line line ++ codes "\n"
+
+-- what one line does, and its text, by what the line is: nothing, a command, or one with a name outside the rules, of which no request is made
+abbrev pub DoesLine : (old new : Admin) → Line → List ℕ → Type 0
+DoesLine old new line.Nothing text = (new ≡ old) × (text ≡ [])
+DoesLine old new (line.Command command) text = (printed : OutputLine) × Executes old new command printed × (text ≡ text_of printed)
+DoesLine old new (line.BadName errno) text = (new ≡ old) × (text ≡ text_of (Errno errno))
+DoesLine old new line.NotCommand text = ⊥
+
+-- one line of these bytes was done: it isn't too long, and did what its bytes ask for
+pub record RunsLine (old new : Admin) (bytes text : List ℕ) : Type 0 where
+  pub short : length bytes ≤ MAX_LINE_LEN
+  pub does : DoesLine old new (line_of bytes) text
+
+-- lines were done one after the other, each on the book that the one before it left; the text is all of theirs
+abbrev pub RunsLines : (old new : Admin) → List (List ℕ) → List ℕ → Type 0
+RunsLines old new [] text = (new ≡ old) × (text ≡ [])
+RunsLines old new (bytes ∷ lines) text = (middle : Admin) × (first : List ℕ) × (rest : List ℕ) × RunsLine old middle bytes first × RunsLines middle new lines rest × (text ≡ first ++ rest)
+
+-- a line was done, but of its text only a beginning was written, and not all of it
+pub record BreaksOff (old : Admin) (bytes front : List ℕ) : Type 0 where
+  pub new : Admin
+  pub text : List ℕ
+  pub runs : RunsLine old new bytes text
+  pub rest : List ℕ
+  pub left : 0 < length rest
+  pub whole : text ≡ front ++ rest
+
+-- there is a first line, and this holds of it
+abbrev pub OfFirst : (List ℕ → Type 0) → List (List ℕ) → Type 0
+OfFirst Holds [] = ⊥
+OfFirst Holds (bytes ∷ lines) = Holds bytes
+
+-- why a script ends before these lines, and the beginning of the first one's text that was written; too long comes before all else, and only a write fault leaves a beginning
+abbrev pub StopsBefore : Admin → List (List ℕ) → FaultKind → List ℕ → Type 0
+StopsBefore old lines NotCommand front = OfFirst (λ bytes. (length bytes ≤ MAX_LINE_LEN) × (line_of bytes ≡ line.NotCommand)) lines × (front ≡ [])
+StopsBefore old lines TooLong front = OfFirst (λ bytes. MAX_LINE_LEN < length bytes) lines × (front ≡ [])
+StopsBefore old lines ReadFault front = front ≡ []
+StopsBefore old lines WriteFault front = OfFirst (λ bytes. BreaksOff old bytes front) lines
+StopsBefore old lines OutOfMemory front = front ≡ []
+
+-- one line that was read: all its text was appended to the known bytes, or a beginning at its fault
+abbrev pub EndsLine : (old new : Admin) → List ℕ → (before after : Option (List ℕ)) → Result (Unit {0}) FaultKind → Type 0
+EndsLine old new bytes before after (Ok done) = (text : List ℕ) × RunsLine old new bytes text × Appends before after text
+EndsLine old new bytes before after (Err kind) = (front : List ℕ) × StopsBefore old (bytes ∷ []) kind front × Appends before after front
+
+-- how a script ended after so many lines: Ok where none is left, else a fault at the next one, all lines counted from 1
+abbrev pub Ends : Admin → ℕ → List (List ℕ) → Result (Unit {0}) ScriptFault → List ℕ → Type 0
+Ends old done left (Ok all) front = (left ≡ []) × (front ≡ [])
+Ends old done left (Err fault) front = (fault.line ≡ done + 1) × StopsBefore old left fault.kind front
+
+-- a script of these lines: those before its end were done, and what was written is their text, with a beginning of the next line's at a write fault
+pub record RunsScript (old : Admin) (lines : List (List ℕ)) (before after : Option (List ℕ)) (result : Result (Unit {0}) ScriptFault) : Type 0 where
+  pub done : List (List ℕ)
+  pub left : List (List ℕ)
+  pub whole : lines ≡ done ++ left
+  pub new : Admin
+  pub text : List ℕ
+  pub runs : RunsLines old new done text
+  pub front : List ℕ
+  pub ended : Ends new (length done) left result front
+  pub written : Appends before after (text ++ front)
+
+-- a script read from a reader: its lines are those of the bytes that the reader has left, where these are known
+pub record RunsInput (old : Admin) (known before after : Option (List ℕ)) (result : Result (Unit {0}) ScriptFault) : Type 0 where
+  pub lines : List (List ℕ)
+  pub read : IfSome known (λ bytes. lines ≡ lines_of bytes)
+  pub script : RunsScript old lines before after result
+
+-- a book as `format` makes it: an empty tree, an empty history, nothing that waits, and the numbers of rank 0
+pub record IsFormatted (book : Kept) : Type 0 where
+  pub opening : book.opening ≡ map.empty
+  pub history : book.history ≡ []
+  pub shown : book.core.shown ≡ map.empty
+  pub waiting : book.core.inbox ≡ []
+  pub numbers : book.core.numbers ≡ record { rank = 0; next = 2 ^ 40 }
+
+-- a whole script, from a new book, with no line read yet
+pub record RunsNew (known before after : Option (List ℕ)) (result : Result (Unit {0}) ScriptFault) : Type 0 where
+  pub book : Kept
+  pub formatted : IsFormatted book
+  pub runs : RunsInput (record { book = book; operations = 0 }) known before after result
