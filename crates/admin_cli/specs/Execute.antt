@@ -5,14 +5,21 @@ use Rattle.mds_types.specs.declared.refusals.Refusal.{Refusal}
 use Rattle.mds_types.specs.declared.operations.Op.{Op}
 use Rattle.cluster_core.specs.declared.answers.Answer.{Answer}
 use Rattle.cluster_core.specs.declared.answers.Answer.TheVariants.{Nothing, Reply}
+use Rattle.cluster_core.specs.declared.events.Event.{Event}
 use Rattle.cluster_core.specs.declared.events.Event.TheVariants.{Arrive, Serve as ServeEvent}
 use Rattle.cluster_core.specs.Core.{Kept}
 use Rattle.cluster_core.specs.Runs.{StepsBook}
+use Rattle.cluster_core.specs.Sound.{IsSoundBook}
 use Rattle.script_text.specs.declared.commands.Command.{Command}
 use Rattle.script_text.specs.declared.commands.Command.TheVariants.{Operation, Serve}
 use Rattle.script_text.specs.declared.output_lines.OutputLine.{OutputLine}
 use Rattle.script_text.specs.declared.output_lines.OutputLine.TheVariants.{Reply as ReplyLine, Refused}
 use Rattle.admin_cli.specs.declared.commands.Admin.{Admin}
+
+-- one event led from a book to the next with this result, by all that the contract of a book's step says
+pub record IsStep (old new : Kept) (result : Result Answer Refusal) (event : Event) : Type 0 where
+  pub stepped : StepsBook old new result event
+  pub sound : IsSoundBook new
 
 -- the line is that of a serve's result
 abbrev pub ShowsServed : Result Answer Refusal → OutputLine → Type 0
@@ -23,7 +30,7 @@ ShowsServed (Err refusal) line = line ≡ Refused refusal
 -- a rank served the front of its inbox
 pub record ServesLine (old new : Kept) (rank : Rank) (line : OutputLine) : Type 0 where
   pub result : Result Answer Refusal
-  pub stepped : StepsBook old new result (ServeEvent rank)
+  pub stepped : IsStep old new result (ServeEvent rank)
   pub shown : ShowsServed result line
 
 -- an operation alone: it arrives at rank 0 as client 0 with this transaction number, and is served there if it wasn't refused
@@ -34,7 +41,7 @@ OperatesAfter middle new (Err refusal) line = (new ≡ middle) × (line ≡ Refu
 pub record OperatesLine (old new : Kept) (tid : ℕ) (op : Op) (line : OutputLine) : Type 0 where
   pub middle : Kept
   pub arrived : Result Answer Refusal
-  pub stepped : StepsBook old middle arrived (Arrive (record { 0 = 0 }) (record { client = 0; tid = tid; oldest = tid; op = op }))
+  pub stepped : IsStep old middle arrived (Arrive (record { 0 = 0 }) (record { client = 0; tid = tid; oldest = tid; op = op }))
   pub rest : OperatesAfter middle new arrived line
 
 -- a command, with the count of lines that were an operation alone

@@ -19,7 +19,8 @@ returns-in-Err g c =
 pub returns : goal.returns
 returns g c =
     let last : c.loop-line.line ≡ 18446744073709551615 = omega (arith, c.loop-line.auto.line-end, c.loop-line-test.false) in
-    stop_reading c.args.admin.now c.loop-line.admin _ _ _ _ 18446744073709551615 (rw last at c.loop-line.invariant.reached)
+    stop_reading c.args.admin.now c.loop-line.admin (g.R.Read.remaining c.args.reader.now) (g.R.Read.remaining c.loop-line.reader) (g.W.Write.contents c.args.writer.now)
+    (g.W.Write.contents c.loop-line.writer) 18446744073709551615 (rw last at c.loop-line.invariant.reached)
 
 pub loop-line-preserved : goal.loop-line-preserved
 loop-line-preserved g c = record {

@@ -7,7 +7,7 @@ pub returns-in-Err-clause-operated : goal.returns-in-Err-clause-operated
 returns-in-Err-clause-operated c = record {
   middle = c.step-arrived.new.self;
   arrived = c.step-arrived.result;
-  stepped = record { stepped = c.step-arrived.ensures.stepped; same_opening = c.step-arrived.ensures.opening };
+  stepped = record { stepped = record { stepped = c.step-arrived.ensures.stepped; same_opening = c.step-arrived.ensures.opening }; sound = c.step-arrived.ensures.sound };
   rest = rw c.in-Err.is (refl, refl);
 }
 
@@ -15,6 +15,6 @@ pub returns-clause-operated : goal.returns-clause-operated
 returns-clause-operated c = rw c.serve.ensures.count (record {
   middle = c.step-arrived.new.self;
   arrived = c.step-arrived.result;
-  stepped = record { stepped = c.step-arrived.ensures.stepped; same_opening = c.step-arrived.ensures.opening };
+  stepped = record { stepped = record { stepped = c.step-arrived.ensures.stepped; same_opening = c.step-arrived.ensures.opening }; sound = c.step-arrived.ensures.sound };
   rest = served_after _ _ c.step-arrived.result _ c.in_default.not-Err c.serve.ensures.served;
 })
