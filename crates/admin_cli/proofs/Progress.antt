@@ -9,7 +9,8 @@ use Rattle.admin_cli.specs.declared.commands.Admin.{Admin}
 use Rattle.admin_cli.specs.declared.faults.ScriptFault.{ScriptFault}
 use Rattle.admin_cli.specs.declared.faults.FaultKind.{FaultKind}
 use Rattle.admin_cli.specs.declared.faults.FaultKind.TheVariants.{NotCommand, TooLong, ReadFault, WriteFault, OutOfMemory}
-use Rattle.admin_cli.specs.Scripts.{RunsLine, RunsLines, StopsBefore, EndsLine, Ends, RunsInput}
+use Rattle.admin_cli.specs.Scripts.{RunsLine, RunsLines, StopsBefore, Ends, RunsInput}
+use Rattle.admin_cli.specs.OneLine.{EndsLine}
 
 -- these lines were taken from the known bytes
 abbrev pub TakesLines : Option (List ℕ) → Option (List ℕ) → List (List ℕ) → Type 0

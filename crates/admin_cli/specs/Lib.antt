@@ -1,2 +1,3 @@
 pub mod Execute
 pub mod Scripts
+pub mod OneLine

@@ -60,11 +60,6 @@ StopsBefore old lines ReadFault front = front ≡ []
 StopsBefore old lines WriteFault front = OfFirst (λ bytes. BreaksOff old bytes front) lines
 StopsBefore old lines OutOfMemory front = front ≡ []
 
--- one line that was read: all its text was appended to the known bytes, or a beginning at its fault
-abbrev pub EndsLine : (old new : Admin) → List ℕ → (before after : Option (List ℕ)) → Result (Unit {0}) FaultKind → Type 0
-EndsLine old new bytes before after (Ok done) = (text : List ℕ) × RunsLine old new bytes text × Appends before after text
-EndsLine old new bytes before after (Err kind) = (front : List ℕ) × StopsBefore old (bytes ∷ []) kind front × Appends before after front
-
 -- how a script ended after so many lines: Ok where none is left, else a fault at the next one, all lines counted from 1
 abbrev pub Ends : Admin → ℕ → List (List ℕ) → Result (Unit {0}) ScriptFault → List ℕ → Type 0
 Ends old done left (Ok all) front = (left ≡ []) × (front ≡ [])

@@ -1,7 +1,8 @@
 //! Running a script.
 ghost use Rattle.std.specs.Prelude.{◌≡◌, ◌+◌, ◌<◌, ◌≤◌, ◌^◌, length};
 ghost use Rattle.script_text.specs.declared.line_buffer.TheConstants.{MAX_LINE_LEN};
-ghost use Rattle.admin_cli.specs.Scripts.{EndsLine, RunsInput, RunsNew};
+ghost use Rattle.admin_cli.specs.Scripts.{text_of, RunsInput, RunsNew};
+ghost use Rattle.admin_cli.specs.OneLine.{EndsLine, AnswersLine, Prints};
 
 use crate::commands::Admin;
 use crate::faults::{FaultKind, ScriptFault};
@@ -92,6 +93,7 @@ fn run_lines<R: BufRead, W: Write>(
 }
 
 // Runs one line, and writes what it prints.
+#[tactic(auto, using(crate::proofs::LineLemmas::printed))]
 fn run_line<W: Write>(
     alloc: Global,
     bytes: &[u8],
@@ -104,15 +106,34 @@ fn run_line<W: Write>(
     ensures ends { EndsLine admin.old admin.new bytes.now (W.contents writer.old) (W.contents writer.new) result }
 {
     let Ok(line) = read_line(alloc, bytes) else {
-        return Err(FaultKind::OutOfMemory)
+        return Err(FaultKind::OutOfMemory);
     };
-    let output = match line {
-        Line::Nothing => return Ok(()),
-        Line::NotCommand => return Err(FaultKind::NotCommand),
-        Line::BadName(errno) => OutputLine::Errno(errno),
-        Line::Command(command) => admin.execute(alloc, command),
-    };
-    match write_line(alloc, writer, &output) {
+    match do_line(alloc, line, admin) {
+        Ok(Some(output)) => print(alloc, writer, &output),
+        Ok(None) => Ok(()),
+        Err(kind) => Err(kind),
+    }
+}
+
+// Does what one line asks for, and answers the line to print, if it prints one.
+fn do_line(alloc: Global, line: Line, admin: &mut Admin) -> Result<Option<OutputLine>, FaultKind>
+    requires { admin.old.operations + 1 < 2 ^ 64 }
+    ensures count { admin.new.operations ≤ admin.old.operations + 1 }
+    ensures answers { AnswersLine admin.old admin.new line result }
+{
+    match line {
+        Line::Nothing => Ok(None),
+        Line::NotCommand => Err(FaultKind::NotCommand),
+        Line::BadName(errno) => Ok(Some(OutputLine::Errno(errno))),
+        Line::Command(command) => Ok(Some(admin.execute(alloc, command))),
+    }
+}
+
+// Writes a line with its LF.
+fn print<W: Write>(alloc: Global, writer: &mut W, line: &OutputLine) -> Result<(), FaultKind>
+    ensures { Prints (W.contents writer.old) (W.contents writer.new) (text_of line.now) result }
+{
+    match write_line(alloc, writer, line) {
         Ok(()) => Ok(()),
         Err(OutputFault::NoMemory) => Err(FaultKind::OutOfMemory),
         Err(OutputFault::Write) => Err(FaultKind::WriteFault),

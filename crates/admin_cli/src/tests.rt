@@ -3,11 +3,19 @@
 use crate::{FaultKind, ScriptFault, run_script};
 use std::test::Fail;
 
+mod lines;
+mod streams;
+
 // The output of a script, and how it ended.
-fn printed(rt: &HostRuntime, script: &str) -> (Vec<u8>, Result<(), ScriptFault>) {
+fn printed(rt: &HostRuntime, script: &[u8]) -> (Vec<u8>, Result<(), ScriptFault>) {
     let mut output = Vec::new(rt.alloc());
-    let end = run_script(rt, script.as_bytes(), &mut output, 1, 4096);
+    let end = run_script(rt, script, &mut output, 1, 4096);
     (output, end)
+}
+
+// A script's end at its line of this number.
+fn fault(line: u64, kind: FaultKind) -> Result<(), ScriptFault> {
+    Err(ScriptFault { line, kind })
 }
 
 #[test]
@@ -29,8 +37,13 @@ fn whole_scripts(rt: HostRuntime) {
             "# nothing\n\n   \nlookup 1 %2f\nlookup 1 a\nserve 1\n",
             "errno 22\nreply 0 1 0 new errno 2\nrefused 5\n",
         ),
+        (
+            "mkdir 1 %41 755\nreaddir 1 - 10",
+            "reply 0 1 0 new entry 10000000000 dir 755 0 0\nreply 0 2 1 new entries 1 end A:10000000000\n",
+        ),
+        ("  lookup   1  a  \n", "reply 0 1 0 new errno 2\n"),
     ] {
-        let (output, end) = printed(&rt, script);
+        let (output, end) = printed(&rt, script.as_bytes());
         assert_eq!(rt; output.as_slice(), wanted.as_bytes());
         assert_eq!(rt; end, Ok(()));
     }
@@ -44,27 +57,23 @@ fn a_fault_ends_a_script_and_loses_nothing(rt: HostRuntime) {
         "lookup 1 a\nreaddir 1 - 1025\n",
         "lookup 1 a\nlookup 18446744073709551616 a\n",
     ] {
-        let (output, end) = printed(&rt, script);
+        let (output, end) = printed(&rt, script.as_bytes());
         assert_eq!(rt; output.as_slice(), b"reply 0 1 0 new errno 2\n".as_slice());
-        assert_eq!(rt;
-            end,
-            Err(ScriptFault {
-                line: 2,
-                kind: FaultKind::NotCommand
-            })
-        );
+        assert_eq!(rt; end, fault(2, FaultKind::NotCommand));
     }
 }
 
 #[test]
 fn faults_are_told_with_their_line(rt: HostRuntime) -> Result<(), Fail> {
-    let fault = ScriptFault {
-        line: 7,
-        kind: FaultKind::TooLong,
-    };
-    assert_eq!(rt;
-        format!(in rt.alloc(); "{fault}")?.as_str(),
-        "line 7: too long"
-    );
+    for (kind, wanted) in [
+        (FaultKind::NotCommand, "line 7: not a command"),
+        (FaultKind::TooLong, "line 7: too long"),
+        (FaultKind::ReadFault, "line 7: read fault"),
+        (FaultKind::WriteFault, "line 7: write fault"),
+        (FaultKind::OutOfMemory, "line 7: out of memory"),
+    ] {
+        let fault = ScriptFault { line: 7, kind };
+        assert_eq!(rt; format!(in rt.alloc(); "{fault}")?.as_str(), wanted);
+    }
     Ok(())
 }
