@@ -1,8 +1,9 @@
 -- What a command of the script does to a book, and the line that it prints.
-use Rattle.std.specs.Prelude.{◌≡◌, ℕ, ◌+◌, Result, Ok, Err}
+use Rattle.std.specs.Prelude.{◌≡◌, ℕ, ◌+◌, length, Result, Ok, Err}
 use Rattle.mds_types.specs.declared.ids.Rank.{Rank}
 use Rattle.mds_types.specs.declared.refusals.Refusal.{Refusal}
 use Rattle.mds_types.specs.declared.operations.Op.{Op}
+use Rattle.mds_types.specs.declared.requests.Request.{Request as Asked}
 use Rattle.cluster_core.specs.declared.answers.Answer.{Answer}
 use Rattle.cluster_core.specs.declared.answers.Answer.TheVariants.{Nothing, Reply}
 use Rattle.cluster_core.specs.declared.events.Event.{Event}
@@ -11,9 +12,9 @@ use Rattle.cluster_core.specs.Core.{Kept}
 use Rattle.cluster_core.specs.Runs.{StepsBook}
 use Rattle.cluster_core.specs.Sound.{IsSoundBook}
 use Rattle.script_text.specs.declared.commands.Command.{Command}
-use Rattle.script_text.specs.declared.commands.Command.TheVariants.{Operation, Serve}
+use Rattle.script_text.specs.declared.commands.Command.TheVariants.{Operation, Request, Serve, History}
 use Rattle.script_text.specs.declared.output_lines.OutputLine.{OutputLine}
-use Rattle.script_text.specs.declared.output_lines.OutputLine.TheVariants.{Reply as ReplyLine, Refused}
+use Rattle.script_text.specs.declared.output_lines.OutputLine.TheVariants.{Reply as ReplyLine, Queued, History as HistoryLine, Refused}
 use Rattle.admin_cli.specs.declared.commands.Admin.{Admin}
 
 -- one event led from a book to the next with this result, by all that the contract of a book's step says
@@ -33,6 +34,18 @@ pub record ServesLine (old new : Kept) (rank : Rank) (line : OutputLine) : Type 
   pub stepped : IsStep old new result (ServeEvent rank)
   pub shown : ShowsServed result line
 
+-- the line is that of an arrival's result
+abbrev pub ShowsArrived : Result Answer Refusal → OutputLine → Type 0
+ShowsArrived (Ok Nothing) line = line ≡ Queued
+ShowsArrived (Ok (Reply client tid place first reply)) line = ⊥
+ShowsArrived (Err refusal) line = line ≡ Refused refusal
+
+-- a request came in at a rank
+pub record ArrivesLine (old new : Kept) (rank : Rank) (request : Asked) (line : OutputLine) : Type 0 where
+  pub result : Result Answer Refusal
+  pub stepped : IsStep old new result (Arrive rank request)
+  pub shown : ShowsArrived result line
+
 -- an operation alone: it arrives at rank 0 as client 0 with this transaction number, and is served there if it wasn't refused
 abbrev pub OperatesAfter : (middle new : Kept) → Result Answer Refusal → OutputLine → Type 0
 OperatesAfter middle new (Ok answer) line = ServesLine middle new (record { 0 = 0 }) line
@@ -48,3 +61,5 @@ pub record OperatesLine (old new : Kept) (tid : ℕ) (op : Op) (line : OutputLin
 abbrev pub Executes : (old new : Admin) → Command → OutputLine → Type 0
 Executes old new (Operation op) line = (new.operations ≡ old.operations + 1) × OperatesLine old.book new.book new.operations op line
 Executes old new (Serve rank) line = (new.operations ≡ old.operations) × ServesLine old.book new.book rank line
+Executes old new (Request rank request) line = (new.operations ≡ old.operations) × ArrivesLine old.book new.book rank request line
+Executes old new History line = (new ≡ old) × (line ≡ HistoryLine (length old.book.history))

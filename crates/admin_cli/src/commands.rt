@@ -15,7 +15,7 @@ pub struct Admin {
 }
 
 impl Admin {
-    ghost use Rattle.admin_cli.specs.Execute.{Executes, OperatesLine, ServesLine};
+    ghost use Rattle.admin_cli.specs.Execute.{ArrivesLine, Executes, OperatesLine, ServesLine};
 
     /// An administrator of this book, who has read no line yet.
     pub fn new(book: Book) -> Admin
@@ -34,7 +34,9 @@ impl Admin {
     {
         match command {
             Command::Operation(op) => self.operate(alloc, op),
+            Command::Request(rank, request) => self.arrive(alloc, rank, request),
             Command::Serve(rank) => self.serve(alloc, rank),
+            Command::History => OutputLine::History(self.book.history().len() as u64),
         }
     }
 
@@ -64,6 +66,18 @@ impl Admin {
             return OutputLine::Refused(refusal);
         }
         self.serve(alloc, Rank(0))
+    }
+
+    // A request comes in at a rank.
+    fn arrive(&mut self, alloc: Global, rank: Rank, request: Request) -> OutputLine
+        ensures count { self.new.operations ≡ self.old.operations }
+        ensures arrived { ArrivesLine self.old.book self.new.book rank request result }
+    {
+        let arrived = self.book.step(alloc, Event::Arrive { rank, request });
+        if let Err(refusal) = arrived {
+            return OutputLine::Refused(refusal);
+        }
+        OutputLine::Queued
     }
 
     fn serve(&mut self, alloc: Global, rank: Rank) -> OutputLine

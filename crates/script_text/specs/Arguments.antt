@@ -23,6 +23,18 @@ ino_of word = wanted (option_map (λ n. record { 0 = n }) (number_of 16 word))
 unfoldable pub rank_of : List ℕ → Result Rank Fault
 rank_of word = wanted (option_map (λ n. record { 0 = n }) (option_and_then (within 0 255) (number_of 10 word)))
 
+-- TID and OLDEST: decimal
+unfoldable pub tid_of : List ℕ → Result ℕ Fault
+tid_of word = wanted (number_of 10 word)
+
+-- n, if it is at least low
+abbrev pub at_least : ℕ → ℕ → Option ℕ
+at_least low n = if nat_le low n then Some n else None
+
+-- CLIENT: decimal, at least 1, since operations alone come from client 0
+unfoldable pub client_of : List ℕ → Result ℕ Fault
+client_of word = wanted (option_and_then (at_least 1) (number_of 10 word))
+
 -- MODE: 1 to 4 octal digits
 unfoldable pub mode_of : List ℕ → Result ℕ Fault
 mode_of word = wanted (octal_mode_of word)

@@ -1,11 +1,14 @@
 -- The line that is printed for a command, without its LF.
-use Rattle.std.specs.Prelude.{ℕ, List}
+use Rattle.std.specs.Prelude.{ℕ, List, ◌++◌, codes}
+use Rattle.std.specs.Fmt.{decimal}
 use Rattle.script_text.specs.declared.output_lines.OutputLine.{OutputLine}
-use Rattle.script_text.specs.declared.output_lines.OutputLine.TheVariants.{Reply, Refused, Errno}
+use Rattle.script_text.specs.declared.output_lines.OutputLine.TheVariants.{Reply, Queued, History, Refused, Errno}
 use Rattle.script_text.specs.Output.{reply_line, refused_line, errno_text}
 
--- a reply's line, a refusal's, or that of a name outside the rules
+-- a reply's line, that of a request that waits, of a history's length, of a refusal, or of a name outside the rules
 unfoldable pub output_line : OutputLine → List ℕ
 output_line (Reply client tid place first reply) = reply_line client tid place first reply
+output_line Queued = codes "queued"
+output_line (History length) = codes "history " ++ decimal length
 output_line (Refused refusal) = refused_line refusal
 output_line (Errno errno) = errno_text errno

@@ -16,6 +16,11 @@ abbrev pub wanted : {A : Type 0} → Option A → Result A Fault
 wanted None = Err NotCommand
 wanted (Some x) = Ok x
 
+-- the first word, and those after it
+abbrev pub first : List (List ℕ) → Result (List ℕ × List (List ℕ)) Fault
+first [] = Err NotCommand
+first (a ∷ words) = Ok (a, words)
+
 -- exactly one, two, three words
 abbrev pub one : List (List ℕ) → Result (List ℕ) Fault
 one [] = Err NotCommand

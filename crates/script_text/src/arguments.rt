@@ -1,7 +1,7 @@
 //! The words after a command's first.
 ghost use Rattle.std.specs.Prelude.{◌≡◌, option_map};
 ghost use Rattle.script_text.specs.Reading.{Gives};
-ghost use Rattle.script_text.specs.Arguments.{ino_of, rank_of, mode_of, page_size_of, text_of, after_text_of, name_of, after_name_of, is_dash};
+ghost use Rattle.script_text.specs.Arguments.{ino_of, rank_of, client_of, tid_of, mode_of, page_size_of, text_of, after_text_of, name_of, after_name_of, is_dash};
 
 use crate::escapes::unescaped;
 use crate::faults::{Fault, NOT_COMMAND, ReadError};
@@ -28,6 +28,28 @@ pub fn rank(word: &[u8]) -> Result<Rank, ReadError>
     match number(word, 10) {
         Some(n) if n <= 255 => Ok(Rank(n as u8)),
         _ => Err(NOT_COMMAND),
+    }
+}
+
+/// CLIENT: decimal, at least 1.
+#[tactic(auto, unfolding(crate::specs::Arguments::client_of))]
+pub fn client(word: &[u8]) -> Result<u64, ReadError>
+    ensures { Gives (λ client. client) result (client_of word.now) }
+{
+    match number(word, 10) {
+        Some(n) if 1 <= n => Ok(n),
+        _ => Err(NOT_COMMAND),
+    }
+}
+
+/// TID and OLDEST: decimal.
+#[tactic(auto, unfolding(crate::specs::Arguments::tid_of))]
+pub fn tid(word: &[u8]) -> Result<u64, ReadError>
+    ensures { Gives (λ tid. tid) result (tid_of word.now) }
+{
+    match number(word, 10) {
+        Some(n) => Ok(n),
+        None => Err(NOT_COMMAND),
     }
 }
 

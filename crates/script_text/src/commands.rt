@@ -1,13 +1,14 @@
 //! Commands, by their first word.
 ghost use Rattle.script_text.specs.Words.{words_of};
 ghost use Rattle.script_text.specs.Reading.{Gives};
-ghost use Rattle.script_text.specs.Script.{command_of, serve_of};
+ghost use Rattle.script_text.specs.Script.{command_of, history_of, req_of, serve_of};
 
-use crate::arguments::rank;
-use crate::counts::one;
-use crate::faults::ReadError;
+use crate::arguments::{client, rank, tid};
+use crate::counts::{first, one};
+use crate::faults::{NOT_COMMAND, ReadError};
 use crate::operations::read_operation;
-use mds_types::{Op, Rank};
+use crate::words::next_word;
+use mds_types::{Op, Rank, Request};
 use std::alloc::Global;
 
 /// What a line of the script asks for.
@@ -15,8 +16,12 @@ use std::alloc::Global;
 pub enum Command {
     /// An operation alone: it arrives at rank 0 as client 0, and is served there.
     Operation(Op),
+    /// A request comes in at a rank.
+    Request(Rank, Request),
     /// The front of a rank's inbox is served.
     Serve(Rank),
+    /// How long is the history?
+    History,
 }
 
 /// The command of this first word, with the arguments in these words.
@@ -26,6 +31,12 @@ pub fn read_command(alloc: Global, verb: &[u8], args: &[u8]) -> Result<Command, 
 {
     if verb == b"serve".as_slice() {
         return serve(args);
+    }
+    if verb == b"req".as_slice() {
+        return req(alloc, args);
+    }
+    if verb == b"history".as_slice() {
+        return history(args);
     }
     Ok(Command::Operation(read_operation(alloc, verb, args)?))
 }
@@ -37,4 +48,40 @@ fn serve(args: &[u8]) -> Result<Command, ReadError>
 {
     let word = one(args)?;
     Ok(Command::Serve(rank(word)?))
+}
+
+// `req RANK CLIENT TID OLDEST OP`
+#[tactic(auto, unfolding(crate::specs::Script::req_of))]
+fn req(alloc: Global, args: &[u8]) -> Result<Command, ReadError>
+    ensures { Gives (λ command. command) result (req_of (words_of args.now)) }
+{
+    let (at, rest) = first(args)?;
+    let (from, rest) = first(rest)?;
+    let (number, rest) = first(rest)?;
+    let (least, rest) = first(rest)?;
+    let (verb, rest) = first(rest)?;
+    let rank = rank(at)?;
+    let client = client(from)?;
+    let tid_number = tid(number)?;
+    let oldest = tid(least)?;
+    let op = read_operation(alloc, verb, rest)?;
+    Ok(Command::Request(
+        rank,
+        Request {
+            client,
+            tid: tid_number,
+            oldest,
+            op,
+        },
+    ))
+}
+
+// `history`
+fn history(args: &[u8]) -> Result<Command, ReadError>
+    ensures { Gives (λ command. command) result (history_of (words_of args.now)) }
+{
+    match next_word(args) {
+        None => Ok(Command::History),
+        Some(_) => Err(NOT_COMMAND),
+    }
 }

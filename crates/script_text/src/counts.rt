@@ -1,9 +1,19 @@
 //! A number of words.
 ghost use Rattle.script_text.specs.Words.{words_of};
-ghost use Rattle.script_text.specs.Reading.{Gives, one, two, three};
+ghost use Rattle.script_text.specs.Reading.{Gives, first, one, two, three};
 
 use crate::faults::{NOT_COMMAND, ReadError};
 use crate::words::next_word;
+
+/// The first word, and what follows it.
+pub fn first(words: &[u8]) -> Result<(&[u8], &[u8]), ReadError>
+    ensures { Gives (λ w. (w.0.now, words_of w.1.now)) result (first (words_of words.now)) }
+{
+    match next_word(words) {
+        Some(split) => Ok(split),
+        None => Err(NOT_COMMAND),
+    }
+}
 
 /// Exactly one word.
 pub fn one(words: &[u8]) -> Result<&[u8], ReadError>

@@ -21,6 +21,10 @@ pub enum OutputLine {
         first: bool,
         reply: Reply,
     },
+    /// `queued`: a request came in, and waits.
+    Queued,
+    /// `history LENGTH`: how many entries the history has.
+    History(u64),
     /// `refused N`: a step was refused.
     Refused(Refusal),
     /// `errno N`: a name outside the rules of names, of which no request was made.
@@ -53,6 +57,8 @@ impl fmt::Display for OutputLine {
                 let reply = ReplyText(reply);
                 write!(f, "reply {client} {tid} {place} {first} {reply}")
             }
+            OutputLine::Queued => write!(f, "queued"),
+            OutputLine::History(length) => write!(f, "history {length}"),
             OutputLine::Refused(refusal) => {
                 let number = refusal.number();
                 write!(f, "refused {number}")

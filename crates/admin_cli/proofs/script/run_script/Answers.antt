@@ -9,6 +9,7 @@ returns g c = record {
     shown = c.format.ensures.shown;
     waiting = c.format.ensures.waiting;
     numbers = c.format.ensures.numbers;
+    sessions = c.format.ensures.sessions;
   };
   runs = rw c.new-admin.ensures at c.run_input.ensures;
 }
