@@ -15,7 +15,8 @@ use std::alloc::Global;
 use std::io::{BufRead, BufReader, Read, Write};
 
 /// Runs a script over a cluster with an empty tree: for each line of the reader that is a command, one line is written
-/// with what became of it. A fault ends the script; what the lines before it printed has been written.
+/// with what became of it. A fault ends the script: what the lines before it printed has been written, and after a write
+/// fault a beginning of its own line, nothing else. It returns wherever its reader ends.
 pub fn run_script<H: AllocGlobal, R: Read + Drop, W: Write>(
     rt: &H,
     reader: R,
