@@ -1,3 +1,4 @@
 pub mod Execute
 pub mod Scripts
 pub mod OneLine
+pub mod FaultText

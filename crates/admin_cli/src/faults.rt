@@ -1,4 +1,6 @@
 //! Why a script ends before its input does.
+ghost use Rattle.std.specs.Prelude.{Some};
+ghost use Rattle.admin_cli.specs.FaultText.{fault_text};
 
 use std::fmt;
 use thiserror::Error;
@@ -14,6 +16,8 @@ pub enum FaultKind {
 }
 
 impl fmt::Display for FaultKind {
+    ghost output = { λ kind. Some (fault_text kind) };
+
     fn fmt<W: fmt::Write>(&self, f: &mut fmt::Formatter<W>) -> fmt::Result {
         match self {
             FaultKind::NotCommand => write!(f, "not a command"),
