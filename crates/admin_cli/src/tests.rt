@@ -42,6 +42,10 @@ fn whole_scripts(rt: HostRuntime) {
             "reply 0 1 0 new entry 10000000000 dir 755 0 0\nreply 0 2 1 new entries 1 end A:10000000000\n",
         ),
         ("  lookup   1  a  \n", "reply 0 1 0 new errno 2\n"),
+        (
+            "req 0 1 5 5 mkdir 1 d 755\nserve 0\nreq 0 1 5 5 lookup 1 x\nserve 0\nhistory\nreq 0 1 5 6 lookup 1 d\nserve 0\nreq 1 1 6 6 lookup 1 d\n",
+            "queued\nreply 1 5 0 new entry 10000000000 dir 755 0 0\nqueued\nreply 1 5 0 again entry 10000000000 dir 755 0 0\nhistory 1\nqueued\nrefused 4\nrefused 5\n",
+        ),
     ] {
         let (output, end) = printed(&rt, script.as_bytes());
         assert_eq!(rt; output.as_slice(), wanted.as_bytes());

@@ -50,6 +50,12 @@ fn not_commands(rt: HostRuntime) {
         b"lookup 18446744073709551616 a\n",
         b"lookup 10000000000000000 a\n",
         b"nothing\nlookup 1 a\n",
+        b"history 1\n",
+        b"req 0 0 1 1 lookup 1 a\n",
+        b"req 0 1 01 1 lookup 1 a\n",
+        b"req 0 1 1 1\n",
+        b"req 0 1 1 1 serve 0\n",
+        b"req 256 1 1 1 lookup 1 a\n",
     ] {
         let (output, end) = printed(&rt, script);
         assert!(rt; output.is_empty());
