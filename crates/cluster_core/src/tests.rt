@@ -1,7 +1,7 @@
 //! What no clause says of a book: that steps succeed, and what they answer in rows worked by hand.
 
 use crate::{Answer, Book, Event, PlainTree, format, run};
-use mds_types::{Entry, Ino, Inode, Kind, Mode, Name, Op, Rank, Refusal, Reply, Request};
+use mds_types::{Entry, Ino, Inode, Kind, Mode, Name, Op, PageSize, Rank, Refusal, Reply, Request};
 use std::alloc::Global;
 use std::test::Fail;
 
@@ -157,6 +157,7 @@ enum Asked {
     MakeD,
     MakeX,
     FindD,
+    List,
 }
 
 fn asked_event(alloc: Global, step: Option<(u64, u64, Asked)>) -> Result<Event, Fail> {
@@ -167,6 +168,11 @@ fn asked_event(alloc: Global, step: Option<(u64, u64, Asked)>) -> Result<Event, 
         Asked::MakeD => mkdir(alloc, b"d")?,
         Asked::MakeX => mkdir(alloc, b"x")?,
         Asked::FindD => lookup(alloc, b"d")?,
+        Asked::List => Op::Readdir {
+            dir: Ino(1),
+            after: None,
+            max: PageSize::MAX,
+        },
     };
     Ok(arrive(1, tid, oldest, op))
 }
@@ -256,5 +262,70 @@ fn events_and_trees_are_copied(rt: HostRuntime) -> Result<(), Fail> {
     assert_eq!(rt; event.try_clone()?, event);
     let tree = PlainTree::new(alloc);
     assert_eq!(rt; tree.try_clone()?, tree);
+    Ok(())
+}
+
+// A directory is made, found and listed.
+const FIRST_ROW: [Option<(u64, u64, Asked)>; 6] = [
+    Some((1, 1, Asked::MakeD)),
+    None,
+    Some((2, 2, Asked::FindD)),
+    None,
+    Some((3, 3, Asked::List)),
+    None,
+];
+
+const FIRST_ROW_TOLD: [Told; 6] = [
+    Told::Waits,
+    Told::Replied(1, 0, true),
+    Told::Waits,
+    Told::Replied(2, 1, true),
+    Told::Waits,
+    Told::Replied(3, 2, true),
+];
+
+// What is refused once is made the second time: `tests/refused_growths` refuses one allocation of a run.
+fn made(alloc: Global, step: Option<(u64, u64, Asked)>) -> Result<Event, Fail> {
+    match asked_event(alloc, step) {
+        Ok(event) => Ok(event),
+        Err(_) => asked_event(alloc, step),
+    }
+}
+
+fn shown(alloc: Global, book: &Book) -> Result<String, Fail> {
+    match format!(in alloc; "{book:?}") {
+        Ok(text) => Ok(text),
+        Err(_) => Ok(format!(in alloc; "{book:?}")?),
+    }
+}
+
+// Steps, once more where growth was refused. Answers whether the book stood then as before.
+fn stepped(
+    alloc: Global,
+    book: &mut Book,
+    step: Option<(u64, u64, Asked)>,
+    wanted: Told,
+) -> Result<bool, Fail> {
+    let before = shown(alloc, book)?;
+    let event = made(alloc, step)?;
+    if came_to(&book.step(alloc, event)) == wanted {
+        return Ok(true);
+    }
+    let same = shown(alloc, book)? == before;
+    let event = made(alloc, step)?;
+    Ok(same && came_to(&book.step(alloc, event)) == wanted)
+}
+
+#[test]
+fn a_refused_growth_leaves_the_book(rt: HostRuntime) -> Result<(), Fail> {
+    let alloc = rt.alloc();
+    let mut book = format(alloc, 1, 512);
+    for (step, wanted) in FIRST_ROW.iter().zip(FIRST_ROW_TOLD.iter()) {
+        assert!(rt; stepped(alloc, &mut book, *step, *wanted)?);
+    }
+    let mut book = format(alloc, 1, 512);
+    for (step, wanted) in ROW.iter().zip(ROW_TOLD.iter()) {
+        assert!(rt; stepped(alloc, &mut book, *step, *wanted)?);
+    }
     Ok(())
 }

@@ -13,10 +13,11 @@ use crate::seen::Seen;
 use mds_types::{Refusal, Reply};
 use sorted_map::SortedMap;
 use std::alloc::Global;
+use std::fmt;
 use std::marker::Model;
 
 /// What is known of every client: its mark, and its kept replies at or above it.
-#[derive(Debug, Drop)]
+#[derive(Drop)]
 pub struct Sessions {
     clients: SortedMap<u64, Client>,
     /// A client of which nothing is known, set aside with room for one reply.
@@ -110,6 +111,14 @@ impl Sessions {
             return
         };
         known.trim();
+    }
+}
+
+impl fmt::Debug for Sessions {
+    /// The clients. The session that is set aside is room, and no part of the table.
+    fn fmt<W: fmt::Write>(&self, f: &mut fmt::Formatter<W>) -> fmt::Result {
+        let clients = &self.clients;
+        write!(f, "Sessions({clients:?})")
     }
 }
 
