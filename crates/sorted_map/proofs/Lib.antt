@@ -1,3 +1,4 @@
 pub mod ContentLaws
 pub mod EqualLaws
+pub mod OverlayLaws
 pub mod PlaceLaws

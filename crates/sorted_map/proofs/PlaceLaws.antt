@@ -9,19 +9,19 @@ use Rattle.std.specs.FinMap.Entries.{find, put, where_key, is_sorted, below_all}
 use Rattle.sorted_map.specs.SortedMap.{after, is_from}
 use Rattle.sorted_map.specs.Places.{IsAt, IsGap, IsPlace}
 
-first : (a b : Bool) → T (a && b) → T a
+pub first : (a b : Bool) → T (a && b) → T a
 first true b p = tt
 first false b p = absurd p
 
-second : (a b : Bool) → T (a && b) → T b
+pub second : (a b : Bool) → T (a && b) → T b
 second true b p = p
 second false b p = absurd p
 
-both : (a b : Bool) → T a → T b → T (a && b)
+pub both : (a b : Bool) → T a → T b → T (a && b)
 both true b p q = q
 both false b p q = absurd p
 
-less : (r : Ordering) → T (is_lt r) → r ≡ Less
+pub less : (r : Ordering) → T (is_lt r) → r ≡ Less
 less Less p = refl
 less Equal p = absurd p
 less Greater p = absurd p
@@ -170,7 +170,7 @@ module _ {K V : Type 0} {R : K → K → Ordering} (o : IsTotalOrder R) where
 -- ---- a list whose neighbours rise is in order
 
 module _ {K V : Type 0} {R : K → K → Ordering} (o : IsTotalOrder R) where
-  below_less : (x y : K) (es : List (K × V)) → R x y ≡ Less → T (below_all R y es) → T (below_all R x es)
+  pub below_less : (x y : K) (es : List (K × V)) → R x y ≡ Less → T (below_all R y es) → T (below_all R x es)
   below_less x y [] p h = tt
   below_less x y (e ∷ es) p h = both _ _ (subst (λ r. T (is_lt r)) (sym (o.trans x y e.0 p (less _ (first _ _ h)))) tt) (below_less x y es p (second _ _ h))
 

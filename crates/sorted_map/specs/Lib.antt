@@ -1,4 +1,5 @@
 pub mod Laws
 pub mod Lending
+pub mod Overlay
 pub mod Places
 pub mod SortedMap

@@ -10,6 +10,7 @@ mod iters;
 mod keys;
 mod lends;
 mod map;
+mod overlay;
 mod places;
 #[cfg(test)]
 mod tests;
