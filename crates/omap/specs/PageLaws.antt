@@ -55,6 +55,6 @@ pages_make_up pairs after i pair is =
     let here : List (List ℕ × List ℕ) = filter (λ e. is_after after e.0) es in
     let past : is_after after pair.0 ≡ true = passes (λ (e : List ℕ × List ℕ). is_after after e.0) es i pair is in
     let rest : filter (λ (e : List ℕ × List ℕ). is_lt (key_cmp pair.0 e.0)) es ≡ drop (suc i) here =
-        narrowed (λ (e : List ℕ × List ℕ). is_after after e.0) (λ e. is_lt (key_cmp pair.0 e.0)) (λ e less. chained after pair.0 past e.0 less) es
-        ∙ greater_than_row nat_list_cmp_total here i pair (is_sorted-where_key key_cmp (is_after after) es (map.entries_sorted pairs)) is in
+    narrowed (λ (e : List ℕ × List ℕ). is_after after e.0) (λ e. is_lt (key_cmp pair.0 e.0)) (λ e less. chained after pair.0 past e.0 less) es
+    ∙ greater_than_row nat_list_cmp_total here i pair (is_sorted-where_key key_cmp (is_after after) es (map.entries_sorted pairs)) is in
     ap (λ xs. take (suc i) here ++ xs) rest ∙ take-append-drop (suc i) here

@@ -84,6 +84,14 @@ impl KeySet {
     }
 }
 
+impl Clone for KeySet {
+    ghost is_clone = { λ old new. new ≡ old };
+
+    fn clone(&self) -> Result<KeySet, AllocError> {
+        self.try_clone()
+    }
+}
+
 impl PartialEq for KeySet {
     ghost eq = { λ a b. pointwise (pairs_eq (pointwise ◌==◌) ⟦<() as PartialEq>⟧.eq) (map.entries a) (map.entries b) };
 

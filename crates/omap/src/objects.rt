@@ -92,6 +92,14 @@ impl Object {
     }
 }
 
+impl Clone for Object {
+    ghost is_clone = { λ old new. new ≡ old };
+
+    fn clone(&self) -> Result<Object, AllocError> {
+        self.try_clone()
+    }
+}
+
 impl PartialEq for Object {
     ghost eq = { same_omap };
 

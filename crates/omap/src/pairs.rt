@@ -102,6 +102,14 @@ impl Pairs {
     }
 }
 
+impl Clone for Pairs {
+    ghost is_clone = { λ old new. new ≡ old };
+
+    fn clone(&self) -> Result<Pairs, AllocError> {
+        self.try_clone()
+    }
+}
+
 impl PartialEq for Pairs {
     ghost eq = { λ a b. pointwise (pairs_eq (pointwise ◌==◌) (pointwise ◌==◌)) (map.entries a) (map.entries b) };
 

@@ -1,0 +1,52 @@
+-- What a write leaves, for an object that is there and for one that isn't.
+use Rattle.std.proofs.lemmas.List.{take_all, length-map}
+use Rattle.std.proofs.Common.{◌≡◌, ℕ, arith, take, map, length, Bool, true, false, cond, List, Some, None, Result, Ok, Err, OnOk, OnErr, Ordering, Less, Equal, Greater, refl, sym, ap, ◌∙◌}
+use Rattle.std.specs.Option.{unwrap_or}
+use Rattle.std.specs.Ordering.{is_eq, eq_by_cmp}
+use Rattle.std.specs.Cmp.Lexicographic.{nat_list_cmp_total}
+use Rattle.std.specs.FinMap as finmap
+use Rattle.std.specs.FinMap.{same_map, get-insert, len-entries}
+use Rattle.std.proofs.lemmas.Map.Lookups.{exact_bytes}
+use Rattle.sorted_map.specs.Laws.{contents-entries}
+use Rattle.omap.specs.declared.write_ops.WriteOp.{WriteOp}
+use Rattle.omap.specs.Omap.{Omap, key_cmp, empty_omap}
+use Rattle.omap.specs.Writes.{applied}
+use Rattle.objstore.specs.Objects.{Objects, written}
+
+tie : (r : Ordering) → is_eq r ≡ true → r ≡ Equal
+tie Less h = cc
+tie Equal h = refl
+tie Greater h = cc
+
+-- to write back what was there changes nothing
+written_back : (objects : Objects) (name : List ℕ) (object : Omap) → finmap.get objects name ≡ Some object → finmap.insert objects name object ≡ objects
+written_back objects name object there =
+    same_map nat_list_cmp_total exact_bytes _ _ (λ q. get-insert nat_list_cmp_total objects name object q ∙ go q (eq_by_cmp key_cmp q name) refl)
+  where
+    go : (q : List ℕ) (b : Bool) → eq_by_cmp key_cmp q name ≡ b → cond b (Some object) (finmap.get objects q) ≡ finmap.get objects q
+    go q true same = sym there ∙ ap (finmap.get objects) (sym (exact_bytes q name (tie (key_cmp q name) same)))
+    go q false apart = refl
+
+pub done_at : {A E : Type 0} (r : Result A E) (objects : Objects) (name : List ℕ) (op : WriteOp) (old new : Omap) → Some old ≡ finmap.get objects name → OnOk r (new ≡ applied op old)
+    → OnOk r (finmap.from_sorted {R = key_cmp} (finmap.entries (finmap.insert objects name new)) ≡ written objects name op)
+unfolding written
+done_at (Ok x) objects name op old new there is =
+    contents-entries _ ∙ ap (finmap.insert objects name) (is ∙ ap (λ o. applied op (unwrap_or o empty_omap)) there)
+done_at (Err x) objects name op old new there is = tt
+
+pub same_at : {A E : Type 0} (r : Result A E) (objects : Objects) (name : List ℕ) (old new : Omap) → Some old ≡ finmap.get objects name → OnErr r (new ≡ old)
+    → OnErr r (finmap.from_sorted {R = key_cmp} (finmap.entries (finmap.insert objects name new)) ≡ objects)
+same_at (Ok x) objects name old new there is = tt
+same_at (Err x) objects name old new there is = contents-entries _ ∙ ap (finmap.insert objects name) is ∙ written_back objects name old (sym there)
+
+pub added : (before objects : Objects) (key name : List ℕ) (op : WriteOp) (new : Omap) → before ≡ objects → key ≡ name → finmap.get objects name ≡ None → new ≡ applied op empty_omap
+    → finmap.insert before key new ≡ written objects name op
+unfolding written
+added before objects key name op new same is_name absent is =
+    ap (λ m. finmap.insert m key new) same ∙ ap (λ k. finmap.insert objects k new) is_name
+    ∙ ap (finmap.insert objects name) (is ∙ ap (λ o. applied op (unwrap_or o empty_omap)) (sym absent))
+
+-- as many names as there are objects are all of them
+pub all_names : (objects : Objects) (rest : List (List ℕ × Omap)) (n : ℕ) → rest ≡ finmap.entries objects → n ≡ finmap.len objects → take n (map (λ e. e.0) rest) ≡ finmap.keys objects
+all_names objects rest n is all =
+    take_all n _ (omega (arith, length-map rest (λ e. e.0), ap length is, all, len-entries objects)) ∙ ap (map (λ e. e.0)) is

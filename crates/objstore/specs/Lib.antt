@@ -1,0 +1,3 @@
+pub mod Faulty
+pub mod Objects
+pub mod RefusalLaws

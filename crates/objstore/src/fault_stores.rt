@@ -1,0 +1,161 @@
+//! A store that fails one call.
+ghost use Rattle.std.specs.Prelude.{◌≡◌, ◌-◌, ◌+◌, ◌≤◌, ℕ, IsTrue, IfOk, IfErr, OnOk, OnErr, IsErrOf, option_copied, if◌then◌else◌, ◌==◌};
+ghost use Rattle.mds_types.specs.declared.refusals.Refusal.TheVariants.{StoreFault};
+ghost use Rattle.std.specs.FinMap as finmap;
+ghost use Rattle.objstore.specs.Faulty.{Faulty, IsCalled, all_faults};
+ghost use Rattle.objstore.specs.Objects.{MayRefuse, first_names, header_at, names_after, page_at, written};
+
+use crate::name_pages::NamePage;
+use crate::stores::Store;
+use mds_types::Refusal;
+use omap::{Bytes, Page, WriteOp};
+use std::alloc::Global;
+use std::marker::Model;
+
+/// A store over another one, of which one call fails: it isn't done, and answers a fault. Calls after it go on.
+#[derive(Debug, Drop)]
+pub struct FaultStore<S: Store + Drop> {
+    store: S,
+    left: u64,
+    failed: bool,
+}
+
+impl<S: Store + Drop> Model for FaultStore<S> {
+    ghost use Rattle.std.specs.Prelude.{◌≡◌, true, if◌then◌else◌};
+    ghost use Rattle.objstore.specs.Faulty.{Faulty, faulty_code};
+
+    ghost Value = { Faulty S };
+
+    ghost coded = { faulty_code S.code };
+
+    ghost view = { λ s. record { store = s.store; left = s.left; failed = if s.failed then 1 else 0 } };
+
+    ghost invariant = { λ s. s.failed ≡ true → s.left ≡ 0 };
+}
+
+impl<S: Store + Drop> FaultStore<S> {
+    /// The store, of which the `k`-th call from now on will fail; none, for 0.
+    pub fn new(store: S, k: u64) -> FaultStore<S>
+        ensures { result ≡ record { store = store; left = k; failed = 0 } }
+    {
+        FaultStore {
+            store,
+            left: k,
+            failed: false,
+        }
+    }
+
+    /// How many calls have failed: 0 or 1.
+    pub fn failed(&self) -> u64
+        ensures { result ≡ self.now.failed }
+    {
+        u64::from(self.failed)
+    }
+
+    /// The store below.
+    pub fn inner(&self) -> &S
+        ensures { result.now ≡ self.now.store }
+    {
+        &self.store
+    }
+
+    // Counts a call, and tells whether it is the one that fails.
+    fn fails(&mut self) -> bool
+        ensures called { IsCalled self.old self.new (IsTrue result) }
+        ensures told { IsTrue result → self.old.left ≡ 1 }
+        ensures store { self.new.store ≡ self.old.store }
+    {
+        if self.left == 0 {
+            return false;
+        }
+        self.left -= 1;
+        if self.left == 0 {
+            self.failed = true;
+        }
+        self.failed
+    }
+}
+
+impl<S: Store + Drop> Store for FaultStore<S> {
+    ghost objects = { λ s. S.objects s.store };
+
+    ghost faults = { all_faults S.faults };
+
+    fn header(&mut self, alloc: Global, name: &str) -> Result<Option<Bytes>, Refusal>
+        ensures found { IfOk result (λ header. header ≡ header_at (S.objects self.old.store) name.now) }
+        ensures same { S.objects self.new.store ≡ S.objects self.old.store }
+        ensures grows { all_faults S.faults self.old ≤ all_faults S.faults self.new }
+        ensures refused { IfErr result (MayRefuse (all_faults S.faults self.old) (all_faults S.faults self.new)) }
+        ensures called { IsCalled self.old self.new (IsErrOf result StoreFault) }
+    {
+        if self.fails() {
+            return Err(Refusal::StoreFault);
+        }
+        self.store.header(alloc, name)
+    }
+
+    fn page(
+        &mut self,
+        alloc: Global,
+        name: &str,
+        after: Option<&Bytes>,
+        max: usize,
+    ) -> Result<Option<Page>, Refusal>
+        requires { 1 ≤ max }
+        ensures found { IfOk result (λ page. page ≡ page_at (S.objects self.old.store) name.now (option_copied after.entry) max) }
+        ensures same { S.objects self.new.store ≡ S.objects self.old.store }
+        ensures grows { all_faults S.faults self.old ≤ all_faults S.faults self.new }
+        ensures refused { IfErr result (MayRefuse (all_faults S.faults self.old) (all_faults S.faults self.new)) }
+        ensures called { IsCalled self.old self.new (IsErrOf result StoreFault) }
+    {
+        if self.fails() {
+            return Err(Refusal::StoreFault);
+        }
+        self.store.page(alloc, name, after, max)
+    }
+
+    fn apply(&mut self, alloc: Global, name: &str, op: &WriteOp) -> Result<(), Refusal>
+        ensures done { OnOk result (S.objects self.new.store ≡ written (S.objects self.old.store) name.now op.now) }
+        ensures same { OnErr result (S.objects self.new.store ≡ S.objects self.old.store) }
+        ensures grows { all_faults S.faults self.old ≤ all_faults S.faults self.new }
+        ensures refused { IfErr result (MayRefuse (all_faults S.faults self.old) (all_faults S.faults self.new)) }
+        ensures called { IsCalled self.old self.new (IsErrOf result StoreFault) }
+    {
+        if self.fails() {
+            return Err(Refusal::StoreFault);
+        }
+        self.store.apply(alloc, name, op)
+    }
+
+    fn remove(&mut self, name: &str) -> Result<(), Refusal>
+        ensures done { OnOk result (S.objects self.new.store ≡ finmap.remove (S.objects self.old.store) name.now) }
+        ensures same { OnErr result (S.objects self.new.store ≡ S.objects self.old.store) }
+        ensures grows { all_faults S.faults self.old ≤ all_faults S.faults self.new }
+        ensures refused { IfErr result (MayRefuse (all_faults S.faults self.old) (all_faults S.faults self.new)) }
+        ensures called { IsCalled self.old self.new (IsErrOf result StoreFault) }
+    {
+        if self.fails() {
+            return Err(Refusal::StoreFault);
+        }
+        self.store.remove(name)
+    }
+
+    fn names_page(
+        &mut self,
+        alloc: Global,
+        after: Option<&str>,
+        max: usize,
+    ) -> Result<NamePage, Refusal>
+        requires { 1 ≤ max }
+        ensures found { IfOk result (λ page. page ≡ first_names max (names_after (S.objects self.old.store) (option_copied after.entry))) }
+        ensures same { S.objects self.new.store ≡ S.objects self.old.store }
+        ensures grows { all_faults S.faults self.old ≤ all_faults S.faults self.new }
+        ensures refused { IfErr result (MayRefuse (all_faults S.faults self.old) (all_faults S.faults self.new)) }
+        ensures called { IsCalled self.old self.new (IsErrOf result StoreFault) }
+    {
+        if self.fails() {
+            return Err(Refusal::StoreFault);
+        }
+        self.store.names_page(alloc, after, max)
+    }
+}

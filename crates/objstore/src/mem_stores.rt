@@ -1,0 +1,164 @@
+//! A store in memory.
+ghost use Rattle.std.specs.Prelude.{◌≡◌, ℕ, List, None, map, IfOk, IfErr, OnOk, OnErr, option_copied, string_bytes};
+ghost use Rattle.std.specs.FinMap as finmap;
+ghost use Rattle.mds_types.specs.declared.refusals.Refusal.TheVariants.{NoMemory};
+ghost use Rattle.omap.specs.Omap.{Omap, key_cmp};
+ghost use Rattle.objstore.specs.Objects.{names_after, written};
+ghost use Rattle.sorted_map.specs.SortedMap.{contents};
+
+use crate::name_pages::{NamePage, first_names};
+use crate::names::{NameRef, StoredName};
+use crate::stores::Store;
+use mds_types::Refusal;
+use omap::{Bytes, Object, Page, WriteOp};
+use sorted_map::{Iter, SortedMap};
+use std::alloc::{AllocError, Global};
+use std::marker::Model;
+
+/// Objects in memory, in the order of their names. It has no faults.
+#[derive(Debug, Drop)]
+pub struct MemStore {
+    objects: SortedMap<StoredName, Object>,
+}
+
+impl Model for MemStore {
+    ghost use Rattle.std.specs.Coded.{codes};
+    ghost use Rattle.std.specs.FinMap as map;
+    ghost use Rattle.omap.specs.Omap.{key_cmp};
+    ghost use Rattle.objstore.specs.Objects.{Objects};
+    ghost use Rattle.sorted_map.specs.SortedMap.{contents};
+
+    ghost Value = { Objects };
+
+    ghost coded = { Prim.hlevel (codes, map.code) };
+
+    ghost view = { λ s. contents key_cmp s.objects };
+}
+
+impl MemStore {
+    /// A store with no object. Takes no memory.
+    pub fn new(alloc: Global) -> MemStore
+        ensures { result ≡ finmap.empty }
+    {
+        MemStore {
+            objects: SortedMap::new(alloc),
+        }
+    }
+
+    /// The object of this name. Takes logarithmic time.
+    pub fn get(&self, name: &str) -> Option<&Object>
+        ensures { option_copied result ≡ finmap.get self.now name.now }
+    {
+        self.objects.get(&NameRef { text: name })
+    }
+
+    /// The names of all objects, in order. Takes memory for copies of them; the only refusal is `Refusal::NoMemory`.
+    pub fn names(&self, alloc: Global) -> Result<Vec<String>, Refusal>
+        ensures names { IfOk result (λ names. map string_bytes names.items ≡ finmap.keys self.now) }
+        ensures refused { IfErr result (λ refusal. refusal ≡ NoMemory) }
+    {
+        let all = first_names(alloc, self.objects.iter(), self.objects.len())?;
+        Ok(all.into_names())
+    }
+
+    /// A copy. Takes memory for all objects.
+    pub fn try_clone(&self) -> Result<MemStore, AllocError>
+        ensures { IfOk result (λ copy. copy ≡ self.now) }
+    {
+        Ok(MemStore {
+            objects: self.objects.clone()?,
+        })
+    }
+}
+
+impl Store for MemStore {
+    ghost objects = { λ s. s };
+
+    ghost faults = { λ _. 0 };
+
+    fn header(&mut self, alloc: Global, name: &str) -> Result<Option<Bytes>, Refusal> {
+        match self.get(name) {
+            Some(object) => Ok(Some(object.header().try_clone()?)),
+            None => Ok(None),
+        }
+    }
+
+    fn page(
+        &mut self,
+        alloc: Global,
+        name: &str,
+        after: Option<&Bytes>,
+        max: usize,
+    ) -> Result<Option<Page>, Refusal> {
+        match self.get(name) {
+            Some(object) => Ok(Some(object.page(alloc, after, max)?)),
+            None => Ok(None),
+        }
+    }
+
+    fn apply(&mut self, alloc: Global, name: &str, op: &WriteOp) -> Result<(), Refusal> {
+        Ok(write(&mut self.objects, alloc, name, op)?)
+    }
+
+    fn remove(&mut self, name: &str) -> Result<(), Refusal> {
+        let _ = self.objects.remove(&NameRef { text: name });
+        Ok(())
+    }
+
+    fn names_page(
+        &mut self,
+        alloc: Global,
+        after: Option<&str>,
+        max: usize,
+    ) -> Result<NamePage, Refusal> {
+        Ok(first_names(alloc, rest_after(&self.objects, after), max)?)
+    }
+}
+
+// Does the operation on the object of this name, and makes the object where it is absent.
+fn write(
+    objects: &mut SortedMap<StoredName, Object>,
+    alloc: Global,
+    name: &str,
+    op: &WriteOp,
+) -> Result<(), AllocError>
+    ensures done { OnOk result (contents key_cmp objects.new ≡ written (contents key_cmp objects.old) name.now op.now) }
+    ensures same { OnErr result (contents key_cmp objects.new ≡ contents key_cmp objects.old) }
+{
+    let Some(object) = objects.get_mut(&NameRef { text: name }) else {
+        return add(objects, alloc, name, op);
+    };
+    object.apply(op)
+}
+
+// Puts an object in that the operation makes, where none has the name.
+fn add(
+    objects: &mut SortedMap<StoredName, Object>,
+    alloc: Global,
+    name: &str,
+    op: &WriteOp,
+) -> Result<(), AllocError>
+    requires { finmap.get (contents key_cmp objects.old) name.now ≡ None }
+    ensures done { OnOk result (contents key_cmp objects.new ≡ written (contents key_cmp objects.old) name.now op.now) }
+    ensures same { OnErr result (contents key_cmp objects.new ≡ contents key_cmp objects.old) }
+{
+    let name = StoredName::from_text(alloc, name)?;
+    let mut object = Object::new(alloc);
+    object.apply(op)?;
+    objects.reserve(1)?;
+    let _ = objects.insert(name, object);
+    Ok(())
+}
+
+// The objects whose names come after one.
+fn rest_after<'a>(
+    objects: &'a SortedMap<StoredName, Object>,
+    after: Option<&str>,
+) -> Iter<'a, StoredName, Object>
+    ensures { map (λ (e : List ℕ × Omap). e.0) result ≡ names_after (contents key_cmp objects.entry.now) (option_copied after.entry) }
+{
+    match after {
+        Some(name) => objects.iter_after(&NameRef { text: name }),
+        None => objects.iter(),
+    }
+}

@@ -1,0 +1,111 @@
+//! Names of objects as keys of a map.
+ghost use Rattle.std.proofs.Common.{rules};
+ghost use Rattle.std.proofs.lemmas.Map.Lookups.{exact_bytes};
+ghost use Rattle.std.specs.Cmp.{partial_order_from_own_ties};
+ghost use Rattle.std.specs.Cmp.Lexicographic.{pointwise, slice_cmp};
+ghost use Rattle.std.specs.Cmp.Rules.{comparing};
+ghost use Rattle.std.specs.Ordering.{nat_cmp, as_partial_cmp};
+ghost use Rattle.std.specs.Prelude.{◌≡◌, ◌==◌, IfOk};
+
+use sorted_map::{ExactOrd, Probe};
+use std::alloc::{AllocError, Global};
+use std::cmp::Ordering;
+use std::marker::Model;
+
+/// The name of an object: a text, seen as its bytes and ordered by them.
+#[derive(Debug, Drop)]
+pub(crate) struct StoredName {
+    text: String,
+}
+
+impl Model for StoredName {
+    ghost use Rattle.std.specs.Prelude.{List, ℕ, string_bytes};
+
+    ghost Value = { List ℕ };
+
+    ghost view = { λ n. string_bytes n.text };
+}
+
+impl StoredName {
+    /// A copy of the text as a name.
+    pub(crate) fn from_text(alloc: Global, text: &str) -> Result<StoredName, AllocError>
+        ensures { IfOk result (λ name. name ≡ text.now) }
+    {
+        Ok(StoredName {
+            text: String::from_str(alloc, text)?,
+        })
+    }
+
+    /// The text.
+    pub(crate) fn as_str(&self) -> &str
+        ensures { result.now ≡ self.now }
+    {
+        self.text.as_str()
+    }
+}
+
+impl Clone for StoredName {
+    ghost is_clone = { λ old new. new ≡ old };
+
+    fn clone(&self) -> Result<StoredName, AllocError> {
+        Ok(StoredName {
+            text: self.text.clone()?,
+        })
+    }
+}
+
+impl PartialEq for StoredName {
+    ghost eq = { pointwise ◌==◌ };
+
+    ghost laws = { Prim.search (comparing, rules) };
+
+    fn eq(&self, other: &StoredName) -> bool {
+        self.text.as_bytes() == other.text.as_bytes()
+    }
+}
+
+impl Eq for StoredName {
+    ghost laws = { Prim.search (comparing, rules) };
+}
+
+impl PartialOrd for StoredName {
+    ghost partial_cmp = { as_partial_cmp (slice_cmp nat_cmp) };
+
+    ghost laws = { partial_order_from_own_ties (Prim.search (comparing, rules)) (Prim.search (comparing, rules)) };
+
+    fn partial_cmp(&self, other: &StoredName) -> Option<Ordering> {
+        Some(self.cmp(other))
+    }
+}
+
+impl Ord for StoredName {
+    ghost cmp = { slice_cmp nat_cmp };
+
+    ghost total = { Prim.search (comparing, rules) };
+
+    ghost matches_partial_cmp = { Prim.search (comparing, rules) };
+
+    ghost matches_eq = { Prim.search (comparing, rules) };
+
+    fn cmp(&self, other: &StoredName) -> Ordering {
+        self.text.as_bytes().cmp(other.text.as_bytes())
+    }
+}
+
+impl ExactOrd for StoredName {
+    ghost exact = { exact_bytes };
+}
+
+/// A text that a name is looked up by.
+#[derive(Clone, Copy)]
+pub(crate) struct NameRef<'a> {
+    pub(crate) text: &'a str,
+}
+
+impl<'a> Probe<StoredName> for NameRef<'a> {
+    ghost key = { λ p. p.text.now };
+
+    fn order(&self, other: &StoredName) -> Ordering {
+        self.text.as_bytes().cmp(other.text.as_bytes())
+    }
+}
