@@ -69,10 +69,11 @@ impl<S: Store + Drop> FaultStore<S> {
             return false;
         }
         self.left -= 1;
-        if self.left == 0 {
+        let last = self.left == 0;
+        if last {
             self.failed = true;
         }
-        self.failed
+        last
     }
 }
 

@@ -30,7 +30,7 @@ impl NamePage {
     pub fn names(&self) -> &[String]
         ensures { map string_bytes result.now ≡ self.now.names }
     {
-        self.names.as_slice()
+        &self.names
     }
 
     /// Whether more names follow in the store.

@@ -106,6 +106,6 @@ impl<'a> Probe<StoredName> for NameRef<'a> {
     ghost key = { λ p. p.text.now };
 
     fn order(&self, other: &StoredName) -> Ordering {
-        self.text.as_bytes().cmp(other.text.as_bytes())
+        self.text.as_bytes().cmp(other.as_str().as_bytes())
     }
 }

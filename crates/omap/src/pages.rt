@@ -27,7 +27,7 @@ impl Page {
     pub fn pairs(&self) -> &[(Bytes, Bytes)]
         ensures { result.now ≡ self.now.pairs }
     {
-        self.pairs.as_slice()
+        &self.pairs
     }
 
     /// Whether more pairs follow in the object.
