@@ -6,6 +6,8 @@ pub mod HistoryLaws
 pub mod ListingLaws
 pub mod Name
 pub mod NameFault
+pub mod ObjectText
+pub mod ObjectTextLaws
 pub mod PlaceLaws
 pub mod Refusal
 pub mod Step

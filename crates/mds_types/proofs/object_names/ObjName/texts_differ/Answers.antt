@@ -1,0 +1,5 @@
+use Rattle.mds_types.specs.ObjectTextLaws.{texts_differ as law}
+use Rattle.mds_types.proofs.object_names.ObjName.texts_differ.Goals as goal
+
+pub returns : goal.returns
+returns c = law

@@ -1,0 +1,13 @@
+use Rattle.std.proofs.Common.{rules, ◌++◌, codes, sym, ap, ◌∙◌, false}
+use Rattle.std.proofs.Output.{has_written_of_eq}
+use Rattle.std.specs.Fmt.{digits}
+use Rattle.mds_types.specs.ObjectText.{object_text, word_text}
+use Rattle.mds_types.specs.ObjectTextLaws.{word_padded}
+use Rattle.mds_types.proofs.object_names.ObjNameDisplay.fmt.Goals as goal
+
+-- the fragment's word is padded to 8 digits
+pub returns-in-Frag-clause-writes : goal.returns-in-Frag-clause-writes
+returns-in-Frag-clause-writes g c = λ plain ok.
+    has_written_of_eq _ _ _ _ _
+    (ap (λ t. digits 16 false c.in-Frag.ino.0 ++ (codes "." ++ t)) (word_padded c.word-word.result ∙ ap word_text c.word-word.ensures) ∙ ap object_text (sym c.in-Frag.is))
+    (search rules)
