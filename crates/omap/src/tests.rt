@@ -1,7 +1,7 @@
 //! Operations, pages and keys by hand-known answers, and each call that takes memory once.
 ghost use Rattle.std.specs.Prelude.{◌≤◌};
 
-use crate::{Bytes, KeySet, Object, Page, WriteOp, key_of, name_of};
+use crate::{Bytes, Object, Page, WriteOp, key_of, name_of};
 use mds_types::Name;
 use std::alloc::{AllocError, Global};
 use std::test::Fail;
@@ -42,49 +42,50 @@ fn shown(alloc: Global, object: &Object) -> Result<Vec<u8>, AllocError> {
     Ok(text)
 }
 
+// What an object of these pairs shows after an operation.
+fn after(alloc: Global, pairs: &[(&[u8], u8)], op: &WriteOp) -> Result<Vec<u8>, AllocError> {
+    let mut object = object(alloc, pairs)?;
+    object.apply(op)?;
+    shown(alloc, &object)
+}
+
 #[test]
 fn pairs_stand_in_the_order_of_their_bytes(rt: HostRuntime) -> Result<(), Fail> {
-    let object = object(
+    let op = operation(
         rt.alloc(),
         &[(b"a_head", b'1'), (b"b", b'2'), (b"a!_head", b'3')],
+        &[],
     )?;
-    let text = shown(rt.alloc(), &object)?;
+    let text = after(rt.alloc(), &[], &op)?;
     assert_eq!(rt; text.as_slice(), b"old a!_head3 a_head1 b2".as_slice());
-    assert_eq!(rt; object.pairs().len(), 3);
     Ok(())
 }
 
 #[test]
 fn sets_fall_before_between_and_behind(rt: HostRuntime) -> Result<(), Fail> {
-    let mut object = object(rt.alloc(), &[(b"b", b'1'), (b"d", b'1'), (b"f", b'1')])?;
     let op = operation(
         rt.alloc(),
         &[(b"a", b'2'), (b"d", b'2'), (b"e", b'2'), (b"g", b'2')],
         &[b"b", b"x"],
     )?;
-    object.apply(&op)?;
-    let text = shown(rt.alloc(), &object)?;
+    let text = after(rt.alloc(), &[(b"b", b'1'), (b"d", b'1'), (b"f", b'1')], &op)?;
     assert_eq!(rt; text.as_slice(), b"old a2 d2 e2 f1 g2".as_slice());
     Ok(())
 }
 
 #[test]
 fn what_is_set_and_removed_is_gone(rt: HostRuntime) -> Result<(), Fail> {
-    let mut object = object(rt.alloc(), &[(b"a", b'1'), (b"b", b'1')])?;
     let op = operation(rt.alloc(), &[(b"a", b'2'), (b"c", b'2')], &[b"a", b"c"])?;
-    object.apply(&op)?;
-    let text = shown(rt.alloc(), &object)?;
+    let text = after(rt.alloc(), &[(b"a", b'1'), (b"b", b'1')], &op)?;
     assert_eq!(rt; text.as_slice(), b"old b1".as_slice());
     Ok(())
 }
 
 #[test]
 fn a_clear_takes_header_and_pairs_first(rt: HostRuntime) -> Result<(), Fail> {
-    let mut object = object(rt.alloc(), &[(b"a", b'1'), (b"b", b'1')])?;
     let mut op = operation(rt.alloc(), &[(b"c", b'2')], &[])?;
     op.clear = true;
-    object.apply(&op)?;
-    let text = shown(rt.alloc(), &object)?;
+    let text = after(rt.alloc(), &[(b"a", b'1'), (b"b", b'1')], &op)?;
     assert_eq!(rt; text.as_slice(), b" c2".as_slice());
     Ok(())
 }
@@ -95,18 +96,18 @@ fn copies_are_equal_and_stand_alone(rt: HostRuntime) -> Result<(), Fail> {
     let copy = object.try_clone()?;
     assert!(rt; object == copy);
     let op = operation(rt.alloc(), &[(b"b", b'1')], &[])?;
-    object.apply(&op.try_clone()?)?;
+    assert_eq!(rt; object.apply(&op), Ok(()));
     assert!(rt; object != copy);
+    assert_eq!(rt; object.pairs().len(), 2);
     Ok(())
 }
 
 #[test]
-fn sets_of_keys_are_copied_and_compared(rt: HostRuntime) -> Result<(), Fail> {
-    let mut keys = KeySet::new(rt.alloc());
-    keys.put(Bytes::from_slice(rt.alloc(), b"a")?)?;
-    let copy = keys.try_clone()?;
-    assert!(rt; keys == copy);
-    assert_eq!(rt; copy.len(), 1);
+fn an_operation_is_copied(rt: HostRuntime) -> Result<(), Fail> {
+    let op = operation(rt.alloc(), &[(b"a", b'1')], &[b"b"])?;
+    let copy = op.try_clone()?;
+    assert!(rt; copy.set == op.set && copy.remove == op.remove);
+    assert_eq!(rt; copy.remove.len(), 1);
     Ok(())
 }
 
@@ -147,16 +148,31 @@ fn keys_by_pages(alloc: Global, object: &Object, max: usize) -> Result<(Vec<u8>,
     Ok((keys, 200))
 }
 
+// Whether these are the numbers from 0 up to 128.
+fn are_all(keys: &[u8]) -> bool {
+    keys.len() == 129
+        && keys
+            .iter()
+            .zip(0..129u8)
+            .all(|(key, number)| *key == number)
+}
+
+// Whether 129 pairs are read in so many pages of `max`.
+fn read_whole(alloc: Global, max: usize, pages: u8) -> Result<bool, AllocError>
+    requires { 1 ≤ max }
+{
+    let object = numbered(alloc, 129)?;
+    let (keys, count) = keys_by_pages(alloc, &object, max)?;
+    Ok(count == pages && are_all(&keys))
+}
+
 #[test]
 fn pages_make_up_the_whole(rt: HostRuntime) -> Result<(), Fail> {
-    let alloc = rt.alloc();
-    let object = numbered(alloc, 129)?;
-    let all = (0..129u8).collect::<Vec<u8>>(alloc)?;
-    assert_eq!(rt; keys_by_pages(alloc, &object, 1)?, (all.clone()?, 129));
-    assert_eq!(rt; keys_by_pages(alloc, &object, 63)?, (all.clone()?, 3));
-    assert_eq!(rt; keys_by_pages(alloc, &object, 64)?, (all.clone()?, 3));
-    assert_eq!(rt; keys_by_pages(alloc, &object, 65)?, (all.clone()?, 2));
-    assert_eq!(rt; keys_by_pages(alloc, &object, 129)?, (all, 1));
+    assert_eq!(rt; read_whole(rt.alloc(), 1, 129), Ok(true));
+    assert_eq!(rt; read_whole(rt.alloc(), 63, 3), Ok(true));
+    assert_eq!(rt; read_whole(rt.alloc(), 64, 3), Ok(true));
+    assert_eq!(rt; read_whole(rt.alloc(), 65, 2), Ok(true));
+    assert_eq!(rt; read_whole(rt.alloc(), 129, 1), Ok(true));
     Ok(())
 }
 
