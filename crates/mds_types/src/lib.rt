@@ -19,6 +19,8 @@ mod refusals;
 mod replies;
 mod requests;
 mod targets;
+#[cfg(test)]
+mod tests;
 
 #[cfg(test)]
 mod tests;
