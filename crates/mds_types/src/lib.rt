@@ -22,9 +22,6 @@ mod targets;
 #[cfg(test)]
 mod tests;
 
-#[cfg(test)]
-mod tests;
-
 pub use entries::Entry;
 pub use errno::{EEXIST, EINVAL, EISDIR, ENAMETOOLONG, ENOENT, ENOTDIR, ENOTEMPTY, ESTALE};
 pub use frags::Frag;
