@@ -13,5 +13,5 @@ run: all
 
 test: all
 	@examples/check
-	@tests/refused_growths/run
 	@rt ci
+	@tests/refused_growths/run

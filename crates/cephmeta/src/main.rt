@@ -12,7 +12,13 @@ const BAD_COMMAND_LINE: u8 = 2;
 const SCRIPT_FAULT: u8 = 1;
 
 fn main(rt: HostRuntime) -> io::Result<ExitCode> {
-    let words: Vec<String> = env::args(&rt)?.collect(rt.alloc())?;
+    let Ok(args) = env::args(&rt) else {
+        return no_memory_for_words(&rt);
+    };
+    let words: Vec<String> = match args.collect(rt.alloc()) {
+        Ok(words) => words,
+        Err(_) => return no_memory_for_words(&rt),
+    };
     let options = match settings(rt.alloc(), words.as_slice()) {
         Ok(options) => options,
         Err(error) => {
@@ -37,4 +43,10 @@ fn main(rt: HostRuntime) -> io::Result<ExitCode> {
             Ok(ExitCode::from(SCRIPT_FAULT))
         }
     }
+}
+
+// The command line needs memory too.
+fn no_memory_for_words(rt: &impl Eprint) -> io::Result<ExitCode> {
+    eprintln!(rt; "cephmeta: out of memory")?;
+    Ok(ExitCode::from(BAD_COMMAND_LINE))
 }

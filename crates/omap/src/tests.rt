@@ -197,3 +197,34 @@ fn other_keys_name_nothing(rt: HostRuntime) -> Result<(), Fail> {
     }
     Ok(())
 }
+
+// An object, a copy of it, and an operation on it.
+fn prepared(alloc: Global) -> Result<(Object, Object, WriteOp), AllocError> {
+    let old = object(alloc, &[(b"b", b'1'), (b"d", b'1')])?;
+    let copy = old.try_clone()?;
+    let mut op = operation(
+        alloc,
+        &[(b"a", b'2'), (b"b", b'2'), (b"c", b'2')],
+        &[b"d"],
+    )?;
+    op.header = Some(Bytes::from_slice(alloc, b"new")?);
+    Ok((old, copy, op))
+}
+
+// `tests/refused_growths` refuses each allocation of this test in turn. Where that is not one of the operation's, there is
+// nothing to see.
+#[test]
+fn a_refused_growth_leaves_the_object(rt: HostRuntime) -> Result<(), Fail> {
+    let Ok((mut object, copy, op)) = prepared(rt.alloc()) else {
+        return Ok(());
+    };
+    if object.apply(&op).is_err() {
+        assert!(rt; object == copy);
+        object.apply(&op)?;
+    }
+    let Ok(text) = shown(rt.alloc(), &object) else {
+        return Ok(());
+    };
+    assert_eq!(rt; text.as_slice(), b"new a2 b2 c2".as_slice());
+    Ok(())
+}
