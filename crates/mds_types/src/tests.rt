@@ -34,7 +34,15 @@ fn bytes_that_are_names(rt: HostRuntime) {
     let alloc = rt.alloc();
     assert_eq!(rt; name_answer(alloc, &LONG[..255]), Some(0));
     assert_eq!(rt; name_answer(alloc, &LONG[..256]), Some(36));
-    for name in [b"a".as_slice(), b"...", b".a", b"a.", b" ", b"\xff", b"\x01"] {
+    for name in [
+        b"a".as_slice(),
+        b"...",
+        b".a",
+        b"a.",
+        b" ",
+        b"\xff",
+        b"\x01",
+    ] {
         assert_eq!(rt; name_answer(alloc, name), Some(0));
     }
     for other in [b"".as_slice(), b".", b"..", b"a/b", b"/", b"\x00", b"a\x00"] {

@@ -256,12 +256,7 @@ fn fragments_of_another_kind_serve(rt: HostRuntime) -> Result<(), Fail> {
 fn what_fragments_refuse_is_passed_on(rt: HostRuntime) -> Result<(), Fail> {
     let alloc = rt.alloc();
     let mut frags = OneEntryFrags { only: None };
-    let listed = serve_op(
-        alloc,
-        &mut frags,
-        &readdir(alloc, Ino(1), None, 1)?,
-        None,
-    );
+    let listed = serve_op(alloc, &mut frags, &readdir(alloc, Ino(1), None, 1)?, None);
     assert_eq!(rt; listed, Err(Refusal::NoMemory));
     let _ = serve_op(
         alloc,

@@ -202,11 +202,7 @@ fn other_keys_name_nothing(rt: HostRuntime) -> Result<(), Fail> {
 fn prepared(alloc: Global) -> Result<(Object, Object, WriteOp), AllocError> {
     let old = object(alloc, &[(b"b", b'1'), (b"d", b'1')])?;
     let copy = old.try_clone()?;
-    let mut op = operation(
-        alloc,
-        &[(b"a", b'2'), (b"b", b'2'), (b"c", b'2')],
-        &[b"d"],
-    )?;
+    let mut op = operation(alloc, &[(b"a", b'2'), (b"b", b'2'), (b"c", b'2')], &[b"d"])?;
     op.header = Some(Bytes::from_slice(alloc, b"new")?);
     Ok((old, copy, op))
 }

@@ -90,7 +90,7 @@ module _ {K V : Type 0} {R : K → K → Ordering} (o : IsTotalOrder R) where
       let sorted : T (is_sorted R new) = subst (λ xs. T (is_sorted R xs)) (sym is) (puts_sorted es fs s) in (
         sorted,
         same_entries_map _ _ (entries-from_sorted R new sorted ∙ is ∙ sym (entries_overlaid (map.from_sorted es) (map.from_sorted fs)
-          ∙ ap (λ xs. puts R xs (map.entries (map.from_sorted {R = R} fs))) (entries-from_sorted R es s) ∙ ap (puts R es) (entries-from_sorted R fs t))),
+            ∙ ap (λ xs. puts R xs (map.entries (map.from_sorted {R = R} fs))) (entries-from_sorted R es s) ∙ ap (puts R es) (entries-from_sorted R fs t))),
       )
 
 -- one pair more that is moved from the front of one list to the end of another
@@ -141,7 +141,6 @@ module _ {K V : Type 0} {R : K → K → Ordering} (o : IsTotalOrder R) where
   next_at exact k v fs es new rest over i h below is left =
       ap (λ l. l ++ puts R rest over) is ∙ ap (λ l. ((fs ++ take i es) ++ (k, v) ∷ []) ++ puts R l over) left
       ∙ joined fs (take i es) (k, v) (puts R (drop (suc i) es) over) ∙ ap (λ l. fs ++ l) (sym (puts_at o exact k v es i over h below))
-
 
   -- whatever the outcome, the pairs are in order; and where they were put they lie over the others
   pub laid_or_left : {A E : Type 0} (r : Result A E) (es fs new : List (K × V)) → T (is_sorted R es) → T (is_sorted R fs) → OnOk r (new ≡ puts R es fs) → OnErr r (new ≡ es)

@@ -118,11 +118,7 @@ fn place_among<K: ExactOrd, V>(rest: &VecDeque<(K, V)>, key: &K) -> Result<usize
 }
 
 // Moves so many pairs from the front of the queue to the end of the vector.
-fn move_over<K: Drop, V: Drop>(
-    front: &mut Vec<(K, V)>,
-    rest: &mut VecDeque<(K, V)>,
-    count: usize,
-)
+fn move_over<K: Drop, V: Drop>(front: &mut Vec<(K, V)>, rest: &mut VecDeque<(K, V)>, count: usize)
     requires within { count ≤ deque_len rest.old }
     requires room { vec_len front.old + count ≤ vec_capacity front.old }
     ensures moved { front.new.items ≡ front.old.items ++ take count rest.old.items }
