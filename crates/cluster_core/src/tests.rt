@@ -16,6 +16,15 @@ fn mkdir(alloc: Global, name: &[u8]) -> Result<Op, Fail> {
     })
 }
 
+fn create(alloc: Global, name: &[u8]) -> Result<Op, Fail> {
+    Ok(Op::Create {
+        dir: Ino(1),
+        name: Name::from_bytes(alloc, name)?,
+        mode: Mode::new(0o644).ok_or("a mode")?,
+        mtime: 0,
+    })
+}
+
 fn lookup(alloc: Global, name: &[u8]) -> Result<Op, Fail> {
     Ok(Op::Lookup {
         dir: Ino(1),
@@ -166,7 +175,7 @@ fn asked_event(alloc: Global, step: Option<(u64, u64, Asked)>) -> Result<Event, 
     };
     let op = match asked {
         Asked::MakeD => mkdir(alloc, b"d")?,
-        Asked::MakeX => mkdir(alloc, b"x")?,
+        Asked::MakeX => create(alloc, b"x")?,
         Asked::FindD => lookup(alloc, b"d")?,
         Asked::List => Op::Readdir {
             dir: Ino(1),

@@ -172,14 +172,3 @@ table-push past table e h = record { marks = marks; replies = replies }
         go false apart =
             let grown = unmarked q apart in
             others_kept past e q tid (ap (λ b. b && (e.tid == tid)) (nat_eq_equiv.symm e.client q ∙ apart)) (omega (arith, grown)) (λ low. subst (λ m. m ≤ tid) (sym grown) low) (kept_in table q tid) (h.replies q tid)
-
--- the same of what a new cluster and a step leave
-pub table-starts : (history : List Entry) (table : Table) → history ≡ [] → table ≡ map.empty → IsTableOf history table
-table-starts history table none is = rw (none, is) table-none
-
-pub table-grows : (past now : List Entry) (table next : Table) (e : Entry) → IsTableOf past table → now ≡ past ++ e ∷ []
-    → next ≡ trimmed (noted table e.client e.tid e.oldest (length past) e.reply) e.client → IsTableOf now next
-table-grows past now table next e h grown is = rw (grown, is) (table-push past table e h)
-
--- for a caller of `new`, `keep` and `trim`: `#[tactic(auto, using(sessions::specs::TableLaws::tables))]`
-pub ruleset tables = (table-starts, table-grows)
