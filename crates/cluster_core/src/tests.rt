@@ -16,15 +16,6 @@ fn mkdir(alloc: Global, name: &[u8]) -> Result<Op, Fail> {
     })
 }
 
-fn create(alloc: Global, name: &[u8]) -> Result<Op, Fail> {
-    Ok(Op::Create {
-        dir: Ino(1),
-        name: Name::from_bytes(alloc, name)?,
-        mode: Mode::new(0o644).ok_or("a mode")?,
-        mtime: 0,
-    })
-}
-
 fn lookup(alloc: Global, name: &[u8]) -> Result<Op, Fail> {
     Ok(Op::Lookup {
         dir: Ino(1),
@@ -169,21 +160,39 @@ enum Asked {
     List,
 }
 
-fn asked_event(alloc: Global, step: Option<(u64, u64, Asked)>) -> Result<Event, Fail> {
-    let Some((tid, oldest, asked)) = step else {
-        return Ok(serve())
-    };
-    let op = match asked {
-        Asked::MakeD => mkdir(alloc, b"d")?,
-        Asked::MakeX => create(alloc, b"x")?,
-        Asked::FindD => lookup(alloc, b"d")?,
-        Asked::List => Op::Readdir {
-            dir: Ino(1),
+fn asked_op(alloc: Global, asked: Asked) -> Option<Op> {
+    let dir = Ino(1);
+    if let Asked::List = asked {
+        return Some(Op::Readdir {
+            dir,
             after: None,
             max: PageSize::MAX,
-        },
-    };
-    Ok(arrive(1, tid, oldest, op))
+        });
+    }
+    let is_x = matches!(asked, Asked::MakeX);
+    let name = Name::from_bytes(alloc, if is_x { b"x" } else { b"d" }).ok()?;
+    match asked {
+        Asked::FindD => Some(Op::Lookup { dir, name }),
+        Asked::MakeX => Some(Op::Create {
+            dir,
+            name,
+            mode: Mode::new(0o644)?,
+            mtime: 0,
+        }),
+        _ => Some(Op::Mkdir {
+            dir,
+            name,
+            mode: Mode::new(0o755)?,
+            mtime: 0,
+        }),
+    }
+}
+
+fn asked_event(alloc: Global, step: Option<(u64, u64, Asked)>) -> Option<Event> {
+    match step {
+        Some((tid, oldest, asked)) => Some(arrive(1, tid, oldest, asked_op(alloc, asked)?)),
+        None => Some(serve()),
+    }
 }
 
 // What an event came to: a request waits, or was answered (transaction number, place, whether it was applied now), or trimmed.
@@ -229,7 +238,7 @@ const ROW_TOLD: [Told; 12] = [
 fn row_events(alloc: Global) -> Result<Vec<Event>, Fail> {
     let mut events = Vec::new(alloc);
     for step in ROW {
-        events.push(asked_event(alloc, step)?)?;
+        events.push(asked_event(alloc, step).ok_or("an event")?)?;
     }
     Ok(events)
 }
@@ -295,10 +304,10 @@ const FIRST_ROW_TOLD: [Told; 6] = [
 
 // What is refused once is made the second time: `tests/refused_growths` refuses one allocation of a run.
 fn made(alloc: Global, step: Option<(u64, u64, Asked)>) -> Result<Event, Fail> {
-    match asked_event(alloc, step) {
-        Ok(event) => Ok(event),
-        Err(_) => asked_event(alloc, step),
+    if let Some(event) = asked_event(alloc, step) {
+        return Ok(event);
     }
+    Ok(asked_event(alloc, step).ok_or("an event")?)
 }
 
 fn shown(alloc: Global, book: &Book) -> Result<String, Fail> {
