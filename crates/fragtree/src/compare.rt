@@ -1,9 +1,8 @@
 //! Whether two trees have the same leaves.
-ghost use Rattle.std.specs.Cmp.{partial_equiv_from_equiv};
+ghost use Rattle.std.specs.Cmp.{decided, partial_equiv_from_equiv};
 ghost use Rattle.std.specs.Cmp.Lexicographic.{pointwise, lists_equiv};
 ghost use Rattle.std.specs.Prelude.{◌≡◌, ◌↔◌, IsTrue};
 ghost use Rattle.std.proofs.Common.{rules};
-ghost use Rattle.mds_types.specs.Decided.{decided};
 
 use crate::tree::FragTree;
 use mds_types::Frag;
