@@ -1,176 +1,292 @@
-//! What no clause says of a book: that steps succeed, and what they answer in rows worked by hand.
+//! What no clause says of a book: that steps succeed, and what they answer in rows worked by hand. A row is a table of
+//! events, each beside what it comes to.
 
 use crate::{Answer, Book, Event, PlainTree, format, run};
-use mds_types::{Entry, Ino, Inode, Kind, Mode, Name, Op, Rank, Refusal, Reply, Request};
+use mds_types::{Ino, Kind, Mode, Name, Op, PageSize, Rank, Refusal, Reply, Request};
 use std::alloc::Global;
-use std::test::Fail;
 
 const FIRST: u64 = 1 << 40;
 
-fn mkdir(alloc: Global, name: &[u8]) -> Result<Op, Fail> {
-    Ok(Op::Mkdir {
-        dir: Ino(1),
-        name: Name::from_bytes(alloc, name)?,
-        mode: Mode::new(0o755).ok_or("a mode")?,
-        mtime: 0,
-    })
+/// What a request asks for, in the root.
+#[derive(Clone, Copy)]
+enum Asked {
+    MakeD,
+    MakeX,
+    FindD,
+    List,
 }
 
-fn lookup(alloc: Global, name: &[u8]) -> Result<Op, Fail> {
-    Ok(Op::Lookup {
-        dir: Ino(1),
-        name: Name::from_bytes(alloc, name)?,
-    })
+/// An event: a request of a client with its transaction number and oldest comes in at rank 0, or a rank serves.
+#[derive(Clone, Copy)]
+enum Did {
+    Ask(u64, u64, u64, Asked),
+    Serve(u8),
 }
 
-fn arrive(client: u64, tid: u64, oldest: u64, op: Op) -> Event {
-    Event::Arrive {
-        rank: Rank(0),
-        request: Request {
-            client,
-            tid,
-            oldest,
-            op,
-        },
+/// What a reply says.
+#[derive(Clone, Copy, Debug, PartialEq, Eq)]
+enum Said {
+    /// A directory of this number.
+    Dir(u64),
+    /// So many names, and no more.
+    Names(usize),
+    Errno(u16),
+    Else,
+}
+
+/// What an event came to.
+#[derive(Clone, Copy, Debug, PartialEq, Eq)]
+enum Came {
+    Waits,
+    /// Client, transaction number, place, whether it was applied now, and the reply.
+    Replied(u64, u64, usize, bool, Said),
+    Refused(u8),
+    /// A refused growth changed the book.
+    Changed,
+}
+
+// The row of a directory that is made, found and listed.
+const FIRST_ROW: [(Did, Came); 6] = [
+    (Did::Ask(0, 1, 1, Asked::MakeD), Came::Waits),
+    (
+        Did::Serve(0),
+        Came::Replied(0, 1, 0, true, Said::Dir(FIRST)),
+    ),
+    (Did::Ask(0, 2, 2, Asked::FindD), Came::Waits),
+    (
+        Did::Serve(0),
+        Came::Replied(0, 2, 1, true, Said::Dir(FIRST)),
+    ),
+    (Did::Ask(0, 3, 3, Asked::List), Came::Waits),
+    (Did::Serve(0), Came::Replied(0, 3, 2, true, Said::Names(1))),
+];
+
+// The row of repeats: the first request with a pair decides; below the client's mark and below its own oldest a request is
+// trimmed, and leaves the inbox; another client has a mark of its own.
+const REPEATS: [(Did, Came); 16] = [
+    (Did::Ask(1, 5, 5, Asked::MakeD), Came::Waits),
+    (Did::Ask(1, 5, 5, Asked::MakeX), Came::Waits),
+    (
+        Did::Serve(0),
+        Came::Replied(1, 5, 0, true, Said::Dir(FIRST)),
+    ),
+    (
+        Did::Serve(0),
+        Came::Replied(1, 5, 0, false, Said::Dir(FIRST)),
+    ),
+    (Did::Ask(1, 6, 6, Asked::FindD), Came::Waits),
+    (
+        Did::Serve(0),
+        Came::Replied(1, 6, 1, true, Said::Dir(FIRST)),
+    ),
+    (Did::Ask(1, 5, 5, Asked::FindD), Came::Waits),
+    (Did::Serve(0), Came::Refused(4)),
+    (Did::Ask(1, 7, 8, Asked::FindD), Came::Waits),
+    (Did::Serve(0), Came::Refused(4)),
+    (Did::Ask(1, 7, 2, Asked::FindD), Came::Waits),
+    (
+        Did::Serve(0),
+        Came::Replied(1, 7, 2, true, Said::Dir(FIRST)),
+    ),
+    (Did::Ask(2, 1, 1, Asked::MakeD), Came::Waits),
+    (Did::Serve(0), Came::Replied(2, 1, 3, true, Said::Errno(17))),
+    (Did::Serve(0), Came::Refused(14)),
+    (Did::Serve(1), Came::Refused(5)),
+];
+
+fn op_of(alloc: Global, asked: Asked) -> Option<Op> {
+    let dir = Ino(1);
+    let bytes = if let Asked::MakeX = asked { b"x" } else { b"d" };
+    let name = Name::from_bytes(alloc, bytes).ok()?;
+    match asked {
+        Asked::MakeD => Some(Op::Mkdir {
+            dir,
+            name,
+            mode: Mode::new(0o755)?,
+            mtime: 0,
+        }),
+        Asked::MakeX => Some(Op::Create {
+            dir,
+            name,
+            mode: Mode::new(0o644)?,
+            mtime: 0,
+        }),
+        Asked::FindD => Some(Op::Lookup { dir, name }),
+        Asked::List => Some(Op::Readdir {
+            dir,
+            after: None,
+            max: PageSize::MAX,
+        }),
     }
 }
 
-fn serve() -> Event {
-    Event::Serve { rank: Rank(0) }
+fn event_of(alloc: Global, did: Did) -> Option<Event> {
+    match did {
+        Did::Ask(client, tid, oldest, asked) => {
+            let request = Request {
+                client,
+                tid,
+                oldest,
+                op: op_of(alloc, asked)?,
+            };
+            Some(Event::Arrive {
+                rank: Rank(0),
+                request,
+            })
+        }
+        Did::Serve(rank) => Some(Event::Serve { rank: Rank(rank) }),
+    }
 }
 
-fn directory(number: u64) -> Result<Reply, Fail> {
-    let mode = Mode::new(0o755).ok_or("a mode")?;
-    Ok(Reply::Entry(Inode {
-        ino: Ino(number),
-        kind: Kind::Dir,
-        mode,
-        size: 0,
-        mtime: 0,
-    }))
+fn told(reply: &Reply) -> Said {
+    match reply {
+        Reply::Entry(inode) => {
+            if inode.kind == Kind::Dir {
+                Said::Dir(inode.ino.0)
+            } else {
+                Said::Else
+            }
+        }
+        Reply::Entries { list, more: false } => Said::Names(list.as_slice().len()),
+        Reply::Errno(errno) => Said::Errno(*errno),
+        _ => Said::Else,
+    }
 }
 
-fn replied(
-    client: u64,
-    tid: u64,
-    place: usize,
-    first: bool,
-    reply: Reply,
-) -> Result<Answer, Refusal> {
-    Ok(Answer::Reply {
-        client,
-        tid,
-        place,
-        first,
-        reply,
-    })
+fn outcome(res: &Result<Answer, Refusal>) -> Came {
+    match res {
+        Ok(Answer::Nothing) => Came::Waits,
+        Ok(
+            Answer::Reply {
+                client,
+                tid,
+                place,
+                first,
+                reply,
+            },
+        ) => Came::Replied(*client, *tid, *place, *first, told(reply)),
+        Err(refusal) => Came::Refused(refusal.number()),
+    }
 }
 
-// One request after the other, each answered at once.
-fn ask(
-    alloc: Global,
-    book: &mut Book,
-    client: u64,
-    tid: u64,
-    oldest: u64,
-    op: Op,
-) -> Result<Result<Answer, Refusal>, Fail> {
-    let _ = book.step(alloc, arrive(client, tid, oldest, op))?;
-    Ok(book.step(alloc, serve()))
+// An event that could not be made for want of memory is one that was refused so.
+fn stepped(alloc: Global, book: &mut Book, did: Did) -> Came {
+    match event_of(alloc, did) {
+        Some(event) => outcome(&book.step(alloc, event)),
+        None => Came::Refused(1),
+    }
+}
+
+// The book as text. `tests/refused_growths` refuses one allocation of a run, so the second try succeeds.
+fn shown(alloc: Global, book: &Book) -> Option<String> {
+    match format!(in alloc; "{book:?}") {
+        Ok(text) => Some(text),
+        Err(_) => format!(in alloc; "{book:?}").ok(),
+    }
+}
+
+// Steps, and once more where growth was refused and left the book as it was.
+fn stepped_again(alloc: Global, book: &mut Book, did: Did) -> Came {
+    let before = shown(alloc, book);
+    let first = stepped(alloc, book, did);
+    if first != Came::Refused(1) {
+        return first;
+    }
+    if shown(alloc, book) != before {
+        return Came::Changed;
+    }
+    stepped(alloc, book, did)
+}
+
+// Where a row first comes to something else, and to what.
+fn wrong(alloc: Global, row: &[(Did, Came)]) -> Option<(usize, Came)> {
+    let mut book = format(alloc, 1, 512);
+    for (place, (did, wanted)) in row.iter().enumerate() {
+        let found = stepped_again(alloc, &mut book, *did);
+        if found != *wanted {
+            return Some((place, found));
+        }
+    }
+    None
 }
 
 #[test]
-fn a_repeat_is_answered_again_whatever_it_asks(rt: HostRuntime) -> Result<(), Fail> {
+fn a_refused_growth_leaves_the_book(rt: HostRuntime) {
+    assert_eq!(rt; wrong(rt.alloc(), &FIRST_ROW), None);
+    assert_eq!(rt; wrong(rt.alloc(), &REPEATS), None);
+}
+
+fn events_of(alloc: Global, row: &[(Did, Came)]) -> Option<Vec<Event>> {
+    let mut events = Vec::new(alloc);
+    for (did, _) in row {
+        let event = event_of(alloc, *did)?;
+        if events.push(event).is_err() {
+            return None;
+        }
+    }
+    Some(events)
+}
+
+// Whether one call of `run` comes to the row.
+fn runs(alloc: Global, row: &[(Did, Came)]) -> bool {
+    let Some(events) = events_of(alloc, row) else {
+        return false;
+    };
+    let mut book = format(alloc, 1, 512);
+    let Ok(results) = run(alloc, &mut book, events) else {
+        return false;
+    };
+    let mut all = results.len() == row.len();
+    for (res, (_, wanted)) in results.iter().zip(row.iter()) {
+        all = all && outcome(res) == *wanted;
+    }
+    all
+}
+
+#[test]
+fn a_run_answers_each_event(rt: HostRuntime) {
+    assert!(rt; runs(rt.alloc(), &FIRST_ROW));
+    assert!(rt; runs(rt.alloc(), &REPEATS));
+}
+
+#[test]
+fn an_entry_holds_what_was_asked_and_taken(rt: HostRuntime) {
     let alloc = rt.alloc();
     let mut book = format(alloc, 1, 512);
-    let first = ask(alloc, &mut book, 1, 5, 5, mkdir(alloc, b"d")?)?;
-    assert_eq!(rt; first, replied(1, 5, 0, true, directory(FIRST)?));
-    let again = ask(alloc, &mut book, 1, 5, 5, mkdir(alloc, b"d")?)?;
-    assert_eq!(rt; again, replied(1, 5, 0, false, directory(FIRST)?));
-    let other = ask(alloc, &mut book, 1, 5, 5, lookup(alloc, b"x")?)?;
-    assert_eq!(rt; other, replied(1, 5, 0, false, directory(FIRST)?));
+    let _ = stepped(alloc, &mut book, Did::Ask(1, 5, 4, Asked::MakeD));
+    let _ = stepped(alloc, &mut book, Did::Serve(0));
     assert_eq!(rt; book.history().len(), 1);
-    Ok(())
+    let entry = &book.history()[0];
+    assert_eq!(rt; (entry.client, entry.tid, entry.oldest), (1, 5, 4));
+    assert_eq!(rt; entry.number, Some(Ino(FIRST)));
+    assert_eq!(rt; told(&entry.reply), Said::Dir(FIRST));
 }
 
 #[test]
-fn trimmed_requests_leave_the_inbox(rt: HostRuntime) -> Result<(), Fail> {
-    let alloc = rt.alloc();
-    let mut book = format(alloc, 1, 512);
-    let _ = ask(alloc, &mut book, 1, 6, 6, lookup(alloc, b"d")?)?;
-    // below the client's mark, and below its own oldest
-    assert_eq!(rt;
-        ask(alloc, &mut book, 1, 5, 5, lookup(alloc, b"d")?)?,
-        Err(Refusal::Trimmed)
-    );
-    assert_eq!(rt;
-        ask(alloc, &mut book, 1, 7, 8, lookup(alloc, b"d")?)?,
-        Err(Refusal::Trimmed)
-    );
-    assert_eq!(rt; book.step(alloc, serve()), Err(Refusal::InboxEmpty));
-    // another client has a mark of its own
-    let other = ask(alloc, &mut book, 2, 1, 1, lookup(alloc, b"d")?)?;
-    assert_eq!(rt; other, replied(2, 1, 1, true, Reply::Errno(2)));
-    Ok(())
-}
-
-#[test]
-fn an_inbox_holds_1024_requests(rt: HostRuntime) -> Result<(), Fail> {
+fn an_inbox_holds_1024_requests(rt: HostRuntime) {
     let alloc = rt.alloc();
     let mut book = format(alloc, 1, 512);
     for tid in 1..=1024u64 {
         assert_eq!(rt;
-            book.step(alloc, arrive(1, tid, tid, lookup(alloc, b"d")?)),
-            Ok(Answer::Nothing)
+            stepped(alloc, &mut book, Did::Ask(1, tid, tid, Asked::List)),
+            Came::Waits
         );
     }
-    let last = book.step(alloc, arrive(1, 1025, 1025, lookup(alloc, b"d")?));
-    assert_eq!(rt; last, Err(Refusal::InboxFull));
-    let elsewhere = book.step(alloc, Event::Serve { rank: Rank(1) });
-    assert_eq!(rt; elsewhere, Err(Refusal::NotAuthority));
-    assert_eq!(rt;
-        book.step(alloc, serve()),
-        replied(1, 1, 0, true, Reply::Errno(2))
-    );
-    Ok(())
+    let last = stepped(alloc, &mut book, Did::Ask(1, 1025, 1025, Asked::List));
+    assert_eq!(rt; last, Came::Refused(15));
+    let served = stepped(alloc, &mut book, Did::Serve(0));
+    assert_eq!(rt; served, Came::Replied(1, 1, 0, true, Said::Names(0)));
 }
 
 #[test]
-fn a_run_answers_each_event(rt: HostRuntime) -> Result<(), Fail> {
+fn events_and_trees_are_copied(rt: HostRuntime) {
     let alloc = rt.alloc();
-    let mut book = format(alloc, 1, 512);
-    let mut events = Vec::new(alloc);
-    events.push(arrive(1, 5, 5, mkdir(alloc, b"d")?))?;
-    events.push(arrive(1, 5, 5, lookup(alloc, b"x")?))?;
-    events.push(serve())?;
-    events.push(serve())?;
-    events.push(serve())?;
-    let results = run(alloc, &mut book, events)?;
-    assert_eq!(rt; results.len(), 5);
-    assert_eq!(rt; results[0], Ok(Answer::Nothing));
-    assert_eq!(rt; results[1], Ok(Answer::Nothing));
-    assert_eq!(rt; results[2], replied(1, 5, 0, true, directory(FIRST)?));
-    assert_eq!(rt; results[3], replied(1, 5, 0, false, directory(FIRST)?));
-    assert_eq!(rt; results[4], Err(Refusal::InboxEmpty));
-    let expected = Entry {
-        client: 1,
-        tid: 5,
-        oldest: 5,
-        op: mkdir(alloc, b"d")?,
-        number: Some(Ino(FIRST)),
-        reply: directory(FIRST)?,
-    };
-    assert_eq!(rt; book.history().len(), 1);
-    assert_eq!(rt; book.history()[0], expected);
-    Ok(())
-}
-
-#[test]
-fn events_and_trees_are_copied(rt: HostRuntime) -> Result<(), Fail> {
-    let alloc = rt.alloc();
-    let event = arrive(1, 5, 5, mkdir(alloc, b"d")?);
-    assert_eq!(rt; event.try_clone()?, event);
     let tree = PlainTree::new(alloc);
-    assert_eq!(rt; tree.try_clone()?, tree);
-    Ok(())
+    assert!(rt; tree.try_clone() == Ok(tree));
+    let event = event_of(alloc, Did::Ask(1, 5, 5, Asked::MakeD));
+    let Some(event) = event else {
+        assert!(rt; false);
+        return;
+    };
+    assert!(rt; event.try_clone() == Ok(event));
 }
