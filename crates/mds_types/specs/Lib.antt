@@ -1,5 +1,8 @@
+pub mod AboveLaws
 pub mod Bools
 pub mod Decided
+pub mod EntryLaws
+pub mod EntrySearch
 pub mod Frag
 pub mod History
 pub mod HistoryLaws

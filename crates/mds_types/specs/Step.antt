@@ -1,22 +1,22 @@
 -- The operation table: what each operation answers on the plain tree, and what it leaves. Each operation's checks come in
 -- the order in which they stand here; an errno changes nothing.
 -- What operations do when they succeed is POSIX.1's; the order of the checks and the errno numbers are this project's own profile.
-use Rattle.std.specs.Prelude.{ℕ, Bool, true, false, cond, ◌&&◌, ◌==◌, nat_lt, List, map, filter, take, length, Option, Some, None}
+use Rattle.std.specs.Prelude.{ℕ, Bool, true, false, cond, ◌&&◌, ◌||◌, ◌==◌, not, nat_lt, List, map, filter, take, length, Option, Some, None, unwrap_or}
 use Rattle.std.specs.Ordering.{is_lt}
 use Rattle.std.specs.Cmp.Lexicographic.{slice_cmp}
-use Rattle.std.specs.Ordering.{nat_cmp}
+use Rattle.std.specs.Ordering.{nat_cmp, eq_by_cmp}
 use Rattle.std.specs.FinMap as map
-use Rattle.mds_types.specs.declared.errno.TheConstants.{ENOENT, EEXIST, ESTALE}
+use Rattle.mds_types.specs.declared.errno.TheConstants.{ENOENT, EEXIST, ENOTDIR, EISDIR, EINVAL, ENOTEMPTY, ESTALE}
 use Rattle.mds_types.specs.declared.ids.Ino.{Ino}
 use Rattle.mds_types.specs.declared.places.Place.{Place}
 use Rattle.mds_types.specs.declared.inodes.Inode.{Inode}
 use Rattle.mds_types.specs.declared.inodes.Kind.{Kind}
-use Rattle.mds_types.specs.declared.inodes.Kind.TheVariants.{File, Dir}
+use Rattle.mds_types.specs.declared.inodes.Kind.TheVariants.{File, Dir, Symlink as Link}
 use Rattle.mds_types.specs.declared.operations.Op.{Op}
-use Rattle.mds_types.specs.declared.operations.Op.TheVariants.{Lookup, Readdir, Create, Mkdir}
+use Rattle.mds_types.specs.declared.operations.Op.TheVariants.{Lookup, Readdir, Create, Mkdir, Readlink, Symlink, Setattr, Unlink, Rmdir, Rename}
 use Rattle.mds_types.specs.declared.replies.Reply.{Reply}
-use Rattle.mds_types.specs.declared.replies.Reply.TheVariants.{Entry, Entries, Errno}
-use Rattle.mds_types.specs.Tree.{Tree, is_directory, place_of, at}
+use Rattle.mds_types.specs.declared.replies.Reply.TheVariants.{Entry, Entries, Target, Done, Errno}
+use Rattle.mds_types.specs.Tree.{Tree, place_cmp, is_directory, is_dir_kind, is_above, has_entries, place_of, at}
 
 -- what one step of the table gives: the reply, the tree that it leaves, and whether it took the number that it was offered
 pub record Outcome : Type 0 where
@@ -24,16 +24,32 @@ pub record Outcome : Type 0 where
   pub tree : Tree
   pub takes : Bool
 
--- a reply that changes nothing
+-- a reply, and the tree that is left; no number is taken
 abbrev pub answers : Tree → Reply → Outcome
 answers tree reply = record { reply = reply; tree = tree; takes = false }
 
--- the directory that an operation works in
+-- an errno, if there is one, changes nothing; otherwise what was to come
+abbrev pub unless : Tree → Option ℕ → Outcome → Outcome
+unless tree None outcome = outcome
+unless tree (Some errno) outcome = answers tree (Errno errno)
+
+-- the directory that an operation works in; of a rename, that of the source
 abbrev pub directory_of : Op → ℕ
 directory_of (Lookup dir name) = dir.0
 directory_of (Readdir dir after max) = dir.0
 directory_of (Create dir name mode mtime) = dir.0
 directory_of (Mkdir dir name mode mtime) = dir.0
+directory_of (Readlink dir name) = dir.0
+directory_of (Symlink dir name target mtime) = dir.0
+directory_of (Setattr dir name mode size mtime) = dir.0
+directory_of (Unlink dir name) = dir.0
+directory_of (Rmdir dir name) = dir.0
+directory_of (Rename dir name to_dir to_name) = dir.0
+
+-- the directory that an operation leads to: of a rename that of the target, otherwise the one that it works in
+abbrev pub destination_of : Op → ℕ
+destination_of (Rename dir name to_dir to_name) = to_dir.0
+destination_of other = directory_of other
 
 -- the name is greater than `after`; every name is, if none is given
 abbrev pub is_after : Option (List ℕ) → List ℕ → Bool
@@ -59,20 +75,102 @@ abbrev pub made : Tree → Place → Inode → Option Inode → Outcome
 made tree place inode (Some other) = answers tree (Errno EEXIST)
 made tree place inode None = record { reply = Entry inode; tree = map.insert tree place inode; takes = true }
 
--- a new file or directory has size 0
-abbrev pub new_inode : ℕ → Kind → ℕ → ℕ → Inode
-new_inode number kind mode mtime = record { ino = record { 0 = number }; kind = kind; mode = mode; size = 0; mtime = mtime }
+-- a new file or directory has size 0, and a link the size of its target
+abbrev pub new_size : Kind → ℕ
+new_size File = 0
+new_size Dir = 0
+new_size (Link target) = length target
 
--- an operation in a directory that stands, offered the number n
+abbrev pub new_inode : ℕ → Kind → ℕ → ℕ → Inode
+new_inode number kind mode mtime = record { ino = record { 0 = number }; kind = kind; mode = mode; size = new_size kind; mtime = mtime }
+
+-- the mode of every link: octal 777
+abbrev pub link_mode : ℕ
+link_mode = 511
+
+-- what a link points to: of what is no link EINVAL
+abbrev pub target_of : Kind → Reply
+target_of File = Errno EINVAL
+target_of Dir = Errno EINVAL
+target_of (Link target) = Target target
+
+-- readlink: absent ENOENT
+abbrev pub read_link : Tree → Option Inode → Outcome
+read_link tree None = answers tree (Errno ENOENT)
+read_link tree (Some inode) = answers tree (target_of inode.kind)
+
+-- a size may be given to a file alone: to a directory EISDIR, to a link EINVAL
+abbrev pub size_errno : Kind → Option ℕ → Option ℕ
+size_errno kind None = None
+size_errno File (Some size) = None
+size_errno Dir (Some size) = Some EISDIR
+size_errno (Link target) (Some size) = Some EINVAL
+
+-- the inode with the attributes that are given; the others stay
+abbrev pub with_attributes : Option ℕ → Option ℕ → Option ℕ → Inode → Inode
+with_attributes mode size mtime inode = record inode { mode = unwrap_or mode inode.mode; size = unwrap_or size inode.size; mtime = unwrap_or mtime inode.mtime }
+
+-- setattr: absent ENOENT, then a size for what is no file
+abbrev pub attributes_set : Tree → Place → Option ℕ → Option ℕ → Option ℕ → Option Inode → Outcome
+attributes_set tree place mode size mtime None = answers tree (Errno ENOENT)
+attributes_set tree place mode size mtime (Some inode) =
+    let changed = with_attributes mode size mtime inode in
+    unless tree (size_errno inode.kind size) (answers (map.insert tree place changed) (Entry changed))
+
+-- unlink: absent ENOENT, a directory EISDIR (where POSIX.1 names EPERM)
+abbrev pub unlinked : Tree → Place → Option Inode → Outcome
+unlinked tree place None = answers tree (Errno ENOENT)
+unlinked tree place (Some inode) = cond (is_dir_kind inode.kind) (answers tree (Errno EISDIR)) (answers (map.remove tree place) Done)
+
+-- rmdir: absent ENOENT, no directory ENOTDIR, not empty ENOTEMPTY
+abbrev pub dir_removed : Tree → Place → Option Inode → Outcome
+dir_removed tree place None = answers tree (Errno ENOENT)
+dir_removed tree place (Some inode) =
+    cond (is_dir_kind inode.kind)
+    (cond (has_entries tree inode.ino.0) (answers tree (Errno ENOTEMPTY)) (answers (map.remove tree place) Done))
+    (answers tree (Errno ENOTDIR))
+
+-- a directory may replace an empty directory alone, anything else only what is no directory
+abbrev pub replace_errno : Tree → Inode → Option Inode → Option ℕ
+replace_errno tree inode None = None
+replace_errno tree inode (Some target) =
+    cond (is_dir_kind inode.kind)
+    (cond (is_dir_kind target.kind) (cond (has_entries tree target.ino.0) (Some ENOTEMPTY) None) (Some ENOTDIR))
+    (cond (is_dir_kind target.kind) (Some EISDIR) None)
+
+-- whether an inode is a directory that is d or above it
+abbrev pub leads_to : Tree → Inode → ℕ → Bool
+leads_to tree inode d = is_dir_kind inode.kind && ((inode.ino.0 == d) || is_above tree inode.ino.0 d)
+
+-- the tree once an inode went from one place to another
+abbrev pub with_moved : Tree → Place → Place → Inode → Tree
+with_moved tree from to inode = map.insert (map.remove tree from) to inode
+
+-- rename: absent ENOENT; to its own place, nothing happens; a directory below itself EINVAL; then what stands at the target
+abbrev pub renamed : Tree → Place → Place → Option Inode → Option Inode → Outcome
+renamed tree from to None target = answers tree (Errno ENOENT)
+renamed tree from to (Some inode) target =
+    cond (eq_by_cmp place_cmp from to) (answers tree Done)
+    (cond (leads_to tree inode to.dir.0) (answers tree (Errno EINVAL))
+    (unless tree (replace_errno tree inode target) (answers (with_moved tree from to inode) Done)))
+
+-- an operation in directories that stand, offered the number n
 abbrev pub within : Tree → Op → ℕ → Outcome
 within tree (Lookup dir name) n = found tree (at tree dir.0 name)
 within tree (Readdir dir after max) n = page tree max (names_after tree dir.0 after)
 within tree (Create dir name mode mtime) n = made tree (place_of dir.0 name) (new_inode n File mode mtime) (at tree dir.0 name)
 within tree (Mkdir dir name mode mtime) n = made tree (place_of dir.0 name) (new_inode n Dir mode mtime) (at tree dir.0 name)
+within tree (Readlink dir name) n = read_link tree (at tree dir.0 name)
+within tree (Symlink dir name target mtime) n = made tree (place_of dir.0 name) (new_inode n (Link target) link_mode mtime) (at tree dir.0 name)
+within tree (Setattr dir name mode size mtime) n = attributes_set tree (place_of dir.0 name) mode size mtime (at tree dir.0 name)
+within tree (Unlink dir name) n = unlinked tree (place_of dir.0 name) (at tree dir.0 name)
+within tree (Rmdir dir name) n = dir_removed tree (place_of dir.0 name) (at tree dir.0 name)
+within tree (Rename dir name to_dir to_name) n =
+    renamed tree (place_of dir.0 name) (place_of to_dir.0 to_name) (at tree dir.0 name) (at tree to_dir.0 to_name)
 
 -- the table: first of all, a number that is no directory of the tree now is ESTALE
 abbrev pub step : Tree → Op → ℕ → Outcome
-step tree op n = cond (is_directory tree (directory_of op)) (within tree op n) (answers tree (Errno ESTALE))
+step tree op n = cond (is_directory tree (directory_of op) && is_directory tree (destination_of op)) (within tree op n) (answers tree (Errno ESTALE))
 
 -- the number in an option, if it counts
 abbrev pub number_or : Option Ino → ℕ

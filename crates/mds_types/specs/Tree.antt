@@ -1,5 +1,5 @@
 -- The plain tree: what the fragments, caches and objects of all ranks together mean.
-use Rattle.std.specs.Prelude.{◌≡◌, ℕ, Bool, true, false, ◌||◌, ◌&&◌, ◌==◌, ◌⊎◌, List, map, length, Option, Some}
+use Rattle.std.specs.Prelude.{◌≡◌, ℕ, zero, suc, Bool, true, false, ◌||◌, ◌&&◌, ◌==◌, ◌⊎◌, List, map, length, Option, Some}
 use Rattle.std.specs.List.{list_any}
 use Rattle.std.specs.declared.cmp.Ordering.{Ordering}
 use Rattle.std.specs.Ordering.{nat_cmp, ordering_then}
@@ -50,6 +50,19 @@ pub data IsAbove (tree : Tree) (d : ℕ) : ℕ → Type 0 where
   child : (name : List ℕ) (inode : Inode) → at tree d name ≡ Some inode → IsAbove tree d inode.ino.0
   -- x is an entry of a directory that d is above of
   further : (m : ℕ) (name : List ℕ) (inode : Inode) → IsAbove tree d m → at tree m name ≡ Some inode → IsAbove tree d inode.ino.0
+
+-- whether d is above x by a chain of at most so many entries
+abbrev pub is_above_within : ℕ → Tree → ℕ → ℕ → Bool
+is_above_within zero tree d x = false
+is_above_within (suc n) tree d x = list_any (λ e. (e.1.ino.0 == x) && ((e.0.dir.0 == d) || is_above_within n tree d e.0.dir.0)) (map.entries tree)
+
+-- whether d is above x, as the table asks it: in a well-formed tree no chain has more entries than the tree
+unfoldable pub is_above : Tree → ℕ → ℕ → Bool
+is_above tree d x = is_above_within (map.len tree) tree d x
+
+-- whether a directory has an entry
+unfoldable pub has_entries : Tree → ℕ → Bool
+has_entries tree d = list_any (λ e. e.0.dir.0 == d) (map.entries tree)
 
 -- the size that a kind prescribes: 0 for a directory, for a link the size of its target
 abbrev pub HasSize : Kind → ℕ → Type 0
