@@ -1,7 +1,7 @@
 -- What is above what: the test that the operation table makes is exact in every well-formed tree, since no chain of entries
 -- is longer than the tree.
-use Rattle.std.specs.Prelude.{◌≡◌, ℕ, zero, suc, ◌<◌, ◌≤◌, ◌-◌, ◌↔◌, Bool, true, false, cond, ◌||◌, ◌&&◌, ◌==◌, is_some, ◌⊎◌, Option, Some, None, refl}
-use Rattle.std.proofs.Common.{sym, ap, subst, ◌∙◌, inl, inr, ⊎_elim, arith}
+use Rattle.std.specs.Prelude.{◌≡◌, ℕ, zero, suc, ◌<◌, ◌≤◌, ◌-◌, ◌↔◌, Bool, true, false, cond, ◌||◌, ◌&&◌, ◌==◌, is_some, Option, Some, None, refl}
+use Rattle.std.proofs.Common.{sym, ap, subst, ◌∙◌, ⊎_elim, arith}
 use Rattle.std.proofs.lemmas.Bool.{eqb-true}
 use Rattle.std.proofs.lemmas.Bool.Decides.{nat_tests}
 use Rattle.std.specs.FinMap as map
@@ -10,6 +10,7 @@ use Rattle.mds_types.specs.declared.places.Place.{Place}
 use Rattle.mds_types.specs.declared.inodes.Inode.{Inode}
 use Rattle.mds_types.specs.Tree.{Tree, place_cmp, place_of, at, is_above_within, is_above, IsAbove, child, further, IsWellFormed}
 use Rattle.mds_types.specs.PlaceLaws.{place-total}
+use Rattle.mds_types.specs.DirectoryLaws.{one_place}
 use Rattle.mds_types.specs.EntryLaws.{get_left, stands_after_removal, any_of}
 use Rattle.mds_types.specs.EntrySearch.{any_found}
 use Rattle.mds_types.specs.Bools.{first_true, second_true}
@@ -23,11 +24,6 @@ Climbs tree (suc n) x = (place : Place) × (inode : Inode) × (map.get tree plac
 record IsNumbered (tree : Tree) : Type 0 where
   pub rootless : (p : Place) (i : Inode) → map.get tree p ≡ Some i → i.ino.0 ≡ 1 → ⊥
   pub once : (p q : Place) (i j : Inode) → map.get tree p ≡ Some i → map.get tree q ≡ Some j → i.ino.0 ≡ j.ino.0 → p ≡ q
-
-pub one_place : (tree : Tree) → IsWellFormed tree → (p q : Place) (i j : Inode) → map.get tree p ≡ Some i → map.get tree q ≡ Some j → i.ino.0 ≡ j.ino.0 → p ≡ q
-one_place tree whole p q i j here there same =
-    let parts = whole.once p.dir.0 q.dir.0 p.name q.name i j here there (λ k. record { 0 = same k }) in
-    λ k. record { dir = record { 0 = parts.0 k }; name = parts.1 k }
 
 numbered : (tree : Tree) → IsWellFormed tree → IsNumbered tree
 numbered tree whole = record { rootless = λ p i. whole.rootless p.dir.0 p.name i; once = one_place tree whole }

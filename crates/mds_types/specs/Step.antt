@@ -1,7 +1,7 @@
 -- The operation table: what each operation answers on the plain tree, and what it leaves. Each operation's checks come in
 -- the order in which they stand here; an errno changes nothing.
 -- What operations do when they succeed is POSIX.1's; the order of the checks and the errno numbers are this project's own profile.
-use Rattle.std.specs.Prelude.{ℕ, Bool, true, false, cond, ◌&&◌, ◌||◌, ◌==◌, not, nat_lt, List, map, filter, take, length, Option, Some, None, unwrap_or}
+use Rattle.std.specs.Prelude.{ℕ, Bool, true, false, cond, ◌&&◌, ◌||◌, ◌==◌, nat_lt, List, map, filter, take, length, Option, Some, None, unwrap_or}
 use Rattle.std.specs.Ordering.{is_lt}
 use Rattle.std.specs.Cmp.Lexicographic.{slice_cmp}
 use Rattle.std.specs.Ordering.{nat_cmp, eq_by_cmp}

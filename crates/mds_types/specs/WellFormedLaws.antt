@@ -1,58 +1,35 @@
 -- Every step of the operation table keeps the tree well formed.
-use Rattle.std.specs.Prelude.{◌≡◌, ℕ, Bool, true, false, cond, ◌||◌, ◌==◌, T, List, [], ◌∷◌, Option, Some, None, refl}
+use Rattle.std.specs.Prelude.{◌≡◌, ℕ, Bool, true, false, cond, ◌&&◌, ◌||◌, List, Option, Some, None, unwrap_or, refl}
 use Rattle.std.proofs.Common.{sym, ap, subst, ◌∙◌, ⊎_elim, ◌⊎◌, inl, inr}
-use Rattle.std.proofs.lemmas.Bool.{eqb-true}
-use Rattle.std.specs.List.{list_any}
 use Rattle.std.specs.declared.cmp.Ordering.{Ordering}
 use Rattle.std.specs.declared.cmp.Ordering.TheVariants.{Less, Equal, Greater}
-use Rattle.std.specs.Ordering.{is_lt, is_eq, eq_by_cmp}
-use Rattle.std.specs.Cmp.{IsTotalOrder, tied_itself}
-use Rattle.std.specs.FinMap as finmap
-use Rattle.std.specs.FinMap.{find, is_sorted, get-entries, get-insert}
-use Rattle.std.specs.FinMap.Entries.{below_all, find_tied}
+use Rattle.std.specs.Ordering.{is_eq, eq_by_cmp}
+use Rattle.std.specs.FinMap as map
+use Rattle.std.specs.FinMap.{get-insert}
 use Rattle.mds_types.specs.declared.places.Place.{Place}
 use Rattle.mds_types.specs.declared.inodes.Inode.{Inode}
-use Rattle.mds_types.specs.declared.inodes.Kind.TheVariants.{File, Dir}
-use Rattle.mds_types.specs.declared.errno.TheConstants.{ESTALE}
+use Rattle.mds_types.specs.declared.inodes.Kind.{Kind}
+use Rattle.mds_types.specs.declared.inodes.Kind.TheVariants.{File, Dir, Symlink}
 use Rattle.mds_types.specs.declared.operations.Op.{Op}
-use Rattle.mds_types.specs.declared.operations.Op.TheVariants.{Lookup, Readdir, Create, Mkdir}
-use Rattle.mds_types.specs.declared.replies.Reply.TheVariants.{Errno}
-use Rattle.mds_types.specs.Step.{Outcome, answers, directory_of, found, made, new_inode, within, step}
-use Rattle.mds_types.specs.Tree.{Tree, place_cmp, place_of, at, is_directory, is_entry_of_directory, IsAbove, child, further, HasSize, IsWellFormed}
+use Rattle.mds_types.specs.declared.operations.Op.TheVariants.{Lookup, Readdir, Create, Mkdir, Readlink, Symlink as MakeLink, Setattr, Unlink, Rmdir, Rename}
+use Rattle.mds_types.specs.Step.{Outcome, directory_of, destination_of, found, made, new_inode, link_mode, read_link, size_errno, with_attributes, attributes_set, unless, unlinked, dir_removed, leads_to, replace_errno, renamed, within, step}
+use Rattle.mds_types.specs.Tree.{Tree, place_cmp, place_of, at, is_directory, is_dir_kind, has_entries, IsAbove, child, further, HasSize, IsWellFormed}
 use Rattle.mds_types.specs.TreeLaws.{is_directory-insert}
 use Rattle.mds_types.specs.PlaceLaws.{place-total, place-exact}
-use Rattle.mds_types.specs.Bools.{left_of, right_of, second_true}
-
-or_cases : (a b : Bool) → (a || b) ≡ true → (a ≡ true) ⊎ (b ≡ true)
-or_cases true b h = inl refl
-or_cases false b h = inr h
+use Rattle.mds_types.specs.DirectoryLaws.{reaches_root, nothing_in_file, nothing_in_empty}
+use Rattle.mds_types.specs.AttributeLaws.{well-formed-changed}
+use Rattle.mds_types.specs.RemovedLaws.{well-formed-removed}
+use Rattle.mds_types.specs.MovedLaws.{well-formed-moved, may_move}
+use Rattle.mds_types.specs.Bools.{first_true, second_true}
 
 or_right : (a b : Bool) → b ≡ true → (a || b) ≡ true
 or_right true b h = refl
 or_right false b h = h
 
--- a directory is the root, or an entry of the tree has its number
-directory_stands : (tree : Tree) (d : ℕ) → is_directory tree d ≡ true → (d ≡ 1) ⊎ ((place : Place) × (inode : Inode) × (at tree place.dir.0 place.name ≡ Some inode) × (inode.ino.0 ≡ d))
-unfolding is_directory
-directory_stands tree d here =
-    ⊎_elim (λ one. inl (eqb-true d 1 one))
-    (λ some.
-    let w = any_found place-total (is_entry_of_directory d) (finmap.entries tree) (finmap.entries_sorted tree) some in
-    inr (w.0.0, w.0.1, get-entries tree w.0.0 ∙ w.1, eqb-true w.0.1.ino.0 d (second_true _ _ w.2)))
-    (or_cases (d == 1) (list_any (is_entry_of_directory d) (finmap.entries tree)) here)
-
--- a directory of a well-formed tree reaches the root
-reaches_root : (tree : Tree) (d : ℕ) → IsWellFormed tree → is_directory tree d ≡ true → (d ≡ 1) ⊎ IsAbove tree 1 d
-reaches_root tree d whole here =
-    ⊎_elim inl
-    (λ (place, inode, stands, is). inr (subst (λ x. IsAbove tree 1 x) is
-    (⊎_elim (λ top. child place.name inode (ap (λ m. at tree m place.name) (sym top) ∙ stands)) (λ above. further place.dir.0 place.name inode above stands) (whole.rooted place.dir.0 place.name inode stands))))
-    (directory_stands tree d here)
-
 -- a new inode at a free place of a directory that stands
 module _ (tree : Tree) (dir : ℕ) (new_name : List ℕ) (new : Inode) (free : at tree dir new_name ≡ None) where
   abbrev grown : Tree
-  grown = finmap.insert tree (place_of dir new_name) new
+  grown = map.insert tree (place_of dir new_name) new
 
   at-grown : (d : ℕ) (name : List ℕ) → at grown d name ≡ cond (eq_by_cmp place_cmp (place_of d name) (place_of dir new_name)) (Some new) (at tree d name)
   at-grown d name = get-insert place-total tree (place_of dir new_name) new (place_of d name)
@@ -77,7 +54,7 @@ module _ (tree : Tree) (dir : ℕ) (new_name : List ℕ) (new : Inode) (free : a
   still_by : (d : ℕ) (name : List ℕ) (inode : Inode) (b : Bool) → eq_by_cmp place_cmp (place_of d name) (place_of dir new_name) ≡ b → at tree d name ≡ Some inode → at grown d name ≡ Some inode
   still_by d name inode true tied stood =
       let same : place_of d name ≡ place_of dir new_name = place-exact _ _ (tie (place_cmp (place_of d name) (place_of dir new_name)) tied) in
-      let nothing : None ≡ Some inode = sym free ∙ ap (λ p. finmap.get tree p) (sym same) ∙ stood in
+      let nothing : None ≡ Some inode = sym free ∙ ap (λ p. map.get tree p) (sym same) ∙ stood in
       cc
     where
       tie : (r : Ordering) → is_eq r ≡ true → r ≡ Equal
@@ -142,17 +119,71 @@ found-well-formed : (tree : Tree) (other : Option Inode) → IsWellFormed tree �
 found-well-formed tree None whole = whole
 found-well-formed tree (Some inode) whole = whole
 
-within-well-formed : (tree : Tree) (op : Op) (n : ℕ) → IsWellFormed tree → IsUnused tree n → is_directory tree (directory_of op) ≡ true → IsWellFormed (within tree op n).tree
-within-well-formed tree (Lookup dir name) n whole unused here = found-well-formed tree (at tree dir.0 name) whole
-within-well-formed tree (Readdir dir after max) n whole unused here = whole
-within-well-formed tree (Create dir name mode mtime) n whole unused here = made-well-formed tree dir.0 name (new_inode n File mode mtime) (at tree dir.0 name) refl whole here unused tt
-within-well-formed tree (Mkdir dir name mode mtime) n whole unused here = made-well-formed tree dir.0 name (new_inode n Dir mode mtime) (at tree dir.0 name) refl whole here unused refl
+read_link-well-formed : (tree : Tree) (other : Option Inode) → IsWellFormed tree → IsWellFormed (read_link tree other).tree
+read_link-well-formed tree None whole = whole
+read_link-well-formed tree (Some inode) whole = whole
 
-chosen-well-formed : (b : Bool) (tree : Tree) (x : Outcome) → IsWellFormed tree → (b ≡ true → IsWellFormed x.tree) → IsWellFormed (cond b x (answers tree (Errno ESTALE))).tree
-chosen-well-formed true tree x whole h = h refl
-chosen-well-formed false tree x whole h = whole
+-- a size that may be given keeps what the kind prescribes
+pub sized_still : (kind : Kind) (size : Option ℕ) (before : ℕ) → size_errno kind size ≡ None → HasSize kind before → HasSize kind (unwrap_or size before)
+sized_still kind None before may sized = sized
+sized_still File (Some size) before may sized = tt
+sized_still Dir (Some size) before may sized = cc
+sized_still (Symlink target) (Some size) before may sized = cc
+
+unless-well-formed : (tree : Tree) (errno : Option ℕ) (outcome : Outcome) → IsWellFormed tree → (errno ≡ None → IsWellFormed outcome.tree) → IsWellFormed (unless tree errno outcome).tree
+unless-well-formed tree None outcome whole h = h refl
+unless-well-formed tree (Some errno) outcome whole h = whole
+
+either-well-formed : (b : Bool) (x y : Outcome) → (b ≡ true → IsWellFormed x.tree) → (b ≡ false → IsWellFormed y.tree) → IsWellFormed (cond b x y).tree
+either-well-formed true x y h k = h refl
+either-well-formed false x y h k = k refl
+
+attributes-well-formed : (tree : Tree) (place : Place) (mode size mtime : Option ℕ) (other : Option Inode) → map.get tree place ≡ other → IsWellFormed tree
+    → IsWellFormed (attributes_set tree place mode size mtime other).tree
+attributes-well-formed tree place mode size mtime None is whole = whole
+attributes-well-formed tree place mode size mtime (Some inode) is whole =
+    unless-well-formed tree (size_errno inode.kind size) _ whole
+    (λ may. well-formed-changed tree place inode (with_attributes mode size mtime inode) is refl refl whole
+    (sized_still inode.kind size inode.size may (whole.sizes place.dir.0 place.name inode is)))
+
+unlinked-well-formed : (tree : Tree) (place : Place) (other : Option Inode) → map.get tree place ≡ other → IsWellFormed tree → IsWellFormed (unlinked tree place other).tree
+unlinked-well-formed tree place None is whole = whole
+unlinked-well-formed tree place (Some inode) is whole =
+    either-well-formed (is_dir_kind inode.kind) _ _ (λ dir. whole) (λ kinded. well-formed-removed tree place inode is (nothing_in_file tree place inode whole is kinded) whole)
+
+dir_removed-well-formed : (tree : Tree) (place : Place) (other : Option Inode) → map.get tree place ≡ other → IsWellFormed tree → IsWellFormed (dir_removed tree place other).tree
+dir_removed-well-formed tree place None is whole = whole
+dir_removed-well-formed tree place (Some inode) is whole =
+    either-well-formed (is_dir_kind inode.kind) _ _
+    (λ dir. either-well-formed (has_entries tree inode.ino.0) _ _ (λ some. whole) (λ none. well-formed-removed tree place inode is (nothing_in_empty tree inode.ino.0 none) whole))
+    (λ other. whole)
+
+renamed-well-formed : (tree : Tree) (from to : Place) (source target : Option Inode) → map.get tree from ≡ source → map.get tree to ≡ target → IsWellFormed tree → is_directory tree to.dir.0 ≡ true
+    → IsWellFormed (renamed tree from to source target).tree
+renamed-well-formed tree from to None target is there whole parent = whole
+renamed-well-formed tree from to (Some inode) target is there whole parent =
+    either-well-formed (eq_by_cmp place_cmp from to) _ _ (λ same. whole)
+    (λ apart. either-well-formed (leads_to tree inode to.dir.0) _ _ (λ below. whole)
+    (λ outside. unless-well-formed tree (replace_errno tree inode target) _ whole
+    (λ replaces. well-formed-moved tree from to inode whole
+    (may_move tree from to inode whole (record { stands = is; apart = apart; parent = parent; outside = outside; replaces = ap (replace_errno tree inode) there ∙ replaces })))))
+
+within-well-formed : (tree : Tree) (op : Op) (n : ℕ) → IsWellFormed tree → IsUnused tree n → is_directory tree (directory_of op) ≡ true → is_directory tree (destination_of op) ≡ true → IsWellFormed (within tree op n).tree
+within-well-formed tree (Lookup dir name) n whole unused here there = found-well-formed tree (at tree dir.0 name) whole
+within-well-formed tree (Readdir dir after max) n whole unused here there = whole
+within-well-formed tree (Create dir name mode mtime) n whole unused here there = made-well-formed tree dir.0 name (new_inode n File mode mtime) (at tree dir.0 name) refl whole here unused tt
+within-well-formed tree (Mkdir dir name mode mtime) n whole unused here there = made-well-formed tree dir.0 name (new_inode n Dir mode mtime) (at tree dir.0 name) refl whole here unused refl
+within-well-formed tree (Readlink dir name) n whole unused here there = read_link-well-formed tree (at tree dir.0 name) whole
+within-well-formed tree (MakeLink dir name target mtime) n whole unused here there =
+    made-well-formed tree dir.0 name (new_inode n (Symlink target) link_mode mtime) (at tree dir.0 name) refl whole here unused refl
+within-well-formed tree (Setattr dir name mode size mtime) n whole unused here there = attributes-well-formed tree (place_of dir.0 name) mode size mtime (at tree dir.0 name) refl whole
+within-well-formed tree (Unlink dir name) n whole unused here there = unlinked-well-formed tree (place_of dir.0 name) (at tree dir.0 name) refl whole
+within-well-formed tree (Rmdir dir name) n whole unused here there = dir_removed-well-formed tree (place_of dir.0 name) (at tree dir.0 name) refl whole
+within-well-formed tree (Rename dir name to_dir to_name) n whole unused here there =
+    renamed-well-formed tree (place_of dir.0 name) (place_of to_dir.0 to_name) (at tree dir.0 name) (at tree to_dir.0 to_name) refl refl whole there
 
 -- a step keeps the tree well formed where it is offered an unused number
 pub step_keeps_well_formed : (tree : Tree) (op : Op) (n : ℕ) → IsWellFormed tree → IsUnused tree n → IsWellFormed (step tree op n).tree
 step_keeps_well_formed tree op n whole unused =
-    chosen-well-formed (is_directory tree (directory_of op)) tree (within tree op n) whole (within-well-formed tree op n whole unused)
+    either-well-formed (is_directory tree (directory_of op) && is_directory tree (destination_of op)) (within tree op n) _
+    (λ stand. within-well-formed tree op n whole unused (first_true _ _ stand) (second_true _ _ stand)) (λ missing. whole)
