@@ -1,5 +1,6 @@
 -- Laws of listings: which names they have, in which order, and how pages make up the whole.
-use Rattle.std.specs.Prelude.{◌≡◌, ℕ, zero, suc, ◌<◌, Bool, true, false, cond, ◌&&◌, ◌==◌, T, List, [], ◌∷◌, ◌++◌, map, filter, take, drop, slice_get, Option, Some, None, refl}
+use Rattle.std.specs.Prelude.{◌≡◌, ℕ, zero, suc, ◌<◌, Bool, true, false, cond, ◌&&◌, ◌||◌, ◌==◌, T, List, [], ◌∷◌, ◌++◌, map, filter, take, drop, slice_get, Option, Some, None, refl}
+use Rattle.std.specs.List.{list_any}
 use Rattle.std.proofs.Common.{sym, ap, subst, ◌∙◌, arith}
 use Rattle.std.proofs.lemmas.Bool.Decides.{nat_tests}
 use Rattle.std.proofs.lemmas.List.{take-append-drop}
@@ -14,7 +15,7 @@ use Rattle.std.specs.FinMap.{find, is_sorted, get-entries}
 use Rattle.std.specs.FinMap.Entries.{below_all}
 use Rattle.mds_types.specs.declared.places.Place.{Place}
 use Rattle.mds_types.specs.declared.inodes.Inode.{Inode}
-use Rattle.mds_types.specs.Tree.{Tree, place_cmp, place_of, at}
+use Rattle.mds_types.specs.Tree.{Tree, place_cmp, place_of, has_entries, at}
 use Rattle.mds_types.specs.Step.{is_after, names_after}
 use Rattle.mds_types.specs.Bools.{left_of, right_of, both_of, first_true, second_true}
 
@@ -127,6 +128,35 @@ names_are_listed tree d after = record {
   rises = sorted_listed d after (finmap.entries tree) (finmap.entries_sorted tree);
   exact = λ name. find_listed d after name (finmap.entries tree) ∙ ap (λ o. cond (is_after after name) o None) (sym (get-entries tree (place_of d name)));
 }
+
+any_listed : (d : ℕ) (es : List (Place × Inode)) (row : List ℕ × Inode) (rows : List (List ℕ × Inode)) → listed d None es ≡ row ∷ rows → list_any (λ e. e.0.dir.0 == d) es ≡ true
+any_listed d [] row rows is = cc
+any_listed d (e ∷ es) row rows is = go (e.0.dir.0 == d) refl (λ rest. any_listed d es row rows rest)
+  where
+    go : (b : Bool) → (e.0.dir.0 == d) ≡ b → (listed d None es ≡ row ∷ rows → list_any (λ e. e.0.dir.0 == d) es ≡ true) → ((e.0.dir.0 == d) || list_any (λ e. e.0.dir.0 == d) es) ≡ true
+    go true here more = ap (λ b. b || list_any (λ e. e.0.dir.0 == d) es) here
+    go false other more =
+        ap (λ b. b || list_any (λ e. e.0.dir.0 == d) es) other
+        ∙ more (sym (chosen d None e es false (ap (λ b. b && true) other)) ∙ is)
+
+none_listed : (d : ℕ) (es : List (Place × Inode)) → listed d None es ≡ [] → list_any (λ e. e.0.dir.0 == d) es ≡ false
+none_listed d [] is = refl
+none_listed d (e ∷ es) is = go (e.0.dir.0 == d) refl (λ rest. none_listed d es rest)
+  where
+    go : (b : Bool) → (e.0.dir.0 == d) ≡ b → (listed d None es ≡ [] → list_any (λ e. e.0.dir.0 == d) es ≡ false) → ((e.0.dir.0 == d) || list_any (λ e. e.0.dir.0 == d) es) ≡ false
+    go true here more = let none : named e ∷ listed d None es ≡ [] = sym (chosen d None e es true (ap (λ b. b && true) here)) ∙ is in absurd cc
+    go false other more =
+        ap (λ b. b || list_any (λ e. e.0.dir.0 == d) es) other
+        ∙ more (sym (chosen d None e es false (ap (λ b. b && true) other)) ∙ is)
+
+-- a directory has entries where its listing has a name, and none where it is empty
+pub entries_listed : (tree : Tree) (d : ℕ) (row : List ℕ × Inode) (rows : List (List ℕ × Inode)) → names_after tree d None ≡ row ∷ rows → has_entries tree d ≡ true
+unfolding names_after has_entries
+entries_listed tree d row rows is = any_listed d (finmap.entries tree) row rows is
+
+pub no_entries_listed : (tree : Tree) (d : ℕ) → names_after tree d None ≡ [] → has_entries tree d ≡ false
+unfolding names_after has_entries
+no_entries_listed tree d is = none_listed d (finmap.entries tree) is
 
 not_after : (r : Ordering) → r ≡ Less → is_lt (ordering_reverse r) ≡ false
 not_after r is = ap (λ s. is_lt (ordering_reverse s)) is

@@ -12,7 +12,7 @@ use Rattle.mds_types.specs.declared.inodes.Kind.{Kind}
 use Rattle.mds_types.specs.declared.inodes.Kind.TheVariants.{File, Dir, Symlink}
 use Rattle.mds_types.specs.declared.operations.Op.{Op}
 use Rattle.mds_types.specs.declared.operations.Op.TheVariants.{Lookup, Readdir, Create, Mkdir, Readlink, Symlink as MakeLink, Setattr, Unlink, Rmdir, Rename}
-use Rattle.mds_types.specs.Step.{Outcome, directory_of, destination_of, found, made, new_inode, link_mode, read_link, size_errno, with_attributes, attributes_set, unless, unlinked, dir_removed, leads_to, replace_errno, renamed, within, step}
+use Rattle.mds_types.specs.Step.{Outcome, new_size, directory_of, destination_of, found, made, new_inode, link_mode, read_link, size_errno, with_attributes, attributes_set, unless, unlinked, dir_removed, leads_to, replace_errno, renamed, within, step}
 use Rattle.mds_types.specs.Tree.{Tree, place_cmp, place_of, at, is_directory, is_dir_kind, has_entries, IsAbove, child, further, HasSize, IsWellFormed}
 use Rattle.mds_types.specs.TreeLaws.{is_directory-insert}
 use Rattle.mds_types.specs.PlaceLaws.{place-total, place-exact}
@@ -122,6 +122,12 @@ found-well-formed tree (Some inode) whole = whole
 read_link-well-formed : (tree : Tree) (other : Option Inode) → IsWellFormed tree → IsWellFormed (read_link tree other).tree
 read_link-well-formed tree None whole = whole
 read_link-well-formed tree (Some inode) whole = whole
+
+-- a new inode has the size that its kind prescribes
+pub new_sized : (kind : Kind) → HasSize kind (new_size kind)
+new_sized File = tt
+new_sized Dir = refl
+new_sized (Symlink target) = refl
 
 -- a size that may be given keeps what the kind prescribes
 pub sized_still : (kind : Kind) (size : Option ℕ) (before : ℕ) → size_errno kind size ≡ None → HasSize kind before → HasSize kind (unwrap_or size before)

@@ -1,2 +1,4 @@
-pub mod Directories
 pub mod Rows
+pub mod Tabled
+pub mod Moves
+pub mod PlanParts

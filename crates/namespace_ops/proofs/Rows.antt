@@ -1,5 +1,5 @@
 -- The names of a directory among places in order: a run of neighbours.
-use Rattle.std.proofs.Common.{◌≡◌, ℕ, ◌<◌, ◌≤◌, Bool, true, false, cond, ◌&&◌, ◌==◌, T, List, [], ◌∷◌, map, filter, Option, Some, None, refl, sym, ap, ◌∙◌, arith}
+use Rattle.std.proofs.Common.{◌≡◌, ℕ, ◌<◌, ◌≤◌, Bool, true, false, cond, ◌&&◌, ◌==◌, T, not, is_some, List, [], ◌∷◌, map, filter, Option, Some, None, refl, sym, ap, ◌∙◌, arith}
 use Rattle.std.specs.declared.cmp.Ordering.{Ordering}
 use Rattle.std.specs.declared.cmp.Ordering.TheVariants.{Less, Equal, Greater}
 use Rattle.std.specs.Ordering.{nat_cmp, ordering_then, is_lt, is_le, MatchOrdering}
@@ -11,7 +11,9 @@ use Rattle.std.specs.FinMap.{is_sorted}
 use Rattle.std.specs.FinMap.Entries.{below_all}
 use Rattle.mds_types.specs.declared.places.Place.{Place}
 use Rattle.mds_types.specs.declared.inodes.Inode.{Inode}
-use Rattle.mds_types.specs.Tree.{Tree, place_cmp, place_of}
+use Rattle.std.specs.Option.{MatchOption}
+use Rattle.mds_types.specs.ListingLaws.{entries_listed, no_entries_listed}
+use Rattle.mds_types.specs.Tree.{Tree, place_cmp, place_of, has_entries}
 use Rattle.mds_types.specs.Step.{is_after, names_after}
 use Rattle.namespace_ops.specs.Run.{run}
 use Rattle.mds_types.specs.Bools.{left_of, right_of}
@@ -107,3 +109,11 @@ listed-run d after (e ∷ es) sorted = row_more d after e es (left_of _ _ sorted
 pub names_run : (tree : Tree) (d : ℕ) (after : Option (List ℕ)) → names_after tree d after ≡ run d (rows_from d after (finmap.entries tree))
 unfolding names_after
 names_run tree d after = listed-run d after (finmap.entries tree) (finmap.entries_sorted tree)
+
+-- whether a directory is empty, by the first name of its listing
+pub empty_told : {R : Type 0} (named_by : R → List ℕ × Inode) (tree : Tree) (d : ℕ) (first : Option R) (names rest : List (List ℕ × Inode)) (told : Bool) → names ≡ names_after tree d None
+    → MatchOption first (names ≡ []) (λ r. names ≡ named_by r ∷ rest) → is_some first ≡ not told → told ≡ not (has_entries tree d)
+empty_told named_by tree d None names rest true are none is = ap not (sym (no_entries_listed tree d (sym are ∙ none)))
+empty_told named_by tree d None names rest false are none is = cc
+empty_told named_by tree d (Some r) names rest true are some is = cc
+empty_told named_by tree d (Some r) names rest false are some is = ap not (sym (entries_listed tree d (named_by r) rest (sym are ∙ some)))

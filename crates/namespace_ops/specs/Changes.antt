@@ -1,17 +1,108 @@
--- Which places an operation may change.
-use Rattle.std.specs.Prelude.{◌≡◌}
+-- Changes of the tree: which an operation makes, what they leave, and where they may be made.
+use Rattle.std.specs.Prelude.{◌≡◌, ℕ, true, false, ◌&&◌, Option, Some, None}
+use Rattle.std.specs.FinMap as map
+use Rattle.mds_types.specs.declared.ids.Ino.{Ino}
 use Rattle.mds_types.specs.declared.places.Place.{Place}
+use Rattle.mds_types.specs.declared.inodes.Inode.{Inode}
+use Rattle.mds_types.specs.declared.inodes.Kind.{Kind}
+use Rattle.mds_types.specs.declared.inodes.Kind.TheVariants.{File, Dir, Symlink as Link}
 use Rattle.mds_types.specs.declared.operations.Op.{Op}
-use Rattle.mds_types.specs.declared.operations.Op.TheVariants.{Lookup, Readdir, Create, Mkdir}
-use Rattle.mds_types.specs.Tree.{place_of}
+use Rattle.mds_types.specs.declared.operations.Op.TheVariants.{Lookup, Readdir, Create, Mkdir, Readlink, Symlink, Setattr, Unlink, Rmdir, Rename}
+use Rattle.mds_types.specs.Tree.{Tree, place_of, is_directory, is_dir_kind, has_entries, HasSize}
+use Rattle.mds_types.specs.Step.{size_errno, with_attributes, with_moved}
+use Rattle.mds_types.specs.MovedLaws.{IsMove}
+use Rattle.mds_types.specs.WellFormedLaws.{IsUnused}
+use Rattle.namespace_ops.specs.declared.plans.Change.{Change}
+use Rattle.namespace_ops.specs.declared.plans.Change.TheVariants.{Add, Set, Remove, Move}
 
--- the operation may change the entry at this place
-abbrev pub Changes : Op → Place → Type 0
-Changes (Lookup dir name) place = ⊥
-Changes (Readdir dir after max) place = ⊥
-Changes (Create dir name mode mtime) place = place ≡ place_of dir.0 name
-Changes (Mkdir dir name mode mtime) place = place ≡ place_of dir.0 name
+-- a new inode of this kind at this place
+abbrev pub IsAddAt : Place → Kind → Change → Type 0
+IsAddAt place kind (Add p inode) = (p ≡ place) × (inode.kind ≡ kind)
+IsAddAt place kind (Set p inode) = ⊥
+IsAddAt place kind (Remove p) = ⊥
+IsAddAt place kind (Move from to) = ⊥
 
--- each place that the operation may change is ready for it
-abbrev pub IsReadyFor : (Place → Type 0) → Op → Type 0
-IsReadyFor IsReady op = (place : Place) → Changes op place → IsReady place
+-- other attributes for the inode at this place
+abbrev pub IsSetAt : Place → Change → Type 0
+IsSetAt place (Add p inode) = ⊥
+IsSetAt place (Set p inode) = p ≡ place
+IsSetAt place (Remove p) = ⊥
+IsSetAt place (Move from to) = ⊥
+
+-- the entry at this place goes
+abbrev pub IsRemovalAt : Place → Change → Type 0
+IsRemovalAt place (Add p inode) = ⊥
+IsRemovalAt place (Set p inode) = ⊥
+IsRemovalAt place (Remove p) = p ≡ place
+IsRemovalAt place (Move from to) = ⊥
+
+-- the entry at one place moves to the other
+abbrev pub IsMoveTo : Place → Place → Change → Type 0
+IsMoveTo source target (Add p inode) = ⊥
+IsMoveTo source target (Set p inode) = ⊥
+IsMoveTo source target (Remove p) = ⊥
+IsMoveTo source target (Move from to) = (from ≡ source) × (to ≡ target)
+
+-- the operation makes this change, where it makes one
+abbrev pub IsChangeOf : Op → Change → Type 0
+IsChangeOf (Lookup dir name) change = ⊥
+IsChangeOf (Readdir dir after max) change = ⊥
+IsChangeOf (Readlink dir name) change = ⊥
+IsChangeOf (Create dir name mode mtime) change = IsAddAt (place_of dir.0 name) File change
+IsChangeOf (Mkdir dir name mode mtime) change = IsAddAt (place_of dir.0 name) Dir change
+IsChangeOf (Symlink dir name target mtime) change = IsAddAt (place_of dir.0 name) (Link target) change
+IsChangeOf (Setattr dir name mode size mtime) change = IsSetAt (place_of dir.0 name) change
+IsChangeOf (Unlink dir name) change = IsRemovalAt (place_of dir.0 name) change
+IsChangeOf (Rmdir dir name) change = IsRemovalAt (place_of dir.0 name) change
+IsChangeOf (Rename dir name to_dir to_name) change = IsMoveTo (place_of dir.0 name) (place_of to_dir.0 to_name) change
+
+-- every change that the operation may make is ready
+abbrev pub IsReadyFor : (Change → Type 0) → Op → Type 0
+IsReadyFor IsReady op = (change : Change) → IsChangeOf op change → IsReady change
+
+-- the tree once what stands at a place went to another
+abbrev pub moved : Tree → Place → Place → Option Inode → Tree
+moved tree from to None = tree
+moved tree from to (Some inode) = with_moved tree from to inode
+
+-- the tree after a change
+abbrev pub changed : Tree → Change → Tree
+changed tree (Add place inode) = map.insert tree place inode
+changed tree (Set place inode) = map.insert tree place inode
+changed tree (Remove place) = map.remove tree place
+changed tree (Move from to) = moved tree from to (map.get tree from)
+
+-- a new inode may come: to a free place of a directory, with a number that is unused and the size that its kind prescribes
+pub record MayAdd (tree : Tree) (place : Place) (inode : Inode) : Type 0 where
+  pub free : map.get tree place ≡ None
+  pub parent : is_directory tree place.dir.0 ≡ true
+  pub unused : IsUnused tree inode.ino.0
+  pub sized : HasSize inode.kind inode.size
+
+-- an inode may get other attributes: it is the one that stands there with attributes that its kind allows to give
+pub record MaySet (tree : Tree) (place : Place) (inode : Inode) : Type 0 where
+  pub before : Inode
+  pub mode : Option ℕ
+  pub size : Option ℕ
+  pub mtime : Option ℕ
+  pub stands : map.get tree place ≡ Some before
+  pub allowed : size_errno before.kind size ≡ None
+  pub is : inode ≡ with_attributes mode size mtime before
+
+-- an entry may go: it is no directory that has entries
+pub record MayRemove (tree : Tree) (place : Place) : Type 0 where
+  pub inode : Inode
+  pub stands : map.get tree place ≡ Some inode
+  pub empty : (is_dir_kind inode.kind && has_entries tree inode.ino.0) ≡ false
+
+-- a change may be made
+abbrev pub MayChange : Tree → Change → Type 0
+MayChange tree (Add place inode) = MayAdd tree place inode
+MayChange tree (Set place inode) = MaySet tree place inode
+MayChange tree (Remove place) = MayRemove tree place
+MayChange tree (Move from to) = (inode : Inode) × IsMove tree from to inode
+
+-- a number that is offered for a new inode is unused
+abbrev pub IsOffered : Tree → Option Ino → Type 0
+IsOffered tree None = Unit {0}
+IsOffered tree (Some number) = IsUnused tree number.0

@@ -1,30 +1,51 @@
 -- What contracts see of the plain fragments.
-use Rattle.std.specs.Prelude.{◌≡◌, ℕ, ◌||◌, ◌==◌, cond, is_some}
-use Rattle.std.specs.declared.cmp.Ordering.{Ordering}
-use Rattle.std.specs.Ordering.{nat_cmp}
+use Rattle.std.specs.Prelude.{◌≡◌, ℕ, ◌<◌, true, cond, List, Option, Some, None}
 use Rattle.std.specs.FinMap as map
-use Rattle.mds_types.specs.declared.ids.Ino.{Ino}
+use Rattle.mds_types.specs.declared.places.Place.{Place}
 use Rattle.mds_types.specs.declared.inodes.Inode.{Inode}
-use Rattle.mds_types.specs.Tree.{Tree, is_directory, is_dir_kind}
+use Rattle.mds_types.specs.Tree.{Tree, place_of, is_dir_kind, IsWellFormed}
+use Rattle.inode_table.specs.declared.homes.Home.{Home}
+use Rattle.inode_table.specs.Dirs.{Homes}
+use Rattle.namespace_ops.specs.declared.plans.Change.{Change}
+use Rattle.namespace_ops.specs.declared.plans.Change.TheVariants.{Add, Set, Remove, Move}
 
--- the tree, and how many entries and directories still fit with no growth
+-- the tree, the directory table, how many entries and directories still fit with no growth, and the name that is ready for a
+-- directory's home
 pub record Kept : Type 0 where
   pub tree : Tree
+  pub homes : Homes
   pub entries_left : ℕ
   pub dirs_left : ℕ
+  pub spare : Option (List ℕ)
 
--- numbers of inodes in order
-abbrev pub ino_cmp : Ino → Ino → Ordering
-ino_cmp a b = nat_cmp a.0 b.0
+-- where a directory with its entry at this place stands
+abbrev pub home_at : Place → Home
+home_at place = record { parent = place.dir; name = place.name }
 
--- a set of directories
-abbrev pub Directories : Type 0
-Directories = map.FinMap ino_cmp (Unit {0})
+-- the table has exactly the tree's directories, each where it stands
+pub record HoldsHomes (tree : Tree) (homes : Homes) : Type 0 where
+  -- each directory of the tree is in the table
+  pub listed : (place : Place) (inode : Inode) → map.get tree place ≡ Some inode → is_dir_kind inode.kind ≡ true → map.get homes inode.ino.0 ≡ Some (home_at place)
+  -- each in the table is one of the tree
+  pub stands : (d : ℕ) (home : Home) → map.get homes d ≡ Some home → (inode : Inode) × (map.get tree (place_of home.parent.0 home.name) ≡ Some inode) × (inode.ino.0 ≡ d) × (is_dir_kind inode.kind ≡ true)
 
--- beside the root, the set has the tree's directories and no others
-abbrev pub HoldsDirectories : Tree → Directories → Type 0
-HoldsDirectories tree dirs = (d : ℕ) → is_directory tree d ≡ ((d == 1) || is_some (map.get dirs (record { 0 = d })))
+-- the tree is well formed, and the table is that of the tree
+pub record IsTabled (tree : Tree) (homes : Homes) : Type 0 where
+  pub whole : IsWellFormed tree
+  pub holds : HoldsHomes tree homes
 
--- the set with a new inode, if that is a directory
-abbrev pub with_directory : Directories → Inode → Directories
-with_directory dirs inode = cond (is_dir_kind inode.kind) (map.insert dirs inode.ino tt) dirs
+-- the table with the home of an inode that came to a place, if that is a directory
+abbrev pub with_home : Homes → Place → Inode → Homes
+with_home homes place inode = cond (is_dir_kind inode.kind) (map.insert homes inode.ino.0 (home_at place)) homes
+
+-- the table without an inode, if there was one
+abbrev pub without_home : Homes → Option Inode → Homes
+without_home homes None = homes
+without_home homes (Some inode) = cond (is_dir_kind inode.kind) (map.remove homes inode.ino.0) homes
+
+-- the change can be made with no growth: there is room for a new entry, and for a new home with its name
+abbrev pub IsReady : Kept → Change → Type 0
+IsReady f (Add place inode) = (0 < f.entries_left) × (is_dir_kind inode.kind ≡ true → (0 < f.dirs_left) × (f.spare ≡ Some place.name))
+IsReady f (Set place inode) = Unit {0}
+IsReady f (Remove place) = Unit {0}
+IsReady f (Move from to) = f.spare ≡ Some to.name

@@ -1,16 +1,15 @@
 //! What operations need of a directory's fragments.
-ghost use Rattle.std.specs.Prelude.{◌≡◌, None, IfOk, IfErr, OnOk, take, length, nat_lt};
+ghost use Rattle.std.specs.Prelude.{◌≡◌, true, not, IfOk, IfErr, OnOk, take, length, nat_lt};
 ghost use Rattle.std.specs.Option.{option_copied};
-ghost use Rattle.std.specs.FinMap as map;
-ghost use Rattle.mds_types.specs.declared.operations.Op.{Op as Operation};
-ghost use Rattle.mds_types.specs.declared.places.Place.{Place as Spot};
 ghost use Rattle.mds_types.specs.declared.refusals.Refusal.{Refusal as Reason};
-ghost use Rattle.mds_types.specs.Tree.{Tree, is_directory, at};
+ghost use Rattle.mds_types.specs.Tree.{Tree, is_directory, is_above, has_entries, at};
 ghost use Rattle.mds_types.specs.Step.{names_after};
-ghost use Rattle.namespace_ops.specs.Changes.{IsReadyFor};
+ghost use Rattle.namespace_ops.specs.declared.plans.Change.{Change as Alteration};
+ghost use Rattle.namespace_ops.specs.Changes.{IsReadyFor, MayChange, changed};
 ghost use Rattle.namespace_ops.specs.Reasons.{IsOfFragments};
 
-use mds_types::{Ino, Inode, Listing, Name, Op, PageSize, Place, Refusal};
+use crate::plans::Change;
+use mds_types::{Ino, Inode, Listing, Name, Op, PageSize, Refusal};
 use std::alloc::Global;
 
 /// The fragments that operations read and change. Together they show one plain tree, whatever they are kept in.
@@ -21,8 +20,8 @@ pub trait Frags {
     /// The plain tree that the fragments show.
     ghost content: { Self → Tree };
 
-    /// The entry at the place can be changed with no further growth.
-    ghost IsReady: { Self → Spot → Type 0 };
+    /// The change can be made with no further growth.
+    ghost IsReady: { Self → Alteration → Type 0 };
 
     /// What calls keep beside the content, as a count that only rises.
     ghost Follows: { Self → Self → Type 0 };
@@ -33,6 +32,11 @@ pub trait Frags {
     /// Whether this is the number of a directory of the tree now.
     fn is_dir(&self, dir: Ino) -> bool
         ensures { result ≡ is_directory (content self.now) dir.0 };
+
+    /// Whether the directory `dir` is above the directory `below`.
+    fn is_above(&self, dir: Ino, below: Ino) -> bool
+        requires { is_directory (content self.now) below.0 ≡ true }
+        ensures { result ≡ is_above (content self.now) dir.0 below.0 };
 
     /// The inode at a name, copied.
     fn look(&mut self, dir: Ino, name: &Name) -> Result<Option<Inode>, Refusal>
@@ -55,6 +59,13 @@ pub trait Frags {
         ensures follows { Follows self.old self.new }
         ensures err { IfErr result (MayRefuse self.old self.new) };
 
+    /// Whether nothing is in a directory.
+    fn is_empty(&mut self, dir: Ino) -> Result<bool, Refusal>
+        ensures found { IfOk result (λ empty. empty ≡ not (has_entries (content self.old) dir.0)) }
+        ensures same { content self.new ≡ content self.old }
+        ensures follows { Follows self.old self.new }
+        ensures err { IfErr result (MayRefuse self.old self.new) };
+
     /// Makes every growth that the operation could need.
     fn ready(&mut self, op: &Op) -> Result<(), Refusal>
         ensures ready { OnOk result (IsReadyFor (IsReady self.new) op.now) }
@@ -62,11 +73,11 @@ pub trait Frags {
         ensures follows { Follows self.old self.new }
         ensures err { IfErr result (MayRefuse self.old self.new) };
 
-    /// Puts an inode at a place that is free and was made ready.
-    fn add(&mut self, place: Place, inode: Inode)
-        requires ready { IsReady self.old place }
-        requires free { map.get (content self.old) place ≡ None }
-        ensures added { content self.new ≡ map.insert (content self.old) place inode }
+    /// Makes a change that may be made and was made ready.
+    fn change(&mut self, change: Change)
+        requires ready { IsReady self.old change }
+        requires may { MayChange (content self.old) change }
+        ensures changed { content self.new ≡ changed (content self.old) change }
         ensures follows { Follows self.old self.new };
 
     /// Fragments refuse for these reasons alone.

@@ -2,12 +2,18 @@
 //! `mds_types`.
 #![tactic(auto)]
 
+mod altering;
 mod frags;
 mod laws;
 mod listing;
+mod making;
+mod plain_changes;
 mod plain_frags;
 mod planning;
 mod plans;
+mod reading;
+mod removing;
+mod renaming;
 mod serving;
 
 pub use frags::Frags;
@@ -19,6 +25,3 @@ pub use plain_frags::PlainFrags;
 pub use planning::plan_op;
 pub use plans::{Change, Plan, carry_out};
 pub use serving::serve_op;
-
-#[cfg(test)]
-mod tests;

@@ -27,8 +27,8 @@ pub fn first_rows(
     Ok((Listing::from_vec(list), false))
 }
 
-// The next row, if it is one of the directory.
-fn next_in<'a>(rows: &mut Iter<'a, Place, Inode>, dir: Ino) -> Option<&'a (Place, Inode)>
+/// The next row, if it is one of the directory.
+pub fn next_in<'a>(rows: &mut Iter<'a, Place, Inode>, dir: Ino) -> Option<&'a (Place, Inode)>
     ensures run { MatchOption result (run dir.0 rows.old ≡ []) (λ row. run dir.0 rows.old ≡ (row.now.0.name, row.now.1) ∷ run dir.0 rows.new) }
     ensures fewer { MatchOption result (length rows.new ≤ length rows.old) (λ row. length rows.new < length rows.old) }
 {

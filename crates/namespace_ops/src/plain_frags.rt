@@ -1,42 +1,50 @@
 //! Fragments kept in the plainest way: one ordered map of all entries.
-ghost use Rattle.std.specs.Prelude.{◌≡◌, ◌<◌, [], take, length, nat_lt, IfOk};
+ghost use Rattle.std.specs.Prelude.{◌≡◌, ◌<◌, [], take, length, nat_lt, not, true, false, is_some, Some, IfOk};
 ghost use Rattle.std.specs.Option.{option_copied};
 ghost use Rattle.std.specs.FinMap as map;
 ghost use Rattle.sorted_map.specs.SortedMap.{contents};
-ghost use Rattle.mds_types.specs.Tree.{place_cmp, at};
+ghost use Rattle.mds_types.specs.Tree.{place_cmp, at, has_entries};
 ghost use Rattle.mds_types.specs.Step.{names_after};
 ghost use Rattle.namespace_ops.specs.Run.{run};
-ghost use Rattle.namespace_ops.specs.PlainFrags.{Kept, ino_cmp, with_directory};
+ghost use Rattle.namespace_ops.specs.PlainFrags.{Kept};
 
 use crate::frags::Frags;
-use crate::listing::first_rows;
-use mds_types::{Ino, Inode, Kind, Listing, Name, Op, PageSize, Place, Refusal};
+use crate::listing::{first_rows, next_in};
+use crate::plain_changes::{add_entry, move_entry, remove_entry, set_entry};
+use crate::plans::Change;
+use inode_table::Dirs;
+use mds_types::{Ino, Inode, Listing, Name, Op, PageSize, Place, Refusal};
 use sorted_map::{Iter, Probe, SortedMap};
 use std::alloc::{AllocError, Global};
 use std::cmp::Ordering;
 use std::marker::Model;
 
-/// All entries in one ordered map, and beside it the numbers of the directories.
+/// All entries in one ordered map, and beside it the directory table.
+///
+/// Of every value it holds that the tree is well formed and the table is that of the tree.
 #[derive(Debug, Drop)]
 pub struct PlainFrags {
     entries: SortedMap<Place, Inode>,
-    dirs: SortedMap<Ino, ()>,
+    dirs: Dirs,
+    /// The name of the directory that comes or moves next, for its place in the table.
+    spare: Option<Name>,
 }
 
 impl Model for PlainFrags {
+    ghost use Rattle.std.specs.Prelude.{◌≡◌};
     ghost use Rattle.mds_types.specs.Tree.{place_cmp};
     ghost use Rattle.sorted_map.specs.SortedMap.{contents};
     ghost use Rattle.std.specs.Coded.{codes};
     ghost use Rattle.std.specs.FinMap as map;
-    ghost use Rattle.namespace_ops.specs.PlainFrags.{Kept, HoldsDirectories, ino_cmp};
+    ghost use Rattle.namespace_ops.specs.PlainFrags.{Kept, IsTabled};
 
     ghost Value = { Kept };
 
     ghost coded = { Prim.hlevel (codes, map.code) };
 
-    ghost view = { λ f. record { tree = contents place_cmp f.entries; entries_left = f.entries.room; dirs_left = f.dirs.room } };
+    ghost view = { λ f. record { tree = contents place_cmp f.entries; homes = f.dirs.homes; entries_left = f.entries.room; dirs_left = f.dirs.room; spare = f.spare } };
 
-    ghost invariant = { λ f. HoldsDirectories (contents place_cmp f.entries) (contents ino_cmp f.dirs) };
+    ghost invariant = { λ f. IsTabled (contents place_cmp f.entries) f.dirs.homes };
 }
 
 impl PlainFrags {
@@ -46,7 +54,8 @@ impl PlainFrags {
     {
         PlainFrags {
             entries: SortedMap::new(alloc),
-            dirs: SortedMap::new(alloc),
+            dirs: Dirs::new(alloc),
+            spare: None,
         }
     }
 }
@@ -84,13 +93,14 @@ impl Probe<Place> for DirFront {
 }
 
 impl Frags for PlainFrags {
-    ghost use Rattle.std.specs.Prelude.{◌≡◌, ◌<◌};
+    ghost use Rattle.std.specs.Prelude.{◌≡◌};
     ghost use Rattle.mds_types.specs.declared.refusals.Refusal.TheVariants.{NoMemory};
     ghost use Rattle.namespace_ops.specs.Reasons.{refused_for_memory};
+    ghost use Rattle.namespace_ops.specs.PlainFrags.{IsReady as IsReadyFor};
 
     ghost content = { λ f. f.tree };
 
-    ghost IsReady = { λ f place. (0 < f.entries_left) × (0 < f.dirs_left) };
+    ghost IsReady = { λ f change. IsReadyFor f change };
 
     ghost Follows = { λ a b. Unit {0} };
 
@@ -105,7 +115,11 @@ impl Frags for PlainFrags {
     ghost refused_for = { refused_for_memory _ };
 
     fn is_dir(&self, dir: Ino) -> bool {
-        dir == Ino::ROOT || self.dirs.contains(&dir)
+        self.dirs.contains(dir)
+    }
+
+    fn is_above(&self, dir: Ino, below: Ino) -> bool {
+        self.dirs.is_above(dir, below)
     }
 
     fn look(&mut self, dir: Ino, name: &Name) -> Result<Option<Inode>, Refusal> {
@@ -122,15 +136,36 @@ impl Frags for PlainFrags {
         Ok(first_rows(alloc, rows_after(&self.entries, dir, after), dir, max)?)
     }
 
-    fn ready(&mut self, _op: &Op) -> Result<(), Refusal> {
-        self.entries.reserve(1)?;
-        self.dirs.reserve(1)?;
+    fn is_empty(&mut self, dir: Ino) -> Result<bool, Refusal> {
+        Ok(nothing_in(&self.entries, dir))
+    }
+
+    fn ready(&mut self, op: &Op) -> Result<(), Refusal> {
+        match op {
+            Op::Create { .. } | Op::Symlink { .. } => self.entries.reserve(1)?,
+            Op::Mkdir { name, .. } => {
+                self.entries.reserve(1)?;
+                self.spare = Some(name.try_clone()?);
+                return self.dirs.reserve();
+            }
+            Op::Rename { to_name, .. } => self.spare = Some(to_name.try_clone()?),
+            _ => {}
+        }
         Ok(())
     }
 
-    fn add(&mut self, place: Place, inode: Inode) {
-        note_dir(&mut self.dirs, &inode);
-        let _ = self.entries.insert(place, inode);
+    fn change(&mut self, change: Change) {
+        let PlainFrags {
+            entries,
+            dirs,
+            spare,
+        } = self;
+        match change {
+            Change::Add { place, inode } => add_entry(entries, dirs, spare, place, inode),
+            Change::Set { place, inode } => set_entry(entries, dirs, &place, inode),
+            Change::Remove { place } => remove_entry(entries, dirs, &place),
+            Change::Move { from, to } => move_entry(entries, dirs, spare, &from, to),
+        }
     }
 }
 
@@ -162,12 +197,10 @@ fn rows_after<'a>(
     }
 }
 
-// Notes a new directory, for which there is room.
-fn note_dir(dirs: &mut SortedMap<Ino, ()>, inode: &Inode)
-    requires { 0 < dirs.old.room }
-    ensures { contents ino_cmp dirs.new ≡ with_directory (contents ino_cmp dirs.old) inode.now }
+// Whether no entry is in the directory.
+fn nothing_in(entries: &SortedMap<Place, Inode>, dir: Ino) -> bool
+    ensures { result ≡ not (has_entries (contents place_cmp entries.now) dir.0) }
 {
-    if inode.kind.is_dir() {
-        let _ = dirs.insert(inode.ino, ());
-    }
+    let mut rows = rows_after(entries, dir, None);
+    next_in(&mut rows, dir).is_none()
 }

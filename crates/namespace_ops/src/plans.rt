@@ -1,6 +1,6 @@
 //! What an operation comes to, before it is done.
-ghost use Rattle.std.specs.Prelude.{◌≡◌};
-ghost use Rattle.namespace_ops.specs.Planned.{changed, IsReadyToChange};
+ghost use Rattle.std.specs.Prelude.{◌≡◌, None};
+ghost use Rattle.namespace_ops.specs.Planned.{after_plan, IsReadyToChange};
 
 use crate::frags::Frags;
 use mds_types::{Ino, Inode, Place, Reply};
@@ -10,6 +10,12 @@ use mds_types::{Ino, Inode, Place, Reply};
 pub enum Change {
     /// A new inode, at a place that is free.
     Add { place: Place, inode: Inode },
+    /// Other attributes for the inode at a place.
+    Set { place: Place, inode: Inode },
+    /// The entry at a place goes.
+    Remove { place: Place },
+    /// The entry at one place moves to another; what stands there is replaced.
+    Move { from: Place, to: Place },
 }
 
 /// What an operation comes to.
@@ -26,11 +32,21 @@ pub struct Plan {
 /// Makes a change that was planned. It can't fail.
 pub fn carry_out<F: Frags>(frags: &mut F, change: Option<Change>)
     requires { IsReadyToChange (F.content frags.old) (F.IsReady frags.old) change }
-    ensures done { F.content frags.new ≡ changed (F.content frags.old) change }
+    ensures done { F.content frags.new ≡ after_plan (F.content frags.old) change }
     ensures follows { F.Follows frags.old frags.new }
 {
-    match change {
-        None => {}
-        Some(Change::Add { place, inode }) => frags.add(place, inode),
+    if let Some(change) = change {
+        frags.change(change);
+    }
+}
+
+/// The plan of an operation that changes nothing.
+pub fn only_answer(reply: Reply) -> Plan
+    ensures { result ≡ record { reply = reply; change = None; number = None } }
+{
+    Plan {
+        reply,
+        change: None,
+        number: None,
     }
 }

@@ -1,6 +1,7 @@
 //! Serving one operation.
 ghost use Rattle.std.specs.Prelude.{MatchResult};
 ghost use Rattle.mds_types.specs.Step.{step, number_or};
+ghost use Rattle.namespace_ops.specs.Changes.{IsOffered};
 ghost use Rattle.namespace_ops.specs.Served.{IsServed, IsRefused};
 
 use crate::frags::Frags;
@@ -10,7 +11,7 @@ use mds_types::{Ino, Op, Refusal, Reply};
 use std::alloc::Global;
 
 /// Serves an operation: answers the reply of the operation table, and leaves the tree that the table leaves. A new inode
-/// takes the number given; where the table takes one and none is given, the operation is refused `NoInodes`. Any other
+/// takes the number given, which has to be unused; where the table takes one and none is given, the operation is refused `NoInodes`. Any other
 /// refusal is one of the fragments', or want of memory. A refusal leaves the tree as it was.
 pub fn serve_op<F: Frags>(
     alloc: Global,
@@ -18,6 +19,7 @@ pub fn serve_op<F: Frags>(
     op: &Op,
     number: Option<Ino>,
 ) -> Result<Reply, Refusal>
+    requires { IsOffered (F.content frags.old) number }
     ensures served { let outcome = step (F.content frags.old) op.now (number_or number) in
         MatchResult result
         (IsServed (F.content frags.new) outcome number)

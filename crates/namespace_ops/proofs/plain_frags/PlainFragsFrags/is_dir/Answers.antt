@@ -1,10 +1,8 @@
-use Rattle.std.proofs.Common.{◌||◌, is_some, sym, ap, ◌∙◌}
-use Rattle.std.specs.FinMap as map
-use Rattle.sorted_map.specs.SortedMap.{contents}
-use Rattle.namespace_ops.specs.PlainFrags.{ino_cmp}
+use Rattle.std.proofs.Common.{ap, ◌∙◌}
+use Rattle.mds_types.specs.Tree.{is_directory}
+use Rattle.namespace_ops.specs.PlainFrags.{Kept}
+use Rattle.namespace_ops.proofs.Tabled.{known_is}
 use Rattle.namespace_ops.proofs.plain_frags.PlainFragsFrags.is_dir.Goals as goal
 
-pub returns-else-eq : goal.returns-else-eq
-returns-else-eq c =
-    rw (← c.self.view_is)
-    (c.contains.ensures ∙ sym (c.self.invariant c.args.dir.0 ∙ ap (λ b. b || is_some (map.get (contents ino_cmp c.self.inside.dirs) c.args.dir)) (sym c.if-eq.ensures)))
+pub returns : goal.returns
+returns c = c.contains.ensures ∙ known_is _ _ c.self.invariant c.args.dir.0 ∙ ap (λ (k : Kept). is_directory k.tree c.args.dir.0) c.self.view_is
