@@ -45,6 +45,7 @@ impl WriteOp {
             remove: self.remove.try_clone()?,
         })
     }
+
     // A copy of the header to write, if any.
     pub(crate) fn header_copy(&self) -> Result<Option<Bytes>, AllocError>
         ensures { IfOk result (λ copy. copy ≡ self.now.header) }
