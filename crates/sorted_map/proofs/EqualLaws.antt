@@ -1,6 +1,5 @@
 -- When a test of pairs tells maps apart.
-use Rattle.std.proofs.Common.{◌≡◌, Bool, true, false, ◌&&◌, T, List, Decides, Ordering, is_eq, refl, sym, ap, ◌∙◌, subst}
-use Rattle.std.proofs.lemmas.Bool.{false≢true}
+use Rattle.std.proofs.Common.{◌≡◌, Bool, true, false, ◌&&◌, T, List, Decides, Ordering, is_eq, sym, ap, ◌∙◌, subst}
 use Rattle.std.proofs.lemmas.Slice.Eq.{slice_eq-Decides}
 use Rattle.std.specs.Cmp.{IsTotalOrder, Equal-is, tied_itself}
 use Rattle.std.specs.Cmp.Lexicographic.{pointwise}
@@ -8,11 +7,8 @@ use Rattle.std.specs.Ordering.{eq_by_cmp}
 use Rattle.std.specs.FinMap as map
 use Rattle.std.specs.FinMap.{IsAntisymmetric, entries-from_sorted}
 use Rattle.std.specs.FinMap.Entries.{is_sorted}
+use Rattle.sorted_map.specs.Bools.{first_true, second_true}
 use Rattle.sorted_map.specs.SortedMap.{TellsApart, pairs_eq}
-
-both_true : (a b : Bool) → (a && b) ≡ true → (a ≡ true) × (b ≡ true)
-both_true true b e = (refl, e)
-both_true false b e = absurd (false≢true e)
 
 joined : (a b : Bool) → a ≡ true → b ≡ true → (a && b) ≡ true
 joined true b p q = q
@@ -28,7 +24,7 @@ keys_told {K} {R} o exact E ties x y = (
 -- and at pairs
 pub pairs_told : {K V : Type 0} (E : K → K → Bool) (F : V → V → Bool) → TellsApart E → TellsApart F → TellsApart (pairs_eq E F)
 pairs_told E F e f p q = (
-  λ t. let h = both_true _ _ t in λ i. ((e p.0 q.0).0 h.0 i, (f p.1 q.1).0 h.1 i),
+  λ t i. ((e p.0 q.0).0 (first_true _ _ t) i, (f p.1 q.1).0 (second_true _ _ t) i),
   λ s. joined _ _ ((e p.0 q.0).1 (ap (λ r. r.0) s)) ((f p.1 q.1).1 (ap (λ r. r.1) s)),
 )
 

@@ -5,18 +5,19 @@ use Rattle.std.specs.Ordering.{ordering_reverse}
 use Rattle.std.specs.FinMap as map
 use Rattle.std.specs.FinMap.{IsAntisymmetric, entries-insert, entries-from_sorted, same_entries_map}
 use Rattle.std.specs.FinMap.Entries.{put, where_key, is_sorted, below_all, is_sorted-put}
+use Rattle.sorted_map.specs.Bools.{left_of, right_of, both_of}
 use Rattle.sorted_map.specs.Overlay.{with_pairs, overlaid, without_keys}
 use Rattle.sorted_map.specs.Places.{IsAt, IsGap, puts}
 use Rattle.sorted_map.proofs.ContentLaws.{retained}
-use Rattle.sorted_map.proofs.PlaceLaws.{first, second, both, less, below_less}
+use Rattle.sorted_map.proofs.PlaceLaws.{less, below_less}
 
 module _ {K V : Type 0} {R : K → K → Ordering} (o : IsTotalOrder R) where
   -- a key that is less than all that are put keeps its place at the front
   pub behind : (e : K × V) (es fs : List (K × V)) → T (below_all R e.0 fs) → puts R (e ∷ es) fs ≡ e ∷ puts R es fs
   behind e es [] below = refl
   behind e es (f ∷ fs) below =
-      let above : R f.0 e.0 ≡ Greater = o.antisymm f.0 e.0 ∙ ap ordering_reverse (less _ (first _ _ below)) in
-      rw above (behind e (put R f.0 f.1 es) fs (second _ _ below))
+      let above : R f.0 e.0 ≡ Greater = o.antisymm f.0 e.0 ∙ ap ordering_reverse (less _ (left_of _ _ below)) in
+      rw above (behind e (put R f.0 f.1 es) fs (right_of _ _ below))
 
   lower : (k : K) (e : K × V) (fs : List (K × V)) → R k e.0 ≡ Greater → T (below_all R k fs) → T (below_all R e.0 fs)
   lower k e fs above below = below_less o e.0 k fs (o.antisymm e.0 k ∙ ap ordering_reverse above) below
@@ -46,7 +47,7 @@ module _ {K V : Type 0} {R : K → K → Ordering} (o : IsTotalOrder R) where
   above_gap k v (e ∷ es) zero fs h below = refl
   above_gap k v (e ∷ es) (suc i) fs h below =
       let less : T (is_lt (R e.0 k)) = subst (λ r. T (is_lt r)) (sym (o.antisymm e.0 k ∙ ap ordering_reverse h.0)) tt in
-      behind e es ((k, v) ∷ fs) (both _ _ less (lower k e fs h.0 below)) ∙ ap (λ t. e ∷ t) (above_gap k v es i fs h.1 below)
+      behind e es ((k, v) ∷ fs) (both_of _ _ less (lower k e fs h.0 below)) ∙ ap (λ t. e ∷ t) (above_gap k v es i fs h.1 below)
 
   above_at : (k : K) (v : V) (es : List (K × V)) (i : ℕ) (fs : List (K × V)) → IsAt R k es i → T (below_all R k fs)
       → puts R es ((k, v) ∷ fs) ≡ take i es ++ puts R (drop i es) ((k, v) ∷ fs)
@@ -54,22 +55,22 @@ module _ {K V : Type 0} {R : K → K → Ordering} (o : IsTotalOrder R) where
   above_at k v (e ∷ es) zero fs h below = refl
   above_at k v (e ∷ es) (suc i) fs h below =
       let less : T (is_lt (R e.0 k)) = subst (λ r. T (is_lt r)) (sym (o.antisymm e.0 k ∙ ap ordering_reverse h.0)) tt in
-      behind e es ((k, v) ∷ fs) (both _ _ less (lower k e fs h.0 below)) ∙ ap (λ t. e ∷ t) (above_at k v es i fs h.1 below)
+      behind e es ((k, v) ∷ fs) (both_of _ _ less (lower k e fs h.0 below)) ∙ ap (λ t. e ∷ t) (above_at k v es i fs h.1 below)
 
   -- the pairs before the place of the least key that is put stay as they are
   pub front_at : (k : K) (v : V) (es : List (K × V)) (i : ℕ) (fs : List (K × V)) → IsAt R k es i → T (is_sorted R ((k, v) ∷ fs))
       → puts R es ((k, v) ∷ fs) ≡ take i es ++ puts R (drop i es) ((k, v) ∷ fs)
-  front_at k v es i fs h sorted = above_at k v es i fs h (first _ _ sorted)
+  front_at k v es i fs h sorted = above_at k v es i fs h (left_of _ _ sorted)
 
   pub front_gap : (k : K) (v : V) (es : List (K × V)) (i : ℕ) (fs : List (K × V)) → IsGap R k es i → T (is_sorted R ((k, v) ∷ fs))
       → puts R es ((k, v) ∷ fs) ≡ take i es ++ puts R (drop i es) ((k, v) ∷ fs)
-  front_gap k v es i fs h sorted = above_gap k v es i fs h (first _ _ sorted)
+  front_gap k v es i fs h sorted = above_gap k v es i fs h (left_of _ _ sorted)
 
   -- a part from a place on is in order
   pub sorted_drop : (i : ℕ) (es : List (K × V)) → T (is_sorted R es) → T (is_sorted R (drop i es))
   sorted_drop zero es s = s
   sorted_drop (suc i) [] s = tt
-  sorted_drop (suc i) (e ∷ es) s = sorted_drop i es (second _ _ s)
+  sorted_drop (suc i) (e ∷ es) s = sorted_drop i es (right_of _ _ s)
 
   pub puts_sorted : (es fs : List (K × V)) → T (is_sorted R es) → T (is_sorted R (puts R es fs))
   puts_sorted es [] s = s

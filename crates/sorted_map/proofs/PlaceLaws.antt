@@ -1,25 +1,14 @@
 -- What the place of a key says of look-ups and edits of pairs in order.
-use Rattle.std.proofs.Common.{◌≡◌, ℕ, zero, suc, ◌<◌, ◌≤◌, add-one, Bool, true, false, not, ◌&&◌, T, List, [], ◌∷◌, length, get_or, set, drop, insert, remove, Some, None, Result, Ok, Err, Ordering, Less, Equal, Greater, is_lt, refl, sym, ap, ◌∙◌, subst, arith}
+use Rattle.std.proofs.Common.{◌≡◌, ℕ, zero, suc, ◌<◌, ◌≤◌, add-one, Bool, true, false, not, T, List, [], ◌∷◌, length, get_or, set, drop, insert, remove, Some, None, Result, Ok, Err, Ordering, Less, Equal, Greater, is_lt, refl, sym, ap, ◌∙◌, subst, arith}
 use Rattle.std.proofs.lemmas.Bool.{false≢true}
 use Rattle.std.specs.List.{IsAllAdjacentAnswer}
 use Rattle.std.specs.Cmp.{IsTotalOrder, tied_itself, tied_back, alike_right}
 use Rattle.std.specs.Ordering.{ordering_index, ordering_reverse, eq_by_cmp}
 use Rattle.std.specs.List.Sorted.{IsSearchInRange, IsBinarySearchResult, IsNonDecreasingBy}
 use Rattle.std.specs.FinMap.Entries.{find, put, where_key, is_sorted, below_all}
+use Rattle.sorted_map.specs.Bools.{left_of, right_of, both_of}
 use Rattle.sorted_map.specs.SortedMap.{after, is_from}
 use Rattle.sorted_map.specs.Places.{IsAt, IsGap, IsPlace}
-
-pub first : (a b : Bool) → T (a && b) → T a
-first true b p = tt
-first false b p = absurd p
-
-pub second : (a b : Bool) → T (a && b) → T b
-second true b p = p
-second false b p = absurd p
-
-pub both : (a b : Bool) → T a → T b → T (a && b)
-both true b p q = q
-both false b p q = absurd p
 
 pub less : (r : Ordering) → T (is_lt r) → r ≡ Less
 less Less p = refl
@@ -114,33 +103,33 @@ module _ {K V : Type 0} {R : K → K → Ordering} (o : IsTotalOrder R) where
   -- each key of a list is above one that is below all of them
   below_at : (x : K) (es : List (K × V)) (i : ℕ) (d : K × V) → T (below_all R x es) → i < length es → R x (get_or es i d).0 ≡ Less
   below_at x [] i d h lt = absurd (omega arith)
-  below_at x (e ∷ es) zero d h lt = less _ (first _ _ h)
-  below_at x (e ∷ es) (suc i) d h lt = below_at x es i d (second _ _ h) (omega arith)
+  below_at x (e ∷ es) zero d h lt = less _ (left_of _ _ h)
+  below_at x (e ∷ es) (suc i) d h lt = below_at x es i d (right_of _ _ h) (omega arith)
 
   -- a key that ties with one that is below all of a list would go before it
   pub gap_tied : (x k : K) (es : List (K × V)) → R x k ≡ Equal → T (below_all R x es) → IsGap R k es zero
   gap_tied x k [] t h = tt
-  gap_tied x k (e ∷ es) t h = (sym (o.congr x k e.0 t) ∙ less _ (first _ _ h), gap_tied x k es t (second _ _ h))
+  gap_tied x k (e ∷ es) t h = (sym (o.congr x k e.0 t) ∙ less _ (left_of _ _ h), gap_tied x k es t (right_of _ _ h))
 
   -- the first key stands at the first place
   pub first_at : (es : List (K × V)) (x : K × V) → T (is_sorted R es) → 0 < length es → x ≡ get_or es 0 x → IsAt R x.0 es zero
   first_at [] x s some e = absurd (omega arith)
   first_at (y ∷ es) x s some e =
-      subst (λ (z : K × V). IsAt R z.0 (y ∷ es) zero) (sym e) (tied_itself o y.0, gap_tied y.0 y.0 es (tied_itself o y.0) (first _ _ s))
+      subst (λ (z : K × V). IsAt R z.0 (y ∷ es) zero) (sym e) (tied_itself o y.0, gap_tied y.0 y.0 es (tied_itself o y.0) (left_of _ _ s))
 
   rises : (k : K) (es : List (K × V)) → T (is_sorted R es) → IsNonDecreasingBy (λ y. ordering_index (R y.0 k)) es
   rises k [] s i j d le lt = absurd (omega arith)
   rises k (e ∷ es) s zero zero d le lt = omega arith
-  rises k (e ∷ es) s zero (suc j) d le lt = lower o e.0 _ k _ refl (below_at e.0 es j d (first _ _ s) (omega arith))
+  rises k (e ∷ es) s zero (suc j) d le lt = lower o e.0 _ k _ refl (below_at e.0 es j d (left_of _ _ s) (omega arith))
   rises k (e ∷ es) s (suc i) zero d le lt = absurd (omega arith)
-  rises k (e ∷ es) s (suc i) (suc j) d le lt = rises k es (second _ _ s) i j d (omega arith) (omega arith)
+  rises k (e ∷ es) s (suc i) (suc j) d le lt = rises k es (right_of _ _ s) i j d (omega arith) (omega arith)
 
   at_found : (k : K) (es : List (K × V)) (i : ℕ) → T (is_sorted R es) → i < length es → ((d : K × V) → R (get_or es i d).0 k ≡ Equal) → IsAt R k es i
   at_found k [] i s lt tied = absurd (omega arith)
-  at_found k (e ∷ es) zero s lt tied = (tied_back o e.0 k (tied e), gap_tied e.0 k es (tied e) (first _ _ s))
+  at_found k (e ∷ es) zero s lt tied = (tied_back o e.0 k (tied e), gap_tied e.0 k es (tied e) (left_of _ _ s))
   at_found k (e ∷ es) (suc i) s lt tied = (
-    turned o e.0 k Less (sym (alike_right o (get_or es i e).0 k e.0 (tied e)) ∙ below_at e.0 es i e (first _ _ s) (omega arith)),
-    at_found k es i (second _ _ s) (omega arith) tied,
+    turned o e.0 k Less (sym (alike_right o (get_or es i e).0 k e.0 (tied e)) ∙ below_at e.0 es i e (left_of _ _ s) (omega arith)),
+    at_found k es i (right_of _ _ s) (omega arith) tied,
   )
 
   gap_found : (k : K) (es : List (K × V)) (i : ℕ) → i ≤ length es → ((j : ℕ) (d : K × V) → j < i → R (get_or es j d).0 k ≡ Less) → ((j : ℕ) (d : K × V) → i ≤ j → j < length es → R (get_or es j d).0 k ≡ Greater) → IsGap R k es i
@@ -172,7 +161,7 @@ module _ {K V : Type 0} {R : K → K → Ordering} (o : IsTotalOrder R) where
 module _ {K V : Type 0} {R : K → K → Ordering} (o : IsTotalOrder R) where
   pub below_less : (x y : K) (es : List (K × V)) → R x y ≡ Less → T (below_all R y es) → T (below_all R x es)
   below_less x y [] p h = tt
-  below_less x y (e ∷ es) p h = both _ _ (subst (λ r. T (is_lt r)) (sym (o.trans x y e.0 p (less _ (first _ _ h)))) tt) (below_less x y es p (second _ _ h))
+  below_less x y (e ∷ es) p h = both_of _ _ (subst (λ r. T (is_lt r)) (sym (o.trans x y e.0 p (less _ (left_of _ _ h)))) tt) (below_less x y es p (right_of _ _ h))
 
   adjacent : (es : List (K × V)) → ((j : ℕ) (d : K × V) → suc j < length es → true ≡ is_lt (R (get_or es j d).0 (get_or es (suc j) d).0)) → T (is_sorted R es)
   adjacent [] h = tt
@@ -180,7 +169,7 @@ module _ {K V : Type 0} {R : K → K → Ordering} (o : IsTotalOrder R) where
   adjacent (e ∷ f ∷ es) h =
       let rest = adjacent (f ∷ es) (λ j d lt. h (suc j) d (omega arith)) in
       let lower : T (is_lt (R e.0 f.0)) = subst T (h zero e (omega arith)) tt in
-      both _ _ (both _ _ lower (below_less e.0 f.0 es (less _ lower) (first _ _ rest))) rest
+      both_of _ _ (both_of _ _ lower (below_less e.0 f.0 es (less _ lower) (left_of _ _ rest))) rest
 
   -- so says a test of the neighbours
   pub rises_by : (es : List (K × V)) (r : Bool) → IsAllAdjacentAnswer (λ x y b. b ≡ is_lt (R x.0 y.0)) es r → r ≡ true → T (is_sorted R es)

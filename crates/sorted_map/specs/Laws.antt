@@ -1,5 +1,5 @@
 -- Laws of `contents`, for the crates that hold a map.
-use Rattle.std.specs.Prelude.{◌≡◌, Bool, true, false, not, cond, ◌&&◌, T, List, [], ◌∷◌, Option, Some, None, refl}
+use Rattle.std.specs.Prelude.{◌≡◌, Bool, true, false, not, cond, T, List, [], ◌∷◌, Option, Some, None, refl}
 use Rattle.std.specs.Option.{option_or}
 use Rattle.std.proofs.Common.{sym, ap, ◌∙◌, subst}
 use Rattle.std.specs.declared.cmp.Ordering.{Ordering}
@@ -9,6 +9,7 @@ use Rattle.std.specs.Cmp.{IsTotalOrder}
 use Rattle.std.specs.FinMap as map
 use Rattle.std.specs.FinMap.Entries.{below_all}
 use Rattle.std.specs.FinMap.{IsAntisymmetric, find, is_sorted, entries-from_sorted, entries_sorted, same_entries_map, get-entries, get-insert, get-retain_keys}
+use Rattle.sorted_map.specs.Bools.{left_of, right_of}
 use Rattle.sorted_map.specs.SortedMap.{Shown, contents}
 use Rattle.sorted_map.specs.Overlay.{with_pairs, overlaid, without_keys}
 -- std's laws of `get` and `len`, under a path that an attribute can name: `#[tactic(auto, using(sorted_map::specs::Laws::gets))]`
@@ -35,21 +36,13 @@ swapped : {A : Type 0} (b : Bool) (x y : A) → cond (not b) x y ≡ cond b y x
 swapped true x y = refl
 swapped false x y = refl
 
-first_of : (a b : Bool) → T (a && b) → T a
-first_of true b h = tt
-first_of false b h = absurd h
-
-second_of : (a b : Bool) → T (a && b) → T b
-second_of true b h = h
-second_of false b h = absurd h
-
 module _ {K V : Type 0} {R : K → K → Ordering} (o : IsTotalOrder R) where
   -- a key that ties with one that is below all of a list isn't found there
   not_found : (q k : K) (es : List (K × V)) → R q k ≡ Equal → T (below_all R k es) → find R q es ≡ None
   not_found q k [] tied below = refl
   not_found q k (e ∷ es) tied below =
-      let less : T (is_lt (R q e.0)) = subst (λ r. T (is_lt r)) (sym (o.congr q k e.0 tied)) (first_of _ _ below) in
-      ap (λ b. cond b (Some e.1) (find R q es)) (apart (R q e.0) less) ∙ not_found q k es tied (second_of _ _ below)
+      let less : T (is_lt (R q e.0)) = subst (λ r. T (is_lt r)) (sym (o.congr q k e.0 tied)) (left_of _ _ below) in
+      ap (λ b. cond b (Some e.1) (find R q es)) (apart (R q e.0) less) ∙ not_found q k es tied (right_of _ _ below)
     where
       apart : (r : Ordering) → T (is_lt r) → is_eq r ≡ false
       apart Less h = refl
@@ -63,9 +56,9 @@ module _ {K V : Type 0} {R : K → K → Ordering} (o : IsTotalOrder R) where
   get-with_pairs : (m : map.FinMap R V) (es : List (K × V)) (q : K) → T (is_sorted R es) → map.get (with_pairs m es) q ≡ option_or (find R q es) (map.get m q)
   get-with_pairs m [] q sorted = refl
   get-with_pairs m (e ∷ es) q sorted =
-      get-with_pairs (map.insert m e.0 e.1) es q (second_of _ _ sorted)
+      get-with_pairs (map.insert m e.0 e.1) es q (right_of _ _ sorted)
       ∙ ap (option_or (find R q es)) (get-insert o m e.0 e.1 q)
-      ∙ one_more (eq_by_cmp R q e.0) e.1 (find R q es) (map.get m q) (λ same. not_found q e.0 es (tie (R q e.0) same) (first_of _ _ sorted))
+      ∙ one_more (eq_by_cmp R q e.0) e.1 (find R q es) (map.get m q) (λ same. not_found q e.0 es (tie (R q e.0) same) (left_of _ _ sorted))
 
   -- a key that the upper map has is found there, each other key below
   pub get-overlaid : (m over : map.FinMap R V) (q : K) → map.get (overlaid m over) q ≡ option_or (map.get over q) (map.get m q)
