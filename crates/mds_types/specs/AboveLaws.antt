@@ -13,7 +13,7 @@ use Rattle.mds_types.specs.PlaceLaws.{place-total}
 use Rattle.mds_types.specs.DirectoryLaws.{one_place}
 use Rattle.mds_types.specs.EntryLaws.{get_left, stands_after_removal, any_of}
 use Rattle.mds_types.specs.EntrySearch.{any_found}
-use Rattle.mds_types.specs.Bools.{first_true, second_true}
+use Rattle.sorted_map.specs.Bools.{first_true, second_true}
 
 -- so many entries lead from the root to the inode of a number
 abbrev pub Climbs : Tree → ℕ → ℕ → Type 0

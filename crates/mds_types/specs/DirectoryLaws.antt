@@ -12,7 +12,7 @@ use Rattle.mds_types.specs.Tree.{Tree, at, is_directory, is_entry_of_directory, 
 use Rattle.mds_types.specs.PlaceLaws.{place-total}
 use Rattle.mds_types.specs.EntryLaws.{any_of}
 use Rattle.mds_types.specs.EntrySearch.{any_found}
-use Rattle.mds_types.specs.Bools.{first_true, second_true}
+use Rattle.sorted_map.specs.Bools.{first_true, second_true}
 
 or_cases : (a b : Bool) → (a || b) ≡ true → (a ≡ true) ⊎ (b ≡ true)
 or_cases true b h = inl refl

@@ -1,6 +1,5 @@
 pub mod AboveLaws
 pub mod AttributeLaws
-pub mod Bools
 pub mod Decided
 pub mod DirectoryLaws
 pub mod EntryLaws
@@ -12,6 +11,7 @@ pub mod ListingLaws
 pub mod MovedLaws
 pub mod Name
 pub mod NameFault
+pub mod NumberLaws
 pub mod ObjectText
 pub mod ObjectTextLaws
 pub mod PlaceLaws

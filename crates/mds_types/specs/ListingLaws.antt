@@ -17,7 +17,7 @@ use Rattle.mds_types.specs.declared.places.Place.{Place}
 use Rattle.mds_types.specs.declared.inodes.Inode.{Inode}
 use Rattle.mds_types.specs.Tree.{Tree, place_cmp, place_of, has_entries, at}
 use Rattle.mds_types.specs.Step.{is_after, names_after}
-use Rattle.mds_types.specs.Bools.{left_of, right_of, both_of, first_true, second_true}
+use Rattle.sorted_map.specs.Bools.{left_of, right_of, both_of, first_true, second_true}
 
 -- names in order with the inodes that they have in a directory: just those greater than `after`, and none is left out
 pub record IsListing (tree : Tree) (d : ℕ) (after : Option (List ℕ)) (names : List (List ℕ × Inode)) : Type 0 where

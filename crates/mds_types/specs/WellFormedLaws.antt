@@ -20,7 +20,7 @@ use Rattle.mds_types.specs.DirectoryLaws.{reaches_root, nothing_in_file, nothing
 use Rattle.mds_types.specs.AttributeLaws.{well-formed-changed}
 use Rattle.mds_types.specs.RemovedLaws.{well-formed-removed}
 use Rattle.mds_types.specs.MovedLaws.{well-formed-moved, may_move}
-use Rattle.mds_types.specs.Bools.{first_true, second_true}
+use Rattle.sorted_map.specs.Bools.{first_true, second_true}
 
 or_right : (a b : Bool) → b ≡ true → (a || b) ≡ true
 or_right true b h = refl

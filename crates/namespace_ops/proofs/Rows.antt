@@ -16,7 +16,7 @@ use Rattle.mds_types.specs.ListingLaws.{entries_listed, no_entries_listed}
 use Rattle.mds_types.specs.Tree.{Tree, place_cmp, place_of, has_entries}
 use Rattle.mds_types.specs.Step.{is_after, names_after}
 use Rattle.namespace_ops.specs.Run.{run}
-use Rattle.mds_types.specs.Bools.{left_of, right_of}
+use Rattle.sorted_map.specs.Bools.{left_of, right_of}
 
 -- whether a place comes after a name of the directory; after none, whether it comes no earlier than the directory's names
 abbrev pub begins : ℕ → Option (List ℕ) → Place → Bool
