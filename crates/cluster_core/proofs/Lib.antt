@@ -1,3 +1,4 @@
 pub mod Applied
+pub mod Offered
 pub mod RunLaws
 pub mod Stepped

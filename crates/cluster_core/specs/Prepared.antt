@@ -1,6 +1,6 @@
 -- All that applying a request needs, made before its first change.
 use Rattle.std.specs.Prelude.{◌≡◌}
-use Rattle.mds_types.specs.declared.places.Place.{Place}
+use Rattle.namespace_ops.specs.declared.plans.Change.{Change}
 use Rattle.mds_types.specs.Tree.{Tree}
 use Rattle.mds_types.specs.Step.{Outcome}
 use Rattle.inode_table.specs.Numbers.{Supply, offer}
@@ -8,7 +8,7 @@ use Rattle.namespace_ops.specs.Planned.{IsPlanned}
 use Rattle.cluster_core.specs.Offer.{after_taking}
 use Rattle.cluster_core.specs.declared.serving.Prepared.{Prepared}
 
-pub record IsPrepared (tree : Tree) (IsReady : Place → Type 0) (outcome : Outcome) (numbers : Supply) (prepared : Prepared) : Type 0 where
+pub record IsPrepared (tree : Tree) (IsReady : Change → Type 0) (outcome : Outcome) (numbers : Supply) (prepared : Prepared) : Type 0 where
   pub planned : IsPlanned tree IsReady outcome (offer numbers) prepared.plan
   pub copied : prepared.answer ≡ prepared.plan.reply
   pub kept : prepared.kept ≡ prepared.plan.reply

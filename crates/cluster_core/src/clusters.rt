@@ -1,8 +1,10 @@
 //! The cluster and its events.
-ghost use Rattle.std.specs.Prelude.{◌≡◌, ◌^◌, [], nat_lt};
+ghost use Rattle.std.specs.Prelude.{◌≡◌, ◌^◌, [], List, nat_lt};
+ghost use Rattle.mds_types.specs.declared.entries.Entry.{Entry as Applied};
 ghost use Rattle.std.specs.FinMap as map;
 ghost use Rattle.cluster_core.specs.Steps.{Steps, AtRank, ArrivesInbox, MayRefuse, ranks};
-ghost use Rattle.sessions.specs.Table.{IsTableOf};
+ghost use Rattle.mds_types.specs.Tree.{Tree};
+ghost use Rattle.cluster_core.specs.Sound.{IsSound};
 ghost use Rattle.cluster_core.specs.Serve.{ServesInbox};
 
 use crate::answers::Answer;
@@ -57,15 +59,17 @@ impl Cluster {
         }
     }
 
-    /// One event, one atomic step. The history is that whose replies the cluster's sessions keep.
+    /// One event, one atomic step. Cluster and history are as a book keeps them from some opening tree; from whichever they
+    /// were, they are so afterwards.
     pub fn step(
         &mut self,
         alloc: Global,
         history: &mut Vec<Entry>,
         event: Event,
     ) -> Result<Answer, Refusal>
-        requires { IsTableOf history.old.items self.old.sessions }
-        ensures { Steps self.old self.new history.old.items history.new.items result event }
+        requires { (opening : Tree) × IsSound opening history.old.items self.old }
+        ensures stepped { Steps self.old self.new history.old.items history.new.items result event }
+        ensures sound { (opening : Tree) → IsSound opening history.old.items self.old → IsSound opening history.new.items self.new }
     {
         match event {
             Event::Arrive { rank, request } => self.arrive(rank, request),
@@ -75,7 +79,7 @@ impl Cluster {
 
     /// A request comes in, and waits at the back of the rank's inbox.
     pub fn arrive(&mut self, rank: Rank, request: Request) -> Result<Answer, Refusal>
-        ensures { AtRank self.old self.new [] [] rank result (ArrivesInbox self.old self.new [] [] request result) }
+        ensures { (past : List Applied) → AtRank self.old self.new past past rank result (ArrivesInbox self.old self.new past past request result) }
     {
         if !is_rank(rank) {
             return Err(Refusal::NotAuthority);
@@ -91,7 +95,7 @@ impl Cluster {
         history: &mut Vec<Entry>,
         rank: Rank,
     ) -> Result<Answer, Refusal>
-        requires { IsTableOf history.old.items self.old.sessions }
+        requires { (opening : Tree) × IsSound opening history.old.items self.old }
         ensures { AtRank self.old self.new history.old.items history.new.items rank result
             (ServesInbox self.old self.new history.old.items history.new.items MayRefuse result self.old.inbox) }
     {

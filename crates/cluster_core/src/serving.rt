@@ -2,7 +2,8 @@
 ghost use Rattle.std.specs.Prelude.{◌≡◌, ◌<◌, ◌++◌, ◌∷◌, [], true, length, vec_len, vec_capacity, MatchResult, OnOk};
 ghost use Rattle.mds_types.specs.Step.{step, number_or};
 ghost use Rattle.inode_table.specs.Numbers.{offer};
-ghost use Rattle.namespace_ops.specs.Planned.{IsReadyToChange, changed};
+ghost use Rattle.namespace_ops.specs.Changes.{IsOffered};
+ghost use Rattle.namespace_ops.specs.Planned.{IsReadyToChange, after_plan};
 ghost use Rattle.namespace_ops.specs.Served.{IsRefused};
 ghost use Rattle.sessions.specs.Table.{IsTableOf, noted, trimmed};
 ghost use Rattle.sessions.specs.Rooms.{IsReady, table};
@@ -41,6 +42,7 @@ pub fn prepare<F: Frags>(
     client: u64,
     op: &Op,
 ) -> Result<Prepared, Refusal>
+    requires { IsOffered (F.content frags.old) (offer numbers) }
     ensures prepared { let outcome = step (F.content frags.old) op.now (number_or (offer numbers)) in
         MatchResult result
         (IsPrepared (F.content frags.old) (F.IsReady frags.new) outcome numbers)
@@ -78,7 +80,7 @@ pub fn commit<F: Frags>(
     requires ready { IsReadyToChange (F.content frags.old) (F.IsReady frags.old) prepared.plan.change }
     requires room { vec_len history.old < vec_capacity history.old }
     requires reserved { IsReady sessions.old request.client }
-    ensures tree { F.content frags.new ≡ changed (F.content frags.old) prepared.plan.change }
+    ensures tree { F.content frags.new ≡ after_plan (F.content frags.old) prepared.plan.change }
     ensures appended { history.new.items ≡ history.old.items ++ record {
       client = request.client;
       tid = request.tid;
@@ -92,37 +94,36 @@ pub fn commit<F: Frags>(
     ensures answer { result ≡ Answer.Reply request.client request.tid (vec_len history.old) true prepared.answer }
     ensures follows { F.Follows frags.old frags.new }
 {
+    let place = history.len();
     let Request {
         client,
         tid,
         oldest,
         op,
     } = request;
-    let Prepared {
-        plan,
-        answer,
-        kept,
-        numbers: left,
-    } = prepared;
-    let place = history.len();
-    carry_out(frags, plan.change);
-    *numbers = left;
-    sessions.keep(client, tid, oldest, place, kept);
+    let Plan {
+        reply,
+        change,
+        number,
+    } = prepared.plan;
+    carry_out(frags, change);
+    *numbers = prepared.numbers;
+    sessions.keep(client, tid, oldest, place, prepared.kept);
     sessions.trim(client);
     let _ = history.push(Entry {
         client,
         tid,
         oldest,
         op,
-        number: plan.number,
-        reply: plan.reply,
+        number,
+        reply,
     });
     Answer::Reply {
         client,
         tid,
         place,
         first: true,
-        reply: answer,
+        reply: prepared.answer,
     }
 }
 
@@ -136,6 +137,7 @@ pub fn serve_front<F: Frags>(
     history: &mut Vec<Entry>,
 ) -> Result<Answer, Refusal>
     requires known { IsTableOf history.old.items (table sessions.old) }
+    requires offered { IsOffered (F.content frags.old) (offer numbers.old) }
     ensures served { ServesInbox
         (record { shown = F.content frags.old; inbox = inbox.old; numbers = numbers.old; sessions = table sessions.old })
         (record { shown = F.content frags.new; inbox = inbox.new; numbers = numbers.new; sessions = table sessions.new })

@@ -22,4 +22,5 @@ pub mod StepLaws
 pub mod TargetFault
 pub mod Tree
 pub mod TreeLaws
+pub mod UsedLaws
 pub mod WellFormedLaws

@@ -1,0 +1,9 @@
+use Rattle.cluster_core.specs.declared.events.Event.TheVariants.{Arrive, Serve}
+use Rattle.cluster_core.proofs.Stepped.{sound-step}
+use Rattle.cluster_core.proofs.clusters.Cluster.step.Goals as goal
+
+pub returns-in-Arrive-clause-sound : goal.returns-in-Arrive-clause-sound
+returns-in-Arrive-clause-sound c opening sound = sound-step opening _ _ _ _ sound c.arrive.result (Arrive c.in-Arrive.rank c.in-Arrive.request) (c.arrive.ensures c.args.history.now.items)
+
+pub returns-in-Serve-clause-sound : goal.returns-in-Serve-clause-sound
+returns-in-Serve-clause-sound c opening sound = sound-step opening _ _ _ _ sound c.serve.result (Serve c.in-Serve.rank) c.serve.ensures
