@@ -1,10 +1,10 @@
 -- The words after a command's first: what each kind of them stands for.
 use Rattle.std.specs.Prelude.{ℕ, Bool, false, not, ◌&&◌, ◌==◌, nat_lt, nat_le, if◌then◌else◌, List, [], ◌∷◌, length, Option, Some, None, option_map, option_and_then, Result, Ok, Err}
 use Rattle.std.specs.List.{list_all}
-use Rattle.mds_types.specs.declared.errno.TheConstants.{EINVAL, ENAMETOOLONG}
+use Rattle.mds_types.specs.declared.errno.TheConstants.{EINVAL, ENAMETOOLONG, ENOENT}
 use Rattle.mds_types.specs.declared.ids.Ino.{Ino}
 use Rattle.mds_types.specs.declared.ids.Rank.{Rank}
-use Rattle.mds_types.specs.Name.{fits_name, is_dots}
+use Rattle.mds_types.specs.Name.{fits_name, fits_target, is_dots}
 use Rattle.script_text.specs.declared.faults.Fault.{Fault}
 use Rattle.script_text.specs.declared.faults.Fault.TheVariants.{BadName}
 use Rattle.script_text.specs.Numbers.{number_of, octal_mode_of}
@@ -23,9 +23,9 @@ ino_of word = wanted (option_map (λ n. record { 0 = n }) (number_of 16 word))
 unfoldable pub rank_of : List ℕ → Result Rank Fault
 rank_of word = wanted (option_map (λ n. record { 0 = n }) (option_and_then (within 0 255) (number_of 10 word)))
 
--- TID and OLDEST: decimal
-unfoldable pub tid_of : List ℕ → Result ℕ Fault
-tid_of word = wanted (number_of 10 word)
+-- TID, OLDEST and the N of an attribute: decimal
+unfoldable pub decimal_of : List ℕ → Result ℕ Fault
+decimal_of word = wanted (number_of 10 word)
 
 -- n, if it is at least low
 abbrev pub at_least : ℕ → ℕ → Option ℕ
@@ -69,3 +69,10 @@ name_of bytes = if nat_lt 255 (length bytes) then Err (BadName ENAMETOOLONG) els
 unfoldable pub after_name_of : Option (List ℕ) → Result (Option (List ℕ)) Fault
 after_name_of None = Ok None
 after_name_of (Some bytes) = name_of bytes >>= λ name. Ok (Some name)
+
+-- a target, or the errno of bytes that are none: too long before all else, then empty, then with a zero byte
+unfoldable pub target_of : List ℕ → Result (List ℕ) Fault
+target_of bytes =
+    if nat_lt 4095 (length bytes) then Err (BadName ENAMETOOLONG) else
+    (if length bytes == 0 then Err (BadName ENOENT) else
+    (if list_all fits_target bytes then Ok bytes else Err (BadName EINVAL)))

@@ -3,6 +3,7 @@ pub mod Numbers
 pub mod Escapes
 pub mod Reading
 pub mod Arguments
+pub mod Attributes
 pub mod Script
 pub mod Output
 pub mod OutputLine

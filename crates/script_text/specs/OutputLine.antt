@@ -5,7 +5,7 @@ use Rattle.script_text.specs.declared.output_lines.OutputLine.{OutputLine}
 use Rattle.script_text.specs.declared.output_lines.OutputLine.TheVariants.{Reply, Queued, History, Refused, Errno}
 use Rattle.script_text.specs.Output.{reply_line, refused_line, errno_text}
 
--- a reply's line, that of a request that waits, of a history's length, of a refusal, or of a name outside the rules
+-- a reply's line, that of a request that waits, of a history's length, of a refusal, or of a name or a target outside its rules
 unfoldable pub output_line : OutputLine → List ℕ
 output_line (Reply client tid place first reply) = reply_line client tid place first reply
 output_line Queued = codes "queued"

@@ -21,7 +21,12 @@ abbrev pub first : List (List ℕ) → Result (List ℕ × List (List ℕ)) Faul
 first [] = Err NotCommand
 first (a ∷ words) = Ok (a, words)
 
--- exactly one, two, three words
+-- no further word
+abbrev pub none : List (List ℕ) → Result (Unit {0}) Fault
+none [] = Ok tt
+none (a ∷ words) = Err NotCommand
+
+-- exactly one, two, three, four words
 abbrev pub one : List (List ℕ) → Result (List ℕ) Fault
 one [] = Err NotCommand
 one (a ∷ []) = Ok a
@@ -39,6 +44,14 @@ three (a ∷ []) = Err NotCommand
 three (a ∷ b ∷ []) = Err NotCommand
 three (a ∷ b ∷ c ∷ []) = Ok (a, b, c)
 three (a ∷ b ∷ c ∷ d ∷ words) = Err NotCommand
+
+abbrev pub four : List (List ℕ) → Result (List ℕ × List ℕ × List ℕ × List ℕ) Fault
+four [] = Err NotCommand
+four (a ∷ []) = Err NotCommand
+four (a ∷ b ∷ []) = Err NotCommand
+four (a ∷ b ∷ c ∷ []) = Err NotCommand
+four (a ∷ b ∷ c ∷ d ∷ []) = Ok (a, b, c, d)
+four (a ∷ b ∷ c ∷ d ∷ e ∷ words) = Err NotCommand
 
 -- a fault is that of the definition, but for want of memory, which no definition speaks of
 abbrev pub Fails : {B : Type 0} → ReadError → Result B Fault → Type 0

@@ -1,24 +1,20 @@
 -- What each line of a script asks for.
-use Rattle.std.specs.Prelude.{ℕ, Bool, ◌==◌, if◌then◌else◌, List, [], ◌∷◌, codes, Result, Ok, Err}
-use Rattle.std.specs.Cmp.Lexicographic.{pointwise}
+use Rattle.std.specs.Prelude.{ℕ, if◌then◌else◌, List, [], ◌∷◌, codes, Result, Ok, Err}
 use Rattle.std.specs.List.{list_all}
 use Rattle.mds_types.specs.declared.operations.Op.{Op}
-use Rattle.mds_types.specs.declared.operations.Op.TheVariants.{Lookup, Readdir, Create, Mkdir}
+use Rattle.mds_types.specs.declared.operations.Op.TheVariants.{Lookup, Readdir, Create, Mkdir, Readlink, Symlink, Setattr, Unlink, Rmdir, Rename}
 use Rattle.script_text.specs.declared.commands.Command.{Command}
 use Rattle.script_text.specs.declared.commands.Command.TheVariants.{Operation, Request, Serve, History}
 use Rattle.script_text.specs.declared.lines.Line.{Line}
 use Rattle.script_text.specs.declared.lines.Line.TheVariants as line
 use Rattle.script_text.specs.declared.faults.Fault.{Fault}
 use Rattle.script_text.specs.declared.faults.Fault.TheVariants.{NotCommand, BadName}
-use Rattle.script_text.specs.Words.{words_of, is_printable, is_comment}
-use Rattle.script_text.specs.Reading.{◌>>=◌, first, one, two, three}
-use Rattle.script_text.specs.Arguments.{ino_of, rank_of, client_of, tid_of, mode_of, page_size_of, text_of, after_text_of, name_of, after_name_of}
+use Rattle.script_text.specs.Words.{words_of, is_text, is_printable, is_comment}
+use Rattle.script_text.specs.Reading.{◌>>=◌, first, one, two, three, four}
+use Rattle.script_text.specs.Arguments.{ino_of, rank_of, client_of, decimal_of, mode_of, page_size_of, text_of, after_text_of, name_of, after_name_of, target_of}
+use Rattle.script_text.specs.Attributes.{attributes_of}
 
--- In each command below the form of all its words comes before the rules of names, the first name before the second.
-
--- a word that is this text
-abbrev pub is_text : List ℕ → List ℕ → Bool
-is_text word text = pointwise ◌==◌ word text
+-- In each command below the form of all its words comes before the rules of names and targets; of two words outside those rules the first decides.
 
 -- `lookup INO NAME`
 unfoldable pub lookup_of : List (List ℕ) → Result Op Fault
@@ -59,6 +55,67 @@ mkdir_of args = do
   name ← name_of bytes
   Ok (Mkdir dir name mode 0)
 
+-- `readlink INO NAME`
+unfoldable pub readlink_of : List (List ℕ) → Result Op Fault
+readlink_of args = do
+  words ← two args
+  dir ← ino_of words.0
+  bytes ← text_of words.1
+  name ← name_of bytes
+  Ok (Readlink dir name)
+
+-- `symlink INO NAME TARGET`, with mtime 0
+unfoldable pub symlink_of : List (List ℕ) → Result Op Fault
+symlink_of args = do
+  words ← three args
+  dir ← ino_of words.0
+  bytes ← text_of words.1
+  target_bytes ← text_of words.2
+  name ← name_of bytes
+  target ← target_of target_bytes
+  Ok (Symlink dir name target 0)
+
+-- `setattr INO NAME [mode MODE] [size N] [mtime N]`
+unfoldable pub setattr_of : List (List ℕ) → Result Op Fault
+setattr_of args = do
+  dir ← first args
+  name ← first dir.1
+  ino ← ino_of dir.0
+  bytes ← text_of name.0
+  given ← attributes_of name.1
+  name ← name_of bytes
+  Ok (Setattr ino name given.mode given.size given.mtime)
+
+-- `unlink INO NAME`
+unfoldable pub unlink_of : List (List ℕ) → Result Op Fault
+unlink_of args = do
+  words ← two args
+  dir ← ino_of words.0
+  bytes ← text_of words.1
+  name ← name_of bytes
+  Ok (Unlink dir name)
+
+-- `rmdir INO NAME`
+unfoldable pub rmdir_of : List (List ℕ) → Result Op Fault
+rmdir_of args = do
+  words ← two args
+  dir ← ino_of words.0
+  bytes ← text_of words.1
+  name ← name_of bytes
+  Ok (Rmdir dir name)
+
+-- `rename INO NAME INO NAME`, from the first place to the second
+unfoldable pub rename_of : List (List ℕ) → Result Op Fault
+rename_of args = do
+  words ← four args
+  dir ← ino_of words.0
+  bytes ← text_of words.1
+  to_dir ← ino_of words.2
+  to_bytes ← text_of words.3
+  name ← name_of bytes
+  to_name ← name_of to_bytes
+  Ok (Rename dir name to_dir to_name)
+
 -- `serve RANK`
 unfoldable pub serve_of : List (List ℕ) → Result Command Fault
 serve_of args = do
@@ -72,7 +129,13 @@ operation_of verb args =
     if is_text verb (codes "lookup") then lookup_of args else
     (if is_text verb (codes "readdir") then readdir_of args else
     (if is_text verb (codes "create") then create_of args else
-    (if is_text verb (codes "mkdir") then mkdir_of args else Err NotCommand)))
+    (if is_text verb (codes "mkdir") then mkdir_of args else
+    (if is_text verb (codes "readlink") then readlink_of args else
+    (if is_text verb (codes "symlink") then symlink_of args else
+    (if is_text verb (codes "setattr") then setattr_of args else
+    (if is_text verb (codes "unlink") then unlink_of args else
+    (if is_text verb (codes "rmdir") then rmdir_of args else
+    (if is_text verb (codes "rename") then rename_of args else Err NotCommand)))))))))
 
 -- `req RANK CLIENT TID OLDEST OP`
 unfoldable pub req_of : List (List ℕ) → Result Command Fault
@@ -84,8 +147,8 @@ req_of args = do
   verb ← first oldest.1
   rank ← rank_of rank.0
   client ← client_of client.0
-  tid ← tid_of tid.0
-  oldest ← tid_of oldest.0
+  tid ← decimal_of tid.0
+  oldest ← decimal_of oldest.0
   op ← operation_of verb.0 verb.1
   Ok (Request rank (record { client = client; tid = tid; oldest = oldest; op = op }))
 

@@ -1,5 +1,6 @@
 -- The words of a line of the script, and which lines say nothing.
 use Rattle.std.specs.Prelude.{ℕ, Bool, true, false, not, ◌&&◌, ◌==◌, nat_le, List, [], ◌∷◌, filter}
+use Rattle.std.specs.Cmp.Lexicographic.{pointwise}
 use Rattle.std.specs.List.{slice_split}
 
 -- the space between words
@@ -14,6 +15,10 @@ is_not_space byte = not (byte == 32)
 abbrev pub is_word : List ℕ → Bool
 is_word [] = false
 is_word (byte ∷ bytes) = true
+
+-- a word that is this text
+abbrev pub is_text : List ℕ → List ℕ → Bool
+is_text word text = pointwise ◌==◌ word text
 
 -- the words of a line: the pieces between spaces that aren't empty
 unfoldable pub words_of : List ℕ → List (List ℕ)

@@ -1,12 +1,14 @@
 //! The words after a command's first.
 ghost use Rattle.std.specs.Prelude.{◌≡◌, option_map};
 ghost use Rattle.script_text.specs.Reading.{Gives};
-ghost use Rattle.script_text.specs.Arguments.{ino_of, rank_of, client_of, tid_of, mode_of, page_size_of, text_of, after_text_of, name_of, after_name_of, is_dash};
+ghost use Rattle.script_text.specs.Arguments.{ino_of, rank_of, client_of, decimal_of, mode_of, page_size_of, text_of, after_text_of, name_of, after_name_of, target_of, is_dash};
 
 use crate::escapes::unescaped;
 use crate::faults::{Fault, NOT_COMMAND, ReadError};
 use crate::numbers::{number, octal_mode};
-use mds_types::{EINVAL, ENAMETOOLONG, Ino, Mode, Name, NameFault, PageSize, Rank};
+use mds_types::{
+    EINVAL, ENAMETOOLONG, ENOENT, Ino, Mode, Name, NameFault, PageSize, Rank, Target, TargetFault,
+};
 use std::alloc::Global;
 
 /// INO: lower hexadecimal.
@@ -42,10 +44,10 @@ pub fn client(word: &[u8]) -> Result<u64, ReadError>
     }
 }
 
-/// TID and OLDEST: decimal.
-#[tactic(auto, unfolding(crate::specs::Arguments::tid_of))]
-pub fn tid(word: &[u8]) -> Result<u64, ReadError>
-    ensures { Gives (λ tid. tid) result (tid_of word.now) }
+/// TID, OLDEST and the N of an attribute: decimal.
+#[tactic(auto, unfolding(crate::specs::Arguments::decimal_of))]
+pub fn decimal(word: &[u8]) -> Result<u64, ReadError>
+    ensures { Gives (λ n. n) result (decimal_of word.now) }
 {
     match number(word, 10) {
         Some(n) => Ok(n),
@@ -137,5 +139,19 @@ pub fn after_name(alloc: Global, bytes: Option<Vec<u8>>) -> Result<Option<Name>,
     match bytes {
         None => Ok(None),
         Some(bytes) => Ok(Some(name(alloc, &bytes)?)),
+    }
+}
+
+/// The target that these bytes are, or the error number of bytes that are none.
+#[tactic(auto, unfolding(crate::specs::Arguments::target_of))]
+pub fn target(alloc: Global, bytes: &[u8]) -> Result<Target, ReadError>
+    ensures { Gives (λ target. target) result (target_of bytes.now) }
+{
+    match Target::from_bytes(alloc, bytes) {
+        Ok(target) => Ok(target),
+        Err(TargetFault::Empty) => Err(ReadError::Fault(Fault::BadName(ENOENT))),
+        Err(TargetFault::Invalid) => Err(ReadError::Fault(Fault::BadName(EINVAL))),
+        Err(TargetFault::TooLong) => Err(ReadError::Fault(Fault::BadName(ENAMETOOLONG))),
+        Err(TargetFault::NoMemory) => Err(ReadError::NoMemory),
     }
 }

@@ -3,7 +3,7 @@ ghost use Rattle.script_text.specs.Words.{words_of};
 ghost use Rattle.script_text.specs.Reading.{Gives};
 ghost use Rattle.script_text.specs.Script.{command_of, history_of, req_of, serve_of};
 
-use crate::arguments::{client, rank, tid};
+use crate::arguments::{client, decimal, rank};
 use crate::counts::{first, one};
 use crate::faults::{NOT_COMMAND, ReadError};
 use crate::operations::read_operation;
@@ -62,14 +62,14 @@ fn req(alloc: Global, args: &[u8]) -> Result<Command, ReadError>
     let (verb, rest) = first(rest)?;
     let rank = rank(at)?;
     let client = client(from)?;
-    let tid_number = tid(number)?;
-    let oldest = tid(least)?;
+    let tid = decimal(number)?;
+    let oldest = decimal(least)?;
     let op = read_operation(alloc, verb, rest)?;
     Ok(Command::Request(
         rank,
         Request {
             client,
-            tid: tid_number,
+            tid,
             oldest,
             op,
         },

@@ -9,7 +9,7 @@ use std::alloc::{AllocError, AllocFailed};
 pub enum Fault {
     /// The words have no command's form.
     NotCommand,
-    /// The form is right, but a name is outside the rules of names: its error number.
+    /// The form is right, but a name or a target is outside its rules: the error number of the first such word.
     BadName(u16),
 }
 

@@ -4,6 +4,7 @@
 #![tactic(auto)]
 
 mod arguments;
+mod attributes;
 mod commands;
 mod counts;
 mod escapes;

@@ -13,12 +13,13 @@ pub enum Line {
     /// Empty, spaces or a comment: it prints nothing.
     Nothing,
     Command(Command),
-    /// A command with a name outside the rules of names: its error number. No request is made of it.
+    /// A command with a name or a target outside its rules: the error number of the first such word. No request is made
+    /// of it.
     BadName(u16),
     NotCommand,
 }
 
-/// What the line asks for. Its bytes are those without the LF. Takes memory for names.
+/// What the line asks for. Its bytes are those without the LF. Takes memory for names and targets.
 #[tactic(auto, unfolding(crate::specs::Script::line_of))]
 pub fn read_line(alloc: Global, bytes: &[u8]) -> Result<Line, AllocError>
     ensures { IfOk result (λ line. line ≡ line_of bytes.now) }

@@ -1,10 +1,11 @@
 //! Operations, by the words after the first.
 ghost use Rattle.script_text.specs.Words.{words_of};
 ghost use Rattle.script_text.specs.Reading.{Gives};
-ghost use Rattle.script_text.specs.Script.{lookup_of, readdir_of, create_of, mkdir_of, operation_of};
+ghost use Rattle.script_text.specs.Script.{lookup_of, readdir_of, create_of, mkdir_of, readlink_of, symlink_of, setattr_of, unlink_of, rmdir_of, rename_of, operation_of};
 
-use crate::arguments::{after_name, after_text, ino, mode, name, page_size, text};
-use crate::counts::{three, two};
+use crate::arguments::{after_name, after_text, ino, mode, name, page_size, target, text};
+use crate::attributes::given_attributes;
+use crate::counts::{first, four, three, two};
 use crate::faults::{NOT_COMMAND, ReadError};
 use mds_types::Op;
 use std::alloc::Global;
@@ -25,6 +26,24 @@ pub fn read_operation(alloc: Global, verb: &[u8], args: &[u8]) -> Result<Op, Rea
     }
     if verb == b"mkdir".as_slice() {
         return mkdir(alloc, args);
+    }
+    if verb == b"readlink".as_slice() {
+        return readlink(alloc, args);
+    }
+    if verb == b"symlink".as_slice() {
+        return symlink(alloc, args);
+    }
+    if verb == b"setattr".as_slice() {
+        return setattr(alloc, args);
+    }
+    if verb == b"unlink".as_slice() {
+        return unlink(alloc, args);
+    }
+    if verb == b"rmdir".as_slice() {
+        return rmdir(alloc, args);
+    }
+    if verb == b"rename".as_slice() {
+        return rename(alloc, args);
     }
     Err(NOT_COMMAND)
 }
@@ -87,5 +106,100 @@ fn mkdir(alloc: Global, args: &[u8]) -> Result<Op, ReadError>
         name,
         mode,
         mtime: 0,
+    })
+}
+
+// `readlink INO NAME`
+#[tactic(auto, unfolding(crate::specs::Script::readlink_of))]
+fn readlink(alloc: Global, args: &[u8]) -> Result<Op, ReadError>
+    ensures { Gives (λ op. op) result (readlink_of (words_of args.now)) }
+{
+    let (dir, word) = two(args)?;
+    let dir = ino(dir)?;
+    let bytes = text(alloc, word)?;
+    let name = name(alloc, &bytes)?;
+    Ok(Op::Readlink { dir, name })
+}
+
+// `symlink INO NAME TARGET`
+#[tactic(auto, unfolding(crate::specs::Script::symlink_of))]
+fn symlink(alloc: Global, args: &[u8]) -> Result<Op, ReadError>
+    ensures { Gives (λ op. op) result (symlink_of (words_of args.now)) }
+{
+    let (dir, word, to) = three(args)?;
+    let dir = ino(dir)?;
+    let bytes = text(alloc, word)?;
+    let to_bytes = text(alloc, to)?;
+    let name = name(alloc, &bytes)?;
+    let target = target(alloc, &to_bytes)?;
+    Ok(Op::Symlink {
+        dir,
+        name,
+        target,
+        mtime: 0,
+    })
+}
+
+// `setattr INO NAME [mode MODE] [size N] [mtime N]`
+#[tactic(auto, unfolding(crate::specs::Script::setattr_of))]
+fn setattr(alloc: Global, args: &[u8]) -> Result<Op, ReadError>
+    ensures { Gives (λ op. op) result (setattr_of (words_of args.now)) }
+{
+    let (dir, rest) = first(args)?;
+    let (word, rest) = first(rest)?;
+    let dir = ino(dir)?;
+    let bytes = text(alloc, word)?;
+    let given = given_attributes(rest)?;
+    let name = name(alloc, &bytes)?;
+    Ok(Op::Setattr {
+        dir,
+        name,
+        mode: given.mode,
+        size: given.size,
+        mtime: given.mtime,
+    })
+}
+
+// `unlink INO NAME`
+#[tactic(auto, unfolding(crate::specs::Script::unlink_of))]
+fn unlink(alloc: Global, args: &[u8]) -> Result<Op, ReadError>
+    ensures { Gives (λ op. op) result (unlink_of (words_of args.now)) }
+{
+    let (dir, word) = two(args)?;
+    let dir = ino(dir)?;
+    let bytes = text(alloc, word)?;
+    let name = name(alloc, &bytes)?;
+    Ok(Op::Unlink { dir, name })
+}
+
+// `rmdir INO NAME`
+#[tactic(auto, unfolding(crate::specs::Script::rmdir_of))]
+fn rmdir(alloc: Global, args: &[u8]) -> Result<Op, ReadError>
+    ensures { Gives (λ op. op) result (rmdir_of (words_of args.now)) }
+{
+    let (dir, word) = two(args)?;
+    let dir = ino(dir)?;
+    let bytes = text(alloc, word)?;
+    let name = name(alloc, &bytes)?;
+    Ok(Op::Rmdir { dir, name })
+}
+
+// `rename INO NAME INO NAME`
+#[tactic(auto, unfolding(crate::specs::Script::rename_of))]
+fn rename(alloc: Global, args: &[u8]) -> Result<Op, ReadError>
+    ensures { Gives (λ op. op) result (rename_of (words_of args.now)) }
+{
+    let (dir, word, to_dir, to_word) = four(args)?;
+    let dir = ino(dir)?;
+    let bytes = text(alloc, word)?;
+    let to_dir = ino(to_dir)?;
+    let to_bytes = text(alloc, to_word)?;
+    let from_name = name(alloc, &bytes)?;
+    let to_name = name(alloc, &to_bytes)?;
+    Ok(Op::Rename {
+        dir,
+        name: from_name,
+        to_dir,
+        to_name,
     })
 }

@@ -27,7 +27,7 @@ pub enum OutputLine {
     History(u64),
     /// `refused N`: a step was refused.
     Refused(Refusal),
-    /// `errno N`: a name outside the rules of names, of which no request was made.
+    /// `errno N`: a name or a target outside its rules, of which no request was made.
     Errno(u16),
 }
 

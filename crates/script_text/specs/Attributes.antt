@@ -1,0 +1,30 @@
+-- The attributes that a line gives, each behind a word that names it.
+use Rattle.std.specs.Prelude.{ℕ, if◌then◌else◌, List, [], ◌∷◌, codes, Option, Some, None, Result, Ok}
+use Rattle.script_text.specs.declared.attributes.Attributes.{Attributes}
+use Rattle.script_text.specs.declared.faults.Fault.{Fault}
+use Rattle.script_text.specs.Words.{is_text}
+use Rattle.script_text.specs.Reading.{◌>>=◌, first, none}
+use Rattle.script_text.specs.Arguments.{mode_of, decimal_of}
+
+-- the word behind a key, where the words begin with the key, and the words that are left
+abbrev pub keyed : List ℕ → List (List ℕ) → Result (Option (List ℕ) × List (List ℕ)) Fault
+keyed key [] = Ok (None, [])
+keyed key (word ∷ words) = if is_text word key then (first words >>= λ value. Ok (Some value.0, value.1)) else Ok (None, word ∷ words)
+
+-- what a word is read as, where there is one
+abbrev pub if_given : (List ℕ → Result ℕ Fault) → Option (List ℕ) → Result (Option ℕ) Fault
+if_given read None = Ok None
+if_given read (Some word) = read word >>= λ n. Ok (Some n)
+
+-- `[mode MODE] [size N] [mtime N]`: in this order, and at least one of them, since no word may be left
+unfoldable pub attributes_of : List (List ℕ) → Result Attributes Fault
+attributes_of words = do
+  some ← first words
+  mode ← keyed (codes "mode") words
+  size ← keyed (codes "size") mode.1
+  mtime ← keyed (codes "mtime") size.1
+  end ← none mtime.1
+  mode ← if_given mode_of mode.0
+  size ← if_given decimal_of size.0
+  mtime ← if_given decimal_of mtime.0
+  Ok (record { mode = mode; size = size; mtime = mtime })
