@@ -8,6 +8,8 @@ use std::process::Abort;
 use std::test::Fail;
 
 mod bytes;
+mod operations;
+mod row_replies;
 
 fn name(alloc: Global, text: &[u8]) -> Result<Name, Fail> {
     Ok(Name::from_bytes(alloc, text)?)
