@@ -1,11 +1,12 @@
 -- What the operation table means, in laws that hold of every tree.
-use Rattle.std.specs.Prelude.{◌≡◌, ℕ, suc, List, ◌++◌, take, slice_get, Option, Some}
+use Rattle.std.specs.Prelude.{◌≡◌, ◌↔◌, ℕ, suc, true, List, ◌++◌, take, slice_get, Option, Some}
 use Rattle.mds_types.specs.declared.inodes.Inode.{Inode}
 use Rattle.mds_types.specs.declared.operations.Op.{Op}
-use Rattle.mds_types.specs.Tree.{Tree, IsWellFormed}
+use Rattle.mds_types.specs.Tree.{Tree, IsWellFormed, IsAbove, is_above}
 use Rattle.mds_types.specs.Step.{step, names_after}
 use Rattle.mds_types.specs.StepLaws.{ErrnoLeaves, TakesWhereMade}
 use Rattle.mds_types.specs.ListingLaws.{IsListing}
+use Rattle.mds_types.specs.NumberLaws.{IsOld}
 use Rattle.mds_types.specs.WellFormedLaws.{IsUnused}
 
 -- an errno leaves the tree
@@ -28,3 +29,11 @@ NamesAreListed = (tree : Tree) (d : ℕ) (after : Option (List ℕ)) → IsListi
 abbrev pub PagesMakeUpListing : Type 0
 PagesMakeUpListing = (tree : Tree) (d : ℕ) (after : Option (List ℕ)) (i : ℕ) (row : List ℕ × Inode) → slice_get (names_after tree d after) i ≡ Some row
     → take (suc i) (names_after tree d after) ++ names_after tree d (Some row.0) ≡ names_after tree d after
+
+-- in a well-formed tree the table's test of what is above tells exactly whether a chain of entries leads there
+abbrev pub AboveIsChain : Type 0
+AboveIsChain = (tree : Tree) (d x : ℕ) → IsWellFormed tree → (is_above tree d x ≡ true) ↔ IsAbove tree d x
+
+-- an inode of the tree that a step leaves stood before, or has the number that the step took
+abbrev pub NumbersStay : Type 0
+NumbersStay = (tree : Tree) (op : Op) (n : ℕ) → IsOld tree n (step tree op n)

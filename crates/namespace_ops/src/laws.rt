@@ -1,6 +1,6 @@
 //! Laws of the operation table, each the contract of a function that does nothing: they say that the definitions mean
 //! what they should.
-ghost use Rattle.namespace_ops.specs.Laws.{ErrnoLeavesTree, MakingTakesNumber, StepKeepsWellFormed, NamesAreListed, PagesMakeUpListing};
+ghost use Rattle.namespace_ops.specs.Laws.{ErrnoLeavesTree, MakingTakesNumber, StepKeepsWellFormed, AboveIsChain, NumbersStay, NamesAreListed, PagesMakeUpListing};
 
 /// An operation that answers an errno leaves the tree.
 pub fn errno_leaves_tree()
@@ -15,6 +15,16 @@ pub fn making_takes_number()
 /// A step keeps the tree well formed, if the number that it is offered is unused.
 pub fn step_keeps_well_formed()
     ensures { StepKeepsWellFormed }
+{}
+
+/// In a well-formed tree the table's test of what is above is exact: it holds where a chain of entries leads there.
+pub fn above_is_a_chain()
+    ensures { AboveIsChain }
+{}
+
+/// An inode of the tree that a step leaves stood there before, or has the number that the step took.
+pub fn numbers_stay()
+    ensures { NumbersStay }
 {}
 
 /// A listing has just the directory's names that come after the given one, in the order of their bytes.

@@ -18,8 +18,8 @@ mod serving;
 
 pub use frags::Frags;
 pub use laws::{
-    errno_leaves_tree, making_takes_number, names_are_listed, pages_make_up_listing,
-    step_keeps_well_formed,
+    above_is_a_chain, errno_leaves_tree, making_takes_number, names_are_listed, numbers_stay,
+    pages_make_up_listing, step_keeps_well_formed,
 };
 pub use plain_frags::PlainFrags;
 pub use planning::plan_op;
