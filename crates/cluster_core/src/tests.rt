@@ -11,8 +11,10 @@ const FIRST: u64 = 1 << 40;
 #[derive(Clone, Copy)]
 enum Asked {
     MakeD,
+    MakeE,
     MakeX,
     FindD,
+    MoveDToE,
     List,
 }
 
@@ -30,6 +32,7 @@ enum Said {
     Dir(u64),
     /// So many names, and no more.
     Names(usize),
+    Done,
     Errno(u16),
     Else,
 }
@@ -94,12 +97,39 @@ const REPEATS: [(Did, Came); 16] = [
     (Did::Serve(1), Came::Refused(5)),
 ];
 
+// A directory is moved onto an empty one, which it replaces.
+const REPLACES: [(Did, Came); 10] = [
+    (Did::Ask(0, 1, 1, Asked::MakeD), Came::Waits),
+    (
+        Did::Serve(0),
+        Came::Replied(0, 1, 0, true, Said::Dir(FIRST)),
+    ),
+    (Did::Ask(0, 2, 2, Asked::MakeE), Came::Waits),
+    (
+        Did::Serve(0),
+        Came::Replied(0, 2, 1, true, Said::Dir(FIRST + 1)),
+    ),
+    (Did::Ask(0, 3, 3, Asked::MoveDToE), Came::Waits),
+    (Did::Serve(0), Came::Replied(0, 3, 2, true, Said::Done)),
+    (Did::Ask(0, 4, 4, Asked::List), Came::Waits),
+    (Did::Serve(0), Came::Replied(0, 4, 3, true, Said::Names(1))),
+    (Did::Ask(0, 5, 5, Asked::FindD), Came::Waits),
+    (Did::Serve(0), Came::Replied(0, 5, 4, true, Said::Errno(2))),
+];
+
+fn name_of(asked: Asked) -> u8 {
+    match asked {
+        Asked::MakeX => b'x',
+        Asked::MakeE => b'e',
+        _ => b'd',
+    }
+}
+
 fn op_of(alloc: Global, asked: Asked) -> Option<Op> {
     let dir = Ino(1);
-    let bytes = if let Asked::MakeX = asked { b"x" } else { b"d" };
-    let name = Name::from_bytes(alloc, bytes).ok()?;
+    let name = Name::from_bytes(alloc, &[name_of(asked)]).ok()?;
     match asked {
-        Asked::MakeD => Some(Op::Mkdir {
+        Asked::MakeD | Asked::MakeE => Some(Op::Mkdir {
             dir,
             name,
             mode: Mode::new(0o755)?,
@@ -112,6 +142,12 @@ fn op_of(alloc: Global, asked: Asked) -> Option<Op> {
             mtime: 0,
         }),
         Asked::FindD => Some(Op::Lookup { dir, name }),
+        Asked::MoveDToE => Some(Op::Rename {
+            dir,
+            name,
+            to_dir: dir,
+            to_name: Name::from_bytes(alloc, b"e").ok()?,
+        }),
         Asked::List => Some(Op::Readdir {
             dir,
             after: None,
@@ -148,6 +184,7 @@ fn told(reply: &Reply) -> Said {
             }
         }
         Reply::Entries { list, more: false } => Said::Names(list.as_slice().len()),
+        Reply::Done => Said::Done,
         Reply::Errno(errno) => Said::Errno(*errno),
         _ => Said::Else,
     }
@@ -214,6 +251,7 @@ fn wrong(alloc: Global, row: &[(Did, Came)]) -> Option<(usize, Came)> {
 fn a_refused_growth_leaves_the_book(rt: HostRuntime) {
     assert_eq!(rt; wrong(rt.alloc(), &FIRST_ROW), None);
     assert_eq!(rt; wrong(rt.alloc(), &REPEATS), None);
+    assert_eq!(rt; wrong(rt.alloc(), &REPLACES), None);
 }
 
 fn events_of(alloc: Global, row: &[(Did, Came)]) -> Option<Vec<Event>> {
@@ -247,6 +285,7 @@ fn runs(alloc: Global, row: &[(Did, Came)]) -> bool {
 fn a_run_answers_each_event(rt: HostRuntime) {
     assert!(rt; runs(rt.alloc(), &FIRST_ROW));
     assert!(rt; runs(rt.alloc(), &REPEATS));
+    assert!(rt; runs(rt.alloc(), &REPLACES));
 }
 
 #[test]

@@ -11,8 +11,8 @@ use mds_types::{Ino, Op, Refusal, Reply};
 use std::alloc::Global;
 
 /// Serves an operation: answers the reply of the operation table, and leaves the tree that the table leaves. A new inode
-/// takes the number given, which has to be unused; where the table takes one and none is given, the operation is refused `NoInodes`. Any other
-/// refusal is one of the fragments', or want of memory. A refusal leaves the tree as it was.
+/// takes the number given, which has to be unused; where the table takes one and none is given, the operation is refused
+/// `NoInodes`. Any other refusal is one of the fragments', or want of memory. A refusal leaves the tree as it was.
 pub fn serve_op<F: Frags>(
     alloc: Global,
     frags: &mut F,
