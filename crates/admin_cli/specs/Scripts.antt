@@ -25,7 +25,7 @@ text_of line = output_line line ++ codes "\n"
 abbrev pub DoesLine : (old new : Admin) → Line → List ℕ → Type 0
 DoesLine old new line.Nothing text = (new ≡ old) × (text ≡ [])
 DoesLine old new (line.Command command) text = (printed : OutputLine) × Executes old new command printed × (text ≡ text_of printed)
-DoesLine old new (line.BadName errno) text = (new ≡ old) × (text ≡ text_of (Errno errno))
+DoesLine old new (line.BadWord errno) text = (new ≡ old) × (text ≡ text_of (Errno errno))
 DoesLine old new line.NotCommand text = ⊥
 
 -- one line of these bytes was done: it isn't too long, and did what its bytes ask for

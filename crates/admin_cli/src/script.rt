@@ -125,7 +125,7 @@ fn do_line(alloc: Global, line: Line, admin: &mut Admin) -> Result<Option<Output
     match line {
         Line::Nothing => Ok(None),
         Line::NotCommand => Err(FaultKind::NotCommand),
-        Line::BadName(errno) => Ok(Some(OutputLine::Errno(errno))),
+        Line::BadWord(errno) => Ok(Some(OutputLine::Errno(errno))),
         Line::Command(command) => Ok(Some(admin.execute(alloc, command))),
     }
 }

@@ -8,6 +8,9 @@ use Rattle.mds_types.specs.declared.replies.Reply.{Reply}
 use Rattle.mds_types.specs.Tree.{Tree}
 use Rattle.mds_types.specs.Step.{Outcome, step, number_or}
 use Rattle.mds_types.specs.StepLaws.{unused}
+use Rattle.mds_types.specs.WellFormedLaws.{IsUnused, step_keeps_well_formed}
+use Rattle.namespace_ops.specs.Changes.{IsOffered}
+use Rattle.cluster_core.proofs.Offered.{offer_unused}
 use Rattle.mds_types.specs.History.{after, IsNext, IsLawful}
 use Rattle.mds_types.specs.HistoryLaws.{after-push, legal-push, used-push}
 use Rattle.inode_table.specs.Numbers.{Supply, IsSupply, offer, first_number, end_number}
@@ -79,6 +82,14 @@ lawful opening past s (Some n) h fresh next_one = λ before.
     let high : n.0 < end_number s.rank = omega (arith, w.0, w.1) in
     omega (arith, w.0, fresh n.0 low high before)
 
+-- a number that the table takes was offered, and so is unused
+taken_unused : (tree : Tree) (number : Option Ino) (takes : Bool) → IsOffered tree number → (number ≡ None → takes ≡ false) → takes ≡ true → IsUnused tree (number_or number)
+taken_unused tree None takes unused numbered took = let clash : true ≡ false = sym took ∙ numbered refl in absurd (true≢false clash)
+  where
+    true≢false : true ≡ false → ⊥
+    true≢false e = cc
+taken_unused tree (Some n) takes unused numbered took = unused
+
 -- a book stays sound where a request is applied
 pub sound-applied : (opening : Tree) (past now : List Entry) (old new : Core) (request : Request) (rest : List Request) (client tid place : ℕ) (reply : Reply)
     → IsSound opening past old → IsApplied old new past now request rest client tid place reply → IsSound opening now new
@@ -97,6 +108,7 @@ sound-applied opening past now old new request rest client tid place reply sound
     } in
     rw (done.left, done.appended) (record {
       legal = legal-push opening past e sound.legal next;
+      formed = step_keeps_well_formed old.shown request.op (number_or (offer old.numbers)) sound.formed (taken_unused old.shown (offer old.numbers) (outcome_of old request).takes (offer_unused opening past old sound) done.numbered);
       replayed = ap (λ (o : Outcome). o.tree) (sym same) ∙ sym (after-push opening past e);
       supplied = after_taking-supplied old.numbers e.number sound.supplied t.next_one;
       fresh = after_taking-fresh opening past old.numbers e sound.fresh (λ n is. (t.next_one n is).0);

@@ -21,8 +21,8 @@ next_unused opening past core sound below = record {
       omega (arith, same, low);
 }
 
-pub offered : (opening : Tree) (past : List Entry) (core : Core) → IsSound opening past core → IsOffered core.shown (offer core.numbers)
-offered opening past core sound = go (nat_lt core.numbers.next (end_number core.numbers.rank)) (λ e. grind (arith, nat_tests))
+pub offer_unused : (opening : Tree) (past : List Entry) (core : Core) → IsSound opening past core → IsOffered core.shown (offer core.numbers)
+offer_unused opening past core sound = go (nat_lt core.numbers.next (end_number core.numbers.rank)) (λ e. grind (arith, nat_tests))
   where
     go : (left : Bool) → (left ≡ true → core.numbers.next < end_number core.numbers.rank) → IsOffered core.shown (cond {A = Option Ino} left (Some (record { 0 = core.numbers.next })) None)
     go true below = next_unused opening past core sound (below refl)

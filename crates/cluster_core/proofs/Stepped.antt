@@ -5,7 +5,9 @@ use Rattle.mds_types.specs.declared.entries.Entry.{Entry}
 use Rattle.mds_types.specs.declared.requests.Request.{Request}
 use Rattle.mds_types.specs.declared.refusals.Refusal.{Refusal}
 use Rattle.mds_types.specs.declared.refusals.Refusal.TheVariants.{NoMemory, StoreFault, NoInodes, Trimmed, NotAuthority, Frozen, Pinned, NoSuchFrag, BadSplit, TooManyFrags, StaleJob, JobOutstanding, WrongExportState, InboxEmpty, InboxFull, NothingToEvict, Damaged, NotClean}
-use Rattle.mds_types.specs.Tree.{Tree, numbers}
+use Rattle.std.specs.FinMap.{get-empty}
+use Rattle.mds_types.specs.WellFormedLaws.{well-formed-empty}
+use Rattle.mds_types.specs.Tree.{Tree, place_cmp, numbers}
 use Rattle.mds_types.specs.TreeLaws.{entries-empty}
 use Rattle.mds_types.specs.History.{IsUsed}
 use Rattle.sessions.specs.TableLaws.{table-none}
@@ -25,6 +27,7 @@ module _ (opening : Tree) (past now : List Entry) (old new : Core) (sound : IsSo
   sound-same same shown numbers sessions = record {
     legal = rw same sound.legal;
     replayed = rw (same, shown) sound.replayed;
+    formed = rw shown sound.formed;
     supplied = rw numbers sound.supplied;
     fresh = rw (same, numbers) sound.fresh;
     kept = rw (same, sessions) sound.kept;
@@ -107,6 +110,7 @@ pub sound-empty : (core : Core) → core.shown ≡ finmap.empty → core.numbers
 sound-empty core shown numbers sessions = record {
   legal = λ k e below. absurd (omega arith);
   replayed = shown;
+  formed = rw shown (well-formed-empty finmap.empty (λ place. get-empty place_cmp place));
   supplied = rw numbers (record { ranked = omega arith; started = omega arith; ended = omega arith });
   fresh = rw numbers (λ n low high used. absurd (unused-empty n low used));
   kept = rw sessions table-none;

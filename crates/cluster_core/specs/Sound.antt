@@ -1,7 +1,7 @@
 -- What every book keeps.
 use Rattle.std.specs.Prelude.{◌≡◌, ℕ, ◌<◌, ◌≤◌, List}
 use Rattle.mds_types.specs.declared.entries.Entry.{Entry}
-use Rattle.mds_types.specs.Tree.{Tree}
+use Rattle.mds_types.specs.Tree.{Tree, IsWellFormed}
 use Rattle.mds_types.specs.History.{after, IsLegal, IsUsed}
 use Rattle.inode_table.specs.Numbers.{Supply, IsSupply, first_number, end_number}
 use Rattle.sessions.specs.Table.{IsTableOf}
@@ -11,11 +11,12 @@ use Rattle.cluster_core.specs.Core.{Core, Kept}
 abbrev pub IsFresh : Tree → List Entry → Supply → Type 0
 IsFresh opening history s = (n : ℕ) → first_number s.rank ≤ n → n < end_number s.rank → IsUsed opening history n → n < s.next
 
--- the history is legal from the opening tree, the shown tree is the tree after it, no number is given twice, and the sessions
--- are those of the history
+-- the history is legal from the opening tree, the shown tree is the tree after it and well formed, no number is given twice, and
+-- the sessions are those of the history
 pub record IsSound (opening : Tree) (history : List Entry) (core : Core) : Type 0 where
   pub legal : IsLegal opening history
   pub replayed : core.shown ≡ after opening history
+  pub formed : IsWellFormed core.shown
   pub supplied : IsSupply core.numbers
   pub fresh : IsFresh opening history core.numbers
   pub kept : IsTableOf history core.sessions

@@ -6,13 +6,15 @@ use Rattle.std.specs.declared.cmp.Ordering.TheVariants.{Less, Equal, Greater}
 use Rattle.std.specs.Ordering.{is_eq, eq_by_cmp}
 use Rattle.std.specs.FinMap as map
 use Rattle.std.specs.FinMap.{get-insert}
+use Rattle.mds_types.specs.declared.errno.TheConstants.{ESTALE}
+use Rattle.mds_types.specs.declared.replies.Reply.TheVariants.{Errno}
 use Rattle.mds_types.specs.declared.places.Place.{Place}
 use Rattle.mds_types.specs.declared.inodes.Inode.{Inode}
 use Rattle.mds_types.specs.declared.inodes.Kind.{Kind}
 use Rattle.mds_types.specs.declared.inodes.Kind.TheVariants.{File, Dir, Symlink}
 use Rattle.mds_types.specs.declared.operations.Op.{Op}
 use Rattle.mds_types.specs.declared.operations.Op.TheVariants.{Lookup, Readdir, Create, Mkdir, Readlink, Symlink as MakeLink, Setattr, Unlink, Rmdir, Rename}
-use Rattle.mds_types.specs.Step.{Outcome, new_size, directory_of, destination_of, found, made, new_inode, link_mode, read_link, size_errno, with_attributes, attributes_set, unless, unlinked, dir_removed, leads_to, replace_errno, renamed, within, step}
+use Rattle.mds_types.specs.Step.{Outcome, answers, new_size, directory_of, destination_of, found, made, new_inode, link_mode, read_link, size_errno, with_attributes, attributes_set, unless, unlinked, dir_removed, leads_to, replace_errno, renamed, within, step}
 use Rattle.mds_types.specs.Tree.{Tree, place_cmp, place_of, at, is_directory, is_dir_kind, has_entries, IsAbove, child, further, HasSize, IsWellFormed}
 use Rattle.mds_types.specs.TreeLaws.{is_directory-insert}
 use Rattle.mds_types.specs.PlaceLaws.{place-total, place-exact}
@@ -20,7 +22,6 @@ use Rattle.mds_types.specs.DirectoryLaws.{reaches_root, nothing_in_file, nothing
 use Rattle.mds_types.specs.AttributeLaws.{well-formed-changed}
 use Rattle.mds_types.specs.RemovedLaws.{well-formed-removed}
 use Rattle.mds_types.specs.MovedLaws.{well-formed-moved, may_move}
-use Rattle.sorted_map.specs.Bools.{first_true, second_true}
 
 or_right : (a b : Bool) → b ≡ true → (a || b) ≡ true
 or_right true b h = refl
@@ -111,8 +112,8 @@ pub record IsUnused (tree : Tree) (n : ℕ) : Type 0 where
   pub not_there : (d : ℕ) (name : List ℕ) (inode : Inode) → at tree d name ≡ Some inode → inode.ino.0 ≡ n → ⊥
 
 made-well-formed : (tree : Tree) (dir : ℕ) (name : List ℕ) (inode : Inode) (other : Option Inode) → at tree dir name ≡ other → IsWellFormed tree → is_directory tree dir ≡ true
-    → IsUnused tree inode.ino.0 → HasSize inode.kind inode.size → IsWellFormed (made tree (place_of dir name) inode other).tree
-made-well-formed tree dir name inode None free whole here unused sized = well-formed-grown tree dir name inode free whole here unused.not_root unused.not_there sized
+    → ((made tree (place_of dir name) inode other).takes ≡ true → IsUnused tree inode.ino.0) → HasSize inode.kind inode.size → IsWellFormed (made tree (place_of dir name) inode other).tree
+made-well-formed tree dir name inode None free whole here unused sized = well-formed-grown tree dir name inode free whole here (unused refl).not_root (unused refl).not_there sized
 made-well-formed tree dir name inode (Some other) taken whole here unused sized = whole
 
 found-well-formed : (tree : Tree) (other : Option Inode) → IsWellFormed tree → IsWellFormed (found tree other).tree
@@ -174,7 +175,7 @@ renamed-well-formed tree from to (Some inode) target is there whole parent =
     (λ replaces. well-formed-moved tree from to inode whole
     (may_move tree from to inode whole (record { stands = is; apart = apart; parent = parent; outside = outside; replaces = ap (replace_errno tree inode) there ∙ replaces })))))
 
-within-well-formed : (tree : Tree) (op : Op) (n : ℕ) → IsWellFormed tree → IsUnused tree n → is_directory tree (directory_of op) ≡ true → is_directory tree (destination_of op) ≡ true → IsWellFormed (within tree op n).tree
+within-well-formed : (tree : Tree) (op : Op) (n : ℕ) → IsWellFormed tree → ((within tree op n).takes ≡ true → IsUnused tree n) → is_directory tree (directory_of op) ≡ true → is_directory tree (destination_of op) ≡ true → IsWellFormed (within tree op n).tree
 within-well-formed tree (Lookup dir name) n whole unused here there = found-well-formed tree (at tree dir.0 name) whole
 within-well-formed tree (Readdir dir after max) n whole unused here there = whole
 within-well-formed tree (Create dir name mode mtime) n whole unused here there = made-well-formed tree dir.0 name (new_inode n File mode mtime) (at tree dir.0 name) refl whole here unused tt
@@ -188,8 +189,25 @@ within-well-formed tree (Rmdir dir name) n whole unused here there = dir_removed
 within-well-formed tree (Rename dir name to_dir to_name) n whole unused here there =
     renamed-well-formed tree (place_of dir.0 name) (place_of to_dir.0 to_name) (at tree dir.0 name) (at tree to_dir.0 to_name) refl refl whole there
 
--- a step keeps the tree well formed where it is offered an unused number
-pub step_keeps_well_formed : (tree : Tree) (op : Op) (n : ℕ) → IsWellFormed tree → IsUnused tree n → IsWellFormed (step tree op n).tree
-step_keeps_well_formed tree op n whole unused =
-    either-well-formed (is_directory tree (directory_of op) && is_directory tree (destination_of op)) (within tree op n) _
-    (λ stand. within-well-formed tree op n whole unused (first_true _ _ stand) (second_true _ _ stand)) (λ missing. whole)
+-- a step keeps the tree well formed, if the number that it takes, where it takes one, is unused
+pub step_keeps_well_formed : (tree : Tree) (op : Op) (n : ℕ) → IsWellFormed tree → ((step tree op n).takes ≡ true → IsUnused tree n) → IsWellFormed (step tree op n).tree
+step_keeps_well_formed tree op n whole unused = go (is_directory tree (directory_of op)) (is_directory tree (destination_of op)) refl refl unused
+  where
+    go : (a b : Bool) → is_directory tree (directory_of op) ≡ a → is_directory tree (destination_of op) ≡ b
+        → ((cond (a && b) (within tree op n) (answers tree (Errno ESTALE))).takes ≡ true → IsUnused tree n) → IsWellFormed (cond (a && b) (within tree op n) (answers tree (Errno ESTALE))).tree
+    go true true here there takes = within-well-formed tree op n whole takes here there
+    go true false here there takes = whole
+    go false b here there takes = whole
+
+-- the tree with no entry is well formed
+pub well-formed-empty : (tree : Tree) → ((place : Place) → map.get tree place ≡ None) → IsWellFormed tree
+well-formed-empty tree none = record {
+  rootless = λ d name inode h one. nothing (place_of d name) inode h;
+  once = λ d d' name name' inode inode' h h' same. absurd (nothing (place_of d name) inode h);
+  parents = λ d name inode h. absurd (nothing (place_of d name) inode h);
+  rooted = λ d name inode h. absurd (nothing (place_of d name) inode h);
+  sizes = λ d name inode h. absurd (nothing (place_of d name) inode h);
+}
+  where
+    nothing : (place : Place) (inode : Inode) → map.get tree place ≡ Some inode → ⊥
+    nothing place inode h = let clash : None ≡ Some inode = sym (none place) ∙ h in cc

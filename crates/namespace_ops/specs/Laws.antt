@@ -17,9 +17,9 @@ ErrnoLeavesTree = (tree : Tree) (op : Op) (n : ℕ) → ErrnoLeaves tree (step t
 abbrev pub MakingTakesNumber : Type 0
 MakingTakesNumber = (tree : Tree) (op : Op) (n : ℕ) → TakesWhereMade op (step tree op n)
 
--- a step that is offered an unused number keeps the tree well formed
+-- a step keeps the tree well formed, if the number that it takes, where it takes one, is unused
 abbrev pub StepKeepsWellFormed : Type 0
-StepKeepsWellFormed = (tree : Tree) (op : Op) (n : ℕ) → IsWellFormed tree → IsUnused tree n → IsWellFormed (step tree op n).tree
+StepKeepsWellFormed = (tree : Tree) (op : Op) (n : ℕ) → IsWellFormed tree → ((step tree op n).takes ≡ true → IsUnused tree n) → IsWellFormed (step tree op n).tree
 
 -- the names of a listing are those of the directory that come after the given one, in order, with none left out
 abbrev pub NamesAreListed : Type 0

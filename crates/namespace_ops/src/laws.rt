@@ -12,7 +12,7 @@ pub fn making_takes_number()
     ensures { MakingTakesNumber }
 {}
 
-/// A step keeps the tree well formed, if the number that it is offered is unused.
+/// A step keeps the tree well formed, if the number that it takes, where it takes one, is unused.
 pub fn step_keeps_well_formed()
     ensures { StepKeepsWellFormed }
 {}

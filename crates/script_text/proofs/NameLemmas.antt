@@ -3,7 +3,7 @@ use Rattle.std.proofs.Common.{◌≡◌, ℕ, ◌<◌, ◌≤◌, Bool, true, fa
 use Rattle.std.proofs.lemmas.Bool.{le-ltb}
 use Rattle.std.specs.List.{list_all}
 use Rattle.mds_types.specs.Name.{IsName, is_dots, fits_name}
-use Rattle.script_text.specs.declared.faults.Fault.TheVariants.{BadName}
+use Rattle.script_text.specs.declared.faults.Fault.TheVariants.{BadWord}
 use Rattle.script_text.specs.Arguments.{is_plain_name, name_of}
 
 -- three tests in a row, the last negated
@@ -33,11 +33,11 @@ unfolding name_of
 name_of-name bytes name h = rw (le-ltb 255 (length bytes) (h.0).short) (rw (is_name bytes h.0) (ap Ok (sym h.1)))
 
 -- what is too long
-pub name_of-long : (bytes : List ℕ) → 255 < length bytes → name_of bytes ≡ Err (BadName 36)
+pub name_of-long : (bytes : List ℕ) → 255 < length bytes → name_of bytes ≡ Err (BadWord 36)
 unfolding name_of
 name_of-long bytes long = rw (lt-ltb 255 (length bytes) long) refl
 
 -- what is no name for another reason
-pub name_of-invalid : (bytes : List ℕ) → (length bytes ≤ 255) × (IsName bytes → ⊥) → name_of bytes ≡ Err (BadName 22)
+pub name_of-invalid : (bytes : List ℕ) → (length bytes ≤ 255) × (IsName bytes → ⊥) → name_of bytes ≡ Err (BadWord 22)
 unfolding name_of
 name_of-invalid bytes h = rw (le-ltb 255 (length bytes) h.0) (rw (no_name bytes h.0 h.1) refl)

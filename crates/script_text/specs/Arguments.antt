@@ -6,7 +6,7 @@ use Rattle.mds_types.specs.declared.ids.Ino.{Ino}
 use Rattle.mds_types.specs.declared.ids.Rank.{Rank}
 use Rattle.mds_types.specs.Name.{fits_name, fits_target, is_dots}
 use Rattle.script_text.specs.declared.faults.Fault.{Fault}
-use Rattle.script_text.specs.declared.faults.Fault.TheVariants.{BadName}
+use Rattle.script_text.specs.declared.faults.Fault.TheVariants.{BadWord}
 use Rattle.script_text.specs.Numbers.{number_of, octal_mode_of}
 use Rattle.script_text.specs.Escapes.{bytes_of}
 use Rattle.script_text.specs.Reading.{wanted, ◌>>=◌}
@@ -63,7 +63,7 @@ is_plain_name bytes = nat_lt 0 (length bytes) && list_all fits_name bytes && not
 
 -- a name, or the errno of bytes that are none: too long before all else
 unfoldable pub name_of : List ℕ → Result (List ℕ) Fault
-name_of bytes = if nat_lt 255 (length bytes) then Err (BadName ENAMETOOLONG) else (if is_plain_name bytes then Ok bytes else Err (BadName EINVAL))
+name_of bytes = if nat_lt 255 (length bytes) then Err (BadWord ENAMETOOLONG) else (if is_plain_name bytes then Ok bytes else Err (BadWord EINVAL))
 
 -- the name after which a listing begins follows the same rules
 unfoldable pub after_name_of : Option (List ℕ) → Result (Option (List ℕ)) Fault
@@ -73,6 +73,6 @@ after_name_of (Some bytes) = name_of bytes >>= λ name. Ok (Some name)
 -- a target, or the errno of bytes that are none: too long before all else, then empty, then with a zero byte
 unfoldable pub target_of : List ℕ → Result (List ℕ) Fault
 target_of bytes =
-    if nat_lt 4095 (length bytes) then Err (BadName ENAMETOOLONG) else
-    (if length bytes == 0 then Err (BadName ENOENT) else
-    (if list_all fits_target bytes then Ok bytes else Err (BadName EINVAL)))
+    if nat_lt 4095 (length bytes) then Err (BadWord ENAMETOOLONG) else
+    (if length bytes == 0 then Err (BadWord ENOENT) else
+    (if list_all fits_target bytes then Ok bytes else Err (BadWord EINVAL)))

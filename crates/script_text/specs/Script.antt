@@ -8,7 +8,7 @@ use Rattle.script_text.specs.declared.commands.Command.TheVariants.{Operation, R
 use Rattle.script_text.specs.declared.lines.Line.{Line}
 use Rattle.script_text.specs.declared.lines.Line.TheVariants as line
 use Rattle.script_text.specs.declared.faults.Fault.{Fault}
-use Rattle.script_text.specs.declared.faults.Fault.TheVariants.{NotCommand, BadName}
+use Rattle.script_text.specs.declared.faults.Fault.TheVariants.{NotCommand, BadWord}
 use Rattle.script_text.specs.Words.{words_of, is_text, is_printable, is_comment}
 use Rattle.script_text.specs.Reading.{◌>>=◌, first, one, two, three, four}
 use Rattle.script_text.specs.Arguments.{ino_of, rank_of, client_of, decimal_of, mode_of, page_size_of, text_of, after_text_of, name_of, after_name_of, target_of}
@@ -169,7 +169,7 @@ command_of verb args =
 abbrev pub line_from : Result Command Fault → Line
 line_from (Ok command) = line.Command command
 line_from (Err NotCommand) = line.NotCommand
-line_from (Err (BadName errno)) = line.BadName errno
+line_from (Err (BadWord errno)) = line.BadWord errno
 
 -- a line of these words
 abbrev pub line_of_words : List (List ℕ) → Line

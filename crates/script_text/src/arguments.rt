@@ -125,8 +125,8 @@ pub fn name(alloc: Global, bytes: &[u8]) -> Result<Name, ReadError>
 {
     match Name::from_bytes(alloc, bytes) {
         Ok(name) => Ok(name),
-        Err(NameFault::Invalid) => Err(ReadError::Fault(Fault::BadName(EINVAL))),
-        Err(NameFault::TooLong) => Err(ReadError::Fault(Fault::BadName(ENAMETOOLONG))),
+        Err(NameFault::Invalid) => Err(ReadError::Fault(Fault::BadWord(EINVAL))),
+        Err(NameFault::TooLong) => Err(ReadError::Fault(Fault::BadWord(ENAMETOOLONG))),
         Err(NameFault::NoMemory) => Err(ReadError::NoMemory),
     }
 }
@@ -149,9 +149,9 @@ pub fn target(alloc: Global, bytes: &[u8]) -> Result<Target, ReadError>
 {
     match Target::from_bytes(alloc, bytes) {
         Ok(target) => Ok(target),
-        Err(TargetFault::Empty) => Err(ReadError::Fault(Fault::BadName(ENOENT))),
-        Err(TargetFault::Invalid) => Err(ReadError::Fault(Fault::BadName(EINVAL))),
-        Err(TargetFault::TooLong) => Err(ReadError::Fault(Fault::BadName(ENAMETOOLONG))),
+        Err(TargetFault::Empty) => Err(ReadError::Fault(Fault::BadWord(ENOENT))),
+        Err(TargetFault::Invalid) => Err(ReadError::Fault(Fault::BadWord(EINVAL))),
+        Err(TargetFault::TooLong) => Err(ReadError::Fault(Fault::BadWord(ENAMETOOLONG))),
         Err(TargetFault::NoMemory) => Err(ReadError::NoMemory),
     }
 }

@@ -10,7 +10,7 @@ pub enum Fault {
     /// The words have no command's form.
     NotCommand,
     /// The form is right, but a name or a target is outside its rules: the error number of the first such word.
-    BadName(u16),
+    BadWord(u16),
 }
 
 /// Why a line was not read.

@@ -15,7 +15,7 @@ pub enum Line {
     Command(Command),
     /// A command with a name or a target outside its rules: the error number of the first such word. No request is made
     /// of it.
-    BadName(u16),
+    BadWord(u16),
     NotCommand,
 }
 
@@ -36,7 +36,7 @@ pub fn read_line(alloc: Global, bytes: &[u8]) -> Result<Line, AllocError>
     match read_command(alloc, verb, args) {
         Ok(command) => Ok(Line::Command(command)),
         Err(ReadError::Fault(Fault::NotCommand)) => Ok(Line::NotCommand),
-        Err(ReadError::Fault(Fault::BadName(errno))) => Ok(Line::BadName(errno)),
+        Err(ReadError::Fault(Fault::BadWord(errno))) => Ok(Line::BadWord(errno)),
         Err(ReadError::NoMemory) => Err(AllocError),
     }
 }

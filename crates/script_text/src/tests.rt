@@ -215,7 +215,7 @@ fn names(rt: HostRuntime) -> Result<(), Fail> {
         b"readdir 1 .. 10",
         b"create 1 a%2Fb 644",
     ] {
-        reads(&rt, alloc, line, Line::BadName(22))?;
+        reads(&rt, alloc, line, Line::BadWord(22))?;
     }
     let mut line = b"lookup 1 ".to_vec(alloc)?;
     for _ in 0..255 {
@@ -224,7 +224,7 @@ fn names(rt: HostRuntime) -> Result<(), Fail> {
     let found = read_line(alloc, &line)?;
     assert!(rt; matches!(&found, Line::Command(_)));
     line.push(b'x')?;
-    reads(&rt, alloc, &line, Line::BadName(36))
+    reads(&rt, alloc, &line, Line::BadWord(36))
 }
 
 #[test]

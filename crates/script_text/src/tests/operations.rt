@@ -167,7 +167,7 @@ fn judged(alloc: Global, line: &[u8]) -> Verdict {
     match read_line(alloc, line) {
         Ok(Line::Command(_)) => Verdict::Command,
         Ok(Line::Nothing) => Verdict::Nothing,
-        Ok(Line::BadName(errno)) => Verdict::BadWord(errno),
+        Ok(Line::BadWord(errno)) => Verdict::BadWord(errno),
         Ok(Line::NotCommand) => Verdict::NotCommand,
         Err(_) => Verdict::NoMemory,
     }
