@@ -1,5 +1,5 @@
 //! Where leaves stand in the list of them.
-ghost use Rattle.std.specs.Prelude.{◌≡◌, ◌+◌, ◌^◌, ◌<◌, IfNone, IfSome, length};
+ghost use Rattle.std.specs.Prelude.{◌≡◌, ◌↔◌, ◌+◌, ◌^◌, ◌<◌, IfNone, IfSome, IsTrue, length};
 ghost use Rattle.mds_types.specs.Frag.{IsFragment, span};
 ghost use Rattle.fragtree.specs.FragTree.{HasLeaf, Tiles};
 ghost use Rattle.fragtree.specs.Places.{IsPlace, StandFrom, leaf_at};
@@ -38,6 +38,20 @@ pub fn places_inside(leaves: &[Frag], f: Frag) -> Range<usize>
     }
     let last = place_of_hash(leaves, last_hash(f));
     first..last + 1
+}
+
+/// Whether fragments tile the hashes: each begins where the one before it ends. Takes linear time.
+pub fn do_tile(leaves: &[Frag]) -> bool
+    ensures { IsTrue result ↔ Tiles 0 (2 ^ 24) leaves.now }
+{
+    let mut next = 0;
+    for leaf in leaves {
+        if leaf.value() != next {
+            return false;
+        }
+        next = last_hash(*leaf) + 1;
+    }
+    next == 1 << 24
 }
 
 // The last of the 24-bit hashes that a fragment contains.

@@ -138,3 +138,62 @@ fn trees_are_equal_by_their_leaves(rt: HostRuntime) -> Result<(), Fail> {
     assert!(rt; copy == tree);
     Ok(())
 }
+
+// How many leaves the tree of these fragments has, each given by its value and bits; 0 where they are no leaves of a tree.
+fn leaves_of(alloc: Global, parts: &[(u32, u8)]) -> Result<usize, AllocError> {
+    let mut leaves = Vec::new(alloc);
+    for (value, bits) in parts {
+        if let Some(leaf) = Frag::new(*value, *bits) {
+            leaves.push(leaf)?;
+        }
+    }
+    match FragTree::from_leaves(leaves) {
+        Some(tree) => Ok(tree.len()),
+        None => Ok(0),
+    }
+}
+
+#[test]
+fn a_tree_is_made_of_leaves_in_order_that_cover_each_hash_once(
+    rt: HostRuntime,
+) -> Result<(), Fail> {
+    let half = 0x80_0000;
+    let rows: [(&[(u32, u8)], usize); 9] = [
+        (&[(0, 0)], 1),
+        (&[(0, 1), (half, 1)], 2),
+        (&[(0, 1), (half, 2), (0xc0_0000, 2)], 3),
+        (&[], 0),
+        (&[(half, 1), (0, 1)], 0),
+        (&[(0, 1)], 0),
+        (&[(half, 1)], 0),
+        (&[(0, 1), (0, 1), (half, 1)], 0),
+        (&[(0, 1), (half, 2)], 0),
+    ];
+    for (parts, count) in rows {
+        assert_eq!(rt; leaves_of(rt.alloc(), parts), Ok(count));
+    }
+    Ok(())
+}
+
+// The first so many of the fragments of 12 bits.
+fn fine_leaves(alloc: Global, count: u32) -> Result<Vec<Frag>, AllocError> {
+    let mut leaves = Vec::with_capacity(alloc, 4097)?;
+    for i in 0..count {
+        if let Some(leaf) = Frag::ROOT.child(i, 12) {
+            leaves.push(leaf)?;
+        }
+    }
+    Ok(leaves)
+}
+
+#[test]
+fn a_tree_is_made_of_at_most_4096_leaves(rt: HostRuntime) -> Result<(), Fail> {
+    let most = fine_leaves(rt.alloc(), 4096)?;
+    assert!(rt; FragTree::from_leaves(most).is_some());
+    let mut more = fine_leaves(rt.alloc(), 4095)?;
+    let last = frag("111111111111*")?;
+    more.push(last.child(0, 1).ok_or("no child")?)?;
+    more.push(last.child(1, 1).ok_or("no child")?)?;
+    assert!(rt; FragTree::from_leaves(more).is_none());
+    Ok(())
+}

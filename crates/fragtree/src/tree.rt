@@ -1,9 +1,9 @@
 //! `FragTree`, what a contract sees of it, and the calls that read it.
-ghost use Rattle.std.specs.Prelude.{◌≡◌, ◌↔◌, ◌∷◌, [], IfOk, IsTrue, length};
+ghost use Rattle.std.specs.Prelude.{◌≡◌, ◌↔◌, ◌∷◌, [], IfOk, IsTrue, SomeIff, length};
 ghost use Rattle.mds_types.specs.Frag.{IsCover, root_fragment};
 ghost use Rattle.fragtree.specs.FragTree.{HasLeaf, IsPick, IsTree};
 
-use crate::places::{place_of_hash, place_of_leaf};
+use crate::places::{do_tile, place_of_hash, place_of_leaf};
 use mds_types::Frag;
 use std::alloc::{AllocError, Global};
 use std::marker::Model;
@@ -43,6 +43,17 @@ impl FragTree {
     {
         let leaves = vec![in alloc; Frag::ROOT]?;
         Ok(FragTree { leaves })
+    }
+
+    /// The tree of these leaves, if they are those of a tree: by strictly ascending value, with every 24-bit hash in
+    /// exactly one, and at most 4096. Takes no memory.
+    pub fn from_leaves(leaves: Vec<Frag>) -> Option<FragTree>
+        ensures { SomeIff result (IsTree leaves.items) leaves.items }
+    {
+        if leaves.len() > FragTree::MAX_LEAVES || !do_tile(&leaves) {
+            return None;
+        }
+        Some(FragTree { leaves })
     }
 
     /// How many leaves there are. A directory always has one.
