@@ -1,0 +1,4 @@
+pub mod Front
+pub mod HeaderLaws
+pub mod RecordLaws
+pub mod TreeLaws

@@ -1,0 +1,15 @@
+//! What stands in the store, byte for byte: records of directory entries, headers of fragments and fragment trees. Each
+//! format is one grammar, a relation of bytes and values in `specs/`, which its encoder and its decoder both keep.
+#![tactic(auto)]
+
+mod fields;
+mod headers;
+pub mod laws;
+mod records;
+#[cfg(test)]
+mod tests;
+mod trees;
+
+pub use headers::{FragHeader, decode_header, encode_header};
+pub use records::{decode_entry, encode_entry};
+pub use trees::{decode_tree, encode_tree};

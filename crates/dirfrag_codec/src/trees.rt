@@ -1,0 +1,89 @@
+//! The header of a fragment tree's object.
+ghost use Rattle.std.specs.Prelude.{◌≡◌, ◌≤◌, IfOk, length};
+ghost use Rattle.mds_types.specs.Frag.{word_of};
+ghost use Rattle.dirfrag_codec.specs.Grammar.{Decodes};
+ghost use Rattle.dirfrag_codec.specs.Leaves.{AreLeavesOf, IsFragmentOf};
+ghost use Rattle.dirfrag_codec.specs.Reading.{Gives, words_at};
+ghost use Rattle.dirfrag_codec.specs.TreeObject.{SpellsTree};
+
+use crate::fields::{after_tag, put_u16, put_u32, u16_at, u32_at};
+use fragtree::FragTree;
+use mds_types::Frag;
+use std::alloc::{AllocError, Global};
+
+// How a tree begins: its letter, and the version of the format.
+const LETTER: u8 = b'T';
+
+const VERSION: u8 = 1;
+
+// How many bytes stand before the leaves, and how many each leaf has.
+const FRONT_LEN: usize = 4;
+
+const LEAF_LEN: usize = 4;
+
+/// The bytes of a tree of two leaves or more. Takes memory for them.
+pub fn encode_tree(alloc: Global, tree: &FragTree) -> Result<Vec<u8>, AllocError>
+    requires { 2 ≤ length tree.now }
+    ensures { IfOk result (λ bytes. SpellsTree bytes.items tree.now) }
+{
+    let count = tree.len();
+    let mut bytes = Vec::with_capacity(alloc, FRONT_LEN + LEAF_LEN * count)?;
+    bytes.extend_from_slice(&[LETTER, VERSION])?;
+    put_u16(&mut bytes, count as u16)?;
+    for leaf in tree {
+        put_u32(&mut bytes, leaf.word())?;
+    }
+    Ok(bytes)
+}
+
+/// The tree whose bytes these are; none, where they are no tree of two leaves or more. Takes memory for the leaves.
+pub fn decode_tree(alloc: Global, bytes: &[u8]) -> Result<Option<FragTree>, AllocError>
+    ensures { IfOk result (Decodes SpellsTree bytes.now) }
+{
+    let Some(words) = words_of(bytes) else {
+        return Ok(None);
+    };
+    let Some(leaves) = leaves_of(alloc, words)? else {
+        return Ok(None);
+    };
+    Ok(FragTree::from_leaves(leaves))
+}
+
+// The bytes of the leaves: as many as the front states, 2 leaves at least.
+#[tactic(auto, unfolding(crate::specs::Reading::words_at))]
+fn words_of(bytes: &[u8]) -> Option<&[u8]>
+    ensures { Gives (λ words. words.now) result (words_at bytes.now) }
+{
+    let rest = after_tag(bytes, LETTER, VERSION)?;
+    let (count, words) = u16_at(rest)?;
+    if count < 2 || words.len() != LEAF_LEN * usize::from(count) {
+        return None;
+    }
+    Some(words)
+}
+
+// The fragments of these words, in the order of the words; none, where one is no fragment.
+fn leaves_of(alloc: Global, words: &[u8]) -> Result<Option<Vec<Frag>>, AllocError>
+    ensures { IfOk result (λ leaves. AreLeavesOf words.now leaves) }
+{
+    let mut leaves = Vec::with_capacity(alloc, words.len() / LEAF_LEN)?;
+    let mut rest = words;
+    while let Some((word, after)) = u32_at(rest) {
+        let Some(leaf) = frag_of(word) else {
+            return Ok(None);
+        };
+        leaves.push(leaf)?;
+        rest = after;
+    }
+    if !rest.is_empty() {
+        return Ok(None);
+    }
+    Ok(Some(leaves))
+}
+
+// The fragment of a word: the number of bits above the 24 bits of the value.
+fn frag_of(word: u32) -> Option<Frag>
+    ensures { IsFragmentOf word result }
+{
+    Frag::new(word % (1 << Frag::MAX_BITS), (word >> Frag::MAX_BITS) as u8)
+}
