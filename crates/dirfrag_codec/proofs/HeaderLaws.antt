@@ -8,10 +8,16 @@ use Rattle.dirfrag_codec.specs.declared.headers.FragHeader.{FragHeader}
 use Rattle.dirfrag_codec.specs.FragHeader.{SpellsHeader, header_bytes}
 use Rattle.dirfrag_codec.specs.Grammar.{Decodes}
 use Rattle.dirfrag_codec.specs.Reading.{◌>>=◌, Gives, after_tag, number_at, header_at}
-use Rattle.dirfrag_codec.proofs.Front.{IsBytes, Takes-then, bind_some, both, guard_some, number_again, number_takes, tag_takes, width_8}
+use Rattle.dirfrag_codec.proofs.Front.{IsBytes, bind_some, both, guard_some, number_again, number_takes, tag_takes, width_8}
 
 positive : (n : ℕ) → ltb 0 n ≡ true → 1 ≤ n
 positive n e = grind (arith, nat_tests)
+
+joined : (bytes t0 t1 t2 t3 : List ℕ) (header : FragHeader) → bytes ≡ 70 ∷ 1 ∷ t0 → t0 ≡ little_bytes 8 header.version ++ t1 → t1 ≡ little_bytes 8 header.files ++ t2
+    → t2 ≡ little_bytes 8 header.dirs ++ t3 → t3 ≡ [] → bytes ≡ header_bytes header
+joined bytes t0 t1 t2 t3 header e0 e1 e2 e3 e4 =
+    e0 ∙ ap (λ (x : List ℕ). 70 ∷ 1 ∷ x) e1 ∙ ap (λ (x : List ℕ). 70 ∷ 1 ∷ (little_bytes 8 header.version ++ x)) e2
+    ∙ ap (λ (x : List ℕ). 70 ∷ 1 ∷ (little_bytes 8 header.version ++ (little_bytes 8 header.files ++ x))) (e3 ∙ ap (λ (x : List ℕ). little_bytes 8 header.dirs ++ x) e4 ∙ append-nil (little_bytes 8 header.dirs))
 
 pub header_takes : (bytes : List ℕ) (header : FragHeader) → IsBytes bytes → header_at bytes ≡ Some header → SpellsHeader bytes header
 unfolding header_at
@@ -31,11 +37,8 @@ header_takes bytes header fits e =
     let t1 = number_takes 8 width_8 a.0 b.0.0 b.0.1 t0.rest_fits b.1 in
     let t2 = number_takes 8 width_8 b.0.1 c.0.0 c.0.1 t1.0.rest_fits c.1 in
     let t3 = number_takes 8 width_8 c.0.1 d.0.0 d.0.1 t2.0.rest_fits d.1 in
-    let e23 = Takes-then b.0.1 (little_bytes 8 c.0.0) c.0.1 (little_bytes 8 d.0.0) d.0.1 t2.0 t3.0 in
-    let e13 = Takes-then a.0 (little_bytes 8 b.0.0) b.0.1 (little_bytes 8 c.0.0 ++ little_bytes 8 d.0.0) d.0.1 t1.0 e23 in
-    let e03 = Takes-then bytes (70 ∷ 1 ∷ []) a.0 (little_bytes 8 b.0.0 ++ (little_bytes 8 c.0.0 ++ little_bytes 8 d.0.0)) d.0.1 t0 e13 in
-    let nothing : d.0.1 ≡ [] = nil_from_length d.0.1 (eqb-true _ _ w.1) in
-    let whole : bytes ≡ header_bytes made = e03.parts ∙ ap (λ (r : List ℕ). header_bytes made ++ r) nothing ∙ append-nil (header_bytes made) in
+    let nothing : d.0.1 ≡ [] = nil_from_length d.0.1 (eqb-true (length d.0.1) 0 w.1) in
+    let whole = joined bytes a.0 b.0.1 c.0.1 d.0.1 made t0.parts t1.0.parts t2.0.parts t3.0.parts nothing in
     subst (SpellsHeader bytes) g.1 (record { committed = positive b.0.0 w.0; version = omega (arith, t1.1); files = omega (arith, t2.1); dirs = omega (arith, t3.1); spelled = whole })
 
 header_chain : (t0 t1 t2 : List ℕ) (v f d : ℕ) → number_at 8 t0 ≡ Some (v, t1) → number_at 8 t1 ≡ Some (f, t2) → number_at 8 t2 ≡ Some (d, []) → ltb 0 v ≡ true

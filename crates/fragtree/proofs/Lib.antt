@@ -3,3 +3,4 @@ pub mod Tilings
 pub mod Splits
 pub mod Merges
 pub mod TreeLaws
+pub mod Covers

@@ -1,7 +1,7 @@
 -- The leaves of one directory, CephFS's `fragtree_t`: what they are, which leaf a hash picks, and what a split and a merge make of them.
-use Rattle.std.specs.Prelude.{◌≡◌, ◌≢◌, ◌↔◌, ◌⊎◌, ℕ, ◌+◌, ◌-◌, ◌/◌, ◌^◌, ◌<◌, ◌≤◌, Bool, false, ◌&&◌, nat_lt, ◌==◌, List, [], ◌∷◌, length, filter}
+use Rattle.std.specs.Prelude.{◌≡◌, ◌≢◌, ◌↔◌, ◌⊎◌, ℕ, ◌+◌, ◌-◌, ◌/◌, ◌^◌, ◌<◌, ◌≤◌, Bool, false, ◌&&◌, nat_lt, ◌==◌, List, [], ◌∷◌, length, filter, slice_index_or}
 use Rattle.std.specs.List as list
-use Rattle.mds_types.specs.Frag.{Fragment, IsFragment, Contains, child_of, span}
+use Rattle.mds_types.specs.Frag.{Fragment, IsFragment, Contains, IsCover, child_of, root_fragment, span}
 use Rattle.mds_types.specs.declared.refusals.Refusal.{Refusal}
 use Rattle.mds_types.specs.declared.refusals.Refusal.TheVariants.{NoMemory, NoSuchFrag, BadSplit, TooManyFrags}
 
@@ -18,6 +18,13 @@ pub record IsTree (leaves : List Fragment) : Type 0 where
 -- f is one of the leaves
 abbrev pub HasLeaf : List Fragment → Fragment → Type 0
 HasLeaf leaves f = list.Contains leaves f
+
+-- the same in the words of covers: fragments by strictly ascending value, which cover each 24-bit hash once, at most 4096
+pub record IsAscendingCover (leaves : List Fragment) : Type 0 where
+  pub fragments : (leaf : Fragment) → HasLeaf leaves leaf → IsFragment leaf
+  pub ascending : (i j : ℕ) → i < j → j < length leaves → (slice_index_or leaves i root_fragment).value < (slice_index_or leaves j root_fragment).value
+  pub cover : IsCover leaves
+  pub few : length leaves ≤ 4096
 
 -- the leaf that a hash picks: the one leaf that contains it
 pub record IsPick (leaves : List Fragment) (hash : ℕ) (leaf : Fragment) : Type 0 where

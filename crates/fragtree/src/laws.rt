@@ -1,8 +1,13 @@
 //! Laws of trees, picks, splits and merges, for the crates that hold a tree. A law is its contract: its body does nothing.
 ghost use Rattle.std.specs.Prelude.{◌≡◌, ◌≢◌, ◌↔◌, ℕ, true, false, List};
 ghost use Rattle.mds_types.specs.Frag.{Fragment, IsFragment, Contains, ContainsFragment, IsCover};
-ghost use Rattle.fragtree.specs.FragTree.{CanMerge, HasLeaf, IsChild, IsMerge, IsPick, IsSplit, IsTree, RefusesMerge, RefusesSplit, lies_inside};
+ghost use Rattle.fragtree.specs.FragTree.{CanMerge, HasLeaf, IsAscendingCover, IsChild, IsMerge, IsPick, IsSplit, IsTree, RefusesMerge, RefusesSplit, lies_inside};
 ghost use Rattle.mds_types.specs.declared.refusals.Refusal.{Refusal};
+
+/// The leaves of a tree are exactly the fragments by strictly ascending value that cover the hashes.
+pub fn tree_is_ascending_cover()
+    ensures { (leaves : List Fragment) → IsTree leaves ↔ IsAscendingCover leaves }
+{}
 
 /// The leaves of a tree cover the hashes: each lies in exactly one of them.
 pub fn tree_covers()
