@@ -14,18 +14,17 @@ struct inode {
 
 enum { FRONT = 31, FILE_KIND = 1, DIR_KIND = 2, LINK_KIND = 3 };
 
+/* numbers in the machine's own order, which is that of the records */
 static uint64_t get(const unsigned char *p, int n)
 {
     uint64_t x = 0;
-    while (n-- > 0)
-        x = x << 8 | p[n];
+    memcpy(&x, p, n);
     return x;
 }
 
 static void put(unsigned char *p, int n, uint64_t x)
 {
-    for (int i = 0; i < n; i++, x >>= 8)
-        p[i] = (unsigned char)x;
+    memcpy(p, &x, n);
 }
 
 /* 1: read; 0: no record; -1: no memory */

@@ -12,7 +12,7 @@ const LETTER: u8 = b'F';
 
 const VERSION: u8 = 1;
 
-/// How many bytes a header has.
+// How many bytes a header has.
 const LEN: usize = 26;
 
 /// What a fragment's object says of the fragment as a whole.

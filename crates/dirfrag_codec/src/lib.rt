@@ -5,11 +5,13 @@
 mod fields;
 mod headers;
 pub mod laws;
+mod recordable;
 mod records;
 #[cfg(test)]
 mod tests;
 mod trees;
 
 pub use headers::{FragHeader, decode_header, encode_header};
+pub use recordable::is_recordable;
 pub use records::{decode_entry, encode_entry};
 pub use trees::{decode_tree, encode_tree};

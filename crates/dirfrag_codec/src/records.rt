@@ -1,11 +1,11 @@
 //! The record of a directory entry.
-ghost use Rattle.std.specs.Prelude.{◌≡◌, ◌↔◌, ◌≤◌, IfOk, IsTrue, length};
-ghost use Rattle.mds_types.specs.Tree.{HasSize};
-ghost use Rattle.dirfrag_codec.specs.EntryRecord.{IsRankNumber, IsRecordable, SpellsEntry, kind_byte, target_of};
+ghost use Rattle.std.specs.Prelude.{◌≡◌, ◌≤◌, IfOk, length};
+ghost use Rattle.dirfrag_codec.specs.EntryRecord.{IsRecordable, SpellsEntry, kind_byte, target_of};
 ghost use Rattle.dirfrag_codec.specs.Grammar.{Decodes};
 ghost use Rattle.dirfrag_codec.specs.Reading.{Gives, IsInodeOf, IsKindOf, RecordFields, fields_at};
 
 use crate::fields::{after_tag, put_u16, put_u64, u8_at, u16_at, u64_at};
+use crate::recordable::is_recordable;
 use mds_types::{Ino, Inode, Kind, Mode, Target, TargetFault};
 use std::alloc::{AllocError, Global};
 
@@ -23,11 +23,6 @@ const FILE: u8 = 1;
 const DIR: u8 = 2;
 
 const SYMLINK: u8 = 3;
-
-// The numbers that ranks hand out: from the first on, and below the last.
-const LEAST_NUMBER: u64 = 1 << 40;
-
-const END_OF_NUMBERS: u64 = 17 << 40;
 
 /// The bytes of an inode's record. Takes memory for them.
 pub fn encode_entry(alloc: Global, inode: &Inode) -> Result<Vec<u8>, AllocError>
@@ -102,16 +97,17 @@ fn inode_of(alloc: Global, fields: Fields<'_>) -> Result<Option<Inode>, AllocErr
     let Some(kind) = kind_of(alloc, fields.kind, fields.target)? else {
         return Ok(None);
     };
-    if !is_rank_number(fields.ino) || !has_size(&kind, fields.size) {
-        return Ok(None);
-    }
-    Ok(Some(Inode {
+    let inode = Inode {
         ino: Ino(fields.ino),
         kind,
         mode,
         size: fields.size,
         mtime: fields.mtime,
-    }))
+    };
+    if !is_recordable(&inode) {
+        return Ok(None);
+    }
+    Ok(Some(inode))
 }
 
 // The kind of this byte with this target.
@@ -132,24 +128,6 @@ fn kind_of(alloc: Global, byte: u8, target: &[u8]) -> Result<Option<Kind>, Alloc
         FILE => Ok(Some(Kind::File)),
         DIR => Ok(Some(Kind::Dir)),
         _ => Ok(None),
-    }
-}
-
-// Whether this is a number that a rank hands out.
-fn is_rank_number(number: u64) -> bool
-    ensures { IsTrue result ↔ IsRankNumber number }
-{
-    LEAST_NUMBER <= number && number < END_OF_NUMBERS
-}
-
-// Whether this is a size that the kind prescribes.
-fn has_size(kind: &Kind, size: u64) -> bool
-    ensures { IsTrue result ↔ HasSize kind.now size }
-{
-    match kind {
-        Kind::File => true,
-        Kind::Dir => size == 0,
-        Kind::Symlink(target) => size == target.as_bytes().len() as u64,
     }
 }
 

@@ -4,6 +4,7 @@ ghost use Rattle.std.specs.Prelude.{◌≤◌};
 
 use crate::{
     FragHeader, decode_entry, decode_header, decode_tree, encode_entry, encode_header, encode_tree,
+    is_recordable,
 };
 use fragtree::FragTree;
 use mds_types::{Frag, Ino, Inode, Kind, Mode, Target};
@@ -235,6 +236,31 @@ fn records_are_those_of_their_inodes(rt: HostRuntime) -> Result<(), Fail> {
         mtime: 0,
     };
     assert_eq!(rt; is_record_of(rt.alloc(), &file, &FILE), Ok(true));
+    Ok(())
+}
+
+#[test]
+fn a_record_allows_numbers_of_ranks_and_directories_of_size_0(rt: HostRuntime) -> Result<(), Fail> {
+    let mode = Mode::new(0o755).ok_or("no mode")?;
+    // a directory's number and size, and whether a record allows it
+    let rows = [
+        (0x1, 0, false),
+        (0xff_ffff_ffff, 0, false),
+        (0x100_0000_0000, 0, true),
+        (0x100_0000_0000, 1, false),
+        (0x10ff_ffff_ffff, 0, true),
+        (0x1100_0000_0000, 0, false),
+    ];
+    for (number, size, is_allowed) in rows {
+        let dir = Inode {
+            ino: Ino(number),
+            kind: Kind::Dir,
+            mode,
+            size,
+            mtime: 0,
+        };
+        assert_eq!(rt; is_recordable(&dir), is_allowed);
+    }
     Ok(())
 }
 
