@@ -19,7 +19,7 @@ pub record IsTree (leaves : List Fragment) : Type 0 where
 abbrev pub HasLeaf : List Fragment → Fragment → Type 0
 HasLeaf leaves f = list.Contains leaves f
 
--- the same in the words of covers: fragments by strictly ascending value, which cover each 24-bit hash once, at most 4096
+-- the leaves of a directory in the words of covers: fragments by strictly ascending value, which cover each 24-bit hash once, at most 4096
 pub record IsAscendingCover (leaves : List Fragment) : Type 0 where
   pub fragments : (leaf : Fragment) → HasLeaf leaves leaf → IsFragment leaf
   pub ascending : (i j : ℕ) → i < j → j < length leaves → (slice_index_or leaves i root_fragment).value < (slice_index_or leaves j root_fragment).value
