@@ -17,12 +17,13 @@ use mds_types::{Ino, Inode, Listing, Name, Op, PageSize, Place, Refusal};
 use sorted_map::{Iter, Probe, SortedMap};
 use std::alloc::{AllocError, Global};
 use std::cmp::Ordering;
+use std::fmt;
 use std::marker::Model;
 
 /// All entries in one ordered map, and beside it the directory table.
 ///
 /// Of every value it holds that the tree is well formed and the table is that of the tree.
-#[derive(Debug, Drop)]
+#[derive(Drop)]
 pub struct PlainFrags {
     entries: SortedMap<Place, Inode>,
     dirs: Dirs,
@@ -57,6 +58,14 @@ impl PlainFrags {
             dirs: Dirs::new(alloc),
             spare: None,
         }
+    }
+}
+
+impl fmt::Debug for PlainFrags {
+    /// The entries and the table. The name that is set aside is room, and no part of them.
+    fn fmt<W: fmt::Write>(&self, f: &mut fmt::Formatter<W>) -> fmt::Result {
+        let PlainFrags { entries, dirs, .. } = self;
+        write!(f, "PlainFrags({entries:?}, {dirs:?})")
     }
 }
 
