@@ -1,5 +1,5 @@
 -- The directory table stays that of the tree where an entry moves.
-use Rattle.std.proofs.Common.{◌≡◌, ℕ, true, false, is_some, Option, Some, None, ◌⊎◌, inl, inr, ⊎_elim, refl, sym, ap, ◌∙◌, subst}
+use Rattle.std.proofs.Common.{◌≡◌, ℕ, true, false, is_some, Option, Some, None, ◌⊎◌, inl, inr, ⊎_elim, refl, sym, ap, ◌∙◌}
 use Rattle.std.specs.FinMap as map
 use Rattle.mds_types.specs.declared.places.Place.{Place}
 use Rattle.mds_types.specs.declared.inodes.Inode.{Inode}
@@ -10,7 +10,7 @@ use Rattle.mds_types.specs.EntryLaws.{get_left}
 use Rattle.mds_types.specs.DirectoryLaws.{one_place}
 use Rattle.inode_table.specs.declared.homes.Home.{Home}
 use Rattle.inode_table.specs.Dirs.{Homes, MayMove, IsChildless}
-use Rattle.namespace_ops.specs.PlainFrags.{HoldsHomes, IsTabled, home_at, with_home, without_home}
+use Rattle.namespace_ops.specs.PlainFrags.{IsTabled, home_at, with_home, without_home}
 use Rattle.namespace_ops.proofs.Tabled.{home_of, known_is, above_in_tree, childless, home_put, home_beside, home_left, put_home, left_home, dir_or_not, with_dir, with_file, without_dir, without_file, place_at}
 
 -- what a table answers once an inode has a home there

@@ -1,5 +1,5 @@
 -- The directory table beside the tree: what it knows, and that it stays that of the tree.
-use Rattle.std.proofs.Common.{◌≡◌, ◌==◌, ◌||◌, ◌&&◌, ◌↔◌, ℕ, Bool, true, false, cond, not, is_some, IsTrue, Option, Some, None, ◌⊎◌, inl, inr, ⊎_elim, refl, sym, ap, subst, ◌∙◌, arith}
+use Rattle.std.proofs.Common.{◌≡◌, ◌==◌, ◌||◌, ◌&&◌, ◌↔◌, ℕ, Bool, true, false, cond, is_some, IsTrue, Option, Some, None, ◌⊎◌, inl, inr, ⊎_elim, refl, sym, ap, subst, ◌∙◌, arith}
 use Rattle.std.specs.FinMap as map
 use Rattle.std.specs.FinMap.{get-empty, get-insert, get-remove}
 use Rattle.std.specs.Ordering.{nat_cmp}
@@ -9,16 +9,15 @@ use Rattle.std.proofs.lemmas.Bool.Decides.{nat_tests}
 use Rattle.mds_types.specs.declared.places.Place.{Place}
 use Rattle.mds_types.specs.declared.inodes.Inode.{Inode}
 use Rattle.mds_types.specs.Tree.{Tree, place_cmp, place_of, at, is_directory, is_dir_kind, is_above, has_entries, IsAbove as IsAboveIn, child, further as further_down, IsWellFormed}
-use Rattle.mds_types.specs.Step.{with_moved, with_attributes}
+use Rattle.mds_types.specs.Step.{with_attributes}
 use Rattle.mds_types.specs.AboveLaws.{above_exact}
 use Rattle.mds_types.specs.AttributeLaws.{well-formed-changed}
 use Rattle.mds_types.specs.RemovedLaws.{well-formed-removed}
-use Rattle.mds_types.specs.MovedLaws.{IsMove, MayMove as MayMoveIn, may_move, well-formed-moved, stands_moved, still_moved, arrived}
-use Rattle.mds_types.specs.WellFormedLaws.{IsUnused, well-formed-grown, sized_still}
+use Rattle.mds_types.specs.WellFormedLaws.{well-formed-grown, sized_still}
 use Rattle.mds_types.specs.EntryLaws.{get_put, get_beside, get_left, stands_after_put, stands_after_removal, same_or_apart}
 use Rattle.mds_types.specs.DirectoryLaws.{StandsAs, directory_stands, root_stands, entry_stands, one_place, NothingIn, nothing_in_empty, nothing_in_file}
 use Rattle.inode_table.specs.declared.homes.Home.{Home}
-use Rattle.inode_table.specs.Dirs.{Homes, is_known, IsAbove, parent, further, MayCome, MayMove, IsChildless}
+use Rattle.inode_table.specs.Dirs.{Homes, is_known, IsAbove, parent, further, MayCome, IsChildless}
 use Rattle.namespace_ops.specs.Changes.{MayAdd, MaySet, MayRemove}
 use Rattle.namespace_ops.specs.PlainFrags.{HoldsHomes, IsTabled, home_at, with_home, without_home}
 

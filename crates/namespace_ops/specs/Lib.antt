@@ -1,5 +1,6 @@
 pub use Rattle.mds_types.specs.Tree
 pub use Rattle.mds_types.specs.Step
+pub mod ChangedFragments
 pub mod Changes
 pub mod Laws
 pub mod PlainFrags

@@ -55,8 +55,8 @@ pub fn set_attributes<F: Frags>(
     })
 }
 
-// The errno for a size that is given to what is no file.
-fn size_errno(kind: &Kind, size: Option<u64>) -> Option<u16>
+/// The errno for a size that is given to what is no file.
+pub fn size_errno(kind: &Kind, size: Option<u64>) -> Option<u16>
     ensures { result ≡ errno_of_size kind.now size }
 {
     if size.is_none() {

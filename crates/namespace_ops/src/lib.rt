@@ -3,6 +3,7 @@
 #![tactic(auto)]
 
 mod altering;
+mod changing;
 mod frags;
 mod laws;
 mod listing;
@@ -16,6 +17,7 @@ mod removing;
 mod renaming;
 mod serving;
 
+pub use changing::changes;
 pub use frags::Frags;
 pub use laws::{
     above_is_a_chain, errno_leaves_tree, making_takes_number, names_are_listed, numbers_stay,

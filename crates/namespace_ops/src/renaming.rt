@@ -37,14 +37,14 @@ pub fn rename<F: Frags>(
     let Some(inode) = frags.look(source.0, source.1)? else {
         return Ok(only_answer(Reply::Errno(ENOENT)))
     };
-    let from = place(source.0, source.1)?;
-    let to = place(target.0, target.1)?;
-    if from.cmp(&to).is_eq() {
+    if is_same_place(source, target) {
         return Ok(only_answer(Reply::Done));
     }
-    if leads_to(frags, &inode, to.dir) {
+    if leads_to(frags, &inode, target.0) {
         return Ok(only_answer(Reply::Errno(EINVAL)));
     }
+    let from = place(source.0, source.1)?;
+    let to = place(target.0, target.1)?;
     move_onto(frags, op, &inode, from, to)
 }
 
@@ -89,16 +89,23 @@ fn place(dir: Ino, name: &Name) -> Result<Place, Refusal>
     })
 }
 
-// Whether the inode is a directory that is `dir` or above it.
-fn leads_to<F: Frags>(frags: &F, inode: &Inode, dir: Ino) -> bool
+/// Whether two places, given by directory and name, are one.
+pub fn is_same_place(source: (Ino, &Name), target: (Ino, &Name)) -> bool
+    ensures { result ≡ eq_by_cmp place_cmp (place_of source.entry.0.0 source.entry.1.now) (place_of target.entry.0.0 target.entry.1.now) }
+{
+    source.0.cmp(&target.0).then(source.1.cmp(target.1)).is_eq()
+}
+
+/// Whether the inode is a directory that is `dir` or above it.
+pub fn leads_to<F: Frags>(frags: &F, inode: &Inode, dir: Ino) -> bool
     requires { is_directory (F.content frags.now) dir.0 ≡ true }
     ensures { result ≡ leads_below (F.content frags.now) inode.now dir.0 }
 {
     inode.kind.is_dir() && (inode.ino == dir || frags.is_above(inode.ino, dir))
 }
 
-// The errno for what stands at the target, if the inode may not replace it.
-fn replace_errno<F: Frags>(
+/// The errno for what stands at the target, if the inode may not replace it.
+pub fn replace_errno<F: Frags>(
     frags: &mut F,
     inode: &Inode,
     replaced: Option<&Inode>,

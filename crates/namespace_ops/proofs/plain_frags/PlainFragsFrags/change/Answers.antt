@@ -4,8 +4,8 @@ use Rattle.namespace_ops.proofs.plain_frags.PlainFragsFrags.change.Goals as goal
 pub invariant_of-self : goal.invariant_of-self
 invariant_of-self c =
     elim c.match-change.branch [
-      in-Add w ↦ rw w.self-inside-is w.add_entry.ensures.tabled |
-      in-Set w ↦ rw w.self-inside-is w.set_entry.ensures.tabled |
-      in-Remove w ↦ rw w.self-inside-is w.remove_entry.ensures.tabled |
-      in-Move w ↦ rw w.self-inside-is w.move_entry.ensures.tabled
+      | in-Add w ↦ rw w.self-inside-is w.add_entry.ensures.tabled
+      | in-Set w ↦ rw w.self-inside-is w.set_entry.ensures.tabled
+      | in-Remove w ↦ rw w.self-inside-is w.remove_entry.ensures.tabled
+      | in-Move w ↦ rw w.self-inside-is w.move_entry.ensures.tabled
     ]
