@@ -2,3 +2,4 @@ pub mod Rows
 pub mod Tabled
 pub mod Moves
 pub mod PlanParts
+pub mod Unused

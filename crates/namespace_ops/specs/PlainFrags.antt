@@ -1,5 +1,5 @@
 -- What contracts see of the plain fragments.
-use Rattle.std.specs.Prelude.{◌≡◌, ℕ, ◌<◌, true, cond, List, Option, Some, None}
+use Rattle.std.specs.Prelude.{◌≡◌, ℕ, ◌<◌, Bool, true, cond, ◌==◌, List, Option, Some, None}
 use Rattle.std.specs.FinMap as map
 use Rattle.mds_types.specs.declared.places.Place.{Place}
 use Rattle.mds_types.specs.declared.inodes.Inode.{Inode}
@@ -17,6 +17,10 @@ pub record Kept : Type 0 where
   pub entries_left : ℕ
   pub dirs_left : ℕ
   pub spare : Option (List ℕ)
+
+-- an entry's inode has this number
+abbrev pub is_numbered : ℕ → Place × Inode → Bool
+is_numbered n entry = entry.1.ino.0 == n
 
 -- where a directory with its entry at this place stands
 abbrev pub home_at : Place → Home

@@ -1,12 +1,14 @@
 //! Fragments kept in the plainest way: one ordered map of all entries.
-ghost use Rattle.std.specs.Prelude.{◌≡◌, ◌<◌, [], take, length, nat_lt, not, true, false, is_some, Some, IfOk};
+ghost use Rattle.std.specs.Prelude.{◌≡◌, ◌<◌, [], take, length, nat_lt, not, true, false, is_some, Some, IfOk, ◌↔◌};
+ghost use Rattle.std.specs.List.{list_any};
 ghost use Rattle.std.specs.Option.{option_copied};
 ghost use Rattle.std.specs.FinMap as map;
 ghost use Rattle.sorted_map.specs.SortedMap.{contents};
 ghost use Rattle.mds_types.specs.Tree.{place_cmp, at, has_entries};
 ghost use Rattle.mds_types.specs.Step.{names_after};
 ghost use Rattle.namespace_ops.specs.Run.{run};
-ghost use Rattle.namespace_ops.specs.PlainFrags.{Kept};
+ghost use Rattle.mds_types.specs.WellFormedLaws.{IsUnused};
+ghost use Rattle.namespace_ops.specs.PlainFrags.{Kept, is_numbered};
 
 use crate::frags::Frags;
 use crate::listing::{first_rows, next_in};
@@ -59,6 +61,25 @@ impl PlainFrags {
             spare: None,
         }
     }
+
+    /// Whether a number can be offered for a new inode: it is not the root's, and no entry has it. Looks at each entry.
+    pub fn is_unused(&self, number: Ino) -> bool
+        ensures { (result ≡ true) ↔ IsUnused self.now.tree number.0 }
+    {
+        number != Ino::ROOT && none_numbered(self.entries.iter(), number)
+    }
+}
+
+// Whether no row has an inode of this number.
+fn none_numbered(mut rows: Iter<'_, Place, Inode>, number: Ino) -> bool
+    ensures { result ≡ not (list_any (is_numbered number.0) rows.entry) }
+{
+    while let Some(row) = rows.next() {
+        if row.1.ino == number {
+            return false;
+        }
+    }
+    true
 }
 
 impl fmt::Debug for PlainFrags {
