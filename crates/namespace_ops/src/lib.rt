@@ -16,6 +16,8 @@ mod reading;
 mod removing;
 mod renaming;
 mod serving;
+#[cfg(test)]
+mod tests;
 
 pub use changing::changes;
 pub use frags::Frags;
