@@ -2,6 +2,7 @@
 //! of operations, each beside the fragments that it would change and what it comes to.
 
 mod asked;
+mod faulty_frags;
 mod renames;
 mod slow_table;
 
