@@ -131,8 +131,9 @@ climbs_below tree d _ whole (further m name inode above stands) = let up = climb
 -- in a well-formed tree the test is exact
 pub above_exact : (tree : Tree) (d x : ℕ) → IsWellFormed tree → (is_above tree d x ≡ true) ↔ IsAbove tree d x
 unfolding is_above
-above_exact tree d x whole =
-    (above_found (map.len tree) tree d x,
-    λ above.
-    let up = climbs_below tree d x whole above in
-    found_above tree d x (numbered tree whole) above up.0 (map.len tree) up.1 (within_tree up.0 tree x (numbered tree whole) up.1))
+above_exact tree d x whole = (
+  above_found (map.len tree) tree d x,
+  λ above.
+      let up = climbs_below tree d x whole above in
+      found_above tree d x (numbered tree whole) above up.0 (map.len tree) up.1 (within_tree up.0 tree x (numbered tree whole) up.1),
+)
