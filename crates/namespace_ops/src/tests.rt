@@ -244,6 +244,32 @@ fn files_and_listings_are_those_of_the_table(rt: HostRuntime) {
     assert_eq!(rt; wrong(rt.alloc(), &LISTINGS), None);
 }
 
+// Fragments with a file for each name of one byte, in the order of the bytes.
+fn with_all_bytes(alloc: Global) -> PlainFrags {
+    let mut frags = PlainFrags::new(alloc);
+    let mut number = FIRST;
+    for byte in 1..=255u8 {
+        if byte != b'/' && byte != b'.' {
+            let _ = served(alloc, &mut frags, Asked::File(ROOT, byte), number);
+            number = number.saturating_add(1);
+        }
+    }
+    frags
+}
+
+// 253 names. `.` and `/` are none, so behind `-`, the 45th, comes `0`.
+#[test]
+fn names_of_all_bytes_are_listed(rt: HostRuntime) {
+    let alloc = rt.alloc();
+    let mut frags = with_all_bytes(alloc);
+    let all = served(alloc, &mut frags, Asked::List(ROOT), 0);
+    assert_eq!(rt; all, Came::Names(253, false, FIRST, FIRST + 252));
+    let next = served(alloc, &mut frags, Asked::Page(ROOT, b'-', 1), 0);
+    assert_eq!(rt; next, Came::Names(1, true, FIRST + 45, FIRST + 45));
+    let last = served(alloc, &mut frags, Asked::Page(ROOT, 254, 2), 0);
+    assert_eq!(rt; last, Came::Names(1, false, FIRST + 252, FIRST + 252));
+}
+
 #[test]
 fn without_a_number_nothing_is_made(rt: HostRuntime) {
     let alloc = rt.alloc();
