@@ -1,42 +1,17 @@
 -- Chains of parents in a directory table, and what a change of the table leaves of them.
-use Rattle.std.proofs.Common.{◌≡◌, ◌==◌, ◌||◌, ◌-◌, ◌<◌, ◌≤◌, ◌↔◌, ℕ, zero, suc, Bool, true, false, cond, is_some, Option, Some, None, ◌⊎◌, inl, inr, refl, sym, ap, subst, ◌∙◌, arith}
+use Rattle.std.proofs.Common.{◌≡◌, ◌==◌, ◌||◌, ◌-◌, ◌<◌, ◌≤◌, ◌↔◌, ℕ, zero, suc, true, false, cond, is_some, Option, Some, None, ◌⊎◌, inl, inr, refl, sym, ap, subst, ◌∙◌, arith}
 use Rattle.std.specs.Ordering.{nat_cmp}
-use Rattle.std.specs.Cmp.{nat_cmp_total, unsigned_tied}
+use Rattle.std.specs.Cmp.{nat_cmp_total}
 use Rattle.std.specs.FinMap as map
-use Rattle.std.specs.FinMap.{get-empty, get-insert, get-remove, len-remove, empty_of_len}
+use Rattle.std.specs.FinMap.{get-empty, len-remove, empty_of_len}
 use Rattle.std.proofs.lemmas.Bool.Decides.{nat_tests}
+use Rattle.sorted_map.specs.NatKeys.{is_same, is_apart, same_or_apart, get_put, get_beside, get_removed, get_left}
 use Rattle.inode_table.specs.declared.homes.Home.{Home}
 use Rattle.inode_table.specs.Dirs.{Homes, IsAbove, parent, further, Reaches, IsRooted, MayCome, MayMove, IsChildless, is_known}
-
-is_same : (a b : ℕ) → a ≡ b → (a == b) ≡ true
-is_same a b same = grind (arith, nat_tests)
-
-is_apart : (a b : ℕ) → (a ≡ b → ⊥) → (a == b) ≡ false
-is_apart a b apart = grind (arith, nat_tests)
-
-pub same_or_apart : (a b : ℕ) → (a ≡ b) ⊎ (a ≡ b → ⊥)
-same_or_apart a b = go (a == b) refl
-  where
-    go : (t : Bool) → (a == b) ≡ t → (a ≡ b) ⊎ (a ≡ b → ⊥)
-    go true is = inl (grind (arith, nat_tests))
-    go false is = inr (λ same. let t : true ≡ false = sym (is_same a b same) ∙ is in cc)
 
 none_there : (o : Option Home) → o ≡ None → is_some o ≡ true → ⊥
 none_there None is some = cc
 none_there (Some home) is some = cc
-
--- what a table answers after a change
-get_put : (homes : Homes) (d : ℕ) (home : Home) → map.get (map.insert homes d home) d ≡ Some home
-get_put homes d home = get-insert nat_cmp_total homes d home d ∙ ap (λ b. cond b (Some home) (map.get homes d)) (unsigned_tied d d ∙ is_same d d refl)
-
-get_beside : (homes : Homes) (d : ℕ) (home : Home) (x : ℕ) → (x ≡ d → ⊥) → map.get (map.insert homes d home) x ≡ map.get homes x
-get_beside homes d home x apart = get-insert nat_cmp_total homes d home x ∙ ap (λ b. cond b (Some home) (map.get homes x)) (unsigned_tied x d ∙ is_apart x d apart)
-
-get_removed : (homes : Homes) (d : ℕ) → map.get (map.remove homes d) d ≡ None
-get_removed homes d = get-remove nat_cmp_total homes d d ∙ ap (λ b. cond b None (map.get homes d)) (unsigned_tied d d ∙ is_same d d refl)
-
-get_left : (homes : Homes) (d x : ℕ) → (x ≡ d → ⊥) → map.get (map.remove homes d) x ≡ map.get homes x
-get_left homes d x apart = get-remove nat_cmp_total homes d x ∙ ap (λ b. cond b None (map.get homes x)) (unsigned_tied x d ∙ is_apart x d apart)
 
 -- a chain whose directories keep their homes stays
 kept_chain : (old new : Homes) (Good : ℕ → Type 0) → ((x : ℕ) → Good x → map.get new x ≡ map.get old x) → ((x : ℕ) (home : Home) → Good x → map.get old x ≡ Some home → Good home.parent.0)

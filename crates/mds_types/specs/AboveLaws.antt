@@ -3,7 +3,6 @@
 use Rattle.std.specs.Prelude.{◌≡◌, ℕ, zero, suc, ◌<◌, ◌≤◌, ◌-◌, ◌↔◌, Bool, true, false, cond, ◌||◌, ◌&&◌, ◌==◌, is_some, Option, Some, None, refl}
 use Rattle.std.proofs.Common.{sym, ap, subst, ◌∙◌, ⊎_elim, arith}
 use Rattle.std.proofs.lemmas.Bool.{eqb-true}
-use Rattle.std.proofs.lemmas.Bool.Decides.{nat_tests}
 use Rattle.std.specs.FinMap as map
 use Rattle.std.specs.FinMap.{get-empty, get-entries, len-remove, empty_of_len}
 use Rattle.mds_types.specs.declared.places.Place.{Place}
@@ -13,7 +12,8 @@ use Rattle.mds_types.specs.PlaceLaws.{place-total}
 use Rattle.mds_types.specs.DirectoryLaws.{one_place}
 use Rattle.mds_types.specs.EntryLaws.{get_left, stands_after_removal, any_of}
 use Rattle.mds_types.specs.EntrySearch.{any_found}
-use Rattle.sorted_map.specs.Bools.{first_true, second_true}
+use Rattle.sorted_map.specs.Bools.{first_true, second_true, both_true, or_first, or_second}
+use Rattle.sorted_map.specs.NatKeys.{is_same}
 
 -- so many entries lead from the root to the inode of a number
 abbrev pub Climbs : Tree → ℕ → ℕ → Type 0
@@ -95,33 +95,18 @@ above_found (suc n) tree d x holds =
     go p i stands true is b below some = child p.name i (ap (λ m. at tree m p.name) (sym (eqb-true p.dir.0 d is)) ∙ stands)
     go p i stands false is b below some = further p.dir.0 p.name i (below some) stands
 
-both_true : (a b : Bool) → a ≡ true → b ≡ true → (a && b) ≡ true
-both_true true b p q = q
-both_true false b p q = cc
-
-left_true : (a b : Bool) → a ≡ true → (a || b) ≡ true
-left_true true b p = refl
-left_true false b p = cc
-
-right_true : (a b : Bool) → b ≡ true → (a || b) ≡ true
-right_true true b p = refl
-right_true false b p = p
-
-itself : (n : ℕ) → (n == n) ≡ true
-itself n = grind (arith, nat_tests)
-
 -- a chain is found by a test that goes as far as the chain from the root
 found_above : (tree : Tree) (d x : ℕ) → IsNumbered tree → IsAbove tree d x → (n k : ℕ) → Climbs tree n x → n ≤ k → is_above_within k tree d x ≡ true
 found_above tree d _ numbers (child name inode stands) zero k root few = absurd (numbers.rootless (place_of d name) inode stands root)
 found_above tree d _ numbers (child name inode stands) (suc n) zero climbs few = absurd (omega arith)
 found_above tree d _ numbers (child name inode stands) (suc n) (suc k) climbs few =
-    any_of tree _ (place_of d name) inode stands (both_true _ _ (itself inode.ino.0) (left_true _ _ (itself d)))
+    any_of tree _ (place_of d name) inode stands (both_true _ _ (is_same inode.ino.0 inode.ino.0 refl) (or_first _ _ (is_same d d refl)))
 found_above tree d _ numbers (further m name inode above stands) zero k root few = absurd (numbers.rootless (place_of m name) inode stands root)
 found_above tree d _ numbers (further m name inode above stands) (suc n) zero climbs few = absurd (omega arith)
 found_above tree d _ numbers (further m name inode above stands) (suc n) (suc k) (p, i, stood, is, rest) few =
     let alike : p ≡ place_of m name = numbers.once p (place_of m name) i inode stood stands is in
     let shorter : Climbs tree n m = subst (λ (q : Place). Climbs tree n q.dir.0) alike rest in
-    any_of tree _ (place_of m name) inode stands (both_true _ _ (itself inode.ino.0) (right_true _ _ (found_above tree d m numbers above n k shorter (omega arith))))
+    any_of tree _ (place_of m name) inode stands (both_true _ _ (is_same inode.ino.0 inode.ino.0 refl) (or_second _ _ (found_above tree d m numbers above n k shorter (omega arith))))
 
 -- whatever is above something has an entry below it: the chain to that has a length
 climbs_below : (tree : Tree) (d x : ℕ) → IsWellFormed tree → IsAbove tree d x → (n : ℕ) × Climbs tree n x

@@ -1,9 +1,8 @@
 -- Directories of the plain tree: which numbers they are, what is in them, and that they reach the root.
-use Rattle.std.specs.Prelude.{◌≡◌, ℕ, Bool, true, false, ◌||◌, ◌&&◌, ◌==◌, ◌⊎◌, Some, refl}
+use Rattle.std.specs.Prelude.{◌≡◌, ℕ, true, false, ◌==◌, ◌⊎◌, Some, refl}
 use Rattle.std.specs.List.{list_any}
-use Rattle.std.proofs.Common.{sym, ap, subst, ◌∙◌, ⊎_elim, inl, inr, arith}
+use Rattle.std.proofs.Common.{sym, ap, subst, ◌∙◌, ⊎_elim, inl, inr}
 use Rattle.std.proofs.lemmas.Bool.{eqb-true}
-use Rattle.std.proofs.lemmas.Bool.Decides.{nat_tests}
 use Rattle.std.specs.FinMap as map
 use Rattle.std.specs.FinMap.{get-entries}
 use Rattle.mds_types.specs.declared.places.Place.{Place}
@@ -12,22 +11,8 @@ use Rattle.mds_types.specs.Tree.{Tree, at, is_directory, is_entry_of_directory, 
 use Rattle.mds_types.specs.PlaceLaws.{place-total}
 use Rattle.mds_types.specs.EntryLaws.{any_of}
 use Rattle.mds_types.specs.EntrySearch.{any_found}
-use Rattle.sorted_map.specs.Bools.{first_true, second_true}
-
-or_cases : (a b : Bool) → (a || b) ≡ true → (a ≡ true) ⊎ (b ≡ true)
-or_cases true b h = inl refl
-or_cases false b h = inr h
-
-or_right : (a b : Bool) → b ≡ true → (a || b) ≡ true
-or_right true b h = refl
-or_right false b h = h
-
-both_true : (a b : Bool) → a ≡ true → b ≡ true → (a && b) ≡ true
-both_true true b p q = q
-both_true false b p q = p
-
-itself : (n : ℕ) → (n == n) ≡ true
-itself n = grind (arith, nat_tests)
+use Rattle.sorted_map.specs.Bools.{first_true, second_true, both_true, or_cases, or_second}
+use Rattle.sorted_map.specs.NatKeys.{is_same}
 
 -- no number stands at two places
 pub one_place : (tree : Tree) → IsWellFormed tree → (p q : Place) (i j : Inode) → map.get tree p ≡ Some i → map.get tree q ≡ Some j → i.ino.0 ≡ j.ino.0 → p ≡ q
@@ -68,12 +53,12 @@ root_stands tree = refl
 pub entry_stands : (tree : Tree) (place : Place) (inode : Inode) → map.get tree place ≡ Some inode → is_dir_kind inode.kind ≡ true → is_directory tree inode.ino.0 ≡ true
 unfolding is_directory
 entry_stands tree place inode stands kinded =
-    or_right (inode.ino.0 == 1) _ (any_of tree (is_entry_of_directory inode.ino.0) place inode stands (both_true _ _ kinded (itself inode.ino.0)))
+    or_second (inode.ino.0 == 1) _ (any_of tree (is_entry_of_directory inode.ino.0) place inode stands (both_true _ _ kinded (is_same inode.ino.0 inode.ino.0 refl)))
 
 -- a directory with an entry has entries
 pub entries_there : (tree : Tree) (place : Place) (inode : Inode) → map.get tree place ≡ Some inode → has_entries tree place.dir.0 ≡ true
 unfolding has_entries
-entries_there tree place inode stands = any_of tree (λ e. e.0.dir.0 == place.dir.0) place inode stands (itself place.dir.0)
+entries_there tree place inode stands = any_of tree (λ e. e.0.dir.0 == place.dir.0) place inode stands (is_same place.dir.0 place.dir.0 refl)
 
 -- no entry is in what has this number
 abbrev pub NothingIn : Tree → ℕ → Type 0

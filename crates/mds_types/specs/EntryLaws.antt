@@ -12,6 +12,7 @@ use Rattle.mds_types.specs.declared.places.Place.{Place}
 use Rattle.mds_types.specs.declared.inodes.Inode.{Inode}
 use Rattle.mds_types.specs.Tree.{Tree, place_cmp}
 use Rattle.mds_types.specs.PlaceLaws.{place-total, place-exact}
+use Rattle.sorted_map.specs.Bools.{or_first, or_second}
 
 tie : (r : Ordering) → is_eq r ≡ true → r ≡ Equal
 tie Less h = cc
@@ -73,14 +74,6 @@ stands_after_removal tree p q inode stands = go (same_or_apart q p)
     go (inl same) = let clash : None ≡ Some inode = sym (get_removed tree p) ∙ ap (λ r. map.get (map.remove tree p) r) (sym same) ∙ stands in cc
     go (inr apart) = (apart, sym (get_left tree p q apart) ∙ stands)
 
-or_true : (a b : Bool) → b ≡ true → (a || b) ≡ true
-or_true true b h = refl
-or_true false b h = h
-
-either_true : (a b : Bool) → a ≡ true → (a || b) ≡ true
-either_true true b h = refl
-either_true false b h = cc
-
 any_of_pairs : (p : Place × Inode → Bool) (es : List (Place × Inode)) (k : Place) (v : Inode) → find place_cmp k es ≡ Some v → p (k, v) ≡ true → list_any p es ≡ true
 any_of_pairs p [] k v found holds = cc
 any_of_pairs p (e ∷ es) k v found holds = go (eq_by_cmp place_cmp k e.0) refl (λ rest. any_of_pairs p es k v rest holds)
@@ -89,8 +82,8 @@ any_of_pairs p (e ∷ es) k v found holds = go (eq_by_cmp place_cmp k e.0) refl 
     go true tied more =
         let value : Some e.1 ≡ Some v = sym (ap (λ b. cond b (Some e.1) (find place_cmp k es)) tied) ∙ found in
         let is : v ≡ e.1 = cc in
-        either_true (p e) (list_any p es) (ap (λ (q : Place). p (q, e.1)) (sym (place_tied k e.0 tied)) ∙ ap (λ (i : Inode). p (k, i)) (sym is) ∙ holds)
-    go false apart more = or_true (p e) (list_any p es) (more (sym (ap (λ b. cond b (Some e.1) (find place_cmp k es)) apart) ∙ found))
+        or_first (p e) (list_any p es) (ap (λ (q : Place). p (q, e.1)) (sym (place_tied k e.0 tied)) ∙ ap (λ (i : Inode). p (k, i)) (sym is) ∙ holds)
+    go false apart more = or_second (p e) (list_any p es) (more (sym (ap (λ b. cond b (Some e.1) (find place_cmp k es)) apart) ∙ found))
 
 -- a test that an entry passes is passed by some entry
 pub any_of : (tree : Tree) (p : Place × Inode → Bool) (place : Place) (inode : Inode) → map.get tree place ≡ Some inode → p (place, inode) ≡ true → list_any p (map.entries tree) ≡ true

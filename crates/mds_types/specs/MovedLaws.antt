@@ -1,8 +1,7 @@
 -- A well-formed tree stays so where an entry moves: to a directory that is neither the entry itself nor below it, and onto
 -- nothing that has an entry.
 use Rattle.std.specs.Prelude.{◌≡◌, ℕ, Bool, true, false, cond, ◌&&◌, ◌||◌, ◌==◌, ◌⊎◌, Some, None, refl}
-use Rattle.std.proofs.Common.{sym, ap, subst, ◌∙◌, ⊎_elim, inl, inr, arith}
-use Rattle.std.proofs.lemmas.Bool.Decides.{nat_tests}
+use Rattle.std.proofs.Common.{sym, ap, subst, ◌∙◌, ⊎_elim, inl, inr}
 use Rattle.std.specs.Ordering.{eq_by_cmp}
 use Rattle.std.specs.FinMap as map
 use Rattle.mds_types.specs.declared.places.Place.{Place}
@@ -11,19 +10,10 @@ use Rattle.mds_types.specs.Tree.{Tree, place_cmp, at, place_of, is_directory, is
 use Rattle.mds_types.specs.Step.{with_moved, leads_to, replace_errno}
 use Rattle.mds_types.specs.declared.errno.TheConstants.{ENOTDIR, EISDIR, ENOTEMPTY}
 use Rattle.mds_types.specs.AboveLaws.{above_exact}
+use Rattle.sorted_map.specs.Bools.{neither_first, neither_second}
+use Rattle.sorted_map.specs.NatKeys.{is_same}
 use Rattle.mds_types.specs.EntryLaws.{get_put, get_beside, get_left, stands_after_put, stands_after_removal, same_or_apart, place_same}
 use Rattle.mds_types.specs.DirectoryLaws.{StandsAs, directory_stands, root_stands, entry_stands, reaches_root, one_place, no_directory, NothingIn, nothing_in_empty, nothing_in_file, above_nothing}
-
-neither_first : (a b : Bool) → (a || b) ≡ false → a ≡ false
-neither_first true b h = h
-neither_first false b h = refl
-
-neither_second : (a b : Bool) → (a || b) ≡ false → b ≡ false
-neither_second true b h = cc
-neither_second false b h = h
-
-is_same : (a b : ℕ) → a ≡ b → (a == b) ≡ true
-is_same a b same = grind (arith, nat_tests)
 
 -- an entry may move from one place to another
 pub record MayMove (tree : Tree) (from to : Place) (inode : Inode) : Type 0 where

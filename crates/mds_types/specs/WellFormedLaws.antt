@@ -1,5 +1,5 @@
 -- Every step of the operation table keeps the tree well formed.
-use Rattle.std.specs.Prelude.{◌≡◌, ℕ, Bool, true, false, cond, ◌&&◌, ◌||◌, List, Option, Some, None, unwrap_or, refl}
+use Rattle.std.specs.Prelude.{◌≡◌, ℕ, Bool, true, false, cond, ◌&&◌, List, Option, Some, None, unwrap_or, refl}
 use Rattle.std.proofs.Common.{sym, ap, subst, ◌∙◌, ⊎_elim, ◌⊎◌, inl, inr}
 use Rattle.std.specs.declared.cmp.Ordering.{Ordering}
 use Rattle.std.specs.declared.cmp.Ordering.TheVariants.{Less, Equal, Greater}
@@ -17,15 +17,12 @@ use Rattle.mds_types.specs.declared.operations.Op.TheVariants.{Lookup, Readdir, 
 use Rattle.mds_types.specs.Step.{Outcome, answers, new_size, directory_of, destination_of, found, made, new_inode, link_mode, read_link, size_errno, with_attributes, attributes_set, unless, unlinked, dir_removed, leads_to, replace_errno, renamed, within, step}
 use Rattle.mds_types.specs.Tree.{Tree, place_cmp, place_of, at, is_directory, is_dir_kind, has_entries, IsAbove, child, further, HasSize, IsWellFormed}
 use Rattle.mds_types.specs.TreeLaws.{is_directory-insert}
+use Rattle.sorted_map.specs.Bools.{or_second}
 use Rattle.mds_types.specs.PlaceLaws.{place-total, place-exact}
 use Rattle.mds_types.specs.DirectoryLaws.{reaches_root, nothing_in_file, nothing_in_empty}
 use Rattle.mds_types.specs.AttributeLaws.{well-formed-changed}
 use Rattle.mds_types.specs.RemovedLaws.{well-formed-removed}
 use Rattle.mds_types.specs.MovedLaws.{well-formed-moved, may_move}
-
-or_right : (a b : Bool) → b ≡ true → (a || b) ≡ true
-or_right true b h = refl
-or_right false b h = h
 
 -- a new inode at a free place of a directory that stands
 module _ (tree : Tree) (dir : ℕ) (new_name : List ℕ) (new : Inode) (free : at tree dir new_name ≡ None) where
@@ -72,7 +69,7 @@ module _ (tree : Tree) (dir : ℕ) (new_name : List ℕ) (new : Inode) (free : a
   still_above d x (further m name inode above stood) = further m name inode (still_above d m above) (still m name inode stood)
 
   still_directory : (d : ℕ) → is_directory tree d ≡ true → is_directory grown d ≡ true
-  still_directory d here = is_directory-insert tree (place_of dir new_name) new d free ∙ or_right _ _ here
+  still_directory d here = is_directory-insert tree (place_of dir new_name) new d free ∙ or_second _ _ here
 
   dir_is : (d : ℕ) (name : List ℕ) → place_of d name ≡ place_of dir new_name → d ≡ dir
   dir_is d name same = ap (λ (p : Place). p.dir.0) same

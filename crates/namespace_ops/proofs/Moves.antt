@@ -8,18 +8,19 @@ use Rattle.mds_types.specs.Step.{with_moved}
 use Rattle.mds_types.specs.MovedLaws.{IsMove, MayMove as MayMoveIn, may_move, well-formed-moved, stands_moved, still_moved, arrived}
 use Rattle.mds_types.specs.EntryLaws.{get_left}
 use Rattle.mds_types.specs.DirectoryLaws.{one_place}
+use Rattle.sorted_map.specs.NatKeys.{after_put, after_removal, get_put, get_beside, get_left as get_left_home}
 use Rattle.inode_table.specs.declared.homes.Home.{Home}
 use Rattle.inode_table.specs.Dirs.{Homes, MayMove, IsChildless}
 use Rattle.namespace_ops.specs.PlainFrags.{IsTabled, home_at, with_home, without_home}
-use Rattle.namespace_ops.proofs.Tabled.{home_of, known_is, above_in_tree, childless, home_put, home_beside, home_left, put_home, left_home, dir_or_not, with_dir, with_file, without_dir, without_file, place_at}
+use Rattle.namespace_ops.proofs.Tabled.{home_of, known_is, above_in_tree, childless, dir_or_not, with_dir, with_file, without_dir, without_file, place_at}
 
 -- what a table answers once an inode has a home there
 with_at : (homes : Homes) (place : Place) (inode : Inode) → is_dir_kind inode.kind ≡ true → map.get (with_home homes place inode) inode.ino.0 ≡ Some (home_at place)
-with_at homes place inode kinded = ap (λ (h : Homes). map.get h inode.ino.0) (with_dir homes place inode kinded) ∙ home_put homes inode.ino.0 (home_at place)
+with_at homes place inode kinded = ap (λ (h : Homes). map.get h inode.ino.0) (with_dir homes place inode kinded) ∙ get_put homes inode.ino.0 (home_at place)
 
 with_beside : (homes : Homes) (place : Place) (inode : Inode) (x : ℕ) → (x ≡ inode.ino.0 → ⊥) → map.get (with_home homes place inode) x ≡ map.get homes x
 with_beside homes place inode x apart =
-    ⊎_elim (λ kinded. ap (λ (h : Homes). map.get h x) (with_dir homes place inode kinded) ∙ home_beside homes inode.ino.0 (home_at place) x apart)
+    ⊎_elim (λ kinded. ap (λ (h : Homes). map.get h x) (with_dir homes place inode kinded) ∙ get_beside homes inode.ino.0 (home_at place) x apart)
     (λ kinded. ap (λ (h : Homes). map.get h x) (with_file homes place inode kinded)) (dir_or_not inode)
 
 with_back : (homes : Homes) (place : Place) (inode : Inode) (x : ℕ) (h : Home) → map.get (with_home homes place inode) x ≡ Some h
@@ -29,7 +30,7 @@ with_back homes place inode x h is = ⊎_elim of_dir of_file (dir_or_not inode)
     of_dir : is_dir_kind inode.kind ≡ true → ((x ≡ inode.ino.0) × (home_at place ≡ h) × (is_dir_kind inode.kind ≡ true)) ⊎ ((is_dir_kind inode.kind ≡ true → x ≡ inode.ino.0 → ⊥) × (map.get homes x ≡ Some h))
     of_dir kinded =
         ⊎_elim (λ w. inl (w.0, w.1, kinded)) (λ w. inr (λ k. w.0, w.1))
-        (put_home homes inode.ino.0 (home_at place) x h (ap (λ (t : Homes). map.get t x) (sym (with_dir homes place inode kinded)) ∙ is))
+        (after_put homes inode.ino.0 (home_at place) x h (ap (λ (t : Homes). map.get t x) (sym (with_dir homes place inode kinded)) ∙ is))
 
     of_file : is_dir_kind inode.kind ≡ false → ((x ≡ inode.ino.0) × (home_at place ≡ h) × (is_dir_kind inode.kind ≡ true)) ⊎ ((is_dir_kind inode.kind ≡ true → x ≡ inode.ino.0 → ⊥) × (map.get homes x ≡ Some h))
     of_file kinded = inr (λ k same. let clash : true ≡ false = sym k ∙ kinded in cc, ap (λ (t : Homes). map.get t x) (sym (with_file homes place inode kinded)) ∙ is)
@@ -41,7 +42,7 @@ Spares target x = (t : Inode) → target ≡ Some t → is_dir_kind t.kind ≡ t
 without_beside : (homes : Homes) (target : Option Inode) (x : ℕ) → Spares target x → map.get (without_home homes target) x ≡ map.get homes x
 without_beside homes None x spared = refl
 without_beside homes (Some t) x spared =
-    ⊎_elim (λ kinded. ap (λ (h : Homes). map.get h x) (without_dir homes t kinded) ∙ home_left homes t.ino.0 x (spared t refl kinded))
+    ⊎_elim (λ kinded. ap (λ (h : Homes). map.get h x) (without_dir homes t kinded) ∙ get_left_home homes t.ino.0 x (spared t refl kinded))
     (λ kinded. ap (λ (h : Homes). map.get h x) (without_file homes t kinded)) (dir_or_not t)
 
 without_back : (homes : Homes) (target : Option Inode) (x : ℕ) (h : Home) → map.get (without_home homes target) x ≡ Some h → Spares target x × (map.get homes x ≡ Some h)
@@ -50,7 +51,7 @@ without_back homes (Some t) x h is = ⊎_elim of_dir of_file (dir_or_not t)
   where
     of_dir : is_dir_kind t.kind ≡ true → Spares (Some t) x × (map.get homes x ≡ Some h)
     of_dir kinded =
-        let w = left_home homes t.ino.0 x h (ap (λ (m : Homes). map.get m x) (sym (without_dir homes t kinded)) ∙ is) in
+        let w = after_removal homes t.ino.0 x h (ap (λ (m : Homes). map.get m x) (sym (without_dir homes t kinded)) ∙ is) in
         (λ u one k same. let alike : t ≡ u = cc in w.0 (same ∙ ap (λ (i : Inode). i.ino.0) (sym alike)), w.1)
 
     of_file : is_dir_kind t.kind ≡ false → Spares (Some t) x × (map.get homes x ≡ Some h)

@@ -1,11 +1,9 @@
 -- The directory table beside the tree: what it knows, and that it stays that of the tree.
-use Rattle.std.proofs.Common.{◌≡◌, ◌==◌, ◌||◌, ◌&&◌, ◌↔◌, ℕ, Bool, true, false, cond, is_some, IsTrue, Option, Some, None, ◌⊎◌, inl, inr, ⊎_elim, refl, sym, ap, subst, ◌∙◌, arith}
+use Rattle.std.proofs.Common.{◌≡◌, ◌==◌, ◌&&◌, ◌↔◌, ℕ, Bool, true, false, cond, is_some, IsTrue, Option, Some, None, ◌⊎◌, inl, inr, ⊎_elim, refl, sym, ap, subst, ◌∙◌}
 use Rattle.std.specs.FinMap as map
-use Rattle.std.specs.FinMap.{get-empty, get-insert, get-remove}
+use Rattle.std.specs.FinMap.{get-empty}
 use Rattle.std.specs.Ordering.{nat_cmp}
-use Rattle.std.specs.Cmp.{nat_cmp_total, unsigned_tied}
 use Rattle.std.proofs.lemmas.Bool.{eqb-true}
-use Rattle.std.proofs.lemmas.Bool.Decides.{nat_tests}
 use Rattle.mds_types.specs.declared.places.Place.{Place}
 use Rattle.mds_types.specs.declared.inodes.Inode.{Inode}
 use Rattle.mds_types.specs.Tree.{Tree, place_cmp, place_of, at, is_directory, is_dir_kind, is_above, has_entries, IsAbove as IsAboveIn, child, further as further_down, IsWellFormed}
@@ -16,53 +14,17 @@ use Rattle.mds_types.specs.RemovedLaws.{well-formed-removed}
 use Rattle.mds_types.specs.WellFormedLaws.{well-formed-grown, sized_still}
 use Rattle.mds_types.specs.EntryLaws.{get_put, get_beside, get_left, stands_after_put, stands_after_removal, same_or_apart}
 use Rattle.mds_types.specs.DirectoryLaws.{StandsAs, directory_stands, root_stands, entry_stands, one_place, NothingIn, nothing_in_empty, nothing_in_file}
+use Rattle.sorted_map.specs.Bools.{or_cases, or_first, or_second}
+use Rattle.sorted_map.specs.NatKeys.{is_same, after_put, after_removal, get_put as get_put_home, get_beside as get_beside_home, get_left as get_left_home}
 use Rattle.inode_table.specs.declared.homes.Home.{Home}
 use Rattle.inode_table.specs.Dirs.{Homes, is_known, IsAbove, parent, further, MayCome, IsChildless}
 use Rattle.namespace_ops.specs.Changes.{MayAdd, MaySet, MayRemove}
 use Rattle.namespace_ops.specs.PlainFrags.{HoldsHomes, IsTabled, home_at, with_home, without_home}
 
-is_same : (a b : ℕ) → a ≡ b → (a == b) ≡ true
-is_same a b same = grind (arith, nat_tests)
-
-is_apart : (a b : ℕ) → (a ≡ b → ⊥) → (a == b) ≡ false
-is_apart a b apart = grind (arith, nat_tests)
-
--- what a table answers after a change
-pub home_put : (homes : Homes) (d : ℕ) (home : Home) → map.get (map.insert homes d home) d ≡ Some home
-home_put homes d home = get-insert nat_cmp_total homes d home d ∙ ap (λ b. cond b (Some home) (map.get homes d)) (unsigned_tied d d ∙ is_same d d refl)
-
-pub home_beside : (homes : Homes) (d : ℕ) (home : Home) (x : ℕ) → (x ≡ d → ⊥) → map.get (map.insert homes d home) x ≡ map.get homes x
-home_beside homes d home x apart = get-insert nat_cmp_total homes d home x ∙ ap (λ b. cond b (Some home) (map.get homes x)) (unsigned_tied x d ∙ is_apart x d apart)
-
-home_removed : (homes : Homes) (d : ℕ) → map.get (map.remove homes d) d ≡ None
-home_removed homes d = get-remove nat_cmp_total homes d d ∙ ap (λ b. cond b None (map.get homes d)) (unsigned_tied d d ∙ is_same d d refl)
-
-pub home_left : (homes : Homes) (d x : ℕ) → (x ≡ d → ⊥) → map.get (map.remove homes d) x ≡ map.get homes x
-home_left homes d x apart = get-remove nat_cmp_total homes d x ∙ ap (λ b. cond b None (map.get homes x)) (unsigned_tied x d ∙ is_apart x d apart)
-
-same_or_other : (a b : ℕ) → (a ≡ b) ⊎ (a ≡ b → ⊥)
-same_or_other a b = go (a == b) refl
-  where
-    go : (t : Bool) → (a == b) ≡ t → (a ≡ b) ⊎ (a ≡ b → ⊥)
-    go true is = inl (grind (arith, nat_tests))
-    go false is = inr (λ same. let t : true ≡ false = sym (is_same a b same) ∙ is in cc)
-
 bool_same : (a b : Bool) → (a ≡ true → b ≡ true) → (b ≡ true → a ≡ true) → a ≡ b
 bool_same true b f g = sym (f refl)
 bool_same false true f g = g refl
 bool_same false false f g = refl
-
-or_cases : (a b : Bool) → (a || b) ≡ true → (a ≡ true) ⊎ (b ≡ true)
-or_cases true b h = inl refl
-or_cases false b h = inr h
-
-or_left : (a b : Bool) → a ≡ true → (a || b) ≡ true
-or_left true b h = refl
-or_left false b h = cc
-
-or_right : (a b : Bool) → b ≡ true → (a || b) ≡ true
-or_right true b h = refl
-or_right false b h = h
 
 some_of : {A : Type 0} (o : Option A) → is_some o ≡ true → (a : A) × (o ≡ Some a)
 some_of None h = cc
@@ -91,8 +53,8 @@ module _ (tree : Tree) (homes : Homes) (tabled : IsTabled tree homes) where
 
       here : is_directory tree d ≡ true → is_known homes d ≡ true
       here stands =
-          ⊎_elim (λ root. or_left (d == 1) _ (is_same d 1 root))
-          (λ (w : StandsAs tree d). or_right (d == 1) _ (ap is_some (home_of w.place w.inode d w.stands w.numbered w.kinded))) (directory_stands tree d stands)
+          ⊎_elim (λ root. or_first (d == 1) _ (is_same d 1 root))
+          (λ (w : StandsAs tree d). or_second (d == 1) _ (ap is_some (home_of w.place w.inode d w.stands w.numbered w.kinded))) (directory_stands tree d stands)
 
   -- what is above by parents is above by entries,
   pub above_in_tree : (d x : ℕ) → IsAbove homes d x → IsAboveIn tree d x
@@ -162,23 +124,6 @@ may_come tree homes place inode tabled may = record {
     none None is = refl
     none (Some home) is = let w = tabled.holds.stands inode.ino.0 home is in absurd (may.unused.not_there home.parent.0 home.name w.0 w.1 w.2)
 
--- what stands in a table with a home, or stood there before
-pub put_home : (homes : Homes) (d : ℕ) (home : Home) (x : ℕ) (h : Home) → map.get (map.insert homes d home) x ≡ Some h → ((x ≡ d) × (home ≡ h)) ⊎ ((x ≡ d → ⊥) × (map.get homes x ≡ Some h))
-put_home homes d home x h is = go (same_or_other x d)
-  where
-    go : (x ≡ d) ⊎ (x ≡ d → ⊥) → ((x ≡ d) × (home ≡ h)) ⊎ ((x ≡ d → ⊥) × (map.get homes x ≡ Some h))
-    go (inl same) =
-        let homes_same : Some home ≡ Some h = sym (home_put homes d home) ∙ ap (λ y. map.get (map.insert homes d home) y) (sym same) ∙ is in
-        inl (same, cc)
-    go (inr apart) = inr (apart, sym (home_beside homes d home x apart) ∙ is)
-
-pub left_home : (homes : Homes) (d x : ℕ) (h : Home) → map.get (map.remove homes d) x ≡ Some h → (x ≡ d → ⊥) × (map.get homes x ≡ Some h)
-left_home homes d x h is = go (same_or_other x d)
-  where
-    go : (x ≡ d) ⊎ (x ≡ d → ⊥) → (x ≡ d → ⊥) × (map.get homes x ≡ Some h)
-    go (inl same) = let clash : None ≡ Some h = sym (home_removed homes d) ∙ ap (λ y. map.get (map.remove homes d) y) (sym same) ∙ is in absurd cc
-    go (inr apart) = (apart, sym (home_left homes d x apart) ∙ is)
-
 pub dir_or_not : (inode : Inode) → (is_dir_kind inode.kind ≡ true) ⊎ (is_dir_kind inode.kind ≡ false)
 dir_or_not inode = go (is_dir_kind inode.kind) refl
   where
@@ -218,14 +163,14 @@ added_tabled tree homes place inode tabled may = record {
     of_dir kinded = subst (HoldsHomes new) (sym (with_dir homes place inode kinded)) (record {
       listed = λ q x h dir.
           ⊎_elim
-          (λ w. ap (λ (i : Inode). map.get (map.insert homes inode.ino.0 (home_at place)) i.ino.0) (sym w.1) ∙ home_put homes inode.ino.0 (home_at place) ∙ ap (λ p. Some (home_at p)) (sym w.0))
-          (λ w. home_beside homes inode.ino.0 (home_at place) x.ino.0 (other q x w.1) ∙ tabled.holds.listed q x w.1 dir)
+          (λ w. ap (λ (i : Inode). map.get (map.insert homes inode.ino.0 (home_at place)) i.ino.0) (sym w.1) ∙ get_put_home homes inode.ino.0 (home_at place) ∙ ap (λ p. Some (home_at p)) (sym w.0))
+          (λ w. get_beside_home homes inode.ino.0 (home_at place) x.ino.0 (other q x w.1) ∙ tabled.holds.listed q x w.1 dir)
           (stands_after_put tree place inode q x h);
       stands = λ d home is.
           ⊎_elim
           (λ w. (inode, ap (λ (h : Home). map.get new (place_at h)) (sym w.1) ∙ get_put tree place inode, sym w.0, kinded))
           (λ w. let before = tabled.holds.stands d home w.1 in (before.0, still (place_at home) before.0 before.1, before.2, before.3))
-          (put_home homes inode.ino.0 (home_at place) d home is);
+          (after_put homes inode.ino.0 (home_at place) d home is);
     })
 
     of_file : is_dir_kind inode.kind ≡ false → HoldsHomes new (with_home homes place inode)
@@ -309,9 +254,9 @@ removed_tabled tree homes place found at_place tabled may = record {
     of_dir kinded = subst (HoldsHomes left) (sym (without_dir homes gone kinded)) (record {
       listed = λ q x h dir.
           let before = stands_after_removal tree place q x h in
-          home_left homes gone.ino.0 x.ino.0 (not_gone q x before.1 before.0) ∙ tabled.holds.listed q x before.1 dir;
+          get_left_home homes gone.ino.0 x.ino.0 (not_gone q x before.1 before.0) ∙ tabled.holds.listed q x before.1 dir;
       stands = λ d home is.
-          let there = left_home homes gone.ino.0 d home is in
+          let there = after_removal homes gone.ino.0 d home is in
           let w = tabled.holds.stands d home there.1 in
           let apart : place_at home ≡ place → ⊥ = λ same. there.0 (sym w.2 ∙ ap (λ (i : Inode). i.ino.0) (one_inode (place_at home) w.0 same w.1)) in
           (w.0, get_left tree place (place_at home) apart ∙ w.1, w.2, w.3);

@@ -1,6 +1,7 @@
 pub mod Bools
 pub mod Laws
 pub mod Lending
+pub mod NatKeys
 pub mod Overlay
 pub mod Places
 pub mod SortedMap
