@@ -1,5 +1,6 @@
+pub mod Moves
+pub mod OneEntry
+pub mod PlanParts
 pub mod Rows
 pub mod Tabled
-pub mod Moves
-pub mod PlanParts
 pub mod Unused

@@ -3,6 +3,7 @@ pub use Rattle.mds_types.specs.Step
 pub mod ChangedFragments
 pub mod Changes
 pub mod Laws
+pub mod OneEntry
 pub mod PlainFrags
 pub mod Planned
 pub mod Reasons

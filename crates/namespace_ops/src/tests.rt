@@ -3,6 +3,7 @@
 
 mod asked;
 mod faulty_frags;
+mod one_entry_frags;
 mod renames;
 mod slow_table;
 
