@@ -190,3 +190,28 @@ chosen-takes false tree op x h = sym (and_false (makes op))
 
 pub takes_where_made : (tree : Tree) (op : Op) (n : ℕ) → TakesWhereMade op (step tree op n)
 takes_where_made tree op n = chosen-takes (is_directory tree (directory_of op) && is_directory tree (destination_of op)) tree op (within tree op n) (within-takes tree op n)
+
+-- whether a step answers an errno, the number that it is offered has no part in
+made-errno : (tree : Tree) (place : Place) (i j : Inode) (found_one : Option Inode) → is_errno (made tree place i found_one).reply ≡ is_errno (made tree place j found_one).reply
+made-errno tree place i j None = refl
+made-errno tree place i j (Some other) = refl
+
+within-errno : (tree : Tree) (op : Op) (n m : ℕ) → is_errno (within tree op n).reply ≡ is_errno (within tree op m).reply
+within-errno tree (Lookup dir name) n m = refl
+within-errno tree (Readdir dir after max) n m = refl
+within-errno tree (Create dir name mode mtime) n m = made-errno tree _ _ _ (at tree dir.0 name)
+within-errno tree (Mkdir dir name mode mtime) n m = made-errno tree _ _ _ (at tree dir.0 name)
+within-errno tree (Readlink dir name) n m = refl
+within-errno tree (Symlink dir name target mtime) n m = made-errno tree _ _ _ (at tree dir.0 name)
+within-errno tree (Setattr dir name mode size mtime) n m = refl
+within-errno tree (Unlink dir name) n m = refl
+within-errno tree (Rmdir dir name) n m = refl
+within-errno tree (Rename dir name to_dir to_name) n m = refl
+
+chosen-errno : (b : Bool) (x y z : Outcome) → is_errno x.reply ≡ is_errno y.reply → is_errno (cond b x z).reply ≡ is_errno (cond b y z).reply
+chosen-errno true x y z same = same
+chosen-errno false x y z same = refl
+
+pub errno_of_any_number : (tree : Tree) (op : Op) (n m : ℕ) → is_errno (step tree op n).reply ≡ is_errno (step tree op m).reply
+errno_of_any_number tree op n m =
+    chosen-errno (is_directory tree (directory_of op) && is_directory tree (destination_of op)) (within tree op n) (within tree op m) (answers tree (Errno ESTALE)) (within-errno tree op n m)

@@ -4,7 +4,7 @@ use Rattle.mds_types.specs.declared.inodes.Inode.{Inode}
 use Rattle.mds_types.specs.declared.operations.Op.{Op}
 use Rattle.mds_types.specs.Tree.{Tree, IsWellFormed, IsAbove, is_above}
 use Rattle.mds_types.specs.Step.{step, names_after}
-use Rattle.mds_types.specs.StepLaws.{ErrnoLeaves, TakesWhereMade}
+use Rattle.mds_types.specs.StepLaws.{ErrnoLeaves, TakesWhereMade, is_errno}
 use Rattle.mds_types.specs.ListingLaws.{IsListing}
 use Rattle.mds_types.specs.NumberLaws.{IsOld}
 use Rattle.mds_types.specs.WellFormedLaws.{IsUnused}
@@ -37,3 +37,7 @@ AboveIsChain = (tree : Tree) (d x : ℕ) → IsWellFormed tree → (is_above tre
 -- an inode of the tree that a step leaves stood before, or has the number that the step took
 abbrev pub NumbersStay : Type 0
 NumbersStay = (tree : Tree) (op : Op) (n : ℕ) → IsOld tree n (step tree op n)
+
+-- whether a step answers an errno, the number that it is offered has no part in; so neither has it in the changed fragments
+abbrev pub NumberLeavesErrno : Type 0
+NumberLeavesErrno = (tree : Tree) (op : Op) (n m : ℕ) → is_errno (step tree op n).reply ≡ is_errno (step tree op m).reply

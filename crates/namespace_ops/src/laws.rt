@@ -1,6 +1,6 @@
 //! Laws of the operation table, each the contract of a function that does nothing: they say that the definitions mean
 //! what they should.
-ghost use Rattle.namespace_ops.specs.Laws.{ErrnoLeavesTree, MakingTakesNumber, StepKeepsWellFormed, AboveIsChain, NumbersStay, NamesAreListed, PagesMakeUpListing};
+ghost use Rattle.namespace_ops.specs.Laws.{ErrnoLeavesTree, MakingTakesNumber, StepKeepsWellFormed, AboveIsChain, NumbersStay, NumberLeavesErrno, NamesAreListed, PagesMakeUpListing};
 
 /// An operation that answers an errno leaves the tree.
 pub fn errno_leaves_tree()
@@ -25,6 +25,11 @@ pub fn above_is_a_chain()
 /// An inode of the tree that a step leaves stood there before, or has the number that the step took.
 pub fn numbers_stay()
     ensures { NumbersStay }
+{}
+
+/// Whether an operation answers an errno, the number that it is offered has no part in.
+pub fn number_leaves_errno()
+    ensures { NumberLeavesErrno }
 {}
 
 /// A listing has just the directory's names that come after the given one, in the order of their bytes.

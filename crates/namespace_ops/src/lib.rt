@@ -22,8 +22,8 @@ mod tests;
 pub use changing::changes;
 pub use frags::Frags;
 pub use laws::{
-    above_is_a_chain, errno_leaves_tree, making_takes_number, names_are_listed, numbers_stay,
-    pages_make_up_listing, step_keeps_well_formed,
+    above_is_a_chain, errno_leaves_tree, making_takes_number, names_are_listed,
+    number_leaves_errno, numbers_stay, pages_make_up_listing, step_keeps_well_formed,
 };
 pub use plain_frags::PlainFrags;
 pub use planning::plan_op;
