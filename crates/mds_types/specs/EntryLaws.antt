@@ -14,7 +14,7 @@ use Rattle.mds_types.specs.Tree.{Tree, place_cmp}
 use Rattle.mds_types.specs.PlaceLaws.{place-total, place-exact}
 use Rattle.sorted_map.specs.Bools.{or_first, or_second}
 
-tie : (r : Ordering) → is_eq r ≡ true → r ≡ Equal
+pub tie : (r : Ordering) → is_eq r ≡ true → r ≡ Equal
 tie Less h = cc
 tie Equal h = refl
 tie Greater h = cc
@@ -29,7 +29,7 @@ place_itself p = ap is_eq (tied_itself place-total p)
 pub place_same : (p q : Place) → p ≡ q → eq_by_cmp place_cmp p q ≡ true
 place_same p q same = ap (λ r. eq_by_cmp place_cmp p r) (sym same) ∙ place_itself p
 
-not_true : (b : Bool) → (b ≡ true → ⊥) → b ≡ false
+pub not_true : (b : Bool) → (b ≡ true → ⊥) → b ≡ false
 not_true true h = absurd (h refl)
 not_true false h = refl
 

@@ -12,7 +12,7 @@ use Rattle.sorted_map.specs.Bools.{left_of, right_of}
 
 -- an entry that passes a test is found at its key
 module _ {K X : Type 0} {R : K → K → Ordering} (o : IsTotalOrder R) where
-  not_found_below : (k : K) (es : List (K × X)) → T (below_all R k es) → find R k es ≡ None
+  pub not_found_below : (k : K) (es : List (K × X)) → T (below_all R k es) → find R k es ≡ None
   not_found_below k [] below = refl
   not_found_below k (e ∷ es) below = ap (λ r. cond (is_eq r) (Some e.1) (find R k es)) (less (R k e.0) (left_of _ _ below)) ∙ not_found_below k es (right_of _ _ below)
     where

@@ -1,6 +1,8 @@
 -- Directory fragments, CephFS's `frag_t`: which part of the hashes of names a fragment contains.
 use Rattle.std.specs.Prelude.{◌≡◌, ℕ, ◌+◌, ◌-◌, ◌*◌, ◌/◌, ◌%◌, ◌^◌, ◌<◌, ◌≤◌, List, length, ◌++◌, codes, map}
 use Rattle.std.specs.List.{range_with_len, slice_index_or}
+use Rattle.std.specs.declared.cmp.Ordering.{Ordering}
+use Rattle.std.specs.Ordering.{nat_cmp, ordering_then}
 
 -- a fragment: how many leading bits of a hash it fixes, and the bits that it fixes, left-justified in 24 bits
 pub record Fragment : Type 0 where
@@ -16,6 +18,10 @@ pub record IsFragment (f : Fragment) : Type 0 where
   pub few_bits : f.bits ≤ 24
   pub in_range : f.value < 2 ^ 24
   pub justified : f.value % span f.bits ≡ 0
+
+-- fragments in order: by value, and then by how many bits they fix
+abbrev pub frag_cmp : Fragment → Fragment → Ordering
+frag_cmp f g = ordering_then (nat_cmp f.value g.value) (nat_cmp f.bits g.bits)
 
 -- the fragment that contains every hash
 abbrev pub root_fragment : Fragment

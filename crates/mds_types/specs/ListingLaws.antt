@@ -69,7 +69,7 @@ sorted_listed d after (e ∷ es) sorted = go (is_listed d after e) refl (sorted_
     go false is rest = subst (λ names. T (is_sorted (slice_cmp nat_cmp) names)) (sym (chosen d after e es false is)) rest
 
 -- a place of the directory is found among places as its name among names
-tied_place : (d : ℕ) (name : List ℕ) (place : Place) (b : Bool) → (place.dir.0 == d) ≡ b → eq_by_cmp place_cmp (place_of d name) place ≡ (b && eq_by_cmp (slice_cmp nat_cmp) name place.name)
+pub tied_place : (d : ℕ) (name : List ℕ) (place : Place) (b : Bool) → (place.dir.0 == d) ≡ b → eq_by_cmp place_cmp (place_of d name) place ≡ (b && eq_by_cmp (slice_cmp nat_cmp) name place.name)
 tied_place d name place true here = ap is_eq (same_dir d (place_of d name) place (grind (arith, nat_tests)) here)
 tied_place d name place false other = go (nat_cmp d place.dir.0) (ranks d place.dir.0)
   where

@@ -1,4 +1,4 @@
--- The order of places: total, and exact in that only equal places tie.
+-- The orders of places and of fragments: total, and exact in that only equal ones tie.
 use Rattle.std.specs.Prelude.{◌≡◌}
 use Rattle.std.specs.Ordering.{nat_cmp}
 use Rattle.std.specs.Cmp.{IsTotalOrder, on_total, then_total, nat_cmp_total}
@@ -7,6 +7,7 @@ use Rattle.std.specs.FinMap.{IsAntisymmetric, nat_cmp-IsAntisymmetric}
 use Rattle.std.proofs.lemmas.Map.Lookups.{exact_unsigned, exact_bytes, exact_pairs}
 use Rattle.mds_types.specs.declared.ids.Ino.{Ino}
 use Rattle.mds_types.specs.Tree.{place_cmp}
+use Rattle.mds_types.specs.Frag.{Fragment, frag_cmp}
 
 pub ino-exact : IsAntisymmetric (λ (a b : Ino). nat_cmp a.0 b.0)
 ino-exact a b tied = let same = nat_cmp-IsAntisymmetric a.0 b.0 tied in λ i. record { 0 = same i }
@@ -18,3 +19,11 @@ place-exact a b tied =
 
 pub place-total : IsTotalOrder place_cmp
 place-total = then_total (on_total (λ p. p.dir.0) nat_cmp_total) (on_total (λ p. p.name) nat_list_cmp_total)
+
+pub frag-exact : IsAntisymmetric frag_cmp
+frag-exact a b tied =
+    let same : (a.value, a.bits) ≡ (b.value, b.bits) = exact_pairs nat_cmp nat_cmp exact_unsigned exact_unsigned (a.value, a.bits) (b.value, b.bits) tied in
+    λ i. record { bits = (same i).1; value = (same i).0 }
+
+pub frag-total : IsTotalOrder frag_cmp
+frag-total = then_total (on_total (λ f. f.value) nat_cmp_total) (on_total (λ f. f.bits) nat_cmp_total)

@@ -1,12 +1,14 @@
 //! Directory fragments.
 ghost use Rattle.std.specs.Prelude.{◌≡◌, ℕ, ◌+◌, ◌-◌, ◌*◌, ◌/◌, ◌%◌, ◌^◌, ◌<◌, ◌≤◌, ◌↔◌, IsTrue, SomeIff, MatchOption, Some};
+ghost use Rattle.mds_types.specs.PlaceLaws.{frag-exact};
 ghost use Rattle.mds_types.specs.Frag.{Fragment, IsFragment, root_fragment, word_of, Contains, ContainsFragment, child_of, parent_of, span, fragment_text};
 
+use sorted_map::ExactOrd;
 use std::fmt;
 use std::marker::Model;
 
 /// A fragment of a directory: the part whose names hash to numbers that begin with certain bits (CephFS's `frag_t`).
-/// Hashes have 24 bits; a fragment of `b` bits fixes the top `b` of them.
+/// Hashes have 24 bits; a fragment of `b` bits fixes the top `b` of them. Fragments are ordered by value and then by bits.
 #[derive(Clone, Copy, Debug, PartialEq, Eq, PartialOrd, Ord, Hash)]
 pub struct Frag {
     value: u32,
@@ -23,6 +25,10 @@ impl Model for Frag {
     ghost invariant = { λ f. IsFragment (record { bits = f.bits; value = f.value }) };
 
     ghost inverse = { λ f. record { bits = f.bits; value = f.value } };
+}
+
+impl ExactOrd for Frag {
+    ghost exact = { frag-exact };
 }
 
 impl Frag {

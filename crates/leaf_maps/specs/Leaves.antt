@@ -1,0 +1,61 @@
+-- Names leaf by leaf, and the tree that they show.
+use Rattle.std.specs.Prelude.{◌≡◌, ℕ, List, [], ◌∷◌, ◌++◌, map, Option, Some, None}
+use Rattle.std.specs.declared.cmp.Ordering.{Ordering}
+use Rattle.std.specs.Ordering.{nat_cmp, ordering_then}
+use Rattle.std.specs.Cmp.Lexicographic.{slice_cmp}
+use Rattle.std.specs.FinMap as finmap
+use Rattle.sorted_map.specs.SortedMap.{Shown, contents}
+use Rattle.mds_types.specs.declared.ids.Ino.{Ino}
+use Rattle.mds_types.specs.declared.places.Place.{Place}
+use Rattle.mds_types.specs.declared.inodes.Inode.{Inode}
+use Rattle.mds_types.specs.Frag.{Fragment, frag_cmp}
+use Rattle.mds_types.specs.Tree.{Tree, place_of, at}
+use Rattle.fragtree.specs.FragTree.{IsPick}
+use Rattle.namehash.specs.Rjenkins.{hash_of}
+use Rattle.leaf_maps.specs.CoversStub.{Covers, leaves_of}
+
+-- a leaf: a directory and a fragment of it. Leaves are ordered by directory, and then as fragments
+abbrev pub Leaf : Type 0
+Leaf = Ino × Fragment
+
+abbrev pub leaf_cmp : Leaf → Leaf → Ordering
+leaf_cmp a b = ordering_then (nat_cmp a.0.0 b.0.0) (frag_cmp a.1 b.1)
+
+-- names with their inodes, and the same with the room for more
+abbrev pub Names : Type 0
+Names = finmap.FinMap (slice_cmp nat_cmp) Inode
+
+abbrev pub Rows : Type 0
+Rows = Shown (List ℕ) Inode
+
+-- the names of each leaf
+abbrev pub Leaves : Type 0
+Leaves = finmap.FinMap leaf_cmp Rows
+
+abbrev pub names_of : Option Rows → Names
+names_of None = finmap.empty
+names_of (Some rows) = contents (slice_cmp nat_cmp) rows
+
+-- the names that a leaf shows; a leaf of which nothing is kept shows none
+abbrev pub names_in : Leaves → ℕ → Fragment → Names
+names_in leaves d f = names_of (finmap.get leaves (record { 0 = d }, f))
+
+-- the entries that names of a directory are
+abbrev pub entries_of : ℕ → List (List ℕ × Inode) → List (Place × Inode)
+entries_of d rows = map (λ row. (place_of d row.0, row.1)) rows
+
+abbrev pub entries_in : List (Leaf × Rows) → List (Place × Inode)
+entries_in [] = []
+entries_in (leaf ∷ rest) = entries_of leaf.0.0.0 (finmap.entries (contents (slice_cmp nat_cmp) leaf.1)) ++ entries_in rest
+
+-- the tree that the leaves show: all of their entries
+unfoldable pub shown_by : Leaves → Tree
+shown_by leaves = finmap.from_entries (entries_in (finmap.entries leaves))
+
+-- a leaf shows only names whose hashes pick it
+abbrev pub ArePlaced : Covers → Leaves → Type 0
+ArePlaced covers leaves = (d : ℕ) (f : Fragment) (name : List ℕ) (inode : Inode) → finmap.get (names_in leaves d f) name ≡ Some inode → IsPick (leaves_of covers d) (hash_of name) f
+
+-- a tree is the one shown: a name of a directory stands for the inode that the leaf has which its hash picks
+abbrev pub IsShown : Covers → Leaves → Tree → Type 0
+IsShown covers leaves tree = (d : ℕ) (name : List ℕ) (f : Fragment) → IsPick (leaves_of covers d) (hash_of name) f → at tree d name ≡ finmap.get (names_in leaves d f) name

@@ -1,0 +1,3 @@
+pub mod CoversStub
+pub mod LeafLaws
+pub mod Leaves
