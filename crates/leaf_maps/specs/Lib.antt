@@ -1,3 +1,4 @@
+pub mod Changes
 pub mod CoversStub
 pub mod LeafLaws
 pub mod Leaves

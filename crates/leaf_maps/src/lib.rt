@@ -1,6 +1,7 @@
 //! The names of directories, leaf by leaf: one ordered map of names for each leaf.
 #![tactic(auto)]
 
-ghost use Rattle.leaf_maps.specs.LeafLaws.{shown_at};
+mod leaf_maps;
+mod names;
 
-fn nothing() {}
+pub use leaf_maps::LeafMaps;

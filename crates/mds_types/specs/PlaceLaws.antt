@@ -1,4 +1,4 @@
--- The orders of places and of fragments: total, and exact in that only equal ones tie.
+-- The orders of names, places and fragments: total, and exact in that only equal ones tie.
 use Rattle.std.specs.Prelude.{◌≡◌}
 use Rattle.std.specs.Ordering.{nat_cmp}
 use Rattle.std.specs.Cmp.{IsTotalOrder, on_total, then_total, nat_cmp_total}
@@ -11,6 +11,9 @@ use Rattle.mds_types.specs.Frag.{Fragment, frag_cmp}
 
 pub ino-exact : IsAntisymmetric (λ (a b : Ino). nat_cmp a.0 b.0)
 ino-exact a b tied = let same = nat_cmp-IsAntisymmetric a.0 b.0 tied in λ i. record { 0 = same i }
+
+pub name-exact : IsAntisymmetric (slice_cmp nat_cmp)
+name-exact = exact_bytes
 
 pub place-exact : IsAntisymmetric place_cmp
 place-exact a b tied =

@@ -1,6 +1,6 @@
 //! Where an entry stands in the tree.
 
-ghost use Rattle.mds_types.specs.PlaceLaws.{ino-exact, place-exact};
+ghost use Rattle.mds_types.specs.PlaceLaws.{ino-exact, name-exact, place-exact};
 
 use crate::ids::Ino;
 use crate::names::Name;
@@ -15,6 +15,10 @@ pub struct Place {
 
 impl ExactOrd for Ino {
     ghost exact = { ino-exact };
+}
+
+impl ExactOrd for Name {
+    ghost exact = { name-exact };
 }
 
 impl ExactOrd for Place {
