@@ -1,17 +1,34 @@
--- The directory table: where each directory stands.
-use Rattle.std.specs.Prelude.{◌≡◌, ℕ, zero, suc, Bool, true, ◌||◌, ◌==◌, is_some, Some, None}
+-- The directory table: where each directory stands, and the leaves of each, CephFS's `fragtree_t`.
+use Rattle.std.specs.Prelude.{◌≡◌, ℕ, zero, suc, Bool, true, ◌||◌, ◌==◌, is_some, Option, Some, None, List, [], ◌∷◌}
 use Rattle.std.specs.Ordering.{nat_cmp}
 use Rattle.std.specs.FinMap as map
+use Rattle.mds_types.specs.Frag.{Fragment, root_fragment}
+use Rattle.fragtree.specs.FragTree.{IsTree}
 use Rattle.inode_table.specs.declared.homes.Home.{Home}
 
 -- from the number of each directory but the root to its parent and name
 abbrev pub Homes : Type 0
 Homes = map.FinMap nat_cmp Home
 
--- what contracts see of a table: the homes, and how many more still fit with no growth
+-- from the number of a directory to its leaves; a directory with no row has the one leaf `*`
+abbrev pub Covers : Type 0
+Covers = map.FinMap nat_cmp (List Fragment)
+
+-- what contracts see of a table: the homes and the leaves, and how many more of each still fit with no growth
 pub record Table : Type 0 where
   pub homes : Homes
+  pub trees : Covers
   pub room : ℕ
+  pub tree_room : ℕ
+
+-- the leaves of a row, `*` alone where there is no row
+abbrev pub or_whole : Option (List Fragment) → List Fragment
+or_whole None = root_fragment ∷ []
+or_whole (Some leaves) = leaves
+
+-- the leaves of a directory
+abbrev pub leaves_of : Covers → ℕ → List Fragment
+leaves_of trees d = or_whole (map.get trees d)
 
 -- d is a directory of the table: the root, 1, or one that has a home
 abbrev pub is_known : Homes → ℕ → Bool
@@ -33,6 +50,12 @@ Reaches homes (suc n) x = (home : Home) × (map.get homes x ≡ Some home) × Re
 pub record IsRooted (homes : Homes) : Type 0 where
   pub rootless : map.get homes 1 ≡ None
   pub rooted : (x : ℕ) (home : Home) → map.get homes x ≡ Some home → (n : ℕ) × Reaches homes n x
+
+-- each directory reaches the root, and only a directory has leaves of its own, which are those of a tree
+pub record IsTable (homes : Homes) (trees : Covers) : Type 0 where
+  pub rooted : IsRooted homes
+  pub known : (d : ℕ) (leaves : List Fragment) → map.get trees d ≡ Some leaves → is_known homes d ≡ true
+  pub covers : (d : ℕ) (leaves : List Fragment) → map.get trees d ≡ Some leaves → IsTree leaves
 
 -- a directory may come in: it is new, and its parent is there
 pub record MayCome (homes : Homes) (d : ℕ) (home : Home) : Type 0 where

@@ -1,22 +1,29 @@
 //! The directory table.
-ghost use Rattle.std.specs.Prelude.{◌≡◌, ◌+◌, ◌-◌, ◌<◌, ◌≤◌, ◌↔◌, if◌then◌else◌, is_some, IsTrue, OnOk, OnErr, IfErr};
+ghost use Rattle.std.specs.Prelude.{◌≡◌, ◌+◌, ◌-◌, ◌<◌, ◌≤◌, ◌↔◌, ◌∷◌, [], if◌then◌else◌, is_some, true, IsTrue, IfOk, OnOk, OnErr, IfErr};
 ghost use Rattle.std.specs.Option.{option_copied};
 ghost use Rattle.std.specs.FinMap as map;
 ghost use Rattle.mds_types.specs.declared.refusals.Refusal.TheVariants.{NoMemory};
-ghost use Rattle.inode_table.specs.Dirs.{IsAbove, IsChildless, MayCome, MayMove, is_known};
+ghost use Rattle.mds_types.specs.Frag.{root_fragment};
+ghost use Rattle.fragtree.specs.FragTree.{IsPick};
+ghost use Rattle.inode_table.specs.Dirs.{IsAbove, IsChildless, IsTable, MayCome, MayMove, is_known, leaves_of};
 
 use crate::homes::Home;
-use mds_types::{Ino, Refusal};
+use fragtree::FragTree;
+use mds_types::{Frag, Ino, Refusal};
 use sorted_map::SortedMap;
-use std::alloc::Global;
+use std::alloc::{AllocError, Global};
 use std::marker::Model;
 
-/// For each directory its parent and its name there. The root directory is always there, and has neither.
+/// For each directory its parent and its name there, and its leaves. The root directory is always there, and has neither
+/// parent nor name.
 ///
-/// Of every table it holds that each directory reaches the root by finitely many parents.
+/// Of every table it holds that each directory reaches the root by finitely many parents, and that only directories have
+/// leaves of their own, which cover every hash exactly once. A directory whose leaves were never set has the one leaf `*`,
+/// and takes no memory for it.
 #[derive(Debug, Drop)]
 pub struct Dirs {
     homes: SortedMap<u64, Home>,
+    trees: SortedMap<u64, FragTree>,
 }
 
 impl Model for Dirs {
@@ -24,24 +31,26 @@ impl Model for Dirs {
     ghost use Rattle.std.specs.Coded.{codes};
     ghost use Rattle.std.specs.FinMap as map;
     ghost use Rattle.sorted_map.specs.SortedMap.{contents};
-    ghost use Rattle.inode_table.specs.Dirs.{Table, IsRooted};
+    ghost use Rattle.inode_table.specs.Dirs.{Table, IsTable};
 
     ghost Value = { Table };
 
     ghost coded = { Prim.hlevel (codes, map.code) };
 
-    ghost view = { λ d. record { homes = contents nat_cmp d.homes; room = d.homes.room } };
+    ghost view = { λ d. record { homes = contents nat_cmp d.homes; trees = contents nat_cmp d.trees; room = d.homes.room; tree_room = d.trees.room } };
 
-    ghost invariant = { λ d. IsRooted (contents nat_cmp d.homes) };
+    ghost invariant = { λ d. IsTable (contents nat_cmp d.homes) (contents nat_cmp d.trees) };
 }
 
 impl Dirs {
-    /// The table of the root alone.
+    /// The table of the root alone, with the one leaf `*`. Takes no memory.
     pub fn new(alloc: Global) -> Dirs
-        ensures { result.homes ≡ map.empty }
+        ensures homes { result.homes ≡ map.empty }
+        ensures trees { result.trees ≡ map.empty }
     {
         Dirs {
             homes: SortedMap::new(alloc),
+            trees: SortedMap::new(alloc),
         }
     }
 
@@ -54,15 +63,40 @@ impl Dirs {
 
     /// Whether this is the number of a directory: the root, or one that was adopted.
     pub fn contains(&self, dir: Ino) -> bool
-        ensures { result ≡ is_known self.now.homes dir.0 }
+        ensures known { result ≡ is_known self.now.homes dir.0 }
+        ensures valid { IsTable self.now.homes self.now.trees }
     {
         dir == Ino::ROOT || self.homes.contains(&dir.0)
     }
 
-    /// Makes room for one more directory, so that the next `adopt` can't fail. Refused for want of memory alone.
+    /// The leaves of a directory, as a copy that its changes don't touch. Takes memory for the leaves.
+    pub fn tree(&self, alloc: Global, dir: Ino) -> Result<FragTree, AllocError>
+        ensures { IfOk result (λ tree. tree ≡ leaves_of self.now.trees dir.0) }
+    {
+        match self.trees.get(&dir.0) {
+            Some(tree) => tree.try_clone(),
+            None => FragTree::whole(alloc),
+        }
+    }
+
+    /// The leaf of a directory that a hash picks: the one that contains it. Takes no memory, and logarithmic time.
+    pub fn pick(&self, dir: Ino, hash: u32) -> Frag
+        ensures pick { IsPick (leaves_of self.now.trees dir.0) hash result }
+        ensures valid { IsTable self.now.homes self.now.trees }
+    {
+        match self.trees.get(&dir.0) {
+            Some(tree) => tree.pick(hash),
+            None => Frag::ROOT,
+        }
+    }
+
+    /// Makes room for one more directory, so that the next `adopt` can't fail. Refused for want of memory alone, and then
+    /// all is left as it was.
     pub fn reserve(&mut self) -> Result<(), Refusal>
         ensures ok { OnOk result (0 < self.new.room) }
-        ensures same { self.new.homes ≡ self.old.homes }
+        ensures homes { self.new.homes ≡ self.old.homes }
+        ensures trees { self.new.trees ≡ self.old.trees }
+        ensures tree_room { self.new.tree_room ≡ self.old.tree_room }
         ensures err { IfErr result (λ reason. reason ≡ NoMemory) }
         ensures left { OnErr result (self.new ≡ self.old) }
     {
@@ -70,32 +104,68 @@ impl Dirs {
         Ok(())
     }
 
-    /// A new directory, for which there is room.
+    /// Makes room for the leaves of one more directory, so that the next `set_tree` can't fail. Refused for want of memory
+    /// alone, and then all is left as it was.
+    pub fn reserve_tree(&mut self) -> Result<(), Refusal>
+        ensures ok { OnOk result (0 < self.new.tree_room) }
+        ensures homes { self.new.homes ≡ self.old.homes }
+        ensures trees { self.new.trees ≡ self.old.trees }
+        ensures room { self.new.room ≡ self.old.room }
+        ensures err { IfErr result (λ reason. reason ≡ NoMemory) }
+        ensures left { OnErr result (self.new ≡ self.old) }
+    {
+        self.trees.reserve(1)?;
+        Ok(())
+    }
+
+    /// Gives a directory these leaves, for which there is room. Takes no memory.
+    pub fn set_tree(&mut self, dir: Ino, tree: FragTree)
+        requires room { 0 < self.old.tree_room }
+        requires known { is_known self.old.homes dir.0 ≡ true }
+        ensures trees { self.new.trees ≡ map.insert self.old.trees dir.0 tree }
+        ensures homes { self.new.homes ≡ self.old.homes }
+        ensures room { self.new.room ≡ self.old.room }
+        ensures tree_room { self.new.tree_room ≡ (if is_some (map.get self.old.trees dir.0) then self.old.tree_room else self.old.tree_room - 1) }
+    {
+        // of a tree that is asked for its length its leaves are known to cover every hash
+        let _ = tree.len();
+        let _ = self.trees.insert(dir.0, tree);
+    }
+
+    /// A new directory with the one leaf `*`, for which there is room. Takes no memory.
     pub fn adopt(&mut self, dir: Ino, home: Home)
         requires room { 0 < self.old.room }
         requires may { MayCome self.old.homes dir.0 home }
         ensures homes { self.new.homes ≡ map.insert self.old.homes dir.0 home }
+        ensures trees { self.new.trees ≡ self.old.trees }
+        ensures whole { leaves_of self.new.trees dir.0 ≡ root_fragment ∷ [] }
         ensures room { self.new.room + 1 ≡ self.old.room }
+        ensures tree_room { self.new.tree_room ≡ self.old.tree_room }
     {
         let _ = self.homes.insert(dir.0, home);
     }
 
-    /// A directory goes to another parent, or takes another name. Takes no memory.
+    /// A directory goes to another parent, or takes another name, and keeps its leaves. Takes no memory.
     pub fn relocate(&mut self, dir: Ino, home: Home)
         requires { MayMove self.old.homes dir.0 home }
         ensures homes { self.new.homes ≡ map.insert self.old.homes dir.0 home }
+        ensures trees { self.new.trees ≡ self.old.trees }
         ensures room { self.new.room ≡ self.old.room }
+        ensures tree_room { self.new.tree_room ≡ self.old.tree_room }
     {
         let _ = self.homes.replace(&dir.0, home);
     }
 
-    /// A directory goes that is no one's parent. Takes no memory.
+    /// A directory goes that is no one's parent, and its leaves with it. Takes no memory.
     pub fn drop(&mut self, dir: Ino)
         requires { IsChildless self.old.homes dir.0 }
         ensures homes { self.new.homes ≡ map.remove self.old.homes dir.0 }
+        ensures trees { self.new.trees ≡ map.remove self.old.trees dir.0 }
         ensures room { self.new.room ≡ (if is_some (map.get self.old.homes dir.0) then self.old.room + 1 else self.old.room) }
+        ensures tree_room { self.new.tree_room ≡ (if is_some (map.get self.old.trees dir.0) then self.old.tree_room + 1 else self.old.tree_room) }
     {
         let _ = self.homes.remove(&dir.0);
+        let _ = self.trees.remove(&dir.0);
     }
 
     /// Whether a directory is above another: a chain of one or more parents leads from `below` to `dir`. Takes no memory,

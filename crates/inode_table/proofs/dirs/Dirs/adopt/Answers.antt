@@ -1,10 +1,10 @@
 -- A new directory reaches the root by its parent.
 use Rattle.std.proofs.Common.{ap}
 use Rattle.inode_table.specs.Dirs.{Table}
-use Rattle.inode_table.proofs.Chains.{adopted_rooted}
+use Rattle.inode_table.proofs.Tables.{adopted_table}
 use Rattle.inode_table.proofs.dirs.Dirs.adopt.Goals as goal
 
 pub invariant_of-self : goal.invariant_of-self
 invariant_of-self c =
     let same = ap (λ (t : Table). t.homes) c.self.view_is in
-    rw c.insert.ensures.inserted (adopted_rooted _ c.args.dir.0 c.args.home c.self.invariant (rw same c.requires.may))
+    rw c.insert.ensures.inserted (adopted_table _ _ c.args.dir.0 c.args.home c.self.invariant (rw same c.requires.may))

@@ -1,7 +1,7 @@
 -- Each step of the walk goes to the parent.
 use Rattle.std.proofs.Common.{refl, sym, ap, subst, ◌∙◌}
 use Rattle.std.specs.FinMap as map
-use Rattle.inode_table.specs.Dirs.{Table, IsRooted, parent}
+use Rattle.inode_table.specs.Dirs.{Table, IsTable, parent}
 use Rattle.inode_table.proofs.Chains.{nearer, above_parent, are_same, are_apart}
 use Rattle.inode_table.proofs.dirs.Dirs.is_above.Goals as goal
 
@@ -13,7 +13,7 @@ returns-then-eq c =
 pub loop-home-smaller : goal.loop-home-smaller
 loop-home-smaller c =
     let stands = sym (c.in-Some.ensures ∙ ap (λ (t : Table). map.get t.homes c.loop-home.at.0) c.self.view_is) in
-    nearer c.args.self.now.homes c.loop-home.at.0 c.in-Some.home.now (subst (λ (t : Table). IsRooted t.homes) c.self.view_is c.self.invariant) stands
+    nearer c.args.self.now.homes c.loop-home.at.0 c.in-Some.home.now (subst (λ (t : Table). IsTable t.homes t.trees) c.self.view_is c.self.invariant).rooted stands
 
 pub loop-home-preserved : goal.loop-home-preserved
 loop-home-preserved c =

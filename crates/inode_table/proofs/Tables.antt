@@ -1,0 +1,90 @@
+-- The invariant of a directory table, and what a change leaves of it.
+use Rattle.std.proofs.Common.{◌≡◌, ◌==◌, ◌||◌, ℕ, true, false, is_some, Option, Some, None, List, [], ◌∷◌, ◌⊎◌, inl, inr, refl, sym, ap, subst, ◌∙◌}
+use Rattle.std.specs.Ordering.{nat_cmp}
+use Rattle.std.specs.FinMap as map
+use Rattle.std.specs.FinMap.{get-empty}
+use Rattle.mds_types.specs.Frag.{Fragment, root_fragment}
+use Rattle.fragtree.specs.FragTree.{IsTree}
+use Rattle.sorted_map.specs.NatKeys.{same_or_apart, is_apart, get_put, get_beside, get_left, after_put, after_removal}
+use Rattle.inode_table.specs.declared.homes.Home.{Home}
+use Rattle.inode_table.specs.Dirs.{Homes, Covers, IsTable, MayCome, MayMove, IsChildless, is_known, leaves_of, or_whole}
+use Rattle.inode_table.proofs.Chains.{empty_rooted, adopted_rooted, moved_rooted, dropped_rooted}
+
+-- the table of the root alone
+pub empty_table : IsTable map.empty map.empty
+empty_table = record {
+  rooted = empty_rooted;
+  known = λ d leaves is. let clash : None ≡ Some leaves = sym (get-empty nat_cmp d) ∙ is in absurd cc;
+  covers = λ d leaves is. let clash : None ≡ Some leaves = sym (get-empty nat_cmp d) ∙ is in absurd cc;
+}
+
+-- what has a home is a directory, and so is the root
+known_by : (homes : Homes) (d : ℕ) (o : Option Home) → map.get homes d ≡ o → is_some o ≡ true → is_known homes d ≡ true
+known_by homes d o is some = go (d == 1)
+  where
+    go : (b : _) → (b || is_some (map.get homes d)) ≡ true
+    go true = refl
+    go false = ap is_some is ∙ some
+
+-- a directory stays one when another gets a home
+still_known : (homes : Homes) (d : ℕ) (home : Home) (x : ℕ) → is_known homes x ≡ true → is_known (map.insert homes d home) x ≡ true
+still_known homes d home x known = go (same_or_apart x d)
+  where
+    go : (x ≡ d) ⊎ (x ≡ d → ⊥) → is_known (map.insert homes d home) x ≡ true
+    go (inl same) = known_by (map.insert homes d home) x (Some home) (ap (λ k. map.get (map.insert homes d home) k) same ∙ get_put homes d home) refl
+    go (inr apart) = ap (λ (o : Option Home). (x == 1) || is_some o) (get_beside homes d home x apart) ∙ known
+
+-- a directory stays one when another goes
+still_left : (homes : Homes) (d x : ℕ) → (x ≡ d → ⊥) → is_known homes x ≡ true → is_known (map.remove homes d) x ≡ true
+still_left homes d x apart known = ap (λ (o : Option Home). (x == 1) || is_some o) (get_left homes d x apart) ∙ known
+
+-- a new directory comes in
+pub adopted_table : (homes : Homes) (trees : Covers) (d : ℕ) (home : Home) → IsTable homes trees → MayCome homes d home → IsTable (map.insert homes d home) trees
+adopted_table homes trees d home table may = record {
+  rooted = adopted_rooted homes d home table.rooted may;
+  known = λ x leaves is. still_known homes d home x (table.known x leaves is);
+  covers = table.covers;
+}
+
+-- a directory moves
+pub moved_table : (homes : Homes) (trees : Covers) (d : ℕ) (home : Home) → IsTable homes trees → MayMove homes d home → IsTable (map.insert homes d home) trees
+moved_table homes trees d home table may = record {
+  rooted = moved_rooted homes d home table.rooted may;
+  known = λ x leaves is. still_known homes d home x (table.known x leaves is);
+  covers = table.covers;
+}
+
+-- a directory goes with its leaves
+pub dropped_table : (homes : Homes) (trees : Covers) (d : ℕ) → IsTable homes trees → IsChildless homes d → IsTable (map.remove homes d) (map.remove trees d)
+dropped_table homes trees d table childless = record {
+  rooted = dropped_rooted homes d table.rooted childless;
+  known = λ x leaves is. let before = after_removal trees d x leaves is in still_left homes d x before.0 (table.known x leaves before.1);
+  covers = λ x leaves is. table.covers x leaves (after_removal trees d x leaves is).1;
+}
+
+-- a directory gets other leaves
+pub set_table : (homes : Homes) (trees : Covers) (d : ℕ) (leaves : List Fragment) → IsTable homes trees → is_known homes d ≡ true → IsTree leaves → IsTable homes (map.insert trees d leaves)
+set_table homes trees d leaves table known tree = record {
+  rooted = table.rooted;
+  known = λ x ls is. known_by_case x ls (after_put trees d leaves x ls is);
+  covers = λ x ls is. covers_by_case x ls (after_put trees d leaves x ls is);
+}
+  where
+    known_by_case : (x : ℕ) (ls : List Fragment) → ((x ≡ d) × (leaves ≡ ls)) ⊎ ((x ≡ d → ⊥) × (map.get trees x ≡ Some ls)) → is_known homes x ≡ true
+    known_by_case x ls (inl w) = subst (λ k. is_known homes k ≡ true) (sym w.0) known
+    known_by_case x ls (inr w) = table.known x ls w.1
+
+    covers_by_case : (x : ℕ) (ls : List Fragment) → ((x ≡ d) × (leaves ≡ ls)) ⊎ ((x ≡ d → ⊥) × (map.get trees x ≡ Some ls)) → IsTree ls
+    covers_by_case x ls (inl w) = subst IsTree w.1 tree
+    covers_by_case x ls (inr w) = table.covers x ls w.1
+
+-- a directory that comes in has the one leaf `*`: what is no directory has no leaves of its own
+pub whole_at_first : (homes : Homes) (trees : Covers) (d : ℕ) (home : Home) → IsTable homes trees → MayCome homes d home → leaves_of trees d ≡ root_fragment ∷ []
+whole_at_first homes trees d home table may = go (map.get trees d) refl
+  where
+    unknown : is_known homes d ≡ false
+    unknown = ap (λ b. b || is_some (map.get homes d)) (is_apart d 1 may.other) ∙ ap is_some may.fresh
+
+    go : (o : Option (List Fragment)) → map.get trees d ≡ o → or_whole o ≡ root_fragment ∷ []
+    go None is = refl
+    go (Some leaves) is = let clash : true ≡ false = sym (table.known d leaves is) ∙ unknown in absurd cc
