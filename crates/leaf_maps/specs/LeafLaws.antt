@@ -22,7 +22,7 @@ use Rattle.sorted_map.specs.Bools.{left_of, right_of}
 use Rattle.sorted_map.specs.SortedMap.{contents}
 use Rattle.fragtree.specs.FragTree.{IsPick}
 use Rattle.namehash.specs.Rjenkins.{hash_of}
-use Rattle.leaf_maps.specs.CoversStub.{Covers, leaves_of}
+use Rattle.inode_table.specs.Dirs.{Covers, leaves_of}
 use Rattle.leaf_maps.specs.Leaves.{Leaf, leaf_cmp, Rows, Leaves, names_of, entries_of, entries_in, shown_by, ArePlaced, IsShown}
 
 pub leaf-exact : IsAntisymmetric leaf_cmp

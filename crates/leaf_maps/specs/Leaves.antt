@@ -12,7 +12,7 @@ use Rattle.mds_types.specs.Frag.{Fragment, frag_cmp}
 use Rattle.mds_types.specs.Tree.{Tree, place_of, at}
 use Rattle.fragtree.specs.FragTree.{IsPick}
 use Rattle.namehash.specs.Rjenkins.{hash_of}
-use Rattle.leaf_maps.specs.CoversStub.{Covers, leaves_of}
+use Rattle.inode_table.specs.Dirs.{Covers, leaves_of}
 
 -- a leaf: a directory and a fragment of it. Leaves are ordered by directory, and then as fragments
 abbrev pub Leaf : Type 0

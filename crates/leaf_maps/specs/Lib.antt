@@ -1,4 +1,3 @@
 pub mod Changes
-pub mod CoversStub
 pub mod LeafLaws
 pub mod Leaves
