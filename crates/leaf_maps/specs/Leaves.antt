@@ -59,3 +59,7 @@ ArePlaced covers leaves = (d : ℕ) (f : Fragment) (name : List ℕ) (inode : In
 -- a tree is the one shown: a name of a directory stands for the inode that the leaf has which its hash picks
 abbrev pub IsShown : Covers → Leaves → Tree → Type 0
 IsShown covers leaves tree = (d : ℕ) (name : List ℕ) (f : Fragment) → IsPick (leaves_of covers d) (hash_of name) f → at tree d name ≡ finmap.get (names_in leaves d f) name
+
+-- every hash picks a leaf of every directory
+abbrev pub HavePicks : Covers → Type 0
+HavePicks covers = (d hash : ℕ) → (f : Fragment) × IsPick (leaves_of covers d) hash f

@@ -1,4 +1,5 @@
 //! Changes of the names of one leaf.
+ghost use Rattle.leaf_maps.specs.ShownLaws.{shown_after};
 ghost use Rattle.std.specs.Prelude.{◌≡◌, ◌≤◌, ◌<◌, None};
 ghost use Rattle.std.specs.Ordering.{nat_cmp};
 ghost use Rattle.std.specs.Cmp.Lexicographic.{slice_cmp};
