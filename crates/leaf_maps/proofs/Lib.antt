@@ -1,1 +1,3 @@
+pub mod Copied
+pub mod Turns
 pub mod Written

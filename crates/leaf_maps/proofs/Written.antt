@@ -10,7 +10,7 @@ use Rattle.sorted_map.specs.SortedMap.{contents}
 use Rattle.mds_types.specs.Frag.{Fragment}
 use Rattle.mds_types.specs.EntryLaws.{tie, not_true}
 use Rattle.leaf_maps.specs.Leaves.{Leaf, leaf_cmp, Names, Rows, Leaves, names_of, names_in}
-use Rattle.leaf_maps.specs.Changes.{HaveSameNames, IsRewritten, HasRoomIn, HasRoom, KeepRoom}
+use Rattle.leaf_maps.specs.Changes.{HaveSameNames, IsRewritten, HasRoomIn, HasRoom, KeepRoom, AreLeftAlone}
 use Rattle.leaf_maps.specs.LeafLaws.{leaf-exact, leaf-total}
 use Rattle.leaf_maps.specs.OneLeaf.{key, key_itself, one_or_other, apart_keys, names_same}
 
@@ -60,3 +60,8 @@ room_made old new d f rows is some =
 pub room_told : {A B : Type 0} (old new : Leaves) (d : ℕ) (f : Fragment) (rows : Rows) (result : Result A B) → new ≡ finmap.insert old (record { 0 = d }, f) rows → OnOk result (1 ≤ rows.room) → OnOk result (HasRoom new d f)
 room_told old new d f rows (Ok done) is some = room_made old new d f rows is some
 room_told old new d f rows (Err error) is some = tt
+
+-- the rows of other leaves are as they were
+pub left_alone : (old new : Leaves) (d : ℕ) (f : Fragment) (rows : Rows) → new ≡ finmap.insert old (record { 0 = d }, f) rows → AreLeftAlone old new d f
+left_alone old new d f rows is e g apart =
+    ap (λ m. finmap.get m (key e g)) is ∙ get-insert leaf-total old (key d f) rows (key e g) ∙ ap (λ b. cond b (Some rows) (finmap.get old (key e g))) (apart_keys d e f g apart)

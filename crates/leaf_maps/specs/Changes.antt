@@ -24,3 +24,7 @@ HasRoom leaves d f = HasRoomIn (finmap.get leaves (record { 0 = d }, f))
 -- room that leaves had is still there
 abbrev pub KeepRoom : Leaves → Leaves → Type 0
 KeepRoom old new = (d : ℕ) (f : Fragment) → HasRoom old d f → HasRoom new d f
+
+-- the rows of every other leaf are as they were
+abbrev pub AreLeftAlone : Leaves → Leaves → ℕ → Fragment → Type 0
+AreLeftAlone old new d f = (e : ℕ) (g : Fragment) → ((e ≡ d) × (g ≡ f) → ⊥) → finmap.get new (record { 0 = e }, g) ≡ finmap.get old (record { 0 = e }, g)

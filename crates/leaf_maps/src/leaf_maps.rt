@@ -3,7 +3,7 @@ ghost use Rattle.std.specs.Prelude.{◌≡◌, None, OnOk};
 ghost use Rattle.std.specs.Option.{option_copied};
 ghost use Rattle.std.specs.FinMap as map;
 ghost use Rattle.leaf_maps.specs.Leaves.{names_in};
-ghost use Rattle.leaf_maps.specs.Changes.{HaveSameNames, HasRoom, IsRewritten, KeepRoom};
+ghost use Rattle.leaf_maps.specs.Changes.{AreLeftAlone, HaveSameNames, HasRoom, IsRewritten, KeepRoom};
 
 use crate::names::{erase_name, put_name};
 use mds_types::{Frag, Ino, Inode, Name};
@@ -16,7 +16,7 @@ use std::marker::Model;
 /// Which leaves a directory has, and which of them a name belongs to, is the caller's to say.
 #[derive(Debug, Drop)]
 pub struct LeafMaps {
-    leaves: SortedMap<(Ino, Frag), SortedMap<Name, Inode>>,
+    pub(crate) leaves: SortedMap<(Ino, Frag), SortedMap<Name, Inode>>,
 }
 
 impl Model for LeafMaps {
@@ -56,6 +56,7 @@ impl LeafMaps {
     pub fn reserve(&mut self, alloc: Global, dir: Ino, leaf: Frag) -> Result<(), AllocError>
         ensures room { OnOk result (HasRoom self.new dir.0 leaf) }
         ensures same { HaveSameNames self.old self.new }
+        ensures rows { AreLeftAlone self.old self.new dir.0 leaf }
     {
         if let Some(names) = self.leaves.get_mut(&(dir, leaf)) {
             return names.reserve(1);
@@ -71,6 +72,7 @@ impl LeafMaps {
     pub fn put(&mut self, dir: Ino, leaf: Frag, name: Name, inode: Inode)
         requires { map.get (names_in self.old dir.0 leaf) name ≡ None → HasRoom self.old dir.0 leaf }
         ensures put { IsRewritten self.old self.new dir.0 leaf (map.insert (names_in self.old dir.0 leaf) name inode) }
+        ensures rows { AreLeftAlone self.old self.new dir.0 leaf }
     {
         match self.leaves.get_mut(&(dir, leaf)) {
             Some(names) => put_name(names, name, inode),

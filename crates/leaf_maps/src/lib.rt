@@ -3,5 +3,6 @@
 
 mod leaf_maps;
 mod names;
+mod regroup;
 
 pub use leaf_maps::LeafMaps;

@@ -4,7 +4,7 @@ use Rattle.std.specs.FinMap.{get-empty}
 use Rattle.sorted_map.specs.Laws.{contents-entries}
 use Rattle.leaf_maps.specs.Leaves.{Leaves, names_of, names_in}
 use Rattle.leaf_maps.specs.Changes.{HasRoom, HasRoomIn}
-use Rattle.leaf_maps.proofs.Written.{written}
+use Rattle.leaf_maps.proofs.Written.{written, left_alone}
 use Rattle.leaf_maps.proofs.leaf_maps.LeafMaps.put.Goals as goal
 
 pub put_name-requires : goal.put_name-requires
@@ -20,4 +20,5 @@ unreachable-requires c =
 pub returns : goal.returns
 returns c = record {
   put = rw (← c.self.view_is) (written _ _ c.args.dir.0 c.args.leaf c.put_name.new.names _ (contents-entries _) (c.put_name.ensures ∙ ap (λ o. map.insert (names_of o) c.args.name c.args.inode) c.in-Some.ensures.value));
+  rows = rw (← c.self.view_is) (left_alone _ _ c.args.dir.0 c.args.leaf c.put_name.new.names (contents-entries _));
 }
