@@ -1,5 +1,5 @@
 -- Names that were copied to the leaves that their hashes pick.
-use Rattle.std.proofs.Common.{◌≡◌, ℕ, true, false, List, [], ◌∷◌, Option, Some, None, Result, OnOk, T, sym, ap, subst, ◌∙◌, refl}
+use Rattle.std.proofs.Common.{◌≡◌, ℕ, true, false, List, [], ◌∷◌, Some, None, Result, OnOk, T, sym, ap, subst, ◌∙◌, refl}
 use Rattle.std.specs.Prelude.{cond, Bool}
 use Rattle.std.specs.List.{AllByRecursion}
 use Rattle.std.specs.Ordering.{nat_cmp, eq_by_cmp, is_eq}

@@ -1,3 +1,13 @@
 pub mod Copied
+pub mod EmptyLaws
+pub mod Forgotten
+pub mod MergeLaws
+pub mod OrderLaws
+pub mod PageLaws
+pub mod PlacedLaws
+pub mod RowLaws
+pub mod RowTests
+pub mod RunLaws
+pub mod ShownLaws
 pub mod Turns
 pub mod Written

@@ -1,15 +1,14 @@
 -- What a change of one leaf's row leaves.
 use Rattle.std.proofs.Common.{◌≡◌, ℕ, ◌<◌, ◌≤◌, ◌⊎◌, inl, inr, Bool, true, false, cond, List, Some, None, Result, Ok, Err, OnOk, sym, ap, subst, ◌∙◌, refl, arith}
-use Rattle.std.specs.Ordering.{nat_cmp, eq_by_cmp, is_eq}
-use Rattle.std.specs.Cmp.{tied_itself}
+use Rattle.std.specs.Ordering.{nat_cmp, eq_by_cmp}
 use Rattle.std.specs.Cmp.Lexicographic.{slice_cmp, nat_list_cmp_total}
 use Rattle.std.specs.FinMap as finmap
 use Rattle.std.specs.FinMap.{get-insert, get-remove, get_tied, same_map}
 use Rattle.std.proofs.lemmas.Map.Lookups.{exact_bytes}
 use Rattle.sorted_map.specs.SortedMap.{contents}
 use Rattle.mds_types.specs.Frag.{Fragment}
-use Rattle.mds_types.specs.EntryLaws.{tie, not_true}
-use Rattle.leaf_maps.specs.Leaves.{Leaf, leaf_cmp, Names, Rows, Leaves, names_of, names_in}
+use Rattle.mds_types.specs.EntryLaws.{tie}
+use Rattle.leaf_maps.specs.Leaves.{leaf_cmp, Names, Rows, Leaves, names_of, names_in}
 use Rattle.leaf_maps.specs.Changes.{HaveSameNames, IsRewritten, HasRoomIn, HasRoom, KeepRoom, AreLeftAlone}
 use Rattle.leaf_maps.specs.LeafLaws.{leaf-exact, leaf-total}
 use Rattle.leaf_maps.specs.OneLeaf.{key, key_itself, one_or_other, apart_keys, names_same}

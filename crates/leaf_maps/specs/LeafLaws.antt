@@ -32,7 +32,7 @@ pub leaf-total : IsTotalOrder leaf_cmp
 leaf-total = then_total (on_total (λ (l : Leaf). l.0.0) nat_cmp_total) (on_total (λ (l : Leaf). l.1) frag-total)
 
 -- an entry of a directory's names is found by its name
-found_row : (d e : ℕ) (name : List ℕ) (rows : List (List ℕ × Inode)) (rest : List (Place × Inode)) (b : Bool) → (e == d) ≡ b
+pub found_row : (d e : ℕ) (name : List ℕ) (rows : List (List ℕ × Inode)) (rest : List (Place × Inode)) (b : Bool) → (e == d) ≡ b
     → find place_cmp (place_of d name) (entries_of e rows ++ rest) ≡ option_or (cond b (find (slice_cmp nat_cmp) name rows) None) (find place_cmp (place_of d name) rest)
 found_row d e name [] rest true here = refl
 found_row d e name [] rest false here = refl
@@ -48,11 +48,11 @@ found_row d e name (row ∷ rows) rest b here =
     joined false c = refl
 
 -- the first leaf of a directory that has a name tells what it stands for
-abbrev first_at : ℕ → List ℕ → List (Leaf × Rows) → Option Inode
+abbrev pub first_at : ℕ → List ℕ → List (Leaf × Rows) → Option Inode
 first_at d name [] = None
 first_at d name (leaf ∷ rest) = option_or (cond (leaf.0.0.0 == d) (finmap.get (contents (slice_cmp nat_cmp) leaf.1) name) None) (first_at d name rest)
 
-found_first : (d : ℕ) (name : List ℕ) (es : List (Leaf × Rows)) → find place_cmp (place_of d name) (entries_in es) ≡ first_at d name es
+pub found_first : (d : ℕ) (name : List ℕ) (es : List (Leaf × Rows)) → find place_cmp (place_of d name) (entries_in es) ≡ first_at d name es
 found_first d name [] = refl
 found_first d name (leaf ∷ rest) =
     found_row d leaf.0.0.0 name (finmap.entries (contents (slice_cmp nat_cmp) leaf.1)) (entries_in rest) (leaf.0.0.0 == d) refl

@@ -1,6 +1,8 @@
 pub mod Changes
 pub mod LeafLaws
 pub mod Leaves
+pub mod Listed
+pub mod Merge
 pub mod OneLeaf
 pub mod Regroup
 pub mod RegroupLaws

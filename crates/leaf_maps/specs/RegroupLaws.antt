@@ -1,7 +1,6 @@
 -- Names that were gathered from leaves that go, and put where leaves come.
 use Rattle.std.specs.Prelude.{◌≡◌, ℕ, ◌⊎◌, ◌||◌, ◌↔◌, IsTrue, Bool, true, false, cond, List, [], ◌∷◌, Option, Some, None, refl}
 use Rattle.std.specs.Option.{option_or}
-use Rattle.std.specs.List.{list_any, AllByRecursion}
 use Rattle.std.proofs.Common.{inl, inr, sym, ap, subst, ◌∙◌}
 use Rattle.std.proofs.lemmas.Map.Views.{list_any-from_Contains, Contains-from_any}
 use Rattle.std.proofs.lemmas.Map.Lookups.{exact_bytes}
@@ -9,7 +8,7 @@ use Rattle.std.specs.Ordering.{nat_cmp, eq_by_cmp}
 use Rattle.std.specs.Cmp.{eq_by_cmp_equiv}
 use Rattle.std.specs.Cmp.Lexicographic.{slice_cmp, nat_list_cmp_total}
 use Rattle.std.specs.FinMap as finmap
-use Rattle.std.specs.FinMap.{get-insert, get-remove, get-empty}
+use Rattle.std.specs.FinMap.{get-insert}
 use Rattle.sorted_map.specs.Overlay.{overlaid}
 use Rattle.sorted_map.specs.Laws.{get-overlaid}
 use Rattle.mds_types.specs.declared.inodes.Inode.{Inode}
@@ -18,11 +17,10 @@ use Rattle.mds_types.specs.PlaceLaws.{frag-exact, frag-total}
 use Rattle.mds_types.specs.EntryLaws.{tie, not_true}
 use Rattle.fragtree.specs.FragTree.{HasLeaf, IsPick}
 use Rattle.namehash.specs.Rjenkins.{hash_of}
-use Rattle.leaf_maps.specs.Leaves.{Names, Rows, Leaves, leaf_cmp, names_of, names_in}
+use Rattle.leaf_maps.specs.Leaves.{Names, Rows, Leaves, names_in}
 use Rattle.leaf_maps.specs.Changes.{HaveSameNames, IsRewritten, AreLeftAlone}
-use Rattle.leaf_maps.specs.LeafLaws.{leaf-total}
-use Rattle.leaf_maps.specs.OneLeaf.{key, key_itself, one_or_other, apart_keys, names_same}
-use Rattle.leaf_maps.specs.Regroup.{ArePlacedIn, IsRegrouped, is_leaf, gathered, Gathers, PicksFresh, cleared}
+use Rattle.leaf_maps.specs.OneLeaf.{one_or_other}
+use Rattle.leaf_maps.specs.Regroup.{ArePlacedIn, is_leaf, gathered, Gathers}
 
 -- the test of leaves tells what is a leaf
 pub leaf_is : (leaves : List Fragment) (f : Fragment) → HasLeaf leaves f → is_leaf leaves f ≡ true

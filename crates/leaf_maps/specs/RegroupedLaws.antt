@@ -1,21 +1,21 @@
 -- Names that went to other leaves: each is with its pick, and the tree that they show is the same.
-use Rattle.std.specs.Prelude.{◌≡◌, ℕ, ◌⊎◌, ◌||◌, ◌==◌, Bool, true, false, cond, List, [], ◌∷◌, Option, Some, None, refl}
+use Rattle.std.specs.Prelude.{◌≡◌, ℕ, ◌||◌, Bool, true, false, cond, List, [], ◌∷◌, Option, Some, None, refl}
 use Rattle.std.specs.Option.{option_or}
-use Rattle.std.proofs.Common.{inl, inr, sym, ap, subst, ◌∙◌}
-use Rattle.std.specs.Ordering.{nat_cmp, eq_by_cmp, is_eq}
+use Rattle.std.proofs.Common.{inl, sym, ap, subst, ◌∙◌}
+use Rattle.std.specs.Ordering.{eq_by_cmp, is_eq}
 use Rattle.std.specs.Cmp.{tied_itself}
 use Rattle.std.specs.FinMap as finmap
 use Rattle.std.specs.FinMap.{get-remove, get-empty}
-use Rattle.sorted_map.specs.Bools.{or_first, or_second, neither_first}
+use Rattle.sorted_map.specs.Bools.{or_first, or_second}
 use Rattle.sorted_map.specs.Overlay.{overlaid}
 use Rattle.sorted_map.specs.Laws.{get-overlaid}
 use Rattle.mds_types.specs.declared.inodes.Inode.{Inode}
 use Rattle.mds_types.specs.Frag.{Fragment, frag_cmp}
 use Rattle.mds_types.specs.PlaceLaws.{frag-exact, frag-total}
-use Rattle.mds_types.specs.EntryLaws.{tie, not_true}
+use Rattle.mds_types.specs.EntryLaws.{tie}
 use Rattle.fragtree.specs.FragTree.{IsPick}
 use Rattle.namehash.specs.Rjenkins.{hash_of}
-use Rattle.leaf_maps.specs.Leaves.{Names, Rows, Leaves, leaf_cmp, names_of, names_in}
+use Rattle.leaf_maps.specs.Leaves.{Rows, Leaves, leaf_cmp, names_of, names_in}
 use Rattle.leaf_maps.specs.LeafLaws.{leaf-total}
 use Rattle.leaf_maps.specs.OneLeaf.{key, key_itself, apart_keys}
 use Rattle.leaf_maps.specs.Regroup.{ArePlacedIn, IsRegrouped, is_leaf, gathered, Gathers, cleared}

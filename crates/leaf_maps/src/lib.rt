@@ -1,7 +1,10 @@
 //! The names of directories, leaf by leaf: one ordered map of names for each leaf.
 #![tactic(auto)]
 
+mod directories;
 mod leaf_maps;
+mod listing;
+mod merge;
 mod names;
 mod regroup;
 
