@@ -1,13 +1,13 @@
 -- The invariant of a directory table, and what a change leaves of it.
-use Rattle.std.proofs.Common.{◌≡◌, ◌==◌, ◌||◌, ℕ, true, false, is_some, Option, Some, None, List, [], ◌∷◌, ◌⊎◌, inl, inr, refl, sym, ap, subst, ◌∙◌}
+use Rattle.std.proofs.Common.{◌≡◌, ◌==◌, ◌||◌, ℕ, true, false, is_some, Option, Some, None, List, ◌⊎◌, inl, inr, refl, sym, ap, subst, ◌∙◌}
 use Rattle.std.specs.Ordering.{nat_cmp}
 use Rattle.std.specs.FinMap as map
 use Rattle.std.specs.FinMap.{get-empty}
-use Rattle.mds_types.specs.Frag.{Fragment, root_fragment}
+use Rattle.mds_types.specs.Frag.{Fragment}
 use Rattle.fragtree.specs.FragTree.{IsTree}
-use Rattle.sorted_map.specs.NatKeys.{same_or_apart, is_apart, get_put, get_beside, get_left, after_put, after_removal}
+use Rattle.sorted_map.specs.NatKeys.{same_or_apart, get_put, get_beside, get_left, after_put, after_removal}
 use Rattle.inode_table.specs.declared.homes.Home.{Home}
-use Rattle.inode_table.specs.Dirs.{Homes, Covers, IsTable, MayCome, MayMove, IsChildless, is_known, leaves_of, or_whole}
+use Rattle.inode_table.specs.Dirs.{Homes, Covers, IsTable, MayCome, MayMove, IsChildless, is_known}
 use Rattle.inode_table.proofs.Chains.{empty_rooted, adopted_rooted, moved_rooted, dropped_rooted}
 
 -- the table of the root alone
@@ -19,7 +19,7 @@ empty_table = record {
 }
 
 -- what has a home is a directory, and so is the root
-known_by : (homes : Homes) (d : ℕ) (o : Option Home) → map.get homes d ≡ o → is_some o ≡ true → is_known homes d ≡ true
+pub known_by : (homes : Homes) (d : ℕ) (o : Option Home) → map.get homes d ≡ o → is_some o ≡ true → is_known homes d ≡ true
 known_by homes d o is some = go (d == 1)
   where
     go : (b : _) → (b || is_some (map.get homes d)) ≡ true
@@ -77,14 +77,3 @@ set_table homes trees d leaves table known tree = record {
     covers_by_case : (x : ℕ) (ls : List Fragment) → ((x ≡ d) × (leaves ≡ ls)) ⊎ ((x ≡ d → ⊥) × (map.get trees x ≡ Some ls)) → IsTree ls
     covers_by_case x ls (inl w) = subst IsTree w.1 tree
     covers_by_case x ls (inr w) = table.covers x ls w.1
-
--- a directory that comes in has the one leaf `*`: what is no directory has no leaves of its own
-pub whole_at_first : (homes : Homes) (trees : Covers) (d : ℕ) (home : Home) → IsTable homes trees → MayCome homes d home → leaves_of trees d ≡ root_fragment ∷ []
-whole_at_first homes trees d home table may = go (map.get trees d) refl
-  where
-    unknown : is_known homes d ≡ false
-    unknown = ap (λ b. b || is_some (map.get homes d)) (is_apart d 1 may.other) ∙ ap is_some may.fresh
-
-    go : (o : Option (List Fragment)) → map.get trees d ≡ o → or_whole o ≡ root_fragment ∷ []
-    go None is = refl
-    go (Some leaves) is = let clash : true ≡ false = sym (table.known d leaves is) ∙ unknown in absurd cc
