@@ -5,7 +5,7 @@ use Rattle.mds_types.specs.declared.places.Place.{Place}
 use Rattle.mds_types.specs.declared.inodes.Inode.{Inode}
 use Rattle.mds_types.specs.Tree.{Tree, place_of, is_dir_kind, IsWellFormed}
 use Rattle.inode_table.specs.declared.homes.Home.{Home}
-use Rattle.inode_table.specs.Dirs.{Homes}
+use Rattle.inode_table.specs.Dirs.{Homes, Covers}
 use Rattle.namespace_ops.specs.declared.plans.Change.{Change}
 use Rattle.namespace_ops.specs.declared.plans.Change.TheVariants.{Add, Set, Remove, Move}
 
@@ -46,6 +46,11 @@ with_home homes place inode = cond (is_dir_kind inode.kind) (map.insert homes in
 abbrev pub without_home : Homes → Option Inode → Homes
 without_home homes None = homes
 without_home homes (Some inode) = cond (is_dir_kind inode.kind) (map.remove homes inode.ino.0) homes
+
+-- the leaves of the directories without those of an inode, if there was one
+abbrev pub without_cover : Covers → Option Inode → Covers
+without_cover covers None = covers
+without_cover covers (Some inode) = cond (is_dir_kind inode.kind) (map.remove covers inode.ino.0) covers
 
 -- the change can be made with no growth: there is room for a new entry, and for a new home with its name
 abbrev pub IsReady : Kept → Change → Type 0

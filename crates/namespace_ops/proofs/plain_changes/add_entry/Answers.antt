@@ -1,8 +1,8 @@
-use Rattle.namespace_ops.proofs.Tabled.{may_come, added_tabled}
+use Rattle.namespace_ops.specs.TableLaws.{may_come, added_tabled}
 use Rattle.namespace_ops.proofs.plain_changes.add_entry.Goals as goal
 
 pub adopt_dir-requires-clause-may : goal.adopt_dir-requires-clause-may
 adopt_dir-requires-clause-may c kinded = may_come _ _ c.args.place c.args.inode c.requires.tabled c.requires.may
 
 pub returns-clause-tabled : goal.returns-clause-tabled
-returns-clause-tabled c = rw (c.insert.ensures.inserted, c.adopt_dir.ensures) (added_tabled _ _ c.args.place c.args.inode c.requires.tabled c.requires.may)
+returns-clause-tabled c = rw (c.insert.ensures.inserted, c.adopt_dir.ensures.homes) (added_tabled _ _ c.args.place c.args.inode c.requires.tabled c.requires.may)

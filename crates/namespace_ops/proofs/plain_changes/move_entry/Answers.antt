@@ -4,7 +4,7 @@ use Rattle.sorted_map.specs.SortedMap.{contents}
 use Rattle.mds_types.specs.declared.inodes.Inode.{Inode}
 use Rattle.mds_types.specs.Tree.{place_cmp}
 use Rattle.mds_types.specs.MovedLaws.{IsMove}
-use Rattle.namespace_ops.proofs.Moves.{may_relocate, may_replace, moved_tabled, target_stays, taken_is}
+use Rattle.namespace_ops.specs.MoveLaws.{may_relocate, may_replace, moved_tabled, target_stays, taken_is}
 use Rattle.namespace_ops.proofs.plain_changes.move_entry.Goals as goal
 
 pub relocate_dir-requires-clause-may : goal.relocate_dir-requires-clause-may
@@ -17,7 +17,7 @@ relocate_dir-requires-clause-may c kinded = may_relocate (contents place_cmp c.a
 
 pub drop_dir-requires : goal.drop_dir-requires
 drop_dir-requires c gone is kinded =
-    rw c.relocate_dir.ensures
+    rw c.relocate_dir.ensures.homes
     (may_replace (contents place_cmp c.args.entries.now) _ c.args.from.now c.args.to c.in-Some.inode c.requires.tabled move gone
     (sym (target_stays (contents place_cmp c.args.entries.now) _ c.args.from.now c.args.to c.in-Some.inode c.requires.tabled move)
     ∙ ap (λ m. map.get m c.args.to) (sym c.remove.ensures.removed)
@@ -32,7 +32,7 @@ drop_dir-requires c gone is kinded =
 pub returns-clause-tabled : goal.returns-clause-tabled
 returns-clause-tabled c =
     let found = c.get.ensures ∙ ap (λ m. map.get m c.args.to) c.remove.ensures.removed ∙ target_stays (contents place_cmp c.args.entries.now) _ c.args.from.now c.args.to c.in-Some.inode c.requires.tabled move in
-    rw (c.insert.ensures.inserted, c.remove.ensures.removed, c.drop_dir.ensures, c.relocate_dir.ensures, found)
+    rw (c.insert.ensures.inserted, c.remove.ensures.removed, c.drop_dir.ensures.homes, c.relocate_dir.ensures.homes, found)
     (moved_tabled (contents place_cmp c.args.entries.now) _ c.args.from.now c.args.to c.in-Some.inode c.requires.tabled move)
   where
     move : IsMove (contents place_cmp c.args.entries.now) c.args.from.now c.args.to c.in-Some.inode

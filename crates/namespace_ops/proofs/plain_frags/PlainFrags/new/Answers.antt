@@ -1,5 +1,5 @@
-use Rattle.namespace_ops.proofs.Tabled.{empty_tabled}
+use Rattle.namespace_ops.specs.TableLaws.{empty_tabled}
 use Rattle.namespace_ops.proofs.plain_frags.PlainFrags.new.Goals as goal
 
 pub invariant_of-result : goal.invariant_of-result
-invariant_of-result c = rw (c.new.ensures.empty, c.new-2.ensures) empty_tabled
+invariant_of-result c = rw (c.new.ensures.empty, c.new-2.ensures.homes) empty_tabled

@@ -1,0 +1,75 @@
+//! Changes of a directory table beside a tree: what becomes of it where an inode comes, goes or moves.
+//!
+//! None takes memory. A table that is asked for them stays that of its tree, by the laws of `TableLaws` and `MoveLaws`.
+ghost use Rattle.std.specs.Prelude.{◌≡◌, ◌<◌, true, Some};
+ghost use Rattle.std.specs.Option.{option_copied};
+ghost use Rattle.mds_types.specs.declared.inodes.Inode.{Inode as Node};
+ghost use Rattle.mds_types.specs.Tree.{is_dir_kind};
+ghost use Rattle.inode_table.specs.Dirs.{IsChildless, MayCome, MayMove};
+ghost use Rattle.namespace_ops.specs.PlainFrags.{home_at, with_home, without_cover, without_home};
+
+use inode_table::{Dirs, Home};
+use mds_types::{Inode, Name, Place};
+
+/// Notes in the table the new inode at a place, if it is a directory: it has its home there, and the one leaf `*`. Of a
+/// file the table takes no note.
+///
+/// `spare` has the name of the place where the inode is a directory, and there is room for one more.
+pub fn adopt_dir(dirs: &mut Dirs, spare: &mut Option<Name>, place: &Place, inode: &Inode)
+    requires ready { is_dir_kind inode.now.kind ≡ true → (0 < dirs.old.room) × (spare.old ≡ Some place.now.name) }
+    requires may { is_dir_kind inode.now.kind ≡ true → MayCome dirs.old.homes inode.now.ino.0 (home_at place.now) }
+    ensures homes { dirs.new.homes ≡ with_home dirs.old.homes place.now inode.now }
+    ensures trees { dirs.new.trees ≡ dirs.old.trees }
+{
+    if !inode.kind.is_dir() {
+        return;
+    }
+    let Some(name) = spare.take() else {
+        unreachable!()
+    };
+    dirs.adopt(
+        inode.ino,
+        Home {
+            parent: place.dir,
+            name,
+        },
+    );
+}
+
+/// Notes in the table the place that an inode went to, if it is a directory: it has its home there, and keeps its leaves.
+/// Of a file the table takes no note.
+///
+/// `spare` has the name of the place.
+pub fn relocate_dir(dirs: &mut Dirs, spare: &mut Option<Name>, place: &Place, inode: &Inode)
+    requires ready { spare.old ≡ Some place.now.name }
+    requires may { is_dir_kind inode.now.kind ≡ true → MayMove dirs.old.homes inode.now.ino.0 (home_at place.now) }
+    ensures homes { dirs.new.homes ≡ with_home dirs.old.homes place.now inode.now }
+    ensures trees { dirs.new.trees ≡ dirs.old.trees }
+{
+    if !inode.kind.is_dir() {
+        return;
+    }
+    let Some(name) = spare.take() else {
+        unreachable!()
+    };
+    dirs.relocate(
+        inode.ino,
+        Home {
+            parent: place.dir,
+            name,
+        },
+    );
+}
+
+/// Forgets in the table the inode that goes, if there is one and it is a directory: its home and its leaves.
+pub fn drop_dir(dirs: &mut Dirs, inode: Option<&Inode>)
+    requires { (gone : Node) → option_copied inode ≡ Some gone → is_dir_kind gone.kind ≡ true → IsChildless dirs.old.homes gone.ino.0 }
+    ensures homes { dirs.new.homes ≡ without_home dirs.old.homes (option_copied inode.entry) }
+    ensures trees { dirs.new.trees ≡ without_cover dirs.old.trees (option_copied inode.entry) }
+{
+    if let Some(inode) = inode {
+        if inode.kind.is_dir() {
+            dirs.drop(inode.ino);
+        }
+    }
+}
