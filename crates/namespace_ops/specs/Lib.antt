@@ -6,6 +6,7 @@ pub mod Laws
 pub mod MoveLaws
 pub mod OneEntry
 pub mod PlainFrags
+pub mod Picks
 pub mod Planned
 pub mod Reasons
 pub mod Run

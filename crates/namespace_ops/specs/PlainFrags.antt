@@ -9,11 +9,12 @@ use Rattle.inode_table.specs.Dirs.{Homes, Covers}
 use Rattle.namespace_ops.specs.declared.plans.Change.{Change}
 use Rattle.namespace_ops.specs.declared.plans.Change.TheVariants.{Add, Set, Remove, Move}
 
--- the tree, the directory table, how many entries and directories still fit with no growth, and the name that is ready for a
+-- the tree, the homes and the leaves of the directory table, how many entries and directories still fit with no growth, and the name that is ready for a
 -- directory's home
 pub record Kept : Type 0 where
   pub tree : Tree
   pub homes : Homes
+  pub covers : Covers
   pub entries_left : ℕ
   pub dirs_left : ℕ
   pub spare : Option (List ℕ)

@@ -1,12 +1,11 @@
 //! The fragments that an operation would change, found by its checks alone.
-ghost use Rattle.std.specs.Prelude.{◌≡◌, true, ◌⊎◌, ◌++◌, ◌∷◌, [], ℕ, Option, ◌<◌, ◌+◌, ◌≤◌, IfOk, IfErr, vec_len, vec_capacity};
+ghost use Rattle.std.specs.Prelude.{◌≡◌, true, ◌⊎◌, ◌++◌, ◌∷◌, [], ℕ, Option, map, IfOk, IfErr, OnOk};
 ghost use Rattle.std.specs.Option.{option_copied};
 ghost use Rattle.mds_types.specs.declared.refusals.Refusal.TheVariants.{NoMemory};
-ghost use Rattle.mds_types.specs.Frag.{root_fragment};
 ghost use Rattle.mds_types.specs.Tree.{at, place_of, is_directory};
 ghost use Rattle.mds_types.specs.declared.inodes.Inode.{Inode as Node};
 ghost use Rattle.mds_types.specs.Step.{within, directory_of, destination_of, made, attributes_set, unlinked, dir_removed, renamed};
-ghost use Rattle.namespace_ops.specs.ChangedFragments.{changed_fragments, touched, unless_errno, fragment_of, leaves_at, in_all, moved_fragments};
+ghost use Rattle.namespace_ops.specs.ChangedFragments.{changed_fragments, touched, unless_errno, fragment_of, in_directory, leaves_at, moved_fragments};
 
 use crate::altering::size_errno;
 use crate::frags::Frags;
@@ -15,13 +14,14 @@ use mds_types::{Frag, Ino, Inode, Name, Op, Refusal};
 use std::alloc::{AllocError, Global};
 
 /// The fragments that an operation would change now, each with its directory: those of its dentries (of a rename first the
-/// source's, then the target's, though they may be one), and all leaves of a directory that it removes or replaces. There
-/// are none where the operation answers an errno, only reads, or renames onto its own place.
+/// source's, then the target's, though they may be one), and all leaves, by value, of a directory that it removes or
+/// replaces. There are none where the operation answers an errno, only reads, or renames onto its own place.
 ///
-/// It reads, and of its own takes memory for its list alone. It is refused for want of memory, or as a read is.
+/// It reads, and of its own takes memory for its list, and for a copy of the leaves of what goes. It is refused for want of memory, or as a read is.
 pub fn changes<F: Frags>(alloc: Global, frags: &mut F, op: &Op) -> Result<Vec<(Ino, Frag)>, Refusal>
-    ensures changed { IfOk result (λ list. list.items ≡ changed_fragments (F.content frags.old) op.now) }
+    ensures changed { IfOk result (λ list. list.items ≡ changed_fragments (F.covers frags.old) (F.content frags.old) op.now) }
     ensures same { F.content frags.new ≡ F.content frags.old }
+    ensures leaves { F.covers frags.new ≡ F.covers frags.old }
     ensures follows { F.Follows frags.old frags.new }
     ensures err { IfErr result (λ reason. (reason ≡ NoMemory) ⊎ F.MayRefuse frags.old frags.new reason) }
 {
@@ -38,8 +38,9 @@ fn changes_within<F: Frags>(
     op: &Op,
 ) -> Result<Vec<(Ino, Frag)>, Refusal>
     requires there { is_directory (F.content frags.old) (destination_of op.now) ≡ true }
-    ensures changed { IfOk result (λ list. list.items ≡ unless_errno (within (F.content frags.old) op.now 0).reply (touched (F.content frags.old) op.now)) }
+    ensures changed { IfOk result (λ list. list.items ≡ unless_errno (within (F.content frags.old) op.now 0).reply (touched (F.covers frags.old) (F.content frags.old) op.now)) }
     ensures same { F.content frags.new ≡ F.content frags.old }
+    ensures leaves { F.covers frags.new ≡ F.covers frags.old }
     ensures follows { F.Follows frags.old frags.new }
     ensures err { IfErr result (λ reason. (reason ≡ NoMemory) ⊎ F.MayRefuse frags.old frags.new reason) }
 {
@@ -72,15 +73,16 @@ fn of_making<F: Frags>(
     name: &Name,
 ) -> Result<Vec<(Ino, Frag)>, Refusal>
     ensures changed { (inode : Node) → IfOk result (λ list. list.items
-        ≡ unless_errno (made (F.content frags.old) (place_of dir.0 name.now) inode (at (F.content frags.old) dir.0 name.now)).reply (fragment_of dir.0 name.now ∷ [])) }
+        ≡ unless_errno (made (F.content frags.old) (place_of dir.0 name.now) inode (at (F.content frags.old) dir.0 name.now)).reply (fragment_of (F.covers frags.old) dir.0 name.now ∷ [])) }
     ensures same { F.content frags.new ≡ F.content frags.old }
+    ensures leaves { F.covers frags.new ≡ F.covers frags.old }
     ensures follows { F.Follows frags.old frags.new }
     ensures err { IfErr result (λ reason. (reason ≡ NoMemory) ⊎ F.MayRefuse frags.old frags.new reason) }
 {
     if frags.look(dir, name)?.is_some() {
         return Ok(Vec::new(alloc));
     }
-    Ok(fragments(alloc, dir, None, None)?)
+    Ok(alone(alloc, of_name(frags, dir, name))?)
 }
 
 fn of_setting<F: Frags>(
@@ -91,8 +93,9 @@ fn of_setting<F: Frags>(
     size: Option<u64>,
 ) -> Result<Vec<(Ino, Frag)>, Refusal>
     ensures changed { (mode mtime : Option ℕ) → IfOk result (λ list. list.items
-        ≡ unless_errno (attributes_set (F.content frags.old) (place_of dir.0 name.now) mode size mtime (at (F.content frags.old) dir.0 name.now)).reply (fragment_of dir.0 name.now ∷ [])) }
+        ≡ unless_errno (attributes_set (F.content frags.old) (place_of dir.0 name.now) mode size mtime (at (F.content frags.old) dir.0 name.now)).reply (fragment_of (F.covers frags.old) dir.0 name.now ∷ [])) }
     ensures same { F.content frags.new ≡ F.content frags.old }
+    ensures leaves { F.covers frags.new ≡ F.covers frags.old }
     ensures follows { F.Follows frags.old frags.new }
     ensures err { IfErr result (λ reason. (reason ≡ NoMemory) ⊎ F.MayRefuse frags.old frags.new reason) }
 {
@@ -102,7 +105,7 @@ fn of_setting<F: Frags>(
     if size_errno(&inode.kind, size).is_some() {
         return Ok(Vec::new(alloc));
     }
-    Ok(fragments(alloc, dir, None, None)?)
+    Ok(alone(alloc, of_name(frags, dir, name))?)
 }
 
 fn of_unlink<F: Frags>(
@@ -112,8 +115,9 @@ fn of_unlink<F: Frags>(
     name: &Name,
 ) -> Result<Vec<(Ino, Frag)>, Refusal>
     ensures changed { IfOk result (λ list. list.items
-        ≡ unless_errno (unlinked (F.content frags.old) (place_of dir.0 name.now) (at (F.content frags.old) dir.0 name.now)).reply (fragment_of dir.0 name.now ∷ [])) }
+        ≡ unless_errno (unlinked (F.content frags.old) (place_of dir.0 name.now) (at (F.content frags.old) dir.0 name.now)).reply (fragment_of (F.covers frags.old) dir.0 name.now ∷ [])) }
     ensures same { F.content frags.new ≡ F.content frags.old }
+    ensures leaves { F.covers frags.new ≡ F.covers frags.old }
     ensures follows { F.Follows frags.old frags.new }
     ensures err { IfErr result (λ reason. (reason ≡ NoMemory) ⊎ F.MayRefuse frags.old frags.new reason) }
 {
@@ -123,7 +127,7 @@ fn of_unlink<F: Frags>(
     if inode.kind.is_dir() {
         return Ok(Vec::new(alloc));
     }
-    Ok(fragments(alloc, dir, None, None)?)
+    Ok(alone(alloc, of_name(frags, dir, name))?)
 }
 
 fn of_removing_dir<F: Frags>(
@@ -133,8 +137,9 @@ fn of_removing_dir<F: Frags>(
     name: &Name,
 ) -> Result<Vec<(Ino, Frag)>, Refusal>
     ensures changed { let found = at (F.content frags.old) dir.0 name.now in IfOk result (λ list. list.items
-        ≡ unless_errno (dir_removed (F.content frags.old) (place_of dir.0 name.now) found).reply (fragment_of dir.0 name.now ∷ leaves_at found)) }
+        ≡ unless_errno (dir_removed (F.content frags.old) (place_of dir.0 name.now) found).reply (fragment_of (F.covers frags.old) dir.0 name.now ∷ leaves_at (F.covers frags.old) found)) }
     ensures same { F.content frags.new ≡ F.content frags.old }
+    ensures leaves { F.covers frags.new ≡ F.covers frags.old }
     ensures follows { F.Follows frags.old frags.new }
     ensures err { IfErr result (λ reason. (reason ≡ NoMemory) ⊎ F.MayRefuse frags.old frags.new reason) }
 {
@@ -144,7 +149,9 @@ fn of_removing_dir<F: Frags>(
     if !inode.kind.is_dir() || !frags.is_empty(inode.ino)? {
         return Ok(Vec::new(alloc));
     }
-    Ok(fragments(alloc, dir, None, Some(&inode))?)
+    let mut list = alone(alloc, of_name(frags, dir, name))?;
+    note_gone(alloc, frags, &mut list, Some(&inode))?;
+    Ok(list)
 }
 
 fn of_rename<F: Frags>(
@@ -157,8 +164,9 @@ fn of_rename<F: Frags>(
     ensures changed { let tree = F.content frags.old in
         let from = place_of source.entry.0.0 source.entry.1.now in
         let to = place_of target.entry.0.0 target.entry.1.now in
-        IfOk result (λ list. list.items ≡ unless_errno (renamed tree from to (at tree from.dir.0 from.name) (at tree to.dir.0 to.name)).reply (moved_fragments tree from to)) }
+        IfOk result (λ list. list.items ≡ unless_errno (renamed tree from to (at tree from.dir.0 from.name) (at tree to.dir.0 to.name)).reply (moved_fragments (F.covers frags.old) tree from to)) }
     ensures same { F.content frags.new ≡ F.content frags.old }
+    ensures leaves { F.covers frags.new ≡ F.covers frags.old }
     ensures follows { F.Follows frags.old frags.new }
     ensures err { IfErr result (λ reason. (reason ≡ NoMemory) ⊎ F.MayRefuse frags.old frags.new reason) }
 {
@@ -172,49 +180,67 @@ fn of_rename<F: Frags>(
     if replace_errno(frags, &inode, replaced.as_ref())?.is_some() {
         return Ok(Vec::new(alloc));
     }
-    Ok(fragments(alloc, source.0, Some(target.0), replaced.as_ref())?)
+    of_move(alloc, frags, source, target, replaced.as_ref())
 }
 
-// The fragments of the dentries in these directories, and all leaves of what goes, if that is a directory.
-fn fragments(
+// The fragments of both dentries of a rename, and all leaves of what it replaces, if that is a directory.
+fn of_move<F: Frags>(
     alloc: Global,
-    dentry: Ino,
-    target: Option<Ino>,
+    frags: &F,
+    source: (Ino, &Name),
+    target: (Ino, &Name),
     gone: Option<&Inode>,
-) -> Result<Vec<(Ino, Frag)>, AllocError>
-    ensures { IfOk result (λ list. list.items ≡ (dentry, root_fragment) ∷ (in_all target ++ leaves_at (option_copied gone.entry))) }
+) -> Result<Vec<(Ino, Frag)>, Refusal>
+    ensures changed { let covers = F.covers frags.now in IfOk result (λ list. list.items
+        ≡ fragment_of covers source.entry.0.0 source.entry.1.now ∷ fragment_of covers target.entry.0.0 target.entry.1.now ∷ leaves_at covers (option_copied gone.entry)) }
+    ensures err { IfErr result (λ reason. reason ≡ NoMemory) }
 {
-    let mut list = Vec::with_capacity(alloc, 3)?;
-    list.push_reserved((dentry, Frag::ROOT));
-    note(&mut list, target);
-    note(&mut list, directory_number(gone));
+    let mut list = Vec::with_capacity(alloc, 2)?;
+    list.push_reserved(of_name(frags, source.0, source.1));
+    list.push_reserved(of_name(frags, target.0, target.1));
+    note_gone(alloc, frags, &mut list, gone)?;
     Ok(list)
 }
 
-// Notes the leaf of a directory, if there is one.
-fn note(list: &mut Vec<(Ino, Frag)>, dir: Option<Ino>)
-    requires room { vec_len list.old < vec_capacity list.old }
-    ensures items { list.new.items ≡ list.old.items ++ in_all dir }
-    ensures len { vec_len list.new ≤ vec_len list.old + 1 }
-    ensures capacity { vec_capacity list.new ≡ vec_capacity list.old }
+// The fragment of a name, with its directory.
+fn of_name<F: Frags>(frags: &F, dir: Ino, name: &Name) -> (Ino, Frag)
+    ensures { result ≡ fragment_of (F.covers frags.now) dir.0 name.now }
 {
-    if let Some(dir) = dir {
-        list.push_reserved((dir, Frag::ROOT));
-    }
+    (dir, frags.frag_of(dir, name))
 }
 
-// The number of an inode, if there is one and it is a directory.
-fn directory_number(inode: Option<&Inode>) -> Option<Ino>
-    ensures { in_all result ≡ leaves_at (option_copied inode.entry) }
+// One fragment.
+fn alone(alloc: Global, fragment: (Ino, Frag)) -> Result<Vec<(Ino, Frag)>, AllocError>
+    ensures { IfOk result (λ list. list.items ≡ fragment ∷ []) }
 {
-    match inode {
-        Some(inode) => {
-            if inode.kind.is_dir() {
-                Some(inode.ino)
-            } else {
-                None
-            }
-        }
-        None => None,
+    Ok(vec![in alloc; fragment]?)
+}
+
+// Notes all leaves of what goes, if that is a directory.
+fn note_gone<F: Frags>(
+    alloc: Global,
+    frags: &F,
+    list: &mut Vec<(Ino, Frag)>,
+    gone: Option<&Inode>,
+) -> Result<(), Refusal>
+    ensures items { OnOk result (list.new.items ≡ list.old.items ++ leaves_at (F.covers frags.now) (option_copied gone.entry)) }
+    ensures err { IfErr result (λ reason. reason ≡ NoMemory) }
+{
+    let Some(inode) = gone else { return Ok(()) };
+    if !inode.kind.is_dir() {
+        return Ok(());
     }
+    let leaves = frags.leaves(alloc, inode.ino)?;
+    note_leaves(list, inode.ino, &leaves)?;
+    Ok(())
+}
+
+// Notes leaves of a directory.
+fn note_leaves(list: &mut Vec<(Ino, Frag)>, dir: Ino, leaves: &[Frag]) -> Result<(), AllocError>
+    ensures { OnOk result (list.new.items ≡ list.old.items ++ map (in_directory dir.0) leaves.now) }
+{
+    for leaf in leaves {
+        list.push((dir, *leaf))?;
+    }
+    Ok(())
 }

@@ -15,14 +15,15 @@ use crate::listing::{first_rows, next_in};
 use crate::plain_changes::{add_entry, move_entry, remove_entry, set_entry};
 use crate::plans::Change;
 use inode_table::Dirs;
-use mds_types::{Ino, Inode, Listing, Name, Op, PageSize, Place, Refusal};
+use mds_types::{Frag, Ino, Inode, Listing, Name, Op, PageSize, Place, Refusal};
+use namehash::rjenkins;
 use sorted_map::{Iter, Probe, SortedMap};
 use std::alloc::{AllocError, Global};
 use std::cmp::Ordering;
 use std::fmt;
 use std::marker::Model;
 
-/// All entries in one ordered map, and beside it the directory table.
+/// All entries in one ordered map, and beside it the directory table with each directory's leaves.
 ///
 /// Of every value it holds that the tree is well formed and the table is that of the tree.
 #[derive(Drop)]
@@ -45,15 +46,16 @@ impl Model for PlainFrags {
 
     ghost coded = { Prim.hlevel (codes, map.code) };
 
-    ghost view = { λ f. record { tree = contents place_cmp f.entries; homes = f.dirs.homes; entries_left = f.entries.room; dirs_left = f.dirs.room; spare = f.spare } };
+    ghost view = { λ f. record { tree = contents place_cmp f.entries; homes = f.dirs.homes; covers = f.dirs.trees; entries_left = f.entries.room; dirs_left = f.dirs.room; spare = f.spare } };
 
     ghost invariant = { λ f. IsTabled (contents place_cmp f.entries) f.dirs.homes };
 }
 
 impl PlainFrags {
-    /// Fragments with no entry: the empty tree.
+    /// Fragments with no entry: the empty tree, of which the root has the one leaf `*`.
     pub fn new(alloc: Global) -> PlainFrags
-        ensures { result.tree ≡ map.empty }
+        ensures tree { result.tree ≡ map.empty }
+        ensures leaves { result.covers ≡ map.empty }
     {
         PlainFrags {
             entries: SortedMap::new(alloc),
@@ -130,6 +132,8 @@ impl Frags for PlainFrags {
 
     ghost content = { λ f. f.tree };
 
+    ghost covers = { λ f. f.covers };
+
     ghost IsReady = { λ f change. IsReadyFor f change };
 
     ghost Follows = { λ a b. Unit {0} };
@@ -150,6 +154,14 @@ impl Frags for PlainFrags {
 
     fn is_above(&self, dir: Ino, below: Ino) -> bool {
         self.dirs.is_above(dir, below)
+    }
+
+    fn frag_of(&self, dir: Ino, name: &Name) -> Frag {
+        self.dirs.pick(dir, rjenkins(name.as_bytes()))
+    }
+
+    fn leaves(&self, alloc: Global, dir: Ino) -> Result<Vec<Frag>, Refusal> {
+        Ok(self.dirs.tree(alloc, dir)?.leaves(alloc)?)
     }
 
     fn look(&mut self, dir: Ino, name: &Name) -> Result<Option<Inode>, Refusal> {

@@ -112,6 +112,7 @@ pub fn replace_errno<F: Frags>(
 ) -> Result<Option<u16>, Refusal>
     ensures found { IfOk result (λ errno. errno ≡ errno_of_replacing (F.content frags.old) inode.now (option_copied replaced.entry)) }
     ensures same { F.content frags.new ≡ F.content frags.old }
+    ensures leaves { F.covers frags.new ≡ F.covers frags.old }
     ensures follows { F.Follows frags.old frags.new }
     ensures err { IfErr result (F.MayRefuse frags.old frags.new) }
 {
