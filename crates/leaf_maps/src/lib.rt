@@ -9,3 +9,6 @@ mod names;
 mod regroup;
 
 pub use leaf_maps::LeafMaps;
+
+#[cfg(test)]
+mod tests;
