@@ -68,7 +68,6 @@ cleared_gone m d to (f ∷ fs) g there gone = go (eq_by_cmp frag_cmp g f) refl t
 -- names gathered from the leaves that go were laid over the rest, and those leaves cleared away
 module _ (old parts new : Leaves) (d : ℕ) (from to : List Fragment) (picks : (hash : ℕ) → (f : Fragment) × IsPick to hash f) (placed : ArePlacedIn old d from)
     (gathers : Gathers parts d from to (gathered old d to finmap.empty from)) (is : new ≡ cleared (overlaid old parts) d to from) where
-
   no_part : (e : ℕ) (f : Fragment) → ((e ≡ d) × (is_leaf from f ≡ false) → ⊥) → finmap.get parts (key e f) ≡ None
   no_part e f apart = go (finmap.get parts (key e f)) refl
     where

@@ -48,7 +48,6 @@ placed_under covers later leaves placed kept d f name inode has = subst (λ cove
 -- one name of the leaf that its hash picks got another value, or went
 module _ (covers : Covers) (old new : Leaves) (picks : HavePicks covers) (placed : ArePlaced covers old) (d : ℕ) (f : Fragment) (name : List ℕ) (pick : IsPick (leaves_of covers d) (hash_of name) f)
     (value : Option Inode) (names : Names) (is : IsRewritten old new d f names) (row : (n : List ℕ) → finmap.get names n ≡ cond (eq_by_cmp (slice_cmp nat_cmp) n name) value (finmap.get (names_in old d f) n)) where
-
   pub placed_after : ArePlaced covers new
   placed_after e g n inode has = go (one_or_other d e f g)
     where

@@ -19,8 +19,9 @@ use sorted_map::SortedMap;
 use std::alloc::{AllocError, Global};
 
 impl LeafMaps {
-    /// Takes the names of a directory from the leaves of one cover to those of another: the names of the leaves that the
-    /// second doesn't have go to the leaves of it that their hashes pick. All other leaves stay as they are.
+    /// Takes the names of a directory, each of which is with the leaf of `from` that its hash picks, to the leaves of `to`:
+    /// the names of the leaves that `to` doesn't have go to the leaves of it that their hashes pick. All other leaves stay as
+    /// they are.
     ///
     /// The names that go are copied first, which is all the memory that this takes beside room for the new leaves. An error
     /// says that memory ran out, and then nothing was changed.
@@ -31,8 +32,7 @@ impl LeafMaps {
         from: &FragTree,
         to: &FragTree,
     ) -> Result<(), AllocError>
-        requires { ArePlacedIn self.old dir.0 from.now }
-        ensures ok { OnOk result (IsRegrouped self.old self.new dir.0 from.now to.now) }
+        ensures ok { ArePlacedIn self.old dir.0 from.now → OnOk result (IsRegrouped self.old self.new dir.0 from.now to.now) }
         ensures err { OnErr result (self.new ≡ self.old) }
     {
         each_hash_has_a_pick();
@@ -52,8 +52,8 @@ fn copies(
     from: &FragTree,
     to: &FragTree,
 ) -> Result<LeafMaps, AllocError>
-    requires { ArePlacedIn (contents leaf_cmp leaves.now) dir.0 from.now }
-    ensures { IfOk result (λ parts. Gathers parts dir.0 from.now to.now (gathered (contents leaf_cmp leaves.now) dir.0 to.now map.empty from.now)) }
+    ensures { ArePlacedIn (contents leaf_cmp leaves.now) dir.0 from.now
+        → IfOk result (λ parts. Gathers parts dir.0 from.now to.now (gathered (contents leaf_cmp leaves.now) dir.0 to.now map.empty from.now)) }
 {
     let mut parts = LeafMaps::new(alloc);
     for leaf in from {
