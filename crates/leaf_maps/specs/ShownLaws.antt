@@ -16,11 +16,13 @@ use Rattle.mds_types.specs.EntryLaws.{tie, place_apart}
 use Rattle.mds_types.specs.ListingLaws.{tied_place}
 use Rattle.fragtree.specs.FragTree.{IsPick}
 use Rattle.namehash.specs.Rjenkins.{hash_of}
-use Rattle.inode_table.specs.Dirs.{Covers, leaves_of}
+use Rattle.inode_table.specs.Dirs.{Covers, or_whole, leaves_of}
 use Rattle.leaf_maps.specs.Leaves.{Names, Leaves, names_in, shown_by, ArePlaced, HavePicks}
 use Rattle.leaf_maps.specs.Changes.{HaveSameNames, IsRewritten}
 use Rattle.leaf_maps.specs.LeafLaws.{shown_at}
 use Rattle.leaf_maps.specs.OneLeaf.{one_or_other, names_same}
+use Rattle.leaf_maps.specs.Regroup.{IsRegrouped}
+use Rattle.sorted_map.specs.NatKeys.{same_or_apart, get_put, get_beside}
 
 -- leaves among which names lie otherwise show the same tree, if each name is with its pick before and after
 pub shown_regrouped : (covers later : Covers) (old new : Leaves) → HavePicks covers → HavePicks later → ArePlaced covers old → ArePlaced later new
@@ -44,6 +46,33 @@ shown_still covers old new picks same placed = shown_regrouped covers covers old
 pub placed_under : (covers later : Covers) (leaves : Leaves) → ArePlaced covers leaves
     → ((d : ℕ) (f : Fragment) (name : List ℕ) (inode : Inode) → finmap.get (names_in leaves d f) name ≡ Some inode → leaves_of later d ≡ leaves_of covers d) → ArePlaced later leaves
 placed_under covers later leaves placed kept d f name inode has = subst (λ cover. IsPick cover (hash_of name) f) (sym (kept d f name inode has)) (placed d f name inode has)
+
+-- a directory got other leaves, and its names went to them
+module _ (covers later : Covers) (old new : Leaves) (d : ℕ) (to : List Fragment) (is : IsRegrouped old new d (leaves_of covers d) to) (set : later ≡ finmap.insert covers d to) (placed : ArePlaced covers old) where
+  its : (e : ℕ) → e ≡ d → leaves_of later e ≡ to
+  its e same = ap (λ c. leaves_of c e) set ∙ ap (λ k. or_whole (finmap.get (finmap.insert covers d to) k)) same ∙ ap or_whole (get_put covers d to)
+
+  others : (e : ℕ) → (e ≡ d → ⊥) → leaves_of later e ≡ leaves_of covers e
+  others e apart = ap (λ c. leaves_of c e) set ∙ ap or_whole (get_beside covers d to e apart)
+
+  pub regrouped_placed : ArePlaced later new
+  regrouped_placed e f name inode has = go (same_or_apart e d)
+    where
+      go : (e ≡ d) ⊎ (e ≡ d → ⊥) → IsPick (leaves_of later e) (hash_of name) f
+      go (inl same) = subst (λ cover. IsPick cover (hash_of name) f) (sym (its e same)) (is.placed f name inode (ap (λ k. finmap.get (names_in new k f) name) (sym same) ∙ has))
+      go (inr apart) = subst (λ cover. IsPick cover (hash_of name) f) (sym (others e apart)) (placed e f name inode (ap (λ m. finmap.get m name) (sym (is.elsewhere e f apart)) ∙ has))
+
+  pub regrouped_shown : HavePicks covers → HavePicks later → shown_by new ≡ shown_by old
+  regrouped_shown picks later_picks = shown_regrouped covers later old new picks later_picks placed regrouped_placed (λ e name f g before after. go e name f g before after (same_or_apart e d))
+    where
+      go : (e : ℕ) (name : List ℕ) (f g : Fragment) → IsPick (leaves_of covers e) (hash_of name) f → IsPick (leaves_of later e) (hash_of name) g → (e ≡ d) ⊎ (e ≡ d → ⊥) → finmap.get (names_in new e g) name ≡ finmap.get (names_in old e f) name
+      go e name f g before after (inl same) =
+          ap (λ k. finmap.get (names_in new k g) name) same
+          ∙ is.same name f g (subst (λ k. IsPick (leaves_of covers k) (hash_of name) f) same before) (subst (λ cover. IsPick cover (hash_of name) g) (its e same) after)
+          ∙ ap (λ k. finmap.get (names_in old k f) name) (sym same)
+      go e name f g before after (inr apart) =
+          let still : IsPick (leaves_of covers e) (hash_of name) g = subst (λ cover. IsPick cover (hash_of name) g) (others e apart) after in
+          ap (λ m. finmap.get m name) (is.elsewhere e g apart) ∙ ap (λ h. finmap.get (names_in old e h) name) (before.alone g still.stands still.contains)
 
 -- one name of the leaf that its hash picks got another value, or went
 module _ (covers : Covers) (old new : Leaves) (picks : HavePicks covers) (placed : ArePlaced covers old) (d : ℕ) (f : Fragment) (name : List ℕ) (pick : IsPick (leaves_of covers d) (hash_of name) f)

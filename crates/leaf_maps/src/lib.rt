@@ -2,6 +2,7 @@
 #![tactic(auto)]
 
 mod directories;
+pub mod laws;
 mod leaf_maps;
 mod listing;
 mod merge;

@@ -1,6 +1,4 @@
 //! Changes of the names of one leaf.
-ghost use Rattle.leaf_maps.specs.ShownLaws.{shown_after};
-ghost use Rattle.leaf_maps.specs.RegroupedLaws.{regrouped};
 ghost use Rattle.std.specs.Prelude.{◌≡◌, ◌≤◌, ◌<◌, None};
 ghost use Rattle.std.specs.Ordering.{nat_cmp};
 ghost use Rattle.std.specs.Cmp.Lexicographic.{slice_cmp};

@@ -58,9 +58,12 @@ fn placed(alloc: Global, leaves: &LeafMaps, tree: &FragTree) -> Option<Vec<u8>> 
     Some(text)
 }
 
-fn halves(alloc: Global, bits: u8) -> Option<FragTree> {
+// The whole directory split by so many bits.
+fn split(alloc: Global, bits: u8) -> Option<FragTree> {
     let mut tree = FragTree::whole(alloc).ok()?;
-    tree.split(Frag::ROOT, bits).ok()?;
+    if tree.split(Frag::ROOT, bits).is_err() {
+        return None;
+    }
     Some(tree)
 }
 
@@ -70,7 +73,7 @@ fn names_go_to_the_leaves_that_their_hashes_pick_and_back(rt: HostRuntime) -> Re
     let mut leaves = whole(alloc).ok_or("no names")?;
     let mut tree = FragTree::whole(alloc)?;
     for bits in &[1, 3, 8] {
-        let next = halves(alloc, *bits).ok_or("no tree")?;
+        let next = split(alloc, *bits).ok_or("no tree")?;
         leaves.regroup(alloc, DIR, &tree, &next)?;
         let text = placed(alloc, &leaves, &next).ok_or("no listing")?;
         assert_eq!(rt; text.as_slice(), NAMES.as_bytes());

@@ -1,0 +1,5 @@
+use Rattle.leaf_maps.specs.ShownLaws.{regrouped_shown}
+use Rattle.leaf_maps.proofs.laws.regrouped_leaves_show_the_same.Goals as goal
+
+pub returns : goal.returns
+returns c = regrouped_shown
