@@ -9,12 +9,13 @@ use crate::names::{erase_name, put_name};
 use mds_types::{Frag, Ino, Inode, Name};
 use sorted_map::SortedMap;
 use std::alloc::{AllocError, Global};
+use std::fmt;
 use std::marker::Model;
 
 /// One ordered map of names for each leaf of each directory. A leaf of which nothing is kept has no names.
 ///
 /// Which leaves a directory has, and which of them a name belongs to, is the caller's to say.
-#[derive(Debug, Drop)]
+#[derive(Drop)]
 pub struct LeafMaps {
     pub(crate) leaves: SortedMap<(Ino, Frag), SortedMap<Name, Inode>>,
 }
@@ -30,6 +31,19 @@ impl Model for LeafMaps {
     ghost coded = { Prim.hlevel (codes, map.code, shown_code) };
 
     ghost view = { λ m. contents leaf_cmp m.leaves };
+}
+
+impl fmt::Debug for LeafMaps {
+    /// The leaves that have names. Room for a leaf's first name is no part of them.
+    fn fmt<W: fmt::Write>(&self, f: &mut fmt::Formatter<W>) -> fmt::Result {
+        write!(f, "LeafMaps(")?;
+        for leaf in &self.leaves {
+            if !leaf.1.is_empty() {
+                write!(f, "{leaf:?}")?;
+            }
+        }
+        write!(f, ")")
+    }
 }
 
 impl LeafMaps {
