@@ -6,6 +6,7 @@ mod faulty_frags;
 mod one_entry_frags;
 mod renames;
 mod slow_table;
+mod split_dirs;
 
 use crate::{PlainFrags, changes, serve_op};
 use asked::{Asked, Came, FIRST, ROOT, op_of, told};

@@ -6,7 +6,7 @@ use super::{ALL, REPLACED, Row, shown};
 use crate::frags::Frags;
 use crate::plans::Change;
 use crate::{PlainFrags, changes, serve_op};
-use mds_types::{Ino, Inode, Listing, Name, Op, PageSize, Refusal};
+use mds_types::{Frag, Ino, Inode, Listing, Name, Op, PageSize, Refusal};
 use std::alloc::Global;
 
 /// Plain fragments of which the read at the end of a count meets a fault; at 0 none does.
@@ -29,6 +29,8 @@ impl Frags for FaultyFrags {
 
     ghost content = { λ f. f.inner.tree };
 
+    ghost covers = { λ f. f.inner.covers };
+
     ghost IsReady = { λ f change. IsReadyFor f.inner change };
 
     ghost Follows = { λ a b. Unit {0} };
@@ -49,6 +51,14 @@ impl Frags for FaultyFrags {
 
     fn is_above(&self, dir: Ino, below: Ino) -> bool {
         self.inner.is_above(dir, below)
+    }
+
+    fn frag_of(&self, dir: Ino, name: &Name) -> Frag {
+        self.inner.frag_of(dir, name)
+    }
+
+    fn leaves(&self, alloc: Global, dir: Ino) -> Result<Vec<Frag>, Refusal> {
+        self.inner.leaves(alloc, dir)
     }
 
     fn look(&mut self, dir: Ino, name: &Name) -> Result<Option<Inode>, Refusal> {

@@ -1,4 +1,4 @@
-//! Fragments of another kind: there is room for one entry, and there is no table.
+//! Fragments of another kind: there is room for one entry, and the leaves are those of a table that no change touches.
 ghost use Rattle.std.specs.Prelude.{◌≡◌, ◌==◌, ◌||◌, true, not};
 ghost use Rattle.mds_types.specs.WellFormedLaws.{IsUnused};
 ghost use Rattle.std.specs.Option.{option_copied};
@@ -11,13 +11,16 @@ use super::asked::{Asked, Came, FIRST, ROOT, op_of, told};
 use crate::frags::Frags;
 use crate::plans::Change;
 use crate::serve_op;
-use mds_types::{Ino, Inode, Listing, Name, Op, PageSize, Place, Refusal};
+use inode_table::Dirs;
+use mds_types::{Frag, Ino, Inode, Listing, Name, Op, PageSize, Place, Refusal};
+use namehash::rjenkins;
 use std::alloc::Global;
 
 /// At most one entry: a second one is refused for want of memory, and so is every listing.
 #[derive(Drop)]
-struct OneEntryFrags {
-    only: Option<(Place, Inode)>,
+pub struct OneEntryFrags {
+    pub only: Option<(Place, Inode)>,
+    pub dirs: Dirs,
 }
 
 impl Frags for OneEntryFrags {
@@ -27,6 +30,8 @@ impl Frags for OneEntryFrags {
     ghost use Rattle.namespace_ops.specs.OneEntry.{tree_of, IsReadyOne};
 
     ghost content = { λ f. tree_of f.only };
+
+    ghost covers = { λ f. f.dirs.trees };
 
     ghost IsReady = { λ f change. IsReadyOne f.only change };
 
@@ -48,6 +53,14 @@ impl Frags for OneEntryFrags {
 
     fn is_above(&self, dir: Ino, below: Ino) -> bool {
         is_only_above(&self.only, dir, below)
+    }
+
+    fn frag_of(&self, dir: Ino, name: &Name) -> Frag {
+        self.dirs.pick(dir, rjenkins(name.as_bytes()))
+    }
+
+    fn leaves(&self, alloc: Global, dir: Ino) -> Result<Vec<Frag>, Refusal> {
+        Ok(self.dirs.tree(alloc, dir)?.leaves(alloc)?)
     }
 
     fn look(&mut self, dir: Ino, name: &Name) -> Result<Option<Inode>, Refusal> {
@@ -184,7 +197,7 @@ const ROW: [(Asked, Came); 12] = [
 ];
 
 // Serves an operation that is offered this number, if that is no entry's.
-fn served(alloc: Global, frags: &mut OneEntryFrags, asked: Asked, number: u64) -> Came {
+pub fn served(alloc: Global, frags: &mut OneEntryFrags, asked: Asked, number: u64) -> Came {
     let number = Ino(number);
     if !is_unused(&frags.only, number) {
         return Came::Else;
@@ -209,7 +222,10 @@ fn is_unused(only: &Option<(Place, Inode)>, number: Ino) -> bool
 
 // Where the row first comes to something else, and to what.
 fn wrong(alloc: Global) -> Option<(usize, Came)> {
-    let mut frags = OneEntryFrags { only: None };
+    let mut frags = OneEntryFrags {
+        only: None,
+        dirs: Dirs::new(alloc),
+    };
     for (place, (asked, wanted)) in ROW.iter().enumerate() {
         let found = served(
             alloc,
