@@ -1,4 +1,7 @@
 pub mod Applied
+pub mod EmptyFrags
+pub mod LeafChanges
 pub mod Offered
 pub mod RunLaws
+pub mod Shown
 pub mod Stepped

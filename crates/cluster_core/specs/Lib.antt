@@ -4,6 +4,7 @@ pub use Rattle.mds_types.specs.History
 pub use Rattle.inode_table.specs.Numbers
 pub mod Core
 pub mod Inbox
+pub mod LeafFrags
 pub mod Offer
 pub mod Prepared
 pub mod Runs

@@ -10,10 +10,10 @@ ghost use Rattle.cluster_core.specs.Serve.{ServesInbox};
 use crate::answers::Answer;
 use crate::events::Event;
 use crate::inboxes::Inbox;
+use crate::leaf_frags::LeafFrags;
 use crate::serving::serve_front;
 use inode_table::Numbers;
 use mds_types::{Entry, Rank, Refusal, Request};
-use namespace_ops::PlainFrags;
 use sessions::Sessions;
 use std::alloc::Global;
 use std::marker::Model;
@@ -21,7 +21,7 @@ use std::marker::Model;
 /// A cluster of metadata server ranks that serve one tree; of one rank, so far.
 #[derive(Debug, Drop)]
 pub struct Cluster {
-    frags: PlainFrags,
+    frags: LeafFrags,
     inbox: Inbox,
     numbers: Numbers,
     sessions: Sessions,
@@ -52,7 +52,7 @@ impl Cluster {
         ensures sessions { result.sessions ≡ map.empty }
     {
         Cluster {
-            frags: PlainFrags::new(alloc),
+            frags: LeafFrags::new(alloc),
             inbox: Inbox::new(alloc),
             numbers: Numbers::from(Rank(0), Numbers::first_of(Rank(0)).0),
             sessions: Sessions::new(alloc),

@@ -141,6 +141,7 @@ impl Dirs {
         ensures whole { leaves_of self.new.trees dir.0 ≡ root_fragment ∷ [] }
         ensures room { self.new.room + 1 ≡ self.old.room }
         ensures tree_room { self.new.tree_room ≡ self.old.tree_room }
+        ensures valid { IsTable self.new.homes self.new.trees }
     {
         let _ = self.homes.insert(dir.0, home);
     }
@@ -152,6 +153,7 @@ impl Dirs {
         ensures trees { self.new.trees ≡ self.old.trees }
         ensures room { self.new.room ≡ self.old.room }
         ensures tree_room { self.new.tree_room ≡ self.old.tree_room }
+        ensures valid { IsTable self.new.homes self.new.trees }
     {
         let _ = self.homes.replace(&dir.0, home);
     }
@@ -163,6 +165,7 @@ impl Dirs {
         ensures trees { self.new.trees ≡ map.remove self.old.trees dir.0 }
         ensures room { self.new.room ≡ (if is_some (map.get self.old.homes dir.0) then self.old.room + 1 else self.old.room) }
         ensures tree_room { self.new.tree_room ≡ (if is_some (map.get self.old.trees dir.0) then self.old.tree_room + 1 else self.old.tree_room) }
+        ensures valid { IsTable self.new.homes self.new.trees }
     {
         let _ = self.homes.remove(&dir.0);
         let _ = self.trees.remove(&dir.0);

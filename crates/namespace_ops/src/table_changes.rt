@@ -5,7 +5,7 @@ ghost use Rattle.std.specs.Prelude.{◌≡◌, ◌<◌, true, Some};
 ghost use Rattle.std.specs.Option.{option_copied};
 ghost use Rattle.mds_types.specs.declared.inodes.Inode.{Inode as Node};
 ghost use Rattle.mds_types.specs.Tree.{is_dir_kind};
-ghost use Rattle.inode_table.specs.Dirs.{IsChildless, MayCome, MayMove};
+ghost use Rattle.inode_table.specs.Dirs.{IsChildless, IsTable, MayCome, MayMove};
 ghost use Rattle.namespace_ops.specs.PlainFrags.{home_at, with_home, without_cover, without_home};
 
 use inode_table::{Dirs, Home};
@@ -20,6 +20,7 @@ pub fn adopt_dir(dirs: &mut Dirs, spare: &mut Option<Name>, place: &Place, inode
     requires may { is_dir_kind inode.now.kind ≡ true → MayCome dirs.old.homes inode.now.ino.0 (home_at place.now) }
     ensures homes { dirs.new.homes ≡ with_home dirs.old.homes place.now inode.now }
     ensures trees { dirs.new.trees ≡ dirs.old.trees }
+    ensures valid { IsTable dirs.old.homes dirs.old.trees → IsTable dirs.new.homes dirs.new.trees }
 {
     if !inode.kind.is_dir() {
         return;
@@ -45,6 +46,7 @@ pub fn relocate_dir(dirs: &mut Dirs, spare: &mut Option<Name>, place: &Place, in
     requires may { is_dir_kind inode.now.kind ≡ true → MayMove dirs.old.homes inode.now.ino.0 (home_at place.now) }
     ensures homes { dirs.new.homes ≡ with_home dirs.old.homes place.now inode.now }
     ensures trees { dirs.new.trees ≡ dirs.old.trees }
+    ensures valid { IsTable dirs.old.homes dirs.old.trees → IsTable dirs.new.homes dirs.new.trees }
 {
     if !inode.kind.is_dir() {
         return;
@@ -66,6 +68,7 @@ pub fn drop_dir(dirs: &mut Dirs, inode: Option<&Inode>)
     requires { (gone : Node) → option_copied inode ≡ Some gone → is_dir_kind gone.kind ≡ true → IsChildless dirs.old.homes gone.ino.0 }
     ensures homes { dirs.new.homes ≡ without_home dirs.old.homes (option_copied inode.entry) }
     ensures trees { dirs.new.trees ≡ without_cover dirs.old.trees (option_copied inode.entry) }
+    ensures valid { IsTable dirs.old.homes dirs.old.trees → IsTable dirs.new.homes dirs.new.trees }
 {
     if let Some(inode) = inode {
         if inode.kind.is_dir() {

@@ -8,3 +8,8 @@ pub invariant_of-self : goal.invariant_of-self
 invariant_of-self c =
     let same = ap (λ (t : Table). t.homes) c.self.view_is in
     rw c.insert.ensures.inserted (adopted_table _ _ c.args.dir.0 c.args.home c.self.invariant (rw same c.requires.may))
+
+pub returns-clause-valid : goal.returns-clause-valid
+returns-clause-valid c =
+    let same = ap (λ (t : Table). t.homes) c.self.view_is in
+    rw c.insert.ensures.inserted (adopted_table _ _ c.args.dir.0 c.args.home c.self.invariant (rw same c.requires.may))

@@ -1,0 +1,53 @@
+-- Fragments with no name are sound, and show the empty tree.
+use Rattle.std.proofs.Common.{◌≡◌, cond, List, [], ◌∷◌, Some, None, refl, sym, ap, ◌∙◌}
+use Rattle.std.specs.Ordering.{nat_cmp}
+use Rattle.std.specs.FinMap as map
+use Rattle.std.specs.FinMap.{find, get-empty, get-entries, get-from_entries, same_map}
+use Rattle.mds_types.specs.Tree.{place_cmp}
+use Rattle.mds_types.specs.PlaceLaws.{place-total, place-exact}
+use Rattle.inode_table.specs.Dirs.{Covers, IsTable}
+use Rattle.namespace_ops.specs.TableLaws.{empty_tabled}
+use Rattle.leaf_maps.specs.Leaves.{Leaf, Rows, Leaves, leaf_cmp, names_of, entries_in, shown_by, ArePlaced}
+use Rattle.leaf_maps.specs.OneLeaf.{key_itself}
+use Rattle.cluster_core.specs.LeafFrags.{IsSoundTree}
+
+-- no leaf has a name
+abbrev no_leaves : Leaves
+no_leaves = map.empty
+
+no_rows : map.entries no_leaves ≡ []
+no_rows = go (map.entries no_leaves) refl
+  where
+    go : (rows : List (Leaf × Rows)) → map.entries no_leaves ≡ rows → rows ≡ []
+    go [] is = refl
+    go (row ∷ rows) is =
+        let clash : None ≡ Some row.1 = sym (get-empty leaf_cmp row.0) ∙ get-entries no_leaves row.0 ∙ ap (find leaf_cmp row.0) is ∙ ap (λ b. cond b (Some row.1) (find leaf_cmp row.0 rows)) (key_itself row.0) in
+        absurd cc
+
+pub none_shown : shown_by no_leaves ≡ map.empty
+unfolding shown_by
+none_shown = same_map place-total place-exact (shown_by no_leaves) map.empty (λ q.
+    get-from_entries place-total (entries_in (map.entries no_leaves)) q
+    ∙ ap (λ rows. find place_cmp q (entries_in rows)) no_rows
+    ∙ sym (get-empty place_cmp q))
+
+none_placed : (covers : Covers) → ArePlaced covers no_leaves
+none_placed covers d f name inode has =
+    let clash : None ≡ Some inode = sym (ap (λ o. map.get (names_of o) name) (get-empty leaf_cmp (record { 0 = d }, f)) ∙ get-empty _ name) ∙ has in absurd cc
+
+root_alone : IsTable map.empty map.empty
+root_alone = record {
+  rooted = record {
+    rootless = get-empty nat_cmp 1;
+    rooted = λ x home is. let clash : None ≡ Some home = sym (get-empty nat_cmp x) ∙ is in absurd cc;
+  };
+  known = λ d leaves is. let clash : None ≡ Some leaves = sym (get-empty nat_cmp d) ∙ is in absurd cc;
+  covers = λ d leaves is. let clash : None ≡ Some leaves = sym (get-empty nat_cmp d) ∙ is in absurd cc;
+}
+
+pub empty_sound : IsSoundTree map.empty map.empty no_leaves
+empty_sound = record {
+  table = root_alone;
+  placed = none_placed map.empty;
+  tabled = rw none_shown empty_tabled;
+}

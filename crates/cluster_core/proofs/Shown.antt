@@ -1,0 +1,59 @@
+-- What changes of one name in its leaf make of the tree that the leaves show.
+use Rattle.std.proofs.Common.{◌≡◌, ℕ, List, [], ◌∷◌, Option, Some, None, Result, Ok, Err, OnOk, refl, sym, subst, arith}
+use Rattle.std.specs.Cmp.Lexicographic.{nat_list_cmp_total}
+use Rattle.std.specs.FinMap as map
+use Rattle.std.specs.FinMap.{get-insert, get-remove}
+use Rattle.mds_types.specs.declared.places.Place.{Place}
+use Rattle.mds_types.specs.declared.inodes.Inode.{Inode}
+use Rattle.mds_types.specs.Frag.{Fragment, root_fragment}
+use Rattle.mds_types.specs.PlaceLaws.{place-total}
+use Rattle.fragtree.specs.FragTree.{IsTree, IsPick}
+use Rattle.namehash.specs.Rjenkins.{hash_of}
+use Rattle.inode_table.specs.Dirs.{Homes, Covers, IsTable, leaves_of, or_whole}
+use Rattle.leaf_maps.specs.Leaves.{Leaves, names_in, shown_by, ArePlaced, HavePicks}
+use Rattle.leaf_maps.specs.Changes.{IsRewritten, HasRoom}
+use Rattle.leaf_maps.specs.ShownLaws.{placed_after, shown_after}
+use Rattle.cluster_core.specs.LeafFrags.{HasRoomAt}
+
+-- `*` alone covers every hash
+root_is_tree : IsTree (root_fragment ∷ [])
+root_is_tree = record {
+  tiles = (record { few_bits = omega arith; in_range = omega arith; justified = refl }, refl, refl);
+  few = omega arith;
+}
+
+-- each hash picks a leaf of each row, and of `*` where there is no row
+pub picks_of : (homes : Homes) (covers : Covers) → ((leaves : List Fragment) (hash : ℕ) → IsTree leaves → (leaf : Fragment) × IsPick leaves hash leaf) → IsTable homes covers → HavePicks covers
+picks_of homes covers each table d hash = go (map.get covers d) refl
+  where
+    go : (row : Option (List Fragment)) → map.get covers d ≡ row → (leaf : Fragment) × IsPick (or_whole row) hash leaf
+    go None is = each (root_fragment ∷ []) hash root_is_tree
+    go (Some leaves) is = each leaves hash (table.covers d leaves is)
+
+-- a name got this inode in the leaf that it picks
+module _ (covers : Covers) (old new : Leaves) (picks : HavePicks covers) (placed : ArePlaced covers old) (place : Place) (f : Fragment) (pick : IsPick (leaves_of covers place.dir.0) (hash_of place.name) f) (inode : Inode)
+    (put : IsRewritten old new place.dir.0 f (map.insert (names_in old place.dir.0 f) place.name inode)) where
+  pub put_placed : ArePlaced covers new
+  put_placed = placed_after covers old new picks placed place.dir.0 f place.name pick (Some inode) (map.insert (names_in old place.dir.0 f) place.name inode) put (get-insert nat_list_cmp_total (names_in old place.dir.0 f) place.name inode)
+
+  pub put_shown : shown_by new ≡ map.insert (shown_by old) place inode
+  put_shown = shown_after covers old new picks placed place.dir.0 f place.name pick (Some inode) (map.insert (names_in old place.dir.0 f) place.name inode) put (get-insert nat_list_cmp_total (names_in old place.dir.0 f) place.name inode)
+      (map.insert (shown_by old) place inode) (get-insert place-total (shown_by old) place inode)
+
+-- a name went from the leaf that it picks
+module _ (covers : Covers) (old new : Leaves) (picks : HavePicks covers) (placed : ArePlaced covers old) (place : Place) (f : Fragment) (pick : IsPick (leaves_of covers place.dir.0) (hash_of place.name) f)
+    (taken : IsRewritten old new place.dir.0 f (map.remove (names_in old place.dir.0 f) place.name)) where
+  pub taken_placed : ArePlaced covers new
+  taken_placed = placed_after covers old new picks placed place.dir.0 f place.name pick None (map.remove (names_in old place.dir.0 f) place.name) taken (get-remove nat_list_cmp_total (names_in old place.dir.0 f) place.name)
+
+  pub taken_shown : shown_by new ≡ map.remove (shown_by old) place
+  taken_shown = shown_after covers old new picks placed place.dir.0 f place.name pick None (map.remove (names_in old place.dir.0 f) place.name) taken (get-remove nat_list_cmp_total (names_in old place.dir.0 f) place.name)
+      (map.remove (shown_by old) place) (get-remove place-total (shown_by old) place)
+
+-- room in the leaf that a name picks is room at its place
+pub room_at : (covers : Covers) (leaves : Leaves) (place : Place) (f : Fragment) → IsPick (leaves_of covers place.dir.0) (hash_of place.name) f → HasRoom leaves place.dir.0 f → HasRoomAt covers leaves place
+room_at covers leaves place f pick room g other = subst (λ h. HasRoom leaves place.dir.0 h) (sym (pick.alone g other.stands other.contains)) room
+
+pub room_told : {B : Type 0} (covers : Covers) (leaves : Leaves) (place : Place) (f : Fragment) (result : Result (Unit {0}) B) → IsPick (leaves_of covers place.dir.0) (hash_of place.name) f → OnOk result (HasRoom leaves place.dir.0 f) → OnOk result (HasRoomAt covers leaves place)
+room_told covers leaves place f (Ok done) pick room = room_at covers leaves place f pick room
+room_told covers leaves place f (Err error) pick room = tt

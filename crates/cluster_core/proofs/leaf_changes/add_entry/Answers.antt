@@ -1,0 +1,18 @@
+use Rattle.namespace_ops.specs.TableLaws.{may_come, added_tabled}
+use Rattle.cluster_core.proofs.leaf_changes.add_entry.Goals as goal
+
+pub adopt_dir-requires-clause-may : goal.adopt_dir-requires-clause-may
+adopt_dir-requires-clause-may c kinded = may_come _ _ c.args.place c.args.inode c.requires.sound.tabled c.requires.may
+
+pub put_at-requires-clause-placed : goal.put_at-requires-clause-placed
+put_at-requires-clause-placed c = rw c.adopt_dir.ensures.trees c.requires.sound.placed
+
+pub put_at-requires-clause-room : goal.put_at-requires-clause-room
+put_at-requires-clause-room c none = rw c.adopt_dir.ensures.trees c.requires.room
+
+pub returns-clause-sound : goal.returns-clause-sound
+returns-clause-sound c = record {
+  table = c.adopt_dir.ensures.valid c.requires.sound.table;
+  placed = c.put_at.ensures.placed;
+  tabled = rw (c.put_at.ensures.tree, c.adopt_dir.ensures.homes) (added_tabled _ _ c.args.place c.args.inode c.requires.sound.tabled c.requires.may);
+}

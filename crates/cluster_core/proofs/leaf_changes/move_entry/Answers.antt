@@ -1,0 +1,55 @@
+use Rattle.std.proofs.Common.{sym, ap, ◌∙◌}
+use Rattle.leaf_maps.specs.Leaves.{shown_by}
+use Rattle.mds_types.specs.MovedLaws.{IsMove}
+use Rattle.namespace_ops.specs.Changes.{moved}
+use Rattle.namespace_ops.specs.MoveLaws.{may_relocate, may_replace, moved_tabled}
+use Rattle.cluster_core.proofs.LeafChanges.{moving, moved_tree, replaced_is, replaced_empty}
+use Rattle.cluster_core.proofs.leaf_changes.move_entry.Goals as goal
+
+pub relocate_dir-requires-clause-may : goal.relocate_dir-requires-clause-may
+relocate_dir-requires-clause-may c = may_relocate (shown_by c.args.leaves.now) _ c.args.from.now c.args.to c.in-Some.inode c.requires.sound.tabled (moving _ c.args.from.now c.args.to c.take_from.result _ c.in-Some.is c.take_from.ensures.value c.requires.may)
+
+pub take_from-replaced-requires : goal.take_from-replaced-requires
+take_from-replaced-requires c = rw c.relocate_dir.ensures.trees c.take_from.ensures.placed
+
+pub drop_leaves-requires-clause-childless : goal.drop_leaves-requires-clause-childless
+drop_leaves-requires-clause-childless c gone is kinded =
+    rw c.relocate_dir.ensures.homes
+    (may_replace (shown_by c.args.leaves.now) _ c.args.from.now c.args.to c.in-Some.inode c.requires.sound.tabled move gone
+    (sym (c.as_ref.ensures.value ∙ replaced_is _ _ _ c.args.from.now c.args.to c.in-Some.inode c.take_from-replaced.result c.requires.sound.tabled move c.take_from.ensures.tree c.take_from-replaced.ensures.value) ∙ is))
+  where
+    move : IsMove (shown_by c.args.leaves.now) c.args.from.now c.args.to c.in-Some.inode
+    move = moving _ c.args.from.now c.args.to c.take_from.result _ c.in-Some.is c.take_from.ensures.value c.requires.may
+
+pub drop_leaves-requires-clause-empty : goal.drop_leaves-requires-clause-empty
+drop_leaves-requires-clause-empty c gone is kinded =
+    rw (moved_tree (shown_by c.args.leaves.now) _ _ _ c.args.from.now c.args.to c.in-Some.inode c.take_from.ensures.tree c.take_from-replaced.ensures.tree c.put_at.ensures.tree)
+    (replaced_empty (shown_by c.args.leaves.now) c.args.from.now c.args.to c.in-Some.inode c.requires.sound.tabled.whole move gone
+    (sym (c.as_ref.ensures.value ∙ replaced_is _ _ _ c.args.from.now c.args.to c.in-Some.inode c.take_from-replaced.result c.requires.sound.tabled move c.take_from.ensures.tree c.take_from-replaced.ensures.value) ∙ is))
+  where
+    move : IsMove (shown_by c.args.leaves.now) c.args.from.now c.args.to c.in-Some.inode
+    move = moving _ c.args.from.now c.args.to c.take_from.result _ c.in-Some.is c.take_from.ensures.value c.requires.may
+
+pub returns-clause-tree : goal.returns-clause-tree
+returns-clause-tree c =
+    c.drop_leaves.ensures.tree
+    ∙ moved_tree (shown_by c.args.leaves.now) _ _ _ c.args.from.now c.args.to c.in-Some.inode c.take_from.ensures.tree c.take_from-replaced.ensures.tree c.put_at.ensures.tree
+    ∙ ap (moved (shown_by c.args.leaves.now) c.args.from.now c.args.to) (sym c.in-Some.is ∙ c.take_from.ensures.value)
+
+pub returns-clause-sound : goal.returns-clause-sound
+returns-clause-sound c = record {
+  table = c.drop_leaves.ensures.table;
+  placed = c.drop_leaves.ensures.placed;
+  tabled =
+      rw (
+        c.drop_leaves.ensures.tree,
+        moved_tree (shown_by c.args.leaves.now) _ _ _ c.args.from.now c.args.to c.in-Some.inode c.take_from.ensures.tree c.take_from-replaced.ensures.tree c.put_at.ensures.tree,
+        c.drop_leaves.ensures.homes,
+        c.relocate_dir.ensures.homes,
+        c.as_ref.ensures.value ∙ replaced_is _ _ _ c.args.from.now c.args.to c.in-Some.inode c.take_from-replaced.result c.requires.sound.tabled move c.take_from.ensures.tree c.take_from-replaced.ensures.value,
+      )
+      (moved_tabled (shown_by c.args.leaves.now) _ c.args.from.now c.args.to c.in-Some.inode c.requires.sound.tabled move);
+}
+  where
+    move : IsMove (shown_by c.args.leaves.now) c.args.from.now c.args.to c.in-Some.inode
+    move = moving _ c.args.from.now c.args.to c.take_from.result _ c.in-Some.is c.take_from.ensures.value c.requires.may

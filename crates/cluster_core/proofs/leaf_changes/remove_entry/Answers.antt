@@ -1,0 +1,18 @@
+use Rattle.std.proofs.Common.{sym, ◌∙◌}
+use Rattle.namespace_ops.specs.TableLaws.{may_drop, removed_tabled}
+use Rattle.cluster_core.proofs.LeafChanges.{removed_empty}
+use Rattle.cluster_core.proofs.leaf_changes.remove_entry.Goals as goal
+
+pub drop_leaves-requires-clause-childless : goal.drop_leaves-requires-clause-childless
+drop_leaves-requires-clause-childless c = may_drop _ _ c.args.place.now _ (sym (c.as_ref.ensures.value ∙ c.take_from-gone.ensures.value)) c.requires.sound.tabled c.requires.may
+
+pub drop_leaves-requires-clause-empty : goal.drop_leaves-requires-clause-empty
+drop_leaves-requires-clause-empty c gone is kinded =
+    rw c.take_from-gone.ensures.tree (removed_empty _ c.args.place.now _ c.requires.sound.tabled.whole c.requires.may (sym (c.as_ref.ensures.value ∙ c.take_from-gone.ensures.value)) gone is)
+
+pub returns-clause-sound : goal.returns-clause-sound
+returns-clause-sound c = record {
+  table = c.drop_leaves.ensures.table;
+  placed = c.drop_leaves.ensures.placed;
+  tabled = rw (c.drop_leaves.ensures.tree, c.take_from-gone.ensures.tree, c.drop_leaves.ensures.homes) (removed_tabled _ _ c.args.place.now _ (sym (c.as_ref.ensures.value ∙ c.take_from-gone.ensures.value)) c.requires.sound.tabled c.requires.may);
+}

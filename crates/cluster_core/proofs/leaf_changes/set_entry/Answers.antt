@@ -1,0 +1,13 @@
+use Rattle.std.proofs.Common.{◌≡◌, Some, None, sym, ◌∙◌}
+use Rattle.namespace_ops.specs.TableLaws.{set_tabled}
+use Rattle.cluster_core.proofs.leaf_changes.set_entry.Goals as goal
+
+pub put_at-requires-clause-room : goal.put_at-requires-clause-room
+put_at-requires-clause-room c none = let clash : None ≡ Some c.requires.may.before = sym none ∙ c.requires.may.stands in absurd cc
+
+pub returns-clause-sound : goal.returns-clause-sound
+returns-clause-sound c = record {
+  table = c.requires.sound.table;
+  placed = c.put_at.ensures.placed;
+  tabled = rw c.put_at.ensures.tree (set_tabled _ _ c.args.place c.args.inode c.requires.sound.tabled c.requires.may);
+}

@@ -1,0 +1,11 @@
+use Rattle.cluster_core.proofs.leaf_frags.LeafFragsFrags.change.Goals.{in-Add, in-Set, in-Remove, in-Move}
+use Rattle.cluster_core.proofs.leaf_frags.LeafFragsFrags.change.Goals as goal
+
+pub invariant_of-self : goal.invariant_of-self
+invariant_of-self c =
+    elim c.match-change.branch [
+      | in-Add w ↦ rw w.self-inside-is w.add_entry.ensures.sound
+      | in-Set w ↦ rw w.self-inside-is w.set_entry.ensures.sound
+      | in-Remove w ↦ rw w.self-inside-is w.remove_entry.ensures.sound
+      | in-Move w ↦ rw w.self-inside-is w.move_entry.ensures.sound
+    ]

@@ -1,0 +1,114 @@
+//! Changes of a cluster's fragments: of the names in their leaves and, where a directory comes, goes or moves, of the
+//! directory table. None of them takes memory.
+ghost use Rattle.std.specs.Prelude.{◌≡◌, ◌<◌, true, Some};
+ghost use Rattle.std.specs.Option.{option_copied};
+ghost use Rattle.std.specs.FinMap as map;
+ghost use Rattle.mds_types.specs.declared.inodes.Inode.{Inode as Node};
+ghost use Rattle.mds_types.specs.Frag.{Fragment};
+ghost use Rattle.mds_types.specs.Tree.{is_dir_kind};
+ghost use Rattle.mds_types.specs.DirectoryLaws.{NothingIn};
+ghost use Rattle.mds_types.specs.MovedLaws.{IsMove};
+ghost use Rattle.inode_table.specs.Dirs.{IsChildless, IsTable};
+ghost use Rattle.namespace_ops.specs.Changes.{MayAdd, MaySet, MayRemove, moved};
+ghost use Rattle.namespace_ops.specs.PlainFrags.{without_home};
+ghost use Rattle.leaf_maps.specs.Leaves.{ArePlaced, names_in, shown_by};
+ghost use Rattle.leaf_maps.specs.Changes.{HaveSameNames};
+ghost use Rattle.cluster_core.specs.LeafFrags.{HasRoomAt, IsSoundTree};
+
+use crate::picks::{each_hash_has_a_leaf, put_at, take_from};
+use inode_table::Dirs;
+use leaf_maps::LeafMaps;
+use mds_types::{Inode, Name, Place};
+use namespace_ops::{adopt_dir, drop_dir, relocate_dir};
+
+/// Puts a new inode at a place. `spare` has the name of the place where the inode is a directory.
+pub fn add_entry(
+    leaves: &mut LeafMaps,
+    dirs: &mut Dirs,
+    spare: &mut Option<Name>,
+    place: Place,
+    inode: Inode,
+)
+    requires sound { IsSoundTree dirs.old.homes dirs.old.trees leaves.old }
+    requires room { HasRoomAt dirs.old.trees leaves.old place }
+    requires ready { is_dir_kind inode.kind ≡ true → (0 < dirs.old.room) × (spare.old ≡ Some place.name) }
+    requires may { MayAdd (shown_by leaves.old) place inode }
+    ensures tree { shown_by leaves.new ≡ map.insert (shown_by leaves.old) place inode }
+    ensures sound { IsSoundTree dirs.new.homes dirs.new.trees leaves.new }
+{
+    adopt_dir(dirs, spare, &place, &inode);
+    put_at(leaves, dirs, place, inode);
+}
+
+/// Gives the inode at a place other attributes.
+pub fn set_entry(leaves: &mut LeafMaps, dirs: &Dirs, place: Place, inode: Inode)
+    requires sound { IsSoundTree dirs.now.homes dirs.now.trees leaves.old }
+    requires may { MaySet (shown_by leaves.old) place inode }
+    ensures tree { shown_by leaves.new ≡ map.insert (shown_by leaves.old) place inode }
+    ensures sound { IsSoundTree dirs.now.homes dirs.now.trees leaves.new }
+{
+    put_at(leaves, dirs, place, inode);
+}
+
+/// Takes the entry at a place away. Of a directory that goes nothing is kept.
+pub fn remove_entry(leaves: &mut LeafMaps, dirs: &mut Dirs, place: &Place)
+    requires sound { IsSoundTree dirs.old.homes dirs.old.trees leaves.old }
+    requires may { MayRemove (shown_by leaves.old) place.now }
+    ensures tree { shown_by leaves.new ≡ map.remove (shown_by leaves.old) place.now }
+    ensures sound { IsSoundTree dirs.new.homes dirs.new.trees leaves.new }
+{
+    let gone = take_from(leaves, dirs, place);
+    drop_leaves(leaves, dirs, gone.as_ref());
+}
+
+/// Moves the entry at a place to another. `spare` has the name of that. Of a directory that is replaced nothing is kept.
+pub fn move_entry(
+    leaves: &mut LeafMaps,
+    dirs: &mut Dirs,
+    spare: &mut Option<Name>,
+    from: &Place,
+    to: Place,
+)
+    requires sound { IsSoundTree dirs.old.homes dirs.old.trees leaves.old }
+    requires room { HasRoomAt dirs.old.trees leaves.old to }
+    requires ready { spare.old ≡ Some to.name }
+    requires may { (inode : Node) × IsMove (shown_by leaves.old) from.now to inode }
+    ensures tree { shown_by leaves.new ≡ moved (shown_by leaves.old) from.now to (map.get (shown_by leaves.old) from.now) }
+    ensures sound { IsSoundTree dirs.new.homes dirs.new.trees leaves.new }
+{
+    let Some(inode) = take_from(leaves, dirs, from) else {
+        unreachable!()
+    };
+    relocate_dir(dirs, spare, &to, &inode);
+    let replaced = take_from(leaves, dirs, &to);
+    put_at(leaves, dirs, to, inode);
+    drop_leaves(leaves, dirs, replaced.as_ref());
+}
+
+// Forgets an inode that went, if there is one and it is a directory: its home, its leaves and all that is kept of them.
+fn drop_leaves(leaves: &mut LeafMaps, dirs: &mut Dirs, gone: Option<&Inode>)
+    requires table { IsTable dirs.old.homes dirs.old.trees }
+    requires placed { ArePlaced dirs.old.trees leaves.old }
+    requires childless { (inode : Node) → option_copied gone ≡ Some inode → is_dir_kind inode.kind ≡ true → IsChildless dirs.old.homes inode.ino.0 }
+    requires empty { (inode : Node) → option_copied gone ≡ Some inode → is_dir_kind inode.kind ≡ true → NothingIn (shown_by leaves.old) inode.ino.0 }
+    ensures homes { dirs.new.homes ≡ without_home dirs.old.homes (option_copied gone.entry) }
+    ensures tree { shown_by leaves.new ≡ shown_by leaves.old }
+    ensures placed { ArePlaced dirs.new.trees leaves.new }
+    ensures table { IsTable dirs.new.homes dirs.new.trees }
+{
+    each_hash_has_a_leaf();
+    forget_names(leaves, gone);
+    drop_dir(dirs, gone);
+}
+
+// Drops what is kept of the leaves of a directory that has no name in any. The tree stays.
+fn forget_names(leaves: &mut LeafMaps, gone: Option<&Inode>)
+    requires { (inode : Node) → option_copied gone ≡ Some inode → is_dir_kind inode.kind ≡ true → (f : Fragment) → names_in leaves.old inode.ino.0 f ≡ map.empty }
+    ensures { HaveSameNames leaves.old leaves.new }
+{
+    if let Some(inode) = gone {
+        if inode.kind.is_dir() {
+            leaves.forget(inode.ino);
+        }
+    }
+}

@@ -1,0 +1,208 @@
+//! A cluster's fragments: the directory table, and the names of each leaf.
+ghost use Rattle.std.specs.Prelude.{◌≡◌, IfOk, IfErr, OnOk};
+ghost use Rattle.std.specs.FinMap as map;
+ghost use Rattle.mds_types.specs.declared.refusals.Refusal.TheVariants.{NoMemory};
+ghost use Rattle.mds_types.specs.Tree.{at};
+ghost use Rattle.leaf_maps.specs.Leaves.{ArePlaced, shown_by};
+ghost use Rattle.namespace_ops.specs.Changes.{IsReadyFor};
+ghost use Rattle.cluster_core.specs.LeafFrags.{IsReady, fragments};
+
+use crate::leaf_changes::{add_entry, move_entry, remove_entry, set_entry};
+use crate::picks::{leaf_of, look_at, make_room};
+use inode_table::Dirs;
+use leaf_maps::LeafMaps;
+use mds_types::{Frag, Ino, Inode, Listing, Name, Op, PageSize, Refusal};
+use namespace_ops::{Change, Frags};
+use std::alloc::{AllocError, Global};
+use std::fmt;
+use std::marker::Model;
+
+/// The directory table, and the names of each leaf of each directory: CephFS's dirfrags, each with its dentries.
+///
+/// Of every value it holds that each name is in the leaf that its hash picks, that the tree which the leaves show is well
+/// formed, and that the table is that of the tree. A leaf takes memory from its first name on.
+#[derive(Drop)]
+pub(crate) struct LeafFrags {
+    leaves: LeafMaps,
+    dirs: Dirs,
+    /// The name of the directory that comes or moves next, for its place in the table.
+    spare: Option<Name>,
+    /// For leaves whose first name comes.
+    alloc: Global,
+}
+
+impl Model for LeafFrags {
+    ghost use Rattle.std.specs.Coded.{codes};
+    ghost use Rattle.std.specs.FinMap as map;
+    ghost use Rattle.sorted_map.specs.SortedMap.{shown_code};
+    ghost use Rattle.cluster_core.specs.LeafFrags.{Fragments, IsSoundTree, fragments};
+
+    ghost Value = { Fragments };
+
+    ghost coded = { Prim.hlevel (codes, map.code, shown_code) };
+
+    ghost view = { λ f. fragments f.dirs f.leaves f.spare };
+
+    ghost invariant = { λ f. IsSoundTree f.dirs.homes f.dirs.trees f.leaves };
+}
+
+impl LeafFrags {
+    /// Fragments with no name: the empty tree, of which the root has the one leaf `*`. Takes no memory.
+    pub fn new(alloc: Global) -> LeafFrags
+        ensures tree { result.tree ≡ map.empty }
+        ensures leaves { result.covers ≡ map.empty }
+    {
+        LeafFrags {
+            leaves: LeafMaps::new(alloc),
+            dirs: Dirs::new(alloc),
+            spare: None,
+            alloc,
+        }
+    }
+}
+
+impl fmt::Debug for LeafFrags {
+    /// The names and the table. The name that is set aside is room, and no part of them.
+    fn fmt<W: fmt::Write>(&self, f: &mut fmt::Formatter<W>) -> fmt::Result {
+        let LeafFrags { leaves, dirs, .. } = self;
+        write!(f, "LeafFrags({leaves:?}, {dirs:?})")
+    }
+}
+
+impl Frags for LeafFrags {
+    ghost use Rattle.std.specs.Prelude.{◌≡◌};
+    ghost use Rattle.mds_types.specs.declared.refusals.Refusal.TheVariants.{NoMemory};
+    ghost use Rattle.namespace_ops.specs.Reasons.{refused_for_memory};
+    ghost use Rattle.cluster_core.specs.LeafFrags.{IsReady as IsReadyIn};
+
+    ghost content = { λ f. f.tree };
+
+    ghost covers = { λ f. f.covers };
+
+    ghost IsReady = { λ f change. IsReadyIn f change };
+
+    ghost Follows = { λ a b. Unit {0} };
+
+    ghost MayRefuse = { λ a b reason. reason ≡ NoMemory };
+
+    ghost follows_self = { λ a. tt };
+
+    ghost follows_on = { λ a b c p q. tt };
+
+    ghost refused_on = { λ a b c reason p because. because };
+
+    ghost refused_for = { refused_for_memory _ };
+
+    fn is_dir(&self, dir: Ino) -> bool {
+        self.dirs.contains(dir)
+    }
+
+    fn is_above(&self, dir: Ino, below: Ino) -> bool {
+        self.dirs.is_above(dir, below)
+    }
+
+    fn frag_of(&self, dir: Ino, name: &Name) -> Frag {
+        leaf_of(&self.dirs, dir, name)
+    }
+
+    fn leaves(&self, alloc: Global, dir: Ino) -> Result<Vec<Frag>, Refusal> {
+        Ok(self.dirs.tree(alloc, dir)?.leaves(alloc)?)
+    }
+
+    fn look(&mut self, dir: Ino, name: &Name) -> Result<Option<Inode>, Refusal> {
+        Ok(inode_at(&self.leaves, &self.dirs, dir, name)?)
+    }
+
+    fn list_after(
+        &mut self,
+        alloc: Global,
+        dir: Ino,
+        after: Option<&Name>,
+        max: PageSize,
+    ) -> Result<(Listing, bool), Refusal> {
+        Ok(self.leaves.list_after(alloc, dir, after, max)?)
+    }
+
+    fn is_empty(&mut self, dir: Ino) -> Result<bool, Refusal> {
+        Ok(self.leaves.is_empty(dir))
+    }
+
+    fn ready(&mut self, op: &Op) -> Result<(), Refusal> {
+        let LeafFrags {
+            leaves,
+            dirs,
+            spare,
+            alloc,
+        } = self;
+        make_ready(*alloc, leaves, dirs, spare, op)
+    }
+
+    fn change(&mut self, change: Change) {
+        let LeafFrags {
+            leaves,
+            dirs,
+            spare,
+            ..
+        } = self;
+        match change {
+            Change::Add { place, inode } => add_entry(leaves, dirs, spare, place, inode),
+            Change::Set { place, inode } => set_entry(leaves, dirs, place, inode),
+            Change::Remove { place } => remove_entry(leaves, dirs, &place),
+            Change::Move { from, to } => move_entry(leaves, dirs, spare, &from, to),
+        }
+    }
+}
+
+// The inode at a name, copied.
+fn inode_at(
+    leaves: &LeafMaps,
+    dirs: &Dirs,
+    dir: Ino,
+    name: &Name,
+) -> Result<Option<Inode>, AllocError>
+    requires { ArePlaced dirs.now.trees leaves.now }
+    ensures { IfOk result (λ found. found ≡ at (shown_by leaves.now) dir.0 name.now) }
+{
+    match look_at(leaves, dirs, dir, name) {
+        Some(inode) => Ok(Some(inode.try_clone()?)),
+        None => Ok(None),
+    }
+}
+
+// Makes every growth that an operation could need: room in the leaf of a name that comes, and for a directory's home.
+fn make_ready(
+    alloc: Global,
+    leaves: &mut LeafMaps,
+    dirs: &mut Dirs,
+    spare: &mut Option<Name>,
+    op: &Op,
+) -> Result<(), Refusal>
+    requires { ArePlaced dirs.old.trees leaves.old }
+    ensures ready { OnOk result (IsReadyFor (IsReady (fragments dirs.new leaves.new spare.new)) op.now) }
+    ensures tree { shown_by leaves.new ≡ shown_by leaves.old }
+    ensures placed { ArePlaced dirs.new.trees leaves.new }
+    ensures homes { dirs.new.homes ≡ dirs.old.homes }
+    ensures trees { dirs.new.trees ≡ dirs.old.trees }
+    ensures err { IfErr result (λ reason. reason ≡ NoMemory) }
+{
+    match op {
+        Op::Create { dir, name, .. } | Op::Symlink { dir, name, .. } => {
+            make_room(alloc, leaves, dirs, *dir, name)?;
+        }
+        Op::Mkdir { dir, name, .. } => {
+            make_room(alloc, leaves, dirs, *dir, name)?;
+            *spare = Some(name.try_clone()?);
+            return dirs.reserve();
+        }
+        Op::Rename {
+            to_dir,
+            to_name,
+            ..
+        } => {
+            make_room(alloc, leaves, dirs, *to_dir, to_name)?;
+            *spare = Some(to_name.try_clone()?);
+        }
+        _ => {}
+    }
+    Ok(())
+}
