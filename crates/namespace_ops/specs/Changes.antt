@@ -11,6 +11,7 @@ use Rattle.mds_types.specs.declared.operations.Op.TheVariants.{Lookup, Readdir, 
 use Rattle.mds_types.specs.Tree.{Tree, place_of, is_directory, is_dir_kind, has_entries, HasSize}
 use Rattle.mds_types.specs.Step.{size_errno, with_attributes, with_moved}
 use Rattle.mds_types.specs.MovedLaws.{IsMove}
+use Rattle.inode_table.specs.Dirs.{Covers, leaves_of}
 use Rattle.mds_types.specs.WellFormedLaws.{IsUnused}
 use Rattle.namespace_ops.specs.declared.plans.Change.{Change}
 use Rattle.namespace_ops.specs.declared.plans.Change.TheVariants.{Add, Set, Remove, Move}
@@ -106,3 +107,7 @@ MayChange tree (Move from to) = (inode : Inode) × IsMove tree from to inode
 abbrev pub IsOffered : Tree → Option Ino → Type 0
 IsOffered tree None = Unit {0}
 IsOffered tree (Some number) = IsUnused tree number.0
+
+-- each directory of the tree has the leaves that it had
+abbrev pub KeepLeaves : Tree → (old new : Covers) → Type 0
+KeepLeaves tree old new = (d : ℕ) → is_directory tree d ≡ true → leaves_of new d ≡ leaves_of old d

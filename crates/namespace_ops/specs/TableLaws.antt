@@ -1,5 +1,5 @@
 -- The directory table beside the tree: what it knows, and that it stays that of the tree.
-use Rattle.std.proofs.Common.{◌≡◌, ◌==◌, ◌&&◌, ◌↔◌, ℕ, Bool, true, false, cond, is_some, IsTrue, Option, Some, None, ◌⊎◌, inl, inr, ⊎_elim, refl, sym, ap, subst, ◌∙◌}
+use Rattle.std.proofs.Common.{◌≡◌, ◌==◌, ◌&&◌, ◌||◌, ◌↔◌, ℕ, Bool, true, false, cond, is_some, IsTrue, Option, Some, None, ◌⊎◌, inl, inr, ⊎_elim, refl, sym, ap, subst, ◌∙◌}
 use Rattle.std.specs.FinMap as map
 use Rattle.std.specs.FinMap.{get-empty}
 use Rattle.std.specs.Ordering.{nat_cmp}
@@ -15,11 +15,11 @@ use Rattle.mds_types.specs.WellFormedLaws.{well-formed-grown, sized_still}
 use Rattle.mds_types.specs.EntryLaws.{get_put, get_beside, get_left, stands_after_put, stands_after_removal, same_or_apart}
 use Rattle.mds_types.specs.DirectoryLaws.{StandsAs, directory_stands, root_stands, entry_stands, one_place, NothingIn, nothing_in_empty, nothing_in_file}
 use Rattle.sorted_map.specs.Bools.{or_cases, or_first, or_second}
-use Rattle.sorted_map.specs.NatKeys.{is_same, after_put, after_removal, get_put as get_put_home, get_beside as get_beside_home, get_left as get_left_home}
+use Rattle.sorted_map.specs.NatKeys.{is_same, after_put, after_removal, get_put as get_put_home, get_beside as get_beside_home, get_left as get_left_home, get_removed as get_removed_home, same_or_apart as same_number}
 use Rattle.inode_table.specs.declared.homes.Home.{Home}
-use Rattle.inode_table.specs.Dirs.{Homes, is_known, IsAbove, parent, further, MayCome, IsChildless}
-use Rattle.namespace_ops.specs.Changes.{MayAdd, MaySet, MayRemove}
-use Rattle.namespace_ops.specs.PlainFrags.{HoldsHomes, IsTabled, home_at, with_home, without_home}
+use Rattle.inode_table.specs.Dirs.{Homes, Covers, or_whole, leaves_of, is_known, IsAbove, parent, further, MayCome, IsChildless}
+use Rattle.namespace_ops.specs.Changes.{KeepLeaves, MayAdd, MaySet, MayRemove}
+use Rattle.namespace_ops.specs.PlainFrags.{HoldsHomes, IsTabled, home_at, with_home, without_cover, without_home}
 
 bool_same : (a b : Bool) → (a ≡ true → b ≡ true) → (b ≡ true → a ≡ true) → a ≡ b
 bool_same true b f g = sym (f refl)
@@ -277,3 +277,30 @@ removed_tabled tree homes place found at_place tabled may = record {
           cc) in
           (w.0, get_left tree place (place_at home) apart ∙ w.1, w.2, w.3);
     })
+
+-- where an inode goes, the table loses its leaves alone, if it is a directory: each directory that stands then keeps its own
+pub leaves_kept : (old tree : Tree) (homes rest : Homes) (trees new : Covers) (place : Place) (gone : Option Inode) → IsTabled tree homes → IsWellFormed old → gone ≡ map.get old place → homes ≡ without_home rest gone → new ≡ without_cover trees gone
+    → KeepLeaves tree trees new
+leaves_kept old tree homes rest trees new place None tabled whole stood left is d stands = ap (λ c. leaves_of c d) is
+leaves_kept old tree homes rest trees new place (Some inode) tabled whole stood left is d stands = go (is_dir_kind inode.kind) refl (same_number d inode.ino.0)
+  where
+    not_root : inode.ino.0 ≡ 1 → ⊥
+    not_root root = whole.rootless place.dir.0 place.name inode (sym stood) root
+
+    gone_home : is_dir_kind inode.kind ≡ true → is_known homes inode.ino.0 ≡ (inode.ino.0 == 1)
+    gone_home kinded =
+        ap (λ h. is_known h inode.ino.0) (left ∙ ap (λ b. cond b (map.remove rest inode.ino.0) rest) kinded) ∙ ap (λ o. (inode.ino.0 == 1) || is_some o) (get_removed_home rest inode.ino.0) ∙ or_none (inode.ino.0 == 1)
+      where
+        or_none : (b : Bool) → (b || false) ≡ b
+        or_none true = refl
+        or_none false = refl
+
+    go : (b : Bool) → is_dir_kind inode.kind ≡ b → (d ≡ inode.ino.0) ⊎ (d ≡ inode.ino.0 → ⊥) → leaves_of new d ≡ leaves_of trees d
+    go false kinded same = ap (λ c. leaves_of c d) (is ∙ ap (λ b. cond b (map.remove trees inode.ino.0) trees) kinded)
+    go true kinded (inr apart) = ap (λ c. leaves_of c d) (is ∙ ap (λ b. cond b (map.remove trees inode.ino.0) trees) kinded) ∙ ap or_whole (get_left_home trees inode.ino.0 d apart)
+    go true kinded (inl same) =
+        absurd (not_root (eqb-true inode.ino.0 1 (sym (gone_home kinded) ∙ ap (is_known homes) (sym same) ∙ known_is tree homes tabled d ∙ stands)))
+
+-- where no leaves are set or lost, each directory keeps its own
+pub leaves_same : (tree : Tree) (trees new : Covers) → new ≡ trees → KeepLeaves tree trees new
+leaves_same tree trees new is d stands = ap (λ c. leaves_of c d) is

@@ -33,6 +33,7 @@ pub fn set_attributes<F: Frags>(
     ensures planned { (number : Option Number) → Plans (F.content frags.old) (F.content frags.new) (F.IsReady frags.new) (F.MayRefuse frags.old frags.new)
         (attributes_set (F.content frags.old) (place_of dir.0 name.now) attributes.mode attributes.size attributes.mtime (at (F.content frags.old) dir.0 name.now)) number result }
     ensures same { F.content frags.new ≡ F.content frags.old }
+    ensures leaves { F.covers frags.new ≡ F.covers frags.old }
     ensures follows { F.Follows frags.old frags.new }
 {
     let Some(before) = frags.look(dir, name)? else {

@@ -9,7 +9,7 @@ ghost use Rattle.inode_table.specs.Dirs.{Covers, leaves_of};
 ghost use Rattle.mds_types.specs.Tree.{Tree, is_directory, is_above, has_entries, at};
 ghost use Rattle.mds_types.specs.Step.{names_after};
 ghost use Rattle.namespace_ops.specs.declared.plans.Change.{Change as Alteration};
-ghost use Rattle.namespace_ops.specs.Changes.{IsReadyFor, MayChange, changed};
+ghost use Rattle.namespace_ops.specs.Changes.{IsReadyFor, KeepLeaves, MayChange, changed};
 ghost use Rattle.namespace_ops.specs.Reasons.{IsOfFragments};
 
 use crate::plans::Change;
@@ -94,11 +94,13 @@ pub trait Frags {
         ensures follows { Follows self.old self.new }
         ensures err { IfErr result (MayRefuse self.old self.new) };
 
-    /// Makes a change that may be made and was made ready.
+    /// Makes a change that may be made and was made ready. Each directory that stands then has the leaves that it had; of one that
+    /// comes no leaves were set.
     fn change(&mut self, change: Change)
         requires ready { IsReady self.old change }
         requires may { MayChange (content self.old) change }
         ensures changed { content self.new ≡ changed (content self.old) change }
+        ensures leaves { KeepLeaves (content self.new) (covers self.old) (covers self.new) }
         ensures follows { Follows self.old self.new };
 
     /// Fragments refuse for these reasons alone.

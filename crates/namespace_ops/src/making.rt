@@ -68,6 +68,7 @@ pub fn make<F: Frags>(
         Plans (F.content frags.old) (F.content frags.new) (F.IsReady frags.new) (F.MayRefuse frags.old frags.new)
         (made (F.content frags.old) (place_of dir.0 name.now) inode (at (F.content frags.old) dir.0 name.now)) number result }
     ensures same { F.content frags.new ≡ F.content frags.old }
+    ensures leaves { F.covers frags.new ≡ F.covers frags.old }
     ensures follows { F.Follows frags.old frags.new }
 {
     if frags.look(dir, name)?.is_some() {

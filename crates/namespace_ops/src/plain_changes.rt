@@ -5,7 +5,7 @@ ghost use Rattle.sorted_map.specs.SortedMap.{contents};
 ghost use Rattle.mds_types.specs.declared.inodes.Inode.{Inode as Node};
 ghost use Rattle.mds_types.specs.Tree.{place_cmp, is_dir_kind};
 ghost use Rattle.mds_types.specs.MovedLaws.{IsMove};
-ghost use Rattle.namespace_ops.specs.Changes.{MayAdd, MaySet, MayRemove, moved};
+ghost use Rattle.namespace_ops.specs.Changes.{KeepLeaves, MayAdd, MaySet, MayRemove, moved};
 ghost use Rattle.namespace_ops.specs.PlainFrags.{IsTabled};
 
 use crate::table_changes::{adopt_dir, drop_dir, relocate_dir};
@@ -27,6 +27,7 @@ pub fn add_entry(
     requires may { MayAdd (contents place_cmp entries.old) place inode }
     ensures tree { contents place_cmp entries.new ≡ map.insert (contents place_cmp entries.old) place inode }
     ensures tabled { IsTabled (contents place_cmp entries.new) dirs.new.homes }
+    ensures leaves { KeepLeaves (contents place_cmp entries.new) dirs.old.trees dirs.new.trees }
 {
     adopt_dir(dirs, spare, &place, &inode);
     let _ = entries.insert(place, inode);
@@ -48,6 +49,7 @@ pub fn remove_entry(entries: &mut SortedMap<Place, Inode>, dirs: &mut Dirs, plac
     requires may { MayRemove (contents place_cmp entries.old) place.now }
     ensures tree { contents place_cmp entries.new ≡ map.remove (contents place_cmp entries.old) place.now }
     ensures tabled { IsTabled (contents place_cmp entries.new) dirs.new.homes }
+    ensures leaves { KeepLeaves (contents place_cmp entries.new) dirs.old.trees dirs.new.trees }
 {
     drop_dir(dirs, entries.get(place));
     let _ = entries.remove(place);
@@ -66,6 +68,7 @@ pub fn move_entry(
     requires may { (inode : Node) × IsMove (contents place_cmp entries.old) from.now to inode }
     ensures tree { contents place_cmp entries.new ≡ moved (contents place_cmp entries.old) from.now to (map.get (contents place_cmp entries.old) from.now) }
     ensures tabled { IsTabled (contents place_cmp entries.new) dirs.new.homes }
+    ensures leaves { KeepLeaves (contents place_cmp entries.new) dirs.old.trees dirs.new.trees }
 {
     let Some((_, inode)) = entries.remove(from) else {
         unreachable!()

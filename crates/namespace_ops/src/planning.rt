@@ -29,6 +29,7 @@ pub fn plan_op<F: Frags>(
     ensures planned { Plans (F.content frags.old) (F.content frags.new) (F.IsReady frags.new) (F.MayRefuse frags.old frags.new)
         (step (F.content frags.old) op.now (number_or number)) number result }
     ensures same { F.content frags.new ≡ F.content frags.old }
+    ensures leaves { F.covers frags.new ≡ F.covers frags.old }
     ensures follows { F.Follows frags.old frags.new }
 {
     if !(frags.is_dir(op.dir()) && frags.is_dir(op.destination())) {
@@ -50,6 +51,7 @@ fn plan_within<F: Frags>(
     ensures planned { Plans (F.content frags.old) (F.content frags.new) (F.IsReady frags.new) (F.MayRefuse frags.old frags.new)
         (within (F.content frags.old) op.now (number_or number)) number result }
     ensures same { F.content frags.new ≡ F.content frags.old }
+    ensures leaves { F.covers frags.new ≡ F.covers frags.old }
     ensures follows { F.Follows frags.old frags.new }
 {
     match op {

@@ -1,5 +1,6 @@
 //! What an operation comes to, before it is done.
 ghost use Rattle.std.specs.Prelude.{◌≡◌, None};
+ghost use Rattle.namespace_ops.specs.Changes.{KeepLeaves};
 ghost use Rattle.namespace_ops.specs.Planned.{after_plan, IsReadyToChange};
 
 use crate::frags::Frags;
@@ -33,6 +34,7 @@ pub struct Plan {
 pub fn carry_out<F: Frags>(frags: &mut F, change: Option<Change>)
     requires { IsReadyToChange (F.content frags.old) (F.IsReady frags.old) change }
     ensures done { F.content frags.new ≡ after_plan (F.content frags.old) change }
+    ensures leaves { KeepLeaves (F.content frags.new) (F.covers frags.old) (F.covers frags.new) }
     ensures follows { F.Follows frags.old frags.new }
 {
     if let Some(change) = change {

@@ -17,6 +17,7 @@ pub fn lookup<F: Frags>(frags: &mut F, dir: Ino, name: &Name) -> Result<Plan, Re
     ensures planned { (number : Option Number) → Plans (F.content frags.old) (F.content frags.new) (F.IsReady frags.new) (F.MayRefuse frags.old frags.new)
         (found (F.content frags.old) (at (F.content frags.old) dir.0 name.now)) number result }
     ensures same { F.content frags.new ≡ F.content frags.old }
+    ensures leaves { F.covers frags.new ≡ F.covers frags.old }
     ensures follows { F.Follows frags.old frags.new }
 {
     match frags.look(dir, name)? {
@@ -36,6 +37,7 @@ pub fn read_dir<F: Frags>(
     ensures planned { (number : Option Number) → Plans (F.content frags.old) (F.content frags.new) (F.IsReady frags.new) (F.MayRefuse frags.old frags.new)
         (page (F.content frags.old) max (names_after (F.content frags.old) dir.0 (option_copied after.entry))) number result }
     ensures same { F.content frags.new ≡ F.content frags.old }
+    ensures leaves { F.covers frags.new ≡ F.covers frags.old }
     ensures follows { F.Follows frags.old frags.new }
 {
     let (list, more) = frags.list_after(alloc, dir, after, max)?;
@@ -47,6 +49,7 @@ pub fn read_link<F: Frags>(frags: &mut F, dir: Ino, name: &Name) -> Result<Plan,
     ensures planned { (number : Option Number) → Plans (F.content frags.old) (F.content frags.new) (F.IsReady frags.new) (F.MayRefuse frags.old frags.new)
         (link_read (F.content frags.old) (at (F.content frags.old) dir.0 name.now)) number result }
     ensures same { F.content frags.new ≡ F.content frags.old }
+    ensures leaves { F.covers frags.new ≡ F.covers frags.old }
     ensures follows { F.Follows frags.old frags.new }
 {
     match frags.look(dir, name)? {

@@ -19,6 +19,7 @@ pub fn unlink<F: Frags>(frags: &mut F, op: &Op, dir: Ino, name: &Name) -> Result
     ensures planned { (number : Option Number) → Plans (F.content frags.old) (F.content frags.new) (F.IsReady frags.new) (F.MayRefuse frags.old frags.new)
         (unlinked (F.content frags.old) (place_of dir.0 name.now) (at (F.content frags.old) dir.0 name.now)) number result }
     ensures same { F.content frags.new ≡ F.content frags.old }
+    ensures leaves { F.covers frags.new ≡ F.covers frags.old }
     ensures follows { F.Follows frags.old frags.new }
 {
     let Some(inode) = frags.look(dir, name)? else {
@@ -36,6 +37,7 @@ pub fn remove_dir<F: Frags>(frags: &mut F, op: &Op, dir: Ino, name: &Name) -> Re
     ensures planned { (number : Option Number) → Plans (F.content frags.old) (F.content frags.new) (F.IsReady frags.new) (F.MayRefuse frags.old frags.new)
         (dir_removed (F.content frags.old) (place_of dir.0 name.now) (at (F.content frags.old) dir.0 name.now)) number result }
     ensures same { F.content frags.new ≡ F.content frags.old }
+    ensures leaves { F.covers frags.new ≡ F.covers frags.old }
     ensures follows { F.Follows frags.old frags.new }
 {
     let Some(inode) = frags.look(dir, name)? else {
@@ -57,6 +59,7 @@ fn removal<F: Frags>(frags: &mut F, op: &Op, dir: Ino, name: &Name) -> Result<Pl
     ensures planned { (number : Option Number) → Plans (F.content frags.old) (F.content frags.new) (F.IsReady frags.new) (F.MayRefuse frags.old frags.new)
         (answers (map.remove (F.content frags.old) (place_of dir.0 name.now)) Done) number result }
     ensures same { F.content frags.new ≡ F.content frags.old }
+    ensures leaves { F.covers frags.new ≡ F.covers frags.old }
     ensures follows { F.Follows frags.old frags.new }
 {
     let place = Place {

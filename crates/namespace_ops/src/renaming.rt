@@ -32,6 +32,7 @@ pub fn rename<F: Frags>(
         (renamed (F.content frags.old) (place_of source.entry.0.0 source.entry.1.now) (place_of target.entry.0.0 target.entry.1.now)
         (at (F.content frags.old) source.entry.0.0 source.entry.1.now) (at (F.content frags.old) target.entry.0.0 target.entry.1.now)) number result }
     ensures same { F.content frags.new ≡ F.content frags.old }
+    ensures leaves { F.covers frags.new ≡ F.covers frags.old }
     ensures follows { F.Follows frags.old frags.new }
 {
     let Some(inode) = frags.look(source.0, source.1)? else {
@@ -65,6 +66,7 @@ fn move_onto<F: Frags>(
         Plans tree (F.content frags.new) (F.IsReady frags.new) (F.MayRefuse frags.old frags.new)
         (unless tree (errno_of_replacing tree inode.now (map.get tree to)) (answers (with_moved tree from to inode.now) Done)) number result }
     ensures same { F.content frags.new ≡ F.content frags.old }
+    ensures leaves { F.covers frags.new ≡ F.covers frags.old }
     ensures follows { F.Follows frags.old frags.new }
 {
     let replaced = frags.look(to.dir, &to.name)?;
