@@ -11,6 +11,7 @@ use Rattle.mds_types.specs.Step.{Outcome, step, number_or}
 use Rattle.mds_types.specs.History.{IsTrimmed, IsKeptAt, IsNew}
 use Rattle.inode_table.specs.Numbers.{offer}
 use Rattle.sessions.specs.Table.{Table, noted, trimmed}
+use Rattle.namespace_ops.specs.Changes.{KeepLeaves}
 use Rattle.namespace_ops.specs.Served.{LacksNumber}
 use Rattle.cluster_core.specs.declared.answers.Answer.{Answer}
 use Rattle.cluster_core.specs.declared.answers.Answer.TheVariants.{Nothing, Reply}
@@ -54,7 +55,9 @@ pub record IsApplied (old new : Core) (past now : List Entry) (request : Request
   -- where the table takes a number, there is one
   pub numbered : offer old.numbers ≡ None → (outcome_of old request).takes ≡ false
   pub appended : now ≡ past ++ entry_of old request ∷ []
-  pub left : new ≡ record { shown = (outcome_of old request).tree; inbox = rest; numbers = after_taking old.numbers (number_of old request); sessions = with_entry old.sessions (length past) (entry_of old request) }
+  -- each directory that stands then has the leaves that it had, one that came the leaf `*`
+  pub leaves : KeepLeaves new.shown old.covers new.covers
+  pub left : new ≡ record { shown = (outcome_of old request).tree; covers = new.covers; inbox = rest; numbers = after_taking old.numbers (number_of old request); sessions = with_entry old.sessions (length past) (entry_of old request) }
 
 -- a request that was applied before is answered again: the reply of its place, and nothing changes but the inbox
 pub record IsRepeated (old new : Core) (past now : List Entry) (request : Request) (rest : List Request) (client tid place : ℕ) (reply : Replied) : Type 0 where

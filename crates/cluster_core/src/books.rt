@@ -64,6 +64,7 @@ pub fn format(alloc: Global, ranks: u8, cache: u32) -> Book
     ensures opening { result.opening ≡ map.empty }
     ensures history { result.history ≡ [] }
     ensures shown { result.core.shown ≡ map.empty }
+    ensures leaves { result.core.covers ≡ map.empty }
     ensures waiting { result.core.inbox ≡ [] }
     ensures numbers { result.core.numbers ≡ record { rank = 0; next = 2 ^ 40 } }
     ensures sessions { result.core.sessions ≡ map.empty }

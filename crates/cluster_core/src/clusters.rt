@@ -37,7 +37,7 @@ impl Model for Cluster {
 
     ghost coded = { Prim.hlevel (codes, map.code) };
 
-    ghost view = { λ c. record { shown = c.frags.tree; inbox = c.inbox; numbers = c.numbers; sessions = table c.sessions } };
+    ghost view = { λ c. record { shown = c.frags.tree; covers = c.frags.covers; inbox = c.inbox; numbers = c.numbers; sessions = table c.sessions } };
 }
 
 impl Cluster {
@@ -47,6 +47,7 @@ impl Cluster {
     /// A cluster that serves the empty tree.
     pub(crate) fn new(alloc: Global) -> Cluster
         ensures empty { result.shown ≡ map.empty }
+        ensures leaves { result.covers ≡ map.empty }
         ensures waiting { result.inbox ≡ [] }
         ensures numbers { result.numbers ≡ record { rank = 0; next = 2 ^ 40 } }
         ensures sessions { result.sessions ≡ map.empty }

@@ -9,8 +9,8 @@ ghost use Rattle.mds_types.specs.Tree.{is_dir_kind};
 ghost use Rattle.mds_types.specs.DirectoryLaws.{NothingIn};
 ghost use Rattle.mds_types.specs.MovedLaws.{IsMove};
 ghost use Rattle.inode_table.specs.Dirs.{IsChildless, IsTable};
-ghost use Rattle.namespace_ops.specs.Changes.{MayAdd, MaySet, MayRemove, moved};
-ghost use Rattle.namespace_ops.specs.PlainFrags.{without_home};
+ghost use Rattle.namespace_ops.specs.Changes.{KeepLeaves, MayAdd, MaySet, MayRemove, moved};
+ghost use Rattle.namespace_ops.specs.PlainFrags.{without_cover, without_home};
 ghost use Rattle.leaf_maps.specs.Leaves.{ArePlaced, names_in, shown_by};
 ghost use Rattle.leaf_maps.specs.Changes.{HaveSameNames};
 ghost use Rattle.cluster_core.specs.LeafFrags.{HasRoomAt, IsSoundTree};
@@ -35,6 +35,7 @@ pub fn add_entry(
     requires may { MayAdd (shown_by leaves.old) place inode }
     ensures tree { shown_by leaves.new ≡ map.insert (shown_by leaves.old) place inode }
     ensures sound { IsSoundTree dirs.new.homes dirs.new.trees leaves.new }
+    ensures leaves { KeepLeaves (shown_by leaves.new) dirs.old.trees dirs.new.trees }
 {
     adopt_dir(dirs, spare, &place, &inode);
     put_at(leaves, dirs, place, inode);
@@ -56,6 +57,7 @@ pub fn remove_entry(leaves: &mut LeafMaps, dirs: &mut Dirs, place: &Place)
     requires may { MayRemove (shown_by leaves.old) place.now }
     ensures tree { shown_by leaves.new ≡ map.remove (shown_by leaves.old) place.now }
     ensures sound { IsSoundTree dirs.new.homes dirs.new.trees leaves.new }
+    ensures leaves { KeepLeaves (shown_by leaves.new) dirs.old.trees dirs.new.trees }
 {
     let gone = take_from(leaves, dirs, place);
     drop_leaves(leaves, dirs, gone.as_ref());
@@ -75,6 +77,7 @@ pub fn move_entry(
     requires may { (inode : Node) × IsMove (shown_by leaves.old) from.now to inode }
     ensures tree { shown_by leaves.new ≡ moved (shown_by leaves.old) from.now to (map.get (shown_by leaves.old) from.now) }
     ensures sound { IsSoundTree dirs.new.homes dirs.new.trees leaves.new }
+    ensures leaves { KeepLeaves (shown_by leaves.new) dirs.old.trees dirs.new.trees }
 {
     let Some(inode) = take_from(leaves, dirs, from) else {
         unreachable!()
@@ -92,6 +95,7 @@ fn drop_leaves(leaves: &mut LeafMaps, dirs: &mut Dirs, gone: Option<&Inode>)
     requires childless { (inode : Node) → option_copied gone ≡ Some inode → is_dir_kind inode.kind ≡ true → IsChildless dirs.old.homes inode.ino.0 }
     requires empty { (inode : Node) → option_copied gone ≡ Some inode → is_dir_kind inode.kind ≡ true → NothingIn (shown_by leaves.old) inode.ino.0 }
     ensures homes { dirs.new.homes ≡ without_home dirs.old.homes (option_copied gone.entry) }
+    ensures trees { dirs.new.trees ≡ without_cover dirs.old.trees (option_copied gone.entry) }
     ensures tree { shown_by leaves.new ≡ shown_by leaves.old }
     ensures placed { ArePlaced dirs.new.trees leaves.new }
     ensures table { IsTable dirs.new.homes dirs.new.trees }

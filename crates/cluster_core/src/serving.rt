@@ -2,7 +2,7 @@
 ghost use Rattle.std.specs.Prelude.{◌≡◌, ◌<◌, ◌++◌, ◌∷◌, [], true, length, vec_len, vec_capacity, MatchResult, OnOk};
 ghost use Rattle.mds_types.specs.Step.{step, number_or};
 ghost use Rattle.inode_table.specs.Numbers.{offer};
-ghost use Rattle.namespace_ops.specs.Changes.{IsOffered};
+ghost use Rattle.namespace_ops.specs.Changes.{IsOffered, KeepLeaves};
 ghost use Rattle.namespace_ops.specs.Planned.{IsReadyToChange, after_plan};
 ghost use Rattle.namespace_ops.specs.Served.{IsRefused};
 ghost use Rattle.sessions.specs.Table.{IsTableOf, noted, trimmed};
@@ -52,6 +52,7 @@ pub fn prepare<F: Frags>(
     ensures past { history.new.items ≡ history.old.items }
     ensures known { table sessions.new ≡ table sessions.old }
     ensures same { F.content frags.new ≡ F.content frags.old }
+    ensures leaves { F.covers frags.new ≡ F.covers frags.old }
     ensures follows { F.Follows frags.old frags.new }
 {
     history.reserve(1)?;
@@ -81,6 +82,7 @@ pub fn commit<F: Frags>(
     requires room { vec_len history.old < vec_capacity history.old }
     requires reserved { IsReady sessions.old request.client }
     ensures tree { F.content frags.new ≡ after_plan (F.content frags.old) prepared.plan.change }
+    ensures leaves { KeepLeaves (F.content frags.new) (F.covers frags.old) (F.covers frags.new) }
     ensures appended { history.new.items ≡ history.old.items ++ record {
       client = request.client;
       tid = request.tid;
@@ -139,8 +141,8 @@ pub fn serve_front<F: Frags>(
     requires known { IsTableOf history.old.items (table sessions.old) }
     requires offered { IsOffered (F.content frags.old) (offer numbers.old) }
     ensures served { ServesInbox
-        (record { shown = F.content frags.old; inbox = inbox.old; numbers = numbers.old; sessions = table sessions.old })
-        (record { shown = F.content frags.new; inbox = inbox.new; numbers = numbers.new; sessions = table sessions.new })
+        (record { shown = F.content frags.old; covers = F.covers frags.old; inbox = inbox.old; numbers = numbers.old; sessions = table sessions.old })
+        (record { shown = F.content frags.new; covers = F.covers frags.new; inbox = inbox.new; numbers = numbers.new; sessions = table sessions.new })
         history.old.items history.new.items (F.MayRefuse frags.old frags.new) result inbox.old }
     ensures follows { F.Follows frags.old frags.new }
 {

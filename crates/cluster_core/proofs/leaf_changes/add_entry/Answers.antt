@@ -1,4 +1,4 @@
-use Rattle.namespace_ops.specs.TableLaws.{may_come, added_tabled}
+use Rattle.namespace_ops.specs.TableLaws.{may_come, added_tabled, leaves_same}
 use Rattle.cluster_core.proofs.leaf_changes.add_entry.Goals as goal
 
 pub adopt_dir-requires-clause-may : goal.adopt_dir-requires-clause-may
@@ -16,3 +16,6 @@ returns-clause-sound c = record {
   placed = c.put_at.ensures.placed;
   tabled = rw (c.put_at.ensures.tree, c.adopt_dir.ensures.homes) (added_tabled _ _ c.args.place c.args.inode c.requires.sound.tabled c.requires.may);
 }
+
+pub returns-clause-leaves : goal.returns-clause-leaves
+returns-clause-leaves c = leaves_same _ _ _ c.adopt_dir.ensures.trees

@@ -2,6 +2,9 @@ use Rattle.std.proofs.Common.{sym, ap, ◌∙◌}
 use Rattle.leaf_maps.specs.Leaves.{shown_by}
 use Rattle.mds_types.specs.MovedLaws.{IsMove}
 use Rattle.namespace_ops.specs.Changes.{moved}
+use Rattle.std.specs.Option.{option_copied}
+use Rattle.namespace_ops.specs.PlainFrags.{without_cover}
+use Rattle.namespace_ops.specs.TableLaws.{leaves_kept}
 use Rattle.namespace_ops.specs.MoveLaws.{may_relocate, may_replace, moved_tabled}
 use Rattle.cluster_core.proofs.LeafChanges.{moving, moved_tree, replaced_is, replaced_empty}
 use Rattle.cluster_core.proofs.leaf_changes.move_entry.Goals as goal
@@ -50,6 +53,26 @@ returns-clause-sound c = record {
       )
       (moved_tabled (shown_by c.args.leaves.now) _ c.args.from.now c.args.to c.in-Some.inode c.requires.sound.tabled move);
 }
+  where
+    move : IsMove (shown_by c.args.leaves.now) c.args.from.now c.args.to c.in-Some.inode
+    move = moving _ c.args.from.now c.args.to c.take_from.result _ c.in-Some.is c.take_from.ensures.value c.requires.may
+
+pub returns-clause-leaves : goal.returns-clause-leaves
+returns-clause-leaves c =
+    leaves_kept (shown_by c.args.leaves.now) _ _ _ _ _ c.args.to _
+    (
+      rw (
+        c.drop_leaves.ensures.tree,
+        moved_tree (shown_by c.args.leaves.now) _ _ _ c.args.from.now c.args.to c.in-Some.inode c.take_from.ensures.tree c.take_from-replaced.ensures.tree c.put_at.ensures.tree,
+        c.drop_leaves.ensures.homes,
+        c.relocate_dir.ensures.homes,
+        c.as_ref.ensures.value ∙ replaced_is _ _ _ c.args.from.now c.args.to c.in-Some.inode c.take_from-replaced.result c.requires.sound.tabled move c.take_from.ensures.tree c.take_from-replaced.ensures.value,
+      )
+      (moved_tabled (shown_by c.args.leaves.now) _ c.args.from.now c.args.to c.in-Some.inode c.requires.sound.tabled move)
+    )
+    c.requires.sound.tabled.whole
+    (c.as_ref.ensures.value ∙ replaced_is _ _ _ c.args.from.now c.args.to c.in-Some.inode c.take_from-replaced.result c.requires.sound.tabled move c.take_from.ensures.tree c.take_from-replaced.ensures.value)
+    c.drop_leaves.ensures.homes (c.drop_leaves.ensures.trees ∙ ap (λ t. without_cover t (option_copied c.as_ref.result)) c.relocate_dir.ensures.trees)
   where
     move : IsMove (shown_by c.args.leaves.now) c.args.from.now c.args.to c.in-Some.inode
     move = moving _ c.args.from.now c.args.to c.take_from.result _ c.in-Some.is c.take_from.ensures.value c.requires.may

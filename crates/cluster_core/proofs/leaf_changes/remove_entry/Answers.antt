@@ -1,5 +1,6 @@
 use Rattle.std.proofs.Common.{sym, ◌∙◌}
-use Rattle.namespace_ops.specs.TableLaws.{may_drop, removed_tabled}
+use Rattle.leaf_maps.specs.Leaves.{shown_by}
+use Rattle.namespace_ops.specs.TableLaws.{may_drop, removed_tabled, leaves_kept}
 use Rattle.cluster_core.proofs.LeafChanges.{removed_empty}
 use Rattle.cluster_core.proofs.leaf_changes.remove_entry.Goals as goal
 
@@ -16,3 +17,9 @@ returns-clause-sound c = record {
   placed = c.drop_leaves.ensures.placed;
   tabled = rw (c.drop_leaves.ensures.tree, c.take_from-gone.ensures.tree, c.drop_leaves.ensures.homes) (removed_tabled _ _ c.args.place.now _ (sym (c.as_ref.ensures.value ∙ c.take_from-gone.ensures.value)) c.requires.sound.tabled c.requires.may);
 }
+
+pub returns-clause-leaves : goal.returns-clause-leaves
+returns-clause-leaves c =
+    leaves_kept (shown_by c.args.leaves.now) _ _ _ _ _ c.args.place.now _
+    (rw (c.drop_leaves.ensures.tree, c.take_from-gone.ensures.tree, c.drop_leaves.ensures.homes) (removed_tabled _ _ c.args.place.now _ (sym (c.as_ref.ensures.value ∙ c.take_from-gone.ensures.value)) c.requires.sound.tabled c.requires.may))
+    c.requires.sound.tabled.whole (c.as_ref.ensures.value ∙ c.take_from-gone.ensures.value) c.drop_leaves.ensures.homes c.drop_leaves.ensures.trees

@@ -1,3 +1,5 @@
+use Rattle.std.proofs.Common.{refl}
+use Rattle.namespace_ops.specs.TableLaws.{leaves_same}
 use Rattle.cluster_core.proofs.leaf_frags.LeafFragsFrags.change.Goals.{in-Add, in-Set, in-Remove, in-Move}
 use Rattle.cluster_core.proofs.leaf_frags.LeafFragsFrags.change.Goals as goal
 
@@ -9,3 +11,13 @@ invariant_of-self c =
       | in-Remove w ↦ rw w.self-inside-is w.remove_entry.ensures.sound
       | in-Move w ↦ rw w.self-inside-is w.move_entry.ensures.sound
     ]
+
+pub returns-clause-leaves : goal.returns-clause-leaves
+returns-clause-leaves c =
+    rw (← c.self.view_is)
+    (elim c.match-change.branch [
+      | in-Add w ↦ rw w.self-inside-is w.add_entry.ensures.leaves
+      | in-Set w ↦ rw w.self-inside-is (leaves_same _ _ _ refl)
+      | in-Remove w ↦ rw w.self-inside-is w.remove_entry.ensures.leaves
+      | in-Move w ↦ rw w.self-inside-is w.move_entry.ensures.leaves
+    ])
