@@ -4,6 +4,8 @@ use Rattle.std.proofs.Math.Seq.{get_or-append_seam}
 use Rattle.std.proofs.lemmas.List.{append-nil, length-append, length-drop, get_or_append_left, drop_more, take_more, take_all}
 use Rattle.std.proofs.lemmas.Bool.{eqb-true}
 use Rattle.std.specs.List.{slice_index_or}
+use Rattle.mds_types.specs.declared.ids.Ino.{Ino}
+use Rattle.mds_types.specs.Frag.{Fragment}
 use Rattle.mds_types.specs.declared.entries.Entry.{Entry}
 use Rattle.mds_types.specs.declared.requests.Request.{Request}
 use Rattle.mds_types.specs.declared.replies.Reply.{Reply as Replied}
@@ -12,9 +14,10 @@ use Rattle.mds_types.specs.declared.refusals.Refusal.TheVariants.{NoMemory, Stor
 use Rattle.cluster_core.specs.declared.answers.Answer.{Answer}
 use Rattle.cluster_core.specs.declared.answers.Answer.TheVariants.{Nothing, Reply}
 use Rattle.cluster_core.specs.declared.events.Event.{Event}
-use Rattle.cluster_core.specs.declared.events.Event.TheVariants.{Arrive, Serve}
+use Rattle.cluster_core.specs.declared.events.Event.TheVariants.{Arrive, Serve, Split, Merge}
 use Rattle.cluster_core.specs.Core.{Core, Kept}
 use Rattle.cluster_core.specs.Serve.{IsApplied, IsRepeated, IsLeftWaiting, ServesRequest, ServesInbox, entry_of}
+use Rattle.cluster_core.specs.Splits.{IsRecovered, Merges, Splits}
 use Rattle.cluster_core.specs.Steps.{Steps, ArrivesInbox, MayRefuse, ranks}
 use Rattle.cluster_core.specs.Runs.{StepsBook, Runs, IsRun, StandsAt, IsOfHistory, BeginsWith}
 
@@ -115,6 +118,16 @@ module _ (old new : Core) (past now : List Entry) where
   served_inbox result [] h = subst (IsStepOf past now) (sym h.0) (waiting InboxEmpty h.1)
   served_inbox result (request ∷ rest) h = served request rest result h
 
+  split_up : (dir : Ino) (f : Fragment) (nb : ℕ) (result : Result Answer Refusal) → Splits old new past now dir f nb result → IsStepOf past now result
+  split_up dir f nb (Ok Nothing) h = record { grows = unchanged past now h.1.same; told = tt }
+  split_up dir f nb (Ok (Reply client tid place first reply)) h = absurd h
+  split_up dir f nb (Err reason) h = waiting reason h.1
+
+  merged : (dir : Ino) (f : Fragment) (result : Result Answer Refusal) → Merges old new past now dir f result → IsStepOf past now result
+  merged dir f (Ok Nothing) h = record { grows = unchanged past now h.1.same; told = tt }
+  merged dir f (Ok (Reply client tid place first reply)) h = absurd h
+  merged dir f (Err reason) h = waiting reason h.1
+
   at_rank : (here : Bool) (result : Result Answer Refusal) {done : Type 0} → (done → IsStepOf past now result) → MatchBool here done ((result ≡ Err NotAuthority) × IsLeftWaiting old new past now) → IsStepOf past now result
   at_rank true result go h = go h
   at_rank false result go h = subst (IsStepOf past now) (sym h.0) (waiting NotAuthority h.1)
@@ -123,6 +136,8 @@ module _ (old new : Core) (past now : List Entry) where
   pub step_of : (result : Result Answer Refusal) (event : Event) → Steps old new past now result event → IsStepOf past now result
   step_of result (Arrive rank request) h = at_rank (nat_lt rank.0 ranks) result (arrived request result) h
   step_of result (Serve rank) h = at_rank (nat_lt rank.0 ranks) result (served_inbox result old.inbox) h
+  step_of result (Split rank dir f nb) h = at_rank (nat_lt rank.0 ranks) result (split_up dir f nb result) h
+  step_of result (Merge rank dir f) h = at_rank (nat_lt rank.0 ranks) result (merged dir f result) h
 
 -- what stands in a history stands in each that begins with it
 still_stands : (past now : List Entry) (client tid place : ℕ) (reply : Replied) → BeginsWith now past → StandsAt past client tid place reply → StandsAt now client tid place reply

@@ -1,6 +1,8 @@
 -- A book stays sound at every step, and begins sound.
 use Rattle.std.proofs.Common.{◌≡◌, ℕ, ◌^◌, ◌≤◌, Bool, true, false, nat_lt, inl, inr, List, [], ◌∷◌, map, length, MatchBool, Result, Ok, Err, ap, arith}
 use Rattle.std.specs.FinMap as finmap
+use Rattle.mds_types.specs.declared.ids.Ino.{Ino}
+use Rattle.mds_types.specs.Frag.{Fragment}
 use Rattle.mds_types.specs.declared.entries.Entry.{Entry}
 use Rattle.mds_types.specs.declared.requests.Request.{Request}
 use Rattle.mds_types.specs.declared.refusals.Refusal.{Refusal}
@@ -14,9 +16,10 @@ use Rattle.sessions.specs.TableLaws.{table-none}
 use Rattle.cluster_core.specs.declared.answers.Answer.{Answer}
 use Rattle.cluster_core.specs.declared.answers.Answer.TheVariants.{Nothing, Reply}
 use Rattle.cluster_core.specs.declared.events.Event.{Event}
-use Rattle.cluster_core.specs.declared.events.Event.TheVariants.{Arrive, Serve}
+use Rattle.cluster_core.specs.declared.events.Event.TheVariants.{Arrive, Serve, Split, Merge}
 use Rattle.cluster_core.specs.Core.{Core}
 use Rattle.cluster_core.specs.Serve.{IsLeftWaiting, IsTakenOut, ServesRequest, ServesInbox}
+use Rattle.cluster_core.specs.Splits.{IsRecovered, Merges, Splits}
 use Rattle.cluster_core.specs.Steps.{Steps, ArrivesInbox, MayRefuse, ranks}
 use Rattle.cluster_core.specs.Sound.{IsSound}
 use Rattle.cluster_core.proofs.Applied.{sound-applied}
@@ -88,6 +91,19 @@ module _ (opening : Tree) (past now : List Entry) (old new : Core) (sound : IsSo
   served_inbox result [] h = sound-waiting h.1
   served_inbox result (request ∷ rest) h = served request rest result h
 
+  recovered : IsRecovered old new past now → IsSound opening now new
+  recovered h = sound-same h.same (ap (λ (c : Core). c.shown) h.left) (ap (λ (c : Core). c.numbers) h.left) (ap (λ (c : Core). c.sessions) h.left)
+
+  split_up : (dir : Ino) (f : Fragment) (nb : ℕ) (result : Result Answer Refusal) → Splits old new past now dir f nb result → IsSound opening now new
+  split_up dir f nb (Ok Nothing) h = recovered h.1
+  split_up dir f nb (Ok (Reply client tid place first reply)) h = absurd h
+  split_up dir f nb (Err reason) h = sound-waiting h.1
+
+  merged : (dir : Ino) (f : Fragment) (result : Result Answer Refusal) → Merges old new past now dir f result → IsSound opening now new
+  merged dir f (Ok Nothing) h = recovered h.1
+  merged dir f (Ok (Reply client tid place first reply)) h = absurd h
+  merged dir f (Err reason) h = sound-waiting h.1
+
   at_rank : (here : Bool) (result : Result Answer Refusal) {done : Type 0} → (done → IsSound opening now new) → MatchBool here done ((result ≡ Err NotAuthority) × IsLeftWaiting old new past now) → IsSound opening now new
   at_rank true result go h = go h
   at_rank false result go h = sound-waiting h.1
@@ -96,6 +112,8 @@ module _ (opening : Tree) (past now : List Entry) (old new : Core) (sound : IsSo
   pub sound-step : (result : Result Answer Refusal) (event : Event) → Steps old new past now result event → IsSound opening now new
   sound-step result (Arrive rank request) h = at_rank (nat_lt rank.0 ranks) result (arrived request result) h
   sound-step result (Serve rank) h = at_rank (nat_lt rank.0 ranks) result (served_inbox result old.inbox) h
+  sound-step result (Split rank dir f nb) h = at_rank (nat_lt rank.0 ranks) result (split_up dir f nb result) h
+  sound-step result (Merge rank dir f) h = at_rank (nat_lt rank.0 ranks) result (merged dir f result) h
 
 -- no number of a rank is used in an empty book
 unused-empty : (n : ℕ) → 2 ^ 40 ≤ n → IsUsed finmap.empty [] n → ⊥

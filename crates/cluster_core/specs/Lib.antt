@@ -10,4 +10,5 @@ pub mod Prepared
 pub mod Runs
 pub mod Serve
 pub mod Sound
+pub mod Splits
 pub mod Steps

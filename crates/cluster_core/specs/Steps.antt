@@ -8,9 +8,10 @@ use Rattle.mds_types.specs.declared.refusals.Refusal.TheVariants.{NoMemory, NotA
 use Rattle.cluster_core.specs.declared.answers.Answer.{Answer}
 use Rattle.cluster_core.specs.declared.answers.Answer.TheVariants.{Nothing, Reply}
 use Rattle.cluster_core.specs.declared.events.Event.{Event}
-use Rattle.cluster_core.specs.declared.events.Event.TheVariants.{Arrive, Serve}
+use Rattle.cluster_core.specs.declared.events.Event.TheVariants.{Arrive, Serve, Split, Merge}
 use Rattle.cluster_core.specs.Core.{Core}
 use Rattle.cluster_core.specs.Serve.{IsLeftWaiting, ServesInbox}
+use Rattle.cluster_core.specs.Splits.{Merges, Splits}
 
 -- a cluster of one rank, so far
 abbrev pub ranks : ℕ
@@ -36,3 +37,5 @@ MayRefuse reason = reason ≡ NoMemory
 abbrev pub Steps : (old new : Core) → (past now : List Entry) → Result Answer Refusal → Event → Type 0
 Steps old new past now result (Arrive rank request) = AtRank old new past now rank result (ArrivesInbox old new past now request result)
 Steps old new past now result (Serve rank) = AtRank old new past now rank result (ServesInbox old new past now MayRefuse result old.inbox)
+Steps old new past now result (Split rank dir f nb) = AtRank old new past now rank result (Splits old new past now dir f nb result)
+Steps old new past now result (Merge rank dir f) = AtRank old new past now rank result (Merges old new past now dir f result)

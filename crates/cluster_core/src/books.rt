@@ -45,6 +45,13 @@ impl Book {
         self.history.as_slice()
     }
 
+    /// The cluster, to read.
+    pub fn cluster(&self) -> &Cluster
+        ensures { result.now ≡ self.now.core }
+    {
+        &self.cluster
+    }
+
     /// One event, one atomic step: what it answers, or why it is refused. The opening tree stays.
     pub fn step(&mut self, alloc: Global, event: Event) -> Result<Answer, Refusal>
         ensures stepped { Steps self.old.core self.new.core self.old.history self.new.history result event }

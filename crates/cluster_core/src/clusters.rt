@@ -1,11 +1,12 @@
 //! The cluster and its events.
-ghost use Rattle.std.specs.Prelude.{◌≡◌, ◌^◌, [], List, nat_lt};
+ghost use Rattle.std.specs.Prelude.{◌≡◌, ◌^◌, [], List, nat_lt, Ok, Err, IfOk, IfErr};
 ghost use Rattle.mds_types.specs.declared.entries.Entry.{Entry as Applied};
 ghost use Rattle.std.specs.FinMap as map;
 ghost use Rattle.cluster_core.specs.Steps.{Steps, AtRank, ArrivesInbox, MayRefuse, ranks};
 ghost use Rattle.mds_types.specs.Tree.{Tree};
 ghost use Rattle.cluster_core.specs.Sound.{IsSound};
 ghost use Rattle.cluster_core.specs.Serve.{ServesInbox};
+ghost use Rattle.cluster_core.specs.Splits.{ListsLeaves, Merges, Splits};
 
 use crate::answers::Answer;
 use crate::events::Event;
@@ -13,7 +14,8 @@ use crate::inboxes::Inbox;
 use crate::leaf_frags::LeafFrags;
 use crate::serving::serve_front;
 use inode_table::Numbers;
-use mds_types::{Entry, Rank, Refusal, Request};
+use mds_types::{Entry, Frag, Ino, Rank, Refusal, Request};
+use namespace_ops::Frags;
 use sessions::Sessions;
 use std::alloc::Global;
 use std::marker::Model;
@@ -75,6 +77,13 @@ impl Cluster {
         match event {
             Event::Arrive { rank, request } => self.arrive(rank, request),
             Event::Serve { rank } => self.serve(alloc, history, rank),
+            Event::Split {
+                rank,
+                ino,
+                frag,
+                bits,
+            } => self.split(alloc, rank, ino, frag, bits),
+            Event::Merge { rank, ino, frag } => self.merge(alloc, rank, ino, frag),
         }
     }
 
@@ -111,6 +120,54 @@ impl Cluster {
             &mut self.sessions,
             history,
         )
+    }
+}
+
+impl Cluster {
+    /// A leaf of a directory is split. The tree that the cluster shows stays.
+    pub fn split(
+        &mut self,
+        alloc: Global,
+        rank: Rank,
+        ino: Ino,
+        frag: Frag,
+        bits: u8,
+    ) -> Result<Answer, Refusal>
+        ensures { (past : List Applied) → AtRank self.old self.new past past rank result (Splits self.old self.new past past ino frag bits result) }
+    {
+        if !is_rank(rank) {
+            return Err(Refusal::NotAuthority);
+        }
+        self.frags.split(alloc, ino, frag, bits)?;
+        Ok(Answer::Nothing)
+    }
+
+    /// Leaves of a directory are merged. The tree that the cluster shows stays.
+    pub fn merge(
+        &mut self,
+        alloc: Global,
+        rank: Rank,
+        ino: Ino,
+        frag: Frag,
+    ) -> Result<Answer, Refusal>
+        ensures { (past : List Applied) → AtRank self.old self.new past past rank result (Merges self.old self.new past past ino frag result) }
+    {
+        if !is_rank(rank) {
+            return Err(Refusal::NotAuthority);
+        }
+        self.frags.merge(alloc, ino, frag)?;
+        Ok(Answer::Nothing)
+    }
+
+    /// The leaves of a directory by value. Refused `NoSuchFrag` where there is no such directory, and for want of memory.
+    pub fn leaves(&self, alloc: Global, ino: Ino) -> Result<Vec<Frag>, Refusal>
+        ensures listed { IfOk result (λ leaves. ListsLeaves self.now ino (Ok leaves.items)) }
+        ensures err { IfErr result (λ reason. ListsLeaves self.now ino (Err reason)) }
+    {
+        if !self.frags.is_dir(ino) {
+            return Err(Refusal::NoSuchFrag);
+        }
+        self.frags.leaves(alloc, ino)
     }
 }
 

@@ -1,16 +1,34 @@
 //! What can happen to a cluster.
 ghost use Rattle.std.specs.Prelude.{◌≡◌, IfOk};
 
-use mds_types::{Rank, Request};
+use mds_types::{Frag, Ino, Rank, Request};
 use std::alloc::AllocError;
 
 /// One event of the cluster, one atomic step.
 #[derive(Clone, Debug, Drop, PartialEq, Eq)]
 pub enum Event {
     /// A request comes in at a rank, and waits at the back of its inbox.
-    Arrive { rank: Rank, request: Request },
+    Arrive {
+        rank: Rank,
+        request: Request,
+    },
     /// A rank serves the request at the front of its inbox.
-    Serve { rank: Rank },
+    Serve {
+        rank: Rank,
+    },
+    /// A leaf of a directory is split into its children of `bits` more bits.
+    Split {
+        rank: Rank,
+        ino: Ino,
+        frag: Frag,
+        bits: u8,
+    },
+    /// The leaves of a directory properly inside the fragment are merged into it.
+    Merge {
+        rank: Rank,
+        ino: Ino,
+        frag: Frag,
+    },
 }
 
 impl Event {

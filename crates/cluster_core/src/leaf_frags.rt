@@ -23,8 +23,8 @@ use std::marker::Model;
 /// formed, and that the table is that of the tree. A leaf takes memory from its first name on.
 #[derive(Drop)]
 pub(crate) struct LeafFrags {
-    leaves: LeafMaps,
-    dirs: Dirs,
+    pub(crate) leaves: LeafMaps,
+    pub(crate) dirs: Dirs,
     /// The name of the directory that comes or moves next, for its place in the table.
     spare: Option<Name>,
     /// For leaves whose first name comes.

@@ -12,6 +12,7 @@ mod picks;
 mod plain_trees;
 mod runs;
 mod serving;
+mod splitting;
 mod supplies;
 
 pub use answers::Answer;

@@ -61,14 +61,14 @@ pub returns-clause-leaves : goal.returns-clause-leaves
 returns-clause-leaves c =
     leaves_kept (shown_by c.args.leaves.now) _ _ _ _ _ c.args.to _
     (
-      rw (
-        c.drop_leaves.ensures.tree,
-        moved_tree (shown_by c.args.leaves.now) _ _ _ c.args.from.now c.args.to c.in-Some.inode c.take_from.ensures.tree c.take_from-replaced.ensures.tree c.put_at.ensures.tree,
-        c.drop_leaves.ensures.homes,
-        c.relocate_dir.ensures.homes,
-        c.as_ref.ensures.value ∙ replaced_is _ _ _ c.args.from.now c.args.to c.in-Some.inode c.take_from-replaced.result c.requires.sound.tabled move c.take_from.ensures.tree c.take_from-replaced.ensures.value,
-      )
-      (moved_tabled (shown_by c.args.leaves.now) _ c.args.from.now c.args.to c.in-Some.inode c.requires.sound.tabled move)
+    rw (
+      c.drop_leaves.ensures.tree,
+      moved_tree (shown_by c.args.leaves.now) _ _ _ c.args.from.now c.args.to c.in-Some.inode c.take_from.ensures.tree c.take_from-replaced.ensures.tree c.put_at.ensures.tree,
+      c.drop_leaves.ensures.homes,
+      c.relocate_dir.ensures.homes,
+      c.as_ref.ensures.value ∙ replaced_is _ _ _ c.args.from.now c.args.to c.in-Some.inode c.take_from-replaced.result c.requires.sound.tabled move c.take_from.ensures.tree c.take_from-replaced.ensures.value,
+    )
+    (moved_tabled (shown_by c.args.leaves.now) _ c.args.from.now c.args.to c.in-Some.inode c.requires.sound.tabled move)
     )
     c.requires.sound.tabled.whole
     (c.as_ref.ensures.value ∙ replaced_is _ _ _ c.args.from.now c.args.to c.in-Some.inode c.take_from-replaced.result c.requires.sound.tabled move c.take_from.ensures.tree c.take_from-replaced.ensures.value)

@@ -1,4 +1,4 @@
-use Rattle.cluster_core.specs.declared.events.Event.TheVariants.{Arrive, Serve}
+use Rattle.cluster_core.specs.declared.events.Event.TheVariants.{Arrive, Serve, Split, Merge}
 use Rattle.cluster_core.proofs.Stepped.{sound-step}
 use Rattle.cluster_core.proofs.clusters.Cluster.step.Goals as goal
 
@@ -7,3 +7,10 @@ returns-in-Arrive-clause-sound c opening sound = sound-step opening _ _ _ _ soun
 
 pub returns-in-Serve-clause-sound : goal.returns-in-Serve-clause-sound
 returns-in-Serve-clause-sound c opening sound = sound-step opening _ _ _ _ sound c.serve.result (Serve c.in-Serve.rank) c.serve.ensures
+
+pub returns-in-Split-clause-sound : goal.returns-in-Split-clause-sound
+returns-in-Split-clause-sound c opening sound =
+    sound-step opening _ _ _ _ sound c.split.result (Split c.in-Split.rank c.in-Split.ino c.in-Split.frag c.in-Split.bits) (c.split.ensures c.args.history.now.items)
+
+pub returns-in-Merge-clause-sound : goal.returns-in-Merge-clause-sound
+returns-in-Merge-clause-sound c opening sound = sound-step opening _ _ _ _ sound c.merge.result (Merge c.in-Merge.rank c.in-Merge.ino c.in-Merge.frag) (c.merge.ensures c.args.history.now.items)

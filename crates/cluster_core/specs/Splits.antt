@@ -1,0 +1,64 @@
+-- What a split and a merge do to a cluster's fragments, and why they are refused.
+use Rattle.std.specs.Prelude.{◌≡◌, ℕ, Bool, true, false, ◌⊎◌, List, Result, Ok, Err}
+use Rattle.std.specs.FinMap as map
+use Rattle.mds_types.specs.declared.ids.Ino.{Ino}
+use Rattle.mds_types.specs.declared.entries.Entry.{Entry}
+use Rattle.mds_types.specs.declared.refusals.Refusal.{Refusal}
+use Rattle.mds_types.specs.declared.refusals.Refusal.TheVariants.{NoMemory, NoSuchFrag}
+use Rattle.mds_types.specs.Frag.{Fragment}
+use Rattle.mds_types.specs.Tree.{Tree, is_directory}
+use Rattle.fragtree.specs.FragTree.{CanMerge, CanSplit, IsMerge, IsSplit, IsTree, RefusesMerge, RefusesSplit}
+use Rattle.inode_table.specs.Dirs.{Covers, leaves_of}
+use Rattle.cluster_core.specs.declared.answers.Answer.{Answer}
+use Rattle.cluster_core.specs.declared.answers.Answer.TheVariants.{Nothing, Reply}
+use Rattle.cluster_core.specs.Core.{Core}
+use Rattle.cluster_core.specs.Serve.{IsLeftWaiting}
+
+-- a directory's leaf was split by so many bits: it has the new leaves, and every other directory those that it had
+pub record IsSplitOf (tree : Tree) (old new : Covers) (dir : Ino) (f : Fragment) (nb : ℕ) : Type 0 where
+  pub directory : is_directory tree dir.0 ≡ true
+  pub can : CanSplit (leaves_of old dir.0) f nb
+  pub cover : List Fragment
+  pub split : IsSplit (leaves_of old dir.0) cover f nb
+  pub whole : IsTree cover
+  pub set : new ≡ map.insert old dir.0 cover
+
+-- the leaves of a directory inside a fragment were merged into it
+pub record IsMergeOf (tree : Tree) (old new : Covers) (dir : Ino) (f : Fragment) : Type 0 where
+  pub directory : is_directory tree dir.0 ≡ true
+  pub can : CanMerge (leaves_of old dir.0) f
+  pub cover : List Fragment
+  pub merge : IsMerge (leaves_of old dir.0) cover f
+  pub whole : IsTree cover
+  pub set : new ≡ map.insert old dir.0 cover
+
+-- why it is refused: there is no such directory; otherwise for want of memory, or for the first of the cover's checks that holds
+abbrev pub RefusesFor : Bool → (Refusal → Type 0) → Refusal → Type 0
+RefusesFor false Refuses reason = reason ≡ NoSuchFrag
+RefusesFor true Refuses reason = (reason ≡ NoMemory) ⊎ Refuses reason
+
+abbrev pub MayRefuseSplit : Tree → Covers → Ino → Fragment → ℕ → Refusal → Type 0
+MayRefuseSplit tree covers dir f nb reason = RefusesFor (is_directory tree dir.0) (RefusesSplit (leaves_of covers dir.0) f nb) reason
+
+abbrev pub MayRefuseMerge : Tree → Covers → Ino → Fragment → Refusal → Type 0
+MayRefuseMerge tree covers dir f reason = RefusesFor (is_directory tree dir.0) (RefusesMerge (leaves_of covers dir.0) f) reason
+
+-- the cover of a directory is another, and nothing else of the cluster: neither the tree that it shows nor the history
+pub record IsRecovered (old new : Core) (past now : List Entry) : Type 0 where
+  pub left : new ≡ record old { covers = new.covers }
+  pub same : now ≡ past
+
+abbrev pub Splits : (old new : Core) → (past now : List Entry) → Ino → Fragment → ℕ → Result Answer Refusal → Type 0
+Splits old new past now dir f nb (Ok Nothing) = IsSplitOf old.shown old.covers new.covers dir f nb × IsRecovered old new past now
+Splits old new past now dir f nb (Ok (Reply client tid place first reply)) = ⊥
+Splits old new past now dir f nb (Err reason) = MayRefuseSplit old.shown old.covers dir f nb reason × IsLeftWaiting old new past now
+
+abbrev pub Merges : (old new : Core) → (past now : List Entry) → Ino → Fragment → Result Answer Refusal → Type 0
+Merges old new past now dir f (Ok Nothing) = IsMergeOf old.shown old.covers new.covers dir f × IsRecovered old new past now
+Merges old new past now dir f (Ok (Reply client tid place first reply)) = ⊥
+Merges old new past now dir f (Err reason) = MayRefuseMerge old.shown old.covers dir f reason × IsLeftWaiting old new past now
+
+-- the leaves of a directory by value; refused NoSuchFrag exactly where there is no such directory
+abbrev pub ListsLeaves : Core → Ino → Result (List Fragment) Refusal → Type 0
+ListsLeaves core dir (Ok leaves) = (is_directory core.shown dir.0 ≡ true) × (leaves ≡ leaves_of core.covers dir.0)
+ListsLeaves core dir (Err reason) = RefusesFor (is_directory core.shown dir.0) (λ other. ⊥) reason

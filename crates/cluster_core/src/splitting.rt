@@ -1,0 +1,81 @@
+//! Splits and merges: a directory's names go to the leaves of another cover.
+ghost use Rattle.std.specs.Prelude.{◌≡◌, true, IfErr, MatchResult, OnErr, OnOk};
+ghost use Rattle.std.specs.FinMap as map;
+ghost use Rattle.mds_types.specs.declared.refusals.Refusal.TheVariants.{NoMemory};
+ghost use Rattle.inode_table.specs.Dirs.{is_known, leaves_of};
+ghost use Rattle.leaf_maps.specs.Leaves.{shown_by};
+ghost use Rattle.cluster_core.specs.LeafFrags.{IsSoundTree};
+ghost use Rattle.cluster_core.specs.Splits.{IsMergeOf, IsSplitOf, MayRefuseMerge, MayRefuseSplit};
+
+use crate::leaf_frags::LeafFrags;
+use crate::picks::each_hash_has_a_leaf;
+use fragtree::FragTree;
+use inode_table::Dirs;
+use leaf_maps::LeafMaps;
+use mds_types::{Frag, Ino, Refusal};
+use std::alloc::Global;
+
+impl LeafFrags {
+    /// Splits a leaf of a directory into its children of so many more bits; each name of it goes to the child that its hash
+    /// picks. Refused `NoSuchFrag`, `BadSplit`, `TooManyFrags` or for want of memory, and then all is left as it was: the
+    /// new leaves and copies of their names are made before the first change.
+    pub fn split(&mut self, alloc: Global, dir: Ino, frag: Frag, bits: u8) -> Result<(), Refusal>
+        ensures split { MatchResult result (λ done. IsSplitOf self.old.tree self.old.covers self.new.covers dir frag bits) (λ reason. MayRefuseSplit self.old.tree self.old.covers dir frag bits reason) }
+        ensures tree { self.new.tree ≡ self.old.tree }
+        ensures left { OnErr result (self.new.covers ≡ self.old.covers) }
+    {
+        if !self.dirs.contains(dir) {
+            return Err(Refusal::NoSuchFrag);
+        }
+        let from = self.dirs.tree(alloc, dir)?;
+        let mut to = from.try_clone()?;
+        to.split(frag, bits)?;
+        let LeafFrags { leaves, dirs, .. } = self;
+        set_leaves(alloc, leaves, dirs, dir, &from, to)
+    }
+
+    /// Merges the leaves of a directory properly inside a fragment into it, with their names. Refused `NoSuchFrag`,
+    /// `TooManyFrags` or for want of memory, and then all is left as it was.
+    pub fn merge(&mut self, alloc: Global, dir: Ino, frag: Frag) -> Result<(), Refusal>
+        ensures merged { MatchResult result (λ done. IsMergeOf self.old.tree self.old.covers self.new.covers dir frag) (λ reason. MayRefuseMerge self.old.tree self.old.covers dir frag reason) }
+        ensures tree { self.new.tree ≡ self.old.tree }
+        ensures left { OnErr result (self.new.covers ≡ self.old.covers) }
+    {
+        if !self.dirs.contains(dir) {
+            return Err(Refusal::NoSuchFrag);
+        }
+        let from = self.dirs.tree(alloc, dir)?;
+        let mut to = from.try_clone()?;
+        to.merge(frag)?;
+        let LeafFrags { leaves, dirs, .. } = self;
+        set_leaves(alloc, leaves, dirs, dir, &from, to)
+    }
+}
+
+// Gives a directory other leaves, and takes its names to them. The tree stays.
+fn set_leaves(
+    alloc: Global,
+    leaves: &mut LeafMaps,
+    dirs: &mut Dirs,
+    dir: Ino,
+    from: &FragTree,
+    to: FragTree,
+) -> Result<(), Refusal>
+    requires sound { IsSoundTree dirs.old.homes dirs.old.trees leaves.old }
+    requires known { is_known dirs.old.homes dir.0 ≡ true }
+    requires former { from.now ≡ leaves_of dirs.old.trees dir.0 }
+    ensures sound { IsSoundTree dirs.new.homes dirs.new.trees leaves.new }
+    ensures tree { shown_by leaves.new ≡ shown_by leaves.old }
+    ensures homes { dirs.new.homes ≡ dirs.old.homes }
+    ensures set { OnOk result (dirs.new.trees ≡ map.insert dirs.old.trees dir.0 to) }
+    ensures left { OnErr result (dirs.new.trees ≡ dirs.old.trees) }
+    ensures err { IfErr result (λ reason. reason ≡ NoMemory) }
+{
+    each_hash_has_a_leaf();
+    dirs.reserve_tree()?;
+    leaves.regroup(alloc, dir, from, &to)?;
+    dirs.set_tree(dir, to);
+    // of a table that is asked its leaves are known to cover every hash
+    let _ = dirs.contains(dir);
+    Ok(())
+}
