@@ -2,8 +2,10 @@
 //! events, each beside what it comes to.
 
 use crate::{Answer, Book, Event, PlainTree, format, run};
-use mds_types::{Ino, Kind, Mode, Name, Op, PageSize, Rank, Refusal, Reply, Request};
+use mds_types::{Frag, Ino, Kind, Mode, Name, Op, PageSize, Rank, Refusal, Reply, Request};
 use std::alloc::Global;
+
+mod many_leaves;
 
 const FIRST: u64 = 1 << 40;
 
@@ -18,11 +20,16 @@ enum Asked {
     List,
 }
 
-/// An event: a request of a client with its transaction number and oldest comes in at rank 0, or a rank serves.
+/// An event: a request of a client with its transaction number and oldest comes in at rank 0, a rank serves, or an
+/// administrator's step.
 #[derive(Clone, Copy)]
 enum Did {
     Ask(u64, u64, u64, Asked),
     Serve(u8),
+    /// A rank splits a leaf of the root, of this value and so many bits, by so many more.
+    Split(u8, u32, u8, u8),
+    /// A rank merges the leaves of the root inside the fragment of this value and so many bits.
+    Merge(u8, u32, u8),
 }
 
 /// What a reply says.
@@ -117,6 +124,37 @@ const REPLACES: [(Did, Came); 10] = [
     (Did::Serve(0), Came::Replied(0, 5, 4, true, Said::Errno(2))),
 ];
 
+// The root is split twice and merged again; what its clients see stays.
+const SPLITS: [(Did, Came); 18] = [
+    (Did::Ask(0, 1, 1, Asked::MakeD), Came::Waits),
+    (
+        Did::Serve(0),
+        Came::Replied(0, 1, 0, true, Said::Dir(FIRST)),
+    ),
+    (Did::Ask(0, 2, 2, Asked::MakeE), Came::Waits),
+    (
+        Did::Serve(0),
+        Came::Replied(0, 2, 1, true, Said::Dir(FIRST + 1)),
+    ),
+    (Did::Split(0, 0, 0, 1), Came::Waits),
+    (Did::Split(0, 0x80_0000, 1, 2), Came::Waits),
+    (Did::Split(0, 0x80_0000, 1, 1), Came::Refused(8)),
+    (Did::Split(0, 0, 1, 9), Came::Refused(9)),
+    (Did::Split(1, 0, 1, 1), Came::Refused(5)),
+    (Did::Ask(0, 3, 3, Asked::FindD), Came::Waits),
+    (
+        Did::Serve(0),
+        Came::Replied(0, 3, 2, true, Said::Dir(FIRST)),
+    ),
+    (Did::Ask(0, 4, 4, Asked::List), Came::Waits),
+    (Did::Serve(0), Came::Replied(0, 4, 3, true, Said::Names(2))),
+    (Did::Merge(0, 0x80_0000, 1), Came::Waits),
+    (Did::Merge(0, 0x80_0000, 1), Came::Refused(8)),
+    (Did::Merge(0, 0, 0), Came::Waits),
+    (Did::Ask(0, 5, 5, Asked::List), Came::Waits),
+    (Did::Serve(0), Came::Replied(0, 5, 4, true, Said::Names(2))),
+];
+
 fn name_of(asked: Asked) -> u8 {
     match asked {
         Asked::MakeX => b'x',
@@ -171,6 +209,17 @@ fn event_of(alloc: Global, did: Did) -> Option<Event> {
             })
         }
         Did::Serve(rank) => Some(Event::Serve { rank: Rank(rank) }),
+        Did::Split(rank, value, bits, more) => Some(Event::Split {
+            rank: Rank(rank),
+            ino: Ino(1),
+            frag: Frag::new(value, bits)?,
+            bits: more,
+        }),
+        Did::Merge(rank, value, bits) => Some(Event::Merge {
+            rank: Rank(rank),
+            ino: Ino(1),
+            frag: Frag::new(value, bits)?,
+        }),
     }
 }
 
@@ -252,6 +301,7 @@ fn a_refused_growth_leaves_the_book(rt: HostRuntime) {
     assert_eq!(rt; wrong(rt.alloc(), &FIRST_ROW), None);
     assert_eq!(rt; wrong(rt.alloc(), &REPEATS), None);
     assert_eq!(rt; wrong(rt.alloc(), &REPLACES), None);
+    assert_eq!(rt; wrong(rt.alloc(), &SPLITS), None);
 }
 
 fn events_of(alloc: Global, row: &[(Did, Came)]) -> Option<Vec<Event>> {
@@ -286,6 +336,7 @@ fn a_run_answers_each_event(rt: HostRuntime) {
     assert!(rt; runs(rt.alloc(), &FIRST_ROW));
     assert!(rt; runs(rt.alloc(), &REPEATS));
     assert!(rt; runs(rt.alloc(), &REPLACES));
+    assert!(rt; runs(rt.alloc(), &SPLITS));
 }
 
 #[test]

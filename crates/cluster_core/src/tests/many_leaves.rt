@@ -1,0 +1,180 @@
+//! Two thousand names in a directory that is split to 4096 leaves and merged again, with look-ups and pages in between.
+
+use crate::{Answer, Book, Event, format};
+use mds_types::{Frag, Ino, Mode, Name, Op, PageSize, Rank, Reply, Request};
+use std::alloc::Global;
+
+const NAMES: u64 = 2000;
+
+fn name(alloc: Global, k: u64) -> Option<Name> {
+    let text = format!(in alloc; "f{k}").ok()?;
+    Name::from_bytes(alloc, text.as_bytes()).ok()
+}
+
+// An operation of client 1 comes in and is served. Each round has transaction numbers of its own, above those before it.
+fn ask(alloc: Global, book: &mut Book, round: u8, k: u64, op: Op) -> Option<Reply>
+    requires { k < 10000 }
+{
+    let tid = (u64::from(round) + 1) * 10_000 + k;
+    let request = Request {
+        client: 1,
+        tid,
+        oldest: tid,
+        op,
+    };
+    let rank = Rank(0);
+    if book.step(alloc, Event::Arrive { rank, request }).is_err() {
+        return None;
+    }
+    match book.step(alloc, Event::Serve { rank }) {
+        Ok(Answer::Reply { reply, .. }) => Some(reply),
+        _ => None,
+    }
+}
+
+fn create(alloc: Global, book: &mut Book, k: u64) -> Option<Reply>
+    requires { k < 10000 }
+{
+    let op = Op::Create {
+        dir: Ino(1),
+        name: name(alloc, k)?,
+        mode: Mode::new(0o644)?,
+        mtime: 0,
+    };
+    ask(alloc, book, 0, k, op)
+}
+
+fn look(alloc: Global, book: &mut Book, round: u8, k: u64) -> Option<Reply>
+    requires { k < 10000 }
+{
+    let op = Op::Lookup {
+        dir: Ino(1),
+        name: name(alloc, k)?,
+    };
+    ask(alloc, book, round, k, op)
+}
+
+fn is_entry(reply: &Option<Reply>) -> bool {
+    match reply {
+        Some(Reply::Entry(_)) => true,
+        _ => false,
+    }
+}
+
+fn all_created(alloc: Global, book: &mut Book) -> bool {
+    let mut all = true;
+    for k in 0..NAMES {
+        all = is_entry(&create(alloc, book, k)) && all;
+    }
+    all
+}
+
+fn all_found(alloc: Global, book: &mut Book, round: u8) -> bool {
+    let mut all = true;
+    for k in 0..NAMES {
+        all = is_entry(&look(alloc, book, round, k)) && all;
+    }
+    all
+}
+
+// How many names the next page has, and the last of them if more follow.
+fn page(
+    alloc: Global,
+    book: &mut Book,
+    round: u8,
+    k: u64,
+    after: Option<Name>,
+) -> Option<(usize, Option<Name>)>
+    requires { k < 10000 }
+{
+    let op = Op::Readdir {
+        dir: Ino(1),
+        after,
+        max: PageSize::new(300)?,
+    };
+    let Reply::Entries { list, more } = ask(alloc, book, round, k, op)? else {
+        return None;
+    };
+    let names = list.as_slice();
+    let last = names.last()?;
+    if more {
+        Some((names.len(), Some(last.0.try_clone().ok()?)))
+    } else {
+        Some((names.len(), None))
+    }
+}
+
+// Whether seven pages have all names.
+fn all_listed(alloc: Global, book: &mut Book, round: u8) -> bool {
+    let mut after = None;
+    let mut left = 2000;
+    for k in 0..7 {
+        let Some((count, last)) = page(alloc, book, round, k, after) else {
+            return false;
+        };
+        if count > left {
+            return false;
+        }
+        left -= count;
+        after = last;
+    }
+    left == 0 && after.is_none()
+}
+
+fn leaves(alloc: Global, book: &Book) -> Vec<Frag> {
+    match book.cluster().leaves(alloc, Ino(1)) {
+        Ok(leaves) => leaves,
+        Err(_) => Vec::new(alloc),
+    }
+}
+
+// Splits each leaf of the root.
+fn split_each(alloc: Global, book: &mut Book, bits: u8) -> bool {
+    let mut all = true;
+    for frag in &leaves(alloc, book) {
+        let event = Event::Split {
+            rank: Rank(0),
+            ino: Ino(1),
+            frag: *frag,
+            bits,
+        };
+        all = book.step(alloc, event).is_ok() && all;
+    }
+    all
+}
+
+// Merges the leaves of the root at each of these fragments.
+fn merge_each(alloc: Global, book: &mut Book, frags: &[Frag]) -> bool {
+    let mut all = true;
+    for frag in frags {
+        let event = Event::Merge {
+            rank: Rank(0),
+            ino: Ino(1),
+            frag: *frag,
+        };
+        all = book.step(alloc, event).is_ok() && all;
+    }
+    all
+}
+
+#[test]
+fn two_thousand_names_in_4096_leaves(rt: HostRuntime) {
+    let alloc = rt.alloc();
+    let mut book = format(alloc, 1, 512);
+    assert!(rt; all_created(alloc, &mut book));
+    assert!(rt; split_each(alloc, &mut book, 8));
+    let wide = leaves(alloc, &book);
+    assert_eq!(rt; wide.len(), 256);
+    assert!(rt; all_found(alloc, &mut book, 1));
+    assert!(rt; all_listed(alloc, &mut book, 2));
+    assert!(rt; split_each(alloc, &mut book, 4));
+    assert_eq!(rt; leaves(alloc, &book).len(), 4096);
+    assert!(rt; all_found(alloc, &mut book, 3));
+    assert!(rt; all_listed(alloc, &mut book, 4));
+    assert!(rt; merge_each(alloc, &mut book, &wide));
+    assert_eq!(rt; leaves(alloc, &book).len(), 256);
+    assert!(rt; merge_each(alloc, &mut book, &[Frag::ROOT]));
+    assert_eq!(rt; leaves(alloc, &book).len(), 1);
+    assert!(rt; all_found(alloc, &mut book, 5));
+    assert!(rt; all_listed(alloc, &mut book, 6));
+}
