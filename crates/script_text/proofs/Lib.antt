@@ -5,3 +5,4 @@ pub mod NameLemmas
 pub mod WriteLemmas
 pub mod LineLemmas
 pub mod PrintedNumbers
+pub mod FragLemmas
