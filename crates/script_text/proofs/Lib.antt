@@ -6,3 +6,4 @@ pub mod WriteLemmas
 pub mod LineLemmas
 pub mod PrintedNumbers
 pub mod FragLemmas
+pub mod PrintedFragments

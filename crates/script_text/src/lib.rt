@@ -26,7 +26,7 @@ mod write_loop;
 
 pub use commands::Command;
 pub use frag_lists::FragList;
-pub use laws::{names_read_back, numbers_read_back};
+pub use laws::{fragments_read_back, names_read_back, numbers_read_back};
 pub use line_buffer::{LineBuffer, MAX_LINE_LEN};
 pub use line_reader::{LineFault, NextLine, next_line};
 pub use line_writer::{OutputFault, write_line};
