@@ -17,7 +17,7 @@ use Rattle.cluster_core.specs.declared.events.Event.{Event}
 use Rattle.cluster_core.specs.declared.events.Event.TheVariants.{Arrive, Serve, Split, Merge}
 use Rattle.cluster_core.specs.Core.{Core, Kept}
 use Rattle.cluster_core.specs.Serve.{IsApplied, IsRepeated, IsLeftWaiting, ServesRequest, ServesInbox, entry_of}
-use Rattle.cluster_core.specs.Splits.{IsRecovered, Merges, Splits}
+use Rattle.cluster_core.specs.Splits.{Merges, Splits}
 use Rattle.cluster_core.specs.Steps.{Steps, ArrivesInbox, MayRefuse, ranks}
 use Rattle.cluster_core.specs.Runs.{StepsBook, Runs, IsRun, StandsAt, IsOfHistory, BeginsWith}
 

@@ -14,23 +14,30 @@ use Rattle.cluster_core.specs.declared.answers.Answer.TheVariants.{Nothing, Repl
 use Rattle.cluster_core.specs.Core.{Core}
 use Rattle.cluster_core.specs.Serve.{IsLeftWaiting}
 
--- a directory's leaf was split by so many bits: it has the new leaves, and every other directory those that it had
-pub record IsSplitOf (tree : Tree) (old new : Covers) (dir : Ino) (f : Fragment) (nb : ℕ) : Type 0 where
+-- a cover after the split of a leaf by so many bits, and after a merge at a fragment
+pub record IsSplitCover (old new : List Fragment) (f : Fragment) (nb : ℕ) : Type 0 where
+  pub can : CanSplit old f nb
+  pub split : IsSplit old new f nb
+  pub whole : IsTree new
+
+pub record IsMergedCover (old new : List Fragment) (f : Fragment) : Type 0 where
+  pub can : CanMerge old f
+  pub merge : IsMerge old new f
+  pub whole : IsTree new
+
+-- a directory got another cover, and every other directory has the leaves that it had
+pub record IsCovered (tree : Tree) (old new : Covers) (dir : Ino) (Made : List Fragment → Type 0) : Type 0 where
   pub directory : is_directory tree dir.0 ≡ true
-  pub can : CanSplit (leaves_of old dir.0) f nb
   pub cover : List Fragment
-  pub split : IsSplit (leaves_of old dir.0) cover f nb
-  pub whole : IsTree cover
+  pub made : Made cover
   pub set : new ≡ map.insert old dir.0 cover
 
--- the leaves of a directory inside a fragment were merged into it
-pub record IsMergeOf (tree : Tree) (old new : Covers) (dir : Ino) (f : Fragment) : Type 0 where
-  pub directory : is_directory tree dir.0 ≡ true
-  pub can : CanMerge (leaves_of old dir.0) f
-  pub cover : List Fragment
-  pub merge : IsMerge (leaves_of old dir.0) cover f
-  pub whole : IsTree cover
-  pub set : new ≡ map.insert old dir.0 cover
+-- a directory's leaf was split by so many bits, or its leaves inside a fragment were merged into it
+abbrev pub IsSplitOf : Tree → (old new : Covers) → Ino → Fragment → ℕ → Type 0
+IsSplitOf tree old new dir f nb = IsCovered tree old new dir (λ cover. IsSplitCover (leaves_of old dir.0) cover f nb)
+
+abbrev pub IsMergeOf : Tree → (old new : Covers) → Ino → Fragment → Type 0
+IsMergeOf tree old new dir f = IsCovered tree old new dir (λ cover. IsMergedCover (leaves_of old dir.0) cover f)
 
 -- why it is refused: there is no such directory; otherwise for want of memory, or for the first of the cover's checks that holds
 abbrev pub RefusesFor : Bool → (Refusal → Type 0) → Refusal → Type 0

@@ -1,11 +1,12 @@
 //! Splits and merges: a directory's names go to the leaves of another cover.
-ghost use Rattle.std.specs.Prelude.{◌≡◌, true, IfErr, MatchResult, OnErr, OnOk};
+ghost use Rattle.std.specs.Prelude.{◌≡◌, ◌⊎◌, true, IfErr, IfOk, OnErr, OnOk};
 ghost use Rattle.std.specs.FinMap as map;
 ghost use Rattle.mds_types.specs.declared.refusals.Refusal.TheVariants.{NoMemory};
+ghost use Rattle.fragtree.specs.FragTree.{RefusesMerge, RefusesSplit};
 ghost use Rattle.inode_table.specs.Dirs.{is_known, leaves_of};
 ghost use Rattle.leaf_maps.specs.Leaves.{shown_by};
 ghost use Rattle.cluster_core.specs.LeafFrags.{IsSoundTree};
-ghost use Rattle.cluster_core.specs.Splits.{IsMergeOf, IsSplitOf, MayRefuseMerge, MayRefuseSplit};
+ghost use Rattle.cluster_core.specs.Splits.{IsMergedCover, IsMergeOf, IsSplitCover, IsSplitOf, MayRefuseMerge, MayRefuseSplit};
 
 use crate::leaf_frags::LeafFrags;
 use crate::picks::each_hash_has_a_leaf;
@@ -20,36 +21,73 @@ impl LeafFrags {
     /// picks. Refused `NoSuchFrag`, `BadSplit`, `TooManyFrags` or for want of memory, and then all is left as it was: the
     /// new leaves and copies of their names are made before the first change.
     pub fn split(&mut self, alloc: Global, dir: Ino, frag: Frag, bits: u8) -> Result<(), Refusal>
-        ensures split { MatchResult result (λ done. IsSplitOf self.old.tree self.old.covers self.new.covers dir frag bits) (λ reason. MayRefuseSplit self.old.tree self.old.covers dir frag bits reason) }
+        ensures split { OnOk result (IsSplitOf self.old.tree self.old.covers self.new.covers dir frag bits) }
+        ensures refused { IfErr result (MayRefuseSplit self.old.tree self.old.covers dir frag bits) }
         ensures tree { self.new.tree ≡ self.old.tree }
         ensures left { OnErr result (self.new.covers ≡ self.old.covers) }
     {
         if !self.dirs.contains(dir) {
             return Err(Refusal::NoSuchFrag);
         }
-        let from = self.dirs.tree(alloc, dir)?;
-        let mut to = from.try_clone()?;
-        to.split(frag, bits)?;
         let LeafFrags { leaves, dirs, .. } = self;
+        let (from, to) = match split_cover(alloc, dirs, dir, frag, bits) {
+            Ok(covers) => covers,
+            Err(refusal) => return Err(refusal),
+        };
         set_leaves(alloc, leaves, dirs, dir, &from, to)
     }
 
     /// Merges the leaves of a directory properly inside a fragment into it, with their names. Refused `NoSuchFrag`,
     /// `TooManyFrags` or for want of memory, and then all is left as it was.
     pub fn merge(&mut self, alloc: Global, dir: Ino, frag: Frag) -> Result<(), Refusal>
-        ensures merged { MatchResult result (λ done. IsMergeOf self.old.tree self.old.covers self.new.covers dir frag) (λ reason. MayRefuseMerge self.old.tree self.old.covers dir frag reason) }
+        ensures merged { OnOk result (IsMergeOf self.old.tree self.old.covers self.new.covers dir frag) }
+        ensures refused { IfErr result (MayRefuseMerge self.old.tree self.old.covers dir frag) }
         ensures tree { self.new.tree ≡ self.old.tree }
         ensures left { OnErr result (self.new.covers ≡ self.old.covers) }
     {
         if !self.dirs.contains(dir) {
             return Err(Refusal::NoSuchFrag);
         }
-        let from = self.dirs.tree(alloc, dir)?;
-        let mut to = from.try_clone()?;
-        to.merge(frag)?;
         let LeafFrags { leaves, dirs, .. } = self;
+        let (from, to) = match merged_cover(alloc, dirs, dir, frag) {
+            Ok(covers) => covers,
+            Err(refusal) => return Err(refusal),
+        };
         set_leaves(alloc, leaves, dirs, dir, &from, to)
     }
+}
+
+// The cover of a directory, and that after the split of a leaf.
+fn split_cover(
+    alloc: Global,
+    dirs: &Dirs,
+    dir: Ino,
+    frag: Frag,
+    bits: u8,
+) -> Result<(FragTree, FragTree), Refusal>
+    ensures ok { IfOk result (λ covers. (covers.0 ≡ leaves_of dirs.now.trees dir.0) × IsSplitCover (leaves_of dirs.now.trees dir.0) covers.1 frag bits) }
+    ensures err { IfErr result (λ reason. (reason ≡ NoMemory) ⊎ RefusesSplit (leaves_of dirs.now.trees dir.0) frag bits reason) }
+{
+    let from = dirs.tree(alloc, dir)?;
+    let mut to = from.try_clone()?;
+    to.split(frag, bits)?;
+    Ok((from, to))
+}
+
+// The cover of a directory, and that after a merge at a fragment.
+fn merged_cover(
+    alloc: Global,
+    dirs: &Dirs,
+    dir: Ino,
+    frag: Frag,
+) -> Result<(FragTree, FragTree), Refusal>
+    ensures ok { IfOk result (λ covers. (covers.0 ≡ leaves_of dirs.now.trees dir.0) × IsMergedCover (leaves_of dirs.now.trees dir.0) covers.1 frag) }
+    ensures err { IfErr result (λ reason. (reason ≡ NoMemory) ⊎ RefusesMerge (leaves_of dirs.now.trees dir.0) frag reason) }
+{
+    let from = dirs.tree(alloc, dir)?;
+    let mut to = from.try_clone()?;
+    to.merge(frag)?;
+    Ok((from, to))
 }
 
 // Gives a directory other leaves, and takes its names to them. The tree stays.
@@ -72,8 +110,12 @@ fn set_leaves(
     ensures err { IfErr result (λ reason. reason ≡ NoMemory) }
 {
     each_hash_has_a_leaf();
-    dirs.reserve_tree()?;
-    leaves.regroup(alloc, dir, from, &to)?;
+    if let Err(refusal) = dirs.reserve_tree() {
+        return Err(refusal);
+    }
+    if let Err(_) = leaves.regroup(alloc, dir, from, &to) {
+        return Err(Refusal::NoMemory);
+    }
     dirs.set_tree(dir, to);
     // of a table that is asked its leaves are known to cover every hash
     let _ = dirs.contains(dir);
