@@ -1,20 +1,23 @@
 -- What a command of the script does to a book, and the line that it prints.
 use Rattle.std.specs.Prelude.{◌≡◌, ℕ, ◌+◌, length, Result, Ok, Err}
+use Rattle.mds_types.specs.declared.ids.Ino.{Ino}
 use Rattle.mds_types.specs.declared.ids.Rank.{Rank}
 use Rattle.mds_types.specs.declared.refusals.Refusal.{Refusal}
 use Rattle.mds_types.specs.declared.operations.Op.{Op}
 use Rattle.mds_types.specs.declared.requests.Request.{Request as Asked}
+use Rattle.mds_types.specs.Frag.{Fragment}
 use Rattle.cluster_core.specs.declared.answers.Answer.{Answer}
 use Rattle.cluster_core.specs.declared.answers.Answer.TheVariants.{Nothing, Reply}
 use Rattle.cluster_core.specs.declared.events.Event.{Event}
-use Rattle.cluster_core.specs.declared.events.Event.TheVariants.{Arrive, Serve as ServeEvent}
+use Rattle.cluster_core.specs.declared.events.Event.TheVariants.{Arrive, Serve as ServeEvent, Split as SplitEvent, Merge as MergeEvent}
 use Rattle.cluster_core.specs.Core.{Kept}
 use Rattle.cluster_core.specs.Runs.{StepsBook}
 use Rattle.cluster_core.specs.Sound.{IsSoundBook}
+use Rattle.cluster_core.specs.Splits.{ListsLeaves}
 use Rattle.script_text.specs.declared.commands.Command.{Command}
-use Rattle.script_text.specs.declared.commands.Command.TheVariants.{Operation, Request, Serve, History}
+use Rattle.script_text.specs.declared.commands.Command.TheVariants.{Operation, Request, Serve, History, Split, Merge, Leaves}
 use Rattle.script_text.specs.declared.output_lines.OutputLine.{OutputLine}
-use Rattle.script_text.specs.declared.output_lines.OutputLine.TheVariants.{Reply as ReplyLine, Queued, History as HistoryLine, Refused}
+use Rattle.script_text.specs.declared.output_lines.OutputLine.TheVariants.{Reply as ReplyLine, Queued, Nothing as NothingLine, Frags, History as HistoryLine, Refused, Errno}
 use Rattle.admin_cli.specs.declared.commands.Admin.{Admin}
 
 -- one event led from a book to the next with this result, by all that the contract of a book's step says
@@ -57,9 +60,40 @@ pub record OperatesLine (old new : Kept) (tid : ℕ) (op : Op) (line : OutputLin
   pub stepped : IsStep old middle arrived (Arrive (record { 0 = 0 }) (record { client = 0; tid = tid; oldest = tid; op = op }))
   pub rest : OperatesAfter middle new arrived line
 
+-- the line is that of a split's or a merge's result
+abbrev pub ShowsChanged : Result Answer Refusal → OutputLine → Type 0
+ShowsChanged (Ok Nothing) line = line ≡ NothingLine
+ShowsChanged (Ok (Reply client tid place first reply)) line = ⊥
+ShowsChanged (Err refusal) line = line ≡ Refused refusal
+
+-- a leaf of a directory was split by so many bits
+pub record SplitsLine (old new : Kept) (rank : Rank) (dir : Ino) (f : Fragment) (nb : ℕ) (line : OutputLine) : Type 0 where
+  pub result : Result Answer Refusal
+  pub stepped : IsStep old new result (SplitEvent rank dir f nb)
+  pub shown : ShowsChanged result line
+
+-- the leaves of a directory inside a fragment were merged into it
+pub record MergesLine (old new : Kept) (rank : Rank) (dir : Ino) (f : Fragment) (line : OutputLine) : Type 0 where
+  pub result : Result Answer Refusal
+  pub stepped : IsStep old new result (MergeEvent rank dir f)
+  pub shown : ShowsChanged result line
+
+-- the leaves of a directory were listed, or why not; the book is only read
+abbrev pub ListsLine : Kept → Ino → OutputLine → Type 0
+ListsLine book dir (Frags leaves) = ListsLeaves book.core dir (Ok leaves)
+ListsLine book dir (Refused refusal) = ListsLeaves book.core dir (Err refusal)
+ListsLine book dir (ReplyLine client tid place first reply) = ⊥
+ListsLine book dir Queued = ⊥
+ListsLine book dir NothingLine = ⊥
+ListsLine book dir (HistoryLine entries) = ⊥
+ListsLine book dir (Errno errno) = ⊥
+
 -- a command, with the count of lines that were an operation alone
 abbrev pub Executes : (old new : Admin) → Command → OutputLine → Type 0
 Executes old new (Operation op) line = (new.operations ≡ old.operations + 1) × OperatesLine old.book new.book new.operations op line
 Executes old new (Serve rank) line = (new.operations ≡ old.operations) × ServesLine old.book new.book rank line
 Executes old new (Request rank request) line = (new.operations ≡ old.operations) × ArrivesLine old.book new.book rank request line
 Executes old new History line = (new ≡ old) × (line ≡ HistoryLine (length old.book.history))
+Executes old new (Split rank dir f nb) line = (new.operations ≡ old.operations) × SplitsLine old.book new.book rank dir f nb line
+Executes old new (Merge rank dir f) line = (new.operations ≡ old.operations) × MergesLine old.book new.book rank dir f line
+Executes old new (Leaves dir) line = (new ≡ old) × ListsLine old.book dir line

@@ -83,11 +83,12 @@ pub record RunsInput (old : Admin) (known before after : Option (List ℕ)) (res
   pub read : IfSome known (λ bytes. lines ≡ lines_of bytes)
   pub script : RunsScript old lines before after result
 
--- a book as `format` makes it: an empty tree, an empty history, nothing that waits or is kept, and the numbers of rank 0
+-- a book as `format` makes it: an empty tree, of which no directory's leaves were split, an empty history, nothing that waits or is kept, and the numbers of rank 0
 pub record IsFormatted (book : Kept) : Type 0 where
   pub opening : book.opening ≡ map.empty
   pub history : book.history ≡ []
   pub shown : book.core.shown ≡ map.empty
+  pub leaves : book.core.covers ≡ map.empty
   pub waiting : book.core.inbox ≡ []
   pub numbers : book.core.numbers ≡ record { rank = 0; next = 2 ^ 40 }
   pub sessions : book.core.sessions ≡ map.empty

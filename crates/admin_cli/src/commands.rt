@@ -3,8 +3,8 @@
 ghost use Rattle.std.specs.Prelude.{◌≡◌, ◌+◌, ◌<◌, ◌^◌};
 
 use cluster_core::{Answer, Book, Event};
-use mds_types::{Op, Rank, Request};
-use script_text::{Command, OutputLine};
+use mds_types::{Frag, Ino, Op, Rank, Request};
+use script_text::{Command, FragList, OutputLine};
 use std::alloc::Global;
 
 /// A book, and how many lines with an operation alone were read for it.
@@ -15,7 +15,7 @@ pub struct Admin {
 }
 
 impl Admin {
-    ghost use Rattle.admin_cli.specs.Execute.{ArrivesLine, Executes, OperatesLine, ServesLine};
+    ghost use Rattle.admin_cli.specs.Execute.{ArrivesLine, Executes, ListsLine, MergesLine, OperatesLine, ServesLine, SplitsLine};
 
     /// An administrator of this book, who has read no line yet.
     pub fn new(book: Book) -> Admin
@@ -37,6 +37,14 @@ impl Admin {
             Command::Request(rank, request) => self.arrive(alloc, rank, request),
             Command::Serve(rank) => self.serve(alloc, rank),
             Command::History => OutputLine::History(self.book.history().len() as u64),
+            Command::Split {
+                rank,
+                ino,
+                frag,
+                bits,
+            } => self.split(alloc, rank, ino, frag, bits),
+            Command::Merge { rank, ino, frag } => self.merge(alloc, rank, ino, frag),
+            Command::Leaves(ino) => self.leaves(alloc, ino),
         }
     }
 
@@ -103,6 +111,48 @@ impl Admin {
                 }
             }
             Ok(Answer::Nothing) => unreachable!(),
+            Err(refusal) => OutputLine::Refused(refusal),
+        }
+    }
+
+    // A leaf of a directory is split.
+    fn split(&mut self, alloc: Global, rank: Rank, ino: Ino, frag: Frag, bits: u8) -> OutputLine
+        ensures count { self.new.operations ≡ self.old.operations }
+        ensures split { SplitsLine self.old.book self.new.book rank ino frag bits result }
+    {
+        let split = self.book.step(
+            alloc,
+            Event::Split {
+                rank,
+                ino,
+                frag,
+                bits,
+            },
+        );
+        if let Err(refusal) = split {
+            return OutputLine::Refused(refusal);
+        }
+        OutputLine::Nothing
+    }
+
+    // Leaves of a directory are merged.
+    fn merge(&mut self, alloc: Global, rank: Rank, ino: Ino, frag: Frag) -> OutputLine
+        ensures count { self.new.operations ≡ self.old.operations }
+        ensures merged { MergesLine self.old.book self.new.book rank ino frag result }
+    {
+        let merged = self.book.step(alloc, Event::Merge { rank, ino, frag });
+        if let Err(refusal) = merged {
+            return OutputLine::Refused(refusal);
+        }
+        OutputLine::Nothing
+    }
+
+    // The leaves of a directory.
+    fn leaves(&self, alloc: Global, ino: Ino) -> OutputLine
+        ensures { ListsLine self.now.book ino result }
+    {
+        match self.book.cluster().leaves(alloc, ino) {
+            Ok(leaves) => OutputLine::Frags(FragList::from_vec(leaves)),
             Err(refusal) => OutputLine::Refused(refusal),
         }
     }

@@ -3,6 +3,7 @@
 use crate::{FaultKind, ScriptFault, run_script};
 use std::test::Fail;
 
+mod dirfrags;
 mod lines;
 mod streams;
 

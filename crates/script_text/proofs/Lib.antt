@@ -5,3 +5,5 @@ pub mod NameLemmas
 pub mod WriteLemmas
 pub mod LineLemmas
 pub mod PrintedNumbers
+pub mod FragLemmas
+pub mod PrintedFragments

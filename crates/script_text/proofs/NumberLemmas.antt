@@ -32,7 +32,7 @@ both true b e = (refl, e)
 both false b e = cc
 
 -- every digit is below the base
-digits_below : (base digit : ℕ) (digits : List ℕ) → are_digits base (digit ∷ digits) ≡ true → (digit_of digit < base) × (are_digits base digits ≡ true)
+pub digits_below : (base digit : ℕ) (digits : List ℕ) → are_digits base (digit ∷ digits) ≡ true → (digit_of digit < base) × (are_digits base digits ≡ true)
 digits_below base digit digits e =
     let p = both (ltb (digit_of digit) base) (are_digits base digits) e in
     (ltb-true (digit_of digit) base p.0, p.1)

@@ -34,12 +34,12 @@ glyph_some : (d : ℕ) → 0 < d → d < 16 → digit_glyph false d ≢ 48
 glyph_some d some small = λ e. let zero : 0 ≡ d = ap digit_of (sym e) ∙ glyph_value d small in omega arith
 
 -- one digit more
-value_of-append : (base n digit : ℕ) (text : List ℕ)
+pub value_of-append : (base n digit : ℕ) (text : List ℕ)
     → fold (λ n byte. n * base + digit_of byte) n (text ++ digit ∷ []) ≡ fold (λ n byte. n * base + digit_of byte) n text * base + digit_of digit
 value_of-append base n digit [] = refl
 value_of-append base n digit (byte ∷ text) = value_of-append base (n * base + digit_of byte) digit text
 
-are_digits-append : (base digit : ℕ) (text : List ℕ) → are_digits base text ≡ true → digit_of digit < base → are_digits base (text ++ digit ∷ []) ≡ true
+pub are_digits-append : (base digit : ℕ) (text : List ℕ) → are_digits base text ≡ true → digit_of digit < base → are_digits base (text ++ digit ∷ []) ≡ true
 are_digits-append base digit [] e small = rw (lt-ltb (digit_of digit) base small) refl
 are_digits-append base digit (byte ∷ text) e small = at (ltb (digit_of byte) base) e (are_digits-append base digit text)
   where

@@ -4,6 +4,8 @@ pub mod Escapes
 pub mod Reading
 pub mod Arguments
 pub mod Attributes
+pub mod FragWords
+pub mod Dirfrags
 pub mod Script
 pub mod Output
 pub mod OutputLine

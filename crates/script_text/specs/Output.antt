@@ -9,6 +9,7 @@ use Rattle.mds_types.specs.declared.replies.Reply.{Reply}
 use Rattle.mds_types.specs.declared.replies.Reply.TheVariants.{Entry, Entries, Target, Done, Errno}
 use Rattle.mds_types.specs.declared.refusals.Refusal.{Refusal}
 use Rattle.mds_types.specs.Refusal.{refusal_number}
+use Rattle.mds_types.specs.Frag.{Fragment, fragment_text}
 use Rattle.script_text.specs.Escapes.{escaped}
 
 -- inode numbers print in lower hexadecimal, modes in octal, other numbers in decimal
@@ -61,6 +62,14 @@ first_text false = codes "again"
 -- `reply CLIENT TID PLACE new R` or `reply CLIENT TID PLACE again R`
 abbrev pub reply_line : ℕ → ℕ → ℕ → Bool → Reply → List ℕ
 reply_line client tid place first reply = codes "reply " ++ (decimal client ++ (codes " " ++ (decimal tid ++ (codes " " ++ (decimal place ++ (codes " " ++ (first_text first ++ (codes " " ++ reply_text reply))))))))
+
+-- a space and a fragment, as it prints
+abbrev pub leaf_text : Fragment → List ℕ
+leaf_text leaf = codes " " ++ fragment_text leaf
+
+-- `frags K F ..`: how many leaves, and then each of them
+abbrev pub frags_text : List Fragment → List ℕ
+frags_text leaves = codes "frags " ++ (decimal (length leaves) ++ flat_map leaf_text leaves)
 
 -- `refused N`
 abbrev pub refused_line : Refusal → List ℕ

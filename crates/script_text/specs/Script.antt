@@ -13,6 +13,7 @@ use Rattle.script_text.specs.Words.{words_of, is_text, is_printable, is_comment}
 use Rattle.script_text.specs.Reading.{◌>>=◌, first, one, two, three, four}
 use Rattle.script_text.specs.Arguments.{ino_of, rank_of, client_of, decimal_of, mode_of, page_size_of, text_of, after_text_of, name_of, after_name_of, target_of}
 use Rattle.script_text.specs.Attributes.{attributes_of}
+use Rattle.script_text.specs.Dirfrags.{dirfrag_of}
 
 -- In each command below the form of all its words comes before the rules of names and targets; of two words outside those rules the first decides.
 
@@ -163,7 +164,8 @@ command_of verb args =
     if is_text verb (codes "serve") then serve_of args else
     (if is_text verb (codes "req") then req_of args else
     (if is_text verb (codes "history") then history_of args else
-    (operation_of verb args >>= λ op. Ok (Operation op))))
+    (if is_text verb (codes "dirfrag") then dirfrag_of args else
+    (operation_of verb args >>= λ op. Ok (Operation op)))))
 
 -- the line of a command, or of its fault
 abbrev pub line_from : Result Command Fault → Line

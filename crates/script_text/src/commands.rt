@@ -5,10 +5,11 @@ ghost use Rattle.script_text.specs.Script.{command_of, history_of, req_of, serve
 
 use crate::arguments::{client, decimal, rank};
 use crate::counts::{first, one};
+use crate::dirfrags::dirfrag;
 use crate::faults::{NOT_COMMAND, ReadError};
 use crate::operations::read_operation;
 use crate::words::next_word;
-use mds_types::{Op, Rank, Request};
+use mds_types::{Frag, Ino, Op, Rank, Request};
 use std::alloc::Global;
 
 /// What a line of the script asks for.
@@ -22,6 +23,21 @@ pub enum Command {
     Serve(Rank),
     /// How long is the history?
     History,
+    /// A leaf of a directory is split by so many bits.
+    Split {
+        rank: Rank,
+        ino: Ino,
+        frag: Frag,
+        bits: u8,
+    },
+    /// The leaves of a directory inside a fragment are merged into it.
+    Merge {
+        rank: Rank,
+        ino: Ino,
+        frag: Frag,
+    },
+    /// Which leaves has the directory?
+    Leaves(Ino),
 }
 
 /// The command of this first word, with the arguments in these words.
@@ -37,6 +53,9 @@ pub fn read_command(alloc: Global, verb: &[u8], args: &[u8]) -> Result<Command, 
     }
     if verb == b"history".as_slice() {
         return history(args);
+    }
+    if verb == b"dirfrag".as_slice() {
+        return dirfrag(args);
     }
     Ok(Command::Operation(read_operation(alloc, verb, args)?))
 }

@@ -1,9 +1,14 @@
 //! Laws of the script's text: what it prints can be read back.
-ghost use Rattle.script_text.specs.Laws.{NamesReadBack, NumbersReadBack};
+ghost use Rattle.script_text.specs.Laws.{FragmentsReadBack, NamesReadBack, NumbersReadBack};
 
 /// A name or a target is read back from what is printed of it.
 pub fn names_read_back()
     ensures { NamesReadBack }
+{}
+
+/// A fragment is read back from what is printed of it.
+pub fn fragments_read_back()
+    ensures { FragmentsReadBack }
 {}
 
 /// An inode number, a mode or another number is read back from what is printed of it.

@@ -50,15 +50,15 @@ fn is_shortest(word: &[u8]) -> bool
     }
 }
 
-// Whether each byte is a digit of the base.
-fn are_digits(word: &[u8], base: u8) -> bool
+/// Whether each byte is a digit of the base.
+pub fn are_digits(word: &[u8], base: u8) -> bool
     ensures { result ≡ are_digits base word.now }
 {
     word.iter().all(|byte| digit(*byte) < base)
 }
 
-// What the digits stand for, if it fits 64 bits.
-fn value(word: &[u8], base: u8) -> Option<u64>
+/// What the digits stand for, if it fits 64 bits.
+pub fn value(word: &[u8], base: u8) -> Option<u64>
     requires { 1 ≤ base }
     ensures { SomeIff result (value_of base word.now < 2 ^ 64) (value_of base word.now) }
 {

@@ -3,6 +3,7 @@ ghost use Rattle.std.specs.Prelude.{◌≡◌, ◌++◌, codes, Some, IfOk, stri
 ghost use Rattle.script_text.specs.Output.{first_text};
 ghost use Rattle.script_text.specs.OutputLine.{output_line};
 
+use crate::frag_lists::FragList;
 use crate::reply_text::ReplyText;
 use mds_types::{Refusal, Reply};
 use std::alloc::{AllocError, Global};
@@ -23,6 +24,10 @@ pub enum OutputLine {
     },
     /// `queued`: a request came in, and waits.
     Queued,
+    /// `nothing`: a step was made that answers nothing.
+    Nothing,
+    /// `frags K F ..`: the leaves of a directory.
+    Frags(FragList),
     /// `history LENGTH`: how many entries the history has.
     History(u64),
     /// `refused N`: a step was refused.
@@ -58,6 +63,8 @@ impl fmt::Display for OutputLine {
                 write!(f, "reply {client} {tid} {place} {first} {reply}")
             }
             OutputLine::Queued => write!(f, "queued"),
+            OutputLine::Nothing => write!(f, "nothing"),
+            OutputLine::Frags(leaves) => write!(f, "{leaves}"),
             OutputLine::History(length) => write!(f, "history {length}"),
             OutputLine::Refused(refusal) => {
                 let number = refusal.number();

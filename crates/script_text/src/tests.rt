@@ -8,6 +8,7 @@ use std::process::Abort;
 use std::test::Fail;
 
 mod bytes;
+mod dirfrags;
 mod operations;
 mod row_replies;
 
@@ -30,183 +31,98 @@ fn operation(op: Op) -> Line {
 }
 
 #[test]
-fn commands(rt: HostRuntime) -> Result<(), Fail> {
+fn lookups(rt: HostRuntime) -> Result<(), Fail> {
     let alloc = rt.alloc();
-    let d = name(alloc, b"d")?;
-    reads(
-        &rt,
-        alloc,
-        b"mkdir 1 d 755",
-        operation(Op::Mkdir {
-            dir: Ino(1),
-            name: d,
-            mode: mode(0o755)?,
-            mtime: 0,
-        }),
-    )?;
-    let d = name(alloc, b"d")?;
-    reads(
-        &rt,
-        alloc,
-        b"lookup 1 d",
-        operation(Op::Lookup {
-            dir: Ino(1),
-            name: d,
-        }),
-    )?;
-    let max = PageSize::new(10).ok_or("page size")?;
-    reads(
-        &rt,
-        alloc,
-        b"readdir 1 - 10",
-        operation(Op::Readdir {
-            dir: Ino(1),
-            after: None,
-            max,
-        }),
-    )?;
-    let a = name(alloc, b"a")?;
-    reads(
-        &rt,
-        alloc,
-        b"readdir 10000000000 a 1024",
-        operation(Op::Readdir {
-            dir: Ino(0x100_0000_0000),
-            after: Some(a),
-            max: PageSize::MAX,
-        }),
-    )?;
-    let a = name(alloc, b"a!")?;
-    reads(
-        &rt,
-        alloc,
-        b"create 1 a! 644",
-        operation(Op::Create {
-            dir: Ino(1),
-            name: a,
-            mode: mode(0o644)?,
-            mtime: 0,
-        }),
-    )?;
-    reads(
-        &rt,
-        alloc,
-        b"serve 0",
-        Line::Command(Command::Serve(Rank(0))),
-    )?;
-    reads(
-        &rt,
-        alloc,
-        b"serve 255",
-        Line::Command(Command::Serve(Rank(255))),
-    )
+    let lines: &[(&[u8], u64, &[u8])] = &[
+        (b"lookup 1 d", 1, b"d"),
+        (b"  lookup   0 d  ", 0, b"d"),
+        (b"lookup ffffffffffffffff d", u64::MAX, b"d"),
+        (b"lookup 1 %41", 1, b"A"),
+        (b"lookup 1 %C3%a9", 1, b"\xc3\xa9"),
+        (b"lookup 1 -", 1, b"-"),
+    ];
+    for (line, dir, bytes) in lines {
+        let dir = Ino(*dir);
+        let name = name(alloc, bytes)?;
+        reads(&rt, alloc, line, operation(Op::Lookup { dir, name }))?;
+    }
+    Ok(())
 }
 
 #[test]
-fn spaces_and_numbers(rt: HostRuntime) -> Result<(), Fail> {
+fn creates(rt: HostRuntime) -> Result<(), Fail> {
     let alloc = rt.alloc();
-    let d = name(alloc, b"d")?;
-    reads(
-        &rt,
-        alloc,
-        b"  lookup   0 d  ",
-        operation(Op::Lookup {
-            dir: Ino(0),
-            name: d,
-        }),
-    )?;
-    let d = name(alloc, b"d")?;
-    reads(
-        &rt,
-        alloc,
-        b"lookup ffffffffffffffff d",
-        operation(Op::Lookup {
-            dir: Ino(u64::MAX),
-            name: d,
-        }),
-    )?;
-    let a = name(alloc, b"a")?;
-    reads(
-        &rt,
-        alloc,
-        b"create 1 a 7",
-        operation(Op::Create {
+    let lines: &[(&[u8], &[u8], u16)] = &[
+        (b"create 1 a! 644", b"a!", 0o644),
+        (b"create 1 a 7", b"a", 0o7),
+        (b"create 1 a 0007", b"a", 0o7),
+    ];
+    for (line, bytes, bits) in lines {
+        let op = Op::Create {
             dir: Ino(1),
-            name: a,
-            mode: mode(0o7)?,
+            name: name(alloc, bytes)?,
+            mode: mode(*bits)?,
             mtime: 0,
-        }),
-    )?;
-    let a = name(alloc, b"a")?;
-    reads(
-        &rt,
-        alloc,
-        b"create 1 a 0007",
-        operation(Op::Create {
-            dir: Ino(1),
-            name: a,
-            mode: mode(0o7)?,
-            mtime: 0,
-        }),
-    )?;
-    let a = name(alloc, b"a")?;
-    reads(
-        &rt,
-        alloc,
-        b"mkdir 1 a 7777",
-        operation(Op::Mkdir {
-            dir: Ino(1),
-            name: a,
-            mode: mode(0o7777)?,
-            mtime: 0,
-        }),
-    )
+        };
+        reads(&rt, alloc, line, operation(op))?;
+    }
+    Ok(())
 }
 
 #[test]
-fn names(rt: HostRuntime) -> Result<(), Fail> {
+fn mkdirs(rt: HostRuntime) -> Result<(), Fail> {
     let alloc = rt.alloc();
-    let a = name(alloc, b"A")?;
-    reads(
-        &rt,
-        alloc,
-        b"lookup 1 %41",
-        operation(Op::Lookup {
+    let lines: &[(&[u8], &[u8], u16)] = &[
+        (b"mkdir 1 d 755", b"d", 0o755),
+        (b"mkdir 1 a 7777", b"a", 0o7777),
+    ];
+    for (line, bytes, bits) in lines {
+        let op = Op::Mkdir {
             dir: Ino(1),
-            name: a,
-        }),
-    )?;
-    let bytes = name(alloc, b"\xc3\xa9")?;
-    reads(
-        &rt,
-        alloc,
-        b"lookup 1 %C3%a9",
-        operation(Op::Lookup {
-            dir: Ino(1),
-            name: bytes,
-        }),
-    )?;
-    let dash = name(alloc, b"-")?;
-    reads(
-        &rt,
-        alloc,
-        b"lookup 1 -",
-        operation(Op::Lookup {
-            dir: Ino(1),
-            name: dash,
-        }),
-    )?;
-    let dash = name(alloc, b"-")?;
-    reads(
-        &rt,
-        alloc,
-        b"readdir 1 %2d 1024",
-        operation(Op::Readdir {
-            dir: Ino(1),
-            after: Some(dash),
-            max: PageSize::MAX,
-        }),
-    )?;
+            name: name(alloc, bytes)?,
+            mode: mode(*bits)?,
+            mtime: 0,
+        };
+        reads(&rt, alloc, line, operation(op))?;
+    }
+    Ok(())
+}
+
+fn readdir(dir: u64, after: Option<Name>, max: u16) -> Result<Line, Fail> {
+    Ok(operation(Op::Readdir {
+        dir: Ino(dir),
+        after,
+        max: PageSize::new(max).ok_or("page size")?,
+    }))
+}
+
+#[test]
+fn readdirs(rt: HostRuntime) -> Result<(), Fail> {
+    let alloc = rt.alloc();
+    reads(&rt, alloc, b"readdir 1 - 10", readdir(1, None, 10)?)?;
+    let lines: &[(&[u8], u64, &[u8])] = &[
+        (b"readdir 10000000000 a 1024", 0x100_0000_0000, b"a"),
+        (b"readdir 1 %2d 1024", 1, b"-"),
+    ];
+    for (line, dir, bytes) in lines {
+        let after = name(alloc, bytes)?;
+        reads(&rt, alloc, line, readdir(*dir, Some(after), 1024)?)?;
+    }
+    Ok(())
+}
+
+#[test]
+fn serves(rt: HostRuntime) -> Result<(), Fail> {
+    let lines: &[(&[u8], u8)] = &[(b"serve 0", 0), (b"serve 255", 255)];
+    for (line, rank) in lines {
+        let wanted = Line::Command(Command::Serve(Rank(*rank)));
+        reads(&rt, rt.alloc(), line, wanted)?;
+    }
+    Ok(())
+}
+
+#[test]
+fn no_names(rt: HostRuntime) -> Result<(), Fail> {
     for line in [
         b"lookup 1 %2f".as_slice(),
         b"lookup 1 %00",
@@ -215,8 +131,14 @@ fn names(rt: HostRuntime) -> Result<(), Fail> {
         b"readdir 1 .. 10",
         b"create 1 a%2Fb 644",
     ] {
-        reads(&rt, alloc, line, Line::BadWord(22))?;
+        reads(&rt, rt.alloc(), line, Line::BadWord(22))?;
     }
+    Ok(())
+}
+
+#[test]
+fn long_names(rt: HostRuntime) -> Result<(), Fail> {
+    let alloc = rt.alloc();
     let mut line = b"lookup 1 ".to_vec(alloc)?;
     for _ in 0..255 {
         line.push(b'x')?;
@@ -228,8 +150,7 @@ fn names(rt: HostRuntime) -> Result<(), Fail> {
 }
 
 #[test]
-fn not_commands(rt: HostRuntime) -> Result<(), Fail> {
-    let alloc = rt.alloc();
+fn bytes_and_ranks_of_no_command(rt: HostRuntime) -> Result<(), Fail> {
     for line in [
         b"lookup\t1 a".as_slice(),
         b"lookup 1 a\x7f",
@@ -244,7 +165,17 @@ fn not_commands(rt: HostRuntime) -> Result<(), Fail> {
         b"serve -",
         b"serve +1",
         b"Serve 0",
-        b"lookup 1 %4",
+        b"link 1 a",
+    ] {
+        reads(&rt, rt.alloc(), line, Line::NotCommand)?;
+    }
+    Ok(())
+}
+
+#[test]
+fn words_of_no_operation(rt: HostRuntime) -> Result<(), Fail> {
+    for line in [
+        b"lookup 1 %4".as_slice(),
         b"lookup 1 %",
         b"lookup 1 %4g",
         b"lookup 01 a",
@@ -266,9 +197,8 @@ fn not_commands(rt: HostRuntime) -> Result<(), Fail> {
         b"create 01 %2f 644",
         b"create 1 %2f 888",
         b"mkdir 1 .. 00000",
-        b"link 1 a",
     ] {
-        reads(&rt, alloc, line, Line::NotCommand)?;
+        reads(&rt, rt.alloc(), line, Line::NotCommand)?;
     }
     Ok(())
 }
@@ -317,7 +247,7 @@ fn printed(
 }
 
 #[test]
-fn replies(rt: HostRuntime) -> Result<(), Fail> {
+fn entries(rt: HostRuntime) -> Result<(), Fail> {
     let alloc = rt.alloc();
     let made = Reply::Entry(inode(Kind::Dir, 0o755)?);
     assert_eq!(rt;
@@ -328,6 +258,17 @@ fn replies(rt: HostRuntime) -> Result<(), Fail> {
         printed(alloc, 5, 0, false, made)?.as_str(),
         "reply 0 5 0 again entry 10000000000 dir 755 0 0"
     );
+    let file = Reply::Entry(inode(Kind::File, 0o7)?);
+    assert_eq!(rt;
+        printed(alloc, 2, 1, true, file)?.as_str(),
+        "reply 0 2 1 new entry 10000000000 file 7 0 0"
+    );
+    Ok(())
+}
+
+#[test]
+fn links_and_targets(rt: HostRuntime) -> Result<(), Fail> {
+    let alloc = rt.alloc();
     let link = Target::from_bytes(alloc, b"a b")?;
     let mut made = inode(Kind::Symlink(link), 0o777)?;
     made.size = 3;
@@ -336,16 +277,17 @@ fn replies(rt: HostRuntime) -> Result<(), Fail> {
         printed(alloc, 2, 1, true, Reply::Entry(made))?.as_str(),
         "reply 0 2 1 new entry 10000000000 link 777 3 18446744073709551615"
     );
-    let file = Reply::Entry(inode(Kind::File, 0o7)?);
-    assert_eq!(rt;
-        printed(alloc, 2, 1, true, file)?.as_str(),
-        "reply 0 2 1 new entry 10000000000 file 7 0 0"
-    );
     let target = Reply::Target(Target::from_bytes(alloc, b"../x y%\xff")?);
     assert_eq!(rt;
         printed(alloc, 2, 1, true, target)?.as_str(),
         "reply 0 2 1 new target ../x%20y%25%ff"
     );
+    Ok(())
+}
+
+#[test]
+fn short_replies(rt: HostRuntime) -> Result<(), Fail> {
+    let alloc = rt.alloc();
     assert_eq!(rt;
         printed(alloc, 2, 1, true, Reply::Done)?.as_str(),
         "reply 0 2 1 new done"
@@ -357,38 +299,37 @@ fn replies(rt: HostRuntime) -> Result<(), Fail> {
     Ok(())
 }
 
+// The reply that lists these names, each of one and the same directory.
+fn listing(alloc: Global, names: &[&[u8]], more: bool) -> Result<Reply, Fail> {
+    let mut items = Vec::new(alloc);
+    for bytes in names {
+        items.push((name(alloc, bytes)?, inode(Kind::Dir, 0o755)?))?;
+    }
+    let list = Listing::from_vec(items);
+    Ok(Reply::Entries { list, more })
+}
+
 #[test]
 fn listings(rt: HostRuntime) -> Result<(), Fail> {
     let alloc = rt.alloc();
-    let empty = Reply::Entries {
-        list: Listing::from_vec(Vec::new(alloc)),
-        more: false,
-    };
-    assert_eq!(rt;
-        printed(alloc, 1, 0, true, empty)?.as_str(),
-        "reply 0 1 0 new entries 0 end"
-    );
-    let mut items = Vec::new(alloc);
-    items.push((name(alloc, b"d")?, inode(Kind::Dir, 0o755)?))?;
-    let list = Reply::Entries {
-        list: Listing::from_vec(items),
-        more: true,
-    };
-    assert_eq!(rt;
-        printed(alloc, 3, 2, true, list)?.as_str(),
-        "reply 0 3 2 new entries 1 more d:10000000000"
-    );
-    let mut items = Vec::new(alloc);
-    items.push((name(alloc, b"-")?, inode(Kind::Dir, 0o755)?))?;
-    items.push((name(alloc, b"A\xc3\xa9 ")?, inode(Kind::Dir, 0o755)?))?;
-    let list = Reply::Entries {
-        list: Listing::from_vec(items),
-        more: false,
-    };
-    assert_eq!(rt;
-        printed(alloc, 3, 2, true, list)?.as_str(),
-        "reply 0 3 2 new entries 2 end -:10000000000 A%c3%a9%20:10000000000"
-    );
+    let lists: &[(&[&[u8]], bool, &str)] = &[
+        (&[], false, "reply 0 3 2 new entries 0 end"),
+        (
+            &[b"d"],
+            true,
+            "reply 0 3 2 new entries 1 more d:10000000000",
+        ),
+        (
+            &[b"-", b"A\xc3\xa9 "],
+            false,
+            "reply 0 3 2 new entries 2 end -:10000000000 A%c3%a9%20:10000000000",
+        ),
+    ];
+    for (names, more, text) in lists {
+        let reply = listing(alloc, names, *more)?;
+        let line = printed(alloc, 3, 2, true, reply)?;
+        assert!(rt; line.as_str() == *text);
+    }
     Ok(())
 }
 

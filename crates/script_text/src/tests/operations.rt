@@ -78,7 +78,7 @@ fn reads(alloc: Global, line: &[u8], wanted: Wanted) -> bool {
 
 // The lines of the two worked rows that have these operations.
 #[test]
-fn rows(rt: HostRuntime) -> Result<(), Fail> {
+fn rows_of_renames(rt: HostRuntime) -> Result<(), Fail> {
     let alloc = rt.alloc();
     let lines: &[(&[u8], Wanted)] = &[
         (
@@ -86,18 +86,6 @@ fn rows(rt: HostRuntime) -> Result<(), Fail> {
             Wanted::Rename((1, b"d"), (0x100_0000_0001, b"x")),
         ),
         (b"rename 1 d 1 d", Wanted::Rename((1, b"d"), (1, b"d"))),
-        (b"symlink 1 l a%20b", Wanted::Symlink((1, b"l"), b"a b")),
-        (b"readlink 1 l", Wanted::Readlink((1, b"l"))),
-        (
-            b"setattr 1 l size 9",
-            Wanted::Setattr((1, b"l"), None, Some(9), None),
-        ),
-        (
-            b"setattr 1 f mode 600 size 18446744073709551615 mtime 7",
-            Wanted::Setattr((1, b"f"), Some(0o600), Some(u64::MAX), Some(7)),
-        ),
-        (b"unlink 1 d", Wanted::Unlink((1, b"d"))),
-        (b"rmdir 1 f", Wanted::Rmdir((1, b"f"))),
         (b"rename 1 d 1 f", Wanted::Rename((1, b"d"), (1, b"f"))),
         (b"rename 1 f 1 l", Wanted::Rename((1, b"f"), (1, b"l"))),
         (
@@ -111,9 +99,32 @@ fn rows(rt: HostRuntime) -> Result<(), Fail> {
     Ok(())
 }
 
-// Attributes in each choice of them, names that are words of the script, and escapes.
 #[test]
-fn forms(rt: HostRuntime) -> Result<(), Fail> {
+fn rows_of_links_and_attributes(rt: HostRuntime) -> Result<(), Fail> {
+    let alloc = rt.alloc();
+    let lines: &[(&[u8], Wanted)] = &[
+        (b"symlink 1 l a%20b", Wanted::Symlink((1, b"l"), b"a b")),
+        (b"readlink 1 l", Wanted::Readlink((1, b"l"))),
+        (
+            b"setattr 1 l size 9",
+            Wanted::Setattr((1, b"l"), None, Some(9), None),
+        ),
+        (
+            b"setattr 1 f mode 600 size 18446744073709551615 mtime 7",
+            Wanted::Setattr((1, b"f"), Some(0o600), Some(u64::MAX), Some(7)),
+        ),
+        (b"unlink 1 d", Wanted::Unlink((1, b"d"))),
+        (b"rmdir 1 f", Wanted::Rmdir((1, b"f"))),
+    ];
+    for (line, wanted) in lines {
+        assert!(rt; reads(alloc, line, *wanted));
+    }
+    Ok(())
+}
+
+// Attributes in each choice of them.
+#[test]
+fn choices_of_attributes(rt: HostRuntime) -> Result<(), Fail> {
     let alloc = rt.alloc();
     let lines: &[(&[u8], Wanted)] = &[
         (
@@ -136,6 +147,18 @@ fn forms(rt: HostRuntime) -> Result<(), Fail> {
             b"setattr 1 mode mode 600",
             Wanted::Setattr((1, b"mode"), Some(0o600), None, None),
         ),
+    ];
+    for (line, wanted) in lines {
+        assert!(rt; reads(alloc, line, *wanted));
+    }
+    Ok(())
+}
+
+// Names that are words of the script, and escapes.
+#[test]
+fn words_and_escapes(rt: HostRuntime) -> Result<(), Fail> {
+    let alloc = rt.alloc();
+    let lines: &[(&[u8], Wanted)] = &[
         (
             b"symlink 1 l ../x%2Fy%ff",
             Wanted::Symlink((1, b"l"), b"../x/y\xff"),
@@ -174,10 +197,9 @@ fn judged(alloc: Global, line: &[u8]) -> Verdict {
 }
 
 #[test]
-fn verdicts(rt: HostRuntime) -> Result<(), Fail> {
+fn verdicts_on_attributes(rt: HostRuntime) -> Result<(), Fail> {
     let alloc = rt.alloc();
     let lines: &[(&[u8], Verdict)] = &[
-        (b"req 0 1 1 1 rename 1 a 1 b", Verdict::Command),
         (b"setattr 1 f", Verdict::NotCommand),
         (b"setattr 1 f size 1 mode 600", Verdict::NotCommand),
         (b"setattr 1 f mtime 1 size 1", Verdict::NotCommand),
@@ -197,6 +219,17 @@ fn verdicts(rt: HostRuntime) -> Result<(), Fail> {
         (b"setattr 1", Verdict::NotCommand),
         (b"setattr 1 .. mode 8", Verdict::NotCommand),
         (b"setattr 1 .. mode 7", Verdict::BadWord(22)),
+    ];
+    for (line, wanted) in lines {
+        assert!(rt; judged(alloc, line) == *wanted);
+    }
+    Ok(())
+}
+
+#[test]
+fn verdicts_on_links(rt: HostRuntime) -> Result<(), Fail> {
+    let alloc = rt.alloc();
+    let lines: &[(&[u8], Verdict)] = &[
         (b"symlink 1 l", Verdict::NotCommand),
         (b"symlink 1 l a b", Verdict::NotCommand),
         (b"symlink 1 l a%0", Verdict::NotCommand),
@@ -207,6 +240,18 @@ fn verdicts(rt: HostRuntime) -> Result<(), Fail> {
         (b"readlink 1", Verdict::NotCommand),
         (b"readlink 1 a b", Verdict::NotCommand),
         (b"readlink 1 .", Verdict::BadWord(22)),
+    ];
+    for (line, wanted) in lines {
+        assert!(rt; judged(alloc, line) == *wanted);
+    }
+    Ok(())
+}
+
+#[test]
+fn verdicts_on_places(rt: HostRuntime) -> Result<(), Fail> {
+    let alloc = rt.alloc();
+    let lines: &[(&[u8], Verdict)] = &[
+        (b"req 0 1 1 1 rename 1 a 1 b", Verdict::Command),
         (b"unlink 1 a%", Verdict::NotCommand),
         (b"unlink 1 %2f", Verdict::BadWord(22)),
         (b"rmdir 01 a", Verdict::NotCommand),

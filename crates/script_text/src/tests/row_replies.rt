@@ -108,9 +108,9 @@ fn first_row_printed(rt: HostRuntime) -> Result<(), Fail> {
     Ok(())
 }
 
-// A link, a file and a directory, each asked for what it isn't, and replaced.
+// A link, a file and a directory, each asked for what it isn't.
 #[test]
-fn second_row_printed(rt: HostRuntime) -> Result<(), Fail> {
+fn second_row_begun(rt: HostRuntime) -> Result<(), Fail> {
     let alloc = rt.alloc();
     let l = 0x100_0000_0000;
     let replies: &[(u64, Told, &str)] = &[
@@ -138,6 +138,19 @@ fn second_row_printed(rt: HostRuntime) -> Result<(), Fail> {
             Told::File(l + 1, 0o600, u64::MAX, 7),
             "reply 0 8 7 new entry 10000000001 file 600 18446744073709551615 7\n",
         ),
+    ];
+    for (place, told, text) in replies {
+        assert!(rt; prints(alloc, *place, *told, text));
+    }
+    Ok(())
+}
+
+// Each replaced, or refused to be, by another.
+#[test]
+fn second_row_ended(rt: HostRuntime) -> Result<(), Fail> {
+    let alloc = rt.alloc();
+    let l = 0x100_0000_0000;
+    let replies: &[(u64, Told, &str)] = &[
         (8, Told::Errno(21), "reply 0 9 8 new errno 21\n"),
         (9, Told::Errno(20), "reply 0 10 9 new errno 20\n"),
         (10, Told::Errno(20), "reply 0 11 10 new errno 20\n"),

@@ -7,6 +7,7 @@ returns g c = record {
     opening = c.format.ensures.opening;
     history = c.format.ensures.history;
     shown = c.format.ensures.shown;
+    leaves = c.format.ensures.leaves;
     waiting = c.format.ensures.waiting;
     numbers = c.format.ensures.numbers;
     sessions = c.format.ensures.sessions;
