@@ -1,5 +1,7 @@
 //! Two thousand names in a directory that is split to 4096 leaves and merged again, with look-ups and pages in between.
 
+ghost use Rattle.std.specs.Prelude.{◌<◌};
+
 use crate::{Answer, Book, Event, format};
 use mds_types::{Frag, Ino, Mode, Name, Op, PageSize, Rank, Reply, Request};
 use std::alloc::Global;
