@@ -1,8 +1,9 @@
-# make        proves every crate that the program stands on and builds it as ./cephmeta
-# make run    does so, and runs a script from standard input
-# make test   is the gate: every proof from nothing, the edits that must fail, the tests and the programs
+# make                    proves every crate that the program stands on and builds it as ./cephmeta
+# make run                does so, and runs a script from standard input
+# make test               is the gate: every proof from nothing, the edits that must fail, the tests and the programs
+# make strength [CRATE..] tries the edits that the gate leaves out, of these crates or of all
 
-.PHONY: all run test
+.PHONY: all run test strength
 
 all:
 	@cd crates/cephmeta && rt run -- script < /dev/null >&2
@@ -11,7 +12,20 @@ all:
 run: all
 	@./cephmeta script
 
-test: all
-	@examples/check
+# `rt ci` proves and builds the program; nothing is proved again for what follows it
+test:
 	@rt ci
+	@cp crates/cephmeta/out/cephmeta cephmeta
+	@examples/check
 	@tests/refused_growths/run
+
+strength:
+	@strength/run $(CRATES)
+
+# the words after `strength` are crates
+ifeq (strength,$(firstword $(MAKECMDGOALS)))
+CRATES := $(wordlist 2,$(words $(MAKECMDGOALS)),$(MAKECMDGOALS))
+.PHONY: $(CRATES)
+$(CRATES):
+	@:
+endif
