@@ -1,24 +1,21 @@
 -- A book stays sound where a request is applied.
-use Rattle.std.proofs.Common.{◌≡◌, ℕ, ◌<◌, ◌≤◌, Bool, true, false, cond, is_some, nat_lt, List, [], ◌∷◌, ◌++◌, Option, Some, None, refl, sym, ap, ◌∙◌, ⊎_elim, arith}
+use Rattle.std.proofs.Common.{◌≡◌, ℕ, ◌<◌, ◌≤◌, Bool, true, false, cond, is_some, nat_lt, List, [], ◌∷◌, ◌++◌, length, Option, Some, None, refl, sym, ap, ◌∙◌, ⊎_elim, arith}
 use Rattle.std.proofs.lemmas.Bool.Decides.{nat_tests}
 use Rattle.mds_types.specs.declared.ids.Ino.{Ino}
 use Rattle.mds_types.specs.declared.entries.Entry.{Entry}
 use Rattle.mds_types.specs.declared.requests.Request.{Request}
-use Rattle.mds_types.specs.declared.replies.Reply.{Reply}
 use Rattle.mds_types.specs.Tree.{Tree}
 use Rattle.mds_types.specs.Step.{Outcome, step, number_or}
 use Rattle.mds_types.specs.StepLaws.{unused}
-use Rattle.mds_types.specs.WellFormedLaws.{IsUnused, step_keeps_well_formed}
-use Rattle.namespace_ops.specs.Changes.{IsOffered}
-use Rattle.cluster_core.proofs.Offered.{offer_unused}
 use Rattle.mds_types.specs.History.{after, IsNext, IsLawful}
 use Rattle.mds_types.specs.HistoryLaws.{after-push, legal-push, used-push}
 use Rattle.inode_table.specs.Numbers.{Supply, IsSupply, offer, first_number, end_number}
 use Rattle.sessions.specs.TableLaws.{table-push}
-use Rattle.cluster_core.specs.Core.{Core}
+use Rattle.cluster_core.specs.State.{State, shown}
+use Rattle.cluster_core.specs.declared.answers.Answer.{Answer}
 use Rattle.cluster_core.specs.Offer.{after_taking}
-use Rattle.cluster_core.specs.Serve.{IsApplied, entry_of, number_of, outcome_of}
-use Rattle.cluster_core.specs.Sound.{IsFresh, IsSound}
+use Rattle.cluster_core.specs.Serve.{IsApplied, entry_of, number_of, outcome_of, with_entry}
+use Rattle.cluster_core.specs.Sound.{IsDivided, IsFresh, IsSound}
 
 -- what an offer of a number comes to: the table took it, or it took none and the outcome is that of any number
 pub record IsTaking (tree : Tree) (request : Request) (s : Supply) (number : Option Ino) (outcome : Outcome) : Type 0 where
@@ -53,9 +50,9 @@ taking tree request s false true below takes numbered = absurd (true≢false (nu
     true≢false e = cc
 
 -- what a request that is applied takes
-taking_of : (core : Core) (request : Request) → (offer core.numbers ≡ None → (outcome_of core request).takes ≡ false) → IsTaking core.shown request core.numbers (number_of core request) (outcome_of core request)
-taking_of core request numbered =
-    taking core.shown request core.numbers (nat_lt core.numbers.next (end_number core.numbers.rank)) (outcome_of core request).takes
+taking_of : (state : State) (request : Request) → (offer state.numbers ≡ None → (outcome_of state request).takes ≡ false) → IsTaking (shown state) request state.numbers (number_of state request) (outcome_of state request)
+taking_of state request numbered =
+    taking (shown state) request state.numbers (nat_lt state.numbers.next (end_number state.numbers.rank)) (outcome_of state request).takes
     (λ e. grind (arith, nat_tests)) refl numbered
 
 -- the supply afterwards
@@ -82,18 +79,10 @@ lawful opening past s (Some n) h fresh next_one = λ before.
     let high : n.0 < end_number s.rank = omega (arith, w.0, w.1) in
     omega (arith, w.0, fresh n.0 low high before)
 
--- a number that the table takes was offered, and so is unused
-taken_unused : (tree : Tree) (number : Option Ino) (takes : Bool) → IsOffered tree number → (number ≡ None → takes ≡ false) → takes ≡ true → IsUnused tree (number_or number)
-taken_unused tree None takes unused numbered took = let clash : true ≡ false = sym took ∙ numbered refl in absurd (true≢false clash)
-  where
-    true≢false : true ≡ false → ⊥
-    true≢false e = cc
-taken_unused tree (Some n) takes unused numbered took = unused
-
 -- a book stays sound where a request is applied
-pub sound-applied : (opening : Tree) (past now : List Entry) (old new : Core) (request : Request) (rest : List Request) (client tid place : ℕ) (reply : Reply)
-    → IsSound opening past old → IsApplied old new past now request rest client tid place reply → IsSound opening now new
-sound-applied opening past now old new request rest client tid place reply sound done =
+pub sound-applied : (opening : Tree) (past now : List Entry) (old new : State) (request : Request) (rest : List Request) (answer : Answer)
+    → IsSound opening past old → IsDivided new.homes new.covers new.dentries → IsApplied old new past now request rest answer → IsSound opening now new
+sound-applied opening past now old new request rest answer sound divided done =
     let e = entry_of old request in
     let t = taking_of old request done.numbered in
     let tree = after opening past in
@@ -106,11 +95,13 @@ sound-applied opening past now old new request rest client tid place reply sound
       lawful = lawful opening past old.numbers e.number sound.supplied sound.fresh t.next_one;
       reply = ap (λ (o : Outcome). o.reply) (sym same);
     } in
-    rw (done.left, done.appended) (record {
-      legal = legal-push opening past e sound.legal next;
-      formed = step_keeps_well_formed old.shown request.op (number_or (offer old.numbers)) sound.formed (taken_unused old.shown (offer old.numbers) (outcome_of old request).takes (offer_unused opening past old sound) done.numbered);
-      replayed = ap (λ (o : Outcome). o.tree) (sym same) ∙ sym (after-push opening past e);
-      supplied = after_taking-supplied old.numbers e.number sound.supplied t.next_one;
-      fresh = after_taking-fresh opening past old.numbers e sound.fresh (λ n is. (t.next_one n is).0);
-      kept = table-push past old.sessions e sound.kept;
-    })
+    let numbers : new.numbers ≡ after_taking old.numbers e.number = ap (λ (s : State). s.numbers) done.left in
+    let sessions : new.sessions ≡ with_entry old.sessions (length past) e = ap (λ (s : State). s.sessions) done.left in
+    record {
+      legal = rw done.appended (legal-push opening past e sound.legal next);
+      replayed = done.tree ∙ ap (λ (o : Outcome). o.tree) (sym same) ∙ sym (after-push opening past e) ∙ ap (after opening) (sym done.appended);
+      divided = divided;
+      supplied = rw numbers (after_taking-supplied old.numbers e.number sound.supplied t.next_one);
+      fresh = rw (numbers, done.appended) (after_taking-fresh opening past old.numbers e sound.fresh (λ n is. (t.next_one n is).0));
+      kept = rw (sessions, done.appended) (table-push past old.sessions e sound.kept);
+    }

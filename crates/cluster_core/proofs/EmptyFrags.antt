@@ -1,15 +1,19 @@
 -- Fragments with no name are sound, and show the empty tree.
-use Rattle.std.proofs.Common.{◌≡◌, cond, List, [], ◌∷◌, Some, None, refl, sym, ap, ◌∙◌}
+use Rattle.std.proofs.Common.{◌≡◌, cond, List, [], ◌∷◌, Some, None, length, refl, sym, ap, subst, ◌∙◌}
 use Rattle.std.specs.Ordering.{nat_cmp}
 use Rattle.std.specs.FinMap as map
-use Rattle.std.specs.FinMap.{find, get-empty, get-entries, get-from_entries, same_map}
+use Rattle.std.specs.FinMap.{find, empty_of_len, entries-from_sorted, get-empty, get-entries, get-from_entries, len-entries, same_map}
 use Rattle.mds_types.specs.Tree.{place_cmp}
 use Rattle.mds_types.specs.PlaceLaws.{place-total, place-exact}
 use Rattle.inode_table.specs.Dirs.{Covers, IsTable}
 use Rattle.namespace_ops.specs.TableLaws.{empty_tabled}
 use Rattle.leaf_maps.specs.Leaves.{Leaf, Rows, Leaves, leaf_cmp, names_of, entries_in, shown_by, ArePlaced}
 use Rattle.leaf_maps.specs.OneLeaf.{key_itself}
-use Rattle.cluster_core.specs.LeafFrags.{IsSoundTree}
+use Rattle.cluster_core.specs.State.{tree_of}
+use Rattle.cluster_core.specs.Sound.{IsDivided}
+use Rattle.cluster_core.specs.LeafFrags.{IsSoundTree, dentries_of, named_leaves}
+use Rattle.cluster_core.proofs.Dentries.{tree_is}
+use Rattle.cluster_core.proofs.Divided.{divided_of}
 
 -- no leaf has a name
 abbrev no_leaves : Leaves
@@ -51,3 +55,15 @@ empty_sound = record {
   placed = none_placed map.empty;
   tabled = rw none_shown empty_tabled;
 }
+
+pub no_dentries : dentries_of no_leaves ≡ map.empty
+unfolding dentries_of
+no_dentries =
+    ap (λ rows. map.from_sorted {R = leaf_cmp} (named_leaves rows)) no_rows
+    ∙ empty_of_len (map.from_sorted {R = leaf_cmp} []) (len-entries (map.from_sorted {R = leaf_cmp} []) ∙ ap length (entries-from_sorted leaf_cmp [] tt))
+
+pub none_in_tree : tree_of map.empty ≡ map.empty
+none_in_tree = ap tree_of (sym no_dentries) ∙ tree_is no_leaves ∙ none_shown
+
+pub empty_divided : IsDivided map.empty map.empty map.empty
+empty_divided = subst (IsDivided map.empty map.empty) no_dentries (divided_of map.empty map.empty no_leaves empty_sound)

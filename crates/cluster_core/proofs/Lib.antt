@@ -1,4 +1,6 @@
 pub mod Applied
+pub mod Dentries
+pub mod Divided
 pub mod EmptyFrags
 pub mod LeafChanges
 pub mod Offered

@@ -9,11 +9,11 @@ use Rattle.mds_types.specs.UsedLaws.{numbers_used}
 use Rattle.mds_types.specs.WellFormedLaws.{IsUnused}
 use Rattle.inode_table.specs.Numbers.{offer, end_number}
 use Rattle.namespace_ops.specs.Changes.{IsOffered}
-use Rattle.cluster_core.specs.Core.{Core}
+use Rattle.cluster_core.specs.State.{State, shown}
 use Rattle.cluster_core.specs.Sound.{IsSound}
 
-next_unused : (opening : Tree) (past : List Entry) (core : Core) → IsSound opening past core → core.numbers.next < end_number core.numbers.rank → IsUnused core.shown core.numbers.next
-next_unused opening past core sound below = record {
+next_unused : (opening : Tree) (past : List Entry) (state : State) → IsSound opening past state → state.numbers.next < end_number state.numbers.rank → IsUnused (shown state) state.numbers.next
+next_unused opening past state sound below = record {
   not_root = λ one. omega (arith, one, sound.supplied.started);
   not_there = λ d name inode stands same.
       let used = numbers_used opening past sound.legal (place_of d name) inode (ap (λ t. map.get t (place_of d name)) (sym sound.replayed) ∙ stands) in
@@ -21,9 +21,9 @@ next_unused opening past core sound below = record {
       omega (arith, same, low);
 }
 
-pub offer_unused : (opening : Tree) (past : List Entry) (core : Core) → IsSound opening past core → IsOffered core.shown (offer core.numbers)
-offer_unused opening past core sound = go (nat_lt core.numbers.next (end_number core.numbers.rank)) (λ e. grind (arith, nat_tests))
+pub offer_unused : (opening : Tree) (past : List Entry) (state : State) → IsSound opening past state → IsOffered (shown state) (offer state.numbers)
+offer_unused opening past state sound = go (nat_lt state.numbers.next (end_number state.numbers.rank)) (λ e. grind (arith, nat_tests))
   where
-    go : (left : Bool) → (left ≡ true → core.numbers.next < end_number core.numbers.rank) → IsOffered core.shown (cond {A = Option Ino} left (Some (record { 0 = core.numbers.next })) None)
-    go true below = next_unused opening past core sound (below refl)
+    go : (left : Bool) → (left ≡ true → state.numbers.next < end_number state.numbers.rank) → IsOffered (shown state) (cond {A = Option Ino} left (Some (record { 0 = state.numbers.next })) None)
+    go true below = next_unused opening past state sound (below refl)
     go false below = tt

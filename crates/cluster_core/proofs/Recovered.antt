@@ -1,5 +1,5 @@
 -- A directory that gets another cover.
-use Rattle.std.proofs.Common.{◌≡◌, ℕ, Bool, true, false, List, Result, Ok, Err, OnOk, IfErr, ◌⊎◌, inl, refl, sym, subst}
+use Rattle.std.proofs.Common.{◌≡◌, ℕ, Bool, true, false, List, Result, Ok, Err, OnOk, IfErr, refl, sym, subst}
 use Rattle.std.specs.FinMap as map
 use Rattle.mds_types.specs.declared.ids.Ino.{Ino}
 use Rattle.mds_types.specs.declared.refusals.Refusal.{Refusal}
@@ -12,19 +12,19 @@ use Rattle.leaf_maps.specs.Regroup.{ArePlacedIn, IsRegrouped}
 use Rattle.leaf_maps.specs.ShownLaws.{regrouped_placed, regrouped_shown}
 use Rattle.namespace_ops.specs.PlainFrags.{IsTabled}
 use Rattle.cluster_core.specs.LeafFrags.{IsSoundTree}
-use Rattle.cluster_core.specs.Splits.{IsCovered, RefusesFor}
+use Rattle.cluster_core.specs.Splits.{IsCovered, RefusesIn}
 
 -- there is no such directory
-pub refuses_no : (b : Bool) (Refuses : Refusal → Type 0) → b ≡ false → RefusesFor b Refuses NoSuchFrag
-refuses_no b Refuses none = subst (λ x. RefusesFor x Refuses NoSuchFrag) (sym none) refl
+pub refuses_no : (b : Bool) (Refuses : Refusal → Type 0) → b ≡ false → RefusesIn b Refuses NoSuchFrag
+refuses_no b Refuses none = subst (λ x. RefusesIn x Refuses NoSuchFrag) (sym none) refl
 
 -- the directory is there
-pub refuses_yes : (b : Bool) (Refuses : Refusal → Type 0) (reason : Refusal) → b ≡ true → (reason ≡ NoMemory) ⊎ Refuses reason → RefusesFor b Refuses reason
-refuses_yes b Refuses reason there because = subst (λ x. RefusesFor x Refuses reason) (sym there) because
+pub refuses_yes : (b : Bool) (Refuses : Refusal → Type 0) (reason : Refusal) → b ≡ true → Refuses reason → RefusesIn b Refuses reason
+refuses_yes b Refuses reason there because = subst (λ x. RefusesIn x Refuses reason) (sym there) because
 
-pub no_memory : {A : Type 0} (b : Bool) (Refuses : Refusal → Type 0) (result : Result A Refusal) → b ≡ true → IfErr result (λ reason. reason ≡ NoMemory) → IfErr result (RefusesFor b Refuses)
-no_memory b Refuses (Ok done) there because = tt
-no_memory b Refuses (Err reason) there because = refuses_yes b Refuses reason there (inl because)
+pub no_memory : {A : Type 0} (b : Bool) (Refuses : Refusal → Type 0) (result : Result A Refusal) → b ≡ true → Refuses NoMemory → IfErr result (λ reason. reason ≡ NoMemory) → IfErr result (RefusesIn b Refuses)
+no_memory b Refuses (Ok done) there may because = tt
+no_memory b Refuses (Err reason) there may because = refuses_yes b Refuses reason there (subst Refuses (sym because) may)
 
 -- its cover was set
 pub covered : {A : Type 0} (tree : Tree) (old new : Covers) (dir : Ino) (Made : List Fragment → Type 0) (cover : List Fragment) (result : Result A Refusal) → is_directory tree dir.0 ≡ true → Made cover

@@ -1,23 +1,21 @@
 -- Whole runs: the history grows, and each reply that was handed out stands in it.
-use Rattle.std.proofs.Common.{◌≡◌, ℕ, ◌+◌, ◌<◌, ◌≤◌, Bool, true, false, nat_lt, ◌&&◌, List, [], ◌∷◌, ◌++◌, take, drop, get_or, length, suc, ◌-◌, MatchBool, Result, Ok, Err, refl, sym, ap, subst, ◌∙◌, append_assoc, arith}
+use Rattle.std.proofs.Common.{◌≡◌, ℕ, ◌+◌, ◌<◌, ◌≤◌, Bool, true, false, nat_lt, ◌&&◌, List, [], ◌∷◌, ◌++◌, take, drop, get_or, length, suc, ◌-◌, MatchBool, Result, Ok, Err, inl, inr, refl, sym, ap, subst, ◌∙◌, append_assoc, arith}
 use Rattle.std.proofs.Math.Seq.{get_or-append_seam}
 use Rattle.std.proofs.lemmas.List.{append-nil, length-append, length-drop, get_or_append_left, drop_more, take_more, take_all}
 use Rattle.std.proofs.lemmas.Bool.{eqb-true}
 use Rattle.std.specs.List.{slice_index_or}
-use Rattle.mds_types.specs.declared.ids.Ino.{Ino}
-use Rattle.mds_types.specs.Frag.{Fragment}
 use Rattle.mds_types.specs.declared.entries.Entry.{Entry}
 use Rattle.mds_types.specs.declared.requests.Request.{Request}
 use Rattle.mds_types.specs.declared.replies.Reply.{Reply as Replied}
 use Rattle.mds_types.specs.declared.refusals.Refusal.{Refusal}
-use Rattle.mds_types.specs.declared.refusals.Refusal.TheVariants.{NoMemory, StoreFault, NoInodes, Trimmed, NotAuthority, Frozen, Pinned, NoSuchFrag, BadSplit, TooManyFrags, StaleJob, JobOutstanding, WrongExportState, InboxEmpty, InboxFull, NothingToEvict, Damaged, NotClean}
+use Rattle.mds_types.specs.declared.refusals.Refusal.TheVariants.{NotAuthority, InboxEmpty}
 use Rattle.cluster_core.specs.declared.answers.Answer.{Answer}
 use Rattle.cluster_core.specs.declared.answers.Answer.TheVariants.{Nothing, Reply}
 use Rattle.cluster_core.specs.declared.events.Event.{Event}
 use Rattle.cluster_core.specs.declared.events.Event.TheVariants.{Arrive, Serve, Split, Merge}
-use Rattle.cluster_core.specs.Core.{Core, Kept}
-use Rattle.cluster_core.specs.Serve.{IsApplied, IsRepeated, IsLeftWaiting, ServesRequest, ServesInbox, entry_of}
-use Rattle.cluster_core.specs.Splits.{Merges, Splits}
+use Rattle.cluster_core.specs.State.{Kept, State}
+use Rattle.cluster_core.specs.Serve.{IsApplied, IsRepeated, IsLeft, ServesRequest, ServesInbox, entry_of}
+use Rattle.cluster_core.specs.Splits.{DoesUnseen}
 use Rattle.cluster_core.specs.Steps.{Steps, ArrivesInbox, MayRefuse, ranks}
 use Rattle.cluster_core.specs.Runs.{StepsBook, Runs, IsRun, StandsAt, IsOfHistory, BeginsWith}
 
@@ -32,112 +30,80 @@ unchanged past now same = ([], same ∙ sym (append-nil past))
 refused : (past now : List Entry) (reason : Refusal) → now ≡ past → IsStepOf past now (Err reason)
 refused past now reason same = record { grows = unchanged past now same; told = tt }
 
-applied : (old new : Core) (past now : List Entry) (request : Request) (rest : List Request) (client tid place : ℕ) (reply : Replied)
-    → IsApplied old new past now request rest client tid place reply → IsStepOf past now (Ok (Reply client tid place true reply))
-applied old new past now request rest client tid place reply h =
+applied : (old new : State) (past now : List Entry) (request : Request) (rest : List Request) (answer : Answer) → IsApplied old new past now request rest answer → IsStepOf past now (Ok answer)
+applied old new past now request rest answer h =
     let entry = entry_of old request in
-    let last : (e : Entry) → slice_index_or now place e ≡ entry = λ e. rw (h.appended, h.placed) (get_or-append_seam past entry [] e) in
+    let last : (e : Entry) → slice_index_or now (length past) e ≡ entry = λ e. rw h.appended (get_or-append_seam past entry [] e) in
     record {
       grows = (entry ∷ [], h.appended);
-      told = record {
-        in_range = rw (h.appended, h.placed) (omega (arith, length-append past (entry ∷ [])));
-        client_is = λ e. ap (λ (x : Entry). x.client) (last e) ∙ sym h.client_is;
-        tid_is = λ e. ap (λ (x : Entry). x.tid) (last e) ∙ sym h.tid_is;
-        reply_is = λ e. ap (λ (x : Entry). x.reply) (last e) ∙ sym h.replied;
-      };
+      told =
+          rw h.answered (record {
+            in_range = rw h.appended (omega (arith, length-append past (entry ∷ [])));
+            client_is = λ e. ap (λ (x : Entry). x.client) (last e);
+            tid_is = λ e. ap (λ (x : Entry). x.tid) (last e);
+            reply_is = λ e. ap (λ (x : Entry). x.reply) (last e);
+          });
     }
 
 both_true : (a b : Bool) → (a && b) ≡ true → (a ≡ true) × (b ≡ true)
 both_true true b h = (refl, h)
 both_true false b h = cc
 
-repeated : (old new : Core) (past now : List Entry) (request : Request) (rest : List Request) (client tid place : ℕ) (reply : Replied)
-    → IsRepeated old new past now request rest client tid place reply → IsStepOf past now (Ok (Reply client tid place false reply))
-repeated old new past now request rest client tid place reply h =
+-- one reply is told of a place, whatever stands for a place that isn't there
+one_reply : (answer : Answer) (client tid place : ℕ) (r s : Replied) → answer ≡ Reply client tid place false r → answer ≡ Reply client tid place false s → r ≡ s
+one_reply answer client tid place r s p q = let both : Reply client tid place false r ≡ Reply client tid place false s = sym p ∙ q in cc
+
+repeated : (old new : State) (past now : List Entry) (request : Request) (rest : List Request) (answer : Answer) → IsRepeated old new past now request rest answer → IsStepOf past now (Ok answer)
+repeated old new past now request rest answer h =
     let pair = λ (e : Entry). both_true _ _ (h.kept.at.pair e) in
     record {
-      grows = unchanged past now h.same;
-      told = rw h.same (record {
-        in_range = h.kept.at.in_range;
-        client_is = λ e. eqb-true _ _ (pair e).0 ∙ sym h.client_is;
-        tid_is = λ e. eqb-true _ _ (pair e).1 ∙ sym h.tid_is;
-        reply_is = λ e. sym (h.replied e);
-      });
+      grows = unchanged past now h.out.same;
+      told =
+          rw (h.out.same, h.answered (entry_of old request)) (record {
+            in_range = h.kept.at.in_range;
+            client_is = λ e. eqb-true _ _ (pair e).0;
+            tid_is = λ e. eqb-true _ _ (pair e).1;
+            reply_is = λ e. one_reply answer _ _ _ _ _ (h.answered e) (h.answered (entry_of old request));
+          });
     }
 
-module _ (old new : Core) (past now : List Entry) where
-  waiting : (reason : Refusal) → IsLeftWaiting old new past now → IsStepOf past now (Err reason)
-  waiting reason h = refused past now reason h.same
+module _ (old new : State) (past now : List Entry) where
+  left : (reason : Refusal) → IsLeft old new past now → IsStepOf past now (Err reason)
+  left reason h = refused past now reason h.same
+
+  quiet : (answer : Answer) → answer ≡ Nothing → now ≡ past → IsStepOf past now (Ok answer)
+  quiet answer is same = rw is (record { grows = unchanged past now same; told = tt })
 
   arrived : (request : Request) (result : Result Answer Refusal) → ArrivesInbox old new past now request result → IsStepOf past now result
-  arrived request (Ok Nothing) h = record { grows = unchanged past now h.2; told = tt }
-  arrived request (Ok (Reply client tid place first reply)) h = absurd h
-  arrived request (Err InboxFull) h = waiting InboxFull h.1
-  arrived request (Err NoMemory) h = waiting NoMemory h.1
-  arrived request (Err StoreFault) h = absurd h
-  arrived request (Err NoInodes) h = absurd h
-  arrived request (Err Trimmed) h = absurd h
-  arrived request (Err NotAuthority) h = absurd h
-  arrived request (Err Frozen) h = absurd h
-  arrived request (Err Pinned) h = absurd h
-  arrived request (Err NoSuchFrag) h = absurd h
-  arrived request (Err BadSplit) h = absurd h
-  arrived request (Err TooManyFrags) h = absurd h
-  arrived request (Err StaleJob) h = absurd h
-  arrived request (Err JobOutstanding) h = absurd h
-  arrived request (Err WrongExportState) h = absurd h
-  arrived request (Err InboxEmpty) h = absurd h
-  arrived request (Err NothingToEvict) h = absurd h
-  arrived request (Err (Damaged object)) h = absurd h
-  arrived request (Err NotClean) h = absurd h
+  arrived request (Ok answer) h = quiet answer h.0 h.3
+  arrived request (Err reason) h = left reason h.1
 
   served : (request : Request) (rest : List Request) (result : Result Answer Refusal) → ServesRequest old new past now MayRefuse request rest result → IsStepOf past now result
-  served request rest (Ok Nothing) h = absurd h
-  served request rest (Ok (Reply client tid place true reply)) h = applied old new past now request rest client tid place reply h
-  served request rest (Ok (Reply client tid place false reply)) h = repeated old new past now request rest client tid place reply h
-  served request rest (Err Trimmed) h = refused past now Trimmed h.1.same
-  served request rest (Err NoInodes) h = refused past now NoInodes h.2.same
-  served request rest (Err NoMemory) h = waiting NoMemory h.1
-  served request rest (Err StoreFault) h = waiting StoreFault h.2
-  served request rest (Err NothingToEvict) h = waiting NothingToEvict h.2
-  served request rest (Err (Damaged object)) h = waiting (Damaged object) h.2
-  served request rest (Err NotAuthority) h = absurd h
-  served request rest (Err Frozen) h = absurd h
-  served request rest (Err Pinned) h = absurd h
-  served request rest (Err NoSuchFrag) h = absurd h
-  served request rest (Err BadSplit) h = absurd h
-  served request rest (Err TooManyFrags) h = absurd h
-  served request rest (Err StaleJob) h = absurd h
-  served request rest (Err JobOutstanding) h = absurd h
-  served request rest (Err WrongExportState) h = absurd h
-  served request rest (Err InboxEmpty) h = absurd h
-  served request rest (Err InboxFull) h = absurd h
-  served request rest (Err NotClean) h = absurd h
+  served request rest (Ok answer) (inl h) = applied old new past now request rest answer h
+  served request rest (Ok answer) (inr h) = repeated old new past now request rest answer h
+  served request rest (Err reason) (inl h) = refused past now reason h.2.same
+  served request rest (Err reason) (inr (inl h)) = refused past now reason h.3.same
+  served request rest (Err reason) (inr (inr (inl h))) = left reason h.2
+  served request rest (Err reason) (inr (inr (inr h))) = left reason h.3
 
   served_inbox : (result : Result Answer Refusal) (inbox : List Request) → ServesInbox old new past now MayRefuse result inbox → IsStepOf past now result
-  served_inbox result [] h = subst (IsStepOf past now) (sym h.0) (waiting InboxEmpty h.1)
+  served_inbox result [] h = subst (IsStepOf past now) (sym h.0) (left InboxEmpty h.1)
   served_inbox result (request ∷ rest) h = served request rest result h
 
-  split_up : (dir : Ino) (f : Fragment) (nb : ℕ) (result : Result Answer Refusal) → Splits old new past now dir f nb result → IsStepOf past now result
-  split_up dir f nb (Ok Nothing) h = record { grows = unchanged past now h.1.same; told = tt }
-  split_up dir f nb (Ok (Reply client tid place first reply)) h = absurd h
-  split_up dir f nb (Err reason) h = waiting reason h.1
+  done_unseen : {Done : Type 0} {Refuses : Refusal → Type 0} (result : Result Answer Refusal) → DoesUnseen old new past now Done Refuses result → IsStepOf past now result
+  done_unseen (Ok answer) h = quiet answer h.0 h.2.same
+  done_unseen (Err reason) h = left reason h.1
 
-  merged : (dir : Ino) (f : Fragment) (result : Result Answer Refusal) → Merges old new past now dir f result → IsStepOf past now result
-  merged dir f (Ok Nothing) h = record { grows = unchanged past now h.1.same; told = tt }
-  merged dir f (Ok (Reply client tid place first reply)) h = absurd h
-  merged dir f (Err reason) h = waiting reason h.1
-
-  at_rank : (here : Bool) (result : Result Answer Refusal) {done : Type 0} → (done → IsStepOf past now result) → MatchBool here done ((result ≡ Err NotAuthority) × IsLeftWaiting old new past now) → IsStepOf past now result
+  at_rank : (here : Bool) (result : Result Answer Refusal) {done : Type 0} → (done → IsStepOf past now result) → MatchBool here done ((result ≡ Err NotAuthority) × IsLeft old new past now) → IsStepOf past now result
   at_rank true result go h = go h
-  at_rank false result go h = subst (IsStepOf past now) (sym h.0) (waiting NotAuthority h.1)
+  at_rank false result go h = subst (IsStepOf past now) (sym h.0) (left NotAuthority h.1)
 
   -- one step adds to the history alone, and a reply that it hands out stands there
   pub step_of : (result : Result Answer Refusal) (event : Event) → Steps old new past now result event → IsStepOf past now result
   step_of result (Arrive rank request) h = at_rank (nat_lt rank.0 ranks) result (arrived request result) h
   step_of result (Serve rank) h = at_rank (nat_lt rank.0 ranks) result (served_inbox result old.inbox) h
-  step_of result (Split rank dir f nb) h = at_rank (nat_lt rank.0 ranks) result (split_up dir f nb result) h
-  step_of result (Merge rank dir f) h = at_rank (nat_lt rank.0 ranks) result (merged dir f result) h
+  step_of result (Split rank dir f nb) h = at_rank (nat_lt rank.0 ranks) result (done_unseen result) h
+  step_of result (Merge rank dir f) h = at_rank (nat_lt rank.0 ranks) result (done_unseen result) h
 
 -- what stands in a history stands in each that begins with it
 still_stands : (past now : List Entry) (client tid place : ℕ) (reply : Replied) → BeginsWith now past → StandsAt past client tid place reply → StandsAt now client tid place reply
@@ -172,7 +138,7 @@ run_of start [] [] end h = run_of_no_events start end h
 run_of start [] (result ∷ results) end h = absurd h
 run_of start (event ∷ events) [] end h = absurd h
 run_of start (event ∷ events) (result ∷ results) end (next, one, more) =
-    let first = step_of start.core next.core start.history next.history result event one.stepped in
+    let first = step_of start.core.state next.core.state start.history next.history result event one.stepped in
     let others = run_of next events results end more in
     record {
       ran = (next, one, more);

@@ -1,23 +1,45 @@
--- What contracts see of a cluster's fragments: the directory table, the names of each leaf, and the tree that they show.
-use Rattle.std.specs.Prelude.{◌≡◌, ℕ, ◌<◌, true, List, Option, Some}
+-- What contracts see of a cluster's fragments: the directory table, and the names of each leaf.
+use Rattle.std.specs.Prelude.{◌≡◌, ℕ, ◌<◌, true, List, [], ◌∷◌, Option, Some}
+use Rattle.std.specs.Ordering.{nat_cmp}
+use Rattle.std.specs.Cmp.Lexicographic.{slice_cmp}
+use Rattle.std.specs.FinMap as map
+use Rattle.sorted_map.specs.SortedMap.{contents}
 use Rattle.mds_types.specs.declared.places.Place.{Place}
+use Rattle.mds_types.specs.declared.inodes.Inode.{Inode}
 use Rattle.mds_types.specs.Frag.{Fragment}
-use Rattle.mds_types.specs.Tree.{Tree, is_dir_kind}
+use Rattle.mds_types.specs.Tree.{is_dir_kind}
 use Rattle.fragtree.specs.FragTree.{IsPick}
 use Rattle.namehash.specs.Rjenkins.{hash_of}
 use Rattle.inode_table.specs.Dirs.{Homes, Covers, Table, IsTable, leaves_of}
 use Rattle.namespace_ops.specs.declared.plans.Change.{Change}
 use Rattle.namespace_ops.specs.declared.plans.Change.TheVariants.{Add, Set, Remove, Move}
 use Rattle.namespace_ops.specs.PlainFrags.{IsTabled}
-use Rattle.leaf_maps.specs.Leaves.{Leaves, ArePlaced, shown_by}
+use Rattle.leaf_maps.specs.Leaves.{Leaf, Leaves, Names, Rows, ArePlaced, shown_by}
 use Rattle.leaf_maps.specs.Changes.{HasRoom}
+use Rattle.mds_types.specs.declared.requests.Request.{Request}
+use Rattle.inode_table.specs.Numbers.{Supply}
+use Rattle.sessions.specs.Table.{Table as Sessions}
+use Rattle.cluster_core.specs.State.{Dentries, State}
 
--- the tree, where each directory stands, the leaves of each, the names of each leaf, how many homes and rows of leaves still
--- fit with no growth, and the name that is ready for a directory's home
+-- a leaf with its names before others, if it has any
+abbrev pub with_names : Leaf → Names → List (List ℕ × Inode) → List (Leaf × Names) → List (Leaf × Names)
+with_names leaf names [] rest = rest
+with_names leaf names (row ∷ rows) rest = (leaf, names) ∷ rest
+
+abbrev pub named_leaves : List (Leaf × Rows) → List (Leaf × Names)
+named_leaves [] = []
+named_leaves (leaf ∷ rest) = with_names leaf.0 (contents (slice_cmp nat_cmp) leaf.1) (map.entries (contents (slice_cmp nat_cmp) leaf.1)) (named_leaves rest)
+
+-- the leaves that have names, each with them: the room that is kept for names is forgotten
+unfoldable pub dentries_of : Leaves → Dentries
+dentries_of leaves = map.from_sorted (named_leaves (map.entries leaves))
+
+-- where each directory stands, the leaves of each, the names of each leaf, and the same with the room for more; how many homes and rows of
+-- leaves still fit with no growth, and the name that is ready for a directory's home
 pub record Fragments : Type 0 where
-  pub tree : Tree
   pub homes : Homes
   pub covers : Covers
+  pub dentries : Dentries
   pub leaves : Leaves
   pub dirs_left : ℕ
   pub trees_left : ℕ
@@ -25,7 +47,17 @@ pub record Fragments : Type 0 where
 
 -- fragments of this table and these leaves
 abbrev pub fragments : Table → Leaves → Option (List ℕ) → Fragments
-fragments dirs leaves spare = record { tree = shown_by leaves; homes = dirs.homes; covers = dirs.trees; leaves = leaves; dirs_left = dirs.room; trees_left = dirs.tree_room; spare = spare }
+fragments dirs leaves spare = record { homes = dirs.homes; covers = dirs.trees; dentries = dentries_of leaves; leaves = leaves; dirs_left = dirs.room; trees_left = dirs.tree_room; spare = spare }
+
+-- the state of a cluster with these fragments
+abbrev pub state_of : Fragments → Supply → List Request → Sessions → State
+state_of f numbers inbox sessions = record { homes = f.homes; covers = f.covers; dentries = f.dentries; numbers = numbers; inbox = inbox; sessions = sessions }
+
+-- what reads and refusals keep of them
+pub record IsAsBefore (old new : Fragments) : Type 0 where
+  pub homes : new.homes ≡ old.homes
+  pub covers : new.covers ≡ old.covers
+  pub dentries : new.dentries ≡ old.dentries
 
 -- what holds of every cluster's fragments
 pub record IsSoundTree (homes : Homes) (covers : Covers) (leaves : Leaves) : Type 0 where

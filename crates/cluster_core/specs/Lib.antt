@@ -2,7 +2,6 @@ pub use Rattle.mds_types.specs.Tree
 pub use Rattle.mds_types.specs.Step
 pub use Rattle.mds_types.specs.History
 pub use Rattle.inode_table.specs.Numbers
-pub mod Core
 pub mod Inbox
 pub mod LeafFrags
 pub mod Offer
@@ -11,4 +10,5 @@ pub mod Runs
 pub mod Serve
 pub mod Sound
 pub mod Splits
+pub mod State
 pub mod Steps

@@ -7,12 +7,12 @@ use Rattle.mds_types.specs.declared.refusals.Refusal.{Refusal}
 use Rattle.cluster_core.specs.declared.answers.Answer.{Answer}
 use Rattle.cluster_core.specs.declared.answers.Answer.TheVariants.{Nothing, Reply}
 use Rattle.cluster_core.specs.declared.events.Event.{Event}
-use Rattle.cluster_core.specs.Core.{Kept}
+use Rattle.cluster_core.specs.State.{Kept}
 use Rattle.cluster_core.specs.Steps.{Steps}
 
 -- one event leads from a book to the next, with this result
 pub record StepsBook (old new : Kept) (result : Result Answer Refusal) (event : Event) : Type 0 where
-  pub stepped : Steps old.core new.core old.history new.history result event
+  pub stepped : Steps old.core.state new.core.state old.history new.history result event
   pub same_opening : new.opening ≡ old.opening
 
 -- events lead from one book to another, one after the other, with a result for each

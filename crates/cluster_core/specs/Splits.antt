@@ -1,5 +1,5 @@
--- What a split and a merge do to a cluster's fragments, and why they are refused.
-use Rattle.std.specs.Prelude.{◌≡◌, ℕ, Bool, true, false, ◌⊎◌, List, Result, Ok, Err}
+-- What a split and a merge do to a cluster's leaves, and why they are refused.
+use Rattle.std.specs.Prelude.{◌≡◌, ℕ, Bool, true, false, List, Result, Ok, Err}
 use Rattle.std.specs.FinMap as map
 use Rattle.mds_types.specs.declared.ids.Ino.{Ino}
 use Rattle.mds_types.specs.declared.entries.Entry.{Entry}
@@ -10,9 +10,9 @@ use Rattle.mds_types.specs.Tree.{Tree, is_directory}
 use Rattle.fragtree.specs.FragTree.{CanMerge, CanSplit, IsMerge, IsSplit, IsTree, RefusesMerge, RefusesSplit}
 use Rattle.inode_table.specs.Dirs.{Covers, leaves_of}
 use Rattle.cluster_core.specs.declared.answers.Answer.{Answer}
-use Rattle.cluster_core.specs.declared.answers.Answer.TheVariants.{Nothing, Reply}
-use Rattle.cluster_core.specs.Core.{Core}
-use Rattle.cluster_core.specs.Serve.{IsLeftWaiting}
+use Rattle.cluster_core.specs.declared.answers.Answer.TheVariants.{Nothing}
+use Rattle.cluster_core.specs.State.{State, shown}
+use Rattle.cluster_core.specs.Serve.{IsLeft}
 
 -- a cover after the split of a leaf by so many bits, and after a merge at a fragment
 pub record IsSplitCover (old new : List Fragment) (f : Fragment) (nb : ℕ) : Type 0 where
@@ -39,33 +39,35 @@ IsSplitOf tree old new dir f nb = IsCovered tree old new dir (λ cover. IsSplitC
 abbrev pub IsMergeOf : Tree → (old new : Covers) → Ino → Fragment → Type 0
 IsMergeOf tree old new dir f = IsCovered tree old new dir (λ cover. IsMergedCover (leaves_of old dir.0) cover f)
 
--- why it is refused: there is no such directory; otherwise for want of memory, or for the first of the cover's checks that holds
-abbrev pub RefusesFor : Bool → (Refusal → Type 0) → Refusal → Type 0
-RefusesFor false Refuses reason = reason ≡ NoSuchFrag
-RefusesFor true Refuses reason = (reason ≡ NoMemory) ⊎ Refuses reason
+-- why it is refused: there is no such directory, or the first of the cover's checks that holds
+abbrev pub RefusesIn : Bool → (Refusal → Type 0) → Refusal → Type 0
+RefusesIn false Refuses reason = reason ≡ NoSuchFrag
+RefusesIn true Refuses reason = Refuses reason
 
 abbrev pub MayRefuseSplit : Tree → Covers → Ino → Fragment → ℕ → Refusal → Type 0
-MayRefuseSplit tree covers dir f nb reason = RefusesFor (is_directory tree dir.0) (RefusesSplit (leaves_of covers dir.0) f nb) reason
+MayRefuseSplit tree covers dir f nb reason = RefusesIn (is_directory tree dir.0) (RefusesSplit (leaves_of covers dir.0) f nb) reason
 
 abbrev pub MayRefuseMerge : Tree → Covers → Ino → Fragment → Refusal → Type 0
-MayRefuseMerge tree covers dir f reason = RefusesFor (is_directory tree dir.0) (RefusesMerge (leaves_of covers dir.0) f) reason
+MayRefuseMerge tree covers dir f reason = RefusesIn (is_directory tree dir.0) (RefusesMerge (leaves_of covers dir.0) f) reason
 
--- the cover of a directory is another, and nothing else of the cluster: neither the tree that it shows nor the history
-pub record IsRecovered (old new : Core) (past now : List Entry) : Type 0 where
-  pub left : new ≡ record old { covers = new.covers }
+-- what an administrator's step leaves unseen: the shown tree, and all but where its leaves and names are
+pub record IsUnseen (old new : State) (past now : List Entry) : Type 0 where
   pub same : now ≡ past
+  pub tree : shown new ≡ shown old
+  pub left : new ≡ record old { covers = new.covers; dentries = new.dentries }
 
-abbrev pub Splits : (old new : Core) → (past now : List Entry) → Ino → Fragment → ℕ → Result Answer Refusal → Type 0
-Splits old new past now dir f nb (Ok Nothing) = IsSplitOf old.shown old.covers new.covers dir f nb × IsRecovered old new past now
-Splits old new past now dir f nb (Ok (Reply client tid place first reply)) = ⊥
-Splits old new past now dir f nb (Err reason) = MayRefuseSplit old.shown old.covers dir f nb reason × IsLeftWaiting old new past now
+-- an administrator's step that answers has done this, unseen; a refused one has left all
+abbrev pub DoesUnseen : (old new : State) → (past now : List Entry) → (Done : Type 0) → (MayRefuse : Refusal → Type 0) → Result Answer Refusal → Type 0
+DoesUnseen old new past now Done MayRefuse (Ok answer) = (answer ≡ Nothing) × Done × IsUnseen old new past now
+DoesUnseen old new past now Done MayRefuse (Err reason) = MayRefuse reason × IsLeft old new past now
 
-abbrev pub Merges : (old new : Core) → (past now : List Entry) → Ino → Fragment → Result Answer Refusal → Type 0
-Merges old new past now dir f (Ok Nothing) = IsMergeOf old.shown old.covers new.covers dir f × IsRecovered old new past now
-Merges old new past now dir f (Ok (Reply client tid place first reply)) = ⊥
-Merges old new past now dir f (Err reason) = MayRefuseMerge old.shown old.covers dir f reason × IsLeftWaiting old new past now
+abbrev pub Splits : (old new : State) → (past now : List Entry) → Ino → Fragment → ℕ → Result Answer Refusal → Type 0
+Splits old new past now dir f nb result = DoesUnseen old new past now (IsSplitOf (shown old) old.covers new.covers dir f nb) (MayRefuseSplit (shown old) old.covers dir f nb) result
 
--- the leaves of a directory by value; refused NoSuchFrag exactly where there is no such directory
-abbrev pub ListsLeaves : Core → Ino → Result (List Fragment) Refusal → Type 0
-ListsLeaves core dir (Ok leaves) = (is_directory core.shown dir.0 ≡ true) × (leaves ≡ leaves_of core.covers dir.0)
-ListsLeaves core dir (Err reason) = RefusesFor (is_directory core.shown dir.0) (λ other. ⊥) reason
+abbrev pub Merges : (old new : State) → (past now : List Entry) → Ino → Fragment → Result Answer Refusal → Type 0
+Merges old new past now dir f result = DoesUnseen old new past now (IsMergeOf (shown old) old.covers new.covers dir f) (MayRefuseMerge (shown old) old.covers dir f) result
+
+-- the leaves of a directory by value; refused NoSuchFrag exactly where there is no such directory, and else for want of memory
+abbrev pub ListsLeaves : State → Ino → Result (List Fragment) Refusal → Type 0
+ListsLeaves state dir (Ok leaves) = (is_directory (shown state) dir.0 ≡ true) × (leaves ≡ leaves_of state.covers dir.0)
+ListsLeaves state dir (Err reason) = RefusesIn (is_directory (shown state) dir.0) (λ other. other ≡ NoMemory) reason

@@ -1,6 +1,7 @@
 //! The book: a cluster with the history of what it answered.
-ghost use Rattle.std.specs.Prelude.{◌≡◌, ◌≤◌, ◌^◌, []};
+ghost use Rattle.std.specs.Prelude.{◌≡◌, ◌≤◌, []};
 ghost use Rattle.std.specs.FinMap as map;
+ghost use Rattle.cluster_core.specs.State.{new_state};
 ghost use Rattle.cluster_core.specs.Steps.{Steps, ranks};
 ghost use Rattle.cluster_core.specs.Sound.{IsSoundBook};
 
@@ -24,7 +25,7 @@ pub struct Book {
 impl Model for Book {
     ghost use Rattle.std.specs.Coded.{codes};
     ghost use Rattle.std.specs.FinMap as map;
-    ghost use Rattle.cluster_core.specs.Core.{Kept};
+    ghost use Rattle.cluster_core.specs.State.{Kept};
     ghost use Rattle.cluster_core.specs.Sound.{IsSoundBook};
 
     ghost Value = { Kept };
@@ -45,6 +46,13 @@ impl Book {
         self.history.as_slice()
     }
 
+    /// The tree that the book opened with.
+    pub fn opening(&self) -> &PlainTree
+        ensures { result.now ≡ self.now.opening }
+    {
+        &self.opening
+    }
+
     /// The cluster, to read.
     pub fn cluster(&self) -> &Cluster
         ensures { result.now ≡ self.now.core }
@@ -54,7 +62,7 @@ impl Book {
 
     /// One event, one atomic step: what it answers, or why it is refused. The opening tree stays.
     pub fn step(&mut self, alloc: Global, event: Event) -> Result<Answer, Refusal>
-        ensures stepped { Steps self.old.core self.new.core self.old.history self.new.history result event }
+        ensures stepped { Steps self.old.core.state self.new.core.state self.old.history self.new.history result event }
         ensures opening { self.new.opening ≡ self.old.opening }
         ensures sound { IsSoundBook self.new }
     {
@@ -70,11 +78,7 @@ pub fn format(alloc: Global, ranks: u8, cache: u32) -> Book
     requires most { cache ≤ 65536 }
     ensures opening { result.opening ≡ map.empty }
     ensures history { result.history ≡ [] }
-    ensures shown { result.core.shown ≡ map.empty }
-    ensures leaves { result.core.covers ≡ map.empty }
-    ensures waiting { result.core.inbox ≡ [] }
-    ensures numbers { result.core.numbers ≡ record { rank = 0; next = 2 ^ 40 } }
-    ensures sessions { result.core.sessions ≡ map.empty }
+    ensures state { result.core.state ≡ new_state }
 {
     Book {
         cluster: Cluster::new(alloc),

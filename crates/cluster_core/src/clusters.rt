@@ -1,10 +1,10 @@
 //! The cluster and its events.
-ghost use Rattle.std.specs.Prelude.{◌≡◌, ◌^◌, [], List, nat_lt, Ok, Err, IfOk, IfErr};
+ghost use Rattle.std.specs.Prelude.{◌≡◌, List, nat_lt, Ok, Err, IfOk, IfErr};
 ghost use Rattle.mds_types.specs.declared.entries.Entry.{Entry as Applied};
-ghost use Rattle.std.specs.FinMap as map;
+ghost use Rattle.cluster_core.specs.State.{new_state};
 ghost use Rattle.cluster_core.specs.Steps.{Steps, AtRank, ArrivesInbox, MayRefuse, ranks};
 ghost use Rattle.mds_types.specs.Tree.{Tree};
-ghost use Rattle.cluster_core.specs.Sound.{IsSound};
+ghost use Rattle.cluster_core.specs.Sound.{IsDivided, IsSound};
 ghost use Rattle.cluster_core.specs.Serve.{ServesInbox};
 ghost use Rattle.cluster_core.specs.Splits.{ListsLeaves, Merges, Splits};
 
@@ -33,13 +33,14 @@ impl Model for Cluster {
     ghost use Rattle.std.specs.Coded.{codes};
     ghost use Rattle.std.specs.FinMap as map;
     ghost use Rattle.sessions.specs.Rooms.{table};
-    ghost use Rattle.cluster_core.specs.Core.{Core};
+    ghost use Rattle.cluster_core.specs.State.{Core};
+    ghost use Rattle.cluster_core.specs.LeafFrags.{state_of};
 
     ghost Value = { Core };
 
     ghost coded = { Prim.hlevel (codes, map.code) };
 
-    ghost view = { λ c. record { shown = c.frags.tree; covers = c.frags.covers; inbox = c.inbox; numbers = c.numbers; sessions = table c.sessions } };
+    ghost view = { λ c. record { state = state_of c.frags c.numbers c.inbox (table c.sessions) } };
 }
 
 impl Cluster {
@@ -48,11 +49,7 @@ impl Cluster {
 
     /// A cluster that serves the empty tree.
     pub(crate) fn new(alloc: Global) -> Cluster
-        ensures empty { result.shown ≡ map.empty }
-        ensures leaves { result.covers ≡ map.empty }
-        ensures waiting { result.inbox ≡ [] }
-        ensures numbers { result.numbers ≡ record { rank = 0; next = 2 ^ 40 } }
-        ensures sessions { result.sessions ≡ map.empty }
+        ensures { result.state ≡ new_state }
     {
         Cluster {
             frags: LeafFrags::new(alloc),
@@ -70,9 +67,9 @@ impl Cluster {
         history: &mut Vec<Entry>,
         event: Event,
     ) -> Result<Answer, Refusal>
-        requires { (opening : Tree) × IsSound opening history.old.items self.old }
-        ensures stepped { Steps self.old self.new history.old.items history.new.items result event }
-        ensures sound { (opening : Tree) → IsSound opening history.old.items self.old → IsSound opening history.new.items self.new }
+        requires { (opening : Tree) × IsSound opening history.old.items self.old.state }
+        ensures stepped { Steps self.old.state self.new.state history.old.items history.new.items result event }
+        ensures sound { (opening : Tree) → IsSound opening history.old.items self.old.state → IsSound opening history.new.items self.new.state }
     {
         match event {
             Event::Arrive { rank, request } => self.arrive(rank, request),
@@ -87,9 +84,9 @@ impl Cluster {
         }
     }
 
-    /// A request comes in, and waits at the back of the rank's inbox.
-    pub fn arrive(&mut self, rank: Rank, request: Request) -> Result<Answer, Refusal>
-        ensures { (past : List Applied) → AtRank self.old self.new past past rank result (ArrivesInbox self.old self.new past past request result) }
+    // A request comes in, and waits at the back of the rank's inbox.
+    fn arrive(&mut self, rank: Rank, request: Request) -> Result<Answer, Refusal>
+        ensures { (past : List Applied) → AtRank self.old.state self.new.state past past rank result (ArrivesInbox self.old.state self.new.state past past request result) }
     {
         if !is_rank(rank) {
             return Err(Refusal::NotAuthority);
@@ -98,16 +95,17 @@ impl Cluster {
         Ok(Answer::Nothing)
     }
 
-    /// The rank serves the request at the front of its inbox.
-    pub fn serve(
+    // The rank serves the request at the front of its inbox.
+    fn serve(
         &mut self,
         alloc: Global,
         history: &mut Vec<Entry>,
         rank: Rank,
     ) -> Result<Answer, Refusal>
-        requires { (opening : Tree) × IsSound opening history.old.items self.old }
-        ensures { AtRank self.old self.new history.old.items history.new.items rank result
-            (ServesInbox self.old self.new history.old.items history.new.items MayRefuse result self.old.inbox) }
+        requires { (opening : Tree) × IsSound opening history.old.items self.old.state }
+        ensures served { AtRank self.old.state self.new.state history.old.items history.new.items rank result
+            (ServesInbox self.old.state self.new.state history.old.items history.new.items MayRefuse result self.old.state.inbox) }
+        ensures divided { IsDivided self.new.state.homes self.new.state.covers self.new.state.dentries }
     {
         if !is_rank(rank) {
             return Err(Refusal::NotAuthority);
@@ -124,8 +122,8 @@ impl Cluster {
 }
 
 impl Cluster {
-    /// A leaf of a directory is split. The tree that the cluster shows stays.
-    pub fn split(
+    // A leaf of a directory is split. The tree that the cluster shows stays.
+    fn split(
         &mut self,
         alloc: Global,
         rank: Rank,
@@ -133,7 +131,9 @@ impl Cluster {
         frag: Frag,
         bits: u8,
     ) -> Result<Answer, Refusal>
-        ensures { (past : List Applied) → AtRank self.old self.new past past rank result (Splits self.old self.new past past ino frag bits result) }
+        requires { IsDivided self.old.state.homes self.old.state.covers self.old.state.dentries }
+        ensures split { (past : List Applied) → AtRank self.old.state self.new.state past past rank result (Splits self.old.state self.new.state past past ino frag bits result) }
+        ensures divided { IsDivided self.new.state.homes self.new.state.covers self.new.state.dentries }
     {
         if !is_rank(rank) {
             return Err(Refusal::NotAuthority);
@@ -142,15 +142,17 @@ impl Cluster {
         Ok(Answer::Nothing)
     }
 
-    /// Leaves of a directory are merged. The tree that the cluster shows stays.
-    pub fn merge(
+    // Leaves of a directory are merged. The tree that the cluster shows stays.
+    fn merge(
         &mut self,
         alloc: Global,
         rank: Rank,
         ino: Ino,
         frag: Frag,
     ) -> Result<Answer, Refusal>
-        ensures { (past : List Applied) → AtRank self.old self.new past past rank result (Merges self.old self.new past past ino frag result) }
+        requires { IsDivided self.old.state.homes self.old.state.covers self.old.state.dentries }
+        ensures merged { (past : List Applied) → AtRank self.old.state self.new.state past past rank result (Merges self.old.state self.new.state past past ino frag result) }
+        ensures divided { IsDivided self.new.state.homes self.new.state.covers self.new.state.dentries }
     {
         if !is_rank(rank) {
             return Err(Refusal::NotAuthority);
@@ -161,8 +163,8 @@ impl Cluster {
 
     /// The leaves of a directory by value. Refused `NoSuchFrag` where there is no such directory, and for want of memory.
     pub fn leaves(&self, alloc: Global, ino: Ino) -> Result<Vec<Frag>, Refusal>
-        ensures listed { IfOk result (λ leaves. ListsLeaves self.now ino (Ok leaves.items)) }
-        ensures err { IfErr result (λ reason. ListsLeaves self.now ino (Err reason)) }
+        ensures listed { IfOk result (λ leaves. ListsLeaves self.now.state ino (Ok leaves.items)) }
+        ensures err { IfErr result (λ reason. ListsLeaves self.now.state ino (Err reason)) }
     {
         if !self.frags.is_dir(ino) {
             return Err(Refusal::NoSuchFrag);

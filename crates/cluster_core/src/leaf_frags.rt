@@ -1,10 +1,15 @@
 //! A cluster's fragments: the directory table, and the names of each leaf.
-ghost use Rattle.std.specs.Prelude.{◌≡◌, IfOk, IfErr, OnOk};
+ghost use Rattle.std.specs.Prelude.{◌≡◌, IfOk, IfErr, OnOk, Option};
 ghost use Rattle.std.specs.FinMap as map;
 ghost use Rattle.mds_types.specs.declared.refusals.Refusal.TheVariants.{NoMemory};
 ghost use Rattle.mds_types.specs.Tree.{at};
 ghost use Rattle.leaf_maps.specs.Leaves.{ArePlaced, shown_by};
+ghost use Rattle.leaf_maps.specs.Changes.{HaveSameNames};
 ghost use Rattle.namespace_ops.specs.Changes.{IsReadyFor};
+ghost use Rattle.namespace_ops.specs.Planned.{IsReadyToChange, after_plan};
+ghost use Rattle.cluster_core.specs.State.{tree_of};
+ghost use Rattle.cluster_core.specs.Serve.{CarryLeaves};
+ghost use Rattle.cluster_core.specs.Sound.{IsDivided};
 ghost use Rattle.cluster_core.specs.LeafFrags.{IsReady, fragments};
 
 use crate::leaf_changes::{add_entry, move_entry, remove_entry, set_entry};
@@ -49,14 +54,29 @@ impl Model for LeafFrags {
 impl LeafFrags {
     /// Fragments with no name: the empty tree, of which the root has the one leaf `*`. Takes no memory.
     pub fn new(alloc: Global) -> LeafFrags
-        ensures tree { result.tree ≡ map.empty }
-        ensures leaves { result.covers ≡ map.empty }
+        ensures homes { result.homes ≡ map.empty }
+        ensures covers { result.covers ≡ map.empty }
+        ensures dentries { result.dentries ≡ map.empty }
     {
         LeafFrags {
             leaves: LeafMaps::new(alloc),
             dirs: Dirs::new(alloc),
             spare: None,
             alloc,
+        }
+    }
+}
+
+impl LeafFrags {
+    /// Makes a change that was planned. It can't fail.
+    pub fn carry_out(&mut self, change: Option<Change>)
+        requires { IsReadyToChange (tree_of self.old.dentries) (IsReady self.old) change }
+        ensures tree { tree_of self.new.dentries ≡ after_plan (tree_of self.old.dentries) change }
+        ensures leaves { CarryLeaves (tree_of self.old.dentries) (tree_of self.new.dentries) self.old.covers self.new.covers }
+        ensures divided { IsDivided self.new.homes self.new.covers self.new.dentries }
+    {
+        if let Some(change) = change {
+            self.change(change);
         }
     }
 }
@@ -70,24 +90,26 @@ impl fmt::Debug for LeafFrags {
 }
 
 impl Frags for LeafFrags {
-    ghost use Rattle.std.specs.Prelude.{◌≡◌};
+    ghost use Rattle.std.specs.Prelude.{◌≡◌, refl};
+    ghost use Rattle.std.proofs.Common.{◌∙◌};
     ghost use Rattle.mds_types.specs.declared.refusals.Refusal.TheVariants.{NoMemory};
     ghost use Rattle.namespace_ops.specs.Reasons.{refused_for_memory};
-    ghost use Rattle.cluster_core.specs.LeafFrags.{IsReady as IsReadyIn};
+    ghost use Rattle.cluster_core.specs.State.{tree_of};
+    ghost use Rattle.cluster_core.specs.LeafFrags.{IsAsBefore, IsReady as IsReadyIn};
 
-    ghost content = { λ f. f.tree };
+    ghost content = { λ f. tree_of f.dentries };
 
     ghost covers = { λ f. f.covers };
 
     ghost IsReady = { λ f change. IsReadyIn f change };
 
-    ghost Follows = { λ a b. Unit {0} };
+    ghost Follows = { IsAsBefore };
 
     ghost MayRefuse = { λ a b reason. reason ≡ NoMemory };
 
-    ghost follows_self = { λ a. tt };
+    ghost follows_self = { λ a. record { homes = refl; covers = refl; dentries = refl } };
 
-    ghost follows_on = { λ a b c p q. tt };
+    ghost follows_on = { λ a b c p q. record { homes = q.homes ∙ p.homes; covers = q.covers ∙ p.covers; dentries = q.dentries ∙ p.dentries } };
 
     ghost refused_on = { λ a b c reason p because. because };
 
@@ -179,8 +201,7 @@ fn make_ready(
 ) -> Result<(), Refusal>
     requires { ArePlaced dirs.old.trees leaves.old }
     ensures ready { OnOk result (IsReadyFor (IsReady (fragments dirs.new leaves.new spare.new)) op.now) }
-    ensures tree { shown_by leaves.new ≡ shown_by leaves.old }
-    ensures placed { ArePlaced dirs.new.trees leaves.new }
+    ensures names { HaveSameNames leaves.old leaves.new }
     ensures homes { dirs.new.homes ≡ dirs.old.homes }
     ensures trees { dirs.new.trees ≡ dirs.old.trees }
     ensures err { IfErr result (λ reason. reason ≡ NoMemory) }

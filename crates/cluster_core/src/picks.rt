@@ -7,7 +7,7 @@ ghost use Rattle.fragtree.specs.FragTree.{IsPick};
 ghost use Rattle.namehash.specs.Rjenkins.{hash_of};
 ghost use Rattle.inode_table.specs.Dirs.{Covers, Homes, IsTable, leaves_of};
 ghost use Rattle.leaf_maps.specs.Leaves.{ArePlaced, HavePicks, shown_by};
-ghost use Rattle.leaf_maps.specs.Changes.{KeepRoom};
+ghost use Rattle.leaf_maps.specs.Changes.{HaveSameNames, KeepRoom};
 ghost use Rattle.cluster_core.specs.LeafFrags.{HasRoomAt};
 
 use fragtree::laws::each_hash_has_a_pick;
@@ -49,10 +49,8 @@ pub fn make_room(
     dir: Ino,
     name: &Name,
 ) -> Result<(), AllocError>
-    requires { ArePlaced dirs.now.trees leaves.old }
     ensures room { OnOk result (HasRoomAt dirs.now.trees leaves.new (place_of dir.0 name.now)) }
-    ensures tree { shown_by leaves.new ≡ shown_by leaves.old }
-    ensures placed { ArePlaced dirs.now.trees leaves.new }
+    ensures names { HaveSameNames leaves.old leaves.new }
 {
     leaves.reserve(alloc, dir, leaf_of(dirs, dir, name))
 }

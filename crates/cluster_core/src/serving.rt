@@ -2,20 +2,25 @@
 ghost use Rattle.std.specs.Prelude.{◌≡◌, ◌<◌, ◌++◌, ◌∷◌, [], true, length, vec_len, vec_capacity, MatchResult, OnOk};
 ghost use Rattle.mds_types.specs.Step.{step, number_or};
 ghost use Rattle.inode_table.specs.Numbers.{offer};
-ghost use Rattle.namespace_ops.specs.Changes.{IsOffered, KeepLeaves};
+ghost use Rattle.namespace_ops.specs.Changes.{IsOffered};
 ghost use Rattle.namespace_ops.specs.Planned.{IsReadyToChange, after_plan};
 ghost use Rattle.namespace_ops.specs.Served.{IsRefused};
 ghost use Rattle.sessions.specs.Table.{IsTableOf, noted, trimmed};
 ghost use Rattle.sessions.specs.Rooms.{IsReady, table};
-ghost use Rattle.cluster_core.specs.Serve.{ServesInbox, RepeatsFront};
+ghost use Rattle.cluster_core.specs.State.{tree_of};
+ghost use Rattle.cluster_core.specs.LeafFrags.{IsReady as IsReadyIn, state_of};
+ghost use Rattle.cluster_core.specs.Sound.{IsDivided};
+ghost use Rattle.cluster_core.specs.Serve.{CarryLeaves, ServesInbox, RepeatsFront};
+ghost use Rattle.cluster_core.specs.Steps.{MayRefuse};
 ghost use Rattle.cluster_core.specs.Prepared.{IsPrepared};
 
 use crate::answers::Answer;
 use crate::inboxes::Inbox;
+use crate::leaf_frags::LeafFrags;
 use crate::supplies::supply_after;
 use inode_table::Numbers;
 use mds_types::{Entry, Op, Refusal, Reply, Request};
-use namespace_ops::{Frags, Plan, carry_out, plan_op};
+use namespace_ops::{Frags, Plan, plan_op};
 use sessions::{Seen, Sessions};
 use std::alloc::Global;
 
@@ -70,19 +75,20 @@ pub fn prepare<F: Frags>(
 }
 
 /// Applies a request for which everything was prepared. It can't fail.
-pub fn commit<F: Frags>(
-    frags: &mut F,
+pub fn commit(
+    frags: &mut LeafFrags,
     numbers: &mut Numbers,
     sessions: &mut Sessions,
     history: &mut Vec<Entry>,
     request: Request,
     prepared: Prepared,
 ) -> Answer
-    requires ready { IsReadyToChange (F.content frags.old) (F.IsReady frags.old) prepared.plan.change }
+    requires ready { IsReadyToChange (tree_of frags.old.dentries) (IsReadyIn frags.old) prepared.plan.change }
     requires room { vec_len history.old < vec_capacity history.old }
     requires reserved { IsReady sessions.old request.client }
-    ensures tree { F.content frags.new ≡ after_plan (F.content frags.old) prepared.plan.change }
-    ensures leaves { KeepLeaves (F.content frags.new) (F.covers frags.old) (F.covers frags.new) }
+    ensures tree { tree_of frags.new.dentries ≡ after_plan (tree_of frags.old.dentries) prepared.plan.change }
+    ensures leaves { CarryLeaves (tree_of frags.old.dentries) (tree_of frags.new.dentries) frags.old.covers frags.new.covers }
+    ensures divided { IsDivided frags.new.homes frags.new.covers frags.new.dentries }
     ensures appended { history.new.items ≡ history.old.items ++ record {
       client = request.client;
       tid = request.tid;
@@ -94,7 +100,6 @@ pub fn commit<F: Frags>(
     ensures drawn { numbers.new ≡ prepared.numbers }
     ensures known { table sessions.new ≡ trimmed (noted (table sessions.old) request.client request.tid request.oldest (vec_len history.old) prepared.kept) request.client }
     ensures answer { result ≡ Answer.Reply request.client request.tid (vec_len history.old) true prepared.answer }
-    ensures follows { F.Follows frags.old frags.new }
 {
     let place = history.len();
     let Request {
@@ -108,7 +113,7 @@ pub fn commit<F: Frags>(
         change,
         number,
     } = prepared.plan;
-    carry_out(frags, change);
+    frags.carry_out(change);
     *numbers = prepared.numbers;
     sessions.keep(client, tid, oldest, place, prepared.kept);
     sessions.trim(client);
@@ -130,21 +135,20 @@ pub fn commit<F: Frags>(
 }
 
 /// Serves the request at the front of the inbox: applies it if it is new, answers it again if it was applied before.
-pub fn serve_front<F: Frags>(
+pub fn serve_front(
     alloc: Global,
-    frags: &mut F,
+    frags: &mut LeafFrags,
     inbox: &mut Inbox,
     numbers: &mut Numbers,
     sessions: &mut Sessions,
     history: &mut Vec<Entry>,
 ) -> Result<Answer, Refusal>
     requires known { IsTableOf history.old.items (table sessions.old) }
-    requires offered { IsOffered (F.content frags.old) (offer numbers.old) }
-    ensures served { ServesInbox
-        (record { shown = F.content frags.old; covers = F.covers frags.old; inbox = inbox.old; numbers = numbers.old; sessions = table sessions.old })
-        (record { shown = F.content frags.new; covers = F.covers frags.new; inbox = inbox.new; numbers = numbers.new; sessions = table sessions.new })
-        history.old.items history.new.items (F.MayRefuse frags.old frags.new) result inbox.old }
-    ensures follows { F.Follows frags.old frags.new }
+    requires offered { IsOffered (tree_of frags.old.dentries) (offer numbers.old) }
+    requires divided { IsDivided frags.old.homes frags.old.covers frags.old.dentries }
+    ensures served { ServesInbox (state_of frags.old numbers.old inbox.old (table sessions.old)) (state_of frags.new numbers.new inbox.new (table sessions.new))
+        history.old.items history.new.items MayRefuse result inbox.old }
+    ensures divided { IsDivided frags.new.homes frags.new.covers frags.new.dentries }
 {
     let Some(front) = inbox.front() else {
         return Err(Refusal::InboxEmpty)

@@ -18,13 +18,15 @@ use std::alloc::Global;
 
 impl LeafFrags {
     /// Splits a leaf of a directory into its children of so many more bits; each name of it goes to the child that its hash
-    /// picks. Refused `NoSuchFrag`, `BadSplit`, `TooManyFrags` or for want of memory, and then all is left as it was: the
-    /// new leaves and copies of their names are made before the first change.
+    /// picks. Refused `NoSuchFrag`, `BadSplit`, `TooManyFrags`, or else for want of memory, and then all is left as it was:
+    /// the new leaves and copies of their names are made before the first change.
     pub fn split(&mut self, alloc: Global, dir: Ino, frag: Frag, bits: u8) -> Result<(), Refusal>
-        ensures split { OnOk result (IsSplitOf self.old.tree self.old.covers self.new.covers dir frag bits) }
-        ensures refused { IfErr result (MayRefuseSplit self.old.tree self.old.covers dir frag bits) }
-        ensures tree { self.new.tree ≡ self.old.tree }
-        ensures left { OnErr result (self.new.covers ≡ self.old.covers) }
+        ensures split { OnOk result (IsSplitOf (tree_of self.old.dentries) self.old.covers self.new.covers dir frag bits) }
+        ensures refused { IfErr result (MayRefuseSplit (tree_of self.old.dentries) self.old.covers dir frag bits) }
+        ensures tree { tree_of self.new.dentries ≡ tree_of self.old.dentries }
+        ensures homes { self.new.homes ≡ self.old.homes }
+        ensures left { OnErr result (IsAsBefore self.old self.new) }
+        ensures divided { IsDivided self.new.homes self.new.covers self.new.dentries }
     {
         if !self.dirs.contains(dir) {
             return Err(Refusal::NoSuchFrag);
@@ -38,12 +40,14 @@ impl LeafFrags {
     }
 
     /// Merges the leaves of a directory properly inside a fragment into it, with their names. Refused `NoSuchFrag`,
-    /// `TooManyFrags` or for want of memory, and then all is left as it was.
+    /// `TooManyFrags`, or else for want of memory, and then all is left as it was.
     pub fn merge(&mut self, alloc: Global, dir: Ino, frag: Frag) -> Result<(), Refusal>
-        ensures merged { OnOk result (IsMergeOf self.old.tree self.old.covers self.new.covers dir frag) }
-        ensures refused { IfErr result (MayRefuseMerge self.old.tree self.old.covers dir frag) }
-        ensures tree { self.new.tree ≡ self.old.tree }
-        ensures left { OnErr result (self.new.covers ≡ self.old.covers) }
+        ensures merged { OnOk result (IsMergeOf (tree_of self.old.dentries) self.old.covers self.new.covers dir frag) }
+        ensures refused { IfErr result (MayRefuseMerge (tree_of self.old.dentries) self.old.covers dir frag) }
+        ensures tree { tree_of self.new.dentries ≡ tree_of self.old.dentries }
+        ensures homes { self.new.homes ≡ self.old.homes }
+        ensures left { OnErr result (IsAsBefore self.old self.new) }
+        ensures divided { IsDivided self.new.homes self.new.covers self.new.dentries }
     {
         if !self.dirs.contains(dir) {
             return Err(Refusal::NoSuchFrag);
@@ -66,7 +70,7 @@ fn split_cover(
     bits: u8,
 ) -> Result<(FragTree, FragTree), Refusal>
     ensures ok { IfOk result (λ covers. (covers.0 ≡ leaves_of dirs.now.trees dir.0) × IsSplitCover (leaves_of dirs.now.trees dir.0) covers.1 frag bits) }
-    ensures err { IfErr result (λ reason. (reason ≡ NoMemory) ⊎ RefusesSplit (leaves_of dirs.now.trees dir.0) frag bits reason) }
+    ensures err { IfErr result (λ reason. RefusesSplit (leaves_of dirs.now.trees dir.0) frag bits reason) }
 {
     let from = dirs.tree(alloc, dir)?;
     let mut to = from.try_clone()?;
@@ -82,7 +86,7 @@ fn merged_cover(
     frag: Frag,
 ) -> Result<(FragTree, FragTree), Refusal>
     ensures ok { IfOk result (λ covers. (covers.0 ≡ leaves_of dirs.now.trees dir.0) × IsMergedCover (leaves_of dirs.now.trees dir.0) covers.1 frag) }
-    ensures err { IfErr result (λ reason. (reason ≡ NoMemory) ⊎ RefusesMerge (leaves_of dirs.now.trees dir.0) frag reason) }
+    ensures err { IfErr result (λ reason. RefusesMerge (leaves_of dirs.now.trees dir.0) frag reason) }
 {
     let from = dirs.tree(alloc, dir)?;
     let mut to = from.try_clone()?;
@@ -107,6 +111,7 @@ fn set_leaves(
     ensures homes { dirs.new.homes ≡ dirs.old.homes }
     ensures set { OnOk result (dirs.new.trees ≡ map.insert dirs.old.trees dir.0 to) }
     ensures left { OnErr result (dirs.new.trees ≡ dirs.old.trees) }
+    ensures names { OnErr result (HaveSameNames leaves.old leaves.new) }
     ensures err { IfErr result (λ reason. reason ≡ NoMemory) }
 {
     each_hash_has_a_leaf();

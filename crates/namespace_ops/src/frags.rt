@@ -100,8 +100,7 @@ pub trait Frags {
         requires ready { IsReady self.old change }
         requires may { MayChange (content self.old) change }
         ensures changed { content self.new ≡ changed (content self.old) change }
-        ensures leaves { KeepLeaves (content self.new) (covers self.old) (covers self.new) }
-        ensures follows { Follows self.old self.new };
+        ensures leaves { KeepLeaves (content self.new) (covers self.old) (covers self.new) };
 
     /// Fragments refuse for these reasons alone.
     ghost refused_for: { (a b : Self) (reason : Reason) → MayRefuse a b reason → IsOfFragments reason };

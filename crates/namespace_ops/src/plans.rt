@@ -35,7 +35,6 @@ pub fn carry_out<F: Frags>(frags: &mut F, change: Option<Change>)
     requires { IsReadyToChange (F.content frags.old) (F.IsReady frags.old) change }
     ensures done { F.content frags.new ≡ after_plan (F.content frags.old) change }
     ensures leaves { KeepLeaves (F.content frags.new) (F.covers frags.old) (F.covers frags.new) }
-    ensures follows { F.Follows frags.old frags.new }
 {
     if let Some(change) = change {
         frags.change(change);

@@ -1,5 +1,5 @@
 //! Serving one operation.
-ghost use Rattle.std.specs.Prelude.{MatchResult};
+ghost use Rattle.std.specs.Prelude.{MatchResult, OnErr};
 ghost use Rattle.mds_types.specs.Step.{step, number_or};
 ghost use Rattle.namespace_ops.specs.Changes.{IsOffered};
 ghost use Rattle.namespace_ops.specs.Served.{IsServed, IsRefused};
@@ -24,7 +24,7 @@ pub fn serve_op<F: Frags>(
         MatchResult result
         (IsServed (F.content frags.new) outcome number)
         (IsRefused (F.content frags.old) (F.content frags.new) (F.MayRefuse frags.old frags.new) outcome number) }
-    ensures follows { F.Follows frags.old frags.new }
+    ensures follows { OnErr result (F.Follows frags.old frags.new) }
 {
     let plan = plan_op(alloc, frags, op, number)?;
     carry_out(frags, plan.change);

@@ -1,0 +1,46 @@
+-- A cluster's fragments are divided into leaves as they have to be, and stay so.
+use Rattle.std.proofs.Common.{◌≡◌, ℕ, Bool, true, false, cond, List, [], ◌∷◌, Option, Some, None, refl, sym, ap, subst, ◌∙◌}
+use Rattle.std.specs.FinMap as map
+use Rattle.mds_types.specs.declared.inodes.Inode.{Inode}
+use Rattle.mds_types.specs.Frag.{Fragment, root_fragment}
+use Rattle.mds_types.specs.Tree.{Tree, is_directory}
+use Rattle.inode_table.specs.Dirs.{Homes, Covers, IsTable, is_known, leaves_of, or_whole}
+use Rattle.namespace_ops.specs.Changes.{KeepLeaves}
+use Rattle.namespace_ops.specs.PlainFrags.{IsTabled}
+use Rattle.namespace_ops.specs.TableLaws.{known_is}
+use Rattle.leaf_maps.specs.Leaves.{Leaves, names_in, shown_by}
+use Rattle.leaf_maps.specs.LeafLaws.{shown_at}
+use Rattle.cluster_core.specs.State.{Dentries, names_at, tree_of}
+use Rattle.cluster_core.specs.Serve.{CarryLeaves}
+use Rattle.cluster_core.specs.Sound.{IsDivided}
+use Rattle.cluster_core.specs.LeafFrags.{IsSoundTree, dentries_of}
+use Rattle.cluster_core.proofs.Dentries.{names_are, tree_is}
+
+pub divided_of : (homes : Homes) (covers : Covers) (leaves : Leaves) → IsSoundTree homes covers leaves → IsDivided homes covers (dentries_of leaves)
+divided_of homes covers leaves sound = record {
+  table = sound.table;
+  known = λ d f name inode has.
+      let here = in_rows d f name inode has in
+      known_is (shown_by leaves) homes sound.tabled d ∙ sound.tabled.whole.parents d name inode (shown_at covers leaves sound.placed d name f (sound.placed d f name inode here) ∙ here);
+  placed = λ d f name inode has. sound.placed d f name inode (in_rows d f name inode has);
+  tabled = subst (λ t. IsTabled t homes) (sym (tree_is leaves)) sound.tabled;
+}
+  where
+    in_rows : (d : ℕ) (f : Fragment) (name : List ℕ) (inode : Inode) → map.get (names_at (dentries_of leaves) d f) name ≡ Some inode → map.get (names_in leaves d f) name ≡ Some inode
+    in_rows d f name inode has = ap (λ names. map.get names name) (sym (names_are leaves d f)) ∙ has
+
+-- a directory that comes had no leaves of its own before
+no_row : (homes : Homes) (covers : Covers) (d : ℕ) → IsTable homes covers → is_known homes d ≡ false → map.get covers d ≡ None
+no_row homes covers d table unknown = go (map.get covers d) refl
+  where
+    go : (row : Option (List Fragment)) → map.get covers d ≡ row → row ≡ None
+    go None is = refl
+    go (Some leaves) is = let clash : true ≡ false = sym (table.known d leaves is) ∙ unknown in cc
+
+-- where directories keep their leaves, one that came has the leaf `*`
+pub carried : (homes : Homes) (covers later : Covers) (dentries : Dentries) (tree : Tree) → IsDivided homes covers dentries → KeepLeaves tree covers later → CarryLeaves (tree_of dentries) tree covers later
+carried homes covers later dentries tree divided keep d stands = keep d stands ∙ go (is_directory (tree_of dentries) d) refl
+  where
+    go : (b : Bool) → is_directory (tree_of dentries) d ≡ b → leaves_of covers d ≡ cond b (leaves_of covers d) (root_fragment ∷ [])
+    go true is = refl
+    go false is = ap or_whole (no_row homes covers d divided.table (known_is (tree_of dentries) homes divided.tabled d ∙ is))
