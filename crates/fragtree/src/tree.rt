@@ -46,14 +46,15 @@ impl FragTree {
     }
 
     /// The tree of these leaves, if they are those of a tree: by strictly ascending value, with every 24-bit hash in
-    /// exactly one, and at most 4096. Takes no memory.
-    pub fn from_leaves(leaves: Vec<Frag>) -> Option<FragTree>
-        ensures { SomeIff result (IsTree leaves.items) leaves.items }
+    /// exactly one, and at most 4096. Takes memory for them; only want of it is an error.
+    pub fn from_leaves(alloc: Global, leaves: &[Frag]) -> Result<Option<FragTree>, AllocError>
+        ensures { IfOk result (λ made. SomeIff made (IsTree leaves.now) leaves.now) }
     {
-        if leaves.len() > FragTree::MAX_LEAVES || !do_tile(&leaves) {
-            return None;
+        if leaves.len() > FragTree::MAX_LEAVES || !do_tile(leaves) {
+            return Ok(None);
         }
-        Some(FragTree { leaves })
+        let leaves = Vec::from_slice(alloc, leaves)?;
+        Ok(Some(FragTree { leaves }))
     }
 
     /// How many leaves there are. A directory always has one.

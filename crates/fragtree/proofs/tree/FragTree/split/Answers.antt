@@ -1,6 +1,5 @@
 -- The leaf's children in its place make a tree again.
-use Rattle.std.proofs.Common.{◌+◌, ◌-◌, ◌^◌, ◌≤◌, length, arith}
-use Rattle.fragtree.specs.FragTree.{IsTree, IsSplit}
+use Rattle.fragtree.specs.FragTree.{IsTree, IsSplit, CanSplit}
 use Rattle.fragtree.proofs.Splits.{splits}
 use Rattle.fragtree.proofs.tree.FragTree.split.Goals as goal
 
@@ -8,10 +7,9 @@ made : (c : goal.After-put_children) → IsTree c.put_children.new.leaves.items 
 made c =
     let xs = c.self.inside.leaves.items in
     let place = rw c.deref.ensures.value at c.in-Some.ensures.place in
-    let fits = c.fits_split.ensures.0 c.if-not-fits_split.false in
-    let few : length xs - 1 + 2 ^ c.args.nb ≤ 4096 = omega (arith, c.child_count-more.ensures.count, c.self.inside.leaves.ok.0) in
+    let can : CanSplit xs c.args.f c.args.nb = rw (← c.self.view_is) at c.in_default.ensures.can in
     rw (c.put_children.ensures, c.in_ok-reserve.ensures.items)
-    (splits xs c.args.f c.args.nb c.in-Some.place c.self.invariant place.0 place.1 fits few)
+    (splits xs c.args.f c.args.nb c.in-Some.place c.self.invariant place.0 place.1 can.fits can.few)
 
 pub invariant_of-self-2 : goal.invariant_of-self-2
 invariant_of-self-2 c = (made c).0
