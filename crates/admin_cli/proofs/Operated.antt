@@ -2,7 +2,7 @@
 use Rattle.std.proofs.Common.{◌≡◌, Result, Ok, Err, refl}
 use Rattle.mds_types.specs.declared.refusals.Refusal.{Refusal}
 use Rattle.cluster_core.specs.declared.answers.Answer.{Answer}
-use Rattle.cluster_core.specs.Core.{Kept}
+use Rattle.cluster_core.specs.State.{Kept}
 use Rattle.script_text.specs.declared.output_lines.OutputLine.{OutputLine}
 use Rattle.admin_cli.specs.Execute.{OperatesAfter, ServesLine}
 

@@ -10,7 +10,7 @@ use Rattle.cluster_core.specs.declared.answers.Answer.{Answer}
 use Rattle.cluster_core.specs.declared.answers.Answer.TheVariants.{Nothing, Reply}
 use Rattle.cluster_core.specs.declared.events.Event.{Event}
 use Rattle.cluster_core.specs.declared.events.Event.TheVariants.{Arrive, Serve as ServeEvent, Split as SplitEvent, Merge as MergeEvent}
-use Rattle.cluster_core.specs.Core.{Kept}
+use Rattle.cluster_core.specs.State.{Kept}
 use Rattle.cluster_core.specs.Runs.{StepsBook}
 use Rattle.cluster_core.specs.Sound.{IsSoundBook}
 use Rattle.cluster_core.specs.Splits.{ListsLeaves}
@@ -80,8 +80,8 @@ pub record MergesLine (old new : Kept) (rank : Rank) (dir : Ino) (f : Fragment) 
 
 -- the leaves of a directory were listed, or why not; the book is only read
 abbrev pub ListsLine : Kept → Ino → OutputLine → Type 0
-ListsLine book dir (Frags leaves) = ListsLeaves book.core dir (Ok leaves)
-ListsLine book dir (Refused refusal) = ListsLeaves book.core dir (Err refusal)
+ListsLine book dir (Frags leaves) = ListsLeaves book.core.state dir (Ok leaves)
+ListsLine book dir (Refused refusal) = ListsLeaves book.core.state dir (Err refusal)
 ListsLine book dir (ReplyLine client tid place first reply) = ⊥
 ListsLine book dir Queued = ⊥
 ListsLine book dir NothingLine = ⊥

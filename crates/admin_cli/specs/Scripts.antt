@@ -2,7 +2,7 @@
 use Rattle.std.specs.Prelude.{◌≡◌, ℕ, ◌+◌, ◌^◌, ◌<◌, ◌≤◌, List, [], ◌∷◌, ◌++◌, length, codes, Option, IfSome, Result, Ok, Err}
 use Rattle.std.specs.Io.KnownBytes.{Appends}
 use Rattle.std.specs.FinMap as map
-use Rattle.cluster_core.specs.Core.{Kept}
+use Rattle.cluster_core.specs.State.{Kept, new_state}
 use Rattle.script_text.specs.declared.line_buffer.TheConstants.{MAX_LINE_LEN}
 use Rattle.script_text.specs.declared.lines.Line.{Line}
 use Rattle.script_text.specs.declared.lines.Line.TheVariants as line
@@ -83,15 +83,11 @@ pub record RunsInput (old : Admin) (known before after : Option (List ℕ)) (res
   pub read : IfSome known (λ bytes. lines ≡ lines_of bytes)
   pub script : RunsScript old lines before after result
 
--- a book as `format` makes it: an empty tree, of which no directory's leaves were split, an empty history, nothing that waits or is kept, and the numbers of rank 0
+-- a book as `format` makes it: an empty tree, an empty history, and the state of a new cluster
 pub record IsFormatted (book : Kept) : Type 0 where
   pub opening : book.opening ≡ map.empty
   pub history : book.history ≡ []
-  pub shown : book.core.shown ≡ map.empty
-  pub leaves : book.core.covers ≡ map.empty
-  pub waiting : book.core.inbox ≡ []
-  pub numbers : book.core.numbers ≡ record { rank = 0; next = 2 ^ 40 }
-  pub sessions : book.core.sessions ≡ map.empty
+  pub state : book.core.state ≡ new_state
 
 -- a whole script, from a new book, with no line read yet
 pub record RunsNew (known before after : Option (List ℕ)) (result : Result (Unit {0}) ScriptFault) : Type 0 where

@@ -53,7 +53,7 @@ same_under (e ∷ es) = go (map.entries (names_with e.1)) refl (same_under es)
 
 -- the tree that leaves show is the one that their names show
 pub tree_is : (leaves : Leaves) → tree_of (dentries_of leaves) ≡ shown_by leaves
-unfolding tree_of, dentries_of, shown_by
+unfolding tree_of dentries_of shown_by
 tree_is leaves =
     ap (λ es. map.from_entries (entries_under es)) (entries-from_sorted leaf_cmp (named_leaves (map.entries leaves)) (named_sorted leaves))
     ∙ ap map.from_entries (same_under (map.entries leaves))

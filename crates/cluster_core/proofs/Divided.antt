@@ -10,11 +10,13 @@ use Rattle.namespace_ops.specs.PlainFrags.{IsTabled}
 use Rattle.namespace_ops.specs.TableLaws.{known_is}
 use Rattle.leaf_maps.specs.Leaves.{Leaves, names_in, shown_by}
 use Rattle.leaf_maps.specs.LeafLaws.{shown_at}
+use Rattle.leaf_maps.specs.Changes.{HaveSameNames}
+use Rattle.leaf_maps.specs.ShownLaws.{placed_still}
 use Rattle.cluster_core.specs.State.{Dentries, names_at, tree_of}
 use Rattle.cluster_core.specs.Serve.{CarryLeaves}
 use Rattle.cluster_core.specs.Sound.{IsDivided}
 use Rattle.cluster_core.specs.LeafFrags.{IsSoundTree, dentries_of}
-use Rattle.cluster_core.proofs.Dentries.{names_are, tree_is}
+use Rattle.cluster_core.proofs.Dentries.{names_are, same_dentries, tree_is}
 
 pub divided_of : (homes : Homes) (covers : Covers) (leaves : Leaves) → IsSoundTree homes covers leaves → IsDivided homes covers (dentries_of leaves)
 divided_of homes covers leaves sound = record {
@@ -44,3 +46,19 @@ carried homes covers later dentries tree divided keep d stands = keep d stands �
     go : (b : Bool) → is_directory (tree_of dentries) d ≡ b → leaves_of covers d ≡ cond b (leaves_of covers d) (root_fragment ∷ [])
     go true is = refl
     go false is = ap or_whole (no_row homes covers d divided.table (known_is (tree_of dentries) homes divided.tabled d ∙ is))
+
+pub carried_leaves : (homes : Homes) (covers later : Covers) (leaves : Leaves) (tree : Tree) → IsDivided homes covers (dentries_of leaves) → KeepLeaves tree covers later → CarryLeaves (shown_by leaves) tree covers later
+carried_leaves homes covers later leaves tree divided keep = rw (← tree_is leaves) (carried homes covers later (dentries_of leaves) tree divided keep)
+
+-- and show the same tree
+pub shown_names : (old new : Leaves) → HaveSameNames old new → shown_by new ≡ shown_by old
+shown_names old new same = sym (tree_is new) ∙ ap tree_of (same_dentries old new same) ∙ tree_is old
+
+-- names that stay, with what stands beside them, stay sound
+pub sound_names : (homes now_homes : Homes) (covers later : Covers) (old new : Leaves) → IsSoundTree homes covers old → HaveSameNames old new → now_homes ≡ homes → later ≡ covers → IsSoundTree now_homes later new
+sound_names homes now_homes covers later old new sound same homes_same covers_same =
+    rw (homes_same, covers_same) (record {
+      table = sound.table;
+      placed = placed_still covers old new same sound.placed;
+      tabled = subst (λ t. IsTabled t homes) (sym (shown_names old new same)) sound.tabled;
+    })

@@ -6,5 +6,6 @@ pub mod LeafChanges
 pub mod Offered
 pub mod Recovered
 pub mod RunLaws
+pub mod Served
 pub mod Shown
 pub mod Stepped

@@ -37,7 +37,7 @@ applied old new past now request rest answer h =
     record {
       grows = (entry ∷ [], h.appended);
       told =
-          rw h.answered (record {
+          subst (λ a. IsOfHistory now (Ok a)) (sym h.answered) (record {
             in_range = rw h.appended (omega (arith, length-append past (entry ∷ [])));
             client_is = λ e. ap (λ (x : Entry). x.client) (last e);
             tid_is = λ e. ap (λ (x : Entry). x.tid) (last e);
@@ -58,13 +58,12 @@ repeated old new past now request rest answer h =
     let pair = λ (e : Entry). both_true _ _ (h.kept.at.pair e) in
     record {
       grows = unchanged past now h.out.same;
-      told =
-          rw (h.out.same, h.answered (entry_of old request)) (record {
-            in_range = h.kept.at.in_range;
-            client_is = λ e. eqb-true _ _ (pair e).0;
-            tid_is = λ e. eqb-true _ _ (pair e).1;
-            reply_is = λ e. one_reply answer _ _ _ _ _ (h.answered e) (h.answered (entry_of old request));
-          });
+      told = subst (λ a. IsOfHistory now (Ok a)) (sym (h.answered (entry_of old request))) (rw h.out.same (record {
+        in_range = h.kept.at.in_range;
+        client_is = λ e. eqb-true _ _ (pair e).0;
+        tid_is = λ e. eqb-true _ _ (pair e).1;
+        reply_is = λ e. one_reply answer _ _ _ _ _ (h.answered e) (h.answered (entry_of old request));
+      }));
     }
 
 module _ (old new : State) (past now : List Entry) where
@@ -90,9 +89,9 @@ module _ (old new : State) (past now : List Entry) where
   served_inbox result [] h = subst (IsStepOf past now) (sym h.0) (left InboxEmpty h.1)
   served_inbox result (request ∷ rest) h = served request rest result h
 
-  done_unseen : {Done : Type 0} {Refuses : Refusal → Type 0} (result : Result Answer Refusal) → DoesUnseen old new past now Done Refuses result → IsStepOf past now result
-  done_unseen (Ok answer) h = quiet answer h.0 h.2.same
-  done_unseen (Err reason) h = left reason h.1
+  done_unseen : (Done : Type 0) (Refuses : Refusal → Type 0) (result : Result Answer Refusal) → DoesUnseen old new past now Done Refuses result → IsStepOf past now result
+  done_unseen Done Refuses (Ok answer) h = quiet answer h.0 h.2.same
+  done_unseen Done Refuses (Err reason) h = left reason h.1
 
   at_rank : (here : Bool) (result : Result Answer Refusal) {done : Type 0} → (done → IsStepOf past now result) → MatchBool here done ((result ≡ Err NotAuthority) × IsLeft old new past now) → IsStepOf past now result
   at_rank true result go h = go h
@@ -102,8 +101,8 @@ module _ (old new : State) (past now : List Entry) where
   pub step_of : (result : Result Answer Refusal) (event : Event) → Steps old new past now result event → IsStepOf past now result
   step_of result (Arrive rank request) h = at_rank (nat_lt rank.0 ranks) result (arrived request result) h
   step_of result (Serve rank) h = at_rank (nat_lt rank.0 ranks) result (served_inbox result old.inbox) h
-  step_of result (Split rank dir f nb) h = at_rank (nat_lt rank.0 ranks) result (done_unseen result) h
-  step_of result (Merge rank dir f) h = at_rank (nat_lt rank.0 ranks) result (done_unseen result) h
+  step_of result (Split rank dir f nb) h = at_rank (nat_lt rank.0 ranks) result (done_unseen _ _ result) h
+  step_of result (Merge rank dir f) h = at_rank (nat_lt rank.0 ranks) result (done_unseen _ _ result) h
 
 -- what stands in a history stands in each that begins with it
 still_stands : (past now : List Entry) (client tid place : ℕ) (reply : Replied) → BeginsWith now past → StandsAt past client tid place reply → StandsAt now client tid place reply

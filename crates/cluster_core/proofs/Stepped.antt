@@ -67,16 +67,16 @@ module _ (opening : Tree) (past now : List Entry) (old new : State) (sound : IsS
       kept = rw (ap (λ (s : State). s.sessions) h.left, h.same) sound.kept;
     }
 
-    done_unseen : {Done : Type 0} {Refuses : Refusal → Type 0} (result : Result Answer Refusal) → DoesUnseen old new past now Done Refuses result → IsSound opening now new
-    done_unseen (Ok answer) h = unseen h.2
-    done_unseen (Err reason) h = sound-left h.1
+    done_unseen : (Done : Type 0) (Refuses : Refusal → Type 0) (result : Result Answer Refusal) → DoesUnseen old new past now Done Refuses result → IsSound opening now new
+    done_unseen Done Refuses (Ok answer) h = unseen h.2
+    done_unseen Done Refuses (Err reason) h = sound-left h.1
 
     -- every step keeps a book sound
     pub sound-step : (result : Result Answer Refusal) (event : Event) → Steps old new past now result event → IsSound opening now new
     sound-step result (Arrive rank request) h = sound-arrived request (nat_lt rank.0 ranks) result h
     sound-step result (Serve rank) h = at_rank (nat_lt rank.0 ranks) result (served_inbox result old.inbox) h
-    sound-step result (Split rank dir f nb) h = at_rank (nat_lt rank.0 ranks) result (done_unseen result) h
-    sound-step result (Merge rank dir f) h = at_rank (nat_lt rank.0 ranks) result (done_unseen result) h
+    sound-step result (Split rank dir f nb) h = at_rank (nat_lt rank.0 ranks) result (done_unseen _ _ result) h
+    sound-step result (Merge rank dir f) h = at_rank (nat_lt rank.0 ranks) result (done_unseen _ _ result) h
 
 -- no number of a rank is used in an empty book
 unused-empty : (n : ℕ) → 2 ^ 40 ≤ n → IsUsed finmap.empty [] n → ⊥

@@ -34,12 +34,11 @@ named_leaves (leaf ∷ rest) = with_names leaf.0 (contents (slice_cmp nat_cmp) l
 unfoldable pub dentries_of : Leaves → Dentries
 dentries_of leaves = map.from_sorted (named_leaves (map.entries leaves))
 
--- where each directory stands, the leaves of each, the names of each leaf, and the same with the room for more; how many homes and rows of
--- leaves still fit with no growth, and the name that is ready for a directory's home
+-- where each directory stands, the leaves of each, the names of each leaf with the room for more, how many homes and rows of leaves still fit
+-- with no growth, and the name that is ready for a directory's home
 pub record Fragments : Type 0 where
   pub homes : Homes
   pub covers : Covers
-  pub dentries : Dentries
   pub leaves : Leaves
   pub dirs_left : ℕ
   pub trees_left : ℕ
@@ -47,17 +46,17 @@ pub record Fragments : Type 0 where
 
 -- fragments of this table and these leaves
 abbrev pub fragments : Table → Leaves → Option (List ℕ) → Fragments
-fragments dirs leaves spare = record { homes = dirs.homes; covers = dirs.trees; dentries = dentries_of leaves; leaves = leaves; dirs_left = dirs.room; trees_left = dirs.tree_room; spare = spare }
+fragments dirs leaves spare = record { homes = dirs.homes; covers = dirs.trees; leaves = leaves; dirs_left = dirs.room; trees_left = dirs.tree_room; spare = spare }
 
 -- the state of a cluster with these fragments
 abbrev pub state_of : Fragments → Supply → List Request → Sessions → State
-state_of f numbers inbox sessions = record { homes = f.homes; covers = f.covers; dentries = f.dentries; numbers = numbers; inbox = inbox; sessions = sessions }
+state_of f numbers inbox sessions = record { homes = f.homes; covers = f.covers; dentries = dentries_of f.leaves; numbers = numbers; inbox = inbox; sessions = sessions }
 
 -- what reads and refusals keep of them
 pub record IsAsBefore (old new : Fragments) : Type 0 where
   pub homes : new.homes ≡ old.homes
   pub covers : new.covers ≡ old.covers
-  pub dentries : new.dentries ≡ old.dentries
+  pub dentries : dentries_of new.leaves ≡ dentries_of old.leaves
 
 -- what holds of every cluster's fragments
 pub record IsSoundTree (homes : Homes) (covers : Covers) (leaves : Leaves) : Type 0 where

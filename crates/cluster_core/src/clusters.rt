@@ -138,18 +138,14 @@ impl Cluster {
         if !is_rank(rank) {
             return Err(Refusal::NotAuthority);
         }
-        self.frags.split(alloc, ino, frag, bits)?;
+        if let Err(refusal) = self.frags.split(alloc, ino, frag, bits) {
+            return Err(refusal);
+        }
         Ok(Answer::Nothing)
     }
 
     // Leaves of a directory are merged. The tree that the cluster shows stays.
-    fn merge(
-        &mut self,
-        alloc: Global,
-        rank: Rank,
-        ino: Ino,
-        frag: Frag,
-    ) -> Result<Answer, Refusal>
+    fn merge(&mut self, alloc: Global, rank: Rank, ino: Ino, frag: Frag) -> Result<Answer, Refusal>
         requires { IsDivided self.old.state.homes self.old.state.covers self.old.state.dentries }
         ensures merged { (past : List Applied) → AtRank self.old.state self.new.state past past rank result (Merges self.old.state self.new.state past past ino frag result) }
         ensures divided { IsDivided self.new.state.homes self.new.state.covers self.new.state.dentries }
@@ -157,7 +153,9 @@ impl Cluster {
         if !is_rank(rank) {
             return Err(Refusal::NotAuthority);
         }
-        self.frags.merge(alloc, ino, frag)?;
+        if let Err(refusal) = self.frags.merge(alloc, ino, frag) {
+            return Err(refusal);
+        }
         Ok(Answer::Nothing)
     }
 

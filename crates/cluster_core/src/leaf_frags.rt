@@ -5,12 +5,11 @@ ghost use Rattle.mds_types.specs.declared.refusals.Refusal.TheVariants.{NoMemory
 ghost use Rattle.mds_types.specs.Tree.{at};
 ghost use Rattle.leaf_maps.specs.Leaves.{ArePlaced, shown_by};
 ghost use Rattle.leaf_maps.specs.Changes.{HaveSameNames};
-ghost use Rattle.namespace_ops.specs.Changes.{IsReadyFor};
+ghost use Rattle.namespace_ops.specs.Changes.{IsReadyFor, KeepLeaves, MayChange, changed};
 ghost use Rattle.namespace_ops.specs.Planned.{IsReadyToChange, after_plan};
-ghost use Rattle.cluster_core.specs.State.{tree_of};
 ghost use Rattle.cluster_core.specs.Serve.{CarryLeaves};
+ghost use Rattle.cluster_core.specs.LeafFrags.{IsReady, dentries_of, fragments};
 ghost use Rattle.cluster_core.specs.Sound.{IsDivided};
-ghost use Rattle.cluster_core.specs.LeafFrags.{IsReady, fragments};
 
 use crate::leaf_changes::{add_entry, move_entry, remove_entry, set_entry};
 use crate::picks::{leaf_of, look_at, make_room};
@@ -56,7 +55,7 @@ impl LeafFrags {
     pub fn new(alloc: Global) -> LeafFrags
         ensures homes { result.homes ≡ map.empty }
         ensures covers { result.covers ≡ map.empty }
-        ensures dentries { result.dentries ≡ map.empty }
+        ensures names { result.leaves ≡ map.empty }
     {
         LeafFrags {
             leaves: LeafMaps::new(alloc),
@@ -70,13 +69,36 @@ impl LeafFrags {
 impl LeafFrags {
     /// Makes a change that was planned. It can't fail.
     pub fn carry_out(&mut self, change: Option<Change>)
-        requires { IsReadyToChange (tree_of self.old.dentries) (IsReady self.old) change }
-        ensures tree { tree_of self.new.dentries ≡ after_plan (tree_of self.old.dentries) change }
-        ensures leaves { CarryLeaves (tree_of self.old.dentries) (tree_of self.new.dentries) self.old.covers self.new.covers }
-        ensures divided { IsDivided self.new.homes self.new.covers self.new.dentries }
+        requires ready { IsReadyToChange (shown_by self.old.leaves) (IsReady self.old) change }
+        requires divided { IsDivided self.old.homes self.old.covers (dentries_of self.old.leaves) }
+        ensures tree { shown_by self.new.leaves ≡ after_plan (shown_by self.old.leaves) change }
+        ensures leaves { CarryLeaves (shown_by self.old.leaves) (shown_by self.new.leaves) self.old.covers self.new.covers }
+        ensures divided { IsDivided self.new.homes self.new.covers (dentries_of self.new.leaves) }
     {
         if let Some(change) = change {
-            self.change(change);
+            self.apply(change);
+        }
+    }
+
+    // Makes a change that may be made and was made ready.
+    fn apply(&mut self, change: Change)
+        requires ready { IsReady self.old change }
+        requires may { MayChange (shown_by self.old.leaves) change }
+        ensures changed { shown_by self.new.leaves ≡ changed (shown_by self.old.leaves) change }
+        ensures leaves { KeepLeaves (shown_by self.new.leaves) self.old.covers self.new.covers }
+        ensures divided { IsDivided self.new.homes self.new.covers (dentries_of self.new.leaves) }
+    {
+        let LeafFrags {
+            leaves,
+            dirs,
+            spare,
+            ..
+        } = self;
+        match change {
+            Change::Add { place, inode } => add_entry(leaves, dirs, spare, place, inode),
+            Change::Set { place, inode } => set_entry(leaves, dirs, place, inode),
+            Change::Remove { place } => remove_entry(leaves, dirs, &place),
+            Change::Move { from, to } => move_entry(leaves, dirs, spare, &from, to),
         }
     }
 }
@@ -94,10 +116,9 @@ impl Frags for LeafFrags {
     ghost use Rattle.std.proofs.Common.{◌∙◌};
     ghost use Rattle.mds_types.specs.declared.refusals.Refusal.TheVariants.{NoMemory};
     ghost use Rattle.namespace_ops.specs.Reasons.{refused_for_memory};
-    ghost use Rattle.cluster_core.specs.State.{tree_of};
     ghost use Rattle.cluster_core.specs.LeafFrags.{IsAsBefore, IsReady as IsReadyIn};
 
-    ghost content = { λ f. tree_of f.dentries };
+    ghost content = { λ f. shown_by f.leaves };
 
     ghost covers = { λ f. f.covers };
 
@@ -160,18 +181,7 @@ impl Frags for LeafFrags {
     }
 
     fn change(&mut self, change: Change) {
-        let LeafFrags {
-            leaves,
-            dirs,
-            spare,
-            ..
-        } = self;
-        match change {
-            Change::Add { place, inode } => add_entry(leaves, dirs, spare, place, inode),
-            Change::Set { place, inode } => set_entry(leaves, dirs, place, inode),
-            Change::Remove { place } => remove_entry(leaves, dirs, &place),
-            Change::Move { from, to } => move_entry(leaves, dirs, spare, &from, to),
-        }
+        self.apply(change)
     }
 }
 
@@ -199,7 +209,6 @@ fn make_ready(
     spare: &mut Option<Name>,
     op: &Op,
 ) -> Result<(), Refusal>
-    requires { ArePlaced dirs.old.trees leaves.old }
     ensures ready { OnOk result (IsReadyFor (IsReady (fragments dirs.new leaves.new spare.new)) op.now) }
     ensures names { HaveSameNames leaves.old leaves.new }
     ensures homes { dirs.new.homes ≡ dirs.old.homes }

@@ -7,8 +7,8 @@ ghost use Rattle.namespace_ops.specs.Planned.{IsReadyToChange, after_plan};
 ghost use Rattle.namespace_ops.specs.Served.{IsRefused};
 ghost use Rattle.sessions.specs.Table.{IsTableOf, noted, trimmed};
 ghost use Rattle.sessions.specs.Rooms.{IsReady, table};
-ghost use Rattle.cluster_core.specs.State.{tree_of};
-ghost use Rattle.cluster_core.specs.LeafFrags.{IsReady as IsReadyIn, state_of};
+ghost use Rattle.leaf_maps.specs.Leaves.{shown_by};
+ghost use Rattle.cluster_core.specs.LeafFrags.{IsReady as IsReadyIn, dentries_of, state_of};
 ghost use Rattle.cluster_core.specs.Sound.{IsDivided};
 ghost use Rattle.cluster_core.specs.Serve.{CarryLeaves, ServesInbox, RepeatsFront};
 ghost use Rattle.cluster_core.specs.Steps.{MayRefuse};
@@ -83,12 +83,13 @@ pub fn commit(
     request: Request,
     prepared: Prepared,
 ) -> Answer
-    requires ready { IsReadyToChange (tree_of frags.old.dentries) (IsReadyIn frags.old) prepared.plan.change }
+    requires ready { IsReadyToChange (shown_by frags.old.leaves) (IsReadyIn frags.old) prepared.plan.change }
     requires room { vec_len history.old < vec_capacity history.old }
     requires reserved { IsReady sessions.old request.client }
-    ensures tree { tree_of frags.new.dentries ≡ after_plan (tree_of frags.old.dentries) prepared.plan.change }
-    ensures leaves { CarryLeaves (tree_of frags.old.dentries) (tree_of frags.new.dentries) frags.old.covers frags.new.covers }
-    ensures divided { IsDivided frags.new.homes frags.new.covers frags.new.dentries }
+    requires divided { IsDivided frags.old.homes frags.old.covers (dentries_of frags.old.leaves) }
+    ensures tree { shown_by frags.new.leaves ≡ after_plan (shown_by frags.old.leaves) prepared.plan.change }
+    ensures leaves { CarryLeaves (shown_by frags.old.leaves) (shown_by frags.new.leaves) frags.old.covers frags.new.covers }
+    ensures divided { IsDivided frags.new.homes frags.new.covers (dentries_of frags.new.leaves) }
     ensures appended { history.new.items ≡ history.old.items ++ record {
       client = request.client;
       tid = request.tid;
@@ -98,8 +99,8 @@ pub fn commit(
       reply = prepared.plan.reply;
     } ∷ [] }
     ensures drawn { numbers.new ≡ prepared.numbers }
-    ensures known { table sessions.new ≡ trimmed (noted (table sessions.old) request.client request.tid request.oldest (vec_len history.old) prepared.kept) request.client }
-    ensures answer { result ≡ Answer.Reply request.client request.tid (vec_len history.old) true prepared.answer }
+    ensures known { table sessions.new ≡ trimmed (noted (table sessions.old) request.client request.tid request.oldest (length history.old.items) prepared.kept) request.client }
+    ensures answer { result ≡ Answer.Reply request.client request.tid (length history.old.items) true prepared.answer }
 {
     let place = history.len();
     let Request {
@@ -144,11 +145,11 @@ pub fn serve_front(
     history: &mut Vec<Entry>,
 ) -> Result<Answer, Refusal>
     requires known { IsTableOf history.old.items (table sessions.old) }
-    requires offered { IsOffered (tree_of frags.old.dentries) (offer numbers.old) }
-    requires divided { IsDivided frags.old.homes frags.old.covers frags.old.dentries }
+    requires offered { IsOffered (shown_by frags.old.leaves) (offer numbers.old) }
+    requires divided { IsDivided frags.old.homes frags.old.covers (dentries_of frags.old.leaves) }
     ensures served { ServesInbox (state_of frags.old numbers.old inbox.old (table sessions.old)) (state_of frags.new numbers.new inbox.new (table sessions.new))
         history.old.items history.new.items MayRefuse result inbox.old }
-    ensures divided { IsDivided frags.new.homes frags.new.covers frags.new.dentries }
+    ensures divided { IsDivided frags.new.homes frags.new.covers (dentries_of frags.new.leaves) }
 {
     let Some(front) = inbox.front() else {
         return Err(Refusal::InboxEmpty)

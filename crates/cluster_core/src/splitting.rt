@@ -5,7 +5,9 @@ ghost use Rattle.mds_types.specs.declared.refusals.Refusal.TheVariants.{NoMemory
 ghost use Rattle.fragtree.specs.FragTree.{RefusesMerge, RefusesSplit};
 ghost use Rattle.inode_table.specs.Dirs.{is_known, leaves_of};
 ghost use Rattle.leaf_maps.specs.Leaves.{shown_by};
-ghost use Rattle.cluster_core.specs.LeafFrags.{IsSoundTree};
+ghost use Rattle.leaf_maps.specs.Changes.{HaveSameNames};
+ghost use Rattle.cluster_core.specs.LeafFrags.{IsAsBefore, IsSoundTree, dentries_of};
+ghost use Rattle.cluster_core.specs.Sound.{IsDivided};
 ghost use Rattle.cluster_core.specs.Splits.{IsMergedCover, IsMergeOf, IsSplitCover, IsSplitOf, MayRefuseMerge, MayRefuseSplit};
 
 use crate::leaf_frags::LeafFrags;
@@ -21,12 +23,12 @@ impl LeafFrags {
     /// picks. Refused `NoSuchFrag`, `BadSplit`, `TooManyFrags`, or else for want of memory, and then all is left as it was:
     /// the new leaves and copies of their names are made before the first change.
     pub fn split(&mut self, alloc: Global, dir: Ino, frag: Frag, bits: u8) -> Result<(), Refusal>
-        ensures split { OnOk result (IsSplitOf (tree_of self.old.dentries) self.old.covers self.new.covers dir frag bits) }
-        ensures refused { IfErr result (MayRefuseSplit (tree_of self.old.dentries) self.old.covers dir frag bits) }
-        ensures tree { tree_of self.new.dentries ≡ tree_of self.old.dentries }
+        ensures split { OnOk result (IsSplitOf (shown_by self.old.leaves) self.old.covers self.new.covers dir frag bits) }
+        ensures refused { IfErr result (MayRefuseSplit (shown_by self.old.leaves) self.old.covers dir frag bits) }
+        ensures tree { shown_by self.new.leaves ≡ shown_by self.old.leaves }
         ensures homes { self.new.homes ≡ self.old.homes }
         ensures left { OnErr result (IsAsBefore self.old self.new) }
-        ensures divided { IsDivided self.new.homes self.new.covers self.new.dentries }
+        ensures divided { IsDivided self.new.homes self.new.covers (dentries_of self.new.leaves) }
     {
         if !self.dirs.contains(dir) {
             return Err(Refusal::NoSuchFrag);
@@ -42,12 +44,12 @@ impl LeafFrags {
     /// Merges the leaves of a directory properly inside a fragment into it, with their names. Refused `NoSuchFrag`,
     /// `TooManyFrags`, or else for want of memory, and then all is left as it was.
     pub fn merge(&mut self, alloc: Global, dir: Ino, frag: Frag) -> Result<(), Refusal>
-        ensures merged { OnOk result (IsMergeOf (tree_of self.old.dentries) self.old.covers self.new.covers dir frag) }
-        ensures refused { IfErr result (MayRefuseMerge (tree_of self.old.dentries) self.old.covers dir frag) }
-        ensures tree { tree_of self.new.dentries ≡ tree_of self.old.dentries }
+        ensures merged { OnOk result (IsMergeOf (shown_by self.old.leaves) self.old.covers self.new.covers dir frag) }
+        ensures refused { IfErr result (MayRefuseMerge (shown_by self.old.leaves) self.old.covers dir frag) }
+        ensures tree { shown_by self.new.leaves ≡ shown_by self.old.leaves }
         ensures homes { self.new.homes ≡ self.old.homes }
         ensures left { OnErr result (IsAsBefore self.old self.new) }
-        ensures divided { IsDivided self.new.homes self.new.covers self.new.dentries }
+        ensures divided { IsDivided self.new.homes self.new.covers (dentries_of self.new.leaves) }
     {
         if !self.dirs.contains(dir) {
             return Err(Refusal::NoSuchFrag);
@@ -72,6 +74,7 @@ fn split_cover(
     ensures ok { IfOk result (λ covers. (covers.0 ≡ leaves_of dirs.now.trees dir.0) × IsSplitCover (leaves_of dirs.now.trees dir.0) covers.1 frag bits) }
     ensures err { IfErr result (λ reason. RefusesSplit (leaves_of dirs.now.trees dir.0) frag bits reason) }
 {
+    dirs.check_split(dir, frag, bits)?;
     let from = dirs.tree(alloc, dir)?;
     let mut to = from.try_clone()?;
     to.split(frag, bits)?;
@@ -88,6 +91,7 @@ fn merged_cover(
     ensures ok { IfOk result (λ covers. (covers.0 ≡ leaves_of dirs.now.trees dir.0) × IsMergedCover (leaves_of dirs.now.trees dir.0) covers.1 frag) }
     ensures err { IfErr result (λ reason. RefusesMerge (leaves_of dirs.now.trees dir.0) frag reason) }
 {
+    dirs.check_merge(dir, frag)?;
     let from = dirs.tree(alloc, dir)?;
     let mut to = from.try_clone()?;
     to.merge(frag)?;

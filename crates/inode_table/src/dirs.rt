@@ -4,7 +4,7 @@ ghost use Rattle.std.specs.Option.{option_copied};
 ghost use Rattle.std.specs.FinMap as map;
 ghost use Rattle.mds_types.specs.declared.refusals.Refusal.TheVariants.{NoMemory};
 ghost use Rattle.mds_types.specs.Frag.{root_fragment};
-ghost use Rattle.fragtree.specs.FragTree.{IsPick};
+ghost use Rattle.fragtree.specs.FragTree.{CanMerge, CanSplit, IsPick, RefusesMerge, RefusesSplit};
 ghost use Rattle.inode_table.specs.Dirs.{IsAbove, IsChildless, IsTable, MayCome, MayMove, is_known, leaves_of};
 
 use crate::homes::Home;
@@ -87,6 +87,28 @@ impl Dirs {
         match self.trees.get(&dir.0) {
             Some(tree) => tree.pick(hash),
             None => Frag::ROOT,
+        }
+    }
+
+    /// Whether a leaf of a directory can be split by so many bits. Refused as the split is where it can't be. Takes no memory.
+    pub fn check_split(&self, dir: Ino, frag: Frag, bits: u8) -> Result<(), Refusal>
+        ensures ok { OnOk result (CanSplit (leaves_of self.now.trees dir.0) frag bits) }
+        ensures err { IfErr result (λ reason. RefusesSplit (leaves_of self.now.trees dir.0) frag bits reason) }
+    {
+        match self.trees.get(&dir.0) {
+            Some(tree) => tree.check_split(frag, bits),
+            None => check_split_of_whole(frag, bits),
+        }
+    }
+
+    /// Whether leaves of a directory can be merged into a fragment. Refused as the merge is where they can't be. Takes no memory.
+    pub fn check_merge(&self, dir: Ino, frag: Frag) -> Result<(), Refusal>
+        ensures ok { OnOk result (CanMerge (leaves_of self.now.trees dir.0) frag) }
+        ensures err { IfErr result (λ reason. RefusesMerge (leaves_of self.now.trees dir.0) frag reason) }
+    {
+        match self.trees.get(&dir.0) {
+            Some(tree) => tree.check_merge(frag),
+            None => Err(Refusal::NoSuchFrag),
         }
     }
 
@@ -185,4 +207,18 @@ impl Dirs {
         }
         false
     }
+}
+
+// Whether the one leaf `*` can be split at a fragment by so many bits.
+fn check_split_of_whole(frag: Frag, bits: u8) -> Result<(), Refusal>
+    ensures ok { OnOk result (CanSplit (root_fragment ∷ []) frag bits) }
+    ensures err { IfErr result (RefusesSplit (root_fragment ∷ []) frag bits) }
+{
+    if frag != Frag::ROOT {
+        return Err(Refusal::NoSuchFrag);
+    }
+    if bits < 1 || bits > FragTree::MAX_SPLIT_BITS {
+        return Err(Refusal::BadSplit);
+    }
+    Ok(())
 }

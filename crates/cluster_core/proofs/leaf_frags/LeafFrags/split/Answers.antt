@@ -1,6 +1,9 @@
-use Rattle.std.proofs.Common.{sym, ◌∙◌}
+use Rattle.std.proofs.Common.{refl, sym, ◌∙◌}
+use Rattle.fragtree.specs.FragTree.{RefusesSplit}
+use Rattle.inode_table.specs.Dirs.{leaves_of}
 use Rattle.namespace_ops.specs.TableLaws.{known_is}
-use Rattle.cluster_core.proofs.Recovered.{refuses_no, refuses_yes, no_memory, covered}
+use Rattle.cluster_core.proofs.Recovered.{refuses_no, refuses_yes, no_memory, covered, left_alone}
+use Rattle.cluster_core.proofs.Divided.{divided_of}
 use Rattle.cluster_core.proofs.leaf_frags.LeafFrags.split.Goals as goal
 
 pub returns-then-not-contains-clause-refused : goal.returns-then-not-contains-clause-refused
@@ -14,4 +17,18 @@ returns-clause-split c =
     rw (← c.self.view_is) (covered _ _ _ _ _ _ c.set_leaves.result (sym (known_is _ _ c.self.invariant.tabled c.args.dir.0) ∙ sym c.contains.ensures.known ∙ c.if-not-contains.false) c.in-Ok.ensures.ok.1 c.set_leaves.ensures.set)
 
 pub returns-clause-refused : goal.returns-clause-refused
-returns-clause-refused c = rw (← c.self.view_is) (no_memory _ _ c.set_leaves.result (sym (known_is _ _ c.self.invariant.tabled c.args.dir.0) ∙ sym c.contains.ensures.known ∙ c.if-not-contains.false) c.set_leaves.ensures.err)
+returns-clause-refused c =
+    rw (← c.self.view_is)
+    (no_memory _ (RefusesSplit (leaves_of c.self.inside.dirs.trees c.args.dir.0) c.args.frag c.args.bits) c.set_leaves.result (sym (known_is _ _ c.self.invariant.tabled c.args.dir.0) ∙ sym c.contains.ensures.known ∙ c.if-not-contains.false) c.in-Ok.ensures.ok.1.can c.set_leaves.ensures.err)
+
+pub returns-then-not-contains-clause-divided : goal.returns-then-not-contains-clause-divided
+returns-then-not-contains-clause-divided c = rw (← c.self.view_is) (divided_of _ _ _ c.self.invariant)
+
+pub returns-in-Err-clause-divided : goal.returns-in-Err-clause-divided
+returns-in-Err-clause-divided c = divided_of _ _ _ c.self.invariant
+
+pub returns-clause-divided : goal.returns-clause-divided
+returns-clause-divided c = divided_of _ _ _ c.set_leaves.ensures.sound
+
+pub returns-clause-left : goal.returns-clause-left
+returns-clause-left c = rw (← c.self.view_is) (left_alone _ _ _ _ _ _ _ c.set_leaves.result c.set_leaves.ensures.homes c.set_leaves.ensures.left c.set_leaves.ensures.names _ refl refl refl refl refl refl)

@@ -1,7 +1,8 @@
 use Rattle.std.proofs.Common.{refl}
 use Rattle.namespace_ops.specs.TableLaws.{leaves_same}
-use Rattle.cluster_core.proofs.leaf_frags.LeafFragsFrags.change.Goals.{in-Add, in-Set, in-Remove, in-Move}
-use Rattle.cluster_core.proofs.leaf_frags.LeafFragsFrags.change.Goals as goal
+use Rattle.cluster_core.proofs.Divided.{divided_of}
+use Rattle.cluster_core.proofs.leaf_frags.LeafFrags.apply.Goals.{in-Add, in-Set, in-Remove, in-Move}
+use Rattle.cluster_core.proofs.leaf_frags.LeafFrags.apply.Goals as goal
 
 pub invariant_of-self : goal.invariant_of-self
 invariant_of-self c =
@@ -21,3 +22,12 @@ returns-clause-leaves c =
       | in-Remove w ↦ rw w.self-inside-is w.remove_entry.ensures.leaves
       | in-Move w ↦ rw w.self-inside-is w.move_entry.ensures.leaves
     ])
+
+pub returns-clause-divided : goal.returns-clause-divided
+returns-clause-divided c =
+    elim c.match-change.branch [
+      | in-Add w ↦ rw w.self-inside-is (divided_of _ _ _ w.add_entry.ensures.sound)
+      | in-Set w ↦ rw w.self-inside-is (divided_of _ _ _ w.set_entry.ensures.sound)
+      | in-Remove w ↦ rw w.self-inside-is (divided_of _ _ _ w.remove_entry.ensures.sound)
+      | in-Move w ↦ rw w.self-inside-is (divided_of _ _ _ w.move_entry.ensures.sound)
+    ]

@@ -1,0 +1,20 @@
+use Rattle.std.proofs.Common.{ap, ◌∙◌}
+use Rattle.leaf_maps.specs.Leaves.{shown_by}
+use Rattle.cluster_core.specs.LeafFrags.{Fragments}
+use Rattle.cluster_core.proofs.Dentries.{same_dentries}
+use Rattle.cluster_core.proofs.Divided.{shown_names, sound_names}
+use Rattle.cluster_core.proofs.leaf_frags.LeafFragsFrags.ready.Goals as goal
+
+pub invariant_of-self : goal.invariant_of-self
+invariant_of-self c = sound_names _ _ _ _ _ _ c.self.invariant c.make_ready.ensures.names c.make_ready.ensures.homes c.make_ready.ensures.trees
+
+pub returns-clause-same : goal.returns-clause-same
+returns-clause-same c = shown_names c.self.inside.leaves c.make_ready.new.leaves c.make_ready.ensures.names ∙ ap (λ (k : Fragments). shown_by k.leaves) c.self.view_is
+
+pub returns-clause-follows : goal.returns-clause-follows
+returns-clause-follows c =
+    rw (← c.self.view_is) (record {
+      homes = c.make_ready.ensures.homes;
+      covers = c.make_ready.ensures.trees;
+      dentries = same_dentries c.self.inside.leaves c.make_ready.new.leaves c.make_ready.ensures.names;
+    })
