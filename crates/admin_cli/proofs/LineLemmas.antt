@@ -1,9 +1,9 @@
 -- One line that was done, and what was written of its text.
 use Rattle.std.proofs.Common.{◌≡◌, ℕ, ◌≤◌, List, [], length, Option, Some, None, Result, Ok, Err, refl, sym, subst, append-nil}
 use Rattle.std.specs.Io.KnownBytes.{Appends, Keeps}
-use Rattle.script_text.specs.declared.line_buffer.TheConstants.{MAX_LINE_LEN}
+use Rattle.script_text.specs.declared.reading.buffer.TheConstants.{MAX_LINE_LEN}
 use Rattle.script_text.specs.declared.lines.Line.{Line}
-use Rattle.script_text.specs.declared.output_lines.OutputLine.{OutputLine}
+use Rattle.script_output.specs.declared.lines.OutputLine.{OutputLine}
 use Rattle.script_text.specs.Script.{line_of}
 use Rattle.admin_cli.specs.declared.commands.Admin.{Admin}
 use Rattle.admin_cli.specs.declared.faults.FaultKind.{FaultKind}

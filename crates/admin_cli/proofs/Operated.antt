@@ -3,7 +3,7 @@ use Rattle.std.proofs.Common.{◌≡◌, Result, Ok, Err, refl}
 use Rattle.mds_types.specs.declared.refusals.Refusal.{Refusal}
 use Rattle.cluster_core.specs.declared.answers.Answer.{Answer}
 use Rattle.cluster_core.specs.State.{Kept}
-use Rattle.script_text.specs.declared.output_lines.OutputLine.{OutputLine}
+use Rattle.script_output.specs.declared.lines.OutputLine.{OutputLine}
 use Rattle.admin_cli.specs.Execute.{OperatesAfter, ServesLine}
 
 pub served_after : (middle new : Kept) (arrived : Result Answer Refusal) (line : OutputLine) → ((refusal : Refusal) → arrived ≡ Err refusal → ⊥) → ServesLine middle new (record { 0 = 0 }) line → OperatesAfter middle new arrived line

@@ -16,8 +16,8 @@ use Rattle.cluster_core.specs.Sound.{IsSoundBook}
 use Rattle.cluster_core.specs.Splits.{ListsLeaves}
 use Rattle.script_text.specs.declared.commands.Command.{Command}
 use Rattle.script_text.specs.declared.commands.Command.TheVariants.{Operation, Request, Serve, History, Split, Merge, Leaves}
-use Rattle.script_text.specs.declared.output_lines.OutputLine.{OutputLine}
-use Rattle.script_text.specs.declared.output_lines.OutputLine.TheVariants.{Reply as ReplyLine, Queued, Nothing as NothingLine, Frags, History as HistoryLine, Refused, Errno}
+use Rattle.script_output.specs.declared.lines.OutputLine.{OutputLine}
+use Rattle.script_output.specs.declared.lines.OutputLine.TheVariants.{Reply as ReplyLine, Queued, Nothing as NothingLine, Frags, History as HistoryLine, Refused, Errno}
 use Rattle.admin_cli.specs.declared.commands.Admin.{Admin}
 
 -- one event led from a book to the next with this result, by all that the contract of a book's step says

@@ -3,8 +3,8 @@ use Rattle.std.specs.Prelude.{◌≡◌, ℕ, List, [], ◌∷◌, Option, Some,
 use Rattle.std.specs.Io.KnownBytes.{Appends, Keeps}
 use Rattle.script_text.specs.declared.lines.Line.{Line}
 use Rattle.script_text.specs.declared.lines.Line.TheVariants as line
-use Rattle.script_text.specs.declared.output_lines.OutputLine.{OutputLine}
-use Rattle.script_text.specs.Writing.{AppendsBeginning}
+use Rattle.script_output.specs.declared.lines.OutputLine.{OutputLine}
+use Rattle.script_output.specs.Writing.{AppendsBeginning}
 use Rattle.admin_cli.specs.declared.commands.Admin.{Admin}
 use Rattle.admin_cli.specs.declared.faults.FaultKind.{FaultKind}
 use Rattle.admin_cli.specs.declared.faults.FaultKind.TheVariants.{NotCommand, TooLong, ReadFault, WriteFault, OutOfMemory}

@@ -3,14 +3,14 @@ use Rattle.std.specs.Prelude.{◌≡◌, ℕ, ◌+◌, ◌^◌, ◌<◌, ◌≤�
 use Rattle.std.specs.Io.KnownBytes.{Appends}
 use Rattle.std.specs.FinMap as map
 use Rattle.cluster_core.specs.State.{Kept, new_state}
-use Rattle.script_text.specs.declared.line_buffer.TheConstants.{MAX_LINE_LEN}
+use Rattle.script_text.specs.declared.reading.buffer.TheConstants.{MAX_LINE_LEN}
 use Rattle.script_text.specs.declared.lines.Line.{Line}
 use Rattle.script_text.specs.declared.lines.Line.TheVariants as line
-use Rattle.script_text.specs.declared.output_lines.OutputLine.{OutputLine}
-use Rattle.script_text.specs.declared.output_lines.OutputLine.TheVariants.{Errno}
+use Rattle.script_output.specs.declared.lines.OutputLine.{OutputLine}
+use Rattle.script_output.specs.declared.lines.OutputLine.TheVariants.{Errno}
 use Rattle.script_text.specs.Input.{lines_of}
 use Rattle.script_text.specs.Script.{line_of}
-use Rattle.script_text.specs.OutputLine.{output_line}
+use Rattle.script_output.specs.Lines.{output_line}
 use Rattle.admin_cli.specs.declared.commands.Admin.{Admin}
 use Rattle.admin_cli.specs.declared.faults.ScriptFault.{ScriptFault}
 use Rattle.admin_cli.specs.declared.faults.FaultKind.{FaultKind}

@@ -4,7 +4,8 @@ ghost use Rattle.std.specs.Prelude.{◌≡◌, ◌+◌, ◌<◌, ◌^◌};
 
 use cluster_core::{Answer, Book, Event};
 use mds_types::{Frag, Ino, Op, Rank, Request};
-use script_text::{Command, FragList, OutputLine};
+use script_output::{FragList, OutputLine};
+use script_text::Command;
 use std::alloc::Global;
 
 /// A book, and how many lines with an operation alone were read for it.

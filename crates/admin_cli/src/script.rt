@@ -1,16 +1,14 @@
 //! Running a script.
 ghost use Rattle.std.specs.Prelude.{◌≡◌, ◌+◌, ◌<◌, ◌≤◌, ◌^◌, length};
-ghost use Rattle.script_text.specs.declared.line_buffer.TheConstants.{MAX_LINE_LEN};
+ghost use Rattle.script_text.specs.declared.reading.buffer.TheConstants.{MAX_LINE_LEN};
 ghost use Rattle.admin_cli.specs.Scripts.{text_of, RunsInput, RunsNew};
 ghost use Rattle.admin_cli.specs.OneLine.{EndsLine, AnswersLine, Prints};
 
 use crate::commands::Admin;
 use crate::faults::{FaultKind, ScriptFault};
 use cluster_core::format;
-use script_text::{
-    Line, LineBuffer, LineFault, NextLine, OutputFault, OutputLine, next_line, read_line,
-    write_line,
-};
+use script_output::{OutputFault, OutputLine, write_line};
+use script_text::{Line, LineBuffer, LineFault, NextLine, next_line, read_line};
 use std::alloc::Global;
 use std::io::{BufRead, BufReader, Read, Write};
 

@@ -4,9 +4,9 @@ use Rattle.std.specs.Io.{StartsWith}
 use Rattle.std.proofs.Math.Numerals.{one-add}
 use Rattle.std.specs.List.{prefix_len, list_all, onto_first}
 use Rattle.std.specs.Io.KnownBytes.{Consumes}
-use Rattle.script_text.specs.declared.line_reader.Shown.TheVariants.{More, LineEnd, InputEnd}
-use Rattle.script_text.specs.declared.line_reader.LineFault.{LineFault}
-use Rattle.script_text.specs.declared.line_reader.LineFault.TheVariants as faults
+use Rattle.script_text.specs.declared.reading.input.Shown.TheVariants.{More, LineEnd, InputEnd}
+use Rattle.script_text.specs.declared.reading.input.LineFault.{LineFault}
+use Rattle.script_text.specs.declared.reading.input.LineFault.TheVariants as faults
 use Rattle.script_text.specs.Input.{lines_of, IsFirstLine, IsTooLong, GivesLine}
 use Rattle.script_text.specs.Looks.{is_not_lf, IsOfOneLine, Overflows, Moves}
 

@@ -1,10 +1,10 @@
 -- The attributes that a line gives, each behind a word that names it.
 use Rattle.std.specs.Prelude.{ℕ, if◌then◌else◌, List, [], ◌∷◌, codes, Option, Some, None, Result, Ok}
 use Rattle.script_text.specs.declared.attributes.Attributes.{Attributes}
-use Rattle.script_text.specs.declared.faults.Fault.{Fault}
-use Rattle.script_text.specs.Words.{is_text}
-use Rattle.script_text.specs.Reading.{◌>>=◌, first, none}
-use Rattle.script_text.specs.Arguments.{mode_of, decimal_of}
+use Rattle.script_words.specs.declared.faults.Fault.{Fault}
+use Rattle.script_words.specs.Words.{is_text}
+use Rattle.script_words.specs.Reading.{◌>>=◌, first, none}
+use Rattle.script_words.specs.Arguments.{mode_of, decimal_of}
 
 -- the word behind a key, where the words begin with the key, and the words that are left
 abbrev pub keyed : List ℕ → List (List ℕ) → Result (Option (List ℕ) × List (List ℕ)) Fault

@@ -2,12 +2,12 @@
 use Rattle.std.specs.Prelude.{ℕ, if◌then◌else◌, List, codes, Result, Ok, Err}
 use Rattle.script_text.specs.declared.commands.Command.{Command}
 use Rattle.script_text.specs.declared.commands.Command.TheVariants.{Split, Merge, Leaves}
-use Rattle.script_text.specs.declared.faults.Fault.{Fault}
-use Rattle.script_text.specs.declared.faults.Fault.TheVariants.{NotCommand}
-use Rattle.script_text.specs.Words.{is_text}
-use Rattle.script_text.specs.Reading.{◌>>=◌, first, one, three, four}
-use Rattle.script_text.specs.Arguments.{ino_of, rank_of}
-use Rattle.script_text.specs.FragWords.{frag_of, split_bits_of}
+use Rattle.script_words.specs.declared.faults.Fault.{Fault}
+use Rattle.script_words.specs.declared.faults.Fault.TheVariants.{NotCommand}
+use Rattle.script_words.specs.Words.{is_text}
+use Rattle.script_words.specs.Reading.{◌>>=◌, first, one, three, four}
+use Rattle.script_words.specs.Arguments.{ino_of, rank_of}
+use Rattle.script_words.specs.Fragments.{frag_of, split_bits_of}
 
 -- `dirfrag split RANK INO FRAG NB`
 unfoldable pub split_of : List (List ℕ) → Result Command Fault

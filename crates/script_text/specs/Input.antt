@@ -1,11 +1,11 @@
 -- The lines of a script's bytes.
 use Rattle.std.specs.Prelude.{◌≡◌, ℕ, ◌<◌, ◌==◌, if◌then◌else◌, List, [], ◌∷◌, length, Option, Some, Result, Ok, Err}
 use Rattle.std.specs.List.{onto_first}
-use Rattle.script_text.specs.declared.line_buffer.TheConstants.{MAX_LINE_LEN}
-use Rattle.script_text.specs.declared.line_reader.NextLine.{NextLine}
-use Rattle.script_text.specs.declared.line_reader.NextLine.TheVariants.{Read, End}
-use Rattle.script_text.specs.declared.line_reader.LineFault.{LineFault}
-use Rattle.script_text.specs.declared.line_reader.LineFault.TheVariants as faults
+use Rattle.script_text.specs.declared.reading.buffer.TheConstants.{MAX_LINE_LEN}
+use Rattle.script_text.specs.declared.reading.input.NextLine.{NextLine}
+use Rattle.script_text.specs.declared.reading.input.NextLine.TheVariants.{Read, End}
+use Rattle.script_text.specs.declared.reading.input.LineFault.{LineFault}
+use Rattle.script_text.specs.declared.reading.input.LineFault.TheVariants as faults
 
 -- the lines, without their LF: each is ended by LF or by the end of the input
 unfoldable pub lines_of : List ℕ → List (List ℕ)

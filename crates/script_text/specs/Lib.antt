@@ -1,16 +1,5 @@
-pub mod Words
-pub mod Numbers
-pub mod Escapes
-pub mod Reading
-pub mod Arguments
 pub mod Attributes
-pub mod FragWords
 pub mod Dirfrags
 pub mod Script
-pub mod Output
-pub mod OutputLine
 pub mod Input
 pub mod Looks
-pub mod Writing
-pub mod LineWriting
-pub mod Laws

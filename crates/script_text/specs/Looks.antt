@@ -2,9 +2,9 @@
 use Rattle.std.specs.Prelude.{◌≡◌, ℕ, ◌+◌, ◌<◌, ◌==◌, Bool, true, not, List, [], ◌∷◌, ◌++◌, length, Option}
 use Rattle.std.specs.List.{list_all}
 use Rattle.std.specs.Io.KnownBytes.{Consumes, IsAtEnd}
-use Rattle.script_text.specs.declared.line_buffer.TheConstants.{MAX_LINE_LEN}
-use Rattle.script_text.specs.declared.line_reader.Shown.{Shown}
-use Rattle.script_text.specs.declared.line_reader.Shown.TheVariants.{More, LineEnd, InputEnd}
+use Rattle.script_text.specs.declared.reading.buffer.TheConstants.{MAX_LINE_LEN}
+use Rattle.script_text.specs.declared.reading.input.Shown.{Shown}
+use Rattle.script_text.specs.declared.reading.input.Shown.TheVariants.{More, LineEnd, InputEnd}
 
 -- any byte but LF
 abbrev pub is_not_lf : ℕ → Bool

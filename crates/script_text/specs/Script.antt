@@ -7,11 +7,11 @@ use Rattle.script_text.specs.declared.commands.Command.{Command}
 use Rattle.script_text.specs.declared.commands.Command.TheVariants.{Operation, Request, Serve, History}
 use Rattle.script_text.specs.declared.lines.Line.{Line}
 use Rattle.script_text.specs.declared.lines.Line.TheVariants as line
-use Rattle.script_text.specs.declared.faults.Fault.{Fault}
-use Rattle.script_text.specs.declared.faults.Fault.TheVariants.{NotCommand, BadWord}
-use Rattle.script_text.specs.Words.{words_of, is_text, is_printable, is_comment}
-use Rattle.script_text.specs.Reading.{◌>>=◌, first, one, two, three, four}
-use Rattle.script_text.specs.Arguments.{ino_of, rank_of, client_of, decimal_of, mode_of, page_size_of, text_of, after_text_of, name_of, after_name_of, target_of}
+use Rattle.script_words.specs.declared.faults.Fault.{Fault}
+use Rattle.script_words.specs.declared.faults.Fault.TheVariants.{NotCommand, BadWord}
+use Rattle.script_words.specs.Words.{words_of, is_text, is_printable, is_comment}
+use Rattle.script_words.specs.Reading.{◌>>=◌, first, one, two, three, four}
+use Rattle.script_words.specs.Arguments.{ino_of, rank_of, client_of, decimal_of, mode_of, page_size_of, text_of, after_text_of, name_of, after_name_of, target_of}
 use Rattle.script_text.specs.Attributes.{attributes_of}
 use Rattle.script_text.specs.Dirfrags.{dirfrag_of}
 

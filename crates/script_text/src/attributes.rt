@@ -1,15 +1,12 @@
 //! Attributes of an inode, each behind a word that names it.
 ghost use Rattle.std.specs.Prelude.{option_map};
-ghost use Rattle.script_text.specs.Words.{words_of};
-ghost use Rattle.script_text.specs.Reading.{Gives};
-ghost use Rattle.script_text.specs.Arguments.{mode_of, decimal_of};
+ghost use Rattle.script_words.specs.Words.{words_of};
+ghost use Rattle.script_words.specs.Reading.{Gives};
+ghost use Rattle.script_words.specs.Arguments.{mode_of, decimal_of};
 ghost use Rattle.script_text.specs.Attributes.{attributes_of, if_given, keyed};
 
-use crate::arguments::{decimal, mode};
-use crate::counts::{first, none};
-use crate::faults::ReadError;
-use crate::words::next_word;
 use mds_types::Mode;
+use script_words::{ReadError, decimal, first, mode, next_word, none};
 
 /// What a line gives an inode; what it doesn't name is none.
 #[derive(Clone, Copy, Debug, PartialEq, Eq)]

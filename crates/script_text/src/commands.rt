@@ -1,15 +1,12 @@
 //! Commands, by their first word.
-ghost use Rattle.script_text.specs.Words.{words_of};
-ghost use Rattle.script_text.specs.Reading.{Gives};
+ghost use Rattle.script_words.specs.Words.{words_of};
+ghost use Rattle.script_words.specs.Reading.{Gives};
 ghost use Rattle.script_text.specs.Script.{command_of, history_of, req_of, serve_of};
 
-use crate::arguments::{client, decimal, rank};
-use crate::counts::{first, one};
 use crate::dirfrags::dirfrag;
-use crate::faults::{NOT_COMMAND, ReadError};
 use crate::operations::read_operation;
-use crate::words::next_word;
 use mds_types::{Frag, Ino, Op, Rank, Request};
+use script_words::{NOT_COMMAND, ReadError, client, decimal, first, next_word, one, rank};
 use std::alloc::Global;
 
 /// What a line of the script asks for.

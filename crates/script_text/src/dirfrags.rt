@@ -1,13 +1,10 @@
 //! Commands on the leaves of a directory, by the word after `dirfrag`.
-ghost use Rattle.script_text.specs.Words.{words_of};
-ghost use Rattle.script_text.specs.Reading.{Gives};
+ghost use Rattle.script_words.specs.Words.{words_of};
+ghost use Rattle.script_words.specs.Reading.{Gives};
 ghost use Rattle.script_text.specs.Dirfrags.{dirfrag_of, dirfrag_step_of, leaves_of, merge_of, split_of};
 
-use crate::arguments::{ino, rank};
 use crate::commands::Command;
-use crate::counts::{first, four, one, three};
-use crate::faults::{NOT_COMMAND, ReadError};
-use crate::frag_words::{frag, split_bits};
+use script_words::{NOT_COMMAND, ReadError, first, four, frag, ino, one, rank, split_bits, three};
 
 /// `dirfrag` and what follows it.
 #[tactic(auto, unfolding(crate::specs::Dirfrags::dirfrag_of))]

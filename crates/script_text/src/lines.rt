@@ -3,8 +3,7 @@ ghost use Rattle.std.specs.Prelude.{◌≡◌, IfOk};
 ghost use Rattle.script_text.specs.Script.{line_of};
 
 use crate::commands::{Command, read_command};
-use crate::faults::{Fault, ReadError};
-use crate::words::{is_comment, is_printable, next_word};
+use script_words::{Fault, ReadError, is_comment, is_printable, next_word};
 use std::alloc::{AllocError, Global};
 
 /// What a line of the script is.

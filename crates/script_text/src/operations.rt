@@ -1,13 +1,14 @@
 //! Operations, by the words after the first.
-ghost use Rattle.script_text.specs.Words.{words_of};
-ghost use Rattle.script_text.specs.Reading.{Gives};
+ghost use Rattle.script_words.specs.Words.{words_of};
+ghost use Rattle.script_words.specs.Reading.{Gives};
 ghost use Rattle.script_text.specs.Script.{lookup_of, readdir_of, create_of, mkdir_of, readlink_of, symlink_of, setattr_of, unlink_of, rmdir_of, rename_of, operation_of};
 
-use crate::arguments::{after_name, after_text, ino, mode, name, page_size, target, text};
 use crate::attributes::given_attributes;
-use crate::counts::{first, four, three, two};
-use crate::faults::{NOT_COMMAND, ReadError};
 use mds_types::Op;
+use script_words::{
+    NOT_COMMAND, ReadError, after_name, after_text, first, four, ino, mode, name, page_size,
+    target, text, three, two,
+};
 use std::alloc::Global;
 
 /// The operation of this first word, with the arguments in these words.

@@ -1,0 +1,4 @@
+pub mod PrintedNames
+pub mod PrintedNumbers
+pub mod PrintedFragments
+pub mod WriteLemmas

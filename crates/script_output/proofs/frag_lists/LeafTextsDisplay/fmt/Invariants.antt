@@ -1,0 +1,10 @@
+use Rattle.std.proofs.Common.{take}
+use Rattle.std.specs.Fmt.{HasWritten, IsPlainFormatter}
+use Rattle.std.specs.List.{flat_map}
+use Rattle.script_output.specs.Texts.{leaf_text}
+use Rattle.script_output.proofs.frag_lists.LeafTextsDisplay.fmt.Given as goal
+
+-- the fragments passed are written
+abbrev pub invariant-loop-leaf : goal.invariant-loop-leaf
+invariant-loop-leaf g l =
+    IsPlainFormatter l.initial.f → HasWritten g.W.Write.write_str_gives l.initial.f (flat_map leaf_text (take l.leaf-index l.leaf-items)) l.f

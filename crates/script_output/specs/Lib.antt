@@ -1,0 +1,5 @@
+pub mod Escapes
+pub mod Texts
+pub mod Lines
+pub mod Writing
+pub mod Laws

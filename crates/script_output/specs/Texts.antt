@@ -1,0 +1,76 @@
+-- What is printed for each result: one line each, here without its LF.
+use Rattle.std.specs.Prelude.{ℕ, Bool, true, false, List, ◌++◌, codes, length}
+use Rattle.std.specs.Fmt.{decimal, digits}
+use Rattle.std.specs.List.{flat_map}
+use Rattle.mds_types.specs.declared.inodes.Inode.{Inode}
+use Rattle.mds_types.specs.declared.inodes.Kind.{Kind}
+use Rattle.mds_types.specs.declared.inodes.Kind.TheVariants.{File, Dir, Symlink}
+use Rattle.mds_types.specs.declared.replies.Reply.{Reply}
+use Rattle.mds_types.specs.declared.replies.Reply.TheVariants.{Entry, Entries, Target, Done, Errno}
+use Rattle.mds_types.specs.declared.refusals.Refusal.{Refusal}
+use Rattle.mds_types.specs.Refusal.{refusal_number}
+use Rattle.mds_types.specs.Frag.{Fragment, fragment_text}
+use Rattle.script_output.specs.Escapes.{escaped}
+
+-- inode numbers print in lower hexadecimal, modes in octal, other numbers in decimal
+abbrev pub hexadecimal : ℕ → List ℕ
+hexadecimal n = digits 16 false n
+
+abbrev pub octal : ℕ → List ℕ
+octal n = digits 8 false n
+
+-- KIND
+abbrev pub kind_text : Kind → List ℕ
+kind_text File = codes "file"
+kind_text Dir = codes "dir"
+kind_text (Symlink target) = codes "link"
+
+-- `entry INO KIND MODE SIZE MTIME`
+abbrev pub entry_text : Inode → List ℕ
+entry_text inode = codes "entry " ++ (hexadecimal inode.ino.0 ++ (codes " " ++ (kind_text inode.kind ++ (codes " " ++ (octal inode.mode ++ (codes " " ++ (decimal inode.size ++ (codes " " ++ decimal inode.mtime))))))))
+
+-- a space and `NAME:INO`
+abbrev pub listed_text : List ℕ × Inode → List ℕ
+listed_text entry = codes " " ++ (escaped entry.0 ++ (codes ":" ++ hexadecimal entry.1.ino.0))
+
+-- whether further names follow
+abbrev pub more_text : Bool → List ℕ
+more_text true = codes "more"
+more_text false = codes "end"
+
+-- `entries K more` or `entries K end`, and then each entry
+abbrev pub entries_text : List (List ℕ × Inode) → Bool → List ℕ
+entries_text list more = codes "entries " ++ (decimal (length list) ++ (codes " " ++ (more_text more ++ flat_map listed_text list)))
+
+-- `errno N`
+abbrev pub errno_text : ℕ → List ℕ
+errno_text errno = codes "errno " ++ decimal errno
+
+-- R
+abbrev pub reply_text : Reply → List ℕ
+reply_text (Entry inode) = entry_text inode
+reply_text (Entries list more) = entries_text list more
+reply_text (Target target) = codes "target " ++ escaped target
+reply_text Done = codes "done"
+reply_text (Errno errno) = errno_text errno
+
+-- a reply that was applied now, or kept and answered again
+abbrev pub first_text : Bool → List ℕ
+first_text true = codes "new"
+first_text false = codes "again"
+
+-- `reply CLIENT TID PLACE new R` or `reply CLIENT TID PLACE again R`
+abbrev pub reply_line : ℕ → ℕ → ℕ → Bool → Reply → List ℕ
+reply_line client tid place first reply = codes "reply " ++ (decimal client ++ (codes " " ++ (decimal tid ++ (codes " " ++ (decimal place ++ (codes " " ++ (first_text first ++ (codes " " ++ reply_text reply))))))))
+
+-- a space and a fragment, as it prints
+abbrev pub leaf_text : Fragment → List ℕ
+leaf_text leaf = codes " " ++ fragment_text leaf
+
+-- `frags K F ..`: how many leaves, and then each of them
+abbrev pub frags_text : List Fragment → List ℕ
+frags_text leaves = codes "frags " ++ (decimal (length leaves) ++ flat_map leaf_text leaves)
+
+-- `refused N`
+abbrev pub refused_line : Refusal → List ℕ
+refused_line refusal = codes "refused " ++ decimal (refusal_number refusal)

@@ -1,0 +1,92 @@
+//! The lines that are printed.
+ghost use Rattle.std.specs.Prelude.{◌≡◌, ◌++◌, codes, Some, IfOk, string_bytes};
+ghost use Rattle.script_output.specs.Texts.{first_text};
+ghost use Rattle.script_output.specs.Lines.{output_line};
+
+use crate::frag_lists::FragList;
+use crate::replies::ReplyText;
+use mds_types::{Refusal, Reply};
+use std::alloc::{AllocError, Global};
+use std::fmt;
+
+/// A line that is printed for a command. It prints without its LF.
+#[derive(Debug, Drop, PartialEq, Eq)]
+pub enum OutputLine {
+    /// `reply CLIENT TID PLACE new R`, or `again` for a reply that was kept.
+    Reply {
+        client: u64,
+        tid: u64,
+        /// The place of the request in the history, from 0.
+        place: u64,
+        /// Whether the request was applied now.
+        first: bool,
+        reply: Reply,
+    },
+    /// `queued`: a request came in, and waits.
+    Queued,
+    /// `nothing`: a step was made that answers nothing.
+    Nothing,
+    /// `frags K F ..`: the leaves of a directory.
+    Frags(FragList),
+    /// `history LENGTH`: how many entries the history has.
+    History(u64),
+    /// `refused N`: a step was refused.
+    Refused(Refusal),
+    /// `errno N`: a name or a target outside its rules, of which no request was made.
+    Errno(u16),
+}
+
+impl OutputLine {
+    /// The line with its LF. Takes memory for it.
+    pub fn to_text(&self, alloc: Global) -> Result<String, AllocError>
+        ensures { IfOk result (λ text. string_bytes text ≡ output_line self.now ++ codes "\n") }
+    {
+        format!(in alloc; "{self}\n")
+    }
+}
+
+impl fmt::Display for OutputLine {
+    ghost output = { λ line. Some (output_line line) };
+
+    #[tactic(auto, unfolding(crate::specs::Lines::output_line))]
+    fn fmt<W: fmt::Write>(&self, f: &mut fmt::Formatter<W>) -> fmt::Result {
+        match self {
+            OutputLine::Reply {
+                client,
+                tid,
+                place,
+                first,
+                reply,
+            } => {
+                let first = FirstText(*first);
+                let reply = ReplyText(reply);
+                write!(f, "reply {client} {tid} {place} {first} {reply}")
+            }
+            OutputLine::Queued => write!(f, "queued"),
+            OutputLine::Nothing => write!(f, "nothing"),
+            OutputLine::Frags(leaves) => write!(f, "{leaves}"),
+            OutputLine::History(length) => write!(f, "history {length}"),
+            OutputLine::Refused(refusal) => {
+                let number = refusal.number();
+                write!(f, "refused {number}")
+            }
+            OutputLine::Errno(errno) => write!(f, "errno {errno}"),
+        }
+    }
+}
+
+/// `new` or `again`.
+#[derive(Clone, Copy)]
+pub struct FirstText(pub bool);
+
+impl fmt::Display for FirstText {
+    ghost output = { λ text. Some (first_text text.0) };
+
+    fn fmt<W: fmt::Write>(&self, f: &mut fmt::Formatter<W>) -> fmt::Result {
+        if self.0 {
+            write!(f, "new")
+        } else {
+            write!(f, "again")
+        }
+    }
+}

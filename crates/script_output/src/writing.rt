@@ -1,0 +1,58 @@
+//! Texts and lines to a writer.
+ghost use Rattle.std.specs.Prelude.{OnOk, OnErr, ◌++◌, codes};
+ghost use Rattle.std.specs.Io.KnownBytes.{Appends};
+ghost use Rattle.script_output.specs.Lines.{output_line};
+ghost use Rattle.script_output.specs.Writing.{AppendsBeginning, WritesLine};
+
+use crate::lines::OutputLine;
+use std::alloc::Global;
+use std::io::Write;
+
+/// The writer failed, or took no byte.
+#[derive(Clone, Copy, Debug, PartialEq, Eq)]
+pub struct WriteFault;
+
+/// Writes all of the bytes. After a fault a beginning of them is written, and nothing else.
+pub fn write_all_of<W: Write>(writer: &mut W, bytes: &[u8]) -> Result<(), WriteFault>
+    ensures ok { OnOk result (Appends (W.contents writer.old) (W.contents writer.new) bytes.now) }
+    ensures err { OnErr result (AppendsBeginning (W.contents writer.old) (W.contents writer.new) bytes.now) }
+{
+    let mut done = 0;
+    while done < bytes.len() {
+        let (_, rest) = bytes.split_at(done);
+        let Ok(taken) = writer.write(rest) else {
+            return Err(WriteFault);
+        };
+        if taken == 0 {
+            return Err(WriteFault);
+        }
+        done += taken;
+    }
+    Ok(())
+}
+
+/// Why a line was not written.
+#[derive(Clone, Copy, Debug, PartialEq, Eq)]
+pub enum OutputFault {
+    /// There was no memory for the line's text. Nothing of it is written.
+    NoMemory,
+    /// The writer failed or took no byte. A beginning of the line is written.
+    Write,
+}
+
+/// Writes the line and its LF. Takes memory for its text.
+pub fn write_line<W: Write>(
+    alloc: Global,
+    writer: &mut W,
+    line: &OutputLine,
+) -> Result<(), OutputFault>
+    ensures { WritesLine (W.contents writer.old) (W.contents writer.new) (output_line line.now ++ codes "\n") result }
+{
+    let Ok(text) = line.to_text(alloc) else {
+        return Err(OutputFault::NoMemory);
+    };
+    match write_all_of(writer, text.as_bytes()) {
+        Ok(()) => Ok(()),
+        Err(WriteFault) => Err(OutputFault::Write),
+    }
+}

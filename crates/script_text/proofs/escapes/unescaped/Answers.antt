@@ -1,9 +1,0 @@
-use Rattle.std.proofs.Common.{length, ◌∙◌, sym, eqb-true}
-use Rattle.script_text.specs.Escapes.{bytes_of}
-use Rattle.script_text.proofs.EscapeLemmas.{before-nothing}
-use Rattle.script_text.proofs.escapes.unescaped.Goals as goal
-
-pub returns-then-is_empty : goal.returns-then-is_empty
-returns-then-is_empty c =
-    before-nothing c.loop-byte.bytes.items c.loop-byte.rest.now (bytes_of c.args.word.now) c.loop-byte.invariant
-    (eqb-true (length c.loop-byte.rest.now) 0 (sym c.is_empty.ensures ∙ c.if-is_empty.true))

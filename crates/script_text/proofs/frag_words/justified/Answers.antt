@@ -1,8 +1,0 @@
-use Rattle.std.proofs.Common.{◌-◌, arith}
-use Rattle.std.proofs.lemmas.Nat.{one_shl}
-use Rattle.script_text.proofs.FragLemmas.{justified-below}
-use Rattle.script_text.proofs.frag_words.justified.Goals as goal
-
-pub overflow_mul-result : goal.overflow_mul-result
-overflow_mul-result c =
-    rw (one_shl (24 - c.args.bits) 32 (omega arith)) (omega (arith, justified-below c.args.number c.args.bits c.requires.few c.requires.fits))

@@ -1,5 +1,0 @@
-use Rattle.script_text.proofs.PrintedFragments.{frag_of-printed}
-use Rattle.script_text.proofs.laws.fragments_read_back.Goals as goal
-
-pub returns : goal.returns
-returns c = frag_of-printed

@@ -1,0 +1,4 @@
+//! Lines from a reader, one after the other, in memory that is taken once.
+
+pub mod buffer;
+pub mod input;

@@ -1,0 +1,47 @@
+-- Reading escapes from the left.
+use Rattle.std.proofs.Common.{◌≡◌, ◌≢◌, ne_eqb, ℕ, ◌<◌, false, cond, eqb, List, [], ◌∷◌, ◌++◌, length, Option, Some, None, refl, ap, sym, ◌∙◌, append_assoc, append-nil, arith}
+use Rattle.script_words.specs.Escapes.{bytes_of, onto, hex_byte_of}
+
+-- bytes before those of the rest, where the rest stands for any
+abbrev pub before : List ℕ → Option (List ℕ) → Option (List ℕ)
+before front None = None
+before front (Some back) = Some (front ++ back)
+
+-- one byte more is read
+pub before-onto : (front : List ℕ) (byte : ℕ) (back : Option (List ℕ)) → before front (onto (Some byte) back) ≡ before (front ++ byte ∷ []) back
+before-onto front byte None = refl
+before-onto front byte (Some back) = ap Some (sym (append_assoc front (byte ∷ []) back))
+
+-- the end of the word
+pub before-nothing : (front rest : List ℕ) (word : Option (List ℕ)) → word ≡ before front (bytes_of rest) → length rest ≡ 0 → Some front ≡ word
+unfolding bytes_of
+before-nothing front [] word e none = ap Some (sym (append-nil front)) ∙ sym e
+before-nothing front (a ∷ rest) word e none = absurd (omega arith)
+
+-- a byte that is no `%` stands for itself
+pub bytes_of-plain : (byte : ℕ) (rest word : List ℕ) → word ≡ byte ∷ rest → byte ≢ 37 → bytes_of word ≡ onto (Some byte) (bytes_of rest)
+unfolding bytes_of
+bytes_of-plain byte rest word e plain = ap bytes_of e ∙ at rest (ne_eqb byte 37 plain)
+  where
+    at : (rest : List ℕ) → eqb byte 37 ≡ false → bytes_of (byte ∷ rest) ≡ onto (Some byte) (bytes_of rest)
+    at [] plain = ap (λ b. onto (cond b None (Some byte)) (Some [])) plain
+    at (a ∷ []) plain = ap (λ b. onto (cond b None (Some byte)) (bytes_of (a ∷ []))) plain
+    at (a ∷ b ∷ word) plain = ap (λ t. cond t (onto (hex_byte_of a b) (bytes_of word)) (onto (Some byte) (bytes_of (a ∷ b ∷ word)))) plain
+
+-- `%` and two bytes
+pub bytes_of-escape : (byte high low : ℕ) (rest rest2 rest3 word : List ℕ) → word ≡ byte ∷ rest → byte ≡ 37 → rest ≡ high ∷ rest2 → rest2 ≡ low ∷ rest3
+    → bytes_of word ≡ onto (hex_byte_of high low) (bytes_of rest3)
+unfolding bytes_of
+bytes_of-escape byte high low rest rest2 rest3 word e percent e2 e3 =
+    let whole : word ≡ 37 ∷ high ∷ low ∷ rest3 = cc in
+    ap bytes_of whole
+
+-- `%` with less than two bytes after it
+pub bytes_of-short : (byte : ℕ) (rest word : List ℕ) → word ≡ byte ∷ rest → byte ≡ 37 → length rest < 2 → bytes_of word ≡ None
+unfolding bytes_of
+bytes_of-short byte rest word e percent short = ap bytes_of e ∙ ap (λ b. bytes_of (b ∷ rest)) percent ∙ at rest short
+  where
+    at : (rest : List ℕ) → length rest < 2 → bytes_of (37 ∷ rest) ≡ None
+    at [] short = refl
+    at (a ∷ []) short = refl
+    at (a ∷ b ∷ word) short = absurd (omega arith)

@@ -1,0 +1,5 @@
+pub mod EscapeLemmas
+pub mod NumberLemmas
+pub mod WordLemmas
+pub mod NameLemmas
+pub mod FragLemmas

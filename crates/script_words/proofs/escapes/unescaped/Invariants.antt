@@ -1,0 +1,11 @@
+use Rattle.std.proofs.Common.{◌≡◌, length}
+use Rattle.script_words.specs.Escapes.{bytes_of}
+use Rattle.script_words.proofs.EscapeLemmas.{before}
+use Rattle.script_words.proofs.escapes.unescaped.Given as goal
+
+-- the word stands for the bytes so far, and then for those of the rest
+abbrev pub invariant-loop-byte : goal.invariant-loop-byte
+invariant-loop-byte l = bytes_of l.fn.word ≡ before l.bytes.items (bytes_of l.rest)
+
+abbrev pub decreases-loop-byte : goal.decreases-loop-byte
+decreases-loop-byte l = length l.rest

@@ -1,0 +1,64 @@
+-- Reading with a fault: steps that go on with what was read, or stop.
+use Rattle.std.specs.Prelude.{◌≡◌, ℕ, Option, Some, None, Result, Ok, Err, List, [], ◌∷◌}
+use Rattle.script_words.specs.declared.faults.Fault.{Fault}
+use Rattle.script_words.specs.declared.faults.Fault.TheVariants.{NotCommand}
+use Rattle.script_words.specs.declared.faults.ReadError.{ReadError}
+use Rattle.script_words.specs.declared.faults.ReadError.TheVariants as errors
+
+-- the next step, on what was read
+infixl 10 ◌>>=◌
+abbrev pub ◌>>=◌ : {A B : Type 0} → Result A Fault → (A → Result B Fault) → Result B Fault
+(Ok x) >>= next = next x
+(Err fault) >>= next = Err fault
+
+-- what must be there for the line to be a command
+abbrev pub wanted : {A : Type 0} → Option A → Result A Fault
+wanted None = Err NotCommand
+wanted (Some x) = Ok x
+
+-- the first word, and those after it
+abbrev pub first : List (List ℕ) → Result (List ℕ × List (List ℕ)) Fault
+first [] = Err NotCommand
+first (a ∷ words) = Ok (a, words)
+
+-- no further word
+abbrev pub none : List (List ℕ) → Result (Unit {0}) Fault
+none [] = Ok tt
+none (a ∷ words) = Err NotCommand
+
+-- exactly one, two, three, four words
+abbrev pub one : List (List ℕ) → Result (List ℕ) Fault
+one [] = Err NotCommand
+one (a ∷ []) = Ok a
+one (a ∷ b ∷ words) = Err NotCommand
+
+abbrev pub two : List (List ℕ) → Result (List ℕ × List ℕ) Fault
+two [] = Err NotCommand
+two (a ∷ []) = Err NotCommand
+two (a ∷ b ∷ []) = Ok (a, b)
+two (a ∷ b ∷ c ∷ words) = Err NotCommand
+
+abbrev pub three : List (List ℕ) → Result (List ℕ × List ℕ × List ℕ) Fault
+three [] = Err NotCommand
+three (a ∷ []) = Err NotCommand
+three (a ∷ b ∷ []) = Err NotCommand
+three (a ∷ b ∷ c ∷ []) = Ok (a, b, c)
+three (a ∷ b ∷ c ∷ d ∷ words) = Err NotCommand
+
+abbrev pub four : List (List ℕ) → Result (List ℕ × List ℕ × List ℕ × List ℕ) Fault
+four [] = Err NotCommand
+four (a ∷ []) = Err NotCommand
+four (a ∷ b ∷ []) = Err NotCommand
+four (a ∷ b ∷ c ∷ []) = Err NotCommand
+four (a ∷ b ∷ c ∷ d ∷ []) = Ok (a, b, c, d)
+four (a ∷ b ∷ c ∷ d ∷ e ∷ words) = Err NotCommand
+
+-- a fault is that of the definition, but for want of memory, which no definition speaks of
+abbrev pub Fails : {B : Type 0} → ReadError → Result B Fault → Type 0
+Fails errors.NoMemory read = Unit {0}
+Fails (errors.Fault fault) read = read ≡ Err fault
+
+-- what a function returned, seen by view, is what the definition reads, unless memory was refused
+abbrev pub Gives : {A B : Type 0} → (A → B) → Result A ReadError → Result B Fault → Type 0
+Gives view (Ok x) read = read ≡ Ok (view x)
+Gives view (Err error) read = Fails error read

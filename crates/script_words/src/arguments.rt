@@ -1,0 +1,157 @@
+//! The words after a command's first.
+ghost use Rattle.std.specs.Prelude.{◌≡◌, option_map};
+ghost use Rattle.script_words.specs.Reading.{Gives};
+ghost use Rattle.script_words.specs.Arguments.{ino_of, rank_of, client_of, decimal_of, mode_of, page_size_of, text_of, after_text_of, name_of, after_name_of, target_of, is_dash};
+
+use crate::escapes::unescaped;
+use crate::faults::{Fault, NOT_COMMAND, ReadError};
+use crate::numbers::{number, octal_mode};
+use mds_types::{
+    EINVAL, ENAMETOOLONG, ENOENT, Ino, Mode, Name, NameFault, PageSize, Rank, Target, TargetFault,
+};
+use std::alloc::Global;
+
+/// INO: lower hexadecimal.
+#[tactic(auto, unfolding(crate::specs::Arguments::ino_of))]
+pub fn ino(word: &[u8]) -> Result<Ino, ReadError>
+    ensures { Gives (λ ino. ino) result (ino_of word.now) }
+{
+    match number(word, 16) {
+        Some(n) => Ok(Ino(n)),
+        None => Err(NOT_COMMAND),
+    }
+}
+
+/// RANK: decimal, 0 to 255.
+#[tactic(auto, unfolding(crate::specs::Arguments::rank_of))]
+pub fn rank(word: &[u8]) -> Result<Rank, ReadError>
+    ensures { Gives (λ rank. rank) result (rank_of word.now) }
+{
+    match number(word, 10) {
+        Some(n) if n <= 255 => Ok(Rank(n as u8)),
+        _ => Err(NOT_COMMAND),
+    }
+}
+
+/// CLIENT: decimal, at least 1.
+#[tactic(auto, unfolding(crate::specs::Arguments::client_of))]
+pub fn client(word: &[u8]) -> Result<u64, ReadError>
+    ensures { Gives (λ client. client) result (client_of word.now) }
+{
+    match number(word, 10) {
+        Some(n) if 1 <= n => Ok(n),
+        _ => Err(NOT_COMMAND),
+    }
+}
+
+/// TID, OLDEST and the N of an attribute: decimal.
+#[tactic(auto, unfolding(crate::specs::Arguments::decimal_of))]
+pub fn decimal(word: &[u8]) -> Result<u64, ReadError>
+    ensures { Gives (λ n. n) result (decimal_of word.now) }
+{
+    match number(word, 10) {
+        Some(n) => Ok(n),
+        None => Err(NOT_COMMAND),
+    }
+}
+
+/// MODE: one to four octal digits.
+#[tactic(auto, unfolding(crate::specs::Arguments::mode_of))]
+pub fn mode(word: &[u8]) -> Result<Mode, ReadError>
+    ensures { Gives (λ mode. mode) result (mode_of word.now) }
+{
+    let Some(n) = octal_mode(word) else {
+        return Err(NOT_COMMAND);
+    };
+    match Mode::new(n as u16) {
+        Some(mode) => Ok(mode),
+        None => Err(NOT_COMMAND),
+    }
+}
+
+/// MAX: decimal, 1 to 1024.
+#[tactic(auto, unfolding(crate::specs::Arguments::page_size_of))]
+pub fn page_size(word: &[u8]) -> Result<PageSize, ReadError>
+    ensures { Gives (λ max. max) result (page_size_of word.now) }
+{
+    let Some(n) = number(word, 10) else {
+        return Err(NOT_COMMAND);
+    };
+    if n > 1024 {
+        return Err(NOT_COMMAND);
+    }
+    match PageSize::new(n as u16) {
+        Some(max) => Ok(max),
+        None => Err(NOT_COMMAND),
+    }
+}
+
+/// NAME and TARGET: the bytes that the word stands for.
+#[tactic(auto, unfolding(crate::specs::Arguments::text_of))]
+pub fn text(alloc: Global, word: &[u8]) -> Result<Vec<u8>, ReadError>
+    ensures { Gives (λ bytes. bytes.items) result (text_of word.now) }
+{
+    match unescaped(alloc, word)? {
+        Some(bytes) => Ok(bytes),
+        None => Err(NOT_COMMAND),
+    }
+}
+
+/// AFTER: none for `-` alone, else the bytes that the word stands for.
+#[tactic(auto, unfolding(crate::specs::Arguments::after_text_of))]
+pub fn after_text(alloc: Global, word: &[u8]) -> Result<Option<Vec<u8>>, ReadError>
+    ensures { Gives (option_map (λ bytes. bytes.items)) result (after_text_of word.now) }
+{
+    if is_dash(word) {
+        return Ok(None);
+    }
+    Ok(Some(text(alloc, word)?))
+}
+
+// Whether the word is `-`.
+fn is_dash(word: &[u8]) -> bool
+    ensures { result ≡ is_dash word.now }
+{
+    match word {
+        [byte] => *byte == b'-',
+        _ => false,
+    }
+}
+
+/// The name that these bytes are, or the error number of bytes that are none.
+#[tactic(auto, unfolding(crate::specs::Arguments::name_of))]
+pub fn name(alloc: Global, bytes: &[u8]) -> Result<Name, ReadError>
+    ensures { Gives (λ name. name) result (name_of bytes.now) }
+{
+    match Name::from_bytes(alloc, bytes) {
+        Ok(name) => Ok(name),
+        Err(NameFault::Invalid) => Err(ReadError::Fault(Fault::BadWord(EINVAL))),
+        Err(NameFault::TooLong) => Err(ReadError::Fault(Fault::BadWord(ENAMETOOLONG))),
+        Err(NameFault::NoMemory) => Err(ReadError::NoMemory),
+    }
+}
+
+/// The name after which a listing begins, where there are bytes for one.
+#[tactic(auto, unfolding(crate::specs::Arguments::after_name_of))]
+pub fn after_name(alloc: Global, bytes: Option<Vec<u8>>) -> Result<Option<Name>, ReadError>
+    ensures { Gives (λ name. name) result (after_name_of (option_map (λ v. v.items) bytes)) }
+{
+    match bytes {
+        None => Ok(None),
+        Some(bytes) => Ok(Some(name(alloc, &bytes)?)),
+    }
+}
+
+/// The target that these bytes are, or the error number of bytes that are none.
+#[tactic(auto, unfolding(crate::specs::Arguments::target_of))]
+pub fn target(alloc: Global, bytes: &[u8]) -> Result<Target, ReadError>
+    ensures { Gives (λ target. target) result (target_of bytes.now) }
+{
+    match Target::from_bytes(alloc, bytes) {
+        Ok(target) => Ok(target),
+        Err(TargetFault::Empty) => Err(ReadError::Fault(Fault::BadWord(ENOENT))),
+        Err(TargetFault::Invalid) => Err(ReadError::Fault(Fault::BadWord(EINVAL))),
+        Err(TargetFault::TooLong) => Err(ReadError::Fault(Fault::BadWord(ENAMETOOLONG))),
+        Err(TargetFault::NoMemory) => Err(ReadError::NoMemory),
+    }
+}

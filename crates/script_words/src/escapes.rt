@@ -1,0 +1,60 @@
+//! Bytes that a word writes as `%` and two hexadecimal digits.
+ghost use Rattle.std.specs.Prelude.{◌≡◌, ◌<◌, length, IfOk, IfSome, IfNone, Some, None, option_map};
+ghost use Rattle.script_words.specs.Escapes.{bytes_of, onto, hex_byte_of, hex_digit_of};
+
+use crate::numbers::digit;
+use std::alloc::{AllocError, Global};
+
+/// The bytes that a word stands for; none where a `%` is not followed by two hexadecimal digits.
+pub fn unescaped(alloc: Global, word: &[u8]) -> Result<Option<Vec<u8>>, AllocError>
+    ensures { IfOk result (λ bytes. option_map (λ v. v.items) bytes ≡ bytes_of word.now) }
+{
+    let mut bytes = Vec::new(alloc);
+    let mut rest = word;
+    while let Some((byte, after)) = next_byte(rest) {
+        bytes.push(byte)?;
+        rest = after;
+    }
+    if rest.is_empty() {
+        Ok(Some(bytes))
+    } else {
+        Ok(None)
+    }
+}
+
+// The first byte that a word stands for, and what follows it; none at the end and at a `%` that is no escape.
+fn next_byte(word: &[u8]) -> Option<(u8, &[u8])>
+    ensures found { IfSome result (λ r. bytes_of word.now ≡ onto (Some r.0) (bytes_of r.1.now)) }
+    ensures none { IfNone result (0 < length word.now → bytes_of word.now ≡ None) }
+    ensures shorter { IfSome result (λ r. length r.1.now < length word.now) }
+{
+    let (first, rest) = word.split_first()?;
+    if *first != b'%' {
+        return Some((*first, rest));
+    }
+    let (high, rest) = rest.split_first()?;
+    let (low, rest) = rest.split_first()?;
+    Some((hex_byte(*high, *low)?, rest))
+}
+
+// The byte that two hexadecimal digits stand for.
+fn hex_byte(high: u8, low: u8) -> Option<u8>
+    ensures { result ≡ hex_byte_of high low }
+{
+    let (high, low) = (hex_digit(high), hex_digit(low));
+    if high < 16 && low < 16 {
+        Some(high * 16 + low)
+    } else {
+        None
+    }
+}
+
+// The value of a hexadecimal digit of either case; 16 for a byte that is none.
+fn hex_digit(byte: u8) -> u8
+    ensures { result ≡ hex_digit_of byte }
+{
+    match byte {
+        b'A'..=b'F' => byte - b'A' + 10,
+        _ => digit(byte),
+    }
+}
