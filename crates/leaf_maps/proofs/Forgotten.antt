@@ -12,7 +12,7 @@ use Rattle.sorted_map.specs.NatKeys.{is_same}
 use Rattle.mds_types.specs.Frag.{Fragment}
 use Rattle.mds_types.specs.EntryLaws.{tie}
 use Rattle.mds_types.specs.EntrySearch.{not_found_below}
-use Rattle.leaf_maps.specs.Leaves.{Leaf, Rows, Leaves, leaf_cmp, names_of, names_in}
+use Rattle.leaf_maps.specs.Leaves.{Leaf, Rows, Leaves, leaf_cmp, kept_of}
 use Rattle.leaf_maps.specs.LeafLaws.{leaf-exact, leaf-total}
 use Rattle.leaf_maps.specs.OneLeaf.{key, apart_keys}
 use Rattle.leaf_maps.specs.Listed.{leaves_of_dir}
@@ -30,8 +30,8 @@ nowhere d f (e ∷ es) none = go (eq_by_cmp leaf_cmp (key d f) e.0) refl (e.0.0.
         let clash : true ≡ false = sym (is_same e.0.0.0 d (ap (λ (k : Leaf). k.0.0) (sym (leaf-exact (key d f) e.0 (tie _ tied))))) ∙ other in
         cc
 
-pub gone : (leaves : Leaves) (d : ℕ) (f : Fragment) → leaves_of_dir d (finmap.entries leaves) ≡ [] → names_in leaves d f ≡ finmap.empty
-gone leaves d f none = ap names_of (get-entries leaves (key d f) ∙ nowhere d f (finmap.entries leaves) none)
+pub gone : (leaves : Leaves) (d : ℕ) (f : Fragment) → leaves_of_dir d (finmap.entries leaves) ≡ [] → kept_of leaves d f ≡ None
+gone leaves d f none = get-entries leaves (key d f) ∙ nowhere d f (finmap.entries leaves) none
 
 -- the first leaf of the directory is found
 first_found : (d : ℕ) (leaf : Leaf × Rows) (rest es : List (Leaf × Rows)) → T (is_sorted leaf_cmp es) → leaves_of_dir d es ≡ leaf ∷ rest → find leaf_cmp leaf.0 es ≡ Some leaf.1
@@ -78,8 +78,8 @@ fewer leaves now leaf there is = go (finmap.len leaves) refl
         cc
     go (suc n) some = omega (arith, less, some)
 
--- leaves of other directories keep their names
-pub others_kept : (leaves now : Leaves) (d e : ℕ) (f : Fragment) (leaf : Leaf) → leaf.0.0 ≡ d → now ≡ finmap.remove leaves leaf → (e ≡ d → ⊥) → names_in now e f ≡ names_in leaves e f
+-- leaves of other directories stay as they are
+pub others_kept : (leaves now : Leaves) (d e : ℕ) (f : Fragment) (leaf : Leaf) → leaf.0.0 ≡ d → now ≡ finmap.remove leaves leaf → (e ≡ d → ⊥) → kept_of now e f ≡ kept_of leaves e f
 others_kept leaves now d e f leaf here is apart =
-    ap (λ m. names_in m e f) is
-    ∙ ap names_of (get-remove leaf-total leaves leaf (key e f) ∙ ap (λ b. cond b None (finmap.get leaves (key e f))) (apart_keys leaf.0.0 e leaf.1 f (λ same. apart (same.0 ∙ here))))
+    ap (λ m. kept_of m e f) is ∙ get-remove leaf-total leaves leaf (key e f)
+    ∙ ap (λ b. cond b None (finmap.get leaves (key e f))) (apart_keys leaf.0.0 e leaf.1 f (λ same. apart (same.0 ∙ here)))

@@ -9,5 +9,6 @@ pub mod RowLaws
 pub mod RowTests
 pub mod RunLaws
 pub mod ShownLaws
+pub mod StandingLaws
 pub mod Turns
 pub mod Written

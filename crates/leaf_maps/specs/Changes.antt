@@ -1,8 +1,7 @@
 -- Changes of the names of leaves.
 use Rattle.std.specs.Prelude.{◌≡◌, ℕ, ◌<◌, Option, Some, None}
-use Rattle.std.specs.FinMap as finmap
 use Rattle.mds_types.specs.Frag.{Fragment}
-use Rattle.leaf_maps.specs.Leaves.{Names, Rows, Leaves, names_in}
+use Rattle.leaf_maps.specs.Leaves.{Names, Rows, Leaves, kept_of, names_in}
 
 -- every leaf has the names that it had
 abbrev pub HaveSameNames : Leaves → Leaves → Type 0
@@ -19,7 +18,7 @@ HasRoomIn None = ⊥
 HasRoomIn (Some rows) = 0 < rows.room
 
 abbrev pub HasRoom : Leaves → ℕ → Fragment → Type 0
-HasRoom leaves d f = HasRoomIn (finmap.get leaves (record { 0 = d }, f))
+HasRoom leaves d f = HasRoomIn (kept_of leaves d f)
 
 -- room that leaves had is still there
 abbrev pub KeepRoom : Leaves → Leaves → Type 0
@@ -27,4 +26,4 @@ KeepRoom old new = (d : ℕ) (f : Fragment) → HasRoom old d f → HasRoom new 
 
 -- the rows of every other leaf are as they were
 abbrev pub AreLeftAlone : Leaves → Leaves → ℕ → Fragment → Type 0
-AreLeftAlone old new d f = (e : ℕ) (g : Fragment) → ((e ≡ d) × (g ≡ f) → ⊥) → finmap.get new (record { 0 = e }, g) ≡ finmap.get old (record { 0 = e }, g)
+AreLeftAlone old new d f = (e : ℕ) (g : Fragment) → ((e ≡ d) × (g ≡ f) → ⊥) → kept_of new e g ≡ kept_of old e g

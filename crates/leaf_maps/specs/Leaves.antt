@@ -1,5 +1,5 @@
 -- Names leaf by leaf, and the tree that they show.
-use Rattle.std.specs.Prelude.{◌≡◌, ℕ, List, [], ◌∷◌, ◌++◌, map, Option, Some, None}
+use Rattle.std.specs.Prelude.{◌≡◌, ℕ, true, List, [], ◌∷◌, ◌++◌, map, Option, Some, None}
 use Rattle.std.specs.declared.cmp.Ordering.{Ordering}
 use Rattle.std.specs.Ordering.{nat_cmp, ordering_then}
 use Rattle.std.specs.Cmp.Lexicographic.{slice_cmp}
@@ -10,9 +10,9 @@ use Rattle.mds_types.specs.declared.places.Place.{Place}
 use Rattle.mds_types.specs.declared.inodes.Inode.{Inode}
 use Rattle.mds_types.specs.Frag.{Fragment, frag_cmp}
 use Rattle.mds_types.specs.Tree.{Tree, place_of, at}
-use Rattle.fragtree.specs.FragTree.{IsPick}
+use Rattle.fragtree.specs.FragTree.{HasLeaf, IsPick}
 use Rattle.namehash.specs.Rjenkins.{hash_of}
-use Rattle.inode_table.specs.Dirs.{Covers, leaves_of}
+use Rattle.inode_table.specs.Dirs.{Homes, Covers, is_known, leaves_of}
 
 -- a leaf: a directory and a fragment of it. Leaves are ordered by directory, and then as fragments
 abbrev pub Leaf : Type 0
@@ -32,13 +32,17 @@ Rows = Shown (List ℕ) Inode
 abbrev pub Leaves : Type 0
 Leaves = finmap.FinMap leaf_cmp Rows
 
+-- what is kept of a leaf, if anything is
+abbrev pub kept_of : Leaves → ℕ → Fragment → Option Rows
+kept_of leaves d f = finmap.get leaves (record { 0 = d }, f)
+
 abbrev pub names_of : Option Rows → Names
 names_of None = finmap.empty
 names_of (Some rows) = contents (slice_cmp nat_cmp) rows
 
 -- the names that a leaf shows; a leaf of which nothing is kept shows none
 abbrev pub names_in : Leaves → ℕ → Fragment → Names
-names_in leaves d f = names_of (finmap.get leaves (record { 0 = d }, f))
+names_in leaves d f = names_of (kept_of leaves d f)
 
 -- the entries that names of a directory are
 abbrev pub entries_of : ℕ → List (List ℕ × Inode) → List (Place × Inode)
@@ -55,6 +59,10 @@ shown_by leaves = finmap.from_entries (entries_in (finmap.entries leaves))
 -- a leaf shows only names whose hashes pick it
 abbrev pub ArePlaced : Covers → Leaves → Type 0
 ArePlaced covers leaves = (d : ℕ) (f : Fragment) (name : List ℕ) (inode : Inode) → finmap.get (names_in leaves d f) name ≡ Some inode → IsPick (leaves_of covers d) (hash_of name) f
+
+-- nothing is kept but of a leaf of a directory that is known: what is gone left nothing behind
+abbrev pub AreStanding : Homes → Covers → Leaves → Type 0
+AreStanding homes covers leaves = (d : ℕ) (f : Fragment) (rows : Rows) → kept_of leaves d f ≡ Some rows → (is_known homes d ≡ true) × HasLeaf (leaves_of covers d) f
 
 -- a tree is the one shown: a name of a directory stands for the inode that the leaf has which its hash picks
 abbrev pub IsShown : Covers → Leaves → Tree → Type 0

@@ -47,11 +47,11 @@ pub gathers_put : (parts mid new : Leaves) (d : ℕ) (from to : List Fragment) (
     → IsRewritten mid new d leaf (finmap.insert (names_in mid d leaf) name inode) → AreLeftAlone mid new d leaf → IsPick to (hash_of name) leaf → is_leaf from leaf ≡ false → Gathers new d from to (finmap.insert have name inode)
 gathers_put parts mid new d from to have leaf name inode gathers same alone is kept pick fresh = record { fresh = still_fresh; placed = placed; held = held }
   where
-    still_fresh : (e : ℕ) (f : Fragment) (rows : Rows) → finmap.get new (record { 0 = e }, f) ≡ Some rows → (e ≡ d) × (is_leaf from f ≡ false)
+    still_fresh : (e : ℕ) (f : Fragment) (rows : Rows) → finmap.get new (record { 0 = e }, f) ≡ Some rows → (e ≡ d) × (is_leaf from f ≡ false) × HasLeaf to f
     still_fresh e f rows stands = go (one_or_other d e leaf f)
       where
-        go : ((e ≡ d) × (f ≡ leaf)) ⊎ ((e ≡ d) × (f ≡ leaf) → ⊥) → (e ≡ d) × (is_leaf from f ≡ false)
-        go (inl here) = (here.0, ap (is_leaf from) here.1 ∙ fresh)
+        go : ((e ≡ d) × (f ≡ leaf)) ⊎ ((e ≡ d) × (f ≡ leaf) → ⊥) → (e ≡ d) × (is_leaf from f ≡ false) × HasLeaf to f
+        go (inl here) = (here.0, ap (is_leaf from) here.1 ∙ fresh, subst (HasLeaf to) (sym here.1) pick.stands)
         go (inr apart) = gathers.fresh e f rows (sym (kept e f apart ∙ alone e f apart) ∙ stands)
 
     mine : (f : Fragment) (n : List ℕ) → f ≡ leaf → finmap.get (names_in new d f) n ≡ cond (eq_by_cmp (slice_cmp nat_cmp) n name) (Some inode) (finmap.get (names_in parts d leaf) n)

@@ -13,12 +13,12 @@ use Rattle.mds_types.specs.declared.inodes.Inode.{Inode}
 use Rattle.mds_types.specs.Frag.{Fragment, frag_cmp}
 use Rattle.mds_types.specs.PlaceLaws.{frag-exact, frag-total}
 use Rattle.mds_types.specs.EntryLaws.{tie}
-use Rattle.fragtree.specs.FragTree.{IsPick}
+use Rattle.fragtree.specs.FragTree.{HasLeaf, IsPick}
 use Rattle.namehash.specs.Rjenkins.{hash_of}
 use Rattle.leaf_maps.specs.Leaves.{Rows, Leaves, leaf_cmp, names_of, names_in}
 use Rattle.leaf_maps.specs.LeafLaws.{leaf-total}
 use Rattle.leaf_maps.specs.OneLeaf.{key, key_itself, apart_keys}
-use Rattle.leaf_maps.specs.Regroup.{ArePlacedIn, IsRegrouped, is_leaf, gathered, Gathers, cleared}
+use Rattle.leaf_maps.specs.Regroup.{ArePlacedIn, AreKeptIn, IsRegrouped, is_leaf, gathered, Gathers, cleared}
 use Rattle.leaf_maps.specs.RegroupLaws.{leaf_is, is_one, gathered_has}
 
 leaf_itself : (f : Fragment) (fs : List Fragment) → is_leaf (f ∷ fs) f ≡ true
@@ -73,13 +73,33 @@ module _ (old parts new : Leaves) (d : ℕ) (from to : List Fragment) (picks : (
     where
       go : (o : Option Rows) → finmap.get parts (key e f) ≡ o → o ≡ None
       go None none = refl
-      go (Some rows) stands = absurd (apart (gathers.fresh e f rows stands))
+      go (Some rows) stands = let part = gathers.fresh e f rows stands in absurd (apart (part.0, part.1))
+
+  kept_row : (e : ℕ) (g : Fragment) → ((f : Fragment) → is_leaf from f ≡ true → is_leaf to f ≡ false → (e ≡ d) × (g ≡ f) → ⊥) → finmap.get new (key e g) ≡ option_or (finmap.get parts (key e g)) (finmap.get old (key e g))
+  kept_row e g stays = ap (λ m. finmap.get m (key e g)) is ∙ cleared_other (overlaid old parts) d to from e g stays ∙ get-overlaid leaf-total old parts (key e g)
 
   kept : (e : ℕ) (g : Fragment) → ((f : Fragment) → is_leaf from f ≡ true → is_leaf to f ≡ false → (e ≡ d) × (g ≡ f) → ⊥) → names_in new e g ≡ names_of (option_or (finmap.get parts (key e g)) (finmap.get old (key e g)))
-  kept e g stays = ap (λ m. names_in m e g) is ∙ ap names_of (cleared_other (overlaid old parts) d to from e g stays ∙ get-overlaid leaf-total old parts (key e g))
+  kept e g stays = ap names_of (kept_row e g stays)
 
-  elsewhere : (e : ℕ) (f : Fragment) → (e ≡ d → ⊥) → names_in new e f ≡ names_in old e f
-  elsewhere e f apart = kept e f (λ g there gone same. apart same.0) ∙ ap (λ o. names_of (option_or o (finmap.get old (key e f)))) (no_part e f (λ same. apart same.0))
+  elsewhere : (e : ℕ) (f : Fragment) → (e ≡ d → ⊥) → finmap.get new (key e f) ≡ finmap.get old (key e f)
+  elsewhere e f apart = kept_row e f (λ g there gone same. apart same.0) ∙ ap (λ o. option_or o (finmap.get old (key e f))) (no_part e f (λ same. apart same.0))
+
+  -- a row that is left was copied to a leaf that comes, or stood before and stays
+  rows_now : AreKeptIn old d from → AreKeptIn new d to
+  rows_now before g rows stands = go (is_leaf from g) refl (is_leaf to g) refl
+    where
+      left : is_leaf from g ≡ false → (o : Option Rows) → finmap.get parts (key d g) ≡ o → option_or o (finmap.get old (key d g)) ≡ Some rows → HasLeaf to g
+      left isnt (Some part) copied has = (gathers.fresh d g part copied).2
+      left isnt None none has = let clash : true ≡ false = sym (leaf_is from g (before g rows has)) ∙ isnt in cc
+
+      go : (b : Bool) → is_leaf from g ≡ b → (c : Bool) → is_leaf to g ≡ c → HasLeaf to g
+      go b was true there = is_one to g there
+      go true was false goes =
+          let clash : None ≡ Some rows = sym (ap (λ m. finmap.get m (key d g)) is ∙ cleared_gone (overlaid old parts) d to from g was goes) ∙ stands in
+          cc
+      go false isnt false goes =
+          left isnt (finmap.get parts (key d g)) refl
+          (sym (kept_row d g (λ f there gone same. let clash : true ≡ false = sym there ∙ ap (is_leaf from) (sym same.1) ∙ isnt in cc)) ∙ stands)
 
   old_leaf : (g : Fragment) → is_leaf from g ≡ true → is_leaf to g ≡ true → names_in new d g ≡ names_in old d g
   old_leaf g was stays =
@@ -136,4 +156,4 @@ module _ (old parts new : Leaves) (d : ℕ) (from to : List Fragment) (picks : (
           ∙ gathered_has old d from to placed name f before finmap.empty from (inl (get-empty _ name)) (leaf_is from f before.stands) goes
 
   pub regrouped : IsRegrouped old new d from to
-  regrouped = record { elsewhere = elsewhere; placed = placed_now; same = same_value }
+  regrouped = record { elsewhere = elsewhere; rows = rows_now; placed = placed_now; same = same_value }

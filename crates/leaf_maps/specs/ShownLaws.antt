@@ -17,7 +17,7 @@ use Rattle.mds_types.specs.ListingLaws.{tied_place}
 use Rattle.fragtree.specs.FragTree.{IsPick}
 use Rattle.namehash.specs.Rjenkins.{hash_of}
 use Rattle.inode_table.specs.Dirs.{Covers, or_whole, leaves_of}
-use Rattle.leaf_maps.specs.Leaves.{Names, Leaves, names_in, shown_by, ArePlaced, HavePicks}
+use Rattle.leaf_maps.specs.Leaves.{Names, Leaves, names_of, names_in, shown_by, ArePlaced, HavePicks}
 use Rattle.leaf_maps.specs.Changes.{HaveSameNames, IsRewritten}
 use Rattle.leaf_maps.specs.LeafLaws.{shown_at}
 use Rattle.leaf_maps.specs.OneLeaf.{one_or_other, names_same}
@@ -60,7 +60,7 @@ module _ (covers later : Covers) (old new : Leaves) (d : ℕ) (to : List Fragmen
     where
       go : (e ≡ d) ⊎ (e ≡ d → ⊥) → IsPick (leaves_of later e) (hash_of name) f
       go (inl same) = subst (λ cover. IsPick cover (hash_of name) f) (sym (its e same)) (is.placed f name inode (ap (λ k. finmap.get (names_in new k f) name) (sym same) ∙ has))
-      go (inr apart) = subst (λ cover. IsPick cover (hash_of name) f) (sym (others e apart)) (placed e f name inode (ap (λ m. finmap.get m name) (sym (is.elsewhere e f apart)) ∙ has))
+      go (inr apart) = subst (λ cover. IsPick cover (hash_of name) f) (sym (others e apart)) (placed e f name inode (ap (λ m. finmap.get m name) (sym (ap names_of (is.elsewhere e f apart))) ∙ has))
 
   pub regrouped_shown : HavePicks covers → HavePicks later → shown_by new ≡ shown_by old
   regrouped_shown picks later_picks = shown_regrouped covers later old new picks later_picks placed regrouped_placed (λ e name f g before after. go e name f g before after (same_or_apart e d))
@@ -72,7 +72,7 @@ module _ (covers later : Covers) (old new : Leaves) (d : ℕ) (to : List Fragmen
           ∙ ap (λ k. finmap.get (names_in old k f) name) (sym same)
       go e name f g before after (inr apart) =
           let still : IsPick (leaves_of covers e) (hash_of name) g = subst (λ cover. IsPick cover (hash_of name) g) (others e apart) after in
-          ap (λ m. finmap.get m name) (is.elsewhere e g apart) ∙ ap (λ h. finmap.get (names_in old e h) name) (before.alone g still.stands still.contains)
+          ap (λ o. finmap.get (names_of o) name) (is.elsewhere e g apart) ∙ ap (λ h. finmap.get (names_in old e h) name) (before.alone g still.stands still.contains)
 
 -- one name of the leaf that its hash picks got another value, or went
 module _ (covers : Covers) (old new : Leaves) (picks : HavePicks covers) (placed : ArePlaced covers old) (d : ℕ) (f : Fragment) (name : List ℕ) (pick : IsPick (leaves_of covers d) (hash_of name) f)

@@ -1,5 +1,5 @@
 //! The calls over all leaves of a directory.
-ghost use Rattle.std.specs.Prelude.{◌≡◌, ℕ, [], not, length, nat_lt, take, IfOk, IsSome, MatchOption};
+ghost use Rattle.std.specs.Prelude.{◌≡◌, ℕ, [], None, not, length, nat_lt, take, IfOk, IsSome, MatchOption};
 ghost use Rattle.std.specs.Option.{option_copied};
 ghost use Rattle.std.specs.FinMap as map;
 ghost use Rattle.sorted_map.specs.SortedMap.{contents};
@@ -7,7 +7,7 @@ ghost use Rattle.mds_types.specs.Frag.{Fragment};
 ghost use Rattle.mds_types.specs.Tree.{has_entries};
 ghost use Rattle.mds_types.specs.Step.{names_after};
 ghost use Rattle.inode_table.specs.Dirs.{Covers};
-ghost use Rattle.leaf_maps.specs.Leaves.{leaf_cmp, names_in, shown_by, ArePlaced};
+ghost use Rattle.leaf_maps.specs.Leaves.{leaf_cmp, kept_of, shown_by, ArePlaced};
 ghost use Rattle.leaf_maps.specs.Listed.{leaves_of_dir};
 
 use crate::leaf_maps::LeafMaps;
@@ -40,10 +40,10 @@ impl LeafMaps {
         nothing_in(&self.leaves, dir)
     }
 
-    /// Drops all leaves of a directory, and what they have. Takes no memory.
+    /// Drops all leaves of a directory, and what they have: nothing is kept of any. Takes no memory.
     pub fn forget(&mut self, dir: Ino)
-        ensures gone { (f : Fragment) → names_in self.new dir.0 f ≡ map.empty }
-        ensures elsewhere { (e : ℕ) (f : Fragment) → (e ≡ dir.0 → ⊥) → names_in self.new e f ≡ names_in self.old e f }
+        ensures gone { (f : Fragment) → kept_of self.new dir.0 f ≡ None }
+        ensures elsewhere { (e : ℕ) (f : Fragment) → (e ≡ dir.0 → ⊥) → kept_of self.new e f ≡ kept_of self.old e f }
     {
         while let Some(leaf) = first_leaf(&self.leaves, dir) {
             drop(self.leaves.remove(&leaf));

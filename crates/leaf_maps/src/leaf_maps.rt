@@ -99,6 +99,7 @@ impl LeafMaps {
         ensures value { result ≡ map.get (names_in self.old dir.0 leaf) name.now }
         ensures erased { IsRewritten self.old self.new dir.0 leaf (map.remove (names_in self.old dir.0 leaf) name.now) }
         ensures room { KeepRoom self.old self.new }
+        ensures rows { AreLeftAlone self.old self.new dir.0 leaf }
     {
         match self.leaves.get_mut(&(dir, leaf)) {
             Some(names) => erase_name(names, name),

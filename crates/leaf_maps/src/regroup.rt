@@ -23,6 +23,8 @@ impl LeafMaps {
     /// the names of the leaves that `to` doesn't have go to the leaves of it that their hashes pick. All other leaves stay as
     /// they are.
     ///
+    /// Nothing is left of the leaves that `to` doesn't have.
+    ///
     /// The names that go are copied first, which is all the memory that this takes beside room for the new leaves. An error
     /// says that memory ran out, and then nothing was changed.
     pub fn regroup(

@@ -1,6 +1,6 @@
 -- A well-formed tree stays so where an entry moves: to a directory that is neither the entry itself nor below it, and onto
 -- nothing that has an entry.
-use Rattle.std.specs.Prelude.{◌≡◌, ℕ, Bool, true, false, cond, ◌&&◌, ◌||◌, ◌==◌, ◌⊎◌, Some, None, refl}
+use Rattle.std.specs.Prelude.{Option, ◌≡◌, ℕ, Bool, true, false, cond, ◌&&◌, ◌||◌, ◌==◌, ◌⊎◌, Some, None, refl}
 use Rattle.std.proofs.Common.{sym, ap, subst, ◌∙◌, ⊎_elim, inl, inr}
 use Rattle.std.specs.Ordering.{eq_by_cmp}
 use Rattle.std.specs.FinMap as map
@@ -8,7 +8,6 @@ use Rattle.mds_types.specs.declared.places.Place.{Place}
 use Rattle.mds_types.specs.declared.inodes.Inode.{Inode}
 use Rattle.mds_types.specs.Tree.{Tree, place_cmp, at, place_of, is_directory, is_dir_kind, is_above, has_entries, IsAbove, child, further, HasSize, IsWellFormed}
 use Rattle.mds_types.specs.Step.{with_moved, leads_to, replace_errno}
-use Rattle.mds_types.specs.declared.errno.TheConstants.{ENOTDIR, EISDIR, ENOTEMPTY}
 use Rattle.mds_types.specs.AboveLaws.{above_exact}
 use Rattle.sorted_map.specs.Bools.{neither_first, neither_second}
 use Rattle.sorted_map.specs.NatKeys.{is_same}
@@ -53,7 +52,7 @@ may_move tree from to inode whole move = record {
     not_under false kinded outside above = above_nothing tree inode.ino.0 to.dir.0 (nothing_in_file tree from inode whole move.stands kinded) above
 
     nothing : (t : Inode) → map.get tree to ≡ Some t → (a b : Bool) → is_dir_kind t.kind ≡ b → (e : Bool) → has_entries tree t.ino.0 ≡ e
-        → cond a (cond b (cond e (Some ENOTEMPTY) None) (Some ENOTDIR)) (cond b (Some EISDIR) None) ≡ None → NothingIn tree t.ino.0
+        → cond {A = Option ℕ} a (cond b (cond e (Some 39) None) (Some 20)) (cond b (Some 21) None) ≡ None → NothingIn tree t.ino.0
     nothing t there true true kinded true some replaces = cc
     nothing t there true true kinded false none replaces = nothing_in_empty tree t.ino.0 none
     nothing t there true false kinded e is replaces = cc

@@ -2,7 +2,6 @@
 use Rattle.std.specs.Prelude.{◌≡◌, ℕ, ◌<◌, ◌≤◌, List, length, Option, Some, None, Result, Ok, Err}
 use Rattle.mds_types.specs.declared.names.NameFault.{NameFault}
 use Rattle.mds_types.specs.declared.names.NameFault.TheVariants.{Invalid, TooLong, NoMemory}
-use Rattle.mds_types.specs.declared.errno.TheConstants.{EINVAL, ENAMETOOLONG}
 use Rattle.mds_types.specs.Name.{IsName}
 
 -- Ok exactly for a name, with those bytes; else the fault of its errno, unless memory is refused
@@ -14,6 +13,6 @@ NameFromBytes bytes (Err Invalid) = (length bytes ≤ 255) × (IsName bytes → 
 
 -- the error number that an operation on such a name answers
 abbrev pub name_errno : NameFault → Option ℕ
-name_errno Invalid = Some EINVAL
-name_errno TooLong = Some ENAMETOOLONG
+name_errno Invalid = Some 22
+name_errno TooLong = Some 36
 name_errno NoMemory = None

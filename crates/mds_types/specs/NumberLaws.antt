@@ -6,7 +6,6 @@ use Rattle.std.specs.FinMap as map
 use Rattle.mds_types.specs.declared.places.Place.{Place}
 use Rattle.mds_types.specs.declared.inodes.Inode.{Inode}
 use Rattle.mds_types.specs.declared.inodes.Kind.TheVariants.{File, Dir, Symlink as Link}
-use Rattle.mds_types.specs.declared.errno.TheConstants.{ENOTDIR, EISDIR, EINVAL, ENOTEMPTY, ESTALE}
 use Rattle.mds_types.specs.declared.replies.Reply.{Reply}
 use Rattle.mds_types.specs.declared.replies.Reply.TheVariants.{Entry, Done, Errno}
 use Rattle.mds_types.specs.declared.operations.Op.{Op}
@@ -64,23 +63,23 @@ kept_old tree n reply q inode stands = inl (q, inode, stands, refl)
 unlinked_old : (tree : Tree) (n : ℕ) (place : Place) (other : Option Inode) → IsOld tree n (unlinked tree place other)
 unlinked_old tree n place None = same_old tree n (unlinked tree place None) refl
 unlinked_old tree n place (Some inode) =
-    either_old (is_dir_kind inode.kind) tree n (answers tree (Errno EISDIR)) (answers (map.remove tree place) Done) (kept_old tree n (Errno EISDIR)) (removed_old tree n place)
+    either_old (is_dir_kind inode.kind) tree n (answers tree (Errno 21)) (answers (map.remove tree place) Done) (kept_old tree n (Errno 21)) (removed_old tree n place)
 
 dir_removed_old : (tree : Tree) (n : ℕ) (place : Place) (other : Option Inode) → IsOld tree n (dir_removed tree place other)
 dir_removed_old tree n place None = same_old tree n (dir_removed tree place None) refl
 dir_removed_old tree n place (Some inode) =
-    let emptied = cond (has_entries tree inode.ino.0) (answers tree (Errno ENOTEMPTY)) (answers (map.remove tree place) Done) in
-    either_old (is_dir_kind inode.kind) tree n emptied (answers tree (Errno ENOTDIR))
-    (either_old (has_entries tree inode.ino.0) tree n (answers tree (Errno ENOTEMPTY)) (answers (map.remove tree place) Done) (kept_old tree n (Errno ENOTEMPTY)) (removed_old tree n place))
-    (kept_old tree n (Errno ENOTDIR))
+    let emptied = cond (has_entries tree inode.ino.0) (answers tree (Errno 39)) (answers (map.remove tree place) Done) in
+    either_old (is_dir_kind inode.kind) tree n emptied (answers tree (Errno 20))
+    (either_old (has_entries tree inode.ino.0) tree n (answers tree (Errno 39)) (answers (map.remove tree place) Done) (kept_old tree n (Errno 39)) (removed_old tree n place))
+    (kept_old tree n (Errno 20))
 
 renamed_old : (tree : Tree) (n : ℕ) (from to : Place) (source target : Option Inode) → map.get tree from ≡ source → IsOld tree n (renamed tree from to source target)
 renamed_old tree n from to None target is = same_old tree n (renamed tree from to None target) refl
 renamed_old tree n from to (Some moved) target is =
     let onto = unless tree (replace_errno tree moved target) (answers (with_moved tree from to moved) Done) in
-    let below = cond (leads_to tree moved to.dir.0) (answers tree (Errno EINVAL)) onto in
+    let below = cond (leads_to tree moved to.dir.0) (answers tree (Errno 22)) onto in
     either_old (eq_by_cmp place_cmp from to) tree n (answers tree Done) below (kept_old tree n Done)
-    (either_old (leads_to tree moved to.dir.0) tree n (answers tree (Errno EINVAL)) onto (kept_old tree n (Errno EINVAL))
+    (either_old (leads_to tree moved to.dir.0) tree n (answers tree (Errno 22)) onto (kept_old tree n (Errno 22))
     (unless_old (replace_errno tree moved target) tree n (answers (with_moved tree from to moved) Done)
     (λ q inode stands.
     ⊎_elim (λ w. inl (from, moved, is, ap (λ (i : Inode). i.ino.0) w.1)) (λ w. let before = stands_after_removal tree from q inode w.1 in inl (q, inode, before.1, refl))
@@ -101,4 +100,4 @@ within_old tree (Rename dir name to_dir to_name) n = renamed_old tree n (place_o
 -- an inode of the tree that a step leaves stood before, or has the number that the step took
 pub old_or_taken : (tree : Tree) (op : Op) (n : ℕ) → IsOld tree n (step tree op n)
 old_or_taken tree op n =
-    either_old (is_directory tree (directory_of op) && is_directory tree (destination_of op)) tree n (within tree op n) (answers tree (Errno ESTALE)) (within_old tree op n) (kept_old tree n (Errno ESTALE))
+    either_old (is_directory tree (directory_of op) && is_directory tree (destination_of op)) tree n (within tree op n) (answers tree (Errno 116)) (within_old tree op n) (kept_old tree n (Errno 116))

@@ -6,7 +6,6 @@ use Rattle.std.specs.Ordering.{is_lt}
 use Rattle.std.specs.Cmp.Lexicographic.{slice_cmp}
 use Rattle.std.specs.Ordering.{nat_cmp, eq_by_cmp}
 use Rattle.std.specs.FinMap as map
-use Rattle.mds_types.specs.declared.errno.TheConstants.{ENOENT, EEXIST, ENOTDIR, EISDIR, EINVAL, ENOTEMPTY, ESTALE}
 use Rattle.mds_types.specs.declared.ids.Ino.{Ino}
 use Rattle.mds_types.specs.declared.places.Place.{Place}
 use Rattle.mds_types.specs.declared.inodes.Inode.{Inode}
@@ -63,7 +62,7 @@ names_after tree dir after =
 
 -- lookup: absent ENOENT
 abbrev pub found : Tree → Option Inode → Outcome
-found tree None = answers tree (Errno ENOENT)
+found tree None = answers tree (Errno 2)
 found tree (Some inode) = answers tree (Entry inode)
 
 -- the first `max` of these names, and whether further ones follow
@@ -72,7 +71,7 @@ page tree max names = answers tree (Entries (take max names) (nat_lt max (length
 
 -- a new inode at a place: present EEXIST
 abbrev pub made : Tree → Place → Inode → Option Inode → Outcome
-made tree place inode (Some other) = answers tree (Errno EEXIST)
+made tree place inode (Some other) = answers tree (Errno 17)
 made tree place inode None = record { reply = Entry inode; tree = map.insert tree place inode; takes = true }
 
 -- a new file or directory has size 0, and a link the size of its target
@@ -90,21 +89,21 @@ link_mode = 511
 
 -- what a link points to: of what is no link EINVAL
 abbrev pub target_of : Kind → Reply
-target_of File = Errno EINVAL
-target_of Dir = Errno EINVAL
+target_of File = Errno 22
+target_of Dir = Errno 22
 target_of (Link target) = Target target
 
 -- readlink: absent ENOENT
 abbrev pub read_link : Tree → Option Inode → Outcome
-read_link tree None = answers tree (Errno ENOENT)
+read_link tree None = answers tree (Errno 2)
 read_link tree (Some inode) = answers tree (target_of inode.kind)
 
 -- a size may be given to a file alone: to a directory EISDIR, to a link EINVAL
 abbrev pub size_errno : Kind → Option ℕ → Option ℕ
 size_errno kind None = None
 size_errno File (Some size) = None
-size_errno Dir (Some size) = Some EISDIR
-size_errno (Link target) (Some size) = Some EINVAL
+size_errno Dir (Some size) = Some 21
+size_errno (Link target) (Some size) = Some 22
 
 -- the inode with the attributes that are given; the others stay
 abbrev pub with_attributes : Option ℕ → Option ℕ → Option ℕ → Inode → Inode
@@ -112,31 +111,31 @@ with_attributes mode size mtime inode = record inode { mode = unwrap_or mode ino
 
 -- setattr: absent ENOENT, then a size for what is no file
 abbrev pub attributes_set : Tree → Place → Option ℕ → Option ℕ → Option ℕ → Option Inode → Outcome
-attributes_set tree place mode size mtime None = answers tree (Errno ENOENT)
+attributes_set tree place mode size mtime None = answers tree (Errno 2)
 attributes_set tree place mode size mtime (Some inode) =
     let changed = with_attributes mode size mtime inode in
     unless tree (size_errno inode.kind size) (answers (map.insert tree place changed) (Entry changed))
 
 -- unlink: absent ENOENT, a directory EISDIR (where POSIX.1 names EPERM)
 abbrev pub unlinked : Tree → Place → Option Inode → Outcome
-unlinked tree place None = answers tree (Errno ENOENT)
-unlinked tree place (Some inode) = cond (is_dir_kind inode.kind) (answers tree (Errno EISDIR)) (answers (map.remove tree place) Done)
+unlinked tree place None = answers tree (Errno 2)
+unlinked tree place (Some inode) = cond (is_dir_kind inode.kind) (answers tree (Errno 21)) (answers (map.remove tree place) Done)
 
 -- rmdir: absent ENOENT, no directory ENOTDIR, not empty ENOTEMPTY
 abbrev pub dir_removed : Tree → Place → Option Inode → Outcome
-dir_removed tree place None = answers tree (Errno ENOENT)
+dir_removed tree place None = answers tree (Errno 2)
 dir_removed tree place (Some inode) =
     cond (is_dir_kind inode.kind)
-    (cond (has_entries tree inode.ino.0) (answers tree (Errno ENOTEMPTY)) (answers (map.remove tree place) Done))
-    (answers tree (Errno ENOTDIR))
+    (cond (has_entries tree inode.ino.0) (answers tree (Errno 39)) (answers (map.remove tree place) Done))
+    (answers tree (Errno 20))
 
 -- a directory may replace an empty directory alone, anything else only what is no directory
 abbrev pub replace_errno : Tree → Inode → Option Inode → Option ℕ
 replace_errno tree inode None = None
 replace_errno tree inode (Some target) =
     cond (is_dir_kind inode.kind)
-    (cond (is_dir_kind target.kind) (cond (has_entries tree target.ino.0) (Some ENOTEMPTY) None) (Some ENOTDIR))
-    (cond (is_dir_kind target.kind) (Some EISDIR) None)
+    (cond (is_dir_kind target.kind) (cond (has_entries tree target.ino.0) (Some 39) None) (Some 20))
+    (cond (is_dir_kind target.kind) (Some 21) None)
 
 -- whether an inode is a directory that is d or above it
 abbrev pub leads_to : Tree → Inode → ℕ → Bool
@@ -148,10 +147,10 @@ with_moved tree from to inode = map.insert (map.remove tree from) to inode
 
 -- rename: absent ENOENT; to its own place, nothing happens; a directory below itself EINVAL; then what stands at the target
 abbrev pub renamed : Tree → Place → Place → Option Inode → Option Inode → Outcome
-renamed tree from to None target = answers tree (Errno ENOENT)
+renamed tree from to None target = answers tree (Errno 2)
 renamed tree from to (Some inode) target =
     cond (eq_by_cmp place_cmp from to) (answers tree Done)
-    (cond (leads_to tree inode to.dir.0) (answers tree (Errno EINVAL))
+    (cond (leads_to tree inode to.dir.0) (answers tree (Errno 22))
     (unless tree (replace_errno tree inode target) (answers (with_moved tree from to inode) Done)))
 
 -- an operation in directories that stand, offered the number n
@@ -170,7 +169,7 @@ within tree (Rename dir name to_dir to_name) n =
 
 -- the table: first of all, a number that is no directory of the tree now is ESTALE
 abbrev pub step : Tree → Op → ℕ → Outcome
-step tree op n = cond (is_directory tree (directory_of op) && is_directory tree (destination_of op)) (within tree op n) (answers tree (Errno ESTALE))
+step tree op n = cond (is_directory tree (directory_of op) && is_directory tree (destination_of op)) (within tree op n) (answers tree (Errno 116))
 
 -- the number in an option, if it counts
 abbrev pub number_or : Option Ino → ℕ

@@ -1,7 +1,6 @@
 -- Laws of the operation table.
 use Rattle.std.specs.Prelude.{◌≡◌, ℕ, Bool, true, false, cond, not, ◌&&◌, Option, Some, None, refl}
 use Rattle.std.proofs.Common.{sym}
-use Rattle.mds_types.specs.declared.errno.TheConstants.{ESTALE}
 use Rattle.mds_types.specs.declared.places.Place.{Place}
 use Rattle.mds_types.specs.declared.inodes.Inode.{Inode}
 use Rattle.mds_types.specs.declared.operations.Op.{Op}
@@ -119,7 +118,7 @@ within-leaves tree (Unlink dir name) n = unlinked-leaves tree (place_of dir.0 na
 within-leaves tree (Rmdir dir name) n = dir_removed-leaves tree (place_of dir.0 name) (at tree dir.0 name)
 within-leaves tree (Rename dir name to_dir to_name) n = renamed-leaves tree (place_of dir.0 name) (place_of to_dir.0 to_name) (at tree dir.0 name) (at tree to_dir.0 to_name)
 
-chosen-leaves : (b : Bool) (tree : Tree) (x : Outcome) → ErrnoLeaves tree x → ErrnoLeaves tree (cond b x (answers tree (Errno ESTALE)))
+chosen-leaves : (b : Bool) (tree : Tree) (x : Outcome) → ErrnoLeaves tree x → ErrnoLeaves tree (cond b x (answers tree (Errno 116)))
 chosen-leaves true tree x h = h
 chosen-leaves false tree x h = λ errno. refl
 
@@ -184,7 +183,7 @@ and_false : (b : Bool) → (b && false) ≡ false
 and_false true = refl
 and_false false = refl
 
-chosen-takes : (b : Bool) (tree : Tree) (op : Op) (x : Outcome) → TakesWhereMade op x → TakesWhereMade op (cond b x (answers tree (Errno ESTALE)))
+chosen-takes : (b : Bool) (tree : Tree) (op : Op) (x : Outcome) → TakesWhereMade op x → TakesWhereMade op (cond b x (answers tree (Errno 116)))
 chosen-takes true tree op x h = h
 chosen-takes false tree op x h = sym (and_false (makes op))
 
@@ -214,4 +213,4 @@ chosen-errno false x y z same = refl
 
 pub errno_of_any_number : (tree : Tree) (op : Op) (n m : ℕ) → is_errno (step tree op n).reply ≡ is_errno (step tree op m).reply
 errno_of_any_number tree op n m =
-    chosen-errno (is_directory tree (directory_of op) && is_directory tree (destination_of op)) (within tree op n) (within tree op m) (answers tree (Errno ESTALE)) (within-errno tree op n m)
+    chosen-errno (is_directory tree (directory_of op) && is_directory tree (destination_of op)) (within tree op n) (within tree op m) (answers tree (Errno 116)) (within-errno tree op n m)

@@ -2,7 +2,6 @@
 use Rattle.std.specs.Prelude.{◌≡◌, ℕ, ◌<◌, ◌≤◌, List, [], length, Option, Some, None, Result, Ok, Err}
 use Rattle.mds_types.specs.declared.targets.TargetFault.{TargetFault}
 use Rattle.mds_types.specs.declared.targets.TargetFault.TheVariants.{Empty, Invalid, TooLong, NoMemory}
-use Rattle.mds_types.specs.declared.errno.TheConstants.{ENOENT, EINVAL, ENAMETOOLONG}
 use Rattle.mds_types.specs.Name.{IsTarget}
 
 -- Ok exactly for a target, with those bytes; else the fault of its errno, unless memory is refused
@@ -15,7 +14,7 @@ TargetFromBytes bytes (Err Invalid) = (0 < length bytes) × (length bytes ≤ 40
 
 -- the error number that an operation with such a target answers
 abbrev pub target_errno : TargetFault → Option ℕ
-target_errno Empty = Some ENOENT
-target_errno Invalid = Some EINVAL
-target_errno TooLong = Some ENAMETOOLONG
+target_errno Empty = Some 2
+target_errno Invalid = Some 22
+target_errno TooLong = Some 36
 target_errno NoMemory = None

@@ -6,7 +6,6 @@ use Rattle.std.specs.declared.cmp.Ordering.TheVariants.{Less, Equal, Greater}
 use Rattle.std.specs.Ordering.{is_eq, eq_by_cmp}
 use Rattle.std.specs.FinMap as map
 use Rattle.std.specs.FinMap.{get-insert}
-use Rattle.mds_types.specs.declared.errno.TheConstants.{ESTALE}
 use Rattle.mds_types.specs.declared.replies.Reply.TheVariants.{Errno}
 use Rattle.mds_types.specs.declared.places.Place.{Place}
 use Rattle.mds_types.specs.declared.inodes.Inode.{Inode}
@@ -191,7 +190,7 @@ pub step_keeps_well_formed : (tree : Tree) (op : Op) (n : ℕ) → IsWellFormed 
 step_keeps_well_formed tree op n whole unused = go (is_directory tree (directory_of op)) (is_directory tree (destination_of op)) refl refl unused
   where
     go : (a b : Bool) → is_directory tree (directory_of op) ≡ a → is_directory tree (destination_of op) ≡ b
-        → ((cond (a && b) (within tree op n) (answers tree (Errno ESTALE))).takes ≡ true → IsUnused tree n) → IsWellFormed (cond (a && b) (within tree op n) (answers tree (Errno ESTALE))).tree
+        → ((cond (a && b) (within tree op n) (answers tree (Errno 116))).takes ≡ true → IsUnused tree n) → IsWellFormed (cond (a && b) (within tree op n) (answers tree (Errno 116))).tree
     go true true here there takes = within-well-formed tree op n whole takes here there
     go true false here there takes = whole
     go false b here there takes = whole

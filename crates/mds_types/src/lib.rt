@@ -8,6 +8,7 @@ mod errno;
 mod frags;
 mod ids;
 mod inodes;
+pub mod laws;
 mod listings;
 mod modes;
 mod names;

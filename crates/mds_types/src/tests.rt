@@ -1,5 +1,6 @@
 //! Which bytes are names and targets, by rows worked by hand; and that copies succeed, which no clause says.
 
+mod fragments;
 mod object_names;
 
 use crate::{

@@ -7,7 +7,6 @@ use Rattle.mds_types.specs.declared.inodes.Inode.{Inode}
 use Rattle.mds_types.specs.declared.inodes.Kind.{Kind}
 use Rattle.mds_types.specs.Tree.{Tree, place_cmp, is_directory, HasSize}
 use Rattle.std.specs.Ordering.{eq_by_cmp}
-use Rattle.mds_types.specs.declared.errno.TheConstants.{EINVAL}
 use Rattle.mds_types.specs.declared.refusals.Refusal.{Refusal}
 use Rattle.mds_types.specs.declared.replies.Reply.TheVariants.{Done, Errno}
 use Rattle.mds_types.specs.Step.{Outcome, answers, unless, leads_to, replace_errno, renamed, with_moved, new_inode}
@@ -50,5 +49,5 @@ pub renamed_on : (tree : Tree) (from to : Place) (source target : Option Inode) 
     → unless tree (replace_errno tree inode target) (answers (with_moved tree from to inode) Done) ≡ renamed tree from to source target
 renamed_on tree from to source target inode stands apart outside =
     sym (ap (λ o. renamed tree from to o target) stands
-    ∙ ap (λ b. cond b (answers tree Done) (cond (leads_to tree inode to.dir.0) (answers tree (Errno EINVAL)) (unless tree (replace_errno tree inode target) (answers (with_moved tree from to inode) Done)))) apart
-    ∙ ap (λ b. cond b (answers tree (Errno EINVAL)) (unless tree (replace_errno tree inode target) (answers (with_moved tree from to inode) Done))) outside)
+    ∙ ap (λ b. cond b (answers tree Done) (cond (leads_to tree inode to.dir.0) (answers tree (Errno 22)) (unless tree (replace_errno tree inode target) (answers (with_moved tree from to inode) Done)))) apart
+    ∙ ap (λ b. cond b (answers tree (Errno 22)) (unless tree (replace_errno tree inode target) (answers (with_moved tree from to inode) Done))) outside)

@@ -1,5 +1,5 @@
 -- What a store holds: objects by their names.
-use Rattle.std.specs.Prelude.{ℕ, ◌<◌, List, Option, Bool, map, filter, take, length, nat_lt}
+use Rattle.std.specs.Prelude.{ℕ, ◌<◌, List, Option, Some, None, Bool, map, filter, take, length, nat_lt}
 use Rattle.std.specs.Option.{option_map, unwrap_or}
 use Rattle.std.specs.FinMap as finmap
 use Rattle.mds_types.specs.Step.{is_after}
@@ -58,3 +58,28 @@ MayRefuse before after InboxFull = ⊥
 MayRefuse before after NothingToEvict = ⊥
 MayRefuse before after (Damaged object) = ⊥
 MayRefuse before after NotClean = ⊥
+
+-- how many faults an answer tells: one, where it is refused by a fault
+abbrev pub faults_in : Refusal → ℕ
+faults_in NoMemory = 0
+faults_in StoreFault = 1
+faults_in NoInodes = 0
+faults_in Trimmed = 0
+faults_in NotAuthority = 0
+faults_in Frozen = 0
+faults_in Pinned = 0
+faults_in NoSuchFrag = 0
+faults_in BadSplit = 0
+faults_in TooManyFrags = 0
+faults_in StaleJob = 0
+faults_in JobOutstanding = 0
+faults_in WrongExportState = 0
+faults_in InboxEmpty = 0
+faults_in InboxFull = 0
+faults_in NothingToEvict = 0
+faults_in (Damaged object) = 0
+faults_in NotClean = 0
+
+abbrev pub faults_told : Option Refusal → ℕ
+faults_told None = 0
+faults_told (Some refusal) = faults_in refusal

@@ -1,9 +1,6 @@
 //! A store that fails one call.
-ghost use Rattle.std.specs.Prelude.{◌≡◌, ◌-◌, ◌+◌, ◌≤◌, ℕ, IsTrue, IfOk, IfErr, OnOk, OnErr, IsErrOf, option_copied, if◌then◌else◌, ◌==◌};
-ghost use Rattle.mds_types.specs.declared.refusals.Refusal.TheVariants.{StoreFault};
-ghost use Rattle.std.specs.FinMap as finmap;
-ghost use Rattle.objstore.specs.Faulty.{Faulty, IsCalled, all_faults};
-ghost use Rattle.objstore.specs.Objects.{MayRefuse, first_names, header_at, names_after, page_at, written};
+ghost use Rattle.std.specs.Prelude.{◌≡◌, ◌-◌, ◌+◌, ◌↔◌, IsTrue, if◌then◌else◌};
+ghost use Rattle.objstore.specs.Faulty.{IsPassedOn, all_faults};
 
 use crate::name_pages::NamePage;
 use crate::stores::Store;
@@ -12,7 +9,8 @@ use omap::{Bytes, Page, WriteOp};
 use std::alloc::Global;
 use std::marker::Model;
 
-/// A store over another one, of which one call fails: it isn't done, and answers a fault. Calls after it go on.
+/// A store over another one, of which one call fails: it isn't done, and answers a fault. Each other call is one call of the
+/// store below, whose answer is given on.
 #[derive(Debug, Drop)]
 pub struct FaultStore<S: Store + Drop> {
     store: S,
@@ -61,8 +59,9 @@ impl<S: Store + Drop> FaultStore<S> {
 
     // Counts a call, and tells whether it is the one that fails.
     fn fails(&mut self) -> bool
-        ensures called { IsCalled self.old self.new (IsTrue result) }
-        ensures told { IsTrue result → self.old.left ≡ 1 }
+        ensures told { IsTrue result ↔ (self.old.left ≡ 1) }
+        ensures left { self.new.left ≡ self.old.left - 1 }
+        ensures failed { self.new.failed ≡ self.old.failed + (if result then 1 else 0) }
         ensures store { self.new.store ≡ self.old.store }
     {
         if self.left == 0 {
@@ -82,13 +81,9 @@ impl<S: Store + Drop> Store for FaultStore<S> {
 
     ghost faults = { all_faults S.faults };
 
-    fn header(&mut self, alloc: Global, name: &str) -> Result<Option<Bytes>, Refusal>
-        ensures found { IfOk result (λ header. header ≡ header_at (S.objects self.old.store) name.now) }
-        ensures same { S.objects self.new.store ≡ S.objects self.old.store }
-        ensures grows { all_faults S.faults self.old ≤ all_faults S.faults self.new }
-        ensures refused { IfErr result (MayRefuse (all_faults S.faults self.old) (all_faults S.faults self.new)) }
-        ensures called { IsCalled self.old self.new (IsErrOf result StoreFault) }
-    {
+    ghost IsCall = { IsPassedOn S.IsCall };
+
+    fn header(&mut self, alloc: Global, name: &str) -> Result<Option<Bytes>, Refusal> {
         if self.fails() {
             return Err(Refusal::StoreFault);
         }
@@ -101,40 +96,21 @@ impl<S: Store + Drop> Store for FaultStore<S> {
         name: &str,
         after: Option<&Bytes>,
         max: usize,
-    ) -> Result<Option<Page>, Refusal>
-        requires { 1 ≤ max }
-        ensures found { IfOk result (λ page. page ≡ page_at (S.objects self.old.store) name.now (option_copied after.entry) max) }
-        ensures same { S.objects self.new.store ≡ S.objects self.old.store }
-        ensures grows { all_faults S.faults self.old ≤ all_faults S.faults self.new }
-        ensures refused { IfErr result (MayRefuse (all_faults S.faults self.old) (all_faults S.faults self.new)) }
-        ensures called { IsCalled self.old self.new (IsErrOf result StoreFault) }
-    {
+    ) -> Result<Option<Page>, Refusal> {
         if self.fails() {
             return Err(Refusal::StoreFault);
         }
         self.store.page(alloc, name, after, max)
     }
 
-    fn apply(&mut self, alloc: Global, name: &str, op: &WriteOp) -> Result<(), Refusal>
-        ensures done { OnOk result (S.objects self.new.store ≡ written (S.objects self.old.store) name.now op.now) }
-        ensures same { OnErr result (S.objects self.new.store ≡ S.objects self.old.store) }
-        ensures grows { all_faults S.faults self.old ≤ all_faults S.faults self.new }
-        ensures refused { IfErr result (MayRefuse (all_faults S.faults self.old) (all_faults S.faults self.new)) }
-        ensures called { IsCalled self.old self.new (IsErrOf result StoreFault) }
-    {
+    fn apply(&mut self, alloc: Global, name: &str, op: &WriteOp) -> Result<(), Refusal> {
         if self.fails() {
             return Err(Refusal::StoreFault);
         }
         self.store.apply(alloc, name, op)
     }
 
-    fn remove(&mut self, name: &str) -> Result<(), Refusal>
-        ensures done { OnOk result (S.objects self.new.store ≡ finmap.remove (S.objects self.old.store) name.now) }
-        ensures same { OnErr result (S.objects self.new.store ≡ S.objects self.old.store) }
-        ensures grows { all_faults S.faults self.old ≤ all_faults S.faults self.new }
-        ensures refused { IfErr result (MayRefuse (all_faults S.faults self.old) (all_faults S.faults self.new)) }
-        ensures called { IsCalled self.old self.new (IsErrOf result StoreFault) }
-    {
+    fn remove(&mut self, name: &str) -> Result<(), Refusal> {
         if self.fails() {
             return Err(Refusal::StoreFault);
         }
@@ -146,14 +122,7 @@ impl<S: Store + Drop> Store for FaultStore<S> {
         alloc: Global,
         after: Option<&str>,
         max: usize,
-    ) -> Result<NamePage, Refusal>
-        requires { 1 ≤ max }
-        ensures found { IfOk result (λ page. page ≡ first_names max (names_after (S.objects self.old.store) (option_copied after.entry))) }
-        ensures same { S.objects self.new.store ≡ S.objects self.old.store }
-        ensures grows { all_faults S.faults self.old ≤ all_faults S.faults self.new }
-        ensures refused { IfErr result (MayRefuse (all_faults S.faults self.old) (all_faults S.faults self.new)) }
-        ensures called { IsCalled self.old self.new (IsErrOf result StoreFault) }
-    {
+    ) -> Result<NamePage, Refusal> {
         if self.fails() {
             return Err(Refusal::StoreFault);
         }

@@ -1,9 +1,9 @@
 //! A store in memory.
-ghost use Rattle.std.specs.Prelude.{◌≡◌, ℕ, List, None, map, IfOk, IfErr, OnOk, OnErr, option_copied, string_bytes};
+ghost use Rattle.std.specs.Prelude.{◌≡◌, ◌≤◌, ℕ, List, None, map, IfOk, IfErr, IsOk, IsSome, OnOk, OnErr, option_copied, string_bytes};
 ghost use Rattle.std.specs.FinMap as finmap;
 ghost use Rattle.mds_types.specs.declared.refusals.Refusal.TheVariants.{NoMemory};
 ghost use Rattle.omap.specs.Omap.{Omap, key_cmp};
-ghost use Rattle.objstore.specs.Objects.{names_after, written};
+ghost use Rattle.objstore.specs.Objects.{header_at, names_after, page_at, written};
 ghost use Rattle.sorted_map.specs.SortedMap.{contents};
 
 use crate::name_pages::{NamePage, first_names};
@@ -76,20 +76,33 @@ impl Store for MemStore {
 
     ghost faults = { λ _. 0 };
 
-    fn header(&mut self, alloc: Global, name: &str) -> Result<Option<Bytes>, Refusal> {
+    ghost IsCall = { λ _ _ _. Unit {0} };
+
+    /// Takes memory for a copy of the header: of an object that is absent none.
+    fn header(&mut self, alloc: Global, name: &str) -> Result<Option<Bytes>, Refusal>
+        ensures found { IfOk result (λ header. header ≡ header_at self.old name.now) }
+        ensures same { self.new ≡ self.old }
+        ensures refused { IfErr result (λ refusal. (refusal ≡ NoMemory) × IsSome (finmap.get self.old name.now)) }
+    {
         match self.get(name) {
             Some(object) => Ok(Some(object.header().try_clone()?)),
             None => Ok(None),
         }
     }
 
+    /// Takes memory for copies of the pairs: of an object that is absent none.
     fn page(
         &mut self,
         alloc: Global,
         name: &str,
         after: Option<&Bytes>,
         max: usize,
-    ) -> Result<Option<Page>, Refusal> {
+    ) -> Result<Option<Page>, Refusal>
+        requires { 1 ≤ max }
+        ensures found { IfOk result (λ page. page ≡ page_at self.old name.now (option_copied after.entry) max) }
+        ensures same { self.new ≡ self.old }
+        ensures refused { IfErr result (λ refusal. (refusal ≡ NoMemory) × IsSome (finmap.get self.old name.now)) }
+    {
         match self.get(name) {
             Some(object) => Ok(Some(object.page(alloc, after, max)?)),
             None => Ok(None),
@@ -100,7 +113,11 @@ impl Store for MemStore {
         Ok(write(&mut self.objects, alloc, name, op)?)
     }
 
-    fn remove(&mut self, name: &str) -> Result<(), Refusal> {
+    /// Never refused, whether the object is there or not.
+    fn remove(&mut self, name: &str) -> Result<(), Refusal>
+        ensures done { IsOk result }
+        ensures removed { self.new ≡ finmap.remove self.old name.now }
+    {
         let _ = self.objects.remove(&NameRef { text: name });
         Ok(())
     }

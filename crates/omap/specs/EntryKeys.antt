@@ -10,3 +10,7 @@ entry_key name = name ++ codes "_head"
 abbrev pub NamesKey : List ℕ → Option (List ℕ) → Type 0
 NamesKey key (Some name) = IsName name × (key ≡ entry_key name)
 NamesKey key None = (name : List ℕ) → IsName name → key ≡ entry_key name → ⊥
+
+-- the key of some name
+abbrev pub IsEntryKey : List ℕ → Type 0
+IsEntryKey key = (name : List ℕ) × IsName name × (key ≡ entry_key name)

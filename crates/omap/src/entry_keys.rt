@@ -1,6 +1,6 @@
 //! The keys of directory entries.
-ghost use Rattle.std.specs.Prelude.{◌≡◌, IfOk};
-ghost use Rattle.omap.specs.EntryKeys.{NamesKey, entry_key};
+ghost use Rattle.std.specs.Prelude.{◌≡◌, IfOk, OnErr};
+ghost use Rattle.omap.specs.EntryKeys.{IsEntryKey, NamesKey, entry_key};
 
 use crate::bytes::Bytes;
 use mds_types::{Name, NameFault};
@@ -20,9 +20,10 @@ pub fn key_of(alloc: Global, name: &Name) -> Result<Bytes, AllocError>
     Ok(Bytes::from_vec(key))
 }
 
-/// The name whose key this is; none, where it is no name's key. Takes memory for the name.
+/// The name whose key this is; none, where it is no name's key. Takes memory for the name: none for another key.
 pub fn name_of(alloc: Global, key: &[u8]) -> Result<Option<Name>, AllocError>
-    ensures { IfOk result (NamesKey key.now) }
+    ensures named { IfOk result (NamesKey key.now) }
+    ensures memory { OnErr result (IsEntryKey key.now) }
 {
     let Some(front) = key.strip_suffix(HEAD) else {
         return Ok(None);

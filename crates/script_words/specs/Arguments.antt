@@ -1,7 +1,6 @@
 -- The words after a command's first: what each kind of them stands for.
 use Rattle.std.specs.Prelude.{ℕ, Bool, false, not, ◌&&◌, ◌==◌, nat_lt, nat_le, if◌then◌else◌, List, [], ◌∷◌, length, Option, Some, None, option_map, option_and_then, Result, Ok, Err}
 use Rattle.std.specs.List.{list_all}
-use Rattle.mds_types.specs.declared.errno.TheConstants.{EINVAL, ENAMETOOLONG, ENOENT}
 use Rattle.mds_types.specs.declared.ids.Ino.{Ino}
 use Rattle.mds_types.specs.declared.ids.Rank.{Rank}
 use Rattle.mds_types.specs.Name.{fits_name, fits_target, is_dots}
@@ -63,7 +62,7 @@ is_plain_name bytes = nat_lt 0 (length bytes) && list_all fits_name bytes && not
 
 -- a name, or the errno of bytes that are none: too long before all else
 unfoldable pub name_of : List ℕ → Result (List ℕ) Fault
-name_of bytes = if nat_lt 255 (length bytes) then Err (BadWord ENAMETOOLONG) else (if is_plain_name bytes then Ok bytes else Err (BadWord EINVAL))
+name_of bytes = if nat_lt 255 (length bytes) then Err (BadWord 36) else (if is_plain_name bytes then Ok bytes else Err (BadWord 22))
 
 -- the name after which a listing begins follows the same rules
 unfoldable pub after_name_of : Option (List ℕ) → Result (Option (List ℕ)) Fault
@@ -73,6 +72,6 @@ after_name_of (Some bytes) = name_of bytes >>= λ name. Ok (Some name)
 -- a target, or the errno of bytes that are none: too long before all else, then empty, then with a zero byte
 unfoldable pub target_of : List ℕ → Result (List ℕ) Fault
 target_of bytes =
-    if nat_lt 4095 (length bytes) then Err (BadWord ENAMETOOLONG) else
-    (if length bytes == 0 then Err (BadWord ENOENT) else
-    (if list_all fits_target bytes then Ok bytes else Err (BadWord EINVAL)))
+    if nat_lt 4095 (length bytes) then Err (BadWord 36) else
+    (if length bytes == 0 then Err (BadWord 2) else
+    (if list_all fits_target bytes then Ok bytes else Err (BadWord 22)))

@@ -1,9 +1,9 @@
-use Rattle.std.proofs.Common.{sym, ap, ◌∙◌}
+use Rattle.std.proofs.Common.{refl, sym, ap, ◌∙◌}
 use Rattle.std.specs.FinMap as map
 use Rattle.std.specs.FinMap.{get-empty}
 use Rattle.sorted_map.specs.Laws.{contents-entries}
 use Rattle.leaf_maps.specs.Leaves.{names_of}
-use Rattle.leaf_maps.proofs.Written.{written, untouched, remove_absent, room_kept}
+use Rattle.leaf_maps.proofs.Written.{written, untouched, remove_absent, room_kept, left_alone}
 use Rattle.leaf_maps.proofs.leaf_maps.LeafMaps.erase.Goals.{in-Some, in-None}
 use Rattle.leaf_maps.proofs.leaf_maps.LeafMaps.erase.Goals as goal
 
@@ -29,4 +29,12 @@ returns-clause-room c =
     (elim c.match-get_mut.branch [
       | in-Some w ↦ rw w.self-inside-is (room_kept _ _ c.args.dir.0 c.args.leaf _ w.erase_name.new.names (sym w.in-Some.ensures.value) (contents-entries _) w.erase_name.ensures.room)
       | in-None w ↦ rw w.self-inside-is (λ d f had. had)
+    ])
+
+pub returns-clause-rows : goal.returns-clause-rows
+returns-clause-rows c =
+    rw (← c.self.view_is)
+    (elim c.match-get_mut.branch [
+      | in-Some w ↦ rw w.self-inside-is (left_alone _ _ c.args.dir.0 c.args.leaf w.erase_name.new.names (contents-entries _))
+      | in-None w ↦ rw w.self-inside-is (λ e g apart. refl)
     ])

@@ -1,13 +1,13 @@
--- Other directories keep their names, and each turn drops a leaf.
+-- What is kept of other directories stays, and each turn drops a leaf.
 use Rattle.std.proofs.Common.{◌≡◌, ℕ}
 use Rattle.std.specs.FinMap as map
 use Rattle.sorted_map.specs.SortedMap.{contents}
 use Rattle.mds_types.specs.Frag.{Fragment}
-use Rattle.leaf_maps.specs.Leaves.{leaf_cmp, names_in}
+use Rattle.leaf_maps.specs.Leaves.{leaf_cmp, kept_of}
 use Rattle.leaf_maps.proofs.leaf_maps.LeafMaps.forget.Given as goal
 
 abbrev pub invariant-loop-leaf : goal.invariant-loop-leaf
-invariant-loop-leaf l = (e : ℕ) (f : Fragment) → (e ≡ l.dir.0 → ⊥) → names_in (contents leaf_cmp l.self-inside.leaves) e f ≡ names_in (contents leaf_cmp l.initial.self-inside.leaves) e f
+invariant-loop-leaf l = (e : ℕ) (f : Fragment) → (e ≡ l.dir.0 → ⊥) → kept_of (contents leaf_cmp l.self-inside.leaves) e f ≡ kept_of (contents leaf_cmp l.initial.self-inside.leaves) e f
 
 abbrev pub decreases-loop-leaf : goal.decreases-loop-leaf
 decreases-loop-leaf l = map.len (contents leaf_cmp l.self-inside.leaves)
