@@ -1,3 +1,4 @@
 pub mod Operated
 pub mod LineLemmas
 pub mod Progress
+pub mod ServedReplies
