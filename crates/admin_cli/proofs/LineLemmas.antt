@@ -1,7 +1,6 @@
 -- One line that was done, and what was written of its text.
 use Rattle.std.proofs.Common.{◌≡◌, ℕ, ◌≤◌, List, [], length, Option, Some, None, Result, Ok, Err, refl, sym, subst, append-nil}
 use Rattle.std.specs.Io.KnownBytes.{Appends, Keeps}
-use Rattle.script_text.specs.declared.reading.buffer.TheConstants.{MAX_LINE_LEN}
 use Rattle.script_text.specs.declared.lines.Line.{Line}
 use Rattle.script_output.specs.declared.lines.OutputLine.{OutputLine}
 use Rattle.script_text.specs.Script.{line_of}
@@ -19,7 +18,7 @@ appends_nothing (Some bytes) (Some now) kept = subst (λ b. now ≡ b) (sym (app
 
 -- a line that was done and printed
 pub printed : (old new : Admin) (bytes : List ℕ) (before after : Option (List ℕ)) (found : Line) (output : OutputLine) (result : Result (Unit {0}) FaultKind)
-    → length bytes ≤ MAX_LINE_LEN → found ≡ line_of bytes → DoesLine old new found (text_of output) → Prints before after (text_of output) result → EndsLine old new bytes before after result
+    → length bytes ≤ 16384 → found ≡ line_of bytes → DoesLine old new found (text_of output) → Prints before after (text_of output) result → EndsLine old new bytes before after result
 printed old new bytes before after found output result short is does prints = at result prints
   where
     run : RunsLine old new bytes (text_of output)

@@ -3,7 +3,6 @@ use Rattle.std.proofs.Common.{◌≡◌, ℕ, suc, ◌+◌, ◌<◌, List, [], �
 use Rattle.std.proofs.lemmas.List.{length-replicate}
 use Rattle.std.proofs.KnownBytes.{Appends-nil, Appends-trans}
 use Rattle.std.specs.Io.KnownBytes.{Appends}
-use Rattle.script_text.specs.declared.reading.buffer.TheConstants.{MAX_LINE_LEN}
 use Rattle.script_text.specs.Input.{lines_of, IsFirstLine, IsTooLong}
 use Rattle.admin_cli.specs.declared.commands.Admin.{Admin}
 use Rattle.admin_cli.specs.declared.faults.ScriptFault.{ScriptFault}
@@ -119,8 +118,8 @@ long_line : (n : ℕ) → (line : List ℕ) × (n < length line)
 long_line n = (replicate (suc n) 0, omega (arith, length-replicate {A = ℕ} (suc n) 0))
 
 -- a line that is too long is among those that are left
-long_left : (left : Option (List ℕ)) → IfSome left (λ bytes. IsTooLong bytes) → (line : List ℕ) × (others : List (List ℕ)) × (MAX_LINE_LEN < length line) × IsLeft left (line ∷ others)
-long_left None long = let (line, more) = long_line MAX_LINE_LEN in (line, [], more, tt)
+long_left : (left : Option (List ℕ)) → IfSome left (λ bytes. IsTooLong bytes) → (line : List ℕ) × (others : List (List ℕ)) × (16384 < length line) × IsLeft left (line ∷ others)
+long_left None long = let (line, more) = long_line 16384 in (line, [], more, tt)
 long_left (Some bytes) long = (long.line, long.others, long.long, long.lines)
 
 -- the next line is too long

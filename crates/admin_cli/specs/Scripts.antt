@@ -3,7 +3,6 @@ use Rattle.std.specs.Prelude.{◌≡◌, ℕ, ◌+◌, ◌^◌, ◌<◌, ◌≤�
 use Rattle.std.specs.Io.KnownBytes.{Appends}
 use Rattle.std.specs.FinMap as map
 use Rattle.cluster_core.specs.State.{Kept, new_state}
-use Rattle.script_text.specs.declared.reading.buffer.TheConstants.{MAX_LINE_LEN}
 use Rattle.script_text.specs.declared.lines.Line.{Line}
 use Rattle.script_text.specs.declared.lines.Line.TheVariants as line
 use Rattle.script_output.specs.declared.lines.OutputLine.{OutputLine}
@@ -30,7 +29,7 @@ DoesLine old new line.NotCommand text = ⊥
 
 -- one line of these bytes was done: it isn't too long, and did what its bytes ask for
 pub record RunsLine (old new : Admin) (bytes text : List ℕ) : Type 0 where
-  pub short : length bytes ≤ MAX_LINE_LEN
+  pub short : length bytes ≤ 16384
   pub does : DoesLine old new (line_of bytes) text
 
 -- lines were done one after the other, each on the book that the one before it left; the text is all of theirs
@@ -54,8 +53,8 @@ OfFirst Holds (bytes ∷ lines) = Holds bytes
 
 -- why a script ends before these lines, and the beginning of the first one's text that was written; too long comes before all else, and only a write fault leaves a beginning
 abbrev pub StopsBefore : Admin → List (List ℕ) → FaultKind → List ℕ → Type 0
-StopsBefore old lines NotCommand front = OfFirst (λ bytes. (length bytes ≤ MAX_LINE_LEN) × (line_of bytes ≡ line.NotCommand)) lines × (front ≡ [])
-StopsBefore old lines TooLong front = OfFirst (λ bytes. MAX_LINE_LEN < length bytes) lines × (front ≡ [])
+StopsBefore old lines NotCommand front = OfFirst (λ bytes. (length bytes ≤ 16384) × (line_of bytes ≡ line.NotCommand)) lines × (front ≡ [])
+StopsBefore old lines TooLong front = OfFirst (λ bytes. 16384 < length bytes) lines × (front ≡ [])
 StopsBefore old lines ReadFault front = front ≡ []
 StopsBefore old lines WriteFault front = OfFirst (λ bytes. BreaksOff old bytes front) lines
 StopsBefore old lines OutOfMemory front = front ≡ []

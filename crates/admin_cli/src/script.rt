@@ -1,6 +1,5 @@
 //! Running a script.
 ghost use Rattle.std.specs.Prelude.{◌≡◌, ◌+◌, ◌<◌, ◌≤◌, ◌^◌, length};
-ghost use Rattle.script_text.specs.declared.reading.buffer.TheConstants.{MAX_LINE_LEN};
 ghost use Rattle.admin_cli.specs.Scripts.{text_of, RunsInput, RunsNew};
 ghost use Rattle.admin_cli.specs.OneLine.{EndsLine, AnswersLine, Prints};
 
@@ -100,7 +99,7 @@ fn run_line<W: Write>(
     admin: &mut Admin,
 ) -> Result<(), FaultKind>
     requires room { admin.old.operations + 1 < 2 ^ 64 }
-    requires short { length bytes.now ≤ MAX_LINE_LEN }
+    requires short { length bytes.now ≤ 16384 }
     ensures count { admin.new.operations ≤ admin.old.operations + 1 }
     ensures ends { EndsLine admin.old admin.new bytes.now (W.contents writer.old) (W.contents writer.new) result }
 {

@@ -1,7 +1,6 @@
 -- The lines of a script's bytes.
 use Rattle.std.specs.Prelude.{◌≡◌, ℕ, ◌<◌, ◌==◌, if◌then◌else◌, List, [], ◌∷◌, length, Option, Some, Result, Ok, Err}
 use Rattle.std.specs.List.{onto_first}
-use Rattle.script_text.specs.declared.reading.buffer.TheConstants.{MAX_LINE_LEN}
 use Rattle.script_text.specs.declared.reading.input.NextLine.{NextLine}
 use Rattle.script_text.specs.declared.reading.input.NextLine.TheVariants.{Read, End}
 use Rattle.script_text.specs.declared.reading.input.LineFault.{LineFault}
@@ -23,7 +22,7 @@ pub record IsTooLong (bytes : List ℕ) : Type 0 where
   pub line : List ℕ
   pub others : List (List ℕ)
   pub lines : lines_of bytes ≡ line ∷ others
-  pub long : MAX_LINE_LEN < length line
+  pub long : 16384 < length line
 
 -- what the next line of these bytes is, and what is left; of a reader's own fault nothing is said
 abbrev pub GivesLine : List ℕ → List ℕ → Option (List ℕ) → Result NextLine LineFault → Type 0

@@ -2,7 +2,6 @@
 use Rattle.std.specs.Prelude.{◌≡◌, ℕ, ◌+◌, ◌<◌, ◌==◌, Bool, true, not, List, [], ◌∷◌, ◌++◌, length, Option}
 use Rattle.std.specs.List.{list_all}
 use Rattle.std.specs.Io.KnownBytes.{Consumes, IsAtEnd}
-use Rattle.script_text.specs.declared.reading.buffer.TheConstants.{MAX_LINE_LEN}
 use Rattle.script_text.specs.declared.reading.input.Shown.{Shown}
 use Rattle.script_text.specs.declared.reading.input.Shown.TheVariants.{More, LineEnd, InputEnd}
 
@@ -26,4 +25,4 @@ pub record Overflows (bytes line : List ℕ) : Type 0 where
   pub rest : List ℕ
   pub front : bytes ≡ part ++ rest
   pub one_line : IsOfOneLine part
-  pub long : MAX_LINE_LEN < length line + length part
+  pub long : 16384 < length line + length part

@@ -15,13 +15,12 @@ pub struct LineBuffer {
 
 impl Model for LineBuffer {
     ghost use Rattle.std.specs.Prelude.{List, ℕ, ◌≡◌, ◌≤◌, length, vec_capacity};
-    ghost use Rattle.script_text.specs.declared.reading.buffer.TheConstants.{MAX_LINE_LEN};
 
     ghost Value = { List ℕ };
 
     ghost view = { λ line. line.bytes.items };
 
-    ghost invariant = { λ line. (length line.bytes.items ≤ MAX_LINE_LEN) × (vec_capacity line.bytes ≡ MAX_LINE_LEN) };
+    ghost invariant = { λ line. (length line.bytes.items ≤ 16384) × (vec_capacity line.bytes ≡ 16384) };
 }
 
 impl LineBuffer {
@@ -37,7 +36,7 @@ impl LineBuffer {
     /// The line.
     pub fn as_bytes(&self) -> &[u8]
         ensures bytes { result.now ≡ self.now }
-        ensures short { length self.now ≤ MAX_LINE_LEN }
+        ensures short { length self.now ≤ 16384 }
     {
         self.bytes.as_slice()
     }
@@ -51,7 +50,7 @@ impl LineBuffer {
 
     /// Puts bytes at the end of the line.
     pub(crate) fn append(&mut self, bytes: &[u8])
-        requires { length self.old + length bytes.now ≤ MAX_LINE_LEN }
+        requires { length self.old + length bytes.now ≤ 16384 }
         ensures { self.new ≡ self.old ++ bytes.now }
     {
         push_all(&mut self.bytes, bytes);

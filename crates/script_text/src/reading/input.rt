@@ -60,7 +60,7 @@ pub fn next_line<R: BufRead>(reader: &mut R, line: &mut LineBuffer) -> Result<Ne
 // Moves the bytes that the reader shows to the end of the line, up to an LF, which is taken off too and not kept.
 fn take_shown<R: BufRead>(reader: &mut R, line: &mut LineBuffer) -> Result<Shown, LineFault>
     ensures moves { IfOk result (λ shown. Moves (R.remaining reader.old) (R.remaining reader.new) line.old line.new shown) }
-    ensures short { OnOk result (length line.new ≤ MAX_LINE_LEN) }
+    ensures short { OnOk result (length line.new ≤ 16384) }
     ensures long { IfErr result (λ fault. fault ≡ LineFault.TooLong → IfSome (R.remaining reader.old) (λ bytes. Overflows bytes line.old)) }
 {
     let Ok(shown) = reader.fill_buf() else {
