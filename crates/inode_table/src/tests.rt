@@ -1,7 +1,8 @@
 //! What no clause says of the directory table: that calls succeed, and that a long chain is no trouble.
 
-ghost use Rattle.std.specs.Prelude.{◌≡◌, ◌≢◌, IfOk, true};
-ghost use Rattle.inode_table.specs.Dirs.{IsChildless, is_known};
+ghost use Rattle.std.specs.FinMap as map;
+ghost use Rattle.std.specs.Prelude.{◌≡◌, ◌≢◌, IfOk, IsTrue, None, is_some, true};
+ghost use Rattle.inode_table.specs.Dirs.{IsAbove, IsChildless, is_known};
 
 use crate::{Dirs, Home};
 use fragtree::FragTree;
@@ -20,40 +21,41 @@ fn home(alloc: Global, parent: Ino) -> Result<Home, Fail>
     })
 }
 
+// Whether a directory may come in below this parent.
+fn may_come(dirs: &Dirs, dir: Ino, parent: Ino) -> bool
+    ensures other { IsTrue result → dir.0 ≢ 1 }
+    ensures fresh { IsTrue result → map.get dirs.now.homes dir.0 ≡ None }
+    ensures known { IsTrue result → is_known dirs.now.homes parent.0 ≡ true }
+{
+    dir != Ino::ROOT && dirs.get(dir).is_none() && dirs.contains(parent)
+}
+
 // Takes a directory in, where it may come.
 fn adopt(alloc: Global, dirs: &mut Dirs, dir: Ino, parent: Ino) -> Result<bool, Fail> {
+    if dirs.reserve().is_err() || !may_come(dirs, dir, parent) {
+        return Ok(false);
+    }
     let home = home(alloc, parent)?;
-    if dirs.reserve().is_err() {
-        return Ok(false);
-    }
-    if dir == Ino::ROOT {
-        return Ok(false);
-    }
-    if dirs.get(dir).is_some() {
-        return Ok(false);
-    }
-    if !dirs.contains(parent) {
-        return Ok(false);
-    }
     dirs.adopt(dir, home);
     Ok(true)
 }
 
+// Whether a directory may go below this parent.
+fn may_go(dirs: &Dirs, dir: Ino, parent: Ino) -> bool
+    ensures other { IsTrue result → parent.0 ≢ dir.0 }
+    ensures not_below { IsTrue result → IsAbove dirs.now.homes dir.0 parent.0 → ⊥ }
+    ensures there { IsTrue result → is_some (map.get dirs.now.homes dir.0) ≡ true }
+    ensures known { IsTrue result → is_known dirs.now.homes parent.0 ≡ true }
+{
+    parent != dir && !dirs.is_above(dir, parent) && dirs.get(dir).is_some() && dirs.contains(parent)
+}
+
 // Moves a directory, where it may go.
 fn relocate(alloc: Global, dirs: &mut Dirs, dir: Ino, parent: Ino) -> Result<bool, Fail> {
+    if !may_go(dirs, dir, parent) {
+        return Ok(false);
+    }
     let home = home(alloc, parent)?;
-    if parent == dir {
-        return Ok(false);
-    }
-    if dirs.is_above(dir, parent) {
-        return Ok(false);
-    }
-    if dirs.get(dir).is_none() {
-        return Ok(false);
-    }
-    if !dirs.contains(parent) {
-        return Ok(false);
-    }
     dirs.relocate(dir, home);
     Ok(true)
 }
@@ -75,11 +77,18 @@ fn with_one(alloc: Global, dir: Ino) -> Result<Dirs, Fail>
 
 // The leaves `0*` and `1*`.
 fn halves(alloc: Global) -> Option<FragTree> {
-    let mut tree = FragTree::whole(alloc).ok()?;
-    if tree.split(Frag::ROOT, 1).is_err() {
-        return None;
+    match FragTree::whole(alloc) {
+        Ok(tree) => in_two(tree),
+        Err(_) => None,
     }
-    Some(tree)
+}
+
+// The tree after a split of `*` in two.
+fn in_two(mut tree: FragTree) -> Option<FragTree> {
+    match tree.split(Frag::ROOT, 1) {
+        Ok(()) => Some(tree),
+        Err(_) => None,
+    }
 }
 
 // Gives a directory the leaves `0*` and `1*`, if it is one.
@@ -106,7 +115,10 @@ fn leaf_count(alloc: Global, dirs: &Dirs, dir: Ino) -> Option<usize> {
 }
 
 fn parent_of(dirs: &Dirs, dir: Ino) -> Option<Ino> {
-    Some(dirs.get(dir)?.parent)
+    match dirs.get(dir) {
+        Some(home) => Some(home.parent),
+        None => None,
+    }
 }
 
 #[test]

@@ -20,8 +20,6 @@ mod refusals;
 mod replies;
 mod requests;
 mod targets;
-#[cfg(test)]
-mod tests;
 
 pub use entries::Entry;
 pub use errno::{EEXIST, EINVAL, EISDIR, ENAMETOOLONG, ENOENT, ENOTDIR, ENOTEMPTY, ESTALE};

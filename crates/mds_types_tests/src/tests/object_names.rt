@@ -1,5 +1,5 @@
 //! The texts of objects' names by hand-known answers.
-use crate::{Frag, Ino, ObjName};
+use mds_types::{Frag, Ino, ObjName};
 use std::alloc::{AllocError, Global};
 use std::test::Fail;
 

@@ -1,5 +1,5 @@
 //! Fragments within others, by rows worked by hand.
-use crate::Frag;
+use mds_types::Frag;
 use std::test::Fail;
 
 // The fragment of these bits, 24 at most, left-justified.
