@@ -58,3 +58,11 @@ header_decoded bytes (Some header) fits read = header_takes bytes header fits re
 header_decoded bytes None fits read = λ header s.
     let found : header_at bytes ≡ Some header = ap header_at s.spelled ∙ header_again header s.committed s.version s.files s.dirs in
     absurd cc
+
+pub one_header : (bytes : List ℕ) (a b : FragHeader) → SpellsHeader bytes a → SpellsHeader bytes b → a ≡ b
+one_header bytes a b s t =
+    let same : Some a ≡ Some b = sym (found a s) ∙ found b t in
+    cc
+  where
+    found : (header : FragHeader) → SpellsHeader bytes header → header_at bytes ≡ Some header
+    found header s = ap header_at s.spelled ∙ header_again header s.committed s.version s.files s.dirs

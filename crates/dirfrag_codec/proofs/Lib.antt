@@ -1,4 +1,7 @@
+pub mod ByteKeys
+pub mod FragmentLaws
 pub mod Front
 pub mod HeaderLaws
 pub mod RecordLaws
 pub mod TreeLaws
+pub mod ValueLaws

@@ -1,16 +1,18 @@
 -- The fields of a record that are read are those that are spelled so.
-use Rattle.std.proofs.Common.{◌≡◌, ℕ, ◌^◌, ◌<◌, cond, eqb, true, List, ◌∷◌, ◌++◌, length, Option, Some, None, refl, sym, ap, subst, ◌∙◌, arith}
+use Rattle.std.proofs.Common.{◌≡◌, ℕ, ◌*◌, ◌^◌, ◌<◌, ◌≤◌, ◌&&◌, cond, eqb, leb, ltb, true, List, ◌∷◌, ◌++◌, length, Option, Some, None, refl, sym, ap, subst, ◌∙◌, arith}
 use Rattle.std.proofs.lemmas.Bool.{eqb-true}
 use Rattle.std.proofs.lemmas.Bool.Decides.{nat_tests}
-use Rattle.std.specs.Prelude.{Result, Ok, Err, IfOk}
+use Rattle.std.specs.Bool.{Decides}
+use Rattle.mds_types.specs.Name.{IsTarget}
+use Rattle.std.specs.Prelude.{Result, Ok, Err, IfOk, OnErr}
 use Rattle.byteorder.specs.Endian.{little_bytes}
 use Rattle.mds_types.specs.declared.inodes.Inode.{Inode}
 use Rattle.mds_types.specs.declared.inodes.Kind.{Kind}
 use Rattle.mds_types.specs.declared.inodes.Kind.TheVariants.{File, Dir, Symlink}
-use Rattle.dirfrag_codec.specs.EntryRecord.{HasTarget, IsRecordable, IsRecordV1, SpellsEntry, target_of}
+use Rattle.dirfrag_codec.specs.EntryRecord.{HasTarget, IsRankNumber, IsRecordable, IsRecordV1, SpellsEntry, SpellsLink, kind_byte, target_of}
 use Rattle.dirfrag_codec.specs.Grammar.{Decodes}
-use Rattle.dirfrag_codec.specs.Reading.{◌>>=◌, IsInodeOf, RecordFields, after_tag, byte_at, number_at, fields_at, fields_of_inode}
-use Rattle.dirfrag_codec.proofs.Front.{IsBytes, bind_some, byte_takes, guard_some, number_again, number_takes, tag_takes, width_2, width_8}
+use Rattle.dirfrag_codec.specs.Reading.{◌>>=◌, IsFieldsOfLink, IsInodeOf, RecordFields, after_tag, byte_at, number_at, fields_at, fields_of_inode, fits_kind}
+use Rattle.dirfrag_codec.proofs.Front.{IsBytes, bind_some, both, byte_takes, guard_some, number_again, number_takes, tag_takes, width_2, width_8}
 
 -- the bytes of fields, whatever they mean
 abbrev pub fields_bytes : RecordFields → List ℕ
@@ -107,7 +109,56 @@ pub entry_answered : {E : Type 0} (bytes : List ℕ) (f : RecordFields) (answer 
 entry_answered bytes f (Ok found) fits read h = entry_decoded bytes f found fits read h
 entry_answered bytes f (Err e) fits read h = tt
 
+pub on_err : {A E P : Type 0} (answer : Result A E) → P → OnErr answer P
+on_err (Ok x) p = tt
+on_err (Err e) p = p
+
+-- the fields of a link that a record allows, whose target has no memory yet
+pub link_fields : (f : RecordFields) → f.mode ≤ 4095 → fits_kind f ≡ true → (f.kind ≡ 3) × IsTarget f.target → IsFieldsOfLink f
+link_fields f mode fits (three, target) =
+    let number = both (leb (2 ^ 40) f.ino && ltb f.ino (17 * 2 ^ 40)) _ fits in
+    let size : cond (eqb f.kind 2) (eqb f.size 0) (cond (eqb f.kind 3) (eqb f.size (length f.target)) true) ≡ true = number.1 in
+    let size_is : eqb f.size (length f.target) ≡ true = sym (ap (λ (k : ℕ). cond (eqb k 2) (eqb f.size 0) (cond (eqb k 3) (eqb f.size (length f.target)) true)) three) ∙ size in
+    let inode : Inode = record { ino = record { 0 = f.ino }; kind = Symlink f.target; mode = f.mode; size = f.size; mtime = f.mtime } in
+    (inode, record { number = (number_decides f.ino).0 number.0; mode = mode; size = eqb-true f.size (length f.target) size_is; target = target }, same three, tt)
+  where
+    same : f.kind ≡ 3 → fields_of_inode (record { ino = record { 0 = f.ino }; kind = Symlink f.target; mode = f.mode; size = f.size; mtime = f.mtime }) ≡ f
+    same three = λ i. record { kind = (sym three) i; ino = f.ino; mode = f.mode; size = f.size; mtime = f.mtime; target = f.target }
+
+    number_decides : (n : ℕ) → Decides (leb (2 ^ 40) n && ltb n (17 * 2 ^ 40)) (IsRankNumber n)
+    number_decides n = (λ e. grind (arith, nat_tests), λ h. grind (arith, nat_tests))
+
+-- fields of a link are those of a link's record
+pub link_spelled : (bytes : List ℕ) (f : RecordFields) → IsBytes bytes → fields_at bytes ≡ Some f → IsFieldsOfLink f → SpellsLink bytes
+link_spelled bytes f fits read h = (h.0, spells_from_fields bytes h.0 f h.1 h.2 (fields_takes bytes f fits read), h.3)
+
+pub link_answered : {A E : Type 0} (bytes : List ℕ) (f : RecordFields) (answer : Result A E) → IsBytes bytes → fields_at bytes ≡ Some f → OnErr answer (IsFieldsOfLink f) → OnErr answer (SpellsLink bytes)
+link_answered bytes f (Ok found) fits read h = tt
+link_answered bytes f (Err e) fits read h = link_spelled bytes f fits read h
+
 pub entry_refused : (bytes : List ℕ) → fields_at bytes ≡ None → Decodes SpellsEntry bytes None
 entry_refused bytes read = λ inode s.
     let found : fields_at bytes ≡ Some (fields_of_inode inode) = fields_of_record bytes inode s in
     absurd cc
+
+pub one_entry : (bytes : List ℕ) (a b : Inode) → SpellsEntry bytes a → SpellsEntry bytes b → a ≡ b
+one_entry bytes a b s t =
+    let same : Some (fields_of_inode a) ≡ Some (fields_of_inode b) = sym (fields_of_record bytes a s) ∙ fields_of_record bytes b t in
+    let fields : fields_of_inode a ≡ fields_of_inode b = cc in
+    one a b fields
+  where
+    one_kind : (k l : Kind) → kind_byte k ≡ kind_byte l → target_of k ≡ target_of l → k ≡ l
+    one_kind File File e t = refl
+    one_kind File Dir e t = absurd (omega arith)
+    one_kind File (Symlink x) e t = absurd (omega arith)
+    one_kind Dir File e t = absurd (omega arith)
+    one_kind Dir Dir e t = refl
+    one_kind Dir (Symlink x) e t = absurd (omega arith)
+    one_kind (Symlink x) File e t = absurd (omega arith)
+    one_kind (Symlink x) Dir e t = absurd (omega arith)
+    one_kind (Symlink x) (Symlink y) e t = ap (λ z. Symlink z) t
+
+    one : (a b : Inode) → fields_of_inode a ≡ fields_of_inode b → a ≡ b
+    one a b e =
+        let kinds : a.kind ≡ b.kind = one_kind a.kind b.kind (ap (λ (f : RecordFields). f.kind) e) (ap (λ (f : RecordFields). f.target) e) in
+        λ i. record { ino = record { 0 = (e i).ino }; kind = kinds i; mode = (e i).mode; size = (e i).size; mtime = (e i).mtime }

@@ -12,7 +12,7 @@ use Rattle.mds_types.specs.Frag.{Fragment, IsFragment, word_of, span}
 use Rattle.fragtree.specs.FragTree.{IsTree, Tiles}
 use Rattle.dirfrag_codec.specs.Grammar.{Decodes}
 use Rattle.dirfrag_codec.specs.Reading.{◌>>=◌, after_tag, number_at, words_at}
-use Rattle.dirfrag_codec.specs.TreeObject.{SpellsTree, leaf_bytes, tree_bytes}
+use Rattle.dirfrag_codec.specs.TreeObject.{SpellsTree, StatesLeaves, leaf_bytes, tree_bytes}
 use Rattle.dirfrag_codec.proofs.Front.{IsBytes, IsBytes-drop, Takes-then, bind_some, both, guard_some, not_none, number_again, number_takes, some_is, tag_takes, width_2, width_4}
 
 word_low : (f : Fragment) → IsFragment f → word_of f < 256 ^ 4
@@ -91,26 +91,19 @@ all_fragments : (low high : ℕ) (fs : List Fragment) → Tiles low high fs → 
 all_fragments low high [] t = tt
 all_fragments low high (f ∷ fs) t = (t.0, all_fragments (low + span f.bits) high fs t.2)
 
-fragments_of : (fs : List Fragment) → IsTree fs → AllByRecursion IsFragment fs
+pub fragments_of : (fs : List Fragment) → IsTree fs → AllByRecursion IsFragment fs
 fragments_of fs tree = all_fragments 0 (2 ^ 24) fs tree.tiles
 
-four_each : (fs : List Fragment) → length (flat_map leaf_bytes fs) ≡ 4 * length fs
+pub four_each : (fs : List Fragment) → length (flat_map leaf_bytes fs) ≡ 4 * length fs
 four_each [] = refl
 four_each (f ∷ fs) =
     let e : length (flat_map leaf_bytes (f ∷ fs)) ≡ length (leaf_bytes f ++ flat_map leaf_bytes fs) = ap (length {A = ℕ}) (flat_map-cons leaf_bytes f fs) in
     omega (arith, e, length-append (leaf_bytes f) (flat_map leaf_bytes fs), length-bytes_low_first 0 4 (word_of f), four_each fs)
 
--- what the front states
-pub record Stated (bytes words : List ℕ) : Type 0 where
-  pub count : ℕ
-  pub several : 2 ≤ count
-  pub parts : bytes ≡ 84 ∷ 1 ∷ (little_bytes 2 count ++ words)
-  pub len : length words ≡ 4 * count
-
 several_from_test : (n : ℕ) → ltb 1 n ≡ true → 2 ≤ n
 several_from_test n e = grind (arith, nat_tests)
 
-words_takes : (bytes words : List ℕ) → IsBytes bytes → words_at bytes ≡ Some words → Stated bytes words
+pub words_takes : (bytes words : List ℕ) → IsBytes bytes → words_at bytes ≡ Some words → (s : StatesLeaves bytes) × (s.words ≡ words)
 unfolding words_at
 words_takes bytes words fits e =
     let a = bind_some (after_tag 84 1 bytes) (λ tagged. number_at 2 tagged >>= λ count. cond (ltb 1 count.0 && eqb (length count.1) (4 * count.0)) (Some count.1) None) words e in
@@ -120,7 +113,7 @@ words_takes bytes words fits e =
     let t0 = tag_takes 84 1 bytes a.0 fits a.1 in
     let t1 = number_takes 2 width_2 a.0 b.0.0 b.0.1 t0.rest_fits b.1 in
     let whole = Takes-then bytes (84 ∷ 1 ∷ []) a.0 (little_bytes 2 b.0.0) b.0.1 t0 t1.0 in
-    subst (Stated bytes) g.1 (record { count = b.0.0; several = several_from_test b.0.0 w.0; parts = whole.parts; len = eqb-true (length b.0.1) (4 * b.0.0) w.1 })
+    (record { count = b.0.0; words = b.0.1; several = several_from_test b.0.0 w.0; whole = eqb-true (length b.0.1) (4 * b.0.0) w.1; spelled = whole.parts }, g.1)
 
 words_chain : (t0 words : List ℕ) (count : ℕ) → number_at 2 t0 ≡ Some (count, words) → ltb 1 count ≡ true → eqb (length words) (4 * count) ≡ true → words_at (84 ∷ 1 ∷ t0) ≡ Some words
 unfolding words_at
@@ -132,7 +125,7 @@ words_again leaves few several =
     words_chain (little_bytes 2 (length leaves) ++ flat_map leaf_bytes leaves) (flat_map leaf_bytes leaves) (length leaves)
     (number_again 2 (length leaves) (flat_map leaf_bytes leaves) (omega (arith, few))) (grind (arith, nat_tests)) (grind (arith, nat_tests))
 
-words_of_tree : (bytes : List ℕ) (leaves : List Fragment) → SpellsTree bytes leaves → words_at bytes ≡ Some (flat_map leaf_bytes leaves)
+pub words_of_tree : (bytes : List ℕ) (leaves : List Fragment) → SpellsTree bytes leaves → words_at bytes ≡ Some (flat_map leaf_bytes leaves)
 words_of_tree bytes leaves s = ap words_at s.spelled ∙ words_again leaves s.tree.few s.several
 
 -- ---- what is decoded
@@ -148,9 +141,9 @@ pub tree_decoded : (bytes words : List ℕ) (leaves : List Fragment) (answer : O
     → SomeIff answer (IsTree leaves) leaves → Decodes SpellsTree bytes answer
 tree_decoded bytes words leaves (Some tree) fits read all parts h =
     let w = words_takes bytes words fits read in
-    let count : w.count ≡ length leaves = omega (arith, w.len, ap (length {A = ℕ}) parts, four_each leaves) in
-    let spelled : bytes ≡ tree_bytes leaves = w.parts ∙ ap (λ (n : ℕ). 84 ∷ 1 ∷ (little_bytes 2 n ++ words)) count ∙ ap (λ (x : List ℕ). 84 ∷ 1 ∷ (little_bytes 2 (length leaves) ++ x)) parts in
-    subst (SpellsTree bytes) (sym h.1) (record { tree = h.0; several = omega (arith, w.several, count); spelled = spelled })
+    let count : w.0.count ≡ length leaves = omega (arith, w.0.whole, ap (length {A = ℕ}) (w.1 ∙ parts), four_each leaves) in
+    let spelled : bytes ≡ tree_bytes leaves = w.0.spelled ∙ ap (λ (x : List ℕ). 84 ∷ 1 ∷ (little_bytes 2 w.0.count ++ x)) w.1 ∙ ap (λ (n : ℕ). 84 ∷ 1 ∷ (little_bytes 2 n ++ words)) count ∙ ap (λ (x : List ℕ). 84 ∷ 1 ∷ (little_bytes 2 (length leaves) ++ x)) parts in
+    subst (SpellsTree bytes) (sym h.1) (record { tree = h.0; several = omega (arith, w.0.several, count); spelled = spelled })
 tree_decoded bytes words leaves None fits read all parts h = λ others s.
     let same : flat_map leaf_bytes leaves ≡ flat_map leaf_bytes others = sym parts ∙ some_is words (flat_map leaf_bytes others) (sym read ∙ words_of_tree bytes others s) in
     h (subst IsTree (sym (one_list leaves others all (fragments_of others s.tree) same)) s.tree)

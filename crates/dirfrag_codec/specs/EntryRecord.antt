@@ -25,6 +25,12 @@ HasTarget File = Unit {0}
 HasTarget Dir = Unit {0}
 HasTarget (Symlink target) = IsTarget target
 
+-- a link, whose record has a target
+abbrev pub IsLink : Kind → Type 0
+IsLink File = ⊥
+IsLink Dir = ⊥
+IsLink (Symlink target) = Unit {0}
+
 -- a number that a rank hands out: ranks 0 to 15 have 2 ^ 40 numbers each, from 2 ^ 40 on
 pub record IsRankNumber (number : ℕ) : Type 0 where
   pub least : 2 ^ 40 ≤ number
@@ -58,3 +64,19 @@ pub record IsRecordV1 (bytes : List ℕ) (inode : Inode) : Type 0 where
 -- the record grammar: the bytes are a record of the inode, in a version that is read
 abbrev pub SpellsEntry : List ℕ → Inode → Type 0
 SpellsEntry bytes inode = IsRecordV1 bytes inode
+
+-- the bytes are the record of a link
+abbrev pub SpellsLink : List ℕ → Type 0
+SpellsLink bytes = (inode : Inode) × SpellsEntry bytes inode × IsLink inode.kind
+
+-- the bytes are the record of the inode in the version that is written
+abbrev pub WritesEntry : List ℕ → Inode → Type 0
+WritesEntry bytes inode = IsRecordV1 bytes inode
+
+-- the bytes that are written for an inode
+abbrev pub entry_bytes : Inode → List ℕ
+entry_bytes inode = record_v1 inode
+
+-- a record can be written for the inode
+abbrev pub HasRecord : Inode → Type 0
+HasRecord inode = WritesEntry (entry_bytes inode) inode

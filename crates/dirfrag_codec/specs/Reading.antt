@@ -1,10 +1,10 @@
 -- Reading fields from the front of bytes. Only this crate's own contracts use these words.
-use Rattle.std.specs.Prelude.{◌≡◌, ℕ, ◌*◌, ◌&&◌, ◌==◌, nat_lt, if◌then◌else◌, List, [], ◌∷◌, length, drop, Option, Some, None}
+use Rattle.std.specs.Prelude.{◌≡◌, ℕ, ◌*◌, ◌^◌, Bool, true, ◌&&◌, ◌==◌, nat_lt, nat_le, if◌then◌else◌, List, [], ◌∷◌, length, drop, Option, Some, None}
 use Rattle.byteorder.specs.Endian.{little_number}
 use Rattle.mds_types.specs.declared.inodes.Inode.{Inode}
 use Rattle.mds_types.specs.declared.inodes.Kind.{Kind}
 use Rattle.dirfrag_codec.specs.declared.headers.FragHeader.{FragHeader}
-use Rattle.dirfrag_codec.specs.EntryRecord.{HasTarget, IsRecordable, kind_byte, target_of}
+use Rattle.dirfrag_codec.specs.EntryRecord.{HasTarget, IsLink, IsRecordable, kind_byte, target_of}
 
 infixl 10 ◌>>=◌
 abbrev pub ◌>>=◌ : {A B : Type 0} → Option A → (A → Option B) → Option B
@@ -59,6 +59,14 @@ fields_of_inode inode = record { kind = kind_byte inode.kind; ino = inode.ino.0;
 abbrev pub IsInodeOf : RecordFields → Option Inode → Type 0
 IsInodeOf fields (Some inode) = IsRecordable inode × (fields_of_inode inode ≡ fields)
 IsInodeOf fields None = (inode : Inode) → IsRecordable inode → fields_of_inode inode ≡ fields → ⊥
+
+-- a link that a record allows has these fields
+abbrev pub IsFieldsOfLink : RecordFields → Type 0
+IsFieldsOfLink fields = (inode : Inode) × IsRecordable inode × (fields_of_inode inode ≡ fields) × IsLink inode.kind
+
+-- whether a record allows the number and the size of these fields
+abbrev pub fits_kind : RecordFields → Bool
+fits_kind f = (nat_le (2 ^ 40) f.ino && nat_lt f.ino (17 * 2 ^ 40)) && (if f.kind == 2 then f.size == 0 else if f.kind == 3 then f.size == length f.target else true)
 
 -- the kind of this byte with this target; none if there is none
 abbrev pub IsKindOf : ℕ → List ℕ → Option Kind → Type 0

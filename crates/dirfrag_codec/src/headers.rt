@@ -1,8 +1,9 @@
 //! The header of a fragment's object.
-ghost use Rattle.std.specs.Prelude.{◌≤◌, IfOk};
+ghost use Rattle.std.specs.Prelude.{◌≡◌, ◌≤◌, IfOk};
 ghost use Rattle.dirfrag_codec.specs.FragHeader.{SpellsHeader};
 ghost use Rattle.dirfrag_codec.specs.Grammar.{Decodes};
 ghost use Rattle.dirfrag_codec.specs.Reading.{Gives, header_at};
+ghost use Rattle.dirfrag_codec.specs.Values.{header_of};
 
 use crate::fields::{after_tag, put_u64, u64_at};
 use std::alloc::{AllocError, Global};
@@ -41,7 +42,8 @@ pub fn encode_header(alloc: Global, header: &FragHeader) -> Result<Vec<u8>, Allo
 
 /// The header that these bytes are; none, where they are no header. Takes no memory.
 pub fn decode_header(bytes: &[u8]) -> Option<FragHeader>
-    ensures { Decodes SpellsHeader bytes.now result }
+    ensures spelled { Decodes SpellsHeader bytes.now result }
+    ensures value { result ≡ header_of bytes.now }
 {
     header_of(bytes)
 }

@@ -1,26 +1,50 @@
 //! Laws of the formats. A law is its contract: its body does nothing.
-ghost use Rattle.dirfrag_codec.specs.EntryRecord.{SpellsEntry};
+ghost use Rattle.dirfrag_codec.specs.EntryRecord.{SpellsEntry, WritesEntry};
 ghost use Rattle.dirfrag_codec.specs.FragHeader.{SpellsHeader};
-ghost use Rattle.dirfrag_codec.specs.Grammar.{HasOneMeaning, HasOneSpelling, NothingFollows};
+ghost use Rattle.dirfrag_codec.specs.FragmentObject.{HasOneFragment, HasOneTree, ShowsAtEach, SpellsKey, SpellsWhatItShows};
+ghost use Rattle.dirfrag_codec.specs.Grammar.{HasOneMeaning, HasOneSpelling, IsReadAgain, NothingFollows, Reads};
 ghost use Rattle.dirfrag_codec.specs.TreeObject.{SpellsTree};
+ghost use Rattle.dirfrag_codec.specs.Values.{entry_of, header_of, name_of, tree_of};
 
-/// Bytes are the record of one inode alone, an inode has one record, and no record begins another.
+/// Bytes are the record of one inode alone, an inode's record is written in one way and read as that inode, and no record
+/// begins another. `entry_of` is the inode whose record bytes are.
 pub fn entries_are_spelled_once()
     ensures meaning { HasOneMeaning SpellsEntry }
-    ensures spelling { HasOneSpelling SpellsEntry }
+    ensures spelling { HasOneSpelling WritesEntry }
+    ensures again { IsReadAgain WritesEntry SpellsEntry }
     ensures ended { NothingFollows SpellsEntry }
+    ensures value { Reads SpellsEntry entry_of }
 {}
 
-/// Bytes are one header alone, a header has one spelling, and no header begins another.
+/// Bytes are one header alone, a header has one spelling, and no header begins another. `header_of` is the header that
+/// bytes are.
 pub fn headers_are_spelled_once()
     ensures meaning { HasOneMeaning SpellsHeader }
     ensures spelling { HasOneSpelling SpellsHeader }
     ensures ended { NothingFollows SpellsHeader }
+    ensures value { Reads SpellsHeader header_of }
 {}
 
-/// Bytes are one tree alone, a tree has one spelling, and no tree begins another.
+/// Bytes are one tree alone, a tree has one spelling, and no tree begins another. `tree_of` is the tree that bytes are.
 pub fn trees_are_spelled_once()
     ensures meaning { HasOneMeaning SpellsTree }
     ensures spelling { HasOneSpelling SpellsTree }
     ensures ended { NothingFollows SpellsTree }
+    ensures value { Reads SpellsTree tree_of }
+{}
+
+/// A key is that of one name alone, and a name has one key. `name_of` is the name whose key bytes are.
+pub fn keys_are_spelled_once()
+    ensures meaning { HasOneMeaning SpellsKey }
+    ensures spelling { HasOneSpelling SpellsKey }
+    ensures value { Reads SpellsKey name_of }
+{}
+
+/// An object spells at most one fragment, at one commit version, and at most one fragment tree. The names that it spells
+/// are those that its pairs show (`names_of`): at each name the inode of the record under the name's key.
+pub fn fragments_are_spelled_once()
+    ensures fragment { HasOneFragment }
+    ensures tree { HasOneTree }
+    ensures shown { SpellsWhatItShows }
+    ensures each { ShowsAtEach }
 {}

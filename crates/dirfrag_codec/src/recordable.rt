@@ -1,5 +1,5 @@
 //! Which inodes a record allows.
-ghost use Rattle.std.specs.Prelude.{◌↔◌, IsTrue};
+ghost use Rattle.std.specs.Prelude.{◌≡◌, ◌*◌, ◌^◌, ◌&&◌, ◌↔◌, IsTrue, nat_le, nat_lt};
 ghost use Rattle.mds_types.specs.Tree.{HasSize};
 ghost use Rattle.dirfrag_codec.specs.EntryRecord.{HasTarget, IsRankNumber, IsRecordable};
 
@@ -20,9 +20,10 @@ pub fn is_recordable(inode: &Inode) -> bool
     is_rank_number(inode.ino.0) && has_size(&inode.kind, inode.size)
 }
 
-// Whether this is a number that a rank hands out.
-fn is_rank_number(number: u64) -> bool
-    ensures { IsTrue result ↔ IsRankNumber number }
+/// Whether this is a number that a rank hands out.
+pub(crate) fn is_rank_number(number: u64) -> bool
+    ensures value { result ≡ (nat_le (2 ^ 40) number && nat_lt number (17 * 2 ^ 40)) }
+    ensures rank { IsTrue result ↔ IsRankNumber number }
 {
     LEAST_NUMBER <= number && number < END_OF_NUMBERS
 }

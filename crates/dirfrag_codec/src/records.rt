@@ -1,11 +1,13 @@
 //! The record of a directory entry.
-ghost use Rattle.std.specs.Prelude.{◌≡◌, ◌≤◌, IfOk, length};
-ghost use Rattle.dirfrag_codec.specs.EntryRecord.{IsRecordable, SpellsEntry, kind_byte, target_of};
+ghost use Rattle.std.specs.Prelude.{◌≡◌, ◌≤◌, IfOk, OnErr, length};
+ghost use Rattle.mds_types.specs.Name.{IsTarget};
+ghost use Rattle.dirfrag_codec.specs.EntryRecord.{IsRecordable, SpellsEntry, SpellsLink, WritesEntry, kind_byte, target_of};
 ghost use Rattle.dirfrag_codec.specs.Grammar.{Decodes};
-ghost use Rattle.dirfrag_codec.specs.Reading.{Gives, IsInodeOf, IsKindOf, RecordFields, fields_at};
+ghost use Rattle.dirfrag_codec.specs.Reading.{Gives, IsFieldsOfLink, IsInodeOf, IsKindOf, RecordFields, fields_at, fits_kind};
+ghost use Rattle.dirfrag_codec.specs.Values.{entry_of};
 
 use crate::fields::{after_tag, put_u16, put_u64, u8_at, u16_at, u64_at};
-use crate::recordable::is_recordable;
+use crate::recordable::is_rank_number;
 use mds_types::{Ino, Inode, Kind, Mode, Target, TargetFault};
 use std::alloc::{AllocError, Global};
 
@@ -27,7 +29,7 @@ const SYMLINK: u8 = 3;
 /// The bytes of an inode's record. Takes memory for them.
 pub fn encode_entry(alloc: Global, inode: &Inode) -> Result<Vec<u8>, AllocError>
     requires { IsRecordable inode.now }
-    ensures { IfOk result (λ bytes. SpellsEntry bytes.items inode.now) }
+    ensures { IfOk result (λ bytes. WritesEntry bytes.items inode.now) }
 {
     let target = target_of(&inode.kind);
     let mut bytes = Vec::with_capacity(alloc, FRONT_LEN + target.len())?;
@@ -41,9 +43,12 @@ pub fn encode_entry(alloc: Global, inode: &Inode) -> Result<Vec<u8>, AllocError>
     Ok(bytes)
 }
 
-/// The inode whose record these bytes are; none, where they are no record. Takes memory for a link's target alone.
+/// The inode whose record these bytes are; none, where they are no record. Takes memory for a link's target alone, so there
+/// is an error for links' records alone.
 pub fn decode_entry(alloc: Global, bytes: &[u8]) -> Result<Option<Inode>, AllocError>
-    ensures { IfOk result (Decodes SpellsEntry bytes.now) }
+    ensures spelled { IfOk result (Decodes SpellsEntry bytes.now) }
+    ensures value { IfOk result (λ answer. answer ≡ entry_of bytes.now) }
+    ensures memory { OnErr result (SpellsLink bytes.now) }
 {
     match fields_of(bytes) {
         Some(fields) => inode_of(alloc, fields),
@@ -87,32 +92,45 @@ fn fields_of(bytes: &[u8]) -> Option<Fields<'_>>
     })
 }
 
-// The inode of these fields, if a record allows it.
+// The inode of these fields, if a record allows it. Takes memory only where it does.
 fn inode_of(alloc: Global, fields: Fields<'_>) -> Result<Option<Inode>, AllocError>
-    ensures { IfOk result (IsInodeOf (record { kind = fields.entry.kind; ino = fields.entry.ino; mode = fields.entry.mode; size = fields.entry.size; mtime = fields.entry.mtime; target = fields.entry.target.now })) }
+    ensures ok { IfOk result (IsInodeOf (record { kind = fields.entry.kind; ino = fields.entry.ino; mode = fields.entry.mode; size = fields.entry.size; mtime = fields.entry.mtime; target = fields.entry.target.now })) }
+    ensures memory { OnErr result (IsFieldsOfLink (record { kind = fields.entry.kind; ino = fields.entry.ino; mode = fields.entry.mode; size = fields.entry.size; mtime = fields.entry.mtime; target = fields.entry.target.now })) }
 {
     let Some(mode) = Mode::new(fields.mode) else {
         return Ok(None);
     };
+    if !fits_kind(&fields) {
+        return Ok(None);
+    }
     let Some(kind) = kind_of(alloc, fields.kind, fields.target)? else {
         return Ok(None);
     };
-    let inode = Inode {
+    Ok(Some(Inode {
         ino: Ino(fields.ino),
         kind,
         mode,
         size: fields.size,
         mtime: fields.mtime,
+    }))
+}
+
+// Whether a record allows the number, and the size for the kind.
+fn fits_kind(fields: &Fields<'_>) -> bool
+    ensures { result ≡ fits_kind (record { kind = fields.now.kind; ino = fields.now.ino; mode = fields.now.mode; size = fields.now.size; mtime = fields.now.mtime; target = fields.now.target.now }) }
+{
+    let has_size = match fields.kind {
+        DIR => fields.size == 0,
+        SYMLINK => fields.size == fields.target.len() as u64,
+        _ => true,
     };
-    if !is_recordable(&inode) {
-        return Ok(None);
-    }
-    Ok(Some(inode))
+    is_rank_number(fields.ino) && has_size
 }
 
 // The kind of this byte with this target.
 fn kind_of(alloc: Global, byte: u8, target: &[u8]) -> Result<Option<Kind>, AllocError>
-    ensures { IfOk result (IsKindOf byte target.now) }
+    ensures ok { IfOk result (IsKindOf byte target.now) }
+    ensures memory { OnErr result ((byte ≡ 3) × IsTarget target.now) }
 {
     if byte == SYMLINK {
         return match Target::from_bytes(alloc, target) {

@@ -1,10 +1,11 @@
 //! The header of a fragment tree's object.
-ghost use Rattle.std.specs.Prelude.{◌≡◌, ◌≤◌, IfOk, length};
+ghost use Rattle.std.specs.Prelude.{◌≡◌, ◌≤◌, IfOk, OnErr, length};
 ghost use Rattle.mds_types.specs.Frag.{word_of};
 ghost use Rattle.dirfrag_codec.specs.Grammar.{Decodes};
 ghost use Rattle.dirfrag_codec.specs.Leaves.{AreLeavesOf, IsFragmentOf};
 ghost use Rattle.dirfrag_codec.specs.Reading.{Gives, words_at};
-ghost use Rattle.dirfrag_codec.specs.TreeObject.{SpellsTree};
+ghost use Rattle.dirfrag_codec.specs.TreeObject.{SpellsTree, StatesLeaves};
+ghost use Rattle.dirfrag_codec.specs.Values.{tree_of};
 
 use crate::fields::{after_tag, put_u16, put_u32, u16_at, u32_at};
 use fragtree::FragTree;
@@ -37,8 +38,12 @@ pub fn encode_tree(alloc: Global, tree: &FragTree) -> Result<Vec<u8>, AllocError
 }
 
 /// The tree whose bytes these are; none, where they are no tree of two leaves or more. Takes memory for the leaves.
+///
+/// There is an error only where as many words stand there as the bytes state.
 pub fn decode_tree(alloc: Global, bytes: &[u8]) -> Result<Option<FragTree>, AllocError>
-    ensures { IfOk result (Decodes SpellsTree bytes.now) }
+    ensures spelled { IfOk result (Decodes SpellsTree bytes.now) }
+    ensures value { IfOk result (λ answer. answer ≡ tree_of bytes.now) }
+    ensures memory { OnErr result (StatesLeaves bytes.now) }
 {
     let Some(words) = words_of(bytes) else {
         return Ok(None);

@@ -1,1 +1,2 @@
 pub mod Fragments
+pub mod ZeroBytes

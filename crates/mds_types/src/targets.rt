@@ -98,7 +98,7 @@ impl Target {
 fn has_no_zero(bytes: &[u8]) -> bool
     ensures { result ≡ list_all fits_target bytes.now }
 {
-    bytes.iter().all(|byte| *byte != 0)
+    !bytes.contains(&0)
 }
 
 impl PartialEq for Target {

@@ -1,6 +1,14 @@
 use Rattle.std.proofs.Common.{arith}
-use Rattle.dirfrag_codec.proofs.HeaderLaws.{header_decoded}
+use Rattle.dirfrag_codec.specs.FragHeader.{SpellsHeader}
+use Rattle.dirfrag_codec.specs.Values.{header_of}
+use Rattle.dirfrag_codec.proofs.HeaderLaws.{header_decoded, one_header}
+use Rattle.dirfrag_codec.proofs.ValueLaws.{one_reading, reads_header}
 use Rattle.dirfrag_codec.proofs.headers.decode_header.Goals as goal
 
-pub returns : goal.returns
-returns c = header_decoded c.args.bytes.now c.header_of.result (λ i. omega (arith, c.type_inv.bytes i)) c.header_of.ensures
+pub returns-clause-spelled : goal.returns-clause-spelled
+returns-clause-spelled c = header_decoded c.args.bytes.now c.header_of.result (λ i. omega (arith, c.type_inv.bytes i)) c.header_of.ensures
+
+pub returns-clause-value : goal.returns-clause-value
+returns-clause-value c =
+    one_reading SpellsHeader one_header c.args.bytes.now c.header_of.result (header_of c.args.bytes.now)
+    (header_decoded c.args.bytes.now c.header_of.result (λ i. omega (arith, c.type_inv.bytes i)) c.header_of.ensures) (reads_header c.args.bytes.now)

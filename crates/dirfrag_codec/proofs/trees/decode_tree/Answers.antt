@@ -1,15 +1,27 @@
 -- What is read are the leaves, if they are those of a tree.
-use Rattle.std.proofs.Common.{arith}
-use Rattle.dirfrag_codec.proofs.TreeLaws.{leaves_refused, tree_decoded, tree_refused}
+use Rattle.std.proofs.Common.{arith, None}
+use Rattle.dirfrag_codec.specs.TreeObject.{SpellsTree}
+use Rattle.dirfrag_codec.specs.Values.{tree_of}
+use Rattle.dirfrag_codec.proofs.RecordLaws.{on_err}
+use Rattle.dirfrag_codec.proofs.TreeLaws.{leaves_refused, one_tree, tree_decoded, tree_refused, words_takes}
+use Rattle.dirfrag_codec.proofs.ValueLaws.{one_reading, reads_tree}
 use Rattle.dirfrag_codec.proofs.trees.decode_tree.Goals as goal
 
 pub returns-in_default : goal.returns-in_default
-returns-in_default c = tree_refused c.args.bytes.now c.in_default.ensures
+returns-in_default c =
+    let spelled = tree_refused c.args.bytes.now c.in_default.ensures in
+    record { spelled = spelled; value = one_reading SpellsTree one_tree c.args.bytes.now None (tree_of c.args.bytes.now) spelled (reads_tree c.args.bytes.now); memory = tt }
+
+pub returns-in_err-leaves-clause-memory : goal.returns-in_err-leaves-clause-memory
+returns-in_err-leaves-clause-memory c = on_err c.from_residual.result (words_takes c.args.bytes.now c.in-Some.words.now (λ i. omega (arith, c.type_inv.bytes i)) c.in-Some.ensures).0
 
 pub returns-in_default-2 : goal.returns-in_default-2
-returns-in_default-2 c = leaves_refused c.args.bytes.now c.in-Some.words.now c.in-Some.ensures (rw c.in_default-2.is at c.in_ok-leaves.ensures)
+returns-in_default-2 c =
+    let spelled = leaves_refused c.args.bytes.now c.in-Some.words.now c.in-Some.ensures (rw c.in_default-2.is at c.in_ok-leaves.ensures) in
+    record { spelled = spelled; value = one_reading SpellsTree one_tree c.args.bytes.now None (tree_of c.args.bytes.now) spelled (reads_tree c.args.bytes.now); memory = tt }
 
 pub returns : goal.returns
 returns c =
     let found = rw c.in-Some-2.is at c.in_ok-leaves.ensures in
-    tree_decoded c.args.bytes.now c.in-Some.words.now c.in-Some-2.leaves.items c.from_leaves.result (λ i. omega (arith, c.type_inv.bytes i)) c.in-Some.ensures found.0 found.1 c.from_leaves.ensures
+    let spelled = tree_decoded c.args.bytes.now c.in-Some.words.now c.in-Some-2.leaves.items c.from_leaves.result (λ i. omega (arith, c.type_inv.bytes i)) c.in-Some.ensures found.0 found.1 c.from_leaves.ensures in
+    record { spelled = spelled; value = one_reading SpellsTree one_tree c.args.bytes.now c.from_leaves.result (tree_of c.args.bytes.now) spelled (reads_tree c.args.bytes.now); memory = tt }

@@ -1,0 +1,4 @@
+pub mod CommitLaws
+pub mod CountLaws
+pub mod MarkLaws
+pub mod WriteLaws

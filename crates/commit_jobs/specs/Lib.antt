@@ -1,0 +1,4 @@
+pub mod Commit
+pub mod Counting
+pub mod Marks
+pub mod Snap

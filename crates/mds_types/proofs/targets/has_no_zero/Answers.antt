@@ -1,0 +1,6 @@
+use Rattle.std.proofs.Common.{not, ap, ◌∙◌}
+use Rattle.mds_types.proofs.ZeroBytes.{no_zero}
+use Rattle.mds_types.proofs.targets.has_no_zero.Goals as goal
+
+pub returns : goal.returns
+returns c = ap not c.contains.ensures.value ∙ no_zero c.args.bytes.now
