@@ -1,11 +1,12 @@
 -- The leaves that are read are those that are spelled so.
-use Rattle.std.proofs.Common.{◌≡◌, ℕ, ◌+◌, ◌*◌, ◌^◌, ◌<◌, ◌≤◌, true, ◌&&◌, cond, ltb, eqb, List, [], ◌∷◌, ◌++◌, length, drop, Option, Some, None, refl, sym, ap, subst, ◌∙◌, append_assoc, arith}
+use Rattle.std.proofs.Common.{◌≡◌, ℕ, ◌+◌, ◌*◌, ◌^◌, ◌<◌, ◌≤◌, true, ◌&&◌, cond, ltb, eqb, List, [], ◌∷◌, ◌++◌, length, drop, Option, Some, None, Result, Ok, Err, IfOk, refl, sym, ap, subst, ◌∙◌, append_assoc, arith}
 use Rattle.std.proofs.lemmas.Bool.{eqb-true}
 use Rattle.std.proofs.lemmas.Bool.Decides.{nat_tests}
 use Rattle.std.proofs.lemmas.List.{append-nil, length-append, drop_at, nil_from_length}
 use Rattle.std.proofs.lemmas.List.Concat.{flat_map-cons}
 use Rattle.std.specs.List.{flat_map, AllByRecursion}
 use Rattle.std.specs.Prelude.{SomeIff}
+use Rattle.std.specs.declared.alloc.AllocError.{AllocError}
 use Rattle.byteorder.specs.Endian.{little_bytes}
 use Rattle.byteorder.specs.Numbers.{length-bytes_low_first}
 use Rattle.mds_types.specs.Frag.{Fragment, IsFragment, word_of, span}
@@ -147,6 +148,12 @@ tree_decoded bytes words leaves (Some tree) fits read all parts h =
 tree_decoded bytes words leaves None fits read all parts h = λ others s.
     let same : flat_map leaf_bytes leaves ≡ flat_map leaf_bytes others = sym parts ∙ some_is words (flat_map leaf_bytes others) (sym read ∙ words_of_tree bytes others s) in
     h (subst IsTree (sym (one_list leaves others all (fragments_of others s.tree) same)) s.tree)
+
+-- the same where memory may be wanting for the tree
+pub tree_made : (bytes words : List ℕ) (leaves : List Fragment) (made : Result (Option (List Fragment)) AllocError) → IsBytes bytes → words_at bytes ≡ Some words → AllByRecursion IsFragment leaves → words ≡ flat_map leaf_bytes leaves
+    → IfOk made (λ answer. SomeIff answer (IsTree leaves) leaves) → IfOk made (Decodes SpellsTree bytes)
+tree_made bytes words leaves (Ok answer) fits read all parts h = tree_decoded bytes words leaves answer fits read all parts h
+tree_made bytes words leaves (Err e) fits read all parts h = tt
 
 -- ---- the laws of the grammar
 

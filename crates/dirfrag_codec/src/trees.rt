@@ -51,7 +51,7 @@ pub fn decode_tree(alloc: Global, bytes: &[u8]) -> Result<Option<FragTree>, Allo
     let Some(leaves) = leaves_of(alloc, words)? else {
         return Ok(None);
     };
-    Ok(FragTree::from_leaves(leaves))
+    FragTree::from_leaves(alloc, &leaves)
 }
 
 // The bytes of the leaves: as many as the front states, 2 leaves at least.

@@ -3,8 +3,8 @@ use Rattle.std.proofs.Common.{arith, None}
 use Rattle.dirfrag_codec.specs.TreeObject.{SpellsTree}
 use Rattle.dirfrag_codec.specs.Values.{tree_of}
 use Rattle.dirfrag_codec.proofs.RecordLaws.{on_err}
-use Rattle.dirfrag_codec.proofs.TreeLaws.{leaves_refused, one_tree, tree_decoded, tree_refused, words_takes}
-use Rattle.dirfrag_codec.proofs.ValueLaws.{one_reading, reads_tree}
+use Rattle.dirfrag_codec.proofs.TreeLaws.{leaves_refused, one_tree, tree_made, tree_refused, words_takes}
+use Rattle.dirfrag_codec.proofs.ValueLaws.{one_reading, reading_answered, reads_tree}
 use Rattle.dirfrag_codec.proofs.trees.decode_tree.Goals as goal
 
 pub returns-in_default : goal.returns-in_default
@@ -23,5 +23,9 @@ returns-in_default-2 c =
 pub returns : goal.returns
 returns c =
     let found = rw c.in-Some-2.is at c.in_ok-leaves.ensures in
-    let spelled = tree_decoded c.args.bytes.now c.in-Some.words.now c.in-Some-2.leaves.items c.from_leaves.result (λ i. omega (arith, c.type_inv.bytes i)) c.in-Some.ensures found.0 found.1 c.from_leaves.ensures in
-    record { spelled = spelled; value = one_reading SpellsTree one_tree c.args.bytes.now c.from_leaves.result (tree_of c.args.bytes.now) spelled (reads_tree c.args.bytes.now); memory = tt }
+    let spelled = tree_made c.args.bytes.now c.in-Some.words.now c.in-Some-2.leaves.items c.from_leaves.result (λ i. omega (arith, c.type_inv.bytes i)) c.in-Some.ensures found.0 found.1 (rw c.deref.ensures.value at c.from_leaves.ensures) in
+    record {
+      spelled = spelled;
+      value = reading_answered SpellsTree tree_of one_tree reads_tree c.args.bytes.now c.from_leaves.result spelled;
+      memory = on_err c.from_leaves.result (words_takes c.args.bytes.now c.in-Some.words.now (λ i. omega (arith, c.type_inv.bytes i)) c.in-Some.ensures).0;
+    }
