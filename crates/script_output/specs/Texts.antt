@@ -1,5 +1,5 @@
 -- What is printed for each result: one line each, here without its LF.
-use Rattle.std.specs.Prelude.{ℕ, Bool, true, false, List, ◌++◌, codes, length}
+use Rattle.std.specs.Prelude.{ℕ, Bool, true, false, List, [], ◌++◌, codes, length}
 use Rattle.std.specs.Fmt.{decimal, digits}
 use Rattle.std.specs.List.{flat_map}
 use Rattle.mds_types.specs.declared.inodes.Inode.{Inode}
@@ -8,6 +8,8 @@ use Rattle.mds_types.specs.declared.inodes.Kind.TheVariants.{File, Dir, Symlink}
 use Rattle.mds_types.specs.declared.replies.Reply.{Reply}
 use Rattle.mds_types.specs.declared.replies.Reply.TheVariants.{Entry, Entries, Target, Done, Errno}
 use Rattle.mds_types.specs.declared.refusals.Refusal.{Refusal}
+use Rattle.mds_types.specs.declared.refusals.Refusal.TheVariants.{Damaged}
+use Rattle.mds_types.specs.ObjectText.{object_text}
 use Rattle.mds_types.specs.Refusal.{refusal_number}
 use Rattle.mds_types.specs.Frag.{Fragment, fragment_text}
 use Rattle.script_output.specs.Escapes.{escaped}
@@ -71,6 +73,11 @@ leaf_text leaf = codes " " ++ fragment_text leaf
 abbrev pub frags_text : List Fragment → List ℕ
 frags_text leaves = codes "frags " ++ (decimal (length leaves) ++ flat_map leaf_text leaves)
 
--- `refused N`
+-- a space and the name of the object that is damaged; of another refusal nothing
+abbrev pub damaged_text : Refusal → List ℕ
+damaged_text (Damaged object) = codes " " ++ object_text object
+damaged_text refusal = []
+
+-- `refused N`, and `refused 17 OBJECT` of a damaged object
 abbrev pub refused_line : Refusal → List ℕ
-refused_line refusal = codes "refused " ++ decimal (refusal_number refusal)
+refused_line refusal = codes "refused " ++ (decimal (refusal_number refusal) ++ damaged_text refusal)

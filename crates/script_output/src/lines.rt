@@ -1,6 +1,6 @@
 //! The lines that are printed.
 ghost use Rattle.std.specs.Prelude.{◌≡◌, ◌++◌, codes, Some, IfOk, string_bytes};
-ghost use Rattle.script_output.specs.Texts.{first_text};
+ghost use Rattle.script_output.specs.Texts.{damaged_text, first_text};
 ghost use Rattle.script_output.specs.Lines.{output_line};
 
 use crate::frag_lists::FragList;
@@ -30,7 +30,7 @@ pub enum OutputLine {
     Frags(FragList),
     /// `history LENGTH`: how many entries the history has.
     History(u64),
-    /// `refused N`: a step was refused.
+    /// `refused N`: a step was refused; `refused 17 OBJECT`, where an object is damaged.
     Refused(Refusal),
     /// `errno N`: a name or a target outside its rules, of which no request was made.
     Errno(u16),
@@ -68,9 +68,25 @@ impl fmt::Display for OutputLine {
             OutputLine::History(length) => write!(f, "history {length}"),
             OutputLine::Refused(refusal) => {
                 let number = refusal.number();
-                write!(f, "refused {number}")
+                let object = DamagedText(*refusal);
+                write!(f, "refused {number}{object}")
             }
             OutputLine::Errno(errno) => write!(f, "errno {errno}"),
+        }
+    }
+}
+
+/// A space and the name of the object that is damaged; of another refusal nothing.
+#[derive(Clone, Copy)]
+pub struct DamagedText(pub Refusal);
+
+impl fmt::Display for DamagedText {
+    ghost output = { λ text. Some (damaged_text text.0) };
+
+    fn fmt<W: fmt::Write>(&self, f: &mut fmt::Formatter<W>) -> fmt::Result {
+        match self.0 {
+            Refusal::Damaged(object) => write!(f, " {object}"),
+            _ => Ok(()),
         }
     }
 }

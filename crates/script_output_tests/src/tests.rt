@@ -1,5 +1,5 @@
 //! Printed lines, with expected values by hand from the script's grammar.
-use mds_types::{Ino, Inode, Kind, Listing, Mode, Name, Refusal, Reply, Target};
+use mds_types::{Frag, Ino, Inode, Kind, Listing, Mode, Name, ObjName, Refusal, Reply, Target};
 use script_output::OutputLine;
 use std::alloc::{AllocError, Global};
 use std::process::Abort;
@@ -136,6 +136,12 @@ fn refusals_and_errnos(rt: HostRuntime) -> Result<(), Fail> {
     let alloc = rt.alloc();
     let refused = OutputLine::Refused(Refusal::InboxEmpty);
     assert_eq!(rt; refused.to_text(alloc)?.as_str(), "refused 14\n");
+    let fragment = ObjName::Frag(Ino(1), Frag::ROOT);
+    let damaged = OutputLine::Refused(Refusal::Damaged(fragment));
+    assert_eq!(rt; damaged.to_text(alloc)?.as_str(), "refused 17 1.00000000\n");
+    let tree = ObjName::Tree(Ino(0x100_0000_0000));
+    let damaged = OutputLine::Refused(Refusal::Damaged(tree));
+    assert_eq!(rt; damaged.to_text(alloc)?.as_str(), "refused 17 10000000000.fragtree\n");
     let errno = OutputLine::Errno(22);
     assert_eq!(rt; errno.to_text(alloc)?.as_str(), "errno 22\n");
     Ok(())

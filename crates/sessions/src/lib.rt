@@ -4,6 +4,7 @@
 #![tactic(auto)]
 
 mod clients;
+pub mod laws;
 mod seen;
 mod session_table;
 #[cfg(test)]

@@ -12,8 +12,6 @@ mod lends;
 mod map;
 mod overlay;
 mod places;
-#[cfg(test)]
-mod tests;
 
 pub use iters::Iter;
 pub use keys::{ExactOrd, Probe};
