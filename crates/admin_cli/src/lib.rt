@@ -9,6 +9,3 @@ mod script;
 pub use command_line::{Options, settings};
 pub use faults::{FaultKind, ScriptFault};
 pub use script::run_script;
-
-#[cfg(test)]
-mod tests;

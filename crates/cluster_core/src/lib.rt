@@ -21,6 +21,3 @@ pub use clusters::Cluster;
 pub use events::Event;
 pub use plain_trees::PlainTree;
 pub use runs::run;
-
-#[cfg(test)]
-mod tests;

@@ -10,8 +10,6 @@ mod laws;
 mod objects;
 mod pages;
 mod pairs;
-#[cfg(test)]
-mod tests;
 mod write_ops;
 
 pub use bytes::Bytes;

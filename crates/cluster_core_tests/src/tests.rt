@@ -1,7 +1,7 @@
 //! What no clause says of a book: that steps succeed, and what they answer in rows worked by hand. A row is a table of
 //! events, each beside what it comes to.
 
-use crate::{Answer, Book, Event, PlainTree, format, run};
+use cluster_core::{Answer, Book, Event, PlainTree, format, run};
 use mds_types::{Frag, Ino, Kind, Mode, Name, Op, PageSize, Rank, Refusal, Reply, Request};
 use std::alloc::Global;
 

@@ -1,7 +1,7 @@
 //! Readers and writers that give and take one byte a call, and fail on the way.
 
 use super::fault;
-use crate::{FaultKind, run_script};
+use admin_cli::{FaultKind, run_script};
 use std::io;
 use std::io::{Read, Write};
 

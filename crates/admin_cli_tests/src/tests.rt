@@ -1,6 +1,6 @@
 //! Scripts with the output that they print, worked by hand.
 
-use crate::{FaultKind, ScriptFault, run_script};
+use admin_cli::{FaultKind, ScriptFault, run_script};
 use std::test::Fail;
 
 mod dirfrags;

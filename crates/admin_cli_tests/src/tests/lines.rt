@@ -1,7 +1,7 @@
 //! What is a line, and what is none.
 
 use super::{fault, printed};
-use crate::FaultKind;
+use admin_cli::FaultKind;
 use std::alloc::{AllocError, Global};
 use std::test::Fail;
 

@@ -1,8 +1,8 @@
 //! Operations, pages and keys by hand-known answers, and each call that takes memory once.
 ghost use Rattle.std.specs.Prelude.{◌≤◌};
 
-use crate::{Bytes, Object, Page, WriteOp, key_of, name_of};
 use mds_types::Name;
+use omap::{Bytes, Object, Page, WriteOp, key_of, name_of};
 use std::alloc::{AllocError, Global};
 use std::test::Fail;
 

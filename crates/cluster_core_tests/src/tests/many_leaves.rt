@@ -2,7 +2,7 @@
 
 ghost use Rattle.std.specs.Prelude.{◌<◌};
 
-use crate::{Answer, Book, Event, format};
+use cluster_core::{Answer, Book, Event, format};
 use mds_types::{Frag, Ino, Mode, Name, Op, PageSize, Rank, Reply, Request};
 use std::alloc::Global;
 
