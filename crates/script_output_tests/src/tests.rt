@@ -141,7 +141,10 @@ fn refusals_and_errnos(rt: HostRuntime) -> Result<(), Fail> {
     assert_eq!(rt; damaged.to_text(alloc)?.as_str(), "refused 17 1.00000000\n");
     let tree = ObjName::Tree(Ino(0x100_0000_0000));
     let damaged = OutputLine::Refused(Refusal::Damaged(tree));
-    assert_eq!(rt; damaged.to_text(alloc)?.as_str(), "refused 17 10000000000.fragtree\n");
+    assert_eq!(rt;
+        damaged.to_text(alloc)?.as_str(),
+        "refused 17 10000000000.fragtree\n"
+    );
     let errno = OutputLine::Errno(22);
     assert_eq!(rt; errno.to_text(alloc)?.as_str(), "errno 22\n");
     Ok(())
