@@ -1,5 +1,8 @@
-/* Loaded before a program, it refuses one allocation: that of the number in REFUSED_GROWTH, counted from 1. Where it came to
-   that it makes the file that REFUSAL_TOLD names. */
+/* Loaded before a program, it refuses one allocation: that of the number in REFUSED_GROWTH, counted from 1. Or it refuses one
+   after another, for a program that tries again after each refusal: the first allocation, then the second of those that
+   follow, then the third of those, and so on. It does so between two allocations of as many bytes as REFUSED_BETWEEN says,
+   by which the program tells where its tries begin and end. For each refusal there is a byte more in the file that
+   REFUSAL_TOLD names. */
 #define _GNU_SOURCE
 #include <dlfcn.h>
 #include <fcntl.h>
@@ -8,14 +11,37 @@
 
 static long seen;
 
-static int refuses(void)
+static void tell(void)
 {
-    const char *number = getenv("REFUSED_GROWTH");
-    if (!number || ++seen != atol(number))
-        return 0;
     const char *told = getenv("REFUSAL_TOLD");
-    if (told)
-        close(open(told, O_CREAT | O_WRONLY, 0600));
+    int file = told ? open(told, O_CREAT | O_WRONLY | O_APPEND, 0600) : -1;
+    if (file < 0)
+        return;
+    if (write(file, ".", 1) != 1)
+        abort();
+    close(file);
+}
+
+/* whether the next of the tries is to be refused this allocation */
+static int refuses_in_turn(size_t size, size_t signal)
+{
+    static int is_on;
+    static long turn = 1;
+    if (size == signal)
+        is_on = !is_on;
+    if (size == signal || !is_on || ++seen < turn)
+        return 0;
+    seen = 0;
+    turn++;
+    return 1;
+}
+
+static int refuses(size_t size)
+{
+    const char *number = getenv("REFUSED_GROWTH"), *signal = getenv("REFUSED_BETWEEN");
+    if (signal ? !refuses_in_turn(size, strtoul(signal, NULL, 10)) : !number || ++seen != atol(number))
+        return 0;
+    tell();
     return 1;
 }
 
@@ -24,7 +50,7 @@ void *malloc(size_t size)
     static void *(*real)(size_t);
     if (!real)
         real = dlsym(RTLD_NEXT, "malloc");
-    return refuses() ? NULL : real(size);
+    return refuses(size) ? NULL : real(size);
 }
 
 void *realloc(void *block, size_t size)
@@ -32,5 +58,5 @@ void *realloc(void *block, size_t size)
     static void *(*real)(void *, size_t);
     if (!real)
         real = dlsym(RTLD_NEXT, "realloc");
-    return refuses() ? NULL : real(block, size);
+    return refuses(size) ? NULL : real(block, size);
 }
