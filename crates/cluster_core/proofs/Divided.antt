@@ -5,9 +5,9 @@ use Rattle.mds_types.specs.declared.inodes.Inode.{Inode}
 use Rattle.mds_types.specs.Frag.{Fragment, root_fragment}
 use Rattle.mds_types.specs.Tree.{Tree, is_directory}
 use Rattle.inode_table.specs.Dirs.{Homes, Covers, IsTable, is_known, leaves_of, or_whole}
-use Rattle.namespace_ops.specs.Changes.{KeepLeaves}
-use Rattle.namespace_ops.specs.PlainFrags.{IsTabled}
-use Rattle.namespace_ops.specs.TableLaws.{known_is}
+use Rattle.inode_table.specs.TreeChanges.{KeepLeaves}
+use Rattle.inode_table.specs.TreeTable.{IsTabled}
+use Rattle.inode_table.proofs.TableLaws.{known_is}
 use Rattle.leaf_maps.specs.Leaves.{Leaves, names_in, shown_by}
 use Rattle.leaf_maps.specs.LeafLaws.{shown_at}
 use Rattle.leaf_maps.specs.Changes.{HaveSameNames}

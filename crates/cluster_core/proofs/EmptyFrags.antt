@@ -6,7 +6,7 @@ use Rattle.std.specs.FinMap.{find, empty_of_len, entries-from_sorted, get-empty,
 use Rattle.mds_types.specs.Tree.{place_cmp}
 use Rattle.mds_types.specs.PlaceLaws.{place-total, place-exact}
 use Rattle.inode_table.specs.Dirs.{Covers, IsTable}
-use Rattle.namespace_ops.specs.TableLaws.{empty_tabled}
+use Rattle.inode_table.proofs.TableLaws.{empty_tabled}
 use Rattle.leaf_maps.specs.Leaves.{Leaf, Rows, Leaves, leaf_cmp, names_of, entries_in, shown_by, ArePlaced}
 use Rattle.leaf_maps.specs.OneLeaf.{key_itself}
 use Rattle.cluster_core.specs.State.{tree_of}

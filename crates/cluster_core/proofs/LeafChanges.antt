@@ -16,10 +16,10 @@ use Rattle.mds_types.specs.EntryLaws.{stands_after_removal}
 use Rattle.mds_types.specs.DirectoryLaws.{NothingIn}
 use Rattle.mds_types.specs.MovedLaws.{IsMove, may_move, stands_moved}
 use Rattle.inode_table.specs.Dirs.{Homes, Covers, or_whole}
-use Rattle.namespace_ops.specs.Changes.{MayRemove}
-use Rattle.namespace_ops.specs.PlainFrags.{IsTabled, without_cover}
-use Rattle.namespace_ops.specs.TableLaws.{nothing_in}
-use Rattle.namespace_ops.specs.MoveLaws.{target_stays}
+use Rattle.inode_table.specs.TreeChanges.{MayRemove}
+use Rattle.inode_table.specs.TreeTable.{IsTabled, without_cover}
+use Rattle.inode_table.proofs.TableLaws.{nothing_in}
+use Rattle.inode_table.proofs.MoveLaws.{target_stays}
 use Rattle.leaf_maps.specs.Leaves.{Leaves, names_in, shown_by, ArePlaced}
 use Rattle.leaf_maps.specs.Changes.{HaveSameNames}
 use Rattle.leaf_maps.specs.LeafLaws.{shown_at}

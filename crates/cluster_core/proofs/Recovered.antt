@@ -10,7 +10,7 @@ use Rattle.inode_table.specs.Dirs.{Homes, Covers, IsTable, leaves_of}
 use Rattle.leaf_maps.specs.Leaves.{Leaves, HavePicks, shown_by}
 use Rattle.leaf_maps.specs.Regroup.{ArePlacedIn, IsRegrouped}
 use Rattle.leaf_maps.specs.ShownLaws.{regrouped_placed, regrouped_shown}
-use Rattle.namespace_ops.specs.PlainFrags.{IsTabled}
+use Rattle.inode_table.specs.TreeTable.{IsTabled}
 use Rattle.mds_types.specs.declared.entries.Entry.{Entry}
 use Rattle.mds_types.specs.declared.requests.Request.{Request}
 use Rattle.inode_table.specs.Numbers.{Supply}

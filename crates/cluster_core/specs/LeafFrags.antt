@@ -13,7 +13,7 @@ use Rattle.namehash.specs.Rjenkins.{hash_of}
 use Rattle.inode_table.specs.Dirs.{Homes, Covers, Table, IsTable, leaves_of}
 use Rattle.namespace_ops.specs.declared.plans.Change.{Change}
 use Rattle.namespace_ops.specs.declared.plans.Change.TheVariants.{Add, Set, Remove, Move}
-use Rattle.namespace_ops.specs.PlainFrags.{IsTabled}
+use Rattle.inode_table.specs.TreeTable.{IsTabled}
 use Rattle.leaf_maps.specs.Leaves.{Leaf, Leaves, Names, Rows, ArePlaced, shown_by}
 use Rattle.leaf_maps.specs.Changes.{HasRoom}
 use Rattle.mds_types.specs.declared.requests.Request.{Request}

@@ -10,7 +10,7 @@ use Rattle.fragtree.specs.FragTree.{IsPick}
 use Rattle.namehash.specs.Rjenkins.{hash_of}
 use Rattle.inode_table.specs.Dirs.{Covers, Homes, IsTable, is_known, leaves_of}
 use Rattle.inode_table.specs.Numbers.{Supply, IsSupply, first_number, end_number}
-use Rattle.namespace_ops.specs.PlainFrags.{IsTabled}
+use Rattle.inode_table.specs.TreeTable.{IsTabled}
 use Rattle.sessions.specs.Table.{IsTableOf}
 use Rattle.cluster_core.specs.State.{Dentries, State, Kept, names_at, shown, tree_of}
 

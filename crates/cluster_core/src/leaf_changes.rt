@@ -9,17 +9,17 @@ ghost use Rattle.mds_types.specs.Tree.{is_dir_kind};
 ghost use Rattle.mds_types.specs.DirectoryLaws.{NothingIn};
 ghost use Rattle.mds_types.specs.MovedLaws.{IsMove};
 ghost use Rattle.inode_table.specs.Dirs.{IsChildless, IsTable};
-ghost use Rattle.namespace_ops.specs.Changes.{KeepLeaves, MayAdd, MaySet, MayRemove, moved};
-ghost use Rattle.namespace_ops.specs.PlainFrags.{without_cover, without_home};
+ghost use Rattle.inode_table.specs.TreeChanges.{KeepLeaves, MayAdd, MaySet, MayRemove};
+ghost use Rattle.namespace_ops.specs.Changes.{moved};
+ghost use Rattle.inode_table.specs.TreeTable.{without_cover, without_home};
 ghost use Rattle.leaf_maps.specs.Leaves.{ArePlaced, names_in, shown_by};
 ghost use Rattle.leaf_maps.specs.Changes.{HaveSameNames};
 ghost use Rattle.cluster_core.specs.LeafFrags.{HasRoomAt, IsSoundTree};
 
 use crate::picks::{each_hash_has_a_leaf, put_at, take_from};
-use inode_table::Dirs;
+use inode_table::{Dirs, adopt_dir, drop_dir, relocate_dir};
 use leaf_maps::LeafMaps;
 use mds_types::{Inode, Name, Place};
-use namespace_ops::{adopt_dir, drop_dir, relocate_dir};
 
 /// Puts a new inode at a place. `spare` has the name of the place where the inode is a directory.
 pub fn add_entry(

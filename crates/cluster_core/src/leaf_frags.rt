@@ -5,7 +5,8 @@ ghost use Rattle.mds_types.specs.declared.refusals.Refusal.TheVariants.{NoMemory
 ghost use Rattle.mds_types.specs.Tree.{at};
 ghost use Rattle.leaf_maps.specs.Leaves.{ArePlaced, shown_by};
 ghost use Rattle.leaf_maps.specs.Changes.{HaveSameNames};
-ghost use Rattle.namespace_ops.specs.Changes.{IsReadyFor, KeepLeaves, MayChange, changed};
+ghost use Rattle.inode_table.specs.TreeChanges.{KeepLeaves};
+ghost use Rattle.namespace_ops.specs.Changes.{IsReadyFor, MayChange, changed};
 ghost use Rattle.namespace_ops.specs.Planned.{IsReadyToChange, after_plan};
 ghost use Rattle.cluster_core.specs.Serve.{CarryLeaves};
 ghost use Rattle.cluster_core.specs.LeafFrags.{IsReady, dentries_of, fragments};

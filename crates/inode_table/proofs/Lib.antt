@@ -1,2 +1,4 @@
 pub mod Chains
+pub mod MoveLaws
+pub mod TableLaws
 pub mod Tables

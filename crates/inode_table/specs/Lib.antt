@@ -1,2 +1,4 @@
 pub mod Dirs
 pub mod Numbers
+pub mod TreeChanges
+pub mod TreeTable

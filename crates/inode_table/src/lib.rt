@@ -4,9 +4,11 @@
 mod dirs;
 mod homes;
 mod numbers;
+mod table_changes;
 #[cfg(test)]
 mod tests;
 
 pub use dirs::Dirs;
 pub use homes::Home;
 pub use numbers::Numbers;
+pub use table_changes::{adopt_dir, drop_dir, relocate_dir};

@@ -15,7 +15,8 @@ use Rattle.mds_types.specs.PlaceLaws.{place-total, place-exact}
 use Rattle.mds_types.specs.EntryLaws.{get_put, get_beside, get_removed, get_left, same_or_apart, place_same, place_apart}
 use Rattle.mds_types.specs.MovedLaws.{IsMove}
 use Rattle.namespace_ops.specs.OneEntry.{tree_of}
-use Rattle.namespace_ops.specs.Changes.{MaySet, MayRemove, moved}
+use Rattle.inode_table.specs.TreeChanges.{MaySet, MayRemove}
+use Rattle.namespace_ops.specs.Changes.{moved}
 
 entries_one : (e : Place × Inode) → map.entries (tree_of (Some e)) ≡ e ∷ []
 entries_one e = entries-insert place-total map.empty e.0 e.1 ∙ ap (put place_cmp e.0 e.1) entries-empty

@@ -13,7 +13,8 @@ use Rattle.mds_types.specs.Step.{Outcome, answers, unless, leads_to, replace_err
 use Rattle.mds_types.specs.WellFormedLaws.{IsUnused, new_sized}
 use Rattle.namespace_ops.specs.declared.plans.Change.{Change}
 use Rattle.namespace_ops.specs.declared.plans.Plan.{Plan}
-use Rattle.namespace_ops.specs.Changes.{MayAdd, IsOffered}
+use Rattle.inode_table.specs.TreeChanges.{MayAdd}
+use Rattle.namespace_ops.specs.Changes.{IsOffered}
 use Rattle.namespace_ops.specs.Planned.{after_plan, IsReadyToChange, IsPlanned, Plans}
 use Rattle.namespace_ops.specs.Served.{LacksNumber}
 

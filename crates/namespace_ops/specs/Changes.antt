@@ -1,5 +1,5 @@
 -- Changes of the tree: which an operation makes, what they leave, and where they may be made.
-use Rattle.std.specs.Prelude.{◌≡◌, ℕ, true, false, ◌&&◌, Option, Some, None}
+use Rattle.std.specs.Prelude.{◌≡◌, Option, Some, None}
 use Rattle.std.specs.FinMap as map
 use Rattle.mds_types.specs.declared.ids.Ino.{Ino}
 use Rattle.mds_types.specs.declared.places.Place.{Place}
@@ -8,10 +8,10 @@ use Rattle.mds_types.specs.declared.inodes.Kind.{Kind}
 use Rattle.mds_types.specs.declared.inodes.Kind.TheVariants.{File, Dir, Symlink as Link}
 use Rattle.mds_types.specs.declared.operations.Op.{Op}
 use Rattle.mds_types.specs.declared.operations.Op.TheVariants.{Lookup, Readdir, Create, Mkdir, Readlink, Symlink, Setattr, Unlink, Rmdir, Rename}
-use Rattle.mds_types.specs.Tree.{Tree, place_of, is_directory, is_dir_kind, has_entries, HasSize}
-use Rattle.mds_types.specs.Step.{size_errno, with_attributes, with_moved}
+use Rattle.mds_types.specs.Tree.{Tree, place_of}
+use Rattle.mds_types.specs.Step.{with_moved}
 use Rattle.mds_types.specs.MovedLaws.{IsMove}
-use Rattle.inode_table.specs.Dirs.{Covers, leaves_of}
+use Rattle.inode_table.specs.TreeChanges.{MayAdd, MaySet, MayRemove}
 use Rattle.mds_types.specs.WellFormedLaws.{IsUnused}
 use Rattle.namespace_ops.specs.declared.plans.Change.{Change}
 use Rattle.namespace_ops.specs.declared.plans.Change.TheVariants.{Add, Set, Remove, Move}
@@ -73,29 +73,6 @@ changed tree (Set place inode) = map.insert tree place inode
 changed tree (Remove place) = map.remove tree place
 changed tree (Move from to) = moved tree from to (map.get tree from)
 
--- a new inode may come: to a free place of a directory, with a number that is unused and the size that its kind prescribes
-pub record MayAdd (tree : Tree) (place : Place) (inode : Inode) : Type 0 where
-  pub free : map.get tree place ≡ None
-  pub parent : is_directory tree place.dir.0 ≡ true
-  pub unused : IsUnused tree inode.ino.0
-  pub sized : HasSize inode.kind inode.size
-
--- an inode may get other attributes: it is the one that stands there with attributes that its kind allows to give
-pub record MaySet (tree : Tree) (place : Place) (inode : Inode) : Type 0 where
-  pub before : Inode
-  pub mode : Option ℕ
-  pub size : Option ℕ
-  pub mtime : Option ℕ
-  pub stands : map.get tree place ≡ Some before
-  pub allowed : size_errno before.kind size ≡ None
-  pub is : inode ≡ with_attributes mode size mtime before
-
--- an entry may go: it is no directory that has entries
-pub record MayRemove (tree : Tree) (place : Place) : Type 0 where
-  pub inode : Inode
-  pub stands : map.get tree place ≡ Some inode
-  pub empty : (is_dir_kind inode.kind && has_entries tree inode.ino.0) ≡ false
-
 -- a change may be made
 abbrev pub MayChange : Tree → Change → Type 0
 MayChange tree (Add place inode) = MayAdd tree place inode
@@ -107,7 +84,3 @@ MayChange tree (Move from to) = (inode : Inode) × IsMove tree from to inode
 abbrev pub IsOffered : Tree → Option Ino → Type 0
 IsOffered tree None = Unit {0}
 IsOffered tree (Some number) = IsUnused tree number.0
-
--- each directory of the tree has the leaves that it had
-abbrev pub KeepLeaves : Tree → (old new : Covers) → Type 0
-KeepLeaves tree old new = (d : ℕ) → is_directory tree d ≡ true → leaves_of new d ≡ leaves_of old d

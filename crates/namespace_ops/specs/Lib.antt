@@ -3,7 +3,6 @@ pub use Rattle.mds_types.specs.Step
 pub mod ChangedFragments
 pub mod Changes
 pub mod Laws
-pub mod MoveLaws
 pub mod OneEntry
 pub mod PlainFrags
 pub mod Picks
@@ -11,4 +10,3 @@ pub mod Planned
 pub mod Reasons
 pub mod Run
 pub mod Served
-pub mod TableLaws

@@ -9,7 +9,8 @@ ghost use Rattle.inode_table.specs.Dirs.{Covers, leaves_of};
 ghost use Rattle.mds_types.specs.Tree.{Tree, is_directory, is_above, has_entries, at};
 ghost use Rattle.mds_types.specs.Step.{names_after};
 ghost use Rattle.namespace_ops.specs.declared.plans.Change.{Change as Alteration};
-ghost use Rattle.namespace_ops.specs.Changes.{IsReadyFor, KeepLeaves, MayChange, changed};
+ghost use Rattle.inode_table.specs.TreeChanges.{KeepLeaves};
+ghost use Rattle.namespace_ops.specs.Changes.{IsReadyFor, MayChange, changed};
 ghost use Rattle.namespace_ops.specs.Reasons.{IsOfFragments};
 
 use crate::plans::Change;

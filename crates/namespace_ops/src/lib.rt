@@ -16,7 +16,6 @@ mod reading;
 mod removing;
 mod renaming;
 mod serving;
-mod table_changes;
 #[cfg(test)]
 mod tests;
 
@@ -30,4 +29,3 @@ pub use plain_frags::PlainFrags;
 pub use planning::plan_op;
 pub use plans::{Change, Plan, carry_out};
 pub use serving::serve_op;
-pub use table_changes::{adopt_dir, drop_dir, relocate_dir};

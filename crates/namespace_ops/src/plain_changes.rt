@@ -5,11 +5,11 @@ ghost use Rattle.sorted_map.specs.SortedMap.{contents};
 ghost use Rattle.mds_types.specs.declared.inodes.Inode.{Inode as Node};
 ghost use Rattle.mds_types.specs.Tree.{place_cmp, is_dir_kind};
 ghost use Rattle.mds_types.specs.MovedLaws.{IsMove};
-ghost use Rattle.namespace_ops.specs.Changes.{KeepLeaves, MayAdd, MaySet, MayRemove, moved};
-ghost use Rattle.namespace_ops.specs.PlainFrags.{IsTabled};
+ghost use Rattle.inode_table.specs.TreeChanges.{KeepLeaves, MayAdd, MaySet, MayRemove};
+ghost use Rattle.namespace_ops.specs.Changes.{moved};
+ghost use Rattle.inode_table.specs.TreeTable.{IsTabled};
 
-use crate::table_changes::{adopt_dir, drop_dir, relocate_dir};
-use inode_table::Dirs;
+use inode_table::{Dirs, adopt_dir, drop_dir, relocate_dir};
 use mds_types::{Inode, Name, Place};
 use sorted_map::SortedMap;
 

@@ -40,7 +40,8 @@ impl Model for PlainFrags {
     ghost use Rattle.sorted_map.specs.SortedMap.{contents};
     ghost use Rattle.std.specs.Coded.{codes};
     ghost use Rattle.std.specs.FinMap as map;
-    ghost use Rattle.namespace_ops.specs.PlainFrags.{Kept, IsTabled};
+    ghost use Rattle.inode_table.specs.TreeTable.{IsTabled};
+    ghost use Rattle.namespace_ops.specs.PlainFrags.{Kept};
 
     ghost Value = { Kept };
 

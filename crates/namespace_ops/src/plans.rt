@@ -1,6 +1,6 @@
 //! What an operation comes to, before it is done.
 ghost use Rattle.std.specs.Prelude.{◌≡◌, None};
-ghost use Rattle.namespace_ops.specs.Changes.{KeepLeaves};
+ghost use Rattle.inode_table.specs.TreeChanges.{KeepLeaves};
 ghost use Rattle.namespace_ops.specs.Planned.{after_plan, IsReadyToChange};
 
 use crate::frags::Frags;

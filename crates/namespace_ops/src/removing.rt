@@ -6,7 +6,8 @@ ghost use Rattle.mds_types.specs.Step.{answers, unlinked, dir_removed};
 ghost use Rattle.mds_types.specs.declared.replies.Reply.TheVariants.{Done};
 ghost use Rattle.std.specs.FinMap as map;
 ghost use Rattle.namespace_ops.specs.declared.plans.Change.TheVariants.{Remove};
-ghost use Rattle.namespace_ops.specs.Changes.{IsChangeOf, MayRemove};
+ghost use Rattle.inode_table.specs.TreeChanges.{MayRemove};
+ghost use Rattle.namespace_ops.specs.Changes.{IsChangeOf};
 ghost use Rattle.namespace_ops.specs.Planned.{Plans};
 
 use crate::frags::Frags;

@@ -1,4 +1,4 @@
-use Rattle.namespace_ops.specs.TableLaws.{may_come, added_tabled, leaves_same}
+use Rattle.inode_table.proofs.TableLaws.{may_come, added_tabled, leaves_same}
 use Rattle.cluster_core.proofs.leaf_changes.add_entry.Goals as goal
 
 pub adopt_dir-requires-clause-may : goal.adopt_dir-requires-clause-may

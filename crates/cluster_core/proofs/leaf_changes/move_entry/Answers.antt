@@ -3,9 +3,9 @@ use Rattle.leaf_maps.specs.Leaves.{shown_by}
 use Rattle.mds_types.specs.MovedLaws.{IsMove}
 use Rattle.namespace_ops.specs.Changes.{moved}
 use Rattle.std.specs.Option.{option_copied}
-use Rattle.namespace_ops.specs.PlainFrags.{without_cover}
-use Rattle.namespace_ops.specs.TableLaws.{leaves_kept}
-use Rattle.namespace_ops.specs.MoveLaws.{may_relocate, may_replace, moved_tabled}
+use Rattle.inode_table.specs.TreeTable.{without_cover}
+use Rattle.inode_table.proofs.TableLaws.{leaves_kept}
+use Rattle.inode_table.proofs.MoveLaws.{may_relocate, may_replace, moved_tabled}
 use Rattle.cluster_core.proofs.LeafChanges.{moving, moved_tree, replaced_is, replaced_empty}
 use Rattle.cluster_core.proofs.leaf_changes.move_entry.Goals as goal
 

@@ -1,6 +1,6 @@
 use Rattle.std.proofs.Common.{sym, ◌∙◌}
 use Rattle.leaf_maps.specs.Leaves.{shown_by}
-use Rattle.namespace_ops.specs.TableLaws.{may_drop, removed_tabled, leaves_kept}
+use Rattle.inode_table.proofs.TableLaws.{may_drop, removed_tabled, leaves_kept}
 use Rattle.cluster_core.proofs.LeafChanges.{removed_empty}
 use Rattle.cluster_core.proofs.leaf_changes.remove_entry.Goals as goal
 

@@ -1,5 +1,5 @@
 use Rattle.std.proofs.Common.{◌≡◌, Some, None, sym, ◌∙◌}
-use Rattle.namespace_ops.specs.TableLaws.{set_tabled}
+use Rattle.inode_table.proofs.TableLaws.{set_tabled}
 use Rattle.cluster_core.proofs.leaf_changes.set_entry.Goals as goal
 
 pub put_at-requires-clause-room : goal.put_at-requires-clause-room

@@ -1,4 +1,4 @@
-use Rattle.namespace_ops.specs.TableLaws.{leaves_same, may_come, added_tabled}
+use Rattle.inode_table.proofs.TableLaws.{leaves_same, may_come, added_tabled}
 use Rattle.namespace_ops.proofs.plain_changes.add_entry.Goals as goal
 
 pub adopt_dir-requires-clause-may : goal.adopt_dir-requires-clause-may

@@ -5,9 +5,9 @@ use Rattle.mds_types.specs.declared.inodes.Inode.{Inode}
 use Rattle.mds_types.specs.Tree.{place_cmp}
 use Rattle.mds_types.specs.MovedLaws.{IsMove}
 use Rattle.std.specs.Option.{option_copied}
-use Rattle.namespace_ops.specs.PlainFrags.{without_cover}
-use Rattle.namespace_ops.specs.TableLaws.{leaves_kept}
-use Rattle.namespace_ops.specs.MoveLaws.{may_relocate, may_replace, moved_tabled, target_stays, taken_is}
+use Rattle.inode_table.specs.TreeTable.{without_cover}
+use Rattle.inode_table.proofs.TableLaws.{leaves_kept}
+use Rattle.inode_table.proofs.MoveLaws.{may_relocate, may_replace, moved_tabled, target_stays, taken_is}
 use Rattle.namespace_ops.proofs.plain_changes.move_entry.Goals as goal
 
 pub relocate_dir-requires-clause-may : goal.relocate_dir-requires-clause-may

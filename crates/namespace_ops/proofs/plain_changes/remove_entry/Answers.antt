@@ -1,7 +1,7 @@
 use Rattle.std.proofs.Common.{sym}
 use Rattle.sorted_map.specs.SortedMap.{contents}
 use Rattle.mds_types.specs.Tree.{place_cmp}
-use Rattle.namespace_ops.specs.TableLaws.{leaves_kept, may_drop, removed_tabled}
+use Rattle.inode_table.proofs.TableLaws.{leaves_kept, may_drop, removed_tabled}
 use Rattle.namespace_ops.proofs.plain_changes.remove_entry.Goals as goal
 
 pub drop_dir-requires : goal.drop_dir-requires

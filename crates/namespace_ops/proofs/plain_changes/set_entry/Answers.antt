@@ -1,4 +1,4 @@
-use Rattle.namespace_ops.specs.TableLaws.{set_tabled}
+use Rattle.inode_table.proofs.TableLaws.{set_tabled}
 use Rattle.namespace_ops.proofs.plain_changes.set_entry.Goals as goal
 
 pub returns-clause-tabled : goal.returns-clause-tabled

@@ -1,5 +1,5 @@
 use Rattle.std.proofs.Common.{refl}
-use Rattle.namespace_ops.specs.TableLaws.{leaves_same}
+use Rattle.inode_table.proofs.TableLaws.{leaves_same}
 use Rattle.cluster_core.proofs.Divided.{divided_of}
 use Rattle.cluster_core.proofs.leaf_frags.LeafFrags.apply.Goals.{in-Add, in-Set, in-Remove, in-Move}
 use Rattle.cluster_core.proofs.leaf_frags.LeafFrags.apply.Goals as goal

@@ -1,7 +1,7 @@
 use Rattle.std.proofs.Common.{refl, sym, ◌∙◌}
 use Rattle.fragtree.specs.FragTree.{RefusesMerge}
 use Rattle.inode_table.specs.Dirs.{leaves_of}
-use Rattle.namespace_ops.specs.TableLaws.{known_is}
+use Rattle.inode_table.proofs.TableLaws.{known_is}
 use Rattle.cluster_core.proofs.Recovered.{refuses_no, refuses_yes, no_memory, covered, left_alone}
 use Rattle.cluster_core.proofs.Divided.{divided_of}
 use Rattle.cluster_core.proofs.leaf_frags.LeafFrags.merge.Goals as goal

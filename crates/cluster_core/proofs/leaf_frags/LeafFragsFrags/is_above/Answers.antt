@@ -1,6 +1,6 @@
 use Rattle.std.proofs.Common.{ap, ◌∙◌}
 use Rattle.mds_types.specs.Tree.{is_directory, is_above}
-use Rattle.namespace_ops.specs.TableLaws.{above_is}
+use Rattle.inode_table.proofs.TableLaws.{above_is}
 use Rattle.leaf_maps.specs.Leaves.{shown_by}
 use Rattle.cluster_core.specs.LeafFrags.{Fragments}
 use Rattle.cluster_core.proofs.leaf_frags.LeafFragsFrags.is_above.Goals as goal

@@ -1,4 +1,4 @@
-use Rattle.namespace_ops.specs.TableLaws.{empty_tabled}
+use Rattle.inode_table.proofs.TableLaws.{empty_tabled}
 use Rattle.namespace_ops.proofs.plain_frags.PlainFrags.new.Goals as goal
 
 pub invariant_of-result : goal.invariant_of-result

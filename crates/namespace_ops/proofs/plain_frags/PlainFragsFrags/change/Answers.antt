@@ -1,5 +1,5 @@
 use Rattle.std.proofs.Common.{refl}
-use Rattle.namespace_ops.specs.TableLaws.{leaves_same}
+use Rattle.inode_table.proofs.TableLaws.{leaves_same}
 use Rattle.namespace_ops.proofs.plain_frags.PlainFragsFrags.change.Goals.{in-Add, in-Set, in-Remove, in-Move}
 use Rattle.namespace_ops.proofs.plain_frags.PlainFragsFrags.change.Goals as goal
 

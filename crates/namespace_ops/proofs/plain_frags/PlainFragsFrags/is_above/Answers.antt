@@ -1,7 +1,7 @@
 use Rattle.std.proofs.Common.{ap, ◌∙◌}
 use Rattle.mds_types.specs.Tree.{is_directory, is_above}
 use Rattle.namespace_ops.specs.PlainFrags.{Kept}
-use Rattle.namespace_ops.specs.TableLaws.{above_is}
+use Rattle.inode_table.proofs.TableLaws.{above_is}
 use Rattle.namespace_ops.proofs.plain_frags.PlainFragsFrags.is_above.Goals as goal
 
 pub returns : goal.returns

@@ -1,7 +1,7 @@
 use Rattle.std.proofs.Common.{ap, ◌∙◌}
 use Rattle.mds_types.specs.Tree.{is_directory}
 use Rattle.namespace_ops.specs.PlainFrags.{Kept}
-use Rattle.namespace_ops.specs.TableLaws.{known_is}
+use Rattle.inode_table.proofs.TableLaws.{known_is}
 use Rattle.namespace_ops.proofs.plain_frags.PlainFragsFrags.is_dir.Goals as goal
 
 pub returns : goal.returns

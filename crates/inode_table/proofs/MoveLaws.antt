@@ -11,8 +11,8 @@ use Rattle.mds_types.specs.DirectoryLaws.{one_place}
 use Rattle.sorted_map.specs.NatKeys.{after_put, after_removal, get_put, get_beside, get_left as get_left_home}
 use Rattle.inode_table.specs.declared.homes.Home.{Home}
 use Rattle.inode_table.specs.Dirs.{Homes, MayMove, IsChildless}
-use Rattle.namespace_ops.specs.PlainFrags.{IsTabled, home_at, with_home, without_home}
-use Rattle.namespace_ops.specs.TableLaws.{home_of, known_is, above_in_tree, childless, dir_or_not, with_dir, with_file, without_dir, without_file, place_at}
+use Rattle.inode_table.specs.TreeTable.{IsTabled, home_at, with_home, without_home}
+use Rattle.inode_table.proofs.TableLaws.{home_of, known_is, above_in_tree, childless, dir_or_not, with_dir, with_file, without_dir, without_file, place_at}
 
 -- what a table answers once an inode has a home there
 with_at : (homes : Homes) (place : Place) (inode : Inode) → is_dir_kind inode.kind ≡ true → map.get (with_home homes place inode) inode.ino.0 ≡ Some (home_at place)

@@ -1,14 +1,15 @@
 //! Changes of a directory table beside a tree: what becomes of it where an inode comes, goes or moves.
 //!
-//! None takes memory. A table that is asked for them stays that of its tree, by the laws of `TableLaws` and `MoveLaws`.
+//! None takes memory. A table that is asked for them stays that of its tree, by the lemmas of `TableLaws` and `MoveLaws`.
 ghost use Rattle.std.specs.Prelude.{◌≡◌, ◌<◌, true, Some};
 ghost use Rattle.std.specs.Option.{option_copied};
 ghost use Rattle.mds_types.specs.declared.inodes.Inode.{Inode as Node};
 ghost use Rattle.mds_types.specs.Tree.{is_dir_kind};
 ghost use Rattle.inode_table.specs.Dirs.{IsChildless, IsTable, MayCome, MayMove};
-ghost use Rattle.namespace_ops.specs.PlainFrags.{home_at, with_home, without_cover, without_home};
+ghost use Rattle.inode_table.specs.TreeTable.{home_at, with_home, without_cover, without_home};
 
-use inode_table::{Dirs, Home};
+use crate::dirs::Dirs;
+use crate::homes::Home;
 use mds_types::{Inode, Name, Place};
 
 /// Notes in the table the new inode at a place, if it is a directory: it has its home there, and the one leaf `*`. Of a
