@@ -4,7 +4,7 @@ use Rattle.std.proofs.lemmas.Bool.{cases_lt}
 use Rattle.std.proofs.lemmas.List.Elements.{Contains-get_or}
 use Rattle.mds_types.specs.Frag.{Fragment, IsFragment, Contains, root_fragment, span}
 use Rattle.fragtree.specs.FragTree.{IsAscendingCover, IsTree, Tiles}
-use Rattle.fragtree.specs.Places.{IsPlace, leaf_at}
+use Rattle.fragtree.proofs.Places.{IsPlace, leaf_at}
 use Rattle.fragtree.proofs.Ranges.{span_pos, ends_low, range_from_Contains, Contains-from_range}
 use Rattle.fragtree.proofs.Tilings.{between, covers, in_order}
 

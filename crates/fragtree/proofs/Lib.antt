@@ -1,6 +1,17 @@
 pub mod Ranges
+pub mod Places
 pub mod Tilings
 pub mod Splits
 pub mod Merges
 pub mod TreeLaws
 pub mod Covers
+pub mod Rounds
+pub mod DescentLaws
+pub mod Entries
+pub mod Spelled
+pub mod FirstKeys
+pub mod Steps
+pub mod Kept
+pub mod Counted
+pub mod Made
+pub mod Walks

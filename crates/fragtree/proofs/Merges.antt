@@ -8,7 +8,7 @@ use Rattle.std.proofs.Math.Nat.{add-zero}
 use Rattle.std.specs.List.{All}
 use Rattle.mds_types.specs.Frag.{Fragment, IsFragment, root_fragment, span}
 use Rattle.fragtree.specs.FragTree.{Tiles, IsTree, HasLeaf, IsMerge, lies_inside, leaves_inside}
-use Rattle.fragtree.specs.Places.{IsPlace, StandFrom, leaf_at}
+use Rattle.fragtree.proofs.Places.{IsPlace, StandFrom, leaf_at}
 use Rattle.fragtree.proofs.Ranges.{span_pos, span_falls, ends_before, ends_within, lies_inside-true, range_from_inside}
 use Rattle.fragtree.proofs.Tilings.{around, between, in_order, low_le_high, one_place, tiles-append}
 use Rattle.fragtree.proofs.Splits.{at_place}
@@ -55,19 +55,19 @@ module _ (f : Fragment) (h : IsFragment f) where
   coarse_outside : (g : Fragment) → g.bits ≤ f.bits → lies_inside f g ≡ false
   coarse_outside g coarse = not_inside g (λ is. omega (arith, (range_from_inside f g h is).0))
 
-  skip : (g : Fragment) (gs : List Fragment) → lies_inside f g ≡ false → leaves_inside f (g ∷ gs) ≡ leaves_inside f gs
+  pub skip : (g : Fragment) (gs : List Fragment) → lies_inside f g ≡ false → leaves_inside f (g ∷ gs) ≡ leaves_inside f gs
   skip g gs e = ap (λ b. cond b (g ∷ leaves_inside f gs) (leaves_inside f gs)) e
 
-  keep : (g : Fragment) (gs : List Fragment) → lies_inside f g ≡ true → leaves_inside f (g ∷ gs) ≡ g ∷ leaves_inside f gs
+  pub keep : (g : Fragment) (gs : List Fragment) → lies_inside f g ≡ true → leaves_inside f (g ∷ gs) ≡ g ∷ leaves_inside f gs
   keep g gs e = ap (λ b. cond b (g ∷ leaves_inside f gs) (leaves_inside f gs)) e
 
-  nothing_below : (low high : ℕ) (xs : List Fragment) → Tiles low high xs → high ≤ f.value → leaves_inside f xs ≡ []
+  pub nothing_below : (low high : ℕ) (xs : List Fragment) → Tiles low high xs → high ≤ f.value → leaves_inside f xs ≡ []
   nothing_below low high [] t out = refl
   nothing_below low high (g ∷ gs) t out =
       let below : g.value < f.value = omega (arith, t.1, span_pos g.bits, low_le_high (low + span g.bits) high gs t.2) in
       skip g gs (below_outside g below) ∙ nothing_below (low + span g.bits) high gs t.2 out
 
-  nothing_above : (low high : ℕ) (xs : List Fragment) → Tiles low high xs → f.value + span f.bits ≤ low → leaves_inside f xs ≡ []
+  pub nothing_above : (low high : ℕ) (xs : List Fragment) → Tiles low high xs → f.value + span f.bits ≤ low → leaves_inside f xs ≡ []
   nothing_above low high [] t out = refl
   nothing_above low high (g ∷ gs) t out = skip g gs (above_outside g (omega (arith, t.1))) ∙ nothing_above (low + span g.bits) high gs t.2 (omega arith)
 
@@ -90,7 +90,7 @@ module _ (f : Fragment) (h : IsFragment f) where
 
   module _ (xs : List Fragment) (t : Tiles 0 (2 ^ 24) xs) (i : ℕ) (p : IsPlace xs f.value i) where
     -- a leaf with no more bits than f that contains its beginning contains all of it
-    none_inside : (leaf_at xs i).bits ≤ f.bits → leaves_inside f xs ≡ []
+    pub none_inside : (leaf_at xs i).bits ≤ f.bits → leaves_inside f xs ≡ []
     none_inside coarse =
         let w = around 0 (2 ^ 24) xs i t p.stands in
         let ends = ends_within (leaf_at xs i) f w.0 h coarse p.ends in
@@ -100,7 +100,7 @@ module _ (f : Fragment) (h : IsFragment f) where
         ∙ ap (λ ys. ys ++ leaves_inside f (leaf_at xs i ∷ drop (suc i) xs)) front ∙ skip (leaf_at xs i) (drop (suc i) xs) (coarse_outside (leaf_at xs i) coarse) ∙ back
 
     -- a leaf with more bits that contains the beginning of f begins there
-    begins_with : f.bits < (leaf_at xs i).bits → (leaf_at xs i).value ≡ f.value
+    pub begins_with : f.bits < (leaf_at xs i).bits → (leaf_at xs i).value ≡ f.value
     begins_with more =
         let w = around 0 (2 ^ 24) xs i t p.stands in
         let not_before : (leaf_at xs i).value < f.value → ⊥ = λ before. omega (arith, ends_before f (leaf_at xs i) h w.0 (omega arith) before, p.ends) in
@@ -117,15 +117,6 @@ module _ (f : Fragment) (h : IsFragment f) where
               let r : IsPlace xs f.value j = record { stands = q.stands; begins = omega arith; ends = omega (arith, q.ends, span_pos f.bits) } in
               absurd (omega (arith, ap (λ k. (leaf_at xs k).bits) (one_place 0 (2 ^ 24) xs f.value i j t p r)))
         ]
-
-    pub stand_nowhere : (leaf_at xs i).bits ≤ f.bits → StandFrom xs f i i
-    stand_nowhere coarse = record {
-      ordered = omega arith;
-      within = omega (arith, p.stands);
-      inside = let none : 0 ≡ i - i = omega arith in none_inside coarse ∙ ap (λ n. take n (drop i xs)) none;
-      before = λ less. absurd (omega arith);
-      after = λ less. absurd (omega arith);
-    }
 
     pub stand_from : (hash j : ℕ) → hash + 1 ≡ f.value + span f.bits → IsPlace xs hash j → f.bits < (leaf_at xs i).bits → StandFrom xs f i (j + 1)
     stand_from hash j last q more =

@@ -60,7 +60,7 @@ module _ (v h s : ℕ) (some : 0 < s) (whole : v % s ≡ 0) where
       let same : s * (h / s) ≡ s * (v / s) = ap (λ q. s * q) e in
       (omega (arith, div-add-mod v s, div-add-mod h s), omega (arith, div-add-mod v s, div-add-mod h s))
 
-  quotient_from_range : v ≤ h → h < v + s → h / s ≡ v / s
+  pub quotient_from_range : v ≤ h → h < v + s → h / s ≡ v / s
   quotient_from_range low high =
       let joined : h ≡ v / s * s + (h - v) = omega (arith, div-add-mod v s) in
       ap (λ n. n / s) joined ∙ div-mul-add (v / s) s (h - v) (omega arith)

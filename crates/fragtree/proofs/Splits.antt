@@ -8,7 +8,7 @@ use Rattle.std.specs.List.{range_with_len}
 use Rattle.mds_types.specs.Frag.{Fragment, IsFragment, root_fragment, child_of, span}
 use Rattle.mds_types.proofs.Fragments.{span-split, child_is_fragment}
 use Rattle.fragtree.specs.FragTree.{Tiles, IsTree, HasLeaf, FitsSplit, IsChild, IsSplit}
-use Rattle.fragtree.specs.Places.{leaf_at, first_children}
+use Rattle.fragtree.proofs.Places.{leaf_at, first_children}
 use Rattle.fragtree.proofs.Ranges.{span_pos}
 use Rattle.fragtree.proofs.Tilings.{tiles-append, around, between}
 
@@ -17,7 +17,7 @@ pub at_place : (xs : List Fragment) (i : ℕ) → i < length xs → xs ≡ take 
 at_place xs i h = sym (take-append-drop i xs) ∙ ap (λ ys. take i xs ++ ys) (drop-cons xs i root_fragment h)
 
 -- the children of f from one on tile the hashes from where it begins
-children_from : (f : Fragment) (nb i n : ℕ) → IsFragment f → f.bits + nb ≤ 24 → i + n ≤ 2 ^ nb
+pub children_from : (f : Fragment) (nb i n : ℕ) → IsFragment f → f.bits + nb ≤ 24 → i + n ≤ 2 ^ nb
     → Tiles (f.value + i * span (f.bits + nb)) (f.value + (i + n) * span (f.bits + nb)) (map (λ k. child_of f k nb) (range_with_len i n))
 children_from f nb i zero h few below = ap (λ k. f.value + k * span (f.bits + nb)) (omega arith)
 children_from f nb i (suc n) h few below =

@@ -1,15 +1,12 @@
 -- Lists of fragments that tile a range of hashes: their parts, the place of a hash, and why each hash is in exactly one.
-use Rattle.std.proofs.Common.{◌≡◌, inl, inr, true, false, leb, ℕ, zero, suc, ◌+◌, ◌-◌, ◌%◌, ◌^◌, ◌<◌, ◌≤◌, List, [], ◌∷◌, ◌++◌, length, take, drop, sym, ap, subst, ◌∙◌, arith}
+use Rattle.std.proofs.Common.{◌≡◌, inl, inr, ℕ, zero, suc, ◌+◌, ◌%◌, ◌^◌, ◌<◌, ◌≤◌, List, [], ◌∷◌, ◌++◌, length, take, drop, sym, ap, subst, ◌∙◌, arith}
 use Rattle.std.proofs.lemmas.Bool.{cases_lt}
 use Rattle.std.proofs.lemmas.List.{get_or_default}
 use Rattle.std.proofs.lemmas.List.Elements.{Contains-get_or}
-use Rattle.std.proofs.lemmas.List.Sorted.{IsNonDecreasingBy-from_default}
-use Rattle.std.proofs.lemmas.Bool.Decides.{nat_tests}
-use Rattle.std.specs.List.Sorted.{IsNonDecreasingBy, IsPartitionPoint}
 use Rattle.mds_types.specs.Frag.{Fragment, IsFragment, Contains, IsCover, root_fragment, span}
 use Rattle.fragtree.specs.FragTree.{Tiles, HasLeaf, IsPick}
-use Rattle.fragtree.specs.Places.{IsPlace, leaf_at}
-use Rattle.fragtree.proofs.Ranges.{span_pos, range_from_Contains, Contains-from_range}
+use Rattle.fragtree.proofs.Places.{IsPlace, leaf_at}
+use Rattle.fragtree.proofs.Ranges.{range_from_Contains, Contains-from_range}
 
 pub low_le_high : (low high : ℕ) (xs : List Fragment) → Tiles low high xs → low ≤ high
 low_le_high low high [] e = omega (arith, e)
@@ -61,34 +58,6 @@ some_place low high (f ∷ fs) hash t from below =
           let w = some_place (low + span f.bits) high fs hash t.2 later below in
           (suc w.0, record { stands = omega (arith, w.1.stands); begins = w.1.begins; ends = w.1.ends })
     ]
-
--- a leaf stands at the place of its value
-pub at_its_value : (low high : ℕ) (xs : List Fragment) (f : Fragment) (i : ℕ) → Tiles low high xs → HasLeaf xs f → IsPlace xs f.value i → leaf_at xs i ≡ f
-at_its_value low high xs f i t (k, stands, is) p =
-    let same : leaf_at xs k ≡ f = get_or_default xs k root_fragment f stands ∙ is in
-    let q : IsPlace xs f.value k = record { stands = stands; begins = omega (arith, ap (λ (g : Fragment). g.value) same); ends = omega (arith, ap (λ (g : Fragment). g.value) same, span_pos (leaf_at xs k).bits) } in
-    ap (leaf_at xs) (one_place low high xs f.value i k t p q) ∙ same
-
--- the leaves are by ascending value
-pub ascending : (low high : ℕ) (xs : List Fragment) → Tiles low high xs → IsNonDecreasingBy (λ (f : Fragment). f.value) xs
-ascending low high xs t =
-    IsNonDecreasingBy-from_default (λ (f : Fragment). f.value) xs root_fragment
-    (λ i j le stands. elim (cases_lt i j) [
-      | inl less ↦ omega (arith, in_order low high xs i j t less stands)
-      | inr more ↦ let same : i ≡ j = omega arith in omega (arith, ap (λ k. (leaf_at xs k).value) same)
-    ])
-
--- the leaves that begin at the hash or before it end with the one that contains it
-pub place_from_point : (xs : List Fragment) (hash point : ℕ) → Tiles 0 (2 ^ 24) xs → hash < 2 ^ 24 → point ≤ length xs
-    → IsPartitionPoint (λ (f : Fragment). leb f.value hash ≡ true) (λ (f : Fragment). leb f.value hash ≡ false) xs point → (1 ≤ point) × IsPlace xs hash (point - 1)
-place_from_point xs hash point t low bound parts =
-    let (i, p) = some_place 0 (2 ^ 24) xs hash t (omega arith) low in
-    let front : point ≤ i → ⊥ = λ out. absurd (grind (arith, nat_tests, parts.1 i root_fragment out p.stands, p.begins)) in
-    let back : i + 1 < point → ⊥ = λ more.
-    let begins : (leaf_at xs (point - 1)).value ≤ hash = let e = parts.0 (point - 1) root_fragment (omega arith) (omega arith) in grind (arith, nat_tests) in
-    omega (arith, in_order 0 (2 ^ 24) xs i (point - 1) t (omega arith) (omega arith), p.ends, begins) in
-    let same : i ≡ point - 1 = omega arith in
-    (omega arith, subst (IsPlace xs hash) same p)
 
 module _ (xs : List Fragment) (t : Tiles 0 (2 ^ 24) xs) (hash : ℕ) where
   -- the leaf at a place contains the hash if that is the place of its low 24 bits

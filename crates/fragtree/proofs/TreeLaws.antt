@@ -6,7 +6,7 @@ use Rattle.mds_types.specs.Frag.{Fragment, IsFragment, Contains, ContainsFragmen
 use Rattle.mds_types.specs.declared.refusals.Refusal.{Refusal}
 use Rattle.mds_types.specs.declared.refusals.Refusal.TheVariants.{NoMemory, NoSuchFrag, BadSplit, TooManyFrags}
 use Rattle.fragtree.specs.FragTree.{Tiles, IsTree, HasLeaf, IsPick, IsChild, IsSplit, IsMerge, RefusesSplit, RefusesMerge, lies_inside}
-use Rattle.fragtree.specs.Places.{leaf_at}
+use Rattle.fragtree.proofs.Places.{leaf_at}
 use Rattle.fragtree.proofs.Ranges.{span_pos, ends_within, next_multiple, range_from_Contains, Contains-from_range, range_from_inside, range_from_quotient, lies_inside-true}
 use Rattle.fragtree.proofs.Tilings.{between, low_le_high, low_place, pick_from_place, place_from_Contains}
 
@@ -32,7 +32,7 @@ first_or_later f g fs (suc k, stands, is) = inr (k, omega (arith, stands), is)
 later : (f g : Fragment) (fs : List Fragment) → HasLeaf fs g → HasLeaf (f ∷ fs) g
 later f g fs (k, stands, is) = (suc k, omega (arith, stands), is)
 
-same_tiles : (low high : ℕ) (xs ys : List Fragment) → Tiles low high xs → Tiles low high ys → ((g : Fragment) → HasLeaf xs g → HasLeaf ys g) → xs ≡ ys
+pub same_tiles : (low high : ℕ) (xs ys : List Fragment) → Tiles low high xs → Tiles low high ys → ((g : Fragment) → HasLeaf xs g → HasLeaf ys g) → xs ≡ ys
 same_tiles low high [] [] t u h = refl
 same_tiles low high [] (g ∷ gs) t u h = absurd (omega (arith, t, span_pos g.bits, low_le_high (low + span g.bits) high gs u.2))
 same_tiles low high (f ∷ fs) [] t u h = absurd (omega (arith, u, span_pos f.bits, low_le_high (low + span f.bits) high fs t.2))

@@ -1,2 +1,2 @@
 pub mod FragTree
-pub mod Places
+pub mod Descents

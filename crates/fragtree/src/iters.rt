@@ -3,24 +3,30 @@ ghost use Rattle.std.specs.Prelude.{◌≡◌, IfSome, Some, length};
 ghost use Rattle.std.specs.Iterator.{UpTo, YieldsFirst, at_most, item_count};
 ghost use Rattle.std.specs.Iterator.SizeHint.{IsWithinCount};
 
+use crate::descents::last_hash;
 use crate::tree::FragTree;
 use mds_types::Frag;
 use std::iter::FusedIterator;
 use std::marker::Model;
 
-/// An iterator over the leaves of a tree, by ascending value.
+/// An iterator over the leaves of a tree, by ascending value. Each step takes the time of a pick.
 #[derive(Drop)]
 pub struct Iter<'a> {
-    rest: &'a [Frag],
+    tree: &'a FragTree,
+    next: u32,
+    done: usize,
 }
 
 impl<'a> Model for Iter<'a> {
-    ghost use Rattle.std.specs.Prelude.{List};
+    ghost use Rattle.std.specs.Prelude.{List, ◌≤◌, ◌^◌, drop, length};
     ghost use Rattle.mds_types.specs.Frag.{Fragment};
+    ghost use Rattle.fragtree.specs.FragTree.{IsTree, Tiles};
 
     ghost Value = { List Fragment };
 
-    ghost view = { λ a. a.rest.now };
+    ghost view = { λ a. drop a.done a.tree.now };
+
+    ghost invariant = { λ a. (a.done ≤ length a.tree.now) × IsTree a.tree.now × Tiles a.next (2 ^ 24) (drop a.done a.tree.now) };
 }
 
 impl<'a> Iterator for Iter<'a> {
@@ -31,9 +37,13 @@ impl<'a> Iterator for Iter<'a> {
     ghost remaining = { item_count (λ s. s) };
 
     fn next(&mut self) -> Option<Frag> {
-        let (first, rest) = self.rest.split_first()?;
-        self.rest = rest;
-        Some(*first)
+        if self.next == 1 << 24 {
+            return None;
+        }
+        let leaf = self.tree.pick(self.next);
+        self.next = last_hash(leaf) + 1;
+        self.done += 1;
+        Some(leaf)
     }
 
     fn size_hint(&self) -> (usize, Option<usize>)
@@ -48,7 +58,7 @@ impl<'a> Iterator for Iter<'a> {
 
 impl<'a> ExactSizeIterator for Iter<'a> {
     fn len(&self) -> usize {
-        self.rest.len()
+        self.tree.len() - self.done
     }
 }
 
@@ -59,7 +69,13 @@ impl FragTree {
     pub fn iter(&self) -> Iter<'_>
         ensures { result ≡ self.now }
     {
-        Iter { rest: &self.leaves }
+        // The contract of `len` is what says here that the leaves are those of a tree.
+        let _ = self.len();
+        Iter {
+            tree: self,
+            next: 0,
+            done: 0,
+        }
     }
 }
 

@@ -1,11 +1,8 @@
 //! How a leaf is split.
 ghost use Rattle.std.specs.Prelude.{◌≡◌, ◌≢◌, ◌↔◌, ◌+◌, ◌-◌, ◌^◌, ◌<◌, ◌≤◌, ◌++◌, IsTrue, IfErr, OnErr, OnOk, take, drop, suc, vec_len, vec_capacity};
 ghost use Rattle.fragtree.specs.FragTree.{CanSplit, FitsSplit, IsSplit, IsTree, RefusesSplit};
-ghost use Rattle.fragtree.specs.Places.{first_children};
-ghost use Rattle.mds_types.specs.Frag.{child_of};
 ghost use Rattle.mds_types.specs.declared.refusals.Refusal.TheVariants.{NoMemory};
 
-use crate::places::place_of_leaf;
 use crate::tree::FragTree;
 use mds_types::{Frag, Refusal};
 
@@ -41,11 +38,9 @@ impl FragTree {
         if let Err(refusal) = self.check_split(f, nb) {
             return Err(refusal);
         }
-        let Some(place) = place_of_leaf(&self.leaves, f) else {
-            return Err(Refusal::NoSuchFrag);
-        };
-        self.leaves.reserve(child_count(nb) - 1)?;
-        put_children(&mut self.leaves, place, f, nb);
+        self.splits.reserve(1)?;
+        let _ = self.splits.insert(f, nb);
+        self.count = self.count - 1 + child_count(nb);
         Ok(())
     }
 }
@@ -65,39 +60,4 @@ fn child_count(nb: u8) -> usize
     ensures some { 1 ≤ result }
 {
     1 << nb
-}
-
-// Puts the children of a leaf in its place, where there is room for them. What stands after the leaf is brought to the
-// front meanwhile.
-fn put_children(leaves: &mut Vec<Frag>, place: usize, f: Frag, nb: u8)
-    requires stands { place < vec_len leaves.old }
-    requires fits { FitsSplit f nb }
-    requires room { vec_len leaves.old - 1 + 2 ^ nb ≤ vec_capacity leaves.old }
-    ensures { leaves.new.items ≡ take place leaves.old.items ++ first_children f nb (2 ^ nb) ++ drop (suc place) leaves.old.items }
-{
-    let after = leaves.len() - place - 1;
-    leaves.rotate_right(after);
-    leaves.truncate(after + place);
-    push_children(leaves, f, nb);
-    leaves.rotate_left(after);
-}
-
-// Appends the children of a fragment, where there is room for them.
-fn push_children(leaves: &mut Vec<Frag>, f: Frag, nb: u8)
-    requires fits { FitsSplit f nb }
-    requires room { vec_len leaves.old + 2 ^ nb ≤ vec_capacity leaves.old }
-    ensures { leaves.new.items ≡ leaves.old.items ++ first_children f nb (2 ^ nb) }
-{
-    for i in 0..1 << nb {
-        let _ = leaves.push(child(f, i, nb));
-    }
-}
-
-// The child `i` of a fragment by so many bits.
-fn child(f: Frag, i: u32, nb: u8) -> Frag
-    requires fits { f.bits + nb ≤ 24 }
-    requires below { i < 2 ^ nb }
-    ensures { result ≡ child_of f i nb }
-{
-    f.child(i, nb).unwrap()
 }

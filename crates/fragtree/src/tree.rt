@@ -1,30 +1,33 @@
 //! `FragTree`, what a contract sees of it, and the calls that read it.
-ghost use Rattle.std.specs.Prelude.{◌≡◌, ◌↔◌, ◌∷◌, [], IfOk, IsTrue, SomeIff, length};
+ghost use Rattle.std.specs.Prelude.{◌≡◌, ◌↔◌, ◌∷◌, [], IfOk, IsTrue, length};
 ghost use Rattle.mds_types.specs.Frag.{IsCover, root_fragment};
 ghost use Rattle.fragtree.specs.FragTree.{HasLeaf, IsPick, IsTree};
 
-use crate::places::{do_tile, place_of_hash, place_of_leaf};
+use crate::descents::leaf_of;
 use mds_types::Frag;
+use sorted_map::SortedMap;
 use std::alloc::{AllocError, Global};
 use std::marker::Model;
 
-/// The leaves of one directory. Contracts see them as the list of them by ascending value: fragments that cover every
-/// 24-bit hash exactly once, at most 4096.
-#[derive(Clone, Debug, Drop)]
+/// The leaves of one directory, kept as CephFS keeps them: by how many bits fragments are split, from `*` on. Contracts see
+/// the list of the leaves by ascending value: fragments that cover every 24-bit hash exactly once, at most 4096.
+#[derive(Debug, Drop)]
 pub struct FragTree {
-    pub(crate) leaves: Vec<Frag>,
+    pub(crate) splits: SortedMap<Frag, u8>,
+    pub(crate) count: usize,
 }
 
 impl Model for FragTree {
     ghost use Rattle.std.specs.Prelude.{List};
-    ghost use Rattle.mds_types.specs.Frag.{Fragment};
-    ghost use Rattle.fragtree.specs.FragTree.{IsTree};
+    ghost use Rattle.mds_types.specs.Frag.{Fragment, frag_cmp};
+    ghost use Rattle.sorted_map.specs.SortedMap.{contents};
+    ghost use Rattle.fragtree.specs.Descents.{IsKept, leaves_of};
 
     ghost Value = { List Fragment };
 
-    ghost view = { λ t. t.leaves.items };
+    ghost view = { λ t. leaves_of (contents frag_cmp t.splits) t.count };
 
-    ghost invariant = { λ t. IsTree t.leaves.items };
+    ghost invariant = { λ t. IsKept (contents frag_cmp t.splits) t.count };
 }
 
 impl FragTree {
@@ -37,24 +40,14 @@ impl FragTree {
     /// The most bits by which a leaf is split at once.
     pub const MAX_SPLIT_BITS: u8 = 8;
 
-    /// The leaves of a new directory: `*` alone.
+    /// The leaves of a new directory: `*` alone. Takes no memory.
     pub fn whole(alloc: Global) -> Result<FragTree, AllocError>
         ensures { IfOk result (λ tree. tree ≡ root_fragment ∷ []) }
     {
-        let leaves = vec![in alloc; Frag::ROOT]?;
-        Ok(FragTree { leaves })
-    }
-
-    /// The tree of these leaves, if they are those of a tree: by strictly ascending value, with every 24-bit hash in
-    /// exactly one, and at most 4096. Takes memory for them; only want of it is an error.
-    pub fn from_leaves(alloc: Global, leaves: &[Frag]) -> Result<Option<FragTree>, AllocError>
-        ensures { IfOk result (λ made. SomeIff made (IsTree leaves.now) leaves.now) }
-    {
-        if leaves.len() > FragTree::MAX_LEAVES || !do_tile(leaves) {
-            return Ok(None);
-        }
-        let leaves = Vec::from_slice(alloc, leaves)?;
-        Ok(Some(FragTree { leaves }))
+        Ok(FragTree {
+            splits: SortedMap::new(alloc),
+            count: 1,
+        })
     }
 
     /// How many leaves there are. A directory always has one.
@@ -63,35 +56,50 @@ impl FragTree {
         ensures valid { IsTree self.now }
         ensures cover { IsCover self.now }
     {
-        self.leaves.len()
+        self.count
     }
 
     /// The leaves by ascending value.
     pub fn leaves(&self, alloc: Global) -> Result<Vec<Frag>, AllocError>
         ensures { IfOk result (λ leaves. leaves.items ≡ self.now) }
     {
-        Vec::from_slice(alloc, &self.leaves)
+        let mut leaves = Vec::with_capacity(alloc, self.len())?;
+        for leaf in self {
+            leaves.push(leaf)?;
+        }
+        Ok(leaves)
     }
 
-    /// A copy. Takes memory for the leaves.
+    /// A copy. Takes memory for the splits.
     pub fn try_clone(&self) -> Result<FragTree, AllocError>
         ensures { IfOk result (λ copy. copy ≡ self.now) }
     {
-        self.clone()
+        Ok(FragTree {
+            splits: self.splits.clone()?,
+            count: self.count,
+        })
     }
 
-    /// The leaf that a hash picks: the one that contains it. The top 8 bits of the hash play no part. Takes no memory,
-    /// and logarithmic time.
+    /// The leaf that a hash picks: the one that contains it. The top 8 bits of the hash play no part. Takes no memory, and
+    /// logarithmic time for the leaf and for each split that the descent passes, 24 at most.
     pub fn pick(&self, hash: u32) -> Frag
         ensures { IsPick self.now hash result }
     {
-        self.leaves[place_of_hash(&self.leaves, hash % (1 << 24))]
+        leaf_of(&self.splits, hash % (1 << 24))
     }
 
-    /// Whether the fragment is a leaf. Takes logarithmic time.
+    /// Whether the fragment is a leaf. Takes the time of a pick.
     pub fn has_leaf(&self, f: Frag) -> bool
         ensures { IsTrue result ↔ HasLeaf self.now f }
     {
-        place_of_leaf(&self.leaves, f).is_some()
+        self.pick(f.value()) == f
+    }
+}
+
+impl Clone for FragTree {
+    ghost is_clone = { λ old new. new ≡ old };
+
+    fn clone(&self) -> Result<FragTree, AllocError> {
+        self.try_clone()
     }
 }

@@ -1,7 +1,8 @@
--- `==` of the two lists decides whether they are one.
-use Rattle.std.proofs.Common.{rules}
+-- Whether each leaf of one is one of the other decides whether they are one, as the test of the two lists does.
+use Rattle.std.proofs.Common.{refl, rules}
+use Rattle.std.specs.Bool.{one_answer}
 use Rattle.std.proofs.lemmas.Slice.Eq.{slice_eq-Decides}
 use Rattle.fragtree.proofs.compare.FragTreePartialEq.eq.Goals as goal
 
-pub returns-clause-same : goal.returns-clause-same
-returns-clause-same c = rw (← c.self.view_is, ← c.other.view_is) (slice_eq-Decides (λ a b. search rules) _ _ _ c.eq.ensures)
+pub returns-then-len-clause-gives : goal.returns-then-len-clause-gives
+returns-then-len-clause-gives c = one_answer _ _ c.have_same_leaves.ensures (slice_eq-Decides (λ a b. search rules) _ _ _ refl)

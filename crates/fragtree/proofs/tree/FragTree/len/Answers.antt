@@ -1,6 +1,13 @@
--- What tiles the hashes covers them.
+-- The leaves are as many as are counted, and what tiles the hashes covers them.
+use Rattle.std.proofs.Common.{length, sym, ap, ◌∙◌}
+use Rattle.mds_types.specs.Frag.{Fragment, frag_cmp}
+use Rattle.sorted_map.specs.SortedMap.{contents}
+use Rattle.fragtree.proofs.Kept.{length-leaves_of}
 use Rattle.fragtree.proofs.Tilings.{covers}
 use Rattle.fragtree.proofs.tree.FragTree.len.Goals as goal
 
+pub returns-clause-len : goal.returns-clause-len
+returns-clause-len c = sym (ap (length {A = Fragment}) (sym c.self.view_is) ∙ length-leaves_of (contents frag_cmp c.self.inside.splits) c.self.inside.count)
+
 pub returns-clause-cover : goal.returns-clause-cover
-returns-clause-cover c = rw (← c.self.view_is) (covers _ c.self.invariant.tiles)
+returns-clause-cover c = rw (← c.self.view_is) (covers _ c.self.invariant.tree.tiles)

@@ -1,11 +1,11 @@
--- The leaf at the place of the low 24 bits is the one that contains the hash.
-use Rattle.std.proofs.lemmas.List.{get_or_read}
-use Rattle.mds_types.specs.Frag.{root_fragment}
-use Rattle.fragtree.proofs.Tilings.{pick_from_place}
+-- The descent of the low 24 bits ends at the leaf that contains the hash.
+use Rattle.mds_types.specs.Frag.{frag_cmp}
+use Rattle.sorted_map.specs.SortedMap.{contents}
+use Rattle.fragtree.proofs.Kept.{pick_ends, pick_is}
 use Rattle.fragtree.proofs.tree.FragTree.pick.Goals as goal
 
+pub leaf_of-requires-clause-ends : goal.leaf_of-requires-clause-ends
+leaf_of-requires-clause-ends c = pick_ends (contents frag_cmp c.self.inside.splits) _ c.self.invariant.tree c.self.invariant.spells c.args.hash
+
 pub returns : goal.returns
-returns c =
-    let place = rw c.deref.ensures.value at c.place_of_hash.ensures in
-    let leaf = get_or_read c.self.inside.leaves.items _ _ place.stands c.index.ensures root_fragment in
-    rw (← c.self.view_is, leaf) (pick_from_place c.self.inside.leaves.items c.self.invariant.tiles c.args.hash _ place)
+returns c = rw (← c.self.view_is) (pick_is (contents frag_cmp c.self.inside.splits) _ c.self.invariant.tree c.self.invariant.spells c.args.hash c.leaf_of.result c.leaf_of.ensures)

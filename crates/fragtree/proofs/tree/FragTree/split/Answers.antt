@@ -1,21 +1,21 @@
--- The leaf's children in its place make a tree again.
-use Rattle.fragtree.specs.FragTree.{IsTree, IsSplit, CanSplit}
-use Rattle.fragtree.proofs.Splits.{splits}
+-- One split more, and the leaf's children in its place.
+use Rattle.std.proofs.Common.{arith}
+use Rattle.mds_types.specs.Frag.{frag_cmp}
+use Rattle.sorted_map.specs.SortedMap.{contents}
+use Rattle.fragtree.proofs.Kept.{some_leaf, split_done}
 use Rattle.fragtree.proofs.tree.FragTree.split.Goals as goal
 
-made : (c : goal.After-put_children) → IsTree c.put_children.new.leaves.items × IsSplit c.self.inside.leaves.items c.put_children.new.leaves.items c.args.f c.args.nb
-made c =
-    let xs = c.self.inside.leaves.items in
-    let place = rw c.deref.ensures.value at c.in-Some.ensures.place in
-    let can : CanSplit xs c.args.f c.args.nb = rw (← c.self.view_is) at c.in_default.ensures.can in
-    rw (c.put_children.ensures, c.in_ok-reserve.ensures.items)
-    (splits xs c.args.f c.args.nb c.in-Some.place c.self.invariant place.0 place.1 can.fits can.few)
+pub overflow_sub-self : goal.overflow_sub-self
+overflow_sub-self c = some_leaf (contents frag_cmp c.self.inside.splits) (contents frag_cmp c.reserve.new.self) (contents frag_cmp c.insert.new.self) c.self.inside.count c.args.self.now c.self.invariant c.self.view_is c.reserve.ensures.same
+
+pub overflow_add-self : goal.overflow_add-self
+overflow_add-self c = omega (arith, (split_done (contents frag_cmp c.self.inside.splits) (contents frag_cmp c.reserve.new.self) (contents frag_cmp c.insert.new.self) c.self.inside.count c.args.self.now c.self.invariant c.self.view_is c.reserve.ensures.same c.args.f c.args.nb _ c.in_default.ensures.can c.insert.ensures.inserted c.child_count.ensures.count).0)
 
 pub invariant_of-self-2 : goal.invariant_of-self-2
-invariant_of-self-2 c = (made c).0
+invariant_of-self-2 c = (split_done (contents frag_cmp c.self.inside.splits) (contents frag_cmp c.reserve.new.self) (contents frag_cmp c.insert.new.self) c.self.inside.count c.args.self.now c.self.invariant c.self.view_is c.reserve.ensures.same c.args.f c.args.nb _ c.in_default.ensures.can c.insert.ensures.inserted c.child_count.ensures.count).1
 
 pub returns-clause-split : goal.returns-clause-split
-returns-clause-split c = rw (← c.self.view_is) ((made c).1)
+returns-clause-split c = (split_done (contents frag_cmp c.self.inside.splits) (contents frag_cmp c.reserve.new.self) (contents frag_cmp c.insert.new.self) c.self.inside.count c.args.self.now c.self.invariant c.self.view_is c.reserve.ensures.same c.args.f c.args.nb _ c.in_default.ensures.can c.insert.ensures.inserted c.child_count.ensures.count).2
 
 pub returns-clause-valid : goal.returns-clause-valid
-returns-clause-valid c = (made c).0
+returns-clause-valid c = (split_done (contents frag_cmp c.self.inside.splits) (contents frag_cmp c.reserve.new.self) (contents frag_cmp c.insert.new.self) c.self.inside.count c.args.self.now c.self.invariant c.self.view_is c.reserve.ensures.same c.args.f c.args.nb _ c.in_default.ensures.can c.insert.ensures.inserted c.child_count.ensures.count).1.tree

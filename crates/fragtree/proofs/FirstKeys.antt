@@ -1,0 +1,110 @@
+-- The first fragment that is split, of those from another on.
+use Rattle.std.proofs.Common.{◌≡◌, ◌⊎◌, inl, inr, ◌<◌, ◌≤◌, ◌+◌, ℕ, Bool, true, false, cond, T, List, [], ◌∷◌, Some, None, refl, sym, ap, subst, ◌∙◌, arith}
+use Rattle.std.proofs.lemmas.Bool.{cases_lt}
+use Rattle.std.specs.declared.cmp.Ordering.{Ordering}
+use Rattle.std.specs.declared.cmp.Ordering.TheVariants.{Less, Equal, Greater}
+use Rattle.std.specs.Ordering.{nat_cmp, ordering_then, is_lt, is_le}
+use Rattle.std.specs.Cmp.{nat_cmp_is}
+use Rattle.std.specs.FinMap as map
+use Rattle.std.specs.FinMap.{find, is_sorted, get-entries, entries_sorted}
+use Rattle.std.specs.FinMap.Entries.{where_key, below_all, find-where_key, is_sorted-where_key}
+use Rattle.sorted_map.specs.Bools.{left_of, right_of}
+use Rattle.sorted_map.specs.SortedMap.{is_from}
+use Rattle.mds_types.specs.Frag.{Fragment, IsFragment, ContainsFragment, frag_cmp, span}
+use Rattle.mds_types.specs.PlaceLaws.{frag-exact}
+use Rattle.fragtree.specs.Descents.{Splits}
+use Rattle.fragtree.proofs.Entries.{apart, itself}
+use Rattle.fragtree.proofs.Ranges.{span_pos, ends_before, quotient_from_range, range_from_quotient}
+
+module _ (f e : Fragment) where
+  by_values : (r : Ordering) → r ≡ nat_cmp f.value e.value → frag_cmp f e ≡ ordering_then r (nat_cmp f.bits e.bits)
+  by_values r is = ap (λ o. ordering_then o (nat_cmp f.bits e.bits)) (sym is)
+
+  value_rises : T (is_lt (frag_cmp f e)) → f.value ≤ e.value
+  value_rises less = elim (cases_lt e.value f.value) [
+    | inl below ↦ absurd (subst (λ r. T (is_lt r)) (by_values Greater (nat_cmp_is f.value e.value Greater below)) less)
+    | inr above ↦ omega arith
+  ]
+
+  from_tells : is_le (frag_cmp f e) ≡ true → (f.value < e.value) ⊎ ((f.value ≡ e.value) × (f.bits ≤ e.bits))
+  from_tells from = elim (cases_lt f.value e.value) [
+    | inl less ↦ inl less
+    | inr more ↦ elim (cases_lt e.value f.value) [
+      | inl below ↦ let clash : false ≡ true = sym (ap is_le (by_values Greater (nat_cmp_is f.value e.value Greater below))) ∙ from in cc
+      | inr above ↦
+          let same : f.value ≡ e.value = omega arith in
+          elim (cases_lt e.bits f.bits) [
+            | inl fewer ↦
+                let bits : frag_cmp f e ≡ Greater = by_values Equal (nat_cmp_is f.value e.value Equal same) ∙ sym (nat_cmp_is f.bits e.bits Greater fewer) in
+                let clash : false ≡ true = sym (ap is_le bits) ∙ from in cc
+            | inr some ↦ inr (same, some)
+          ]
+    ]
+  ]
+
+  from_told : f.value ≤ e.value → f.bits ≤ e.bits → is_le (frag_cmp f e) ≡ true
+  from_told values bits = elim (cases_lt f.value e.value) [
+    | inl less ↦ ap is_le (by_values Less (nat_cmp_is f.value e.value Less less))
+    | inr more ↦
+        let tied : frag_cmp f e ≡ nat_cmp f.bits e.bits = by_values Equal (nat_cmp_is f.value e.value Equal (omega arith)) in
+        elim (cases_lt f.bits e.bits) [
+          | inl fewer ↦ ap is_le (tied ∙ sym (nat_cmp_is f.bits e.bits Less fewer))
+          | inr same ↦ ap is_le (tied ∙ sym (nat_cmp_is f.bits e.bits Equal (omega arith)))
+        ]
+  ]
+
+-- what begins before a key isn't found among the keys behind it
+not_behind : (g e : Fragment) (es : List (Fragment × ℕ)) → g.value < e.value → T (below_all frag_cmp e es) → find frag_cmp g es ≡ None
+not_behind g e [] less below = refl
+not_behind g e (x ∷ es) less below =
+    let rises : e.value ≤ x.0.value = value_rises e x.0 (left_of _ _ below) in
+    ap (λ b. cond b (Some x.1) (find frag_cmp g es)) (apart g x.0 (λ same. omega (arith, ap (λ (k : Fragment). k.value) same, less, rises))) ∙ not_behind g e es less (right_of _ _ below)
+
+module _ (m : Splits) (f : Fragment) where
+  -- a key from f on is found where those from f on are
+  found_there : (g : Fragment) (found : List (Fragment × ℕ)) → where_key frag_cmp (is_from frag_cmp f) (map.entries m) ≡ found → is_from frag_cmp f g ≡ true → map.get m g ≡ find frag_cmp g found
+  found_there g found is from =
+      get-entries m g
+      ∙ sym (find-where_key frag_cmp (is_from frag_cmp f) g (λ x tied. ap (is_from frag_cmp f) (sym (frag-exact g x tied))) (map.entries m) ∙ ap (λ b. cond b (find frag_cmp g (map.entries m)) None) from)
+      ∙ ap (find frag_cmp g) is
+
+  pub none_from : (g : Fragment) → where_key frag_cmp (is_from frag_cmp f) (map.entries m) ≡ [] → is_from frag_cmp f g ≡ true → map.get m g ≡ None
+  none_from g is from = found_there g [] is from
+
+  module _ (e : Fragment × ℕ) (rest : List (Fragment × ℕ)) (is : where_key frag_cmp (is_from frag_cmp f) (map.entries m) ≡ e ∷ rest) where
+    sorted : T (is_sorted frag_cmp (e ∷ rest))
+    sorted = subst (λ es. T (is_sorted frag_cmp es)) is (is_sorted-where_key frag_cmp (is_from frag_cmp f) (map.entries m) (entries_sorted m))
+
+    first_found : find frag_cmp e.0 (e ∷ rest) ≡ Some e.1
+    first_found = ap (λ b. cond b (Some e.1) (find frag_cmp e.0 rest)) (itself e.0)
+
+    pub first_split : (map.get m e.0 ≡ Some e.1) × (is_from frag_cmp f e.0 ≡ true)
+    first_split = go (is_from frag_cmp f e.0) refl
+      where
+        told : cond (is_from frag_cmp f e.0) (find frag_cmp e.0 (map.entries m)) None ≡ Some e.1
+        told = sym (find-where_key frag_cmp (is_from frag_cmp f) e.0 (λ x tied. ap (is_from frag_cmp f) (sym (frag-exact e.0 x tied))) (map.entries m)) ∙ ap (find frag_cmp e.0) is ∙ first_found
+
+        go : (b : Bool) → is_from frag_cmp f e.0 ≡ b → (map.get m e.0 ≡ Some e.1) × (is_from frag_cmp f e.0 ≡ true)
+        go true from = (found_there e.0 (e ∷ rest) is from ∙ first_found, from)
+        go false before = let clash : None ≡ Some e.1 = sym (ap (λ b. cond b (find frag_cmp e.0 (map.entries m)) None) before) ∙ told in cc
+
+    pub none_before : (g : Fragment) → is_from frag_cmp f g ≡ true → g.value < e.0.value → map.get m g ≡ None
+    none_before g from less =
+        found_there g (e ∷ rest) is from
+        ∙ ap (λ b. cond b (Some e.1) (find frag_cmp g rest)) (apart g e.0 (λ same. omega (arith, ap (λ (k : Fragment). k.value) same, less)))
+        ∙ not_behind g e.0 rest less (left_of _ _ sorted)
+
+-- what lies within f stands from f on, and begins before the end of f
+pub within_from : (f g : Fragment) → IsFragment f → ContainsFragment f g → (is_from frag_cmp f g ≡ true) × (g.value < f.value + span f.bits)
+within_from f g fragment (more, same) =
+    let v = range_from_quotient f.value g.value (span f.bits) (span_pos f.bits) fragment.justified same in
+    (from_told f g v.0 more, v.1)
+
+-- and what stands from f on, and begins before the end of f, lies within it
+pub from_within : (f g : Fragment) → IsFragment f → IsFragment g → is_from frag_cmp f g ≡ true → g.value < f.value + span f.bits → ContainsFragment f g
+from_within f g hf hg from below = elim (from_tells f g from) [
+  | inr tied ↦ (tied.1, quotient_from_range f.value g.value (span f.bits) (span_pos f.bits) hf.justified (omega (arith, tied.0)) below)
+  | inl less ↦
+      let not_coarse : g.bits ≤ f.bits → ⊥ = λ coarse. omega (arith, ends_before g f hg hf coarse less, below) in
+      (omega arith, quotient_from_range f.value g.value (span f.bits) (span_pos f.bits) hf.justified (omega (arith, less)) below)
+]

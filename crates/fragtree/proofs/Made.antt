@@ -1,0 +1,118 @@
+-- Splits by 1 bit round each leaf spell the leaves.
+use Rattle.std.proofs.Common.{◌≡◌, ◌⊎◌, inl, inr, ℕ, zero, suc, ◌+◌, ◌^◌, ◌<◌, ◌≤◌, List, length, Option, Some, None, refl, sym, ap, subst, ◌∙◌, arith}
+use Rattle.std.proofs.lemmas.Bool.{cases_lt}
+use Rattle.std.proofs.lemmas.List.{get_or_default}
+use Rattle.std.specs.FinMap as map
+use Rattle.std.specs.FinMap.{get-empty}
+use Rattle.mds_types.specs.Frag.{Fragment, IsFragment, frag_cmp, root_fragment, span}
+use Rattle.fragtree.specs.FragTree.{IsTree, HasLeaf}
+use Rattle.fragtree.proofs.Places.{leaf_at}
+use Rattle.fragtree.specs.Descents.{Splits, Descends, there, on, Ends, IsLedTo, IsSplitRound, Spells, frag_at, splits_round}
+use Rattle.fragtree.proofs.DescentLaws.{joined}
+use Rattle.fragtree.proofs.Entries.{get_beside, get_put, one_or_other}
+use Rattle.fragtree.proofs.Ranges.{span_pos, ends_before, ends_low, ends_within}
+use Rattle.fragtree.proofs.Rounds.{frag_at-IsFragment, frag_at-alike, round_it}
+use Rattle.fragtree.proofs.Spelled.{one_leaf}
+use Rattle.fragtree.proofs.Tilings.{between}
+
+-- all splits are by 1 bit, of fragments round one of the leaves
+abbrev pub AreRound : Splits → List Fragment → Type 0
+AreRound splits leaves = (g : Fragment) (nb : ℕ) → map.get splits g ≡ Some nb → (nb ≡ 1) × (leaf : Fragment) × HasLeaf leaves leaf × (g.bits < leaf.bits) × (g ≡ frag_at g.bits leaf.value)
+
+by_ones : (round : ℕ → Option ℕ) (to : ℕ) → ((b : ℕ) → b < to → round b ≡ Some 1) → Descends round to 0
+by_ones round zero each = there 0 refl
+by_ones round (suc to) each =
+    let more : Descends round (suc to) (to + 1) = there (to + 1) (omega arith) in
+    joined round to (suc to) 0 (by_ones round to (λ b below. each b (omega (arith, below)))) (on to 1 (each to (omega arith)) more)
+
+pub made_spells : (s : Splits) (xs : List Fragment) → IsTree xs → AreRound s xs → ((leaf : Fragment) → HasLeaf xs leaf → IsLedTo s leaf leaf.bits) → Spells s xs
+made_spells s xs tree are led = record { some = λ f nb is. omega (arith, (are f nb is).0); ends = ends }
+  where
+    fragment : (g : Fragment) → HasLeaf xs g → IsFragment g
+    fragment g stands = (between 0 (2 ^ 24) xs g tree.tiles stands).0
+
+    -- no fragment within a leaf is round a leaf
+    not_within : (g : Fragment) → HasLeaf xs g → (h b : ℕ) → g.value ≤ h → h < g.value + span g.bits → g.bits ≤ b → b ≤ 24 → (leaf : Fragment) → HasLeaf xs leaf → b < leaf.bits → frag_at b h ≡ frag_at b leaf.value → ⊥
+    not_within g stands h b low high more few leaf stands2 less same =
+        let k = frag_at b h in
+        let hg = fragment g stands in
+        let hk = frag_at-IsFragment b h few (omega (arith, high, ends_low g hg)) in
+        let r = round_it b h in
+        let v = subst (λ (f : Fragment). (f.value ≤ leaf.value) × (leaf.value < f.value + span b)) (sym same) (round_it b leaf.value) in
+        let not_before : k.value < g.value → ⊥ = λ before. omega (arith, ends_before g k hg hk more before, r.1) in
+        let ends = ends_within g k hg hk more (omega (arith, r.0)) in
+        let one = one_leaf xs g leaf leaf.value tree stands stands2 (omega (arith, v.0)) (omega (arith, v.1, ends)) (omega arith) (omega (arith, span_pos leaf.bits)) in
+        omega (arith, ap (λ (f : Fragment). f.bits) one)
+
+    ends : (g : Fragment) → HasLeaf xs g → (h : ℕ) → g.value ≤ h → h < g.value + span g.bits → Ends (splits_round s h) g.bits
+    ends g stands h low high = record {
+      descends = by_ones (splits_round s h) g.bits (λ b below. ap (map.get s) (frag_at-alike g h b (fragment g stands) low high (omega (arith, below))) ∙ led g stands b below);
+      nothing = λ b more few. go b more few (map.get s (frag_at b h)) refl;
+    }
+      where
+        go : (b : ℕ) → g.bits ≤ b → b ≤ 24 → (o : Option ℕ) → map.get s (frag_at b h) ≡ o → map.get s (frag_at b h) ≡ None
+        go b more few None is = is
+        go b more few (Some nb) is =
+            let (one, leaf, stands2, less, same) = are (frag_at b h) nb is in
+            absurd (not_within g stands h b low high more few leaf stands2 less same)
+
+-- no splits at first
+pub none_round : (s : Splits) (xs : List Fragment) → s ≡ map.empty → AreRound s xs
+none_round s xs is g nb split = let clash : None ≡ Some nb = sym (ap (λ (m : Splits). map.get m g) is ∙ get-empty frag_cmp g) ∙ split in cc
+
+-- one leaf more
+pub round_more : (old new : Splits) (xs : List Fragment) (leaf : Fragment) → AreRound old xs → HasLeaf xs leaf → IsSplitRound old new leaf leaf.bits → AreRound new xs
+round_more old new xs leaf are stands w g nb is = elim (w.fewer g nb is) [
+  | inl before ↦ are g nb before
+  | inr now ↦ (now.0, leaf, stands, now.1, now.2)
+]
+
+pub led_more : (old new : Splits) (xs : List Fragment) (leaf : Fragment) (i : ℕ) → leaf_at xs i ≡ leaf → IsSplitRound old new leaf leaf.bits
+    → ((j : ℕ) → j < i → IsLedTo old (leaf_at xs j) (leaf_at xs j).bits) → (j : ℕ) → j < i + 1 → IsLedTo new (leaf_at xs j) (leaf_at xs j).bits
+led_more old new xs leaf i is w led j below = elim (cases_lt j i) [
+  | inl less ↦ λ b few. w.kept (frag_at b (leaf_at xs j).value) (led j less b few)
+  | inr more ↦
+      let same : leaf_at xs j ≡ leaf = ap (leaf_at xs) (omega (arith, below, more)) ∙ is in
+      subst (λ (k : Fragment). IsLedTo new k k.bits) (sym same) w.led
+]
+
+pub all_led : (s : Splits) (xs : List Fragment) → ((j : ℕ) → j < length xs → IsLedTo s (leaf_at xs j) (leaf_at xs j).bits) → (leaf : Fragment) → HasLeaf xs leaf → IsLedTo s leaf leaf.bits
+all_led s xs led leaf (k, stands, is) =
+    let same : leaf_at xs k ≡ leaf = get_or_default xs k root_fragment leaf stands ∙ is in
+    subst (λ (g : Fragment). IsLedTo s g g.bits) same (led k stands)
+
+-- nothing is split round a leaf yet, and then one fragment more
+pub not_yet : (s : Splits) (leaf : Fragment) → IsSplitRound s s leaf 0
+not_yet s leaf = record { led = λ b below. absurd (omega (arith, below)); kept = λ g is. is; fewer = λ g nb is. inl is }
+
+pub one_more : (old s : Splits) (leaf : Fragment) (bits : ℕ) → IsSplitRound old s leaf bits → IsSplitRound old (map.insert s (frag_at bits leaf.value) 1) leaf (bits + 1)
+one_more old s leaf bits w = record { led = led; kept = kept; fewer = fewer }
+  where
+    key : Fragment
+    key = frag_at bits leaf.value
+
+    led : IsLedTo (map.insert s (frag_at bits leaf.value) 1) leaf (bits + 1)
+    led b below = elim (cases_lt b bits) [
+      | inl less ↦ get_beside s (frag_at bits leaf.value) 1 (frag_at b leaf.value) (λ same. omega (arith, ap (λ (k : Fragment). k.bits) same, less)) ∙ w.led b less
+      | inr more ↦
+          let same : b ≡ bits = omega (arith, below, more) in
+          ap (λ n. map.get (map.insert s (frag_at bits leaf.value) 1) (frag_at n leaf.value)) same ∙ get_put s (frag_at bits leaf.value) 1
+    ]
+
+    kept : (g : Fragment) → map.get old g ≡ Some 1 → map.get (map.insert s (frag_at bits leaf.value) 1) g ≡ Some 1
+    kept g is = elim (one_or_other g (frag_at bits leaf.value)) [
+      | inl same ↦ ap (map.get (map.insert s (frag_at bits leaf.value) 1)) same ∙ get_put s (frag_at bits leaf.value) 1
+      | inr other ↦ get_beside s (frag_at bits leaf.value) 1 g other ∙ w.kept g is
+    ]
+
+    fewer : (g : Fragment) (nb : ℕ) → map.get (map.insert s (frag_at bits leaf.value) 1) g ≡ Some nb → (map.get old g ≡ Some nb) ⊎ ((nb ≡ 1) × (g.bits < bits + 1) × (g ≡ frag_at g.bits leaf.value))
+    fewer g nb is = elim (one_or_other g (frag_at bits leaf.value)) [
+      | inl same ↦
+          let number : Some nb ≡ Some 1 = sym is ∙ ap (map.get (map.insert s (frag_at bits leaf.value) 1)) same ∙ get_put s (frag_at bits leaf.value) 1 in
+          let bits_are : g.bits ≡ bits = ap (λ (k : Fragment). k.bits) same in
+          inr (cc, omega (arith, bits_are), same ∙ ap (λ b. frag_at b leaf.value) (sym bits_are))
+      | inr other ↦ elim (w.fewer g nb (sym (get_beside s (frag_at bits leaf.value) 1 g other) ∙ is)) [
+        | inl before ↦ inl before
+        | inr now ↦ inr (now.0, omega (arith, now.1), now.2)
+      ]
+    ]

@@ -1,0 +1,14 @@
+-- A leaf that the other tree lacks tells them apart; where there is none they are one.
+use Rattle.std.proofs.Common.{◌++◌, ◌∷◌, [], refl, ap, ◌∙◌}
+use Rattle.fragtree.proofs.Walks.{all_found, one_found, found_too}
+use Rattle.fragtree.proofs.compare.have_same_leaves.Goals as goal
+
+pub loop-leaf-preserved : goal.loop-leaf-preserved
+loop-leaf-preserved c =
+    let (done, is, all) = c.loop-leaf.invariant in
+    (done ++ c.in-Some.leaf ∷ [], one_found _ done _ c.in-Some.leaf (is ∙ ap (λ ys. done ++ ys) c.in-Some.ensures.steps), found_too done _ c.in-Some.leaf all (c.has_leaf.ensures.0 c.if-not-has_leaf.false))
+
+pub returns : goal.returns
+returns c =
+    let (done, is, all) = c.loop-leaf.invariant in
+    (λ told. all_found _ done _ (is ∙ ap (λ ys. done ++ ys) c.in-None.ensures.steps.0) all c.requires.whole c.requires.other_whole, λ same. refl)

@@ -1,0 +1,12 @@
+-- The descent of the hash comes by the fragment, at more bits in each turn.
+use Rattle.std.proofs.Common.{◌-◌}
+use Rattle.mds_types.specs.Frag.{frag_cmp}
+use Rattle.sorted_map.specs.SortedMap.{contents}
+use Rattle.fragtree.proofs.Steps.{ComesBy}
+use Rattle.fragtree.proofs.descents.leaf_of.Given as goal
+
+abbrev pub invariant-loop-nb : goal.invariant-loop-nb
+invariant-loop-nb l = ComesBy (contents frag_cmp l.splits) l.hash l.leaf
+
+abbrev pub decreases-loop-nb : goal.decreases-loop-nb
+decreases-loop-nb l = 24 - l.leaf.bits

@@ -1,0 +1,14 @@
+-- One fragment more is split.
+use Rattle.std.proofs.Common.{◌+◌, ap, sym, subst, ◌∙◌}
+use Rattle.std.specs.FinMap as map
+use Rattle.mds_types.specs.Frag.{frag_cmp}
+use Rattle.sorted_map.specs.SortedMap.{contents}
+use Rattle.fragtree.specs.Descents.{Splits, IsSplitRound, frag_at}
+use Rattle.fragtree.proofs.Made.{one_more}
+use Rattle.fragtree.proofs.making.split_round.Goals as goal
+
+pub loop-bits-preserved : goal.loop-bits-preserved
+loop-bits-preserved c =
+    let key = c.frag_at.ensures ∙ ap (frag_at c.loop-bits.bits) c.value.ensures.value in
+    let put = c.insert.ensures.inserted ∙ ap (λ g. map.insert (contents frag_cmp c.reserve.new.self) g 1) key ∙ ap (λ (m : Splits). map.insert m (frag_at c.loop-bits.bits c.args.leaf.value) 1) c.reserve.ensures.same in
+    subst (λ (m : Splits). IsSplitRound (contents frag_cmp c.args.splits.now) m c.args.leaf (c.loop-bits.bits + 1)) (sym put) (one_more (contents frag_cmp c.args.splits.now) (contents frag_cmp c.loop-bits.splits) c.args.leaf c.loop-bits.bits c.loop-bits.invariant)
