@@ -1,0 +1,5 @@
+pub mod Adopted
+pub mod CutOff
+pub mod Divided
+pub mod LeafKeys
+pub mod Nearest

@@ -1,0 +1,3 @@
+pub mod Authority
+pub mod Changes
+pub mod Climb

@@ -1,0 +1,10 @@
+//! Whose fragment it is: the subtree roots, each with its rank, and the authority of every leaf, which is that of its
+//! nearest root.
+#![tactic(auto)]
+
+mod climb;
+pub mod laws;
+mod subtrees;
+
+pub use climb::holder_of;
+pub use subtrees::Subtrees;

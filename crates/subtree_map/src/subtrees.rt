@@ -1,0 +1,81 @@
+//! The subtree roots, and the calls that read and change single ones.
+ghost use Rattle.std.specs.Prelude.{◌≡◌, ◌+◌, ◌-◌, ◌<◌, ◌≤◌, if◌then◌else◌, is_some, None, OnOk, OnErr, IsTrue, IfErr};
+ghost use Rattle.std.specs.FinMap as map;
+ghost use Rattle.mds_types.specs.declared.refusals.Refusal.TheVariants.{NoMemory};
+ghost use Rattle.subtree_map.specs.Authority.{leaf_cmp};
+ghost use Rattle.subtree_map.specs.Changes.{IsCutOff};
+
+use mds_types::{Frag, Ino, Rank, Refusal};
+use sorted_map::SortedMap;
+use std::alloc::Global;
+use std::marker::Model;
+
+/// The subtree roots: leaves that have a rank of their own. Every other leaf has the rank of the leaf that holds the dentry of
+/// its directory.
+#[derive(Debug, Drop)]
+pub struct Subtrees {
+    pub(crate) roots: SortedMap<(Ino, Frag), Rank>,
+}
+
+impl Model for Subtrees {
+    ghost use Rattle.std.specs.Coded.{codes};
+    ghost use Rattle.std.specs.FinMap as map;
+    ghost use Rattle.sorted_map.specs.SortedMap.{contents};
+    ghost use Rattle.subtree_map.specs.Authority.{leaf_cmp};
+    ghost use Rattle.subtree_map.specs.Changes.{Subtrees};
+
+    ghost Value = { Subtrees };
+
+    ghost coded = { Prim.hlevel (codes, map.code) };
+
+    ghost view = { λ s. record { roots = contents leaf_cmp s.roots; room = s.roots.room } };
+}
+
+impl Subtrees {
+    /// No roots.
+    pub fn new(alloc: Global) -> Subtrees
+        ensures roots { result.roots ≡ map.empty }
+        ensures room { result.room ≡ 0 }
+    {
+        Subtrees {
+            roots: SortedMap::new(alloc),
+        }
+    }
+
+    /// The rank of a root; none for a leaf that is no root.
+    pub fn get(&self, dir: Ino, frag: Frag) -> Option<Rank>
+        ensures { result ≡ map.get self.now.roots (dir, frag) }
+    {
+        self.roots.get(&(dir, frag)).copied()
+    }
+
+    /// Whether a leaf is a root.
+    pub fn is_root(&self, dir: Ino, frag: Frag) -> bool
+        ensures { result ≡ is_some (map.get self.now.roots (dir, frag)) }
+    {
+        self.roots.contains(&(dir, frag))
+    }
+
+    /// Makes room for so many more roots, so that changes that make no more of them can't fail. Refused for want of memory
+    /// alone, and then all is left as it was.
+    pub fn reserve(&mut self, additional: usize) -> Result<(), Refusal>
+        ensures ok { OnOk result (additional ≤ self.new.room) }
+        ensures roots { self.new.roots ≡ self.old.roots }
+        ensures grows { self.old.room ≤ self.new.room }
+        ensures err { IfErr result (λ reason. reason ≡ NoMemory) }
+        ensures left { OnErr result (self.new ≡ self.old) }
+    {
+        self.roots.reserve(additional)?;
+        Ok(())
+    }
+
+    /// Makes a leaf a root of a rank, or gives a root another rank. There has to be room. Takes no memory.
+    pub fn set(&mut self, dir: Ino, frag: Frag, rank: Rank)
+        requires { 0 < self.old.room }
+        ensures roots { self.new.roots ≡ map.insert self.old.roots (dir, frag) rank }
+        ensures authority { IsCutOff self.old.roots self.new.roots (dir, frag) }
+        ensures room { self.old.room ≤ self.new.room + 1 }
+    {
+        let _ = self.roots.insert((dir, frag), rank);
+    }
+}
