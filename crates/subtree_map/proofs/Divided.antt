@@ -1,11 +1,11 @@
 -- Regions divide the leaves, and roots bound them.
-use Rattle.std.specs.Prelude.{◌≡◌, ◌≢◌, ℕ, true, false, ◌||◌, ◌==◌, is_some, IsSome, Option, Some, None, refl}
+use Rattle.std.specs.Prelude.{◌≡◌, ◌≢◌, ℕ, true, ◌||◌, is_some, IsSome, Some}
 use Rattle.std.proofs.Common.{sym, ap, subst, ◌∙◌}
 use Rattle.std.specs.FinMap as map
 use Rattle.sorted_map.specs.NatKeys as nat
 use Rattle.inode_table.specs.declared.homes.Home.{Home}
 use Rattle.inode_table.specs.Dirs.{Homes, Covers, IsTable, is_known}
-use Rattle.subtree_map.specs.Authority.{Leaf, Roots, IsLeaf, HoldsDentry, NearestRoot, IsInRegion, IsBound, IsSubtrees, HasOneRoot, IsInOneRegion, BoundsOneRegion}
+use Rattle.subtree_map.specs.Authority.{Leaf, Roots, IsLeaf, HoldsDentry, NearestRoot, IsSubtrees, HasOneRoot, IsInOneRegion, BoundsOneRegion}
 use Rattle.subtree_map.proofs.LeafKeys.{value_of, one_value}
 use Rattle.subtree_map.proofs.Nearest.{is_ranked, one_root, some_root, one_holder, some_holder, holder_is_leaf}
 

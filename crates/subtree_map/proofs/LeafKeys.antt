@@ -1,10 +1,10 @@
 -- Finite maps whose keys are leaves: what one answers after a change.
-use Rattle.std.specs.Prelude.{◌≡◌, ◌⊎◌, Bool, true, false, cond, Option, Some, None, is_some, IsSome, refl}
+use Rattle.std.specs.Prelude.{◌≡◌, ◌⊎◌, Bool, true, false, cond, Option, Some, None, IsSome, refl}
 use Rattle.std.proofs.Common.{inl, inr, sym, ap, ◌∙◌}
 use Rattle.std.specs.Ordering.{nat_cmp, is_eq, eq_by_cmp}
 use Rattle.std.specs.Cmp.{IsTotalOrder, on_total, then_total, nat_cmp_total, tied_itself}
 use Rattle.std.specs.FinMap as map
-use Rattle.std.specs.FinMap.{IsAntisymmetric, get-insert, get-remove, get-empty}
+use Rattle.std.specs.FinMap.{IsAntisymmetric, get-insert, get-remove}
 use Rattle.std.proofs.lemmas.Map.Lookups.{exact_pairs}
 use Rattle.mds_types.specs.declared.ids.Ino.{Ino}
 use Rattle.mds_types.specs.Frag.{frag_cmp}

@@ -1,11 +1,11 @@
 -- The nearest root of a leaf: there is one, and one alone.
-use Rattle.std.specs.Prelude.{◌≡◌, ◌⊎◌, ℕ, zero, suc, ◌||◌, ◌==◌, ◌<◌, true, false, is_some, IsSome, List, [], ◌∷◌, Option, Some, None, refl}
+use Rattle.std.specs.Prelude.{◌≡◌, ◌⊎◌, ℕ, zero, suc, ◌||◌, ◌==◌, true, false, is_some, IsSome, List, [], ◌∷◌, Option, Some, None, refl}
 use Rattle.std.proofs.Common.{inl, inr, sym, ap, subst, ◌∙◌, arith}
 use Rattle.std.specs.FinMap as map
 use Rattle.mds_types.specs.declared.ids.Ino.{Ino}
 use Rattle.mds_types.specs.declared.ids.Rank.{Rank}
 use Rattle.mds_types.specs.Frag.{Fragment, root_fragment}
-use Rattle.fragtree.specs.FragTree.{HasLeaf, IsTree, IsPick}
+use Rattle.fragtree.specs.FragTree.{HasLeaf, IsTree}
 use Rattle.fragtree.proofs.TreeLaws.{some_pick}
 use Rattle.namehash.specs.Rjenkins.{hash_of}
 use Rattle.sorted_map.specs.NatKeys as nat
@@ -14,7 +14,7 @@ use Rattle.inode_table.specs.Dirs.{Homes, Covers, Reaches, IsTable, is_known, le
 use Rattle.inode_table.proofs.Chains.{parent_reaches}
 use Rattle.subtree_map.specs.Authority.{Leaf, Roots, IsLeaf, HoldsDentry, NearestRoot, itself, inherited, HasAuthority, IsSubtrees}
 use Rattle.subtree_map.specs.Climb.{IsTop}
-use Rattle.subtree_map.proofs.LeafKeys.{not_none, value_of, one_value, same_or_apart}
+use Rattle.subtree_map.proofs.LeafKeys.{not_none, value_of, one_value}
 
 -- `*` alone covers every hash
 pub whole_is_tree : IsTree (root_fragment ∷ [])

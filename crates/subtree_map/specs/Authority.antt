@@ -1,5 +1,5 @@
 -- Whose fragment it is: that of the nearest subtree root (Weil et al., OSDI 2006; CephFS's subtree map).
-use Rattle.std.specs.Prelude.{◌≡◌, ℕ, true, Some, None, IsSome}
+use Rattle.std.specs.Prelude.{◌≡◌, true, Some, None, IsSome}
 use Rattle.std.specs.declared.cmp.Ordering.{Ordering}
 use Rattle.std.specs.Ordering.{nat_cmp, ordering_then}
 use Rattle.std.specs.FinMap as map

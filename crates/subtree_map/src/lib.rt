@@ -2,8 +2,15 @@
 //! nearest root.
 #![tactic(auto)]
 
+mod bounds;
 mod climb;
 pub mod laws;
+mod merges;
+mod moves;
+mod promises;
+mod removals;
+mod rows;
+mod splits;
 mod subtrees;
 
 pub use climb::holder_of;

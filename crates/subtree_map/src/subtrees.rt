@@ -2,11 +2,12 @@
 ghost use Rattle.std.specs.Prelude.{◌≡◌, ◌+◌, ◌-◌, ◌<◌, ◌≤◌, if◌then◌else◌, is_some, None, OnOk, OnErr, IsTrue, IfErr};
 ghost use Rattle.std.specs.FinMap as map;
 ghost use Rattle.mds_types.specs.declared.refusals.Refusal.TheVariants.{NoMemory};
-ghost use Rattle.subtree_map.specs.Authority.{leaf_cmp};
+ghost use Rattle.inode_table.specs.Dirs.{Homes, Covers};
+ghost use Rattle.subtree_map.specs.Authority.{IsLeaf, IsSubtrees, leaf_cmp};
 ghost use Rattle.subtree_map.specs.Changes.{IsCutOff};
 
 use mds_types::{Frag, Ino, Rank, Refusal};
-use sorted_map::SortedMap;
+use sorted_map::{Iter, SortedMap};
 use std::alloc::Global;
 use std::marker::Model;
 
@@ -15,6 +16,7 @@ use std::marker::Model;
 #[derive(Debug, Drop)]
 pub struct Subtrees {
     pub(crate) roots: SortedMap<(Ino, Frag), Rank>,
+    pub(crate) promises: SortedMap<(Ino, Frag), Rank>,
 }
 
 impl Model for Subtrees {
@@ -28,17 +30,19 @@ impl Model for Subtrees {
 
     ghost coded = { Prim.hlevel (codes, map.code) };
 
-    ghost view = { λ s. record { roots = contents leaf_cmp s.roots; room = s.roots.room } };
+    ghost view = { λ s. record { roots = contents leaf_cmp s.roots; promises = contents leaf_cmp s.promises; room = s.roots.room } };
 }
 
 impl Subtrees {
     /// No roots.
     pub fn new(alloc: Global) -> Subtrees
         ensures roots { result.roots ≡ map.empty }
+        ensures promises { result.promises ≡ map.empty }
         ensures room { result.room ≡ 0 }
     {
         Subtrees {
             roots: SortedMap::new(alloc),
+            promises: SortedMap::new(alloc),
         }
     }
 
@@ -56,11 +60,19 @@ impl Subtrees {
         self.roots.contains(&(dir, frag))
     }
 
+    /// The roots with their ranks, by directory and then as fragments. Takes no memory.
+    pub fn iter(&self) -> Iter<'_, (Ino, Frag), Rank>
+        ensures { result ≡ map.entries self.now.roots }
+    {
+        self.roots.iter()
+    }
+
     /// Makes room for so many more roots, so that changes that make no more of them can't fail. Refused for want of memory
     /// alone, and then all is left as it was.
     pub fn reserve(&mut self, additional: usize) -> Result<(), Refusal>
         ensures ok { OnOk result (additional ≤ self.new.room) }
         ensures roots { self.new.roots ≡ self.old.roots }
+        ensures promises { self.new.promises ≡ self.old.promises }
         ensures grows { self.old.room ≤ self.new.room }
         ensures err { IfErr result (λ reason. reason ≡ NoMemory) }
         ensures left { OnErr result (self.new ≡ self.old) }
@@ -74,6 +86,8 @@ impl Subtrees {
         requires { 0 < self.old.room }
         ensures roots { self.new.roots ≡ map.insert self.old.roots (dir, frag) rank }
         ensures authority { IsCutOff self.old.roots self.new.roots (dir, frag) }
+        ensures valid { (homes : Homes) (covers : Covers) → IsSubtrees self.old.roots homes covers → IsLeaf homes covers (dir, frag) → IsSubtrees self.new.roots homes covers }
+        ensures promises { self.new.promises ≡ self.old.promises }
         ensures room { self.old.room ≤ self.new.room + 1 }
     {
         let _ = self.roots.insert((dir, frag), rank);

@@ -4,7 +4,7 @@ use Rattle.std.specs.FinMap as map
 use Rattle.mds_types.specs.declared.ids.Ino.{Ino}
 use Rattle.inode_table.proofs.Chains.{climbed, nearer}
 use Rattle.subtree_map.specs.Authority.{inherited}
-use Rattle.subtree_map.proofs.Nearest.{holder_is_leaf, placeless_is_root, top_nearest}
+use Rattle.subtree_map.proofs.Nearest.{holder_is_leaf, top_nearest}
 use Rattle.subtree_map.proofs.subtrees.Subtrees.root_of.Goals as goal
 
 pub loop-home-smaller : goal.loop-home-smaller
