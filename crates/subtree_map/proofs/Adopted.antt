@@ -1,0 +1,46 @@
+-- A new directory comes in below the leaves that stand.
+use Rattle.std.specs.Prelude.{◌≡◌, ℕ, Bool, ◌||◌, ◌==◌, ◌⊎◌, true, false, is_some, Option, refl}
+use Rattle.std.proofs.Common.{inl, inr, sym, ap, ◌∙◌}
+use Rattle.std.specs.FinMap as map
+use Rattle.mds_types.specs.declared.ids.Rank.{Rank}
+use Rattle.sorted_map.specs.NatKeys as nat
+use Rattle.inode_table.specs.declared.homes.Home.{Home}
+use Rattle.inode_table.specs.Dirs.{Homes, Covers, IsTable, MayCome, is_known}
+use Rattle.subtree_map.specs.Authority.{Leaf, Roots, IsLeaf, NearestRoot, itself, inherited, HasAuthority, IsSubtrees}
+use Rattle.subtree_map.proofs.Nearest.{holder_is_leaf}
+
+-- a directory stays known where one gets a home
+pub still_known : (homes : Homes) (d : ℕ) (home : Home) (x : ℕ) → is_known homes x ≡ true → is_known (map.insert homes d home) x ≡ true
+still_known homes d home x known = go (nat.same_or_apart x d)
+  where
+    placed : (b : Bool) → (b || true) ≡ true
+    placed true = refl
+    placed false = refl
+
+    go : (x ≡ d) ⊎ (x ≡ d → ⊥) → is_known (map.insert homes d home) x ≡ true
+    go (inl same) = ap (λ (o : Option Home). (x == 1) || is_some o) (ap (λ k. map.get (map.insert homes d home) k) same ∙ nat.get_put homes d home) ∙ placed (x == 1)
+    go (inr apart) = ap (λ (o : Option Home). (x == 1) || is_some o) (nat.get_beside homes d home x apart) ∙ known
+
+-- a directory that comes in was not known
+unknown : (homes : Homes) (d : ℕ) (home : Home) → MayCome homes d home → (x : ℕ) → is_known homes x ≡ true → x ≡ d → ⊥
+unknown homes d home may x known same =
+    let gone : (x == 1) || is_some (map.get homes x) ≡ is_some (map.get homes x) = ap (λ b. b || is_some (map.get homes x)) (nat.is_apart x 1 (λ root. may.other (sym same ∙ root))) in
+    let none : is_some (map.get homes x) ≡ false = ap is_some (ap (map.get homes) same ∙ may.fresh) in
+    let clash = sym none ∙ sym gone ∙ known in
+    cc
+
+pub adopted_authority : (roots : Roots) (homes : Homes) (covers : Covers) (d : ℕ) (home : Home) (leaf : Leaf) (rank : Rank) → IsTable homes covers → MayCome homes d home → IsLeaf homes covers leaf
+    → HasAuthority roots homes covers leaf rank → HasAuthority roots (map.insert homes d home) covers leaf rank
+adopted_authority roots homes covers d home leaf rank table may is has = record { root = has.root; nearest = way leaf has.root is has.nearest; ranked = has.ranked }
+  where
+    way : (leaf root : Leaf) → IsLeaf homes covers leaf → NearestRoot roots homes covers leaf root → NearestRoot roots (map.insert homes d home) covers leaf root
+    way _ _ is (itself root r has) = itself root r has
+    way _ _ is (inherited leaf holder root place none stands holds rest) =
+        inherited leaf holder root place none (nat.get_beside homes d home leaf.0.0 (unknown homes d home may leaf.0.0 is.known) ∙ stands) holds
+        (way holder root (holder_is_leaf homes covers table leaf.0.0 place holder stands holds) rest)
+
+pub adopted_valid : (roots : Roots) (homes : Homes) (covers : Covers) (d : ℕ) (home : Home) → IsTable homes covers → MayCome homes d home → IsSubtrees roots homes covers → IsSubtrees roots (map.insert homes d home) covers
+adopted_valid roots homes covers d home table may valid = record {
+  top = valid.top;
+  live = λ root is. let live = valid.live root is in record { known = still_known homes d home root.0.0 live.known; stands = live.stands };
+}

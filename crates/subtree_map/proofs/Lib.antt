@@ -1,0 +1,17 @@
+pub mod Adopted
+pub mod Carried
+pub mod ChildRows
+pub mod Covers
+pub mod CutOff
+pub mod Divided
+pub mod Dropped
+pub mod Filled
+pub mod Firsts
+pub mod LeafKeys
+pub mod Listed
+pub mod Merged
+pub mod Moved
+pub mod Nearest
+pub mod Settled
+pub mod Split
+pub mod TakenOut

@@ -1,0 +1,171 @@
+-- The nearest root of a leaf: there is one, and one alone.
+use Rattle.std.specs.Prelude.{◌≡◌, ◌⊎◌, ℕ, zero, suc, ◌||◌, ◌==◌, true, false, is_some, IsSome, List, [], ◌∷◌, Option, Some, None, MatchOption, refl}
+use Rattle.std.proofs.Common.{inl, inr, sym, ap, subst, ◌∙◌, arith}
+use Rattle.std.specs.FinMap as map
+use Rattle.mds_types.specs.declared.ids.Ino.{Ino}
+use Rattle.mds_types.specs.declared.ids.Rank.{Rank}
+use Rattle.mds_types.specs.Frag.{Fragment, root_fragment}
+use Rattle.fragtree.specs.FragTree.{HasLeaf, IsTree}
+use Rattle.fragtree.proofs.TreeLaws.{some_pick}
+use Rattle.namehash.specs.Rjenkins.{hash_of}
+use Rattle.sorted_map.specs.NatKeys as nat
+use Rattle.inode_table.specs.declared.homes.Home.{Home}
+use Rattle.inode_table.specs.Dirs.{Homes, Covers, Reaches, IsTable, is_known, leaves_of, or_whole}
+use Rattle.inode_table.proofs.Chains.{parent_reaches}
+use Rattle.subtree_map.specs.Authority.{Leaf, Roots, IsLeaf, HoldsDentry, NearestRoot, itself, inherited, HasAuthority, IsSubtrees}
+use Rattle.subtree_map.specs.Climb.{IsTop}
+use Rattle.subtree_map.proofs.LeafKeys.{not_none, value_of, one_value}
+
+-- `*` alone covers every hash
+pub whole_is_tree : IsTree (root_fragment ∷ [])
+whole_is_tree = record {
+  tiles = (record { few_bits = omega arith; in_range = omega arith; justified = refl }, refl, refl);
+  few = omega arith;
+}
+
+-- the leaves of every directory are those of a tree
+pub tree_of_row : (homes : Homes) (covers : Covers) → IsTable homes covers → (d : ℕ) → IsTree (leaves_of covers d)
+tree_of_row homes covers table d = go (map.get covers d) refl
+  where
+    go : (row : Option (List Fragment)) → map.get covers d ≡ row → IsTree (or_whole row)
+    go None is = whole_is_tree
+    go (Some leaves) is = table.covers d leaves is
+
+-- a directory that others stand in is known
+pub parent_known : (homes : Homes) (covers : Covers) → IsTable homes covers → (x : ℕ) (home : Home) → map.get homes x ≡ Some home → is_known homes home.parent.0 ≡ true
+parent_known homes covers table x home is =
+    let up = table.rooted.rooted x home is in
+    let rest = parent_reaches homes up.0 x home table.rooted.rootless is up.1 in
+    reached rest.0 home.parent.0 rest.2
+  where
+    known : (p : ℕ) (o : Option Home) → map.get homes p ≡ o → (h : Home) → o ≡ Some h → is_known homes p ≡ true
+    known p o is h some = ap (λ (q : Option Home). (p == 1) || is_some q) (is ∙ some) ∙ go (p == 1)
+      where
+        go : (b : _) → (b || true) ≡ true
+        go true = refl
+        go false = refl
+
+    reached : (n p : ℕ) → Reaches homes n p → is_known homes p ≡ true
+    reached zero p root = ap (λ b. b || is_some (map.get homes p)) (nat.is_same p 1 root)
+    reached (suc n) p (h, is, reaches) = known p (map.get homes p) refl h is
+
+-- a directory that is known reaches the root
+known_reaches : (homes : Homes) (covers : Covers) → IsTable homes covers → (x : ℕ) → is_known homes x ≡ true → (n : ℕ) × Reaches homes n x
+known_reaches homes covers table x known = go (nat.same_or_apart x 1)
+  where
+    there : (o : Option Home) → map.get homes x ≡ o → is_some o ≡ true → (n : ℕ) × Reaches homes n x
+    there None is none = cc
+    there (Some home) is some = table.rooted.rooted x home is
+
+    go : (x ≡ 1) ⊎ (x ≡ 1 → ⊥) → (n : ℕ) × Reaches homes n x
+    go (inl root) = (0, root)
+    go (inr apart) = there (map.get homes x) refl (sym (ap (λ b. b || is_some (map.get homes x)) (nat.is_apart x 1 apart)) ∙ known)
+
+-- one leaf holds a dentry
+pub one_holder : (covers : Covers) (home : Home) (a b : Leaf) → HoldsDentry covers home a → HoldsDentry covers home b → a ≡ b
+one_holder covers home a b p q =
+    let dirs : a.0 ≡ b.0 = p.parent ∙ sym q.parent in
+    let frags : a.1 ≡ b.1 = q.pick.alone a.1 p.pick.stands p.pick.contains in
+    λ i. (dirs i, frags i)
+
+-- the leaf that holds the dentry of a directory
+pub some_holder : (homes : Homes) (covers : Covers) → IsTable homes covers → (home : Home) → (holder : Leaf) × HoldsDentry covers home holder
+some_holder homes covers table home =
+    let pick = some_pick (leaves_of covers home.parent.0) (hash_of home.name) (tree_of_row homes covers table home.parent.0) in
+    ((home.parent, pick.0), record { parent = refl; pick = pick.1 })
+
+pub holder_is_leaf : (homes : Homes) (covers : Covers) → IsTable homes covers → (x : ℕ) (home : Home) (holder : Leaf) → map.get homes x ≡ Some home → HoldsDentry covers home holder → IsLeaf homes covers holder
+holder_is_leaf homes covers table x home holder is holds = record {
+  known = subst (λ (d : Ino). is_known homes d.0 ≡ true) (sym holds.parent) (parent_known homes covers table x home is);
+  stands = subst (λ (d : Ino). HasLeaf (leaves_of covers d.0) holder.1) (sym holds.parent) holds.pick.stands;
+}
+
+module _ (roots : Roots) (homes : Homes) (covers : Covers) where
+  -- a root is its own nearest root
+  pub is_itself : (leaf root : Leaf) (rank : Rank) → map.get roots leaf ≡ Some rank → NearestRoot roots homes covers leaf root → leaf ≡ root
+  is_itself _ _ rank is (itself root r has) = refl
+  is_itself _ _ rank is (inherited leaf holder root home none stands holds rest) = absurd (not_none _ rank none is)
+
+  -- the nearest root of a leaf that is none is that of the leaf which holds the dentry of its directory
+  pub followed : (leaf holder root : Leaf) (home : Home) → map.get roots leaf ≡ None → map.get homes leaf.0.0 ≡ Some home → HoldsDentry covers home holder → NearestRoot roots homes covers leaf root → NearestRoot roots homes covers holder root
+  followed _ holder _ home none stands holds (itself root r has) = absurd (not_none _ r none has)
+  followed _ holder _ home none stands holds (inherited leaf h root home' none' stands' holds' rest) =
+      let homes_same : home' ≡ home = one_value _ home' home stands' stands in
+      subst (λ x. NearestRoot roots homes covers x root) (one_holder covers home h holder (subst (λ k. HoldsDentry covers k h) homes_same holds') holds) rest
+
+  pub one_root : (leaf a b : Leaf) → NearestRoot roots homes covers leaf a → NearestRoot roots homes covers leaf b → a ≡ b
+  one_root _ _ b (itself root r has) other = is_itself root b r has other
+  one_root _ _ b (inherited leaf holder a home none stands holds rest) other = one_root holder a b rest (followed leaf holder b home none stands holds other)
+
+  -- the nearest root is a root
+  pub is_ranked : (leaf root : Leaf) → NearestRoot roots homes covers leaf root → (rank : Rank) × (map.get roots root ≡ Some rank)
+  is_ranked _ _ (itself root r has) = (r, has)
+  is_ranked _ _ (inherited leaf holder root home none stands holds rest) = is_ranked holder root rest
+
+  pub one_authority : (leaf : Leaf) (a b : Rank) → HasAuthority roots homes covers leaf a → HasAuthority roots homes covers leaf b → a ≡ b
+  one_authority leaf a b p q = one_value _ a b (ap (map.get roots) (sym (one_root leaf p.root q.root p.nearest q.nearest)) ∙ p.ranked) q.ranked
+
+  -- no way leads up from a leaf of the root directory, which is a root
+  pub top_is_root : IsSubtrees roots homes covers → (leaf : Leaf) → IsLeaf homes covers leaf → leaf.0.0 ≡ 1 → IsSome (map.get roots leaf)
+  top_is_root valid leaf is top =
+      let there : HasLeaf (leaves_of covers 1) leaf.1 = subst (λ d. HasLeaf (leaves_of covers d) leaf.1) top is.stands in
+      let key : ◌≡◌ {A = Leaf} (record { 0 = 1 }, leaf.1) leaf = λ i. (record { 0 = sym top i }, leaf.1) in
+      subst (λ (k : Leaf). IsSome (map.get roots k)) key (valid.top leaf.1 there)
+
+  -- a leaf whose directory stands nowhere is a root
+  pub placeless_is_root : IsSubtrees roots homes covers → (leaf : Leaf) → IsLeaf homes covers leaf → map.get homes leaf.0.0 ≡ None → IsSome (map.get roots leaf)
+  placeless_is_root valid leaf is none = go (nat.same_or_apart leaf.0.0 1)
+    where
+      go : (leaf.0.0 ≡ 1) ⊎ (leaf.0.0 ≡ 1 → ⊥) → IsSome (map.get roots leaf)
+      go (inl top) = top_is_root valid leaf is top
+      go (inr apart) =
+          let known : false ≡ true = sym (ap (λ b. b || is_some (map.get homes leaf.0.0)) (nat.is_apart leaf.0.0 1 apart) ∙ ap is_some none) ∙ is.known in
+          cc
+
+  -- where no way leads up, a leaf is its own nearest root
+  pub top_nearest : IsSubtrees roots homes covers → (leaf : Leaf) → IsLeaf homes covers leaf → IsTop roots homes leaf → NearestRoot roots homes covers leaf leaf
+  top_nearest valid leaf is top = go (map.get roots leaf) refl
+    where
+      go : (o : Option Rank) → map.get roots leaf ≡ o → NearestRoot roots homes covers leaf leaf
+      go (Some rank) has = itself leaf rank has
+      go None none = let there = value_of _ (placeless_is_root valid leaf is (top none)) in absurd (not_none _ there.0 none there.1)
+
+  has_root : IsTable homes covers → IsSubtrees roots homes covers → (n : ℕ) (leaf : Leaf) → IsLeaf homes covers leaf → Reaches homes n leaf.0.0 → (o : Option Rank) → map.get roots leaf ≡ o → (root : Leaf) × NearestRoot roots homes covers leaf root
+  has_root table valid n leaf is reaches (Some r) has = (leaf, itself leaf r has)
+  has_root table valid zero leaf is top None none = let there = value_of _ (top_is_root valid leaf is top) in absurd (not_none _ there.0 none there.1)
+  has_root table valid (suc n) leaf is reaches None none =
+      let up = some_holder homes covers table reaches.0 in
+      let chain : Reaches homes n up.0.0.0 = subst (λ (d : Ino). Reaches homes n d.0) (sym up.1.parent) reaches.2 in
+      let rest = has_root table valid n up.0 (holder_is_leaf homes covers table leaf.0.0 reaches.0 up.0 reaches.1 up.1) chain (map.get roots up.0) refl in
+      (rest.0, inherited leaf up.0 rest.0 reaches.0 none reaches.1 up.1 rest.1)
+
+  -- each leaf of a well-formed table has a nearest root
+  pub some_root : IsTable homes covers → IsSubtrees roots homes covers → (leaf : Leaf) → IsLeaf homes covers leaf → (root : Leaf) × NearestRoot roots homes covers leaf root
+  some_root table valid leaf is =
+      let way = known_reaches homes covers table leaf.0.0 is.known in
+      has_root table valid way.0 leaf is way.1 (map.get roots leaf) refl
+
+  pub some_authority : IsTable homes covers → IsSubtrees roots homes covers → (leaf : Leaf) → IsLeaf homes covers leaf → (rank : Rank) × HasAuthority roots homes covers leaf rank
+  some_authority table valid leaf is =
+      let near = some_root table valid leaf is in
+      let ranked = is_ranked leaf near.0 near.1 in
+      (ranked.0, record { root = near.0; nearest = near.1; ranked = ranked.1 })
+
+  -- where no way leads up from a leaf that is no root, it has none
+  pub none_from_top : (leaf root : Leaf) → map.get roots leaf ≡ None → map.get homes leaf.0.0 ≡ None → NearestRoot roots homes covers leaf root → ⊥
+  none_from_top _ _ none nowhere (itself root r has) = not_none _ r none has
+  none_from_top _ _ none nowhere (inherited leaf holder root home gone stands holds rest) = let clash : None ≡ Some home = sym nowhere ∙ stands in cc
+
+  -- the rank of the nearest root
+  pub told_authority : (leaf root : Leaf) (told : Option Rank) → NearestRoot roots homes covers leaf root → told ≡ map.get roots root → MatchOption told ((rank : Rank) → HasAuthority roots homes covers leaf rank → ⊥) (HasAuthority roots homes covers leaf)
+  told_authority leaf root None near is = λ rank has. let ranked = is_ranked leaf root near in not_none _ ranked.0 (sym is) ranked.1
+  told_authority leaf root (Some rank) near is = record { root = root; nearest = near; ranked = sym is }
+
+  -- a search for the nearest root that found one, and one that had one to find
+  pub nearest_of : (leaf root : Leaf) (found : Option Leaf) → MatchOption found ((other : Leaf) → NearestRoot roots homes covers leaf other → ⊥) (NearestRoot roots homes covers leaf) → found ≡ Some root → NearestRoot roots homes covers leaf root
+  nearest_of leaf root None none is = let clash : None ≡ Some root = is in cc
+  nearest_of leaf root (Some other) near is = let same : other ≡ root = one_value (Some other) other root refl is in subst (NearestRoot roots homes covers leaf) same near
+
+  pub found_at : (leaf root : Leaf) (found : Option Leaf) → MatchOption found ((other : Leaf) → NearestRoot roots homes covers leaf other → ⊥) (NearestRoot roots homes covers leaf) → NearestRoot roots homes covers leaf root → found ≡ Some root
+  found_at leaf root None none near = absurd (none root near)
+  found_at leaf root (Some other) its near = ap (λ k. Some k) (one_root leaf other root its near)

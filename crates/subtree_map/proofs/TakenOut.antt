@@ -1,0 +1,87 @@
+-- Rows taken out one after the other.
+use Rattle.std.specs.Prelude.{◌≡◌, ◌≢◌, ℕ, zero, suc, ◌+◌, ◌-◌, ◌<◌, cond, true, false, Option, Some, None, IsSome, is_some, refl}
+use Rattle.std.proofs.Common.{inl, inr, sym, ap, ◌∙◌, arith}
+use Rattle.std.proofs.lemmas.Bool.Decides.{nat_tests}
+use Rattle.std.specs.FinMap as map
+use Rattle.std.specs.FinMap.{get-empty, len-remove, empty_of_len}
+use Rattle.sorted_map.specs.SortedMap.{Shown, contents}
+use Rattle.mds_types.specs.declared.ids.Rank.{Rank}
+use Rattle.mds_types.specs.Frag.{Fragment}
+use Rattle.subtree_map.specs.Authority.{Leaf, Roots, leaf_cmp}
+use Rattle.fragtree.specs.FragTree.{lies_inside}
+use Rattle.subtree_map.specs.Changes.{IsRootMerge, is_inside, leaf_of}
+use Rattle.subtree_map.specs.Rows.{AreTakenOut}
+use Rattle.subtree_map.proofs.LeafKeys.{leaf-total, same_or_apart, get_put, get_beside, get_removed, get_left, not_none, value_of}
+use Rattle.subtree_map.proofs.Merged.{inside_of}
+
+-- what has been taken out so far: nothing, or the root of a rank, which gave its room
+abbrev pub Found : Shown Leaf Rank → Shown Leaf Rank → ℕ → Fragment → Option Rank → Type 0
+Found old now d f None = now ≡ old
+Found old now d f (Some rank) = ((leaf : Leaf) × (is_inside d f leaf ≡ true) × (map.get (contents leaf_cmp old) leaf ≡ Some rank)) × (old.room < now.room)
+
+-- a map that loses a key gets shorter
+pub shorter : (rows now : Roots) (leaf : Leaf) → IsSome (map.get rows leaf) → now ≡ map.remove rows leaf → map.len now < map.len rows
+shorter rows now leaf there is = go (map.len rows) refl
+  where
+    less : map.len now ≡ map.len rows - 1
+    less = ap map.len is ∙ len-remove leaf-total rows leaf ∙ ap (λ b. cond b (map.len rows - 1) (map.len rows)) there
+
+    go : (n : ℕ) → map.len rows ≡ n → map.len now < map.len rows
+    go zero none =
+        let clash : true ≡ false = sym there ∙ ap (λ (m : Roots). is_some (map.get m leaf)) (empty_of_len rows none) ∙ ap is_some (get-empty _ leaf) in
+        cc
+    go (suc n) some = omega (arith, less, some)
+
+-- each other row stays
+pub other_stays : (rows now : Roots) (gone leaf : Leaf) → now ≡ map.remove rows gone → leaf ≢ gone → map.get now leaf ≡ map.get rows leaf
+other_stays rows now gone leaf is apart = ap (λ m. map.get m leaf) is ∙ get_left rows gone leaf apart
+
+-- what is there was there before
+pub stays_there : (rows now : Roots) (gone leaf : Leaf) (rank : Rank) → now ≡ map.remove rows gone → map.get now leaf ≡ Some rank → map.get rows leaf ≡ Some rank
+stays_there rows now gone leaf rank is has = elim (same_or_apart leaf gone) [
+  | inl same ↦ absurd (not_none _ rank (ap (λ m. map.get m leaf) is ∙ ap (map.get (map.remove rows gone)) same ∙ get_removed rows gone) has)
+  | inr apart ↦ sym (other_stays rows now gone leaf is apart) ∙ has
+]
+
+-- the next root inside is found
+pub found_next : (old now next : Shown Leaf Rank) (d : ℕ) (f : Fragment) (root : Leaf) (before after : Option Rank) → Found old now d f before → is_inside d f root ≡ true → IsSome (map.get (contents leaf_cmp now) root)
+    → ((leaf : Leaf) (rank : Rank) → map.get (contents leaf_cmp now) leaf ≡ Some rank → map.get (contents leaf_cmp old) leaf ≡ Some rank) → after ≡ map.get (contents leaf_cmp now) root → next.room ≡ now.room + 1 → Found old next d f after
+found_next old now next d f root before after found inside there fewer is room = go after is before found
+  where
+    some : (rank : Rank) → Some rank ≡ map.get (contents leaf_cmp now) root → (leaf : Leaf) × (is_inside d f leaf ≡ true) × (map.get (contents leaf_cmp old) leaf ≡ Some rank)
+    some rank gets = (root, inside, fewer root rank (sym gets))
+
+    go : (o : Option Rank) → o ≡ map.get (contents leaf_cmp now) root → (b : Option Rank) → Found old now d f b → Found old next d f o
+    go None none b so_far = let value = value_of _ there in absurd (not_none _ value.0 (sym none) value.1)
+    go (Some rank) gets None same = (some rank gets, let rooms : now.room ≡ old.room = ap (λ (s : Shown Leaf Rank). s.room) same in omega (arith, rooms, room))
+    go (Some rank) gets (Some had) so_far = (some rank gets, omega (arith, so_far.1, room))
+
+-- the fragment is put in the place of what was taken out
+pub merged_rows : (old mid new : Roots) (d : ℕ) (f : Fragment) (rank : Rank) → AreTakenOut old mid d f (Some rank) → new ≡ map.insert mid (leaf_of d f) rank → IsRootMerge old new d f
+merged_rows old mid new d f rank (gone, others, from) is = record {
+  gone = λ leaf inside. beside leaf (λ same. itself_out leaf inside same) ∙ gone leaf inside;
+  others = λ leaf outside apart. beside leaf apart ∙ others leaf outside;
+  some = λ leaf inside had. ap is_some here;
+  rank = λ r has. (from.0, inr from.1, from.2 ∙ sym here ∙ has);
+}
+  where
+    here : map.get new (leaf_of d f) ≡ Some rank
+    here = ap (λ m. map.get m (leaf_of d f)) is ∙ get_put mid (leaf_of d f) rank
+
+    beside : (leaf : Leaf) → leaf ≢ leaf_of d f → map.get new leaf ≡ map.get mid leaf
+    beside leaf apart = ap (λ m. map.get m leaf) is ∙ get_beside mid (leaf_of d f) rank leaf apart
+
+    itself_out : (leaf : Leaf) → is_inside d f leaf ≡ true → leaf ≡ leaf_of d f → ⊥
+    itself_out leaf inside same =
+        let own : lies_inside f f ≡ true = ap (lies_inside f) (ap (λ (k : Leaf). k.1) (sym same)) ∙ inside_of d f leaf inside in
+        let more : f.bits < f.bits = grind (arith, nat_tests) in
+        omega arith
+
+-- nothing was there to be taken out
+pub unmerged_rows : (old new : Roots) (d : ℕ) (f : Fragment) → new ≡ old → ((leaf : Leaf) → is_inside d f leaf ≡ true → map.get old leaf ≡ None) → IsRootMerge old new d f
+unmerged_rows old new d f is none = record {
+  gone = λ leaf inside. ap (λ m. map.get m leaf) is ∙ none leaf inside;
+  others = λ leaf outside apart. ap (λ m. map.get m leaf) is;
+  some = λ leaf inside had. let has = value_of _ had in absurd (not_none _ has.0 (none leaf inside) has.1);
+  rank = λ r has. (leaf_of d f, inl refl, ap (λ m. map.get m (leaf_of d f)) (sym is) ∙ has);
+}

@@ -1,0 +1,11 @@
+-- What is a bound is one of the roots to come, or was put on the list.
+use Rattle.std.specs.Prelude.{◌⊎◌, ◌↔◌, IsSome}
+use Rattle.std.specs.List as list
+use Rattle.std.specs.FinMap.{find}
+use Rattle.subtree_map.specs.Authority.{IsBound, Leaf, leaf_cmp}
+use Rattle.subtree_map.specs.Climb.{IsNextBelow}
+use Rattle.subtree_map.proofs.subtrees.Subtrees.bounds.Given as goal
+
+abbrev pub invariant-loop-row : goal.invariant-loop-row
+invariant-loop-row l =
+    (bound : Leaf) → ((IsSome (find leaf_cmp bound l.row-iterator) × IsNextBelow l.self.roots l.dirs.homes l.dirs.trees (l.dir, l.frag) bound) ⊎ list.Contains l.bounds.items bound) ↔ IsBound l.self.roots l.dirs.homes l.dirs.trees (l.dir, l.frag) bound

@@ -1,0 +1,5 @@
+pub mod Authority
+pub mod Changes
+pub mod Climb
+pub mod Moves
+pub mod Rows

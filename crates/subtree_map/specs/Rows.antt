@@ -1,0 +1,41 @@
+-- Changes of the rows that a map of subtrees keeps. Only this crate's own contracts use these words.
+use Rattle.std.specs.Prelude.{◌≡◌, ◌≢◌, ◌⊎◌, ℕ, ◌<◌, Bool, true, false, Option, Some, None, IsSome, List}
+use Rattle.std.specs.declared.cmp.Ordering.TheVariants.{Less}
+use Rattle.std.specs.FinMap as map
+use Rattle.mds_types.specs.declared.ids.Rank.{Rank}
+use Rattle.mds_types.specs.Frag.{Fragment, child_of}
+use Rattle.fragtree.specs.FragTree.{HasLeaf}
+use Rattle.subtree_map.specs.Authority.{Leaf, Roots, leaf_cmp}
+use Rattle.subtree_map.specs.Changes.{leaf_of, is_inside}
+
+-- the first leaf of the rows that passes a test
+abbrev pub IsFirst : Roots → (Leaf → Bool) → Option Leaf → Type 0
+IsFirst rows passes None = (leaf : Leaf) → passes leaf ≡ true → map.get rows leaf ≡ None
+IsFirst rows passes (Some first) =
+    (passes first ≡ true) × IsSome (map.get rows first) × ((leaf : Leaf) → passes leaf ≡ true → IsSome (map.get rows leaf) → (leaf ≡ first) ⊎ (leaf_cmp first leaf ≡ Less))
+
+-- the first so many children of f by nb bits have this rank, and each other leaf what it had
+pub record AreChildrenSet (old new : Roots) (d : ℕ) (f : Fragment) (nb count : ℕ) (rank : Rank) : Type 0 where
+  pub children : (i : ℕ) → i < count → map.get new (leaf_of d (child_of f i nb)) ≡ Some rank
+  pub others : (leaf : Leaf) → ((i : ℕ) → i < count → leaf ≢ leaf_of d (child_of f i nb)) → map.get new leaf ≡ map.get old leaf
+  pub made : (leaf : Leaf) → IsSome (map.get new leaf) → IsSome (map.get old leaf) ⊎ ((i : ℕ) × (i < count) × (leaf ≡ leaf_of d (child_of f i nb)))
+
+-- the roots of d inside f are taken out, with the rank of one of them; without any nothing changes
+abbrev pub AreTakenOut : Roots → Roots → ℕ → Fragment → Option Rank → Type 0
+AreTakenOut old new d f None = ((leaf : Leaf) → is_inside d f leaf ≡ true → map.get old leaf ≡ None)
+AreTakenOut old new d f (Some rank) =
+    ((leaf : Leaf) → is_inside d f leaf ≡ true → map.get new leaf ≡ None) × ((leaf : Leaf) → is_inside d f leaf ≡ false → map.get new leaf ≡ map.get old leaf)
+    × ((leaf : Leaf) × (is_inside d f leaf ≡ true) × (map.get old leaf ≡ Some rank))
+
+-- a leaf without a rank got this one, and nothing else changed
+pub record IsFilled (old new : Roots) (leaf : Leaf) (rank : Rank) : Type 0 where
+  pub absent : map.get old leaf ≡ None → map.get new leaf ≡ Some rank
+  pub there : IsSome (map.get old leaf) → map.get new leaf ≡ map.get old leaf
+  pub others : (other : Leaf) → other ≢ leaf → map.get new other ≡ map.get old other
+
+-- those of the leaves of d without a rank got this one, and nothing else changed
+pub record AreFilled (old new : Roots) (d : ℕ) (leaves : List Fragment) (rank : Rank) : Type 0 where
+  pub absent : (f : Fragment) → HasLeaf leaves f → map.get old (leaf_of d f) ≡ None → map.get new (leaf_of d f) ≡ Some rank
+  pub there : (leaf : Leaf) → IsSome (map.get old leaf) → map.get new leaf ≡ map.get old leaf
+  pub elsewhere : (leaf : Leaf) → leaf.0.0 ≢ d → map.get new leaf ≡ map.get old leaf
+  pub made : (leaf : Leaf) → map.get old leaf ≡ None → IsSome (map.get new leaf) → (leaf.0.0 ≡ d) × HasLeaf leaves leaf.1

@@ -1,0 +1,57 @@
+//! The bounds of a region.
+ghost use Rattle.std.specs.Prelude.{◌≡◌, ◌↔◌, IfOk, IsTrue, Some};
+ghost use Rattle.std.specs.List as list;
+ghost use Rattle.std.specs.FinMap as map;
+ghost use Rattle.subtree_map.specs.Authority.{IsBound, Leaf, leaf_cmp};
+ghost use Rattle.subtree_map.specs.Climb.{IsNextBelow};
+
+use crate::climb::holder_of;
+use crate::subtrees::Subtrees;
+use inode_table::Dirs;
+use mds_types::{Frag, Ino};
+use std::alloc::{AllocError, Global};
+
+impl Subtrees {
+    /// The bounds of a root's region: the roots next below, by directory and then as fragments. Takes memory for them, and asks
+    /// each root once.
+    pub fn bounds(
+        &self,
+        alloc: Global,
+        dirs: &Dirs,
+        dir: Ino,
+        frag: Frag,
+    ) -> Result<Vec<(Ino, Frag)>, AllocError>
+        ensures bounds { IfOk result (λ bounds. (bound : Leaf) → list.Contains bounds.items bound ↔ IsBound self.now.roots dirs.now.homes dirs.now.trees (dir, frag) bound) }
+    {
+        let mut bounds = Vec::new(alloc);
+        for row in &self.roots {
+            if self.is_next_below(dirs, &(dir, frag), &row.0) {
+                bounds.push(row.0)?;
+            }
+        }
+        Ok(bounds)
+    }
+
+    // Whether the dentry of a root's directory is held in the region of another.
+    fn is_next_below(&self, dirs: &Dirs, root: &(Ino, Frag), bound: &(Ino, Frag)) -> bool
+        ensures { IsTrue result ↔ IsNextBelow self.now.roots dirs.now.homes dirs.now.trees root.now bound.now }
+    {
+        match dirs.get(bound.0) {
+            Some(home) => {
+                let holder = holder_of(dirs, home);
+                is_at(self.find_root(dirs, holder.0, holder.1), root)
+            }
+            None => false,
+        }
+    }
+}
+
+// Whether a leaf was found, and it is this one.
+fn is_at(found: Option<(Ino, Frag)>, leaf: &(Ino, Frag)) -> bool
+    ensures { IsTrue result ↔ (found ≡ Some leaf.now) }
+{
+    match found {
+        Some(other) => other.0 == leaf.0 && other.1 == leaf.1,
+        None => false,
+    }
+}

@@ -1,0 +1,134 @@
+//! The roots where a directory moves.
+ghost use Rattle.std.specs.Prelude.{◌≡◌, ◌≢◌, ◌+◌, ◌^◌, ◌<◌, ◌≤◌, ◌⊎◌, Some, None, IsSome, IfSome, IfNone, OnOk, OnErr, IfErr, length};
+ghost use Rattle.std.specs.FinMap as map;
+ghost use Rattle.sorted_map.specs.SortedMap.{contents};
+ghost use Rattle.mds_types.specs.declared.ids.Rank.{Rank as RankNumber};
+ghost use Rattle.mds_types.specs.declared.refusals.Refusal.TheVariants.{NoMemory};
+ghost use Rattle.mds_types.specs.Frag.{span};
+ghost use Rattle.inode_table.specs.Dirs.{MayMove, leaves_of};
+ghost use Rattle.subtree_map.specs.Authority.{IsSubtrees, leaf_cmp};
+ghost use Rattle.subtree_map.specs.Moves.{HasRoomToMove, IsLostRank, IsSettled, MovesSoundly};
+ghost use Rattle.subtree_map.specs.Rows.{AreFilled, IsFilled};
+
+use crate::climb::holder_of;
+use crate::subtrees::Subtrees;
+use inode_table::Dirs;
+use mds_types::{Frag, Ino, Name, Rank, Refusal};
+use namehash::rjenkins;
+use sorted_map::SortedMap;
+use std::alloc::Global;
+
+impl Subtrees {
+    /// Makes room for what a directory's move to another place makes, so that `after_rename` can't fail. Takes memory only
+    /// where the directory's leaves would inherit another rank there. Refused for want of memory alone, and then all is left
+    /// as it was.
+    pub fn reserve_rename(
+        &mut self,
+        alloc: Global,
+        dirs: &Dirs,
+        dir: Ino,
+        parent: Ino,
+        name: &Name,
+    ) -> Result<(), Refusal>
+        requires may { MayMove dirs.now.homes dir.0 (record { parent = parent; name = name.now }) }
+        ensures ok { OnOk result (HasRoomToMove self.new.roots self.new.room dirs.now.homes dirs.now.trees dir.0 (record { parent = parent; name = name.now })) }
+        ensures roots { self.new.roots ≡ self.old.roots }
+        ensures promises { self.new.promises ≡ self.old.promises }
+        ensures grows { self.old.room ≤ self.new.room }
+        ensures err { IfErr result (λ reason. reason ≡ NoMemory) }
+        ensures left { OnErr result (self.new ≡ self.old) }
+    {
+        let Some(_) = self.lost_rank(dirs, dir, parent, name) else {
+            return Ok(());
+        };
+        let leaves = dirs.tree(alloc, dir)?;
+        self.reserve(leaves.len())
+    }
+
+    /// A directory is about to move to another place: those of its leaves that inherit their rank, and would inherit another
+    /// there, become roots of the rank that they have, so that the move changes the authority of no leaf. There has to be
+    /// room. Takes no memory.
+    ///
+    /// It is called before the directory table is told, since it asks whose the leaves are.
+    pub fn after_rename(&mut self, dirs: &Dirs, dir: Ino, parent: Ino, name: &Name)
+        requires may { MayMove dirs.now.homes dir.0 (record { parent = parent; name = name.now }) }
+        requires room { HasRoomToMove self.old.roots self.old.room dirs.now.homes dirs.now.trees dir.0 (record { parent = parent; name = name.now }) }
+        ensures roots { IsSubtrees self.old.roots dirs.now.homes dirs.now.trees → IsSettled self.old.roots self.new.roots dirs.now.homes dirs.now.trees dir.0 (record { parent = parent; name = name.now }) }
+        ensures authority { IsSubtrees self.old.roots dirs.now.homes dirs.now.trees → MovesSoundly self.old.roots self.new.roots dirs.now.homes dirs.now.trees dir.0 (record { parent = parent; name = name.now }) }
+        ensures promises { self.new.promises ≡ self.old.promises }
+        ensures room { self.old.room ≤ self.new.room + length (leaves_of dirs.now.trees dir.0) }
+    {
+        let _ = dirs.contains(dir);
+        if let Some(rank) = self.lost_rank(dirs, dir, parent, name) {
+            fill(&mut self.roots, dirs, dir, rank);
+        }
+    }
+
+    // The rank that a directory's leaves inherit, if they would inherit another at another place.
+    fn lost_rank(&self, dirs: &Dirs, dir: Ino, parent: Ino, name: &Name) -> Option<Rank>
+        requires { MayMove dirs.now.homes dir.0 (record { parent = parent; name = name.now }) }
+        ensures lost { IfSome result (λ rank. IsLostRank self.now.roots dirs.now.homes dirs.now.trees dir.0 (record { parent = parent; name = name.now }) (Some rank)) }
+        ensures none { IfNone result ((rank : RankNumber) → IsLostRank self.now.roots dirs.now.homes dirs.now.trees dir.0 (record { parent = parent; name = name.now }) (Some rank) → ⊥) }
+        ensures kept { IfNone result (IsSubtrees self.now.roots dirs.now.homes dirs.now.trees → IsLostRank self.now.roots dirs.now.homes dirs.now.trees dir.0 (record { parent = parent; name = name.now }) None) }
+    {
+        let _ = dirs.contains(dir);
+        let Some(home) = dirs.get(dir) else {
+            unreachable!();
+        };
+        let holder = holder_of(dirs, home);
+        let leaf = dirs.pick(parent, rjenkins(name.as_bytes()));
+        let Some(rank) = self.find_authority(dirs, holder.0, holder.1) else {
+            return None;
+        };
+        let Some(other) = self.find_authority(dirs, parent, leaf) else {
+            return None;
+        };
+        if other == rank {
+            return None;
+        }
+        Some(rank)
+    }
+}
+
+// Makes each leaf of a directory that is no root one of this rank.
+fn fill(roots: &mut SortedMap<(Ino, Frag), Rank>, dirs: &Dirs, dir: Ino, rank: Rank)
+    requires room { length (leaves_of dirs.now.trees dir.0) ≤ roots.old.room }
+    ensures filled { AreFilled (contents leaf_cmp roots.old) (contents leaf_cmp roots.new) dir.0 (leaves_of dirs.now.trees dir.0) rank }
+    ensures room { roots.old.room ≤ roots.new.room + length (leaves_of dirs.now.trees dir.0) }
+{
+    // of a table that is asked for a directory its leaves are known to cover every hash
+    let _ = dirs.contains(dir);
+    let mut hash = 0;
+    while hash < 1 << Frag::MAX_BITS {
+        let leaf = dirs.pick(dir, hash);
+        put_absent(roots, dir, leaf, rank);
+        hash = end_of(leaf);
+    }
+}
+
+// Makes a leaf that is no root one of this rank.
+fn put_absent(roots: &mut SortedMap<(Ino, Frag), Rank>, dir: Ino, leaf: Frag, rank: Rank)
+    requires { 0 < roots.old.room }
+    ensures filled { IsFilled (contents leaf_cmp roots.old) (contents leaf_cmp roots.new) (dir, leaf) rank }
+    ensures room { roots.old.room ≤ roots.new.room + 1 }
+{
+    if !roots.contains(&(dir, leaf)) {
+        let _ = roots.insert((dir, leaf), rank);
+    }
+}
+
+// Where a fragment ends: the hash after its last.
+fn end_of(f: Frag) -> u32
+    ensures end { result ≡ f.value + span f.bits }
+    ensures low { result ≤ 2 ^ 24 }
+{
+    f.value() + hashes(f.bits())
+}
+
+// How many hashes a fragment of so many bits contains.
+fn hashes(bits: u8) -> u32
+    requires { bits ≤ 24 }
+    ensures { result ≡ span bits }
+{
+    1 << (Frag::MAX_BITS - bits)
+}

@@ -1,0 +1,40 @@
+//! Rows of a map from leaves to ranks.
+ghost use Rattle.std.specs.Prelude.{◌≡◌, ◌+◌, None, IsSome};
+ghost use Rattle.std.specs.Ordering.{is_lt};
+ghost use Rattle.std.specs.FinMap as map;
+ghost use Rattle.sorted_map.specs.SortedMap.{contents, is_from};
+ghost use Rattle.subtree_map.specs.Authority.{leaf_cmp};
+ghost use Rattle.subtree_map.specs.Rows.{IsFirst};
+
+use mds_types::{Frag, Ino, Rank};
+use sorted_map::SortedMap;
+
+/// The first leaf of the rows from a leaf on.
+pub fn first_from(rows: &SortedMap<(Ino, Frag), Rank>, dir: Ino, frag: Frag) -> Option<(Ino, Frag)>
+    ensures { IsFirst (contents leaf_cmp rows.now) (is_from leaf_cmp (dir, frag)) result }
+{
+    match rows.iter_from(&(dir, frag)).next() {
+        Some(row) => Some(row.0),
+        None => None,
+    }
+}
+
+/// The first leaf of the rows behind a leaf.
+pub fn first_after(rows: &SortedMap<(Ino, Frag), Rank>, dir: Ino, frag: Frag) -> Option<(Ino, Frag)>
+    ensures { IsFirst (contents leaf_cmp rows.now) (λ leaf. is_lt (leaf_cmp (dir, frag) leaf)) result }
+{
+    match rows.iter_after(&(dir, frag)).next() {
+        Some(row) => Some(row.0),
+        None => None,
+    }
+}
+
+/// Takes out the row of a leaf, and returns its rank.
+pub fn take_row(rows: &mut SortedMap<(Ino, Frag), Rank>, dir: Ino, frag: Frag) -> Option<Rank>
+    ensures value { result ≡ map.get (contents leaf_cmp rows.old) (dir, frag) }
+    ensures removed { contents leaf_cmp rows.new ≡ map.remove (contents leaf_cmp rows.old) (dir, frag) }
+    ensures absent { map.get (contents leaf_cmp rows.old) (dir, frag) ≡ None → rows.new ≡ rows.old }
+    ensures room { IsSome (map.get (contents leaf_cmp rows.old) (dir, frag)) → rows.new.room ≡ rows.old.room + 1 }
+{
+    Some(rows.remove(&(dir, frag))?.1)
+}

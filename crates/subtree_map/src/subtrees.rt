@@ -1,0 +1,95 @@
+//! The subtree roots, and the calls that read and change single ones.
+ghost use Rattle.std.specs.Prelude.{◌≡◌, ◌+◌, ◌-◌, ◌<◌, ◌≤◌, if◌then◌else◌, is_some, None, OnOk, OnErr, IsTrue, IfErr};
+ghost use Rattle.std.specs.FinMap as map;
+ghost use Rattle.mds_types.specs.declared.refusals.Refusal.TheVariants.{NoMemory};
+ghost use Rattle.inode_table.specs.Dirs.{Homes, Covers};
+ghost use Rattle.subtree_map.specs.Authority.{IsLeaf, IsSubtrees, leaf_cmp};
+ghost use Rattle.subtree_map.specs.Changes.{IsCutOff};
+
+use mds_types::{Frag, Ino, Rank, Refusal};
+use sorted_map::{Iter, SortedMap};
+use std::alloc::Global;
+use std::marker::Model;
+
+/// The subtree roots: leaves that have a rank of their own. Every other leaf has the rank of the leaf that holds the dentry of
+/// its directory.
+#[derive(Debug, Drop)]
+pub struct Subtrees {
+    pub(crate) roots: SortedMap<(Ino, Frag), Rank>,
+    pub(crate) promises: SortedMap<(Ino, Frag), Rank>,
+}
+
+impl Model for Subtrees {
+    ghost use Rattle.std.specs.Coded.{codes};
+    ghost use Rattle.std.specs.FinMap as map;
+    ghost use Rattle.sorted_map.specs.SortedMap.{contents};
+    ghost use Rattle.subtree_map.specs.Authority.{leaf_cmp};
+    ghost use Rattle.subtree_map.specs.Changes.{Subtrees};
+
+    ghost Value = { Subtrees };
+
+    ghost coded = { Prim.hlevel (codes, map.code) };
+
+    ghost view = { λ s. record { roots = contents leaf_cmp s.roots; promises = contents leaf_cmp s.promises; room = s.roots.room } };
+}
+
+impl Subtrees {
+    /// No roots.
+    pub fn new(alloc: Global) -> Subtrees
+        ensures roots { result.roots ≡ map.empty }
+        ensures promises { result.promises ≡ map.empty }
+        ensures room { result.room ≡ 0 }
+    {
+        Subtrees {
+            roots: SortedMap::new(alloc),
+            promises: SortedMap::new(alloc),
+        }
+    }
+
+    /// The rank of a root; none for a leaf that is no root.
+    pub fn get(&self, dir: Ino, frag: Frag) -> Option<Rank>
+        ensures { result ≡ map.get self.now.roots (dir, frag) }
+    {
+        self.roots.get(&(dir, frag)).copied()
+    }
+
+    /// Whether a leaf is a root.
+    pub fn is_root(&self, dir: Ino, frag: Frag) -> bool
+        ensures { result ≡ is_some (map.get self.now.roots (dir, frag)) }
+    {
+        self.roots.contains(&(dir, frag))
+    }
+
+    /// The roots with their ranks, by directory and then as fragments. Takes no memory.
+    pub fn iter(&self) -> Iter<'_, (Ino, Frag), Rank>
+        ensures { result ≡ map.entries self.now.roots }
+    {
+        self.roots.iter()
+    }
+
+    /// Makes room for so many more roots, so that changes that make no more of them can't fail. Refused for want of memory
+    /// alone, and then all is left as it was.
+    pub fn reserve(&mut self, additional: usize) -> Result<(), Refusal>
+        ensures ok { OnOk result (additional ≤ self.new.room) }
+        ensures roots { self.new.roots ≡ self.old.roots }
+        ensures promises { self.new.promises ≡ self.old.promises }
+        ensures grows { self.old.room ≤ self.new.room }
+        ensures err { IfErr result (λ reason. reason ≡ NoMemory) }
+        ensures left { OnErr result (self.new ≡ self.old) }
+    {
+        self.roots.reserve(additional)?;
+        Ok(())
+    }
+
+    /// Makes a leaf a root of a rank, or gives a root another rank. There has to be room. Takes no memory.
+    pub fn set(&mut self, dir: Ino, frag: Frag, rank: Rank)
+        requires { 0 < self.old.room }
+        ensures roots { self.new.roots ≡ map.insert self.old.roots (dir, frag) rank }
+        ensures authority { IsCutOff self.old.roots self.new.roots (dir, frag) }
+        ensures valid { (homes : Homes) (covers : Covers) → IsSubtrees self.old.roots homes covers → IsLeaf homes covers (dir, frag) → IsSubtrees self.new.roots homes covers }
+        ensures promises { self.new.promises ≡ self.old.promises }
+        ensures room { self.old.room ≤ self.new.room + 1 }
+    {
+        let _ = self.roots.insert((dir, frag), rank);
+    }
+}
