@@ -32,7 +32,7 @@ use Rattle.dirfrag_codec.proofs.RecordLaws.{fields_of_record}
 use Rattle.dirfrag_codec.proofs.TreeLaws.{four_each, fragments_of, words_of_tree}
 
 -- what is read first and then asked for is read exactly, where each spelled value is read first
-guarded : {V : Type 0} (Spells : List ℕ → V → Type 0) (bytes : List ℕ) (r : Option V) (test : V → Bool) → ((v : V) → Decides (test v) (Spells bytes v)) → ((v : V) → Spells bytes v → r ≡ Some v)
+pub guarded : {V : Type 0} (Spells : List ℕ → V → Type 0) (bytes : List ℕ) (r : Option V) (test : V → Bool) → ((v : V) → Decides (test v) (Spells bytes v)) → ((v : V) → Spells bytes v → r ≡ Some v)
     → Decodes Spells bytes (r >>= λ v. cond (test v) (Some v) None)
 guarded Spells bytes None test decides found = λ v s. not_none v (sym (found v s))
 guarded {V} Spells bytes (Some v) test decides found = go (test v) refl
@@ -99,7 +99,7 @@ allows_decides inode =
     Decides-like _ (λ p. record { number = p.0; mode = p.1.0; size = p.1.1.0; target = p.1.1.1 }) (λ h. (h.number, (h.mode, (h.size, h.target))))
     (Decides-and _ _ (number_decides inode.ino.0) (Decides-and _ _ (le_decides inode.mode 4095) (Decides-and _ _ (has_size_decides inode.kind inode.size) (has_target_decides inode.kind))))
 
-record_decides : (bytes : List ℕ) (inode : Inode) → Decides (is_record_v1 bytes inode) (IsRecordV1 bytes inode)
+pub record_decides : (bytes : List ℕ) (inode : Inode) → Decides (is_record_v1 bytes inode) (IsRecordV1 bytes inode)
 record_decides bytes inode =
     Decides-like _ (λ p. record { allowed = p.0; size = p.1.0; mtime = p.1.1.0; spelled = p.1.1.1 }) (λ h. (h.allowed, (h.size, (h.mtime, h.spelled))))
     (Decides-and _ _ (allows_decides inode) (Decides-and _ _ (Decides-ltb inode.size (2 ^ 64)) (Decides-and _ _ (Decides-ltb inode.mtime (2 ^ 64)) (bytes_eq-Decides bytes (record_v1 inode)))))
@@ -110,7 +110,7 @@ header_decides bytes header =
     (Decides-and _ _ (le_decides 1 header.version) (Decides-and _ _ (Decides-ltb header.version (2 ^ 64)) (Decides-and _ _ (Decides-ltb header.files (2 ^ 64))
     (Decides-and _ _ (Decides-ltb header.dirs (2 ^ 64)) (bytes_eq-Decides bytes (header_bytes header))))))
 
-fragment_decides : (f : Fragment) → Decides (is_fragment f) (IsFragment f)
+pub fragment_decides : (f : Fragment) → Decides (is_fragment f) (IsFragment f)
 fragment_decides f =
     Decides-like _ (λ p. record { few_bits = p.0; in_range = p.1.0; justified = p.1.1 }) (λ h. (h.few_bits, (h.in_range, h.justified)))
     (Decides-and _ _ (le_decides f.bits 24) (Decides-and _ _ (Decides-ltb f.value (2 ^ 24)) (Decides-eqb (f.value % span f.bits) 0)))
@@ -151,7 +151,7 @@ entry_first bytes inode s =
 header_first : (bytes : List ℕ) (header : FragHeader) → SpellsHeader bytes header → header_at bytes ≡ Some header
 header_first bytes header s = ap header_at s.spelled ∙ header_again header s.committed s.version s.files s.dirs
 
-fragment_again : (f : Fragment) → IsFragment f → fragment_of (word_of f) ≡ f
+pub fragment_again : (f : Fragment) → IsFragment f → fragment_of (word_of f) ≡ f
 fragment_again f h =
     let bits : word_of f / 2 ^ 24 ≡ f.bits = omega (arith, h.in_range) in
     let value : word_of f % 2 ^ 24 ≡ f.value = omega (arith, h.in_range) in

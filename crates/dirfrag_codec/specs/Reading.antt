@@ -1,4 +1,4 @@
--- Reading fields from the front of bytes. Only this crate's own contracts use these words.
+-- Reading fields from the front of bytes. Contracts of this crate and of crates that read formats of their own use these words.
 use Rattle.std.specs.Prelude.{◌≡◌, ℕ, ◌*◌, ◌^◌, Bool, true, ◌&&◌, ◌==◌, nat_lt, nat_le, if◌then◌else◌, List, [], ◌∷◌, length, drop, Option, Some, None}
 use Rattle.byteorder.specs.Endian.{little_number}
 use Rattle.mds_types.specs.declared.inodes.Inode.{Inode}

@@ -2,7 +2,7 @@
 //! format is one grammar, a relation of bytes and values in `specs/`, which its encoder and its decoder both keep.
 #![tactic(auto)]
 
-mod fields;
+pub mod fields;
 mod headers;
 pub mod laws;
 mod recordable;

@@ -1,0 +1,100 @@
+-- Items that are read one after another.
+use Rattle.std.proofs.Common.{◌≡◌, ℕ, zero, suc, ◌+◌, ◌-◌, ◌<◌, ◌≤◌, Bool, true, ◌&&◌, List, [], ◌∷◌, ◌++◌, length, drop, drop-cons, get_or, Option, Some, None, refl, sym, ap, subst, ◌∙◌, append_assoc, arith}
+use Rattle.std.proofs.lemmas.List.{append-nil, length-append}
+use Rattle.std.proofs.lemmas.List.Concat.{flat_map-cons}
+use Rattle.std.specs.List.{flat_map, list_all}
+use Rattle.dirfrag_codec.specs.Reading.{◌>>=◌}
+use Rattle.dirfrag_codec.proofs.Front.{IsBytes, Takes, Takes-then, bind_some, both, some_is}
+use Rattle.export_bytes.specs.Reading.{items_at}
+
+-- what was read, with more in front of it
+abbrev pub preceded : {A : Type 0} → List A → Option (List A × List ℕ) → Option (List A × List ℕ)
+preceded front None = None
+preceded front (Some (more, rest)) = Some (front ++ more, rest)
+
+module _ {A : Type 0} (item_at : List ℕ → Option (A × List ℕ)) where
+  one_behind : (front : List A) (x : A) (more : Option (List A × List ℕ)) → preceded front (more >>= λ m. Some (x ∷ m.0, m.1)) ≡ preceded (front ++ x ∷ []) more
+  one_behind front x None = refl
+  one_behind front x (Some (xs, rest)) = ap (λ (ys : List A). Some (ys, rest)) (sym (append_assoc front (x ∷ []) xs))
+
+  next_left : (count : ℕ) (front : List A) (x : A) → length front < count → count - length front ≡ suc (count - length (front ++ x ∷ []))
+  next_left count front x less = omega (arith, length-append front (x ∷ []))
+
+  -- one item more is read
+  pub one_more : (count : ℕ) (total : Option (List A × List ℕ)) (front : List A) (rest after : List ℕ) (x : A) → length front < count → item_at rest ≡ Some (x, after)
+      → total ≡ preceded front (items_at item_at (count - length front) rest) → total ≡ preceded (front ++ x ∷ []) (items_at item_at (count - length (front ++ x ∷ [])) after)
+  one_more count total front rest after x less read parts =
+      let left = count - length (front ++ x ∷ []) in
+      parts ∙ ap (λ (n : ℕ). preceded front (items_at item_at n rest)) (next_left count front x less)
+      ∙ ap (λ (r : Option (A × List ℕ)). preceded front (r >>= λ first. items_at item_at left first.1 >>= λ more. Some (first.0 ∷ more.0, more.1))) read
+      ∙ one_behind front x (items_at item_at left after)
+
+  -- an item that can't be read ends it
+  pub none_more : (count : ℕ) (total : Option (List A × List ℕ)) (front : List A) (rest : List ℕ) → length front < count → item_at rest ≡ None
+      → total ≡ preceded front (items_at item_at (count - length front) rest) → total ≡ None
+  none_more count total front rest less read parts =
+      let left : count - length front ≡ suc (count - length front - 1) = omega arith in
+      parts ∙ ap (λ (n : ℕ). preceded front (items_at item_at n rest)) left
+      ∙ ap (λ (r : Option (A × List ℕ)). preceded front (r >>= λ first. items_at item_at (count - length front - 1) first.1 >>= λ more. Some (first.0 ∷ more.0, more.1))) read
+
+  -- all have been read
+  pub all_read : (count : ℕ) (total : Option (List A × List ℕ)) (front : List A) (rest : List ℕ) → length front ≤ count → count ≤ length front
+      → total ≡ preceded front (items_at item_at (count - length front) rest) → total ≡ Some (front, rest)
+  all_read count total front rest few all parts =
+      let left : count - length front ≡ 0 = omega arith in
+      parts ∙ ap (λ (n : ℕ). preceded front (items_at item_at n rest)) left ∙ ap (λ (xs : List A). Some (xs, rest)) (append-nil front)
+
+  module _ (spell : A → List ℕ) (is_sent : A → Bool) where
+    -- items that are written are read again
+    pub items_again : ((x : A) (rest : List ℕ) → is_sent x ≡ true → item_at (spell x ++ rest) ≡ Some (x, rest)) → (xs : List A) (rest : List ℕ) → list_all is_sent xs ≡ true
+        → items_at item_at (length xs) (flat_map spell xs ++ rest) ≡ Some (xs, rest)
+    items_again again [] rest sent = refl
+    items_again again (x ∷ xs) rest sent =
+        let w = both (is_sent x) (list_all is_sent xs) sent in
+        let parts : flat_map spell (x ∷ xs) ++ rest ≡ spell x ++ (flat_map spell xs ++ rest) = ap (λ (t : List ℕ). t ++ rest) (flat_map-cons spell x xs) ∙ append_assoc (spell x) (flat_map spell xs) rest in
+        let first : item_at (flat_map spell (x ∷ xs) ++ rest) ≡ Some (x, flat_map spell xs ++ rest) = ap item_at parts ∙ again x (flat_map spell xs ++ rest) w.0 in
+        ap (λ (r : Option (A × List ℕ)). r >>= λ first. items_at item_at (length xs) first.1 >>= λ more. Some (first.0 ∷ more.0, more.1)) first
+        ∙ ap (λ (r : Option (List A × List ℕ)). r >>= λ more. Some (x ∷ more.0, more.1)) (items_again again xs rest w.1)
+
+    -- items that are read are those that stand there
+    pub items_take : ((bytes : List ℕ) (x : A) (rest : List ℕ) → IsBytes bytes → item_at bytes ≡ Some (x, rest) → (is_sent x ≡ true) × Takes bytes (spell x) rest)
+        → (n : ℕ) (bytes : List ℕ) (xs : List A) (rest : List ℕ) → IsBytes bytes → items_at item_at n bytes ≡ Some (xs, rest)
+        → (length xs ≡ n) × (list_all is_sent xs ≡ true) × Takes bytes (flat_map spell xs) rest
+    items_take takes zero bytes xs rest fits read =
+        let e : ([], bytes) ≡ (xs, rest) = some_is ([], bytes) (xs, rest) read in
+        let P : List A × List ℕ → Type 0 = λ p. (length p.0 ≡ 0) × (list_all is_sent p.0 ≡ true) × Takes bytes (flat_map spell p.0) p.1 in
+        subst P e (refl, refl, record { parts = refl; rest_fits = fits })
+    items_take takes (suc n) bytes xs rest fits read =
+        let a = bind_some (item_at bytes) (λ first. items_at item_at n first.1 >>= λ more. Some (first.0 ∷ more.0, more.1)) (xs, rest) read in
+        let b = bind_some (items_at item_at n a.0.1) (λ more. Some (a.0.0 ∷ more.0, more.1)) (xs, rest) a.2 in
+        let one = takes bytes a.0.0 a.0.1 fits a.1 in
+        let others = items_take takes n a.0.1 b.0.0 b.0.1 one.1.rest_fits b.1 in
+        let e : (a.0.0 ∷ b.0.0, b.0.1) ≡ (xs, rest) = some_is (a.0.0 ∷ b.0.0, b.0.1) (xs, rest) b.2 in
+        let P : List A × List ℕ → Type 0 = λ p. (length p.0 ≡ suc n) × (list_all is_sent p.0 ≡ true) × Takes bytes (flat_map spell p.0) p.1 in
+        let both_taken = Takes-then bytes (spell a.0.0) a.0.1 (flat_map spell b.0.0) b.0.1 one.1 others.2 in
+        subst P e (ap (λ (k : ℕ). suc k) others.0, all_sent (is_sent a.0.0) (list_all is_sent b.0.0) one.0 others.1, subst (λ (t : List ℕ). Takes bytes t b.0.1) (sym (flat_map-cons spell a.0.0 b.0.0)) both_taken)
+      where
+        all_sent : (p q : Bool) → p ≡ true → q ≡ true → (p && q) ≡ true
+        all_sent p q hp hq = rw (hp, hq) refl
+
+-- ---- items that are written one after another
+
+module _ {A : Type 0} (xs : List A) (i : ℕ) (x : A) (within : i < length xs) (is : x ≡ get_or xs i x) where
+  -- the item at a place, and what follows it
+  item_first : drop i xs ≡ x ∷ drop (i + 1) xs
+  item_first =
+      let next : suc i ≡ i + 1 = omega arith in
+      drop-cons xs i x within ∙ (λ k. sym is k ∷ drop (next k) xs)
+
+pub first_sent : {A : Type 0} (is_sent : A → Bool) (xs : List A) (i : ℕ) (x : A) → i < length xs → x ≡ get_or xs i x → list_all is_sent (drop i xs) ≡ true → is_sent x ≡ true
+first_sent is_sent xs i x within is sent = (both (is_sent x) (list_all is_sent (drop (i + 1) xs)) (sym (ap (list_all is_sent) (item_first xs i x within is)) ∙ sent)).0
+
+pub later_sent : {A : Type 0} (is_sent : A → Bool) (xs : List A) (i : ℕ) (x : A) → i < length xs → x ≡ get_or xs i x → list_all is_sent (drop i xs) ≡ true → list_all is_sent (drop (i + 1) xs) ≡ true
+later_sent is_sent xs i x within is sent = (both (is_sent x) (list_all is_sent (drop (i + 1) xs)) (sym (ap (list_all is_sent) (item_first xs i x within is)) ∙ sent)).1
+
+pub one_put : {A : Type 0} (spell : A → List ℕ) (xs : List A) (i : ℕ) (x : A) → i < length xs → x ≡ get_or xs i x → (old new total : List ℕ) → old ++ flat_map spell (drop i xs) ≡ total → new ≡ old ++ spell x
+    → new ++ flat_map spell (drop (i + 1) xs) ≡ total
+one_put spell xs i x within is old new total parts put =
+    let rest = flat_map spell (drop (i + 1) xs) in
+    ap (λ (t : List ℕ). t ++ rest) put ∙ append_assoc old (spell x) rest
+    ∙ ap (λ (t : List ℕ). old ++ t) (sym (ap (flat_map spell) (item_first xs i x within is) ∙ flat_map-cons spell x (drop (i + 1) xs))) ∙ parts

@@ -1,0 +1,5 @@
+pub mod Items
+pub mod Again
+pub mod Taken
+pub mod ExportLaws
+pub mod Written
