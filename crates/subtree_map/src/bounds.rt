@@ -1,8 +1,8 @@
 //! The bounds of a region.
-ghost use Rattle.std.specs.Prelude.{◌≡◌, ◌↔◌, IfOk, IsTrue};
+ghost use Rattle.std.specs.Prelude.{◌≡◌, ◌↔◌, IfOk, IsTrue, Some};
 ghost use Rattle.std.specs.List as list;
 ghost use Rattle.std.specs.FinMap as map;
-ghost use Rattle.subtree_map.specs.Authority.{IsBound, IsSubtrees, Leaf, leaf_cmp};
+ghost use Rattle.subtree_map.specs.Authority.{IsBound, Leaf, leaf_cmp};
 ghost use Rattle.subtree_map.specs.Climb.{IsNextBelow};
 
 use crate::climb::holder_of;
@@ -21,7 +21,6 @@ impl Subtrees {
         dir: Ino,
         frag: Frag,
     ) -> Result<Vec<(Ino, Frag)>, AllocError>
-        requires { IsSubtrees self.now.roots dirs.now.homes dirs.now.trees }
         ensures bounds { IfOk result (λ bounds. (bound : Leaf) → list.Contains bounds.items bound ↔ IsBound self.now.roots dirs.now.homes dirs.now.trees (dir, frag) bound) }
     {
         let mut bounds = Vec::new(alloc);
@@ -35,23 +34,24 @@ impl Subtrees {
 
     // Whether the dentry of a root's directory is held in the region of another.
     fn is_next_below(&self, dirs: &Dirs, root: &(Ino, Frag), bound: &(Ino, Frag)) -> bool
-        requires { IsSubtrees self.now.roots dirs.now.homes dirs.now.trees }
         ensures { IsTrue result ↔ IsNextBelow self.now.roots dirs.now.homes dirs.now.trees root.now bound.now }
     {
-        let _ = dirs.contains(bound.0);
         match dirs.get(bound.0) {
             Some(home) => {
                 let holder = holder_of(dirs, home);
-                are_same(&self.root_of(dirs, holder.0, holder.1), root)
+                is_at(self.find_root(dirs, holder.0, holder.1), root)
             }
             None => false,
         }
     }
 }
 
-// Whether two leaves are one.
-fn are_same(a: &(Ino, Frag), b: &(Ino, Frag)) -> bool
-    ensures { IsTrue result ↔ (a.now ≡ b.now) }
+// Whether a leaf was found, and it is this one.
+fn is_at(found: Option<(Ino, Frag)>, leaf: &(Ino, Frag)) -> bool
+    ensures { IsTrue result ↔ (found ≡ Some leaf.now) }
 {
-    a.0 == b.0 && a.1 == b.1
+    match found {
+        Some(other) => other.0 == leaf.0 && other.1 == leaf.1,
+        None => false,
+    }
 }

@@ -1,7 +1,8 @@
 //! The way up from a leaf: along the dentries of directories to the nearest root.
 ghost use Rattle.std.specs.Prelude.{◌≡◌, Some, None, MatchOption};
 ghost use Rattle.std.specs.FinMap as map;
-ghost use Rattle.subtree_map.specs.Authority.{HasAuthority, HoldsDentry, IsLeaf, IsSubtrees, NearestRoot};
+ghost use Rattle.subtree_map.specs.Authority.{HasAuthority, Leaf, HoldsDentry, IsLeaf, IsSubtrees, NearestRoot};
+ghost use Rattle.mds_types.specs.declared.ids.Rank.{Rank as RankNumber};
 ghost use Rattle.subtree_map.specs.Climb.{IsTop};
 
 use crate::subtrees::Subtrees;
@@ -17,9 +18,9 @@ impl Subtrees {
         requires valid { IsSubtrees self.now.roots dirs.now.homes dirs.now.trees }
         ensures { HasAuthority self.now.roots dirs.now.homes dirs.now.trees (dir, frag) result }
     {
-        let root = self.root_of(dirs, dir, frag);
-        match self.roots.get(&root) {
-            Some(rank) => *rank,
+        let _ = dirs.contains(dir);
+        match self.find_authority(dirs, dir, frag) {
+            Some(rank) => rank,
             None => unreachable!(),
         }
     }
@@ -32,11 +33,35 @@ impl Subtrees {
         ensures { NearestRoot self.now.roots dirs.now.homes dirs.now.trees (dir, frag) result }
     {
         let _ = dirs.contains(dir);
+        match self.find_root(dirs, dir, frag) {
+            Some(root) => root,
+            None => unreachable!(),
+        }
+    }
+
+    /// The authority of a leaf, of whatever map and fragment: none where no root is on the way up. Takes no memory.
+    pub fn find_authority(&self, dirs: &Dirs, dir: Ino, frag: Frag) -> Option<Rank>
+        ensures { MatchOption result ((rank : RankNumber) → HasAuthority self.now.roots dirs.now.homes dirs.now.trees (dir, frag) rank → ⊥) (HasAuthority self.now.roots dirs.now.homes dirs.now.trees (dir, frag)) }
+    {
+        let Some(root) = self.find_root(dirs, dir, frag) else {
+            return None;
+        };
+        self.get(root.0, root.1)
+    }
+
+    /// The nearest root of a leaf, of whatever map and fragment: none where no root is on the way up. Takes no memory.
+    pub fn find_root(&self, dirs: &Dirs, dir: Ino, frag: Frag) -> Option<(Ino, Frag)>
+        ensures { MatchOption result ((root : Leaf) → NearestRoot self.now.roots dirs.now.homes dirs.now.trees (dir, frag) root → ⊥) (NearestRoot self.now.roots dirs.now.homes dirs.now.trees (dir, frag)) }
+    {
+        let _ = dirs.contains(dir);
         let mut leaf = (dir, frag);
         while let Some(home) = self.above(dirs, &leaf) {
             leaf = holder_of(dirs, home);
         }
-        leaf
+        if !self.is_root(leaf.0, leaf.1) {
+            return None;
+        }
+        Some(leaf)
     }
 
     // Where the directory of a leaf that is no root stands.

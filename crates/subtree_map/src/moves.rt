@@ -1,7 +1,8 @@
 //! The roots where a directory moves.
-ghost use Rattle.std.specs.Prelude.{◌≡◌, ◌≢◌, ◌+◌, ◌^◌, ◌<◌, ◌≤◌, ◌⊎◌, Some, None, IsSome, OnOk, OnErr, IfErr, length};
+ghost use Rattle.std.specs.Prelude.{◌≡◌, ◌≢◌, ◌+◌, ◌^◌, ◌<◌, ◌≤◌, ◌⊎◌, Some, None, IsSome, IfSome, IfNone, OnOk, OnErr, IfErr, length};
 ghost use Rattle.std.specs.FinMap as map;
 ghost use Rattle.sorted_map.specs.SortedMap.{contents};
+ghost use Rattle.mds_types.specs.declared.ids.Rank.{Rank as RankNumber};
 ghost use Rattle.mds_types.specs.declared.refusals.Refusal.TheVariants.{NoMemory};
 ghost use Rattle.mds_types.specs.Frag.{span};
 ghost use Rattle.inode_table.specs.Dirs.{MayMove, leaves_of};
@@ -29,7 +30,6 @@ impl Subtrees {
         parent: Ino,
         name: &Name,
     ) -> Result<(), Refusal>
-        requires valid { IsSubtrees self.old.roots dirs.now.homes dirs.now.trees }
         requires may { MayMove dirs.now.homes dir.0 (record { parent = parent; name = name.now }) }
         ensures ok { OnOk result (HasRoomToMove self.new.roots self.new.room dirs.now.homes dirs.now.trees dir.0 (record { parent = parent; name = name.now })) }
         ensures roots { self.new.roots ≡ self.old.roots }
@@ -51,11 +51,10 @@ impl Subtrees {
     ///
     /// It is called before the directory table is told, since it asks whose the leaves are.
     pub fn after_rename(&mut self, dirs: &Dirs, dir: Ino, parent: Ino, name: &Name)
-        requires valid { IsSubtrees self.old.roots dirs.now.homes dirs.now.trees }
         requires may { MayMove dirs.now.homes dir.0 (record { parent = parent; name = name.now }) }
         requires room { HasRoomToMove self.old.roots self.old.room dirs.now.homes dirs.now.trees dir.0 (record { parent = parent; name = name.now }) }
-        ensures roots { IsSettled self.old.roots self.new.roots dirs.now.homes dirs.now.trees dir.0 (record { parent = parent; name = name.now }) }
-        ensures authority { MovesSoundly self.old.roots self.new.roots dirs.now.homes dirs.now.trees dir.0 (record { parent = parent; name = name.now }) }
+        ensures roots { IsSubtrees self.old.roots dirs.now.homes dirs.now.trees → IsSettled self.old.roots self.new.roots dirs.now.homes dirs.now.trees dir.0 (record { parent = parent; name = name.now }) }
+        ensures authority { IsSubtrees self.old.roots dirs.now.homes dirs.now.trees → MovesSoundly self.old.roots self.new.roots dirs.now.homes dirs.now.trees dir.0 (record { parent = parent; name = name.now }) }
         ensures promises { self.new.promises ≡ self.old.promises }
         ensures room { self.old.room ≤ self.new.room + length (leaves_of dirs.now.trees dir.0) }
     {
@@ -67,18 +66,24 @@ impl Subtrees {
 
     // The rank that a directory's leaves inherit, if they would inherit another at another place.
     fn lost_rank(&self, dirs: &Dirs, dir: Ino, parent: Ino, name: &Name) -> Option<Rank>
-        requires valid { IsSubtrees self.now.roots dirs.now.homes dirs.now.trees }
-        requires may { MayMove dirs.now.homes dir.0 (record { parent = parent; name = name.now }) }
-        ensures { IsLostRank self.now.roots dirs.now.homes dirs.now.trees dir.0 (record { parent = parent; name = name.now }) result }
+        requires { MayMove dirs.now.homes dir.0 (record { parent = parent; name = name.now }) }
+        ensures lost { IfSome result (λ rank. IsLostRank self.now.roots dirs.now.homes dirs.now.trees dir.0 (record { parent = parent; name = name.now }) (Some rank)) }
+        ensures none { IfNone result ((rank : RankNumber) → IsLostRank self.now.roots dirs.now.homes dirs.now.trees dir.0 (record { parent = parent; name = name.now }) (Some rank) → ⊥) }
+        ensures kept { IfNone result (IsSubtrees self.now.roots dirs.now.homes dirs.now.trees → IsLostRank self.now.roots dirs.now.homes dirs.now.trees dir.0 (record { parent = parent; name = name.now }) None) }
     {
         let _ = dirs.contains(dir);
         let Some(home) = dirs.get(dir) else {
             unreachable!();
         };
         let holder = holder_of(dirs, home);
-        let rank = self.authority(dirs, holder.0, holder.1);
         let leaf = dirs.pick(parent, rjenkins(name.as_bytes()));
-        if self.authority(dirs, parent, leaf) == rank {
+        let Some(rank) = self.find_authority(dirs, holder.0, holder.1) else {
+            return None;
+        };
+        let Some(other) = self.find_authority(dirs, parent, leaf) else {
+            return None;
+        };
+        if other == rank {
             return None;
         }
         Some(rank)

@@ -2,12 +2,8 @@ use Rattle.std.proofs.Common.{◌≡◌, sym, subst}
 use Rattle.inode_table.specs.declared.homes.Home.{Home}
 use Rattle.subtree_map.specs.Authority.{HoldsDentry, NearestRoot}
 use Rattle.subtree_map.proofs.LeafKeys.{one_value}
-use Rattle.subtree_map.proofs.Nearest.{holder_is_leaf, one_holder, one_root}
+use Rattle.subtree_map.proofs.Nearest.{found_at, nearest_of, one_holder}
 use Rattle.subtree_map.proofs.subtrees.Subtrees.is_next_below.Goals as goal
-
-pub root_of-requires-clause-leaf : goal.root_of-requires-clause-leaf
-root_of-requires-clause-leaf c =
-    holder_is_leaf c.args.dirs.now.homes c.args.dirs.now.trees c.contains.ensures.valid c.args.bound.now.0.0 c.in-Some.home.now c.holder_of-holder.result (sym c.in-Some.ensures) c.holder_of-holder.ensures
 
 pub returns-in-Some : goal.returns-in-Some
 returns-in-Some c = (
@@ -16,11 +12,11 @@ returns-in-Some c = (
     holder = c.holder_of-holder.result;
     stands = sym c.in-Some.ensures;
     holds = c.holder_of-holder.ensures;
-    nearest = subst (NearestRoot c.args.self.now.roots c.args.dirs.now.homes c.args.dirs.now.trees c.holder_of-holder.result) (c.are_same.ensures.0 told) c.root_of.ensures;
+    nearest = nearest_of c.args.self.now.roots c.args.dirs.now.homes c.args.dirs.now.trees c.holder_of-holder.result c.args.root.now c.find_root.result c.find_root.ensures (c.is_at.ensures.0 told);
   },
   λ is.
       let home_same : is.home ≡ c.in-Some.home.now = one_value _ is.home c.in-Some.home.now is.stands (sym c.in-Some.ensures) in
       let holder_same : is.holder ≡ c.holder_of-holder.result = one_holder c.args.dirs.now.trees c.in-Some.home.now is.holder c.holder_of-holder.result (subst (λ (h : Home). HoldsDentry c.args.dirs.now.trees h is.holder) home_same is.holds) c.holder_of-holder.ensures in
       let near = subst (λ k. NearestRoot c.args.self.now.roots c.args.dirs.now.homes c.args.dirs.now.trees k c.args.root.now) holder_same is.nearest in
-      c.are_same.ensures.1 (one_root c.args.self.now.roots c.args.dirs.now.homes c.args.dirs.now.trees c.holder_of-holder.result _ _ c.root_of.ensures near),
+      c.is_at.ensures.1 (found_at c.args.self.now.roots c.args.dirs.now.homes c.args.dirs.now.trees c.holder_of-holder.result c.args.root.now c.find_root.result c.find_root.ensures near),
 )
