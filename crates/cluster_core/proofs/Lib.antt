@@ -3,6 +3,7 @@ pub mod Dentries
 pub mod Divided
 pub mod EmptyFrags
 pub mod LeafChanges
+pub mod LeafFrames
 pub mod Offered
 pub mod Recovered
 pub mod RunLaws

@@ -47,7 +47,7 @@ module _ (f g : Fragments) (numbers : Supply) (inbox rest : List Request) (sessi
 
   -- a request that was prepared, and then applied
   module _ (taken : inbox ≡ request ∷ rest) (h : Fragments) (numbers_now : Supply) (sessions_now : Table) (now : List Entry) (IsReady : Change → Type 0) (prepared : Prepared) (answer : Answer)
-      (ready : IsPrepared (shown_by f.leaves) IsReady (step (shown_by f.leaves) front.op (number_or (offer numbers))) numbers prepared)
+      (ready : IsPrepared (shown_by f.leaves) f.covers IsReady front.op (step (shown_by f.leaves) front.op (number_or (offer numbers))) numbers prepared)
       (tree : shown_by h.leaves ≡ after_plan (shown_by g.leaves) prepared.plan.change)
       (leaves : CarryLeaves (shown_by g.leaves) (shown_by h.leaves) g.covers h.covers)
       (appended : now ≡ middle ++ record { client = request.client; tid = request.tid; oldest = request.oldest; op = request.op; number = prepared.plan.number; reply = prepared.plan.reply } ∷ [])
@@ -57,10 +57,10 @@ module _ (f g : Fragments) (numbers : Supply) (inbox rest : List Request) (sessi
     front_same : front ≡ request
     front_same = same_some front request (front_is ∙ ap (λ xs. slice_get xs 0) taken)
 
-    planned : IsPrepared (shown old) IsReady (outcome_of old request) numbers prepared
+    planned : IsPrepared (shown old) f.covers IsReady request.op (outcome_of old request) numbers prepared
     planned =
-        subst (λ (t : Tree). IsPrepared t IsReady (step t request.op (number_or (offer numbers))) numbers prepared) (sym (tree_is f.leaves))
-        (subst (λ (r : Request). IsPrepared (shown_by f.leaves) IsReady (step (shown_by f.leaves) r.op (number_or (offer numbers))) numbers prepared) front_same ready)
+        subst (λ (t : Tree). IsPrepared t f.covers IsReady request.op (step t request.op (number_or (offer numbers))) numbers prepared) (sym (tree_is f.leaves))
+        (subst (λ (r : Request). IsPrepared (shown_by f.leaves) f.covers IsReady r.op (step (shown_by f.leaves) r.op (number_or (offer numbers))) numbers prepared) front_same ready)
 
     abbrev entry : Option Ino → Replied → Entry
     entry number reply = record { client = request.client; tid = request.tid; oldest = request.oldest; op = request.op; number = number; reply = reply }

@@ -11,9 +11,8 @@ use Rattle.fragtree.specs.FragTree.{IsTree, IsPick}
 use Rattle.namehash.specs.Rjenkins.{hash_of}
 use Rattle.inode_table.specs.Dirs.{Homes, Covers, IsTable, leaves_of, or_whole}
 use Rattle.leaf_maps.specs.Leaves.{Leaves, names_in, shown_by, ArePlaced, HavePicks}
-use Rattle.leaf_maps.specs.Changes.{IsRewritten, HasRoom}
+use Rattle.leaf_maps.specs.Changes.{IsRewritten}
 use Rattle.leaf_maps.specs.ShownLaws.{placed_after, shown_after}
-use Rattle.cluster_core.specs.LeafFrags.{HasRoomAt}
 
 -- `*` alone covers every hash
 root_is_tree : IsTree (root_fragment ∷ [])
@@ -49,11 +48,3 @@ module _ (covers : Covers) (old new : Leaves) (picks : HavePicks covers) (placed
   pub taken_shown : shown_by new ≡ map.remove (shown_by old) place
   taken_shown = shown_after covers old new picks placed place.dir.0 f place.name pick None (map.remove (names_in old place.dir.0 f) place.name) taken (get-remove nat_list_cmp_total (names_in old place.dir.0 f) place.name)
       (map.remove (shown_by old) place) (get-remove place-total (shown_by old) place)
-
--- room in the leaf that a name picks is room at its place
-pub room_at : (covers : Covers) (leaves : Leaves) (place : Place) (f : Fragment) → IsPick (leaves_of covers place.dir.0) (hash_of place.name) f → HasRoom leaves place.dir.0 f → HasRoomAt covers leaves place
-room_at covers leaves place f pick room g other = subst (λ h. HasRoom leaves place.dir.0 h) (sym (pick.alone g other.stands other.contains)) room
-
-pub room_told : {B : Type 0} (covers : Covers) (leaves : Leaves) (place : Place) (f : Fragment) (result : Result (Unit {0}) B) → IsPick (leaves_of covers place.dir.0) (hash_of place.name) f → OnOk result (HasRoom leaves place.dir.0 f) → OnOk result (HasRoomAt covers leaves place)
-room_told covers leaves place f (Ok done) pick room = room_at covers leaves place f pick room
-room_told covers leaves place f (Err error) pick room = tt

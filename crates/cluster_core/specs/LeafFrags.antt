@@ -4,13 +4,9 @@ use Rattle.std.specs.Ordering.{nat_cmp}
 use Rattle.std.specs.Cmp.Lexicographic.{slice_cmp}
 use Rattle.std.specs.FinMap as map
 use Rattle.sorted_map.specs.SortedMap.{contents}
-use Rattle.mds_types.specs.declared.places.Place.{Place}
 use Rattle.mds_types.specs.declared.inodes.Inode.{Inode}
-use Rattle.mds_types.specs.Frag.{Fragment}
 use Rattle.mds_types.specs.Tree.{is_dir_kind}
-use Rattle.fragtree.specs.FragTree.{IsPick}
-use Rattle.namehash.specs.Rjenkins.{hash_of}
-use Rattle.inode_table.specs.Dirs.{Homes, Covers, Table, IsTable, leaves_of}
+use Rattle.inode_table.specs.Dirs.{Homes, Covers, Table, IsTable}
 use Rattle.namespace_ops.specs.declared.plans.Change.{Change}
 use Rattle.namespace_ops.specs.declared.plans.Change.TheVariants.{Add, Set, Remove, Move}
 use Rattle.inode_table.specs.TreeTable.{IsTabled}
@@ -19,7 +15,7 @@ use Rattle.leaf_maps.specs.Changes.{HasRoom}
 use Rattle.mds_types.specs.declared.requests.Request.{Request}
 use Rattle.inode_table.specs.Numbers.{Supply}
 use Rattle.sessions.specs.Table.{Table as Sessions}
-use Rattle.cluster_core.specs.State.{Dentries, State}
+use Rattle.cluster_core.specs.State.{Dentries, State, names_at}
 
 -- a leaf with its names before others, if it has any
 abbrev pub with_names : Leaf → Names → List (List ℕ × Inode) → List (Leaf × Names) → List (Leaf × Names)
@@ -67,13 +63,13 @@ pub record IsSoundTree (homes : Homes) (covers : Covers) (leaves : Leaves) : Typ
   -- the tree is well formed, and the table is that of the tree
   pub tabled : IsTabled (shown_by leaves) homes
 
--- the leaf that a place's name picks takes one more name with no growth
-abbrev pub HasRoomAt : Covers → Leaves → Place → Type 0
-HasRoomAt covers leaves place = (f : Fragment) → IsPick (leaves_of covers place.dir.0) (hash_of place.name) f → HasRoom leaves place.dir.0 f
+-- a leaf has the names that it had
+abbrev pub HasNamesOf : Leaves → Leaves → Leaf → Type 0
+HasNamesOf old new leaf = names_at (dentries_of new) leaf.0.0 leaf.1 ≡ names_at (dentries_of old) leaf.0.0 leaf.1
 
 -- the change can be made with no growth: there is room in the leaf of a name that comes, and for a new home with its name
 abbrev pub IsReady : Fragments → Change → Type 0
-IsReady f (Add place inode) = HasRoomAt f.covers f.leaves place × (is_dir_kind inode.kind ≡ true → (0 < f.dirs_left) × (f.spare ≡ Some place.name))
-IsReady f (Set place inode) = Unit {0}
-IsReady f (Remove place) = Unit {0}
-IsReady f (Move from to) = HasRoomAt f.covers f.leaves to × (f.spare ≡ Some to.name)
+IsReady f (Add place leaf inode) = HasRoom f.leaves place.dir.0 leaf × (is_dir_kind inode.kind ≡ true → (0 < f.dirs_left) × (f.spare ≡ Some place.name))
+IsReady f (Set place leaf inode) = Unit {0}
+IsReady f (Remove place leaf gone) = Unit {0}
+IsReady f (Move from source to target gone) = HasRoom f.leaves to.dir.0 target × (f.spare ≡ Some to.name)

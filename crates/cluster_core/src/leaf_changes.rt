@@ -1,6 +1,6 @@
 //! Changes of a cluster's fragments: of the names in their leaves and, where a directory comes, goes or moves, of the
 //! directory table. None of them takes memory.
-ghost use Rattle.std.specs.Prelude.{◌≡◌, ◌<◌, true, Some};
+ghost use Rattle.std.specs.Prelude.{◌≡◌, ◌<◌, ◌∷◌, [], true, Some};
 ghost use Rattle.std.specs.Option.{option_copied};
 ghost use Rattle.std.specs.FinMap as map;
 ghost use Rattle.mds_types.specs.declared.inodes.Inode.{Inode as Node};
@@ -10,16 +10,17 @@ ghost use Rattle.mds_types.specs.DirectoryLaws.{NothingIn};
 ghost use Rattle.mds_types.specs.MovedLaws.{IsMove};
 ghost use Rattle.inode_table.specs.Dirs.{IsChildless, IsTable};
 ghost use Rattle.inode_table.specs.TreeChanges.{KeepLeaves, MayAdd, MaySet, MayRemove};
-ghost use Rattle.namespace_ops.specs.Changes.{moved};
+ghost use Rattle.namespace_ops.specs.Changes.{IsLeafAt, moved};
+ghost use Rattle.namespace_ops.specs.Kept.{ChangesOnly};
 ghost use Rattle.inode_table.specs.TreeTable.{without_cover, without_home};
 ghost use Rattle.leaf_maps.specs.Leaves.{ArePlaced, names_in, shown_by};
-ghost use Rattle.leaf_maps.specs.Changes.{HaveSameNames};
-ghost use Rattle.cluster_core.specs.LeafFrags.{HasRoomAt, IsSoundTree};
+ghost use Rattle.leaf_maps.specs.Changes.{HasRoom, HaveSameNames};
+ghost use Rattle.cluster_core.specs.LeafFrags.{HasNamesOf, IsSoundTree};
 
 use crate::picks::{each_hash_has_a_leaf, put_at, take_from};
 use inode_table::{Dirs, adopt_dir, drop_dir, relocate_dir};
 use leaf_maps::LeafMaps;
-use mds_types::{Inode, Name, Place};
+use mds_types::{Frag, Inode, Name, Place};
 
 /// Puts a new inode at a place. `spare` has the name of the place where the inode is a directory.
 pub fn add_entry(
@@ -27,39 +28,49 @@ pub fn add_entry(
     dirs: &mut Dirs,
     spare: &mut Option<Name>,
     place: Place,
+    leaf: Frag,
     inode: Inode,
 )
     requires sound { IsSoundTree dirs.old.homes dirs.old.trees leaves.old }
-    requires room { HasRoomAt dirs.old.trees leaves.old place }
+    requires leaf { IsLeafAt dirs.old.trees place leaf }
+    requires room { HasRoom leaves.old place.dir.0 leaf }
     requires ready { is_dir_kind inode.kind ≡ true → (0 < dirs.old.room) × (spare.old ≡ Some place.name) }
     requires may { MayAdd (shown_by leaves.old) place inode }
     ensures tree { shown_by leaves.new ≡ map.insert (shown_by leaves.old) place inode }
     ensures sound { IsSoundTree dirs.new.homes dirs.new.trees leaves.new }
     ensures leaves { KeepLeaves (shown_by leaves.new) dirs.old.trees dirs.new.trees }
+    ensures frame { ChangesOnly (HasNamesOf leaves.old leaves.new) ((place.dir, leaf) ∷ []) }
 {
+    each_hash_has_a_leaf();
     adopt_dir(dirs, spare, &place, &inode);
-    put_at(leaves, dirs, place, inode);
+    put_at(leaves, dirs, place, leaf, inode);
 }
 
 /// Gives the inode at a place other attributes.
-pub fn set_entry(leaves: &mut LeafMaps, dirs: &Dirs, place: Place, inode: Inode)
+pub fn set_entry(leaves: &mut LeafMaps, dirs: &Dirs, place: Place, leaf: Frag, inode: Inode)
     requires sound { IsSoundTree dirs.now.homes dirs.now.trees leaves.old }
+    requires leaf { IsLeafAt dirs.now.trees place leaf }
     requires may { MaySet (shown_by leaves.old) place inode }
     ensures tree { shown_by leaves.new ≡ map.insert (shown_by leaves.old) place inode }
     ensures sound { IsSoundTree dirs.now.homes dirs.now.trees leaves.new }
+    ensures frame { ChangesOnly (HasNamesOf leaves.old leaves.new) ((place.dir, leaf) ∷ []) }
 {
-    put_at(leaves, dirs, place, inode);
+    each_hash_has_a_leaf();
+    put_at(leaves, dirs, place, leaf, inode);
 }
 
 /// Takes the entry at a place away. Of a directory that goes nothing is kept.
-pub fn remove_entry(leaves: &mut LeafMaps, dirs: &mut Dirs, place: &Place)
+pub fn remove_entry(leaves: &mut LeafMaps, dirs: &mut Dirs, place: &Place, leaf: Frag)
     requires sound { IsSoundTree dirs.old.homes dirs.old.trees leaves.old }
+    requires leaf { IsLeafAt dirs.old.trees place.now leaf }
     requires may { MayRemove (shown_by leaves.old) place.now }
     ensures tree { shown_by leaves.new ≡ map.remove (shown_by leaves.old) place.now }
     ensures sound { IsSoundTree dirs.new.homes dirs.new.trees leaves.new }
     ensures leaves { KeepLeaves (shown_by leaves.new) dirs.old.trees dirs.new.trees }
+    ensures frame { ChangesOnly (HasNamesOf leaves.old leaves.new) ((place.now.dir, leaf) ∷ []) }
 {
-    let gone = take_from(leaves, dirs, place);
+    each_hash_has_a_leaf();
+    let gone = take_from(leaves, dirs, place, leaf);
     drop_leaves(leaves, dirs, gone.as_ref());
 }
 
@@ -69,22 +80,28 @@ pub fn move_entry(
     dirs: &mut Dirs,
     spare: &mut Option<Name>,
     from: &Place,
+    source: Frag,
     to: Place,
+    target: Frag,
 )
     requires sound { IsSoundTree dirs.old.homes dirs.old.trees leaves.old }
-    requires room { HasRoomAt dirs.old.trees leaves.old to }
+    requires source { IsLeafAt dirs.old.trees from.now source }
+    requires target { IsLeafAt dirs.old.trees to target }
+    requires room { HasRoom leaves.old to.dir.0 target }
     requires ready { spare.old ≡ Some to.name }
     requires may { (inode : Node) × IsMove (shown_by leaves.old) from.now to inode }
     ensures tree { shown_by leaves.new ≡ moved (shown_by leaves.old) from.now to (map.get (shown_by leaves.old) from.now) }
     ensures sound { IsSoundTree dirs.new.homes dirs.new.trees leaves.new }
     ensures leaves { KeepLeaves (shown_by leaves.new) dirs.old.trees dirs.new.trees }
+    ensures frame { ChangesOnly (HasNamesOf leaves.old leaves.new) ((from.now.dir, source) ∷ (to.dir, target) ∷ []) }
 {
-    let Some(inode) = take_from(leaves, dirs, from) else {
+    each_hash_has_a_leaf();
+    let Some(inode) = take_from(leaves, dirs, from, source) else {
         unreachable!()
     };
     relocate_dir(dirs, spare, &to, &inode);
-    let replaced = take_from(leaves, dirs, &to);
-    put_at(leaves, dirs, to, inode);
+    let replaced = take_from(leaves, dirs, &to, target);
+    put_at(leaves, dirs, to, target, inode);
     drop_leaves(leaves, dirs, replaced.as_ref());
 }
 
@@ -97,6 +114,7 @@ fn drop_leaves(leaves: &mut LeafMaps, dirs: &mut Dirs, gone: Option<&Inode>)
     ensures homes { dirs.new.homes ≡ without_home dirs.old.homes (option_copied gone.entry) }
     ensures trees { dirs.new.trees ≡ without_cover dirs.old.trees (option_copied gone.entry) }
     ensures tree { shown_by leaves.new ≡ shown_by leaves.old }
+    ensures names { HaveSameNames leaves.old leaves.new }
     ensures placed { ArePlaced dirs.new.trees leaves.new }
     ensures table { IsTable dirs.new.homes dirs.new.trees }
 {

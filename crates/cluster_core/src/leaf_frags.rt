@@ -6,14 +6,18 @@ ghost use Rattle.mds_types.specs.Tree.{at};
 ghost use Rattle.leaf_maps.specs.Leaves.{ArePlaced, shown_by};
 ghost use Rattle.leaf_maps.specs.Changes.{HaveSameNames};
 ghost use Rattle.inode_table.specs.TreeChanges.{KeepLeaves};
-ghost use Rattle.namespace_ops.specs.Changes.{IsReadyFor, MayChange, changed};
+ghost use Rattle.namespace_ops.specs.Changes.{MayChange, changed, fragments_in, fragments_of};
 ghost use Rattle.namespace_ops.specs.Planned.{IsReadyToChange, after_plan};
 ghost use Rattle.cluster_core.specs.Serve.{CarryLeaves};
-ghost use Rattle.cluster_core.specs.LeafFrags.{IsReady, dentries_of, fragments};
+ghost use Rattle.cluster_core.specs.LeafFrags.{HasNamesOf, IsReady, dentries_of, fragments};
+ghost use Rattle.namespace_ops.specs.Kept.{ChangesOnly};
+ghost use Rattle.fragtree.specs.FragTree.{IsPick};
+ghost use Rattle.namehash.specs.Rjenkins.{hash_of};
+ghost use Rattle.inode_table.specs.Dirs.{leaves_of};
 ghost use Rattle.cluster_core.specs.Sound.{IsDivided};
 
 use crate::leaf_changes::{add_entry, move_entry, remove_entry, set_entry};
-use crate::picks::{leaf_of, look_at, make_room};
+use crate::picks::{leaf_of, look_at};
 use inode_table::Dirs;
 use leaf_maps::LeafMaps;
 use mds_types::{Frag, Ino, Inode, Listing, Name, Op, PageSize, Refusal};
@@ -70,10 +74,11 @@ impl LeafFrags {
 impl LeafFrags {
     /// Makes a change that was planned. It can't fail.
     pub fn carry_out(&mut self, change: Option<Change>)
-        requires ready { IsReadyToChange (shown_by self.old.leaves) (IsReady self.old) change }
+        requires ready { IsReadyToChange (shown_by self.old.leaves) self.old.covers (IsReady self.old) change }
         requires divided { IsDivided self.old.homes self.old.covers (dentries_of self.old.leaves) }
         ensures tree { shown_by self.new.leaves ≡ after_plan (shown_by self.old.leaves) change }
         ensures leaves { CarryLeaves (shown_by self.old.leaves) (shown_by self.new.leaves) self.old.covers self.new.covers }
+        ensures frame { ChangesOnly (HasNamesOf self.old.leaves self.new.leaves) (fragments_in self.old.covers change) }
         ensures divided { IsDivided self.new.homes self.new.covers (dentries_of self.new.leaves) }
     {
         if let Some(change) = change {
@@ -84,9 +89,10 @@ impl LeafFrags {
     // Makes a change that may be made and was made ready.
     fn apply(&mut self, change: Change)
         requires ready { IsReady self.old change }
-        requires may { MayChange (shown_by self.old.leaves) change }
+        requires may { MayChange (shown_by self.old.leaves) self.old.covers change }
         ensures changed { shown_by self.new.leaves ≡ changed (shown_by self.old.leaves) change }
         ensures leaves { KeepLeaves (shown_by self.new.leaves) self.old.covers self.new.covers }
+        ensures frame { ChangesOnly (HasNamesOf self.old.leaves self.new.leaves) (fragments_of self.old.covers change) }
         ensures divided { IsDivided self.new.homes self.new.covers (dentries_of self.new.leaves) }
     {
         let LeafFrags {
@@ -96,10 +102,18 @@ impl LeafFrags {
             ..
         } = self;
         match change {
-            Change::Add { place, inode } => add_entry(leaves, dirs, spare, place, inode),
-            Change::Set { place, inode } => set_entry(leaves, dirs, place, inode),
-            Change::Remove { place } => remove_entry(leaves, dirs, &place),
-            Change::Move { from, to } => move_entry(leaves, dirs, spare, &from, to),
+            Change::Add { place, leaf, inode } => {
+                add_entry(leaves, dirs, spare, place, leaf, inode)
+            }
+            Change::Set { place, leaf, inode } => set_entry(leaves, dirs, place, leaf, inode),
+            Change::Remove { place, leaf, .. } => remove_entry(leaves, dirs, &place, leaf),
+            Change::Move {
+                from,
+                source,
+                to,
+                target,
+                ..
+            } => move_entry(leaves, dirs, spare, &from, source, to, target),
         }
     }
 }
@@ -114,10 +128,11 @@ impl fmt::Debug for LeafFrags {
 
 impl Frags for LeafFrags {
     ghost use Rattle.std.specs.Prelude.{◌≡◌, refl};
-    ghost use Rattle.std.proofs.Common.{◌∙◌};
+    ghost use Rattle.std.proofs.Common.{ap, ◌∙◌};
     ghost use Rattle.mds_types.specs.declared.refusals.Refusal.TheVariants.{NoMemory};
     ghost use Rattle.namespace_ops.specs.Reasons.{refused_for_memory};
-    ghost use Rattle.cluster_core.specs.LeafFrags.{IsAsBefore, IsReady as IsReadyIn};
+    ghost use Rattle.cluster_core.specs.LeafFrags.{HasNamesOf, IsAsBefore, IsReady as IsReadyIn};
+    ghost use Rattle.cluster_core.specs.State.{names_at};
 
     ghost content = { λ f. shown_by f.leaves };
 
@@ -127,15 +142,21 @@ impl Frags for LeafFrags {
 
     ghost Follows = { IsAsBefore };
 
-    ghost MayRefuse = { λ a b reason. reason ≡ NoMemory };
+    ghost Unchanged = { λ a b leaf. HasNamesOf a.leaves b.leaves leaf };
+
+    ghost MayRefuse = { λ a b op reason. reason ≡ NoMemory };
 
     ghost follows_self = { λ a. record { homes = refl; covers = refl; dentries = refl } };
 
+    ghost unchanged_by = { λ a b leaf same. ap (λ d. names_at d leaf.0.0 leaf.1) same.dentries };
+
+    ghost unchanged_on = { λ a b c leaf p q. q ∙ p };
+
     ghost follows_on = { λ a b c p q. record { homes = q.homes ∙ p.homes; covers = q.covers ∙ p.covers; dentries = q.dentries ∙ p.dentries } };
 
-    ghost refused_on = { λ a b c reason p because. because };
+    ghost refused_on = { λ a b c op reason p because. because };
 
-    ghost refused_for = { refused_for_memory _ };
+    ghost refused_for = { λ a b op reason because. refused_for_memory _ a b reason because };
 
     fn is_dir(&self, dir: Ino) -> bool {
         self.dirs.contains(dir)
@@ -150,16 +171,26 @@ impl Frags for LeafFrags {
     }
 
     fn leaves(&self, alloc: Global, dir: Ino) -> Result<Vec<Frag>, Refusal> {
-        Ok(self.dirs.tree(alloc, dir)?.leaves(alloc)?)
+        let tree = self.dirs.tree(alloc, dir)?;
+        // of a tree that is asked for its length its leaves are known to cover every hash
+        let _ = tree.len();
+        Ok(tree.leaves(alloc)?)
     }
 
-    fn look(&mut self, dir: Ino, name: &Name) -> Result<Option<Inode>, Refusal> {
-        Ok(inode_at(&self.leaves, &self.dirs, dir, name)?)
+    fn look(
+        &mut self,
+        _op: &Op,
+        dir: Ino,
+        leaf: Frag,
+        name: &Name,
+    ) -> Result<Option<Inode>, Refusal> {
+        Ok(inode_at(&self.leaves, &self.dirs, dir, leaf, name)?)
     }
 
     fn list_after(
         &mut self,
         alloc: Global,
+        _op: &Op,
         dir: Ino,
         after: Option<&Name>,
         max: PageSize,
@@ -167,18 +198,18 @@ impl Frags for LeafFrags {
         Ok(self.leaves.list_after(alloc, dir, after, max)?)
     }
 
-    fn is_empty(&mut self, dir: Ino) -> Result<bool, Refusal> {
+    fn is_empty(&mut self, _op: &Op, dir: Ino) -> Result<bool, Refusal> {
         Ok(self.leaves.is_empty(dir))
     }
 
-    fn ready(&mut self, op: &Op) -> Result<(), Refusal> {
+    fn ready(&mut self, _op: &Op, change: &Change) -> Result<(), Refusal> {
         let LeafFrags {
             leaves,
             dirs,
             spare,
             alloc,
         } = self;
-        make_ready(*alloc, leaves, dirs, spare, op)
+        make_ready(*alloc, leaves, dirs, spare, change)
     }
 
     fn change(&mut self, change: Change) {
@@ -191,49 +222,46 @@ fn inode_at(
     leaves: &LeafMaps,
     dirs: &Dirs,
     dir: Ino,
+    leaf: Frag,
     name: &Name,
 ) -> Result<Option<Inode>, AllocError>
-    requires { ArePlaced dirs.now.trees leaves.now }
+    requires placed { ArePlaced dirs.now.trees leaves.now }
+    requires leaf { IsPick (leaves_of dirs.now.trees dir.0) (hash_of name.now) leaf }
     ensures { IfOk result (λ found. found ≡ at (shown_by leaves.now) dir.0 name.now) }
 {
-    match look_at(leaves, dirs, dir, name) {
+    match look_at(leaves, dirs, dir, leaf, name) {
         Some(inode) => Ok(Some(inode.try_clone()?)),
         None => Ok(None),
     }
 }
 
-// Makes every growth that an operation could need: room in the leaf of a name that comes, and for a directory's home.
+// Makes every growth that a change needs: room in the leaf of a name that comes, and for a directory's home.
 fn make_ready(
     alloc: Global,
     leaves: &mut LeafMaps,
     dirs: &mut Dirs,
     spare: &mut Option<Name>,
-    op: &Op,
+    change: &Change,
 ) -> Result<(), Refusal>
-    ensures ready { OnOk result (IsReadyFor (IsReady (fragments dirs.new leaves.new spare.new)) op.now) }
+    ensures ready { OnOk result (IsReady (fragments dirs.new leaves.new spare.new) change.now) }
     ensures names { HaveSameNames leaves.old leaves.new }
     ensures homes { dirs.new.homes ≡ dirs.old.homes }
     ensures trees { dirs.new.trees ≡ dirs.old.trees }
     ensures err { IfErr result (λ reason. reason ≡ NoMemory) }
 {
-    match op {
-        Op::Create { dir, name, .. } | Op::Symlink { dir, name, .. } => {
-            make_room(alloc, leaves, dirs, *dir, name)?;
+    match change {
+        Change::Add { place, leaf, inode } => {
+            leaves.reserve(alloc, place.dir, *leaf)?;
+            if inode.kind.is_dir() {
+                *spare = Some(place.name.try_clone()?);
+                return dirs.reserve();
+            }
         }
-        Op::Mkdir { dir, name, .. } => {
-            make_room(alloc, leaves, dirs, *dir, name)?;
-            *spare = Some(name.try_clone()?);
-            return dirs.reserve();
+        Change::Move { to, target, .. } => {
+            leaves.reserve(alloc, to.dir, *target)?;
+            *spare = Some(to.name.try_clone()?);
         }
-        Op::Rename {
-            to_dir,
-            to_name,
-            ..
-        } => {
-            make_room(alloc, leaves, dirs, *to_dir, to_name)?;
-            *spare = Some(to_name.try_clone()?);
-        }
-        _ => {}
+        Change::Set { .. } | Change::Remove { .. } => {}
     }
     Ok(())
 }

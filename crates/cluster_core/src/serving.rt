@@ -3,6 +3,7 @@ ghost use Rattle.std.specs.Prelude.{◌≡◌, ◌<◌, ◌++◌, ◌∷◌, [],
 ghost use Rattle.mds_types.specs.Step.{step, number_or};
 ghost use Rattle.inode_table.specs.Numbers.{offer};
 ghost use Rattle.namespace_ops.specs.Changes.{IsOffered};
+ghost use Rattle.namespace_ops.specs.Kept.{KeepsAll};
 ghost use Rattle.namespace_ops.specs.Planned.{IsReadyToChange, after_plan};
 ghost use Rattle.namespace_ops.specs.Served.{IsRefused};
 ghost use Rattle.sessions.specs.Table.{IsTableOf, noted, trimmed};
@@ -50,15 +51,13 @@ pub fn prepare<F: Frags>(
     requires { IsOffered (F.content frags.old) (offer numbers) }
     ensures prepared { let outcome = step (F.content frags.old) op.now (number_or (offer numbers)) in
         MatchResult result
-        (IsPrepared (F.content frags.old) (F.IsReady frags.new) outcome numbers)
-        (IsRefused (F.content frags.old) (F.content frags.new) (F.MayRefuse frags.old frags.new) outcome (offer numbers)) }
+        (IsPrepared (F.content frags.old) (F.covers frags.old) (F.IsReady frags.new) op.now outcome numbers)
+        (IsRefused (F.content frags.old) (F.content frags.new) (F.MayRefuse frags.old frags.new op.now) outcome (offer numbers)) }
     ensures room { OnOk result (vec_len history.new < vec_capacity history.new) }
     ensures reserved { OnOk result (IsReady sessions.new client) }
     ensures past { history.new.items ≡ history.old.items }
     ensures known { table sessions.new ≡ table sessions.old }
-    ensures same { F.content frags.new ≡ F.content frags.old }
-    ensures leaves { F.covers frags.new ≡ F.covers frags.old }
-    ensures follows { F.Follows frags.old frags.new }
+    ensures kept { KeepsAll (F.content frags.old) (F.content frags.new) (F.covers frags.old) (F.covers frags.new) (F.Follows frags.old frags.new) }
 {
     history.reserve(1)?;
     sessions.reserve(alloc, client)?;
@@ -83,7 +82,7 @@ pub fn commit(
     request: Request,
     prepared: Prepared,
 ) -> Answer
-    requires ready { IsReadyToChange (shown_by frags.old.leaves) (IsReadyIn frags.old) prepared.plan.change }
+    requires ready { IsReadyToChange (shown_by frags.old.leaves) frags.old.covers (IsReadyIn frags.old) prepared.plan.change }
     requires room { vec_len history.old < vec_capacity history.old }
     requires reserved { IsReady sessions.old request.client }
     requires divided { IsDivided frags.old.homes frags.old.covers (dentries_of frags.old.leaves) }

@@ -1,4 +1,4 @@
-pub mod OneEntry
+pub mod ChangedLaws
+pub mod CheckedParts
+pub mod Members
 pub mod PlanParts
-pub mod Rows
-pub mod Unused

@@ -1,45 +1,42 @@
 -- The fragments that an operation would change.
-use Rattle.std.specs.Prelude.{ℕ, cond, List, [], ◌∷◌, map as map_list, Option, Some, None}
+use Rattle.std.specs.Prelude.{◌↔◌, ℕ, cond, List, [], ◌∷◌, Option, Some, None}
+use Rattle.std.specs.List.{Contains}
 use Rattle.std.specs.Ordering.{eq_by_cmp}
 use Rattle.std.specs.FinMap as map
-use Rattle.mds_types.specs.declared.ids.Ino.{Ino}
 use Rattle.mds_types.specs.declared.places.Place.{Place}
 use Rattle.mds_types.specs.declared.inodes.Inode.{Inode}
 use Rattle.mds_types.specs.declared.operations.Op.{Op}
 use Rattle.mds_types.specs.declared.operations.Op.TheVariants.{Lookup, Readdir, Create, Mkdir, Readlink, Symlink, Setattr, Unlink, Rmdir, Rename}
 use Rattle.mds_types.specs.declared.replies.Reply.{Reply}
-use Rattle.mds_types.specs.Frag.{Fragment}
 use Rattle.mds_types.specs.Tree.{Tree, place_cmp, place_of, at, is_dir_kind}
 use Rattle.mds_types.specs.Step.{step}
 use Rattle.mds_types.specs.StepLaws.{is_errno}
 use Rattle.namehash.specs.Rjenkins.{hash_of}
 use Rattle.inode_table.specs.Dirs.{Covers, leaves_of}
+use Rattle.mds_types.specs.declared.ids.Ino.{Ino}
+use Rattle.fragtree.specs.FragTree.{IsTree}
+use Rattle.namespace_ops.specs.declared.plans.Change.{Change}
+use Rattle.namespace_ops.specs.declared.plans.Change.TheVariants.{Add, Set, Remove, Move}
+use Rattle.namespace_ops.specs.Kept.{Leaf}
+use Rattle.namespace_ops.specs.Changes.{in_directory, leaves}
 use Rattle.namespace_ops.specs.Picks.{pick_of}
 
--- a fragment with its directory
-abbrev pub in_directory : ℕ → Fragment → Ino × Fragment
-in_directory dir f = (record { 0 = dir }, f)
-
--- all leaves of a directory, by value
-abbrev pub leaves : Covers → ℕ → List (Ino × Fragment)
-leaves covers dir = map_list (in_directory dir) (leaves_of covers dir)
-
 -- the fragment of a name: the leaf that contains its hash
-abbrev pub fragment_of : Covers → ℕ → List ℕ → Ino × Fragment
+abbrev pub fragment_of : Covers → ℕ → List ℕ → Leaf
 fragment_of covers dir name = in_directory dir (pick_of (leaves_of covers dir) (hash_of name))
 
 -- all leaves of what stands at a place, if that is a directory
-abbrev pub leaves_at : Covers → Option Inode → List (Ino × Fragment)
+abbrev pub leaves_at : Covers → Option Inode → List Leaf
 leaves_at covers None = []
 leaves_at covers (Some inode) = cond (is_dir_kind inode.kind) (leaves covers inode.ino.0) []
 
 -- the fragments that a rename changes: none, if it leads to its own place; otherwise those of both dentries, and all of a directory that it replaces
-abbrev pub moved_fragments : Covers → Tree → Place → Place → List (Ino × Fragment)
+abbrev pub moved_fragments : Covers → Tree → Place → Place → List Leaf
 moved_fragments covers tree from to =
     cond (eq_by_cmp place_cmp from to) [] (fragment_of covers from.dir.0 from.name ∷ fragment_of covers to.dir.0 to.name ∷ leaves_at covers (map.get tree to))
 
 -- the fragments that an operation changes where it succeeds: those of its dentries, and all of a directory that goes
-abbrev pub touched : Covers → Tree → Op → List (Ino × Fragment)
+abbrev pub touched : Covers → Tree → Op → List Leaf
 touched covers tree (Lookup dir name) = []
 touched covers tree (Readdir dir after max) = []
 touched covers tree (Readlink dir name) = []
@@ -52,9 +49,31 @@ touched covers tree (Rmdir dir name) = fragment_of covers dir.0 name ∷ leaves_
 touched covers tree (Rename dir name to_dir to_name) = moved_fragments covers tree (place_of dir.0 name) (place_of to_dir.0 to_name)
 
 -- an errno changes none
-abbrev pub unless_errno : Reply → List (Ino × Fragment) → List (Ino × Fragment)
+abbrev pub unless_errno : Reply → List Leaf → List Leaf
 unless_errno reply changes = cond (is_errno reply) [] changes
 
 -- the fragments that an operation would change; which number it is offered has no part in that
-abbrev pub changed_fragments : Covers → Tree → Op → List (Ino × Fragment)
+abbrev pub changed_fragments : Covers → Tree → Op → List Leaf
 changed_fragments covers tree op = unless_errno (step tree op 0).reply (touched covers tree op)
+
+-- no leaf is named twice
+abbrev pub AreApart : List Leaf → Type 0
+AreApart [] = Unit {0}
+AreApart (leaf ∷ rest) = (Contains rest leaf → ⊥) × AreApart rest
+
+-- a list has just these leaves, each once
+pub record NamesOnce (leaves list : List Leaf) : Type 0 where
+  pub exactly : (leaf : Leaf) → Contains list leaf ↔ Contains leaves leaf
+  pub once : AreApart list
+
+-- the number of the directory that goes with a change, if one does
+abbrev pub gone_with : Change → Option Ino
+gone_with (Add place leaf inode) = None
+gone_with (Set place leaf inode) = None
+gone_with (Remove place leaf gone) = gone
+gone_with (Move from source to target gone) = gone
+
+-- the leaves of a directory that goes, if one does, cover every hash once
+abbrev pub IsCovered : Covers → Option Ino → Type 0
+IsCovered covers None = Unit {0}
+IsCovered covers (Some dir) = IsTree (leaves_of covers dir.0)

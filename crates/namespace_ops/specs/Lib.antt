@@ -2,11 +2,10 @@ pub use Rattle.mds_types.specs.Tree
 pub use Rattle.mds_types.specs.Step
 pub mod ChangedFragments
 pub mod Changes
+pub mod Checked
+pub mod Kept
 pub mod Laws
-pub mod OneEntry
-pub mod PlainFrags
 pub mod Picks
 pub mod Planned
 pub mod Reasons
-pub mod Run
 pub mod Served

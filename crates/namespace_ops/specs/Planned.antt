@@ -1,13 +1,14 @@
 -- What planning an operation gives: all that serving it takes, but for its change.
-use Rattle.std.specs.Prelude.{◌≡◌, false, cond, Option, Some, None, Result, MatchResult}
+use Rattle.std.specs.Prelude.{◌≡◌, true, false, cond, Option, Some, None}
 use Rattle.mds_types.specs.declared.ids.Ino.{Ino}
-use Rattle.mds_types.specs.declared.refusals.Refusal.{Refusal}
+use Rattle.mds_types.specs.declared.operations.Op.{Op}
 use Rattle.mds_types.specs.Tree.{Tree}
 use Rattle.mds_types.specs.Step.{Outcome}
 use Rattle.namespace_ops.specs.declared.plans.Change.{Change}
 use Rattle.namespace_ops.specs.declared.plans.Plan.{Plan}
-use Rattle.namespace_ops.specs.Changes.{changed, MayChange}
-use Rattle.namespace_ops.specs.Served.{IsRefused}
+use Rattle.inode_table.specs.Dirs.{Covers}
+use Rattle.namespace_ops.specs.Changes.{IsChangeOf, MayChange, changed, fragments_in, is_idle}
+use Rattle.namespace_ops.specs.ChangedFragments.{changed_fragments}
 
 -- the tree after a plan's change, if it has one
 abbrev pub after_plan : Tree → Option Change → Tree
@@ -15,18 +16,23 @@ after_plan tree None = tree
 after_plan tree (Some change) = changed tree change
 
 -- the change may be made, and with no further growth
-abbrev pub IsReadyToChange : Tree → (Change → Type 0) → Option Change → Type 0
-IsReadyToChange tree IsReady None = Unit {0}
-IsReadyToChange tree IsReady (Some change) = IsReady change × MayChange tree change
+abbrev pub IsReadyToChange : Tree → Covers → (Change → Type 0) → Option Change → Type 0
+IsReadyToChange tree covers IsReady None = Unit {0}
+IsReadyToChange tree covers IsReady (Some change) = IsReady change × MayChange tree covers change
 
--- planned: the reply is the table's, the change leads to the table's tree and can't fail, and the number is taken where the table takes one, and then one was given
-pub record IsPlanned (tree : Tree) (IsReady : Change → Type 0) (outcome : Outcome) (number : Option Ino) (plan : Plan) : Type 0 where
+-- a planned change is the operation's
+abbrev pub IsOneOf : Op → Option Change → Type 0
+IsOneOf op None = Unit {0}
+IsOneOf op (Some change) = IsChangeOf op change
+
+-- planned: the reply is the table's, the change leads to the table's tree and can't fail, and the number is taken where the table takes one, and then one was given.
+-- The change is one of the operation, and its fragments are those that the operation changes; an operation that changes nothing plans none
+pub record IsPlanned (tree : Tree) (covers : Covers) (IsReady : Change → Type 0) (op : Op) (outcome : Outcome) (number : Option Ino) (plan : Plan) : Type 0 where
   pub replied : plan.reply ≡ outcome.reply
   pub leads : after_plan tree plan.change ≡ outcome.tree
-  pub ready : IsReadyToChange tree IsReady plan.change
+  pub ready : IsReadyToChange tree covers IsReady plan.change
   pub took : plan.number ≡ cond outcome.takes number None
   pub numbered : number ≡ None → outcome.takes ≡ false
-
--- what planning answers for an outcome of the table: a plan of it, or why it was refused
-abbrev pub Plans : (old new : Tree) → (IsReady : Change → Type 0) → (MayRefuse : Refusal → Type 0) → Outcome → Option Ino → Result Plan Refusal → Type 0
-Plans old new IsReady MayRefuse outcome number result = MatchResult result (IsPlanned old IsReady outcome number) (IsRefused old new MayRefuse outcome number)
+  pub one_of : IsOneOf op plan.change
+  pub idle : is_idle op outcome.reply ≡ true → plan.change ≡ None
+  pub fragments : fragments_in covers plan.change ≡ changed_fragments covers tree op

@@ -3,14 +3,16 @@ ghost use Rattle.std.specs.Prelude.{◌≡◌, true, not, IfOk, IfErr, OnOk, tak
 ghost use Rattle.std.specs.Option.{option_copied};
 ghost use Rattle.mds_types.specs.declared.refusals.Refusal.{Refusal as Reason};
 ghost use Rattle.mds_types.specs.declared.refusals.Refusal.TheVariants.{NoMemory};
+ghost use Rattle.mds_types.specs.declared.operations.Op.{Op as Operation};
 ghost use Rattle.namehash.specs.Rjenkins.{hash_of};
-ghost use Rattle.fragtree.specs.FragTree.{IsPick};
+ghost use Rattle.fragtree.specs.FragTree.{IsPick, IsTree};
 ghost use Rattle.inode_table.specs.Dirs.{Covers, leaves_of};
 ghost use Rattle.mds_types.specs.Tree.{Tree, is_directory, is_above, has_entries, at};
 ghost use Rattle.mds_types.specs.Step.{names_after};
-ghost use Rattle.namespace_ops.specs.declared.plans.Change.{Change as Alteration};
 ghost use Rattle.inode_table.specs.TreeChanges.{KeepLeaves};
-ghost use Rattle.namespace_ops.specs.Changes.{IsReadyFor, MayChange, changed};
+ghost use Rattle.namespace_ops.specs.declared.plans.Change.{Change as Alteration};
+ghost use Rattle.namespace_ops.specs.Kept.{KeepsAll, Leaf, ChangesOnly};
+ghost use Rattle.namespace_ops.specs.Changes.{MayChange, Reads, changed, fragments_of};
 ghost use Rattle.namespace_ops.specs.Reasons.{IsOfFragments};
 
 use crate::plans::Change;
@@ -19,9 +21,9 @@ use std::alloc::Global;
 
 /// The fragments that operations read and change. Together they show one plain tree, whatever they are kept in.
 ///
-/// A read may have to fetch what it reads, and can then be refused; it leaves the tree and every directory's leaves as they
-/// were, and so does a refusal. Which leaves a directory has is told with no fetch.
-/// All growth that an operation can need is made by `ready`; the change that follows can't fail.
+/// A read may have to fetch what it reads, and can then be refused; it keeps all, and so does a refusal. Which leaves a
+/// directory has is told with no fetch. A read is told for which operation it is asked, and asks of a directory of that.
+/// All growth that a change needs is made by `ready`; the change that follows can't fail.
 pub trait Frags {
     /// The plain tree that the fragments show.
     ghost content: { Self → Tree };
@@ -32,11 +34,14 @@ pub trait Frags {
     /// The change can be made with no further growth.
     ghost IsReady: { Self → Alteration → Type 0 };
 
-    /// What calls keep beside the content, as a count that only rises.
+    /// What reads and refusals keep beside the tree and the leaves of each directory.
     ghost Follows: { Self → Self → Type 0 };
 
-    /// A call that began in the first state and ended in the second may be refused for this reason.
-    ghost MayRefuse: { Self → Self → Reason → Type 0 };
+    /// A leaf shows the names that it showed.
+    ghost Unchanged: { Self → Self → Leaf → Type 0 };
+
+    /// A call for this operation that began in the first state and ended in the second may be refused for this reason.
+    ghost MayRefuse: { Self → Self → Operation → Reason → Type 0 };
 
     /// Whether this is the number of a directory of the tree now.
     fn is_dir(&self, dir: Ino) -> bool
@@ -51,60 +56,60 @@ pub trait Frags {
     fn frag_of(&self, dir: Ino, name: &Name) -> Frag
         ensures { IsPick (leaves_of (covers self.now) dir.0) (hash_of name.now) result };
 
-    /// The leaves of a directory by value.
+    /// The leaves of a directory by value, which cover every hash once.
     fn leaves(&self, alloc: Global, dir: Ino) -> Result<Vec<Frag>, Refusal>
         ensures listed { IfOk result (λ list. list.items ≡ leaves_of (covers self.now) dir.0) }
+        ensures cover { IfOk result (λ list. IsTree list.items) }
         ensures err { IfErr result (λ reason. reason ≡ NoMemory) };
 
-    /// The inode at a name, copied.
-    fn look(&mut self, dir: Ino, name: &Name) -> Result<Option<Inode>, Refusal>
+    /// The inode at a name, copied. `leaf` is the one that the name belongs to.
+    fn look(&mut self, op: &Op, dir: Ino, leaf: Frag, name: &Name) -> Result<Option<Inode>, Refusal>
+        requires reads { Reads (content self.old) op.now dir.0 }
+        requires leaf { IsPick (leaves_of (covers self.old) dir.0) (hash_of name.now) leaf }
         ensures found { IfOk result (λ found. found ≡ at (content self.old) dir.0 name.now) }
-        ensures same { content self.new ≡ content self.old }
-        ensures leaves { covers self.new ≡ covers self.old }
-        ensures follows { Follows self.old self.new }
-        ensures err { IfErr result (MayRefuse self.old self.new) };
+        ensures kept { KeepsAll (content self.old) (content self.new) (covers self.old) (covers self.new) (Follows self.old self.new) }
+        ensures err { IfErr result (MayRefuse self.old self.new op.now) };
 
     /// The first `max` names of a directory greater than `after`, in order, with their inodes, and whether more follow.
     fn list_after(
         &mut self,
         alloc: Global,
+        op: &Op,
         dir: Ino,
         after: Option<&Name>,
         max: PageSize,
     ) -> Result<(Listing, bool), Refusal>
+        requires reads { Reads (content self.old) op.now dir.0 }
         ensures listed { IfOk result (λ page. page.0 ≡ take max (names_after (content self.old) dir.0 (option_copied after.entry))) }
         ensures more { IfOk result (λ page. page.1 ≡ nat_lt max (length (names_after (content self.old) dir.0 (option_copied after.entry)))) }
-        ensures same { content self.new ≡ content self.old }
-        ensures leaves { covers self.new ≡ covers self.old }
-        ensures follows { Follows self.old self.new }
-        ensures err { IfErr result (MayRefuse self.old self.new) };
+        ensures kept { KeepsAll (content self.old) (content self.new) (covers self.old) (covers self.new) (Follows self.old self.new) }
+        ensures err { IfErr result (MayRefuse self.old self.new op.now) };
 
     /// Whether nothing is in a directory.
-    fn is_empty(&mut self, dir: Ino) -> Result<bool, Refusal>
+    fn is_empty(&mut self, op: &Op, dir: Ino) -> Result<bool, Refusal>
+        requires reads { Reads (content self.old) op.now dir.0 }
         ensures found { IfOk result (λ empty. empty ≡ not (has_entries (content self.old) dir.0)) }
-        ensures same { content self.new ≡ content self.old }
-        ensures leaves { covers self.new ≡ covers self.old }
-        ensures follows { Follows self.old self.new }
-        ensures err { IfErr result (MayRefuse self.old self.new) };
+        ensures kept { KeepsAll (content self.old) (content self.new) (covers self.old) (covers self.new) (Follows self.old self.new) }
+        ensures err { IfErr result (MayRefuse self.old self.new op.now) };
 
-    /// Makes every growth that the operation could need.
-    fn ready(&mut self, op: &Op) -> Result<(), Refusal>
-        ensures ready { OnOk result (IsReadyFor (IsReady self.new) op.now) }
-        ensures same { content self.new ≡ content self.old }
-        ensures leaves { covers self.new ≡ covers self.old }
-        ensures follows { Follows self.old self.new }
-        ensures err { IfErr result (MayRefuse self.old self.new) };
+    /// Makes every growth that a change of the operation needs.
+    fn ready(&mut self, op: &Op, change: &Change) -> Result<(), Refusal>
+        requires may { MayChange (content self.old) (covers self.old) change.now }
+        ensures ready { OnOk result (IsReady self.new change.now) }
+        ensures kept { KeepsAll (content self.old) (content self.new) (covers self.old) (covers self.new) (Follows self.old self.new) }
+        ensures err { IfErr result (MayRefuse self.old self.new op.now) };
 
-    /// Makes a change that may be made and was made ready. Each directory that stands then has the leaves that it had; of one that
-    /// comes no leaves were set.
+    /// Makes a change that may be made and was made ready. Each directory that stands then has the leaves that it had; of
+    /// one that comes no leaves were set. A leaf that is none of those that change keeps its names.
     fn change(&mut self, change: Change)
         requires ready { IsReady self.old change }
-        requires may { MayChange (content self.old) change }
+        requires may { MayChange (content self.old) (covers self.old) change }
         ensures changed { content self.new ≡ changed (content self.old) change }
-        ensures leaves { KeepLeaves (content self.new) (covers self.old) (covers self.new) };
+        ensures leaves { KeepLeaves (content self.new) (covers self.old) (covers self.new) }
+        ensures frame { ChangesOnly (Unchanged self.old self.new) (fragments_of (covers self.old) change) };
 
     /// Fragments refuse for these reasons alone.
-    ghost refused_for: { (a b : Self) (reason : Reason) → MayRefuse a b reason → IsOfFragments reason };
+    ghost refused_for: { (a b : Self) (op : Operation) (reason : Reason) → MayRefuse a b op reason → IsOfFragments reason };
 
     /// A call that did nothing keeps all.
     ghost follows_self: { (a : Self) → Follows a a };
@@ -112,6 +117,12 @@ pub trait Frags {
     /// One call after another keeps what both keep.
     ghost follows_on: { (a b c : Self) → Follows a b → Follows b c → Follows a c };
 
+    /// What reads and refusals keep are the names of every leaf among others.
+    ghost unchanged_by: { (a b : Self) (leaf : Leaf) → Follows a b → Unchanged a b leaf };
+
+    /// A leaf that one call left unchanged, and then another, is unchanged by both.
+    ghost unchanged_on: { (a b c : Self) (leaf : Leaf) → Unchanged a b leaf → Unchanged b c leaf → Unchanged a c leaf };
+
     /// A reason of a call is one of all calls that it ends.
-    ghost refused_on: { (a b c : Self) (reason : Reason) → Follows a b → MayRefuse b c reason → MayRefuse a c reason };
+    ghost refused_on: { (a b c : Self) (op : Operation) (reason : Reason) → Follows a b → MayRefuse b c op reason → MayRefuse a c op reason };
 }

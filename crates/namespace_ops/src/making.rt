@@ -1,15 +1,18 @@
-//! Planning the operations that make an inode.
-ghost use Rattle.std.specs.Prelude.{◌≡◌, true, Option};
+//! The checks of the operations that make an inode.
+ghost use Rattle.std.specs.Prelude.{◌≡◌, true, IfOk, IfErr};
 ghost use Rattle.mds_types.specs.declared.inodes.Inode.{Inode as Node};
 ghost use Rattle.mds_types.specs.declared.inodes.Kind.TheVariants.{File, Dir, Symlink as Link};
+ghost use Rattle.mds_types.specs.Frag.{Fragment};
 ghost use Rattle.mds_types.specs.Tree.{at, place_of, is_directory};
-ghost use Rattle.mds_types.specs.Step.{made, new_inode, new_size, link_mode, number_or};
+ghost use Rattle.mds_types.specs.Step.{made, new_inode, new_size, link_mode};
 ghost use Rattle.namespace_ops.specs.declared.plans.Change.TheVariants.{Add};
-ghost use Rattle.namespace_ops.specs.Changes.{IsChangeOf, IsOffered};
-ghost use Rattle.namespace_ops.specs.Planned.{Plans};
+ghost use Rattle.namespace_ops.specs.Kept.{KeepsAll};
+ghost use Rattle.namespace_ops.specs.Changes.{IsChangeOf, Reads};
+ghost use Rattle.namespace_ops.specs.Checked.{Checks};
+ghost use Rattle.namespace_ops.specs.Reasons.{Refuses};
 
 use crate::frags::Frags;
-use crate::plans::{Change, Plan, only_answer};
+use crate::plans::{Change, Checked};
 use mds_types::{EEXIST, Ino, Inode, Kind, Mode, Name, Op, Place, Refusal, Reply, Target};
 
 /// What a new inode is, beside its number and size.
@@ -52,43 +55,33 @@ impl New {
     }
 }
 
-/// A new inode at a name that has to be free.
+/// A new inode with this number, at a name that has to be free.
 pub fn make<F: Frags>(
     frags: &mut F,
     op: &Op,
     dir: Ino,
     name: &Name,
     new: New,
-    number: Option<Ino>,
-) -> Result<Plan, Refusal>
-    requires offered { IsOffered (F.content frags.old) number }
+    number: Ino,
+) -> Result<Checked, Refusal>
+    requires reads { Reads (F.content frags.old) op.now dir.0 }
     requires here { is_directory (F.content frags.old) dir.0 ≡ true }
-    requires makes { (inode : Node) → inode.kind ≡ new.kind → IsChangeOf op.now (Add (place_of dir.0 name.now) inode) }
-    ensures planned { let inode = new_inode (number_or number) new.kind new.mode new.mtime in
-        Plans (F.content frags.old) (F.content frags.new) (F.IsReady frags.new) (F.MayRefuse frags.old frags.new)
-        (made (F.content frags.old) (place_of dir.0 name.now) inode (at (F.content frags.old) dir.0 name.now)) number result }
-    ensures same { F.content frags.new ≡ F.content frags.old }
-    ensures leaves { F.covers frags.new ≡ F.covers frags.old }
-    ensures follows { F.Follows frags.old frags.new }
+    requires makes { (leaf : Fragment) (inode : Node) → inode.kind ≡ new.kind → IsChangeOf op.now (Add (place_of dir.0 name.now) leaf inode) }
+    ensures checked { let inode = new_inode number.0 new.kind new.mode new.mtime in
+        IfOk result (Checks (F.content frags.old) (F.covers frags.old) op.now number.0 (made (F.content frags.old) (place_of dir.0 name.now) inode (at (F.content frags.old) dir.0 name.now))) }
+    ensures kept { KeepsAll (F.content frags.old) (F.content frags.new) (F.covers frags.old) (F.covers frags.new) (F.Follows frags.old frags.new) }
+    ensures err { IfErr result (Refuses (F.MayRefuse frags.old frags.new op.now)) }
 {
-    if frags.look(dir, name)?.is_some() {
-        return Ok(only_answer(Reply::Errno(EEXIST)));
+    let leaf = frags.frag_of(dir, name);
+    if frags.look(op, dir, leaf, name)?.is_some() {
+        return Ok(Checked::Answers(Reply::Errno(EEXIST)));
     }
-    let Some(ino) = number else {
-        return Err(Refusal::NoInodes)
-    };
     let place = Place {
         dir,
         name: name.try_clone()?,
     };
-    let inode = new.numbered(ino);
-    let reply = Reply::Entry(inode.try_clone()?);
-    frags.ready(op)?;
-    Ok(Plan {
-        reply,
-        change: Some(Change::Add { place, inode }),
-        number,
-    })
+    let inode = new.numbered(number);
+    Ok(Checked::Changes(Change::Add { place, leaf, inode }))
 }
 
 impl New {

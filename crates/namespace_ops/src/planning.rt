@@ -1,24 +1,23 @@
-//! Planning one operation: its checks, in their order, and all growth that it needs.
-ghost use Rattle.std.specs.Prelude.{◌≡◌, true};
-ghost use Rattle.mds_types.specs.Tree.{is_directory};
-ghost use Rattle.mds_types.specs.Step.{step, within, directory_of, destination_of, number_or};
-ghost use Rattle.namespace_ops.specs.Changes.{IsOffered};
-ghost use Rattle.namespace_ops.specs.Planned.{Plans};
+//! Planning one operation: its checks, and all growth for the change that they find.
+ghost use Rattle.std.specs.Prelude.{◌≡◌, ◌&&◌, not, cond, is_some, None, MatchResult};
+ghost use Rattle.mds_types.specs.Step.{step, number_or};
+ghost use Rattle.namespace_ops.specs.Kept.{KeepsAll};
+ghost use Rattle.namespace_ops.specs.Changes.{IsOffered, is_new};
+ghost use Rattle.namespace_ops.specs.Checked.{IsChecked};
+ghost use Rattle.namespace_ops.specs.Planned.{IsPlanned};
+ghost use Rattle.namespace_ops.specs.Served.{IsRefused};
 
-use crate::altering::{Attributes, set_attributes};
+use crate::checking::check;
 use crate::frags::Frags;
-use crate::making::{New, make};
-use crate::plans::{Plan, only_answer};
-use crate::reading::{lookup, read_dir, read_link};
-use crate::removing::{remove_dir, unlink};
-use crate::renaming::rename;
-use mds_types::{ESTALE, Ino, Op, Refusal, Reply};
+use crate::plans::{Change, Checked, Plan};
+use mds_types::{Ino, Op, Refusal};
 use std::alloc::Global;
 
 /// Plans an operation: answers the reply of the operation table, and the change that leads to the table's tree, for which
-/// all growth has been made. The tree stays as it was. A new inode takes the number given, which has to be unused; where
-/// the table takes one and none is given, the operation is refused `NoInodes`. Any other refusal is one of the fragments',
-/// or want of memory.
+/// all growth has been made. There is no change where the operation reads, answers an errno, or leads to its own place.
+/// The fragments show what they showed. A new inode takes the number given, which has to be unused; where the table takes
+/// one and none is given, the operation is refused `NoInodes`. Any other refusal is one of the fragments', or want of
+/// memory.
 pub fn plan_op<F: Frags>(
     alloc: Global,
     frags: &mut F,
@@ -26,80 +25,60 @@ pub fn plan_op<F: Frags>(
     number: Option<Ino>,
 ) -> Result<Plan, Refusal>
     requires { IsOffered (F.content frags.old) number }
-    ensures planned { Plans (F.content frags.old) (F.content frags.new) (F.IsReady frags.new) (F.MayRefuse frags.old frags.new)
-        (step (F.content frags.old) op.now (number_or number)) number result }
-    ensures same { F.content frags.new ≡ F.content frags.old }
-    ensures leaves { F.covers frags.new ≡ F.covers frags.old }
-    ensures follows { F.Follows frags.old frags.new }
+    ensures planned { let outcome = step (F.content frags.old) op.now (number_or number) in
+        MatchResult result
+        (IsPlanned (F.content frags.old) (F.covers frags.old) (F.IsReady frags.new) op.now outcome number)
+        (IsRefused (F.content frags.old) (F.content frags.new) (F.MayRefuse frags.old frags.new op.now) outcome number) }
+    ensures kept { KeepsAll (F.content frags.old) (F.content frags.new) (F.covers frags.old) (F.covers frags.new) (F.Follows frags.old frags.new) }
 {
-    if !(frags.is_dir(op.dir()) && frags.is_dir(op.destination())) {
-        return Ok(only_answer(Reply::Errno(ESTALE)));
+    match check(alloc, frags, op, number.unwrap_or(Ino(0)))? {
+        Checked::Answers(reply) => Ok(Plan {
+            reply,
+            change: None,
+            number: None,
+        }),
+        Checked::Changes(change) => plan_change(frags, op, change, number),
     }
-    plan_within(alloc, frags, op, number)
 }
 
-// Plans an operation whose directories stand.
-fn plan_within<F: Frags>(
-    alloc: Global,
+// Plans the change that the checks found.
+fn plan_change<F: Frags>(
     frags: &mut F,
     op: &Op,
+    change: Change,
     number: Option<Ino>,
 ) -> Result<Plan, Refusal>
     requires offered { IsOffered (F.content frags.old) number }
-    requires here { is_directory (F.content frags.old) (directory_of op.now) ≡ true }
-    requires there { is_directory (F.content frags.old) (destination_of op.now) ≡ true }
-    ensures planned { Plans (F.content frags.old) (F.content frags.new) (F.IsReady frags.new) (F.MayRefuse frags.old frags.new)
-        (within (F.content frags.old) op.now (number_or number)) number result }
-    ensures same { F.content frags.new ≡ F.content frags.old }
-    ensures leaves { F.covers frags.new ≡ F.covers frags.old }
-    ensures follows { F.Follows frags.old frags.new }
+    requires checked { IsChecked (F.content frags.old) (F.covers frags.old) op.now (number_or number) (step (F.content frags.old) op.now (number_or number)) change }
+    ensures planned { let outcome = step (F.content frags.old) op.now (number_or number) in
+        MatchResult result
+        (IsPlanned (F.content frags.old) (F.covers frags.old) (F.IsReady frags.new) op.now outcome number)
+        (IsRefused (F.content frags.old) (F.content frags.new) (F.MayRefuse frags.old frags.new op.now) outcome number) }
+    ensures kept { KeepsAll (F.content frags.old) (F.content frags.new) (F.covers frags.old) (F.covers frags.new) (F.Follows frags.old frags.new) }
 {
-    match op {
-        Op::Lookup { dir, name } => lookup(frags, *dir, name),
-        Op::Readdir { dir, after, max } => read_dir(alloc, frags, *dir, after.as_ref(), *max),
-        Op::Readlink { dir, name } => read_link(frags, *dir, name),
-        Op::Create {
-            dir,
-            name,
-            mode,
-            mtime,
-        } => make(frags, op, *dir, name, New::file(*mode, *mtime), number),
-        Op::Mkdir {
-            dir,
-            name,
-            mode,
-            mtime,
-        } => make(frags, op, *dir, name, New::directory(*mode, *mtime), number),
-        Op::Symlink {
-            dir,
-            name,
-            target,
-            mtime,
-        } => {
-            let new = New::link(target.try_clone()?, *mtime);
-            make(frags, op, *dir, name, new, number)
-        }
-        Op::Setattr {
-            dir,
-            name,
-            mode,
-            size,
-            mtime,
-        } => {
-            let attributes = Attributes {
-                mode: *mode,
-                size: *size,
-                mtime: *mtime,
-            };
-            set_attributes(frags, op, *dir, name, attributes)
-        }
-        Op::Unlink { dir, name } => unlink(frags, op, *dir, name),
-        Op::Rmdir { dir, name } => remove_dir(frags, op, *dir, name),
-        Op::Rename {
-            dir,
-            name,
-            to_dir,
-            to_name,
-        } => rename(frags, op, (*dir, name), (*to_dir, to_name)),
+    if lacks_number(&change, number) {
+        return Err(Refusal::NoInodes);
     }
+    let taken = number_for(&change, number);
+    let reply = change.reply()?;
+    frags.ready(op, &change)?;
+    Ok(Plan {
+        reply,
+        change: Some(change),
+        number: taken,
+    })
+}
+
+// Whether a new inode comes for which no number is given.
+fn lacks_number(change: &Change, number: Option<Ino>) -> bool
+    ensures { result ≡ (is_new change.now && not (is_some number)) }
+{
+    change.is_new() && number.is_none()
+}
+
+// The number that a change takes.
+fn number_for(change: &Change, number: Option<Ino>) -> Option<Ino>
+    ensures { result ≡ cond (is_new change.now) number None }
+{
+    if change.is_new() { number } else { None }
 }

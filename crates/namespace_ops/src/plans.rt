@@ -1,22 +1,78 @@
 //! What an operation comes to, before it is done.
-ghost use Rattle.std.specs.Prelude.{◌≡◌, None};
+ghost use Rattle.std.specs.Prelude.{◌≡◌, None, IfOk};
 ghost use Rattle.inode_table.specs.TreeChanges.{KeepLeaves};
+ghost use Rattle.namespace_ops.specs.Kept.{ChangesOnly};
+ghost use Rattle.namespace_ops.specs.Changes.{fragments_in, is_new, reply_of};
 ghost use Rattle.namespace_ops.specs.Planned.{after_plan, IsReadyToChange};
 
 use crate::frags::Frags;
-use mds_types::{Ino, Inode, Place, Reply};
+use mds_types::{Frag, Ino, Inode, Place, Reply};
+use std::alloc::AllocError;
 
-/// A change of the tree.
+/// A change of the tree. It has the leaf of each of its names, and the number of the directory that goes with it, so that
+/// no step has to find them again.
 #[derive(Debug, Drop)]
 pub enum Change {
     /// A new inode, at a place that is free.
-    Add { place: Place, inode: Inode },
+    Add {
+        place: Place,
+        leaf: Frag,
+        inode: Inode,
+    },
     /// Other attributes for the inode at a place.
-    Set { place: Place, inode: Inode },
-    /// The entry at a place goes.
-    Remove { place: Place },
-    /// The entry at one place moves to another; what stands there is replaced.
-    Move { from: Place, to: Place },
+    Set {
+        place: Place,
+        leaf: Frag,
+        inode: Inode,
+    },
+    /// The entry at a place goes; `gone` is its number, if it is a directory.
+    Remove {
+        place: Place,
+        leaf: Frag,
+        gone: Option<Ino>,
+    },
+    /// The entry at one place moves to another; what stands there is replaced. `gone` is the number of that, if it is a
+    /// directory.
+    Move {
+        from: Place,
+        source: Frag,
+        to: Place,
+        target: Frag,
+        gone: Option<Ino>,
+    },
+}
+
+impl Change {
+    /// Whether a new inode comes.
+    pub fn is_new(&self) -> bool
+        ensures { result ≡ is_new self.now }
+    {
+        match self {
+            Change::Add { .. } => true,
+            Change::Set { .. } | Change::Remove { .. } | Change::Move { .. } => false,
+        }
+    }
+
+    /// What an operation answers that makes this change. Takes memory for a copy of an inode.
+    pub fn reply(&self) -> Result<Reply, AllocError>
+        ensures { IfOk result (λ reply. reply ≡ reply_of self.now) }
+    {
+        match self {
+            Change::Add { inode, .. } | Change::Set { inode, .. } => {
+                Ok(Reply::Entry(inode.try_clone()?))
+            }
+            Change::Remove { .. } | Change::Move { .. } => Ok(Reply::Done),
+        }
+    }
+}
+
+/// What the checks of an operation find.
+#[derive(Debug, Drop)]
+pub enum Checked {
+    /// It changes nothing, and answers this: it reads, answers an errno, or leads to its own place.
+    Answers(Reply),
+    /// It makes this change.
+    Changes(Change),
 }
 
 /// What an operation comes to.
@@ -24,30 +80,20 @@ pub enum Change {
 pub struct Plan {
     /// What it answers.
     pub reply: Reply,
-    /// The change that it makes; none, if it only reads or answers an errno.
+    /// The change that it makes; none, if it only reads, answers an errno or leads to its own place.
     pub change: Option<Change>,
     /// The number that it took for a new inode.
     pub number: Option<Ino>,
 }
 
-/// Makes a change that was planned. It can't fail.
+/// Makes a change that was planned. It can't fail. Leaves that are none of those that change keep their names.
 pub fn carry_out<F: Frags>(frags: &mut F, change: Option<Change>)
-    requires { IsReadyToChange (F.content frags.old) (F.IsReady frags.old) change }
+    requires { IsReadyToChange (F.content frags.old) (F.covers frags.old) (F.IsReady frags.old) change }
     ensures done { F.content frags.new ≡ after_plan (F.content frags.old) change }
     ensures leaves { KeepLeaves (F.content frags.new) (F.covers frags.old) (F.covers frags.new) }
+    ensures frame { ChangesOnly (F.Unchanged frags.old frags.new) (fragments_in (F.covers frags.old) change) }
 {
     if let Some(change) = change {
         frags.change(change);
-    }
-}
-
-/// The plan of an operation that changes nothing.
-pub fn only_answer(reply: Reply) -> Plan
-    ensures { result ≡ record { reply = reply; change = None; number = None } }
-{
-    Plan {
-        reply,
-        change: None,
-        number: None,
     }
 }

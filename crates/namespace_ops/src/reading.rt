@@ -1,28 +1,31 @@
-//! Planning the operations that only read.
-ghost use Rattle.std.specs.Prelude.{◌≡◌, Option};
+//! The checks of the operations that only read.
+ghost use Rattle.std.specs.Prelude.{◌≡◌, ℕ, true, IfOk, IfErr};
 ghost use Rattle.std.specs.Option.{option_copied};
-ghost use Rattle.mds_types.specs.declared.ids.Ino.{Ino as Number};
 ghost use Rattle.mds_types.specs.Tree.{at};
 ghost use Rattle.mds_types.specs.Step.{found, page, names_after, target_of};
 ghost use Rattle.mds_types.specs.Step.{read_link as link_read};
-ghost use Rattle.namespace_ops.specs.Planned.{Plans};
+ghost use Rattle.namespace_ops.specs.Kept.{KeepsAll};
+ghost use Rattle.namespace_ops.specs.Changes.{Reads, stays};
+ghost use Rattle.namespace_ops.specs.Checked.{Checks};
+ghost use Rattle.namespace_ops.specs.Reasons.{Refuses};
 
 use crate::frags::Frags;
-use crate::plans::{Plan, only_answer};
-use mds_types::{EINVAL, ENOENT, Ino, Kind, Name, PageSize, Refusal, Reply};
+use crate::plans::Checked;
+use mds_types::{EINVAL, ENOENT, Ino, Kind, Name, Op, PageSize, Refusal, Reply};
 use std::alloc::Global;
 
 /// The inode at a name.
-pub fn lookup<F: Frags>(frags: &mut F, dir: Ino, name: &Name) -> Result<Plan, Refusal>
-    ensures planned { (number : Option Number) → Plans (F.content frags.old) (F.content frags.new) (F.IsReady frags.new) (F.MayRefuse frags.old frags.new)
-        (found (F.content frags.old) (at (F.content frags.old) dir.0 name.now)) number result }
-    ensures same { F.content frags.new ≡ F.content frags.old }
-    ensures leaves { F.covers frags.new ≡ F.covers frags.old }
-    ensures follows { F.Follows frags.old frags.new }
+pub fn lookup<F: Frags>(frags: &mut F, op: &Op, dir: Ino, name: &Name) -> Result<Checked, Refusal>
+    requires reads { Reads (F.content frags.old) op.now dir.0 }
+    requires idle { stays op.now ≡ true }
+    ensures checked { (n : ℕ) → IfOk result (Checks (F.content frags.old) (F.covers frags.old) op.now n (found (F.content frags.old) (at (F.content frags.old) dir.0 name.now))) }
+    ensures kept { KeepsAll (F.content frags.old) (F.content frags.new) (F.covers frags.old) (F.covers frags.new) (F.Follows frags.old frags.new) }
+    ensures err { IfErr result (Refuses (F.MayRefuse frags.old frags.new op.now)) }
 {
-    match frags.look(dir, name)? {
-        Some(inode) => Ok(only_answer(Reply::Entry(inode))),
-        None => Ok(only_answer(Reply::Errno(ENOENT))),
+    let leaf = frags.frag_of(dir, name);
+    match frags.look(op, dir, leaf, name)? {
+        Some(inode) => Ok(Checked::Answers(Reply::Entry(inode))),
+        None => Ok(Checked::Answers(Reply::Errno(ENOENT))),
     }
 }
 
@@ -30,31 +33,38 @@ pub fn lookup<F: Frags>(frags: &mut F, dir: Ino, name: &Name) -> Result<Plan, Re
 pub fn read_dir<F: Frags>(
     alloc: Global,
     frags: &mut F,
+    op: &Op,
     dir: Ino,
     after: Option<&Name>,
     max: PageSize,
-) -> Result<Plan, Refusal>
-    ensures planned { (number : Option Number) → Plans (F.content frags.old) (F.content frags.new) (F.IsReady frags.new) (F.MayRefuse frags.old frags.new)
-        (page (F.content frags.old) max (names_after (F.content frags.old) dir.0 (option_copied after.entry))) number result }
-    ensures same { F.content frags.new ≡ F.content frags.old }
-    ensures leaves { F.covers frags.new ≡ F.covers frags.old }
-    ensures follows { F.Follows frags.old frags.new }
+) -> Result<Checked, Refusal>
+    requires reads { Reads (F.content frags.old) op.now dir.0 }
+    requires idle { stays op.now ≡ true }
+    ensures checked { (n : ℕ) → IfOk result (Checks (F.content frags.old) (F.covers frags.old) op.now n (page (F.content frags.old) max (names_after (F.content frags.old) dir.0 (option_copied after.entry)))) }
+    ensures kept { KeepsAll (F.content frags.old) (F.content frags.new) (F.covers frags.old) (F.covers frags.new) (F.Follows frags.old frags.new) }
+    ensures err { IfErr result (Refuses (F.MayRefuse frags.old frags.new op.now)) }
 {
-    let (list, more) = frags.list_after(alloc, dir, after, max)?;
-    Ok(only_answer(Reply::Entries { list, more }))
+    let (list, more) = frags.list_after(alloc, op, dir, after, max)?;
+    Ok(Checked::Answers(Reply::Entries { list, more }))
 }
 
 /// What the link at a name points to.
-pub fn read_link<F: Frags>(frags: &mut F, dir: Ino, name: &Name) -> Result<Plan, Refusal>
-    ensures planned { (number : Option Number) → Plans (F.content frags.old) (F.content frags.new) (F.IsReady frags.new) (F.MayRefuse frags.old frags.new)
-        (link_read (F.content frags.old) (at (F.content frags.old) dir.0 name.now)) number result }
-    ensures same { F.content frags.new ≡ F.content frags.old }
-    ensures leaves { F.covers frags.new ≡ F.covers frags.old }
-    ensures follows { F.Follows frags.old frags.new }
+pub fn read_link<F: Frags>(
+    frags: &mut F,
+    op: &Op,
+    dir: Ino,
+    name: &Name,
+) -> Result<Checked, Refusal>
+    requires reads { Reads (F.content frags.old) op.now dir.0 }
+    requires idle { stays op.now ≡ true }
+    ensures checked { (n : ℕ) → IfOk result (Checks (F.content frags.old) (F.covers frags.old) op.now n (link_read (F.content frags.old) (at (F.content frags.old) dir.0 name.now))) }
+    ensures kept { KeepsAll (F.content frags.old) (F.content frags.new) (F.covers frags.old) (F.covers frags.new) (F.Follows frags.old frags.new) }
+    ensures err { IfErr result (Refuses (F.MayRefuse frags.old frags.new op.now)) }
 {
-    match frags.look(dir, name)? {
-        Some(inode) => Ok(only_answer(reply_of_link(inode.kind))),
-        None => Ok(only_answer(Reply::Errno(ENOENT))),
+    let leaf = frags.frag_of(dir, name);
+    match frags.look(op, dir, leaf, name)? {
+        Some(inode) => Ok(Checked::Answers(reply_of_link(inode.kind))),
+        None => Ok(Checked::Answers(Reply::Errno(ENOENT))),
     }
 }
 

@@ -1,76 +1,79 @@
-//! Planning the operations that take an entry away.
-ghost use Rattle.std.specs.Prelude.{◌≡◌, Option};
+//! The checks of the operations that take an entry away.
+ghost use Rattle.std.specs.Prelude.{◌≡◌, ℕ, None, Some, Option, IfOk, IfErr};
 ghost use Rattle.mds_types.specs.declared.ids.Ino.{Ino as Number};
-ghost use Rattle.mds_types.specs.Tree.{at, place_of, is_dir_kind, has_entries};
-ghost use Rattle.mds_types.specs.Step.{answers, unlinked, dir_removed};
-ghost use Rattle.mds_types.specs.declared.replies.Reply.TheVariants.{Done};
-ghost use Rattle.std.specs.FinMap as map;
+ghost use Rattle.mds_types.specs.declared.inodes.Inode.{Inode as Node};
+ghost use Rattle.mds_types.specs.Frag.{Fragment};
+ghost use Rattle.mds_types.specs.Tree.{at, place_of};
+ghost use Rattle.mds_types.specs.Step.{unlinked, dir_removed};
 ghost use Rattle.namespace_ops.specs.declared.plans.Change.TheVariants.{Remove};
-ghost use Rattle.inode_table.specs.TreeChanges.{MayRemove};
-ghost use Rattle.namespace_ops.specs.Changes.{IsChangeOf};
-ghost use Rattle.namespace_ops.specs.Planned.{Plans};
+ghost use Rattle.namespace_ops.specs.Kept.{KeepsAll};
+ghost use Rattle.namespace_ops.specs.Changes.{IsChangeOf, Reads};
+ghost use Rattle.namespace_ops.specs.Checked.{Checks};
+ghost use Rattle.namespace_ops.specs.Reasons.{Refuses};
 
 use crate::frags::Frags;
-use crate::plans::{Change, Plan, only_answer};
+use crate::plans::{Change, Checked};
 use mds_types::{EISDIR, ENOENT, ENOTDIR, ENOTEMPTY, Ino, Name, Op, Place, Refusal, Reply};
 
 /// Takes away an entry that has to be no directory.
-pub fn unlink<F: Frags>(frags: &mut F, op: &Op, dir: Ino, name: &Name) -> Result<Plan, Refusal>
-    requires removes { IsChangeOf op.now (Remove (place_of dir.0 name.now)) }
-    ensures planned { (number : Option Number) → Plans (F.content frags.old) (F.content frags.new) (F.IsReady frags.new) (F.MayRefuse frags.old frags.new)
-        (unlinked (F.content frags.old) (place_of dir.0 name.now) (at (F.content frags.old) dir.0 name.now)) number result }
-    ensures same { F.content frags.new ≡ F.content frags.old }
-    ensures leaves { F.covers frags.new ≡ F.covers frags.old }
-    ensures follows { F.Follows frags.old frags.new }
+pub fn unlink<F: Frags>(frags: &mut F, op: &Op, dir: Ino, name: &Name) -> Result<Checked, Refusal>
+    requires reads { Reads (F.content frags.old) op.now dir.0 }
+    requires removes { (leaf : Fragment) → IsChangeOf op.now (Remove (place_of dir.0 name.now) leaf None) }
+    ensures checked { (n : ℕ) → IfOk result (Checks (F.content frags.old) (F.covers frags.old) op.now n
+        (unlinked (F.content frags.old) (place_of dir.0 name.now) (at (F.content frags.old) dir.0 name.now))) }
+    ensures kept { KeepsAll (F.content frags.old) (F.content frags.new) (F.covers frags.old) (F.covers frags.new) (F.Follows frags.old frags.new) }
+    ensures err { IfErr result (Refuses (F.MayRefuse frags.old frags.new op.now)) }
 {
-    let Some(inode) = frags.look(dir, name)? else {
-        return Ok(only_answer(Reply::Errno(ENOENT)))
+    let leaf = frags.frag_of(dir, name);
+    let Some(inode) = frags.look(op, dir, leaf, name)? else {
+        return Ok(Checked::Answers(Reply::Errno(ENOENT)))
     };
     if inode.kind.is_dir() {
-        return Ok(only_answer(Reply::Errno(EISDIR)));
+        return Ok(Checked::Answers(Reply::Errno(EISDIR)));
     }
-    removal(frags, op, dir, name)
-}
-
-/// Takes away a directory that has to be empty.
-pub fn remove_dir<F: Frags>(frags: &mut F, op: &Op, dir: Ino, name: &Name) -> Result<Plan, Refusal>
-    requires removes { IsChangeOf op.now (Remove (place_of dir.0 name.now)) }
-    ensures planned { (number : Option Number) → Plans (F.content frags.old) (F.content frags.new) (F.IsReady frags.new) (F.MayRefuse frags.old frags.new)
-        (dir_removed (F.content frags.old) (place_of dir.0 name.now) (at (F.content frags.old) dir.0 name.now)) number result }
-    ensures same { F.content frags.new ≡ F.content frags.old }
-    ensures leaves { F.covers frags.new ≡ F.covers frags.old }
-    ensures follows { F.Follows frags.old frags.new }
-{
-    let Some(inode) = frags.look(dir, name)? else {
-        return Ok(only_answer(Reply::Errno(ENOENT)))
-    };
-    if !inode.kind.is_dir() {
-        return Ok(only_answer(Reply::Errno(ENOTDIR)));
-    }
-    if !frags.is_empty(inode.ino)? {
-        return Ok(only_answer(Reply::Errno(ENOTEMPTY)));
-    }
-    removal(frags, op, dir, name)
-}
-
-// Plans that the entry at a name goes, which may go.
-fn removal<F: Frags>(frags: &mut F, op: &Op, dir: Ino, name: &Name) -> Result<Plan, Refusal>
-    requires removes { IsChangeOf op.now (Remove (place_of dir.0 name.now)) }
-    requires may { MayRemove (F.content frags.old) (place_of dir.0 name.now) }
-    ensures planned { (number : Option Number) → Plans (F.content frags.old) (F.content frags.new) (F.IsReady frags.new) (F.MayRefuse frags.old frags.new)
-        (answers (map.remove (F.content frags.old) (place_of dir.0 name.now)) Done) number result }
-    ensures same { F.content frags.new ≡ F.content frags.old }
-    ensures leaves { F.covers frags.new ≡ F.covers frags.old }
-    ensures follows { F.Follows frags.old frags.new }
-{
     let place = Place {
         dir,
         name: name.try_clone()?,
     };
-    frags.ready(op)?;
-    Ok(Plan {
-        reply: Reply::Done,
-        change: Some(Change::Remove { place }),
-        number: None,
-    })
+    Ok(Checked::Changes(Change::Remove {
+        place,
+        leaf,
+        gone: None,
+    }))
+}
+
+/// Takes away a directory that has to be empty.
+pub fn remove_dir<F: Frags>(
+    frags: &mut F,
+    op: &Op,
+    dir: Ino,
+    name: &Name,
+) -> Result<Checked, Refusal>
+    requires reads { Reads (F.content frags.old) op.now dir.0 }
+    requires inside { (inode : Node) → at (F.content frags.old) dir.0 name.now ≡ Some inode → Reads (F.content frags.old) op.now inode.ino.0 }
+    requires removes { (leaf : Fragment) (gone : Option Number) → IsChangeOf op.now (Remove (place_of dir.0 name.now) leaf gone) }
+    ensures checked { (n : ℕ) → IfOk result (Checks (F.content frags.old) (F.covers frags.old) op.now n
+        (dir_removed (F.content frags.old) (place_of dir.0 name.now) (at (F.content frags.old) dir.0 name.now))) }
+    ensures kept { KeepsAll (F.content frags.old) (F.content frags.new) (F.covers frags.old) (F.covers frags.new) (F.Follows frags.old frags.new) }
+    ensures err { IfErr result (Refuses (F.MayRefuse frags.old frags.new op.now)) }
+{
+    let leaf = frags.frag_of(dir, name);
+    let Some(inode) = frags.look(op, dir, leaf, name)? else {
+        return Ok(Checked::Answers(Reply::Errno(ENOENT)))
+    };
+    if !inode.kind.is_dir() {
+        return Ok(Checked::Answers(Reply::Errno(ENOTDIR)));
+    }
+    if !frags.is_empty(op, inode.ino)? {
+        return Ok(Checked::Answers(Reply::Errno(ENOTEMPTY)));
+    }
+    let place = Place {
+        dir,
+        name: name.try_clone()?,
+    };
+    Ok(Checked::Changes(Change::Remove {
+        place,
+        leaf,
+        gone: Some(inode.ino),
+    }))
 }

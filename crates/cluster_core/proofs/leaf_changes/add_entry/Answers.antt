@@ -1,4 +1,5 @@
 use Rattle.inode_table.proofs.TableLaws.{may_come, added_tabled, leaves_same}
+use Rattle.cluster_core.proofs.LeafFrames.{only_one}
 use Rattle.cluster_core.proofs.leaf_changes.add_entry.Goals as goal
 
 pub adopt_dir-requires-clause-may : goal.adopt_dir-requires-clause-may
@@ -7,8 +8,14 @@ adopt_dir-requires-clause-may c kinded = may_come _ _ c.args.place c.args.inode 
 pub put_at-requires-clause-placed : goal.put_at-requires-clause-placed
 put_at-requires-clause-placed c = rw c.adopt_dir.ensures.trees c.requires.sound.placed
 
+pub put_at-requires-clause-picks : goal.put_at-requires-clause-picks
+put_at-requires-clause-picks c = rw c.adopt_dir.ensures.trees (c.each_hash_has_a_leaf.ensures _ _ c.requires.sound.table)
+
+pub put_at-requires-clause-leaf : goal.put_at-requires-clause-leaf
+put_at-requires-clause-leaf c = rw c.adopt_dir.ensures.trees c.requires.leaf
+
 pub put_at-requires-clause-room : goal.put_at-requires-clause-room
-put_at-requires-clause-room c none = rw c.adopt_dir.ensures.trees c.requires.room
+put_at-requires-clause-room c none = c.requires.room
 
 pub returns-clause-sound : goal.returns-clause-sound
 returns-clause-sound c = record {
@@ -19,3 +26,6 @@ returns-clause-sound c = record {
 
 pub returns-clause-leaves : goal.returns-clause-leaves
 returns-clause-leaves c = leaves_same _ _ _ c.adopt_dir.ensures.trees
+
+pub returns-clause-frame : goal.returns-clause-frame
+returns-clause-frame c = only_one _ _ c.args.place.dir c.args.leaf _ c.put_at.ensures.put

@@ -7,13 +7,29 @@ use Rattle.inode_table.specs.TreeTable.{without_cover}
 use Rattle.inode_table.proofs.TableLaws.{leaves_kept}
 use Rattle.inode_table.proofs.MoveLaws.{may_relocate, may_replace, moved_tabled}
 use Rattle.cluster_core.proofs.LeafChanges.{moving, moved_tree, replaced_is, replaced_empty}
+use Rattle.cluster_core.proofs.LeafFrames.{only_two_then}
 use Rattle.cluster_core.proofs.leaf_changes.move_entry.Goals as goal
 
 pub relocate_dir-requires-clause-may : goal.relocate_dir-requires-clause-may
 relocate_dir-requires-clause-may c = may_relocate (shown_by c.args.leaves.now) _ c.args.from.now c.args.to c.in-Some.inode c.requires.sound.tabled (moving _ c.args.from.now c.args.to c.take_from.result _ c.in-Some.is c.take_from.ensures.value c.requires.may)
 
-pub take_from-replaced-requires : goal.take_from-replaced-requires
-take_from-replaced-requires c = rw c.relocate_dir.ensures.trees c.take_from.ensures.placed
+pub take_from-requires-clause-picks : goal.take_from-requires-clause-picks
+take_from-requires-clause-picks c = c.each_hash_has_a_leaf.ensures _ _ c.requires.sound.table
+
+pub take_from-replaced-requires-clause-picks : goal.take_from-replaced-requires-clause-picks
+take_from-replaced-requires-clause-picks c = rw c.relocate_dir.ensures.trees (c.each_hash_has_a_leaf.ensures _ _ c.requires.sound.table)
+
+pub take_from-replaced-requires-clause-placed : goal.take_from-replaced-requires-clause-placed
+take_from-replaced-requires-clause-placed c = rw c.relocate_dir.ensures.trees c.take_from.ensures.placed
+
+pub take_from-replaced-requires-clause-leaf : goal.take_from-replaced-requires-clause-leaf
+take_from-replaced-requires-clause-leaf c = rw c.relocate_dir.ensures.trees c.requires.target
+
+pub put_at-requires-clause-picks : goal.put_at-requires-clause-picks
+put_at-requires-clause-picks c = rw c.relocate_dir.ensures.trees (c.each_hash_has_a_leaf.ensures _ _ c.requires.sound.table)
+
+pub put_at-requires-clause-leaf : goal.put_at-requires-clause-leaf
+put_at-requires-clause-leaf c = rw c.relocate_dir.ensures.trees c.requires.target
 
 pub drop_leaves-requires-clause-childless : goal.drop_leaves-requires-clause-childless
 drop_leaves-requires-clause-childless c gone is kinded =
@@ -76,3 +92,7 @@ returns-clause-leaves c =
   where
     move : IsMove (shown_by c.args.leaves.now) c.args.from.now c.args.to c.in-Some.inode
     move = moving _ c.args.from.now c.args.to c.take_from.result _ c.in-Some.is c.take_from.ensures.value c.requires.may
+
+pub returns-clause-frame : goal.returns-clause-frame
+returns-clause-frame c =
+    only_two_then c.args.leaves.now _ _ _ _ c.args.from.now.dir c.args.to.dir c.args.source c.args.target _ _ _ c.take_from.ensures.taken c.take_from-replaced.ensures.taken c.put_at.ensures.put c.drop_leaves.ensures.names

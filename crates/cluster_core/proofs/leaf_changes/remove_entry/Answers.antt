@@ -2,6 +2,7 @@ use Rattle.std.proofs.Common.{sym, ◌∙◌}
 use Rattle.leaf_maps.specs.Leaves.{shown_by}
 use Rattle.inode_table.proofs.TableLaws.{may_drop, removed_tabled, leaves_kept}
 use Rattle.cluster_core.proofs.LeafChanges.{removed_empty}
+use Rattle.cluster_core.proofs.LeafFrames.{only_one_then}
 use Rattle.cluster_core.proofs.leaf_changes.remove_entry.Goals as goal
 
 pub drop_leaves-requires-clause-childless : goal.drop_leaves-requires-clause-childless
@@ -23,3 +24,9 @@ returns-clause-leaves c =
     leaves_kept (shown_by c.args.leaves.now) _ _ _ _ _ c.args.place.now _
     (rw (c.drop_leaves.ensures.tree, c.take_from-gone.ensures.tree, c.drop_leaves.ensures.homes) (removed_tabled _ _ c.args.place.now _ (sym (c.as_ref.ensures.value ∙ c.take_from-gone.ensures.value)) c.requires.sound.tabled c.requires.may))
     c.requires.sound.tabled.whole (c.as_ref.ensures.value ∙ c.take_from-gone.ensures.value) c.drop_leaves.ensures.homes c.drop_leaves.ensures.trees
+
+pub take_from-gone-requires-clause-picks : goal.take_from-gone-requires-clause-picks
+take_from-gone-requires-clause-picks c = c.each_hash_has_a_leaf.ensures _ _ c.requires.sound.table
+
+pub returns-clause-frame : goal.returns-clause-frame
+returns-clause-frame c = only_one_then c.args.leaves.now _ _ c.args.place.now.dir c.args.leaf _ c.take_from-gone.ensures.taken c.drop_leaves.ensures.names

@@ -1,5 +1,6 @@
 use Rattle.std.proofs.Common.{◌≡◌, Some, None, sym, ◌∙◌}
 use Rattle.inode_table.proofs.TableLaws.{set_tabled}
+use Rattle.cluster_core.proofs.LeafFrames.{only_one}
 use Rattle.cluster_core.proofs.leaf_changes.set_entry.Goals as goal
 
 pub put_at-requires-clause-room : goal.put_at-requires-clause-room
@@ -11,3 +12,9 @@ returns-clause-sound c = record {
   placed = c.put_at.ensures.placed;
   tabled = rw c.put_at.ensures.tree (set_tabled _ _ c.args.place c.args.inode c.requires.sound.tabled c.requires.may);
 }
+
+pub put_at-requires-clause-picks : goal.put_at-requires-clause-picks
+put_at-requires-clause-picks c = c.each_hash_has_a_leaf.ensures _ _ c.requires.sound.table
+
+pub returns-clause-frame : goal.returns-clause-frame
+returns-clause-frame c = only_one _ _ c.args.place.dir c.args.leaf _ c.put_at.ensures.put

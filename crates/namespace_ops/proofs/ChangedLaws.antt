@@ -1,0 +1,262 @@
+-- The fragments of a checked change are the operation's changed fragments, and each is named once.
+use Rattle.std.proofs.Common.{◌≡◌, ℕ, Bool, true, false, cond, ◌&&◌, ◌||◌, List, [], ◌∷◌, ◌++◌, Option, Some, None, Result, Ok, Err, IfOk, ⊎_elim, refl, sym, ap, subst, ◌∙◌, arith}
+use Rattle.std.specs.List.{Contains}
+use Rattle.std.specs.Ordering.{eq_by_cmp}
+use Rattle.std.specs.FinMap as map
+use Rattle.mds_types.specs.declared.ids.Ino.{Ino}
+use Rattle.mds_types.specs.declared.places.Place.{Place}
+use Rattle.mds_types.specs.declared.inodes.Inode.{Inode}
+use Rattle.mds_types.specs.declared.inodes.Kind.{Kind}
+use Rattle.mds_types.specs.declared.operations.Op.{Op}
+use Rattle.mds_types.specs.declared.operations.Op.TheVariants.{Lookup, Readdir, Create, Mkdir, Readlink, Symlink, Setattr, Unlink, Rmdir, Rename}
+use Rattle.mds_types.specs.Frag.{Fragment}
+use Rattle.mds_types.specs.Tree.{Tree, place_cmp, place_of, is_dir_kind, has_entries}
+use Rattle.mds_types.specs.Step.{step, replace_errno}
+use Rattle.mds_types.specs.StepLaws.{is_errno, errno_of_any_number}
+use Rattle.mds_types.specs.DirectoryLaws.{entries_there}
+use Rattle.inode_table.specs.Dirs.{Covers, leaves_of}
+use Rattle.namespace_ops.specs.declared.plans.Change.{Change}
+use Rattle.namespace_ops.specs.declared.plans.Change.TheVariants.{Add, Set, Remove, Move}
+use Rattle.namespace_ops.specs.Kept.{Leaf}
+use Rattle.namespace_ops.specs.Changes.{Carries, IsAddAt, IsChangeOf, IsLeafAt, IsMoveTo, IsRemovalAt, IsSetAt, IsUnlinkAt, Takes, directory_at, fragments_of, in_directory, is_idle, is_new, leaves, leaves_gone, named_once, reply_of, same_leaf, stays, unless_same}
+use Rattle.namespace_ops.specs.ChangedFragments.{AreApart, IsCovered, NamesOnce, changed_fragments, fragment_of, gone_with, leaves_at, touched}
+use Rattle.mds_types.specs.declared.refusals.Refusal.{Refusal}
+use Rattle.namespace_ops.specs.declared.plans.Checked.{Checked}
+use Rattle.namespace_ops.specs.declared.plans.Checked.TheVariants.{Changes}
+use Rattle.namespace_ops.specs.Checked.{Checks, IsChecked}
+use Rattle.namespace_ops.specs.Picks.{picked}
+use Rattle.namespace_ops.proofs.Members.{first_or_later, in_dir, later, leaves_apart, none_in, one_leaf, two_leaves}
+
+leaf_is : (covers : Covers) (place : Place) (leaf : Fragment) → IsLeafAt covers place leaf → (place.dir, leaf) ≡ fragment_of covers place.dir.0 place.name
+leaf_is covers place leaf pick = ap (in_directory place.dir.0) (sym (picked _ _ _ pick))
+
+leaf_at : (covers : Covers) (place p : Place) (leaf : Fragment) → p ≡ place → IsLeafAt covers p leaf → (p.dir, leaf) ≡ fragment_of covers place.dir.0 place.name
+leaf_at covers place p leaf same pick = leaf_is covers p leaf pick ∙ ap (λ (q : Place). fragment_of covers q.dir.0 q.name) same
+
+gone_leaves : (covers : Covers) (found : Option Inode) (gone : Option Ino) → gone ≡ directory_at found → leaves_gone covers gone ≡ leaves_at covers found
+gone_leaves covers None gone is = ap (leaves_gone covers) is
+gone_leaves covers (Some inode) gone is = ap (leaves_gone covers) is ∙ go (is_dir_kind inode.kind)
+  where
+    go : (b : Bool) → leaves_gone covers (cond b (Some inode.ino) None) ≡ cond b (leaves covers inode.ino.0) []
+    go true = refl
+    go false = refl
+
+module _ (tree : Tree) (covers : Covers) where
+  of_add : (place : Place) (kind : Kind) (change : Change) → IsAddAt place kind change → Carries tree covers change → fragments_of covers change ≡ fragment_of covers place.dir.0 place.name ∷ []
+  of_add place kind (Add p leaf inode) at_place carries = ap (λ l. l ∷ []) (leaf_at covers place p leaf at_place.0 carries)
+  of_add place kind (Set p leaf inode) at_place carries = absurd at_place
+  of_add place kind (Remove p leaf gone) at_place carries = absurd at_place
+  of_add place kind (Move from source to target gone) at_place carries = absurd at_place
+
+  of_set : (place : Place) (change : Change) → IsSetAt place change → Carries tree covers change → fragments_of covers change ≡ fragment_of covers place.dir.0 place.name ∷ []
+  of_set place (Add p leaf inode) at_place carries = absurd at_place
+  of_set place (Set p leaf inode) at_place carries = ap (λ l. l ∷ []) (leaf_at covers place p leaf at_place carries)
+  of_set place (Remove p leaf gone) at_place carries = absurd at_place
+  of_set place (Move from source to target gone) at_place carries = absurd at_place
+
+  of_unlink : (place : Place) (change : Change) → IsUnlinkAt place change → Carries tree covers change → fragments_of covers change ≡ fragment_of covers place.dir.0 place.name ∷ []
+  of_unlink place (Add p leaf inode) at_place carries = absurd at_place
+  of_unlink place (Set p leaf inode) at_place carries = absurd at_place
+  of_unlink place (Remove p leaf gone) at_place carries = λ i. leaf_at covers place p leaf at_place.0 carries.0 i ∷ leaves_gone covers (at_place.1 i)
+  of_unlink place (Move from source to target gone) at_place carries = absurd at_place
+
+  of_removal : (place : Place) (change : Change) → IsRemovalAt place change → Carries tree covers change → fragments_of covers change ≡ fragment_of covers place.dir.0 place.name ∷ leaves_at covers (map.get tree place)
+  of_removal place (Add p leaf inode) at_place carries = absurd at_place
+  of_removal place (Set p leaf inode) at_place carries = absurd at_place
+  of_removal place (Remove p leaf gone) at_place carries =
+      let there = gone_leaves covers (map.get tree place) gone (carries.1 ∙ ap (λ q. directory_at (map.get tree q)) at_place) in
+      λ i. leaf_at covers place p leaf at_place carries.0 i ∷ there i
+  of_removal place (Move from source to target gone) at_place carries = absurd at_place
+
+  of_move : (here there : Place) (change : Change) → IsMoveTo here there change → Carries tree covers change
+      → fragments_of covers change ≡ fragment_of covers here.dir.0 here.name ∷ fragment_of covers there.dir.0 there.name ∷ leaves_at covers (map.get tree there)
+  of_move here there (Add p leaf inode) at_place carries = absurd at_place
+  of_move here there (Set p leaf inode) at_place carries = absurd at_place
+  of_move here there (Remove p leaf gone) at_place carries = absurd at_place
+  of_move here there (Move from source to target gone) at_place carries =
+      let rest = gone_leaves covers (map.get tree there) gone (carries.2 ∙ ap (λ q. directory_at (map.get tree q)) at_place.1) in
+      λ i. leaf_at covers here from source at_place.0 carries.0 i ∷ leaf_at covers there to target at_place.1 carries.1 i ∷ rest i
+
+  -- the fragments of a change are those that its operation touches
+  touched_by : (op : Op) (change : Change) → IsChangeOf op change → Carries tree covers change → stays op ≡ false → fragments_of covers change ≡ touched covers tree op
+  touched_by (Lookup dir name) change one_of carries moves = absurd one_of
+  touched_by (Readdir dir after max) change one_of carries moves = absurd one_of
+  touched_by (Readlink dir name) change one_of carries moves = absurd one_of
+  touched_by (Create dir name mode mtime) change one_of carries moves = of_add (place_of dir.0 name) _ change one_of carries
+  touched_by (Mkdir dir name mode mtime) change one_of carries moves = of_add (place_of dir.0 name) _ change one_of carries
+  touched_by (Symlink dir name target mtime) change one_of carries moves = of_add (place_of dir.0 name) _ change one_of carries
+  touched_by (Setattr dir name mode size mtime) change one_of carries moves = of_set (place_of dir.0 name) change one_of carries
+  touched_by (Unlink dir name) change one_of carries moves = of_unlink (place_of dir.0 name) change one_of carries
+  touched_by (Rmdir dir name) change one_of carries moves = of_removal (place_of dir.0 name) change one_of carries
+  touched_by (Rename dir name to_dir to_name) change one_of carries moves =
+      of_move (place_of dir.0 name) (place_of to_dir.0 to_name) change one_of carries
+      ∙ sym (ap (λ b. cond b [] (fragment_of covers dir.0 name ∷ fragment_of covers to_dir.0 to_name ∷ leaves_at covers (map.get tree (place_of to_dir.0 to_name)))) moves)
+
+  move_apart : (here there : Place) (change : Change) → IsMoveTo here there change → Takes tree change → eq_by_cmp place_cmp here there ≡ false
+  move_apart here there (Add p leaf inode) at_place takes = absurd at_place
+  move_apart here there (Set p leaf inode) at_place takes = absurd at_place
+  move_apart here there (Remove p leaf gone) at_place takes = absurd at_place
+  move_apart here there (Move from source to target gone) at_place takes = (λ i. eq_by_cmp place_cmp (sym at_place.0 i) (sym at_place.1 i)) ∙ takes.1.apart
+
+  new_or_not : (change : Change) → ((is_new change ≡ false) → Takes tree change) → (here there : Place) → IsMoveTo here there change → Takes tree change
+  new_or_not (Add p leaf inode) takes here there at_place = absurd at_place
+  new_or_not (Set p leaf inode) takes here there at_place = absurd at_place
+  new_or_not (Remove p leaf gone) takes here there at_place = absurd at_place
+  new_or_not (Move from source to target gone) takes here there at_place = takes refl
+
+  -- an operation that makes a change doesn't stay
+  moves_by : (op : Op) (change : Change) → IsChangeOf op change → ((is_new change ≡ false) → Takes tree change) → stays op ≡ false
+  moves_by (Lookup dir name) change one_of takes = absurd one_of
+  moves_by (Readdir dir after max) change one_of takes = absurd one_of
+  moves_by (Readlink dir name) change one_of takes = absurd one_of
+  moves_by (Create dir name mode mtime) change one_of takes = refl
+  moves_by (Mkdir dir name mode mtime) change one_of takes = refl
+  moves_by (Symlink dir name target mtime) change one_of takes = refl
+  moves_by (Setattr dir name mode size mtime) change one_of takes = refl
+  moves_by (Unlink dir name) change one_of takes = refl
+  moves_by (Rmdir dir name) change one_of takes = refl
+  moves_by (Rename dir name to_dir to_name) change one_of takes =
+      move_apart (place_of dir.0 name) (place_of to_dir.0 to_name) change one_of (new_or_not change takes (place_of dir.0 name) (place_of to_dir.0 to_name) one_of)
+
+  stays_none : (op : Op) → stays op ≡ true → touched covers tree op ≡ []
+  stays_none (Lookup dir name) idle = refl
+  stays_none (Readdir dir after max) idle = refl
+  stays_none (Readlink dir name) idle = refl
+  stays_none (Create dir name mode mtime) idle = cc
+  stays_none (Mkdir dir name mode mtime) idle = cc
+  stays_none (Symlink dir name target mtime) idle = cc
+  stays_none (Setattr dir name mode size mtime) idle = cc
+  stays_none (Unlink dir name) idle = cc
+  stays_none (Rmdir dir name) idle = cc
+  stays_none (Rename dir name to_dir to_name) idle =
+      ap (λ b. cond b [] (fragment_of covers dir.0 name ∷ fragment_of covers to_dir.0 to_name ∷ leaves_at covers (map.get tree (place_of to_dir.0 to_name)))) idle
+
+  -- an operation that changes nothing has no changed fragments
+  pub idle_none : (op : Op) (n : ℕ) → is_idle op (step tree op n).reply ≡ true → changed_fragments covers tree op ≡ []
+  idle_none op n idle = go (is_errno (step tree op 0).reply) (errno_of_any_number tree op 0 n)
+    where
+      go : (b : Bool) → b ≡ is_errno (step tree op n).reply → cond b [] (touched covers tree op) ≡ []
+      go true is = refl
+      go false is = stays_none op (ap (λ b. b || stays op) is ∙ idle)
+
+no_errno : (change : Change) → is_errno (reply_of change) ≡ false
+no_errno (Add p leaf inode) = refl
+no_errno (Set p leaf inode) = refl
+no_errno (Remove p leaf gone) = refl
+no_errno (Move from source to target gone) = refl
+
+module _ (tree : Tree) (covers : Covers) (op : Op) (n : ℕ) (change : Change) (checked : IsChecked tree covers op n (step tree op n) change) where
+  pub takes_old : is_new change ≡ false → Takes tree change
+  takes_old old = checked.takes (λ taken. let clash : true ≡ false = sym taken ∙ checked.number ∙ old in absurd cc)
+
+  pub moves : stays op ≡ false
+  moves = moves_by tree covers op change checked.one_of takes_old
+
+  pub busy : is_idle op (step tree op n).reply ≡ false
+  busy = ap (λ r. is_errno r || stays op) checked.replied ∙ ap (λ b. b || stays op) (no_errno change) ∙ moves
+
+  pub fragments_are : fragments_of covers change ≡ changed_fragments covers tree op
+  fragments_are =
+      touched_by tree covers op change checked.one_of checked.carries moves
+      ∙ sym (ap (λ b. cond b [] (touched covers tree op)) (errno_of_any_number tree op 0 n ∙ ap is_errno checked.replied ∙ no_errno change))
+
+-- the errno of a replacement, by three tests
+abbrev told : Bool → Bool → Bool → Option ℕ
+told m b e = cond {A = Option ℕ} m (cond {A = Option ℕ} b (cond {A = Option ℕ} e (Some 39) None) (Some 20)) (cond {A = Option ℕ} b (Some 21) None)
+
+-- what goes has no entries
+abbrev IsBare : Tree → Option Ino → Type 0
+IsBare tree None = Unit {0}
+IsBare tree (Some dir) = has_entries tree dir.0 ≡ false
+
+module _ (tree : Tree) (covers : Covers) where
+  -- a leaf of an entry is none of a directory that goes
+  beside_gone : (place : Place) (inode : Inode) (leaf : Fragment) (gone : Option Ino) → map.get tree place ≡ Some inode → IsBare tree gone → Contains (leaves_gone covers gone) (place.dir, leaf) → ⊥
+  beside_gone place inode leaf None stands bare has = none_in _ has
+  beside_gone place inode leaf (Some dir) stands bare has =
+      let same = in_dir dir.0 (leaves_of covers dir.0) (place.dir, leaf) has in
+      let clash : true ≡ false = sym (entries_there tree place inode stands) ∙ ap (has_entries tree) same ∙ bare in
+      cc
+
+  gone_apart : (gone : Option Ino) → IsCovered covers gone → AreApart (leaves_gone covers gone)
+  gone_apart None covered = tt
+  gone_apart (Some dir) covered = leaves_apart dir.0 _ _ (leaves_of covers dir.0) covered.tiles
+
+  bare_by : (found : Option Inode) (gone : Option Ino) → gone ≡ directory_at found → ((inode : Inode) → found ≡ Some inode → is_dir_kind inode.kind ≡ true → has_entries tree inode.ino.0 ≡ false) → IsBare tree gone
+  bare_by None None is empty = tt
+  bare_by None (Some dir) is empty = cc
+  bare_by (Some inode) gone is empty = go (is_dir_kind inode.kind) refl gone is
+    where
+      go : (b : Bool) → is_dir_kind inode.kind ≡ b → (g : Option Ino) → g ≡ cond b (Some inode.ino) None → IsBare tree g
+      go true kinded None g_is = cc
+      go true kinded (Some dir) g_is = let same : dir ≡ inode.ino = cc in ap (λ (d : Ino). has_entries tree d.0) same ∙ empty inode refl kinded
+      go false kinded None g_is = tt
+      go false kinded (Some dir) g_is = cc
+
+  replaced_bare : (moving : Inode) (found : Option Inode) → replace_errno tree moving found ≡ None → (inode : Inode) → found ≡ Some inode → is_dir_kind inode.kind ≡ true → has_entries tree inode.ino.0 ≡ false
+  replaced_bare moving None none inode is kinded = cc
+  replaced_bare moving (Some target) none inode is kinded =
+      let alike : target ≡ inode = cc in
+      let kind : is_dir_kind target.kind ≡ true = ap (λ (t : Inode). is_dir_kind t.kind) alike ∙ kinded in
+      ap (λ (t : Inode). has_entries tree t.ino.0) (sym alike) ∙ go (is_dir_kind moving.kind) (has_entries tree target.ino.0)
+      (sym (ap (λ b. told (is_dir_kind moving.kind) b (has_entries tree target.ino.0)) kind) ∙ none)
+    where
+      go : (m e : Bool) → told m true e ≡ None → e ≡ false
+      go true true clash = cc
+      go true false clash = refl
+      go false e clash = cc
+
+  itself : (list : List Leaf) → AreApart list → NamesOnce list list
+  itself list apart = record { exactly = λ leaf. (λ h. h, λ h. h); once = apart }
+
+  of_two : (a b : Leaf) (rest : List Leaf) → (Contains rest a → ⊥) → (Contains rest b → ⊥) → AreApart rest → NamesOnce (a ∷ b ∷ rest) (a ∷ (unless_same a b ++ rest))
+  of_two a b rest a_not b_not apart = go (same_leaf a b) refl
+    where
+      go : (t : Bool) → same_leaf a b ≡ t → NamesOnce (a ∷ b ∷ rest) (a ∷ (cond t [] (b ∷ []) ++ rest))
+      go true is =
+          let same = one_leaf a b is in
+          record {
+            exactly = λ leaf. (
+              λ has. ⊎_elim (λ e. subst_in leaf e) (λ h. later a leaf (b ∷ rest) (later b leaf rest h)) (first_or_later a leaf rest has),
+              λ has. ⊎_elim (λ e. front leaf e) (λ h. ⊎_elim (λ e. front leaf (same ∙ e)) (λ k. later a leaf rest k) (first_or_later b leaf rest h)) (first_or_later a leaf (b ∷ rest) has),
+            );
+            once = (a_not, apart);
+          }
+        where
+          subst_in : (leaf : Leaf) → a ≡ leaf → Contains (a ∷ b ∷ rest) leaf
+          subst_in leaf e = (0, omega arith, e)
+
+          front : (leaf : Leaf) → a ≡ leaf → Contains (a ∷ rest) leaf
+          front leaf e = (0, omega arith, e)
+      go false is = itself (a ∷ b ∷ rest) (λ has. ⊎_elim (λ e. two_leaves a b is (sym e)) a_not (first_or_later b a rest has), (b_not, apart))
+
+  pub named_apart : (change : Change) → Carries tree covers change → (is_new change ≡ false → Takes tree change) → IsCovered covers (gone_with change) → NamesOnce (fragments_of covers change) (named_once covers change)
+  named_apart (Add place leaf inode) carries takes covered = itself _ (none_in _, tt)
+  named_apart (Set place leaf inode) carries takes covered = itself _ (none_in _, tt)
+  named_apart (Remove place leaf gone) carries takes covered =
+      let may = takes refl in
+      itself _ (beside_gone place may.inode leaf gone may.stands (bare_by (map.get tree place) gone carries.1 (λ inode is kinded. removed_bare may.inode inode (sym may.stands ∙ is) may.empty kinded)), gone_apart gone covered)
+    where
+      removed_bare : (there inode : Inode) → ◌≡◌ {A = Option Inode} (Some there) (Some inode) → (is_dir_kind there.kind && has_entries tree there.ino.0) ≡ false → is_dir_kind inode.kind ≡ true → has_entries tree inode.ino.0 ≡ false
+      removed_bare there inode is none kinded =
+          let alike : there ≡ inode = cc in
+          sym (ap (λ b. b && has_entries tree inode.ino.0) kinded) ∙ ap (λ (i : Inode). is_dir_kind i.kind && has_entries tree i.ino.0) (sym alike) ∙ none
+  named_apart (Move from source to target gone) carries takes covered =
+      let move = takes refl in
+      let bare : IsBare tree gone = bare_by (map.get tree to) gone carries.2 (replaced_bare move.0 (map.get tree to) move.1.replaces) in
+      of_two (from.dir, source) (to.dir, target) (leaves_gone covers gone) (beside_gone from move.0 source gone move.1.stands bare) (beside_to (map.get tree to) refl gone carries.2 bare) (gone_apart gone covered)
+    where
+      beside_to : (found : Option Inode) → map.get tree to ≡ found → (g : Option Ino) → g ≡ directory_at (map.get tree to) → IsBare tree g → Contains (leaves_gone covers g) (to.dir, target) → ⊥
+      beside_to None at_to None is bare has = none_in _ has
+      beside_to None at_to (Some dir) is bare has = let clash : Some dir ≡ None = is ∙ ap directory_at at_to in cc
+      beside_to (Some inode) at_to g is bare has = beside_gone to inode target g at_to bare has
+
+-- the list of the fragments of the change that the checks found names the changed fragments, each once
+pub named_result : {V : Type 0} (tree : Tree) (covers later : Covers) (op : Op) (n : ℕ) (change : Change) (found : Checked) (result : Result V Refusal) (items : V → List Leaf) → later ≡ covers → found ≡ Changes change → Checks tree covers op n (step tree op n) found
+    → IfOk result (λ list. items list ≡ named_once later change) → IfOk result (λ list. IsCovered later (gone_with change)) → IfOk result (λ list. NamesOnce (changed_fragments covers tree op) (items list))
+named_result tree covers later op n change found (Ok list) items same is checks listed covered =
+    let checked : IsChecked tree covers op n (step tree op n) change = subst (Checks tree covers op n (step tree op n)) is checks in
+    subst (λ k. NamesOnce k (items list)) (fragments_are tree covers op n change checked)
+    (subst (NamesOnce (fragments_of covers change)) (sym (listed ∙ ap (λ k. named_once k change) same))
+    (named_apart tree covers change checked.carries (takes_old tree covers op n change checked) (subst (λ k. IsCovered k (gone_with change)) same covered)))
+named_result tree covers later op n change found (Err reason) items same is checks listed covered = tt

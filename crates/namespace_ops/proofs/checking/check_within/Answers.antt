@@ -1,0 +1,31 @@
+use Rattle.std.proofs.Common.{IfOk, subst}
+use Rattle.mds_types.specs.declared.operations.Op.TheVariants.{Lookup, Readdir, Readlink, Setattr, Unlink, Rmdir, Rename}
+use Rattle.mds_types.specs.Step.{names_after, page}
+use Rattle.namespace_ops.specs.Checked.{Checks}
+use Rattle.namespace_ops.proofs.CheckedParts.{within_from}
+use Rattle.namespace_ops.proofs.checking.check_within.Goals as goal
+
+pub returns-in-Lookup-clause-checked : goal.returns-in-Lookup-clause-checked
+returns-in-Lookup-clause-checked g c = within_from _ _ _ (Lookup c.in-Lookup.dir c.in-Lookup.name) c.args.number.0 _ c.in-Lookup.is (c.lookup.ensures.checked c.args.number.0)
+
+pub returns-in-Readdir-clause-checked : goal.returns-in-Readdir-clause-checked
+returns-in-Readdir-clause-checked g c = within_from _ _ _ (Readdir c.in-Readdir.dir c.in-Readdir.after c.in-Readdir.max) c.args.number.0 _ c.in-Readdir.is
+    (subst
+    (λ after. IfOk c.read_dir.result (Checks (g.F.Frags.content c.args.frags.now) (g.F.Frags.covers c.args.frags.now) c.args.op.now c.args.number.0
+    (page (g.F.Frags.content c.args.frags.now) c.in-Readdir.max (names_after (g.F.Frags.content c.args.frags.now) c.in-Readdir.dir.0 after))))
+    c.as_ref.ensures.value (c.read_dir.ensures.checked c.args.number.0))
+
+pub returns-in-Readlink-clause-checked : goal.returns-in-Readlink-clause-checked
+returns-in-Readlink-clause-checked g c = within_from _ _ _ (Readlink c.in-Readlink.dir c.in-Readlink.name) c.args.number.0 _ c.in-Readlink.is (c.read_link.ensures.checked c.args.number.0)
+
+pub returns-in-Setattr-clause-checked : goal.returns-in-Setattr-clause-checked
+returns-in-Setattr-clause-checked g c = within_from _ _ _ (Setattr c.in-Setattr.dir c.in-Setattr.name c.in-Setattr.mode c.in-Setattr.size c.in-Setattr.mtime) c.args.number.0 _ c.in-Setattr.is (c.set_attributes.ensures.checked c.args.number.0)
+
+pub returns-in-Unlink-clause-checked : goal.returns-in-Unlink-clause-checked
+returns-in-Unlink-clause-checked g c = within_from _ _ _ (Unlink c.in-Unlink.dir c.in-Unlink.name) c.args.number.0 _ c.in-Unlink.is (c.unlink.ensures.checked c.args.number.0)
+
+pub returns-in-Rmdir-clause-checked : goal.returns-in-Rmdir-clause-checked
+returns-in-Rmdir-clause-checked g c = within_from _ _ _ (Rmdir c.in-Rmdir.dir c.in-Rmdir.name) c.args.number.0 _ c.in-Rmdir.is (c.remove_dir.ensures.checked c.args.number.0)
+
+pub returns-in-Rename-clause-checked : goal.returns-in-Rename-clause-checked
+returns-in-Rename-clause-checked g c = within_from _ _ _ (Rename c.in-Rename.dir c.in-Rename.name c.in-Rename.to_dir c.in-Rename.to_name) c.args.number.0 _ c.in-Rename.is (c.rename.ensures.checked c.args.number.0)

@@ -1,0 +1,26 @@
+-- What the checks of an operation find.
+use Rattle.std.specs.Prelude.{◌≡◌, ℕ, true}
+use Rattle.mds_types.specs.declared.operations.Op.{Op}
+use Rattle.mds_types.specs.Tree.{Tree}
+use Rattle.mds_types.specs.Step.{Outcome, answers}
+use Rattle.mds_types.specs.WellFormedLaws.{IsUnused}
+use Rattle.inode_table.specs.Dirs.{Covers}
+use Rattle.namespace_ops.specs.declared.plans.Change.{Change}
+use Rattle.namespace_ops.specs.declared.plans.Checked.{Checked}
+use Rattle.namespace_ops.specs.declared.plans.Checked.TheVariants.{Answers, Changes}
+use Rattle.namespace_ops.specs.Changes.{Carries, IsChangeOf, Takes, changed, is_idle, is_new, reply_of}
+
+-- the operation makes this change, offered the number n: it is one of the operation, leads to the table's outcome, and may be made, where
+-- the number that it takes is unused
+pub record IsChecked (tree : Tree) (covers : Covers) (op : Op) (n : ℕ) (outcome : Outcome) (change : Change) : Type 0 where
+  pub one_of : IsChangeOf op change
+  pub replied : outcome.reply ≡ reply_of change
+  pub leads : outcome.tree ≡ changed tree change
+  pub number : outcome.takes ≡ is_new change
+  pub carries : Carries tree covers change
+  pub takes : (outcome.takes ≡ true → IsUnused tree n) → Takes tree change
+
+-- what was found: a reply alone, of an operation that changes nothing, or a change
+abbrev pub Checks : Tree → Covers → Op → ℕ → Outcome → Checked → Type 0
+Checks tree covers op n outcome (Answers reply) = (outcome ≡ answers tree reply) × (is_idle op reply ≡ true)
+Checks tree covers op n outcome (Changes change) = IsChecked tree covers op n outcome change

@@ -1,0 +1,98 @@
+//! The checks of one operation, in their order. They read alone.
+ghost use Rattle.std.specs.Prelude.{◌≡◌, true, IfOk, IfErr};
+ghost use Rattle.mds_types.specs.Tree.{is_directory};
+ghost use Rattle.mds_types.specs.Step.{step, within, directory_of, destination_of};
+ghost use Rattle.namespace_ops.specs.Kept.{KeepsAll};
+ghost use Rattle.namespace_ops.specs.Checked.{Checks};
+ghost use Rattle.namespace_ops.specs.Reasons.{Refuses};
+
+use crate::altering::{Attributes, set_attributes};
+use crate::frags::Frags;
+use crate::making::{New, make};
+use crate::plans::Checked;
+use crate::reading::{lookup, read_dir, read_link};
+use crate::removing::{remove_dir, unlink};
+use crate::renaming::rename;
+use mds_types::{ESTALE, Ino, Op, Refusal, Reply};
+use std::alloc::Global;
+
+/// Checks an operation: finds the reply, or the one change that it makes. A new inode takes the number given. It reads
+/// alone, and is refused as a read is, or for want of memory.
+pub fn check<F: Frags>(
+    alloc: Global,
+    frags: &mut F,
+    op: &Op,
+    number: Ino,
+) -> Result<Checked, Refusal>
+    ensures checked { IfOk result (Checks (F.content frags.old) (F.covers frags.old) op.now number.0 (step (F.content frags.old) op.now number.0)) }
+    ensures kept { KeepsAll (F.content frags.old) (F.content frags.new) (F.covers frags.old) (F.covers frags.new) (F.Follows frags.old frags.new) }
+    ensures err { IfErr result (Refuses (F.MayRefuse frags.old frags.new op.now)) }
+{
+    if !(frags.is_dir(op.dir()) && frags.is_dir(op.destination())) {
+        return Ok(Checked::Answers(Reply::Errno(ESTALE)));
+    }
+    check_within(alloc, frags, op, number)
+}
+
+// Checks an operation whose directories stand.
+fn check_within<F: Frags>(
+    alloc: Global,
+    frags: &mut F,
+    op: &Op,
+    number: Ino,
+) -> Result<Checked, Refusal>
+    requires here { is_directory (F.content frags.old) (directory_of op.now) ≡ true }
+    requires there { is_directory (F.content frags.old) (destination_of op.now) ≡ true }
+    ensures checked { IfOk result (Checks (F.content frags.old) (F.covers frags.old) op.now number.0 (within (F.content frags.old) op.now number.0)) }
+    ensures kept { KeepsAll (F.content frags.old) (F.content frags.new) (F.covers frags.old) (F.covers frags.new) (F.Follows frags.old frags.new) }
+    ensures err { IfErr result (Refuses (F.MayRefuse frags.old frags.new op.now)) }
+{
+    match op {
+        Op::Lookup { dir, name } => lookup(frags, op, *dir, name),
+        Op::Readdir { dir, after, max } => read_dir(alloc, frags, op, *dir, after.as_ref(), *max),
+        Op::Readlink { dir, name } => read_link(frags, op, *dir, name),
+        Op::Create {
+            dir,
+            name,
+            mode,
+            mtime,
+        } => make(frags, op, *dir, name, New::file(*mode, *mtime), number),
+        Op::Mkdir {
+            dir,
+            name,
+            mode,
+            mtime,
+        } => make(frags, op, *dir, name, New::directory(*mode, *mtime), number),
+        Op::Symlink {
+            dir,
+            name,
+            target,
+            mtime,
+        } => {
+            let new = New::link(target.try_clone()?, *mtime);
+            make(frags, op, *dir, name, new, number)
+        }
+        Op::Setattr {
+            dir,
+            name,
+            mode,
+            size,
+            mtime,
+        } => {
+            let attributes = Attributes {
+                mode: *mode,
+                size: *size,
+                mtime: *mtime,
+            };
+            set_attributes(frags, op, *dir, name, attributes)
+        }
+        Op::Unlink { dir, name } => unlink(frags, op, *dir, name),
+        Op::Rmdir { dir, name } => remove_dir(frags, op, *dir, name),
+        Op::Rename {
+            dir,
+            name,
+            to_dir,
+            to_name,
+        } => rename(frags, op, (*dir, name), (*to_dir, to_name)),
+    }
+}

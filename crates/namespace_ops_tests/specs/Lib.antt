@@ -1,0 +1,3 @@
+pub mod OneEntry
+pub mod PlainFrags
+pub mod Run

@@ -1,0 +1,29 @@
+-- What contracts see of the plain fragments.
+use Rattle.std.specs.Prelude.{◌≡◌, ℕ, ◌<◌, Bool, true, ◌==◌, List, Option, Some}
+use Rattle.mds_types.specs.declared.places.Place.{Place}
+use Rattle.mds_types.specs.declared.inodes.Inode.{Inode}
+use Rattle.mds_types.specs.Tree.{Tree, is_dir_kind}
+use Rattle.inode_table.specs.Dirs.{Homes, Covers}
+use Rattle.namespace_ops.specs.declared.plans.Change.{Change}
+use Rattle.namespace_ops.specs.declared.plans.Change.TheVariants.{Add, Set, Remove, Move}
+
+-- the tree, the homes and the leaves of the directory table, how many entries and directories still fit with no growth, and the name that is ready for a
+-- directory's home
+pub record Kept : Type 0 where
+  pub tree : Tree
+  pub homes : Homes
+  pub covers : Covers
+  pub entries_left : ℕ
+  pub dirs_left : ℕ
+  pub spare : Option (List ℕ)
+
+-- an entry's inode has this number
+abbrev pub is_numbered : ℕ → Place × Inode → Bool
+is_numbered n entry = entry.1.ino.0 == n
+
+-- the change can be made with no growth: there is room for a new entry, and for a new home with its name
+abbrev pub IsReady : Kept → Change → Type 0
+IsReady f (Add place leaf inode) = (0 < f.entries_left) × (is_dir_kind inode.kind ≡ true → (0 < f.dirs_left) × (f.spare ≡ Some place.name))
+IsReady f (Set place leaf inode) = Unit {0}
+IsReady f (Remove place leaf gone) = Unit {0}
+IsReady f (Move from source to target gone) = f.spare ≡ Some to.name
