@@ -71,5 +71,5 @@ HasNamesOf old new leaf = names_at (dentries_of new) leaf.0.0 leaf.1 ≡ names_a
 abbrev pub IsReady : Fragments → Change → Type 0
 IsReady f (Add place leaf inode) = HasRoom f.leaves place.dir.0 leaf × (is_dir_kind inode.kind ≡ true → (0 < f.dirs_left) × (f.spare ≡ Some place.name))
 IsReady f (Set place leaf inode) = Unit {0}
-IsReady f (Remove place leaf gone) = Unit {0}
-IsReady f (Move from source to target gone) = HasRoom f.leaves to.dir.0 target × (f.spare ≡ Some to.name)
+IsReady f (Remove place leaf went) = Unit {0}
+IsReady f (Move from source to target went) = HasRoom f.leaves to.dir.0 target × (f.spare ≡ Some to.name)

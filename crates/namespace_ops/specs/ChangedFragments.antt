@@ -70,8 +70,8 @@ pub record NamesOnce (leaves list : List Leaf) : Type 0 where
 abbrev pub gone_with : Change → Option Ino
 gone_with (Add place leaf inode) = None
 gone_with (Set place leaf inode) = None
-gone_with (Remove place leaf gone) = gone
-gone_with (Move from source to target gone) = gone
+gone_with (Remove place leaf went) = went
+gone_with (Move from source to target went) = went
 
 -- the leaves of a directory that goes, if one does, cover every hash once
 abbrev pub IsCovered : Covers → Option Ino → Type 0

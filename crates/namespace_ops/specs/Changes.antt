@@ -29,36 +29,36 @@ use Rattle.namespace_ops.specs.declared.plans.Change.TheVariants.{Add, Set, Remo
 abbrev pub IsAddAt : Place → Kind → Change → Type 0
 IsAddAt place kind (Add p leaf inode) = (p ≡ place) × (inode.kind ≡ kind)
 IsAddAt place kind (Set p leaf inode) = ⊥
-IsAddAt place kind (Remove p leaf gone) = ⊥
-IsAddAt place kind (Move from source to target gone) = ⊥
+IsAddAt place kind (Remove p leaf went) = ⊥
+IsAddAt place kind (Move from source to target went) = ⊥
 
 -- other attributes for the inode at this place
 abbrev pub IsSetAt : Place → Change → Type 0
 IsSetAt place (Add p leaf inode) = ⊥
 IsSetAt place (Set p leaf inode) = p ≡ place
-IsSetAt place (Remove p leaf gone) = ⊥
-IsSetAt place (Move from source to target gone) = ⊥
+IsSetAt place (Remove p leaf went) = ⊥
+IsSetAt place (Move from source to target went) = ⊥
 
 -- the entry at this place goes
 abbrev pub IsRemovalAt : Place → Change → Type 0
 IsRemovalAt place (Add p leaf inode) = ⊥
 IsRemovalAt place (Set p leaf inode) = ⊥
-IsRemovalAt place (Remove p leaf gone) = p ≡ place
-IsRemovalAt place (Move from source to target gone) = ⊥
+IsRemovalAt place (Remove p leaf went) = p ≡ place
+IsRemovalAt place (Move from source to target went) = ⊥
 
 -- the entry at this place goes, and it is no directory
 abbrev pub IsUnlinkAt : Place → Change → Type 0
 IsUnlinkAt place (Add p leaf inode) = ⊥
 IsUnlinkAt place (Set p leaf inode) = ⊥
-IsUnlinkAt place (Remove p leaf gone) = (p ≡ place) × (gone ≡ None)
-IsUnlinkAt place (Move from source to target gone) = ⊥
+IsUnlinkAt place (Remove p leaf went) = (p ≡ place) × (went ≡ None)
+IsUnlinkAt place (Move from source to target went) = ⊥
 
 -- the entry at one place moves to the other
 abbrev pub IsMoveTo : Place → Place → Change → Type 0
 IsMoveTo here there (Add p leaf inode) = ⊥
 IsMoveTo here there (Set p leaf inode) = ⊥
-IsMoveTo here there (Remove p leaf gone) = ⊥
-IsMoveTo here there (Move from source to target gone) = (from ≡ here) × (to ≡ there)
+IsMoveTo here there (Remove p leaf went) = ⊥
+IsMoveTo here there (Move from source to target went) = (from ≡ here) × (to ≡ there)
 
 -- the operation makes this change, where it makes one
 abbrev pub IsChangeOf : Op → Change → Type 0
@@ -107,15 +107,15 @@ Reads tree (Rename dir name to_dir to_name) d = (d ≡ dir.0) ⊎ (d ≡ to_dir.
 abbrev pub is_new : Change → Bool
 is_new (Add place leaf inode) = true
 is_new (Set place leaf inode) = false
-is_new (Remove place leaf gone) = false
-is_new (Move from source to target gone) = false
+is_new (Remove place leaf went) = false
+is_new (Move from source to target went) = false
 
 -- what an operation answers that makes a change
 abbrev pub reply_of : Change → Reply
 reply_of (Add place leaf inode) = Entry inode
 reply_of (Set place leaf inode) = Entry inode
-reply_of (Remove place leaf gone) = Done
-reply_of (Move from source to target gone) = Done
+reply_of (Remove place leaf went) = Done
+reply_of (Move from source to target went) = Done
 
 -- the tree once what stands at a place went to another
 abbrev pub moved : Tree → Place → Place → Option Inode → Tree
@@ -126,8 +126,8 @@ moved tree from to (Some inode) = with_moved tree from to inode
 abbrev pub changed : Tree → Change → Tree
 changed tree (Add place leaf inode) = map.insert tree place inode
 changed tree (Set place leaf inode) = map.insert tree place inode
-changed tree (Remove place leaf gone) = map.remove tree place
-changed tree (Move from source to target gone) = moved tree from to (map.get tree from)
+changed tree (Remove place leaf went) = map.remove tree place
+changed tree (Move from source to target went) = moved tree from to (map.get tree from)
 
 -- the leaf of a place: the one that its name's hash picks
 abbrev pub IsLeafAt : Covers → Place → Fragment → Type 0
@@ -142,15 +142,15 @@ directory_at (Some inode) = cond (is_dir_kind inode.kind) (Some inode.ino) None
 abbrev pub Carries : Tree → Covers → Change → Type 0
 Carries tree covers (Add place leaf inode) = IsLeafAt covers place leaf
 Carries tree covers (Set place leaf inode) = IsLeafAt covers place leaf
-Carries tree covers (Remove place leaf gone) = IsLeafAt covers place leaf × (gone ≡ directory_at (map.get tree place))
-Carries tree covers (Move from source to target gone) = IsLeafAt covers from source × IsLeafAt covers to target × (gone ≡ directory_at (map.get tree to))
+Carries tree covers (Remove place leaf went) = IsLeafAt covers place leaf × (went ≡ directory_at (map.get tree place))
+Carries tree covers (Move from source to target went) = IsLeafAt covers from source × IsLeafAt covers to target × (went ≡ directory_at (map.get tree to))
 
 -- the tree can take a change
 abbrev pub Takes : Tree → Change → Type 0
 Takes tree (Add place leaf inode) = MayAdd tree place inode
 Takes tree (Set place leaf inode) = MaySet tree place inode
-Takes tree (Remove place leaf gone) = MayRemove tree place
-Takes tree (Move from source to target gone) = (inode : Inode) × IsMove tree from to inode
+Takes tree (Remove place leaf went) = MayRemove tree place
+Takes tree (Move from source to target went) = (inode : Inode) × IsMove tree from to inode
 
 -- a change may be made
 pub record MayChange (tree : Tree) (covers : Covers) (change : Change) : Type 0 where
@@ -174,8 +174,8 @@ leaves_gone covers (Some dir) = leaves covers dir.0
 abbrev pub fragments_of : Covers → Change → List Leaf
 fragments_of covers (Add place leaf inode) = (place.dir, leaf) ∷ []
 fragments_of covers (Set place leaf inode) = (place.dir, leaf) ∷ []
-fragments_of covers (Remove place leaf gone) = (place.dir, leaf) ∷ leaves_gone covers gone
-fragments_of covers (Move from source to target gone) = (from.dir, source) ∷ (to.dir, target) ∷ leaves_gone covers gone
+fragments_of covers (Remove place leaf went) = (place.dir, leaf) ∷ leaves_gone covers went
+fragments_of covers (Move from source to target went) = (from.dir, source) ∷ (to.dir, target) ∷ leaves_gone covers went
 
 -- those of a planned change, if there is one
 abbrev pub fragments_in : Covers → Option Change → List Leaf
@@ -194,8 +194,8 @@ unless_same first other = cond (same_leaf first other) [] (other ∷ [])
 abbrev pub named_once : Covers → Change → List Leaf
 named_once covers (Add place leaf inode) = (place.dir, leaf) ∷ []
 named_once covers (Set place leaf inode) = (place.dir, leaf) ∷ []
-named_once covers (Remove place leaf gone) = (place.dir, leaf) ∷ leaves_gone covers gone
-named_once covers (Move from source to target gone) = (from.dir, source) ∷ (unless_same (from.dir, source) (to.dir, target) ++ leaves_gone covers gone)
+named_once covers (Remove place leaf went) = (place.dir, leaf) ∷ leaves_gone covers went
+named_once covers (Move from source to target went) = (from.dir, source) ∷ (unless_same (from.dir, source) (to.dir, target) ++ leaves_gone covers went)
 
 -- a number that is offered for a new inode is unused
 abbrev pub IsOffered : Tree → Option Ino → Type 0

@@ -16,5 +16,5 @@ tree_of only = map.from_entries (option_to_list only)
 abbrev pub IsReadyOne : Option (Place × Inode) → Change → Type 0
 IsReadyOne only (Add place leaf inode) = only ≡ None
 IsReadyOne only (Set place leaf inode) = Unit {0}
-IsReadyOne only (Remove place leaf gone) = Unit {0}
-IsReadyOne only (Move from source to target gone) = Unit {0}
+IsReadyOne only (Remove place leaf went) = Unit {0}
+IsReadyOne only (Move from source to target went) = Unit {0}

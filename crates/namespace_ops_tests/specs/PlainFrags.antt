@@ -25,5 +25,5 @@ is_numbered n entry = entry.1.ino.0 == n
 abbrev pub IsReady : Kept → Change → Type 0
 IsReady f (Add place leaf inode) = (0 < f.entries_left) × (is_dir_kind inode.kind ≡ true → (0 < f.dirs_left) × (f.spare ≡ Some place.name))
 IsReady f (Set place leaf inode) = Unit {0}
-IsReady f (Remove place leaf gone) = Unit {0}
-IsReady f (Move from source to target gone) = f.spare ≡ Some to.name
+IsReady f (Remove place leaf went) = Unit {0}
+IsReady f (Move from source to target went) = f.spare ≡ Some to.name

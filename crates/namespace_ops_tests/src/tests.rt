@@ -117,11 +117,7 @@ const ALL: [Row; 16] = [
     (Asked::Rmdir(ROOT, b'f'), NONE, Came::Errno(20)),
     (Asked::Rename(ROOT, b'd', ROOT, b'f'), NONE, Came::Errno(20)),
     (Asked::Rename(ROOT, b'f', ROOT, b'd'), NONE, Came::Errno(21)),
-    (
-        Asked::Rename(ROOT, b'f', ROOT, b'l'),
-        IN_ROOT,
-        Came::Done,
-    ),
+    (Asked::Rename(ROOT, b'f', ROOT, b'l'), IN_ROOT, Came::Done),
     (
         Asked::List(ROOT),
         NONE,

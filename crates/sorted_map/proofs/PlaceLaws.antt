@@ -1,5 +1,5 @@
 -- What the place of a key says of look-ups and edits of pairs in order.
-use Rattle.std.proofs.Common.{◌≡◌, ℕ, zero, suc, ◌<◌, ◌≤◌, add-one, Bool, true, false, not, T, List, [], ◌∷◌, length, get_or, set, drop, insert, remove, Some, None, Result, Ok, Err, Ordering, Less, Equal, Greater, is_lt, refl, sym, ap, ◌∙◌, subst, arith}
+use Rattle.std.proofs.Common.{◌≡◌, ℕ, zero, suc, ◌<◌, ◌≤◌, ◌-◌, add-one, Bool, true, false, not, T, List, [], ◌∷◌, length, get_or, set, drop, insert, remove, Some, None, Result, Ok, Err, Ordering, Less, Equal, Greater, is_lt, is_gt, refl, sym, ap, ◌∙◌, subst, arith}
 use Rattle.std.proofs.lemmas.Bool.{false≢true}
 use Rattle.std.specs.List.{IsAllAdjacentAnswer}
 use Rattle.std.specs.Cmp.{IsTotalOrder, tied_itself, tied_back, alike_right}
@@ -14,6 +14,11 @@ pub less : (r : Ordering) → T (is_lt r) → r ≡ Less
 less Less p = refl
 less Equal p = absurd p
 less Greater p = absurd p
+
+greater : (r : Ordering) → is_gt r ≡ true → r ≡ Greater
+greater Less h = cc
+greater Equal h = cc
+greater Greater h = refl
 
 -- ---- what follows from a place, in any order
 
@@ -87,6 +92,10 @@ module _ {K V : Type 0} (R : K → K → Ordering) (k : K) where
   from_at (e ∷ es) zero h = rw h.0 (ap (λ t. e ∷ t) (from_gap es zero h.1))
   from_at (e ∷ es) (suc i) h = rw h.0 (from_at es i h.1)
 
+  pub past_none : (es : List (K × V)) → length es ≡ 0 → IsGap R k es (length es)
+  past_none [] none = tt
+  past_none (e ∷ es) none = absurd (omega (arith, none))
+
 -- ---- where a binary search ends, in a total order
 
 module _ {K : Type 0} {R : K → K → Ordering} (o : IsTotalOrder R) where
@@ -105,6 +114,22 @@ module _ {K V : Type 0} {R : K → K → Ordering} (o : IsTotalOrder R) where
   below_at x [] i d h lt = absurd (omega arith)
   below_at x (e ∷ es) zero d h lt = less _ (left_of _ _ h)
   below_at x (e ∷ es) (suc i) d h lt = below_at x es i d (right_of _ _ h) (omega arith)
+
+  -- a key above the last of a list would go behind it
+  pub past_last : (k : K) (es : List (K × V)) (i : ℕ) (d : K × V) → T (is_sorted R es) → suc i ≡ length es → R k (get_or es i d).0 ≡ Greater → IsGap R k es (suc i)
+  past_last k [] i d s len above = absurd (omega (arith, len))
+  past_last k (x ∷ []) zero d s len above = (above, tt)
+  past_last k (x ∷ y ∷ es) zero d s len above = absurd (omega (arith, len))
+  past_last k (x ∷ es) (suc i) d s len above =
+      let highest = get_or es i d in
+      let below : R x.0 highest.0 ≡ Less = below_at x.0 es i d (left_of _ _ s) (omega (arith, len)) in
+      (turned o x.0 k Less (o.trans x.0 highest.0 k below (turned o k highest.0 Greater above)), past_last k es i d (right_of _ _ s) (omega (arith, len)) above)
+
+  pub past_end : (k : K) (es : List (K × V)) (d : K × V) → T (is_sorted R es) → is_gt (R k (get_or es (length es - 1) d).0) ≡ true → IsGap R k es (length es)
+  past_end k [] d s above = tt
+  past_end k (e ∷ es) d s above =
+      let is : length (e ∷ es) - 1 ≡ length es = omega arith in
+      past_last k (e ∷ es) (length es) d s refl (greater _ (subst (λ n. is_gt (R k (get_or (e ∷ es) n d).0) ≡ true) is above))
 
   -- a key that ties with one that is below all of a list would go before it
   pub gap_tied : (x k : K) (es : List (K × V)) → R x k ≡ Equal → T (below_all R x es) → IsGap R k es zero

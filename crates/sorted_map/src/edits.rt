@@ -5,20 +5,21 @@ ghost use Rattle.sorted_map.specs.SortedMap.{contents, first_pair, is_from};
 
 use crate::keys::{ExactOrd, Probe};
 use crate::map::SortedMap;
-use crate::places::{place, place_from};
+use crate::places::{place, place_from, place_from_end};
 use std::mem;
 
 impl<K: ExactOrd + Drop, V: Drop> SortedMap<K, V> {
     /// Gives the key a value, and returns the one that it had. A new key needs room.
     ///
-    /// A key that is there keeps its place. A new one moves the pairs that are greater than it.
+    /// A key that is there keeps its place. A new one moves the pairs that are greater than it; one above all others is put
+    /// at the end after one comparison.
     pub fn insert(&mut self, key: K, value: V) -> Option<V>
         requires { map.get (contents K.cmp self.old) key ≡ None → 0 < self.old.room }
         ensures value { result ≡ map.get (contents K.cmp self.old) key }
         ensures inserted { contents K.cmp self.new ≡ map.insert (contents K.cmp self.old) key value }
         ensures room { self.new.room ≡ (if is_some result then self.old.room else self.old.room - 1) }
     {
-        match place(&self.pairs, &key) {
+        match place_from_end(&self.pairs, &key) {
             Ok(at) => Some(replaced(&mut self.pairs, at, value)),
             Err(at) => {
                 put_at(&mut self.pairs, at, (key, value));

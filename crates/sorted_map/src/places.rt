@@ -17,6 +17,22 @@ pub(crate) fn place<K: Ord, V, Q: Probe<K>>(pairs: &[(K, V)], q: &Q) -> Result<u
     pairs.binary_search_by(|pair| q.order(&pair.0).reverse())
 }
 
+// The same, but the end is tried first: keys often come in their order.
+pub(crate) fn place_from_end<K: Ord, V, Q: Probe<K>>(
+    pairs: &[(K, V)],
+    q: &Q,
+) -> Result<usize, usize>
+    requires { T (is_sorted K.cmp pairs.now) }
+    ensures within { IsSearchInRange result (length pairs.now) }
+    ensures place { IsPlace K.cmp (Q.key q.now) pairs.now result }
+{
+    let len = pairs.len();
+    if len == 0 || q.order(&pairs[len - 1].0).is_gt() {
+        return Err(len);
+    }
+    place(pairs, q)
+}
+
 // The place from which on no key is less than the probe's.
 pub(crate) fn place_from<K: Ord, V, Q: Probe<K>>(pairs: &[(K, V)], q: &Q) -> usize
     requires { T (is_sorted K.cmp pairs.now) }

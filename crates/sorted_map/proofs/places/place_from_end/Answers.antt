@@ -1,0 +1,13 @@
+use Rattle.std.proofs.Common.{◌≡◌, ◌-◌, ◌+◌, ◌∙◌, ◌∷◌, ℕ, suc, T, Bool, true, false, Ordering, Less, Equal, Greater, is_gt, length, get_or, refl, sym, ap, subst, arith}
+use Rattle.std.specs.Cmp.{IsTotalOrder}
+use Rattle.std.specs.FinMap.Entries.{is_sorted}
+use Rattle.sorted_map.specs.Places.{IsGap}
+use Rattle.sorted_map.proofs.PlaceLaws.{past_end, past_none}
+use Rattle.sorted_map.proofs.places.place_from_end.Goals as goal
+use Rattle.sorted_map.proofs.places.place_from_end.Goals.{then-len-eq0-via-then-len-eq0, then-len-eq0-via-else-len-eq0+then-is_gt}
+
+pub returns-then-len-eq0-clause-place : goal.returns-then-len-eq0-clause-place
+returns-then-len-eq0-clause-place g c = elim c.then-len-eq0.branch [
+  | then-len-eq0-via-then-len-eq0 w ↦ past_none g.K.Ord.cmp (g.Q.Probe.key c.args.q.now) c.args.pairs.now w.if-len-eq0.true
+  | then-len-eq0-via-else-len-eq0+then-is_gt w ↦ past_end g.met.K.Ord.total (g.Q.Probe.key c.args.q.now) c.args.pairs.now w.index-pairs-len.result c.requires (ap is_gt (sym w.order.ensures) ∙ sym w.is_gt.ensures ∙ w.if-is_gt.true)
+]
