@@ -1,5 +1,7 @@
 //! Whose leaves are whose, by rows worked by hand; and that calls succeed where there is memory, which no clause says.
 
+mod random;
+
 ghost use Rattle.std.specs.FinMap as map;
 ghost use Rattle.std.specs.Prelude.{◌≡◌, ◌≢◌, IfSome, IsTrue, None, is_some, true};
 ghost use Rattle.inode_table.specs.Dirs.{IsAbove, MayMove, is_known};
@@ -16,11 +18,13 @@ const E: Ino = Ino((1 << 40) + 1);
 
 const G: Ino = Ino((1 << 40) + 2);
 
-// A place below a directory. The table asks for no names that differ, so each is `d`, whose hash is 0x322f4a94: `0*` holds it.
-fn home(alloc: Global, parent: Ino) -> Option<Home>
+// Where a directory stands below another, by the name `d` or, if its number is odd, `a`. Their hashes are 0x322f4a94 and
+// 0x29eec818, of which the low 24 bits count: the half `0*` holds the dentry of `d`, and `1*` that of `a`.
+fn home(alloc: Global, dir: Ino, parent: Ino) -> Option<Home>
     ensures { IfSome result (λ home. home.parent ≡ parent) }
 {
-    match Name::from_bytes(alloc, b"d") {
+    let name = if dir.0 % 2 == 0 { b"d" } else { b"a" };
+    match Name::from_bytes(alloc, name) {
         Ok(name) => Some(Home { parent, name }),
         Err(_) => None,
     }
@@ -40,7 +44,7 @@ fn adopt(alloc: Global, dirs: &mut Dirs, dir: Ino, parent: Ino) -> bool {
     if dirs.reserve().is_err() || !may_come(dirs, dir, parent) {
         return false;
     }
-    let Some(home) = home(alloc, parent) else {
+    let Some(home) = home(alloc, dir, parent) else {
         return false;
     };
     dirs.adopt(dir, home);
@@ -68,7 +72,7 @@ fn relocate(
     if !may_go(dirs, dir, parent) {
         return false;
     }
-    let Some(home) = home(alloc, parent) else {
+    let Some(home) = home(alloc, dir, parent) else {
         return false;
     };
     if !settle(alloc, subtrees, dirs, dir, &home) {
@@ -227,9 +231,9 @@ fn splits_and_merges_keep_ranks(rt: HostRuntime) {
     assert_eq!(rt; subtrees.get(D, high), Some(Rank(1)));
     assert_eq!(rt; subtrees.get(D, Frag::ROOT), None);
     // the half that holds the dentry of the directory below gives it its rank, and the other doesn't
-    assert!(rt; set(&mut subtrees, D, high, Rank(2)));
-    assert_eq!(rt; rank(&subtrees, &dirs, E), 1);
     assert!(rt; set(&mut subtrees, D, low, Rank(2)));
+    assert_eq!(rt; rank(&subtrees, &dirs, E), 1);
+    assert!(rt; set(&mut subtrees, D, high, Rank(2)));
     assert_eq!(rt; rank(&subtrees, &dirs, E), 2);
     assert!(rt; merge(alloc, &mut subtrees, &mut dirs, D));
     assert_eq!(rt; subtrees.get(D, low), None);
