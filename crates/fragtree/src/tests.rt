@@ -72,8 +72,8 @@ fn a_merge_need_not_undo_a_split(rt: HostRuntime) -> Result<(), Fail> {
 #[test]
 fn a_merge_that_no_descent_passes_writes_the_splits_anew(rt: HostRuntime) -> Result<(), Fail> {
     let mut tree = FragTree::whole(rt.alloc())?;
-    tree.split(Frag::ROOT, 2)?;
-    tree.merge(frag("0*")?)?;
+    assert_eq!(rt; tree.split(Frag::ROOT, 2), Ok(()));
+    assert_eq!(rt; tree.merge(frag("0*")?), Ok(()));
     assert_eq!(rt; tree.splits.len(), 2);
     assert_eq!(rt; tree.splits.get(&Frag::ROOT), Some(&1));
     assert_eq!(rt; tree.splits.get(&frag("1*")?), Some(&1));
@@ -83,9 +83,9 @@ fn a_merge_that_no_descent_passes_writes_the_splits_anew(rt: HostRuntime) -> Res
 #[test]
 fn the_other_leaves_of_a_split_stay(rt: HostRuntime) -> Result<(), Fail> {
     let mut tree = FragTree::whole(rt.alloc())?;
-    tree.split(Frag::ROOT, 8)?;
-    tree.split(frag("01011111*")?, 2)?;
-    tree.merge(frag("010*")?)?;
+    assert_eq!(rt; tree.split(Frag::ROOT, 8), Ok(()));
+    assert_eq!(rt; tree.split(frag("01011111*")?, 2), Ok(()));
+    assert_eq!(rt; tree.merge(frag("010*")?), Ok(()));
     assert_eq!(rt; tree.len(), 225);
     for (f, nb) in [
         ("*", 1),
@@ -104,13 +104,13 @@ fn the_other_leaves_of_a_split_stay(rt: HostRuntime) -> Result<(), Fail> {
 #[test]
 fn a_merge_forgets_the_splits_inside(rt: HostRuntime) -> Result<(), Fail> {
     let mut tree = FragTree::whole(rt.alloc())?;
-    tree.split(Frag::ROOT, 1)?;
+    assert_eq!(rt; tree.split(Frag::ROOT, 1), Ok(()));
     for f in ["0*", "00*", "01*", "011*"] {
-        tree.split(frag(f)?, 1)?;
+        assert_eq!(rt; tree.split(frag(f)?, 1), Ok(()));
     }
-    tree.merge(frag("0*")?)?;
+    assert_eq!(rt; tree.merge(frag("0*")?), Ok(()));
     assert_eq!(rt; tree.splits.len(), 1);
-    tree.split(frag("0*")?, 1)?;
+    assert_eq!(rt; tree.split(frag("0*")?, 1), Ok(()));
     assert_eq!(rt; shown(rt.alloc(), &tree)?.as_str(), "00* 01* 1* ");
     Ok(())
 }
@@ -188,8 +188,8 @@ fn trees_are_equal_by_their_leaves(rt: HostRuntime) -> Result<(), Fail> {
 #[test]
 fn a_tree_made_of_leaves_is_equal_to_the_one_that_has_them(rt: HostRuntime) -> Result<(), Fail> {
     let mut tree = FragTree::whole(rt.alloc())?;
-    tree.split(Frag::ROOT, 2)?;
-    tree.split(frag("10*")?, 3)?;
+    assert_eq!(rt; tree.split(Frag::ROOT, 2), Ok(()));
+    assert_eq!(rt; tree.split(frag("10*")?, 3), Ok(()));
     let made = FragTree::from_leaves(rt.alloc(), &tree.leaves(rt.alloc())?)?;
     assert!(rt; made == Some(tree));
     Ok(())
