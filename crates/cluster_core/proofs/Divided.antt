@@ -8,7 +8,7 @@ use Rattle.inode_table.specs.Dirs.{Homes, Covers, IsTable, is_known, leaves_of, 
 use Rattle.inode_table.specs.TreeChanges.{KeepLeaves}
 use Rattle.inode_table.specs.TreeTable.{IsTabled}
 use Rattle.inode_table.proofs.TableLaws.{known_is}
-use Rattle.leaf_maps.specs.Leaves.{Leaves, names_in, shown_by}
+use Rattle.leaf_maps.specs.Leaves.{Leaves, AreStanding, names_in, shown_by}
 use Rattle.leaf_maps.specs.LeafLaws.{shown_at}
 use Rattle.leaf_maps.specs.Changes.{HaveSameNames}
 use Rattle.leaf_maps.specs.ShownLaws.{placed_still}
@@ -55,10 +55,11 @@ pub shown_names : (old new : Leaves) → HaveSameNames old new → shown_by new 
 shown_names old new same = sym (tree_is new) ∙ ap tree_of (same_dentries old new same) ∙ tree_is old
 
 -- names that stay, with what stands beside them, stay sound
-pub sound_names : (homes now_homes : Homes) (covers later : Covers) (old new : Leaves) → IsSoundTree homes covers old → HaveSameNames old new → now_homes ≡ homes → later ≡ covers → IsSoundTree now_homes later new
-sound_names homes now_homes covers later old new sound same homes_same covers_same =
+pub sound_names : (homes now_homes : Homes) (covers later : Covers) (old new : Leaves) → IsSoundTree homes covers old → HaveSameNames old new → AreStanding homes covers new → now_homes ≡ homes → later ≡ covers → IsSoundTree now_homes later new
+sound_names homes now_homes covers later old new sound same standing homes_same covers_same =
     rw (homes_same, covers_same) (record {
       table = sound.table;
       placed = placed_still covers old new same sound.placed;
+      standing = standing;
       tabled = subst (λ t. IsTabled t homes) (sym (shown_names old new same)) sound.tabled;
     })

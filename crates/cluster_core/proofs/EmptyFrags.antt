@@ -3,10 +3,11 @@ use Rattle.std.proofs.Common.{◌≡◌, cond, List, [], ◌∷◌, Some, None, 
 use Rattle.std.specs.Ordering.{nat_cmp}
 use Rattle.std.specs.FinMap as map
 use Rattle.std.specs.FinMap.{find, empty_of_len, entries-from_sorted, get-empty, get-entries, get-from_entries, len-entries, same_map}
-use Rattle.mds_types.specs.Tree.{place_cmp}
-use Rattle.mds_types.specs.PlaceLaws.{place-total, place-exact}
+use Rattle.mds_types.specs.Tree.{dentry_cmp}
+use Rattle.mds_types.specs.OrderLaws.{dentry-total, dentry-exact}
 use Rattle.inode_table.specs.Dirs.{Covers, IsTable}
 use Rattle.inode_table.proofs.TableLaws.{empty_tabled}
+use Rattle.leaf_maps.proofs.StandingLaws.{standing_none}
 use Rattle.leaf_maps.specs.Leaves.{Leaf, Rows, Leaves, leaf_cmp, names_of, entries_in, shown_by, ArePlaced}
 use Rattle.leaf_maps.specs.OneLeaf.{key_itself}
 use Rattle.cluster_core.specs.State.{tree_of}
@@ -30,10 +31,10 @@ no_rows = go (map.entries no_leaves) refl
 
 pub none_shown : shown_by no_leaves ≡ map.empty
 unfolding shown_by
-none_shown = same_map place-total place-exact (shown_by no_leaves) map.empty (λ q.
-    get-from_entries place-total (entries_in (map.entries no_leaves)) q
-    ∙ ap (λ rows. find place_cmp q (entries_in rows)) no_rows
-    ∙ sym (get-empty place_cmp q))
+none_shown = same_map dentry-total dentry-exact (shown_by no_leaves) map.empty (λ q.
+    get-from_entries dentry-total (entries_in (map.entries no_leaves)) q
+    ∙ ap (λ rows. find dentry_cmp q (entries_in rows)) no_rows
+    ∙ sym (get-empty dentry_cmp q))
 
 none_placed : (covers : Covers) → ArePlaced covers no_leaves
 none_placed covers d f name inode has =
@@ -53,6 +54,7 @@ pub empty_sound : IsSoundTree map.empty map.empty no_leaves
 empty_sound = record {
   table = root_alone;
   placed = none_placed map.empty;
+  standing = standing_none map.empty map.empty;
   tabled = rw none_shown empty_tabled;
 }
 

@@ -6,12 +6,12 @@ use Rattle.std.specs.FinMap as map
 use Rattle.std.specs.FinMap.{get-insert, get-remove, get-empty, same_map}
 use Rattle.std.proofs.lemmas.Map.Lookups.{exact_bytes}
 use Rattle.sorted_map.specs.NatKeys.{get_left}
-use Rattle.mds_types.specs.declared.places.Place.{Place}
+use Rattle.mds_types.specs.declared.dentries.Dentry.{Dentry}
 use Rattle.mds_types.specs.declared.inodes.Inode.{Inode}
 use Rattle.mds_types.specs.Frag.{Fragment}
-use Rattle.mds_types.specs.Tree.{Tree, place_cmp, place_of, is_dir_kind, IsWellFormed}
+use Rattle.mds_types.specs.Tree.{Tree, dentry_cmp, dentry_of, is_dir_kind, IsWellFormed}
 use Rattle.mds_types.specs.Step.{with_moved}
-use Rattle.mds_types.specs.PlaceLaws.{place-total, place-exact}
+use Rattle.mds_types.specs.OrderLaws.{dentry-total, dentry-exact}
 use Rattle.mds_types.specs.EntryLaws.{stands_after_removal}
 use Rattle.mds_types.specs.DirectoryLaws.{NothingIn}
 use Rattle.mds_types.specs.MovedLaws.{IsMove, may_move, stands_moved}
@@ -32,7 +32,7 @@ none_in covers leaves placed d nothing f = same_map nat_list_cmp_total exact_byt
   where
     go : (name : List ℕ) (o : Option Inode) → map.get (names_in leaves d f) name ≡ o → map.get (names_in leaves d f) name ≡ None
     go name None is = is
-    go name (Some inode) is = absurd (nothing (place_of d name) inode (shown_at covers leaves placed d name f (placed d f name inode is) ∙ is) refl)
+    go name (Some inode) is = absurd (nothing (dentry_of d name) inode (shown_at covers leaves placed d name f (placed d f name inode is) ∙ is) refl)
 
 -- names stay with their picks where the leaves of a directory go that nothing is in
 pub placed_dropped : (covers : Covers) (leaves : Leaves) (gone : Option Inode) → ArePlaced covers leaves
@@ -42,49 +42,49 @@ placed_dropped covers leaves (Some gone) placed empty = placed_under covers (wit
   where
     go : (d : ℕ) (f : Fragment) (name : List ℕ) (inode : Inode) → map.get (names_in leaves d f) name ≡ Some inode → (b : Bool) → is_dir_kind gone.kind ≡ b → map.get (cond b (map.remove covers gone.ino.0) covers) d ≡ map.get covers d
     go d f name inode has false is = refl
-    go d f name inode has true is = get_left covers gone.ino.0 d (λ same. empty gone refl is (place_of d name) inode (shown_at covers leaves placed d name f (placed d f name inode has) ∙ has) same)
+    go d f name inode has true is = get_left covers gone.ino.0 d (λ same. empty gone refl is (dentry_of d name) inode (shown_at covers leaves placed d name f (placed d f name inode has) ∙ has) same)
 
 -- where an entry went, nothing is in what stood there
-pub removed_empty : (tree : Tree) (place : Place) (found : Option Inode) → IsWellFormed tree → MayRemove tree place → map.get tree place ≡ found → (gone : Inode) → found ≡ Some gone → NothingIn (map.remove tree place) gone.ino.0
-removed_empty tree place found whole may at_place gone is q x stands same =
-    let inodes : Some may.inode ≡ Some gone = sym may.stands ∙ at_place ∙ is in
+pub removed_empty : (tree : Tree) (dentry : Dentry) (found : Option Inode) → IsWellFormed tree → MayRemove tree dentry → map.get tree dentry ≡ found → (gone : Inode) → found ≡ Some gone → NothingIn (map.remove tree dentry) gone.ino.0
+removed_empty tree dentry found whole may at_dentry gone is q x stands same =
+    let inodes : Some may.inode ≡ Some gone = sym may.stands ∙ at_dentry ∙ is in
     let alike : may.inode ≡ gone = cc in
-    nothing_in tree place may.inode whole may.stands may.empty q x (stands_after_removal tree place q x stands).1 (same ∙ ap (λ (i : Inode). i.ino.0) (sym alike))
+    nothing_in tree dentry may.inode whole may.stands may.empty q x (stands_after_removal tree dentry q x stands).1 (same ∙ ap (λ (i : Inode). i.ino.0) (sym alike))
 
 -- where an entry moved, nothing is in what it replaced
-pub replaced_empty : (tree : Tree) (from to : Place) (inode : Inode) → IsWellFormed tree → IsMove tree from to inode → (gone : Inode) → map.get tree to ≡ Some gone → NothingIn (with_moved tree from to inode) gone.ino.0
+pub replaced_empty : (tree : Tree) (from to : Dentry) (inode : Inode) → IsWellFormed tree → IsMove tree from to inode → (gone : Inode) → map.get tree to ≡ Some gone → NothingIn (with_moved tree from to inode) gone.ino.0
 replaced_empty tree from to inode whole move gone there q x stands same =
     let may = may_move tree from to inode whole move in
     ⊎_elim
-    (λ w. may.replaces gone there to gone there (ap (λ (p : Place). p.dir.0) (sym w.0) ∙ same))
+    (λ w. may.replaces gone there to gone there (ap (λ (p : Dentry). p.dir.0) (sym w.0) ∙ same))
     (λ w. may.replaces gone there q x w.2 same)
     (stands_moved tree from to inode whole may q x stands)
 
 -- what is put where an entry was taken is put over it
-pub put_over : (tree : Tree) (place : Place) (inode : Inode) → map.insert (map.remove tree place) place inode ≡ map.insert tree place inode
-put_over tree place inode = same_map place-total place-exact (map.insert (map.remove tree place) place inode) (map.insert tree place inode) (λ q.
-    get-insert place-total (map.remove tree place) place inode q
-    ∙ ap (cond (eq_by_cmp place_cmp q place) (Some inode)) (get-remove place-total tree place q)
-    ∙ over (eq_by_cmp place_cmp q place) (map.get tree q)
-    ∙ sym (get-insert place-total tree place inode q))
+pub put_over : (tree : Tree) (dentry : Dentry) (inode : Inode) → map.insert (map.remove tree dentry) dentry inode ≡ map.insert tree dentry inode
+put_over tree dentry inode = same_map dentry-total dentry-exact (map.insert (map.remove tree dentry) dentry inode) (map.insert tree dentry inode) (λ q.
+    get-insert dentry-total (map.remove tree dentry) dentry inode q
+    ∙ ap (cond (eq_by_cmp dentry_cmp q dentry) (Some inode)) (get-remove dentry-total tree dentry q)
+    ∙ over (eq_by_cmp dentry_cmp q dentry) (map.get tree q)
+    ∙ sym (get-insert dentry-total tree dentry inode q))
   where
     over : (b : Bool) (o : Option Inode) → cond b (Some inode) (cond b None o) ≡ cond b (Some inode) o
     over true o = refl
     over false o = refl
 
 -- the entry that was taken is the one that moves
-pub moving : (tree : Tree) (from to : Place) (found : Option Inode) (inode : Inode) → found ≡ Some inode → found ≡ map.get tree from → (i : Inode) × IsMove tree from to i → IsMove tree from to inode
+pub moving : (tree : Tree) (from to : Dentry) (found : Option Inode) (inode : Inode) → found ≡ Some inode → found ≡ map.get tree from → (i : Inode) × IsMove tree from to i → IsMove tree from to inode
 moving tree from to found inode taken told may =
     let inodes : Some may.0 ≡ Some inode = sym may.1.stands ∙ sym told ∙ taken in
     let alike : may.0 ≡ inode = cc in
     subst (λ i. IsMove tree from to i) alike may.1
 
 -- what is taken from the target once the entry was taken is what stood there
-pub replaced_is : (tree taken : Tree) (homes : Homes) (from to : Place) (inode : Inode) (found : Option Inode) → IsTabled tree homes → IsMove tree from to inode → taken ≡ map.remove tree from → found ≡ map.get taken to → found ≡ map.get tree to
+pub replaced_is : (tree taken : Tree) (homes : Homes) (from to : Dentry) (inode : Inode) (found : Option Inode) → IsTabled tree homes → IsMove tree from to inode → taken ≡ map.remove tree from → found ≡ map.get taken to → found ≡ map.get tree to
 replaced_is tree taken homes from to inode found tabled move is told = told ∙ ap (λ m. map.get m to) is ∙ target_stays tree homes from to inode tabled move
 
 -- an entry that is taken, and put where another was taken, has moved there
-pub moved_tree : (tree taken cleared put : Tree) (from to : Place) (inode : Inode) → taken ≡ map.remove tree from → cleared ≡ map.remove taken to → put ≡ map.insert cleared to inode → put ≡ with_moved tree from to inode
+pub moved_tree : (tree taken cleared put : Tree) (from to : Dentry) (inode : Inode) → taken ≡ map.remove tree from → cleared ≡ map.remove taken to → put ≡ map.insert cleared to inode → put ≡ with_moved tree from to inode
 moved_tree tree taken cleared put from to inode first second third =
     third ∙ ap (λ m. map.insert m to inode) (second ∙ ap (λ m. map.remove m to) first) ∙ put_over (map.remove tree from) to inode
 

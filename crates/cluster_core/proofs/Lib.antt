@@ -9,4 +9,5 @@ pub mod Recovered
 pub mod RunLaws
 pub mod Served
 pub mod Shown
+pub mod Standing
 pub mod Stepped

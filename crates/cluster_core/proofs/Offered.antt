@@ -4,7 +4,7 @@ use Rattle.std.proofs.lemmas.Bool.Decides.{nat_tests}
 use Rattle.std.specs.FinMap as map
 use Rattle.mds_types.specs.declared.ids.Ino.{Ino}
 use Rattle.mds_types.specs.declared.entries.Entry.{Entry}
-use Rattle.mds_types.specs.Tree.{Tree, place_of}
+use Rattle.mds_types.specs.Tree.{Tree, dentry_of}
 use Rattle.mds_types.specs.UsedLaws.{numbers_used}
 use Rattle.mds_types.specs.WellFormedLaws.{IsUnused}
 use Rattle.inode_table.specs.Numbers.{offer, end_number}
@@ -16,7 +16,7 @@ next_unused : (opening : Tree) (past : List Entry) (state : State) → IsSound o
 next_unused opening past state sound below = record {
   not_root = λ one. omega (arith, one, sound.supplied.started);
   not_there = λ d name inode stands same.
-      let used = numbers_used opening past sound.legal (place_of d name) inode (ap (λ t. map.get t (place_of d name)) (sym sound.replayed) ∙ stands) in
+      let used = numbers_used opening past sound.legal (dentry_of d name) inode (ap (λ t. map.get t (dentry_of d name)) (sym sound.replayed) ∙ stands) in
       let low : _ = sound.fresh inode.ino.0 (omega (arith, same, sound.supplied.started)) (omega (arith, same, below)) used in
       omega (arith, same, low);
 }

@@ -6,8 +6,8 @@ use Rattle.mds_types.specs.declared.refusals.Refusal.{Refusal}
 use Rattle.mds_types.specs.declared.refusals.Refusal.TheVariants.{NoMemory, NoSuchFrag}
 use Rattle.mds_types.specs.Frag.{Fragment}
 use Rattle.mds_types.specs.Tree.{Tree, is_directory}
-use Rattle.inode_table.specs.Dirs.{Homes, Covers, IsTable, leaves_of}
-use Rattle.leaf_maps.specs.Leaves.{Leaves, HavePicks, shown_by}
+use Rattle.inode_table.specs.Dirs.{Homes, Covers, IsTable, leaves_of, is_known}
+use Rattle.leaf_maps.specs.Leaves.{Leaves, AreStanding, HavePicks, shown_by}
 use Rattle.leaf_maps.specs.Regroup.{ArePlacedIn, IsRegrouped}
 use Rattle.leaf_maps.specs.ShownLaws.{regrouped_placed, regrouped_shown}
 use Rattle.inode_table.specs.TreeTable.{IsTabled}
@@ -21,6 +21,7 @@ use Rattle.cluster_core.specs.State.{State, shown}
 use Rattle.cluster_core.specs.LeafFrags.{Fragments, IsAsBefore, IsSoundTree, dentries_of, state_of}
 use Rattle.cluster_core.specs.Serve.{IsLeft}
 use Rattle.cluster_core.specs.Splits.{DoesUnseen, IsCovered, ListsLeaves, RefusesIn}
+use Rattle.leaf_maps.proofs.StandingLaws.{standing_regrouped}
 use Rattle.cluster_core.proofs.Dentries.{same_dentries, tree_is}
 
 -- there is no such directory
@@ -50,10 +51,11 @@ module _ (law : (homes : Homes) (covers : Covers) → IsTable homes covers → H
   pub same_tree : shown_by new ≡ shown_by old
   same_tree = regrouped_shown covers later old new d to is set sound.placed (law homes covers sound.table) (law now_homes later table)
 
-  pub sound_still : now_homes ≡ homes → IsSoundTree now_homes later new
-  sound_still same = record {
+  pub sound_still : is_known homes d ≡ true → now_homes ≡ homes → IsSoundTree now_homes later new
+  sound_still known same = record {
     table = table;
     placed = regrouped_placed covers later old new d to is set sound.placed;
+    standing = subst (λ h. AreStanding h later new) (sym same) (standing_regrouped homes covers later old new d to is set known sound.standing);
     tabled = subst (λ t. IsTabled t now_homes) (sym same_tree) (subst (IsTabled (shown_by old)) (sym same) sound.tabled);
   }
 

@@ -10,7 +10,7 @@ use Rattle.inode_table.specs.Dirs.{Homes, Covers, Table, IsTable}
 use Rattle.namespace_ops.specs.declared.plans.Change.{Change}
 use Rattle.namespace_ops.specs.declared.plans.Change.TheVariants.{Add, Set, Remove, Move}
 use Rattle.inode_table.specs.TreeTable.{IsTabled}
-use Rattle.leaf_maps.specs.Leaves.{Leaf, Leaves, Names, Rows, ArePlaced, shown_by}
+use Rattle.leaf_maps.specs.Leaves.{Leaf, Leaves, Names, Rows, ArePlaced, AreStanding, shown_by}
 use Rattle.leaf_maps.specs.Changes.{HasRoom}
 use Rattle.mds_types.specs.declared.requests.Request.{Request}
 use Rattle.inode_table.specs.Numbers.{Supply}
@@ -60,6 +60,8 @@ pub record IsSoundTree (homes : Homes) (covers : Covers) (leaves : Leaves) : Typ
   pub table : IsTable homes covers
   -- each name is in the leaf that its hash picks
   pub placed : ArePlaced covers leaves
+  -- nothing is kept but of leaves of its directories
+  pub standing : AreStanding homes covers leaves
   -- the tree is well formed, and the table is that of the tree
   pub tabled : IsTabled (shown_by leaves) homes
 
@@ -69,7 +71,7 @@ HasNamesOf old new leaf = names_at (dentries_of new) leaf.0.0 leaf.1 ≡ names_a
 
 -- the change can be made with no growth: there is room in the leaf of a name that comes, and for a new home with its name
 abbrev pub IsReady : Fragments → Change → Type 0
-IsReady f (Add place leaf inode) = HasRoom f.leaves place.dir.0 leaf × (is_dir_kind inode.kind ≡ true → (0 < f.dirs_left) × (f.spare ≡ Some place.name))
-IsReady f (Set place leaf inode) = Unit {0}
-IsReady f (Remove place leaf went) = Unit {0}
+IsReady f (Add dentry leaf inode) = HasRoom f.leaves dentry.dir.0 leaf × (is_dir_kind inode.kind ≡ true → (0 < f.dirs_left) × (f.spare ≡ Some dentry.name))
+IsReady f (Set dentry leaf inode) = Unit {0}
+IsReady f (Remove dentry leaf went) = Unit {0}
 IsReady f (Move from source to target went) = HasRoom f.leaves to.dir.0 target × (f.spare ≡ Some to.name)

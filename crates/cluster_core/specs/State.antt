@@ -1,7 +1,7 @@
 -- What contracts see of a cluster.
 use Rattle.std.specs.Prelude.{◌≡◌, ℕ, ◌^◌, List, [], ◌∷◌, ◌++◌, Option, Some, None}
 use Rattle.std.specs.FinMap as map
-use Rattle.mds_types.specs.declared.places.Place.{Place}
+use Rattle.mds_types.specs.declared.dentries.Dentry.{Dentry}
 use Rattle.mds_types.specs.declared.inodes.Inode.{Inode}
 use Rattle.mds_types.specs.declared.entries.Entry.{Entry}
 use Rattle.mds_types.specs.declared.requests.Request.{Request}
@@ -45,7 +45,7 @@ abbrev pub names_at : Dentries → ℕ → Fragment → Names
 names_at dentries d f = or_no_names (map.get dentries (record { 0 = d }, f))
 
 -- the entries that names of leaves are
-abbrev pub entries_under : List (Leaf × Names) → List (Place × Inode)
+abbrev pub entries_under : List (Leaf × Names) → List (Dentry × Inode)
 entries_under [] = []
 entries_under (leaf ∷ rest) = entries_of leaf.0.0.0 (map.entries leaf.1) ++ entries_under rest
 

@@ -8,80 +8,80 @@ ghost use Rattle.mds_types.specs.Frag.{Fragment};
 ghost use Rattle.mds_types.specs.Tree.{is_dir_kind};
 ghost use Rattle.mds_types.specs.DirectoryLaws.{NothingIn};
 ghost use Rattle.mds_types.specs.MovedLaws.{IsMove};
-ghost use Rattle.inode_table.specs.Dirs.{IsChildless, IsTable};
+ghost use Rattle.inode_table.specs.Dirs.{Covers, Homes, IsTable, MayGo};
 ghost use Rattle.inode_table.specs.TreeChanges.{KeepLeaves, MayAdd, MaySet, MayRemove};
 ghost use Rattle.namespace_ops.specs.Changes.{IsLeafAt, moved};
 ghost use Rattle.namespace_ops.specs.Kept.{ChangesOnly};
 ghost use Rattle.inode_table.specs.TreeTable.{without_cover, without_home};
-ghost use Rattle.leaf_maps.specs.Leaves.{ArePlaced, names_in, shown_by};
+ghost use Rattle.leaf_maps.specs.Leaves.{ArePlaced, AreStanding, names_in, shown_by};
 ghost use Rattle.leaf_maps.specs.Changes.{HasRoom, HaveSameNames};
 ghost use Rattle.cluster_core.specs.LeafFrags.{HasNamesOf, IsSoundTree};
 
 use crate::picks::{each_hash_has_a_leaf, put_at, take_from};
 use inode_table::{Dirs, adopt_dir, drop_dir, relocate_dir};
 use leaf_maps::LeafMaps;
-use mds_types::{Frag, Inode, Name, Place};
+use mds_types::{Dentry, Frag, Inode, Name};
 
-/// Puts a new inode at a place. `spare` has the name of the place where the inode is a directory.
+/// Puts a new inode at a dentry. `spare` has the name of the dentry where the inode is a directory.
 pub fn add_entry(
     leaves: &mut LeafMaps,
     dirs: &mut Dirs,
     spare: &mut Option<Name>,
-    place: Place,
+    dentry: Dentry,
     leaf: Frag,
     inode: Inode,
 )
     requires sound { IsSoundTree dirs.old.homes dirs.old.trees leaves.old }
-    requires leaf { IsLeafAt dirs.old.trees place leaf }
-    requires room { HasRoom leaves.old place.dir.0 leaf }
-    requires ready { is_dir_kind inode.kind ≡ true → (0 < dirs.old.room) × (spare.old ≡ Some place.name) }
-    requires may { MayAdd (shown_by leaves.old) place inode }
-    ensures tree { shown_by leaves.new ≡ map.insert (shown_by leaves.old) place inode }
+    requires leaf { IsLeafAt dirs.old.trees dentry leaf }
+    requires room { HasRoom leaves.old dentry.dir.0 leaf }
+    requires ready { is_dir_kind inode.kind ≡ true → (0 < dirs.old.room) × (spare.old ≡ Some dentry.name) }
+    requires may { MayAdd (shown_by leaves.old) dentry inode }
+    ensures tree { shown_by leaves.new ≡ map.insert (shown_by leaves.old) dentry inode }
     ensures sound { IsSoundTree dirs.new.homes dirs.new.trees leaves.new }
     ensures leaves { KeepLeaves (shown_by leaves.new) dirs.old.trees dirs.new.trees }
-    ensures frame { ChangesOnly (HasNamesOf leaves.old leaves.new) ((place.dir, leaf) ∷ []) }
+    ensures frame { ChangesOnly (HasNamesOf leaves.old leaves.new) ((dentry.dir, leaf) ∷ []) }
 {
     each_hash_has_a_leaf();
-    adopt_dir(dirs, spare, &place, &inode);
-    put_at(leaves, dirs, place, leaf, inode);
+    adopt_dir(dirs, spare, &dentry, &inode);
+    put_at(leaves, dirs, dentry, leaf, inode);
 }
 
-/// Gives the inode at a place other attributes.
-pub fn set_entry(leaves: &mut LeafMaps, dirs: &Dirs, place: Place, leaf: Frag, inode: Inode)
+/// Gives the inode at a dentry other attributes.
+pub fn set_entry(leaves: &mut LeafMaps, dirs: &Dirs, dentry: Dentry, leaf: Frag, inode: Inode)
     requires sound { IsSoundTree dirs.now.homes dirs.now.trees leaves.old }
-    requires leaf { IsLeafAt dirs.now.trees place leaf }
-    requires may { MaySet (shown_by leaves.old) place inode }
-    ensures tree { shown_by leaves.new ≡ map.insert (shown_by leaves.old) place inode }
+    requires leaf { IsLeafAt dirs.now.trees dentry leaf }
+    requires may { MaySet (shown_by leaves.old) dentry inode }
+    ensures tree { shown_by leaves.new ≡ map.insert (shown_by leaves.old) dentry inode }
     ensures sound { IsSoundTree dirs.now.homes dirs.now.trees leaves.new }
-    ensures frame { ChangesOnly (HasNamesOf leaves.old leaves.new) ((place.dir, leaf) ∷ []) }
+    ensures frame { ChangesOnly (HasNamesOf leaves.old leaves.new) ((dentry.dir, leaf) ∷ []) }
 {
     each_hash_has_a_leaf();
-    put_at(leaves, dirs, place, leaf, inode);
+    put_at(leaves, dirs, dentry, leaf, inode);
 }
 
-/// Takes the entry at a place away. Of a directory that goes nothing is kept.
-pub fn remove_entry(leaves: &mut LeafMaps, dirs: &mut Dirs, place: &Place, leaf: Frag)
+/// Takes the entry at a dentry away. Of a directory that goes nothing is kept.
+pub fn remove_entry(leaves: &mut LeafMaps, dirs: &mut Dirs, dentry: &Dentry, leaf: Frag)
     requires sound { IsSoundTree dirs.old.homes dirs.old.trees leaves.old }
-    requires leaf { IsLeafAt dirs.old.trees place.now leaf }
-    requires may { MayRemove (shown_by leaves.old) place.now }
-    ensures tree { shown_by leaves.new ≡ map.remove (shown_by leaves.old) place.now }
+    requires leaf { IsLeafAt dirs.old.trees dentry.now leaf }
+    requires may { MayRemove (shown_by leaves.old) dentry.now }
+    ensures tree { shown_by leaves.new ≡ map.remove (shown_by leaves.old) dentry.now }
     ensures sound { IsSoundTree dirs.new.homes dirs.new.trees leaves.new }
     ensures leaves { KeepLeaves (shown_by leaves.new) dirs.old.trees dirs.new.trees }
-    ensures frame { ChangesOnly (HasNamesOf leaves.old leaves.new) ((place.now.dir, leaf) ∷ []) }
+    ensures frame { ChangesOnly (HasNamesOf leaves.old leaves.new) ((dentry.now.dir, leaf) ∷ []) }
 {
     each_hash_has_a_leaf();
-    let gone = take_from(leaves, dirs, place, leaf);
+    let gone = take_from(leaves, dirs, dentry, leaf);
     drop_leaves(leaves, dirs, gone.as_ref());
 }
 
-/// Moves the entry at a place to another. `spare` has the name of that. Of a directory that is replaced nothing is kept.
+/// Moves the entry at a dentry to another. `spare` has the name of that. Of a directory that is replaced nothing is kept.
 pub fn move_entry(
     leaves: &mut LeafMaps,
     dirs: &mut Dirs,
     spare: &mut Option<Name>,
-    from: &Place,
+    from: &Dentry,
     source: Frag,
-    to: Place,
+    to: Dentry,
     target: Frag,
 )
     requires sound { IsSoundTree dirs.old.homes dirs.old.trees leaves.old }
@@ -109,13 +109,14 @@ pub fn move_entry(
 fn drop_leaves(leaves: &mut LeafMaps, dirs: &mut Dirs, gone: Option<&Inode>)
     requires table { IsTable dirs.old.homes dirs.old.trees }
     requires placed { ArePlaced dirs.old.trees leaves.old }
-    requires childless { (inode : Node) → option_copied gone ≡ Some inode → is_dir_kind inode.kind ≡ true → IsChildless dirs.old.homes inode.ino.0 }
+    requires may { (inode : Node) → option_copied gone ≡ Some inode → is_dir_kind inode.kind ≡ true → MayGo dirs.old.homes inode.ino.0 }
     requires empty { (inode : Node) → option_copied gone ≡ Some inode → is_dir_kind inode.kind ≡ true → NothingIn (shown_by leaves.old) inode.ino.0 }
     ensures homes { dirs.new.homes ≡ without_home dirs.old.homes (option_copied gone.entry) }
     ensures trees { dirs.new.trees ≡ without_cover dirs.old.trees (option_copied gone.entry) }
     ensures tree { shown_by leaves.new ≡ shown_by leaves.old }
     ensures names { HaveSameNames leaves.old leaves.new }
     ensures placed { ArePlaced dirs.new.trees leaves.new }
+    ensures standing { AreStanding dirs.old.homes dirs.old.trees leaves.old → AreStanding dirs.new.homes dirs.new.trees leaves.new }
     ensures table { IsTable dirs.new.homes dirs.new.trees }
 {
     each_hash_has_a_leaf();
@@ -126,7 +127,8 @@ fn drop_leaves(leaves: &mut LeafMaps, dirs: &mut Dirs, gone: Option<&Inode>)
 // Drops what is kept of the leaves of a directory that has no name in any. The tree stays.
 fn forget_names(leaves: &mut LeafMaps, gone: Option<&Inode>)
     requires { (inode : Node) → option_copied gone ≡ Some inode → is_dir_kind inode.kind ≡ true → (f : Fragment) → names_in leaves.old inode.ino.0 f ≡ map.empty }
-    ensures { HaveSameNames leaves.old leaves.new }
+    ensures names { HaveSameNames leaves.old leaves.new }
+    ensures standing { (homes : Homes) (covers : Covers) → AreStanding homes covers leaves.old → AreStanding (without_home homes (option_copied gone.entry)) (without_cover covers (option_copied gone.entry)) leaves.new }
 {
     if let Some(inode) = gone {
         if inode.kind.is_dir() {

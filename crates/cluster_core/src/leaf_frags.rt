@@ -2,25 +2,22 @@
 ghost use Rattle.std.specs.Prelude.{◌≡◌, IfOk, IfErr, OnOk, Option};
 ghost use Rattle.std.specs.FinMap as map;
 ghost use Rattle.mds_types.specs.declared.refusals.Refusal.TheVariants.{NoMemory};
-ghost use Rattle.mds_types.specs.Tree.{at};
-ghost use Rattle.leaf_maps.specs.Leaves.{ArePlaced, shown_by};
+ghost use Rattle.leaf_maps.specs.Leaves.{ArePlaced, AreStanding, shown_by};
 ghost use Rattle.leaf_maps.specs.Changes.{HaveSameNames};
 ghost use Rattle.inode_table.specs.TreeChanges.{KeepLeaves};
-ghost use Rattle.namespace_ops.specs.Changes.{MayChange, changed, fragments_in, fragments_of};
+ghost use Rattle.inode_table.specs.TreeTable.{IsTabled};
+ghost use Rattle.namespace_ops.specs.Changes.{IsLeafAt, MayChange, changed, fragments_in, fragments_of};
 ghost use Rattle.namespace_ops.specs.Planned.{IsReadyToChange, after_plan};
 ghost use Rattle.cluster_core.specs.Serve.{CarryLeaves};
 ghost use Rattle.cluster_core.specs.LeafFrags.{HasNamesOf, IsReady, dentries_of, fragments};
 ghost use Rattle.namespace_ops.specs.Kept.{ChangesOnly};
-ghost use Rattle.fragtree.specs.FragTree.{IsPick};
-ghost use Rattle.namehash.specs.Rjenkins.{hash_of};
-ghost use Rattle.inode_table.specs.Dirs.{leaves_of};
 ghost use Rattle.cluster_core.specs.Sound.{IsDivided};
 
 use crate::leaf_changes::{add_entry, move_entry, remove_entry, set_entry};
 use crate::picks::{leaf_of, look_at};
 use inode_table::Dirs;
 use leaf_maps::LeafMaps;
-use mds_types::{Frag, Ino, Inode, Listing, Name, Op, PageSize, Refusal};
+use mds_types::{Dentry, Frag, Ino, Inode, Listing, Name, Op, PageSize, Refusal};
 use namespace_ops::{Change, Frags};
 use std::alloc::{AllocError, Global};
 use std::fmt;
@@ -34,7 +31,7 @@ use std::marker::Model;
 pub(crate) struct LeafFrags {
     pub(crate) leaves: LeafMaps,
     pub(crate) dirs: Dirs,
-    /// The name of the directory that comes or moves next, for its place in the table.
+    /// The name of the directory that comes or moves next, for its home in the table.
     spare: Option<Name>,
     /// For leaves whose first name comes.
     alloc: Global,
@@ -102,11 +99,17 @@ impl LeafFrags {
             ..
         } = self;
         match change {
-            Change::Add { place, leaf, inode } => {
-                add_entry(leaves, dirs, spare, place, leaf, inode)
-            }
-            Change::Set { place, leaf, inode } => set_entry(leaves, dirs, place, leaf, inode),
-            Change::Remove { place, leaf, .. } => remove_entry(leaves, dirs, &place, leaf),
+            Change::Add {
+                dentry,
+                leaf,
+                inode,
+            } => { add_entry(leaves, dirs, spare, dentry, leaf, inode) }
+            Change::Set {
+                dentry,
+                leaf,
+                inode,
+            } => set_entry(leaves, dirs, dentry, leaf, inode),
+            Change::Remove { dentry, leaf, .. } => remove_entry(leaves, dirs, &dentry, leaf),
             Change::Move {
                 from,
                 source,
@@ -166,8 +169,8 @@ impl Frags for LeafFrags {
         self.dirs.is_above(dir, below)
     }
 
-    fn frag_of(&self, dir: Ino, name: &Name) -> Frag {
-        leaf_of(&self.dirs, dir, name)
+    fn frag_of(&self, dentry: &Dentry) -> Frag {
+        leaf_of(&self.dirs, dentry)
     }
 
     fn leaves(&self, alloc: Global, dir: Ino) -> Result<Vec<Frag>, Refusal> {
@@ -177,14 +180,8 @@ impl Frags for LeafFrags {
         Ok(tree.leaves(alloc)?)
     }
 
-    fn look(
-        &mut self,
-        _op: &Op,
-        dir: Ino,
-        leaf: Frag,
-        name: &Name,
-    ) -> Result<Option<Inode>, Refusal> {
-        Ok(inode_at(&self.leaves, &self.dirs, dir, leaf, name)?)
+    fn look(&mut self, _op: &Op, dentry: &Dentry, leaf: Frag) -> Result<Option<Inode>, Refusal> {
+        Ok(inode_at(&self.leaves, &self.dirs, dentry, leaf)?)
     }
 
     fn list_after(
@@ -217,19 +214,18 @@ impl Frags for LeafFrags {
     }
 }
 
-// The inode at a name, copied.
+// The inode at a dentry, copied.
 fn inode_at(
     leaves: &LeafMaps,
     dirs: &Dirs,
-    dir: Ino,
+    dentry: &Dentry,
     leaf: Frag,
-    name: &Name,
 ) -> Result<Option<Inode>, AllocError>
     requires placed { ArePlaced dirs.now.trees leaves.now }
-    requires leaf { IsPick (leaves_of dirs.now.trees dir.0) (hash_of name.now) leaf }
-    ensures { IfOk result (λ found. found ≡ at (shown_by leaves.now) dir.0 name.now) }
+    requires leaf { IsLeafAt dirs.now.trees dentry.now leaf }
+    ensures { IfOk result (λ found. found ≡ map.get (shown_by leaves.now) dentry.now) }
 {
-    match look_at(leaves, dirs, dir, leaf, name) {
+    match look_at(leaves, dirs, dentry, leaf) {
         Some(inode) => Ok(Some(inode.try_clone()?)),
         None => Ok(None),
     }
@@ -243,17 +239,24 @@ fn make_ready(
     spare: &mut Option<Name>,
     change: &Change,
 ) -> Result<(), Refusal>
+    requires tabled { IsTabled (shown_by leaves.old) dirs.old.homes }
+    requires may { MayChange (shown_by leaves.old) dirs.old.trees change.now }
     ensures ready { OnOk result (IsReady (fragments dirs.new leaves.new spare.new) change.now) }
     ensures names { HaveSameNames leaves.old leaves.new }
+    ensures standing { AreStanding dirs.old.homes dirs.old.trees leaves.old → AreStanding dirs.old.homes dirs.old.trees leaves.new }
     ensures homes { dirs.new.homes ≡ dirs.old.homes }
     ensures trees { dirs.new.trees ≡ dirs.old.trees }
     ensures err { IfErr result (λ reason. reason ≡ NoMemory) }
 {
     match change {
-        Change::Add { place, leaf, inode } => {
-            leaves.reserve(alloc, place.dir, *leaf)?;
+        Change::Add {
+            dentry,
+            leaf,
+            inode,
+        } => {
+            leaves.reserve(alloc, dentry.dir, *leaf)?;
             if inode.kind.is_dir() {
-                *spare = Some(place.name.try_clone()?);
+                *spare = Some(dentry.name.try_clone()?);
                 return dirs.reserve();
             }
         }

@@ -1,18 +1,16 @@
-//! The leaf that a name belongs to, and what stands at a place, leaf by leaf.
+//! The leaf that a name belongs to, and what stands at a dentry, leaf by leaf.
 ghost use Rattle.std.specs.Prelude.{◌≡◌, None};
 ghost use Rattle.std.specs.Option.{option_copied};
 ghost use Rattle.std.specs.FinMap as map;
-ghost use Rattle.mds_types.specs.Tree.{at};
-ghost use Rattle.fragtree.specs.FragTree.{IsPick};
-ghost use Rattle.namehash.specs.Rjenkins.{hash_of};
-ghost use Rattle.inode_table.specs.Dirs.{Covers, Homes, IsTable, leaves_of};
+ghost use Rattle.inode_table.specs.Dirs.{Covers, Homes, IsTable};
+ghost use Rattle.namespace_ops.specs.Changes.{IsLeafAt};
 ghost use Rattle.leaf_maps.specs.Leaves.{ArePlaced, HavePicks, names_in, shown_by};
-ghost use Rattle.leaf_maps.specs.Changes.{HasRoom, IsRewritten, KeepRoom};
+ghost use Rattle.leaf_maps.specs.Changes.{AreLeftAlone, HasRoom, IsRewritten, KeepRoom};
 
 use fragtree::laws::each_hash_has_a_pick;
 use inode_table::Dirs;
 use leaf_maps::LeafMaps;
-use mds_types::{Frag, Ino, Inode, Name, Place};
+use mds_types::{Dentry, Frag, Inode};
 use namehash::rjenkins;
 
 /// A law: in a directory table every hash picks a leaf of every directory.
@@ -22,54 +20,55 @@ pub fn each_hash_has_a_leaf()
     each_hash_has_a_pick();
 }
 
-/// The leaf of a directory that a name belongs to: the one that its hash picks. Takes no memory.
-pub fn leaf_of(dirs: &Dirs, dir: Ino, name: &Name) -> Frag
-    ensures pick { IsPick (leaves_of dirs.now.trees dir.0) (hash_of name.now) result }
+/// The leaf that a dentry belongs to: the one of its directory that the hash of its name picks. Takes no memory.
+pub fn leaf_of(dirs: &Dirs, dentry: &Dentry) -> Frag
+    ensures pick { IsLeafAt dirs.now.trees dentry.now result }
     ensures picks { HavePicks dirs.now.trees }
 {
     each_hash_has_a_leaf();
-    dirs.pick(dir, rjenkins(name.as_bytes()))
+    dirs.pick(dentry.dir, rjenkins(dentry.name.as_bytes()))
 }
 
-/// The inode at a name of a directory, whose leaf is given.
+/// The inode at a dentry, whose leaf is given.
 pub fn look_at<'a>(
     leaves: &'a LeafMaps,
     dirs: &Dirs,
-    dir: Ino,
+    dentry: &Dentry,
     leaf: Frag,
-    name: &Name,
 ) -> Option<&'a Inode>
     requires placed { ArePlaced dirs.now.trees leaves.now }
-    requires leaf { IsPick (leaves_of dirs.now.trees dir.0) (hash_of name.now) leaf }
-    ensures { option_copied result ≡ at (shown_by leaves.entry.now) dir.0 name.now }
+    requires leaf { IsLeafAt dirs.now.trees dentry.now leaf }
+    ensures { option_copied result ≡ map.get (shown_by leaves.entry.now) dentry.entry.now }
 {
-    leaves.look(dir, leaf, name)
+    leaves.look(dentry.dir, leaf, &dentry.name)
 }
 
-/// Gives the name of a place, whose leaf is given, this inode. A name that isn't there needs room in its leaf. Takes no
+/// Gives the name of a dentry, whose leaf is given, this inode. A name that isn't there needs room in its leaf. Takes no
 /// memory.
-pub fn put_at(leaves: &mut LeafMaps, dirs: &Dirs, place: Place, leaf: Frag, inode: Inode)
+pub fn put_at(leaves: &mut LeafMaps, dirs: &Dirs, dentry: Dentry, leaf: Frag, inode: Inode)
     requires picks { HavePicks dirs.now.trees }
     requires placed { ArePlaced dirs.now.trees leaves.old }
-    requires leaf { IsPick (leaves_of dirs.now.trees place.dir.0) (hash_of place.name) leaf }
-    requires room { map.get (shown_by leaves.old) place ≡ None → HasRoom leaves.old place.dir.0 leaf }
-    ensures tree { shown_by leaves.new ≡ map.insert (shown_by leaves.old) place inode }
+    requires leaf { IsLeafAt dirs.now.trees dentry leaf }
+    requires room { map.get (shown_by leaves.old) dentry ≡ None → HasRoom leaves.old dentry.dir.0 leaf }
+    ensures tree { shown_by leaves.new ≡ map.insert (shown_by leaves.old) dentry inode }
     ensures placed { ArePlaced dirs.now.trees leaves.new }
-    ensures put { IsRewritten leaves.old leaves.new place.dir.0 leaf (map.insert (names_in leaves.old place.dir.0 leaf) place.name inode) }
+    ensures rows { AreLeftAlone leaves.old leaves.new dentry.dir.0 leaf }
+    ensures put { IsRewritten leaves.old leaves.new dentry.dir.0 leaf (map.insert (names_in leaves.old dentry.dir.0 leaf) dentry.name inode) }
 {
-    leaves.put(place.dir, leaf, place.name, inode);
+    leaves.put(dentry.dir, leaf, dentry.name, inode);
 }
 
-/// Takes the entry at a place, whose leaf is given, away, and returns the inode that it had. Takes no memory.
-pub fn take_from(leaves: &mut LeafMaps, dirs: &Dirs, place: &Place, leaf: Frag) -> Option<Inode>
+/// Takes the entry at a dentry, whose leaf is given, away, and returns the inode that it had. Takes no memory.
+pub fn take_from(leaves: &mut LeafMaps, dirs: &Dirs, dentry: &Dentry, leaf: Frag) -> Option<Inode>
     requires picks { HavePicks dirs.now.trees }
     requires placed { ArePlaced dirs.now.trees leaves.old }
-    requires leaf { IsPick (leaves_of dirs.now.trees place.now.dir.0) (hash_of place.now.name) leaf }
-    ensures value { result ≡ map.get (shown_by leaves.old) place.now }
-    ensures tree { shown_by leaves.new ≡ map.remove (shown_by leaves.old) place.now }
+    requires leaf { IsLeafAt dirs.now.trees dentry.now leaf }
+    ensures value { result ≡ map.get (shown_by leaves.old) dentry.now }
+    ensures tree { shown_by leaves.new ≡ map.remove (shown_by leaves.old) dentry.now }
     ensures placed { ArePlaced dirs.now.trees leaves.new }
     ensures room { KeepRoom leaves.old leaves.new }
-    ensures taken { IsRewritten leaves.old leaves.new place.now.dir.0 leaf (map.remove (names_in leaves.old place.now.dir.0 leaf) place.now.name) }
+    ensures rows { AreLeftAlone leaves.old leaves.new dentry.now.dir.0 leaf }
+    ensures taken { IsRewritten leaves.old leaves.new dentry.now.dir.0 leaf (map.remove (names_in leaves.old dentry.now.dir.0 leaf) dentry.now.name) }
 {
-    leaves.erase(place.dir, leaf, &place.name)
+    leaves.erase(dentry.dir, leaf, &dentry.name)
 }

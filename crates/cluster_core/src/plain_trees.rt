@@ -5,32 +5,32 @@ ghost use Rattle.std.specs.Cmp.Lexicographic.{pointwise, lists_equiv};
 ghost use Rattle.std.specs.FinMap as map;
 ghost use Rattle.std.proofs.Common.{rules};
 ghost use Rattle.mds_types.specs.Decided.{pair_decides};
-ghost use Rattle.mds_types.specs.declared.places.Place as PlaceValue;
+ghost use Rattle.mds_types.specs.declared.dentries.Dentry as DentryValue;
 ghost use Rattle.mds_types.specs.declared.inodes.Inode as InodeValue;
 ghost use Rattle.sorted_map.specs.SortedMap.{pairs_eq};
 
-use mds_types::{Inode, Place};
+use mds_types::{Dentry, Inode};
 use sorted_map::SortedMap;
 use std::alloc::{AllocError, Global};
 use std::marker::Model;
 
-/// A plain tree: a finite map from places to inodes.
+/// A plain tree: a finite map from dentries to inodes.
 #[derive(Debug, Drop)]
 pub struct PlainTree {
-    entries: SortedMap<Place, Inode>,
+    entries: SortedMap<Dentry, Inode>,
 }
 
 impl Model for PlainTree {
     ghost use Rattle.std.specs.Coded.{codes};
     ghost use Rattle.std.specs.FinMap as map;
-    ghost use Rattle.mds_types.specs.Tree.{Tree, place_cmp};
+    ghost use Rattle.mds_types.specs.Tree.{Tree, dentry_cmp};
     ghost use Rattle.sorted_map.specs.SortedMap.{contents};
 
     ghost Value = { Tree };
 
     ghost coded = { Prim.hlevel (codes, map.code) };
 
-    ghost view = { λ t. contents place_cmp t.entries };
+    ghost view = { λ t. contents dentry_cmp t.entries };
 }
 
 impl PlainTree {
@@ -54,13 +54,13 @@ impl PlainTree {
 }
 
 impl PartialEq for PlainTree {
-    ghost eq = { λ a b. pointwise (pairs_eq ⟦<Place as PartialEq>⟧.eq ⟦<Inode as PartialEq>⟧.eq) (map.entries a) (map.entries b) };
+    ghost eq = { λ a b. pointwise (pairs_eq ⟦<Dentry as PartialEq>⟧.eq ⟦<Inode as PartialEq>⟧.eq) (map.entries a) (map.entries b) };
 
-    ghost laws = { on_per (λ t. map.entries t) (partial_equiv_from_equiv (lists_equiv (decided (pairs_eq ⟦<Place as PartialEq>⟧.eq ⟦<Inode as PartialEq>⟧.eq) (pair_decides ⟦<Place as PartialEq>⟧.eq ⟦<Inode as PartialEq>⟧.eq (λ (a b : PlaceValue.Place). Prim.search rules) (λ (a b : InodeValue.Inode). Prim.search rules))))) };
+    ghost laws = { on_per (λ t. map.entries t) (partial_equiv_from_equiv (lists_equiv (decided (pairs_eq ⟦<Dentry as PartialEq>⟧.eq ⟦<Inode as PartialEq>⟧.eq) (pair_decides ⟦<Dentry as PartialEq>⟧.eq ⟦<Inode as PartialEq>⟧.eq (λ (a b : DentryValue.Dentry). Prim.search rules) (λ (a b : InodeValue.Inode). Prim.search rules))))) };
 
     /// Whether both are the same tree.
     fn eq(&self, other: &PlainTree) -> bool
-        ensures value { result ≡ pointwise (pairs_eq ⟦<Place as PartialEq>⟧.eq ⟦<Inode as PartialEq>⟧.eq) (map.entries self.now) (map.entries other.now) }
+        ensures value { result ≡ pointwise (pairs_eq ⟦<Dentry as PartialEq>⟧.eq ⟦<Inode as PartialEq>⟧.eq) (map.entries self.now) (map.entries other.now) }
         ensures same { IsTrue result ↔ (self.now ≡ other.now) }
     {
         // The contract of `len` is what says here that the keys of a map rise.
@@ -71,5 +71,5 @@ impl PartialEq for PlainTree {
 }
 
 impl Eq for PlainTree {
-    ghost laws = { on_equiv (λ t. map.entries t) (lists_equiv (decided (pairs_eq ⟦<Place as PartialEq>⟧.eq ⟦<Inode as PartialEq>⟧.eq) (pair_decides ⟦<Place as PartialEq>⟧.eq ⟦<Inode as PartialEq>⟧.eq (λ (a b : PlaceValue.Place). Prim.search rules) (λ (a b : InodeValue.Inode). Prim.search rules)))) };
+    ghost laws = { on_equiv (λ t. map.entries t) (lists_equiv (decided (pairs_eq ⟦<Dentry as PartialEq>⟧.eq ⟦<Inode as PartialEq>⟧.eq) (pair_decides ⟦<Dentry as PartialEq>⟧.eq ⟦<Inode as PartialEq>⟧.eq (λ (a b : DentryValue.Dentry). Prim.search rules) (λ (a b : InodeValue.Inode). Prim.search rules)))) };
 }

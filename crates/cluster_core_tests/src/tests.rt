@@ -2,7 +2,7 @@
 //! events, each beside what it comes to.
 
 use cluster_core::{Answer, Book, Event, PlainTree, format, run};
-use mds_types::{Frag, Ino, Kind, Mode, Name, Op, PageSize, Rank, Refusal, Reply, Request};
+use mds_types::{Dentry, Frag, Ino, Kind, Mode, Name, Op, PageSize, Rank, Refusal, Reply, Request};
 use std::alloc::Global;
 
 mod many_leaves;
@@ -166,25 +166,25 @@ fn name_of(asked: Asked) -> u8 {
 fn op_of(alloc: Global, asked: Asked) -> Option<Op> {
     let dir = Ino(1);
     let name = Name::from_bytes(alloc, &[name_of(asked)]).ok()?;
+    let dentry = Dentry { dir, name };
     match asked {
         Asked::MakeD | Asked::MakeE => Some(Op::Mkdir {
-            dir,
-            name,
+            dentry,
             mode: Mode::new(0o755)?,
             mtime: 0,
         }),
         Asked::MakeX => Some(Op::Create {
-            dir,
-            name,
+            dentry,
             mode: Mode::new(0o644)?,
             mtime: 0,
         }),
-        Asked::FindD => Some(Op::Lookup { dir, name }),
+        Asked::FindD => Some(Op::Lookup(dentry)),
         Asked::MoveDToE => Some(Op::Rename {
-            dir,
-            name,
-            to_dir: dir,
-            to_name: Name::from_bytes(alloc, b"e").ok()?,
+            from: dentry,
+            to: Dentry {
+                dir,
+                name: Name::from_bytes(alloc, b"e").ok()?,
+            },
         }),
         Asked::List => Some(Op::Readdir {
             dir,

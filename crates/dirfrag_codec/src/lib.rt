@@ -7,8 +7,6 @@ mod headers;
 pub mod laws;
 mod recordable;
 mod records;
-#[cfg(test)]
-mod tests;
 mod trees;
 
 pub use headers::{FragHeader, decode_header, encode_header};

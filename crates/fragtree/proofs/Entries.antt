@@ -5,7 +5,7 @@ use Rattle.std.specs.Cmp.{tied_itself}
 use Rattle.std.specs.FinMap as map
 use Rattle.std.specs.FinMap.{get-empty, get-insert, get-remove, empty_of_len, len-remove}
 use Rattle.mds_types.specs.Frag.{Fragment, frag_cmp}
-use Rattle.mds_types.specs.PlaceLaws.{frag-exact, frag-total}
+use Rattle.mds_types.specs.OrderLaws.{frag-exact, frag-total}
 use Rattle.mds_types.specs.EntryLaws.{tie}
 use Rattle.fragtree.specs.Descents.{Splits}
 

@@ -11,7 +11,7 @@ use Rattle.std.specs.FinMap.Entries.{where_key, below_all, find-where_key, is_so
 use Rattle.sorted_map.specs.Bools.{left_of, right_of}
 use Rattle.sorted_map.specs.SortedMap.{is_from}
 use Rattle.mds_types.specs.Frag.{Fragment, IsFragment, ContainsFragment, frag_cmp, span}
-use Rattle.mds_types.specs.PlaceLaws.{frag-exact}
+use Rattle.mds_types.specs.OrderLaws.{frag-exact}
 use Rattle.fragtree.specs.Descents.{Splits}
 use Rattle.fragtree.proofs.Entries.{apart, itself}
 use Rattle.fragtree.proofs.Ranges.{span_pos, ends_before, quotient_from_range, range_from_quotient}

@@ -82,7 +82,7 @@ adopted_rooted homes d home rooted may = record {
         (suc up.0, (home, ap (λ k. map.get new k) same ∙ get_put homes d home, up.1))
     go x h is (inr apart) = still x (rooted.rooted x h (sym (get_beside homes d home x apart) ∙ is))
 
--- a directory moves to a place that is not below it
+-- a directory moves to a dentry that is not below it
 pub moved_rooted : (homes : Homes) (d : ℕ) (home : Home) → IsRooted homes → MayMove homes d home → IsRooted (map.insert homes d home)
 moved_rooted homes d home rooted may = record {
   rootless = get_beside homes d home 1 root_stays ∙ rooted.rootless;

@@ -1,39 +1,39 @@
 -- The directory table stays that of the tree where an entry moves.
 use Rattle.std.proofs.Common.{◌≡◌, ℕ, true, false, is_some, Option, Some, None, ◌⊎◌, inl, inr, ⊎_elim, refl, sym, ap, ◌∙◌}
 use Rattle.std.specs.FinMap as map
-use Rattle.mds_types.specs.declared.places.Place.{Place}
+use Rattle.mds_types.specs.declared.dentries.Dentry.{Dentry}
 use Rattle.mds_types.specs.declared.inodes.Inode.{Inode}
-use Rattle.mds_types.specs.Tree.{Tree, place_of, is_dir_kind}
+use Rattle.mds_types.specs.Tree.{Tree, dentry_of, is_dir_kind}
 use Rattle.mds_types.specs.Step.{with_moved}
 use Rattle.mds_types.specs.MovedLaws.{IsMove, MayMove as MayMoveIn, may_move, well-formed-moved, stands_moved, still_moved, arrived}
 use Rattle.mds_types.specs.EntryLaws.{get_left}
-use Rattle.mds_types.specs.DirectoryLaws.{one_place}
+use Rattle.mds_types.specs.DirectoryLaws.{one_dentry}
 use Rattle.sorted_map.specs.NatKeys.{after_put, after_removal, get_put, get_beside, get_left as get_left_home}
 use Rattle.inode_table.specs.declared.homes.Home.{Home}
-use Rattle.inode_table.specs.Dirs.{Homes, MayMove, IsChildless}
+use Rattle.inode_table.specs.Dirs.{Homes, MayGo, MayMove}
 use Rattle.inode_table.specs.TreeTable.{IsTabled, home_at, with_home, without_home}
-use Rattle.inode_table.proofs.TableLaws.{home_of, known_is, above_in_tree, childless, dir_or_not, with_dir, with_file, without_dir, without_file, place_at}
+use Rattle.inode_table.proofs.TableLaws.{home_of, known_is, above_in_tree, childless, dir_or_not, with_dir, with_file, without_dir, without_file, dentry_at}
 
 -- what a table answers once an inode has a home there
-with_at : (homes : Homes) (place : Place) (inode : Inode) → is_dir_kind inode.kind ≡ true → map.get (with_home homes place inode) inode.ino.0 ≡ Some (home_at place)
-with_at homes place inode kinded = ap (λ (h : Homes). map.get h inode.ino.0) (with_dir homes place inode kinded) ∙ get_put homes inode.ino.0 (home_at place)
+with_at : (homes : Homes) (dentry : Dentry) (inode : Inode) → is_dir_kind inode.kind ≡ true → map.get (with_home homes dentry inode) inode.ino.0 ≡ Some (home_at dentry)
+with_at homes dentry inode kinded = ap (λ (h : Homes). map.get h inode.ino.0) (with_dir homes dentry inode kinded) ∙ get_put homes inode.ino.0 (home_at dentry)
 
-with_beside : (homes : Homes) (place : Place) (inode : Inode) (x : ℕ) → (x ≡ inode.ino.0 → ⊥) → map.get (with_home homes place inode) x ≡ map.get homes x
-with_beside homes place inode x apart =
-    ⊎_elim (λ kinded. ap (λ (h : Homes). map.get h x) (with_dir homes place inode kinded) ∙ get_beside homes inode.ino.0 (home_at place) x apart)
-    (λ kinded. ap (λ (h : Homes). map.get h x) (with_file homes place inode kinded)) (dir_or_not inode)
+with_beside : (homes : Homes) (dentry : Dentry) (inode : Inode) (x : ℕ) → (x ≡ inode.ino.0 → ⊥) → map.get (with_home homes dentry inode) x ≡ map.get homes x
+with_beside homes dentry inode x apart =
+    ⊎_elim (λ kinded. ap (λ (h : Homes). map.get h x) (with_dir homes dentry inode kinded) ∙ get_beside homes inode.ino.0 (home_at dentry) x apart)
+    (λ kinded. ap (λ (h : Homes). map.get h x) (with_file homes dentry inode kinded)) (dir_or_not inode)
 
-with_back : (homes : Homes) (place : Place) (inode : Inode) (x : ℕ) (h : Home) → map.get (with_home homes place inode) x ≡ Some h
-    → ((x ≡ inode.ino.0) × (home_at place ≡ h) × (is_dir_kind inode.kind ≡ true)) ⊎ ((is_dir_kind inode.kind ≡ true → x ≡ inode.ino.0 → ⊥) × (map.get homes x ≡ Some h))
-with_back homes place inode x h is = ⊎_elim of_dir of_file (dir_or_not inode)
+with_back : (homes : Homes) (dentry : Dentry) (inode : Inode) (x : ℕ) (h : Home) → map.get (with_home homes dentry inode) x ≡ Some h
+    → ((x ≡ inode.ino.0) × (home_at dentry ≡ h) × (is_dir_kind inode.kind ≡ true)) ⊎ ((is_dir_kind inode.kind ≡ true → x ≡ inode.ino.0 → ⊥) × (map.get homes x ≡ Some h))
+with_back homes dentry inode x h is = ⊎_elim of_dir of_file (dir_or_not inode)
   where
-    of_dir : is_dir_kind inode.kind ≡ true → ((x ≡ inode.ino.0) × (home_at place ≡ h) × (is_dir_kind inode.kind ≡ true)) ⊎ ((is_dir_kind inode.kind ≡ true → x ≡ inode.ino.0 → ⊥) × (map.get homes x ≡ Some h))
+    of_dir : is_dir_kind inode.kind ≡ true → ((x ≡ inode.ino.0) × (home_at dentry ≡ h) × (is_dir_kind inode.kind ≡ true)) ⊎ ((is_dir_kind inode.kind ≡ true → x ≡ inode.ino.0 → ⊥) × (map.get homes x ≡ Some h))
     of_dir kinded =
         ⊎_elim (λ w. inl (w.0, w.1, kinded)) (λ w. inr (λ k. w.0, w.1))
-        (after_put homes inode.ino.0 (home_at place) x h (ap (λ (t : Homes). map.get t x) (sym (with_dir homes place inode kinded)) ∙ is))
+        (after_put homes inode.ino.0 (home_at dentry) x h (ap (λ (t : Homes). map.get t x) (sym (with_dir homes dentry inode kinded)) ∙ is))
 
-    of_file : is_dir_kind inode.kind ≡ false → ((x ≡ inode.ino.0) × (home_at place ≡ h) × (is_dir_kind inode.kind ≡ true)) ⊎ ((is_dir_kind inode.kind ≡ true → x ≡ inode.ino.0 → ⊥) × (map.get homes x ≡ Some h))
-    of_file kinded = inr (λ k same. let clash : true ≡ false = sym k ∙ kinded in cc, ap (λ (t : Homes). map.get t x) (sym (with_file homes place inode kinded)) ∙ is)
+    of_file : is_dir_kind inode.kind ≡ false → ((x ≡ inode.ino.0) × (home_at dentry ≡ h) × (is_dir_kind inode.kind ≡ true)) ⊎ ((is_dir_kind inode.kind ≡ true → x ≡ inode.ino.0 → ⊥) × (map.get homes x ≡ Some h))
+    of_file kinded = inr (λ k same. let clash : true ≡ false = sym k ∙ kinded in cc, ap (λ (t : Homes). map.get t x) (sym (with_file homes dentry inode kinded)) ∙ is)
 
 -- and once an inode has gone
 abbrev Spares : Option Inode → ℕ → Type 0
@@ -60,7 +60,7 @@ without_back homes (Some t) x h is = ⊎_elim of_dir of_file (dir_or_not t)
       ap (λ (m : Homes). map.get m x) (sym (without_file homes t kinded)) ∙ is,
     )
 
-module _ (tree : Tree) (homes : Homes) (from to : Place) (inode : Inode) (tabled : IsTabled tree homes) (move : IsMove tree from to inode) where
+module _ (tree : Tree) (homes : Homes) (from to : Dentry) (inode : Inode) (tabled : IsTabled tree homes) (move : IsMove tree from to inode) where
   may : MayMoveIn tree from to inode
   may = may_move tree from to inode tabled.whole move
 
@@ -73,43 +73,46 @@ module _ (tree : Tree) (homes : Homes) (from to : Place) (inode : Inode) (tabled
     not_below = λ above. may.not_below (above_in_tree tree homes tabled inode.ino.0 to.dir.0 above);
   }
 
-  -- no directory is in what is replaced, also after the move
-  pub may_replace : (gone : Inode) → map.get tree to ≡ Some gone → IsChildless (with_home homes to inode) gone.ino.0
-  may_replace gone there x home is same =
-      ⊎_elim (λ w. may.replaces gone there to gone there (ap (λ (h : Home). h.parent.0) w.1 ∙ same))
-      (λ w. childless tree homes gone.ino.0 tabled (may.replaces gone there) x home w.1 same) (with_back homes to inode x home is)
+  -- what is replaced may go, also after the move: it isn't the root, and no directory is in it
+  pub may_replace : (gone : Inode) → map.get tree to ≡ Some gone → MayGo (with_home homes to inode) gone.ino.0
+  may_replace gone there = record {
+    other = tabled.whole.rootless to.dir.0 to.name gone there;
+    childless = λ x home is same.
+        ⊎_elim (λ w. may.replaces gone there to gone there (ap (λ (h : Home). h.parent.0) w.1 ∙ same))
+        (λ w. childless tree homes gone.ino.0 tabled (may.replaces gone there) x home w.1 same) (with_back homes to inode x home is);
+  }
 
-  alone : (q : Place) (x : Inode) → (q ≡ from → ⊥) → map.get tree q ≡ Some x → x.ino.0 ≡ inode.ino.0 → ⊥
-  alone q x not_from stands same = not_from (one_place tree tabled.whole q from x inode stands may.stands same)
+  alone : (q : Dentry) (x : Inode) → (q ≡ from → ⊥) → map.get tree q ≡ Some x → x.ino.0 ≡ inode.ino.0 → ⊥
+  alone q x not_from stands same = not_from (one_dentry tree tabled.whole q from x inode stands may.stands same)
 
   -- an inode that stands elsewhere isn't the one that is replaced
-  spared : (q : Place) (x : Inode) → (q ≡ to → ⊥) → map.get tree q ≡ Some x → Spares (map.get tree to) x.ino.0
-  spared q x not_to stands t there kinded same = not_to (one_place tree tabled.whole q to x t stands there same)
+  spared : (q : Dentry) (x : Inode) → (q ≡ to → ⊥) → map.get tree q ≡ Some x → Spares (map.get tree to) x.ino.0
+  spared q x not_to stands t there kinded same = not_to (one_dentry tree tabled.whole q to x t stands there same)
 
   arrived_spared : Spares (map.get tree to) inode.ino.0
-  arrived_spared t there kinded same = may.apart (one_place tree tabled.whole from to inode t may.stands there same)
+  arrived_spared t there kinded same = may.apart (one_dentry tree tabled.whole from to inode t may.stands there same)
 
   abbrev after_move : Homes
   after_move = without_home (with_home homes to inode) (map.get tree to)
 
   home_stands : (d : ℕ) (home : Home) → map.get after_move d ≡ Some home
-      → (i : Inode) × (map.get (with_moved tree from to inode) (place_of home.parent.0 home.name) ≡ Some i) × (i.ino.0 ≡ d) × (is_dir_kind i.kind ≡ true)
+      → (i : Inode) × (map.get (with_moved tree from to inode) (dentry_of home.parent.0 home.name) ≡ Some i) × (i.ino.0 ≡ d) × (is_dir_kind i.kind ≡ true)
   home_stands d home is =
       let left = without_back (with_home homes to inode) (map.get tree to) d home is in
       ⊎_elim
-      (λ w. (inode, ap (λ (h : Home). map.get (with_moved tree from to inode) (place_at h)) (sym w.1) ∙ arrived tree from to inode tabled.whole may, sym w.0, w.2))
+      (λ w. (inode, ap (λ (h : Home). map.get (with_moved tree from to inode) (dentry_at h)) (sym w.1) ∙ arrived tree from to inode tabled.whole may, sym w.0, w.2))
       (λ w.
       let before = tabled.holds.stands d home w.1 in
-      (before.0, still_moved tree from to inode tabled.whole may (place_at home) before.0 (not_from before.0 before.1 before.2 before.3 w.0) (not_to before.0 before.1 before.2 before.3 left.0) before.1, before.2, before.3))
+      (before.0, still_moved tree from to inode tabled.whole may (dentry_at home) before.0 (not_from before.0 before.1 before.2 before.3 w.0) (not_to before.0 before.1 before.2 before.3 left.0) before.1, before.2, before.3))
       (with_back homes to inode d home left.1)
     where
-      not_from : (i : Inode) → map.get tree (place_at home) ≡ Some i → i.ino.0 ≡ d → is_dir_kind i.kind ≡ true → (is_dir_kind inode.kind ≡ true → d ≡ inode.ino.0 → ⊥) → place_at home ≡ from → ⊥
+      not_from : (i : Inode) → map.get tree (dentry_at home) ≡ Some i → i.ino.0 ≡ d → is_dir_kind i.kind ≡ true → (is_dir_kind inode.kind ≡ true → d ≡ inode.ino.0 → ⊥) → dentry_at home ≡ from → ⊥
       not_from i stands numbered kinded other same =
           let inodes : Some i ≡ Some inode = sym stands ∙ ap (λ p. map.get tree p) same ∙ may.stands in
           let alike : i ≡ inode = cc in
           other (ap (λ (j : Inode). is_dir_kind j.kind) (sym alike) ∙ kinded) (sym numbered ∙ ap (λ (j : Inode). j.ino.0) alike)
 
-      not_to : (i : Inode) → map.get tree (place_at home) ≡ Some i → i.ino.0 ≡ d → is_dir_kind i.kind ≡ true → Spares (map.get tree to) d → place_at home ≡ to → ⊥
+      not_to : (i : Inode) → map.get tree (dentry_at home) ≡ Some i → i.ino.0 ≡ d → is_dir_kind i.kind ≡ true → Spares (map.get tree to) d → dentry_at home ≡ to → ⊥
       not_to i stands numbered kinded spare same = spare i (ap (λ p. map.get tree p) (sym same) ∙ stands) kinded (sym numbered)
 
   pub moved_tabled : IsTabled (with_moved tree from to inode) after_move
@@ -135,7 +138,7 @@ module _ (tree : Tree) (homes : Homes) (from to : Place) (inode : Inode) (tabled
   target_stays = get_left tree from to (λ same. may.apart (sym same))
 
 -- the entry that was taken is the one that moves
-pub taken_is : (key place : Place) (taken moved : Inode) → ◌≡◌ {A = Option (Place × Inode)} (Some (place, taken)) (Some (key, moved)) → moved ≡ taken
-taken_is key place taken moved same =
-    let row : ◌≡◌ {A = Place × Inode} (place, taken) (key, moved) = cc in
-    sym (ap (λ (r : Place × Inode). r.1) row)
+pub taken_is : (key dentry : Dentry) (taken moved : Inode) → ◌≡◌ {A = Option (Dentry × Inode)} (Some (dentry, taken)) (Some (key, moved)) → moved ≡ taken
+taken_is key dentry taken moved same =
+    let row : ◌≡◌ {A = Dentry × Inode} (dentry, taken) (key, moved) = cc in
+    sym (ap (λ (r : Dentry × Inode). r.1) row)

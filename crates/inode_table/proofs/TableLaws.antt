@@ -4,20 +4,20 @@ use Rattle.std.specs.FinMap as map
 use Rattle.std.specs.FinMap.{get-empty}
 use Rattle.std.specs.Ordering.{nat_cmp}
 use Rattle.std.proofs.lemmas.Bool.{eqb-true}
-use Rattle.mds_types.specs.declared.places.Place.{Place}
+use Rattle.mds_types.specs.declared.dentries.Dentry.{Dentry}
 use Rattle.mds_types.specs.declared.inodes.Inode.{Inode}
-use Rattle.mds_types.specs.Tree.{Tree, place_cmp, place_of, at, is_directory, is_dir_kind, is_above, has_entries, IsAbove as IsAboveIn, child, further as further_down, IsWellFormed}
+use Rattle.mds_types.specs.Tree.{Tree, dentry_cmp, dentry_of, at, is_directory, is_dir_kind, is_above, has_entries, IsAbove as IsAboveIn, child, further as further_down, IsWellFormed}
 use Rattle.mds_types.specs.Step.{with_attributes}
 use Rattle.mds_types.specs.AboveLaws.{above_exact}
 use Rattle.mds_types.specs.AttributeLaws.{well-formed-changed}
 use Rattle.mds_types.specs.RemovedLaws.{well-formed-removed}
 use Rattle.mds_types.specs.WellFormedLaws.{well-formed-grown, sized_still}
 use Rattle.mds_types.specs.EntryLaws.{get_put, get_beside, get_left, stands_after_put, stands_after_removal, same_or_apart}
-use Rattle.mds_types.specs.DirectoryLaws.{StandsAs, directory_stands, root_stands, entry_stands, one_place, NothingIn, nothing_in_empty, nothing_in_file}
+use Rattle.mds_types.specs.DirectoryLaws.{StandsAs, directory_stands, root_stands, entry_stands, one_dentry, NothingIn, nothing_in_empty, nothing_in_file}
 use Rattle.sorted_map.specs.Bools.{or_cases, or_first, or_second}
 use Rattle.sorted_map.specs.NatKeys.{is_same, after_put, after_removal, get_put as get_put_home, get_beside as get_beside_home, get_left as get_left_home, get_removed as get_removed_home, same_or_apart as same_number}
 use Rattle.inode_table.specs.declared.homes.Home.{Home}
-use Rattle.inode_table.specs.Dirs.{Homes, Covers, or_whole, leaves_of, is_known, IsAbove, parent, further, MayCome, IsChildless}
+use Rattle.inode_table.specs.Dirs.{Homes, Covers, or_whole, leaves_of, is_known, IsAbove, parent, further, MayCome, IsChildless, MayGo}
 use Rattle.inode_table.specs.TreeChanges.{KeepLeaves, MayAdd, MaySet, MayRemove}
 use Rattle.inode_table.specs.TreeTable.{HoldsHomes, IsTabled, home_at, with_home, without_cover, without_home}
 
@@ -30,14 +30,14 @@ some_of : {A : Type 0} (o : Option A) → is_some o ≡ true → (a : A) × (o �
 some_of None h = cc
 some_of (Some a) h = (a, refl)
 
--- the place of a home
-abbrev pub place_at : Home → Place
-place_at home = place_of home.parent.0 home.name
+-- the dentry of a home
+abbrev pub dentry_at : Home → Dentry
+dentry_at home = dentry_of home.parent.0 home.name
 
 module _ (tree : Tree) (homes : Homes) (tabled : IsTabled tree homes) where
   -- a home is that of an entry's directory
-  pub home_of : (place : Place) (inode : Inode) (d : ℕ) → map.get tree place ≡ Some inode → inode.ino.0 ≡ d → is_dir_kind inode.kind ≡ true → map.get homes d ≡ Some (home_at place)
-  home_of place inode d stands same kinded = ap (λ x. map.get homes x) (sym same) ∙ tabled.holds.listed place inode stands kinded
+  pub home_of : (dentry : Dentry) (inode : Inode) (d : ℕ) → map.get tree dentry ≡ Some inode → inode.ino.0 ≡ d → is_dir_kind inode.kind ≡ true → map.get homes d ≡ Some (home_at dentry)
+  home_of dentry inode d stands same kinded = ap (λ x. map.get homes x) (sym same) ∙ tabled.holds.listed dentry inode stands kinded
 
   pub known_is : (d : ℕ) → is_known homes d ≡ is_directory tree d
   known_is d = bool_same _ _ there here
@@ -48,13 +48,13 @@ module _ (tree : Tree) (homes : Homes) (tabled : IsTabled tree homes) where
           (λ some.
           let h = some_of (map.get homes d) some in
           let w = tabled.holds.stands d h.0 h.1 in
-          ap (is_directory tree) (sym w.2) ∙ entry_stands tree (place_at h.0) w.0 w.1 w.3)
+          ap (is_directory tree) (sym w.2) ∙ entry_stands tree (dentry_at h.0) w.0 w.1 w.3)
           (or_cases (d == 1) (is_some (map.get homes d)) known)
 
       here : is_directory tree d ≡ true → is_known homes d ≡ true
       here stands =
           ⊎_elim (λ root. or_first (d == 1) _ (is_same d 1 root))
-          (λ (w : StandsAs tree d). or_second (d == 1) _ (ap is_some (home_of w.place w.inode d w.stands w.numbered w.kinded))) (directory_stands tree d stands)
+          (λ (w : StandsAs tree d). or_second (d == 1) _ (ap is_some (home_of w.dentry w.inode d w.stands w.numbered w.kinded))) (directory_stands tree d stands)
 
   -- what is above by parents is above by entries,
   pub above_in_tree : (d x : ℕ) → IsAbove homes d x → IsAboveIn tree d x
@@ -66,11 +66,11 @@ module _ (tree : Tree) (homes : Homes) (tabled : IsTabled tree homes) where
       subst (λ y. IsAboveIn tree d y) w.2 (further_down home.parent.0 home.name w.0 (above_in_tree d home.parent.0 above) w.1)
 
   -- an entry whose number is a directory's is that directory
-  is_dir_entry : (place : Place) (inode : Inode) → map.get tree place ≡ Some inode → is_directory tree inode.ino.0 ≡ true → is_dir_kind inode.kind ≡ true
-  is_dir_entry place inode stands here =
-      ⊎_elim (λ root. absurd (tabled.whole.rootless place.dir.0 place.name inode stands root))
+  is_dir_entry : (dentry : Dentry) (inode : Inode) → map.get tree dentry ≡ Some inode → is_directory tree inode.ino.0 ≡ true → is_dir_kind inode.kind ≡ true
+  is_dir_entry dentry inode stands here =
+      ⊎_elim (λ root. absurd (tabled.whole.rootless dentry.dir.0 dentry.name inode stands root))
       (λ (w : StandsAs tree inode.ino.0).
-      let alike : w.place ≡ place = one_place tree tabled.whole w.place place w.inode inode w.stands stands w.numbered in
+      let alike : w.dentry ≡ dentry = one_dentry tree tabled.whole w.dentry dentry w.inode inode w.stands stands w.numbered in
       let inodes : Some w.inode ≡ Some inode = sym w.stands ∙ ap (λ p. map.get tree p) alike ∙ stands in
       let same : w.inode ≡ inode = cc in
       ap (λ (i : Inode). is_dir_kind i.kind) (sym same) ∙ w.kinded)
@@ -79,9 +79,9 @@ module _ (tree : Tree) (homes : Homes) (tabled : IsTabled tree homes) where
   -- and the other way round, for a directory
   above_in_table : (d x : ℕ) → is_directory tree x ≡ true → IsAboveIn tree d x → IsAbove homes d x
   above_in_table d _ here (child name inode stands) =
-      parent inode.ino.0 (home_at (place_of d name)) (tabled.holds.listed (place_of d name) inode stands (is_dir_entry (place_of d name) inode stands here)) refl
+      parent inode.ino.0 (home_at (dentry_of d name)) (tabled.holds.listed (dentry_of d name) inode stands (is_dir_entry (dentry_of d name) inode stands here)) refl
   above_in_table d _ here (further_down m name inode above stands) =
-      further inode.ino.0 (home_at (place_of m name)) (tabled.holds.listed (place_of m name) inode stands (is_dir_entry (place_of m name) inode stands here))
+      further inode.ino.0 (home_at (dentry_of m name)) (tabled.holds.listed (dentry_of m name) inode stands (is_dir_entry (dentry_of m name) inode stands here))
       (above_in_table d m (tabled.whole.parents m name inode stands) above)
 
   -- so the table tells what the tree's test tells
@@ -97,27 +97,27 @@ no_entries = map.empty
 pub empty_tabled : IsTabled no_entries map.empty
 empty_tabled = record {
   whole = record {
-    rootless = λ d name inode h one. nothing (place_of d name) inode h;
-    once = λ d d' name name' inode inode' h h' same. absurd (nothing (place_of d name) inode h);
-    parents = λ d name inode h. absurd (nothing (place_of d name) inode h);
-    rooted = λ d name inode h. absurd (nothing (place_of d name) inode h);
-    sizes = λ d name inode h. absurd (nothing (place_of d name) inode h);
+    rootless = λ d name inode h one. nothing (dentry_of d name) inode h;
+    once = λ d d' name name' inode inode' h h' same. absurd (nothing (dentry_of d name) inode h);
+    parents = λ d name inode h. absurd (nothing (dentry_of d name) inode h);
+    rooted = λ d name inode h. absurd (nothing (dentry_of d name) inode h);
+    sizes = λ d name inode h. absurd (nothing (dentry_of d name) inode h);
   };
   holds = record {
-    listed = λ place inode h kinded. absurd (nothing place inode h);
+    listed = λ dentry inode h kinded. absurd (nothing dentry inode h);
     stands = λ d home is. let clash : None ≡ Some home = sym (get-empty nat_cmp d) ∙ is in absurd cc;
   };
 }
   where
-    nothing : (place : Place) (inode : Inode) → map.get no_entries place ≡ Some inode → ⊥
-    nothing place inode h = let clash : None ≡ Some inode = sym (get-empty place_cmp place) ∙ h in cc
+    nothing : (dentry : Dentry) (inode : Inode) → map.get no_entries dentry ≡ Some inode → ⊥
+    nothing dentry inode h = let clash : None ≡ Some inode = sym (get-empty dentry_cmp dentry) ∙ h in cc
 
 -- a directory may come into the table where its inode may come into the tree
-pub may_come : (tree : Tree) (homes : Homes) (place : Place) (inode : Inode) → IsTabled tree homes → MayAdd tree place inode → MayCome homes inode.ino.0 (home_at place)
-may_come tree homes place inode tabled may = record {
+pub may_come : (tree : Tree) (homes : Homes) (dentry : Dentry) (inode : Inode) → IsTabled tree homes → MayAdd tree dentry inode → MayCome homes inode.ino.0 (home_at dentry)
+may_come tree homes dentry inode tabled may = record {
   other = may.unused.not_root;
   fresh = none (map.get homes inode.ino.0) refl;
-  parent_known = known_is tree homes tabled place.dir.0 ∙ may.parent;
+  parent_known = known_is tree homes tabled dentry.dir.0 ∙ may.parent;
 }
   where
     none : (o : Option Home) → map.get homes inode.ino.0 ≡ o → o ≡ None
@@ -132,100 +132,103 @@ dir_or_not inode = go (is_dir_kind inode.kind) refl
     go false is = inr is
 
 -- the table with the home of a directory, and as it was for anything else
-pub with_dir : (homes : Homes) (place : Place) (inode : Inode) → is_dir_kind inode.kind ≡ true → with_home homes place inode ≡ map.insert homes inode.ino.0 (home_at place)
-with_dir homes place inode kinded = ap (λ b. cond b (map.insert homes inode.ino.0 (home_at place)) homes) kinded
+pub with_dir : (homes : Homes) (dentry : Dentry) (inode : Inode) → is_dir_kind inode.kind ≡ true → with_home homes dentry inode ≡ map.insert homes inode.ino.0 (home_at dentry)
+with_dir homes dentry inode kinded = ap (λ b. cond b (map.insert homes inode.ino.0 (home_at dentry)) homes) kinded
 
-pub with_file : (homes : Homes) (place : Place) (inode : Inode) → is_dir_kind inode.kind ≡ false → with_home homes place inode ≡ homes
-with_file homes place inode kinded = ap (λ b. cond b (map.insert homes inode.ino.0 (home_at place)) homes) kinded
+pub with_file : (homes : Homes) (dentry : Dentry) (inode : Inode) → is_dir_kind inode.kind ≡ false → with_home homes dentry inode ≡ homes
+with_file homes dentry inode kinded = ap (λ b. cond b (map.insert homes inode.ino.0 (home_at dentry)) homes) kinded
 
 -- a new inode comes in
-pub added_tabled : (tree : Tree) (homes : Homes) (place : Place) (inode : Inode) → IsTabled tree homes → MayAdd tree place inode → IsTabled (map.insert tree place inode) (with_home homes place inode)
-added_tabled tree homes place inode tabled may = record {
-  whole = well-formed-grown tree place.dir.0 place.name inode may.free tabled.whole may.parent may.unused.not_root may.unused.not_there may.sized;
+pub added_tabled : (tree : Tree) (homes : Homes) (dentry : Dentry) (inode : Inode) → IsTabled tree homes → MayAdd tree dentry inode → IsTabled (map.insert tree dentry inode) (with_home homes dentry inode)
+added_tabled tree homes dentry inode tabled may = record {
+  whole = well-formed-grown tree dentry.dir.0 dentry.name inode may.free tabled.whole may.parent may.unused.not_root may.unused.not_there may.sized;
   holds = ⊎_elim of_dir of_file (dir_or_not inode);
 }
   where
     new : Tree
-    new = map.insert tree place inode
+    new = map.insert tree dentry inode
 
     -- what stood before still stands
-    still : (q : Place) (x : Inode) → map.get tree q ≡ Some x → map.get new q ≡ Some x
-    still q x stands = go (same_or_apart q place)
+    still : (q : Dentry) (x : Inode) → map.get tree q ≡ Some x → map.get new q ≡ Some x
+    still q x stands = go (same_or_apart q dentry)
       where
-        go : (q ≡ place) ⊎ (q ≡ place → ⊥) → map.get new q ≡ Some x
+        go : (q ≡ dentry) ⊎ (q ≡ dentry → ⊥) → map.get new q ≡ Some x
         go (inl same) = let clash : None ≡ Some x = sym may.free ∙ ap (λ p. map.get tree p) (sym same) ∙ stands in absurd cc
-        go (inr apart) = get_beside tree place inode q apart ∙ stands
+        go (inr apart) = get_beside tree dentry inode q apart ∙ stands
 
-    other : (q : Place) (x : Inode) → map.get tree q ≡ Some x → x.ino.0 ≡ inode.ino.0 → ⊥
+    other : (q : Dentry) (x : Inode) → map.get tree q ≡ Some x → x.ino.0 ≡ inode.ino.0 → ⊥
     other q x stands same = may.unused.not_there q.dir.0 q.name x stands same
 
-    of_dir : is_dir_kind inode.kind ≡ true → HoldsHomes new (with_home homes place inode)
-    of_dir kinded = subst (HoldsHomes new) (sym (with_dir homes place inode kinded)) (record {
+    of_dir : is_dir_kind inode.kind ≡ true → HoldsHomes new (with_home homes dentry inode)
+    of_dir kinded = subst (HoldsHomes new) (sym (with_dir homes dentry inode kinded)) (record {
       listed = λ q x h dir.
           ⊎_elim
-          (λ w. ap (λ (i : Inode). map.get (map.insert homes inode.ino.0 (home_at place)) i.ino.0) (sym w.1) ∙ get_put_home homes inode.ino.0 (home_at place) ∙ ap (λ p. Some (home_at p)) (sym w.0))
-          (λ w. get_beside_home homes inode.ino.0 (home_at place) x.ino.0 (other q x w.1) ∙ tabled.holds.listed q x w.1 dir)
-          (stands_after_put tree place inode q x h);
+          (λ w. ap (λ (i : Inode). map.get (map.insert homes inode.ino.0 (home_at dentry)) i.ino.0) (sym w.1) ∙ get_put_home homes inode.ino.0 (home_at dentry) ∙ ap (λ p. Some (home_at p)) (sym w.0))
+          (λ w. get_beside_home homes inode.ino.0 (home_at dentry) x.ino.0 (other q x w.1) ∙ tabled.holds.listed q x w.1 dir)
+          (stands_after_put tree dentry inode q x h);
       stands = λ d home is.
           ⊎_elim
-          (λ w. (inode, ap (λ (h : Home). map.get new (place_at h)) (sym w.1) ∙ get_put tree place inode, sym w.0, kinded))
-          (λ w. let before = tabled.holds.stands d home w.1 in (before.0, still (place_at home) before.0 before.1, before.2, before.3))
-          (after_put homes inode.ino.0 (home_at place) d home is);
+          (λ w. (inode, ap (λ (h : Home). map.get new (dentry_at h)) (sym w.1) ∙ get_put tree dentry inode, sym w.0, kinded))
+          (λ w. let before = tabled.holds.stands d home w.1 in (before.0, still (dentry_at home) before.0 before.1, before.2, before.3))
+          (after_put homes inode.ino.0 (home_at dentry) d home is);
     })
 
-    of_file : is_dir_kind inode.kind ≡ false → HoldsHomes new (with_home homes place inode)
-    of_file kinded = subst (HoldsHomes new) (sym (with_file homes place inode kinded)) (record {
+    of_file : is_dir_kind inode.kind ≡ false → HoldsHomes new (with_home homes dentry inode)
+    of_file kinded = subst (HoldsHomes new) (sym (with_file homes dentry inode kinded)) (record {
       listed = λ q x h dir.
           ⊎_elim (λ w. let clash : true ≡ false = sym dir ∙ ap (λ (i : Inode). is_dir_kind i.kind) (sym w.1) ∙ kinded in absurd cc) (λ w. tabled.holds.listed q x w.1 dir)
-          (stands_after_put tree place inode q x h);
-      stands = λ d home is. let before = tabled.holds.stands d home is in (before.0, still (place_at home) before.0 before.1, before.2, before.3);
+          (stands_after_put tree dentry inode q x h);
+      stands = λ d home is. let before = tabled.holds.stands d home is in (before.0, still (dentry_at home) before.0 before.1, before.2, before.3);
     })
 
 -- an inode gets other attributes
-pub set_tabled : (tree : Tree) (homes : Homes) (place : Place) (inode : Inode) → IsTabled tree homes → MaySet tree place inode → IsTabled (map.insert tree place inode) homes
-set_tabled tree homes place inode tabled may = subst (λ i. IsTabled (map.insert tree place i) homes) (sym may.is) (record {
-  whole = well-formed-changed tree place may.before later may.stands refl refl tabled.whole
-      (sized_still may.before.kind may.size may.before.size may.allowed (tabled.whole.sizes place.dir.0 place.name may.before may.stands));
+pub set_tabled : (tree : Tree) (homes : Homes) (dentry : Dentry) (inode : Inode) → IsTabled tree homes → MaySet tree dentry inode → IsTabled (map.insert tree dentry inode) homes
+set_tabled tree homes dentry inode tabled may = subst (λ i. IsTabled (map.insert tree dentry i) homes) (sym may.is) (record {
+  whole = well-formed-changed tree dentry may.before later may.stands refl refl tabled.whole
+      (sized_still may.before.kind may.given.size may.before.size may.allowed (tabled.whole.sizes dentry.dir.0 dentry.name may.before may.stands));
   holds = record {
     listed = λ q x h dir.
         ⊎_elim
-        (λ w. ap (λ (i : Inode). map.get homes i.ino.0) (sym w.1) ∙ tabled.holds.listed place may.before may.stands (ap (λ (i : Inode). is_dir_kind i.kind) w.1 ∙ dir) ∙ ap (λ p. Some (home_at p)) (sym w.0))
+        (λ w. ap (λ (i : Inode). map.get homes i.ino.0) (sym w.1) ∙ tabled.holds.listed dentry may.before may.stands (ap (λ (i : Inode). is_dir_kind i.kind) w.1 ∙ dir) ∙ ap (λ p. Some (home_at p)) (sym w.0))
         (λ w. tabled.holds.listed q x w.1 dir)
-        (stands_after_put tree place later q x h);
-    stands = λ d home is. go d home is (same_or_apart (place_at home) place);
+        (stands_after_put tree dentry later q x h);
+    stands = λ d home is. go d home is (same_or_apart (dentry_at home) dentry);
   };
 })
   where
     later : Inode
-    later = with_attributes may.mode may.size may.mtime may.before
+    later = with_attributes may.given may.before
 
-    go : (d : ℕ) (home : Home) → map.get homes d ≡ Some home → (place_at home ≡ place) ⊎ (place_at home ≡ place → ⊥)
-        → (i : Inode) × (map.get (map.insert tree place later) (place_at home) ≡ Some i) × (i.ino.0 ≡ d) × (is_dir_kind i.kind ≡ true)
+    go : (d : ℕ) (home : Home) → map.get homes d ≡ Some home → (dentry_at home ≡ dentry) ⊎ (dentry_at home ≡ dentry → ⊥)
+        → (i : Inode) × (map.get (map.insert tree dentry later) (dentry_at home) ≡ Some i) × (i.ino.0 ≡ d) × (is_dir_kind i.kind ≡ true)
     go d home is (inl same) =
         let before = tabled.holds.stands d home is in
         let inodes : Some may.before ≡ Some before.0 = sym may.stands ∙ ap (λ p. map.get tree p) (sym same) ∙ before.1 in
         let alike : may.before ≡ before.0 = cc in
-        (later, ap (λ p. map.get (map.insert tree place later) p) same ∙ get_put tree place later, ap (λ (i : Inode). i.ino.0) alike ∙ before.2, ap (λ (i : Inode). is_dir_kind i.kind) alike ∙ before.3)
-    go d home is (inr apart) = let before = tabled.holds.stands d home is in (before.0, get_beside tree place later (place_at home) apart ∙ before.1, before.2, before.3)
+        (later, ap (λ p. map.get (map.insert tree dentry later) p) same ∙ get_put tree dentry later, ap (λ (i : Inode). i.ino.0) alike ∙ before.2, ap (λ (i : Inode). is_dir_kind i.kind) alike ∙ before.3)
+    go d home is (inr apart) = let before = tabled.holds.stands d home is in (before.0, get_beside tree dentry later (dentry_at home) apart ∙ before.1, before.2, before.3)
 
 -- nothing is in an inode that may go
-pub nothing_in : (tree : Tree) (place : Place) (inode : Inode) → IsWellFormed tree → map.get tree place ≡ Some inode → (is_dir_kind inode.kind && has_entries tree inode.ino.0) ≡ false → NothingIn tree inode.ino.0
-nothing_in tree place inode whole stands empty = go (is_dir_kind inode.kind) refl empty
+pub nothing_in : (tree : Tree) (dentry : Dentry) (inode : Inode) → IsWellFormed tree → map.get tree dentry ≡ Some inode → (is_dir_kind inode.kind && has_entries tree inode.ino.0) ≡ false → NothingIn tree inode.ino.0
+nothing_in tree dentry inode whole stands empty = go (is_dir_kind inode.kind) refl empty
   where
     go : (b : Bool) → is_dir_kind inode.kind ≡ b → (b && has_entries tree inode.ino.0) ≡ false → NothingIn tree inode.ino.0
     go true kinded none = nothing_in_empty tree inode.ino.0 none
-    go false kinded none = nothing_in_file tree place inode whole stands kinded
+    go false kinded none = nothing_in_file tree dentry inode whole stands kinded
 
 -- what nothing is in is no one's parent
 pub childless : (tree : Tree) (homes : Homes) (d : ℕ) → IsTabled tree homes → NothingIn tree d → IsChildless homes d
-childless tree homes d tabled nothing x home is same = let w = tabled.holds.stands x home is in nothing (place_at home) w.0 w.1 same
+childless tree homes d tabled nothing x home is same = let w = tabled.holds.stands x home is in nothing (dentry_at home) w.0 w.1 same
 
-pub may_drop : (tree : Tree) (homes : Homes) (place : Place) (found : Option Inode) → map.get tree place ≡ found → IsTabled tree homes → MayRemove tree place
-    → (gone : Inode) → found ≡ Some gone → is_dir_kind gone.kind ≡ true → IsChildless homes gone.ino.0
-may_drop tree homes place found at_place tabled may gone is kinded =
-    let inodes : Some may.inode ≡ Some gone = sym may.stands ∙ at_place ∙ is in
+pub may_drop : (tree : Tree) (homes : Homes) (dentry : Dentry) (found : Option Inode) → map.get tree dentry ≡ found → IsTabled tree homes → MayRemove tree dentry
+    → (gone : Inode) → found ≡ Some gone → is_dir_kind gone.kind ≡ true → MayGo homes gone.ino.0
+may_drop tree homes dentry found at_dentry tabled may gone is kinded =
+    let inodes : Some may.inode ≡ Some gone = sym may.stands ∙ at_dentry ∙ is in
     let alike : may.inode ≡ gone = cc in
-    subst (λ (i : Inode). IsChildless homes i.ino.0) alike (childless tree homes may.inode.ino.0 tabled (nothing_in tree place may.inode tabled.whole may.stands may.empty))
+    subst (λ (i : Inode). MayGo homes i.ino.0) alike (record {
+      other = tabled.whole.rootless dentry.dir.0 dentry.name may.inode may.stands;
+      childless = childless tree homes may.inode.ino.0 tabled (nothing_in tree dentry may.inode tabled.whole may.stands may.empty);
+    })
 
 pub without_dir : (homes : Homes) (inode : Inode) → is_dir_kind inode.kind ≡ true → without_home homes (Some inode) ≡ map.remove homes inode.ino.0
 without_dir homes inode kinded = ap (λ b. cond b (map.remove homes inode.ino.0) homes) kinded
@@ -234,58 +237,58 @@ pub without_file : (homes : Homes) (inode : Inode) → is_dir_kind inode.kind �
 without_file homes inode kinded = ap (λ b. cond b (map.remove homes inode.ino.0) homes) kinded
 
 -- an entry goes
-pub removed_tabled : (tree : Tree) (homes : Homes) (place : Place) (found : Option Inode) → map.get tree place ≡ found → IsTabled tree homes → MayRemove tree place
-    → IsTabled (map.remove tree place) (without_home homes found)
-removed_tabled tree homes place found at_place tabled may = record {
-  whole = well-formed-removed tree place gone may.stands (nothing_in tree place gone tabled.whole may.stands may.empty) tabled.whole;
-  holds = subst (λ o. HoldsHomes left (without_home homes o)) (sym may.stands ∙ at_place) (⊎_elim of_dir of_file (dir_or_not gone));
+pub removed_tabled : (tree : Tree) (homes : Homes) (dentry : Dentry) (found : Option Inode) → map.get tree dentry ≡ found → IsTabled tree homes → MayRemove tree dentry
+    → IsTabled (map.remove tree dentry) (without_home homes found)
+removed_tabled tree homes dentry found at_dentry tabled may = record {
+  whole = well-formed-removed tree dentry gone may.stands (nothing_in tree dentry gone tabled.whole may.stands may.empty) tabled.whole;
+  holds = subst (λ o. HoldsHomes left (without_home homes o)) (sym may.stands ∙ at_dentry) (⊎_elim of_dir of_file (dir_or_not gone));
 }
   where
     gone : Inode
     gone = may.inode
 
     left : Tree
-    left = map.remove tree place
+    left = map.remove tree dentry
 
-    not_gone : (q : Place) (x : Inode) → map.get tree q ≡ Some x → (q ≡ place → ⊥) → x.ino.0 ≡ gone.ino.0 → ⊥
-    not_gone q x stands apart same = apart (one_place tree tabled.whole q place x gone stands may.stands same)
+    not_gone : (q : Dentry) (x : Inode) → map.get tree q ≡ Some x → (q ≡ dentry → ⊥) → x.ino.0 ≡ gone.ino.0 → ⊥
+    not_gone q x stands apart same = apart (one_dentry tree tabled.whole q dentry x gone stands may.stands same)
 
     of_dir : is_dir_kind gone.kind ≡ true → HoldsHomes left (without_home homes (Some gone))
     of_dir kinded = subst (HoldsHomes left) (sym (without_dir homes gone kinded)) (record {
       listed = λ q x h dir.
-          let before = stands_after_removal tree place q x h in
+          let before = stands_after_removal tree dentry q x h in
           get_left_home homes gone.ino.0 x.ino.0 (not_gone q x before.1 before.0) ∙ tabled.holds.listed q x before.1 dir;
       stands = λ d home is.
           let there = after_removal homes gone.ino.0 d home is in
           let w = tabled.holds.stands d home there.1 in
-          let apart : place_at home ≡ place → ⊥ = λ same. there.0 (sym w.2 ∙ ap (λ (i : Inode). i.ino.0) (one_inode (place_at home) w.0 same w.1)) in
-          (w.0, get_left tree place (place_at home) apart ∙ w.1, w.2, w.3);
+          let apart : dentry_at home ≡ dentry → ⊥ = λ same. there.0 (sym w.2 ∙ ap (λ (i : Inode). i.ino.0) (one_inode (dentry_at home) w.0 same w.1)) in
+          (w.0, get_left tree dentry (dentry_at home) apart ∙ w.1, w.2, w.3);
     })
       where
-        one_inode : (q : Place) (x : Inode) → q ≡ place → map.get tree q ≡ Some x → x ≡ gone
+        one_inode : (q : Dentry) (x : Inode) → q ≡ dentry → map.get tree q ≡ Some x → x ≡ gone
         one_inode q x same stands = let inodes : Some x ≡ Some gone = sym stands ∙ ap (λ p. map.get tree p) same ∙ may.stands in cc
 
     of_file : is_dir_kind gone.kind ≡ false → HoldsHomes left (without_home homes (Some gone))
     of_file kinded = subst (HoldsHomes left) (sym (without_file homes gone kinded)) (record {
-      listed = λ q x h dir. let before = stands_after_removal tree place q x h in tabled.holds.listed q x before.1 dir;
+      listed = λ q x h dir. let before = stands_after_removal tree dentry q x h in tabled.holds.listed q x before.1 dir;
       stands = λ d home is.
           let w = tabled.holds.stands d home is in
-          let apart : place_at home ≡ place → ⊥ = λ same.
+          let apart : dentry_at home ≡ dentry → ⊥ = λ same.
           (let inodes : Some w.0 ≡ Some gone = sym w.1 ∙ ap (λ p. map.get tree p) same ∙ may.stands in
           let alike : w.0 ≡ gone = cc in
           let clash : true ≡ false = sym w.3 ∙ ap (λ (i : Inode). is_dir_kind i.kind) alike ∙ kinded in
           cc) in
-          (w.0, get_left tree place (place_at home) apart ∙ w.1, w.2, w.3);
+          (w.0, get_left tree dentry (dentry_at home) apart ∙ w.1, w.2, w.3);
     })
 
 -- where an inode goes, the table loses its leaves alone, if it is a directory: each directory that stands then keeps its own
-pub leaves_kept : (old tree : Tree) (homes rest : Homes) (trees new : Covers) (place : Place) (gone : Option Inode) → IsTabled tree homes → IsWellFormed old → gone ≡ map.get old place → homes ≡ without_home rest gone → new ≡ without_cover trees gone
+pub leaves_kept : (old tree : Tree) (homes rest : Homes) (trees new : Covers) (dentry : Dentry) (gone : Option Inode) → IsTabled tree homes → IsWellFormed old → gone ≡ map.get old dentry → homes ≡ without_home rest gone → new ≡ without_cover trees gone
     → KeepLeaves tree trees new
-leaves_kept old tree homes rest trees new place None tabled whole stood left is d stands = ap (λ c. leaves_of c d) is
-leaves_kept old tree homes rest trees new place (Some inode) tabled whole stood left is d stands = go (is_dir_kind inode.kind) refl (same_number d inode.ino.0)
+leaves_kept old tree homes rest trees new dentry None tabled whole stood left is d stands = ap (λ c. leaves_of c d) is
+leaves_kept old tree homes rest trees new dentry (Some inode) tabled whole stood left is d stands = go (is_dir_kind inode.kind) refl (same_number d inode.ino.0)
   where
     not_root : inode.ino.0 ≡ 1 → ⊥
-    not_root root = whole.rootless place.dir.0 place.name inode (sym stood) root
+    not_root root = whole.rootless dentry.dir.0 dentry.name inode (sym stood) root
 
     gone_home : is_dir_kind inode.kind ≡ true → is_known homes inode.ino.0 ≡ (inode.ino.0 == 1)
     gone_home kinded =

@@ -73,3 +73,8 @@ pub record MayMove (homes : Homes) (d : ℕ) (home : Home) : Type 0 where
 -- a directory is no one's parent
 abbrev pub IsChildless : Homes → ℕ → Type 0
 IsChildless homes d = (x : ℕ) (home : Home) → map.get homes x ≡ Some home → home.parent.0 ≡ d → ⊥
+
+-- a directory may go: it is no one's parent, and not the root
+pub record MayGo (homes : Homes) (d : ℕ) : Type 0 where
+  pub other : d ≡ 1 → ⊥
+  pub childless : IsChildless homes d

@@ -5,7 +5,7 @@ ghost use Rattle.std.specs.FinMap as map;
 ghost use Rattle.mds_types.specs.declared.refusals.Refusal.TheVariants.{NoMemory};
 ghost use Rattle.mds_types.specs.Frag.{root_fragment};
 ghost use Rattle.fragtree.specs.FragTree.{CanMerge, CanSplit, IsPick, RefusesMerge, RefusesSplit};
-ghost use Rattle.inode_table.specs.Dirs.{IsAbove, IsChildless, IsTable, MayCome, MayMove, is_known, leaves_of};
+ghost use Rattle.inode_table.specs.Dirs.{IsAbove, IsTable, MayCome, MayGo, MayMove, is_known, leaves_of};
 
 use crate::homes::Home;
 use fragtree::FragTree;
@@ -180,9 +180,9 @@ impl Dirs {
         let _ = self.homes.replace(&dir.0, home);
     }
 
-    /// A directory goes that is no one's parent, and its leaves with it. Takes no memory.
+    /// A directory goes that is no one's parent and not the root, and its leaves with it. Takes no memory.
     pub fn drop(&mut self, dir: Ino)
-        requires { IsChildless self.old.homes dir.0 }
+        requires { MayGo self.old.homes dir.0 }
         ensures homes { self.new.homes ≡ map.remove self.old.homes dir.0 }
         ensures trees { self.new.trees ≡ map.remove self.old.trees dir.0 }
         ensures room { self.new.room ≡ (if is_some (map.get self.old.homes dir.0) then self.old.room + 1 else self.old.room) }

@@ -5,8 +5,6 @@ mod dirs;
 mod homes;
 mod numbers;
 mod table_changes;
-#[cfg(test)]
-mod tests;
 
 pub use dirs::Dirs;
 pub use homes::Home;

@@ -5,21 +5,21 @@ ghost use Rattle.std.specs.Prelude.{◌≡◌, ◌<◌, true, Some};
 ghost use Rattle.std.specs.Option.{option_copied};
 ghost use Rattle.mds_types.specs.declared.inodes.Inode.{Inode as Node};
 ghost use Rattle.mds_types.specs.Tree.{is_dir_kind};
-ghost use Rattle.inode_table.specs.Dirs.{IsChildless, IsTable, MayCome, MayMove};
+ghost use Rattle.inode_table.specs.Dirs.{IsTable, MayCome, MayGo, MayMove};
 ghost use Rattle.inode_table.specs.TreeTable.{home_at, with_home, without_cover, without_home};
 
 use crate::dirs::Dirs;
 use crate::homes::Home;
-use mds_types::{Inode, Name, Place};
+use mds_types::{Dentry, Inode, Name};
 
-/// Notes in the table the new inode at a place, if it is a directory: it has its home there, and the one leaf `*`. Of a
+/// Notes in the table the new inode at a dentry, if it is a directory: it has its home there, and the one leaf `*`. Of a
 /// file the table takes no note.
 ///
-/// `spare` has the name of the place where the inode is a directory, and there is room for one more.
-pub fn adopt_dir(dirs: &mut Dirs, spare: &mut Option<Name>, place: &Place, inode: &Inode)
-    requires ready { is_dir_kind inode.now.kind ≡ true → (0 < dirs.old.room) × (spare.old ≡ Some place.now.name) }
-    requires may { is_dir_kind inode.now.kind ≡ true → MayCome dirs.old.homes inode.now.ino.0 (home_at place.now) }
-    ensures homes { dirs.new.homes ≡ with_home dirs.old.homes place.now inode.now }
+/// `spare` has the name of the dentry where the inode is a directory, and there is room for one more.
+pub fn adopt_dir(dirs: &mut Dirs, spare: &mut Option<Name>, dentry: &Dentry, inode: &Inode)
+    requires ready { is_dir_kind inode.now.kind ≡ true → (0 < dirs.old.room) × (spare.old ≡ Some dentry.now.name) }
+    requires may { is_dir_kind inode.now.kind ≡ true → MayCome dirs.old.homes inode.now.ino.0 (home_at dentry.now) }
+    ensures homes { dirs.new.homes ≡ with_home dirs.old.homes dentry.now inode.now }
     ensures trees { dirs.new.trees ≡ dirs.old.trees }
     ensures valid { IsTable dirs.old.homes dirs.old.trees → IsTable dirs.new.homes dirs.new.trees }
 {
@@ -32,20 +32,20 @@ pub fn adopt_dir(dirs: &mut Dirs, spare: &mut Option<Name>, place: &Place, inode
     dirs.adopt(
         inode.ino,
         Home {
-            parent: place.dir,
+            parent: dentry.dir,
             name,
         },
     );
 }
 
-/// Notes in the table the place that an inode went to, if it is a directory: it has its home there, and keeps its leaves.
+/// Notes in the table the dentry that an inode went to, if it is a directory: it has its home there, and keeps its leaves.
 /// Of a file the table takes no note.
 ///
-/// `spare` has the name of the place.
-pub fn relocate_dir(dirs: &mut Dirs, spare: &mut Option<Name>, place: &Place, inode: &Inode)
-    requires ready { spare.old ≡ Some place.now.name }
-    requires may { is_dir_kind inode.now.kind ≡ true → MayMove dirs.old.homes inode.now.ino.0 (home_at place.now) }
-    ensures homes { dirs.new.homes ≡ with_home dirs.old.homes place.now inode.now }
+/// `spare` has the name of the dentry.
+pub fn relocate_dir(dirs: &mut Dirs, spare: &mut Option<Name>, dentry: &Dentry, inode: &Inode)
+    requires ready { spare.old ≡ Some dentry.now.name }
+    requires may { is_dir_kind inode.now.kind ≡ true → MayMove dirs.old.homes inode.now.ino.0 (home_at dentry.now) }
+    ensures homes { dirs.new.homes ≡ with_home dirs.old.homes dentry.now inode.now }
     ensures trees { dirs.new.trees ≡ dirs.old.trees }
     ensures valid { IsTable dirs.old.homes dirs.old.trees → IsTable dirs.new.homes dirs.new.trees }
 {
@@ -58,7 +58,7 @@ pub fn relocate_dir(dirs: &mut Dirs, spare: &mut Option<Name>, place: &Place, in
     dirs.relocate(
         inode.ino,
         Home {
-            parent: place.dir,
+            parent: dentry.dir,
             name,
         },
     );
@@ -66,7 +66,7 @@ pub fn relocate_dir(dirs: &mut Dirs, spare: &mut Option<Name>, place: &Place, in
 
 /// Forgets in the table the inode that goes, if there is one and it is a directory: its home and its leaves.
 pub fn drop_dir(dirs: &mut Dirs, inode: Option<&Inode>)
-    requires { (gone : Node) → option_copied inode ≡ Some gone → is_dir_kind gone.kind ≡ true → IsChildless dirs.old.homes gone.ino.0 }
+    requires { (gone : Node) → option_copied inode ≡ Some gone → is_dir_kind gone.kind ≡ true → MayGo dirs.old.homes gone.ino.0 }
     ensures homes { dirs.new.homes ≡ without_home dirs.old.homes (option_copied inode.entry) }
     ensures trees { dirs.new.trees ≡ without_cover dirs.old.trees (option_copied inode.entry) }
     ensures valid { IsTable dirs.old.homes dirs.old.trees → IsTable dirs.new.homes dirs.new.trees }

@@ -15,7 +15,7 @@ use Rattle.std.specs.FinMap.Entries.{find_tied}
 use Rattle.sorted_map.specs.Bools.{left_of, right_of, or_first, or_second}
 use Rattle.mds_types.specs.declared.inodes.Inode.{Inode}
 use Rattle.mds_types.specs.Frag.{Fragment}
-use Rattle.mds_types.specs.PlaceLaws.{frag-total}
+use Rattle.mds_types.specs.OrderLaws.{frag-total}
 use Rattle.mds_types.specs.EntryLaws.{tie}
 use Rattle.mds_types.specs.EntrySearch.{not_found_below}
 use Rattle.fragtree.specs.FragTree.{IsPick}

@@ -1,4 +1,4 @@
--- Where each leaf has only names whose hashes pick it, no place stands twice.
+-- Where each leaf has only names whose hashes pick it, no dentry stands twice.
 use Rattle.std.proofs.Common.{◌≡◌, ℕ, Bool, true, false, cond, ◌==◌, T, List, [], ◌∷◌, ◌++◌, Option, Some, None, is_some, Ordering, is_lt, refl, sym, ap, ◌∙◌, subst, arith}
 use Rattle.std.proofs.lemmas.Bool.Decides.{nat_tests}
 use Rattle.std.specs.List.{AllByRecursion}
@@ -9,9 +9,9 @@ use Rattle.std.specs.Cmp.Lexicographic.{slice_cmp, nat_list_cmp_total}
 use Rattle.std.specs.FinMap as finmap
 use Rattle.std.specs.FinMap.{find, is_sorted, get-entries, entries_sorted}
 use Rattle.std.specs.FinMap.Entries.{below_all, find_tied}
-use Rattle.mds_types.specs.declared.places.Place.{Place}
+use Rattle.mds_types.specs.declared.dentries.Dentry.{Dentry}
 use Rattle.mds_types.specs.declared.inodes.Inode.{Inode}
-use Rattle.mds_types.specs.Tree.{place_cmp, place_of}
+use Rattle.mds_types.specs.Tree.{dentry_cmp, dentry_of}
 use Rattle.mds_types.specs.EntryLaws.{tie}
 use Rattle.mds_types.specs.EntrySearch.{not_found_below}
 use Rattle.mds_types.specs.ListingLaws.{IsListing, names_are_listed}
@@ -86,12 +86,12 @@ some_more true i o some = refl
 some_more false i o some = some
 
 -- the rows of a leaf, before entries in which none of them stands
-distinct_rows : (d : ℕ) (rows : List Row) (rest : List (Place × Inode)) → T (is_sorted (slice_cmp nat_cmp) rows)
-    → ((name : List ℕ) → is_some (find (slice_cmp nat_cmp) name rows) ≡ true → find place_cmp (place_of d name) rest ≡ None) → AreDistinct rest → AreDistinct (entries_of d rows ++ rest)
+distinct_rows : (d : ℕ) (rows : List Row) (rest : List (Dentry × Inode)) → T (is_sorted (slice_cmp nat_cmp) rows)
+    → ((name : List ℕ) → is_some (find (slice_cmp nat_cmp) name rows) ≡ true → find dentry_cmp (dentry_of d name) rest ≡ None) → AreDistinct rest → AreDistinct (entries_of d rows ++ rest)
 distinct_rows d [] rest sorted none distinct = distinct
 distinct_rows d (row ∷ rows) rest sorted none distinct = (
   found_row d d row.0 rows rest true (number_itself d)
-      ∙ ap (λ o. option_or o (find place_cmp (place_of d row.0) rest)) (not_found_below nat_list_cmp_total row.0 rows (left_of _ _ sorted))
+      ∙ ap (λ o. option_or o (find dentry_cmp (dentry_of d row.0) rest)) (not_found_below nat_list_cmp_total row.0 rows (left_of _ _ sorted))
       ∙ none row.0 (ap (λ r. is_some (cond (is_eq r) (Some row.1) (find (slice_cmp nat_cmp) row.0 rows))) (tied_itself nat_list_cmp_total row.0)),
   distinct_rows d rows rest (right_of _ _ sorted) (λ name some. none name (some_more (eq_by_cmp (slice_cmp nat_cmp) name row.0) row.1 _ some)) distinct,
 )
@@ -105,7 +105,7 @@ distinct_leaves covers [] sorted placed = tt
 distinct_leaves covers (e ∷ es) sorted placed =
     distinct_rows e.0.0.0 (rows_of e.1) (entries_in es) (entries_sorted (contents (slice_cmp nat_cmp) e.1)) none (distinct_leaves covers es (right_of _ _ sorted) placed.1)
   where
-    none : (name : List ℕ) → is_some (find (slice_cmp nat_cmp) name (rows_of e.1)) ≡ true → find place_cmp (place_of e.0.0.0 name) (entries_in es) ≡ None
+    none : (name : List ℕ) → is_some (find (slice_cmp nat_cmp) name (rows_of e.1)) ≡ true → find dentry_cmp (dentry_of e.0.0.0 name) (entries_in es) ≡ None
     none name some =
         let w = some_is (find (slice_cmp nat_cmp) name (rows_of e.1)) some in
         let pick = placed.0 name w.0 (get-entries (contents (slice_cmp nat_cmp) e.1) name ∙ w.1) in

@@ -5,25 +5,25 @@ use Rattle.std.specs.Ordering.{is_eq}
 use Rattle.std.specs.FinMap as finmap
 use Rattle.std.specs.FinMap.{find, entries-insert, get-entries, get-from_entries, len-entries, len-empty}
 use Rattle.std.specs.FinMap.Entries.{put, by_order}
-use Rattle.mds_types.specs.declared.places.Place.{Place}
+use Rattle.mds_types.specs.declared.dentries.Dentry.{Dentry}
 use Rattle.mds_types.specs.declared.inodes.Inode.{Inode}
-use Rattle.mds_types.specs.Tree.{place_cmp, has_entries}
+use Rattle.mds_types.specs.Tree.{dentry_cmp, has_entries}
 use Rattle.mds_types.specs.Step.{is_after, names_after}
-use Rattle.mds_types.specs.PlaceLaws.{place-exact, place-total}
+use Rattle.mds_types.specs.OrderLaws.{dentry-exact, dentry-total}
 use Rattle.leaf_maps.specs.Leaves.{Leaf, Rows, Leaves, entries_of, entries_in, shown_by}
 use Rattle.leaf_maps.specs.Listed.{leaves_of_dir, rows_of, rows_after, rows_in, is_some_row, has_names}
 use Rattle.leaf_maps.specs.Merge.{Row, tally}
 use Rattle.leaf_maps.proofs.MergeLaws.{tally-append}
 
 abbrev Entry : Type 0
-Entry = Place × Inode
+Entry = Dentry × Inode
 
 no_entries : (es : List Entry) → length es ≡ 0 → es ≡ []
 no_entries [] is = refl
 no_entries (e ∷ es) is = absurd (omega arith)
 
-empty_entries : finmap.entries (finmap.empty {X = Inode} {R = place_cmp}) ≡ []
-empty_entries = no_entries _ (sym (len-entries (finmap.empty {X = Inode} {R = place_cmp})) ∙ len-empty place_cmp Inode)
+empty_entries : finmap.entries (finmap.empty {X = Inode} {R = dentry_cmp}) ≡ []
+empty_entries = no_entries _ (sym (len-entries (finmap.empty {X = Inode} {R = dentry_cmp})) ∙ len-empty dentry_cmp Inode)
 
 -- ---- entries of one directory
 
@@ -40,22 +40,22 @@ later true false c = refl
 later false true c = refl
 later false false c = refl
 
-any_put : (d : ℕ) (k : Place) (v : Inode) (es : List Entry) → list_any (inside d) (put place_cmp k v es) ≡ (inside d (k, v) || list_any (inside d) es)
+any_put : (d : ℕ) (k : Dentry) (v : Inode) (es : List Entry) → list_any (inside d) (put dentry_cmp k v es) ≡ (inside d (k, v) || list_any (inside d) es)
 any_put d k v [] = refl
-any_put d k v (e ∷ es) = go (place_cmp k e.0) refl (any_put d k v es)
+any_put d k v (e ∷ es) = go (dentry_cmp k e.0) refl (any_put d k v es)
   where
-    go : (r : Ordering) → place_cmp k e.0 ≡ r → list_any (inside d) (put place_cmp k v es) ≡ (inside d (k, v) || list_any (inside d) es)
-        → list_any (inside d) (by_order r ((k, v) ∷ e ∷ es) ((e.0, v) ∷ es) (e ∷ put place_cmp k v es)) ≡ (inside d (k, v) || (inside d e || list_any (inside d) es))
+    go : (r : Ordering) → dentry_cmp k e.0 ≡ r → list_any (inside d) (put dentry_cmp k v es) ≡ (inside d (k, v) || list_any (inside d) es)
+        → list_any (inside d) (by_order r ((k, v) ∷ e ∷ es) ((e.0, v) ∷ es) (e ∷ put dentry_cmp k v es)) ≡ (inside d (k, v) || (inside d e || list_any (inside d) es))
     go Less is more = refl
     go Equal is more =
         again (inside d e) (list_any (inside d) es)
-        ∙ ap (λ (p : Place). inside d (p, v) || (inside d e || list_any (inside d) es)) (sym (place-exact k e.0 is))
+        ∙ ap (λ (p : Dentry). inside d (p, v) || (inside d e || list_any (inside d) es)) (sym (dentry-exact k e.0 is))
     go Greater is more = ap (λ b. inside d e || b) more ∙ later (inside d (k, v)) (inside d e) (list_any (inside d) es)
 
-any_entries : (d : ℕ) (es : List Entry) → list_any (inside d) (finmap.entries (finmap.from_entries {R = place_cmp} es)) ≡ list_any (inside d) es
+any_entries : (d : ℕ) (es : List Entry) → list_any (inside d) (finmap.entries (finmap.from_entries {R = dentry_cmp} es)) ≡ list_any (inside d) es
 any_entries d [] = ap (list_any (inside d)) empty_entries
 any_entries d (e ∷ es) =
-    ap (list_any (inside d)) (entries-insert place-total (finmap.from_entries es) e.0 e.1)
+    ap (list_any (inside d)) (entries-insert dentry-total (finmap.from_entries es) e.0 e.1)
     ∙ any_put d e.0 e.1 (finmap.entries (finmap.from_entries es))
     ∙ ap (λ b. inside d e || b) (any_entries d es)
 
@@ -87,26 +87,26 @@ abbrev total : (Entry → ℕ) → List Entry → ℕ
 total f [] = 0
 total f (e ∷ es) = f e + total f es
 
--- no place stands twice
+-- no dentry stands twice
 abbrev pub AreDistinct : List Entry → Type 0
 AreDistinct [] = Unit {0}
-AreDistinct (e ∷ es) = (find place_cmp e.0 es ≡ None) × AreDistinct es
+AreDistinct (e ∷ es) = (find dentry_cmp e.0 es ≡ None) × AreDistinct es
 
-total_put : (f : Entry → ℕ) (k : Place) (v : Inode) (es : List Entry) → find place_cmp k es ≡ None → total f (put place_cmp k v es) ≡ f (k, v) + total f es
+total_put : (f : Entry → ℕ) (k : Dentry) (v : Inode) (es : List Entry) → find dentry_cmp k es ≡ None → total f (put dentry_cmp k v es) ≡ f (k, v) + total f es
 total_put f k v [] none = refl
-total_put f k v (e ∷ es) none = go (place_cmp k e.0) none (total_put f k v es)
+total_put f k v (e ∷ es) none = go (dentry_cmp k e.0) none (total_put f k v es)
   where
-    go : (r : Ordering) → cond (is_eq r) (Some e.1) (find place_cmp k es) ≡ None → (find place_cmp k es ≡ None → total f (put place_cmp k v es) ≡ f (k, v) + total f es)
-        → total f (by_order r ((k, v) ∷ e ∷ es) ((e.0, v) ∷ es) (e ∷ put place_cmp k v es)) ≡ f (k, v) + (f e + total f es)
+    go : (r : Ordering) → cond (is_eq r) (Some e.1) (find dentry_cmp k es) ≡ None → (find dentry_cmp k es ≡ None → total f (put dentry_cmp k v es) ≡ f (k, v) + total f es)
+        → total f (by_order r ((k, v) ∷ e ∷ es) ((e.0, v) ∷ es) (e ∷ put dentry_cmp k v es)) ≡ f (k, v) + (f e + total f es)
     go Less none more = refl
     go Equal none more = cc
     go Greater none more = omega (arith, more none)
 
-total_entries : (f : Entry → ℕ) (es : List Entry) → AreDistinct es → total f (finmap.entries (finmap.from_entries {R = place_cmp} es)) ≡ total f es
+total_entries : (f : Entry → ℕ) (es : List Entry) → AreDistinct es → total f (finmap.entries (finmap.from_entries {R = dentry_cmp} es)) ≡ total f es
 total_entries f [] distinct = ap (total f) empty_entries
 total_entries f (e ∷ es) distinct =
-    let none : find place_cmp e.0 (finmap.entries (finmap.from_entries {R = place_cmp} es)) ≡ None = sym (get-entries (finmap.from_entries es) e.0) ∙ get-from_entries place-total es e.0 ∙ distinct.0 in
-    ap (total f) (entries-insert place-total (finmap.from_entries es) e.0 e.1)
+    let none : find dentry_cmp e.0 (finmap.entries (finmap.from_entries {R = dentry_cmp} es)) ≡ None = sym (get-entries (finmap.from_entries es) e.0) ∙ get-from_entries dentry-total es e.0 ∙ distinct.0 in
+    ap (total f) (entries-insert dentry-total (finmap.from_entries es) e.0 e.1)
     ∙ total_put f e.0 e.1 (finmap.entries (finmap.from_entries es)) none
     ∙ ap (λ n. f e + n) (total_entries f es distinct.1)
 
@@ -155,7 +155,7 @@ total_leaves f d after (leaf ∷ rest) = go (leaf.0.0.0 == d) refl (total_leaves
         ∙ sym (tally-append f (rows_after after (rows_of leaf.1)) (rows_in after (leaves_of_dir d rest)))
     go false other more = total_elsewhere f d leaf.0.0.0 after (rows_of leaf.1) (entries_in rest) other ∙ more
 
--- where no place stands twice, the listed names are the rows of the directory's leaves
+-- where no dentry stands twice, the listed names are the rows of the directory's leaves
 pub shown_rows : (leaves : Leaves) (d : ℕ) (after : Option (List ℕ)) (f : Row → ℕ) → AreDistinct (entries_in (finmap.entries leaves))
     → tally f (names_after (shown_by leaves) d after) ≡ tally f (rows_in after (leaves_of_dir d (finmap.entries leaves)))
 unfolding names_after shown_by

@@ -10,14 +10,14 @@ use Rattle.std.specs.FinMap as finmap
 use Rattle.std.specs.FinMap.{IsAntisymmetric, find, is_sorted, get-entries, entries_sorted, get-from_entries, get-empty}
 use Rattle.std.proofs.lemmas.Map.Lookups.{exact_pairs}
 use Rattle.mds_types.specs.declared.ids.Ino.{Ino}
-use Rattle.mds_types.specs.declared.places.Place.{Place}
+use Rattle.mds_types.specs.declared.dentries.Dentry.{Dentry}
 use Rattle.mds_types.specs.declared.inodes.Inode.{Inode}
 use Rattle.mds_types.specs.Frag.{Fragment, frag_cmp}
-use Rattle.mds_types.specs.Tree.{place_cmp, place_of}
-use Rattle.mds_types.specs.PlaceLaws.{place-total, ino-exact, frag-exact, frag-total}
+use Rattle.mds_types.specs.Tree.{dentry_cmp, dentry_of}
+use Rattle.mds_types.specs.OrderLaws.{dentry-total, ino-exact, frag-exact, frag-total}
 use Rattle.mds_types.specs.EntryLaws.{tie}
 use Rattle.mds_types.specs.EntrySearch.{not_found_below}
-use Rattle.mds_types.specs.ListingLaws.{tied_place}
+use Rattle.mds_types.specs.ListingLaws.{tied_dentry}
 use Rattle.sorted_map.specs.Bools.{left_of, right_of}
 use Rattle.sorted_map.specs.SortedMap.{contents}
 use Rattle.fragtree.specs.FragTree.{IsPick}
@@ -32,17 +32,17 @@ pub leaf-total : IsTotalOrder leaf_cmp
 leaf-total = then_total (on_total (λ (l : Leaf). l.0.0) nat_cmp_total) (on_total (λ (l : Leaf). l.1) frag-total)
 
 -- an entry of a directory's names is found by its name
-pub found_row : (d e : ℕ) (name : List ℕ) (rows : List (List ℕ × Inode)) (rest : List (Place × Inode)) (b : Bool) → (e == d) ≡ b
-    → find place_cmp (place_of d name) (entries_of e rows ++ rest) ≡ option_or (cond b (find (slice_cmp nat_cmp) name rows) None) (find place_cmp (place_of d name) rest)
+pub found_row : (d e : ℕ) (name : List ℕ) (rows : List (List ℕ × Inode)) (rest : List (Dentry × Inode)) (b : Bool) → (e == d) ≡ b
+    → find dentry_cmp (dentry_of d name) (entries_of e rows ++ rest) ≡ option_or (cond b (find (slice_cmp nat_cmp) name rows) None) (find dentry_cmp (dentry_of d name) rest)
 found_row d e name [] rest true here = refl
 found_row d e name [] rest false here = refl
 found_row d e name (row ∷ rows) rest b here =
-    ap (λ c. cond c (Some row.1) (find place_cmp (place_of d name) (entries_of e rows ++ rest))) (tied_place d name (place_of e row.0) b here)
+    ap (λ c. cond c (Some row.1) (find dentry_cmp (dentry_of d name) (entries_of e rows ++ rest))) (tied_dentry d name (dentry_of e row.0) b here)
     ∙ ap (cond (b && eq_by_cmp (slice_cmp nat_cmp) name row.0) (Some row.1)) (found_row d e name rows rest b here)
     ∙ joined b (eq_by_cmp (slice_cmp nat_cmp) name row.0)
   where
-    joined : (b c : Bool) → cond (b && c) (Some row.1) (option_or (cond b (find (slice_cmp nat_cmp) name rows) None) (find place_cmp (place_of d name) rest))
-        ≡ option_or (cond b (cond c (Some row.1) (find (slice_cmp nat_cmp) name rows)) None) (find place_cmp (place_of d name) rest)
+    joined : (b c : Bool) → cond (b && c) (Some row.1) (option_or (cond b (find (slice_cmp nat_cmp) name rows) None) (find dentry_cmp (dentry_of d name) rest))
+        ≡ option_or (cond b (cond c (Some row.1) (find (slice_cmp nat_cmp) name rows)) None) (find dentry_cmp (dentry_of d name) rest)
     joined true true = refl
     joined true false = refl
     joined false c = refl
@@ -52,11 +52,11 @@ abbrev pub first_at : ℕ → List ℕ → List (Leaf × Rows) → Option Inode
 first_at d name [] = None
 first_at d name (leaf ∷ rest) = option_or (cond (leaf.0.0.0 == d) (finmap.get (contents (slice_cmp nat_cmp) leaf.1) name) None) (first_at d name rest)
 
-pub found_first : (d : ℕ) (name : List ℕ) (es : List (Leaf × Rows)) → find place_cmp (place_of d name) (entries_in es) ≡ first_at d name es
+pub found_first : (d : ℕ) (name : List ℕ) (es : List (Leaf × Rows)) → find dentry_cmp (dentry_of d name) (entries_in es) ≡ first_at d name es
 found_first d name [] = refl
 found_first d name (leaf ∷ rest) =
     found_row d leaf.0.0.0 name (finmap.entries (contents (slice_cmp nat_cmp) leaf.1)) (entries_in rest) (leaf.0.0.0 == d) refl
-    ∙ ap (λ o. option_or (cond (leaf.0.0.0 == d) o None) (find place_cmp (place_of d name) (entries_in rest))) (sym (get-entries (contents (slice_cmp nat_cmp) leaf.1) name))
+    ∙ ap (λ o. option_or (cond (leaf.0.0.0 == d) o None) (find dentry_cmp (dentry_of d name) (entries_in rest))) (sym (get-entries (contents (slice_cmp nat_cmp) leaf.1) name))
     ∙ ap (option_or (cond (leaf.0.0.0 == d) (finmap.get (contents (slice_cmp nat_cmp) leaf.1) name) None)) (found_first d name rest)
 
 or_none : (o : Option Inode) → option_or o None ≡ o
@@ -117,7 +117,7 @@ one_leaf d f name (e ∷ es) sorted others = go (eq_by_cmp leaf_cmp key e.0) ref
 pub shown_at : (covers : Covers) (leaves : Leaves) → ArePlaced covers leaves → IsShown covers leaves (shown_by leaves)
 unfolding shown_by
 shown_at covers leaves placed d name f pick =
-    get-from_entries place-total (entries_in (finmap.entries leaves)) (place_of d name)
+    get-from_entries dentry-total (entries_in (finmap.entries leaves)) (dentry_of d name)
     ∙ found_first d name (finmap.entries leaves)
     ∙ one_leaf d f name (finmap.entries leaves) (entries_sorted leaves) others
     ∙ ap (λ o. finmap.get (names_of o) name) (sym (get-entries leaves (record { 0 = d }, f)))

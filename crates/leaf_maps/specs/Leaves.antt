@@ -6,10 +6,10 @@ use Rattle.std.specs.Cmp.Lexicographic.{slice_cmp}
 use Rattle.std.specs.FinMap as finmap
 use Rattle.sorted_map.specs.SortedMap.{Shown, contents}
 use Rattle.mds_types.specs.declared.ids.Ino.{Ino}
-use Rattle.mds_types.specs.declared.places.Place.{Place}
+use Rattle.mds_types.specs.declared.dentries.Dentry.{Dentry}
 use Rattle.mds_types.specs.declared.inodes.Inode.{Inode}
 use Rattle.mds_types.specs.Frag.{Fragment, frag_cmp}
-use Rattle.mds_types.specs.Tree.{Tree, place_of, at}
+use Rattle.mds_types.specs.Tree.{Tree, dentry_of, at}
 use Rattle.fragtree.specs.FragTree.{HasLeaf, IsPick}
 use Rattle.namehash.specs.Rjenkins.{hash_of}
 use Rattle.inode_table.specs.Dirs.{Homes, Covers, is_known, leaves_of}
@@ -45,10 +45,10 @@ abbrev pub names_in : Leaves → ℕ → Fragment → Names
 names_in leaves d f = names_of (kept_of leaves d f)
 
 -- the entries that names of a directory are
-abbrev pub entries_of : ℕ → List (List ℕ × Inode) → List (Place × Inode)
-entries_of d rows = map (λ row. (place_of d row.0, row.1)) rows
+abbrev pub entries_of : ℕ → List (List ℕ × Inode) → List (Dentry × Inode)
+entries_of d rows = map (λ row. (dentry_of d row.0, row.1)) rows
 
-abbrev pub entries_in : List (Leaf × Rows) → List (Place × Inode)
+abbrev pub entries_in : List (Leaf × Rows) → List (Dentry × Inode)
 entries_in [] = []
 entries_in (leaf ∷ rest) = entries_of leaf.0.0.0 (finmap.entries (contents (slice_cmp nat_cmp) leaf.1)) ++ entries_in rest
 

@@ -11,7 +11,7 @@ use Rattle.sorted_map.specs.Overlay.{overlaid}
 use Rattle.sorted_map.specs.Laws.{get-overlaid}
 use Rattle.mds_types.specs.declared.inodes.Inode.{Inode}
 use Rattle.mds_types.specs.Frag.{Fragment, frag_cmp}
-use Rattle.mds_types.specs.PlaceLaws.{frag-exact, frag-total}
+use Rattle.mds_types.specs.OrderLaws.{frag-exact, frag-total}
 use Rattle.mds_types.specs.EntryLaws.{tie}
 use Rattle.fragtree.specs.FragTree.{HasLeaf, IsPick}
 use Rattle.namehash.specs.Rjenkins.{hash_of}

@@ -7,13 +7,13 @@ use Rattle.std.specs.Cmp.Lexicographic.{slice_cmp}
 use Rattle.std.specs.FinMap as finmap
 use Rattle.std.specs.FinMap.{same_map}
 use Rattle.std.proofs.lemmas.Map.Lookups.{exact_bytes}
-use Rattle.mds_types.specs.declared.places.Place.{Place}
+use Rattle.mds_types.specs.declared.dentries.Dentry.{Dentry}
 use Rattle.mds_types.specs.declared.inodes.Inode.{Inode}
 use Rattle.mds_types.specs.Frag.{Fragment}
-use Rattle.mds_types.specs.Tree.{Tree, place_cmp, place_of}
-use Rattle.mds_types.specs.PlaceLaws.{place-total, place-exact}
-use Rattle.mds_types.specs.EntryLaws.{tie, place_apart}
-use Rattle.mds_types.specs.ListingLaws.{tied_place}
+use Rattle.mds_types.specs.Tree.{Tree, dentry_cmp, dentry_of}
+use Rattle.mds_types.specs.OrderLaws.{dentry-total, dentry-exact}
+use Rattle.mds_types.specs.EntryLaws.{tie, dentry_apart}
+use Rattle.mds_types.specs.ListingLaws.{tied_dentry}
 use Rattle.fragtree.specs.FragTree.{IsPick}
 use Rattle.namehash.specs.Rjenkins.{hash_of}
 use Rattle.inode_table.specs.Dirs.{Covers, or_whole, leaves_of}
@@ -28,7 +28,7 @@ use Rattle.sorted_map.specs.NatKeys.{same_or_apart, get_put, get_beside}
 pub shown_regrouped : (covers later : Covers) (old new : Leaves) → HavePicks covers → HavePicks later → ArePlaced covers old → ArePlaced later new
     → ((d : ℕ) (name : List ℕ) (f g : Fragment) → IsPick (leaves_of covers d) (hash_of name) f → IsPick (leaves_of later d) (hash_of name) g → finmap.get (names_in new d g) name ≡ finmap.get (names_in old d f) name)
     → shown_by new ≡ shown_by old
-shown_regrouped covers later old new picks later_picks placed later_placed same = same_map place-total place-exact (shown_by new) (shown_by old) (λ q.
+shown_regrouped covers later old new picks later_picks placed later_placed same = same_map dentry-total dentry-exact (shown_by new) (shown_by old) (λ q.
     let before = picks q.dir.0 (hash_of q.name) in
     let after = later_picks q.dir.0 (hash_of q.name) in
     shown_at later new later_placed q.dir.0 q.name after.0 after.1 ∙ same q.dir.0 q.name before.0 after.0 before.1 after.1 ∙ sym (shown_at covers old placed q.dir.0 q.name before.0 before.1))
@@ -90,9 +90,9 @@ module _ (covers : Covers) (old new : Leaves) (picks : HavePicks covers) (placed
           subst (λ h. IsPick (leaves_of covers e) (hash_of n) h) (sym same.1) (subst (λ x. IsPick (leaves_of covers x) (hash_of n) f) (sym same.0) (there (eq_by_cmp (slice_cmp nat_cmp) n name) refl here))
       go (inr apart) = placed e g n inode (ap (λ m. finmap.get m n) (sym (is.elsewhere e g apart)) ∙ has)
 
-  one_place : (q : Place) (g : Fragment) → IsPick (leaves_of covers q.dir.0) (hash_of q.name) g
-      → finmap.get (names_in new q.dir.0 g) q.name ≡ cond (eq_by_cmp place_cmp q (place_of d name)) value (finmap.get (shown_by old) q)
-  one_place q g here = go (one_or_other d q.dir.0 f g)
+  one_dentry : (q : Dentry) (g : Fragment) → IsPick (leaves_of covers q.dir.0) (hash_of q.name) g
+      → finmap.get (names_in new q.dir.0 g) q.name ≡ cond (eq_by_cmp dentry_cmp q (dentry_of d name)) value (finmap.get (shown_by old) q)
+  one_dentry q g here = go (one_or_other d q.dir.0 f g)
     where
       before : finmap.get (names_in old q.dir.0 g) q.name ≡ finmap.get (shown_by old) q
       before = sym (shown_at covers old placed q.dir.0 q.name g here)
@@ -100,21 +100,21 @@ module _ (covers : Covers) (old new : Leaves) (picks : HavePicks covers) (placed
       same_dir : q.dir.0 ≡ d → (d == q.dir.0) ≡ true
       same_dir is = grind (arith, nat_tests)
 
-      other_place : ((q.dir.0 ≡ d) × (g ≡ f) → ⊥) → q ≡ place_of d name → ⊥
-      other_place apart same =
-          let its : IsPick (leaves_of covers d) (hash_of name) g = subst (λ (p : Place). IsPick (leaves_of covers p.dir.0) (hash_of p.name) g) same here in
-          apart (ap (λ (p : Place). p.dir.0) same, pick.alone g its.stands its.contains)
+      other_dentry : ((q.dir.0 ≡ d) × (g ≡ f) → ⊥) → q ≡ dentry_of d name → ⊥
+      other_dentry apart same =
+          let its : IsPick (leaves_of covers d) (hash_of name) g = subst (λ (p : Dentry). IsPick (leaves_of covers p.dir.0) (hash_of p.name) g) same here in
+          apart (ap (λ (p : Dentry). p.dir.0) same, pick.alone g its.stands its.contains)
 
-      go : ((q.dir.0 ≡ d) × (g ≡ f)) ⊎ ((q.dir.0 ≡ d) × (g ≡ f) → ⊥) → finmap.get (names_in new q.dir.0 g) q.name ≡ cond (eq_by_cmp place_cmp q (place_of d name)) value (finmap.get (shown_by old) q)
+      go : ((q.dir.0 ≡ d) × (g ≡ f)) ⊎ ((q.dir.0 ≡ d) × (g ≡ f) → ⊥) → finmap.get (names_in new q.dir.0 g) q.name ≡ cond (eq_by_cmp dentry_cmp q (dentry_of d name)) value (finmap.get (shown_by old) q)
       go (inl same) =
           ap (λ m. finmap.get m q.name) (names_same new d q.dir.0 f g same ∙ is.here) ∙ row q.name
-          ∙ ap (λ b. cond b value (finmap.get (names_in old d f) q.name)) (sym (tied_place q.dir.0 q.name (place_of d name) true (same_dir same.0)))
-          ∙ ap (cond (eq_by_cmp place_cmp q (place_of d name)) value) (ap (λ m. finmap.get m q.name) (sym (names_same old d q.dir.0 f g same)) ∙ before)
+          ∙ ap (λ b. cond b value (finmap.get (names_in old d f) q.name)) (sym (tied_dentry q.dir.0 q.name (dentry_of d name) true (same_dir same.0)))
+          ∙ ap (cond (eq_by_cmp dentry_cmp q (dentry_of d name)) value) (ap (λ m. finmap.get m q.name) (sym (names_same old d q.dir.0 f g same)) ∙ before)
       go (inr apart) =
           ap (λ m. finmap.get m q.name) (is.elsewhere q.dir.0 g apart) ∙ before
-          ∙ ap (λ b. cond b value (finmap.get (shown_by old) q)) (sym (place_apart q (place_of d name) (other_place apart)))
+          ∙ ap (λ b. cond b value (finmap.get (shown_by old) q)) (sym (dentry_apart q (dentry_of d name) (other_dentry apart)))
 
-  pub shown_after : (tree : Tree) → ((q : Place) → finmap.get tree q ≡ cond (eq_by_cmp place_cmp q (place_of d name)) value (finmap.get (shown_by old) q)) → shown_by new ≡ tree
-  shown_after tree told = same_map place-total place-exact (shown_by new) tree (λ q.
+  pub shown_after : (tree : Tree) → ((q : Dentry) → finmap.get tree q ≡ cond (eq_by_cmp dentry_cmp q (dentry_of d name)) value (finmap.get (shown_by old) q)) → shown_by new ≡ tree
+  shown_after tree told = same_map dentry-total dentry-exact (shown_by new) tree (λ q.
       let w = picks q.dir.0 (hash_of q.name) in
-      shown_at covers new placed_after q.dir.0 q.name w.0 w.1 ∙ one_place q w.0 w.1 ∙ sym (told q))
+      shown_at covers new placed_after q.dir.0 q.name w.0 w.1 ∙ one_dentry q w.0 w.1 ∙ sym (told q))

@@ -10,6 +10,3 @@ mod names;
 mod regroup;
 
 pub use leaf_maps::LeafMaps;
-
-#[cfg(test)]
-mod tests;

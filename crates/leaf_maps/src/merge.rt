@@ -111,7 +111,7 @@ impl<'a> Merge<'a> {
         ensures { MatchOption result (self.old ≡ []) (λ row. TakesLeast self.old row.now self.new) }
     {
         let cursor = self.heap.pop()?;
-        // Its place is free again.
+        // Its room is free again.
         let _ = put_back(&mut self.heap, cursor.rest);
         Some(cursor.next)
     }

@@ -14,7 +14,7 @@ pub mod NameFault
 pub mod NumberLaws
 pub mod ObjectText
 pub mod ObjectTextLaws
-pub mod PlaceLaws
+pub mod OrderLaws
 pub mod Refusal
 pub mod RemovedLaws
 pub mod Step

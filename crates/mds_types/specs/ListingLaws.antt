@@ -13,9 +13,9 @@ use Rattle.std.specs.Cmp.Lexicographic.{slice_cmp, nat_list_cmp_total}
 use Rattle.std.specs.FinMap as finmap
 use Rattle.std.specs.FinMap.{find, is_sorted, get-entries}
 use Rattle.std.specs.FinMap.Entries.{below_all}
-use Rattle.mds_types.specs.declared.places.Place.{Place}
+use Rattle.mds_types.specs.declared.dentries.Dentry.{Dentry}
 use Rattle.mds_types.specs.declared.inodes.Inode.{Inode}
-use Rattle.mds_types.specs.Tree.{Tree, place_cmp, place_of, has_entries, at}
+use Rattle.mds_types.specs.Tree.{Tree, dentry_cmp, dentry_of, has_entries, at}
 use Rattle.mds_types.specs.Step.{is_after, names_after}
 use Rattle.sorted_map.specs.Bools.{left_of, right_of, both_of, first_true, second_true}
 
@@ -24,17 +24,17 @@ pub record IsListing (tree : Tree) (d : ℕ) (after : Option (List ℕ)) (names 
   pub rises : T (is_sorted (slice_cmp nat_cmp) names)
   pub exact : (name : List ℕ) → find (slice_cmp nat_cmp) name names ≡ cond (is_after after name) (at tree d name) None
 
-abbrev is_listed : ℕ → Option (List ℕ) → Place × Inode → Bool
+abbrev is_listed : ℕ → Option (List ℕ) → Dentry × Inode → Bool
 is_listed d after e = (e.0.dir.0 == d) && is_after after e.0.name
 
-abbrev named : Place × Inode → List ℕ × Inode
+abbrev named : Dentry × Inode → List ℕ × Inode
 named e = (e.0.name, e.1)
 
-abbrev listed : ℕ → Option (List ℕ) → List (Place × Inode) → List (List ℕ × Inode)
+abbrev listed : ℕ → Option (List ℕ) → List (Dentry × Inode) → List (List ℕ × Inode)
 listed d after es = map named (filter (is_listed d after) es)
 
--- in one directory places are ordered as their names
-same_dir : (d : ℕ) (a b : Place) → (a.dir.0 == d) ≡ true → (b.dir.0 == d) ≡ true → place_cmp a b ≡ slice_cmp nat_cmp a.name b.name
+-- in one directory dentries are ordered as their names
+same_dir : (d : ℕ) (a b : Dentry) → (a.dir.0 == d) ≡ true → (b.dir.0 == d) ≡ true → dentry_cmp a b ≡ slice_cmp nat_cmp a.name b.name
 same_dir d a b p q = go (nat_cmp a.dir.0 b.dir.0) (ranks a.dir.0 b.dir.0)
   where
     go : (r : Ordering) → MatchOrdering r (a.dir.0 < b.dir.0) (a.dir.0 ≡ b.dir.0) (b.dir.0 < a.dir.0) → ordering_then r (slice_cmp nat_cmp a.name b.name) ≡ slice_cmp nat_cmp a.name b.name
@@ -43,22 +43,22 @@ same_dir d a b p q = go (nat_cmp a.dir.0 b.dir.0) (ranks a.dir.0 b.dir.0)
     go Greater h = absurd (grind (arith, nat_tests))
 
 -- a listed row, or one that is left out
-chosen : (d : ℕ) (after : Option (List ℕ)) (e : Place × Inode) (es : List (Place × Inode)) (b : Bool) → is_listed d after e ≡ b → listed d after (e ∷ es) ≡ cond b (named e ∷ listed d after es) (listed d after es)
+chosen : (d : ℕ) (after : Option (List ℕ)) (e : Dentry × Inode) (es : List (Dentry × Inode)) (b : Bool) → is_listed d after e ≡ b → listed d after (e ∷ es) ≡ cond b (named e ∷ listed d after es) (listed d after es)
 chosen d after e es true is = ap (λ c. map named (cond c (e ∷ filter (is_listed d after) es) (filter (is_listed d after) es))) is
 chosen d after e es false is = ap (λ c. map named (cond c (e ∷ filter (is_listed d after) es) (filter (is_listed d after) es))) is
 
 -- the names behind a name of the directory are greater
-below_listed : (d : ℕ) (after : Option (List ℕ)) (place : Place) (es : List (Place × Inode)) → (place.dir.0 == d) ≡ true → T (below_all place_cmp place es) → T (below_all (slice_cmp nat_cmp) place.name (listed d after es))
-below_listed d after place [] here below = tt
-below_listed d after place (e ∷ es) here below = go (is_listed d after e) refl (below_listed d after place es here (right_of _ _ below))
+below_listed : (d : ℕ) (after : Option (List ℕ)) (dentry : Dentry) (es : List (Dentry × Inode)) → (dentry.dir.0 == d) ≡ true → T (below_all dentry_cmp dentry es) → T (below_all (slice_cmp nat_cmp) dentry.name (listed d after es))
+below_listed d after dentry [] here below = tt
+below_listed d after dentry (e ∷ es) here below = go (is_listed d after e) refl (below_listed d after dentry es here (right_of _ _ below))
   where
-    go : (b : Bool) → is_listed d after e ≡ b → T (below_all (slice_cmp nat_cmp) place.name (listed d after es)) → T (below_all (slice_cmp nat_cmp) place.name (listed d after (e ∷ es)))
+    go : (b : Bool) → is_listed d after e ≡ b → T (below_all (slice_cmp nat_cmp) dentry.name (listed d after es)) → T (below_all (slice_cmp nat_cmp) dentry.name (listed d after (e ∷ es)))
     go true is rest =
-        let less : T (is_lt (slice_cmp nat_cmp place.name e.0.name)) = subst (λ r. T (is_lt r)) (same_dir d place e.0 here (first_true _ _ is)) (left_of _ _ below) in
-        subst (λ names. T (below_all (slice_cmp nat_cmp) place.name names)) (sym (chosen d after e es true is)) (both_of _ _ less rest)
-    go false is rest = subst (λ names. T (below_all (slice_cmp nat_cmp) place.name names)) (sym (chosen d after e es false is)) rest
+        let less : T (is_lt (slice_cmp nat_cmp dentry.name e.0.name)) = subst (λ r. T (is_lt r)) (same_dir d dentry e.0 here (first_true _ _ is)) (left_of _ _ below) in
+        subst (λ names. T (below_all (slice_cmp nat_cmp) dentry.name names)) (sym (chosen d after e es true is)) (both_of _ _ less rest)
+    go false is rest = subst (λ names. T (below_all (slice_cmp nat_cmp) dentry.name names)) (sym (chosen d after e es false is)) rest
 
-sorted_listed : (d : ℕ) (after : Option (List ℕ)) (es : List (Place × Inode)) → T (is_sorted place_cmp es) → T (is_sorted (slice_cmp nat_cmp) (listed d after es))
+sorted_listed : (d : ℕ) (after : Option (List ℕ)) (es : List (Dentry × Inode)) → T (is_sorted dentry_cmp es) → T (is_sorted (slice_cmp nat_cmp) (listed d after es))
 sorted_listed d after [] sorted = tt
 sorted_listed d after (e ∷ es) sorted = go (is_listed d after e) refl (sorted_listed d after es (right_of _ _ sorted))
   where
@@ -68,12 +68,12 @@ sorted_listed d after (e ∷ es) sorted = go (is_listed d after e) refl (sorted_
         (both_of _ _ (below_listed d after e.0 es (first_true _ _ is) (left_of _ _ sorted)) rest)
     go false is rest = subst (λ names. T (is_sorted (slice_cmp nat_cmp) names)) (sym (chosen d after e es false is)) rest
 
--- a place of the directory is found among places as its name among names
-pub tied_place : (d : ℕ) (name : List ℕ) (place : Place) (b : Bool) → (place.dir.0 == d) ≡ b → eq_by_cmp place_cmp (place_of d name) place ≡ (b && eq_by_cmp (slice_cmp nat_cmp) name place.name)
-tied_place d name place true here = ap is_eq (same_dir d (place_of d name) place (grind (arith, nat_tests)) here)
-tied_place d name place false other = go (nat_cmp d place.dir.0) (ranks d place.dir.0)
+-- a dentry of the directory is found among dentries as its name among names
+pub tied_dentry : (d : ℕ) (name : List ℕ) (dentry : Dentry) (b : Bool) → (dentry.dir.0 == d) ≡ b → eq_by_cmp dentry_cmp (dentry_of d name) dentry ≡ (b && eq_by_cmp (slice_cmp nat_cmp) name dentry.name)
+tied_dentry d name dentry true here = ap is_eq (same_dir d (dentry_of d name) dentry (grind (arith, nat_tests)) here)
+tied_dentry d name dentry false other = go (nat_cmp d dentry.dir.0) (ranks d dentry.dir.0)
   where
-    go : (r : Ordering) → MatchOrdering r (d < place.dir.0) (d ≡ place.dir.0) (place.dir.0 < d) → is_eq (ordering_then r (slice_cmp nat_cmp name place.name)) ≡ false
+    go : (r : Ordering) → MatchOrdering r (d < dentry.dir.0) (d ≡ dentry.dir.0) (dentry.dir.0 < d) → is_eq (ordering_then r (slice_cmp nat_cmp name dentry.name)) ≡ false
     go Less h = refl
     go Equal h = absurd (grind (arith, nat_tests))
     go Greater h = refl
@@ -95,7 +95,7 @@ found_more true false true row rest others false same e = e
 found_more true false false row rest others p same e = e
 found_more false past tied row rest others p same e = e
 
-find_chosen : (name : List ℕ) (d : ℕ) (after : Option (List ℕ)) (e : Place × Inode) (es : List (Place × Inode)) (b : Bool) → is_listed d after e ≡ b
+find_chosen : (name : List ℕ) (d : ℕ) (after : Option (List ℕ)) (e : Dentry × Inode) (es : List (Dentry × Inode)) (b : Bool) → is_listed d after e ≡ b
     → find (slice_cmp nat_cmp) name (listed d after (e ∷ es)) ≡ cond b (cond (eq_by_cmp (slice_cmp nat_cmp) name e.0.name) (Some e.1) (find (slice_cmp nat_cmp) name (listed d after es))) (find (slice_cmp nat_cmp) name (listed d after es))
 find_chosen name d after e es true is = ap (find (slice_cmp nat_cmp) name) (chosen d after e es true is)
 find_chosen name d after e es false is = ap (find (slice_cmp nat_cmp) name) (chosen d after e es false is)
@@ -108,8 +108,8 @@ tied_name a b tied = exact_bytes a b (tie (slice_cmp nat_cmp a b) tied)
     tie Equal h = refl
     tie Greater h = cc
 
-find_listed : (d : ℕ) (after : Option (List ℕ)) (name : List ℕ) (es : List (Place × Inode))
-    → find (slice_cmp nat_cmp) name (listed d after es) ≡ cond (is_after after name) (find place_cmp (place_of d name) es) None
+find_listed : (d : ℕ) (after : Option (List ℕ)) (name : List ℕ) (es : List (Dentry × Inode))
+    → find (slice_cmp nat_cmp) name (listed d after es) ≡ cond (is_after after name) (find dentry_cmp (dentry_of d name) es) None
 find_listed d after name [] = none (is_after after name)
   where
     none : (b : Bool) → None ≡ cond {A = Option Inode} b None None
@@ -117,19 +117,19 @@ find_listed d after name [] = none (is_after after name)
     none false = refl
 find_listed d after name (e ∷ es) =
     find_chosen name d after e es _ refl
-    ∙ found_more (e.0.dir.0 == d) (is_after after e.0.name) (eq_by_cmp (slice_cmp nat_cmp) name e.0.name) e.1 _ (find place_cmp (place_of d name) es) (is_after after name)
+    ∙ found_more (e.0.dir.0 == d) (is_after after e.0.name) (eq_by_cmp (slice_cmp nat_cmp) name e.0.name) e.1 _ (find dentry_cmp (dentry_of d name) es) (is_after after name)
     (λ tied. ap (is_after after) (sym (tied_name name e.0.name tied))) (find_listed d after name es)
-    ∙ ap (λ b. cond (is_after after name) (cond b (Some e.1) (find place_cmp (place_of d name) es)) None) (sym (tied_place d name e.0 (e.0.dir.0 == d) refl))
+    ∙ ap (λ b. cond (is_after after name) (cond b (Some e.1) (find dentry_cmp (dentry_of d name) es)) None) (sym (tied_dentry d name e.0 (e.0.dir.0 == d) refl))
 
 -- the names after a given one are a listing
 pub names_are_listed : (tree : Tree) (d : ℕ) (after : Option (List ℕ)) → IsListing tree d after (names_after tree d after)
 unfolding names_after
 names_are_listed tree d after = record {
   rises = sorted_listed d after (finmap.entries tree) (finmap.entries_sorted tree);
-  exact = λ name. find_listed d after name (finmap.entries tree) ∙ ap (λ o. cond (is_after after name) o None) (sym (get-entries tree (place_of d name)));
+  exact = λ name. find_listed d after name (finmap.entries tree) ∙ ap (λ o. cond (is_after after name) o None) (sym (get-entries tree (dentry_of d name)));
 }
 
-any_listed : (d : ℕ) (es : List (Place × Inode)) (row : List ℕ × Inode) (rows : List (List ℕ × Inode)) → listed d None es ≡ row ∷ rows → list_any (λ e. e.0.dir.0 == d) es ≡ true
+any_listed : (d : ℕ) (es : List (Dentry × Inode)) (row : List ℕ × Inode) (rows : List (List ℕ × Inode)) → listed d None es ≡ row ∷ rows → list_any (λ e. e.0.dir.0 == d) es ≡ true
 any_listed d [] row rows is = cc
 any_listed d (e ∷ es) row rows is = go (e.0.dir.0 == d) refl (λ rest. any_listed d es row rows rest)
   where
@@ -139,7 +139,7 @@ any_listed d (e ∷ es) row rows is = go (e.0.dir.0 == d) refl (λ rest. any_lis
         ap (λ b. b || list_any (λ e. e.0.dir.0 == d) es) other
         ∙ more (sym (chosen d None e es false (ap (λ b. b && true) other)) ∙ is)
 
-none_listed : (d : ℕ) (es : List (Place × Inode)) → listed d None es ≡ [] → list_any (λ e. e.0.dir.0 == d) es ≡ false
+none_listed : (d : ℕ) (es : List (Dentry × Inode)) → listed d None es ≡ [] → list_any (λ e. e.0.dir.0 == d) es ≡ false
 none_listed d [] is = refl
 none_listed d (e ∷ es) is = go (e.0.dir.0 == d) refl (λ rest. none_listed d es rest)
   where
@@ -205,10 +205,10 @@ narrowed true false true row rest others x implies is e = let never : false ≡ 
 narrowed true false false row rest others x implies is e = e
 narrowed false past greater row rest others x implies is e = e
 
-chosen_by : (d : ℕ) (after : Option (List ℕ)) (e : Place × Inode) (es : List (Place × Inode)) → listed d after (e ∷ es) ≡ cond (is_listed d after e) (named e ∷ listed d after es) (listed d after es)
+chosen_by : (d : ℕ) (after : Option (List ℕ)) (e : Dentry × Inode) (es : List (Dentry × Inode)) → listed d after (e ∷ es) ≡ cond (is_listed d after e) (named e ∷ listed d after es) (listed d after es)
 chosen_by d after e es = chosen d after e es (is_listed d after e) refl
 
-listed_narrowed : (d : ℕ) (after : Option (List ℕ)) (x : List ℕ) (es : List (Place × Inode)) → ((name : List ℕ) → is_lt (slice_cmp nat_cmp x name) ≡ true → is_after after name ≡ true)
+listed_narrowed : (d : ℕ) (after : Option (List ℕ)) (x : List ℕ) (es : List (Dentry × Inode)) → ((name : List ℕ) → is_lt (slice_cmp nat_cmp x name) ≡ true → is_after after name ≡ true)
     → listed d (Some x) es ≡ filter (λ p. is_lt (slice_cmp nat_cmp x p.0)) (listed d after es)
 listed_narrowed d after x [] implies = refl
 listed_narrowed d after x (e ∷ es) implies =
@@ -226,7 +226,7 @@ after_chain (Some a) x past name less = ap is_lt (nat_list_cmp_total.trans a x n
     less_is Equal h = cc
     less_is Greater h = cc
 
-listed_after_by : (d : ℕ) (after : Option (List ℕ)) (e : Place × Inode) (es : List (Place × Inode)) (i : ℕ) (row : List ℕ × Inode) (b : Bool) → is_listed d after e ≡ b
+listed_after_by : (d : ℕ) (after : Option (List ℕ)) (e : Dentry × Inode) (es : List (Dentry × Inode)) (i : ℕ) (row : List ℕ × Inode) (b : Bool) → is_listed d after e ≡ b
     → ((j : ℕ) → slice_get (listed d after es) j ≡ Some row → is_after after row.0 ≡ true) → slice_get (listed d after (e ∷ es)) i ≡ Some row → is_after after row.0 ≡ true
 listed_after_by d after e es zero row true is others got =
     let same : Some (named e) ≡ Some row = sym (ap (λ names. slice_get names 0) (chosen d after e es true is)) ∙ got in
@@ -236,7 +236,7 @@ listed_after_by d after e es (suc i) row true is others got = others i (sym (ap 
 listed_after_by d after e es i row false is others got = others i (sym (ap (λ names. slice_get names i) (chosen d after e es false is)) ∙ got)
 
 -- each listed name comes after `after`
-listed_after : (d : ℕ) (after : Option (List ℕ)) (es : List (Place × Inode)) (i : ℕ) (row : List ℕ × Inode) → slice_get (listed d after es) i ≡ Some row → is_after after row.0 ≡ true
+listed_after : (d : ℕ) (after : Option (List ℕ)) (es : List (Dentry × Inode)) (i : ℕ) (row : List ℕ × Inode) → slice_get (listed d after es) i ≡ Some row → is_after after row.0 ≡ true
 listed_after d after [] i row is = cc
 listed_after d after (e ∷ es) i row is = listed_after_by d after e es i row (is_listed d after e) refl (λ j. listed_after d after es j row) is
 

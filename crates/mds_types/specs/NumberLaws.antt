@@ -3,27 +3,28 @@ use Rattle.std.specs.Prelude.{◌≡◌, ℕ, Bool, true, false, cond, ◌&&◌,
 use Rattle.std.proofs.Common.{sym, ap, ◌∙◌, ⊎_elim, inl, inr}
 use Rattle.std.specs.Ordering.{eq_by_cmp}
 use Rattle.std.specs.FinMap as map
-use Rattle.mds_types.specs.declared.places.Place.{Place}
+use Rattle.mds_types.specs.declared.dentries.Dentry.{Dentry}
+use Rattle.mds_types.specs.declared.attributes.Attributes.{Attributes}
 use Rattle.mds_types.specs.declared.inodes.Inode.{Inode}
 use Rattle.mds_types.specs.declared.inodes.Kind.TheVariants.{File, Dir, Symlink as Link}
 use Rattle.mds_types.specs.declared.replies.Reply.{Reply}
 use Rattle.mds_types.specs.declared.replies.Reply.TheVariants.{Entry, Done, Errno}
 use Rattle.mds_types.specs.declared.operations.Op.{Op}
 use Rattle.mds_types.specs.declared.operations.Op.TheVariants.{Lookup, Readdir, Create, Mkdir, Readlink, Symlink, Setattr, Unlink, Rmdir, Rename}
-use Rattle.mds_types.specs.Tree.{Tree, place_cmp, place_of, at, is_directory, is_dir_kind, has_entries}
-use Rattle.mds_types.specs.Step.{Outcome, answers, with_moved, directory_of, destination_of, found, made, new_inode, link_mode, read_link, size_errno, with_attributes, attributes_set, unless, unlinked, dir_removed, leads_to, replace_errno, renamed, within, step}
+use Rattle.mds_types.specs.Tree.{Tree, dentry_cmp, dentry_of, at, is_directory, is_dir_kind, has_entries}
+use Rattle.mds_types.specs.Step.{Outcome, answers, with_moved, directory_of, destination_of, found, made, new_inode, link_mode, read_link, size_errno, with_attributes, attributes_set, unless, unlinked, dir_removed, removal_errno, leads_to, replace_errno, renamed, within, step}
 use Rattle.mds_types.specs.EntryLaws.{stands_after_put, stands_after_removal}
 
 -- an inode of this number stands in the tree
 abbrev pub StandsIn : Tree → ℕ → Type 0
-StandsIn tree x = (place : Place) × (inode : Inode) × (map.get tree place ≡ Some inode) × (inode.ino.0 ≡ x)
+StandsIn tree x = (dentry : Dentry) × (inode : Inode) × (map.get tree dentry ≡ Some inode) × (inode.ino.0 ≡ x)
 
 -- each inode that is left stood before, or has the number that was taken
 abbrev pub IsOld : Tree → ℕ → Outcome → Type 0
-IsOld tree n outcome = (place : Place) (inode : Inode) → map.get outcome.tree place ≡ Some inode → StandsIn tree inode.ino.0 ⊎ ((outcome.takes ≡ true) × (inode.ino.0 ≡ n))
+IsOld tree n outcome = (dentry : Dentry) (inode : Inode) → map.get outcome.tree dentry ≡ Some inode → StandsIn tree inode.ino.0 ⊎ ((outcome.takes ≡ true) × (inode.ino.0 ≡ n))
 
 same_old : (tree : Tree) (n : ℕ) (outcome : Outcome) → outcome.tree ≡ tree → IsOld tree n outcome
-same_old tree n outcome same place inode stands = inl (place, inode, ap (λ t. map.get t place) (sym same) ∙ stands, refl)
+same_old tree n outcome same dentry inode stands = inl (dentry, inode, ap (λ t. map.get t dentry) (sym same) ∙ stands, refl)
 
 either_old : (b : Bool) (tree : Tree) (n : ℕ) (x y : Outcome) → IsOld tree n x → IsOld tree n y → IsOld tree n (cond b x y)
 either_old true tree n x y h k = h
@@ -33,10 +34,10 @@ unless_old : (errno : Option ℕ) (tree : Tree) (n : ℕ) (x : Outcome) → IsOl
 unless_old None tree n x h = h
 unless_old (Some errno) tree n x h = same_old tree n (unless tree (Some errno) x) refl
 
-made_old : (tree : Tree) (place : Place) (new : Inode) (other : Option Inode) → IsOld tree new.ino.0 (made tree place new other)
-made_old tree place new None q inode stands =
-    ⊎_elim (λ w. inr (refl, ap (λ (i : Inode). i.ino.0) (sym w.1))) (λ w. inl (q, inode, w.1, refl)) (stands_after_put tree place new q inode stands)
-made_old tree place new (Some other) q inode stands = inl (q, inode, stands, refl)
+made_old : (tree : Tree) (dentry : Dentry) (new : Inode) (other : Option Inode) → IsOld tree new.ino.0 (made tree dentry new other)
+made_old tree dentry new None q inode stands =
+    ⊎_elim (λ w. inr (refl, ap (λ (i : Inode). i.ino.0) (sym w.1))) (λ w. inl (q, inode, w.1, refl)) (stands_after_put tree dentry new q inode stands)
+made_old tree dentry new (Some other) q inode stands = inl (q, inode, stands, refl)
 
 found_old : (tree : Tree) (n : ℕ) (other : Option Inode) → IsOld tree n (found tree other)
 found_old tree n None = same_old tree n (found tree None) refl
@@ -46,39 +47,35 @@ read_link_old : (tree : Tree) (n : ℕ) (other : Option Inode) → IsOld tree n 
 read_link_old tree n None = same_old tree n (read_link tree None) refl
 read_link_old tree n (Some inode) = same_old tree n (read_link tree (Some inode)) refl
 
-attributes_old : (tree : Tree) (n : ℕ) (place : Place) (mode size mtime : Option ℕ) (other : Option Inode) → map.get tree place ≡ other → IsOld tree n (attributes_set tree place mode size mtime other)
-attributes_old tree n place mode size mtime None is = same_old tree n (attributes_set tree place mode size mtime None) refl
-attributes_old tree n place mode size mtime (Some before) is =
-    unless_old (size_errno before.kind size) tree n
-    (answers (map.insert tree place (with_attributes mode size mtime before)) (Entry (with_attributes mode size mtime before)))
+attributes_old : (tree : Tree) (n : ℕ) (dentry : Dentry) (given : Attributes) (other : Option Inode) → map.get tree dentry ≡ other → IsOld tree n (attributes_set tree dentry given other)
+attributes_old tree n dentry given None is = same_old tree n (attributes_set tree dentry given None) refl
+attributes_old tree n dentry given (Some before) is =
+    unless_old (size_errno before.kind given.size) tree n
+    (answers (map.insert tree dentry (with_attributes given before)) (Entry (with_attributes given before)))
     (λ q inode stands.
-    ⊎_elim (λ w. inl (place, before, is, ap (λ (i : Inode). i.ino.0) w.1)) (λ w. inl (q, inode, w.1, refl)) (stands_after_put tree place (with_attributes mode size mtime before) q inode stands))
+    ⊎_elim (λ w. inl (dentry, before, is, ap (λ (i : Inode). i.ino.0) w.1)) (λ w. inl (q, inode, w.1, refl)) (stands_after_put tree dentry (with_attributes given before) q inode stands))
 
-removed_old : (tree : Tree) (n : ℕ) (place : Place) → IsOld tree n (answers (map.remove tree place) Done)
-removed_old tree n place q inode stands = let before = stands_after_removal tree place q inode stands in inl (q, inode, before.1, refl)
+removed_old : (tree : Tree) (n : ℕ) (dentry : Dentry) → IsOld tree n (answers (map.remove tree dentry) Done)
+removed_old tree n dentry q inode stands = let before = stands_after_removal tree dentry q inode stands in inl (q, inode, before.1, refl)
 
 kept_old : (tree : Tree) (n : ℕ) (reply : Reply) → IsOld tree n (answers tree reply)
 kept_old tree n reply q inode stands = inl (q, inode, stands, refl)
 
-unlinked_old : (tree : Tree) (n : ℕ) (place : Place) (other : Option Inode) → IsOld tree n (unlinked tree place other)
-unlinked_old tree n place None = same_old tree n (unlinked tree place None) refl
-unlinked_old tree n place (Some inode) =
-    either_old (is_dir_kind inode.kind) tree n (answers tree (Errno 21)) (answers (map.remove tree place) Done) (kept_old tree n (Errno 21)) (removed_old tree n place)
+unlinked_old : (tree : Tree) (n : ℕ) (dentry : Dentry) (other : Option Inode) → IsOld tree n (unlinked tree dentry other)
+unlinked_old tree n dentry None = same_old tree n (unlinked tree dentry None) refl
+unlinked_old tree n dentry (Some inode) =
+    either_old (is_dir_kind inode.kind) tree n (answers tree (Errno 21)) (answers (map.remove tree dentry) Done) (kept_old tree n (Errno 21)) (removed_old tree n dentry)
 
-dir_removed_old : (tree : Tree) (n : ℕ) (place : Place) (other : Option Inode) → IsOld tree n (dir_removed tree place other)
-dir_removed_old tree n place None = same_old tree n (dir_removed tree place None) refl
-dir_removed_old tree n place (Some inode) =
-    let emptied = cond (has_entries tree inode.ino.0) (answers tree (Errno 39)) (answers (map.remove tree place) Done) in
-    either_old (is_dir_kind inode.kind) tree n emptied (answers tree (Errno 20))
-    (either_old (has_entries tree inode.ino.0) tree n (answers tree (Errno 39)) (answers (map.remove tree place) Done) (kept_old tree n (Errno 39)) (removed_old tree n place))
-    (kept_old tree n (Errno 20))
+dir_removed_old : (tree : Tree) (n : ℕ) (dentry : Dentry) (other : Option Inode) → IsOld tree n (dir_removed tree dentry other)
+dir_removed_old tree n dentry None = same_old tree n (dir_removed tree dentry None) refl
+dir_removed_old tree n dentry (Some inode) = unless_old (removal_errno tree inode) tree n (answers (map.remove tree dentry) Done) (removed_old tree n dentry)
 
-renamed_old : (tree : Tree) (n : ℕ) (from to : Place) (source target : Option Inode) → map.get tree from ≡ source → IsOld tree n (renamed tree from to source target)
+renamed_old : (tree : Tree) (n : ℕ) (from to : Dentry) (source target : Option Inode) → map.get tree from ≡ source → IsOld tree n (renamed tree from to source target)
 renamed_old tree n from to None target is = same_old tree n (renamed tree from to None target) refl
 renamed_old tree n from to (Some moved) target is =
     let onto = unless tree (replace_errno tree moved target) (answers (with_moved tree from to moved) Done) in
     let below = cond (leads_to tree moved to.dir.0) (answers tree (Errno 22)) onto in
-    either_old (eq_by_cmp place_cmp from to) tree n (answers tree Done) below (kept_old tree n Done)
+    either_old (eq_by_cmp dentry_cmp from to) tree n (answers tree Done) below (kept_old tree n Done)
     (either_old (leads_to tree moved to.dir.0) tree n (answers tree (Errno 22)) onto (kept_old tree n (Errno 22))
     (unless_old (replace_errno tree moved target) tree n (answers (with_moved tree from to moved) Done)
     (λ q inode stands.
@@ -86,16 +83,16 @@ renamed_old tree n from to (Some moved) target is =
     (stands_after_put (map.remove tree from) to moved q inode stands))))
 
 within_old : (tree : Tree) (op : Op) (n : ℕ) → IsOld tree n (within tree op n)
-within_old tree (Lookup dir name) n = found_old tree n (at tree dir.0 name)
+within_old tree (Lookup dentry) n = found_old tree n (map.get tree dentry)
 within_old tree (Readdir dir after max) n = same_old tree n (within tree (Readdir dir after max) n) refl
-within_old tree (Create dir name mode mtime) n = made_old tree (place_of dir.0 name) (new_inode n File mode mtime) (at tree dir.0 name)
-within_old tree (Mkdir dir name mode mtime) n = made_old tree (place_of dir.0 name) (new_inode n Dir mode mtime) (at tree dir.0 name)
-within_old tree (Readlink dir name) n = read_link_old tree n (at tree dir.0 name)
-within_old tree (Symlink dir name target mtime) n = made_old tree (place_of dir.0 name) (new_inode n (Link target) link_mode mtime) (at tree dir.0 name)
-within_old tree (Setattr dir name mode size mtime) n = attributes_old tree n (place_of dir.0 name) mode size mtime (at tree dir.0 name) refl
-within_old tree (Unlink dir name) n = unlinked_old tree n (place_of dir.0 name) (at tree dir.0 name)
-within_old tree (Rmdir dir name) n = dir_removed_old tree n (place_of dir.0 name) (at tree dir.0 name)
-within_old tree (Rename dir name to_dir to_name) n = renamed_old tree n (place_of dir.0 name) (place_of to_dir.0 to_name) (at tree dir.0 name) (at tree to_dir.0 to_name) refl
+within_old tree (Create dentry mode mtime) n = made_old tree dentry (new_inode n File mode mtime) (map.get tree dentry)
+within_old tree (Mkdir dentry mode mtime) n = made_old tree dentry (new_inode n Dir mode mtime) (map.get tree dentry)
+within_old tree (Readlink dentry) n = read_link_old tree n (map.get tree dentry)
+within_old tree (Symlink dentry target mtime) n = made_old tree dentry (new_inode n (Link target) link_mode mtime) (map.get tree dentry)
+within_old tree (Setattr dentry given) n = attributes_old tree n dentry given (map.get tree dentry) refl
+within_old tree (Unlink dentry) n = unlinked_old tree n dentry (map.get tree dentry)
+within_old tree (Rmdir dentry) n = dir_removed_old tree n dentry (map.get tree dentry)
+within_old tree (Rename from to) n = renamed_old tree n from to (map.get tree from) (map.get tree to) refl
 
 -- an inode of the tree that a step leaves stood before, or has the number that the step took
 pub old_or_taken : (tree : Tree) (op : Op) (n : ℕ) → IsOld tree n (step tree op n)

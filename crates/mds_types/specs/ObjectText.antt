@@ -1,5 +1,5 @@
 -- The texts that name objects, CephFS's form for the object of a fragment; that of a fragment tree is this project's own profile.
-use Rattle.std.specs.Prelude.{◌≡◌, ℕ, ◌-◌, ◌^◌, ◌<◌, false, List, ◌++◌, codes, length, replicate, Option, Some, None}
+use Rattle.std.specs.Prelude.{◌≡◌, ℕ, ◌-◌, ◌^◌, ◌<◌, false, List, ◌++◌, codes, length, replicate}
 use Rattle.std.specs.Fmt.{digits}
 use Rattle.mds_types.specs.declared.object_names.ObjName.{ObjName}
 use Rattle.mds_types.specs.declared.object_names.ObjName.TheVariants.{Frag, Tree}
@@ -18,11 +18,6 @@ object_text (Tree ino) = digits 16 false ino.0 ++ codes ".fragtree"
 abbrev pub IsObjName : ObjName → Type 0
 IsObjName (Frag ino frag) = (ino.0 < 2 ^ 64) × IsFragment frag
 IsObjName (Tree ino) = ino.0 < 2 ^ 64
-
--- the object that a text names; none, where it names none
-abbrev pub NamesObject : List ℕ → Option ObjName → Type 0
-NamesObject text (Some name) = text ≡ object_text name
-NamesObject text None = (name : ObjName) → IsObjName name → text ≡ object_text name → ⊥
 
 -- no two objects have one text
 abbrev pub TextsDiffer : Type 0

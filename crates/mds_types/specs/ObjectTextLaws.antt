@@ -2,9 +2,8 @@
 use Rattle.std.specs.Prelude.{◌≡◌, ℕ, zero, suc, ◌-◌, ◌^◌, ◌<◌, ◌≤◌, Bool, true, false, cond, ◌==◌, ◌≢◌, drop, get_or, None, Some, Result, Ok, Err, List, [], ◌∷◌, ◌++◌, codes, length, replicate, refl}
 use Rattle.std.specs.Char.{digit_value}
 use Rattle.std.specs.Fmt.{digits, padded_integral, format_spec, char_count}
-use Rattle.std.specs.Str.Parse.{AllDigits, IsNumeral, ParsesUnsigned, digits_value, digits_value_after, without_leading_plus}
+use Rattle.std.specs.Str.Parse.{AllDigits, digits_value, digits_value_after}
 use Rattle.std.proofs.Common.{sym, ap, subst, ◌∙◌, arith, append-nil, eqb-true}
-use Rattle.std.specs.Result.{result_ok}
 use Rattle.std.proofs.Math.Nat.{pow-le-pow_left}
 use Rattle.std.proofs.lemmas.Fmt.{digits_is_IsNumeral}
 use Rattle.mds_types.specs.declared.object_names.ObjName.TheVariants.{Frag, Tree}
@@ -96,46 +95,3 @@ word_padded word =
     let ds = digits 16 false word in
     let short : 8 - length ds - 0 - 0 ≡ 8 - length ds = omega arith in
     ap (λ k. replicate k 48 ++ (ds ++ [])) short ∙ ap (λ t. replicate (8 - length ds) 48 ++ t) (append-nil ds)
-
--- the text is of hexadecimal digits, and they write n
-abbrev pub IsHexOf : ℕ → List ℕ → Type 0
-IsHexOf n text = IsNumeral 16 text × (digits_value 16 text ≡ n)
-
-pub hex_of_digits : (n : ℕ) (text : List ℕ) → n < 2 ^ 64 → text ≡ digits 16 false n → IsHexOf n text
-hex_of_digits n text fits is = subst (IsHexOf n) (sym is) (digits_is_IsNumeral 16 false (omega arith) (omega arith) n (below_most n fits))
-
-some_more : (k : ℕ) (ds : List ℕ) → 0 < length ds → 0 < length (replicate k 48 ++ ds)
-some_more zero ds some = some
-some_more (suc k) ds some = omega arith
-
-pub hex_of_word : (word : ℕ) (text : List ℕ) → word < 2 ^ 32 → text ≡ word_text word → IsHexOf word text
-hex_of_word word text fits is =
-    let some = (digits_is_IsNumeral 16 false (omega arith) (omega arith) word (below_most word (omega arith))).0.0 in
-    subst (IsHexOf word) (sym is) ((some_more (8 - length (digits 16 false word)) (digits 16 false word) some, word_digits word fits), word_value word fits)
-
--- digits begin with no plus
-no_plus : (text : List ℕ) → AllDigits 16 text → without_leading_plus text ≡ text
-no_plus [] all = refl
-no_plus (c ∷ cs) all = go (c == 43) refl
-  where
-    go : (b : Bool) → (c == 43) ≡ b → drop (cond b 1 0) (c ∷ cs) ≡ c ∷ cs
-    go true plus = let small : digit_value 43 < 16 = subst (λ d. digit_value d < 16) (eqb-true c 43 plus) all.0 in absurd (omega arith)
-    go false other = refl
-
--- what a parse of such a text gives
-pub hex_read : {E : Type 0} (n : ℕ) (text : List ℕ) (r : Result ℕ E) → ParsesUnsigned 64 16 text r → n < 2 ^ 64 → IsHexOf n text → result_ok r ≡ Some n
-hex_read n text (Ok m) parsed fits is = ap Some (parsed.1 ∙ ap (digits_value 16) (no_plus text is.0.1) ∙ is.1)
-hex_read n text (Err e) parsed fits is =
-    absurd (parsed (subst (λ t. IsNumeral 16 t × (digits_value 16 t < 2 ^ 64)) (sym (no_plus text is.0.1)) (is.0, subst (λ m. m < 2 ^ 64) (sym is.1) fits)))
-
--- no digit is a dot
-pub no_dots : (text : List ℕ) → AllDigits 16 text → (i : ℕ) → i < length text → get_or text i 0 ≢ 46
-no_dots [] all i within = absurd (omega arith)
-no_dots (c ∷ cs) all zero within = λ dot. let small : digit_value 46 < 16 = subst (λ d. digit_value d < 16) dot all.0 in omega arith
-no_dots (c ∷ cs) all (suc i) within = no_dots cs all.1 i (omega arith)
-
-pub some_same : {A : Type 0} (a b : A) → Some a ≡ Some b → a ≡ b
-some_same a b e = cc
-
-pub none_some : {A : Type 0} (a : A) → None ≡ Some a → ⊥
-none_some a e = cc

@@ -7,7 +7,8 @@ use Rattle.std.specs.Cmp.Lexicographic.{slice_cmp}
 use Rattle.std.specs.Ordering.{nat_cmp, eq_by_cmp}
 use Rattle.std.specs.FinMap as map
 use Rattle.mds_types.specs.declared.ids.Ino.{Ino}
-use Rattle.mds_types.specs.declared.places.Place.{Place}
+use Rattle.mds_types.specs.declared.dentries.Dentry.{Dentry}
+use Rattle.mds_types.specs.declared.attributes.Attributes.{Attributes}
 use Rattle.mds_types.specs.declared.inodes.Inode.{Inode}
 use Rattle.mds_types.specs.declared.inodes.Kind.{Kind}
 use Rattle.mds_types.specs.declared.inodes.Kind.TheVariants.{File, Dir, Symlink as Link}
@@ -15,7 +16,7 @@ use Rattle.mds_types.specs.declared.operations.Op.{Op}
 use Rattle.mds_types.specs.declared.operations.Op.TheVariants.{Lookup, Readdir, Create, Mkdir, Readlink, Symlink, Setattr, Unlink, Rmdir, Rename}
 use Rattle.mds_types.specs.declared.replies.Reply.{Reply}
 use Rattle.mds_types.specs.declared.replies.Reply.TheVariants.{Entry, Entries, Target, Done, Errno}
-use Rattle.mds_types.specs.Tree.{Tree, place_cmp, is_directory, is_dir_kind, is_above, has_entries, place_of, at}
+use Rattle.mds_types.specs.Tree.{Tree, dentry_cmp, is_directory, is_dir_kind, is_above, has_entries, dentry_of, at}
 
 -- what one step of the table gives: the reply, the tree that it leaves, and whether it took the number that it was offered
 pub record Outcome : Type 0 where
@@ -34,20 +35,20 @@ unless tree (Some errno) outcome = answers tree (Errno errno)
 
 -- the directory that an operation works in; of a rename, that of the source
 abbrev pub directory_of : Op → ℕ
-directory_of (Lookup dir name) = dir.0
+directory_of (Lookup dentry) = dentry.dir.0
 directory_of (Readdir dir after max) = dir.0
-directory_of (Create dir name mode mtime) = dir.0
-directory_of (Mkdir dir name mode mtime) = dir.0
-directory_of (Readlink dir name) = dir.0
-directory_of (Symlink dir name target mtime) = dir.0
-directory_of (Setattr dir name mode size mtime) = dir.0
-directory_of (Unlink dir name) = dir.0
-directory_of (Rmdir dir name) = dir.0
-directory_of (Rename dir name to_dir to_name) = dir.0
+directory_of (Create dentry mode mtime) = dentry.dir.0
+directory_of (Mkdir dentry mode mtime) = dentry.dir.0
+directory_of (Readlink dentry) = dentry.dir.0
+directory_of (Symlink dentry target mtime) = dentry.dir.0
+directory_of (Setattr dentry given) = dentry.dir.0
+directory_of (Unlink dentry) = dentry.dir.0
+directory_of (Rmdir dentry) = dentry.dir.0
+directory_of (Rename from to) = from.dir.0
 
 -- the directory that an operation leads to: of a rename that of the target, otherwise the one that it works in
 abbrev pub destination_of : Op → ℕ
-destination_of (Rename dir name to_dir to_name) = to_dir.0
+destination_of (Rename from to) = to.dir.0
 destination_of other = directory_of other
 
 -- the name is greater than `after`; every name is, if none is given
@@ -69,10 +70,10 @@ found tree (Some inode) = answers tree (Entry inode)
 abbrev pub page : Tree → ℕ → List (List ℕ × Inode) → Outcome
 page tree max names = answers tree (Entries (take max names) (nat_lt max (length names)))
 
--- a new inode at a place: present EEXIST
-abbrev pub made : Tree → Place → Inode → Option Inode → Outcome
-made tree place inode (Some other) = answers tree (Errno 17)
-made tree place inode None = record { reply = Entry inode; tree = map.insert tree place inode; takes = true }
+-- a new inode at a dentry: present EEXIST
+abbrev pub made : Tree → Dentry → Inode → Option Inode → Outcome
+made tree dentry inode (Some other) = answers tree (Errno 17)
+made tree dentry inode None = record { reply = Entry inode; tree = map.insert tree dentry inode; takes = true }
 
 -- a new file or directory has size 0, and a link the size of its target
 abbrev pub new_size : Kind → ℕ
@@ -106,28 +107,29 @@ size_errno Dir (Some size) = Some 21
 size_errno (Link target) (Some size) = Some 22
 
 -- the inode with the attributes that are given; the others stay
-abbrev pub with_attributes : Option ℕ → Option ℕ → Option ℕ → Inode → Inode
-with_attributes mode size mtime inode = record inode { mode = unwrap_or mode inode.mode; size = unwrap_or size inode.size; mtime = unwrap_or mtime inode.mtime }
+abbrev pub with_attributes : Attributes → Inode → Inode
+with_attributes given inode = record inode { mode = unwrap_or given.mode inode.mode; size = unwrap_or given.size inode.size; mtime = unwrap_or given.mtime inode.mtime }
 
 -- setattr: absent ENOENT, then a size for what is no file
-abbrev pub attributes_set : Tree → Place → Option ℕ → Option ℕ → Option ℕ → Option Inode → Outcome
-attributes_set tree place mode size mtime None = answers tree (Errno 2)
-attributes_set tree place mode size mtime (Some inode) =
-    let changed = with_attributes mode size mtime inode in
-    unless tree (size_errno inode.kind size) (answers (map.insert tree place changed) (Entry changed))
+abbrev pub attributes_set : Tree → Dentry → Attributes → Option Inode → Outcome
+attributes_set tree dentry given None = answers tree (Errno 2)
+attributes_set tree dentry given (Some inode) =
+    let changed = with_attributes given inode in
+    unless tree (size_errno inode.kind given.size) (answers (map.insert tree dentry changed) (Entry changed))
 
 -- unlink: absent ENOENT, a directory EISDIR (where POSIX.1 names EPERM)
-abbrev pub unlinked : Tree → Place → Option Inode → Outcome
-unlinked tree place None = answers tree (Errno 2)
-unlinked tree place (Some inode) = cond (is_dir_kind inode.kind) (answers tree (Errno 21)) (answers (map.remove tree place) Done)
+abbrev pub unlinked : Tree → Dentry → Option Inode → Outcome
+unlinked tree dentry None = answers tree (Errno 2)
+unlinked tree dentry (Some inode) = cond (is_dir_kind inode.kind) (answers tree (Errno 21)) (answers (map.remove tree dentry) Done)
+
+-- what is no directory, or is not empty, can't be taken away as a directory
+abbrev pub removal_errno : Tree → Inode → Option ℕ
+removal_errno tree inode = cond (is_dir_kind inode.kind) (cond (has_entries tree inode.ino.0) (Some 39) None) (Some 20)
 
 -- rmdir: absent ENOENT, no directory ENOTDIR, not empty ENOTEMPTY
-abbrev pub dir_removed : Tree → Place → Option Inode → Outcome
-dir_removed tree place None = answers tree (Errno 2)
-dir_removed tree place (Some inode) =
-    cond (is_dir_kind inode.kind)
-    (cond (has_entries tree inode.ino.0) (answers tree (Errno 39)) (answers (map.remove tree place) Done))
-    (answers tree (Errno 20))
+abbrev pub dir_removed : Tree → Dentry → Option Inode → Outcome
+dir_removed tree dentry None = answers tree (Errno 2)
+dir_removed tree dentry (Some inode) = unless tree (removal_errno tree inode) (answers (map.remove tree dentry) Done)
 
 -- a directory may replace an empty directory alone, anything else only what is no directory
 abbrev pub replace_errno : Tree → Inode → Option Inode → Option ℕ
@@ -141,31 +143,31 @@ replace_errno tree inode (Some target) =
 abbrev pub leads_to : Tree → Inode → ℕ → Bool
 leads_to tree inode d = is_dir_kind inode.kind && ((inode.ino.0 == d) || is_above tree inode.ino.0 d)
 
--- the tree once an inode went from one place to another
-abbrev pub with_moved : Tree → Place → Place → Inode → Tree
+-- the tree once an inode went from one dentry to another
+abbrev pub with_moved : Tree → Dentry → Dentry → Inode → Tree
 with_moved tree from to inode = map.insert (map.remove tree from) to inode
 
--- rename: absent ENOENT; to its own place, nothing happens; a directory below itself EINVAL; then what stands at the target
-abbrev pub renamed : Tree → Place → Place → Option Inode → Option Inode → Outcome
+-- rename: absent ENOENT; to itself, nothing happens; a directory below itself EINVAL; then what stands at the target
+abbrev pub renamed : Tree → Dentry → Dentry → Option Inode → Option Inode → Outcome
 renamed tree from to None target = answers tree (Errno 2)
 renamed tree from to (Some inode) target =
-    cond (eq_by_cmp place_cmp from to) (answers tree Done)
+    cond (eq_by_cmp dentry_cmp from to) (answers tree Done)
     (cond (leads_to tree inode to.dir.0) (answers tree (Errno 22))
     (unless tree (replace_errno tree inode target) (answers (with_moved tree from to inode) Done)))
 
 -- an operation in directories that stand, offered the number n
 abbrev pub within : Tree → Op → ℕ → Outcome
-within tree (Lookup dir name) n = found tree (at tree dir.0 name)
+within tree (Lookup dentry) n = found tree (map.get tree dentry)
 within tree (Readdir dir after max) n = page tree max (names_after tree dir.0 after)
-within tree (Create dir name mode mtime) n = made tree (place_of dir.0 name) (new_inode n File mode mtime) (at tree dir.0 name)
-within tree (Mkdir dir name mode mtime) n = made tree (place_of dir.0 name) (new_inode n Dir mode mtime) (at tree dir.0 name)
-within tree (Readlink dir name) n = read_link tree (at tree dir.0 name)
-within tree (Symlink dir name target mtime) n = made tree (place_of dir.0 name) (new_inode n (Link target) link_mode mtime) (at tree dir.0 name)
-within tree (Setattr dir name mode size mtime) n = attributes_set tree (place_of dir.0 name) mode size mtime (at tree dir.0 name)
-within tree (Unlink dir name) n = unlinked tree (place_of dir.0 name) (at tree dir.0 name)
-within tree (Rmdir dir name) n = dir_removed tree (place_of dir.0 name) (at tree dir.0 name)
-within tree (Rename dir name to_dir to_name) n =
-    renamed tree (place_of dir.0 name) (place_of to_dir.0 to_name) (at tree dir.0 name) (at tree to_dir.0 to_name)
+within tree (Create dentry mode mtime) n = made tree dentry (new_inode n File mode mtime) (map.get tree dentry)
+within tree (Mkdir dentry mode mtime) n = made tree dentry (new_inode n Dir mode mtime) (map.get tree dentry)
+within tree (Readlink dentry) n = read_link tree (map.get tree dentry)
+within tree (Symlink dentry target mtime) n = made tree dentry (new_inode n (Link target) link_mode mtime) (map.get tree dentry)
+within tree (Setattr dentry given) n = attributes_set tree dentry given (map.get tree dentry)
+within tree (Unlink dentry) n = unlinked tree dentry (map.get tree dentry)
+within tree (Rmdir dentry) n = dir_removed tree dentry (map.get tree dentry)
+within tree (Rename from to) n =
+    renamed tree from to (map.get tree from) (map.get tree to)
 
 -- the table: first of all, a number that is no directory of the tree now is ESTALE
 abbrev pub step : Tree → Op → ℕ → Outcome

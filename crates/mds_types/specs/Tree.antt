@@ -5,26 +5,26 @@ use Rattle.std.specs.declared.cmp.Ordering.{Ordering}
 use Rattle.std.specs.Ordering.{nat_cmp, ordering_then}
 use Rattle.std.specs.Cmp.Lexicographic.{slice_cmp}
 use Rattle.std.specs.FinMap as map
-use Rattle.mds_types.specs.declared.places.Place.{Place}
+use Rattle.mds_types.specs.declared.dentries.Dentry.{Dentry}
 use Rattle.mds_types.specs.declared.inodes.Inode.{Inode}
 use Rattle.mds_types.specs.declared.inodes.Kind.{Kind}
 use Rattle.mds_types.specs.declared.inodes.Kind.TheVariants.{File, Dir, Symlink}
 
--- places in order: by directory, and then by the bytes of the name
-abbrev pub place_cmp : Place → Place → Ordering
-place_cmp a b = ordering_then (nat_cmp a.dir.0 b.dir.0) (slice_cmp nat_cmp a.name b.name)
+-- dentries in order: by directory, and then by the bytes of the name
+abbrev pub dentry_cmp : Dentry → Dentry → Ordering
+dentry_cmp a b = ordering_then (nat_cmp a.dir.0 b.dir.0) (slice_cmp nat_cmp a.name b.name)
 
--- the plain tree: a finite map from places, directory number and name, to inodes
+-- the plain tree: a finite map from dentries, directory number and name, to inodes
 abbrev pub Tree : Type 0
-Tree = map.FinMap place_cmp Inode
+Tree = map.FinMap dentry_cmp Inode
 
--- the place of a name in the directory of a number
-abbrev pub place_of : ℕ → List ℕ → Place
-place_of dir name = record { dir = record { 0 = dir }; name = name }
+-- the dentry of a name in the directory of a number
+abbrev pub dentry_of : ℕ → List ℕ → Dentry
+dentry_of dir name = record { dir = record { 0 = dir }; name = name }
 
--- what stands at a place
+-- what stands at a dentry
 abbrev pub at : Tree → ℕ → List ℕ → Option Inode
-at tree dir name = map.get tree (place_of dir name)
+at tree dir name = map.get tree (dentry_of dir name)
 
 -- a kind is that of a directory
 abbrev pub is_dir_kind : Kind → Bool
@@ -33,7 +33,7 @@ is_dir_kind Dir = true
 is_dir_kind (Symlink target) = false
 
 -- an entry is that of the directory d
-abbrev pub is_entry_of_directory : ℕ → Place × Inode → Bool
+abbrev pub is_entry_of_directory : ℕ → Dentry × Inode → Bool
 is_entry_of_directory d entry = is_dir_kind entry.1.kind && (entry.1.ino.0 == d)
 
 -- d is a directory of the tree now: the root, 1, or the number of an entry's directory

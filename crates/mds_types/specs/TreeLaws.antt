@@ -8,10 +8,10 @@ use Rattle.std.specs.FinMap as map
 use Rattle.std.specs.FinMap.{find, put, entries-insert, get-entries, len-entries, len-empty}
 use Rattle.std.specs.FinMap.Entries.{by_order}
 use Rattle.std.proofs.Common.{sym, ap, ◌∙◌, arith}
-use Rattle.mds_types.specs.declared.places.Place.{Place}
+use Rattle.mds_types.specs.declared.dentries.Dentry.{Dentry}
 use Rattle.mds_types.specs.declared.inodes.Inode.{Inode}
-use Rattle.mds_types.specs.Tree.{Tree, place_cmp, is_directory, is_entry_of_directory}
-use Rattle.mds_types.specs.PlaceLaws.{place-total}
+use Rattle.mds_types.specs.Tree.{Tree, dentry_cmp, is_directory, is_entry_of_directory}
+use Rattle.mds_types.specs.OrderLaws.{dentry-total}
 use Rattle.std.proofs.Math.Bool.{or-false}
 
 or_swap : (a b c : Bool) → (a || (b || c)) ≡ (b || (a || c))
@@ -33,22 +33,22 @@ list_any-put R p k v (e ∷ es) absent = go (R k e.0) refl absent (list_any-put 
         ∙ ap (λ b. p e || b) (more (sym (ap (λ r. cond (is_eq r) (Some e.1) (find R k es)) is) ∙ none))
         ∙ or_swap (p e) (p (k, v)) (list_any p es)
 
--- the directories, once an inode stands at a place that was free
-pub is_directory-insert : (tree : Tree) (place : Place) (inode : Inode) (d : ℕ) → map.get tree place ≡ None
-    → is_directory (map.insert tree place inode) d ≡ (is_entry_of_directory d (place, inode) || is_directory tree d)
+-- the directories, once an inode stands at a dentry that was free
+pub is_directory-insert : (tree : Tree) (dentry : Dentry) (inode : Inode) (d : ℕ) → map.get tree dentry ≡ None
+    → is_directory (map.insert tree dentry inode) d ≡ (is_entry_of_directory d (dentry, inode) || is_directory tree d)
 unfolding is_directory
-is_directory-insert tree place inode d absent =
-    ap (λ es. (d == 1) || list_any (is_entry_of_directory d) es) (entries-insert place-total tree place inode)
-    ∙ ap (λ b. (d == 1) || b) (list_any-put place_cmp (is_entry_of_directory d) place inode (map.entries tree) (sym (get-entries tree place) ∙ absent))
-    ∙ or_swap (d == 1) (is_entry_of_directory d (place, inode)) (list_any (is_entry_of_directory d) (map.entries tree))
+is_directory-insert tree dentry inode d absent =
+    ap (λ es. (d == 1) || list_any (is_entry_of_directory d) es) (entries-insert dentry-total tree dentry inode)
+    ∙ ap (λ b. (d == 1) || b) (list_any-put dentry_cmp (is_entry_of_directory d) dentry inode (map.entries tree) (sym (get-entries tree dentry) ∙ absent))
+    ∙ or_swap (d == 1) (is_entry_of_directory d (dentry, inode)) (list_any (is_entry_of_directory d) (map.entries tree))
 
 no_entries : {A : Type 0} (es : List A) → length es ≡ 0 → es ≡ []
 no_entries [] none = refl
 no_entries (e ∷ es) none = absurd (omega arith)
 
 -- where nothing stands there is no entry
-pub entries-empty : map.entries (map.empty {K = Place} {X = Inode} {R = place_cmp}) ≡ []
-entries-empty = no_entries _ (sym (len-entries map.empty) ∙ len-empty place_cmp Inode)
+pub entries-empty : map.entries (map.empty {K = Dentry} {X = Inode} {R = dentry_cmp}) ≡ []
+entries-empty = no_entries _ (sym (len-entries map.empty) ∙ len-empty dentry_cmp Inode)
 
 -- where nothing stands only the root is a directory
 pub is_directory-empty : (d : ℕ) → is_directory map.empty d ≡ (d == 1)

@@ -7,36 +7,37 @@ use Rattle.std.specs.Ordering.{is_eq, eq_by_cmp}
 use Rattle.std.specs.FinMap as map
 use Rattle.std.specs.FinMap.{get-insert}
 use Rattle.mds_types.specs.declared.replies.Reply.TheVariants.{Errno}
-use Rattle.mds_types.specs.declared.places.Place.{Place}
+use Rattle.mds_types.specs.declared.dentries.Dentry.{Dentry}
+use Rattle.mds_types.specs.declared.attributes.Attributes.{Attributes}
 use Rattle.mds_types.specs.declared.inodes.Inode.{Inode}
 use Rattle.mds_types.specs.declared.inodes.Kind.{Kind}
 use Rattle.mds_types.specs.declared.inodes.Kind.TheVariants.{File, Dir, Symlink}
 use Rattle.mds_types.specs.declared.operations.Op.{Op}
 use Rattle.mds_types.specs.declared.operations.Op.TheVariants.{Lookup, Readdir, Create, Mkdir, Readlink, Symlink as MakeLink, Setattr, Unlink, Rmdir, Rename}
-use Rattle.mds_types.specs.Step.{Outcome, answers, new_size, directory_of, destination_of, found, made, new_inode, link_mode, read_link, size_errno, with_attributes, attributes_set, unless, unlinked, dir_removed, leads_to, replace_errno, renamed, within, step}
-use Rattle.mds_types.specs.Tree.{Tree, place_cmp, place_of, at, is_directory, is_dir_kind, has_entries, IsAbove, child, further, HasSize, IsWellFormed}
+use Rattle.mds_types.specs.Step.{Outcome, answers, new_size, directory_of, destination_of, found, made, new_inode, link_mode, read_link, size_errno, with_attributes, attributes_set, unless, unlinked, dir_removed, removal_errno, leads_to, replace_errno, renamed, within, step}
+use Rattle.mds_types.specs.Tree.{Tree, dentry_cmp, dentry_of, at, is_directory, is_dir_kind, has_entries, IsAbove, child, further, HasSize, IsWellFormed}
 use Rattle.mds_types.specs.TreeLaws.{is_directory-insert}
 use Rattle.sorted_map.specs.Bools.{or_second}
-use Rattle.mds_types.specs.PlaceLaws.{place-total, place-exact}
+use Rattle.mds_types.specs.OrderLaws.{dentry-total, dentry-exact}
 use Rattle.mds_types.specs.DirectoryLaws.{reaches_root, nothing_in_file, nothing_in_empty}
 use Rattle.mds_types.specs.AttributeLaws.{well-formed-changed}
 use Rattle.mds_types.specs.RemovedLaws.{well-formed-removed}
 use Rattle.mds_types.specs.MovedLaws.{well-formed-moved, may_move}
 
--- a new inode at a free place of a directory that stands
+-- a new inode at a free dentry of a directory that stands
 module _ (tree : Tree) (dir : ℕ) (new_name : List ℕ) (new : Inode) (free : at tree dir new_name ≡ None) where
   abbrev grown : Tree
-  grown = map.insert tree (place_of dir new_name) new
+  grown = map.insert tree (dentry_of dir new_name) new
 
-  at-grown : (d : ℕ) (name : List ℕ) → at grown d name ≡ cond (eq_by_cmp place_cmp (place_of d name) (place_of dir new_name)) (Some new) (at tree d name)
-  at-grown d name = get-insert place-total tree (place_of dir new_name) new (place_of d name)
+  at-grown : (d : ℕ) (name : List ℕ) → at grown d name ≡ cond (eq_by_cmp dentry_cmp (dentry_of d name) (dentry_of dir new_name)) (Some new) (at tree d name)
+  at-grown d name = get-insert dentry-total tree (dentry_of dir new_name) new (dentry_of d name)
 
   -- what stands in the grown tree is the new inode, or stood before
-  stands_by : (d : ℕ) (name : List ℕ) (inode : Inode) (b : Bool) → eq_by_cmp place_cmp (place_of d name) (place_of dir new_name) ≡ b → at grown d name ≡ Some inode
-      → ((place_of d name ≡ place_of dir new_name) × (new ≡ inode)) ⊎ (at tree d name ≡ Some inode)
+  stands_by : (d : ℕ) (name : List ℕ) (inode : Inode) (b : Bool) → eq_by_cmp dentry_cmp (dentry_of d name) (dentry_of dir new_name) ≡ b → at grown d name ≡ Some inode
+      → ((dentry_of d name ≡ dentry_of dir new_name) × (new ≡ inode)) ⊎ (at tree d name ≡ Some inode)
   stands_by d name inode true tied stands =
       let same : Some new ≡ Some inode = sym (at-grown d name ∙ ap (λ b. cond b (Some new) (at tree d name)) tied) ∙ stands in
-      inl (place-exact _ _ (tie (place_cmp (place_of d name) (place_of dir new_name)) tied), cc)
+      inl (dentry-exact _ _ (tie (dentry_cmp (dentry_of d name) (dentry_of dir new_name)) tied), cc)
     where
       tie : (r : Ordering) → is_eq r ≡ true → r ≡ Equal
       tie Less h = cc
@@ -44,13 +45,13 @@ module _ (tree : Tree) (dir : ℕ) (new_name : List ℕ) (new : Inode) (free : a
       tie Greater h = cc
   stands_by d name inode false apart stands = inr (sym (at-grown d name ∙ ap (λ b. cond b (Some new) (at tree d name)) apart) ∙ stands)
 
-  stands : (d : ℕ) (name : List ℕ) (inode : Inode) → at grown d name ≡ Some inode → ((place_of d name ≡ place_of dir new_name) × (new ≡ inode)) ⊎ (at tree d name ≡ Some inode)
+  stands : (d : ℕ) (name : List ℕ) (inode : Inode) → at grown d name ≡ Some inode → ((dentry_of d name ≡ dentry_of dir new_name) × (new ≡ inode)) ⊎ (at tree d name ≡ Some inode)
   stands d name inode h = stands_by d name inode _ refl h
 
   -- what stood before still stands
-  still_by : (d : ℕ) (name : List ℕ) (inode : Inode) (b : Bool) → eq_by_cmp place_cmp (place_of d name) (place_of dir new_name) ≡ b → at tree d name ≡ Some inode → at grown d name ≡ Some inode
+  still_by : (d : ℕ) (name : List ℕ) (inode : Inode) (b : Bool) → eq_by_cmp dentry_cmp (dentry_of d name) (dentry_of dir new_name) ≡ b → at tree d name ≡ Some inode → at grown d name ≡ Some inode
   still_by d name inode true tied stood =
-      let same : place_of d name ≡ place_of dir new_name = place-exact _ _ (tie (place_cmp (place_of d name) (place_of dir new_name)) tied) in
+      let same : dentry_of d name ≡ dentry_of dir new_name = dentry-exact _ _ (tie (dentry_cmp (dentry_of d name) (dentry_of dir new_name)) tied) in
       let nothing : None ≡ Some inode = sym free ∙ ap (λ p. map.get tree p) (sym same) ∙ stood in
       cc
     where
@@ -68,13 +69,13 @@ module _ (tree : Tree) (dir : ℕ) (new_name : List ℕ) (new : Inode) (free : a
   still_above d x (further m name inode above stood) = further m name inode (still_above d m above) (still m name inode stood)
 
   still_directory : (d : ℕ) → is_directory tree d ≡ true → is_directory grown d ≡ true
-  still_directory d here = is_directory-insert tree (place_of dir new_name) new d free ∙ or_second _ _ here
+  still_directory d here = is_directory-insert tree (dentry_of dir new_name) new d free ∙ or_second _ _ here
 
-  dir_is : (d : ℕ) (name : List ℕ) → place_of d name ≡ place_of dir new_name → d ≡ dir
-  dir_is d name same = ap (λ (p : Place). p.dir.0) same
+  dir_is : (d : ℕ) (name : List ℕ) → dentry_of d name ≡ dentry_of dir new_name → d ≡ dir
+  dir_is d name same = ap (λ (p : Dentry). p.dir.0) same
 
-  name_is : (d : ℕ) (name : List ℕ) → place_of d name ≡ place_of dir new_name → name ≡ new_name
-  name_is d name same = ap (λ (p : Place). p.name) same
+  name_is : (d : ℕ) (name : List ℕ) → dentry_of d name ≡ dentry_of dir new_name → name ≡ new_name
+  name_is d name same = ap (λ (p : Dentry). p.name) same
 
   -- the tree stays well formed where the number is neither the root's nor one that stands
   pub well-formed-grown : IsWellFormed tree → is_directory tree dir ≡ true → (new.ino.0 ≡ 1 → ⊥)
@@ -108,7 +109,7 @@ pub record IsUnused (tree : Tree) (n : ℕ) : Type 0 where
   pub not_there : (d : ℕ) (name : List ℕ) (inode : Inode) → at tree d name ≡ Some inode → inode.ino.0 ≡ n → ⊥
 
 made-well-formed : (tree : Tree) (dir : ℕ) (name : List ℕ) (inode : Inode) (other : Option Inode) → at tree dir name ≡ other → IsWellFormed tree → is_directory tree dir ≡ true
-    → ((made tree (place_of dir name) inode other).takes ≡ true → IsUnused tree inode.ino.0) → HasSize inode.kind inode.size → IsWellFormed (made tree (place_of dir name) inode other).tree
+    → ((made tree (dentry_of dir name) inode other).takes ≡ true → IsUnused tree inode.ino.0) → HasSize inode.kind inode.size → IsWellFormed (made tree (dentry_of dir name) inode other).tree
 made-well-formed tree dir name inode None free whole here unused sized = well-formed-grown tree dir name inode free whole here (unused refl).not_root (unused refl).not_there sized
 made-well-formed tree dir name inode (Some other) taken whole here unused sized = whole
 
@@ -141,49 +142,54 @@ either-well-formed : (b : Bool) (x y : Outcome) → (b ≡ true → IsWellFormed
 either-well-formed true x y h k = h refl
 either-well-formed false x y h k = k refl
 
-attributes-well-formed : (tree : Tree) (place : Place) (mode size mtime : Option ℕ) (other : Option Inode) → map.get tree place ≡ other → IsWellFormed tree
-    → IsWellFormed (attributes_set tree place mode size mtime other).tree
-attributes-well-formed tree place mode size mtime None is whole = whole
-attributes-well-formed tree place mode size mtime (Some inode) is whole =
-    unless-well-formed tree (size_errno inode.kind size) _ whole
-    (λ may. well-formed-changed tree place inode (with_attributes mode size mtime inode) is refl refl whole
-    (sized_still inode.kind size inode.size may (whole.sizes place.dir.0 place.name inode is)))
+attributes-well-formed : (tree : Tree) (dentry : Dentry) (given : Attributes) (other : Option Inode) → map.get tree dentry ≡ other → IsWellFormed tree
+    → IsWellFormed (attributes_set tree dentry given other).tree
+attributes-well-formed tree dentry given None is whole = whole
+attributes-well-formed tree dentry given (Some inode) is whole =
+    unless-well-formed tree (size_errno inode.kind given.size) _ whole
+    (λ may. well-formed-changed tree dentry inode (with_attributes given inode) is refl refl whole
+    (sized_still inode.kind given.size inode.size may (whole.sizes dentry.dir.0 dentry.name inode is)))
 
-unlinked-well-formed : (tree : Tree) (place : Place) (other : Option Inode) → map.get tree place ≡ other → IsWellFormed tree → IsWellFormed (unlinked tree place other).tree
-unlinked-well-formed tree place None is whole = whole
-unlinked-well-formed tree place (Some inode) is whole =
-    either-well-formed (is_dir_kind inode.kind) _ _ (λ dir. whole) (λ kinded. well-formed-removed tree place inode is (nothing_in_file tree place inode whole is kinded) whole)
+unlinked-well-formed : (tree : Tree) (dentry : Dentry) (other : Option Inode) → map.get tree dentry ≡ other → IsWellFormed tree → IsWellFormed (unlinked tree dentry other).tree
+unlinked-well-formed tree dentry None is whole = whole
+unlinked-well-formed tree dentry (Some inode) is whole =
+    either-well-formed (is_dir_kind inode.kind) _ _ (λ dir. whole) (λ kinded. well-formed-removed tree dentry inode is (nothing_in_file tree dentry inode whole is kinded) whole)
 
-dir_removed-well-formed : (tree : Tree) (place : Place) (other : Option Inode) → map.get tree place ≡ other → IsWellFormed tree → IsWellFormed (dir_removed tree place other).tree
-dir_removed-well-formed tree place None is whole = whole
-dir_removed-well-formed tree place (Some inode) is whole =
-    either-well-formed (is_dir_kind inode.kind) _ _
-    (λ dir. either-well-formed (has_entries tree inode.ino.0) _ _ (λ some. whole) (λ none. well-formed-removed tree place inode is (nothing_in_empty tree inode.ino.0 none) whole))
-    (λ other. whole)
+-- what may be taken away as a directory is one, and has no entry
+pub may_go : (dir some : Bool) → cond {A = Option ℕ} dir (cond some (Some 39) None) (Some 20) ≡ None → (dir ≡ true) × (some ≡ false)
+may_go true true none = cc
+may_go true false none = (refl, refl)
+may_go false some none = cc
 
-renamed-well-formed : (tree : Tree) (from to : Place) (source target : Option Inode) → map.get tree from ≡ source → map.get tree to ≡ target → IsWellFormed tree → is_directory tree to.dir.0 ≡ true
+dir_removed-well-formed : (tree : Tree) (dentry : Dentry) (other : Option Inode) → map.get tree dentry ≡ other → IsWellFormed tree → IsWellFormed (dir_removed tree dentry other).tree
+dir_removed-well-formed tree dentry None is whole = whole
+dir_removed-well-formed tree dentry (Some inode) is whole =
+    unless-well-formed tree (removal_errno tree inode) _ whole
+    (λ may. well-formed-removed tree dentry inode is (nothing_in_empty tree inode.ino.0 (may_go (is_dir_kind inode.kind) (has_entries tree inode.ino.0) may).1) whole)
+
+renamed-well-formed : (tree : Tree) (from to : Dentry) (source target : Option Inode) → map.get tree from ≡ source → map.get tree to ≡ target → IsWellFormed tree → is_directory tree to.dir.0 ≡ true
     → IsWellFormed (renamed tree from to source target).tree
 renamed-well-formed tree from to None target is there whole parent = whole
 renamed-well-formed tree from to (Some inode) target is there whole parent =
-    either-well-formed (eq_by_cmp place_cmp from to) _ _ (λ same. whole)
+    either-well-formed (eq_by_cmp dentry_cmp from to) _ _ (λ same. whole)
     (λ apart. either-well-formed (leads_to tree inode to.dir.0) _ _ (λ below. whole)
     (λ outside. unless-well-formed tree (replace_errno tree inode target) _ whole
     (λ replaces. well-formed-moved tree from to inode whole
     (may_move tree from to inode whole (record { stands = is; apart = apart; parent = parent; outside = outside; replaces = ap (replace_errno tree inode) there ∙ replaces })))))
 
 within-well-formed : (tree : Tree) (op : Op) (n : ℕ) → IsWellFormed tree → ((within tree op n).takes ≡ true → IsUnused tree n) → is_directory tree (directory_of op) ≡ true → is_directory tree (destination_of op) ≡ true → IsWellFormed (within tree op n).tree
-within-well-formed tree (Lookup dir name) n whole unused here there = found-well-formed tree (at tree dir.0 name) whole
+within-well-formed tree (Lookup dentry) n whole unused here there = found-well-formed tree (map.get tree dentry) whole
 within-well-formed tree (Readdir dir after max) n whole unused here there = whole
-within-well-formed tree (Create dir name mode mtime) n whole unused here there = made-well-formed tree dir.0 name (new_inode n File mode mtime) (at tree dir.0 name) refl whole here unused tt
-within-well-formed tree (Mkdir dir name mode mtime) n whole unused here there = made-well-formed tree dir.0 name (new_inode n Dir mode mtime) (at tree dir.0 name) refl whole here unused refl
-within-well-formed tree (Readlink dir name) n whole unused here there = read_link-well-formed tree (at tree dir.0 name) whole
-within-well-formed tree (MakeLink dir name target mtime) n whole unused here there =
-    made-well-formed tree dir.0 name (new_inode n (Symlink target) link_mode mtime) (at tree dir.0 name) refl whole here unused refl
-within-well-formed tree (Setattr dir name mode size mtime) n whole unused here there = attributes-well-formed tree (place_of dir.0 name) mode size mtime (at tree dir.0 name) refl whole
-within-well-formed tree (Unlink dir name) n whole unused here there = unlinked-well-formed tree (place_of dir.0 name) (at tree dir.0 name) refl whole
-within-well-formed tree (Rmdir dir name) n whole unused here there = dir_removed-well-formed tree (place_of dir.0 name) (at tree dir.0 name) refl whole
-within-well-formed tree (Rename dir name to_dir to_name) n whole unused here there =
-    renamed-well-formed tree (place_of dir.0 name) (place_of to_dir.0 to_name) (at tree dir.0 name) (at tree to_dir.0 to_name) refl refl whole there
+within-well-formed tree (Create dentry mode mtime) n whole unused here there = made-well-formed tree dentry.dir.0 dentry.name (new_inode n File mode mtime) (map.get tree dentry) refl whole here unused tt
+within-well-formed tree (Mkdir dentry mode mtime) n whole unused here there = made-well-formed tree dentry.dir.0 dentry.name (new_inode n Dir mode mtime) (map.get tree dentry) refl whole here unused refl
+within-well-formed tree (Readlink dentry) n whole unused here there = read_link-well-formed tree (map.get tree dentry) whole
+within-well-formed tree (MakeLink dentry target mtime) n whole unused here there =
+    made-well-formed tree dentry.dir.0 dentry.name (new_inode n (Symlink target) link_mode mtime) (map.get tree dentry) refl whole here unused refl
+within-well-formed tree (Setattr dentry given) n whole unused here there = attributes-well-formed tree dentry given (map.get tree dentry) refl whole
+within-well-formed tree (Unlink dentry) n whole unused here there = unlinked-well-formed tree dentry (map.get tree dentry) refl whole
+within-well-formed tree (Rmdir dentry) n whole unused here there = dir_removed-well-formed tree dentry (map.get tree dentry) refl whole
+within-well-formed tree (Rename from to) n whole unused here there =
+    renamed-well-formed tree from to (map.get tree from) (map.get tree to) refl refl whole there
 
 -- a step keeps the tree well formed, if the number that it takes, where it takes one, is unused
 pub step_keeps_well_formed : (tree : Tree) (op : Op) (n : ℕ) → IsWellFormed tree → ((step tree op n).takes ≡ true → IsUnused tree n) → IsWellFormed (step tree op n).tree
@@ -196,14 +202,14 @@ step_keeps_well_formed tree op n whole unused = go (is_directory tree (directory
     go false b here there takes = whole
 
 -- the tree with no entry is well formed
-pub well-formed-empty : (tree : Tree) → ((place : Place) → map.get tree place ≡ None) → IsWellFormed tree
+pub well-formed-empty : (tree : Tree) → ((dentry : Dentry) → map.get tree dentry ≡ None) → IsWellFormed tree
 well-formed-empty tree none = record {
-  rootless = λ d name inode h one. nothing (place_of d name) inode h;
-  once = λ d d' name name' inode inode' h h' same. absurd (nothing (place_of d name) inode h);
-  parents = λ d name inode h. absurd (nothing (place_of d name) inode h);
-  rooted = λ d name inode h. absurd (nothing (place_of d name) inode h);
-  sizes = λ d name inode h. absurd (nothing (place_of d name) inode h);
+  rootless = λ d name inode h one. nothing (dentry_of d name) inode h;
+  once = λ d d' name name' inode inode' h h' same. absurd (nothing (dentry_of d name) inode h);
+  parents = λ d name inode h. absurd (nothing (dentry_of d name) inode h);
+  rooted = λ d name inode h. absurd (nothing (dentry_of d name) inode h);
+  sizes = λ d name inode h. absurd (nothing (dentry_of d name) inode h);
 }
   where
-    nothing : (place : Place) (inode : Inode) → map.get tree place ≡ Some inode → ⊥
-    nothing place inode h = let clash : None ≡ Some inode = sym (none place) ∙ h in cc
+    nothing : (dentry : Dentry) (inode : Inode) → map.get tree dentry ≡ Some inode → ⊥
+    nothing dentry inode h = let clash : None ≡ Some inode = sym (none dentry) ∙ h in cc

@@ -1,6 +1,6 @@
 //! Directory fragments.
 ghost use Rattle.std.specs.Prelude.{◌≡◌, ℕ, ◌+◌, ◌-◌, ◌*◌, ◌/◌, ◌%◌, ◌^◌, ◌<◌, ◌≤◌, ◌↔◌, IsTrue, SomeIff, MatchOption, Some};
-ghost use Rattle.mds_types.specs.PlaceLaws.{frag-exact};
+ghost use Rattle.mds_types.specs.OrderLaws.{frag-exact};
 ghost use Rattle.mds_types.specs.Frag.{Fragment, IsFragment, root_fragment, word_of, Contains, ContainsFragment, child_of, parent_of, span, fragment_text};
 
 use sorted_map::ExactOrd;

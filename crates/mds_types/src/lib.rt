@@ -3,6 +3,8 @@
 //! from fragment arithmetic to the legal history, stand in `specs/`.
 #![tactic(auto)]
 
+mod attributes;
+mod dentries;
 mod entries;
 mod errno;
 mod frags;
@@ -15,12 +17,13 @@ mod names;
 mod object_names;
 mod operations;
 mod page_sizes;
-mod places;
 mod refusals;
 mod replies;
 mod requests;
 mod targets;
 
+pub use attributes::Attributes;
+pub use dentries::Dentry;
 pub use entries::Entry;
 pub use errno::{EEXIST, EINVAL, EISDIR, ENAMETOOLONG, ENOENT, ENOTDIR, ENOTEMPTY, ESTALE};
 pub use frags::Frag;
@@ -32,7 +35,6 @@ pub use names::{Name, NameFault};
 pub use object_names::ObjName;
 pub use operations::Op;
 pub use page_sizes::PageSize;
-pub use places::Place;
 pub use refusals::Refusal;
 pub use replies::Reply;
 pub use requests::Request;

@@ -1,6 +1,8 @@
 //! What a client asks for.
 ghost use Rattle.std.specs.Prelude.{◌≡◌, IfOk};
 
+use crate::attributes::Attributes;
+use crate::dentries::Dentry;
 use crate::ids::Ino;
 use crate::modes::Mode;
 use crate::names::Name;
@@ -8,15 +10,12 @@ use crate::page_sizes::PageSize;
 use crate::targets::Target;
 use std::alloc::AllocError;
 
-/// An operation on the tree. Each names the number of the directory that it works in, and a rename also that of the
-/// directory that it leads to.
+/// An operation on the tree. Each works in a directory, that of its dentry but for a `Readdir`; a rename leads to another
+/// one.
 #[derive(Clone, Debug, Drop, PartialEq, Eq)]
 pub enum Op {
-    /// The inode at a name.
-    Lookup {
-        dir: Ino,
-        name: Name,
-    },
+    /// The inode at a dentry.
+    Lookup(Dentry),
     /// The names greater than `after` (all, if none is given) with their inodes: the first `max` of them.
     Readdir {
         dir: Ino,
@@ -25,55 +24,38 @@ pub enum Op {
     },
     /// A new file of size 0.
     Create {
-        dir: Ino,
-        name: Name,
+        dentry: Dentry,
         mode: Mode,
         mtime: u64,
     },
     /// A new directory.
     Mkdir {
-        dir: Ino,
-        name: Name,
+        dentry: Dentry,
         mode: Mode,
         mtime: u64,
     },
-    /// What the link at a name points to.
-    Readlink {
-        dir: Ino,
-        name: Name,
-    },
+    /// What the link at a dentry points to.
+    Readlink(Dentry),
     /// A new symbolic link, of mode 777 and the size of its target.
     Symlink {
-        dir: Ino,
-        name: Name,
+        dentry: Dentry,
         target: Target,
         mtime: u64,
     },
-    /// Gives the inode at a name these attributes; what is not given stays. A size can be given to a file alone.
+    /// Gives the inode at a dentry these attributes; what is not given stays. A size can be given to a file alone.
     Setattr {
-        dir: Ino,
-        name: Name,
-        mode: Option<Mode>,
-        size: Option<u64>,
-        mtime: Option<u64>,
+        dentry: Dentry,
+        attributes: Attributes,
     },
     /// Takes away an entry that is no directory.
-    Unlink {
-        dir: Ino,
-        name: Name,
-    },
+    Unlink(Dentry),
     /// Takes away an empty directory.
-    Rmdir {
-        dir: Ino,
-        name: Name,
-    },
-    /// Moves an entry to another place. What stands there is replaced: a directory only by a directory, and only if it is
+    Rmdir(Dentry),
+    /// Moves an entry to another dentry. What stands there is replaced: a directory only by a directory, and only if it is
     /// empty; anything else only by what is no directory.
     Rename {
-        dir: Ino,
-        name: Name,
-        to_dir: Ino,
-        to_name: Name,
+        from: Dentry,
+        to: Dentry,
     },
 }
 
@@ -85,16 +67,16 @@ impl Op {
         ensures { result.0 ≡ directory_of self.now }
     {
         match self {
-            Op::Lookup { dir, .. }
-            | Op::Readdir { dir, .. }
-            | Op::Create { dir, .. }
-            | Op::Mkdir { dir, .. }
-            | Op::Readlink { dir, .. }
-            | Op::Symlink { dir, .. }
-            | Op::Setattr { dir, .. }
-            | Op::Unlink { dir, .. }
-            | Op::Rmdir { dir, .. }
-            | Op::Rename { dir, .. } => *dir,
+            Op::Readdir { dir, .. } => *dir,
+            Op::Lookup(dentry)
+            | Op::Create { dentry, .. }
+            | Op::Mkdir { dentry, .. }
+            | Op::Readlink(dentry)
+            | Op::Symlink { dentry, .. }
+            | Op::Setattr { dentry, .. }
+            | Op::Unlink(dentry)
+            | Op::Rmdir(dentry)
+            | Op::Rename { from: dentry, .. } => dentry.dir,
         }
     }
 
@@ -104,7 +86,7 @@ impl Op {
         ensures { result.0 ≡ destination_of self.now }
     {
         match self {
-            Op::Rename { to_dir, .. } => *to_dir,
+            Op::Rename { to, .. } => to.dir,
             other => other.dir(),
         }
     }

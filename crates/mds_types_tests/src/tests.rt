@@ -4,8 +4,8 @@ mod fragments;
 mod object_names;
 
 use mds_types::{
-    ENOENT, Entry, Ino, Inode, Kind, Listing, Mode, Name, NameFault, Op, Reply, Request, Target,
-    TargetFault,
+    Dentry, ENOENT, Entry, Ino, Inode, Kind, Listing, Mode, Name, NameFault, Op, Reply, Request,
+    Target, TargetFault,
 };
 use std::alloc::Global;
 use std::test::Fail;
@@ -91,10 +91,10 @@ fn listing(alloc: Global) -> Result<Listing, Fail> {
 }
 
 fn lookup(alloc: Global) -> Result<Op, Fail> {
-    Ok(Op::Lookup {
+    Ok(Op::Lookup(Dentry {
         dir: Ino(1),
         name: name(alloc)?,
-    })
+    }))
 }
 
 #[test]

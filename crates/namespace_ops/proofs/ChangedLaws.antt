@@ -4,13 +4,13 @@ use Rattle.std.specs.List.{Contains}
 use Rattle.std.specs.Ordering.{eq_by_cmp}
 use Rattle.std.specs.FinMap as map
 use Rattle.mds_types.specs.declared.ids.Ino.{Ino}
-use Rattle.mds_types.specs.declared.places.Place.{Place}
+use Rattle.mds_types.specs.declared.dentries.Dentry.{Dentry}
 use Rattle.mds_types.specs.declared.inodes.Inode.{Inode}
 use Rattle.mds_types.specs.declared.inodes.Kind.{Kind}
 use Rattle.mds_types.specs.declared.operations.Op.{Op}
 use Rattle.mds_types.specs.declared.operations.Op.TheVariants.{Lookup, Readdir, Create, Mkdir, Readlink, Symlink, Setattr, Unlink, Rmdir, Rename}
 use Rattle.mds_types.specs.Frag.{Fragment}
-use Rattle.mds_types.specs.Tree.{Tree, place_cmp, place_of, is_dir_kind, has_entries}
+use Rattle.mds_types.specs.Tree.{Tree, dentry_cmp, dentry_of, is_dir_kind, has_entries}
 use Rattle.mds_types.specs.Step.{step, replace_errno}
 use Rattle.mds_types.specs.StepLaws.{is_errno, errno_of_any_number}
 use Rattle.mds_types.specs.DirectoryLaws.{entries_there}
@@ -27,11 +27,11 @@ use Rattle.namespace_ops.specs.Checked.{Checks, IsChecked}
 use Rattle.namespace_ops.specs.Picks.{picked}
 use Rattle.namespace_ops.proofs.Members.{first_or_later, in_dir, later, leaves_apart, none_in, one_leaf, two_leaves}
 
-leaf_is : (covers : Covers) (place : Place) (leaf : Fragment) → IsLeafAt covers place leaf → (place.dir, leaf) ≡ fragment_of covers place.dir.0 place.name
-leaf_is covers place leaf pick = ap (in_directory place.dir.0) (sym (picked _ _ _ pick))
+leaf_is : (covers : Covers) (dentry : Dentry) (leaf : Fragment) → IsLeafAt covers dentry leaf → (dentry.dir, leaf) ≡ fragment_of covers dentry
+leaf_is covers dentry leaf pick = ap (in_directory dentry.dir.0) (sym (picked _ _ _ pick))
 
-leaf_at : (covers : Covers) (place p : Place) (leaf : Fragment) → p ≡ place → IsLeafAt covers p leaf → (p.dir, leaf) ≡ fragment_of covers place.dir.0 place.name
-leaf_at covers place p leaf same pick = leaf_is covers p leaf pick ∙ ap (λ (q : Place). fragment_of covers q.dir.0 q.name) same
+leaf_at : (covers : Covers) (dentry p : Dentry) (leaf : Fragment) → p ≡ dentry → IsLeafAt covers p leaf → (p.dir, leaf) ≡ fragment_of covers dentry
+leaf_at covers dentry p leaf same pick = leaf_is covers p leaf pick ∙ ap (fragment_of covers) same
 
 gone_leaves : (covers : Covers) (found : Option Inode) (gone : Option Ino) → gone ≡ directory_at found → leaves_gone covers gone ≡ leaves_at covers found
 gone_leaves covers None gone is = ap (leaves_gone covers) is
@@ -42,94 +42,94 @@ gone_leaves covers (Some inode) gone is = ap (leaves_gone covers) is ∙ go (is_
     go false = refl
 
 module _ (tree : Tree) (covers : Covers) where
-  of_add : (place : Place) (kind : Kind) (change : Change) → IsAddAt place kind change → Carries tree covers change → fragments_of covers change ≡ fragment_of covers place.dir.0 place.name ∷ []
-  of_add place kind (Add p leaf inode) at_place carries = ap (λ l. l ∷ []) (leaf_at covers place p leaf at_place.0 carries)
-  of_add place kind (Set p leaf inode) at_place carries = absurd at_place
-  of_add place kind (Remove p leaf gone) at_place carries = absurd at_place
-  of_add place kind (Move from source to target gone) at_place carries = absurd at_place
+  of_add : (dentry : Dentry) (kind : Kind) (change : Change) → IsAddAt dentry kind change → Carries tree covers change → fragments_of covers change ≡ fragment_of covers dentry ∷ []
+  of_add dentry kind (Add p leaf inode) at_dentry carries = ap (λ l. l ∷ []) (leaf_at covers dentry p leaf at_dentry.0 carries)
+  of_add dentry kind (Set p leaf inode) at_dentry carries = absurd at_dentry
+  of_add dentry kind (Remove p leaf gone) at_dentry carries = absurd at_dentry
+  of_add dentry kind (Move from source to target gone) at_dentry carries = absurd at_dentry
 
-  of_set : (place : Place) (change : Change) → IsSetAt place change → Carries tree covers change → fragments_of covers change ≡ fragment_of covers place.dir.0 place.name ∷ []
-  of_set place (Add p leaf inode) at_place carries = absurd at_place
-  of_set place (Set p leaf inode) at_place carries = ap (λ l. l ∷ []) (leaf_at covers place p leaf at_place carries)
-  of_set place (Remove p leaf gone) at_place carries = absurd at_place
-  of_set place (Move from source to target gone) at_place carries = absurd at_place
+  of_set : (dentry : Dentry) (change : Change) → IsSetAt dentry change → Carries tree covers change → fragments_of covers change ≡ fragment_of covers dentry ∷ []
+  of_set dentry (Add p leaf inode) at_dentry carries = absurd at_dentry
+  of_set dentry (Set p leaf inode) at_dentry carries = ap (λ l. l ∷ []) (leaf_at covers dentry p leaf at_dentry carries)
+  of_set dentry (Remove p leaf gone) at_dentry carries = absurd at_dentry
+  of_set dentry (Move from source to target gone) at_dentry carries = absurd at_dentry
 
-  of_unlink : (place : Place) (change : Change) → IsUnlinkAt place change → Carries tree covers change → fragments_of covers change ≡ fragment_of covers place.dir.0 place.name ∷ []
-  of_unlink place (Add p leaf inode) at_place carries = absurd at_place
-  of_unlink place (Set p leaf inode) at_place carries = absurd at_place
-  of_unlink place (Remove p leaf gone) at_place carries = λ i. leaf_at covers place p leaf at_place.0 carries.0 i ∷ leaves_gone covers (at_place.1 i)
-  of_unlink place (Move from source to target gone) at_place carries = absurd at_place
+  of_unlink : (dentry : Dentry) (change : Change) → IsUnlinkAt dentry change → Carries tree covers change → fragments_of covers change ≡ fragment_of covers dentry ∷ []
+  of_unlink dentry (Add p leaf inode) at_dentry carries = absurd at_dentry
+  of_unlink dentry (Set p leaf inode) at_dentry carries = absurd at_dentry
+  of_unlink dentry (Remove p leaf gone) at_dentry carries = λ i. leaf_at covers dentry p leaf at_dentry.0 carries.0 i ∷ leaves_gone covers (at_dentry.1 i)
+  of_unlink dentry (Move from source to target gone) at_dentry carries = absurd at_dentry
 
-  of_removal : (place : Place) (change : Change) → IsRemovalAt place change → Carries tree covers change → fragments_of covers change ≡ fragment_of covers place.dir.0 place.name ∷ leaves_at covers (map.get tree place)
-  of_removal place (Add p leaf inode) at_place carries = absurd at_place
-  of_removal place (Set p leaf inode) at_place carries = absurd at_place
-  of_removal place (Remove p leaf gone) at_place carries =
-      let there = gone_leaves covers (map.get tree place) gone (carries.1 ∙ ap (λ q. directory_at (map.get tree q)) at_place) in
-      λ i. leaf_at covers place p leaf at_place carries.0 i ∷ there i
-  of_removal place (Move from source to target gone) at_place carries = absurd at_place
+  of_removal : (dentry : Dentry) (change : Change) → IsRemovalAt dentry change → Carries tree covers change → fragments_of covers change ≡ fragment_of covers dentry ∷ leaves_at covers (map.get tree dentry)
+  of_removal dentry (Add p leaf inode) at_dentry carries = absurd at_dentry
+  of_removal dentry (Set p leaf inode) at_dentry carries = absurd at_dentry
+  of_removal dentry (Remove p leaf gone) at_dentry carries =
+      let there = gone_leaves covers (map.get tree dentry) gone (carries.1 ∙ ap (λ q. directory_at (map.get tree q)) at_dentry) in
+      λ i. leaf_at covers dentry p leaf at_dentry carries.0 i ∷ there i
+  of_removal dentry (Move from source to target gone) at_dentry carries = absurd at_dentry
 
-  of_move : (here there : Place) (change : Change) → IsMoveTo here there change → Carries tree covers change
-      → fragments_of covers change ≡ fragment_of covers here.dir.0 here.name ∷ fragment_of covers there.dir.0 there.name ∷ leaves_at covers (map.get tree there)
-  of_move here there (Add p leaf inode) at_place carries = absurd at_place
-  of_move here there (Set p leaf inode) at_place carries = absurd at_place
-  of_move here there (Remove p leaf gone) at_place carries = absurd at_place
-  of_move here there (Move from source to target gone) at_place carries =
-      let rest = gone_leaves covers (map.get tree there) gone (carries.2 ∙ ap (λ q. directory_at (map.get tree q)) at_place.1) in
-      λ i. leaf_at covers here from source at_place.0 carries.0 i ∷ leaf_at covers there to target at_place.1 carries.1 i ∷ rest i
+  of_move : (here there : Dentry) (change : Change) → IsMoveTo here there change → Carries tree covers change
+      → fragments_of covers change ≡ fragment_of covers here ∷ fragment_of covers there ∷ leaves_at covers (map.get tree there)
+  of_move here there (Add p leaf inode) at_dentry carries = absurd at_dentry
+  of_move here there (Set p leaf inode) at_dentry carries = absurd at_dentry
+  of_move here there (Remove p leaf gone) at_dentry carries = absurd at_dentry
+  of_move here there (Move from source to target gone) at_dentry carries =
+      let rest = gone_leaves covers (map.get tree there) gone (carries.2 ∙ ap (λ q. directory_at (map.get tree q)) at_dentry.1) in
+      λ i. leaf_at covers here from source at_dentry.0 carries.0 i ∷ leaf_at covers there to target at_dentry.1 carries.1 i ∷ rest i
 
   -- the fragments of a change are those that its operation touches
   touched_by : (op : Op) (change : Change) → IsChangeOf op change → Carries tree covers change → stays op ≡ false → fragments_of covers change ≡ touched covers tree op
-  touched_by (Lookup dir name) change one_of carries moves = absurd one_of
+  touched_by (Lookup dentry) change one_of carries moves = absurd one_of
   touched_by (Readdir dir after max) change one_of carries moves = absurd one_of
-  touched_by (Readlink dir name) change one_of carries moves = absurd one_of
-  touched_by (Create dir name mode mtime) change one_of carries moves = of_add (place_of dir.0 name) _ change one_of carries
-  touched_by (Mkdir dir name mode mtime) change one_of carries moves = of_add (place_of dir.0 name) _ change one_of carries
-  touched_by (Symlink dir name target mtime) change one_of carries moves = of_add (place_of dir.0 name) _ change one_of carries
-  touched_by (Setattr dir name mode size mtime) change one_of carries moves = of_set (place_of dir.0 name) change one_of carries
-  touched_by (Unlink dir name) change one_of carries moves = of_unlink (place_of dir.0 name) change one_of carries
-  touched_by (Rmdir dir name) change one_of carries moves = of_removal (place_of dir.0 name) change one_of carries
-  touched_by (Rename dir name to_dir to_name) change one_of carries moves =
-      of_move (place_of dir.0 name) (place_of to_dir.0 to_name) change one_of carries
-      ∙ sym (ap (λ b. cond b [] (fragment_of covers dir.0 name ∷ fragment_of covers to_dir.0 to_name ∷ leaves_at covers (map.get tree (place_of to_dir.0 to_name)))) moves)
+  touched_by (Readlink dentry) change one_of carries moves = absurd one_of
+  touched_by (Create dentry mode mtime) change one_of carries moves = of_add dentry _ change one_of carries
+  touched_by (Mkdir dentry mode mtime) change one_of carries moves = of_add dentry _ change one_of carries
+  touched_by (Symlink dentry target mtime) change one_of carries moves = of_add dentry _ change one_of carries
+  touched_by (Setattr dentry given) change one_of carries moves = of_set dentry change one_of carries
+  touched_by (Unlink dentry) change one_of carries moves = of_unlink dentry change one_of carries
+  touched_by (Rmdir dentry) change one_of carries moves = of_removal dentry change one_of carries
+  touched_by (Rename from to) change one_of carries moves =
+      of_move from to change one_of carries
+      ∙ sym (ap (λ b. cond b [] (fragment_of covers from ∷ fragment_of covers to ∷ leaves_at covers (map.get tree to))) moves)
 
-  move_apart : (here there : Place) (change : Change) → IsMoveTo here there change → Takes tree change → eq_by_cmp place_cmp here there ≡ false
-  move_apart here there (Add p leaf inode) at_place takes = absurd at_place
-  move_apart here there (Set p leaf inode) at_place takes = absurd at_place
-  move_apart here there (Remove p leaf gone) at_place takes = absurd at_place
-  move_apart here there (Move from source to target gone) at_place takes = (λ i. eq_by_cmp place_cmp (sym at_place.0 i) (sym at_place.1 i)) ∙ takes.1.apart
+  move_apart : (here there : Dentry) (change : Change) → IsMoveTo here there change → Takes tree change → eq_by_cmp dentry_cmp here there ≡ false
+  move_apart here there (Add p leaf inode) at_dentry takes = absurd at_dentry
+  move_apart here there (Set p leaf inode) at_dentry takes = absurd at_dentry
+  move_apart here there (Remove p leaf gone) at_dentry takes = absurd at_dentry
+  move_apart here there (Move from source to target gone) at_dentry takes = (λ i. eq_by_cmp dentry_cmp (sym at_dentry.0 i) (sym at_dentry.1 i)) ∙ takes.1.apart
 
-  new_or_not : (change : Change) → ((is_new change ≡ false) → Takes tree change) → (here there : Place) → IsMoveTo here there change → Takes tree change
-  new_or_not (Add p leaf inode) takes here there at_place = absurd at_place
-  new_or_not (Set p leaf inode) takes here there at_place = absurd at_place
-  new_or_not (Remove p leaf gone) takes here there at_place = absurd at_place
-  new_or_not (Move from source to target gone) takes here there at_place = takes refl
+  new_or_not : (change : Change) → ((is_new change ≡ false) → Takes tree change) → (here there : Dentry) → IsMoveTo here there change → Takes tree change
+  new_or_not (Add p leaf inode) takes here there at_dentry = absurd at_dentry
+  new_or_not (Set p leaf inode) takes here there at_dentry = absurd at_dentry
+  new_or_not (Remove p leaf gone) takes here there at_dentry = absurd at_dentry
+  new_or_not (Move from source to target gone) takes here there at_dentry = takes refl
 
   -- an operation that makes a change doesn't stay
   moves_by : (op : Op) (change : Change) → IsChangeOf op change → ((is_new change ≡ false) → Takes tree change) → stays op ≡ false
-  moves_by (Lookup dir name) change one_of takes = absurd one_of
+  moves_by (Lookup dentry) change one_of takes = absurd one_of
   moves_by (Readdir dir after max) change one_of takes = absurd one_of
-  moves_by (Readlink dir name) change one_of takes = absurd one_of
-  moves_by (Create dir name mode mtime) change one_of takes = refl
-  moves_by (Mkdir dir name mode mtime) change one_of takes = refl
-  moves_by (Symlink dir name target mtime) change one_of takes = refl
-  moves_by (Setattr dir name mode size mtime) change one_of takes = refl
-  moves_by (Unlink dir name) change one_of takes = refl
-  moves_by (Rmdir dir name) change one_of takes = refl
-  moves_by (Rename dir name to_dir to_name) change one_of takes =
-      move_apart (place_of dir.0 name) (place_of to_dir.0 to_name) change one_of (new_or_not change takes (place_of dir.0 name) (place_of to_dir.0 to_name) one_of)
+  moves_by (Readlink dentry) change one_of takes = absurd one_of
+  moves_by (Create dentry mode mtime) change one_of takes = refl
+  moves_by (Mkdir dentry mode mtime) change one_of takes = refl
+  moves_by (Symlink dentry target mtime) change one_of takes = refl
+  moves_by (Setattr dentry given) change one_of takes = refl
+  moves_by (Unlink dentry) change one_of takes = refl
+  moves_by (Rmdir dentry) change one_of takes = refl
+  moves_by (Rename from to) change one_of takes =
+      move_apart from to change one_of (new_or_not change takes from to one_of)
 
   stays_none : (op : Op) → stays op ≡ true → touched covers tree op ≡ []
-  stays_none (Lookup dir name) idle = refl
+  stays_none (Lookup dentry) idle = refl
   stays_none (Readdir dir after max) idle = refl
-  stays_none (Readlink dir name) idle = refl
-  stays_none (Create dir name mode mtime) idle = cc
-  stays_none (Mkdir dir name mode mtime) idle = cc
-  stays_none (Symlink dir name target mtime) idle = cc
-  stays_none (Setattr dir name mode size mtime) idle = cc
-  stays_none (Unlink dir name) idle = cc
-  stays_none (Rmdir dir name) idle = cc
-  stays_none (Rename dir name to_dir to_name) idle =
-      ap (λ b. cond b [] (fragment_of covers dir.0 name ∷ fragment_of covers to_dir.0 to_name ∷ leaves_at covers (map.get tree (place_of to_dir.0 to_name)))) idle
+  stays_none (Readlink dentry) idle = refl
+  stays_none (Create dentry mode mtime) idle = cc
+  stays_none (Mkdir dentry mode mtime) idle = cc
+  stays_none (Symlink dentry target mtime) idle = cc
+  stays_none (Setattr dentry given) idle = cc
+  stays_none (Unlink dentry) idle = cc
+  stays_none (Rmdir dentry) idle = cc
+  stays_none (Rename from to) idle =
+      ap (λ b. cond b [] (fragment_of covers from ∷ fragment_of covers to ∷ leaves_at covers (map.get tree to))) idle
 
   -- an operation that changes nothing has no changed fragments
   pub idle_none : (op : Op) (n : ℕ) → is_idle op (step tree op n).reply ≡ true → changed_fragments covers tree op ≡ []
@@ -171,11 +171,11 @@ IsBare tree (Some dir) = has_entries tree dir.0 ≡ false
 
 module _ (tree : Tree) (covers : Covers) where
   -- a leaf of an entry is none of a directory that goes
-  beside_gone : (place : Place) (inode : Inode) (leaf : Fragment) (gone : Option Ino) → map.get tree place ≡ Some inode → IsBare tree gone → Contains (leaves_gone covers gone) (place.dir, leaf) → ⊥
-  beside_gone place inode leaf None stands bare has = none_in _ has
-  beside_gone place inode leaf (Some dir) stands bare has =
-      let same = in_dir dir.0 (leaves_of covers dir.0) (place.dir, leaf) has in
-      let clash : true ≡ false = sym (entries_there tree place inode stands) ∙ ap (has_entries tree) same ∙ bare in
+  beside_gone : (dentry : Dentry) (inode : Inode) (leaf : Fragment) (gone : Option Ino) → map.get tree dentry ≡ Some inode → IsBare tree gone → Contains (leaves_gone covers gone) (dentry.dir, leaf) → ⊥
+  beside_gone dentry inode leaf None stands bare has = none_in _ has
+  beside_gone dentry inode leaf (Some dir) stands bare has =
+      let same = in_dir dir.0 (leaves_of covers dir.0) (dentry.dir, leaf) has in
+      let clash : true ≡ false = sym (entries_there tree dentry inode stands) ∙ ap (has_entries tree) same ∙ bare in
       cc
 
   gone_apart : (gone : Option Ino) → IsCovered covers gone → AreApart (leaves_gone covers gone)
@@ -231,11 +231,11 @@ module _ (tree : Tree) (covers : Covers) where
       go false is = itself (a ∷ b ∷ rest) (λ has. ⊎_elim (λ e. two_leaves a b is (sym e)) a_not (first_or_later b a rest has), (b_not, apart))
 
   pub named_apart : (change : Change) → Carries tree covers change → (is_new change ≡ false → Takes tree change) → IsCovered covers (gone_with change) → NamesOnce (fragments_of covers change) (named_once covers change)
-  named_apart (Add place leaf inode) carries takes covered = itself _ (none_in _, tt)
-  named_apart (Set place leaf inode) carries takes covered = itself _ (none_in _, tt)
-  named_apart (Remove place leaf gone) carries takes covered =
+  named_apart (Add dentry leaf inode) carries takes covered = itself _ (none_in _, tt)
+  named_apart (Set dentry leaf inode) carries takes covered = itself _ (none_in _, tt)
+  named_apart (Remove dentry leaf gone) carries takes covered =
       let may = takes refl in
-      itself _ (beside_gone place may.inode leaf gone may.stands (bare_by (map.get tree place) gone carries.1 (λ inode is kinded. removed_bare may.inode inode (sym may.stands ∙ is) may.empty kinded)), gone_apart gone covered)
+      itself _ (beside_gone dentry may.inode leaf gone may.stands (bare_by (map.get tree dentry) gone carries.1 (λ inode is kinded. removed_bare may.inode inode (sym may.stands ∙ is) may.empty kinded)), gone_apart gone covered)
     where
       removed_bare : (there inode : Inode) → ◌≡◌ {A = Option Inode} (Some there) (Some inode) → (is_dir_kind there.kind && has_entries tree there.ino.0) ≡ false → is_dir_kind inode.kind ≡ true → has_entries tree inode.ino.0 ≡ false
       removed_bare there inode is none kinded =

@@ -3,7 +3,8 @@ use Rattle.std.proofs.Common.{◌≡◌, ℕ, Bool, true, false, not, cond, ◌&
 use Rattle.std.specs.Ordering.{eq_by_cmp}
 use Rattle.std.specs.FinMap as map
 use Rattle.mds_types.specs.declared.ids.Ino.{Ino}
-use Rattle.mds_types.specs.declared.places.Place.{Place}
+use Rattle.mds_types.specs.declared.dentries.Dentry.{Dentry}
+use Rattle.mds_types.specs.declared.attributes.Attributes.{Attributes}
 use Rattle.mds_types.specs.declared.inodes.Inode.{Inode}
 use Rattle.mds_types.specs.declared.inodes.Kind.{Kind}
 use Rattle.mds_types.specs.declared.inodes.Kind.TheVariants.{File, Dir, Symlink as Link}
@@ -11,9 +12,9 @@ use Rattle.mds_types.specs.declared.operations.Op.{Op}
 use Rattle.mds_types.specs.declared.refusals.Refusal.{Refusal}
 use Rattle.mds_types.specs.declared.replies.Reply.TheVariants.{Done, Entry, Errno}
 use Rattle.mds_types.specs.Frag.{Fragment}
-use Rattle.mds_types.specs.Tree.{Tree, place_cmp, is_directory, is_dir_kind, has_entries}
-use Rattle.mds_types.specs.Step.{Outcome, answers, attributes_set, dir_removed, leads_to, made, new_inode, renamed, replace_errno, size_errno, unless, unlinked, with_attributes, with_moved, within}
-use Rattle.mds_types.specs.WellFormedLaws.{new_sized}
+use Rattle.mds_types.specs.Tree.{Tree, dentry_cmp, is_directory, is_dir_kind, has_entries}
+use Rattle.mds_types.specs.Step.{Outcome, answers, attributes_set, dir_removed, removal_errno, leads_to, made, new_inode, renamed, replace_errno, size_errno, unless, unlinked, with_attributes, with_moved, within}
+use Rattle.mds_types.specs.WellFormedLaws.{new_sized, may_go}
 use Rattle.inode_table.specs.Dirs.{Covers}
 use Rattle.namespace_ops.specs.declared.plans.Checked.{Checked}
 use Rattle.namespace_ops.specs.declared.plans.Change.TheVariants.{Add, Set, Remove, Move}
@@ -39,12 +40,12 @@ pub none_clash : (b : Bool) → b ≡ true → b ≡ false → ⊥
 none_clash b held failed = let clash : true ≡ false = sym held ∙ failed in cc
 
 module _ (tree : Tree) (covers : Covers) (op : Op) (n : ℕ) where
-  pub made_checked : (place p : Place) (leaf : Fragment) (kind : Kind) (mode mtime : ℕ) (inode : Inode) → p ≡ place → inode ≡ new_inode n kind mode mtime → map.get tree place ≡ None → is_directory tree place.dir.0 ≡ true → IsLeafAt covers place leaf
-      → ((l : Fragment) (i : Inode) → i.kind ≡ kind → IsChangeOf op (Add place l i)) → IsChecked tree covers op n (made tree place (new_inode n kind mode mtime) (map.get tree place)) (Add p leaf inode)
-  made_checked place p leaf kind mode mtime inode same is free here pick makes =
-      subst (λ q. IsChecked tree covers op n (made tree place new (map.get tree place)) (Add q leaf inode)) (sym same)
-      (subst (λ i. IsChecked tree covers op n (made tree place new (map.get tree place)) (Add place leaf i)) (sym is)
-      (subst (λ o. IsChecked tree covers op n (made tree place new o) (Add place leaf new)) (sym free) (record {
+  pub made_checked : (dentry p : Dentry) (leaf : Fragment) (kind : Kind) (mode mtime : ℕ) (inode : Inode) → p ≡ dentry → inode ≡ new_inode n kind mode mtime → map.get tree dentry ≡ None → is_directory tree dentry.dir.0 ≡ true → IsLeafAt covers dentry leaf
+      → ((l : Fragment) (i : Inode) → i.kind ≡ kind → IsChangeOf op (Add dentry l i)) → IsChecked tree covers op n (made tree dentry (new_inode n kind mode mtime) (map.get tree dentry)) (Add p leaf inode)
+  made_checked dentry p leaf kind mode mtime inode same is free here pick makes =
+      subst (λ q. IsChecked tree covers op n (made tree dentry new (map.get tree dentry)) (Add q leaf inode)) (sym same)
+      (subst (λ i. IsChecked tree covers op n (made tree dentry new (map.get tree dentry)) (Add dentry leaf i)) (sym is)
+      (subst (λ o. IsChecked tree covers op n (made tree dentry new o) (Add dentry leaf new)) (sym free) (record {
         one_of = makes leaf new refl;
         replied = refl;
         leads = refl;
@@ -56,29 +57,29 @@ module _ (tree : Tree) (covers : Covers) (op : Op) (n : ℕ) where
       new : Inode
       new = new_inode n kind mode mtime
 
-  pub set_checked : (place p : Place) (leaf : Fragment) (mode size mtime : Option ℕ) (before inode : Inode) → p ≡ place → inode ≡ with_attributes mode size mtime before → map.get tree place ≡ Some before → size_errno before.kind size ≡ None → IsLeafAt covers place leaf
-      → ((l : Fragment) (i : Inode) → IsChangeOf op (Set place l i)) → IsChecked tree covers op n (attributes_set tree place mode size mtime (map.get tree place)) (Set p leaf inode)
-  set_checked place p leaf mode size mtime before inode same is stands allowed pick sets =
-      subst (λ q. IsChecked tree covers op n (attributes_set tree place mode size mtime (map.get tree place)) (Set q leaf inode)) (sym same)
-      (subst (λ i. IsChecked tree covers op n (attributes_set tree place mode size mtime (map.get tree place)) (Set place leaf i)) (sym is)
-      (subst (λ o. IsChecked tree covers op n (attributes_set tree place mode size mtime o) (Set place leaf later)) (sym stands)
-      (subst (λ e. IsChecked tree covers op n (unless tree e (answers (map.insert tree place later) (Entry later))) (Set place leaf later)) (sym allowed) (record {
+  pub set_checked : (dentry p : Dentry) (leaf : Fragment) (given : Attributes) (before inode : Inode) → p ≡ dentry → inode ≡ with_attributes given before → map.get tree dentry ≡ Some before → size_errno before.kind given.size ≡ None → IsLeafAt covers dentry leaf
+      → ((l : Fragment) (i : Inode) → IsChangeOf op (Set dentry l i)) → IsChecked tree covers op n (attributes_set tree dentry given (map.get tree dentry)) (Set p leaf inode)
+  set_checked dentry p leaf given before inode same is stands allowed pick sets =
+      subst (λ q. IsChecked tree covers op n (attributes_set tree dentry given (map.get tree dentry)) (Set q leaf inode)) (sym same)
+      (subst (λ i. IsChecked tree covers op n (attributes_set tree dentry given (map.get tree dentry)) (Set dentry leaf i)) (sym is)
+      (subst (λ o. IsChecked tree covers op n (attributes_set tree dentry given o) (Set dentry leaf later)) (sym stands)
+      (subst (λ e. IsChecked tree covers op n (unless tree e (answers (map.insert tree dentry later) (Entry later))) (Set dentry leaf later)) (sym allowed) (record {
         one_of = sets leaf later;
         replied = refl;
         leads = refl;
         number = refl;
         carries = pick;
-        takes = λ unused. record { before = before; mode = mode; size = size; mtime = mtime; stands = stands; allowed = allowed; is = refl };
+        takes = λ unused. record { before = before; given = given; stands = stands; allowed = allowed; is = refl };
       }))))
     where
       later : Inode
-      later = with_attributes mode size mtime before
+      later = with_attributes given before
 
-  removed : (place p : Place) (leaf : Fragment) (inode : Inode) (gone : Option Ino) (outcome : Outcome) → p ≡ place → map.get tree place ≡ Some inode → (is_dir_kind inode.kind && has_entries tree inode.ino.0) ≡ false → gone ≡ directory_at (Some inode)
-      → IsLeafAt covers place leaf → IsChangeOf op (Remove place leaf gone) → outcome ≡ answers (map.remove tree place) Done → IsChecked tree covers op n outcome (Remove p leaf gone)
-  removed place p leaf inode gone outcome same stands empty is pick removes comes =
+  removed : (dentry p : Dentry) (leaf : Fragment) (inode : Inode) (gone : Option Ino) (outcome : Outcome) → p ≡ dentry → map.get tree dentry ≡ Some inode → (is_dir_kind inode.kind && has_entries tree inode.ino.0) ≡ false → gone ≡ directory_at (Some inode)
+      → IsLeafAt covers dentry leaf → IsChangeOf op (Remove dentry leaf gone) → outcome ≡ answers (map.remove tree dentry) Done → IsChecked tree covers op n outcome (Remove p leaf gone)
+  removed dentry p leaf inode gone outcome same stands empty is pick removes comes =
       subst (λ q. IsChecked tree covers op n outcome (Remove q leaf gone)) (sym same)
-      (subst (λ o. IsChecked tree covers op n o (Remove place leaf gone)) (sym comes) (record {
+      (subst (λ o. IsChecked tree covers op n o (Remove dentry leaf gone)) (sym comes) (record {
         one_of = removes;
         replied = refl;
         leads = refl;
@@ -87,39 +88,43 @@ module _ (tree : Tree) (covers : Covers) (op : Op) (n : ℕ) where
         takes = λ unused. record { inode = inode; stands = stands; empty = empty };
       }))
 
-  pub unlinked_checked : (place p : Place) (leaf : Fragment) (inode : Inode) → p ≡ place → map.get tree place ≡ Some inode → is_dir_kind inode.kind ≡ false → IsLeafAt covers place leaf → ((l : Fragment) → IsChangeOf op (Remove place l None))
-      → IsChecked tree covers op n (unlinked tree place (map.get tree place)) (Remove p leaf None)
-  unlinked_checked place p leaf inode same stands file pick removes =
-      removed place p leaf inode None _ same stands (ap (λ b. b && has_entries tree inode.ino.0) file) (sym (ap (λ b. cond b (Some inode.ino) None) file)) pick (removes leaf)
-      (ap (unlinked tree place) stands ∙ ap (λ b. cond b (answers tree (Errno 21)) (answers (map.remove tree place) Done)) file)
+  pub unlinked_checked : (dentry p : Dentry) (leaf : Fragment) (inode : Inode) → p ≡ dentry → map.get tree dentry ≡ Some inode → is_dir_kind inode.kind ≡ false → IsLeafAt covers dentry leaf → ((l : Fragment) → IsChangeOf op (Remove dentry l None))
+      → IsChecked tree covers op n (unlinked tree dentry (map.get tree dentry)) (Remove p leaf None)
+  unlinked_checked dentry p leaf inode same stands file pick removes =
+      removed dentry p leaf inode None _ same stands (ap (λ b. b && has_entries tree inode.ino.0) file) (sym (ap (λ b. cond b (Some inode.ino) None) file)) pick (removes leaf)
+      (ap (unlinked tree dentry) stands ∙ ap (λ b. cond b (answers tree (Errno 21)) (answers (map.remove tree dentry) Done)) file)
 
-  pub dir_checked : (place p : Place) (leaf : Fragment) (inode : Inode) → p ≡ place → map.get tree place ≡ Some inode → is_dir_kind inode.kind ≡ true → has_entries tree inode.ino.0 ≡ false → IsLeafAt covers place leaf
-      → ((l : Fragment) (g : Option Ino) → IsChangeOf op (Remove place l g)) → IsChecked tree covers op n (dir_removed tree place (map.get tree place)) (Remove p leaf (Some inode.ino))
-  dir_checked place p leaf inode same stands kinded empty pick removes =
-      removed place p leaf inode (Some inode.ino) _ same stands (ap (λ b. b && has_entries tree inode.ino.0) kinded ∙ empty) (sym (ap (λ b. cond b (Some inode.ino) None) kinded)) pick (removes leaf (Some inode.ino))
-      (ap (dir_removed tree place) stands
-      ∙ ap (λ b. cond b (cond (has_entries tree inode.ino.0) (answers tree (Errno 39)) (answers (map.remove tree place) Done)) (answers tree (Errno 20))) kinded
-      ∙ ap (λ b. cond b (answers tree (Errno 39)) (answers (map.remove tree place) Done)) empty)
+  pub dir_checked : (dentry p : Dentry) (leaf : Fragment) (inode : Inode) → p ≡ dentry → map.get tree dentry ≡ Some inode → removal_errno tree inode ≡ None → IsLeafAt covers dentry leaf
+      → ((l : Fragment) (g : Option Ino) → IsChangeOf op (Remove dentry l g)) → IsChecked tree covers op n (dir_removed tree dentry (map.get tree dentry)) (Remove p leaf (Some inode.ino))
+  dir_checked dentry p leaf inode same stands may pick removes =
+      let free = may_go (is_dir_kind inode.kind) (has_entries tree inode.ino.0) may in
+      removed dentry p leaf inode (Some inode.ino) _ same stands (ap (λ b. b && has_entries tree inode.ino.0) free.0 ∙ free.1) (sym (ap (λ b. cond b (Some inode.ino) None) free.0)) pick (removes leaf (Some inode.ino))
+      (ap (dir_removed tree dentry) stands ∙ ap (λ e. unless tree e (answers (map.remove tree dentry) Done)) may)
 
-  pub moved_checked : (from to : Place) (source target : Fragment) (gone : Option Ino) (inode : Inode) → map.get tree from ≡ Some inode → IsLeafAt covers from source → IsLeafAt covers to target → eq_by_cmp place_cmp from to ≡ false
+  pub moved_checked : (from to p q : Dentry) (source target : Fragment) (gone : Option Ino) (inode : Inode) → p ≡ from → q ≡ to → map.get tree from ≡ Some inode → IsLeafAt covers from source → IsLeafAt covers to target → eq_by_cmp dentry_cmp from to ≡ false
       → is_directory tree to.dir.0 ≡ true → leads_to tree inode to.dir.0 ≡ false → replace_errno tree inode (map.get tree to) ≡ None → gone ≡ directory_at (map.get tree to) → IsChangeOf op (Move from source to target gone)
-      → IsChecked tree covers op n (unless tree (replace_errno tree inode (map.get tree to)) (answers (with_moved tree from to inode) Done)) (Move from source to target gone)
-  moved_checked from to source target gone inode stands here there apart parent outside replaces is moves =
-      subst (λ e. IsChecked tree covers op n (unless tree e (answers (with_moved tree from to inode) Done)) (Move from source to target gone)) (sym replaces) (record {
+      → IsChecked tree covers op n (unless tree (replace_errno tree inode (map.get tree to)) (answers (with_moved tree from to inode) Done)) (Move p source q target gone)
+  moved_checked from to p q source target gone inode begins ends stands here there apart parent outside replaces is moves =
+      subst (λ a. IsChecked tree covers op n comes (Move a source q target gone)) (sym begins)
+      (subst (λ b. IsChecked tree covers op n comes (Move from source b target gone)) (sym ends)
+      (subst (λ e. IsChecked tree covers op n (unless tree e (answers (with_moved tree from to inode) Done)) (Move from source to target gone)) (sym replaces) (record {
         one_of = moves;
         replied = refl;
         leads = ap (moved tree from to) (sym stands);
         number = refl;
         carries = (here, there, is);
         takes = λ unused. (inode, record { stands = stands; apart = apart; parent = parent; outside = outside; replaces = replaces });
-      })
+      })))
+    where
+      comes : Outcome
+      comes = unless tree (replace_errno tree inode (map.get tree to)) (answers (with_moved tree from to inode) Done)
 
 -- the errno of what stands at the target, asked of a later state at which the tree was the same
-pub replaced_told : (tree mid : Tree) (inode : Inode) (to : Place) (copied found : Option Inode) (told : Option ℕ) → mid ≡ tree → copied ≡ found → found ≡ map.get tree to → told ≡ replace_errno mid inode copied → told ≡ replace_errno tree inode (map.get tree to)
+pub replaced_told : (tree mid : Tree) (inode : Inode) (to : Dentry) (copied found : Option Inode) (told : Option ℕ) → mid ≡ tree → copied ≡ found → found ≡ map.get tree to → told ≡ replace_errno mid inode copied → told ≡ replace_errno tree inode (map.get tree to)
 replaced_told tree mid inode to copied found told same copy there is = is ∙ (λ i. replace_errno (same i) inode (copy i)) ∙ ap (replace_errno tree inode) there
 
 -- what a rename comes to once its first checks have passed
-pub renamed_on : (tree : Tree) (from to : Place) (source target : Option Inode) (inode : Inode) → source ≡ Some inode → eq_by_cmp place_cmp from to ≡ false → leads_to tree inode to.dir.0 ≡ false
+pub renamed_on : (tree : Tree) (from to : Dentry) (source target : Option Inode) (inode : Inode) → source ≡ Some inode → eq_by_cmp dentry_cmp from to ≡ false → leads_to tree inode to.dir.0 ≡ false
     → unless tree (replace_errno tree inode target) (answers (with_moved tree from to inode) Done) ≡ renamed tree from to source target
 renamed_on tree from to source target inode stands apart outside =
     sym (ap (λ o. renamed tree from to o target) stands

@@ -3,12 +3,12 @@ use Rattle.std.specs.Prelude.{◌↔◌, ℕ, cond, List, [], ◌∷◌, Option,
 use Rattle.std.specs.List.{Contains}
 use Rattle.std.specs.Ordering.{eq_by_cmp}
 use Rattle.std.specs.FinMap as map
-use Rattle.mds_types.specs.declared.places.Place.{Place}
+use Rattle.mds_types.specs.declared.dentries.Dentry.{Dentry}
 use Rattle.mds_types.specs.declared.inodes.Inode.{Inode}
 use Rattle.mds_types.specs.declared.operations.Op.{Op}
 use Rattle.mds_types.specs.declared.operations.Op.TheVariants.{Lookup, Readdir, Create, Mkdir, Readlink, Symlink, Setattr, Unlink, Rmdir, Rename}
 use Rattle.mds_types.specs.declared.replies.Reply.{Reply}
-use Rattle.mds_types.specs.Tree.{Tree, place_cmp, place_of, at, is_dir_kind}
+use Rattle.mds_types.specs.Tree.{Tree, dentry_cmp, dentry_of, at, is_dir_kind}
 use Rattle.mds_types.specs.Step.{step}
 use Rattle.mds_types.specs.StepLaws.{is_errno}
 use Rattle.namehash.specs.Rjenkins.{hash_of}
@@ -21,32 +21,32 @@ use Rattle.namespace_ops.specs.Kept.{Leaf}
 use Rattle.namespace_ops.specs.Changes.{in_directory, leaves}
 use Rattle.namespace_ops.specs.Picks.{pick_of}
 
--- the fragment of a name: the leaf that contains its hash
-abbrev pub fragment_of : Covers → ℕ → List ℕ → Leaf
-fragment_of covers dir name = in_directory dir (pick_of (leaves_of covers dir) (hash_of name))
+-- the fragment of a dentry: the leaf of its directory that contains the hash of its name
+abbrev pub fragment_of : Covers → Dentry → Leaf
+fragment_of covers dentry = in_directory dentry.dir.0 (pick_of (leaves_of covers dentry.dir.0) (hash_of dentry.name))
 
--- all leaves of what stands at a place, if that is a directory
+-- all leaves of what stands at a dentry, if that is a directory
 abbrev pub leaves_at : Covers → Option Inode → List Leaf
 leaves_at covers None = []
 leaves_at covers (Some inode) = cond (is_dir_kind inode.kind) (leaves covers inode.ino.0) []
 
--- the fragments that a rename changes: none, if it leads to its own place; otherwise those of both dentries, and all of a directory that it replaces
-abbrev pub moved_fragments : Covers → Tree → Place → Place → List Leaf
+-- the fragments that a rename changes: none, if it leads to where it is; otherwise those of both dentries, and all of a directory that it replaces
+abbrev pub moved_fragments : Covers → Tree → Dentry → Dentry → List Leaf
 moved_fragments covers tree from to =
-    cond (eq_by_cmp place_cmp from to) [] (fragment_of covers from.dir.0 from.name ∷ fragment_of covers to.dir.0 to.name ∷ leaves_at covers (map.get tree to))
+    cond (eq_by_cmp dentry_cmp from to) [] (fragment_of covers from ∷ fragment_of covers to ∷ leaves_at covers (map.get tree to))
 
 -- the fragments that an operation changes where it succeeds: those of its dentries, and all of a directory that goes
 abbrev pub touched : Covers → Tree → Op → List Leaf
-touched covers tree (Lookup dir name) = []
+touched covers tree (Lookup dentry) = []
 touched covers tree (Readdir dir after max) = []
-touched covers tree (Readlink dir name) = []
-touched covers tree (Create dir name mode mtime) = fragment_of covers dir.0 name ∷ []
-touched covers tree (Mkdir dir name mode mtime) = fragment_of covers dir.0 name ∷ []
-touched covers tree (Symlink dir name target mtime) = fragment_of covers dir.0 name ∷ []
-touched covers tree (Setattr dir name mode size mtime) = fragment_of covers dir.0 name ∷ []
-touched covers tree (Unlink dir name) = fragment_of covers dir.0 name ∷ []
-touched covers tree (Rmdir dir name) = fragment_of covers dir.0 name ∷ leaves_at covers (at tree dir.0 name)
-touched covers tree (Rename dir name to_dir to_name) = moved_fragments covers tree (place_of dir.0 name) (place_of to_dir.0 to_name)
+touched covers tree (Readlink dentry) = []
+touched covers tree (Create dentry mode mtime) = fragment_of covers dentry ∷ []
+touched covers tree (Mkdir dentry mode mtime) = fragment_of covers dentry ∷ []
+touched covers tree (Symlink dentry target mtime) = fragment_of covers dentry ∷ []
+touched covers tree (Setattr dentry given) = fragment_of covers dentry ∷ []
+touched covers tree (Unlink dentry) = fragment_of covers dentry ∷ []
+touched covers tree (Rmdir dentry) = fragment_of covers dentry ∷ leaves_at covers (map.get tree dentry)
+touched covers tree (Rename from to) = moved_fragments covers tree from to
 
 -- an errno changes none
 abbrev pub unless_errno : Reply → List Leaf → List Leaf
@@ -68,9 +68,9 @@ pub record NamesOnce (leaves list : List Leaf) : Type 0 where
 
 -- the number of the directory that goes with a change, if one does
 abbrev pub gone_with : Change → Option Ino
-gone_with (Add place leaf inode) = None
-gone_with (Set place leaf inode) = None
-gone_with (Remove place leaf went) = went
+gone_with (Add dentry leaf inode) = None
+gone_with (Set dentry leaf inode) = None
+gone_with (Remove dentry leaf went) = went
 gone_with (Move from source to target went) = went
 
 -- the leaves of a directory that goes, if one does, cover every hash once

@@ -2,7 +2,7 @@
 ghost use Rattle.std.specs.Prelude.{◌≡◌, ℕ, IfOk, IfErr};
 ghost use Rattle.mds_types.specs.declared.inodes.Inode.{Inode as Node};
 ghost use Rattle.mds_types.specs.Frag.{Fragment};
-ghost use Rattle.mds_types.specs.Tree.{at, place_of};
+ghost use Rattle.std.specs.FinMap as map;
 ghost use Rattle.mds_types.specs.Step.{attributes_set, with_attributes};
 ghost use Rattle.mds_types.specs.Step.{size_errno as errno_of_size};
 ghost use Rattle.namespace_ops.specs.declared.plans.Change.TheVariants.{Set};
@@ -13,44 +13,36 @@ ghost use Rattle.namespace_ops.specs.Reasons.{Refuses};
 
 use crate::frags::Frags;
 use crate::plans::{Change, Checked};
-use mds_types::{EINVAL, EISDIR, ENOENT, Ino, Inode, Kind, Mode, Name, Op, Place, Refusal, Reply};
+use mds_types::{Attributes, Dentry, EINVAL, EISDIR, ENOENT, Inode, Kind, Op, Refusal, Reply};
 
-/// The attributes that are given; the others stay.
-#[derive(Clone, Copy)]
-pub struct Attributes {
-    pub mode: Option<Mode>,
-    pub size: Option<u64>,
-    pub mtime: Option<u64>,
-}
-
-/// Other attributes for the inode at a name.
+/// Other attributes for the inode at a dentry.
 pub fn set_attributes<F: Frags>(
     frags: &mut F,
     op: &Op,
-    dir: Ino,
-    name: &Name,
+    dentry: &Dentry,
     attributes: Attributes,
 ) -> Result<Checked, Refusal>
-    requires reads { Reads (F.content frags.old) op.now dir.0 }
-    requires sets { (leaf : Fragment) (inode : Node) → IsChangeOf op.now (Set (place_of dir.0 name.now) leaf inode) }
+    requires reads { Reads (F.content frags.old) op.now dentry.now.dir.0 }
+    requires sets { (leaf : Fragment) (inode : Node) → IsChangeOf op.now (Set dentry.now leaf inode) }
     ensures checked { (n : ℕ) → IfOk result (Checks (F.content frags.old) (F.covers frags.old) op.now n
-        (attributes_set (F.content frags.old) (place_of dir.0 name.now) attributes.mode attributes.size attributes.mtime (at (F.content frags.old) dir.0 name.now))) }
+        (attributes_set (F.content frags.old) dentry.now attributes (map.get (F.content frags.old) dentry.now))) }
     ensures kept { KeepsAll (F.content frags.old) (F.content frags.new) (F.covers frags.old) (F.covers frags.new) (F.Follows frags.old frags.new) }
     ensures err { IfErr result (Refuses (F.MayRefuse frags.old frags.new op.now)) }
 {
-    let leaf = frags.frag_of(dir, name);
-    let Some(before) = frags.look(op, dir, leaf, name)? else {
+    let leaf = frags.frag_of(dentry);
+    let Some(before) = frags.look(op, dentry, leaf)? else {
         return Ok(Checked::Answers(Reply::Errno(ENOENT)))
     };
     if let Some(errno) = size_errno(&before.kind, attributes.size) {
         return Ok(Checked::Answers(Reply::Errno(errno)));
     }
-    let place = Place {
-        dir,
-        name: name.try_clone()?,
-    };
+    let dentry = dentry.try_clone()?;
     let inode = altered(before, attributes);
-    Ok(Checked::Changes(Change::Set { place, leaf, inode }))
+    Ok(Checked::Changes(Change::Set {
+        dentry,
+        leaf,
+        inode,
+    }))
 }
 
 // The errno for a size that is given to what is no file.
@@ -69,7 +61,7 @@ fn size_errno(kind: &Kind, size: Option<u64>) -> Option<u16>
 
 // The inode with these attributes.
 fn altered(inode: Inode, attributes: Attributes) -> Inode
-    ensures { result ≡ with_attributes attributes.mode attributes.size attributes.mtime inode }
+    ensures { result ≡ with_attributes attributes inode }
 {
     Inode {
         ino: inode.ino,

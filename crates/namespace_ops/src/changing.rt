@@ -14,7 +14,7 @@ use std::alloc::{AllocError, Global};
 
 /// The fragments that an operation would change now, each once and with its directory: those of its dentries, and all
 /// leaves of a directory that it removes or replaces. There are none where the operation answers an errno, only reads, or
-/// renames onto its own place.
+/// renames onto itself.
 ///
 /// It reads, and of its own takes memory for its list, for the change that the checks find, and for a copy of the leaves of
 /// what goes. It is refused for want of memory, or as a read is.
@@ -42,11 +42,11 @@ fn changed_by<F: Frags>(
 {
     let mut list = Vec::new(alloc);
     match change {
-        Change::Add { place, leaf, .. } | Change::Set { place, leaf, .. } => {
-            note(&mut list, (place.dir, *leaf))?;
+        Change::Add { dentry, leaf, .. } | Change::Set { dentry, leaf, .. } => {
+            note(&mut list, (dentry.dir, *leaf))?;
         }
-        Change::Remove { place, leaf, gone } => {
-            note(&mut list, (place.dir, *leaf))?;
+        Change::Remove { dentry, leaf, gone } => {
+            note(&mut list, (dentry.dir, *leaf))?;
             note_gone(alloc, frags, &mut list, *gone)?;
         }
         Change::Move {

@@ -6,7 +6,7 @@ ghost use Rattle.namespace_ops.specs.Kept.{KeepsAll};
 ghost use Rattle.namespace_ops.specs.Checked.{Checks};
 ghost use Rattle.namespace_ops.specs.Reasons.{Refuses};
 
-use crate::altering::{Attributes, set_attributes};
+use crate::altering::set_attributes;
 use crate::frags::Frags;
 use crate::making::{New, make};
 use crate::plans::Checked;
@@ -48,51 +48,30 @@ fn check_within<F: Frags>(
     ensures err { IfErr result (Refuses (F.MayRefuse frags.old frags.new op.now)) }
 {
     match op {
-        Op::Lookup { dir, name } => lookup(frags, op, *dir, name),
+        Op::Lookup(dentry) => lookup(frags, op, dentry),
         Op::Readdir { dir, after, max } => read_dir(alloc, frags, op, *dir, after.as_ref(), *max),
-        Op::Readlink { dir, name } => read_link(frags, op, *dir, name),
+        Op::Readlink(dentry) => read_link(frags, op, dentry),
         Op::Create {
-            dir,
-            name,
+            dentry,
             mode,
             mtime,
-        } => make(frags, op, *dir, name, New::file(*mode, *mtime), number),
+        } => make(frags, op, dentry, New::file(*mode, *mtime), number),
         Op::Mkdir {
-            dir,
-            name,
+            dentry,
             mode,
             mtime,
-        } => make(frags, op, *dir, name, New::directory(*mode, *mtime), number),
+        } => make(frags, op, dentry, New::directory(*mode, *mtime), number),
         Op::Symlink {
-            dir,
-            name,
+            dentry,
             target,
             mtime,
         } => {
             let new = New::link(target.try_clone()?, *mtime);
-            make(frags, op, *dir, name, new, number)
+            make(frags, op, dentry, new, number)
         }
-        Op::Setattr {
-            dir,
-            name,
-            mode,
-            size,
-            mtime,
-        } => {
-            let attributes = Attributes {
-                mode: *mode,
-                size: *size,
-                mtime: *mtime,
-            };
-            set_attributes(frags, op, *dir, name, attributes)
-        }
-        Op::Unlink { dir, name } => unlink(frags, op, *dir, name),
-        Op::Rmdir { dir, name } => remove_dir(frags, op, *dir, name),
-        Op::Rename {
-            dir,
-            name,
-            to_dir,
-            to_name,
-        } => rename(frags, op, (*dir, name), (*to_dir, to_name)),
+        Op::Setattr { dentry, attributes } => set_attributes(frags, op, dentry, *attributes),
+        Op::Unlink(dentry) => unlink(frags, op, dentry),
+        Op::Rmdir(dentry) => remove_dir(frags, op, dentry),
+        Op::Rename { from, to } => rename(frags, op, from, to),
     }
 }

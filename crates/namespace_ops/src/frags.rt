@@ -4,19 +4,19 @@ ghost use Rattle.std.specs.Option.{option_copied};
 ghost use Rattle.mds_types.specs.declared.refusals.Refusal.{Refusal as Reason};
 ghost use Rattle.mds_types.specs.declared.refusals.Refusal.TheVariants.{NoMemory};
 ghost use Rattle.mds_types.specs.declared.operations.Op.{Op as Operation};
-ghost use Rattle.namehash.specs.Rjenkins.{hash_of};
-ghost use Rattle.fragtree.specs.FragTree.{IsPick, IsTree};
+ghost use Rattle.std.specs.FinMap as map;
+ghost use Rattle.fragtree.specs.FragTree.{IsTree};
 ghost use Rattle.inode_table.specs.Dirs.{Covers, leaves_of};
-ghost use Rattle.mds_types.specs.Tree.{Tree, is_directory, is_above, has_entries, at};
+ghost use Rattle.mds_types.specs.Tree.{Tree, is_directory, is_above, has_entries};
 ghost use Rattle.mds_types.specs.Step.{names_after};
 ghost use Rattle.inode_table.specs.TreeChanges.{KeepLeaves};
 ghost use Rattle.namespace_ops.specs.declared.plans.Change.{Change as Alteration};
 ghost use Rattle.namespace_ops.specs.Kept.{KeepsAll, Leaf, ChangesOnly};
-ghost use Rattle.namespace_ops.specs.Changes.{MayChange, Reads, changed, fragments_of};
+ghost use Rattle.namespace_ops.specs.Changes.{IsLeafAt, MayChange, Reads, changed, fragments_of};
 ghost use Rattle.namespace_ops.specs.Reasons.{IsOfFragments};
 
 use crate::plans::Change;
-use mds_types::{Frag, Ino, Inode, Listing, Name, Op, PageSize, Refusal};
+use mds_types::{Dentry, Frag, Ino, Inode, Listing, Name, Op, PageSize, Refusal};
 use std::alloc::Global;
 
 /// The fragments that operations read and change. Together they show one plain tree, whatever they are kept in.
@@ -52,9 +52,9 @@ pub trait Frags {
         requires { is_directory (content self.now) below.0 ≡ true }
         ensures { result ≡ is_above (content self.now) dir.0 below.0 };
 
-    /// The leaf of a directory that a name belongs to: the one that its hash picks.
-    fn frag_of(&self, dir: Ino, name: &Name) -> Frag
-        ensures { IsPick (leaves_of (covers self.now) dir.0) (hash_of name.now) result };
+    /// The leaf that a dentry belongs to: the one of its directory that the hash of its name picks.
+    fn frag_of(&self, dentry: &Dentry) -> Frag
+        ensures { IsLeafAt (covers self.now) dentry.now result };
 
     /// The leaves of a directory by value, which cover every hash once.
     fn leaves(&self, alloc: Global, dir: Ino) -> Result<Vec<Frag>, Refusal>
@@ -62,11 +62,11 @@ pub trait Frags {
         ensures cover { IfOk result (λ list. IsTree list.items) }
         ensures err { IfErr result (λ reason. reason ≡ NoMemory) };
 
-    /// The inode at a name, copied. `leaf` is the one that the name belongs to.
-    fn look(&mut self, op: &Op, dir: Ino, leaf: Frag, name: &Name) -> Result<Option<Inode>, Refusal>
-        requires reads { Reads (content self.old) op.now dir.0 }
-        requires leaf { IsPick (leaves_of (covers self.old) dir.0) (hash_of name.now) leaf }
-        ensures found { IfOk result (λ found. found ≡ at (content self.old) dir.0 name.now) }
+    /// The inode at a dentry, copied. `leaf` is the one that the dentry belongs to.
+    fn look(&mut self, op: &Op, dentry: &Dentry, leaf: Frag) -> Result<Option<Inode>, Refusal>
+        requires reads { Reads (content self.old) op.now dentry.now.dir.0 }
+        requires leaf { IsLeafAt (covers self.old) dentry.now leaf }
+        ensures found { IfOk result (λ found. found ≡ map.get (content self.old) dentry.now) }
         ensures kept { KeepsAll (content self.old) (content self.new) (covers self.old) (covers self.new) (Follows self.old self.new) }
         ensures err { IfErr result (MayRefuse self.old self.new op.now) };
 

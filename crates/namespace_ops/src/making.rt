@@ -3,7 +3,8 @@ ghost use Rattle.std.specs.Prelude.{◌≡◌, true, IfOk, IfErr};
 ghost use Rattle.mds_types.specs.declared.inodes.Inode.{Inode as Node};
 ghost use Rattle.mds_types.specs.declared.inodes.Kind.TheVariants.{File, Dir, Symlink as Link};
 ghost use Rattle.mds_types.specs.Frag.{Fragment};
-ghost use Rattle.mds_types.specs.Tree.{at, place_of, is_directory};
+ghost use Rattle.std.specs.FinMap as map;
+ghost use Rattle.mds_types.specs.Tree.{is_directory};
 ghost use Rattle.mds_types.specs.Step.{made, new_inode, new_size, link_mode};
 ghost use Rattle.namespace_ops.specs.declared.plans.Change.TheVariants.{Add};
 ghost use Rattle.namespace_ops.specs.Kept.{KeepsAll};
@@ -13,7 +14,7 @@ ghost use Rattle.namespace_ops.specs.Reasons.{Refuses};
 
 use crate::frags::Frags;
 use crate::plans::{Change, Checked};
-use mds_types::{EEXIST, Ino, Inode, Kind, Mode, Name, Op, Place, Refusal, Reply, Target};
+use mds_types::{Dentry, EEXIST, Ino, Inode, Kind, Mode, Op, Refusal, Reply, Target};
 
 /// What a new inode is, beside its number and size.
 #[derive(Drop)]
@@ -55,33 +56,33 @@ impl New {
     }
 }
 
-/// A new inode with this number, at a name that has to be free.
+/// A new inode with this number, at a dentry that has to be free.
 pub fn make<F: Frags>(
     frags: &mut F,
     op: &Op,
-    dir: Ino,
-    name: &Name,
+    dentry: &Dentry,
     new: New,
     number: Ino,
 ) -> Result<Checked, Refusal>
-    requires reads { Reads (F.content frags.old) op.now dir.0 }
-    requires here { is_directory (F.content frags.old) dir.0 ≡ true }
-    requires makes { (leaf : Fragment) (inode : Node) → inode.kind ≡ new.kind → IsChangeOf op.now (Add (place_of dir.0 name.now) leaf inode) }
+    requires reads { Reads (F.content frags.old) op.now dentry.now.dir.0 }
+    requires here { is_directory (F.content frags.old) dentry.now.dir.0 ≡ true }
+    requires makes { (leaf : Fragment) (inode : Node) → inode.kind ≡ new.kind → IsChangeOf op.now (Add dentry.now leaf inode) }
     ensures checked { let inode = new_inode number.0 new.kind new.mode new.mtime in
-        IfOk result (Checks (F.content frags.old) (F.covers frags.old) op.now number.0 (made (F.content frags.old) (place_of dir.0 name.now) inode (at (F.content frags.old) dir.0 name.now))) }
+        IfOk result (Checks (F.content frags.old) (F.covers frags.old) op.now number.0 (made (F.content frags.old) dentry.now inode (map.get (F.content frags.old) dentry.now))) }
     ensures kept { KeepsAll (F.content frags.old) (F.content frags.new) (F.covers frags.old) (F.covers frags.new) (F.Follows frags.old frags.new) }
     ensures err { IfErr result (Refuses (F.MayRefuse frags.old frags.new op.now)) }
 {
-    let leaf = frags.frag_of(dir, name);
-    if frags.look(op, dir, leaf, name)?.is_some() {
+    let leaf = frags.frag_of(dentry);
+    if frags.look(op, dentry, leaf)?.is_some() {
         return Ok(Checked::Answers(Reply::Errno(EEXIST)));
     }
-    let place = Place {
-        dir,
-        name: name.try_clone()?,
-    };
+    let dentry = dentry.try_clone()?;
     let inode = new.numbered(number);
-    Ok(Checked::Changes(Change::Add { place, leaf, inode }))
+    Ok(Checked::Changes(Change::Add {
+        dentry,
+        leaf,
+        inode,
+    }))
 }
 
 impl New {

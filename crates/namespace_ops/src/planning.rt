@@ -1,20 +1,21 @@
 //! Planning one operation: its checks, and all growth for the change that they find.
-ghost use Rattle.std.specs.Prelude.{◌≡◌, ◌&&◌, not, cond, is_some, None, MatchResult};
+ghost use Rattle.std.specs.Prelude.{◌≡◌, ◌&&◌, not, cond, is_some, None, IfOk, IfErr, MatchResult};
 ghost use Rattle.mds_types.specs.Step.{step, number_or};
 ghost use Rattle.namespace_ops.specs.Kept.{KeepsAll};
-ghost use Rattle.namespace_ops.specs.Changes.{IsOffered, is_new};
+ghost use Rattle.namespace_ops.specs.Changes.{IsOffered, MayChange, is_new, reply_of};
 ghost use Rattle.namespace_ops.specs.Checked.{IsChecked};
 ghost use Rattle.namespace_ops.specs.Planned.{IsPlanned};
+ghost use Rattle.namespace_ops.specs.Reasons.{Refuses};
 ghost use Rattle.namespace_ops.specs.Served.{IsRefused};
 
 use crate::checking::check;
 use crate::frags::Frags;
 use crate::plans::{Change, Checked, Plan};
-use mds_types::{Ino, Op, Refusal};
+use mds_types::{Ino, Op, Refusal, Reply};
 use std::alloc::Global;
 
 /// Plans an operation: answers the reply of the operation table, and the change that leads to the table's tree, for which
-/// all growth has been made. There is no change where the operation reads, answers an errno, or leads to its own place.
+/// all growth has been made. There is no change where the operation reads, answers an errno, or leads to where it is.
 /// The fragments show what they showed. A new inode takes the number given, which has to be unused; where the table takes
 /// one and none is given, the operation is refused `NoInodes`. Any other refusal is one of the fragments', or want of
 /// memory.
@@ -60,13 +61,25 @@ fn plan_change<F: Frags>(
         return Err(Refusal::NoInodes);
     }
     let taken = number_for(&change, number);
-    let reply = change.reply()?;
-    frags.ready(op, &change)?;
+    let reply = make_ready(frags, op, &change)?;
     Ok(Plan {
         reply,
         change: Some(change),
         number: taken,
     })
+}
+
+// Makes all growth that a change needs, and gives what the operation answers.
+fn make_ready<F: Frags>(frags: &mut F, op: &Op, change: &Change) -> Result<Reply, Refusal>
+    requires { MayChange (F.content frags.old) (F.covers frags.old) change.now }
+    ensures reply { IfOk result (λ reply. reply ≡ reply_of change.now) }
+    ensures ready { IfOk result (λ reply. F.IsReady frags.new change.now) }
+    ensures kept { KeepsAll (F.content frags.old) (F.content frags.new) (F.covers frags.old) (F.covers frags.new) (F.Follows frags.old frags.new) }
+    ensures err { IfErr result (Refuses (F.MayRefuse frags.old frags.new op.now)) }
+{
+    let reply = change.reply()?;
+    frags.ready(op, change)?;
+    Ok(reply)
 }
 
 // Whether a new inode comes for which no number is given.

@@ -6,37 +6,37 @@ ghost use Rattle.namespace_ops.specs.Changes.{fragments_in, is_new, reply_of};
 ghost use Rattle.namespace_ops.specs.Planned.{after_plan, IsReadyToChange};
 
 use crate::frags::Frags;
-use mds_types::{Frag, Ino, Inode, Place, Reply};
+use mds_types::{Dentry, Frag, Ino, Inode, Reply};
 use std::alloc::AllocError;
 
 /// A change of the tree. It has the leaf of each of its names, and the number of the directory that goes with it, so that
 /// no step has to find them again.
 #[derive(Debug, Drop)]
 pub enum Change {
-    /// A new inode, at a place that is free.
+    /// A new inode, at a dentry that is free.
     Add {
-        place: Place,
+        dentry: Dentry,
         leaf: Frag,
         inode: Inode,
     },
-    /// Other attributes for the inode at a place.
+    /// Other attributes for the inode at a dentry.
     Set {
-        place: Place,
+        dentry: Dentry,
         leaf: Frag,
         inode: Inode,
     },
-    /// The entry at a place goes; `gone` is its number, if it is a directory.
+    /// The entry at a dentry goes; `gone` is its number, if it is a directory.
     Remove {
-        place: Place,
+        dentry: Dentry,
         leaf: Frag,
         gone: Option<Ino>,
     },
-    /// The entry at one place moves to another; what stands there is replaced. `gone` is the number of that, if it is a
+    /// The entry at one dentry moves to another; what stands there is replaced. `gone` is the number of that, if it is a
     /// directory.
     Move {
-        from: Place,
+        from: Dentry,
         source: Frag,
-        to: Place,
+        to: Dentry,
         target: Frag,
         gone: Option<Ino>,
     },
@@ -69,7 +69,7 @@ impl Change {
 /// What the checks of an operation find.
 #[derive(Debug, Drop)]
 pub enum Checked {
-    /// It changes nothing, and answers this: it reads, answers an errno, or leads to its own place.
+    /// It changes nothing, and answers this: it reads, answers an errno, or leads to where it is.
     Answers(Reply),
     /// It makes this change.
     Changes(Change),
@@ -80,7 +80,7 @@ pub enum Checked {
 pub struct Plan {
     /// What it answers.
     pub reply: Reply,
-    /// The change that it makes; none, if it only reads, answers an errno or leads to its own place.
+    /// The change that it makes; none, if it only reads, answers an errno or leads to where it is.
     pub change: Option<Change>,
     /// The number that it took for a new inode.
     pub number: Option<Ino>,

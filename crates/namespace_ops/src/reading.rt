@@ -1,7 +1,7 @@
 //! The checks of the operations that only read.
 ghost use Rattle.std.specs.Prelude.{◌≡◌, ℕ, true, IfOk, IfErr};
 ghost use Rattle.std.specs.Option.{option_copied};
-ghost use Rattle.mds_types.specs.Tree.{at};
+ghost use Rattle.std.specs.FinMap as map;
 ghost use Rattle.mds_types.specs.Step.{found, page, names_after, target_of};
 ghost use Rattle.mds_types.specs.Step.{read_link as link_read};
 ghost use Rattle.namespace_ops.specs.Kept.{KeepsAll};
@@ -11,19 +11,19 @@ ghost use Rattle.namespace_ops.specs.Reasons.{Refuses};
 
 use crate::frags::Frags;
 use crate::plans::Checked;
-use mds_types::{EINVAL, ENOENT, Ino, Kind, Name, Op, PageSize, Refusal, Reply};
+use mds_types::{Dentry, EINVAL, ENOENT, Ino, Kind, Name, Op, PageSize, Refusal, Reply};
 use std::alloc::Global;
 
-/// The inode at a name.
-pub fn lookup<F: Frags>(frags: &mut F, op: &Op, dir: Ino, name: &Name) -> Result<Checked, Refusal>
-    requires reads { Reads (F.content frags.old) op.now dir.0 }
+/// The inode at a dentry.
+pub fn lookup<F: Frags>(frags: &mut F, op: &Op, dentry: &Dentry) -> Result<Checked, Refusal>
+    requires reads { Reads (F.content frags.old) op.now dentry.now.dir.0 }
     requires idle { stays op.now ≡ true }
-    ensures checked { (n : ℕ) → IfOk result (Checks (F.content frags.old) (F.covers frags.old) op.now n (found (F.content frags.old) (at (F.content frags.old) dir.0 name.now))) }
+    ensures checked { (n : ℕ) → IfOk result (Checks (F.content frags.old) (F.covers frags.old) op.now n (found (F.content frags.old) (map.get (F.content frags.old) dentry.now))) }
     ensures kept { KeepsAll (F.content frags.old) (F.content frags.new) (F.covers frags.old) (F.covers frags.new) (F.Follows frags.old frags.new) }
     ensures err { IfErr result (Refuses (F.MayRefuse frags.old frags.new op.now)) }
 {
-    let leaf = frags.frag_of(dir, name);
-    match frags.look(op, dir, leaf, name)? {
+    let leaf = frags.frag_of(dentry);
+    match frags.look(op, dentry, leaf)? {
         Some(inode) => Ok(Checked::Answers(Reply::Entry(inode))),
         None => Ok(Checked::Answers(Reply::Errno(ENOENT))),
     }
@@ -48,21 +48,16 @@ pub fn read_dir<F: Frags>(
     Ok(Checked::Answers(Reply::Entries { list, more }))
 }
 
-/// What the link at a name points to.
-pub fn read_link<F: Frags>(
-    frags: &mut F,
-    op: &Op,
-    dir: Ino,
-    name: &Name,
-) -> Result<Checked, Refusal>
-    requires reads { Reads (F.content frags.old) op.now dir.0 }
+/// What the link at a dentry points to.
+pub fn read_link<F: Frags>(frags: &mut F, op: &Op, dentry: &Dentry) -> Result<Checked, Refusal>
+    requires reads { Reads (F.content frags.old) op.now dentry.now.dir.0 }
     requires idle { stays op.now ≡ true }
-    ensures checked { (n : ℕ) → IfOk result (Checks (F.content frags.old) (F.covers frags.old) op.now n (link_read (F.content frags.old) (at (F.content frags.old) dir.0 name.now))) }
+    ensures checked { (n : ℕ) → IfOk result (Checks (F.content frags.old) (F.covers frags.old) op.now n (link_read (F.content frags.old) (map.get (F.content frags.old) dentry.now))) }
     ensures kept { KeepsAll (F.content frags.old) (F.content frags.new) (F.covers frags.old) (F.covers frags.new) (F.Follows frags.old frags.new) }
     ensures err { IfErr result (Refuses (F.MayRefuse frags.old frags.new op.now)) }
 {
-    let leaf = frags.frag_of(dir, name);
-    match frags.look(op, dir, leaf, name)? {
+    let leaf = frags.frag_of(dentry);
+    match frags.look(op, dentry, leaf)? {
         Some(inode) => Ok(Checked::Answers(reply_of_link(inode.kind))),
         None => Ok(Checked::Answers(Reply::Errno(ENOENT))),
     }

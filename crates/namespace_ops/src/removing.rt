@@ -3,8 +3,9 @@ ghost use Rattle.std.specs.Prelude.{◌≡◌, ℕ, None, Some, Option, IfOk, If
 ghost use Rattle.mds_types.specs.declared.ids.Ino.{Ino as Number};
 ghost use Rattle.mds_types.specs.declared.inodes.Inode.{Inode as Node};
 ghost use Rattle.mds_types.specs.Frag.{Fragment};
-ghost use Rattle.mds_types.specs.Tree.{at, place_of};
+ghost use Rattle.std.specs.FinMap as map;
 ghost use Rattle.mds_types.specs.Step.{unlinked, dir_removed};
+ghost use Rattle.mds_types.specs.Step.{removal_errno as errno_of_removal};
 ghost use Rattle.namespace_ops.specs.declared.plans.Change.TheVariants.{Remove};
 ghost use Rattle.namespace_ops.specs.Kept.{KeepsAll};
 ghost use Rattle.namespace_ops.specs.Changes.{IsChangeOf, Reads};
@@ -13,67 +14,70 @@ ghost use Rattle.namespace_ops.specs.Reasons.{Refuses};
 
 use crate::frags::Frags;
 use crate::plans::{Change, Checked};
-use mds_types::{EISDIR, ENOENT, ENOTDIR, ENOTEMPTY, Ino, Name, Op, Place, Refusal, Reply};
+use mds_types::{Dentry, EISDIR, ENOENT, ENOTDIR, ENOTEMPTY, Inode, Op, Refusal, Reply};
 
 /// Takes away an entry that has to be no directory.
-pub fn unlink<F: Frags>(frags: &mut F, op: &Op, dir: Ino, name: &Name) -> Result<Checked, Refusal>
-    requires reads { Reads (F.content frags.old) op.now dir.0 }
-    requires removes { (leaf : Fragment) → IsChangeOf op.now (Remove (place_of dir.0 name.now) leaf None) }
+pub fn unlink<F: Frags>(frags: &mut F, op: &Op, dentry: &Dentry) -> Result<Checked, Refusal>
+    requires reads { Reads (F.content frags.old) op.now dentry.now.dir.0 }
+    requires removes { (leaf : Fragment) → IsChangeOf op.now (Remove dentry.now leaf None) }
     ensures checked { (n : ℕ) → IfOk result (Checks (F.content frags.old) (F.covers frags.old) op.now n
-        (unlinked (F.content frags.old) (place_of dir.0 name.now) (at (F.content frags.old) dir.0 name.now))) }
+        (unlinked (F.content frags.old) dentry.now (map.get (F.content frags.old) dentry.now))) }
     ensures kept { KeepsAll (F.content frags.old) (F.content frags.new) (F.covers frags.old) (F.covers frags.new) (F.Follows frags.old frags.new) }
     ensures err { IfErr result (Refuses (F.MayRefuse frags.old frags.new op.now)) }
 {
-    let leaf = frags.frag_of(dir, name);
-    let Some(inode) = frags.look(op, dir, leaf, name)? else {
+    let leaf = frags.frag_of(dentry);
+    let Some(inode) = frags.look(op, dentry, leaf)? else {
         return Ok(Checked::Answers(Reply::Errno(ENOENT)))
     };
     if inode.kind.is_dir() {
         return Ok(Checked::Answers(Reply::Errno(EISDIR)));
     }
-    let place = Place {
-        dir,
-        name: name.try_clone()?,
-    };
+    let dentry = dentry.try_clone()?;
     Ok(Checked::Changes(Change::Remove {
-        place,
+        dentry,
         leaf,
         gone: None,
     }))
 }
 
 /// Takes away a directory that has to be empty.
-pub fn remove_dir<F: Frags>(
-    frags: &mut F,
-    op: &Op,
-    dir: Ino,
-    name: &Name,
-) -> Result<Checked, Refusal>
-    requires reads { Reads (F.content frags.old) op.now dir.0 }
-    requires inside { (inode : Node) → at (F.content frags.old) dir.0 name.now ≡ Some inode → Reads (F.content frags.old) op.now inode.ino.0 }
-    requires removes { (leaf : Fragment) (gone : Option Number) → IsChangeOf op.now (Remove (place_of dir.0 name.now) leaf gone) }
+pub fn remove_dir<F: Frags>(frags: &mut F, op: &Op, dentry: &Dentry) -> Result<Checked, Refusal>
+    requires reads { Reads (F.content frags.old) op.now dentry.now.dir.0 }
+    requires inside { (inode : Node) → map.get (F.content frags.old) dentry.now ≡ Some inode → Reads (F.content frags.old) op.now inode.ino.0 }
+    requires removes { (leaf : Fragment) (gone : Option Number) → IsChangeOf op.now (Remove dentry.now leaf gone) }
     ensures checked { (n : ℕ) → IfOk result (Checks (F.content frags.old) (F.covers frags.old) op.now n
-        (dir_removed (F.content frags.old) (place_of dir.0 name.now) (at (F.content frags.old) dir.0 name.now))) }
+        (dir_removed (F.content frags.old) dentry.now (map.get (F.content frags.old) dentry.now))) }
     ensures kept { KeepsAll (F.content frags.old) (F.content frags.new) (F.covers frags.old) (F.covers frags.new) (F.Follows frags.old frags.new) }
     ensures err { IfErr result (Refuses (F.MayRefuse frags.old frags.new op.now)) }
 {
-    let leaf = frags.frag_of(dir, name);
-    let Some(inode) = frags.look(op, dir, leaf, name)? else {
+    let leaf = frags.frag_of(dentry);
+    let Some(inode) = frags.look(op, dentry, leaf)? else {
         return Ok(Checked::Answers(Reply::Errno(ENOENT)))
     };
-    if !inode.kind.is_dir() {
-        return Ok(Checked::Answers(Reply::Errno(ENOTDIR)));
+    if let Some(errno) = removal_errno(frags, op, &inode)? {
+        return Ok(Checked::Answers(Reply::Errno(errno)));
     }
-    if !frags.is_empty(op, inode.ino)? {
-        return Ok(Checked::Answers(Reply::Errno(ENOTEMPTY)));
-    }
-    let place = Place {
-        dir,
-        name: name.try_clone()?,
-    };
+    let dentry = dentry.try_clone()?;
     Ok(Checked::Changes(Change::Remove {
-        place,
+        dentry,
         leaf,
         gone: Some(inode.ino),
     }))
+}
+
+// The errno for an inode that is no directory, or a full one.
+fn removal_errno<F: Frags>(frags: &mut F, op: &Op, inode: &Inode) -> Result<Option<u16>, Refusal>
+    requires reads { Reads (F.content frags.old) op.now inode.now.ino.0 }
+    ensures found { IfOk result (λ errno. errno ≡ errno_of_removal (F.content frags.old) inode.now) }
+    ensures kept { KeepsAll (F.content frags.old) (F.content frags.new) (F.covers frags.old) (F.covers frags.new) (F.Follows frags.old frags.new) }
+    ensures err { IfErr result (F.MayRefuse frags.old frags.new op.now) }
+{
+    if !inode.kind.is_dir() {
+        return Ok(Some(ENOTDIR));
+    }
+    if frags.is_empty(op, inode.ino)? {
+        Ok(None)
+    } else {
+        Ok(Some(ENOTEMPTY))
+    }
 }

@@ -6,105 +6,88 @@ ghost use Rattle.mds_types.specs.declared.ids.Ino.{Ino as Number};
 ghost use Rattle.mds_types.specs.declared.inodes.Inode.{Inode as Node};
 ghost use Rattle.mds_types.specs.Frag.{Fragment};
 ghost use Rattle.std.specs.Option.{option_copied};
-ghost use Rattle.mds_types.specs.declared.refusals.Refusal.TheVariants.{NoMemory};
 ghost use Rattle.std.specs.Ordering.{eq_by_cmp};
-ghost use Rattle.mds_types.specs.Tree.{at, place_of, place_cmp, is_directory};
+ghost use Rattle.mds_types.specs.Tree.{dentry_cmp, is_directory};
 ghost use Rattle.mds_types.specs.Step.{renamed, unless, answers, with_moved};
 ghost use Rattle.mds_types.specs.Step.{leads_to as leads_below, replace_errno as errno_of_replacing};
-ghost use Rattle.fragtree.specs.FragTree.{IsPick};
-ghost use Rattle.namehash.specs.Rjenkins.{hash_of};
-ghost use Rattle.inode_table.specs.Dirs.{leaves_of};
 ghost use Rattle.namespace_ops.specs.declared.plans.Change.TheVariants.{Move};
 ghost use Rattle.namespace_ops.specs.Kept.{KeepsAll};
-ghost use Rattle.namespace_ops.specs.Changes.{IsChangeOf, Reads, directory_at, stays};
+ghost use Rattle.namespace_ops.specs.Changes.{IsChangeOf, IsLeafAt, Reads, directory_at, stays};
 ghost use Rattle.namespace_ops.specs.Checked.{Checks};
 ghost use Rattle.namespace_ops.specs.Reasons.{Refuses};
 
 use crate::frags::Frags;
 use crate::plans::{Change, Checked};
 use mds_types::{
-    EINVAL, EISDIR, ENOENT, ENOTDIR, ENOTEMPTY, Frag, Ino, Inode, Name, Op, Place, Refusal, Reply,
+    Dentry, EINVAL, EISDIR, ENOENT, ENOTDIR, ENOTEMPTY, Frag, Ino, Inode, Op, Refusal, Reply,
 };
-use std::alloc::AllocError;
 
-/// Moves the entry at one name to another.
+/// Moves the entry at one dentry to another.
 pub fn rename<F: Frags>(
     frags: &mut F,
     op: &Op,
-    source: (Ino, &Name),
-    target: (Ino, &Name),
+    from: &Dentry,
+    to: &Dentry,
 ) -> Result<Checked, Refusal>
-    requires there { is_directory (F.content frags.old) target.0.0 ≡ true }
-    requires reads { Reads (F.content frags.old) op.now source.0.0 }
-    requires leads { Reads (F.content frags.old) op.now target.0.0 }
-    requires inside { (inode : Node) → at (F.content frags.old) target.0.0 target.1.now ≡ Some inode → Reads (F.content frags.old) op.now inode.ino.0 }
-    requires idle { stays op.now ≡ eq_by_cmp place_cmp (place_of source.0.0 source.1.now) (place_of target.0.0 target.1.now) }
-    requires moves { (from to : Fragment) (gone : Option Number) → IsChangeOf op.now (Move (place_of source.0.0 source.1.now) from (place_of target.0.0 target.1.now) to gone) }
-    ensures checked { (n : ℕ) → IfOk result (Checks (F.content frags.old) (F.covers frags.old) op.now n
-        (renamed (F.content frags.old) (place_of source.entry.0.0 source.entry.1.now) (place_of target.entry.0.0 target.entry.1.now)
-        (at (F.content frags.old) source.entry.0.0 source.entry.1.now) (at (F.content frags.old) target.entry.0.0 target.entry.1.now))) }
+    requires there { is_directory (F.content frags.old) to.now.dir.0 ≡ true }
+    requires reads { Reads (F.content frags.old) op.now from.now.dir.0 }
+    requires leads { Reads (F.content frags.old) op.now to.now.dir.0 }
+    requires inside { (inode : Node) → map.get (F.content frags.old) to.now ≡ Some inode → Reads (F.content frags.old) op.now inode.ino.0 }
+    requires idle { stays op.now ≡ eq_by_cmp dentry_cmp from.now to.now }
+    requires moves { (source target : Fragment) (gone : Option Number) → IsChangeOf op.now (Move from.now source to.now target gone) }
+    ensures checked { (n : ℕ) → let tree = F.content frags.old in IfOk result (Checks tree (F.covers frags.old) op.now n
+        (renamed tree from.now to.now (map.get tree from.now) (map.get tree to.now))) }
     ensures kept { KeepsAll (F.content frags.old) (F.content frags.new) (F.covers frags.old) (F.covers frags.new) (F.Follows frags.old frags.new) }
     ensures err { IfErr result (Refuses (F.MayRefuse frags.old frags.new op.now)) }
 {
-    let leaf = frags.frag_of(source.0, source.1);
-    let Some(inode) = frags.look(op, source.0, leaf, source.1)? else {
+    let source = frags.frag_of(from);
+    let Some(inode) = frags.look(op, from, source)? else {
         return Ok(Checked::Answers(Reply::Errno(ENOENT)))
     };
-    if is_same_place(source, target) {
+    if from.cmp(to).is_eq() {
         return Ok(Checked::Answers(Reply::Done));
     }
-    if leads_to(frags, &inode, target.0) {
+    if leads_to(frags, &inode, to.dir) {
         return Ok(Checked::Answers(Reply::Errno(EINVAL)));
     }
-    let from = place(source.0, source.1)?;
-    let to = place(target.0, target.1)?;
-    move_onto(frags, op, &inode, from, leaf, to)
+    move_onto(frags, op, &inode, from, source, to)
 }
 
-// The move of an inode to a place that isn't below it, unless what stands there can't be replaced.
+// The move of an inode to a dentry that isn't below it, unless what stands there can't be replaced.
 fn move_onto<F: Frags>(
     frags: &mut F,
     op: &Op,
     inode: &Inode,
-    from: Place,
+    from: &Dentry,
     source: Frag,
-    to: Place,
+    to: &Dentry,
 ) -> Result<Checked, Refusal>
-    requires stands { map.get (F.content frags.old) from ≡ Some inode.now }
-    requires leaf { IsPick (leaves_of (F.covers frags.old) from.dir.0) (hash_of from.name) source }
-    requires apart { eq_by_cmp place_cmp from to ≡ false }
-    requires there { is_directory (F.content frags.old) to.dir.0 ≡ true }
-    requires outside { leads_below (F.content frags.old) inode.now to.dir.0 ≡ false }
-    requires leads { Reads (F.content frags.old) op.now to.dir.0 }
-    requires inside { (gone : Node) → map.get (F.content frags.old) to ≡ Some gone → Reads (F.content frags.old) op.now gone.ino.0 }
-    requires moves { (target : Fragment) (gone : Option Number) → IsChangeOf op.now (Move from source to target gone) }
+    requires stands { map.get (F.content frags.old) from.now ≡ Some inode.now }
+    requires leaf { IsLeafAt (F.covers frags.old) from.now source }
+    requires apart { eq_by_cmp dentry_cmp from.now to.now ≡ false }
+    requires there { is_directory (F.content frags.old) to.now.dir.0 ≡ true }
+    requires outside { leads_below (F.content frags.old) inode.now to.now.dir.0 ≡ false }
+    requires leads { Reads (F.content frags.old) op.now to.now.dir.0 }
+    requires inside { (gone : Node) → map.get (F.content frags.old) to.now ≡ Some gone → Reads (F.content frags.old) op.now gone.ino.0 }
+    requires moves { (target : Fragment) (gone : Option Number) → IsChangeOf op.now (Move from.now source to.now target gone) }
     ensures checked { (n : ℕ) → let tree = F.content frags.old in IfOk result (Checks tree (F.covers frags.old) op.now n
-        (unless tree (errno_of_replacing tree inode.now (map.get tree to)) (answers (with_moved tree from to inode.now) Done))) }
+        (unless tree (errno_of_replacing tree inode.now (map.get tree to.now)) (answers (with_moved tree from.now to.now inode.now) Done))) }
     ensures kept { KeepsAll (F.content frags.old) (F.content frags.new) (F.covers frags.old) (F.covers frags.new) (F.Follows frags.old frags.new) }
     ensures err { IfErr result (Refuses (F.MayRefuse frags.old frags.new op.now)) }
 {
-    let target = frags.frag_of(to.dir, &to.name);
-    let replaced = frags.look(op, to.dir, target, &to.name)?;
+    let target = frags.frag_of(to);
+    let replaced = frags.look(op, to, target)?;
     if let Some(errno) = replace_errno(frags, op, inode, replaced.as_ref())? {
         return Ok(Checked::Answers(Reply::Errno(errno)));
     }
     let gone = directory_of(replaced.as_ref());
     Ok(Checked::Changes(Change::Move {
-        from,
+        from: from.try_clone()?,
         source,
-        to,
+        to: to.try_clone()?,
         target,
         gone,
     }))
-}
-
-fn place(dir: Ino, name: &Name) -> Result<Place, AllocError>
-    ensures { IfOk result (λ place. place ≡ place_of dir.0 name.now) }
-{
-    Ok(Place {
-        dir,
-        name: name.try_clone()?,
-    })
 }
 
 // The number of an inode that is a directory.
@@ -121,13 +104,6 @@ fn directory_of(inode: Option<&Inode>) -> Option<Ino>
         }
         None => None,
     }
-}
-
-// Whether two places, given by directory and name, are one.
-fn is_same_place(source: (Ino, &Name), target: (Ino, &Name)) -> bool
-    ensures { result ≡ eq_by_cmp place_cmp (place_of source.entry.0.0 source.entry.1.now) (place_of target.entry.0.0 target.entry.1.now) }
-{
-    source.0.cmp(&target.0).then(source.1.cmp(target.1)).is_eq()
 }
 
 // Whether the inode is a directory that is `dir` or above it.

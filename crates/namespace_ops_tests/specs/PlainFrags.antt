@@ -1,6 +1,6 @@
 -- What contracts see of the plain fragments.
 use Rattle.std.specs.Prelude.{◌≡◌, ℕ, ◌<◌, Bool, true, ◌==◌, List, Option, Some}
-use Rattle.mds_types.specs.declared.places.Place.{Place}
+use Rattle.mds_types.specs.declared.dentries.Dentry.{Dentry}
 use Rattle.mds_types.specs.declared.inodes.Inode.{Inode}
 use Rattle.mds_types.specs.Tree.{Tree, is_dir_kind}
 use Rattle.inode_table.specs.Dirs.{Homes, Covers}
@@ -18,12 +18,12 @@ pub record Kept : Type 0 where
   pub spare : Option (List ℕ)
 
 -- an entry's inode has this number
-abbrev pub is_numbered : ℕ → Place × Inode → Bool
+abbrev pub is_numbered : ℕ → Dentry × Inode → Bool
 is_numbered n entry = entry.1.ino.0 == n
 
 -- the change can be made with no growth: there is room for a new entry, and for a new home with its name
 abbrev pub IsReady : Kept → Change → Type 0
-IsReady f (Add place leaf inode) = (0 < f.entries_left) × (is_dir_kind inode.kind ≡ true → (0 < f.dirs_left) × (f.spare ≡ Some place.name))
-IsReady f (Set place leaf inode) = Unit {0}
-IsReady f (Remove place leaf went) = Unit {0}
+IsReady f (Add dentry leaf inode) = (0 < f.entries_left) × (is_dir_kind inode.kind ≡ true → (0 < f.dirs_left) × (f.spare ≡ Some dentry.name))
+IsReady f (Set dentry leaf inode) = Unit {0}
+IsReady f (Remove dentry leaf went) = Unit {0}
 IsReady f (Move from source to target went) = f.spare ≡ Some to.name

@@ -77,7 +77,7 @@ const LISTINGS: [Row; 8] = [
     (Asked::Page(ROOT, 255, 1), NONE, Came::Names(0, false, 0, 0)),
 ];
 
-// A directory goes neither below itself nor onto a full one; onto its own place it stays.
+// A directory goes neither below itself nor onto a full one; onto itself it stays.
 const BELOW: [Row; 6] = [
     (Asked::Dir(ROOT, b'd'), IN_ROOT, Came::Dir(FIRST)),
     (Asked::Dir(FIRST, b'e'), [FIRST, 0, 0], Came::Dir(FIRST + 1)),
@@ -162,9 +162,9 @@ fn touched(alloc: Global, frags: &mut PlainFrags, op: &Op) -> Option<[u64; 3]> {
         return None;
     };
     let mut dirs = NONE;
-    for (place, (dir, frag)) in list.iter().enumerate() {
-        if place < 3 && *frag == Frag::ROOT {
-            dirs[place] = dir.0;
+    for (dentry, (dir, frag)) in list.iter().enumerate() {
+        if dentry < 3 && *frag == Frag::ROOT {
+            dirs[dentry] = dir.0;
         }
     }
     Some(dirs)
@@ -220,11 +220,11 @@ fn touched_again(alloc: Global, frags: &mut PlainFrags, asked: Asked) -> Option<
 fn wrong(alloc: Global, row: &[Row]) -> Option<(usize, Option<[u64; 3]>, Came)> {
     let mut frags = PlainFrags::new(alloc);
     let mut number = FIRST;
-    for (place, (asked, changed, wanted)) in row.iter().enumerate() {
+    for (dentry, (asked, changed, wanted)) in row.iter().enumerate() {
         let dirs = touched_again(alloc, &mut frags, *asked);
         let found = served_again(alloc, &mut frags, *asked, number);
         if dirs != Some(*changed) || found != *wanted {
-            return Some((place, dirs, found));
+            return Some((dentry, dirs, found));
         }
         if found.is_new(*asked) {
             number = number.saturating_add(1);

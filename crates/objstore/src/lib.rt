@@ -7,8 +7,6 @@ mod mem_stores;
 mod name_pages;
 mod names;
 mod stores;
-#[cfg(test)]
-mod tests;
 
 pub use fault_stores::FaultStore;
 pub use mem_stores::MemStore;

@@ -1,6 +1,8 @@
 -- What each line of a script asks for.
 use Rattle.std.specs.Prelude.{ℕ, if◌then◌else◌, List, [], ◌∷◌, codes, Result, Ok, Err}
 use Rattle.std.specs.List.{list_all}
+use Rattle.mds_types.specs.declared.ids.Ino.{Ino}
+use Rattle.mds_types.specs.declared.dentries.Dentry.{Dentry}
 use Rattle.mds_types.specs.declared.operations.Op.{Op}
 use Rattle.mds_types.specs.declared.operations.Op.TheVariants.{Lookup, Readdir, Create, Mkdir, Readlink, Symlink, Setattr, Unlink, Rmdir, Rename}
 use Rattle.script_text.specs.declared.commands.Command.{Command}
@@ -15,6 +17,10 @@ use Rattle.script_words.specs.Arguments.{ino_of, rank_of, client_of, decimal_of,
 use Rattle.script_text.specs.Attributes.{attributes_of}
 use Rattle.script_text.specs.Dirfrags.{dirfrag_of}
 
+-- the dentry of a name in a directory
+abbrev pub dentry_at : Ino → List ℕ → Dentry
+dentry_at dir name = record { dir = dir; name = name }
+
 -- In each command below the form of all its words comes before the rules of names and targets; of two words outside those rules the first decides.
 
 -- `lookup INO NAME`
@@ -24,7 +30,7 @@ lookup_of args = do
   dir ← ino_of words.0
   bytes ← text_of words.1
   name ← name_of bytes
-  Ok (Lookup dir name)
+  Ok (Lookup (dentry_at dir name))
 
 -- `readdir INO AFTER MAX`
 unfoldable pub readdir_of : List (List ℕ) → Result Op Fault
@@ -44,7 +50,7 @@ create_of args = do
   bytes ← text_of words.1
   mode ← mode_of words.2
   name ← name_of bytes
-  Ok (Create dir name mode 0)
+  Ok (Create (dentry_at dir name) mode 0)
 
 -- `mkdir INO NAME MODE`, with mtime 0
 unfoldable pub mkdir_of : List (List ℕ) → Result Op Fault
@@ -54,7 +60,7 @@ mkdir_of args = do
   bytes ← text_of words.1
   mode ← mode_of words.2
   name ← name_of bytes
-  Ok (Mkdir dir name mode 0)
+  Ok (Mkdir (dentry_at dir name) mode 0)
 
 -- `readlink INO NAME`
 unfoldable pub readlink_of : List (List ℕ) → Result Op Fault
@@ -63,7 +69,7 @@ readlink_of args = do
   dir ← ino_of words.0
   bytes ← text_of words.1
   name ← name_of bytes
-  Ok (Readlink dir name)
+  Ok (Readlink (dentry_at dir name))
 
 -- `symlink INO NAME TARGET`, with mtime 0
 unfoldable pub symlink_of : List (List ℕ) → Result Op Fault
@@ -74,7 +80,7 @@ symlink_of args = do
   target_bytes ← text_of words.2
   name ← name_of bytes
   target ← target_of target_bytes
-  Ok (Symlink dir name target 0)
+  Ok (Symlink (dentry_at dir name) target 0)
 
 -- `setattr INO NAME [mode MODE] [size N] [mtime N]`
 unfoldable pub setattr_of : List (List ℕ) → Result Op Fault
@@ -85,7 +91,7 @@ setattr_of args = do
   bytes ← text_of name.0
   given ← attributes_of name.1
   name ← name_of bytes
-  Ok (Setattr ino name given.mode given.size given.mtime)
+  Ok (Setattr (dentry_at ino name) given)
 
 -- `unlink INO NAME`
 unfoldable pub unlink_of : List (List ℕ) → Result Op Fault
@@ -94,7 +100,7 @@ unlink_of args = do
   dir ← ino_of words.0
   bytes ← text_of words.1
   name ← name_of bytes
-  Ok (Unlink dir name)
+  Ok (Unlink (dentry_at dir name))
 
 -- `rmdir INO NAME`
 unfoldable pub rmdir_of : List (List ℕ) → Result Op Fault
@@ -103,9 +109,9 @@ rmdir_of args = do
   dir ← ino_of words.0
   bytes ← text_of words.1
   name ← name_of bytes
-  Ok (Rmdir dir name)
+  Ok (Rmdir (dentry_at dir name))
 
--- `rename INO NAME INO NAME`, from the first place to the second
+-- `rename INO NAME INO NAME`, from the first dentry to the second
 unfoldable pub rename_of : List (List ℕ) → Result Op Fault
 rename_of args = do
   words ← four args
@@ -115,7 +121,7 @@ rename_of args = do
   to_bytes ← text_of words.3
   name ← name_of bytes
   to_name ← name_of to_bytes
-  Ok (Rename dir name to_dir to_name)
+  Ok (Rename (dentry_at dir name) (dentry_at to_dir to_name))
 
 -- `serve RANK`
 unfoldable pub serve_of : List (List ℕ) → Result Command Fault

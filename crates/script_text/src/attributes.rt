@@ -5,16 +5,8 @@ ghost use Rattle.script_words.specs.Reading.{Gives};
 ghost use Rattle.script_words.specs.Arguments.{mode_of, decimal_of};
 ghost use Rattle.script_text.specs.Attributes.{attributes_of, if_given, keyed};
 
-use mds_types::Mode;
+use mds_types::{Attributes, Mode};
 use script_words::{ReadError, decimal, first, mode, next_word, none};
-
-/// What a line gives an inode; what it doesn't name is none.
-#[derive(Clone, Copy, Debug, PartialEq, Eq)]
-pub struct Attributes {
-    pub mode: Option<Mode>,
-    pub size: Option<u64>,
-    pub mtime: Option<u64>,
-}
 
 /// `[mode MODE] [size N] [mtime N]`: in this order, and at least one of them.
 #[tactic(auto, unfolding(crate::specs::Attributes::attributes_of))]

@@ -4,7 +4,7 @@ ghost use Rattle.script_words.specs.Reading.{Gives};
 ghost use Rattle.script_text.specs.Script.{lookup_of, readdir_of, create_of, mkdir_of, readlink_of, symlink_of, setattr_of, unlink_of, rmdir_of, rename_of, operation_of};
 
 use crate::attributes::given_attributes;
-use mds_types::Op;
+use mds_types::{Dentry, Op};
 use script_words::{
     NOT_COMMAND, ReadError, after_name, after_text, first, four, ino, mode, name, page_size,
     target, text, three, two,
@@ -58,7 +58,7 @@ fn lookup(alloc: Global, args: &[u8]) -> Result<Op, ReadError>
     let dir = ino(dir)?;
     let bytes = text(alloc, word)?;
     let name = name(alloc, &bytes)?;
-    Ok(Op::Lookup { dir, name })
+    Ok(Op::Lookup(Dentry { dir, name }))
 }
 
 // `readdir INO AFTER MAX`
@@ -85,8 +85,7 @@ fn create(alloc: Global, args: &[u8]) -> Result<Op, ReadError>
     let mode = mode(digits)?;
     let name = name(alloc, &bytes)?;
     Ok(Op::Create {
-        dir,
-        name,
+        dentry: Dentry { dir, name },
         mode,
         mtime: 0,
     })
@@ -103,8 +102,7 @@ fn mkdir(alloc: Global, args: &[u8]) -> Result<Op, ReadError>
     let mode = mode(digits)?;
     let name = name(alloc, &bytes)?;
     Ok(Op::Mkdir {
-        dir,
-        name,
+        dentry: Dentry { dir, name },
         mode,
         mtime: 0,
     })
@@ -119,7 +117,7 @@ fn readlink(alloc: Global, args: &[u8]) -> Result<Op, ReadError>
     let dir = ino(dir)?;
     let bytes = text(alloc, word)?;
     let name = name(alloc, &bytes)?;
-    Ok(Op::Readlink { dir, name })
+    Ok(Op::Readlink(Dentry { dir, name }))
 }
 
 // `symlink INO NAME TARGET`
@@ -134,8 +132,7 @@ fn symlink(alloc: Global, args: &[u8]) -> Result<Op, ReadError>
     let name = name(alloc, &bytes)?;
     let target = target(alloc, &to_bytes)?;
     Ok(Op::Symlink {
-        dir,
-        name,
+        dentry: Dentry { dir, name },
         target,
         mtime: 0,
     })
@@ -150,14 +147,11 @@ fn setattr(alloc: Global, args: &[u8]) -> Result<Op, ReadError>
     let (word, rest) = first(rest)?;
     let dir = ino(dir)?;
     let bytes = text(alloc, word)?;
-    let given = given_attributes(rest)?;
+    let attributes = given_attributes(rest)?;
     let name = name(alloc, &bytes)?;
     Ok(Op::Setattr {
-        dir,
-        name,
-        mode: given.mode,
-        size: given.size,
-        mtime: given.mtime,
+        dentry: Dentry { dir, name },
+        attributes,
     })
 }
 
@@ -170,7 +164,7 @@ fn unlink(alloc: Global, args: &[u8]) -> Result<Op, ReadError>
     let dir = ino(dir)?;
     let bytes = text(alloc, word)?;
     let name = name(alloc, &bytes)?;
-    Ok(Op::Unlink { dir, name })
+    Ok(Op::Unlink(Dentry { dir, name }))
 }
 
 // `rmdir INO NAME`
@@ -182,7 +176,7 @@ fn rmdir(alloc: Global, args: &[u8]) -> Result<Op, ReadError>
     let dir = ino(dir)?;
     let bytes = text(alloc, word)?;
     let name = name(alloc, &bytes)?;
-    Ok(Op::Rmdir { dir, name })
+    Ok(Op::Rmdir(Dentry { dir, name }))
 }
 
 // `rename INO NAME INO NAME`
@@ -198,9 +192,13 @@ fn rename(alloc: Global, args: &[u8]) -> Result<Op, ReadError>
     let from_name = name(alloc, &bytes)?;
     let to_name = name(alloc, &to_bytes)?;
     Ok(Op::Rename {
-        dir,
-        name: from_name,
-        to_dir,
-        to_name,
+        from: Dentry {
+            dir,
+            name: from_name,
+        },
+        to: Dentry {
+            dir: to_dir,
+            name: to_name,
+        },
     })
 }

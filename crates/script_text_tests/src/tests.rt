@@ -1,5 +1,5 @@
 //! What lines ask for, with expected values by hand from the script's grammar.
-use mds_types::{Ino, Mode, Name, Op, PageSize, Rank};
+use mds_types::{Dentry, Ino, Mode, Name, Op, PageSize, Rank};
 use script_text::{Command, Line, read_line};
 use std::alloc::Global;
 use std::process::Abort;
@@ -41,7 +41,12 @@ fn lookups(rt: HostRuntime) -> Result<(), Fail> {
     for (line, dir, bytes) in lines {
         let dir = Ino(*dir);
         let name = name(alloc, bytes)?;
-        reads(&rt, alloc, line, operation(Op::Lookup { dir, name }))?;
+        reads(
+            &rt,
+            alloc,
+            line,
+            operation(Op::Lookup(Dentry { dir, name })),
+        )?;
     }
     Ok(())
 }
@@ -56,8 +61,10 @@ fn creates(rt: HostRuntime) -> Result<(), Fail> {
     ];
     for (line, bytes, bits) in lines {
         let op = Op::Create {
-            dir: Ino(1),
-            name: name(alloc, bytes)?,
+            dentry: Dentry {
+                dir: Ino(1),
+                name: name(alloc, bytes)?,
+            },
             mode: mode(*bits)?,
             mtime: 0,
         };
@@ -75,8 +82,10 @@ fn mkdirs(rt: HostRuntime) -> Result<(), Fail> {
     ];
     for (line, bytes, bits) in lines {
         let op = Op::Mkdir {
-            dir: Ino(1),
-            name: name(alloc, bytes)?,
+            dentry: Dentry {
+                dir: Ino(1),
+                name: name(alloc, bytes)?,
+            },
             mode: mode(*bits)?,
             mtime: 0,
         };

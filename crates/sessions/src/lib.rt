@@ -7,8 +7,6 @@ mod clients;
 pub mod laws;
 mod seen;
 mod session_table;
-#[cfg(test)]
-mod tests;
 
 pub use seen::Seen;
 pub use session_table::Sessions;

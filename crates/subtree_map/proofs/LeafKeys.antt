@@ -8,7 +8,7 @@ use Rattle.std.specs.FinMap.{IsAntisymmetric, get-insert, get-remove}
 use Rattle.std.proofs.lemmas.Map.Lookups.{exact_pairs}
 use Rattle.mds_types.specs.declared.ids.Ino.{Ino}
 use Rattle.mds_types.specs.Frag.{frag_cmp}
-use Rattle.mds_types.specs.PlaceLaws.{ino-exact, frag-exact, frag-total}
+use Rattle.mds_types.specs.OrderLaws.{ino-exact, frag-exact, frag-total}
 use Rattle.mds_types.specs.EntryLaws.{tie, not_true}
 use Rattle.subtree_map.specs.Authority.{Leaf, leaf_cmp}
 

@@ -3,7 +3,7 @@
 ghost use Rattle.std.specs.Prelude.{◌<◌};
 
 use cluster_core::{Answer, Book, Event, format};
-use mds_types::{Frag, Ino, Mode, Name, Op, PageSize, Rank, Reply, Request};
+use mds_types::{Dentry, Frag, Ino, Mode, Name, Op, PageSize, Rank, Reply, Request};
 use std::alloc::Global;
 
 const NAMES: u64 = 2000;
@@ -34,12 +34,21 @@ fn ask(alloc: Global, book: &mut Book, round: u8, k: u64, op: Op) -> Option<Repl
     }
 }
 
+// The dentry of the kth name in the root.
+fn dentry(alloc: Global, k: u64) -> Option<Dentry>
+    requires { k < 10000 }
+{
+    Some(Dentry {
+        dir: Ino(1),
+        name: name(alloc, k)?,
+    })
+}
+
 fn create(alloc: Global, book: &mut Book, k: u64) -> Option<Reply>
     requires { k < 10000 }
 {
     let op = Op::Create {
-        dir: Ino(1),
-        name: name(alloc, k)?,
+        dentry: dentry(alloc, k)?,
         mode: Mode::new(0o644)?,
         mtime: 0,
     };
@@ -49,10 +58,7 @@ fn create(alloc: Global, book: &mut Book, k: u64) -> Option<Reply>
 fn look(alloc: Global, book: &mut Book, round: u8, k: u64) -> Option<Reply>
     requires { k < 10000 }
 {
-    let op = Op::Lookup {
-        dir: Ino(1),
-        name: name(alloc, k)?,
-    };
+    let op = Op::Lookup(dentry(alloc, k)?);
     ask(alloc, book, round, k, op)
 }
 

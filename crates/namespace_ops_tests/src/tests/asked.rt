@@ -1,6 +1,8 @@
 //! Operations and what they come to, as values that own no memory.
 
-use mds_types::{Ino, Inode, Kind, Listing, Mode, Name, Op, PageSize, Refusal, Reply, Target};
+use mds_types::{
+    Attributes, Dentry, Ino, Inode, Kind, Listing, Mode, Name, Op, PageSize, Refusal, Reply, Target,
+};
 use std::alloc::Global;
 
 pub const ROOT: u64 = 1;
@@ -73,12 +75,25 @@ pub fn op_of(alloc: Global, asked: Asked) -> Option<Op> {
         Asked::File(dir, name) => file_made(alloc, Ino(dir), name),
         Asked::Dir(dir, name) => dir_made(alloc, Ino(dir), name),
         Asked::Link(dir, name) => link_made(alloc, Ino(dir), name),
-        Asked::Size(dir, name, size) => set(alloc, Ino(dir), name, (None, Some(size), None)),
+        Asked::Size(dir, name, size) => set(
+            alloc,
+            Ino(dir),
+            name,
+            Attributes {
+                mode: None,
+                size: Some(size),
+                mtime: None,
+            },
+        ),
         Asked::All(dir, name, mode, size, mtime) => set(
             alloc,
             Ino(dir),
             name,
-            (Mode::new(mode), Some(size), Some(mtime)),
+            Attributes {
+                mode: Mode::new(mode),
+                size: Some(size),
+                mtime: Some(mtime),
+            },
         ),
         Asked::Unlink(dir, name) => unlinked(alloc, Ino(dir), name),
         Asked::Rmdir(dir, name) => dir_removed(alloc, Ino(dir), name),
@@ -92,9 +107,13 @@ fn name_of(alloc: Global, byte: u8) -> Option<Name> {
     Name::from_bytes(alloc, &[byte]).ok()
 }
 
-fn found(alloc: Global, dir: Ino, byte: u8) -> Option<Op> {
+fn dentry_of(alloc: Global, dir: Ino, byte: u8) -> Option<Dentry> {
     let name = name_of(alloc, byte)?;
-    Some(Op::Lookup { dir, name })
+    Some(Dentry { dir, name })
+}
+
+fn found(alloc: Global, dir: Ino, byte: u8) -> Option<Op> {
+    Some(Op::Lookup(dentry_of(alloc, dir, byte)?))
 }
 
 fn listed(alloc: Global, dir: Ino, after: Option<u8>, max: PageSize) -> Option<Op> {
@@ -106,16 +125,14 @@ fn listed(alloc: Global, dir: Ino, after: Option<u8>, max: PageSize) -> Option<O
 }
 
 fn link_read(alloc: Global, dir: Ino, byte: u8) -> Option<Op> {
-    let name = name_of(alloc, byte)?;
-    Some(Op::Readlink { dir, name })
+    Some(Op::Readlink(dentry_of(alloc, dir, byte)?))
 }
 
 fn file_made(alloc: Global, dir: Ino, byte: u8) -> Option<Op> {
     let mode = Mode::new(0o644)?;
-    let name = name_of(alloc, byte)?;
+    let dentry = dentry_of(alloc, dir, byte)?;
     Some(Op::Create {
-        dir,
-        name,
+        dentry,
         mode,
         mtime: 7,
     })
@@ -123,10 +140,9 @@ fn file_made(alloc: Global, dir: Ino, byte: u8) -> Option<Op> {
 
 fn dir_made(alloc: Global, dir: Ino, byte: u8) -> Option<Op> {
     let mode = Mode::new(0o755)?;
-    let name = name_of(alloc, byte)?;
+    let dentry = dentry_of(alloc, dir, byte)?;
     Some(Op::Mkdir {
-        dir,
-        name,
+        dentry,
         mode,
         mtime: 0,
     })
@@ -134,50 +150,31 @@ fn dir_made(alloc: Global, dir: Ino, byte: u8) -> Option<Op> {
 
 fn link_made(alloc: Global, dir: Ino, byte: u8) -> Option<Op> {
     let target = Target::from_bytes(alloc, b"a b").ok()?;
-    let name = name_of(alloc, byte)?;
+    let dentry = dentry_of(alloc, dir, byte)?;
     Some(Op::Symlink {
-        dir,
-        name,
+        dentry,
         target,
         mtime: 0,
     })
 }
 
-fn set(
-    alloc: Global,
-    dir: Ino,
-    byte: u8,
-    attributes: (Option<Mode>, Option<u64>, Option<u64>),
-) -> Option<Op> {
-    let name = name_of(alloc, byte)?;
-    Some(Op::Setattr {
-        dir,
-        name,
-        mode: attributes.0,
-        size: attributes.1,
-        mtime: attributes.2,
-    })
+fn set(alloc: Global, dir: Ino, byte: u8, attributes: Attributes) -> Option<Op> {
+    let dentry = dentry_of(alloc, dir, byte)?;
+    Some(Op::Setattr { dentry, attributes })
 }
 
 fn unlinked(alloc: Global, dir: Ino, byte: u8) -> Option<Op> {
-    let name = name_of(alloc, byte)?;
-    Some(Op::Unlink { dir, name })
+    Some(Op::Unlink(dentry_of(alloc, dir, byte)?))
 }
 
 fn dir_removed(alloc: Global, dir: Ino, byte: u8) -> Option<Op> {
-    let name = name_of(alloc, byte)?;
-    Some(Op::Rmdir { dir, name })
+    Some(Op::Rmdir(dentry_of(alloc, dir, byte)?))
 }
 
 fn renamed(alloc: Global, source: (Ino, u8), target: (Ino, u8)) -> Option<Op> {
-    let name = name_of(alloc, source.1)?;
-    let to_name = name_of(alloc, target.1)?;
-    Some(Op::Rename {
-        dir: source.0,
-        name,
-        to_dir: target.0,
-        to_name,
-    })
+    let from = dentry_of(alloc, source.0, source.1)?;
+    let to = dentry_of(alloc, target.0, target.1)?;
+    Some(Op::Rename { from, to })
 }
 
 /// What serving came to.

@@ -4,7 +4,7 @@ ghost use Rattle.namespace_ops.specs.Reasons.{IsOfFragments};
 use super::asked::{Asked, Came, FIRST, ROOT, op_of, told};
 use super::plain_frags::PlainFrags;
 use super::{ALL, REPLACED, Row, shown};
-use mds_types::{Frag, Ino, Inode, Listing, Name, Op, PageSize, Refusal};
+use mds_types::{Dentry, Frag, Ino, Inode, Listing, Name, Op, PageSize, Refusal};
 use namespace_ops::{Change, Frags, changes, serve_op};
 use std::alloc::Global;
 
@@ -58,25 +58,19 @@ impl Frags for FaultyFrags {
         self.inner.is_above(dir, below)
     }
 
-    fn frag_of(&self, dir: Ino, name: &Name) -> Frag {
-        self.inner.frag_of(dir, name)
+    fn frag_of(&self, dentry: &Dentry) -> Frag {
+        self.inner.frag_of(dentry)
     }
 
     fn leaves(&self, alloc: Global, dir: Ino) -> Result<Vec<Frag>, Refusal> {
         self.inner.leaves(alloc, dir)
     }
 
-    fn look(
-        &mut self,
-        op: &Op,
-        dir: Ino,
-        leaf: Frag,
-        name: &Name,
-    ) -> Result<Option<Inode>, Refusal> {
+    fn look(&mut self, op: &Op, dentry: &Dentry, leaf: Frag) -> Result<Option<Inode>, Refusal> {
         if meets_fault(&mut self.left) {
             return Err(Refusal::StoreFault);
         }
-        match self.inner.look(op, dir, leaf, name) {
+        match self.inner.look(op, dentry, leaf) {
             Ok(found) => Ok(found),
             Err(_) => Err(Refusal::NoMemory),
         }

@@ -2,14 +2,14 @@
 ghost use Rattle.std.specs.Prelude.{◌≡◌, ◌∷◌, [], take, ◌<◌, ◌≤◌, length, nat_lt, IfOk, MatchOption};
 ghost use Rattle.namespace_ops_tests.specs.Run.{run};
 
-use mds_types::{Ino, Inode, Listing, Name, PageSize, Place};
+use mds_types::{Dentry, Ino, Inode, Listing, Name, PageSize};
 use sorted_map::Iter;
 use std::alloc::{AllocError, Global};
 
 /// Of the rows of one directory at the front, the first `max` with their names and inodes copied, and whether more follow.
 pub fn first_rows(
     alloc: Global,
-    mut rows: Iter<'_, Place, Inode>,
+    mut rows: Iter<'_, Dentry, Inode>,
     dir: Ino,
     max: PageSize,
 ) -> Result<(Listing, bool), AllocError>
@@ -28,7 +28,7 @@ pub fn first_rows(
 }
 
 /// The next row, if it is one of the directory.
-pub fn next_in<'a>(rows: &mut Iter<'a, Place, Inode>, dir: Ino) -> Option<&'a (Place, Inode)>
+pub fn next_in<'a>(rows: &mut Iter<'a, Dentry, Inode>, dir: Ino) -> Option<&'a (Dentry, Inode)>
     ensures run { MatchOption result (run dir.0 rows.old ≡ []) (λ row. run dir.0 rows.old ≡ (row.now.0.name, row.now.1) ∷ run dir.0 rows.new) }
     ensures fewer { MatchOption result (length rows.new ≤ length rows.old) (λ row. length rows.new < length rows.old) }
 {

@@ -3,13 +3,14 @@ ghost use Rattle.std.specs.Prelude.{◌≡◌, ◌==◌, ◌||◌, true, not};
 ghost use Rattle.mds_types.specs.WellFormedLaws.{IsUnused};
 ghost use Rattle.std.specs.Option.{option_copied};
 ghost use Rattle.std.specs.Ordering.{is_eq};
-ghost use Rattle.mds_types.specs.Tree.{at, is_above, has_entries, is_directory, is_entry_of_directory, place_cmp, place_of};
+ghost use Rattle.std.specs.FinMap as map;
+ghost use Rattle.mds_types.specs.Tree.{is_above, has_entries, is_directory, is_entry_of_directory, dentry_cmp};
 ghost use Rattle.namespace_ops_tests.specs.OneEntry.{tree_of, IsReadyOne};
 ghost use Rattle.namespace_ops.specs.Changes.{Takes, changed};
 
 use super::asked::{Asked, Came, FIRST, ROOT, op_of, told};
 use inode_table::Dirs;
-use mds_types::{Frag, Ino, Inode, Listing, Name, Op, PageSize, Place, Refusal};
+use mds_types::{Dentry, Frag, Ino, Inode, Listing, Name, Op, PageSize, Refusal};
 use namehash::rjenkins;
 use namespace_ops::{Change, Frags, serve_op};
 use std::alloc::Global;
@@ -17,7 +18,7 @@ use std::alloc::Global;
 /// At most one entry: a second one is refused for want of memory, and so is every listing.
 #[derive(Drop)]
 pub struct OneEntryFrags {
-    pub only: Option<(Place, Inode)>,
+    pub only: Option<(Dentry, Inode)>,
     pub dirs: Dirs,
 }
 
@@ -59,8 +60,8 @@ impl Frags for OneEntryFrags {
         is_only_above(&self.only, dir, below)
     }
 
-    fn frag_of(&self, dir: Ino, name: &Name) -> Frag {
-        self.dirs.pick(dir, rjenkins(name.as_bytes()))
+    fn frag_of(&self, dentry: &Dentry) -> Frag {
+        self.dirs.pick(dentry.dir, rjenkins(dentry.name.as_bytes()))
     }
 
     fn leaves(&self, alloc: Global, dir: Ino) -> Result<Vec<Frag>, Refusal> {
@@ -70,14 +71,8 @@ impl Frags for OneEntryFrags {
         Ok(tree.leaves(alloc)?)
     }
 
-    fn look(
-        &mut self,
-        _op: &Op,
-        dir: Ino,
-        _leaf: Frag,
-        name: &Name,
-    ) -> Result<Option<Inode>, Refusal> {
-        match only_at(&self.only, dir, name) {
+    fn look(&mut self, _op: &Op, dentry: &Dentry, _leaf: Frag) -> Result<Option<Inode>, Refusal> {
+        match only_at(&self.only, dentry) {
             Some(inode) => Ok(Some(inode.try_clone()?)),
             None => Ok(None),
         }
@@ -112,14 +107,14 @@ impl Frags for OneEntryFrags {
 }
 
 // What stands after a change.
-fn after_change(only: Option<(Place, Inode)>, change: Change) -> Option<(Place, Inode)>
+fn after_change(only: Option<(Dentry, Inode)>, change: Change) -> Option<(Dentry, Inode)>
     requires ready { IsReadyOne only change }
     requires may { Takes (tree_of only) change }
     ensures { tree_of result ≡ changed (tree_of only) change }
 {
     match change {
-        Change::Add { place, inode, .. } => Some((place, inode)),
-        Change::Set { place, inode, .. } => Some((place, inode)),
+        Change::Add { dentry, inode, .. } => Some((dentry, inode)),
+        Change::Set { dentry, inode, .. } => Some((dentry, inode)),
         Change::Remove { .. } => None,
         Change::Move { to, .. } => {
             let (_, inode) = only?;
@@ -129,7 +124,7 @@ fn after_change(only: Option<(Place, Inode)>, change: Change) -> Option<(Place, 
 }
 
 // Whether the entry is that of this directory.
-fn is_its_directory(only: &Option<(Place, Inode)>, dir: Ino) -> bool
+fn is_its_directory(only: &Option<(Dentry, Inode)>, dir: Ino) -> bool
     ensures { is_directory (tree_of only.now) dir.0 ≡ ((dir.0 == 1) || result) }
 {
     match only {
@@ -138,19 +133,19 @@ fn is_its_directory(only: &Option<(Place, Inode)>, dir: Ino) -> bool
     }
 }
 
-fn is_entry_of(entry: &(Place, Inode), dir: Ino) -> bool
+fn is_entry_of(entry: &(Dentry, Inode), dir: Ino) -> bool
     ensures { result ≡ is_entry_of_directory dir.0 entry.now }
 {
     entry.1.kind.is_dir() && entry.1.ino == dir
 }
 
-// The inode at a name.
-fn only_at<'a>(only: &'a Option<(Place, Inode)>, dir: Ino, name: &Name) -> Option<&'a Inode>
-    ensures { option_copied result ≡ at (tree_of only.entry.now) dir.0 name.now }
+// The inode at a dentry.
+fn only_at<'a>(only: &'a Option<(Dentry, Inode)>, dentry: &Dentry) -> Option<&'a Inode>
+    ensures { option_copied result ≡ map.get (tree_of only.entry.now) dentry.entry.now }
 {
     match only {
         Some(entry) => {
-            if is_at(&entry.0, dir, name) {
+            if is_at(&entry.0, dentry) {
                 Some(&entry.1)
             } else {
                 None
@@ -160,14 +155,14 @@ fn only_at<'a>(only: &'a Option<(Place, Inode)>, dir: Ino, name: &Name) -> Optio
     }
 }
 
-fn is_at(place: &Place, dir: Ino, name: &Name) -> bool
-    ensures { result ≡ is_eq (place_cmp (place_of dir.0 name.now) place.now) }
+fn is_at(dentry: &Dentry, wanted: &Dentry) -> bool
+    ensures { result ≡ is_eq (dentry_cmp wanted.now dentry.now) }
 {
-    dir.cmp(&place.dir).then(name.cmp(&place.name)).is_eq()
+    wanted.cmp(dentry).is_eq()
 }
 
 // Whether the entry leads from the one number to the other.
-fn is_only_above(only: &Option<(Place, Inode)>, dir: Ino, below: Ino) -> bool
+fn is_only_above(only: &Option<(Dentry, Inode)>, dir: Ino, below: Ino) -> bool
     ensures { result ≡ is_above (tree_of only.now) dir.0 below.0 }
 {
     match only {
@@ -177,7 +172,7 @@ fn is_only_above(only: &Option<(Place, Inode)>, dir: Ino, below: Ino) -> bool
 }
 
 // Whether the entry is in another directory.
-fn has_none(only: &Option<(Place, Inode)>, dir: Ino) -> bool
+fn has_none(only: &Option<(Dentry, Inode)>, dir: Ino) -> bool
     ensures { result ≡ not (has_entries (tree_of only.now) dir.0) }
 {
     match only {
@@ -217,7 +212,7 @@ pub fn served(alloc: Global, frags: &mut OneEntryFrags, asked: Asked, number: u6
     }
 }
 
-fn is_unused(only: &Option<(Place, Inode)>, number: Ino) -> bool
+fn is_unused(only: &Option<(Dentry, Inode)>, number: Ino) -> bool
     ensures { (result ≡ true) → IsUnused (tree_of only.now) number.0 }
 {
     if number == Ino::ROOT {
@@ -235,15 +230,15 @@ fn wrong(alloc: Global) -> Option<(usize, Came)> {
         only: None,
         dirs: Dirs::new(alloc),
     };
-    for (place, (asked, wanted)) in ROW.iter().enumerate() {
+    for (dentry, (asked, wanted)) in ROW.iter().enumerate() {
         let found = served(
             alloc,
             &mut frags,
             *asked,
-            FIRST.saturating_add(place as u64),
+            FIRST.saturating_add(dentry as u64),
         );
         if found != *wanted {
-            return Some((place, found));
+            return Some((dentry, found));
         }
     }
     None

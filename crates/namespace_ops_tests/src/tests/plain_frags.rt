@@ -4,7 +4,7 @@ ghost use Rattle.std.specs.List.{list_any};
 ghost use Rattle.std.specs.Option.{option_copied};
 ghost use Rattle.std.specs.FinMap as map;
 ghost use Rattle.sorted_map.specs.SortedMap.{contents};
-ghost use Rattle.mds_types.specs.Tree.{place_cmp, at, has_entries};
+ghost use Rattle.mds_types.specs.Tree.{dentry_cmp, has_entries};
 ghost use Rattle.mds_types.specs.Step.{names_after};
 ghost use Rattle.namespace_ops_tests.specs.Run.{run};
 ghost use Rattle.mds_types.specs.WellFormedLaws.{IsUnused};
@@ -13,7 +13,7 @@ ghost use Rattle.namespace_ops_tests.specs.PlainFrags.{Kept, is_numbered};
 use super::listing::{first_rows, next_in};
 use super::plain_changes::{add_entry, move_entry, remove_entry, set_entry};
 use inode_table::Dirs;
-use mds_types::{Frag, Ino, Inode, Listing, Name, Op, PageSize, Place, Refusal};
+use mds_types::{Dentry, Frag, Ino, Inode, Listing, Name, Op, PageSize, Refusal};
 use namehash::rjenkins;
 use namespace_ops::{Change, Frags};
 use sorted_map::{Iter, Probe, SortedMap};
@@ -27,15 +27,15 @@ use std::marker::Model;
 /// Of every value it holds that the tree is well formed and the table is that of the tree.
 #[derive(Drop)]
 pub struct PlainFrags {
-    entries: SortedMap<Place, Inode>,
+    entries: SortedMap<Dentry, Inode>,
     dirs: Dirs,
-    /// The name of the directory that comes or moves next, for its place in the table.
+    /// The name of the directory that comes or moves next, for its home in the table.
     spare: Option<Name>,
 }
 
 impl Model for PlainFrags {
     ghost use Rattle.std.specs.Prelude.{◌≡◌};
-    ghost use Rattle.mds_types.specs.Tree.{place_cmp};
+    ghost use Rattle.mds_types.specs.Tree.{dentry_cmp};
     ghost use Rattle.sorted_map.specs.SortedMap.{contents};
     ghost use Rattle.std.specs.Coded.{codes};
     ghost use Rattle.std.specs.FinMap as map;
@@ -46,9 +46,9 @@ impl Model for PlainFrags {
 
     ghost coded = { Prim.hlevel (codes, map.code) };
 
-    ghost view = { λ f. record { tree = contents place_cmp f.entries; homes = f.dirs.homes; covers = f.dirs.trees; entries_left = f.entries.room; dirs_left = f.dirs.room; spare = f.spare } };
+    ghost view = { λ f. record { tree = contents dentry_cmp f.entries; homes = f.dirs.homes; covers = f.dirs.trees; entries_left = f.entries.room; dirs_left = f.dirs.room; spare = f.spare } };
 
-    ghost invariant = { λ f. IsTabled (contents place_cmp f.entries) f.dirs.homes };
+    ghost invariant = { λ f. IsTabled (contents dentry_cmp f.entries) f.dirs.homes };
 }
 
 impl PlainFrags {
@@ -73,7 +73,7 @@ impl PlainFrags {
 }
 
 // Whether no row has an inode of this number.
-fn none_numbered(mut rows: Iter<'_, Place, Inode>, number: Ino) -> bool
+fn none_numbered(mut rows: Iter<'_, Dentry, Inode>, number: Ino) -> bool
     ensures { result ≡ not (list_any (is_numbered number.0) rows.entry) }
 {
     while let Some(row) = rows.next() {
@@ -92,31 +92,31 @@ impl fmt::Debug for PlainFrags {
     }
 }
 
-/// A place whose name is borrowed.
+/// A name, borrowed, after which the names of a directory are listed.
 #[derive(Clone, Copy)]
-struct PlaceRef<'a> {
+struct AfterName<'a> {
     dir: Ino,
     name: &'a Name,
 }
 
-impl<'a> Probe<Place> for PlaceRef<'a> {
+impl<'a> Probe<Dentry> for AfterName<'a> {
     ghost key = { λ p. record { dir = p.dir; name = p.name.now } };
 
-    fn order(&self, other: &Place) -> Ordering {
+    fn order(&self, other: &Dentry) -> Ordering {
         self.dir.cmp(&other.dir).then(self.name.cmp(&other.name))
     }
 }
 
-/// The place before all names of a directory.
+/// The dentry before all names of a directory.
 #[derive(Clone, Copy)]
 struct DirFront {
     dir: Ino,
 }
 
-impl Probe<Place> for DirFront {
+impl Probe<Dentry> for DirFront {
     ghost key = { λ p. record { dir = p.dir; name = [] } };
 
-    fn order(&self, other: &Place) -> Ordering {
+    fn order(&self, other: &Dentry) -> Ordering {
         let empty: &[u8] = &[];
         self.dir
             .cmp(&other.dir)
@@ -162,8 +162,8 @@ impl Frags for PlainFrags {
         self.dirs.is_above(dir, below)
     }
 
-    fn frag_of(&self, dir: Ino, name: &Name) -> Frag {
-        self.dirs.pick(dir, rjenkins(name.as_bytes()))
+    fn frag_of(&self, dentry: &Dentry) -> Frag {
+        self.dirs.pick(dentry.dir, rjenkins(dentry.name.as_bytes()))
     }
 
     fn leaves(&self, alloc: Global, dir: Ino) -> Result<Vec<Frag>, Refusal> {
@@ -173,14 +173,8 @@ impl Frags for PlainFrags {
         Ok(tree.leaves(alloc)?)
     }
 
-    fn look(
-        &mut self,
-        _op: &Op,
-        dir: Ino,
-        _leaf: Frag,
-        name: &Name,
-    ) -> Result<Option<Inode>, Refusal> {
-        Ok(inode_at(&self.entries, dir, name)?)
+    fn look(&mut self, _op: &Op, dentry: &Dentry, _leaf: Frag) -> Result<Option<Inode>, Refusal> {
+        Ok(inode_at(&self.entries, dentry)?)
     }
 
     fn list_after(
@@ -200,10 +194,10 @@ impl Frags for PlainFrags {
 
     fn ready(&mut self, _op: &Op, change: &Change) -> Result<(), Refusal> {
         match change {
-            Change::Add { place, inode, .. } => {
+            Change::Add { dentry, inode, .. } => {
                 self.entries.reserve(1)?;
                 if inode.kind.is_dir() {
-                    self.spare = Some(place.name.try_clone()?);
+                    self.spare = Some(dentry.name.try_clone()?);
                     return self.dirs.reserve();
                 }
             }
@@ -220,23 +214,22 @@ impl Frags for PlainFrags {
             spare,
         } = self;
         match change {
-            Change::Add { place, inode, .. } => add_entry(entries, dirs, spare, place, inode),
-            Change::Set { place, inode, .. } => set_entry(entries, dirs, &place, inode),
-            Change::Remove { place, .. } => remove_entry(entries, dirs, &place),
+            Change::Add { dentry, inode, .. } => add_entry(entries, dirs, spare, dentry, inode),
+            Change::Set { dentry, inode, .. } => set_entry(entries, dirs, &dentry, inode),
+            Change::Remove { dentry, .. } => remove_entry(entries, dirs, &dentry),
             Change::Move { from, to, .. } => move_entry(entries, dirs, spare, &from, to),
         }
     }
 }
 
-// The inode at a name, copied.
+// The inode at a dentry, copied.
 fn inode_at(
-    entries: &SortedMap<Place, Inode>,
-    dir: Ino,
-    name: &Name,
+    entries: &SortedMap<Dentry, Inode>,
+    dentry: &Dentry,
 ) -> Result<Option<Inode>, AllocError>
-    ensures { IfOk result (λ found. found ≡ at (contents place_cmp entries.now) dir.0 name.now) }
+    ensures { IfOk result (λ found. found ≡ map.get (contents dentry_cmp entries.now) dentry.now) }
 {
-    match entries.get(&PlaceRef { dir, name }) {
+    match entries.get(dentry) {
         Some(inode) => Ok(Some(inode.try_clone()?)),
         None => Ok(None),
     }
@@ -244,21 +237,21 @@ fn inode_at(
 
 // The rows from the first name of the directory that is greater than `after`.
 fn rows_after<'a>(
-    entries: &'a SortedMap<Place, Inode>,
+    entries: &'a SortedMap<Dentry, Inode>,
     dir: Ino,
     after: Option<&Name>,
-) -> Iter<'a, Place, Inode>
-    ensures { run dir.0 result ≡ names_after (contents place_cmp entries.entry.now) dir.0 (option_copied after.entry) }
+) -> Iter<'a, Dentry, Inode>
+    ensures { run dir.0 result ≡ names_after (contents dentry_cmp entries.entry.now) dir.0 (option_copied after.entry) }
 {
     match after {
-        Some(name) => entries.iter_after(&PlaceRef { dir, name }),
+        Some(name) => entries.iter_after(&AfterName { dir, name }),
         None => entries.iter_from(&DirFront { dir }),
     }
 }
 
 // Whether no entry is in the directory.
-fn nothing_in(entries: &SortedMap<Place, Inode>, dir: Ino) -> bool
-    ensures { result ≡ not (has_entries (contents place_cmp entries.now) dir.0) }
+fn nothing_in(entries: &SortedMap<Dentry, Inode>, dir: Ino) -> bool
+    ensures { result ≡ not (has_entries (contents dentry_cmp entries.now) dir.0) }
 {
     let mut rows = rows_after(entries, dir, None);
     next_in(&mut rows, dir).is_none()

@@ -107,7 +107,7 @@ fn every_pair_is_renamed_as_the_table_says(rt: HostRuntime) {
 }
 
 #[test]
-fn onto_its_own_place_nothing_happens(rt: HostRuntime) {
+fn onto_itself_nothing_happens(rt: HostRuntime) {
     let alloc = rt.alloc();
     for stands in KINDS {
         let wanted = if stands == Stands::Nothing {

@@ -280,7 +280,7 @@ impl SlowTable {
         Came::Done
     }
 
-    // The errno of a rename to another place; 0 for none.
+    // The errno of a rename to another dentry; 0 for none.
     fn rename_errno(&self, entry: Entry, to: (u64, u8)) -> u16 {
         let is_dir = entry.sort == Sort::Dir;
         if is_dir && self.leads_to(entry.ino, to.0) {

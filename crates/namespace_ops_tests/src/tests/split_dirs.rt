@@ -67,9 +67,9 @@ fn named(alloc: Global, frags: &mut OneEntryFrags, asked: Asked) -> Option<(usiz
         return None;
     };
     let mut all = [NONE; 3];
-    for (place, (dir, frag)) in list.iter().enumerate() {
-        if place < 3 {
-            all[place] = (dir.0, frag.word());
+    for (dentry, (dir, frag)) in list.iter().enumerate() {
+        if dentry < 3 {
+            all[dentry] = (dir.0, frag.word());
         }
     }
     Some((list.len(), all))
@@ -98,10 +98,10 @@ fn wrong(alloc: Global) -> Option<(usize, Option<(usize, [Named; 3])>)> {
     let Some(mut frags) = halves(alloc) else {
         return Some((ROW.len(), None));
     };
-    for (place, (asked, count, all)) in ROW.iter().enumerate() {
+    for (dentry, (asked, count, all)) in ROW.iter().enumerate() {
         let found = named(alloc, &mut frags, *asked);
         if found != Some((*count, *all)) {
-            return Some((place, found));
+            return Some((dentry, found));
         }
     }
     None

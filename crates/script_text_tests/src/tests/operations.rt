@@ -1,11 +1,11 @@
 //! The lines of the operations on links, attributes and places, as tables worked by hand.
-use mds_types::{Ino, Mode, Name, Op};
+use mds_types::{Dentry, Mode, Op};
 use script_text::{Command, Line, read_line};
 use std::alloc::Global;
 use std::process::Abort;
 use std::test::Fail;
 
-// A directory's number and the bytes of a name in it.
+// A dentry: a directory's number and the bytes of a name in it.
 type At<'a> = (u64, &'a [u8]);
 
 // An operation, with the bytes that its words stand for.
@@ -19,8 +19,8 @@ enum Wanted<'a> {
     Rename(At<'a>, At<'a>),
 }
 
-fn is_at(dir: &Ino, name: &Name, at: At) -> bool {
-    dir.0 == at.0 && name.as_bytes() == at.1
+fn is_at(dentry: &Dentry, at: At) -> bool {
+    dentry.dir.0 == at.0 && dentry.name.as_bytes() == at.1
 }
 
 fn has_mode(mode: &Option<Mode>, bits: Option<u16>) -> bool {
@@ -32,39 +32,26 @@ fn has_mode(mode: &Option<Mode>, bits: Option<u16>) -> bool {
 
 fn is_wanted(op: &Op, wanted: Wanted) -> bool {
     match (op, wanted) {
-        (Op::Readlink { dir, name }, Wanted::Readlink(at))
-        | (Op::Unlink { dir, name }, Wanted::Unlink(at))
-        | (Op::Rmdir { dir, name }, Wanted::Rmdir(at)) => is_at(dir, name, at),
+        (Op::Readlink(dentry), Wanted::Readlink(at))
+        | (Op::Unlink(dentry), Wanted::Unlink(at))
+        | (Op::Rmdir(dentry), Wanted::Rmdir(at)) => is_at(dentry, at),
         (
             Op::Symlink {
-                dir,
-                name,
+                dentry,
                 target,
                 mtime,
             },
             Wanted::Symlink(at, bytes),
-        ) => is_at(dir, name, at) && target.as_bytes() == bytes && *mtime == 0,
-        (
-            Op::Setattr {
-                dir,
-                name,
-                mode,
-                size,
-                mtime,
-            },
-            Wanted::Setattr(at, bits, new_size, new_mtime),
-        ) => {
-            is_at(dir, name, at) && has_mode(mode, bits) && *size == new_size && *mtime == new_mtime
+        ) => is_at(dentry, at) && target.as_bytes() == bytes && *mtime == 0,
+        (Op::Setattr { dentry, attributes }, Wanted::Setattr(at, bits, new_size, new_mtime)) => {
+            is_at(dentry, at)
+                && has_mode(&attributes.mode, bits)
+                && attributes.size == new_size
+                && attributes.mtime == new_mtime
         }
-        (
-            Op::Rename {
-                dir,
-                name,
-                to_dir,
-                to_name,
-            },
-            Wanted::Rename(from, to),
-        ) => is_at(dir, name, from) && is_at(to_dir, to_name, to),
+        (Op::Rename { from, to }, Wanted::Rename(source, target)) => {
+            is_at(from, source) && is_at(to, target)
+        }
         _ => false,
     }
 }

@@ -8,6 +8,7 @@ use Rattle.inode_table.proofs.TableLaws.{leaves_kept}
 use Rattle.inode_table.proofs.MoveLaws.{may_relocate, may_replace, moved_tabled}
 use Rattle.cluster_core.proofs.LeafChanges.{moving, moved_tree, replaced_is, replaced_empty}
 use Rattle.cluster_core.proofs.LeafFrames.{only_two_then}
+use Rattle.cluster_core.proofs.Standing.{known_with, written}
 use Rattle.cluster_core.proofs.leaf_changes.move_entry.Goals as goal
 
 pub relocate_dir-requires-clause-may : goal.relocate_dir-requires-clause-may
@@ -31,8 +32,8 @@ put_at-requires-clause-picks c = rw c.relocate_dir.ensures.trees (c.each_hash_ha
 pub put_at-requires-clause-leaf : goal.put_at-requires-clause-leaf
 put_at-requires-clause-leaf c = rw c.relocate_dir.ensures.trees c.requires.target
 
-pub drop_leaves-requires-clause-childless : goal.drop_leaves-requires-clause-childless
-drop_leaves-requires-clause-childless c gone is kinded =
+pub drop_leaves-requires-clause-may : goal.drop_leaves-requires-clause-may
+drop_leaves-requires-clause-may c gone is kinded =
     rw c.relocate_dir.ensures.homes
     (may_replace (shown_by c.args.leaves.now) _ c.args.from.now c.args.to c.in-Some.inode c.requires.sound.tabled move gone
     (sym (c.as_ref.ensures.value ∙ replaced_is _ _ _ c.args.from.now c.args.to c.in-Some.inode c.take_from-replaced.result c.requires.sound.tabled move c.take_from.ensures.tree c.take_from-replaced.ensures.value) ∙ is))
@@ -59,6 +60,13 @@ pub returns-clause-sound : goal.returns-clause-sound
 returns-clause-sound c = record {
   table = c.drop_leaves.ensures.table;
   placed = c.drop_leaves.ensures.placed;
+  standing =
+      c.drop_leaves.ensures.standing
+      (rw (c.relocate_dir.ensures.homes, c.relocate_dir.ensures.trees)
+      (written _ _ _ c.take_from-replaced.new.leaves c.put_at.new.leaves _ c.args.to c.args.target c.requires.sound.tabled move.parent c.requires.target (known_with _ c.args.to c.in-Some.inode) c.put_at.ensures.rows
+      (written _ _ _ c.take_from.new.leaves c.take_from-replaced.new.leaves _ c.args.to c.args.target c.requires.sound.tabled move.parent c.requires.target (λ d known. known) c.take_from-replaced.ensures.rows
+      (written _ _ _ c.args.leaves.now c.take_from.new.leaves _ c.args.from.now c.args.source c.requires.sound.tabled (c.requires.sound.tabled.whole.parents c.args.from.now.dir.0 c.args.from.now.name c.in-Some.inode move.stands) c.requires.source
+      (λ d known. known) c.take_from.ensures.rows c.requires.sound.standing))));
   tabled =
       rw (
         c.drop_leaves.ensures.tree,

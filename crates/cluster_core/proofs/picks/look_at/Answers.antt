@@ -3,4 +3,4 @@ use Rattle.leaf_maps.specs.LeafLaws.{shown_at}
 use Rattle.cluster_core.proofs.picks.look_at.Goals as goal
 
 pub returns : goal.returns
-returns c = c.look.ensures ∙ sym (shown_at c.args.dirs.now.trees c.args.leaves.now c.requires.placed c.args.dir.0 c.args.name.now c.args.leaf c.requires.leaf)
+returns c = c.look.ensures ∙ sym (shown_at c.args.dirs.now.trees c.args.leaves.now c.requires.placed c.args.dentry.now.dir.0 c.args.dentry.now.name c.args.leaf c.requires.leaf)

@@ -6,7 +6,7 @@ use Rattle.namespace_ops.proofs.CheckedParts.{within_from}
 use Rattle.namespace_ops.proofs.checking.check_within.Goals as goal
 
 pub returns-in-Lookup-clause-checked : goal.returns-in-Lookup-clause-checked
-returns-in-Lookup-clause-checked g c = within_from _ _ _ (Lookup c.in-Lookup.dir c.in-Lookup.name) c.args.number.0 _ c.in-Lookup.is (c.lookup.ensures.checked c.args.number.0)
+returns-in-Lookup-clause-checked g c = within_from _ _ _ (Lookup c.in-Lookup.dentry) c.args.number.0 _ c.in-Lookup.is (c.lookup.ensures.checked c.args.number.0)
 
 pub returns-in-Readdir-clause-checked : goal.returns-in-Readdir-clause-checked
 returns-in-Readdir-clause-checked g c = within_from _ _ _ (Readdir c.in-Readdir.dir c.in-Readdir.after c.in-Readdir.max) c.args.number.0 _ c.in-Readdir.is
@@ -16,16 +16,16 @@ returns-in-Readdir-clause-checked g c = within_from _ _ _ (Readdir c.in-Readdir.
     c.as_ref.ensures.value (c.read_dir.ensures.checked c.args.number.0))
 
 pub returns-in-Readlink-clause-checked : goal.returns-in-Readlink-clause-checked
-returns-in-Readlink-clause-checked g c = within_from _ _ _ (Readlink c.in-Readlink.dir c.in-Readlink.name) c.args.number.0 _ c.in-Readlink.is (c.read_link.ensures.checked c.args.number.0)
+returns-in-Readlink-clause-checked g c = within_from _ _ _ (Readlink c.in-Readlink.dentry) c.args.number.0 _ c.in-Readlink.is (c.read_link.ensures.checked c.args.number.0)
 
 pub returns-in-Setattr-clause-checked : goal.returns-in-Setattr-clause-checked
-returns-in-Setattr-clause-checked g c = within_from _ _ _ (Setattr c.in-Setattr.dir c.in-Setattr.name c.in-Setattr.mode c.in-Setattr.size c.in-Setattr.mtime) c.args.number.0 _ c.in-Setattr.is (c.set_attributes.ensures.checked c.args.number.0)
+returns-in-Setattr-clause-checked g c = within_from _ _ _ (Setattr c.in-Setattr.dentry c.in-Setattr.attributes) c.args.number.0 _ c.in-Setattr.is (c.set_attributes.ensures.checked c.args.number.0)
 
 pub returns-in-Unlink-clause-checked : goal.returns-in-Unlink-clause-checked
-returns-in-Unlink-clause-checked g c = within_from _ _ _ (Unlink c.in-Unlink.dir c.in-Unlink.name) c.args.number.0 _ c.in-Unlink.is (c.unlink.ensures.checked c.args.number.0)
+returns-in-Unlink-clause-checked g c = within_from _ _ _ (Unlink c.in-Unlink.dentry) c.args.number.0 _ c.in-Unlink.is (c.unlink.ensures.checked c.args.number.0)
 
 pub returns-in-Rmdir-clause-checked : goal.returns-in-Rmdir-clause-checked
-returns-in-Rmdir-clause-checked g c = within_from _ _ _ (Rmdir c.in-Rmdir.dir c.in-Rmdir.name) c.args.number.0 _ c.in-Rmdir.is (c.remove_dir.ensures.checked c.args.number.0)
+returns-in-Rmdir-clause-checked g c = within_from _ _ _ (Rmdir c.in-Rmdir.dentry) c.args.number.0 _ c.in-Rmdir.is (c.remove_dir.ensures.checked c.args.number.0)
 
 pub returns-in-Rename-clause-checked : goal.returns-in-Rename-clause-checked
-returns-in-Rename-clause-checked g c = within_from _ _ _ (Rename c.in-Rename.dir c.in-Rename.name c.in-Rename.to_dir c.in-Rename.to_name) c.args.number.0 _ c.in-Rename.is (c.rename.ensures.checked c.args.number.0)
+returns-in-Rename-clause-checked g c = within_from _ _ _ (Rename c.in-Rename.from c.in-Rename.to) c.args.number.0 _ c.in-Rename.is (c.rename.ensures.checked c.args.number.0)

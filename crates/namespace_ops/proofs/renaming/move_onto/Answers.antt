@@ -7,13 +7,13 @@ use Rattle.namespace_ops.proofs.renaming.move_onto.Goals as goal
 
 pub returns-in-Some-clause-checked : goal.returns-in-Some-clause-checked
 returns-in-Some-clause-checked g c n = (
-  ap (λ e. unless (g.F.Frags.content c.args.frags.now) e (answers (with_moved (g.F.Frags.content c.args.frags.now) c.args.from c.args.to c.args.inode.now) Done))
-      (sym (replaced_told (g.F.Frags.content c.args.frags.now) _ c.args.inode.now c.args.to _ _ _ c.in_ok-replaced.ensures.kept.tree c.as_ref.ensures.value c.in_ok-replaced.ensures.found c.in_ok-errno.ensures.found) ∙ c.in-Some.is),
+  ap (λ e. unless (g.F.Frags.content c.args.frags.now) e (answers (with_moved (g.F.Frags.content c.args.frags.now) c.args.from.now c.args.to.now c.args.inode.now) Done))
+      (sym (replaced_told (g.F.Frags.content c.args.frags.now) _ c.args.inode.now c.args.to.now _ _ _ c.in_ok-replaced.ensures.kept.tree c.as_ref.ensures.value c.in_ok-replaced.ensures.found c.in_ok-errno.ensures.found) ∙ c.in-Some.is),
   refl,
 )
 
 pub returns-clause-checked : goal.returns-clause-checked
 returns-clause-checked g c n =
-    moved_checked (g.F.Frags.content c.args.frags.now) _ _ n c.args.from c.args.to c.args.source _ _ c.args.inode.now c.requires.stands c.requires.leaf c.frag_of-target.ensures c.requires.apart c.requires.there c.requires.outside
-    (sym (replaced_told (g.F.Frags.content c.args.frags.now) _ c.args.inode.now c.args.to _ _ _ c.in_ok-replaced.ensures.kept.tree c.as_ref.ensures.value c.in_ok-replaced.ensures.found c.in_ok-errno.ensures.found) ∙ c.in_default.is)
+    moved_checked (g.F.Frags.content c.args.frags.now) _ _ n c.args.from.now c.args.to.now _ _ c.args.source _ _ c.args.inode.now c.in_ok-try_clone.ensures c.in_ok-try_clone-2.ensures c.requires.stands c.requires.leaf c.frag_of-target.ensures c.requires.apart c.requires.there c.requires.outside
+    (sym (replaced_told (g.F.Frags.content c.args.frags.now) _ c.args.inode.now c.args.to.now _ _ _ c.in_ok-replaced.ensures.kept.tree c.as_ref.ensures.value c.in_ok-replaced.ensures.found c.in_ok-errno.ensures.found) ∙ c.in_default.is)
     (c.directory_of-gone.ensures ∙ ap directory_at (c.as_ref-2.ensures.value ∙ c.in_ok-replaced.ensures.found)) (c.requires.moves _ _)

@@ -1,13 +1,12 @@
 use Rattle.std.proofs.Common.{rules, sym, ◌∙◌}
-use Rattle.mds_types.specs.Tree.{place_of}
 use Rattle.namespace_ops.proofs.CheckedParts.{checks_from, renamed_on}
 use Rattle.namespace_ops.proofs.renaming.rename.Goals as goal
 
 pub returns-clause-checked : goal.returns-clause-checked
 returns-clause-checked g c n =
     checks_from (g.F.Frags.content c.args.frags.now) (g.F.Frags.content c.look.new.self) (g.F.Frags.covers c.args.frags.now) (g.F.Frags.covers c.look.new.self) c.args.op.now n _ _ c.move_onto.result c.in_ok-inode.ensures.kept.tree c.in_ok-inode.ensures.kept.leaves
-    (rw (c.in_ok-inode.ensures.kept.tree, c.in_ok-from.ensures, c.in_ok-to.ensures)
-    (renamed_on (g.F.Frags.content c.args.frags.now) (place_of c.args.source.0.0 c.args.source.1.now) (place_of c.args.target.0.0 c.args.target.1.now) _ _ c.in-Some.inode
+    (rw (c.in_ok-inode.ensures.kept.tree)
+    (renamed_on (g.F.Frags.content c.args.frags.now) c.args.from.now c.args.to.now _ _ c.in-Some.inode
     (sym c.in_ok-inode.ensures.found ∙ c.in-Some.is)
     (search rules)
     (search rules)))

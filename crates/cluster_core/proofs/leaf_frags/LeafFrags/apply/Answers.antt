@@ -38,8 +38,8 @@ pub returns-clause-frame : goal.returns-clause-frame
 returns-clause-frame c =
     rw (← c.self.view_is)
     (elim c.match-change.branch [
-      | in-Add w ↦ rw w.self-inside-is (frame_of _ c.args.change (Add w.in-Add.place w.in-Add.leaf w.in-Add.inode) _ _ w.in-Add.is w.add_entry.ensures.frame)
-      | in-Set w ↦ rw w.self-inside-is (frame_of _ c.args.change (Set w.in-Set.place w.in-Set.leaf w.in-Set.inode) _ _ w.in-Set.is w.set_entry.ensures.frame)
-      | in-Remove w ↦ rw w.self-inside-is (frame_of _ c.args.change (Remove w.in-Remove.place w.in-Remove.leaf _) _ _ w.in-Remove.is (beside_one _ _ _ w.remove_entry.ensures.frame))
+      | in-Add w ↦ rw w.self-inside-is (frame_of _ c.args.change (Add w.in-Add.dentry w.in-Add.leaf w.in-Add.inode) _ _ w.in-Add.is w.add_entry.ensures.frame)
+      | in-Set w ↦ rw w.self-inside-is (frame_of _ c.args.change (Set w.in-Set.dentry w.in-Set.leaf w.in-Set.inode) _ _ w.in-Set.is w.set_entry.ensures.frame)
+      | in-Remove w ↦ rw w.self-inside-is (frame_of _ c.args.change (Remove w.in-Remove.dentry w.in-Remove.leaf _) _ _ w.in-Remove.is (beside_one _ _ _ w.remove_entry.ensures.frame))
       | in-Move w ↦ rw w.self-inside-is (frame_of _ c.args.change (Move w.in-Move.from w.in-Move.source w.in-Move.to w.in-Move.target _) _ _ w.in-Move.is (beside_two _ _ _ _ w.move_entry.ensures.frame))
     ])

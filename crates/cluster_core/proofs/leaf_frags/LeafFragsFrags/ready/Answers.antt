@@ -6,7 +6,7 @@ use Rattle.cluster_core.proofs.Divided.{shown_names, sound_names}
 use Rattle.cluster_core.proofs.leaf_frags.LeafFragsFrags.ready.Goals as goal
 
 pub invariant_of-self : goal.invariant_of-self
-invariant_of-self c = sound_names _ _ _ _ _ _ c.self.invariant c.make_ready.ensures.names c.make_ready.ensures.homes c.make_ready.ensures.trees
+invariant_of-self c = sound_names _ _ _ _ _ _ c.self.invariant c.make_ready.ensures.names (c.make_ready.ensures.standing c.self.invariant.standing) c.make_ready.ensures.homes c.make_ready.ensures.trees
 
 pub returns-clause-kept : goal.returns-clause-kept
 returns-clause-kept c = record {

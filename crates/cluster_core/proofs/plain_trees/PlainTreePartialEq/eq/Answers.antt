@@ -1,12 +1,12 @@
 -- The pairs of the maps are the entries of the trees.
 use Rattle.std.proofs.Common.{rules}
-use Rattle.mds_types.specs.Tree.{place_cmp}
+use Rattle.mds_types.specs.Tree.{dentry_cmp}
 use Rattle.sorted_map.specs.Laws.{entries-contents}
 use Rattle.cluster_core.proofs.plain_trees.PlainTreePartialEq.eq.Goals as goal
 
 pub returns-clause-value : goal.returns-clause-value
 returns-clause-value c =
-    rw (← c.self.view_is, ← c.other.view_is, entries-contents place_cmp c.self.inside.entries c.len.ensures.valid, entries-contents place_cmp c.other.inside.entries c.len-2.ensures.valid)
+    rw (← c.self.view_is, ← c.other.view_is, entries-contents dentry_cmp c.self.inside.entries c.len.ensures.valid, entries-contents dentry_cmp c.other.inside.entries c.len-2.ensures.valid)
     c.eq.ensures.value
 
 -- two trees are the same where their maps are

@@ -7,9 +7,9 @@ use Rattle.inode_table.proofs.dirs.Dirs.drop.Goals as goal
 pub invariant_of-self : goal.invariant_of-self
 invariant_of-self c =
     let same = ap (λ (t : Table). t.homes) c.self.view_is in
-    rw c.remove.ensures.removed (rw c.remove-2.ensures.removed (dropped_table _ _ c.args.dir.0 c.self.invariant (rw same c.requires)))
+    rw c.remove.ensures.removed (rw c.remove-2.ensures.removed (dropped_table _ _ c.args.dir.0 c.self.invariant (rw same c.requires.childless)))
 
 pub returns-clause-valid : goal.returns-clause-valid
 returns-clause-valid c =
     let same = ap (λ (t : Table). t.homes) c.self.view_is in
-    rw c.remove.ensures.removed (rw c.remove-2.ensures.removed (dropped_table _ _ c.args.dir.0 c.self.invariant (rw same c.requires)))
+    rw c.remove.ensures.removed (rw c.remove-2.ensures.removed (dropped_table _ _ c.args.dir.0 c.self.invariant (rw same c.requires.childless)))

@@ -8,11 +8,11 @@ use Rattle.namespace_ops_tests.proofs.tests.one_entry_frags.after_change.Goals a
 
 pub returns-in-Set : goal.returns-in-Set
 returns-in-Set c =
-    after_set c.args.only c.in-Set.place c.in-Set.inode (subst (Takes (tree_of c.args.only)) c.in-Set.is c.requires.may) ∙ ap (changed (tree_of c.args.only)) (sym c.in-Set.is)
+    after_set c.args.only c.in-Set.dentry c.in-Set.inode (subst (Takes (tree_of c.args.only)) c.in-Set.is c.requires.may) ∙ ap (changed (tree_of c.args.only)) (sym c.in-Set.is)
 
 pub returns-in-Remove : goal.returns-in-Remove
 returns-in-Remove c =
-    after_removal c.args.only c.in-Remove.place (subst (Takes (tree_of c.args.only)) c.in-Remove.is c.requires.may) ∙ ap (changed (tree_of c.args.only)) (sym c.in-Remove.is)
+    after_removal c.args.only c.in-Remove.dentry (subst (Takes (tree_of c.args.only)) c.in-Remove.is c.requires.may) ∙ ap (changed (tree_of c.args.only)) (sym c.in-Remove.is)
 
 pub returns-in_err-inode-in-Move : goal.returns-in_err-inode-in-Move
 returns-in_err-inode-in-Move c =

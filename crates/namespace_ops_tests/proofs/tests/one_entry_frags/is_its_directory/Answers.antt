@@ -3,9 +3,9 @@ use Rattle.std.proofs.Common.{◌≡◌, ◌==◌, ◌||◌, ℕ, Bool, true, fa
 use Rattle.std.specs.FinMap as map
 use Rattle.std.specs.FinMap.{get-empty}
 use Rattle.std.proofs.Math.Bool.{or-false}
-use Rattle.mds_types.specs.declared.places.Place.{Place}
+use Rattle.mds_types.specs.declared.dentries.Dentry.{Dentry}
 use Rattle.mds_types.specs.declared.inodes.Inode.{Inode}
-use Rattle.mds_types.specs.Tree.{place_cmp, is_directory, is_entry_of_directory}
+use Rattle.mds_types.specs.Tree.{dentry_cmp, is_directory, is_entry_of_directory}
 use Rattle.mds_types.specs.TreeLaws.{is_directory-empty, is_directory-insert}
 use Rattle.namespace_ops_tests.specs.OneEntry.{tree_of}
 use Rattle.namespace_ops_tests.proofs.tests.one_entry_frags.is_its_directory.Goals as goal
@@ -16,11 +16,11 @@ swapped true false = refl
 swapped false true = refl
 swapped false false = refl
 
-of_one : (only : Option (Place × Inode)) (entry : Place × Inode) (told : Bool) (d : ℕ) → only ≡ Some entry → told ≡ is_entry_of_directory d entry
+of_one : (only : Option (Dentry × Inode)) (entry : Dentry × Inode) (told : Bool) (d : ℕ) → only ≡ Some entry → told ≡ is_entry_of_directory d entry
     → is_directory (tree_of only) d ≡ ((d == 1) || told)
 of_one only entry told d is tells =
     ap (λ o. is_directory (tree_of o) d) is
-    ∙ is_directory-insert map.empty entry.0 entry.1 d (get-empty place_cmp entry.0)
+    ∙ is_directory-insert map.empty entry.0 entry.1 d (get-empty dentry_cmp entry.0)
     ∙ ap (λ b. is_entry_of_directory d entry || b) (is_directory-empty d)
     ∙ swapped (is_entry_of_directory d entry) (d == 1)
     ∙ ap (λ b. (d == 1) || b) (sym tells)
