@@ -15,7 +15,8 @@ use Rattle.cluster_core.specs.State.{State, shown}
 use Rattle.cluster_core.specs.declared.answers.Answer.{Answer}
 use Rattle.cluster_core.specs.Offer.{after_taking}
 use Rattle.cluster_core.specs.Serve.{IsApplied, entry_of, number_of, outcome_of, with_entry}
-use Rattle.cluster_core.specs.Sound.{IsDivided, IsFresh, IsSound}
+use Rattle.dirfrags.specs.Divided.{IsDivided}
+use Rattle.cluster_core.specs.Sound.{IsFresh, IsSound}
 
 -- what an offer of a number comes to: the table took it, or it took none and the outcome is that of any number
 pub record IsTaking (tree : Tree) (request : Request) (s : Supply) (number : Option Ino) (outcome : Outcome) : Type 0 where

@@ -1,13 +1,6 @@
 pub mod Applied
-pub mod Dentries
-pub mod Divided
-pub mod EmptyFrags
-pub mod LeafChanges
-pub mod LeafFrames
 pub mod Offered
-pub mod Recovered
 pub mod RunLaws
 pub mod Served
-pub mod Shown
-pub mod Standing
 pub mod Stepped
+pub mod Unseen

@@ -1,5 +1,5 @@
 -- What serving makes of fragments and what stands beside them, said of the cluster's state.
-use Rattle.std.proofs.Common.{◌≡◌, ℕ, true, List, [], ◌∷◌, ◌++◌, Option, Some, None, Result, Ok, Err, length, slice_get, inl, inr, ◌⊎◌, refl, sym, ap, subst, ◌∙◌}
+use Rattle.std.proofs.Common.{◌≡◌, true, List, [], ◌∷◌, ◌++◌, Option, Some, None, Ok, Err, length, slice_get, inl, inr, ◌⊎◌, refl, sym, ap, subst, ◌∙◌}
 use Rattle.mds_types.specs.declared.ids.Ino.{Ino}
 use Rattle.mds_types.specs.declared.entries.Entry.{Entry}
 use Rattle.mds_types.specs.declared.replies.Reply.{Reply as Replied}
@@ -18,14 +18,17 @@ use Rattle.leaf_maps.specs.Leaves.{shown_by}
 use Rattle.cluster_core.specs.declared.answers.Answer.{Answer}
 use Rattle.cluster_core.specs.declared.answers.Answer.TheVariants.{Reply}
 use Rattle.cluster_core.specs.declared.serving.Prepared.{Prepared}
-use Rattle.cluster_core.specs.State.{State, shown, tree_of}
-use Rattle.cluster_core.specs.LeafFrags.{Fragments, IsAsBefore, dentries_of, state_of}
+use Rattle.cluster_core.specs.State.{State, shown}
+use Rattle.dirfrags.specs.Dentries.{tree_of}
+use Rattle.dirfrags.specs.LeafFrags.{Fragments, IsAsBefore, dentries_of}
+use Rattle.cluster_core.specs.State.{state_of}
 use Rattle.cluster_core.specs.Inbox.{Takes}
 use Rattle.cluster_core.specs.Offer.{after_taking}
 use Rattle.cluster_core.specs.Prepared.{IsPrepared}
-use Rattle.cluster_core.specs.Serve.{CarryLeaves, IsTakenOut, ServesInbox, entry_of, number_of, outcome_of, with_entry}
+use Rattle.dirfrags.specs.Divided.{CarryLeaves}
+use Rattle.cluster_core.specs.Serve.{IsTakenOut, ServesInbox, entry_of, number_of, outcome_of, with_entry}
 use Rattle.cluster_core.specs.Steps.{MayRefuse}
-use Rattle.cluster_core.proofs.Dentries.{tree_is}
+use Rattle.dirfrags.proofs.Dentries.{tree_is}
 
 same_some : {A : Type 0} (x y : A) → Some x ≡ Some y → x ≡ y
 same_some x y e = cc

@@ -1,5 +1,5 @@
 -- A book stays sound at every step, and begins sound.
-use Rattle.std.proofs.Common.{◌≡◌, ℕ, ◌^◌, ◌≤◌, Bool, true, false, nat_lt, inl, inr, List, [], ◌∷◌, map, length, MatchBool, Result, Ok, Err, ap, sym, subst, ◌∙◌, arith}
+use Rattle.std.proofs.Common.{◌≡◌, ℕ, ◌^◌, ◌≤◌, Bool, true, false, nat_lt, inl, inr, List, [], ◌∷◌, map, length, MatchBool, Result, Ok, Err, ap, ◌∙◌, arith}
 use Rattle.std.specs.FinMap as finmap
 use Rattle.mds_types.specs.declared.entries.Entry.{Entry}
 use Rattle.mds_types.specs.declared.requests.Request.{Request}
@@ -16,9 +16,10 @@ use Rattle.cluster_core.specs.State.{State, new_state}
 use Rattle.cluster_core.specs.Serve.{IsLeft, IsTakenOut, ServesRequest, ServesInbox}
 use Rattle.cluster_core.specs.Splits.{DoesUnseen, IsUnseen}
 use Rattle.cluster_core.specs.Steps.{Steps, ArrivesInbox, MayRefuse, ranks}
-use Rattle.cluster_core.specs.Sound.{IsDivided, IsSound}
+use Rattle.dirfrags.specs.Divided.{IsDivided}
+use Rattle.cluster_core.specs.Sound.{IsSound}
 use Rattle.cluster_core.proofs.Applied.{sound-applied}
-use Rattle.cluster_core.proofs.EmptyFrags.{empty_divided, none_in_tree}
+use Rattle.dirfrags.proofs.EmptyFrags.{empty_divided, none_in_tree}
 
 module _ (opening : Tree) (past now : List Entry) (old new : State) (sound : IsSound opening past old) where
   sound-left : IsLeft old new past now → IsSound opening now new

@@ -3,7 +3,6 @@ pub use Rattle.mds_types.specs.Step
 pub use Rattle.mds_types.specs.History
 pub use Rattle.inode_table.specs.Numbers
 pub mod Inbox
-pub mod LeafFrags
 pub mod Offer
 pub mod Prepared
 pub mod Runs

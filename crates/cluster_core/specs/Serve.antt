@@ -7,16 +7,14 @@ use Rattle.mds_types.specs.declared.replies.Reply.{Reply as Replied}
 use Rattle.mds_types.specs.declared.requests.Request.{Request}
 use Rattle.mds_types.specs.declared.refusals.Refusal.{Refusal}
 use Rattle.mds_types.specs.declared.refusals.Refusal.TheVariants.{NoMemory, NoInodes, Trimmed, InboxEmpty}
-use Rattle.mds_types.specs.Frag.{root_fragment}
-use Rattle.mds_types.specs.Tree.{Tree, is_directory}
 use Rattle.mds_types.specs.Step.{Outcome, step, number_or}
 use Rattle.mds_types.specs.History.{IsTrimmed, IsKeptAt, IsNew}
-use Rattle.inode_table.specs.Dirs.{Covers, leaves_of}
 use Rattle.inode_table.specs.Numbers.{offer}
 use Rattle.sessions.specs.Table.{Table, noted, trimmed}
 use Rattle.namespace_ops.specs.Served.{LacksNumber}
 use Rattle.cluster_core.specs.declared.answers.Answer.{Answer}
 use Rattle.cluster_core.specs.declared.answers.Answer.TheVariants.{Reply}
+use Rattle.dirfrags.specs.Divided.{CarryLeaves}
 use Rattle.cluster_core.specs.State.{State, shown}
 use Rattle.cluster_core.specs.Offer.{after_taking}
 
@@ -42,10 +40,6 @@ entry_of state request = record {
 -- the sessions with the reply of an entry at this place; what its client's mark leaves behind is forgotten
 abbrev pub with_entry : Table → ℕ → Entry → Table
 with_entry sessions place e = trimmed (noted sessions e.client e.tid e.oldest place e.reply) e.client
-
--- each directory that stands has the leaves that it had before, and one that came the leaf `*`
-abbrev pub CarryLeaves : (before tree : Tree) → (old new : Covers) → Type 0
-CarryLeaves before tree old new = (d : ℕ) → is_directory tree d ≡ true → leaves_of new d ≡ cond (is_directory before d) (leaves_of old d) (root_fragment ∷ [])
 
 -- a refusal that leaves all as it was
 pub record IsLeft (old new : State) (past now : List Entry) : Type 0 where

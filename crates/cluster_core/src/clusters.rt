@@ -4,15 +4,16 @@ ghost use Rattle.mds_types.specs.declared.entries.Entry.{Entry as Applied};
 ghost use Rattle.cluster_core.specs.State.{new_state};
 ghost use Rattle.cluster_core.specs.Steps.{Steps, AtRank, ArrivesInbox, MayRefuse, ranks};
 ghost use Rattle.mds_types.specs.Tree.{Tree};
-ghost use Rattle.cluster_core.specs.Sound.{IsDivided, IsSound};
+ghost use Rattle.dirfrags.specs.Divided.{IsDivided};
+ghost use Rattle.cluster_core.specs.Sound.{IsSound};
 ghost use Rattle.cluster_core.specs.Serve.{ServesInbox};
 ghost use Rattle.cluster_core.specs.Splits.{ListsLeaves, Merges, Splits};
 
 use crate::answers::Answer;
 use crate::events::Event;
 use crate::inboxes::Inbox;
-use crate::leaf_frags::LeafFrags;
 use crate::serving::serve_front;
+use dirfrags::LeafFrags;
 use inode_table::Numbers;
 use mds_types::{Entry, Frag, Ino, Rank, Refusal, Request};
 use namespace_ops::Frags;
@@ -34,7 +35,7 @@ impl Model for Cluster {
     ghost use Rattle.std.specs.FinMap as map;
     ghost use Rattle.sessions.specs.Rooms.{table};
     ghost use Rattle.cluster_core.specs.State.{Core};
-    ghost use Rattle.cluster_core.specs.LeafFrags.{state_of};
+    ghost use Rattle.cluster_core.specs.State.{state_of};
 
     ghost Value = { Core };
 

@@ -6,13 +6,9 @@ mod books;
 mod clusters;
 mod events;
 mod inboxes;
-mod leaf_changes;
-mod leaf_frags;
-mod picks;
 mod plain_trees;
 mod runs;
 mod serving;
-mod splitting;
 mod supplies;
 
 pub use answers::Answer;

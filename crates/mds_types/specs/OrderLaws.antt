@@ -7,7 +7,7 @@ use Rattle.std.specs.FinMap.{IsAntisymmetric, nat_cmp-IsAntisymmetric}
 use Rattle.std.proofs.lemmas.Map.Lookups.{exact_unsigned, exact_bytes, exact_pairs}
 use Rattle.mds_types.specs.declared.ids.Ino.{Ino}
 use Rattle.mds_types.specs.Tree.{dentry_cmp}
-use Rattle.mds_types.specs.Frag.{Fragment, frag_cmp}
+use Rattle.mds_types.specs.Frag.{frag_cmp}
 
 pub ino-exact : IsAntisymmetric (λ (a b : Ino). nat_cmp a.0 b.0)
 ino-exact a b tied = let same = nat_cmp-IsAntisymmetric a.0 b.0 tied in λ i. record { 0 = same i }

@@ -16,7 +16,7 @@ use Rattle.mds_types.specs.declared.operations.Op.{Op}
 use Rattle.mds_types.specs.declared.operations.Op.TheVariants.{Lookup, Readdir, Create, Mkdir, Readlink, Symlink, Setattr, Unlink, Rmdir, Rename}
 use Rattle.mds_types.specs.declared.replies.Reply.{Reply}
 use Rattle.mds_types.specs.declared.replies.Reply.TheVariants.{Entry, Entries, Target, Done, Errno}
-use Rattle.mds_types.specs.Tree.{Tree, dentry_cmp, is_directory, is_dir_kind, is_above, has_entries, dentry_of, at}
+use Rattle.mds_types.specs.Tree.{Tree, dentry_cmp, is_directory, is_dir_kind, is_above, has_entries}
 
 -- what one step of the table gives: the reply, the tree that it leaves, and whether it took the number that it was offered
 pub record Outcome : Type 0 where

@@ -10,7 +10,7 @@ use Rattle.mds_types.specs.declared.replies.Reply.{Reply}
 use Rattle.mds_types.specs.declared.replies.Reply.TheVariants.{Entry, Entries, Target, Done, Errno}
 use Rattle.std.specs.FinMap as map
 use Rattle.std.specs.Ordering.{eq_by_cmp}
-use Rattle.mds_types.specs.Tree.{Tree, dentry_cmp, dentry_of, is_directory, is_dir_kind}
+use Rattle.mds_types.specs.Tree.{Tree, dentry_cmp, is_directory, is_dir_kind}
 use Rattle.mds_types.specs.Step.{Outcome, answers, unless, with_attributes, directory_of, destination_of, found, within, step, made, read_link, size_errno, attributes_set, unlinked, dir_removed, removal_errno, leads_to, replace_errno, renamed}
 
 made-unused : (tree : Tree) (dentry : Dentry) (i j : Inode) (found : Option Inode) → (made tree dentry i found).takes ≡ false → made tree dentry i found ≡ made tree dentry j found

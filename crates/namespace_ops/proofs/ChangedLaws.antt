@@ -10,7 +10,7 @@ use Rattle.mds_types.specs.declared.inodes.Kind.{Kind}
 use Rattle.mds_types.specs.declared.operations.Op.{Op}
 use Rattle.mds_types.specs.declared.operations.Op.TheVariants.{Lookup, Readdir, Create, Mkdir, Readlink, Symlink, Setattr, Unlink, Rmdir, Rename}
 use Rattle.mds_types.specs.Frag.{Fragment}
-use Rattle.mds_types.specs.Tree.{Tree, dentry_cmp, dentry_of, is_dir_kind, has_entries}
+use Rattle.mds_types.specs.Tree.{Tree, dentry_cmp, is_dir_kind, has_entries}
 use Rattle.mds_types.specs.Step.{step, replace_errno}
 use Rattle.mds_types.specs.StepLaws.{is_errno, errno_of_any_number}
 use Rattle.mds_types.specs.DirectoryLaws.{entries_there}

@@ -1,5 +1,5 @@
 -- The fragments that an operation would change.
-use Rattle.std.specs.Prelude.{◌↔◌, ℕ, cond, List, [], ◌∷◌, Option, Some, None}
+use Rattle.std.specs.Prelude.{◌↔◌, cond, List, [], ◌∷◌, Option, Some, None}
 use Rattle.std.specs.List.{Contains}
 use Rattle.std.specs.Ordering.{eq_by_cmp}
 use Rattle.std.specs.FinMap as map
@@ -8,7 +8,7 @@ use Rattle.mds_types.specs.declared.inodes.Inode.{Inode}
 use Rattle.mds_types.specs.declared.operations.Op.{Op}
 use Rattle.mds_types.specs.declared.operations.Op.TheVariants.{Lookup, Readdir, Create, Mkdir, Readlink, Symlink, Setattr, Unlink, Rmdir, Rename}
 use Rattle.mds_types.specs.declared.replies.Reply.{Reply}
-use Rattle.mds_types.specs.Tree.{Tree, dentry_cmp, dentry_of, at, is_dir_kind}
+use Rattle.mds_types.specs.Tree.{Tree, dentry_cmp, is_dir_kind}
 use Rattle.mds_types.specs.Step.{step}
 use Rattle.mds_types.specs.StepLaws.{is_errno}
 use Rattle.namehash.specs.Rjenkins.{hash_of}

@@ -12,7 +12,7 @@ use Rattle.mds_types.specs.declared.operations.Op.TheVariants.{Lookup, Readdir, 
 use Rattle.mds_types.specs.declared.replies.Reply.{Reply}
 use Rattle.mds_types.specs.declared.replies.Reply.TheVariants.{Entry, Done}
 use Rattle.mds_types.specs.Frag.{Fragment}
-use Rattle.mds_types.specs.Tree.{Tree, dentry_cmp, dentry_of, at, is_dir_kind}
+use Rattle.mds_types.specs.Tree.{Tree, dentry_cmp, is_dir_kind}
 use Rattle.mds_types.specs.Step.{with_moved}
 use Rattle.mds_types.specs.StepLaws.{is_errno}
 use Rattle.mds_types.specs.MovedLaws.{IsMove}

@@ -1,4 +1,3 @@
-use Rattle.std.proofs.Common.{refl}
 use Rattle.cluster_core.proofs.Served.{served_new, lacks_number}
 use Rattle.cluster_core.proofs.serving.serve_front.Goals as goal
 

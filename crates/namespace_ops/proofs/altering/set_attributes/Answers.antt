@@ -1,4 +1,4 @@
-use Rattle.std.proofs.Common.{sym, ap, ◌∙◌}
+use Rattle.std.proofs.Common.{sym, ◌∙◌}
 use Rattle.namespace_ops.proofs.CheckedParts.{set_checked}
 use Rattle.namespace_ops.proofs.altering.set_attributes.Goals as goal
 

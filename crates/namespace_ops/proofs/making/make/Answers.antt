@@ -1,4 +1,4 @@
-use Rattle.std.proofs.Common.{rules, ap}
+use Rattle.std.proofs.Common.{rules}
 use Rattle.namespace_ops.proofs.CheckedParts.{made_checked}
 use Rattle.namespace_ops.proofs.making.make.Goals as goal
 

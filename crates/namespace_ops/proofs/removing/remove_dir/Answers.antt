@@ -1,5 +1,5 @@
-use Rattle.std.proofs.Common.{Some, sym, ap, ◌∙◌}
-use Rattle.mds_types.specs.Step.{answers, removal_errno, unless}
+use Rattle.std.proofs.Common.{sym, ap, ◌∙◌}
+use Rattle.mds_types.specs.Step.{removal_errno}
 use Rattle.mds_types.specs.Tree.{Tree}
 use Rattle.namespace_ops.proofs.CheckedParts.{dir_checked}
 use Rattle.namespace_ops.proofs.removing.remove_dir.Goals as goal

@@ -1,9 +1,10 @@
 use Rattle.std.proofs.Common.{sym, ap, ◌∙◌}
 use Rattle.mds_types.specs.Tree.{is_directory}
 use Rattle.sessions.specs.Rooms.{table}
-use Rattle.cluster_core.specs.LeafFrags.{state_of}
-use Rattle.cluster_core.proofs.Dentries.{tree_is}
-use Rattle.cluster_core.proofs.Recovered.{refuses_no, lists_ok, lists_err}
+use Rattle.cluster_core.specs.State.{state_of}
+use Rattle.dirfrags.proofs.Dentries.{tree_is}
+use Rattle.dirfrags.proofs.Recovered.{refuses_no}
+use Rattle.cluster_core.proofs.Unseen.{lists_ok, lists_err}
 use Rattle.cluster_core.proofs.clusters.Cluster.leaves.Goals as goal
 
 pub returns-then-not-is_dir-clause-err : goal.returns-then-not-is_dir-clause-err

@@ -1,6 +1,6 @@
 use Rattle.std.proofs.Common.{ℕ, ap, ◌∙◌}
-use Rattle.cluster_core.specs.LeafFrags.{dentries_of}
-use Rattle.cluster_core.proofs.EmptyFrags.{no_dentries}
+use Rattle.dirfrags.specs.LeafFrags.{dentries_of}
+use Rattle.dirfrags.proofs.EmptyFrags.{no_dentries}
 use Rattle.cluster_core.proofs.clusters.Cluster.new.Goals as goal
 
 pub returns : goal.returns

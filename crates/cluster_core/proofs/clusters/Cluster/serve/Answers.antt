@@ -3,8 +3,8 @@ use Rattle.std.proofs.Common.{sym, subst}
 use Rattle.inode_table.specs.Numbers.{offer}
 use Rattle.namespace_ops.specs.Changes.{IsOffered}
 use Rattle.cluster_core.specs.State.{Core, shown}
-use Rattle.cluster_core.specs.Sound.{IsDivided}
-use Rattle.cluster_core.proofs.Dentries.{tree_is}
+use Rattle.dirfrags.specs.Divided.{IsDivided}
+use Rattle.dirfrags.proofs.Dentries.{tree_is}
 use Rattle.cluster_core.proofs.Offered.{offer_unused}
 use Rattle.cluster_core.proofs.clusters.Cluster.serve.Goals as goal
 

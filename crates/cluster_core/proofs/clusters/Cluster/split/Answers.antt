@@ -1,7 +1,7 @@
 use Rattle.std.proofs.Common.{sym, subst, ◌∙◌}
-use Rattle.cluster_core.proofs.Dentries.{tree_is}
-use Rattle.cluster_core.proofs.Recovered.{at_rank, done_unseen, left_unseen}
-use Rattle.cluster_core.specs.Splits.{MayRefuseSplit as MayRefuse}
+use Rattle.dirfrags.proofs.Dentries.{tree_is}
+use Rattle.cluster_core.proofs.Unseen.{at_rank, done_unseen, left_unseen}
+use Rattle.dirfrags.specs.Covers.{MayRefuseSplit as MayRefuse}
 use Rattle.cluster_core.proofs.clusters.Cluster.split.Goals as goal
 
 pub returns-clause-split : goal.returns-clause-split

@@ -1,0 +1,4 @@
+pub mod Covers
+pub mod Dentries
+pub mod Divided
+pub mod LeafFrags
