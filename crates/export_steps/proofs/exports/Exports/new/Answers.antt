@@ -1,0 +1,5 @@
+use Rattle.export_steps.proofs.Placed.{empty_placed}
+use Rattle.export_steps.proofs.exports.Exports.new.Goals as goal
+
+pub returns-clause-placed : goal.returns-clause-placed
+returns-clause-placed c subtrees = empty_placed _ subtrees c.new.ensures.empty
