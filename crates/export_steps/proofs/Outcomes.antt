@@ -36,10 +36,10 @@ module _ (old new : Standing) (root : Leaf) where
 
   -- an imported export is placed
   pub is_root : (was : Subtrees) (export : StandingExport) → map.get old root ≡ Some export → export.state ≡ Imported → ArePlaced old was → IsSome (map.get was.roots root)
-  is_root was export stood state placed = ap is_some (placed root export stood (ap is_freezing state)).0
+  is_root was export stood state placed = ap is_some (placed.ranked root export stood (ap is_freezing state))
 
   pub is_promised : (was : Subtrees) (export : StandingExport) → map.get old root ≡ Some export → export.state ≡ Imported → ArePlaced old was → map.get was.promises root ≡ Some export.importer
-  is_promised was export stood state placed = (placed root export stood (ap is_freezing state)).1
+  is_promised was export stood state placed = placed.promised root export stood (ap is_freezing state)
 
   pub finished : (was now : Subtrees) (export : StandingExport) → map.get old root ≡ Some export → export.state ≡ Imported → ArePlaced old was
       → ((rank : Rank) → map.get was.promises root ≡ Some rank → now.roots ≡ map.insert was.roots root rank) → now.promises ≡ map.remove was.promises root → new ≡ map.remove old root → IsFinish old new was now root

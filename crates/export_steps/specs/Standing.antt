@@ -97,6 +97,6 @@ Cancels old new was now root (Ok done) = IsCancel old new was now root
 Cancels old new was now root (Err reason) = (reason ≡ WrongExportState) × ((export : StandingExport) → map.get old root ≡ Some export → is_before_send export.state ≡ false) × (new ≡ old) × (now ≡ was)
 
 -- what Finish changes has its place: the root of each export that is frozen to imported is a subtree root of the exporter, promised to the importer
-abbrev pub ArePlaced : Standing → Subtrees → Type 0
-ArePlaced standing subtrees = (root : Leaf) (export : StandingExport) → map.get standing root ≡ Some export → is_freezing export.state ≡ true
-    → (map.get subtrees.roots root ≡ Some export.exporter) × (map.get subtrees.promises root ≡ Some export.importer)
+pub record ArePlaced (standing : Standing) (subtrees : Subtrees) : Type 0 where
+  pub ranked : (root : Leaf) (export : StandingExport) → map.get standing root ≡ Some export → is_freezing export.state ≡ true → map.get subtrees.roots root ≡ Some export.exporter
+  pub promised : (root : Leaf) (export : StandingExport) → map.get standing root ≡ Some export → is_freezing export.state ≡ true → map.get subtrees.promises root ≡ Some export.importer
