@@ -90,13 +90,8 @@ impl Exports {
         ensures outcome { Steps self.old self.new (dir, frag) state.Frozen state.Prepared result }
         ensures placed { (subtrees : SubtreesSeen) → ArePlaced self.old subtrees → ArePlaced self.new subtrees }
     {
-        advance(
-            &mut self.rows,
-            dir,
-            frag,
-            ExportState::Frozen,
-            ExportState::Prepared,
-        )
+        let (from, to) = (ExportState::Frozen, ExportState::Prepared);
+        advance(&mut self.rows, dir, frag, from, to)
     }
 
     /// Send: the bytes of a region whose importer is prepared are handed out. Takes no memory.
@@ -107,13 +102,8 @@ impl Exports {
         ensures outcome { Steps self.old self.new (dir, frag) state.Prepared state.Sent result }
         ensures placed { (subtrees : SubtreesSeen) → ArePlaced self.old subtrees → ArePlaced self.new subtrees }
     {
-        advance(
-            &mut self.rows,
-            dir,
-            frag,
-            ExportState::Prepared,
-            ExportState::Sent,
-        )
+        let (from, to) = (ExportState::Prepared, ExportState::Sent);
+        advance(&mut self.rows, dir, frag, from, to)
     }
 
     /// Import: the importer holds a region that was sent. Takes no memory.
@@ -124,13 +114,8 @@ impl Exports {
         ensures outcome { Steps self.old self.new (dir, frag) state.Sent state.Imported result }
         ensures placed { (subtrees : SubtreesSeen) → ArePlaced self.old subtrees → ArePlaced self.new subtrees }
     {
-        advance(
-            &mut self.rows,
-            dir,
-            frag,
-            ExportState::Sent,
-            ExportState::Imported,
-        )
+        let (from, to) = (ExportState::Sent, ExportState::Imported);
+        advance(&mut self.rows, dir, frag, from, to)
     }
 
     /// Finish: the importer of an imported region is its authority, and the export is over. Takes no memory: what it changes
