@@ -1,3 +1,6 @@
+pub mod Coloured
+pub mod Elsewhere
 pub mod Holders
 pub mod Outcomes
 pub mod Placed
+pub mod Splits

@@ -1,2 +1,3 @@
-pub mod Standing
 pub mod Holder
+pub mod Regions
+pub mod Standing

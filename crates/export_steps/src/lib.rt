@@ -3,6 +3,7 @@
 #![tactic(auto)]
 
 mod exports;
+pub mod laws;
 mod regions;
 mod steps;
 
