@@ -1,14 +1,17 @@
 -- What happens elsewhere keeps each frozen region.
-use Rattle.std.specs.Prelude.{◌≡◌, true, Some, IsSome, is_some}
-use Rattle.std.proofs.Common.{ap, ◌∙◌}
+use Rattle.std.specs.Prelude.{◌≡◌, ◌↔◌, true, Some, IsSome, is_some}
+use Rattle.std.proofs.Common.{sym, ap, subst, ◌∙◌}
 use Rattle.std.specs.FinMap as map
 use Rattle.inode_table.specs.Dirs.{Homes, Covers}
-use Rattle.subtree_map.specs.Authority.{Leaf, Roots, NearestRoot}
-use Rattle.subtree_map.specs.Changes.{Subtrees, leaf_of}
+use Rattle.subtree_map.specs.Authority.{Leaf, Roots, IsInRegion, IsLeaf, NearestRoot}
+use Rattle.subtree_map.specs.Changes.{Subtrees, is_inside, leaf_of}
 use Rattle.export_steps.specs.declared.exports.StandingExport.{StandingExport}
 use Rattle.export_steps.specs.Standing.{Standing, ArePlaced, is_freezing}
-use Rattle.export_steps.specs.Regions.{AreFrozenRegionsKept, IsSplitElsewhere, StandsOver}
-use Rattle.export_steps.proofs.Splits.{split_elsewhere, stays_placed}
+use Rattle.export_steps.specs.Holder.{IsFrozen}
+use Rattle.export_steps.specs.Regions.{AreFrozenRegionsKept, IsMergeElsewhere, IsMoveElsewhere, IsSplitElsewhere, StandsOver}
+use Rattle.export_steps.proofs.Merges as merges
+use Rattle.export_steps.proofs.Moves as moves
+use Rattle.export_steps.proofs.Splits as splits
 
 -- the root of an export that freezes is a subtree root
 freezing_root : (standing : Standing) (subtrees : Subtrees) (root : Leaf) (export : StandingExport) → ArePlaced standing subtrees → map.get standing root ≡ Some export → is_freezing export.state ≡ true → IsSome (map.get subtrees.roots root)
@@ -25,12 +28,12 @@ keeps_place standing was now promises same placed = record {
 pub after_split : (standing : Standing) (was now : Subtrees) (homes : Homes) (covers later : Covers) → StandsOver standing was homes covers → IsSplitElsewhere standing was now homes covers later → AreFrozenRegionsKept standing was now homes homes covers later
 after_split standing was now homes covers later over is = record {
   regions = λ root export stands freezing leaf.
-      split_elsewhere
+      splits.split_elsewhere
       root was.roots now.roots is.dir is.frag is.bits is.roots homes covers later is.leaves over.table over.valid is.split is.stands is.fits is.tree is.changed
       (freezing_root standing was root export over.placed stands freezing) (thawed root export stands freezing) leaf;
   placed = keeps_place standing was now is.promises
       (λ root export stands freezing.
-      stays_placed
+      splits.stays_placed
       root was.roots now.roots is.dir is.frag is.bits is.roots homes covers later is.leaves over.table over.valid is.split is.stands is.fits is.tree is.changed
       (freezing_root standing was root export over.placed stands freezing) (thawed root export stands freezing))
       over.placed;
@@ -38,3 +41,34 @@ after_split standing was now homes covers later over is = record {
   where
     thawed : (root : Leaf) (export : StandingExport) → map.get standing root ≡ Some export → is_freezing export.state ≡ true → NearestRoot was.roots homes covers (leaf_of is.dir is.frag) root → ⊥
     thawed root export stands freezing near = is.thawed (record { root = root; export = export; nearest = near; stands = stands; freezing = freezing })
+
+pub after_merge : (standing : Standing) (was now : Subtrees) (homes : Homes) (covers later : Covers) → StandsOver standing was homes covers → IsMergeElsewhere standing was now homes covers later → AreFrozenRegionsKept standing was now homes homes covers later
+after_merge standing was now homes covers later over is = record {
+  regions = λ root export stands freezing leaf.
+      merges.merge_elsewhere
+      root was.roots now.roots is.dir is.frag is.roots homes covers later is.leaves over.table over.valid is.can is.merge is.tree is.changed
+      (freezing_root standing was root export over.placed stands freezing) (thawed root export stands freezing) leaf;
+  placed = keeps_place standing was now is.promises
+      (λ root export stands freezing.
+      merges.stays_placed
+      root was.roots now.roots is.dir is.frag is.roots homes covers later is.leaves over.table over.valid is.can is.merge is.tree is.changed
+      (freezing_root standing was root export over.placed stands freezing) (thawed root export stands freezing))
+      over.placed;
+}
+  where
+    thawed : (root : Leaf) (export : StandingExport) → map.get standing root ≡ Some export → is_freezing export.state ≡ true
+        → (leaf : Leaf) → is_inside is.dir is.frag leaf ≡ true → IsLeaf homes covers leaf → NearestRoot was.roots homes covers leaf root → ⊥
+    thawed root export stands freezing leaf inside stood near = is.thawed leaf inside stood (record { root = root; export = export; nearest = near; stands = stands; freezing = freezing })
+
+pub after_move : (standing : Standing) (was now : Subtrees) (homes later : Homes) (covers : Covers) → StandsOver standing was homes covers → IsMoveElsewhere standing was now homes later covers → AreFrozenRegionsKept standing was now homes later covers covers
+after_move standing was now homes later covers over is = record {
+  regions = λ root export stands freezing leaf.
+      subst (λ (h : Homes). IsInRegion was.roots homes covers root leaf ↔ IsInRegion now.roots h covers root leaf) (sym is.changed) (moves.move_elsewhere
+      root was.roots now.roots homes covers is.dir is.home is.roots is.may (freezing_root standing was root export over.placed stands freezing)
+      (λ place holder at holds near. is.from_thawed place holder at holds (frozen root export stands freezing holder near))
+      (λ holder holds near. is.to_thawed holder holds (frozen root export stands freezing holder near)) leaf);
+  placed = keeps_place standing was now is.promises (λ root export stands freezing. is.roots.kept root (freezing_root standing was root export over.placed stands freezing)) over.placed;
+}
+  where
+    frozen : (root : Leaf) (export : StandingExport) → map.get standing root ≡ Some export → is_freezing export.state ≡ true → (holder : Leaf) → NearestRoot was.roots homes covers holder root → IsFrozen standing was.roots homes covers holder
+    frozen root export stands freezing holder near = record { root = root; export = export; nearest = near; stands = stands; freezing = freezing }

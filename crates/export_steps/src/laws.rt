@@ -8,3 +8,13 @@ ghost use Rattle.export_steps.specs.Regions.{AreFrozenRegionsKept, IsMergeElsewh
 pub fn splits_elsewhere_keep_frozen_regions()
     ensures { (standing : Standing) (was now : SubtreesSeen) (homes : Homes) (covers later : Covers) → StandsOver standing was homes covers → IsSplitElsewhere standing was now homes covers later → AreFrozenRegionsKept standing was now homes homes covers later }
 {}
+
+/// A merge elsewhere leaves each frozen region as it is.
+pub fn merges_elsewhere_keep_frozen_regions()
+    ensures { (standing : Standing) (was now : SubtreesSeen) (homes : Homes) (covers later : Covers) → StandsOver standing was homes covers → IsMergeElsewhere standing was now homes covers later → AreFrozenRegionsKept standing was now homes homes covers later }
+{}
+
+/// A directory's move elsewhere leaves each frozen region as it is.
+pub fn moves_elsewhere_keep_frozen_regions()
+    ensures { (standing : Standing) (was now : SubtreesSeen) (homes later : Homes) (covers : Covers) → StandsOver standing was homes covers → IsMoveElsewhere standing was now homes later covers → AreFrozenRegionsKept standing was now homes later covers covers }
+{}
