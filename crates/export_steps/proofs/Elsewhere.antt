@@ -1,14 +1,17 @@
 -- What happens elsewhere keeps each frozen region.
-use Rattle.std.specs.Prelude.{◌≡◌, ◌↔◌, true, Some, IsSome, is_some}
-use Rattle.std.proofs.Common.{sym, ap, subst, ◌∙◌}
+use Rattle.std.specs.Prelude.{◌≢◌, false, Ok, ◌≡◌, ◌↔◌, true, Some, IsSome, is_some}
+use Rattle.std.proofs.Common.{inl, inr, sym, ap, subst, ◌∙◌}
 use Rattle.std.specs.FinMap as map
 use Rattle.inode_table.specs.Dirs.{Homes, Covers}
 use Rattle.subtree_map.specs.Authority.{Leaf, Roots, IsInRegion, IsLeaf, NearestRoot}
 use Rattle.subtree_map.specs.Changes.{Subtrees, is_inside, leaf_of}
 use Rattle.export_steps.specs.declared.exports.StandingExport.{StandingExport}
-use Rattle.export_steps.specs.Standing.{Standing, ArePlaced, is_freezing}
+use Rattle.export_steps.specs.Standing.{Standing, ArePlaced, IsFinish, IsFreeze, is_freezing}
 use Rattle.export_steps.specs.Holder.{IsFrozen}
 use Rattle.export_steps.specs.Regions.{AreFrozenRegionsKept, IsMergeElsewhere, IsMoveElsewhere, IsSplitElsewhere, StandsOver}
+use Rattle.export_steps.proofs.Handover.{back, beside, cut, onto, uncut}
+use Rattle.export_steps.proofs.Placed.{finishes_placed}
+use Rattle.subtree_map.proofs.LeafKeys.{one_value}
 use Rattle.export_steps.proofs.Merges as merges
 use Rattle.export_steps.proofs.Moves as moves
 use Rattle.export_steps.proofs.Splits as splits
@@ -72,3 +75,41 @@ after_move standing was now homes later covers over is = record {
   where
     frozen : (root : Leaf) (export : StandingExport) → map.get standing root ≡ Some export → is_freezing export.state ≡ true → (holder : Leaf) → NearestRoot was.roots homes covers holder root → IsFrozen standing was.roots homes covers holder
     frozen root export stands freezing holder near = record { root = root; export = export; nearest = near; stands = stands; freezing = freezing }
+
+-- another export freezes: its root was in no frozen region
+pub after_freeze : (old new : Standing) (was now : Subtrees) (root : Leaf) → IsFreeze old new was now root → ArePlaced old was → (homes : Homes) (covers : Covers) → (IsFrozen old was.roots homes covers root → ⊥) → AreFrozenRegionsKept old was now homes homes covers covers
+after_freeze old new was now root is placed homes covers thawed = record {
+  regions = λ other export stands freezing leaf.
+      let apart : other ≢ root = other_root other export stands freezing in (
+        λ its. record { stands = its.stands; nearest = near other export stands freezing leaf its.nearest },
+        λ its. record { stands = its.stands; nearest = uncut was.roots now.roots root is.step.export.exporter is.roots homes covers leaf other apart its.nearest },
+      );
+  placed = record {
+    ranked = λ other export stands freezing.
+        beside was.roots now.roots root is.step.export.exporter is.roots homes covers other (other_root other export stands freezing) ∙ placed.ranked other export stands freezing;
+    promised = λ other export stands freezing.
+        beside was.promises now.promises root is.step.export.importer is.promises homes covers other (other_root other export stands freezing) ∙ placed.promised other export stands freezing;
+  };
+}
+  where
+    other_root : (other : Leaf) (export : StandingExport) → map.get old other ≡ Some export → is_freezing export.state ≡ true → other ≢ root
+    other_root other export stands freezing same =
+        let one : export ≡ is.step.export = one_value _ export is.step.export (ap (map.get old) (sym same) ∙ stands) is.step.stood in
+        let clash : false ≡ true = ap is_freezing (sym is.step.was) ∙ ap (λ (e : StandingExport). is_freezing e.state) (sym one) ∙ freezing in
+        cc
+
+    near : (other : Leaf) (export : StandingExport) → map.get old other ≡ Some export → is_freezing export.state ≡ true → (leaf : Leaf) → NearestRoot was.roots homes covers leaf other → NearestRoot now.roots homes covers leaf other
+    near other export stands freezing leaf its = elim (cut was.roots now.roots root is.step.export.exporter is.roots homes covers leaf other its) [
+      | inl (passes, above) ↦ absurd (thawed (record { root = other; export = export; nearest = above; stands = stands; freezing = freezing }))
+      | inr (stays, apart) ↦ stays
+    ]
+
+-- another export ends: each region keeps its leaves
+pub after_finish : (old new : Standing) (was now : Subtrees) (root : Leaf) → IsFinish old new was now root → ArePlaced old was → (homes : Homes) (covers : Covers) → AreFrozenRegionsKept new was now homes homes covers covers
+after_finish old new was now root is placed homes covers = record {
+  regions = λ other export stands freezing leaf. (
+    λ its. record { stands = its.stands; nearest = onto old new was now root is placed homes covers leaf other its.nearest },
+    λ its. record { stands = its.stands; nearest = back old new was now root is placed homes covers leaf other its.nearest },
+  );
+  placed = finishes_placed old new root was now (Ok tt) is placed;
+}

@@ -1,5 +1,6 @@
 pub mod Coloured
 pub mod Elsewhere
+pub mod Handover
 pub mod Holders
 pub mod Merges
 pub mod Moves

@@ -61,7 +61,7 @@ impl Exports {
             importer,
             state: ExportState::Started,
         };
-        record(&mut self.rows, dir, frag, export)
+        put_new(&mut self.rows, dir, frag, export)
     }
 
     /// Freeze: makes the root of a started export a subtree root of the exporter, and promises it to the importer, so that
@@ -158,7 +158,7 @@ impl Exports {
 }
 
 // Records the first export of a root.
-fn record(
+fn put_new(
     rows: &mut SortedMap<(Ino, Frag), StandingExport>,
     dir: Ino,
     frag: Frag,

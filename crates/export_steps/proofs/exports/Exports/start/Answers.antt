@@ -15,10 +15,10 @@ returns-then-contains-clause-outcome c =
 
 pub returns-clause-outcome : goal.returns-clause-outcome
 returns-clause-outcome c =
-    subst (λ m. Starts m (contents leaf_cmp c.record.new.rows) (c.args.dir, c.args.frag) c.args.exporter c.args.importer c.record.result) c.self.view_is (started
-    (contents leaf_cmp c.self.inside.rows) (contents leaf_cmp c.record.new.rows) (c.args.dir, c.args.frag) c.args.exporter c.args.importer c.record.result
-    (sym c.contains.ensures ∙ c.if-contains.false) c.record.ensures.ok c.record.ensures.err c.record.ensures.left)
+    subst (λ m. Starts m (contents leaf_cmp c.put_new.new.rows) (c.args.dir, c.args.frag) c.args.exporter c.args.importer c.put_new.result) c.self.view_is (started
+    (contents leaf_cmp c.self.inside.rows) (contents leaf_cmp c.put_new.new.rows) (c.args.dir, c.args.frag) c.args.exporter c.args.importer c.put_new.result
+    (sym c.contains.ensures ∙ c.if-contains.false) c.put_new.ensures.ok c.put_new.ensures.err c.put_new.ensures.left)
 
 pub returns-clause-placed : goal.returns-clause-placed
 returns-clause-placed c =
-    starts_placed c.args.self.now (contents leaf_cmp c.record.new.rows) (c.args.dir, c.args.frag) c.args.exporter c.args.importer c.record.result (returns-clause-outcome c)
+    starts_placed c.args.self.now (contents leaf_cmp c.put_new.new.rows) (c.args.dir, c.args.frag) c.args.exporter c.args.importer c.put_new.result (returns-clause-outcome c)
