@@ -3,10 +3,10 @@ use Rattle.std.specs.Prelude.{◌≡◌, ◌↔◌, IsTrue, Bool, true, false, c
 use Rattle.std.proofs.Common.{sym, ap, ◌∙◌}
 use Rattle.std.specs.FinMap as map
 use Rattle.mds_types.specs.declared.ids.Rank.{Rank}
-use Rattle.inode_table.specs.Dirs.{Homes, Covers}
-use Rattle.subtree_map.specs.Authority.{Leaf, Roots, NearestRoot}
+use Rattle.inode_table.specs.Dirs.{Homes, Covers, IsTable}
+use Rattle.subtree_map.specs.Authority.{Leaf, Roots, IsLeaf, IsSubtrees, NearestRoot}
 use Rattle.subtree_map.proofs.LeafKeys.{not_none, one_value}
-use Rattle.subtree_map.proofs.Nearest.{one_root, is_ranked}
+use Rattle.subtree_map.proofs.Nearest.{one_root, is_ranked, some_root}
 use Rattle.export_steps.specs.declared.exports.StandingExport.{StandingExport}
 use Rattle.export_steps.specs.Standing.{Standing, is_freezing}
 use Rattle.export_steps.specs.Holder.{HasHolder, IsFrozen, is_imported, region_holder}
@@ -54,3 +54,11 @@ module _ (standing : Standing) (roots : Roots) (homes : Homes) (covers : Covers)
   one_holder_of a b p q =
       let same : p.root ≡ q.root = one_root roots homes covers leaf p.root q.root p.nearest q.nearest in
       one_value _ a b (ap (λ (r : Leaf). region_holder (map.get standing r) (map.get roots r)) (sym same) ∙ p.holds) q.holds
+
+  -- and where it is a leaf, it has one
+  pub some_holder : IsTable homes covers → IsSubtrees roots homes covers → IsLeaf homes covers leaf → (rank : Rank) × HasHolder standing roots homes covers leaf rank
+  some_holder table valid stands =
+      let near = some_root roots homes covers table valid leaf stands in
+      let ranked = is_ranked roots homes covers leaf near.0 near.1 in
+      let held = some_holder_of_root (map.get standing near.0) ranked.0 in
+      (held.0, record { root = near.0; nearest = near.1; holds = ap (region_holder (map.get standing near.0)) ranked.1 ∙ held.1 })

@@ -2,14 +2,20 @@
 ghost use Rattle.std.specs.Prelude.{◌≡◌, ◌↔◌};
 ghost use Rattle.std.specs.FinMap as map;
 ghost use Rattle.mds_types.specs.declared.ids.Rank.{Rank};
-ghost use Rattle.inode_table.specs.Dirs.{Homes, Covers};
-ghost use Rattle.subtree_map.specs.Authority.{HasAuthority, Leaf, NearestRoot, Roots};
+ghost use Rattle.inode_table.specs.Dirs.{Homes, Covers, IsTable};
+ghost use Rattle.subtree_map.specs.Authority.{HasAuthority, IsLeaf, IsSubtrees, Leaf, NearestRoot, Roots};
 ghost use Rattle.subtree_map.specs.Changes.{Subtrees as SubtreesSeen};
 ghost use Rattle.export_steps.specs.Standing.{ArePlaced, ComesTo, IsCancel, IsFinish, IsFreeze, Standing};
 ghost use Rattle.export_steps.specs.declared.exports.ExportState.TheVariants as state;
 ghost use Rattle.export_steps.specs.Handover.{CancelsSoundly, FinishesSoundly, FreezesSoundly, HandsOver};
 ghost use Rattle.export_steps.specs.Holder.{HasHolder, IsFrozen};
 ghost use Rattle.export_steps.specs.Regions.{AreFrozenRegionsKept, IsMergeElsewhere, IsMoveElsewhere, IsSplitElsewhere, StandsOver};
+
+/// Each leaf has a holder, and no other.
+pub fn each_leaf_has_one_holder()
+    ensures some { (standing : Standing) (roots : Roots) (homes : Homes) (covers : Covers) (leaf : Leaf) → IsTable homes covers → IsSubtrees roots homes covers → IsLeaf homes covers leaf → (rank : Rank) × HasHolder standing roots homes covers leaf rank }
+    ensures one { (standing : Standing) (roots : Roots) (homes : Homes) (covers : Covers) (leaf : Leaf) (a b : Rank) → HasHolder standing roots homes covers leaf a → HasHolder standing roots homes covers leaf b → a ≡ b }
+{}
 
 /// A split elsewhere leaves each frozen region as it is.
 pub fn splits_elsewhere_keep_frozen_regions()
