@@ -1,3 +1,4 @@
+pub mod Between
 pub mod Coloured
 pub mod Elsewhere
 pub mod Handover

@@ -1,5 +1,5 @@
 -- The exports that stand, and what each step makes of them: CephFS's Migrator, with this project's own table of steps.
-use Rattle.std.specs.Prelude.{◌≡◌, ◌≢◌, ◌⊎◌, Bool, true, false, Option, Some, None, IsSome, option_map, Result, Ok, Err}
+use Rattle.std.specs.Prelude.{◌≡◌, ◌≢◌, ◌<◌, ◌⊎◌, Bool, true, false, Option, Some, None, IsSome, option_map, Result, Ok, Err}
 use Rattle.std.specs.FinMap as map
 use Rattle.mds_types.specs.declared.ids.Rank.{Rank}
 use Rattle.mds_types.specs.declared.refusals.Refusal.{Refusal}
@@ -13,6 +13,15 @@ use Rattle.export_steps.specs.declared.exports.StandingExport.{StandingExport}
 -- from the root of a region to its export
 abbrev pub Standing : Type 0
 Standing = map.FinMap leaf_cmp StandingExport
+
+-- an export goes from one of 16 ranks to another
+pub record IsBetweenRanks (export : StandingExport) : Type 0 where
+  pub exporter : export.exporter.0 < 16
+  pub importer : export.importer.0 < 16
+  pub apart : export.exporter.0 ≢ export.importer.0
+
+pub record AreBetweenRanks (standing : Standing) : Type 0 where
+  pub each : (root : Leaf) (export : StandingExport) → map.get standing root ≡ Some export → IsBetweenRanks export
 
 -- the state of a root's export, if one stands
 abbrev pub state_at : Standing → Leaf → Option ExportState

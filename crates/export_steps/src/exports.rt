@@ -1,11 +1,11 @@
 //! The standing exports, and the calls that read them.
-ghost use Rattle.std.specs.Prelude.{◌≡◌, ◌+◌};
+ghost use Rattle.std.specs.Prelude.{◌≡◌, ◌+◌, IfSome};
 ghost use Rattle.std.specs.List.{slice_get};
 ghost use Rattle.std.specs.FinMap as map;
 ghost use Rattle.sorted_map.specs.SortedMap.{contents};
 ghost use Rattle.subtree_map.specs.Authority.{leaf_cmp};
 ghost use Rattle.subtree_map.specs.Changes.{Subtrees as SubtreesSeen};
-ghost use Rattle.export_steps.specs.Standing.{ArePlaced};
+ghost use Rattle.export_steps.specs.Standing.{ArePlaced, IsBetweenRanks};
 
 use mds_types::{Frag, Ino, Rank};
 use sorted_map::SortedMap;
@@ -38,7 +38,7 @@ pub struct StandingExport {
     pub state: ExportState,
 }
 
-/// The exports that stand, each under the root of its region: at most one for a root.
+/// The exports that stand, each under the root of its region: at most one for a root. Each goes from one of 16 ranks to another.
 #[derive(Debug, Drop)]
 pub struct Exports {
     pub(crate) rows: SortedMap<(Ino, Frag), StandingExport>,
@@ -49,13 +49,15 @@ impl Model for Exports {
     ghost use Rattle.std.specs.FinMap as map;
     ghost use Rattle.sorted_map.specs.SortedMap.{contents};
     ghost use Rattle.subtree_map.specs.Authority.{leaf_cmp};
-    ghost use Rattle.export_steps.specs.Standing.{Standing};
+    ghost use Rattle.export_steps.specs.Standing.{AreBetweenRanks, Standing};
 
     ghost Value = { Standing };
 
     ghost coded = { Prim.hlevel (codes, map.code) };
 
     ghost view = { λ e. contents leaf_cmp e.rows };
+
+    ghost invariant = { λ e. AreBetweenRanks (contents leaf_cmp e.rows) };
 }
 
 impl Exports {
@@ -78,7 +80,8 @@ impl Exports {
 
     /// The export of a root, if one stands.
     pub fn get(&self, dir: Ino, frag: Frag) -> Option<StandingExport>
-        ensures { result ≡ map.get self.now (dir, frag) }
+        ensures export { result ≡ map.get self.now (dir, frag) }
+        ensures ranks { IfSome result IsBetweenRanks }
     {
         self.rows.get(&(dir, frag)).copied()
     }

@@ -1,12 +1,12 @@
 //! The steps of an export: each takes it from one state to the next, and two end it.
-ghost use Rattle.std.specs.Prelude.{◌≡◌, ◌≢◌, Some, IfErr, MatchOption, OnErr, OnOk};
+ghost use Rattle.std.specs.Prelude.{◌≡◌, ◌≢◌, ◌<◌, Some, IfErr, MatchOption, OnErr, OnOk};
 ghost use Rattle.std.specs.FinMap as map;
 ghost use Rattle.sorted_map.specs.SortedMap.{contents};
 ghost use Rattle.mds_types.specs.declared.refusals.Refusal.TheVariants.{NoMemory};
 ghost use Rattle.subtree_map.specs.Authority.{leaf_cmp};
 ghost use Rattle.subtree_map.specs.Changes.{Subtrees as SubtreesSeen};
 ghost use Rattle.export_steps.specs.declared.exports.ExportState.TheVariants as state;
-ghost use Rattle.export_steps.specs.Standing.{AreKept, ArePlaced, Cancels, Finishes, Freezes, Starts, Steps, come_to, is_before_send, is_freezing, state_at};
+ghost use Rattle.export_steps.specs.Standing.{AreBetweenRanks, AreKept, IsBetweenRanks, ArePlaced, Cancels, Finishes, Freezes, Starts, Steps, come_to, is_before_send, is_freezing, state_at};
 
 use crate::exports::{ExportState, Exports, StandingExport};
 use mds_types::{Frag, Ino, Rank, Refusal};
@@ -39,7 +39,7 @@ impl ExportState {
 }
 
 impl Exports {
-    /// Start: records the exporter and the importer of a root's region.
+    /// Start: records the exporter and the importer of a root's region, which are two ranks of 16.
     ///
     /// # Errors
     /// `WrongExportState` where an export of this root stands, `NoMemory`; then all is left as it was.
@@ -50,6 +50,9 @@ impl Exports {
         exporter: Rank,
         importer: Rank,
     ) -> Result<(), Refusal>
+        requires exporter { exporter.0 < 16 }
+        requires importer { importer.0 < 16 }
+        requires apart { exporter.0 ≢ importer.0 }
         ensures outcome { Starts self.old self.new (dir, frag) exporter importer result }
         ensures placed { (subtrees : SubtreesSeen) → ArePlaced self.old subtrees → ArePlaced self.new subtrees }
     {
@@ -132,7 +135,7 @@ impl Exports {
             return Err(Refusal::WrongExportState);
         };
         subtrees.hand(dir, frag);
-        let _ = self.rows.remove(&(dir, frag));
+        end(&mut self.rows, dir, frag);
         Ok(())
     }
 
@@ -152,7 +155,7 @@ impl Exports {
             return Err(Refusal::WrongExportState);
         }
         subtrees.withdraw(dir, frag);
-        let _ = self.rows.remove(&(dir, frag));
+        end(&mut self.rows, dir, frag);
         Ok(())
     }
 }
@@ -167,6 +170,7 @@ fn put_new(
     ensures ok { OnOk result (contents leaf_cmp rows.new ≡ map.insert (contents leaf_cmp rows.old) (dir, frag) export) }
     ensures err { IfErr result (λ reason. reason ≡ NoMemory) }
     ensures left { OnErr result (contents leaf_cmp rows.new ≡ contents leaf_cmp rows.old) }
+    ensures ranks { IsBetweenRanks export → AreBetweenRanks (contents leaf_cmp rows.old) → AreBetweenRanks (contents leaf_cmp rows.new) }
 {
     rows.reserve(1)?;
     let _ = rows.insert((dir, frag), export);
@@ -222,9 +226,18 @@ fn put_state(
     state: ExportState,
 )
     requires { map.get (contents leaf_cmp rows.old) (dir, frag) ≡ Some export }
-    ensures { contents leaf_cmp rows.new ≡ map.insert (contents leaf_cmp rows.old) (dir, frag) (come_to state export) }
+    ensures come { contents leaf_cmp rows.new ≡ map.insert (contents leaf_cmp rows.old) (dir, frag) (come_to state export) }
+    ensures ranks { AreBetweenRanks (contents leaf_cmp rows.old) → AreBetweenRanks (contents leaf_cmp rows.new) }
 {
     let _ = rows.replace(&(dir, frag), StandingExport { state, ..export });
+}
+
+// Takes out the export of a root.
+fn end(rows: &mut SortedMap<(Ino, Frag), StandingExport>, dir: Ino, frag: Frag)
+    ensures removed { contents leaf_cmp rows.new ≡ map.remove (contents leaf_cmp rows.old) (dir, frag) }
+    ensures ranks { AreBetweenRanks (contents leaf_cmp rows.old) → AreBetweenRanks (contents leaf_cmp rows.new) }
+{
+    let _ = rows.remove(&(dir, frag));
 }
 
 // Takes the export of a root from one state to another.
@@ -235,7 +248,8 @@ fn advance(
     from: ExportState,
     to: ExportState,
 ) -> Result<(), Refusal>
-    ensures { Steps (contents leaf_cmp rows.old) (contents leaf_cmp rows.new) (dir, frag) from to result }
+    ensures outcome { Steps (contents leaf_cmp rows.old) (contents leaf_cmp rows.new) (dir, frag) from to result }
+    ensures ranks { AreBetweenRanks (contents leaf_cmp rows.old) → AreBetweenRanks (contents leaf_cmp rows.new) }
 {
     let Some(export) = find_in(rows, dir, frag, from) else {
         return Err(Refusal::WrongExportState);

@@ -11,5 +11,5 @@ returns-clause-outcome c = search rules
 pub returns-clause-placed : goal.returns-clause-placed
 returns-clause-placed c placed =
     cancels_placed
-    c.args.self.now (contents leaf_cmp c.remove.new.self) (c.args.dir, c.args.frag) c.args.subtrees.now c.withdraw.new.self (Ok tt)
+    c.args.self.now (contents leaf_cmp c.end.new.rows) (c.args.dir, c.args.frag) c.args.subtrees.now c.withdraw.new.self (Ok tt)
     (returns-clause-outcome c) placed

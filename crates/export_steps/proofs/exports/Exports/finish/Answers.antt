@@ -21,12 +21,12 @@ hand-requires-clause-promised c =
 
 pub returns-clause-outcome : goal.returns-clause-outcome
 returns-clause-outcome c =
-    subst (λ m. IsFinish m (contents leaf_cmp c.remove.new.self) c.args.subtrees.now c.hand.new.self (c.args.dir, c.args.frag)) c.self.view_is (finished
-    (contents leaf_cmp c.self.inside.rows) (contents leaf_cmp c.remove.new.self) (c.args.dir, c.args.frag) c.args.subtrees.now c.hand.new.self c.in-Some.field-0
-    c.in-Some.ensures.0 c.in-Some.ensures.1 (subst (λ m. ArePlaced m c.args.subtrees.now) (sym c.self.view_is) c.requires) c.hand.ensures.roots c.hand.ensures.promises c.remove.ensures.removed)
+    subst (λ m. IsFinish m (contents leaf_cmp c.end.new.rows) c.args.subtrees.now c.hand.new.self (c.args.dir, c.args.frag)) c.self.view_is (finished
+    (contents leaf_cmp c.self.inside.rows) (contents leaf_cmp c.end.new.rows) (c.args.dir, c.args.frag) c.args.subtrees.now c.hand.new.self c.in-Some.field-0
+    c.in-Some.ensures.0 c.in-Some.ensures.1 (subst (λ m. ArePlaced m c.args.subtrees.now) (sym c.self.view_is) c.requires) c.hand.ensures.roots c.hand.ensures.promises c.end.ensures.removed)
 
 pub returns-clause-placed : goal.returns-clause-placed
 returns-clause-placed c =
     finishes_placed
-    c.args.self.now (contents leaf_cmp c.remove.new.self) (c.args.dir, c.args.frag) c.args.subtrees.now c.hand.new.self (Ok tt)
+    c.args.self.now (contents leaf_cmp c.end.new.rows) (c.args.dir, c.args.frag) c.args.subtrees.now c.hand.new.self (Ok tt)
     (returns-clause-outcome c) c.requires

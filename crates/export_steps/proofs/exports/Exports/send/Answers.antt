@@ -10,4 +10,4 @@ pub returns-clause-placed : goal.returns-clause-placed
 returns-clause-placed c subtrees placed =
     steps_placed
     (contents leaf_cmp c.self.inside.rows) (contents leaf_cmp c.advance.new.rows) (c.args.dir, c.args.frag) state.Prepared state.Sent c.advance.result
-    refl c.advance.ensures subtrees (subst (λ m. ArePlaced m subtrees) (sym c.self.view_is) placed)
+    refl c.advance.ensures.outcome subtrees (subst (λ m. ArePlaced m subtrees) (sym c.self.view_is) placed)
