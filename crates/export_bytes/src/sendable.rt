@@ -1,5 +1,5 @@
 //! Which exports may be sent.
-ghost use Rattle.std.specs.Prelude.{◌≡◌, ◌<◌, ◌==◌, ◌^◌, ◌&&◌, nat_lt, not, true, length};
+ghost use Rattle.std.specs.Prelude.{◌≡◌, ◌<◌, ◌==◌, ◌^◌, ◌&&◌, nat_lt, not, true};
 ghost use Rattle.std.specs.List.{list_all};
 ghost use Rattle.dirfrag_codec.specs.EntryRecord.{entry_bytes};
 ghost use Rattle.dirfrag_codec.specs.Values.{is_fragment, is_record_v1};
