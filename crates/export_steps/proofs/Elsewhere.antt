@@ -8,10 +8,11 @@ use Rattle.subtree_map.specs.Changes.{Subtrees, is_inside, leaf_of}
 use Rattle.export_steps.specs.declared.exports.StandingExport.{StandingExport}
 use Rattle.export_steps.specs.Standing.{Standing, ArePlaced, IsFinish, IsFreeze, is_freezing}
 use Rattle.export_steps.specs.Holder.{IsFrozen}
-use Rattle.export_steps.specs.Regions.{AreFrozenRegionsKept, IsMergeElsewhere, IsMoveElsewhere, IsSplitElsewhere, StandsOver}
+use Rattle.export_steps.specs.Regions.{AreFrozenRegionsKept, IsMakingElsewhere, IsMergeElsewhere, IsMoveElsewhere, IsRemovalElsewhere, IsSplitElsewhere, StandsOver}
 use Rattle.export_steps.proofs.Handover.{back, beside, cut, onto, uncut}
 use Rattle.export_steps.proofs.Placed.{finishes_placed}
 use Rattle.subtree_map.proofs.LeafKeys.{one_value}
+use Rattle.export_steps.proofs.Directories as directories
 use Rattle.export_steps.proofs.Merges as merges
 use Rattle.export_steps.proofs.Moves as moves
 use Rattle.export_steps.proofs.Splits as splits
@@ -113,3 +114,32 @@ after_finish old new was now root is placed homes covers = record {
   );
   placed = finishes_placed old new root was now (Ok tt) is placed;
 }
+
+pub after_making : (standing : Standing) (subtrees : Subtrees) (homes later : Homes) (covers : Covers) → StandsOver standing subtrees homes covers → IsMakingElsewhere standing subtrees homes later covers → AreFrozenRegionsKept standing subtrees subtrees homes later covers covers
+after_making standing subtrees homes later covers over is = record {
+  regions = λ root export stands freezing leaf.
+      subst (λ (h : Homes). IsInRegion subtrees.roots homes covers root leaf ↔ IsInRegion subtrees.roots h covers root leaf) (sym is.changed) (directories.made_elsewhere
+      root subtrees.roots homes covers over.valid is.dir is.home is.may
+      (λ holder holds near. is.thawed holder holds (record { root = root; export = export; nearest = near; stands = stands; freezing = freezing })) leaf);
+  placed = over.placed;
+}
+
+pub after_removal : (standing : Standing) (was now : Subtrees) (homes later_homes : Homes) (covers later_covers : Covers) → StandsOver standing was homes covers → IsRemovalElsewhere standing was now homes later_homes covers later_covers
+    → AreFrozenRegionsKept standing was now homes later_homes covers later_covers
+after_removal standing was now homes later_homes covers later_covers over is = record {
+  regions = λ root export stands freezing leaf.
+      subst (λ (h : Homes). IsInRegion was.roots homes covers root leaf ↔ IsInRegion now.roots h later_covers root leaf) (sym is.home_gone) (
+      subst (λ (c : Covers). IsInRegion was.roots homes covers root leaf ↔ IsInRegion now.roots (map.remove homes is.dir) c root leaf) (sym is.leaves_gone) (directories.gone_elsewhere
+      root was.roots now.roots is.dir is.roots homes covers over.table over.valid is.childless (freezing_root standing was root export over.placed stands freezing) (thawed root export stands freezing) leaf));
+  placed = record {
+    ranked = λ root export stands freezing. is.roots.others root (apart root export stands freezing) ∙ over.placed.ranked root export stands freezing;
+    promised = λ root export stands freezing. is.promises.others root (apart root export stands freezing) ∙ over.placed.promised root export stands freezing;
+  };
+}
+  where
+    thawed : (root : Leaf) (export : StandingExport) → map.get standing root ≡ Some export → is_freezing export.state ≡ true → (leaf : Leaf) → leaf.0.0 ≡ is.dir → IsLeaf homes covers leaf → NearestRoot was.roots homes covers leaf root → ⊥
+    thawed root export stands freezing leaf at stood near = is.thawed leaf at stood (record { root = root; export = export; nearest = near; stands = stands; freezing = freezing })
+
+    apart : (root : Leaf) (export : StandingExport) → map.get standing root ≡ Some export → is_freezing export.state ≡ true → root.0.0 ≢ is.dir
+    apart root export stands freezing = directories.root_elsewhere
+        root was.roots now.roots is.dir is.roots homes covers over.table over.valid is.childless (freezing_root standing was root export over.placed stands freezing) (thawed root export stands freezing)

@@ -1,5 +1,6 @@
 pub mod Between
 pub mod Coloured
+pub mod Directories
 pub mod Elsewhere
 pub mod Handover
 pub mod Holders

@@ -1,12 +1,12 @@
 -- While an export is frozen to imported, what happens elsewhere leaves its region as it is.
-use Rattle.std.specs.Prelude.{◌≡◌, ◌↔◌, ℕ, true, Some, List}
+use Rattle.std.specs.Prelude.{◌≡◌, ◌≢◌, ◌↔◌, ℕ, true, Some, List}
 use Rattle.std.specs.FinMap as map
 use Rattle.mds_types.specs.Frag.{Fragment}
 use Rattle.fragtree.specs.FragTree.{CanMerge, FitsSplit, HasLeaf, IsMerge, IsSplit, IsTree}
 use Rattle.inode_table.specs.declared.homes.Home.{Home}
-use Rattle.inode_table.specs.Dirs.{Homes, Covers, IsTable, MayMove, leaves_of}
+use Rattle.inode_table.specs.Dirs.{Homes, Covers, IsChildless, IsTable, MayCome, MayMove, leaves_of}
 use Rattle.subtree_map.specs.Authority.{Leaf, HoldsDentry, IsInRegion, IsLeaf, IsSubtrees}
-use Rattle.subtree_map.specs.Changes.{IsRootMerge, IsRootSplit, Subtrees, is_inside, leaf_of}
+use Rattle.subtree_map.specs.Changes.{AreGone, IsRootMerge, IsRootSplit, Subtrees, is_inside, leaf_of}
 use Rattle.subtree_map.specs.Moves.{IsSettled}
 use Rattle.export_steps.specs.declared.exports.StandingExport.{StandingExport}
 use Rattle.export_steps.specs.Standing.{Standing, ArePlaced, is_freezing}
@@ -62,3 +62,22 @@ pub record IsMoveElsewhere (standing : Standing) (was now : Subtrees) (homes lat
   pub changed : later ≡ map.insert homes dir home
   pub roots : IsSettled was.roots now.roots homes covers dir home
   pub promises : now.promises ≡ was.promises
+
+-- a directory comes in, whose dentry is held by a leaf that isn't frozen
+pub record IsMakingElsewhere (standing : Standing) (subtrees : Subtrees) (homes later : Homes) (covers : Covers) : Type 0 where
+  pub dir : ℕ
+  pub home : Home
+  pub may : MayCome homes dir home
+  pub thawed : (holder : Leaf) → HoldsDentry covers home holder → IsFrozen standing subtrees.roots homes covers holder → ⊥
+  pub changed : later ≡ map.insert homes dir home
+
+-- a directory goes that is no one's parent, and none of its leaves is frozen
+pub record IsRemovalElsewhere (standing : Standing) (was now : Subtrees) (homes later_homes : Homes) (covers later_covers : Covers) : Type 0 where
+  pub dir : ℕ
+  pub below : dir ≢ 1
+  pub childless : IsChildless homes dir
+  pub thawed : (leaf : Leaf) → leaf.0.0 ≡ dir → IsLeaf homes covers leaf → IsFrozen standing was.roots homes covers leaf → ⊥
+  pub home_gone : later_homes ≡ map.remove homes dir
+  pub leaves_gone : later_covers ≡ map.remove covers dir
+  pub roots : AreGone was.roots now.roots dir
+  pub promises : AreGone was.promises now.promises dir

@@ -9,7 +9,7 @@ ghost use Rattle.export_steps.specs.Standing.{ArePlaced, ComesTo, IsCancel, IsFi
 ghost use Rattle.export_steps.specs.declared.exports.ExportState.TheVariants as state;
 ghost use Rattle.export_steps.specs.Handover.{CancelsSoundly, FinishesSoundly, FreezesSoundly, HandsOver};
 ghost use Rattle.export_steps.specs.Holder.{HasHolder, IsFrozen};
-ghost use Rattle.export_steps.specs.Regions.{AreFrozenRegionsKept, IsMergeElsewhere, IsMoveElsewhere, IsSplitElsewhere, StandsOver};
+ghost use Rattle.export_steps.specs.Regions.{AreFrozenRegionsKept, IsMakingElsewhere, IsMergeElsewhere, IsMoveElsewhere, IsRemovalElsewhere, IsSplitElsewhere, StandsOver};
 
 /// Each leaf has a holder, and no other.
 pub fn each_leaf_has_one_holder()
@@ -30,6 +30,16 @@ pub fn merges_elsewhere_keep_frozen_regions()
 /// A directory's move elsewhere leaves each frozen region as it is.
 pub fn moves_elsewhere_keep_frozen_regions()
     ensures { (standing : Standing) (was now : SubtreesSeen) (homes later : Homes) (covers : Covers) → StandsOver standing was homes covers → IsMoveElsewhere standing was now homes later covers → AreFrozenRegionsKept standing was now homes later covers covers }
+{}
+
+/// A new directory elsewhere leaves each frozen region as it is.
+pub fn new_directories_elsewhere_keep_frozen_regions()
+    ensures { (standing : Standing) (subtrees : SubtreesSeen) (homes later : Homes) (covers : Covers) → StandsOver standing subtrees homes covers → IsMakingElsewhere standing subtrees homes later covers → AreFrozenRegionsKept standing subtrees subtrees homes later covers covers }
+{}
+
+/// A directory's removal elsewhere leaves each frozen region as it is.
+pub fn removals_elsewhere_keep_frozen_regions()
+    ensures { (standing : Standing) (was now : SubtreesSeen) (homes later_homes : Homes) (covers later_covers : Covers) → StandsOver standing was homes covers → IsRemovalElsewhere standing was now homes later_homes covers later_covers → AreFrozenRegionsKept standing was now homes later_homes covers later_covers }
 {}
 
 /// Whether part of a region is frozen is asked of its root alone: of the leaves in the region that a leaf has once it is a root,
