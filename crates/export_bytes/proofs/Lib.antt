@@ -3,3 +3,4 @@ pub mod Again
 pub mod Taken
 pub mod ExportLaws
 pub mod Written
+pub mod Recorded

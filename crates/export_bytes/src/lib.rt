@@ -6,8 +6,10 @@ mod exports;
 pub mod laws;
 mod reading;
 mod rising;
+mod sendable;
 mod writing;
 
 pub use exports::{Export, SentFrag, SentFrags, SentNames};
 pub use reading::decode_export;
+pub use sendable::is_sendable;
 pub use writing::encode_export;

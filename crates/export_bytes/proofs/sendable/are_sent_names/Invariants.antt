@@ -1,0 +1,7 @@
+use Rattle.std.specs.Prelude.{◌≡◌, drop}
+use Rattle.std.specs.List.{list_all}
+use Rattle.export_bytes.specs.Export.{is_sent_name}
+use Rattle.export_bytes.proofs.sendable.are_sent_names.Given as goal
+
+abbrev pub invariant-loop-sent : goal.invariant-loop-sent
+invariant-loop-sent l = list_all is_sent_name (drop l.sent-index l.names) ≡ list_all is_sent_name l.names

@@ -1,0 +1,11 @@
+pub mod Between
+pub mod Coloured
+pub mod Directories
+pub mod Elsewhere
+pub mod Handover
+pub mod Holders
+pub mod Merges
+pub mod Moves
+pub mod Outcomes
+pub mod Placed
+pub mod Splits

@@ -1,0 +1,25 @@
+use Rattle.std.specs.Prelude.{Ok}
+use Rattle.std.proofs.Common.{rules, subst}
+use Rattle.sorted_map.specs.SortedMap.{contents}
+use Rattle.subtree_map.specs.Authority.{leaf_cmp}
+use Rattle.export_steps.specs.Standing.{IsFreeze}
+use Rattle.export_steps.proofs.Outcomes.{frozen}
+use Rattle.export_steps.proofs.Placed.{freezes_placed}
+use Rattle.export_steps.proofs.exports.Exports.freeze.Goals as goal
+
+pub returns-in_err-place-clause-outcome : goal.returns-in_err-place-clause-outcome
+returns-in_err-place-clause-outcome c = search rules
+
+pub returns-in_err-place-clause-placed : goal.returns-in_err-place-clause-placed
+returns-in_err-place-clause-placed c =
+    freezes_placed c.args.self.now c.args.self.now (c.args.dir, c.args.frag) c.args.subtrees.now c.place.new.subtrees c.from_residual.result (returns-in_err-place-clause-outcome c)
+
+pub returns-clause-outcome : goal.returns-clause-outcome
+returns-clause-outcome c =
+    subst (λ m. IsFreeze m (contents leaf_cmp c.put_state.new.rows) c.args.subtrees.now c.place.new.subtrees (c.args.dir, c.args.frag)) c.self.view_is (frozen
+    (contents leaf_cmp c.self.inside.rows) (contents leaf_cmp c.put_state.new.rows) (c.args.dir, c.args.frag) c.args.subtrees.now c.place.new.subtrees c.in-Some.export
+    c.in-Some.ensures.0 c.in-Some.ensures.1 c.put_state.ensures.come c.in_ok-place.ensures.roots c.in_ok-place.ensures.promises)
+
+pub returns-clause-placed : goal.returns-clause-placed
+returns-clause-placed c =
+    freezes_placed c.args.self.now (contents leaf_cmp c.put_state.new.rows) (c.args.dir, c.args.frag) c.args.subtrees.now c.place.new.subtrees (Ok tt) (returns-clause-outcome c)

@@ -1,0 +1,15 @@
+use Rattle.std.proofs.Common.{ap, ◌∙◌}
+use Rattle.std.specs.FinMap as map
+use Rattle.subtree_map.proofs.LeafKeys.{not_none}
+use Rattle.subtree_map.proofs.Nearest.{is_ranked}
+use Rattle.export_steps.proofs.Holders.{some_holder_of_root}
+use Rattle.export_steps.specs.Holder.{region_holder}
+use Rattle.export_steps.proofs.exports.Exports.holder.Goals as goal
+
+pub unreachable-requires : goal.unreachable-requires
+unreachable-requires c =
+    let root = c.root_of-root.result in
+    let export = map.get c.args.self.now (root.0, root.1) in
+    let ranked = is_ranked c.args.subtrees.now.roots c.args.dirs.now.homes c.args.dirs.now.trees (c.args.dir, c.args.frag) root c.root_of-root.ensures in
+    let held = some_holder_of_root export ranked.0 in
+    not_none _ held.0 c.in-None.is (c.region_holder.ensures ∙ ap (region_holder export) ranked.1 ∙ held.1)

@@ -1,0 +1,4 @@
+pub mod Handover
+pub mod Holder
+pub mod Regions
+pub mod Standing

@@ -1,0 +1,80 @@
+//! Laws of exports, for the crates that hold them. A law is its contract: its body does nothing.
+ghost use Rattle.std.specs.Prelude.{◌≡◌, ◌↔◌};
+ghost use Rattle.std.specs.FinMap as map;
+ghost use Rattle.mds_types.specs.declared.ids.Rank.{Rank};
+ghost use Rattle.inode_table.specs.Dirs.{Homes, Covers, IsTable};
+ghost use Rattle.subtree_map.specs.Authority.{HasAuthority, IsLeaf, IsSubtrees, Leaf, NearestRoot, Roots};
+ghost use Rattle.subtree_map.specs.Changes.{Subtrees as SubtreesSeen};
+ghost use Rattle.export_steps.specs.Standing.{ArePlaced, ComesTo, IsCancel, IsFinish, IsFreeze, Standing};
+ghost use Rattle.export_steps.specs.declared.exports.ExportState.TheVariants as state;
+ghost use Rattle.export_steps.specs.Handover.{CancelsSoundly, FinishesSoundly, FreezesSoundly, HandsOver};
+ghost use Rattle.export_steps.specs.Holder.{HasHolder, IsFrozen};
+ghost use Rattle.export_steps.specs.Regions.{AreFrozenRegionsKept, IsMakingElsewhere, IsMergeElsewhere, IsMoveElsewhere, IsRemovalElsewhere, IsSplitElsewhere, StandsOver};
+
+/// Each leaf has a holder, and no other.
+pub fn each_leaf_has_one_holder()
+    ensures some { (standing : Standing) (roots : Roots) (homes : Homes) (covers : Covers) (leaf : Leaf) → IsTable homes covers → IsSubtrees roots homes covers → IsLeaf homes covers leaf → (rank : Rank) × HasHolder standing roots homes covers leaf rank }
+    ensures one { (standing : Standing) (roots : Roots) (homes : Homes) (covers : Covers) (leaf : Leaf) (a b : Rank) → HasHolder standing roots homes covers leaf a → HasHolder standing roots homes covers leaf b → a ≡ b }
+{}
+
+/// A split elsewhere leaves each frozen region as it is.
+pub fn splits_elsewhere_keep_frozen_regions()
+    ensures { (standing : Standing) (was now : SubtreesSeen) (homes : Homes) (covers later : Covers) → StandsOver standing was homes covers → IsSplitElsewhere standing was now homes covers later → AreFrozenRegionsKept standing was now homes homes covers later }
+{}
+
+/// A merge elsewhere leaves each frozen region as it is.
+pub fn merges_elsewhere_keep_frozen_regions()
+    ensures { (standing : Standing) (was now : SubtreesSeen) (homes : Homes) (covers later : Covers) → StandsOver standing was homes covers → IsMergeElsewhere standing was now homes covers later → AreFrozenRegionsKept standing was now homes homes covers later }
+{}
+
+/// A directory's move elsewhere leaves each frozen region as it is.
+pub fn moves_elsewhere_keep_frozen_regions()
+    ensures { (standing : Standing) (was now : SubtreesSeen) (homes later : Homes) (covers : Covers) → StandsOver standing was homes covers → IsMoveElsewhere standing was now homes later covers → AreFrozenRegionsKept standing was now homes later covers covers }
+{}
+
+/// A new directory elsewhere leaves each frozen region as it is.
+pub fn new_directories_elsewhere_keep_frozen_regions()
+    ensures { (standing : Standing) (subtrees : SubtreesSeen) (homes later : Homes) (covers : Covers) → StandsOver standing subtrees homes covers → IsMakingElsewhere standing subtrees homes later covers → AreFrozenRegionsKept standing subtrees subtrees homes later covers covers }
+{}
+
+/// A directory's removal elsewhere leaves each frozen region as it is.
+pub fn removals_elsewhere_keep_frozen_regions()
+    ensures { (standing : Standing) (was now : SubtreesSeen) (homes later_homes : Homes) (covers later_covers : Covers) → StandsOver standing was homes covers → IsRemovalElsewhere standing was now homes later_homes covers later_covers → AreFrozenRegionsKept standing was now homes later_homes covers later_covers }
+{}
+
+/// Whether part of a region is frozen is asked of its root alone: of the leaves in the region that a leaf has once it is a root,
+/// each is frozen exactly if this leaf is.
+pub fn a_region_is_frozen_as_its_root_is()
+    ensures { (was now : Roots) (root : Leaf) (rank : Rank) → now ≡ map.insert was root rank → (homes : Homes) (covers : Covers) (standing : Standing) (leaf : Leaf) → NearestRoot now homes covers leaf root → IsFrozen standing was homes covers leaf ↔ IsFrozen standing was homes covers root }
+{}
+
+/// Freeze of a leaf that isn't frozen leaves each region that was frozen before as it is: two exports stand side by side.
+pub fn freezes_elsewhere_keep_frozen_regions()
+    ensures { (old new : Standing) (was now : SubtreesSeen) (root : Leaf) → IsFreeze old new was now root → ArePlaced old was → (homes : Homes) (covers : Covers) → (IsFrozen old was.roots homes covers root → ⊥) → AreFrozenRegionsKept old was now homes homes covers covers }
+{}
+
+/// Finish leaves the region of each other export that is frozen as it is.
+pub fn finishes_elsewhere_keep_frozen_regions()
+    ensures { (old new : Standing) (was now : SubtreesSeen) (root : Leaf) → IsFinish old new was now root → ArePlaced old was → (homes : Homes) (covers : Covers) → AreFrozenRegionsKept new was now homes homes covers covers }
+{}
+
+/// Freeze of a leaf whose authority is the exporter, and which isn't frozen: its region freezes, and every leaf keeps its holder
+/// and its authority.
+pub fn freeze_keeps_holders()
+    ensures { (old new : Standing) (was now : SubtreesSeen) (root : Leaf) (is : IsFreeze old new was now root) (homes : Homes) (covers : Covers) → (IsFrozen old was.roots homes covers root → ⊥) → HasAuthority was.roots homes covers root is.step.export.exporter → FreezesSoundly old new was.roots now.roots homes covers root }
+{}
+
+/// Import makes the importer the holder of the region, and of no other leaf.
+pub fn import_hands_the_region_over()
+    ensures { (old new : Standing) (root : Leaf) (is : ComesTo old new root state.Sent state.Imported) (roots : Roots) (homes : Homes) (covers : Covers) → HandsOver old new roots homes covers root is.export.importer }
+{}
+
+/// Finish makes the importer the authority of the region and thaws it; every leaf keeps its holder.
+pub fn finish_keeps_holders()
+    ensures { (old new : Standing) (was now : SubtreesSeen) (root : Leaf) (is : IsFinish old new was now root) → ArePlaced old was → (homes : Homes) (covers : Covers) → FinishesSoundly old new was.roots now.roots homes covers root is.export.importer }
+{}
+
+/// Cancel thaws the region; every leaf keeps its holder, and its authority too, since the roots stay.
+pub fn cancel_keeps_holders()
+    ensures { (old new : Standing) (was now : SubtreesSeen) (root : Leaf) → IsCancel old new was now root → (homes : Homes) (covers : Covers) → CancelsSoundly old new was.roots homes covers root }
+{}

@@ -1,0 +1,259 @@
+//! The steps of an export: each takes it from one state to the next, and two end it.
+ghost use Rattle.std.specs.Prelude.{◌≡◌, ◌≢◌, ◌<◌, Some, IfErr, MatchOption, OnErr, OnOk};
+ghost use Rattle.std.specs.FinMap as map;
+ghost use Rattle.sorted_map.specs.SortedMap.{contents};
+ghost use Rattle.mds_types.specs.declared.refusals.Refusal.TheVariants.{NoMemory};
+ghost use Rattle.subtree_map.specs.Authority.{leaf_cmp};
+ghost use Rattle.subtree_map.specs.Changes.{Subtrees as SubtreesSeen};
+ghost use Rattle.export_steps.specs.declared.exports.ExportState.TheVariants as state;
+ghost use Rattle.export_steps.specs.Standing.{AreBetweenRanks, AreKept, IsBetweenRanks, ArePlaced, Cancels, Finishes, Freezes, Starts, Steps, come_to, is_before_send, is_freezing, state_at};
+
+use crate::exports::{ExportState, Exports, StandingExport};
+use mds_types::{Frag, Ino, Rank, Refusal};
+use sorted_map::SortedMap;
+use subtree_map::Subtrees;
+
+impl ExportState {
+    /// Whether the region of an export in this state is frozen: from Freeze to the end of the export.
+    pub fn is_freezing(self) -> bool
+        ensures { result ≡ is_freezing self }
+    {
+        match self {
+            ExportState::Started => false,
+            ExportState::Frozen
+            | ExportState::Prepared
+            | ExportState::Sent
+            | ExportState::Imported => true,
+        }
+    }
+
+    /// Whether an export in this state can be cancelled: before Send.
+    pub fn is_before_send(self) -> bool
+        ensures { result ≡ is_before_send self }
+    {
+        match self {
+            ExportState::Started | ExportState::Frozen | ExportState::Prepared => true,
+            ExportState::Sent | ExportState::Imported => false,
+        }
+    }
+}
+
+impl Exports {
+    /// Start: records the exporter and the importer of a root's region, which are two ranks of 16.
+    ///
+    /// # Errors
+    /// `WrongExportState` where an export of this root stands, `NoMemory`; then all is left as it was.
+    pub fn start(
+        &mut self,
+        dir: Ino,
+        frag: Frag,
+        exporter: Rank,
+        importer: Rank,
+    ) -> Result<(), Refusal>
+        requires exporter { exporter.0 < 16 }
+        requires importer { importer.0 < 16 }
+        requires apart { exporter.0 ≢ importer.0 }
+        ensures outcome { Starts self.old self.new (dir, frag) exporter importer result }
+        ensures placed { (subtrees : SubtreesSeen) → ArePlaced self.old subtrees → ArePlaced self.new subtrees }
+    {
+        if self.rows.contains(&(dir, frag)) {
+            return Err(Refusal::WrongExportState);
+        }
+        let export = StandingExport {
+            exporter,
+            importer,
+            state: ExportState::Started,
+        };
+        put_new(&mut self.rows, dir, frag, export)
+    }
+
+    /// Freeze: makes the root of a started export a subtree root of the exporter, and promises it to the importer, so that
+    /// `finish` takes no memory. From now on its region is frozen.
+    ///
+    /// # Errors
+    /// `WrongExportState` where no started export of this root stands, `NoMemory`; then all is left as it was, though the
+    /// subtrees may have more room.
+    pub fn freeze(&mut self, subtrees: &mut Subtrees, dir: Ino, frag: Frag) -> Result<(), Refusal>
+        ensures outcome { Freezes self.old self.new subtrees.old subtrees.new (dir, frag) result }
+        ensures placed { ArePlaced self.old subtrees.old → ArePlaced self.new subtrees.new }
+    {
+        let Some(export) = find_in(&self.rows, dir, frag, ExportState::Started) else {
+            return Err(Refusal::WrongExportState);
+        };
+        place(subtrees, dir, frag, export)?;
+        put_state(&mut self.rows, dir, frag, export, ExportState::Frozen);
+        Ok(())
+    }
+
+    /// Prep: the importer gets to know the bounds of a frozen region. Takes no memory.
+    ///
+    /// # Errors
+    /// `WrongExportState` where no frozen export of this root stands; then all is left as it was.
+    pub fn prep(&mut self, dir: Ino, frag: Frag) -> Result<(), Refusal>
+        ensures outcome { Steps self.old self.new (dir, frag) state.Frozen state.Prepared result }
+        ensures placed { (subtrees : SubtreesSeen) → ArePlaced self.old subtrees → ArePlaced self.new subtrees }
+    {
+        let (from, to) = (ExportState::Frozen, ExportState::Prepared);
+        advance(&mut self.rows, dir, frag, from, to)
+    }
+
+    /// Send: the bytes of a region whose importer is prepared are handed out. Takes no memory.
+    ///
+    /// # Errors
+    /// `WrongExportState` where no prepared export of this root stands; then all is left as it was.
+    pub fn send(&mut self, dir: Ino, frag: Frag) -> Result<(), Refusal>
+        ensures outcome { Steps self.old self.new (dir, frag) state.Prepared state.Sent result }
+        ensures placed { (subtrees : SubtreesSeen) → ArePlaced self.old subtrees → ArePlaced self.new subtrees }
+    {
+        let (from, to) = (ExportState::Prepared, ExportState::Sent);
+        advance(&mut self.rows, dir, frag, from, to)
+    }
+
+    /// Import: the importer holds a region that was sent. Takes no memory.
+    ///
+    /// # Errors
+    /// `WrongExportState` where no sent export of this root stands; then all is left as it was.
+    pub fn import(&mut self, dir: Ino, frag: Frag) -> Result<(), Refusal>
+        ensures outcome { Steps self.old self.new (dir, frag) state.Sent state.Imported result }
+        ensures placed { (subtrees : SubtreesSeen) → ArePlaced self.old subtrees → ArePlaced self.new subtrees }
+    {
+        let (from, to) = (ExportState::Sent, ExportState::Imported);
+        advance(&mut self.rows, dir, frag, from, to)
+    }
+
+    /// Finish: the importer of an imported region is its authority, and the export is over. Takes no memory: what it changes
+    /// was placed by `freeze`.
+    ///
+    /// # Errors
+    /// `WrongExportState` where no imported export of this root stands; then all is left as it was.
+    pub fn finish(&mut self, subtrees: &mut Subtrees, dir: Ino, frag: Frag) -> Result<(), Refusal>
+        requires { ArePlaced self.old subtrees.old }
+        ensures outcome { Finishes self.old self.new subtrees.old subtrees.new (dir, frag) result }
+        ensures placed { ArePlaced self.new subtrees.new }
+    {
+        let Some(_) = find_in(&self.rows, dir, frag, ExportState::Imported) else {
+            return Err(Refusal::WrongExportState);
+        };
+        subtrees.hand(dir, frag);
+        end(&mut self.rows, dir, frag);
+        Ok(())
+    }
+
+    /// Cancel: an export that isn't sent yet is over, and its region thaws. A subtree root that `freeze` made stays one. Takes
+    /// no memory.
+    ///
+    /// # Errors
+    /// `WrongExportState` where no started, frozen or prepared export of this root stands; then all is left as it was.
+    pub fn cancel(&mut self, subtrees: &mut Subtrees, dir: Ino, frag: Frag) -> Result<(), Refusal>
+        ensures outcome { Cancels self.old self.new subtrees.old subtrees.new (dir, frag) result }
+        ensures placed { ArePlaced self.old subtrees.old → ArePlaced self.new subtrees.new }
+    {
+        let Some(export) = self.get(dir, frag) else {
+            return Err(Refusal::WrongExportState);
+        };
+        if !export.state.is_before_send() {
+            return Err(Refusal::WrongExportState);
+        }
+        subtrees.withdraw(dir, frag);
+        end(&mut self.rows, dir, frag);
+        Ok(())
+    }
+}
+
+// Records the first export of a root.
+fn put_new(
+    rows: &mut SortedMap<(Ino, Frag), StandingExport>,
+    dir: Ino,
+    frag: Frag,
+    export: StandingExport,
+) -> Result<(), Refusal>
+    ensures ok { OnOk result (contents leaf_cmp rows.new ≡ map.insert (contents leaf_cmp rows.old) (dir, frag) export) }
+    ensures err { IfErr result (λ reason. reason ≡ NoMemory) }
+    ensures left { OnErr result (contents leaf_cmp rows.new ≡ contents leaf_cmp rows.old) }
+    ensures ranks { IsBetweenRanks export → AreBetweenRanks (contents leaf_cmp rows.old) → AreBetweenRanks (contents leaf_cmp rows.new) }
+{
+    rows.reserve(1)?;
+    let _ = rows.insert((dir, frag), export);
+    Ok(())
+}
+
+// Makes the root of an export a subtree root of the exporter, promised to the importer.
+fn place(
+    subtrees: &mut Subtrees,
+    dir: Ino,
+    frag: Frag,
+    export: StandingExport,
+) -> Result<(), Refusal>
+    ensures roots { OnOk result (subtrees.new.roots ≡ map.insert subtrees.old.roots (dir, frag) export.exporter) }
+    ensures promises { OnOk result (subtrees.new.promises ≡ map.insert subtrees.old.promises (dir, frag) export.importer) }
+    ensures err { IfErr result (λ reason. reason ≡ NoMemory) }
+    ensures left { OnErr result (AreKept subtrees.old subtrees.new) }
+{
+    if let Err(refusal) = subtrees.reserve(1) {
+        return Err(refusal);
+    }
+    if let Err(refusal) = subtrees.promise(dir, frag, export.importer) {
+        return Err(refusal);
+    }
+    subtrees.set(dir, frag, export.exporter);
+    Ok(())
+}
+
+// The export of a root, if it is in this state.
+fn find_in(
+    rows: &SortedMap<(Ino, Frag), StandingExport>,
+    dir: Ino,
+    frag: Frag,
+    state: ExportState,
+) -> Option<StandingExport>
+    ensures { MatchOption result (state_at (contents leaf_cmp rows.now) (dir, frag) ≢ Some state) (λ export. (map.get (contents leaf_cmp rows.now) (dir, frag) ≡ Some export) × (export.state ≡ state)) }
+{
+    let Some(export) = rows.get(&(dir, frag)).copied() else {
+        return None;
+    };
+    if export.state != state {
+        return None;
+    }
+    Some(export)
+}
+
+// Gives the export of a root another state.
+fn put_state(
+    rows: &mut SortedMap<(Ino, Frag), StandingExport>,
+    dir: Ino,
+    frag: Frag,
+    export: StandingExport,
+    state: ExportState,
+)
+    requires { map.get (contents leaf_cmp rows.old) (dir, frag) ≡ Some export }
+    ensures come { contents leaf_cmp rows.new ≡ map.insert (contents leaf_cmp rows.old) (dir, frag) (come_to state export) }
+    ensures ranks { AreBetweenRanks (contents leaf_cmp rows.old) → AreBetweenRanks (contents leaf_cmp rows.new) }
+{
+    let _ = rows.replace(&(dir, frag), StandingExport { state, ..export });
+}
+
+// Takes out the export of a root.
+fn end(rows: &mut SortedMap<(Ino, Frag), StandingExport>, dir: Ino, frag: Frag)
+    ensures removed { contents leaf_cmp rows.new ≡ map.remove (contents leaf_cmp rows.old) (dir, frag) }
+    ensures ranks { AreBetweenRanks (contents leaf_cmp rows.old) → AreBetweenRanks (contents leaf_cmp rows.new) }
+{
+    let _ = rows.remove(&(dir, frag));
+}
+
+// Takes the export of a root from one state to another.
+fn advance(
+    rows: &mut SortedMap<(Ino, Frag), StandingExport>,
+    dir: Ino,
+    frag: Frag,
+    from: ExportState,
+    to: ExportState,
+) -> Result<(), Refusal>
+    ensures outcome { Steps (contents leaf_cmp rows.old) (contents leaf_cmp rows.new) (dir, frag) from to result }
+    ensures ranks { AreBetweenRanks (contents leaf_cmp rows.old) → AreBetweenRanks (contents leaf_cmp rows.new) }
+{
+    let Some(export) = find_in(rows, dir, frag, from) else {
+        return Err(Refusal::WrongExportState);
+    };
+    put_state(rows, dir, frag, export, to);
+    Ok(())
+}
