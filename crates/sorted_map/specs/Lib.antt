@@ -1,4 +1,5 @@
 pub mod Bools
+pub mod Chunks
 pub mod Laws
 pub mod Lending
 pub mod NatKeys

@@ -6,7 +6,7 @@ ghost use Rattle.sorted_map.specs.SortedMap.{contents, first_pair, is_from};
 use crate::keys::{ExactOrd, Probe};
 use crate::map::SortedMap;
 use crate::places::{place, place_from, place_from_end};
-use std::mem;
+use crate::vectors::{drop_front, put_at, replaced};
 
 impl<K: ExactOrd + Drop, V: Drop> SortedMap<K, V> {
     /// Gives the key a value, and returns the one that it had. A new key needs room.
@@ -76,37 +76,4 @@ impl<K: ExactOrd + Drop, V: Drop> SortedMap<K, V> {
         let from = place_from(&self.pairs, q);
         drop_front(&mut self.pairs, from);
     }
-}
-
-// Puts a pair in at a place, where there is room.
-fn put_at<K: Drop, V: Drop>(pairs: &mut Vec<(K, V)>, at: usize, pair: (K, V))
-    requires within { at ≤ vec_len pairs.old }
-    requires room { vec_len pairs.old < vec_capacity pairs.old }
-    ensures items { pairs.new.items ≡ insert pairs.old.items at pair }
-    ensures len { vec_len pairs.new ≡ vec_len pairs.old + 1 }
-    ensures capacity { vec_capacity pairs.new ≡ vec_capacity pairs.old }
-{
-    let _ = pairs.insert(at, pair);
-}
-
-// Puts a value at a place, and returns the one that was there.
-fn replaced<K, V>(pairs: &mut Vec<(K, V)>, at: usize, value: V) -> V
-    requires { at < vec_len pairs.old }
-    ensures items { (d : K × V) → pairs.new.items ≡ slice_set pairs.old.items at ((slice_index_or pairs.old.items at d).0, value) }
-    ensures value { (d : K × V) → result ≡ (slice_index_or pairs.old.items at d).1 }
-    ensures len { vec_len pairs.new ≡ vec_len pairs.old }
-    ensures capacity { vec_capacity pairs.new ≡ vec_capacity pairs.old }
-{
-    let pair = &mut pairs[at];
-    mem::replace(&mut pair.1, value)
-}
-
-// Drops so many pairs from the front.
-fn drop_front<K: Drop, V: Drop>(pairs: &mut Vec<(K, V)>, count: usize)
-    requires { count ≤ vec_len pairs.old }
-    ensures items { pairs.new.items ≡ drop count pairs.old.items }
-    ensures len { vec_len pairs.new + count ≡ vec_len pairs.old }
-    ensures capacity { vec_capacity pairs.new ≡ vec_capacity pairs.old }
-{
-    drop(pairs.drain(..count));
 }

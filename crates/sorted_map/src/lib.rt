@@ -4,6 +4,11 @@
 //! all the room of a step first, and then makes changes that are sure to be made.
 #![tactic(auto)]
 
+mod chunk;
+mod chunk_edits;
+mod chunk_map;
+mod chunk_places;
+mod chunks;
 mod compare;
 mod edits;
 mod iters;
@@ -12,6 +17,7 @@ mod lends;
 mod map;
 mod overlay;
 mod places;
+mod vectors;
 
 pub use iters::Iter;
 pub use keys::{ExactOrd, Probe};
