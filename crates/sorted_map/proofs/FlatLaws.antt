@@ -175,7 +175,7 @@ module _ {A : Type 0} where
       append_nil [] = refl
       append_nil (e ∷ c) = ap (λ t. e ∷ t) (append_nil c)
 
-  flat_some : (cs : List (List A)) → AllSome cs → 0 < length cs → 0 < length (flat cs)
+  pub flat_some : (cs : List (List A)) → AllSome cs → 0 < length cs → 0 < length (flat cs)
   flat_some [] all some = some
   flat_some (c ∷ cs) all some = omega (arith, all.0, length-append c (flat cs))
 
@@ -217,3 +217,8 @@ not_none (x ∷ xs) h = omega arith
 -- a chunk whose length was read
 pub read_len : {A : Type 0} (row cs : List (List A)) (i n : ℕ) (c : List A) → row ≡ cs → i < length row → c ≡ get_or row i c → n ≡ length c → n ≡ length (get_or cs i [])
 read_len row cs i n c same lt is len = len ∙ ap length (got row i c [] lt is) ∙ ap (λ r. length (get_or r i [])) same
+
+-- nothing stands before the first chunk
+pub start_none : {A : Type 0} (cs : List (List A)) → start cs 0 + 0 ≡ 0
+start_none [] = refl
+start_none (c ∷ cs) = refl

@@ -1,5 +1,5 @@
 //! Edits of a row of chunks at a place among all its pairs.
-ghost use Rattle.std.specs.Prelude.{◌≡◌, ◌+◌, ◌-◌, ◌<◌, ◌≤◌, ◌∷◌, [], length, slice_index_or, insert, remove};
+ghost use Rattle.std.specs.Prelude.{◌≡◌, ◌+◌, ◌-◌, ◌<◌, ◌≤◌, ◌∷◌, [], length, slice_index_or, slice_set, insert, remove};
 ghost use Rattle.sorted_map.specs.Chunks.{flat, load, start, room_in, AllSome};
 
 use crate::chunk::{HALF, MOST};
@@ -75,6 +75,19 @@ fn put_apart<K: Drop, V: Drop>(chunks: &mut Chunks<K, V>, home: usize, at: usize
     } else {
         put_within(chunks, home + 1, at - HALF, pair);
     }
+}
+
+/// Puts a value at a place of a chunk, and returns the one that was there.
+pub(crate) fn put_value<K, V>(chunks: &mut Chunks<K, V>, home: usize, at: usize, value: V) -> V
+    requires some { AllSome chunks.old.lists }
+    requires home { home < length chunks.old.lists }
+    requires within { at < length (slice_index_or chunks.old.lists home []) }
+    ensures items { (d : K × V) → flat chunks.new.lists ≡ slice_set (flat chunks.old.lists) (start chunks.old.lists home + at) ((slice_index_or (flat chunks.old.lists) (start chunks.old.lists home + at) d).0, value) }
+    ensures value { (d : K × V) → result ≡ (slice_index_or (flat chunks.old.lists) (start chunks.old.lists home + at) d).1 }
+    ensures some { AllSome chunks.new.lists }
+    ensures room { room_in chunks.new ≡ room_in chunks.old }
+{
+    chunks.replaced(home, at, value)
 }
 
 /// Takes the pair at a place of a chunk out. Where that leaves the chunk empty it is kept as room, and where it and a neighbour

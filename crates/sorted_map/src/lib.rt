@@ -5,6 +5,7 @@
 #![tactic(auto)]
 
 mod chunk;
+mod chunk_changes;
 mod chunk_edits;
 mod chunk_map;
 mod chunk_places;
