@@ -127,15 +127,13 @@ module _ {A : Type 0} where
     }
 
 -- an element of a list, whatever stands for one that isn't there
+pub got_default : {X : Type 0} (cs : List X) (i : ℕ) (o d : X) → i < length cs → get_or cs i o ≡ get_or cs i d
+got_default [] i o d lt = absurd (omega (arith, lt))
+got_default (x ∷ cs) zero o d lt = refl
+got_default (x ∷ cs) (suc i) o d lt = got_default cs i o d (omega (arith, lt))
+
 pub got : {X : Type 0} (cs : List X) (i : ℕ) (o d : X) → i < length cs → o ≡ get_or cs i o → o ≡ get_or cs i d
-got [] i o d lt is = absurd (omega (arith, lt))
-got (x ∷ cs) zero o d lt is = is
-got (x ∷ cs) (suc i) o d lt is = is ∙ any cs i o d (omega (arith, lt))
-  where
-    any : {X : Type 0} (cs : List X) (i : ℕ) (o d : X) → i < length cs → get_or cs i o ≡ get_or cs i d
-    any [] i o d lt = absurd (omega (arith, lt))
-    any (x ∷ cs) zero o d lt = refl
-    any (x ∷ cs) (suc i) o d lt = any cs i o d (omega (arith, lt))
+got cs i o d lt is = is ∙ got_default cs i o d lt
 
 -- an item of a list that has some
 pub one_of : {A : Type 0} (xs : List A) (i : ℕ) → i < length xs → A

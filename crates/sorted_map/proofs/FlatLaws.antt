@@ -3,8 +3,8 @@ use Rattle.std.proofs.Common.{◌≡◌, ℕ, zero, suc, ◌+◌, ◌-◌, ◌*�
 use Rattle.std.specs.Prelude.{◌==◌, false}
 use Rattle.std.proofs.lemmas.Bool.{false≢true}
 use Rattle.std.proofs.lemmas.List.Edits.{length-insert, length-remove}
-use Rattle.sorted_map.specs.Chunks.{flat, start, AllSome, total, over, load, room_by}
-use Rattle.sorted_map.proofs.ChunkLaws.{total_set, total_insert, total_remove, total_part, got}
+use Rattle.sorted_map.specs.Chunks.{flat, start, AllSome, total, over, load, room_by, with_value}
+use Rattle.sorted_map.proofs.ChunkLaws.{total_set, total_insert, total_remove, total_part, got, got_default}
 
 module _ {A : Type 0} where
   -- ---- an edit at a place, as one among all
@@ -222,3 +222,21 @@ read_len row cs i n c same lt is len = len ∙ ap length (got row i c [] lt is) 
 pub start_none : {A : Type 0} (cs : List (List A)) → start cs 0 + 0 ≡ 0
 start_none [] = refl
 start_none (c ∷ cs) = refl
+
+-- a value that is written at a place
+pub value_set : {K V : Type 0} (es : List (K × V)) (at : ℕ) (x : K × V) (w : V) → at < length es → x ≡ get_or es at x → set es at (x.0, w) ≡ with_value es at w
+value_set [] at x w lt is = absurd (omega (arith, lt))
+value_set (e ∷ es) zero x w lt is = ap (λ y. (y.0, w) ∷ es) is
+value_set (e ∷ es) (suc at) x w lt is = ap (λ t. e ∷ t) (value_set es at x w (omega (arith, lt)) is)
+
+pub value_length : {K V : Type 0} (es : List (K × V)) (at : ℕ) (w : V) → length (with_value es at w) ≡ length es
+value_length [] at w = refl
+value_length (e ∷ es) zero w = refl
+value_length (e ∷ es) (suc at) w = ap suc (value_length es at w)
+
+-- a value that is written in a chunk, and the pair that is there after it
+pub value_flat : {K V : Type 0} (cs : List (List (K × V))) (i at : ℕ) (d : K × V) (w : V) → i < length cs → at < length (get_or cs i []) → flat (set cs i (with_value (get_or cs i []) at w)) ≡ set (flat cs) (start cs i + at) ((get_or (flat cs) (start cs i + at) d).0, w)
+value_flat cs i at d w lt within =
+    let x = get_or (get_or cs i []) at d in
+    let is = got_default (get_or cs i []) at d x within in
+    ap (λ c. flat (set cs i c)) (sym (value_set (get_or cs i []) at x w within is)) ∙ flat_set cs i at (x.0, w) lt within ∙ ap (λ y. set (flat cs) (start cs i + at) (y.0, w)) (sym (flat_get cs i at d within))

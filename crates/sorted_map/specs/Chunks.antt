@@ -86,3 +86,9 @@ module _ {K V : Type 0} (R : K → K → Ordering) (k : K) where
 -- how many insertions fit into a row
 abbrev pub room_in : {A : Type 0} → Chunked A → ℕ
 room_in c = room_by c.spare (load c.lists)
+
+-- the pairs with another value at a place
+abbrev pub with_value : {K V : Type 0} → List (K × V) → ℕ → V → List (K × V)
+with_value [] at w = []
+with_value (e ∷ es) zero w = (e.0, w) ∷ es
+with_value (e ∷ es) (suc at) w = e ∷ with_value es at w

@@ -1,8 +1,11 @@
 pub mod Bools
+pub mod ChunkLending
+pub mod ChunkValues
 pub mod Chunks
 pub mod Laws
 pub mod Lending
 pub mod NatKeys
 pub mod Overlay
 pub mod Places
+pub mod RowValues
 pub mod SortedMap

@@ -1,5 +1,6 @@
 //! A chunk: some pairs of a map, in memory for 64 of them.
 ghost use Rattle.std.specs.Prelude.{◌≡◌, ◌+◌, ◌<◌, ◌≤◌, ◌++◌, [], length, take, drop, IfOk, slice_set, slice_index_or, insert, remove};
+ghost use Rattle.std.specs.Borrow.{sem};
 
 use crate::vectors::{move_back, put_at, replaced};
 use std::alloc::{AllocError, Global};
@@ -28,6 +29,8 @@ impl<K, V> Model for Chunk<K, V> {
 }
 
 impl<K, V> Chunk<K, V> {
+    ghost use Rattle.sorted_map.specs.ChunkValues.{lends_at};
+
     /// An empty chunk.
     pub fn new(alloc: Global) -> Result<Self, AllocError>
         ensures { IfOk result (λ c. c ≡ []) }
@@ -59,6 +62,15 @@ impl<K, V> Chunk<K, V> {
         ensures value { (d : K × V) → result ≡ (slice_index_or self.old at d).1 }
     {
         replaced(&mut self.pairs, at, value)
+    }
+
+    /// The value at a place, to write to.
+    pub fn value_mut(&mut self, at: usize) -> &mut V
+        requires { at < length self.old }
+        ensures* writes_back { sem 𝓛 (lends_at K.row V.row self.entry at result) }
+        ensures value { (d : K × V) → result.now ≡ (slice_index_or self.old at d).1 }
+    {
+        &mut self.pairs[at].1
     }
 
     /// Takes the pair at a place out. Those behind it move.

@@ -1,6 +1,7 @@
 //! Chunks in a row, with empty ones beside them that are kept as room.
 ghost use Rattle.std.specs.Prelude.{◌≡◌, ◌+◌, ◌-◌, ◌<◌, ◌≤◌, ◌++◌, ◌∷◌, [], length, take, drop, OnOk, OnErr, slice_set, slice_index_or, insert, remove, vec_len, vec_capacity};
 ghost use Rattle.sorted_map.specs.Chunks.{AllFew, total, over};
+ghost use Rattle.std.specs.Borrow.{sem};
 
 use crate::chunk::{Chunk, HALF};
 use crate::vectors::put_at;
@@ -36,6 +37,8 @@ impl<K, V> Model for Chunks<K, V> {
 }
 
 impl<K, V> Chunks<K, V> {
+    ghost use Rattle.sorted_map.specs.RowValues.{lends_in};
+
     /// No chunks.
     pub fn new(alloc: Global) -> Self
         ensures lists { result.lists ≡ [] }
@@ -121,6 +124,16 @@ impl<K, V> Chunks<K, V> {
         ensures spare { self.new.spare ≡ self.old.spare }
     {
         self.row[home].replaced(at, value)
+    }
+
+    /// The value at a place of a chunk, to write to.
+    pub fn value_mut(&mut self, home: usize, at: usize) -> &mut V
+        requires home { home < length self.old.lists }
+        requires within { at < length (slice_index_or self.old.lists home []) }
+        ensures* writes_back { sem 𝓛 (lends_in K.row V.row self.entry home at result) }
+        ensures value { (d : K × V) → result.now ≡ (slice_index_or (slice_index_or self.old.lists home []) at d).1 }
+    {
+        self.row[home].value_mut(at)
     }
 
     /// Takes the pair at a place of a chunk out.

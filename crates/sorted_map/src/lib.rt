@@ -7,6 +7,7 @@
 mod chunk;
 mod chunk_changes;
 mod chunk_edits;
+mod chunk_lends;
 mod chunk_map;
 mod chunk_places;
 mod chunks;
