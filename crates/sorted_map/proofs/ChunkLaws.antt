@@ -1,5 +1,5 @@
 -- What an edit of one chunk does to a row of chunks.
-use Rattle.std.proofs.Common.{◌≡◌, ℕ, zero, suc, ◌+◌, ◌-◌, ◌*◌, ◌<◌, ◌≤◌, List, [], ◌∷◌, ◌++◌, length, take, drop, get_or, set, insert, remove, refl, sym, ap, ◌∙◌, arith, length-append, length-set, length-take-le, length-drop}
+use Rattle.std.proofs.Common.{◌≡◌, ℕ, zero, suc, ◌+◌, ◌-◌, ◌*◌, ◌<◌, ◌≤◌, List, [], ◌∷◌, ◌++◌, length, take, drop, get_or, set, insert, remove, refl, sym, ap, subst, ◌∙◌, arith, length-append, length-set, length-take-le, length-drop}
 use Rattle.std.proofs.lemmas.List.Edits.{length-insert, length-remove, get_or-remove_below}
 use Rattle.sorted_map.specs.Chunks.{flat, start, AllSome, AllFew, total, over, IsCounted}
 
@@ -198,3 +198,15 @@ module _ {A : Type 0} where
       let none = counted_remove counted (i + 1) (len - length next) (extra - least) lt (omega (arith, lx, part_len counted (i + 1) lt)) (omega (arith, lx, last, part_extra counted (i + 1) lt)) in
       counted_set none i new len (extra + more - less - least) here (omega (arith, ln, lo, lp, lx, few)) (omega (arith, ln, lo, part_len counted (i + 1) lt, lx))
       (omega (arith, ln, lo, lr, most, lesser, last, lx, part_extra counted (i + 1) lt, part_extra none i here))
+
+-- a chunk that is still to come
+pub part_left : {A : Type 0} (cs : List (List A)) (i : ℕ) (c : List A) → i < length cs → c ≡ get_or cs i c → length c ≤ total length (drop i cs)
+part_left [] i c lt is = absurd (omega (arith, lt))
+part_left (x ∷ cs) zero c lt is = omega (arith, ap length is)
+part_left (x ∷ cs) (suc i) c lt is = part_left cs i c (omega (arith, lt)) is
+
+-- a chunk and those behind it have no more than all
+pub total_drop : {A : Type 0} (cs : List (List A)) (i : ℕ) → i < length cs → length (get_or cs i []) + total length (drop (i + 1) cs) ≤ total length cs
+total_drop [] i lt = absurd (omega (arith, lt))
+total_drop (x ∷ cs) zero lt = omega arith
+total_drop (x ∷ cs) (suc i) lt = subst (λ n. length (get_or cs i []) + total length (drop n (x ∷ cs)) ≤ length x + total length cs) {x = suc (i + 1)} (omega arith) (omega (arith, total_drop cs i (omega (arith, lt))))

@@ -240,3 +240,8 @@ value_flat cs i at d w lt within =
     let x = get_or (get_or cs i []) at d in
     let is = got_default (get_or cs i []) at d x within in
     ap (λ c. flat (set cs i c)) (sym (value_set (get_or cs i []) at x w within is)) ∙ flat_set cs i at (x.0, w) lt within ∙ ap (λ y. set (flat cs) (start cs i + at) (y.0, w)) (sym (flat_get cs i at d within))
+
+pub some_drop : {A : Type 0} (cs : List (List A)) (i : ℕ) → AllSome cs → AllSome (drop i cs)
+some_drop cs zero all = all
+some_drop [] (suc i) all = tt
+some_drop (c ∷ cs) (suc i) all = some_drop cs i all.1

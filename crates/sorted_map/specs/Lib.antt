@@ -2,6 +2,8 @@ pub mod Bools
 pub mod ChunkLending
 pub mod ChunkValues
 pub mod Chunks
+pub mod FlatLending
+pub mod Iters
 pub mod Laws
 pub mod Lending
 pub mod NatKeys
@@ -9,3 +11,4 @@ pub mod Overlay
 pub mod Places
 pub mod RowValues
 pub mod SortedMap
+pub mod Stores

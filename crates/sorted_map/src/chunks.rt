@@ -1,5 +1,5 @@
 //! Chunks in a row, with empty ones beside them that are kept as room.
-ghost use Rattle.std.specs.Prelude.{◌≡◌, ◌+◌, ◌-◌, ◌<◌, ◌≤◌, ◌++◌, ◌∷◌, [], length, take, drop, OnOk, OnErr, slice_set, slice_index_or, insert, remove, vec_len, vec_capacity};
+ghost use Rattle.std.specs.Prelude.{◌≡◌, ◌+◌, ◌-◌, ◌<◌, ◌≤◌, ◌^◌, ◌++◌, ◌∷◌, [], length, take, drop, OnOk, OnErr, slice_set, slice_index_or, insert, remove, vec_len, vec_capacity};
 ghost use Rattle.sorted_map.specs.Chunks.{AllFew, total, over};
 ghost use Rattle.std.specs.Borrow.{sem};
 
@@ -57,6 +57,7 @@ impl<K, V> Chunks<K, V> {
     pub fn row(&self) -> &[Chunk<K, V>]
         ensures row { result.now ≡ self.now.lists }
         ensures few { AllFew self.now.lists }
+        ensures fits { total length self.now.lists < 2 ^ 64 }
     {
         &self.row
     }
