@@ -1,7 +1,7 @@
 -- What an edit of one chunk does to a row of chunks.
-use Rattle.std.proofs.Common.{◌≡◌, ℕ, zero, suc, ◌+◌, ◌-◌, ◌*◌, ◌<◌, ◌≤◌, List, [], ◌∷◌, ◌++◌, length, take, drop, get_or, set, insert, remove, refl, sym, ap, subst, ◌∙◌, arith, length-append, length-set, length-take-le, length-drop}
+use Rattle.std.proofs.Common.{◌≡◌, ℕ, zero, suc, ◌+◌, ◌-◌, ◌*◌, ◌<◌, ◌≤◌, List, [], ◌∷◌, ◌++◌, length, take, drop, get_or, set, insert, remove, refl, ap, subst, ◌∙◌, arith, length-append, length-set, length-take-le, length-drop}
 use Rattle.std.proofs.lemmas.List.Edits.{length-insert, length-remove, get_or-remove_below}
-use Rattle.sorted_map.specs.Chunks.{flat, start, AllSome, AllFew, total, over, IsCounted}
+use Rattle.sorted_map.specs.Chunks.{flat, AllFew, total, over, IsCounted}
 
 module _ {A : Type 0} where
   pub flat_length : (cs : List (List A)) → length (flat cs) ≡ total length cs

@@ -1,10 +1,9 @@
 -- What an edit in one chunk is among all the items.
-use Rattle.std.proofs.Common.{◌≡◌, ℕ, zero, suc, ◌+◌, ◌-◌, ◌*◌, ◌<◌, ◌≤◌, List, [], ◌∷◌, ◌++◌, length, take, drop, get_or, slice_get, set, insert, remove, refl, sym, ap, ◌∙◌, subst, arith, length-append, append_assoc, length-set, length-take-le, length-drop, add-one}
+use Rattle.std.proofs.Common.{◌≡◌, ℕ, zero, suc, ◌+◌, ◌-◌, ◌<◌, ◌≤◌, List, [], ◌∷◌, ◌++◌, length, drop, get_or, slice_get, set, insert, remove, refl, sym, ap, ◌∙◌, arith, length-append, append_assoc}
 use Rattle.std.specs.Prelude.{◌==◌, false}
 use Rattle.std.proofs.lemmas.Bool.{false≢true}
-use Rattle.std.proofs.lemmas.List.Edits.{length-insert, length-remove}
-use Rattle.sorted_map.specs.Chunks.{flat, start, AllSome, total, over, load, room_by, with_value}
-use Rattle.sorted_map.proofs.ChunkLaws.{total_set, total_insert, total_remove, total_part, got, got_default}
+use Rattle.sorted_map.specs.Chunks.{flat, start, AllSome, over, load, with_value}
+use Rattle.sorted_map.proofs.ChunkLaws.{got, got_default}
 
 module _ {A : Type 0} where
   -- ---- an edit at a place, as one among all

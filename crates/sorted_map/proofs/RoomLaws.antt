@@ -1,10 +1,10 @@
 -- What an edit of a row of chunks does to its room.
-use Rattle.std.proofs.Common.{◌≡◌, ℕ, zero, suc, ◌+◌, ◌-◌, ◌*◌, ◌<◌, ◌≤◌, List, [], ◌∷◌, ◌++◌, length, take, drop, get_or, set, insert, remove, refl, sym, ap, ◌∙◌, subst, arith, length-append, length-set, length-take-le, length-drop}
+use Rattle.std.proofs.Common.{◌≡◌, ℕ, ◌+◌, ◌-◌, ◌<◌, ◌≤◌, List, [], ◌∷◌, ◌++◌, length, take, drop, get_or, set, insert, remove, sym, ap, ◌∙◌, subst, arith, length-append, length-set, length-take-le, length-drop}
 use Rattle.std.proofs.lemmas.List.Edits.{length-insert, length-remove}
-use Rattle.sorted_map.specs.Chunks.{Chunked, flat, start, AllSome, total, over, load, room_by, room_in}
-use Rattle.sorted_map.proofs.ChunkLaws.{total_set, total_insert, total_remove, total_part, total_end, part_removed, front_of}
+use Rattle.sorted_map.specs.Chunks.{flat, start, AllSome, load, room_by}
+use Rattle.sorted_map.proofs.ChunkLaws.{total_set, total_insert, total_remove, total_part, part_removed}
 use Rattle.std.proofs.lemmas.List.{take-append-drop}
-use Rattle.sorted_map.proofs.FlatLaws.{load_some, load_least, load_most, flat_split, start_split, start_split_next, get_split, get_split_next, some_set, some_insert}
+use Rattle.sorted_map.proofs.FlatLaws.{load_some, load_most, flat_split, start_split, start_split_next, get_split, get_split_next, some_set, some_insert}
 
 -- what is lost by so much more load, and by so many spare chunks less
 pub room_less : (s t a b : ℕ) → s ≡ t → b ≤ a + 1 → room_by s a ≤ room_by t b + 1

@@ -1,5 +1,5 @@
 -- What is left of an iterator over chunks. Only this crate's own contracts use these words.
-use Rattle.std.specs.Prelude.{ℕ, ◌+◌, ◌<◌, List, length}
+use Rattle.std.specs.Prelude.{◌+◌, ◌<◌, List, length}
 use Rattle.sorted_map.specs.Chunks.{AllSome, total}
 
 -- what is left of one chunk, and the chunks behind it: none of these is empty, and all their pairs can be counted

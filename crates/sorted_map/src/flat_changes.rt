@@ -71,7 +71,7 @@ impl<K: ExactOrd + Drop, V: Drop> FlatMap<K, V> {
     /// Forgets each pair whose key is less than the probe's. The pairs that stay move.
     pub fn remove_below<Q: Probe<K>>(&mut self, q: &Q)
         ensures kept { contents K.cmp self.new ≡ map.retain_keys (contents K.cmp self.old) (is_from K.cmp (Q.key q.now)) }
-        ensures room { self.new.room + map.len (contents K.cmp self.new) ≡ self.old.room + map.len (contents K.cmp self.old) }
+        ensures room { self.old.room ≤ self.new.room }
     {
         let from = place_from(&self.pairs, q);
         drop_front(&mut self.pairs, from);

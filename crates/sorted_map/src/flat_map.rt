@@ -80,6 +80,11 @@ impl<K: ExactOrd, V> FlatMap<K, V> {
         self.pairs.last()
     }
 
+    /// The allocator.
+    pub fn allocator(&self) -> Global {
+        *self.pairs.allocator()
+    }
+
     /// Makes room for `additional` more keys, so that as many insertions cannot fail.
     ///
     /// An error says that memory ran out. Where the room is there already nothing is done, and there is no error.

@@ -1,6 +1,6 @@
-use Rattle.std.proofs.Common.{◌≡◌, ◌+◌, ◌<◌, ◌≤◌, [], length, get_or, subst, sym, ap, ◌∙◌, arith, length-append}
+use Rattle.std.proofs.Common.{◌+◌, ◌<◌, [], length, get_or, subst, sym, ap, ◌∙◌, arith, length-append}
 use Rattle.sorted_map.specs.Chunks.{flat, load, AllSome}
-use Rattle.sorted_map.proofs.FlatLaws.{flat_joined, read_len, some_set, some_remove, not_none}
+use Rattle.sorted_map.proofs.FlatLaws.{flat_joined, read_len, some_set, some_remove}
 use Rattle.sorted_map.proofs.HomeLaws.{some_at}
 use Rattle.sorted_map.proofs.RoomLaws.{room_joined, join_load}
 use Rattle.sorted_map.proofs.chunk_edits.join.Goals as goal

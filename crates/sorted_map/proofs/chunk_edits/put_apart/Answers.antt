@@ -1,6 +1,6 @@
-use Rattle.std.proofs.Common.{◌≡◌, ◌+◌, ◌-◌, ◌<◌, ◌≤◌, length, insert, ap, ◌∙◌, arith}
+use Rattle.std.proofs.Common.{◌≡◌, ◌+◌, ◌-◌, insert, ◌∙◌, arith}
 use Rattle.sorted_map.specs.Chunks.{start, load}
-use Rattle.sorted_map.proofs.RoomLaws.{SplitFacts, split_facts, full_spare, room_apart}
+use Rattle.sorted_map.proofs.RoomLaws.{split_facts, full_spare, room_apart}
 use Rattle.sorted_map.proofs.chunk_edits.put_apart.Goals as goal
 
 pub split-requires-clause-spare : goal.split-requires-clause-spare

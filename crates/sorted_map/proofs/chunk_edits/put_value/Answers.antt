@@ -1,8 +1,7 @@
-use Rattle.std.proofs.Common.{◌≡◌, ◌<◌, ◌+◌, [], length, get_or, set, subst, sym, ap, ◌∙◌, arith, length-set}
+use Rattle.std.proofs.Common.{◌≡◌, ◌+◌, [], length, get_or, set, subst, sym, ap, ◌∙◌, arith, length-set}
 use Rattle.sorted_map.specs.Chunks.{flat, start, load, room_by, AllSome}
 use Rattle.sorted_map.proofs.ChunkLaws.{one_of}
 use Rattle.sorted_map.proofs.FlatLaws.{flat_set, flat_get, some_set}
-use Rattle.sorted_map.proofs.HomeLaws.{some_at}
 use Rattle.sorted_map.proofs.RoomLaws.{set_load}
 use Rattle.sorted_map.proofs.chunk_edits.put_value.Goals as goal
 

@@ -1,4 +1,4 @@
-use Rattle.std.proofs.Common.{◌≡◌, ◌<◌, [], length, get_or, subst, sym, ap, ◌∙◌, arith}
+use Rattle.std.proofs.Common.{[], get_or, subst, sym, ap, ◌∙◌, arith}
 use Rattle.std.proofs.lemmas.List.Edits.{length-insert}
 use Rattle.sorted_map.specs.Chunks.{flat, load, AllSome}
 use Rattle.sorted_map.proofs.FlatLaws.{flat_insert, some_set}

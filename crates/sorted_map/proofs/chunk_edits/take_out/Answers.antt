@@ -1,4 +1,4 @@
-use Rattle.std.proofs.Common.{◌≤◌, [], remove, subst, sym, ap, ◌∙◌, arith}
+use Rattle.std.proofs.Common.{◌≤◌, remove, subst, sym, ap, ◌∙◌, arith}
 use Rattle.sorted_map.specs.Chunks.{flat, load, room_in, AllSome}
 use Rattle.sorted_map.proofs.FlatLaws.{flat_remove, flat_get, some_remove, remove_set}
 use Rattle.sorted_map.proofs.RoomLaws.{room_kept, take_load}

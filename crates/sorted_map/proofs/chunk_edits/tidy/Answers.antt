@@ -1,6 +1,6 @@
-use Rattle.std.proofs.Common.{◌≡◌, ◌<◌, ◌≤◌, [], length, get_or, subst, sym, ap, ◌∙◌, arith}
+use Rattle.std.proofs.Common.{[], length, get_or, sym, ap, ◌∙◌, arith}
 use Rattle.std.proofs.lemmas.List.{nil_from_length}
-use Rattle.sorted_map.specs.Chunks.{flat, load, AllSome}
+use Rattle.sorted_map.specs.Chunks.{flat, load}
 use Rattle.sorted_map.proofs.FlatLaws.{flat_without, read_len, some_others}
 use Rattle.sorted_map.proofs.RoomLaws.{room_joined, aside_load}
 use Rattle.sorted_map.proofs.chunk_edits.tidy.Goals as goal

@@ -1,4 +1,4 @@
-use Rattle.std.proofs.Common.{◌≡◌, ◌⊎◌, ◌+◌, ◌-◌, ◌<◌, ◌≤◌, true, false, [], length, get_or}
+use Rattle.std.proofs.Common.{◌≡◌, ◌⊎◌, ◌-◌, ◌<◌, ◌≤◌, true, false, [], length, get_or}
 use Rattle.sorted_map.specs.Chunks.{starts_above}
 use Rattle.sorted_map.proofs.chunk_places.home.Given as goal
 

@@ -1,7 +1,6 @@
-use Rattle.std.proofs.Common.{◌≡◌, ◌<◌, ◌≤◌, ◌+◌, ◌-◌, ◌++◌, [], List, length, take, drop, get_or, subst, sym, ap, ◌∙◌, arith, length-drop}
+use Rattle.std.proofs.Common.{◌+◌, ◌++◌, [], length, drop, sym, ap, ◌∙◌, arith, length-drop}
 use Rattle.std.proofs.lemmas.List.{take_rest}
-use Rattle.sorted_map.specs.Chunks.{flat, start}
-use Rattle.sorted_map.specs.Iters.{IsRest}
+use Rattle.sorted_map.specs.Chunks.{flat}
 use Rattle.sorted_map.proofs.ChunkLaws.{got, total_drop}
 use Rattle.sorted_map.proofs.FlatLaws.{flat_drop, not_none, some_drop}
 use Rattle.sorted_map.proofs.chunk_ranges.pairs_at.Goals as goal

@@ -1,4 +1,4 @@
-use Rattle.std.proofs.Common.{◌≡◌, ◌+◌, ◌∙◌, length, sym, ap, arith}
+use Rattle.std.proofs.Common.{◌≡◌, ◌∙◌, length, ap, arith}
 use Rattle.sorted_map.proofs.ChunkLaws.{front_of, back_of}
 use Rattle.sorted_map.proofs.chunk.Chunk.move_half.Goals as goal
 

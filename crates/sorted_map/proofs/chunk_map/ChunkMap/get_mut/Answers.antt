@@ -1,9 +1,9 @@
-use Rattle.std.proofs.Common.{◌≡◌, ◌⊎◌, ◌<◌, ◌+◌, inl, ℕ, List, T, Some, Ordering, [], length, get_or, refl, set, sym, subst, ap, ◌∙◌, arith}
+use Rattle.std.proofs.Common.{◌≡◌, ◌⊎◌, ◌<◌, ◌+◌, inl, ℕ, List, T, Some, Ordering, [], length, get_or, refl, set, sym, ap, ◌∙◌, arith}
 use Rattle.std.specs.FinMap as map
 use Rattle.std.specs.Cmp.{IsTotalOrder}
 use Rattle.std.specs.FinMap.Entries.{is_sorted}
 use Rattle.sorted_map.specs.Places.{IsAt}
-use Rattle.sorted_map.specs.Chunks.{flat, start, load, room_by, room_in, with_value}
+use Rattle.sorted_map.specs.Chunks.{flat, start, load, room_by, with_value}
 use Rattle.sorted_map.proofs.ChunkLaws.{one_of}
 use Rattle.sorted_map.proofs.ContentLaws.{put_in_place, value_at, got_gap}
 use Rattle.sorted_map.proofs.FlatLaws.{flat_get, some_set, value_flat, value_length}

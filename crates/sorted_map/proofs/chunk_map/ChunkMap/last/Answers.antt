@@ -1,4 +1,4 @@
-use Rattle.std.proofs.Common.{◌≡◌, ◌<◌, ◌-◌, [], length, slice_get, sym, ap, ◌∙◌, eqb-true, arith}
+use Rattle.std.proofs.Common.{◌<◌, ◌-◌, [], length, slice_get, sym, ap, ◌∙◌, eqb-true, arith}
 use Rattle.sorted_map.specs.Chunks.{flat}
 use Rattle.sorted_map.proofs.ChunkLaws.{got}
 use Rattle.sorted_map.proofs.FlatLaws.{flat_none, last_flat, not_none}

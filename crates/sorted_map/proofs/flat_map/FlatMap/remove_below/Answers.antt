@@ -1,5 +1,5 @@
 use Rattle.std.proofs.Common.{sym, ◌∙◌, arith}
-use Rattle.sorted_map.proofs.ContentLaws.{retained, len_shown}
+use Rattle.sorted_map.proofs.ContentLaws.{retained}
 use Rattle.sorted_map.proofs.flat_map.FlatMap.remove_below.Goals as goal
 
 pub invariant_of-self : goal.invariant_of-self
@@ -12,7 +12,4 @@ returns-clause-kept g c =
 
 -- a pair that goes leaves its room
 pub returns-clause-room : goal.returns-clause-room
-returns-clause-room g c =
-    let new = c.drop_front.new.items in
-    let old = c.self.inside.pairs in
-    rw (← c.self.view_is) (omega (arith, len_shown g.K.Ord.cmp new.items (invariant_of-self g c), len_shown g.K.Ord.cmp old.items c.self.invariant, new.ok.0, new.ok.1, old.ok.0, old.ok.1, c.drop_front.ensures.len, c.drop_front.ensures.capacity))
+returns-clause-room g c = rw (← c.self.view_is) (omega (arith, c.drop_front.ensures.len, c.drop_front.ensures.capacity))

@@ -1,4 +1,4 @@
-use Rattle.std.proofs.Common.{ap, length, ◌∙◌, arith, length-append}
+use Rattle.std.proofs.Common.{arith, length-append}
 use Rattle.sorted_map.specs.Chunks.{flat}
 use Rattle.sorted_map.proofs.ChunkLaws.{flat_length}
 use Rattle.sorted_map.proofs.iters.IterExactSizeIterator.len.Goals as goal
