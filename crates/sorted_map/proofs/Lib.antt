@@ -1,4 +1,5 @@
 pub mod ChunkLaws
+pub mod CloneLaws
 pub mod ContentLaws
 pub mod EqualLaws
 pub mod FlatLaws

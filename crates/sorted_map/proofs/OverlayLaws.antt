@@ -178,6 +178,9 @@ none_left (e ∷ es) o none is = absurd (some_none (sym is ∙ none))
     some_none : {A : Type 0} {x : A} → Some x ≡ None → ⊥
     some_none e = cc
 
+pub none_entries : {K V : Type 0} {R : K → K → Ordering} (n : map.FinMap R V) → n ≡ map.empty → map.entries n ≡ []
+none_entries {K} {V} {R} n e = nil_from_length (map.entries n) (sym (len-entries n) ∙ ap map.len e ∙ len-empty R V)
+
 module _ {K V : Type 0} {R : K → K → Ordering} (o : IsTotalOrder R) where
   puts_none : (es : List (K × V)) → T (is_sorted R es) → puts R [] es ≡ es
   puts_none [] s = refl
@@ -188,9 +191,6 @@ module _ {K V : Type 0} {R : K → K → Ordering} (o : IsTotalOrder R) where
   unfolding overlaid
   overlaid_none m none is =
       same_entries_map _ _ (entries_with o none (map.entries m) ∙ ap (λ t. puts R t (map.entries m)) (none_entries none is) ∙ puts_none (map.entries m) (entries_sorted m))
-    where
-      none_entries : (n : map.FinMap R V) → n ≡ map.empty → map.entries n ≡ []
-      none_entries n e = nil_from_length (map.entries n) (sym (len-entries n) ∙ ap map.len e ∙ len-empty R V)
 
 module _ {K V W : Type 0} {R : K → K → Ordering} (o : IsTotalOrder R) where
   one_more : (b : Bool) (w : Option W) (x : W) (v : Option V) → cond (is_some w) None (cond b None v) ≡ cond (is_some (cond b (Some x) w)) None v

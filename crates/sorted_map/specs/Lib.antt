@@ -2,6 +2,7 @@ pub mod Bools
 pub mod ChunkLending
 pub mod ChunkValues
 pub mod Chunks
+pub mod Clones
 pub mod FlatLending
 pub mod Iters
 pub mod Laws

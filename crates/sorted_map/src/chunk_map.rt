@@ -44,6 +44,11 @@ impl<K: ExactOrd, V> ChunkMap<K, V> {
         }
     }
 
+    /// The allocator.
+    pub fn allocator(&self) -> Global {
+        self.chunks.allocator()
+    }
+
     /// How many pairs there are.
     pub fn len(&self) -> usize
         ensures len { result ≡ map.len (contents K.cmp self.now) }

@@ -53,6 +53,11 @@ impl<K, V> Chunks<K, V> {
         }
     }
 
+    /// The allocator.
+    pub fn allocator(&self) -> Global {
+        *self.row.allocator()
+    }
+
     /// The chunks.
     pub fn row(&self) -> &[Chunk<K, V>]
         ensures row { result.now ≡ self.now.lists }

@@ -1,13 +1,12 @@
-//! Clones of maps, and whether two maps have the same pairs.
+//! Whether two maps have the same pairs.
 ghost use Rattle.std.specs.Prelude.{◌≡◌, Decides};
 ghost use Rattle.std.specs.Cmp.{on_per, on_equiv, and_per, and_equiv};
 ghost use Rattle.std.specs.Cmp.Lexicographic.{pointwise, lists_per, lists_equiv};
-ghost use Rattle.sorted_map.specs.SortedMap.{IsClone, TellsApart, contents, pairs_eq};
+ghost use Rattle.sorted_map.specs.SortedMap.{TellsApart, contents, pairs_eq};
 
 use crate::iters::Iter;
 use crate::keys::ExactOrd;
-use crate::map::{SortedMap, Store};
-use std::alloc::AllocError;
+use crate::map::SortedMap;
 
 impl<K: ExactOrd, V: PartialEq> PartialEq for SortedMap<K, V> {
     ghost eq = { λ a b. pointwise (pairs_eq K.eq V.eq) a.entries b.entries };

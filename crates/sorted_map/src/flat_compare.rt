@@ -1,4 +1,4 @@
-//! Clones of maps, and whether two maps have the same pairs.
+//! Clones of a map in one vector.
 ghost use Rattle.std.specs.Prelude.{◌≡◌, T, IsTrue, Decides};
 ghost use Rattle.std.specs.Cmp.{on_per, on_equiv, and_per, and_equiv};
 ghost use Rattle.std.specs.Cmp.Lexicographic.{pointwise, lists_per, lists_equiv};
@@ -28,22 +28,4 @@ fn rises<K: Ord, V>(pairs: &[(K, V)]) -> bool
     ensures { IsTrue result → T (is_sorted K.cmp pairs.now) }
 {
     pairs.is_sorted_by(|a, b| a.0.cmp(&b.0).is_lt())
-}
-
-impl<K: ExactOrd, V: PartialEq> PartialEq for FlatMap<K, V> {
-    ghost eq = { λ a b. pointwise (pairs_eq K.eq V.eq) a.entries b.entries };
-
-    ghost laws = { on_per (λ s. s.entries) (lists_per (and_per (on_per (λ p. p.0) K.PartialEq.laws) (on_per (λ p. p.1) V.laws))) };
-
-    /// Whether both have the same pairs. Their room may differ.
-    fn eq(&self, other: &Self) -> bool
-        ensures value { result ≡ pointwise (pairs_eq K.eq V.eq) self.now.entries other.now.entries }
-        ensures exact { TellsApart V.eq → Decides result (contents K.cmp self.now ≡ contents K.cmp other.now) }
-    {
-        self.pairs == other.pairs
-    }
-}
-
-impl<K: ExactOrd, V: Eq> Eq for FlatMap<K, V> {
-    ghost laws = { on_equiv (λ s. s.entries) (lists_equiv (and_equiv (on_equiv (λ p. p.0) K.Eq.laws) (on_equiv (λ p. p.1) V.Eq.laws))) };
 }

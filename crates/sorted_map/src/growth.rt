@@ -80,7 +80,7 @@ impl<K: ExactOrd + Drop, V: Drop> SortedMap<K, V> {
     }
 
     // Puts a pair in, for which there is room.
-    fn put(&mut self, pair: (K, V))
+    pub(crate) fn put(&mut self, pair: (K, V))
         requires { 0 < self.old.room }
         ensures put { contents K.cmp self.new ≡ map.insert (contents K.cmp self.old) pair.0 pair.1 }
         ensures room { self.old.room ≤ self.new.room + 1 }

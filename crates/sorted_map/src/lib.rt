@@ -13,6 +13,7 @@ mod chunk_places;
 mod chunk_ranges;
 mod chunk_removals;
 mod chunks;
+mod clones;
 mod compare;
 mod edits;
 mod flat_changes;
