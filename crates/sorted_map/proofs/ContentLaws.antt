@@ -40,6 +40,9 @@ module _ {K V : Type 0} (R : K → K → Ordering) (es : List (K × V)) (s : T (
   pub none_first : length es ≡ 0 → None ≡ first_pair (map.from_sorted {R = R} es)
   none_first none = ap (λ t. slice_get t 0) (sym (nil_from_length es none)) ∙ first_shown
 
+  pub none_last : length es ≡ 0 → None ≡ last_pair (map.from_sorted {R = R} es)
+  none_last none = ap (λ t. slice_get t (length t - 1)) (sym (nil_from_length es none)) ∙ last_shown
+
   pub none_rest : length es ≡ 0 → map.entries (map.from_sorted {R = R} es) ≡ drop 1 (map.entries (map.from_sorted {R = R} es))
   none_rest none = let e = entries-from_sorted R es s ∙ nil_from_length es none in e ∙ sym (ap (drop 1) e)
 

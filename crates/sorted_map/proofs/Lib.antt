@@ -1,4 +1,9 @@
+pub mod ChunkLaws
+pub mod CloneLaws
 pub mod ContentLaws
 pub mod EqualLaws
+pub mod FlatLaws
+pub mod HomeLaws
 pub mod OverlayLaws
 pub mod PlaceLaws
+pub mod RoomLaws

@@ -15,7 +15,7 @@ less Less p = refl
 less Equal p = absurd p
 less Greater p = absurd p
 
-greater : (r : Ordering) → is_gt r ≡ true → r ≡ Greater
+pub greater : (r : Ordering) → is_gt r ≡ true → r ≡ Greater
 greater Less h = cc
 greater Equal h = cc
 greater Greater h = refl
@@ -105,7 +105,7 @@ module _ {K : Type 0} {R : K → K → Ordering} (o : IsTotalOrder R) where
   lower a b k Equal p q = rw (sym (alike_right o b k a p) ∙ q) (omega arith)
   lower a b k Greater p q = elim (R a k) as (λ s. ordering_index s ≤ 2) [ Less ↦ omega arith | Equal ↦ omega arith | Greater ↦ omega arith ]
 
-  turned : (x k : K) (r : Ordering) → R x k ≡ r → R k x ≡ ordering_reverse r
+  pub turned : (x k : K) (r : Ordering) → R x k ≡ r → R k x ≡ ordering_reverse r
   turned x k r e = o.antisymm k x ∙ ap ordering_reverse e
 
 module _ {K V : Type 0} {R : K → K → Ordering} (o : IsTotalOrder R) where

@@ -1,14 +1,10 @@
 -- What a map ends as, once a reference into it has ended.
-use Rattle.std.specs.Prelude.{ℕ, Bool, Option}
+use Rattle.std.specs.Prelude.{Bool, Option}
 use Rattle.std.specs.Borrow.{Fml, RattleType, MutBor, LendsIf}
 use Rattle.std.specs.FinMap as map
 use Rattle.std.specs.declared.cmp.Ordering.{Ordering}
 use Rattle.sorted_map.specs.contracts.map.SortedMap.{the_row}
-use Rattle.sorted_map.specs.SortedMap.{Shown, contents}
-
--- the pairs of a finite map, with such room
-abbrev pub shown : {K V : Type 0} {R : K → K → Ordering} → map.FinMap R V → ℕ → Shown K V
-shown m room = record { entries = map.entries m; room = room }
+use Rattle.sorted_map.specs.SortedMap.{Shown, contents, shown}
 
 module _ (K V : RattleType) (cmp : K.Denot → K.Denot → Ordering) (eq : K.Denot → K.Denot → Bool) (partial_cmp : K.Denot → K.Denot → Option Ordering) where
   -- the map has the last value written through r at the key, and at `None` it stays as it is

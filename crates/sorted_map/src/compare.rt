@@ -1,34 +1,12 @@
-//! Clones of maps, and whether two maps have the same pairs.
-ghost use Rattle.std.specs.Prelude.{◌≡◌, T, IsTrue, Decides};
+//! Whether two maps have the same pairs.
+ghost use Rattle.std.specs.Prelude.{◌≡◌, Decides};
 ghost use Rattle.std.specs.Cmp.{on_per, on_equiv, and_per, and_equiv};
 ghost use Rattle.std.specs.Cmp.Lexicographic.{pointwise, lists_per, lists_equiv};
-ghost use Rattle.std.specs.FinMap.{is_sorted};
-ghost use Rattle.sorted_map.specs.SortedMap.{IsClone, TellsApart, contents, pairs_eq};
+ghost use Rattle.sorted_map.specs.SortedMap.{TellsApart, contents, pairs_eq};
 
+use crate::iters::Iter;
 use crate::keys::ExactOrd;
 use crate::map::SortedMap;
-use std::alloc::AllocError;
-
-impl<K: ExactOrd + Clone, V: Clone> Clone for SortedMap<K, V> {
-    ghost is_clone = { IsClone K.is_clone V.is_clone };
-
-    /// A map of clones of the pairs. `Clone` does not say that a clone compares as its source, so this fails too where
-    /// the clones of the keys do not rise.
-    fn clone(&self) -> Result<SortedMap<K, V>, AllocError> {
-        let pairs = self.pairs.clone()?;
-        if !rises(&pairs) {
-            return Err(AllocError);
-        }
-        Ok(SortedMap { pairs })
-    }
-}
-
-// Whether each key is less than the next.
-fn rises<K: Ord, V>(pairs: &[(K, V)]) -> bool
-    ensures { IsTrue result → T (is_sorted K.cmp pairs.now) }
-{
-    pairs.is_sorted_by(|a, b| a.0.cmp(&b.0).is_lt())
-}
 
 impl<K: ExactOrd, V: PartialEq> PartialEq for SortedMap<K, V> {
     ghost eq = { λ a b. pointwise (pairs_eq K.eq V.eq) a.entries b.entries };
@@ -40,10 +18,29 @@ impl<K: ExactOrd, V: PartialEq> PartialEq for SortedMap<K, V> {
         ensures value { result ≡ pointwise (pairs_eq K.eq V.eq) self.now.entries other.now.entries }
         ensures exact { TellsApart V.eq → Decides result (contents K.cmp self.now ≡ contents K.cmp other.now) }
     {
-        self.pairs == other.pairs
+        let _ = self.len();
+        let _ = other.len();
+        have_same(self.iter(), other.iter())
     }
 }
 
 impl<K: ExactOrd, V: Eq> Eq for SortedMap<K, V> {
     ghost laws = { on_equiv (λ s. s.entries) (lists_equiv (and_equiv (on_equiv (λ p. p.0) K.Eq.laws) (on_equiv (λ p. p.1) V.Eq.laws))) };
+}
+
+// Whether two iterators give the same pairs.
+fn have_same<K: PartialEq, V: PartialEq>(mut a: Iter<'_, K, V>, mut b: Iter<'_, K, V>) -> bool
+    ensures { result ≡ pointwise (pairs_eq K.eq V.eq) a.entry b.entry }
+{
+    loop {
+        match (a.next(), b.next()) {
+            (Some(x), Some(y)) => {
+                if x.0 != y.0 || x.1 != y.1 {
+                    return false;
+                }
+            }
+            (None, None) => return true,
+            _ => return false,
+        }
+    }
 }

@@ -1,30 +1,24 @@
 //! The calls that change a map. None of them takes memory.
-ghost use Rattle.std.specs.Prelude.{◌≡◌, ℕ, ◌+◌, ◌-◌, ◌<◌, ◌≤◌, if◌then◌else◌, drop, Some, None, IsSome, IfSome, IfNone, is_some, option_map, slice_set, slice_index_or, insert, vec_len, vec_capacity};
+ghost use Rattle.std.specs.Prelude.{◌≡◌, ◌-◌, ◌<◌, ◌≤◌, if◌then◌else◌, drop, Some, None, IsSome, IfSome, IfNone, is_some, option_map};
 ghost use Rattle.std.specs.FinMap as map;
-ghost use Rattle.sorted_map.specs.SortedMap.{contents, first_pair, is_from};
+ghost use Rattle.sorted_map.specs.SortedMap.{contents, first_pair};
 
 use crate::keys::{ExactOrd, Probe};
-use crate::map::SortedMap;
-use crate::places::{place, place_from, place_from_end};
-use std::mem;
+use crate::map::{SortedMap, Store};
 
 impl<K: ExactOrd + Drop, V: Drop> SortedMap<K, V> {
-    /// Gives the key a value, and returns the one that it had. A new key needs room.
+    /// Gives the key a value, and returns the one that it had. A new key needs room, and takes at most one of it.
     ///
-    /// A key that is there keeps its place. A new one moves the pairs that are greater than it; one above all others is put
-    /// at the end after one comparison.
+    /// A key that is there keeps its place. A new one moves the pairs that are greater than it, in its own vector.
     pub fn insert(&mut self, key: K, value: V) -> Option<V>
         requires { map.get (contents K.cmp self.old) key ≡ None → 0 < self.old.room }
         ensures value { result ≡ map.get (contents K.cmp self.old) key }
         ensures inserted { contents K.cmp self.new ≡ map.insert (contents K.cmp self.old) key value }
-        ensures room { self.new.room ≡ (if is_some result then self.old.room else self.old.room - 1) }
+        ensures room { (if is_some result then self.old.room else self.old.room - 1) ≤ self.new.room }
     {
-        match place_from_end(&self.pairs, &key) {
-            Ok(at) => Some(replaced(&mut self.pairs, at, value)),
-            Err(at) => {
-                put_at(&mut self.pairs, at, (key, value));
-                None
-            }
+        match &mut self.store {
+            Store::Flat(flat) => flat.insert(key, value),
+            Store::Chunked(chunked) => chunked.insert(key, value),
         }
     }
 
@@ -35,78 +29,36 @@ impl<K: ExactOrd + Drop, V: Drop> SortedMap<K, V> {
         ensures inserted { contents K.cmp self.new ≡ map.insert (contents K.cmp self.old) (Q.key q.now) value }
         ensures room { self.new.room ≡ self.old.room }
     {
-        match place(&self.pairs, q) {
-            Ok(at) => replaced(&mut self.pairs, at, value),
-            Err(_) => unreachable!(),
+        match &mut self.store {
+            Store::Flat(flat) => flat.replace(q, value),
+            Store::Chunked(chunked) => chunked.replace(q, value),
         }
     }
 
-    /// Takes the key out, and returns it with its value. The pairs that are greater than it move.
+    /// Takes the key out, and returns it with its value. The pairs that are greater than it move, in its own vector.
     pub fn remove<Q: Probe<K>>(&mut self, q: &Q) -> Option<(K, V)>
         ensures value { result ≡ option_map (λ v. (Q.key q.now, v)) (map.get (contents K.cmp self.old) (Q.key q.now)) }
         ensures removed { contents K.cmp self.new ≡ map.remove (contents K.cmp self.old) (Q.key q.now) }
         ensures absent { IfNone result (self.new ≡ self.old) }
-        ensures room { self.new.room ≡ (if is_some result then self.old.room + 1 else self.old.room) }
+        ensures room { self.old.room ≤ self.new.room }
     {
-        match place(&self.pairs, q) {
-            Ok(at) => Some(self.pairs.remove(at)),
-            Err(_) => None,
+        match &mut self.store {
+            Store::Flat(flat) => flat.remove(q),
+            Store::Chunked(chunked) => chunked.remove(q),
         }
     }
 
-    /// Takes out the pair of the least key. The other pairs move.
+    /// Takes out the pair of the least key.
     pub fn pop_first(&mut self) -> Option<(K, V)>
         ensures value { result ≡ first_pair (contents K.cmp self.old) }
         ensures rest { map.entries (contents K.cmp self.new) ≡ drop 1 (map.entries (contents K.cmp self.old)) }
         ensures removed { IfSome result (λ pair. contents K.cmp self.new ≡ map.remove (contents K.cmp self.old) pair.0) }
         ensures empty { IfNone result (self.new ≡ self.old) }
-        ensures room { self.new.room ≡ (if is_some result then self.old.room + 1 else self.old.room) }
+        ensures room { self.old.room ≤ self.new.room }
     {
-        if self.pairs.is_empty() {
-            return None;
+        match &mut self.store {
+            Store::Flat(flat) => flat.pop_first(),
+            Store::Chunked(chunked) => chunked.pop_first(),
         }
-        Some(self.pairs.remove(0))
     }
-
-    /// Forgets each pair whose key is less than the probe's. The pairs that stay move.
-    pub fn remove_below<Q: Probe<K>>(&mut self, q: &Q)
-        ensures kept { contents K.cmp self.new ≡ map.retain_keys (contents K.cmp self.old) (is_from K.cmp (Q.key q.now)) }
-        ensures room { self.new.room + map.len (contents K.cmp self.new) ≡ self.old.room + map.len (contents K.cmp self.old) }
-    {
-        let from = place_from(&self.pairs, q);
-        drop_front(&mut self.pairs, from);
-    }
-}
-
-// Puts a pair in at a place, where there is room.
-fn put_at<K: Drop, V: Drop>(pairs: &mut Vec<(K, V)>, at: usize, pair: (K, V))
-    requires within { at ≤ vec_len pairs.old }
-    requires room { vec_len pairs.old < vec_capacity pairs.old }
-    ensures items { pairs.new.items ≡ insert pairs.old.items at pair }
-    ensures len { vec_len pairs.new ≡ vec_len pairs.old + 1 }
-    ensures capacity { vec_capacity pairs.new ≡ vec_capacity pairs.old }
-{
-    let _ = pairs.insert(at, pair);
-}
-
-// Puts a value at a place, and returns the one that was there.
-fn replaced<K, V>(pairs: &mut Vec<(K, V)>, at: usize, value: V) -> V
-    requires { at < vec_len pairs.old }
-    ensures items { (d : K × V) → pairs.new.items ≡ slice_set pairs.old.items at ((slice_index_or pairs.old.items at d).0, value) }
-    ensures value { (d : K × V) → result ≡ (slice_index_or pairs.old.items at d).1 }
-    ensures len { vec_len pairs.new ≡ vec_len pairs.old }
-    ensures capacity { vec_capacity pairs.new ≡ vec_capacity pairs.old }
-{
-    let pair = &mut pairs[at];
-    mem::replace(&mut pair.1, value)
-}
-
-// Drops so many pairs from the front.
-fn drop_front<K: Drop, V: Drop>(pairs: &mut Vec<(K, V)>, count: usize)
-    requires { count ≤ vec_len pairs.old }
-    ensures items { pairs.new.items ≡ drop count pairs.old.items }
-    ensures len { vec_len pairs.new + count ≡ vec_len pairs.old }
-    ensures capacity { vec_capacity pairs.new ≡ vec_capacity pairs.old }
-{
-    drop(pairs.drain(..count));
 }

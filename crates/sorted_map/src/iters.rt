@@ -1,29 +1,51 @@
 //! The pairs of a map in order.
-ghost use Rattle.std.specs.Prelude.{◌≡◌, length, Some, IfSome};
+ghost use Rattle.std.specs.Prelude.{◌≡◌, ◌<◌, ◌^◌, ◌++◌, length, Some, IfSome};
 ghost use Rattle.std.specs.Iterator.{UpTo, YieldsFirstRef, at_most, item_count};
 ghost use Rattle.std.specs.Iterator.SizeHint.{IsWithinCount};
-ghost use Rattle.std.specs.FinMap as map;
-ghost use Rattle.std.specs.FinMap.Entries.{where_key};
-ghost use Rattle.sorted_map.specs.SortedMap.{contents, after, is_from};
+ghost use Rattle.sorted_map.specs.Chunks.{flat, total};
+ghost use Rattle.sorted_map.specs.Iters.{IsRest};
 
-use crate::keys::{ExactOrd, Probe};
-use crate::map::SortedMap;
-use crate::places::{place_after, place_from};
+use crate::chunk::Chunk;
 use std::iter::FusedIterator;
 use std::marker::Model;
 
 /// An iterator over the pairs of a map, from the least key to the greatest.
 #[derive(Drop)]
 pub struct Iter<'a, K, V> {
-    rest: &'a [(K, V)],
+    front: &'a [(K, V)],
+    rest: &'a [Chunk<K, V>],
 }
 
 impl<'a, K, V> Model for Iter<'a, K, V> {
-    ghost use Rattle.std.specs.Prelude.{List};
+    ghost use Rattle.std.specs.Prelude.{List, ◌++◌};
+    ghost use Rattle.sorted_map.specs.Chunks.{flat};
+    ghost use Rattle.sorted_map.specs.Iters.{IsRest};
 
     ghost Value = { List (K × V) };
 
-    ghost view = { λ a. a.rest.now };
+    ghost view = { λ a. a.front.now ++ flat a.rest.now };
+
+    ghost invariant = { λ a. IsRest a.front.now a.rest.now };
+}
+
+impl<'a, K, V> Iter<'a, K, V> {
+    /// The pairs of a slice.
+    pub(crate) fn of_pairs(pairs: &'a [(K, V)]) -> Self
+        ensures { result ≡ pairs.now }
+    {
+        Iter {
+            front: pairs,
+            rest: &[],
+        }
+    }
+
+    /// The pairs of a slice, and then those of chunks.
+    pub(crate) fn of_chunks(front: &'a [(K, V)], rest: &'a [Chunk<K, V>]) -> Self
+        requires { IsRest front.now rest.now }
+        ensures { result ≡ front.now ++ flat rest.now }
+    {
+        Iter { front, rest }
+    }
 }
 
 impl<'a, K, V> Iterator for Iter<'a, K, V> {
@@ -34,8 +56,13 @@ impl<'a, K, V> Iterator for Iter<'a, K, V> {
     ghost remaining = { item_count (λ s. s) };
 
     fn next(&mut self) -> Option<&'a (K, V)> {
-        let (first, rest) = self.rest.split_first()?;
-        self.rest = rest;
+        if self.front.is_empty() {
+            let (chunk, rest) = self.rest.split_first()?;
+            self.front = chunk.pairs();
+            self.rest = rest;
+        }
+        let (first, front) = self.front.split_first()?;
+        self.front = front;
         Some(first)
     }
 
@@ -51,51 +78,20 @@ impl<'a, K, V> Iterator for Iter<'a, K, V> {
 
 impl<'a, K, V> ExactSizeIterator for Iter<'a, K, V> {
     fn len(&self) -> usize {
-        self.rest.len()
+        self.front.len() + count(self.rest)
     }
 }
 
 impl<'a, K, V> FusedIterator for Iter<'a, K, V> {}
 
-impl<K: ExactOrd, V> SortedMap<K, V> {
-    /// The pairs in the order of their keys.
-    pub fn iter(&self) -> Iter<'_, K, V>
-        ensures { result ≡ map.entries (contents K.cmp self.now) }
-    {
-        Iter { rest: &self.pairs }
+// How many pairs there are in chunks.
+fn count<K, V>(chunks: &[Chunk<K, V>]) -> usize
+    requires { total length chunks.now < 2 ^ 64 }
+    ensures { result ≡ total length chunks.now }
+{
+    let mut count = 0;
+    for chunk in chunks {
+        count += chunk.len();
     }
-
-    /// The pairs whose keys are no less than the probe's, in the order of their keys. The first is found in logarithmic
-    /// time.
-    pub fn iter_from<Q: Probe<K>>(&self, q: &Q) -> Iter<'_, K, V>
-        ensures { result ≡ where_key K.cmp (is_from K.cmp (Q.key q.now)) (map.entries (contents K.cmp self.now)) }
-    {
-        let from = place_from(&self.pairs, q);
-        Iter {
-            rest: &self.pairs[from..],
-        }
-    }
-
-    /// The pairs whose keys are greater than the probe's, in the order of their keys. The first is found in
-    /// logarithmic time.
-    pub fn iter_after<Q: Probe<K>>(&self, q: &Q) -> Iter<'_, K, V>
-        ensures { result ≡ after K.cmp (Q.key q.now) (map.entries (contents K.cmp self.now)) }
-    {
-        let from = place_after(&self.pairs, q);
-        Iter {
-            rest: &self.pairs[from..],
-        }
-    }
-}
-
-impl<'a, K: ExactOrd, V> IntoIterator for &'a SortedMap<K, V> {
-    type Item = &'a (K, V);
-
-    type IntoIter = Iter<'a, K, V>;
-
-    ghost into_iter_gives = { λ m r. r ≡ map.entries (contents K.cmp m.now) };
-
-    fn into_iter(self) -> Iter<'a, K, V> {
-        self.iter()
-    }
+    count
 }

@@ -6,8 +6,7 @@ ghost use Rattle.std.specs.FinMap as map;
 ghost use Rattle.sorted_map.specs.SortedMap.{contents};
 
 use crate::keys::{ExactOrd, Probe};
-use crate::map::SortedMap;
-use crate::places::place;
+use crate::map::{SortedMap, Store};
 
 impl<K: ExactOrd, V> SortedMap<K, V> {
     ghost use Rattle.sorted_map.specs.Lending.{lends_value};
@@ -17,9 +16,9 @@ impl<K: ExactOrd, V> SortedMap<K, V> {
         ensures* writes_back { sem 𝓛 (lends_value K.row V.row K.cmp K.eq K.partial_cmp self.entry (Q.key q.now) result) }
         ensures value { option_copied_mut result ≡ map.get (contents K.cmp self.old) (Q.key q.now) }
     {
-        match place(&self.pairs, q) {
-            Ok(at) => Some(&mut self.pairs[at].1),
-            Err(_) => None,
+        match &mut self.store {
+            Store::Flat(flat) => flat.get_mut(q),
+            Store::Chunked(chunked) => chunked.get_mut(q),
         }
     }
 }

@@ -1,17 +1,36 @@
-//! An ordered map that is kept as a vector in the order of its keys.
+//! An ordered map that is kept as a vector in the order of its keys, and as vectors of bounded length where it is large.
 //!
-//! Memory is taken by `reserve` and by a clone alone. What changes a map after that cannot fail, so a caller reserves
-//! all the room of a step first, and then makes changes that are sure to be made.
+//! Memory is taken by `reserve`, by a clone and by `overlay` alone. What changes a map after that cannot fail, so a caller
+//! reserves all the room of a step first, and then makes changes that are sure to be made.
 #![tactic(auto)]
 
+mod chunk;
+mod chunk_changes;
+mod chunk_edits;
+mod chunk_lends;
+mod chunk_map;
+mod chunk_places;
+mod chunk_ranges;
+mod chunk_removals;
+mod chunks;
+mod clones;
 mod compare;
 mod edits;
+mod flat_changes;
+mod flat_compare;
+mod flat_lends;
+mod flat_map;
+mod flat_overlay;
+mod flat_ranges;
+mod growth;
 mod iters;
 mod keys;
 mod lends;
 mod map;
-mod overlay;
 mod places;
+mod ranges;
+mod removals;
+mod vectors;
 
 pub use iters::Iter;
 pub use keys::{ExactOrd, Probe};

@@ -4,32 +4,36 @@ ghost use Rattle.std.specs.FinMap as map;
 ghost use Rattle.std.specs.FinMap.{is_sorted};
 ghost use Rattle.sorted_map.specs.SortedMap.{contents, first_pair, last_pair};
 
+use crate::chunk_map::ChunkMap;
+use crate::flat_map::FlatMap;
 use crate::keys::{ExactOrd, Probe};
-use crate::places::place;
 use std::alloc::{AllocError, Global};
 use std::marker::Model;
 
-/// An ordered map, kept as a vector in the order of its keys.
+/// Where a map keeps its pairs: in one vector while they are few, in chunks of bounded length where they are many.
+#[derive(Debug, Drop)]
+pub(crate) enum Store<K: ExactOrd, V> {
+    Flat(FlatMap<K, V>),
+    Chunked(ChunkMap<K, V>),
+}
+
+/// An ordered map, kept as a vector in the order of its keys, or as vectors of bounded length where it is large.
 ///
-/// A look-up takes logarithmic time. A new key moves the pairs that are greater than it, so the next greater key costs
-/// no move.
+/// A look-up takes logarithmic time. A new key moves at most as many pairs as one of those vectors has.
 #[derive(Debug, Drop)]
 pub struct SortedMap<K: ExactOrd, V> {
-    pub(crate) pairs: Vec<(K, V)>,
+    pub(crate) store: Store<K, V>,
 }
 
 impl<K: ExactOrd, V> Model for SortedMap<K, V> {
-    ghost use Rattle.std.specs.Prelude.{◌-◌, T, vec_len, vec_capacity};
-    ghost use Rattle.std.specs.FinMap.{is_sorted};
     ghost use Rattle.sorted_map.specs.SortedMap.{Shown, shown_code};
+    ghost use Rattle.sorted_map.specs.Stores.{shown_by};
 
     ghost Value = { Shown K V };
 
     ghost coded = { shown_code K.code V.code };
 
-    ghost view = { λ m. record { entries = m.pairs.items; room = vec_capacity m.pairs - vec_len m.pairs } };
-
-    ghost invariant = { λ m. T (is_sorted K.cmp m.pairs.items) };
+    ghost view = { λ m. shown_by m.store };
 }
 
 impl<K: ExactOrd, V> SortedMap<K, V> {
@@ -39,7 +43,7 @@ impl<K: ExactOrd, V> SortedMap<K, V> {
         ensures room { result.room ≡ 0 }
     {
         SortedMap {
-            pairs: Vec::new(alloc),
+            store: Store::Flat(FlatMap::new(alloc)),
         }
     }
 
@@ -48,31 +52,36 @@ impl<K: ExactOrd, V> SortedMap<K, V> {
         ensures len { result ≡ map.len (contents K.cmp self.now) }
         ensures valid { T (is_sorted K.cmp self.now.entries) }
     {
-        self.pairs.len()
+        match &self.store {
+            Store::Flat(flat) => flat.len(),
+            Store::Chunked(chunked) => chunked.len(),
+        }
     }
 
-    /// How many new keys fit before memory is needed.
+    /// How many new keys surely fit before memory is needed.
     pub fn room(&self) -> usize
         ensures { result ≡ self.now.room }
     {
-        let pairs = &self.pairs;
-        pairs.capacity() - pairs.len()
+        match &self.store {
+            Store::Flat(flat) => flat.room(),
+            Store::Chunked(chunked) => chunked.room(),
+        }
     }
 
     /// Whether there is no pair.
     pub fn is_empty(&self) -> bool
         ensures { IsTrue result ↔ (contents K.cmp self.now ≡ map.empty) }
     {
-        self.pairs.is_empty()
+        self.len() == 0
     }
 
     /// The value of the key. Takes logarithmic time.
     pub fn get<Q: Probe<K>>(&self, q: &Q) -> Option<&V>
         ensures { option_copied result ≡ map.get (contents K.cmp self.now) (Q.key q.now) }
     {
-        match place(&self.pairs, q) {
-            Ok(at) => Some(&self.pairs[at].1),
-            Err(_) => None,
+        match &self.store {
+            Store::Flat(flat) => flat.get(q),
+            Store::Chunked(chunked) => chunked.get(q),
         }
     }
 
@@ -87,29 +96,19 @@ impl<K: ExactOrd, V> SortedMap<K, V> {
     pub fn first(&self) -> Option<&(K, V)>
         ensures { option_copied result ≡ first_pair (contents K.cmp self.now) }
     {
-        self.pairs.first()
+        match &self.store {
+            Store::Flat(flat) => flat.first(),
+            Store::Chunked(chunked) => chunked.first(),
+        }
     }
 
     /// The pair of the greatest key.
     pub fn last(&self) -> Option<&(K, V)>
         ensures { option_copied result ≡ last_pair (contents K.cmp self.now) }
     {
-        self.pairs.last()
-    }
-
-    /// Makes room for `additional` more keys, so that as many insertions cannot fail.
-    ///
-    /// An error says that memory ran out. Where the room is there already nothing is done, and there is no error.
-    pub fn reserve(&mut self, additional: usize) -> Result<(), AllocError>
-        ensures ok { OnOk result (additional ≤ self.new.room) }
-        ensures same { contents K.cmp self.new ≡ contents K.cmp self.old }
-        ensures grows { self.old.room ≤ self.new.room }
-        ensures ready { additional ≤ self.old.room → IsOk result × (self.new ≡ self.old) }
-        ensures err { OnErr result (self.new ≡ self.old) }
-    {
-        if self.room() < additional {
-            self.pairs.reserve(additional)?;
+        match &self.store {
+            Store::Flat(flat) => flat.last(),
+            Store::Chunked(chunked) => chunked.last(),
         }
-        Ok(())
     }
 }

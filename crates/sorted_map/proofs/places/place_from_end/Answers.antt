@@ -1,7 +1,4 @@
-use Rattle.std.proofs.Common.{◌≡◌, ◌-◌, ◌+◌, ◌∙◌, ◌∷◌, ℕ, suc, T, Bool, true, false, Ordering, Less, Equal, Greater, is_gt, length, get_or, refl, sym, ap, subst, arith}
-use Rattle.std.specs.Cmp.{IsTotalOrder}
-use Rattle.std.specs.FinMap.Entries.{is_sorted}
-use Rattle.sorted_map.specs.Places.{IsGap}
+use Rattle.std.proofs.Common.{◌∙◌, is_gt, sym, ap}
 use Rattle.sorted_map.proofs.PlaceLaws.{past_end, past_none}
 use Rattle.sorted_map.proofs.places.place_from_end.Goals as goal
 use Rattle.sorted_map.proofs.places.place_from_end.Goals.{then-len-eq0-via-then-len-eq0, then-len-eq0-via-else-len-eq0+then-is_gt}

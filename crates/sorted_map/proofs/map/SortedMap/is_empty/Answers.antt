@@ -1,11 +1,10 @@
-use Rattle.std.proofs.Common.{◌≡◌, length, ◌∙◌, sym, eqb-true, eq-eqb}
-use Rattle.sorted_map.proofs.ContentLaws.{empty_shown, shown_empty}
+use Rattle.std.proofs.Common.{sym, ap, ◌∙◌, eqb-true, eq-eqb}
+use Rattle.std.specs.FinMap as map
+use Rattle.std.specs.FinMap.{empty_of_len, len-empty}
 use Rattle.sorted_map.proofs.map.SortedMap.is_empty.Goals as goal
 
 pub returns : goal.returns
-returns g c =
-    let counted : c.self.inside.pairs.len ≡ length c.self.inside.pairs.items = c.self.inside.pairs.ok.0 in
-    rw (← c.self.view_is) (
-      λ none. empty_shown _ _ c.self.invariant (sym counted ∙ eqb-true _ 0 (sym c.is_empty.ensures ∙ none)),
-      λ e. c.is_empty.ensures ∙ eq-eqb _ 0 (counted ∙ shown_empty _ _ c.self.invariant e),
-    )
+returns g c = (
+  λ none. empty_of_len _ (sym c.len.ensures.len ∙ eqb-true _ 0 none),
+  λ e. eq-eqb _ 0 (c.len.ensures.len ∙ ap map.len e ∙ len-empty _ _),
+)

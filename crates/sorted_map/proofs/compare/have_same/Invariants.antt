@@ -1,0 +1,10 @@
+use Rattle.std.proofs.Common.{◌≡◌, length}
+use Rattle.std.specs.Cmp.Lexicographic.{pointwise}
+use Rattle.sorted_map.specs.SortedMap.{pairs_eq}
+use Rattle.sorted_map.proofs.compare.have_same.Given as goal
+
+abbrev pub invariant-loop-x : goal.invariant-loop-x
+invariant-loop-x g l = record { whole : pointwise (pairs_eq g.K.PartialEq.eq g.V.PartialEq.eq) l.a l.b ≡ pointwise (pairs_eq g.K.PartialEq.eq g.V.PartialEq.eq) l.fn.a l.fn.b }
+
+abbrev pub decreases-loop-x : goal.decreases-loop-x
+decreases-loop-x g l = length l.a

@@ -1,9 +1,0 @@
-use Rattle.std.specs.FinMap.Entries.{where_key}
-use Rattle.sorted_map.specs.SortedMap.{is_from}
-use Rattle.sorted_map.proofs.ContentLaws.{rest_shown}
-use Rattle.sorted_map.proofs.map.SortedMap.iter_from.Goals as goal
-
-pub returns : goal.returns
-returns g c =
-    let part = where_key g.K.Ord.cmp (is_from g.K.Ord.cmp (g.Q.Probe.key c.args.q.now)) in
-    rw (← c.self.view_is) (rest_shown _ _ c.self.invariant part _ _ c.deref-2.ensures.value (rw (c.deref.ensures.value, ← c.deref-2.ensures.value) at c.place_from-from.ensures.rest))

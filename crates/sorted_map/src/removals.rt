@@ -1,0 +1,31 @@
+//! Calls that take several keys out.
+ghost use Rattle.std.specs.Prelude.{◌≡◌, ◌≤◌};
+ghost use Rattle.std.specs.FinMap as map;
+ghost use Rattle.sorted_map.specs.SortedMap.{contents, is_from};
+ghost use Rattle.sorted_map.specs.Overlay.{without_keys};
+
+use crate::keys::{ExactOrd, Probe};
+use crate::map::{SortedMap, Store};
+
+impl<K: ExactOrd + Drop, V: Drop> SortedMap<K, V> {
+    /// Forgets each pair whose key is less than the probe's.
+    pub fn remove_below<Q: Probe<K>>(&mut self, q: &Q)
+        ensures kept { contents K.cmp self.new ≡ map.retain_keys (contents K.cmp self.old) (is_from K.cmp (Q.key q.now)) }
+        ensures room { self.old.room ≤ self.new.room }
+    {
+        match &mut self.store {
+            Store::Flat(flat) => flat.remove_below(q),
+            Store::Chunked(chunked) => chunked.remove_below(q),
+        }
+    }
+
+    /// Takes out each pair whose key the other map has.
+    pub fn remove_all<W>(&mut self, keys: &SortedMap<K, W>)
+        ensures kept { contents K.cmp self.new ≡ without_keys (contents K.cmp self.old) (contents K.cmp keys.now) }
+    {
+        match &mut self.store {
+            Store::Flat(flat) => flat.remove_all(keys),
+            Store::Chunked(chunked) => chunked.remove_all(keys),
+        }
+    }
+}
