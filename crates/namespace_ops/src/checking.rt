@@ -1,5 +1,5 @@
 //! The checks of one operation, in their order. They read alone.
-ghost use Rattle.std.specs.Prelude.{◌≡◌, true, IfOk, IfErr};
+ghost use Rattle.std.specs.Prelude.{◌≡◌, ◌&&◌, true, IfOk, IfErr};
 ghost use Rattle.mds_types.specs.Tree.{is_directory};
 ghost use Rattle.mds_types.specs.Step.{step, within, directory_of, destination_of};
 ghost use Rattle.namespace_ops.specs.Kept.{KeepsAll};
@@ -28,10 +28,20 @@ pub fn check<F: Frags>(
     ensures kept { KeepsAll (F.content frags.old) (F.content frags.new) (F.covers frags.old) (F.covers frags.new) (F.Follows frags.old frags.new) }
     ensures err { IfErr result (Refuses (F.MayRefuse frags.old frags.new op.now)) }
 {
-    if !(frags.is_dir(op.dir()) && frags.is_dir(op.destination())) {
+    if !do_stand(frags, op) {
         return Ok(Checked::Answers(Reply::Errno(ESTALE)));
     }
     check_within(alloc, frags, op, number)
+}
+
+// Whether the directories that an operation works in stand: the one, or the two of a rename.
+fn do_stand<F: Frags>(frags: &F, op: &Op) -> bool
+    ensures { result ≡ (is_directory (F.content frags.now) (directory_of op.now) && is_directory (F.content frags.now) (destination_of op.now)) }
+{
+    match op {
+        Op::Rename { from, to } => frags.is_dir(from.dir) && frags.is_dir(to.dir),
+        other => frags.is_dir(other.dir()),
+    }
 }
 
 // Checks an operation whose directories stand.
