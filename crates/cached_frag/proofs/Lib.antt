@@ -1,0 +1,3 @@
+pub mod CountedLaws
+pub mod KeptLaws
+pub mod ShownLaws

@@ -1,0 +1,9 @@
+//! One cached fragment of a directory: its names as they were fetched, the dirty names over them, and how many entries it
+//! shows.
+#![tactic(auto)]
+
+mod counting;
+mod edits;
+mod fragments;
+
+pub use fragments::CachedFrag;
