@@ -22,9 +22,9 @@ no_entries names none name inode is =
     let clash : None ≡ Some inode = sym (get-empty key_cmp name) ∙ sym (ap (λ (n : Names). map.get n name) none) ∙ is in
     absurd cc
 
-pub kept_fresh : (generation : ℕ) (clean : Names) (dirty : Marks) (places : ℕ) → clean ≡ map.empty → dirty ≡ map.empty
-    → IsKept (record { base = Fresh; generation = generation; clean = clean; dirty = dirty; room = 0 }) (record { files = 0; dirs = 0 }) places
-kept_fresh generation clean dirty places bare none =
+pub kept_fresh : (generation : ℕ) (clean : Names) (dirty : Marks) (places free : ℕ) → clean ≡ map.empty → dirty ≡ map.empty
+    → IsKept (record { base = Fresh; generation = generation; clean = clean; dirty = dirty; room = 0; places = free }) (record { files = 0; dirs = 0 }) places
+kept_fresh generation clean dirty places free bare none =
     record {
       based = bare;
       entries = no_entries clean bare;
@@ -85,7 +85,7 @@ module _ (f : Cached) (counts now : EntryCounts) (places left : ℕ) (name : Lis
   counted_now : now ≡ counts_of (shown (marked f name mark))
   counted_now = (λ i. record { files = files_now i; dirs = dirs_now i }) ∙ ap counts_of (sym (shown_marked f name mark))
 
-  pub kept_marked : (new : Marks) → new ≡ map.insert f.dirty name mark → IsKept (record { base = f.base; generation = f.generation; clean = f.clean; dirty = new; room = f.room - 1 }) now left
+  pub kept_marked : (new : Marks) → new ≡ map.insert f.dirty name mark → IsKept (record { base = f.base; generation = f.generation; clean = f.clean; dirty = new; room = f.room - 1; places = f.places }) now left
   kept_marked new same =
       let few : counts.files + counts.dirs + f.room < 2 ^ 64 = kept.few in
       let most : now.files + now.dirs ≤ counts.files + counts.dirs + 1 = total in
@@ -94,19 +94,19 @@ module _ (f : Cached) (counts now : EntryCounts) (places left : ℕ) (name : Lis
         based = kept.based;
         entries = kept.entries;
         dirty = one_dirty f.dirty new name mark kept.dirty dirty same;
-        counted = counted_now ∙ sym (ap (λ (d : Marks). counts_of (shown (record { base = f.base; generation = f.generation; clean = f.clean; dirty = d; room = f.room - 1 }))) same);
+        counted = counted_now ∙ sym (ap (λ (d : Marks). counts_of (shown (record { base = f.base; generation = f.generation; clean = f.clean; dirty = d; room = f.room - 1; places = f.places }))) same);
         few = omega (arith, few, most, room);
         reserved = omega (arith, reserved, places_left, room);
       }
 
 pub kept_reserved : (f : Cached) (counts : EntryCounts) (places more changes : ℕ) (dirty : Marks) → IsKept f counts places → dirty ≡ f.dirty → counts.files + counts.dirs + changes < 2 ^ 64 → changes ≤ more
-    → IsKept (record { base = f.base; generation = f.generation; clean = f.clean; dirty = dirty; room = changes }) counts more
+    → IsKept (record { base = f.base; generation = f.generation; clean = f.clean; dirty = dirty; room = changes; places = f.places }) counts more
 kept_reserved f counts places more changes dirty kept same few enough =
     record {
       based = kept.based;
       entries = kept.entries;
       dirty = subst AreDirtyNames (sym same) kept.dirty;
-      counted = kept.counted ∙ sym (ap (λ (d : Marks). counts_of (shown (record { base = f.base; generation = f.generation; clean = f.clean; dirty = d; room = changes }))) same);
+      counted = kept.counted ∙ sym (ap (λ (d : Marks). counts_of (shown (record { base = f.base; generation = f.generation; clean = f.clean; dirty = d; room = changes; places = f.places }))) same);
       few = few;
       reserved = enough;
     }

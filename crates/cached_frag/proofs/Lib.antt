@@ -1,3 +1,4 @@
 pub mod CountedLaws
 pub mod KeptLaws
+pub mod RowLaws
 pub mod ShownLaws

@@ -41,15 +41,15 @@ impl Model for CachedFrag {
 
     ghost coded = { Prim.hlevel (codes, map.code) };
 
-    ghost view = { λ f. record { base = f.base; generation = f.generation; clean = contents key_cmp f.clean; dirty = contents key_cmp f.dirty; room = f.room } };
+    ghost view = { λ f. record { base = f.base; generation = f.generation; clean = contents key_cmp f.clean; dirty = contents key_cmp f.dirty; room = f.room; places = f.clean.room } };
 
-    ghost invariant = { λ f. IsKept (record { base = f.base; generation = f.generation; clean = contents key_cmp f.clean; dirty = contents key_cmp f.dirty; room = f.room }) f.counts f.dirty.room };
+    ghost invariant = { λ f. IsKept (record { base = f.base; generation = f.generation; clean = contents key_cmp f.clean; dirty = contents key_cmp f.dirty; room = f.room; places = f.clean.room }) f.counts f.dirty.room };
 }
 
 impl CachedFrag {
     /// A new fragment, with no names: no object of its name counts. Takes no memory.
     pub fn fresh(alloc: Global, generation: u64) -> CachedFrag
-        ensures { result ≡ record { base = Base.Fresh; generation = generation; clean = map.empty; dirty = map.empty; room = 0 } }
+        ensures { result ≡ record { base = Base.Fresh; generation = generation; clean = map.empty; dirty = map.empty; room = 0; places = 0 } }
     {
         CachedFrag {
             base: Base::Fresh,

@@ -5,5 +5,9 @@
 mod counting;
 mod edits;
 mod fragments;
+mod rows;
+mod settling;
+mod snapshots;
 
 pub use fragments::CachedFrag;
+pub use rows::Rows;
