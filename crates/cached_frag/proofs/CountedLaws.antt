@@ -133,3 +133,28 @@ nothing_counted =
     nil_of_length : {A : Type 0} (es : List A) → length es ≡ 0 → es ≡ []
     nil_of_length [] h = refl
     nil_of_length (e ∷ es) h = cc
+
+-- ---- names counted one by one
+
+abbrev pub dirs_among : List (List ℕ × Inode) → ℕ
+dirs_among es = tally (λ inode. is_dir_kind inode.kind) es
+
+abbrev pub files_among : List (List ℕ × Inode) → ℕ
+files_among es = tally (λ inode. not (is_dir_kind inode.kind)) es
+
+pub one_dir : (e : List ℕ × Inode) (es : List (List ℕ × Inode)) → dirs_among (e ∷ es) ≡ cond (is_dir_kind e.1.kind) 1 0 + dirs_among es
+one_dir e es = one_more (λ inode. is_dir_kind inode.kind) e es
+
+pub one_file : (e : List ℕ × Inode) (es : List (List ℕ × Inode)) → files_among (e ∷ es) ≡ cond (not (is_dir_kind e.1.kind)) 1 0 + files_among es
+one_file e es = one_more (λ inode. not (is_dir_kind inode.kind)) e es
+
+pub either_one : (b : Bool) → cond {A = ℕ} (not b) 1 0 + cond {A = ℕ} b 1 0 ≡ 1
+either_one true = omega arith
+either_one false = omega arith
+
+pub at_first : (names : Names) (es : List (List ℕ × Inode)) → es ≡ map.entries names → (0 + files_among es ≡ files_in names) × (0 + dirs_among es ≡ dirs_in names) × (0 + 0 + length es ≡ map.len names)
+at_first names es is =
+    let files : files_among es ≡ files_in names = ap files_among is in
+    let dirs : dirs_among es ≡ dirs_in names = ap dirs_among is in
+    let count : length es ≡ length (map.entries names) = ap (length {A = List ℕ × Inode}) is in
+    (omega (arith, files), omega (arith, dirs), omega (arith, count, len-entries names))

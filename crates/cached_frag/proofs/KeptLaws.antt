@@ -5,17 +5,17 @@ use Rattle.std.specs.FinMap.{get-empty}
 use Rattle.mds_types.specs.declared.inodes.Inode.{Inode}
 use Rattle.omap.specs.Omap.{key_cmp}
 use Rattle.dirfrag_codec.specs.FragmentObject.{Names}
-use Rattle.commit_jobs.specs.declared.bases.Base.TheVariants.{Fresh}
+use Rattle.commit_jobs.specs.declared.bases.Base.TheVariants.{Fresh, Stored}
 use Rattle.commit_jobs.specs.declared.bases.EntryCounts.{EntryCounts}
 use Rattle.commit_jobs.specs.declared.marks.Mark.{Mark}
 use Rattle.commit_jobs.specs.Counting.{is_dir, is_file}
 use Rattle.commit_jobs.specs.Marks.{AreDirtyNames, IsDirtyName, Marks, with_mark}
 use Rattle.commit_jobs.specs.Snap.{counts_of}
 use Rattle.commit_jobs.proofs.MarkLaws.{none_dirty, one_dirty}
-use Rattle.cached_frag.specs.Cached.{AreEntries, Cached, marked, shown}
+use Rattle.cached_frag.specs.Cached.{AreEntries, Cached, IsBased, marked, shown, shown_over}
 use Rattle.cached_frag.specs.Kept.{IsKept}
 use Rattle.cached_frag.proofs.CountedLaws.{dirs_marked, dirs_some, files_marked, files_some, nothing_counted}
-use Rattle.cached_frag.proofs.ShownLaws.{nothing_shown, shown_marked}
+use Rattle.cached_frag.proofs.ShownLaws.{nothing_shown, only_below, shown_marked}
 
 pub no_entries : (names : Names) → names ≡ map.empty → AreEntries names
 no_entries names none name inode is =
@@ -109,4 +109,28 @@ kept_reserved f counts places more changes dirty kept same few enough =
       counted = kept.counted ∙ sym (ap (λ (d : Marks). counts_of (shown (record { base = f.base; generation = f.generation; clean = f.clean; dirty = d; room = changes; places = f.places }))) same);
       few = few;
       reserved = enough;
+    }
+
+pub kept_places : (f : Cached) (counts : EntryCounts) (places free : ℕ) (clean : Names) → IsKept f counts places → clean ≡ f.clean
+    → IsKept (record { base = f.base; generation = f.generation; clean = clean; dirty = f.dirty; room = f.room; places = free }) counts places
+kept_places f counts places free clean kept same =
+    record {
+      based = subst (IsBased f.base) (sym same) kept.based;
+      entries = subst AreEntries (sym same) kept.entries;
+      dirty = kept.dirty;
+      counted = kept.counted ∙ sym (ap (λ (n : Names). counts_of (shown_over f.base n f.dirty)) same);
+      few = kept.few;
+      reserved = kept.reserved;
+    }
+
+pub kept_stored : (version : ℕ) (clean : Names) (dirty : Marks) (places free : ℕ) (counts : EntryCounts) → AreEntries clean → dirty ≡ map.empty → counts ≡ counts_of clean → counts.files + counts.dirs < 2 ^ 64
+    → IsKept (record { base = Stored version; generation = 0; clean = clean; dirty = dirty; room = 0; places = free }) counts places
+kept_stored version clean dirty places free counts entries none counted few =
+    record {
+      based = tt;
+      entries = entries;
+      dirty = none_dirty dirty none;
+      counted = counted ∙ sym (ap counts_of (only_below clean dirty none));
+      few = omega (arith, few);
+      reserved = omega arith;
     }

@@ -41,11 +41,11 @@ recorded_shown names name o entries is = recorded_if names name entries o (sym i
 
 -- ---- a change of one name
 
-marked_here : (names : Names) (name : List ℕ) (o : Option Inode) → map.get (with_mark names name o) name ≡ o
+pub marked_here : (names : Names) (name : List ℕ) (o : Option Inode) → map.get (with_mark names name o) name ≡ o
 marked_here names name (Some inode) = get_put names name inode
 marked_here names name None = get_removed names name
 
-marked_beside : (names : Names) (name : List ℕ) (o : Option Inode) (q : List ℕ) → (q ≡ name → ⊥) → map.get (with_mark names name o) q ≡ map.get names q
+pub marked_beside : (names : Names) (name : List ℕ) (o : Option Inode) (q : List ℕ) → (q ≡ name → ⊥) → map.get (with_mark names name o) q ≡ map.get names q
 marked_beside names name (Some inode) q apart = get_beside names name inode q apart
 marked_beside names name None q apart = get_left names name q apart
 
@@ -62,8 +62,12 @@ patched_insert names dirty name mark = one_map _ _ (λ q. get-patched names (map
 pub shown_marked : (f : Cached) (name : List ℕ) (mark : Mark) → shown (marked f name mark) ≡ with_mark (shown f) name mark.inode
 shown_marked f name mark = patched_insert (names_below f.base f.clean) f.dirty name mark
 
-pub nothing_shown : (dirty : Marks) → dirty ≡ map.empty → patched map.empty dirty ≡ map.empty
-nothing_shown dirty none = one_map _ _ (λ q. get-patched map.empty dirty q ∙ ap (λ (m : Marks). inode_or (map.get m q) (map.get (map.empty {X = Inode} {R = key_cmp}) q)) none ∙ ap (λ (r : Option Mark). inode_or r (map.get (map.empty {X = Inode} {R = key_cmp}) q)) (get-empty key_cmp q))
-
 pub shown_put : (base : Base) (clean : Names) (dirty new : Marks) (name : List ℕ) (mark : Mark) → new ≡ map.insert dirty name mark → shown_over base clean new ≡ with_mark (shown_over base clean dirty) name mark.inode
 shown_put base clean dirty new name mark same = ap (shown_over base clean) same ∙ patched_insert (names_below base clean) dirty name mark
+
+-- with no dirty names a fragment shows its base
+pub only_below : (names : Names) (dirty : Marks) → dirty ≡ map.empty → patched names dirty ≡ names
+only_below names dirty none = one_map _ _ (λ q. get-patched names dirty q ∙ ap (λ (m : Marks). inode_or (map.get m q) (map.get names q)) none ∙ ap (λ (r : Option Mark). inode_or r (map.get names q)) (get-empty key_cmp q))
+
+pub nothing_shown : (dirty : Marks) → dirty ≡ map.empty → patched map.empty dirty ≡ map.empty
+nothing_shown dirty none = only_below map.empty dirty none

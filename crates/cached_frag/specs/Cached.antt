@@ -1,5 +1,5 @@
 -- One cached fragment, and what it shows.
-use Rattle.std.specs.Prelude.{◌≡◌, ℕ, ◌-◌, Bool, false, not, ◌&&◌, ◌==◌, List, Some}
+use Rattle.std.specs.Prelude.{◌≡◌, ℕ, ◌-◌, Bool, false, not, ◌&&◌, ◌==◌, List, Option, Some, None}
 use Rattle.std.specs.FinMap as map
 use Rattle.mds_types.specs.Name.{IsName}
 use Rattle.mds_types.specs.declared.inodes.Inode.{Inode}

@@ -5,6 +5,7 @@
 mod counting;
 mod edits;
 mod fragments;
+mod loading;
 mod rows;
 mod settling;
 mod snapshots;

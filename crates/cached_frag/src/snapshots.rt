@@ -26,7 +26,7 @@ impl CachedFrag {
         requires { IsBelowEnd self.now.base }
         ensures { IfOk result (λ snapshot. snapshot ≡ snapshot_of self.now) }
     {
-        let names = copy_of(&self.dirty)?;
+        let names = DirtyNames::from_map(copy_of(&self.dirty)?);
         Ok(match self.base {
             Base::Fresh => Snapshot::fresh(names),
             Base::Stored(version) => Snapshot::stored(version, names, self.counts),
@@ -35,10 +35,8 @@ impl CachedFrag {
 }
 
 // A copy of the dirty names.
-fn copy_of(dirty: &SortedMap<Name, Mark>) -> Result<DirtyNames, AllocError>
-    requires { AreDirtyNames (contents key_cmp dirty.now) }
-    ensures { IfOk result (λ copy. copy ≡ contents key_cmp dirty.now) }
+fn copy_of(dirty: &SortedMap<Name, Mark>) -> Result<SortedMap<Name, Mark>, AllocError>
+    ensures { IfOk result (λ copy. contents key_cmp copy ≡ contents key_cmp dirty.now) }
 {
-    let names = dirty.clone()?;
-    Ok(DirtyNames::from_map(names))
+    dirty.clone()
 }
