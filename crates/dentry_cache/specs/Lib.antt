@@ -1,0 +1,3 @@
+pub mod Cache
+pub mod Loading
+pub mod Pairs
