@@ -1,3 +1,5 @@
+pub mod CacheLaws
+pub mod LeafLaws
 pub mod LoadLaws
 pub mod PageSteps
 pub mod PairLaws

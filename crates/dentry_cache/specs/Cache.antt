@@ -1,10 +1,15 @@
 -- What a contract sees of a cache: its places, the most recently used first.
-use Rattle.std.specs.Prelude.{◌≡◌, Bool, true, false, cond, not, ◌&&◌, ◌==◌, List, ◌∷◌, ◌++◌, Option, Some, None}
+use Rattle.std.specs.Prelude.{◌≡◌, ℕ, ◌<◌, ◌≤◌, ◌⊎◌, Bool, true, false, cond, not, ◌&&◌, ◌==◌, List, [], ◌∷◌, ◌++◌, length, Option, Some, None}
 use Rattle.std.specs.List.{AllByRecursion}
 use Rattle.std.specs.Map.{lookup}
-use Rattle.lru.specs.LruCache.{LruCache}
-use Rattle.mds_types.specs.Frag.{Fragment}
+use Rattle.std.specs.FinMap as finmap
+use Rattle.std.specs.declared.cmp.Ordering.{Ordering}
+use Rattle.std.specs.Ordering.{nat_cmp, ordering_then}
+use Rattle.lru.specs.LruCache.{LruCache, lru_cache}
+use Rattle.mds_types.specs.Frag.{Fragment, frag_cmp}
 use Rattle.mds_types.specs.declared.ids.Ino.{Ino}
+use Rattle.commit_jobs.specs.declared.bases.Base.{Base}
+use Rattle.commit_jobs.specs.Marks.{Marks}
 use Rattle.cached_frag.specs.Cached.{Cached, is_clean}
 use Rattle.dentry_cache.specs.declared.cache.Place.{Place}
 
@@ -36,10 +41,65 @@ cached places leaf = fragment_in (lookup (leaf_is leaf) places)
 abbrev pub is_evictable : Place → Bool
 is_evictable place = not place.kept && is_clean place.frag
 
--- no place of these may be taken
-abbrev pub NoneGoes : Places → Type 0
-NoneGoes places = AllByRecursion (λ e. is_evictable e.1 ≡ false) places
+-- whether a leaf is the one that is to stay
+abbrev pub stays : Option Leaf → Leaf → Bool
+stays None leaf = false
+stays (Some one) leaf = leaf_is one leaf
 
--- the least recently used of those that may be taken, between the places used later and those used before
-abbrev pub IsOldest : Places → Leaf → Type 0
-IsOldest places leaf = (later : Places) × (place : Place) × (before : Places) × (places ≡ later ++ (leaf, place) ∷ before) × (is_evictable place ≡ true) × NoneGoes before
+-- whether a fragment may go, while another one is to stay
+abbrev pub may_go : Option Leaf → Leaf × Place → Bool
+may_go stay e = is_evictable e.1 && not (stays stay e.0)
+
+-- none of these may go
+abbrev pub NoneGoes : Option Leaf → Places → Type 0
+NoneGoes stay places = AllByRecursion (λ e. may_go stay e ≡ false) places
+
+-- the least recently used of those that may go: it stands between those used later and those used before
+pub record IsOldest (stay : Option Leaf) (places : Places) (leaf : Leaf) : Type 0 where
+  pub later : Places
+  pub place : Place
+  pub before : Places
+  pub among : places ≡ later ++ (leaf, place) ∷ before
+  pub goes : may_go stay (leaf, place) ≡ true
+  pub last : NoneGoes stay before
+
+-- the least recently used of those that may go is gone
+abbrev pub Evicts : Option Leaf → Held → Held → Type 0
+Evicts stay old new = (leaf : Leaf) × (o : IsOldest stay old.entries leaf) × (new ≡ lru_cache (o.later ++ o.before) old.cap)
+
+-- a place is free, or becomes so: where all are taken the least recently used of those that may go is gone
+abbrev pub MakesRoom : Option Leaf → Held → Held → Type 0
+MakesRoom stay old new = ((length old.entries < old.cap) × (new ≡ old)) ⊎ ((old.cap ≤ length old.entries) × Evicts stay old new)
+
+-- all places are taken, and no fragment may go
+pub record IsFull (stay : Option Leaf) (old : Held) : Type 0 where
+  pub taken : old.cap ≤ length old.entries
+  pub none : NoneGoes stay old.entries
+
+-- ---- what isn't clean
+
+-- what a fragment that isn't clean has beyond its object: its base, which of the fragments of its name it is, and its dirty names
+pub record Unsaved : Type 0 where
+  pub base : Base
+  pub generation : ℕ
+  pub dirty : Marks
+
+abbrev pub unsaved_of : Cached → Option Unsaved
+unsaved_of f = cond (is_clean f) None (Some (record { base = f.base; generation = f.generation; dirty = f.dirty }))
+
+abbrev pub unsaved_in : Option Cached → Option Unsaved
+unsaved_in (Some f) = unsaved_of f
+unsaved_in None = None
+
+-- leaves are ordered by directory, and then as fragments
+abbrev pub leaf_cmp : Leaf → Leaf → Ordering
+leaf_cmp a b = ordering_then (nat_cmp a.0.0 b.0.0) (frag_cmp a.1 b.1)
+
+abbrev pub with_unsaved : finmap.FinMap leaf_cmp Unsaved → Leaf → Option Unsaved → finmap.FinMap leaf_cmp Unsaved
+with_unsaved m leaf (Some u) = finmap.insert m leaf u
+with_unsaved m leaf None = finmap.remove m leaf
+
+-- the fragments that aren't clean
+unfoldable pub unsaved : Places → finmap.FinMap leaf_cmp Unsaved
+unsaved [] = finmap.empty
+unsaved (e ∷ places) = with_unsaved (unsaved places) e.0 (unsaved_in (fragment_in (Some e.1)))
