@@ -1,16 +1,15 @@
 -- What is cached once a place is taken, used, filled or given up.
-use Rattle.std.proofs.Common.{◌≡◌, ℕ, Bool, true, false, cond, not, ◌&&◌, ◌⊎◌, inl, inr, List, [], ◌∷◌, ◌++◌, map, Option, Some, None, refl, sym, ap, subst, ◌∙◌}
-use Rattle.std.specs.List.{AllByRecursion, IsDistinct}
+use Rattle.std.proofs.Common.{◌≡◌, Bool, true, false, cond, not, ◌&&◌, [], ◌∷◌, ◌++◌, Option, Some, None, refl, sym, ap, subst, ◌∙◌}
+use Rattle.std.specs.List.{IsDistinct}
 use Rattle.std.specs.Map.{keys_of, lookup, remove_entry}
-use Rattle.std.specs.Ordering.{eq_by_cmp}
 use Rattle.std.specs.FinMap as finmap
 use Rattle.std.specs.FinMap.{get-empty, get-insert, get-remove, same_map}
 use Rattle.std.proofs.lemmas.Map.{NonePasses, lookup-remove_entry}
 use Rattle.lru.proofs.Splits.{all_left, distinct_differs}
-use Rattle.lru.specs.LruCache.{LruCache, lru_cache}
-use Rattle.cached_frag.specs.Cached.{Cached, is_clean}
+use Rattle.lru.specs.LruCache.{lru_cache}
+use Rattle.cached_frag.specs.Cached.{is_clean}
 use Rattle.dentry_cache.specs.declared.cache.Place.{Place}
-use Rattle.dentry_cache.specs.Cache.{Evicts, Held, IsOldest, Leaf, NoneGoes, Places, Unsaved, cached, fragment_in, is_evictable, leaf_cmp, leaf_is, may_go, stays, unsaved, unsaved_in, unsaved_of, with_unsaved}
+use Rattle.dentry_cache.specs.Cache.{Evicts, Held, IsOldest, Leaf, NoneGoes, Places, Unsaved, cached, fragment_in, is_evictable, leaf_cmp, leaf_is, may_go, stays, unsaved, unsaved_in, with_unsaved}
 use Rattle.dentry_cache.proofs.LeafLaws.{flips, leaf-exact, leaf-total, leaf_equivalence, leaf_itself, one_leaf, tied_leaf}
 
 -- ---- what isn't clean

@@ -3,3 +3,4 @@ pub mod LeafLaws
 pub mod LoadLaws
 pub mod PageSteps
 pub mod PairLaws
+pub mod UsedLaws

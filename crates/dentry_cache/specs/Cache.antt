@@ -1,7 +1,7 @@
 -- What a contract sees of a cache: its places, the most recently used first.
 use Rattle.std.specs.Prelude.{◌≡◌, ℕ, ◌<◌, ◌≤◌, ◌⊎◌, Bool, true, false, cond, not, ◌&&◌, ◌==◌, List, [], ◌∷◌, ◌++◌, length, Option, Some, None}
 use Rattle.std.specs.List.{AllByRecursion}
-use Rattle.std.specs.Map.{lookup}
+use Rattle.std.specs.Map.{lookup, remove_entry}
 use Rattle.std.specs.FinMap as finmap
 use Rattle.std.specs.declared.cmp.Ordering.{Ordering}
 use Rattle.std.specs.Ordering.{nat_cmp, ordering_then}
@@ -75,6 +75,31 @@ MakesRoom stay old new = ((length old.entries < old.cap) × (new ≡ old)) ⊎ (
 pub record IsFull (stay : Option Leaf) (old : Held) : Type 0 where
   pub taken : old.cap ≤ length old.entries
   pub none : NoneGoes stay old.entries
+
+-- a fragment in its place
+abbrev pub held : Cached → Place
+held f = record { frag = f; kept = false }
+
+-- a place that is kept for a fragment that will be made
+abbrev pub IsKeptFor : Option Place → Type 0
+IsKeptFor None = ⊥
+IsKeptFor (Some place) = place.kept ≡ true
+
+-- the leaf has this in its place, and is the most recently used; the other places are as they were
+abbrev pub used_as : Leaf → Place → Held → Held
+used_as leaf place old = lru_cache ((leaf, place) ∷ remove_entry (leaf_is leaf) old.entries) old.cap
+
+-- the leaf has no place; the others are as they were
+abbrev pub without : Leaf → Held → Held
+without leaf old = lru_cache (remove_entry (leaf_is leaf) old.entries) old.cap
+
+-- a leaf that had no place has this in one
+abbrev pub TakesPlace : Option Leaf → Leaf → Place → Held → Held → Type 0
+TakesPlace stay leaf place old new = (mid : Held) × MakesRoom stay old mid × (new ≡ lru_cache ((leaf, place) ∷ mid.entries) old.cap)
+
+-- no place was taken, but one may have become free
+abbrev pub MayMakeRoom : Option Leaf → Held → Held → Type 0
+MayMakeRoom stay old new = (new ≡ old) ⊎ MakesRoom stay old new
 
 -- ---- what isn't clean
 

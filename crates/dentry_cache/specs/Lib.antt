@@ -1,3 +1,4 @@
 pub mod Cache
 pub mod Loading
 pub mod Pairs
+pub mod Using

@@ -1,5 +1,5 @@
 //! Places for others: the least recently used of the clean fragments goes.
-ghost use Rattle.std.specs.Prelude.{◌≡◌, MatchOption, None, OnOk, IfErr, OnErr};
+ghost use Rattle.std.specs.Prelude.{◌≡◌, ◌<◌, length, MatchOption, None, OnOk, IfErr, OnErr};
 ghost use Rattle.mds_types.specs.declared.refusals.Refusal.TheVariants.{NothingToEvict};
 ghost use Rattle.dentry_cache.specs.Cache.{Evicts, IsFull, IsOldest, MakesRoom, NoneGoes, is_evictable, may_go, stays, unsaved};
 
@@ -32,6 +32,7 @@ impl Cache {
     // Makes a place free, if none is.
     pub(crate) fn make_room(&mut self, stay: Option<(Ino, Frag)>) -> Result<(), Refusal>
         ensures room { OnOk result (MakesRoom stay self.old self.new) }
+        ensures free { OnOk result (length self.new.entries < self.new.cap) }
         ensures refused { IfErr result (λ refusal. refusal ≡ NothingToEvict) }
         ensures full { OnErr result (IsFull stay self.old) }
         ensures same { OnErr result (self.new ≡ self.old) }
@@ -46,6 +47,7 @@ impl Cache {
     // Drops the least recently used of the clean fragments but for one.
     fn drop_oldest(&mut self, stay: Option<(Ino, Frag)>) -> Result<(), Refusal>
         ensures evicted { OnOk result (Evicts stay self.old self.new) }
+        ensures free { OnOk result (length self.new.entries < self.new.cap) }
         ensures refused { IfErr result (λ refusal. refusal ≡ NothingToEvict) }
         ensures none { OnErr result (NoneGoes stay self.old.entries) }
         ensures same { OnErr result (self.new ≡ self.old) }

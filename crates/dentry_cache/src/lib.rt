@@ -4,6 +4,7 @@
 
 mod cache;
 mod eviction;
+mod fetching;
 mod loading;
 mod pairs;
 
