@@ -106,7 +106,7 @@ impl CachedFrag {
 
     /// Makes room for so many changes of names. Where the room is there already nothing is done, and there is no error.
     pub fn reserve(&mut self, changes: usize) -> Result<(), AllocError>
-        ensures ok { OnOk result (self.new ≡ record self.old { room = self.new.room }) }
+        ensures same { self.new ≡ record self.old { room = self.new.room } }
         ensures room { OnOk result (changes ≤ self.new.room) }
         ensures grows { self.old.room ≤ self.new.room }
         ensures ready { changes ≤ self.old.room → IsOk result × (self.new ≡ self.old) }

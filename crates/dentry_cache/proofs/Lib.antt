@@ -1,4 +1,6 @@
 pub mod CacheLaws
+pub mod CommitSteps
+pub mod EditLaws
 pub mod LeafLaws
 pub mod LoadLaws
 pub mod PageSteps

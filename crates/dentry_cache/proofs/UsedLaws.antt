@@ -1,6 +1,6 @@
 -- What is in each place once one of them is used, taken or given up.
 use Rattle.std.proofs.Common.{◌≡◌, ℕ, ◌+◌, ◌-◌, ◌<◌, ◌≤◌, Bool, true, false, cond, inl, inr, [], ◌∷◌, ◌++◌, length, take, Option, Some, None, refl, sym, ap, subst, ◌∙◌, arith}
-use Rattle.std.specs.Prelude.{Result, Ok, Err, OnOk, OnErr, is_some, ◌==◌}
+use Rattle.std.specs.Prelude.{Result, Ok, Err, IsOk, OnOk, OnErr, is_some, ◌==◌}
 use Rattle.std.specs.Option.{option_map_or}
 use Rattle.std.specs.Map.{lookup, lookup_entry, remove_entry}
 use Rattle.std.specs.FinMap.{len-empty}
@@ -13,9 +13,8 @@ use Rattle.omap.specs.Omap.{Omap, key_cmp}
 use Rattle.commit_jobs.specs.declared.marks.Mark.{Mark}
 use Rattle.cached_frag.specs.Cached.{Cached, is_clean}
 use Rattle.dentry_cache.specs.declared.cache.Place.{Place}
-use Rattle.dentry_cache.specs.Cache.{Evicts, Held, Leaf, MakesRoom, MayMakeRoom, Places, TakesPlace, cached, fragment_in, held, leaf_is, unsaved, unsaved_in, used_as}
+use Rattle.dentry_cache.specs.Cache.{Evicts, Held, IsKeptFor, IsUsed, Leaf, MakesRoom, MayMakeRoom, Places, TakesPlace, cached, fragment_in, held, leaf_is, unsaved, unsaved_in, used_as}
 use Rattle.dentry_cache.specs.Loading.{IsFetched, IsNotFetched, Loads}
-use Rattle.dentry_cache.specs.Using.{IsUsed}
 use Rattle.dentry_cache.proofs.CacheLaws.{unsaved_alike, unsaved_same}
 use Rattle.dentry_cache.proofs.LeafLaws.{flips, one_leaf}
 
@@ -173,10 +172,14 @@ placed_unsaved leaf place mid none clean = unsaved_alike ((leaf, place) ∷ mid.
     go q true is = clean ∙ sym (ap (λ (o : Option Place). unsaved_in (fragment_in o)) (ap (λ (l : Leaf). lookup (leaf_is l) mid.entries) (one_leaf q leaf is) ∙ none))
     go q false is = refl
 
+pub held_unsaved : {A E : Type 0} (r : Result A E) (leaf : Leaf) (place : Place) (old mid new : Held) → unsaved_in (fragment_in (Some place)) ≡ None → lookup (leaf_is leaf) mid.entries ≡ None → unsaved mid.entries ≡ unsaved old.entries
+    → OnOk r (new ≡ lru_cache ((leaf, place) ∷ mid.entries) mid.cap) → OnErr r (new ≡ mid) → unsaved new.entries ≡ unsaved old.entries
+held_unsaved (Ok x) leaf place old mid new clean none same ok err = ap (λ (h : Held). unsaved h.entries) ok ∙ placed_unsaved leaf place mid none clean ∙ same
+held_unsaved (Err e) leaf place old mid new clean none same ok err = ap (λ (h : Held). unsaved h.entries) err ∙ same
+
 pub fetched_unsaved : {A E : Type 0} (r : Result A E) (frag : Fragment) (object : Option Omap) (f : Cached) (leaf : Leaf) (old mid new : Held) → Loads frag object (Some f) → lookup (leaf_is leaf) mid.entries ≡ None
     → unsaved mid.entries ≡ unsaved old.entries → OnOk r (new ≡ lru_cache ((leaf, held f) ∷ mid.entries) mid.cap) → OnErr r (new ≡ mid) → unsaved new.entries ≡ unsaved old.entries
-fetched_unsaved (Ok x) frag object f leaf old mid new loads none same ok err = ap (λ (h : Held). unsaved h.entries) ok ∙ placed_unsaved leaf (held f) mid none (loaded_clean frag object f loads) ∙ same
-fetched_unsaved (Err e) frag object f leaf old mid new loads none same ok err = ap (λ (h : Held). unsaved h.entries) err ∙ same
+fetched_unsaved r frag object f leaf old mid new loads none same ok err = held_unsaved r leaf (held f) old mid new (loaded_clean frag object f loads) none same ok err
 
 -- ---- a fetch
 
@@ -187,3 +190,21 @@ module _ (stay : Option Leaf) (leaf : Leaf) (object : Option Omap) (old mid new 
 
   pub left_from : {A E : Type 0} (r : Result A E) → OnErr r (IsNotFetched stay mid None new) → OnErr r (IsNotFetched stay old o new)
   left_from r h = subst (λ (p : Option Place). OnErr r (IsNotFetched stay old p new)) (sym none) (subst (λ (m : Held). OnErr r (IsNotFetched stay m None new)) same h)
+
+-- ---- a place that is filled
+
+filled_as : (leaf : Leaf) (place : Place) (old : Held) (o : Option Place) → lookup (leaf_is leaf) old.entries ≡ o → IsKeptFor o → lru_cache (put_entries leaf_is old leaf place) old.cap ≡ used_as leaf place old
+filled_as leaf place old (Some kept) is h =
+    ap (λ (e : Option (Leaf × Place)). lru_cache (option_map_or (λ e. (e.0, place) ∷ remove_entry (leaf_is leaf) old.entries) e ((leaf, place) ∷ take (old.cap - 1) old.entries)) old.cap) (entry_of_lookup leaf old.entries kept is)
+filled_as leaf place old None is h = absurd h
+
+is_there : (o : Option Place) → IsKeptFor o → is_some o ≡ true
+is_there (Some kept) h = refl
+is_there None h = absurd h
+
+pub filled : {A E : Type 0} (r : Result A E) (leaf : Leaf) (place : Place) (old mid new : Held) → mid ≡ old → IsKeptFor (lookup (leaf_is leaf) old.entries) → (is_some (lookup (leaf_is leaf) mid.entries) ≡ true → IsOk r)
+    → OnOk r (new ≡ lru_cache (put_entries leaf_is mid leaf place) mid.cap) → new ≡ used_as leaf place old
+filled (Ok x) leaf place old mid new same kept succeeds ok = ok ∙ ap (λ (h : Held). lru_cache (put_entries leaf_is h leaf place) h.cap) same ∙ filled_as leaf place old (lookup (leaf_is leaf) old.entries) refl kept
+filled (Err e) leaf place old mid new same kept succeeds ok =
+    let never = succeeds (ap (λ (h : Held). is_some (lookup (leaf_is leaf) h.entries)) same ∙ is_there (lookup (leaf_is leaf) old.entries) kept) in
+    let clash : false ≡ true = never in absurd cc

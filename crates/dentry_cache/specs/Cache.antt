@@ -9,6 +9,7 @@ use Rattle.lru.specs.LruCache.{LruCache, lru_cache}
 use Rattle.mds_types.specs.Frag.{Fragment, frag_cmp}
 use Rattle.mds_types.specs.declared.ids.Ino.{Ino}
 use Rattle.commit_jobs.specs.declared.bases.Base.{Base}
+use Rattle.commit_jobs.specs.declared.bases.Base.TheVariants.{Fresh}
 use Rattle.commit_jobs.specs.Marks.{Marks}
 use Rattle.cached_frag.specs.Cached.{Cached, is_clean}
 use Rattle.dentry_cache.specs.declared.cache.Place.{Place}
@@ -81,6 +82,9 @@ abbrev pub held : Cached → Place
 held f = record { frag = f; kept = false }
 
 -- a place that is kept for a fragment that will be made
+abbrev pub kept_place : Place
+kept_place = record { frag = record { base = Fresh; generation = 0; clean = finmap.empty; dirty = finmap.empty; room = 0; places = 0 }; kept = true }
+
 abbrev pub IsKeptFor : Option Place → Type 0
 IsKeptFor None = ⊥
 IsKeptFor (Some place) = place.kept ≡ true
@@ -100,6 +104,31 @@ TakesPlace stay leaf place old new = (mid : Held) × MakesRoom stay old mid × (
 -- no place was taken, but one may have become free
 abbrev pub MayMakeRoom : Option Leaf → Held → Held → Type 0
 MayMakeRoom stay old new = (new ≡ old) ⊎ MakesRoom stay old new
+
+-- the fragment of a leaf is there
+abbrev pub IsThere : Option Cached → Type 0
+IsThere None = ⊥
+IsThere (Some f) = Unit {0}
+
+-- it is there, and has room for a change
+abbrev pub HasRoom : Option Cached → Type 0
+HasRoom None = ⊥
+HasRoom (Some f) = 0 < f.room
+
+-- it is there, and this holds of it
+abbrev pub HasCached : Option Cached → (Cached → Type 0) → Type 0
+HasCached None P = ⊥
+HasCached (Some f) P = P f
+
+-- the fragment of a leaf was changed so, and is the most recently used; the other places are as they were
+abbrev pub IsChanged : Option Cached → (Cached → Cached → Type 0) → Leaf → Held → Held → Type 0
+IsChanged None Change leaf old new = ⊥
+IsChanged (Some f) Change leaf old new = (now : Cached) × Change f now × (new ≡ used_as leaf (held now) old)
+
+-- the place of a leaf is the most recently used; a leaf that has none changes nothing
+abbrev pub IsUsed : Option Place → Leaf → Held → Held → Bool → Type 0
+IsUsed (Some place) leaf old new there = (there ≡ true) × (new ≡ used_as leaf place old)
+IsUsed None leaf old new there = (there ≡ false) × (new ≡ old)
 
 -- ---- what isn't clean
 

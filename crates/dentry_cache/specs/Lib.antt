@@ -1,4 +1,4 @@
 pub mod Cache
+pub mod Commits
 pub mod Loading
 pub mod Pairs
-pub mod Using

@@ -1,8 +1,8 @@
 //! `Cache`, what a contract sees of it, and the calls that read it.
 ghost use Rattle.std.specs.Prelude.{◌≡◌, ◌≤◌, [], length, is_some, IfOk, option_copied};
 ghost use Rattle.std.specs.Map.{lookup};
-ghost use Rattle.lru.specs.LruCache.{lru_cache, promoted};
-ghost use Rattle.dentry_cache.specs.Cache.{cached, leaf_is};
+ghost use Rattle.lru.specs.LruCache.{lru_cache};
+ghost use Rattle.dentry_cache.specs.Cache.{IsUsed, cached, leaf_is};
 
 use cached_frag::CachedFrag;
 use lru::LruCache;
@@ -67,11 +67,11 @@ impl Cache {
         self.places.len()
     }
 
-    /// Makes a fragment the most recently used, if it is there.
-    pub fn touch(&mut self, dir: Ino, frag: Frag)
-        ensures { self.new ≡ lru_cache (promoted (leaf_is (dir, frag)) self.old.entries) self.old.cap }
+    /// Makes a leaf's place the most recently used, and tells whether it has one.
+    pub fn touch(&mut self, dir: Ino, frag: Frag) -> bool
+        ensures { IsUsed (lookup (leaf_is (dir, frag)) self.old.entries) (dir, frag) self.old self.new result }
     {
-        let _ = self.places.promote(&(dir, frag));
+        self.places.promote(&(dir, frag))
     }
 
     /// The cached fragment. The order of use stays.

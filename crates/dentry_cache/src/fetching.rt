@@ -3,7 +3,6 @@ ghost use Rattle.std.specs.Prelude.{◌≡◌, ◌≤◌, ◌<◌, ◌∷◌, le
 ghost use Rattle.std.specs.Map.{lookup};
 ghost use Rattle.lru.specs.LruCache.{lru_cache};
 ghost use Rattle.mds_types.specs.declared.refusals.Refusal.TheVariants.{NoMemory};
-ghost use Rattle.dentry_cache.specs.Using.{IsUsed};
 ghost use Rattle.dentry_cache.specs.Cache.{IsKeptFor, MayMakeRoom, TakesPlace, held, leaf_is, unsaved, used_as};
 ghost use Rattle.dentry_cache.specs.Loading.{IsFetched, IsNotFetched, MayNotFetch, object_of};
 
@@ -36,7 +35,7 @@ impl Cache {
         ensures same { S.objects store.new ≡ S.objects store.old }
         ensures grows { S.faults store.old ≤ S.faults store.new }
     {
-        if self.use_one(dir, frag) {
+        if self.touch(dir, frag) {
             return Ok(());
         }
         self.fetch_absent(alloc, store, dir, frag, stay)
@@ -71,15 +70,8 @@ impl Cache {
         )
     }
 
-    // Makes a leaf's place the most recently used, and tells whether it has one.
-    fn use_one(&mut self, dir: Ino, frag: Frag) -> bool
-        ensures { IsUsed (lookup (leaf_is (dir, frag)) self.old.entries) (dir, frag) self.old self.new result }
-    {
-        self.places.promote(&(dir, frag))
-    }
-
     // Gives a leaf that has no place one that is free. Takes memory for it.
-    fn hold(&mut self, dir: Ino, frag: Frag, place: Place) -> Result<(), Refusal>
+    pub(crate) fn hold(&mut self, dir: Ino, frag: Frag, place: Place) -> Result<(), Refusal>
         requires absent { lookup (leaf_is (dir, frag)) self.old.entries ≡ None }
         requires room { length self.old.entries < self.old.cap }
         ensures ok { OnOk result (self.new ≡ lru_cache (((dir, frag), place) ∷ self.old.entries) self.old.cap) }

@@ -3,9 +3,13 @@
 #![tactic(auto)]
 
 mod cache;
+mod committing;
+mod editing;
 mod eviction;
 mod fetching;
+mod holding;
 mod loading;
 mod pairs;
+mod reading;
 
 pub use cache::{Cache, Place};
