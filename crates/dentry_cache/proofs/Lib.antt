@@ -5,4 +5,5 @@ pub mod LeafLaws
 pub mod LoadLaws
 pub mod PageSteps
 pub mod PairLaws
+pub mod TieLaws
 pub mod UsedLaws

@@ -2,3 +2,4 @@ pub mod Cache
 pub mod Commits
 pub mod Loading
 pub mod Pairs
+pub mod Ties

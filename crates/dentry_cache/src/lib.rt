@@ -8,6 +8,7 @@ mod editing;
 mod eviction;
 mod fetching;
 mod holding;
+pub mod laws;
 mod loading;
 mod pairs;
 mod reading;
