@@ -160,8 +160,8 @@ fn put_reserved(names: &mut SortedMap<Name, Mark>, name: Name, mark: Mark)
     let _ = names.insert(name, mark);
 }
 
-// What holds of each dirty name: a law of the types, so there is nothing to do.
-fn is_dirty(name: &Name, mark: &Mark)
+/// What holds of each dirty name: a law of the types, so there is nothing to do.
+pub(crate) fn is_dirty(name: &Name, mark: &Mark)
     requires { IfSome mark.now.inode IsRecordable }
     ensures { IsDirtyName name.now mark.now }
 {

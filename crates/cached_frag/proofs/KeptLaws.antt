@@ -1,0 +1,136 @@
+-- What each fragment keeps, once it is made and once a name has changed.
+use Rattle.std.proofs.Common.{◌≡◌, ℕ, ◌+◌, ◌-◌, ◌^◌, ◌<◌, ◌≤◌, Bool, true, false, not, cond, List, Option, Some, None, sym, ap, subst, ◌∙◌, arith}
+use Rattle.std.specs.FinMap as map
+use Rattle.std.specs.FinMap.{get-empty}
+use Rattle.mds_types.specs.declared.inodes.Inode.{Inode}
+use Rattle.omap.specs.Omap.{key_cmp}
+use Rattle.dirfrag_codec.specs.FragmentObject.{Names}
+use Rattle.commit_jobs.specs.declared.bases.Base.TheVariants.{Fresh, Stored}
+use Rattle.commit_jobs.specs.declared.bases.EntryCounts.{EntryCounts}
+use Rattle.commit_jobs.specs.declared.marks.Mark.{Mark}
+use Rattle.commit_jobs.specs.Counting.{is_dir, is_file}
+use Rattle.commit_jobs.specs.Marks.{AreDirtyNames, IsDirtyName, Marks, with_mark}
+use Rattle.commit_jobs.specs.Snap.{counts_of}
+use Rattle.commit_jobs.proofs.MarkLaws.{none_dirty, one_dirty}
+use Rattle.cached_frag.specs.Cached.{AreEntries, Cached, IsBased, marked, shown, shown_over}
+use Rattle.cached_frag.specs.Kept.{IsKept}
+use Rattle.cached_frag.proofs.CountedLaws.{dirs_marked, dirs_some, files_marked, files_some, nothing_counted}
+use Rattle.cached_frag.proofs.ShownLaws.{nothing_shown, only_below, shown_marked}
+
+pub no_entries : (names : Names) → names ≡ map.empty → AreEntries names
+no_entries names none name inode is =
+    let clash : None ≡ Some inode = sym (get-empty key_cmp name) ∙ sym (ap (λ (n : Names). map.get n name) none) ∙ is in
+    absurd cc
+
+pub kept_fresh : (generation : ℕ) (clean : Names) (dirty : Marks) (places free : ℕ) → clean ≡ map.empty → dirty ≡ map.empty
+    → IsKept (record { base = Fresh; generation = generation; clean = clean; dirty = dirty; room = 0; places = free }) (record { files = 0; dirs = 0 }) places
+kept_fresh generation clean dirty places free bare none =
+    record {
+      based = bare;
+      entries = no_entries clean bare;
+      dirty = none_dirty dirty none;
+      counted = sym (ap counts_of (nothing_shown dirty none) ∙ nothing_counted);
+      few = omega arith;
+      reserved = omega arith;
+    }
+
+-- the counts allow the change of a name
+pub file_there : (f : Cached) (counts : EntryCounts) (places : ℕ) (name : List ℕ) (before : Option Inode) → IsKept f counts places → before ≡ map.get (shown f) name → cond (is_file before) 1 0 ≤ counts.files
+file_there f counts places name before kept is =
+    let some : cond (is_file (map.get (shown f) name)) 1 0 ≤ (counts_of (shown f)).files = files_some (shown f) name in
+    let same : cond (is_file before) 1 0 ≡ cond (is_file (map.get (shown f) name)) 1 0 = ap (λ (o : Option Inode). cond {A = ℕ} (is_file o) 1 0) is in
+    let total : counts.files ≡ (counts_of (shown f)).files = ap (λ (c : EntryCounts). c.files) kept.counted in
+    omega (arith, some, same, total)
+
+pub dir_there : (f : Cached) (counts : EntryCounts) (places : ℕ) (name : List ℕ) (before : Option Inode) → IsKept f counts places → before ≡ map.get (shown f) name → cond (is_dir before) 1 0 ≤ counts.dirs
+dir_there f counts places name before kept is =
+    let some : cond (is_dir (map.get (shown f) name)) 1 0 ≤ (counts_of (shown f)).dirs = dirs_some (shown f) name in
+    let same : cond (is_dir before) 1 0 ≡ cond (is_dir (map.get (shown f) name)) 1 0 = ap (λ (o : Option Inode). cond {A = ℕ} (is_dir o) 1 0) is in
+    let total : counts.dirs ≡ (counts_of (shown f)).dirs = ap (λ (c : EntryCounts). c.dirs) kept.counted in
+    omega (arith, some, same, total)
+
+module _ (f : Cached) (counts now : EntryCounts) (places left : ℕ) (name : List ℕ) (mark : Mark) (before after : Option Inode) (kept : IsKept f counts places) (dirty : IsDirtyName name mark) (room : 0 < f.room)
+    (was : before ≡ map.get (shown f) name) (is : after ≡ mark.inode) (files : now.files + cond (is_file before) 1 0 ≡ counts.files + cond (is_file after) 1 0)
+    (dirs : now.dirs + cond (is_dir before) 1 0 ≡ counts.dirs + cond (is_dir after) 1 0) (places_left : places ≤ left + 1) where
+  total : now.files + now.dirs ≤ counts.files + counts.dirs + 1
+  total = go before after files dirs
+    where
+      go : (b a : Option Inode) → now.files + cond (is_file b) 1 0 ≡ counts.files + cond (is_file a) 1 0 → now.dirs + cond (is_dir b) 1 0 ≡ counts.dirs + cond (is_dir a) 1 0 → now.files + now.dirs ≤ counts.files + counts.dirs + 1
+      go b a p q = let one = one_of a in omega (arith, p, q, one)
+        where
+          one_of : (o : Option Inode) → cond {A = ℕ} (is_file o) 1 0 + cond {A = ℕ} (is_dir o) 1 0 ≤ 1
+          one_of None = omega arith
+          one_of (Some inode) = either (is_dir (Some inode))
+            where
+              either : (t : Bool) → cond {A = ℕ} (not t) 1 0 + cond {A = ℕ} t 1 0 ≤ 1
+              either true = omega arith
+              either false = omega arith
+
+  files_now : now.files ≡ (counts_of (with_mark (shown f) name mark.inode)).files
+  files_now =
+      let law : (counts_of (with_mark (shown f) name mark.inode)).files + cond (is_file (map.get (shown f) name)) 1 0 ≡ (counts_of (shown f)).files + cond (is_file mark.inode) 1 0 = files_marked (shown f) name mark.inode in
+      let same : cond (is_file before) 1 0 ≡ cond (is_file (map.get (shown f) name)) 1 0 = ap (λ (o : Option Inode). cond {A = ℕ} (is_file o) 1 0) was in
+      let new : cond (is_file after) 1 0 ≡ cond (is_file mark.inode) 1 0 = ap (λ (o : Option Inode). cond {A = ℕ} (is_file o) 1 0) is in
+      let old : counts.files ≡ (counts_of (shown f)).files = ap (λ (c : EntryCounts). c.files) kept.counted in
+      omega (arith, law, same, new, old, files)
+
+  dirs_now : now.dirs ≡ (counts_of (with_mark (shown f) name mark.inode)).dirs
+  dirs_now =
+      let law : (counts_of (with_mark (shown f) name mark.inode)).dirs + cond (is_dir (map.get (shown f) name)) 1 0 ≡ (counts_of (shown f)).dirs + cond (is_dir mark.inode) 1 0 = dirs_marked (shown f) name mark.inode in
+      let same : cond (is_dir before) 1 0 ≡ cond (is_dir (map.get (shown f) name)) 1 0 = ap (λ (o : Option Inode). cond {A = ℕ} (is_dir o) 1 0) was in
+      let new : cond (is_dir after) 1 0 ≡ cond (is_dir mark.inode) 1 0 = ap (λ (o : Option Inode). cond {A = ℕ} (is_dir o) 1 0) is in
+      let old : counts.dirs ≡ (counts_of (shown f)).dirs = ap (λ (c : EntryCounts). c.dirs) kept.counted in
+      omega (arith, law, same, new, old, dirs)
+
+  counted_now : now ≡ counts_of (shown (marked f name mark))
+  counted_now = (λ i. record { files = files_now i; dirs = dirs_now i }) ∙ ap counts_of (sym (shown_marked f name mark))
+
+  pub kept_marked : (new : Marks) → new ≡ map.insert f.dirty name mark → IsKept (record { base = f.base; generation = f.generation; clean = f.clean; dirty = new; room = f.room - 1; places = f.places }) now left
+  kept_marked new same =
+      let few : counts.files + counts.dirs + f.room < 2 ^ 64 = kept.few in
+      let most : now.files + now.dirs ≤ counts.files + counts.dirs + 1 = total in
+      let reserved : f.room ≤ places = kept.reserved in
+      record {
+        based = kept.based;
+        entries = kept.entries;
+        dirty = one_dirty f.dirty new name mark kept.dirty dirty same;
+        counted = counted_now ∙ sym (ap (λ (d : Marks). counts_of (shown (record { base = f.base; generation = f.generation; clean = f.clean; dirty = d; room = f.room - 1; places = f.places }))) same);
+        few = omega (arith, few, most, room);
+        reserved = omega (arith, reserved, places_left, room);
+      }
+
+pub kept_reserved : (f : Cached) (counts : EntryCounts) (places more changes : ℕ) (dirty : Marks) → IsKept f counts places → dirty ≡ f.dirty → counts.files + counts.dirs + changes < 2 ^ 64 → changes ≤ more
+    → IsKept (record { base = f.base; generation = f.generation; clean = f.clean; dirty = dirty; room = changes; places = f.places }) counts more
+kept_reserved f counts places more changes dirty kept same few enough =
+    record {
+      based = kept.based;
+      entries = kept.entries;
+      dirty = subst AreDirtyNames (sym same) kept.dirty;
+      counted = kept.counted ∙ sym (ap (λ (d : Marks). counts_of (shown (record { base = f.base; generation = f.generation; clean = f.clean; dirty = d; room = changes; places = f.places }))) same);
+      few = few;
+      reserved = enough;
+    }
+
+pub kept_places : (f : Cached) (counts : EntryCounts) (places free : ℕ) (clean : Names) → IsKept f counts places → clean ≡ f.clean
+    → IsKept (record { base = f.base; generation = f.generation; clean = clean; dirty = f.dirty; room = f.room; places = free }) counts places
+kept_places f counts places free clean kept same =
+    record {
+      based = subst (IsBased f.base) (sym same) kept.based;
+      entries = subst AreEntries (sym same) kept.entries;
+      dirty = kept.dirty;
+      counted = kept.counted ∙ sym (ap (λ (n : Names). counts_of (shown_over f.base n f.dirty)) same);
+      few = kept.few;
+      reserved = kept.reserved;
+    }
+
+pub kept_stored : (version : ℕ) (clean : Names) (dirty : Marks) (places free : ℕ) (counts : EntryCounts) → AreEntries clean → dirty ≡ map.empty → counts ≡ counts_of clean → counts.files + counts.dirs < 2 ^ 64
+    → IsKept (record { base = Stored version; generation = 0; clean = clean; dirty = dirty; room = 0; places = free }) counts places
+kept_stored version clean dirty places free counts entries none counted few =
+    record {
+      based = tt;
+      entries = entries;
+      dirty = none_dirty dirty none;
+      counted = counted ∙ sym (ap counts_of (only_below clean dirty none));
+      few = omega (arith, few);
+      reserved = omega arith;
+    }

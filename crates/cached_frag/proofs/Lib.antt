@@ -1,0 +1,5 @@
+pub mod CountedLaws
+pub mod KeptLaws
+pub mod RowLaws
+pub mod SettledLaws
+pub mod ShownLaws

@@ -1,0 +1,6 @@
+use Rattle.std.proofs.Common.{subst, sym}
+use Rattle.commit_jobs.specs.Marks.{AreDirtyNames}
+use Rattle.cached_frag.proofs.fragments.CachedFrag.snapshot.Goals as goal
+
+pub from_map-names-requires : goal.from_map-names-requires
+from_map-names-requires c = subst AreDirtyNames (sym c.in_ok-copy_of.ensures) c.self.invariant.dirty

@@ -1,0 +1,15 @@
+-- What each cached fragment keeps. Only this crate's own contracts use these words.
+use Rattle.std.specs.Prelude.{◌≡◌, ℕ, ◌+◌, ◌^◌, ◌<◌, ◌≤◌}
+use Rattle.commit_jobs.specs.declared.bases.EntryCounts.{EntryCounts}
+use Rattle.commit_jobs.specs.Marks.{AreDirtyNames}
+use Rattle.commit_jobs.specs.Snap.{counts_of}
+use Rattle.cached_frag.specs.Cached.{Cached, AreEntries, IsBased, shown}
+
+-- a fragment with these counts, whose map of dirty names has such room
+pub record IsKept (f : Cached) (counts : EntryCounts) (places : ℕ) : Type 0 where
+  pub based : IsBased f.base f.clean
+  pub entries : AreEntries f.clean
+  pub dirty : AreDirtyNames f.dirty
+  pub counted : counts ≡ counts_of (shown f)
+  pub few : counts.files + counts.dirs + f.room < 2 ^ 64
+  pub reserved : f.room ≤ places

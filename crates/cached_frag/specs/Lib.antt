@@ -1,0 +1,4 @@
+pub mod Cached
+pub mod Kept
+pub mod Rows
+pub mod Settling

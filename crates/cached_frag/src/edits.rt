@@ -1,0 +1,61 @@
+//! Changes of one name. None of them takes memory.
+ghost use Rattle.std.specs.Prelude.{◌≡◌, ◌<◌, ◌≤◌, ◌+◌, IfSome, Some, None};
+ghost use Rattle.std.specs.FinMap as map;
+ghost use Rattle.omap.specs.Omap.{key_cmp};
+ghost use Rattle.sorted_map.specs.SortedMap.{contents};
+ghost use Rattle.dirfrag_codec.specs.EntryRecord.{IsRecordable};
+ghost use Rattle.commit_jobs.specs.Marks.{with_mark};
+ghost use Rattle.cached_frag.specs.Cached.{marked, shown};
+
+use crate::counting::recounted;
+use crate::fragments::{CachedFrag, shown_in};
+use commit_jobs::Mark;
+use commit_jobs::laws::dirty_names_are_recorded;
+use mds_types::{Inode, Name};
+use sorted_map::SortedMap;
+
+impl CachedFrag {
+    /// Gives a name this inode, whether it was there or not. The name is dirty then, at this version.
+    pub fn put(&mut self, name: Name, inode: Inode, version: u64)
+        requires recordable { IsRecordable inode }
+        requires room { 0 < self.old.room }
+        ensures marked { self.new ≡ marked self.old name (record { version = version; inode = Some inode }) }
+        ensures shown { shown self.new ≡ map.insert (shown self.old) name inode }
+    {
+        let inode = Some(inode);
+        self.mark(name, Mark { version, inode });
+    }
+
+    /// Removes a name, whether it was there or not. The name is dirty then, at this version.
+    pub fn erase(&mut self, name: Name, version: u64)
+        requires { 0 < self.old.room }
+        ensures marked { self.new ≡ marked self.old name (record { version = version; inode = None }) }
+        ensures shown { shown self.new ≡ map.remove (shown self.old) name }
+    {
+        let inode = None;
+        self.mark(name, Mark { version, inode });
+    }
+
+    // Says what became of a name.
+    fn mark(&mut self, name: Name, mark: Mark)
+        requires recordable { IfSome mark.inode IsRecordable }
+        requires room { 0 < self.old.room }
+        ensures marked { self.new ≡ marked self.old name mark }
+        ensures shown { shown self.new ≡ with_mark (shown self.old) name mark.inode }
+    {
+        dirty_names_are_recorded(&name, &mark);
+        let before = shown_in(&self.clean, &self.dirty, &name);
+        self.counts = recounted(self.counts, before, mark.inode.as_ref());
+        put_mark(&mut self.dirty, name, mark);
+        self.room -= 1;
+    }
+}
+
+// Says what became of a name, where there is room.
+fn put_mark(dirty: &mut SortedMap<Name, Mark>, name: Name, mark: Mark)
+    requires { 0 < dirty.old.room }
+    ensures put { contents key_cmp dirty.new ≡ map.insert (contents key_cmp dirty.old) name mark }
+    ensures room { dirty.old.room ≤ dirty.new.room + 1 }
+{
+    let _ = dirty.insert(name, mark);
+}

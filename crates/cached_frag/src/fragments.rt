@@ -1,0 +1,147 @@
+//! `CachedFrag`, what a contract sees of it, and the calls that read it or make room.
+ghost use Rattle.std.specs.Prelude.{◌≡◌, ◌≤◌, ◌<◌, ◌+◌, ◌^◌, IsOk, IfSome, OnOk, OnErr, option_copied};
+ghost use Rattle.std.specs.FinMap as map;
+ghost use Rattle.omap.specs.Omap.{key_cmp};
+ghost use Rattle.sorted_map.specs.SortedMap.{contents};
+ghost use Rattle.dirfrag_codec.specs.EntryRecord.{HasRecord};
+ghost use Rattle.commit_jobs.specs.Snap.{counts_of};
+ghost use Rattle.commit_jobs.proofs.MarkLaws.{inode_or};
+ghost use Rattle.cached_frag.specs.Cached.{is_clean, shown};
+
+use commit_jobs::{Base, EntryCounts, Mark};
+use mds_types::{Inode, Name};
+use sorted_map::SortedMap;
+use std::alloc::{AllocError, Global};
+use std::marker::Model;
+
+/// A cached fragment: a whole one. It shows the names of its base, with the dirty names over them.
+#[derive(Debug, Drop)]
+pub struct CachedFrag {
+    pub(crate) base: Base,
+    pub(crate) generation: u64,
+    // as they were fetched, but for what became clean since
+    pub(crate) clean: SortedMap<Name, Inode>,
+    // what changed since the last commit
+    pub(crate) dirty: SortedMap<Name, Mark>,
+    // of the names that are shown
+    pub(crate) counts: EntryCounts,
+    // how many changes fit
+    pub(crate) room: usize,
+}
+
+impl Model for CachedFrag {
+    ghost use Rattle.std.specs.Coded.{codes};
+    ghost use Rattle.std.specs.FinMap as map;
+    ghost use Rattle.omap.specs.Omap.{key_cmp};
+    ghost use Rattle.sorted_map.specs.SortedMap.{contents};
+    ghost use Rattle.cached_frag.specs.Cached.{Cached};
+    ghost use Rattle.cached_frag.specs.Kept.{IsKept};
+
+    ghost Value = { Cached };
+
+    ghost coded = { Prim.hlevel (codes, map.code) };
+
+    ghost view = { λ f. record { base = f.base; generation = f.generation; clean = contents key_cmp f.clean; dirty = contents key_cmp f.dirty; room = f.room; places = f.clean.room } };
+
+    ghost invariant = { λ f. IsKept (record { base = f.base; generation = f.generation; clean = contents key_cmp f.clean; dirty = contents key_cmp f.dirty; room = f.room; places = f.clean.room }) f.counts f.dirty.room };
+}
+
+impl CachedFrag {
+    /// A new fragment, with no names: no object of its name counts. Takes no memory.
+    pub fn fresh(alloc: Global, generation: u64) -> CachedFrag
+        ensures { result ≡ record { base = Base.Fresh; generation = generation; clean = map.empty; dirty = map.empty; room = 0; places = 0 } }
+    {
+        CachedFrag {
+            base: Base::Fresh,
+            generation,
+            clean: SortedMap::new(alloc),
+            dirty: SortedMap::new(alloc),
+            counts: EntryCounts { files: 0, dirs: 0 },
+            room: 0,
+        }
+    }
+
+    /// What its object is to the fragment.
+    pub fn base(&self) -> Base
+        ensures { result ≡ self.now.base }
+    {
+        self.base
+    }
+
+    /// Which of the fragments that had its name it is.
+    pub fn generation(&self) -> u64
+        ensures { result ≡ self.now.generation }
+    {
+        self.generation
+    }
+
+    /// Whether its object spells what it shows.
+    pub fn is_clean(&self) -> bool
+        ensures { result ≡ is_clean self.now }
+    {
+        !self.base.is_fresh() && self.dirty.len() == 0
+    }
+
+    /// The inode that a name stands for, if it is there. Takes logarithmic time.
+    pub fn look(&self, name: &Name) -> Option<&Inode>
+        ensures found { option_copied result ≡ map.get (shown self.now) name.now }
+        ensures recorded { IfSome (option_copied result) HasRecord }
+    {
+        shown_in(&self.clean, &self.dirty, name)
+    }
+
+    /// How many entries it shows.
+    pub fn counts(&self) -> EntryCounts
+        ensures { result ≡ counts_of (shown self.now) }
+    {
+        self.counts
+    }
+
+    /// How many changes of names fit before memory is needed.
+    pub fn room(&self) -> usize
+        ensures { result ≡ self.now.room }
+    {
+        self.room
+    }
+
+    /// Makes room for so many changes of names. Where the room is there already nothing is done, and there is no error.
+    pub fn reserve(&mut self, changes: usize) -> Result<(), AllocError>
+        ensures same { self.new ≡ record self.old { room = self.new.room } }
+        ensures room { OnOk result (changes ≤ self.new.room) }
+        ensures grows { self.old.room ≤ self.new.room }
+        ensures ready { changes ≤ self.old.room → IsOk result × (self.new ≡ self.old) }
+        ensures err { OnErr result (self.new ≡ self.old) }
+    {
+        if changes <= self.room {
+            return Ok(());
+        }
+        fits(self.counts, changes)?;
+        self.dirty.reserve(changes)?;
+        self.room = changes;
+        Ok(())
+    }
+}
+
+// What became of a name, if it is dirty, and otherwise what it was.
+pub(crate) fn shown_in<'a>(
+    clean: &'a SortedMap<Name, Inode>,
+    dirty: &'a SortedMap<Name, Mark>,
+    name: &Name,
+) -> Option<&'a Inode>
+    ensures { option_copied result ≡ inode_or (map.get (contents key_cmp dirty.entry.now) name.now) (map.get (contents key_cmp clean.entry.now) name.now) }
+{
+    match dirty.get(name) {
+        Some(mark) => mark.inode.as_ref(),
+        None => clean.get(name),
+    }
+}
+
+// Whether the counts can hold so many entries more: there is never memory for so many that they can't.
+fn fits(counts: EntryCounts, changes: usize) -> Result<(), AllocError>
+    ensures { OnOk result (counts.files + counts.dirs + changes < 2 ^ 64) }
+{
+    match counts.files.checked_add(counts.dirs) {
+        Some(entries) if entries.checked_add(changes as u64).is_some() => Ok(()),
+        _ => Err(AllocError),
+    }
+}

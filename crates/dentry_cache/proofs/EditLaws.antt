@@ -1,0 +1,92 @@
+-- A fragment that is changed in its place.
+use Rattle.std.proofs.Common.{◌≡◌, ◌<◌, Bool, true, false, cond, ◌∷◌, Option, Some, None, refl, sym, ap, subst, ◌∙◌}
+use Rattle.std.specs.Map.{lookup, remove_entry, set_value}
+use Rattle.lru.specs.LruCache.{lru_cache}
+use Rattle.cached_frag.specs.Cached.{Cached}
+use Rattle.dentry_cache.specs.declared.cache.Place.{Place}
+use Rattle.dentry_cache.specs.Cache.{HasCached, HasRoom, Held, IsChanged, IsThere, IsUsed, Leaf, cached, fragment_in, held, leaf_is, used_as}
+use Rattle.dentry_cache.proofs.LeafLaws.{leaf_itself}
+
+-- a fragment that is there stands in its place
+held_as : (o : Option Place) (f : Cached) → fragment_in o ≡ Some f → o ≡ Some (held f)
+held_as None f is = cc
+held_as (Some place) f is = go place.kept refl is
+  where
+    go : (b : Bool) → place.kept ≡ b → cond b None (Some place.frag) ≡ Some f → Some place ≡ Some (held f)
+    go true kept is = cc
+    go false kept is = let frag : place.frag ≡ f = cc in λ i. Some (record { frag = frag i; kept = kept i })
+
+module _ (leaf : Leaf) (old touched mid : Held) (there : Bool) (touch : IsUsed (lookup (leaf_is leaf) old.entries) leaf old touched there) (same : mid ≡ touched) where
+  used : IsUsed (lookup (leaf_is leaf) old.entries) leaf old mid there
+  used = subst (λ (m : Held). IsUsed (lookup (leaf_is leaf) old.entries) leaf old m there) (sym same) touch
+
+  pub mid_is : (f : Cached) → cached old.entries leaf ≡ Some f → mid ≡ used_as leaf (held f) old
+  mid_is f is = (subst (λ (o : Option Place). IsUsed o leaf old mid there) (held_as (lookup (leaf_is leaf) old.entries) f is) used).1
+
+  found_there : (f : Cached) → cached old.entries leaf ≡ Some f → lookup (leaf_is leaf) mid.entries ≡ Some (held f)
+  found_there f is = ap (λ (h : Held). lookup (leaf_is leaf) h.entries) (mid_is f is) ∙ ap (λ (b : Bool). cond b (Some (held f)) (lookup (leaf_is leaf) (remove_entry (leaf_is leaf) old.entries))) (leaf_itself leaf)
+
+  pub still_there : (f : Cached) → cached old.entries leaf ≡ Some f → cached mid.entries leaf ≡ Some f
+  still_there f is = ap fragment_in (found_there f is)
+
+  same_place : (f : Cached) (place : Place) → cached old.entries leaf ≡ Some f → Some place ≡ lookup (leaf_is leaf) mid.entries → place ≡ held f
+  same_place f place is at = let e : Some place ≡ Some (held f) = at ∙ found_there f is in cc
+
+  pub never : {P : Type 0} (o : Option Cached) → cached old.entries leaf ≡ o → IsThere o → None ≡ lookup (leaf_is leaf) mid.entries → P
+  never (Some f) is h none = let clash : None ≡ Some (held f) = none ∙ found_there f is in absurd cc
+  never None is h none = absurd h
+
+  pub has_room : (o : Option Cached) (place : Place) → cached old.entries leaf ≡ o → HasRoom o → Some place ≡ lookup (leaf_is leaf) mid.entries → 0 < place.frag.room
+  has_room (Some f) place is room at = subst (λ (p : Place). 0 < p.frag.room) (sym (same_place f place is at)) room
+  has_room None place is room at = absurd room
+
+  pub changed : (Change : Cached → Cached → Type 0) (o : Option Cached) (place : Place) (now : Cached) → cached old.entries leaf ≡ o → IsThere o → Some place ≡ lookup (leaf_is leaf) mid.entries → Change place.frag now
+      → IsChanged o Change leaf old (lru_cache (set_value (leaf_is leaf) mid.entries (record { frag = now; kept = place.kept })) mid.cap)
+  changed Change (Some f) place now is h at change =
+      let one = same_place f place is at in
+      let here : lru_cache (set_value (leaf_is leaf) mid.entries (record { frag = now; kept = place.kept })) mid.cap ≡ used_as leaf (held now) old =
+      ap (λ (m : Held). lru_cache (set_value (leaf_is leaf) m.entries (record { frag = now; kept = place.kept })) m.cap) (mid_is f is)
+      ∙ ap (λ (p : Place). lru_cache (set_value (leaf_is leaf) (used_as leaf (held f) old).entries (record { frag = now; kept = p.kept })) old.cap) one
+      ∙ ap (λ (b : Bool). lru_cache (cond b ((leaf, held now) ∷ remove_entry (leaf_is leaf) old.entries) ((leaf, held f) ∷ set_value (leaf_is leaf) (remove_entry (leaf_is leaf) old.entries) (held now))) old.cap) (leaf_itself leaf) in
+      (now, subst (λ (p : Place). Change p.frag now) one change, here)
+  changed Change None place now is h at change = absurd h
+
+pub there_with_room : (o : Option Cached) → HasRoom o → IsThere o
+there_with_room (Some f) room = tt
+there_with_room None room = room
+
+-- a fragment that was only read
+pub only_used : (leaf : Leaf) (old new : Held) (there : Bool) → IsUsed (lookup (leaf_is leaf) old.entries) leaf old new there → IsThere (cached old.entries leaf) → IsChanged (cached old.entries leaf) (λ (f now : Cached). now ≡ f) leaf old new
+only_used leaf old new there touch h = go (cached old.entries leaf) refl h
+  where
+    go : (o : Option Cached) → cached old.entries leaf ≡ o → IsThere o → IsChanged o (λ (f now : Cached). now ≡ f) leaf old new
+    go (Some f) is h = (f, refl, mid_is leaf old new new there touch refl f is)
+    go None is h = absurd h
+
+-- ---- two changes, one after the other
+
+again : (leaf : Leaf) (one two : Place) (old : Held) → used_as leaf two (used_as leaf one old) ≡ used_as leaf two old
+again leaf one two old = ap (λ (b : Bool). lru_cache ((leaf, two) ∷ cond b (remove_entry (leaf_is leaf) old.entries) ((leaf, one) ∷ remove_entry (leaf_is leaf) (remove_entry (leaf_is leaf) old.entries))) old.cap) (leaf_itself leaf)
+
+cached_now : (leaf : Leaf) (f : Cached) (old new : Held) → new ≡ used_as leaf (held f) old → cached new.entries leaf ≡ Some f
+cached_now leaf f old new is =
+    ap (λ (h : Held). cached h.entries leaf) is ∙ ap (λ (b : Bool). fragment_in (cond b (Some (held f)) (lookup (leaf_is leaf) (remove_entry (leaf_is leaf) old.entries)))) (leaf_itself leaf)
+
+pub changed_there : (Change : Cached → Cached → Type 0) (leaf : Leaf) (old new : Held) (o : Option Cached) → IsChanged o Change leaf old new → IsThere (cached new.entries leaf)
+changed_there Change leaf old new (Some f) c = subst IsThere (sym (cached_now leaf c.0 old new c.2)) tt
+changed_there Change leaf old new None c = absurd c
+
+pub changed_twice : (First Then Both : Cached → Cached → Type 0) (leaf : Leaf) (old mid new : Held) (o : Option Cached) → ((f m now : Cached) → First f m → Then m now → Both f now) → IsChanged o First leaf old mid
+    → IsChanged (cached mid.entries leaf) Then leaf mid new → IsChanged o Both leaf old new
+changed_twice First Then Both leaf old mid new None join c d = absurd c
+changed_twice First Then Both leaf old mid new (Some f) join c d =
+    let e : IsChanged (Some c.0) Then leaf mid new = subst (λ (p : Option Cached). IsChanged p Then leaf mid new) (cached_now leaf c.0 old mid c.2) d in
+    (e.0, join f c.0 e.0 c.1 e.1, e.2 ∙ ap (used_as leaf (held e.0)) c.2 ∙ again leaf (held c.0) (held e.0) old)
+
+pub changed_so : (First Then : Cached → Cached → Type 0) (leaf : Leaf) (old new : Held) (o : Option Cached) → ((f now : Cached) → First f now → Then f now) → IsChanged o First leaf old new → IsChanged o Then leaf old new
+changed_so First Then leaf old new None so c = absurd c
+changed_so First Then leaf old new (Some f) so c = (c.0, so f c.0 c.1, c.2)
+
+pub there_with : (P : Cached → Type 0) (o : Option Cached) → HasCached o P → IsThere o
+there_with P (Some f) h = tt
+there_with P None h = h

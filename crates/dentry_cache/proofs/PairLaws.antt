@@ -1,0 +1,16 @@
+-- Pairs read one after the other.
+use Rattle.std.proofs.Common.{◌≡◌, ℕ, List, Option, Some, None}
+use Rattle.std.specs.Prelude.{IfOk, Result, Ok, Err}
+use Rattle.omap.specs.EntryKeys.{NamesKey}
+use Rattle.dirfrag_codec.specs.FragmentObject.{SpellsKey}
+use Rattle.dirfrag_codec.specs.Grammar.{Decodes}
+use Rattle.dirfrag_codec.specs.Values.{name_of}
+use Rattle.dirfrag_codec.proofs.ValueLaws.{one_key, one_reading, reads_key}
+
+key_decodes : (key : List ℕ) (name : Option (List ℕ)) → NamesKey key name → Decodes SpellsKey key name
+key_decodes key (Some name) h = h
+key_decodes key None h = λ name s. h name s.0 s.1
+
+pub name_is : {E : Type 0} (key : List ℕ) (answer : Result (Option (List ℕ)) E) → IfOk answer (NamesKey key) → IfOk answer (λ name. name ≡ name_of key)
+name_is key (Ok name) h = one_reading SpellsKey one_key key name (name_of key) (key_decodes key name h) (reads_key key)
+name_is key (Err e) h = h

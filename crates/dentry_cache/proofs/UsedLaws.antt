@@ -1,0 +1,210 @@
+-- What is in each place once one of them is used, taken or given up.
+use Rattle.std.proofs.Common.{◌≡◌, ℕ, ◌+◌, ◌-◌, ◌<◌, ◌≤◌, Bool, true, false, cond, inl, inr, [], ◌∷◌, ◌++◌, length, take, Option, Some, None, refl, sym, ap, subst, ◌∙◌, arith}
+use Rattle.std.specs.Prelude.{Result, Ok, Err, IsOk, OnOk, OnErr, is_some, ◌==◌}
+use Rattle.std.specs.Option.{option_map_or}
+use Rattle.std.specs.Map.{lookup, lookup_entry, remove_entry}
+use Rattle.std.specs.FinMap.{len-empty}
+use Rattle.std.proofs.lemmas.List.{length-append, take_all}
+use Rattle.std.proofs.lemmas.Map.{NonePasses, lookup-none, none_passes_from_lookup}
+use Rattle.lru.proofs.Splits.{all_both, all_left, all_right}
+use Rattle.lru.specs.LruCache.{lru_cache, promoted, put_entries}
+use Rattle.mds_types.specs.Frag.{Fragment}
+use Rattle.omap.specs.Omap.{Omap, key_cmp}
+use Rattle.commit_jobs.specs.declared.marks.Mark.{Mark}
+use Rattle.cached_frag.specs.Cached.{Cached, is_clean}
+use Rattle.dentry_cache.specs.declared.cache.Place.{Place}
+use Rattle.dentry_cache.specs.Cache.{Evicts, Held, IsKeptFor, IsUsed, Leaf, MakesRoom, MayMakeRoom, Places, TakesPlace, cached, fragment_in, held, leaf_is, unsaved, unsaved_in, used_as}
+use Rattle.dentry_cache.specs.Loading.{IsFetched, IsNotFetched, Loads}
+use Rattle.dentry_cache.proofs.CacheLaws.{unsaved_alike, unsaved_same}
+use Rattle.dentry_cache.proofs.LeafLaws.{flips, one_leaf}
+
+-- ---- look-ups
+
+entry_of_lookup : (leaf : Leaf) (places : Places) (place : Place) → lookup (leaf_is leaf) places ≡ Some place → lookup_entry (leaf_is leaf) places ≡ Some (leaf, place)
+entry_of_lookup leaf [] place is = cc
+entry_of_lookup leaf (e ∷ es) place is = go (entry_of_lookup leaf es place) (leaf_is leaf e.0) refl is
+  where
+    go : (lookup (leaf_is leaf) es ≡ Some place → lookup_entry (leaf_is leaf) es ≡ Some (leaf, place)) → (b : Bool) → leaf_is leaf e.0 ≡ b → cond b (Some e.1) (lookup (leaf_is leaf) es) ≡ Some place
+        → cond b (Some e) (lookup_entry (leaf_is leaf) es) ≡ Some (leaf, place)
+    go rest true same is =
+        let value : e.1 ≡ place = cc in
+        let key : e.0 ≡ leaf = sym (one_leaf leaf e.0 same) in
+        λ i. Some (key i, value i)
+    go rest false same is = rest is
+
+no_entry : (leaf : Leaf) (places : Places) → lookup (leaf_is leaf) places ≡ None → lookup_entry (leaf_is leaf) places ≡ None
+no_entry leaf [] is = refl
+no_entry leaf (e ∷ es) is = go (no_entry leaf es) (leaf_is leaf e.0) is
+  where
+    go : (lookup (leaf_is leaf) es ≡ None → lookup_entry (leaf_is leaf) es ≡ None) → (b : Bool) → cond b (Some e.1) (lookup (leaf_is leaf) es) ≡ None → cond b (Some e) (lookup_entry (leaf_is leaf) es) ≡ None
+    go rest true is = cc
+    go rest false is = rest is
+
+pub beside_removal : (leaf q : Leaf) (places : Places) → leaf_is leaf q ≡ false → lookup (leaf_is q) (remove_entry (leaf_is leaf) places) ≡ lookup (leaf_is q) places
+beside_removal leaf q [] apart = refl
+beside_removal leaf q (e ∷ es) apart = go (beside_removal leaf q es apart) (leaf_is leaf e.0) refl
+  where
+    go : lookup (leaf_is q) (remove_entry (leaf_is leaf) es) ≡ lookup (leaf_is q) es → (b : Bool) → leaf_is leaf e.0 ≡ b
+        → lookup (leaf_is q) (cond b es (e ∷ remove_entry (leaf_is leaf) es)) ≡ cond (leaf_is q e.0) (Some e.1) (lookup (leaf_is q) es)
+    go rest true same =
+        let other : leaf_is q e.0 ≡ false = ap (leaf_is q) (sym (one_leaf leaf e.0 same)) ∙ flips q leaf ∙ apart in
+        sym (ap (λ (b : Bool). cond b (Some e.1) (lookup (leaf_is q) es)) other)
+    go rest false same = ap (cond (leaf_is q e.0) (Some e.1)) rest
+
+-- ---- a place that is used
+
+pub after_use : (leaf q : Leaf) (place : Place) (old : Held) → lookup (leaf_is q) (used_as leaf place old).entries ≡ cond (leaf_is leaf q) (Some place) (lookup (leaf_is q) old.entries)
+after_use leaf q place old = go (leaf_is leaf q) refl
+  where
+    go : (b : Bool) → leaf_is leaf q ≡ b → cond (leaf_is q leaf) (Some place) (lookup (leaf_is q) (remove_entry (leaf_is leaf) old.entries)) ≡ cond b (Some place) (lookup (leaf_is q) old.entries)
+    go true is = ap (λ (b : Bool). cond b (Some place) (lookup (leaf_is q) (remove_entry (leaf_is leaf) old.entries))) (flips q leaf ∙ is)
+    go false is = ap (λ (b : Bool). cond b (Some place) (lookup (leaf_is q) (remove_entry (leaf_is leaf) old.entries))) (flips q leaf ∙ is) ∙ beside_removal leaf q old.entries is
+
+pub used_same : (leaf q : Leaf) (place : Place) (old : Held) → lookup (leaf_is leaf) old.entries ≡ Some place → lookup (leaf_is q) (used_as leaf place old).entries ≡ lookup (leaf_is q) old.entries
+used_same leaf q place old is = after_use leaf q place old ∙ go (leaf_is leaf q) refl
+  where
+    go : (b : Bool) → leaf_is leaf q ≡ b → cond b (Some place) (lookup (leaf_is q) old.entries) ≡ lookup (leaf_is q) old.entries
+    go true same = sym is ∙ ap (λ (l : Leaf). lookup (leaf_is l) old.entries) (one_leaf leaf q same)
+    go false same = refl
+
+pub promoted_is : (leaf : Leaf) (place : Place) (places : Places) → lookup (leaf_is leaf) places ≡ Some place → promoted (leaf_is leaf) places ≡ (leaf, place) ∷ remove_entry (leaf_is leaf) places
+promoted_is leaf place places is = ap (λ (o : Option (Leaf × Place)). option_map_or (λ e. e ∷ remove_entry (leaf_is leaf) places) o places) (entry_of_lookup leaf places place is)
+
+not_promoted : (leaf : Leaf) (places : Places) → lookup (leaf_is leaf) places ≡ None → promoted (leaf_is leaf) places ≡ places
+not_promoted leaf places is = ap (λ (o : Option (Leaf × Place)). option_map_or (λ e. e ∷ remove_entry (leaf_is leaf) places) o places) (no_entry leaf places is)
+
+pub is_used : (leaf : Leaf) (old mid new : Held) (there : Bool) → mid ≡ old → there ≡ is_some (lookup (leaf_is leaf) mid.entries) → new ≡ lru_cache (promoted (leaf_is leaf) mid.entries) mid.cap
+    → IsUsed (lookup (leaf_is leaf) old.entries) leaf old new there
+is_used leaf old mid new there same told is = go (lookup (leaf_is leaf) old.entries) refl
+  where
+    now : new ≡ lru_cache (promoted (leaf_is leaf) old.entries) old.cap
+    now = is ∙ ap (λ (h : Held). lru_cache (promoted (leaf_is leaf) h.entries) h.cap) same
+
+    said : there ≡ is_some (lookup (leaf_is leaf) old.entries)
+    said = told ∙ ap (λ (h : Held). is_some (lookup (leaf_is leaf) h.entries)) same
+
+    go : (o : Option Place) → lookup (leaf_is leaf) old.entries ≡ o → IsUsed o leaf old new there
+    go (Some place) found = (said ∙ ap (λ (o : Option Place). is_some o) found, now ∙ ap (λ (es : Places). lru_cache es old.cap) (promoted_is leaf place old.entries found))
+    go None found = (said ∙ ap (λ (o : Option Place). is_some o) found, now ∙ ap (λ (es : Places). lru_cache es old.cap) (not_promoted leaf old.entries found))
+
+-- what was used, and what was not there
+pub used_unsaved : (leaf : Leaf) (old new : Held) (there : Bool) → IsUsed (lookup (leaf_is leaf) old.entries) leaf old new there → unsaved new.entries ≡ unsaved old.entries
+used_unsaved leaf old new there h = go (lookup (leaf_is leaf) old.entries) refl h
+  where
+    go : (o : Option Place) → lookup (leaf_is leaf) old.entries ≡ o → IsUsed o leaf old new there → unsaved new.entries ≡ unsaved old.entries
+    go (Some place) found u = ap (λ (h : Held). unsaved h.entries) u.1 ∙ unsaved_same (used_as leaf place old).entries old.entries (λ q. used_same leaf q place old found)
+    go None found u = ap (λ (h : Held). unsaved h.entries) u.1
+
+pub was_absent : (leaf : Leaf) (old new : Held) (there : Bool) (o : Option Place) → IsUsed o leaf old new there → there ≡ false → o ≡ None
+was_absent leaf old new there (Some place) u is = let clash : true ≡ false = sym u.0 ∙ is in cc
+was_absent leaf old new there None u is = refl
+
+pub left_alone : (leaf : Leaf) (old new : Held) (there : Bool) (o : Option Place) → IsUsed o leaf old new there → there ≡ false → new ≡ old
+left_alone leaf old new there (Some place) u is = let clash : true ≡ false = sym u.0 ∙ is in absurd cc
+left_alone leaf old new there None u is = u.1
+
+-- ---- a place that is free
+
+pub freed : (stay : Option Leaf) (old new : Held) → Evicts stay old new → length old.entries ≤ old.cap → length new.entries < new.cap
+freed stay old new e few =
+    let o = e.1 in
+    let was : length old.entries ≡ length o.later + length ((e.0, o.place) ∷ o.before) = ap (length {A = Leaf × Place}) o.among ∙ length-append o.later ((e.0, o.place) ∷ o.before) in
+    let now : length new.entries ≡ length o.later + length o.before = ap (λ (h : Held). length h.entries) e.2 ∙ length-append o.later o.before in
+    let cap : new.cap ≡ old.cap = ap (λ (h : Held). h.cap) e.2 in
+    omega (arith, was, now, cap, few)
+
+absent_then : (stay : Option Leaf) (old mid : Held) (leaf : Leaf) → Evicts stay old mid → lookup (leaf_is leaf) old.entries ≡ None → lookup (leaf_is leaf) mid.entries ≡ None
+absent_then stay old mid leaf e none =
+    let o = e.1 in
+    let passes : NonePasses (leaf_is leaf) (o.later ++ (e.0, o.place) ∷ o.before) = subst (NonePasses (leaf_is leaf)) o.among (none_passes_from_lookup (leaf_is leaf) old.entries none) in
+    let P : Leaf × Place → Type 0 = λ x. leaf_is leaf x.0 ≡ false in
+    ap (λ (h : Held). lookup (leaf_is leaf) h.entries) e.2
+    ∙ lookup-none (leaf_is leaf) (o.later ++ o.before) (all_both P o.later o.before (all_left P o.later ((e.0, o.place) ∷ o.before) passes) (all_right P o.later ((e.0, o.place) ∷ o.before) passes).1)
+
+pub still_absent : (stay : Option Leaf) (old mid : Held) (leaf : Leaf) → MakesRoom stay old mid → lookup (leaf_is leaf) old.entries ≡ None → lookup (leaf_is leaf) mid.entries ≡ None
+still_absent stay old mid leaf (inl same) none = ap (λ (h : Held). lookup (leaf_is leaf) h.entries) same.1 ∙ none
+still_absent stay old mid leaf (inr gone) none = absent_then stay old mid leaf gone.1 none
+
+same_cap : (stay : Option Leaf) (old mid : Held) → MakesRoom stay old mid → mid.cap ≡ old.cap
+same_cap stay old mid (inl same) = ap (λ (h : Held). h.cap) same.1
+same_cap stay old mid (inr gone) = ap (λ (h : Held). h.cap) gone.1.2
+
+pub placed : (leaf : Leaf) (place : Place) (old mid new : Held) → mid ≡ old → lookup (leaf_is leaf) old.entries ≡ None → length old.entries < old.cap → new ≡ lru_cache (put_entries leaf_is mid leaf place) mid.cap
+    → new ≡ lru_cache ((leaf, place) ∷ old.entries) old.cap
+placed leaf place old mid new same none room is =
+    is ∙ ap (λ (h : Held). lru_cache (put_entries leaf_is h leaf place) h.cap) same
+    ∙ ap (λ (o : Option (Leaf × Place)). lru_cache (option_map_or (λ e. (e.0, place) ∷ remove_entry (leaf_is leaf) old.entries) o ((leaf, place) ∷ take (old.cap - 1) old.entries)) old.cap) (no_entry leaf old.entries none)
+    ∙ ap (λ (es : Places). lru_cache ((leaf, place) ∷ es) old.cap) (take_all (old.cap - 1) old.entries (omega (arith, room)))
+
+pub takes : (stay : Option Leaf) (leaf : Leaf) (place : Place) (old mid new : Held) → MakesRoom stay old mid → new ≡ lru_cache ((leaf, place) ∷ mid.entries) mid.cap → TakesPlace stay leaf place old new
+takes stay leaf place old mid new room is = (mid, room, is ∙ ap (λ (n : ℕ). lru_cache ((leaf, place) ∷ mid.entries) n) (same_cap stay old mid room))
+
+pub left_with : (stay : Option Leaf) (old mid new : Held) → MakesRoom stay old mid → new ≡ mid → MayMakeRoom stay old new
+left_with stay old mid new room is = inr (subst (MakesRoom stay old) (sym is) room)
+
+pub on_ok : {A E P Q : Type 0} (r : Result A E) → (P → Q) → OnOk r P → OnOk r Q
+on_ok (Ok x) f h = f h
+on_ok (Err e) f h = tt
+
+pub on_err : {A E P Q : Type 0} (r : Result A E) → (P → Q) → OnErr r P → OnErr r Q
+on_err (Ok x) f h = tt
+on_err (Err e) f h = f h
+
+pub err_of : {A E P : Type 0} (r : Result A E) → P → OnErr r P
+err_of (Ok x) p = tt
+err_of (Err e) p = p
+
+-- ---- a clean fragment changes nothing of what isn't clean
+
+loaded_clean : (frag : Fragment) (object : Option Omap) (f : Cached) → Loads frag object (Some f) → unsaved_in (fragment_in (Some (held f))) ≡ None
+loaded_clean frag None f h = absurd h
+loaded_clean frag (Some object) f h =
+    let clean : is_clean f ≡ true = ap is_clean h.3 ∙ ap (λ (n : ℕ). no_names n) (len-empty key_cmp Mark) in
+    ap (λ (b : Bool). cond b None (Some (record { base = f.base; generation = f.generation; dirty = f.dirty }))) clean
+  where
+    no_names : ℕ → Bool
+    no_names n = n == 0
+
+pub placed_unsaved : (leaf : Leaf) (place : Place) (mid : Held) → lookup (leaf_is leaf) mid.entries ≡ None → unsaved_in (fragment_in (Some place)) ≡ None → unsaved ((leaf, place) ∷ mid.entries) ≡ unsaved mid.entries
+placed_unsaved leaf place mid none clean = unsaved_alike ((leaf, place) ∷ mid.entries) mid.entries (λ q. go q (leaf_is q leaf) refl)
+  where
+    go : (q : Leaf) (b : Bool) → leaf_is q leaf ≡ b → unsaved_in (fragment_in (cond b (Some place) (lookup (leaf_is q) mid.entries))) ≡ unsaved_in (cached mid.entries q)
+    go q true is = clean ∙ sym (ap (λ (o : Option Place). unsaved_in (fragment_in o)) (ap (λ (l : Leaf). lookup (leaf_is l) mid.entries) (one_leaf q leaf is) ∙ none))
+    go q false is = refl
+
+pub held_unsaved : {A E : Type 0} (r : Result A E) (leaf : Leaf) (place : Place) (old mid new : Held) → unsaved_in (fragment_in (Some place)) ≡ None → lookup (leaf_is leaf) mid.entries ≡ None → unsaved mid.entries ≡ unsaved old.entries
+    → OnOk r (new ≡ lru_cache ((leaf, place) ∷ mid.entries) mid.cap) → OnErr r (new ≡ mid) → unsaved new.entries ≡ unsaved old.entries
+held_unsaved (Ok x) leaf place old mid new clean none same ok err = ap (λ (h : Held). unsaved h.entries) ok ∙ placed_unsaved leaf place mid none clean ∙ same
+held_unsaved (Err e) leaf place old mid new clean none same ok err = ap (λ (h : Held). unsaved h.entries) err ∙ same
+
+pub fetched_unsaved : {A E : Type 0} (r : Result A E) (frag : Fragment) (object : Option Omap) (f : Cached) (leaf : Leaf) (old mid new : Held) → Loads frag object (Some f) → lookup (leaf_is leaf) mid.entries ≡ None
+    → unsaved mid.entries ≡ unsaved old.entries → OnOk r (new ≡ lru_cache ((leaf, held f) ∷ mid.entries) mid.cap) → OnErr r (new ≡ mid) → unsaved new.entries ≡ unsaved old.entries
+fetched_unsaved r frag object f leaf old mid new loads none same ok err = held_unsaved r leaf (held f) old mid new (loaded_clean frag object f loads) none same ok err
+
+-- ---- a fetch
+
+module _ (stay : Option Leaf) (leaf : Leaf) (object : Option Omap) (old mid new : Held) (same : mid ≡ old) (o : Option Place) (none : o ≡ None) where
+  pub fetched_from : {A E : Type 0} (r : Result A E) → OnOk r (IsFetched stay mid leaf object None new) → OnOk r (IsFetched stay old leaf object o new)
+  fetched_from r h =
+      subst (λ (p : Option Place). OnOk r (IsFetched stay old leaf object p new)) (sym none) (subst (λ (m : Held). OnOk r (IsFetched stay m leaf object None new)) same h)
+
+  pub left_from : {A E : Type 0} (r : Result A E) → OnErr r (IsNotFetched stay mid None new) → OnErr r (IsNotFetched stay old o new)
+  left_from r h = subst (λ (p : Option Place). OnErr r (IsNotFetched stay old p new)) (sym none) (subst (λ (m : Held). OnErr r (IsNotFetched stay m None new)) same h)
+
+-- ---- a place that is filled
+
+filled_as : (leaf : Leaf) (place : Place) (old : Held) (o : Option Place) → lookup (leaf_is leaf) old.entries ≡ o → IsKeptFor o → lru_cache (put_entries leaf_is old leaf place) old.cap ≡ used_as leaf place old
+filled_as leaf place old (Some kept) is h =
+    ap (λ (e : Option (Leaf × Place)). lru_cache (option_map_or (λ e. (e.0, place) ∷ remove_entry (leaf_is leaf) old.entries) e ((leaf, place) ∷ take (old.cap - 1) old.entries)) old.cap) (entry_of_lookup leaf old.entries kept is)
+filled_as leaf place old None is h = absurd h
+
+is_there : (o : Option Place) → IsKeptFor o → is_some o ≡ true
+is_there (Some kept) h = refl
+is_there None h = absurd h
+
+pub filled : {A E : Type 0} (r : Result A E) (leaf : Leaf) (place : Place) (old mid new : Held) → mid ≡ old → IsKeptFor (lookup (leaf_is leaf) old.entries) → (is_some (lookup (leaf_is leaf) mid.entries) ≡ true → IsOk r)
+    → OnOk r (new ≡ lru_cache (put_entries leaf_is mid leaf place) mid.cap) → new ≡ used_as leaf place old
+filled (Ok x) leaf place old mid new same kept succeeds ok = ok ∙ ap (λ (h : Held). lru_cache (put_entries leaf_is h leaf place) h.cap) same ∙ filled_as leaf place old (lookup (leaf_is leaf) old.entries) refl kept
+filled (Err e) leaf place old mid new same kept succeeds ok =
+    let never = succeeds (ap (λ (h : Held). is_some (lookup (leaf_is leaf) h.entries)) same ∙ is_there (lookup (leaf_is leaf) old.entries) kept) in
+    let clash : false ≡ true = never in absurd cc

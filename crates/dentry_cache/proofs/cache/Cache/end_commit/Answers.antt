@@ -1,0 +1,8 @@
+use Rattle.std.proofs.Common.{◌∙◌, ap}
+use Rattle.commit_jobs.specs.Snap.{next_version}
+use Rattle.dentry_cache.proofs.CommitSteps.{committed}
+use Rattle.dentry_cache.proofs.cache.Cache.end_commit.Goals as goal
+
+pub returns-clause-settled : goal.returns-clause-settled
+returns-clause-settled g c =
+    committed _ c.args.encoded.now.job c.args.self.now _ _ _ _ c.job-job.ensures.job c.names-names.ensures (c.next_version-version.ensures ∙ ap next_version c.base.ensures.base) c.reserve_settled-ready.ensures.same c.settle.ensures

@@ -1,0 +1,20 @@
+use Rattle.std.specs.Map.{lookup}
+use Rattle.dentry_cache.specs.Cache.{leaf_is}
+use Rattle.dentry_cache.specs.Loading.{object_of}
+use Rattle.dentry_cache.proofs.UsedLaws.{fetched_from, left_alone, left_from, used_unsaved, was_absent}
+use Rattle.dentry_cache.proofs.cache.Cache.fetch.Goals as goal
+
+pub returns-then-touch-clause-unsaved : goal.returns-then-touch-clause-unsaved
+returns-then-touch-clause-unsaved g c = used_unsaved (c.args.dir, c.args.frag) c.args.self.now _ _ c.touch.ensures
+
+pub returns-clause-fetched : goal.returns-clause-fetched
+returns-clause-fetched g c =
+    fetched_from c.args.stay (c.args.dir, c.args.frag) (object_of (g.S.Store.objects c.args.store.now) c.args.dir c.args.frag) c.args.self.now _ _
+    (left_alone (c.args.dir, c.args.frag) c.args.self.now _ _ (lookup (leaf_is (c.args.dir, c.args.frag)) c.args.self.now.entries) c.touch.ensures c.if-touch.false) _
+    (was_absent (c.args.dir, c.args.frag) c.args.self.now _ _ (lookup (leaf_is (c.args.dir, c.args.frag)) c.args.self.now.entries) c.touch.ensures c.if-touch.false) c.fetch_absent.result c.fetch_absent.ensures.fetched
+
+pub returns-clause-left : goal.returns-clause-left
+returns-clause-left g c =
+    left_from c.args.stay (c.args.dir, c.args.frag) (object_of (g.S.Store.objects c.args.store.now) c.args.dir c.args.frag) c.args.self.now _ _
+    (left_alone (c.args.dir, c.args.frag) c.args.self.now _ _ (lookup (leaf_is (c.args.dir, c.args.frag)) c.args.self.now.entries) c.touch.ensures c.if-touch.false) _
+    (was_absent (c.args.dir, c.args.frag) c.args.self.now _ _ (lookup (leaf_is (c.args.dir, c.args.frag)) c.args.self.now.entries) c.touch.ensures c.if-touch.false) c.fetch_absent.result c.fetch_absent.ensures.left

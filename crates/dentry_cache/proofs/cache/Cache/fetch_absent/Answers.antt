@@ -1,0 +1,18 @@
+use Rattle.dentry_cache.specs.Loading.{object_of}
+use Rattle.dentry_cache.proofs.UsedLaws.{fetched_unsaved, on_err, on_ok, left_with, still_absent, takes}
+use Rattle.dentry_cache.proofs.cache.Cache.fetch_absent.Goals as goal
+
+pub hold-requires-clause-absent : goal.hold-requires-clause-absent
+hold-requires-clause-absent g c = still_absent c.args.stay c.args.self.now _ (c.args.dir, c.args.frag) c.in_ok-make_room.ensures.room c.requires.absent
+
+pub returns-clause-fetched : goal.returns-clause-fetched
+returns-clause-fetched g c =
+    on_ok c.hold.result (λ is. (c.in_ok-loaded.loaded, c.in_ok-loaded.ensures.loaded, takes c.args.stay (c.args.dir, c.args.frag) _ c.args.self.now _ _ c.in_ok-make_room.ensures.room is)) c.hold.ensures.ok
+
+pub returns-clause-left : goal.returns-clause-left
+returns-clause-left g c = on_err c.hold.result (λ is. left_with c.args.stay c.args.self.now _ _ c.in_ok-make_room.ensures.room is) c.hold.ensures.err
+
+pub returns-clause-unsaved : goal.returns-clause-unsaved
+returns-clause-unsaved g c =
+    fetched_unsaved c.hold.result c.args.frag (object_of (g.S.Store.objects c.args.store.now) c.args.dir c.args.frag) c.in_ok-loaded.loaded (c.args.dir, c.args.frag) c.args.self.now _ _ c.in_ok-loaded.ensures.loaded
+    (still_absent c.args.stay c.args.self.now _ (c.args.dir, c.args.frag) c.in_ok-make_room.ensures.room c.requires.absent) c.make_room.ensures.unsaved c.hold.ensures.ok c.hold.ensures.err

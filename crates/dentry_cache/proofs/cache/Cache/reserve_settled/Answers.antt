@@ -1,0 +1,11 @@
+use Rattle.std.proofs.Common.{◌∙◌, refl, sym, ap}
+use Rattle.std.specs.Option.{option_copied_mut}
+use Rattle.dentry_cache.specs.Cache.{cached}
+use Rattle.dentry_cache.proofs.CommitSteps.{OnlyPlaces}
+use Rattle.dentry_cache.proofs.EditLaws.{changed}
+use Rattle.dentry_cache.proofs.cache.Cache.reserve_settled.Goals as goal
+
+pub returns-clause-same : goal.returns-clause-same
+returns-clause-same c =
+    changed (c.args.dir, c.args.frag) c.args.self.now _ _ _ c.touch.ensures c.self.view_is
+    OnlyPlaces (cached c.args.self.now.entries (c.args.dir, c.args.frag)) c.in-Some.place.now _ refl c.requires (ap option_copied_mut (sym c.in-Some.is) ∙ c.peek_mut.ensures.value) c.reserve_settled.ensures.same

@@ -1,0 +1,15 @@
+use Rattle.std.proofs.Common.{◌≤◌, ◌∙◌, refl, sym, ap}
+use Rattle.std.specs.FinMap as map
+use Rattle.std.specs.Option.{option_copied_mut}
+use Rattle.cached_frag.specs.Cached.{Cached}
+use Rattle.dentry_cache.specs.Cache.{cached}
+use Rattle.dentry_cache.specs.Commits.{IsSettled}
+use Rattle.dentry_cache.proofs.EditLaws.{changed, there_with}
+use Rattle.dentry_cache.proofs.cache.Cache.settle.Goals as goal
+
+pub returns : goal.returns
+returns c =
+    changed (c.args.dir, c.args.frag) c.args.self.now _ _ _ c.touch.ensures c.self.view_is
+    (IsSettled c.args.names.now c.args.version) (cached c.args.self.now.entries (c.args.dir, c.args.frag)) c.in-Some.place.now _ refl
+    (there_with (λ (f : Cached). map.len c.args.names.now ≤ f.places) (cached c.args.self.now.entries (c.args.dir, c.args.frag)) c.requires) (ap option_copied_mut (sym c.in-Some.is) ∙ c.peek_mut.ensures.value)
+    (record { based = c.settle.ensures.base; generation = c.settle.ensures.generation; dirty = c.settle.ensures.dirty; shown = c.settle.ensures.shown })

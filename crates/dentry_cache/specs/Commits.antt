@@ -1,0 +1,31 @@
+-- What a commit takes of a cached fragment, and what it leaves.
+use Rattle.std.specs.Prelude.{◌≡◌, ℕ, true, false, List, Option, Some, None}
+use Rattle.mds_types.specs.Frag.{Fragment}
+use Rattle.mds_types.specs.ObjectText.{object_text}
+use Rattle.mds_types.specs.declared.ids.Ino.{Ino}
+use Rattle.mds_types.specs.declared.object_names.ObjName.TheVariants.{Frag as FragOf}
+use Rattle.commit_jobs.specs.declared.bases.Base.TheVariants.{Stored}
+use Rattle.commit_jobs.specs.Marks.{Marks}
+use Rattle.commit_jobs.specs.Snap.{Snap, next_version}
+use Rattle.cached_frag.specs.Cached.{Cached, is_clean, shown, snapshot_of, unsettled}
+
+-- the text that names a leaf's object
+abbrev pub leaf_text : Ino → Fragment → List ℕ
+leaf_text dir frag = object_text (FragOf dir frag)
+
+-- nothing is taken of a clean fragment; of any other its base, its dirty names and its entry counts
+abbrev pub Takes : Option Snap → Cached → Type 0
+Takes None f = is_clean f ≡ true
+Takes (Some snapshot) f = (is_clean f ≡ false) × (snapshot ≡ snapshot_of f)
+
+-- a fragment whose object has these names at their versions, and is at this commit version: exactly those names became clean whose
+-- last change the object has, and it shows what it showed
+pub record IsSettled (names : Marks) (version : ℕ) (f now : Cached) : Type 0 where
+  pub based : now.base ≡ Stored version
+  pub generation : now.generation ≡ f.generation
+  pub dirty : now.dirty ≡ unsettled f.dirty names
+  pub shown : shown now ≡ shown f
+
+-- a fragment whose snapshot was committed
+abbrev pub IsCommitted : Snap → Cached → Cached → Type 0
+IsCommitted snapshot f now = IsSettled snapshot.names (next_version snapshot.base) f now

@@ -1,0 +1,5 @@
+pub mod Cache
+pub mod Commits
+pub mod Loading
+pub mod Pairs
+pub mod Ties

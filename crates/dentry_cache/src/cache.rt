@@ -1,0 +1,86 @@
+//! `Cache`, what a contract sees of it, and the calls that read it.
+ghost use Rattle.std.specs.Prelude.{◌≡◌, ◌≤◌, [], length, is_some, IfOk, option_copied};
+ghost use Rattle.std.specs.Map.{lookup};
+ghost use Rattle.lru.specs.LruCache.{lru_cache};
+ghost use Rattle.dentry_cache.specs.Cache.{IsUsed, cached, leaf_is};
+
+use cached_frag::CachedFrag;
+use lru::LruCache;
+use mds_types::{Frag, Ino};
+use std::alloc::{AllocError, Global};
+use std::marker::Model;
+use std::num::NonZeroUsize;
+
+/// A place of a cache.
+#[derive(Debug, Drop)]
+pub struct Place {
+    /// The fragment; in a place that is kept, a fresh one with no names, which isn't there yet.
+    pub frag: CachedFrag,
+    /// Whether the place is kept for a fragment that will be made.
+    pub kept: bool,
+}
+
+/// Cached fragments, in the order of their use.
+#[derive(Drop)]
+pub struct Cache {
+    pub(crate) places: LruCache<(Ino, Frag), Place>,
+}
+
+impl Model for Cache {
+    ghost use Rattle.std.specs.Coded.{codes};
+    ghost use Rattle.std.specs.FinMap as map;
+    ghost use Rattle.dentry_cache.specs.Cache.{Held};
+
+    ghost Value = { Held };
+
+    ghost coded = { Prim.hlevel (codes, map.code) };
+
+    ghost view = { λ c. c.places };
+}
+
+impl Cache {
+    /// A cache with so many places, none of them taken. Takes little memory.
+    pub fn new(alloc: Global, places: usize) -> Result<Cache, AllocError>
+        requires few { 512 ≤ places }
+        requires many { places ≤ 65536 }
+        ensures { IfOk result (λ cache. cache ≡ lru_cache [] places) }
+    {
+        match NonZeroUsize::new(places) {
+            Some(cap) => Ok(Cache {
+                places: LruCache::sparse(alloc, cap)?,
+            }),
+            None => unreachable!(),
+        }
+    }
+
+    /// How many places it has.
+    pub fn capacity(&self) -> usize
+        ensures { result ≡ self.now.cap }
+    {
+        self.places.cap().get()
+    }
+
+    /// How many places are taken.
+    pub fn len(&self) -> usize
+        ensures { result ≡ length self.now.entries }
+    {
+        self.places.len()
+    }
+
+    /// Makes a leaf's place the most recently used, and tells whether it has one.
+    pub fn touch(&mut self, dir: Ino, frag: Frag) -> bool
+        ensures { IsUsed (lookup (leaf_is (dir, frag)) self.old.entries) (dir, frag) self.old self.new result }
+    {
+        self.places.promote(&(dir, frag))
+    }
+
+    /// The cached fragment. The order of use stays.
+    pub fn get(&self, dir: Ino, frag: Frag) -> Option<&CachedFrag>
+        ensures { option_copied result ≡ cached self.now.entries (dir, frag) }
+    {
+        match self.places.peek(&(dir, frag)) {
+            Some(place) if !place.kept => Some(&place.frag),
+            _ => None,
+        }
+    }
+}

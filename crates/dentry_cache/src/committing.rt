@@ -1,0 +1,128 @@
+//! Commits of cached fragments.
+ghost use Rattle.std.specs.Prelude.{◌≡◌, ◌≤◌, ◌⊎◌, ◌↔◌, IsTrue, Option, OnOk, OnErr, IfOk, IfErr};
+ghost use Rattle.std.specs.FinMap as map;
+ghost use Rattle.mds_types.specs.declared.refusals.Refusal.TheVariants.{NoInodes, NoMemory};
+ghost use Rattle.objstore.specs.Objects.{MayRefuse, written};
+ghost use Rattle.commit_jobs.specs.Snap.{IsBelowEnd};
+ghost use Rattle.cached_frag.specs.Cached.{Cached};
+ghost use Rattle.dentry_cache.specs.Cache.{HasCached, IsChanged, IsThere, cached};
+ghost use Rattle.dentry_cache.specs.Commits.{IsSettled, IsCommitted, Takes, leaf_text};
+
+use crate::cache::Cache;
+use cached_frag::CachedFrag;
+use commit_jobs::{Base, DirtyNames, Encoded, Snapshot};
+use mds_types::{Frag, Ino, ObjName, Refusal};
+use objstore::Store;
+use std::alloc::{AllocError, Global};
+
+impl Cache {
+    /// A snapshot of a fragment as it stands; none, where it is clean. Takes memory for the dirty names.
+    ///
+    /// Refused `NoInodes` where no commit version is left for one that isn't clean, and `NoMemory`.
+    pub fn begin_commit(&mut self, dir: Ino, frag: Frag) -> Result<Option<Snapshot>, Refusal>
+        requires { IsThere (cached self.old.entries (dir, frag)) }
+        ensures taken { IfOk result (λ taken. HasCached (cached self.old.entries (dir, frag)) (Takes taken)) }
+        ensures refused { IfErr result (λ refusal. (refusal ≡ NoMemory) ⊎ ((refusal ≡ NoInodes) × HasCached (cached self.old.entries (dir, frag)) (λ (f : Cached). IsBelowEnd f.base → ⊥))) }
+        ensures used { IsChanged (cached self.old.entries (dir, frag)) (λ (f now : Cached). now ≡ f) (dir, frag) self.old self.new }
+    {
+        let _ = self.touch(dir, frag);
+        match self.get(dir, frag) {
+            Some(fragment) => snapshot_of(fragment),
+            None => Ok(None),
+        }
+    }
+
+    /// Writes a snapshot of a fragment to its object, in one operation. What was dirty at the snapshot's versions is clean
+    /// then; what changed since stays dirty. Takes memory before it writes.
+    ///
+    /// Refused as the store refuses the write, and `NoMemory`. Object and names stay as they were then.
+    pub fn end_commit<S: Store>(
+        &mut self,
+        alloc: Global,
+        store: &mut S,
+        encoded: &Encoded,
+    ) -> Result<(), Refusal>
+        requires { IsThere (cached self.old.entries (encoded.now.job.ino, encoded.now.job.frag)) }
+        ensures written { OnOk result (S.objects store.new ≡ written (S.objects store.old) (leaf_text encoded.now.job.ino encoded.now.job.frag) encoded.now.op) }
+        ensures settled { OnOk result (IsChanged (cached self.old.entries (encoded.now.job.ino, encoded.now.job.frag)) (IsCommitted encoded.now.job.snapshot) (encoded.now.job.ino, encoded.now.job.frag) self.old self.new) }
+        ensures same { OnErr result (S.objects store.new ≡ S.objects store.old) }
+        ensures kept { OnErr result (IsChanged (cached self.old.entries (encoded.now.job.ino, encoded.now.job.frag)) (λ (f now : Cached). now ≡ record f { places = now.places }) (encoded.now.job.ino, encoded.now.job.frag) self.old self.new) }
+        ensures refused { IfErr result (MayRefuse (S.faults store.old) (S.faults store.new)) }
+        ensures grows { S.faults store.old ≤ S.faults store.new }
+    {
+        let job = encoded.job();
+        let names = job.snapshot.names();
+        let version = job.snapshot.base().next_version();
+        let ready = self.reserve_settled(job.ino, job.frag, names.len());
+        if ready.is_err() {
+            return Err(Refusal::NoMemory);
+        }
+        if let Err(refusal) = write(alloc, store, encoded) {
+            return Err(refusal);
+        }
+        self.settle(job.ino, job.frag, names, version);
+        Ok(())
+    }
+
+    // Makes room for so many names of a fragment to become clean.
+    fn reserve_settled(&mut self, dir: Ino, frag: Frag, names: usize) -> Result<(), AllocError>
+        requires { IsThere (cached self.old.entries (dir, frag)) }
+        ensures same { IsChanged (cached self.old.entries (dir, frag)) (λ (f now : Cached). now ≡ record f { places = now.places }) (dir, frag) self.old self.new }
+        ensures room { OnOk result (HasCached (cached self.new.entries (dir, frag)) (λ (f : Cached). names ≤ f.places)) }
+    {
+        let _ = self.touch(dir, frag);
+        let Some(place) = self.places.peek_mut(&(dir, frag)) else {
+            return Ok(());
+        };
+        place.frag.reserve_settled(names)
+    }
+
+    // Makes the names of a snapshot clean that haven't changed since.
+    fn settle(&mut self, dir: Ino, frag: Frag, names: &DirtyNames, version: u64)
+        requires { HasCached (cached self.old.entries (dir, frag)) (λ (f : Cached). map.len names.now ≤ f.places) }
+        ensures { IsChanged (cached self.old.entries (dir, frag)) (IsSettled names.now version) (dir, frag) self.old self.new }
+    {
+        let _ = self.touch(dir, frag);
+        let Some(place) = self.places.peek_mut(&(dir, frag)) else {
+            return;
+        };
+        place.frag.settle(names, version);
+    }
+}
+
+// The snapshot of a fragment; none, where it is clean.
+fn snapshot_of(fragment: &CachedFrag) -> Result<Option<Snapshot>, Refusal>
+    ensures taken { IfOk result (λ taken. Takes taken fragment.now) }
+    ensures refused { IfErr result (λ refusal. (refusal ≡ NoMemory) ⊎ ((refusal ≡ NoInodes) × (IsBelowEnd fragment.now.base → ⊥))) }
+{
+    if fragment.is_clean() {
+        return Ok(None);
+    }
+    if !is_below_end(fragment.base()) {
+        return Err(Refusal::NoInodes);
+    }
+    Ok(Some(fragment.snapshot()?))
+}
+
+// Whether another commit version can follow.
+fn is_below_end(base: Base) -> bool
+    ensures { IsTrue result ↔ IsBelowEnd base }
+{
+    match base {
+        Base::Fresh => true,
+        Base::Stored(version) => version < u64::MAX,
+    }
+}
+
+// Writes a job's object.
+fn write<S: Store>(alloc: Global, store: &mut S, encoded: &Encoded) -> Result<(), Refusal>
+    ensures written { OnOk result (S.objects store.new ≡ written (S.objects store.old) (leaf_text encoded.now.job.ino encoded.now.job.frag) encoded.now.op) }
+    ensures same { OnErr result (S.objects store.new ≡ S.objects store.old) }
+    ensures refused { IfErr result (MayRefuse (S.faults store.old) (S.faults store.new)) }
+    ensures grows { S.faults store.old ≤ S.faults store.new }
+{
+    let job = encoded.job();
+    let name = ObjName::Frag(job.ino, job.frag);
+    let text = format!(in alloc; "{name}")?;
+    store.apply(alloc, text.as_str(), encoded.op())
+}

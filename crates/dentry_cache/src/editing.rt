@@ -1,0 +1,50 @@
+//! Names of cached fragments: read, listed and changed. Each use makes its fragment the most recently used.
+ghost use Rattle.std.specs.Prelude.{◌≡◌, ◌≤◌, Some, None, OnOk, OnErr};
+ghost use Rattle.dirfrag_codec.specs.EntryRecord.{IsRecordable};
+ghost use Rattle.cached_frag.specs.Cached.{Cached, marked};
+ghost use Rattle.dentry_cache.specs.Cache.{HasRoom, IsChanged, IsThere, cached};
+
+use crate::cache::Cache;
+use mds_types::{Frag, Ino, Inode, Name};
+use std::alloc::AllocError;
+
+impl Cache {
+    /// Gives a name of a fragment this inode, whether it was there or not. The name is dirty then, at this version. Takes
+    /// no memory.
+    pub fn put(&mut self, dir: Ino, frag: Frag, name: Name, inode: Inode, version: u64)
+        requires recordable { IsRecordable inode }
+        requires room { HasRoom (cached self.old.entries (dir, frag)) }
+        ensures { IsChanged (cached self.old.entries (dir, frag)) (λ (f now : Cached). now ≡ marked f name (record { version = version; inode = Some inode })) (dir, frag) self.old self.new }
+    {
+        let _ = self.touch(dir, frag);
+        let Some(place) = self.places.peek_mut(&(dir, frag)) else {
+            return;
+        };
+        place.frag.put(name, inode, version);
+    }
+
+    /// Removes a name of a fragment, whether it was there or not. The name is dirty then, at this version. Takes no memory.
+    pub fn erase(&mut self, dir: Ino, frag: Frag, name: Name, version: u64)
+        requires { HasRoom (cached self.old.entries (dir, frag)) }
+        ensures { IsChanged (cached self.old.entries (dir, frag)) (λ (f now : Cached). now ≡ marked f name (record { version = version; inode = None })) (dir, frag) self.old self.new }
+    {
+        let _ = self.touch(dir, frag);
+        let Some(place) = self.places.peek_mut(&(dir, frag)) else {
+            return;
+        };
+        place.frag.erase(name, version);
+    }
+
+    /// Makes room for so many changes of names of a fragment.
+    pub fn reserve(&mut self, dir: Ino, frag: Frag, changes: usize) -> Result<(), AllocError>
+        requires { IsThere (cached self.old.entries (dir, frag)) }
+        ensures same { IsChanged (cached self.old.entries (dir, frag)) (λ (f now : Cached). (now ≡ record f { room = now.room }) × (f.room ≤ now.room)) (dir, frag) self.old self.new }
+        ensures room { OnOk result (IsChanged (cached self.old.entries (dir, frag)) (λ (f now : Cached). changes ≤ now.room) (dir, frag) self.old self.new) }
+    {
+        let _ = self.touch(dir, frag);
+        let Some(place) = self.places.peek_mut(&(dir, frag)) else {
+            return Ok(());
+        };
+        place.frag.reserve(changes)
+    }
+}

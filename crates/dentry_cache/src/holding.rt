@@ -1,0 +1,75 @@
+//! Places kept for fragments that will be made, filled, and given up.
+ghost use Rattle.std.specs.Prelude.{◌≡◌, ◌⊎◌, None, OnOk, OnErr, IfErr};
+ghost use Rattle.std.specs.Map.{lookup};
+ghost use Rattle.mds_types.specs.declared.refusals.Refusal.TheVariants.{NoMemory, NothingToEvict};
+ghost use Rattle.dentry_cache.specs.Cache.{IsFull, IsKeptFor, MayMakeRoom, TakesPlace, cached, held, kept_place, leaf_is, unsaved, used_as, without};
+
+use crate::cache::{Cache, Place};
+use cached_frag::CachedFrag;
+use mds_types::{Frag, Ino, Refusal};
+use std::alloc::Global;
+
+impl Cache {
+    /// Keeps a place for a fragment that will be made. Where no place is free the least recently used of the clean
+    /// fragments goes, but for the one that is to stay. Takes memory for the place.
+    ///
+    /// Refused `NothingToEvict` where no fragment can go, and `NoMemory`. The leaf has no place then; a clean fragment may
+    /// have gone.
+    pub fn keep(
+        &mut self,
+        alloc: Global,
+        dir: Ino,
+        frag: Frag,
+        stay: Option<(Ino, Frag)>,
+    ) -> Result<(), Refusal>
+        requires { lookup (leaf_is (dir, frag)) self.old.entries ≡ None }
+        ensures kept { OnOk result (TakesPlace stay (dir, frag) kept_place self.old self.new) }
+        ensures left { OnErr result (MayMakeRoom stay self.old self.new) }
+        ensures refused { IfErr result (λ refusal. (refusal ≡ NoMemory) ⊎ ((refusal ≡ NothingToEvict) × IsFull stay self.old)) }
+        ensures unsaved { unsaved self.new.entries ≡ unsaved self.old.entries }
+    {
+        if let Err(refusal) = self.make_room(stay) {
+            return Err(refusal);
+        }
+        self.hold(
+            dir,
+            frag,
+            Place {
+                frag: CachedFrag::fresh(alloc, 0),
+                kept: true,
+            },
+        )
+    }
+
+    /// Puts a fragment into the place that is kept for it, as the most recently used one. Takes no memory.
+    pub fn fill(&mut self, dir: Ino, frag: Frag, fragment: CachedFrag)
+        requires { IsKeptFor (lookup (leaf_is (dir, frag)) self.old.entries) }
+        ensures { self.new ≡ used_as (dir, frag) (held fragment) self.old }
+    {
+        let _ = self.places.put(
+            (dir, frag),
+            Place {
+                frag: fragment,
+                kept: false,
+            },
+        );
+    }
+
+    /// Gives up a leaf's place, with the fragment that is in it. A leaf that has none changes nothing. Takes no memory.
+    pub fn forget(&mut self, dir: Ino, frag: Frag)
+        ensures { self.new ≡ without (dir, frag) self.old }
+    {
+        drop(self.places.pop(&(dir, frag)));
+    }
+
+    /// Takes a fragment out. A place that is kept is given up.
+    pub fn take(&mut self, dir: Ino, frag: Frag) -> Option<CachedFrag>
+        ensures taken { result ≡ cached self.old.entries (dir, frag) }
+        ensures without { self.new ≡ without (dir, frag) self.old }
+    {
+        match self.places.pop(&(dir, frag)) {
+            Some(place) if !place.kept => Some(place.frag),
+            _ => None,
+        }
+    }
+}

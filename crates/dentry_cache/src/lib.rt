@@ -1,0 +1,16 @@
+//! A rank's cache: whole fragments of directories, the least recently used of which goes where a place is needed. What
+//! isn't clean stays.
+#![tactic(auto)]
+
+mod cache;
+mod committing;
+mod editing;
+mod eviction;
+mod fetching;
+mod holding;
+pub mod laws;
+mod loading;
+mod pairs;
+mod reading;
+
+pub use cache::{Cache, Place};
