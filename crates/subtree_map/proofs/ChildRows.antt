@@ -80,6 +80,6 @@ no_split d f nb old new none is = record {
   made = λ leaf some. inl (ap (λ m. is_some (map.get m leaf)) (sym is) ∙ some);
 }
 
-pub room_left : {A : Type 0} (o : Option A) (room left : ℕ) → left ≡ (if is_some o then room else room - 1) → room ≤ left + 1
+pub room_left : {A : Type 0} (o : Option A) (room left : ℕ) → (if is_some o then room else room - 1) ≤ left → room ≤ left + 1
 room_left None room left is = omega (arith, is)
 room_left (Some x) room left is = omega (arith, is)

@@ -1,5 +1,5 @@
 -- Rows taken out one after the other.
-use Rattle.std.specs.Prelude.{◌≡◌, ◌≢◌, ℕ, zero, suc, ◌+◌, ◌-◌, ◌<◌, cond, true, false, Option, Some, None, IsSome, is_some, refl}
+use Rattle.std.specs.Prelude.{◌≡◌, ◌≢◌, ℕ, zero, suc, ◌+◌, ◌-◌, ◌<◌, ◌≤◌, cond, true, false, Option, Some, None, IsSome, is_some, refl}
 use Rattle.std.proofs.Common.{inl, inr, sym, ap, ◌∙◌, arith}
 use Rattle.std.proofs.lemmas.Bool.Decides.{nat_tests}
 use Rattle.std.specs.FinMap as map
@@ -14,10 +14,10 @@ use Rattle.subtree_map.specs.Rows.{AreTakenOut}
 use Rattle.subtree_map.proofs.LeafKeys.{leaf-total, same_or_apart, get_put, get_beside, get_removed, get_left, not_none, value_of}
 use Rattle.subtree_map.proofs.Merged.{inside_of}
 
--- what has been taken out so far: nothing, or the root of a rank, which gave its room
+-- what has been taken out so far: nothing, or the root of a rank, which took no room
 abbrev pub Found : Shown Leaf Rank → Shown Leaf Rank → ℕ → Fragment → Option Rank → Type 0
 Found old now d f None = now ≡ old
-Found old now d f (Some rank) = ((leaf : Leaf) × (is_inside d f leaf ≡ true) × (map.get (contents leaf_cmp old) leaf ≡ Some rank)) × (old.room < now.room)
+Found old now d f (Some rank) = ((leaf : Leaf) × (is_inside d f leaf ≡ true) × (map.get (contents leaf_cmp old) leaf ≡ Some rank)) × (old.room ≤ now.room)
 
 -- a map that loses a key gets shorter
 pub shorter : (rows now : Roots) (leaf : Leaf) → IsSome (map.get rows leaf) → now ≡ map.remove rows leaf → map.len now < map.len rows
@@ -45,7 +45,7 @@ stays_there rows now gone leaf rank is has = elim (same_or_apart leaf gone) [
 
 -- the next root inside is found
 pub found_next : (old now next : Shown Leaf Rank) (d : ℕ) (f : Fragment) (root : Leaf) (before after : Option Rank) → Found old now d f before → is_inside d f root ≡ true → IsSome (map.get (contents leaf_cmp now) root)
-    → ((leaf : Leaf) (rank : Rank) → map.get (contents leaf_cmp now) leaf ≡ Some rank → map.get (contents leaf_cmp old) leaf ≡ Some rank) → after ≡ map.get (contents leaf_cmp now) root → next.room ≡ now.room + 1 → Found old next d f after
+    → ((leaf : Leaf) (rank : Rank) → map.get (contents leaf_cmp now) leaf ≡ Some rank → map.get (contents leaf_cmp old) leaf ≡ Some rank) → after ≡ map.get (contents leaf_cmp now) root → now.room ≤ next.room → Found old next d f after
 found_next old now next d f root before after found inside there fewer is room = go after is before found
   where
     some : (rank : Rank) → Some rank ≡ map.get (contents leaf_cmp now) root → (leaf : Leaf) × (is_inside d f leaf ≡ true) × (map.get (contents leaf_cmp old) leaf ≡ Some rank)

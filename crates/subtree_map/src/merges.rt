@@ -1,5 +1,5 @@
 //! The roots where leaves are merged.
-ghost use Rattle.std.specs.Prelude.{◌≡◌, ◌<◌, ◌≤◌, true, None, IsSome, MatchOption};
+ghost use Rattle.std.specs.Prelude.{◌≡◌, ◌+◌, ◌<◌, ◌≤◌, true, None, IsSome, MatchOption};
 ghost use Rattle.std.specs.FinMap as map;
 ghost use Rattle.sorted_map.specs.SortedMap.{contents};
 ghost use Rattle.mds_types.specs.Frag.{IsFragment};
@@ -14,12 +14,14 @@ use sorted_map::SortedMap;
 
 impl Subtrees {
     /// The leaves of a directory properly inside a fragment are merged: if one of them is a root, the merged leaf is a root of
-    /// its rank, and none of them is one any more. The caller sees to it that they have one authority. Takes no memory.
+    /// its rank, for which there has to be room, and none of them is one any more. The caller sees to it that they have one
+    /// authority. Takes no memory.
     pub fn merge_roots(&mut self, dir: Ino, frag: Frag)
+        requires room { 0 < self.old.room }
         ensures roots { IsRootMerge self.old.roots self.new.roots dir.0 frag }
         ensures authority { MergesSoundly self.old.roots self.new.roots dir.0 frag }
         ensures promises { self.new.promises ≡ self.old.promises }
-        ensures room { self.old.room ≤ self.new.room }
+        ensures room { self.old.room ≤ self.new.room + 1 }
     {
         merge_rows(&mut self.roots, dir, frag);
     }
@@ -27,8 +29,9 @@ impl Subtrees {
 
 // Puts the fragment in the place of the roots inside it, if there are any.
 fn merge_rows(roots: &mut SortedMap<(Ino, Frag), Rank>, dir: Ino, frag: Frag)
+    requires room { 0 < roots.old.room }
     ensures roots { IsRootMerge (contents leaf_cmp roots.old) (contents leaf_cmp roots.new) dir.0 frag }
-    ensures room { roots.old.room ≤ roots.new.room }
+    ensures room { roots.old.room ≤ roots.new.room + 1 }
 {
     if let Some(rank) = take_inside(roots, dir, frag) {
         let _ = roots.insert((dir, frag), rank);
@@ -38,7 +41,7 @@ fn merge_rows(roots: &mut SortedMap<(Ino, Frag), Rank>, dir: Ino, frag: Frag)
 // Takes out the roots inside a fragment, and returns the rank of the last of them.
 fn take_inside(roots: &mut SortedMap<(Ino, Frag), Rank>, dir: Ino, frag: Frag) -> Option<Rank>
     ensures taken { AreTakenOut (contents leaf_cmp roots.old) (contents leaf_cmp roots.new) dir.0 frag result }
-    ensures room { MatchOption result (roots.new ≡ roots.old) (λ rank. roots.old.room < roots.new.room) }
+    ensures room { MatchOption result (roots.new ≡ roots.old) (λ rank. roots.old.room ≤ roots.new.room) }
 {
     let mut found = None;
     while let Some(root) = root_inside(roots, dir, frag) {

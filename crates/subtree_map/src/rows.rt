@@ -1,5 +1,5 @@
 //! Rows of a map from leaves to ranks.
-ghost use Rattle.std.specs.Prelude.{◌≡◌, ◌+◌, None, IsSome};
+ghost use Rattle.std.specs.Prelude.{◌≡◌, ◌≤◌, None};
 ghost use Rattle.std.specs.Ordering.{is_lt};
 ghost use Rattle.std.specs.FinMap as map;
 ghost use Rattle.sorted_map.specs.SortedMap.{contents, is_from};
@@ -34,7 +34,7 @@ pub fn take_row(rows: &mut SortedMap<(Ino, Frag), Rank>, dir: Ino, frag: Frag) -
     ensures value { result ≡ map.get (contents leaf_cmp rows.old) (dir, frag) }
     ensures removed { contents leaf_cmp rows.new ≡ map.remove (contents leaf_cmp rows.old) (dir, frag) }
     ensures absent { map.get (contents leaf_cmp rows.old) (dir, frag) ≡ None → rows.new ≡ rows.old }
-    ensures room { IsSome (map.get (contents leaf_cmp rows.old) (dir, frag)) → rows.new.room ≡ rows.old.room + 1 }
+    ensures room { rows.old.room ≤ rows.new.room }
 {
     Some(rows.remove(&(dir, frag))?.1)
 }

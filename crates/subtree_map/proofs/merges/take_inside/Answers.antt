@@ -17,5 +17,5 @@ loop-root-preserved c = record {
   fewer = λ leaf rank has. c.loop-root.invariant.fewer leaf rank (stays_there (contents leaf_cmp c.loop-root.roots) _ c.in-Some.root leaf rank c.take_row-found.ensures.removed has);
   found =
       found_next c.args.roots.now c.loop-root.roots c.take_row-found.new.rows c.args.dir.0 c.args.frag c.in-Some.root _ _ c.loop-root.invariant.found c.in-Some.ensures.0 c.in-Some.ensures.1 c.loop-root.invariant.fewer
-      c.take_row-found.ensures.value (c.take_row-found.ensures.room c.in-Some.ensures.1);
+      c.take_row-found.ensures.value c.take_row-found.ensures.room;
 }

@@ -10,5 +10,5 @@ loop-leaf-smaller c = shorter (contents leaf_cmp c.loop-leaf.rows) _ c.in-Some.l
 pub loop-leaf-preserved : goal.loop-leaf-preserved
 loop-leaf-preserved c = record {
   others = λ leaf apart. other_stays (contents leaf_cmp c.loop-leaf.rows) _ c.in-Some.leaf leaf c.take_row.ensures.removed (λ same. apart (ap (λ (k : Leaf). k.0.0) same ∙ c.in-Some.ensures.0)) ∙ c.loop-leaf.invariant.others leaf apart;
-  room = omega (arith, c.take_row.ensures.room c.in-Some.ensures.1, c.loop-leaf.invariant.room);
+  room = omega (arith, c.take_row.ensures.room, c.loop-leaf.invariant.room);
 }
