@@ -152,6 +152,9 @@ fn merge(alloc: Global, subtrees: &mut Subtrees, dirs: &mut Dirs, dir: Ino) -> b
     if !give(dirs, dir, FragTree::whole(alloc).ok()) {
         return false;
     }
+    if subtrees.reserve(1).is_err() {
+        return false;
+    }
     subtrees.merge_roots(dir, Frag::ROOT);
     true
 }
