@@ -1,0 +1,4 @@
+//! The cache by hand-known answers.
+
+mod counting_stores;
+mod fixtures;
