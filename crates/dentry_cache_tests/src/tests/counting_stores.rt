@@ -6,6 +6,7 @@ use omap::{Bytes, Page, WriteOp};
 use std::alloc::Global;
 
 /// A store in memory, with how many headers and how many pages were asked of it.
+#[derive(Debug, Drop)]
 pub struct CountingStore {
     pub store: MemStore,
     pub headers: u64,
