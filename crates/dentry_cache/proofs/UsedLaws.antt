@@ -13,7 +13,7 @@ use Rattle.omap.specs.Omap.{Omap, key_cmp}
 use Rattle.commit_jobs.specs.declared.marks.Mark.{Mark}
 use Rattle.cached_frag.specs.Cached.{Cached, is_clean}
 use Rattle.dentry_cache.specs.declared.cache.Place.{Place}
-use Rattle.dentry_cache.specs.Cache.{Evicts, Held, IsKeptFor, IsUsed, Leaf, MakesRoom, MayMakeRoom, Places, TakesPlace, cached, fragment_in, held, leaf_is, unsaved, unsaved_in, used_as}
+use Rattle.dentry_cache.specs.Cache.{Evicts, Held, IsUsed, Leaf, MakesRoom, MayMakeRoom, Places, TakesPlace, cached, fragment_in, held, is_kept, leaf_is, unsaved, unsaved_in, used_as}
 use Rattle.dentry_cache.specs.Loading.{IsFetched, IsNotFetched, Loads}
 use Rattle.dentry_cache.proofs.CacheLaws.{unsaved_alike, unsaved_same}
 use Rattle.dentry_cache.proofs.LeafLaws.{flips, one_leaf}
@@ -193,16 +193,16 @@ module _ (stay : Option Leaf) (leaf : Leaf) (object : Option Omap) (old mid new 
 
 -- ---- a place that is filled
 
-filled_as : (leaf : Leaf) (place : Place) (old : Held) (o : Option Place) → lookup (leaf_is leaf) old.entries ≡ o → IsKeptFor o → lru_cache (put_entries leaf_is old leaf place) old.cap ≡ used_as leaf place old
+filled_as : (leaf : Leaf) (place : Place) (old : Held) (o : Option Place) → lookup (leaf_is leaf) old.entries ≡ o → is_kept o ≡ true → lru_cache (put_entries leaf_is old leaf place) old.cap ≡ used_as leaf place old
 filled_as leaf place old (Some kept) is h =
     ap (λ (e : Option (Leaf × Place)). lru_cache (option_map_or (λ e. (e.0, place) ∷ remove_entry (leaf_is leaf) old.entries) e ((leaf, place) ∷ take (old.cap - 1) old.entries)) old.cap) (entry_of_lookup leaf old.entries kept is)
-filled_as leaf place old None is h = absurd h
+filled_as leaf place old None is h = let clash : false ≡ true = h in cc
 
-is_there : (o : Option Place) → IsKeptFor o → is_some o ≡ true
+is_there : (o : Option Place) → is_kept o ≡ true → is_some o ≡ true
 is_there (Some kept) h = refl
-is_there None h = absurd h
+is_there None h = h
 
-pub filled : {A E : Type 0} (r : Result A E) (leaf : Leaf) (place : Place) (old mid new : Held) → mid ≡ old → IsKeptFor (lookup (leaf_is leaf) old.entries) → (is_some (lookup (leaf_is leaf) mid.entries) ≡ true → IsOk r)
+pub filled : {A E : Type 0} (r : Result A E) (leaf : Leaf) (place : Place) (old mid new : Held) → mid ≡ old → is_kept (lookup (leaf_is leaf) old.entries) ≡ true → (is_some (lookup (leaf_is leaf) mid.entries) ≡ true → IsOk r)
     → OnOk r (new ≡ lru_cache (put_entries leaf_is mid leaf place) mid.cap) → new ≡ used_as leaf place old
 filled (Ok x) leaf place old mid new same kept succeeds ok = ok ∙ ap (λ (h : Held). lru_cache (put_entries leaf_is h leaf place) h.cap) same ∙ filled_as leaf place old (lookup (leaf_is leaf) old.entries) refl kept
 filled (Err e) leaf place old mid new same kept succeeds ok =

@@ -85,9 +85,10 @@ held f = record { frag = f; kept = false }
 abbrev pub kept_place : Place
 kept_place = record { frag = record { base = Fresh; generation = 0; clean = finmap.empty; dirty = finmap.empty; room = 0; places = 0 }; kept = true }
 
-abbrev pub IsKeptFor : Option Place → Type 0
-IsKeptFor None = ⊥
-IsKeptFor (Some place) = place.kept ≡ true
+-- whether a place is kept
+abbrev pub is_kept : Option Place → Bool
+is_kept None = false
+is_kept (Some place) = place.kept
 
 -- the leaf has this in its place, and is the most recently used; the other places are as they were
 abbrev pub used_as : Leaf → Place → Held → Held

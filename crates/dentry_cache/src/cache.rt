@@ -2,7 +2,7 @@
 ghost use Rattle.std.specs.Prelude.{◌≡◌, ◌≤◌, [], length, is_some, IfOk, option_copied};
 ghost use Rattle.std.specs.Map.{lookup};
 ghost use Rattle.lru.specs.LruCache.{lru_cache};
-ghost use Rattle.dentry_cache.specs.Cache.{IsUsed, cached, leaf_is};
+ghost use Rattle.dentry_cache.specs.Cache.{IsUsed, cached, is_kept, leaf_is};
 
 use cached_frag::CachedFrag;
 use lru::LruCache;
@@ -72,6 +72,23 @@ impl Cache {
         ensures { IsUsed (lookup (leaf_is (dir, frag)) self.old.entries) (dir, frag) self.old self.new result }
     {
         self.places.promote(&(dir, frag))
+    }
+
+    /// Whether a leaf has a place, be there a fragment in it or not.
+    pub fn has_place(&self, dir: Ino, frag: Frag) -> bool
+        ensures { result ≡ is_some (lookup (leaf_is (dir, frag)) self.now.entries) }
+    {
+        self.places.contains(&(dir, frag))
+    }
+
+    /// Whether a place is kept for a leaf.
+    pub fn is_kept(&self, dir: Ino, frag: Frag) -> bool
+        ensures { result ≡ is_kept (lookup (leaf_is (dir, frag)) self.now.entries) }
+    {
+        match self.places.peek(&(dir, frag)) {
+            Some(place) => place.kept,
+            None => false,
+        }
     }
 
     /// The cached fragment. The order of use stays.

@@ -3,7 +3,7 @@ ghost use Rattle.std.specs.Prelude.{◌≡◌, ◌≤◌, ◌<◌, ◌∷◌, le
 ghost use Rattle.std.specs.Map.{lookup};
 ghost use Rattle.lru.specs.LruCache.{lru_cache};
 ghost use Rattle.mds_types.specs.declared.refusals.Refusal.TheVariants.{NoMemory};
-ghost use Rattle.dentry_cache.specs.Cache.{IsKeptFor, MayMakeRoom, TakesPlace, held, leaf_is, unsaved, used_as};
+ghost use Rattle.dentry_cache.specs.Cache.{leaf_is, unsaved};
 ghost use Rattle.dentry_cache.specs.Loading.{IsFetched, IsNotFetched, MayNotFetch, object_of};
 
 use crate::cache::{Cache, Place};

@@ -1,8 +1,8 @@
 //! Places kept for fragments that will be made, filled, and given up.
-ghost use Rattle.std.specs.Prelude.{◌≡◌, ◌⊎◌, None, OnOk, OnErr, IfErr};
+ghost use Rattle.std.specs.Prelude.{◌≡◌, ◌⊎◌, true, None, OnOk, OnErr, IfErr};
 ghost use Rattle.std.specs.Map.{lookup};
 ghost use Rattle.mds_types.specs.declared.refusals.Refusal.TheVariants.{NoMemory, NothingToEvict};
-ghost use Rattle.dentry_cache.specs.Cache.{IsFull, IsKeptFor, MayMakeRoom, TakesPlace, cached, held, kept_place, leaf_is, unsaved, used_as, without};
+ghost use Rattle.dentry_cache.specs.Cache.{IsFull, MayMakeRoom, TakesPlace, cached, held, is_kept, kept_place, leaf_is, unsaved, used_as, without};
 
 use crate::cache::{Cache, Place};
 use cached_frag::CachedFrag;
@@ -43,7 +43,7 @@ impl Cache {
 
     /// Puts a fragment into the place that is kept for it, as the most recently used one. Takes no memory.
     pub fn fill(&mut self, dir: Ino, frag: Frag, fragment: CachedFrag)
-        requires { IsKeptFor (lookup (leaf_is (dir, frag)) self.old.entries) }
+        requires { is_kept (lookup (leaf_is (dir, frag)) self.old.entries) ≡ true }
         ensures { self.new ≡ used_as (dir, frag) (held fragment) self.old }
     {
         let _ = self.places.put(

@@ -1,0 +1,7 @@
+//! The cache by hand-known answers.
+
+mod commits;
+mod counting_stores;
+mod fetches;
+mod fixtures;
+mod orders;
