@@ -10,6 +10,8 @@ pub mod laws;
 mod making;
 mod merge;
 mod split;
+#[cfg(test)]
+mod tests;
 mod tree;
 
 pub use iters::Iter;

@@ -1,5 +1,5 @@
 //! Splits, merges and picks by hand-known answers, and each call that takes memory once.
-use fragtree::FragTree;
+use crate::FragTree;
 use mds_types::{Frag, Refusal};
 use std::alloc::{AllocError, Global};
 use std::test::Fail;
