@@ -3,7 +3,7 @@
 use admin_cli::{FaultKind, ScriptFault, run_script};
 use std::test::Fail;
 
-mod dirfrags;
+mod leaf_lines;
 mod lines;
 mod streams;
 
