@@ -1,19 +1,19 @@
--- What a pass over two lists of pairs in order does: it puts the pairs of one into the other.
-use Rattle.std.proofs.Common.{◌<◌, Bool, true, false, cond, Option, Some, None, is_some, slice_get, length, Less, Equal, is_gt, arith, ◌≡◌, ℕ, zero, suc, not, T, List, [], ◌∷◌, ◌++◌, take, drop, Result, Ok, Err, OnOk, OnErr, Ordering, Greater, is_lt, refl, sym, ap, ◌∙◌, subst}
+-- What loops over pairs do that put them into a map, or take their keys out of one.
+use Rattle.std.proofs.Common.{◌<◌, Bool, true, false, cond, Option, Some, None, is_some, slice_get, length, Less, Equal, is_gt, arith, ◌≡◌, not, T, List, [], ◌∷◌, drop, Ordering, Greater, refl, sym, ap, ◌∙◌}
 use Rattle.std.specs.Cmp.{IsTotalOrder}
 use Rattle.std.proofs.lemmas.Bool.{false≢true}
 use Rattle.std.specs.Ordering.{ordering_reverse, is_le, eq_by_cmp}
 use Rattle.std.specs.FinMap as map
-use Rattle.std.specs.FinMap.{IsAntisymmetric, entries-insert, entries-from_sorted, entries_sorted, same_entries_map, same_map, get-entries, get-remove, len-entries, len-empty}
+use Rattle.std.specs.FinMap.{IsAntisymmetric, entries-insert, entries_sorted, same_entries_map, same_map, get-entries, get-remove, len-entries, len-empty}
 use Rattle.std.proofs.lemmas.List.{nil_from_length}
-use Rattle.std.specs.FinMap.Entries.{find, put, where_key, is_sorted, below_all, is_sorted-put}
-use Rattle.sorted_map.specs.Bools.{left_of, right_of, both_of}
+use Rattle.std.specs.FinMap.Entries.{find, put, where_key, is_sorted, below_all}
+use Rattle.sorted_map.specs.Bools.{left_of, right_of}
 use Rattle.sorted_map.specs.Overlay.{starts_below, with_pairs, overlaid, without_keys}
 use Rattle.sorted_map.specs.Laws.{get-without_keys, contents-entries}
 use Rattle.sorted_map.specs.SortedMap.{is_from}
-use Rattle.sorted_map.specs.Places.{IsAt, IsGap, puts}
+use Rattle.sorted_map.specs.Places.{puts}
 use Rattle.sorted_map.proofs.ContentLaws.{retained}
-use Rattle.sorted_map.proofs.PlaceLaws.{less, below_less}
+use Rattle.sorted_map.proofs.PlaceLaws.{less}
 
 module _ {K V : Type 0} {R : K → K → Ordering} (o : IsTotalOrder R) where
   -- a key that is less than all that are put keeps its place at the front
@@ -23,97 +23,9 @@ module _ {K V : Type 0} {R : K → K → Ordering} (o : IsTotalOrder R) where
       let above : R f.0 e.0 ≡ Greater = o.antisymm f.0 e.0 ∙ ap ordering_reverse (less _ (left_of _ _ below)) in
       rw above (behind e (put R f.0 f.1 es) fs (right_of _ _ below))
 
-  lower : (k : K) (e : K × V) (fs : List (K × V)) → R k e.0 ≡ Greater → T (below_all R k fs) → T (below_all R e.0 fs)
-  lower k e fs above below = below_less o e.0 k fs (o.antisymm e.0 k ∙ ap ordering_reverse above) below
-
-  -- the pairs before a gap, the pair that goes there, and the rest with what is put further on
-  pub puts_gap : (k : K) (v : V) (es : List (K × V)) (i : ℕ) (fs : List (K × V)) → IsGap R k es i → T (below_all R k fs)
-      → puts R (put R k v es) fs ≡ take i es ++ (k, v) ∷ puts R (drop i es) fs
-  puts_gap k v [] zero fs h below = behind (k, v) [] fs below
-  puts_gap k v [] (suc i) fs h below = absurd h
-  puts_gap k v (e ∷ es) zero fs h below = rw h.0 (behind (k, v) (e ∷ es) fs below)
-  puts_gap k v (e ∷ es) (suc i) fs h below =
-      rw h.0 (behind e (put R k v es) fs (lower k e fs h.0 below) ∙ ap (λ t. e ∷ t) (puts_gap k v es i fs h.1 below))
-
-  -- the same at the place of a key
-  pub puts_at : IsAntisymmetric R → (k : K) (v : V) (es : List (K × V)) (i : ℕ) (fs : List (K × V)) → IsAt R k es i → T (below_all R k fs)
-      → puts R (put R k v es) fs ≡ take i es ++ (k, v) ∷ puts R (drop (suc i) es) fs
-  puts_at exact k v [] i fs h below = absurd h
-  puts_at exact k v (e ∷ es) zero fs h below =
-      rw h.0 (ap (λ x. puts R ((x, v) ∷ es) fs) (sym (exact k e.0 h.0)) ∙ behind (k, v) es fs below)
-  puts_at exact k v (e ∷ es) (suc i) fs h below =
-      rw h.0 (behind e (put R k v es) fs (lower k e fs h.0 below) ∙ ap (λ t. e ∷ t) (puts_at exact k v es i fs h.1 below))
-
-  above_gap : (k : K) (v : V) (es : List (K × V)) (i : ℕ) (fs : List (K × V)) → IsGap R k es i → T (below_all R k fs)
-      → puts R es ((k, v) ∷ fs) ≡ take i es ++ puts R (drop i es) ((k, v) ∷ fs)
-  above_gap k v [] zero fs h below = refl
-  above_gap k v [] (suc i) fs h below = absurd h
-  above_gap k v (e ∷ es) zero fs h below = refl
-  above_gap k v (e ∷ es) (suc i) fs h below =
-      let less : T (is_lt (R e.0 k)) = subst (λ r. T (is_lt r)) (sym (o.antisymm e.0 k ∙ ap ordering_reverse h.0)) tt in
-      behind e es ((k, v) ∷ fs) (both_of _ _ less (lower k e fs h.0 below)) ∙ ap (λ t. e ∷ t) (above_gap k v es i fs h.1 below)
-
-  above_at : (k : K) (v : V) (es : List (K × V)) (i : ℕ) (fs : List (K × V)) → IsAt R k es i → T (below_all R k fs)
-      → puts R es ((k, v) ∷ fs) ≡ take i es ++ puts R (drop i es) ((k, v) ∷ fs)
-  above_at k v [] i fs h below = absurd h
-  above_at k v (e ∷ es) zero fs h below = refl
-  above_at k v (e ∷ es) (suc i) fs h below =
-      let less : T (is_lt (R e.0 k)) = subst (λ r. T (is_lt r)) (sym (o.antisymm e.0 k ∙ ap ordering_reverse h.0)) tt in
-      behind e es ((k, v) ∷ fs) (both_of _ _ less (lower k e fs h.0 below)) ∙ ap (λ t. e ∷ t) (above_at k v es i fs h.1 below)
-
-  -- the pairs before the place of the least key that is put stay as they are
-  pub front_at : (k : K) (v : V) (es : List (K × V)) (i : ℕ) (fs : List (K × V)) → IsAt R k es i → T (is_sorted R ((k, v) ∷ fs))
-      → puts R es ((k, v) ∷ fs) ≡ take i es ++ puts R (drop i es) ((k, v) ∷ fs)
-  front_at k v es i fs h sorted = above_at k v es i fs h (left_of _ _ sorted)
-
-  pub front_gap : (k : K) (v : V) (es : List (K × V)) (i : ℕ) (fs : List (K × V)) → IsGap R k es i → T (is_sorted R ((k, v) ∷ fs))
-      → puts R es ((k, v) ∷ fs) ≡ take i es ++ puts R (drop i es) ((k, v) ∷ fs)
-  front_gap k v es i fs h sorted = above_gap k v es i fs h (left_of _ _ sorted)
-
-  -- a part from a place on is in order
-  pub sorted_drop : (i : ℕ) (es : List (K × V)) → T (is_sorted R es) → T (is_sorted R (drop i es))
-  sorted_drop zero es s = s
-  sorted_drop (suc i) [] s = tt
-  sorted_drop (suc i) (e ∷ es) s = sorted_drop i es (right_of _ _ s)
-
-  pub puts_sorted : (es fs : List (K × V)) → T (is_sorted R es) → T (is_sorted R (puts R es fs))
-  puts_sorted es [] s = s
-  puts_sorted es (f ∷ fs) s = puts_sorted (put R f.0 f.1 es) fs (is_sorted-put R o f.0 f.1 es s)
-
   entries_with : (m : map.FinMap R V) (fs : List (K × V)) → map.entries (with_pairs m fs) ≡ puts R (map.entries m) fs
   entries_with m [] = refl
   entries_with m (f ∷ fs) = entries_with (map.insert m f.0 f.1) fs ∙ ap (λ es. puts R es fs) (entries-insert o m f.0 f.1)
-
-  entries_overlaid : (m over : map.FinMap R V) → map.entries (overlaid m over) ≡ puts R (map.entries m) (map.entries over)
-  unfolding overlaid
-  entries_overlaid m over = entries_with m (map.entries over)
-
-  -- to put the pairs of one map into those of another is to lay it over that one
-  pub laid_over : (es fs new : List (K × V)) → T (is_sorted R es) → T (is_sorted R fs) → new ≡ puts R es fs
-      → T (is_sorted R new) × (map.from_sorted {R = R} new ≡ overlaid (map.from_sorted es) (map.from_sorted fs))
-  laid_over es fs new s t is =
-      let sorted : T (is_sorted R new) = subst (λ xs. T (is_sorted R xs)) (sym is) (puts_sorted es fs s) in (
-        sorted,
-        same_entries_map _ _ (entries-from_sorted R new sorted ∙ is ∙ sym (entries_overlaid (map.from_sorted es) (map.from_sorted fs)
-            ∙ ap (λ xs. puts R xs (map.entries (map.from_sorted {R = R} fs))) (entries-from_sorted R es s) ∙ ap (puts R es) (entries-from_sorted R fs t))),
-      )
-
--- one pair more that is moved from the front of one list to the end of another
-pub moved_on : {A : Type 0} (fs es : List A) (k : ℕ) (x : A) (rest : List A) → drop k es ≡ x ∷ rest → (fs ++ take k es) ++ x ∷ [] ≡ fs ++ take (suc k) es
-moved_on [] [] k x rest is = absurd (none k is)
-  where
-    none : {A : Type 0} (k : ℕ) {x : A} {rest : List A} → drop k [] ≡ x ∷ rest → ⊥
-    none zero is = cc
-    none (suc k) is = cc
-moved_on [] (e ∷ es) zero x rest is = let same : e ≡ x = cc in ap (λ y. y ∷ []) (sym same)
-moved_on [] (e ∷ es) (suc k) x rest is = ap (λ t. e ∷ t) (moved_on [] es k x rest is)
-moved_on (f ∷ fs) es k x rest is = ap (λ t. f ∷ t) (moved_on fs es k x rest is)
-
-pub dropped_on : {A : Type 0} (es : List A) (k : ℕ) (x : A) (rest : List A) → drop k es ≡ x ∷ rest → rest ≡ drop (suc k) es
-dropped_on [] zero x rest is = cc
-dropped_on [] (suc k) x rest is = cc
-dropped_on (e ∷ es) zero x rest is = cc
-dropped_on (e ∷ es) (suc k) x rest is = dropped_on es k x rest is
 
 module _ {K V W : Type 0} {R : K → K → Ordering} (o : IsTotalOrder R) (exact : IsAntisymmetric R) where
   -- to leave the pairs of the keys of a map out is to take those keys out
@@ -121,37 +33,6 @@ module _ {K V W : Type 0} {R : K → K → Ordering} (o : IsTotalOrder R) (exact
       → T (is_sorted R fs) × (map.from_sorted {R = R} fs ≡ without_keys (map.from_sorted es) gone)
   unfolding without_keys
   taken_out gone es fs s e = retained o exact (λ k. not (map.contains_key gone k)) es fs s e
-
-pub drop_one : {A : Type 0} (i : ℕ) (es : List A) → drop 1 (drop i es) ≡ drop (suc i) es
-drop_one zero [] = refl
-drop_one zero (e ∷ es) = refl
-drop_one (suc i) [] = refl
-drop_one (suc i) (e ∷ es) = drop_one i es
-
-joined : {A : Type 0} (fs ts : List A) (x : A) (rest : List A) → ((fs ++ ts) ++ x ∷ []) ++ rest ≡ fs ++ (ts ++ x ∷ rest)
-joined [] [] x rest = refl
-joined [] (t ∷ ts) x rest = ap (λ l. t ∷ l) (joined [] ts x rest)
-joined (f ∷ fs) ts x rest = ap (λ l. f ∷ l) (joined fs ts x rest)
-
-module _ {K V : Type 0} {R : K → K → Ordering} (o : IsTotalOrder R) where
-  -- the pair after those with lesser keys, and what is left, make up what it was put into
-  pub next_gap : (k : K) (v : V) (fs es new rest over : List (K × V)) (i : ℕ) → IsGap R k es i → T (below_all R k over)
-      → new ≡ (fs ++ take i es) ++ (k, v) ∷ [] → rest ≡ drop i es → new ++ puts R rest over ≡ fs ++ puts R (put R k v es) over
-  next_gap k v fs es new rest over i h below is left =
-      ap (λ l. l ++ puts R rest over) is ∙ ap (λ l. ((fs ++ take i es) ++ (k, v) ∷ []) ++ puts R l over) left
-      ∙ joined fs (take i es) (k, v) (puts R (drop i es) over) ∙ ap (λ l. fs ++ l) (sym (puts_gap o k v es i over h below))
-
-  pub next_at : IsAntisymmetric R → (k : K) (v : V) (fs es new rest over : List (K × V)) (i : ℕ) → IsAt R k es i → T (below_all R k over)
-      → new ≡ (fs ++ take i es) ++ (k, v) ∷ [] → rest ≡ drop (suc i) es → new ++ puts R rest over ≡ fs ++ puts R (put R k v es) over
-  next_at exact k v fs es new rest over i h below is left =
-      ap (λ l. l ++ puts R rest over) is ∙ ap (λ l. ((fs ++ take i es) ++ (k, v) ∷ []) ++ puts R l over) left
-      ∙ joined fs (take i es) (k, v) (puts R (drop (suc i) es) over) ∙ ap (λ l. fs ++ l) (sym (puts_at o exact k v es i over h below))
-
-  -- whatever the outcome, the pairs are in order; and where they were put they lie over the others
-  pub laid_or_left : {A E : Type 0} (r : Result A E) (es fs new : List (K × V)) → T (is_sorted R es) → T (is_sorted R fs) → OnOk r (new ≡ puts R es fs) → OnErr r (new ≡ es)
-      → T (is_sorted R new) × OnOk r (map.from_sorted {R = R} new ≡ overlaid (map.from_sorted es) (map.from_sorted fs))
-  laid_or_left (Ok x) es fs new s t put stay = laid_over o es fs new s t put
-  laid_or_left (Err x) es fs new s t put stay = (subst (λ xs. T (is_sorted R xs)) (sym stay) s, tt)
 
 -- a map without so many keys, taken out one after the other
 abbrev pub removals : {K V W : Type 0} {R : K → K → Ordering} → map.FinMap R V → List (K × W) → map.FinMap R V

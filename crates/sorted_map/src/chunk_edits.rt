@@ -5,7 +5,8 @@ ghost use Rattle.sorted_map.specs.Chunks.{flat, load, start, room_in, AllSome};
 use crate::chunk::{HALF, MOST};
 use crate::chunks::Chunks;
 
-/// Puts a pair in at a place of a chunk, for which there is room. A full chunk is split before.
+/// Puts a pair in at a place of a chunk, for which there is room. A full chunk is split before, and its halves join their
+/// neighbours where they fit into one.
 pub(crate) fn put_new<K: Drop, V: Drop>(
     chunks: &mut Chunks<K, V>,
     home: usize,
@@ -29,6 +30,10 @@ pub(crate) fn put_new<K: Drop, V: Drop>(
         return;
     }
     put_apart(chunks, home, at, pair);
+    join(chunks, home + 1);
+    if 0 < home {
+        join(chunks, home - 1);
+    }
 }
 
 // Puts the first pair in.

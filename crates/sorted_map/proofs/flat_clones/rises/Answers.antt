@@ -1,7 +1,7 @@
 use Rattle.std.proofs.Common.{rules, is_lt}
 use Rattle.std.proofs.lemmas.Fn.{always_returns_same}
 use Rattle.sorted_map.proofs.PlaceLaws.{rises_by}
-use Rattle.sorted_map.proofs.flat_compare.rises.Goals as goal
+use Rattle.sorted_map.proofs.flat_clones.rises.Goals as goal
 
 pub returns : goal.returns
 returns g c =

@@ -1,9 +1,7 @@
 //! Clones of a map in one vector.
-ghost use Rattle.std.specs.Prelude.{◌≡◌, T, IsTrue, Decides};
-ghost use Rattle.std.specs.Cmp.{on_per, on_equiv, and_per, and_equiv};
-ghost use Rattle.std.specs.Cmp.Lexicographic.{pointwise, lists_per, lists_equiv};
+ghost use Rattle.std.specs.Prelude.{T, IsTrue};
 ghost use Rattle.std.specs.FinMap.{is_sorted};
-ghost use Rattle.sorted_map.specs.SortedMap.{IsClone, TellsApart, contents, pairs_eq};
+ghost use Rattle.sorted_map.specs.SortedMap.{IsClone};
 
 use crate::flat_map::FlatMap;
 use crate::keys::ExactOrd;
