@@ -26,4 +26,4 @@ abbrev pub IsReady : Kept → Change → Type 0
 IsReady f (Add dentry leaf inode) = (0 < f.entries_left) × (is_dir_kind inode.kind ≡ true → (0 < f.dirs_left) × (f.spare ≡ Some dentry.name))
 IsReady f (Set dentry leaf inode) = Unit {0}
 IsReady f (Remove dentry leaf went) = Unit {0}
-IsReady f (Move from source to target went) = f.spare ≡ Some to.name
+IsReady f (Move from source to target went) = (0 < f.entries_left) × (f.spare ≡ Some to.name)

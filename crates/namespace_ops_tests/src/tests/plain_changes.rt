@@ -64,6 +64,7 @@ pub fn move_entry(
     to: Dentry,
 )
     requires tabled { IsTabled (contents dentry_cmp entries.old) dirs.old.homes }
+    requires room { 0 < entries.old.room }
     requires ready { spare.old ≡ Some to.name }
     requires may { (inode : Node) × IsMove (contents dentry_cmp entries.old) from.now to inode }
     ensures tree { contents dentry_cmp entries.new ≡ moved (contents dentry_cmp entries.old) from.now to (map.get (contents dentry_cmp entries.old) from.now) }

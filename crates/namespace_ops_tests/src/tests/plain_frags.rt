@@ -201,7 +201,10 @@ impl Frags for PlainFrags {
                     return self.dirs.reserve();
                 }
             }
-            Change::Move { to, .. } => self.spare = Some(to.name.try_clone()?),
+            Change::Move { to, .. } => {
+                self.entries.reserve(1)?;
+                self.spare = Some(to.name.try_clone()?);
+            }
             Change::Set { .. } | Change::Remove { .. } => {}
         }
         Ok(())
