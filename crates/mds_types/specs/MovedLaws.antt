@@ -75,7 +75,7 @@ module _ (tree : Tree) (from to : Dentry) (inode : Inode) (whole : IsWellFormed 
   arrived = get_put (map.remove tree from) to inode
 
   -- a number that isn't that of the inode which is replaced
-  abbrev Stays : ℕ → Type 0
+  abbrev pub Stays : ℕ → Type 0
   Stays x = (t : Inode) → map.get tree to ≡ Some t → t.ino.0 ≡ x → ⊥
 
   parent_stays : (q : Dentry) (x : Inode) → map.get tree q ≡ Some x → Stays q.dir.0
@@ -93,7 +93,7 @@ module _ (tree : Tree) (from to : Dentry) (inode : Inode) (whole : IsWellFormed 
       go (inr not_from) (inl same) = absurd (stays x (ap (λ p. map.get tree p) (sym same) ∙ stands) refl)
       go (inr not_from) (inr not_to) = inr (still_moved q x not_from not_to stands)
 
-  still_directory : (d : ℕ) → Stays d → is_directory tree d ≡ true → is_directory moved d ≡ true
+  pub still_directory : (d : ℕ) → Stays d → is_directory tree d ≡ true → is_directory moved d ≡ true
   still_directory d stays here =
       ⊎_elim (λ root. ap (is_directory moved) root ∙ root_stands moved)
       (λ (w : StandsAs tree d).

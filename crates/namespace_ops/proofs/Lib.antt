@@ -1,4 +1,5 @@
 pub mod ChangedLaws
 pub mod CheckedParts
 pub mod Members
+pub mod OtherLeaves
 pub mod PlanParts

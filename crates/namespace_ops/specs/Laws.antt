@@ -8,6 +8,11 @@ use Rattle.mds_types.specs.StepLaws.{ErrnoLeaves, TakesWhereMade, is_errno}
 use Rattle.mds_types.specs.ListingLaws.{IsListing}
 use Rattle.mds_types.specs.NumberLaws.{IsOld}
 use Rattle.mds_types.specs.WellFormedLaws.{IsUnused}
+use Rattle.inode_table.specs.Dirs.{Covers}
+use Rattle.inode_table.specs.TreeChanges.{KeepLeaves}
+use Rattle.namespace_ops.specs.declared.plans.Change.{Change}
+use Rattle.namespace_ops.specs.Changes.{MayChange, changed, fragments_of}
+use Rattle.namespace_ops.specs.Kept.{OthersShowTheSame}
 
 -- an errno leaves the tree
 abbrev pub ErrnoLeavesTree : Type 0
@@ -41,3 +46,8 @@ NumbersStay = (tree : Tree) (op : Op) (n : ℕ) → IsOld tree n (step tree op n
 -- whether a step answers an errno, the number that it is offered has no part in; so neither has it in the changed fragments
 abbrev pub NumberLeavesErrno : Type 0
 NumberLeavesErrno = (tree : Tree) (op : Op) (n m : ℕ) → is_errno (step tree op n).reply ≡ is_errno (step tree op m).reply
+
+-- of the leaves that stood, only the fragments of a change show something else once it is made, where each directory that stands then has the leaves that it had
+abbrev pub ChangesLeaveOthers : Type 0
+ChangesLeaveOthers = (tree : Tree) (covers now : Covers) (change : Change) → IsWellFormed tree → MayChange tree covers change → KeepLeaves (changed tree change) covers now
+    → OthersShowTheSame tree (changed tree change) covers now (fragments_of covers change)

@@ -1,6 +1,6 @@
 //! Laws of the operation table, each the contract of a function that does nothing: they say that the definitions mean
 //! what they should.
-ghost use Rattle.namespace_ops.specs.Laws.{ErrnoLeavesTree, MakingTakesNumber, StepKeepsWellFormed, AboveIsChain, NumbersStay, NumberLeavesErrno, NamesAreListed, PagesMakeUpListing};
+ghost use Rattle.namespace_ops.specs.Laws.{ErrnoLeavesTree, MakingTakesNumber, StepKeepsWellFormed, AboveIsChain, NumbersStay, NumberLeavesErrno, NamesAreListed, PagesMakeUpListing, ChangesLeaveOthers};
 
 /// An operation that answers an errno leaves the tree.
 pub fn errno_leaves_tree()
@@ -40,4 +40,9 @@ pub fn names_are_listed()
 /// Pages, each listed after the last name of the one before, make up the whole listing.
 pub fn pages_make_up_listing()
     ensures { PagesMakeUpListing }
+{}
+
+/// A change leaves every leaf that stood and is none of its fragments standing, with the names that it showed.
+pub fn changes_leave_others()
+    ensures { ChangesLeaveOthers }
 {}

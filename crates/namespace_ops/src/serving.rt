@@ -1,8 +1,9 @@
 //! Serving one operation.
 ghost use Rattle.std.specs.Prelude.{MatchResult, OnErr};
 ghost use Rattle.mds_types.specs.Step.{step, number_or};
+ghost use Rattle.mds_types.specs.Tree.{IsWellFormed};
 ghost use Rattle.inode_table.specs.TreeChanges.{KeepLeaves};
-ghost use Rattle.namespace_ops.specs.Kept.{ChangesOnly, KeepsAll};
+ghost use Rattle.namespace_ops.specs.Kept.{ChangesOnly, KeepsAll, OthersShowTheSame};
 ghost use Rattle.namespace_ops.specs.ChangedFragments.{changed_fragments};
 ghost use Rattle.namespace_ops.specs.Changes.{IsOffered};
 ghost use Rattle.namespace_ops.specs.Served.{IsServed, IsRefused};
@@ -14,7 +15,8 @@ use mds_types::{Ino, Op, Refusal, Reply};
 use std::alloc::Global;
 
 /// Serves an operation: answers the reply of the operation table, and leaves the tree that the table leaves. Of the leaves
-/// only the operation's changed fragments show anything else afterwards, and each directory that stands keeps its leaves. A
+/// only the operation's changed fragments show anything else afterwards: `frame` says so in the fragments' own words, and
+/// `others` in those of the tree and the leaves of each directory. Each directory that stands keeps its leaves. A
 /// new inode takes the number given, which has to be unused; where the table takes one and none is given, the operation is
 /// refused `NoInodes`. Any other refusal is one of the fragments', or want of memory. A refusal keeps all as a read does.
 pub fn serve_op<F: Frags>(
@@ -30,6 +32,7 @@ pub fn serve_op<F: Frags>(
         (IsRefused (F.content frags.old) (F.content frags.new) (F.MayRefuse frags.old frags.new op.now) outcome number) }
     ensures leaves { KeepLeaves (F.content frags.new) (F.covers frags.old) (F.covers frags.new) }
     ensures frame { ChangesOnly (F.Unchanged frags.old frags.new) (changed_fragments (F.covers frags.old) (F.content frags.old) op.now) }
+    ensures others { IsWellFormed (F.content frags.old) → OthersShowTheSame (F.content frags.old) (F.content frags.new) (F.covers frags.old) (F.covers frags.new) (changed_fragments (F.covers frags.old) (F.content frags.old) op.now) }
     ensures kept { OnErr result (KeepsAll (F.content frags.old) (F.content frags.new) (F.covers frags.old) (F.covers frags.new) (F.Follows frags.old frags.new)) }
 {
     let plan = plan_op(alloc, frags, op, number)?;

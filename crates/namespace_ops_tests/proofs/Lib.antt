@@ -1,3 +1,4 @@
+pub mod Frames
 pub mod OneEntry
 pub mod Rows
 pub mod Unused

@@ -4,6 +4,7 @@ use Rattle.mds_types.specs.declared.dentries.Dentry.{Dentry}
 use Rattle.mds_types.specs.declared.inodes.Inode.{Inode}
 use Rattle.mds_types.specs.Tree.{Tree, is_dir_kind}
 use Rattle.inode_table.specs.Dirs.{Homes, Covers}
+use Rattle.namespace_ops.specs.Kept.{Leaf, IsStanding, ShowsTheSame}
 use Rattle.namespace_ops.specs.declared.plans.Change.{Change}
 use Rattle.namespace_ops.specs.declared.plans.Change.TheVariants.{Add, Set, Remove, Move}
 
@@ -27,3 +28,11 @@ IsReady f (Add dentry leaf inode) = (0 < f.entries_left) × (is_dir_kind inode.k
 IsReady f (Set dentry leaf inode) = Unit {0}
 IsReady f (Remove dentry leaf went) = Unit {0}
 IsReady f (Move from source to target went) = (0 < f.entries_left) × (f.spare ≡ Some to.name)
+
+-- reads and refusals keep the tree and the leaves of each directory, whatever room they leave
+abbrev pub KeepsShown : Kept → Kept → Type 0
+KeepsShown a b = (b.tree ≡ a.tree) × (b.covers ≡ a.covers)
+
+-- a leaf that stood stands, and shows what it showed
+abbrev pub LeafStays : Kept → Kept → Leaf → Type 0
+LeafStays a b leaf = IsStanding a.tree a.covers leaf → ShowsTheSame a.tree b.tree b.covers leaf

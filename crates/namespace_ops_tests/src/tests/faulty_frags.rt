@@ -23,8 +23,11 @@ fn meets_fault(left: &mut u64) -> bool {
 }
 
 impl Frags for FaultyFrags {
+    ghost use Rattle.std.specs.Prelude.{refl};
+    ghost use Rattle.std.proofs.Common.{◌∙◌};
     ghost use Rattle.namespace_ops.specs.Reasons.{IsOfFragments};
-    ghost use Rattle.namespace_ops_tests.specs.PlainFrags.{IsReady as IsReadyFor};
+    ghost use Rattle.namespace_ops_tests.specs.PlainFrags.{IsReady as IsReadyFor, KeepsShown, LeafStays};
+    ghost use Rattle.namespace_ops.proofs.OtherLeaves.{kept_shows, shows_on};
 
     ghost content = { λ f. f.inner.tree };
 
@@ -32,21 +35,21 @@ impl Frags for FaultyFrags {
 
     ghost IsReady = { λ f change. IsReadyFor f.inner change };
 
-    ghost Follows = { λ a b. Unit {0} };
+    ghost Follows = { λ a b. KeepsShown a.inner b.inner };
 
     ghost MayRefuse = { λ a b op reason. IsOfFragments reason };
 
-    ghost Unchanged = { λ a b leaf. Unit {0} };
+    ghost Unchanged = { λ a b leaf. LeafStays a.inner b.inner leaf };
 
-    ghost unchanged_by = { λ a b leaf same. tt };
+    ghost unchanged_by = { λ a b leaf same stood. kept_shows _ _ _ _ leaf same.0 same.1 stood };
 
-    ghost unchanged_on = { λ a b c leaf p q. tt };
+    ghost unchanged_on = { λ a b c leaf p q stood. shows_on _ _ _ _ _ leaf (p stood) (q (p stood).stands) };
 
     ghost refused_for = { λ a b op reason because. because };
 
-    ghost follows_self = { λ a. tt };
+    ghost follows_self = { λ a. (refl, refl) };
 
-    ghost follows_on = { λ a b c p q. tt };
+    ghost follows_on = { λ a b c p q. (q.0 ∙ p.0, q.1 ∙ p.1) };
 
     ghost refused_on = { λ a b c op reason p because. because };
 

@@ -125,10 +125,12 @@ impl Probe<Dentry> for DirFront {
 }
 
 impl Frags for PlainFrags {
-    ghost use Rattle.std.specs.Prelude.{◌≡◌};
+    ghost use Rattle.std.specs.Prelude.{◌≡◌, refl};
+    ghost use Rattle.std.proofs.Common.{◌∙◌};
     ghost use Rattle.mds_types.specs.declared.refusals.Refusal.TheVariants.{NoMemory};
     ghost use Rattle.namespace_ops.specs.Reasons.{refused_for_memory};
-    ghost use Rattle.namespace_ops_tests.specs.PlainFrags.{IsReady as IsReadyFor};
+    ghost use Rattle.namespace_ops_tests.specs.PlainFrags.{IsReady as IsReadyFor, KeepsShown, LeafStays};
+    ghost use Rattle.namespace_ops.proofs.OtherLeaves.{kept_shows, shows_on};
 
     ghost content = { λ f. f.tree };
 
@@ -136,19 +138,19 @@ impl Frags for PlainFrags {
 
     ghost IsReady = { λ f change. IsReadyFor f change };
 
-    ghost Follows = { λ a b. Unit {0} };
+    ghost Follows = { λ a b. KeepsShown a b };
 
     ghost MayRefuse = { λ a b op reason. reason ≡ NoMemory };
 
-    ghost Unchanged = { λ a b leaf. Unit {0} };
+    ghost Unchanged = { λ a b leaf. LeafStays a b leaf };
 
-    ghost unchanged_by = { λ a b leaf same. tt };
+    ghost unchanged_by = { λ a b leaf same stood. kept_shows _ _ _ _ leaf same.0 same.1 stood };
 
-    ghost unchanged_on = { λ a b c leaf p q. tt };
+    ghost unchanged_on = { λ a b c leaf p q stood. shows_on _ _ _ _ _ leaf (p stood) (q (p stood).stands) };
 
-    ghost follows_self = { λ a. tt };
+    ghost follows_self = { λ a. (refl, refl) };
 
-    ghost follows_on = { λ a b c p q. tt };
+    ghost follows_on = { λ a b c p q. (q.0 ∙ p.0, q.1 ∙ p.1) };
 
     ghost refused_on = { λ a b c op reason p because. because };
 
