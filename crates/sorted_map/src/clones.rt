@@ -1,5 +1,5 @@
 //! Clones of maps.
-ghost use Rattle.std.specs.Prelude.{◌≡◌, ◌<◌, ◌++◌, ◌∷◌, [], OnOk};
+ghost use Rattle.std.specs.Prelude.{◌≡◌, ◌≢◌, ◌<◌, ◌++◌, ◌∷◌, [], OnOk, OnErr, IfOk};
 ghost use Rattle.std.specs.Ordering.{is_lt};
 ghost use Rattle.std.specs.List.{AllZip};
 ghost use Rattle.std.specs.FinMap as map;
@@ -9,14 +9,23 @@ ghost use Rattle.sorted_map.specs.Clones.{AddsClone, ClonePair, ends_below};
 use crate::iters::Iter;
 use crate::keys::ExactOrd;
 use crate::map::{SortedMap, Store};
-use std::alloc::AllocError;
+use std::alloc::{AllocError, Global};
 
-impl<K: ExactOrd + Clone, V: Clone> Clone for SortedMap<K, V> {
-    ghost is_clone = { IsClone K.is_clone V.is_clone };
-
-    /// A map of clones of the pairs. `Clone` does not say that a clone compares as its source, so this fails too where
+impl<K: ExactOrd + Clone, V: Clone> SortedMap<K, V> {
+    /// A map of clones of the pairs. An empty one takes no memory, and its clone never fails.
+    ///
+    /// `Clone` does not say that a clone compares as its source, so this fails where a growth was refused and also where
     /// the clones of the keys do not rise.
-    fn clone(&self) -> Result<SortedMap<K, V>, AllocError> {
+    pub fn try_clone(&self) -> Result<SortedMap<K, V>, AllocError>
+        ensures ok { IfOk result (IsClone K.is_clone V.is_clone self.now) }
+        ensures err { OnErr result (contents K.cmp self.now ≢ map.empty) }
+    {
+        if self.is_empty() {
+            let _ = self.len();
+            let empty = SortedMap::new(self.allocator());
+            let _ = empty.len();
+            return Ok(empty);
+        }
         match &self.store {
             Store::Flat(flat) => {
                 let flat = flat.clone()?;
@@ -32,6 +41,23 @@ impl<K: ExactOrd + Clone, V: Clone> Clone for SortedMap<K, V> {
                 Ok(copy)
             }
         }
+    }
+
+    // The allocator that the pairs are kept by.
+    fn allocator(&self) -> Global {
+        match &self.store {
+            Store::Flat(flat) => flat.allocator(),
+            Store::Chunked(chunked) => chunked.allocator(),
+        }
+    }
+}
+
+impl<K: ExactOrd + Clone, V: Clone> Clone for SortedMap<K, V> {
+    ghost is_clone = { IsClone K.is_clone V.is_clone };
+
+    /// As `try_clone`.
+    fn clone(&self) -> Result<SortedMap<K, V>, AllocError> {
+        self.try_clone()
     }
 }
 
