@@ -1,5 +1,6 @@
 pub mod Attributes
 pub mod Dirfrags
+pub mod Operations
 pub mod Script
 pub mod Input
 pub mod Looks

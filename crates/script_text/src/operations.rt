@@ -1,10 +1,10 @@
 //! Operations, by the words after the first.
 ghost use Rattle.script_words.specs.Words.{words_of};
 ghost use Rattle.script_words.specs.Reading.{Gives};
-ghost use Rattle.script_text.specs.Script.{lookup_of, readdir_of, create_of, mkdir_of, readlink_of, symlink_of, setattr_of, unlink_of, rmdir_of, rename_of, operation_of};
+ghost use Rattle.script_text.specs.Operations.{dentry_of, made_of, readdir_of, symlink_of, setattr_of, rename_of, operation_of};
 
 use crate::attributes::given_attributes;
-use mds_types::{Dentry, Op};
+use mds_types::{Dentry, Mode, Op};
 use script_words::{
     NOT_COMMAND, ReadError, after_name, after_text, first, four, ino, mode, name, page_size,
     target, text, three, two,
@@ -12,24 +12,34 @@ use script_words::{
 use std::alloc::Global;
 
 /// The operation of this first word, with the arguments in these words.
-#[tactic(auto, unfolding(crate::specs::Script::operation_of))]
+#[tactic(auto, unfolding(crate::specs::Operations::operation_of))]
 pub fn read_operation(alloc: Global, verb: &[u8], args: &[u8]) -> Result<Op, ReadError>
     ensures { Gives (λ op. op) result (operation_of verb.now (words_of args.now)) }
 {
     if verb == b"lookup".as_slice() {
-        return lookup(alloc, args);
+        return Ok(Op::Lookup(dentry(alloc, args)?));
     }
     if verb == b"readdir".as_slice() {
         return readdir(alloc, args);
     }
     if verb == b"create".as_slice() {
-        return create(alloc, args);
+        let (dentry, mode) = made(alloc, args)?;
+        return Ok(Op::Create {
+            dentry,
+            mode,
+            mtime: 0,
+        });
     }
     if verb == b"mkdir".as_slice() {
-        return mkdir(alloc, args);
+        let (dentry, mode) = made(alloc, args)?;
+        return Ok(Op::Mkdir {
+            dentry,
+            mode,
+            mtime: 0,
+        });
     }
     if verb == b"readlink".as_slice() {
-        return readlink(alloc, args);
+        return Ok(Op::Readlink(dentry(alloc, args)?));
     }
     if verb == b"symlink".as_slice() {
         return symlink(alloc, args);
@@ -38,10 +48,10 @@ pub fn read_operation(alloc: Global, verb: &[u8], args: &[u8]) -> Result<Op, Rea
         return setattr(alloc, args);
     }
     if verb == b"unlink".as_slice() {
-        return unlink(alloc, args);
+        return Ok(Op::Unlink(dentry(alloc, args)?));
     }
     if verb == b"rmdir".as_slice() {
-        return rmdir(alloc, args);
+        return Ok(Op::Rmdir(dentry(alloc, args)?));
     }
     if verb == b"rename".as_slice() {
         return rename(alloc, args);
@@ -49,20 +59,33 @@ pub fn read_operation(alloc: Global, verb: &[u8], args: &[u8]) -> Result<Op, Rea
     Err(NOT_COMMAND)
 }
 
-// `lookup INO NAME`
-#[tactic(auto, unfolding(crate::specs::Script::lookup_of))]
-fn lookup(alloc: Global, args: &[u8]) -> Result<Op, ReadError>
-    ensures { Gives (λ op. op) result (lookup_of (words_of args.now)) }
+// `INO NAME`: a dentry.
+#[tactic(auto, unfolding(crate::specs::Operations::dentry_of))]
+fn dentry(alloc: Global, args: &[u8]) -> Result<Dentry, ReadError>
+    ensures { Gives (λ dentry. dentry) result (dentry_of (words_of args.now)) }
 {
     let (dir, word) = two(args)?;
     let dir = ino(dir)?;
     let bytes = text(alloc, word)?;
     let name = name(alloc, &bytes)?;
-    Ok(Op::Lookup(Dentry { dir, name }))
+    Ok(Dentry { dir, name })
+}
+
+// `INO NAME MODE`: a dentry, and the mode of what is made there.
+#[tactic(auto, unfolding(crate::specs::Operations::made_of))]
+fn made(alloc: Global, args: &[u8]) -> Result<(Dentry, Mode), ReadError>
+    ensures { Gives (λ made. made) result (made_of (words_of args.now)) }
+{
+    let (dir, word, digits) = three(args)?;
+    let dir = ino(dir)?;
+    let bytes = text(alloc, word)?;
+    let mode = mode(digits)?;
+    let name = name(alloc, &bytes)?;
+    Ok((Dentry { dir, name }, mode))
 }
 
 // `readdir INO AFTER MAX`
-#[tactic(auto, unfolding(crate::specs::Script::readdir_of))]
+#[tactic(auto, unfolding(crate::specs::Operations::readdir_of))]
 fn readdir(alloc: Global, args: &[u8]) -> Result<Op, ReadError>
     ensures { Gives (λ op. op) result (readdir_of (words_of args.now)) }
 {
@@ -74,54 +97,8 @@ fn readdir(alloc: Global, args: &[u8]) -> Result<Op, ReadError>
     Ok(Op::Readdir { dir, after, max })
 }
 
-// `create INO NAME MODE`
-#[tactic(auto, unfolding(crate::specs::Script::create_of))]
-fn create(alloc: Global, args: &[u8]) -> Result<Op, ReadError>
-    ensures { Gives (λ op. op) result (create_of (words_of args.now)) }
-{
-    let (dir, word, digits) = three(args)?;
-    let dir = ino(dir)?;
-    let bytes = text(alloc, word)?;
-    let mode = mode(digits)?;
-    let name = name(alloc, &bytes)?;
-    Ok(Op::Create {
-        dentry: Dentry { dir, name },
-        mode,
-        mtime: 0,
-    })
-}
-
-// `mkdir INO NAME MODE`
-#[tactic(auto, unfolding(crate::specs::Script::mkdir_of))]
-fn mkdir(alloc: Global, args: &[u8]) -> Result<Op, ReadError>
-    ensures { Gives (λ op. op) result (mkdir_of (words_of args.now)) }
-{
-    let (dir, word, digits) = three(args)?;
-    let dir = ino(dir)?;
-    let bytes = text(alloc, word)?;
-    let mode = mode(digits)?;
-    let name = name(alloc, &bytes)?;
-    Ok(Op::Mkdir {
-        dentry: Dentry { dir, name },
-        mode,
-        mtime: 0,
-    })
-}
-
-// `readlink INO NAME`
-#[tactic(auto, unfolding(crate::specs::Script::readlink_of))]
-fn readlink(alloc: Global, args: &[u8]) -> Result<Op, ReadError>
-    ensures { Gives (λ op. op) result (readlink_of (words_of args.now)) }
-{
-    let (dir, word) = two(args)?;
-    let dir = ino(dir)?;
-    let bytes = text(alloc, word)?;
-    let name = name(alloc, &bytes)?;
-    Ok(Op::Readlink(Dentry { dir, name }))
-}
-
 // `symlink INO NAME TARGET`
-#[tactic(auto, unfolding(crate::specs::Script::symlink_of))]
+#[tactic(auto, unfolding(crate::specs::Operations::symlink_of))]
 fn symlink(alloc: Global, args: &[u8]) -> Result<Op, ReadError>
     ensures { Gives (λ op. op) result (symlink_of (words_of args.now)) }
 {
@@ -139,7 +116,7 @@ fn symlink(alloc: Global, args: &[u8]) -> Result<Op, ReadError>
 }
 
 // `setattr INO NAME [mode MODE] [size N] [mtime N]`
-#[tactic(auto, unfolding(crate::specs::Script::setattr_of))]
+#[tactic(auto, unfolding(crate::specs::Operations::setattr_of))]
 fn setattr(alloc: Global, args: &[u8]) -> Result<Op, ReadError>
     ensures { Gives (λ op. op) result (setattr_of (words_of args.now)) }
 {
@@ -155,32 +132,8 @@ fn setattr(alloc: Global, args: &[u8]) -> Result<Op, ReadError>
     })
 }
 
-// `unlink INO NAME`
-#[tactic(auto, unfolding(crate::specs::Script::unlink_of))]
-fn unlink(alloc: Global, args: &[u8]) -> Result<Op, ReadError>
-    ensures { Gives (λ op. op) result (unlink_of (words_of args.now)) }
-{
-    let (dir, word) = two(args)?;
-    let dir = ino(dir)?;
-    let bytes = text(alloc, word)?;
-    let name = name(alloc, &bytes)?;
-    Ok(Op::Unlink(Dentry { dir, name }))
-}
-
-// `rmdir INO NAME`
-#[tactic(auto, unfolding(crate::specs::Script::rmdir_of))]
-fn rmdir(alloc: Global, args: &[u8]) -> Result<Op, ReadError>
-    ensures { Gives (λ op. op) result (rmdir_of (words_of args.now)) }
-{
-    let (dir, word) = two(args)?;
-    let dir = ino(dir)?;
-    let bytes = text(alloc, word)?;
-    let name = name(alloc, &bytes)?;
-    Ok(Op::Rmdir(Dentry { dir, name }))
-}
-
 // `rename INO NAME INO NAME`
-#[tactic(auto, unfolding(crate::specs::Script::rename_of))]
+#[tactic(auto, unfolding(crate::specs::Operations::rename_of))]
 fn rename(alloc: Global, args: &[u8]) -> Result<Op, ReadError>
     ensures { Gives (λ op. op) result (rename_of (words_of args.now)) }
 {

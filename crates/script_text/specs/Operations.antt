@@ -1,0 +1,90 @@
+-- The operations of a script's line: the words of each, and what they ask for.
+use Rattle.std.specs.Prelude.{ℕ, if◌then◌else◌, List, codes, Result, Ok, Err}
+use Rattle.mds_types.specs.declared.dentries.Dentry.{Dentry}
+use Rattle.mds_types.specs.declared.operations.Op.{Op}
+use Rattle.mds_types.specs.declared.operations.Op.TheVariants.{Lookup, Readdir, Create, Mkdir, Readlink, Symlink, Setattr, Unlink, Rmdir, Rename}
+use Rattle.script_words.specs.declared.faults.Fault.{Fault}
+use Rattle.script_words.specs.declared.faults.Fault.TheVariants.{NotCommand}
+use Rattle.script_words.specs.Words.{is_text}
+use Rattle.script_words.specs.Reading.{◌>>=◌, first, two, three, four}
+use Rattle.script_words.specs.Arguments.{ino_of, mode_of, page_size_of, text_of, after_text_of, name_of, after_name_of, target_of}
+use Rattle.script_text.specs.Attributes.{attributes_of}
+
+-- In each form below that of all its words comes before the rules of names and targets; of two words outside those rules the first decides.
+
+-- `INO NAME`: a dentry
+unfoldable pub dentry_of : List (List ℕ) → Result Dentry Fault
+dentry_of args = do
+  words ← two args
+  dir ← ino_of words.0
+  bytes ← text_of words.1
+  name ← name_of bytes
+  Ok (record { dir = dir; name = name })
+
+-- `INO NAME MODE`: a dentry, and the mode of what is made there
+unfoldable pub made_of : List (List ℕ) → Result (Dentry × ℕ) Fault
+made_of args = do
+  words ← three args
+  dir ← ino_of words.0
+  bytes ← text_of words.1
+  mode ← mode_of words.2
+  name ← name_of bytes
+  Ok (record { dir = dir; name = name }, mode)
+
+-- `INO AFTER MAX`
+unfoldable pub readdir_of : List (List ℕ) → Result Op Fault
+readdir_of args = do
+  words ← three args
+  dir ← ino_of words.0
+  bytes ← after_text_of words.1
+  max ← page_size_of words.2
+  after ← after_name_of bytes
+  Ok (Readdir dir after max)
+
+-- `INO NAME TARGET`
+unfoldable pub symlink_of : List (List ℕ) → Result Op Fault
+symlink_of args = do
+  words ← three args
+  dir ← ino_of words.0
+  bytes ← text_of words.1
+  target_bytes ← text_of words.2
+  name ← name_of bytes
+  target ← target_of target_bytes
+  Ok (Symlink (record { dir = dir; name = name }) target 0)
+
+-- `INO NAME [mode MODE] [size N] [mtime N]`
+unfoldable pub setattr_of : List (List ℕ) → Result Op Fault
+setattr_of args = do
+  dir ← first args
+  name ← first dir.1
+  ino ← ino_of dir.0
+  bytes ← text_of name.0
+  given ← attributes_of name.1
+  name ← name_of bytes
+  Ok (Setattr (record { dir = ino; name = name }) given)
+
+-- `INO NAME INO NAME`, from the first dentry to the second
+unfoldable pub rename_of : List (List ℕ) → Result Op Fault
+rename_of args = do
+  words ← four args
+  dir ← ino_of words.0
+  bytes ← text_of words.1
+  to_dir ← ino_of words.2
+  to_bytes ← text_of words.3
+  name ← name_of bytes
+  to_name ← name_of to_bytes
+  Ok (Rename (record { dir = dir; name = name }) (record { dir = to_dir; name = to_name }))
+
+-- an operation, by its first word and the words after it; what is made has mtime 0
+unfoldable pub operation_of : List ℕ → List (List ℕ) → Result Op Fault
+operation_of verb args =
+    if is_text verb (codes "lookup") then (dentry_of args >>= λ dentry. Ok (Lookup dentry)) else
+    (if is_text verb (codes "readdir") then readdir_of args else
+    (if is_text verb (codes "create") then (made_of args >>= λ made. Ok (Create made.0 made.1 0)) else
+    (if is_text verb (codes "mkdir") then (made_of args >>= λ made. Ok (Mkdir made.0 made.1 0)) else
+    (if is_text verb (codes "readlink") then (dentry_of args >>= λ dentry. Ok (Readlink dentry)) else
+    (if is_text verb (codes "symlink") then symlink_of args else
+    (if is_text verb (codes "setattr") then setattr_of args else
+    (if is_text verb (codes "unlink") then (dentry_of args >>= λ dentry. Ok (Unlink dentry)) else
+    (if is_text verb (codes "rmdir") then (dentry_of args >>= λ dentry. Ok (Rmdir dentry)) else
+    (if is_text verb (codes "rename") then rename_of args else Err NotCommand)))))))))
