@@ -9,10 +9,10 @@ use Rattle.std.specs.Cmp.{IsTotalOrder}
 use Rattle.std.specs.FinMap as map
 use Rattle.std.specs.FinMap.Entries.{below_all}
 use Rattle.std.specs.FinMap.{IsAntisymmetric, find, is_sorted, entries-from_sorted, entries_sorted, same_entries_map, get-entries, get-insert, get-retain_keys}
-use Rattle.sorted_map.specs.Bools.{left_of, right_of}
+use Rattle.sorted_map.proofs.Bools.{left_of, right_of}
 use Rattle.sorted_map.specs.SortedMap.{Shown, contents}
 use Rattle.sorted_map.specs.Overlay.{with_pairs, overlaid, without_keys}
--- std's laws of `get` and `len`, under a path that an attribute can name: `#[tactic(auto, using(sorted_map::specs::Laws::gets))]`
+-- std's laws of `get` and `len`, under a path that an attribute can name: `#[tactic(auto, using(sorted_map::proofs::MapLaws::gets))]`
 pub use Rattle.std.specs.FinMap.{gets}
 
 module _ {K V : Type 0} (R : K → K → Ordering) where
@@ -24,15 +24,15 @@ module _ {K V : Type 0} (R : K → K → Ordering) where
 pub contents-entries : {K V : Type 0} {R : K → K → Ordering} (m : map.FinMap R V) → map.from_sorted {R = R} (map.entries m) ≡ m
 contents-entries m = same_entries_map _ _ (entries-from_sorted _ _ (entries_sorted m))
 
--- for a caller of `get_mut`: `#[tactic(auto, using(sorted_map::specs::Laws::written))]`
+-- for a caller of `get_mut`: `#[tactic(auto, using(sorted_map::proofs::MapLaws::written))]`
 pub ruleset written = (contents-entries)
 
-tie : (r : Ordering) → is_eq r ≡ true → r ≡ Equal
+pub tie : (r : Ordering) → is_eq r ≡ true → r ≡ Equal
 tie Less h = cc
 tie Equal h = refl
 tie Greater h = cc
 
-swapped : {A : Type 0} (b : Bool) (x y : A) → cond (not b) x y ≡ cond b y x
+pub swapped : {A : Type 0} (b : Bool) (x y : A) → cond (not b) x y ≡ cond b y x
 swapped true x y = refl
 swapped false x y = refl
 

@@ -46,3 +46,8 @@ neither_first false b h = refl
 pub neither_second : (a b : Bool) → (a || b) ≡ false → b ≡ false
 neither_second true b h = cc
 neither_second false b h = h
+
+-- what isn't true is false
+pub not_true : (b : Bool) → (b ≡ true → ⊥) → b ≡ false
+not_true true h = absurd (h refl)
+not_true false h = refl
