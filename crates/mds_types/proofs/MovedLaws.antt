@@ -2,17 +2,16 @@
 -- nothing that has an entry.
 use Rattle.std.specs.Prelude.{Option, ◌≡◌, ℕ, Bool, true, false, cond, ◌&&◌, ◌||◌, ◌==◌, ◌⊎◌, Some, None, refl}
 use Rattle.std.proofs.Common.{sym, ap, subst, ◌∙◌, ⊎_elim, inl, inr}
-use Rattle.std.specs.Ordering.{eq_by_cmp}
 use Rattle.std.specs.FinMap as map
 use Rattle.mds_types.specs.declared.dentries.Dentry.{Dentry}
 use Rattle.mds_types.specs.declared.inodes.Inode.{Inode}
-use Rattle.mds_types.specs.Tree.{Tree, dentry_cmp, at, dentry_of, is_directory, is_dir_kind, is_above, has_entries, IsAbove, child, further, HasSize, IsWellFormed}
-use Rattle.mds_types.specs.Step.{with_moved, leads_to, replace_errno}
-use Rattle.mds_types.specs.AboveLaws.{above_exact}
-use Rattle.sorted_map.specs.Bools.{neither_first, neither_second}
-use Rattle.sorted_map.specs.NatKeys.{is_same}
-use Rattle.mds_types.specs.EntryLaws.{get_put, get_beside, get_left, stands_after_put, stands_after_removal, same_or_apart, same_dentry_is}
-use Rattle.mds_types.specs.DirectoryLaws.{StandsAs, directory_stands, root_stands, entry_stands, reaches_root, one_dentry, no_directory, NothingIn, nothing_in_empty, nothing_in_file, above_nothing}
+use Rattle.mds_types.specs.Tree.{Tree, at, dentry_of, is_directory, is_dir_kind, is_above, has_entries, IsAbove, child, further, HasSize, IsWellFormed, NothingIn}
+use Rattle.mds_types.specs.Step.{with_moved, replace_errno, IsMove}
+use Rattle.mds_types.proofs.AboveLaws.{above_exact}
+use Rattle.sorted_map.proofs.Bools.{neither_first, neither_second}
+use Rattle.sorted_map.proofs.NatKeys.{is_same}
+use Rattle.mds_types.proofs.EntryLaws.{get_put, get_beside, get_left, stands_after_put, stands_after_removal, same_or_apart, same_dentry_is}
+use Rattle.mds_types.proofs.DirectoryLaws.{StandsAs, directory_stands, root_stands, entry_stands, reaches_root, one_dentry, no_directory, nothing_in_empty, nothing_in_file, above_nothing}
 
 -- an entry may move from one dentry to another
 pub record MayMove (tree : Tree) (from to : Dentry) (inode : Inode) : Type 0 where
@@ -23,14 +22,6 @@ pub record MayMove (tree : Tree) (from to : Dentry) (inode : Inode) : Type 0 whe
   pub not_below : IsAbove tree inode.ino.0 to.dir.0 → ⊥
   -- nothing is in what it replaces
   pub replaces : (t : Inode) → map.get tree to ≡ Some t → NothingIn tree t.ino.0
-
--- the table moves this inode from one dentry to another
-pub record IsMove (tree : Tree) (from to : Dentry) (inode : Inode) : Type 0 where
-  pub stands : map.get tree from ≡ Some inode
-  pub apart : eq_by_cmp dentry_cmp from to ≡ false
-  pub parent : is_directory tree to.dir.0 ≡ true
-  pub outside : leads_to tree inode to.dir.0 ≡ false
-  pub replaces : replace_errno tree inode (map.get tree to) ≡ None
 
 -- what the table's tests say of a well-formed tree
 pub may_move : (tree : Tree) (from to : Dentry) (inode : Inode) → IsWellFormed tree → IsMove tree from to inode → MayMove tree from to inode

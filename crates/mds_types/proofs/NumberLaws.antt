@@ -13,15 +13,8 @@ use Rattle.mds_types.specs.declared.operations.Op.{Op}
 use Rattle.mds_types.specs.declared.operations.Op.TheVariants.{Lookup, Readdir, Create, Mkdir, Readlink, Symlink, Setattr, Unlink, Rmdir, Rename}
 use Rattle.mds_types.specs.Tree.{Tree, dentry_cmp, is_directory, is_dir_kind}
 use Rattle.mds_types.specs.Step.{Outcome, answers, with_moved, directory_of, destination_of, found, made, new_inode, link_mode, read_link, size_errno, with_attributes, attributes_set, unless, unlinked, dir_removed, removal_errno, leads_to, replace_errno, renamed, within, step}
-use Rattle.mds_types.specs.EntryLaws.{stands_after_put, stands_after_removal}
-
--- an inode of this number stands in the tree
-abbrev pub StandsIn : Tree → ℕ → Type 0
-StandsIn tree x = (dentry : Dentry) × (inode : Inode) × (map.get tree dentry ≡ Some inode) × (inode.ino.0 ≡ x)
-
--- each inode that is left stood before, or has the number that was taken
-abbrev pub IsOld : Tree → ℕ → Outcome → Type 0
-IsOld tree n outcome = (dentry : Dentry) (inode : Inode) → map.get outcome.tree dentry ≡ Some inode → StandsIn tree inode.ino.0 ⊎ ((outcome.takes ≡ true) × (inode.ino.0 ≡ n))
+use Rattle.mds_types.proofs.EntryLaws.{stands_after_put, stands_after_removal}
+use Rattle.mds_types.specs.Outcomes.{IsOld}
 
 same_old : (tree : Tree) (n : ℕ) (outcome : Outcome) → outcome.tree ≡ tree → IsOld tree n outcome
 same_old tree n outcome same dentry inode stands = inl (dentry, inode, ap (λ t. map.get t dentry) (sym same) ∙ stands, refl)

@@ -14,8 +14,8 @@ use Rattle.mds_types.specs.declared.entries.Entry.{Entry}
 use Rattle.mds_types.specs.Tree.{Tree, dentry_cmp, numbers}
 use Rattle.mds_types.specs.Step.{number_or}
 use Rattle.mds_types.specs.History.{after, IsUsed, IsNext, IsLegal}
-use Rattle.mds_types.specs.HistoryLaws.{after-push}
-use Rattle.mds_types.specs.NumberLaws.{old_or_taken}
+use Rattle.mds_types.proofs.HistoryLaws.{after-push}
+use Rattle.mds_types.proofs.NumberLaws.{old_or_taken}
 
 pair_number : (es : List (Dentry × Inode)) (dentry : Dentry) (inode : Inode) → find dentry_cmp dentry es ≡ Some inode → Contains (map (λ e. e.1.ino.0) es) inode.ino.0
 pair_number [] dentry inode found = cc

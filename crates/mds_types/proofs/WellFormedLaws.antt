@@ -15,14 +15,15 @@ use Rattle.mds_types.specs.declared.inodes.Kind.TheVariants.{File, Dir, Symlink}
 use Rattle.mds_types.specs.declared.operations.Op.{Op}
 use Rattle.mds_types.specs.declared.operations.Op.TheVariants.{Lookup, Readdir, Create, Mkdir, Readlink, Symlink as MakeLink, Setattr, Unlink, Rmdir, Rename}
 use Rattle.mds_types.specs.Step.{Outcome, answers, new_size, directory_of, destination_of, found, made, new_inode, link_mode, read_link, size_errno, with_attributes, attributes_set, unless, unlinked, dir_removed, removal_errno, leads_to, replace_errno, renamed, within, step}
-use Rattle.mds_types.specs.Tree.{Tree, dentry_cmp, dentry_of, at, is_directory, is_dir_kind, has_entries, IsAbove, child, further, HasSize, IsWellFormed}
-use Rattle.mds_types.specs.TreeLaws.{is_directory-insert}
-use Rattle.sorted_map.specs.Bools.{or_second}
-use Rattle.mds_types.specs.OrderLaws.{dentry-total, dentry-exact}
-use Rattle.mds_types.specs.DirectoryLaws.{reaches_root, nothing_in_file, nothing_in_empty}
-use Rattle.mds_types.specs.AttributeLaws.{well-formed-changed}
-use Rattle.mds_types.specs.RemovedLaws.{well-formed-removed}
-use Rattle.mds_types.specs.MovedLaws.{well-formed-moved, may_move}
+use Rattle.mds_types.specs.Tree.{Tree, dentry_cmp, dentry_of, at, is_directory, is_dir_kind, has_entries, IsAbove, child, further, HasSize, IsWellFormed, IsUnused}
+use Rattle.mds_types.proofs.TreeLaws.{is_directory-insert}
+use Rattle.sorted_map.proofs.Bools.{or_second}
+use Rattle.mds_types.proofs.OrderLaws.{dentry-total}
+use Rattle.mds_types.specs.OrderLaws.{dentry-exact}
+use Rattle.mds_types.proofs.DirectoryLaws.{reaches_root, nothing_in_file, nothing_in_empty}
+use Rattle.mds_types.proofs.AttributeLaws.{well-formed-changed}
+use Rattle.mds_types.proofs.RemovedLaws.{well-formed-removed}
+use Rattle.mds_types.proofs.MovedLaws.{well-formed-moved, may_move}
 
 -- a new inode at a free dentry of a directory that stands
 module _ (tree : Tree) (dir : ℕ) (new_name : List ℕ) (new : Inode) (free : at tree dir new_name ≡ None) where
@@ -102,11 +103,6 @@ module _ (tree : Tree) (dir : ℕ) (new_name : List ℕ) (new : Inode) (free : a
     where
       lifted : (d : ℕ) → (d ≡ 1) ⊎ IsAbove tree 1 d → (d ≡ 1) ⊎ IsAbove grown 1 d
       lifted d h = ⊎_elim inl (λ above. inr (still_above 1 d above)) h
-
--- a number that no inode of the tree has, and that isn't the root's
-pub record IsUnused (tree : Tree) (n : ℕ) : Type 0 where
-  pub not_root : n ≡ 1 → ⊥
-  pub not_there : (d : ℕ) (name : List ℕ) (inode : Inode) → at tree d name ≡ Some inode → inode.ino.0 ≡ n → ⊥
 
 made-well-formed : (tree : Tree) (dir : ℕ) (name : List ℕ) (inode : Inode) (other : Option Inode) → at tree dir name ≡ other → IsWellFormed tree → is_directory tree dir ≡ true
     → ((made tree (dentry_of dir name) inode other).takes ≡ true → IsUnused tree inode.ino.0) → HasSize inode.kind inode.size → IsWellFormed (made tree (dentry_of dir name) inode other).tree
@@ -200,16 +196,3 @@ step_keeps_well_formed tree op n whole unused = go (is_directory tree (directory
     go true true here there takes = within-well-formed tree op n whole takes here there
     go true false here there takes = whole
     go false b here there takes = whole
-
--- the tree with no entry is well formed
-pub well-formed-empty : (tree : Tree) → ((dentry : Dentry) → map.get tree dentry ≡ None) → IsWellFormed tree
-well-formed-empty tree none = record {
-  rootless = λ d name inode h one. nothing (dentry_of d name) inode h;
-  once = λ d d' name name' inode inode' h h' same. absurd (nothing (dentry_of d name) inode h);
-  parents = λ d name inode h. absurd (nothing (dentry_of d name) inode h);
-  rooted = λ d name inode h. absurd (nothing (dentry_of d name) inode h);
-  sizes = λ d name inode h. absurd (nothing (dentry_of d name) inode h);
-}
-  where
-    nothing : (dentry : Dentry) (inode : Inode) → map.get tree dentry ≡ Some inode → ⊥
-    nothing dentry inode h = let clash : None ≡ Some inode = sym (none dentry) ∙ h in cc

@@ -8,7 +8,7 @@ use Rattle.std.specs.Ordering.{is_lt, is_eq, eq_by_cmp}
 use Rattle.std.specs.Cmp.{IsTotalOrder, tied_itself}
 use Rattle.std.specs.FinMap.{find, is_sorted}
 use Rattle.std.specs.FinMap.Entries.{below_all, find_tied}
-use Rattle.sorted_map.specs.Bools.{left_of, right_of}
+use Rattle.sorted_map.proofs.Bools.{left_of, right_of}
 
 -- an entry that passes a test is found at its key
 module _ {K X : Type 0} {R : K → K → Ordering} (o : IsTotalOrder R) where

@@ -15,14 +15,11 @@ use Rattle.std.specs.FinMap.{find, is_sorted, get-entries}
 use Rattle.std.specs.FinMap.Entries.{below_all}
 use Rattle.mds_types.specs.declared.dentries.Dentry.{Dentry}
 use Rattle.mds_types.specs.declared.inodes.Inode.{Inode}
-use Rattle.mds_types.specs.Tree.{Tree, dentry_cmp, dentry_of, has_entries, at}
+use Rattle.mds_types.specs.Tree.{Tree, dentry_cmp, dentry_of, has_entries}
 use Rattle.mds_types.specs.Step.{is_after, names_after}
-use Rattle.sorted_map.specs.Bools.{left_of, right_of, both_of, first_true, second_true}
-
--- names in order with the inodes that they have in a directory: just those greater than `after`, and none is left out
-pub record IsListing (tree : Tree) (d : ℕ) (after : Option (List ℕ)) (names : List (List ℕ × Inode)) : Type 0 where
-  pub rises : T (is_sorted (slice_cmp nat_cmp) names)
-  pub exact : (name : List ℕ) → find (slice_cmp nat_cmp) name names ≡ cond (is_after after name) (at tree d name) None
+use Rattle.sorted_map.proofs.Bools.{left_of, right_of, both_of, first_true, second_true}
+use Rattle.mds_types.specs.Outcomes.{IsListing}
+use Rattle.sorted_map.proofs.PlaceLaws.{less as less_of}
 
 abbrev is_listed : ℕ → Option (List ℕ) → Dentry × Inode → Bool
 is_listed d after e = (e.0.dir.0 == d) && is_after after e.0.name
@@ -160,11 +157,6 @@ no_entries_listed tree d is = none_listed d (finmap.entries tree) is
 
 not_after : (r : Ordering) → r ≡ Less → is_lt (ordering_reverse r) ≡ false
 not_after r is = ap (λ s. is_lt (ordering_reverse s)) is
-
-less_of : (r : Ordering) → T (is_lt r) → r ≡ Less
-less_of Less h = refl
-less_of Equal h = absurd h
-less_of Greater h = absurd h
 
 -- what is left of a page: the names greater than one of them are those behind it
 module _ {K X : Type 0} {R : K → K → Ordering} (o : IsTotalOrder R) where

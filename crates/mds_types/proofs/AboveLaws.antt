@@ -8,12 +8,12 @@ use Rattle.std.specs.FinMap.{get-empty, get-entries, len-remove, empty_of_len}
 use Rattle.mds_types.specs.declared.dentries.Dentry.{Dentry}
 use Rattle.mds_types.specs.declared.inodes.Inode.{Inode}
 use Rattle.mds_types.specs.Tree.{Tree, dentry_cmp, dentry_of, at, is_above_within, is_above, IsAbove, child, further, IsWellFormed}
-use Rattle.mds_types.specs.OrderLaws.{dentry-total}
-use Rattle.mds_types.specs.DirectoryLaws.{one_dentry}
-use Rattle.mds_types.specs.EntryLaws.{get_left, stands_after_removal, any_of}
-use Rattle.mds_types.specs.EntrySearch.{any_found}
-use Rattle.sorted_map.specs.Bools.{first_true, second_true, both_true, or_first, or_second}
-use Rattle.sorted_map.specs.NatKeys.{is_same}
+use Rattle.mds_types.proofs.OrderLaws.{dentry-total}
+use Rattle.mds_types.proofs.DirectoryLaws.{one_dentry}
+use Rattle.mds_types.proofs.EntryLaws.{get_left, stands_after_removal, any_of}
+use Rattle.mds_types.proofs.EntrySearch.{any_found}
+use Rattle.sorted_map.proofs.Bools.{first_true, second_true, both_true, or_first, or_second}
+use Rattle.sorted_map.proofs.NatKeys.{is_same}
 
 -- so many entries lead from the root to the inode of a number
 abbrev pub Climbs : Tree → ℕ → ℕ → Type 0

@@ -5,8 +5,8 @@ use Rattle.std.specs.FinMap as map
 use Rattle.mds_types.specs.declared.dentries.Dentry.{Dentry}
 use Rattle.mds_types.specs.declared.inodes.Inode.{Inode}
 use Rattle.mds_types.specs.Tree.{Tree, dentry_of, is_directory, is_dir_kind, IsAbove, child, further, HasSize, IsWellFormed}
-use Rattle.mds_types.specs.EntryLaws.{get_put, get_beside, stands_after_put, same_or_apart}
-use Rattle.mds_types.specs.DirectoryLaws.{StandsAs, directory_stands, root_stands, entry_stands}
+use Rattle.mds_types.proofs.EntryLaws.{get_put, get_beside, stands_after_put, same_or_apart}
+use Rattle.mds_types.proofs.DirectoryLaws.{StandsAs, directory_stands, root_stands, entry_stands}
 
 module _ (tree : Tree) (dentry : Dentry) (before later : Inode) (stood : map.get tree dentry ≡ Some before) (numbered : later.ino ≡ before.ino) (kinded : later.kind ≡ before.kind) where
   abbrev changed : Tree

@@ -7,12 +7,12 @@ use Rattle.std.specs.FinMap as map
 use Rattle.std.specs.FinMap.{get-entries}
 use Rattle.mds_types.specs.declared.dentries.Dentry.{Dentry}
 use Rattle.mds_types.specs.declared.inodes.Inode.{Inode}
-use Rattle.mds_types.specs.Tree.{Tree, at, is_directory, is_entry_of_directory, is_dir_kind, has_entries, IsAbove, child, further, IsWellFormed}
-use Rattle.mds_types.specs.OrderLaws.{dentry-total}
-use Rattle.mds_types.specs.EntryLaws.{any_of}
-use Rattle.mds_types.specs.EntrySearch.{any_found}
-use Rattle.sorted_map.specs.Bools.{first_true, second_true, both_true, or_cases, or_second}
-use Rattle.sorted_map.specs.NatKeys.{is_same}
+use Rattle.mds_types.specs.Tree.{Tree, at, is_directory, is_entry_of_directory, is_dir_kind, has_entries, IsAbove, child, further, IsWellFormed, NothingIn}
+use Rattle.mds_types.proofs.OrderLaws.{dentry-total}
+use Rattle.mds_types.proofs.EntryLaws.{any_of}
+use Rattle.mds_types.proofs.EntrySearch.{any_found}
+use Rattle.sorted_map.proofs.Bools.{first_true, second_true, both_true, or_cases, or_second}
+use Rattle.sorted_map.proofs.NatKeys.{is_same}
 
 -- no number stands at two dentries
 pub one_dentry : (tree : Tree) → IsWellFormed tree → (p q : Dentry) (i j : Inode) → map.get tree p ≡ Some i → map.get tree q ≡ Some j → i.ino.0 ≡ j.ino.0 → p ≡ q
@@ -59,10 +59,6 @@ entry_stands tree dentry inode stands kinded =
 pub entries_there : (tree : Tree) (dentry : Dentry) (inode : Inode) → map.get tree dentry ≡ Some inode → has_entries tree dentry.dir.0 ≡ true
 unfolding has_entries
 entries_there tree dentry inode stands = any_of tree (λ e. e.0.dir.0 == dentry.dir.0) dentry inode stands (is_same dentry.dir.0 dentry.dir.0 refl)
-
--- no entry is in what has this number
-abbrev pub NothingIn : Tree → ℕ → Type 0
-NothingIn tree d = (q : Dentry) (x : Inode) → map.get tree q ≡ Some x → q.dir.0 ≡ d → ⊥
 
 -- nothing is in a directory that has no entries
 pub nothing_in_empty : (tree : Tree) (d : ℕ) → has_entries tree d ≡ false → NothingIn tree d

@@ -2,8 +2,6 @@
 use Rattle.std.specs.Prelude.{◌≡◌, Bool, true, false, cond, ◌||◌, ◌⊎◌, List, [], ◌∷◌, Some, None, refl}
 use Rattle.std.specs.List.{list_any}
 use Rattle.std.proofs.Common.{sym, ap, ◌∙◌, inl, inr}
-use Rattle.std.specs.declared.cmp.Ordering.{Ordering}
-use Rattle.std.specs.declared.cmp.Ordering.TheVariants.{Less, Equal, Greater}
 use Rattle.std.specs.Ordering.{is_eq, eq_by_cmp}
 use Rattle.std.specs.Cmp.{tied_itself}
 use Rattle.std.specs.FinMap as map
@@ -11,13 +9,10 @@ use Rattle.std.specs.FinMap.{find, get-entries, get-insert, get-remove}
 use Rattle.mds_types.specs.declared.dentries.Dentry.{Dentry}
 use Rattle.mds_types.specs.declared.inodes.Inode.{Inode}
 use Rattle.mds_types.specs.Tree.{Tree, dentry_cmp}
-use Rattle.mds_types.specs.OrderLaws.{dentry-total, dentry-exact}
-use Rattle.sorted_map.specs.Bools.{or_first, or_second}
-
-pub tie : (r : Ordering) → is_eq r ≡ true → r ≡ Equal
-tie Less h = cc
-tie Equal h = refl
-tie Greater h = cc
+use Rattle.mds_types.proofs.OrderLaws.{dentry-total}
+use Rattle.mds_types.specs.OrderLaws.{dentry-exact}
+use Rattle.sorted_map.proofs.Bools.{or_first, or_second, not_true}
+use Rattle.sorted_map.proofs.MapLaws.{tie}
 
 -- two dentries that tie are one
 pub dentry_tied : (p q : Dentry) → eq_by_cmp dentry_cmp p q ≡ true → p ≡ q
@@ -28,10 +23,6 @@ dentry_itself p = ap is_eq (tied_itself dentry-total p)
 
 pub same_dentry_is : (p q : Dentry) → p ≡ q → eq_by_cmp dentry_cmp p q ≡ true
 same_dentry_is p q same = ap (λ r. eq_by_cmp dentry_cmp p r) (sym same) ∙ dentry_itself p
-
-pub not_true : (b : Bool) → (b ≡ true → ⊥) → b ≡ false
-not_true true h = absurd (h refl)
-not_true false h = refl
 
 pub dentry_apart : (p q : Dentry) → (p ≡ q → ⊥) → eq_by_cmp dentry_cmp p q ≡ false
 dentry_apart p q apart = not_true _ (λ tied. apart (dentry_tied p q tied))

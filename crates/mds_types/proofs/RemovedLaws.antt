@@ -4,9 +4,9 @@ use Rattle.std.proofs.Common.{sym, ap, ◌∙◌, ⊎_elim, inl, inr}
 use Rattle.std.specs.FinMap as map
 use Rattle.mds_types.specs.declared.dentries.Dentry.{Dentry}
 use Rattle.mds_types.specs.declared.inodes.Inode.{Inode}
-use Rattle.mds_types.specs.Tree.{Tree, at, dentry_of, is_directory, IsAbove, child, further, IsWellFormed}
-use Rattle.mds_types.specs.EntryLaws.{get_left, stands_after_removal, same_or_apart}
-use Rattle.mds_types.specs.DirectoryLaws.{StandsAs, directory_stands, root_stands, entry_stands, NothingIn}
+use Rattle.mds_types.specs.Tree.{Tree, at, dentry_of, is_directory, IsAbove, child, further, IsWellFormed, NothingIn}
+use Rattle.mds_types.proofs.EntryLaws.{get_left, stands_after_removal, same_or_apart}
+use Rattle.mds_types.proofs.DirectoryLaws.{StandsAs, directory_stands, root_stands, entry_stands}
 
 module _ (tree : Tree) (dentry : Dentry) (gone : Inode) (stood : map.get tree dentry ≡ Some gone) (nothing : NothingIn tree gone.ino.0) where
   abbrev left : Tree

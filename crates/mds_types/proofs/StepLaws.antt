@@ -6,12 +6,12 @@ use Rattle.mds_types.specs.declared.attributes.Attributes.{Attributes}
 use Rattle.mds_types.specs.declared.inodes.Inode.{Inode}
 use Rattle.mds_types.specs.declared.operations.Op.{Op}
 use Rattle.mds_types.specs.declared.operations.Op.TheVariants.{Lookup, Readdir, Create, Mkdir, Readlink, Symlink, Setattr, Unlink, Rmdir, Rename}
-use Rattle.mds_types.specs.declared.replies.Reply.{Reply}
-use Rattle.mds_types.specs.declared.replies.Reply.TheVariants.{Entry, Entries, Target, Done, Errno}
+use Rattle.mds_types.specs.declared.replies.Reply.TheVariants.{Entry, Done, Errno}
 use Rattle.std.specs.FinMap as map
 use Rattle.std.specs.Ordering.{eq_by_cmp}
 use Rattle.mds_types.specs.Tree.{Tree, dentry_cmp, is_directory, is_dir_kind}
 use Rattle.mds_types.specs.Step.{Outcome, answers, unless, with_attributes, directory_of, destination_of, found, within, step, made, read_link, size_errno, attributes_set, unlinked, dir_removed, removal_errno, leads_to, replace_errno, renamed}
+use Rattle.mds_types.specs.Outcomes.{ErrnoLeaves, TakesWhereMade, is_errno, makes}
 
 made-unused : (tree : Tree) (dentry : Dentry) (i j : Inode) (found : Option Inode) → (made tree dentry i found).takes ≡ false → made tree dentry i found ≡ made tree dentry j found
 made-unused tree dentry i j None unused = cc
@@ -36,31 +36,6 @@ chosen-unused false x y z same unused = refl
 -- a number that the table doesn't take has no part in the outcome
 pub unused : (tree : Tree) (op : Op) (n m : ℕ) → (step tree op n).takes ≡ false → step tree op n ≡ step tree op m
 unused tree op n m = chosen-unused (is_directory tree (directory_of op) && is_directory tree (destination_of op)) _ _ _ (within-unused tree op n m)
-
--- whether an operation makes an inode where it succeeds
-abbrev pub makes : Op → Bool
-makes (Lookup dentry) = false
-makes (Readdir dir after max) = false
-makes (Create dentry mode mtime) = true
-makes (Mkdir dentry mode mtime) = true
-makes (Readlink dentry) = false
-makes (Symlink dentry target mtime) = true
-makes (Setattr dentry given) = false
-makes (Unlink dentry) = false
-makes (Rmdir dentry) = false
-makes (Rename from to) = false
-
--- whether a reply is an error number
-abbrev pub is_errno : Reply → Bool
-is_errno (Entry inode) = false
-is_errno (Entries list more) = false
-is_errno (Target target) = false
-is_errno Done = false
-is_errno (Errno number) = true
-
--- an errno changes nothing
-abbrev pub ErrnoLeaves : Tree → Outcome → Type 0
-ErrnoLeaves tree outcome = is_errno outcome.reply ≡ true → outcome.tree ≡ tree
 
 found-leaves : (tree : Tree) (found_one : Option Inode) → ErrnoLeaves tree (found tree found_one)
 found-leaves tree None errno = refl
@@ -124,10 +99,6 @@ chosen-leaves false tree x h = λ errno. refl
 
 pub errno_leaves : (tree : Tree) (op : Op) (n : ℕ) → ErrnoLeaves tree (step tree op n)
 errno_leaves tree op n = chosen-leaves (is_directory tree (directory_of op) && is_directory tree (destination_of op)) tree (within tree op n) (within-leaves tree op n)
-
--- a number is taken exactly where an operation that makes an inode succeeds
-abbrev pub TakesWhereMade : Op → Outcome → Type 0
-TakesWhereMade op outcome = outcome.takes ≡ (makes op && not (is_errno outcome.reply))
 
 found-takes : (tree : Tree) (found_one : Option Inode) → (found tree found_one).takes ≡ false
 found-takes tree None = refl
