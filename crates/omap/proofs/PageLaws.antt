@@ -9,13 +9,8 @@ use Rattle.std.specs.Cmp.Lexicographic.{nat_list_cmp_total}
 use Rattle.std.specs.FinMap as map
 use Rattle.std.specs.FinMap.Entries.{is_sorted-where_key}
 use Rattle.mds_types.specs.Step.{is_after}
-use Rattle.mds_types.specs.ListingLaws.{greater_than_row}
-use Rattle.omap.specs.Omap.{PairMap, key_cmp, pairs_after}
-
--- the pairs from the next page on: those after a pair follow it, so a page and what comes after its last pair are the whole
-abbrev pub PagesMakeUpWhole : Type 0
-PagesMakeUpWhole = (pairs : PairMap) (after : Option (List ℕ)) (i : ℕ) (pair : List ℕ × List ℕ) → slice_get (pairs_after pairs after) i ≡ Some pair
-    → take (suc i) (pairs_after pairs after) ++ pairs_after pairs (Some pair.0) ≡ pairs_after pairs after
+use Rattle.mds_types.proofs.ListingLaws.{greater_than_row}
+use Rattle.omap.specs.Omap.{key_cmp, pairs_after, PagesMakeUpWhole}
 
 less_is : (r : Ordering) → is_lt r ≡ true → r ≡ Less
 less_is Less h = refl

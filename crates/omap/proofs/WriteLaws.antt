@@ -1,5 +1,5 @@
 -- The parts of an object after an operation.
-use Rattle.std.specs.Prelude.{◌≡◌, ℕ, List, [], Option, Some, None, Bool, true, false, refl}
+use Rattle.std.specs.Prelude.{◌≡◌, ℕ, List, Option, Some, None, Bool, true, false, refl}
 use Rattle.std.proofs.Common.{ap, sym, ◌∙◌}
 use Rattle.std.specs.Option.{option_or}
 use Rattle.std.specs.Cmp.Lexicographic.{nat_list_cmp_total}
@@ -7,21 +7,10 @@ use Rattle.std.specs.FinMap as map
 use Rattle.std.specs.FinMap.{same_map, get-empty}
 use Rattle.std.proofs.lemmas.Map.Lookups.{exact_bytes}
 use Rattle.sorted_map.specs.Overlay.{overlaid, without_keys}
-use Rattle.sorted_map.specs.Laws.{get-overlaid}
+use Rattle.sorted_map.proofs.MapLaws.{get-overlaid}
 use Rattle.omap.specs.declared.write_ops.WriteOp.{WriteOp}
 use Rattle.omap.specs.Omap.{Omap, PairMap, key_cmp}
-use Rattle.omap.specs.Writes.{applied}
-
--- the header after an operation that clears or not, and writes a header or not
-abbrev pub header_after : Bool → Option (List ℕ) → List ℕ → List ℕ
-header_after clear (Some header) old = header
-header_after true None old = []
-header_after false None old = old
-
--- the pairs into which an operation sets its own
-abbrev pub pairs_before : Bool → PairMap → PairMap
-pairs_before true old = map.empty
-pairs_before false old = old
+use Rattle.omap.specs.Writes.{applied, header_after, pairs_before}
 
 applied_by : (clear : Bool) (header : Option (List ℕ)) (op : WriteOp) (old : Omap) → op.clear ≡ clear → op.header ≡ header
     → applied op old ≡ record { header = header_after clear header old.header; pairs = without_keys (overlaid (pairs_before clear old.pairs) op.set) op.remove }
