@@ -11,18 +11,20 @@ use Rattle.mds_types.specs.declared.dentries.Dentry.{Dentry}
 use Rattle.mds_types.specs.declared.inodes.Inode.{Inode}
 use Rattle.mds_types.specs.Frag.{Fragment}
 use Rattle.mds_types.specs.Tree.{Tree, dentry_cmp, dentry_of}
-use Rattle.mds_types.specs.OrderLaws.{dentry-total, dentry-exact}
-use Rattle.mds_types.specs.EntryLaws.{tie, dentry_apart}
-use Rattle.mds_types.specs.ListingLaws.{tied_dentry}
+use Rattle.mds_types.proofs.OrderLaws.{dentry-total}
+use Rattle.mds_types.specs.OrderLaws.{dentry-exact}
+use Rattle.sorted_map.proofs.MapLaws.{tie}
+use Rattle.mds_types.proofs.EntryLaws.{dentry_apart}
+use Rattle.mds_types.proofs.ListingLaws.{tied_dentry}
 use Rattle.fragtree.specs.FragTree.{IsPick}
 use Rattle.namehash.specs.Rjenkins.{hash_of}
 use Rattle.inode_table.specs.Dirs.{Covers, or_whole, leaves_of}
 use Rattle.leaf_maps.specs.Leaves.{Names, Leaves, names_of, names_in, shown_by, ArePlaced, HavePicks}
 use Rattle.leaf_maps.specs.Changes.{HaveSameNames, IsRewritten}
-use Rattle.leaf_maps.specs.LeafLaws.{shown_at}
-use Rattle.leaf_maps.specs.OneLeaf.{one_or_other, names_same}
+use Rattle.leaf_maps.proofs.LeafLaws.{shown_at}
+use Rattle.leaf_maps.proofs.OneLeaf.{one_or_other, names_same}
 use Rattle.leaf_maps.specs.Regroup.{IsRegrouped}
-use Rattle.sorted_map.specs.NatKeys.{same_or_apart, get_put, get_beside}
+use Rattle.sorted_map.proofs.NatKeys.{same_or_apart, get_put, get_beside}
 
 -- leaves among which names lie otherwise show the same tree, if each name is with its pick before and after
 pub shown_regrouped : (covers later : Covers) (old new : Leaves) → HavePicks covers → HavePicks later → ArePlaced covers old → ArePlaced later new

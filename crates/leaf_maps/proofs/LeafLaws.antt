@@ -14,11 +14,12 @@ use Rattle.mds_types.specs.declared.dentries.Dentry.{Dentry}
 use Rattle.mds_types.specs.declared.inodes.Inode.{Inode}
 use Rattle.mds_types.specs.Frag.{Fragment, frag_cmp}
 use Rattle.mds_types.specs.Tree.{dentry_cmp, dentry_of}
-use Rattle.mds_types.specs.OrderLaws.{dentry-total, ino-exact, frag-exact, frag-total}
-use Rattle.mds_types.specs.EntryLaws.{tie}
-use Rattle.mds_types.specs.EntrySearch.{not_found_below}
-use Rattle.mds_types.specs.ListingLaws.{tied_dentry}
-use Rattle.sorted_map.specs.Bools.{left_of, right_of}
+use Rattle.mds_types.proofs.OrderLaws.{dentry-total, frag-total}
+use Rattle.mds_types.specs.OrderLaws.{ino-exact, frag-exact}
+use Rattle.sorted_map.proofs.MapLaws.{tie}
+use Rattle.mds_types.proofs.EntrySearch.{not_found_below}
+use Rattle.mds_types.proofs.ListingLaws.{tied_dentry}
+use Rattle.sorted_map.proofs.Bools.{left_of, right_of}
 use Rattle.sorted_map.specs.SortedMap.{contents}
 use Rattle.fragtree.specs.FragTree.{IsPick}
 use Rattle.namehash.specs.Rjenkins.{hash_of}

@@ -4,9 +4,10 @@ use Rattle.std.proofs.Common.{inl, inr, sym, ap, ◌∙◌}
 use Rattle.std.specs.Ordering.{eq_by_cmp, is_eq}
 use Rattle.std.specs.Cmp.{tied_itself}
 use Rattle.mds_types.specs.Frag.{Fragment}
-use Rattle.mds_types.specs.EntryLaws.{tie, not_true}
+use Rattle.sorted_map.proofs.MapLaws.{tie}
+use Rattle.sorted_map.proofs.Bools.{not_true}
 use Rattle.leaf_maps.specs.Leaves.{Leaf, leaf_cmp, Leaves, names_in}
-use Rattle.leaf_maps.specs.LeafLaws.{leaf-exact, leaf-total}
+use Rattle.leaf_maps.proofs.LeafLaws.{leaf-exact, leaf-total}
 
 -- the key of a leaf
 abbrev pub key : ℕ → Fragment → Leaf

@@ -6,22 +6,22 @@ use Rattle.std.specs.Ordering.{eq_by_cmp, is_eq}
 use Rattle.std.specs.Cmp.{tied_itself}
 use Rattle.std.specs.FinMap as finmap
 use Rattle.std.specs.FinMap.{get-remove, get-empty}
-use Rattle.sorted_map.specs.Bools.{or_first, or_second}
+use Rattle.sorted_map.proofs.Bools.{or_first, or_second}
 use Rattle.sorted_map.specs.Overlay.{overlaid}
-use Rattle.sorted_map.specs.Laws.{get-overlaid}
+use Rattle.sorted_map.proofs.MapLaws.{get-overlaid, tie}
 use Rattle.mds_types.specs.declared.inodes.Inode.{Inode}
 use Rattle.mds_types.specs.Frag.{Fragment, frag_cmp}
-use Rattle.mds_types.specs.OrderLaws.{frag-exact, frag-total}
-use Rattle.mds_types.specs.EntryLaws.{tie}
+use Rattle.mds_types.specs.OrderLaws.{frag-exact}
+use Rattle.mds_types.proofs.OrderLaws.{frag-total}
 use Rattle.fragtree.specs.FragTree.{HasLeaf, IsPick}
 use Rattle.namehash.specs.Rjenkins.{hash_of}
 use Rattle.leaf_maps.specs.Leaves.{Rows, Leaves, leaf_cmp, names_of, names_in}
-use Rattle.leaf_maps.specs.LeafLaws.{leaf-total}
-use Rattle.leaf_maps.specs.OneLeaf.{key, key_itself, apart_keys}
+use Rattle.leaf_maps.proofs.LeafLaws.{leaf-total}
+use Rattle.leaf_maps.proofs.OneLeaf.{key, key_itself, apart_keys}
 use Rattle.leaf_maps.specs.Regroup.{ArePlacedIn, AreKeptIn, IsRegrouped, is_leaf, gathered, Gathers, cleared}
-use Rattle.leaf_maps.specs.RegroupLaws.{leaf_is, is_one, gathered_has}
+use Rattle.leaf_maps.proofs.RegroupLaws.{leaf_is, is_one, gathered_has}
 
-leaf_itself : (f : Fragment) (fs : List Fragment) → is_leaf (f ∷ fs) f ≡ true
+pub leaf_itself : (f : Fragment) (fs : List Fragment) → is_leaf (f ∷ fs) f ≡ true
 leaf_itself f fs = or_first _ _ (ap is_eq (tied_itself frag-total f))
 
 -- a row that is none of those cleared away stays

@@ -10,16 +10,17 @@ use Rattle.std.specs.Cmp.Lexicographic.{slice_cmp, nat_list_cmp_total}
 use Rattle.std.specs.FinMap as finmap
 use Rattle.std.specs.FinMap.{get-insert}
 use Rattle.sorted_map.specs.Overlay.{overlaid}
-use Rattle.sorted_map.specs.Laws.{get-overlaid}
+use Rattle.sorted_map.proofs.MapLaws.{get-overlaid, tie}
 use Rattle.mds_types.specs.declared.inodes.Inode.{Inode}
 use Rattle.mds_types.specs.Frag.{Fragment, frag_cmp}
-use Rattle.mds_types.specs.OrderLaws.{frag-exact, frag-total}
-use Rattle.mds_types.specs.EntryLaws.{tie, not_true}
+use Rattle.mds_types.specs.OrderLaws.{frag-exact}
+use Rattle.mds_types.proofs.OrderLaws.{frag-total}
+use Rattle.sorted_map.proofs.Bools.{not_true}
 use Rattle.fragtree.specs.FragTree.{HasLeaf, IsPick}
 use Rattle.namehash.specs.Rjenkins.{hash_of}
 use Rattle.leaf_maps.specs.Leaves.{Names, Rows, Leaves, names_in}
 use Rattle.leaf_maps.specs.Changes.{HaveSameNames, IsRewritten, AreLeftAlone}
-use Rattle.leaf_maps.specs.OneLeaf.{one_or_other}
+use Rattle.leaf_maps.proofs.OneLeaf.{one_or_other}
 use Rattle.leaf_maps.specs.Regroup.{ArePlacedIn, is_leaf, gathered, Gathers}
 
 -- the test of leaves tells what is a leaf
