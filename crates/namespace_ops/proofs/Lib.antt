@@ -1,4 +1,6 @@
 pub mod ChangedLaws
 pub mod CheckedParts
 pub mod Members
+pub mod PickLaws
 pub mod PlanParts
+pub mod ReasonLaws
