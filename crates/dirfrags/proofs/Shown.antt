@@ -6,13 +6,13 @@ use Rattle.std.specs.FinMap.{get-insert, get-remove}
 use Rattle.mds_types.specs.declared.dentries.Dentry.{Dentry}
 use Rattle.mds_types.specs.declared.inodes.Inode.{Inode}
 use Rattle.mds_types.specs.Frag.{Fragment, root_fragment}
-use Rattle.mds_types.specs.OrderLaws.{dentry-total}
+use Rattle.mds_types.proofs.OrderLaws.{dentry-total}
 use Rattle.fragtree.specs.FragTree.{IsTree, IsPick}
 use Rattle.namehash.specs.Rjenkins.{hash_of}
 use Rattle.inode_table.specs.Dirs.{Homes, Covers, IsTable, leaves_of, or_whole}
 use Rattle.leaf_maps.specs.Leaves.{Leaves, names_in, shown_by, ArePlaced, HavePicks}
 use Rattle.leaf_maps.specs.Changes.{IsRewritten}
-use Rattle.leaf_maps.specs.ShownLaws.{placed_after, shown_after}
+use Rattle.leaf_maps.proofs.ShownTrees.{placed_after, shown_after}
 
 -- `*` alone covers every hash
 root_is_tree : IsTree (root_fragment ∷ [])

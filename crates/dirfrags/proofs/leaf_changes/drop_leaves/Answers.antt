@@ -1,4 +1,4 @@
-use Rattle.leaf_maps.specs.ShownLaws.{placed_still, shown_still}
+use Rattle.leaf_maps.proofs.ShownTrees.{placed_still, shown_still}
 use Rattle.dirfrags.proofs.LeafChanges.{none_in, placed_dropped}
 use Rattle.dirfrags.proofs.leaf_changes.drop_leaves.Goals as goal
 

@@ -1,6 +1,6 @@
 use Rattle.std.proofs.Common.{sym, ap, ◌∙◌}
 use Rattle.leaf_maps.specs.Leaves.{shown_by}
-use Rattle.mds_types.specs.MovedLaws.{IsMove}
+use Rattle.mds_types.specs.Step.{IsMove}
 use Rattle.namespace_ops.specs.Changes.{moved}
 use Rattle.std.specs.Option.{option_copied}
 use Rattle.inode_table.specs.TreeTable.{without_cover}
