@@ -15,6 +15,7 @@ run: all
 # `rt ci` proves and builds the program; nothing is proved again for what follows it
 test:
 	@rt ci
+	@tests/claims/run
 	@cp crates/cephmeta/out/cephmeta cephmeta
 	@examples/check
 	@tests/refused_growths/run

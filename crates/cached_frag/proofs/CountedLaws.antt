@@ -8,8 +8,8 @@ use Rattle.std.specs.Cmp.Lexicographic.{nat_list_cmp_total}
 use Rattle.std.specs.FinMap as map
 use Rattle.std.specs.FinMap.{find, is_sorted, entries_sorted, entries-insert, get-entries, len-empty, len-entries}
 use Rattle.std.specs.FinMap.Entries.{below_all, by_order, put}
-use Rattle.sorted_map.specs.Bools.{both_of, left_of, right_of}
-use Rattle.mds_types.specs.EntrySearch.{not_found_below}
+use Rattle.sorted_map.proofs.Bools.{both_of, left_of, right_of}
+use Rattle.mds_types.proofs.EntrySearch.{not_found_below}
 use Rattle.mds_types.specs.Tree.{is_dir_kind}
 use Rattle.mds_types.specs.declared.inodes.Inode.{Inode}
 use Rattle.omap.specs.Omap.{key_cmp}

@@ -9,7 +9,7 @@ use Rattle.std.specs.FinMap as map
 use Rattle.std.specs.FinMap.{find, is_sorted, entries_sorted, get-entries}
 use Rattle.std.specs.FinMap.Entries.{below_all, by_order, find-where_key, is_sorted-where_key, same_entries, where_key}
 use Rattle.std.proofs.lemmas.Map.Lookups.{exact_bytes}
-use Rattle.sorted_map.specs.Bools.{both_of, left_of, right_of}
+use Rattle.sorted_map.proofs.Bools.{both_of, left_of, right_of}
 use Rattle.mds_types.specs.Step.{is_after}
 use Rattle.mds_types.specs.declared.inodes.Inode.{Inode}
 use Rattle.omap.specs.Omap.{key_cmp}

@@ -6,11 +6,11 @@ use Rattle.mds_types.specs.declared.entries.Entry.{Entry}
 use Rattle.mds_types.specs.declared.requests.Request.{Request}
 use Rattle.mds_types.specs.Tree.{Tree}
 use Rattle.mds_types.specs.Step.{Outcome, step, number_or}
-use Rattle.mds_types.specs.StepLaws.{unused}
+use Rattle.mds_types.proofs.StepLaws.{unused}
 use Rattle.mds_types.specs.History.{after, IsNext, IsLawful}
-use Rattle.mds_types.specs.HistoryLaws.{after-push, legal-push, used-push}
+use Rattle.mds_types.proofs.HistoryLaws.{after-push, legal-push, used-push}
 use Rattle.inode_table.specs.Numbers.{Supply, IsSupply, offer, first_number, end_number}
-use Rattle.sessions.specs.TableLaws.{table-push}
+use Rattle.sessions.proofs.TableLaws.{table-push}
 use Rattle.cluster_core.specs.State.{State, shown}
 use Rattle.cluster_core.specs.declared.answers.Answer.{Answer}
 use Rattle.cluster_core.specs.Offer.{after_taking}

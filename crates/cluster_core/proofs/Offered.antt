@@ -4,9 +4,8 @@ use Rattle.std.proofs.lemmas.Bool.Decides.{nat_tests}
 use Rattle.std.specs.FinMap as map
 use Rattle.mds_types.specs.declared.ids.Ino.{Ino}
 use Rattle.mds_types.specs.declared.entries.Entry.{Entry}
-use Rattle.mds_types.specs.Tree.{Tree, dentry_of}
-use Rattle.mds_types.specs.UsedLaws.{numbers_used}
-use Rattle.mds_types.specs.WellFormedLaws.{IsUnused}
+use Rattle.mds_types.specs.Tree.{Tree, dentry_of, IsUnused}
+use Rattle.mds_types.proofs.UsedLaws.{numbers_used}
 use Rattle.inode_table.specs.Numbers.{offer, end_number}
 use Rattle.namespace_ops.specs.Changes.{IsOffered}
 use Rattle.cluster_core.specs.State.{State, shown}

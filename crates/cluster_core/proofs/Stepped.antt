@@ -6,9 +6,9 @@ use Rattle.mds_types.specs.declared.requests.Request.{Request}
 use Rattle.mds_types.specs.declared.refusals.Refusal.{Refusal}
 use Rattle.mds_types.specs.declared.refusals.Refusal.TheVariants.{NotAuthority}
 use Rattle.mds_types.specs.Tree.{Tree, numbers}
-use Rattle.mds_types.specs.TreeLaws.{entries-empty}
+use Rattle.mds_types.proofs.TreeLaws.{entries-empty}
 use Rattle.mds_types.specs.History.{IsUsed}
-use Rattle.sessions.specs.TableLaws.{table-none}
+use Rattle.sessions.proofs.TableLaws.{table-none}
 use Rattle.cluster_core.specs.declared.answers.Answer.{Answer}
 use Rattle.cluster_core.specs.declared.events.Event.{Event}
 use Rattle.cluster_core.specs.declared.events.Event.TheVariants.{Arrive, Serve, Split, Merge}

@@ -4,7 +4,7 @@ ghost use Rattle.std.specs.Cmp.{on_per, on_equiv, partial_equiv_from_equiv, deci
 ghost use Rattle.std.specs.Cmp.Lexicographic.{pointwise, lists_equiv};
 ghost use Rattle.std.specs.FinMap as map;
 ghost use Rattle.std.proofs.Common.{rules};
-ghost use Rattle.mds_types.specs.Decided.{pair_decides};
+ghost use Rattle.sorted_map.proofs.Decided.{pair_decides};
 ghost use Rattle.mds_types.specs.declared.dentries.Dentry as DentryValue;
 ghost use Rattle.mds_types.specs.declared.inodes.Inode as InodeValue;
 ghost use Rattle.sorted_map.specs.SortedMap.{pairs_eq};

@@ -6,12 +6,12 @@ use Rattle.std.specs.Option.{option_or}
 use Rattle.std.specs.Cmp.Lexicographic.{nat_list_cmp_total}
 use Rattle.std.specs.FinMap as map
 use Rattle.std.specs.FinMap.{get-empty}
-use Rattle.sorted_map.specs.Laws.{get-overlaid, get-without_keys}
+use Rattle.sorted_map.proofs.MapLaws.{get-overlaid, get-without_keys}
 use Rattle.sorted_map.specs.Overlay.{overlaid, without_keys}
 use Rattle.mds_types.specs.declared.inodes.Inode.{Inode}
 use Rattle.omap.specs.EntryKeys.{entry_key}
 use Rattle.omap.specs.Omap.{Keys, Omap, PairMap, key_cmp}
-use Rattle.omap.specs.WriteLaws.{applied-parts}
+use Rattle.omap.proofs.WriteLaws.{applied-parts}
 use Rattle.omap.specs.Writes.{applied}
 use Rattle.dirfrag_codec.specs.EntryRecord.{HasRecord, SpellsEntry, entry_bytes}
 use Rattle.dirfrag_codec.specs.FragHeader.{SpellsHeader, header_bytes}

@@ -6,7 +6,7 @@ use Rattle.std.specs.Ordering.{eq_by_cmp, is_lt}
 use Rattle.std.specs.FinMap as map
 use Rattle.std.specs.FinMap.{find, is_sorted, entries_sorted, get-empty, get-entries, entries-from_sorted, get-from_sorted}
 use Rattle.std.specs.FinMap.Entries.{below_all}
-use Rattle.sorted_map.specs.Bools.{both_of, left_of, right_of}
+use Rattle.sorted_map.proofs.Bools.{both_of, left_of, right_of}
 use Rattle.mds_types.specs.declared.inodes.Inode.{Inode}
 use Rattle.omap.specs.Omap.{key_cmp}
 use Rattle.dirfrag_codec.specs.FragmentObject.{Names}

@@ -4,7 +4,7 @@ use Rattle.std.specs.Prelude.{T}
 use Rattle.std.specs.Ordering.{eq_by_cmp}
 use Rattle.std.specs.FinMap as map
 use Rattle.std.specs.FinMap.{find, is_sorted, entries_sorted, get-empty, get-entries}
-use Rattle.sorted_map.specs.Bools.{left_of, right_of}
+use Rattle.sorted_map.proofs.Bools.{left_of, right_of}
 use Rattle.mds_types.specs.declared.inodes.Inode.{Inode}
 use Rattle.omap.specs.EntryKeys.{entry_key}
 use Rattle.omap.specs.Omap.{Keys, PairMap, key_cmp}

@@ -9,7 +9,8 @@ use Rattle.std.specs.FinMap.{IsAntisymmetric}
 use Rattle.std.proofs.lemmas.Bool.Decides.{nat_tests}
 use Rattle.std.proofs.lemmas.Map.Lookups.{exact_pairs}
 use Rattle.mds_types.specs.Frag.{frag_cmp}
-use Rattle.mds_types.specs.OrderLaws.{frag-exact, frag-total, ino-exact}
+use Rattle.mds_types.specs.OrderLaws.{frag-exact, ino-exact}
+use Rattle.mds_types.proofs.OrderLaws.{frag-total}
 use Rattle.mds_types.specs.declared.ids.Ino.{Ino}
 use Rattle.dentry_cache.specs.Cache.{Leaf, leaf_cmp, leaf_is}
 

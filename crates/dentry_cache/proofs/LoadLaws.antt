@@ -5,7 +5,7 @@ use Rattle.std.specs.Ordering.{eq_by_cmp}
 use Rattle.std.proofs.lemmas.Bool.Decides.{nat_tests}
 use Rattle.std.specs.FinMap as map
 use Rattle.std.specs.FinMap.{find, is_sorted, entries_sorted, get-empty, get-entries}
-use Rattle.sorted_map.specs.Bools.{first_true, left_of, right_of, second_true}
+use Rattle.sorted_map.proofs.Bools.{first_true, left_of, right_of, second_true}
 use Rattle.sorted_map.specs.SortedMap.{Shown, contents}
 use Rattle.mds_types.specs.Frag.{Contains, Fragment, span}
 use Rattle.mds_types.specs.Name.{IsName}

@@ -2,21 +2,16 @@
 use Rattle.std.proofs.Common.{◌≡◌, ℕ, Bool, true, false, cond, ◌⊎◌, List, Some, None, refl, sym, ap, ◌∙◌, inl, inr}
 use Rattle.std.proofs.lemmas.Map.Lookups.{exact_bytes}
 use Rattle.std.specs.Prelude.{T}
-use Rattle.std.specs.declared.cmp.Ordering.{Ordering}
-use Rattle.std.specs.declared.cmp.Ordering.TheVariants.{Less, Equal, Greater}
 use Rattle.std.specs.Ordering.{is_eq, eq_by_cmp}
 use Rattle.std.specs.Cmp.{tied_itself}
 use Rattle.std.specs.Cmp.Lexicographic.{nat_list_cmp_total}
 use Rattle.std.specs.FinMap as map
 use Rattle.std.specs.FinMap.{find, get-insert, get-remove, same_map}
 use Rattle.std.specs.FinMap.Entries.{below_all}
-use Rattle.mds_types.specs.EntrySearch.{not_found_below}
+use Rattle.mds_types.proofs.EntrySearch.{not_found_below}
 use Rattle.omap.specs.Omap.{key_cmp}
-
-tie : (r : Ordering) → is_eq r ≡ true → r ≡ Equal
-tie Less h = cc
-tie Equal h = refl
-tie Greater h = cc
+use Rattle.sorted_map.proofs.MapLaws.{tie}
+use Rattle.sorted_map.proofs.Bools.{not_true}
 
 pub key_tied : (a b : List ℕ) → eq_by_cmp key_cmp a b ≡ true → a ≡ b
 key_tied a b tied = exact_bytes a b (tie (key_cmp a b) tied)
@@ -26,10 +21,6 @@ key_itself a = ap is_eq (tied_itself nat_list_cmp_total a)
 
 pub key_same : (a b : List ℕ) → a ≡ b → eq_by_cmp key_cmp a b ≡ true
 key_same a b same = ap (λ (k : List ℕ). eq_by_cmp key_cmp a k) (sym same) ∙ key_itself a
-
-not_true : (b : Bool) → (b ≡ true → ⊥) → b ≡ false
-not_true true h = absurd (h refl)
-not_true false h = refl
 
 pub key_apart : (a b : List ℕ) → (a ≡ b → ⊥) → eq_by_cmp key_cmp a b ≡ false
 key_apart a b apart = not_true _ (λ tied. apart (key_tied a b tied))

@@ -1,22 +1,21 @@
 -- The names of leaves with their room, and without it, show one tree.
 use Rattle.std.proofs.Common.{◌≡◌, ℕ, Bool, true, false, cond, ◌++◌, T, List, [], ◌∷◌, Option, Some, None, length, arith, refl, sym, ap, ◌∙◌}
-use Rattle.std.specs.declared.cmp.Ordering.{Ordering}
-use Rattle.std.specs.declared.cmp.Ordering.TheVariants.{Less, Equal, Greater}
-use Rattle.std.specs.Ordering.{nat_cmp, eq_by_cmp, is_eq}
+use Rattle.std.specs.Ordering.{nat_cmp, eq_by_cmp}
 use Rattle.std.specs.Cmp.Lexicographic.{slice_cmp}
 use Rattle.std.specs.FinMap as map
 use Rattle.std.specs.FinMap.{find, is_sorted, entries-from_sorted, entries_sorted, empty_of_len, get-entries, get-from_sorted, len-entries, len-empty, same_map}
 use Rattle.std.specs.FinMap.Entries.{below_all}
-use Rattle.sorted_map.specs.Bools.{left_of, right_of, both_of}
+use Rattle.sorted_map.proofs.Bools.{left_of, right_of, both_of}
 use Rattle.sorted_map.specs.SortedMap.{contents}
 use Rattle.mds_types.specs.declared.inodes.Inode.{Inode}
-use Rattle.mds_types.specs.EntrySearch.{not_found_below}
+use Rattle.mds_types.proofs.EntrySearch.{not_found_below}
 use Rattle.mds_types.specs.Frag.{Fragment}
 use Rattle.leaf_maps.specs.Leaves.{Leaf, Leaves, Names, Rows, leaf_cmp, names_of, names_in, entries_in, entries_of, shown_by}
-use Rattle.leaf_maps.specs.LeafLaws.{leaf-exact, leaf-total}
+use Rattle.leaf_maps.proofs.LeafLaws.{leaf-exact, leaf-total}
 use Rattle.leaf_maps.specs.Changes.{HaveSameNames}
 use Rattle.dirfrags.specs.Dentries.{entries_under, names_at, or_no_names, tree_of}
 use Rattle.dirfrags.specs.LeafFrags.{dentries_of, named_leaves, with_names}
+use Rattle.sorted_map.proofs.MapLaws.{tie as tied}
 
 abbrev names_with : Rows → Names
 names_with rows = contents (slice_cmp nat_cmp) rows
@@ -75,11 +74,6 @@ no_names = go (map.entries none) refl
     go : (rows : List (List ℕ × Inode)) → map.entries none ≡ rows → some_names none rows ≡ None
     go [] is = refl
     go (row ∷ rows) is = absurd (omega (arith, sym (ap length is) ∙ sym (len-entries none) ∙ len-empty (slice_cmp nat_cmp) Inode))
-
-tied : (r : Ordering) → is_eq r ≡ true → r ≡ Equal
-tied Less h = cc
-tied Equal h = refl
-tied Greater h = cc
 
 found_named : (k : Leaf) (es : List (Leaf × Rows)) → T (is_sorted leaf_cmp es) → find leaf_cmp k (named_leaves es) ≡ filled (names_of (find leaf_cmp k es))
 found_named k [] h = sym no_names

@@ -9,9 +9,9 @@ use Rattle.inode_table.specs.TreeChanges.{KeepLeaves}
 use Rattle.inode_table.specs.TreeTable.{IsTabled}
 use Rattle.inode_table.proofs.TableLaws.{known_is}
 use Rattle.leaf_maps.specs.Leaves.{Leaves, AreStanding, names_in, shown_by}
-use Rattle.leaf_maps.specs.LeafLaws.{shown_at}
+use Rattle.leaf_maps.proofs.LeafLaws.{shown_at}
 use Rattle.leaf_maps.specs.Changes.{HaveSameNames}
-use Rattle.leaf_maps.specs.ShownLaws.{placed_still}
+use Rattle.leaf_maps.proofs.ShownTrees.{placed_still}
 use Rattle.dirfrags.specs.Dentries.{Dentries, names_at, tree_of}
 use Rattle.dirfrags.specs.Divided.{CarryLeaves}
 use Rattle.dirfrags.specs.Divided.{IsDivided}

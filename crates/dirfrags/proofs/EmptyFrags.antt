@@ -1,20 +1,21 @@
 -- Fragments with no name are sound, and show the empty tree.
 use Rattle.std.proofs.Common.{◌≡◌, cond, List, [], ◌∷◌, Some, None, length, refl, sym, ap, subst, ◌∙◌}
-use Rattle.std.specs.Ordering.{nat_cmp}
 use Rattle.std.specs.FinMap as map
 use Rattle.std.specs.FinMap.{find, empty_of_len, entries-from_sorted, get-empty, get-entries, get-from_entries, len-entries, same_map}
 use Rattle.mds_types.specs.Tree.{dentry_cmp}
-use Rattle.mds_types.specs.OrderLaws.{dentry-total, dentry-exact}
-use Rattle.inode_table.specs.Dirs.{Covers, IsTable}
+use Rattle.mds_types.proofs.OrderLaws.{dentry-total}
+use Rattle.mds_types.specs.OrderLaws.{dentry-exact}
+use Rattle.inode_table.specs.Dirs.{Covers}
 use Rattle.inode_table.proofs.TableLaws.{empty_tabled}
 use Rattle.leaf_maps.proofs.StandingLaws.{standing_none}
 use Rattle.leaf_maps.specs.Leaves.{Leaf, Rows, Leaves, leaf_cmp, names_of, entries_in, shown_by, ArePlaced}
-use Rattle.leaf_maps.specs.OneLeaf.{key_itself}
+use Rattle.leaf_maps.proofs.OneLeaf.{key_itself}
 use Rattle.dirfrags.specs.Dentries.{tree_of}
 use Rattle.dirfrags.specs.Divided.{IsDivided}
 use Rattle.dirfrags.specs.LeafFrags.{IsSoundTree, dentries_of, named_leaves}
 use Rattle.dirfrags.proofs.Dentries.{tree_is}
 use Rattle.dirfrags.proofs.Divided.{divided_of}
+use Rattle.inode_table.proofs.Tables.{empty_table as root_alone}
 
 -- no leaf has a name
 abbrev no_leaves : Leaves
@@ -39,16 +40,6 @@ none_shown = same_map dentry-total dentry-exact (shown_by no_leaves) map.empty (
 none_placed : (covers : Covers) → ArePlaced covers no_leaves
 none_placed covers d f name inode has =
     let clash : None ≡ Some inode = sym (ap (λ o. map.get (names_of o) name) (get-empty leaf_cmp (record { 0 = d }, f)) ∙ get-empty _ name) ∙ has in absurd cc
-
-root_alone : IsTable map.empty map.empty
-root_alone = record {
-  rooted = record {
-    rootless = get-empty nat_cmp 1;
-    rooted = λ x home is. let clash : None ≡ Some home = sym (get-empty nat_cmp x) ∙ is in absurd cc;
-  };
-  known = λ d leaves is. let clash : None ≡ Some leaves = sym (get-empty nat_cmp d) ∙ is in absurd cc;
-  covers = λ d leaves is. let clash : None ≡ Some leaves = sym (get-empty nat_cmp d) ∙ is in absurd cc;
-}
 
 pub empty_sound : IsSoundTree map.empty map.empty no_leaves
 empty_sound = record {

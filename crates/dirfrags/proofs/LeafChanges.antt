@@ -5,26 +5,24 @@ use Rattle.std.specs.Cmp.Lexicographic.{nat_list_cmp_total}
 use Rattle.std.specs.FinMap as map
 use Rattle.std.specs.FinMap.{get-insert, get-remove, get-empty, same_map}
 use Rattle.std.proofs.lemmas.Map.Lookups.{exact_bytes}
-use Rattle.sorted_map.specs.NatKeys.{get_left}
+use Rattle.sorted_map.proofs.NatKeys.{get_left}
 use Rattle.mds_types.specs.declared.dentries.Dentry.{Dentry}
 use Rattle.mds_types.specs.declared.inodes.Inode.{Inode}
 use Rattle.mds_types.specs.Frag.{Fragment}
-use Rattle.mds_types.specs.Tree.{Tree, dentry_cmp, dentry_of, is_dir_kind, IsWellFormed}
-use Rattle.mds_types.specs.Step.{with_moved}
-use Rattle.mds_types.specs.OrderLaws.{dentry-total, dentry-exact}
-use Rattle.mds_types.specs.EntryLaws.{stands_after_removal}
-use Rattle.mds_types.specs.DirectoryLaws.{NothingIn}
-use Rattle.mds_types.specs.MovedLaws.{IsMove, may_move, stands_moved}
+use Rattle.mds_types.specs.Tree.{Tree, dentry_cmp, dentry_of, is_dir_kind, IsWellFormed, NothingIn}
+use Rattle.mds_types.specs.Step.{with_moved, IsMove}
+use Rattle.mds_types.proofs.OrderLaws.{dentry-total}
+use Rattle.mds_types.specs.OrderLaws.{dentry-exact}
+use Rattle.mds_types.proofs.EntryLaws.{stands_after_removal}
+use Rattle.mds_types.proofs.MovedLaws.{may_move, stands_moved}
 use Rattle.inode_table.specs.Dirs.{Homes, Covers, or_whole}
 use Rattle.inode_table.specs.TreeChanges.{MayRemove}
 use Rattle.inode_table.specs.TreeTable.{IsTabled, without_cover}
 use Rattle.inode_table.proofs.TableLaws.{nothing_in}
 use Rattle.inode_table.proofs.MoveLaws.{target_stays}
 use Rattle.leaf_maps.specs.Leaves.{Leaves, names_in, shown_by, ArePlaced}
-use Rattle.leaf_maps.specs.Changes.{HaveSameNames}
-use Rattle.leaf_maps.specs.LeafLaws.{shown_at}
-use Rattle.leaf_maps.specs.OneLeaf.{one_or_other, names_same}
-use Rattle.leaf_maps.specs.ShownLaws.{placed_under}
+use Rattle.leaf_maps.proofs.LeafLaws.{shown_at}
+use Rattle.leaf_maps.proofs.ShownTrees.{placed_under}
 
 -- of a directory that nothing is in no leaf shows a name
 pub none_in : (covers : Covers) (leaves : Leaves) → ArePlaced covers leaves → (d : ℕ) → NothingIn (shown_by leaves) d → (f : Fragment) → names_in leaves d f ≡ map.empty
@@ -87,12 +85,3 @@ replaced_is tree taken homes from to inode found tabled move is told = told ∙ 
 pub moved_tree : (tree taken cleared put : Tree) (from to : Dentry) (inode : Inode) → taken ≡ map.remove tree from → cleared ≡ map.remove taken to → put ≡ map.insert cleared to inode → put ≡ with_moved tree from to inode
 moved_tree tree taken cleared put from to inode first second third =
     third ∙ ap (λ m. map.insert m to inode) (second ∙ ap (λ m. map.remove m to) first) ∙ put_over (map.remove tree from) to inode
-
--- where a directory was forgotten of which no leaf had a name, every leaf has the names that it had
-pub forgotten_same : (old new : Leaves) (d : ℕ) → ((f : Fragment) → names_in old d f ≡ map.empty) → ((f : Fragment) → names_in new d f ≡ map.empty)
-    → ((e : ℕ) (f : Fragment) → (e ≡ d → ⊥) → names_in new e f ≡ names_in old e f) → HaveSameNames old new
-forgotten_same old new d none gone elsewhere e f =
-    ⊎_elim
-    (λ same. names_same new d e f f same ∙ gone f ∙ sym (names_same old d e f f same ∙ none f))
-    (λ apart. elsewhere e f (λ is. apart (is, refl)))
-    (one_or_other d e f f)

@@ -9,7 +9,7 @@ use Rattle.mds_types.specs.Tree.{Tree, is_directory}
 use Rattle.inode_table.specs.Dirs.{Homes, Covers, IsTable, leaves_of, is_known}
 use Rattle.leaf_maps.specs.Leaves.{Leaves, AreStanding, HavePicks, shown_by}
 use Rattle.leaf_maps.specs.Regroup.{ArePlacedIn, IsRegrouped}
-use Rattle.leaf_maps.specs.ShownLaws.{regrouped_placed, regrouped_shown}
+use Rattle.leaf_maps.proofs.ShownTrees.{regrouped_placed, regrouped_shown}
 use Rattle.inode_table.specs.TreeTable.{IsTabled}
 use Rattle.leaf_maps.specs.Changes.{HaveSameNames}
 use Rattle.dirfrags.specs.LeafFrags.{Fragments, IsAsBefore, IsSoundTree, dentries_of}

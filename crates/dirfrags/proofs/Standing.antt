@@ -7,7 +7,7 @@ use Rattle.mds_types.specs.declared.dentries.Dentry.{Dentry}
 use Rattle.mds_types.specs.declared.inodes.Inode.{Inode}
 use Rattle.mds_types.specs.Frag.{Fragment}
 use Rattle.mds_types.specs.Tree.{Tree, is_directory, is_dir_kind}
-use Rattle.sorted_map.specs.NatKeys.{same_or_apart, get_put, get_beside, get_left}
+use Rattle.sorted_map.proofs.NatKeys.{same_or_apart, get_put, get_beside, get_left}
 use Rattle.inode_table.specs.Dirs.{Homes, Covers, is_known, or_whole}
 use Rattle.inode_table.specs.TreeTable.{IsTabled, home_at, with_home, without_home, without_cover}
 use Rattle.inode_table.proofs.TableLaws.{known_is}

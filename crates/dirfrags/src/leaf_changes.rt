@@ -5,9 +5,8 @@ ghost use Rattle.std.specs.Option.{option_copied};
 ghost use Rattle.std.specs.FinMap as map;
 ghost use Rattle.mds_types.specs.declared.inodes.Inode.{Inode as Node};
 ghost use Rattle.mds_types.specs.Frag.{Fragment};
-ghost use Rattle.mds_types.specs.Tree.{is_dir_kind};
-ghost use Rattle.mds_types.specs.DirectoryLaws.{NothingIn};
-ghost use Rattle.mds_types.specs.MovedLaws.{IsMove};
+ghost use Rattle.mds_types.specs.Tree.{is_dir_kind, NothingIn};
+ghost use Rattle.mds_types.specs.Step.{IsMove};
 ghost use Rattle.inode_table.specs.Dirs.{Covers, Homes, IsTable, MayGo};
 ghost use Rattle.inode_table.specs.TreeChanges.{KeepLeaves, MayAdd, MaySet, MayRemove};
 ghost use Rattle.namespace_ops.specs.Changes.{IsLeafAt, moved};
@@ -17,7 +16,7 @@ ghost use Rattle.leaf_maps.specs.Leaves.{ArePlaced, AreStanding, names_in, shown
 ghost use Rattle.leaf_maps.specs.Changes.{HasRoom, HaveSameNames};
 ghost use Rattle.dirfrags.specs.LeafFrags.{HasNamesOf, IsSoundTree};
 
-use crate::picks::{each_hash_has_a_leaf, put_at, take_from};
+use crate::picks::{put_at, take_from};
 use inode_table::{Dirs, adopt_dir, drop_dir, relocate_dir};
 use leaf_maps::LeafMaps;
 use mds_types::{Dentry, Frag, Inode, Name};
@@ -41,7 +40,6 @@ pub fn add_entry(
     ensures leaves { KeepLeaves (shown_by leaves.new) dirs.old.trees dirs.new.trees }
     ensures frame { ChangesOnly (HasNamesOf leaves.old leaves.new) ((dentry.dir, leaf) ∷ []) }
 {
-    each_hash_has_a_leaf();
     adopt_dir(dirs, spare, &dentry, &inode);
     put_at(leaves, dirs, dentry, leaf, inode);
 }
@@ -55,7 +53,6 @@ pub fn set_entry(leaves: &mut LeafMaps, dirs: &Dirs, dentry: Dentry, leaf: Frag,
     ensures sound { IsSoundTree dirs.now.homes dirs.now.trees leaves.new }
     ensures frame { ChangesOnly (HasNamesOf leaves.old leaves.new) ((dentry.dir, leaf) ∷ []) }
 {
-    each_hash_has_a_leaf();
     put_at(leaves, dirs, dentry, leaf, inode);
 }
 
@@ -69,7 +66,6 @@ pub fn remove_entry(leaves: &mut LeafMaps, dirs: &mut Dirs, dentry: &Dentry, lea
     ensures leaves { KeepLeaves (shown_by leaves.new) dirs.old.trees dirs.new.trees }
     ensures frame { ChangesOnly (HasNamesOf leaves.old leaves.new) ((dentry.now.dir, leaf) ∷ []) }
 {
-    each_hash_has_a_leaf();
     let gone = take_from(leaves, dirs, dentry, leaf);
     drop_leaves(leaves, dirs, gone.as_ref());
 }
@@ -95,7 +91,6 @@ pub fn move_entry(
     ensures leaves { KeepLeaves (shown_by leaves.new) dirs.old.trees dirs.new.trees }
     ensures frame { ChangesOnly (HasNamesOf leaves.old leaves.new) ((from.now.dir, source) ∷ (to.dir, target) ∷ []) }
 {
-    each_hash_has_a_leaf();
     let Some(inode) = take_from(leaves, dirs, from, source) else {
         unreachable!()
     };
@@ -119,7 +114,6 @@ fn drop_leaves(leaves: &mut LeafMaps, dirs: &mut Dirs, gone: Option<&Inode>)
     ensures standing { AreStanding dirs.old.homes dirs.old.trees leaves.old → AreStanding dirs.new.homes dirs.new.trees leaves.new }
     ensures table { IsTable dirs.new.homes dirs.new.trees }
 {
-    each_hash_has_a_leaf();
     forget_names(leaves, gone);
     drop_dir(dirs, gone);
 }

@@ -133,7 +133,7 @@ impl Frags for LeafFrags {
     ghost use Rattle.std.specs.Prelude.{◌≡◌, refl};
     ghost use Rattle.std.proofs.Common.{ap, ◌∙◌};
     ghost use Rattle.mds_types.specs.declared.refusals.Refusal.TheVariants.{NoMemory};
-    ghost use Rattle.namespace_ops.specs.Reasons.{refused_for_memory};
+    ghost use Rattle.namespace_ops.proofs.ReasonLaws.{refused_for_memory};
     ghost use Rattle.dirfrags.specs.LeafFrags.{HasNamesOf, IsAsBefore, IsReady as IsReadyIn};
     ghost use Rattle.dirfrags.specs.Dentries.{names_at};
 

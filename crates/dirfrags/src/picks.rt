@@ -2,30 +2,20 @@
 ghost use Rattle.std.specs.Prelude.{◌≡◌, None};
 ghost use Rattle.std.specs.Option.{option_copied};
 ghost use Rattle.std.specs.FinMap as map;
-ghost use Rattle.inode_table.specs.Dirs.{Covers, Homes, IsTable};
 ghost use Rattle.namespace_ops.specs.Changes.{IsLeafAt};
 ghost use Rattle.leaf_maps.specs.Leaves.{ArePlaced, HavePicks, names_in, shown_by};
 ghost use Rattle.leaf_maps.specs.Changes.{AreLeftAlone, HasRoom, IsRewritten, KeepRoom};
 
-use fragtree::laws::each_hash_has_a_pick;
 use inode_table::Dirs;
 use leaf_maps::LeafMaps;
 use mds_types::{Dentry, Frag, Inode};
 use namehash::rjenkins;
-
-/// A law: in a directory table every hash picks a leaf of every directory.
-pub fn each_hash_has_a_leaf()
-    ensures { (homes : Homes) (covers : Covers) → IsTable homes covers → HavePicks covers }
-{
-    each_hash_has_a_pick();
-}
 
 /// The leaf that a dentry belongs to: the one of its directory that the hash of its name picks. Takes no memory.
 pub fn leaf_of(dirs: &Dirs, dentry: &Dentry) -> Frag
     ensures pick { IsLeafAt dirs.now.trees dentry.now result }
     ensures picks { HavePicks dirs.now.trees }
 {
-    each_hash_has_a_leaf();
     dirs.pick(dentry.dir, rjenkins(dentry.name.as_bytes()))
 }
 

@@ -11,7 +11,6 @@ ghost use Rattle.dirfrags.specs.Divided.{IsDivided};
 ghost use Rattle.dirfrags.specs.Covers.{IsMergedCover, IsMergeOf, IsSplitCover, IsSplitOf, MayRefuseMerge, MayRefuseSplit};
 
 use crate::leaf_frags::LeafFrags;
-use crate::picks::each_hash_has_a_leaf;
 use fragtree::FragTree;
 use inode_table::Dirs;
 use leaf_maps::LeafMaps;
@@ -118,7 +117,6 @@ fn set_leaves(
     ensures names { OnErr result (HaveSameNames leaves.old leaves.new) }
     ensures err { IfErr result (λ reason. reason ≡ NoMemory) }
 {
-    each_hash_has_a_leaf();
     if let Err(refusal) = dirs.reserve_tree() {
         return Err(refusal);
     }

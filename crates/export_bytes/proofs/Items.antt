@@ -1,6 +1,6 @@
 -- Items that are read one after another.
-use Rattle.std.proofs.Common.{◌≡◌, ℕ, zero, suc, ◌+◌, ◌-◌, ◌<◌, ◌≤◌, Bool, true, ◌&&◌, List, [], ◌∷◌, ◌++◌, length, drop, drop-cons, get_or, Option, Some, None, refl, sym, ap, subst, ◌∙◌, append_assoc, arith}
-use Rattle.std.proofs.lemmas.List.{append-nil, length-append}
+use Rattle.std.proofs.Common.{◌≡◌, ℕ, zero, suc, ◌+◌, ◌-◌, ◌<◌, Bool, true, ◌&&◌, List, [], ◌∷◌, ◌++◌, length, drop, drop-cons, get_or, Option, Some, None, refl, sym, ap, subst, ◌∙◌, append_assoc, arith}
+use Rattle.std.proofs.lemmas.List.{length-append}
 use Rattle.std.proofs.lemmas.List.Concat.{flat_map-cons}
 use Rattle.std.specs.List.{flat_map, list_all}
 use Rattle.dirfrag_codec.specs.Reading.{◌>>=◌}
@@ -28,21 +28,6 @@ module _ {A : Type 0} (item_at : List ℕ → Option (A × List ℕ)) where
       parts ∙ ap (λ (n : ℕ). preceded front (items_at item_at n rest)) (next_left count front x less)
       ∙ ap (λ (r : Option (A × List ℕ)). preceded front (r >>= λ first. items_at item_at left first.1 >>= λ more. Some (first.0 ∷ more.0, more.1))) read
       ∙ one_behind front x (items_at item_at left after)
-
-  -- an item that can't be read ends it
-  pub none_more : (count : ℕ) (total : Option (List A × List ℕ)) (front : List A) (rest : List ℕ) → length front < count → item_at rest ≡ None
-      → total ≡ preceded front (items_at item_at (count - length front) rest) → total ≡ None
-  none_more count total front rest less read parts =
-      let left : count - length front ≡ suc (count - length front - 1) = omega arith in
-      parts ∙ ap (λ (n : ℕ). preceded front (items_at item_at n rest)) left
-      ∙ ap (λ (r : Option (A × List ℕ)). preceded front (r >>= λ first. items_at item_at (count - length front - 1) first.1 >>= λ more. Some (first.0 ∷ more.0, more.1))) read
-
-  -- all have been read
-  pub all_read : (count : ℕ) (total : Option (List A × List ℕ)) (front : List A) (rest : List ℕ) → length front ≤ count → count ≤ length front
-      → total ≡ preceded front (items_at item_at (count - length front) rest) → total ≡ Some (front, rest)
-  all_read count total front rest few all parts =
-      let left : count - length front ≡ 0 = omega arith in
-      parts ∙ ap (λ (n : ℕ). preceded front (items_at item_at n rest)) left ∙ ap (λ (xs : List A). Some (xs, rest)) (append-nil front)
 
   module _ (spell : A → List ℕ) (is_sent : A → Bool) where
     -- items that are written are read again

@@ -5,7 +5,7 @@ use Rattle.std.specs.Ordering.{eq_by_cmp}
 use Rattle.std.specs.FinMap as map
 use Rattle.std.specs.FinMap.{find, get-entries, get-from_entries}
 use Rattle.mds_types.specs.declared.ids.Rank.{Rank}
-use Rattle.mds_types.specs.EntryLaws.{tie}
+use Rattle.sorted_map.proofs.MapLaws.{tie}
 use Rattle.inode_table.specs.Dirs.{Homes, Covers, IsTable}
 use Rattle.subtree_map.specs.Authority.{Leaf, Roots, leaf_cmp, HasAuthority, IsLeaf, IsSubtrees, NearestRoot, itself, inherited}
 use Rattle.subtree_map.specs.Changes.{KeepAuthority}

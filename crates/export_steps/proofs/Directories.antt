@@ -2,7 +2,7 @@
 use Rattle.std.specs.Prelude.{◌≡◌, ◌≢◌, ◌⊎◌, ◌↔◌, ◌||◌, ◌==◌, ℕ, Bool, true, false, Option, Some, IsSome, is_some, refl}
 use Rattle.std.proofs.Common.{inl, inr, sym, ap, subst, ◌∙◌}
 use Rattle.std.specs.FinMap as map
-use Rattle.sorted_map.specs.NatKeys as nat
+use Rattle.sorted_map.proofs.NatKeys as nat
 use Rattle.mds_types.specs.declared.ids.Ino.{Ino}
 use Rattle.fragtree.specs.FragTree.{HasLeaf, IsPick}
 use Rattle.namehash.specs.Rjenkins.{hash_of}
@@ -10,7 +10,7 @@ use Rattle.inode_table.specs.declared.homes.Home.{Home}
 use Rattle.inode_table.specs.Dirs.{Homes, Covers, IsChildless, IsTable, MayCome, is_known, leaves_of, or_whole}
 use Rattle.subtree_map.specs.Authority.{Leaf, Roots, HoldsDentry, IsInRegion, IsLeaf, IsSubtrees, NearestRoot, itself, inherited}
 use Rattle.subtree_map.specs.Changes.{AreGone}
-use Rattle.subtree_map.proofs.Adopted.{still_known}
+use Rattle.inode_table.proofs.Tables.{still_known}
 use Rattle.subtree_map.proofs.LeafKeys.{not_none, one_value, value_of}
 
 known_by_home : (homes : Homes) (x : ℕ) (home : Home) → map.get homes x ≡ Some home → is_known homes x ≡ true
@@ -60,10 +60,6 @@ module _ (root : Leaf) (old new : Roots) (d : ℕ) (is : AreGone old new d) (hom
     (is_root : IsSome (map.get old root)) (outside : (leaf : Leaf) → leaf.0.0 ≡ d → IsLeaf homes covers leaf → NearestRoot old homes covers leaf root → ⊥) where
   pub root_elsewhere : root.0.0 ≢ d
   root_elsewhere at = let there = value_of _ is_root in outside root at (valid.live root is_root) (itself root there.0 there.1)
-
-  -- its rank is as before
-  pub stays_ranked : map.get new root ≡ map.get old root
-  stays_ranked = is.others root root_elsewhere
 
   beside : (e : ℕ) → e ≢ d → leaves_of (map.remove covers d) e ≡ leaves_of covers e
   beside e apart = ap or_whole (nat.get_left covers d e apart)

@@ -2,24 +2,17 @@
 use Rattle.std.specs.Prelude.{◌≡◌, ◌≢◌, ◌⊎◌, ◌↔◌, ◌||◌, ◌==◌, ℕ, Bool, true, false, Some, IsSome, is_some, refl}
 use Rattle.std.proofs.Common.{inl, inr, sym, ap, subst, ◌∙◌}
 use Rattle.std.specs.FinMap as map
-use Rattle.sorted_map.specs.NatKeys as nat
+use Rattle.sorted_map.proofs.NatKeys as nat
 use Rattle.inode_table.specs.declared.homes.Home.{Home}
 use Rattle.inode_table.specs.Dirs.{Homes, Covers, MayMove, is_known}
 use Rattle.subtree_map.specs.Authority.{Leaf, Roots, HoldsDentry, IsInRegion, NearestRoot, itself, inherited}
 use Rattle.subtree_map.specs.Moves.{IsSettled}
-use Rattle.subtree_map.proofs.Adopted.{still_known}
+use Rattle.inode_table.proofs.Tables.{still_known}
 use Rattle.subtree_map.proofs.LeafKeys.{one_value, value_of}
 
 module _ (root : Leaf) (old new : Roots) (homes : Homes) (covers : Covers) (d : ℕ) (home : Home) (is : IsSettled old new homes covers d home) (may : MayMove homes d home) (is_root : IsSome (map.get old root))
     (from_outside : (place : Home) (holder : Leaf) → map.get homes d ≡ Some place → HoldsDentry covers place holder → NearestRoot old homes covers holder root → ⊥)
     (to_outside : (holder : Leaf) → HoldsDentry covers home holder → NearestRoot old homes covers holder root → ⊥) where
-  moved : Homes
-  moved = map.insert homes d home
-
-  -- its rank is as before
-  pub stays_placed : map.get new root ≡ map.get old root
-  stays_placed = is.kept root is_root
-
   goes_on : (leaf near : Leaf) → near ≡ root → NearestRoot old homes covers leaf near → NearestRoot new (map.insert homes d home) covers leaf near
   goes_on _ _ same (itself near rank has) = itself near rank (is.kept near (ap is_some has) ∙ has)
   goes_on _ _ same (inherited leaf holder near place none stands holds rest) = go (nat.same_or_apart leaf.0.0 d) (goes_on holder near same rest)

@@ -1,9 +1,8 @@
 //! Laws of exports, for the crates that hold them. A law is its contract: its body does nothing.
-ghost use Rattle.std.specs.Prelude.{◌≡◌, ◌↔◌};
-ghost use Rattle.std.specs.FinMap as map;
+ghost use Rattle.std.specs.Prelude.{◌≡◌};
 ghost use Rattle.mds_types.specs.declared.ids.Rank.{Rank};
 ghost use Rattle.inode_table.specs.Dirs.{Homes, Covers, IsTable};
-ghost use Rattle.subtree_map.specs.Authority.{HasAuthority, IsLeaf, IsSubtrees, Leaf, NearestRoot, Roots};
+ghost use Rattle.subtree_map.specs.Authority.{HasAuthority, IsLeaf, IsSubtrees, Leaf, Roots};
 ghost use Rattle.subtree_map.specs.Changes.{Subtrees as SubtreesSeen};
 ghost use Rattle.export_steps.specs.Standing.{ArePlaced, ComesTo, IsCancel, IsFinish, IsFreeze, Standing};
 ghost use Rattle.export_steps.specs.declared.exports.ExportState.TheVariants as state;
@@ -40,12 +39,6 @@ pub fn new_directories_elsewhere_keep_frozen_regions()
 /// A directory's removal elsewhere leaves each frozen region as it is.
 pub fn removals_elsewhere_keep_frozen_regions()
     ensures { (standing : Standing) (was now : SubtreesSeen) (homes later_homes : Homes) (covers later_covers : Covers) → StandsOver standing was homes covers → IsRemovalElsewhere standing was now homes later_homes covers later_covers → AreFrozenRegionsKept standing was now homes later_homes covers later_covers }
-{}
-
-/// Whether part of a region is frozen is asked of its root alone: of the leaves in the region that a leaf has once it is a root,
-/// each is frozen exactly if this leaf is.
-pub fn a_region_is_frozen_as_its_root_is()
-    ensures { (was now : Roots) (root : Leaf) (rank : Rank) → now ≡ map.insert was root rank → (homes : Homes) (covers : Covers) (standing : Standing) (leaf : Leaf) → NearestRoot now homes covers leaf root → IsFrozen standing was homes covers leaf ↔ IsFrozen standing was homes covers root }
 {}
 
 /// Freeze of a leaf that isn't frozen leaves each region that was frozen before as it is: two exports stand side by side.

@@ -84,9 +84,6 @@ module _ (xs : List Fragment) (tree : IsTree xs) (f : Fragment) (whole : IsFragm
         let none = nothing_above f whole (leaf.value + span leaf.bits) (2 ^ 24) (drop (suc c.place) xs) w ends in
         omega (arith, c.left, ap (length {A = Fragment}) none)
 
-    pub is_whole : IsFragment leaf
-    is_whole = subst IsFragment c.is (around 0 (2 ^ 24) xs c.place tree.tiles c.stands).0
-
     -- the leaf where the last one ends is the next
     pub next_counted : (next : Fragment) → leaf.value + span leaf.bits < f.value + span f.bits → IsPick xs (leaf.value + span leaf.bits) next → Counts xs f next (count + 1)
     next_counted next less p =

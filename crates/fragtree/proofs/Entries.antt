@@ -5,8 +5,9 @@ use Rattle.std.specs.Cmp.{tied_itself}
 use Rattle.std.specs.FinMap as map
 use Rattle.std.specs.FinMap.{get-empty, get-insert, get-remove, empty_of_len, len-remove}
 use Rattle.mds_types.specs.Frag.{Fragment, frag_cmp}
-use Rattle.mds_types.specs.OrderLaws.{frag-exact, frag-total}
-use Rattle.mds_types.specs.EntryLaws.{tie}
+use Rattle.mds_types.specs.OrderLaws.{frag-exact}
+use Rattle.mds_types.proofs.OrderLaws.{frag-total}
+use Rattle.sorted_map.proofs.MapLaws.{tie}
 use Rattle.fragtree.specs.Descents.{Splits}
 
 pub apart : (q k : Fragment) → q ≢ k → eq_by_cmp frag_cmp q k ≡ false

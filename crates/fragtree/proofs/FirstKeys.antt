@@ -8,7 +8,7 @@ use Rattle.std.specs.Cmp.{nat_cmp_is}
 use Rattle.std.specs.FinMap as map
 use Rattle.std.specs.FinMap.{find, is_sorted, get-entries, entries_sorted}
 use Rattle.std.specs.FinMap.Entries.{where_key, below_all, find-where_key, is_sorted-where_key}
-use Rattle.sorted_map.specs.Bools.{left_of, right_of}
+use Rattle.sorted_map.proofs.Bools.{left_of, right_of}
 use Rattle.sorted_map.specs.SortedMap.{is_from}
 use Rattle.mds_types.specs.Frag.{Fragment, IsFragment, ContainsFragment, frag_cmp, span}
 use Rattle.mds_types.specs.OrderLaws.{frag-exact}

@@ -1,6 +1,5 @@
 -- What a tree keeps, and what its calls make of it.
 use Rattle.std.proofs.Common.{◌≡◌, inl, inr, ℕ, zero, suc, ◌+◌, ◌-◌, ◌%◌, ◌^◌, ◌<◌, ◌≤◌, List, [], ◌∷◌, ◌++◌, length, take, drop, Some, None, refl, sym, ap, subst, ◌∙◌, arith}
-use Rattle.std.proofs.Math.Nat.{mod-eq_of_lt}
 use Rattle.std.proofs.lemmas.Bool.{cases_lt}
 use Rattle.std.proofs.lemmas.List.{get_or_default, length-drop, length-take-le}
 use Rattle.std.proofs.lemmas.List.Elements.{Contains-get_or}
@@ -11,7 +10,7 @@ use Rattle.fragtree.specs.FragTree.{IsTree, IsPick, HasLeaf, IsSplit, IsMerge, C
 use Rattle.fragtree.proofs.Places.{IsPlace, StandFrom, leaf_at, first_children}
 use Rattle.fragtree.specs.Descents.{Splits, AllSome, there, Ends, EndsBeyond, IsClosed, IsKept, Spells, depth, frag_at, fragments_from, leaves_of, splits_round}
 use Rattle.fragtree.proofs.Merges.{merges, none_inside, stand_from}
-use Rattle.fragtree.proofs.Ranges.{span_pos, ends_low, Contains-from_range}
+use Rattle.fragtree.proofs.Ranges.{span_pos, ends_low}
 use Rattle.fragtree.proofs.Rounds.{frag_at-is}
 use Rattle.fragtree.proofs.Spelled.{is_kept, merge_spells, split_spells}
 use Rattle.fragtree.proofs.Splits.{splits}
@@ -108,12 +107,6 @@ whole_keeps s is = is_kept s (root_fragment ∷ []) 1 whole_tree (record { some 
     ends : (g : Fragment) → HasLeaf (root_fragment ∷ []) g → (h : ℕ) → g.value ≤ h → h < g.value + span g.bits → Ends (splits_round s h) g.bits
     ends g (zero, stands, same) h low high = subst (λ (k : Fragment). Ends (splits_round s h) k.bits) same (record { descends = there 0 refl; nothing = λ b from few. none (frag_at b h) })
     ends g (suc k, stands, same) h low high = absurd (omega (arith, stands))
-
--- what a leaf is, and that each of a tree's leaves picks itself
-pub picks_itself : (xs : List Fragment) (f r : Fragment) → IsFragment f → IsPick xs f.value r → HasLeaf xs f → r ≡ f
-picks_itself xs f r whole p stands =
-    let low : f.value % 2 ^ 24 ≡ f.value = mod-eq_of_lt whole.in_range in
-    sym (p.alone f stands (Contains-from_range f f.value whole (omega (arith, low)) (omega (arith, low, span_pos f.bits))))
 
 -- a split and a merge of what is kept, in the words of the calls
 module _ (s mid new : Splits) (count : ℕ) (now : List Fragment) (kept : IsKept s count) (view : leaves_of s count ≡ now) (same : mid ≡ s) where

@@ -60,30 +60,10 @@ made_spells s xs tree are led = record { some = λ f nb is. omega (arith, (are f
 pub none_round : (s : Splits) (xs : List Fragment) → s ≡ map.empty → AreRound s xs
 none_round s xs is g nb split = let clash : None ≡ Some nb = sym (ap (λ (m : Splits). map.get m g) is ∙ get-empty frag_cmp g) ∙ split in cc
 
--- one leaf more
-pub round_more : (old new : Splits) (xs : List Fragment) (leaf : Fragment) → AreRound old xs → HasLeaf xs leaf → IsSplitRound old new leaf leaf.bits → AreRound new xs
-round_more old new xs leaf are stands w g nb is = elim (w.fewer g nb is) [
-  | inl before ↦ are g nb before
-  | inr now ↦ (now.0, leaf, stands, now.1, now.2)
-]
-
-pub led_more : (old new : Splits) (xs : List Fragment) (leaf : Fragment) (i : ℕ) → leaf_at xs i ≡ leaf → IsSplitRound old new leaf leaf.bits
-    → ((j : ℕ) → j < i → IsLedTo old (leaf_at xs j) (leaf_at xs j).bits) → (j : ℕ) → j < i + 1 → IsLedTo new (leaf_at xs j) (leaf_at xs j).bits
-led_more old new xs leaf i is w led j below = elim (cases_lt j i) [
-  | inl less ↦ λ b few. w.kept (frag_at b (leaf_at xs j).value) (led j less b few)
-  | inr more ↦
-      let same : leaf_at xs j ≡ leaf = ap (leaf_at xs) (omega (arith, below, more)) ∙ is in
-      subst (λ (k : Fragment). IsLedTo new k k.bits) (sym same) w.led
-]
-
 pub all_led : (s : Splits) (xs : List Fragment) → ((j : ℕ) → j < length xs → IsLedTo s (leaf_at xs j) (leaf_at xs j).bits) → (leaf : Fragment) → HasLeaf xs leaf → IsLedTo s leaf leaf.bits
 all_led s xs led leaf (k, stands, is) =
     let same : leaf_at xs k ≡ leaf = get_or_default xs k root_fragment leaf stands ∙ is in
     subst (λ (g : Fragment). IsLedTo s g g.bits) same (led k stands)
-
--- nothing is split round a leaf yet, and then one fragment more
-pub not_yet : (s : Splits) (leaf : Fragment) → IsSplitRound s s leaf 0
-not_yet s leaf = record { led = λ b below. absurd (omega (arith, below)); kept = λ g is. is; fewer = λ g nb is. inl is }
 
 pub one_more : (old s : Splits) (leaf : Fragment) (bits : ℕ) → IsSplitRound old s leaf bits → IsSplitRound old (map.insert s (frag_at bits leaf.value) 1) leaf (bits + 1)
 one_more old s leaf bits w = record { led = led; kept = kept; fewer = fewer }

@@ -1,5 +1,5 @@
 -- The leaves that splits spell, and what a split, a halving and a merge make of them.
-use Rattle.std.proofs.Common.{◌≡◌, ◌≢◌, ◌⊎◌, inl, inr, ℕ, zero, suc, ◌+◌, ◌-◌, ◌*◌, ◌^◌, ◌<◌, ◌≤◌, List, [], ◌∷◌, length, Option, Some, refl, sym, ap, subst, ◌∙◌, arith}
+use Rattle.std.proofs.Common.{◌≡◌, ◌≢◌, ◌⊎◌, inl, inr, ℕ, zero, suc, ◌+◌, ◌-◌, ◌*◌, ◌^◌, ◌<◌, ◌≤◌, List, [], ◌∷◌, length, Some, refl, sym, ap, subst, ◌∙◌, arith}
 use Rattle.std.proofs.lemmas.List.{get_or_default}
 use Rattle.std.specs.FinMap as map
 use Rattle.mds_types.specs.Frag.{Fragment, IsFragment, child_of, root_fragment, span}
@@ -50,9 +50,6 @@ one_leaf xs f g h tree (i, stands, is) (j, stands2, is2) low high low2 high2 =
     sym first ∙ ap (leaf_at xs) (one_place 0 (2 ^ 24) xs h i j tree.tiles p q) ∙ second
 
 module _ (s : Splits) (some : AllSome s) (h : ℕ) where
-  round : ℕ → Option ℕ
-  round = splits_round s h
-
   round_some : (b nb : ℕ) → splits_round s h b ≡ Some nb → 1 ≤ nb
   round_some b nb is = some (frag_at b h) nb is
 

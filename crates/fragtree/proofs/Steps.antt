@@ -54,9 +54,6 @@ module _ (s : Splits) (some : AllSome s) (f : Fragment) (whole : IsFragment f) (
     passes_on = joined (splits_round s f.value) bits (bits + nb) 0 passes (on bits nb is (there (bits + nb) refl))
 
     module _ (over : f.bits - bits < nb) where
-      g : Fragment
-      g = frag_at bits f.value
-
       fragment : IsFragment (frag_at bits f.value)
       fragment = frag_at-IsFragment bits f.value (omega (arith, whole.few_bits)) whole.in_range
 
@@ -68,6 +65,3 @@ module _ (s : Splits) (some : AllSome s) (f : Fragment) (whole : IsFragment f) (
 
       pub passes_there : Descends (splits_round (halved s (frag_at bits f.value) nb) f.value) (bits + 1) 0
       passes_there = halved_passes s some (frag_at bits f.value) nb f.value fragment is (omega (arith, over, before)) fits_there (round_it bits f.value).0 (round_it bits f.value).1 passes f.value (round_it bits f.value).0 (round_it bits f.value).1
-
-pub beyond_kept : (old new : Splits) (hash least : ℕ) → hash < 2 ^ 24 → KeepsEnds old new → EndsBeyond old hash least → EndsBeyond new hash least
-beyond_kept old new hash least low keeps e = record { bits = e.bits; more = e.more; few = e.few; ends = keeps hash e.bits low e.few e.ends }

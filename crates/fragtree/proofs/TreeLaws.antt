@@ -25,11 +25,11 @@ pick_from_leaf leaves hash leaf tree (i, stands, is) has =
 pub one_pick : (leaves : List Fragment) (hash : ℕ) (f g : Fragment) → IsPick leaves hash f → IsPick leaves hash g → f ≡ g
 one_pick leaves hash f g p q = q.alone f p.stands p.contains
 
-first_or_later : (f g : Fragment) (fs : List Fragment) → HasLeaf (f ∷ fs) g → (f ≡ g) ⊎ HasLeaf fs g
+pub first_or_later : (f g : Fragment) (fs : List Fragment) → HasLeaf (f ∷ fs) g → (f ≡ g) ⊎ HasLeaf fs g
 first_or_later f g fs (zero, stands, is) = inl is
 first_or_later f g fs (suc k, stands, is) = inr (k, omega (arith, stands), is)
 
-later : (f g : Fragment) (fs : List Fragment) → HasLeaf fs g → HasLeaf (f ∷ fs) g
+pub later : (f g : Fragment) (fs : List Fragment) → HasLeaf fs g → HasLeaf (f ∷ fs) g
 later f g fs (k, stands, is) = (suc k, omega (arith, stands), is)
 
 pub same_tiles : (low high : ℕ) (xs ys : List Fragment) → Tiles low high xs → Tiles low high ys → ((g : Fragment) → HasLeaf xs g → HasLeaf ys g) → xs ≡ ys

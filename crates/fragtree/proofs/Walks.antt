@@ -2,7 +2,7 @@
 use Rattle.std.proofs.Common.{◌≡◌, ◌≢◌, inl, inr, ℕ, zero, suc, ◌+◌, ◌^◌, ◌<◌, ◌≤◌, List, [], ◌∷◌, ◌++◌, length, drop, Bool, true, false, cond, refl, sym, ap, subst, ◌∙◌, arith}
 use Rattle.std.proofs.Math.Seq.{drop-cons}
 use Rattle.std.proofs.lemmas.List.{append_assoc, append-nil, length-drop}
-use Rattle.std.proofs.lemmas.List.Elements.{Contains-append_cases, Contains-append_right}
+use Rattle.std.proofs.lemmas.List.Elements.{Contains-append_cases}
 use Rattle.mds_types.specs.Frag.{Fragment, root_fragment, span}
 use Rattle.fragtree.specs.FragTree.{Tiles, IsTree, IsPick, HasLeaf, lies_inside, leaves_inside}
 use Rattle.fragtree.proofs.Places.{IsPlace, leaf_at}
@@ -74,7 +74,3 @@ found_too done ys leaf all here g stands = elim (Contains-append_cases done (lea
     only : HasLeaf (leaf ∷ []) g → HasLeaf ys g
     only (zero, below, is) = subst (HasLeaf ys) is here
     only (suc k, below, is) = absurd (omega (arith, below))
-
-pub not_found : (xs done rest ys : List Fragment) (leaf : Fragment) → xs ≡ done ++ leaf ∷ rest → (HasLeaf ys leaf → ⊥) → xs ≡ ys → ⊥
-not_found xs done rest ys leaf is none same =
-    none (subst (λ zs. HasLeaf zs leaf) (sym is ∙ same) (Contains-append_right done (leaf ∷ rest) leaf (zero, omega arith, refl)))

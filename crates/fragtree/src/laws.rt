@@ -1,7 +1,7 @@
 //! Laws of trees, picks, splits and merges, for the crates that hold a tree. A law is its contract: its body does nothing.
-ghost use Rattle.std.specs.Prelude.{◌≡◌, ◌≢◌, ◌↔◌, ℕ, true, false, List};
-ghost use Rattle.mds_types.specs.Frag.{Fragment, IsFragment, Contains, ContainsFragment, IsCover};
-ghost use Rattle.fragtree.specs.FragTree.{CanMerge, HasLeaf, IsAscendingCover, IsChild, IsMerge, IsPick, IsSplit, IsTree, RefusesMerge, RefusesSplit, lies_inside};
+ghost use Rattle.std.specs.Prelude.{◌≡◌, ◌≢◌, ◌↔◌, ℕ, true, List};
+ghost use Rattle.mds_types.specs.Frag.{Fragment, IsFragment, ContainsFragment, IsCover};
+ghost use Rattle.fragtree.specs.FragTree.{HasLeaf, IsAscendingCover, IsPick, IsTree, RefusesMerge, RefusesSplit, lies_inside};
 ghost use Rattle.mds_types.specs.declared.refusals.Refusal.{Refusal};
 
 /// The leaves of a tree are exactly the fragments by strictly ascending value that cover the hashes.
@@ -12,11 +12,6 @@ pub fn tree_is_ascending_cover()
 /// The leaves of a tree cover the hashes: each lies in exactly one of them.
 pub fn tree_covers()
     ensures { (leaves : List Fragment) → IsTree leaves → IsCover leaves }
-{}
-
-/// A tree's leaves are fragments.
-pub fn leaf_is_fragment()
-    ensures { (leaves : List Fragment) (leaf : Fragment) → IsTree leaves → HasLeaf leaves leaf → IsFragment leaf }
 {}
 
 /// Trees with the same leaves are the same: their order and number follow.
@@ -34,34 +29,9 @@ pub fn pick_is_unique()
     ensures { (leaves : List Fragment) (hash : ℕ) (f g : Fragment) → IsPick leaves hash f → IsPick leaves hash g → f ≡ g }
 {}
 
-/// A leaf that contains the hash is its pick.
-pub fn containing_leaf_is_pick()
-    ensures { (leaves : List Fragment) (hash : ℕ) (leaf : Fragment) → IsTree leaves → HasLeaf leaves leaf → Contains leaf hash → IsPick leaves hash leaf }
-{}
-
-/// After a split, a hash of another leaf keeps its pick.
-pub fn split_keeps_other_picks()
-    ensures { (old new : List Fragment) (f : Fragment) (nb hash : ℕ) (leaf : Fragment) → IsTree new → IsSplit old new f nb → IsPick old hash leaf → leaf ≢ f → IsPick new hash leaf }
-{}
-
-/// After a split, a hash of the split leaf picks one of its children.
-pub fn split_picks_a_child()
-    ensures { (old new : List Fragment) (f : Fragment) (nb hash : ℕ) (child : Fragment) → IsTree new → IsSplit old new f nb → IsPick old hash f → IsPick new hash child → IsChild f nb child }
-{}
-
 /// What lies properly inside a fragment is contained in it, and is not the fragment itself.
 pub fn inside_is_contained()
     ensures { (f g : Fragment) → IsFragment f → IsFragment g → (lies_inside f g ≡ true) ↔ (ContainsFragment f g × (g ≢ f)) }
-{}
-
-/// After a merge, a hash of a leaf that was not merged keeps its pick.
-pub fn merge_keeps_other_picks()
-    ensures { (old new : List Fragment) (f : Fragment) (hash : ℕ) (leaf : Fragment) → IsTree new → IsMerge old new f → IsPick old hash leaf → lies_inside f leaf ≡ false → IsPick new hash leaf }
-{}
-
-/// After a merge, a hash of a merged leaf picks the merged one.
-pub fn merge_picks_the_merged()
-    ensures { (old new : List Fragment) (f : Fragment) (hash : ℕ) (leaf : Fragment) → IsTree old → IsTree new → IsMerge old new f → IsPick old hash leaf → lies_inside f leaf ≡ true → IsPick new hash f }
 {}
 
 /// A split is refused for one reason alone, and for want of memory only where it could be made.

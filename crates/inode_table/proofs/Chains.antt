@@ -5,7 +5,7 @@ use Rattle.std.specs.Cmp.{nat_cmp_total}
 use Rattle.std.specs.FinMap as map
 use Rattle.std.specs.FinMap.{get-empty, len-remove, empty_of_len}
 use Rattle.std.proofs.lemmas.Bool.Decides.{nat_tests}
-use Rattle.sorted_map.specs.NatKeys.{is_same, is_apart, same_or_apart, get_put, get_beside, get_removed, get_left}
+use Rattle.sorted_map.proofs.NatKeys.{is_same, is_apart, same_or_apart, get_put, get_beside, get_removed, get_left}
 use Rattle.inode_table.specs.declared.homes.Home.{Home}
 use Rattle.inode_table.specs.Dirs.{Homes, IsAbove, parent, further, Reaches, IsRooted, MayCome, MayMove, IsChildless, is_known}
 
@@ -221,11 +221,6 @@ above_parent homes d x home is apart = (down, λ above. further x home is above)
     down : IsAbove homes d x → IsAbove homes d home.parent.0
     down (parent x h stands same) = let alike : h ≡ home = cc in absurd (apart (sym (ap (λ (j : Home). j.parent.0) alike) ∙ same))
     down (further x h stands above) = let alike : h ≡ home = cc in subst (λ (j : Home). IsAbove homes d j.parent.0) alike above
-
--- above what has no home there is nothing
-pub none_above : (homes : Homes) (d x : ℕ) → map.get homes x ≡ None → IsAbove homes d x → ⊥
-none_above homes d _ none (parent x h stands same) = let clash : None ≡ Some h = sym none ∙ stands in cc
-none_above homes d _ none (further x h stands above) = let clash : None ≡ Some h = sym none ∙ stands in cc
 
 -- what a comparison of numbers told
 pub are_same : (a b : ℕ) → true ≡ (a == b) → a ≡ b

@@ -4,11 +4,11 @@ use Rattle.std.specs.FinMap as map
 use Rattle.mds_types.specs.declared.dentries.Dentry.{Dentry}
 use Rattle.mds_types.specs.declared.inodes.Inode.{Inode}
 use Rattle.mds_types.specs.Tree.{Tree, dentry_of, is_dir_kind}
-use Rattle.mds_types.specs.Step.{with_moved}
-use Rattle.mds_types.specs.MovedLaws.{IsMove, MayMove as MayMoveIn, may_move, well-formed-moved, stands_moved, still_moved, arrived}
-use Rattle.mds_types.specs.EntryLaws.{get_left}
-use Rattle.mds_types.specs.DirectoryLaws.{one_dentry}
-use Rattle.sorted_map.specs.NatKeys.{after_put, after_removal, get_put, get_beside, get_left as get_left_home}
+use Rattle.mds_types.specs.Step.{with_moved, IsMove}
+use Rattle.mds_types.proofs.MovedLaws.{MayMove as MayMoveIn, may_move, well-formed-moved, stands_moved, still_moved, arrived}
+use Rattle.mds_types.proofs.EntryLaws.{get_left}
+use Rattle.mds_types.proofs.DirectoryLaws.{one_dentry}
+use Rattle.sorted_map.proofs.NatKeys.{after_put, after_removal, get_put, get_beside, get_left as get_left_home}
 use Rattle.inode_table.specs.declared.homes.Home.{Home}
 use Rattle.inode_table.specs.Dirs.{Homes, MayGo, MayMove}
 use Rattle.inode_table.specs.TreeTable.{IsTabled, home_at, with_home, without_home}

@@ -6,16 +6,16 @@ use Rattle.std.specs.Ordering.{nat_cmp}
 use Rattle.std.proofs.lemmas.Bool.{eqb-true}
 use Rattle.mds_types.specs.declared.dentries.Dentry.{Dentry}
 use Rattle.mds_types.specs.declared.inodes.Inode.{Inode}
-use Rattle.mds_types.specs.Tree.{Tree, dentry_cmp, dentry_of, at, is_directory, is_dir_kind, is_above, has_entries, IsAbove as IsAboveIn, child, further as further_down, IsWellFormed}
+use Rattle.mds_types.specs.Tree.{Tree, dentry_cmp, dentry_of, at, is_directory, is_dir_kind, is_above, has_entries, IsAbove as IsAboveIn, child, further as further_down, IsWellFormed, NothingIn}
 use Rattle.mds_types.specs.Step.{with_attributes}
-use Rattle.mds_types.specs.AboveLaws.{above_exact}
-use Rattle.mds_types.specs.AttributeLaws.{well-formed-changed}
-use Rattle.mds_types.specs.RemovedLaws.{well-formed-removed}
-use Rattle.mds_types.specs.WellFormedLaws.{well-formed-grown, sized_still}
-use Rattle.mds_types.specs.EntryLaws.{get_put, get_beside, get_left, stands_after_put, stands_after_removal, same_or_apart}
-use Rattle.mds_types.specs.DirectoryLaws.{StandsAs, directory_stands, root_stands, entry_stands, one_dentry, NothingIn, nothing_in_empty, nothing_in_file}
-use Rattle.sorted_map.specs.Bools.{or_cases, or_first, or_second}
-use Rattle.sorted_map.specs.NatKeys.{is_same, after_put, after_removal, get_put as get_put_home, get_beside as get_beside_home, get_left as get_left_home, get_removed as get_removed_home, same_or_apart as same_number}
+use Rattle.mds_types.proofs.AboveLaws.{above_exact}
+use Rattle.mds_types.proofs.AttributeLaws.{well-formed-changed}
+use Rattle.mds_types.proofs.RemovedLaws.{well-formed-removed}
+use Rattle.mds_types.proofs.WellFormedLaws.{well-formed-grown, sized_still}
+use Rattle.mds_types.proofs.EntryLaws.{get_put, get_beside, get_left, stands_after_put, stands_after_removal, same_or_apart}
+use Rattle.mds_types.proofs.DirectoryLaws.{StandsAs, directory_stands, root_stands, entry_stands, one_dentry, nothing_in_empty, nothing_in_file}
+use Rattle.sorted_map.proofs.Bools.{or_cases, or_first, or_second}
+use Rattle.sorted_map.proofs.NatKeys.{is_same, after_put, after_removal, get_put as get_put_home, get_beside as get_beside_home, get_left as get_left_home, get_removed as get_removed_home, same_or_apart as same_number}
 use Rattle.inode_table.specs.declared.homes.Home.{Home}
 use Rattle.inode_table.specs.Dirs.{Homes, Covers, or_whole, leaves_of, is_known, IsAbove, parent, further, MayCome, IsChildless, MayGo}
 use Rattle.inode_table.specs.TreeChanges.{KeepLeaves, MayAdd, MaySet, MayRemove}

@@ -5,7 +5,7 @@ use Rattle.std.specs.FinMap as map
 use Rattle.std.specs.FinMap.{get-empty}
 use Rattle.mds_types.specs.Frag.{Fragment}
 use Rattle.fragtree.specs.FragTree.{IsTree}
-use Rattle.sorted_map.specs.NatKeys.{same_or_apart, get_put, get_beside, get_left, after_put, after_removal}
+use Rattle.sorted_map.proofs.NatKeys.{same_or_apart, get_put, get_beside, get_left, after_put, after_removal}
 use Rattle.inode_table.specs.declared.homes.Home.{Home}
 use Rattle.inode_table.specs.Dirs.{Homes, Covers, IsTable, MayCome, MayMove, IsChildless, is_known}
 use Rattle.inode_table.proofs.Chains.{empty_rooted, adopted_rooted, moved_rooted, dropped_rooted}
@@ -27,7 +27,7 @@ known_by homes d o is some = go (d == 1)
     go false = ap is_some is ∙ some
 
 -- a directory stays one when another gets a home
-still_known : (homes : Homes) (d : ℕ) (home : Home) (x : ℕ) → is_known homes x ≡ true → is_known (map.insert homes d home) x ≡ true
+pub still_known : (homes : Homes) (d : ℕ) (home : Home) (x : ℕ) → is_known homes x ≡ true → is_known (map.insert homes d home) x ≡ true
 still_known homes d home x known = go (same_or_apart x d)
   where
     go : (x ≡ d) ⊎ (x ≡ d → ⊥) → is_known (map.insert homes d home) x ≡ true

@@ -4,9 +4,8 @@ use Rattle.std.specs.FinMap as map
 use Rattle.mds_types.specs.declared.dentries.Dentry.{Dentry}
 use Rattle.mds_types.specs.declared.attributes.Attributes.{Attributes}
 use Rattle.mds_types.specs.declared.inodes.Inode.{Inode}
-use Rattle.mds_types.specs.Tree.{Tree, is_directory, is_dir_kind, has_entries, HasSize}
+use Rattle.mds_types.specs.Tree.{Tree, is_directory, is_dir_kind, has_entries, HasSize, IsUnused}
 use Rattle.mds_types.specs.Step.{size_errno, with_attributes}
-use Rattle.mds_types.specs.WellFormedLaws.{IsUnused}
 use Rattle.inode_table.specs.Dirs.{Covers, leaves_of}
 
 -- a new inode may come: to a free dentry of a directory, with a number that is unused and the size that its kind prescribes

@@ -10,20 +10,19 @@ use Rattle.std.specs.FinMap.{find, is_sorted, get-entries, entries_sorted, get-e
 use Rattle.std.specs.Option.{option_or}
 use Rattle.std.proofs.lemmas.Map.Lookups.{exact_bytes}
 use Rattle.sorted_map.specs.Overlay.{overlaid, with_pairs}
-use Rattle.sorted_map.specs.Laws.{get-overlaid}
+use Rattle.sorted_map.proofs.MapLaws.{get-overlaid, tie}
 use Rattle.std.specs.FinMap.Entries.{find_tied}
-use Rattle.sorted_map.specs.Bools.{left_of, right_of, or_first, or_second}
+use Rattle.sorted_map.proofs.Bools.{left_of, right_of, or_second}
 use Rattle.mds_types.specs.declared.inodes.Inode.{Inode}
 use Rattle.mds_types.specs.Frag.{Fragment}
-use Rattle.mds_types.specs.OrderLaws.{frag-total}
-use Rattle.mds_types.specs.EntryLaws.{tie}
-use Rattle.mds_types.specs.EntrySearch.{not_found_below}
+use Rattle.mds_types.proofs.EntrySearch.{not_found_below}
 use Rattle.fragtree.specs.FragTree.{IsPick}
 use Rattle.namehash.specs.Rjenkins.{hash_of}
 use Rattle.leaf_maps.specs.Leaves.{Names, Leaves, names_of, names_in}
 use Rattle.leaf_maps.specs.Changes.{HaveSameNames, IsRewritten, AreLeftAlone}
 use Rattle.leaf_maps.specs.Regroup.{ArePlacedIn, is_leaf, Gathers, PicksFresh}
-use Rattle.leaf_maps.specs.RegroupLaws.{leaf_is, is_one, gathers_put}
+use Rattle.leaf_maps.proofs.RegroupLaws.{leaf_is, is_one, gathers_put}
+use Rattle.leaf_maps.proofs.RegroupedLaws.{leaf_itself as leaf_first}
 
 -- a copy of a name in the leaf that its hash picks
 pub copied : (parts mid new : Leaves) (d : ℕ) (from to : List Fragment) (have : Names) (leaf : Fragment) (name copy : List ℕ) (inode twin : Inode) → copy ≡ name → twin ≡ inode → Gathers parts d from to have → HaveSameNames parts mid
@@ -59,9 +58,6 @@ pick_fresh leaves d from to f name inode placed goes has g pick = go (is_leaf fr
     go : (b : Bool) → is_leaf from g ≡ b → b ≡ false
     go false isnt = refl
     go true was = let clash : true ≡ false = sym (leaf_is to g pick.stands) ∙ ap (is_leaf to) (its.alone g (is_one from g was) pick.contains) ∙ goes in cc
-
-leaf_first : (f : Fragment) (fs : List Fragment) → is_leaf (f ∷ fs) f ≡ true
-leaf_first f fs = or_first _ _ (ap is_eq (tied_itself frag-total f))
 
 leaf_later : (f g : Fragment) (fs : List Fragment) → is_leaf fs g ≡ true → is_leaf (f ∷ fs) g ≡ true
 leaf_later f g fs there = or_second _ _ there

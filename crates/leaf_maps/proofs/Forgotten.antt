@@ -7,14 +7,14 @@ use Rattle.std.specs.Cmp.{tied_itself}
 use Rattle.std.specs.FinMap as finmap
 use Rattle.std.specs.FinMap.{find, is_sorted, get-entries, entries_sorted, get-remove, get-empty, len-remove, empty_of_len}
 use Rattle.std.specs.FinMap.Entries.{find_tied}
-use Rattle.sorted_map.specs.Bools.{left_of, right_of}
-use Rattle.sorted_map.specs.NatKeys.{is_same}
+use Rattle.sorted_map.proofs.Bools.{left_of, right_of}
+use Rattle.sorted_map.proofs.NatKeys.{is_same}
 use Rattle.mds_types.specs.Frag.{Fragment}
-use Rattle.mds_types.specs.EntryLaws.{tie}
-use Rattle.mds_types.specs.EntrySearch.{not_found_below}
+use Rattle.sorted_map.proofs.MapLaws.{tie}
+use Rattle.mds_types.proofs.EntrySearch.{not_found_below}
 use Rattle.leaf_maps.specs.Leaves.{Leaf, Rows, Leaves, leaf_cmp, kept_of}
-use Rattle.leaf_maps.specs.LeafLaws.{leaf-exact, leaf-total}
-use Rattle.leaf_maps.specs.OneLeaf.{key, apart_keys}
+use Rattle.leaf_maps.proofs.LeafLaws.{leaf-exact, leaf-total}
+use Rattle.leaf_maps.proofs.OneLeaf.{key, apart_keys}
 use Rattle.leaf_maps.specs.Listed.{leaves_of_dir}
 
 -- no leaf of the directory is found where there is none

@@ -10,7 +10,7 @@ use Rattle.std.specs.FinMap.Entries.{below_all}
 use Rattle.std.proofs.Permutation.{every_shuffled}
 use Rattle.std.proofs.lemmas.List.Sums.{sum_by-cons}
 use Rattle.std.proofs.lemmas.List.Sorted.{sum_by-IsPermutation}
-use Rattle.sorted_map.specs.Bools.{left_of, right_of}
+use Rattle.sorted_map.proofs.Bools.{left_of, right_of}
 use Rattle.leaf_maps.specs.Merge.{Row, tally, HasSameRows, IsLeast, TakesLeast, Cursor, next_cmp, rows_left, IsRun, IsMerge}
 
 pub tally-append : (f : Row → ℕ) (xs ys : List Row) → tally f (xs ++ ys) ≡ tally f xs + tally f ys

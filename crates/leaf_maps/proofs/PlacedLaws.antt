@@ -12,17 +12,18 @@ use Rattle.std.specs.FinMap.Entries.{below_all, find_tied}
 use Rattle.mds_types.specs.declared.dentries.Dentry.{Dentry}
 use Rattle.mds_types.specs.declared.inodes.Inode.{Inode}
 use Rattle.mds_types.specs.Tree.{dentry_cmp, dentry_of}
-use Rattle.mds_types.specs.EntryLaws.{tie}
-use Rattle.mds_types.specs.EntrySearch.{not_found_below}
-use Rattle.mds_types.specs.ListingLaws.{IsListing, names_are_listed}
+use Rattle.sorted_map.proofs.MapLaws.{tie}
+use Rattle.mds_types.proofs.EntrySearch.{not_found_below}
+use Rattle.mds_types.specs.Outcomes.{IsListing}
+use Rattle.mds_types.proofs.ListingLaws.{names_are_listed}
 use Rattle.mds_types.specs.Step.{names_after}
-use Rattle.sorted_map.specs.Bools.{left_of, right_of}
+use Rattle.sorted_map.proofs.Bools.{left_of, right_of}
 use Rattle.sorted_map.specs.SortedMap.{contents}
 use Rattle.fragtree.specs.FragTree.{IsPick}
 use Rattle.namehash.specs.Rjenkins.{hash_of}
 use Rattle.inode_table.specs.Dirs.{Covers, leaves_of}
 use Rattle.leaf_maps.specs.Leaves.{Leaf, leaf_cmp, Rows, Leaves, names_of, entries_of, entries_in, shown_by, ArePlaced}
-use Rattle.leaf_maps.specs.LeafLaws.{leaf-total, found_row, first_at, found_first}
+use Rattle.leaf_maps.proofs.LeafLaws.{leaf-total, found_row, first_at, found_first}
 use Rattle.leaf_maps.specs.Listed.{leaves_of_dir, rows_of, rows_in}
 use Rattle.leaf_maps.specs.Merge.{Row, HasSameRows, IsOrderOf}
 use Rattle.leaf_maps.proofs.ShownLaws.{AreDistinct, shown_rows}

@@ -33,6 +33,3 @@ gathered after done new rows leaf left rest all is are put gathers f =
     let more = tally-append f rows done in
     let same : tally f rows ≡ tally f (rows_after after (rows_of leaf.1)) = ap (tally f) are in
     omega (arith, put f, gathers f)
-
-pub all_gathered : (after : Option (List ℕ)) (done : List Row) (left all : List (Leaf × Rows)) → left ≡ [] → Gathers after done left all → HasSameRows done (rows_in after all)
-all_gathered after done left all is gathers f = let none = ap (λ ls. tally f (rows_in after ls)) is in omega (arith, gathers f)

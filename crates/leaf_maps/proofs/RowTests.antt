@@ -7,8 +7,8 @@ use Rattle.std.proofs.lemmas.Map.Lookups.{exact_bytes}
 use Rattle.mds_types.specs.declared.inodes.Inode.{Inode}
 use Rattle.mds_types.specs.declared.inodes.Kind.{Kind}
 use Rattle.mds_types.specs.declared.inodes.Kind.TheVariants.{File, Dir, Symlink}
-use Rattle.mds_types.specs.EntryLaws.{tie}
-use Rattle.sorted_map.specs.Bools.{first_true, second_true, both_true}
+use Rattle.sorted_map.proofs.MapLaws.{tie}
+use Rattle.sorted_map.proofs.Bools.{first_true, second_true, both_true}
 use Rattle.leaf_maps.specs.Merge.{Row}
 
 -- an inode as numbers, and back

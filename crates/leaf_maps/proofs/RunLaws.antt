@@ -5,11 +5,12 @@ use Rattle.std.specs.Cmp.{ranks}
 use Rattle.std.proofs.lemmas.Bool.Decides.{nat_tests}
 use Rattle.std.specs.FinMap.{is_sorted}
 use Rattle.std.specs.FinMap.Entries.{below_all, where_key}
-use Rattle.sorted_map.specs.Bools.{left_of, right_of}
+use Rattle.sorted_map.proofs.Bools.{left_of, right_of}
 use Rattle.sorted_map.specs.SortedMap.{is_from}
 use Rattle.mds_types.specs.Frag.{Fragment, frag_cmp, root_fragment}
 use Rattle.leaf_maps.specs.Leaves.{Leaf, Rows, leaf_cmp}
 use Rattle.leaf_maps.specs.Listed.{leaves_of_dir, run}
+use Rattle.sorted_map.proofs.NatKeys.{is_apart as differs}
 
 -- the least leaf of a directory
 abbrev first_of : ℕ → Leaf
@@ -26,9 +27,6 @@ data Standing (d : ℕ) (leaf : Leaf) : Type 0 where
   earlier : begins d leaf ≡ false → (leaf.0.0 == d) ≡ false → Standing d leaf
   here : begins d leaf ≡ true → (leaf.0.0 == d) ≡ true → Standing d leaf
   later : begins d leaf ≡ true → d < leaf.0.0 → Standing d leaf
-
-differs : (a b : ℕ) → (a ≡ b → ⊥) → (a == b) ≡ false
-differs a b apart = grind (arith, nat_tests)
 
 none_below : (n : ℕ) (r : Ordering) → MatchOrdering r (0 < n) (0 ≡ n) (n < 0) → (s : Ordering) → is_le s ≡ true → is_le (ordering_then r s) ≡ true
 none_below n Less h s e = refl

@@ -6,10 +6,10 @@ use Rattle.std.specs.FinMap.{get-empty}
 use Rattle.mds_types.specs.Frag.{Fragment}
 use Rattle.fragtree.specs.FragTree.{HasLeaf}
 use Rattle.inode_table.specs.Dirs.{Homes, Covers, is_known, or_whole, leaves_of}
-use Rattle.sorted_map.specs.NatKeys.{same_or_apart, get_put, get_beside}
+use Rattle.sorted_map.proofs.NatKeys.{same_or_apart, get_put, get_beside}
 use Rattle.leaf_maps.specs.Leaves.{Leaves, kept_of, AreStanding}
 use Rattle.leaf_maps.specs.Changes.{AreLeftAlone}
-use Rattle.leaf_maps.specs.OneLeaf.{one_or_other}
+use Rattle.leaf_maps.proofs.OneLeaf.{one_or_other}
 use Rattle.leaf_maps.specs.Regroup.{IsRegrouped}
 
 -- where nothing is kept

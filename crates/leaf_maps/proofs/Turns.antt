@@ -8,7 +8,7 @@ use Rattle.mds_types.specs.Frag.{Fragment}
 use Rattle.fragtree.specs.FragTree.{HasLeaf}
 use Rattle.leaf_maps.specs.Leaves.{Names, Leaves, names_in}
 use Rattle.leaf_maps.specs.Regroup.{is_leaf, gathered, Gathers, cleared}
-use Rattle.leaf_maps.specs.RegroupLaws.{leaf_is, leaf_told}
+use Rattle.leaf_maps.proofs.RegroupLaws.{leaf_is, leaf_told}
 
 -- a leaf that goes is cleared away, another stays
 pub cleared_turn : (m now whole : Leaves) (d : ℕ) (to : List Fragment) (f : Fragment) (fs rest : List Fragment) (told : Bool) → IsTrue told ↔ HasLeaf to f → rest ≡ f ∷ fs → now ≡ cond told m (finmap.remove m (record { 0 = d }, f))

@@ -7,11 +7,11 @@ use Rattle.std.specs.FinMap.{get-insert, get-remove, get_tied, same_map}
 use Rattle.std.proofs.lemmas.Map.Lookups.{exact_bytes}
 use Rattle.sorted_map.specs.SortedMap.{contents}
 use Rattle.mds_types.specs.Frag.{Fragment}
-use Rattle.mds_types.specs.EntryLaws.{tie}
+use Rattle.sorted_map.proofs.MapLaws.{tie}
 use Rattle.leaf_maps.specs.Leaves.{leaf_cmp, Names, Rows, Leaves, names_of, names_in}
 use Rattle.leaf_maps.specs.Changes.{HaveSameNames, IsRewritten, HasRoomIn, HasRoom, KeepRoom, AreLeftAlone}
-use Rattle.leaf_maps.specs.LeafLaws.{leaf-exact, leaf-total}
-use Rattle.leaf_maps.specs.OneLeaf.{key, key_itself, one_or_other, apart_keys, names_same}
+use Rattle.leaf_maps.proofs.LeafLaws.{leaf-exact, leaf-total}
+use Rattle.leaf_maps.proofs.OneLeaf.{key, key_itself, one_or_other, apart_keys, names_same}
 
 -- a leaf got other rows
 pub written : (old new : Leaves) (d : ℕ) (f : Fragment) (rows : Rows) (names : Names) → new ≡ finmap.insert old (record { 0 = d }, f) rows → contents (slice_cmp nat_cmp) rows ≡ names → IsRewritten old new d f names

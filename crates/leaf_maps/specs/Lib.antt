@@ -1,10 +1,5 @@
 pub mod Changes
-pub mod LeafLaws
 pub mod Leaves
 pub mod Listed
 pub mod Merge
-pub mod OneLeaf
 pub mod Regroup
-pub mod RegroupLaws
-pub mod RegroupedLaws
-pub mod ShownLaws

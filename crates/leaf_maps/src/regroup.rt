@@ -12,7 +12,6 @@ ghost use Rattle.leaf_maps.specs.Regroup.{ArePlacedIn, IsRegrouped, is_leaf, gat
 
 use crate::leaf_maps::LeafMaps;
 use fragtree::FragTree;
-use fragtree::laws::each_hash_has_a_pick;
 use mds_types::{Frag, Ino, Inode, Name};
 use namehash::rjenkins;
 use sorted_map::SortedMap;
@@ -37,7 +36,6 @@ impl LeafMaps {
         ensures ok { ArePlacedIn self.old dir.0 from.now → OnOk result (IsRegrouped self.old self.new dir.0 from.now to.now) }
         ensures err { OnErr result (self.new ≡ self.old) }
     {
-        each_hash_has_a_pick();
         let _ = to.len();
         let parts = copies(alloc, &self.leaves, dir, from, to)?;
         self.leaves.overlay(parts.leaves)?;

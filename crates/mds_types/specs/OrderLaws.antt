@@ -1,8 +1,7 @@
--- The orders of names, dentries and fragments: total, and exact in that only equal ones tie.
+-- Orders in which only equal values tie, as the types say of theirs.
 use Rattle.std.specs.Prelude.{◌≡◌}
 use Rattle.std.specs.Ordering.{nat_cmp}
-use Rattle.std.specs.Cmp.{IsTotalOrder, on_total, then_total, nat_cmp_total}
-use Rattle.std.specs.Cmp.Lexicographic.{slice_cmp, nat_list_cmp_total}
+use Rattle.std.specs.Cmp.Lexicographic.{slice_cmp}
 use Rattle.std.specs.FinMap.{IsAntisymmetric, nat_cmp-IsAntisymmetric}
 use Rattle.std.proofs.lemmas.Map.Lookups.{exact_unsigned, exact_bytes, exact_pairs}
 use Rattle.mds_types.specs.declared.ids.Ino.{Ino}
@@ -20,13 +19,7 @@ dentry-exact a b tied =
     let same : (a.dir.0, a.name) ≡ (b.dir.0, b.name) = exact_pairs nat_cmp (slice_cmp nat_cmp) exact_unsigned exact_bytes (a.dir.0, a.name) (b.dir.0, b.name) tied in
     λ i. record { dir = record { 0 = (same i).0 }; name = (same i).1 }
 
-pub dentry-total : IsTotalOrder dentry_cmp
-dentry-total = then_total (on_total (λ p. p.dir.0) nat_cmp_total) (on_total (λ p. p.name) nat_list_cmp_total)
-
 pub frag-exact : IsAntisymmetric frag_cmp
 frag-exact a b tied =
     let same : (a.value, a.bits) ≡ (b.value, b.bits) = exact_pairs nat_cmp nat_cmp exact_unsigned exact_unsigned (a.value, a.bits) (b.value, b.bits) tied in
     λ i. record { bits = (same i).1; value = (same i).0 }
-
-pub frag-total : IsTotalOrder frag_cmp
-frag-total = then_total (on_total (λ f. f.value) nat_cmp_total) (on_total (λ f. f.bits) nat_cmp_total)

@@ -1,8 +1,8 @@
 -- The operation table: what each operation answers on the plain tree, and what it leaves. Each operation's checks come in
 -- the order in which they stand here; an errno changes nothing.
 -- What operations do when they succeed is POSIX.1's; the order of the checks and the errno numbers are this project's own profile.
-use Rattle.std.specs.Prelude.{ℕ, Bool, true, false, cond, ◌&&◌, ◌||◌, ◌==◌, nat_lt, List, map, filter, take, length, Option, Some, None, unwrap_or}
-use Rattle.std.specs.Ordering.{is_lt}
+use Rattle.std.specs.Prelude.{ℕ, Bool, true, false, cond, ◌&&◌, ◌||◌, ◌==◌, nat_lt, List, map, filter, take, length, Option, Some, None, unwrap_or, ◌≡◌}
+use Rattle.std.specs.Ordering.{is_lt, eq_by_cmp}
 use Rattle.std.specs.Cmp.Lexicographic.{slice_cmp}
 use Rattle.std.specs.Ordering.{nat_cmp, eq_by_cmp}
 use Rattle.std.specs.FinMap as map
@@ -177,3 +177,11 @@ step tree op n = cond (is_directory tree (directory_of op) && is_directory tree 
 abbrev pub number_or : Option Ino → ℕ
 number_or None = 0
 number_or (Some ino) = ino.0
+
+-- the table moves this inode from one dentry to another
+pub record IsMove (tree : Tree) (from to : Dentry) (inode : Inode) : Type 0 where
+  pub stands : map.get tree from ≡ Some inode
+  pub apart : eq_by_cmp dentry_cmp from to ≡ false
+  pub parent : is_directory tree to.dir.0 ≡ true
+  pub outside : leads_to tree inode to.dir.0 ≡ false
+  pub replaces : replace_errno tree inode (map.get tree to) ≡ None

@@ -81,3 +81,12 @@ pub record IsWellFormed (tree : Tree) : Type 0 where
   -- each entry's directory reaches the root by finitely many parents
   pub rooted : (d : ℕ) (name : List ℕ) (inode : Inode) → at tree d name ≡ Some inode → (d ≡ 1) ⊎ IsAbove tree 1 d
   pub sizes : (d : ℕ) (name : List ℕ) (inode : Inode) → at tree d name ≡ Some inode → HasSize inode.kind inode.size
+
+-- no entry is in what has this number
+abbrev pub NothingIn : Tree → ℕ → Type 0
+NothingIn tree d = (q : Dentry) (x : Inode) → map.get tree q ≡ Some x → q.dir.0 ≡ d → ⊥
+
+-- a number that no inode of the tree has, and that isn't the root's
+pub record IsUnused (tree : Tree) (n : ℕ) : Type 0 where
+  pub not_root : n ≡ 1 → ⊥
+  pub not_there : (d : ℕ) (name : List ℕ) (inode : Inode) → at tree d name ≡ Some inode → inode.ino.0 ≡ n → ⊥

@@ -4,7 +4,7 @@ ghost use Rattle.std.specs.Cmp.Lexicographic.{pointwise, lists_equiv};
 ghost use Rattle.std.specs.Prelude.{◌≡◌, ◌==◌, ◌&&◌, List, ℕ, IfOk};
 ghost use Rattle.std.proofs.Common.{rules};
 ghost use Rattle.std.proofs.lemmas.Slice.Eq.{bytes_eq-Decides, slice_eq-Decides};
-ghost use Rattle.mds_types.specs.Decided.{pair_decides};
+ghost use Rattle.sorted_map.proofs.Decided.{pair_decides};
 ghost use Rattle.mds_types.specs.declared.inodes.Inode.{Inode};
 
 use crate::inodes::Inode;

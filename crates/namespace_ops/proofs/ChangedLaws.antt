@@ -12,8 +12,9 @@ use Rattle.mds_types.specs.declared.operations.Op.TheVariants.{Lookup, Readdir, 
 use Rattle.mds_types.specs.Frag.{Fragment}
 use Rattle.mds_types.specs.Tree.{Tree, dentry_cmp, is_dir_kind, has_entries}
 use Rattle.mds_types.specs.Step.{step, replace_errno}
-use Rattle.mds_types.specs.StepLaws.{is_errno, errno_of_any_number}
-use Rattle.mds_types.specs.DirectoryLaws.{entries_there}
+use Rattle.mds_types.specs.Outcomes.{is_errno}
+use Rattle.mds_types.proofs.StepLaws.{errno_of_any_number}
+use Rattle.mds_types.proofs.DirectoryLaws.{entries_there}
 use Rattle.inode_table.specs.Dirs.{Covers, leaves_of}
 use Rattle.namespace_ops.specs.declared.plans.Change.{Change}
 use Rattle.namespace_ops.specs.declared.plans.Change.TheVariants.{Add, Set, Remove, Move}
@@ -24,7 +25,7 @@ use Rattle.mds_types.specs.declared.refusals.Refusal.{Refusal}
 use Rattle.namespace_ops.specs.declared.plans.Checked.{Checked}
 use Rattle.namespace_ops.specs.declared.plans.Checked.TheVariants.{Changes}
 use Rattle.namespace_ops.specs.Checked.{Checks, IsChecked}
-use Rattle.namespace_ops.specs.Picks.{picked}
+use Rattle.namespace_ops.proofs.PickLaws.{picked}
 use Rattle.namespace_ops.proofs.Members.{first_or_later, in_dir, later, leaves_apart, none_in, one_leaf, two_leaves}
 
 leaf_is : (covers : Covers) (dentry : Dentry) (leaf : Fragment) → IsLeafAt covers dentry leaf → (dentry.dir, leaf) ≡ fragment_of covers dentry
@@ -117,27 +118,6 @@ module _ (tree : Tree) (covers : Covers) where
   moves_by (Rmdir dentry) change one_of takes = refl
   moves_by (Rename from to) change one_of takes =
       move_apart from to change one_of (new_or_not change takes from to one_of)
-
-  stays_none : (op : Op) → stays op ≡ true → touched covers tree op ≡ []
-  stays_none (Lookup dentry) idle = refl
-  stays_none (Readdir dir after max) idle = refl
-  stays_none (Readlink dentry) idle = refl
-  stays_none (Create dentry mode mtime) idle = cc
-  stays_none (Mkdir dentry mode mtime) idle = cc
-  stays_none (Symlink dentry target mtime) idle = cc
-  stays_none (Setattr dentry given) idle = cc
-  stays_none (Unlink dentry) idle = cc
-  stays_none (Rmdir dentry) idle = cc
-  stays_none (Rename from to) idle =
-      ap (λ b. cond b [] (fragment_of covers from ∷ fragment_of covers to ∷ leaves_at covers (map.get tree to))) idle
-
-  -- an operation that changes nothing has no changed fragments
-  pub idle_none : (op : Op) (n : ℕ) → is_idle op (step tree op n).reply ≡ true → changed_fragments covers tree op ≡ []
-  idle_none op n idle = go (is_errno (step tree op 0).reply) (errno_of_any_number tree op 0 n)
-    where
-      go : (b : Bool) → b ≡ is_errno (step tree op n).reply → cond b [] (touched covers tree op) ≡ []
-      go true is = refl
-      go false is = stays_none op (ap (λ b. b || stays op) is ∙ idle)
 
 no_errno : (change : Change) → is_errno (reply_of change) ≡ false
 no_errno (Add p leaf inode) = refl

@@ -14,7 +14,7 @@ use Rattle.mds_types.specs.declared.replies.Reply.TheVariants.{Done, Entry, Errn
 use Rattle.mds_types.specs.Frag.{Fragment}
 use Rattle.mds_types.specs.Tree.{Tree, dentry_cmp, is_directory, is_dir_kind, has_entries}
 use Rattle.mds_types.specs.Step.{Outcome, answers, attributes_set, dir_removed, removal_errno, leads_to, made, new_inode, renamed, replace_errno, size_errno, unless, unlinked, with_attributes, with_moved, within}
-use Rattle.mds_types.specs.WellFormedLaws.{new_sized, may_go}
+use Rattle.mds_types.proofs.WellFormedLaws.{new_sized, may_go}
 use Rattle.inode_table.specs.Dirs.{Covers}
 use Rattle.namespace_ops.specs.declared.plans.Checked.{Checked}
 use Rattle.namespace_ops.specs.declared.plans.Change.TheVariants.{Add, Set, Remove, Move}
@@ -26,10 +26,6 @@ pub no_dir : (kind : Kind) (told : Bool) → (kind ≡ Dir → told ≡ true) �
 no_dir File told meets failed = refl
 no_dir (Link target) told meets failed = refl
 no_dir Dir told meets failed = let clash : true ≡ false = sym (meets refl) ∙ failed in absurd cc
-
-pub none_there : (told has : Bool) → told ≡ not has → told ≡ true → has ≡ false
-none_there told true is held = let clash : true ≡ false = sym held ∙ is in absurd cc
-none_there told false is held = refl
 
 pub none_given : (b : Bool) (number : Option Ino) → (b && not (is_some number)) ≡ false → number ≡ None → b ≡ false
 none_given true None given none = cc

@@ -2,4 +2,6 @@ pub mod ChangedLaws
 pub mod CheckedParts
 pub mod Members
 pub mod OtherLeaves
+pub mod PickLaws
 pub mod PlanParts
+pub mod ReasonLaws

@@ -3,29 +3,14 @@ use Rattle.std.proofs.Common.{◌≡◌, true, false, cond, Option, Some, None, 
 use Rattle.mds_types.specs.declared.ids.Ino.{Ino}
 use Rattle.mds_types.specs.declared.operations.Op.{Op}
 use Rattle.mds_types.specs.declared.replies.Reply.{Reply}
-use Rattle.mds_types.specs.Tree.{Tree}
-use Rattle.mds_types.specs.Step.{Outcome, answers, step, number_or}
-use Rattle.mds_types.specs.WellFormedLaws.{IsUnused}
+use Rattle.mds_types.specs.Tree.{Tree, IsUnused}
+use Rattle.mds_types.specs.Step.{step, number_or}
 use Rattle.inode_table.specs.Dirs.{Covers}
 use Rattle.namespace_ops.specs.declared.plans.Change.{Change}
-use Rattle.namespace_ops.specs.Changes.{IsOffered, MayChange, is_idle, is_new, reply_of}
+use Rattle.namespace_ops.specs.Changes.{IsOffered, MayChange, is_new, reply_of}
 use Rattle.namespace_ops.specs.Checked.{IsChecked}
 use Rattle.namespace_ops.specs.Planned.{IsPlanned}
-use Rattle.namespace_ops.proofs.ChangedLaws.{busy, fragments_are, idle_none}
-
--- the plan of an operation that changes nothing
-pub planned_answer : (tree : Tree) (covers : Covers) (IsReady : Change → Type 0) (op : Op) (number : Option Ino) (reply : Reply) → step tree op (number_or number) ≡ answers tree reply → is_idle op reply ≡ true
-    → IsPlanned tree covers IsReady op (step tree op (number_or number)) number (record { reply = reply; change = None; number = None })
-planned_answer tree covers IsReady op number reply is idle = record {
-  replied = ap (λ (o : Outcome). o.reply) (sym is);
-  leads = ap (λ (o : Outcome). o.tree) (sym is);
-  ready = tt;
-  took = ap (λ (o : Outcome). cond o.takes number None) (sym is);
-  numbered = λ none. ap (λ (o : Outcome). o.takes) is;
-  one_of = tt;
-  idle = λ still. refl;
-  fragments = sym (idle_none tree covers op (number_or number) (ap (λ (o : Outcome). is_idle op o.reply) is ∙ idle));
-}
+use Rattle.namespace_ops.proofs.ChangedLaws.{busy, fragments_are}
 
 -- a number that the operation takes was offered
 offered_unused : (tree : Tree) (number : Option Ino) → IsOffered tree number → (number ≡ None → ⊥) → IsUnused tree (number_or number)

@@ -10,7 +10,7 @@ use Rattle.mds_types.specs.declared.operations.Op.TheVariants.{Lookup, Readdir, 
 use Rattle.mds_types.specs.declared.replies.Reply.{Reply}
 use Rattle.mds_types.specs.Tree.{Tree, dentry_cmp, is_dir_kind}
 use Rattle.mds_types.specs.Step.{step}
-use Rattle.mds_types.specs.StepLaws.{is_errno}
+use Rattle.mds_types.specs.Outcomes.{is_errno}
 use Rattle.namehash.specs.Rjenkins.{hash_of}
 use Rattle.inode_table.specs.Dirs.{Covers, leaves_of}
 use Rattle.mds_types.specs.declared.ids.Ino.{Ino}

@@ -12,11 +12,9 @@ use Rattle.mds_types.specs.declared.operations.Op.TheVariants.{Lookup, Readdir, 
 use Rattle.mds_types.specs.declared.replies.Reply.{Reply}
 use Rattle.mds_types.specs.declared.replies.Reply.TheVariants.{Entry, Done}
 use Rattle.mds_types.specs.Frag.{Fragment}
-use Rattle.mds_types.specs.Tree.{Tree, dentry_cmp, is_dir_kind}
-use Rattle.mds_types.specs.Step.{with_moved}
-use Rattle.mds_types.specs.StepLaws.{is_errno}
-use Rattle.mds_types.specs.MovedLaws.{IsMove}
-use Rattle.mds_types.specs.WellFormedLaws.{IsUnused}
+use Rattle.mds_types.specs.Tree.{Tree, dentry_cmp, is_dir_kind, IsUnused}
+use Rattle.mds_types.specs.Step.{with_moved, IsMove}
+use Rattle.mds_types.specs.Outcomes.{is_errno}
 use Rattle.fragtree.specs.FragTree.{IsPick}
 use Rattle.namehash.specs.Rjenkins.{hash_of}
 use Rattle.inode_table.specs.Dirs.{Covers, leaves_of}

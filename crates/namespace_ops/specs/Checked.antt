@@ -1,9 +1,8 @@
 -- What the checks of an operation find.
 use Rattle.std.specs.Prelude.{◌≡◌, ℕ, true}
 use Rattle.mds_types.specs.declared.operations.Op.{Op}
-use Rattle.mds_types.specs.Tree.{Tree}
+use Rattle.mds_types.specs.Tree.{Tree, IsUnused}
 use Rattle.mds_types.specs.Step.{Outcome, answers}
-use Rattle.mds_types.specs.WellFormedLaws.{IsUnused}
 use Rattle.inode_table.specs.Dirs.{Covers}
 use Rattle.namespace_ops.specs.declared.plans.Change.{Change}
 use Rattle.namespace_ops.specs.declared.plans.Checked.{Checked}

@@ -2,12 +2,9 @@
 use Rattle.std.specs.Prelude.{◌≡◌, ◌↔◌, ℕ, suc, true, List, ◌++◌, take, slice_get, Option, Some}
 use Rattle.mds_types.specs.declared.inodes.Inode.{Inode}
 use Rattle.mds_types.specs.declared.operations.Op.{Op}
-use Rattle.mds_types.specs.Tree.{Tree, IsWellFormed, IsAbove, is_above}
+use Rattle.mds_types.specs.Tree.{Tree, IsWellFormed, IsAbove, is_above, IsUnused}
 use Rattle.mds_types.specs.Step.{step, names_after}
-use Rattle.mds_types.specs.StepLaws.{ErrnoLeaves, TakesWhereMade, is_errno}
-use Rattle.mds_types.specs.ListingLaws.{IsListing}
-use Rattle.mds_types.specs.NumberLaws.{IsOld}
-use Rattle.mds_types.specs.WellFormedLaws.{IsUnused}
+use Rattle.mds_types.specs.Outcomes.{ErrnoLeaves, TakesWhereMade, is_errno, IsListing, IsOld}
 use Rattle.inode_table.specs.Dirs.{Covers}
 use Rattle.inode_table.specs.TreeChanges.{KeepLeaves}
 use Rattle.namespace_ops.specs.declared.plans.Change.{Change}

@@ -1,6 +1,5 @@
 -- Why fragments may refuse a call.
 use Rattle.std.specs.Prelude.{◌≡◌, ◌⊎◌}
-use Rattle.std.proofs.Common.{sym, subst}
 use Rattle.mds_types.specs.declared.refusals.Refusal.{Refusal}
 use Rattle.mds_types.specs.declared.refusals.Refusal.TheVariants.{NoMemory, StoreFault, NoInodes, NothingToEvict, Damaged}
 
@@ -12,10 +11,6 @@ IsOfFragments NoInodes = Unit {0}
 IsOfFragments NothingToEvict = Unit {0}
 IsOfFragments (Damaged object) = Unit {0}
 IsOfFragments other = ⊥
-
--- fragments that refuse for want of memory alone
-pub refused_for_memory : (A : Type 0) (a b : A) (reason : Refusal) → reason ≡ NoMemory → IsOfFragments reason
-refused_for_memory A a b reason because = subst IsOfFragments (sym because) tt
 
 -- a call of its own over fragments is refused for want of memory, or as a call of theirs
 abbrev pub Refuses : (MayRefuse : Refusal → Type 0) → Refusal → Type 0

@@ -7,13 +7,13 @@ use Rattle.std.specs.FinMap.{get-empty, get-from_entries, entries-insert, len-em
 use Rattle.std.proofs.Math.Bool.{or-false}
 use Rattle.mds_types.specs.declared.dentries.Dentry.{Dentry}
 use Rattle.mds_types.specs.declared.inodes.Inode.{Inode}
-use Rattle.sorted_map.specs.NatKeys.{is_same}
-use Rattle.mds_types.specs.WellFormedLaws.{IsUnused}
-use Rattle.mds_types.specs.Tree.{Tree, dentry_cmp, dentry_of, is_above, is_above_within, has_entries}
-use Rattle.mds_types.specs.TreeLaws.{entries-empty}
-use Rattle.mds_types.specs.OrderLaws.{dentry-total, dentry-exact}
-use Rattle.mds_types.specs.EntryLaws.{get_put, get_beside, get_removed, get_left, same_or_apart, same_dentry_is, dentry_apart}
-use Rattle.mds_types.specs.MovedLaws.{IsMove}
+use Rattle.sorted_map.proofs.NatKeys.{is_same}
+use Rattle.mds_types.specs.Tree.{IsUnused, Tree, dentry_cmp, dentry_of, is_above, is_above_within, has_entries}
+use Rattle.mds_types.proofs.TreeLaws.{entries-empty}
+use Rattle.mds_types.proofs.OrderLaws.{dentry-total}
+use Rattle.mds_types.specs.OrderLaws.{dentry-exact}
+use Rattle.mds_types.proofs.EntryLaws.{get_put, get_beside, get_removed, get_left, same_or_apart, same_dentry_is, dentry_apart}
+use Rattle.mds_types.specs.Step.{IsMove}
 use Rattle.namespace_ops_tests.specs.OneEntry.{tree_of}
 use Rattle.inode_table.specs.TreeChanges.{MaySet, MayRemove}
 use Rattle.namespace_ops.specs.Changes.{moved}

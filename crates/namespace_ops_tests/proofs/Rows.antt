@@ -12,11 +12,11 @@ use Rattle.std.specs.FinMap.Entries.{below_all}
 use Rattle.mds_types.specs.declared.dentries.Dentry.{Dentry}
 use Rattle.mds_types.specs.declared.inodes.Inode.{Inode}
 use Rattle.std.specs.Option.{MatchOption}
-use Rattle.mds_types.specs.ListingLaws.{entries_listed, no_entries_listed}
+use Rattle.mds_types.proofs.ListingLaws.{entries_listed, no_entries_listed}
 use Rattle.mds_types.specs.Tree.{Tree, dentry_cmp, dentry_of, has_entries}
 use Rattle.mds_types.specs.Step.{is_after, names_after}
 use Rattle.namespace_ops_tests.specs.Run.{run}
-use Rattle.sorted_map.specs.Bools.{left_of, right_of}
+use Rattle.sorted_map.proofs.Bools.{left_of, right_of}
 
 -- whether a dentry comes after a name of the directory; after none, whether it comes no earlier than the directory's names
 abbrev pub begins : ℕ → Option (List ℕ) → Dentry → Bool

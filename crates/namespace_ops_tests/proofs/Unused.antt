@@ -5,11 +5,10 @@ use Rattle.std.specs.FinMap as map
 use Rattle.std.specs.FinMap.{get-entries}
 use Rattle.std.proofs.lemmas.Bool.{eqb-true}
 use Rattle.std.proofs.lemmas.Bool.Decides.{nat_tests}
-use Rattle.mds_types.specs.Tree.{Tree, dentry_of}
-use Rattle.mds_types.specs.OrderLaws.{dentry-total}
-use Rattle.mds_types.specs.EntryLaws.{any_of}
-use Rattle.mds_types.specs.EntrySearch.{any_found}
-use Rattle.mds_types.specs.WellFormedLaws.{IsUnused}
+use Rattle.mds_types.specs.Tree.{Tree, dentry_of, IsUnused}
+use Rattle.mds_types.proofs.OrderLaws.{dentry-total}
+use Rattle.mds_types.proofs.EntryLaws.{any_of}
+use Rattle.mds_types.proofs.EntrySearch.{any_found}
 use Rattle.namespace_ops_tests.specs.PlainFrags.{is_numbered}
 
 is_same : (a b : ℕ) → a ≡ b → (a == b) ≡ true

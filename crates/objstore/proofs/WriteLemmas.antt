@@ -1,22 +1,17 @@
 -- What a write leaves, for an object that is there and for one that isn't.
 use Rattle.std.proofs.lemmas.List.{take_all, length-map}
-use Rattle.std.proofs.Common.{◌≡◌, ℕ, arith, take, map, length, Bool, true, false, cond, List, Some, None, Result, Ok, Err, OnOk, OnErr, Ordering, Less, Equal, Greater, refl, sym, ap, ◌∙◌}
+use Rattle.std.proofs.Common.{◌≡◌, ℕ, arith, take, map, length, Bool, true, false, cond, List, Some, None, Result, Ok, Err, OnOk, OnErr, refl, sym, ap, ◌∙◌}
 use Rattle.std.specs.Option.{unwrap_or}
-use Rattle.std.specs.Ordering.{is_eq, eq_by_cmp}
+use Rattle.std.specs.Ordering.{eq_by_cmp}
 use Rattle.std.specs.Cmp.Lexicographic.{nat_list_cmp_total}
 use Rattle.std.specs.FinMap as finmap
 use Rattle.std.specs.FinMap.{same_map, get-insert, len-entries}
 use Rattle.std.proofs.lemmas.Map.Lookups.{exact_bytes}
-use Rattle.sorted_map.specs.Laws.{contents-entries}
+use Rattle.sorted_map.proofs.MapLaws.{contents-entries, tie}
 use Rattle.omap.specs.declared.write_ops.WriteOp.{WriteOp}
 use Rattle.omap.specs.Omap.{Omap, key_cmp, empty_omap}
 use Rattle.omap.specs.Writes.{applied}
 use Rattle.objstore.specs.Objects.{Objects, written}
-
-tie : (r : Ordering) → is_eq r ≡ true → r ≡ Equal
-tie Less h = cc
-tie Equal h = refl
-tie Greater h = cc
 
 -- to write back what was there changes nothing
 written_back : (objects : Objects) (name : List ℕ) (object : Omap) → finmap.get objects name ≡ Some object → finmap.insert objects name object ≡ objects

@@ -1,3 +1,2 @@
 pub mod Faulty
 pub mod Objects
-pub mod RefusalLaws

@@ -1,1 +1,3 @@
 pub mod KeyLemmas
+pub mod PageLaws
+pub mod WriteLaws

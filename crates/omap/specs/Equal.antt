@@ -7,7 +7,7 @@ use Rattle.std.proofs.lemmas.Bool.Decides.{Decides-and}
 use Rattle.std.proofs.lemmas.Slice.Eq.{bytes_eq-Decides, slice_eq-Decides}
 use Rattle.std.specs.FinMap as map
 use Rattle.std.specs.FinMap.{same_entries_map}
-use Rattle.mds_types.specs.Decided.{pair_decides}
+use Rattle.sorted_map.proofs.Decided.{pair_decides}
 use Rattle.sorted_map.specs.SortedMap.{pairs_eq}
 use Rattle.omap.specs.Omap.{Omap, PairMap}
 
@@ -19,12 +19,9 @@ same_pairs a b = pointwise (pairs_eq (pointwise ◌==◌) (pointwise ◌==◌)) 
 abbrev pub same_omap : Omap → Omap → Bool
 same_omap a b = pointwise ◌==◌ a.header b.header && same_pairs a.pairs b.pairs
 
-pairs_decide : (a b : PairMap) → Decides (same_pairs a b) (a ≡ b)
-pairs_decide a b =
-    let told = slice_eq-Decides (pair_decides (pointwise ◌==◌) (pointwise ◌==◌) bytes_eq-Decides bytes_eq-Decides) (map.entries a) (map.entries b) (same_pairs a b) refl in
-    (λ t. same_entries_map a b (told.0 t), λ e. told.1 (ap map.entries e))
-
 pub omap_decides : (a b : Omap) → Decides (same_omap a b) (a ≡ b)
 omap_decides a b =
-    let both = Decides-and (pointwise ◌==◌ a.header b.header) (same_pairs a.pairs b.pairs) (bytes_eq-Decides a.header b.header) (pairs_decide a.pairs b.pairs) in
+    let told = slice_eq-Decides (pair_decides (pointwise ◌==◌) (pointwise ◌==◌) bytes_eq-Decides bytes_eq-Decides) (map.entries a.pairs) (map.entries b.pairs) (same_pairs a.pairs b.pairs) refl in
+    let pairs : Decides (same_pairs a.pairs b.pairs) (a.pairs ≡ b.pairs) = (λ t. same_entries_map a.pairs b.pairs (told.0 t), λ e. told.1 (ap map.entries e)) in
+    let both = Decides-and (pointwise ◌==◌ a.header b.header) (same_pairs a.pairs b.pairs) (bytes_eq-Decides a.header b.header) pairs in
     (λ t. let parts = both.0 t in λ i. record { header = parts.0 i; pairs = parts.1 i }, λ e. both.1 (ap (λ (o : Omap). o.header) e, ap (λ (o : Omap). o.pairs) e))

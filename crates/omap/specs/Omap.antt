@@ -1,5 +1,5 @@
 -- An object as RADOS keeps it: a header and an ordered map from keys to values (its omap), all of them bytes.
-use Rattle.std.specs.Prelude.{ℕ, List, [], Option, Bool, filter, take, length, nat_lt}
+use Rattle.std.specs.Prelude.{ℕ, List, [], Option, Bool, filter, take, length, nat_lt, ◌≡◌, suc, ◌++◌, slice_get, Some}
 use Rattle.std.specs.declared.cmp.Ordering.{Ordering}
 use Rattle.std.specs.Ordering.{nat_cmp}
 use Rattle.std.specs.Cmp.Lexicographic.{slice_cmp}
@@ -43,3 +43,8 @@ first_page max pairs = record { pairs = take max pairs; more = nat_lt max (lengt
 -- the page of at most `max` pairs that come next after a key
 abbrev pub page_of : PairMap → Option (List ℕ) → ℕ → PairPage
 page_of pairs after max = first_page max (pairs_after pairs after)
+
+-- the pairs from the next page on: those after a pair follow it, so a page and what comes after its last pair are the whole
+abbrev pub PagesMakeUpWhole : Type 0
+PagesMakeUpWhole = (pairs : PairMap) (after : Option (List ℕ)) (i : ℕ) (pair : List ℕ × List ℕ) → slice_get (pairs_after pairs after) i ≡ Some pair
+    → take (suc i) (pairs_after pairs after) ++ pairs_after pairs (Some pair.0) ≡ pairs_after pairs after

@@ -1,5 +1,5 @@
 -- What an operation on an object does, as the operations of RADOS that are put into one atomic write.
-use Rattle.std.specs.Prelude.{ℕ, List, Option, Some, None, Bool, true, false}
+use Rattle.std.specs.Prelude.{ℕ, List, Option, Some, None, Bool, true, false, []}
 use Rattle.std.specs.FinMap as map
 use Rattle.sorted_map.specs.Overlay.{overlaid, without_keys}
 use Rattle.omap.specs.declared.write_ops.WriteOp.{WriteOp}
@@ -30,3 +30,14 @@ applied op old = with_removed op.remove (with_set op.set (with_header op.header 
 -- the operation that changes nothing
 abbrev pub nothing : WriteOp
 nothing = record { clear = false; header = None; set = map.empty; remove = map.empty }
+
+-- the header after an operation that clears or not, and writes a header or not
+abbrev pub header_after : Bool → Option (List ℕ) → List ℕ → List ℕ
+header_after clear (Some header) old = header
+header_after true None old = []
+header_after false None old = old
+
+-- the pairs into which an operation sets its own
+abbrev pub pairs_before : Bool → PairMap → PairMap
+pairs_before true old = map.empty
+pairs_before false old = old

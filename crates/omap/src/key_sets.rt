@@ -3,7 +3,7 @@ ghost use Rattle.std.proofs.Common.{rules};
 ghost use Rattle.std.specs.Cmp.{on_per, on_equiv, partial_equiv_from_equiv, decided};
 ghost use Rattle.std.specs.Cmp.Lexicographic.{pointwise, lists_equiv};
 ghost use Rattle.std.proofs.lemmas.Slice.Eq.{bytes_eq-Decides};
-ghost use Rattle.mds_types.specs.Decided.{pair_decides};
+ghost use Rattle.sorted_map.proofs.Decided.{pair_decides};
 ghost use Rattle.std.specs.Prelude.{◌≡◌, ◌==◌, ◌↔◌, IfOk, IsTrue, OnOk, OnErr};
 ghost use Rattle.std.specs.FinMap as map;
 ghost use Rattle.omap.specs.Omap.{key_cmp};

@@ -4,8 +4,7 @@ ghost use Rattle.std.specs.Prelude.{◌≡◌, ◌≤◌, ◌↔◌, IfOk, IsTru
 ghost use Rattle.std.specs.FinMap as map;
 ghost use Rattle.omap.specs.Equal.{same_omap, omap_decides};
 ghost use Rattle.omap.specs.Omap.{empty_omap, page_of};
-ghost use Rattle.omap.specs.Writes.{applied};
-ghost use Rattle.omap.specs.WriteLaws.{header_after, pairs_before};
+ghost use Rattle.omap.specs.Writes.{applied, header_after, pairs_before};
 ghost use Rattle.sorted_map.specs.Overlay.{overlaid};
 
 use crate::bytes::Bytes;

@@ -1,16 +1,11 @@
 -- Reading escapes from the left.
-use Rattle.std.proofs.Common.{◌≡◌, ◌≢◌, ne_eqb, ℕ, ◌<◌, false, cond, eqb, List, [], ◌∷◌, ◌++◌, length, Option, Some, None, refl, ap, sym, ◌∙◌, append_assoc, append-nil, arith}
+use Rattle.std.proofs.Common.{◌≡◌, ◌≢◌, ne_eqb, ℕ, ◌<◌, false, cond, eqb, List, [], ◌∷◌, ◌++◌, length, Option, Some, None, refl, ap, sym, ◌∙◌, append-nil, arith}
 use Rattle.script_words.specs.Escapes.{bytes_of, onto, hex_byte_of}
 
 -- bytes before those of the rest, where the rest stands for any
 abbrev pub before : List ℕ → Option (List ℕ) → Option (List ℕ)
 before front None = None
 before front (Some back) = Some (front ++ back)
-
--- one byte more is read
-pub before-onto : (front : List ℕ) (byte : ℕ) (back : Option (List ℕ)) → before front (onto (Some byte) back) ≡ before (front ++ byte ∷ []) back
-before-onto front byte None = refl
-before-onto front byte (Some back) = ap Some (sym (append_assoc front (byte ∷ []) back))
 
 -- the end of the word
 pub before-nothing : (front rest : List ℕ) (word : Option (List ℕ)) → word ≡ before front (bytes_of rest) → length rest ≡ 0 → Some front ≡ word

@@ -5,7 +5,7 @@ use Rattle.std.specs.Cmp.{nat_cmp_total, unsigned_tied}
 use Rattle.std.specs.FinMap as map
 use Rattle.std.specs.FinMap.{find, is_sorted, nat_cmp-IsAntisymmetric, entries_sorted, get-entries, get-from_sorted, get-empty, get-insert, same_map}
 use Rattle.std.specs.FinMap.Entries.{below_all}
-use Rattle.sorted_map.specs.Laws.{contents-entries}
+use Rattle.sorted_map.proofs.MapLaws.{contents-entries}
 use Rattle.mds_types.specs.declared.replies.Reply.{Reply}
 use Rattle.sessions.specs.Table.{Row, no_row, row_or_none, row_in, noted_row, trimmed_row, noted, trimmed, trimmed_found}
 use Rattle.sessions.specs.Rooms.{Session, rows}

@@ -1,4 +1,3 @@
 pub mod Rooms
 pub mod Seen
 pub mod Table
-pub mod TableLaws

@@ -4,7 +4,7 @@ use Rattle.std.specs.Cmp.{IsTotalOrder}
 use Rattle.std.specs.List.{AllZip}
 use Rattle.std.specs.Ordering.{ordering_reverse}
 use Rattle.std.specs.FinMap.Entries.{put, is_sorted}
-use Rattle.sorted_map.specs.Bools.{left_of, right_of}
+use Rattle.sorted_map.proofs.Bools.{left_of, right_of}
 use Rattle.sorted_map.specs.SortedMap.{Shown, IsClone}
 use Rattle.sorted_map.specs.Clones.{ClonePair, ends_below}
 use Rattle.sorted_map.proofs.PlaceLaws.{less}
@@ -18,10 +18,6 @@ zip_end P (w ∷ xs) (z ∷ ys) x y all p = (all.0, zip_end P xs ys x y all.1 p)
 pub moved_end : {A : Type 0} (xs : List A) (x : A) (rest : List A) → (xs ++ x ∷ []) ++ rest ≡ xs ++ x ∷ rest
 moved_end [] x rest = refl
 moved_end (w ∷ xs) x rest = ap (λ t. w ∷ t) (moved_end xs x rest)
-
-pub all_done : {A : Type 0} (xs : List A) → xs ++ [] ≡ xs
-all_done [] = refl
-all_done (x ∷ xs) = ap (λ t. x ∷ t) (all_done xs)
 
 module _ {K V : Type 0} (C : K → K → Type 0) (D : V → V → Type 0) where
   same_pairs : (xs ys : List (K × V)) → AllZip (ClonePair C D) xs ys → ((x y : K) → C x y → y ≡ x) → ((x y : V) → D x y → y ≡ x) → ys ≡ xs

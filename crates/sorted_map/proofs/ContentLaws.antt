@@ -1,18 +1,15 @@
 -- What an edit of pairs in order does to the finite map that they show.
-use Rattle.std.proofs.Common.{◌≡◌, ℕ, ◌-◌, ◌<◌, Bool, true, false, cond, not, T, List, [], ◌∷◌, length, take, drop, get_or, slice_get, set, insert, remove, Some, None, option_map, Ordering, Equal, refl, sym, ap, ap₂, ◌∙◌, subst, arith}
+use Rattle.std.proofs.Common.{◌≡◌, ℕ, ◌-◌, ◌<◌, Bool, cond, not, T, List, [], ◌∷◌, length, take, drop, get_or, slice_get, set, insert, remove, Some, None, option_map, Ordering, Equal, sym, ap, ap₂, ◌∙◌, subst, arith}
 use Rattle.std.proofs.lemmas.List.{nil_from_length, take_rest}
 use Rattle.std.specs.Cmp.{IsTotalOrder, eq_by_cmp_equiv}
 use Rattle.std.specs.Ordering.{eq_by_cmp}
 use Rattle.std.specs.FinMap as map
-use Rattle.std.specs.FinMap.{IsAntisymmetric, entries-from_sorted, get-from_sorted, same_entries_map, entries-insert, get-remove, get-retain_keys, same_map, len-entries, len-empty, empty_of_len}
+use Rattle.std.specs.FinMap.{IsAntisymmetric, entries-from_sorted, get-from_sorted, same_entries_map, entries-insert, get-remove, get-retain_keys, same_map, len-entries, empty_of_len}
 use Rattle.std.specs.FinMap.Entries.{find, put, where_key, is_sorted, is_sorted-put, is_sorted-where_key, find-where_key}
 use Rattle.sorted_map.specs.SortedMap.{first_pair, last_pair}
 use Rattle.sorted_map.specs.Places.{IsAt, IsGap}
 use Rattle.sorted_map.proofs.PlaceLaws.{find_at, find_gap, tied_at, first_at, put_at, put_gap, others_at, others_gap}
-
-turned : {A : Type 0} (b : Bool) (x y : A) → cond (not b) x y ≡ cond b y x
-turned true x y = refl
-turned false x y = refl
+use Rattle.sorted_map.proofs.MapLaws.{swapped as turned}
 
 first_of : {A : Type 0} (es : List A) (x : A) → 0 < length es → x ≡ get_or es 0 x → Some x ≡ slice_get es 0
 first_of [] x some e = absurd (omega arith)
@@ -26,9 +23,6 @@ module _ {K V : Type 0} (R : K → K → Ordering) (es : List (K × V)) (s : T (
   -- no pairs show the empty map, and no other pairs do
   pub empty_shown : length es ≡ 0 → map.from_sorted {R = R} es ≡ map.empty
   empty_shown none = empty_of_len (map.from_sorted es) (sym len_shown ∙ none)
-
-  pub shown_empty : map.from_sorted {R = R} es ≡ map.empty → length es ≡ 0
-  shown_empty e = len_shown ∙ ap map.len e ∙ len-empty R V
 
   -- the first pair and the last
   pub first_shown : slice_get es 0 ≡ first_pair (map.from_sorted {R = R} es)

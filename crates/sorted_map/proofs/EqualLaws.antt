@@ -1,5 +1,5 @@
 -- When a test of pairs tells maps apart.
-use Rattle.std.proofs.Common.{◌≡◌, Bool, true, false, ◌&&◌, T, List, Decides, Ordering, is_eq, sym, ap, ◌∙◌, subst}
+use Rattle.std.proofs.Common.{◌≡◌, Bool, true, T, List, Decides, Ordering, is_eq, sym, ap, ◌∙◌, subst}
 use Rattle.std.proofs.lemmas.Slice.Eq.{slice_eq-Decides}
 use Rattle.std.specs.Cmp.{IsTotalOrder, Equal-is, tied_itself}
 use Rattle.std.specs.Cmp.Lexicographic.{pointwise}
@@ -7,12 +7,8 @@ use Rattle.std.specs.Ordering.{eq_by_cmp}
 use Rattle.std.specs.FinMap as map
 use Rattle.std.specs.FinMap.{IsAntisymmetric, entries-from_sorted}
 use Rattle.std.specs.FinMap.Entries.{is_sorted}
-use Rattle.sorted_map.specs.Bools.{first_true, second_true}
+use Rattle.sorted_map.proofs.Bools.{first_true, second_true, both_true as joined}
 use Rattle.sorted_map.specs.SortedMap.{TellsApart, pairs_eq}
-
-joined : (a b : Bool) → a ≡ true → b ≡ true → (a && b) ≡ true
-joined true b p q = q
-joined false b p q = p
 
 -- `==` at keys in an exact order
 pub keys_told : {K : Type 0} {R : K → K → Ordering} → IsTotalOrder R → IsAntisymmetric R → (E : K → K → Bool) → ((x y : K) → E x y ≡ eq_by_cmp R x y) → TellsApart E

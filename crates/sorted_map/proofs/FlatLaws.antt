@@ -82,10 +82,6 @@ module _ {A : Type 0} where
 
   -- ---- chunks that come, go, part and join
 
-  pub flat_end : (cs : List (List A)) → flat (cs ++ [] ∷ []) ≡ flat cs
-  flat_end [] = refl
-  flat_end (c ∷ cs) = ap (λ t. c ++ t) (flat_end cs)
-
   pub flat_without : (cs : List (List A)) (i : ℕ) → i < length cs → get_or cs i [] ≡ [] → flat (remove cs i) ≡ flat cs
   flat_without [] i lt none = absurd (omega (arith, lt))
   flat_without (c ∷ cs) zero lt none = ap (λ t. t ++ flat cs) (sym none)
@@ -195,10 +191,6 @@ module _ {A : Type 0} where
   pub load_some : (cs : List (List A)) → 0 < length cs → load cs ≡ over cs
   load_some [] some = absurd (omega (arith, some))
   load_some (c ∷ cs) some = refl
-
-  pub load_least : (cs : List (List A)) → over cs ≤ load cs
-  load_least [] = omega arith
-  load_least (c ∷ cs) = omega arith
 
   pub load_most : (cs : List (List A)) → load cs ≤ over cs + 32
   load_most [] = omega arith

@@ -3,7 +3,7 @@ use Rattle.std.proofs.Common.{◌≡◌, ◌⊎◌, inl, inr, ℕ, zero, suc, �
 use Rattle.std.proofs.lemmas.Bool.{false≢true}
 use Rattle.std.specs.Cmp.{IsTotalOrder, alike_right}
 use Rattle.std.specs.FinMap.Entries.{is_sorted, below_all}
-use Rattle.sorted_map.specs.Bools.{left_of, right_of, both_of}
+use Rattle.sorted_map.proofs.Bools.{left_of, right_of, both_of}
 use Rattle.sorted_map.specs.Places.{IsAt, IsGap, IsPlace}
 use Rattle.sorted_map.specs.Chunks.{flat, start, AllSome, IsAbove, IsHome, starts_above, place_in}
 use Rattle.sorted_map.proofs.PlaceLaws.{less, turned}
@@ -90,10 +90,6 @@ pub some_at : {A : Type 0} (cs : List (List A)) (i : ℕ) → i < length cs → 
 some_at [] i lt some = absurd (omega (arith, lt))
 some_at (c ∷ cs) zero lt some = some.0
 some_at (c ∷ cs) (suc i) lt some = some_at cs i (omega (arith, lt)) some.1
-
-pub first_above : {K V : Type 0} (R : K → K → Ordering) (k : K) (c : List (K × V)) (x : K × V) → 0 < length c → x ≡ get_or c 0 x → is_lt (R k x.0) ≡ starts_above R k c
-first_above R k [] x some is = absurd (omega (arith, some))
-first_above R k (e ∷ c) x some is = ap (λ y. is_lt (R k y.0)) is
 
 module _ {K : Type 0} {R : K → K → Ordering} (o : IsTotalOrder R) (k : K) where
   -- a key below one that k isn't below

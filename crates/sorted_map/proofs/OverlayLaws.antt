@@ -7,9 +7,9 @@ use Rattle.std.specs.FinMap as map
 use Rattle.std.specs.FinMap.{IsAntisymmetric, entries-insert, entries_sorted, same_entries_map, same_map, get-entries, get-remove, len-entries, len-empty}
 use Rattle.std.proofs.lemmas.List.{nil_from_length}
 use Rattle.std.specs.FinMap.Entries.{find, put, where_key, is_sorted, below_all}
-use Rattle.sorted_map.specs.Bools.{left_of, right_of}
+use Rattle.sorted_map.proofs.Bools.{left_of, right_of}
 use Rattle.sorted_map.specs.Overlay.{starts_below, with_pairs, overlaid, without_keys}
-use Rattle.sorted_map.specs.Laws.{get-without_keys, contents-entries}
+use Rattle.sorted_map.proofs.MapLaws.{get-without_keys, contents-entries}
 use Rattle.sorted_map.specs.SortedMap.{is_from}
 use Rattle.sorted_map.specs.Places.{puts}
 use Rattle.sorted_map.proofs.ContentLaws.{retained}

@@ -6,7 +6,7 @@ use Rattle.std.specs.Cmp.{IsTotalOrder, tied_itself, tied_back, alike_right}
 use Rattle.std.specs.Ordering.{ordering_index, ordering_reverse, eq_by_cmp}
 use Rattle.std.specs.List.Sorted.{IsSearchInRange, IsBinarySearchResult, IsNonDecreasingBy}
 use Rattle.std.specs.FinMap.Entries.{find, put, where_key, is_sorted, below_all}
-use Rattle.sorted_map.specs.Bools.{left_of, right_of, both_of}
+use Rattle.sorted_map.proofs.Bools.{left_of, right_of, both_of}
 use Rattle.sorted_map.specs.SortedMap.{after, is_from}
 use Rattle.sorted_map.specs.Places.{IsAt, IsGap, IsPlace}
 
@@ -23,17 +23,6 @@ greater Greater h = refl
 -- ---- what follows from a place, in any order
 
 module _ {K V : Type 0} (R : K → K → Ordering) (k : K) where
-  pub at_in_range : (es : List (K × V)) (i : ℕ) → IsAt R k es i → i < length es
-  at_in_range [] i h = absurd h
-  at_in_range (e ∷ es) zero h = omega arith
-  at_in_range (e ∷ es) (suc i) h = omega (arith, at_in_range es i h.1)
-
-  pub gap_in_range : (es : List (K × V)) (i : ℕ) → IsGap R k es i → i ≤ length es
-  gap_in_range [] zero h = omega arith
-  gap_in_range [] (suc i) h = absurd h
-  gap_in_range (e ∷ es) zero h = omega arith
-  gap_in_range (e ∷ es) (suc i) h = omega (arith, gap_in_range es i h.1)
-
   pub find_gap : (es : List (K × V)) (i : ℕ) → IsGap R k es i → find R k es ≡ None
   find_gap [] i h = refl
   find_gap (e ∷ es) zero h = rw h.0 (find_gap es zero h.1)

@@ -1,5 +1,5 @@
 -- What an edit of a row of chunks does to its room.
-use Rattle.std.proofs.Common.{◌≡◌, ℕ, ◌+◌, ◌-◌, ◌<◌, ◌≤◌, List, [], ◌∷◌, ◌++◌, length, take, drop, get_or, set, insert, remove, sym, ap, ◌∙◌, subst, arith, length-append, length-set, length-take-le, length-drop}
+use Rattle.std.proofs.Common.{◌≡◌, ℕ, ◌+◌, ◌-◌, ◌<◌, ◌≤◌, List, [], ◌++◌, length, take, drop, get_or, set, insert, remove, sym, ap, ◌∙◌, subst, arith, length-append, length-set, length-take-le, length-drop}
 use Rattle.std.proofs.lemmas.List.Edits.{length-insert, length-remove}
 use Rattle.sorted_map.specs.Chunks.{flat, start, AllSome, load, room_by}
 use Rattle.sorted_map.proofs.ChunkLaws.{total_set, total_insert, total_remove, total_part, part_removed}
@@ -21,9 +21,6 @@ pub room_apart : (s t a b : ℕ) → t + 1 ≡ s → b + 32 ≤ a + 1 → room_b
 room_apart s t a b less loads = omega (arith, less, loads)
 
 module _ {A : Type 0} where
-  over_of : List A → ℕ
-  over_of c = length c - 32
-
   -- a row with some chunk has no load but what is beyond the halves
   pub set_load : (cs : List (List A)) (i : ℕ) (c : List A) → i < length cs → load (set cs i c) + (length (get_or cs i []) - 32) ≡ load cs + (length c - 32)
   set_load cs i c lt =
@@ -43,10 +40,6 @@ module _ {A : Type 0} where
   -- where a chunk is full there is room only by a spare one
   pub full_spare : (s : ℕ) (cs : List (List A)) (i : ℕ) → i < length cs → length (get_or cs i []) ≡ 64 → 0 < room_by s (load cs) → 0 < s
   full_spare s cs i lt full some = omega (arith, full_load cs i lt full, some)
-
-  pub none_spare : (s : ℕ) (cs : List (List A)) → length cs ≡ 0 → 0 < room_by s (load cs) → 0 < s
-  none_spare s [] none some = omega (arith, some)
-  none_spare s (c ∷ cs) none some = absurd (omega (arith, none))
 
   pub split_load : (cs : List (List A)) (i : ℕ) → i < length cs → length (get_or cs i []) ≡ 64 → load (insert (set cs i (take 32 (get_or cs i []))) (i + 1) (drop 32 (get_or cs i []))) + 32 ≡ load cs
   split_load cs i lt full =

@@ -1,13 +1,10 @@
-pub mod Bools
 pub mod ChunkLending
 pub mod ChunkValues
 pub mod Chunks
 pub mod Clones
 pub mod FlatLending
 pub mod Iters
-pub mod Laws
 pub mod Lending
-pub mod NatKeys
 pub mod Overlay
 pub mod Places
 pub mod RowValues

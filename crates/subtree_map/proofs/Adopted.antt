@@ -1,25 +1,14 @@
 -- A new directory comes in below the leaves that stand.
-use Rattle.std.specs.Prelude.{◌≡◌, ℕ, Bool, ◌||◌, ◌==◌, ◌⊎◌, true, false, is_some, Option, refl}
-use Rattle.std.proofs.Common.{inl, inr, sym, ap, ◌∙◌}
+use Rattle.std.specs.Prelude.{◌≡◌, ℕ, ◌||◌, ◌==◌, true, false, is_some}
+use Rattle.std.proofs.Common.{sym, ap, ◌∙◌}
 use Rattle.std.specs.FinMap as map
 use Rattle.mds_types.specs.declared.ids.Rank.{Rank}
-use Rattle.sorted_map.specs.NatKeys as nat
+use Rattle.sorted_map.proofs.NatKeys as nat
 use Rattle.inode_table.specs.declared.homes.Home.{Home}
 use Rattle.inode_table.specs.Dirs.{Homes, Covers, IsTable, MayCome, is_known}
 use Rattle.subtree_map.specs.Authority.{Leaf, Roots, IsLeaf, NearestRoot, itself, inherited, HasAuthority, IsSubtrees}
 use Rattle.subtree_map.proofs.Nearest.{holder_is_leaf}
-
--- a directory stays known where one gets a home
-pub still_known : (homes : Homes) (d : ℕ) (home : Home) (x : ℕ) → is_known homes x ≡ true → is_known (map.insert homes d home) x ≡ true
-still_known homes d home x known = go (nat.same_or_apart x d)
-  where
-    placed : (b : Bool) → (b || true) ≡ true
-    placed true = refl
-    placed false = refl
-
-    go : (x ≡ d) ⊎ (x ≡ d → ⊥) → is_known (map.insert homes d home) x ≡ true
-    go (inl same) = ap (λ (o : Option Home). (x == 1) || is_some o) (ap (λ k. map.get (map.insert homes d home) k) same ∙ nat.get_put homes d home) ∙ placed (x == 1)
-    go (inr apart) = ap (λ (o : Option Home). (x == 1) || is_some o) (nat.get_beside homes d home x apart) ∙ known
+use Rattle.inode_table.proofs.Tables.{still_known}
 
 -- a directory that comes in was not known
 unknown : (homes : Homes) (d : ℕ) (home : Home) → MayCome homes d home → (x : ℕ) → is_known homes x ≡ true → x ≡ d → ⊥

@@ -9,7 +9,7 @@ use Rattle.fragtree.specs.FragTree.{HasLeaf, IsTree, IsChild, FitsSplit, CanMerg
 use Rattle.fragtree.proofs.Ranges.{span_pos, Contains-from_range, range_from_inside}
 use Rattle.fragtree.proofs.TreeLaws.{some_pick}
 use Rattle.fragtree.proofs.Tilings.{between}
-use Rattle.sorted_map.specs.NatKeys as nat
+use Rattle.sorted_map.proofs.NatKeys as nat
 use Rattle.inode_table.specs.Dirs.{Covers, leaves_of, or_whole}
 
 pub leaves_here : (covers : Covers) (d : ℕ) (to : List Fragment) → leaves_of (map.insert covers d to) d ≡ to

@@ -2,7 +2,7 @@
 use Rattle.std.specs.Prelude.{◌≡◌, ◌≢◌, ℕ, true, ◌||◌, is_some, IsSome, Some}
 use Rattle.std.proofs.Common.{sym, ap, subst, ◌∙◌}
 use Rattle.std.specs.FinMap as map
-use Rattle.sorted_map.specs.NatKeys as nat
+use Rattle.sorted_map.proofs.NatKeys as nat
 use Rattle.inode_table.specs.declared.homes.Home.{Home}
 use Rattle.inode_table.specs.Dirs.{Homes, Covers, IsTable, is_known}
 use Rattle.subtree_map.specs.Authority.{Leaf, Roots, IsLeaf, HoldsDentry, NearestRoot, IsSubtrees, HasOneRoot, IsInOneRegion, BoundsOneRegion}

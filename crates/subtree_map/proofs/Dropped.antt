@@ -5,7 +5,7 @@ use Rattle.std.specs.FinMap as map
 use Rattle.mds_types.specs.declared.ids.Ino.{Ino}
 use Rattle.fragtree.specs.FragTree.{HasLeaf, IsPick}
 use Rattle.namehash.specs.Rjenkins.{hash_of}
-use Rattle.sorted_map.specs.NatKeys as nat
+use Rattle.sorted_map.proofs.NatKeys as nat
 use Rattle.inode_table.specs.declared.homes.Home.{Home}
 use Rattle.inode_table.specs.Dirs.{Homes, Covers, IsTable, IsChildless, leaves_of, or_whole}
 use Rattle.subtree_map.specs.Authority.{Leaf, Roots, IsLeaf, NearestRoot, itself, inherited, HasAuthority, IsSubtrees}

@@ -1,5 +1,5 @@
 -- The first row from a leaf on, and what the order of leaves says of the rows behind it.
-use Rattle.std.specs.Prelude.{◌≡◌, ◌≢◌, ◌⊎◌, ℕ, ◌+◌, ◌<◌, ◌≤◌, Bool, true, false, cond, T, List, [], ◌∷◌, Option, Some, None, IsSome, is_some, refl}
+use Rattle.std.specs.Prelude.{◌≡◌, ◌⊎◌, ℕ, ◌+◌, ◌<◌, ◌≤◌, Bool, true, false, cond, T, List, [], ◌∷◌, Option, Some, None, IsSome, is_some, refl}
 use Rattle.std.proofs.Common.{inl, inr, sym, ap, subst, ◌∙◌, arith}
 use Rattle.std.specs.declared.cmp.Ordering.{Ordering}
 use Rattle.std.specs.declared.cmp.Ordering.TheVariants.{Less, Equal, Greater}
@@ -9,22 +9,17 @@ use Rattle.std.specs.Cmp.{tied_itself}
 use Rattle.std.specs.FinMap as map
 use Rattle.std.specs.FinMap.{find, is_sorted, get-entries, entries_sorted}
 use Rattle.std.specs.FinMap.Entries.{where_key, find-where_key, is_sorted-where_key, below_all}
-use Rattle.sorted_map.specs.Bools.{left_of, right_of}
-use Rattle.sorted_map.specs.SortedMap.{is_from}
+use Rattle.sorted_map.proofs.Bools.{left_of, right_of}
 use Rattle.mds_types.specs.declared.ids.Rank.{Rank}
-use Rattle.mds_types.specs.Frag.{Fragment, IsFragment, frag_cmp, root_fragment, span}
-use Rattle.mds_types.specs.EntryLaws.{tie}
+use Rattle.mds_types.specs.Frag.{Fragment, IsFragment, frag_cmp, span}
+use Rattle.sorted_map.proofs.MapLaws.{tie}
 use Rattle.fragtree.proofs.Ranges.{range_from_inside, lies_inside-true, ends_before}
 use Rattle.subtree_map.specs.Authority.{Leaf, Roots, leaf_cmp}
 use Rattle.subtree_map.specs.Changes.{is_inside, leaf_of}
 use Rattle.subtree_map.specs.Rows.{IsFirst}
 use Rattle.subtree_map.proofs.LeafKeys.{leaf-exact, leaf-total}
 use Rattle.subtree_map.proofs.Merged.{inside_at, inside_of, is_within}
-
-less_of : (r : Ordering) → T (is_lt r) → r ≡ Less
-less_of Less h = refl
-less_of Equal h = absurd h
-less_of Greater h = absurd h
+use Rattle.sorted_map.proofs.PlaceLaws.{less as less_of}
 
 -- a row that is found behind another has a greater key
 behind : (first : Leaf) (es : List (Leaf × Rank)) (leaf : Leaf) → T (below_all leaf_cmp first es) → IsSome (find leaf_cmp leaf es) → leaf_cmp first leaf ≡ Less
@@ -78,18 +73,8 @@ frag_le_by v w b c Equal Equal h k le = inr (h, omega arith)
 frag_le_by v w b c Equal Greater h k le = cc
 frag_le_by v w b c Greater s h k le = cc
 
-le_frag_by : (v w b c : ℕ) (r s : Ordering) → MatchOrdering r (v < w) (v ≡ w) (w < v) → MatchOrdering s (b < c) (b ≡ c) (c < b) → v ≤ w → (v ≡ w → b ≤ c) → is_le (ordering_then r s) ≡ true
-le_frag_by v w b c Less s h k le same = refl
-le_frag_by v w b c Equal Less h k le same = refl
-le_frag_by v w b c Equal Equal h k le same = refl
-le_frag_by v w b c Equal Greater h k le same = absurd (let few = same h in omega arith)
-le_frag_by v w b c Greater s h k le same = absurd (omega arith)
-
 pub frag_le : (f g : Fragment) → is_le (frag_cmp f g) ≡ true → (f.value < g.value) ⊎ ((f.value ≡ g.value) × (f.bits ≤ g.bits))
 frag_le f g le = frag_le_by f.value g.value f.bits g.bits (nat_cmp f.value g.value) (nat_cmp f.bits g.bits) (ranks f.value g.value) (ranks f.bits g.bits) le
-
-pub le_frag : (f g : Fragment) → f.value ≤ g.value → (f.value ≡ g.value → f.bits ≤ g.bits) → is_le (frag_cmp f g) ≡ true
-le_frag f g le same = le_frag_by f.value g.value f.bits g.bits (nat_cmp f.value g.value) (nat_cmp f.bits g.bits) (ranks f.value g.value) (ranks f.bits g.bits) le same
 
 -- the order of leaves
 leaf_le_by : (d e : ℕ) (r s : Ordering) → MatchOrdering r (d < e) (d ≡ e) (e < d) → is_le (ordering_then r s) ≡ true → (d < e) ⊎ ((d ≡ e) × (is_le s ≡ true))
@@ -100,36 +85,8 @@ leaf_le_by d e Greater s h le = cc
 pub leaf_le : (a b : Leaf) → is_le (leaf_cmp a b) ≡ true → (a.0.0 < b.0.0) ⊎ ((a.0.0 ≡ b.0.0) × (is_le (frag_cmp a.1 b.1) ≡ true))
 leaf_le a b le = leaf_le_by a.0.0 b.0.0 (nat_cmp a.0.0 b.0.0) (frag_cmp a.1 b.1) (ranks a.0.0 b.0.0) le
 
-le_leaf_by : (d e : ℕ) (r s : Ordering) → MatchOrdering r (d < e) (d ≡ e) (e < d) → d ≡ e → is_le s ≡ true → is_le (ordering_then r s) ≡ true
-le_leaf_by d e Less s h same le = refl
-le_leaf_by d e Equal s h same le = le
-le_leaf_by d e Greater s h same le = absurd (omega arith)
-
-pub le_leaf : (a b : Leaf) → a.0.0 ≡ b.0.0 → is_le (frag_cmp a.1 b.1) ≡ true → is_le (leaf_cmp a b) ≡ true
-le_leaf a b same le = le_leaf_by a.0.0 b.0.0 (nat_cmp a.0.0 b.0.0) (frag_cmp a.1 b.1) (ranks a.0.0 b.0.0) same le
-
 less_is_le : (r : Ordering) → r ≡ Less → is_le r ≡ true
 less_is_le r less = ap is_le less
-
--- a leaf of a directory isn't before its first
-pub on_from_first : (d : ℕ) (leaf : Leaf) → leaf.0.0 ≡ d → is_from leaf_cmp (leaf_of d root_fragment) leaf ≡ true
-on_from_first d leaf at = le_leaf (leaf_of d root_fragment) leaf (sym at) (le_frag root_fragment leaf.1 (omega arith) (λ same. omega arith))
-
--- where the first row from the first leaf of a directory on is of another, no row is of that directory
-pub none_of : (rows : Roots) (d : ℕ) (first : Leaf) → IsFirst rows (is_from leaf_cmp (leaf_of d root_fragment)) (Some first) → first.0.0 ≢ d → (leaf : Leaf) → leaf.0.0 ≡ d → map.get rows leaf ≡ None
-none_of rows d first is apart leaf at = go (map.get rows leaf) refl
-  where
-    go : (o : Option Rank) → map.get rows leaf ≡ o → o ≡ None
-    go None none = refl
-    go (Some rank) some = elim (is.2 leaf (on_from_first d leaf at) (ap is_some some)) [
-      | inl same ↦ absurd (apart (ap (λ (k : Leaf). k.0.0) (sym same) ∙ at))
-      | inr less ↦ absurd (between (leaf_le (leaf_of d root_fragment) first is.0) (leaf_le first leaf (less_is_le _ less)))
-    ]
-      where
-        between : (d < first.0.0) ⊎ ((d ≡ first.0.0) × (is_le (frag_cmp root_fragment first.1) ≡ true)) → (first.0.0 < leaf.0.0) ⊎ ((first.0.0 ≡ leaf.0.0) × (is_le (frag_cmp first.1 leaf.1) ≡ true)) → ⊥
-        between (inr same) _ = apart (sym same.0)
-        between (inl low) (inl high) = omega (arith, low, high, at)
-        between (inl low) (inr same) = omega (arith, low, same.0, at)
 
 -- the strict orders
 frag_lt_by : (v w b c : ℕ) (r s : Ordering) → MatchOrdering r (v < w) (v ≡ w) (w < v) → MatchOrdering s (b < c) (b ≡ c) (c < b) → is_lt (ordering_then r s) ≡ true → (v < w) ⊎ ((v ≡ w) × (b < c))

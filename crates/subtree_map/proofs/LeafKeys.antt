@@ -8,8 +8,10 @@ use Rattle.std.specs.FinMap.{IsAntisymmetric, get-insert, get-remove}
 use Rattle.std.proofs.lemmas.Map.Lookups.{exact_pairs}
 use Rattle.mds_types.specs.declared.ids.Ino.{Ino}
 use Rattle.mds_types.specs.Frag.{frag_cmp}
-use Rattle.mds_types.specs.OrderLaws.{ino-exact, frag-exact, frag-total}
-use Rattle.mds_types.specs.EntryLaws.{tie, not_true}
+use Rattle.mds_types.specs.OrderLaws.{ino-exact, frag-exact}
+use Rattle.mds_types.proofs.OrderLaws.{frag-total}
+use Rattle.sorted_map.proofs.MapLaws.{tie}
+use Rattle.sorted_map.proofs.Bools.{not_true}
 use Rattle.subtree_map.specs.Authority.{Leaf, leaf_cmp}
 
 pub leaf-exact : IsAntisymmetric leaf_cmp

@@ -9,8 +9,8 @@ use Rattle.mds_types.specs.Frag.{Fragment}
 use Rattle.fragtree.specs.FragTree.{CanMerge, HasLeaf, IsMerge, IsPick, IsTree, lies_inside}
 use Rattle.fragtree.proofs.TreeLaws.{pick_after_merge, merged_after_merge}
 use Rattle.namehash.specs.Rjenkins.{hash_of}
-use Rattle.sorted_map.specs.Bools.{first_true, second_true, both_true}
-use Rattle.sorted_map.specs.NatKeys as nat
+use Rattle.sorted_map.proofs.Bools.{first_true, second_true, both_true}
+use Rattle.sorted_map.proofs.NatKeys as nat
 use Rattle.inode_table.specs.declared.homes.Home.{Home}
 use Rattle.inode_table.specs.Dirs.{Homes, Covers, IsTable, leaves_of, is_known}
 use Rattle.subtree_map.specs.Authority.{Leaf, Roots, IsLeaf, HoldsDentry, itself, HasAuthority, IsSubtrees}

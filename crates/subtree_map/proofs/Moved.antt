@@ -4,7 +4,7 @@ use Rattle.std.proofs.Common.{inl, inr, sym, ap, subst, ◌∙◌}
 use Rattle.std.specs.FinMap as map
 use Rattle.mds_types.specs.declared.ids.Ino.{Ino}
 use Rattle.mds_types.specs.declared.ids.Rank.{Rank}
-use Rattle.sorted_map.specs.NatKeys as nat
+use Rattle.sorted_map.proofs.NatKeys as nat
 use Rattle.fragtree.specs.FragTree.{HasLeaf}
 use Rattle.inode_table.specs.declared.homes.Home.{Home}
 use Rattle.inode_table.specs.Dirs.{Homes, Covers, IsTable, IsAbove, parent, further, MayMove, is_known, leaves_of}
@@ -12,7 +12,7 @@ use Rattle.subtree_map.specs.Authority.{Leaf, Roots, IsLeaf, HoldsDentry, Neares
 use Rattle.subtree_map.specs.Changes.{leaf_of}
 use Rattle.subtree_map.specs.Moves.{IsInheritedAt, IsSettled, MovesSoundly}
 use Rattle.subtree_map.proofs.Nearest.{holder_is_leaf, some_holder, some_authority}
-use Rattle.subtree_map.proofs.Adopted.{still_known}
+use Rattle.inode_table.proofs.Tables.{still_known}
 
 -- two ranks are one, or they differ
 pub same_rank : (a b : Rank) → (a ≡ b) ⊎ (a ≢ b)
@@ -22,9 +22,6 @@ same_rank a b = elim (nat.same_or_apart a.0 b.0) [
 ]
 
 module _ (old new : Roots) (homes : Homes) (covers : Covers) (d : ℕ) (home : Home) (is : IsSettled old new homes covers d home) (table : IsTable homes covers) (valid : IsSubtrees old homes covers) (may : MayMove homes d home) where
-  moved : Homes
-  moved = map.insert homes d home
-
   -- the way up from what is neither the directory nor below it stays
   way : (leaf root : Leaf) → leaf.0.0 ≢ d → (IsAbove homes d leaf.0.0 → ⊥) → NearestRoot old homes covers leaf root → NearestRoot new (map.insert homes d home) covers leaf root × (map.get new root ≡ map.get old root)
   way _ _ apart free (itself root rank has) = let stays = is.elsewhere root apart in (itself root rank (stays ∙ has), stays)

@@ -1,27 +1,20 @@
 -- The nearest root of a leaf: there is one, and one alone.
-use Rattle.std.specs.Prelude.{◌≡◌, ◌⊎◌, ℕ, zero, suc, ◌||◌, ◌==◌, true, false, is_some, IsSome, List, [], ◌∷◌, Option, Some, None, MatchOption, refl}
-use Rattle.std.proofs.Common.{inl, inr, sym, ap, subst, ◌∙◌, arith}
+use Rattle.std.specs.Prelude.{◌≡◌, ◌⊎◌, ℕ, zero, suc, ◌||◌, ◌==◌, true, false, is_some, IsSome, List, Option, Some, None, MatchOption, refl}
+use Rattle.std.proofs.Common.{inl, inr, sym, ap, subst, ◌∙◌}
 use Rattle.std.specs.FinMap as map
 use Rattle.mds_types.specs.declared.ids.Ino.{Ino}
 use Rattle.mds_types.specs.declared.ids.Rank.{Rank}
-use Rattle.mds_types.specs.Frag.{Fragment, root_fragment}
+use Rattle.mds_types.specs.Frag.{Fragment}
 use Rattle.fragtree.specs.FragTree.{HasLeaf, IsTree}
 use Rattle.fragtree.proofs.TreeLaws.{some_pick}
 use Rattle.namehash.specs.Rjenkins.{hash_of}
-use Rattle.sorted_map.specs.NatKeys as nat
+use Rattle.sorted_map.proofs.NatKeys as nat
 use Rattle.inode_table.specs.declared.homes.Home.{Home}
 use Rattle.inode_table.specs.Dirs.{Homes, Covers, Reaches, IsTable, is_known, leaves_of, or_whole}
 use Rattle.inode_table.proofs.Chains.{parent_reaches}
 use Rattle.subtree_map.specs.Authority.{Leaf, Roots, IsLeaf, HoldsDentry, NearestRoot, itself, inherited, HasAuthority, IsSubtrees}
-use Rattle.subtree_map.specs.Climb.{IsTop}
 use Rattle.subtree_map.proofs.LeafKeys.{not_none, value_of, one_value}
-
--- `*` alone covers every hash
-pub whole_is_tree : IsTree (root_fragment ∷ [])
-whole_is_tree = record {
-  tiles = (record { few_bits = omega arith; in_range = omega arith; justified = refl }, refl, refl);
-  few = omega arith;
-}
+use Rattle.fragtree.proofs.Kept.{whole_tree as whole_is_tree}
 
 -- the leaves of every directory are those of a tree
 pub tree_of_row : (homes : Homes) (covers : Covers) → IsTable homes covers → (d : ℕ) → IsTree (leaves_of covers d)
@@ -111,24 +104,6 @@ module _ (roots : Roots) (homes : Homes) (covers : Covers) where
       let there : HasLeaf (leaves_of covers 1) leaf.1 = subst (λ d. HasLeaf (leaves_of covers d) leaf.1) top is.stands in
       let key : ◌≡◌ {A = Leaf} (record { 0 = 1 }, leaf.1) leaf = λ i. (record { 0 = sym top i }, leaf.1) in
       subst (λ (k : Leaf). IsSome (map.get roots k)) key (valid.top leaf.1 there)
-
-  -- a leaf whose directory stands nowhere is a root
-  pub placeless_is_root : IsSubtrees roots homes covers → (leaf : Leaf) → IsLeaf homes covers leaf → map.get homes leaf.0.0 ≡ None → IsSome (map.get roots leaf)
-  placeless_is_root valid leaf is none = go (nat.same_or_apart leaf.0.0 1)
-    where
-      go : (leaf.0.0 ≡ 1) ⊎ (leaf.0.0 ≡ 1 → ⊥) → IsSome (map.get roots leaf)
-      go (inl top) = top_is_root valid leaf is top
-      go (inr apart) =
-          let known : false ≡ true = sym (ap (λ b. b || is_some (map.get homes leaf.0.0)) (nat.is_apart leaf.0.0 1 apart) ∙ ap is_some none) ∙ is.known in
-          cc
-
-  -- where no way leads up, a leaf is its own nearest root
-  pub top_nearest : IsSubtrees roots homes covers → (leaf : Leaf) → IsLeaf homes covers leaf → IsTop roots homes leaf → NearestRoot roots homes covers leaf leaf
-  top_nearest valid leaf is top = go (map.get roots leaf) refl
-    where
-      go : (o : Option Rank) → map.get roots leaf ≡ o → NearestRoot roots homes covers leaf leaf
-      go (Some rank) has = itself leaf rank has
-      go None none = let there = value_of _ (placeless_is_root valid leaf is (top none)) in absurd (not_none _ there.0 none there.1)
 
   has_root : IsTable homes covers → IsSubtrees roots homes covers → (n : ℕ) (leaf : Leaf) → IsLeaf homes covers leaf → Reaches homes n leaf.0.0 → (o : Option Rank) → map.get roots leaf ≡ o → (root : Leaf) × NearestRoot roots homes covers leaf root
   has_root table valid n leaf is reaches (Some r) has = (leaf, itself leaf r has)

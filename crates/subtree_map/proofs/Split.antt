@@ -8,7 +8,7 @@ use Rattle.mds_types.specs.Frag.{Fragment}
 use Rattle.fragtree.specs.FragTree.{FitsSplit, HasLeaf, IsChild, IsPick, IsSplit, IsTree}
 use Rattle.fragtree.proofs.TreeLaws.{some_pick, pick_after_split, child_after_split}
 use Rattle.namehash.specs.Rjenkins.{hash_of}
-use Rattle.sorted_map.specs.NatKeys as nat
+use Rattle.sorted_map.proofs.NatKeys as nat
 use Rattle.inode_table.specs.declared.homes.Home.{Home}
 use Rattle.inode_table.specs.Dirs.{Homes, Covers, IsTable, leaves_of, is_known}
 use Rattle.subtree_map.specs.Authority.{Leaf, Roots, IsLeaf, HoldsDentry, HasAuthority, IsSubtrees}
@@ -34,9 +34,6 @@ stands_here homes covers later d to changed leaf here known has = record {
 
 module _ (old new : Roots) (d : ℕ) (f : Fragment) (nb : ℕ) (is : IsRootSplit old new d f nb) (homes : Homes) (covers later : Covers) (to : List Fragment) (table : IsTable homes covers) (valid : IsSubtrees old homes covers)
     (split : IsSplit (leaves_of covers d) to f nb) (has : HasLeaf (leaves_of covers d) f) (fits : FitsSplit f nb) (tree : IsTree to) (changed : later ≡ map.insert covers d to) where
-  cover : List Fragment
-  cover = leaves_of covers d
-
   was : IsTree (leaves_of covers d)
   was = tree_of_row homes covers table d
 

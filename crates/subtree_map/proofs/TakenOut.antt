@@ -1,5 +1,5 @@
 -- Rows taken out one after the other.
-use Rattle.std.specs.Prelude.{◌≡◌, ◌≢◌, ℕ, zero, suc, ◌+◌, ◌-◌, ◌<◌, ◌≤◌, cond, true, false, Option, Some, None, IsSome, is_some, refl}
+use Rattle.std.specs.Prelude.{◌≡◌, ◌≢◌, ℕ, zero, suc, ◌-◌, ◌<◌, ◌≤◌, cond, true, false, Option, Some, None, IsSome, is_some, refl}
 use Rattle.std.proofs.Common.{inl, inr, sym, ap, ◌∙◌, arith}
 use Rattle.std.proofs.lemmas.Bool.Decides.{nat_tests}
 use Rattle.std.specs.FinMap as map
@@ -76,12 +76,3 @@ merged_rows old mid new d f rank (gone, others, from) is = record {
         let own : lies_inside f f ≡ true = ap (lies_inside f) (ap (λ (k : Leaf). k.1) (sym same)) ∙ inside_of d f leaf inside in
         let more : f.bits < f.bits = grind (arith, nat_tests) in
         omega arith
-
--- nothing was there to be taken out
-pub unmerged_rows : (old new : Roots) (d : ℕ) (f : Fragment) → new ≡ old → ((leaf : Leaf) → is_inside d f leaf ≡ true → map.get old leaf ≡ None) → IsRootMerge old new d f
-unmerged_rows old new d f is none = record {
-  gone = λ leaf inside. ap (λ m. map.get m leaf) is ∙ none leaf inside;
-  others = λ leaf outside apart. ap (λ m. map.get m leaf) is;
-  some = λ leaf inside had. let has = value_of _ had in absurd (not_none _ has.0 (none leaf inside) has.1);
-  rank = λ r has. (leaf_of d f, inl refl, ap (λ m. map.get m (leaf_of d f)) (sym is) ∙ has);
-}

@@ -1,10 +1,9 @@
 //! Fragments of another kind: there is room for one entry, and the leaves are those of a table that no change touches.
 ghost use Rattle.std.specs.Prelude.{◌≡◌, ◌==◌, ◌||◌, true, not};
-ghost use Rattle.mds_types.specs.WellFormedLaws.{IsUnused};
+ghost use Rattle.mds_types.specs.Tree.{IsUnused, is_above, has_entries, is_directory, is_entry_of_directory, dentry_cmp};
 ghost use Rattle.std.specs.Option.{option_copied};
 ghost use Rattle.std.specs.Ordering.{is_eq};
 ghost use Rattle.std.specs.FinMap as map;
-ghost use Rattle.mds_types.specs.Tree.{is_above, has_entries, is_directory, is_entry_of_directory, dentry_cmp};
 ghost use Rattle.namespace_ops_tests.specs.OneEntry.{tree_of, IsReadyOne};
 ghost use Rattle.namespace_ops.specs.Changes.{Takes, changed};
 
@@ -25,7 +24,7 @@ pub struct OneEntryFrags {
 impl Frags for OneEntryFrags {
     ghost use Rattle.std.specs.Prelude.{◌≡◌};
     ghost use Rattle.mds_types.specs.declared.refusals.Refusal.TheVariants.{NoMemory};
-    ghost use Rattle.namespace_ops.specs.Reasons.{refused_for_memory};
+    ghost use Rattle.namespace_ops.proofs.ReasonLaws.{refused_for_memory};
     ghost use Rattle.namespace_ops_tests.specs.OneEntry.{tree_of, IsReadyOne};
 
     ghost content = { λ f. tree_of f.only };

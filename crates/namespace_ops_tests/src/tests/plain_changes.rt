@@ -4,7 +4,7 @@ ghost use Rattle.std.specs.FinMap as map;
 ghost use Rattle.sorted_map.specs.SortedMap.{contents};
 ghost use Rattle.mds_types.specs.declared.inodes.Inode.{Inode as Node};
 ghost use Rattle.mds_types.specs.Tree.{dentry_cmp, is_dir_kind};
-ghost use Rattle.mds_types.specs.MovedLaws.{IsMove};
+ghost use Rattle.mds_types.specs.Step.{IsMove};
 ghost use Rattle.inode_table.specs.TreeChanges.{KeepLeaves, MayAdd, MaySet, MayRemove};
 ghost use Rattle.namespace_ops.specs.Changes.{moved};
 ghost use Rattle.inode_table.specs.TreeTable.{IsTabled};

@@ -4,10 +4,9 @@ ghost use Rattle.std.specs.List.{list_any};
 ghost use Rattle.std.specs.Option.{option_copied};
 ghost use Rattle.std.specs.FinMap as map;
 ghost use Rattle.sorted_map.specs.SortedMap.{contents};
-ghost use Rattle.mds_types.specs.Tree.{dentry_cmp, has_entries};
+ghost use Rattle.mds_types.specs.Tree.{dentry_cmp, has_entries, IsUnused};
 ghost use Rattle.mds_types.specs.Step.{names_after};
 ghost use Rattle.namespace_ops_tests.specs.Run.{run};
-ghost use Rattle.mds_types.specs.WellFormedLaws.{IsUnused};
 ghost use Rattle.namespace_ops_tests.specs.PlainFrags.{Kept, is_numbered};
 
 use super::listing::{first_rows, next_in};
@@ -128,7 +127,7 @@ impl Frags for PlainFrags {
     ghost use Rattle.std.specs.Prelude.{◌≡◌, refl};
     ghost use Rattle.std.proofs.Common.{◌∙◌};
     ghost use Rattle.mds_types.specs.declared.refusals.Refusal.TheVariants.{NoMemory};
-    ghost use Rattle.namespace_ops.specs.Reasons.{refused_for_memory};
+    ghost use Rattle.namespace_ops.proofs.ReasonLaws.{refused_for_memory};
     ghost use Rattle.namespace_ops_tests.specs.PlainFrags.{IsReady as IsReadyFor, KeepsShown, LeafStays};
     ghost use Rattle.namespace_ops.proofs.OtherLeaves.{kept_shows, shows_on};
 

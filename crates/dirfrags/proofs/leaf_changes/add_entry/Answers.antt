@@ -1,6 +1,7 @@
 use Rattle.inode_table.proofs.TableLaws.{may_come, added_tabled, leaves_same}
 use Rattle.dirfrags.proofs.LeafFrames.{only_one}
 use Rattle.dirfrags.proofs.Standing.{known_with, written}
+use Rattle.dirfrags.proofs.Shown.{have_picks}
 use Rattle.dirfrags.proofs.leaf_changes.add_entry.Goals as goal
 
 pub adopt_dir-requires-clause-may : goal.adopt_dir-requires-clause-may
@@ -10,7 +11,7 @@ pub put_at-requires-clause-placed : goal.put_at-requires-clause-placed
 put_at-requires-clause-placed c = rw c.adopt_dir.ensures.trees c.requires.sound.placed
 
 pub put_at-requires-clause-picks : goal.put_at-requires-clause-picks
-put_at-requires-clause-picks c = rw c.adopt_dir.ensures.trees (c.each_hash_has_a_leaf.ensures _ _ c.requires.sound.table)
+put_at-requires-clause-picks c = rw c.adopt_dir.ensures.trees (have_picks _ _ c.requires.sound.table)
 
 pub put_at-requires-clause-leaf : goal.put_at-requires-clause-leaf
 put_at-requires-clause-leaf c = rw c.adopt_dir.ensures.trees c.requires.leaf

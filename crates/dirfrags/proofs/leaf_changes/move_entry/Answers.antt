@@ -1,6 +1,6 @@
 use Rattle.std.proofs.Common.{sym, ap, ◌∙◌}
 use Rattle.leaf_maps.specs.Leaves.{shown_by}
-use Rattle.mds_types.specs.MovedLaws.{IsMove}
+use Rattle.mds_types.specs.Step.{IsMove}
 use Rattle.namespace_ops.specs.Changes.{moved}
 use Rattle.std.specs.Option.{option_copied}
 use Rattle.inode_table.specs.TreeTable.{without_cover}
@@ -9,16 +9,17 @@ use Rattle.inode_table.proofs.MoveLaws.{may_relocate, may_replace, moved_tabled}
 use Rattle.dirfrags.proofs.LeafChanges.{moving, moved_tree, replaced_is, replaced_empty}
 use Rattle.dirfrags.proofs.LeafFrames.{only_two_then}
 use Rattle.dirfrags.proofs.Standing.{known_with, written}
+use Rattle.dirfrags.proofs.Shown.{have_picks}
 use Rattle.dirfrags.proofs.leaf_changes.move_entry.Goals as goal
 
 pub relocate_dir-requires-clause-may : goal.relocate_dir-requires-clause-may
 relocate_dir-requires-clause-may c = may_relocate (shown_by c.args.leaves.now) _ c.args.from.now c.args.to c.in-Some.inode c.requires.sound.tabled (moving _ c.args.from.now c.args.to c.take_from.result _ c.in-Some.is c.take_from.ensures.value c.requires.may)
 
 pub take_from-requires-clause-picks : goal.take_from-requires-clause-picks
-take_from-requires-clause-picks c = c.each_hash_has_a_leaf.ensures _ _ c.requires.sound.table
+take_from-requires-clause-picks c = have_picks _ _ c.requires.sound.table
 
 pub take_from-replaced-requires-clause-picks : goal.take_from-replaced-requires-clause-picks
-take_from-replaced-requires-clause-picks c = rw c.relocate_dir.ensures.trees (c.each_hash_has_a_leaf.ensures _ _ c.requires.sound.table)
+take_from-replaced-requires-clause-picks c = rw c.relocate_dir.ensures.trees (have_picks _ _ c.requires.sound.table)
 
 pub take_from-replaced-requires-clause-placed : goal.take_from-replaced-requires-clause-placed
 take_from-replaced-requires-clause-placed c = rw c.relocate_dir.ensures.trees c.take_from.ensures.placed
@@ -27,7 +28,7 @@ pub take_from-replaced-requires-clause-leaf : goal.take_from-replaced-requires-c
 take_from-replaced-requires-clause-leaf c = rw c.relocate_dir.ensures.trees c.requires.target
 
 pub put_at-requires-clause-picks : goal.put_at-requires-clause-picks
-put_at-requires-clause-picks c = rw c.relocate_dir.ensures.trees (c.each_hash_has_a_leaf.ensures _ _ c.requires.sound.table)
+put_at-requires-clause-picks c = rw c.relocate_dir.ensures.trees (have_picks _ _ c.requires.sound.table)
 
 pub put_at-requires-clause-leaf : goal.put_at-requires-clause-leaf
 put_at-requires-clause-leaf c = rw c.relocate_dir.ensures.trees c.requires.target

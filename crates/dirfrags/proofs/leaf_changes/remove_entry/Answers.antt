@@ -4,6 +4,7 @@ use Rattle.inode_table.proofs.TableLaws.{may_drop, removed_tabled, leaves_kept}
 use Rattle.dirfrags.proofs.LeafChanges.{removed_empty}
 use Rattle.dirfrags.proofs.LeafFrames.{only_one_then}
 use Rattle.dirfrags.proofs.Standing.{written}
+use Rattle.dirfrags.proofs.Shown.{have_picks}
 use Rattle.dirfrags.proofs.leaf_changes.remove_entry.Goals as goal
 
 pub drop_leaves-requires-clause-may : goal.drop_leaves-requires-clause-may
@@ -31,7 +32,7 @@ returns-clause-leaves c =
     c.requires.sound.tabled.whole (c.as_ref.ensures.value ∙ c.take_from-gone.ensures.value) c.drop_leaves.ensures.homes c.drop_leaves.ensures.trees
 
 pub take_from-gone-requires-clause-picks : goal.take_from-gone-requires-clause-picks
-take_from-gone-requires-clause-picks c = c.each_hash_has_a_leaf.ensures _ _ c.requires.sound.table
+take_from-gone-requires-clause-picks c = have_picks _ _ c.requires.sound.table
 
 pub returns-clause-frame : goal.returns-clause-frame
 returns-clause-frame c = only_one_then c.args.leaves.now _ _ c.args.dentry.now.dir c.args.leaf _ c.take_from-gone.ensures.taken c.drop_leaves.ensures.names

@@ -2,6 +2,7 @@ use Rattle.std.proofs.Common.{◌≡◌, Some, None, sym, ◌∙◌}
 use Rattle.inode_table.proofs.TableLaws.{set_tabled}
 use Rattle.dirfrags.proofs.LeafFrames.{only_one}
 use Rattle.dirfrags.proofs.Standing.{written}
+use Rattle.dirfrags.proofs.Shown.{have_picks}
 use Rattle.dirfrags.proofs.leaf_changes.set_entry.Goals as goal
 
 pub put_at-requires-clause-room : goal.put_at-requires-clause-room
@@ -18,7 +19,7 @@ returns-clause-sound c = record {
 }
 
 pub put_at-requires-clause-picks : goal.put_at-requires-clause-picks
-put_at-requires-clause-picks c = c.each_hash_has_a_leaf.ensures _ _ c.requires.sound.table
+put_at-requires-clause-picks c = have_picks _ _ c.requires.sound.table
 
 pub returns-clause-frame : goal.returns-clause-frame
 returns-clause-frame c = only_one _ _ c.args.dentry.dir c.args.leaf _ c.put_at.ensures.put

@@ -1,5 +1,5 @@
 use Rattle.std.proofs.Common.{◌∙◌}
-use Rattle.leaf_maps.specs.LeafLaws.{shown_at}
+use Rattle.leaf_maps.proofs.LeafLaws.{shown_at}
 use Rattle.dirfrags.proofs.Shown.{put_shown, put_placed}
 use Rattle.dirfrags.proofs.picks.put_at.Goals as goal
 

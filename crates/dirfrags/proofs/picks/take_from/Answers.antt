@@ -1,5 +1,5 @@
 use Rattle.std.proofs.Common.{sym, ◌∙◌}
-use Rattle.leaf_maps.specs.LeafLaws.{shown_at}
+use Rattle.leaf_maps.proofs.LeafLaws.{shown_at}
 use Rattle.dirfrags.proofs.Shown.{taken_shown, taken_placed}
 use Rattle.dirfrags.proofs.picks.take_from.Goals as goal
 

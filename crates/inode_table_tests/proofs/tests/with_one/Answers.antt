@@ -3,7 +3,7 @@ use Rattle.std.proofs.Common.{◌≡◌, ◌==◌, ◌||◌, ℕ, true, is_some,
 use Rattle.std.specs.Ordering.{nat_cmp}
 use Rattle.std.specs.FinMap as map
 use Rattle.std.specs.FinMap.{get-empty}
-use Rattle.sorted_map.specs.NatKeys.{get_put, after_put}
+use Rattle.sorted_map.proofs.NatKeys.{get_put, after_put}
 use Rattle.inode_table.specs.declared.homes.Home.{Home}
 use Rattle.inode_table.specs.Dirs.{Homes, MayCome, IsChildless, is_known}
 use Rattle.inode_table.proofs.Tables.{known_by}

@@ -1,4 +1,4 @@
-use Rattle.mds_types.specs.AboveLaws.{above_exact as law}
+use Rattle.mds_types.proofs.AboveLaws.{above_exact as law}
 use Rattle.namespace_ops.proofs.laws.above_is_a_chain.Goals as goal
 
 pub returns : goal.returns

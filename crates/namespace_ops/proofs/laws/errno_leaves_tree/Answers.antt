@@ -1,4 +1,4 @@
-use Rattle.mds_types.specs.StepLaws.{errno_leaves as law}
+use Rattle.mds_types.proofs.StepLaws.{errno_leaves as law}
 use Rattle.namespace_ops.proofs.laws.errno_leaves_tree.Goals as goal
 
 pub returns : goal.returns

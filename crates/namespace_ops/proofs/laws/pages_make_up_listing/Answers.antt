@@ -1,4 +1,4 @@
-use Rattle.mds_types.specs.ListingLaws.{pages_make_up as law}
+use Rattle.mds_types.proofs.ListingLaws.{pages_make_up as law}
 use Rattle.namespace_ops.proofs.laws.pages_make_up_listing.Goals as goal
 
 pub returns : goal.returns

@@ -1,4 +1,4 @@
-use Rattle.mds_types.specs.WellFormedLaws.{step_keeps_well_formed as law}
+use Rattle.mds_types.proofs.WellFormedLaws.{step_keeps_well_formed as law}
 use Rattle.namespace_ops.proofs.laws.step_keeps_well_formed.Goals as goal
 
 pub returns : goal.returns

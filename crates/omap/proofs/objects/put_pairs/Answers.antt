@@ -1,5 +1,5 @@
 use Rattle.std.proofs.Common.{sym}
-use Rattle.omap.specs.WriteLaws.{overlaid-empty}
+use Rattle.omap.proofs.WriteLaws.{overlaid-empty}
 use Rattle.omap.proofs.objects.put_pairs.Goals as goal
 
 pub returns-then-clear-clause-ok : goal.returns-then-clear-clause-ok

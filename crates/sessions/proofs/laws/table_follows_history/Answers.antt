@@ -1,4 +1,4 @@
-use Rattle.sessions.specs.TableLaws.{table-push}
+use Rattle.sessions.proofs.TableLaws.{table-push}
 use Rattle.sessions.proofs.laws.table_follows_history.Goals as goal
 
 pub returns : goal.returns

@@ -1,7 +1,7 @@
 -- The pairs of the maps are the entries of the trees.
 use Rattle.std.proofs.Common.{rules}
 use Rattle.mds_types.specs.Tree.{dentry_cmp}
-use Rattle.sorted_map.specs.Laws.{entries-contents}
+use Rattle.sorted_map.proofs.MapLaws.{entries-contents}
 use Rattle.cluster_core.proofs.plain_trees.PlainTreePartialEq.eq.Goals as goal
 
 pub returns-clause-value : goal.returns-clause-value

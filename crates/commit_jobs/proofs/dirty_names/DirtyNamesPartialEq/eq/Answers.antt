@@ -1,7 +1,7 @@
 -- The pairs of the maps are the entries that the contract compares.
 use Rattle.std.proofs.Common.{rules}
 use Rattle.omap.specs.Omap.{key_cmp}
-use Rattle.sorted_map.specs.Laws.{entries-contents}
+use Rattle.sorted_map.proofs.MapLaws.{entries-contents}
 use Rattle.commit_jobs.proofs.dirty_names.DirtyNamesPartialEq.eq.Goals as goal
 
 pub returns-clause-value : goal.returns-clause-value

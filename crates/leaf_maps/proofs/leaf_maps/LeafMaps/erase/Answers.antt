@@ -1,7 +1,7 @@
 use Rattle.std.proofs.Common.{refl, sym, ap, ◌∙◌}
 use Rattle.std.specs.FinMap as map
 use Rattle.std.specs.FinMap.{get-empty}
-use Rattle.sorted_map.specs.Laws.{contents-entries}
+use Rattle.sorted_map.proofs.MapLaws.{contents-entries}
 use Rattle.leaf_maps.specs.Leaves.{names_of}
 use Rattle.leaf_maps.proofs.Written.{written, untouched, remove_absent, room_kept, left_alone}
 use Rattle.leaf_maps.proofs.leaf_maps.LeafMaps.erase.Goals.{in-Some, in-None}

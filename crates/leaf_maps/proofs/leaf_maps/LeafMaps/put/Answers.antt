@@ -1,7 +1,7 @@
 use Rattle.std.proofs.Common.{sym, ap, subst, ◌∙◌}
 use Rattle.std.specs.FinMap as map
 use Rattle.std.specs.FinMap.{get-empty}
-use Rattle.sorted_map.specs.Laws.{contents-entries}
+use Rattle.sorted_map.proofs.MapLaws.{contents-entries}
 use Rattle.leaf_maps.specs.Leaves.{Leaves, names_of, names_in}
 use Rattle.leaf_maps.specs.Changes.{HasRoom, HasRoomIn}
 use Rattle.leaf_maps.proofs.Written.{written, left_alone}

@@ -1,7 +1,7 @@
 -- An absent leaf has no names, and neither has the one that is put in its place.
 use Rattle.std.proofs.Common.{ap, ◌∙◌}
 use Rattle.std.specs.FinMap as map
-use Rattle.sorted_map.specs.Laws.{contents-entries}
+use Rattle.sorted_map.proofs.MapLaws.{contents-entries}
 use Rattle.leaf_maps.specs.Leaves.{names_of}
 use Rattle.leaf_maps.proofs.Written.{written, rewritten_same, room_made, room_told, left_alone}
 use Rattle.leaf_maps.proofs.leaf_maps.LeafMaps.reserve.Goals as goal

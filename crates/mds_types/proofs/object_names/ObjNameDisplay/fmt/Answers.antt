@@ -2,7 +2,7 @@ use Rattle.std.proofs.Common.{rules, ◌++◌, codes, sym, ap, ◌∙◌, false}
 use Rattle.std.proofs.Output.{has_written_of_eq}
 use Rattle.std.specs.Fmt.{digits}
 use Rattle.mds_types.specs.ObjectText.{object_text, word_text}
-use Rattle.mds_types.specs.ObjectTextLaws.{word_padded}
+use Rattle.mds_types.proofs.ObjectTextLaws.{word_padded}
 use Rattle.mds_types.proofs.object_names.ObjNameDisplay.fmt.Goals as goal
 
 -- the fragment's word is padded to 8 digits

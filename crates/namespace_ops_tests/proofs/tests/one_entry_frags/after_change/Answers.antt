@@ -1,6 +1,6 @@
 use Rattle.std.proofs.Common.{sym, ap, ◌∙◌, subst}
 use Rattle.std.specs.FinMap as map
-use Rattle.mds_types.specs.MovedLaws.{IsMove}
+use Rattle.mds_types.specs.Step.{IsMove}
 use Rattle.namespace_ops_tests.specs.OneEntry.{tree_of}
 use Rattle.namespace_ops.specs.Changes.{Takes, changed, moved}
 use Rattle.namespace_ops_tests.proofs.OneEntry.{after_set, after_removal, after_move, nothing_moves}

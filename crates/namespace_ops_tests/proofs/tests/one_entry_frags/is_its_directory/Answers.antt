@@ -6,7 +6,7 @@ use Rattle.std.proofs.Math.Bool.{or-false}
 use Rattle.mds_types.specs.declared.dentries.Dentry.{Dentry}
 use Rattle.mds_types.specs.declared.inodes.Inode.{Inode}
 use Rattle.mds_types.specs.Tree.{dentry_cmp, is_directory, is_entry_of_directory}
-use Rattle.mds_types.specs.TreeLaws.{is_directory-empty, is_directory-insert}
+use Rattle.mds_types.proofs.TreeLaws.{is_directory-empty, is_directory-insert}
 use Rattle.namespace_ops_tests.specs.OneEntry.{tree_of}
 use Rattle.namespace_ops_tests.proofs.tests.one_entry_frags.is_its_directory.Goals as goal
 

@@ -1,5 +1,5 @@
 use Rattle.std.proofs.Common.{sym, ◌∙◌, subst}
-use Rattle.mds_types.specs.WellFormedLaws.{IsUnused}
+use Rattle.mds_types.specs.Tree.{IsUnused}
 use Rattle.namespace_ops_tests.specs.OneEntry.{tree_of}
 use Rattle.namespace_ops_tests.proofs.OneEntry.{unused_one, unused_none, apart}
 use Rattle.namespace_ops_tests.proofs.tests.one_entry_frags.is_unused.Goals as goal

@@ -6,7 +6,7 @@ use Rattle.std.specs.FinMap.{get-empty, get-from_entries}
 use Rattle.mds_types.specs.declared.dentries.Dentry.{Dentry}
 use Rattle.mds_types.specs.declared.inodes.Inode.{Inode}
 use Rattle.mds_types.specs.Tree.{dentry_cmp}
-use Rattle.mds_types.specs.OrderLaws.{dentry-total}
+use Rattle.mds_types.proofs.OrderLaws.{dentry-total}
 use Rattle.namespace_ops_tests.specs.OneEntry.{tree_of}
 use Rattle.namespace_ops_tests.proofs.tests.one_entry_frags.only_at.Goals as goal
 

@@ -3,7 +3,7 @@ use Rattle.std.specs.FinMap as map
 use Rattle.sorted_map.specs.SortedMap.{contents}
 use Rattle.mds_types.specs.declared.inodes.Inode.{Inode}
 use Rattle.mds_types.specs.Tree.{dentry_cmp}
-use Rattle.mds_types.specs.MovedLaws.{IsMove}
+use Rattle.mds_types.specs.Step.{IsMove}
 use Rattle.std.specs.Option.{option_copied}
 use Rattle.inode_table.specs.TreeTable.{without_cover}
 use Rattle.inode_table.proofs.TableLaws.{leaves_kept}

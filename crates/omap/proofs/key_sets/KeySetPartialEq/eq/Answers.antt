@@ -1,6 +1,6 @@
 -- The pairs of the maps are those that the contract compares.
 use Rattle.std.proofs.Common.{rules}
-use Rattle.sorted_map.specs.Laws.{entries-contents}
+use Rattle.sorted_map.proofs.MapLaws.{entries-contents}
 use Rattle.omap.specs.Omap.{key_cmp}
 use Rattle.omap.proofs.key_sets.KeySetPartialEq.eq.Goals as goal
 

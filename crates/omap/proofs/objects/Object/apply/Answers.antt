@@ -1,6 +1,7 @@
 use Rattle.std.proofs.Common.{ap, ◌∙◌}
 use Rattle.sorted_map.specs.Overlay.{overlaid, without_keys}
-use Rattle.omap.specs.WriteLaws.{header_after, pairs_before, applied-by-parts}
+use Rattle.omap.specs.Writes.{header_after, pairs_before}
+use Rattle.omap.proofs.WriteLaws.{applied-by-parts}
 use Rattle.omap.proofs.objects.Object.apply.Goals as goal
 
 -- header and pairs are those that the operation leaves

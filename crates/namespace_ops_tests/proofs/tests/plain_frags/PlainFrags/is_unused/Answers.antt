@@ -1,6 +1,6 @@
 use Rattle.std.proofs.Common.{rules, ◌≡◌, not, true, ◌↔◌, ap, subst, ◌∙◌}
 use Rattle.std.specs.List.{list_any}
-use Rattle.mds_types.specs.WellFormedLaws.{IsUnused}
+use Rattle.mds_types.specs.Tree.{IsUnused}
 use Rattle.namespace_ops_tests.specs.PlainFrags.{Kept, is_numbered}
 use Rattle.namespace_ops_tests.proofs.Unused.{unused_told}
 use Rattle.namespace_ops_tests.proofs.tests.plain_frags.PlainFrags.is_unused.Goals as goal

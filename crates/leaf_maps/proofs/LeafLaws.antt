@@ -1,0 +1,134 @@
+-- What stands in the tree that leaves show.
+use Rattle.std.specs.Prelude.{◌≡◌, ℕ, Bool, true, false, ◌==◌, ◌&&◌, cond, T, List, [], ◌∷◌, ◌++◌, Option, Some, None, refl}
+use Rattle.std.specs.Option.{option_or}
+use Rattle.std.proofs.Common.{sym, ap, ◌∙◌, arith}
+use Rattle.std.proofs.lemmas.Bool.Decides.{nat_tests}
+use Rattle.std.specs.Ordering.{nat_cmp, is_eq, eq_by_cmp}
+use Rattle.std.specs.Cmp.{IsTotalOrder, on_total, then_total, nat_cmp_total, tied_itself}
+use Rattle.std.specs.Cmp.Lexicographic.{slice_cmp}
+use Rattle.std.specs.FinMap as finmap
+use Rattle.std.specs.FinMap.{IsAntisymmetric, find, is_sorted, get-entries, entries_sorted, get-from_entries, get-empty}
+use Rattle.std.proofs.lemmas.Map.Lookups.{exact_pairs}
+use Rattle.mds_types.specs.declared.ids.Ino.{Ino}
+use Rattle.mds_types.specs.declared.dentries.Dentry.{Dentry}
+use Rattle.mds_types.specs.declared.inodes.Inode.{Inode}
+use Rattle.mds_types.specs.Frag.{Fragment, frag_cmp}
+use Rattle.mds_types.specs.Tree.{dentry_cmp, dentry_of}
+use Rattle.mds_types.proofs.OrderLaws.{dentry-total, frag-total}
+use Rattle.mds_types.specs.OrderLaws.{ino-exact, frag-exact}
+use Rattle.sorted_map.proofs.MapLaws.{tie}
+use Rattle.mds_types.proofs.EntrySearch.{not_found_below}
+use Rattle.mds_types.proofs.ListingLaws.{tied_dentry}
+use Rattle.sorted_map.proofs.Bools.{left_of, right_of}
+use Rattle.sorted_map.specs.SortedMap.{contents}
+use Rattle.fragtree.specs.FragTree.{IsPick}
+use Rattle.namehash.specs.Rjenkins.{hash_of}
+use Rattle.inode_table.specs.Dirs.{Covers, leaves_of}
+use Rattle.leaf_maps.specs.Leaves.{Leaf, leaf_cmp, Rows, Leaves, names_of, entries_of, entries_in, shown_by, ArePlaced, IsShown}
+
+pub leaf-exact : IsAntisymmetric leaf_cmp
+leaf-exact = exact_pairs (λ (a b : Ino). nat_cmp a.0 b.0) frag_cmp ino-exact frag-exact
+
+pub leaf-total : IsTotalOrder leaf_cmp
+leaf-total = then_total (on_total (λ (l : Leaf). l.0.0) nat_cmp_total) (on_total (λ (l : Leaf). l.1) frag-total)
+
+-- an entry of a directory's names is found by its name
+pub found_row : (d e : ℕ) (name : List ℕ) (rows : List (List ℕ × Inode)) (rest : List (Dentry × Inode)) (b : Bool) → (e == d) ≡ b
+    → find dentry_cmp (dentry_of d name) (entries_of e rows ++ rest) ≡ option_or (cond b (find (slice_cmp nat_cmp) name rows) None) (find dentry_cmp (dentry_of d name) rest)
+found_row d e name [] rest true here = refl
+found_row d e name [] rest false here = refl
+found_row d e name (row ∷ rows) rest b here =
+    ap (λ c. cond c (Some row.1) (find dentry_cmp (dentry_of d name) (entries_of e rows ++ rest))) (tied_dentry d name (dentry_of e row.0) b here)
+    ∙ ap (cond (b && eq_by_cmp (slice_cmp nat_cmp) name row.0) (Some row.1)) (found_row d e name rows rest b here)
+    ∙ joined b (eq_by_cmp (slice_cmp nat_cmp) name row.0)
+  where
+    joined : (b c : Bool) → cond (b && c) (Some row.1) (option_or (cond b (find (slice_cmp nat_cmp) name rows) None) (find dentry_cmp (dentry_of d name) rest))
+        ≡ option_or (cond b (cond c (Some row.1) (find (slice_cmp nat_cmp) name rows)) None) (find dentry_cmp (dentry_of d name) rest)
+    joined true true = refl
+    joined true false = refl
+    joined false c = refl
+
+-- the first leaf of a directory that has a name tells what it stands for
+abbrev pub first_at : ℕ → List ℕ → List (Leaf × Rows) → Option Inode
+first_at d name [] = None
+first_at d name (leaf ∷ rest) = option_or (cond (leaf.0.0.0 == d) (finmap.get (contents (slice_cmp nat_cmp) leaf.1) name) None) (first_at d name rest)
+
+pub found_first : (d : ℕ) (name : List ℕ) (es : List (Leaf × Rows)) → find dentry_cmp (dentry_of d name) (entries_in es) ≡ first_at d name es
+found_first d name [] = refl
+found_first d name (leaf ∷ rest) =
+    found_row d leaf.0.0.0 name (finmap.entries (contents (slice_cmp nat_cmp) leaf.1)) (entries_in rest) (leaf.0.0.0 == d) refl
+    ∙ ap (λ o. option_or (cond (leaf.0.0.0 == d) o None) (find dentry_cmp (dentry_of d name) (entries_in rest))) (sym (get-entries (contents (slice_cmp nat_cmp) leaf.1) name))
+    ∙ ap (option_or (cond (leaf.0.0.0 == d) (finmap.get (contents (slice_cmp nat_cmp) leaf.1) name) None)) (found_first d name rest)
+
+or_none : (o : Option Inode) → option_or o None ≡ o
+or_none None = refl
+or_none (Some i) = refl
+
+-- what other leaves of the directory don't have, the one leaf tells
+one_leaf : (d : ℕ) (f : Fragment) (name : List ℕ) (es : List (Leaf × Rows)) → T (is_sorted leaf_cmp es)
+    → ((g : Fragment) (rows : Rows) → find leaf_cmp (record { 0 = d }, g) es ≡ Some rows → (g ≡ f → ⊥) → finmap.get (contents (slice_cmp nat_cmp) rows) name ≡ None)
+    → first_at d name es ≡ finmap.get (names_of (find leaf_cmp (record { 0 = d }, f) es)) name
+one_leaf d f name [] sorted others = sym (get-empty _ name)
+one_leaf d f name (e ∷ es) sorted others = go (eq_by_cmp leaf_cmp key e.0) refl (one_leaf d f name es (right_of _ _ sorted) (λ g rows found apart. others g rows (rest_has g rows found) apart))
+  where
+    key : Leaf
+    key = (record { 0 = d }, f)
+
+    rest_has : (g : Fragment) (rows : Rows) → find leaf_cmp (record { 0 = d }, g) es ≡ Some rows → find leaf_cmp (record { 0 = d }, g) (e ∷ es) ≡ Some rows
+    rest_has g rows found = behind (eq_by_cmp leaf_cmp (record { 0 = d }, g) e.0) refl
+      where
+        behind : (b : Bool) → eq_by_cmp leaf_cmp (record { 0 = d }, g) e.0 ≡ b → cond b (Some e.1) (find leaf_cmp (record { 0 = d }, g) es) ≡ Some rows
+        behind false apart = found
+        behind true tied =
+            let none : find leaf_cmp (record { 0 = d }, g) es ≡ None = ap (λ k. find leaf_cmp k es) (leaf-exact _ _ (tie _ tied)) ∙ not_found_below leaf-total e.0 es (left_of _ _ sorted) in
+            let clash : None ≡ Some rows = sym none ∙ found in cc
+
+    itself : (k : Leaf) → eq_by_cmp leaf_cmp k k ≡ true
+    itself k = ap is_eq (tied_itself leaf-total k)
+
+    same_number : e.0.0.0 ≡ d → (e.0.0.0 == d) ≡ true
+    same_number is = grind (arith, nat_tests)
+
+    go : (b : Bool) → eq_by_cmp leaf_cmp key e.0 ≡ b → first_at d name es ≡ finmap.get (names_of (find leaf_cmp key es)) name → first_at d name (e ∷ es) ≡ finmap.get (names_of (cond b (Some e.1) (find leaf_cmp key es))) name
+    go true tied later =
+        let is : key ≡ e.0 = leaf-exact _ _ (tie _ tied) in
+        let none : find leaf_cmp key es ≡ None = ap (λ k. find leaf_cmp k es) is ∙ not_found_below leaf-total e.0 es (left_of _ _ sorted) in
+        ap (λ b. option_or (cond b (finmap.get (contents (slice_cmp nat_cmp) e.1) name) None) (first_at d name es)) (same_number (ap (λ (k : Leaf). k.0.0) (sym is)))
+        ∙ ap (option_or (finmap.get (contents (slice_cmp nat_cmp) e.1) name)) (later ∙ ap (λ o. finmap.get (names_of o) name) none ∙ get-empty _ name)
+        ∙ or_none _
+    go false apart later = other (e.0.0.0 == d) refl
+      where
+        same_key : e.0.0.0 ≡ d → e.0.1 ≡ f → e.0 ≡ key
+        same_key a b = λ i. (record { 0 = a i }, b i)
+
+        not_f : e.0.0.0 ≡ d → e.0.1 ≡ f → ⊥
+        not_f a b = let clash : true ≡ false = sym (itself key) ∙ ap (eq_by_cmp leaf_cmp key) (sym (same_key a b)) ∙ apart in cc
+
+        at_e : e.0.0.0 ≡ d → find leaf_cmp (record { 0 = d }, e.0.1) (e ∷ es) ≡ Some e.1
+        at_e a = ap (λ b. cond b (Some e.1) (find leaf_cmp (record { 0 = d }, e.0.1) es)) (ap (λ (n : ℕ). eq_by_cmp leaf_cmp (record { 0 = n }, e.0.1) e.0) (sym a) ∙ itself e.0)
+
+        number : (e.0.0.0 == d) ≡ true → e.0.0.0 ≡ d
+        number is = grind (arith, nat_tests)
+
+        other : (b : Bool) → (e.0.0.0 == d) ≡ b → option_or (cond b (finmap.get (contents (slice_cmp nat_cmp) e.1) name) None) (first_at d name es) ≡ finmap.get (names_of (find leaf_cmp key es)) name
+        other true is = ap (λ o. option_or o (first_at d name es)) (others e.0.1 e.1 (at_e (number is)) (not_f (number is))) ∙ later
+        other false is = later
+
+-- a name stands where the leaf that its hash picks has it
+pub shown_at : (covers : Covers) (leaves : Leaves) → ArePlaced covers leaves → IsShown covers leaves (shown_by leaves)
+unfolding shown_by
+shown_at covers leaves placed d name f pick =
+    get-from_entries dentry-total (entries_in (finmap.entries leaves)) (dentry_of d name)
+    ∙ found_first d name (finmap.entries leaves)
+    ∙ one_leaf d f name (finmap.entries leaves) (entries_sorted leaves) others
+    ∙ ap (λ o. finmap.get (names_of o) name) (sym (get-entries leaves (record { 0 = d }, f)))
+  where
+    others : (g : Fragment) (rows : Rows) → find leaf_cmp (record { 0 = d }, g) (finmap.entries leaves) ≡ Some rows → (g ≡ f → ⊥) → finmap.get (contents (slice_cmp nat_cmp) rows) name ≡ None
+    others g rows found apart = go (finmap.get (contents (slice_cmp nat_cmp) rows) name) refl
+      where
+        go : (o : Option Inode) → finmap.get (contents (slice_cmp nat_cmp) rows) name ≡ o → o ≡ None
+        go None is = refl
+        go (Some i) is = absurd (apart (pick.alone g g_pick.stands g_pick.contains))
+          where
+            g_pick : IsPick (leaves_of covers d) (hash_of name) g
+            g_pick = placed d g name i (ap (λ o. finmap.get (names_of o) name) (get-entries leaves (record { 0 = d }, g) ∙ found) ∙ is)

@@ -1,0 +1,36 @@
+-- One leaf among others.
+use Rattle.std.specs.Prelude.{◌≡◌, ℕ, ◌⊎◌, Bool, true, false, refl}
+use Rattle.std.proofs.Common.{inl, inr, sym, ap, ◌∙◌}
+use Rattle.std.specs.Ordering.{eq_by_cmp, is_eq}
+use Rattle.std.specs.Cmp.{tied_itself}
+use Rattle.mds_types.specs.Frag.{Fragment}
+use Rattle.sorted_map.proofs.MapLaws.{tie}
+use Rattle.sorted_map.proofs.Bools.{not_true}
+use Rattle.leaf_maps.specs.Leaves.{Leaf, leaf_cmp, Leaves, names_in}
+use Rattle.leaf_maps.proofs.LeafLaws.{leaf-exact, leaf-total}
+
+-- the key of a leaf
+abbrev pub key : ℕ → Fragment → Leaf
+key d f = (record { 0 = d }, f)
+
+pub key_itself : (k : Leaf) → eq_by_cmp leaf_cmp k k ≡ true
+key_itself k = ap is_eq (tied_itself leaf-total k)
+
+-- two leaves are one, or they differ
+pub one_or_other : (d e : ℕ) (f g : Fragment) → ((e ≡ d) × (g ≡ f)) ⊎ ((e ≡ d) × (g ≡ f) → ⊥)
+one_or_other d e f g = go (eq_by_cmp leaf_cmp (record { 0 = e }, g) (record { 0 = d }, f)) refl
+  where
+    go : (b : Bool) → eq_by_cmp leaf_cmp (record { 0 = e }, g) (record { 0 = d }, f) ≡ b → ((e ≡ d) × (g ≡ f)) ⊎ ((e ≡ d) × (g ≡ f) → ⊥)
+    go true tied =
+        let same : ◌≡◌ {A = Leaf} (record { 0 = e }, g) (record { 0 = d }, f) = leaf-exact _ _ (tie _ tied) in
+        inl (ap (λ (k : Leaf). k.0.0) same, ap (λ (k : Leaf). k.1) same)
+    go false is = inr (λ same. let clash : true ≡ false = sym (key_itself (record { 0 = d }, f)) ∙ ap (λ (k : Leaf). eq_by_cmp leaf_cmp k (record { 0 = d }, f)) (λ i. (record { 0 = sym same.0 i }, sym same.1 i)) ∙ is in cc)
+
+pub apart_keys : (d e : ℕ) (f g : Fragment) → ((e ≡ d) × (g ≡ f) → ⊥) → eq_by_cmp leaf_cmp (record { 0 = e }, g) (record { 0 = d }, f) ≡ false
+apart_keys d e f g apart = not_true _ (λ tied.
+    let same : ◌≡◌ {A = Leaf} (record { 0 = e }, g) (record { 0 = d }, f) = leaf-exact _ _ (tie _ tied) in
+    apart (ap (λ (k : Leaf). k.0.0) same, ap (λ (k : Leaf). k.1) same))
+
+-- names of one leaf are those of another that is the same
+pub names_same : (leaves : Leaves) (d e : ℕ) (f g : Fragment) → (e ≡ d) × (g ≡ f) → names_in leaves e g ≡ names_in leaves d f
+names_same leaves d e f g same = λ i. names_in leaves (same.0 i) (same.1 i)

@@ -1,0 +1,31 @@
+-- The first leaf that contains a hash is its pick.
+use Rattle.std.specs.Prelude.{◌≡◌, ℕ, zero, ◌/◌, ◌%◌, ◌^◌, true, false, cond, List, [], ◌∷◌, refl}
+use Rattle.std.proofs.Common.{◌⊎◌, inl, inr, ⊎_elim, sym, ap, subst, ◌∙◌, arith}
+use Rattle.mds_types.specs.Frag.{Fragment, Contains, span}
+use Rattle.fragtree.specs.FragTree.{HasLeaf, IsPick}
+use Rattle.sorted_map.proofs.NatKeys.{is_same, same_or_apart, is_apart}
+use Rattle.namespace_ops.specs.Picks.{pick_of, is_in}
+use Rattle.fragtree.proofs.TreeLaws.{first_or_later, later}
+
+is_in_or_not : (f : Fragment) (hash : ℕ) → ((is_in f hash ≡ true) × Contains f hash) ⊎ ((is_in f hash ≡ false) × (Contains f hash → ⊥))
+is_in_or_not f hash =
+    ⊎_elim (λ same. inl (is_same _ _ same, same)) (λ apart. inr (is_apart _ _ apart, apart))
+    (same_or_apart ((hash % 2 ^ 24) / span f.bits) (f.value / span f.bits))
+
+first : (f : Fragment) (fs : List Fragment) → HasLeaf (f ∷ fs) f
+first f fs = (zero, omega (arith), refl)
+
+module _ (hash : ℕ) (f : Fragment) (contains : Contains f hash) where
+  other : (g : Fragment) (gs : List Fragment) → HasLeaf (g ∷ gs) f → (Contains g hash → ⊥) → HasLeaf gs f
+  other g gs has apart = ⊎_elim (λ same. absurd (apart (subst (λ x. Contains x hash) (sym same) contains))) (λ h. h) (first_or_later g f gs has)
+
+  among : (leaves : List Fragment) → HasLeaf leaves f → ((g : Fragment) → HasLeaf leaves g → Contains g hash → g ≡ f) → pick_of leaves hash ≡ f
+  among [] (k, stands, is) alone = absurd (omega (arith, stands))
+  among (g ∷ gs) has alone =
+      ⊎_elim (λ w. ap (λ b. cond b g (pick_of gs hash)) w.0 ∙ alone g (first g gs) w.1)
+      (λ w. ap (λ b. cond b g (pick_of gs hash)) w.0 ∙ among gs (other g gs has w.1) (λ h stands. alone h (later g h gs stands)))
+      (is_in_or_not g hash)
+
+-- where one leaf alone contains the hash, that is the one
+pub picked : (leaves : List Fragment) (hash : ℕ) (f : Fragment) → IsPick leaves hash f → pick_of leaves hash ≡ f
+picked leaves hash f pick = among hash f pick.contains leaves pick.stands pick.alone
