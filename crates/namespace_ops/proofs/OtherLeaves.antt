@@ -8,10 +8,10 @@ use Rattle.mds_types.specs.declared.dentries.Dentry.{Dentry}
 use Rattle.mds_types.specs.declared.inodes.Inode.{Inode}
 use Rattle.mds_types.specs.Frag.{Fragment, Contains}
 use Rattle.mds_types.specs.Tree.{Tree, at, dentry_of, is_directory, is_dir_kind, IsWellFormed}
-use Rattle.mds_types.specs.Step.{with_moved}
-use Rattle.mds_types.specs.EntryLaws.{get_put, get_beside, get_left, same_or_apart}
-use Rattle.mds_types.specs.DirectoryLaws.{StandsAs, directory_stands, root_stands, entry_stands, one_dentry}
-use Rattle.mds_types.specs.MovedLaws.{IsMove, MayMove, may_move, still_directory as still_moved}
+use Rattle.mds_types.specs.Step.{with_moved, IsMove}
+use Rattle.mds_types.proofs.EntryLaws.{get_put, get_beside, get_left, same_or_apart}
+use Rattle.mds_types.proofs.DirectoryLaws.{StandsAs, directory_stands, root_stands, entry_stands, one_dentry}
+use Rattle.mds_types.proofs.MovedLaws.{MayMove, may_move, still_directory as still_moved}
 use Rattle.fragtree.specs.FragTree.{HasLeaf}
 use Rattle.namehash.specs.Rjenkins.{hash_of}
 use Rattle.inode_table.specs.Dirs.{Covers, leaves_of}

@@ -3,7 +3,7 @@ use Rattle.std.specs.List.{AllZip}
 use Rattle.std.specs.FinMap as map
 use Rattle.sorted_map.specs.SortedMap.{contents}
 use Rattle.sorted_map.specs.Stores.{shown_by}
-use Rattle.sorted_map.specs.Laws.{entries-contents}
+use Rattle.sorted_map.proofs.MapLaws.{entries-contents}
 use Rattle.sorted_map.specs.Clones.{ClonePair}
 use Rattle.sorted_map.proofs.CloneLaws.{is_clone_of}
 use Rattle.sorted_map.proofs.OverlayLaws.{none_entries}
