@@ -11,6 +11,12 @@ NameFromBytes bytes (Err NoMemory) = IsName bytes
 NameFromBytes bytes (Err TooLong) = 255 < length bytes
 NameFromBytes bytes (Err Invalid) = (length bytes ≤ 255) × (IsName bytes → ⊥)
 
+-- why bytes are no name, whatever memory there is
+abbrev pub IsFaultOf : List ℕ → NameFault → Type 0
+IsFaultOf bytes Invalid = (length bytes ≤ 255) × (IsName bytes → ⊥)
+IsFaultOf bytes TooLong = 255 < length bytes
+IsFaultOf bytes NoMemory = ⊥
+
 -- the error number that an operation on such a name answers
 abbrev pub name_errno : NameFault → Option ℕ
 name_errno Invalid = Some 22

@@ -4,10 +4,10 @@ ghost use Rattle.std.specs.Cmp.{partial_order_from_own_ties};
 ghost use Rattle.std.specs.Cmp.Rules.{comparing};
 ghost use Rattle.std.specs.Ordering.{nat_cmp, as_partial_cmp};
 ghost use Rattle.std.specs.Cmp.Lexicographic.{pointwise, slice_cmp};
-ghost use Rattle.std.specs.Prelude.{◌≡◌, ◌==◌, IfOk};
+ghost use Rattle.std.specs.Prelude.{◌≡◌, ◌==◌, IfOk, IfErr, OnOk};
 ghost use Rattle.std.specs.List.{list_all};
 ghost use Rattle.mds_types.specs.Name.{IsName, is_dots, fits_name};
-ghost use Rattle.mds_types.specs.NameFault.{NameFromBytes, name_errno};
+ghost use Rattle.mds_types.specs.NameFault.{IsFaultOf, NameFromBytes, name_errno};
 
 use crate::errno::{EINVAL, ENAMETOOLONG};
 use std::alloc::{AllocError, Global};
@@ -63,16 +63,20 @@ impl Name {
     pub fn from_bytes(alloc: Global, bytes: &[u8]) -> Result<Name, NameFault>
         ensures { NameFromBytes bytes.now result }
     {
-        if bytes.len() > Name::MAX_LEN {
-            return Err(NameFault::TooLong);
-        }
-        if bytes.is_empty() || is_dots(bytes) || !is_plain(bytes) {
-            return Err(NameFault::Invalid);
-        }
+        check(bytes)?;
         match Vec::from_slice(alloc, bytes) {
             Ok(text) => Ok(Name { text }),
             Err(AllocError) => Err(NameFault::NoMemory),
         }
+    }
+
+    /// The name that these bytes are, or why they are none. Takes no memory.
+    pub fn from_vec(bytes: Vec<u8>) -> Result<Name, NameFault>
+        ensures made { NameFromBytes bytes.items result }
+        ensures err { IfErr result (IsFaultOf bytes.items) }
+    {
+        check(&bytes)?;
+        Ok(Name { text: bytes })
     }
 
     /// The bytes of the name.
@@ -89,6 +93,20 @@ impl Name {
     {
         self.clone()
     }
+}
+
+// Whether bytes are a name, or why they are none.
+fn check(bytes: &[u8]) -> Result<(), NameFault>
+    ensures ok { OnOk result (IsName bytes.now) }
+    ensures err { IfErr result (IsFaultOf bytes.now) }
+{
+    if bytes.len() > Name::MAX_LEN {
+        return Err(NameFault::TooLong);
+    }
+    if bytes.is_empty() || is_dots(bytes) || !is_plain(bytes) {
+        return Err(NameFault::Invalid);
+    }
+    Ok(())
 }
 
 // Whether a name is `.` or `..`, which stand for directories of their own.

@@ -36,12 +36,19 @@ pub enum OutputLine {
     Errno(u16),
 }
 
+// Room for the text of a usual reply, so that it is not moved as it grows.
+const USUAL_LEN: usize = 80;
+
 impl OutputLine {
     /// The line with its LF. Takes memory for it.
     pub fn to_text(&self, alloc: Global) -> Result<String, AllocError>
         ensures { IfOk result (λ text. string_bytes text ≡ output_line self.now ++ codes "\n") }
     {
-        format!(in alloc; "{self}\n")
+        let mut text = String::with_capacity(alloc, USUAL_LEN)?;
+        match write!(text, "{self}\n") {
+            Ok(()) => Ok(text),
+            Err(_) => Err(AllocError),
+        }
     }
 }
 

@@ -67,7 +67,7 @@ fn dentry(alloc: Global, args: &[u8]) -> Result<Dentry, ReadError>
     let (dir, word) = two(args)?;
     let dir = ino(dir)?;
     let bytes = text(alloc, word)?;
-    let name = name(alloc, &bytes)?;
+    let name = name(bytes)?;
     Ok(Dentry { dir, name })
 }
 
@@ -80,7 +80,7 @@ fn made(alloc: Global, args: &[u8]) -> Result<(Dentry, Mode), ReadError>
     let dir = ino(dir)?;
     let bytes = text(alloc, word)?;
     let mode = mode(digits)?;
-    let name = name(alloc, &bytes)?;
+    let name = name(bytes)?;
     Ok((Dentry { dir, name }, mode))
 }
 
@@ -93,7 +93,7 @@ fn readdir(alloc: Global, args: &[u8]) -> Result<Op, ReadError>
     let dir = ino(dir)?;
     let bytes = after_text(alloc, after)?;
     let max = page_size(max)?;
-    let after = after_name(alloc, bytes)?;
+    let after = after_name(bytes)?;
     Ok(Op::Readdir { dir, after, max })
 }
 
@@ -106,7 +106,7 @@ fn symlink(alloc: Global, args: &[u8]) -> Result<Op, ReadError>
     let dir = ino(dir)?;
     let bytes = text(alloc, word)?;
     let to_bytes = text(alloc, to)?;
-    let name = name(alloc, &bytes)?;
+    let name = name(bytes)?;
     let target = target(alloc, &to_bytes)?;
     Ok(Op::Symlink {
         dentry: Dentry { dir, name },
@@ -125,7 +125,7 @@ fn setattr(alloc: Global, args: &[u8]) -> Result<Op, ReadError>
     let dir = ino(dir)?;
     let bytes = text(alloc, word)?;
     let attributes = given_attributes(rest)?;
-    let name = name(alloc, &bytes)?;
+    let name = name(bytes)?;
     Ok(Op::Setattr {
         dentry: Dentry { dir, name },
         attributes,
@@ -142,8 +142,8 @@ fn rename(alloc: Global, args: &[u8]) -> Result<Op, ReadError>
     let bytes = text(alloc, word)?;
     let to_dir = ino(to_dir)?;
     let to_bytes = text(alloc, to_word)?;
-    let from_name = name(alloc, &bytes)?;
-    let to_name = name(alloc, &to_bytes)?;
+    let from_name = name(bytes)?;
+    let to_name = name(to_bytes)?;
     Ok(Op::Rename {
         from: Dentry {
             dir,

@@ -120,10 +120,10 @@ fn is_dash(word: &[u8]) -> bool
 
 /// The name that these bytes are, or the error number of bytes that are none.
 #[tactic(auto, unfolding(crate::specs::Arguments::name_of))]
-pub fn name(alloc: Global, bytes: &[u8]) -> Result<Name, ReadError>
-    ensures { Gives (λ name. name) result (name_of bytes.now) }
+pub fn name(bytes: Vec<u8>) -> Result<Name, ReadError>
+    ensures { Gives (λ name. name) result (name_of bytes.items) }
 {
-    match Name::from_bytes(alloc, bytes) {
+    match Name::from_vec(bytes) {
         Ok(name) => Ok(name),
         Err(NameFault::Invalid) => Err(ReadError::Fault(Fault::BadWord(EINVAL))),
         Err(NameFault::TooLong) => Err(ReadError::Fault(Fault::BadWord(ENAMETOOLONG))),
@@ -133,12 +133,12 @@ pub fn name(alloc: Global, bytes: &[u8]) -> Result<Name, ReadError>
 
 /// The name after which a listing begins, where there are bytes for one.
 #[tactic(auto, unfolding(crate::specs::Arguments::after_name_of))]
-pub fn after_name(alloc: Global, bytes: Option<Vec<u8>>) -> Result<Option<Name>, ReadError>
+pub fn after_name(bytes: Option<Vec<u8>>) -> Result<Option<Name>, ReadError>
     ensures { Gives (λ name. name) result (after_name_of (option_map (λ v. v.items) bytes)) }
 {
     match bytes {
         None => Ok(None),
-        Some(bytes) => Ok(Some(name(alloc, &bytes)?)),
+        Some(bytes) => Ok(Some(name(bytes)?)),
     }
 }
 

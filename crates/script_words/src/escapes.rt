@@ -9,7 +9,7 @@ use std::alloc::{AllocError, Global};
 pub fn unescaped(alloc: Global, word: &[u8]) -> Result<Option<Vec<u8>>, AllocError>
     ensures { IfOk result (λ bytes. option_map (λ v. v.items) bytes ≡ bytes_of word.now) }
 {
-    let mut bytes = Vec::new(alloc);
+    let mut bytes = Vec::with_capacity(alloc, word.len())?;
     let mut rest = word;
     while let Some((byte, after)) = next_byte(rest) {
         bytes.push(byte)?;
