@@ -97,6 +97,13 @@ impl CachedFrag {
         self.counts
     }
 
+    /// How many names it shows.
+    pub fn len(&self) -> usize
+        ensures { result ≡ map.len (shown self.now) }
+    {
+        (self.counts.files + self.counts.dirs) as usize
+    }
+
     /// How many changes of names fit before memory is needed.
     pub fn room(&self) -> usize
         ensures { result ≡ self.now.room }
