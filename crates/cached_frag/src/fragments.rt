@@ -111,6 +111,13 @@ impl CachedFrag {
         self.room
     }
 
+    /// How many dirty names can become clean before memory is needed.
+    pub fn places(&self) -> usize
+        ensures { result ≡ self.now.places }
+    {
+        self.clean.room()
+    }
+
     /// Makes room for so many changes of names. Where the room is there already nothing is done, and there is no error.
     pub fn reserve(&mut self, changes: usize) -> Result<(), AllocError>
         ensures same { self.new ≡ record self.old { room = self.new.room } }

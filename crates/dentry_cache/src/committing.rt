@@ -71,7 +71,12 @@ impl Cache {
     }
 
     // Makes room for so many names of a fragment to become clean.
-    fn reserve_settled(&mut self, dir: Ino, frag: Frag, names: usize) -> Result<(), AllocError>
+    pub(crate) fn reserve_settled(
+        &mut self,
+        dir: Ino,
+        frag: Frag,
+        names: usize,
+    ) -> Result<(), AllocError>
         requires { IsThere (cached self.old.entries (dir, frag)) }
         ensures same { IsChanged (cached self.old.entries (dir, frag)) (λ (f now : Cached). now ≡ record f { places = now.places }) (dir, frag) self.old self.new }
         ensures room { OnOk result (HasCached (cached self.new.entries (dir, frag)) (λ (f : Cached). names ≤ f.places)) }
