@@ -392,3 +392,12 @@ forgotten_here leaf old mid new same distinct is = forgotten leaf old mid new sa
 
 pub forgotten_keep : (leaf : Leaf) (objects : Objects) (old mid new : Held) → mid ≡ old → IsDistinct leaf_is (keys_of mid.entries) → new ≡ lru_cache (remove_entry (leaf_is leaf) mid.entries) mid.cap → KeepsTies (OfOthers leaf) objects objects old.entries new.entries
 forgotten_keep leaf objects old mid new same distinct is = given_up_keep leaf objects old.entries new.entries (forgotten leaf old mid new same distinct is)
+
+-- ---- two calls, one after the other
+
+pub kept_twice : (Left : Leaf → Snap → Type 0) (first mid last : Objects) (old now new : Places) → KeepsTies Left first mid old now → KeepsTies Left mid last now new → KeepsTies Left first last old new
+kept_twice Left first mid last old now new a b = record { ties = λ t. b.ties (a.ties t); stand = λ q snapshot t left s. b.stand q snapshot (a.ties t) left (a.stand q snapshot t left s) }
+
+-- what is left of all snapshots is left of some
+pub kept_of : (Left : Leaf → Snap → Type 0) (before after : Objects) (old new : Places) → KeepsTies Each before after old new → KeepsTies Left before after old new
+kept_of Left before after old new k = record { ties = k.ties; stand = λ q snapshot t left s. k.stand q snapshot t tt s }
