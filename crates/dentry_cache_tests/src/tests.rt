@@ -5,3 +5,4 @@ mod counting_stores;
 mod fetches;
 mod fixtures;
 mod orders;
+mod refused_growths;

@@ -1,6 +1,8 @@
 //! Fragments in caches, and stores that have them. Each helper answers false or none where a growth was refused.
-ghost use Rattle.std.specs.Prelude.{IsTrue};
-ghost use Rattle.dentry_cache.specs.Cache.{HasRoom, IsThere, cached};
+ghost use Rattle.std.specs.Prelude.{◌≤◌, IsTrue};
+ghost use Rattle.std.specs.FinMap as map;
+ghost use Rattle.cached_frag.specs.Cached.{Cached};
+ghost use Rattle.dentry_cache.specs.Cache.{HasCached, HasRoom, IsThere, cached};
 
 use cached_frag::CachedFrag;
 use commit_jobs::{Encoded, Job};
@@ -214,4 +216,68 @@ pub fn store_files(alloc: Global, store: &mut MemStore, dir: Ino, frag: Frag, co
     make(alloc, &mut cache, dir, frag)
         && put_many(alloc, &mut cache, dir, frag, count)
         && commit(alloc, &mut cache, store, dir, frag)
+}
+
+// Whether the fragment is there, and is ready to give its names away.
+fn is_ready(cache: &Cache, dir: Ino, frag: Frag) -> bool
+    ensures { IsTrue result → HasCached (cached cache.now.entries (dir, frag)) (λ (f : Cached). map.len f.dirty ≤ f.places) }
+{
+    match cache.get(dir, frag) {
+        Some(fragment) => fragment.dirty().len() <= fragment.places(),
+        None => false,
+    }
+}
+
+/// Gives the names of a directory's fragment to that of another one, which is made and shows them dirty at this version.
+pub fn give_names(alloc: Global, cache: &mut Cache, dir: Ino, into: Ino, version: u64) -> bool {
+    if !is_there(cache, dir, Frag::ROOT) || cache.has_place(into, Frag::ROOT) {
+        return false;
+    }
+    let stay = Some((dir, Frag::ROOT));
+    if cache.keep(alloc, into, Frag::ROOT, stay).is_err() {
+        return false;
+    }
+    match ready(alloc, cache, dir, version) {
+        Some(made) => move_names(alloc, cache, dir, into, made, version),
+        None => {
+            cache.forget(into, Frag::ROOT);
+            false
+        }
+    }
+}
+
+// Makes a fragment ready to give its names away, and another one to take them.
+fn ready(alloc: Global, cache: &mut Cache, dir: Ino, generation: u64) -> Option<CachedFrag> {
+    if !is_there(cache, dir, Frag::ROOT) {
+        return None;
+    }
+    let Ok(count) = cache.ready_names(dir, Frag::ROOT) else {
+        return None;
+    };
+    let mut made = CachedFrag::fresh(alloc, generation);
+    if made.reserve(count).is_err() {
+        return None;
+    }
+    Some(made)
+}
+
+// Moves the names, where all is ready.
+fn move_names(
+    alloc: Global,
+    cache: &mut Cache,
+    dir: Ino,
+    into: Ino,
+    mut made: CachedFrag,
+    version: u64,
+) -> bool {
+    if !is_ready(cache, dir, Frag::ROOT) {
+        return false;
+    }
+    let names = cache.give_names(alloc, dir, Frag::ROOT);
+    if names.len() > made.room() || !cache.is_kept(into, Frag::ROOT) {
+        return false;
+    }
+    made.join(names, version);
+    cache.fill(into, Frag::ROOT, made);
+    true
 }
