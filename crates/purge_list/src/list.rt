@@ -1,5 +1,5 @@
 //! `PurgeList`, what a contract sees of it, and its calls.
-ghost use Rattle.std.specs.Prelude.{◌≡◌, ◌≤◌, ◌<◌, ◌+◌, ℕ, List, string_bytes, OnOk, OnErr, option_copied};
+ghost use Rattle.std.specs.Prelude.{◌≡◌, ◌≤◌, ◌<◌, ◌+◌, ℕ, List, string_bytes, OnOk, OnErr, IfSome, IfNone, option_copied};
 ghost use Rattle.std.specs.FinMap as map;
 ghost use Rattle.purge_list.specs.PurgeList.{first_name};
 
@@ -94,5 +94,14 @@ impl PurgeList {
         ensures room { self.old.room ≤ self.new.room }
     {
         let _ = self.names.remove(&TextRef { text: name });
+    }
+
+    /// Takes the first name off the list; an empty list stays so. Takes no memory.
+    pub fn remove_first(&mut self)
+        ensures removed { IfSome (first_name self.old.names) (λ name. self.new.names ≡ map.remove self.old.names name) }
+        ensures empty { IfNone (first_name self.old.names) (self.new.names ≡ self.old.names) }
+        ensures room { self.old.room ≤ self.new.room }
+    {
+        let _ = self.names.pop_first();
     }
 }

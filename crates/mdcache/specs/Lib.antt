@@ -1,0 +1,6 @@
+pub mod Cached
+pub mod Commits
+pub mod Objects
+pub mod Shown
+pub mod Sound
+pub mod State
