@@ -1,5 +1,5 @@
 -- What stands beside the state: a refused step may change it, but for what the state has of it.
-use Rattle.std.specs.Prelude.{◌≡◌, ℕ, Some}
+use Rattle.std.specs.Prelude.{◌≡◌, ℕ, Option, Some, None}
 use Rattle.cached_frag.specs.Cached.{Cached}
 use Rattle.objstore.specs.Objects.{Objects}
 use Rattle.dentry_cache.specs.Cache.{Held, Leaf, Places, cached, unsaved}
@@ -40,6 +40,13 @@ pub record IsKept (state : State) (cache : Held) : Type 0 where
   pub live : AreLive state.homes state.covers cache.entries
   pub tied : AreTied cache.entries state.objects
 
+-- what is cached of a leaf stays, but for the room that it has
+abbrev pub IsSameBut : Option Cached → Option Cached → Type 0
+IsSameBut None None = Unit {0}
+IsSameBut None (Some g) = ⊥
+IsSameBut (Some f) None = ⊥
+IsSameBut (Some f) (Some g) = g ≡ record f { room = g.room; places = g.places }
+
 -- what is cached of each leaf stays, whatever the order of use
 abbrev pub KeepsCached : Held → Held → Type 0
-KeepsCached old new = (leaf : Leaf) → cached new.entries leaf ≡ cached old.entries leaf
+KeepsCached old new = (leaf : Leaf) → IsSameBut (cached old.entries leaf) (cached new.entries leaf)

@@ -1,5 +1,6 @@
 pub mod Cached
 pub mod Commits
+pub mod New
 pub mod Objects
 pub mod Shown
 pub mod Sound

@@ -7,6 +7,7 @@ mod beginning;
 mod dropping;
 mod ending;
 mod evicting;
+mod formatting;
 mod leaves;
 mod mdcache;
 mod purging;

@@ -1,0 +1,4 @@
+//! The tree over a cache and a store by hand-known answers.
+
+mod commits;
+mod lists;
