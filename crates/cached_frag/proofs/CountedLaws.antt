@@ -158,3 +158,11 @@ at_first names es is =
     let dirs : dirs_among es ≡ dirs_in names = ap dirs_among is in
     let count : length es ≡ length (map.entries names) = ap (length {A = List ℕ × Inode}) is in
     (omega (arith, files), omega (arith, dirs), omega (arith, count, len-entries names))
+
+-- files and directories are all names
+pub all_among : (es : List (List ℕ × Inode)) → files_among es + dirs_among es ≡ length es
+all_among [] = refl
+all_among (e ∷ es) = omega (arith, all_among es, one_file e es, one_dir e es, either_one (is_dir_kind e.1.kind))
+
+pub all_counted : (names : Names) → (counts_of names).files + (counts_of names).dirs ≡ map.len names
+all_counted names = all_among (map.entries names) ∙ sym (len-entries names)

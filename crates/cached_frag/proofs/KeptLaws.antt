@@ -14,7 +14,7 @@ use Rattle.commit_jobs.specs.Snap.{counts_of}
 use Rattle.commit_jobs.proofs.MarkLaws.{none_dirty, one_dirty}
 use Rattle.cached_frag.specs.Cached.{AreEntries, Cached, IsBased, marked, shown, shown_over}
 use Rattle.cached_frag.specs.Kept.{IsKept}
-use Rattle.cached_frag.proofs.CountedLaws.{dirs_marked, dirs_some, files_marked, files_some, nothing_counted}
+use Rattle.cached_frag.proofs.CountedLaws.{all_counted, dirs_marked, dirs_some, files_marked, files_some, nothing_counted}
 use Rattle.cached_frag.proofs.ShownLaws.{nothing_shown, only_below, shown_marked}
 
 pub no_entries : (names : Names) → names ≡ map.empty → AreEntries names
@@ -134,3 +134,10 @@ kept_stored version clean dirty places free counts entries none counted few =
       few = omega (arith, few);
       reserved = omega arith;
     }
+
+-- the counts are those of all names that are shown
+pub kept_len : (f : Cached) (counts : EntryCounts) (places : ℕ) → IsKept f counts places → counts.files + counts.dirs ≡ map.len (shown f)
+kept_len f counts places kept =
+    let files : counts.files ≡ (counts_of (shown f)).files = ap (λ (c : EntryCounts). c.files) kept.counted in
+    let dirs : counts.dirs ≡ (counts_of (shown f)).dirs = ap (λ (c : EntryCounts). c.dirs) kept.counted in
+    omega (arith, files, dirs, all_counted (shown f))

@@ -97,11 +97,25 @@ impl CachedFrag {
         self.counts
     }
 
+    /// How many names it shows.
+    pub fn len(&self) -> usize
+        ensures { result ≡ map.len (shown self.now) }
+    {
+        (self.counts.files + self.counts.dirs) as usize
+    }
+
     /// How many changes of names fit before memory is needed.
     pub fn room(&self) -> usize
         ensures { result ≡ self.now.room }
     {
         self.room
+    }
+
+    /// How many dirty names can become clean before memory is needed.
+    pub fn places(&self) -> usize
+        ensures { result ≡ self.now.places }
+    {
+        self.clean.room()
     }
 
     /// Makes room for so many changes of names. Where the room is there already nothing is done, and there is no error.

@@ -6,6 +6,7 @@ mod counting;
 mod edits;
 mod fragments;
 mod loading;
+mod moving;
 mod rows;
 mod settling;
 mod snapshots;

@@ -94,7 +94,7 @@ fn take_settled(
 }
 
 // What became of a name is what is clean now.
-fn put_clean(clean: &mut SortedMap<Name, Inode>, name: Name, inode: Option<Inode>)
+pub(crate) fn put_clean(clean: &mut SortedMap<Name, Inode>, name: Name, inode: Option<Inode>)
     requires { 0 < clean.old.room }
     ensures put { contents key_cmp clean.new ≡ with_mark (contents key_cmp clean.old) name inode }
     ensures room { clean.old.room ≤ clean.new.room + 1 }

@@ -2,8 +2,10 @@ pub mod CacheLaws
 pub mod CommitSteps
 pub mod EditLaws
 pub mod LeafLaws
+pub mod LeavingLaws
 pub mod LoadLaws
 pub mod PageSteps
 pub mod PairLaws
+pub mod StandingLaws
 pub mod TieLaws
 pub mod UsedLaws

@@ -1,9 +1,10 @@
 //! Commits of cached fragments.
-ghost use Rattle.std.specs.Prelude.{◌≡◌, ◌≤◌, ◌⊎◌, ◌↔◌, IsTrue, Option, OnOk, OnErr, IfOk, IfErr};
+ghost use Rattle.std.specs.Prelude.{◌≡◌, ◌≤◌, ◌⊎◌, ◌↔◌, IsTrue, Option, OnOk, OnErr, IfOk, IfErr, IfSome};
 ghost use Rattle.std.specs.FinMap as map;
 ghost use Rattle.mds_types.specs.declared.refusals.Refusal.TheVariants.{NoInodes, NoMemory};
-ghost use Rattle.objstore.specs.Objects.{MayRefuse, written};
-ghost use Rattle.commit_jobs.specs.Snap.{IsBelowEnd};
+ghost use Rattle.objstore.specs.Objects.{MayRefuse, Objects, written};
+ghost use Rattle.dentry_cache.specs.Standing.{Each, KeepsTies, OfOthers, Stands, Ties};
+ghost use Rattle.commit_jobs.specs.Snap.{IsBelowEnd, IsSnap};
 ghost use Rattle.cached_frag.specs.Cached.{Cached};
 ghost use Rattle.dentry_cache.specs.Cache.{HasCached, IsChanged, IsThere, cached};
 ghost use Rattle.dentry_cache.specs.Commits.{IsSettled, IsCommitted, Takes, leaf_text};
@@ -24,6 +25,8 @@ impl Cache {
         ensures taken { IfOk result (λ taken. HasCached (cached self.old.entries (dir, frag)) (Takes taken)) }
         ensures refused { IfErr result (λ refusal. (refusal ≡ NoMemory) ⊎ ((refusal ≡ NoInodes) × HasCached (cached self.old.entries (dir, frag)) (λ (f : Cached). IsBelowEnd f.base → ⊥))) }
         ensures used { IsChanged (cached self.old.entries (dir, frag)) (λ (f now : Cached). now ≡ f) (dir, frag) self.old self.new }
+        ensures keeps { (objects : Objects) → KeepsTies Each objects objects self.old.entries self.new.entries }
+        ensures stands { (objects : Objects) → IfOk result (λ taken. IfSome taken (λ snapshot. Ties self.old.entries objects → Stands (dir, frag) snapshot self.new.entries objects)) }
     {
         let _ = self.touch(dir, frag);
         match self.get(dir, frag) {
@@ -47,9 +50,12 @@ impl Cache {
         ensures settled { OnOk result (IsChanged (cached self.old.entries (encoded.now.job.ino, encoded.now.job.frag)) (IsCommitted encoded.now.job.snapshot) (encoded.now.job.ino, encoded.now.job.frag) self.old self.new) }
         ensures same { OnErr result (S.objects store.new ≡ S.objects store.old) }
         ensures kept { OnErr result (IsChanged (cached self.old.entries (encoded.now.job.ino, encoded.now.job.frag)) (λ (f now : Cached). now ≡ record f { places = now.places }) (encoded.now.job.ino, encoded.now.job.frag) self.old self.new) }
+        ensures keeps { OnOk result (Stands (encoded.now.job.ino, encoded.now.job.frag) encoded.now.job.snapshot self.old.entries (S.objects store.old) → KeepsTies (OfOthers (encoded.now.job.ino, encoded.now.job.frag)) (S.objects store.old) (S.objects store.new) self.old.entries self.new.entries) }
+        ensures stays { OnErr result (KeepsTies Each (S.objects store.old) (S.objects store.new) self.old.entries self.new.entries) }
         ensures refused { IfErr result (MayRefuse (S.faults store.old) (S.faults store.new)) }
         ensures grows { S.faults store.old ≤ S.faults store.new }
     {
+        ObjName::texts_differ();
         let job = encoded.job();
         let names = job.snapshot.names();
         let version = job.snapshot.base().next_version();
@@ -65,7 +71,12 @@ impl Cache {
     }
 
     // Makes room for so many names of a fragment to become clean.
-    fn reserve_settled(&mut self, dir: Ino, frag: Frag, names: usize) -> Result<(), AllocError>
+    pub(crate) fn reserve_settled(
+        &mut self,
+        dir: Ino,
+        frag: Frag,
+        names: usize,
+    ) -> Result<(), AllocError>
         requires { IsThere (cached self.old.entries (dir, frag)) }
         ensures same { IsChanged (cached self.old.entries (dir, frag)) (λ (f now : Cached). now ≡ record f { places = now.places }) (dir, frag) self.old self.new }
         ensures room { OnOk result (HasCached (cached self.new.entries (dir, frag)) (λ (f : Cached). names ≤ f.places)) }
@@ -93,6 +104,7 @@ impl Cache {
 // The snapshot of a fragment; none, where it is clean.
 fn snapshot_of(fragment: &CachedFrag) -> Result<Option<Snapshot>, Refusal>
     ensures taken { IfOk result (λ taken. Takes taken fragment.now) }
+    ensures valid { IfOk result (λ taken. IfSome taken IsSnap) }
     ensures refused { IfErr result (λ refusal. (refusal ≡ NoMemory) ⊎ ((refusal ≡ NoInodes) × (IsBelowEnd fragment.now.base → ⊥))) }
 {
     if fragment.is_clean() {
@@ -101,7 +113,10 @@ fn snapshot_of(fragment: &CachedFrag) -> Result<Option<Snapshot>, Refusal>
     if !is_below_end(fragment.base()) {
         return Err(Refusal::NoInodes);
     }
-    Ok(Some(fragment.snapshot()?))
+    let snapshot = fragment.snapshot()?;
+    // The contract of `base` is what says here that it is a snapshot.
+    let _ = snapshot.base();
+    Ok(Some(snapshot))
 }
 
 // Whether another commit version can follow.

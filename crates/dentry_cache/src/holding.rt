@@ -1,10 +1,14 @@
 //! Places kept for fragments that will be made, filled, and given up.
-ghost use Rattle.std.specs.Prelude.{◌≡◌, ◌⊎◌, true, None, OnOk, OnErr, IfErr};
+ghost use Rattle.std.specs.Prelude.{◌≡◌, ◌⊎◌, true, Some, None, OnOk, OnErr, IfErr};
 ghost use Rattle.std.specs.Map.{lookup};
 ghost use Rattle.mds_types.specs.declared.refusals.Refusal.TheVariants.{NoMemory, NothingToEvict};
 ghost use Rattle.dentry_cache.specs.Cache.{IsFull, MayMakeRoom, TakesPlace, cached, held, is_kept, kept_place, leaf_is, unsaved, used_as, without};
+ghost use Rattle.objstore.specs.Objects.{Objects};
+ghost use Rattle.dentry_cache.specs.Leaving.{LeavesBeside};
+ghost use Rattle.dentry_cache.specs.Standing.{Each, KeepsTies, OfOthers};
 
 use crate::cache::{Cache, Place};
+use crate::laws::is_leaf;
 use cached_frag::CachedFrag;
 use mds_types::{Frag, Ino, Refusal};
 use std::alloc::Global;
@@ -27,7 +31,11 @@ impl Cache {
         ensures left { OnErr result (MayMakeRoom stay self.old self.new) }
         ensures refused { IfErr result (λ refusal. (refusal ≡ NoMemory) ⊎ ((refusal ≡ NothingToEvict) × IsFull stay self.old)) }
         ensures unsaved { unsaved self.new.entries ≡ unsaved self.old.entries }
+        ensures leaves { LeavesBeside stay (dir, frag) self.old.entries self.new.entries }
+        ensures keeps { (objects : Objects) → KeepsTies Each objects objects self.old.entries self.new.entries }
+        ensures place { OnOk result (lookup (leaf_is (dir, frag)) self.new.entries ≡ Some kept_place) }
     {
+        is_leaf(dir, frag);
         if let Err(refusal) = self.make_room(stay) {
             return Err(refusal);
         }
@@ -42,6 +50,11 @@ impl Cache {
     }
 
     /// Puts a fragment into the place that is kept for it, as the most recently used one. Takes no memory.
+    ///
+    /// So a fragment is made: with no names (`CachedFrag::fresh`) for a new directory, and with those of others for a
+    /// split or a merge. And so one is installed that an import got with a fresh base; one with a stored base is fetched,
+    /// and its dirty names are put and erased. What an export sends of a fragment, its base and its dirty names, is told
+    /// by `get`: `CachedFrag::base` and `CachedFrag::dirty`.
     pub fn fill(&mut self, dir: Ino, frag: Frag, fragment: CachedFrag)
         requires { is_kept (lookup (leaf_is (dir, frag)) self.old.entries) ≡ true }
         ensures { self.new ≡ used_as (dir, frag) (held fragment) self.old }
@@ -57,8 +70,12 @@ impl Cache {
 
     /// Gives up a leaf's place, with the fragment that is in it. A leaf that has none changes nothing. Takes no memory.
     pub fn forget(&mut self, dir: Ino, frag: Frag)
-        ensures { self.new ≡ without (dir, frag) self.old }
+        ensures without { self.new ≡ without (dir, frag) self.old }
+        ensures gone { lookup (leaf_is (dir, frag)) self.new.entries ≡ None }
+        ensures keeps { (objects : Objects) → KeepsTies (OfOthers (dir, frag)) objects objects self.old.entries self.new.entries }
     {
+        // The contract of `len` is what says here that no leaf has two places.
+        let _ = self.places.len();
         drop(self.places.pop(&(dir, frag)));
     }
 
@@ -66,7 +83,10 @@ impl Cache {
     pub fn take(&mut self, dir: Ino, frag: Frag) -> Option<CachedFrag>
         ensures taken { result ≡ cached self.old.entries (dir, frag) }
         ensures without { self.new ≡ without (dir, frag) self.old }
+        ensures gone { lookup (leaf_is (dir, frag)) self.new.entries ≡ None }
+        ensures keeps { (objects : Objects) → KeepsTies (OfOthers (dir, frag)) objects objects self.old.entries self.new.entries }
     {
+        let _ = self.places.len();
         match self.places.pop(&(dir, frag)) {
             Some(place) if !place.kept => Some(place.frag),
             _ => None,

@@ -10,6 +10,7 @@ mod fetching;
 mod holding;
 pub mod laws;
 mod loading;
+mod moving;
 mod pairs;
 mod reading;
 

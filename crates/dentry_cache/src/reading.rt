@@ -6,6 +6,8 @@ ghost use Rattle.commit_jobs.specs.Snap.{counts_of};
 ghost use Rattle.cached_frag.specs.Cached.{Cached, shown};
 ghost use Rattle.cached_frag.specs.Rows.{rows_after};
 ghost use Rattle.dentry_cache.specs.Cache.{HasCached, IsChanged, IsThere, cached};
+ghost use Rattle.objstore.specs.Objects.{Objects};
+ghost use Rattle.dentry_cache.specs.Standing.{Each, KeepsTies};
 
 use crate::cache::Cache;
 use commit_jobs::EntryCounts;
@@ -18,6 +20,7 @@ impl Cache {
         requires { IsThere (cached self.old.entries (dir, frag)) }
         ensures found { IfOk result (λ found. HasCached (cached self.old.entries (dir, frag)) (λ (f : Cached). found ≡ map.get (shown f) name.now)) }
         ensures used { IsChanged (cached self.old.entries (dir, frag)) (λ (f now : Cached). now ≡ f) (dir, frag) self.old self.new }
+        ensures keeps { (objects : Objects) → KeepsTies Each objects objects self.old.entries self.new.entries }
     {
         let _ = self.touch(dir, frag);
         match self.get(dir, frag) {
@@ -40,6 +43,7 @@ impl Cache {
         ensures listed { IfOk result (λ page. HasCached (cached self.old.entries (dir, frag)) (λ (f : Cached). page.0 ≡ take max (rows_after (option_copied after.entry) (map.entries (shown f))))) }
         ensures more { IfOk result (λ page. HasCached (cached self.old.entries (dir, frag)) (λ (f : Cached). page.1 ≡ nat_lt max (length (rows_after (option_copied after.entry) (map.entries (shown f)))))) }
         ensures used { IsChanged (cached self.old.entries (dir, frag)) (λ (f now : Cached). now ≡ f) (dir, frag) self.old self.new }
+        ensures keeps { (objects : Objects) → KeepsTies Each objects objects self.old.entries self.new.entries }
     {
         let _ = self.touch(dir, frag);
         match self.get(dir, frag) {
@@ -53,6 +57,7 @@ impl Cache {
         requires { IsThere (cached self.old.entries (dir, frag)) }
         ensures counted { HasCached (cached self.old.entries (dir, frag)) (λ (f : Cached). result ≡ counts_of (shown f)) }
         ensures used { IsChanged (cached self.old.entries (dir, frag)) (λ (f now : Cached). now ≡ f) (dir, frag) self.old self.new }
+        ensures keeps { (objects : Objects) → KeepsTies Each objects objects self.old.entries self.new.entries }
     {
         let _ = self.touch(dir, frag);
         match self.get(dir, frag) {

@@ -1,0 +1,14 @@
+use Rattle.std.proofs.Common.{rules, sym, subst}
+use Rattle.omap.specs.Omap.{key_cmp}
+use Rattle.sorted_map.specs.SortedMap.{contents}
+use Rattle.cached_frag.specs.Cached.{AreEntries, Cached, shown}
+use Rattle.cached_frag.proofs.ShownLaws.{shown_entries}
+use Rattle.cached_frag.proofs.fragments.CachedFrag.into_names.Goals as goal
+
+pub returns-clause-names : goal.returns-clause-names
+returns-clause-names c = search rules
+
+pub returns-clause-entries : goal.returns-clause-entries
+returns-clause-entries c =
+    subst AreEntries (sym (returns-clause-names c))
+    (subst (λ (f : Cached). AreEntries (shown f)) c.self.view_is (shown_entries c.self.inside.base (contents key_cmp c.self.inside.clean) (contents key_cmp c.self.inside.dirty) c.self.invariant.based c.self.invariant.entries c.self.invariant.dirty))
