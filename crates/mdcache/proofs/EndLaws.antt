@@ -1,37 +1,32 @@
 -- What the end of a commit keeps.
-use Rattle.std.proofs.Common.{◌≡◌, ◌⊎◌, inl, inr, ℕ, ◌<◌, Bool, true, false, cond, not, ◌&&◌, List, [], Option, Some, None, refl, sym, ap, subst, ◌∙◌, arith}
+use Rattle.std.proofs.Common.{◌≡◌, inl, ℕ, ◌<◌, Bool, true, false, cond, not, List, Option, Some, None, refl, sym, ap, subst, ◌∙◌, arith}
 use Rattle.std.specs.Prelude.{◌==◌, is_some}
-use Rattle.std.specs.Option.{unwrap_or}
 use Rattle.std.proofs.lemmas.Bool.Decides.{nat_tests}
 use Rattle.std.specs.Ordering.{eq_by_cmp}
 use Rattle.std.specs.FinMap as map
 use Rattle.std.specs.FinMap.{empty_of_len}
 use Rattle.sorted_map.proofs.OverlayLaws.{none_entries}
-use Rattle.sorted_map.specs.Bools.{first_true, second_true}
 use Rattle.mds_types.specs.declared.inodes.Inode.{Inode}
 use Rattle.inode_table.specs.TreeTable.{IsTabled}
 use Rattle.omap.specs.Omap.{Omap, key_cmp}
-use Rattle.omap.specs.Writes.{applied}
-use Rattle.objstore.specs.Objects.{Objects, written}
+use Rattle.objstore.specs.Objects.{written}
 use Rattle.dirfrag_codec.specs.FragmentObject.{Names, SpellsFragment}
 use Rattle.dirfrag_codec.proofs.FragmentLaws.{spells_what_it_shows}
 use Rattle.commit_jobs.specs.declared.bases.Base.{Base}
 use Rattle.commit_jobs.specs.declared.bases.Base.TheVariants.{Fresh, Stored}
 use Rattle.commit_jobs.specs.declared.jobs.Job.{Job}
-use Rattle.commit_jobs.specs.declared.marks.Mark.{Mark}
-use Rattle.commit_jobs.specs.Commit.{write_of}
 use Rattle.commit_jobs.specs.Marks.{Marks, patched, with_marks}
-use Rattle.commit_jobs.specs.Snap.{Snap, is_fresh, next_version}
+use Rattle.commit_jobs.specs.Snap.{Snap, next_version}
 use Rattle.cached_frag.specs.Cached.{Cached, is_clean, is_clean_over, is_settled, shown, shown_over, unsettled}
 use Rattle.cached_frag.proofs.SettledLaws.{get-unsettled}
 use Rattle.dentry_cache.specs.Cache.{Held, Leaf, Unsaved, cached, held, leaf_is, unsaved, unsaved_of, used_as, with_unsaved}
 use Rattle.dentry_cache.specs.Commits.{IsCommitted}
 use Rattle.dentry_cache.specs.Loading.{object_of}
-use Rattle.dentry_cache.specs.Ties.{AreTied, Commits, IsRight, IsTied, names_at, object_after}
+use Rattle.dentry_cache.specs.Ties.{Commits, IsRight, IsTied, Keeps, names_at, object_after}
 use Rattle.dentry_cache.proofs.LeafLaws.{flips, leaf_itself, one_leaf, same_leaf}
 use Rattle.dentry_cache.proofs.TieLaws.{committed_are_tied, tied_show}
 use Rattle.mdcache.specs.Cached.{IsKept}
-use Rattle.mdcache.specs.Commits.{HasSpelled, IsEnded, committed, leaf_of, left_of, names_then, stored_with}
+use Rattle.mdcache.specs.Commits.{HasSpelled, IsEnded, committed, leaf_of, left_of, names_then}
 use Rattle.mdcache.specs.Shown.{names_of, shown_at, shown_tree}
 use Rattle.mdcache.specs.Sound.{AreYoung, IsOf, IsOwned, IsSaved, IsSound, IsStanding, IsUnsaved}
 use Rattle.mdcache.specs.State.{IsLive, State, text_of}
@@ -42,7 +37,7 @@ use Rattle.mdcache.proofs.TreeLaws.{tree_alike}
 
 -- ---- what is clean shows what its object has
 
-nothing_patched : (names : Names) (marks : Marks) → map.len marks ≡ 0 → patched names marks ≡ names
+pub nothing_patched : (names : Names) (marks : Marks) → map.len marks ≡ 0 → patched names marks ≡ names
 unfolding patched
 nothing_patched names marks none = ap (λ es. with_marks names es) (none_entries marks (empty_of_len marks none))
 
@@ -65,22 +60,22 @@ cached_shows f object tie = go (is_clean f) refl
 
 module _ (s : State) (job : Job) (old : Held) (kept : IsKept s old) (view : s.unsaved ≡ unsaved old.entries) (stood : map.get s.jobs (leaf_of job) ≡ Some job)
     (f now : Cached) (there : cached old.entries (leaf_of job) ≡ Some f) (done : IsCommitted job.snapshot f now) where
-  leaf : Leaf
+  abbrev pub leaf : Leaf
   leaf = leaf_of job
 
-  snap : Snap
+  abbrev pub snap : Snap
   snap = job.snapshot
 
-  object : Option Omap
+  abbrev pub object : Option Omap
   object = object_of s.objects job.ino job.frag
 
-  here : Omap
+  abbrev pub here : Omap
   here = object_after snap object
 
-  stands : IsStanding s leaf job
+  abbrev pub stands : IsStanding s leaf job
   stands = kept.sound.standing leaf job stood
 
-  u : Unsaved
+  abbrev pub u : Unsaved
   u = stands.unsaved
 
   was_there : map.get (unsaved old.entries) leaf ≡ Some u
@@ -98,12 +93,12 @@ module _ (s : State) (job : Job) (old : Held) (kept : IsKept s old) (view : s.un
   commits : Commits snap f object
   commits =
       let o = stands.taken in
-      record { valid = o.valid; based = o.base ∙ ap (λ (v : Unsaved). v.base) its_own; keeps = subst (λ (v : Unsaved). _) its_own o.keeps; counted = o.counted }
+      record { valid = o.valid; based = o.base ∙ ap (λ (v : Unsaved). v.base) its_own; keeps = subst (λ (v : Unsaved). Keeps v.dirty snap.names) its_own o.keeps; counted = o.counted }
 
   right : IsRight snap now object
   right = committed_are_tied snap f now object tie commits done
 
-  t : State
+  abbrev pub t : State
   t = committed s job u
 
   live : IsLive s.homes s.covers leaf
@@ -188,15 +183,15 @@ module _ (s : State) (job : Job) (old : Held) (kept : IsKept s old) (view : s.un
   spells : SpellsFragment here (next_version snap.base) (names_then snap object)
   spells = right.spelled
 
-  saved_here : map.get t.unsaved leaf ≡ None → IsSaved leaf.1 (Some here)
-  saved_here clean = (next_version snap.base, names_then snap object, spells, λ name inode has. (kept.sound.placed leaf name inode live (told name inode has)).contains)
-    where
-      its_names : names_of t.unsaved t.objects leaf ≡ names_at (Some here)
-      unfolding names_of
-      its_names = λ i. shown_at (clean i) (object_here i)
+  names_if_clean : map.get t.unsaved leaf ≡ None → names_of t.unsaved t.objects leaf ≡ names_at (Some here)
+  unfolding names_of
+  names_if_clean clean = λ i. shown_at (clean i) (object_here i)
 
+  saved_here : map.get t.unsaved leaf ≡ None → IsSaved leaf.1 (Some here)
+  saved_here clean = (next_version snap.base, names_then snap object, (spells, λ name inode has. (kept.sound.placed leaf name inode live (told name inode has)).contains))
+    where
       told : (name : List ℕ) (inode : Inode) → map.get (names_then snap object) name ≡ Some inode → map.get (names_of s.unsaved s.objects leaf) name ≡ Some inode
-      told name inode has = ap (λ (n : Names). map.get n name) (sym shows_here ∙ its_names ∙ sym (spells_what_it_shows here (next_version snap.base) (names_then snap object) spells)) ∙ has
+      told name inode has = ap (λ (n : Names). map.get n name) (sym shows_here ∙ names_if_clean clean ∙ sym (spells_what_it_shows here (next_version snap.base) (names_then snap object) spells)) ∙ has
 
   saved_stays : (q : Leaf) → IsLive s.homes s.covers q → map.get t.unsaved q ≡ None → IsSaved q.1 (object_of t.objects q.0 q.1)
   saved_stays q is clean = go (leaf_is q leaf) refl

@@ -1,36 +1,35 @@
 -- The state over an empty store is sound.
-use Rattle.std.proofs.Common.{◌≡◌, ℕ, ◌+◌, ◌<◌, zero, suc, ◌==◌, ◌||◌, Bool, true, false, cond, List, [], ◌∷◌, ◌++◌, length, Option, Some, None, refl, sym, ap, subst, ◌∙◌, arith}
-use Rattle.std.specs.Prelude.{filter, is_some, map as each, take}
+use Rattle.std.proofs.Common.{◌≡◌, ℕ, zero, suc, ◌==◌, ◌||◌, Bool, true, false, cond, [], ◌∷◌, ◌++◌, Option, Some, None, refl, sym, ap, subst, ◌∙◌, arith}
+use Rattle.std.specs.Prelude.{is_some, map as each}
 use Rattle.std.specs.List.{Contains}
 use Rattle.std.proofs.lemmas.Bool.{eqb-true}
 use Rattle.std.specs.Ordering.{nat_cmp}
 use Rattle.std.specs.FinMap as map
-use Rattle.std.specs.FinMap.{empty_of_len, get-empty, get-from_entries, len-empty, len-entries, same_map}
+use Rattle.std.specs.FinMap.{get-empty, get-from_entries, len-empty, same_map}
 use Rattle.sorted_map.proofs.OverlayLaws.{none_entries}
-use Rattle.mds_types.specs.declared.inodes.Inode.{Inode}
-use Rattle.mds_types.specs.Frag.{Fragment, root_fragment}
-use Rattle.mds_types.specs.Tree.{Tree, dentry_cmp}
+use Rattle.mds_types.specs.Frag.{root_fragment}
+use Rattle.mds_types.specs.Tree.{dentry_cmp}
 use Rattle.mds_types.specs.OrderLaws.{dentry-exact, dentry-total}
 use Rattle.omap.specs.Omap.{Omap, key_cmp}
-use Rattle.objstore.specs.Objects.{Objects, first_names, names_after}
-use Rattle.mds_types.specs.Step.{is_after}
+use Rattle.objstore.specs.Objects.{Objects}
 use Rattle.dirfrag_codec.specs.FragmentObject.{Names}
-use Rattle.commit_jobs.specs.declared.jobs.Job.{Job}
 use Rattle.commit_jobs.specs.declared.marks.Mark.{Mark}
 use Rattle.cached_frag.specs.Cached.{Cached}
 use Rattle.dentry_cache.specs.Cache.{Held, Leaf, Places, Unsaved, cached, fragment_in, held, leaf_is, unsaved}
 use Rattle.dentry_cache.specs.Ties.{IsTied}
 use Rattle.dentry_cache.specs.Loading.{object_of}
-use Rattle.dentry_cache.proofs.LeafLaws.{leaf-total, leaf_itself, one_leaf}
-use Rattle.inode_table.specs.Dirs.{Covers, Homes, IsTable, is_known, leaves_of, or_whole}
+use Rattle.dentry_cache.proofs.LeafLaws.{leaf_itself, one_leaf}
+use Rattle.inode_table.specs.Dirs.{Covers, Homes, IsTable, Table, is_known, leaves_of, or_whole}
 use Rattle.inode_table.specs.TreeTable.{IsTabled}
 use Rattle.inode_table.proofs.TableLaws.{empty_tabled}
-use Rattle.standing_jobs.specs.StandingJobs.{leaf_cmp}
+use Rattle.standing_jobs.specs.StandingJobs.{Standing, leaf_cmp}
+use Rattle.purge_list.specs.PurgeList.{Listed}
+use Rattle.mdcache.specs.declared.mdcache.Counters.{Counters}
 use Rattle.lru.specs.LruCache.{lru_cache}
-use Rattle.mdcache.specs.Cached.{IsKept}
+use Rattle.mdcache.specs.Cached.{IsKept, state_of}
 use Rattle.mdcache.specs.New.{cached_root, new_root, new_state, root_leaf}
 use Rattle.mdcache.specs.Shown.{directories, entries_in, entries_of, entries_under, names_of, shown_at, shown_tree, tree_of}
-use Rattle.mdcache.specs.Sound.{IsSound, IsStanding, IsUnsaved}
+use Rattle.mdcache.specs.Sound.{IsSound, IsUnsaved}
 use Rattle.mdcache.specs.State.{IsLive, State, text_of}
 use Rattle.mdcache.proofs.CachedLaws.{get_with}
 use Rattle.mdcache.proofs.EndLaws.{nothing_patched}
@@ -147,15 +146,22 @@ pub new_unsaved : unsaved new_places ≡ new_state.unsaved
 unfolding unsaved
 new_unsaved = refl
 
--- a store whose first page of names is empty has no object
-pub none_stored : (objects : Objects) → length (first_names 1 (names_after objects None)).names ≡ 0 → objects ≡ map.empty
-unfolding names_after
-none_stored objects none = empty_of_len objects (len-entries objects ∙ go (map.entries objects) none)
-  where
-    go : (es : List (List ℕ × Omap)) → length (take 1 (each (λ e. e.0) (filter (λ e. is_after None e.0) es))) ≡ 0 → length es ≡ 0
-    go [] h = refl
-    go (e ∷ es) h = absurd (omega (arith, h))
+-- the parts of a new tree are those of the new state
+module _ (dirs : Table) (cache : Held) (objects : Objects) (jobs : Standing) (purge : Listed) (next : Counters) (places : ℕ)
+    (homes : dirs.homes ≡ map.empty) (trees : dirs.trees ≡ map.empty) (is : cache ≡ lru_cache new_places places) (none : objects ≡ map.empty)
+    (no_jobs : jobs ≡ record { jobs = map.empty; room = 0 }) (no_purge : purge ≡ record { names = map.empty; room = 0 }) (first_numbers : next ≡ record { job = 1; generation = 2; version = 1 }) where
+  pub new_is : state_of dirs cache objects jobs purge next ≡ new_state
+  new_is = (λ i. record {
+    homes = homes i;
+    covers = trees i;
+    unsaved = unsaved (is i).entries;
+    objects = none i;
+    jobs = (no_jobs i).jobs;
+    purge = (no_purge i).names;
+    next_job = (first_numbers i).job;
+    next_generation = (first_numbers i).generation;
+    next_version = (first_numbers i).version;
+  }) ∙ (λ i. record new_state { unsaved = new_unsaved i })
 
-pub some_stored : (objects : Objects) → (length (first_names 1 (names_after objects None)).names ≡ 0 → ⊥) → objects ≡ map.empty → ⊥
-unfolding names_after
-some_stored objects some none = some (ap (λ es. length (take 1 (each (λ (e : List ℕ × Omap). e.0) (filter (λ e. is_after None e.0) es)))) (none_entries objects none))
+  pub new_is_kept : IsKept (state_of dirs cache objects jobs purge next) cache
+  new_is_kept = subst (λ (h : Held). IsKept (state_of dirs cache objects jobs purge next) h) (sym is) (subst (λ (s : State). IsKept s (lru_cache new_places places)) (sym new_is) (new_kept places))

@@ -1,16 +1,20 @@
 -- A purge and a commit of a directory's tree change no object of a live leaf.
-use Rattle.std.proofs.Common.{◌≡◌, ◌⊎◌, inl, inr, ℕ, Bool, true, false, cond, List, [], ◌∷◌, Option, Some, None, refl, sym, ap, subst, ◌∙◌}
+use Rattle.std.proofs.Common.{◌≡◌, ◌⊎◌, inl, inr, ℕ, Bool, true, false, cond, List, [], ◌∷◌, Option, Some, None, refl, sym, ap, ◌∙◌}
 use Rattle.std.specs.Prelude.{is_some, length, nat_lt, slice_get}
-use Rattle.std.specs.Option.{option_map}
+use Rattle.std.specs.Option.{option_map, unwrap_or}
 use Rattle.std.specs.Ordering.{eq_by_cmp}
 use Rattle.std.specs.FinMap as map
-use Rattle.std.specs.FinMap.{find, get-entries, same_map}
+use Rattle.std.specs.FinMap.{find, get-empty, get-entries, same_map}
 use Rattle.std.specs.Cmp.Lexicographic.{nat_list_cmp_total}
 use Rattle.std.proofs.lemmas.Map.Lookups.{exact_bytes}
 use Rattle.mds_types.specs.Frag.{Fragment}
 use Rattle.mds_types.specs.declared.ids.Ino.{Ino}
-use Rattle.omap.specs.Omap.{Keys, Omap, key_cmp}
-use Rattle.objstore.specs.Objects.{Objects}
+use Rattle.omap.specs.declared.write_ops.WriteOp.{WriteOp}
+use Rattle.omap.specs.Omap.{Keys, Omap, PairMap, empty_omap, key_cmp}
+use Rattle.omap.specs.WriteLaws.{applied-by-parts, overlaid-empty}
+use Rattle.sorted_map.specs.Laws.{get-without_keys}
+use Rattle.sorted_map.specs.Overlay.{without_keys}
+use Rattle.objstore.specs.Objects.{Objects, written}
 use Rattle.purge_list.specs.PurgeList.{first_name}
 use Rattle.dentry_cache.specs.Cache.{Held, Leaf}
 use Rattle.dentry_cache.specs.Loading.{object_of}
@@ -21,7 +25,7 @@ use Rattle.mdcache.specs.Shown.{shown_tree}
 use Rattle.mdcache.specs.Sound.{IsOwned, IsSound}
 use Rattle.mdcache.specs.State.{IsLive, State, text_of, tree_text}
 use Rattle.mdcache.proofs.SoundLaws.{other_objects, other_objects_kept, other_objects_tree}
-use Rattle.mdcache.proofs.TextLaws.{get_beside, get_gone, get_left, get_put, key_itself, no_tree_text, one_key}
+use Rattle.mdcache.proofs.TextLaws.{get_beside, get_gone, get_left, key_itself, no_tree_text, one_key}
 
 -- ---- the first name of a list
 
@@ -78,10 +82,10 @@ module _ (s : State) (name : List ℕ) (sound : IsSound s) (first : first_name s
 -- ---- the object of a directory's tree is written or removed
 
 module _ (s : State) (dir : Ino) (sound : IsSound s) (known : is_known s.homes dir.0 ≡ true) where
-  leaves : List Fragment
+  abbrev leaves : List Fragment
   leaves = leaves_of s.covers dir.0
 
-  objects : Objects
+  abbrev objects : Objects
   objects = with_tree_at s.objects (tree_text dir) leaves
 
   beside : (q : List ℕ) → (q ≡ tree_text dir → ⊥) → map.get objects q ≡ map.get s.objects q
@@ -108,10 +112,23 @@ module _ (s : State) (dir : Ino) (sound : IsSound s) (known : is_known s.homes d
   pub tree_saved_kept : (cache : Held) → IsKept s cache → IsKept (tree_saved s dir) cache
   tree_saved_kept cache kept = other_objects_kept s objects (map.remove s.purge (tree_text dir)) sound same_beside cache kept tree_saved_sound
 
--- an object that is there is put there again with no change
-pub put_again : (objects : Objects) (name : List ℕ) (object : Omap) → map.get objects name ≡ Some object → map.insert objects name object ≡ objects
-put_again objects name object there = same_map nat_list_cmp_total exact_bytes (map.insert objects name object) objects (λ q. go q (name_or_other name q))
+abbrev pub no_pairs : PairMap
+no_pairs = map.empty
+
+abbrev pub no_keys : Keys
+no_keys = map.empty
+
+nothing_left : without_keys no_pairs no_keys ≡ no_pairs
+nothing_left = same_map nat_list_cmp_total exact_bytes (without_keys no_pairs no_keys) no_pairs (λ q. get-without_keys exact_bytes no_pairs no_keys q ∙ none_at (map.contains_key no_keys q) q)
   where
-    go : (q : List ℕ) → (q ≡ name) ⊎ (q ≡ name → ⊥) → map.get (map.insert objects name object) q ≡ map.get objects q
-    go q (inl same) = ap (map.get (map.insert objects name object)) same ∙ get_put objects name object ∙ sym there ∙ ap (map.get objects) (sym same)
-    go q (inr apart) = get_beside objects name object q apart
+    none_at : (b : Bool) (q : List ℕ) → cond b None (map.get no_pairs q) ≡ map.get no_pairs q
+    none_at true q = sym (get-empty key_cmp q)
+    none_at false q = refl
+
+-- the write of a tree's object: its header, and no pairs
+pub tree_written : (objects : Objects) (name header : List ℕ) → written objects name (record { clear = true; header = Some header; set = no_pairs; remove = no_keys }) ≡ map.insert objects name (record { header = header; pairs = no_pairs })
+unfolding written
+tree_written objects name header =
+    let op : WriteOp = record { clear = true; header = Some header; set = no_pairs; remove = no_keys } in
+    let old : Omap = unwrap_or (map.get objects name) empty_omap in
+    ap (map.insert objects name) (sym (applied-by-parts op old header no_pairs refl (sym (ap (λ (pairs : PairMap). without_keys pairs no_keys) (overlaid-empty no_pairs) ∙ nothing_left))))

@@ -1,23 +1,21 @@
 -- What keeps a state sound.
-use Rattle.std.proofs.Common.{◌≡◌, ◌⊎◌, inl, inr, ℕ, suc, ◌<◌, ◌+◌, Bool, true, false, cond, List, Option, Some, None, refl, sym, ap, subst, ◌∙◌, arith}
+use Rattle.std.proofs.Common.{◌≡◌, ◌⊎◌, inl, inr, ℕ, Bool, true, false, cond, List, Some, None, refl, sym, ap, subst, ◌∙◌, arith}
 use Rattle.std.specs.Prelude.{is_some}
-use Rattle.std.specs.Ordering.{eq_by_cmp}
 use Rattle.std.specs.FinMap as map
 use Rattle.std.specs.FinMap.{get-insert, get-remove}
 use Rattle.inode_table.specs.TreeTable.{IsTabled}
-use Rattle.omap.specs.Omap.{Keys, Omap}
+use Rattle.omap.specs.Omap.{Keys}
 use Rattle.objstore.specs.Objects.{Objects}
 use Rattle.dirfrag_codec.specs.FragmentObject.{Names}
-use Rattle.cached_frag.specs.Cached.{Cached}
 use Rattle.commit_jobs.specs.declared.jobs.Job.{Job}
-use Rattle.dentry_cache.specs.Cache.{Held, Leaf, Unsaved, cached, leaf_cmp, leaf_is}
+use Rattle.dentry_cache.specs.Cache.{Held, Leaf, Unsaved, leaf_is}
 use Rattle.dentry_cache.specs.Loading.{object_of}
-use Rattle.dentry_cache.specs.Ties.{AreTied, IsTied}
-use Rattle.dentry_cache.proofs.LeafLaws.{leaf-total, leaf_itself, one_leaf, tied_leaf}
+use Rattle.dentry_cache.specs.Ties.{IsTied}
+use Rattle.dentry_cache.proofs.LeafLaws.{leaf-total, one_leaf, tied_leaf}
 use Rattle.mdcache.specs.Cached.{IsKept}
 use Rattle.mdcache.specs.Commits.{leaf_of, with_job}
-use Rattle.mdcache.specs.Shown.{names_of, shown_at, shown_tree, tree_of}
-use Rattle.mdcache.specs.Sound.{AreYoung, IsOf, IsOwned, IsSaved, IsSound, IsStanding, IsUnsaved}
+use Rattle.mdcache.specs.Shown.{names_of, shown_at, shown_tree}
+use Rattle.mdcache.specs.Sound.{AreYoung, IsOf, IsOwned, IsSaved, IsSound, IsStanding}
 use Rattle.mdcache.specs.State.{IsLive, State, text_of}
 use Rattle.mdcache.proofs.TreeLaws.{tree_alike}
 
@@ -30,7 +28,7 @@ names_alike s t leaf unsaved object = λ i. shown_at (unsaved i) (object i)
 -- ---- objects change that no live leaf has
 
 module _ (s : State) (objects : Objects) (purge : Keys) (sound : IsSound s) where
-  now : State
+  abbrev pub now : State
   now = record s { objects = objects; purge = purge }
 
   module _ (same : (leaf : Leaf) → IsLive s.homes s.covers leaf → object_of objects leaf.0 leaf.1 ≡ object_of s.objects leaf.0 leaf.1) where
@@ -103,7 +101,7 @@ dropped_sound s leaf sound = record {
 
 module _ (s : State) (job : Job) (u : Unsaved) (sound : IsSound s) (beside : map.get s.unsaved (leaf_of job) ≡ Some u) (number : job.number ≡ s.next_job)
     (young : AreYoung job.snapshot.names s.next_version) (taken : IsOf job u (object_of s.objects job.ino job.frag)) where
-  begun : State
+  abbrev pub begun : State
   begun = with_job s job
 
   begun_or_before : (q : Leaf) (i : Job) → map.get begun.jobs q ≡ Some i → ((q ≡ leaf_of job) × (job ≡ i)) ⊎ (map.get s.jobs q ≡ Some i)

@@ -1,5 +1,5 @@
 -- No two objects of leaves and trees have one name.
-use Rattle.std.proofs.Common.{◌≡◌, ℕ, ◌<◌, ◌^◌, Bool, true, false, cond, List, [], ◌∷◌, Option, Some, None, refl, sym, ap, ◌∙◌, arith}
+use Rattle.std.proofs.Common.{◌≡◌, ℕ, Bool, true, false, cond, List, [], ◌∷◌, Option, Some, None, refl, ap, ◌∙◌, arith}
 use Rattle.std.specs.declared.cmp.Ordering.{Ordering}
 use Rattle.std.specs.declared.cmp.Ordering.TheVariants.{Less, Equal, Greater}
 use Rattle.std.specs.Ordering.{eq_by_cmp, is_eq}
@@ -13,7 +13,7 @@ use Rattle.mds_types.specs.ObjectTextLaws.{texts_differ}
 use Rattle.mds_types.specs.declared.ids.Ino.{Ino}
 use Rattle.mds_types.specs.declared.object_names.ObjName.{ObjName}
 use Rattle.mds_types.specs.declared.object_names.ObjName.TheVariants.{Frag, Tree}
-use Rattle.fragtree.specs.FragTree.{IsTree, HasLeaf}
+use Rattle.fragtree.specs.FragTree.{IsTree}
 use Rattle.fragtree.proofs.Tilings.{between}
 use Rattle.omap.specs.Omap.{key_cmp}
 use Rattle.dentry_cache.specs.Cache.{Leaf}
@@ -70,11 +70,11 @@ tree_of_row homes covers table d = go (map.get covers d) refl
     go None is = whole_is_tree
     go (Some leaves) is = table.covers d leaves is
 
-leaf_in : ObjName → Leaf
+abbrev leaf_in : ObjName → Leaf
 leaf_in (Frag dir f) = (dir, f)
 leaf_in (Tree dir) = (dir, root_fragment)
 
-is_tree : ObjName → Bool
+abbrev is_tree : ObjName → Bool
 is_tree (Frag dir f) = false
 is_tree (Tree dir) = true
 

@@ -1,5 +1,5 @@
 -- What the calls about commits do: one begins, one ends, one is dropped.
-use Rattle.std.specs.Prelude.{◌≡◌, ◌⊎◌, ℕ, suc, ◌-◌, ◌^◌, ◌<◌, Bool, true, false, cond, ◌==◌, is_some, List, Option, Some, None, Result, Ok, Err}
+use Rattle.std.specs.Prelude.{◌≡◌, ◌⊎◌, ℕ, ◌+◌, ◌-◌, ◌^◌, true, cond, ◌==◌, is_some, Option, Some, None, Result, Ok, Err}
 use Rattle.std.specs.FinMap as map
 use Rattle.mds_types.specs.declared.refusals.Refusal.{Refusal}
 use Rattle.mds_types.specs.declared.refusals.Refusal.TheVariants.{NoInodes, NoMemory, NoSuchFrag, JobOutstanding, StaleJob}
@@ -36,7 +36,7 @@ leaf_of job = (job.ino, job.frag)
 
 -- the job stands, and its number is taken
 abbrev pub with_job : State → Job → State
-with_job s job = record s { jobs = map.insert s.jobs (leaf_of job) job; next_job = suc s.next_job }
+with_job s job = record s { jobs = map.insert s.jobs (leaf_of job) job; next_job = s.next_job + 1 }
 
 -- no number is left for a job, or none for the version that its commit would write
 abbrev pub IsAtEnd : ℕ → Base → Type 0
@@ -58,7 +58,7 @@ MayNotBegin s leaf reason =
     ((reason ≡ NoSuchFrag) × (IsLive s.homes s.covers leaf → ⊥))
     ⊎ ((reason ≡ JobOutstanding) × IsLive s.homes s.covers leaf × (is_some (map.get s.jobs leaf) ≡ true))
     ⊎ (IsLive s.homes s.covers leaf × (map.get s.jobs leaf ≡ None) × (u : Unsaved) × (map.get s.unsaved leaf ≡ Some u)
-        × (((reason ≡ NoInodes) × LacksNumber s u) ⊎ ((reason ≡ NoMemory) × (LacksNumber s u → ⊥))))
+    × (((reason ≡ NoInodes) × LacksNumber s u) ⊎ ((reason ≡ NoMemory) × (LacksNumber s u → ⊥))))
 
 abbrev pub Begins : (old new : State) → Leaf → Result (Option Job) Refusal → Type 0
 Begins old new leaf (Ok job) = IsLive old.homes old.covers leaf × (map.get old.jobs leaf ≡ None) × BeginsWith old new leaf (map.get old.unsaved leaf) job

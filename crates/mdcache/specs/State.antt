@@ -1,7 +1,6 @@
 -- What contracts see of the tree over caches and a store.
-use Rattle.std.specs.Prelude.{◌≡◌, ℕ, true, List, Option}
+use Rattle.std.specs.Prelude.{◌≡◌, ℕ, true, List}
 use Rattle.std.specs.FinMap as map
-use Rattle.mds_types.specs.Frag.{Fragment}
 use Rattle.mds_types.specs.ObjectText.{object_text}
 use Rattle.mds_types.specs.declared.ids.Ino.{Ino}
 use Rattle.mds_types.specs.declared.object_names.ObjName.TheVariants.{Tree as TreeOf}

@@ -3,7 +3,7 @@ ghost use Rattle.std.specs.Prelude.{◌≡◌, ◌-◌, ◌<◌, ◌^◌, false,
 ghost use Rattle.std.specs.Option.{option_map};
 ghost use Rattle.std.specs.FinMap as map;
 ghost use Rattle.mds_types.specs.declared.refusals.Refusal.TheVariants.{NoInodes, NoMemory};
-ghost use Rattle.commit_jobs.specs.Snap.{IsBelowEnd};
+ghost use Rattle.commit_jobs.specs.Snap.{IsBelowEnd, IsSnap};
 ghost use Rattle.cached_frag.specs.Cached.{Cached, is_clean, snapshot_of};
 ghost use Rattle.dentry_cache.specs.Cache.{HasCached, Unsaved, cached, unsaved as unsaved_in};
 ghost use Rattle.mdcache.specs.Cached.{KeepsCached};
@@ -36,17 +36,23 @@ impl<S: Store + Drop> MdCache<S> {
         let Some((base, generation)) = unsaved(&self.cache, dir, frag) else {
             return Ok(None);
         };
-        check_numbers(self.next.job, base)?;
-        let job = begin_in(
+        if let Err(refusal) = check_numbers(self.next.job, base) {
+            return Err(refusal);
+        }
+        match begin_in(
             &mut self.cache,
             &mut self.jobs,
             self.next.job,
             dir,
             frag,
             generation,
-        )?;
-        self.next.job += 1;
-        Ok(Some(job))
+        ) {
+            Err(refusal) => Err(refusal),
+            Ok(job) => {
+                self.next.job += 1;
+                Ok(Some(job))
+            }
+        }
     }
 }
 
@@ -83,6 +89,7 @@ fn begin_in(
     requires { HasCached (cached cache.old.entries (dir, frag)) (λ (f : Cached). (is_clean f ≡ false) × IsBelowEnd f.base × (generation ≡ f.generation)) }
     ensures taken { IfOk result (λ job. HasCached (cached cache.old.entries (dir, frag)) (λ (f : Cached). job ≡ record { number = number; ino = dir; frag = frag; generation = f.generation; snapshot = snapshot_of f })) }
     ensures stands { IfOk result (λ job. jobs.new.jobs ≡ map.insert jobs.old.jobs (dir, frag) job) }
+    ensures valid { IfOk result (λ job. IsSnap job.snapshot) }
     ensures err { IfErr result (λ reason. reason ≡ NoMemory) }
     ensures left { OnErr result (jobs.new.jobs ≡ jobs.old.jobs) }
     ensures cached { KeepsCached cache.old cache.new }
@@ -90,6 +97,8 @@ fn begin_in(
     let Some(snapshot) = cache.begin_commit(dir, frag)? else {
         unreachable!()
     };
+    // The contract of `base` is what says here that it is a snapshot.
+    let _ = snapshot.base();
     jobs.reserve(1)?;
     let job = Job {
         number,

@@ -16,8 +16,8 @@ impl<S: Store + Drop> MdCache<S> {
         ensures faults { self.new.faults ≡ self.old.faults }
     {
         match self.jobs.leaf_of(number) {
-            Some((dir, frag)) => {
-                self.jobs.end(dir, frag);
+            Some(leaf) => {
+                self.jobs.end(leaf.0, leaf.1);
                 Ok(())
             }
             None => Err(Refusal::StaleJob),

@@ -1,11 +1,10 @@
 //! A tree over a store that has no object.
-ghost use Rattle.std.specs.Prelude.{◌≡◌, ◌≤◌, ◌⊎◌, ◌∷◌, [], ◌↔◌, IsTrue, IfOk, IfErr, OnOk};
+ghost use Rattle.std.specs.Prelude.{◌≡◌, ◌≤◌, ◌∷◌, [], IfOk, IfErr};
 ghost use Rattle.std.specs.FinMap as map;
 ghost use Rattle.lru.specs.LruCache.{lru_cache};
 ghost use Rattle.mds_types.specs.declared.refusals.Refusal.TheVariants.{NoMemory};
-ghost use Rattle.objstore.specs.Objects.{MayRefuse};
 ghost use Rattle.dentry_cache.specs.Cache.{held};
-ghost use Rattle.mdcache.specs.New.{MayNotFormat, cached_root, new_state, root_leaf};
+ghost use Rattle.mdcache.specs.New.{cached_root, new_state, root_leaf};
 
 use crate::mdcache::{Counters, MdCache};
 use cached_frag::CachedFrag;
@@ -19,19 +18,17 @@ use std::alloc::Global;
 
 impl<S: Store + Drop> MdCache<S> {
     /// The empty tree over a store that has no object, with a cache of so many places. The root's leaf `*` is the first
-    /// fragment made; it is cached, and no object counts for it. Takes little memory.
-    ///
-    /// Refused `NotClean` exactly where the store has an object, otherwise as the store refuses a call, and `NoMemory`; the
-    /// store is handed back.
-    pub fn format(alloc: Global, mut store: S, places: usize) -> Result<MdCache<S>, (Refusal, S)>
+    /// fragment made; it is cached, and no object counts for it. Takes little memory; where that is refused the store is
+    /// handed back as it was.
+    pub fn new(alloc: Global, store: S, places: usize) -> Result<MdCache<S>, S>
         requires few { 512 ≤ places }
         requires many { places ≤ 65536 }
-        ensures ok { IfOk result (λ m. (m.state ≡ new_state) × (m.cache ≡ lru_cache ((root_leaf, held cached_root) ∷ []) places)) }
-        ensures clean { OnOk result (S.objects store ≡ map.empty) }
-        ensures refused { IfErr result (λ e. MayNotFormat (S.objects store) (S.faults store) (S.faults e.1) e.0) }
-        ensures left { IfErr result (λ e. S.objects e.1 ≡ S.objects store) }
+        requires empty { S.objects store ≡ map.empty }
+        ensures state { IfOk result (λ m. m.state ≡ new_state) }
+        ensures cache { IfOk result (λ m. m.cache ≡ lru_cache ((root_leaf, held cached_root) ∷ []) places) }
+        ensures left { IfErr result (λ back. back ≡ store) }
     {
-        match new_cache(alloc, &mut store, places) {
+        match root_cache(alloc, places) {
             Ok(cache) => Ok(MdCache {
                 dirs: Dirs::new(alloc),
                 cache,
@@ -44,25 +41,9 @@ impl<S: Store + Drop> MdCache<S> {
                     version: 1,
                 },
             }),
-            Err(refusal) => Err((refusal, store)),
+            Err(_) => Err(store),
         }
     }
-}
-
-// The cache over a store that has no object.
-fn new_cache<S: Store>(alloc: Global, store: &mut S, places: usize) -> Result<Cache, Refusal>
-    requires few { 512 ≤ places }
-    requires many { places ≤ 65536 }
-    ensures ok { IfOk result (λ cache. cache ≡ lru_cache ((root_leaf, held cached_root) ∷ []) places) }
-    ensures clean { OnOk result (S.objects store.old ≡ map.empty) }
-    ensures refused { IfErr result (MayNotFormat (S.objects store.old) (S.faults store.old) (S.faults store.new)) }
-    ensures same { S.objects store.new ≡ S.objects store.old }
-{
-    let page = store.names_page(alloc, None, 1)?;
-    if !page.names().is_empty() {
-        return Err(Refusal::NotClean);
-    }
-    root_cache(alloc, places)
 }
 
 // A cache with the root's leaf alone.

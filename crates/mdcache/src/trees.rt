@@ -16,7 +16,7 @@ use std::alloc::Global;
 
 impl<S: Store + Drop> MdCache<S> {
     /// Makes the object of a directory's tree say what leaves the directory has: it is written, if there is more than one,
-    /// and removed otherwise; one that says so already is left. Its name leaves the purge list. Takes memory before it
+    /// and removed otherwise. Its name leaves the purge list. Takes memory before it
     /// writes.
     ///
     /// Refused `NoSuchFrag` exactly where there is no such directory; otherwise as the store refuses, and `NoMemory`.
@@ -55,32 +55,7 @@ fn save_tree<S: Store>(
         return store.remove(name);
     }
     let header = encode_tree(alloc, &tree)?;
-    if says(alloc, store, name, &header)? {
-        return Ok(());
-    }
     write_tree(alloc, store, name, header)
-}
-
-// Whether the object of this name has this header, and no pairs.
-fn says<S: Store>(
-    alloc: Global,
-    store: &mut S,
-    name: &str,
-    header: &[u8],
-) -> Result<bool, Refusal>
-    ensures so { IfOk result (λ so. IsTrue so → map.get (S.objects store.old) name.now ≡ Some (record { header = header.now; pairs = map.empty })) }
-    ensures same { S.objects store.new ≡ S.objects store.old }
-    ensures refused { IfErr result (MayRefuse (S.faults store.old) (S.faults store.new)) }
-    ensures grows { S.faults store.old ≤ S.faults store.new }
-{
-    match store.header(alloc, name)? {
-        Some(found) if found.as_slice() == header => {}
-        _ => return Ok(false),
-    }
-    match store.page(alloc, name, None, 1)? {
-        Some(page) => Ok(page.pairs().is_empty()),
-        None => Ok(false),
-    }
 }
 
 // Writes the object of this name: this header, and no pairs.
