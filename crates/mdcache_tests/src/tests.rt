@@ -1,4 +1,0 @@
-//! The tree over a cache and a store by hand-known answers.
-
-mod commits;
-mod lists;
