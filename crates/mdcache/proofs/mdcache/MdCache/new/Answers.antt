@@ -1,0 +1,9 @@
+use Rattle.std.proofs.Common.{refl}
+use Rattle.mdcache.proofs.NewLaws.{new_is, new_is_kept}
+use Rattle.mdcache.proofs.mdcache.MdCache.new.Goals as goal
+
+pub invariant_of-result : goal.invariant_of-result
+invariant_of-result g c = new_is_kept c.new.result c.in-Ok.cache (g.S.Store.objects c.args.store) c.new-in-Ok.result c.new-in-Ok-2.result (record { job = 1; generation = 2; version = 1 }) c.args.places c.new.ensures.homes c.new.ensures.trees c.in-Ok.ensures.ok c.requires.empty c.new-in-Ok.ensures c.new-in-Ok-2.ensures refl
+
+pub returns-in-Ok-clause-state : goal.returns-in-Ok-clause-state
+returns-in-Ok-clause-state g c = new_is c.new.result c.in-Ok.cache (g.S.Store.objects c.args.store) c.new-in-Ok.result c.new-in-Ok-2.result (record { job = 1; generation = 2; version = 1 }) c.args.places c.new.ensures.homes c.new.ensures.trees c.in-Ok.ensures.ok c.requires.empty c.new-in-Ok.ensures c.new-in-Ok-2.ensures refl

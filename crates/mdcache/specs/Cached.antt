@@ -1,0 +1,52 @@
+-- What stands beside the state: a refused step may change it, but for what the state has of it.
+use Rattle.std.specs.Prelude.{◌≡◌, ℕ, Option, Some, None}
+use Rattle.cached_frag.specs.Cached.{Cached}
+use Rattle.objstore.specs.Objects.{Objects}
+use Rattle.dentry_cache.specs.Cache.{Held, Leaf, Places, cached, unsaved}
+use Rattle.dentry_cache.specs.Ties.{AreTied}
+use Rattle.inode_table.specs.Dirs.{Covers, Homes, Table}
+use Rattle.purge_list.specs.PurgeList.{Listed}
+use Rattle.standing_jobs.specs.StandingJobs.{Standing}
+use Rattle.mdcache.specs.declared.mdcache.Counters.{Counters}
+use Rattle.mdcache.specs.Sound.{IsSound}
+use Rattle.mdcache.specs.State.{IsLive, State}
+
+-- the state, the places of the cache in the order of their use, and how many faults the store had
+pub record Core : Type 0 where
+  pub state : State
+  pub cache : Held
+  pub faults : ℕ
+
+abbrev pub state_of : Table → Held → Objects → Standing → Listed → Counters → State
+state_of dirs cache objects jobs purge next = record {
+  homes = dirs.homes;
+  covers = dirs.trees;
+  unsaved = unsaved cache.entries;
+  objects = objects;
+  jobs = jobs.jobs;
+  purge = purge.names;
+  next_job = next.job;
+  next_generation = next.generation;
+  next_version = next.version;
+}
+
+-- each cached fragment is a live leaf
+abbrev pub AreLive : Homes → Covers → Places → Type 0
+AreLive homes covers places = (leaf : Leaf) (f : Cached) → cached places leaf ≡ Some f → IsLive homes covers leaf
+
+-- the state is sound, and each cached fragment is a live leaf and is tied to its object
+pub record IsKept (state : State) (cache : Held) : Type 0 where
+  pub sound : IsSound state
+  pub live : AreLive state.homes state.covers cache.entries
+  pub tied : AreTied cache.entries state.objects
+
+-- what is cached of a leaf stays, but for the room that it has
+abbrev pub IsSameBut : Option Cached → Option Cached → Type 0
+IsSameBut None None = Unit {0}
+IsSameBut None (Some g) = ⊥
+IsSameBut (Some f) None = ⊥
+IsSameBut (Some f) (Some g) = g ≡ record f { room = g.room; places = g.places }
+
+-- what is cached of each leaf stays, whatever the order of use
+abbrev pub KeepsCached : Held → Held → Type 0
+KeepsCached old new = (leaf : Leaf) → IsSameBut (cached old.entries leaf) (cached new.entries leaf)

@@ -1,0 +1,7 @@
+pub mod Cached
+pub mod Commits
+pub mod New
+pub mod Objects
+pub mod Shown
+pub mod Sound
+pub mod State

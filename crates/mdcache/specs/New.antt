@@ -1,0 +1,32 @@
+-- The state over a store that has no object.
+use Rattle.std.specs.FinMap as map
+use Rattle.mds_types.specs.Frag.{root_fragment}
+use Rattle.commit_jobs.specs.declared.bases.Base.TheVariants.{Fresh}
+use Rattle.cached_frag.specs.Cached.{Cached}
+use Rattle.dentry_cache.specs.Cache.{Leaf, Unsaved}
+use Rattle.mdcache.specs.State.{State}
+
+-- the one leaf of the root directory
+abbrev pub root_leaf : Leaf
+root_leaf = (record { 0 = 1 }, root_fragment)
+
+-- it is the first fragment made, and has no names; no object counts for it
+abbrev pub new_root : Unsaved
+new_root = record { base = Fresh; generation = 1; dirty = map.empty }
+
+abbrev pub cached_root : Cached
+cached_root = record { base = Fresh; generation = 1; clean = map.empty; dirty = map.empty; room = 0; places = 0 }
+
+-- the root directory alone, and nothing begun
+abbrev pub new_state : State
+new_state = record {
+  homes = map.empty;
+  covers = map.empty;
+  unsaved = map.insert map.empty root_leaf new_root;
+  objects = map.empty;
+  jobs = map.empty;
+  purge = map.empty;
+  next_job = 1;
+  next_generation = 2;
+  next_version = 1;
+}

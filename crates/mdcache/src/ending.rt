@@ -1,0 +1,43 @@
+//! Commits end: what was encoded is written, and what it has is clean then.
+ghost use Rattle.std.specs.Prelude.{◌≡◌, ◌≤◌, ◌↔◌, IsTrue, Some};
+ghost use Rattle.std.specs.FinMap as map;
+ghost use Rattle.mdcache.specs.Commits.{Ends, leaf_of};
+
+use crate::mdcache::MdCache;
+use commit_jobs::{Encoded, Job};
+use mds_types::Refusal;
+use objstore::Store;
+use standing_jobs::StandingJobs;
+use std::alloc::Global;
+
+impl<S: Store + Drop> MdCache<S> {
+    /// Ends a commit: writes the object of its snapshot in one atomic operation. Exactly the names whose last change the
+    /// snapshot has are clean then, and the job is gone. Takes memory before it writes.
+    ///
+    /// Refused `StaleJob` exactly where no job of this number, fragment, generation and snapshot stands; otherwise as the
+    /// store refuses the write, and `NoMemory`: all stays dirty then, and the job stands.
+    pub fn end(&mut self, alloc: Global, encoded: &Encoded) -> Result<(), Refusal>
+        ensures ended { Ends self.old.state self.new.state self.old.faults self.new.faults encoded.now.job result }
+        ensures grows { self.old.faults ≤ self.new.faults }
+    {
+        let job = encoded.job();
+        if !stands(&self.jobs, job) {
+            return Err(Refusal::StaleJob);
+        }
+        if let Err(refusal) = self.cache.end_commit(alloc, &mut self.store, encoded) {
+            return Err(refusal);
+        }
+        self.jobs.end(job.ino, job.frag);
+        Ok(())
+    }
+}
+
+// Whether this very job stands.
+fn stands(jobs: &StandingJobs, job: &Job) -> bool
+    ensures { IsTrue result ↔ (map.get jobs.now.jobs (leaf_of job.now) ≡ Some job.now) }
+{
+    match jobs.get(job.ino, job.frag) {
+        Some(standing) => standing.same(job),
+        None => false,
+    }
+}

@@ -1,0 +1,62 @@
+//! A tree over a store that has no object.
+ghost use Rattle.std.specs.Prelude.{◌≡◌, ◌≤◌, ◌∷◌, [], IfOk, IfErr};
+ghost use Rattle.std.specs.FinMap as map;
+ghost use Rattle.lru.specs.LruCache.{lru_cache};
+ghost use Rattle.mds_types.specs.declared.refusals.Refusal.TheVariants.{NoMemory};
+ghost use Rattle.dentry_cache.specs.Cache.{held};
+ghost use Rattle.mdcache.specs.New.{cached_root, new_state, root_leaf};
+
+use crate::mdcache::{Counters, MdCache};
+use cached_frag::CachedFrag;
+use dentry_cache::Cache;
+use inode_table::Dirs;
+use mds_types::{Frag, Ino, Refusal};
+use objstore::Store;
+use purge_list::PurgeList;
+use standing_jobs::StandingJobs;
+use std::alloc::Global;
+
+impl<S: Store + Drop> MdCache<S> {
+    /// The empty tree over a store that has no object, with a cache of so many places. The root's leaf `*` is the first
+    /// fragment made; it is cached, and no object counts for it. Takes little memory; where that is refused the store is
+    /// handed back as it was.
+    pub fn new(alloc: Global, store: S, places: usize) -> Result<MdCache<S>, S>
+        requires few { 512 ≤ places }
+        requires many { places ≤ 65536 }
+        requires empty { S.objects store ≡ map.empty }
+        ensures state { IfOk result (λ m. m.state ≡ new_state) }
+        ensures cache { IfOk result (λ m. m.cache ≡ lru_cache ((root_leaf, held cached_root) ∷ []) places) }
+        ensures left { IfErr result (λ back. back ≡ store) }
+    {
+        match root_cache(alloc, places) {
+            Ok(cache) => Ok(MdCache {
+                dirs: Dirs::new(alloc),
+                cache,
+                store,
+                jobs: StandingJobs::new(alloc),
+                purge: PurgeList::new(alloc),
+                next: Counters {
+                    job: 1,
+                    generation: 2,
+                    version: 1,
+                },
+            }),
+            Err(_) => Err(store),
+        }
+    }
+}
+
+// A cache with the root's leaf alone.
+fn root_cache(alloc: Global, places: usize) -> Result<Cache, Refusal>
+    requires few { 512 ≤ places }
+    requires many { places ≤ 65536 }
+    ensures ok { IfOk result (λ cache. cache ≡ lru_cache ((root_leaf, held cached_root) ∷ []) places) }
+    ensures refused { IfErr result (λ reason. reason ≡ NoMemory) }
+{
+    let mut cache = Cache::new(alloc, places)?;
+    if cache.keep(alloc, Ino::ROOT, Frag::ROOT, None).is_err() {
+        return Err(Refusal::NoMemory);
+    }
+    cache.fill(Ino::ROOT, Frag::ROOT, CachedFrag::fresh(alloc, 1));
+    Ok(cache)
+}

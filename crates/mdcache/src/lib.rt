@@ -1,0 +1,16 @@
+//! The tree over caches and a store, CephFS's `MDCache`: which directories there are and which leaves they have, what the
+//! cache of fragments holds beyond the objects of the store, which commits were begun, and which objects are to be removed.
+//! What a leaf shows is what isn't clean of it over its object, so no fetch and no eviction changes the tree that is shown.
+#![tactic(auto)]
+
+mod beginning;
+mod dropping;
+mod ending;
+mod evicting;
+mod formatting;
+mod leaves;
+mod mdcache;
+mod purging;
+mod trees;
+
+pub use mdcache::MdCache;

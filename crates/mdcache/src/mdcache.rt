@@ -1,0 +1,53 @@
+//! `MdCache`, and what a contract sees of it.
+ghost use Rattle.std.specs.Prelude.{◌≡◌};
+
+use dentry_cache::Cache;
+use inode_table::Dirs;
+use objstore::Store;
+use purge_list::PurgeList;
+use standing_jobs::StandingJobs;
+use std::marker::Model;
+
+/// The numbers that the next job, the next fragment that is made and the next dirty name get.
+#[derive(Clone, Copy, Debug)]
+pub(crate) struct Counters {
+    pub(crate) job: u64,
+    pub(crate) generation: u64,
+    pub(crate) version: u64,
+}
+
+/// A directory table, a cache of fragments over a store, the commits that were begun, and the purge list.
+///
+/// Of each it holds that its state is sound, and that each cached fragment is a live leaf and tied to its object.
+#[derive(Drop)]
+pub struct MdCache<S: Store + Drop> {
+    pub(crate) dirs: Dirs,
+    pub(crate) cache: Cache,
+    pub(crate) store: S,
+    pub(crate) jobs: StandingJobs,
+    pub(crate) purge: PurgeList,
+    pub(crate) next: Counters,
+}
+
+impl<S: Store + Drop> Model for MdCache<S> {
+    ghost use Rattle.std.specs.Coded.{codes};
+    ghost use Rattle.std.specs.FinMap as map;
+    ghost use Rattle.mdcache.specs.Cached.{Core, IsKept, state_of};
+
+    ghost Value = { Core };
+
+    ghost coded = { Prim.hlevel (codes, map.code) };
+
+    ghost view = { λ m. record { state = state_of m.dirs m.cache (S.objects m.store) m.jobs m.purge m.next; cache = m.cache; faults = S.faults m.store } };
+
+    ghost invariant = { λ m. IsKept (state_of m.dirs m.cache (S.objects m.store) m.jobs m.purge m.next) m.cache };
+}
+
+impl<S: Store + Drop> MdCache<S> {
+    /// The store.
+    pub fn store(&self) -> &S
+        ensures { S.objects result.now ≡ self.now.state.objects }
+    {
+        &self.store
+    }
+}

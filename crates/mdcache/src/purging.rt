@@ -1,0 +1,29 @@
+//! Objects that nothing owns any more are removed, one by one.
+ghost use Rattle.std.specs.Prelude.{◌≡◌, ◌≤◌, OnOk, OnErr, IfErr};
+ghost use Rattle.objstore.specs.Objects.{MayRefuse};
+ghost use Rattle.mdcache.specs.Objects.{Purges};
+
+use crate::mdcache::MdCache;
+use mds_types::Refusal;
+use objstore::Store;
+use purge_list::PurgeList;
+
+impl<S: Store + Drop> MdCache<S> {
+    /// Removes the first object of the purge list from the store, and its name from the list. Where the list is empty there
+    /// is nothing to do. Takes no memory of its own.
+    ///
+    /// Refused as the store refuses; the name stays on the list then.
+    pub fn purge(&mut self) -> Result<(), Refusal>
+        ensures purged { Purges self.old.state self.new.state self.old.faults self.new.faults result }
+        ensures grows { self.old.faults ≤ self.new.faults }
+    {
+        let Some(name) = self.purge.first() else {
+            return Ok(());
+        };
+        if let Err(refusal) = self.store.remove(name) {
+            return Err(refusal);
+        }
+        self.purge.remove_first();
+        Ok(())
+    }
+}

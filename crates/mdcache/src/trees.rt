@@ -1,0 +1,77 @@
+//! The object of a directory's tree, written or removed.
+ghost use Rattle.std.specs.Prelude.{◌≡◌, ◌≤◌, true, IsTrue, Some, IfOk, OnOk, OnErr, IfErr, length};
+ghost use Rattle.std.specs.FinMap as map;
+ghost use Rattle.objstore.specs.Objects.{MayRefuse};
+ghost use Rattle.inode_table.specs.Dirs.{leaves_of};
+ghost use Rattle.dirfrag_codec.specs.TreeObject.{SpellsTree, tree_bytes};
+ghost use Rattle.mdcache.specs.Objects.{SavesTree, tree_object, with_tree_at};
+
+use crate::mdcache::MdCache;
+use dirfrag_codec::encode_tree;
+use inode_table::Dirs;
+use mds_types::{Ino, ObjName, Refusal};
+use objstore::Store;
+use omap::{Bytes, WriteOp};
+use std::alloc::Global;
+
+impl<S: Store + Drop> MdCache<S> {
+    /// Makes the object of a directory's tree say what leaves the directory has: it is written, if there is more than one,
+    /// and removed otherwise. Its name leaves the purge list. Takes memory before it
+    /// writes.
+    ///
+    /// Refused `NoSuchFrag` exactly where there is no such directory; otherwise as the store refuses, and `NoMemory`.
+    pub fn commit_tree(&mut self, alloc: Global, dir: Ino) -> Result<(), Refusal>
+        ensures saved { SavesTree self.old.state self.new.state self.old.faults self.new.faults dir result }
+        ensures grows { self.old.faults ≤ self.new.faults }
+    {
+        if !self.dirs.contains(dir) {
+            return Err(Refusal::NoSuchFrag);
+        }
+        let name = ObjName::Tree(dir);
+        let text = format!(in alloc; "{name}")?;
+        if let Err(refusal) = save_tree(alloc, &self.dirs, &mut self.store, dir, text.as_str()) {
+            return Err(refusal);
+        }
+        self.purge.remove(text.as_str());
+        Ok(())
+    }
+}
+
+// Makes the object of this name say what leaves a directory has.
+fn save_tree<S: Store>(
+    alloc: Global,
+    dirs: &Dirs,
+    store: &mut S,
+    dir: Ino,
+    name: &str,
+) -> Result<(), Refusal>
+    ensures saved { OnOk result (S.objects store.new ≡ with_tree_at (S.objects store.old) name.now (leaves_of dirs.now.trees dir.0)) }
+    ensures same { OnErr result (S.objects store.new ≡ S.objects store.old) }
+    ensures refused { IfErr result (MayRefuse (S.faults store.old) (S.faults store.new)) }
+    ensures grows { S.faults store.old ≤ S.faults store.new }
+{
+    let tree = dirs.tree(alloc, dir)?;
+    if tree.len() < 2 {
+        return store.remove(name);
+    }
+    let header = encode_tree(alloc, &tree)?;
+    write_tree(alloc, store, name, header)
+}
+
+// Writes the object of this name: this header, and no pairs.
+fn write_tree<S: Store>(
+    alloc: Global,
+    store: &mut S,
+    name: &str,
+    header: Vec<u8>,
+) -> Result<(), Refusal>
+    ensures written { OnOk result (S.objects store.new ≡ map.insert (S.objects store.old) name.now (record { header = header.items; pairs = map.empty })) }
+    ensures same { OnErr result (S.objects store.new ≡ S.objects store.old) }
+    ensures refused { IfErr result (MayRefuse (S.faults store.old) (S.faults store.new)) }
+    ensures grows { S.faults store.old ≤ S.faults store.new }
+{
+    let mut op = WriteOp::new(alloc);
+    op.clear = true;
+    op.header = Some(Bytes::from_vec(header));
+    store.apply(alloc, name, &op)
+}
