@@ -9,7 +9,8 @@ use Rattle.std.specs.FinMap.{get-empty, get-from_entries, len-empty, same_map}
 use Rattle.sorted_map.proofs.OverlayLaws.{none_entries}
 use Rattle.mds_types.specs.Frag.{root_fragment}
 use Rattle.mds_types.specs.Tree.{dentry_cmp}
-use Rattle.mds_types.specs.OrderLaws.{dentry-exact, dentry-total}
+use Rattle.mds_types.specs.OrderLaws.{dentry-exact}
+use Rattle.mds_types.proofs.OrderLaws.{dentry-total}
 use Rattle.omap.specs.Omap.{Omap, key_cmp}
 use Rattle.objstore.specs.Objects.{Objects}
 use Rattle.dirfrag_codec.specs.FragmentObject.{Names}

@@ -11,8 +11,8 @@ use Rattle.mds_types.specs.Frag.{Fragment}
 use Rattle.mds_types.specs.declared.ids.Ino.{Ino}
 use Rattle.omap.specs.declared.write_ops.WriteOp.{WriteOp}
 use Rattle.omap.specs.Omap.{Keys, Omap, PairMap, empty_omap, key_cmp}
-use Rattle.omap.specs.WriteLaws.{applied-by-parts, overlaid-empty}
-use Rattle.sorted_map.specs.Laws.{get-without_keys}
+use Rattle.omap.proofs.WriteLaws.{applied-by-parts, overlaid-empty}
+use Rattle.sorted_map.proofs.MapLaws.{get-without_keys}
 use Rattle.sorted_map.specs.Overlay.{without_keys}
 use Rattle.objstore.specs.Objects.{Objects, written}
 use Rattle.purge_list.specs.PurgeList.{first_name}

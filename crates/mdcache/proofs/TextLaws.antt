@@ -9,7 +9,7 @@ use Rattle.std.specs.FinMap.{get-insert, get-remove}
 use Rattle.std.proofs.lemmas.Map.Lookups.{exact_bytes}
 use Rattle.std.specs.Cmp.{tied_itself}
 use Rattle.mds_types.specs.Frag.{Fragment, IsFragment, root_fragment}
-use Rattle.mds_types.specs.ObjectTextLaws.{texts_differ}
+use Rattle.mds_types.proofs.ObjectTextLaws.{texts_differ}
 use Rattle.mds_types.specs.declared.ids.Ino.{Ino}
 use Rattle.mds_types.specs.declared.object_names.ObjName.{ObjName}
 use Rattle.mds_types.specs.declared.object_names.ObjName.TheVariants.{Frag, Tree}

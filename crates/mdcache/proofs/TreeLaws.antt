@@ -7,8 +7,8 @@ use Rattle.std.specs.Cmp.{unsigned_tied}
 use Rattle.std.specs.FinMap as finmap
 use Rattle.std.specs.FinMap.{contains_key-keys}
 use Rattle.mds_types.specs.Frag.{Fragment}
-use Rattle.sorted_map.specs.Bools.{or_cases, or_first, or_second}
-use Rattle.sorted_map.specs.NatKeys.{is_same}
+use Rattle.sorted_map.proofs.Bools.{or_cases, or_first, or_second}
+use Rattle.sorted_map.proofs.NatKeys.{is_same}
 use Rattle.dirfrag_codec.specs.FragmentObject.{Names}
 use Rattle.dentry_cache.specs.Cache.{Leaf}
 use Rattle.inode_table.specs.Dirs.{Covers, Homes, is_known, leaves_of}

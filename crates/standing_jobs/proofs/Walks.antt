@@ -8,10 +8,11 @@ use Rattle.std.specs.FinMap as map
 use Rattle.std.specs.FinMap.{IsAntisymmetric, entries_sorted, find, get-entries, is_sorted}
 use Rattle.std.proofs.lemmas.Map.Lookups.{exact_pairs}
 use Rattle.mds_types.specs.Frag.{Fragment, frag_cmp}
-use Rattle.mds_types.specs.OrderLaws.{frag-exact, frag-total, ino-exact}
-use Rattle.mds_types.specs.EntrySearch.{not_found_below}
+use Rattle.mds_types.specs.OrderLaws.{frag-exact, ino-exact}
+use Rattle.mds_types.proofs.OrderLaws.{frag-total}
+use Rattle.mds_types.proofs.EntrySearch.{not_found_below}
 use Rattle.mds_types.specs.declared.ids.Ino.{Ino}
-use Rattle.sorted_map.specs.Bools.{left_of, right_of}
+use Rattle.sorted_map.proofs.Bools.{left_of, right_of}
 use Rattle.commit_jobs.specs.declared.jobs.Job.{Job}
 use Rattle.standing_jobs.specs.StandingJobs.{Jobs, NoneHasNumber, leaf_cmp}
 
