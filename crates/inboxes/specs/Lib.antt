@@ -1,0 +1,3 @@
+pub mod Inbox
+pub mod Inboxes
+pub mod Pins
