@@ -1,7 +1,4 @@
 //! The examples of the formats, both ways, each of their bytes changed to every other, and what is off the formats.
-ghost use Rattle.dirfrag_codec.specs.EntryRecord.{IsRecordable};
-ghost use Rattle.std.specs.Prelude.{◌≤◌};
-
 use dirfrag_codec::{
     FragHeader, decode_entry, decode_header, decode_tree, encode_entry, encode_header, encode_tree,
     is_recordable,
@@ -44,145 +41,155 @@ enum Format {
     Tree,
 }
 
-// What is read from the bytes, written again; none, where they spell nothing.
-fn again(alloc: Global, format: Format, bytes: &[u8]) -> Result<Option<Vec<u8>>, AllocError> {
+/// What bytes spell: nothing, a value whose bytes they are or others; or memory was refused.
+#[derive(Clone, Copy, Debug, PartialEq, Eq)]
+enum Spell {
+    Nothing,
+    Value,
+    Other,
+    NoMemory,
+}
+
+// What bytes spell, by the bytes that are written for it.
+fn spelled(alloc: Global, format: Format, bytes: &[u8]) -> Spell {
     match format {
-        Format::Entry => entry_again(alloc, bytes),
-        Format::Header => header_again(alloc, bytes),
-        Format::Tree => tree_again(alloc, bytes),
+        Format::Entry => spell_entry(alloc, bytes),
+        Format::Header => spell_header(alloc, bytes),
+        Format::Tree => spell_tree(alloc, bytes),
     }
 }
 
-fn entry_again(alloc: Global, bytes: &[u8]) -> Result<Option<Vec<u8>>, AllocError> {
-    match decode_entry(alloc, bytes)? {
-        Some(inode) => Ok(Some(encode_entry(alloc, &inode)?)),
-        None => Ok(None),
+fn told(written: &Result<Vec<u8>, AllocError>, bytes: &[u8]) -> Spell {
+    match written {
+        Ok(written) => if written.as_slice() == bytes {
+            Spell::Value
+        } else {
+            Spell::Other
+        },
+        Err(_) => Spell::NoMemory,
     }
 }
 
-fn header_again(alloc: Global, bytes: &[u8]) -> Result<Option<Vec<u8>>, AllocError> {
+fn spell_entry(alloc: Global, bytes: &[u8]) -> Spell {
+    match decode_entry(alloc, bytes) {
+        Ok(Some(inode)) => told(&encode_entry(alloc, &inode), bytes),
+        Ok(None) => Spell::Nothing,
+        Err(_) => Spell::NoMemory,
+    }
+}
+
+fn spell_header(alloc: Global, bytes: &[u8]) -> Spell {
     match decode_header(bytes) {
-        Some(header) => Ok(Some(encode_header(alloc, &header)?)),
-        None => Ok(None),
+        Some(header) => told(&encode_header(alloc, &header), bytes),
+        None => Spell::Nothing,
     }
 }
 
-fn tree_again(alloc: Global, bytes: &[u8]) -> Result<Option<Vec<u8>>, AllocError> {
-    match decode_tree(alloc, bytes)? {
-        Some(tree) => Ok(Some(encode_tree(alloc, &tree)?)),
-        None => Ok(None),
+fn spell_tree(alloc: Global, bytes: &[u8]) -> Spell {
+    match decode_tree(alloc, bytes) {
+        Ok(Some(tree)) => told(&encode_tree(alloc, &tree), bytes),
+        Ok(None) => Spell::Nothing,
+        Err(_) => Spell::NoMemory,
     }
 }
 
-// Whether the bytes spell a value, and are what is written for it.
-fn is_spelling(alloc: Global, format: Format, bytes: &[u8]) -> Result<bool, AllocError> {
-    match again(alloc, format, bytes)? {
-        Some(written) => Ok(written.as_slice() == bytes),
-        None => Ok(false),
-    }
-}
-
-// Whether the bytes spell nothing.
-fn is_nothing(alloc: Global, format: Format, bytes: &[u8]) -> Result<bool, AllocError> {
-    Ok(again(alloc, format, bytes)?.is_none())
-}
-
-// The bytes with the one at a place changed.
-fn changed(alloc: Global, bytes: &[u8], at: usize, to: u8) -> Result<Vec<u8>, AllocError> {
-    let mut other = Vec::from_slice(alloc, bytes)?;
+// What bytes spell with the one at a place changed.
+fn spell_changed(alloc: Global, format: Format, bytes: &[u8], at: usize, to: u8) -> Spell {
+    let Ok(mut other) = Vec::from_slice(alloc, bytes) else {
+        return Spell::NoMemory;
+    };
     if let Some(byte) = other.get_mut(at) {
         *byte = to;
     }
-    Ok(other)
+    spelled(alloc, format, &other)
 }
 
 // Whether each of the 256 bytes at a place makes a spelling or nothing.
-fn is_sound_at(alloc: Global, format: Format, bytes: &[u8], at: usize) -> Result<bool, AllocError> {
+fn is_sound_at(alloc: Global, format: Format, bytes: &[u8], at: usize) -> bool {
+    let mut all = true;
     for to in 0..=255 {
-        let other = changed(alloc, bytes, at, to)?;
-        if !is_spelling(alloc, format, &other)? && !is_nothing(alloc, format, &other)? {
-            return Ok(false);
-        }
+        all = match spell_changed(alloc, format, bytes, at, to) {
+            Spell::Value | Spell::Nothing => all,
+            Spell::Other | Spell::NoMemory => false,
+        };
     }
-    Ok(true)
+    all
 }
 
+const EXAMPLES: [(Format, &[u8]); 5] = [
+    (Format::Entry, &DIR),
+    (Format::Entry, &FILE),
+    (Format::Entry, &LINK),
+    (Format::Header, &HEADER),
+    (Format::Tree, &TREE),
+];
+
 #[test]
-fn examples_are_spellings_and_so_is_each_change_that_is_read(rt: HostRuntime) -> Result<(), Fail> {
-    let examples: [(Format, &[u8]); 5] = [
-        (Format::Entry, &DIR),
-        (Format::Entry, &FILE),
-        (Format::Entry, &LINK),
-        (Format::Header, &HEADER),
-        (Format::Tree, &TREE),
-    ];
-    for (format, bytes) in examples {
-        assert_eq!(rt; is_spelling(rt.alloc(), format, bytes), Ok(true));
+fn examples_are_spellings_and_so_is_each_change_that_is_read(rt: HostRuntime) {
+    for (format, bytes) in EXAMPLES {
+        assert_eq!(rt; spelled(rt.alloc(), format, bytes), Spell::Value);
         for at in 0..bytes.len() {
-            assert_eq!(rt; is_sound_at(rt.alloc(), format, bytes, at), Ok(true));
+            assert!(rt; is_sound_at(rt.alloc(), format, bytes, at));
         }
     }
-    Ok(())
 }
 
 #[test]
-fn no_byte_may_follow_or_be_missing(rt: HostRuntime) -> Result<(), Fail> {
-    let examples: [(Format, &[u8]); 5] = [
-        (Format::Entry, &DIR),
-        (Format::Entry, &FILE),
-        (Format::Entry, &LINK),
-        (Format::Header, &HEADER),
-        (Format::Tree, &TREE),
-    ];
-    for (format, bytes) in examples {
-        let cut = &bytes[..bytes.len() - 1];
-        assert_eq!(rt; is_nothing(rt.alloc(), format, cut), Ok(true));
+fn no_byte_may_follow_or_be_missing(rt: HostRuntime) {
+    for (format, bytes) in EXAMPLES {
+        assert!(rt; !bytes.is_empty());
+        let cut = &bytes[..bytes.len().saturating_sub(1)];
+        assert_eq!(rt; spelled(rt.alloc(), format, cut), Spell::Nothing);
         for more in 0..=255 {
-            assert_eq!(rt; is_followed(rt.alloc(), format, bytes, more), Ok(false));
+            assert_eq!(rt;
+                spell_followed(rt.alloc(), format, bytes, more),
+                Spell::Nothing
+            );
         }
     }
-    Ok(())
 }
 
-// Whether a byte may follow.
-fn is_followed(alloc: Global, format: Format, bytes: &[u8], more: u8) -> Result<bool, AllocError> {
-    let mut longer = Vec::from_slice(alloc, bytes)?;
-    longer.push(more)?;
-    Ok(!is_nothing(alloc, format, &longer)?)
+// What bytes spell with one more behind them.
+fn spell_followed(alloc: Global, format: Format, bytes: &[u8], more: u8) -> Spell {
+    let Ok(mut longer) = Vec::from_slice(alloc, bytes) else {
+        return Spell::NoMemory;
+    };
+    match longer.push(more) {
+        Ok(()) => spelled(alloc, format, &longer),
+        Err(_) => Spell::NoMemory,
+    }
 }
 
 #[test]
-fn what_a_record_does_not_allow_is_nothing(rt: HostRuntime) -> Result<(), Fail> {
-    // an example, the place of a byte, what it is changed to, and whether that is a record
-    let rows: [(&[u8], usize, u8, bool); 15] = [
-        (&DIR, 0, 0x46, false),
-        (&DIR, 1, 0x02, false),
-        (&DIR, 2, 0x00, false),
-        (&DIR, 2, 0x03, false),
-        (&DIR, 2, 0x04, false),
-        (&DIR, 8, 0x00, false),
-        (&DIR, 8, 0x10, true),
-        (&DIR, 8, 0x11, false),
-        (&DIR, 12, 0x0f, true),
-        (&DIR, 12, 0x10, false),
-        (&DIR, 13, 0x01, false),
-        (&FILE, 13, 0x01, true),
-        (&LINK, 13, 0x04, false),
-        (&LINK, 29, 0x02, false),
-        (&LINK, 31, 0x00, false),
+fn what_a_record_does_not_allow_is_nothing(rt: HostRuntime) {
+    // an example, the place of a byte, what it is changed to, and what that spells
+    let rows: [(&[u8], usize, u8, Spell); 15] = [
+        (&DIR, 0, 0x46, Spell::Nothing),
+        (&DIR, 1, 0x02, Spell::Nothing),
+        (&DIR, 2, 0x00, Spell::Nothing),
+        (&DIR, 2, 0x03, Spell::Nothing),
+        (&DIR, 2, 0x04, Spell::Nothing),
+        (&DIR, 8, 0x00, Spell::Nothing),
+        (&DIR, 8, 0x10, Spell::Value),
+        (&DIR, 8, 0x11, Spell::Nothing),
+        (&DIR, 12, 0x0f, Spell::Value),
+        (&DIR, 12, 0x10, Spell::Nothing),
+        (&DIR, 13, 0x01, Spell::Nothing),
+        (&FILE, 13, 0x01, Spell::Value),
+        (&LINK, 13, 0x04, Spell::Nothing),
+        (&LINK, 29, 0x02, Spell::Nothing),
+        (&LINK, 31, 0x00, Spell::Nothing),
     ];
-    for (bytes, at, to, is_record) in rows {
-        let other = changed(rt.alloc(), bytes, at, to)?;
+    for (bytes, at, to, wanted) in rows {
         assert_eq!(rt;
-            is_spelling(rt.alloc(), Format::Entry, &other),
-            Ok(is_record)
+            spell_changed(rt.alloc(), Format::Entry, bytes, at, to),
+            wanted
         );
     }
-    Ok(())
 }
 
 #[test]
-fn what_is_no_tree_or_header_is_nothing(rt: HostRuntime) -> Result<(), Fail> {
+fn what_is_no_tree_or_header_is_nothing(rt: HostRuntime) {
     let rows: [(Format, &[u8]); 8] = [
         // one leaf, the wrong order, and low bits of a value
         (Format::Tree, &[0x54, 1, 1, 0, 0, 0, 0, 0]),
@@ -197,46 +204,67 @@ fn what_is_no_tree_or_header_is_nothing(rt: HostRuntime) -> Result<(), Fail> {
         (Format::Header, &[0x46]),
     ];
     for (format, bytes) in rows {
-        assert_eq!(rt; is_nothing(rt.alloc(), format, bytes), Ok(true));
+        assert_eq!(rt; spelled(rt.alloc(), format, bytes), Spell::Nothing);
     }
-    let never_committed = changed(rt.alloc(), &HEADER, 2, 0)?;
+    // never committed
     assert_eq!(rt;
-        is_nothing(rt.alloc(), Format::Header, &never_committed),
-        Ok(true)
+        spell_changed(rt.alloc(), Format::Header, &HEADER, 2, 0),
+        Spell::Nothing
     );
-    Ok(())
+}
+
+// Whether the inode is read from these bytes.
+fn is_read(alloc: Global, inode: &Inode, bytes: &[u8]) -> bool {
+    match decode_entry(alloc, bytes) {
+        Ok(Some(read)) => read == *inode,
+        _ => false,
+    }
 }
 
 // Whether the inode's record is these bytes, and the inode is read from them.
-fn is_record_of(alloc: Global, inode: &Inode, bytes: &[u8]) -> Result<bool, AllocError>
-    requires { IsRecordable inode.now }
-{
-    let written = encode_entry(alloc, inode)?;
-    match decode_entry(alloc, bytes)? {
-        Some(read) => Ok(written.as_slice() == bytes && read == *inode),
-        None => Ok(false),
+fn is_record_of(alloc: Global, inode: &Inode, bytes: &[u8]) -> bool {
+    is_recordable(inode)
+        && told(&encode_entry(alloc, inode), bytes) == Spell::Value
+        && is_read(alloc, inode, bytes)
+}
+
+// The inode 10000000000 of size 0 and mtime 0.
+fn inode(kind: Kind, mode: u16) -> Option<Inode> {
+    match Mode::new(mode) {
+        Some(mode) => Some(Inode {
+            ino: Ino(0x100_0000_0000),
+            kind,
+            mode,
+            size: 0,
+            mtime: 0,
+        }),
+        None => None,
+    }
+}
+
+fn has_record(alloc: Global, inode: &Option<Inode>, bytes: &[u8]) -> bool {
+    match inode {
+        Some(inode) => is_record_of(alloc, inode, bytes),
+        None => false,
     }
 }
 
 #[test]
-fn records_are_those_of_their_inodes(rt: HostRuntime) -> Result<(), Fail> {
+fn records_are_those_of_their_inodes(rt: HostRuntime) {
+    assert!(rt; has_record(rt.alloc(), &inode(Kind::Dir, 0o755), &DIR));
+    assert!(rt; has_record(rt.alloc(), &inode(Kind::File, 0o644), &FILE));
+}
+
+// Whether a record allows a directory of this number and size.
+fn is_allowed(mode: Mode, number: u64, size: u64) -> bool {
     let dir = Inode {
-        ino: Ino(0x100_0000_0000),
+        ino: Ino(number),
         kind: Kind::Dir,
-        mode: Mode::new(0o755).ok_or("no mode")?,
-        size: 0,
+        mode,
+        size,
         mtime: 0,
     };
-    assert_eq!(rt; is_record_of(rt.alloc(), &dir, &DIR), Ok(true));
-    let file = Inode {
-        ino: Ino(0x100_0000_0000),
-        kind: Kind::File,
-        mode: Mode::new(0o644).ok_or("no mode")?,
-        size: 0,
-        mtime: 0,
-    };
-    assert_eq!(rt; is_record_of(rt.alloc(), &file, &FILE), Ok(true));
-    Ok(())
+    is_recordable(&dir)
 }
 
 #[test]
@@ -251,48 +279,46 @@ fn a_record_allows_numbers_of_ranks_and_directories_of_size_0(rt: HostRuntime) -
         (0x10ff_ffff_ffff, 0, true),
         (0x1100_0000_0000, 0, false),
     ];
-    for (number, size, is_allowed) in rows {
-        let dir = Inode {
-            ino: Ino(number),
-            kind: Kind::Dir,
-            mode,
-            size,
-            mtime: 0,
-        };
-        assert_eq!(rt; is_recordable(&dir), is_allowed);
+    for (number, size, wanted) in rows {
+        assert_eq!(rt; is_allowed(mode, number, size), wanted);
     }
     Ok(())
 }
 
 #[test]
-fn headers_are_those_of_their_counts(rt: HostRuntime) -> Result<(), Fail> {
+fn headers_are_those_of_their_counts(rt: HostRuntime) {
     let header = FragHeader {
         version: 1,
         files: 3,
         dirs: 0,
     };
-    let written = encode_header(rt.alloc(), &header)?;
-    assert_eq!(rt; written.as_slice(), HEADER.as_slice());
+    assert_eq!(rt;
+        told(&encode_header(rt.alloc(), &header), &HEADER),
+        Spell::Value
+    );
     assert_eq!(rt; decode_header(&HEADER), Some(header));
-    Ok(())
 }
 
 #[test]
 fn trees_are_those_of_their_leaves(rt: HostRuntime) -> Result<(), Fail> {
     let mut tree = FragTree::whole(rt.alloc())?;
     assert_eq!(rt; tree.split(Frag::ROOT, 1), Ok(()));
-    assert_eq!(rt; is_tree_of(rt.alloc(), &tree, &TREE), Ok(true));
+    assert!(rt; is_tree_of(rt.alloc(), &tree, &TREE));
     Ok(())
 }
 
+// Whether the tree is read from these bytes.
+fn is_tree_read(alloc: Global, tree: &FragTree, bytes: &[u8]) -> bool {
+    match decode_tree(alloc, bytes) {
+        Ok(Some(read)) => read == *tree,
+        _ => false,
+    }
+}
+
 // Whether the tree's bytes are these, and the tree is read from them.
-fn is_tree_of(alloc: Global, tree: &FragTree, bytes: &[u8]) -> Result<bool, AllocError> {
+fn is_tree_of(alloc: Global, tree: &FragTree, bytes: &[u8]) -> bool {
     if tree.len() < 2 {
-        return Ok(false);
+        return false;
     }
-    let written = encode_tree(alloc, tree)?;
-    match decode_tree(alloc, bytes)? {
-        Some(read) => Ok(written.as_slice() == bytes && read == *tree),
-        None => Ok(false),
-    }
+    told(&encode_tree(alloc, tree), bytes) == Spell::Value && is_tree_read(alloc, tree, bytes)
 }

@@ -10,8 +10,6 @@ pub mod laws;
 mod making;
 mod merge;
 mod split;
-#[cfg(test)]
-mod tests;
 mod tree;
 
 pub use iters::Iter;

@@ -1,24 +1,23 @@
 //! What no clause says of the directory table: that calls succeed, and that a long chain is no trouble.
 
 ghost use Rattle.std.specs.FinMap as map;
-ghost use Rattle.std.specs.Prelude.{◌≡◌, ◌≢◌, IfOk, IsTrue, None, is_some, true};
+ghost use Rattle.std.specs.Prelude.{◌≡◌, ◌≢◌, ◌<◌, IfSome, IsTrue, None, is_some, true};
 ghost use Rattle.inode_table.specs.Dirs.{IsAbove, MayGo, is_known};
 
 use fragtree::FragTree;
 use inode_table::{Dirs, Home};
 use mds_types::{Frag, Ino, Name};
 use std::alloc::Global;
-use std::test::Fail;
 
 const FIRST: u64 = 1 << 40;
 
-fn home(alloc: Global, parent: Ino) -> Result<Home, Fail>
-    ensures { IfOk result (λ home. home.parent ≡ parent) }
+fn home(alloc: Global, parent: Ino) -> Option<Home>
+    ensures { IfSome result (λ home. home.parent ≡ parent) }
 {
-    Ok(Home {
-        parent,
-        name: Name::from_bytes(alloc, b"d")?,
-    })
+    match Name::from_bytes(alloc, b"d") {
+        Ok(name) => Some(Home { parent, name }),
+        Err(_) => None,
+    }
 }
 
 // Whether a directory may come in below this parent.
@@ -31,13 +30,17 @@ fn may_come(dirs: &Dirs, dir: Ino, parent: Ino) -> bool
 }
 
 // Takes a directory in, where it may come.
-fn adopt(alloc: Global, dirs: &mut Dirs, dir: Ino, parent: Ino) -> Result<bool, Fail> {
+fn adopt(alloc: Global, dirs: &mut Dirs, dir: Ino, parent: Ino) -> bool {
     if dirs.reserve().is_err() || !may_come(dirs, dir, parent) {
-        return Ok(false);
+        return false;
     }
-    let home = home(alloc, parent)?;
-    dirs.adopt(dir, home);
-    Ok(true)
+    match home(alloc, parent) {
+        Some(home) => {
+            dirs.adopt(dir, home);
+            true
+        }
+        None => false,
+    }
 }
 
 // Whether a directory may go below this parent.
@@ -51,28 +54,48 @@ fn may_go(dirs: &Dirs, dir: Ino, parent: Ino) -> bool
 }
 
 // Moves a directory, where it may go.
-fn relocate(alloc: Global, dirs: &mut Dirs, dir: Ino, parent: Ino) -> Result<bool, Fail> {
+fn relocate(alloc: Global, dirs: &mut Dirs, dir: Ino, parent: Ino) -> bool {
     if !may_go(dirs, dir, parent) {
-        return Ok(false);
+        return false;
     }
-    let home = home(alloc, parent)?;
-    dirs.relocate(dir, home);
-    Ok(true)
+    match home(alloc, parent) {
+        Some(home) => {
+            dirs.relocate(dir, home);
+            true
+        }
+        None => false,
+    }
 }
 
-// A table with one directory, which is no one's parent.
-fn with_one(alloc: Global, dir: Ino) -> Result<Dirs, Fail>
-    requires { dir.0 ≢ 1 }
-    ensures may { IfOk result (λ dirs. MayGo dirs.homes dir.0) }
-    ensures known { IfOk result (λ dirs. is_known dirs.homes dir.0 ≡ true) }
+// Takes the first directory of a table in, in the root: it is no one's parent.
+fn take_first(dirs: &mut Dirs, dir: Ino, home: Home)
+    requires room { 0 < dirs.old.room }
+    requires empty { dirs.old.homes ≡ map.empty }
+    requires other { dir.0 ≢ 1 }
+    requires below { home.parent.0 ≡ 1 }
+    ensures may { MayGo dirs.new.homes dir.0 }
+    ensures known { is_known dirs.new.homes dir.0 ≡ true }
 {
-    let home = home(alloc, Ino::ROOT)?;
-    let mut dirs = Dirs::new(alloc);
-    if dirs.reserve().is_err() {
-        return Err(Fail::from("no memory"));
-    }
     dirs.adopt(dir, home);
-    Ok(dirs)
+}
+
+// Gives an empty table its first directory, in the root.
+fn adopt_first(alloc: Global, dirs: &mut Dirs, dir: Ino) -> bool
+    requires empty { dirs.old.homes ≡ map.empty }
+    requires other { dir.0 ≢ 1 }
+    ensures may { IsTrue result → MayGo dirs.new.homes dir.0 }
+    ensures known { IsTrue result → is_known dirs.new.homes dir.0 ≡ true }
+{
+    if dirs.reserve().is_err() {
+        return false;
+    }
+    match home(alloc, Ino::ROOT) {
+        Some(home) => {
+            take_first(dirs, dir, home);
+            true
+        }
+        None => false,
+    }
 }
 
 // The leaves `0*` and `1*`.
@@ -95,23 +118,27 @@ fn in_two(mut tree: FragTree) -> Option<FragTree> {
 fn split_in_two(alloc: Global, dirs: &mut Dirs, dir: Ino) -> bool
     ensures { dirs.new.homes ≡ dirs.old.homes }
 {
-    let Some(tree) = halves(alloc) else {
-        return false;
-    };
     if dirs.reserve_tree().is_err() {
         return false;
     }
     if !dirs.contains(dir) {
         return false;
     }
-    dirs.set_tree(dir, tree);
-    true
+    match halves(alloc) {
+        Some(tree) => {
+            dirs.set_tree(dir, tree);
+            true
+        }
+        None => false,
+    }
 }
 
-// How many leaves a directory has.
-fn leaf_count(alloc: Global, dirs: &Dirs, dir: Ino) -> Option<usize> {
-    let tree = dirs.tree(alloc, dir).ok()?;
-    Some(tree.len())
+// How many leaves a directory has; 0 where memory is refused.
+fn leaf_count(alloc: Global, dirs: &Dirs, dir: Ino) -> usize {
+    match dirs.tree(alloc, dir) {
+        Ok(tree) => tree.len(),
+        Err(_) => 0,
+    }
 }
 
 fn parent_of(dirs: &Dirs, dir: Ino) -> Option<Ino> {
@@ -122,74 +149,81 @@ fn parent_of(dirs: &Dirs, dir: Ino) -> Option<Ino> {
 }
 
 #[test]
-fn directories_come_and_move(rt: HostRuntime) -> Result<(), Fail> {
+fn directories_come_and_move(rt: HostRuntime) {
     let alloc = rt.alloc();
     let mut dirs = Dirs::new(alloc);
     let (a, b, c) = (Ino(FIRST), Ino(FIRST + 1), Ino(FIRST + 2));
-    assert_eq!(rt; adopt(alloc, &mut dirs, a, Ino::ROOT)?, true);
-    assert_eq!(rt; adopt(alloc, &mut dirs, b, a)?, true);
-    assert_eq!(rt; adopt(alloc, &mut dirs, b, Ino::ROOT)?, false);
-    assert_eq!(rt; adopt(alloc, &mut dirs, c, Ino(7))?, false);
-    assert_eq!(rt; adopt(alloc, &mut dirs, c, Ino::ROOT)?, true);
+    assert!(rt; adopt(alloc, &mut dirs, a, Ino::ROOT));
+    assert!(rt; adopt(alloc, &mut dirs, b, a));
+    assert!(rt; !adopt(alloc, &mut dirs, b, Ino::ROOT));
+    assert!(rt; !adopt(alloc, &mut dirs, c, Ino(7)));
+    assert!(rt; adopt(alloc, &mut dirs, c, Ino::ROOT));
     // `a` doesn't go below itself; `b` goes to `c`
-    assert_eq!(rt; relocate(alloc, &mut dirs, a, b)?, false);
-    assert_eq!(rt; relocate(alloc, &mut dirs, b, c)?, true);
+    assert!(rt; !relocate(alloc, &mut dirs, a, b));
+    assert!(rt; relocate(alloc, &mut dirs, b, c));
     assert_eq!(rt; parent_of(&dirs, b), Some(c));
     assert_eq!(rt; parent_of(&dirs, Ino::ROOT), None);
-    Ok(())
 }
 
-#[test]
-fn above_along_a_long_chain(rt: HostRuntime) -> Result<(), Fail> {
-    let alloc = rt.alloc();
-    let mut dirs = Dirs::new(alloc);
+// Takes 10,000 directories in, each in the one before and the first in the root, as far as they may come; the last of them.
+fn chain(alloc: Global, dirs: &mut Dirs) -> Ino {
     let mut last = Ino::ROOT;
     for k in 0..10_000u64 {
         let dir = Ino(FIRST + k);
-        let _ = adopt(alloc, &mut dirs, dir, last)?;
+        let _ = adopt(alloc, dirs, dir, last);
         last = dir;
     }
-    assert_eq!(rt; dirs.is_above(Ino::ROOT, last), true);
-    assert_eq!(rt; dirs.is_above(Ino(FIRST), last), true);
-    assert_eq!(rt; dirs.is_above(last, Ino(FIRST)), false);
-    assert_eq!(rt; dirs.is_above(last, last), false);
-    assert_eq!(rt; dirs.is_above(Ino(7), last), false);
-    Ok(())
+    last
+}
+
+// Whether the one of two directories is above the other, and not the other way round.
+fn is_over(dirs: &Dirs, dir: Ino, below: Ino) -> bool {
+    dirs.is_above(dir, below) && !dirs.is_above(below, dir)
 }
 
 #[test]
-fn each_directory_has_its_own_leaves(rt: HostRuntime) -> Result<(), Fail> {
-    let alloc = rt.alloc();
-    let dir = Ino(FIRST);
-    let mut dirs = with_one(alloc, dir)?;
-    assert_eq!(rt; dirs.pick(dir, 1 << 23), Frag::ROOT);
-    assert_eq!(rt; split_in_two(alloc, &mut dirs, dir), true);
-    assert_eq!(rt; Some(dirs.pick(dir, 1 << 23)), Frag::ROOT.child(1, 1));
-    assert_eq!(rt; leaf_count(alloc, &dirs, dir), Some(2));
-    assert_eq!(rt; dirs.pick(Ino::ROOT, 1 << 23), Frag::ROOT);
-    assert_eq!(rt; leaf_count(alloc, &dirs, Ino::ROOT), Some(1));
-    Ok(())
-}
-
-#[test]
-fn only_directories_are_split(rt: HostRuntime) -> Result<(), Fail> {
+fn above_along_a_long_chain(rt: HostRuntime) {
     let alloc = rt.alloc();
     let mut dirs = Dirs::new(alloc);
-    assert_eq!(rt; split_in_two(alloc, &mut dirs, Ino(FIRST)), false);
-    assert_eq!(rt; split_in_two(alloc, &mut dirs, Ino::ROOT), true);
-    assert_eq!(rt; leaf_count(alloc, &dirs, Ino::ROOT), Some(2));
-    Ok(())
+    let last = chain(alloc, &mut dirs);
+    assert!(rt; is_over(&dirs, Ino::ROOT, last));
+    assert!(rt; is_over(&dirs, Ino(FIRST), last));
+    assert!(rt; !dirs.is_above(last, last));
+    assert!(rt; !dirs.is_above(Ino(7), last));
 }
 
 #[test]
-fn leaves_go_with_their_directory(rt: HostRuntime) -> Result<(), Fail> {
+fn each_directory_has_its_own_leaves(rt: HostRuntime) {
     let alloc = rt.alloc();
     let dir = Ino(FIRST);
-    let mut dirs = with_one(alloc, dir)?;
-    assert_eq!(rt; split_in_two(alloc, &mut dirs, dir), true);
+    let mut dirs = Dirs::new(alloc);
+    assert!(rt; adopt_first(alloc, &mut dirs, dir));
+    assert_eq!(rt; dirs.pick(dir, 1 << 23), Frag::ROOT);
+    assert!(rt; split_in_two(alloc, &mut dirs, dir));
+    assert_eq!(rt; Some(dirs.pick(dir, 1 << 23)), Frag::ROOT.child(1, 1));
+    assert_eq!(rt; leaf_count(alloc, &dirs, dir), 2);
+    assert_eq!(rt; dirs.pick(Ino::ROOT, 1 << 23), Frag::ROOT);
+    assert_eq!(rt; leaf_count(alloc, &dirs, Ino::ROOT), 1);
+}
+
+#[test]
+fn only_directories_are_split(rt: HostRuntime) {
+    let alloc = rt.alloc();
+    let mut dirs = Dirs::new(alloc);
+    assert!(rt; !split_in_two(alloc, &mut dirs, Ino(FIRST)));
+    assert!(rt; split_in_two(alloc, &mut dirs, Ino::ROOT));
+    assert_eq!(rt; leaf_count(alloc, &dirs, Ino::ROOT), 2);
+}
+
+#[test]
+fn leaves_go_with_their_directory(rt: HostRuntime) {
+    let alloc = rt.alloc();
+    let dir = Ino(FIRST);
+    let mut dirs = Dirs::new(alloc);
+    assert!(rt; adopt_first(alloc, &mut dirs, dir));
+    assert!(rt; split_in_two(alloc, &mut dirs, dir));
     dirs.drop(dir);
     assert_eq!(rt; dirs.pick(dir, 0), Frag::ROOT);
-    assert_eq!(rt; adopt(alloc, &mut dirs, dir, Ino::ROOT)?, true);
+    assert!(rt; adopt(alloc, &mut dirs, dir, Ino::ROOT));
     assert_eq!(rt; dirs.pick(dir, 0), Frag::ROOT);
-    Ok(())
 }

@@ -1,4 +1,4 @@
--- A table with one directory, whose parent is the root.
+-- The first directory of a table, whose parent is the root.
 use Rattle.std.proofs.Common.{◌≡◌, ◌==◌, ◌||◌, ℕ, true, is_some, Some, None, ⊎_elim, refl, sym, ap, ◌∙◌}
 use Rattle.std.specs.Ordering.{nat_cmp}
 use Rattle.std.specs.FinMap as map
@@ -7,7 +7,7 @@ use Rattle.sorted_map.proofs.NatKeys.{get_put, after_put}
 use Rattle.inode_table.specs.declared.homes.Home.{Home}
 use Rattle.inode_table.specs.Dirs.{Homes, MayCome, IsChildless, is_known}
 use Rattle.inode_table.proofs.Tables.{known_by}
-use Rattle.inode_table_tests.proofs.tests.with_one.Goals as goal
+use Rattle.inode_table_tests.proofs.tests.take_first.Goals as goal
 
 none_at : (homes : Homes) → homes ≡ map.empty → (d : ℕ) → map.get homes d ≡ None
 none_at homes empty d = ap (λ (m : Homes). map.get m d) empty ∙ get-empty nat_cmp d
@@ -30,15 +30,14 @@ put_known : (homes : Homes) (d : ℕ) (home : Home) → is_known (map.insert hom
 put_known homes d home = known_by (map.insert homes d home) d (Some home) (get_put homes d home) refl
 
 pub adopt-requires-clause-may : goal.adopt-requires-clause-may
-adopt-requires-clause-may c =
-    first_may _ c.args.dir.0 c.in_ok-home.home (c.reserve.ensures.homes ∙ c.new-dirs.ensures.homes) c.requires (ap (λ p. p.0) c.in_ok-home.ensures)
+adopt-requires-clause-may c = first_may _ c.args.dir.0 c.args.home c.requires.empty c.requires.other c.requires.below
 
 pub returns-clause-may : goal.returns-clause-may
 returns-clause-may c =
     rw c.adopt.ensures.homes (record {
-      other = c.requires;
-      childless = only_childless _ c.args.dir.0 c.in_ok-home.home (c.reserve.ensures.homes ∙ c.new-dirs.ensures.homes) c.requires (ap (λ p. p.0) c.in_ok-home.ensures);
+      other = c.requires.other;
+      childless = only_childless _ c.args.dir.0 c.args.home c.requires.empty c.requires.other c.requires.below;
     })
 
 pub returns-clause-known : goal.returns-clause-known
-returns-clause-known c = rw c.adopt.ensures.homes (put_known _ c.args.dir.0 c.in_ok-home.home)
+returns-clause-known c = rw c.adopt.ensures.homes (put_known _ c.args.dir.0 c.args.home)
