@@ -2,7 +2,10 @@ pub mod CachedLaws
 pub mod EndLaws
 pub mod NewLaws
 pub mod ObjectLaws
+pub mod ReadLaws
+pub mod ReadSteps
 pub mod SoundLaws
 pub mod Steps
 pub mod TextLaws
 pub mod TreeLaws
+pub mod TreeLookups

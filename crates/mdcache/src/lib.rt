@@ -7,10 +7,12 @@ mod beginning;
 mod dropping;
 mod ending;
 mod evicting;
+mod fetching;
 mod formatting;
 mod leaves;
 mod mdcache;
 mod purging;
+mod reading;
 mod trees;
 
 pub use mdcache::MdCache;

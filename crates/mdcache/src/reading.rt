@@ -1,0 +1,67 @@
+//! Reads of the tree that is shown.
+ghost use Rattle.std.specs.Prelude.{◌≡◌, ◌≤◌, true, IfOk, IfErr};
+ghost use Rattle.std.specs.FinMap as map;
+ghost use Rattle.mds_types.specs.Tree.{is_above, is_directory};
+ghost use Rattle.fragtree.specs.FragTree.{IsPick};
+ghost use Rattle.namehash.specs.Rjenkins.{hash_of};
+ghost use Rattle.inode_table.specs.Dirs.{leaves_of};
+ghost use Rattle.mdcache.specs.Reads.{MayNotRead};
+ghost use Rattle.mdcache.specs.Shown.{shown_tree};
+
+use crate::fetching::look_in;
+use crate::mdcache::MdCache;
+use mds_types::{Dentry, Frag, Ino, Inode, Refusal};
+use namehash::rjenkins;
+use objstore::Store;
+use std::alloc::Global;
+
+impl<S: Store + Drop> MdCache<S> {
+    /// Whether this is the number of a directory of the tree now. Takes no memory.
+    pub fn is_dir(&self, dir: Ino) -> bool
+        ensures { result ≡ is_directory (shown_tree self.now.state) dir.0 }
+    {
+        self.dirs.contains(dir)
+    }
+
+    /// Whether the directory `dir` is above the directory `below`. Takes no memory.
+    pub fn is_above(&self, dir: Ino, below: Ino) -> bool
+        requires { is_directory (shown_tree self.now.state) below.0 ≡ true }
+        ensures { result ≡ is_above (shown_tree self.now.state) dir.0 below.0 }
+    {
+        self.dirs.is_above(dir, below)
+    }
+
+    /// The leaf that a dentry belongs to: the one of its directory that the hash of its name picks. Takes no memory.
+    pub fn frag_of(&self, dentry: &Dentry) -> Frag
+        ensures { IsPick (leaves_of self.now.state.covers dentry.now.dir.0) (hash_of dentry.now.name) result }
+    {
+        self.dirs.pick(dentry.dir, rjenkins(dentry.name.as_bytes()))
+    }
+
+    /// The inode at a dentry, copied. `leaf` is the one that the dentry belongs to; it is fetched, where it isn't cached.
+    /// Takes memory for a leaf that is read, and for a link's target.
+    ///
+    /// Refused `NothingToEvict` where no place of the cache is free and no fragment can go, `StoreFault`, and `NoMemory`.
+    pub fn look(
+        &mut self,
+        alloc: Global,
+        dentry: &Dentry,
+        leaf: Frag,
+    ) -> Result<Option<Inode>, Refusal>
+        requires known { is_directory (shown_tree self.old.state) dentry.now.dir.0 ≡ true }
+        requires leaf { IsPick (leaves_of self.old.state.covers dentry.now.dir.0) (hash_of dentry.now.name) leaf }
+        ensures found { IfOk result (λ found. found ≡ map.get (shown_tree self.old.state) dentry.now) }
+        ensures same { self.new.state ≡ self.old.state }
+        ensures refused { IfErr result (MayNotRead self.old.faults self.new.faults self.old.cache) }
+        ensures grows { self.old.faults ≤ self.new.faults }
+    {
+        look_in(
+            alloc,
+            &mut self.cache,
+            &mut self.store,
+            dentry.dir,
+            leaf,
+            &dentry.name,
+        )
+    }
+}
