@@ -1,7 +1,12 @@
 pub mod CachedLaws
+pub mod ChangeLaws
 pub mod EndLaws
+pub mod GoneLaws
+pub mod HomeLaws
+pub mod NamedLaws
 pub mod NewLaws
 pub mod ObjectLaws
+pub mod ShownLaws
 pub mod SoundLaws
 pub mod Steps
 pub mod TextLaws

@@ -8,9 +8,11 @@ mod dropping;
 mod ending;
 mod evicting;
 mod formatting;
+mod laws;
 mod leaves;
 mod mdcache;
 mod purging;
 mod trees;
 
+pub use laws::changes_are_right;
 pub use mdcache::MdCache;
