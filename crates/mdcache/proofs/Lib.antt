@@ -1,9 +1,14 @@
 pub mod CachedLaws
+pub mod ChangeLaws
 pub mod EndLaws
+pub mod GoneLaws
+pub mod HomeLaws
+pub mod NamedLaws
 pub mod NewLaws
 pub mod ObjectLaws
 pub mod ReadLaws
 pub mod ReadSteps
+pub mod ShownLaws
 pub mod SoundLaws
 pub mod Steps
 pub mod TextLaws

@@ -9,10 +9,12 @@ mod ending;
 mod evicting;
 mod fetching;
 mod formatting;
+mod laws;
 mod leaves;
 mod mdcache;
 mod purging;
 mod reading;
 mod trees;
 
+pub use laws::changes_are_right;
 pub use mdcache::MdCache;
