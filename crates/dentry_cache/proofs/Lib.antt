@@ -4,8 +4,13 @@ pub mod EditLaws
 pub mod LeafLaws
 pub mod LeavingLaws
 pub mod LoadLaws
+pub mod NameParts
 pub mod PageSteps
 pub mod PairLaws
+pub mod PartLaws
+pub mod ReadySplit
+pub mod SpareLaws
+pub mod SplitShows
 pub mod StandingLaws
 pub mod TieLaws
 pub mod UsedLaws

@@ -120,7 +120,7 @@ good_among frag (e ∷ es) sorted each =
 
 -- ---- the names of good pairs are those that the object spells
 
-holds_contains : (frag : Fragment) (hash : ℕ) → holds frag hash ≡ true → Contains frag hash
+pub holds_contains : (frag : Fragment) (hash : ℕ) → holds frag hash ≡ true → Contains frag hash
 holds_contains frag hash is = same ((hash % 2 ^ 24) / span frag.bits) (frag.value / span frag.bits) is
   where
     same : (a b : ℕ) → (a == b) ≡ true → a ≡ b

@@ -1,7 +1,9 @@
 pub mod Cache
 pub mod Commits
+pub mod Divided
 pub mod Leaving
 pub mod Loading
 pub mod Pairs
+pub mod Parting
 pub mod Standing
 pub mod Ties

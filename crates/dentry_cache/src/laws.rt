@@ -1,5 +1,6 @@
 //! What ties cached fragments to their objects. A law is its contract: its body does nothing.
 ghost use Rattle.std.specs.Prelude.{◌<◌, ◌^◌};
+ghost use Rattle.dentry_cache.specs.Divided.{ChildrenHaveTheirOwn, NamesAreDivided};
 ghost use Rattle.dentry_cache.specs.Leaving.{KeptIsLeft, LeftOrGone, StayingIsLeft, UncleanIsLeft};
 ghost use Rattle.dentry_cache.specs.Standing.{ChangeKeeps, ChangedCanEnd, FillKeeps, IsLeaf, StandingIsUnclean, TakenCanEnd, UseKeeps};
 ghost use Rattle.dentry_cache.specs.Ties.{ChangedAreTied, CommittedAreTied, FetchedAreTied, TiedShow, UsedAreTied};
@@ -45,6 +46,13 @@ pub fn uses_and_changes_keep()
     ensures used { UseKeeps }
     ensures changed { ChangeKeeps }
     ensures filled { FillKeeps }
+{}
+
+/// The children of a fragment divide its names: each name is in one child, and no other, whose hashes contain its own; and
+/// no child has a name that the fragment hasn't.
+pub fn children_divide()
+    ensures divided { NamesAreDivided }
+    ensures own { ChildrenHaveTheirOwn }
 {}
 
 /// A leaf is one that the program can have: a law of the types.

@@ -4,6 +4,7 @@
 
 mod cache;
 mod committing;
+mod dividing;
 mod editing;
 mod eviction;
 mod fetching;
@@ -12,6 +13,9 @@ pub mod laws;
 mod loading;
 mod moving;
 mod pairs;
+mod parts;
 mod reading;
+mod splitting;
 
 pub use cache::{Cache, Place};
+pub use parts::{Part, Parts};

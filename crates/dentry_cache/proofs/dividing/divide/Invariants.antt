@@ -1,0 +1,19 @@
+-- Each child has those of its names which were given, and room for the others.
+use Rattle.std.proofs.Common.{◌≡◌, length}
+use Rattle.std.specs.FinMap as map
+use Rattle.omap.specs.Omap.{key_cmp}
+use Rattle.sorted_map.specs.SortedMap.{contents}
+use Rattle.cached_frag.specs.Cached.{AreEntries}
+use Rattle.dentry_cache.specs.Parting.{EachThen}
+use Rattle.dentry_cache.proofs.PartLaws.{IsFilling}
+use Rattle.dentry_cache.proofs.dividing.divide.Given as goal
+
+abbrev pub invariant-loop-pair : goal.invariant-loop-pair
+invariant-loop-pair l = record {
+  count : length l.parts.items ≡ length l.fn.parts.items;
+  each : EachThen (IsFilling l.frag l.nb (contents key_cmp l.fn.names) (contents key_cmp l.names) l.version) l.fn.parts.items l.parts.items;
+  entries : AreEntries (contents key_cmp l.names);
+}
+
+abbrev pub decreases-loop-pair : goal.decreases-loop-pair
+decreases-loop-pair l = map.len (contents key_cmp l.names)

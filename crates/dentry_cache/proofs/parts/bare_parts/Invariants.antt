@@ -1,0 +1,10 @@
+-- As many children as were passed, each with no names.
+use Rattle.std.proofs.Common.{◌≡◌, length}
+use Rattle.dentry_cache.specs.Parting.{Each, IsBare}
+use Rattle.dentry_cache.proofs.parts.bare_parts.Given as goal
+
+abbrev pub invariant-loop-i : goal.invariant-loop-i
+invariant-loop-i l = record {
+  count : length l.parts.items ≡ l.i;
+  each : Each (IsBare l.frag l.nb l.generation) l.parts.items;
+}

@@ -1,0 +1,17 @@
+-- Each child has room for those names that were passed.
+use Rattle.std.proofs.Common.{◌≡◌, ◌^◌, length}
+use Rattle.std.specs.FinMap as map
+use Rattle.cached_frag.specs.Cached.{shown}
+use Rattle.cached_frag.specs.Rows.{rows_left}
+use Rattle.dentry_cache.specs.Parting.{Each}
+use Rattle.dentry_cache.proofs.PartLaws.{IsRoomy}
+use Rattle.dentry_cache.proofs.parts.parts_of.Given as goal
+
+abbrev pub invariant-loop-name : goal.invariant-loop-name
+invariant-loop-name l = record {
+  count : length l.items.items ≡ 2 ^ l.nb;
+  each : Each (IsRoomy l.frag l.nb l.generation (map.entries (shown l.fragment)) (rows_left l.rows)) l.items.items;
+}
+
+abbrev pub decreases-loop-name : goal.decreases-loop-name
+decreases-loop-name l = length (rows_left l.rows)
