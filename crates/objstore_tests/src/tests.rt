@@ -1,110 +1,167 @@
 //! The stores by hand-known answers, and each call that takes memory once.
 use mds_types::Refusal;
-use objstore::{FaultStore, MemStore, Store};
-use omap::{Bytes, WriteOp};
+use objstore::{FaultStore, MemStore, NamePage, Store};
+use omap::{Bytes, Page, WriteOp};
 use std::alloc::{AllocError, Global};
-use std::test::Fail;
 
-// Sets the key `k` to `v`, and the header `h`.
-fn operation(alloc: Global) -> Result<WriteOp, AllocError> {
-    let mut op = WriteOp::new(alloc);
+/// What a store has where it is asked.
+#[derive(Clone, Copy, Debug, PartialEq, Eq)]
+enum Has {
+    Nothing,
+    /// What is wanted.
+    Wanted,
+    Other,
+    Refused(u8),
+}
+
+// Makes an operation set the key `k` to `v`, and the header `h`.
+fn fill(alloc: Global, op: &mut WriteOp) -> Result<(), AllocError> {
     op.header = Some(Bytes::from_slice(alloc, b"h")?);
-    op.set.put(
-        Bytes::from_slice(alloc, b"k")?,
-        Bytes::from_slice(alloc, b"v")?,
-    )?;
-    Ok(op)
+    let key = Bytes::from_slice(alloc, b"k")?;
+    op.set.put(key, Bytes::from_slice(alloc, b"v")?)
 }
 
-// The keys of an object by pages of two; nothing, where it is absent.
-fn keys<S: Store>(alloc: Global, store: &mut S, name: &str) -> Result<Option<Vec<u8>>, Refusal> {
-    let Some(page) = store.page(alloc, name, None, 2)? else {
-        return Ok(None);
-    };
-    let mut keys = Vec::new(alloc);
-    for (key, _) in page.pairs() {
-        keys.extend_from_slice(key.as_slice())?;
+fn told(is_wanted: bool) -> Has {
+    if is_wanted { Has::Wanted } else { Has::Other }
+}
+
+// The key of the one pair of a page of two; of any other page nothing is wanted.
+fn is_key(page: &Page, wanted: &[u8]) -> bool {
+    match page.pairs() {
+        [pair] => pair.0.as_slice() == wanted,
+        _ => false,
     }
-    Ok(Some(keys))
 }
 
-// A store of the objects `b`, `a` and `c`, made in this order.
-fn three(alloc: Global) -> Result<MemStore, Refusal> {
-    let mut store = MemStore::new(alloc);
-    let op = operation(alloc)?;
+// Whether the keys of an object, by pages of two, are the one that is wanted.
+fn has_key<S: Store>(alloc: Global, store: &mut S, name: &str, wanted: &[u8]) -> Has {
+    match store.page(alloc, name, None, 2) {
+        Ok(Some(page)) => told(is_key(&page, wanted)),
+        Ok(None) => Has::Nothing,
+        Err(refusal) => Has::Refused(refusal.number()),
+    }
+}
+
+fn has_header(alloc: Global, store: &mut MemStore, name: &str, wanted: &[u8]) -> Has {
+    match store.header(alloc, name) {
+        Ok(Some(header)) => told(header.as_slice() == wanted),
+        Ok(None) => Has::Nothing,
+        Err(refusal) => Has::Refused(refusal.number()),
+    }
+}
+
+// The number of a refusal, 0 where there is none.
+fn number(answer: Result<(), Refusal>) -> u8 {
+    match answer {
+        Ok(()) => 0,
+        Err(refusal) => refusal.number(),
+    }
+}
+
+// Applies the operation to the objects `b`, `a` and `c`, in this order.
+fn put_three(alloc: Global, store: &mut MemStore) -> bool {
+    let mut op = WriteOp::new(alloc);
+    let mut all = fill(alloc, &mut op).is_ok();
     for name in ["b", "a", "c"] {
-        match store.apply(alloc, name, &op) {
-            Ok(()) => {}
-            Err(refusal) => return Err(refusal),
-        }
+        all = number(store.apply(alloc, name, &op)) == 0 && all;
     }
-    Ok(store)
+    all
 }
 
 #[test]
-fn an_object_is_made_written_and_removed(rt: HostRuntime) -> Result<(), Fail> {
+fn an_object_is_made_written_and_removed(rt: HostRuntime) {
     let alloc = rt.alloc();
     let mut store = MemStore::new(alloc);
-    assert_eq!(rt; keys(alloc, &mut store, "1.00000000"), Ok(None));
-    let op = operation(alloc)?;
-    assert_eq!(rt; store.apply(alloc, "1.00000000", &op), Ok(()));
     assert_eq!(rt;
-        keys(alloc, &mut store, "1.00000000"),
-        Ok(Some(Vec::from_slice(alloc, b"k")?))
+        has_key(alloc, &mut store, "1.00000000", b"k"),
+        Has::Nothing
     );
+    let mut op = WriteOp::new(alloc);
+    assert!(rt; fill(alloc, &mut op).is_ok());
+    assert_eq!(rt; number(store.apply(alloc, "1.00000000", &op)), 0);
+    assert_eq!(rt; has_key(alloc, &mut store, "1.00000000", b"k"), Has::Wanted);
     assert_eq!(rt;
-        store.header(alloc, "1.00000000"),
-        Ok(Some(Bytes::from_slice(alloc, b"h")?))
+        has_header(alloc, &mut store, "1.00000000", b"h"),
+        Has::Wanted
     );
-    assert_eq!(rt; store.remove("1.00000000"), Ok(()));
-    assert_eq!(rt; store.header(alloc, "1.00000000"), Ok(None));
-    Ok(())
+    assert_eq!(rt; number(store.remove("1.00000000")), 0);
+    assert_eq!(rt;
+        has_header(alloc, &mut store, "1.00000000", b"h"),
+        Has::Nothing
+    );
 }
 
 #[test]
-fn a_removed_object_may_be_absent(rt: HostRuntime) -> Result<(), Fail> {
-    let mut store = three(rt.alloc())?;
-    assert_eq!(rt; store.remove("d"), Ok(()));
+fn a_removed_object_may_be_absent(rt: HostRuntime) {
+    let mut store = MemStore::new(rt.alloc());
+    assert!(rt; put_three(rt.alloc(), &mut store));
+    assert_eq!(rt; number(store.remove("d")), 0);
     assert!(rt; store.get("a").is_some() && store.get("d").is_none());
-    Ok(())
 }
 
-#[test]
-fn names_come_in_order(rt: HostRuntime) -> Result<(), Fail> {
-    let mut store = three(rt.alloc())?;
-    let names = store.names(rt.alloc())?;
-    let text = names.join(rt.alloc(), " ")?;
-    assert_eq!(rt; text.as_str(), "a b c");
-    let page = store.names_page(rt.alloc(), Some("a"), 1)?;
-    assert_eq!(rt; page.more(), true);
+// Whether all names, joined by spaces, are this text.
+fn has_names(alloc: Global, store: &MemStore, wanted: &str) -> bool {
+    match store.names(alloc) {
+        Ok(names) => are_joined(alloc, &names, wanted),
+        Err(_) => false,
+    }
+}
+
+fn are_joined(alloc: Global, names: &[String], wanted: &str) -> bool {
+    match names.join(alloc, " ") {
+        Ok(text) => text.as_str() == wanted,
+        Err(_) => false,
+    }
+}
+
+// How many names a page has, and whether more follow.
+fn size(page: NamePage) -> (usize, bool) {
+    let more = page.more();
     let names = page.into_names();
-    assert_eq!(rt; names.len(), 1);
-    Ok(())
+    (names.len(), more)
+}
+
+// How many names the page of at most one behind a name has, and whether more follow.
+fn size_behind(alloc: Global, store: &mut MemStore, after: &str) -> (usize, bool) {
+    match store.names_page(alloc, Some(after), 1) {
+        Ok(page) => size(page),
+        Err(_) => (0, false),
+    }
 }
 
 #[test]
-fn the_second_call_fails_and_the_third_goes_on(rt: HostRuntime) -> Result<(), Fail> {
+fn names_come_in_order(rt: HostRuntime) {
+    let mut store = MemStore::new(rt.alloc());
+    assert!(rt; put_three(rt.alloc(), &mut store));
+    assert!(rt; has_names(rt.alloc(), &store, "a b c"));
+    assert_eq!(rt; size_behind(rt.alloc(), &mut store, "a"), (1, true));
+}
+
+#[test]
+fn the_second_call_fails_and_the_third_goes_on(rt: HostRuntime) {
     let alloc = rt.alloc();
     let mut store = FaultStore::new(MemStore::new(alloc), 2);
-    let op = operation(alloc)?;
-    assert_eq!(rt; store.apply(alloc, "a", &op), Ok(()));
+    let mut op = WriteOp::new(alloc);
+    assert!(rt; fill(alloc, &mut op).is_ok());
+    assert_eq!(rt; number(store.apply(alloc, "a", &op)), 0);
     assert_eq!(rt; store.failed(), 0);
-    assert_eq!(rt; keys(alloc, &mut store, "a"), Err(Refusal::StoreFault));
+    assert_eq!(rt; has_key(alloc, &mut store, "a", b"k"), Has::Refused(2));
     assert_eq!(rt; store.failed(), 1);
-    assert_eq!(rt;
-        keys(alloc, &mut store, "a"),
-        Ok(Some(Vec::from_slice(alloc, b"k")?))
-    );
+    assert_eq!(rt; has_key(alloc, &mut store, "a", b"k"), Has::Wanted);
     assert_eq!(rt; store.failed(), 1);
-    Ok(())
+}
+
+// Whether a copy keeps `a` where that is removed from the store.
+fn has_copy(store: &mut MemStore) -> bool {
+    let Ok(copy) = store.try_clone() else {
+        return false;
+    };
+    number(store.remove("a")) == 0 && store.get("a").is_none() && copy.get("a").is_some()
 }
 
 #[test]
-fn a_copy_stands_alone(rt: HostRuntime) -> Result<(), Fail> {
-    let mut store = three(rt.alloc())?;
-    let copy = store.try_clone()?;
-    assert_eq!(rt; store.remove("a"), Ok(()));
-    assert!(rt; store.get("a").is_none());
-    assert!(rt; copy.get("a").is_some());
-    Ok(())
+fn a_copy_stands_alone(rt: HostRuntime) {
+    let mut store = MemStore::new(rt.alloc());
+    assert!(rt; put_three(rt.alloc(), &mut store));
+    assert!(rt; has_copy(&mut store));
 }

@@ -1,134 +1,85 @@
 //! What lines ask for, with expected values by hand from the script's grammar.
-use mds_types::{Dentry, Ino, Mode, Name, Op, PageSize, Rank};
-use script_text::{Command, Line, read_line};
-use std::alloc::Global;
-use std::process::Abort;
-use std::test::Fail;
 
 mod dirfrags;
 mod input;
 mod operations;
+mod wanted;
 
-fn name(alloc: Global, text: &[u8]) -> Result<Name, Fail> {
-    Ok(Name::from_bytes(alloc, text)?)
-}
-
-fn mode(bits: u16) -> Result<Mode, Fail> {
-    Ok(Mode::new(bits).ok_or("mode")?)
-}
-
-fn reads(rt: &impl Abort, alloc: Global, line: &[u8], wanted: Line) -> Result<(), Fail> {
-    let found = read_line(alloc, line)?;
-    assert_eq!(rt; found, wanted);
-    Ok(())
-}
-
-fn operation(op: Op) -> Line {
-    Line::Command(Command::Operation(op))
-}
+use wanted::{Verdict, Wanted, judged, judged_long, reads};
 
 #[test]
-fn lookups(rt: HostRuntime) -> Result<(), Fail> {
+fn lookups(rt: HostRuntime) {
     let alloc = rt.alloc();
-    let lines: &[(&[u8], u64, &[u8])] = &[
-        (b"lookup 1 d", 1, b"d"),
-        (b"  lookup   0 d  ", 0, b"d"),
-        (b"lookup ffffffffffffffff d", u64::MAX, b"d"),
-        (b"lookup 1 %41", 1, b"A"),
-        (b"lookup 1 %C3%a9", 1, b"\xc3\xa9"),
-        (b"lookup 1 -", 1, b"-"),
+    let lines: &[(&[u8], Wanted)] = &[
+        (b"lookup 1 d", Wanted::Lookup((1, b"d"))),
+        (b"  lookup   0 d  ", Wanted::Lookup((0, b"d"))),
+        (
+            b"lookup ffffffffffffffff d",
+            Wanted::Lookup((u64::MAX, b"d")),
+        ),
+        (b"lookup 1 %41", Wanted::Lookup((1, b"A"))),
+        (b"lookup 1 %C3%a9", Wanted::Lookup((1, b"\xc3\xa9"))),
+        (b"lookup 1 -", Wanted::Lookup((1, b"-"))),
     ];
-    for (line, dir, bytes) in lines {
-        let dir = Ino(*dir);
-        let name = name(alloc, bytes)?;
-        reads(
-            &rt,
-            alloc,
-            line,
-            operation(Op::Lookup(Dentry { dir, name })),
-        )?;
+    for (line, wanted) in lines {
+        assert!(rt; reads(alloc, line, *wanted));
     }
-    Ok(())
 }
 
 #[test]
-fn creates(rt: HostRuntime) -> Result<(), Fail> {
+fn creates(rt: HostRuntime) {
     let alloc = rt.alloc();
-    let lines: &[(&[u8], &[u8], u16)] = &[
-        (b"create 1 a! 644", b"a!", 0o644),
-        (b"create 1 a 7", b"a", 0o7),
-        (b"create 1 a 0007", b"a", 0o7),
+    let lines: &[(&[u8], Wanted)] = &[
+        (b"create 1 a! 644", Wanted::Create((1, b"a!"), 0o644)),
+        (b"create 1 a 7", Wanted::Create((1, b"a"), 0o7)),
+        (b"create 1 a 0007", Wanted::Create((1, b"a"), 0o7)),
     ];
-    for (line, bytes, bits) in lines {
-        let op = Op::Create {
-            dentry: Dentry {
-                dir: Ino(1),
-                name: name(alloc, bytes)?,
-            },
-            mode: mode(*bits)?,
-            mtime: 0,
-        };
-        reads(&rt, alloc, line, operation(op))?;
+    for (line, wanted) in lines {
+        assert!(rt; reads(alloc, line, *wanted));
     }
-    Ok(())
 }
 
 #[test]
-fn mkdirs(rt: HostRuntime) -> Result<(), Fail> {
+fn mkdirs(rt: HostRuntime) {
     let alloc = rt.alloc();
-    let lines: &[(&[u8], &[u8], u16)] = &[
-        (b"mkdir 1 d 755", b"d", 0o755),
-        (b"mkdir 1 a 7777", b"a", 0o7777),
+    let lines: &[(&[u8], Wanted)] = &[
+        (b"mkdir 1 d 755", Wanted::Mkdir((1, b"d"), 0o755)),
+        (b"mkdir 1 a 7777", Wanted::Mkdir((1, b"a"), 0o7777)),
     ];
-    for (line, bytes, bits) in lines {
-        let op = Op::Mkdir {
-            dentry: Dentry {
-                dir: Ino(1),
-                name: name(alloc, bytes)?,
-            },
-            mode: mode(*bits)?,
-            mtime: 0,
-        };
-        reads(&rt, alloc, line, operation(op))?;
+    for (line, wanted) in lines {
+        assert!(rt; reads(alloc, line, *wanted));
     }
-    Ok(())
-}
-
-fn readdir(dir: u64, after: Option<Name>, max: u16) -> Result<Line, Fail> {
-    Ok(operation(Op::Readdir {
-        dir: Ino(dir),
-        after,
-        max: PageSize::new(max).ok_or("page size")?,
-    }))
 }
 
 #[test]
-fn readdirs(rt: HostRuntime) -> Result<(), Fail> {
+fn readdirs(rt: HostRuntime) {
     let alloc = rt.alloc();
-    reads(&rt, alloc, b"readdir 1 - 10", readdir(1, None, 10)?)?;
-    let lines: &[(&[u8], u64, &[u8])] = &[
-        (b"readdir 10000000000 a 1024", 0x100_0000_0000, b"a"),
-        (b"readdir 1 %2d 1024", 1, b"-"),
+    let lines: &[(&[u8], Wanted)] = &[
+        (b"readdir 1 - 10", Wanted::Readdir(1, None, 10)),
+        (
+            b"readdir 10000000000 a 1024",
+            Wanted::Readdir(0x100_0000_0000, Some(b"a"), 1024),
+        ),
+        (b"readdir 1 %2d 1024", Wanted::Readdir(1, Some(b"-"), 1024)),
     ];
-    for (line, dir, bytes) in lines {
-        let after = name(alloc, bytes)?;
-        reads(&rt, alloc, line, readdir(*dir, Some(after), 1024)?)?;
+    for (line, wanted) in lines {
+        assert!(rt; reads(alloc, line, *wanted));
     }
-    Ok(())
 }
 
 #[test]
-fn serves(rt: HostRuntime) -> Result<(), Fail> {
-    let lines: &[(&[u8], u8)] = &[(b"serve 0", 0), (b"serve 255", 255)];
-    for (line, rank) in lines {
-        let wanted = Line::Command(Command::Serve(Rank(*rank)));
-        reads(&rt, rt.alloc(), line, wanted)?;
+fn serves(rt: HostRuntime) {
+    let lines: &[(&[u8], Wanted)] = &[
+        (b"serve 0", Wanted::Serve(0)),
+        (b"serve 255", Wanted::Serve(255)),
+    ];
+    for (line, wanted) in lines {
+        assert!(rt; reads(rt.alloc(), line, *wanted));
     }
-    Ok(())
 }
 
 #[test]
-fn no_names(rt: HostRuntime) -> Result<(), Fail> {
+fn no_names(rt: HostRuntime) {
     for line in [
         b"lookup 1 %2f".as_slice(),
         b"lookup 1 %00",
@@ -137,26 +88,19 @@ fn no_names(rt: HostRuntime) -> Result<(), Fail> {
         b"readdir 1 .. 10",
         b"create 1 a%2Fb 644",
     ] {
-        reads(&rt, rt.alloc(), line, Line::BadWord(22))?;
+        assert!(rt; judged(rt.alloc(), line) == Verdict::BadWord(22));
     }
-    Ok(())
 }
 
 #[test]
-fn long_names(rt: HostRuntime) -> Result<(), Fail> {
+fn long_names(rt: HostRuntime) {
     let alloc = rt.alloc();
-    let mut line = b"lookup 1 ".to_vec(alloc)?;
-    for _ in 0..255 {
-        line.push(b'x')?;
-    }
-    let found = read_line(alloc, &line)?;
-    assert!(rt; matches!(&found, Line::Command(_)));
-    line.push(b'x')?;
-    reads(&rt, alloc, &line, Line::BadWord(36))
+    assert!(rt; judged_long(alloc, b"lookup 1 ", 255, b"") == Verdict::Command);
+    assert!(rt; judged_long(alloc, b"lookup 1 ", 256, b"") == Verdict::BadWord(36));
 }
 
 #[test]
-fn bytes_and_ranks_of_no_command(rt: HostRuntime) -> Result<(), Fail> {
+fn bytes_and_ranks_of_no_command(rt: HostRuntime) {
     for line in [
         b"lookup\t1 a".as_slice(),
         b"lookup 1 a\x7f",
@@ -173,13 +117,12 @@ fn bytes_and_ranks_of_no_command(rt: HostRuntime) -> Result<(), Fail> {
         b"Serve 0",
         b"link 1 a",
     ] {
-        reads(&rt, rt.alloc(), line, Line::NotCommand)?;
+        assert!(rt; judged(rt.alloc(), line) == Verdict::NotCommand);
     }
-    Ok(())
 }
 
 #[test]
-fn words_of_no_operation(rt: HostRuntime) -> Result<(), Fail> {
+fn words_of_no_operation(rt: HostRuntime) {
     for line in [
         b"lookup 1 %4".as_slice(),
         b"lookup 1 %",
@@ -204,13 +147,12 @@ fn words_of_no_operation(rt: HostRuntime) -> Result<(), Fail> {
         b"create 1 %2f 888",
         b"mkdir 1 .. 00000",
     ] {
-        reads(&rt, rt.alloc(), line, Line::NotCommand)?;
+        assert!(rt; judged(rt.alloc(), line) == Verdict::NotCommand);
     }
-    Ok(())
 }
 
 #[test]
-fn nothing(rt: HostRuntime) -> Result<(), Fail> {
+fn nothing(rt: HostRuntime) {
     let alloc = rt.alloc();
     for line in [
         b"".as_slice(),
@@ -220,7 +162,6 @@ fn nothing(rt: HostRuntime) -> Result<(), Fail> {
         b"# lookup",
         b"#\x00\xff\t\r",
     ] {
-        reads(&rt, alloc, line, Line::Nothing)?;
+        assert!(rt; judged(alloc, line) == Verdict::Nothing);
     }
-    Ok(())
 }

@@ -1,9 +1,7 @@
 //! The commands on a directory's leaves, as tables worked by hand.
 use mds_types::Frag;
 use script_text::{Command, Line, read_line};
-use std::alloc::Global;
-use std::process::Abort;
-use std::test::Fail;
+use std::alloc::{AllocError, Global};
 
 // What a line asks of a directory's leaves; a fragment as its value and its number of bits.
 #[derive(Clone, Copy, PartialEq)]
@@ -34,15 +32,20 @@ fn asked(command: &Command) -> Wanted {
 }
 
 fn found(alloc: Global, line: &[u8]) -> Wanted {
-    match read_line(alloc, line) {
-        Ok(Line::Command(command)) => asked(&command),
+    let read = read_line(alloc, line);
+    told(&read)
+}
+
+fn told(read: &Result<Line, AllocError>) -> Wanted {
+    match read {
+        Ok(Line::Command(command)) => asked(command),
         Ok(Line::NotCommand) => Wanted::NotCommand,
         _ => Wanted::Other,
     }
 }
 
 #[test]
-fn splits(rt: HostRuntime) -> Result<(), Fail> {
+fn splits(rt: HostRuntime) {
     let alloc = rt.alloc();
     let lines: &[(&[u8], Wanted)] = &[
         (b"dirfrag split 0 1 * 1", Wanted::Split(0, 1, (0, 0), 1)),
@@ -66,11 +69,10 @@ fn splits(rt: HostRuntime) -> Result<(), Fail> {
     for (line, wanted) in lines {
         assert!(rt; found(alloc, line) == *wanted);
     }
-    Ok(())
 }
 
 #[test]
-fn merges_and_leaves(rt: HostRuntime) -> Result<(), Fail> {
+fn merges_and_leaves(rt: HostRuntime) {
     let alloc = rt.alloc();
     let lines: &[(&[u8], Wanted)] = &[
         (b"dirfrag merge 0 1 *", Wanted::Merge(0, 1, (0, 0))),
@@ -85,11 +87,10 @@ fn merges_and_leaves(rt: HostRuntime) -> Result<(), Fail> {
     for (line, wanted) in lines {
         assert!(rt; found(alloc, line) == *wanted);
     }
-    Ok(())
 }
 
 #[test]
-fn other_words(rt: HostRuntime) -> Result<(), Fail> {
+fn other_words(rt: HostRuntime) {
     let alloc = rt.alloc();
     let lines: &[&[u8]] = &[
         b"dirfrag",
@@ -111,11 +112,10 @@ fn other_words(rt: HostRuntime) -> Result<(), Fail> {
     for line in lines {
         assert!(rt; found(alloc, line) == Wanted::NotCommand);
     }
-    Ok(())
 }
 
 #[test]
-fn no_fragments_and_no_numbers_of_bits(rt: HostRuntime) -> Result<(), Fail> {
+fn no_fragments_and_no_numbers_of_bits(rt: HostRuntime) {
     let alloc = rt.alloc();
     let lines: &[&[u8]] = &[
         b"dirfrag split 0 1 1010101010101010101010110* 1",
@@ -133,5 +133,4 @@ fn no_fragments_and_no_numbers_of_bits(rt: HostRuntime) -> Result<(), Fail> {
     for line in lines {
         assert!(rt; found(alloc, line) == Wanted::NotCommand);
     }
-    Ok(())
 }

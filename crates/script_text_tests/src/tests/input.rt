@@ -1,6 +1,5 @@
 //! Lines in, through readers that give little at a time.
 use script_text::{LineBuffer, LineFault, MAX_LINE_LEN, NextLine, next_line};
-use std::alloc::Global;
 use std::io;
 use std::io::{BufRead, Read};
 use std::process::Abort;
@@ -66,36 +65,43 @@ fn lines(rt: HostRuntime) -> Result<(), Fail> {
     Ok(())
 }
 
-fn long_line(alloc: Global, len: usize) -> Result<Vec<u8>, Fail> {
-    let mut bytes = Vec::new(alloc);
+// Puts so many `#` and LF at the end.
+fn put_line(bytes: &mut Vec<u8>, len: usize) -> bool {
+    let mut all = true;
     for _ in 0..len {
-        bytes.push(b'#')?;
+        all = bytes.push(b'#').is_ok() && all;
     }
-    bytes.push(b'\n')?;
-    Ok(bytes)
+    bytes.push(b'\n').is_ok() && all
+}
+
+// What the next line is that a reader shows, all at once or one byte a call.
+fn next_at_once(line: &mut LineBuffer, bytes: &[u8]) -> Result<NextLine, LineFault> {
+    let mut reader = bytes;
+    next_line(&mut reader, line)
+}
+
+fn next_by_bytes(line: &mut LineBuffer, bytes: &[u8]) -> Result<NextLine, LineFault> {
+    let mut reader = Slow {
+        rest: bytes,
+        calls_left: 20_000,
+    };
+    next_line(&mut reader, line)
 }
 
 #[test]
 fn long_lines(rt: HostRuntime) -> Result<(), Fail> {
     let alloc = rt.alloc();
     let mut line = LineBuffer::new(alloc)?;
-    let longest = long_line(alloc, MAX_LINE_LEN)?;
+    let mut longest = Vec::new(alloc);
+    assert!(rt; put_line(&mut longest, MAX_LINE_LEN));
     let mut reader = longest.as_slice();
     assert_eq!(rt; next_line(&mut reader, &mut line), Ok(NextLine::Read));
     assert_eq!(rt; line.as_bytes().len(), 16_384);
     assert_eq!(rt; next_line(&mut reader, &mut line), Ok(NextLine::End));
-    let mut reader = Slow {
-        rest: &longest,
-        calls_left: 20_000,
-    };
-    assert_eq!(rt; next_line(&mut reader, &mut line), Ok(NextLine::Read));
-    let longer = long_line(alloc, 16_385)?;
-    let mut reader = longer.as_slice();
-    assert_eq!(rt; next_line(&mut reader, &mut line), Err(LineFault::TooLong));
-    let mut reader = Slow {
-        rest: &longer,
-        calls_left: 20_000,
-    };
-    assert_eq!(rt; next_line(&mut reader, &mut line), Err(LineFault::TooLong));
+    assert_eq!(rt; next_by_bytes(&mut line, &longest), Ok(NextLine::Read));
+    let mut longer = Vec::new(alloc);
+    assert!(rt; put_line(&mut longer, 16_385));
+    assert_eq!(rt; next_at_once(&mut line, &longer), Err(LineFault::TooLong));
+    assert_eq!(rt; next_by_bytes(&mut line, &longer), Err(LineFault::TooLong));
     Ok(())
 }

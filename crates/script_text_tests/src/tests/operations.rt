@@ -1,71 +1,9 @@
 //! The lines of the operations on links, attributes and places, as tables worked by hand.
-use mds_types::{Dentry, Mode, Op};
-use script_text::{Command, Line, read_line};
-use std::alloc::Global;
-use std::process::Abort;
-use std::test::Fail;
-
-// A dentry: a directory's number and the bytes of a name in it.
-type At<'a> = (u64, &'a [u8]);
-
-// An operation, with the bytes that its words stand for.
-#[derive(Clone, Copy)]
-enum Wanted<'a> {
-    Readlink(At<'a>),
-    Symlink(At<'a>, &'a [u8]),
-    Setattr(At<'a>, Option<u16>, Option<u64>, Option<u64>),
-    Unlink(At<'a>),
-    Rmdir(At<'a>),
-    Rename(At<'a>, At<'a>),
-}
-
-fn is_at(dentry: &Dentry, at: At) -> bool {
-    dentry.dir.0 == at.0 && dentry.name.as_bytes() == at.1
-}
-
-fn has_mode(mode: &Option<Mode>, bits: Option<u16>) -> bool {
-    match mode {
-        Some(mode) => Some(mode.bits()) == bits,
-        None => bits.is_none(),
-    }
-}
-
-fn is_wanted(op: &Op, wanted: Wanted) -> bool {
-    match (op, wanted) {
-        (Op::Readlink(dentry), Wanted::Readlink(at))
-        | (Op::Unlink(dentry), Wanted::Unlink(at))
-        | (Op::Rmdir(dentry), Wanted::Rmdir(at)) => is_at(dentry, at),
-        (
-            Op::Symlink {
-                dentry,
-                target,
-                mtime,
-            },
-            Wanted::Symlink(at, bytes),
-        ) => is_at(dentry, at) && target.as_bytes() == bytes && *mtime == 0,
-        (Op::Setattr { dentry, attributes }, Wanted::Setattr(at, bits, new_size, new_mtime)) => {
-            is_at(dentry, at)
-                && has_mode(&attributes.mode, bits)
-                && attributes.size == new_size
-                && attributes.mtime == new_mtime
-        }
-        (Op::Rename { from, to }, Wanted::Rename(source, target)) => {
-            is_at(from, source) && is_at(to, target)
-        }
-        _ => false,
-    }
-}
-
-fn reads(alloc: Global, line: &[u8], wanted: Wanted) -> bool {
-    match read_line(alloc, line) {
-        Ok(Line::Command(Command::Operation(op))) => is_wanted(&op, wanted),
-        _ => false,
-    }
-}
+use super::wanted::{Verdict, Wanted, judged, judged_long, reads};
 
 // The lines of the two worked rows that have these operations.
 #[test]
-fn rows_of_renames(rt: HostRuntime) -> Result<(), Fail> {
+fn rows_of_renames(rt: HostRuntime) {
     let alloc = rt.alloc();
     let lines: &[(&[u8], Wanted)] = &[
         (
@@ -83,11 +21,10 @@ fn rows_of_renames(rt: HostRuntime) -> Result<(), Fail> {
     for (line, wanted) in lines {
         assert!(rt; reads(alloc, line, *wanted));
     }
-    Ok(())
 }
 
 #[test]
-fn rows_of_links_and_attributes(rt: HostRuntime) -> Result<(), Fail> {
+fn rows_of_links_and_attributes(rt: HostRuntime) {
     let alloc = rt.alloc();
     let lines: &[(&[u8], Wanted)] = &[
         (b"symlink 1 l a%20b", Wanted::Symlink((1, b"l"), b"a b")),
@@ -106,12 +43,11 @@ fn rows_of_links_and_attributes(rt: HostRuntime) -> Result<(), Fail> {
     for (line, wanted) in lines {
         assert!(rt; reads(alloc, line, *wanted));
     }
-    Ok(())
 }
 
 // Attributes in each choice of them.
 #[test]
-fn choices_of_attributes(rt: HostRuntime) -> Result<(), Fail> {
+fn choices_of_attributes(rt: HostRuntime) {
     let alloc = rt.alloc();
     let lines: &[(&[u8], Wanted)] = &[
         (
@@ -138,12 +74,11 @@ fn choices_of_attributes(rt: HostRuntime) -> Result<(), Fail> {
     for (line, wanted) in lines {
         assert!(rt; reads(alloc, line, *wanted));
     }
-    Ok(())
 }
 
 // Names that are words of the script, and escapes.
 #[test]
-fn words_and_escapes(rt: HostRuntime) -> Result<(), Fail> {
+fn words_and_escapes(rt: HostRuntime) {
     let alloc = rt.alloc();
     let lines: &[(&[u8], Wanted)] = &[
         (
@@ -160,31 +95,10 @@ fn words_and_escapes(rt: HostRuntime) -> Result<(), Fail> {
     for (line, wanted) in lines {
         assert!(rt; reads(alloc, line, *wanted));
     }
-    Ok(())
-}
-
-// What a line is, short of what it asks for.
-#[derive(Clone, Copy, PartialEq)]
-enum Verdict {
-    Command,
-    Nothing,
-    BadWord(u16),
-    NotCommand,
-    NoMemory,
-}
-
-fn judged(alloc: Global, line: &[u8]) -> Verdict {
-    match read_line(alloc, line) {
-        Ok(Line::Command(_)) => Verdict::Command,
-        Ok(Line::Nothing) => Verdict::Nothing,
-        Ok(Line::BadWord(errno)) => Verdict::BadWord(errno),
-        Ok(Line::NotCommand) => Verdict::NotCommand,
-        Err(_) => Verdict::NoMemory,
-    }
 }
 
 #[test]
-fn verdicts_on_attributes(rt: HostRuntime) -> Result<(), Fail> {
+fn verdicts_on_attributes(rt: HostRuntime) {
     let alloc = rt.alloc();
     let lines: &[(&[u8], Verdict)] = &[
         (b"setattr 1 f", Verdict::NotCommand),
@@ -210,11 +124,10 @@ fn verdicts_on_attributes(rt: HostRuntime) -> Result<(), Fail> {
     for (line, wanted) in lines {
         assert!(rt; judged(alloc, line) == *wanted);
     }
-    Ok(())
 }
 
 #[test]
-fn verdicts_on_links(rt: HostRuntime) -> Result<(), Fail> {
+fn verdicts_on_links(rt: HostRuntime) {
     let alloc = rt.alloc();
     let lines: &[(&[u8], Verdict)] = &[
         (b"symlink 1 l", Verdict::NotCommand),
@@ -231,11 +144,10 @@ fn verdicts_on_links(rt: HostRuntime) -> Result<(), Fail> {
     for (line, wanted) in lines {
         assert!(rt; judged(alloc, line) == *wanted);
     }
-    Ok(())
 }
 
 #[test]
-fn verdicts_on_places(rt: HostRuntime) -> Result<(), Fail> {
+fn verdicts_on_places(rt: HostRuntime) {
     let alloc = rt.alloc();
     let lines: &[(&[u8], Verdict)] = &[
         (b"req 0 1 1 1 rename 1 a 1 b", Verdict::Command),
@@ -254,28 +166,11 @@ fn verdicts_on_places(rt: HostRuntime) -> Result<(), Fail> {
     for (line, wanted) in lines {
         assert!(rt; judged(alloc, line) == *wanted);
     }
-    Ok(())
-}
-
-// What the line is that has so many `x` between these two parts.
-fn judged_long(alloc: Global, before: &[u8], len: usize, after: &[u8]) -> Verdict {
-    let Ok(mut line) = before.to_vec(alloc) else {
-        return Verdict::NoMemory;
-    };
-    for _ in 0..len {
-        if line.push(b'x').is_err() {
-            return Verdict::NoMemory;
-        }
-    }
-    match line.extend_from_slice(after) {
-        Ok(()) => judged(alloc, &line),
-        Err(_) => Verdict::NoMemory,
-    }
 }
 
 // A word that is too long, alone and beside another bad word: the first decides.
 #[test]
-fn long_words(rt: HostRuntime) -> Result<(), Fail> {
+fn long_words(rt: HostRuntime) {
     let alloc = rt.alloc();
     let lines: &[(&[u8], usize, &[u8], Verdict)] = &[
         (b"symlink 1 l ", 4095, b"", Verdict::Command),
@@ -296,5 +191,4 @@ fn long_words(rt: HostRuntime) -> Result<(), Fail> {
     for (before, len, after, wanted) in lines {
         assert!(rt; judged_long(alloc, before, *len, after) == *wanted);
     }
-    Ok(())
 }
