@@ -9,3 +9,4 @@ pub mod Steps
 pub mod TextLaws
 pub mod TreeLaws
 pub mod TreeLookups
+pub mod WalkLaws
