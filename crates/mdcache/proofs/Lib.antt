@@ -1,4 +1,5 @@
 pub mod CachedLaws
+pub mod EmptyLaws
 pub mod EndLaws
 pub mod NewLaws
 pub mod ObjectLaws

@@ -1,4 +1,4 @@
-use Rattle.std.proofs.Common.{◌≡◌, List, not, refl, sym, ap, subst, ◌∙◌}
+use Rattle.std.proofs.Common.{List, not, refl, ap, subst, ◌∙◌}
 use Rattle.std.specs.List.{list_all}
 use Rattle.mds_types.specs.Frag.{Fragment}
 use Rattle.mds_types.specs.Tree.{has_entries, is_directory}
@@ -8,7 +8,7 @@ use Rattle.mdcache.specs.Cached.{Core, state_of}
 use Rattle.mdcache.specs.Reads.{IsLeafOf, has_none}
 use Rattle.mdcache.specs.Shown.{names_of, shown_tree}
 use Rattle.mdcache.proofs.ReadLaws.{map_if_ok}
-use Rattle.mdcache.proofs.ReadSteps.{dir_known, leaf_live, live_saved, read_kept, read_state}
+use Rattle.mdcache.proofs.ReadSteps.{dir_known, leaf_live, live_saved, read_kept}
 use Rattle.mdcache.proofs.WalkLaws.{told_empty}
 use Rattle.mdcache.proofs.mdcache.MdCache.is_empty.Goals as goal
 
