@@ -1,5 +1,6 @@
 pub mod CachedLaws
 pub mod ChangeLaws
+pub mod EmptyLaws
 pub mod EndLaws
 pub mod GoneLaws
 pub mod HomeLaws
@@ -14,3 +15,4 @@ pub mod Steps
 pub mod TextLaws
 pub mod TreeLaws
 pub mod TreeLookups
+pub mod WalkLaws

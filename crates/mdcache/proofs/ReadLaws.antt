@@ -1,5 +1,5 @@
 -- What reads leave of the places of a cache.
-use Rattle.std.proofs.Common.{◌≡◌, ◌⊎◌, inl, inr, ℕ, ◌+◌, ◌<◌, ◌≤◌, Bool, true, false, cond, not, ◌&&◌, List, [], ◌∷◌, ◌++◌, length, Option, Some, None, Result, Ok, Err, OnOk, OnErr, refl, sym, ap, subst, ◌∙◌, arith}
+use Rattle.std.proofs.Common.{◌≡◌, ◌⊎◌, inl, inr, ℕ, ◌+◌, ◌≤◌, Bool, true, false, cond, not, ◌&&◌, [], ◌∷◌, ◌++◌, length, Option, Some, None, Result, Ok, Err, OnOk, OnErr, refl, sym, ap, subst, ◌∙◌, arith}
 use Rattle.std.specs.Prelude.{◌==◌, IfErr, IfOk}
 use Rattle.std.specs.Map.{lookup, remove_entry}
 use Rattle.std.specs.FinMap as map
@@ -11,7 +11,7 @@ use Rattle.omap.specs.Omap.{Omap, key_cmp}
 use Rattle.objstore.specs.Objects.{Objects}
 use Rattle.commit_jobs.specs.declared.marks.Mark.{Mark}
 use Rattle.cached_frag.specs.Cached.{Cached, is_clean}
-use Rattle.dentry_cache.specs.Cache.{Evicts, Held, IsChanged, IsFull, IsThere, Leaf, MakesRoom, MayMakeRoom, NoneGoes, Places, cached, fragment_in, held, is_evictable, is_kept, leaf_is, may_go, stays, unsaved, unsaved_in, used_as, without}
+use Rattle.dentry_cache.specs.Cache.{Evicts, Held, IsChanged, IsFull, IsThere, Leaf, MakesRoom, NoneGoes, Places, cached, fragment_in, held, is_evictable, is_kept, leaf_is, stays, unsaved, unsaved_in, used_as, without}
 use Rattle.dentry_cache.specs.declared.cache.Place.{Place}
 use Rattle.dentry_cache.specs.Leaving.{IsFound, IsLeft, LeavesBeside}
 use Rattle.dentry_cache.specs.Loading.{IsFetched, IsNotFetched, Loads, MayNotFetch, object_of}

@@ -1,12 +1,12 @@
 -- What reads leave of the state, and what they answer, from the parts of the state.
-use Rattle.std.proofs.Common.{◌≡◌, ◌⊎◌, inl, inr, ℕ, Bool, true, false, cond, List, Option, Some, None, refl, sym, ap, subst, ◌∙◌}
+use Rattle.std.proofs.Common.{◌≡◌, ◌⊎◌, inl, inr, ℕ, true, List, Option, Some, None, refl, sym, ap, subst, ◌∙◌}
 use Rattle.std.specs.FinMap as map
 use Rattle.mds_types.specs.declared.dentries.Dentry.{Dentry}
 use Rattle.mds_types.specs.declared.ids.Ino.{Ino}
 use Rattle.mds_types.specs.declared.inodes.Inode.{Inode}
 use Rattle.mds_types.specs.Frag.{Fragment}
-use Rattle.mds_types.specs.Tree.{dentry_of, is_directory}
-use Rattle.fragtree.specs.FragTree.{IsPick}
+use Rattle.mds_types.specs.Tree.{is_directory}
+use Rattle.fragtree.specs.FragTree.{HasLeaf, IsPick}
 use Rattle.namehash.specs.Rjenkins.{hash_of}
 use Rattle.objstore.specs.Objects.{Objects}
 use Rattle.cached_frag.specs.Cached.{Cached, shown}
@@ -21,7 +21,7 @@ use Rattle.purge_list.specs.PurgeList.{Listed}
 use Rattle.standing_jobs.specs.StandingJobs.{Standing}
 use Rattle.mdcache.specs.declared.mdcache.Counters.{Counters}
 use Rattle.mdcache.specs.Cached.{IsKept, state_of}
-use Rattle.mdcache.specs.Reads.{Reads}
+use Rattle.mdcache.specs.Reads.{IsLeafOf, Reads}
 use Rattle.mdcache.specs.Shown.{names_of, shown_at, shown_tree}
 use Rattle.mdcache.specs.Sound.{IsSaved}
 use Rattle.mdcache.specs.State.{IsLive, State, UnsavedLeaves}
@@ -48,6 +48,11 @@ module _ (dirs : Table) (cache : Held) (objects : Objects) (jobs : Standing) (pu
 
   pub live_saved : (leaf : Leaf) → IsLive dirs.homes dirs.trees leaf → map.get (unsaved cache.entries) leaf ≡ None → IsSaved leaf.1 (object_of objects leaf.0 leaf.1)
   live_saved leaf live = kept.sound.saved leaf live
+
+  pub leaf_live : (dir : Ino) (leaves : List Fragment) → leaves ≡ leaves_of dirs.trees dir.0 → is_known dirs.homes dir.0 ≡ true → (q : Leaf) → IsLeafOf dir leaves q → IsLive dirs.homes dirs.trees q
+  leaf_live dir leaves are known q is =
+      let here : IsLive dirs.homes dirs.trees (dir, q.1) = record { known = known; stands = subst (λ (fs : List Fragment). HasLeaf fs q.1) are is.1 } in
+      subst (λ (d : Ino). IsLive dirs.homes dirs.trees (d, q.1)) (sym is.0) here
 
   module _ (May : Leaf → Type 0) (cache' : Held) (objects' : Objects) (same : objects' ≡ objects) (reads : Reads May objects cache cache') (live : (q : Leaf) → May q → IsLive dirs.homes dirs.trees q) where
     abbrev t : State

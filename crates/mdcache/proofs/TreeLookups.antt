@@ -1,5 +1,5 @@
 -- What stands at a dentry of the shown tree is what the leaf shows that its name picks.
-use Rattle.std.proofs.Common.{◌≡◌, ◌⊎◌, inl, inr, ℕ, zero, suc, ◌==◌, ◌||◌, ◌&&◌, Bool, true, false, cond, List, [], ◌∷◌, ◌++◌, Option, Some, None, ⊎_elim, refl, sym, ap, subst, ◌∙◌, arith}
+use Rattle.std.proofs.Common.{◌≡◌, ◌⊎◌, inl, inr, ℕ, zero, suc, ◌==◌, ◌&&◌, Bool, true, false, cond, List, [], ◌∷◌, ◌++◌, Option, Some, None, ⊎_elim, refl, sym, ap, subst, ◌∙◌, arith}
 use Rattle.std.specs.Prelude.{is_some}
 use Rattle.std.proofs.lemmas.Bool.{eqb-true}
 use Rattle.std.specs.List.{Contains, list_any}
@@ -24,7 +24,7 @@ use Rattle.dentry_cache.specs.Cache.{Leaf}
 use Rattle.inode_table.specs.Dirs.{Covers, Homes, is_known, leaves_of}
 use Rattle.mdcache.specs.Shown.{directories, entries_in, entries_of, entries_under, names_of, shown_tree, tree_of}
 use Rattle.mdcache.specs.Sound.{IsSound}
-use Rattle.mdcache.specs.State.{IsLive, State}
+use Rattle.mdcache.specs.State.{State}
 
 find-append : (q : Dentry) (xs ys : List (Dentry × Inode)) → find dentry_cmp q (xs ++ ys) ≡ option_or (find dentry_cmp q xs) (find dentry_cmp q ys)
 find-append q [] ys = refl

@@ -1,6 +1,10 @@
 -- The state over a store that has no object.
+use Rattle.std.specs.Prelude.{◌≡◌, ◌⊎◌, ℕ}
 use Rattle.std.specs.FinMap as map
 use Rattle.mds_types.specs.Frag.{root_fragment}
+use Rattle.mds_types.specs.declared.refusals.Refusal.{Refusal}
+use Rattle.mds_types.specs.declared.refusals.Refusal.TheVariants.{NotClean}
+use Rattle.objstore.specs.Objects.{MayRefuse, Objects}
 use Rattle.commit_jobs.specs.declared.bases.Base.TheVariants.{Fresh}
 use Rattle.cached_frag.specs.Cached.{Cached}
 use Rattle.dentry_cache.specs.Cache.{Leaf, Unsaved}
@@ -30,3 +34,7 @@ new_state = record {
   next_generation = 2;
   next_version = 1;
 }
+
+-- a store is refused NotClean exactly where it has objects, unless it refuses to tell, or want of memory comes
+abbrev pub MayNotFormat : Objects → (before after : ℕ) → Refusal → Type 0
+MayNotFormat objects before after reason = ((reason ≡ NotClean) × (objects ≡ map.empty → ⊥)) ⊎ MayRefuse before after reason

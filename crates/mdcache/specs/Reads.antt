@@ -1,8 +1,13 @@
 -- What reads leave, and why they may be refused.
-use Rattle.std.specs.Prelude.{◌≡◌, ◌⊎◌, ℕ, ◌+◌, ◌<◌, ◌≤◌, cond, [], ◌∷◌, Some}
+use Rattle.std.specs.Prelude.{◌≡◌, ◌⊎◌, ℕ, ◌+◌, ◌<◌, ◌≤◌, Bool, ◌==◌, cond, List, [], ◌∷◌, Some}
+use Rattle.std.specs.FinMap as map
 use Rattle.mds_types.specs.declared.refusals.Refusal.{Refusal}
 use Rattle.mds_types.specs.declared.refusals.Refusal.TheVariants.{NoMemory, StoreFault, NothingToEvict}
+use Rattle.mds_types.specs.Frag.{Fragment}
+use Rattle.mds_types.specs.declared.ids.Ino.{Ino}
+use Rattle.fragtree.specs.FragTree.{HasLeaf}
 use Rattle.objstore.specs.Objects.{Objects}
+use Rattle.dirfrag_codec.specs.FragmentObject.{Names}
 use Rattle.cached_frag.specs.Cached.{Cached}
 use Rattle.dentry_cache.specs.Cache.{Held, Leaf, Places, cached, is_evictable, unsaved}
 use Rattle.dentry_cache.specs.Loading.{Loads, object_of}
@@ -28,3 +33,11 @@ pub record Reads (May : Leaf → Type 0) (objects : Objects) (old new : Held) : 
   pub from : (leaf : Leaf) (f : Cached) → cached new.entries leaf ≡ Some f → (cached old.entries leaf ≡ Some f) ⊎ (May leaf × Loads leaf.1 (object_of objects leaf.0 leaf.1) (Some f))
   pub cap : new.cap ≡ old.cap
   pub fixed : fixed_places new.entries ≤ fixed_places old.entries
+
+-- a leaf of a directory that has these
+abbrev pub IsLeafOf : Ino → List Fragment → Leaf → Type 0
+IsLeafOf dir leaves leaf = (leaf.0 ≡ dir) × HasLeaf leaves leaf.1
+
+-- whether names are none
+abbrev pub has_none : Names → Bool
+has_none names = map.len names == 0

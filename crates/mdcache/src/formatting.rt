@@ -1,22 +1,47 @@
 //! A tree over a store that has no object.
-ghost use Rattle.std.specs.Prelude.{◌≡◌, ◌≤◌, ◌∷◌, [], IfOk, IfErr};
+ghost use Rattle.std.specs.Prelude.{◌≡◌, ◌≤◌, ◌==◌, ◌↔◌, ◌∷◌, [], length, not, IsTrue, IfOk, OnOk, IfErr};
 ghost use Rattle.std.specs.FinMap as map;
 ghost use Rattle.lru.specs.LruCache.{lru_cache};
 ghost use Rattle.mds_types.specs.declared.refusals.Refusal.TheVariants.{NoMemory};
 ghost use Rattle.dentry_cache.specs.Cache.{held};
-ghost use Rattle.mdcache.specs.New.{cached_root, new_state, root_leaf};
+ghost use Rattle.objstore.specs.Objects.{MayRefuse};
+ghost use Rattle.mdcache.specs.New.{MayNotFormat, cached_root, new_state, root_leaf};
 
 use crate::mdcache::{Counters, MdCache};
 use cached_frag::CachedFrag;
 use dentry_cache::Cache;
 use inode_table::Dirs;
 use mds_types::{Frag, Ino, Refusal};
-use objstore::Store;
+use objstore::{NamePage, Store};
 use purge_list::PurgeList;
 use standing_jobs::StandingJobs;
 use std::alloc::Global;
 
 impl<S: Store + Drop> MdCache<S> {
+    /// The empty tree over a store, as `new` makes it, where the store has no object; it is asked for its first name. Takes
+    /// little memory.
+    ///
+    /// Refused `NotClean` exactly where the store has objects, unless it refuses to tell, and `NoMemory`; the store is handed
+    /// back then, with its objects as they were.
+    pub fn format(alloc: Global, mut store: S, places: usize) -> Result<MdCache<S>, (Refusal, S)>
+        requires few { 512 ≤ places }
+        requires many { places ≤ 65536 }
+        ensures empty { OnOk result (S.objects store ≡ map.empty) }
+        ensures state { IfOk result (λ m. m.state ≡ new_state) }
+        ensures cache { IfOk result (λ m. m.cache ≡ lru_cache ((root_leaf, held cached_root) ∷ []) places) }
+        ensures refused { IfErr result (λ back. MayNotFormat (S.objects store) (S.faults store) (S.faults back.1) back.0) }
+        ensures left { IfErr result (λ back. S.objects back.1 ≡ S.objects store) }
+    {
+        match has_objects(alloc, &mut store) {
+            Err(refusal) => Err((refusal, store)),
+            Ok(true) => Err((Refusal::NotClean, store)),
+            Ok(false) => match MdCache::new(alloc, store, places) {
+                Ok(made) => Ok(made),
+                Err(store) => Err((Refusal::NoMemory, store)),
+            },
+        }
+    }
+
     /// The empty tree over a store that has no object, with a cache of so many places. The root's leaf `*` is the first
     /// fragment made; it is cached, and no object counts for it. Takes little memory; where that is refused the store is
     /// handed back as it was.
@@ -59,4 +84,24 @@ fn root_cache(alloc: Global, places: usize) -> Result<Cache, Refusal>
     }
     cache.fill(Ino::ROOT, Frag::ROOT, CachedFrag::fresh(alloc, 1));
     Ok(cache)
+}
+
+// Whether a store has objects.
+fn has_objects<S: Store>(alloc: Global, store: &mut S) -> Result<bool, Refusal>
+    ensures found { IfOk result (λ some. IsTrue some ↔ (S.objects store.old ≡ map.empty → ⊥)) }
+    ensures same { S.objects store.new ≡ S.objects store.old }
+    ensures refused { IfErr result (MayRefuse (S.faults store.old) (S.faults store.new)) }
+    ensures grows { S.faults store.old ≤ S.faults store.new }
+{
+    match store.names_page(alloc, None, 1) {
+        Ok(page) => Ok(has_names(&page)),
+        Err(refusal) => Err(refusal),
+    }
+}
+
+// Whether a page has names.
+fn has_names(page: &NamePage) -> bool
+    ensures { result ≡ not (length page.now.names == 0) }
+{
+    !page.names().is_empty()
 }

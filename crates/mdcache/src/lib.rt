@@ -5,6 +5,7 @@
 
 mod beginning;
 mod dropping;
+mod emptiness;
 mod ending;
 mod evicting;
 mod fetching;

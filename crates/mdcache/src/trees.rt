@@ -15,8 +15,8 @@ use omap::{Bytes, WriteOp};
 use std::alloc::Global;
 
 impl<S: Store + Drop> MdCache<S> {
-    /// Makes the object of a directory's tree say what leaves the directory has: it is written, if there is more than one,
-    /// and removed otherwise. Its name leaves the purge list. Takes memory before it
+    /// Makes the object of a directory's tree say what leaves the directory has: it is written, if there is more than one
+    /// and the object isn't so already, and removed, if there is one. Its name leaves the purge list. Takes memory before it
     /// writes.
     ///
     /// Refused `NoSuchFrag` exactly where there is no such directory; otherwise as the store refuses, and `NoMemory`.
@@ -55,7 +55,34 @@ fn save_tree<S: Store>(
         return store.remove(name);
     }
     let header = encode_tree(alloc, &tree)?;
+    if is_written(alloc, store, name, &header)? {
+        return Ok(());
+    }
     write_tree(alloc, store, name, header)
+}
+
+// Whether the object of this name has this header, and no pairs.
+fn is_written<S: Store>(
+    alloc: Global,
+    store: &mut S,
+    name: &str,
+    header: &[u8],
+) -> Result<bool, Refusal>
+    ensures so { IfOk result (λ so. so ≡ true → map.get (S.objects store.old) name.now ≡ Some (record { header = header.now; pairs = map.empty })) }
+    ensures same { S.objects store.new ≡ S.objects store.old }
+    ensures refused { IfErr result (MayRefuse (S.faults store.old) (S.faults store.new)) }
+    ensures grows { S.faults store.old ≤ S.faults store.new }
+{
+    let Some(bytes) = store.header(alloc, name)? else {
+        return Ok(false);
+    };
+    if bytes.as_slice() != header {
+        return Ok(false);
+    }
+    let Some(page) = store.page(alloc, name, None, 1)? else {
+        return Ok(false);
+    };
+    Ok(page.pairs().is_empty())
 }
 
 // Writes the object of this name: this header, and no pairs.
