@@ -1,3 +1,4 @@
+pub mod AddSteps
 pub mod CachedLaws
 pub mod ChangeLaws
 pub mod EndLaws
@@ -6,6 +7,7 @@ pub mod HomeLaws
 pub mod NamedLaws
 pub mod NewLaws
 pub mod ObjectLaws
+pub mod PutSteps
 pub mod ShownLaws
 pub mod SoundLaws
 pub mod Steps
