@@ -1,5 +1,5 @@
 -- What is cached once a fragment is used or changed, and what isn't clean then.
-use Rattle.std.proofs.Common.{◌≡◌, ℕ, Bool, true, false, cond, Option, Some, None, inl, inr, refl, sym, ap, subst, ◌∙◌}
+use Rattle.std.proofs.Common.{◌≡◌, ◌⊎◌, ℕ, ◌<◌, Bool, true, false, cond, Option, Some, None, inl, inr, refl, sym, ap, subst, ◌∙◌, arith}
 use Rattle.std.specs.Map.{lookup}
 use Rattle.std.specs.FinMap as map
 use Rattle.std.specs.FinMap.{get-insert, get-remove, same_map}
@@ -11,13 +11,13 @@ use Rattle.cached_frag.specs.Cached.{Cached, is_clean}
 use Rattle.dentry_cache.specs.Cache.{Held, IsChanged, Leaf, Unsaved, cached, fragment_in, held, leaf_cmp, leaf_is, unsaved, unsaved_in, unsaved_of, used_as, with_unsaved}
 use Rattle.dentry_cache.specs.declared.cache.Place.{Place}
 use Rattle.dentry_cache.specs.Leaving.{IsLeft, Leaves}
-use Rattle.dentry_cache.specs.Loading.{object_of}
+use Rattle.dentry_cache.specs.Loading.{Loads, object_of}
 use Rattle.dentry_cache.specs.Ties.{AreTied, IsTied, IsTiedAt}
 use Rattle.dentry_cache.proofs.CacheLaws.{get-unsaved, unsaved_alike}
 use Rattle.dentry_cache.proofs.LeafLaws.{flips, leaf-exact, leaf-total, one_leaf, tied_leaf}
 use Rattle.dentry_cache.proofs.UsedLaws.{after_use}
 use Rattle.inode_table.specs.Dirs.{Covers, Homes}
-use Rattle.mdcache.specs.Cached.{AreLive, IsSameBut, KeepsCached}
+use Rattle.mdcache.specs.Cached.{AreLive, AreMade, IsSameBut, KeepsCached}
 use Rattle.mdcache.specs.State.{IsLive}
 
 -- ---- a fragment that is used
@@ -75,6 +75,33 @@ module _ (old new : Held) (keeps : KeepsCached old new) where
           let same : g ≡ record f { room = g.room; places = g.places } = subst (λ (p : Option Cached). IsSameBut (Some f) p) there h in
           subst (λ (k : Cached). IsTied k (object_of objects leaf.0 leaf.1)) (sym same) (tied_but f.base f g.room g.places (object_of objects leaf.0 leaf.1) (tied leaf f is))
 
+  pub keeps_made : (next : ℕ) → AreMade next old.entries → AreMade next new.entries
+  keeps_made next made = record { begun = made.begun; given = λ leaf g there. go leaf g there (cached old.entries leaf) refl (keeps leaf) }
+    where
+      go : (leaf : Leaf) (g : Cached) → cached new.entries leaf ≡ Some g → (o : Option Cached) → cached old.entries leaf ≡ o → IsSameBut o (cached new.entries leaf) → g.generation < next
+      go leaf g there None is h = absurd (subst (λ (p : Option Cached). IsSameBut None p) there h)
+      go leaf g there (Some f) is h =
+          let same : g ≡ record f { room = g.room; places = g.places } = subst (λ (p : Option Cached). IsSameBut (Some f) p) there h in
+          let generation : g.generation ≡ f.generation = ap (λ (k : Cached). k.generation) same in
+          let given = made.given leaf f is in
+          omega (arith, given, generation)
+
+-- what was fetched has generation 0
+pub read_made : (next : ℕ) (May : Leaf → Type 0) (objects : Objects) (old new : Held) → ((leaf : Leaf) (f : Cached) → cached new.entries leaf ≡ Some f → (cached old.entries leaf ≡ Some f) ⊎ (May leaf × Loads leaf.1 (object_of objects leaf.0 leaf.1) (Some f)))
+    → AreMade next old.entries → AreMade next new.entries
+read_made next May objects old new from made = record { begun = made.begun; given = λ leaf f is. go leaf f (from leaf f is) }
+  where
+    loaded : (leaf : Leaf) (f : Cached) (object : Option Omap) → Loads leaf.1 object (Some f) → f.generation < next
+    loaded leaf f None h = absurd h
+    loaded leaf f (Some object) h =
+        let begun = made.begun in
+        let generation : f.generation ≡ 0 = ap (λ (k : Cached). k.generation) h.3 in
+        omega (arith, begun, generation)
+
+    go : (leaf : Leaf) (f : Cached) → (cached old.entries leaf ≡ Some f) ⊎ (May leaf × Loads leaf.1 (object_of objects leaf.0 leaf.1) (Some f)) → f.generation < next
+    go leaf f (inl was) = made.given leaf f was
+    go leaf f (inr came) = loaded leaf f (object_of objects leaf.0 leaf.1) came.1
+
 -- ---- what isn't clean
 
 pub get_with : (m : map.FinMap leaf_cmp Unsaved) (leaf q : Leaf) (u : Option Unsaved) → map.get (with_unsaved m leaf u) q ≡ cond (leaf_is q leaf) u (map.get m q)
@@ -120,3 +147,6 @@ module _ (stay : Option Leaf) (old new : Held) (left : Leaves stay old.entries n
 
   pub left_tied : (objects : Objects) → AreTied old.entries objects → AreTied new.entries objects
   left_tied objects tied q f is = tied q f (was_cached q f is)
+
+  pub left_made : (next : ℕ) → AreMade next old.entries → AreMade next new.entries
+  left_made next made = record { begun = made.begun; given = λ q f is. made.given q f (was_cached q f is) }

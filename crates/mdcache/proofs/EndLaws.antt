@@ -258,8 +258,19 @@ module _ (s : State) (job : Job) (old : Held) (kept : IsKept s old) (view : s.un
       go true same h = subst (IsLive s.homes s.covers) (one_leaf leaf q same) live
       go false apart h = kept.live q g h
 
+  made_stays : (q : Leaf) (g : Cached) → cached (used_as leaf (held now) old).entries q ≡ Some g → g.generation < s.next_generation
+  made_stays q g is = go (leaf_is leaf q) refl (sym (cached_after leaf q now old) ∙ is)
+    where
+      go : (b : Bool) → leaf_is leaf q ≡ b → cond b (Some now) (cached old.entries q) ≡ Some g → g.generation < s.next_generation
+      go true same h =
+          let one : now ≡ g = cc in
+          let given = kept.made.given leaf f there in
+          let generation : g.generation ≡ f.generation = ap (λ (k : Cached). k.generation) (sym one) ∙ done.generation in
+          omega (arith, given, generation)
+      go false apart h = kept.made.given q g h
+
   pub ended_kept : IsKept t (used_as leaf (held now) old)
-  ended_kept = record { sound = ended_sound; live = live_stays; tied = tied_stays }
+  ended_kept = record { sound = ended_sound; live = live_stays; tied = tied_stays; made = record { begun = kept.made.begun; given = made_stays } }
 
   pub ended : IsEnded s t job
   ended = record { stood = stood; unsaved = u; beside = stands.beside; left = refl; spelled = subst (λ o. HasSpelled o (next_version snap.base) (names_then snap object)) (sym object_here) spells; tree = tree_stays }

@@ -1,3 +1,4 @@
+pub mod AddSteps
 pub mod CachedLaws
 pub mod ChangeLaws
 pub mod EmptyLaws
@@ -7,6 +8,7 @@ pub mod HomeLaws
 pub mod NamedLaws
 pub mod NewLaws
 pub mod ObjectLaws
+pub mod PutSteps
 pub mod ReadLaws
 pub mod ReadSteps
 pub mod ShownLaws

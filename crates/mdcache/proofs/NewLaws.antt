@@ -140,6 +140,10 @@ new_kept places = record {
   sound = new_sound;
   live = λ leaf f is. subst (IsLive no_homes no_covers) (sym (only_root leaf f is).0) root_live;
   tied = λ leaf f is. subst (λ (g : Cached). IsTied g (object_of new_state.objects leaf.0 leaf.1)) (only_root leaf f is).1 tt;
+  made = record {
+    begun = omega arith;
+    given = λ leaf f is. let generation = ap (λ (g : Cached). g.generation) (only_root leaf f is).1 in omega (arith, generation);
+  };
 }
 
 -- what isn't clean of the new places

@@ -67,6 +67,7 @@ module _ (s : State) (objects : Objects) (purge : Keys) (sound : IsSound s) wher
       sound = is;
       live = old.live;
       tied = λ leaf f there. subst (IsTied f) (sym (same leaf (old.live leaf f there))) (old.tied leaf f there);
+      made = old.made;
     }
 
 -- ---- jobs

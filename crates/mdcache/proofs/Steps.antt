@@ -32,7 +32,7 @@ use Rattle.mdcache.specs.Objects.{PurgesName, Purges, SavesTree, purged, tree_sa
 use Rattle.mdcache.specs.Shown.{shown_at, shown_tree}
 use Rattle.mdcache.specs.Sound.{AreYoung, IsOf, IsSound}
 use Rattle.mdcache.specs.State.{IsLive, State, UnsavedLeaves, tree_text}
-use Rattle.mdcache.proofs.CachedLaws.{is_cached, keeps_live, keeps_tied, keeps_unsaved, left_live, left_tied, used_keeps}
+use Rattle.mdcache.proofs.CachedLaws.{is_cached, keeps_live, keeps_made, keeps_tied, keeps_unsaved, left_live, left_made, left_tied, used_keeps}
 use Rattle.mdcache.proofs.ObjectLaws.{purged_kept, purged_tree, tree_saved_kept, tree_saved_tree}
 use Rattle.mdcache.proofs.SoundLaws.{begun_sound, dropped_sound}
 
@@ -92,7 +92,7 @@ module _ (dirs : Table) (cache : Held) (objects : Objects) (jobs : Standing) (pu
   -- a job is dropped
   module _ (jobs' : Standing) (leaf : Leaf) (ended : jobs'.jobs ≡ map.remove jobs.jobs leaf) where
     pub dropped_kept : IsKept (state_of dirs cache objects jobs' purge next) cache
-    dropped_kept = subst (λ (j : Jobs). IsKept (record s { jobs = j }) cache) (sym ended) (record { sound = dropped_sound s leaf kept.sound; live = kept.live; tied = kept.tied })
+    dropped_kept = subst (λ (j : Jobs). IsKept (record s { jobs = j }) cache) (sym ended) (record { sound = dropped_sound s leaf kept.sound; live = kept.live; tied = kept.tied; made = kept.made })
 
     pub dropped_is : (number : ℕ) → Finds jobs.jobs number (Some leaf) → IsDropped s (state_of dirs cache objects jobs' purge next) number
     dropped_is number found = record { leaf = leaf; job = found.0; stood = found.1; numbered = found.2; left = λ i. record s { jobs = ended i } }
@@ -100,11 +100,11 @@ module _ (dirs : Table) (cache : Held) (objects : Objects) (jobs : Standing) (pu
   -- a place becomes free, or a fragment is used
   pub left_kept : (stay : Option Leaf) (cache' : Held) → unsaved cache'.entries ≡ unsaved cache.entries → Leaves stay cache.entries cache'.entries → IsKept (state_of dirs cache' objects jobs purge next) cache'
   left_kept stay cache' same left =
-      subst (λ (u : UnsavedLeaves). IsKept (record s { unsaved = u }) cache') (sym same) (record { sound = kept.sound; live = left_live stay cache cache' left dirs.homes dirs.trees kept.live; tied = left_tied stay cache cache' left objects kept.tied })
+      subst (λ (u : UnsavedLeaves). IsKept (record s { unsaved = u }) cache') (sym same) (record { sound = kept.sound; live = left_live stay cache cache' left dirs.homes dirs.trees kept.live; tied = left_tied stay cache cache' left objects kept.tied; made = left_made stay cache cache' left next.generation kept.made })
 
   pub used_kept : (cache' : Held) → KeepsCached cache cache' → IsKept (state_of dirs cache' objects jobs purge next) cache'
   used_kept cache' keeps =
-      subst (λ (u : UnsavedLeaves). IsKept (record s { unsaved = u }) cache') (sym (keeps_unsaved cache cache' keeps)) (record { sound = kept.sound; live = keeps_live cache cache' keeps dirs.homes dirs.trees kept.live; tied = keeps_tied cache cache' keeps objects kept.tied })
+      subst (λ (u : UnsavedLeaves). IsKept (record s { unsaved = u }) cache') (sym (keeps_unsaved cache cache' keeps)) (record { sound = kept.sound; live = keeps_live cache cache' keeps dirs.homes dirs.trees kept.live; tied = keeps_tied cache cache' keeps objects kept.tied; made = keeps_made cache cache' keeps next.generation kept.made })
 
   -- an object is purged
   module _ (objects' : Objects) (purge' : Listed) (name : List ℕ) (first : first_name purge.names ≡ Some name) (done : objects' ≡ map.remove objects name)
@@ -224,6 +224,7 @@ module _ (dirs : Table) (cache : Held) (objects : Objects) (jobs : Standing) (pu
           sound = subst IsSound (sym is_begun) is_sound;
           live = keeps_live cache cache' keeps dirs.homes dirs.trees kept.live;
           tied = keeps_tied cache cache' keeps objects kept.tied;
+          made = keeps_made cache cache' keeps next.generation kept.made;
         }
 
         pub begun_is : Begins s began leaf (Ok (Some job))

@@ -1,5 +1,5 @@
 -- What stands beside the state: a refused step may change it, but for what the state has of it.
-use Rattle.std.specs.Prelude.{◌≡◌, ℕ, Option, Some, None}
+use Rattle.std.specs.Prelude.{◌≡◌, ℕ, ◌<◌, Option, Some, None}
 use Rattle.cached_frag.specs.Cached.{Cached}
 use Rattle.objstore.specs.Objects.{Objects}
 use Rattle.dentry_cache.specs.Cache.{Held, Leaf, Places, cached, unsaved}
@@ -11,10 +11,12 @@ use Rattle.mdcache.specs.declared.mdcache.Counters.{Counters}
 use Rattle.mdcache.specs.Sound.{IsSound}
 use Rattle.mdcache.specs.State.{IsLive, State}
 
--- the state, the places of the cache in the order of their use, and how many faults the store had
+-- the state, the places of the cache in the order of their use, how many more directories fit with no growth, and how many faults the
+-- store had
 pub record Core : Type 0 where
   pub state : State
   pub cache : Held
+  pub dirs_left : ℕ
   pub faults : ℕ
 
 abbrev pub state_of : Table → Held → Objects → Standing → Listed → Counters → State
@@ -34,11 +36,17 @@ state_of dirs cache objects jobs purge next = record {
 abbrev pub AreLive : Homes → Covers → Places → Type 0
 AreLive homes covers places = (leaf : Leaf) (f : Cached) → cached places leaf ≡ Some f → IsLive homes covers leaf
 
--- the state is sound, and each cached fragment is a live leaf and is tied to its object
+-- the generation of each cached fragment was given out, or is 0, that of one that was fetched
+pub record AreMade (next : ℕ) (places : Places) : Type 0 where
+  pub begun : 0 < next
+  pub given : (leaf : Leaf) (f : Cached) → cached places leaf ≡ Some f → f.generation < next
+
+-- the state is sound, and each cached fragment is a live leaf, is tied to its object, and has a generation that was given out
 pub record IsKept (state : State) (cache : Held) : Type 0 where
   pub sound : IsSound state
   pub live : AreLive state.homes state.covers cache.entries
   pub tied : AreTied cache.entries state.objects
+  pub made : AreMade state.next_generation cache.entries
 
 -- what is cached of a leaf stays, but for the room that it has
 abbrev pub IsSameBut : Option Cached → Option Cached → Type 0

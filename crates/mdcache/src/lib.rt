@@ -3,6 +3,7 @@
 //! What a leaf shows is what isn't clean of it over its object, so no fetch and no eviction changes the tree that is shown.
 #![tactic(auto)]
 
+mod adding;
 mod beginning;
 mod dropping;
 mod emptiness;
@@ -15,6 +16,7 @@ mod leaves;
 mod mdcache;
 mod purging;
 mod reading;
+mod setting;
 mod trees;
 
 pub use laws::changes_are_right;

@@ -1,0 +1,31 @@
+//! An inode gets other attributes.
+ghost use Rattle.std.specs.Prelude.{◌≡◌, ◌-◌, ◌<◌, ◌^◌};
+ghost use Rattle.dirfrag_codec.specs.EntryRecord.{IsRecordable};
+ghost use Rattle.dentry_cache.specs.Cache.{HasRoom, cached};
+ghost use Rattle.namespace_ops.specs.Changes.{MayChange};
+ghost use Rattle.namespace_ops.specs.declared.plans.Change.TheVariants.{Set};
+ghost use Rattle.mdcache.specs.Changes.{Makes};
+ghost use Rattle.mdcache.specs.Made.{IsRight};
+ghost use Rattle.mdcache.specs.Shown.{shown_tree};
+
+use crate::mdcache::MdCache;
+use mds_types::{Dentry, Frag, Inode};
+use objstore::Store;
+
+impl<S: Store + Drop> MdCache<S> {
+    /// Gives the inode at a dentry other attributes. `leaf` is the one that the dentry belongs to; it is cached, and has room
+    /// for a change. The name is dirty then, whatever was changed. Takes no memory.
+    pub fn set_entry(&mut self, dentry: Dentry, leaf: Frag, inode: Inode)
+        requires may { MayChange (shown_tree self.old.state) self.old.state.covers (Set dentry leaf inode) }
+        requires room { HasRoom (cached self.old.cache.entries (dentry.dir, leaf)) }
+        requires number { self.old.state.next_version < 2 ^ 64 - 1 }
+        requires recordable { IsRecordable inode }
+        ensures made { Makes (Set dentry leaf inode) self.old.state self.new.state }
+        ensures right { IsRight (Set dentry leaf inode) self.old.state self.new.state }
+        ensures faults { self.new.faults ≡ self.old.faults }
+    {
+        self.cache
+            .put(dentry.dir, leaf, dentry.name, inode, self.next.version);
+        self.next.version += 1;
+    }
+}
