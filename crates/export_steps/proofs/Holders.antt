@@ -4,8 +4,9 @@ use Rattle.std.proofs.Common.{sym, ap, ◌∙◌}
 use Rattle.std.specs.FinMap as map
 use Rattle.mds_types.specs.declared.ids.Rank.{Rank}
 use Rattle.inode_table.specs.Dirs.{Homes, Covers, IsTable}
-use Rattle.subtree_map.specs.Authority.{Leaf, Roots, IsLeaf, IsSubtrees, NearestRoot}
-use Rattle.subtree_map.proofs.LeafKeys.{not_none, one_value}
+use Rattle.mds_types.specs.Leaf.{Leaf}
+use Rattle.subtree_map.specs.Authority.{Roots, IsLeaf, IsSubtrees, NearestRoot}
+use Rattle.subtree_map.proofs.Options.{not_none, one_value}
 use Rattle.subtree_map.proofs.Nearest.{one_root, is_ranked, some_root}
 use Rattle.export_steps.specs.declared.exports.StandingExport.{StandingExport}
 use Rattle.export_steps.specs.Standing.{Standing, is_freezing}

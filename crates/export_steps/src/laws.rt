@@ -2,7 +2,8 @@
 ghost use Rattle.std.specs.Prelude.{◌≡◌};
 ghost use Rattle.mds_types.specs.declared.ids.Rank.{Rank};
 ghost use Rattle.inode_table.specs.Dirs.{Homes, Covers, IsTable};
-ghost use Rattle.subtree_map.specs.Authority.{HasAuthority, IsLeaf, IsSubtrees, Leaf, Roots};
+ghost use Rattle.mds_types.specs.Leaf.{Leaf};
+ghost use Rattle.subtree_map.specs.Authority.{HasAuthority, IsLeaf, IsSubtrees, Roots};
 ghost use Rattle.subtree_map.specs.Changes.{Subtrees as SubtreesSeen};
 ghost use Rattle.export_steps.specs.Standing.{ArePlaced, ComesTo, IsCancel, IsFinish, IsFreeze, Standing};
 ghost use Rattle.export_steps.specs.declared.exports.ExportState.TheVariants as state;

@@ -12,8 +12,9 @@ use Rattle.sorted_map.proofs.NatKeys.{is_same}
 use Rattle.mds_types.specs.Frag.{Fragment}
 use Rattle.sorted_map.proofs.MapLaws.{tie}
 use Rattle.mds_types.proofs.EntrySearch.{not_found_below}
-use Rattle.leaf_maps.specs.Leaves.{Leaf, Rows, Leaves, leaf_cmp, kept_of}
-use Rattle.leaf_maps.proofs.LeafLaws.{leaf-exact, leaf-total}
+use Rattle.mds_types.specs.Leaf.{Leaf, leaf_cmp}
+use Rattle.leaf_maps.specs.Leaves.{Rows, Leaves, kept_of}
+use Rattle.mds_types.proofs.LeafLaws.{leaf-exact, leaf-total}
 use Rattle.leaf_maps.proofs.OneLeaf.{key, apart_keys}
 use Rattle.leaf_maps.specs.Listed.{leaves_of_dir}
 

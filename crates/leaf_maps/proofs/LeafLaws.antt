@@ -4,18 +4,15 @@ use Rattle.std.specs.Option.{option_or}
 use Rattle.std.proofs.Common.{sym, ap, ◌∙◌, arith}
 use Rattle.std.proofs.lemmas.Bool.Decides.{nat_tests}
 use Rattle.std.specs.Ordering.{nat_cmp, is_eq, eq_by_cmp}
-use Rattle.std.specs.Cmp.{IsTotalOrder, on_total, then_total, nat_cmp_total, tied_itself}
+use Rattle.std.specs.Cmp.{tied_itself}
 use Rattle.std.specs.Cmp.Lexicographic.{slice_cmp}
 use Rattle.std.specs.FinMap as finmap
-use Rattle.std.specs.FinMap.{IsAntisymmetric, find, is_sorted, get-entries, entries_sorted, get-from_entries, get-empty}
-use Rattle.std.proofs.lemmas.Map.Lookups.{exact_pairs}
-use Rattle.mds_types.specs.declared.ids.Ino.{Ino}
+use Rattle.std.specs.FinMap.{find, is_sorted, get-entries, entries_sorted, get-from_entries, get-empty}
 use Rattle.mds_types.specs.declared.dentries.Dentry.{Dentry}
 use Rattle.mds_types.specs.declared.inodes.Inode.{Inode}
-use Rattle.mds_types.specs.Frag.{Fragment, frag_cmp}
+use Rattle.mds_types.specs.Frag.{Fragment}
 use Rattle.mds_types.specs.Tree.{dentry_cmp, dentry_of}
-use Rattle.mds_types.proofs.OrderLaws.{dentry-total, frag-total}
-use Rattle.mds_types.specs.OrderLaws.{ino-exact, frag-exact}
+use Rattle.mds_types.proofs.OrderLaws.{dentry-total}
 use Rattle.sorted_map.proofs.MapLaws.{tie}
 use Rattle.mds_types.proofs.EntrySearch.{not_found_below}
 use Rattle.mds_types.proofs.ListingLaws.{tied_dentry}
@@ -24,13 +21,9 @@ use Rattle.sorted_map.specs.SortedMap.{contents}
 use Rattle.fragtree.specs.FragTree.{IsPick}
 use Rattle.namehash.specs.Rjenkins.{hash_of}
 use Rattle.inode_table.specs.Dirs.{Covers, leaves_of}
-use Rattle.leaf_maps.specs.Leaves.{Leaf, leaf_cmp, Rows, Leaves, names_of, entries_of, entries_in, shown_by, ArePlaced, IsShown}
-
-pub leaf-exact : IsAntisymmetric leaf_cmp
-leaf-exact = exact_pairs (λ (a b : Ino). nat_cmp a.0 b.0) frag_cmp ino-exact frag-exact
-
-pub leaf-total : IsTotalOrder leaf_cmp
-leaf-total = then_total (on_total (λ (l : Leaf). l.0.0) nat_cmp_total) (on_total (λ (l : Leaf). l.1) frag-total)
+use Rattle.mds_types.specs.Leaf.{Leaf, leaf_cmp}
+use Rattle.mds_types.proofs.LeafLaws.{leaf-exact, leaf-total}
+use Rattle.leaf_maps.specs.Leaves.{Rows, Leaves, names_of, entries_of, entries_in, shown_by, ArePlaced, IsShown}
 
 -- an entry of a directory's names is found by its name
 pub found_row : (d e : ℕ) (name : List ℕ) (rows : List (List ℕ × Inode)) (rest : List (Dentry × Inode)) (b : Bool) → (e == d) ≡ b

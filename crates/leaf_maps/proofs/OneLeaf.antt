@@ -6,8 +6,9 @@ use Rattle.std.specs.Cmp.{tied_itself}
 use Rattle.mds_types.specs.Frag.{Fragment}
 use Rattle.sorted_map.proofs.MapLaws.{tie}
 use Rattle.sorted_map.proofs.Bools.{not_true}
-use Rattle.leaf_maps.specs.Leaves.{Leaf, leaf_cmp, Leaves, names_in}
-use Rattle.leaf_maps.proofs.LeafLaws.{leaf-exact, leaf-total}
+use Rattle.mds_types.specs.Leaf.{Leaf, leaf_cmp}
+use Rattle.leaf_maps.specs.Leaves.{Leaves, names_in}
+use Rattle.mds_types.proofs.LeafLaws.{leaf-exact, leaf-total}
 
 -- the key of a leaf
 abbrev pub key : ℕ → Fragment → Leaf

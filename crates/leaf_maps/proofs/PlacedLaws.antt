@@ -22,8 +22,10 @@ use Rattle.sorted_map.specs.SortedMap.{contents}
 use Rattle.fragtree.specs.FragTree.{IsPick}
 use Rattle.namehash.specs.Rjenkins.{hash_of}
 use Rattle.inode_table.specs.Dirs.{Covers, leaves_of}
-use Rattle.leaf_maps.specs.Leaves.{Leaf, leaf_cmp, Rows, Leaves, names_of, entries_of, entries_in, shown_by, ArePlaced}
-use Rattle.leaf_maps.proofs.LeafLaws.{leaf-total, found_row, first_at, found_first}
+use Rattle.mds_types.specs.Leaf.{Leaf, leaf_cmp}
+use Rattle.leaf_maps.specs.Leaves.{Rows, Leaves, names_of, entries_of, entries_in, shown_by, ArePlaced}
+use Rattle.mds_types.proofs.LeafLaws.{leaf-total}
+use Rattle.leaf_maps.proofs.LeafLaws.{found_row, first_at, found_first}
 use Rattle.leaf_maps.specs.Listed.{leaves_of_dir, rows_of, rows_in}
 use Rattle.leaf_maps.specs.Merge.{Row, HasSameRows, IsOrderOf}
 use Rattle.leaf_maps.proofs.ShownLaws.{AreDistinct, shown_rows}

@@ -13,9 +13,11 @@ use Rattle.sorted_map.proofs.Bools.{first_true, second_true, both_true}
 use Rattle.sorted_map.proofs.NatKeys as nat
 use Rattle.inode_table.specs.declared.homes.Home.{Home}
 use Rattle.inode_table.specs.Dirs.{Homes, Covers, IsTable, leaves_of, is_known}
-use Rattle.subtree_map.specs.Authority.{Leaf, Roots, IsLeaf, HoldsDentry, itself, HasAuthority, IsSubtrees}
+use Rattle.mds_types.specs.Leaf.{Leaf}
+use Rattle.subtree_map.specs.Authority.{Roots, IsLeaf, HoldsDentry, itself, HasAuthority, IsSubtrees}
 use Rattle.subtree_map.specs.Changes.{BecomesMerged, HaveOneAuthority, IsRootMerge, KeepAuthority, MergesSoundly, is_inside, leaf_of}
-use Rattle.subtree_map.proofs.LeafKeys.{not_none, value_of, same_or_apart}
+use Rattle.subtree_map.proofs.Options.{not_none, value_of}
+use Rattle.mds_types.proofs.LeafLaws.{same_or_apart}
 use Rattle.subtree_map.proofs.Nearest.{tree_of_row}
 use Rattle.subtree_map.proofs.Covers.{leaves_here, leaves_beside, merged_is_new, some_inside}
 use Rattle.subtree_map.proofs.Split.{stands_beside, stands_here}
