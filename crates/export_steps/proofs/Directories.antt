@@ -6,7 +6,7 @@ use Rattle.sorted_map.proofs.NatKeys as nat
 use Rattle.mds_types.specs.declared.ids.Ino.{Ino}
 use Rattle.fragtree.specs.FragTree.{HasLeaf, IsPick}
 use Rattle.namehash.specs.Rjenkins.{hash_of}
-use Rattle.inode_table.specs.declared.homes.Home.{Home}
+use Rattle.inode_table.specs.declared.dirs.Home.{Home}
 use Rattle.inode_table.specs.Dirs.{Homes, Covers, IsChildless, IsTable, MayCome, is_known, leaves_of, or_whole}
 use Rattle.mds_types.specs.Leaf.{Leaf}
 use Rattle.subtree_map.specs.Authority.{Roots, HoldsDentry, IsInRegion, IsLeaf, IsSubtrees, NearestRoot, itself, inherited}

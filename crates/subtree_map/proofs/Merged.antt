@@ -11,7 +11,7 @@ use Rattle.fragtree.proofs.TreeLaws.{pick_after_merge, merged_after_merge}
 use Rattle.namehash.specs.Rjenkins.{hash_of}
 use Rattle.sorted_map.proofs.Bools.{first_true, second_true, both_true}
 use Rattle.sorted_map.proofs.NatKeys as nat
-use Rattle.inode_table.specs.declared.homes.Home.{Home}
+use Rattle.inode_table.specs.declared.dirs.Home.{Home}
 use Rattle.inode_table.specs.Dirs.{Homes, Covers, IsTable, leaves_of, is_known}
 use Rattle.mds_types.specs.Leaf.{Leaf}
 use Rattle.subtree_map.specs.Authority.{Roots, IsLeaf, HoldsDentry, itself, HasAuthority, IsSubtrees}

@@ -9,7 +9,7 @@ use Rattle.fragtree.specs.FragTree.{HasLeaf, IsTree}
 use Rattle.fragtree.proofs.TreeLaws.{some_pick}
 use Rattle.namehash.specs.Rjenkins.{hash_of}
 use Rattle.sorted_map.proofs.NatKeys as nat
-use Rattle.inode_table.specs.declared.homes.Home.{Home}
+use Rattle.inode_table.specs.declared.dirs.Home.{Home}
 use Rattle.inode_table.specs.Dirs.{Homes, Covers, Reaches, IsTable, is_known, leaves_of, or_whole}
 use Rattle.inode_table.proofs.Chains.{parent_reaches}
 use Rattle.mds_types.specs.Leaf.{Leaf}

@@ -9,7 +9,7 @@ use Rattle.fragtree.specs.FragTree.{FitsSplit, HasLeaf, IsChild, IsPick, IsSplit
 use Rattle.fragtree.proofs.TreeLaws.{some_pick, pick_after_split, child_after_split}
 use Rattle.namehash.specs.Rjenkins.{hash_of}
 use Rattle.sorted_map.proofs.NatKeys as nat
-use Rattle.inode_table.specs.declared.homes.Home.{Home}
+use Rattle.inode_table.specs.declared.dirs.Home.{Home}
 use Rattle.inode_table.specs.Dirs.{Homes, Covers, IsTable, leaves_of, is_known}
 use Rattle.mds_types.specs.Leaf.{Leaf}
 use Rattle.subtree_map.specs.Authority.{Roots, IsLeaf, HoldsDentry, HasAuthority, IsSubtrees}

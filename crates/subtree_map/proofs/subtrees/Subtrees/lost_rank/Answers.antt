@@ -2,7 +2,7 @@ use Rattle.std.proofs.Common.{◌≡◌, rules, refl, sym, ap, subst, ◌∙◌}
 use Rattle.mds_types.specs.declared.ids.Rank.{Rank}
 use Rattle.fragtree.specs.FragTree.{IsPick}
 use Rattle.namehash.specs.Rjenkins.{hash_of}
-use Rattle.inode_table.specs.declared.homes.Home.{Home}
+use Rattle.inode_table.specs.declared.dirs.Home.{Home}
 use Rattle.inode_table.specs.Dirs.{leaves_of}
 use Rattle.subtree_map.specs.Authority.{HasAuthority}
 use Rattle.subtree_map.specs.Moves.{IsInheritedAt}
