@@ -23,8 +23,11 @@ pub leaf-exact : IsAntisymmetric leaf_cmp
 leaf-exact = exact_pairs (λ (a b : Ino). nat_cmp a.0 b.0) frag_cmp ino-exact frag-exact
 
 -- the test of keys by their order
+pub key_itself : (k : Leaf) → eq_by_cmp leaf_cmp k k ≡ true
+key_itself k = ap is_eq (tied_itself leaf-total k)
+
 pub tied_same : (a b : Leaf) → a ≡ b → eq_by_cmp leaf_cmp a b ≡ true
-tied_same a b same = ap (eq_by_cmp leaf_cmp a) (sym same) ∙ ap is_eq (tied_itself leaf-total a)
+tied_same a b same = ap (eq_by_cmp leaf_cmp a) (sym same) ∙ key_itself a
 
 pub tied_apart : (a b : Leaf) → (a ≡ b → ⊥) → eq_by_cmp leaf_cmp a b ≡ false
 tied_apart a b apart = not_true _ (λ tied. apart (leaf-exact a b (tie _ tied)))
@@ -82,13 +85,13 @@ leaf_equivalence = record { refl = leaf_itself; symm = flips; congr = λ x y z e
 
 module _ {X : Type 0} (m : map.FinMap leaf_cmp X) (k : Leaf) where
   pub get_put : (x : X) → map.get (map.insert m k x) k ≡ Some x
-  get_put x = get-insert leaf-total m k x k ∙ ap (λ b. cond b (Some x) (map.get m k)) (tied_same k k refl)
+  get_put x = get-insert leaf-total m k x k ∙ ap (λ b. cond b (Some x) (map.get m k)) (key_itself k)
 
   pub get_beside : (x : X) (q : Leaf) → (q ≡ k → ⊥) → map.get (map.insert m k x) q ≡ map.get m q
   get_beside x q apart = get-insert leaf-total m k x q ∙ ap (λ b. cond b (Some x) (map.get m q)) (tied_apart q k apart)
 
   pub get_removed : map.get (map.remove m k) k ≡ None
-  get_removed = get-remove leaf-total m k k ∙ ap (λ b. cond b None (map.get m k)) (tied_same k k refl)
+  get_removed = get-remove leaf-total m k k ∙ ap (λ b. cond b None (map.get m k)) (key_itself k)
 
   pub get_left : (q : Leaf) → (q ≡ k → ⊥) → map.get (map.remove m k) q ≡ map.get m q
   get_left q apart = get-remove leaf-total m k q ∙ ap (λ b. cond b None (map.get m q)) (tied_apart q k apart)

@@ -7,7 +7,7 @@ use Rattle.mds_types.proofs.EntrySearch.{not_found_below}
 use Rattle.sorted_map.proofs.Bools.{left_of, right_of}
 use Rattle.commit_jobs.specs.declared.jobs.Job.{Job}
 use Rattle.mds_types.specs.Leaf.{Leaf, leaf_cmp}
-use Rattle.mds_types.proofs.LeafLaws.{leaf-exact, leaf-total, tied_same}
+use Rattle.mds_types.proofs.LeafLaws.{key_itself, leaf-exact, leaf-total}
 use Rattle.sorted_map.proofs.MapLaws.{tie}
 use Rattle.standing_jobs.specs.StandingJobs.{Jobs, NoneHasNumber}
 
@@ -35,7 +35,7 @@ module _ (number : ℕ) (all rest : List (Leaf × Job)) (e : Leaf × Job) (is : 
       past leaf job same true h = let one : e.1 ≡ job = cc in absurd (other (ap (λ (j : Job). j.number) one ∙ same))
 
   pub here : (jobs : Jobs) → all ≡ map.entries jobs → map.get jobs e.0 ≡ Some e.1
-  here jobs all_is = get-entries jobs e.0 ∙ ap (find leaf_cmp e.0) (sym all_is) ∙ is.found e.0 e.1 (ap (λ (b : Bool). cond b (Some e.1) (find leaf_cmp e.0 rest)) (tied_same e.0 e.0 refl))
+  here jobs all_is = get-entries jobs e.0 ∙ ap (find leaf_cmp e.0) (sym all_is) ∙ is.found e.0 e.1 (ap (λ (b : Bool). cond b (Some e.1) (find leaf_cmp e.0 rest)) (key_itself e.0))
 
 pub none_left : (jobs : Jobs) (number : ℕ) → IsRest number (map.entries jobs) [] → NoneHasNumber jobs number
 none_left jobs number is leaf job h same = let clash : None ≡ Some job = is.kept leaf job (sym (get-entries jobs leaf) ∙ h) same in cc
