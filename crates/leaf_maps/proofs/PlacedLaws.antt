@@ -11,7 +11,7 @@ use Rattle.std.specs.FinMap.Entries.{below_all}
 use Rattle.mds_types.specs.declared.dentries.Dentry.{Dentry}
 use Rattle.mds_types.specs.declared.inodes.Inode.{Inode}
 use Rattle.mds_types.specs.Tree.{dentry_cmp, dentry_of}
-use Rattle.mds_types.proofs.EntrySearch.{found_behind}
+use Rattle.mds_types.proofs.EntrySearch.{found_behind, not_found_below}
 use Rattle.mds_types.specs.Outcomes.{IsListing}
 use Rattle.mds_types.proofs.ListingLaws.{names_are_listed}
 use Rattle.mds_types.specs.Step.{names_after}
@@ -80,7 +80,7 @@ distinct_rows : (d : ℕ) (rows : List Row) (rest : List (Dentry × Inode)) → 
     → ((name : List ℕ) → is_some (find (slice_cmp nat_cmp) name rows) ≡ true → find dentry_cmp (dentry_of d name) rest ≡ None) → AreDistinct rest → AreDistinct (entries_of d rows ++ rest)
 distinct_rows d [] rest sorted none distinct = distinct
 distinct_rows d (row ∷ rows) rest sorted none distinct = (
-  found_row d d row.0 rows rest true (is_same d) d) refl
+  found_row d d row.0 rows rest true (is_same d d refl)
       ∙ ap (λ o. option_or o (find dentry_cmp (dentry_of d row.0) rest)) (not_found_below nat_list_cmp_total row.0 rows (left_of _ _ sorted))
       ∙ none row.0 (ap (λ r. is_some (cond (is_eq r) (Some row.1) (find (slice_cmp nat_cmp) row.0 rows))) (tied_itself nat_list_cmp_total row.0)),
   distinct_rows d rows rest (right_of _ _ sorted) (λ name some. none name (some_more (eq_by_cmp (slice_cmp nat_cmp) name row.0) row.1 _ some)) distinct,
