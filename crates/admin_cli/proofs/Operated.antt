@@ -1,7 +1,7 @@
 -- An operation that has arrived is served.
 use Rattle.std.proofs.Common.{◌≡◌, Result, Ok, Err, refl}
 use Rattle.mds_types.specs.declared.refusals.Refusal.{Refusal}
-use Rattle.cluster_core.specs.declared.answers.Answer.{Answer}
+use Rattle.cluster_core.specs.declared.events.Answer.{Answer}
 use Rattle.cluster_core.specs.State.{Kept}
 use Rattle.script_output.specs.declared.lines.OutputLine.{OutputLine}
 use Rattle.admin_cli.specs.Execute.{OperatesAfter, ServesLine}

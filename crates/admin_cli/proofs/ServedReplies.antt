@@ -5,8 +5,8 @@ use Rattle.mds_types.specs.declared.entries.Entry.{Entry}
 use Rattle.mds_types.specs.declared.requests.Request.{Request}
 use Rattle.mds_types.specs.declared.refusals.Refusal.{Refusal}
 use Rattle.mds_types.specs.declared.refusals.Refusal.TheVariants.{NotAuthority}
-use Rattle.cluster_core.specs.declared.answers.Answer.{Answer}
-use Rattle.cluster_core.specs.declared.answers.Answer.TheVariants.{Nothing}
+use Rattle.cluster_core.specs.declared.events.Answer.{Answer}
+use Rattle.cluster_core.specs.declared.events.Answer.TheVariants.{Nothing}
 use Rattle.cluster_core.specs.declared.events.Event.TheVariants.{Serve}
 use Rattle.cluster_core.specs.State.{State}
 use Rattle.cluster_core.specs.Serve.{IsLeft, ServesInbox, entry_of}

@@ -6,8 +6,8 @@ use Rattle.mds_types.specs.declared.refusals.Refusal.{Refusal}
 use Rattle.mds_types.specs.declared.operations.Op.{Op}
 use Rattle.mds_types.specs.declared.requests.Request.{Request as Asked}
 use Rattle.mds_types.specs.Frag.{Fragment}
-use Rattle.cluster_core.specs.declared.answers.Answer.{Answer}
-use Rattle.cluster_core.specs.declared.answers.Answer.TheVariants.{Nothing, Reply}
+use Rattle.cluster_core.specs.declared.events.Answer.{Answer}
+use Rattle.cluster_core.specs.declared.events.Answer.TheVariants.{Nothing, Reply}
 use Rattle.cluster_core.specs.declared.events.Event.{Event}
 use Rattle.cluster_core.specs.declared.events.Event.TheVariants.{Arrive, Serve as ServeEvent, Split as SplitEvent, Merge as MergeEvent}
 use Rattle.cluster_core.specs.State.{Kept}

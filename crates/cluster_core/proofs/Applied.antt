@@ -12,7 +12,7 @@ use Rattle.mds_types.proofs.HistoryLaws.{after-push, legal-push, used-push}
 use Rattle.inode_table.specs.Numbers.{Supply, IsSupply, offer, first_number, end_number}
 use Rattle.sessions.proofs.TableLaws.{table-push}
 use Rattle.cluster_core.specs.State.{State, shown}
-use Rattle.cluster_core.specs.declared.answers.Answer.{Answer}
+use Rattle.cluster_core.specs.declared.events.Answer.{Answer}
 use Rattle.cluster_core.specs.Offer.{after_taking}
 use Rattle.cluster_core.specs.Serve.{IsApplied, entry_of, number_of, outcome_of, with_entry}
 use Rattle.dirfrags.specs.Divided.{IsDivided}

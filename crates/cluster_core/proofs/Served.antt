@@ -15,8 +15,8 @@ use Rattle.namespace_ops.specs.declared.plans.Change.{Change}
 use Rattle.namespace_ops.specs.Planned.{after_plan}
 use Rattle.namespace_ops.specs.Served.{IsRefused, LacksNumber}
 use Rattle.leaf_maps.specs.Leaves.{shown_by}
-use Rattle.cluster_core.specs.declared.answers.Answer.{Answer}
-use Rattle.cluster_core.specs.declared.answers.Answer.TheVariants.{Reply}
+use Rattle.cluster_core.specs.declared.events.Answer.{Answer}
+use Rattle.cluster_core.specs.declared.events.Answer.TheVariants.{Reply}
 use Rattle.cluster_core.specs.declared.serving.Prepared.{Prepared}
 use Rattle.cluster_core.specs.State.{State, shown}
 use Rattle.dirfrags.specs.Dentries.{tree_of}

@@ -11,7 +11,7 @@ use Rattle.mds_types.specs.declared.entries.Entry.{Entry}
 use Rattle.mds_types.specs.declared.requests.Request.{Request}
 use Rattle.inode_table.specs.Numbers.{Supply}
 use Rattle.sessions.specs.Table.{Table as Sessions}
-use Rattle.cluster_core.specs.declared.answers.Answer.TheVariants.{Nothing}
+use Rattle.cluster_core.specs.declared.events.Answer.TheVariants.{Nothing}
 use Rattle.cluster_core.specs.State.{State, shown}
 use Rattle.dirfrags.specs.LeafFrags.{Fragments, IsAsBefore, dentries_of}
 use Rattle.cluster_core.specs.State.{state_of}

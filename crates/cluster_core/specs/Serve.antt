@@ -12,8 +12,8 @@ use Rattle.mds_types.specs.History.{IsTrimmed, IsKeptAt, IsNew}
 use Rattle.inode_table.specs.Numbers.{offer}
 use Rattle.sessions.specs.Table.{Table, noted, trimmed}
 use Rattle.namespace_ops.specs.Served.{LacksNumber}
-use Rattle.cluster_core.specs.declared.answers.Answer.{Answer}
-use Rattle.cluster_core.specs.declared.answers.Answer.TheVariants.{Reply}
+use Rattle.cluster_core.specs.declared.events.Answer.{Answer}
+use Rattle.cluster_core.specs.declared.events.Answer.TheVariants.{Reply}
 use Rattle.dirfrags.specs.Divided.{CarryLeaves}
 use Rattle.cluster_core.specs.State.{State, shown}
 use Rattle.cluster_core.specs.Offer.{after_taking}

@@ -7,8 +7,8 @@ use Rattle.mds_types.specs.declared.refusals.Refusal.TheVariants.{NoMemory}
 use Rattle.mds_types.specs.Frag.{Fragment}
 use Rattle.mds_types.specs.Tree.{is_directory}
 use Rattle.inode_table.specs.Dirs.{leaves_of}
-use Rattle.cluster_core.specs.declared.answers.Answer.{Answer}
-use Rattle.cluster_core.specs.declared.answers.Answer.TheVariants.{Nothing}
+use Rattle.cluster_core.specs.declared.events.Answer.{Answer}
+use Rattle.cluster_core.specs.declared.events.Answer.TheVariants.{Nothing}
 use Rattle.dirfrags.specs.Covers.{IsMergeOf, IsSplitOf, MayRefuseMerge, MayRefuseSplit, RefusesIn}
 use Rattle.cluster_core.specs.State.{State, shown}
 use Rattle.cluster_core.specs.Serve.{IsLeft}

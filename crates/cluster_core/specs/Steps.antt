@@ -5,8 +5,8 @@ use Rattle.mds_types.specs.declared.entries.Entry.{Entry}
 use Rattle.mds_types.specs.declared.requests.Request.{Request}
 use Rattle.mds_types.specs.declared.refusals.Refusal.{Refusal}
 use Rattle.mds_types.specs.declared.refusals.Refusal.TheVariants.{NoMemory, NotAuthority, InboxFull}
-use Rattle.cluster_core.specs.declared.answers.Answer.{Answer}
-use Rattle.cluster_core.specs.declared.answers.Answer.TheVariants.{Nothing}
+use Rattle.cluster_core.specs.declared.events.Answer.{Answer}
+use Rattle.cluster_core.specs.declared.events.Answer.TheVariants.{Nothing}
 use Rattle.cluster_core.specs.declared.events.Event.{Event}
 use Rattle.cluster_core.specs.declared.events.Event.TheVariants.{Arrive, Serve, Split, Merge}
 use Rattle.cluster_core.specs.State.{State}

@@ -5,9 +5,8 @@ ghost use Rattle.cluster_core.specs.State.{new_state};
 ghost use Rattle.cluster_core.specs.Steps.{Steps, ranks};
 ghost use Rattle.cluster_core.specs.Sound.{IsSoundBook};
 
-use crate::answers::Answer;
 use crate::clusters::Cluster;
-use crate::events::Event;
+use crate::events::{Answer, Event};
 use crate::plain_trees::PlainTree;
 use mds_types::{Entry, Refusal};
 use std::alloc::Global;

@@ -9,8 +9,7 @@ ghost use Rattle.cluster_core.specs.Sound.{IsSound};
 ghost use Rattle.cluster_core.specs.Serve.{ServesInbox};
 ghost use Rattle.cluster_core.specs.Splits.{ListsLeaves, Merges, Splits};
 
-use crate::answers::Answer;
-use crate::events::Event;
+use crate::events::{Answer, Event};
 use crate::inboxes::Inbox;
 use crate::serving::serve_front;
 use dirfrags::LeafFrags;

@@ -1,7 +1,7 @@
-//! What can happen to a cluster.
+//! What can happen to a cluster, and what a step answers.
 ghost use Rattle.std.specs.Prelude.{◌≡◌, IfOk};
 
-use mds_types::{Frag, Ino, Rank, Request};
+use mds_types::{Frag, Ino, Rank, Reply, Request};
 use std::alloc::AllocError;
 
 /// One event of the cluster, one atomic step.
@@ -28,6 +28,22 @@ pub enum Event {
         rank: Rank,
         ino: Ino,
         frag: Frag,
+    },
+}
+
+/// The answer of a step that isn't refused.
+#[derive(Debug, Drop, PartialEq, Eq)]
+pub enum Answer {
+    /// Done, with nothing to say.
+    Nothing,
+    /// The reply to a request, with its place in the history; `first` tells a request that was applied now from one that
+    /// had been applied before.
+    Reply {
+        client: u64,
+        tid: u64,
+        place: usize,
+        first: bool,
+        reply: Reply,
     },
 }
 

@@ -3,9 +3,8 @@ ghost use Rattle.std.specs.Prelude.{◌≡◌, ◌+◌, ◌<◌, ◌≤◌, ◌+
 ghost use Rattle.cluster_core.specs.Sound.{IsSoundBook};
 ghost use Rattle.cluster_core.specs.Runs.{IsRun};
 
-use crate::answers::Answer;
 use crate::books::Book;
-use crate::events::Event;
+use crate::events::{Answer, Event};
 use mds_types::Refusal;
 use std::alloc::Global;
 

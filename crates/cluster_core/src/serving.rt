@@ -1,7 +1,8 @@
 //! Serving the request at the front of an inbox.
-ghost use Rattle.std.specs.Prelude.{◌≡◌, ◌<◌, ◌++◌, ◌∷◌, [], true, length, vec_len, vec_capacity, MatchResult, OnOk};
+ghost use Rattle.std.specs.Prelude.{◌≡◌, ◌<◌, ◌++◌, ◌∷◌, [], true, length, vec_len, vec_capacity, IsSome, MatchResult, OnOk};
 ghost use Rattle.mds_types.specs.Step.{step, number_or};
 ghost use Rattle.inode_table.specs.Numbers.{offer};
+ghost use Rattle.cluster_core.specs.Offer.{after_taking};
 ghost use Rattle.namespace_ops.specs.Changes.{IsOffered};
 ghost use Rattle.namespace_ops.specs.Kept.{KeepsAll};
 ghost use Rattle.namespace_ops.specs.Planned.{IsReadyToChange, after_plan};
@@ -17,12 +18,11 @@ ghost use Rattle.cluster_core.specs.Serve.{ServesInbox, RepeatsFront};
 ghost use Rattle.cluster_core.specs.Steps.{MayRefuse};
 ghost use Rattle.cluster_core.specs.Prepared.{IsPrepared};
 
-use crate::answers::Answer;
+use crate::events::Answer;
 use crate::inboxes::Inbox;
-use crate::supplies::supply_after;
 use dirfrags::LeafFrags;
 use inode_table::Numbers;
-use mds_types::{Entry, Op, Refusal, Reply, Request};
+use mds_types::{Entry, Ino, Op, Refusal, Reply, Request};
 use namespace_ops::{Frags, Plan, plan_op};
 use sessions::{Seen, Sessions};
 use std::alloc::Global;
@@ -201,4 +201,16 @@ fn answer_again(inbox: &mut Inbox, place: usize, reply: &Reply) -> Result<Answer
         first: false,
         reply,
     })
+}
+
+// The supply after an operation that took this number of it, if it took one.
+fn supply_after(numbers: Numbers, number: Option<Ino>) -> Numbers
+    requires { IsSome number → IsSome (offer numbers) }
+    ensures { result ≡ after_taking numbers number }
+{
+    let mut left = numbers;
+    if number.is_some() {
+        let _ = left.draw();
+    }
+    left
 }

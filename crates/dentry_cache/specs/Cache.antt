@@ -1,26 +1,15 @@
 -- What a contract sees of a cache: its places, the most recently used first.
-use Rattle.std.specs.Prelude.{◌≡◌, ℕ, ◌<◌, ◌≤◌, ◌⊎◌, Bool, true, false, cond, not, ◌&&◌, ◌==◌, List, [], ◌∷◌, ◌++◌, length, Option, Some, None}
+use Rattle.std.specs.Prelude.{◌≡◌, ℕ, ◌<◌, ◌≤◌, ◌⊎◌, Bool, true, false, cond, not, ◌&&◌, List, [], ◌∷◌, ◌++◌, length, Option, Some, None}
 use Rattle.std.specs.List.{AllByRecursion}
 use Rattle.std.specs.Map.{lookup, remove_entry}
 use Rattle.std.specs.FinMap as finmap
-use Rattle.std.specs.declared.cmp.Ordering.{Ordering}
-use Rattle.std.specs.Ordering.{nat_cmp, ordering_then}
 use Rattle.lru.specs.LruCache.{LruCache, lru_cache}
-use Rattle.mds_types.specs.Frag.{Fragment, frag_cmp}
-use Rattle.mds_types.specs.declared.ids.Ino.{Ino}
+pub use Rattle.mds_types.specs.Leaf.{Leaf, leaf_cmp, leaf_is}
 use Rattle.commit_jobs.specs.declared.bases.Base.{Base}
 use Rattle.commit_jobs.specs.declared.bases.Base.TheVariants.{Fresh}
 use Rattle.commit_jobs.specs.Marks.{Marks}
 use Rattle.cached_frag.specs.Cached.{Cached, is_clean}
 use Rattle.dentry_cache.specs.declared.cache.Place.{Place}
-
--- a leaf: a directory and a fragment of it
-abbrev pub Leaf : Type 0
-Leaf = Ino × Fragment
-
--- whether two leaves are one
-abbrev pub leaf_is : Leaf → Leaf → Bool
-leaf_is a b = (a.0.0 == b.0.0) && ((a.1.value == b.1.value) && (a.1.bits == b.1.bits))
 
 -- the places, the most recently used first, and how many there may be
 abbrev pub Places : Type 0
@@ -145,10 +134,6 @@ unsaved_of f = cond (is_clean f) None (Some (record { base = f.base; generation 
 abbrev pub unsaved_in : Option Cached → Option Unsaved
 unsaved_in (Some f) = unsaved_of f
 unsaved_in None = None
-
--- leaves are ordered by directory, and then as fragments
-abbrev pub leaf_cmp : Leaf → Leaf → Ordering
-leaf_cmp a b = ordering_then (nat_cmp a.0.0 b.0.0) (frag_cmp a.1 b.1)
 
 abbrev pub with_unsaved : finmap.FinMap leaf_cmp Unsaved → Leaf → Option Unsaved → finmap.FinMap leaf_cmp Unsaved
 with_unsaved m leaf (Some u) = finmap.insert m leaf u

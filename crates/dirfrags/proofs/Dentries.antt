@@ -10,8 +10,9 @@ use Rattle.sorted_map.specs.SortedMap.{contents}
 use Rattle.mds_types.specs.declared.inodes.Inode.{Inode}
 use Rattle.mds_types.proofs.EntrySearch.{not_found_below}
 use Rattle.mds_types.specs.Frag.{Fragment}
-use Rattle.leaf_maps.specs.Leaves.{Leaf, Leaves, Names, Rows, leaf_cmp, names_of, names_in, entries_in, entries_of, shown_by}
-use Rattle.leaf_maps.proofs.LeafLaws.{leaf-exact, leaf-total}
+use Rattle.mds_types.specs.Leaf.{Leaf, leaf_cmp}
+use Rattle.leaf_maps.specs.Leaves.{Leaves, Names, Rows, names_of, names_in, entries_in, entries_of, shown_by}
+use Rattle.mds_types.proofs.LeafLaws.{leaf-exact, leaf-total}
 use Rattle.leaf_maps.specs.Changes.{HaveSameNames}
 use Rattle.dirfrags.specs.Dentries.{entries_under, names_at, or_no_names, tree_of}
 use Rattle.dirfrags.specs.LeafFrags.{dentries_of, named_leaves, with_names}

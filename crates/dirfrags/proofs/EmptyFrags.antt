@@ -8,8 +8,9 @@ use Rattle.mds_types.specs.OrderLaws.{dentry-exact}
 use Rattle.inode_table.specs.Dirs.{Covers}
 use Rattle.inode_table.proofs.TableLaws.{empty_tabled}
 use Rattle.leaf_maps.proofs.StandingLaws.{standing_none}
-use Rattle.leaf_maps.specs.Leaves.{Leaf, Rows, Leaves, leaf_cmp, names_of, entries_in, shown_by, ArePlaced}
-use Rattle.leaf_maps.proofs.OneLeaf.{key_itself}
+use Rattle.mds_types.specs.Leaf.{Leaf, leaf_cmp}
+use Rattle.leaf_maps.specs.Leaves.{Rows, Leaves, names_of, entries_in, shown_by, ArePlaced}
+use Rattle.mds_types.proofs.LeafLaws.{key_itself}
 use Rattle.dirfrags.specs.Dentries.{tree_of}
 use Rattle.dirfrags.specs.Divided.{IsDivided}
 use Rattle.dirfrags.specs.LeafFrags.{IsSoundTree, dentries_of, named_leaves}

@@ -7,7 +7,8 @@ use Rattle.namespace_ops.specs.declared.plans.Change.{Change}
 use Rattle.namespace_ops.specs.Changes.{fragments_of}
 use Rattle.namespace_ops.specs.Kept.{ChangesOnly}
 use Rattle.namespace_ops.proofs.Members.{first_or_later, none_in}
-use Rattle.leaf_maps.specs.Leaves.{Leaf, Leaves, Names, names_in}
+use Rattle.mds_types.specs.Leaf.{Leaf}
+use Rattle.leaf_maps.specs.Leaves.{Leaves, Names, names_in}
 use Rattle.leaf_maps.specs.Changes.{HaveSameNames, IsRewritten}
 use Rattle.dirfrags.specs.LeafFrags.{HasNamesOf}
 use Rattle.dirfrags.proofs.Dentries.{names_are}

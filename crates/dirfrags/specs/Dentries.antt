@@ -5,7 +5,8 @@ use Rattle.mds_types.specs.declared.dentries.Dentry.{Dentry}
 use Rattle.mds_types.specs.declared.inodes.Inode.{Inode}
 use Rattle.mds_types.specs.Frag.{Fragment}
 use Rattle.mds_types.specs.Tree.{Tree}
-use Rattle.leaf_maps.specs.Leaves.{Leaf, Names, leaf_cmp, entries_of}
+use Rattle.mds_types.specs.Leaf.{Leaf, leaf_cmp}
+use Rattle.leaf_maps.specs.Leaves.{Names, entries_of}
 
 -- the leaves that have names, each with them and their inodes
 abbrev pub Dentries : Type 0

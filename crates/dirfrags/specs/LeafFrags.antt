@@ -10,7 +10,8 @@ use Rattle.inode_table.specs.Dirs.{Homes, Covers, Table, IsTable}
 use Rattle.namespace_ops.specs.declared.plans.Change.{Change}
 use Rattle.namespace_ops.specs.declared.plans.Change.TheVariants.{Add, Set, Remove, Move}
 use Rattle.inode_table.specs.TreeTable.{IsTabled}
-use Rattle.leaf_maps.specs.Leaves.{Leaf, Leaves, Names, Rows, ArePlaced, AreStanding, shown_by}
+use Rattle.mds_types.specs.Leaf.{Leaf}
+use Rattle.leaf_maps.specs.Leaves.{Leaves, Names, Rows, ArePlaced, AreStanding, shown_by}
 use Rattle.leaf_maps.specs.Changes.{HasRoom}
 use Rattle.dirfrags.specs.Dentries.{Dentries, names_at}
 

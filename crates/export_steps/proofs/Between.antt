@@ -3,8 +3,9 @@ use Rattle.std.specs.Prelude.{◌≡◌, ◌≢◌, ◌⊎◌, Some, None, Optio
 use Rattle.std.proofs.Common.{inl, inr, sym, ap, subst, ◌∙◌}
 use Rattle.std.specs.FinMap as map
 use Rattle.std.specs.FinMap.{get-empty}
-use Rattle.subtree_map.specs.Authority.{Leaf}
-use Rattle.subtree_map.proofs.LeafKeys.{get_beside, get_left, get_put, get_removed, not_none, one_value, same_or_apart}
+use Rattle.mds_types.specs.Leaf.{Leaf}
+use Rattle.mds_types.proofs.LeafLaws.{get_beside, get_left, get_put, get_removed, same_or_apart}
+use Rattle.subtree_map.proofs.Options.{not_none, one_value}
 use Rattle.export_steps.specs.declared.exports.ExportState.{ExportState}
 use Rattle.export_steps.specs.declared.exports.StandingExport.{StandingExport}
 use Rattle.export_steps.specs.Standing.{Standing, AreBetweenRanks, IsBetweenRanks, come_to}

@@ -7,9 +7,11 @@ use Rattle.std.specs.FinMap.{find, get-entries, get-from_entries}
 use Rattle.mds_types.specs.declared.ids.Rank.{Rank}
 use Rattle.sorted_map.proofs.MapLaws.{tie}
 use Rattle.inode_table.specs.Dirs.{Homes, Covers, IsTable}
-use Rattle.subtree_map.specs.Authority.{Leaf, Roots, leaf_cmp, HasAuthority, IsLeaf, IsSubtrees, NearestRoot, itself, inherited}
+use Rattle.mds_types.specs.Leaf.{Leaf, leaf_cmp}
+use Rattle.subtree_map.specs.Authority.{Roots, HasAuthority, IsLeaf, IsSubtrees, NearestRoot, itself, inherited}
 use Rattle.subtree_map.specs.Changes.{KeepAuthority}
-use Rattle.subtree_map.proofs.LeafKeys.{leaf-exact, leaf-total, not_none, one_value, same_or_apart, tied_apart, tied_same, value_of}
+use Rattle.mds_types.proofs.LeafLaws.{leaf-exact, leaf-total, same_or_apart, tied_apart, tied_same}
+use Rattle.subtree_map.proofs.Options.{not_none, one_value, value_of}
 use Rattle.subtree_map.proofs.Nearest.{is_ranked, one_authority, some_root}
 
 pub colour : Leaf → Leaf → Rank

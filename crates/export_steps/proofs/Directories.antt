@@ -6,12 +6,13 @@ use Rattle.sorted_map.proofs.NatKeys as nat
 use Rattle.mds_types.specs.declared.ids.Ino.{Ino}
 use Rattle.fragtree.specs.FragTree.{HasLeaf, IsPick}
 use Rattle.namehash.specs.Rjenkins.{hash_of}
-use Rattle.inode_table.specs.declared.homes.Home.{Home}
+use Rattle.inode_table.specs.declared.dirs.Home.{Home}
 use Rattle.inode_table.specs.Dirs.{Homes, Covers, IsChildless, IsTable, MayCome, is_known, leaves_of, or_whole}
-use Rattle.subtree_map.specs.Authority.{Leaf, Roots, HoldsDentry, IsInRegion, IsLeaf, IsSubtrees, NearestRoot, itself, inherited}
+use Rattle.mds_types.specs.Leaf.{Leaf}
+use Rattle.subtree_map.specs.Authority.{Roots, HoldsDentry, IsInRegion, IsLeaf, IsSubtrees, NearestRoot, itself, inherited}
 use Rattle.subtree_map.specs.Changes.{AreGone}
 use Rattle.inode_table.proofs.Tables.{still_known}
-use Rattle.subtree_map.proofs.LeafKeys.{not_none, one_value, value_of}
+use Rattle.subtree_map.proofs.Options.{not_none, one_value, value_of}
 
 known_by_home : (homes : Homes) (x : ℕ) (home : Home) → map.get homes x ≡ Some home → is_known homes x ≡ true
 known_by_home homes x home is = ap (λ (o : Option Home). (x == 1) || is_some o) is ∙ go (x == 1)

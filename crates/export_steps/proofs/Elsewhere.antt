@@ -3,7 +3,8 @@ use Rattle.std.specs.Prelude.{◌≢◌, false, Ok, ◌≡◌, ◌↔◌, true, 
 use Rattle.std.proofs.Common.{inl, inr, sym, ap, subst, ◌∙◌}
 use Rattle.std.specs.FinMap as map
 use Rattle.inode_table.specs.Dirs.{Homes, Covers}
-use Rattle.subtree_map.specs.Authority.{Leaf, Roots, IsInRegion, IsLeaf, NearestRoot}
+use Rattle.mds_types.specs.Leaf.{Leaf}
+use Rattle.subtree_map.specs.Authority.{Roots, IsInRegion, IsLeaf, NearestRoot}
 use Rattle.subtree_map.specs.Changes.{Subtrees, is_inside, leaf_of}
 use Rattle.export_steps.specs.declared.exports.StandingExport.{StandingExport}
 use Rattle.export_steps.specs.Standing.{Standing, ArePlaced, IsFinish, IsFreeze, is_freezing}
@@ -11,7 +12,7 @@ use Rattle.export_steps.specs.Holder.{IsFrozen}
 use Rattle.export_steps.specs.Regions.{AreFrozenRegionsKept, IsMakingElsewhere, IsMergeElsewhere, IsMoveElsewhere, IsRemovalElsewhere, IsSplitElsewhere, StandsOver}
 use Rattle.export_steps.proofs.Handover.{back, beside, cut, onto, uncut}
 use Rattle.export_steps.proofs.Placed.{finishes_placed}
-use Rattle.subtree_map.proofs.LeafKeys.{one_value}
+use Rattle.subtree_map.proofs.Options.{one_value}
 use Rattle.export_steps.proofs.Directories as directories
 use Rattle.export_steps.proofs.Merges as merges
 use Rattle.export_steps.proofs.Moves as moves

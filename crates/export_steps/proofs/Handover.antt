@@ -4,9 +4,11 @@ use Rattle.std.proofs.Common.{inl, inr, sym, ap, subst, ◌∙◌}
 use Rattle.std.specs.FinMap as map
 use Rattle.mds_types.specs.declared.ids.Rank.{Rank}
 use Rattle.inode_table.specs.Dirs.{Homes, Covers}
-use Rattle.subtree_map.specs.Authority.{Leaf, Roots, HasAuthority, NearestRoot, itself, inherited}
+use Rattle.mds_types.specs.Leaf.{Leaf}
+use Rattle.subtree_map.specs.Authority.{Roots, HasAuthority, NearestRoot, itself, inherited}
 use Rattle.subtree_map.specs.Changes.{Subtrees}
-use Rattle.subtree_map.proofs.LeafKeys.{get_beside, get_left, get_put, get_removed, not_none, one_value, same_or_apart, value_of}
+use Rattle.mds_types.proofs.LeafLaws.{get_beside, get_left, get_put, get_removed, same_or_apart}
+use Rattle.subtree_map.proofs.Options.{not_none, one_value, value_of}
 use Rattle.subtree_map.proofs.Nearest.{is_itself, one_root}
 use Rattle.export_steps.specs.declared.exports.ExportState.{ExportState}
 use Rattle.export_steps.specs.declared.exports.ExportState.TheVariants.{Started, Frozen, Prepared, Sent, Imported}

@@ -4,8 +4,9 @@ use Rattle.std.proofs.Common.{sym, ap, ◌∙◌}
 use Rattle.std.specs.FinMap as map
 use Rattle.mds_types.specs.declared.ids.Rank.{Rank}
 use Rattle.inode_table.specs.Dirs.{Homes, Covers, IsTable}
-use Rattle.subtree_map.specs.Authority.{Leaf, Roots, IsLeaf, IsSubtrees, NearestRoot}
-use Rattle.subtree_map.proofs.LeafKeys.{not_none, one_value}
+use Rattle.mds_types.specs.Leaf.{Leaf}
+use Rattle.subtree_map.specs.Authority.{Roots, IsLeaf, IsSubtrees, NearestRoot, itself}
+use Rattle.subtree_map.proofs.Options.{not_none, one_value}
 use Rattle.subtree_map.proofs.Nearest.{one_root, is_ranked, some_root}
 use Rattle.export_steps.specs.declared.exports.StandingExport.{StandingExport}
 use Rattle.export_steps.specs.Standing.{Standing, is_freezing}
@@ -62,3 +63,17 @@ module _ (standing : Standing) (roots : Roots) (homes : Homes) (covers : Covers)
       let ranked = is_ranked roots homes covers leaf near.0 near.1 in
       let held = some_holder_of_root (map.get standing near.0) ranked.0 in
       (held.0, record { root = near.0; nearest = near.1; holds = ap (region_holder (map.get standing near.0)) ranked.1 ∙ held.1 })
+
+  -- the leaves of a region are frozen as its root is
+  pub region_frozen : (root : Leaf) → NearestRoot roots homes covers leaf root → IsFrozen standing roots homes covers leaf ↔ IsFrozen standing roots homes covers root
+  region_frozen root near =
+      let ranked = is_ranked roots homes covers leaf root near in
+      let own : NearestRoot roots homes covers root root = itself root ranked.0 ranked.1 in
+      (
+        λ frozen.
+            let same : frozen.root ≡ root = one_root roots homes covers leaf frozen.root root frozen.nearest near in
+            record { root = root; export = frozen.export; nearest = own; stands = ap (map.get standing) (sym same) ∙ frozen.stands; freezing = frozen.freezing },
+        λ frozen.
+            let same : frozen.root ≡ root = one_root roots homes covers root frozen.root root frozen.nearest own in
+            record { root = root; export = frozen.export; nearest = near; stands = ap (map.get standing) (sym same) ∙ frozen.stands; freezing = frozen.freezing },
+      )

@@ -7,9 +7,10 @@ use Rattle.mds_types.specs.declared.ids.Rank.{Rank}
 use Rattle.mds_types.specs.Frag.{Fragment}
 use Rattle.fragtree.specs.FragTree.{CanMerge, HasLeaf, IsMerge, IsTree, lies_inside}
 use Rattle.inode_table.specs.Dirs.{Homes, Covers, IsTable, is_known, leaves_of}
-use Rattle.subtree_map.specs.Authority.{Leaf, Roots, HasAuthority, IsInRegion, IsLeaf, IsSubtrees, NearestRoot, itself}
+use Rattle.mds_types.specs.Leaf.{Leaf}
+use Rattle.subtree_map.specs.Authority.{Roots, HasAuthority, IsInRegion, IsLeaf, IsSubtrees, NearestRoot, itself}
 use Rattle.subtree_map.specs.Changes.{BecomesMerged, HaveOneAuthority, IsRootMerge, KeepAuthority, is_inside, leaf_of}
-use Rattle.subtree_map.proofs.LeafKeys.{one_value, value_of}
+use Rattle.subtree_map.proofs.Options.{one_value, value_of}
 use Rattle.subtree_map.proofs.Nearest.{tree_of_row}
 use Rattle.subtree_map.proofs.Covers.{leaves_here, leaves_beside, merged_is_new, some_inside}
 use Rattle.subtree_map.proofs.Merged.{inside_at, inside_of, is_within, merges_soundly}

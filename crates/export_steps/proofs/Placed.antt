@@ -5,9 +5,11 @@ use Rattle.std.specs.FinMap as map
 use Rattle.std.specs.FinMap.{get-empty}
 use Rattle.mds_types.specs.declared.ids.Rank.{Rank}
 use Rattle.mds_types.specs.declared.refusals.Refusal.{Refusal}
-use Rattle.subtree_map.specs.Authority.{Leaf, Roots}
+use Rattle.mds_types.specs.Leaf.{Leaf}
+use Rattle.subtree_map.specs.Authority.{Roots}
 use Rattle.subtree_map.specs.Changes.{Subtrees}
-use Rattle.subtree_map.proofs.LeafKeys.{same_or_apart, not_none, one_value, get_put, get_beside, get_removed, get_left}
+use Rattle.mds_types.proofs.LeafLaws.{same_or_apart, get_put, get_beside, get_removed, get_left}
+use Rattle.subtree_map.proofs.Options.{not_none, one_value}
 use Rattle.export_steps.specs.declared.exports.ExportState.{ExportState}
 use Rattle.export_steps.specs.declared.exports.ExportState.TheVariants.{Started, Frozen}
 use Rattle.export_steps.specs.declared.exports.StandingExport.{StandingExport}

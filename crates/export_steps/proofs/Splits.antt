@@ -6,9 +6,10 @@ use Rattle.sorted_map.proofs.NatKeys as nat
 use Rattle.mds_types.specs.Frag.{Fragment}
 use Rattle.fragtree.specs.FragTree.{FitsSplit, HasLeaf, IsChild, IsSplit, IsTree}
 use Rattle.inode_table.specs.Dirs.{Homes, Covers, IsTable, is_known, leaves_of}
-use Rattle.subtree_map.specs.Authority.{Leaf, Roots, IsInRegion, IsLeaf, IsSubtrees, NearestRoot, itself}
+use Rattle.mds_types.specs.Leaf.{Leaf}
+use Rattle.subtree_map.specs.Authority.{Roots, IsInRegion, IsLeaf, IsSubtrees, NearestRoot, itself}
 use Rattle.subtree_map.specs.Changes.{BecomesSplit, IsRootSplit, KeepAuthority, leaf_of}
-use Rattle.subtree_map.proofs.LeafKeys.{value_of}
+use Rattle.subtree_map.proofs.Options.{value_of}
 use Rattle.subtree_map.proofs.Nearest.{tree_of_row}
 use Rattle.subtree_map.proofs.Covers.{leaves_here, leaves_beside, child_is_new}
 use Rattle.subtree_map.proofs.Split.{splits_soundly, stands_beside, stands_here}

@@ -2,7 +2,8 @@
 use Rattle.std.specs.Prelude.{◌↔◌, ◌⊎◌}
 use Rattle.mds_types.specs.declared.ids.Rank.{Rank}
 use Rattle.inode_table.specs.Dirs.{Homes, Covers}
-use Rattle.subtree_map.specs.Authority.{Leaf, Roots, HasAuthority, NearestRoot}
+use Rattle.mds_types.specs.Leaf.{Leaf}
+use Rattle.subtree_map.specs.Authority.{Roots, HasAuthority, NearestRoot}
 use Rattle.export_steps.specs.Standing.{Standing}
 use Rattle.export_steps.specs.Holder.{HasHolder, IsFrozen}
 

@@ -3,9 +3,10 @@ use Rattle.std.specs.Prelude.{◌≡◌, ◌≢◌, ◌↔◌, ℕ, true, Some, 
 use Rattle.std.specs.FinMap as map
 use Rattle.mds_types.specs.Frag.{Fragment}
 use Rattle.fragtree.specs.FragTree.{CanMerge, FitsSplit, HasLeaf, IsMerge, IsSplit, IsTree}
-use Rattle.inode_table.specs.declared.homes.Home.{Home}
+use Rattle.inode_table.specs.declared.dirs.Home.{Home}
 use Rattle.inode_table.specs.Dirs.{Homes, Covers, IsChildless, IsTable, MayCome, MayMove, leaves_of}
-use Rattle.subtree_map.specs.Authority.{Leaf, HoldsDentry, IsInRegion, IsLeaf, IsSubtrees}
+use Rattle.mds_types.specs.Leaf.{Leaf}
+use Rattle.subtree_map.specs.Authority.{HoldsDentry, IsInRegion, IsLeaf, IsSubtrees}
 use Rattle.subtree_map.specs.Changes.{AreGone, IsRootMerge, IsRootSplit, Subtrees, is_inside, leaf_of}
 use Rattle.subtree_map.specs.Moves.{IsSettled}
 use Rattle.export_steps.specs.declared.exports.StandingExport.{StandingExport}

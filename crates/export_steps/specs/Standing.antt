@@ -4,7 +4,7 @@ use Rattle.std.specs.FinMap as map
 use Rattle.mds_types.specs.declared.ids.Rank.{Rank}
 use Rattle.mds_types.specs.declared.refusals.Refusal.{Refusal}
 use Rattle.mds_types.specs.declared.refusals.Refusal.TheVariants.{NoMemory, WrongExportState}
-use Rattle.subtree_map.specs.Authority.{Leaf, leaf_cmp}
+use Rattle.mds_types.specs.Leaf.{Leaf, leaf_cmp}
 use Rattle.subtree_map.specs.Changes.{Subtrees}
 use Rattle.export_steps.specs.declared.exports.ExportState.{ExportState}
 use Rattle.export_steps.specs.declared.exports.ExportState.TheVariants.{Started, Frozen, Prepared, Sent, Imported}

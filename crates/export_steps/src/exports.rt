@@ -3,7 +3,7 @@ ghost use Rattle.std.specs.Prelude.{◌≡◌, IfSome};
 ghost use Rattle.std.specs.List.{slice_get};
 ghost use Rattle.std.specs.FinMap as map;
 ghost use Rattle.sorted_map.specs.SortedMap.{contents};
-ghost use Rattle.subtree_map.specs.Authority.{leaf_cmp};
+ghost use Rattle.mds_types.specs.Leaf.{leaf_cmp};
 ghost use Rattle.subtree_map.specs.Changes.{Subtrees as SubtreesSeen};
 ghost use Rattle.export_steps.specs.Standing.{ArePlaced, IsBetweenRanks};
 
@@ -48,7 +48,7 @@ impl Model for Exports {
     ghost use Rattle.std.specs.Coded.{codes};
     ghost use Rattle.std.specs.FinMap as map;
     ghost use Rattle.sorted_map.specs.SortedMap.{contents};
-    ghost use Rattle.subtree_map.specs.Authority.{leaf_cmp};
+    ghost use Rattle.mds_types.specs.Leaf.{leaf_cmp};
     ghost use Rattle.export_steps.specs.Standing.{AreBetweenRanks, Standing};
 
     ghost Value = { Standing };

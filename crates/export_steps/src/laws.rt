@@ -1,8 +1,9 @@
 //! Laws of exports, for the crates that hold them. A law is its contract: its body does nothing.
-ghost use Rattle.std.specs.Prelude.{◌≡◌};
+ghost use Rattle.std.specs.Prelude.{◌≡◌, ◌↔◌};
 ghost use Rattle.mds_types.specs.declared.ids.Rank.{Rank};
 ghost use Rattle.inode_table.specs.Dirs.{Homes, Covers, IsTable};
-ghost use Rattle.subtree_map.specs.Authority.{HasAuthority, IsLeaf, IsSubtrees, Leaf, Roots};
+ghost use Rattle.mds_types.specs.Leaf.{Leaf};
+ghost use Rattle.subtree_map.specs.Authority.{HasAuthority, IsInRegion, IsLeaf, IsSubtrees, Roots};
 ghost use Rattle.subtree_map.specs.Changes.{Subtrees as SubtreesSeen};
 ghost use Rattle.export_steps.specs.Standing.{ArePlaced, ComesTo, IsCancel, IsFinish, IsFreeze, Standing};
 ghost use Rattle.export_steps.specs.declared.exports.ExportState.TheVariants as state;
@@ -14,6 +15,13 @@ ghost use Rattle.export_steps.specs.Regions.{AreFrozenRegionsKept, IsMakingElsew
 pub fn each_leaf_has_one_holder()
     ensures some { (standing : Standing) (roots : Roots) (homes : Homes) (covers : Covers) (leaf : Leaf) → IsTable homes covers → IsSubtrees roots homes covers → IsLeaf homes covers leaf → (rank : Rank) × HasHolder standing roots homes covers leaf rank }
     ensures one { (standing : Standing) (roots : Roots) (homes : Homes) (covers : Covers) (leaf : Leaf) (a b : Rank) → HasHolder standing roots homes covers leaf a → HasHolder standing roots homes covers leaf b → a ≡ b }
+{}
+
+/// A region is frozen exactly as its root is: all of its leaves, or none. So is, before a Freeze, the region that its root
+/// will have.
+pub fn a_region_is_frozen_as_its_root_is()
+    ensures stands { (standing : Standing) (roots : Roots) (homes : Homes) (covers : Covers) (root leaf : Leaf) → IsInRegion roots homes covers root leaf → IsFrozen standing roots homes covers leaf ↔ IsFrozen standing roots homes covers root }
+    ensures comes { (old new : Standing) (was now : SubtreesSeen) (root : Leaf) → IsFreeze old new was now root → (homes : Homes) (covers : Covers) (leaf : Leaf) → IsInRegion now.roots homes covers root leaf → IsFrozen old was.roots homes covers leaf ↔ IsFrozen old was.roots homes covers root }
 {}
 
 /// A split elsewhere leaves each frozen region as it is.

@@ -6,7 +6,7 @@ use Rattle.std.specs.FinMap as map
 use Rattle.std.specs.FinMap.{get-empty, len-remove, empty_of_len}
 use Rattle.std.proofs.lemmas.Bool.Decides.{nat_tests}
 use Rattle.sorted_map.proofs.NatKeys.{is_same, is_apart, same_or_apart, get_put, get_beside, get_removed, get_left}
-use Rattle.inode_table.specs.declared.homes.Home.{Home}
+use Rattle.inode_table.specs.declared.dirs.Home.{Home}
 use Rattle.inode_table.specs.Dirs.{Homes, IsAbove, parent, further, Reaches, IsRooted, MayCome, MayMove, IsChildless, is_known}
 
 none_there : (o : Option Home) → o ≡ None → is_some o ≡ true → ⊥

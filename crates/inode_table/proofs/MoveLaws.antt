@@ -9,7 +9,7 @@ use Rattle.mds_types.proofs.MovedLaws.{MayMove as MayMoveIn, may_move, well-form
 use Rattle.mds_types.proofs.EntryLaws.{get_left}
 use Rattle.mds_types.proofs.DirectoryLaws.{one_dentry}
 use Rattle.sorted_map.proofs.NatKeys.{after_put, after_removal, get_put, get_beside, get_left as get_left_home}
-use Rattle.inode_table.specs.declared.homes.Home.{Home}
+use Rattle.inode_table.specs.declared.dirs.Home.{Home}
 use Rattle.inode_table.specs.Dirs.{Homes, MayGo, MayMove}
 use Rattle.inode_table.specs.TreeTable.{IsTabled, home_at, with_home, without_home}
 use Rattle.inode_table.proofs.TableLaws.{home_of, known_is, above_in_tree, childless, dir_or_not, with_dir, with_file, without_dir, without_file, dentry_at}

@@ -16,7 +16,7 @@ use Rattle.mds_types.proofs.EntryLaws.{get_put, get_beside, get_left, stands_aft
 use Rattle.mds_types.proofs.DirectoryLaws.{StandsAs, directory_stands, root_stands, entry_stands, one_dentry, nothing_in_empty, nothing_in_file}
 use Rattle.sorted_map.proofs.Bools.{or_cases, or_first, or_second}
 use Rattle.sorted_map.proofs.NatKeys.{is_same, after_put, after_removal, get_put as get_put_home, get_beside as get_beside_home, get_left as get_left_home, get_removed as get_removed_home, same_or_apart as same_number}
-use Rattle.inode_table.specs.declared.homes.Home.{Home}
+use Rattle.inode_table.specs.declared.dirs.Home.{Home}
 use Rattle.inode_table.specs.Dirs.{Homes, Covers, or_whole, leaves_of, is_known, IsAbove, parent, further, MayCome, IsChildless, MayGo}
 use Rattle.inode_table.specs.TreeChanges.{KeepLeaves, MayAdd, MaySet, MayRemove}
 use Rattle.inode_table.specs.TreeTable.{HoldsHomes, IsTabled, home_at, with_home, without_cover, without_home}

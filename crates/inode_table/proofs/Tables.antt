@@ -6,7 +6,7 @@ use Rattle.std.specs.FinMap.{get-empty}
 use Rattle.mds_types.specs.Frag.{Fragment}
 use Rattle.fragtree.specs.FragTree.{IsTree}
 use Rattle.sorted_map.proofs.NatKeys.{same_or_apart, get_put, get_beside, get_left, after_put, after_removal}
-use Rattle.inode_table.specs.declared.homes.Home.{Home}
+use Rattle.inode_table.specs.declared.dirs.Home.{Home}
 use Rattle.inode_table.specs.Dirs.{Homes, Covers, IsTable, MayCome, MayMove, IsChildless, is_known}
 use Rattle.inode_table.proofs.Chains.{empty_rooted, adopted_rooted, moved_rooted, dropped_rooted}
 

@@ -4,7 +4,7 @@ use Rattle.std.specs.Ordering.{nat_cmp}
 use Rattle.std.specs.FinMap as map
 use Rattle.mds_types.specs.Frag.{Fragment, root_fragment}
 use Rattle.fragtree.specs.FragTree.{IsTree}
-use Rattle.inode_table.specs.declared.homes.Home.{Home}
+use Rattle.inode_table.specs.declared.dirs.Home.{Home}
 
 -- from the number of each directory but the root to its parent and name
 abbrev pub Homes : Type 0

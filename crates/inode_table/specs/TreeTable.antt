@@ -4,7 +4,7 @@ use Rattle.std.specs.FinMap as map
 use Rattle.mds_types.specs.declared.dentries.Dentry.{Dentry}
 use Rattle.mds_types.specs.declared.inodes.Inode.{Inode}
 use Rattle.mds_types.specs.Tree.{Tree, dentry_of, is_dir_kind, IsWellFormed}
-use Rattle.inode_table.specs.declared.homes.Home.{Home}
+use Rattle.inode_table.specs.declared.dirs.Home.{Home}
 use Rattle.inode_table.specs.Dirs.{Homes, Covers}
 
 -- where a directory with its entry at this dentry stands

@@ -7,12 +7,18 @@ ghost use Rattle.mds_types.specs.Frag.{root_fragment};
 ghost use Rattle.fragtree.specs.FragTree.{CanMerge, CanSplit, IsPick, RefusesMerge, RefusesSplit};
 ghost use Rattle.inode_table.specs.Dirs.{IsAbove, IsTable, MayCome, MayGo, MayMove, is_known, leaves_of};
 
-use crate::homes::Home;
 use fragtree::FragTree;
-use mds_types::{Frag, Ino, Refusal};
+use mds_types::{Frag, Ino, Name, Refusal};
 use sorted_map::SortedMap;
 use std::alloc::{AllocError, Global};
 use std::marker::Model;
+
+/// Where a directory stands: its parent, and its name there.
+#[derive(Debug, Drop, PartialEq, Eq)]
+pub struct Home {
+    pub parent: Ino,
+    pub name: Name,
+}
 
 /// For each directory its parent and its name there, and its leaves. The root directory is always there, and has neither
 /// parent nor name.

@@ -2,11 +2,9 @@
 #![tactic(auto)]
 
 mod dirs;
-mod homes;
 mod numbers;
 mod table_changes;
 
-pub use dirs::Dirs;
-pub use homes::Home;
+pub use dirs::{Dirs, Home};
 pub use numbers::Numbers;
 pub use table_changes::{adopt_dir, drop_dir, relocate_dir};

@@ -8,8 +8,7 @@ ghost use Rattle.mds_types.specs.Tree.{is_dir_kind};
 ghost use Rattle.inode_table.specs.Dirs.{IsTable, MayCome, MayGo, MayMove};
 ghost use Rattle.inode_table.specs.TreeTable.{home_at, with_home, without_cover, without_home};
 
-use crate::dirs::Dirs;
-use crate::homes::Home;
+use crate::dirs::{Dirs, Home};
 use mds_types::{Dentry, Inode, Name};
 
 /// Notes in the table the new inode at a dentry, if it is a directory: it has its home there, and the one leaf `*`. Of a

@@ -6,7 +6,8 @@ use Rattle.std.specs.Cmp.Lexicographic.{slice_cmp}
 use Rattle.std.specs.FinMap as map
 use Rattle.std.specs.FinMap.{len-empty, len-entries, empty_of_len}
 use Rattle.mds_types.specs.declared.inodes.Inode.{Inode}
-use Rattle.leaf_maps.specs.Leaves.{Leaf, Rows, Names}
+use Rattle.mds_types.specs.Leaf.{Leaf}
+use Rattle.leaf_maps.specs.Leaves.{Rows, Names}
 use Rattle.leaf_maps.specs.Listed.{is_some_row, has_names}
 use Rattle.leaf_maps.specs.Merge.{Row}
 

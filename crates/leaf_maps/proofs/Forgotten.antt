@@ -1,6 +1,5 @@
 -- The leaves of a directory, dropped one after the other.
 use Rattle.std.proofs.Common.{◌≡◌, ℕ, zero, suc, ◌-◌, ◌<◌, Bool, true, false, T, List, [], ◌∷◌, Some, None, IsSome, refl, sym, ap, subst, ◌∙◌, arith}
-use Rattle.std.proofs.lemmas.Bool.Decides.{nat_tests}
 use Rattle.std.specs.Prelude.{cond, ◌==◌, is_some}
 use Rattle.std.specs.Ordering.{eq_by_cmp, is_eq}
 use Rattle.std.specs.Cmp.{tied_itself}
@@ -12,8 +11,9 @@ use Rattle.sorted_map.proofs.NatKeys.{is_same}
 use Rattle.mds_types.specs.Frag.{Fragment}
 use Rattle.sorted_map.proofs.MapLaws.{tie}
 use Rattle.mds_types.proofs.EntrySearch.{not_found_below}
-use Rattle.leaf_maps.specs.Leaves.{Leaf, Rows, Leaves, leaf_cmp, kept_of}
-use Rattle.leaf_maps.proofs.LeafLaws.{leaf-exact, leaf-total}
+use Rattle.mds_types.specs.Leaf.{Leaf, leaf_cmp}
+use Rattle.leaf_maps.specs.Leaves.{Rows, Leaves, kept_of}
+use Rattle.mds_types.proofs.LeafLaws.{leaf-exact, leaf-total, nat_same}
 use Rattle.leaf_maps.proofs.OneLeaf.{key, apart_keys}
 use Rattle.leaf_maps.specs.Listed.{leaves_of_dir}
 
@@ -55,11 +55,8 @@ of_dir : (d : ℕ) (leaf : Leaf × Rows) (rest es : List (Leaf × Rows)) → lea
 of_dir d leaf rest [] is = cc
 of_dir d leaf rest (e ∷ es) is = go (e.0.0.0 == d) refl is (λ more. of_dir d leaf rest es more)
   where
-    number : (e.0.0.0 == d) ≡ true → e.0.0.0 ≡ d
-    number here = grind (arith, nat_tests)
-
     go : (b : Bool) → (e.0.0.0 == d) ≡ b → cond b (e ∷ leaves_of_dir d es) (leaves_of_dir d es) ≡ leaf ∷ rest → (leaves_of_dir d es ≡ leaf ∷ rest → leaf.0.0.0 ≡ d) → leaf.0.0.0 ≡ d
-    go true here is more = let same : e ≡ leaf = cc in ap (λ (l : Leaf × Rows). l.0.0.0) (sym same) ∙ number here
+    go true here is more = let same : e ≡ leaf = cc in ap (λ (l : Leaf × Rows). l.0.0.0) (sym same) ∙ nat_same e.0.0.0 d here
     go false other is more = more is
 
 pub told : (leaves : Leaves) (d : ℕ) (leaf : Leaf × Rows) (rest : List (Leaf × Rows)) → leaves_of_dir d (finmap.entries leaves) ≡ leaf ∷ rest → (leaf.0.0.0 ≡ d) × IsSome (finmap.get leaves leaf.0)

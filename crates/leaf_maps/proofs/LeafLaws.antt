@@ -1,36 +1,28 @@
 -- What stands in the tree that leaves show.
 use Rattle.std.specs.Prelude.{◌≡◌, ℕ, Bool, true, false, ◌==◌, ◌&&◌, cond, T, List, [], ◌∷◌, ◌++◌, Option, Some, None, refl}
 use Rattle.std.specs.Option.{option_or}
-use Rattle.std.proofs.Common.{sym, ap, ◌∙◌, arith}
-use Rattle.std.proofs.lemmas.Bool.Decides.{nat_tests}
-use Rattle.std.specs.Ordering.{nat_cmp, is_eq, eq_by_cmp}
-use Rattle.std.specs.Cmp.{IsTotalOrder, on_total, then_total, nat_cmp_total, tied_itself}
+use Rattle.std.proofs.Common.{sym, ap, ◌∙◌}
+use Rattle.std.specs.Ordering.{nat_cmp, eq_by_cmp}
 use Rattle.std.specs.Cmp.Lexicographic.{slice_cmp}
 use Rattle.std.specs.FinMap as finmap
-use Rattle.std.specs.FinMap.{IsAntisymmetric, find, is_sorted, get-entries, entries_sorted, get-from_entries, get-empty}
-use Rattle.std.proofs.lemmas.Map.Lookups.{exact_pairs}
-use Rattle.mds_types.specs.declared.ids.Ino.{Ino}
+use Rattle.std.specs.FinMap.{find, is_sorted, get-entries, entries_sorted, get-from_entries, get-empty}
 use Rattle.mds_types.specs.declared.dentries.Dentry.{Dentry}
 use Rattle.mds_types.specs.declared.inodes.Inode.{Inode}
-use Rattle.mds_types.specs.Frag.{Fragment, frag_cmp}
+use Rattle.mds_types.specs.Frag.{Fragment}
 use Rattle.mds_types.specs.Tree.{dentry_cmp, dentry_of}
-use Rattle.mds_types.proofs.OrderLaws.{dentry-total, frag-total}
-use Rattle.mds_types.specs.OrderLaws.{ino-exact, frag-exact}
+use Rattle.mds_types.proofs.OrderLaws.{dentry-total}
 use Rattle.sorted_map.proofs.MapLaws.{tie}
 use Rattle.mds_types.proofs.EntrySearch.{not_found_below}
 use Rattle.mds_types.proofs.ListingLaws.{tied_dentry}
 use Rattle.sorted_map.proofs.Bools.{left_of, right_of}
+use Rattle.sorted_map.proofs.NatKeys.{is_same}
 use Rattle.sorted_map.specs.SortedMap.{contents}
 use Rattle.fragtree.specs.FragTree.{IsPick}
 use Rattle.namehash.specs.Rjenkins.{hash_of}
 use Rattle.inode_table.specs.Dirs.{Covers, leaves_of}
-use Rattle.leaf_maps.specs.Leaves.{Leaf, leaf_cmp, Rows, Leaves, names_of, entries_of, entries_in, shown_by, ArePlaced, IsShown}
-
-pub leaf-exact : IsAntisymmetric leaf_cmp
-leaf-exact = exact_pairs (λ (a b : Ino). nat_cmp a.0 b.0) frag_cmp ino-exact frag-exact
-
-pub leaf-total : IsTotalOrder leaf_cmp
-leaf-total = then_total (on_total (λ (l : Leaf). l.0.0) nat_cmp_total) (on_total (λ (l : Leaf). l.1) frag-total)
+use Rattle.mds_types.specs.Leaf.{Leaf, leaf_cmp}
+use Rattle.mds_types.proofs.LeafLaws.{key_itself, leaf-exact, leaf-total, nat_same}
+use Rattle.leaf_maps.specs.Leaves.{Rows, Leaves, names_of, entries_of, entries_in, shown_by, ArePlaced, IsShown}
 
 -- an entry of a directory's names is found by its name
 pub found_row : (d e : ℕ) (name : List ℕ) (rows : List (List ℕ × Inode)) (rest : List (Dentry × Inode)) (b : Bool) → (e == d) ≡ b
@@ -83,17 +75,11 @@ one_leaf d f name (e ∷ es) sorted others = go (eq_by_cmp leaf_cmp key e.0) ref
             let none : find leaf_cmp (record { 0 = d }, g) es ≡ None = ap (λ k. find leaf_cmp k es) (leaf-exact _ _ (tie _ tied)) ∙ not_found_below leaf-total e.0 es (left_of _ _ sorted) in
             let clash : None ≡ Some rows = sym none ∙ found in cc
 
-    itself : (k : Leaf) → eq_by_cmp leaf_cmp k k ≡ true
-    itself k = ap is_eq (tied_itself leaf-total k)
-
-    same_number : e.0.0.0 ≡ d → (e.0.0.0 == d) ≡ true
-    same_number is = grind (arith, nat_tests)
-
     go : (b : Bool) → eq_by_cmp leaf_cmp key e.0 ≡ b → first_at d name es ≡ finmap.get (names_of (find leaf_cmp key es)) name → first_at d name (e ∷ es) ≡ finmap.get (names_of (cond b (Some e.1) (find leaf_cmp key es))) name
     go true tied later =
         let is : key ≡ e.0 = leaf-exact _ _ (tie _ tied) in
         let none : find leaf_cmp key es ≡ None = ap (λ k. find leaf_cmp k es) is ∙ not_found_below leaf-total e.0 es (left_of _ _ sorted) in
-        ap (λ b. option_or (cond b (finmap.get (contents (slice_cmp nat_cmp) e.1) name) None) (first_at d name es)) (same_number (ap (λ (k : Leaf). k.0.0) (sym is)))
+        ap (λ b. option_or (cond b (finmap.get (contents (slice_cmp nat_cmp) e.1) name) None) (first_at d name es)) (is_same e.0.0.0 d (ap (λ (k : Leaf). k.0.0) (sym is)))
         ∙ ap (option_or (finmap.get (contents (slice_cmp nat_cmp) e.1) name)) (later ∙ ap (λ o. finmap.get (names_of o) name) none ∙ get-empty _ name)
         ∙ or_none _
     go false apart later = other (e.0.0.0 == d) refl
@@ -102,16 +88,13 @@ one_leaf d f name (e ∷ es) sorted others = go (eq_by_cmp leaf_cmp key e.0) ref
         same_key a b = λ i. (record { 0 = a i }, b i)
 
         not_f : e.0.0.0 ≡ d → e.0.1 ≡ f → ⊥
-        not_f a b = let clash : true ≡ false = sym (itself key) ∙ ap (eq_by_cmp leaf_cmp key) (sym (same_key a b)) ∙ apart in cc
+        not_f a b = let clash : true ≡ false = sym (key_itself key) ∙ ap (eq_by_cmp leaf_cmp key) (sym (same_key a b)) ∙ apart in cc
 
         at_e : e.0.0.0 ≡ d → find leaf_cmp (record { 0 = d }, e.0.1) (e ∷ es) ≡ Some e.1
-        at_e a = ap (λ b. cond b (Some e.1) (find leaf_cmp (record { 0 = d }, e.0.1) es)) (ap (λ (n : ℕ). eq_by_cmp leaf_cmp (record { 0 = n }, e.0.1) e.0) (sym a) ∙ itself e.0)
-
-        number : (e.0.0.0 == d) ≡ true → e.0.0.0 ≡ d
-        number is = grind (arith, nat_tests)
+        at_e a = ap (λ b. cond b (Some e.1) (find leaf_cmp (record { 0 = d }, e.0.1) es)) (ap (λ (n : ℕ). eq_by_cmp leaf_cmp (record { 0 = n }, e.0.1) e.0) (sym a) ∙ key_itself e.0)
 
         other : (b : Bool) → (e.0.0.0 == d) ≡ b → option_or (cond b (finmap.get (contents (slice_cmp nat_cmp) e.1) name) None) (first_at d name es) ≡ finmap.get (names_of (find leaf_cmp key es)) name
-        other true is = ap (λ o. option_or o (first_at d name es)) (others e.0.1 e.1 (at_e (number is)) (not_f (number is))) ∙ later
+        other true is = ap (λ o. option_or o (first_at d name es)) (others e.0.1 e.1 (at_e (nat_same e.0.0.0 d is)) (not_f (nat_same e.0.0.0 d is))) ∙ later
         other false is = later
 
 -- a name stands where the leaf that its hash picks has it

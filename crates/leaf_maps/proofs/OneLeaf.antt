@@ -1,20 +1,17 @@
 -- One leaf among others.
 use Rattle.std.specs.Prelude.{◌≡◌, ℕ, ◌⊎◌, Bool, true, false, refl}
 use Rattle.std.proofs.Common.{inl, inr, sym, ap, ◌∙◌}
-use Rattle.std.specs.Ordering.{eq_by_cmp, is_eq}
-use Rattle.std.specs.Cmp.{tied_itself}
+use Rattle.std.specs.Ordering.{eq_by_cmp}
 use Rattle.mds_types.specs.Frag.{Fragment}
 use Rattle.sorted_map.proofs.MapLaws.{tie}
 use Rattle.sorted_map.proofs.Bools.{not_true}
-use Rattle.leaf_maps.specs.Leaves.{Leaf, leaf_cmp, Leaves, names_in}
-use Rattle.leaf_maps.proofs.LeafLaws.{leaf-exact, leaf-total}
+use Rattle.mds_types.specs.Leaf.{Leaf, leaf_cmp}
+use Rattle.leaf_maps.specs.Leaves.{Leaves, names_in}
+use Rattle.mds_types.proofs.LeafLaws.{key_itself, leaf-exact}
 
 -- the key of a leaf
 abbrev pub key : ℕ → Fragment → Leaf
 key d f = (record { 0 = d }, f)
-
-pub key_itself : (k : Leaf) → eq_by_cmp leaf_cmp k k ≡ true
-key_itself k = ap is_eq (tied_itself leaf-total k)
 
 -- two leaves are one, or they differ
 pub one_or_other : (d e : ℕ) (f g : Fragment) → ((e ≡ d) × (g ≡ f)) ⊎ ((e ≡ d) × (g ≡ f) → ⊥)

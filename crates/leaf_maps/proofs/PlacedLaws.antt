@@ -1,6 +1,5 @@
 -- Where each leaf has only names whose hashes pick it, no dentry stands twice.
-use Rattle.std.proofs.Common.{◌≡◌, ℕ, Bool, true, false, cond, ◌==◌, T, List, [], ◌∷◌, ◌++◌, Option, Some, None, is_some, Ordering, is_lt, refl, sym, ap, ◌∙◌, subst, arith}
-use Rattle.std.proofs.lemmas.Bool.Decides.{nat_tests}
+use Rattle.std.proofs.Common.{◌≡◌, ℕ, Bool, true, false, cond, ◌==◌, T, List, [], ◌∷◌, ◌++◌, Option, Some, None, is_some, Ordering, is_lt, refl, sym, ap, ◌∙◌, subst}
 use Rattle.std.specs.List.{AllByRecursion}
 use Rattle.std.specs.Option.{option_or}
 use Rattle.std.specs.Ordering.{nat_cmp, is_eq, eq_by_cmp}
@@ -8,39 +7,35 @@ use Rattle.std.specs.Cmp.{IsTotalOrder, tied_itself}
 use Rattle.std.specs.Cmp.Lexicographic.{slice_cmp, nat_list_cmp_total}
 use Rattle.std.specs.FinMap as finmap
 use Rattle.std.specs.FinMap.{find, is_sorted, get-entries, entries_sorted}
-use Rattle.std.specs.FinMap.Entries.{below_all, find_tied}
+use Rattle.std.specs.FinMap.Entries.{below_all}
 use Rattle.mds_types.specs.declared.dentries.Dentry.{Dentry}
 use Rattle.mds_types.specs.declared.inodes.Inode.{Inode}
 use Rattle.mds_types.specs.Tree.{dentry_cmp, dentry_of}
-use Rattle.sorted_map.proofs.MapLaws.{tie}
-use Rattle.mds_types.proofs.EntrySearch.{not_found_below}
+use Rattle.mds_types.proofs.EntrySearch.{found_behind, not_found_below}
 use Rattle.mds_types.specs.Outcomes.{IsListing}
 use Rattle.mds_types.proofs.ListingLaws.{names_are_listed}
 use Rattle.mds_types.specs.Step.{names_after}
 use Rattle.sorted_map.proofs.Bools.{left_of, right_of}
+use Rattle.sorted_map.proofs.NatKeys.{is_same}
 use Rattle.sorted_map.specs.SortedMap.{contents}
 use Rattle.fragtree.specs.FragTree.{IsPick}
 use Rattle.namehash.specs.Rjenkins.{hash_of}
 use Rattle.inode_table.specs.Dirs.{Covers, leaves_of}
-use Rattle.leaf_maps.specs.Leaves.{Leaf, leaf_cmp, Rows, Leaves, names_of, entries_of, entries_in, shown_by, ArePlaced}
-use Rattle.leaf_maps.proofs.LeafLaws.{leaf-total, found_row, first_at, found_first}
+use Rattle.mds_types.specs.Leaf.{Leaf, leaf_cmp}
+use Rattle.leaf_maps.specs.Leaves.{Rows, Leaves, names_of, entries_of, entries_in, shown_by, ArePlaced}
+use Rattle.mds_types.proofs.LeafLaws.{leaf-total, nat_same}
+use Rattle.leaf_maps.proofs.LeafLaws.{found_row, first_at, found_first}
 use Rattle.leaf_maps.specs.Listed.{leaves_of_dir, rows_of, rows_in}
 use Rattle.leaf_maps.specs.Merge.{Row, HasSameRows, IsOrderOf}
 use Rattle.leaf_maps.proofs.ShownLaws.{AreDistinct, shown_rows}
 
 -- what holds of each pair that is found holds of all
 module _ {K X : Type 0} {R : K → K → Ordering} (o : IsTotalOrder R) where
-  found_behind : (e f : K × X) (es : List (K × X)) (b : Bool) → eq_by_cmp R f.0 e.0 ≡ b → T (below_all R e.0 es) → find R f.0 es ≡ Some f.1 → find R f.0 (e ∷ es) ≡ Some f.1
-  found_behind e f es false apart below found = ap (λ b. cond b (Some e.1) (find R f.0 es)) apart ∙ found
-  found_behind e f es true tied below found =
-      let nothing : None ≡ Some f.1 = sym (not_found_below o e.0 es below) ∙ find_tied R o f.0 e.0 (tie (R f.0 e.0) tied) es ∙ found in
-      cc
-
   all_found : (P : K × X → Type 0) (es : List (K × X)) → T (is_sorted R es) → ((e : K × X) → find R e.0 es ≡ Some e.1 → P e) → AllByRecursion P es
   all_found P [] sorted each = tt
   all_found P (e ∷ es) sorted each = (
     each e (ap (λ r. cond (is_eq r) (Some e.1) (find R e.0 es)) (tied_itself o e.0)),
-    all_found P es (right_of _ _ sorted) (λ f found. each f (found_behind e f es (eq_by_cmp R f.0 e.0) refl (left_of _ _ sorted) found)),
+    all_found P es (right_of _ _ sorted) (λ f found. each f (found_behind o e f es (eq_by_cmp R f.0 e.0) refl (left_of _ _ sorted) found)),
   )
 
 -- a leaf has only names whose hashes pick it
@@ -51,12 +46,6 @@ all_placed : (covers : Covers) (leaves : Leaves) → ArePlaced covers leaves →
 all_placed covers leaves placed =
     all_found leaf-total (IsPlaced covers) (finmap.entries leaves) (entries_sorted leaves) (λ leaf found name inode stands.
     placed leaf.0.0.0 leaf.0.1 name inode (ap (λ o. finmap.get (names_of o) name) (get-entries leaves leaf.0 ∙ found) ∙ stands))
-
-number_is : (a b : ℕ) → (a == b) ≡ true → a ≡ b
-number_is a b is = grind (arith, nat_tests)
-
-number_itself : (a : ℕ) → (a == a) ≡ true
-number_itself a = grind (arith, nat_tests)
 
 -- two leaves of a directory that a name picks are one
 not_both : (covers : Covers) (e g : Leaf × Rows) (name : List ℕ) → T (is_lt (leaf_cmp e.0 g.0)) → g.0.0.0 ≡ e.0.0.0 → IsPick (leaves_of covers e.0.0.0) (hash_of name) e.0.1 → IsPick (leaves_of covers g.0.0.0) (hash_of name) g.0.1 → ⊥
@@ -80,7 +69,7 @@ alone_behind covers e (g ∷ gs) name below placed pick =
     go true here None is =
         ap (λ b. option_or (cond b (finmap.get (contents (slice_cmp nat_cmp) g.1) name) None) (first_at e.0.0.0 name gs)) here
         ∙ ap (λ o. option_or o (first_at e.0.0.0 name gs)) is
-    go true here (Some inode) is = absurd (not_both covers e g name (left_of _ _ below) (number_is g.0.0.0 e.0.0.0 here) pick (placed.0 name inode is))
+    go true here (Some inode) is = absurd (not_both covers e g name (left_of _ _ below) (nat_same g.0.0.0 e.0.0.0 here) pick (placed.0 name inode is))
 
 some_more : (b : Bool) (i : Inode) (o : Option Inode) → is_some o ≡ true → is_some (cond b (Some i) o) ≡ true
 some_more true i o some = refl
@@ -91,7 +80,7 @@ distinct_rows : (d : ℕ) (rows : List Row) (rest : List (Dentry × Inode)) → 
     → ((name : List ℕ) → is_some (find (slice_cmp nat_cmp) name rows) ≡ true → find dentry_cmp (dentry_of d name) rest ≡ None) → AreDistinct rest → AreDistinct (entries_of d rows ++ rest)
 distinct_rows d [] rest sorted none distinct = distinct
 distinct_rows d (row ∷ rows) rest sorted none distinct = (
-  found_row d d row.0 rows rest true (number_itself d)
+  found_row d d row.0 rows rest true (is_same d d refl)
       ∙ ap (λ o. option_or o (find dentry_cmp (dentry_of d row.0) rest)) (not_found_below nat_list_cmp_total row.0 rows (left_of _ _ sorted))
       ∙ none row.0 (ap (λ r. is_some (cond (is_eq r) (Some row.1) (find (slice_cmp nat_cmp) row.0 rows))) (tied_itself nat_list_cmp_total row.0)),
   distinct_rows d rows rest (right_of _ _ sorted) (λ name some. none name (some_more (eq_by_cmp (slice_cmp nat_cmp) name row.0) row.1 _ some)) distinct,

@@ -15,9 +15,10 @@ use Rattle.mds_types.specs.OrderLaws.{frag-exact}
 use Rattle.mds_types.proofs.OrderLaws.{frag-total}
 use Rattle.fragtree.specs.FragTree.{HasLeaf, IsPick}
 use Rattle.namehash.specs.Rjenkins.{hash_of}
-use Rattle.leaf_maps.specs.Leaves.{Rows, Leaves, leaf_cmp, names_of, names_in}
-use Rattle.leaf_maps.proofs.LeafLaws.{leaf-total}
-use Rattle.leaf_maps.proofs.OneLeaf.{key, key_itself, apart_keys}
+use Rattle.mds_types.specs.Leaf.{leaf_cmp}
+use Rattle.leaf_maps.specs.Leaves.{Rows, Leaves, names_of, names_in}
+use Rattle.mds_types.proofs.LeafLaws.{key_itself, leaf-total}
+use Rattle.leaf_maps.proofs.OneLeaf.{key, apart_keys}
 use Rattle.leaf_maps.specs.Regroup.{ArePlacedIn, AreKeptIn, IsRegrouped, is_leaf, gathered, Gathers, cleared}
 use Rattle.leaf_maps.proofs.RegroupLaws.{leaf_is, is_one, gathered_has}
 

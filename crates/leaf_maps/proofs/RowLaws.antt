@@ -6,7 +6,8 @@ use Rattle.std.specs.FinMap.{is_sorted, entries_sorted}
 use Rattle.std.specs.FinMap.Entries.{is_sorted-where_key}
 use Rattle.mds_types.specs.Step.{is_after}
 use Rattle.sorted_map.specs.SortedMap.{contents}
-use Rattle.leaf_maps.specs.Leaves.{Leaf, Rows}
+use Rattle.mds_types.specs.Leaf.{Leaf}
+use Rattle.leaf_maps.specs.Leaves.{Rows}
 use Rattle.leaf_maps.specs.Listed.{rows_of, rows_after, rows_in}
 use Rattle.leaf_maps.specs.Merge.{Row, tally, HasSameRows}
 use Rattle.leaf_maps.proofs.MergeLaws.{tally-append}

@@ -8,7 +8,8 @@ use Rattle.std.specs.FinMap.Entries.{below_all, where_key}
 use Rattle.sorted_map.proofs.Bools.{left_of, right_of}
 use Rattle.sorted_map.specs.SortedMap.{is_from}
 use Rattle.mds_types.specs.Frag.{Fragment, frag_cmp, root_fragment}
-use Rattle.leaf_maps.specs.Leaves.{Leaf, Rows, leaf_cmp}
+use Rattle.mds_types.specs.Leaf.{Leaf, leaf_cmp}
+use Rattle.leaf_maps.specs.Leaves.{Rows}
 use Rattle.leaf_maps.specs.Listed.{leaves_of_dir, run}
 use Rattle.sorted_map.proofs.NatKeys.{is_apart as differs}
 

@@ -11,7 +11,8 @@ use Rattle.mds_types.specs.Tree.{dentry_cmp, has_entries}
 use Rattle.mds_types.specs.Step.{is_after, names_after}
 use Rattle.mds_types.specs.OrderLaws.{dentry-exact}
 use Rattle.mds_types.proofs.OrderLaws.{dentry-total}
-use Rattle.leaf_maps.specs.Leaves.{Leaf, Rows, Leaves, entries_of, entries_in, shown_by}
+use Rattle.mds_types.specs.Leaf.{Leaf}
+use Rattle.leaf_maps.specs.Leaves.{Rows, Leaves, entries_of, entries_in, shown_by}
 use Rattle.leaf_maps.specs.Listed.{leaves_of_dir, rows_of, rows_after, rows_in, is_some_row, has_names}
 use Rattle.leaf_maps.specs.Merge.{Row, tally}
 use Rattle.leaf_maps.proofs.MergeLaws.{tally-append}

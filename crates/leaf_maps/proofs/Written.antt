@@ -8,10 +8,11 @@ use Rattle.std.proofs.lemmas.Map.Lookups.{exact_bytes}
 use Rattle.sorted_map.specs.SortedMap.{contents}
 use Rattle.mds_types.specs.Frag.{Fragment}
 use Rattle.sorted_map.proofs.MapLaws.{tie}
-use Rattle.leaf_maps.specs.Leaves.{leaf_cmp, Names, Rows, Leaves, names_of, names_in}
+use Rattle.mds_types.specs.Leaf.{leaf_cmp}
+use Rattle.leaf_maps.specs.Leaves.{Names, Rows, Leaves, names_of, names_in}
 use Rattle.leaf_maps.specs.Changes.{HaveSameNames, IsRewritten, HasRoomIn, HasRoom, KeepRoom, AreLeftAlone}
-use Rattle.leaf_maps.proofs.LeafLaws.{leaf-exact, leaf-total}
-use Rattle.leaf_maps.proofs.OneLeaf.{key, key_itself, one_or_other, apart_keys, names_same}
+use Rattle.mds_types.proofs.LeafLaws.{key_itself, leaf-exact, leaf-total}
+use Rattle.leaf_maps.proofs.OneLeaf.{key, one_or_other, apart_keys, names_same}
 
 -- a leaf got other rows
 pub written : (old new : Leaves) (d : ℕ) (f : Fragment) (rows : Rows) (names : Names) → new ≡ finmap.insert old (record { 0 = d }, f) rows → contents (slice_cmp nat_cmp) rows ≡ names → IsRewritten old new d f names

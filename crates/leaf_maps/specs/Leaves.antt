@@ -1,25 +1,17 @@
 -- Names leaf by leaf, and the tree that they show.
 use Rattle.std.specs.Prelude.{◌≡◌, ℕ, true, List, [], ◌∷◌, ◌++◌, map, Option, Some, None}
-use Rattle.std.specs.declared.cmp.Ordering.{Ordering}
-use Rattle.std.specs.Ordering.{nat_cmp, ordering_then}
+use Rattle.std.specs.Ordering.{nat_cmp}
 use Rattle.std.specs.Cmp.Lexicographic.{slice_cmp}
 use Rattle.std.specs.FinMap as finmap
 use Rattle.sorted_map.specs.SortedMap.{Shown, contents}
-use Rattle.mds_types.specs.declared.ids.Ino.{Ino}
 use Rattle.mds_types.specs.declared.dentries.Dentry.{Dentry}
 use Rattle.mds_types.specs.declared.inodes.Inode.{Inode}
-use Rattle.mds_types.specs.Frag.{Fragment, frag_cmp}
+use Rattle.mds_types.specs.Frag.{Fragment}
+pub use Rattle.mds_types.specs.Leaf.{Leaf, leaf_cmp}
 use Rattle.mds_types.specs.Tree.{Tree, dentry_of, at}
 use Rattle.fragtree.specs.FragTree.{HasLeaf, IsPick}
 use Rattle.namehash.specs.Rjenkins.{hash_of}
 use Rattle.inode_table.specs.Dirs.{Homes, Covers, is_known, leaves_of}
-
--- a leaf: a directory and a fragment of it. Leaves are ordered by directory, and then as fragments
-abbrev pub Leaf : Type 0
-Leaf = Ino × Fragment
-
-abbrev pub leaf_cmp : Leaf → Leaf → Ordering
-leaf_cmp a b = ordering_then (nat_cmp a.0.0 b.0.0) (frag_cmp a.1 b.1)
 
 -- names with their inodes, and the same with the room for more
 abbrev pub Names : Type 0

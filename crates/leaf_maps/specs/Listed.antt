@@ -6,7 +6,8 @@ use Rattle.std.specs.Cmp.Lexicographic.{slice_cmp}
 use Rattle.std.specs.FinMap as map
 use Rattle.sorted_map.specs.SortedMap.{contents}
 use Rattle.mds_types.specs.Step.{is_after}
-use Rattle.leaf_maps.specs.Leaves.{Leaf, Rows}
+use Rattle.mds_types.specs.Leaf.{Leaf}
+use Rattle.leaf_maps.specs.Leaves.{Rows}
 use Rattle.leaf_maps.specs.Merge.{Row}
 
 -- the leaves of a directory

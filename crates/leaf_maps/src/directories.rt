@@ -7,7 +7,8 @@ ghost use Rattle.mds_types.specs.Frag.{Fragment};
 ghost use Rattle.mds_types.specs.Tree.{has_entries};
 ghost use Rattle.mds_types.specs.Step.{names_after};
 ghost use Rattle.inode_table.specs.Dirs.{Covers};
-ghost use Rattle.leaf_maps.specs.Leaves.{leaf_cmp, kept_of, shown_by, ArePlaced};
+ghost use Rattle.mds_types.specs.Leaf.{leaf_cmp};
+ghost use Rattle.leaf_maps.specs.Leaves.{kept_of, shown_by, ArePlaced};
 ghost use Rattle.leaf_maps.specs.Listed.{leaves_of_dir};
 
 use crate::leaf_maps::LeafMaps;

@@ -24,7 +24,8 @@ impl Model for LeafMaps {
     ghost use Rattle.std.specs.Coded.{codes};
     ghost use Rattle.std.specs.FinMap as map;
     ghost use Rattle.sorted_map.specs.SortedMap.{contents, shown_code};
-    ghost use Rattle.leaf_maps.specs.Leaves.{Leaves, leaf_cmp};
+    ghost use Rattle.mds_types.specs.Leaf.{leaf_cmp};
+    ghost use Rattle.leaf_maps.specs.Leaves.{Leaves};
 
     ghost Value = { Leaves };
 

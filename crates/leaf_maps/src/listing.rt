@@ -10,7 +10,8 @@ ghost use Rattle.sorted_map.specs.SortedMap.{contents};
 ghost use Rattle.mds_types.specs.Tree.{has_entries};
 ghost use Rattle.mds_types.specs.Step.{names_after};
 ghost use Rattle.inode_table.specs.Dirs.{Covers};
-ghost use Rattle.leaf_maps.specs.Leaves.{leaf_cmp, shown_by, ArePlaced};
+ghost use Rattle.mds_types.specs.Leaf.{leaf_cmp};
+ghost use Rattle.leaf_maps.specs.Leaves.{shown_by, ArePlaced};
 ghost use Rattle.leaf_maps.specs.Listed.{leaves_of_dir, run, rows_of, rows_after, rows_in, has_names};
 ghost use Rattle.leaf_maps.specs.Merge.{HasSameRows, IsOrderOf, Row};
 

@@ -7,7 +7,8 @@ ghost use Rattle.std.specs.FinMap as map;
 ghost use Rattle.sorted_map.specs.SortedMap.{contents};
 ghost use Rattle.sorted_map.specs.Overlay.{overlaid, with_pairs};
 ghost use Rattle.mds_types.specs.Frag.{Fragment};
-ghost use Rattle.leaf_maps.specs.Leaves.{Names, leaf_cmp, names_in};
+ghost use Rattle.mds_types.specs.Leaf.{leaf_cmp};
+ghost use Rattle.leaf_maps.specs.Leaves.{Names, names_in};
 ghost use Rattle.leaf_maps.specs.Regroup.{ArePlacedIn, IsRegrouped, is_leaf, gathered, Gathers, PicksFresh, cleared};
 
 use crate::leaf_maps::LeafMaps;

@@ -9,6 +9,7 @@ use Rattle.std.specs.Cmp.{IsTotalOrder, tied_itself}
 use Rattle.std.specs.FinMap.{find, is_sorted}
 use Rattle.std.specs.FinMap.Entries.{below_all, find_tied}
 use Rattle.sorted_map.proofs.Bools.{left_of, right_of}
+use Rattle.sorted_map.proofs.MapLaws.{tie}
 
 -- an entry that passes a test is found at its key
 module _ {K X : Type 0} {R : K → K → Ordering} (o : IsTotalOrder R) where
@@ -21,16 +22,11 @@ module _ {K X : Type 0} {R : K → K → Ordering} (o : IsTotalOrder R) where
       less Equal h = absurd h
       less Greater h = absurd h
 
-  found_behind : (e f : K × X) (es : List (K × X)) (b : Bool) → eq_by_cmp R f.0 e.0 ≡ b → T (below_all R e.0 es) → find R f.0 es ≡ Some f.1 → find R f.0 (e ∷ es) ≡ Some f.1
+  pub found_behind : (e f : K × X) (es : List (K × X)) (b : Bool) → eq_by_cmp R f.0 e.0 ≡ b → T (below_all R e.0 es) → find R f.0 es ≡ Some f.1 → find R f.0 (e ∷ es) ≡ Some f.1
   found_behind e f es false apart below found = ap (λ b. cond b (Some e.1) (find R f.0 es)) apart ∙ found
   found_behind e f es true tied below found =
       let nothing : None ≡ Some f.1 = sym (not_found_below e.0 es below) ∙ find_tied R o f.0 e.0 (tie (R f.0 e.0) tied) es ∙ found in
       cc
-    where
-      tie : (r : Ordering) → is_eq r ≡ true → r ≡ Equal
-      tie Less h = cc
-      tie Equal h = refl
-      tie Greater h = cc
 
   pub any_found : (p : K × X → Bool) (es : List (K × X)) → T (is_sorted R es) → list_any p es ≡ true → (e : K × X) × (find R e.0 es ≡ Some e.1) × (p e ≡ true)
   any_found p [] sorted some = cc

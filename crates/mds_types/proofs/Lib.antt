@@ -5,6 +5,7 @@ pub mod EntryLaws
 pub mod EntrySearch
 pub mod Fragments
 pub mod HistoryLaws
+pub mod LeafLaws
 pub mod ListingLaws
 pub mod MovedLaws
 pub mod NumberLaws

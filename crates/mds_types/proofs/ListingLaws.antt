@@ -20,6 +20,7 @@ use Rattle.mds_types.specs.Step.{is_after, names_after}
 use Rattle.sorted_map.proofs.Bools.{left_of, right_of, both_of, first_true, second_true}
 use Rattle.mds_types.specs.Outcomes.{IsListing}
 use Rattle.sorted_map.proofs.PlaceLaws.{less as less_of}
+use Rattle.sorted_map.proofs.MapLaws.{tie}
 
 abbrev is_listed : ℕ → Option (List ℕ) → Dentry × Inode → Bool
 is_listed d after e = (e.0.dir.0 == d) && is_after after e.0.name
@@ -99,11 +100,6 @@ find_chosen name d after e es false is = ap (find (slice_cmp nat_cmp) name) (cho
 
 tied_name : (a b : List ℕ) → eq_by_cmp (slice_cmp nat_cmp) a b ≡ true → a ≡ b
 tied_name a b tied = exact_bytes a b (tie (slice_cmp nat_cmp a b) tied)
-  where
-    tie : (r : Ordering) → is_eq r ≡ true → r ≡ Equal
-    tie Less h = cc
-    tie Equal h = refl
-    tie Greater h = cc
 
 find_listed : (d : ℕ) (after : Option (List ℕ)) (name : List ℕ) (es : List (Dentry × Inode))
     → find (slice_cmp nat_cmp) name (listed d after es) ≡ cond (is_after after name) (find dentry_cmp (dentry_of d name) es) None

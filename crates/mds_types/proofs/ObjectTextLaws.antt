@@ -38,17 +38,14 @@ word_digits word fits = zeros_digits (8 - length (digits 16 false word)) (digits
 pub word_value : (word : ℕ) → word < 2 ^ 32 → digits_value 16 (word_text word) ≡ word
 word_value word fits = zeros_value (8 - length (digits 16 false word)) (digits 16 false word) ∙ hex_value word (omega arith)
 
+no_dot : (c : ℕ) → c ≡ 46 → digit_value c < 16 → ⊥
+no_dot c is small = let here : digit_value 46 < 16 = subst (λ d. digit_value d < 16) is small in omega arith
+
 -- texts of digits, a dot and more have the same digits and the same rest
 pub same_parts : (xs ys us vs : List ℕ) → AllDigits 16 xs → AllDigits 16 ys → xs ++ 46 ∷ us ≡ ys ++ 46 ∷ vs → (xs ≡ ys) × (us ≡ vs)
 same_parts [] [] us vs p q e = (refl, cc)
 same_parts [] (y ∷ ys) us vs p q e = let dot : 46 ≡ y = cc in absurd (no_dot y (sym dot) q.0)
-  where
-    no_dot : (c : ℕ) → c ≡ 46 → digit_value c < 16 → ⊥
-    no_dot c is small = let here : digit_value 46 < 16 = subst (λ d. digit_value d < 16) is small in omega arith
 same_parts (x ∷ xs) [] us vs p q e = let dot : x ≡ 46 = cc in absurd (no_dot x dot p.0)
-  where
-    no_dot : (c : ℕ) → c ≡ 46 → digit_value c < 16 → ⊥
-    no_dot c is small = let here : digit_value 46 < 16 = subst (λ d. digit_value d < 16) is small in omega arith
 same_parts (x ∷ xs) (y ∷ ys) us vs p q e =
     let head : x ≡ y = cc in
     let rest = same_parts xs ys us vs p.1 q.1 cc in

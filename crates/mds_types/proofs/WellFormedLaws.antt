@@ -1,14 +1,12 @@
 -- Every step of the operation table keeps the tree well formed.
 use Rattle.std.specs.Prelude.{◌≡◌, ℕ, Bool, true, false, cond, ◌&&◌, List, Option, Some, None, unwrap_or, refl}
 use Rattle.std.proofs.Common.{sym, ap, subst, ◌∙◌, ⊎_elim, ◌⊎◌, inl, inr}
-use Rattle.std.specs.declared.cmp.Ordering.{Ordering}
-use Rattle.std.specs.declared.cmp.Ordering.TheVariants.{Less, Equal, Greater}
-use Rattle.std.specs.Ordering.{is_eq, eq_by_cmp}
+use Rattle.std.specs.Ordering.{eq_by_cmp}
 use Rattle.std.specs.FinMap as map
 use Rattle.std.specs.FinMap.{get-insert}
 use Rattle.mds_types.specs.declared.replies.Reply.TheVariants.{Errno}
 use Rattle.mds_types.specs.declared.dentries.Dentry.{Dentry}
-use Rattle.mds_types.specs.declared.attributes.Attributes.{Attributes}
+use Rattle.mds_types.specs.declared.inodes.Attributes.{Attributes}
 use Rattle.mds_types.specs.declared.inodes.Inode.{Inode}
 use Rattle.mds_types.specs.declared.inodes.Kind.{Kind}
 use Rattle.mds_types.specs.declared.inodes.Kind.TheVariants.{File, Dir, Symlink}
@@ -18,6 +16,7 @@ use Rattle.mds_types.specs.Step.{Outcome, answers, new_size, directory_of, desti
 use Rattle.mds_types.specs.Tree.{Tree, dentry_cmp, dentry_of, at, is_directory, is_dir_kind, has_entries, IsAbove, child, further, HasSize, IsWellFormed, IsUnused}
 use Rattle.mds_types.proofs.TreeLaws.{is_directory-insert}
 use Rattle.sorted_map.proofs.Bools.{or_second}
+use Rattle.sorted_map.proofs.MapLaws.{tie}
 use Rattle.mds_types.proofs.OrderLaws.{dentry-total}
 use Rattle.mds_types.specs.OrderLaws.{dentry-exact}
 use Rattle.mds_types.proofs.DirectoryLaws.{reaches_root, nothing_in_file, nothing_in_empty}
@@ -39,11 +38,6 @@ module _ (tree : Tree) (dir : ℕ) (new_name : List ℕ) (new : Inode) (free : a
   stands_by d name inode true tied stands =
       let same : Some new ≡ Some inode = sym (at-grown d name ∙ ap (λ b. cond b (Some new) (at tree d name)) tied) ∙ stands in
       inl (dentry-exact _ _ (tie (dentry_cmp (dentry_of d name) (dentry_of dir new_name)) tied), cc)
-    where
-      tie : (r : Ordering) → is_eq r ≡ true → r ≡ Equal
-      tie Less h = cc
-      tie Equal h = refl
-      tie Greater h = cc
   stands_by d name inode false apart stands = inr (sym (at-grown d name ∙ ap (λ b. cond b (Some new) (at tree d name)) apart) ∙ stands)
 
   stands : (d : ℕ) (name : List ℕ) (inode : Inode) → at grown d name ≡ Some inode → ((dentry_of d name ≡ dentry_of dir new_name) × (new ≡ inode)) ⊎ (at tree d name ≡ Some inode)
@@ -55,11 +49,6 @@ module _ (tree : Tree) (dir : ℕ) (new_name : List ℕ) (new : Inode) (free : a
       let same : dentry_of d name ≡ dentry_of dir new_name = dentry-exact _ _ (tie (dentry_cmp (dentry_of d name) (dentry_of dir new_name)) tied) in
       let nothing : None ≡ Some inode = sym free ∙ ap (λ p. map.get tree p) (sym same) ∙ stood in
       cc
-    where
-      tie : (r : Ordering) → is_eq r ≡ true → r ≡ Equal
-      tie Less h = cc
-      tie Equal h = refl
-      tie Greater h = cc
   still_by d name inode false apart stood = at-grown d name ∙ ap (λ b. cond b (Some new) (at tree d name)) apart ∙ stood
 
   still : (d : ℕ) (name : List ℕ) (inode : Inode) → at tree d name ≡ Some inode → at grown d name ≡ Some inode

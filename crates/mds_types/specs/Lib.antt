@@ -1,5 +1,6 @@
 pub mod Frag
 pub mod History
+pub mod Leaf
 pub mod Name
 pub mod NameFault
 pub mod ObjectText

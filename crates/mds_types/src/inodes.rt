@@ -27,6 +27,14 @@ pub struct Inode {
     pub mtime: u64,
 }
 
+/// The attributes that an operation gives to an inode; those that aren't given stay as they are.
+#[derive(Clone, Copy, Debug, PartialEq, Eq)]
+pub struct Attributes {
+    pub mode: Option<Mode>,
+    pub size: Option<u64>,
+    pub mtime: Option<u64>,
+}
+
 impl Kind {
     /// A copy. Takes memory for a link's target alone.
     pub fn try_clone(&self) -> Result<Kind, AllocError>

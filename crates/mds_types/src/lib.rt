@@ -3,7 +3,6 @@
 //! from fragment arithmetic to the legal history, stand in `specs/`.
 #![tactic(auto)]
 
-mod attributes;
 mod dentries;
 mod entries;
 mod errno;
@@ -22,13 +21,12 @@ mod replies;
 mod requests;
 mod targets;
 
-pub use attributes::Attributes;
 pub use dentries::Dentry;
 pub use entries::Entry;
 pub use errno::{EEXIST, EINVAL, EISDIR, ENAMETOOLONG, ENOENT, ENOTDIR, ENOTEMPTY, ESTALE};
 pub use frags::Frag;
 pub use ids::{Ino, Rank};
-pub use inodes::{Inode, Kind};
+pub use inodes::{Attributes, Inode, Kind};
 pub use listings::Listing;
 pub use modes::Mode;
 pub use names::{Name, NameFault};

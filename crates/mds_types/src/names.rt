@@ -1,23 +1,18 @@
 //! The name of a directory entry.
-ghost use Rattle.std.proofs.Common.{rules};
-ghost use Rattle.std.specs.Cmp.{partial_order_from_own_ties};
-ghost use Rattle.std.specs.Cmp.Rules.{comparing};
-ghost use Rattle.std.specs.Ordering.{nat_cmp, as_partial_cmp};
-ghost use Rattle.std.specs.Cmp.Lexicographic.{pointwise, slice_cmp};
-ghost use Rattle.std.specs.Prelude.{◌≡◌, ◌==◌, IfOk, IfErr, OnOk};
+ghost use Rattle.std.specs.Prelude.{◌≡◌, IfOk, IfErr, OnOk};
 ghost use Rattle.std.specs.List.{list_all};
 ghost use Rattle.mds_types.specs.Name.{IsName, is_dots, fits_name};
 ghost use Rattle.mds_types.specs.NameFault.{IsFaultOf, NameFromBytes, name_errno};
 
 use crate::errno::{EINVAL, ENAMETOOLONG};
+use byte_strings::Bytes;
 use std::alloc::{AllocError, Global};
-use std::cmp::Ordering;
 use std::marker::Model;
 
 /// A valid name: 1 to 255 bytes, none of them `/` or zero, and neither `.` nor `..`. Names are ordered by bytes.
-#[derive(Clone, Debug, Drop)]
+#[derive(Clone, Debug, Drop, PartialEq, Eq, PartialOrd, Ord)]
 pub struct Name {
-    text: Vec<u8>,
+    text: Bytes,
 }
 
 impl Model for Name {
@@ -26,9 +21,11 @@ impl Model for Name {
 
     ghost Value = { List ℕ };
 
-    ghost view = { λ n. n.text.items };
+    ghost view = { λ n. n.text };
 
-    ghost invariant = { λ n. IsName n.text.items };
+    ghost inverse = { λ bytes. record { text = bytes } };
+
+    ghost invariant = { λ n. IsName n.text };
 }
 
 /// Why bytes are no name, or could not be made one.
@@ -64,7 +61,7 @@ impl Name {
         ensures { NameFromBytes bytes.now result }
     {
         check(bytes)?;
-        match Vec::from_slice(alloc, bytes) {
+        match Bytes::from_slice(alloc, bytes) {
             Ok(text) => Ok(Name { text }),
             Err(AllocError) => Err(NameFault::NoMemory),
         }
@@ -76,7 +73,9 @@ impl Name {
         ensures err { IfErr result (IsFaultOf bytes.items) }
     {
         check(&bytes)?;
-        Ok(Name { text: bytes })
+        Ok(Name {
+            text: Bytes::from_vec(bytes),
+        })
     }
 
     /// The bytes of the name.
@@ -84,7 +83,7 @@ impl Name {
         ensures bytes { result.now ≡ self.now }
         ensures valid { IsName self.now }
     {
-        &self.text
+        self.text.as_slice()
     }
 
     /// A copy. Takes memory for the bytes.
@@ -125,42 +124,4 @@ fn is_plain(bytes: &[u8]) -> bool
     ensures { result ≡ list_all fits_name bytes.now }
 {
     bytes.iter().all(|byte| *byte != 0 && *byte != b'/')
-}
-
-impl PartialEq for Name {
-    ghost eq = { pointwise ◌==◌ };
-
-    ghost laws = { Prim.search (comparing, rules) };
-
-    fn eq(&self, other: &Name) -> bool {
-        self.text.as_slice() == other.text.as_slice()
-    }
-}
-
-impl Eq for Name {
-    ghost laws = { Prim.search (comparing, rules) };
-}
-
-impl PartialOrd for Name {
-    ghost partial_cmp = { as_partial_cmp (slice_cmp nat_cmp) };
-
-    ghost laws = { partial_order_from_own_ties (Prim.search (comparing, rules)) (Prim.search (comparing, rules)) };
-
-    fn partial_cmp(&self, other: &Name) -> Option<Ordering> {
-        Some(self.cmp(other))
-    }
-}
-
-impl Ord for Name {
-    ghost cmp = { slice_cmp nat_cmp };
-
-    ghost total = { Prim.search (comparing, rules) };
-
-    ghost matches_partial_cmp = { Prim.search (comparing, rules) };
-
-    ghost matches_eq = { Prim.search (comparing, rules) };
-
-    fn cmp(&self, other: &Name) -> Ordering {
-        self.text.as_slice().cmp(other.text.as_slice())
-    }
 }

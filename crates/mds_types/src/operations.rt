@@ -1,9 +1,9 @@
 //! What a client asks for.
 ghost use Rattle.std.specs.Prelude.{◌≡◌, IfOk};
 
-use crate::attributes::Attributes;
 use crate::dentries::Dentry;
 use crate::ids::Ino;
+use crate::inodes::Attributes;
 use crate::modes::Mode;
 use crate::names::Name;
 use crate::page_sizes::PageSize;

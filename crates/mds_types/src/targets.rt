@@ -1,20 +1,18 @@
 //! The target of a symbolic link.
-ghost use Rattle.std.proofs.Common.{rules};
-ghost use Rattle.std.specs.Cmp.Lexicographic.{pointwise};
-ghost use Rattle.std.specs.Cmp.Rules.{comparing};
 ghost use Rattle.std.specs.List.{list_all};
-ghost use Rattle.std.specs.Prelude.{◌≡◌, ◌==◌, IfOk};
+ghost use Rattle.std.specs.Prelude.{◌≡◌, IfOk};
 ghost use Rattle.mds_types.specs.Name.{IsTarget, fits_target};
 ghost use Rattle.mds_types.specs.TargetFault.{TargetFromBytes, target_errno};
 
 use crate::errno::{EINVAL, ENAMETOOLONG, ENOENT};
+use byte_strings::Bytes;
 use std::alloc::{AllocError, Global};
 use std::marker::Model;
 
 /// What a symbolic link points to: 1 to 4095 bytes, none of them zero.
-#[derive(Clone, Debug, Drop)]
+#[derive(Clone, Debug, Drop, PartialEq, Eq)]
 pub struct Target {
-    text: Vec<u8>,
+    text: Bytes,
 }
 
 impl Model for Target {
@@ -23,9 +21,11 @@ impl Model for Target {
 
     ghost Value = { List ℕ };
 
-    ghost view = { λ t. t.text.items };
+    ghost view = { λ t. t.text };
 
-    ghost invariant = { λ t. IsTarget t.text.items };
+    ghost inverse = { λ bytes. record { text = bytes } };
+
+    ghost invariant = { λ t. IsTarget t.text };
 }
 
 /// Why bytes are no target, or could not be made one.
@@ -72,7 +72,7 @@ impl Target {
         if !has_no_zero(bytes) {
             return Err(TargetFault::Invalid);
         }
-        match Vec::from_slice(alloc, bytes) {
+        match Bytes::from_slice(alloc, bytes) {
             Ok(text) => Ok(Target { text }),
             Err(AllocError) => Err(TargetFault::NoMemory),
         }
@@ -83,7 +83,7 @@ impl Target {
         ensures bytes { result.now ≡ self.now }
         ensures valid { IsTarget self.now }
     {
-        &self.text
+        self.text.as_slice()
     }
 
     /// A copy. Takes memory for the bytes.
@@ -99,18 +99,4 @@ fn has_no_zero(bytes: &[u8]) -> bool
     ensures { result ≡ list_all fits_target bytes.now }
 {
     !bytes.contains(&0)
-}
-
-impl PartialEq for Target {
-    ghost eq = { pointwise ◌==◌ };
-
-    ghost laws = { Prim.search (comparing, rules) };
-
-    fn eq(&self, other: &Target) -> bool {
-        self.text.as_slice() == other.text.as_slice()
-    }
-}
-
-impl Eq for Target {
-    ghost laws = { Prim.search (comparing, rules) };
 }

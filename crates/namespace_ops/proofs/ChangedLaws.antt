@@ -18,7 +18,7 @@ use Rattle.mds_types.proofs.DirectoryLaws.{entries_there}
 use Rattle.inode_table.specs.Dirs.{Covers, leaves_of}
 use Rattle.namespace_ops.specs.declared.plans.Change.{Change}
 use Rattle.namespace_ops.specs.declared.plans.Change.TheVariants.{Add, Set, Remove, Move}
-use Rattle.namespace_ops.specs.Kept.{Leaf}
+use Rattle.mds_types.specs.Leaf.{Leaf}
 use Rattle.namespace_ops.specs.Changes.{Carries, IsAddAt, IsChangeOf, IsLeafAt, IsMoveTo, IsRemovalAt, IsSetAt, IsUnlinkAt, Takes, directory_at, fragments_of, in_directory, is_idle, is_new, leaves, leaves_gone, named_once, reply_of, same_leaf, stays, unless_same}
 use Rattle.namespace_ops.specs.ChangedFragments.{AreApart, IsCovered, NamesOnce, changed_fragments, fragment_of, gone_with, leaves_at, touched}
 use Rattle.mds_types.specs.declared.refusals.Refusal.{Refusal}

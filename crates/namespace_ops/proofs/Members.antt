@@ -8,7 +8,7 @@ use Rattle.fragtree.proofs.Ranges.{span_pos}
 use Rattle.fragtree.proofs.Tilings.{between}
 use Rattle.sorted_map.proofs.Bools.{first_true, second_true}
 use Rattle.sorted_map.proofs.NatKeys.{is_same}
-use Rattle.namespace_ops.specs.Kept.{Leaf}
+use Rattle.mds_types.specs.Leaf.{Leaf}
 use Rattle.namespace_ops.specs.Changes.{in_directory, same_leaf}
 use Rattle.namespace_ops.specs.ChangedFragments.{AreApart}
 

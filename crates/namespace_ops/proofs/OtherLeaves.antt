@@ -18,7 +18,8 @@ use Rattle.inode_table.specs.Dirs.{Covers, leaves_of}
 use Rattle.inode_table.specs.TreeChanges.{KeepLeaves, MayAdd, MaySet, MayRemove}
 use Rattle.namespace_ops.specs.declared.plans.Change.{Change}
 use Rattle.namespace_ops.specs.declared.plans.Change.TheVariants.{Add, Set, Remove, Move}
-use Rattle.namespace_ops.specs.Kept.{Leaf, IsStanding, ShowsTheSame, OthersShowTheSame}
+use Rattle.mds_types.specs.Leaf.{Leaf}
+use Rattle.namespace_ops.specs.Kept.{IsStanding, ShowsTheSame, OthersShowTheSame}
 use Rattle.namespace_ops.specs.Changes.{IsLeafAt, MayChange, changed, directory_at, fragments_in, fragments_of, in_directory, leaves, leaves_gone, moved}
 use Rattle.namespace_ops.specs.Planned.{IsReadyToChange, after_plan}
 use Rattle.namespace_ops.proofs.Members.{first, first_or_later, later}

@@ -17,7 +17,7 @@ use Rattle.mds_types.specs.declared.ids.Ino.{Ino}
 use Rattle.fragtree.specs.FragTree.{IsTree}
 use Rattle.namespace_ops.specs.declared.plans.Change.{Change}
 use Rattle.namespace_ops.specs.declared.plans.Change.TheVariants.{Add, Set, Remove, Move}
-use Rattle.namespace_ops.specs.Kept.{Leaf}
+use Rattle.mds_types.specs.Leaf.{Leaf}
 use Rattle.namespace_ops.specs.Changes.{in_directory, leaves}
 use Rattle.namespace_ops.specs.Picks.{pick_of}
 

@@ -19,7 +19,7 @@ use Rattle.fragtree.specs.FragTree.{IsPick}
 use Rattle.namehash.specs.Rjenkins.{hash_of}
 use Rattle.inode_table.specs.Dirs.{Covers, leaves_of}
 use Rattle.inode_table.specs.TreeChanges.{MayAdd, MaySet, MayRemove}
-use Rattle.namespace_ops.specs.Kept.{Leaf}
+use Rattle.mds_types.specs.Leaf.{Leaf}
 use Rattle.namespace_ops.specs.declared.plans.Change.{Change}
 use Rattle.namespace_ops.specs.declared.plans.Change.TheVariants.{Add, Set, Remove, Move}
 

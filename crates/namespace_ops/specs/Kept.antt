@@ -1,16 +1,12 @@
 -- What reads keep of fragments, and which leaves a change leaves alone.
 use Rattle.std.specs.Prelude.{◌≡◌, ℕ, true, List}
 use Rattle.std.specs.List.{Contains}
-use Rattle.mds_types.specs.declared.ids.Ino.{Ino}
-use Rattle.mds_types.specs.Frag.{Fragment, Contains as Holds}
+use Rattle.mds_types.specs.Frag.{Contains as Holds}
+pub use Rattle.mds_types.specs.Leaf.{Leaf}
 use Rattle.mds_types.specs.Tree.{Tree, at, is_directory}
 use Rattle.fragtree.specs.FragTree.{HasLeaf}
 use Rattle.namehash.specs.Rjenkins.{hash_of}
 use Rattle.inode_table.specs.Dirs.{Covers, leaves_of}
-
--- a leaf: a fragment with its directory
-abbrev pub Leaf : Type 0
-Leaf = Ino × Fragment
 
 -- reads and refusals keep the tree, the leaves of each directory, and what the fragments keep beside them
 pub record KeepsAll (old new : Tree) (covers now : Covers) (Follows : Type 0) : Type 0 where

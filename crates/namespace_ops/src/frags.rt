@@ -11,7 +11,8 @@ ghost use Rattle.mds_types.specs.Tree.{Tree, is_directory, is_above, has_entries
 ghost use Rattle.mds_types.specs.Step.{names_after};
 ghost use Rattle.inode_table.specs.TreeChanges.{KeepLeaves};
 ghost use Rattle.namespace_ops.specs.declared.plans.Change.{Change as Alteration};
-ghost use Rattle.namespace_ops.specs.Kept.{KeepsAll, Leaf, ChangesOnly};
+ghost use Rattle.mds_types.specs.Leaf.{Leaf};
+ghost use Rattle.namespace_ops.specs.Kept.{KeepsAll, ChangesOnly};
 ghost use Rattle.namespace_ops.specs.Changes.{IsLeafAt, MayChange, Reads, changed, fragments_of};
 ghost use Rattle.namespace_ops.specs.Reasons.{IsOfFragments};
 

@@ -4,7 +4,8 @@ use Rattle.mds_types.specs.declared.dentries.Dentry.{Dentry}
 use Rattle.mds_types.specs.declared.inodes.Inode.{Inode}
 use Rattle.mds_types.specs.Tree.{Tree, is_dir_kind}
 use Rattle.inode_table.specs.Dirs.{Homes, Covers}
-use Rattle.namespace_ops.specs.Kept.{Leaf, IsStanding, ShowsTheSame}
+use Rattle.mds_types.specs.Leaf.{Leaf}
+use Rattle.namespace_ops.specs.Kept.{IsStanding, ShowsTheSame}
 use Rattle.namespace_ops.specs.declared.plans.Change.{Change}
 use Rattle.namespace_ops.specs.declared.plans.Change.TheVariants.{Add, Set, Remove, Move}
 

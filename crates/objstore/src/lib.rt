@@ -5,7 +5,6 @@
 mod fault_stores;
 mod mem_stores;
 mod name_pages;
-mod names;
 mod stores;
 
 pub use fault_stores::FaultStore;

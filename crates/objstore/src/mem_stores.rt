@@ -7,8 +7,8 @@ ghost use Rattle.objstore.specs.Objects.{header_at, names_after, page_at, writte
 ghost use Rattle.sorted_map.specs.SortedMap.{contents};
 
 use crate::name_pages::{NamePage, first_names};
-use crate::names::{NameRef, StoredName};
 use crate::stores::Store;
+use byte_strings::{Text, TextRef};
 use mds_types::Refusal;
 use omap::{Bytes, Object, Page, WriteOp};
 use sorted_map::{Iter, SortedMap};
@@ -18,7 +18,7 @@ use std::marker::Model;
 /// Objects in memory, in the order of their names. It has no faults.
 #[derive(Debug, Drop)]
 pub struct MemStore {
-    objects: SortedMap<StoredName, Object>,
+    objects: SortedMap<Text, Object>,
 }
 
 impl Model for MemStore {
@@ -49,7 +49,7 @@ impl MemStore {
     pub fn get(&self, name: &str) -> Option<&Object>
         ensures { option_copied result ≡ finmap.get self.now name.now }
     {
-        self.objects.get(&NameRef { text: name })
+        self.objects.get(&TextRef { text: name })
     }
 
     /// The names of all objects, in order. Takes memory for copies of them; the only refusal is `Refusal::NoMemory`.
@@ -118,7 +118,7 @@ impl Store for MemStore {
         ensures done { IsOk result }
         ensures removed { self.new ≡ finmap.remove self.old name.now }
     {
-        let _ = self.objects.remove(&NameRef { text: name });
+        let _ = self.objects.remove(&TextRef { text: name });
         Ok(())
     }
 
@@ -134,7 +134,7 @@ impl Store for MemStore {
 
 // Does the operation on the object of this name, and makes the object where it is absent.
 fn write(
-    objects: &mut SortedMap<StoredName, Object>,
+    objects: &mut SortedMap<Text, Object>,
     alloc: Global,
     name: &str,
     op: &WriteOp,
@@ -142,7 +142,7 @@ fn write(
     ensures done { OnOk result (contents key_cmp objects.new ≡ written (contents key_cmp objects.old) name.now op.now) }
     ensures same { OnErr result (contents key_cmp objects.new ≡ contents key_cmp objects.old) }
 {
-    let Some(object) = objects.get_mut(&NameRef { text: name }) else {
+    let Some(object) = objects.get_mut(&TextRef { text: name }) else {
         return add(objects, alloc, name, op);
     };
     object.apply(op)
@@ -150,7 +150,7 @@ fn write(
 
 // Puts an object in that the operation makes, where none has the name.
 fn add(
-    objects: &mut SortedMap<StoredName, Object>,
+    objects: &mut SortedMap<Text, Object>,
     alloc: Global,
     name: &str,
     op: &WriteOp,
@@ -159,7 +159,7 @@ fn add(
     ensures done { OnOk result (contents key_cmp objects.new ≡ written (contents key_cmp objects.old) name.now op.now) }
     ensures same { OnErr result (contents key_cmp objects.new ≡ contents key_cmp objects.old) }
 {
-    let name = StoredName::from_text(alloc, name)?;
+    let name = Text::copy_of(alloc, name)?;
     let mut object = Object::new(alloc);
     object.apply(op)?;
     objects.reserve(1)?;
@@ -169,13 +169,13 @@ fn add(
 
 // The objects whose names come after one.
 fn rest_after<'a>(
-    objects: &'a SortedMap<StoredName, Object>,
+    objects: &'a SortedMap<Text, Object>,
     after: Option<&str>,
-) -> Iter<'a, StoredName, Object>
+) -> Iter<'a, Text, Object>
     ensures { map (λ (e : List ℕ × Omap). e.0) result ≡ names_after (contents key_cmp objects.entry.now) (option_copied after.entry) }
 {
     match after {
-        Some(name) => objects.iter_after(&NameRef { text: name }),
+        Some(name) => objects.iter_after(&TextRef { text: name }),
         None => objects.iter(),
     }
 }

@@ -3,7 +3,7 @@ ghost use Rattle.std.specs.Prelude.{◌≡◌, IfOk, List, ℕ, map, string_byte
 ghost use Rattle.omap.specs.Omap.{Omap};
 ghost use Rattle.objstore.specs.Objects.{first_names};
 
-use crate::names::StoredName;
+use byte_strings::Text;
 use omap::Object;
 use sorted_map::Iter;
 use std::alloc::{AllocError, Global};
@@ -51,7 +51,7 @@ impl NamePage {
 /// Copies of the names of the first `max` of these objects, and whether more follow.
 pub(crate) fn first_names(
     alloc: Global,
-    mut rest: Iter<'_, StoredName, Object>,
+    mut rest: Iter<'_, Text, Object>,
     max: usize,
 ) -> Result<NamePage, AllocError>
     ensures { IfOk result (λ page. page ≡ first_names max (map (λ (e : List ℕ × Omap). e.0) rest.entry)) }

@@ -2,7 +2,7 @@
 ghost use Rattle.std.specs.Prelude.{◌≡◌, IfOk, OnErr};
 ghost use Rattle.omap.specs.EntryKeys.{IsEntryKey, NamesKey, entry_key};
 
-use crate::bytes::Bytes;
+use byte_strings::Bytes;
 use mds_types::{Name, NameFault};
 use std::alloc::{AllocError, Global};
 

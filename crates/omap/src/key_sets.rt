@@ -9,7 +9,7 @@ ghost use Rattle.std.specs.FinMap as map;
 ghost use Rattle.omap.specs.Omap.{key_cmp};
 ghost use Rattle.sorted_map.specs.SortedMap.{contents, pairs_eq};
 
-use crate::bytes::Bytes;
+use byte_strings::Bytes;
 use sorted_map::SortedMap;
 use std::alloc::{AllocError, Global};
 use std::marker::Model;

@@ -3,7 +3,6 @@
 //! that a directory's entries have in their fragment's object.
 #![tactic(auto)]
 
-mod bytes;
 mod entry_keys;
 mod key_sets;
 mod laws;
@@ -12,7 +11,7 @@ mod pages;
 mod pairs;
 mod write_ops;
 
-pub use bytes::Bytes;
+pub use byte_strings::Bytes;
 pub use entry_keys::{key_of, name_of};
 pub use key_sets::KeySet;
 pub use laws::pages_make_up_whole;

@@ -7,10 +7,10 @@ ghost use Rattle.omap.specs.Omap.{empty_omap, page_of};
 ghost use Rattle.omap.specs.Writes.{applied, header_after, pairs_before};
 ghost use Rattle.sorted_map.specs.Overlay.{overlaid};
 
-use crate::bytes::Bytes;
 use crate::pages::Page;
 use crate::pairs::Pairs;
 use crate::write_ops::WriteOp;
+use byte_strings::Bytes;
 use std::alloc::{AllocError, Global};
 use std::marker::Model;
 

@@ -2,7 +2,7 @@
 ghost use Rattle.std.specs.Prelude.{◌≡◌, IfOk};
 ghost use Rattle.omap.specs.Omap.{first_page};
 
-use crate::bytes::Bytes;
+use byte_strings::Bytes;
 use sorted_map::Iter;
 use std::alloc::{AllocError, Global};
 use std::marker::Model;

@@ -9,9 +9,9 @@ ghost use Rattle.omap.specs.Omap.{key_cmp, pairs_after, page_of};
 ghost use Rattle.sorted_map.specs.SortedMap.{contents, pairs_eq};
 ghost use Rattle.sorted_map.specs.Overlay.{overlaid, without_keys};
 
-use crate::bytes::Bytes;
 use crate::key_sets::KeySet;
 use crate::pages::{Page, first_page};
+use byte_strings::Bytes;
 use sorted_map::{Iter, SortedMap};
 use std::alloc::{AllocError, Global};
 use std::marker::Model;

@@ -2,9 +2,9 @@
 ghost use Rattle.std.specs.Prelude.{◌≡◌, IfOk};
 ghost use Rattle.omap.specs.Writes.{nothing};
 
-use crate::bytes::Bytes;
 use crate::key_sets::KeySet;
 use crate::pairs::Pairs;
+use byte_strings::Bytes;
 use std::alloc::{AllocError, Global};
 
 /// Changes of one object that are made together: first the clearing, then the header, then what is set, then what is

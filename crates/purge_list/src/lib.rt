@@ -3,6 +3,5 @@
 #![tactic(auto)]
 
 mod list;
-mod texts;
 
 pub use list::PurgeList;

@@ -3,7 +3,7 @@ ghost use Rattle.std.specs.Prelude.{◌≡◌, ◌≤◌, ◌<◌, ◌+◌, ℕ,
 ghost use Rattle.std.specs.FinMap as map;
 ghost use Rattle.purge_list.specs.PurgeList.{first_name};
 
-use crate::texts::{ObjectText, TextRef};
+use byte_strings::{Text, TextRef};
 use sorted_map::SortedMap;
 use std::alloc::{AllocError, Global};
 use std::marker::Model;
@@ -11,7 +11,7 @@ use std::marker::Model;
 /// Names of objects that are to be removed, each once, in the order of their bytes.
 #[derive(Debug, Drop)]
 pub struct PurgeList {
-    names: SortedMap<ObjectText, ()>,
+    names: SortedMap<Text, ()>,
 }
 
 impl Model for PurgeList {
@@ -85,7 +85,7 @@ impl PurgeList {
         ensures put { self.new.names ≡ map.insert self.old.names (string_bytes name) tt }
         ensures room { self.old.room ≤ self.new.room + 1 }
     {
-        let _ = self.names.insert(ObjectText::of(name), ());
+        let _ = self.names.insert(Text::from_string(name), ());
     }
 
     /// Takes a name off the list; one that isn't on it changes nothing. Takes no memory.

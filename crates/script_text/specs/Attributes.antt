@@ -1,6 +1,6 @@
 -- The attributes that a line gives, each behind a word that names it.
 use Rattle.std.specs.Prelude.{ℕ, if◌then◌else◌, List, [], ◌∷◌, codes, Option, Some, None, Result, Ok}
-use Rattle.mds_types.specs.declared.attributes.Attributes.{Attributes}
+use Rattle.mds_types.specs.declared.inodes.Attributes.{Attributes}
 use Rattle.script_words.specs.declared.faults.Fault.{Fault}
 use Rattle.script_words.specs.Words.{is_text}
 use Rattle.script_words.specs.Reading.{◌>>=◌, first, none}

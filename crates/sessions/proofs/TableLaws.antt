@@ -18,8 +18,8 @@ use Rattle.mds_types.specs.declared.replies.Reply.{Reply}
 use Rattle.mds_types.specs.declared.entries.Entry.{Entry}
 use Rattle.mds_types.specs.History.{mark, is_pair}
 use Rattle.sessions.specs.declared.clients.KeptReply.{KeptReply}
-use Rattle.sessions.specs.declared.seen.Seen.{Seen}
-use Rattle.sessions.specs.declared.seen.Seen.TheVariants.{New, Kept, Trimmed}
+use Rattle.sessions.specs.declared.clients.Seen.{Seen}
+use Rattle.sessions.specs.declared.clients.Seen.TheVariants.{New, Kept, Trimmed}
 use Rattle.sessions.specs.Table.{Row, Table, row_or_none, row_in, kept_in, noted_row, trimmed_row, noted, trimmed, trimmed_found, IsReplyAt, IsKeptFor, IsTableOf}
 use Rattle.sessions.specs.Seen.{SeesInTable, IsSeen}
 

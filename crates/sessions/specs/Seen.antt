@@ -4,8 +4,8 @@ use Rattle.std.specs.List.{slice_index_or}
 use Rattle.std.specs.FinMap as map
 use Rattle.mds_types.specs.declared.entries.Entry.{Entry}
 use Rattle.mds_types.specs.History.{IsTrimmed, IsKeptAt, IsNew}
-use Rattle.sessions.specs.declared.seen.Seen.{Seen}
-use Rattle.sessions.specs.declared.seen.Seen.TheVariants.{New, Kept, Trimmed}
+use Rattle.sessions.specs.declared.clients.Seen.{Seen}
+use Rattle.sessions.specs.declared.clients.Seen.TheVariants.{New, Kept, Trimmed}
 use Rattle.sessions.specs.Table.{Row, Table, row_in}
 
 -- trimmed below the row's mark and below the request's own oldest, otherwise kept if its number is, otherwise new

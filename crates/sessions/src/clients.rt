@@ -3,11 +3,21 @@ ghost use Rattle.std.specs.Prelude.{◌≡◌, ◌<◌, OnOk, OnErr};
 ghost use Rattle.sessions.specs.Table.{no_row, noted_row, trimmed_row};
 ghost use Rattle.sessions.specs.Seen.{SeesInRow};
 
-use crate::seen::Seen;
 use mds_types::Reply;
 use sorted_map::SortedMap;
 use std::alloc::{AllocError, Global};
 use std::marker::Model;
+
+/// What a request is to the history of applied requests.
+#[derive(Clone, Copy, Debug, PartialEq, Eq)]
+pub enum Seen<'a> {
+    /// It has not been applied.
+    New,
+    /// It was applied at this place of the history, and answered so.
+    Kept(usize, &'a Reply),
+    /// Its transaction number is below its client's mark or below its own oldest.
+    Trimmed,
+}
 
 /// A reply that was given, and the place of its entry in the history.
 #[derive(Debug, Drop)]

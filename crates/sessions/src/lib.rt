@@ -5,8 +5,7 @@
 
 mod clients;
 pub mod laws;
-mod seen;
 mod session_table;
 
-pub use seen::Seen;
+pub use clients::Seen;
 pub use session_table::Sessions;

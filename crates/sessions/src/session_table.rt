@@ -8,8 +8,7 @@ ghost use Rattle.sessions.specs.Table.{noted, trimmed, IsTableOf};
 ghost use Rattle.sessions.specs.Rooms.{Held, IsReady, table};
 ghost use Rattle.sessions.specs.Seen.{SeesInTable, IsSeen};
 
-use crate::clients::Client;
-use crate::seen::Seen;
+use crate::clients::{Client, Seen};
 use mds_types::{Refusal, Reply};
 use sorted_map::SortedMap;
 use std::alloc::Global;

@@ -2,7 +2,8 @@
 ghost use Rattle.std.specs.Prelude.{◌≡◌, ◌≤◌, ◌<◌, ◌+◌, OnOk, OnErr, option_copied};
 ghost use Rattle.std.specs.FinMap as map;
 ghost use Rattle.sorted_map.specs.SortedMap.{contents};
-ghost use Rattle.standing_jobs.specs.StandingJobs.{Finds, leaf_cmp};
+ghost use Rattle.mds_types.specs.Leaf.{leaf_cmp};
+ghost use Rattle.standing_jobs.specs.StandingJobs.{Finds};
 
 use commit_jobs::Job;
 use mds_types::{Frag, Ino};
@@ -20,7 +21,8 @@ impl Model for StandingJobs {
     ghost use Rattle.std.specs.Coded.{codes};
     ghost use Rattle.std.specs.FinMap as map;
     ghost use Rattle.sorted_map.specs.SortedMap.{contents};
-    ghost use Rattle.standing_jobs.specs.StandingJobs.{Standing, leaf_cmp};
+    ghost use Rattle.mds_types.specs.Leaf.{leaf_cmp};
+    ghost use Rattle.standing_jobs.specs.StandingJobs.{Standing};
 
     ghost Value = { Standing };
 

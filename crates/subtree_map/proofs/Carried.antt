@@ -4,9 +4,10 @@ use Rattle.std.proofs.Common.{refl, ap, ◌∙◌}
 use Rattle.std.specs.FinMap as map
 use Rattle.mds_types.specs.declared.ids.Ino.{Ino}
 use Rattle.mds_types.specs.declared.ids.Rank.{Rank}
-use Rattle.inode_table.specs.declared.homes.Home.{Home}
+use Rattle.inode_table.specs.declared.dirs.Home.{Home}
 use Rattle.inode_table.specs.Dirs.{Homes, Covers, IsTable}
-use Rattle.subtree_map.specs.Authority.{Leaf, Roots, IsLeaf, HoldsDentry, NearestRoot, itself, inherited, HasAuthority}
+use Rattle.mds_types.specs.Leaf.{Leaf}
+use Rattle.subtree_map.specs.Authority.{Roots, IsLeaf, HoldsDentry, NearestRoot, itself, inherited, HasAuthority}
 use Rattle.subtree_map.specs.Changes.{KeepAuthority}
 use Rattle.subtree_map.proofs.Nearest.{holder_is_leaf}
 

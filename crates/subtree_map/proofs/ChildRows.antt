@@ -6,10 +6,12 @@ use Rattle.std.specs.FinMap as map
 use Rattle.mds_types.specs.declared.ids.Rank.{Rank}
 use Rattle.mds_types.specs.Frag.{Fragment, child_of}
 use Rattle.fragtree.specs.FragTree.{FitsSplit}
-use Rattle.subtree_map.specs.Authority.{Leaf, Roots}
+use Rattle.mds_types.specs.Leaf.{Leaf}
+use Rattle.subtree_map.specs.Authority.{Roots}
 use Rattle.subtree_map.specs.Changes.{IsRootSplit, leaf_of}
 use Rattle.subtree_map.specs.Rows.{AreChildrenSet}
-use Rattle.subtree_map.proofs.LeafKeys.{get_put, get_beside, get_removed, get_left, not_none, value_of, same_or_apart}
+use Rattle.mds_types.proofs.LeafLaws.{get_put, get_beside, get_removed, get_left, same_or_apart}
+use Rattle.subtree_map.proofs.Options.{not_none, value_of}
 
 module _ (d : ℕ) (f : Fragment) (nb : ℕ) (rank : Rank) where
   pub children_none : (old : Roots) → AreChildrenSet old old d f nb 0 rank

@@ -4,9 +4,11 @@ use Rattle.std.proofs.Common.{inl, inr, sym, ap, subst, ◌∙◌}
 use Rattle.std.specs.FinMap as map
 use Rattle.mds_types.specs.declared.ids.Rank.{Rank}
 use Rattle.inode_table.specs.Dirs.{Homes, Covers}
-use Rattle.subtree_map.specs.Authority.{Leaf, Roots, IsLeaf, IsSubtrees, NearestRoot, itself, inherited}
+use Rattle.mds_types.specs.Leaf.{Leaf}
+use Rattle.subtree_map.specs.Authority.{Roots, IsLeaf, IsSubtrees, NearestRoot, itself, inherited}
 use Rattle.subtree_map.specs.Changes.{IsCutOff, IsHanded}
-use Rattle.subtree_map.proofs.LeafKeys.{get_put, get_beside, not_none, value_of, same_or_apart}
+use Rattle.mds_types.proofs.LeafLaws.{get_put, get_beside, same_or_apart}
+use Rattle.subtree_map.proofs.Options.{not_none, value_of}
 
 pub cut_off : (old new : Roots) (root : Leaf) (rank : Rank) → new ≡ map.insert old root rank → IsCutOff old new root
 cut_off old new root rank is homes covers = way

@@ -3,10 +3,11 @@ use Rattle.std.specs.Prelude.{◌≡◌, ◌≢◌, ℕ, true, ◌||◌, is_some
 use Rattle.std.proofs.Common.{sym, ap, subst, ◌∙◌}
 use Rattle.std.specs.FinMap as map
 use Rattle.sorted_map.proofs.NatKeys as nat
-use Rattle.inode_table.specs.declared.homes.Home.{Home}
+use Rattle.inode_table.specs.declared.dirs.Home.{Home}
 use Rattle.inode_table.specs.Dirs.{Homes, Covers, IsTable, is_known}
-use Rattle.subtree_map.specs.Authority.{Leaf, Roots, IsLeaf, HoldsDentry, NearestRoot, IsSubtrees, HasOneRoot, IsInOneRegion, BoundsOneRegion}
-use Rattle.subtree_map.proofs.LeafKeys.{value_of, one_value}
+use Rattle.mds_types.specs.Leaf.{Leaf}
+use Rattle.subtree_map.specs.Authority.{Roots, IsLeaf, HoldsDentry, NearestRoot, IsSubtrees, HasOneRoot, IsInOneRegion, BoundsOneRegion}
+use Rattle.subtree_map.proofs.Options.{value_of, one_value}
 use Rattle.subtree_map.proofs.Nearest.{is_ranked, one_root, some_root, one_holder, some_holder, holder_is_leaf}
 
 pub one_nearest : (roots : Roots) (homes : Homes) (covers : Covers) (leaf : Leaf) → IsTable homes covers → IsSubtrees roots homes covers → IsLeaf homes covers leaf → HasOneRoot roots homes covers leaf

@@ -6,11 +6,12 @@ use Rattle.mds_types.specs.declared.ids.Ino.{Ino}
 use Rattle.fragtree.specs.FragTree.{HasLeaf, IsPick}
 use Rattle.namehash.specs.Rjenkins.{hash_of}
 use Rattle.sorted_map.proofs.NatKeys as nat
-use Rattle.inode_table.specs.declared.homes.Home.{Home}
+use Rattle.inode_table.specs.declared.dirs.Home.{Home}
 use Rattle.inode_table.specs.Dirs.{Homes, Covers, IsTable, IsChildless, leaves_of, or_whole}
-use Rattle.subtree_map.specs.Authority.{Leaf, Roots, IsLeaf, NearestRoot, itself, inherited, HasAuthority, IsSubtrees}
+use Rattle.mds_types.specs.Leaf.{Leaf}
+use Rattle.subtree_map.specs.Authority.{Roots, IsLeaf, NearestRoot, itself, inherited, HasAuthority, IsSubtrees}
 use Rattle.subtree_map.specs.Changes.{AreGone, DropsSoundly, KeepAuthority, StaysElsewhere, leaf_of}
-use Rattle.subtree_map.proofs.LeafKeys.{not_none, value_of}
+use Rattle.subtree_map.proofs.Options.{not_none, value_of}
 
 module _ (old new : Roots) (d : ℕ) (is : AreGone old new d) (homes : Homes) (covers : Covers) (table : IsTable homes covers) (valid : IsSubtrees old homes covers) (childless : IsChildless homes d) (below : d ≢ 1) where
   beside : (e : ℕ) → e ≢ d → leaves_of (map.remove covers d) e ≡ leaves_of covers e

@@ -8,11 +8,13 @@ use Rattle.mds_types.specs.declared.ids.Rank.{Rank}
 use Rattle.mds_types.specs.Frag.{Fragment, IsFragment, Contains, span}
 use Rattle.fragtree.specs.FragTree.{HasLeaf, IsPick, IsTree, Tiles}
 use Rattle.fragtree.proofs.Ranges.{span_pos}
-use Rattle.subtree_map.specs.Authority.{Leaf, Roots}
+use Rattle.mds_types.specs.Leaf.{Leaf}
+use Rattle.subtree_map.specs.Authority.{Roots}
 use Rattle.subtree_map.specs.Changes.{leaf_of}
 use Rattle.subtree_map.specs.Rows.{AreFilled, IsFilled}
 use Rattle.subtree_map.proofs.Covers.{contains_start}
-use Rattle.subtree_map.proofs.LeafKeys.{get_put, get_beside, not_none, value_of, same_or_apart}
+use Rattle.mds_types.proofs.LeafLaws.{get_put, get_beside, same_or_apart}
+use Rattle.subtree_map.proofs.Options.{not_none, value_of}
 
 -- what a test told
 pub absent_of : (o : Option Rank) (told : Bool) → told ≡ is_some o → told ≡ false → o ≡ None

@@ -14,10 +14,11 @@ use Rattle.mds_types.specs.declared.ids.Rank.{Rank}
 use Rattle.mds_types.specs.Frag.{Fragment, IsFragment, frag_cmp, span}
 use Rattle.sorted_map.proofs.MapLaws.{tie}
 use Rattle.fragtree.proofs.Ranges.{range_from_inside, lies_inside-true, ends_before}
-use Rattle.subtree_map.specs.Authority.{Leaf, Roots, leaf_cmp}
+use Rattle.mds_types.specs.Leaf.{Leaf, leaf_cmp}
+use Rattle.subtree_map.specs.Authority.{Roots}
 use Rattle.subtree_map.specs.Changes.{is_inside, leaf_of}
 use Rattle.subtree_map.specs.Rows.{IsFirst}
-use Rattle.subtree_map.proofs.LeafKeys.{leaf-exact, leaf-total}
+use Rattle.mds_types.proofs.LeafLaws.{leaf-exact, leaf-total}
 use Rattle.subtree_map.proofs.Merged.{inside_at, inside_of, is_within}
 use Rattle.sorted_map.proofs.PlaceLaws.{less as less_of}
 

@@ -7,11 +7,11 @@ pub mod Divided
 pub mod Dropped
 pub mod Filled
 pub mod Firsts
-pub mod LeafKeys
 pub mod Listed
 pub mod Merged
 pub mod Moved
 pub mod Nearest
+pub mod Options
 pub mod Settled
 pub mod Split
 pub mod TakenOut

@@ -7,9 +7,10 @@ use Rattle.std.specs.FinMap as map
 use Rattle.std.specs.FinMap.{find, get-entries}
 use Rattle.mds_types.specs.declared.ids.Rank.{Rank}
 use Rattle.inode_table.specs.Dirs.{Homes, Covers}
-use Rattle.subtree_map.specs.Authority.{IsBound, Leaf, Roots, leaf_cmp}
+use Rattle.mds_types.specs.Leaf.{Leaf, leaf_cmp}
+use Rattle.subtree_map.specs.Authority.{IsBound, Roots}
 use Rattle.subtree_map.specs.Climb.{IsNextBelow}
-use Rattle.subtree_map.proofs.LeafKeys.{same_or_apart, tied_apart, tied_same}
+use Rattle.mds_types.proofs.LeafLaws.{same_or_apart, tied_apart, tied_same}
 
 module _ (roots : Roots) (homes : Homes) (covers : Covers) (root : Leaf) where
   -- a bound is one of the rows to come, or was listed

@@ -1,7 +1,6 @@
 -- Leaves of one authority are merged: all leaves keep their authority, and the merged leaf has theirs.
 use Rattle.std.specs.Prelude.{◌≡◌, ◌≢◌, ◌⊎◌, ℕ, Bool, true, false, ◌&&◌, ◌==◌, is_some, IsSome, List, Some, None, refl}
-use Rattle.std.proofs.Common.{inl, inr, sym, ap, subst, ◌∙◌, arith}
-use Rattle.std.proofs.lemmas.Bool.Decides.{nat_tests}
+use Rattle.std.proofs.Common.{inl, inr, sym, ap, subst, ◌∙◌}
 use Rattle.std.specs.FinMap as map
 use Rattle.mds_types.specs.declared.ids.Ino.{Ino}
 use Rattle.mds_types.specs.declared.ids.Rank.{Rank}
@@ -11,21 +10,20 @@ use Rattle.fragtree.proofs.TreeLaws.{pick_after_merge, merged_after_merge}
 use Rattle.namehash.specs.Rjenkins.{hash_of}
 use Rattle.sorted_map.proofs.Bools.{first_true, second_true, both_true}
 use Rattle.sorted_map.proofs.NatKeys as nat
-use Rattle.inode_table.specs.declared.homes.Home.{Home}
+use Rattle.inode_table.specs.declared.dirs.Home.{Home}
 use Rattle.inode_table.specs.Dirs.{Homes, Covers, IsTable, leaves_of, is_known}
-use Rattle.subtree_map.specs.Authority.{Leaf, Roots, IsLeaf, HoldsDentry, itself, HasAuthority, IsSubtrees}
+use Rattle.mds_types.specs.Leaf.{Leaf}
+use Rattle.subtree_map.specs.Authority.{Roots, IsLeaf, HoldsDentry, itself, HasAuthority, IsSubtrees}
 use Rattle.subtree_map.specs.Changes.{BecomesMerged, HaveOneAuthority, IsRootMerge, KeepAuthority, MergesSoundly, is_inside, leaf_of}
-use Rattle.subtree_map.proofs.LeafKeys.{not_none, value_of, same_or_apart}
+use Rattle.subtree_map.proofs.Options.{not_none, value_of}
+use Rattle.mds_types.proofs.LeafLaws.{nat_same, same_or_apart}
 use Rattle.subtree_map.proofs.Nearest.{tree_of_row}
 use Rattle.subtree_map.proofs.Covers.{leaves_here, leaves_beside, merged_is_new, some_inside}
 use Rattle.subtree_map.proofs.Split.{stands_beside, stands_here}
 use Rattle.subtree_map.proofs.Carried.{kept}
 
-number : (a b : ℕ) → (a == b) ≡ true → a ≡ b
-number a b told = grind (arith, nat_tests)
-
 pub inside_at : (d : ℕ) (f : Fragment) (leaf : Leaf) → is_inside d f leaf ≡ true → leaf.0.0 ≡ d
-inside_at d f leaf inside = number leaf.0.0 d (first_true _ _ inside)
+inside_at d f leaf inside = nat_same leaf.0.0 d (first_true _ _ inside)
 
 pub inside_of : (d : ℕ) (f : Fragment) (leaf : Leaf) → is_inside d f leaf ≡ true → lies_inside f leaf.1 ≡ true
 inside_of d f leaf inside = second_true (leaf.0.0 == d) _ inside

@@ -6,9 +6,10 @@ use Rattle.mds_types.specs.declared.ids.Ino.{Ino}
 use Rattle.mds_types.specs.declared.ids.Rank.{Rank}
 use Rattle.sorted_map.proofs.NatKeys as nat
 use Rattle.fragtree.specs.FragTree.{HasLeaf}
-use Rattle.inode_table.specs.declared.homes.Home.{Home}
+use Rattle.inode_table.specs.declared.dirs.Home.{Home}
 use Rattle.inode_table.specs.Dirs.{Homes, Covers, IsTable, IsAbove, parent, further, MayMove, is_known, leaves_of}
-use Rattle.subtree_map.specs.Authority.{Leaf, Roots, IsLeaf, HoldsDentry, NearestRoot, itself, inherited, HasAuthority, IsSubtrees}
+use Rattle.mds_types.specs.Leaf.{Leaf}
+use Rattle.subtree_map.specs.Authority.{Roots, IsLeaf, HoldsDentry, NearestRoot, itself, inherited, HasAuthority, IsSubtrees}
 use Rattle.subtree_map.specs.Changes.{leaf_of}
 use Rattle.subtree_map.specs.Moves.{IsInheritedAt, IsSettled, MovesSoundly}
 use Rattle.subtree_map.proofs.Nearest.{holder_is_leaf, some_holder, some_authority}

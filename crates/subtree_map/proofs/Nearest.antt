@@ -9,11 +9,12 @@ use Rattle.fragtree.specs.FragTree.{HasLeaf, IsTree}
 use Rattle.fragtree.proofs.TreeLaws.{some_pick}
 use Rattle.namehash.specs.Rjenkins.{hash_of}
 use Rattle.sorted_map.proofs.NatKeys as nat
-use Rattle.inode_table.specs.declared.homes.Home.{Home}
+use Rattle.inode_table.specs.declared.dirs.Home.{Home}
 use Rattle.inode_table.specs.Dirs.{Homes, Covers, Reaches, IsTable, is_known, leaves_of, or_whole}
 use Rattle.inode_table.proofs.Chains.{parent_reaches}
-use Rattle.subtree_map.specs.Authority.{Leaf, Roots, IsLeaf, HoldsDentry, NearestRoot, itself, inherited, HasAuthority, IsSubtrees}
-use Rattle.subtree_map.proofs.LeafKeys.{not_none, value_of, one_value}
+use Rattle.mds_types.specs.Leaf.{Leaf}
+use Rattle.subtree_map.specs.Authority.{Roots, IsLeaf, HoldsDentry, NearestRoot, itself, inherited, HasAuthority, IsSubtrees}
+use Rattle.subtree_map.proofs.Options.{not_none, value_of, one_value}
 use Rattle.fragtree.proofs.Kept.{whole_tree as whole_is_tree}
 
 -- the leaves of every directory are those of a tree

@@ -3,14 +3,15 @@ use Rattle.std.specs.Prelude.{◌≡◌, ◌⊎◌, ℕ, ◌||◌, ◌==◌, Boo
 use Rattle.std.proofs.Common.{inl, inr, sym, ap, subst, ◌∙◌}
 use Rattle.std.specs.FinMap as map
 use Rattle.mds_types.specs.declared.ids.Rank.{Rank}
-use Rattle.inode_table.specs.declared.homes.Home.{Home}
+use Rattle.inode_table.specs.declared.dirs.Home.{Home}
 use Rattle.inode_table.specs.Dirs.{Homes, Covers, MayMove, is_known, leaves_of}
 use Rattle.fragtree.specs.FragTree.{HasLeaf}
-use Rattle.subtree_map.specs.Authority.{Leaf, Roots, IsLeaf, HoldsDentry, NearestRoot, itself, inherited, HasAuthority}
+use Rattle.mds_types.specs.Leaf.{Leaf}
+use Rattle.subtree_map.specs.Authority.{Roots, IsLeaf, HoldsDentry, NearestRoot, itself, inherited, HasAuthority}
 use Rattle.subtree_map.specs.Changes.{leaf_of}
 use Rattle.subtree_map.specs.Moves.{IsInheritedAt, IsLostRank, IsSettled}
 use Rattle.subtree_map.specs.Rows.{AreFilled}
-use Rattle.subtree_map.proofs.LeafKeys.{not_none, one_value}
+use Rattle.subtree_map.proofs.Options.{not_none, one_value}
 use Rattle.subtree_map.proofs.Nearest.{one_authority, one_holder}
 
 -- one rank is inherited at a place

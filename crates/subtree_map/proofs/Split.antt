@@ -9,11 +9,13 @@ use Rattle.fragtree.specs.FragTree.{FitsSplit, HasLeaf, IsChild, IsPick, IsSplit
 use Rattle.fragtree.proofs.TreeLaws.{some_pick, pick_after_split, child_after_split}
 use Rattle.namehash.specs.Rjenkins.{hash_of}
 use Rattle.sorted_map.proofs.NatKeys as nat
-use Rattle.inode_table.specs.declared.homes.Home.{Home}
+use Rattle.inode_table.specs.declared.dirs.Home.{Home}
 use Rattle.inode_table.specs.Dirs.{Homes, Covers, IsTable, leaves_of, is_known}
-use Rattle.subtree_map.specs.Authority.{Leaf, Roots, IsLeaf, HoldsDentry, HasAuthority, IsSubtrees}
+use Rattle.mds_types.specs.Leaf.{Leaf}
+use Rattle.subtree_map.specs.Authority.{Roots, IsLeaf, HoldsDentry, HasAuthority, IsSubtrees}
 use Rattle.subtree_map.specs.Changes.{BecomesSplit, IsRootSplit, KeepAuthority, SplitsSoundly, leaf_of}
-use Rattle.subtree_map.proofs.LeafKeys.{not_none, value_of, same_or_apart}
+use Rattle.subtree_map.proofs.Options.{not_none, value_of}
+use Rattle.mds_types.proofs.LeafLaws.{same_or_apart}
 use Rattle.subtree_map.proofs.Nearest.{tree_of_row}
 use Rattle.subtree_map.proofs.Covers.{leaves_here, leaves_beside, child_is_new}
 use Rattle.subtree_map.proofs.Carried.{kept}

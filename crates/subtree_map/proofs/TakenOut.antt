@@ -7,11 +7,13 @@ use Rattle.std.specs.FinMap.{get-empty, len-remove, empty_of_len}
 use Rattle.sorted_map.specs.SortedMap.{Shown, contents}
 use Rattle.mds_types.specs.declared.ids.Rank.{Rank}
 use Rattle.mds_types.specs.Frag.{Fragment}
-use Rattle.subtree_map.specs.Authority.{Leaf, Roots, leaf_cmp}
+use Rattle.mds_types.specs.Leaf.{Leaf, leaf_cmp}
+use Rattle.subtree_map.specs.Authority.{Roots}
 use Rattle.fragtree.specs.FragTree.{lies_inside}
 use Rattle.subtree_map.specs.Changes.{IsRootMerge, is_inside, leaf_of}
 use Rattle.subtree_map.specs.Rows.{AreTakenOut}
-use Rattle.subtree_map.proofs.LeafKeys.{leaf-total, same_or_apart, get_put, get_beside, get_removed, get_left, not_none, value_of}
+use Rattle.mds_types.proofs.LeafLaws.{leaf-total, same_or_apart, get_put, get_beside, get_removed, get_left}
+use Rattle.subtree_map.proofs.Options.{not_none, value_of}
 use Rattle.subtree_map.proofs.Merged.{inside_of}
 
 -- what has been taken out so far: nothing, or the root of a rank, which took no room

@@ -1,22 +1,13 @@
 -- Whose fragment it is: that of the nearest subtree root (Weil et al., OSDI 2006; CephFS's subtree map).
 use Rattle.std.specs.Prelude.{◌≡◌, true, Some, None, IsSome}
-use Rattle.std.specs.declared.cmp.Ordering.{Ordering}
-use Rattle.std.specs.Ordering.{nat_cmp, ordering_then}
 use Rattle.std.specs.FinMap as map
-use Rattle.mds_types.specs.declared.ids.Ino.{Ino}
 use Rattle.mds_types.specs.declared.ids.Rank.{Rank}
-use Rattle.mds_types.specs.Frag.{Fragment, frag_cmp}
+use Rattle.mds_types.specs.Frag.{Fragment}
+pub use Rattle.mds_types.specs.Leaf.{Leaf, leaf_cmp}
 use Rattle.fragtree.specs.FragTree.{HasLeaf, IsPick}
 use Rattle.namehash.specs.Rjenkins.{hash_of}
-use Rattle.inode_table.specs.declared.homes.Home.{Home}
+use Rattle.inode_table.specs.declared.dirs.Home.{Home}
 use Rattle.inode_table.specs.Dirs.{Homes, Covers, is_known, leaves_of}
-
--- a leaf: a directory and a fragment of it. Leaves are ordered by directory, and then as fragments
-abbrev pub Leaf : Type 0
-Leaf = Ino × Fragment
-
-abbrev pub leaf_cmp : Leaf → Leaf → Ordering
-leaf_cmp a b = ordering_then (nat_cmp a.0.0 b.0.0) (frag_cmp a.1 b.1)
 
 -- the subtree roots, each with its rank
 abbrev pub Roots : Type 0

@@ -5,7 +5,8 @@ use Rattle.mds_types.specs.declared.ids.Rank.{Rank}
 use Rattle.mds_types.specs.Frag.{Fragment}
 use Rattle.fragtree.specs.FragTree.{CanMerge, FitsSplit, IsTree, IsChild, IsSplit, IsMerge, HasLeaf, lies_inside}
 use Rattle.inode_table.specs.Dirs.{Homes, Covers, IsTable, IsChildless, leaves_of}
-use Rattle.subtree_map.specs.Authority.{Leaf, Roots, IsLeaf, NearestRoot, HasAuthority, IsSubtrees}
+use Rattle.mds_types.specs.Leaf.{Leaf}
+use Rattle.subtree_map.specs.Authority.{Roots, IsLeaf, NearestRoot, HasAuthority, IsSubtrees}
 
 -- what contracts see of a map of subtrees: the roots, the ranks that roots are promised to, and how many more roots fit with no growth
 pub record Subtrees : Type 0 where

@@ -1,9 +1,10 @@
 -- Where a climb along dentries ends. Only this crate's own contracts use these words.
 use Rattle.std.specs.Prelude.{◌≡◌, Some, None}
 use Rattle.std.specs.FinMap as map
-use Rattle.inode_table.specs.declared.homes.Home.{Home}
+use Rattle.inode_table.specs.declared.dirs.Home.{Home}
 use Rattle.inode_table.specs.Dirs.{Homes, Covers}
-use Rattle.subtree_map.specs.Authority.{Leaf, Roots, HoldsDentry, NearestRoot}
+use Rattle.mds_types.specs.Leaf.{Leaf}
+use Rattle.subtree_map.specs.Authority.{Roots, HoldsDentry, NearestRoot}
 
 -- no way leads up from a leaf: it is a root, or its directory stands nowhere
 abbrev pub IsTop : Roots → Homes → Leaf → Type 0

@@ -2,9 +2,10 @@
 use Rattle.std.specs.Prelude.{◌≡◌, ◌≢◌, ◌⊎◌, ℕ, ◌≤◌, Option, Some, None, IsSome, length}
 use Rattle.std.specs.FinMap as map
 use Rattle.mds_types.specs.declared.ids.Rank.{Rank}
-use Rattle.inode_table.specs.declared.homes.Home.{Home}
+use Rattle.inode_table.specs.declared.dirs.Home.{Home}
 use Rattle.inode_table.specs.Dirs.{Homes, Covers, leaves_of}
-use Rattle.subtree_map.specs.Authority.{Leaf, Roots, IsLeaf, HoldsDentry, HasAuthority, IsSubtrees}
+use Rattle.mds_types.specs.Leaf.{Leaf}
+use Rattle.subtree_map.specs.Authority.{Roots, IsLeaf, HoldsDentry, HasAuthority, IsSubtrees}
 use Rattle.subtree_map.specs.Changes.{KeepAuthority, Stays}
 
 -- the rank that leaves inherit whose directory stands there: the authority of the leaf that holds its dentry

@@ -5,7 +5,8 @@ use Rattle.std.specs.FinMap as map
 use Rattle.mds_types.specs.declared.ids.Rank.{Rank}
 use Rattle.mds_types.specs.Frag.{Fragment, child_of}
 use Rattle.fragtree.specs.FragTree.{HasLeaf}
-use Rattle.subtree_map.specs.Authority.{Leaf, Roots, leaf_cmp}
+use Rattle.mds_types.specs.Leaf.{Leaf, leaf_cmp}
+use Rattle.subtree_map.specs.Authority.{Roots}
 use Rattle.subtree_map.specs.Changes.{leaf_of, is_inside}
 
 -- the first leaf of the rows that passes a test

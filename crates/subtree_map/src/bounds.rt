@@ -2,7 +2,8 @@
 ghost use Rattle.std.specs.Prelude.{◌≡◌, ◌↔◌, IfOk, IsTrue, Some};
 ghost use Rattle.std.specs.List as list;
 ghost use Rattle.std.specs.FinMap as map;
-ghost use Rattle.subtree_map.specs.Authority.{IsBound, Leaf, leaf_cmp};
+ghost use Rattle.mds_types.specs.Leaf.{Leaf, leaf_cmp};
+ghost use Rattle.subtree_map.specs.Authority.{IsBound};
 ghost use Rattle.subtree_map.specs.Climb.{IsNextBelow};
 
 use crate::climb::holder_of;

@@ -1,7 +1,8 @@
 //! The way up from a leaf: along the dentries of directories to the nearest root.
 ghost use Rattle.std.specs.Prelude.{◌≡◌, Some, None, MatchOption};
 ghost use Rattle.std.specs.FinMap as map;
-ghost use Rattle.subtree_map.specs.Authority.{HasAuthority, Leaf, HoldsDentry, IsLeaf, IsSubtrees, NearestRoot};
+ghost use Rattle.mds_types.specs.Leaf.{Leaf};
+ghost use Rattle.subtree_map.specs.Authority.{HasAuthority, HoldsDentry, IsLeaf, IsSubtrees, NearestRoot};
 ghost use Rattle.mds_types.specs.declared.ids.Rank.{Rank as RankNumber};
 ghost use Rattle.subtree_map.specs.Climb.{IsTop};
 

@@ -2,9 +2,10 @@
 ghost use Rattle.std.specs.Prelude.{◌≡◌, ◌≢◌, ℕ, IsSome};
 ghost use Rattle.std.specs.FinMap as map;
 ghost use Rattle.mds_types.specs.declared.ids.Rank.{Rank};
-ghost use Rattle.inode_table.specs.declared.homes.Home.{Home};
+ghost use Rattle.inode_table.specs.declared.dirs.Home.{Home};
 ghost use Rattle.inode_table.specs.Dirs.{Homes, Covers, IsTable, MayCome};
-ghost use Rattle.subtree_map.specs.Authority.{BoundsOneRegion, HasAuthority, HasOneRoot, IsInOneRegion, IsLeaf, IsSubtrees, Leaf, Roots};
+ghost use Rattle.mds_types.specs.Leaf.{Leaf};
+ghost use Rattle.subtree_map.specs.Authority.{BoundsOneRegion, HasAuthority, HasOneRoot, IsInOneRegion, IsLeaf, IsSubtrees, Roots};
 
 /// Each leaf has one nearest root.
 pub fn each_leaf_has_one_nearest_root()

@@ -3,7 +3,7 @@ ghost use Rattle.std.specs.Prelude.{◌≡◌, ◌+◌, ◌<◌, ◌≤◌, true
 ghost use Rattle.std.specs.FinMap as map;
 ghost use Rattle.sorted_map.specs.SortedMap.{contents};
 ghost use Rattle.mds_types.specs.Frag.{IsFragment};
-ghost use Rattle.subtree_map.specs.Authority.{Leaf, leaf_cmp};
+ghost use Rattle.mds_types.specs.Leaf.{Leaf, leaf_cmp};
 ghost use Rattle.subtree_map.specs.Changes.{IsRootMerge, MergesSoundly, is_inside};
 ghost use Rattle.subtree_map.specs.Rows.{AreTakenOut};
 

@@ -6,7 +6,8 @@ ghost use Rattle.mds_types.specs.declared.ids.Rank.{Rank as RankNumber};
 ghost use Rattle.mds_types.specs.declared.refusals.Refusal.TheVariants.{NoMemory};
 ghost use Rattle.mds_types.specs.Frag.{span};
 ghost use Rattle.inode_table.specs.Dirs.{MayMove, leaves_of};
-ghost use Rattle.subtree_map.specs.Authority.{IsSubtrees, leaf_cmp};
+ghost use Rattle.mds_types.specs.Leaf.{leaf_cmp};
+ghost use Rattle.subtree_map.specs.Authority.{IsSubtrees};
 ghost use Rattle.subtree_map.specs.Moves.{HasRoomToMove, IsLostRank, IsSettled, MovesSoundly};
 ghost use Rattle.subtree_map.specs.Rows.{AreFilled, IsFilled};
 

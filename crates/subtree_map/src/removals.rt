@@ -2,7 +2,7 @@
 ghost use Rattle.std.specs.Prelude.{◌≡◌, ◌≢◌, ◌≤◌, None, IsSome, MatchOption};
 ghost use Rattle.std.specs.FinMap as map;
 ghost use Rattle.sorted_map.specs.SortedMap.{contents};
-ghost use Rattle.subtree_map.specs.Authority.{Leaf, leaf_cmp};
+ghost use Rattle.mds_types.specs.Leaf.{Leaf, leaf_cmp};
 ghost use Rattle.subtree_map.specs.Changes.{AreGone, DropsSoundly};
 
 use crate::rows::{first_from, take_row};

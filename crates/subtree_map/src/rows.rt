@@ -3,7 +3,7 @@ ghost use Rattle.std.specs.Prelude.{◌≡◌, ◌≤◌, None};
 ghost use Rattle.std.specs.Ordering.{is_lt};
 ghost use Rattle.std.specs.FinMap as map;
 ghost use Rattle.sorted_map.specs.SortedMap.{contents, is_from};
-ghost use Rattle.subtree_map.specs.Authority.{leaf_cmp};
+ghost use Rattle.mds_types.specs.Leaf.{leaf_cmp};
 ghost use Rattle.subtree_map.specs.Rows.{IsFirst};
 
 use mds_types::{Frag, Ino, Rank};

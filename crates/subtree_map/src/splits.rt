@@ -4,7 +4,7 @@ ghost use Rattle.std.specs.FinMap as map;
 ghost use Rattle.sorted_map.specs.SortedMap.{contents};
 ghost use Rattle.mds_types.specs.Frag.{child_of};
 ghost use Rattle.fragtree.specs.FragTree.{FitsSplit};
-ghost use Rattle.subtree_map.specs.Authority.{leaf_cmp};
+ghost use Rattle.mds_types.specs.Leaf.{leaf_cmp};
 ghost use Rattle.subtree_map.specs.Changes.{IsRootSplit, SplitsSoundly};
 ghost use Rattle.subtree_map.specs.Rows.{AreChildrenSet};
 

@@ -3,7 +3,8 @@ ghost use Rattle.std.specs.Prelude.{◌≡◌, ◌+◌, ◌-◌, ◌<◌, ◌≤
 ghost use Rattle.std.specs.FinMap as map;
 ghost use Rattle.mds_types.specs.declared.refusals.Refusal.TheVariants.{NoMemory};
 ghost use Rattle.inode_table.specs.Dirs.{Homes, Covers};
-ghost use Rattle.subtree_map.specs.Authority.{IsLeaf, IsSubtrees, leaf_cmp};
+ghost use Rattle.mds_types.specs.Leaf.{leaf_cmp};
+ghost use Rattle.subtree_map.specs.Authority.{IsLeaf, IsSubtrees};
 ghost use Rattle.subtree_map.specs.Changes.{IsCutOff};
 
 use mds_types::{Frag, Ino, Rank, Refusal};
@@ -23,7 +24,7 @@ impl Model for Subtrees {
     ghost use Rattle.std.specs.Coded.{codes};
     ghost use Rattle.std.specs.FinMap as map;
     ghost use Rattle.sorted_map.specs.SortedMap.{contents};
-    ghost use Rattle.subtree_map.specs.Authority.{leaf_cmp};
+    ghost use Rattle.mds_types.specs.Leaf.{leaf_cmp};
     ghost use Rattle.subtree_map.specs.Changes.{Subtrees};
 
     ghost Value = { Subtrees };

@@ -1,5 +1,5 @@
 use Rattle.sorted_map.specs.SortedMap.{contents}
-use Rattle.subtree_map.specs.Authority.{leaf_cmp}
+use Rattle.mds_types.specs.Leaf.{leaf_cmp}
 use Rattle.export_steps.proofs.Between.{come_between}
 use Rattle.export_steps.proofs.steps.put_state.Goals as goal
 

@@ -4,7 +4,7 @@ use Rattle.std.specs.Ordering.{nat_cmp}
 use Rattle.std.specs.FinMap as map
 use Rattle.std.specs.FinMap.{get-empty}
 use Rattle.sorted_map.proofs.NatKeys.{get_put, after_put}
-use Rattle.inode_table.specs.declared.homes.Home.{Home}
+use Rattle.inode_table.specs.declared.dirs.Home.{Home}
 use Rattle.inode_table.specs.Dirs.{Homes, MayCome, IsChildless, is_known}
 use Rattle.inode_table.proofs.Tables.{known_by}
 use Rattle.inode_table_tests.proofs.tests.take_first.Goals as goal

@@ -1,6 +1,6 @@
 use Rattle.std.proofs.Common.{sym, ◌∙◌}
 use Rattle.sorted_map.specs.SortedMap.{contents}
-use Rattle.leaf_maps.specs.Leaves.{leaf_cmp}
+use Rattle.mds_types.specs.Leaf.{leaf_cmp}
 use Rattle.leaf_maps.proofs.Forgotten.{told}
 use Rattle.leaf_maps.proofs.directories.first_leaf.Goals as goal
 

@@ -2,7 +2,7 @@ use Rattle.std.proofs.Common.{ap, ◌∙◌}
 use Rattle.std.specs.FinMap as map
 use Rattle.std.specs.FinMap.{entries_sorted}
 use Rattle.sorted_map.specs.SortedMap.{contents}
-use Rattle.leaf_maps.specs.Leaves.{leaf_cmp}
+use Rattle.mds_types.specs.Leaf.{leaf_cmp}
 use Rattle.leaf_maps.specs.Listed.{run}
 use Rattle.leaf_maps.proofs.RunLaws.{leaves-run}
 use Rattle.leaf_maps.proofs.listing.leaves_from.Goals as goal

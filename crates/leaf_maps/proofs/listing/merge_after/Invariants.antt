@@ -2,7 +2,7 @@ use Rattle.std.proofs.Common.{length}
 use Rattle.std.specs.Option.{option_copied}
 use Rattle.std.specs.FinMap as map
 use Rattle.sorted_map.specs.SortedMap.{contents}
-use Rattle.leaf_maps.specs.Leaves.{leaf_cmp}
+use Rattle.mds_types.specs.Leaf.{leaf_cmp}
 use Rattle.leaf_maps.specs.Listed.{run, leaves_of_dir}
 use Rattle.leaf_maps.proofs.RowLaws.{Gathers}
 use Rattle.leaf_maps.proofs.listing.merge_after.Given as goal

@@ -1,7 +1,7 @@
 use Rattle.std.proofs.Common.{not, sym, ap, ◌∙◌}
 use Rattle.std.specs.List.{list_any}
 use Rattle.sorted_map.specs.SortedMap.{contents}
-use Rattle.leaf_maps.specs.Leaves.{leaf_cmp}
+use Rattle.mds_types.specs.Leaf.{leaf_cmp}
 use Rattle.leaf_maps.specs.Listed.{has_names}
 use Rattle.leaf_maps.proofs.ShownLaws.{shown_entries}
 use Rattle.leaf_maps.proofs.listing.nothing_in.Goals as goal

@@ -1,7 +1,7 @@
 -- What is left to clear away leads where the whole does.
 use Rattle.std.proofs.Common.{◌≡◌}
 use Rattle.sorted_map.specs.SortedMap.{contents}
-use Rattle.leaf_maps.specs.Leaves.{leaf_cmp}
+use Rattle.mds_types.specs.Leaf.{leaf_cmp}
 use Rattle.leaf_maps.specs.Regroup.{cleared}
 use Rattle.leaf_maps.proofs.regroup.clear.Given as goal
 

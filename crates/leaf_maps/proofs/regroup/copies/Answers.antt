@@ -1,7 +1,7 @@
 use Rattle.std.proofs.Common.{refl, sym, ◌∙◌}
 use Rattle.std.specs.FinMap as map
 use Rattle.sorted_map.specs.SortedMap.{contents}
-use Rattle.leaf_maps.specs.Leaves.{leaf_cmp}
+use Rattle.mds_types.specs.Leaf.{leaf_cmp}
 use Rattle.leaf_maps.proofs.RegroupLaws.{leaf_told}
 use Rattle.leaf_maps.proofs.Copied.{each_leaf, gathers_none}
 use Rattle.leaf_maps.proofs.Turns.{passed_over, copied_leaf, all_gathered}

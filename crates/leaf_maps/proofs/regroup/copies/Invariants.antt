@@ -3,7 +3,8 @@ use Rattle.std.proofs.Common.{◌≡◌, true}
 use Rattle.std.specs.List.{AllByRecursion}
 use Rattle.std.specs.FinMap as map
 use Rattle.sorted_map.specs.SortedMap.{contents}
-use Rattle.leaf_maps.specs.Leaves.{Names, leaf_cmp}
+use Rattle.mds_types.specs.Leaf.{leaf_cmp}
+use Rattle.leaf_maps.specs.Leaves.{Names}
 use Rattle.leaf_maps.specs.Regroup.{ArePlacedIn, Gathers, gathered, is_leaf}
 use Rattle.leaf_maps.proofs.regroup.copies.Given as goal
 

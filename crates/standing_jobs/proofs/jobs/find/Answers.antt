@@ -1,5 +1,5 @@
 use Rattle.sorted_map.specs.SortedMap.{contents}
-use Rattle.standing_jobs.specs.StandingJobs.{leaf_cmp}
+use Rattle.mds_types.specs.Leaf.{leaf_cmp}
 use Rattle.standing_jobs.proofs.Walks.{at_first, found_here, none_left_of, steps_on}
 use Rattle.standing_jobs.proofs.jobs.find.Goals as goal
 

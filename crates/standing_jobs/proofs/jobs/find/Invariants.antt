@@ -2,7 +2,7 @@
 use Rattle.std.proofs.Common.{length}
 use Rattle.std.specs.FinMap as map
 use Rattle.sorted_map.specs.SortedMap.{contents}
-use Rattle.standing_jobs.specs.StandingJobs.{leaf_cmp}
+use Rattle.mds_types.specs.Leaf.{leaf_cmp}
 use Rattle.standing_jobs.proofs.Walks.{IsRest}
 use Rattle.standing_jobs.proofs.jobs.find.Given as goal
 

@@ -1,5 +1,5 @@
 use Rattle.sorted_map.specs.SortedMap.{contents}
-use Rattle.subtree_map.specs.Authority.{leaf_cmp}
+use Rattle.mds_types.specs.Leaf.{leaf_cmp}
 use Rattle.subtree_map.proofs.TakenOut.{merged_rows}
 use Rattle.subtree_map.proofs.merges.merge_rows.Goals as goal
 

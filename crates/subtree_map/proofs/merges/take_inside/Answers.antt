@@ -1,6 +1,6 @@
 use Rattle.std.proofs.Common.{◌≡◌, true, false, sym, ap, ◌∙◌}
 use Rattle.sorted_map.specs.SortedMap.{contents}
-use Rattle.subtree_map.specs.Authority.{leaf_cmp}
+use Rattle.mds_types.specs.Leaf.{leaf_cmp}
 use Rattle.subtree_map.specs.Changes.{is_inside}
 use Rattle.subtree_map.proofs.TakenOut.{found_next, other_stays, shorter, stays_there}
 use Rattle.subtree_map.proofs.merges.take_inside.Goals as goal

@@ -1,7 +1,7 @@
 use Rattle.std.proofs.Common.{◌-◌, ◌^◌, ◌<◌, arith}
 use Rattle.inode_table.specs.Dirs.{leaves_of}
 use Rattle.sorted_map.specs.SortedMap.{contents}
-use Rattle.subtree_map.specs.Authority.{leaf_cmp}
+use Rattle.mds_types.specs.Leaf.{leaf_cmp}
 use Rattle.subtree_map.proofs.Filled.{walk_starts, walk_room, walk_goes, walk_on, walk_ends}
 use Rattle.subtree_map.proofs.Nearest.{tree_of_row}
 use Rattle.subtree_map.proofs.moves.fill.Goals as goal

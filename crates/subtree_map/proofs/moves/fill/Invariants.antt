@@ -2,7 +2,7 @@
 use Rattle.std.specs.Prelude.{◌-◌, ◌^◌}
 use Rattle.inode_table.specs.Dirs.{leaves_of}
 use Rattle.sorted_map.specs.SortedMap.{contents}
-use Rattle.subtree_map.specs.Authority.{leaf_cmp}
+use Rattle.mds_types.specs.Leaf.{leaf_cmp}
 use Rattle.subtree_map.proofs.Filled.{Walk}
 use Rattle.subtree_map.proofs.moves.fill.Given as goal
 

@@ -1,6 +1,6 @@
 use Rattle.std.proofs.Common.{ap, ◌∙◌, arith}
 use Rattle.sorted_map.specs.SortedMap.{contents}
-use Rattle.subtree_map.specs.Authority.{Leaf, leaf_cmp}
+use Rattle.mds_types.specs.Leaf.{Leaf, leaf_cmp}
 use Rattle.subtree_map.proofs.TakenOut.{other_stays, shorter}
 use Rattle.subtree_map.proofs.removals.drop_rows.Goals as goal
 

@@ -2,7 +2,7 @@
 use Rattle.std.specs.Prelude.{◌≡◌, ◌≢◌, ◌≤◌}
 use Rattle.std.specs.FinMap as map
 use Rattle.sorted_map.specs.SortedMap.{contents}
-use Rattle.subtree_map.specs.Authority.{Leaf, leaf_cmp}
+use Rattle.mds_types.specs.Leaf.{Leaf, leaf_cmp}
 use Rattle.subtree_map.proofs.removals.drop_rows.Given as goal
 
 abbrev pub invariant-loop-leaf : goal.invariant-loop-leaf

@@ -1,6 +1,6 @@
 use Rattle.std.proofs.Common.{[], ◌∷◌, sym, ◌∙◌}
 use Rattle.sorted_map.specs.SortedMap.{contents, is_from}
-use Rattle.subtree_map.specs.Authority.{leaf_cmp}
+use Rattle.mds_types.specs.Leaf.{leaf_cmp}
 use Rattle.subtree_map.proofs.Firsts.{first_row}
 use Rattle.subtree_map.proofs.rows.first_from.Goals as goal
 

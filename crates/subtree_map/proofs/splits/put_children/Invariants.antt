@@ -1,7 +1,7 @@
 -- The children so far have the rank, and there is room for the others.
 use Rattle.std.specs.Prelude.{◌+◌, ◌≤◌}
 use Rattle.sorted_map.specs.SortedMap.{contents}
-use Rattle.subtree_map.specs.Authority.{leaf_cmp}
+use Rattle.mds_types.specs.Leaf.{leaf_cmp}
 use Rattle.subtree_map.specs.Rows.{AreChildrenSet}
 use Rattle.subtree_map.proofs.splits.put_children.Given as goal
 

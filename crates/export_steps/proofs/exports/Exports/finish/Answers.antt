@@ -1,7 +1,7 @@
 use Rattle.std.proofs.Common.{sym, ap, subst}
 use Rattle.std.specs.Prelude.{is_some, Ok}
 use Rattle.sorted_map.specs.SortedMap.{contents}
-use Rattle.subtree_map.specs.Authority.{leaf_cmp}
+use Rattle.mds_types.specs.Leaf.{leaf_cmp}
 use Rattle.export_steps.specs.Standing.{ArePlaced, IsFinish}
 use Rattle.export_steps.proofs.Outcomes.{finished, is_promised, is_root}
 use Rattle.export_steps.proofs.Placed.{finishes_placed}

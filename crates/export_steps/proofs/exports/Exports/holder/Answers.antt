@@ -1,6 +1,6 @@
 use Rattle.std.proofs.Common.{ap, ◌∙◌}
 use Rattle.std.specs.FinMap as map
-use Rattle.subtree_map.proofs.LeafKeys.{not_none}
+use Rattle.subtree_map.proofs.Options.{not_none}
 use Rattle.subtree_map.proofs.Nearest.{is_ranked}
 use Rattle.export_steps.proofs.Holders.{some_holder_of_root}
 use Rattle.export_steps.specs.Holder.{region_holder}

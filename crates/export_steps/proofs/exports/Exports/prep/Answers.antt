@@ -1,6 +1,6 @@
 use Rattle.std.proofs.Common.{refl, sym, subst}
 use Rattle.sorted_map.specs.SortedMap.{contents}
-use Rattle.subtree_map.specs.Authority.{leaf_cmp}
+use Rattle.mds_types.specs.Leaf.{leaf_cmp}
 use Rattle.export_steps.specs.declared.exports.ExportState.TheVariants as state
 use Rattle.export_steps.specs.Standing.{ArePlaced}
 use Rattle.export_steps.proofs.Placed.{steps_placed}

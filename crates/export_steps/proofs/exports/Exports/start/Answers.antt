@@ -2,7 +2,7 @@ use Rattle.std.specs.Prelude.{is_some}
 use Rattle.std.proofs.Common.{sym, ap, subst, ◌∙◌}
 use Rattle.std.specs.FinMap as map
 use Rattle.sorted_map.specs.SortedMap.{contents}
-use Rattle.subtree_map.specs.Authority.{leaf_cmp}
+use Rattle.mds_types.specs.Leaf.{leaf_cmp}
 use Rattle.export_steps.specs.Standing.{Standing, Starts}
 use Rattle.export_steps.proofs.Outcomes.{not_started, started}
 use Rattle.export_steps.proofs.Placed.{starts_placed}

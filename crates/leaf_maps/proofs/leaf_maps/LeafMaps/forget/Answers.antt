@@ -1,6 +1,6 @@
 use Rattle.std.proofs.Common.{◌∙◌}
 use Rattle.sorted_map.specs.SortedMap.{contents}
-use Rattle.leaf_maps.specs.Leaves.{leaf_cmp}
+use Rattle.mds_types.specs.Leaf.{leaf_cmp}
 use Rattle.leaf_maps.proofs.Forgotten.{fewer, gone, others_kept}
 use Rattle.leaf_maps.proofs.leaf_maps.LeafMaps.forget.Goals as goal
 

@@ -3,7 +3,8 @@ use Rattle.std.proofs.Common.{◌≡◌, ℕ}
 use Rattle.std.specs.FinMap as map
 use Rattle.sorted_map.specs.SortedMap.{contents}
 use Rattle.mds_types.specs.Frag.{Fragment}
-use Rattle.leaf_maps.specs.Leaves.{leaf_cmp, kept_of}
+use Rattle.mds_types.specs.Leaf.{leaf_cmp}
+use Rattle.leaf_maps.specs.Leaves.{kept_of}
 use Rattle.leaf_maps.proofs.leaf_maps.LeafMaps.forget.Given as goal
 
 abbrev pub invariant-loop-leaf : goal.invariant-loop-leaf

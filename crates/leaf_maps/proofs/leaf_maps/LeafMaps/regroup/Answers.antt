@@ -2,7 +2,7 @@
 use Rattle.std.proofs.Common.{ap, ◌∙◌}
 use Rattle.sorted_map.specs.SortedMap.{contents}
 use Rattle.fragtree.proofs.TreeLaws.{some_pick}
-use Rattle.leaf_maps.specs.Leaves.{leaf_cmp}
+use Rattle.mds_types.specs.Leaf.{leaf_cmp}
 use Rattle.leaf_maps.specs.Regroup.{cleared}
 use Rattle.leaf_maps.proofs.RegroupedLaws.{regrouped}
 use Rattle.leaf_maps.proofs.leaf_maps.LeafMaps.regroup.Goals as goal

@@ -2,7 +2,7 @@ use Rattle.std.proofs.Common.{sym, subst, arith}
 use Rattle.std.specs.Ordering.{nat_cmp}
 use Rattle.std.specs.FinMap.{get-empty}
 use Rattle.sessions.specs.Table.{Row}
-use Rattle.sessions.specs.declared.seen.Seen.TheVariants.{New}
+use Rattle.sessions.specs.declared.clients.Seen.TheVariants.{New}
 use Rattle.sessions.proofs.TableLaws.{sees}
 use Rattle.sessions.specs.Seen.{SeesInRow}
 use Rattle.sessions.proofs.RowLaws.{row_known, row_unknown}

@@ -1,7 +1,7 @@
 use Rattle.std.proofs.Common.{◌≤◌, length, refl, sym, subst}
 use Rattle.sorted_map.specs.SortedMap.{contents}
 use Rattle.inode_table.specs.Dirs.{leaves_of}
-use Rattle.subtree_map.specs.Authority.{leaf_cmp}
+use Rattle.mds_types.specs.Leaf.{leaf_cmp}
 use Rattle.subtree_map.specs.Changes.{Subtrees}
 use Rattle.subtree_map.specs.Rows.{AreFilled}
 use Rattle.subtree_map.proofs.Moved.{moves_soundly}

@@ -2,7 +2,8 @@
 use Rattle.std.specs.Prelude.{◌⊎◌, ◌↔◌, IsSome}
 use Rattle.std.specs.List as list
 use Rattle.std.specs.FinMap.{find}
-use Rattle.subtree_map.specs.Authority.{IsBound, Leaf, leaf_cmp}
+use Rattle.mds_types.specs.Leaf.{Leaf, leaf_cmp}
+use Rattle.subtree_map.specs.Authority.{IsBound}
 use Rattle.subtree_map.specs.Climb.{IsNextBelow}
 use Rattle.subtree_map.proofs.subtrees.Subtrees.bounds.Given as goal
 

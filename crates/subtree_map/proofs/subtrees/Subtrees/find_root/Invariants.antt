@@ -3,7 +3,8 @@ use Rattle.std.specs.Prelude.{◌↔◌}
 use Rattle.std.specs.FinMap as map
 use Rattle.inode_table.specs.Dirs.{IsTable}
 use Rattle.inode_table.proofs.Chains.{climbed}
-use Rattle.subtree_map.specs.Authority.{Leaf, NearestRoot}
+use Rattle.mds_types.specs.Leaf.{Leaf}
+use Rattle.subtree_map.specs.Authority.{NearestRoot}
 use Rattle.subtree_map.proofs.subtrees.Subtrees.find_root.Given as goal
 
 abbrev pub invariant-loop-home : goal.invariant-loop-home

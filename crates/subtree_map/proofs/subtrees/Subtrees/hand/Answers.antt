@@ -3,7 +3,7 @@ use Rattle.std.specs.FinMap as map
 use Rattle.mds_types.specs.declared.ids.Rank.{Rank}
 use Rattle.subtree_map.specs.Changes.{Subtrees}
 use Rattle.subtree_map.proofs.CutOff.{handed}
-use Rattle.subtree_map.proofs.LeafKeys.{not_none, one_value}
+use Rattle.subtree_map.proofs.Options.{not_none, one_value}
 use Rattle.subtree_map.proofs.subtrees.Subtrees.hand.Goals as goal
 
 pub returns-in-Some-clause-roots : goal.returns-in-Some-clause-roots

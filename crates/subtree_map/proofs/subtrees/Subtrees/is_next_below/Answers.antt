@@ -1,7 +1,7 @@
 use Rattle.std.proofs.Common.{◌≡◌, sym, subst}
-use Rattle.inode_table.specs.declared.homes.Home.{Home}
+use Rattle.inode_table.specs.declared.dirs.Home.{Home}
 use Rattle.subtree_map.specs.Authority.{HoldsDentry, NearestRoot}
-use Rattle.subtree_map.proofs.LeafKeys.{one_value}
+use Rattle.subtree_map.proofs.Options.{one_value}
 use Rattle.subtree_map.proofs.Nearest.{found_at, nearest_of, one_holder}
 use Rattle.subtree_map.proofs.subtrees.Subtrees.is_next_below.Goals as goal
 

@@ -2,11 +2,11 @@ use Rattle.std.proofs.Common.{◌≡◌, rules, refl, sym, ap, subst, ◌∙◌}
 use Rattle.mds_types.specs.declared.ids.Rank.{Rank}
 use Rattle.fragtree.specs.FragTree.{IsPick}
 use Rattle.namehash.specs.Rjenkins.{hash_of}
-use Rattle.inode_table.specs.declared.homes.Home.{Home}
+use Rattle.inode_table.specs.declared.dirs.Home.{Home}
 use Rattle.inode_table.specs.Dirs.{leaves_of}
 use Rattle.subtree_map.specs.Authority.{HasAuthority}
 use Rattle.subtree_map.specs.Moves.{IsInheritedAt}
-use Rattle.subtree_map.proofs.LeafKeys.{one_value}
+use Rattle.subtree_map.proofs.Options.{one_value}
 use Rattle.subtree_map.proofs.Nearest.{holder_is_leaf, some_authority}
 use Rattle.subtree_map.proofs.Settled.{none_inherited, not_both}
 use Rattle.subtree_map.proofs.subtrees.Subtrees.lost_rank.Goals as goal

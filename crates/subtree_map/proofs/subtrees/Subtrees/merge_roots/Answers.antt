@@ -1,6 +1,6 @@
 use Rattle.std.proofs.Common.{subst}
 use Rattle.sorted_map.specs.SortedMap.{contents}
-use Rattle.subtree_map.specs.Authority.{leaf_cmp}
+use Rattle.mds_types.specs.Leaf.{leaf_cmp}
 use Rattle.subtree_map.specs.Changes.{MergesSoundly, Subtrees}
 use Rattle.subtree_map.proofs.Merged.{merges_soundly}
 use Rattle.subtree_map.proofs.subtrees.Subtrees.merge_roots.Goals as goal

@@ -1,6 +1,6 @@
 use Rattle.std.proofs.Common.{subst}
 use Rattle.sorted_map.specs.SortedMap.{contents}
-use Rattle.subtree_map.specs.Authority.{leaf_cmp}
+use Rattle.mds_types.specs.Leaf.{leaf_cmp}
 use Rattle.subtree_map.specs.Changes.{SplitsSoundly, Subtrees}
 use Rattle.subtree_map.proofs.Split.{splits_soundly}
 use Rattle.subtree_map.proofs.subtrees.Subtrees.split_root.Goals as goal

@@ -1,4 +1,4 @@
-//! Strings of bytes.
+//! Any bytes.
 ghost use Rattle.std.proofs.Common.{rules};
 ghost use Rattle.std.proofs.lemmas.Map.Lookups.{exact_bytes};
 ghost use Rattle.std.specs.Cmp.{partial_order_from_own_ties};
@@ -12,7 +12,7 @@ use std::alloc::{AllocError, Global};
 use std::cmp::Ordering;
 use std::marker::Model;
 
-/// Any bytes, in the order in which memory compares: a key, a value or the header of an object. Seen by its contents,
+/// Any bytes, in the order in which memory compares: a name, a key, a value, the header of an object. Seen by contents,
 /// never by its capacity.
 #[derive(Clone, Debug, Drop)]
 pub struct Bytes {
