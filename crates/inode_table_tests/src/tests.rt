@@ -101,17 +101,18 @@ fn adopt_first(alloc: Global, dirs: &mut Dirs, dir: Ino) -> bool
 // The leaves `0*` and `1*`.
 fn halves(alloc: Global) -> Option<FragTree> {
     match FragTree::whole(alloc) {
-        Ok(tree) => in_two(tree),
+        Ok(mut tree) => if is_halved(&mut tree) {
+            Some(tree)
+        } else {
+            None
+        },
         Err(_) => None,
     }
 }
 
-// The tree after a split of `*` in two.
-fn in_two(mut tree: FragTree) -> Option<FragTree> {
-    match tree.split(Frag::ROOT, 1) {
-        Ok(()) => Some(tree),
-        Err(_) => None,
-    }
+// Splits `*` in two.
+fn is_halved(tree: &mut FragTree) -> bool {
+    tree.split(Frag::ROOT, 1).is_ok()
 }
 
 // Gives a directory the leaves `0*` and `1*`, if it is one.

@@ -12,7 +12,7 @@ mod slow_table;
 mod split_dirs;
 
 use asked::{Asked, Came, FIRST, ROOT, op_of, told};
-use mds_types::{Frag, Ino, Op, Refusal};
+use mds_types::{Frag, Ino, Op, Refusal, Reply};
 use namespace_ops::{changes, serve_op};
 use plain_frags::PlainFrags;
 use slow_table::SlowTable;
@@ -156,18 +156,23 @@ const REPLACED: [Row; 9] = [
     ),
 ];
 
-// The directories of the fragments that an operation would change.
-fn touched(alloc: Global, frags: &mut PlainFrags, op: &Op) -> Option<[u64; 3]> {
-    let Ok(list) = changes(alloc, frags, op) else {
-        return None;
-    };
+// The directories of fragments, of which each is its directory's whole.
+fn dirs_of(list: &[(Ino, Frag)]) -> [u64; 3] {
     let mut dirs = NONE;
-    for (dentry, (dir, frag)) in list.iter().enumerate() {
-        if dentry < 3 && *frag == Frag::ROOT {
-            dirs[dentry] = dir.0;
+    for (place, (dir, frag)) in list.iter().enumerate() {
+        if place < 3 && *frag == Frag::ROOT {
+            dirs[place] = dir.0;
         }
     }
-    Some(dirs)
+    dirs
+}
+
+// The directories of the fragments that an operation would change.
+fn touched(alloc: Global, frags: &mut PlainFrags, op: &Op) -> Option<[u64; 3]> {
+    match changes(alloc, frags, op) {
+        Ok(list) => Some(dirs_of(&list)),
+        Err(_) => None,
+    }
 }
 
 // Serves an operation that is offered this number. One that could not be made for want of memory is refused so.
@@ -190,22 +195,41 @@ fn shown(alloc: Global, frags: &PlainFrags) -> Option<String> {
     }
 }
 
+// Whether the fragments are shown as before.
+fn stays(alloc: Global, frags: &PlainFrags, before: &Option<String>) -> bool {
+    shown(alloc, frags) == *before
+}
+
 // Serves an operation, and once more where growth was refused and left the fragments as they were.
 fn served_again(alloc: Global, frags: &mut PlainFrags, asked: Asked, number: u64) -> Came {
     let before = shown(alloc, frags);
     let first = served(alloc, frags, asked, number);
-    if first != Came::Refused(1) {
-        return first;
+    if first == Came::Refused(1) {
+        served_anew(alloc, frags, asked, number, &before)
+    } else {
+        first
     }
-    if shown(alloc, frags) != before {
-        return Came::Changed;
+}
+
+fn served_anew(
+    alloc: Global,
+    frags: &mut PlainFrags,
+    asked: Asked,
+    number: u64,
+    before: &Option<String>,
+) -> Came {
+    if stays(alloc, frags, before) {
+        served(alloc, frags, asked, number)
+    } else {
+        Came::Changed
     }
-    served(alloc, frags, asked, number)
 }
 
 fn touched_by(alloc: Global, frags: &mut PlainFrags, asked: Asked) -> Option<[u64; 3]> {
-    let op = op_of(alloc, asked)?;
-    touched(alloc, frags, &op)
+    match op_of(alloc, asked) {
+        Some(op) => touched(alloc, frags, &op),
+        None => None,
+    }
 }
 
 // What an operation would change, asked once more where memory was refused.
@@ -216,21 +240,29 @@ fn touched_again(alloc: Global, frags: &mut PlainFrags, asked: Asked) -> Option<
     }
 }
 
+/// A place in a row, and what it comes to: the directories of fragments, and the answer.
+type Found = (usize, Option<[u64; 3]>, Came);
+
 // Where a row first comes to something else, and to what.
-fn wrong(alloc: Global, row: &[Row]) -> Option<(usize, Option<[u64; 3]>, Came)> {
-    let mut frags = PlainFrags::new(alloc);
+fn wrong_in(alloc: Global, frags: &mut PlainFrags, row: &[Row]) -> Option<Found> {
     let mut number = FIRST;
-    for (dentry, (asked, changed, wanted)) in row.iter().enumerate() {
-        let dirs = touched_again(alloc, &mut frags, *asked);
-        let found = served_again(alloc, &mut frags, *asked, number);
+    for (place, (asked, changed, wanted)) in row.iter().enumerate() {
+        let dirs = touched_again(alloc, frags, *asked);
+        let found = served_again(alloc, frags, *asked, number);
         if dirs != Some(*changed) || found != *wanted {
-            return Some((dentry, dirs, found));
+            return Some((place, dirs, found));
         }
         if found.is_new(*asked) {
             number = number.saturating_add(1);
         }
     }
     None
+}
+
+// The same over fragments with no entry.
+fn wrong(alloc: Global, row: &[Row]) -> Option<Found> {
+    let mut frags = PlainFrags::new(alloc);
+    wrong_in(alloc, &mut frags, row)
 }
 
 #[test]
@@ -246,24 +278,23 @@ fn files_and_listings_are_those_of_the_table(rt: HostRuntime) {
     assert_eq!(rt; wrong(rt.alloc(), &LISTINGS), None);
 }
 
-// Fragments with a file for each name of one byte, in the order of the bytes.
-fn with_all_bytes(alloc: Global) -> PlainFrags {
-    let mut frags = PlainFrags::new(alloc);
+// Makes a file for each name of one byte, in the order of the bytes.
+fn make_all_bytes(alloc: Global, frags: &mut PlainFrags) {
     let mut number = FIRST;
     for byte in 1..=255u8 {
         if byte != b'/' && byte != b'.' {
-            let _ = served(alloc, &mut frags, Asked::File(ROOT, byte), number);
+            let _ = served(alloc, frags, Asked::File(ROOT, byte), number);
             number = number.saturating_add(1);
         }
     }
-    frags
 }
 
 // 253 names. `.` and `/` are none, so behind `-`, the 45th, comes `0`.
 #[test]
 fn names_of_all_bytes_are_listed(rt: HostRuntime) {
     let alloc = rt.alloc();
-    let mut frags = with_all_bytes(alloc);
+    let mut frags = PlainFrags::new(alloc);
+    make_all_bytes(alloc, &mut frags);
     let all = served(alloc, &mut frags, Asked::List(ROOT), 0);
     assert_eq!(rt; all, Came::Names(253, false, FIRST, FIRST + 252));
     let next = served(alloc, &mut frags, Asked::Page(ROOT, b'-', 1), 0);
@@ -272,15 +303,26 @@ fn names_of_all_bytes_are_listed(rt: HostRuntime) {
     assert_eq!(rt; last, Came::Names(1, false, FIRST + 252, FIRST + 252));
 }
 
+// Whether what would be made is refused for want of a number.
+fn wants_number(alloc: Global, frags: &mut PlainFrags, asked: Asked) -> bool {
+    match op_of(alloc, asked) {
+        Some(op) => is_for_number(&serve_op(alloc, frags, &op, None)),
+        None => false,
+    }
+}
+
+fn is_for_number(res: &Result<Reply, Refusal>) -> bool {
+    match res {
+        Ok(_) => false,
+        Err(refusal) => *refusal == Refusal::NoInodes,
+    }
+}
+
 #[test]
 fn without_a_number_nothing_is_made(rt: HostRuntime) {
     let alloc = rt.alloc();
     let mut frags = PlainFrags::new(alloc);
-    let Some(op) = op_of(alloc, Asked::File(ROOT, b'a')) else {
-        assert!(rt; false);
-        return;
-    };
-    assert!(rt; serve_op(alloc, &mut frags, &op, None) == Err(Refusal::NoInodes));
+    assert!(rt; wants_number(alloc, &mut frags, Asked::File(ROOT, b'a')));
     assert_eq!(rt;
         served(alloc, &mut frags, Asked::Find(ROOT, b'a'), 0),
         Came::Errno(2)
@@ -310,12 +352,11 @@ const OPERATIONS: [Asked; 18] = [
 ];
 
 // Where the answers to these operations, one after the other, differ from those of the slow table.
-fn differs(alloc: Global, all: [Asked; 4]) -> Option<(Came, Came)> {
-    let mut frags = PlainFrags::new(alloc);
+fn differs_in(alloc: Global, frags: &mut PlainFrags, all: [Asked; 4]) -> Option<(Came, Came)> {
     let mut table = SlowTable::EMPTY;
     let mut number = FIRST;
     for asked in all {
-        let found = served(alloc, &mut frags, asked, number);
+        let found = served(alloc, frags, asked, number);
         let wanted = table.step(asked, number);
         if found != wanted {
             return Some((found, wanted));
@@ -323,6 +364,11 @@ fn differs(alloc: Global, all: [Asked; 4]) -> Option<(Came, Came)> {
         number = number.saturating_add(1);
     }
     None
+}
+
+fn differs(alloc: Global, all: [Asked; 4]) -> Option<(Came, Came)> {
+    let mut frags = PlainFrags::new(alloc);
+    differs_in(alloc, &mut frags, all)
 }
 
 // Every four operations of which the first makes a directory.

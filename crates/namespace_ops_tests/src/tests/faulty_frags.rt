@@ -3,7 +3,7 @@ ghost use Rattle.namespace_ops.specs.Reasons.{IsOfFragments};
 
 use super::asked::{Asked, Came, FIRST, ROOT, op_of, told};
 use super::plain_frags::PlainFrags;
-use super::{ALL, REPLACED, Row, shown};
+use super::{ALL, REPLACED, Row, shown, stays};
 use mds_types::{Dentry, Frag, Ino, Inode, Listing, Name, Op, PageSize, Refusal};
 use namespace_ops::{Change, Frags, changes, serve_op};
 use std::alloc::Global;
@@ -144,25 +144,33 @@ fn served_again(
     frags.left = read;
     let first = served(alloc, frags, asked, number);
     frags.left = 0;
-    if first != Came::Refused(2) {
-        return (false, first);
+    if first == Came::Refused(2) {
+        (true, served_anew(alloc, frags, asked, number, &before))
+    } else {
+        (false, first)
     }
-    if shown(alloc, &frags.inner) != before {
-        return (true, Came::Changed);
+}
+
+fn served_anew(
+    alloc: Global,
+    frags: &mut FaultyFrags,
+    asked: Asked,
+    number: u64,
+    before: &Option<String>,
+) -> Came {
+    if stays(alloc, &frags.inner, before) {
+        served(alloc, frags, asked, number)
+    } else {
+        Came::Changed
     }
-    (true, served(alloc, frags, asked, number))
 }
 
 // How many operations of a row met the fault at this read; nothing where one came to something else.
-fn faults(alloc: Global, row: &[Row], read: u64) -> Option<u32> {
-    let mut frags = FaultyFrags {
-        inner: PlainFrags::new(alloc),
-        left: 0,
-    };
+fn faults_in(alloc: Global, frags: &mut FaultyFrags, row: &[Row], read: u64) -> Option<u32> {
     let mut number = FIRST;
     let mut met: u32 = 0;
     for (asked, _, wanted) in row {
-        let (fault, found) = served_again(alloc, &mut frags, *asked, number, read);
+        let (fault, found) = served_again(alloc, frags, *asked, number, read);
         if found != *wanted {
             return None;
         }
@@ -174,6 +182,15 @@ fn faults(alloc: Global, row: &[Row], read: u64) -> Option<u32> {
         }
     }
     Some(met)
+}
+
+// The same over fragments with no entry.
+fn faults(alloc: Global, row: &[Row], read: u64) -> Option<u32> {
+    let mut frags = FaultyFrags {
+        inner: PlainFrags::new(alloc),
+        left: 0,
+    };
+    faults_in(alloc, &mut frags, row, read)
 }
 
 // An operation whose directories stand reads first of all: 15 of these. Eight go on: four to the growth of what they make or
@@ -188,14 +205,21 @@ fn a_fault_is_passed_on_and_leaves_the_tree(rt: HostRuntime) {
     assert_eq!(rt; faults(alloc, &REPLACED, 5), Some(0));
 }
 
+// Why asking for the fragments that an operation changes is refused.
+fn refusal_by(alloc: Global, frags: &mut FaultyFrags, op: &Op) -> Option<Refusal> {
+    changes(alloc, frags, op).err()
+}
+
 // Why asking for the fragments that an unlink changes is refused, where this read meets the fault.
 fn refusal_of(alloc: Global, read: u64) -> Option<Refusal> {
     let mut frags = FaultyFrags {
         inner: PlainFrags::new(alloc),
         left: read,
     };
-    let op = op_of(alloc, Asked::Unlink(ROOT, b'a'))?;
-    changes(alloc, &mut frags, &op).err()
+    match op_of(alloc, Asked::Unlink(ROOT, b'a')) {
+        Some(op) => refusal_by(alloc, &mut frags, &op),
+        None => None,
+    }
 }
 
 #[test]

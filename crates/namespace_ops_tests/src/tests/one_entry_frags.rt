@@ -224,23 +224,23 @@ fn is_unused(only: &Option<(Dentry, Inode)>, number: Ino) -> bool
 }
 
 // Where the row first comes to something else, and to what.
+fn wrong_in(alloc: Global, frags: &mut OneEntryFrags) -> Option<(usize, Came)> {
+    for (place, (asked, wanted)) in ROW.iter().enumerate() {
+        let number = FIRST.saturating_add(place as u64);
+        let found = served(alloc, frags, *asked, number);
+        if found != *wanted {
+            return Some((place, found));
+        }
+    }
+    None
+}
+
 fn wrong(alloc: Global) -> Option<(usize, Came)> {
     let mut frags = OneEntryFrags {
         only: None,
         dirs: Dirs::new(alloc),
     };
-    for (dentry, (asked, wanted)) in ROW.iter().enumerate() {
-        let found = served(
-            alloc,
-            &mut frags,
-            *asked,
-            FIRST.saturating_add(dentry as u64),
-        );
-        if found != *wanted {
-            return Some((dentry, found));
-        }
-    }
-    None
+    wrong_in(alloc, &mut frags)
 }
 
 #[test]

@@ -69,18 +69,22 @@ fn make(alloc: Global, frags: &mut PlainFrags, stands: Stands, name: u8, number:
 
 // What a rename of `s` onto `t` answers, and whether then, if it is done, what stood at `s` stands at `t`, and otherwise
 // both stand as before.
-fn pair(alloc: Global, source: Stands, target: Stands) -> (Came, bool) {
-    let mut frags = PlainFrags::new(alloc);
-    let moving = make(alloc, &mut frags, source, b's', FIRST);
-    let replaced = make(alloc, &mut frags, target, b't', FIRST + 2);
-    let answer = served(alloc, &mut frags, Asked::Rename(ROOT, b's', ROOT, b't'), 0);
-    let left = served(alloc, &mut frags, Asked::Find(ROOT, b's'), 0);
-    let there = served(alloc, &mut frags, Asked::Find(ROOT, b't'), 0);
+fn pair_in(alloc: Global, frags: &mut PlainFrags, source: Stands, target: Stands) -> (Came, bool) {
+    let moving = make(alloc, frags, source, b's', FIRST);
+    let replaced = make(alloc, frags, target, b't', FIRST + 2);
+    let answer = served(alloc, frags, Asked::Rename(ROOT, b's', ROOT, b't'), 0);
+    let left = served(alloc, frags, Asked::Find(ROOT, b's'), 0);
+    let there = served(alloc, frags, Asked::Find(ROOT, b't'), 0);
     if answer == Came::Done {
         (answer, left == Came::Errno(2) && there == moving)
     } else {
         (answer, left == moving && there == replaced)
     }
+}
+
+fn pair(alloc: Global, source: Stands, target: Stands) -> (Came, bool) {
+    let mut frags = PlainFrags::new(alloc);
+    pair_in(alloc, &mut frags, source, target)
 }
 
 // The first pair that comes to something else.
