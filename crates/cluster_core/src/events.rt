@@ -52,6 +52,28 @@ impl Event {
     pub fn try_clone(&self) -> Result<Event, AllocError>
         ensures { IfOk result (λ copy. copy ≡ self.now) }
     {
-        self.clone()
+        match self {
+            Event::Arrive { rank, request } => Ok(Event::Arrive {
+                rank: *rank,
+                request: request.try_clone()?,
+            }),
+            Event::Serve { rank } => Ok(Event::Serve { rank: *rank }),
+            Event::Split {
+                rank,
+                ino,
+                frag,
+                bits,
+            } => Ok(Event::Split {
+                rank: *rank,
+                ino: *ino,
+                frag: *frag,
+                bits: *bits,
+            }),
+            Event::Merge { rank, ino, frag } => Ok(Event::Merge {
+                rank: *rank,
+                ino: *ino,
+                frag: *frag,
+            }),
+        }
     }
 }
