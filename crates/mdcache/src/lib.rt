@@ -13,6 +13,7 @@ mod laws;
 mod leaves;
 mod mdcache;
 mod purging;
+mod removing;
 mod setting;
 mod trees;
 
