@@ -22,12 +22,12 @@ use Rattle.dentry_cache.proofs.LeafLaws.{one_leaf}
 use Rattle.dentry_cache.proofs.TieLaws.{changed_are_tied, used_are_tied}
 use Rattle.inode_table.specs.Dirs.{Table}
 use Rattle.namespace_ops.specs.Changes.{MayChange}
-use Rattle.namespace_ops.specs.declared.plans.Change.TheVariants.{Set}
+use Rattle.namespace_ops.specs.declared.plans.Change.TheVariants.{Remove, Set}
 use Rattle.purge_list.specs.PurgeList.{Listed}
 use Rattle.standing_jobs.specs.StandingJobs.{Standing}
 use Rattle.mdcache.specs.declared.mdcache.Counters.{Counters}
 use Rattle.mdcache.specs.Cached.{AreLive, AreMade, IsKept, state_of}
-use Rattle.mdcache.specs.Changes.{Counts, IsAsItStands, IsNamed, dirtied}
+use Rattle.mdcache.specs.Changes.{Counts, IsAsItStands, IsNamed, Makes, dirtied}
 use Rattle.mdcache.specs.Made.{IsRight}
 use Rattle.mdcache.specs.Shown.{shown_tree}
 use Rattle.mdcache.specs.Sound.{IsSound}
@@ -149,3 +149,15 @@ pub put_right : (dirs : Table) (cache : Held) (objects : Objects) (jobs : Standi
 put_right dirs cache objects jobs purge next kept dentry f inode cache' changed may =
     changes_are_right (Set dentry f inode) (state_of dirs cache objects jobs purge next) (state_of dirs cache' objects jobs purge (record { job = next.job; generation = next.generation; version = next.version + 1 })) kept.sound tt may
     (put_named dirs cache objects jobs purge next kept (dentry.dir, f) dentry.name (Some inode) cache' changed)
+
+-- an entry that may go, and is no directory, is gone
+module _ (dirs : Table) (cache : Held) (objects : Objects) (jobs : Standing) (purge : Listed) (next : Counters) (kept : IsKept (state_of dirs cache objects jobs purge next) cache) (dentry : Dentry) (f : Fragment) (cache' : Held)
+    (changed : IsChanged (cached cache.entries (dentry.dir, f)) (λ (g now : Cached). now ≡ marked g dentry.name (record { version = next.version; inode = None })) (dentry.dir, f) cache cache') where
+  abbrev erased : State
+  erased = state_of dirs cache' objects jobs purge (record { job = next.job; generation = next.generation; version = next.version + 1 })
+
+  pub erased_made : Makes (Remove dentry f None) (state_of dirs cache objects jobs purge next) erased
+  erased_made = (erased, put_named dirs cache objects jobs purge next kept (dentry.dir, f) dentry.name None cache' changed, refl)
+
+  pub erased_right : MayChange (shown_tree (state_of dirs cache objects jobs purge next)) dirs.trees (Remove dentry f None) → IsRight (Remove dentry f None) (state_of dirs cache objects jobs purge next) erased
+  erased_right may = changes_are_right (Remove dentry f None) (state_of dirs cache objects jobs purge next) erased kept.sound tt may erased_made

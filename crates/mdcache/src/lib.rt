@@ -16,6 +16,7 @@ mod leaves;
 mod mdcache;
 mod purging;
 mod reading;
+mod removing;
 mod setting;
 mod trees;
 
