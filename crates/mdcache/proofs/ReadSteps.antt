@@ -25,6 +25,7 @@ use Rattle.mdcache.specs.Reads.{IsLeafOf, Reads}
 use Rattle.mdcache.specs.Shown.{names_of, shown_at, shown_tree}
 use Rattle.mdcache.specs.Sound.{IsSaved}
 use Rattle.mdcache.specs.State.{IsLive, State, UnsavedLeaves}
+use Rattle.mdcache.proofs.CachedLaws.{read_made}
 use Rattle.mdcache.proofs.EndLaws.{cached_shows}
 use Rattle.mdcache.proofs.TreeLookups.{at_dentry}
 
@@ -74,6 +75,7 @@ module _ (dirs : Table) (cache : Held) (objects : Objects) (jobs : Standing) (pu
       sound = kept.sound;
       live = λ leaf f is. read_live leaf f (reads.from leaf f is);
       tied = λ leaf f is. read_tied leaf f (reads.from leaf f is);
+      made = read_made next.generation May objects cache cache' reads.from kept.made;
     })
 
     pub names_then : (leaf : Leaf) (f : Cached) → cached cache'.entries leaf ≡ Some f → names_of s.unsaved s.objects leaf ≡ shown f
