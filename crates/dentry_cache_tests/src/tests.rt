@@ -6,3 +6,5 @@ mod fetches;
 mod fixtures;
 mod orders;
 mod refused_growths;
+mod splits;
+mod splitting;

@@ -1,8 +1,10 @@
 //! What commits leave.
 
-use crate::tests::fixtures::{DIR, begin, cache, commit, end, erase, files, make, mode_of, put};
+use crate::tests::fixtures::{
+    DIR, begin, cache, commit, end, erase, files, make, mode_of, put, store_files,
+};
 use dentry_cache::Cache;
-use mds_types::{Frag, Refusal};
+use mds_types::{Frag, Ino, Refusal};
 use objstore::{FaultStore, MemStore, Store};
 use std::alloc::Global;
 
@@ -110,6 +112,42 @@ fn a_fault_leaves_all_dirty(rt: HostRuntime) {
     let mut store = FaultStore::new(MemStore::new(rt.alloc()), 2);
     match two_files(rt.alloc(), &mut store) {
         Some(mut cache) => assert!(rt; is_written_again(rt.alloc(), &mut store, &mut cache)),
+        None => assert!(rt; false),
+    }
+}
+
+// Whether the snapshot of a change stands while another fragment is fetched and goes, and its commit then ends.
+fn stands_across_evictions(alloc: Global, store: &mut MemStore, cache: &mut Cache) -> bool {
+    let Some(encoded) = begin_change(alloc, cache) else {
+        return false;
+    };
+    comes_and_goes(alloc, store, cache)
+        && comes_and_goes(alloc, store, cache)
+        && cache.evict() == Err(Refusal::NothingToEvict)
+        && end(alloc, cache, store, &encoded)
+        && is_clean(cache)
+        && cache.evict().is_ok()
+        && cache.fetch(alloc, store, DIR, Frag::ROOT, None).is_ok()
+        && mode_of(alloc, cache, DIR, Frag::ROOT, 0) == Some(0o640)
+}
+
+// Whether the fragment of another directory is fetched, and goes.
+fn comes_and_goes(alloc: Global, store: &mut MemStore, cache: &mut Cache) -> bool {
+    let other = Ino(2);
+    cache.fetch(alloc, store, other, Frag::ROOT, None).is_ok()
+        && cache.len() == 2
+        && cache.evict().is_ok()
+        && !cache.has_place(other, Frag::ROOT)
+}
+
+#[test]
+fn a_snapshot_stands_across_evictions(rt: HostRuntime) {
+    let mut store = MemStore::new(rt.alloc());
+    assert!(rt; store_files(rt.alloc(), &mut store, Ino(2), Frag::ROOT, 1));
+    match two_files(rt.alloc(), &mut store) {
+        Some(mut cache) => {
+            assert!(rt; stands_across_evictions(rt.alloc(), &mut store, &mut cache));
+        }
         None => assert!(rt; false),
     }
 }

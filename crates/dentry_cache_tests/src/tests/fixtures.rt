@@ -61,8 +61,8 @@ pub fn is_there(cache: &Cache, dir: Ino, frag: Frag) -> bool
     cache.get(dir, frag).is_some()
 }
 
-// Whether the fragment is there, and has room for a change.
-fn has_room(cache: &Cache, dir: Ino, frag: Frag) -> bool
+/// Whether the fragment is there, and has room for a change.
+pub fn has_room(cache: &Cache, dir: Ino, frag: Frag) -> bool
     ensures { IsTrue result → HasRoom (cached cache.now.entries (dir, frag)) }
 {
     match cache.get(dir, frag) {
@@ -218,8 +218,8 @@ pub fn store_files(alloc: Global, store: &mut MemStore, dir: Ino, frag: Frag, co
         && commit(alloc, &mut cache, store, dir, frag)
 }
 
-// Whether the fragment is there, and is ready to give its names away.
-fn is_ready(cache: &Cache, dir: Ino, frag: Frag) -> bool
+/// Whether the fragment is there, and is ready to give its names away.
+pub fn is_ready(cache: &Cache, dir: Ino, frag: Frag) -> bool
     ensures { IsTrue result → HasCached (cached cache.now.entries (dir, frag)) (λ (f : Cached). map.len f.dirty ≤ f.places) }
 {
     match cache.get(dir, frag) {

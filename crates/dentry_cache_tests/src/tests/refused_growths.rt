@@ -1,6 +1,7 @@
 //! A script of calls with each growth refused in turn: a refused call leaves what was there, and then succeeds.
 
 use crate::tests::fixtures::{DIR, cache, commit, erase, files, give_names, make, mode_of, put};
+use crate::tests::splitting::{merge, split};
 use dentry_cache::Cache;
 use mds_types::{Frag, Ino};
 use objstore::MemStore;
@@ -16,6 +17,8 @@ enum Call {
     Forget(Ino),
     Fetch(Ino),
     Give(u64),
+    Split(u64),
+    Merge(u64),
 }
 
 // The directory whose fragment takes the names of the first one.
@@ -31,17 +34,42 @@ struct Seen {
     third: Option<u16>,
 }
 
-fn shown(alloc: Global, cache: &mut Cache, dir: Ino) -> Seen {
-    let clean = match cache.get(dir, Frag::ROOT) {
+fn shown(alloc: Global, cache: &mut Cache, dir: Ino, frag: Frag) -> Seen {
+    let clean = match cache.get(dir, frag) {
         Some(fragment) => Some(fragment.is_clean()),
         None => None,
     };
     Seen {
         clean,
-        files: files(cache, dir, Frag::ROOT),
-        first: mode_of(alloc, cache, dir, Frag::ROOT, 0),
-        second: mode_of(alloc, cache, dir, Frag::ROOT, 1),
-        third: mode_of(alloc, cache, dir, Frag::ROOT, 2),
+        files: files(cache, dir, frag),
+        first: mode_of(alloc, cache, dir, frag, 0),
+        second: mode_of(alloc, cache, dir, frag, 1),
+        third: mode_of(alloc, cache, dir, frag, 2),
+    }
+}
+
+// What it shows of the fragments that the script changes.
+#[derive(Clone, Copy, PartialEq, Eq)]
+struct SeenAll {
+    first: Seen,
+    into: Seen,
+    low: Seen,
+    high: Seen,
+}
+
+fn shown_all(alloc: Global, cache: &mut Cache) -> SeenAll {
+    let (mut low, mut high) = (Frag::ROOT, Frag::ROOT);
+    if let Some(half) = Frag::ROOT.child(0, 1) {
+        low = half;
+    }
+    if let Some(half) = Frag::ROOT.child(1, 1) {
+        high = half;
+    }
+    SeenAll {
+        first: shown(alloc, cache, DIR, Frag::ROOT),
+        into: shown(alloc, cache, INTO, Frag::ROOT),
+        low: shown(alloc, cache, INTO, low),
+        high: shown(alloc, cache, INTO, high),
     }
 }
 
@@ -60,19 +88,19 @@ fn does(alloc: Global, cache: &mut Cache, store: &mut MemStore, call: Call) -> b
         }
         Call::Fetch(dir) => cache.fetch(alloc, store, dir, Frag::ROOT, None).is_ok(),
         Call::Give(version) => give_names(alloc, cache, DIR, INTO, version),
+        Call::Split(version) => split(alloc, cache, store, INTO, Frag::ROOT, 1, version),
+        Call::Merge(version) => merge(alloc, cache, INTO, version),
     }
 }
 
 // Whether a call succeeds, or leaves what was there and then succeeds.
 fn is_left_or_done(alloc: Global, cache: &mut Cache, store: &mut MemStore, call: Call) -> bool {
-    let (before, other) = (shown(alloc, cache, DIR), shown(alloc, cache, INTO));
+    let before = shown_all(alloc, cache);
     does(alloc, cache, store, call)
-        || shown(alloc, cache, DIR) == before
-            && shown(alloc, cache, INTO) == other
-            && does(alloc, cache, store, call)
+        || shown_all(alloc, cache) == before && does(alloc, cache, store, call)
 }
 
-const SCRIPT: [Call; 14] = [
+const SCRIPT: [Call; 18] = [
     Call::Make,
     Call::Put(0, 0o644, 1),
     Call::Put(1, 0o644, 2),
@@ -86,6 +114,10 @@ const SCRIPT: [Call; 14] = [
     Call::Give(6),
     Call::Commit(INTO),
     Call::Forget(INTO),
+    Call::Fetch(INTO),
+    Call::Split(7),
+    Call::Merge(8),
+    Call::Commit(INTO),
     Call::Fetch(INTO),
 ];
 
