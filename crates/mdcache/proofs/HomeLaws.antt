@@ -23,7 +23,7 @@ use Rattle.cached_frag.proofs.ShownLaws.{only_below}
 use Rattle.dentry_cache.specs.Cache.{Leaf, Unsaved, leaf_is}
 use Rattle.dentry_cache.specs.Loading.{object_of}
 use Rattle.dentry_cache.proofs.LeafLaws.{leaf-total, leaf_itself, leaf_or_apart, tied_leaf}
-use Rattle.inode_table.specs.declared.homes.Home.{Home}
+use Rattle.inode_table.specs.declared.dirs.Home.{Home}
 use Rattle.inode_table.specs.Dirs.{Covers, Homes, IsTable, MayCome, MayMove, is_known, leaves_of, or_whole}
 use Rattle.inode_table.specs.TreeTable.{home_at, with_home}
 use Rattle.inode_table.proofs.Tables.{adopted_table, known_by, moved_table, still_known}
