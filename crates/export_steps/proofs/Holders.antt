@@ -68,8 +68,7 @@ module _ (standing : Standing) (roots : Roots) (homes : Homes) (covers : Covers)
   pub region_frozen : (root : Leaf) → NearestRoot roots homes covers leaf root → IsFrozen standing roots homes covers leaf ↔ IsFrozen standing roots homes covers root
   region_frozen root near =
       let ranked = is_ranked roots homes covers leaf root near in
-      let own : NearestRoot roots homes covers root root = itself root ranked.0 ranked.1 in
-      (
+      let own : NearestRoot roots homes covers root root = itself root ranked.0 ranked.1 in (
         λ frozen.
             let same : frozen.root ≡ root = one_root roots homes covers leaf frozen.root root frozen.nearest near in
             record { root = root; export = frozen.export; nearest = own; stands = ap (map.get standing) (sym same) ∙ frozen.stands; freezing = frozen.freezing },

@@ -1,0 +1,5 @@
+//! The tree over a cache and a store by hand-known answers.
+
+mod faults;
+mod fixtures;
+mod roots;
