@@ -1,9 +1,8 @@
 //! Pages of the names of a directory whose leaves' names are interleaved.
 
 use leaf_maps::LeafMaps;
-use mds_types::{Frag, Ino, Inode, Kind, Mode, Name, PageSize};
-use std::alloc::Global;
-use std::test::Fail;
+use mds_types::{Frag, Ino, Inode, Kind, Listing, Mode, Name, PageSize};
+use std::alloc::{AllocError, Global};
 
 // Leaf by leaf: the directory, the fragment's value and bits, and the names, a letter each. Directory 7 has a leaf
 // without names, directory 8 has no leaf, and the first leaf of directory 9 has no names.
@@ -39,72 +38,149 @@ const PAGES: [(u64, u8, u16, &str); 15] = [
 ];
 
 // An inode that tells its directory as its size, and its name as its time.
-fn inode(dir: u64, letter: u8) -> Option<Inode> {
-    Some(Inode {
+fn inode(mode: Mode, dir: u64, letter: u8) -> Inode {
+    Inode {
         ino: Ino(2),
         kind: Kind::File,
-        mode: Mode::new(0o644)?,
+        mode,
         size: dir,
         mtime: u64::from(letter),
-    })
+    }
+}
+
+// Gives a leaf a name of one letter. False where memory is refused.
+fn put(alloc: Global, leaves: &mut LeafMaps, mode: Mode, dir: u64, leaf: Frag, letter: u8) -> bool {
+    if leaves.reserve(alloc, Ino(dir), leaf).is_err() {
+        return false;
+    }
+    match Name::from_bytes(alloc, &[letter]) {
+        Ok(name) => {
+            leaves.put(Ino(dir), leaf, name, inode(mode, dir, letter));
+            true
+        }
+        Err(_) => false,
+    }
 }
 
 // Gives a leaf these names. Of one without names its row is kept.
-fn fill(alloc: Global, leaves: &mut LeafMaps, dir: u64, leaf: Frag, names: &str) -> Option<()> {
-    leaves.reserve(alloc, Ino(dir), leaf).ok()?;
+fn fill(
+    alloc: Global,
+    leaves: &mut LeafMaps,
+    mode: Mode,
+    dir: u64,
+    leaf: Frag,
+    names: &str,
+) -> bool {
+    let mut all = leaves.reserve(alloc, Ino(dir), leaf).is_ok();
     for letter in names.bytes() {
-        leaves.reserve(alloc, Ino(dir), leaf).ok()?;
-        let name = Name::from_bytes(alloc, &[letter]).ok()?;
-        leaves.put(Ino(dir), leaf, name, inode(dir, letter)?);
+        all = put(alloc, leaves, mode, dir, leaf, letter) && all;
     }
-    Some(())
+    all
 }
 
-fn leaves(alloc: Global) -> Option<LeafMaps> {
-    let mut leaves = LeafMaps::new(alloc);
+// Gives all leaves their names. False where one is no fragment or memory is refused.
+fn fill_all(alloc: Global, leaves: &mut LeafMaps) -> bool {
+    let Some(mode) = Mode::new(0o644) else {
+        return false;
+    };
+    let mut all = true;
     for (dir, value, bits, names) in &LEAVES {
-        fill(alloc, &mut leaves, *dir, Frag::new(*value, *bits)?, names)?;
+        all = match Frag::new(*value, *bits) {
+            Some(leaf) => fill(alloc, leaves, mode, *dir, leaf, names) && all,
+            None => false,
+        };
     }
-    Some(leaves)
+    all
 }
 
-// What a page has: the letters of its names, a `?` behind one that has another's inode, and a `+` if more follow.
-fn page(alloc: Global, leaves: &LeafMaps, dir: u64, after: u8, max: u16) -> Option<Vec<u8>> {
-    let name = Name::from_bytes(alloc, &[after]).ok();
-    let (listing, more) = leaves
-        .list_after(alloc, Ino(dir), name.as_ref(), PageSize::new(max)?)
-        .ok()?;
-    let mut text = Vec::new(alloc);
-    for entry in listing.as_slice() {
-        let letter = *entry.0.as_bytes().first()?;
-        text.push(letter).ok()?;
-        if entry.1.size != dir || entry.1.mtime != u64::from(letter) {
-            text.push(b'?').ok()?;
+// Puts the letter of a name at the end, and a `?` if it has another's inode.
+fn print(text: &mut Vec<u8>, dir: u64, name: &Name, inode: &Inode) -> Result<(), AllocError> {
+    for letter in name.as_bytes() {
+        text.push(*letter)?;
+        if inode.size != dir || inode.mtime != u64::from(*letter) {
+            text.push(b'?')?;
         }
     }
-    if more {
-        text.push(b'+').ok()?;
+    Ok(())
+}
+
+// Puts the names of a page at the end, and a `+` if more follow.
+fn print_all(text: &mut Vec<u8>, dir: u64, page: &(Listing, bool)) -> Result<(), AllocError> {
+    for entry in page.0.as_slice() {
+        print(text, dir, &entry.0, &entry.1)?;
     }
-    Some(text)
+    if page.1 {
+        text.push(b'+')?;
+    }
+    Ok(())
+}
+
+// Whether a page, printed, is this text.
+fn shows(alloc: Global, dir: u64, page: &(Listing, bool), wanted: &str) -> bool {
+    let mut text = Vec::new(alloc);
+    let printed = print_all(&mut text, dir, page);
+    printed.is_ok() && text.as_slice() == wanted.as_bytes()
+}
+
+// Whether the page behind a name, if there is one, is this text.
+fn has_page(
+    alloc: Global,
+    leaves: &LeafMaps,
+    dir: u64,
+    after: Option<&Name>,
+    max: u16,
+    wanted: &str,
+) -> bool {
+    let Some(max) = PageSize::new(max) else {
+        return false;
+    };
+    match leaves.list_after(alloc, Ino(dir), after, max) {
+        Ok(page) => shows(alloc, dir, &page, wanted),
+        Err(_) => false,
+    }
+}
+
+// The same with the name's letter, 0 for none.
+fn has_page_after(
+    alloc: Global,
+    leaves: &LeafMaps,
+    dir: u64,
+    after: u8,
+    max: u16,
+    wanted: &str,
+) -> bool {
+    if after == 0 {
+        return has_page(alloc, leaves, dir, None, max, wanted);
+    }
+    match Name::from_bytes(alloc, &[after]) {
+        Ok(name) => has_page(alloc, leaves, dir, Some(&name), max, wanted),
+        Err(_) => false,
+    }
 }
 
 #[test]
-fn a_page_is_of_all_leaves_in_one_order(rt: HostRuntime) -> Result<(), Fail> {
-    let leaves = leaves(rt.alloc()).ok_or("no leaves")?;
+fn a_page_is_of_all_leaves_in_one_order(rt: HostRuntime) {
+    let alloc = rt.alloc();
+    let mut leaves = LeafMaps::new(alloc);
+    assert!(rt; fill_all(alloc, &mut leaves));
     for (dir, after, max, names) in &PAGES {
-        let text = page(rt.alloc(), &leaves, *dir, *after, *max).ok_or("no page")?;
-        assert_eq!(rt; text.as_slice(), names.as_bytes());
+        assert!(rt; has_page_after(alloc, &leaves, *dir, *after, *max, names));
     }
-    Ok(())
+}
+
+// Whether just the directories 7 and 8 of five are empty.
+fn are_empty(leaves: &LeafMaps) -> bool {
+    !leaves.is_empty(Ino(4))
+        && !leaves.is_empty(Ino(5))
+        && leaves.is_empty(Ino(7))
+        && leaves.is_empty(Ino(8))
+        && !leaves.is_empty(Ino(9))
 }
 
 #[test]
-fn a_directory_is_empty_where_no_leaf_has_a_name(rt: HostRuntime) -> Result<(), Fail> {
-    let leaves = leaves(rt.alloc()).ok_or("no leaves")?;
-    assert!(rt; !leaves.is_empty(Ino(4)));
-    assert!(rt; !leaves.is_empty(Ino(5)));
-    assert!(rt; leaves.is_empty(Ino(7)));
-    assert!(rt; leaves.is_empty(Ino(8)));
-    assert!(rt; !leaves.is_empty(Ino(9)));
-    Ok(())
+fn a_directory_is_empty_where_no_leaf_has_a_name(rt: HostRuntime) {
+    let alloc = rt.alloc();
+    let mut leaves = LeafMaps::new(alloc);
+    assert!(rt; fill_all(alloc, &mut leaves));
+    assert!(rt; are_empty(&leaves));
 }
