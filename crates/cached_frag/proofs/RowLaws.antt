@@ -10,6 +10,7 @@ use Rattle.std.specs.FinMap.{find, is_sorted, entries_sorted, get-entries}
 use Rattle.std.specs.FinMap.Entries.{below_all, by_order, find-where_key, is_sorted-where_key, same_entries, where_key}
 use Rattle.std.proofs.lemmas.Map.Lookups.{exact_bytes}
 use Rattle.sorted_map.proofs.Bools.{both_of, left_of, right_of}
+use Rattle.sorted_map.proofs.Filters.{all_kept}
 use Rattle.mds_types.specs.Step.{is_after}
 use Rattle.mds_types.specs.declared.inodes.Inode.{Inode}
 use Rattle.omap.specs.Omap.{key_cmp}
@@ -205,9 +206,5 @@ pub first_is : {A : Type 0} (es : List A) (x : A) → first_of es ≡ Some x →
 first_is [] x is = absurd cc
 first_is (y ∷ rest) x is = let same : y ≡ x = cc in (rest, ap (λ z. z ∷ rest) same)
 
-all_of : {A : Type 0} (es : List A) → filter (λ _. true) es ≡ es
-all_of [] = refl
-all_of (x ∷ es) = ap (λ l. x ∷ l) (all_of es)
-
 pub all_rows_are : (clean : Names) (dirty : Marks) → merged (map.entries clean) (map.entries dirty) ≡ rows_after None (map.entries (patched clean dirty))
-all_rows_are clean dirty = (λ i. merged (sym (all_of (map.entries clean)) i) (sym (all_of (map.entries dirty)) i)) ∙ rows_are clean dirty None
+all_rows_are clean dirty = (λ i. merged (sym (all_kept (map.entries clean)) i) (sym (all_kept (map.entries dirty)) i)) ∙ rows_are clean dirty None

@@ -75,11 +75,6 @@ settled_is dirty snap = one_map _ _ (λ q.
     get-settled_in dirty (map.entries snap) q (entries_sorted snap) ∙ ap (λ (r : Option Mark). cond (is_settled (map.get dirty q) r) None (map.get dirty q)) (sym (get-entries snap q))
     ∙ sym (cond_not (is_settled (map.get dirty q) (map.get snap q)) (map.get dirty q) None) ∙ sym (get-unsettled dirty snap q))
 
--- the dirty names that the function takes out or leaves
-pub taken_settled : (old new : Marks) (name : List ℕ) (version : ℕ) (taken : Option (List ℕ × Mark)) → IsTaken old new name version taken → new ≡ settled_one old name version
-taken_settled old new name version (Some pair) is = is.3 ∙ sym (ap (λ (b : Bool). cond b (map.remove old name) old) is.2)
-taken_settled old new name version None is = is.1 ∙ sym (ap (λ (b : Bool). cond b (map.remove old name) old) is.0)
-
 -- ---- what a taken name leaves
 
 module _ (clean after : Names) (old new : Marks) (name : List ℕ) (version : ℕ) (pair : List ℕ × Mark) (taken : IsTaken old new name version (Some pair)) (put : after ≡ with_mark clean pair.0 pair.1.inode) where

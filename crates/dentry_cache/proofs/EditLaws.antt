@@ -72,10 +72,6 @@ cached_now : (leaf : Leaf) (f : Cached) (old new : Held) → new ≡ used_as lea
 cached_now leaf f old new is =
     ap (λ (h : Held). cached h.entries leaf) is ∙ ap (λ (b : Bool). fragment_in (cond b (Some (held f)) (lookup (leaf_is leaf) (remove_entry (leaf_is leaf) old.entries)))) (leaf_itself leaf)
 
-pub changed_there : (Change : Cached → Cached → Type 0) (leaf : Leaf) (old new : Held) (o : Option Cached) → IsChanged o Change leaf old new → IsThere (cached new.entries leaf)
-changed_there Change leaf old new (Some f) c = subst IsThere (sym (cached_now leaf c.0 old new c.2)) tt
-changed_there Change leaf old new None c = absurd c
-
 pub changed_twice : (First Then Both : Cached → Cached → Type 0) (leaf : Leaf) (old mid new : Held) (o : Option Cached) → ((f m now : Cached) → First f m → Then m now → Both f now) → IsChanged o First leaf old mid
     → IsChanged (cached mid.entries leaf) Then leaf mid new → IsChanged o Both leaf old new
 changed_twice First Then Both leaf old mid new None join c d = absurd c

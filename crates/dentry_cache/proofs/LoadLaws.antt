@@ -5,7 +5,8 @@ use Rattle.std.specs.Ordering.{eq_by_cmp}
 use Rattle.std.proofs.lemmas.Bool.Decides.{nat_tests}
 use Rattle.std.specs.FinMap as map
 use Rattle.std.specs.FinMap.{find, is_sorted, entries_sorted, get-empty, get-entries}
-use Rattle.sorted_map.proofs.Bools.{first_true, left_of, right_of, second_true}
+use Rattle.sorted_map.proofs.Bools.{both_true, first_true, left_of, right_of, second_true}
+use Rattle.sorted_map.proofs.Filters.{all_kept}
 use Rattle.sorted_map.specs.SortedMap.{Shown, contents}
 use Rattle.mds_types.specs.Frag.{Contains, Fragment, span}
 use Rattle.mds_types.specs.Name.{IsName}
@@ -107,12 +108,8 @@ good_found frag (e ∷ es) key bytes good is = go (good_found frag es key bytes 
 good_among : (frag : Fragment) (es : List (List ℕ × List ℕ)) → T (is_sorted key_cmp es) → ((key bytes : List ℕ) → find key_cmp key es ≡ Some bytes → is_good frag (key, bytes) ≡ true) → are_good frag es ≡ true
 good_among frag [] sorted each = refl
 good_among frag (e ∷ es) sorted each =
-    both (is_good frag e) (are_good frag es) (each e.0 e.1 (ap (λ (b : Bool). cond b (Some e.1) (find key_cmp e.0 es)) (key_same e.0 e.0 refl)))
+    both_true (is_good frag e) (are_good frag es) (each e.0 e.1 (ap (λ (b : Bool). cond b (Some e.1) (find key_cmp e.0 es)) (key_same e.0 e.0 refl)))
     (good_among frag es (right_of _ _ sorted) (λ key bytes is. each key bytes (behind key bytes is (same_or_apart key e.0))))
-  where
-    both : (a b : Bool) → a ≡ true → b ≡ true → (a && b) ≡ true
-    both true b p q = q
-    both false b p q = cc
 
     behind : (key bytes : List ℕ) → find key_cmp key es ≡ Some bytes → (key ≡ e.0) ⊎ (key ≡ e.0 → ⊥) → cond (eq_by_cmp key_cmp key e.0) (Some e.1) (find key_cmp key es) ≡ Some bytes
     behind key bytes is (inl same) = let clash : None ≡ Some bytes = sym (not_found e.0 key es same (left_of _ _ sorted)) ∙ is in absurd cc
@@ -132,13 +129,9 @@ contains_holds frag hash is = same ((hash % 2 ^ 24) / span frag.bits) (frag.valu
     same : (a b : ℕ) → a ≡ b → (a == b) ≡ true
     same a b h = grind (arith, nat_tests)
 
-all_of : {A : Type 0} (es : List A) → filter (λ _. true) es ≡ es
-all_of [] = refl
-all_of (x ∷ es) = ap (λ l. x ∷ l) (all_of es)
-
 all_pairs : (pairs : PairMap) → pairs_after pairs None ≡ map.entries pairs
 unfolding pairs_after
-all_pairs pairs = all_of (map.entries pairs)
+all_pairs pairs = all_kept (map.entries pairs)
 
 module _ (frag : Fragment) (pairs : PairMap) (names : Names) (good : are_good frag (pairs_after pairs None) ≡ true) (read : names ≡ added map.empty (pairs_after pairs None)) where
   abbrev es : List (List ℕ × List ℕ)

@@ -150,10 +150,6 @@ pub on_err : {A E P Q : Type 0} (r : Result A E) → (P → Q) → OnErr r P →
 on_err (Ok x) f h = tt
 on_err (Err e) f h = f h
 
-pub err_of : {A E P : Type 0} (r : Result A E) → P → OnErr r P
-err_of (Ok x) p = tt
-err_of (Err e) p = p
-
 -- ---- a clean fragment changes nothing of what isn't clean
 
 loaded_clean : (frag : Fragment) (object : Option Omap) (f : Cached) → Loads frag object (Some f) → unsaved_in (fragment_in (Some (held f))) ≡ None

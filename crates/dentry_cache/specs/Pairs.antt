@@ -1,4 +1,4 @@
--- Pairs of an object, read one after the other. Only this crate's own contracts use these words.
+-- Pairs of an object, read one after the other, and whether a leaf holds a name.
 use Rattle.std.specs.Prelude.{◌≡◌, ℕ, ◌-◌, length, ◌<◌, ◌⊎◌, slice_get, IsSome, ◌^◌, ◌/◌, ◌%◌, Bool, true, false, ◌==◌, List, [], ◌∷◌, Option, Some, None}
 use Rattle.std.specs.List.{list_all}
 use Rattle.std.specs.FinMap as map

@@ -14,6 +14,10 @@ use Rattle.dirfrag_codec.specs.Grammar.{Decodes}
 use Rattle.dirfrag_codec.specs.Reading.{◌>>=◌, IsFieldsOfLink, IsInodeOf, RecordFields, after_tag, byte_at, number_at, fields_at, fields_of_inode, fits_kind}
 use Rattle.dirfrag_codec.proofs.Front.{IsBytes, bind_some, both, byte_takes, guard_some, number_again, number_takes, tag_takes, width_2, width_8}
 
+-- whether a number is one that ranks give
+pub number_decides : (n : ℕ) → Decides (leb (2 ^ 40) n && ltb n (17 * 2 ^ 40)) (IsRankNumber n)
+number_decides n = (λ e. grind (arith, nat_tests), λ h. grind (arith, nat_tests))
+
 -- the bytes of fields, whatever they mean
 abbrev pub fields_bytes : RecordFields → List ℕ
 fields_bytes f = 73 ∷ 1 ∷ f.kind ∷ (little_bytes 8 f.ino ++ (little_bytes 2 f.mode ++ (little_bytes 8 f.size ++ (little_bytes 8 f.mtime ++ (little_bytes 2 (length f.target) ++ f.target)))))
@@ -124,9 +128,6 @@ link_fields f mode fits (three, target) =
   where
     same : f.kind ≡ 3 → fields_of_inode (record { ino = record { 0 = f.ino }; kind = Symlink f.target; mode = f.mode; size = f.size; mtime = f.mtime }) ≡ f
     same three = λ i. record { kind = (sym three) i; ino = f.ino; mode = f.mode; size = f.size; mtime = f.mtime; target = f.target }
-
-    number_decides : (n : ℕ) → Decides (leb (2 ^ 40) n && ltb n (17 * 2 ^ 40)) (IsRankNumber n)
-    number_decides n = (λ e. grind (arith, nat_tests), λ h. grind (arith, nat_tests))
 
 -- fields of a link are those of a link's record
 pub link_spelled : (bytes : List ℕ) (f : RecordFields) → IsBytes bytes → fields_at bytes ≡ Some f → IsFieldsOfLink f → SpellsLink bytes

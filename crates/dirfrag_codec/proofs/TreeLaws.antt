@@ -16,7 +16,7 @@ use Rattle.dirfrag_codec.specs.Reading.{◌>>=◌, after_tag, number_at, words_a
 use Rattle.dirfrag_codec.specs.TreeObject.{SpellsTree, StatesLeaves, leaf_bytes, tree_bytes}
 use Rattle.dirfrag_codec.proofs.Front.{IsBytes, IsBytes-drop, Takes-then, bind_some, both, guard_some, not_none, number_again, number_takes, some_is, tag_takes, width_2, width_4}
 
-word_low : (f : Fragment) → IsFragment f → word_of f < 256 ^ 4
+pub word_low : (f : Fragment) → IsFragment f → word_of f < 256 ^ 4
 word_low f h = omega (arith, h.few_bits, h.in_range)
 
 one_fragment : (f g : Fragment) → IsFragment f → IsFragment g → word_of f ≡ word_of g → f ≡ g

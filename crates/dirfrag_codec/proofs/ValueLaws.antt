@@ -28,7 +28,7 @@ use Rattle.dirfrag_codec.specs.TreeObject.{SpellsTree, leaf_bytes, tree_bytes}
 use Rattle.dirfrag_codec.specs.Values.{all_leaves_at, allows, do_tile, entry_of, fragment_of, front_of, has_size, has_target, header_of, inode_at, inode_with, is_fragment, is_header, is_name, is_record_v1, is_tree, kind_of, leaves_at, name_of, tree_of}
 use Rattle.dirfrag_codec.proofs.Front.{not_none, some_is}
 use Rattle.dirfrag_codec.proofs.HeaderLaws.{header_again}
-use Rattle.dirfrag_codec.proofs.RecordLaws.{fields_of_record}
+use Rattle.dirfrag_codec.proofs.RecordLaws.{fields_of_record, number_decides}
 use Rattle.dirfrag_codec.proofs.TreeLaws.{four_each, fragments_of, words_of_tree}
 
 -- what is read first and then asked for is read exactly, where each spelled value is read first
@@ -90,9 +90,6 @@ has_size_decides : (kind : Kind) (size : ℕ) → Decides (has_size kind size) (
 has_size_decides File size = (λ _. tt, λ _. refl)
 has_size_decides Dir size = Decides-eqb size 0
 has_size_decides (Symlink target) size = Decides-eqb size (length target)
-
-number_decides : (n : ℕ) → Decides (leb (2 ^ 40) n && ltb n (17 * 2 ^ 40)) (IsRankNumber n)
-number_decides n = Decides-like _ (λ p. record { least = p.0; most = p.1 }) (λ h. (h.least, h.most)) (Decides-and _ _ (le_decides (2 ^ 40) n) (Decides-ltb n (17 * 2 ^ 40)))
 
 allows_decides : (inode : Inode) → Decides (allows inode) (IsRecordable inode)
 allows_decides inode =

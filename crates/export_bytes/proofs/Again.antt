@@ -14,6 +14,7 @@ use Rattle.dirfrag_codec.specs.Reading.{◌>>=◌, byte_at, number_at}
 use Rattle.dirfrag_codec.specs.Values.{entry_of, is_fragment, is_name, is_record_v1}
 use Rattle.dirfrag_codec.proofs.Front.{both, number_again}
 use Rattle.dirfrag_codec.proofs.RecordLaws.{one_entry}
+use Rattle.dirfrag_codec.proofs.TreeLaws.{word_low}
 use Rattle.dirfrag_codec.proofs.ValueLaws.{fragment_again, fragment_decides, read_as, reads_entry, record_decides}
 use Rattle.commit_jobs.specs.declared.bases.Base.{Base}
 use Rattle.commit_jobs.specs.declared.bases.Base.TheVariants.{Fresh, Stored}
@@ -90,8 +91,8 @@ frag_again f is =
     let same = fragment_again f ((fragment_decides f).0 is) in
     ap (λ (g : Fragment). cond (is_fragment g) (Some g) None) same ∙ ap (λ (b : Bool). cond b (Some f) None) is
 
-pub word_low : (f : Fragment) → is_fragment f ≡ true → word_of f < 256 ^ 4
-word_low f is = let h = (fragment_decides f).0 is in omega (arith, h.few_bits, h.in_range)
+pub word_fits : (f : Fragment) → is_fragment f ≡ true → word_of f < 256 ^ 4
+word_fits f is = word_low f ((fragment_decides f).0 is)
 
 -- a base is read from its byte and its version
 record BaseAgain (base : Base) (rest : List ℕ) : Type 0 where
@@ -126,7 +127,7 @@ head_again f rest ino frag based few =
     let t2 = base_bytes f.base ++ t4 in
     let t1 = little_bytes 4 (word_of f.frag) ++ t2 in
     head_chain (head_of f) (word_of f.frag) b.byte b.version (little_bytes 8 f.ino.0 ++ t1) t1 t2 (little_bytes 8 b.version ++ t4) t4 rest
-    (number_again 8 f.ino.0 t1 (omega (arith, ino))) (number_again 4 (word_of f.frag) t2 (word_low f.frag frag)) (frag_again f.frag frag) b.byte_read
+    (number_again 8 f.ino.0 t1 (omega (arith, ino))) (number_again 4 (word_of f.frag) t2 (word_fits f.frag frag)) (frag_again f.frag frag) b.byte_read
     (number_again 8 b.version t4 b.low) b.made (number_again 4 (length f.names) rest (omega (arith, few))) based
 
 -- what a fragment that may be sent is
@@ -206,7 +207,7 @@ front_again e rest is =
     let t1 = little_bytes 4 (word_of e.frag) ++ t2 in
     ap (λ (t : List ℕ). front_at (88 ∷ 1 ∷ t)) (front_parts (little_bytes 8 e.ino.0) (little_bytes 4 (word_of e.frag)) (little_bytes 4 (length e.frags)) (flat_map frag_bytes e.frags) rest e.exporter.0 e.importer.0)
     ∙ front_chain (front_of e) (word_of e.frag) (little_bytes 8 e.ino.0 ++ t1) t1 t2 (e.importer.0 ∷ t4) t4 n
-    (number_again 8 e.ino.0 t1 (omega (arith, s.ino))) (number_again 4 (word_of e.frag) t2 (word_low e.frag s.frag)) (frag_again e.frag s.frag) refl refl (number_again 4 (length e.frags) n (omega (arith, s.few))) s.ranks
+    (number_again 8 e.ino.0 t1 (omega (arith, s.ino))) (number_again 4 (word_of e.frag) t2 (word_fits e.frag s.frag)) (frag_again e.frag s.frag) refl refl (number_again 4 (length e.frags) n (omega (arith, s.few))) s.ranks
 
 pub frags_again : (e : Export) (rest : List ℕ) → is_sendable e ≡ true → items_at sent_frag_at (length e.frags) (flat_map frag_bytes e.frags ++ rest) ≡ Some (e.frags, rest)
 frags_again e rest is = items_again sent_frag_at frag_bytes is_sent_frag sent_frag_again e.frags rest (sendable_parts e is).sent

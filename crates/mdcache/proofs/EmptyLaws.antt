@@ -9,16 +9,13 @@ use Rattle.std.proofs.lemmas.Slice.Eq.{bytes_eq-Decides}
 use Rattle.std.proofs.lemmas.Map.Lookups.{exact_bytes}
 use Rattle.std.specs.FinMap as map
 use Rattle.std.specs.FinMap.{empty_of_len, len-empty, len-entries, same_map}
+use Rattle.sorted_map.proofs.Filters.{all_kept}
 use Rattle.omap.specs.Omap.{Omap, PairMap, PairPage, key_cmp, page_of, pairs_after}
 use Rattle.mds_types.specs.Frag.{Fragment}
 use Rattle.objstore.specs.Objects.{Objects, NameList, first_names, header_at, names_after, page_at}
 use Rattle.dirfrag_codec.specs.TreeObject.{tree_bytes}
 use Rattle.mdcache.specs.Objects.{tree_object, with_tree_at}
 use Rattle.mdcache.proofs.TextLaws.{get_beside, get_put, key_itself, one_key}
-
-all_kept : {A : Type 0} (xs : List A) → filter (λ (x : A). true) xs ≡ xs
-all_kept [] = refl
-all_kept (x ∷ xs) = ap (λ ys. x ∷ ys) (all_kept xs)
 
 one_of_some : {A : Type 0} (x : A) (xs : List A) → (length (take 1 (x ∷ xs)) == 0) ≡ false
 one_of_some x xs = grind (arith, nat_tests)

@@ -49,9 +49,6 @@ alone p i t there elsewhere = same_map dentry-total dentry-exact (tree_of (Some 
 nothing_stands : (t : Tree) → ((q : Dentry) → map.get t q ≡ None) → tree_of None ≡ t
 nothing_stands t none = same_map dentry-total dentry-exact (tree_of None) t (λ q. get-empty dentry_cmp q ∙ sym (none q))
 
-pub after_add : (only : Option (Dentry × Inode)) (p : Dentry) (i : Inode) → only ≡ None → tree_of (Some (p, i)) ≡ map.insert (tree_of only) p i
-after_add only p i none = ap (λ o. map.insert (tree_of o) p i) (sym none)
-
 pub after_set : (only : Option (Dentry × Inode)) (p : Dentry) (i : Inode) → MaySet (tree_of only) p i → tree_of (Some (p, i)) ≡ map.insert (tree_of only) p i
 after_set None p i may = let clash : None ≡ Some may.before = sym (get-empty dentry_cmp p) ∙ may.stands in absurd cc
 after_set (Some (q, j)) p i may =

@@ -4,6 +4,7 @@ pub mod CloneLaws
 pub mod ContentLaws
 pub mod Decided
 pub mod EqualLaws
+pub mod Filters
 pub mod FlatLaws
 pub mod HomeLaws
 pub mod MapLaws

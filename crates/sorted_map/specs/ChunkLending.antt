@@ -3,7 +3,7 @@ use Rattle.std.specs.Prelude.{Bool, Option}
 use Rattle.std.specs.Borrow.{Fml, RattleType, MutBor, LendsIf}
 use Rattle.std.specs.FinMap as map
 use Rattle.std.specs.declared.cmp.Ordering.{Ordering}
-use Rattle.sorted_map.specs.contracts.chunk_map.ChunkMap.{the_row}
+use Rattle.sorted_map.specs.contracts.chunked.map.ChunkMap.{the_row}
 use Rattle.sorted_map.specs.SortedMap.{Shown, contents, shown}
 
 module _ (K V : RattleType) (cmp : K.Denot → K.Denot → Ordering) (eq : K.Denot → K.Denot → Bool) (partial_cmp : K.Denot → K.Denot → Option Ordering) where

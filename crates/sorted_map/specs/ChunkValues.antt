@@ -1,7 +1,7 @@
 -- What a chunk ends as, once a reference to a value of it has ended.
 use Rattle.std.specs.Prelude.{ℕ, List}
 use Rattle.std.specs.Borrow.{Fml, RattleType, MutBor, Lends}
-use Rattle.sorted_map.specs.contracts.chunk.Chunk.{the_row}
+use Rattle.sorted_map.specs.contracts.chunked.chunk.Chunk.{the_row}
 use Rattle.sorted_map.specs.Chunks.{with_value}
 
 module _ (K V : RattleType) where

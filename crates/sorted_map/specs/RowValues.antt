@@ -1,7 +1,7 @@
 -- What a row of chunks ends as, once a reference to a value of it has ended.
 use Rattle.std.specs.Prelude.{ℕ, [], slice_set, slice_index_or}
 use Rattle.std.specs.Borrow.{Fml, RattleType, MutBor, Lends}
-use Rattle.sorted_map.specs.contracts.chunks.Chunks.{the_row}
+use Rattle.sorted_map.specs.contracts.chunked.row.Chunks.{the_row}
 use Rattle.sorted_map.specs.Chunks.{Chunked, with_value}
 
 -- the chunks with another value at a place of one of them

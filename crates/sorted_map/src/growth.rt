@@ -4,8 +4,8 @@ ghost use Rattle.std.specs.FinMap as map;
 ghost use Rattle.sorted_map.specs.SortedMap.{contents};
 ghost use Rattle.sorted_map.specs.Overlay.{overlaid};
 
-use crate::chunk::MOST;
-use crate::chunk_map::ChunkMap;
+use crate::chunked::chunk::MOST;
+use crate::chunked::map::ChunkMap;
 use crate::keys::ExactOrd;
 use crate::map::{SortedMap, Store};
 use std::alloc::{AllocError, Global};

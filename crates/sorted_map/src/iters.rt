@@ -5,7 +5,7 @@ ghost use Rattle.std.specs.Iterator.SizeHint.{IsWithinCount};
 ghost use Rattle.sorted_map.specs.Chunks.{flat, total};
 ghost use Rattle.sorted_map.specs.Iters.{IsRest};
 
-use crate::chunk::Chunk;
+use crate::chunked::chunk::Chunk;
 use std::iter::FusedIterator;
 use std::marker::Model;
 

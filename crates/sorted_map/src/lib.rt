@@ -4,24 +4,11 @@
 //! reserves all the room of a step first, and then makes changes that are sure to be made.
 #![tactic(auto)]
 
-mod chunk;
-mod chunk_changes;
-mod chunk_edits;
-mod chunk_lends;
-mod chunk_map;
-mod chunk_places;
-mod chunk_ranges;
-mod chunk_removals;
-mod chunks;
+mod chunked;
 mod clones;
 mod compare;
 mod edits;
-mod flat_changes;
-mod flat_clones;
-mod flat_lends;
-mod flat_map;
-mod flat_ranges;
-mod flat_removals;
+mod flat;
 mod growth;
 mod iters;
 mod keys;

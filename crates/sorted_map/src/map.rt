@@ -4,8 +4,8 @@ ghost use Rattle.std.specs.FinMap as map;
 ghost use Rattle.std.specs.FinMap.{is_sorted};
 ghost use Rattle.sorted_map.specs.SortedMap.{contents, first_pair, last_pair};
 
-use crate::chunk_map::ChunkMap;
-use crate::flat_map::FlatMap;
+use crate::chunked::map::ChunkMap;
+use crate::flat::map::FlatMap;
 use crate::keys::{ExactOrd, Probe};
 use std::alloc::{AllocError, Global};
 use std::marker::Model;

@@ -1,0 +1,61 @@
+use Rattle.std.proofs.Common.{◌≡◌, ◌⊎◌, ◌<◌, ◌+◌, inl, ℕ, List, T, Some, Ordering, [], length, get_or, refl, set, sym, ap, ◌∙◌, arith}
+use Rattle.std.specs.FinMap as map
+use Rattle.std.specs.Cmp.{IsTotalOrder}
+use Rattle.std.specs.FinMap.Entries.{is_sorted}
+use Rattle.sorted_map.specs.Places.{IsAt}
+use Rattle.sorted_map.specs.Chunks.{flat, start, load, room_by, with_value}
+use Rattle.sorted_map.proofs.ChunkLaws.{one_of}
+use Rattle.sorted_map.proofs.ContentLaws.{put_in_place, value_at, got_gap}
+use Rattle.sorted_map.proofs.FlatLaws.{flat_get, some_set, value_flat, value_length}
+use Rattle.sorted_map.proofs.HomeLaws.{some_at}
+use Rattle.sorted_map.proofs.RoomLaws.{set_load}
+use Rattle.std.specs.FinMap.{entries-from_sorted}
+use Rattle.sorted_map.proofs.chunked.map.ChunkMap.get_mut.Goals as goal
+
+-- a loan is named alike, and leaves alike at each value that is written
+same_loan : {N D E : Type 0} (name : N) (f h : E → D) → ((w : E) → f w ≡ h w) → ◌≡◌ {A = (N × (E → D)) ⊎ D} (inl (name, f)) (inl (name, h))
+same_loan name f h e i = inl (name, λ w. e w i)
+
+-- a value that is written is inserted
+written : {K V : Type 0} {R : K → K → Ordering} (o : IsTotalOrder R) (k : K) (w : V) (cs : List (List (K × V))) (i at : ℕ) → T (is_sorted R (flat cs)) → IsAt R k (flat cs) (start cs i + at) → i < length cs → at < length (get_or cs i [])
+    → flat (set cs i (with_value (get_or cs i []) at w)) ≡ map.entries (map.insert (map.from_sorted {R = R} (flat cs)) k w)
+written {R = R} o k w cs i at s place lt within =
+    let new = put_in_place o k w (flat cs) _ _ s place (λ d. value_flat cs i at d w lt within) in
+    sym (entries-from_sorted R _ new.0) ∙ ap map.entries new.1
+
+same_load : {K V : Type 0} (cs : List (List (K × V))) (i at : ℕ) (w : V) → i < length cs → load (set cs i (with_value (get_or cs i []) at w)) ≡ load cs
+same_load cs i at w lt = omega (arith, set_load cs i (with_value (get_or cs i []) at w) lt, value_length (get_or cs i []) at w)
+
+-- the order does not read the values
+pub invariant_of-self-lent : goal.invariant_of-self-lent
+invariant_of-self-lent g c = λ w.
+    let cs = c.self.inside.chunks.lists in
+    let home = c.spot.result.0 in
+    let at = c.in_default-Ok.at in
+    let found = rw (c.in_default-Ok.is-1, c.row.ensures.row) at c.spot.ensures in
+    let len = value_length (get_or cs home []) at w in (
+      (put_in_place g.met.K.Ord.total (g.Q.Probe.key c.args.q.now) w (flat cs) _ _ c.self.invariant.0 found.place (λ d. value_flat cs home at d w found.found found.within)).0,
+      some_set cs home _ c.self.invariant.1 (omega (arith, len, some_at cs home found.found c.self.invariant.1)),
+    )
+
+pub returns-in_default-Ok : goal.returns-in_default-Ok
+returns-in_default-Ok g c =
+    let cs = c.self.inside.chunks.lists in
+    let home = c.spot.result.0 in
+    let at = c.in_default-Ok.at in
+    let found = rw (c.in_default-Ok.is-1, c.row.ensures.row) at c.spot.ensures in
+    let key = g.Q.Probe.key c.args.q.now in
+    let d = one_of (get_or cs home []) at found.within in
+    let value = c.value_mut.ensures.value d ∙ ap (λ x. x.1) (sym (flat_get cs home at d found.within)) in
+    rw (← c.self.view_is) (
+      same_loan _ _ _ (λ w i. record {
+        entries = written g.met.K.Ord.total key w cs home at c.self.invariant.0 found.place found.found found.within i;
+        room = room_by c.self.inside.chunks.spare (same_load cs home at w found.found i);
+      }),
+      record { writes_back = tt; value = ap Some value ∙ value_at _ _ c.self.invariant.0 _ _ d found.place },
+    )
+
+pub returns-in_default-Err : goal.returns-in_default-Err
+returns-in_default-Err g c =
+    let place = rw (c.in_default-Err.is-1, c.row.ensures.row) at c.spot.ensures.place in
+    rw (← c.self.view_is) (refl, record { writes_back = tt; value = got_gap _ _ c.self.invariant.0 _ _ place })

@@ -1,0 +1,10 @@
+use Rattle.std.proofs.Common.{sym, ap, ◌∙◌}
+use Rattle.std.specs.FinMap.{entries-from_sorted}
+use Rattle.std.specs.FinMap.Entries.{where_key}
+use Rattle.sorted_map.specs.SortedMap.{is_from}
+use Rattle.sorted_map.specs.Chunks.{flat}
+use Rattle.sorted_map.proofs.chunked.map.ChunkMap.iter_from.Goals as goal
+
+pub returns : goal.returns
+returns g c =
+    rw (← c.self.view_is) (c.pairs_from.ensures ∙ ap (where_key g.K.Ord.cmp (is_from g.K.Ord.cmp (g.Q.Probe.key c.args.q.now))) (ap flat c.row.ensures.row ∙ sym (entries-from_sorted _ _ c.self.invariant.0)))

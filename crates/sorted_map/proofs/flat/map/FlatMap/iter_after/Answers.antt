@@ -1,0 +1,9 @@
+use Rattle.std.proofs.Common.{◌∙◌}
+use Rattle.sorted_map.specs.SortedMap.{after}
+use Rattle.sorted_map.proofs.ContentLaws.{rest_shown}
+use Rattle.sorted_map.proofs.flat.map.FlatMap.iter_after.Goals as goal
+
+pub returns : goal.returns
+returns g c =
+    let part = after g.K.Ord.cmp (g.Q.Probe.key c.args.q.now) in
+    rw (← c.self.view_is) (c.of_pairs.ensures ∙ rest_shown _ _ c.self.invariant part _ _ c.deref-2.ensures.value (rw (c.deref.ensures.value, ← c.deref-2.ensures.value) at c.place_after-from.ensures.rest))

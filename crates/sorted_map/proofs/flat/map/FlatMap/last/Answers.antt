@@ -1,0 +1,7 @@
+use Rattle.std.proofs.Common.{◌-◌, length, slice_get, ap, ◌∙◌}
+use Rattle.sorted_map.proofs.ContentLaws.{last_shown}
+use Rattle.sorted_map.proofs.flat.map.FlatMap.last.Goals as goal
+
+pub returns : goal.returns
+returns g c =
+    rw (← c.self.view_is) (c.last.ensures.value ∙ ap (λ es. slice_get es (length es - 1)) c.deref.ensures.value ∙ last_shown _ _ c.self.invariant)

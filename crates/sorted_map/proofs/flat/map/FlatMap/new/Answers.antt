@@ -1,0 +1,8 @@
+use Rattle.std.proofs.Common.{length, ap, T, subst, sym}
+use Rattle.std.specs.FinMap.{is_sorted}
+use Rattle.sorted_map.proofs.ContentLaws.{empty_shown}
+use Rattle.sorted_map.proofs.flat.map.FlatMap.new.Goals as goal
+
+pub returns-clause-empty : goal.returns-clause-empty
+returns-clause-empty g c =
+    empty_shown _ _ (subst (λ es. T (is_sorted g.K.Ord.cmp es)) (sym c.new.ensures.items) tt) (ap length c.new.ensures.items)

@@ -1,0 +1,58 @@
+//! Where a key stands among pairs in chunks.
+ghost use Rattle.std.specs.Prelude.{◌≡◌, ◌<◌, [], T, OnOk, length, slice_index_or};
+ghost use Rattle.std.specs.List.Sorted.{IsSearchInRange};
+ghost use Rattle.std.specs.FinMap.{is_sorted};
+ghost use Rattle.sorted_map.specs.Places.{IsPlace};
+ghost use Rattle.sorted_map.specs.Chunks.{flat, place_in, starts_above, AllSome, IsHome};
+
+use crate::chunked::chunk::Chunk;
+use crate::keys::Probe;
+use crate::places::place;
+
+/// The chunk of the probe's key, and its place there, or that where it would go.
+pub(crate) fn spot<K: Ord, V, Q: Probe<K>>(
+    chunks: &[Chunk<K, V>],
+    q: &Q,
+) -> (usize, Result<usize, usize>)
+    requires sorted { T (is_sorted K.cmp (flat chunks.now)) }
+    requires some { AllSome chunks.now }
+    ensures found { OnOk result.1 (result.0 < length chunks.now) }
+    ensures home { 0 < length chunks.now → result.0 < length chunks.now }
+    ensures within { IsSearchInRange result.1 (length (slice_index_or chunks.now result.0 [])) }
+    ensures place { IsPlace K.cmp (Q.key q.now) (flat chunks.now) (place_in chunks.now result.0 result.1) }
+{
+    if chunks.is_empty() {
+        return (0, Err(0));
+    }
+    let home = home(chunks, q);
+    (home, place(chunks[home].pairs(), q))
+}
+
+// The chunk where the probe's key stands or would go.
+fn home<K: Ord, V, Q: Probe<K>>(chunks: &[Chunk<K, V>], q: &Q) -> usize
+    requires sorted { T (is_sorted K.cmp (flat chunks.now)) }
+    requires some { AllSome chunks.now }
+    requires any { 0 < length chunks.now }
+    ensures within { result < length chunks.now }
+    ensures home { IsHome K.cmp (Q.key q.now) chunks.now result }
+{
+    let mut low = 0;
+    let mut high = chunks.len();
+    while 1 < high - low {
+        let middle = low + (high - low) / 2;
+        if starts_above(&chunks[middle], q) {
+            high = middle;
+        } else {
+            low = middle;
+        }
+    }
+    low
+}
+
+// Whether the first key of a chunk is greater than the probe's.
+fn starts_above<K: Ord, V, Q: Probe<K>>(chunk: &Chunk<K, V>, q: &Q) -> bool
+    requires { 0 < length chunk.now }
+    ensures { result ≡ starts_above K.cmp (Q.key q.now) chunk.now }
+{
+    q.order(&chunk.pairs()[0].0).is_lt()
+}
