@@ -1,12 +1,10 @@
 //! What is prepared before a directory goes, and how it goes then.
-ghost use Rattle.std.specs.Prelude.{◌≡◌, ◌≤◌, ◌+◌, length, string_bytes, map as each, IfOk, IfErr};
-ghost use Rattle.std.specs.FinMap as map;
+ghost use Rattle.std.specs.Prelude.{◌≡◌, ◌≤◌, length, string_bytes, map as each, IfOk, IfErr, IfSome};
 ghost use Rattle.mds_types.specs.declared.refusals.Refusal.TheVariants.{NoMemory};
-ghost use Rattle.dentry_cache.specs.Cache.{Leaf};
 ghost use Rattle.inode_table.specs.Dirs.{MayGo};
 ghost use Rattle.namespace_ops.specs.Changes.{in_directory};
 ghost use Rattle.mdcache.specs.Changes.{with_objects, without_leaves};
-ghost use Rattle.mdcache.specs.Going.{HasForgotten, IsGoing, leaves_in, texts_in};
+ghost use Rattle.mdcache.specs.Going.{HasForgotten, IsGoing, count_going, dir_going, leaves_going, leaves_in, rows_but, texts_going, texts_in};
 ghost use Rattle.mdcache.specs.State.{text_of};
 
 use crate::mdcache::MdCache;
@@ -53,26 +51,26 @@ fn going_of(alloc: Global, dirs: &Dirs, dir: Ino) -> Result<Going, AllocError>
     ensures { IfOk result (λ going. (going.dir ≡ dir) × IsGoing dirs.now.trees going) }
 {
     let leaves = dirs.tree(alloc, dir)?;
-    let leaves = leaves_going(alloc, dir, &leaves)?;
+    let leaves = parts_of(alloc, dir, &leaves)?;
     let name = ObjName::Tree(dir);
     let tree = format!(in alloc; "{name}")?;
     Ok(Going { dir, tree, leaves })
 }
 
 // These leaves of a directory, each with the name of its object.
-fn leaves_going(alloc: Global, dir: Ino, tree: &FragTree) -> Result<Vec<GoingLeaf>, AllocError>
+fn parts_of(alloc: Global, dir: Ino, tree: &FragTree) -> Result<Vec<GoingLeaf>, AllocError>
     ensures leaves { IfOk result (λ parts. leaves_in dir parts.items ≡ each (in_directory dir.0) tree.now) }
     ensures texts { IfOk result (λ parts. texts_in parts.items ≡ each text_of (each (in_directory dir.0) tree.now)) }
 {
     let mut parts = Vec::with_capacity(alloc, tree.len())?;
     for frag in tree {
-        parts.push(leaf_going(alloc, dir, frag)?)?;
+        parts.push(part_of(alloc, dir, frag)?)?;
     }
     Ok(parts)
 }
 
 // A leaf with the name of its object.
-fn leaf_going(alloc: Global, dir: Ino, frag: Frag) -> Result<GoingLeaf, AllocError>
+fn part_of(alloc: Global, dir: Ino, frag: Frag) -> Result<GoingLeaf, AllocError>
     ensures leaf { IfOk result (λ part. part.frag ≡ frag) }
     ensures text { IfOk result (λ part. string_bytes part.object ≡ text_of (dir, frag)) }
 {
@@ -81,26 +79,29 @@ fn leaf_going(alloc: Global, dir: Ino, frag: Frag) -> Result<GoingLeaf, AllocErr
     Ok(GoingLeaf { frag, object })
 }
 
-/// A directory goes that is no one's parent and not the root: its home, its leaves with all that is cached of them and the
-/// jobs that stand for them. The names of its objects, for which there is room, are on the purge list then. Takes no memory.
+/// A directory goes that is no one's parent and not the root, or none: its home, its leaves with all that is cached of them
+/// and the jobs that stand for them. The names of its objects, for which there is room, are on the purge list then. Takes no
+/// memory.
 pub(crate) fn remove_dir(
     dirs: &mut Dirs,
     cache: &mut Cache,
     jobs: &mut StandingJobs,
     purge: &mut PurgeList,
-    going: Going,
+    going: Option<Going>,
 )
-    requires may { MayGo dirs.old.homes going.dir.0 }
-    requires room { 1 + length going.leaves.items ≤ purge.old.room }
-    ensures homes { dirs.new.homes ≡ map.remove dirs.old.homes going.dir.0 }
-    ensures covers { dirs.new.trees ≡ map.remove dirs.old.trees going.dir.0 }
-    ensures cache { HasForgotten (leaves_in going.dir going.leaves.items) cache.old cache.new }
-    ensures jobs { jobs.new.jobs ≡ without_leaves jobs.old.jobs (leaves_in going.dir going.leaves.items) }
-    ensures purge { purge.new.names ≡ with_objects (map.insert purge.old.names (string_bytes going.tree) tt) (texts_in going.leaves.items) }
+    requires may { IfSome (dir_going going) (λ dir. MayGo dirs.old.homes dir.0) }
+    requires room { count_going going ≤ purge.old.room }
+    ensures homes { dirs.new.homes ≡ rows_but dirs.old.homes (dir_going going) }
+    ensures covers { dirs.new.trees ≡ rows_but dirs.old.trees (dir_going going) }
+    ensures cache { HasForgotten (leaves_going going) cache.old cache.new }
+    ensures jobs { jobs.new.jobs ≡ without_leaves jobs.old.jobs (leaves_going going) }
+    ensures purge { purge.new.names ≡ with_objects purge.old.names (texts_going going) }
 {
-    dirs.drop(going.dir);
-    purge.put(going.tree);
-    remove_leaves(cache, jobs, purge, going.dir, going.leaves);
+    if let Some(going) = going {
+        dirs.drop(going.dir);
+        purge.put(going.tree);
+        remove_leaves(cache, jobs, purge, going.dir, going.leaves);
+    }
 }
 
 // These leaves of a directory go.

@@ -50,7 +50,7 @@ impl<S: Store + Drop> MdCache<S> {
             &mut self.cache,
             &mut self.jobs,
             &mut self.purge,
-            going,
+            Some(going),
         );
     }
 }

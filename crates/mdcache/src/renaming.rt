@@ -56,15 +56,13 @@ impl<S: Store + Drop> MdCache<S> {
         self.cache
             .put(to.dir, target, to.name, inode, self.next.version);
         self.next.version += 1;
-        if let Some(going) = going {
-            remove_dir(
-                &mut self.dirs,
-                &mut self.cache,
-                &mut self.jobs,
-                &mut self.purge,
-                going,
-            );
-        }
+        remove_dir(
+            &mut self.dirs,
+            &mut self.cache,
+            &mut self.jobs,
+            &mut self.purge,
+            going,
+        );
     }
 }
 
