@@ -1,5 +1,5 @@
 -- What is left where a directory goes, from the parts of the state.
-use Rattle.std.proofs.Common.{◌≡◌, ◌⊎◌, ℕ, ◌+◌, ◌<◌, ◌==◌, ◌||◌, Bool, true, false, cond, List, [], ◌∷◌, ◌++◌, Option, Some, None, refl, sym, ap, subst, ◌∙◌, arith}
+use Rattle.std.proofs.Common.{◌≡◌, ℕ, ◌+◌, ◌==◌, ◌||◌, Bool, true, false, cond, List, [], ◌∷◌, ◌++◌, Option, Some, None, refl, sym, ap, subst, ◌∙◌}
 use Rattle.std.specs.Prelude.{is_some, map as each, string_bytes}
 use Rattle.std.specs.List.{list_any}
 use Rattle.std.specs.Map.{lookup}
@@ -21,22 +21,21 @@ use Rattle.dentry_cache.proofs.CacheLaws.{get-unsaved}
 use Rattle.dentry_cache.proofs.LeafLaws.{flips, leaf-exact, leaf-total, one_leaf}
 use Rattle.dentry_cache.proofs.UsedLaws.{beside_removal}
 use Rattle.inode_table.specs.declared.dirs.Home.{Home}
-use Rattle.inode_table.specs.Dirs.{Covers, Homes, MayGo, Table, is_known, leaves_of, or_whole}
+use Rattle.inode_table.specs.Dirs.{Covers, Homes, MayGo, Table, leaves_of, or_whole}
 use Rattle.inode_table.proofs.TableLaws.{may_drop}
-use Rattle.namespace_ops.specs.Changes.{MayChange, directory_at, in_directory, leaves}
+use Rattle.namespace_ops.specs.Changes.{MayChange, directory_at, leaves}
 use Rattle.namespace_ops.specs.declared.plans.Change.TheVariants.{Remove}
 use Rattle.purge_list.specs.PurgeList.{Listed}
 use Rattle.standing_jobs.specs.StandingJobs.{Standing}
 use Rattle.mdcache.specs.declared.going.Going.{Going}
-use Rattle.mdcache.specs.declared.going.GoingLeaf.{GoingLeaf}
 use Rattle.mdcache.specs.declared.mdcache.Counters.{Counters}
 use Rattle.mdcache.specs.Cached.{AreLive, AreMade, IsKept, state_of}
-use Rattle.mdcache.specs.Changes.{Makes, objects_of, with_objects, without, without_directory, without_leaves}
+use Rattle.mdcache.specs.Changes.{Makes, objects_of, with_objects, without, without_leaves}
 use Rattle.mdcache.specs.Going.{HasForgotten, IsGoing, IsGoingOrNone, dir_going, leaves_going, leaves_in, place_but, rows_but, texts_going, texts_in}
 use Rattle.mdcache.specs.Made.{IsRight}
 use Rattle.mdcache.specs.Shown.{shown_tree}
 use Rattle.mdcache.specs.Sound.{IsSound}
-use Rattle.mdcache.specs.State.{IsLive, State, text_of}
+use Rattle.mdcache.specs.State.{IsLive, State}
 use Rattle.mdcache.proofs.ChangeLaws.{changes_are_right}
 use Rattle.mdcache.proofs.GoneLaws.{among, get_without}
 use Rattle.mdcache.proofs.PutSteps.{put_live, put_made, put_named, put_tied}

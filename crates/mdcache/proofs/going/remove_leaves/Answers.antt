@@ -1,8 +1,6 @@
-use Rattle.std.proofs.Common.{rules, ◌≡◌, ◌∷◌, suc, List, length, sym, ap, subst, ◌∙◌, arith}
+use Rattle.std.proofs.Common.{rules, ◌≡◌, ◌∷◌, suc, List, length, sym, ap, ◌∙◌, arith}
 use Rattle.std.proofs.lemmas.List.{nil_from_length}
-use Rattle.std.specs.Prelude.{string_bytes}
 use Rattle.std.specs.Vec.Iter.{into_iter_items}
-use Rattle.std.specs.FinMap as map
 use Rattle.omap.specs.Omap.{Keys}
 use Rattle.dentry_cache.specs.Cache.{Leaf}
 use Rattle.standing_jobs.specs.StandingJobs.{Jobs}
