@@ -39,11 +39,11 @@ module _ (dirs : Table) (cache : Held) (objects : Objects) (jobs : Standing) (pu
   s = state_of dirs cache objects jobs purge next
 
   abbrev named : State
-  named = put dirs cache objects jobs purge next kept (dentry.dir, f) dentry.name (Some inode) cache' changed
+  named = put dirs cache objects jobs purge next kept.live kept.tied kept.made (dentry.dir, f) dentry.name (Some inode) cache' changed
 
   -- what is no directory is an entry alone
   pub file_made : is_dir_kind inode.kind ≡ false → Makes (Add dentry f inode) s named
-  file_made kinded = (named, put_named dirs cache objects jobs purge next kept (dentry.dir, f) dentry.name (Some inode) cache' changed, sym (ap (λ (b : Bool). cond b (with_directory named dentry inode.ino) named) kinded))
+  file_made kinded = (named, put_named dirs cache objects jobs purge next kept.live kept.tied kept.made (dentry.dir, f) dentry.name (Some inode) cache' changed, sym (ap (λ (b : Bool). cond b (with_directory named dentry inode.ino) named) kinded))
 
   pub file_right : is_dir_kind inode.kind ≡ false → IsRight (Add dentry f inode) s named
   file_right kinded = changes_are_right (Add dentry f inode) s named kept.sound fits may (file_made kinded)
@@ -73,7 +73,7 @@ module _ (dirs : Table) (cache : Held) (objects : Objects) (jobs : Standing) (pu
         ∙ sym (ap (λ (b : Bool). cond b (with_directory named dentry inode.ino) named) kinded)
 
     pub dir_made : Makes (Add dentry f inode) s grown
-    dir_made = (named, put_named dirs cache objects jobs purge next kept (dentry.dir, f) dentry.name (Some inode) cache' changed, is_grown)
+    dir_made = (named, put_named dirs cache objects jobs purge next kept.live kept.tied kept.made (dentry.dir, f) dentry.name (Some inode) cache' changed, is_grown)
 
     pub dir_right : IsRight (Add dentry f inode) s grown
     dir_right = changes_are_right (Add dentry f inode) s grown kept.sound fits may dir_made
@@ -98,17 +98,17 @@ module _ (dirs : Table) (cache : Held) (objects : Objects) (jobs : Standing) (pu
     dir_kept = record {
       sound = dir_right.sound;
       live = λ q g is. live_of q g (first_or_was q g is);
-      tied = subst (λ (c : Held). AreTied c.entries objects) (sym filled) (used_are_tied first fresh cache' objects (put_tied dirs cache objects jobs purge next kept (dentry.dir, f) dentry.name (Some inode) cache' changed) tt);
+      tied = subst (λ (c : Held). AreTied c.entries objects) (sym filled) (used_are_tied first fresh cache' objects (put_tied dirs cache objects jobs purge next kept.live kept.tied kept.made (dentry.dir, f) dentry.name (Some inode) cache' changed) tt);
       made = record { begun = omega arith; given = λ q g is. given_of q g (first_or_was q g is) };
     }
       where
         live_of : (q : Leaf) (g : Cached) → ((first ≡ q) × (fresh ≡ g)) ⊎ (cached cache'.entries q ≡ Some g) → IsLive dirs'.homes dirs'.trees q
         live_of q g (inl same) = subst (IsLive dirs'.homes dirs'.trees) same.0 (dir_right.sound.unsaved first (just_made next.generation) first_unsaved).live
-        live_of q g (inr old) = live_on q (put_live dirs cache objects jobs purge next kept (dentry.dir, f) dentry.name (Some inode) cache' changed q g old)
+        live_of q g (inr old) = live_on q (put_live dirs cache objects jobs purge next kept.live kept.tied kept.made (dentry.dir, f) dentry.name (Some inode) cache' changed q g old)
 
         given_of : (q : Leaf) (g : Cached) → ((first ≡ q) × (fresh ≡ g)) ⊎ (cached cache'.entries q ≡ Some g) → g.generation < next.generation + 1
         given_of q g (inl same) = let generation = ap (λ (k : Cached). k.generation) same.1 in omega (arith, generation)
-        given_of q g (inr old) = let given = (put_made dirs cache objects jobs purge next kept (dentry.dir, f) dentry.name (Some inode) cache' changed).given q g old in omega (arith, given)
+        given_of q g (inr old) = let given = (put_made dirs cache objects jobs purge next kept.live kept.tied kept.made (dentry.dir, f) dentry.name (Some inode) cache' changed).given q g old in omega (arith, given)
 
 -- the place that is kept for a leaf which isn't cached stays so where another fragment is changed
 pub place_stays : (leaf first : Leaf) (change : Cached → Cached → Type 0) (old new : Held) → IsChanged (cached old.entries leaf) change leaf old new → is_kept (lookup (leaf_is first) old.entries) ≡ true

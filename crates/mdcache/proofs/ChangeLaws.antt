@@ -267,7 +267,7 @@ remove_right dentry f gone old new sound may makes = record {
 -- ---- a move
 
 -- the entry that stands there is the one that moves
-moving : (tree : Tree) (from to : Dentry) (inode : Inode) → map.get tree from ≡ Some inode → (i : Inode) × IsMove tree from to i → IsMove tree from to inode
+pub moving : (tree : Tree) (from to : Dentry) (inode : Inode) → map.get tree from ≡ Some inode → (i : Inode) × IsMove tree from to i → IsMove tree from to inode
 moving tree from to inode stands may =
     let inodes : Some may.0 ≡ Some inode = sym may.1.stands ∙ stands in
     let alike : may.0 ≡ inode = cc in

@@ -53,7 +53,7 @@ get_without kept (l ∷ ls) q =
     either false false o = refl
 
 -- the leaves of a directory are among those of it,
-among : (d : ℕ) (q : Leaf) (fs : List Fragment) → q.0.0 ≡ d → HasLeaf fs q.1 → list_any (leaf_is q) (each (in_directory d) fs) ≡ true
+pub among : (d : ℕ) (q : Leaf) (fs : List Fragment) → q.0.0 ≡ d → HasLeaf fs q.1 → list_any (leaf_is q) (each (in_directory d) fs) ≡ true
 among d q [] same (k, stands, is) = absurd (omega (arith, stands))
 among d q (f ∷ fs) same has = go (among d q fs same) (first_or_later f q.1 fs has)
   where

@@ -4,9 +4,11 @@ pub mod ChangeLaws
 pub mod EmptyLaws
 pub mod EndLaws
 pub mod GoneLaws
+pub mod GoneSteps
 pub mod HomeLaws
 pub mod NamedLaws
 pub mod NewLaws
+pub mod MoveSteps
 pub mod ObjectLaws
 pub mod PutSteps
 pub mod ReadLaws

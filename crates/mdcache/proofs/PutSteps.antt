@@ -75,7 +75,8 @@ as_it_stands f object next tie given = go (is_clean f) refl
 
 -- ---- one name changed
 
-module _ (dirs : Table) (cache : Held) (objects : Objects) (jobs : Standing) (purge : Listed) (next : Counters) (kept : IsKept (state_of dirs cache objects jobs purge next) cache)
+module _ (dirs : Table) (cache : Held) (objects : Objects) (jobs : Standing) (purge : Listed) (next : Counters)
+    (live : AreLive dirs.homes dirs.trees cache.entries) (tied : AreTied cache.entries objects) (made : AreMade next.generation cache.entries)
     (leaf : Leaf) (name : List ℕ) (inode : Option Inode) (cache' : Held)
     (changed : IsChanged (cached cache.entries leaf) (λ (f now : Cached). now ≡ marked f name (record { version = next.version; inode = inode })) leaf cache cache') where
   abbrev s : State
@@ -96,7 +97,7 @@ module _ (dirs : Table) (cache : Held) (objects : Objects) (jobs : Standing) (pu
       go (Some f) there h = (f, there, h.2 ∙ ap (λ (g : Cached). used_as leaf (held g) cache) h.1)
 
   live_leaf : IsLive dirs.homes dirs.trees leaf
-  live_leaf = kept.live leaf was.0 was.1
+  live_leaf = live leaf was.0 was.1
 
   unsaved_now : unsaved cache'.entries ≡ map.insert (unsaved cache.entries) leaf (dirtied (beyond was.0) name next.version inode)
   unsaved_now =
@@ -108,7 +109,7 @@ module _ (dirs : Table) (cache : Held) (objects : Objects) (jobs : Standing) (pu
   put_named = record {
     before = beyond was.0;
     stands = subst (λ o. IsAsItStands o (object_of objects leaf.0 leaf.1) next.generation (beyond was.0)) (sym (get-unsaved cache.entries leaf ∙ ap unsaved_in was.1))
-        (as_it_stands was.0 (object_of objects leaf.0 leaf.1) next.generation (kept.tied leaf was.0 was.1) (kept.made.given leaf was.0 was.1));
+        (as_it_stands was.0 (object_of objects leaf.0 leaf.1) next.generation (tied leaf was.0 was.1) (made.given leaf was.0 was.1));
     left = λ i. record s { unsaved = unsaved_now i; next_version = next.version + 1 };
   }
 
@@ -124,19 +125,19 @@ module _ (dirs : Table) (cache : Held) (objects : Objects) (jobs : Standing) (pu
     where
       go : ((leaf ≡ q) × (marked was.0 name mark ≡ g)) ⊎ (cached cache.entries q ≡ Some g) → IsLive dirs.homes dirs.trees q
       go (inl same) = subst (IsLive dirs.homes dirs.trees) same.0 live_leaf
-      go (inr old) = kept.live q g old
+      go (inr old) = live q g old
 
   pub put_tied : AreTied cache'.entries objects
   put_tied =
       subst (λ (c : Held). AreTied c.entries objects) (sym was.2)
-      (used_are_tied leaf (marked was.0 name mark) cache objects kept.tied (changed_are_tied was.0 (object_of objects leaf.0 leaf.1) name mark (kept.tied leaf was.0 was.1)))
+      (used_are_tied leaf (marked was.0 name mark) cache objects tied (changed_are_tied was.0 (object_of objects leaf.0 leaf.1) name mark (tied leaf was.0 was.1)))
 
   pub put_made : AreMade next.generation cache'.entries
-  put_made = record { begun = kept.made.begun; given = λ q g is. go q g (changed_or_was q g is) }
+  put_made = record { begun = made.begun; given = λ q g is. go q g (changed_or_was q g is) }
     where
       go : (q : Leaf) (g : Cached) → ((leaf ≡ q) × (marked was.0 name mark ≡ g)) ⊎ (cached cache.entries q ≡ Some g) → g.generation < next.generation
-      go q g (inl same) = subst (λ (k : Cached). k.generation < next.generation) same.1 (kept.made.given leaf was.0 was.1)
-      go q g (inr old) = kept.made.given q g old
+      go q g (inl same) = subst (λ (k : Cached). k.generation < next.generation) same.1 (made.given leaf was.0 was.1)
+      go q g (inr old) = made.given q g old
 
   pub put_kept : IsSound put → IsKept put cache'
   put_kept sound = record { sound = sound; live = put_live; tied = put_tied; made = put_made }
@@ -148,7 +149,7 @@ pub put_right : (dirs : Table) (cache : Held) (objects : Objects) (jobs : Standi
     → IsRight (Set dentry f inode) (state_of dirs cache objects jobs purge next) (state_of dirs cache' objects jobs purge (record { job = next.job; generation = next.generation; version = next.version + 1 }))
 put_right dirs cache objects jobs purge next kept dentry f inode cache' changed may =
     changes_are_right (Set dentry f inode) (state_of dirs cache objects jobs purge next) (state_of dirs cache' objects jobs purge (record { job = next.job; generation = next.generation; version = next.version + 1 })) kept.sound tt may
-    (put_named dirs cache objects jobs purge next kept (dentry.dir, f) dentry.name (Some inode) cache' changed)
+    (put_named dirs cache objects jobs purge next kept.live kept.tied kept.made (dentry.dir, f) dentry.name (Some inode) cache' changed)
 
 -- an entry that may go, and is no directory, is gone
 module _ (dirs : Table) (cache : Held) (objects : Objects) (jobs : Standing) (purge : Listed) (next : Counters) (kept : IsKept (state_of dirs cache objects jobs purge next) cache) (dentry : Dentry) (f : Fragment) (cache' : Held)
@@ -157,7 +158,7 @@ module _ (dirs : Table) (cache : Held) (objects : Objects) (jobs : Standing) (pu
   erased = state_of dirs cache' objects jobs purge (record { job = next.job; generation = next.generation; version = next.version + 1 })
 
   pub erased_made : Makes (Remove dentry f None) (state_of dirs cache objects jobs purge next) erased
-  erased_made = (erased, put_named dirs cache objects jobs purge next kept (dentry.dir, f) dentry.name None cache' changed, refl)
+  erased_made = (erased, put_named dirs cache objects jobs purge next kept.live kept.tied kept.made (dentry.dir, f) dentry.name None cache' changed, refl)
 
   pub erased_right : MayChange (shown_tree (state_of dirs cache objects jobs purge next)) dirs.trees (Remove dentry f None) → IsRight (Remove dentry f None) (state_of dirs cache objects jobs purge next) erased
   erased_right may = changes_are_right (Remove dentry f None) (state_of dirs cache objects jobs purge next) erased kept.sound tt may erased_made

@@ -11,12 +11,13 @@ use Rattle.mdcache.specs.declared.mdcache.Counters.{Counters}
 use Rattle.mdcache.specs.Sound.{IsSound}
 use Rattle.mdcache.specs.State.{IsLive, State}
 
--- the state, the places of the cache in the order of their use, how many more directories fit with no growth, and how many faults the
--- store had
+-- the state, the places of the cache in the order of their use, how many more directories and how many more names of objects to be
+-- removed fit with no growth, and how many faults the store had
 pub record Core : Type 0 where
   pub state : State
   pub cache : Held
   pub dirs_left : ℕ
+  pub purge_left : ℕ
   pub faults : ℕ
 
 abbrev pub state_of : Table → Held → Objects → Standing → Listed → Counters → State

@@ -1,6 +1,7 @@
 pub mod Cached
 pub mod Changes
 pub mod Commits
+pub mod Going
 pub mod Made
 pub mod New
 pub mod Objects

@@ -11,14 +11,17 @@ mod ending;
 mod evicting;
 mod fetching;
 mod formatting;
+mod going;
 mod laws;
 mod leaves;
 mod mdcache;
 mod purging;
 mod reading;
 mod removing;
+mod renaming;
 mod setting;
 mod trees;
 
+pub use going::{Going, GoingLeaf};
 pub use laws::changes_are_right;
 pub use mdcache::MdCache;

@@ -38,7 +38,7 @@ impl<S: Store + Drop> Model for MdCache<S> {
 
     ghost coded = { Prim.hlevel (codes, map.code) };
 
-    ghost view = { λ m. record { state = state_of m.dirs m.cache (S.objects m.store) m.jobs m.purge m.next; cache = m.cache; dirs_left = m.dirs.room; faults = S.faults m.store } };
+    ghost view = { λ m. record { state = state_of m.dirs m.cache (S.objects m.store) m.jobs m.purge m.next; cache = m.cache; dirs_left = m.dirs.room; purge_left = m.purge.room; faults = S.faults m.store } };
 
     ghost invariant = { λ m. IsKept (state_of m.dirs m.cache (S.objects m.store) m.jobs m.purge m.next) m.cache };
 }

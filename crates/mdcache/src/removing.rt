@@ -1,12 +1,14 @@
-//! An entry that is no directory goes.
-ghost use Rattle.std.specs.Prelude.{◌≡◌, ◌-◌, ◌<◌, ◌^◌, None};
+//! An entry goes.
+ghost use Rattle.std.specs.Prelude.{◌≡◌, ◌-◌, ◌<◌, ◌≤◌, ◌+◌, ◌^◌, Some, None, length};
 ghost use Rattle.dentry_cache.specs.Cache.{HasRoom, cached};
 ghost use Rattle.namespace_ops.specs.Changes.{MayChange};
 ghost use Rattle.namespace_ops.specs.declared.plans.Change.TheVariants.{Remove};
 ghost use Rattle.mdcache.specs.Changes.{Makes};
+ghost use Rattle.mdcache.specs.Going.{IsGoing};
 ghost use Rattle.mdcache.specs.Made.{IsRight};
 ghost use Rattle.mdcache.specs.Shown.{shown_tree};
 
+use crate::going::{Going, remove_dir};
 use crate::mdcache::MdCache;
 use mds_types::{Dentry, Frag};
 use objstore::Store;
@@ -25,5 +27,30 @@ impl<S: Store + Drop> MdCache<S> {
         self.cache
             .erase(dentry.dir, leaf, dentry.name, self.next.version);
         self.next.version += 1;
+    }
+
+    /// Takes the entry at a dentry away, which is a directory in which nothing is. `leaf` is the one that the dentry belongs
+    /// to; it is cached, and has room for a change. `going` has the names of the directory's objects, and the purge list has
+    /// room for them. The name is dirty then; of the directory nothing is left but those names. Takes no memory.
+    pub fn remove_directory(&mut self, dentry: Dentry, leaf: Frag, going: Going)
+        requires may { MayChange (shown_tree self.old.state) self.old.state.covers (Remove dentry leaf (Some going.dir)) }
+        requires room { HasRoom (cached self.old.cache.entries (dentry.dir, leaf)) }
+        requires number { self.old.state.next_version < 2 ^ 64 - 1 }
+        requires going { IsGoing self.old.state.covers going }
+        requires purge { 1 + length going.leaves.items ≤ self.old.purge_left }
+        ensures made { Makes (Remove dentry leaf (Some going.dir)) self.old.state self.new.state }
+        ensures right { IsRight (Remove dentry leaf (Some going.dir)) self.old.state self.new.state }
+        ensures faults { self.new.faults ≡ self.old.faults }
+    {
+        self.cache
+            .erase(dentry.dir, leaf, dentry.name, self.next.version);
+        self.next.version += 1;
+        remove_dir(
+            &mut self.dirs,
+            &mut self.cache,
+            &mut self.jobs,
+            &mut self.purge,
+            Some(going),
+        );
     }
 }

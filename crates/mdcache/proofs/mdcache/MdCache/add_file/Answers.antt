@@ -18,7 +18,7 @@ returns-clause-made g c =
 pub invariant_of-self : goal.invariant_of-self
 invariant_of-self g c =
     let may = subst (λ (v : Core). MayChange (shown_tree v.state) v.state.covers (Add c.args.dentry c.args.leaf c.args.inode)) (sym c.self.view_is) c.requires.may in
-    put_kept c.self.inside.dirs c.self.inside.cache (g.S.Store.objects c.self.inside.store) c.self.inside.jobs c.self.inside.purge c.self.inside.next c.self.invariant (c.args.dentry.dir, c.args.leaf) c.args.dentry.name (Some c.args.inode) c.put.new.self c.put.ensures
+    put_kept c.self.inside.dirs c.self.inside.cache (g.S.Store.objects c.self.inside.store) c.self.inside.jobs c.self.inside.purge c.self.inside.next c.self.invariant.live c.self.invariant.tied c.self.invariant.made (c.args.dentry.dir, c.args.leaf) c.args.dentry.name (Some c.args.inode) c.put.new.self c.put.ensures
     (file_right c.self.inside.dirs c.self.inside.cache (g.S.Store.objects c.self.inside.store) c.self.inside.jobs c.self.inside.purge c.self.inside.next c.self.invariant c.args.dentry c.args.leaf c.args.inode may c.has_64_bits.ensures c.put.new.self c.put.ensures c.requires.file).sound
 
 pub returns-clause-right : goal.returns-clause-right

@@ -1,0 +1,125 @@
+//! What is prepared before a directory goes, and how it goes then.
+ghost use Rattle.std.specs.Prelude.{◌≡◌, ◌≤◌, length, string_bytes, map as each, IfOk, IfErr, IfSome};
+ghost use Rattle.mds_types.specs.declared.refusals.Refusal.TheVariants.{NoMemory};
+ghost use Rattle.inode_table.specs.Dirs.{MayGo};
+ghost use Rattle.namespace_ops.specs.Changes.{in_directory};
+ghost use Rattle.mdcache.specs.Changes.{with_objects, without_leaves};
+ghost use Rattle.mdcache.specs.Going.{HasForgotten, IsGoing, count_going, dir_going, leaves_going, leaves_in, rows_but, texts_going, texts_in};
+ghost use Rattle.mdcache.specs.State.{text_of};
+
+use crate::mdcache::MdCache;
+use dentry_cache::Cache;
+use fragtree::FragTree;
+use inode_table::Dirs;
+use mds_types::{Frag, Ino, ObjName, Refusal};
+use objstore::Store;
+use purge_list::PurgeList;
+use standing_jobs::StandingJobs;
+use std::alloc::{AllocError, Global};
+
+/// A leaf of a directory that goes, and the name of its object.
+#[derive(Debug, Drop)]
+pub struct GoingLeaf {
+    pub frag: Frag,
+    pub object: String,
+}
+
+/// A directory that goes: the name of its tree's object, and its leaves with the names of theirs.
+#[derive(Debug, Drop)]
+pub struct Going {
+    pub dir: Ino,
+    pub tree: String,
+    pub leaves: Vec<GoingLeaf>,
+}
+
+impl<S: Store + Drop> MdCache<S> {
+    /// What has to be prepared before a directory can go with no memory: the names of its objects. Takes memory for them,
+    /// and for a copy of what leaves there are. Refused for want of memory alone.
+    pub fn going(&self, alloc: Global, dir: Ino) -> Result<Going, Refusal>
+        ensures going { IfOk result (λ going. (going.dir ≡ dir) × IsGoing self.now.state.covers going) }
+        ensures refused { IfErr result (λ reason. reason ≡ NoMemory) }
+    {
+        match going_of(alloc, &self.dirs, dir) {
+            Ok(going) => Ok(going),
+            Err(_) => Err(Refusal::NoMemory),
+        }
+    }
+}
+
+// The names of the objects of a directory.
+fn going_of(alloc: Global, dirs: &Dirs, dir: Ino) -> Result<Going, AllocError>
+    ensures { IfOk result (λ going. (going.dir ≡ dir) × IsGoing dirs.now.trees going) }
+{
+    let leaves = dirs.tree(alloc, dir)?;
+    let leaves = parts_of(alloc, dir, &leaves)?;
+    let name = ObjName::Tree(dir);
+    let tree = format!(in alloc; "{name}")?;
+    Ok(Going { dir, tree, leaves })
+}
+
+// These leaves of a directory, each with the name of its object.
+fn parts_of(alloc: Global, dir: Ino, tree: &FragTree) -> Result<Vec<GoingLeaf>, AllocError>
+    ensures leaves { IfOk result (λ parts. leaves_in dir parts.items ≡ each (in_directory dir.0) tree.now) }
+    ensures texts { IfOk result (λ parts. texts_in parts.items ≡ each text_of (each (in_directory dir.0) tree.now)) }
+{
+    let mut parts = Vec::with_capacity(alloc, tree.len())?;
+    for frag in tree {
+        parts.push(part_of(alloc, dir, frag)?)?;
+    }
+    Ok(parts)
+}
+
+// A leaf with the name of its object.
+fn part_of(alloc: Global, dir: Ino, frag: Frag) -> Result<GoingLeaf, AllocError>
+    ensures leaf { IfOk result (λ part. part.frag ≡ frag) }
+    ensures text { IfOk result (λ part. string_bytes part.object ≡ text_of (dir, frag)) }
+{
+    let name = ObjName::Frag(dir, frag);
+    let object = format!(in alloc; "{name}")?;
+    Ok(GoingLeaf { frag, object })
+}
+
+/// A directory goes that is no one's parent and not the root, or none: its home, its leaves with all that is cached of them
+/// and the jobs that stand for them. The names of its objects, for which there is room, are on the purge list then. Takes no
+/// memory.
+pub(crate) fn remove_dir(
+    dirs: &mut Dirs,
+    cache: &mut Cache,
+    jobs: &mut StandingJobs,
+    purge: &mut PurgeList,
+    going: Option<Going>,
+)
+    requires may { IfSome (dir_going going) (λ dir. MayGo dirs.old.homes dir.0) }
+    requires room { count_going going ≤ purge.old.room }
+    ensures homes { dirs.new.homes ≡ rows_but dirs.old.homes (dir_going going) }
+    ensures covers { dirs.new.trees ≡ rows_but dirs.old.trees (dir_going going) }
+    ensures cache { HasForgotten (leaves_going going) cache.old cache.new }
+    ensures jobs { jobs.new.jobs ≡ without_leaves jobs.old.jobs (leaves_going going) }
+    ensures purge { purge.new.names ≡ with_objects purge.old.names (texts_going going) }
+{
+    if let Some(going) = going {
+        dirs.drop(going.dir);
+        purge.put(going.tree);
+        remove_leaves(cache, jobs, purge, going.dir, going.leaves);
+    }
+}
+
+// These leaves of a directory go.
+fn remove_leaves(
+    cache: &mut Cache,
+    jobs: &mut StandingJobs,
+    purge: &mut PurgeList,
+    dir: Ino,
+    leaves: Vec<GoingLeaf>,
+)
+    requires { length leaves.items ≤ purge.old.room }
+    ensures cache { HasForgotten (leaves_in dir leaves.items) cache.old cache.new }
+    ensures jobs { jobs.new.jobs ≡ without_leaves jobs.old.jobs (leaves_in dir leaves.items) }
+    ensures purge { purge.new.names ≡ with_objects purge.old.names (texts_in leaves.items) }
+{
+    for part in leaves {
+        cache.forget(dir, part.frag);
+        jobs.end(dir, part.frag);
+        purge.put(part.object);
+    }
+}
