@@ -3,11 +3,13 @@ pub mod CachedLaws
 pub mod ChangeLaws
 pub mod EmptyLaws
 pub mod EndLaws
+pub mod GatherLaws
 pub mod GoneLaws
 pub mod HomeLaws
 pub mod NamedLaws
 pub mod NewLaws
 pub mod ObjectLaws
+pub mod PageLaws
 pub mod PutSteps
 pub mod ReadLaws
 pub mod ReadSteps

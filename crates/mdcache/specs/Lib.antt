@@ -4,6 +4,7 @@ pub mod Commits
 pub mod Made
 pub mod New
 pub mod Objects
+pub mod Pages
 pub mod Reads
 pub mod Shown
 pub mod Sound
