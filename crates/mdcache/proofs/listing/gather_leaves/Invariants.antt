@@ -19,6 +19,6 @@ invariant-loop-leaf g l = record {
   most : l.page.most ≡ l.fn.page.most;
   page : (whole : List Row) → IsPageOf whole l.fn.page
       → (now : List Row) × IsPageOf now l.page
-          × (gathered (λ (f : Fragment). names_of (unsaved l.fn.cache.entries) (g.S.Store.objects l.fn.store) (l.dir, f)) (option_copied l.after) now l.leaf-iterator
-              ≡ gathered (λ (f : Fragment). names_of (unsaved l.fn.cache.entries) (g.S.Store.objects l.fn.store) (l.dir, f)) (option_copied l.after) whole l.leaves);
+      × (gathered (λ (f : Fragment). names_of (unsaved l.fn.cache.entries) (g.S.Store.objects l.fn.store) (l.dir, f)) (option_copied l.after) now l.leaf-iterator
+      ≡ gathered (λ (f : Fragment). names_of (unsaved l.fn.cache.entries) (g.S.Store.objects l.fn.store) (l.dir, f)) (option_copied l.after) whole l.leaves);
 }

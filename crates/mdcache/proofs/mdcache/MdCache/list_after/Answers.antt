@@ -1,4 +1,4 @@
-use Rattle.std.proofs.Common.{List, [], refl, ap, subst, ◌∙◌, take, nat_lt, length}
+use Rattle.std.proofs.Common.{List, [], ap, subst, ◌∙◌, take, nat_lt, length}
 use Rattle.std.specs.Option.{option_copied}
 use Rattle.cached_frag.specs.Rows.{Row}
 use Rattle.mds_types.specs.Frag.{Fragment}

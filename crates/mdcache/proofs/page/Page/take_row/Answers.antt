@@ -1,4 +1,4 @@
-use Rattle.std.proofs.Common.{◌≡◌, ◌-◌, true, false, ◌||◌, refl, sym, ap, ◌∙◌, arith}
+use Rattle.std.proofs.Common.{◌≡◌, ◌-◌, true, false, sym, ◌∙◌, arith}
 use Rattle.std.proofs.lemmas.Bool.Decides.{nat_tests}
 use Rattle.cached_frag.specs.Rows.{Row}
 use Rattle.mdcache.proofs.PageLaws.{behind_more, behind_put, kept_put, kept_taken, or_false, or_true, placed_more, placed_put, set_more, set_put, takes_by}
