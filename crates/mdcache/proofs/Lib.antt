@@ -3,6 +3,7 @@ pub mod CachedLaws
 pub mod ChangeLaws
 pub mod EmptyLaws
 pub mod EndLaws
+pub mod GatherLaws
 pub mod GoneLaws
 pub mod GoneSteps
 pub mod HomeLaws
@@ -10,6 +11,7 @@ pub mod NamedLaws
 pub mod NewLaws
 pub mod MoveSteps
 pub mod ObjectLaws
+pub mod PageLaws
 pub mod PutSteps
 pub mod ReadLaws
 pub mod ReadSteps

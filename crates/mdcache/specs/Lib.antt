@@ -5,6 +5,7 @@ pub mod Going
 pub mod Made
 pub mod New
 pub mod Objects
+pub mod Pages
 pub mod Reads
 pub mod Shown
 pub mod Sound

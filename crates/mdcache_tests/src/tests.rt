@@ -3,4 +3,5 @@
 mod faults;
 mod fixtures;
 mod going;
+mod listing;
 mod roots;

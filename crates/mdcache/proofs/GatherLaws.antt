@@ -1,0 +1,175 @@
+-- The names that are gathered from all leaves of a directory are those that the shown tree lists.
+use Rattle.std.proofs.Common.{◌≡◌, ◌⊎◌, inl, inr, ℕ, zero, suc, Bool, true, false, cond, T, List, [], ◌∷◌, Option, Some, None, refl, sym, ap, subst, ◌∙◌, arith}
+use Rattle.std.specs.List.{Contains}
+use Rattle.std.specs.Option.{option_or}
+use Rattle.std.specs.declared.cmp.Ordering.{Ordering}
+use Rattle.std.specs.declared.cmp.Ordering.TheVariants.{Less, Equal, Greater}
+use Rattle.std.specs.Ordering.{eq_by_cmp, is_eq, is_lt}
+use Rattle.std.specs.Cmp.Lexicographic.{nat_list_cmp_total}
+use Rattle.std.proofs.lemmas.Map.Lookups.{exact_bytes}
+use Rattle.std.specs.FinMap as map
+use Rattle.std.specs.FinMap.{entries_sorted, get-entries}
+use Rattle.std.specs.FinMap.Entries.{below_all, find, find-put, find-where_key, is_sorted, is_sorted-put, is_sorted-where_key, put, same_entries}
+use Rattle.sorted_map.specs.Places.{puts}
+use Rattle.sorted_map.proofs.Bools.{left_of, right_of}
+use Rattle.sorted_map.proofs.MapLaws.{tie}
+use Rattle.mds_types.specs.declared.ids.Ino.{Ino}
+use Rattle.mds_types.specs.declared.inodes.Inode.{Inode}
+use Rattle.mds_types.specs.Frag.{Fragment}
+use Rattle.mds_types.specs.Step.{is_after, names_after}
+use Rattle.mds_types.proofs.ListingLaws.{names_are_listed}
+use Rattle.omap.specs.Omap.{key_cmp}
+use Rattle.fragtree.specs.FragTree.{IsPick}
+use Rattle.fragtree.proofs.TreeLaws.{some_pick}
+use Rattle.namehash.specs.Rjenkins.{hash_of}
+use Rattle.dirfrag_codec.specs.FragmentObject.{Names}
+use Rattle.cached_frag.specs.Rows.{Row, rows_after}
+use Rattle.inode_table.specs.Dirs.{is_known, leaves_of}
+use Rattle.mdcache.specs.Pages.{Gathered, IsPageOf, gathered}
+use Rattle.mdcache.specs.Shown.{names_of, shown_tree}
+use Rattle.mdcache.specs.Sound.{IsSound}
+use Rattle.mdcache.specs.State.{State}
+use Rattle.mdcache.proofs.TextLaws.{tree_of_row}
+use Rattle.mdcache.proofs.TreeLookups.{at_dentry}
+use Rattle.mdcache.proofs.WalkLaws.{first_has, later_has}
+
+-- ---- names put to others
+
+puts_sorted : (es fs : List Row) → T (is_sorted key_cmp es) → T (is_sorted key_cmp (puts key_cmp es fs))
+puts_sorted es [] sorted = sorted
+puts_sorted es (f ∷ fs) sorted = puts_sorted (put key_cmp f.0 f.1 es) fs (is_sorted-put key_cmp nat_list_cmp_total f.0 f.1 es sorted)
+
+apart_below : (q k : List ℕ) (es : List Row) → key_cmp q k ≡ Equal → T (below_all key_cmp k es) → find key_cmp q es ≡ None
+apart_below q k [] tied below = refl
+apart_below q k (e ∷ es) tied below =
+    ap (λ b. cond b (Some e.1) (find key_cmp q es)) (apart (key_cmp q e.0) (subst (λ r. T (is_lt r)) (sym (nat_list_cmp_total.congr q k e.0 tied)) (left_of _ _ below)))
+    ∙ apart_below q k es tied (right_of _ _ below)
+  where
+    apart : (r : Ordering) → T (is_lt r) → is_eq r ≡ false
+    apart Less h = refl
+    apart Equal h = absurd h
+    apart Greater h = absurd h
+
+find-puts : (es fs : List Row) (q : List ℕ) → T (is_sorted key_cmp fs) → find key_cmp q (puts key_cmp es fs) ≡ option_or (find key_cmp q fs) (find key_cmp q es)
+find-puts es [] q sorted = refl
+find-puts es (f ∷ fs) q sorted =
+    find-puts (put key_cmp f.0 f.1 es) fs q (right_of _ _ sorted)
+    ∙ ap (option_or (find key_cmp q fs)) (find-put key_cmp nat_list_cmp_total q f.0 f.1 es)
+    ∙ go (eq_by_cmp key_cmp q f.0) (find key_cmp q fs) (find key_cmp q es) (λ same. apart_below q f.0 fs (tie (key_cmp q f.0) same) (left_of _ _ sorted))
+  where
+    go : (b : Bool) (later before : Option Inode) → (b ≡ true → later ≡ None) → option_or later (cond b (Some f.1) before) ≡ option_or (cond b (Some f.1) later) before
+    go true later before none = ap (λ l. option_or l (Some f.1)) (none refl)
+    go false later before none = refl
+
+-- ---- leaf by leaf
+
+-- nothing is told, or what is true
+abbrev Tells : Option Inode → Option Inode → Type 0
+Tells v o = (o ≡ None) ⊎ (o ≡ v)
+
+module _ (names : Fragment → Names) (after : Option (List ℕ)) where
+  abbrev rows : Fragment → List Row
+  rows f = rows_after after (map.entries (names f))
+
+  pub rows_sorted : (f : Fragment) → T (is_sorted key_cmp (rows f))
+  rows_sorted f = is_sorted-where_key key_cmp (is_after after) (map.entries (names f)) (entries_sorted (names f))
+
+  gathered_sorted : (es : List Row) (fs : List Fragment) → T (is_sorted key_cmp es) → T (is_sorted key_cmp (gathered names after es fs))
+  gathered_sorted es [] sorted = sorted
+  gathered_sorted es (f ∷ fs) sorted = gathered_sorted (puts key_cmp es (rows f)) fs (puts_sorted es (rows f) sorted)
+
+  row_found : (f : Fragment) (q : List ℕ) → find key_cmp q (rows f) ≡ cond (is_after after q) (map.get (names f) q) None
+  row_found f q =
+      find-where_key key_cmp (is_after after) q (λ x tied. ap (is_after after) (sym (exact_bytes q x tied))) (map.entries (names f))
+      ∙ ap (λ o. cond (is_after after q) o None) (sym (get-entries (names f) q))
+
+  module _ (q : List ℕ) (v : Option Inode) where
+    Told : Fragment → Type 0
+    Told f = Tells v (find key_cmp q (rows f))
+
+    or_is : (a b : Option Inode) → a ≡ v → Tells v b → option_or a b ≡ v
+    or_is a b is tells = ap (λ o. option_or o b) is ∙ go v b tells
+      where
+        go : (w b : Option Inode) → Tells w b → option_or w b ≡ w
+        go None b (inl none) = none
+        go None b (inr same) = same
+        go (Some x) b tells = refl
+
+    or_was : (a b : Option Inode) → Tells v a → b ≡ v → option_or a b ≡ v
+    or_was a b (inl none) was = ap (λ o. option_or o b) none ∙ was
+    or_was a b (inr is) was = or_is a b is (inr was)
+
+    or_told : (a b : Option Inode) → Tells v a → Tells v b → Tells v (option_or a b)
+    or_told a b (inl none) tells = subst (Tells v) (sym (ap (λ o. option_or o b) none)) tells
+    or_told a b (inr is) tells = inr (or_is a b is tells)
+
+    after_leaf : (es : List Row) (f : Fragment) → find key_cmp q (puts key_cmp es (rows f)) ≡ option_or (find key_cmp q (rows f)) (find key_cmp q es)
+    after_leaf es f = find-puts es (rows f) q (rows_sorted f)
+
+    -- what is found stays
+    found_stays : (es : List Row) (fs : List Fragment) → ((f : Fragment) → Contains fs f → Tells v (find key_cmp q (rows f))) → find key_cmp q es ≡ v → find key_cmp q (gathered names after es fs) ≡ v
+    found_stays es [] each is = is
+    found_stays es (f ∷ fs) each is =
+        found_stays (puts key_cmp es (rows f)) fs (λ g has. each g (later_has f g fs has)) (after_leaf es f ∙ or_was _ _ (each f (first_has f fs)) is)
+
+    -- and what one leaf has is found
+    found_once : (es : List Row) (fs : List Fragment) (at : Fragment) → ((f : Fragment) → Contains fs f → Tells v (find key_cmp q (rows f))) → Tells v (find key_cmp q es) → find key_cmp q (rows at) ≡ v → Contains fs at → find key_cmp q (gathered names after es fs) ≡ v
+    found_once es [] at each told is (k, within, there) = absurd (omega (arith, within))
+    found_once es (f ∷ fs) at each told is (zero, within, there) =
+        found_stays (puts key_cmp es (rows f)) fs (λ g has. each g (later_has f g fs has)) (after_leaf es f ∙ or_is _ _ (ap (λ (g : Fragment). find key_cmp q (rows g)) there ∙ is) told)
+    found_once es (f ∷ fs) at each told is (suc k, within, there) =
+        found_once (puts key_cmp es (rows f)) fs at (λ g has. each g (later_has f g fs has)) (subst (Tells v) (sym (after_leaf es f)) (or_told _ _ (each f (first_has f fs)) told)) is (k, omega (arith, within), there)
+
+-- ---- pages
+
+-- a leaf's names are in order
+pub leaf_taken : (after : Option (List ℕ)) (names : Names) (left : List Row) (page new : Gathered) → left ≡ rows_after after (map.entries names)
+    → ((whole : List Row) → IsPageOf whole page → T (is_sorted key_cmp left) → IsPageOf (puts key_cmp whole left) new) → (whole : List Row) → IsPageOf whole page → IsPageOf (puts key_cmp whole (rows_after after (map.entries names))) new
+leaf_taken after names left page new is takes =
+    subst (λ rows. (whole : List Row) → IsPageOf whole page → IsPageOf (puts key_cmp whole rows) new) is
+    (λ whole p. takes whole p (subst (λ rows. T (is_sorted key_cmp rows)) (sym is) (is_sorted-where_key key_cmp (is_after after) (map.entries names) (entries_sorted names))))
+
+-- the names of the next leaf are taken in, and other leaves are left
+pub leaf_more : (names : Fragment → Names) (after : Option (List ℕ)) (f : Fragment) (fs rest all : List Fragment) (now whole : List Row) (page new : Gathered) (shown : Names) → shown ≡ names f → rest ≡ f ∷ fs → IsPageOf now page
+    → gathered names after now rest ≡ gathered names after whole all → ((w : List Row) → IsPageOf w page → IsPageOf (puts key_cmp w (rows_after after (map.entries shown))) new)
+    → (x : List Row) × IsPageOf x new × (gathered names after x fs ≡ gathered names after whole all)
+leaf_more names after f fs rest all now whole page new shown same steps is whole_is takes = (
+  puts key_cmp now (rows_after after (map.entries (names f))),
+  subst (λ (n : Names). IsPageOf (puts key_cmp now (rows_after after (map.entries n))) new) same (takes now is),
+  ap (gathered names after now) (sym steps) ∙ whole_is,
+)
+
+-- ---- all leaves of a directory
+
+module _ (s : State) (sound : IsSound s) (dir : Ino) (known : is_known s.homes dir.0 ≡ true) (after : Option (List ℕ)) where
+  abbrev names_in : Fragment → Names
+  names_in f = names_of s.unsaved s.objects (dir, f)
+
+  abbrev leaves : List Fragment
+  leaves = leaves_of s.covers dir.0
+
+  all_found : (q : List ℕ) → find key_cmp q (gathered names_in after [] leaves) ≡ find key_cmp q (names_after (shown_tree s) dir.0 after)
+  all_found q =
+      let w = some_pick leaves (hash_of q) (tree_of_row s.homes s.covers sound.table dir.0) in
+      found_once names_in after q (find key_cmp q (rows_after after (map.entries (names_in w.0)))) [] leaves w.0 (alone w.0 w.1) (inl refl) refl w.1.stands
+      ∙ row_found names_in after w.0 q
+      ∙ ap (λ o. cond (is_after after q) o None) (sym (at_dentry s sound dir.0 q w.0 known w.1))
+      ∙ sym ((names_are_listed (shown_tree s) dir.0 after).exact q)
+    where
+      alone : (at : Fragment) → IsPick leaves (hash_of q) at → (g : Fragment) → Contains leaves g → Tells (find key_cmp q (rows_after after (map.entries (names_in at)))) (find key_cmp q (rows_after after (map.entries (names_in g))))
+      alone at pick g stands = go (map.get (names_in g) q) refl
+        where
+          nothing : (b : Bool) → cond {A = Option Inode} b None None ≡ None
+          nothing true = refl
+          nothing false = refl
+
+          go : (o : Option Inode) → map.get (names_in g) q ≡ o → Tells (find key_cmp q (rows_after after (map.entries (names_in at)))) (find key_cmp q (rows_after after (map.entries (names_in g))))
+          go None is = inl (row_found names_in after g q ∙ ap (λ o. cond (is_after after q) o None) is ∙ nothing (is_after after q))
+          go (Some inode) is =
+              let placed : IsPick leaves (hash_of q) g = sound.placed (dir, g) q inode (record { known = known; stands = stands }) is in
+              inr (ap (λ (h : Fragment). find key_cmp q (rows_after after (map.entries (names_in h)))) (pick.alone g placed.stands placed.contains))
+
+  -- the names gathered from all leaves of a directory are those that the tree lists
+  pub gathers_listed : gathered names_in after [] leaves ≡ names_after (shown_tree s) dir.0 after
+  gathers_listed =
+      same_entries key_cmp nat_list_cmp_total exact_bytes (gathered names_in after [] leaves) (names_after (shown_tree s) dir.0 after) (gathered_sorted names_in after [] leaves tt) (names_are_listed (shown_tree s) dir.0 after).rises all_found

@@ -1,0 +1,16 @@
+use Rattle.std.proofs.Common.{List, Option, subst}
+use Rattle.std.specs.Option.{option_copied}
+use Rattle.std.specs.FinMap as map
+use Rattle.omap.specs.Omap.{key_cmp}
+use Rattle.sorted_map.specs.Places.{puts}
+use Rattle.cached_frag.specs.Cached.{Cached, shown}
+use Rattle.cached_frag.specs.Rows.{Row, rows_after, rows_left}
+use Rattle.dentry_cache.specs.Cache.{HasCached}
+use Rattle.mdcache.specs.Pages.{IsPageOf}
+use Rattle.mdcache.proofs.GatherLaws.{leaf_taken}
+use Rattle.mdcache.proofs.listing.gather_cached.Goals as goal
+
+pub returns-in-Ok-clause-page : goal.returns-in-Ok-clause-page
+returns-in-Ok-clause-page c =
+    subst (λ (o : Option Cached). HasCached o (λ (f : Cached). (whole : List Row) → IsPageOf whole c.args.page.now → IsPageOf (puts key_cmp whole (rows_after (option_copied c.args.after) (map.entries (shown f)))) c.take_rows.new.self)) c.in-Some.ensures
+    (leaf_taken (option_copied c.args.after) (shown c.in-Some.fragment.now) (rows_left c.rows_after.result) c.args.page.now c.take_rows.new.self c.rows_after.ensures c.in-Ok.ensures.page)
