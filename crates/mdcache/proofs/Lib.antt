@@ -11,8 +11,10 @@ pub mod ObjectLaws
 pub mod PutSteps
 pub mod ReadLaws
 pub mod ReadSteps
+pub mod RegroupLaws
 pub mod ShownLaws
 pub mod SoundLaws
+pub mod SplitLaws
 pub mod Steps
 pub mod TextLaws
 pub mod TreeLaws

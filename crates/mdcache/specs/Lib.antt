@@ -7,4 +7,5 @@ pub mod Objects
 pub mod Reads
 pub mod Shown
 pub mod Sound
+pub mod Splits
 pub mod State

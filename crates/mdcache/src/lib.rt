@@ -20,5 +20,5 @@ mod removing;
 mod setting;
 mod trees;
 
-pub use laws::changes_are_right;
+pub use laws::{changes_are_right, merges_are_right, splits_are_right};
 pub use mdcache::MdCache;
