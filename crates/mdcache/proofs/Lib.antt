@@ -15,6 +15,7 @@ pub mod RegroupLaws
 pub mod ShownLaws
 pub mod SoundLaws
 pub mod SplitLaws
+pub mod SplitSteps
 pub mod Steps
 pub mod TextLaws
 pub mod TreeLaws

@@ -166,14 +166,14 @@ leaf_in (TreeOf dir) = (dir, root_fragment)
 module _ (s : State) (sound : IsSound s) (dir : Ino) (gone cover : List Fragment) (count : ℕ) (t : State) (r : IsRegrouped s t dir gone cover count)
     (ends : (f : Fragment) → HasLeaf (leaves_of s.covers dir.0) f → HasLeaf gone f ⊎ HasLeaf cover f)
     (stood : (f : Fragment) → HasLeaf gone f → HasLeaf (leaves_of s.covers dir.0) f × (HasLeaf cover f → ⊥)) where
-  abbrev n : State
+  abbrev pub n : State
   n = regrouped s dir gone cover count r.unsaved r.purge
 
-  abbrev row : List Fragment
+  abbrev pub row : List Fragment
   row = leaves_of s.covers dir.0
 
   -- the leaf isn't concerned
-  abbrev Apart : Leaf → Type 0
+  abbrev pub Apart : Leaf → Type 0
   Apart leaf = leaf.0.0 ≡ dir.0 → IsConcerned row cover gone leaf.1 → ⊥
 
   cover_here : leaves_of n.covers dir.0 ≡ cover
@@ -189,7 +189,7 @@ module _ (s : State) (sound : IsSound s) (dir : Ino) (gone cover : List Fragment
   its leaf same = λ i. (record { 0 = sym same i }, leaf.1)
 
   -- a leaf ended, or came, or is not concerned
-  which : (leaf : Leaf) → ((leaf.0.0 ≡ dir.0) × HasLeaf gone leaf.1) ⊎ (((leaf.0.0 ≡ dir.0) × Comes row cover leaf.1) ⊎ Apart leaf)
+  pub which : (leaf : Leaf) → ((leaf.0.0 ≡ dir.0) × HasLeaf gone leaf.1) ⊎ (((leaf.0.0 ≡ dir.0) × Comes row cover leaf.1) ⊎ Apart leaf)
   which leaf = go (same_number leaf.0.0 dir.0) (has_or_not gone leaf.1) (has_or_not cover leaf.1) (has_or_not row leaf.1)
     where
       go : (leaf.0.0 ≡ dir.0) ⊎ (leaf.0.0 ≡ dir.0 → ⊥) → HasLeaf gone leaf.1 ⊎ (HasLeaf gone leaf.1 → ⊥) → HasLeaf cover leaf.1 ⊎ (HasLeaf cover leaf.1 → ⊥) → HasLeaf row leaf.1 ⊎ (HasLeaf row leaf.1 → ⊥)
@@ -209,7 +209,7 @@ module _ (s : State) (sound : IsSound s) (dir : Ino) (gone cover : List Fragment
           neither (inr came) = out came.0
 
   -- a leaf that isn't concerned lives after as before
-  apart_live : (leaf : Leaf) → Apart leaf → IsLive s.homes s.covers leaf → IsLive n.homes n.covers leaf
+  pub apart_live : (leaf : Leaf) → Apart leaf → IsLive s.homes s.covers leaf → IsLive n.homes n.covers leaf
   apart_live leaf apart live = record { known = live.known; stands = go (same_number leaf.0.0 dir.0) }
     where
       go : (leaf.0.0 ≡ dir.0) ⊎ (leaf.0.0 ≡ dir.0 → ⊥) → HasLeaf (leaves_of n.covers leaf.0.0) leaf.1
@@ -234,7 +234,7 @@ module _ (s : State) (sound : IsSound s) (dir : Ino) (gone cover : List Fragment
           either (inl stands) = subst (λ (d : ℕ). HasLeaf (leaves_of s.covers d) leaf.1) (sym same) stands
           either (inr fresh) = absurd (apart same (inr (in_cover leaf same live, fresh)))
 
-  came_live : (leaf : Leaf) → leaf.0.0 ≡ dir.0 → HasLeaf cover leaf.1 → IsLive n.homes n.covers leaf
+  pub came_live : (leaf : Leaf) → leaf.0.0 ≡ dir.0 → HasLeaf cover leaf.1 → IsLive n.homes n.covers leaf
   came_live leaf same stands = record { known = ap (is_known s.homes) same ∙ r.known; stands = subst (λ (fs : List Fragment). HasLeaf fs leaf.1) (sym (ap (leaves_of n.covers) same ∙ cover_here)) stands }
 
   gone_live : (f : Fragment) → HasLeaf gone f → IsLive s.homes s.covers (dir, f)

@@ -19,14 +19,14 @@ only_one f g has = go (first_or_later f g [] has)
     go (inl is) = is
     go (inr none) = let within = none.1 in absurd (omega (arith, within))
 
-split_ends : (old cover : List Fragment) (frag : Fragment) (nb : ℕ) → IsSplit old cover frag nb → (f : Fragment) → HasLeaf old f → HasLeaf (frag ∷ []) f ⊎ HasLeaf cover f
+pub split_ends : (old cover : List Fragment) (frag : Fragment) (nb : ℕ) → IsSplit old cover frag nb → (f : Fragment) → HasLeaf old f → HasLeaf (frag ∷ []) f ⊎ HasLeaf cover f
 split_ends old cover frag nb divided f stands = go (one_or_other frag f)
   where
     go : (frag ≡ f) ⊎ (frag ≢ f) → HasLeaf (frag ∷ []) f ⊎ HasLeaf cover f
     go (inl is) = inl (zero, omega arith, is)
     go (inr other) = inr ((divided.leaves f).1 (inl (stands, λ same. other (sym same))))
 
-split_stood : (old cover : List Fragment) (frag : Fragment) (nb : ℕ) → 1 ≤ nb → HasLeaf old frag → IsSplit old cover frag nb → (f : Fragment) → HasLeaf (frag ∷ []) f → HasLeaf old f × (HasLeaf cover f → ⊥)
+pub split_stood : (old cover : List Fragment) (frag : Fragment) (nb : ℕ) → 1 ≤ nb → HasLeaf old frag → IsSplit old cover frag nb → (f : Fragment) → HasLeaf (frag ∷ []) f → HasLeaf old f × (HasLeaf cover f → ⊥)
 split_stood old cover frag nb some stands divided f ended =
     let same = only_one frag f ended in
     (subst (HasLeaf old) same stands, λ has. go same ((divided.leaves f).0 has))
