@@ -8,6 +8,7 @@ pub mod HomeLaws
 pub mod NamedLaws
 pub mod NewLaws
 pub mod ObjectLaws
+pub mod PurgeSteps
 pub mod PutSteps
 pub mod ReadLaws
 pub mod ReadSteps

@@ -1,6 +1,6 @@
 -- What a split and a merge of a directory's leaves make of the state.
 use Rattle.std.specs.Prelude.{◌≡◌, ◌⊎◌, ℕ, ◌+◌, ◌<◌, ◌≤◌, ◌^◌, Bool, true, cond, List, [], ◌∷◌, map as each, Option, Some, None}
-use Rattle.std.specs.List.{list_all}
+use Rattle.std.specs.List.{Contains, list_all}
 use Rattle.std.specs.FinMap as map
 use Rattle.mds_types.specs.declared.ids.Ino.{Ino}
 use Rattle.mds_types.specs.Frag.{Fragment, child_of}
@@ -50,6 +50,16 @@ pub record IsListedAnew (old new : Keys) (dir : Ino) (gone : List Fragment) (Cam
   pub ended : (f : Fragment) → HasLeaf gone f → map.get new (text_of (dir, f)) ≡ Some tt
   pub came : (f : Fragment) → Came f → map.get new (text_of (dir, f)) ≡ None
   pub others : (name : List ℕ) → ((f : Fragment) → HasLeaf gone f ⊎ Came f → name ≡ text_of (dir, f) → ⊥) → map.get new name ≡ map.get old name
+
+-- a list without some names
+abbrev pub without_objects : Keys → List (List ℕ) → Keys
+without_objects names [] = names
+without_objects names (name ∷ more) = without_objects (map.remove names name) more
+
+-- these texts name the objects of the children of a fragment, and nothing else
+pub record NameChildren (dir : Ino) (frag : Fragment) (nb : ℕ) (texts : List (List ℕ)) : Type 0 where
+  pub each : (i : ℕ) → i < 2 ^ nb → Contains texts (text_of (dir, child_of frag i nb))
+  pub only : (text : List ℕ) → Contains texts text → (i : ℕ) × (i < 2 ^ nb) × (text ≡ text_of (dir, child_of frag i nb))
 
 -- whether no name stands in some leaves of a directory
 abbrev pub are_empty : State → Ino → List Fragment → Bool

@@ -18,6 +18,7 @@ mod purging;
 mod reading;
 mod removing;
 mod setting;
+mod splitting;
 mod trees;
 
 pub use laws::{changes_are_right, merges_are_right, splits_are_right};
