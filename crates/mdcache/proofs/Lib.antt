@@ -12,11 +12,15 @@ pub mod NewLaws
 pub mod MoveSteps
 pub mod ObjectLaws
 pub mod PageLaws
+pub mod PurgeSteps
 pub mod PutSteps
 pub mod ReadLaws
 pub mod ReadSteps
+pub mod RegroupLaws
 pub mod ShownLaws
 pub mod SoundLaws
+pub mod SplitLaws
+pub mod SplitSteps
 pub mod Steps
 pub mod TextLaws
 pub mod TreeLaws

@@ -9,4 +9,5 @@ pub mod Pages
 pub mod Reads
 pub mod Shown
 pub mod Sound
+pub mod Splits
 pub mod State
