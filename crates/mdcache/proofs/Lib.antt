@@ -11,6 +11,7 @@ pub mod ObjectLaws
 pub mod PutSteps
 pub mod ReadLaws
 pub mod ReadSteps
+pub mod ReadyLaws
 pub mod ShownLaws
 pub mod SoundLaws
 pub mod Steps

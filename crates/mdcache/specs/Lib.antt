@@ -5,6 +5,7 @@ pub mod Made
 pub mod New
 pub mod Objects
 pub mod Reads
+pub mod Ready
 pub mod Shown
 pub mod Sound
 pub mod State

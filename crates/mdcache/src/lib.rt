@@ -16,9 +16,12 @@ mod leaves;
 mod mdcache;
 mod purging;
 mod reading;
+mod ready;
+mod ready_leaves;
 mod removing;
 mod setting;
 mod trees;
 
 pub use laws::changes_are_right;
 pub use mdcache::MdCache;
+pub use ready::NewDirectory;
