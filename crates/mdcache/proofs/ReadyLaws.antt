@@ -3,8 +3,11 @@ use Rattle.std.proofs.Common.{◌≡◌, ◌⊎◌, inl, inr, ℕ, ◌<◌, ◌�
 use Rattle.std.specs.Prelude.{IfErr}
 use Rattle.std.specs.Map.{lookup}
 use Rattle.std.specs.FinMap as map
+use Rattle.mds_types.specs.declared.ids.Ino.{Ino}
 use Rattle.mds_types.specs.declared.refusals.Refusal.{Refusal}
 use Rattle.mds_types.specs.declared.refusals.Refusal.TheVariants.{NoMemory, NothingToEvict}
+use Rattle.mds_types.specs.Frag.{Fragment}
+use Rattle.mds_types.specs.Tree.{is_directory}
 use Rattle.omap.specs.Omap.{Omap}
 use Rattle.objstore.specs.Objects.{Objects}
 use Rattle.commit_jobs.specs.declared.bases.Base.{Base}
@@ -20,12 +23,14 @@ use Rattle.dentry_cache.proofs.LeavingLaws.{staying_is_left}
 use Rattle.dentry_cache.proofs.TieLaws.{fetched_are_tied}
 use Rattle.dentry_cache.proofs.UsedLaws.{beside_removal, still_absent}
 use Rattle.inode_table.specs.Dirs.{Covers, Homes, Table}
+use Rattle.inode_table.proofs.TableLaws.{known_is}
 use Rattle.purge_list.specs.PurgeList.{Listed}
 use Rattle.standing_jobs.specs.StandingJobs.{Standing}
 use Rattle.mdcache.specs.declared.mdcache.Counters.{Counters}
 use Rattle.mdcache.specs.Cached.{IsKept, IsSameBut, KeepsCached, state_of}
 use Rattle.mdcache.specs.Ready.{IsFrom, LacksBeside, MayNotBeReady, MayNotFind, Readies}
 use Rattle.mdcache.specs.Reads.{LacksPlaces, MayNotRead, Reads}
+use Rattle.mdcache.specs.Shown.{shown_tree}
 use Rattle.mdcache.specs.State.{IsLive, State}
 use Rattle.mdcache.proofs.CachedLaws.{cached_after, keeps_unsaved, used_keeps}
 
@@ -171,6 +176,12 @@ module _ (dirs : Table) (cache : Held) (objects : Objects) (jobs : Standing) (pu
       go : (o : Option Cached) → cached cache.entries q ≡ o → o ≡ None
       go None is = refl
       go (Some f) is = absurd (dead (kept.live q f is))
+
+  -- a directory that isn't there has no leaf
+  pub unknown_dead : (dir : Ino) (f : Fragment) → is_directory (shown_tree s) dir.0 ≡ false → IsLive dirs.homes dirs.trees (dir, f) → ⊥
+  unknown_dead dir f unused live =
+      let clash : true ≡ false = sym live.known ∙ known_is (shown_tree s) dirs.homes kept.sound.tabled dir.0 ∙ unused in
+      cc
 
   -- a table that got room alone
   module _ (dirs' : Table) (homes : dirs'.homes ≡ dirs.homes) (trees : dirs'.trees ≡ dirs.trees) where
