@@ -12,6 +12,7 @@ pub mod PutSteps
 pub mod ReadLaws
 pub mod ReadSteps
 pub mod ReadyLaws
+pub mod ReadyPairs
 pub mod ShownLaws
 pub mod SoundLaws
 pub mod Steps

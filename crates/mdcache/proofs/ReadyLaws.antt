@@ -13,7 +13,7 @@ use Rattle.objstore.specs.Objects.{Objects}
 use Rattle.commit_jobs.specs.declared.bases.Base.{Base}
 use Rattle.commit_jobs.specs.declared.bases.Base.TheVariants.{Fresh, Stored}
 use Rattle.cached_frag.specs.Cached.{Cached}
-use Rattle.dentry_cache.specs.Cache.{Evicts, HasRoom, Held, IsChanged, IsFull, IsThere, Leaf, MakesRoom, MayMakeRoom, NoneGoes, Places, cached, fragment_in, is_kept, kept_place, leaf_is, may_go, unsaved, without}
+use Rattle.dentry_cache.specs.Cache.{HasCached, HasRoom, Held, IsChanged, IsFull, IsThere, Leaf, MakesRoom, MayMakeRoom, NoneGoes, Places, cached, fragment_in, is_kept, kept_place, leaf_is, may_go, unsaved, without}
 use Rattle.dentry_cache.specs.declared.cache.Place.{Place}
 use Rattle.dentry_cache.specs.Leaving.{IsLeft, LeavesBeside}
 use Rattle.dentry_cache.specs.Loading.{Loads, object_of}
@@ -70,24 +70,56 @@ room_keeps leaf old new h = used_keeps leaf (cached old.entries leaf) old new re
     go None h = absurd h
     go (Some f) h = (h.0, h.1.0 ∙ (λ i. record f { room = h.0.room; places = (sym (ap (λ (g : Cached). g.places) h.1.0)) i }), h.2)
 
-pub has_room : (leaf : Leaf) (old new : Held) → IsChanged (cached old.entries leaf) (λ (f now : Cached). 1 ≤ now.room) leaf old new → HasRoom (cached new.entries leaf)
-has_room leaf old new h = go (cached old.entries leaf) h
+pub has_rooms : (changes : ℕ) (leaf : Leaf) (old new : Held) → IsChanged (cached old.entries leaf) (λ (f now : Cached). changes ≤ now.room) leaf old new → HasCached (cached new.entries leaf) (λ (f : Cached). changes ≤ f.room)
+has_rooms changes leaf old new h = go (cached old.entries leaf) h
   where
-    go : (o : Option Cached) → IsChanged o (λ (f now : Cached). 1 ≤ now.room) leaf old new → HasRoom (cached new.entries leaf)
+    go : (o : Option Cached) → IsChanged o (λ (f now : Cached). changes ≤ now.room) leaf old new → HasCached (cached new.entries leaf) (λ (f : Cached). changes ≤ f.room)
     go None h = absurd h
     go (Some f) h =
-        subst HasRoom (sym (ap (λ (n : Held). cached n.entries leaf) h.2 ∙ cached_after leaf leaf h.0 old ∙ ap (λ (b : Bool). cond b (Some h.0) (cached old.entries leaf)) (leaf_itself leaf)))
-        (let one = h.1 in omega (arith, one))
+        subst (λ (o : Option Cached). HasCached o (λ (f : Cached). changes ≤ f.room))
+        (sym (ap (λ (n : Held). cached n.entries leaf) h.2 ∙ cached_after leaf leaf h.0 old ∙ ap (λ (b : Bool). cond b (Some h.0) (cached old.entries leaf)) (leaf_itself leaf))) h.1
 
-pub room_there : (o : Option Cached) → HasRoom o → IsThere o
-room_there None h = h
-room_there (Some f) h = tt
+pub has_room : (changes : ℕ) (o : Option Cached) → 0 < changes → HasCached o (λ (f : Cached). changes ≤ f.room) → HasRoom o
+has_room changes None some h = h
+has_room changes (Some f) some h = omega (arith, some, h)
+
+pub two_fit : (o : Option Cached) → HasCached o (λ (f : Cached). 2 ≤ f.room) → HasCached o (λ (f : Cached). 1 < f.room)
+two_fit None h = h
+two_fit (Some f) h = omega (arith, h)
+
+-- of a fragment that is there what holds still holds where another one, or this one, got room
+pub room_stays : (one two : Leaf) (old new : Held) → IsChanged (cached old.entries two) (λ (f now : Cached). (now ≡ record f { room = now.room }) × (f.room ≤ now.room)) two old new → HasCached (cached old.entries one) (λ (f : Cached). 1 < f.room)
+    → HasCached (cached new.entries one) (λ (f : Cached). 1 < f.room)
+room_stays one two old new changed has = go (cached old.entries two) refl changed
+  where
+    Fits : Option Cached → Type 0
+    Fits o = HasCached o (λ (f : Cached). 1 < f.room)
+
+    go : (o : Option Cached) → cached old.entries two ≡ o → IsChanged o (λ (f now : Cached). (now ≡ record f { room = now.room }) × (f.room ≤ now.room)) two old new → HasCached (cached new.entries one) (λ (f : Cached). 1 < f.room)
+    go None was h = absurd h
+    go (Some f) was h = subst Fits (sym (ap (λ (n : Held). cached n.entries one) h.2 ∙ cached_after two one h.0 old)) (test (leaf_is two one) refl)
+      where
+        test : (b : Bool) → leaf_is two one ≡ b → Fits (cond b (Some h.0) (cached old.entries one))
+        test true same =
+            let had : 1 < f.room = subst Fits (ap (cached old.entries) (sym (one_leaf two one same)) ∙ was) has in
+            let more = h.1.1 in
+            omega (arith, had, more)
+        test false apart = has
+
+pub fit_there : (o : Option Cached) → HasCached o (λ (f : Cached). 1 < f.room) → IsThere o
+fit_there None h = h
+fit_there (Some f) h = tt
 
 -- ---- a place that is kept
 
 pub not_there : (o : Option Place) → is_kept o ≡ false → fragment_in o ≡ None → o ≡ None
 not_there None unkept absent = refl
 not_there (Some place) unkept absent = let clash : Some place.frag ≡ None = sym (ap (λ (b : Bool). cond b None (Some place.frag)) unkept) ∙ absent in absurd cc
+
+-- a place that is kept has no fragment yet
+pub kept_none : (o : Option Place) → is_kept o ≡ true → fragment_in o ≡ None
+kept_none None kept = refl
+kept_none (Some place) kept = ap (λ (b : Bool). cond b None (Some place.frag)) kept
 
 pub given_up : (leaf : Leaf) (old new : Held) → cached old.entries leaf ≡ None → new ≡ without leaf old → lookup (leaf_is leaf) new.entries ≡ None → (q : Leaf) → cached new.entries q ≡ cached old.entries q
 given_up leaf old new absent is gone q = go (leaf_is leaf q) refl

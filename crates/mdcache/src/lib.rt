@@ -18,6 +18,8 @@ mod purging;
 mod reading;
 mod ready;
 mod ready_leaves;
+mod ready_move;
+mod ready_pairs;
 mod removing;
 mod setting;
 mod trees;

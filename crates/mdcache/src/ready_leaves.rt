@@ -1,24 +1,24 @@
 //! Leaves of the cache, made ready for changes of their names, and places kept for those that will come.
-ghost use Rattle.std.specs.Prelude.{◌≡◌, ◌⊎◌, ◌≤◌, true, None, Some, OnOk, IfErr};
+ghost use Rattle.std.specs.Prelude.{◌≡◌, ◌⊎◌, ◌<◌, ◌≤◌, true, None, Some, OnOk, IfErr};
 ghost use Rattle.std.specs.FinMap as map;
 ghost use Rattle.std.specs.Map.{lookup};
 ghost use Rattle.mds_types.specs.declared.refusals.Refusal.TheVariants.{NoMemory, NothingToEvict};
 ghost use Rattle.cached_frag.specs.Cached.{Cached};
-ghost use Rattle.dentry_cache.specs.Cache.{HasRoom, IsFull, IsThere, Leaf, cached, is_kept, leaf_is, unsaved};
+ghost use Rattle.dentry_cache.specs.Cache.{HasCached, HasRoom, IsFull, IsThere, Leaf, cached, is_kept, leaf_is, unsaved};
 ghost use Rattle.dentry_cache.specs.Loading.{object_of};
 ghost use Rattle.mdcache.specs.Changes.{first_leaf};
 ghost use Rattle.mdcache.specs.Ready.{LacksBeside, MayNotFind, Readies};
 ghost use Rattle.mdcache.specs.Reads.{MayNotRead};
 ghost use Rattle.mdcache.specs.Sound.{IsSaved};
 
-use crate::fetching::fetch_leaf;
+use crate::fetching::{fetch_leaf, release};
 use dentry_cache::Cache;
 use mds_types::{Frag, Ino, Refusal};
 use objstore::Store;
 use std::alloc::Global;
 
-/// Makes sure that a leaf is cached and has room for a change of one name, and makes it the most recently used. Takes
-/// memory for a leaf that is read, and for the room.
+/// Makes sure that a leaf is cached and has room for so many changes, one at least, and makes it the most recently used.
+/// Takes memory for a leaf that is read, and for the room.
 ///
 /// Refused `NothingToEvict` where no place is free and no fragment can go, `StoreFault`, and `NoMemory`.
 pub(crate) fn ready_leaf<S: Store>(
@@ -27,9 +27,12 @@ pub(crate) fn ready_leaf<S: Store>(
     store: &mut S,
     dir: Ino,
     frag: Frag,
+    changes: usize,
 ) -> Result<(), Refusal>
     requires saved { map.get (unsaved cache.old.entries) (dir, frag) ≡ None → IsSaved frag (object_of (S.objects store.old) dir frag) }
+    requires some { 0 < changes }
     ensures room { OnOk result (HasRoom (cached cache.new.entries (dir, frag))) }
+    ensures rooms { OnOk result (HasCached (cached cache.new.entries (dir, frag)) (λ (f : Cached). changes ≤ f.room)) }
     ensures left { Readies (λ (q : Leaf). q ≡ (dir, frag)) (S.objects store.old) cache.old cache.new }
     ensures refused { IfErr result (MayNotRead (S.faults store.old) (S.faults store.new) cache.old) }
     ensures same { S.objects store.new ≡ S.objects store.old }
@@ -38,7 +41,7 @@ pub(crate) fn ready_leaf<S: Store>(
     if let Err(refusal) = fetch_leaf(alloc, cache, store, dir, frag) {
         return Err(refusal);
     }
-    match cache.reserve(dir, frag, 1) {
+    match cache.reserve(dir, frag, changes) {
         Ok(()) => Ok(()),
         Err(_) => Err(Refusal::NoMemory),
     }
@@ -67,7 +70,7 @@ pub(crate) fn ready_first<S: Store>(
     ensures same { S.objects store.new ≡ S.objects store.old }
     ensures grows { S.faults store.old ≤ S.faults store.new }
 {
-    if let Err(refusal) = ready_leaf(alloc, cache, store, dir, frag) {
+    if let Err(refusal) = ready_leaf(alloc, cache, store, dir, frag, 1) {
         return Err(refusal);
     }
     keep_first(alloc, cache, new, dir, frag)
@@ -89,17 +92,6 @@ fn keep_first(
     ensures from { (q : Leaf) (f : Cached) → cached cache.new.entries q ≡ Some f → cached cache.old.entries q ≡ Some f }
     ensures refused { IfErr result (λ reason. (reason ≡ NoMemory) ⊎ ((reason ≡ NothingToEvict) × IsFull (Some (dir, frag)) cache.new)) }
 {
-    give_up(cache, new, Frag::ROOT);
+    release(cache, new, Frag::ROOT);
     cache.keep(alloc, new, Frag::ROOT, Some((dir, frag)))
-}
-
-/// Gives up the place that is kept for a leaf which isn't cached, if there is one. Takes no memory.
-pub(crate) fn give_up(cache: &mut Cache, dir: Ino, frag: Frag)
-    requires { cached cache.old.entries (dir, frag) ≡ None }
-    ensures absent { lookup (leaf_is (dir, frag)) cache.new.entries ≡ None }
-    ensures cached { (q : Leaf) → cached cache.new.entries q ≡ cached cache.old.entries q }
-{
-    if cache.is_kept(dir, frag) {
-        cache.forget(dir, frag);
-    }
 }
