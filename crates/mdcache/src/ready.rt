@@ -47,14 +47,7 @@ impl<S: Store + Drop> MdCache<S> {
         if let Err(refusal) = check_left(self.next.version) {
             return Err(refusal);
         }
-        ready_leaf(
-            alloc,
-            &mut self.cache,
-            &mut self.store,
-            dentry.dir,
-            leaf,
-            1,
-        )
+        ready_leaf(alloc, &mut self.cache, &mut self.store, dentry.dir, leaf, 1)
     }
 
     /// Makes ready that a new directory of this number comes to a dentry. `leaf` is the one that the dentry belongs to; it is

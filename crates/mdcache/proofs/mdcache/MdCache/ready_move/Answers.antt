@@ -25,8 +25,8 @@ ready_pair-requires g c =
       second = live_saved c.self.inside.dirs c.self.inside.cache (g.S.Store.objects c.self.inside.store) c.self.inside.jobs c.self.inside.purge c.self.inside.next c.self.invariant (c.args.to.now.dir, c.args.target) second;
     }
 
-pub invariant_of-self-in-Err-ready_pair : goal.invariant_of-self-in-Err-ready_pair
-invariant_of-self-in-Err-ready_pair g c =
+pub invariant_of-self : goal.invariant_of-self
+invariant_of-self g c =
     let first_known = ap (λ (k : Core). is_directory (shown_tree k.state) c.args.from.now.dir.0) c.self.view_is ∙ c.requires.from_known in
     let first_pick : IsPick (leaves_of c.self.inside.dirs.trees c.args.from.now.dir.0) (hash_of c.args.from.now.name) c.args.source = subst (λ (k : Core). IsPick (leaves_of k.state.covers c.args.from.now.dir.0) (hash_of c.args.from.now.name) c.args.source) (sym c.self.view_is) c.requires.from_leaf in
     let first : IsLive c.self.inside.dirs.homes c.self.inside.dirs.trees (c.args.from.now.dir, c.args.source) = pick_live c.self.inside.dirs c.self.inside.cache (g.S.Store.objects c.self.inside.store) c.self.inside.jobs c.self.inside.purge c.self.inside.next c.self.invariant c.args.from.now.dir (hash_of c.args.from.now.name) c.args.source first_known first_pick in
@@ -36,8 +36,8 @@ invariant_of-self-in-Err-ready_pair g c =
     ready_kept c.self.inside.dirs c.self.inside.cache (g.S.Store.objects c.self.inside.store) c.self.inside.jobs c.self.inside.purge c.self.inside.next c.self.invariant (λ (q : Leaf). (q ≡ (c.args.from.now.dir, c.args.source)) ⊎ (q ≡ (c.args.to.now.dir, c.args.target))) c.ready_pair.new.cache (g.S.Store.objects c.ready_pair.new.store) c.in-Err-ready_pair.ensures.same c.in-Err-ready_pair.ensures.left
     (either_live c.self.inside.dirs.homes c.self.inside.dirs.trees (c.args.from.now.dir, c.args.source) (c.args.to.now.dir, c.args.target) first second)
 
-pub invariant_of-self : goal.invariant_of-self
-invariant_of-self g c =
+pub invariant_of-self-2 : goal.invariant_of-self-2
+invariant_of-self-2 g c =
     let first_known = ap (λ (k : Core). is_directory (shown_tree k.state) c.args.from.now.dir.0) c.self.view_is ∙ c.requires.from_known in
     let first_pick : IsPick (leaves_of c.self.inside.dirs.trees c.args.from.now.dir.0) (hash_of c.args.from.now.name) c.args.source = subst (λ (k : Core). IsPick (leaves_of k.state.covers c.args.from.now.dir.0) (hash_of c.args.from.now.name) c.args.source) (sym c.self.view_is) c.requires.from_leaf in
     let first : IsLive c.self.inside.dirs.homes c.self.inside.dirs.trees (c.args.from.now.dir, c.args.source) = pick_live c.self.inside.dirs c.self.inside.cache (g.S.Store.objects c.self.inside.store) c.self.inside.jobs c.self.inside.purge c.self.inside.next c.self.invariant c.args.from.now.dir (hash_of c.args.from.now.name) c.args.source first_known first_pick in
