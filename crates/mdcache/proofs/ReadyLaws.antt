@@ -2,7 +2,6 @@
 use Rattle.std.proofs.Common.{◌≡◌, ◌⊎◌, inl, inr, ℕ, ◌<◌, ◌≤◌, Bool, true, false, cond, ◌++◌, ◌∷◌, [], Option, Some, None, Result, Ok, Err, OnOk, OnErr, refl, sym, ap, subst, ◌∙◌, arith}
 use Rattle.std.specs.Prelude.{IfErr}
 use Rattle.std.specs.Map.{lookup}
-use Rattle.std.specs.FinMap as map
 use Rattle.mds_types.specs.declared.ids.Ino.{Ino}
 use Rattle.mds_types.specs.declared.refusals.Refusal.{Refusal}
 use Rattle.mds_types.specs.declared.refusals.Refusal.TheVariants.{NoMemory, NothingToEvict}
@@ -13,7 +12,7 @@ use Rattle.objstore.specs.Objects.{Objects}
 use Rattle.commit_jobs.specs.declared.bases.Base.{Base}
 use Rattle.commit_jobs.specs.declared.bases.Base.TheVariants.{Fresh, Stored}
 use Rattle.cached_frag.specs.Cached.{Cached}
-use Rattle.dentry_cache.specs.Cache.{HasCached, HasRoom, Held, IsChanged, IsFull, IsThere, Leaf, MakesRoom, MayMakeRoom, NoneGoes, Places, cached, fragment_in, is_kept, kept_place, leaf_is, may_go, unsaved, without}
+use Rattle.dentry_cache.specs.Cache.{HasCached, HasRoom, Held, IsChanged, IsFull, IsThere, Leaf, MayMakeRoom, NoneGoes, Places, cached, fragment_in, is_kept, kept_place, leaf_is, may_go, unsaved, without}
 use Rattle.dentry_cache.specs.declared.cache.Place.{Place}
 use Rattle.dentry_cache.specs.Leaving.{IsLeft, LeavesBeside}
 use Rattle.dentry_cache.specs.Loading.{Loads, object_of}
@@ -22,14 +21,14 @@ use Rattle.dentry_cache.proofs.LeafLaws.{leaf_itself, one_leaf}
 use Rattle.dentry_cache.proofs.LeavingLaws.{staying_is_left}
 use Rattle.dentry_cache.proofs.TieLaws.{fetched_are_tied}
 use Rattle.dentry_cache.proofs.UsedLaws.{beside_removal, still_absent}
-use Rattle.inode_table.specs.Dirs.{Covers, Homes, Table}
+use Rattle.inode_table.specs.Dirs.{Table}
 use Rattle.inode_table.proofs.TableLaws.{known_is}
 use Rattle.purge_list.specs.PurgeList.{Listed}
 use Rattle.standing_jobs.specs.StandingJobs.{Standing}
 use Rattle.mdcache.specs.declared.mdcache.Counters.{Counters}
 use Rattle.mdcache.specs.Cached.{IsKept, IsSameBut, KeepsCached, state_of}
-use Rattle.mdcache.specs.Ready.{IsFrom, LacksBeside, MayNotBeReady, MayNotFind, Readies}
-use Rattle.mdcache.specs.Reads.{LacksPlaces, MayNotRead, Reads}
+use Rattle.mdcache.specs.Ready.{IsFrom, LacksBeside, MayNotFind, Readies}
+use Rattle.mdcache.specs.Reads.{MayNotRead, Reads}
 use Rattle.mdcache.specs.Shown.{shown_tree}
 use Rattle.mdcache.specs.State.{IsLive, State}
 use Rattle.mdcache.proofs.CachedLaws.{cached_after, keeps_unsaved, used_keeps}
