@@ -16,6 +16,8 @@ pub mod PurgeSteps
 pub mod PutSteps
 pub mod ReadLaws
 pub mod ReadSteps
+pub mod ReadyLaws
+pub mod ReadyPairs
 pub mod RegroupLaws
 pub mod ShownLaws
 pub mod SoundLaws

@@ -7,6 +7,7 @@ pub mod New
 pub mod Objects
 pub mod Pages
 pub mod Reads
+pub mod Ready
 pub mod Shown
 pub mod Sound
 pub mod Splits

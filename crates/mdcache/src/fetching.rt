@@ -36,10 +36,11 @@ pub(crate) fn fetch_leaf<S: Store>(
     cache.fetch(alloc, store, dir, frag, None)
 }
 
-// A place that was kept for a fragment which wasn't made then is free again.
-fn release(cache: &mut Cache, dir: Ino, frag: Frag)
+/// A place that was kept for a fragment which wasn't made then is free again. What is cached stays.
+pub(crate) fn release(cache: &mut Cache, dir: Ino, frag: Frag)
     ensures reads { (objects : Objects) → Reads (λ (q : Leaf). q ≡ (dir, frag)) objects cache.old cache.new }
     ensures not_kept { is_kept (lookup (leaf_is (dir, frag)) cache.new.entries) ≡ false }
+    ensures cached { (q : Leaf) → cached cache.new.entries q ≡ cached cache.old.entries q }
 {
     if cache.is_kept(dir, frag) {
         cache.forget(dir, frag);

@@ -1,0 +1,35 @@
+use Rattle.std.proofs.Common.{◌≡◌, sym, ap, subst, ◌∙◌}
+use Rattle.std.specs.Map.{lookup}
+use Rattle.std.specs.FinMap as map
+use Rattle.dentry_cache.specs.Cache.{IsThere, leaf_is}
+use Rattle.mdcache.proofs.ReadLaws.{found_there, map_err, map_ok}
+use Rattle.mdcache.proofs.ReadyLaws.{readies_on, reads_ready}
+use Rattle.mdcache.proofs.ReadyPairs.{beside_refused, fetch_ready, stays_fetched}
+use Rattle.mdcache.proofs.ready_pairs.fetch_beside.Goals as goal
+
+pub returns-clause-there : goal.returns-clause-there
+returns-clause-there g c =
+    let objects = g.S.Store.objects c.args.store.now in
+    map_ok c.fetch.result (found_there (c.args.dir, c.args.frag) objects c.release.new.cache c.fetch.new.self (lookup (leaf_is (c.args.dir, c.args.frag)) c.release.new.cache.entries) c.release.ensures.not_kept) c.fetch.ensures.found
+
+pub returns-clause-stays : goal.returns-clause-stays
+returns-clause-stays g c =
+    let objects = g.S.Store.objects c.args.store.now in
+    stays_fetched (c.args.dir, c.args.frag) (c.args.first, c.args.leaf) objects c.release.new.cache c.fetch.new.self c.fetch.ensures.leaves c.fetch.result
+    (subst IsThere (sym (c.release.ensures.cached (c.args.first, c.args.leaf))) c.requires.there) c.fetch.ensures.found c.fetch.ensures.left
+    ∙ c.release.ensures.cached (c.args.first, c.args.leaf)
+
+pub returns-clause-left : goal.returns-clause-left
+returns-clause-left g c =
+    let objects = g.S.Store.objects c.args.store.now in
+    readies_on (λ q. q ≡ (c.args.dir, c.args.frag)) objects c.args.cache.now c.release.new.cache c.fetch.new.self
+    (reads_ready (λ q. q ≡ (c.args.dir, c.args.frag)) objects c.args.cache.now c.release.new.cache (c.release.ensures.reads objects))
+    (fetch_ready (c.args.dir, c.args.frag) (c.args.first, c.args.leaf) objects c.release.new.cache c.fetch.new.self c.fetch.ensures.leaves c.fetch.result c.fetch.ensures.unsaved c.fetch.ensures.found c.fetch.ensures.left)
+
+pub returns-clause-refused : goal.returns-clause-refused
+returns-clause-refused g c =
+    let objects = g.S.Store.objects c.args.store.now in
+    map_err c.fetch.result
+    (λ reason failed because. beside_refused (c.args.dir, c.args.frag) (c.args.first, c.args.leaf) objects c.release.new.cache c.fetch.new.self (g.S.Store.faults c.args.store.now) (g.S.Store.faults c.fetch.new.store) reason
+    (λ clean. c.requires.saved (ap (λ m. map.get m (c.args.dir, c.args.frag)) (sym (c.release.ensures.reads objects).unsaved) ∙ clean)) failed because)
+    c.fetch.ensures.left c.fetch.ensures.refused
