@@ -2,7 +2,9 @@
 //! events, each beside what it comes to.
 
 use cluster_core::{Answer, Book, Event, PlainTree, format, run};
-use mds_types::{Dentry, Frag, Ino, Kind, Mode, Name, Op, PageSize, Rank, Refusal, Reply, Request};
+use mds_types::{
+    Dentry, Entry, Frag, Ino, Kind, Mode, Name, Op, PageSize, Rank, Refusal, Reply, Request,
+};
 use std::alloc::Global;
 
 mod many_leaves;
@@ -263,11 +265,16 @@ fn stepped(alloc: Global, book: &mut Book, did: Did) -> Came {
     }
 }
 
+// The book as text, unless memory is refused.
+fn text_of(alloc: Global, book: &Book) -> Option<String> {
+    format!(in alloc; "{book:?}").ok()
+}
+
 // The book as text. `tests/refused_growths` refuses one allocation of a run, so the second try succeeds.
 fn shown(alloc: Global, book: &Book) -> Option<String> {
-    match format!(in alloc; "{book:?}") {
-        Ok(text) => Some(text),
-        Err(_) => format!(in alloc; "{book:?}").ok(),
+    match text_of(alloc, book) {
+        Some(text) => Some(text),
+        None => text_of(alloc, book),
     }
 }
 
@@ -304,31 +311,40 @@ fn a_refused_growth_leaves_the_book(rt: HostRuntime) {
     assert_eq!(rt; wrong(rt.alloc(), &SPLITS), None);
 }
 
-fn events_of(alloc: Global, row: &[(Did, Came)]) -> Option<Vec<Event>> {
-    let mut events = Vec::new(alloc);
-    for (did, _) in row {
-        let event = event_of(alloc, *did)?;
-        if events.push(event).is_err() {
-            return None;
-        }
+// Puts an event at the end, where memory is not refused.
+fn put_event(alloc: Global, events: &mut Vec<Event>, did: Did) {
+    if events.reserve(1).is_err() {
+        return;
     }
-    Some(events)
+    if let Some(event) = event_of(alloc, did) {
+        events.push_reserved(event);
+    }
+}
+
+fn put_events(alloc: Global, events: &mut Vec<Event>, row: &[(Did, Came)]) {
+    for (did, _) in row {
+        put_event(alloc, events, *did);
+    }
+}
+
+// Whether there are as many results as the row has events, each what its event comes to.
+fn are_wanted(results: &[Result<Answer, Refusal>], row: &[(Did, Came)]) -> bool {
+    let mut all = results.len() == row.len();
+    for (res, (_, wanted)) in results.iter().zip(row.iter()) {
+        all = outcome(res) == *wanted && all;
+    }
+    all
 }
 
 // Whether one call of `run` comes to the row.
 fn runs(alloc: Global, row: &[(Did, Came)]) -> bool {
-    let Some(events) = events_of(alloc, row) else {
-        return false;
-    };
+    let mut events = Vec::new(alloc);
+    put_events(alloc, &mut events, row);
     let mut book = format(alloc, 1, 512);
-    let Ok(results) = run(alloc, &mut book, events) else {
-        return false;
-    };
-    let mut all = results.len() == row.len();
-    for (res, (_, wanted)) in results.iter().zip(row.iter()) {
-        all = all && outcome(res) == *wanted;
+    match run(alloc, &mut book, events) {
+        Ok(results) => are_wanted(&results, row),
+        Err(_) => false,
     }
-    all
 }
 
 #[test]
@@ -339,44 +355,74 @@ fn a_run_answers_each_event(rt: HostRuntime) {
     assert!(rt; runs(rt.alloc(), &SPLITS));
 }
 
+// Whether an entry holds what was asked and taken in `makes_entry`.
+fn is_made(entry: &Entry) -> bool {
+    entry.client == 1
+        && entry.tid == 5
+        && entry.oldest == 4
+        && entry.number == Some(Ino(FIRST))
+        && told(&entry.reply) == Said::Dir(FIRST)
+}
+
+// Serves a request, and says whether its entry is the only one.
+fn makes_entry(alloc: Global, book: &mut Book) -> bool {
+    let _ = stepped(alloc, book, Did::Ask(1, 5, 4, Asked::MakeD));
+    let _ = stepped(alloc, book, Did::Serve(0));
+    match book.history() {
+        [entry] => is_made(entry),
+        _ => false,
+    }
+}
+
 #[test]
 fn an_entry_holds_what_was_asked_and_taken(rt: HostRuntime) {
-    let alloc = rt.alloc();
-    let mut book = format(alloc, 1, 512);
-    let _ = stepped(alloc, &mut book, Did::Ask(1, 5, 4, Asked::MakeD));
-    let _ = stepped(alloc, &mut book, Did::Serve(0));
-    assert_eq!(rt; book.history().len(), 1);
-    let entry = &book.history()[0];
-    assert_eq!(rt; (entry.client, entry.tid, entry.oldest), (1, 5, 4));
-    assert_eq!(rt; entry.number, Some(Ino(FIRST)));
-    assert_eq!(rt; told(&entry.reply), Said::Dir(FIRST));
+    let mut book = format(rt.alloc(), 1, 512);
+    assert!(rt; makes_entry(rt.alloc(), &mut book));
+}
+
+// Whether 1024 requests come in.
+fn fills_inbox(alloc: Global, book: &mut Book) -> bool {
+    let mut all = true;
+    for tid in 1..=1024u64 {
+        all = stepped(alloc, book, Did::Ask(1, tid, tid, Asked::List)) == Came::Waits && all;
+    }
+    all
 }
 
 #[test]
 fn an_inbox_holds_1024_requests(rt: HostRuntime) {
     let alloc = rt.alloc();
     let mut book = format(alloc, 1, 512);
-    for tid in 1..=1024u64 {
-        assert_eq!(rt;
-            stepped(alloc, &mut book, Did::Ask(1, tid, tid, Asked::List)),
-            Came::Waits
-        );
-    }
+    assert!(rt; fills_inbox(alloc, &mut book));
     let last = stepped(alloc, &mut book, Did::Ask(1, 1025, 1025, Asked::List));
-    assert_eq!(rt; last, Came::Refused(15));
     let served = stepped(alloc, &mut book, Did::Serve(0));
-    assert_eq!(rt; served, Came::Replied(1, 1, 0, true, Said::Names(0)));
+    assert!(rt; last == Came::Refused(15));
+    assert!(rt; served == Came::Replied(1, 1, 0, true, Said::Names(0)));
 }
 
 #[test]
-fn events_and_trees_are_copied(rt: HostRuntime) {
-    let alloc = rt.alloc();
-    let tree = PlainTree::new(alloc);
+fn trees_are_copied(rt: HostRuntime) {
+    let tree = PlainTree::new(rt.alloc());
     assert!(rt; tree.try_clone() == Ok(tree));
-    let event = event_of(alloc, Did::Ask(1, 5, 5, Asked::MakeD));
-    let Some(event) = event else {
-        assert!(rt; false);
-        return;
-    };
-    assert!(rt; event.try_clone() == Ok(event));
+}
+
+// Whether a copy is the same event.
+fn is_copied(event: &Event) -> bool {
+    match event.try_clone() {
+        Ok(copy) => copy == *event,
+        Err(_) => false,
+    }
+}
+
+// Whether the event of what was done is copied.
+fn copies(alloc: Global, did: Did) -> bool {
+    match event_of(alloc, did) {
+        Some(event) => is_copied(&event),
+        None => false,
+    }
+}
+
+#[test]
+fn events_are_copied(rt: HostRuntime) {
+    assert!(rt; copies(rt.alloc(), Did::Ask(1, 5, 5, Asked::MakeD)));
 }

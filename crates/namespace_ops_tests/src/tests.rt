@@ -187,11 +187,16 @@ fn served(alloc: Global, frags: &mut PlainFrags, asked: Asked, number: u64) -> C
     }
 }
 
+// The fragments as text, unless memory is refused.
+fn text_of(alloc: Global, frags: &PlainFrags) -> Option<String> {
+    format!(in alloc; "{frags:?}").ok()
+}
+
 // The fragments as text. `tests/refused_growths` refuses one allocation of a run, so the second try succeeds.
 fn shown(alloc: Global, frags: &PlainFrags) -> Option<String> {
-    match format!(in alloc; "{frags:?}") {
-        Ok(text) => Some(text),
-        Err(_) => format!(in alloc; "{frags:?}").ok(),
+    match text_of(alloc, frags) {
+        Some(text) => Some(text),
+        None => text_of(alloc, frags),
     }
 }
 

@@ -204,83 +204,224 @@ fn rank_of(subtrees: &Subtrees, dirs: &Dirs, dir: Ino, frag: Frag) -> u8 {
     }
 }
 
+// A leaf of a directory: `*`, `0*` or `1*`.
+#[derive(Clone, Copy)]
+enum Leaf {
+    Whole,
+    Low,
+    High,
+}
+
+fn frag_of(leaf: Leaf) -> Frag {
+    let half = match leaf {
+        Leaf::Whole => None,
+        Leaf::Low => Frag::new(0, 1),
+        Leaf::High => Frag::new(1 << 23, 1),
+    };
+    match half {
+        Some(frag) => frag,
+        None => Frag::ROOT,
+    }
+}
+
+/// What is done, or what then is so.
+#[derive(Clone, Copy)]
+enum Step {
+    Do(Call),
+    Is(State),
+}
+
+/// A call that succeeds.
+#[derive(Clone, Copy)]
+enum Call {
+    /// The three directories come in.
+    Chain,
+    /// A leaf becomes a root of a rank.
+    Set(Ino, Leaf, u8),
+    Split(Ino),
+    Merge(Ino),
+    /// A directory goes below another.
+    Move(Ino, Ino),
+    /// The leaves of a directory are roots no more.
+    Drop(Ino),
+    /// The leaf `*` of a directory, a root, is promised to a rank.
+    Promise(Ino, u8),
+    Hand(Ino),
+    Withdraw(Ino),
+}
+
+#[derive(Clone, Copy)]
+enum State {
+    /// The ranks of the leaves `*` of the three directories.
+    Ranks(u8, u8, u8),
+    /// The rank of a leaf.
+    Rank(Ino, Leaf, u8),
+    /// A leaf is a root of this rank.
+    Root(Ino, Leaf, u8),
+    NoRoot(Ino, Leaf),
+    /// The only bound of the region of a directory's leaf `*` is that of another.
+    Bound(Ino, Ino),
+    /// The leaf `*` of a directory isn't handed, since nothing is promised.
+    NotHanded(Ino),
+    NoPromise(Ino),
+}
+
+fn promise(subtrees: &mut Subtrees, dir: Ino, rank: u8) -> bool {
+    subtrees.promise(dir, Frag::ROOT, Rank(rank)).is_ok()
+}
+
+// Makes a call, and tells whether it succeeds.
+fn does(alloc: Global, subtrees: &mut Subtrees, dirs: &mut Dirs, call: Call) -> bool {
+    match call {
+        Call::Chain => chain(alloc, subtrees, dirs),
+        Call::Set(dir, leaf, rank) => set(subtrees, dir, frag_of(leaf), Rank(rank)),
+        Call::Split(dir) => split(alloc, subtrees, dirs, dir),
+        Call::Merge(dir) => merge(alloc, subtrees, dirs, dir),
+        Call::Move(dir, parent) => relocate(alloc, subtrees, dirs, dir, parent),
+        Call::Drop(dir) => {
+            subtrees.drop(dir);
+            true
+        }
+        Call::Promise(dir, rank) => promise(subtrees, dir, rank),
+        Call::Hand(dir) => hand(subtrees, dir, Frag::ROOT),
+        Call::Withdraw(dir) => {
+            subtrees.withdraw(dir, Frag::ROOT);
+            true
+        }
+    }
+}
+
+// Whether something is so.
+fn is_so(alloc: Global, subtrees: &mut Subtrees, dirs: &Dirs, state: State) -> bool {
+    match state {
+        State::Ranks(first, second, third) => ranks(subtrees, dirs) == (first, second, third),
+        State::Rank(dir, leaf, rank) => rank_of(subtrees, dirs, dir, frag_of(leaf)) == rank,
+        State::Root(dir, leaf, rank) => is_root_of(subtrees, dir, frag_of(leaf), rank),
+        State::NoRoot(dir, leaf) => is_no_root(subtrees, dir, frag_of(leaf)),
+        State::Bound(dir, bound) => is_bound_by(alloc, subtrees, dirs, dir, bound),
+        State::NotHanded(dir) => !hand(subtrees, dir, Frag::ROOT),
+        State::NoPromise(dir) => subtrees.promised(dir, Frag::ROOT).is_none(),
+    }
+}
+
+fn is_root_of(subtrees: &Subtrees, dir: Ino, frag: Frag, rank: u8) -> bool {
+    subtrees.is_root(dir, frag) && subtrees.get(dir, frag) == Some(Rank(rank))
+}
+
+fn is_no_root(subtrees: &Subtrees, dir: Ino, frag: Frag) -> bool {
+    !subtrees.is_root(dir, frag) && subtrees.get(dir, frag).is_none()
+}
+
+fn steps(alloc: Global, subtrees: &mut Subtrees, dirs: &mut Dirs, step: Step) -> bool {
+    match step {
+        Step::Do(call) => does(alloc, subtrees, dirs, call),
+        Step::Is(state) => is_so(alloc, subtrees, dirs, state),
+    }
+}
+
+// The place of the first step that comes to something else.
+fn wrong_in(
+    alloc: Global,
+    subtrees: &mut Subtrees,
+    dirs: &mut Dirs,
+    row: &[Step],
+) -> Option<usize> {
+    for (place, step) in row.iter().enumerate() {
+        if !steps(alloc, subtrees, dirs, *step) {
+            return Some(place);
+        }
+    }
+    None
+}
+
+// The same with no directory but the root, and no root.
+fn wrong(alloc: Global, row: &[Step]) -> Option<usize> {
+    let (mut subtrees, mut dirs) = (Subtrees::new(alloc), Dirs::new(alloc));
+    wrong_in(alloc, &mut subtrees, &mut dirs, row)
+}
+
+const INHERITED: [Step; 9] = [
+    Step::Is(State::Ranks(99, 99, 99)),
+    Step::Do(Call::Chain),
+    Step::Is(State::Ranks(0, 0, 0)),
+    Step::Do(Call::Set(D, Leaf::Whole, 1)),
+    Step::Is(State::Ranks(1, 1, 1)),
+    Step::Do(Call::Set(G, Leaf::Whole, 2)),
+    Step::Is(State::Ranks(1, 1, 2)),
+    // the root next below each, and not the one below that
+    Step::Is(State::Bound(Ino::ROOT, D)),
+    Step::Is(State::Bound(D, G)),
+];
+
 #[test]
 fn leaves_inherit_up_to_the_nearest_root(rt: HostRuntime) {
-    let alloc = rt.alloc();
-    let (mut subtrees, mut dirs) = (Subtrees::new(alloc), Dirs::new(alloc));
-    assert_eq!(rt; ranks(&subtrees, &dirs), (99, 99, 99));
-    assert!(rt; chain(alloc, &mut subtrees, &mut dirs));
-    assert_eq!(rt; ranks(&subtrees, &dirs), (0, 0, 0));
-    assert!(rt; set(&mut subtrees, D, Frag::ROOT, Rank(1)));
-    assert_eq!(rt; ranks(&subtrees, &dirs), (1, 1, 1));
-    assert!(rt; set(&mut subtrees, G, Frag::ROOT, Rank(2)));
-    assert_eq!(rt; ranks(&subtrees, &dirs), (1, 1, 2));
-    // the root next below each, and not the one below that
-    assert!(rt; is_bound_by(alloc, &subtrees, &dirs, Ino::ROOT, D));
-    assert!(rt; is_bound_by(alloc, &subtrees, &dirs, D, G));
+    assert_eq!(rt; wrong(rt.alloc(), &INHERITED), None);
 }
+
+const SPLIT_AND_MERGED: [Step; 16] = [
+    Step::Do(Call::Chain),
+    Step::Do(Call::Set(D, Leaf::Whole, 1)),
+    Step::Do(Call::Split(D)),
+    Step::Is(State::Root(D, Leaf::Low, 1)),
+    Step::Is(State::Root(D, Leaf::High, 1)),
+    Step::Is(State::NoRoot(D, Leaf::Whole)),
+    // the half that holds the dentry of the directory below gives it its rank, and the other doesn't
+    Step::Do(Call::Set(D, Leaf::Low, 2)),
+    Step::Is(State::Rank(E, Leaf::Whole, 1)),
+    Step::Do(Call::Set(D, Leaf::High, 2)),
+    Step::Is(State::Rank(E, Leaf::Whole, 2)),
+    Step::Do(Call::Merge(D)),
+    Step::Is(State::NoRoot(D, Leaf::Low)),
+    Step::Is(State::Ranks(2, 2, 2)),
+    // the leaves of a directory that inherits go on to inherit
+    Step::Do(Call::Split(E)),
+    Step::Is(State::NoRoot(E, Leaf::Low)),
+    Step::Is(State::Rank(E, Leaf::High, 2)),
+];
 
 #[test]
 fn splits_and_merges_keep_ranks(rt: HostRuntime) {
-    let alloc = rt.alloc();
-    let (mut subtrees, mut dirs) = (Subtrees::new(alloc), Dirs::new(alloc));
-    let (Some(low), Some(high)) = (Frag::new(0, 1), Frag::new(1 << 23, 1)) else {
-        unreachable!();
-    };
-    assert!(rt; chain(alloc, &mut subtrees, &mut dirs));
-    assert!(rt; set(&mut subtrees, D, Frag::ROOT, Rank(1)));
-    assert!(rt; split(alloc, &mut subtrees, &mut dirs, D));
-    assert_eq!(rt; subtrees.get(D, low), Some(Rank(1)));
-    assert_eq!(rt; subtrees.get(D, high), Some(Rank(1)));
-    assert_eq!(rt; subtrees.get(D, Frag::ROOT), None);
-    // the half that holds the dentry of the directory below gives it its rank, and the other doesn't
-    assert!(rt; set(&mut subtrees, D, low, Rank(2)));
-    assert_eq!(rt; rank(&subtrees, &dirs, E), 1);
-    assert!(rt; set(&mut subtrees, D, high, Rank(2)));
-    assert_eq!(rt; rank(&subtrees, &dirs, E), 2);
-    assert!(rt; merge(alloc, &mut subtrees, &mut dirs, D));
-    assert_eq!(rt; subtrees.get(D, low), None);
-    assert_eq!(rt; ranks(&subtrees, &dirs), (2, 2, 2));
-    // the leaves of a directory that inherits go on to inherit
-    assert!(rt; split(alloc, &mut subtrees, &mut dirs, E));
-    assert!(rt; !subtrees.is_root(E, low));
-    assert_eq!(rt; rank_of(&subtrees, &dirs, E, high), 2);
+    assert_eq!(rt; wrong(rt.alloc(), &SPLIT_AND_MERGED), None);
 }
+
+const MOVED: [Step; 12] = [
+    Step::Do(Call::Chain),
+    Step::Do(Call::Set(D, Leaf::Whole, 1)),
+    // within one rank nothing becomes a root
+    Step::Do(Call::Move(G, D)),
+    Step::Is(State::NoRoot(G, Leaf::Whole)),
+    // to a parent of another rank the directory takes its own along
+    Step::Do(Call::Move(E, Ino::ROOT)),
+    Step::Is(State::Root(E, Leaf::Whole, 1)),
+    Step::Is(State::Ranks(1, 1, 1)),
+    // a root that comes back stays one
+    Step::Do(Call::Move(E, D)),
+    Step::Is(State::Root(E, Leaf::Whole, 1)),
+    Step::Do(Call::Drop(E)),
+    Step::Is(State::NoRoot(E, Leaf::Whole)),
+    Step::Is(State::Root(D, Leaf::Whole, 1)),
+];
 
 #[test]
 fn directories_move_with_their_rank_and_go(rt: HostRuntime) {
-    let alloc = rt.alloc();
-    let (mut subtrees, mut dirs) = (Subtrees::new(alloc), Dirs::new(alloc));
-    assert!(rt; chain(alloc, &mut subtrees, &mut dirs));
-    assert!(rt; set(&mut subtrees, D, Frag::ROOT, Rank(1)));
-    // within one rank nothing becomes a root
-    assert!(rt; relocate(alloc, &mut subtrees, &mut dirs, G, D));
-    assert!(rt; !subtrees.is_root(G, Frag::ROOT));
-    // to a parent of another rank the directory takes its own along
-    assert!(rt; relocate(alloc, &mut subtrees, &mut dirs, E, Ino::ROOT));
-    assert_eq!(rt; subtrees.get(E, Frag::ROOT), Some(Rank(1)));
-    assert_eq!(rt; ranks(&subtrees, &dirs), (1, 1, 1));
-    // a root that comes back stays one
-    assert!(rt; relocate(alloc, &mut subtrees, &mut dirs, E, D));
-    assert!(rt; subtrees.is_root(E, Frag::ROOT));
-    subtrees.drop(E);
-    assert!(rt; !subtrees.is_root(E, Frag::ROOT));
-    assert!(rt; subtrees.is_root(D, Frag::ROOT));
+    assert_eq!(rt; wrong(rt.alloc(), &MOVED), None);
 }
+
+const PROMISED: [Step; 11] = [
+    Step::Do(Call::Chain),
+    Step::Do(Call::Set(E, Leaf::Whole, 1)),
+    Step::Is(State::NotHanded(E)),
+    Step::Do(Call::Promise(E, 2)),
+    Step::Is(State::Ranks(0, 1, 1)),
+    Step::Do(Call::Hand(E)),
+    Step::Is(State::Ranks(0, 2, 2)),
+    Step::Is(State::NoPromise(E)),
+    Step::Do(Call::Promise(E, 3)),
+    Step::Do(Call::Withdraw(E)),
+    Step::Is(State::NotHanded(E)),
+];
 
 #[test]
 fn promised_roots_are_handed(rt: HostRuntime) {
-    let alloc = rt.alloc();
-    let (mut subtrees, mut dirs) = (Subtrees::new(alloc), Dirs::new(alloc));
-    assert!(rt; chain(alloc, &mut subtrees, &mut dirs));
-    assert!(rt; set(&mut subtrees, E, Frag::ROOT, Rank(1)));
-    assert!(rt; !hand(&mut subtrees, E, Frag::ROOT));
-    assert!(rt; subtrees.promise(E, Frag::ROOT, Rank(2)).is_ok());
-    assert_eq!(rt; ranks(&subtrees, &dirs), (0, 1, 1));
-    assert!(rt; hand(&mut subtrees, E, Frag::ROOT));
-    assert_eq!(rt; ranks(&subtrees, &dirs), (0, 2, 2));
-    assert_eq!(rt; subtrees.promised(E, Frag::ROOT), None);
-    assert!(rt; subtrees.promise(E, Frag::ROOT, Rank(3)).is_ok());
-    subtrees.withdraw(E, Frag::ROOT);
-    assert!(rt; !hand(&mut subtrees, E, Frag::ROOT));
+    assert_eq!(rt; wrong(rt.alloc(), &PROMISED), None);
 }

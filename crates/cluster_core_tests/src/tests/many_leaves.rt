@@ -151,38 +151,90 @@ fn split_each(alloc: Global, book: &mut Book, bits: u8) -> bool {
     all
 }
 
-// Merges the leaves of the root at each of these fragments.
-fn merge_each(alloc: Global, book: &mut Book, frags: &[Frag]) -> bool {
+// Merges the leaves of the root inside a fragment.
+fn merge(alloc: Global, book: &mut Book, frag: Frag) -> bool {
+    let event = Event::Merge {
+        rank: Rank(0),
+        ino: Ino(1),
+        frag,
+    };
+    book.step(alloc, event).is_ok()
+}
+
+// Merges the leaves of the root inside each of the 256 fragments of eight bits.
+fn merge_to_256(alloc: Global, book: &mut Book) -> bool {
     let mut all = true;
-    for frag in frags {
-        let event = Event::Merge {
-            rank: Rank(0),
-            ino: Ino(1),
-            frag: *frag,
+    for i in 0..256u32 {
+        all = match Frag::new(i * 0x1_0000, 8) {
+            Some(frag) => merge(alloc, book, frag) && all,
+            None => false,
         };
-        all = book.step(alloc, event).is_ok() && all;
     }
     all
 }
 
+/// What is done, or asked.
+#[derive(Clone, Copy)]
+enum Step {
+    /// All names are created.
+    Create,
+    /// All names are found by look-ups. Each round has a number.
+    Find(u8),
+    /// All names are listed by pages.
+    List(u8),
+    /// Each leaf of the root is split by so many bits.
+    Split(u8),
+    /// The leaves of each fragment of eight bits are merged.
+    MergeTo256,
+    /// All leaves are merged.
+    MergeAll,
+    /// There are so many leaves.
+    Leaves(usize),
+}
+
+const STEPS: [Step; 15] = [
+    Step::Create,
+    Step::Split(8),
+    Step::Leaves(256),
+    Step::Find(1),
+    Step::List(2),
+    Step::Split(4),
+    Step::Leaves(4096),
+    Step::Find(3),
+    Step::List(4),
+    Step::MergeTo256,
+    Step::Leaves(256),
+    Step::MergeAll,
+    Step::Leaves(1),
+    Step::Find(5),
+    Step::List(6),
+];
+
+// Whether a step succeeds.
+fn does(alloc: Global, book: &mut Book, step: Step) -> bool {
+    match step {
+        Step::Create => all_created(alloc, book),
+        Step::Find(round) => all_found(alloc, book, round),
+        Step::List(round) => all_listed(alloc, book, round),
+        Step::Split(bits) => split_each(alloc, book, bits),
+        Step::MergeTo256 => merge_to_256(alloc, book),
+        Step::MergeAll => merge(alloc, book, Frag::ROOT),
+        Step::Leaves(count) => leaves(alloc, book).len() == count,
+    }
+}
+
+// The place of the first step that doesn't succeed.
+fn wrong_step(alloc: Global, book: &mut Book) -> Option<usize> {
+    for (place, step) in STEPS.iter().enumerate() {
+        if !does(alloc, book, *step) {
+            return Some(place);
+        }
+    }
+    None
+}
+
 #[test]
 fn two_thousand_names_in_4096_leaves(rt: HostRuntime) {
-    let alloc = rt.alloc();
-    let mut book = format(alloc, 1, 512);
-    assert!(rt; all_created(alloc, &mut book));
-    assert!(rt; split_each(alloc, &mut book, 8));
-    let wide = leaves(alloc, &book);
-    assert_eq!(rt; wide.len(), 256);
-    assert!(rt; all_found(alloc, &mut book, 1));
-    assert!(rt; all_listed(alloc, &mut book, 2));
-    assert!(rt; split_each(alloc, &mut book, 4));
-    assert_eq!(rt; leaves(alloc, &book).len(), 4096);
-    assert!(rt; all_found(alloc, &mut book, 3));
-    assert!(rt; all_listed(alloc, &mut book, 4));
-    assert!(rt; merge_each(alloc, &mut book, &wide));
-    assert_eq!(rt; leaves(alloc, &book).len(), 256);
-    assert!(rt; merge_each(alloc, &mut book, &[Frag::ROOT]));
-    assert_eq!(rt; leaves(alloc, &book).len(), 1);
-    assert!(rt; all_found(alloc, &mut book, 5));
-    assert!(rt; all_listed(alloc, &mut book, 6));
+    let mut book = format(rt.alloc(), 1, 512);
+    assert_eq!(rt; wrong_step(rt.alloc(), &mut book), None);
 }

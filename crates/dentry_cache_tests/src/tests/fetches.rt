@@ -9,27 +9,34 @@ use omap::{Bytes, WriteOp};
 use std::alloc::Global;
 
 // How many headers and pages a fetch of so many names asks for.
-fn calls(alloc: Global, count: u16) -> Option<(u64, u64)> {
-    let mut store = MemStore::new(alloc);
-    if !store_files(alloc, &mut store, DIR, Frag::ROOT, count) {
-        return None;
-    }
-    let Some(mut cache) = cache(alloc) else {
-        return None;
-    };
-    let mut store = CountingStore {
-        store,
-        headers: 0,
-        pages: 0,
-    };
-    if cache
-        .fetch(alloc, &mut store, DIR, Frag::ROOT, None)
-        .is_err()
-        || files(&mut cache, DIR, Frag::ROOT) != Some(u64::from(count))
+fn counted(
+    alloc: Global,
+    cache: &mut Cache,
+    store: &mut CountingStore,
+    count: u16,
+) -> Option<(u64, u64)> {
+    if cache.fetch(alloc, store, DIR, Frag::ROOT, None).is_err()
+        || files(cache, DIR, Frag::ROOT) != Some(u64::from(count))
     {
         return None;
     }
     Some((store.headers, store.pages))
+}
+
+// The same in a new cache, over a store that has the object.
+fn calls(alloc: Global, count: u16) -> Option<(u64, u64)> {
+    let mut store = CountingStore {
+        store: MemStore::new(alloc),
+        headers: 0,
+        pages: 0,
+    };
+    if !store_files(alloc, &mut store.store, DIR, Frag::ROOT, count) {
+        return None;
+    }
+    match cache(alloc) {
+        Some(mut cache) => counted(alloc, &mut cache, &mut store, count),
+        None => None,
+    }
 }
 
 #[test]
@@ -39,20 +46,25 @@ fn a_fetch_reads_one_header_and_pages_of_64(rt: HostRuntime) {
     }
 }
 
-// Whether a fetch is refused by this call of the store, leaves nothing there, and then succeeds.
+// Whether a fetch is refused by a fault, leaves nothing there, and then succeeds.
+fn is_refused_once(alloc: Global, cache: &mut Cache, store: &mut FaultStore<MemStore>) -> bool {
+    cache.fetch(alloc, store, DIR, Frag::ROOT, None) == Err(Refusal::StoreFault)
+        && !cache.has_place(DIR, Frag::ROOT)
+        && cache.fetch(alloc, store, DIR, Frag::ROOT, None) == Ok(())
+        && files(cache, DIR, Frag::ROOT) == Some(130)
+}
+
+// The same in a new cache, over a store of which this call fails.
 fn fails_once(alloc: Global, k: u64) -> bool {
     let mut store = MemStore::new(alloc);
-    let Some(mut cache) = cache(alloc) else {
-        return false;
-    };
     if !store_files(alloc, &mut store, DIR, Frag::ROOT, 130) {
         return false;
     }
     let mut store = FaultStore::new(store, k);
-    cache.fetch(alloc, &mut store, DIR, Frag::ROOT, None) == Err(Refusal::StoreFault)
-        && !cache.has_place(DIR, Frag::ROOT)
-        && cache.fetch(alloc, &mut store, DIR, Frag::ROOT, None) == Ok(())
-        && files(&mut cache, DIR, Frag::ROOT) == Some(130)
+    match cache(alloc) {
+        Some(mut cache) => is_refused_once(alloc, &mut cache, &mut store),
+        None => false,
+    }
 }
 
 #[test]
@@ -65,12 +77,16 @@ fn a_fault_leaves_nothing_cached(rt: HostRuntime) {
 }
 
 // Whether a fetch finds the object damaged, and leaves nothing there.
-fn is_damaged(alloc: Global, store: &mut MemStore, frag: Frag) -> bool {
-    let Some(mut cache) = cache(alloc) else {
-        return false;
-    };
+fn finds_damaged(alloc: Global, cache: &mut Cache, store: &mut MemStore, frag: Frag) -> bool {
     cache.fetch(alloc, store, DIR, frag, None) == Err(Refusal::Damaged(ObjName::Frag(DIR, frag)))
-        && !is_there(&cache, DIR, frag)
+        && !is_there(cache, DIR, frag)
+}
+
+fn is_damaged(alloc: Global, store: &mut MemStore, frag: Frag) -> bool {
+    match cache(alloc) {
+        Some(mut cache) => finds_damaged(alloc, &mut cache, store, frag),
+        None => false,
+    }
 }
 
 #[test]
@@ -79,18 +95,33 @@ fn an_absent_object_is_damaged(rt: HostRuntime) {
     assert!(rt; is_damaged(rt.alloc(), &mut store, Frag::ROOT));
 }
 
+fn remove(alloc: Global, op: &mut WriteOp, key: &[u8]) -> bool {
+    match Bytes::from_slice(alloc, key) {
+        Ok(key) => op.remove.put(key).is_ok(),
+        Err(_) => false,
+    }
+}
+
+fn set_to(alloc: Global, op: &mut WriteOp, key: Bytes, value: &[u8]) -> bool {
+    match Bytes::from_slice(alloc, value) {
+        Ok(value) => op.set.put(key, value).is_ok(),
+        Err(_) => false,
+    }
+}
+
+fn set(alloc: Global, op: &mut WriteOp, key: &[u8], value: &[u8]) -> bool {
+    match Bytes::from_slice(alloc, key) {
+        Ok(key) => set_to(alloc, op, key, value),
+        Err(_) => false,
+    }
+}
+
 // Sets a key of the root's object to a value, or removes the key.
 fn spoil(alloc: Global, store: &mut MemStore, key: &[u8], value: Option<&[u8]>) -> bool {
-    let Ok(key) = Bytes::from_slice(alloc, key) else {
-        return false;
-    };
     let mut op = WriteOp::new(alloc);
     let done = match value {
-        Some(value) => match Bytes::from_slice(alloc, value) {
-            Ok(value) => op.set.put(key, value).is_ok(),
-            Err(_) => false,
-        },
-        None => op.remove.put(key).is_ok(),
+        Some(value) => set(alloc, &mut op, key, value),
+        None => remove(alloc, &mut op, key),
     };
     done && store.apply(alloc, "1.00000000", &op).is_ok()
 }

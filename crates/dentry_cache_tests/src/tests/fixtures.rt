@@ -103,17 +103,22 @@ pub fn put(
     mode: u16,
     version: u64,
 ) -> bool {
+    if !reserve(cache, dir, frag) || !has_room(cache, dir, frag) {
+        return false;
+    }
     let Some(inode) = file(mode) else {
         return false;
     };
-    let Some(name) = name(alloc, number) else {
-        return false;
-    };
-    if !is_recordable(&inode) || !reserve(cache, dir, frag) || !has_room(cache, dir, frag) {
+    if !is_recordable(&inode) {
         return false;
     }
-    cache.put(dir, frag, name, inode, version);
-    true
+    match name(alloc, number) {
+        Some(name) => {
+            cache.put(dir, frag, name, inode, version);
+            true
+        }
+        None => false,
+    }
 }
 
 /// Removes the name of a number.
@@ -125,24 +130,26 @@ pub fn erase(
     number: u16,
     version: u64,
 ) -> bool {
-    let Some(name) = name(alloc, number) else {
-        return false;
-    };
     if !reserve(cache, dir, frag) || !has_room(cache, dir, frag) {
         return false;
     }
-    cache.erase(dir, frag, name, version);
-    true
+    match name(alloc, number) {
+        Some(name) => {
+            cache.erase(dir, frag, name, version);
+            true
+        }
+        None => false,
+    }
 }
 
 /// The mode of the name of a number; none, where it isn't there.
 pub fn mode_of(alloc: Global, cache: &mut Cache, dir: Ino, frag: Frag, number: u16) -> Option<u16> {
-    let Some(name) = name(alloc, number) else {
-        return None;
-    };
     if !is_there(cache, dir, frag) {
         return None;
     }
+    let Some(name) = name(alloc, number) else {
+        return None;
+    };
     match cache.look(dir, frag, &name) {
         Ok(Some(inode)) => Some(inode.mode.bits()),
         _ => None,

@@ -6,15 +6,13 @@ use mds_types::{Frag, Ino, Refusal};
 use objstore::MemStore;
 use std::alloc::Global;
 
-// A store with the objects of so many directories, each with one file.
-fn directories(alloc: Global, count: u64) -> Option<MemStore> {
-    let mut store = MemStore::new(alloc);
+// Puts the objects of so many directories into a store, each with one file.
+fn store_dirs(alloc: Global, store: &mut MemStore, count: u64) -> bool {
+    let mut all = true;
     for dir in 0..count {
-        if !store_files(alloc, &mut store, Ino(dir), Frag::ROOT, 1) {
-            return None;
-        }
+        all = store_files(alloc, store, Ino(dir), Frag::ROOT, 1) && all;
     }
-    Some(store)
+    all
 }
 
 // Fetches the fragments of so many directories, in order.
@@ -36,54 +34,69 @@ fn there(cache: &Cache) -> (bool, bool, bool) {
     (is(0), is(1), is(2))
 }
 
+// Whether a clean fragment goes, and these of the first three directories are there then.
+fn leaves(cache: &mut Cache, wanted: (bool, bool, bool)) -> bool {
+    cache.evict() == Ok(()) && there(cache) == wanted
+}
+
+// Whether three fragments go in the order of their use, but for one that has a dirty name.
+fn go_in_order(alloc: Global, cache: &mut Cache, store: &mut MemStore) -> bool {
+    // directory 1 is used least recently, but has a dirty name
+    fetch_all(alloc, cache, store, 3)
+        && cache.touch(Ino(0), Frag::ROOT)
+        && put(alloc, cache, Ino(1), Frag::ROOT, 0, 0o600, 2)
+        && cache.touch(Ino(2), Frag::ROOT)
+        && cache.touch(Ino(0), Frag::ROOT)
+        && leaves(cache, (true, true, false))
+        && leaves(cache, (false, true, false))
+        && cache.evict() == Err(Refusal::NothingToEvict)
+        && there(cache) == (false, true, false)
+}
+
 #[test]
 fn the_least_recently_used_clean_one_goes(rt: HostRuntime) {
-    let alloc = rt.alloc();
-    let (Some(mut store), Some(mut cache)) = (directories(alloc, 3), cache(alloc)) else {
-        assert!(rt; false);
-        return;
-    };
-    assert!(rt; fetch_all(alloc, &mut cache, &mut store, 3));
-    assert!(rt; cache.touch(Ino(0), Frag::ROOT));
-    // directory 1 is used least recently, but has a dirty name
-    assert!(rt; put(alloc, &mut cache, Ino(1), Frag::ROOT, 0, 0o600, 2));
-    assert!(rt; cache.touch(Ino(2), Frag::ROOT) && cache.touch(Ino(0), Frag::ROOT));
-    assert_eq!(rt; cache.evict(), Ok(()));
-    assert_eq!(rt; there(&cache), (true, true, false));
-    assert_eq!(rt; cache.evict(), Ok(()));
-    assert_eq!(rt; there(&cache), (false, true, false));
-    assert_eq!(rt; cache.evict(), Err(Refusal::NothingToEvict));
-    assert_eq!(rt; there(&cache), (false, true, false));
+    let mut store = MemStore::new(rt.alloc());
+    assert!(rt; store_dirs(rt.alloc(), &mut store, 3));
+    match cache(rt.alloc()) {
+        Some(mut cache) => assert!(rt; go_in_order(rt.alloc(), &mut cache, &mut store)),
+        None => assert!(rt; false),
+    }
 }
 
 // Whether a fetch into a full cache, by which the fragment of a directory is to stay, takes the place of another one.
-fn takes_from_another(alloc: Global, stay: u64, gone: u64) -> bool {
-    let (Some(mut store), Some(mut cache)) = (directories(alloc, PLACES as u64 + 1), cache(alloc))
-    else {
-        return false;
-    };
+fn takes_in(alloc: Global, cache: &mut Cache, store: &mut MemStore, stay: u64, gone: u64) -> bool {
     let more = Ino(PLACES as u64);
-    fetch_all(alloc, &mut cache, &mut store, PLACES as u64)
+    fetch_all(alloc, cache, store, PLACES as u64)
         && cache.len() == PLACES
         && cache
             .fetch(
                 alloc,
-                &mut store,
+                store,
                 more,
                 Frag::ROOT,
                 Some((Ino(stay), Frag::ROOT)),
             )
             .is_ok()
         && cache.len() == PLACES
-        && is_there(&cache, more, Frag::ROOT)
-        && is_there(&cache, Ino(stay), Frag::ROOT)
-        && !is_there(&cache, Ino(gone), Frag::ROOT)
+        && is_there(cache, more, Frag::ROOT)
+        && is_there(cache, Ino(stay), Frag::ROOT)
+        && !is_there(cache, Ino(gone), Frag::ROOT)
+}
+
+// The same in a new cache, over a store that has the objects.
+fn takes_from_another(alloc: Global, store: &mut MemStore, stay: u64, gone: u64) -> bool {
+    match cache(alloc) {
+        Some(mut cache) => takes_in(alloc, &mut cache, store, stay, gone),
+        None => false,
+    }
 }
 
 #[test]
 fn one_fragment_can_stay(rt: HostRuntime) {
-    assert!(rt; takes_from_another(rt.alloc(), 0, 1));
-    assert!(rt; takes_from_another(rt.alloc(), 1, 0));
+    let mut store = MemStore::new(rt.alloc());
+    assert!(rt; store_dirs(rt.alloc(), &mut store, PLACES as u64 + 1));
+    assert!(rt; takes_from_another(rt.alloc(), &mut store, 0, 1));
+    assert!(rt; takes_from_another(rt.alloc(), &mut store, 1, 0));
 }
 
 // Makes fragments until the cache is full.
@@ -96,17 +109,21 @@ fn make_all(alloc: Global, cache: &mut Cache) -> bool {
     true
 }
 
-#[test]
-fn fresh_fragments_stay(rt: HostRuntime) {
-    let alloc = rt.alloc();
-    let Some(mut cache) = cache(alloc) else {
-        assert!(rt; false);
-        return;
-    };
-    assert!(rt; make_all(alloc, &mut cache));
-    assert!(rt; !make(alloc, &mut cache, Ino(PLACES as u64), Frag::ROOT));
-    assert_eq!(rt; cache.evict(), Err(Refusal::NothingToEvict));
+// Whether a full cache of fresh fragments takes no more, until one is forgotten.
+fn stay_fresh(alloc: Global, cache: &mut Cache) -> bool {
+    let more = Ino(PLACES as u64);
+    let full = make_all(alloc, cache)
+        && !make(alloc, cache, more, Frag::ROOT)
+        && cache.evict() == Err(Refusal::NothingToEvict);
     // one that is forgotten leaves its place
     cache.forget(Ino(7), Frag::ROOT);
-    assert!(rt; make(alloc, &mut cache, Ino(PLACES as u64), Frag::ROOT));
+    make(alloc, cache, more, Frag::ROOT) && full
+}
+
+#[test]
+fn fresh_fragments_stay(rt: HostRuntime) {
+    match cache(rt.alloc()) {
+        Some(mut cache) => assert!(rt; stay_fresh(rt.alloc(), &mut cache)),
+        None => assert!(rt; false),
+    }
 }

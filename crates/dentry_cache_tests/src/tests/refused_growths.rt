@@ -131,16 +131,19 @@ fn runs(alloc: Global, cache: &mut Cache, store: &mut MemStore) -> bool {
     true
 }
 
+// Whether the script runs, and the names are where it leaves them.
+fn ends_well(alloc: Global, cache: &mut Cache, store: &mut MemStore) -> bool {
+    runs(alloc, cache, store)
+        && files(cache, INTO, Frag::ROOT) == Some(2)
+        && files(cache, DIR, Frag::ROOT).is_none()
+}
+
 // `tests/refused_growths` refuses one allocation, another one at each run. Where it is one that `shown` takes before a call,
 // the call isn't refused.
 #[test]
 fn a_refused_growth_leaves_the_cache(rt: HostRuntime) {
-    let alloc = rt.alloc();
-    let mut store = MemStore::new(alloc);
-    let Some(mut cache) = cache(alloc) else {
-        return;
-    };
-    assert!(rt; runs(alloc, &mut cache, &mut store));
-    assert_eq!(rt; files(&mut cache, INTO, Frag::ROOT), Some(2));
-    assert_eq!(rt; files(&mut cache, DIR, Frag::ROOT), None);
+    let mut store = MemStore::new(rt.alloc());
+    if let Some(mut cache) = cache(rt.alloc()) {
+        assert!(rt; ends_well(rt.alloc(), &mut cache, &mut store));
+    }
 }

@@ -94,59 +94,21 @@ fn holder(exports: &Exports, subtrees: &Subtrees, dirs: &Dirs, dir: Ino) -> u8 {
     }
 }
 
-#[test]
-fn an_export_freezes_its_region_and_hands_it_over(rt: HostRuntime) {
-    let alloc = rt.alloc();
-    let (mut subtrees, mut dirs) = (Subtrees::new(alloc), Dirs::new(alloc));
-    assert!(rt; chain(alloc, &mut subtrees, &mut dirs));
-    let mut exports = Exports::new(alloc);
-    assert!(rt; calls(&mut exports, &mut subtrees, E, 0, 0));
-    assert_eq!(rt;
-        frozen(&exports, &subtrees, &dirs),
-        [false, false, false, false]
-    );
-    assert!(rt; calls(&mut exports, &mut subtrees, E, 1, 3));
-    assert_eq!(rt;
-        frozen(&exports, &subtrees, &dirs),
-        [false, false, true, true]
-    );
-    assert_eq!(rt; holders(&exports, &subtrees, &dirs), [2, 2, 2, 2]);
-    assert!(rt; calls(&mut exports, &mut subtrees, E, 4, 4));
-    assert_eq!(rt;
-        frozen(&exports, &subtrees, &dirs),
-        [false, false, true, true]
-    );
-    assert_eq!(rt; holders(&exports, &subtrees, &dirs), [2, 2, 3, 3]);
-    assert!(rt; calls(&mut exports, &mut subtrees, E, 5, 5));
-    assert_eq!(rt;
-        frozen(&exports, &subtrees, &dirs),
-        [false, false, false, false]
-    );
-    assert_eq!(rt; holders(&exports, &subtrees, &dirs), [2, 2, 3, 3]);
-}
-
-#[test]
-fn a_region_ends_at_the_root_below_it(rt: HostRuntime) {
-    let alloc = rt.alloc();
-    let (mut subtrees, mut dirs) = (Subtrees::new(alloc), Dirs::new(alloc));
-    assert!(rt; chain(alloc, &mut subtrees, &mut dirs));
-    let mut exports = Exports::new(alloc);
-    assert!(rt; calls(&mut exports, &mut subtrees, G, 0, 1));
-    assert!(rt; calls(&mut exports, &mut subtrees, D, 0, 4));
-    assert_eq!(rt;
-        frozen(&exports, &subtrees, &dirs),
-        [false, true, true, true]
-    );
-    assert_eq!(rt; holders(&exports, &subtrees, &dirs), [2, 3, 3, 2]);
-    // a cancelled export thaws its own region alone
-    assert!(rt; calls(&mut exports, &mut subtrees, G, 6, 6));
-    assert_eq!(rt;
-        frozen(&exports, &subtrees, &dirs),
-        [false, true, true, false]
-    );
-    assert_eq!(rt; subtrees.get(G, Frag::ROOT), Some(Rank(2)));
-    assert!(rt; calls(&mut exports, &mut subtrees, D, 5, 5));
-    assert_eq!(rt; holders(&exports, &subtrees, &dirs), [2, 3, 3, 2]);
+/// What is done, or what then is so.
+#[derive(Clone, Copy)]
+enum Step {
+    /// The calls of an export from one to another, all with no refusal.
+    Calls(Ino, u32, u32),
+    /// Which of the leaves of the root and the three directories are frozen.
+    Frozen([bool; 4]),
+    /// The holders of these leaves.
+    Holders([u8; 4]),
+    /// The leaf `*` of a directory is a root of this rank.
+    Root(Ino, u8),
+    /// So many exports stand.
+    Count(usize),
+    /// The directory of the standing export of this index; 0 where there are no more.
+    Place(usize, u64),
 }
 
 // The inode of the root of a standing export; 0 where there are no more.
@@ -157,17 +119,112 @@ fn place(exports: &Exports, index: usize) -> u64 {
     }
 }
 
+fn is_so(exports: &Exports, subtrees: &Subtrees, dirs: &Dirs, step: Step) -> bool {
+    match step {
+        Step::Calls(..) => false,
+        Step::Frozen(wanted) => frozen(exports, subtrees, dirs) == wanted,
+        Step::Holders(wanted) => holders(exports, subtrees, dirs) == wanted,
+        Step::Root(dir, rank) => subtrees.get(dir, Frag::ROOT) == Some(Rank(rank)),
+        Step::Count(count) => exports.len() == count,
+        Step::Place(index, dir) => place(exports, index) == dir,
+    }
+}
+
+fn steps(exports: &mut Exports, subtrees: &mut Subtrees, dirs: &Dirs, step: Step) -> bool
+    requires { ArePlaced exports.old subtrees.old }
+    ensures { ArePlaced exports.new subtrees.new }
+{
+    match step {
+        Step::Calls(dir, first, last) => calls(exports, subtrees, dir, first, last),
+        other => is_so(exports, subtrees, dirs, other),
+    }
+}
+
+// The place of the first step that comes to something else.
+fn wrong_in(
+    exports: &mut Exports,
+    subtrees: &mut Subtrees,
+    dirs: &Dirs,
+    row: &[Step],
+) -> Option<usize>
+    requires { ArePlaced exports.old subtrees.old }
+{
+    let mut place: usize = 0;
+    for step in row {
+        if !steps(exports, subtrees, dirs, *step) {
+            return Some(place);
+        }
+        place = place.wrapping_add(1);
+    }
+    None
+}
+
+// The same with no export, where the three directories are.
+fn wrong(alloc: Global, row: &[Step]) -> Option<usize> {
+    let (mut subtrees, mut dirs) = (Subtrees::new(alloc), Dirs::new(alloc));
+    if !chain(alloc, &mut subtrees, &mut dirs) {
+        return Some(row.len());
+    }
+    let mut exports = Exports::new(alloc);
+    wrong_in(&mut exports, &mut subtrees, &dirs, row)
+}
+
+// The same where no directory is but the root, and no root.
+fn wrong_with_no_root(alloc: Global, row: &[Step]) -> Option<usize> {
+    let (mut subtrees, dirs) = (Subtrees::new(alloc), Dirs::new(alloc));
+    let mut exports = Exports::new(alloc);
+    wrong_in(&mut exports, &mut subtrees, &dirs, row)
+}
+
+const HANDED_OVER: [Step; 11] = [
+    Step::Calls(E, 0, 0),
+    Step::Frozen([false, false, false, false]),
+    Step::Calls(E, 1, 3),
+    Step::Frozen([false, false, true, true]),
+    Step::Holders([2, 2, 2, 2]),
+    Step::Calls(E, 4, 4),
+    Step::Frozen([false, false, true, true]),
+    Step::Holders([2, 2, 3, 3]),
+    Step::Calls(E, 5, 5),
+    Step::Frozen([false, false, false, false]),
+    Step::Holders([2, 2, 3, 3]),
+];
+
+#[test]
+fn an_export_freezes_its_region_and_hands_it_over(rt: HostRuntime) {
+    assert_eq!(rt; wrong(rt.alloc(), &HANDED_OVER), None);
+}
+
+const ROOT_BELOW: [Step; 9] = [
+    Step::Calls(G, 0, 1),
+    Step::Calls(D, 0, 4),
+    Step::Frozen([false, true, true, true]),
+    Step::Holders([2, 3, 3, 2]),
+    // a cancelled export thaws its own region alone
+    Step::Calls(G, 6, 6),
+    Step::Frozen([false, true, true, false]),
+    Step::Root(G, 2),
+    Step::Calls(D, 5, 5),
+    Step::Holders([2, 3, 3, 2]),
+];
+
+#[test]
+fn a_region_ends_at_the_root_below_it(rt: HostRuntime) {
+    assert_eq!(rt; wrong(rt.alloc(), &ROOT_BELOW), None);
+}
+
+const STANDING: [Step; 8] = [
+    Step::Calls(G, 0, 1),
+    Step::Calls(D, 0, 0),
+    Step::Calls(E, 0, 3),
+    Step::Count(3),
+    Step::Place(0, D.0),
+    Step::Place(1, E.0),
+    Step::Place(2, G.0),
+    Step::Place(3, 0),
+];
+
 #[test]
 fn standing_exports_are_listed_in_order(rt: HostRuntime) {
-    let alloc = rt.alloc();
-    let mut subtrees = Subtrees::new(alloc);
-    let mut exports = Exports::new(alloc);
-    assert!(rt; calls(&mut exports, &mut subtrees, G, 0, 1));
-    assert!(rt; calls(&mut exports, &mut subtrees, D, 0, 0));
-    assert!(rt; calls(&mut exports, &mut subtrees, E, 0, 3));
-    assert_eq!(rt; exports.len(), 3);
-    assert_eq!(rt; place(&exports, 0), D.0);
-    assert_eq!(rt; place(&exports, 1), E.0);
-    assert_eq!(rt; place(&exports, 2), G.0);
-    assert_eq!(rt; place(&exports, 3), 0);
+    assert_eq!(rt; wrong_with_no_root(rt.alloc(), &STANDING), None);
 }

@@ -1,35 +1,36 @@
 //! What is printed for the commands on a directory's leaves, as tables worked by hand.
+use super::prints;
 use mds_types::Frag;
 use script_output::{FragList, OutputLine, fragments_read_back};
 use std::alloc::Global;
 use std::process::Abort;
-use std::test::Fail;
 
 #[test]
 fn fragments_read() {
     fragments_read_back();
 }
 
-fn leaves(alloc: Global, frags: &[(u32, u8)]) -> Option<FragList> {
+// Puts a fragment at the end, where no growth is refused.
+fn put(list: &mut Vec<Frag>, frag: Option<Frag>) {
+    if let Some(frag) = frag {
+        let _ = list.push(frag);
+    }
+}
+
+fn leaves(alloc: Global, frags: &[(u32, u8)]) -> FragList {
     let mut list = Vec::new(alloc);
     for (value, bits) in frags {
-        list.push(Frag::new(*value, *bits)?).ok()?;
+        put(&mut list, Frag::new(*value, *bits));
     }
-    Some(FragList::from_vec(list))
+    FragList::from_vec(list)
 }
 
 fn prints_leaves(alloc: Global, frags: &[(u32, u8)], wanted: &str) -> bool {
-    let Some(list) = leaves(alloc, frags) else {
-        return false;
-    };
-    match OutputLine::Frags(list).to_text(alloc) {
-        Ok(text) => text.as_str() == wanted,
-        Err(_) => false,
-    }
+    prints(alloc, &OutputLine::Frags(leaves(alloc, frags)), wanted)
 }
 
 #[test]
-fn printed_leaves(rt: HostRuntime) -> Result<(), Fail> {
+fn printed_leaves(rt: HostRuntime) {
     let alloc = rt.alloc();
     let lists: &[(&[(u32, u8)], &str)] = &[
         (&[(0, 1), (0x80_0000, 1)], "frags 2 0* 1*\n"),
@@ -44,22 +45,23 @@ fn printed_leaves(rt: HostRuntime) -> Result<(), Fail> {
     for (frags, text) in lists {
         assert!(rt; prints_leaves(alloc, frags, text));
     }
-    Ok(())
 }
 
 #[test]
-fn printed_nothing(rt: HostRuntime) -> Result<(), Fail> {
-    let text = OutputLine::Nothing.to_text(rt.alloc())?;
-    assert!(rt; text.as_str() == "nothing\n");
-    Ok(())
+fn printed_nothing(rt: HostRuntime) {
+    assert!(rt; prints(rt.alloc(), &OutputLine::Nothing, "nothing\n"));
+}
+
+const HALVES: [(u32, u8); 2] = [(0, 1), (0x80_0000, 1)];
+
+fn are_equal(alloc: Global, left: &[(u32, u8)], right: &[(u32, u8)]) -> bool {
+    leaves(alloc, left) == leaves(alloc, right)
 }
 
 #[test]
-fn leaves_compared(rt: HostRuntime) -> Result<(), Fail> {
+fn leaves_compared(rt: HostRuntime) {
     let alloc = rt.alloc();
-    let halves: &[(u32, u8)] = &[(0, 1), (0x80_0000, 1)];
-    assert!(rt; leaves(alloc, halves) == leaves(alloc, halves));
-    assert!(rt; leaves(alloc, halves) != leaves(alloc, &[(0, 0)]));
-    assert!(rt; leaves(alloc, halves) != leaves(alloc, &halves[..1]));
-    Ok(())
+    assert!(rt; are_equal(alloc, &HALVES, &HALVES));
+    assert!(rt; !are_equal(alloc, &HALVES, &[(0, 0)]));
+    assert!(rt; !are_equal(alloc, &HALVES, &HALVES[..1]));
 }

@@ -233,21 +233,41 @@ fn begin(alloc: Global, rows: &mut [u8], subtrees: &mut Subtrees, dirs: &mut Dir
     true
 }
 
+// The next random number.
+fn next_random(state: u32) -> u32 {
+    state.wrapping_mul(1_664_525).wrapping_add(1_013_904_223)
+}
+
+// Which of 500 random changes is refused in one of both, or leaves them different.
+fn wrong_change(
+    alloc: Global,
+    rows: &mut [u8],
+    subtrees: &mut Subtrees,
+    dirs: &mut Dirs,
+) -> Option<u16> {
+    let mut state = 1u32;
+    for count in 0..500u16 {
+        state = next_random(state);
+        // of such a number the high bits are the random ones
+        let first = state.to_be_bytes();
+        state = next_random(state);
+        let second = state.to_be_bytes();
+        let random = [first[0], first[1], second[0], second[1]];
+        if !change(alloc, rows, subtrees, dirs, random) || !agree(rows, subtrees, dirs) {
+            return Some(count);
+        }
+    }
+    None
+}
+
 #[test]
 fn a_slow_program_agrees_at_random_changes(rt: HostRuntime) {
     let alloc = rt.alloc();
     let (mut subtrees, mut dirs) = (Subtrees::new(alloc), Dirs::new(alloc));
     let mut rows = [NONE; 1024];
     assert!(rt; begin(alloc, &mut rows, &mut subtrees, &mut dirs));
-    let mut state = 1u32;
-    for _ in 0..500 {
-        state = state.wrapping_mul(1_664_525).wrapping_add(1_013_904_223);
-        // of such a number the high bits are the random ones
-        let first = state.to_be_bytes();
-        state = state.wrapping_mul(1_664_525).wrapping_add(1_013_904_223);
-        let second = state.to_be_bytes();
-        let random = [first[0], first[1], second[0], second[1]];
-        assert!(rt; change(alloc, &mut rows, &mut subtrees, &mut dirs, random));
-        assert!(rt; agree(&rows, &subtrees, &dirs));
-    }
+    assert_eq!(rt;
+        wrong_change(alloc, &mut rows, &mut subtrees, &mut dirs),
+        None
+    );
 }
