@@ -14,8 +14,8 @@ use Rattle.omap.specs.Omap.{Omap, PairMap, PairPage, key_cmp, page_of, pairs_aft
 use Rattle.mds_types.specs.Frag.{Fragment}
 use Rattle.objstore.specs.Objects.{Objects, NameList, first_names, header_at, names_after, page_at}
 use Rattle.dirfrag_codec.specs.TreeObject.{tree_bytes}
+use Rattle.dirfrag_codec.proofs.ByteKeys.{get_beside, get_put, key_itself, key_tied}
 use Rattle.mdcache.specs.Objects.{tree_object, with_tree_at}
-use Rattle.mdcache.proofs.TextLaws.{get_beside, get_put, key_itself, one_key}
 
 one_of_some : {A : Type 0} (x : A) (xs : List A) → (length (take 1 (x ∷ xs)) == 0) ≡ false
 one_of_some x xs = grind (arith, nat_tests)
@@ -94,7 +94,7 @@ written_already objects new name header leaves spelled several there same =
     at q = go (eq_by_cmp key_cmp q name) refl
       where
         go : (b : Bool) → eq_by_cmp key_cmp q name ≡ b → map.get (map.insert objects name (tree_object leaves)) q ≡ map.get objects q
-        go true tied = ap (map.get (map.insert objects name (tree_object leaves))) (one_key q name tied) ∙ get_put objects name (tree_object leaves) ∙ sym here ∙ ap (map.get objects) (sym (one_key q name tied))
+        go true tied = ap (map.get (map.insert objects name (tree_object leaves))) (key_tied q name tied) ∙ get_put objects name (tree_object leaves) ∙ sym here ∙ ap (map.get objects) (sym (key_tied q name tied))
         go false apart = get_beside objects name (tree_object leaves) q (λ is. let clash : true ≡ false = sym (key_itself name) ∙ ap (λ (k : List ℕ). eq_by_cmp key_cmp k name) (sym is) ∙ apart in cc)
 
 pub same_header : (a b : List ℕ) (differ : Bool) → differ ≡ not (pointwise ◌==◌ a b) → differ ≡ false → a ≡ b

@@ -7,6 +7,7 @@ use Rattle.std.specs.FinMap as map
 use Rattle.std.specs.FinMap.{empty_of_len}
 use Rattle.sorted_map.proofs.OverlayLaws.{none_entries}
 use Rattle.mds_types.specs.declared.inodes.Inode.{Inode}
+use Rattle.dirfrag_codec.proofs.ByteKeys.{get_beside, get_put, key_itself, key_tied}
 use Rattle.inode_table.specs.TreeTable.{IsTabled}
 use Rattle.omap.specs.Omap.{Omap, key_cmp}
 use Rattle.objstore.specs.Objects.{written}
@@ -32,7 +33,7 @@ use Rattle.mdcache.specs.Sound.{AreYoung, IsOf, IsOwned, IsSaved, IsSound, IsSta
 use Rattle.mdcache.specs.State.{IsLive, State, text_of}
 use Rattle.mdcache.proofs.CachedLaws.{cached_after, get_with, is_cached, unsaved_after}
 use Rattle.mdcache.proofs.SoundLaws.{get_ended, names_alike, stood_before}
-use Rattle.mdcache.proofs.TextLaws.{get_beside, get_put, key_itself, one_key, one_text}
+use Rattle.mdcache.proofs.TextLaws.{one_text}
 use Rattle.mdcache.proofs.TreeLaws.{tree_alike}
 
 -- ---- what is clean shows what its object has
@@ -207,7 +208,7 @@ module _ (s : State) (job : Job) (old : Held) (kept : IsKept s old) (view : s.un
   owned_stays name has = go (eq_by_cmp key_cmp name (text_of leaf)) refl
     where
       go : (b : Bool) → eq_by_cmp key_cmp name (text_of leaf) ≡ b → IsOwned t name
-      go true same = inl (leaf, live, one_key name (text_of leaf) same)
+      go true same = inl (leaf, live, key_tied name (text_of leaf) same)
       go false apart =
           kept.sound.owned name (ap (λ (o : Option Omap). is_some o) (sym (get_beside s.objects (text_of leaf) _ name (λ same. let clash : true ≡ false = sym (ap (λ (k : List ℕ). eq_by_cmp key_cmp k (text_of leaf)) same ∙ key_itself (text_of leaf)) ∙ apart in cc))) ∙ has)
 

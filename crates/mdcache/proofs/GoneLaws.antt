@@ -21,6 +21,7 @@ use Rattle.fragtree.proofs.Tilings.{between}
 use Rattle.namehash.specs.Rjenkins.{hash_of}
 use Rattle.omap.specs.Omap.{Keys}
 use Rattle.dirfrag_codec.specs.FragmentObject.{Names}
+use Rattle.dirfrag_codec.proofs.ByteKeys.{get_beside, get_put}
 use Rattle.commit_jobs.specs.declared.jobs.Job.{Job}
 use Rattle.dentry_cache.specs.Cache.{Leaf, Unsaved, leaf_cmp, leaf_is}
 use Rattle.dentry_cache.proofs.LeafLaws.{leaf-total, leaf_itself, one_leaf, tied_leaf}
@@ -35,7 +36,7 @@ use Rattle.mdcache.specs.State.{IsLive, State, text_of, tree_text}
 use Rattle.mdcache.proofs.NamedLaws.{HasSoundLeaves, known_or_not, pick_at, stands_at, stands_nowhere}
 use Rattle.mdcache.proofs.HomeLaws.{key_or_apart}
 use Rattle.mdcache.proofs.SoundLaws.{names_alike}
-use Rattle.mdcache.proofs.TextLaws.{get_beside, get_put, tree_of_row}
+use Rattle.mdcache.proofs.TextLaws.{tree_of_row}
 
 -- ---- what is kept of leaves, without some
 

@@ -18,6 +18,7 @@ use Rattle.fragtree.proofs.TreeLaws.{first_or_later}
 use Rattle.namehash.specs.Rjenkins.{hash_of}
 use Rattle.omap.specs.Omap.{Keys, key_cmp}
 use Rattle.dirfrag_codec.specs.FragmentObject.{Names}
+use Rattle.dirfrag_codec.proofs.ByteKeys.{get_left, get_removed, key_itself, key_tied}
 use Rattle.commit_jobs.specs.declared.jobs.Job.{Job}
 use Rattle.cached_frag.proofs.ShownLaws.{only_below}
 use Rattle.dentry_cache.specs.Cache.{Leaf, Unsaved, leaf_is}
@@ -34,7 +35,6 @@ use Rattle.mdcache.specs.Sound.{IsOwned, IsSaved, IsStanding, IsUnsaved}
 use Rattle.mdcache.specs.State.{IsLive, State, text_of}
 use Rattle.mdcache.proofs.NamedLaws.{HasSoundLeaves, known_or_not, pick_at, stands_at, stands_nowhere}
 use Rattle.mdcache.proofs.SoundLaws.{names_alike}
-use Rattle.mdcache.proofs.TextLaws.{get_gone, get_left, key_itself, one_key}
 
 -- ---- a directory moves
 
@@ -111,7 +111,7 @@ pub key_or_apart : (a b : List ℕ) → (a ≡ b) ⊎ (a ≡ b → ⊥)
 key_or_apart a b = go (eq_by_cmp key_cmp a b) refl
   where
     go : (t : Bool) → eq_by_cmp key_cmp a b ≡ t → (a ≡ b) ⊎ (a ≡ b → ⊥)
-    go true is = inl (one_key a b is)
+    go true is = inl (key_tied a b is)
     go false is = inr (λ same. let clash : true ≡ false = sym (key_itself b) ∙ ap (λ (k : List ℕ). eq_by_cmp key_cmp k b) (sym same) ∙ is in cc)
 
 module _ (s : State) (sound : HasSoundLeaves s) (dentry : Dentry) (dir : Ino) (come : MayCome s.homes dir.0 (home_at dentry)) (fits : dir.0 < 2 ^ 64) where
@@ -231,7 +231,7 @@ module _ (s : State) (sound : HasSoundLeaves s) (dentry : Dentry) (dir : Ino) (c
   listed_new leaf live = go (live_new leaf live)
     where
       go : (leaf ≡ first) ⊎ IsLive s.homes s.covers leaf → map.get grown.purge (text_of leaf) ≡ None
-      go (inl same) = ap (λ (l : Leaf). map.get grown.purge (text_of l)) same ∙ get_gone s.purge (text_of first)
+      go (inl same) = ap (λ (l : Leaf). map.get grown.purge (text_of l)) same ∙ get_removed s.purge (text_of first)
       go (inr old) = none_still s.purge (text_of first) (text_of leaf) (sound.listed leaf old)
 
   standing_new : (leaf : Leaf) (job : Job) → IsStanding s leaf job → IsStanding grown leaf job

@@ -15,6 +15,7 @@ use Rattle.fragtree.proofs.TreeLaws.{some_pick}
 use Rattle.namehash.specs.Rjenkins.{hash_of}
 use Rattle.omap.specs.Omap.{Omap, key_cmp}
 use Rattle.dirfrag_codec.specs.FragmentObject.{Names}
+use Rattle.dirfrag_codec.proofs.ByteKeys.{get_beside, get_put}
 use Rattle.commit_jobs.specs.declared.bases.Base.{Base}
 use Rattle.commit_jobs.specs.declared.bases.Base.TheVariants.{Fresh, Stored}
 use Rattle.commit_jobs.specs.declared.jobs.Job.{Job}
@@ -35,7 +36,7 @@ use Rattle.mdcache.specs.Sound.{AreYoung, IsOwned, IsSaved, IsSound, IsStanding,
 use Rattle.mdcache.specs.State.{IsLive, State, text_of}
 use Rattle.mdcache.proofs.ShownLaws.{found_at, found_nowhere}
 use Rattle.mdcache.proofs.SoundLaws.{names_alike}
-use Rattle.mdcache.proofs.TextLaws.{get_beside, get_put, tree_of_row}
+use Rattle.mdcache.proofs.TextLaws.{tree_of_row}
 
 -- all that every state keeps, but that the table is that of the tree
 pub record HasSoundLeaves (s : State) : Type 0 where

@@ -15,6 +15,7 @@ use Rattle.omap.proofs.WriteLaws.{applied-by-parts, overlaid-empty}
 use Rattle.sorted_map.proofs.MapLaws.{get-without_keys}
 use Rattle.sorted_map.specs.Overlay.{without_keys}
 use Rattle.objstore.specs.Objects.{Objects, written}
+use Rattle.dirfrag_codec.proofs.ByteKeys.{get_beside, get_left, get_removed, key_itself, key_tied}
 use Rattle.purge_list.specs.PurgeList.{first_name}
 use Rattle.dentry_cache.specs.Cache.{Held, Leaf}
 use Rattle.dentry_cache.specs.Loading.{object_of}
@@ -25,7 +26,7 @@ use Rattle.mdcache.specs.Shown.{shown_tree}
 use Rattle.mdcache.specs.Sound.{IsOwned, IsSound}
 use Rattle.mdcache.specs.State.{IsLive, State, text_of, tree_text}
 use Rattle.mdcache.proofs.SoundLaws.{other_objects, other_objects_kept, other_objects_tree}
-use Rattle.mdcache.proofs.TextLaws.{get_beside, get_gone, get_left, key_itself, no_tree_text, one_key}
+use Rattle.mdcache.proofs.TextLaws.{no_tree_text}
 
 -- ---- the first name of a list
 
@@ -43,7 +44,7 @@ name_or_other : (name q : List ℕ) → (q ≡ name) ⊎ (q ≡ name → ⊥)
 name_or_other name q = go (eq_by_cmp key_cmp q name) refl
   where
     go : (b : Bool) → eq_by_cmp key_cmp q name ≡ b → (q ≡ name) ⊎ (q ≡ name → ⊥)
-    go true is = inl (one_key q name is)
+    go true is = inl (key_tied q name is)
     go false is = inr (λ same. let clash : true ≡ false = sym (ap (λ (k : List ℕ). eq_by_cmp key_cmp k name) same ∙ key_itself name) ∙ is in cc)
 
 -- what owns an object owns it still, where another name left the list
@@ -72,7 +73,7 @@ module _ (s : State) (name : List ℕ) (sound : IsSound s) (first : first_name s
     where
       go : (q : List ℕ) → is_some (map.get (map.remove s.objects name) q) ≡ true → (q ≡ name) ⊎ (q ≡ name → ⊥) → IsOwned (purged s name) q
       go q has (inl same) =
-          let clash : false ≡ true = ap (λ (o : Option Omap). is_some o) (sym (ap (map.get (map.remove s.objects name)) same ∙ get_gone s.objects name)) ∙ has in
+          let clash : false ≡ true = ap (λ (o : Option Omap). is_some o) (sym (ap (map.get (map.remove s.objects name)) same ∙ get_removed s.objects name)) ∙ has in
           cc
       go q has (inr apart) = owned_beside s (map.remove s.objects name) name q apart (sound.owned q (ap (λ (o : Option Omap). is_some o) (sym (get_left s.objects name q apart)) ∙ has))
 

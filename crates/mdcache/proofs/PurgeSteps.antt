@@ -10,10 +10,10 @@ use Rattle.mds_types.proofs.Fragments.{child_is_fragment}
 use Rattle.mds_types.proofs.ObjectTextLaws.{texts_differ}
 use Rattle.fragtree.specs.FragTree.{HasLeaf, IsChild}
 use Rattle.omap.specs.Omap.{Keys}
+use Rattle.dirfrag_codec.proofs.ByteKeys.{get_beside, get_left, get_put, get_removed}
 use Rattle.mdcache.specs.Splits.{IsListedAnew, NameChildren, without_objects}
 use Rattle.mdcache.specs.State.{text_of}
 use Rattle.mdcache.proofs.HomeLaws.{key_or_apart}
-use Rattle.mdcache.proofs.TextLaws.{get_beside, get_gone, get_left, get_put}
 
 -- what isn't on the list stays off it
 stays_off : (names : Keys) (texts : List (List ℕ)) (q : List ℕ) → map.get names q ≡ None → map.get (without_objects names texts) q ≡ None
@@ -21,13 +21,13 @@ stays_off names [] q none = none
 stays_off names (text ∷ texts) q none = stays_off (map.remove names text) texts q (go (key_or_apart q text))
   where
     go : (q ≡ text) ⊎ (q ≡ text → ⊥) → map.get (map.remove names text) q ≡ None
-    go (inl same) = ap (map.get (map.remove names text)) same ∙ get_gone names text
+    go (inl same) = ap (map.get (map.remove names text)) same ∙ get_removed names text
     go (inr apart) = get_left names text q apart ∙ none
 
 -- a name that was taken off isn't on it,
 is_off : (names : Keys) (texts : List (List ℕ)) (q : List ℕ) → Contains texts q → map.get (without_objects names texts) q ≡ None
 is_off names [] q (k, within, is) = absurd (omega (arith, within))
-is_off names (text ∷ texts) q (zero, within, is) = stays_off (map.remove names text) texts q (ap (map.get (map.remove names text)) (sym is) ∙ get_gone names text)
+is_off names (text ∷ texts) q (zero, within, is) = stays_off (map.remove names text) texts q (ap (map.get (map.remove names text)) (sym is) ∙ get_removed names text)
 is_off names (text ∷ texts) q (suc k, within, is) = is_off (map.remove names text) texts q (k, omega (arith, within), is)
 
 -- and any other is as it was

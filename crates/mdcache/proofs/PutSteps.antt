@@ -9,6 +9,7 @@ use Rattle.mds_types.specs.declared.inodes.Inode.{Inode}
 use Rattle.mds_types.specs.Frag.{Fragment}
 use Rattle.omap.specs.Omap.{Omap, key_cmp}
 use Rattle.objstore.specs.Objects.{Objects}
+use Rattle.dirfrag_codec.proofs.ByteKeys.{get_put}
 use Rattle.commit_jobs.specs.declared.bases.Base.{Base}
 use Rattle.commit_jobs.specs.declared.bases.Base.TheVariants.{Fresh, Stored}
 use Rattle.commit_jobs.specs.declared.marks.Mark.{Mark}
@@ -34,7 +35,6 @@ use Rattle.mdcache.specs.Sound.{IsSound}
 use Rattle.mdcache.specs.State.{IsLive, State}
 use Rattle.mdcache.proofs.CachedLaws.{cached_after, unsaved_after}
 use Rattle.mdcache.proofs.ChangeLaws.{changes_are_right}
-use Rattle.mdcache.proofs.TextLaws.{get_put}
 
 -- ---- one fragment
 

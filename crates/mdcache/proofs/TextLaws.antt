@@ -1,13 +1,6 @@
 -- No two objects of leaves and trees have one name.
 use Rattle.std.proofs.Common.{◌≡◌, ℕ, Bool, true, false, cond, List, [], ◌∷◌, Option, Some, None, refl, ap, ◌∙◌, arith}
-use Rattle.std.specs.declared.cmp.Ordering.{Ordering}
-use Rattle.std.specs.declared.cmp.Ordering.TheVariants.{Less, Equal, Greater}
-use Rattle.std.specs.Ordering.{eq_by_cmp, is_eq}
-use Rattle.std.specs.Cmp.Lexicographic.{nat_list_cmp_total}
 use Rattle.std.specs.FinMap as map
-use Rattle.std.specs.FinMap.{get-insert, get-remove}
-use Rattle.std.proofs.lemmas.Map.Lookups.{exact_bytes}
-use Rattle.std.specs.Cmp.{tied_itself}
 use Rattle.mds_types.specs.Frag.{Fragment, IsFragment, root_fragment}
 use Rattle.mds_types.proofs.ObjectTextLaws.{texts_differ}
 use Rattle.mds_types.specs.declared.ids.Ino.{Ino}
@@ -15,46 +8,10 @@ use Rattle.mds_types.specs.declared.object_names.ObjName.{ObjName}
 use Rattle.mds_types.specs.declared.object_names.ObjName.TheVariants.{Frag, Tree}
 use Rattle.fragtree.specs.FragTree.{IsTree}
 use Rattle.fragtree.proofs.Tilings.{between}
-use Rattle.omap.specs.Omap.{key_cmp}
 use Rattle.dentry_cache.specs.Cache.{Leaf}
 use Rattle.inode_table.specs.Dirs.{Covers, Homes, IsTable, is_known, leaves_of, or_whole}
 use Rattle.mdcache.specs.Sound.{IsSound}
 use Rattle.mdcache.specs.State.{IsLive, State, text_of, tree_text}
-
--- ---- keys of bytes
-
-tie : (r : Ordering) → is_eq r ≡ true → r ≡ Equal
-tie Less h = cc
-tie Equal h = refl
-tie Greater h = cc
-
-pub key_itself : (k : List ℕ) → eq_by_cmp key_cmp k k ≡ true
-key_itself k = ap is_eq (tied_itself nat_list_cmp_total k)
-
-pub key_apart : (a b : List ℕ) → (a ≡ b → ⊥) → eq_by_cmp key_cmp a b ≡ false
-key_apart a b apart = go (eq_by_cmp key_cmp a b) refl
-  where
-    go : (t : Bool) → eq_by_cmp key_cmp a b ≡ t → t ≡ false
-    go true is = absurd (apart (exact_bytes a b (tie _ is)))
-    go false is = refl
-
-pub one_key : (a b : List ℕ) → eq_by_cmp key_cmp a b ≡ true → a ≡ b
-one_key a b is = exact_bytes a b (tie _ is)
-
-module _ {X : Type 0} (m : map.FinMap key_cmp X) (k : List ℕ) where
-  pub get_put : (x : X) → map.get (map.insert m k x) k ≡ Some x
-  get_put x = get-insert nat_list_cmp_total m k x k ∙ ap (λ b. cond b (Some x) (map.get m k)) (key_itself k)
-
-  pub get_beside : (x : X) (q : List ℕ) → (q ≡ k → ⊥) → map.get (map.insert m k x) q ≡ map.get m q
-  get_beside x q apart = get-insert nat_list_cmp_total m k x q ∙ ap (λ b. cond b (Some x) (map.get m q)) (key_apart q k apart)
-
-  pub get_gone : map.get (map.remove m k) k ≡ None
-  get_gone = get-remove nat_list_cmp_total m k k ∙ ap (λ b. cond b None (map.get m k)) (key_itself k)
-
-  pub get_left : (q : List ℕ) → (q ≡ k → ⊥) → map.get (map.remove m k) q ≡ map.get m q
-  get_left q apart = get-remove nat_list_cmp_total m k q ∙ ap (λ b. cond b None (map.get m q)) (key_apart q k apart)
-
--- ---- leaves
 
 pub whole_is_tree : IsTree (root_fragment ∷ [])
 whole_is_tree = record {

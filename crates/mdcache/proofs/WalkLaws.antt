@@ -17,6 +17,7 @@ use Rattle.fragtree.specs.FragTree.{HasLeaf, IsPick}
 use Rattle.fragtree.proofs.TreeLaws.{some_pick}
 use Rattle.namehash.specs.Rjenkins.{hash_of}
 use Rattle.dirfrag_codec.specs.FragmentObject.{Names}
+use Rattle.dirfrag_codec.proofs.ByteKeys.{key_itself}
 use Rattle.cached_frag.specs.Cached.{Cached, shown}
 use Rattle.dentry_cache.specs.Cache.{HasCached, Held, Leaf, Places, cached, unsaved, unsaved_in}
 use Rattle.dentry_cache.specs.Loading.{Loads, object_of}
@@ -29,7 +30,7 @@ use Rattle.mdcache.specs.Shown.{names_of, shown_at, shown_tree}
 use Rattle.mdcache.specs.Sound.{IsSound}
 use Rattle.mdcache.specs.State.{State, UnsavedLeaves}
 use Rattle.mdcache.proofs.EndLaws.{cached_shows}
-use Rattle.mdcache.proofs.TextLaws.{key_itself, tree_of_row}
+use Rattle.mdcache.proofs.TextLaws.{tree_of_row}
 use Rattle.mdcache.proofs.TreeLookups.{at_dentry}
 
 -- ---- what is cached after a read

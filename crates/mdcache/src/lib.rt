@@ -30,7 +30,6 @@ mod splitting;
 mod trees;
 
 pub use going::{Going, GoingLeaf};
-pub use laws::changes_are_right;
 pub use laws::{changes_are_right, merges_are_right, splits_are_right};
 pub use mdcache::MdCache;
 pub use ready::NewDirectory;

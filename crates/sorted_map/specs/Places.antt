@@ -1,4 +1,4 @@
--- Where a key stands among pairs in order. Only this crate's own contracts use these words.
+-- Where a key stands among pairs in order.
 use Rattle.std.specs.Prelude.{◌≡◌, ℕ, zero, suc, List, [], ◌∷◌, Result, MatchResult, ⊤}
 use Rattle.std.specs.declared.cmp.Ordering.{Ordering}
 use Rattle.std.specs.declared.cmp.Ordering.TheVariants.{Less, Equal, Greater}
