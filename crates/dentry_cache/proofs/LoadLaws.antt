@@ -110,7 +110,7 @@ good_among frag [] sorted each = refl
 good_among frag (e ∷ es) sorted each =
     both_true (is_good frag e) (are_good frag es) (each e.0 e.1 (ap (λ (b : Bool). cond b (Some e.1) (find key_cmp e.0 es)) (key_same e.0 e.0 refl)))
     (good_among frag es (right_of _ _ sorted) (λ key bytes is. each key bytes (behind key bytes is (same_or_apart key e.0))))
-
+  where
     behind : (key bytes : List ℕ) → find key_cmp key es ≡ Some bytes → (key ≡ e.0) ⊎ (key ≡ e.0 → ⊥) → cond (eq_by_cmp key_cmp key e.0) (Some e.1) (find key_cmp key es) ≡ Some bytes
     behind key bytes is (inl same) = let clash : None ≡ Some bytes = sym (not_found e.0 key es same (left_of _ _ sorted)) ∙ is in absurd cc
     behind key bytes is (inr apart) = ap (λ (b : Bool). cond b (Some e.1) (find key_cmp key es)) (key_apart key e.0 apart) ∙ is
