@@ -1,4 +1,5 @@
 pub mod CacheLaws
+pub mod CapLaws
 pub mod CommitSteps
 pub mod EditLaws
 pub mod LeafLaws
