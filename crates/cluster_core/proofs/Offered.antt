@@ -20,9 +20,9 @@ next_unused opening past state sound below = record {
       omega (arith, same, low);
 }
 
-pub offer_unused : (opening : Tree) (past : List Entry) (state : State) → IsSound opening past state → IsOffered (shown state) (offer state.numbers)
+pub offer_unused : (opening : Tree) (past : List Entry) (state : State) → IsSound opening past state → IsOffered (shown state) (λ n. Unit {0}) (offer state.numbers)
 offer_unused opening past state sound = go (nat_lt state.numbers.next (end_number state.numbers.rank)) (λ e. grind (arith, nat_tests))
   where
-    go : (left : Bool) → (left ≡ true → state.numbers.next < end_number state.numbers.rank) → IsOffered (shown state) (cond {A = Option Ino} left (Some (record { 0 = state.numbers.next })) None)
-    go true below = next_unused opening past state sound (below refl)
+    go : (left : Bool) → (left ≡ true → state.numbers.next < end_number state.numbers.rank) → IsOffered (shown state) (λ n. Unit {0}) (cond {A = Option Ino} left (Some (record { 0 = state.numbers.next })) None)
+    go true below = (next_unused opening past state sound (below refl), tt)
     go false below = tt

@@ -50,7 +50,7 @@ pub fn prepare<F: Frags>(
     client: u64,
     op: &Op,
 ) -> Result<Prepared, Refusal>
-    requires { IsOffered (F.content frags.old) (offer numbers) }
+    requires { IsOffered (F.content frags.old) F.IsNumber (offer numbers) }
     ensures prepared { let outcome = step (F.content frags.old) op.now (number_or (offer numbers)) in
         MatchResult result
         (IsPrepared (F.content frags.old) (F.covers frags.old) (F.IsReady frags.new) op.now outcome numbers)
@@ -146,7 +146,7 @@ pub fn serve_front(
     history: &mut Vec<Entry>,
 ) -> Result<Answer, Refusal>
     requires known { IsTableOf history.old.items (table sessions.old) }
-    requires offered { IsOffered (shown_by frags.old.leaves) (offer numbers.old) }
+    requires offered { IsOffered (shown_by frags.old.leaves) (λ n. Unit {0}) (offer numbers.old) }
     requires divided { IsDivided frags.old.homes frags.old.covers (dentries_of frags.old.leaves) }
     ensures served { ServesInbox (state_of frags.old numbers.old inbox.old (table sessions.old)) (state_of frags.new numbers.new inbox.new (table sessions.new))
         history.old.items history.new.items MayRefuse result inbox.old }

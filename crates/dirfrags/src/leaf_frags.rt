@@ -141,6 +141,8 @@ impl Frags for LeafFrags {
 
     ghost covers = { λ f. f.covers };
 
+    ghost IsNumber = { λ n. Unit {0} };
+
     ghost IsReady = { λ f change. IsReadyIn f change };
 
     ghost Follows = { IsAsBefore };

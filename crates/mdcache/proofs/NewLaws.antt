@@ -82,7 +82,7 @@ no_entries =
     ∙ ap (λ (n : Names). (entries_of 1 (map.entries n) ++ []) ++ []) no_names
     ∙ ap (λ es. (entries_of 1 es ++ []) ++ []) (none_entries {R = key_cmp} map.empty refl)
 
-new_tree : shown_tree new_state ≡ map.empty
+pub new_tree : shown_tree new_state ≡ map.empty
 unfolding tree_of
 new_tree = ap (λ es. map.from_entries es) no_entries ∙ same_map dentry-total dentry-exact (map.from_entries []) map.empty (λ q. get-from_entries dentry-total [] q ∙ sym (get-empty dentry_cmp q))
 

@@ -8,17 +8,19 @@ use Rattle.inode_table.specs.Dirs.{Covers, Homes, Table}
 use Rattle.purge_list.specs.PurgeList.{Listed}
 use Rattle.standing_jobs.specs.StandingJobs.{Standing}
 use Rattle.mdcache.specs.declared.mdcache.Counters.{Counters}
+use Rattle.mdcache.specs.declared.prepared.Prepared.{Prepared}
 use Rattle.mdcache.specs.Sound.{IsSound}
 use Rattle.mdcache.specs.State.{IsLive, State}
 
 -- the state, the places of the cache in the order of their use, how many more directories and how many more names of objects to be
--- removed fit with no growth, and how many faults the store had
+-- removed fit with no growth, how many faults the store had, and what was made ready for the next change
 pub record Core : Type 0 where
   pub state : State
   pub cache : Held
   pub dirs_left : ℕ
   pub purge_left : ℕ
   pub faults : ℕ
+  pub prepared : Prepared
 
 abbrev pub state_of : Table → Held → Objects → Standing → Listed → Counters → State
 state_of dirs cache objects jobs purge next = record {

@@ -8,6 +8,7 @@ ghost use Rattle.objstore.specs.Objects.{MayRefuse};
 ghost use Rattle.mdcache.specs.New.{MayNotFormat, cached_root, new_state, root_leaf};
 
 use crate::mdcache::{Counters, MdCache};
+use crate::prepared::Prepared;
 use cached_frag::CachedFrag;
 use dentry_cache::Cache;
 use inode_table::Dirs;
@@ -65,6 +66,8 @@ impl<S: Store + Drop> MdCache<S> {
                     generation: 2,
                     version: 1,
                 },
+                prepared: Prepared::Nothing,
+                alloc,
             }),
             Err(_) => Err(store),
         }

@@ -17,6 +17,7 @@ mod leaves;
 mod listing;
 mod mdcache;
 mod page;
+mod prepared;
 mod purging;
 mod reading;
 mod ready;

@@ -1,11 +1,13 @@
 //! `MdCache`, and what a contract sees of it.
 ghost use Rattle.std.specs.Prelude.{◌≡◌};
 
+use crate::prepared::Prepared;
 use dentry_cache::Cache;
 use inode_table::Dirs;
 use objstore::Store;
 use purge_list::PurgeList;
 use standing_jobs::StandingJobs;
+use std::alloc::Global;
 use std::marker::Model;
 
 /// The numbers that the next job, the next fragment that is made and the next dirty name get.
@@ -27,6 +29,10 @@ pub struct MdCache<S: Store + Drop> {
     pub(crate) jobs: StandingJobs,
     pub(crate) purge: PurgeList,
     pub(crate) next: Counters,
+    /// What was made ready for the next change beside room.
+    pub(crate) prepared: Prepared,
+    /// For leaves that are fetched, and for what is made ready.
+    pub(crate) alloc: Global,
 }
 
 impl<S: Store + Drop> Model for MdCache<S> {
@@ -38,7 +44,7 @@ impl<S: Store + Drop> Model for MdCache<S> {
 
     ghost coded = { Prim.hlevel (codes, map.code) };
 
-    ghost view = { λ m. record { state = state_of m.dirs m.cache (S.objects m.store) m.jobs m.purge m.next; cache = m.cache; dirs_left = m.dirs.room; purge_left = m.purge.room; faults = S.faults m.store } };
+    ghost view = { λ m. record { state = state_of m.dirs m.cache (S.objects m.store) m.jobs m.purge m.next; cache = m.cache; dirs_left = m.dirs.room; purge_left = m.purge.room; faults = S.faults m.store; prepared = m.prepared } };
 
     ghost invariant = { λ m. IsKept (state_of m.dirs m.cache (S.objects m.store) m.jobs m.purge m.next) m.cache };
 }

@@ -14,11 +14,12 @@ use Rattle.mds_types.specs.declared.replies.Reply.TheVariants.{Done, Entry, Errn
 use Rattle.mds_types.specs.Frag.{Fragment}
 use Rattle.mds_types.specs.Tree.{Tree, dentry_cmp, is_directory, is_dir_kind, has_entries}
 use Rattle.mds_types.specs.Step.{Outcome, answers, attributes_set, dir_removed, removal_errno, leads_to, made, new_inode, renamed, replace_errno, size_errno, unless, unlinked, with_attributes, with_moved, within}
+use Rattle.mds_types.proofs.DirectoryLaws.{entry_stands}
 use Rattle.mds_types.proofs.WellFormedLaws.{new_sized, may_go}
 use Rattle.inode_table.specs.Dirs.{Covers}
 use Rattle.namespace_ops.specs.declared.plans.Checked.{Checked}
 use Rattle.namespace_ops.specs.declared.plans.Change.TheVariants.{Add, Set, Remove, Move}
-use Rattle.namespace_ops.specs.Changes.{IsChangeOf, IsLeafAt, directory_at, moved}
+use Rattle.namespace_ops.specs.Changes.{Concerns, IsChangeOf, IsLeafAt, Reads, directory_at, moved}
 use Rattle.namespace_ops.specs.Checked.{Checks, IsChecked}
 
 -- what the test of a kind told
@@ -46,6 +47,7 @@ module _ (tree : Tree) (covers : Covers) (op : Op) (n : ℕ) where
         replied = refl;
         leads = refl;
         number = refl;
+        numbered = refl;
         carries = pick;
         takes = λ unused. record { free = free; parent = here; unused = unused refl; sized = new_sized kind };
       })))
@@ -64,6 +66,7 @@ module _ (tree : Tree) (covers : Covers) (op : Op) (n : ℕ) where
         replied = refl;
         leads = refl;
         number = refl;
+        numbered = tt;
         carries = pick;
         takes = λ unused. record { before = before; given = given; stands = stands; allowed = allowed; is = refl };
       }))))
@@ -80,6 +83,7 @@ module _ (tree : Tree) (covers : Covers) (op : Op) (n : ℕ) where
         replied = refl;
         leads = refl;
         number = refl;
+        numbered = tt;
         carries = (pick, is ∙ ap directory_at (sym stands));
         takes = λ unused. record { inode = inode; stands = stands; empty = empty };
       }))
@@ -108,6 +112,7 @@ module _ (tree : Tree) (covers : Covers) (op : Op) (n : ℕ) where
         replied = refl;
         leads = ap (moved tree from to) (sym stands);
         number = refl;
+        numbered = tt;
         carries = (here, there, is);
         takes = λ unused. (inode, record { stands = stands; apart = apart; parent = parent; outside = outside; replaces = replaces });
       })))
@@ -131,6 +136,10 @@ renamed_on tree from to source target inode stands apart outside =
 pub checks_from : (tree mid : Tree) (covers later : Covers) (op : Op) (n : ℕ) (outcome here : Outcome) (result : Result Checked Refusal) → mid ≡ tree → later ≡ covers → outcome ≡ here → IfOk result (Checks mid later op n outcome) → IfOk result (Checks tree covers op n here)
 checks_from tree mid covers later op n outcome here result same leaves is found =
     subst (λ t. IfOk result (Checks t covers op n here)) same (subst (λ k. IfOk result (Checks mid k op n here)) leaves (subst (λ o. IfOk result (Checks mid later op n o)) is found))
+
+-- a directory that an operation concerns by what stands at a dentry is read
+pub reads_inside : (tree : Tree) (op is : Op) (dentry : Dentry) (inode : Inode) → op ≡ is → Concerns tree is inode.ino.0 → map.get tree dentry ≡ Some inode → inode.kind ≡ Dir → Reads tree op inode.ino.0
+reads_inside tree op is dentry inode same concerns stands kind = (subst (λ (o : Op). Concerns tree o inode.ino.0) (sym same) concerns, entry_stands tree dentry inode stands (ap is_dir_kind kind))
 
 -- what was found of an operation, by which it is
 pub within_from : (tree : Tree) (covers : Covers) (op is : Op) (n : ℕ) (result : Result Checked Refusal) → op ≡ is → IfOk result (Checks tree covers op n (within tree is n)) → IfOk result (Checks tree covers op n (within tree op n))

@@ -1,5 +1,5 @@
 -- A plan, part by part.
-use Rattle.std.proofs.Common.{◌≡◌, true, false, cond, Option, Some, None, refl, sym, ap, ◌∙◌}
+use Rattle.std.proofs.Common.{◌≡◌, ℕ, true, false, cond, Option, Some, None, refl, sym, ap, subst, ◌∙◌}
 use Rattle.mds_types.specs.declared.ids.Ino.{Ino}
 use Rattle.mds_types.specs.declared.operations.Op.{Op}
 use Rattle.mds_types.specs.declared.replies.Reply.{Reply}
@@ -7,22 +7,37 @@ use Rattle.mds_types.specs.Tree.{Tree, IsUnused}
 use Rattle.mds_types.specs.Step.{step, number_or}
 use Rattle.inode_table.specs.Dirs.{Covers}
 use Rattle.namespace_ops.specs.declared.plans.Change.{Change}
-use Rattle.namespace_ops.specs.Changes.{IsOffered, MayChange, is_new, reply_of}
+use Rattle.namespace_ops.specs.declared.plans.Change.TheVariants.{Add, Set, Remove, Move}
+use Rattle.namespace_ops.specs.Changes.{IsNumbered, IsOffered, MayChange, is_new, reply_of}
 use Rattle.namespace_ops.specs.Checked.{IsChecked}
 use Rattle.namespace_ops.specs.Planned.{IsPlanned}
 use Rattle.namespace_ops.proofs.ChangedLaws.{busy, fragments_are}
 
 -- a number that the operation takes was offered
-offered_unused : (tree : Tree) (number : Option Ino) → IsOffered tree number → (number ≡ None → ⊥) → IsUnused tree (number_or number)
-offered_unused tree None offered some = absurd (some refl)
-offered_unused tree (Some ino) offered some = offered
+offered_unused : (tree : Tree) (IsNumber : ℕ → Type 0) (number : Option Ino) → IsOffered tree IsNumber number → (number ≡ None → ⊥) → IsUnused tree (number_or number)
+offered_unused tree IsNumber None offered some = absurd (some refl)
+offered_unused tree IsNumber (Some ino) offered some = offered.0
+
+-- and a new inode may have it
+offered_number : (tree : Tree) (IsNumber : ℕ → Type 0) (number : Option Ino) → IsOffered tree IsNumber number → (number ≡ None → ⊥) → IsNumber (number_or number)
+offered_number tree IsNumber None offered some = absurd (some refl)
+offered_number tree IsNumber (Some ino) offered some = offered.1
 
 module _ (tree : Tree) (covers : Covers) (op : Op) (number : Option Ino) (change : Change) (checked : IsChecked tree covers op (number_or number) (step tree op (number_or number)) change) where
-  pub may_change : IsOffered tree number → (is_new change ≡ true → number ≡ None → ⊥) → MayChange tree covers change
-  may_change offered given = record {
+  pub may_change : (IsNumber : ℕ → Type 0) → IsOffered tree IsNumber number → (is_new change ≡ true → number ≡ None → ⊥) → MayChange tree covers change
+  may_change IsNumber offered given = record {
     carries = checked.carries;
-    takes = checked.takes (λ taken. offered_unused tree number offered (given (sym checked.number ∙ taken)));
+    takes = checked.takes (λ taken. offered_unused tree IsNumber number offered (given (sym checked.number ∙ taken)));
   }
+
+  pub numbered_so : (IsNumber : ℕ → Type 0) → IsOffered tree IsNumber number → (is_new change ≡ true → number ≡ None → ⊥) → IsNumbered IsNumber change
+  numbered_so IsNumber offered given = go change checked.numbered given
+    where
+      go : (made : Change) → IsNumbered (λ m. m ≡ number_or number) made → (is_new made ≡ true → number ≡ None → ⊥) → IsNumbered IsNumber made
+      go (Add dentry leaf inode) is some = subst IsNumber (sym is) (offered_number tree IsNumber number offered (some refl))
+      go (Set dentry leaf inode) is some = tt
+      go (Remove dentry leaf went) is some = tt
+      go (Move from source to target went) is some = tt
 
   pub planned_change : (IsReady : Change → Type 0) (reply : Reply) (taken : Option Ino) → reply ≡ reply_of change → taken ≡ cond (is_new change) number None → (number ≡ None → is_new change ≡ false) → IsReady change → MayChange tree covers change
       → IsPlanned tree covers IsReady op (step tree op (number_or number)) number (record { reply = reply; change = Some change; number = taken })

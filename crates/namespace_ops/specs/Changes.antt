@@ -12,7 +12,7 @@ use Rattle.mds_types.specs.declared.operations.Op.TheVariants.{Lookup, Readdir, 
 use Rattle.mds_types.specs.declared.replies.Reply.{Reply}
 use Rattle.mds_types.specs.declared.replies.Reply.TheVariants.{Entry, Done}
 use Rattle.mds_types.specs.Frag.{Fragment}
-use Rattle.mds_types.specs.Tree.{Tree, dentry_cmp, is_dir_kind, IsUnused}
+use Rattle.mds_types.specs.Tree.{Tree, dentry_cmp, is_dir_kind, is_directory, IsUnused}
 use Rattle.mds_types.specs.Step.{with_moved, IsMove}
 use Rattle.mds_types.specs.Outcomes.{is_errno}
 use Rattle.fragtree.specs.FragTree.{IsPick}
@@ -88,18 +88,22 @@ stays (Rename from to) = eq_by_cmp dentry_cmp from to
 abbrev pub is_idle : Op → Reply → Bool
 is_idle op reply = is_errno reply || stays op
 
--- an operation reads the directory d: one that it names, or one that stands at the name of what it takes away or replaces
+-- an operation concerns the directory d: one that it names, or one that stands at the name of what it takes away or replaces
+abbrev pub Concerns : Tree → Op → ℕ → Type 0
+Concerns tree (Lookup dentry) d = d ≡ dentry.dir.0
+Concerns tree (Readdir dir after max) d = d ≡ dir.0
+Concerns tree (Readlink dentry) d = d ≡ dentry.dir.0
+Concerns tree (Create dentry mode mtime) d = d ≡ dentry.dir.0
+Concerns tree (Mkdir dentry mode mtime) d = d ≡ dentry.dir.0
+Concerns tree (Symlink dentry target mtime) d = d ≡ dentry.dir.0
+Concerns tree (Setattr dentry given) d = d ≡ dentry.dir.0
+Concerns tree (Unlink dentry) d = d ≡ dentry.dir.0
+Concerns tree (Rmdir dentry) d = (d ≡ dentry.dir.0) ⊎ ((inode : Inode) × (map.get tree dentry ≡ Some inode) × (d ≡ inode.ino.0))
+Concerns tree (Rename from to) d = (d ≡ from.dir.0) ⊎ (d ≡ to.dir.0) ⊎ ((inode : Inode) × (map.get tree to ≡ Some inode) × (d ≡ inode.ino.0))
+
+-- an operation reads the directory d: a directory that it concerns
 abbrev pub Reads : Tree → Op → ℕ → Type 0
-Reads tree (Lookup dentry) d = d ≡ dentry.dir.0
-Reads tree (Readdir dir after max) d = d ≡ dir.0
-Reads tree (Readlink dentry) d = d ≡ dentry.dir.0
-Reads tree (Create dentry mode mtime) d = d ≡ dentry.dir.0
-Reads tree (Mkdir dentry mode mtime) d = d ≡ dentry.dir.0
-Reads tree (Symlink dentry target mtime) d = d ≡ dentry.dir.0
-Reads tree (Setattr dentry given) d = d ≡ dentry.dir.0
-Reads tree (Unlink dentry) d = d ≡ dentry.dir.0
-Reads tree (Rmdir dentry) d = (d ≡ dentry.dir.0) ⊎ ((inode : Inode) × (map.get tree dentry ≡ Some inode) × (d ≡ inode.ino.0))
-Reads tree (Rename from to) d = (d ≡ from.dir.0) ⊎ (d ≡ to.dir.0) ⊎ ((inode : Inode) × (map.get tree to ≡ Some inode) × (d ≡ inode.ino.0))
+Reads tree op d = Concerns tree op d × (is_directory tree d ≡ true)
 
 -- a new inode comes
 abbrev pub is_new : Change → Bool
@@ -195,7 +199,14 @@ named_once covers (Set dentry leaf inode) = (dentry.dir, leaf) ∷ []
 named_once covers (Remove dentry leaf went) = (dentry.dir, leaf) ∷ leaves_gone covers went
 named_once covers (Move from source to target went) = (from.dir, source) ∷ (unless_same (from.dir, source) (to.dir, target) ++ leaves_gone covers went)
 
--- a number that is offered for a new inode is unused
-abbrev pub IsOffered : Tree → Option Ino → Type 0
-IsOffered tree None = Unit {0}
-IsOffered tree (Some number) = IsUnused tree number.0
+-- a new inode, where one comes, has such a number
+abbrev pub IsNumbered : (ℕ → Type 0) → Change → Type 0
+IsNumbered IsNumber (Add dentry leaf inode) = IsNumber inode.ino.0
+IsNumbered IsNumber (Set dentry leaf inode) = Unit {0}
+IsNumbered IsNumber (Remove dentry leaf went) = Unit {0}
+IsNumbered IsNumber (Move from source to target went) = Unit {0}
+
+-- a number that is offered for a new inode is unused, and one that a new inode may have
+abbrev pub IsOffered : Tree → (ℕ → Type 0) → Option Ino → Type 0
+IsOffered tree IsNumber None = Unit {0}
+IsOffered tree IsNumber (Some number) = IsUnused tree number.0 × IsNumber number.0

@@ -7,15 +7,16 @@ use Rattle.inode_table.specs.Dirs.{Covers}
 use Rattle.namespace_ops.specs.declared.plans.Change.{Change}
 use Rattle.namespace_ops.specs.declared.plans.Checked.{Checked}
 use Rattle.namespace_ops.specs.declared.plans.Checked.TheVariants.{Answers, Changes}
-use Rattle.namespace_ops.specs.Changes.{Carries, IsChangeOf, Takes, changed, is_idle, is_new, reply_of}
+use Rattle.namespace_ops.specs.Changes.{Carries, IsChangeOf, IsNumbered, Takes, changed, is_idle, is_new, reply_of}
 
--- the operation makes this change, offered the number n: it is one of the operation, leads to the table's outcome, and may be made, where
--- the number that it takes is unused
+-- the operation makes this change, offered the number n, which a new inode has: it is one of the operation, leads to the table's outcome,
+-- and may be made, where the number that it takes is unused
 pub record IsChecked (tree : Tree) (covers : Covers) (op : Op) (n : ℕ) (outcome : Outcome) (change : Change) : Type 0 where
   pub one_of : IsChangeOf op change
   pub replied : outcome.reply ≡ reply_of change
   pub leads : outcome.tree ≡ changed tree change
   pub number : outcome.takes ≡ is_new change
+  pub numbered : IsNumbered (λ m. m ≡ n) change
   pub carries : Carries tree covers change
   pub takes : (outcome.takes ≡ true → IsUnused tree n) → Takes tree change
 

@@ -1,5 +1,5 @@
 //! What operations need of a directory's fragments.
-ghost use Rattle.std.specs.Prelude.{◌≡◌, true, not, IfOk, IfErr, OnOk, take, length, nat_lt};
+ghost use Rattle.std.specs.Prelude.{◌≡◌, ℕ, true, not, IfOk, IfErr, OnOk, take, length, nat_lt};
 ghost use Rattle.std.specs.Option.{option_copied};
 ghost use Rattle.mds_types.specs.declared.refusals.Refusal.{Refusal as Reason};
 ghost use Rattle.mds_types.specs.declared.refusals.Refusal.TheVariants.{NoMemory};
@@ -13,7 +13,7 @@ ghost use Rattle.inode_table.specs.TreeChanges.{KeepLeaves};
 ghost use Rattle.namespace_ops.specs.declared.plans.Change.{Change as Alteration};
 ghost use Rattle.mds_types.specs.Leaf.{Leaf};
 ghost use Rattle.namespace_ops.specs.Kept.{KeepsAll, ChangesOnly};
-ghost use Rattle.namespace_ops.specs.Changes.{IsLeafAt, MayChange, Reads, changed, fragments_of};
+ghost use Rattle.namespace_ops.specs.Changes.{IsChangeOf, IsLeafAt, IsNumbered, MayChange, Reads, changed, fragments_of};
 ghost use Rattle.namespace_ops.specs.Reasons.{IsOfFragments};
 
 use crate::plans::Change;
@@ -31,6 +31,9 @@ pub trait Frags {
 
     /// The leaves of each directory.
     ghost covers: { Self → Covers };
+
+    /// A new inode may have this number.
+    ghost IsNumber: { ℕ → Type 0 };
 
     /// The change can be made with no further growth.
     ghost IsReady: { Self → Alteration → Type 0 };
@@ -93,9 +96,11 @@ pub trait Frags {
         ensures kept { KeepsAll (content self.old) (content self.new) (covers self.old) (covers self.new) (Follows self.old self.new) }
         ensures err { IfErr result (MayRefuse self.old self.new op.now) };
 
-    /// Makes every growth that a change of the operation needs.
+    /// Makes every growth that a change needs, which is one of the operation.
     fn ready(&mut self, op: &Op, change: &Change) -> Result<(), Refusal>
         requires may { MayChange (content self.old) (covers self.old) change.now }
+        requires of_op { IsChangeOf op.now change.now }
+        requires numbered { IsNumbered IsNumber change.now }
         ensures ready { OnOk result (IsReady self.new change.now) }
         ensures kept { KeepsAll (content self.old) (content self.new) (covers self.old) (covers self.new) (Follows self.old self.new) }
         ensures err { IfErr result (MayRefuse self.old self.new op.now) };

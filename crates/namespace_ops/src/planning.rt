@@ -2,7 +2,7 @@
 ghost use Rattle.std.specs.Prelude.{◌≡◌, ◌&&◌, not, cond, is_some, None, IfOk, IfErr, MatchResult};
 ghost use Rattle.mds_types.specs.Step.{step, number_or};
 ghost use Rattle.namespace_ops.specs.Kept.{KeepsAll};
-ghost use Rattle.namespace_ops.specs.Changes.{IsOffered, MayChange, is_new, reply_of};
+ghost use Rattle.namespace_ops.specs.Changes.{IsChangeOf, IsNumbered, IsOffered, MayChange, is_new, reply_of};
 ghost use Rattle.namespace_ops.specs.Checked.{IsChecked};
 ghost use Rattle.namespace_ops.specs.Planned.{IsPlanned};
 ghost use Rattle.namespace_ops.specs.Reasons.{Refuses};
@@ -16,7 +16,8 @@ use std::alloc::Global;
 
 /// Plans an operation: answers the reply of the operation table, and the change that leads to the table's tree, for which
 /// all growth has been made. There is no change where the operation reads, answers an errno, or leads to where it is.
-/// The fragments show what they showed. A new inode takes the number given, which has to be unused; where the table takes
+/// The fragments show what they showed. A new inode takes the number given, which has to be unused and one
+/// that a new inode may have; where the table takes
 /// one and none is given, the operation is refused `NoInodes`. Any other refusal is one of the fragments', or want of
 /// memory.
 pub fn plan_op<F: Frags>(
@@ -25,7 +26,7 @@ pub fn plan_op<F: Frags>(
     op: &Op,
     number: Option<Ino>,
 ) -> Result<Plan, Refusal>
-    requires { IsOffered (F.content frags.old) number }
+    requires { IsOffered (F.content frags.old) F.IsNumber number }
     ensures planned { let outcome = step (F.content frags.old) op.now (number_or number) in
         MatchResult result
         (IsPlanned (F.content frags.old) (F.covers frags.old) (F.IsReady frags.new) op.now outcome number)
@@ -49,7 +50,7 @@ fn plan_change<F: Frags>(
     change: Change,
     number: Option<Ino>,
 ) -> Result<Plan, Refusal>
-    requires offered { IsOffered (F.content frags.old) number }
+    requires offered { IsOffered (F.content frags.old) F.IsNumber number }
     requires checked { IsChecked (F.content frags.old) (F.covers frags.old) op.now (number_or number) (step (F.content frags.old) op.now (number_or number)) change }
     ensures planned { let outcome = step (F.content frags.old) op.now (number_or number) in
         MatchResult result
@@ -71,7 +72,9 @@ fn plan_change<F: Frags>(
 
 // Makes all growth that a change needs, and gives what the operation answers.
 fn make_ready<F: Frags>(frags: &mut F, op: &Op, change: &Change) -> Result<Reply, Refusal>
-    requires { MayChange (F.content frags.old) (F.covers frags.old) change.now }
+    requires may { MayChange (F.content frags.old) (F.covers frags.old) change.now }
+    requires of_op { IsChangeOf op.now change.now }
+    requires numbered { IsNumbered F.IsNumber change.now }
     ensures reply { IfOk result (λ reply. reply ≡ reply_of change.now) }
     ensures ready { IfOk result (λ reply. F.IsReady frags.new change.now) }
     ensures kept { KeepsAll (F.content frags.old) (F.content frags.new) (F.covers frags.old) (F.covers frags.new) (F.Follows frags.old frags.new) }

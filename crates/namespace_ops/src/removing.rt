@@ -2,6 +2,7 @@
 ghost use Rattle.std.specs.Prelude.{◌≡◌, ℕ, None, Some, Option, IfOk, IfErr};
 ghost use Rattle.mds_types.specs.declared.ids.Ino.{Ino as Number};
 ghost use Rattle.mds_types.specs.declared.inodes.Inode.{Inode as Node};
+ghost use Rattle.mds_types.specs.declared.inodes.Kind.TheVariants.{Dir};
 ghost use Rattle.mds_types.specs.Frag.{Fragment};
 ghost use Rattle.std.specs.FinMap as map;
 ghost use Rattle.mds_types.specs.Step.{unlinked, dir_removed};
@@ -43,7 +44,7 @@ pub fn unlink<F: Frags>(frags: &mut F, op: &Op, dentry: &Dentry) -> Result<Check
 /// Takes away a directory that has to be empty.
 pub fn remove_dir<F: Frags>(frags: &mut F, op: &Op, dentry: &Dentry) -> Result<Checked, Refusal>
     requires reads { Reads (F.content frags.old) op.now dentry.now.dir.0 }
-    requires inside { (inode : Node) → map.get (F.content frags.old) dentry.now ≡ Some inode → Reads (F.content frags.old) op.now inode.ino.0 }
+    requires inside { (inode : Node) → map.get (F.content frags.old) dentry.now ≡ Some inode → inode.kind ≡ Dir → Reads (F.content frags.old) op.now inode.ino.0 }
     requires removes { (leaf : Fragment) (gone : Option Number) → IsChangeOf op.now (Remove dentry.now leaf gone) }
     ensures checked { (n : ℕ) → IfOk result (Checks (F.content frags.old) (F.covers frags.old) op.now n
         (dir_removed (F.content frags.old) dentry.now (map.get (F.content frags.old) dentry.now))) }
@@ -67,7 +68,7 @@ pub fn remove_dir<F: Frags>(frags: &mut F, op: &Op, dentry: &Dentry) -> Result<C
 
 // The errno for an inode that is no directory, or a full one.
 fn removal_errno<F: Frags>(frags: &mut F, op: &Op, inode: &Inode) -> Result<Option<u16>, Refusal>
-    requires reads { Reads (F.content frags.old) op.now inode.now.ino.0 }
+    requires reads { inode.now.kind ≡ Dir → Reads (F.content frags.old) op.now inode.now.ino.0 }
     ensures found { IfOk result (λ errno. errno ≡ errno_of_removal (F.content frags.old) inode.now) }
     ensures kept { KeepsAll (F.content frags.old) (F.content frags.new) (F.covers frags.old) (F.covers frags.new) (F.Follows frags.old frags.new) }
     ensures err { IfErr result (F.MayRefuse frags.old frags.new op.now) }

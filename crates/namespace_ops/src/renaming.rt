@@ -4,6 +4,7 @@ ghost use Rattle.std.specs.FinMap as map;
 ghost use Rattle.mds_types.specs.declared.replies.Reply.TheVariants.{Done};
 ghost use Rattle.mds_types.specs.declared.ids.Ino.{Ino as Number};
 ghost use Rattle.mds_types.specs.declared.inodes.Inode.{Inode as Node};
+ghost use Rattle.mds_types.specs.declared.inodes.Kind.TheVariants.{Dir};
 ghost use Rattle.mds_types.specs.Frag.{Fragment};
 ghost use Rattle.std.specs.Option.{option_copied};
 ghost use Rattle.std.specs.Ordering.{eq_by_cmp};
@@ -32,7 +33,7 @@ pub fn rename<F: Frags>(
     requires there { is_directory (F.content frags.old) to.now.dir.0 ≡ true }
     requires reads { Reads (F.content frags.old) op.now from.now.dir.0 }
     requires leads { Reads (F.content frags.old) op.now to.now.dir.0 }
-    requires inside { (inode : Node) → map.get (F.content frags.old) to.now ≡ Some inode → Reads (F.content frags.old) op.now inode.ino.0 }
+    requires inside { (inode : Node) → map.get (F.content frags.old) to.now ≡ Some inode → inode.kind ≡ Dir → Reads (F.content frags.old) op.now inode.ino.0 }
     requires idle { stays op.now ≡ eq_by_cmp dentry_cmp from.now to.now }
     requires moves { (source target : Fragment) (gone : Option Number) → IsChangeOf op.now (Move from.now source to.now target gone) }
     ensures checked { (n : ℕ) → let tree = F.content frags.old in IfOk result (Checks tree (F.covers frags.old) op.now n
@@ -68,7 +69,7 @@ fn move_onto<F: Frags>(
     requires there { is_directory (F.content frags.old) to.now.dir.0 ≡ true }
     requires outside { leads_below (F.content frags.old) inode.now to.now.dir.0 ≡ false }
     requires leads { Reads (F.content frags.old) op.now to.now.dir.0 }
-    requires inside { (gone : Node) → map.get (F.content frags.old) to.now ≡ Some gone → Reads (F.content frags.old) op.now gone.ino.0 }
+    requires inside { (gone : Node) → map.get (F.content frags.old) to.now ≡ Some gone → gone.kind ≡ Dir → Reads (F.content frags.old) op.now gone.ino.0 }
     requires moves { (target : Fragment) (gone : Option Number) → IsChangeOf op.now (Move from.now source to.now target gone) }
     ensures checked { (n : ℕ) → let tree = F.content frags.old in IfOk result (Checks tree (F.covers frags.old) op.now n
         (unless tree (errno_of_replacing tree inode.now (map.get tree to.now)) (answers (with_moved tree from.now to.now inode.now) Done))) }
@@ -121,7 +122,7 @@ fn replace_errno<F: Frags>(
     inode: &Inode,
     replaced: Option<&Inode>,
 ) -> Result<Option<u16>, Refusal>
-    requires inside { (gone : Node) → option_copied replaced ≡ Some gone → Reads (F.content frags.old) op.now gone.ino.0 }
+    requires inside { (gone : Node) → option_copied replaced ≡ Some gone → gone.kind ≡ Dir → Reads (F.content frags.old) op.now gone.ino.0 }
     ensures found { IfOk result (λ errno. errno ≡ errno_of_replacing (F.content frags.old) inode.now (option_copied replaced.entry)) }
     ensures kept { KeepsAll (F.content frags.old) (F.content frags.new) (F.covers frags.old) (F.covers frags.new) (F.Follows frags.old frags.new) }
     ensures err { IfErr result (F.MayRefuse frags.old frags.new op.now) }

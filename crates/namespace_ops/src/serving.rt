@@ -17,7 +17,7 @@ use std::alloc::Global;
 /// Serves an operation: answers the reply of the operation table, and leaves the tree that the table leaves. Of the leaves
 /// only the operation's changed fragments show anything else afterwards: `frame` says so in the fragments' own words, and
 /// `others` in those of the tree and the leaves of each directory. Each directory that stands keeps its leaves. A
-/// new inode takes the number given, which has to be unused; where the table takes one and none is given, the operation is
+/// new inode takes the number given, which has to be unused and one that a new inode may have; where the table takes one and none is given, the operation is
 /// refused `NoInodes`. Any other refusal is one of the fragments', or want of memory. A refusal keeps all as a read does.
 pub fn serve_op<F: Frags>(
     alloc: Global,
@@ -25,7 +25,7 @@ pub fn serve_op<F: Frags>(
     op: &Op,
     number: Option<Ino>,
 ) -> Result<Reply, Refusal>
-    requires { IsOffered (F.content frags.old) number }
+    requires { IsOffered (F.content frags.old) F.IsNumber number }
     ensures served { let outcome = step (F.content frags.old) op.now (number_or number) in
         MatchResult result
         (IsServed (F.content frags.new) outcome number)

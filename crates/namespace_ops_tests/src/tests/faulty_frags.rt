@@ -33,6 +33,8 @@ impl Frags for FaultyFrags {
 
     ghost covers = { λ f. f.inner.covers };
 
+    ghost IsNumber = { λ n. Unit {0} };
+
     ghost IsReady = { λ f change. IsReadyFor f.inner change };
 
     ghost Follows = { λ a b. KeepsShown a.inner b.inner };

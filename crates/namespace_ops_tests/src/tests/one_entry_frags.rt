@@ -31,6 +31,8 @@ impl Frags for OneEntryFrags {
 
     ghost covers = { λ f. f.dirs.trees };
 
+    ghost IsNumber = { λ n. Unit {0} };
+
     ghost IsReady = { λ f change. IsReadyOne f.only change };
 
     ghost Follows = { λ a b. Unit {0} };

@@ -135,6 +135,8 @@ impl Frags for PlainFrags {
 
     ghost covers = { λ f. f.covers };
 
+    ghost IsNumber = { λ n. Unit {0} };
+
     ghost IsReady = { λ f change. IsReadyFor f change };
 
     ghost Follows = { λ a b. KeepsShown a b };

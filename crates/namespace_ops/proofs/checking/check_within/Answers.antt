@@ -1,9 +1,15 @@
-use Rattle.std.proofs.Common.{IfOk, subst}
+use Rattle.std.proofs.Common.{IfOk, inr, refl, subst}
 use Rattle.mds_types.specs.declared.operations.Op.TheVariants.{Lookup, Readdir, Readlink, Setattr, Unlink, Rmdir, Rename}
 use Rattle.mds_types.specs.Step.{names_after, page}
 use Rattle.namespace_ops.specs.Checked.{Checks}
-use Rattle.namespace_ops.proofs.CheckedParts.{within_from}
+use Rattle.namespace_ops.proofs.CheckedParts.{reads_inside, within_from}
 use Rattle.namespace_ops.proofs.checking.check_within.Goals as goal
+
+pub remove_dir-requires-clause-inside : goal.remove_dir-requires-clause-inside
+remove_dir-requires-clause-inside g c inode stands kind = reads_inside _ _ (Rmdir c.in-Rmdir.dentry) c.in-Rmdir.dentry inode c.in-Rmdir.is (inr (inode, stands, refl)) stands kind
+
+pub rename-requires-clause-inside : goal.rename-requires-clause-inside
+rename-requires-clause-inside g c inode stands kind = reads_inside _ _ (Rename c.in-Rename.from c.in-Rename.to) c.in-Rename.to inode c.in-Rename.is (inr (inr (inode, stands, refl))) stands kind
 
 pub returns-in-Lookup-clause-checked : goal.returns-in-Lookup-clause-checked
 returns-in-Lookup-clause-checked g c = within_from _ _ _ (Lookup c.in-Lookup.dentry) c.args.number.0 _ c.in-Lookup.is (c.lookup.ensures.checked c.args.number.0)

@@ -9,7 +9,7 @@ use Rattle.cluster_core.proofs.Offered.{offer_unused}
 use Rattle.cluster_core.proofs.clusters.Cluster.serve.Goals as goal
 
 pub serve_front-requires-clause-offered : goal.serve_front-requires-clause-offered
-serve_front-requires-clause-offered c = rw (← tree_is c.self.inside.frags.leaves) (subst (λ (core : Core). IsOffered (shown core.state) (offer core.state.numbers)) (sym c.self.view_is) (offer_unused _ _ _ c.requires.1))
+serve_front-requires-clause-offered c = rw (← tree_is c.self.inside.frags.leaves) (subst (λ (core : Core). IsOffered (shown core.state) (λ n. Unit {0}) (offer core.state.numbers)) (sym c.self.view_is) (offer_unused _ _ _ c.requires.1))
 
 pub serve_front-requires-clause-divided : goal.serve_front-requires-clause-divided
 serve_front-requires-clause-divided c = subst (λ (core : Core). IsDivided core.state.homes core.state.covers core.state.dentries) (sym c.self.view_is) c.requires.1.divided
