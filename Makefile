@@ -18,6 +18,9 @@ test:
 	@tests/claims/run
 	@cp crates/cephmeta/out/cephmeta cephmeta
 	@examples/check
+	@tests/rows/run
+	@tests/operation_table/run
+	@tests/many_names/run
 	@tests/refused_growths/run
 
 strength:
