@@ -16,6 +16,7 @@ pub mod PurgeSteps
 pub mod PutSteps
 pub mod ReadLaws
 pub mod ReadSteps
+pub mod ReadyChanges
 pub mod ReadyLaws
 pub mod ReadyPairs
 pub mod RegroupLaws
