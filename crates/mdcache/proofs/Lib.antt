@@ -3,6 +3,7 @@ pub mod CachedLaws
 pub mod ChangeLaws
 pub mod EmptyLaws
 pub mod EndLaws
+pub mod FragsSteps
 pub mod GatherLaws
 pub mod GoneLaws
 pub mod GoneSteps

@@ -4,6 +4,7 @@
 #![tactic(auto)]
 
 mod adding;
+mod applying;
 mod beginning;
 mod dropping;
 mod emptiness;
