@@ -3,6 +3,7 @@ pub mod CachedLaws
 pub mod ChangeLaws
 pub mod EmptyLaws
 pub mod EndLaws
+pub mod FragsSteps
 pub mod GatherLaws
 pub mod GoneLaws
 pub mod GoneSteps
@@ -16,6 +17,7 @@ pub mod PurgeSteps
 pub mod PutSteps
 pub mod ReadLaws
 pub mod ReadSteps
+pub mod ReadyChanges
 pub mod ReadyLaws
 pub mod ReadyPairs
 pub mod RegroupLaws

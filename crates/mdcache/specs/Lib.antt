@@ -1,6 +1,8 @@
 pub mod Cached
 pub mod Changes
 pub mod Commits
+pub mod Frags
+pub mod FragsLaws
 pub mod Going
 pub mod Made
 pub mod New

@@ -47,7 +47,7 @@ impl<S: Store + Drop> MdCache<S> {
 }
 
 // The names of the objects of a directory.
-fn going_of(alloc: Global, dirs: &Dirs, dir: Ino) -> Result<Going, AllocError>
+pub(crate) fn going_of(alloc: Global, dirs: &Dirs, dir: Ino) -> Result<Going, AllocError>
     ensures { IfOk result (λ going. (going.dir ≡ dir) × IsGoing dirs.now.trees going) }
 {
     let leaves = dirs.tree(alloc, dir)?;

@@ -4,6 +4,7 @@
 #![tactic(auto)]
 
 mod adding;
+mod applying;
 mod beginning;
 mod dropping;
 mod emptiness;
@@ -24,6 +25,8 @@ mod ready;
 mod ready_leaves;
 mod ready_move;
 mod ready_pairs;
+mod ready_removal;
+mod ready_set;
 mod removing;
 mod renaming;
 mod setting;
@@ -34,3 +37,4 @@ pub use going::{Going, GoingLeaf};
 pub use laws::{changes_are_right, merges_are_right, splits_are_right};
 pub use mdcache::MdCache;
 pub use ready::NewDirectory;
+pub use ready_move::MovingEntry;

@@ -2,6 +2,7 @@
 
 use crate::going::Going;
 use crate::ready::NewDirectory;
+use crate::ready_move::MovingEntry;
 
 /// What a change takes beside itself.
 #[derive(Debug, Drop)]
@@ -12,4 +13,6 @@ pub(crate) enum Prepared {
     Directory(NewDirectory),
     /// What an entry takes that goes: something only if it is a directory.
     Removal(Option<Going>),
+    /// What an entry takes that moves.
+    Move(MovingEntry),
 }

@@ -102,8 +102,8 @@ impl<S: Store + Drop> MdCache<S> {
     }
 }
 
-// Whether a number is left of a counter.
-fn check_left(next: u64) -> Result<(), Refusal>
+/// Whether a number is left of a counter. Refused `NoInodes` exactly where none is.
+pub(crate) fn check_left(next: u64) -> Result<(), Refusal>
     ensures ok { OnOk result (next < 2 ^ 64 - 1) }
     ensures err { IfErr result (λ reason. (reason ≡ NoInodes) × LacksNumbers 1 next) }
 {

@@ -1,26 +1,44 @@
-//! What a rename needs of its two leaves is made ready.
-ghost use Rattle.std.specs.Prelude.{◌≡◌, ◌-◌, ◌<◌, ◌≤◌, ◌^◌, true, OnOk, IfOk, IfErr};
+//! What a rename needs is made ready: room in its two leaves, the inode that moves, and what is replaced.
+ghost use Rattle.std.specs.Prelude.{◌≡◌, ◌-◌, ◌<◌, ◌≤◌, ◌^◌, true, is_some, Some, OnOk, IfOk, IfErr};
+ghost use Rattle.std.specs.FinMap as map;
 ghost use Rattle.mds_types.specs.Tree.{is_directory};
-ghost use Rattle.mds_types.specs.declared.refusals.Refusal.TheVariants.{NoInodes};
+ghost use Rattle.mds_types.specs.declared.refusals.Refusal.TheVariants.{NoInodes, NoMemory};
 ghost use Rattle.fragtree.specs.FragTree.{IsPick};
 ghost use Rattle.namehash.specs.Rjenkins.{hash_of};
 ghost use Rattle.inode_table.specs.Dirs.{leaves_of};
-ghost use Rattle.cached_frag.specs.Cached.{Cached};
+ghost use Rattle.dirfrag_codec.specs.EntryRecord.{IsRecordable};
+ghost use Rattle.cached_frag.specs.Cached.{Cached, shown};
 ghost use Rattle.dentry_cache.specs.Cache.{HasCached, HasRoom, cached};
+ghost use Rattle.mdcache.specs.Going.{IsGoingOrNone, count_going, dir_going};
 ghost use Rattle.mdcache.specs.Ready.{LacksBeside, LacksNumbers, MayNotBeReady};
 ghost use Rattle.mdcache.specs.Shown.{shown_tree};
 
+use crate::going::Going;
 use crate::mdcache::MdCache;
 use crate::ready_pairs::ready_pair;
-use mds_types::{Dentry, Frag, Name, Refusal};
+use crate::ready_removal::ready_going;
+use dentry_cache::Cache;
+use mds_types::{Dentry, Frag, Ino, Inode, Name, Refusal};
 use objstore::Store;
 use std::alloc::Global;
 
+/// What an entry that moves takes beside its two dentries.
+#[derive(Debug, Drop)]
+pub struct MovingEntry {
+    /// The inode that moves.
+    pub inode: Inode,
+    /// The name that it gets, once more.
+    pub name: Name,
+    /// The directory that is replaced, if one is.
+    pub going: Option<Going>,
+}
+
 impl<S: Store + Drop> MdCache<S> {
-    /// Makes ready that the inode at one dentry moves to another; gives a copy of the new name. `source` and `target` are the
-    /// leaves that the dentries belong to, which may be one. Both are fetched, where they aren't cached, and the first stays
-    /// while the second is; then there is room for two changes in the first and for one in the second. Takes memory for
-    /// leaves that are read, for the room and for the copy.
+    /// Makes ready that the inode at one dentry moves to another; gives a copy of it, and one of its new name. `source` and
+    /// `target` are the leaves that the dentries belong to, which may be one. Both are fetched, where they aren't cached, and
+    /// the first stays while the second is; then there is room for two changes in the first and for one in the second.
+    /// `went` is the number of what is replaced, if that is a directory: the names of its objects are given, and the purge
+    /// list has room for them. Takes memory for leaves that are read, for the room, for the copies and for the names.
     ///
     /// Refused `NoInodes` exactly where no two versions are left; otherwise `NothingToEvict` where no place of the cache is
     /// free and no fragment but the first can go, `StoreFault`, and `NoMemory`.
@@ -31,12 +49,18 @@ impl<S: Store + Drop> MdCache<S> {
         source: Frag,
         to: &Dentry,
         target: Frag,
-    ) -> Result<Name, Refusal>
+        went: Option<Ino>,
+    ) -> Result<MovingEntry, Refusal>
         requires from_known { is_directory (shown_tree self.old.state) from.now.dir.0 ≡ true }
         requires from_leaf { IsPick (leaves_of self.old.state.covers from.now.dir.0) (hash_of from.now.name) source }
+        requires stands { is_some (map.get (shown_tree self.old.state) from.now) ≡ true }
         requires to_known { is_directory (shown_tree self.old.state) to.now.dir.0 ≡ true }
         requires to_leaf { IsPick (leaves_of self.old.state.covers to.now.dir.0) (hash_of to.now.name) target }
-        ensures name { IfOk result (λ name. name ≡ to.now.name) }
+        ensures inode { IfOk result (λ moving. map.get (shown_tree self.old.state) from.now ≡ Some moving.inode) }
+        ensures recordable { IfOk result (λ moving. IsRecordable moving.inode) }
+        ensures name { IfOk result (λ moving. moving.name ≡ to.now.name) }
+        ensures going { IfOk result (λ moving. (dir_going moving.going ≡ went) × IsGoingOrNone self.old.state.covers moving.going) }
+        ensures purge { IfOk result (λ moving. count_going moving.going ≤ self.new.purge_left) }
         ensures source { OnOk result (HasCached (cached self.new.cache.entries (from.now.dir, source)) (λ (f : Cached). 1 < f.room)) }
         ensures target { OnOk result (HasRoom (cached self.new.cache.entries (to.now.dir, target))) }
         ensures number { OnOk result (self.new.state.next_version < 2 ^ 64 - 2) }
@@ -48,6 +72,7 @@ impl<S: Store + Drop> MdCache<S> {
             return Err(refusal);
         }
         let name = to.name.try_clone()?;
+        let going = ready_going(alloc, &self.dirs, &mut self.purge, went)?;
         if let Err(refusal) = ready_pair(
             alloc,
             &mut self.cache,
@@ -59,8 +84,25 @@ impl<S: Store + Drop> MdCache<S> {
         ) {
             return Err(refusal);
         }
-        Ok(name)
+        let inode = inode_at(&self.cache, from.dir, source, &from.name)?;
+        Ok(MovingEntry { inode, name, going })
     }
+}
+
+// The inode that a name of a cached fragment stands for, copied. A record allows it, as each of a fragment's.
+fn inode_at(cache: &Cache, dir: Ino, frag: Frag, name: &Name) -> Result<Inode, Refusal>
+    requires { HasCached (cached cache.now.entries (dir, frag)) (λ (f : Cached). is_some (map.get (shown f) name.now) ≡ true) }
+    ensures inode { IfOk result (λ inode. HasCached (cached cache.now.entries (dir, frag)) (λ (f : Cached). map.get (shown f) name.now ≡ Some inode)) }
+    ensures recordable { IfOk result (λ inode. IsRecordable inode) }
+    ensures refused { IfErr result (λ reason. reason ≡ NoMemory) }
+{
+    let Some(fragment) = cache.get(dir, frag) else {
+        unreachable!()
+    };
+    let Some(inode) = fragment.look(name) else {
+        unreachable!()
+    };
+    Ok(inode.try_clone()?)
 }
 
 // Whether two numbers are left of a counter.

@@ -1,0 +1,115 @@
+-- The tree over caches and a store as operations see it: what reads keep, why a call is refused, and what is ready for a change.
+use Rattle.std.specs.Prelude.{◌≡◌, ◌⊎◌, ℕ, ◌+◌, ◌-◌, ◌<◌, ◌≤◌, ◌^◌, true, Option, Some, string_bytes}
+use Rattle.std.specs.Map.{lookup}
+use Rattle.std.specs.FinMap as map
+use Rattle.mds_types.specs.declared.dentries.Dentry.{Dentry}
+use Rattle.mds_types.specs.declared.ids.Ino.{Ino}
+use Rattle.mds_types.specs.declared.operations.Op.{Op}
+use Rattle.mds_types.specs.declared.operations.Op.TheVariants.{Lookup, Readdir, Create, Mkdir, Readlink, Symlink, Setattr, Unlink, Rmdir, Rename}
+use Rattle.mds_types.specs.declared.refusals.Refusal.{Refusal}
+use Rattle.mds_types.specs.declared.refusals.Refusal.TheVariants.{NoInodes, NoMemory, NothingToEvict, StoreFault}
+use Rattle.mds_types.specs.Tree.{is_dir_kind}
+use Rattle.dirfrag_codec.specs.EntryRecord.{IsRecordable}
+use Rattle.cached_frag.specs.Cached.{Cached}
+use Rattle.dentry_cache.specs.Cache.{HasCached, HasRoom, Leaf, cached, is_kept, leaf_is}
+use Rattle.inode_table.specs.Dirs.{Covers}
+use Rattle.namespace_ops.specs.declared.plans.Change.{Change}
+use Rattle.namespace_ops.specs.declared.plans.Change.TheVariants.{Add, Set, Remove, Move}
+use Rattle.mdcache.specs.declared.prepared.Prepared.{Prepared}
+use Rattle.mdcache.specs.declared.prepared.Prepared.TheVariants.{Nothing, Directory, Removal, Move as Moving}
+use Rattle.mdcache.specs.Cached.{Core}
+use Rattle.mdcache.specs.Changes.{first_leaf}
+use Rattle.mdcache.specs.Going.{IsGoingOrNone, count_going, dir_going}
+use Rattle.mdcache.specs.Ready.{LacksNumbers}
+use Rattle.mdcache.specs.Shown.{shown_tree}
+use Rattle.mdcache.specs.State.{State, text_of}
+
+-- ---- reads and refusals
+
+-- fewer than so many places are free or can become so
+abbrev pub LacksPlaces : ℕ → Core → Type 0
+LacksPlaces count core = core.cache.cap < map.len core.state.unsaved + count
+
+-- reads and refusals keep the state and the number of places; the store's faults only rise
+pub record KeepsState (old new : Core) : Type 0 where
+  pub state : new.state ≡ old.state
+  pub cap : new.cache.cap ≡ old.cache.cap
+  pub grows : old.faults ≤ new.faults
+
+-- the numbers that lack for an operation: a version for the name that it changes, two for a rename, and a generation for the leaf of a new
+-- directory
+abbrev pub LacksFor : Op → State → Type 0
+LacksFor (Lookup dentry) s = ⊥
+LacksFor (Readdir dir after max) s = ⊥
+LacksFor (Readlink dentry) s = ⊥
+LacksFor (Create dentry mode mtime) s = LacksNumbers 1 s.next_version
+LacksFor (Mkdir dentry mode mtime) s = LacksNumbers 1 s.next_version ⊎ LacksNumbers 1 s.next_generation
+LacksFor (Symlink dentry target mtime) s = LacksNumbers 1 s.next_version
+LacksFor (Setattr dentry given) s = LacksNumbers 1 s.next_version
+LacksFor (Unlink dentry) s = LacksNumbers 1 s.next_version
+LacksFor (Rmdir dentry) s = LacksNumbers 1 s.next_version
+LacksFor (Rename from to) s = LacksNumbers 2 s.next_version
+
+-- the numbers that lack for a change
+abbrev pub LacksToMake : Change → State → Type 0
+LacksToMake (Add dentry leaf inode) s = LacksNumbers 1 s.next_version ⊎ ((is_dir_kind inode.kind ≡ true) × LacksNumbers 1 s.next_generation)
+LacksToMake (Set dentry leaf inode) s = LacksNumbers 1 s.next_version
+LacksToMake (Remove dentry leaf went) s = LacksNumbers 1 s.next_version
+LacksToMake (Move from source to target went) s = LacksNumbers 2 s.next_version
+
+-- a call for an operation is refused for want of memory, by a store whose count of faults rose, where fewer than four places are free or can
+-- become so, or where a counter is at its end
+abbrev pub MayRefuse : (old new : Core) → Op → Refusal → Type 0
+MayRefuse old new op reason =
+    (reason ≡ NoMemory) ⊎ ((reason ≡ StoreFault) × (old.faults < new.faults)) ⊎ ((reason ≡ NothingToEvict) × LacksPlaces 4 old) ⊎ ((reason ≡ NoInodes) × LacksFor op old.state)
+
+-- ---- what is ready
+
+-- a leaf is cached and has room for a change of a name, and a version is left for it
+pub record IsNameReady (core : Core) (leaf : Leaf) : Type 0 where
+  pub room : HasRoom (cached core.cache.entries leaf)
+  pub number : core.state.next_version < 2 ^ 64 - 1
+
+-- this was prepared for a directory that comes: its name, and the name of its leaf's object
+abbrev pub IsForDirectory : Dentry → Ino → Prepared → Type 0
+IsForDirectory dentry dir Nothing = ⊥
+IsForDirectory dentry dir (Directory made) = (made.name ≡ dentry.name) × (string_bytes made.object ≡ text_of (first_leaf dir))
+IsForDirectory dentry dir (Removal going) = ⊥
+IsForDirectory dentry dir (Moving moving) = ⊥
+
+-- a place is kept for the leaf of a directory that comes, a generation is left for it, and there is room for the directory
+pub record IsDirectoryReady (core : Core) (dentry : Dentry) (dir : Ino) : Type 0 where
+  pub place : is_kept (lookup (leaf_is (first_leaf dir)) core.cache.entries) ≡ true
+  pub home : 0 < core.dirs_left
+  pub generation : core.state.next_generation < 2 ^ 64 - 1
+  pub prepared : IsForDirectory dentry dir core.prepared
+
+-- this was prepared for an entry that goes: the names of the objects, where it is a directory, for which the purge list has room
+abbrev pub IsForRemoval : Covers → ℕ → Option Ino → Prepared → Type 0
+IsForRemoval covers room went Nothing = ⊥
+IsForRemoval covers room went (Directory made) = ⊥
+IsForRemoval covers room went (Removal going) = (dir_going going ≡ went) × IsGoingOrNone covers going × (count_going going ≤ room)
+IsForRemoval covers room went (Moving moving) = ⊥
+
+-- this was prepared for an entry that moves: the inode, its new name, and what what it replaces takes
+abbrev pub IsForMove : State → ℕ → (from to : Dentry) → Option Ino → Prepared → Type 0
+IsForMove s room from to went Nothing = ⊥
+IsForMove s room from to went (Directory made) = ⊥
+IsForMove s room from to went (Removal going) = ⊥
+IsForMove s room from to went (Moving moving) =
+    (map.get (shown_tree s) from ≡ Some moving.inode) × IsRecordable moving.inode × (moving.name ≡ to.name)
+    × (dir_going moving.going ≡ went) × IsGoingOrNone s.covers moving.going × (count_going moving.going ≤ room)
+
+-- both leaves of an entry that moves are cached, the first with room for two changes, and two versions are left
+pub record IsMoveReady (core : Core) (source target : Leaf) (from to : Dentry) (went : Option Ino) : Type 0 where
+  pub source_room : HasCached (cached core.cache.entries source) (λ (f : Cached). 1 < f.room)
+  pub target_room : HasRoom (cached core.cache.entries target)
+  pub number : core.state.next_version < 2 ^ 64 - 2
+  pub prepared : IsForMove core.state core.purge_left from to went core.prepared
+
+-- a change can be made with no growth
+abbrev pub IsReady : Core → Change → Type 0
+IsReady core (Add dentry leaf inode) = IsNameReady core (dentry.dir, leaf) × IsRecordable inode × (is_dir_kind inode.kind ≡ true → IsDirectoryReady core dentry inode.ino)
+IsReady core (Set dentry leaf inode) = IsNameReady core (dentry.dir, leaf) × IsRecordable inode
+IsReady core (Remove dentry leaf went) = IsNameReady core (dentry.dir, leaf) × IsForRemoval core.state.covers core.purge_left went core.prepared
+IsReady core (Move from source to target went) = IsMoveReady core (from.dir, source) (to.dir, target) from to went

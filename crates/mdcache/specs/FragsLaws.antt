@@ -1,0 +1,56 @@
+-- The laws of what reads keep of the tree over caches and a store, and of why their calls are refused.
+use Rattle.std.specs.Prelude.{◌≡◌, ◌⊎◌, ◌+◌, ◌<◌, ◌≤◌, refl}
+use Rattle.std.proofs.Common.{inl, inr, sym, ap, subst, ◌∙◌, arith}
+use Rattle.std.specs.FinMap as map
+use Rattle.mds_types.specs.declared.operations.Op.{Op}
+use Rattle.mds_types.specs.declared.refusals.Refusal.{Refusal}
+use Rattle.dentry_cache.specs.Cache.{Leaf}
+use Rattle.namespace_ops.specs.Reasons.{IsOfFragments}
+use Rattle.mdcache.specs.Cached.{Core}
+use Rattle.mdcache.specs.Frags.{KeepsState, LacksFor, LacksPlaces, MayRefuse}
+use Rattle.mdcache.specs.Made.{IsUntouched, StaysAsItIs}
+use Rattle.mdcache.specs.Shown.{names_of}
+use Rattle.mdcache.specs.State.{IsLive, State}
+
+pub keeps_itself : (a : Core) → KeepsState a a
+keeps_itself a = record { state = refl; cap = refl; grows = omega arith }
+
+pub keeps_on : (a b c : Core) → KeepsState a b → KeepsState b c → KeepsState a c
+keeps_on a b c p q =
+    let first = p.grows in
+    let second = q.grows in
+    record { state = q.state ∙ p.state; cap = q.cap ∙ p.cap; grows = omega (arith, first, second) }
+
+-- a state that is the same has the same leaves with the same names
+pub untouched_by : (a b : Core) (leaf : Leaf) → KeepsState a b → IsUntouched a.state b.state leaf
+untouched_by a b leaf kept live = record {
+  live = subst (λ (s : State). IsLive s.homes s.covers leaf) (sym kept.state) live;
+  names = ap (λ (s : State). names_of s.unsaved s.objects leaf) kept.state;
+}
+
+pub untouched_on : (a b c : Core) (leaf : Leaf) → IsUntouched a.state b.state leaf → IsUntouched b.state c.state leaf → IsUntouched a.state c.state leaf
+untouched_on a b c leaf p q live =
+    let first = p live in
+    let second = q first.live in
+    record { live = second.live; names = second.names ∙ first.names }
+
+-- places that lack, lacked before
+pub lacked_before : (a b : Core) → KeepsState a b → LacksPlaces 4 b → LacksPlaces 4 a
+lacked_before a b kept lacks =
+    let cap = kept.cap in
+    let count = ap (λ (s : State). map.len s.unsaved) kept.state in
+    omega (arith, cap, count, lacks)
+
+pub refused_later : (a b c : Core) (op : Op) (reason : Refusal) → KeepsState a b → MayRefuse b c op reason → MayRefuse a c op reason
+refused_later a b c op reason kept (inl memory) = inl memory
+refused_later a b c op reason kept (inr (inl (is, rose))) =
+    let grows = kept.grows in
+    inr (inl (is, omega (arith, grows, rose)))
+refused_later a b c op reason kept (inr (inr (inl (is, lacks)))) = inr (inr (inl (is, lacked_before a b kept lacks)))
+refused_later a b c op reason kept (inr (inr (inr (is, lacks)))) = inr (inr (inr (is, subst (λ (s : State). LacksFor op s) kept.state lacks)))
+
+pub refused_so : (a b : Core) (op : Op) (reason : Refusal) → MayRefuse a b op reason → IsOfFragments reason
+refused_so a b op reason (inl is) = subst IsOfFragments (sym is) tt
+refused_so a b op reason (inr (inl (is, rose))) = subst IsOfFragments (sym is) tt
+refused_so a b op reason (inr (inr (inl (is, lacks)))) = subst IsOfFragments (sym is) tt
+refused_so a b op reason (inr (inr (inr (is, lacks)))) = subst IsOfFragments (sym is) tt
