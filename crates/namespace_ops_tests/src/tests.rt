@@ -1,5 +1,7 @@
 //! What no clause says: that operations succeed, and what they answer and change in rows worked by hand. A row is a table
 //! of operations, each beside the fragments that it would change and what it comes to.
+//! Renames over every pair of kinds stand in `tests/rows`, and a slow program of the whole table in `tests/operation_table`:
+//! the program shows them.
 
 mod asked;
 mod faulty_frags;
@@ -7,15 +9,12 @@ mod listing;
 mod one_entry_frags;
 mod plain_changes;
 mod plain_frags;
-mod renames;
-mod slow_table;
 mod split_dirs;
 
 use asked::{Asked, Came, FIRST, ROOT, op_of, told};
 use mds_types::{Frag, Ino, Op, Refusal, Reply};
 use namespace_ops::{changes, serve_op};
 use plain_frags::PlainFrags;
-use slow_table::SlowTable;
 use std::alloc::Global;
 
 /// An operation; of the fragments that it would change the directories' numbers, 0 for none; and what it comes to.
@@ -283,31 +282,6 @@ fn files_and_listings_are_those_of_the_table(rt: HostRuntime) {
     assert_eq!(rt; wrong(rt.alloc(), &LISTINGS), None);
 }
 
-// Makes a file for each name of one byte, in the order of the bytes.
-fn make_all_bytes(alloc: Global, frags: &mut PlainFrags) {
-    let mut number = FIRST;
-    for byte in 1..=255u8 {
-        if byte != b'/' && byte != b'.' {
-            let _ = served(alloc, frags, Asked::File(ROOT, byte), number);
-            number = number.saturating_add(1);
-        }
-    }
-}
-
-// 253 names. `.` and `/` are none, so behind `-`, the 45th, comes `0`.
-#[test]
-fn names_of_all_bytes_are_listed(rt: HostRuntime) {
-    let alloc = rt.alloc();
-    let mut frags = PlainFrags::new(alloc);
-    make_all_bytes(alloc, &mut frags);
-    let all = served(alloc, &mut frags, Asked::List(ROOT), 0);
-    assert_eq!(rt; all, Came::Names(253, false, FIRST, FIRST + 252));
-    let next = served(alloc, &mut frags, Asked::Page(ROOT, b'-', 1), 0);
-    assert_eq!(rt; next, Came::Names(1, true, FIRST + 45, FIRST + 45));
-    let last = served(alloc, &mut frags, Asked::Page(ROOT, 254, 2), 0);
-    assert_eq!(rt; last, Came::Names(1, false, FIRST + 252, FIRST + 252));
-}
-
 // Whether what would be made is refused for want of a number.
 fn wants_number(alloc: Global, frags: &mut PlainFrags, asked: Asked) -> bool {
     match op_of(alloc, asked) {
@@ -332,66 +306,4 @@ fn without_a_number_nothing_is_made(rt: HostRuntime) {
         served(alloc, &mut frags, Asked::Find(ROOT, b'a'), 0),
         Came::Errno(2)
     );
-}
-
-// Operations in the root, in the first directory made there and in the first two of it.
-const OPERATIONS: [Asked; 18] = [
-    Asked::Find(ROOT, b'a'),
-    Asked::List(ROOT),
-    Asked::Page(ROOT, b'a', 1),
-    Asked::Target(ROOT, b'a'),
-    Asked::File(ROOT, b'a'),
-    Asked::Dir(ROOT, b'a'),
-    Asked::Dir(FIRST, b'a'),
-    Asked::Dir(ROOT, b'b'),
-    Asked::Link(ROOT, b'b'),
-    Asked::File(FIRST, b'b'),
-    Asked::Size(ROOT, b'a', 5),
-    Asked::All(ROOT, b'b', 0o600, 9, 8),
-    Asked::Unlink(ROOT, b'a'),
-    Asked::Rmdir(ROOT, b'a'),
-    Asked::Rename(ROOT, b'a', ROOT, b'b'),
-    Asked::Rename(ROOT, b'a', FIRST, b'b'),
-    Asked::Rename(ROOT, b'b', FIRST, b'a'),
-    Asked::Rename(FIRST, b'b', ROOT, b'a'),
-];
-
-// Where the answers to these operations, one after the other, differ from those of the slow table.
-fn differs_in(alloc: Global, frags: &mut PlainFrags, all: [Asked; 4]) -> Option<(Came, Came)> {
-    let mut table = SlowTable::EMPTY;
-    let mut number = FIRST;
-    for asked in all {
-        let found = served(alloc, frags, asked, number);
-        let wanted = table.step(asked, number);
-        if found != wanted {
-            return Some((found, wanted));
-        }
-        number = number.saturating_add(1);
-    }
-    None
-}
-
-fn differs(alloc: Global, all: [Asked; 4]) -> Option<(Came, Came)> {
-    let mut frags = PlainFrags::new(alloc);
-    differs_in(alloc, &mut frags, all)
-}
-
-// Every four operations of which the first makes a directory.
-fn differs_somewhere(alloc: Global) -> Option<(Came, Came)> {
-    for second in OPERATIONS {
-        for third in OPERATIONS {
-            for last in OPERATIONS {
-                let found = differs(alloc, [Asked::Dir(ROOT, b'a'), second, third, last]);
-                if found.is_some() {
-                    return found;
-                }
-            }
-        }
-    }
-    None
-}
-
-#[test]
-fn agrees_with_the_slow_table(rt: HostRuntime) {
-    assert_eq!(rt; differs_somewhere(rt.alloc()), None);
 }

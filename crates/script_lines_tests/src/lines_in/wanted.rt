@@ -169,56 +169,21 @@ fn is_read(read: &Result<Line, AllocError>, wanted: Wanted) -> bool {
     }
 }
 
-/// Whether a line asks for this.
-pub fn reads(alloc: Global, line: &[u8], wanted: Wanted) -> bool {
+// Whether a line asks for this.
+fn reads(alloc: Global, line: &[u8], wanted: Wanted) -> bool {
     let read = read_line(alloc, line);
     is_read(&read, wanted)
 }
 
-/// What a line is, short of what it asks for.
-#[derive(Clone, Copy, PartialEq)]
-pub enum Verdict {
-    Command,
-    Nothing,
-    BadWord(u16),
-    NotCommand,
-    NoMemory,
-}
+/// A line, and what it asks for.
+pub type Row = (&'static [u8], Wanted<'static>);
 
-fn verdict_on(read: &Result<Line, AllocError>) -> Verdict {
-    match read {
-        Ok(Line::Command(_)) => Verdict::Command,
-        Ok(Line::Nothing) => Verdict::Nothing,
-        Ok(Line::BadWord(errno)) => Verdict::BadWord(*errno),
-        Ok(Line::NotCommand) => Verdict::NotCommand,
-        Err(_) => Verdict::NoMemory,
-    }
-}
-
-pub fn judged(alloc: Global, line: &[u8]) -> Verdict {
-    let read = read_line(alloc, line);
-    verdict_on(&read)
-}
-
-// Puts so many `x` and then these bytes at the end of a line. False where memory is refused.
-fn extend(line: &mut Vec<u8>, len: usize, after: &[u8]) -> bool {
-    let mut all = true;
-    for _ in 0..len {
-        all = line.push(b'x').is_ok() && all;
-    }
-    line.extend_from_slice(after).is_ok() && all
-}
-
-/// What the line is that has so many `x` between these two parts.
-pub fn judged_long(alloc: Global, before: &[u8], len: usize, after: &[u8]) -> Verdict {
-    match before.to_vec(alloc) {
-        Ok(mut line) => {
-            if extend(&mut line, len, after) {
-                judged(alloc, &line)
-            } else {
-                Verdict::NoMemory
-            }
+/// The place of the first line that asks for something else.
+pub fn misread(alloc: Global, rows: &[Row]) -> Option<usize> {
+    for (place, (line, wanted)) in rows.iter().enumerate() {
+        if !reads(alloc, line, *wanted) {
+            return Some(place);
         }
-        Err(_) => Verdict::NoMemory,
     }
+    None
 }

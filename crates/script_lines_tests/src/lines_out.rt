@@ -7,7 +7,6 @@ use std::process::Abort;
 
 mod leaves;
 mod replies;
-mod row_replies;
 mod writing;
 
 /// A reply's transaction number and place, whether it is given for the first time, the reply, and its line with no end.
