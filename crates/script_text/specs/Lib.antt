@@ -4,3 +4,4 @@ pub mod Operations
 pub mod Script
 pub mod Input
 pub mod Looks
+pub mod StoreCommands

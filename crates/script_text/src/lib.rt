@@ -8,8 +8,10 @@ mod dirfrags;
 mod lines;
 mod operations;
 mod reading;
+mod store_commands;
 
 pub use commands::Command;
 pub use lines::{Line, read_line};
 pub use reading::buffer::{LineBuffer, MAX_LINE_LEN};
 pub use reading::input::{LineFault, NextLine, next_line};
+pub use store_commands::{StoreCommand, read_store_command};
