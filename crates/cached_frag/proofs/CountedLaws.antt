@@ -1,14 +1,15 @@
 -- Entry counts once one name has another inode.
-use Rattle.std.proofs.Common.{◌≡◌, ℕ, ◌+◌, ◌≤◌, ◌⊎◌, inl, inr, Bool, true, false, cond, not, List, [], ◌∷◌, length, Option, Some, None, refl, sym, ap, subst, ◌∙◌, arith}
+use Rattle.std.proofs.Common.{◌≡◌, ℕ, ◌+◌, ◌≤◌, ◌⊎◌, inl, inr, Bool, true, false, cond, not, List, [], ◌∷◌, length, Option, Some, None, refl, sym, ap, ◌∙◌, arith}
+use Rattle.std.proofs.lemmas.List.{nil_from_length}
 use Rattle.std.specs.Prelude.{T, filter}
 use Rattle.std.specs.declared.cmp.Ordering.{Ordering}
 use Rattle.std.specs.declared.cmp.Ordering.TheVariants.{Less, Equal, Greater}
-use Rattle.std.specs.Ordering.{is_lt, is_eq}
+use Rattle.std.specs.Ordering.{is_eq}
 use Rattle.std.specs.Cmp.Lexicographic.{nat_list_cmp_total}
 use Rattle.std.specs.FinMap as map
 use Rattle.std.specs.FinMap.{find, is_sorted, entries_sorted, entries-insert, get-entries, len-empty, len-entries}
-use Rattle.std.specs.FinMap.Entries.{below_all, by_order, put}
-use Rattle.sorted_map.proofs.Bools.{both_of, left_of, right_of}
+use Rattle.std.specs.FinMap.Entries.{by_order, put}
+use Rattle.sorted_map.proofs.Bools.{left_of, right_of}
 use Rattle.mds_types.proofs.EntrySearch.{not_found_below}
 use Rattle.mds_types.specs.Tree.{is_dir_kind}
 use Rattle.mds_types.specs.declared.inodes.Inode.{Inode}
@@ -18,6 +19,7 @@ use Rattle.dirfrag_codec.proofs.ByteKeys.{get_beside, get_left, get_put, get_rem
 use Rattle.commit_jobs.specs.Counting.{is_dir, is_file}
 use Rattle.commit_jobs.specs.Marks.{with_mark}
 use Rattle.commit_jobs.specs.Snap.{counts_of}
+use Rattle.cached_frag.proofs.RowLaws.{below_chain}
 
 module _ (p : Inode → Bool) where
   abbrev tally : List (List ℕ × Inode) → ℕ
@@ -34,23 +36,13 @@ module _ (p : Inode → Bool) where
   one_more : (e : List ℕ × Inode) (es : List (List ℕ × Inode)) → tally (e ∷ es) ≡ weight (Some e.1) + tally es
   one_more e es = longer (p e.1) e (filter (λ (f : List ℕ × Inode). p f.1) es)
 
-  chained : (k : List ℕ) (e : List ℕ × Inode) (es : List (List ℕ × Inode)) → key_cmp k e.0 ≡ Less → T (below_all key_cmp e.0 es) → T (below_all key_cmp k es)
-  chained k e [] less below = tt
-  chained k e (f ∷ fs) less below =
-      both_of _ _ (subst (λ r. T (is_lt r)) (sym (nat_list_cmp_total.trans k e.0 f.0 less (less_is _ (left_of _ _ below)))) tt) (chained k e fs less (right_of _ _ below))
-    where
-      less_is : (r : Ordering) → T (is_lt r) → r ≡ Less
-      less_is Less h = refl
-      less_is Equal h = absurd h
-      less_is Greater h = absurd h
-
   put_tally : (k : List ℕ) (v : Inode) (es : List (List ℕ × Inode)) → T (is_sorted key_cmp es) → tally (put key_cmp k v es) + weight (find key_cmp k es) ≡ tally es + weight (Some v)
   put_tally k v [] sorted = let e : tally ((k, v) ∷ []) ≡ weight (Some v) + 0 = one_more (k, v) [] in omega (arith, e)
   put_tally k v (e ∷ es) sorted = go (put_tally k v es (right_of _ _ sorted)) (key_cmp k e.0) refl
     where
       go : tally (put key_cmp k v es) + weight (find key_cmp k es) ≡ tally es + weight (Some v) → (r : Ordering) → key_cmp k e.0 ≡ r → tally (by_order r ((k, v) ∷ e ∷ es) ((e.0, v) ∷ es) (e ∷ put key_cmp k v es)) + weight (cond (is_eq r) (Some e.1) (find key_cmp k es)) ≡ tally (e ∷ es) + weight (Some v)
       go rest Less is =
-          let none : find key_cmp k es ≡ None = not_found_below nat_list_cmp_total k es (chained k e es is (left_of _ _ sorted)) in
+          let none : find key_cmp k es ≡ None = not_found_below nat_list_cmp_total k es (below_chain k e.0 es is (left_of _ _ sorted)) in
           let nothing : weight (find key_cmp k es) ≡ 0 = ap weight none in
           let one : tally ((k, v) ∷ e ∷ es) ≡ weight (Some v) + tally (e ∷ es) = one_more (k, v) (e ∷ es) in
           omega (arith, nothing, one)
@@ -127,12 +119,8 @@ files_some m k = let e : files_in (with_mark m k None) + cond (is_file (map.get 
 -- no names have no counts
 pub nothing_counted : counts_of map.empty ≡ record { files = 0; dirs = 0 }
 nothing_counted =
-    let none : map.entries (map.empty {X = Inode} {R = key_cmp}) ≡ [] = nil_of_length (map.entries (map.empty {X = Inode} {R = key_cmp})) (sym (len-entries (map.empty {X = Inode} {R = key_cmp})) ∙ len-empty key_cmp Inode) in
+    let none : map.entries (map.empty {X = Inode} {R = key_cmp}) ≡ [] = nil_from_length (map.entries (map.empty {X = Inode} {R = key_cmp})) (sym (len-entries (map.empty {X = Inode} {R = key_cmp})) ∙ len-empty key_cmp Inode) in
     λ i. record { files = length (filter (λ (e : List ℕ × Inode). not (is_dir_kind e.1.kind)) (none i)); dirs = length (filter (λ (e : List ℕ × Inode). is_dir_kind e.1.kind) (none i)) }
-  where
-    nil_of_length : {A : Type 0} (es : List A) → length es ≡ 0 → es ≡ []
-    nil_of_length [] h = refl
-    nil_of_length (e ∷ es) h = cc
 
 -- ---- names counted one by one
 

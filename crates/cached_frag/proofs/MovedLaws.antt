@@ -1,9 +1,9 @@
 -- Names that go from one map to another, one after the other.
-use Rattle.std.proofs.Common.{◌≡◌, ℕ, ◌+◌, ◌-◌, ◌<◌, ◌≤◌, Bool, true, false, cond, ◌⊎◌, inl, inr, List, [], ◌∷◌, length, drop, slice_get, Option, Some, None, refl, sym, ap, subst, ◌∙◌, arith}
+use Rattle.std.proofs.Common.{◌≡◌, ℕ, ◌+◌, ◌-◌, ◌<◌, Bool, false, cond, ◌⊎◌, inl, inr, List, ◌∷◌, length, drop, Option, Some, None, refl, sym, ap, ◌∙◌, arith}
 use Rattle.std.specs.Prelude.{◌==◌}
 use Rattle.std.specs.FinMap as map
-use Rattle.std.specs.FinMap.{find, get-empty, get-entries, len-entries}
-use Rattle.std.proofs.lemmas.Bool.Decides.{nat_tests}
+use Rattle.std.specs.FinMap.{find, get-entries, len-entries}
+use Rattle.std.proofs.lemmas.Bool.{eq-eqb}
 use Rattle.sorted_map.specs.SortedMap.{first_pair}
 use Rattle.sorted_map.proofs.OverlayLaws.{popped, none_left}
 use Rattle.mds_types.specs.declared.inodes.Inode.{Inode}
@@ -12,13 +12,11 @@ use Rattle.dirfrag_codec.specs.FragmentObject.{Names}
 use Rattle.dirfrag_codec.proofs.ByteKeys.{get_beside, get_left, get_put, get_removed, key_itself, same_or_apart}
 use Rattle.commit_jobs.specs.declared.marks.Mark.{Mark}
 use Rattle.commit_jobs.specs.Marks.{Marks, patched, with_mark}
+use Rattle.commit_jobs.proofs.MarkLaws.{marked_beside, marked_here}
 use Rattle.cached_frag.specs.Cached.{AreEntries, Cached, IsEntry, marked, shown}
-use Rattle.cached_frag.specs.Moving.{Joins, marked_as, shown_as}
+use Rattle.cached_frag.specs.Moving.{marked_as, shown_as}
 use Rattle.cached_frag.proofs.SettledLaws.{taken_shown}
-use Rattle.cached_frag.proofs.ShownLaws.{marked_beside, marked_here, shown_marked}
-
-nat_itself : (a : ℕ) → (a == a) ≡ true
-nat_itself a = grind (arith, nat_tests)
+use Rattle.cached_frag.proofs.ShownLaws.{shown_marked}
 
 -- ---- the first pair is taken out
 
@@ -47,7 +45,7 @@ none_len {X} old o none value = len-entries old ∙ ap (length {A = List ℕ × 
 
 pub popped_shown : (clean after : Names) (old new : Marks) (pair : List ℕ × Mark) → map.get old pair.0 ≡ Some pair.1 → new ≡ map.remove old pair.0 → after ≡ with_mark clean pair.0 pair.1.inode → patched after new ≡ patched clean old
 popped_shown clean after old new pair there removed put =
-    taken_shown clean after old new pair.0 pair.1.version pair (refl, there, ap is_now there ∙ nat_itself pair.1.version, removed) put
+    taken_shown clean after old new pair.0 pair.1.version pair (refl, there, ap is_now there ∙ eq-eqb pair.1.version pair.1.version refl, removed) put
   where
     is_now : Option Mark → Bool
     is_now (Some mark) = mark.version == pair.1.version

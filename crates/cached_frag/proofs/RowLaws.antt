@@ -1,6 +1,6 @@
 -- Two lists of rows in the order of their names, merged.
 use Rattle.std.proofs.Common.{◌≡◌, ℕ, Bool, true, false, cond, ◌⊎◌, inl, inr, List, [], ◌∷◌, Option, Some, None, refl, sym, ap, subst, ◌∙◌}
-use Rattle.std.specs.Prelude.{T, filter}
+use Rattle.std.specs.Prelude.{T}
 use Rattle.std.specs.declared.cmp.Ordering.{Ordering}
 use Rattle.std.specs.declared.cmp.Ordering.TheVariants.{Less, Equal, Greater}
 use Rattle.std.specs.Ordering.{is_lt, eq_by_cmp, ordering_reverse}
@@ -11,6 +11,7 @@ use Rattle.std.specs.FinMap.Entries.{below_all, by_order, find-where_key, is_sor
 use Rattle.std.proofs.lemmas.Map.Lookups.{exact_bytes}
 use Rattle.sorted_map.proofs.Bools.{both_of, left_of, right_of}
 use Rattle.sorted_map.proofs.Filters.{all_kept}
+use Rattle.sorted_map.proofs.PlaceLaws.{less as less_of}
 use Rattle.mds_types.specs.Step.{is_after}
 use Rattle.mds_types.specs.declared.inodes.Inode.{Inode}
 use Rattle.omap.specs.Omap.{key_cmp}
@@ -21,11 +22,6 @@ use Rattle.commit_jobs.specs.Marks.{Marks, patched}
 use Rattle.commit_jobs.proofs.MarkLaws.{get-patched, inode_or}
 use Rattle.cached_frag.specs.Rows.{Change, Row, changed_rows, first_of, merged, merged_one, rows_after, with_change}
 
-less_is : (r : Ordering) → T (is_lt r) → r ≡ Less
-less_is Less h = refl
-less_is Equal h = absurd h
-less_is Greater h = absurd h
-
 is_less : (r : Ordering) → r ≡ Less → T (is_lt r)
 is_less Less h = tt
 is_less Equal h = cc
@@ -33,9 +29,9 @@ is_less Greater h = cc
 
 -- ---- a name below others
 
-below_chain : {X : Type 0} (a b : List ℕ) (es : List (List ℕ × X)) → key_cmp a b ≡ Less → T (below_all key_cmp b es) → T (below_all key_cmp a es)
+pub below_chain : {X : Type 0} (a b : List ℕ) (es : List (List ℕ × X)) → key_cmp a b ≡ Less → T (below_all key_cmp b es) → T (below_all key_cmp a es)
 below_chain a b [] less below = tt
-below_chain a b (e ∷ es) less below = both_of _ _ (is_less _ (nat_list_cmp_total.trans a b e.0 less (less_is _ (left_of _ _ below)))) (below_chain a b es less (right_of _ _ below))
+below_chain a b (e ∷ es) less below = both_of _ _ (is_less _ (nat_list_cmp_total.trans a b e.0 less (less_of _ (left_of _ _ below)))) (below_chain a b es less (right_of _ _ below))
 
 below_same : {X : Type 0} (a b : List ℕ) (es : List (List ℕ × X)) → a ≡ b → T (below_all key_cmp b es) → T (below_all key_cmp a es)
 below_same a b es same below = subst (λ (k : List ℕ). T (below_all key_cmp k es)) (sym same) below

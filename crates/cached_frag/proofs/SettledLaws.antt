@@ -6,6 +6,7 @@ use Rattle.std.specs.FinMap as map
 use Rattle.std.specs.FinMap.{find, is_sorted, entries_sorted, get-entries, get-retain_keys}
 use Rattle.std.proofs.lemmas.Map.Lookups.{exact_bytes}
 use Rattle.sorted_map.proofs.Bools.{left_of, right_of}
+use Rattle.sorted_map.proofs.MapLaws.{swapped}
 use Rattle.mds_types.specs.declared.inodes.Inode.{Inode}
 use Rattle.omap.specs.Omap.{key_cmp}
 use Rattle.dirfrag_codec.specs.EntryRecord.{HasRecord}
@@ -13,10 +14,9 @@ use Rattle.dirfrag_codec.specs.FragmentObject.{Names}
 use Rattle.dirfrag_codec.proofs.ByteKeys.{get_left, get_removed, key_apart, key_same, not_found, one_map, same_or_apart}
 use Rattle.commit_jobs.specs.declared.marks.Mark.{Mark}
 use Rattle.commit_jobs.specs.Marks.{AreDirtyNames, IsDirtyName, Marks, patched, with_mark}
-use Rattle.commit_jobs.proofs.MarkLaws.{get-patched, inode_or}
+use Rattle.commit_jobs.proofs.MarkLaws.{get-patched, inode_or, marked_beside, marked_here}
 use Rattle.cached_frag.specs.Cached.{AreEntries, IsEntry, is_settled, unsettled}
 use Rattle.cached_frag.specs.Settling.{IsTaken, is_at, settled_in, settled_one}
-use Rattle.cached_frag.proofs.ShownLaws.{marked_beside, marked_here}
 
 -- ---- what is dirty
 
@@ -24,10 +24,6 @@ pub get-unsettled : (dirty snap : Marks) (q : List ℕ) → map.get (unsettled d
 unfolding unsettled
 get-unsettled dirty snap q =
     get-retain_keys dirty (λ name. not (is_settled (map.get dirty name) (map.get snap name))) q (λ x tied. ap (λ (k : List ℕ). not (is_settled (map.get dirty k) (map.get snap k))) (sym (exact_bytes q x tied)))
-
-cond_not : {A : Type 0} (b : Bool) (x y : A) → cond (not b) x y ≡ cond b y x
-cond_not true x y = refl
-cond_not false x y = refl
 
 settled_beside : (dirty : Marks) (name : List ℕ) (version : ℕ) (q : List ℕ) → (q ≡ name → ⊥) → map.get (settled_one dirty name version) q ≡ map.get dirty q
 settled_beside dirty name version q apart = go (is_at version (map.get dirty name))
@@ -73,7 +69,7 @@ get-settled_in dirty (e ∷ es) q sorted = get-settled_in (settled_one dirty e.0
 pub settled_is : (dirty snap : Marks) → settled_in dirty (map.entries snap) ≡ unsettled dirty snap
 settled_is dirty snap = one_map _ _ (λ q.
     get-settled_in dirty (map.entries snap) q (entries_sorted snap) ∙ ap (λ (r : Option Mark). cond (is_settled (map.get dirty q) r) None (map.get dirty q)) (sym (get-entries snap q))
-    ∙ sym (cond_not (is_settled (map.get dirty q) (map.get snap q)) (map.get dirty q) None) ∙ sym (get-unsettled dirty snap q))
+    ∙ sym (swapped (is_settled (map.get dirty q) (map.get snap q)) (map.get dirty q) None) ∙ sym (get-unsettled dirty snap q))
 
 -- ---- what a taken name leaves
 

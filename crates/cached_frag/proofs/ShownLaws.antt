@@ -7,12 +7,12 @@ use Rattle.mds_types.specs.declared.inodes.Inode.{Inode}
 use Rattle.omap.specs.Omap.{key_cmp}
 use Rattle.dirfrag_codec.specs.EntryRecord.{HasRecord}
 use Rattle.dirfrag_codec.specs.FragmentObject.{Names}
-use Rattle.dirfrag_codec.proofs.ByteKeys.{get_beside, get_left, get_put, get_removed, one_map, same_or_apart}
+use Rattle.dirfrag_codec.proofs.ByteKeys.{get_beside, get_put, one_map, same_or_apart}
 use Rattle.commit_jobs.specs.declared.bases.Base.{Base}
 use Rattle.commit_jobs.specs.declared.bases.Base.TheVariants.{Fresh, Stored}
 use Rattle.commit_jobs.specs.declared.marks.Mark.{Mark}
 use Rattle.commit_jobs.specs.Marks.{AreDirtyNames, Marks, patched, with_mark}
-use Rattle.commit_jobs.proofs.MarkLaws.{get-patched, inode_or}
+use Rattle.commit_jobs.proofs.MarkLaws.{get-patched, inode_or, marked_beside, marked_here}
 use Rattle.cached_frag.specs.Cached.{AreEntries, Cached, IsBased, IsEntry, marked, names_below, shown, shown_over}
 
 -- the names that were fetched are those of the base
@@ -40,14 +40,6 @@ pub recorded_shown : (names : Names) (name : List ℕ) (o : Option Inode) → Ar
 recorded_shown names name o entries is = recorded_if names name entries o (sym is)
 
 -- ---- a change of one name
-
-pub marked_here : (names : Names) (name : List ℕ) (o : Option Inode) → map.get (with_mark names name o) name ≡ o
-marked_here names name (Some inode) = get_put names name inode
-marked_here names name None = get_removed names name
-
-pub marked_beside : (names : Names) (name : List ℕ) (o : Option Inode) (q : List ℕ) → (q ≡ name → ⊥) → map.get (with_mark names name o) q ≡ map.get names q
-marked_beside names name (Some inode) q apart = get_beside names name inode q apart
-marked_beside names name None q apart = get_left names name q apart
 
 pub patched_insert : (names : Names) (dirty : Marks) (name : List ℕ) (mark : Mark) → patched names (map.insert dirty name mark) ≡ with_mark (patched names dirty) name mark.inode
 patched_insert names dirty name mark = one_map _ _ (λ q. get-patched names (map.insert dirty name mark) q ∙ go q (same_or_apart q name))

@@ -1,6 +1,7 @@
 -- A book stays sound where a request is applied.
 use Rattle.std.proofs.Common.{◌≡◌, ℕ, ◌<◌, ◌≤◌, Bool, true, false, cond, is_some, nat_lt, List, [], ◌∷◌, ◌++◌, length, Option, Some, None, refl, sym, ap, ◌∙◌, ⊎_elim, arith}
 use Rattle.std.proofs.lemmas.Bool.Decides.{nat_tests}
+use Rattle.std.proofs.lemmas.Bool.{true≢false}
 use Rattle.mds_types.specs.declared.ids.Ino.{Ino}
 use Rattle.mds_types.specs.declared.entries.Entry.{Entry}
 use Rattle.mds_types.specs.declared.requests.Request.{Request}
@@ -46,9 +47,6 @@ taking tree request s true true below takes numbered = record {
   next_one = λ n is. (cc, below refl);
 }
 taking tree request s false true below takes numbered = absurd (true≢false (numbered refl))
-  where
-    true≢false : true ≡ false → ⊥
-    true≢false e = cc
 
 -- what a request that is applied takes
 taking_of : (state : State) (request : Request) → (offer state.numbers ≡ None → (outcome_of state request).takes ≡ false) → IsTaking (shown state) request state.numbers (number_of state request) (outcome_of state request)

@@ -1,8 +1,8 @@
 -- Whole runs: the history grows, and each reply that was handed out stands in it.
-use Rattle.std.proofs.Common.{◌≡◌, ℕ, ◌+◌, ◌<◌, ◌≤◌, Bool, true, false, nat_lt, ◌&&◌, List, [], ◌∷◌, ◌++◌, take, drop, get_or, length, suc, ◌-◌, MatchBool, Result, Ok, Err, inl, inr, refl, sym, ap, subst, ◌∙◌, append_assoc, arith}
+use Rattle.std.proofs.Common.{◌≡◌, ℕ, ◌+◌, ◌<◌, ◌≤◌, Bool, true, false, nat_lt, List, [], ◌∷◌, ◌++◌, take, drop, get_or, length, suc, ◌-◌, MatchBool, Result, Ok, Err, inl, inr, refl, sym, ap, subst, ◌∙◌, append_assoc, arith}
 use Rattle.std.proofs.Math.Seq.{get_or-append_seam}
 use Rattle.std.proofs.lemmas.List.{append-nil, length-append, length-drop, get_or_append_left, drop_more, take_more, take_all}
-use Rattle.std.proofs.lemmas.Bool.{eqb-true}
+use Rattle.std.proofs.lemmas.Bool.{eqb-true, and_parts}
 use Rattle.std.specs.List.{slice_index_or}
 use Rattle.mds_types.specs.declared.entries.Entry.{Entry}
 use Rattle.mds_types.specs.declared.requests.Request.{Request}
@@ -45,17 +45,13 @@ applied old new past now request rest answer h =
           });
     }
 
-both_true : (a b : Bool) → (a && b) ≡ true → (a ≡ true) × (b ≡ true)
-both_true true b h = (refl, h)
-both_true false b h = cc
-
 -- one reply is told of a place, whatever stands for a place that isn't there
 one_reply : (answer : Answer) (client tid place : ℕ) (r s : Replied) → answer ≡ Reply client tid place false r → answer ≡ Reply client tid place false s → r ≡ s
 one_reply answer client tid place r s p q = let both : Reply client tid place false r ≡ Reply client tid place false s = sym p ∙ q in cc
 
 repeated : (old new : State) (past now : List Entry) (request : Request) (rest : List Request) (answer : Answer) → IsRepeated old new past now request rest answer → IsStepOf past now (Ok answer)
 repeated old new past now request rest answer h =
-    let pair = λ (e : Entry). both_true _ _ (h.kept.at.pair e) in
+    let pair = λ (e : Entry). and_parts _ _ (h.kept.at.pair e) in
     record {
       grows = unchanged past now h.out.same;
       told = subst (λ a. IsOfHistory now (Ok a)) (sym (h.answered (entry_of old request))) (rw h.out.same (record {

@@ -1,5 +1,6 @@
 -- What serving makes of fragments and what stands beside them, said of the cluster's state.
 use Rattle.std.proofs.Common.{◌≡◌, true, List, [], ◌∷◌, ◌++◌, Option, Some, None, Ok, Err, length, slice_get, inl, inr, ◌⊎◌, refl, sym, ap, subst, ◌∙◌}
+use Rattle.std.proofs.lemmas.Option.{same_Some}
 use Rattle.mds_types.specs.declared.ids.Ino.{Ino}
 use Rattle.mds_types.specs.declared.entries.Entry.{Entry}
 use Rattle.mds_types.specs.declared.replies.Reply.{Reply as Replied}
@@ -30,14 +31,11 @@ use Rattle.cluster_core.specs.Serve.{IsTakenOut, ServesInbox, entry_of, number_o
 use Rattle.cluster_core.specs.Steps.{MayRefuse}
 use Rattle.dirfrags.proofs.Dentries.{tree_is}
 
-same_some : {A : Type 0} (x y : A) → Some x ≡ Some y → x ≡ y
-same_some x y e = cc
-
 -- what is taken is the front
 pub front_taken : (inbox rest : List Request) (front : Request) (result : Option Request) → Some front ≡ slice_get inbox 0 → Takes inbox rest result → inbox ≡ front ∷ rest
 front_taken inbox rest front None is h = let clash : Some front ≡ None = is ∙ ap (λ xs. slice_get xs 0) h.0 in absurd cc
 front_taken inbox rest front (Some request) is h =
-    h ∙ ap (λ (r : Request). r ∷ rest) (sym (same_some front request (is ∙ ap (λ xs. slice_get xs 0) h)))
+    h ∙ ap (λ (r : Request). r ∷ rest) (sym (same_Some front request (is ∙ ap (λ xs. slice_get xs 0) h)))
 
 -- fragments that are as before show the same tree
 shown_before : (f g : Fragments) → IsAsBefore f g → shown_by g.leaves ≡ tree_of (dentries_of f.leaves)
@@ -58,7 +56,7 @@ module _ (f g : Fragments) (numbers : Supply) (inbox rest : List Request) (sessi
       (noted_now : sessions_now ≡ trimmed (noted between request.client request.tid request.oldest (length middle) prepared.kept) request.client)
       (answered : answer ≡ Reply request.client request.tid (length middle) true prepared.answer) where
     front_same : front ≡ request
-    front_same = same_some front request (front_is ∙ ap (λ xs. slice_get xs 0) taken)
+    front_same = same_Some front request (front_is ∙ ap (λ xs. slice_get xs 0) taken)
 
     planned : IsPrepared (shown old) f.covers IsReady request.op (outcome_of old request) numbers prepared
     planned =

@@ -19,11 +19,11 @@ abbrev pub inode_or : Option Mark → Option Inode → Option Inode
 inode_or (Some mark) below = mark.inode
 inode_or None below = below
 
-marked_here : (names : Names) (name : List ℕ) (inode : Option Inode) → map.get (with_mark names name inode) name ≡ inode
+pub marked_here : (names : Names) (name : List ℕ) (inode : Option Inode) → map.get (with_mark names name inode) name ≡ inode
 marked_here names name (Some inode) = get_put names name inode
 marked_here names name None = get_removed names name
 
-marked_beside : (names : Names) (name : List ℕ) (inode : Option Inode) (q : List ℕ) → (q ≡ name → ⊥) → map.get (with_mark names name inode) q ≡ map.get names q
+pub marked_beside : (names : Names) (name : List ℕ) (inode : Option Inode) (q : List ℕ) → (q ≡ name → ⊥) → map.get (with_mark names name inode) q ≡ map.get names q
 marked_beside names name (Some inode) q apart = get_beside names name inode q apart
 marked_beside names name None q apart = get_left names name q apart
 

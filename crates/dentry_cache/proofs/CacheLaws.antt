@@ -5,6 +5,7 @@ use Rattle.std.specs.Map.{keys_of, lookup, remove_entry}
 use Rattle.std.specs.FinMap as finmap
 use Rattle.std.specs.FinMap.{get-empty, get-insert, get-remove, same_map}
 use Rattle.std.proofs.lemmas.Map.{NonePasses, lookup-remove_entry}
+use Rattle.std.proofs.lemmas.Bool.{and_parts}
 use Rattle.lru.proofs.Splits.{all_left, distinct_differs}
 use Rattle.lru.specs.LruCache.{lru_cache}
 use Rattle.cached_frag.specs.Cached.{is_clean}
@@ -67,10 +68,6 @@ evictable_clean place goes = go place.kept (is_clean place.frag) refl refl goes
     go false true kept clean goes = ap (λ (b : Bool). unsaved_in (cond b None (Some place.frag))) kept ∙ ap (λ (b : Bool). cond b None (Some (record { base = place.frag.base; generation = place.frag.generation; dirty = place.frag.dirty }))) clean
     go false false kept clean goes = cc
 
-first_true : (a b : Bool) → (a && b) ≡ true → a ≡ true
-first_true true b h = refl
-first_true false b h = h
-
 module _ (stay : Option Leaf) (places : Places) (leaf : Leaf) (o : IsOldest stay places leaf) (distinct : IsDistinct leaf_is (keys_of places)) where
   none_later : NonePasses (leaf_is leaf) o.later
   none_later = apart_later leaf o.place o.later o.before (subst (λ (es : Places). IsDistinct leaf_is (keys_of es)) o.among distinct)
@@ -87,7 +84,7 @@ module _ (stay : Option Leaf) (places : Places) (leaf : Leaf) (o : IsOldest stay
       go : (q : Leaf) (b : Bool) → leaf_is leaf q ≡ b → unsaved_in (fragment_in (cond b None (lookup (leaf_is q) places))) ≡ unsaved_in (cached places q)
       go q true is =
           sym (ap (λ (l : Leaf). unsaved_in (cached places l)) (sym (one_leaf leaf q is)) ∙ ap (λ (p : Option Place). unsaved_in (fragment_in p)) oldest_held
-          ∙ evictable_clean o.place (first_true (is_evictable o.place) (not (stays stay leaf)) o.goes))
+          ∙ evictable_clean o.place (and_parts (is_evictable o.place) (not (stays stay leaf)) o.goes).0)
       go q false is = refl
 
 module _ (stay : Option Leaf) (old mid new : Held) (leaf : Leaf) (same : mid ≡ old) (o : IsOldest stay old.entries leaf) (distinct : IsDistinct leaf_is (keys_of mid.entries))

@@ -1,5 +1,6 @@
 -- What is left of a cache's places once one of them may have become free.
-use Rattle.std.proofs.Common.{◌≡◌, inl, inr, Bool, true, false, cond, not, ◌&&◌, ◌∷◌, Option, Some, None, refl, sym, ap, subst, ◌∙◌}
+use Rattle.std.proofs.Common.{◌≡◌, inl, inr, Bool, true, false, cond, not, ◌∷◌, Option, Some, None, refl, sym, ap, subst, ◌∙◌}
+use Rattle.std.proofs.lemmas.Bool.{and_parts, not-true}
 use Rattle.std.specs.Prelude.{Result, Ok, Err, OnOk, OnErr}
 use Rattle.std.specs.List.{IsDistinct}
 use Rattle.std.specs.Map.{keys_of, lookup, remove_entry}
@@ -21,28 +22,16 @@ pub left_same : (stay : Option Leaf) (leaf : Leaf) (was now : Option Place) → 
 left_same stay leaf (Some place) now is = inl is
 left_same stay leaf None now is = is
 
-first_true : (a b : Bool) → (a && b) ≡ true → a ≡ true
-first_true true b h = refl
-first_true false b h = h
-
-second_true : (a b : Bool) → (a && b) ≡ true → b ≡ true
-second_true true b h = h
-second_true false b h = cc
-
-not_true : (b : Bool) → not b ≡ true → b ≡ false
-not_true true h = cc
-not_true false h = refl
-
 -- what may go is a clean fragment that isn't to stay
 module _ (stay : Option Leaf) (leaf : Leaf) (place : Place) (goes : may_go stay (leaf, place) ≡ true) where
   not_kept : place.kept ≡ false
-  not_kept = not_true place.kept (first_true (not place.kept) (is_clean place.frag) (first_true (is_evictable place) (not (stays stay leaf)) goes))
+  not_kept = not-true place.kept (and_parts (not place.kept) (is_clean place.frag) (and_parts (is_evictable place) (not (stays stay leaf)) goes).0).0
 
   clean : is_clean place.frag ≡ true
-  clean = second_true (not place.kept) (is_clean place.frag) (first_true (is_evictable place) (not (stays stay leaf)) goes)
+  clean = (and_parts (not place.kept) (is_clean place.frag) (and_parts (is_evictable place) (not (stays stay leaf)) goes).0).1
 
   not_staying : stays stay leaf ≡ false
-  not_staying = not_true (stays stay leaf) (second_true (is_evictable place) (not (stays stay leaf)) goes)
+  not_staying = not-true (stays stay leaf) (and_parts (is_evictable place) (not (stays stay leaf)) goes).1
 
   there : fragment_in (Some place) ≡ Some place.frag
   there = ap (λ (b : Bool). cond b None (Some place.frag)) not_kept

@@ -1,11 +1,11 @@
 -- An object read pair by pair, and the fragment that it spells.
-use Rattle.std.proofs.Common.{◌≡◌, ℕ, ◌^◌, ◌/◌, ◌%◌, Bool, true, false, cond, ◌&&◌, ◌⊎◌, inl, inr, List, [], ◌∷◌, filter, Option, Some, None, refl, sym, ap, subst, ◌∙◌, arith}
-use Rattle.std.specs.Prelude.{T, ◌==◌}
+use Rattle.std.proofs.Common.{◌≡◌, ℕ, ◌^◌, ◌/◌, ◌%◌, Bool, true, false, cond, ◌⊎◌, inl, inr, List, [], ◌∷◌, Option, Some, None, refl, sym, ap, subst, ◌∙◌}
+use Rattle.std.specs.Prelude.{T}
 use Rattle.std.specs.Ordering.{eq_by_cmp}
-use Rattle.std.proofs.lemmas.Bool.Decides.{nat_tests}
+use Rattle.std.proofs.lemmas.Bool.{and_from, and_parts, eqb-true, eq-eqb}
 use Rattle.std.specs.FinMap as map
 use Rattle.std.specs.FinMap.{find, is_sorted, entries_sorted, get-empty, get-entries}
-use Rattle.sorted_map.proofs.Bools.{both_true, first_true, left_of, right_of, second_true}
+use Rattle.sorted_map.proofs.Bools.{left_of, right_of}
 use Rattle.sorted_map.proofs.Filters.{all_kept}
 use Rattle.sorted_map.specs.SortedMap.{Shown, contents}
 use Rattle.mds_types.specs.Frag.{Contains, Fragment, span}
@@ -74,11 +74,11 @@ found q es = find key_cmp (entry_key q) es
 get-added : (frag : Fragment) (es : List (List ℕ × List ℕ)) (names : Names) (q : List ℕ) → T (is_sorted key_cmp es) → are_good frag es ≡ true → map.get (added names es) q ≡ at_key (found q es) (map.get names q)
 get-added frag [] names q sorted good = refl
 get-added frag (e ∷ es) names q sorted good =
-    get-added frag es (with_entry names (name_of e.0) (entry_of e.1)) q (right_of _ _ sorted) (second_true (is_good frag e) (are_good frag es) good)
+    get-added frag es (with_entry names (name_of e.0) (entry_of e.1)) q (right_of _ _ sorted) (and_parts (is_good frag e) (are_good frag es) good).1
     ∙ ap (λ (n : Names). at_key (found q es) (map.get n q)) one_more ∙ go (same_or_apart q p.name)
   where
     p : Says frag e.0 e.1
-    p = says frag e (first_true (is_good frag e) (are_good frag es) good)
+    p = says frag e (and_parts (is_good frag e) (are_good frag es) good).0
 
     one_more : with_entry names (name_of e.0) (entry_of e.1) ≡ map.insert names p.name p.inode
     one_more = (λ i. with_entry names (p.key_is i) (p.record_is i))
@@ -96,19 +96,19 @@ get-added frag (e ∷ es) names q sorted good =
 -- each pair that is found is good
 good_found : (frag : Fragment) (es : List (List ℕ × List ℕ)) (key bytes : List ℕ) → are_good frag es ≡ true → find key_cmp key es ≡ Some bytes → is_good frag (key, bytes) ≡ true
 good_found frag [] key bytes good is = absurd cc
-good_found frag (e ∷ es) key bytes good is = go (good_found frag es key bytes (second_true (is_good frag e) (are_good frag es) good)) (same_or_apart key e.0)
+good_found frag (e ∷ es) key bytes good is = go (good_found frag es key bytes (and_parts (is_good frag e) (are_good frag es) good).1) (same_or_apart key e.0)
   where
     go : (find key_cmp key es ≡ Some bytes → is_good frag (key, bytes) ≡ true) → (key ≡ e.0) ⊎ (key ≡ e.0 → ⊥) → is_good frag (key, bytes) ≡ true
     go rest (inl same) =
         let here : Some e.1 ≡ Some bytes = sym (ap (λ (b : Bool). cond b (Some e.1) (find key_cmp key es)) (key_same key e.0 same)) ∙ is in
         let value : e.1 ≡ bytes = cc in
-        sym (λ i. is_good frag (sym same i, value i)) ∙ first_true (is_good frag e) (are_good frag es) good
+        sym (λ i. is_good frag (sym same i, value i)) ∙ (and_parts (is_good frag e) (are_good frag es) good).0
     go rest (inr apart) = rest (sym (ap (λ (b : Bool). cond b (Some e.1) (find key_cmp key es)) (key_apart key e.0 apart)) ∙ is)
 
 good_among : (frag : Fragment) (es : List (List ℕ × List ℕ)) → T (is_sorted key_cmp es) → ((key bytes : List ℕ) → find key_cmp key es ≡ Some bytes → is_good frag (key, bytes) ≡ true) → are_good frag es ≡ true
 good_among frag [] sorted each = refl
 good_among frag (e ∷ es) sorted each =
-    both_true (is_good frag e) (are_good frag es) (each e.0 e.1 (ap (λ (b : Bool). cond b (Some e.1) (find key_cmp e.0 es)) (key_same e.0 e.0 refl)))
+    and_from (is_good frag e) (are_good frag es) (each e.0 e.1 (ap (λ (b : Bool). cond b (Some e.1) (find key_cmp e.0 es)) (key_same e.0 e.0 refl)))
     (good_among frag es (right_of _ _ sorted) (λ key bytes is. each key bytes (behind key bytes is (same_or_apart key e.0))))
   where
     behind : (key bytes : List ℕ) → find key_cmp key es ≡ Some bytes → (key ≡ e.0) ⊎ (key ≡ e.0 → ⊥) → cond (eq_by_cmp key_cmp key e.0) (Some e.1) (find key_cmp key es) ≡ Some bytes
@@ -118,16 +118,10 @@ good_among frag (e ∷ es) sorted each =
 -- ---- the names of good pairs are those that the object spells
 
 pub holds_contains : (frag : Fragment) (hash : ℕ) → holds frag hash ≡ true → Contains frag hash
-holds_contains frag hash is = same ((hash % 2 ^ 24) / span frag.bits) (frag.value / span frag.bits) is
-  where
-    same : (a b : ℕ) → (a == b) ≡ true → a ≡ b
-    same a b h = grind (arith, nat_tests)
+holds_contains frag hash is = eqb-true ((hash % 2 ^ 24) / span frag.bits) (frag.value / span frag.bits) is
 
 contains_holds : (frag : Fragment) (hash : ℕ) → Contains frag hash → holds frag hash ≡ true
-contains_holds frag hash is = same ((hash % 2 ^ 24) / span frag.bits) (frag.value / span frag.bits) is
-  where
-    same : (a b : ℕ) → a ≡ b → (a == b) ≡ true
-    same a b h = grind (arith, nat_tests)
+contains_holds frag hash is = eq-eqb ((hash % 2 ^ 24) / span frag.bits) (frag.value / span frag.bits) is
 
 all_pairs : (pairs : PairMap) → pairs_after pairs None ≡ map.entries pairs
 unfolding pairs_after

@@ -1,6 +1,6 @@
 -- The names that a fragment contains, and the children of a fragment.
 use Rattle.std.proofs.Common.{◌≡◌, ℕ, zero, suc, ◌+◌, ◌-◌, ◌*◌, ◌/◌, ◌%◌, ◌^◌, ◌<◌, ◌≤◌, Bool, true, false, cond, ◌⊎◌, inl, inr, List, length, filter, Option, Some, None, refl, sym, ap, ◌∙◌, arith}
-use Rattle.std.specs.Prelude.{is_some, ◌==◌, ◌≢◌}
+use Rattle.std.specs.Prelude.{is_some, ◌==◌}
 use Rattle.std.specs.Cmp.Lexicographic.{nat_list_cmp_total}
 use Rattle.std.specs.FinMap as map
 use Rattle.std.specs.FinMap.{empty_of_len, entries-from_sorted, entries_sorted, get-empty, get-retain_keys, len-remove, same_entries_map}
@@ -9,6 +9,7 @@ use Rattle.std.proofs.lemmas.Bool.Decides.{nat_tests}
 use Rattle.std.proofs.lemmas.Map.Lookups.{exact_bytes}
 use Rattle.std.proofs.lemmas.Nat.{pow-add, pow_pos}
 use Rattle.std.proofs.Math.Nat.{add-mul-div_right, div-div-eq-div-mul, div-mul-le_self, lt-div-mul-add, mod-eq-sub-div-mul, mul-div_cancel, mul_assoc, mul_comm}
+use Rattle.std.proofs.lemmas.Bool.{eq-eqb, ne_eqb}
 use Rattle.sorted_map.proofs.ContentLaws.{len_shown, retained}
 use Rattle.mds_types.specs.Frag.{Contains, Fragment, IsFragment, child_of, span}
 use Rattle.mds_types.specs.declared.ids.Ino.{Ino}
@@ -29,7 +30,7 @@ pub get-names_in : (frag : Fragment) (names : Names) (q : List ℕ) → map.get 
 unfolding names_in
 get-names_in frag names q = get-retain_keys names (λ (name : List ℕ). holds frag (hash_of name)) q (λ x tied. ap (λ (n : List ℕ). holds frag (hash_of n)) (sym (exact_bytes q x tied)))
 
-none_either : (b : Bool) → cond {A = Option Inode} b None None ≡ None
+pub none_either : (b : Bool) → cond {A = Option Inode} b None None ≡ None
 none_either true = refl
 none_either false = refl
 
@@ -185,12 +186,6 @@ module _ (frag : Fragment) (nb hash : ℕ) (valid : IsFragment frag) (fits : fra
   pub picks : (i : ℕ) → holds (child_of frag i nb) hash ≡ (i == (part - first))
   picks i = holds_child frag nb i hash ∙ place_there part first i (part - first) low refl
 
-same_number : (n : ℕ) → (n == n) ≡ true
-same_number n = grind (arith, nat_tests)
-
-other_number : (n m : ℕ) → n ≢ m → (n == m) ≡ false
-other_number n m apart = grind (arith, nat_tests, apart)
-
 pub names_are_divided : NamesAreDivided
 names_are_divided frag nb names valid fits within name inode found =
     let hash : ℕ = hash_of name in
@@ -199,8 +194,8 @@ names_are_divided frag nb names valid fits within name inode found =
     record {
       place = place;
       among = picked frag nb hash valid fits inside;
-      has = held_in (child_of frag place nb) names name (picks frag nb hash valid fits inside place ∙ same_number place) ∙ found;
-      alone = λ other apart. not_in (child_of frag other nb) names name (picks frag nb hash valid fits inside other ∙ other_number other place apart);
+      has = held_in (child_of frag place nb) names name (picks frag nb hash valid fits inside place ∙ eq-eqb place place refl) ∙ found;
+      alone = λ other apart. not_in (child_of frag other nb) names name (picks frag nb hash valid fits inside other ∙ ne_eqb other place apart);
     }
 
 pub children_have_their_own : ChildrenHaveTheirOwn

@@ -4,6 +4,7 @@ use Rattle.std.specs.Prelude.{nat_lt}
 use Rattle.std.proofs.lemmas.Bool.Decides.{nat_tests}
 use Rattle.std.proofs.lemmas.List.{length-append, length-take-le, take-append-drop, take_all}
 use Rattle.std.proofs.lemmas.List.Folds.{list_all-append}
+use Rattle.std.proofs.lemmas.Bool.{and_left}
 use Rattle.mds_types.specs.Frag.{Fragment}
 use Rattle.omap.specs.Omap.{PairMap, PairPage, page_of, pairs_after}
 use Rattle.omap.proofs.PageLaws.{pages_make_up}
@@ -16,10 +17,6 @@ use Rattle.dentry_cache.specs.Pairs.{EndsPairs, IsEndOf, added, are_good, is_goo
 added_split : (names : Names) (a b : List (List ℕ × List ℕ)) → added names (a ++ b) ≡ added (added names a) b
 added_split names [] b = refl
 added_split names (pair ∷ a) b = added_split (with_entry names (name_of pair.0) (entry_of pair.1)) a b
-
-left_false : (a b : Bool) → a ≡ false → (a && b) ≡ false
-left_false true b is = cc
-left_false false b is = refl
 
 left_true : (a b : Bool) → a ≡ true → (a && b) ≡ b
 left_true true b is = refl
@@ -54,7 +51,7 @@ module _ (frag : Fragment) (pairs : PairMap) (after : Option (List ℕ)) (page :
   pub page_off : are_good frag page.pairs ≡ false → are_good frag (pairs_after pairs after) ≡ false
   page_off bad =
       ap (are_good frag) (sym (take-append-drop 64 xs)) ∙ list_all-append (is_good frag) (take 64 xs) (drop 64 xs)
-      ∙ left_false (are_good frag (take 64 xs)) (are_good frag (drop 64 xs)) (ap (are_good frag) (sym items) ∙ bad)
+      ∙ and_left (are_good frag (take 64 xs)) (are_good frag (drop 64 xs)) (ap (are_good frag) (sym items) ∙ bad)
 
   module _ (old new : Names) (good : are_good frag page.pairs ≡ true) (put : new ≡ added old page.pairs) where
     whole : page.pairs ≡ xs → EndsPairs frag pairs after old new Last

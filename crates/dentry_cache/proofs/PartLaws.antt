@@ -13,7 +13,7 @@ use Rattle.commit_jobs.specs.declared.bases.Base.TheVariants.{Fresh}
 use Rattle.commit_jobs.specs.declared.marks.Mark.{Mark}
 use Rattle.cached_frag.specs.Cached.{Cached, shown}
 use Rattle.cached_frag.specs.Moving.{marked_as, shown_as}
-use Rattle.cached_frag.specs.Rows.{Row, rows_after}
+use Rattle.cached_frag.specs.Rows.{Row}
 use Rattle.cached_frag.proofs.MovedLaws.{dirty_step, shown_step}
 use Rattle.cached_frag.proofs.ShownLaws.{nothing_shown}
 use Rattle.dentry_cache.specs.declared.parts.Part.{Part}
@@ -50,10 +50,6 @@ pub record IsRoomy (frag : Fragment) (nb generation : ℕ) (all left : List Row)
   pub child : part.frag ≡ child_of frag i nb
   pub none : part.fragment ≡ bare (generation + i) part.fragment.room
   pub room : count_in (child_of frag i nb) all ≤ part.fragment.room + count_in (child_of frag i nb) left
-
-pub all_rows : (rows : List Row) → rows_after None rows ≡ rows
-all_rows [] = refl
-all_rows (row ∷ rows) = ap (λ (rest : List Row). row ∷ rest) (all_rows rows)
 
 pub first_roomy : (frag : Fragment) (nb generation : ℕ) (all left : List Row) (i : ℕ) (part : Part) → left ≡ all → IsBare frag nb generation i part → IsRoomy frag nb generation all left i part
 first_roomy frag nb generation all left i part is b =

@@ -3,6 +3,7 @@ use Rattle.std.proofs.Common.{◌≡◌, ℕ, ◌+◌, ◌-◌, ◌≤◌, Bool,
 use Rattle.std.specs.List.{AllByRecursion, IsDistinct}
 use Rattle.std.specs.Map.{keys_of, lookup, remove_entry}
 use Rattle.std.proofs.lemmas.List.{length-append}
+use Rattle.std.proofs.lemmas.Bool.{and_parts}
 use Rattle.std.specs.Prelude.{◌==◌}
 use Rattle.std.specs.FinMap.{len-empty}
 use Rattle.omap.specs.Omap.{Omap, key_cmp}
@@ -89,11 +90,7 @@ spare_changed leaf old new changed = go (cached old.entries leaf) refl changed
 -- ---- a place that is taken
 
 evictable_of : (stay : Option Leaf) (e : Leaf × Place) → may_go stay e ≡ true → is_evictable e.1 ≡ true
-evictable_of stay e goes = first_of (is_evictable e.1) (not (stays stay e.0)) goes
-  where
-    first_of : (a b : Bool) → (a && b) ≡ true → a ≡ true
-    first_of true b h = refl
-    first_of false b h = h
+evictable_of stay e goes = (and_parts (is_evictable e.1) (not (stays stay e.0)) goes).0
 
 -- where a place is taken one less is free or becomes so, or none less where a clean fragment takes it
 pub spare_taken : (stay : Option Leaf) (leaf : Leaf) (place : Place) (old new : Held) → TakesPlace stay leaf place old new → spare old + cond (is_evictable place) 1 0 ≤ spare new + 1

@@ -1,5 +1,6 @@
 -- A split of a cached fragment: places kept for its children, given up, and filled.
 use Rattle.std.proofs.Common.{◌≡◌, ℕ, zero, suc, ◌+◌, ◌^◌, ◌<◌, ◌≤◌, Bool, true, false, cond, ◌⊎◌, inl, inr, List, [], ◌∷◌, length, Option, Some, None, refl, sym, ap, subst, ◌∙◌, arith}
+use Rattle.std.proofs.lemmas.Bool.{cases_eq, cases_lt, cases_order}
 use Rattle.std.specs.List.{slice_index_or}
 use Rattle.std.specs.FinMap as map
 use Rattle.std.specs.Map.{lookup, remove_entry}
@@ -77,14 +78,7 @@ first_dropping dir frag nb old vacant = record { absent = λ i less. absurd (ome
 
 -- one of the numbers below is this one, or below it
 pub below_or_it : (i n : ℕ) → i < n + 1 → (i < n) ⊎ (i ≡ n)
-below_or_it zero zero less = inr refl
-below_or_it zero (suc n) less = inl (omega arith)
-below_or_it (suc i) zero less = absurd (omega (arith, less))
-below_or_it (suc i) (suc n) less = go (below_or_it i n (omega (arith, less)))
-  where
-    go : (i < n) ⊎ (i ≡ n) → (suc i < suc n) ⊎ (suc i ≡ suc n)
-    go (inl below) = inl (omega (arith, below))
-    go (inr it) = inr (ap (λ (m : ℕ). suc m) it)
+below_or_it i n less = elim (cases_lt i n) [ inl below ↦ inl below | inr over ↦ inr (omega arith) ]
 
 number_or_apart : (i n : ℕ) → (i ≡ n) ⊎ (i ≡ n → ⊥)
 number_or_apart zero zero = inl refl
@@ -97,14 +91,7 @@ number_or_apart (suc i) (suc n) = go (number_or_apart i n)
     go (inr apart) = inr (λ same. apart (omega (arith, same)))
 
 before_or_behind : (i n : ℕ) → (i ≡ n → ⊥) → (i < n) ⊎ (n < i)
-before_or_behind zero zero apart = absurd (apart refl)
-before_or_behind zero (suc n) apart = inl (omega arith)
-before_or_behind (suc i) zero apart = inr (omega arith)
-before_or_behind (suc i) (suc n) apart = go (before_or_behind i n (λ it. apart (ap (λ (m : ℕ). suc m) it)))
-  where
-    go : (i < n) ⊎ (n < i) → (suc i < suc n) ⊎ (suc n < suc i)
-    go (inl below) = inl (omega (arith, below))
-    go (inr above) = inr (omega (arith, above))
+before_or_behind i n apart = elim (cases_order i n) [ inl it ↦ absurd (apart it) | inr other ↦ other ]
 
 module _ (dir : Ino) (frag : Fragment) (nb n : ℕ) (old : Places) (mid new : Held) (d : IsDropping dir frag nb n old mid.entries) (below : n < 2 ^ nb) (is : new ≡ without (dir, child_of frag n nb) mid)
     (gone : lookup (leaf_is (dir, child_of frag n nb)) new.entries ≡ None) (keeps : (objects : Objects) → KeepsTies (OfOthers (dir, child_of frag n nb)) objects objects mid.entries new.entries) where
@@ -120,7 +107,7 @@ module _ (dir : Ino) (frag : Fragment) (nb n : ℕ) (old : Places) (mid new : He
   dropping_step =
       record {
         absent = λ i less. stays_absent i (below_or_it i n less);
-        vacant = λ i less. stays_vacant i less (number_or_apart i n);
+        vacant = λ i less. stays_vacant i less (cases_eq i n);
         others = λ leaf none. still_there (dir, child_of frag n nb) mid new is gone leaf (none n below) ∙ d.others leaf none;
         same = vacant_unsaved (dir, child_of frag n nb) mid new is gone (d.vacant n below) ∙ d.same;
         keeps = λ objects. kept_twice Each objects objects objects old mid.entries new.entries (d.keeps objects) (vacant_keeps (dir, child_of frag n nb) objects mid.entries new.entries (d.vacant n below) (keeps objects));
@@ -193,7 +180,7 @@ module _ (dir : Ino) (frag : Fragment) (nb n : ℕ) (old mid new : Places) (k : 
 
   -- no child has a fragment yet
   pub none_yet : (i : ℕ) → i < 2 ^ nb → cached new (at i) ≡ None
-  none_yet i less = go (number_or_apart i n)
+  none_yet i less = go (cases_eq i n)
     where
       kept_or_none : (i < n) ⊎ (n < i) → (i ≡ n → ⊥) → cached new (at i) ≡ None
       kept_or_none (inl before) apart =

@@ -6,7 +6,7 @@ use Rattle.std.specs.List.{IsDistinct}
 use Rattle.std.specs.Map.{keys_of, lookup, remove_entry}
 use Rattle.std.specs.FinMap as map
 use Rattle.std.specs.FinMap.{empty_of_len, get-empty, len-empty}
-use Rattle.std.proofs.lemmas.Bool.Decides.{nat_tests}
+use Rattle.std.proofs.lemmas.Bool.{eqb-true}
 use Rattle.lru.specs.LruCache.{lru_cache}
 use Rattle.mds_types.specs.ObjectText.{TextsDiffer, object_text}
 use Rattle.mds_types.specs.declared.object_names.ObjName.TheVariants.{Frag as FragOf}
@@ -38,9 +38,6 @@ use Rattle.dentry_cache.proofs.UsedLaws.{after_use}
 
 -- ---- a fragment with a snapshot that stands isn't clean
 
-nat_zero : (n : ℕ) → (n == 0) ≡ true → n ≡ 0
-nat_zero n h = grind (arith, nat_tests)
-
 some_name : (dirty names : Marks) → Keeps dirty names → map.len dirty ≡ 0 → names ≡ map.empty
 some_name dirty names keeps none = one_map _ _ (λ q. go q (map.get names q) refl ∙ sym (get-empty key_cmp q))
   where
@@ -58,7 +55,7 @@ unclean_at (Stored version) dirty names keeps unclean = go (map.len dirty == 0) 
     go : (b : Bool) → (map.len dirty == 0) ≡ b → (map.len dirty == 0) ≡ false
     go false is = is
     go true is =
-        let none : names ≡ map.empty = some_name dirty names keeps (nat_zero (map.len dirty) is) in
+        let none : names ≡ map.empty = some_name dirty names keeps (eqb-true (map.len dirty) 0 is) in
         let zero : (map.len names == 0) ≡ true = ap (λ (m : Marks). map.len m == 0) none ∙ ap (λ (n : ℕ). n == 0) (len-empty key_cmp Mark) in
         let clash : true ≡ false = sym zero ∙ unclean in
         cc
@@ -232,16 +229,17 @@ marked_keep leaf name mark objects old new =
     (λ f now is tie. subst (λ (g : Cached). IsTied g (object_of objects leaf.0 leaf.1)) (sym is) (changed_are_tied f (object_of objects leaf.0 leaf.1) name mark tie))
     (λ snapshot f now below is c. subst (λ (g : Cached). Commits snapshot g (object_of objects leaf.0 leaf.1)) (sym is) (changed_can_end snapshot f (object_of objects leaf.0 leaf.1) name mark (below (leaf_itself leaf)) c))
 
+-- a place that is kept has no fragment yet
+pub kept_none : (o : Option Place) → is_kept o ≡ true → fragment_in o ≡ None
+kept_none None kept = refl
+kept_none (Some place) kept = ap (λ (b : Bool). cond b None (Some place.frag)) kept
+
 -- a place that is kept is filled
 pub filled_keep : (leaf : Leaf) (f : Cached) (objects : Objects) (old new : Held) → is_kept (lookup (leaf_is leaf) old.entries) ≡ true → new ≡ used_as leaf (held f) old → IsLeaf leaf → IsTied f (object_of objects leaf.0 leaf.1)
     → KeepsTies Each objects objects old.entries new.entries
 filled_keep leaf f objects old new kept is valid tie =
     used_keep Each leaf f objects objects old new is (λ t. valid) (λ t. tie) (λ t q g apart found. refl)
-    (λ snapshot each s. absurd (subst (λ (o : Option Cached). HasCached o (λ (g : Cached). Commits snapshot g (object_of objects leaf.0 leaf.1))) (nothing (lookup (leaf_is leaf) old.entries) kept) s.commits))
-  where
-    nothing : (o : Option Place) → is_kept o ≡ true → fragment_in o ≡ None
-    nothing None kept = refl
-    nothing (Some place) kept = ap (λ (b : Bool). cond b None (Some place.frag)) kept
+    (λ snapshot each s. absurd (subst (λ (o : Option Cached). HasCached o (λ (g : Cached). Commits snapshot g (object_of objects leaf.0 leaf.1))) (kept_none (lookup (leaf_is leaf) old.entries) kept) s.commits))
 
 -- ---- a place is given up
 

@@ -1,10 +1,10 @@
 -- What ties cached fragments to their objects.
-use Rattle.std.proofs.Common.{◌≡◌, ℕ, Bool, true, false, cond, not, ◌⊎◌, inl, inr, List, Option, Some, None, refl, sym, ap, subst, ◌∙◌, arith}
+use Rattle.std.proofs.Common.{◌≡◌, ℕ, Bool, true, false, cond, not, ◌⊎◌, inl, inr, List, Option, Some, None, refl, sym, ap, subst, ◌∙◌}
 use Rattle.std.specs.Prelude.{◌==◌}
 use Rattle.std.specs.Option.{unwrap_or}
 use Rattle.std.specs.FinMap as map
 use Rattle.std.specs.Map.{lookup}
-use Rattle.std.proofs.lemmas.Bool.Decides.{nat_tests}
+use Rattle.std.proofs.lemmas.Bool.{eqb-true}
 use Rattle.mds_types.specs.Frag.{Fragment}
 use Rattle.mds_types.specs.declared.inodes.Inode.{Inode}
 use Rattle.omap.specs.Omap.{Omap, empty_omap}
@@ -74,15 +74,12 @@ changed_are_tied f object name mark tie = changed_at f.base f object name mark t
 
 -- ---- what is committed
 
-nat_same : (a b : ℕ) → (a == b) ≡ true → a ≡ b
-nat_same a b h = grind (arith, nat_tests)
-
 -- a name that became clean is what the snapshot has
 became : (mark : Mark) (then : Option Mark) (below : Option Inode) → KeepsAt (Some mark) then → cond (not (is_settled (Some mark) then)) (Some mark) None ≡ None → mark.inode ≡ inode_or then below
 became mark (Some then) below keeps none = go (mark.version == then.version) refl none
   where
     go : (b : Bool) → (mark.version == then.version) ≡ b → cond (not b) (Some mark) None ≡ None → mark.inode ≡ then.inode
-    go true same none = ap (λ (m : Mark). m.inode) (keeps (nat_same mark.version then.version same))
+    go true same none = ap (λ (m : Mark). m.inode) (keeps (eqb-true mark.version then.version same))
     go false same none = cc
 became mark None below keeps none = cc
 

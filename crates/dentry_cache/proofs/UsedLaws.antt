@@ -142,14 +142,6 @@ takes stay leaf place old mid new room is = (mid, room, is ∙ ap (λ (n : ℕ).
 pub left_with : (stay : Option Leaf) (old mid new : Held) → MakesRoom stay old mid → new ≡ mid → MayMakeRoom stay old new
 left_with stay old mid new room is = inr (subst (MakesRoom stay old) (sym is) room)
 
-pub on_ok : {A E P Q : Type 0} (r : Result A E) → (P → Q) → OnOk r P → OnOk r Q
-on_ok (Ok x) f h = f h
-on_ok (Err e) f h = tt
-
-pub on_err : {A E P Q : Type 0} (r : Result A E) → (P → Q) → OnErr r P → OnErr r Q
-on_err (Ok x) f h = tt
-on_err (Err e) f h = f h
-
 -- ---- a clean fragment changes nothing of what isn't clean
 
 loaded_clean : (frag : Fragment) (object : Option Omap) (f : Cached) → Loads frag object (Some f) → unsaved_in (fragment_in (Some (held f))) ≡ None

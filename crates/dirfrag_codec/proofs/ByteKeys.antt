@@ -1,6 +1,7 @@
 -- Finite maps whose keys are strings of bytes: what one answers after a change.
 use Rattle.std.proofs.Common.{◌≡◌, ℕ, Bool, true, false, cond, ◌⊎◌, List, Some, None, refl, sym, ap, ◌∙◌, inl, inr}
 use Rattle.std.proofs.lemmas.Map.Lookups.{exact_bytes}
+use Rattle.std.proofs.lemmas.Bool.{false_from_ne_true}
 use Rattle.std.specs.Prelude.{T}
 use Rattle.std.specs.Ordering.{is_eq, eq_by_cmp}
 use Rattle.std.specs.Cmp.{tied_itself}
@@ -11,7 +12,6 @@ use Rattle.std.specs.FinMap.Entries.{below_all}
 use Rattle.mds_types.proofs.EntrySearch.{not_found_below}
 use Rattle.omap.specs.Omap.{key_cmp}
 use Rattle.sorted_map.proofs.MapLaws.{tie}
-use Rattle.sorted_map.proofs.Bools.{not_true}
 
 pub key_tied : (a b : List ℕ) → eq_by_cmp key_cmp a b ≡ true → a ≡ b
 key_tied a b tied = exact_bytes a b (tie (key_cmp a b) tied)
@@ -23,7 +23,7 @@ pub key_same : (a b : List ℕ) → a ≡ b → eq_by_cmp key_cmp a b ≡ true
 key_same a b same = ap (λ (k : List ℕ). eq_by_cmp key_cmp a k) (sym same) ∙ key_itself a
 
 pub key_apart : (a b : List ℕ) → (a ≡ b → ⊥) → eq_by_cmp key_cmp a b ≡ false
-key_apart a b apart = not_true _ (λ tied. apart (key_tied a b tied))
+key_apart a b apart = false_from_ne_true _ (λ tied. apart (key_tied a b tied))
 
 pub same_or_apart : (a b : List ℕ) → (a ≡ b) ⊎ (a ≡ b → ⊥)
 same_or_apart a b = go (eq_by_cmp key_cmp a b) refl

@@ -1,8 +1,9 @@
 -- A field that is read is the field that was written, and what was written is read again.
 use Rattle.std.proofs.Common.{◌≡◌, ℕ, suc, ◌+◌, ◌^◌, ◌<◌, ◌≤◌, Bool, true, false, ◌&&◌, cond, ltb, eqb, List, [], ◌∷◌, ◌++◌, length, get_or, take, drop, Option, Some, None, refl, sym, ap, subst, ◌∙◌, append_assoc, arith, inl, inr}
-use Rattle.std.proofs.lemmas.Bool.{cases_lt, ltb-false, le-ltb, eqb-true}
+use Rattle.std.proofs.lemmas.Bool.{cases_lt, ltb-false, le-ltb, eqb-true, and_parts}
 use Rattle.std.proofs.lemmas.List.{drop_at, take-append-drop, length-append, length-take, get_or-drop, get_or-take, get_or_past}
 use Rattle.std.proofs.lemmas.Nat.{le_bytes_2, le_bytes_4, le_bytes_8}
+use Rattle.std.proofs.lemmas.Option.{cond_some, same_Some}
 use Rattle.byteorder.specs.Endian.{little_bytes, little_number}
 use Rattle.byteorder.specs.Numbers.{length-bytes_low_first, little_from-lt, little_from-take, little_number-reads_back}
 use Rattle.dirfrag_codec.specs.Reading.{◌>>=◌, after_tag, byte_at, number_at}
@@ -25,25 +26,10 @@ pub bind_some : {A B : Type 0} (r : Option A) (f : A → Option B) (y : B) → (
 bind_some (Some x) f y e = (x, refl, e)
 bind_some None f y e = absurd cc
 
-pub some_is : {A : Type 0} (x y : A) → Some x ≡ Some y → x ≡ y
-some_is x y e = cc
-
-pub not_none : {A : Type 0} (x : A) → Some x ≡ None → ⊥
-not_none x e = cc
-
--- a test that held
-pub guard_some : {A : Type 0} (b : Bool) (x y : A) → cond b (Some x) None ≡ Some y → (b ≡ true) × (x ≡ y)
-guard_some true x y e = (refl, cc)
-guard_some false x y e = absurd cc
-
 -- a test that did not hold
 pub guard_not : {A : Type 0} (b : Bool) (x y : A) → cond b None (Some x) ≡ Some y → (b ≡ false) × (x ≡ y)
 guard_not true x y e = absurd cc
 guard_not false x y e = (refl, cc)
-
-pub both : (a b : Bool) → (a && b) ≡ true → (a ≡ true) × (b ≡ true)
-both true b e = (refl, e)
-both false b e = absurd cc
 
 -- what a reader took from the front
 pub record Takes (bytes text rest : List ℕ) : Type 0 where
@@ -57,8 +43,8 @@ pub tag_takes : (letter version : ℕ) (bytes rest : List ℕ) → IsBytes bytes
 tag_takes letter version [] rest fits e = absurd cc
 tag_takes letter version (a ∷ []) rest fits e = absurd cc
 tag_takes letter version (a ∷ b ∷ bytes) rest fits e =
-    let g = guard_some (eqb a letter && eqb b version) bytes rest e in
-    let w = both (eqb a letter) (eqb b version) g.0 in
+    let g = cond_some (eqb a letter && eqb b version) bytes rest e in
+    let w = and_parts (eqb a letter) (eqb b version) g.0 in
     let first : a ≡ letter = eqb-true _ _ w.0 in
     let second : b ≡ version = eqb-true _ _ w.1 in
     record { parts = rw (first, second, g.1) refl; rest_fits = rw (← g.1) (λ i. fits (suc (suc i))) }
@@ -66,7 +52,7 @@ tag_takes letter version (a ∷ b ∷ bytes) rest fits e =
 pub byte_takes : (bytes : List ℕ) (b : ℕ) (rest : List ℕ) → IsBytes bytes → byte_at bytes ≡ Some (b, rest) → Takes bytes (b ∷ []) rest
 byte_takes [] b rest fits e = absurd cc
 byte_takes (c ∷ bytes) b rest fits e =
-    let same : (c, bytes) ≡ (b, rest) = some_is (c, bytes) (b, rest) e in
+    let same : (c, bytes) ≡ (b, rest) = same_Some (c, bytes) (b, rest) e in
     subst (λ (p : ℕ × List ℕ). Takes (c ∷ bytes) (p.0 ∷ []) p.1) same (record { parts = refl; rest_fits = λ i. fits (suc i) })
 
 -- widths at which the bytes of a number that was read are those that were there

@@ -1,14 +1,15 @@
 -- The header that is read is the one that is spelled so.
 use Rattle.std.proofs.Common.{◌≡◌, ℕ, ◌^◌, ◌<◌, ◌≤◌, ◌&&◌, cond, ltb, eqb, true, List, [], ◌∷◌, ◌++◌, length, Option, Some, None, refl, sym, ap, subst, ◌∙◌, arith}
-use Rattle.std.proofs.lemmas.Bool.{eqb-true}
+use Rattle.std.proofs.lemmas.Bool.{eqb-true, and_parts}
 use Rattle.std.proofs.lemmas.Bool.Decides.{nat_tests}
 use Rattle.std.proofs.lemmas.List.{append-nil, nil_from_length}
+use Rattle.std.proofs.lemmas.Option.{cond_some}
 use Rattle.byteorder.specs.Endian.{little_bytes}
 use Rattle.dirfrag_codec.specs.declared.headers.FragHeader.{FragHeader}
 use Rattle.dirfrag_codec.specs.FragHeader.{SpellsHeader, header_bytes}
 use Rattle.dirfrag_codec.specs.Grammar.{Decodes}
 use Rattle.dirfrag_codec.specs.Reading.{◌>>=◌, Gives, after_tag, number_at, header_at}
-use Rattle.dirfrag_codec.proofs.Front.{IsBytes, bind_some, both, guard_some, number_again, number_takes, tag_takes, width_8}
+use Rattle.dirfrag_codec.proofs.Front.{IsBytes, bind_some, number_again, number_takes, tag_takes, width_8}
 
 positive : (n : ℕ) → ltb 0 n ≡ true → 1 ≤ n
 positive n e = grind (arith, nat_tests)
@@ -31,8 +32,8 @@ header_takes bytes header fits e =
     let d = bind_some (number_at 8 c.0.1) (λ dirs.
     cond (ltb 0 b.0.0 && eqb (length dirs.1) 0) (Some (record { version = b.0.0; files = c.0.0; dirs = dirs.0 })) None) header c.2 in
     let made : FragHeader = record { version = b.0.0; files = c.0.0; dirs = d.0.0 } in
-    let g = guard_some (ltb 0 b.0.0 && eqb (length d.0.1) 0) made header d.2 in
-    let w = both (ltb 0 b.0.0) (eqb (length d.0.1) 0) g.0 in
+    let g = cond_some (ltb 0 b.0.0 && eqb (length d.0.1) 0) made header d.2 in
+    let w = and_parts (ltb 0 b.0.0) (eqb (length d.0.1) 0) g.0 in
     let t0 = tag_takes 70 1 bytes a.0 fits a.1 in
     let t1 = number_takes 8 width_8 a.0 b.0.0 b.0.1 t0.rest_fits b.1 in
     let t2 = number_takes 8 width_8 b.0.1 c.0.0 c.0.1 t1.0.rest_fits c.1 in

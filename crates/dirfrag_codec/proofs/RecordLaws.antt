@@ -1,7 +1,8 @@
 -- The fields of a record that are read are those that are spelled so.
 use Rattle.std.proofs.Common.{◌≡◌, ℕ, ◌*◌, ◌^◌, ◌<◌, ◌≤◌, ◌&&◌, cond, eqb, leb, ltb, true, List, ◌∷◌, ◌++◌, length, Option, Some, None, refl, sym, ap, subst, ◌∙◌, arith}
-use Rattle.std.proofs.lemmas.Bool.{eqb-true}
+use Rattle.std.proofs.lemmas.Bool.{eqb-true, and_parts}
 use Rattle.std.proofs.lemmas.Bool.Decides.{nat_tests}
+use Rattle.std.proofs.lemmas.Option.{cond_some}
 use Rattle.std.specs.Bool.{Decides}
 use Rattle.mds_types.specs.Name.{IsTarget}
 use Rattle.std.specs.Prelude.{Result, Ok, Err, IfOk, OnErr}
@@ -12,7 +13,7 @@ use Rattle.mds_types.specs.declared.inodes.Kind.TheVariants.{File, Dir, Symlink}
 use Rattle.dirfrag_codec.specs.EntryRecord.{HasTarget, IsRankNumber, IsRecordable, IsRecordV1, SpellsEntry, SpellsLink, kind_byte, target_of}
 use Rattle.dirfrag_codec.specs.Grammar.{Decodes}
 use Rattle.dirfrag_codec.specs.Reading.{◌>>=◌, IsFieldsOfLink, IsInodeOf, RecordFields, after_tag, byte_at, number_at, fields_at, fields_of_inode, fits_kind}
-use Rattle.dirfrag_codec.proofs.Front.{IsBytes, bind_some, both, byte_takes, guard_some, number_again, number_takes, tag_takes, width_2, width_8}
+use Rattle.dirfrag_codec.proofs.Front.{IsBytes, bind_some, byte_takes, number_again, number_takes, tag_takes, width_2, width_8}
 
 -- whether a number is one that ranks give
 pub number_decides : (n : ℕ) → Decides (leb (2 ^ 40) n && ltb n (17 * 2 ^ 40)) (IsRankNumber n)
@@ -45,7 +46,7 @@ fields_takes bytes f fits e =
     let m = bind_some (number_at 8 s.0.1) (λ mtime. number_at 2 mtime.1 >>= whole b.0.0 c.0.0 d.0.0 s.0.0 mtime.0) f s.2 in
     let n = bind_some (number_at 2 m.0.1) (whole b.0.0 c.0.0 d.0.0 s.0.0 m.0.0) f m.2 in
     let made : RecordFields = record { kind = b.0.0; ino = c.0.0; mode = d.0.0; size = s.0.0; mtime = m.0.0; target = n.0.1 } in
-    let g = guard_some (eqb (length n.0.1) n.0.0) made f n.2 in
+    let g = cond_some (eqb (length n.0.1) n.0.0) made f n.2 in
     let len : length n.0.1 ≡ n.0.0 = eqb-true (length n.0.1) n.0.0 g.0 in
     let t0 = tag_takes 73 1 bytes a.0 fits a.1 in
     let t1 = byte_takes a.0 b.0.0 b.0.1 t0.rest_fits b.1 in
@@ -120,7 +121,7 @@ on_err (Err e) p = p
 -- the fields of a link that a record allows, whose target has no memory yet
 pub link_fields : (f : RecordFields) → f.mode ≤ 4095 → fits_kind f ≡ true → (f.kind ≡ 3) × IsTarget f.target → IsFieldsOfLink f
 link_fields f mode fits (three, target) =
-    let number = both (leb (2 ^ 40) f.ino && ltb f.ino (17 * 2 ^ 40)) _ fits in
+    let number = and_parts (leb (2 ^ 40) f.ino && ltb f.ino (17 * 2 ^ 40)) _ fits in
     let size : cond (eqb f.kind 2) (eqb f.size 0) (cond (eqb f.kind 3) (eqb f.size (length f.target)) true) ≡ true = number.1 in
     let size_is : eqb f.size (length f.target) ≡ true = sym (ap (λ (k : ℕ). cond (eqb k 2) (eqb f.size 0) (cond (eqb k 3) (eqb f.size (length f.target)) true)) three) ∙ size in
     let inode : Inode = record { ino = record { 0 = f.ino }; kind = Symlink f.target; mode = f.mode; size = f.size; mtime = f.mtime } in

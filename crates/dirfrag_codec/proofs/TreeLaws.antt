@@ -1,9 +1,10 @@
 -- The leaves that are read are those that are spelled so.
 use Rattle.std.proofs.Common.{◌≡◌, ℕ, ◌+◌, ◌*◌, ◌^◌, ◌<◌, ◌≤◌, true, ◌&&◌, cond, ltb, eqb, List, [], ◌∷◌, ◌++◌, length, drop, Option, Some, None, Result, Ok, Err, IfOk, refl, sym, ap, subst, ◌∙◌, append_assoc, arith}
-use Rattle.std.proofs.lemmas.Bool.{eqb-true}
+use Rattle.std.proofs.lemmas.Bool.{eqb-true, and_parts}
 use Rattle.std.proofs.lemmas.Bool.Decides.{nat_tests}
 use Rattle.std.proofs.lemmas.List.{append-nil, length-append, drop_at, nil_from_length}
 use Rattle.std.proofs.lemmas.List.Concat.{flat_map-cons}
+use Rattle.std.proofs.lemmas.Option.{cond_some, none-some, same_Some}
 use Rattle.std.specs.List.{flat_map, AllByRecursion}
 use Rattle.std.specs.Prelude.{SomeIff}
 use Rattle.std.specs.declared.alloc.AllocError.{AllocError}
@@ -14,7 +15,7 @@ use Rattle.fragtree.specs.FragTree.{IsTree, Tiles}
 use Rattle.dirfrag_codec.specs.Grammar.{Decodes}
 use Rattle.dirfrag_codec.specs.Reading.{◌>>=◌, after_tag, number_at, words_at}
 use Rattle.dirfrag_codec.specs.TreeObject.{SpellsTree, StatesLeaves, leaf_bytes, tree_bytes}
-use Rattle.dirfrag_codec.proofs.Front.{IsBytes, IsBytes-drop, Takes-then, bind_some, both, guard_some, not_none, number_again, number_takes, some_is, tag_takes, width_2, width_4}
+use Rattle.dirfrag_codec.proofs.Front.{IsBytes, IsBytes-drop, Takes-then, bind_some, number_again, number_takes, tag_takes, width_2, width_4}
 
 pub word_low : (f : Fragment) → IsFragment f → word_of f < 256 ^ 4
 word_low f h = omega (arith, h.few_bits, h.in_range)
@@ -30,7 +31,7 @@ first_word : (f : Fragment) (fs : List Fragment) → IsFragment f → number_at 
 first_word f fs h = ap (number_at 4) (flat_map-cons leaf_bytes f fs) ∙ number_again 4 (word_of f) (flat_map leaf_bytes fs) (word_low f h)
 
 some_word : (p q : ℕ × List ℕ) → Some p ≡ Some q → (p.0 ≡ q.0) × (p.1 ≡ q.1)
-some_word p q e = (ap (λ (r : ℕ × List ℕ). r.0) (some_is p q e), ap (λ (r : ℕ × List ℕ). r.1) (some_is p q e))
+some_word p q e = (ap (λ (r : ℕ × List ℕ). r.0) (same_Some p q e), ap (λ (r : ℕ × List ℕ). r.1) (same_Some p q e))
 
 pub one_list : (fs gs : List Fragment) → AllByRecursion IsFragment fs → AllByRecursion IsFragment gs → flat_map leaf_bytes fs ≡ flat_map leaf_bytes gs → fs ≡ gs
 one_list [] [] hf hg e = refl
@@ -52,13 +53,13 @@ rest_of (f ∷ fs) (g ∷ gs) rest all e = rest_of fs gs rest all.1 (ap (drop 4)
 -- the word at the front is no fragment's, or there is no whole word: then these are no leaves
 pub no_fragment : (word : ℕ) (rest after : List ℕ) → number_at 4 rest ≡ Some (word, after) → ((f : Fragment) → IsFragment f → word_of f ≡ word → ⊥)
     → (hs : List Fragment) → AllByRecursion IsFragment hs → rest ≡ flat_map leaf_bytes hs → ⊥
-no_fragment word rest after read none [] all e = not_none (word, after) (sym read ∙ ap (number_at 4) e)
+no_fragment word rest after read none [] all e = none-some (word, after) (sym (ap (number_at 4) e) ∙ read)
 no_fragment word rest after read none (h ∷ hs) all e =
     none h all.0 (some_word (word_of h, flat_map leaf_bytes hs) (word, after) (sym (first_word h hs all.0) ∙ ap (number_at 4) (sym e) ∙ read)).0
 
 pub no_whole_word : (rest : List ℕ) → number_at 4 rest ≡ None → (rest ≡ [] → ⊥) → (hs : List Fragment) → AllByRecursion IsFragment hs → rest ≡ flat_map leaf_bytes hs → ⊥
 no_whole_word rest read some [] all e = some e
-no_whole_word rest read some (h ∷ hs) all e = not_none (word_of h, flat_map leaf_bytes hs) (sym (first_word h hs all.0) ∙ ap (number_at 4) (sym e) ∙ read)
+no_whole_word rest read some (h ∷ hs) all e = none-some (word_of h, flat_map leaf_bytes hs) (sym read ∙ ap (number_at 4) e ∙ first_word h hs all.0)
 
 -- where what is left is no leaves, the whole is none
 pub none_from_rest : (words rest : List ℕ) (fs : List Fragment) → words ≡ flat_map leaf_bytes fs ++ rest → ((hs : List Fragment) → AllByRecursion IsFragment hs → rest ≡ flat_map leaf_bytes hs → ⊥)
@@ -109,8 +110,8 @@ unfolding words_at
 words_takes bytes words fits e =
     let a = bind_some (after_tag 84 1 bytes) (λ tagged. number_at 2 tagged >>= λ count. cond (ltb 1 count.0 && eqb (length count.1) (4 * count.0)) (Some count.1) None) words e in
     let b = bind_some (number_at 2 a.0) (λ count. cond (ltb 1 count.0 && eqb (length count.1) (4 * count.0)) (Some count.1) None) words a.2 in
-    let g = guard_some (ltb 1 b.0.0 && eqb (length b.0.1) (4 * b.0.0)) b.0.1 words b.2 in
-    let w = both (ltb 1 b.0.0) (eqb (length b.0.1) (4 * b.0.0)) g.0 in
+    let g = cond_some (ltb 1 b.0.0 && eqb (length b.0.1) (4 * b.0.0)) b.0.1 words b.2 in
+    let w = and_parts (ltb 1 b.0.0) (eqb (length b.0.1) (4 * b.0.0)) g.0 in
     let t0 = tag_takes 84 1 bytes a.0 fits a.1 in
     let t1 = number_takes 2 width_2 a.0 b.0.0 b.0.1 t0.rest_fits b.1 in
     let whole = Takes-then bytes (84 ∷ 1 ∷ []) a.0 (little_bytes 2 b.0.0) b.0.1 t0 t1.0 in
@@ -132,11 +133,11 @@ words_of_tree bytes leaves s = ap words_at s.spelled ∙ words_again leaves s.tr
 -- ---- what is decoded
 
 pub tree_refused : (bytes : List ℕ) → words_at bytes ≡ None → Decodes SpellsTree bytes None
-tree_refused bytes read leaves s = not_none (flat_map leaf_bytes leaves) (sym (words_of_tree bytes leaves s) ∙ read)
+tree_refused bytes read leaves s = none-some (flat_map leaf_bytes leaves) (sym read ∙ words_of_tree bytes leaves s)
 
 pub leaves_refused : (bytes words : List ℕ) → words_at bytes ≡ Some words → ((leaves : List Fragment) → AllByRecursion IsFragment leaves → words ≡ flat_map leaf_bytes leaves → ⊥) → Decodes SpellsTree bytes None
 leaves_refused bytes words read none leaves s =
-    none leaves (fragments_of leaves s.tree) (some_is words (flat_map leaf_bytes leaves) (sym read ∙ words_of_tree bytes leaves s))
+    none leaves (fragments_of leaves s.tree) (same_Some words (flat_map leaf_bytes leaves) (sym read ∙ words_of_tree bytes leaves s))
 
 pub tree_decoded : (bytes words : List ℕ) (leaves : List Fragment) (answer : Option (List Fragment)) → IsBytes bytes → words_at bytes ≡ Some words → AllByRecursion IsFragment leaves → words ≡ flat_map leaf_bytes leaves
     → SomeIff answer (IsTree leaves) leaves → Decodes SpellsTree bytes answer
@@ -146,7 +147,7 @@ tree_decoded bytes words leaves (Some tree) fits read all parts h =
     let spelled : bytes ≡ tree_bytes leaves = w.0.spelled ∙ ap (λ (x : List ℕ). 84 ∷ 1 ∷ (little_bytes 2 w.0.count ++ x)) w.1 ∙ ap (λ (n : ℕ). 84 ∷ 1 ∷ (little_bytes 2 n ++ words)) count ∙ ap (λ (x : List ℕ). 84 ∷ 1 ∷ (little_bytes 2 (length leaves) ++ x)) parts in
     subst (SpellsTree bytes) (sym h.1) (record { tree = h.0; several = omega (arith, w.0.several, count); spelled = spelled })
 tree_decoded bytes words leaves None fits read all parts h = λ others s.
-    let same : flat_map leaf_bytes leaves ≡ flat_map leaf_bytes others = sym parts ∙ some_is words (flat_map leaf_bytes others) (sym read ∙ words_of_tree bytes others s) in
+    let same : flat_map leaf_bytes leaves ≡ flat_map leaf_bytes others = sym parts ∙ same_Some words (flat_map leaf_bytes others) (sym read ∙ words_of_tree bytes others s) in
     h (subst IsTree (sym (one_list leaves others all (fragments_of others s.tree) same)) s.tree)
 
 -- the same where memory may be wanting for the tree
@@ -160,7 +161,7 @@ tree_made bytes words leaves (Err e) fits read all parts h = tt
 pub one_tree : (bytes : List ℕ) (a b : List Fragment) → SpellsTree bytes a → SpellsTree bytes b → a ≡ b
 one_tree bytes a b s t =
     one_list a b (fragments_of a s.tree) (fragments_of b t.tree)
-    (some_is (flat_map leaf_bytes a) (flat_map leaf_bytes b) (sym (words_of_tree bytes a s) ∙ words_of_tree bytes b t))
+    (same_Some (flat_map leaf_bytes a) (flat_map leaf_bytes b) (sym (words_of_tree bytes a s) ∙ words_of_tree bytes b t))
 
 pub no_tree_begins_another : (bytes more : List ℕ) (a b : List Fragment) → SpellsTree bytes a → SpellsTree (bytes ++ more) b → more ≡ []
 no_tree_begins_another bytes more a b s t =

@@ -1,9 +1,11 @@
 -- The functions that read give a value exactly where the bytes spell it.
-use Rattle.std.proofs.Common.{◌≡◌, ℕ, ◌+◌, ◌-◌, ◌*◌, ◌/◌, ◌%◌, ◌^◌, ◌<◌, ◌≤◌, Bool, true, false, ◌&&◌, cond, not, ltb, leb, List, [], ◌∷◌, ◌++◌, length, drop, Option, Some, None, refl, sym, ap, subst, ◌∙◌, arith}
+use Rattle.std.proofs.Common.{◌≡◌, ℕ, ◌+◌, ◌-◌, ◌/◌, ◌%◌, ◌^◌, ◌≤◌, Bool, true, false, ◌&&◌, cond, not, ltb, leb, List, [], ◌∷◌, ◌++◌, length, drop, Option, Some, None, refl, sym, ap, subst, ◌∙◌, arith}
 use Rattle.std.proofs.lemmas.Bool.Decides.{nat_tests, Decides-and, Decides-like, Decides-eqb, Decides-ltb}
 use Rattle.std.proofs.lemmas.List.{take_at, drop_at, length-append}
 use Rattle.std.proofs.lemmas.List.Concat.{flat_map-cons}
 use Rattle.std.proofs.lemmas.Slice.Eq.{bytes_eq-Decides}
+use Rattle.std.proofs.lemmas.Option.{none-some, same_Some}
+use Rattle.std.proofs.lemmas.Bool.{not-true}
 use Rattle.std.specs.Bool.{Decides}
 use Rattle.std.specs.List.{flat_map, list_all, AllByRecursion}
 use Rattle.std.specs.Prelude.{Result, Ok, Err, IfOk, codes}
@@ -19,28 +21,27 @@ use Rattle.mds_types.specs.declared.inodes.Kind.TheVariants.{File, Dir, Symlink}
 use Rattle.fragtree.specs.FragTree.{Tiles}
 use Rattle.omap.specs.EntryKeys.{entry_key}
 use Rattle.dirfrag_codec.specs.declared.headers.FragHeader.{FragHeader}
-use Rattle.dirfrag_codec.specs.EntryRecord.{HasTarget, IsRankNumber, IsRecordable, IsRecordV1, SpellsEntry, kind_byte, record_v1, target_of}
+use Rattle.dirfrag_codec.specs.EntryRecord.{HasTarget, IsRecordable, IsRecordV1, SpellsEntry, kind_byte, record_v1, target_of}
 use Rattle.dirfrag_codec.specs.FragHeader.{SpellsHeader, header_bytes}
 use Rattle.dirfrag_codec.specs.FragmentObject.{SpellsKey}
 use Rattle.dirfrag_codec.specs.Grammar.{Decodes, HasOneMeaning, Reads}
 use Rattle.dirfrag_codec.specs.Reading.{◌>>=◌, RecordFields, fields_of_inode, header_at}
 use Rattle.dirfrag_codec.specs.TreeObject.{SpellsTree, leaf_bytes, tree_bytes}
 use Rattle.dirfrag_codec.specs.Values.{all_leaves_at, allows, do_tile, entry_of, fragment_of, front_of, has_size, has_target, header_of, inode_at, inode_with, is_fragment, is_header, is_name, is_record_v1, is_tree, kind_of, leaves_at, name_of, tree_of}
-use Rattle.dirfrag_codec.proofs.Front.{not_none, some_is}
 use Rattle.dirfrag_codec.proofs.HeaderLaws.{header_again}
 use Rattle.dirfrag_codec.proofs.RecordLaws.{fields_of_record, number_decides}
-use Rattle.dirfrag_codec.proofs.TreeLaws.{four_each, fragments_of, words_of_tree}
+use Rattle.dirfrag_codec.proofs.TreeLaws.{four_each, fragments_of, words_of_tree, word_low}
 
 -- what is read first and then asked for is read exactly, where each spelled value is read first
 pub guarded : {V : Type 0} (Spells : List ℕ → V → Type 0) (bytes : List ℕ) (r : Option V) (test : V → Bool) → ((v : V) → Decides (test v) (Spells bytes v)) → ((v : V) → Spells bytes v → r ≡ Some v)
     → Decodes Spells bytes (r >>= λ v. cond (test v) (Some v) None)
-guarded Spells bytes None test decides found = λ v s. not_none v (sym (found v s))
+guarded Spells bytes None test decides found = λ v s. none-some v (found v s)
 guarded {V} Spells bytes (Some v) test decides found = go (test v) refl
   where
     go : (b : Bool) → test v ≡ b → Decodes Spells bytes (cond b (Some v) None)
     go true told = (decides v).0 told
     go false told = λ w s.
-        let same : v ≡ w = some_is v w (found w s) in
+        let same : v ≡ w = same_Some v w (found w s) in
         let clash : true ≡ false = sym ((decides w).1 s) ∙ ap test (sym same) ∙ told in
         cc
 
@@ -125,12 +126,8 @@ tree_decides bytes leaves =
 
 pub name_decides : (bytes : List ℕ) → Decides (is_name bytes) (IsName bytes)
 name_decides bytes =
-    Decides-like _ (λ p. record { some = p.0; short = p.1.0; plain = p.1.1.0; no_dots = not_true _ p.1.1.1 }) (λ h. (h.some, (h.short, (h.plain, ap not h.no_dots))))
+    Decides-like _ (λ p. record { some = p.0; short = p.1.0; plain = p.1.1.0; no_dots = not-true _ p.1.1.1 }) (λ h. (h.some, (h.short, (h.plain, ap not h.no_dots))))
     (Decides-and _ _ (Decides-ltb 0 (length bytes)) (Decides-and _ _ (le_decides (length bytes) 255) (Decides-and _ _ (self_decides (list_all fits_name bytes)) (self_decides (not (is_dots bytes))))))
-  where
-    not_true : (b : Bool) → not b ≡ true → b ≡ false
-    not_true true e = cc
-    not_true false e = refl
 
 -- ---- what is read first
 
@@ -158,15 +155,12 @@ leaves_again : (fs : List Fragment) → AllByRecursion IsFragment fs → leaves_
 leaves_again [] all = refl
 leaves_again (f ∷ fs) all =
     let word : little_number 4 (flat_map leaf_bytes (f ∷ fs)) ≡ word_of f =
-    ap (little_number 4) (flat_map-cons leaf_bytes f fs) ∙ little_number-reads_back 4 (word_of f) (flat_map leaf_bytes fs) (low f all.0) in
+    ap (little_number 4) (flat_map-cons leaf_bytes f fs) ∙ little_number-reads_back 4 (word_of f) (flat_map leaf_bytes fs) (word_low f all.0) in
     let rest : drop 4 (flat_map leaf_bytes (f ∷ fs)) ≡ flat_map leaf_bytes fs =
     ap (drop 4) (flat_map-cons leaf_bytes f fs) ∙ drop_at (leaf_bytes f) (flat_map leaf_bytes fs) 4 (length-bytes_low_first 0 4 (word_of f)) in
     ap (λ (w : ℕ). fragment_of w ∷ leaves_at (length fs) (drop 4 (flat_map leaf_bytes (f ∷ fs)))) word
     ∙ ap (λ (g : Fragment). g ∷ leaves_at (length fs) (drop 4 (flat_map leaf_bytes (f ∷ fs)))) (fragment_again f all.0)
     ∙ ap (λ (words : List ℕ). f ∷ leaves_at (length fs) words) rest ∙ ap (λ (gs : List Fragment). f ∷ gs) (leaves_again fs all.1)
-  where
-    low : (f : Fragment) → IsFragment f → word_of f < 256 ^ 4
-    low f h = omega (arith, h.few_bits, h.in_range)
 
 tree_first : (bytes : List ℕ) (leaves : List Fragment) → SpellsTree bytes leaves → all_leaves_at bytes ≡ Some leaves
 unfolding all_leaves_at

@@ -1,5 +1,5 @@
 -- A cluster's fragments stay sound where an entry comes, goes or moves.
-use Rattle.std.proofs.Common.{◌≡◌, ℕ, Bool, true, false, cond, List, Option, Some, None, ⊎_elim, refl, sym, ap, subst, ◌∙◌}
+use Rattle.std.proofs.Common.{◌≡◌, ℕ, Bool, true, false, cond, List, Option, Some, None, refl, sym, ap, subst, ◌∙◌}
 use Rattle.std.specs.Ordering.{eq_by_cmp}
 use Rattle.std.specs.Cmp.Lexicographic.{nat_list_cmp_total}
 use Rattle.std.specs.FinMap as map
@@ -14,7 +14,6 @@ use Rattle.mds_types.specs.Step.{with_moved, IsMove}
 use Rattle.mds_types.proofs.OrderLaws.{dentry-total}
 use Rattle.mds_types.specs.OrderLaws.{dentry-exact}
 use Rattle.mds_types.proofs.EntryLaws.{stands_after_removal}
-use Rattle.mds_types.proofs.MovedLaws.{may_move, stands_moved}
 use Rattle.inode_table.specs.Dirs.{Homes, Covers, or_whole}
 use Rattle.inode_table.specs.TreeChanges.{MayRemove}
 use Rattle.inode_table.specs.TreeTable.{IsTabled, without_cover}
@@ -48,15 +47,6 @@ removed_empty tree dentry found whole may at_dentry gone is q x stands same =
     let inodes : Some may.inode ≡ Some gone = sym may.stands ∙ at_dentry ∙ is in
     let alike : may.inode ≡ gone = cc in
     nothing_in tree dentry may.inode whole may.stands may.empty q x (stands_after_removal tree dentry q x stands).1 (same ∙ ap (λ (i : Inode). i.ino.0) (sym alike))
-
--- where an entry moved, nothing is in what it replaced
-pub replaced_empty : (tree : Tree) (from to : Dentry) (inode : Inode) → IsWellFormed tree → IsMove tree from to inode → (gone : Inode) → map.get tree to ≡ Some gone → NothingIn (with_moved tree from to inode) gone.ino.0
-replaced_empty tree from to inode whole move gone there q x stands same =
-    let may = may_move tree from to inode whole move in
-    ⊎_elim
-    (λ w. may.replaces gone there to gone there (ap (λ (p : Dentry). p.dir.0) (sym w.0) ∙ same))
-    (λ w. may.replaces gone there q x w.2 same)
-    (stands_moved tree from to inode whole may q x stands)
 
 -- what is put where an entry was taken is put over it
 pub put_over : (tree : Tree) (dentry : Dentry) (inode : Inode) → map.insert (map.remove tree dentry) dentry inode ≡ map.insert tree dentry inode

@@ -1,6 +1,7 @@
 -- Nothing is kept but of leaves of the tree's directories, whatever change is made.
 use Rattle.std.specs.Prelude.{◌≡◌, ℕ, ◌||◌, ◌==◌, ◌⊎◌, Bool, true, false, cond, is_some, Option, Some, None}
 use Rattle.std.proofs.Common.{inl, inr, refl, sym, ap, subst, ◌∙◌}
+use Rattle.std.proofs.lemmas.Bool.{or_right}
 use Rattle.std.specs.FinMap as map
 use Rattle.mds_types.specs.declared.ids.Ino.{Ino}
 use Rattle.mds_types.specs.declared.dentries.Dentry.{Dentry}
@@ -22,14 +23,10 @@ use Rattle.leaf_maps.proofs.StandingLaws.{standing_alone, standing_forgotten, st
 pub known_with : (homes : Homes) (dentry : Dentry) (inode : Inode) (d : ℕ) → is_known homes d ≡ true → is_known (with_home homes dentry inode) d ≡ true
 known_with homes dentry inode d known = go (is_dir_kind inode.kind) (same_or_apart d inode.ino.0)
   where
-    all : (b : Bool) → (b || true) ≡ true
-    all true = refl
-    all false = refl
-
     go : (b : Bool) → (d ≡ inode.ino.0) ⊎ (d ≡ inode.ino.0 → ⊥) → is_known (cond b (map.insert homes inode.ino.0 (home_at dentry)) homes) d ≡ true
     go false either = known
     go true (inl same) =
-        ap (λ (o : Option _). (d == 1) || is_some o) (ap (λ k. map.get (map.insert homes inode.ino.0 (home_at dentry)) k) same ∙ get_put homes inode.ino.0 (home_at dentry)) ∙ all (d == 1)
+        ap (λ (o : Option _). (d == 1) || is_some o) (ap (λ k. map.get (map.insert homes inode.ino.0 (home_at dentry)) k) same ∙ get_put homes inode.ino.0 (home_at dentry)) ∙ or_right (d == 1) true refl
     go true (inr apart) = ap (λ (o : Option _). (d == 1) || is_some o) (get_beside homes inode.ino.0 (home_at dentry) d apart) ∙ known
 
 -- one leaf of a directory of the tree was written, or got room

@@ -1,6 +1,6 @@
 -- What is written of an export is read again.
 use Rattle.std.proofs.Common.{◌≡◌, ℕ, ◌^◌, ◌<◌, ◌≤◌, Bool, true, false, not, ◌&&◌, cond, eqb, ltb, List, [], ◌∷◌, ◌++◌, length, Option, Some, None, refl, sym, ap, ◌∙◌, append_assoc, arith}
-use Rattle.std.proofs.lemmas.Bool.{le-ltb, ltb-true}
+use Rattle.std.proofs.lemmas.Bool.{le-ltb, ltb-true, and_parts}
 use Rattle.std.proofs.lemmas.List.{append-nil, take_at, drop_at, length-append}
 use Rattle.std.specs.List.{flat_map, list_all}
 use Rattle.byteorder.specs.Endian.{little_bytes}
@@ -12,7 +12,7 @@ use Rattle.mds_types.specs.declared.inodes.Kind.TheVariants.{File, Dir, Symlink}
 use Rattle.dirfrag_codec.specs.EntryRecord.{HasTarget, SpellsEntry, entry_bytes, kind_byte, target_of}
 use Rattle.dirfrag_codec.specs.Reading.{◌>>=◌, byte_at, number_at}
 use Rattle.dirfrag_codec.specs.Values.{entry_of, is_fragment, is_name, is_record_v1}
-use Rattle.dirfrag_codec.proofs.Front.{both, number_again}
+use Rattle.dirfrag_codec.proofs.Front.{number_again}
 use Rattle.dirfrag_codec.proofs.RecordLaws.{one_entry}
 use Rattle.dirfrag_codec.proofs.TreeLaws.{word_low}
 use Rattle.dirfrag_codec.proofs.ValueLaws.{fragment_again, fragment_decides, read_as, reads_entry, record_decides}
@@ -81,7 +81,7 @@ name_chain name tail rest o named read =
 
 pub sent_name_again : (s : SentName) (rest : List ℕ) → is_sent_name s ≡ true → sent_name_at (name_bytes s ++ rest) ≡ Some (s, rest)
 sent_name_again s rest sent =
-    let w = both (is_name s.0) (has_record s.1) sent in
+    let w = and_parts (is_name s.0) (has_record s.1) sent in
     name_chain s.0 (inode_bytes s.1) rest s.1 w.0 (inode_again s.1 rest w.1)
 
 -- ---- fragments
@@ -105,8 +105,8 @@ record BaseAgain (base : Base) (rest : List ℕ) : Type 0 where
 base_again : (base : Base) (count : ℕ) (rest : List ℕ) → is_base_of base count ≡ true → BaseAgain base rest
 base_again Fresh count rest is = record { byte = 0; version = 0; low = omega arith; byte_read = refl; made = refl }
 base_again (Stored version) count rest is =
-    let w = both (ltb 0 version) (ltb version (2 ^ 64) && ltb 0 count) is in
-    let x = both (ltb version (2 ^ 64)) (ltb 0 count) w.1 in
+    let w = and_parts (ltb 0 version) (ltb version (2 ^ 64) && ltb 0 count) is in
+    let x = and_parts (ltb version (2 ^ 64)) (ltb 0 count) w.1 in
     let low : version < 2 ^ 64 = ltb-true version (2 ^ 64) x.0 in
     record { byte = 1; version = version; low = omega arith; byte_read = refl; made = ap (λ (b : Bool). cond b (Some (Stored version)) None) w.0 }
 
@@ -141,11 +141,11 @@ pub record Sent (f : SentFrag) : Type 0 where
 
 pub sent_parts : (f : SentFrag) → is_sent_frag f ≡ true → Sent f
 sent_parts f is =
-    let a = both (ltb f.ino.0 (2 ^ 64) && is_fragment f.frag) _ is in
-    let b = both (ltb f.ino.0 (2 ^ 64)) (is_fragment f.frag) a.0 in
-    let c = both (is_base_of f.base (length f.names)) _ a.1 in
-    let d = both (ltb (length f.names) (2 ^ 32)) _ c.1 in
-    let e = both (rise is_name_before None f.names) (list_all is_sent_name f.names) d.1 in
+    let a = and_parts (ltb f.ino.0 (2 ^ 64) && is_fragment f.frag) _ is in
+    let b = and_parts (ltb f.ino.0 (2 ^ 64)) (is_fragment f.frag) a.0 in
+    let c = and_parts (is_base_of f.base (length f.names)) _ a.1 in
+    let d = and_parts (ltb (length f.names) (2 ^ 32)) _ c.1 in
+    let e = and_parts (rise is_name_before None f.names) (list_all is_sent_name f.names) d.1 in
     record { ino = ltb-true f.ino.0 (2 ^ 64) b.0; frag = b.1; based = c.0; few = ltb-true (length f.names) (2 ^ 32) d.0; rises = e.0; named = e.1 }
 
 five_parts : (a b c d n rest : List ℕ) → (a ++ (b ++ (c ++ (d ++ n)))) ++ rest ≡ a ++ (b ++ (c ++ (d ++ (n ++ rest))))
@@ -183,11 +183,11 @@ pub record Sendable (e : Export) : Type 0 where
 
 pub sendable_parts : (e : Export) → is_sendable e ≡ true → Sendable e
 sendable_parts e is =
-    let a = both (ltb e.ino.0 (2 ^ 64) && is_fragment e.frag) _ is in
-    let b = both (ltb e.ino.0 (2 ^ 64)) (is_fragment e.frag) a.0 in
-    let c = both (ltb e.exporter.0 16 && (ltb e.importer.0 16 && not (eqb e.exporter.0 e.importer.0))) _ a.1 in
-    let d = both (ltb (length e.frags) (2 ^ 32)) _ c.1 in
-    let g = both (rise is_frag_before None e.frags) (list_all is_sent_frag e.frags) d.1 in
+    let a = and_parts (ltb e.ino.0 (2 ^ 64) && is_fragment e.frag) _ is in
+    let b = and_parts (ltb e.ino.0 (2 ^ 64)) (is_fragment e.frag) a.0 in
+    let c = and_parts (ltb e.exporter.0 16 && (ltb e.importer.0 16 && not (eqb e.exporter.0 e.importer.0))) _ a.1 in
+    let d = and_parts (ltb (length e.frags) (2 ^ 32)) _ c.1 in
+    let g = and_parts (rise is_frag_before None e.frags) (list_all is_sent_frag e.frags) d.1 in
     record { ino = ltb-true e.ino.0 (2 ^ 64) b.0; frag = b.1; ranks = c.0; few = ltb-true (length e.frags) (2 ^ 32) d.0; rises = g.0; sent = g.1 }
 
 abbrev pub front_of : Export → Front

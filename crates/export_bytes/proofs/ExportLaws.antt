@@ -4,10 +4,11 @@ use Rattle.std.specs.Prelude.{Result, Ok, Err, IfOk}
 use Rattle.std.proofs.lemmas.Bool.Decides.{Decides-and, Decides-like}
 use Rattle.std.proofs.lemmas.List.{append-nil}
 use Rattle.std.proofs.lemmas.Slice.Eq.{bytes_eq-Decides}
+use Rattle.std.proofs.lemmas.Option.{none-some, same_Some}
 use Rattle.std.specs.Bool.{Decides}
 use Rattle.std.specs.List.{flat_map}
 use Rattle.dirfrag_codec.specs.Grammar.{Decodes, HasOneMeaning, NothingFollows, Reads}
-use Rattle.dirfrag_codec.proofs.Front.{IsBytes, not_none, some_is}
+use Rattle.dirfrag_codec.proofs.Front.{IsBytes}
 use Rattle.dirfrag_codec.proofs.ValueLaws.{guarded}
 use Rattle.export_bytes.specs.declared.exports.Export.{Export}
 use Rattle.export_bytes.specs.declared.exports.SentFrag.{SentFrag}
@@ -29,7 +30,7 @@ unfolding export_of
 reads_export bytes = guarded SpellsExport bytes (parts_at bytes) (is_export bytes) (export_decides bytes) (export_first bytes)
 
 pub one_export : HasOneMeaning SpellsExport
-one_export bytes a b s t = some_is a b (sym (export_first bytes a s) ∙ export_first bytes b t)
+one_export bytes a b s t = same_Some a b (sym (export_first bytes a s) ∙ export_first bytes b t)
 
 same_front : (p q : Front × List ℕ) → p ≡ q → (p.0.count ≡ q.0.count) × (p.1 ≡ q.1)
 same_front p q e = (ap (λ (r : Front × List ℕ). r.0.count) e, ap (λ (r : Front × List ℕ). r.1) e)
@@ -41,16 +42,16 @@ pub no_export_begins_another : NothingFollows SpellsExport
 no_export_begins_another bytes more a b s t =
     let of_a : front_at (bytes ++ more) ≡ Some (front_of a, flat_map frag_bytes a.frags ++ more) = ap (λ (x : List ℕ). front_at (x ++ more)) s.spelled ∙ front_again a more s.sendable in
     let of_b : front_at (bytes ++ more) ≡ Some (front_of b, flat_map frag_bytes b.frags ++ []) = ap front_at (t.spelled ∙ sym (append-nil (export_bytes b))) ∙ front_again b [] t.sendable in
-    let w = same_front (front_of a, flat_map frag_bytes a.frags ++ more) (front_of b, flat_map frag_bytes b.frags ++ []) (some_is (front_of a, flat_map frag_bytes a.frags ++ more) (front_of b, flat_map frag_bytes b.frags ++ []) (sym of_a ∙ of_b)) in
+    let w = same_front (front_of a, flat_map frag_bytes a.frags ++ more) (front_of b, flat_map frag_bytes b.frags ++ []) (same_Some (front_of a, flat_map frag_bytes a.frags ++ more) (front_of b, flat_map frag_bytes b.frags ++ []) (sym of_a ∙ of_b)) in
     let frags : Some (a.frags, more) ≡ Some (b.frags, []) =
     sym (frags_again a more s.sendable) ∙ ap (λ (n : ℕ). items_at sent_frag_at n (flat_map frag_bytes a.frags ++ more)) w.0 ∙ ap (items_at sent_frag_at (length b.frags)) w.1 ∙ frags_again b [] t.sendable in
-    same_rest (a.frags, more) (b.frags, []) (some_is (a.frags, more) (b.frags, []) frags)
+    same_rest (a.frags, more) (b.frags, []) (same_Some (a.frags, more) (b.frags, []) frags)
 
 -- ---- what is decoded
 
 export_decoded : (bytes : List ℕ) (answer : Option Export) → IsBytes bytes → answer ≡ parts_at bytes → Decodes SpellsExport bytes answer
 export_decoded bytes (Some e) fits is = parts_taken bytes e fits (sym is)
-export_decoded bytes None fits is = λ e s. not_none e (sym (export_first bytes e s) ∙ sym is)
+export_decoded bytes None fits is = λ e s. none-some e (is ∙ export_first bytes e s)
 
 pub export_answered : {E : Type 0} (bytes : List ℕ) (answer : Result (Option Export) E) → IsBytes bytes → IfOk answer (λ found. found ≡ parts_at bytes) → IfOk answer (Decodes SpellsExport bytes)
 export_answered bytes (Ok found) fits h = export_decoded bytes found fits h

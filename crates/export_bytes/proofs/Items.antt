@@ -1,10 +1,12 @@
 -- Items that are read one after another.
-use Rattle.std.proofs.Common.{◌≡◌, ℕ, zero, suc, ◌+◌, ◌-◌, ◌<◌, Bool, true, ◌&&◌, List, [], ◌∷◌, ◌++◌, length, drop, drop-cons, get_or, Option, Some, None, refl, sym, ap, subst, ◌∙◌, append_assoc, arith}
+use Rattle.std.proofs.Common.{◌≡◌, ℕ, zero, suc, ◌+◌, ◌-◌, ◌<◌, Bool, true, List, [], ◌∷◌, ◌++◌, length, drop, drop-cons, get_or, Option, Some, None, refl, sym, ap, subst, ◌∙◌, append_assoc, arith}
 use Rattle.std.proofs.lemmas.List.{length-append}
 use Rattle.std.proofs.lemmas.List.Concat.{flat_map-cons}
+use Rattle.std.proofs.lemmas.Option.{same_Some}
+use Rattle.std.proofs.lemmas.Bool.{and_parts, and_from}
 use Rattle.std.specs.List.{flat_map, list_all}
 use Rattle.dirfrag_codec.specs.Reading.{◌>>=◌}
-use Rattle.dirfrag_codec.proofs.Front.{IsBytes, Takes, Takes-then, bind_some, both, some_is}
+use Rattle.dirfrag_codec.proofs.Front.{IsBytes, Takes, Takes-then, bind_some}
 use Rattle.export_bytes.specs.Reading.{items_at}
 
 -- what was read, with more in front of it
@@ -35,7 +37,7 @@ module _ {A : Type 0} (item_at : List ℕ → Option (A × List ℕ)) where
         → items_at item_at (length xs) (flat_map spell xs ++ rest) ≡ Some (xs, rest)
     items_again again [] rest sent = refl
     items_again again (x ∷ xs) rest sent =
-        let w = both (is_sent x) (list_all is_sent xs) sent in
+        let w = and_parts (is_sent x) (list_all is_sent xs) sent in
         let parts : flat_map spell (x ∷ xs) ++ rest ≡ spell x ++ (flat_map spell xs ++ rest) = ap (λ (t : List ℕ). t ++ rest) (flat_map-cons spell x xs) ∙ append_assoc (spell x) (flat_map spell xs) rest in
         let first : item_at (flat_map spell (x ∷ xs) ++ rest) ≡ Some (x, flat_map spell xs ++ rest) = ap item_at parts ∙ again x (flat_map spell xs ++ rest) w.0 in
         ap (λ (r : Option (A × List ℕ)). r >>= λ first. items_at item_at (length xs) first.1 >>= λ more. Some (first.0 ∷ more.0, more.1)) first
@@ -46,7 +48,7 @@ module _ {A : Type 0} (item_at : List ℕ → Option (A × List ℕ)) where
         → (n : ℕ) (bytes : List ℕ) (xs : List A) (rest : List ℕ) → IsBytes bytes → items_at item_at n bytes ≡ Some (xs, rest)
         → (length xs ≡ n) × (list_all is_sent xs ≡ true) × Takes bytes (flat_map spell xs) rest
     items_take takes zero bytes xs rest fits read =
-        let e : ([], bytes) ≡ (xs, rest) = some_is ([], bytes) (xs, rest) read in
+        let e : ([], bytes) ≡ (xs, rest) = same_Some ([], bytes) (xs, rest) read in
         let P : List A × List ℕ → Type 0 = λ p. (length p.0 ≡ 0) × (list_all is_sent p.0 ≡ true) × Takes bytes (flat_map spell p.0) p.1 in
         subst P e (refl, refl, record { parts = refl; rest_fits = fits })
     items_take takes (suc n) bytes xs rest fits read =
@@ -54,13 +56,10 @@ module _ {A : Type 0} (item_at : List ℕ → Option (A × List ℕ)) where
         let b = bind_some (items_at item_at n a.0.1) (λ more. Some (a.0.0 ∷ more.0, more.1)) (xs, rest) a.2 in
         let one = takes bytes a.0.0 a.0.1 fits a.1 in
         let others = items_take takes n a.0.1 b.0.0 b.0.1 one.1.rest_fits b.1 in
-        let e : (a.0.0 ∷ b.0.0, b.0.1) ≡ (xs, rest) = some_is (a.0.0 ∷ b.0.0, b.0.1) (xs, rest) b.2 in
+        let e : (a.0.0 ∷ b.0.0, b.0.1) ≡ (xs, rest) = same_Some (a.0.0 ∷ b.0.0, b.0.1) (xs, rest) b.2 in
         let P : List A × List ℕ → Type 0 = λ p. (length p.0 ≡ suc n) × (list_all is_sent p.0 ≡ true) × Takes bytes (flat_map spell p.0) p.1 in
         let both_taken = Takes-then bytes (spell a.0.0) a.0.1 (flat_map spell b.0.0) b.0.1 one.1 others.2 in
-        subst P e (ap (λ (k : ℕ). suc k) others.0, all_sent (is_sent a.0.0) (list_all is_sent b.0.0) one.0 others.1, subst (λ (t : List ℕ). Takes bytes t b.0.1) (sym (flat_map-cons spell a.0.0 b.0.0)) both_taken)
-      where
-        all_sent : (p q : Bool) → p ≡ true → q ≡ true → (p && q) ≡ true
-        all_sent p q hp hq = rw (hp, hq) refl
+        subst P e (ap (λ (k : ℕ). suc k) others.0, and_from (is_sent a.0.0) (list_all is_sent b.0.0) one.0 others.1, subst (λ (t : List ℕ). Takes bytes t b.0.1) (sym (flat_map-cons spell a.0.0 b.0.0)) both_taken)
 
 -- ---- items that are written one after another
 
@@ -72,10 +71,10 @@ module _ {A : Type 0} (xs : List A) (i : ℕ) (x : A) (within : i < length xs) (
       drop-cons xs i x within ∙ (λ k. sym is k ∷ drop (next k) xs)
 
 pub first_sent : {A : Type 0} (is_sent : A → Bool) (xs : List A) (i : ℕ) (x : A) → i < length xs → x ≡ get_or xs i x → list_all is_sent (drop i xs) ≡ true → is_sent x ≡ true
-first_sent is_sent xs i x within is sent = (both (is_sent x) (list_all is_sent (drop (i + 1) xs)) (sym (ap (list_all is_sent) (item_first xs i x within is)) ∙ sent)).0
+first_sent is_sent xs i x within is sent = (and_parts (is_sent x) (list_all is_sent (drop (i + 1) xs)) (sym (ap (list_all is_sent) (item_first xs i x within is)) ∙ sent)).0
 
 pub later_sent : {A : Type 0} (is_sent : A → Bool) (xs : List A) (i : ℕ) (x : A) → i < length xs → x ≡ get_or xs i x → list_all is_sent (drop i xs) ≡ true → list_all is_sent (drop (i + 1) xs) ≡ true
-later_sent is_sent xs i x within is sent = (both (is_sent x) (list_all is_sent (drop (i + 1) xs)) (sym (ap (list_all is_sent) (item_first xs i x within is)) ∙ sent)).1
+later_sent is_sent xs i x within is sent = (and_parts (is_sent x) (list_all is_sent (drop (i + 1) xs)) (sym (ap (list_all is_sent) (item_first xs i x within is)) ∙ sent)).1
 
 pub one_put : {A : Type 0} (spell : A → List ℕ) (xs : List A) (i : ℕ) (x : A) → i < length xs → x ≡ get_or xs i x → (old new total : List ℕ) → old ++ flat_map spell (drop i xs) ≡ total → new ≡ old ++ spell x
     → new ++ flat_map spell (drop (i + 1) xs) ≡ total

@@ -1,8 +1,8 @@
 -- What is read of an export is what stands there.
 use Rattle.std.proofs.Common.{◌≡◌, ℕ, suc, ◌^◌, ◌<◌, ◌≤◌, Bool, true, false, not, ◌&&◌, cond, eqb, ltb, List, [], ◌∷◌, ◌++◌, length, take, drop, Option, Some, None, refl, sym, ap, subst, ◌∙◌, append_assoc, arith}
-use Rattle.std.proofs.lemmas.Bool.{eqb-true, ltb-false}
-use Rattle.std.proofs.lemmas.Bool.Decides.{nat_tests}
+use Rattle.std.proofs.lemmas.Bool.{eqb-true, ltb-false, and_parts, and_from, lt-ltb}
 use Rattle.std.proofs.lemmas.List.{append-nil, nil_from_length, take-append-drop, length-take}
+use Rattle.std.proofs.lemmas.Option.{cond_some, same_Some}
 use Rattle.std.specs.List.{flat_map, list_all}
 use Rattle.byteorder.specs.Endian.{little_bytes}
 use Rattle.mds_types.specs.Frag.{Fragment, word_of}
@@ -10,7 +10,7 @@ use Rattle.mds_types.specs.declared.inodes.Inode.{Inode}
 use Rattle.dirfrag_codec.specs.EntryRecord.{SpellsEntry, entry_bytes}
 use Rattle.dirfrag_codec.specs.Reading.{◌>>=◌, after_tag, byte_at, number_at}
 use Rattle.dirfrag_codec.specs.Values.{entry_of, fragment_of, is_fragment, is_name, is_record_v1}
-use Rattle.dirfrag_codec.proofs.Front.{IsBytes, IsBytes-drop, Takes, Takes-then, bind_some, both, byte_takes, guard_not, guard_some, number_takes, some_is, tag_takes, width_2, width_4, width_8}
+use Rattle.dirfrag_codec.proofs.Front.{IsBytes, IsBytes-drop, Takes, Takes-then, bind_some, byte_takes, guard_not, number_takes, tag_takes, width_2, width_4, width_8}
 use Rattle.dirfrag_codec.proofs.ValueLaws.{reads_entry, record_decides, spelled_as}
 use Rattle.commit_jobs.specs.declared.bases.Base.{Base}
 use Rattle.commit_jobs.specs.declared.bases.Base.TheVariants.{Fresh, Stored}
@@ -19,12 +19,6 @@ use Rattle.export_bytes.specs.declared.exports.SentFrag.{SentFrag}
 use Rattle.export_bytes.specs.Export.{SentName, SpellsExport, base_bytes, frag_bytes, has_record, inode_bytes, is_base_of, is_frag_before, is_name_before, is_sendable, is_sent_frag, is_sent_name, name_bytes, rise}
 use Rattle.export_bytes.specs.Reading.{Front, Head, StatesHead, base_of, frag_of, front_at, head_at, inode_at, items_at, name_at, part_at, parts_at, present_at, record_at, sent_frag_at, sent_name_at}
 use Rattle.export_bytes.proofs.Items.{items_take}
-
-and_true : (p q : Bool) → p ≡ true → q ≡ true → (p && q) ≡ true
-and_true p q hp hq = rw (hp, hq) refl
-
-below : (a b : ℕ) → a < b → ltb a b ≡ true
-below a b h = grind (arith, nat_tests)
 
 part_takes : (n : ℕ) (bytes x rest : List ℕ) → IsBytes bytes → part_at n bytes ≡ Some (x, rest) → (length x ≡ n) × Takes bytes x rest
 part_takes n bytes x rest fits read =
@@ -38,7 +32,7 @@ unfolding name_at
 name_takes bytes x rest fits read =
     let a = bind_some (byte_at bytes >>= λ len. part_at len.0 len.1) (λ part. cond (is_name part.0) (Some part) None) (x, rest) read in
     let b = bind_some (byte_at bytes) (λ len. part_at len.0 len.1) a.0 a.1 in
-    let g = guard_some (is_name a.0.0) a.0 (x, rest) a.2 in
+    let g = cond_some (is_name a.0.0) a.0 (x, rest) a.2 in
     let t = byte_takes bytes b.0.0 b.0.1 fits b.1 in
     let p = part_takes b.0.0 b.0.1 a.0.0 a.0.1 t.rest_fits b.2 in
     let whole : Takes bytes (b.0.0 ∷ a.0.0) a.0.1 = Takes-then bytes (b.0.0 ∷ []) b.0.1 a.0.0 a.0.1 t p.1 in
@@ -59,7 +53,7 @@ record_takes bytes inode rest fits read =
     let own = subst (λ (k : ℕ). Takes bytes (little_bytes 2 k ++ a.0.0) a.0.1) (sym p.0) whole in
     let spelled = subst (λ (x : List ℕ). Takes bytes (little_bytes 2 (length x) ++ x) a.0.1) s.spelled own in
     let P : Inode × List ℕ → Type 0 = λ q. (is_record_v1 (entry_bytes q.0) q.0 ≡ true) × Takes bytes (little_bytes 2 (length (entry_bytes q.0)) ++ entry_bytes q.0) q.1 in
-    subst P (some_is (d.0, a.0.1) (inode, rest) d.2)
+    subst P (same_Some (d.0, a.0.1) (inode, rest) d.2)
     ((record_decides (entry_bytes d.0) d.0).1 (record { allowed = s.allowed; size = s.size; mtime = s.mtime; spelled = refl }), spelled)
 
 inode_takes : (bytes : List ℕ) (o : Option Inode) (rest : List ℕ) → IsBytes bytes → inode_at bytes ≡ Some (o, rest) → (has_record o ≡ true) × Takes bytes (inode_bytes o) rest
@@ -70,13 +64,13 @@ inode_takes (byte ∷ more) o rest fits read = go (eqb byte 0) (eqb byte 1) refl
     go true q hp hq e =
         let zero_byte : byte ≡ 0 = eqb-true byte 0 hp in
         let Q : Option Inode × List ℕ → Type 0 = λ r. (has_record r.0 ≡ true) × Takes (byte ∷ more) (inode_bytes r.0) r.1 in
-        subst Q (some_is (None, more) (o, rest) e) (refl, record { parts = ap (λ (b : ℕ). b ∷ more) zero_byte; rest_fits = λ i. fits (suc i) })
+        subst Q (same_Some (None, more) (o, rest) e) (refl, record { parts = ap (λ (b : ℕ). b ∷ more) zero_byte; rest_fits = λ i. fits (suc i) })
     go false true hp hq e =
         let one_byte : byte ≡ 1 = eqb-true byte 1 hq in
         let b = bind_some (record_at more) (λ i. Some (Some i.0, i.1)) (o, rest) e in
         let t = record_takes more b.0.0 b.0.1 (λ i. fits (suc i)) b.1 in
         let Q : Option Inode × List ℕ → Type 0 = λ r. (has_record r.0 ≡ true) × Takes (byte ∷ more) (inode_bytes r.0) r.1 in
-        subst Q (some_is (Some b.0.0, b.0.1) (o, rest) b.2) (t.0, record { parts = ap (λ (x : ℕ). x ∷ more) one_byte ∙ ap (λ (x : List ℕ). 1 ∷ x) t.1.parts; rest_fits = t.1.rest_fits })
+        subst Q (same_Some (Some b.0.0, b.0.1) (o, rest) b.2) (t.0, record { parts = ap (λ (x : ℕ). x ∷ more) one_byte ∙ ap (λ (x : List ℕ). 1 ∷ x) t.1.parts; rest_fits = t.1.rest_fits })
     go false false hp hq e = absurd cc
 
 pub sent_name_takes : (bytes : List ℕ) (s : SentName) (rest : List ℕ) → IsBytes bytes → sent_name_at bytes ≡ Some (s, rest) → (is_sent_name s ≡ true) × Takes bytes (name_bytes s) rest
@@ -88,13 +82,13 @@ sent_name_takes bytes s rest fits read =
     let i = inode_takes a.0.1 b.0.0 b.0.1 n.1.rest_fits b.1 in
     let whole : Takes bytes (length a.0.0 ∷ (a.0.0 ++ inode_bytes b.0.0)) b.0.1 = Takes-then bytes (length a.0.0 ∷ a.0.0) a.0.1 (inode_bytes b.0.0) b.0.1 n.1 i.1 in
     let P : SentName × List ℕ → Type 0 = λ q. (is_sent_name q.0 ≡ true) × Takes bytes (name_bytes q.0) q.1 in
-    subst P (some_is ((a.0.0, b.0.0), b.0.1) (s, rest) b.2) (and_true (is_name a.0.0) (has_record b.0.0) n.0 i.0, whole)
+    subst P (same_Some ((a.0.0, b.0.0), b.0.1) (s, rest) b.2) (and_from (is_name a.0.0) (has_record b.0.0) n.0 i.0, whole)
 
 -- ---- fragments
 
 frag_takes : (word : ℕ) (f : Fragment) → frag_of word ≡ Some f → (is_fragment f ≡ true) × (word_of f ≡ word)
 frag_takes word f e =
-    let g = guard_some (is_fragment (fragment_of word)) (fragment_of word) f e in
+    let g = cond_some (is_fragment (fragment_of word)) (fragment_of word) f e in
     let same : word_of (fragment_of word) ≡ word = omega arith in
     let P : Fragment → Type 0 = λ h. (is_fragment h ≡ true) × (word_of h ≡ word) in
     subst P g.1 (g.0, same)
@@ -104,14 +98,14 @@ base_takes byte version base e = go (eqb byte 0 && eqb version 0) (eqb byte 1 &&
   where
     go : (p q : Bool) → (eqb byte 0 && eqb version 0) ≡ p → (eqb byte 1 && ltb 0 version) ≡ q → cond p (Some Fresh) (cond q (Some (Stored version)) None) ≡ Some base → byte ∷ little_bytes 8 version ≡ base_bytes base
     go true q hp hq e =
-        let w = both (eqb byte 0) (eqb version 0) hp in
+        let w = and_parts (eqb byte 0) (eqb version 0) hp in
         let zero_byte : byte ≡ 0 = eqb-true byte 0 w.0 in
         let no_version : version ≡ 0 = eqb-true version 0 w.1 in
-        ap (λ (b : ℕ). b ∷ little_bytes 8 version) zero_byte ∙ ap (λ (v : ℕ). 0 ∷ little_bytes 8 v) no_version ∙ ap base_bytes (some_is Fresh base e)
+        ap (λ (b : ℕ). b ∷ little_bytes 8 version) zero_byte ∙ ap (λ (v : ℕ). 0 ∷ little_bytes 8 v) no_version ∙ ap base_bytes (same_Some Fresh base e)
     go false true hp hq e =
-        let w = both (eqb byte 1) (ltb 0 version) hq in
+        let w = and_parts (eqb byte 1) (ltb 0 version) hq in
         let one_byte : byte ≡ 1 = eqb-true byte 1 w.0 in
-        ap (λ (b : ℕ). b ∷ little_bytes 8 version) one_byte ∙ ap base_bytes (some_is (Stored version) base e)
+        ap (λ (b : ℕ). b ∷ little_bytes 8 version) one_byte ∙ ap base_bytes (same_Some (Stored version) base e)
     go false false hp hq e = absurd cc
 
 record HeadTaken (bytes : List ℕ) (h : Head) (rest : List ℕ) : Type 0 where
@@ -165,7 +159,7 @@ head_takes bytes h rest fits read =
     let e = bind_some (base_of c.0.0 d.0.0) (head_5 a.0.0 f.0 d.0.1) (h, rest) d.2 in
     let n = bind_some (number_at 4 d.0.1) (head_6 a.0.0 f.0 e.0) (h, rest) e.2 in
     let made : Head = record { ino = a.0.0; frag = f.0; base = e.0; count = n.0.0 } in
-    let g = guard_some (is_base_of e.0 n.0.0) (made, n.0.1) (h, rest) n.2 in
+    let g = cond_some (is_base_of e.0 n.0.0) (made, n.0.1) (h, rest) n.2 in
     let t0 = number_takes 8 width_8 bytes a.0.0 a.0.1 fits a.1 in
     let t1 = number_takes 4 width_4 a.0.1 b.0.0 b.0.1 t0.0.rest_fits b.1 in
     let w = frag_takes b.0.0 f.0 f.1 in
@@ -189,9 +183,9 @@ four_parts a b c d n = append_assoc a (b ++ (c ++ d)) n ∙ ap (λ (t : List ℕ
 frag_sent : (f : SentFrag) → f.ino.0 < 2 ^ 64 → is_fragment f.frag ≡ true → is_base_of f.base (length f.names) ≡ true → length f.names < 2 ^ 32 → rise is_name_before None f.names ≡ true → list_all is_sent_name f.names ≡ true
     → is_sent_frag f ≡ true
 frag_sent f ino frag based few rises named =
-    and_true (ltb f.ino.0 (2 ^ 64) && is_fragment f.frag) _ (and_true (ltb f.ino.0 (2 ^ 64)) (is_fragment f.frag) (below f.ino.0 (2 ^ 64) ino) frag)
-    (and_true (is_base_of f.base (length f.names)) _ based
-    (and_true (ltb (length f.names) (2 ^ 32)) _ (below (length f.names) (2 ^ 32) few) (and_true (rise is_name_before None f.names) (list_all is_sent_name f.names) rises named)))
+    and_from (ltb f.ino.0 (2 ^ 64) && is_fragment f.frag) _ (and_from (ltb f.ino.0 (2 ^ 64)) (is_fragment f.frag) (lt-ltb f.ino.0 (2 ^ 64) ino) frag)
+    (and_from (is_base_of f.base (length f.names)) _ based
+    (and_from (ltb (length f.names) (2 ^ 32)) _ (lt-ltb (length f.names) (2 ^ 32) few) (and_from (rise is_name_before None f.names) (list_all is_sent_name f.names) rises named)))
 
 -- a fragment of this head with these names
 abbrev frag_with : Head → List SentName → SentFrag
@@ -225,7 +219,7 @@ unfolding sent_frag_at
 sent_frag_takes bytes f rest fits read =
     let a = bind_some (head_at bytes) frag_1 (f, rest) read in
     let b = bind_some (items_at sent_name_at a.0.0.count a.0.1) (frag_2 a.0.0) (f, rest) a.2 in
-    let g = guard_some (rise is_name_before None b.0.0) (frag_with a.0.0 b.0.0, b.0.1) (f, rest) b.2 in
+    let g = cond_some (rise is_name_before None b.0.0) (frag_with a.0.0 b.0.0, b.0.1) (f, rest) b.2 in
     let head = head_takes bytes a.0.0 a.0.1 fits a.1 in
     let names = items_take sent_name_at name_bytes is_sent_name sent_name_takes a.0.0.count a.0.1 b.0.0 b.0.1 head.taken.rest_fits b.1 in
     let P : SentFrag × List ℕ → Type 0 = λ q. (is_sent_frag q.0 ≡ true) × Takes bytes (frag_bytes q.0) q.1 in
@@ -284,7 +278,7 @@ front_takes bytes f rest fits read =
     let d = bind_some (byte_at c.0.1) (front_5 a.0.0 w.0 c.0.0) (f, rest) c.2 in
     let n = bind_some (number_at 4 d.0.1) (front_6 a.0.0 w.0 c.0.0 d.0.0) (f, rest) d.2 in
     let made : Front = record { ino = a.0.0; frag = w.0; exporter = c.0.0; importer = d.0.0; count = n.0.0 } in
-    let g = guard_some (ltb c.0.0 16 && (ltb d.0.0 16 && not (eqb c.0.0 d.0.0))) (made, n.0.1) (f, rest) n.2 in
+    let g = cond_some (ltb c.0.0 16 && (ltb d.0.0 16 && not (eqb c.0.0 d.0.0))) (made, n.0.1) (f, rest) n.2 in
     let t0 = tag_takes 88 1 bytes t.0 fits t.1 in
     let t1 = number_takes 8 width_8 t.0 a.0.0 a.0.1 t0.rest_fits a.1 in
     let t2 = number_takes 4 width_4 a.0.1 b.0.0 b.0.1 t1.0.rest_fits b.1 in
@@ -309,9 +303,9 @@ export_with f frags = record { ino = record { 0 = f.ino }; frag = f.frag; export
 export_sendable : (e : Export) → e.ino.0 < 2 ^ 64 → is_fragment e.frag ≡ true → (ltb e.exporter.0 16 && (ltb e.importer.0 16 && not (eqb e.exporter.0 e.importer.0))) ≡ true → length e.frags < 2 ^ 32
     → rise is_frag_before None e.frags ≡ true → list_all is_sent_frag e.frags ≡ true → is_sendable e ≡ true
 export_sendable e ino frag ranks few rises sent =
-    and_true (ltb e.ino.0 (2 ^ 64) && is_fragment e.frag) _ (and_true (ltb e.ino.0 (2 ^ 64)) (is_fragment e.frag) (below e.ino.0 (2 ^ 64) ino) frag)
-    (and_true (ltb e.exporter.0 16 && (ltb e.importer.0 16 && not (eqb e.exporter.0 e.importer.0))) _ ranks
-    (and_true (ltb (length e.frags) (2 ^ 32)) _ (below (length e.frags) (2 ^ 32) few) (and_true (rise is_frag_before None e.frags) (list_all is_sent_frag e.frags) rises sent)))
+    and_from (ltb e.ino.0 (2 ^ 64) && is_fragment e.frag) _ (and_from (ltb e.ino.0 (2 ^ 64)) (is_fragment e.frag) (lt-ltb e.ino.0 (2 ^ 64) ino) frag)
+    (and_from (ltb e.exporter.0 16 && (ltb e.importer.0 16 && not (eqb e.exporter.0 e.importer.0))) _ ranks
+    (and_from (ltb (length e.frags) (2 ^ 32)) _ (lt-ltb (length e.frags) (2 ^ 32) few) (and_from (rise is_frag_before None e.frags) (list_all is_sent_frag e.frags) rises sent)))
 
 abbrev export_2 : Front → List SentFrag × List ℕ → Option Export
 export_2 f frags = cond (rise is_frag_before None frags.0 && eqb (length frags.1) 0) (Some (export_with f frags.0)) None
@@ -339,8 +333,8 @@ unfolding parts_at
 parts_taken bytes e fits read =
     let a = bind_some (front_at bytes) export_1 e read in
     let b = bind_some (items_at sent_frag_at a.0.0.count a.0.1) (export_2 a.0.0) e a.2 in
-    let g = guard_some (rise is_frag_before None b.0.0 && eqb (length b.0.1) 0) (export_with a.0.0 b.0.0) e b.2 in
-    let w = both (rise is_frag_before None b.0.0) (eqb (length b.0.1) 0) g.0 in
+    let g = cond_some (rise is_frag_before None b.0.0 && eqb (length b.0.1) 0) (export_with a.0.0 b.0.0) e b.2 in
+    let w = and_parts (rise is_frag_before None b.0.0) (eqb (length b.0.1) 0) g.0 in
     let front = front_takes bytes a.0.0 a.0.1 fits a.1 in
     let frags = items_take sent_frag_at frag_bytes is_sent_frag sent_frag_takes a.0.0.count a.0.1 b.0.0 b.0.1 front.taken.rest_fits b.1 in
     let nothing : b.0.1 ≡ [] = nil_from_length b.0.1 (eqb-true (length b.0.1) 0 w.1) in

@@ -1,6 +1,7 @@
 -- What is written of an export piece by piece is the whole.
 use Rattle.std.proofs.Common.{◌≡◌, ℕ, List, ◌∷◌, ◌++◌, length, Option, Some, sym, ap, ◌∙◌, append_assoc}
-use Rattle.std.specs.Prelude.{Result, Ok, Err, OnOk}
+use Rattle.std.proofs.lemmas.Result.{on_ok_weaker}
+use Rattle.std.specs.Prelude.{Result, OnOk}
 use Rattle.std.specs.List.{flat_map}
 use Rattle.byteorder.specs.Endian.{little_bytes}
 use Rattle.mds_types.specs.Frag.{word_of}
@@ -9,15 +10,10 @@ use Rattle.dirfrag_codec.specs.EntryRecord.{entry_bytes}
 use Rattle.export_bytes.specs.declared.exports.SentFrag.{SentFrag}
 use Rattle.export_bytes.specs.Export.{SentName, base_bytes, frag_bytes, inode_bytes, name_bytes}
 
--- what follows from an outcome's fact
-on_ok : {A E P Q : Type 0} (r : Result A E) → (P → Q) → OnOk r P → OnOk r Q
-on_ok (Ok x) f p = f p
-on_ok (Err e) f p = tt
-
 pub record_put : {A E : Type 0} (r : Result A E) (new out x bytes : List ℕ) (inode : Inode) (o : Option Inode) → o ≡ Some inode → x ≡ bytes → bytes ≡ entry_bytes inode
     → OnOk r (new ≡ out ++ 1 ∷ (little_bytes 2 (length x) ++ x)) → OnOk r (new ≡ out ++ inode_bytes o)
 record_put r new out x bytes inode o is same spelled =
-    on_ok r (λ e. e ∙ ap (λ (y : List ℕ). out ++ 1 ∷ (little_bytes 2 (length y) ++ y)) (same ∙ spelled) ∙ ap (λ (p : Option Inode). out ++ inode_bytes p) (sym is))
+    on_ok_weaker r (λ e. e ∙ ap (λ (y : List ℕ). out ++ 1 ∷ (little_bytes 2 (length y) ++ y)) (same ∙ spelled) ∙ ap (λ (p : Option Inode). out ++ inode_bytes p) (sym is))
 
 four_put : (out a b c d o1 o2 o3 o4 : List ℕ) → o1 ≡ out ++ a → o2 ≡ o1 ++ b → o3 ≡ o2 ++ c → o4 ≡ o3 ++ d → (n : List ℕ) → o4 ++ n ≡ out ++ (a ++ (b ++ (c ++ (d ++ n))))
 four_put out a b c d o1 o2 o3 o4 e1 e2 e3 e4 n =
@@ -28,7 +24,7 @@ pub frag_put : {A E : Type 0} (r : Result A E) (new out o1 o2 o3 o4 : List ℕ) 
     → o1 ≡ out ++ little_bytes 8 f.ino.0 → o2 ≡ o1 ++ little_bytes 4 word → o3 ≡ o2 ++ base_bytes f.base → o4 ≡ o3 ++ little_bytes 4 count
     → OnOk r (new ≡ o4 ++ flat_map name_bytes names) → OnOk r (new ≡ out ++ frag_bytes f)
 frag_put r new out o1 o2 o3 o4 f word count names worded counted same e1 e2 e3 e4 =
-    on_ok r (λ e. e ∙ four_put out (little_bytes 8 f.ino.0) (little_bytes 4 word) (base_bytes f.base) (little_bytes 4 count) o1 o2 o3 o4 e1 e2 e3 e4 (flat_map name_bytes names)
+    on_ok_weaker r (λ e. e ∙ four_put out (little_bytes 8 f.ino.0) (little_bytes 4 word) (base_bytes f.base) (little_bytes 4 count) o1 o2 o3 o4 e1 e2 e3 e4 (flat_map name_bytes names)
     ∙ ap (λ (w : ℕ). out ++ (little_bytes 8 f.ino.0 ++ (little_bytes 4 w ++ (base_bytes f.base ++ (little_bytes 4 count ++ flat_map name_bytes names))))) worded
     ∙ ap (λ (k : ℕ). out ++ (little_bytes 8 f.ino.0 ++ (little_bytes 4 (word_of f.frag) ++ (base_bytes f.base ++ (little_bytes 4 k ++ flat_map name_bytes names))))) counted
     ∙ ap (λ (xs : List SentName). out ++ (little_bytes 8 f.ino.0 ++ (little_bytes 4 (word_of f.frag) ++ (base_bytes f.base ++ (little_bytes 4 (length xs) ++ flat_map name_bytes xs))))) same)

@@ -6,9 +6,9 @@ use Rattle.std.specs.FinMap as map
 use Rattle.std.specs.FinMap.{find, get-entries, get-from_entries}
 use Rattle.mds_types.specs.declared.ids.Rank.{Rank}
 use Rattle.sorted_map.proofs.MapLaws.{tie}
-use Rattle.inode_table.specs.Dirs.{Homes, Covers, IsTable}
+use Rattle.inode_table.specs.Dirs.{Homes, Covers, IsLive, IsTable}
 use Rattle.mds_types.specs.Leaf.{Leaf, leaf_cmp}
-use Rattle.subtree_map.specs.Authority.{Roots, HasAuthority, IsLeaf, IsSubtrees, NearestRoot, itself, inherited}
+use Rattle.subtree_map.specs.Authority.{Roots, HasAuthority, IsSubtrees, NearestRoot, itself, inherited}
 use Rattle.subtree_map.specs.Changes.{KeepAuthority}
 use Rattle.mds_types.proofs.LeafLaws.{leaf-exact, leaf-total, same_or_apart, tied_apart, tied_same}
 use Rattle.subtree_map.proofs.Options.{not_none, one_value, value_of}
@@ -111,10 +111,10 @@ module _ (root : Leaf) where
 
 -- where the authorities of the colours are kept, the region is
 module _ (root : Leaf) (old new : Roots) (homes now : Homes) (covers later : Covers) (Becomes : Leaf → Leaf → Type 0) (keep : KeepAuthority (coloured root old) (coloured root new) homes now covers later Becomes) where
-  pub goes_on : (leaf after : Leaf) → IsLeaf homes covers leaf → Becomes leaf after → NearestRoot old homes covers leaf root → NearestRoot new now later after root
+  pub goes_on : (leaf after : Leaf) → IsLive homes covers leaf → Becomes leaf after → NearestRoot old homes covers leaf root → NearestRoot new now later after root
   goes_on leaf after is becomes near = in_region root new now later after (keep leaf after (colour root root) is becomes (authority_of root old homes covers leaf root near))
 
-  pub came : (leaf after : Leaf) → IsTable homes covers → IsSubtrees old homes covers → IsLeaf homes covers leaf → Becomes leaf after → NearestRoot new now later after root → NearestRoot old homes covers leaf root
+  pub came : (leaf after : Leaf) → IsTable homes covers → IsSubtrees old homes covers → IsLive homes covers leaf → Becomes leaf after → NearestRoot new now later after root → NearestRoot old homes covers leaf root
   came leaf after table valid is becomes near =
       let was = some_root old homes covers table valid leaf is in
       let kept = keep leaf after (colour root was.0) is becomes (authority_of root old homes covers leaf was.0 was.1) in

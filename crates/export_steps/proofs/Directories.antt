@@ -1,5 +1,5 @@
 -- A directory comes in, or goes, elsewhere.
-use Rattle.std.specs.Prelude.{◌≡◌, ◌≢◌, ◌⊎◌, ◌↔◌, ◌||◌, ◌==◌, ℕ, Bool, true, false, Option, Some, IsSome, is_some, refl}
+use Rattle.std.specs.Prelude.{◌≡◌, ◌≢◌, ◌⊎◌, ◌↔◌, ◌||◌, ◌==◌, ℕ, true, Option, Some, IsSome, is_some, refl}
 use Rattle.std.proofs.Common.{inl, inr, sym, ap, subst, ◌∙◌}
 use Rattle.std.specs.FinMap as map
 use Rattle.sorted_map.proofs.NatKeys as nat
@@ -7,19 +7,13 @@ use Rattle.mds_types.specs.declared.ids.Ino.{Ino}
 use Rattle.fragtree.specs.FragTree.{HasLeaf, IsPick}
 use Rattle.namehash.specs.Rjenkins.{hash_of}
 use Rattle.inode_table.specs.declared.dirs.Home.{Home}
-use Rattle.inode_table.specs.Dirs.{Homes, Covers, IsChildless, IsTable, MayCome, is_known, leaves_of, or_whole}
+use Rattle.inode_table.specs.Dirs.{Homes, Covers, IsChildless, IsLive, IsTable, MayCome, is_known}
 use Rattle.mds_types.specs.Leaf.{Leaf}
-use Rattle.subtree_map.specs.Authority.{Roots, HoldsDentry, IsInRegion, IsLeaf, IsSubtrees, NearestRoot, itself, inherited}
+use Rattle.subtree_map.specs.Authority.{Roots, HoldsDentry, IsInRegion, IsSubtrees, NearestRoot, itself, inherited}
 use Rattle.subtree_map.specs.Changes.{AreGone}
-use Rattle.inode_table.proofs.Tables.{still_known}
+use Rattle.inode_table.proofs.Tables.{still_known, known_by}
 use Rattle.subtree_map.proofs.Options.{not_none, one_value, value_of}
-
-known_by_home : (homes : Homes) (x : ℕ) (home : Home) → map.get homes x ≡ Some home → is_known homes x ≡ true
-known_by_home homes x home is = ap (λ (o : Option Home). (x == 1) || is_some o) is ∙ go (x == 1)
-  where
-    go : (b : Bool) → (b || true) ≡ true
-    go true = refl
-    go false = refl
+use Rattle.subtree_map.proofs.Covers.{leaves_left}
 
 -- ---- a directory comes in
 
@@ -45,7 +39,7 @@ module _ (root : Leaf) (roots : Roots) (homes : Homes) (covers : Covers) (valid 
 
   known_on_way : (leaf near : Leaf) → NearestRoot roots homes covers leaf near → is_known homes leaf.0.0 ≡ true
   known_on_way _ _ (itself near rank has) = (valid.live near (ap is_some has)).known
-  known_on_way _ _ (inherited leaf holder near place none stands holds rest) = known_by_home homes leaf.0.0 place stands
+  known_on_way _ _ (inherited leaf holder near place none stands holds rest) = known_by homes leaf.0.0 (Some place) stands refl
 
   pub made_elsewhere : (leaf : Leaf) → IsInRegion roots homes covers root leaf ↔ IsInRegion roots (map.insert homes d home) covers root leaf
   made_elsewhere leaf = (
@@ -58,12 +52,9 @@ module _ (root : Leaf) (roots : Roots) (homes : Homes) (covers : Covers) (valid 
 -- ---- a directory goes
 
 module _ (root : Leaf) (old new : Roots) (d : ℕ) (is : AreGone old new d) (homes : Homes) (covers : Covers) (table : IsTable homes covers) (valid : IsSubtrees old homes covers) (childless : IsChildless homes d)
-    (is_root : IsSome (map.get old root)) (outside : (leaf : Leaf) → leaf.0.0 ≡ d → IsLeaf homes covers leaf → NearestRoot old homes covers leaf root → ⊥) where
+    (is_root : IsSome (map.get old root)) (outside : (leaf : Leaf) → leaf.0.0 ≡ d → IsLive homes covers leaf → NearestRoot old homes covers leaf root → ⊥) where
   pub root_elsewhere : root.0.0 ≢ d
   root_elsewhere at = let there = value_of _ is_root in outside root at (valid.live root is_root) (itself root there.0 there.1)
-
-  beside : (e : ℕ) → e ≢ d → leaves_of (map.remove covers d) e ≡ leaves_of covers e
-  beside e apart = ap or_whole (nat.get_left covers d e apart)
 
   gone_goes_on : (leaf near : Leaf) → near ≡ root → leaf.0.0 ≢ d → NearestRoot old homes covers leaf near → NearestRoot new (map.remove homes d) (map.remove covers d) leaf near
   gone_goes_on _ _ same apart (itself near rank has) = itself near rank (is.others near apart ∙ has)
@@ -71,7 +62,7 @@ module _ (root : Leaf) (old new : Roots) (d : ℕ) (is : AreGone old new d) (hom
       let parent : place.parent.0 ≢ d = childless leaf.0.0 place stands in
       inherited leaf holder near place (is.others leaf apart ∙ none) (nat.get_left homes d leaf.0.0 apart ∙ stands) (record {
         parent = holds.parent;
-        pick = subst (λ ls. IsPick ls (hash_of place.name) holder.1) (sym (beside place.parent.0 parent)) holds.pick;
+        pick = subst (λ ls. IsPick ls (hash_of place.name) holder.1) (sym (leaves_left covers d place.parent.0 parent)) holds.pick;
       }) (gone_goes_on holder near same (λ at. parent (ap (λ (p : Ino). p.0) (sym holds.parent) ∙ at)) rest)
 
   gone_came : (leaf near : Leaf) → near ≡ root → NearestRoot new (map.remove homes d) (map.remove covers d) leaf near → NearestRoot old homes covers leaf near × (leaf.0.0 ≢ d)
@@ -84,7 +75,7 @@ module _ (root : Leaf) (old new : Roots) (d : ℕ) (is : AreGone old new d) (hom
       let parent : place.parent.0 ≢ d = childless leaf.0.0 place there in (
         inherited leaf holder near place (sym (is.others leaf apart) ∙ none) there (record {
           parent = holds.parent;
-          pick = subst (λ ls. IsPick ls (hash_of place.name) holder.1) (beside place.parent.0 parent) holds.pick;
+          pick = subst (λ ls. IsPick ls (hash_of place.name) holder.1) (leaves_left covers d place.parent.0 parent) holds.pick;
         }) (gone_came holder near same rest).0,
         apart,
       )
@@ -96,7 +87,7 @@ module _ (root : Leaf) (old new : Roots) (d : ℕ) (is : AreGone old new d) (hom
         record {
           stands = record {
             known = ap (λ (o : Option Home). (leaf.0.0 == 1) || is_some o) (nat.get_left homes d leaf.0.0 apart) ∙ its.stands.known;
-            stands = subst (λ ls. HasLeaf ls leaf.1) (sym (beside leaf.0.0 apart)) its.stands.stands;
+            stands = subst (λ ls. HasLeaf ls leaf.1) (sym (leaves_left covers d leaf.0.0 apart)) its.stands.stands;
           };
           nearest = gone_goes_on leaf root refl apart its.nearest;
         },
@@ -105,7 +96,7 @@ module _ (root : Leaf) (old new : Roots) (d : ℕ) (is : AreGone old new d) (hom
         record {
           stands = record {
             known = ap (λ (o : Option Home). (leaf.0.0 == 1) || is_some o) (sym (nat.get_left homes d leaf.0.0 was.1)) ∙ its.stands.known;
-            stands = subst (λ ls. HasLeaf ls leaf.1) (beside leaf.0.0 was.1) its.stands.stands;
+            stands = subst (λ ls. HasLeaf ls leaf.1) (leaves_left covers d leaf.0.0 was.1) its.stands.stands;
           };
           nearest = was.0;
         },

@@ -2,9 +2,9 @@
 use Rattle.std.specs.Prelude.{◌≢◌, false, Ok, ◌≡◌, ◌↔◌, true, Some, IsSome, is_some}
 use Rattle.std.proofs.Common.{inl, inr, sym, ap, subst, ◌∙◌}
 use Rattle.std.specs.FinMap as map
-use Rattle.inode_table.specs.Dirs.{Homes, Covers}
+use Rattle.inode_table.specs.Dirs.{Homes, Covers, IsLive}
 use Rattle.mds_types.specs.Leaf.{Leaf}
-use Rattle.subtree_map.specs.Authority.{Roots, IsInRegion, IsLeaf, NearestRoot}
+use Rattle.subtree_map.specs.Authority.{Roots, IsInRegion, NearestRoot}
 use Rattle.subtree_map.specs.Changes.{Subtrees, is_inside, leaf_of}
 use Rattle.export_steps.specs.declared.exports.StandingExport.{StandingExport}
 use Rattle.export_steps.specs.Standing.{Standing, ArePlaced, IsFinish, IsFreeze, is_freezing}
@@ -62,7 +62,7 @@ after_merge standing was now homes covers later over is = record {
 }
   where
     thawed : (root : Leaf) (export : StandingExport) → map.get standing root ≡ Some export → is_freezing export.state ≡ true
-        → (leaf : Leaf) → is_inside is.dir is.frag leaf ≡ true → IsLeaf homes covers leaf → NearestRoot was.roots homes covers leaf root → ⊥
+        → (leaf : Leaf) → is_inside is.dir is.frag leaf ≡ true → IsLive homes covers leaf → NearestRoot was.roots homes covers leaf root → ⊥
     thawed root export stands freezing leaf inside stood near = is.thawed leaf inside stood (record { root = root; export = export; nearest = near; stands = stands; freezing = freezing })
 
 pub after_move : (standing : Standing) (was now : Subtrees) (homes later : Homes) (covers : Covers) → StandsOver standing was homes covers → IsMoveElsewhere standing was now homes later covers → AreFrozenRegionsKept standing was now homes later covers covers
@@ -138,7 +138,7 @@ after_removal standing was now homes later_homes covers later_covers over is = r
   };
 }
   where
-    thawed : (root : Leaf) (export : StandingExport) → map.get standing root ≡ Some export → is_freezing export.state ≡ true → (leaf : Leaf) → leaf.0.0 ≡ is.dir → IsLeaf homes covers leaf → NearestRoot was.roots homes covers leaf root → ⊥
+    thawed : (root : Leaf) (export : StandingExport) → map.get standing root ≡ Some export → is_freezing export.state ≡ true → (leaf : Leaf) → leaf.0.0 ≡ is.dir → IsLive homes covers leaf → NearestRoot was.roots homes covers leaf root → ⊥
     thawed root export stands freezing leaf at stood near = is.thawed leaf at stood (record { root = root; export = export; nearest = near; stands = stands; freezing = freezing })
 
     apart : (root : Leaf) (export : StandingExport) → map.get standing root ≡ Some export → is_freezing export.state ≡ true → root.0.0 ≢ is.dir

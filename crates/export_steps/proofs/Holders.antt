@@ -3,9 +3,9 @@ use Rattle.std.specs.Prelude.{◌≡◌, ◌↔◌, IsTrue, Bool, true, false, c
 use Rattle.std.proofs.Common.{sym, ap, ◌∙◌}
 use Rattle.std.specs.FinMap as map
 use Rattle.mds_types.specs.declared.ids.Rank.{Rank}
-use Rattle.inode_table.specs.Dirs.{Homes, Covers, IsTable}
+use Rattle.inode_table.specs.Dirs.{Homes, Covers, IsLive, IsTable}
 use Rattle.mds_types.specs.Leaf.{Leaf}
-use Rattle.subtree_map.specs.Authority.{Roots, IsLeaf, IsSubtrees, NearestRoot, itself}
+use Rattle.subtree_map.specs.Authority.{Roots, IsSubtrees, NearestRoot, itself}
 use Rattle.subtree_map.proofs.Options.{not_none, one_value}
 use Rattle.subtree_map.proofs.Nearest.{one_root, is_ranked, some_root}
 use Rattle.export_steps.specs.declared.exports.StandingExport.{StandingExport}
@@ -57,7 +57,7 @@ module _ (standing : Standing) (roots : Roots) (homes : Homes) (covers : Covers)
       one_value _ a b (ap (λ (r : Leaf). region_holder (map.get standing r) (map.get roots r)) (sym same) ∙ p.holds) q.holds
 
   -- and where it is a leaf, it has one
-  pub some_holder : IsTable homes covers → IsSubtrees roots homes covers → IsLeaf homes covers leaf → (rank : Rank) × HasHolder standing roots homes covers leaf rank
+  pub some_holder : IsTable homes covers → IsSubtrees roots homes covers → IsLive homes covers leaf → (rank : Rank) × HasHolder standing roots homes covers leaf rank
   some_holder table valid stands =
       let near = some_root roots homes covers table valid leaf stands in
       let ranked = is_ranked roots homes covers leaf near.0 near.1 in

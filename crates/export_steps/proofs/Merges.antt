@@ -5,22 +5,22 @@ use Rattle.std.specs.FinMap as map
 use Rattle.sorted_map.proofs.NatKeys as nat
 use Rattle.mds_types.specs.declared.ids.Rank.{Rank}
 use Rattle.mds_types.specs.Frag.{Fragment}
-use Rattle.fragtree.specs.FragTree.{CanMerge, HasLeaf, IsMerge, IsTree, lies_inside}
-use Rattle.inode_table.specs.Dirs.{Homes, Covers, IsTable, is_known, leaves_of}
+use Rattle.fragtree.specs.FragTree.{CanMerge, HasLeaf, IsMerge, IsTree}
+use Rattle.inode_table.specs.Dirs.{Homes, Covers, IsLive, IsTable, is_known, leaves_of}
+use Rattle.inode_table.proofs.Tables.{tree_of_row}
 use Rattle.mds_types.specs.Leaf.{Leaf}
-use Rattle.subtree_map.specs.Authority.{Roots, HasAuthority, IsInRegion, IsLeaf, IsSubtrees, NearestRoot, itself}
+use Rattle.subtree_map.specs.Authority.{Roots, HasAuthority, IsInRegion, IsSubtrees, NearestRoot, itself}
 use Rattle.subtree_map.specs.Changes.{BecomesMerged, HaveOneAuthority, IsRootMerge, KeepAuthority, is_inside, leaf_of}
 use Rattle.subtree_map.proofs.Options.{one_value, value_of}
-use Rattle.subtree_map.proofs.Nearest.{tree_of_row}
-use Rattle.subtree_map.proofs.Covers.{leaves_here, leaves_beside, merged_is_new, some_inside}
-use Rattle.subtree_map.proofs.Merged.{inside_at, inside_of, is_within, merges_soundly}
+use Rattle.subtree_map.proofs.Covers.{merged_is_new, some_inside, leaves_now, leaves_still}
+use Rattle.subtree_map.proofs.Merged.{is_within, merges_soundly, elsewhere_out, here_out, outside_of}
 use Rattle.subtree_map.proofs.Split.{stands_beside, stands_here}
 use Rattle.export_steps.proofs.Coloured.{colour, coloured, came, goes_on, nearest_of, of_other, paint_none, paint_same, paint_some, painted_some, valid_to}
 
 module _ (root : Leaf) (old new : Roots) (d : ℕ) (f : Fragment) (is : IsRootMerge old new d f) (homes : Homes) (covers later : Covers) (to : List Fragment) (table : IsTable homes covers) (valid : IsSubtrees old homes covers)
     (can : CanMerge (leaves_of covers d) f) (merge : IsMerge (leaves_of covers d) to f) (tree : IsTree to) (changed : later ≡ map.insert covers d to)
-    (is_root : IsSome (map.get old root)) (outside : (leaf : Leaf) → is_inside d f leaf ≡ true → IsLeaf homes covers leaf → NearestRoot old homes covers leaf root → ⊥) where
-  root_stands : IsLeaf homes covers root
+    (is_root : IsSome (map.get old root)) (outside : (leaf : Leaf) → is_inside d f leaf ≡ true → IsLive homes covers leaf → NearestRoot old homes covers leaf root → ⊥) where
+  root_stands : IsLive homes covers root
   root_stands = valid.live root is_root
 
   own : NearestRoot old homes covers root root
@@ -67,7 +67,7 @@ module _ (root : Leaf) (old new : Roots) (d : ℕ) (f : Fragment) (is : IsRootMe
   }
 
   -- the merged leaves are of other colours alike
-  outside_colour : (leaf : Leaf) (rank : Rank) → is_inside d f leaf ≡ true → IsLeaf homes covers leaf → HasAuthority (coloured root old) homes covers leaf rank → rank ≡ record { 0 = 0 }
+  outside_colour : (leaf : Leaf) (rank : Rank) → is_inside d f leaf ≡ true → IsLive homes covers leaf → HasAuthority (coloured root old) homes covers leaf rank → rank ≡ record { 0 = 0 }
   outside_colour leaf rank inside stood has =
       let near = nearest_of root old homes covers leaf rank has in
       near.2 ∙ of_other root near.0 (λ same. outside leaf inside stood (subst (NearestRoot old homes covers leaf) same near.1))
@@ -78,58 +78,31 @@ module _ (root : Leaf) (old new : Roots) (d : ℕ) (f : Fragment) (is : IsRootMe
   keep : KeepAuthority (coloured root old) (coloured root new) homes homes covers later (BecomesMerged d f)
   keep = (merges_soundly (coloured root old) (coloured root new) d f merge_coloured homes covers later to table (valid_to root old homes covers valid) one_colour can merge tree changed).0
 
-  here : leaves_of later d ≡ to
-  here = ap (λ c. leaves_of c d) changed ∙ leaves_here covers d to
-
-  beside : (e : ℕ) → e ≢ d → leaves_of later e ≡ leaves_of covers e
-  beside e apart = ap (λ c. leaves_of c e) changed ∙ leaves_beside covers d to e apart
-
-  elsewhere_out : (leaf : Leaf) → leaf.0.0 ≢ d → is_inside d f leaf ≡ false
-  elsewhere_out leaf apart = go (is_inside d f leaf) refl
-    where
-      go : (b : Bool) → is_inside d f leaf ≡ b → b ≡ false
-      go false at = refl
-      go true inside = absurd (apart (inside_at d f leaf inside))
-
-  here_out : (leaf : Leaf) → lies_inside f leaf.1 ≡ false → is_inside d f leaf ≡ false
-  here_out leaf out = go (is_inside d f leaf) refl
-    where
-      go : (b : Bool) → is_inside d f leaf ≡ b → b ≡ false
-      go false at = refl
-      go true inside = let clash : true ≡ false = sym (inside_of d f leaf inside) ∙ out in cc
-
-  lies_out : (leaf : Leaf) → leaf.0.0 ≡ d → is_inside d f leaf ≡ false → lies_inside f leaf.1 ≡ false
-  lies_out leaf at out = go (lies_inside f leaf.1) refl
-    where
-      go : (b : Bool) → lies_inside f leaf.1 ≡ b → b ≡ false
-      go false is_out = refl
-      go true inside = let clash : true ≡ false = sym (is_within d f leaf at inside) ∙ out in cc
-
   -- a leaf that stands goes on to stand, but for those that are merged
-  still : (leaf : Leaf) → IsLeaf homes covers leaf → is_inside d f leaf ≡ false → IsLeaf homes later leaf
+  still : (leaf : Leaf) → IsLive homes covers leaf → is_inside d f leaf ≡ false → IsLive homes later leaf
   still leaf stood out = go (nat.same_or_apart leaf.0.0 d)
     where
-      go : (leaf.0.0 ≡ d) ⊎ (leaf.0.0 ≢ d) → IsLeaf homes later leaf
+      go : (leaf.0.0 ≡ d) ⊎ (leaf.0.0 ≢ d) → IsLive homes later leaf
       go (inr elsewhere) = stands_beside homes covers later d to changed leaf elsewhere stood
       go (inl at) =
           stands_here homes covers later d to changed leaf at (subst (λ e. is_known homes e ≡ true) at stood.known)
-          ((merge.leaves leaf.1).1 (inl (subst (λ e. HasLeaf (leaves_of covers e) leaf.1) at stood.stands, lies_out leaf at out)))
+          ((merge.leaves leaf.1).1 (inl (subst (λ e. HasLeaf (leaves_of covers e) leaf.1) at stood.stands, outside_of d f leaf at out)))
 
   -- what stands afterwards stood before, or came of those that are merged
-  origin : (leaf : Leaf) → IsLeaf homes later leaf → (was : Leaf) × IsLeaf homes covers was × BecomesMerged d f was leaf
+  origin : (leaf : Leaf) → IsLive homes later leaf → (was : Leaf) × IsLive homes covers was × BecomesMerged d f was leaf
   origin leaf stands = go (nat.same_or_apart leaf.0.0 d)
     where
-      go : (leaf.0.0 ≡ d) ⊎ (leaf.0.0 ≢ d) → (was : Leaf) × IsLeaf homes covers was × BecomesMerged d f was leaf
+      go : (leaf.0.0 ≡ d) ⊎ (leaf.0.0 ≢ d) → (was : Leaf) × IsLive homes covers was × BecomesMerged d f was leaf
       go (inr elsewhere) = (
         leaf,
-        record { known = stands.known; stands = subst (λ ls. HasLeaf ls leaf.1) (beside leaf.0.0 elsewhere) stands.stands },
-        inl (elsewhere_out leaf elsewhere, refl),
+        record { known = stands.known; stands = subst (λ ls. HasLeaf ls leaf.1) (leaves_still covers later d to changed leaf.0.0 elsewhere) stands.stands },
+        inl (elsewhere_out d f leaf elsewhere, refl),
       )
-      go (inl at) = elim ((merge.leaves leaf.1).0 (subst (λ ls. HasLeaf ls leaf.1) (ap (leaves_of later) at ∙ here) stands.stands)) [
+      go (inl at) = elim ((merge.leaves leaf.1).0 (subst (λ ls. HasLeaf ls leaf.1) (ap (leaves_of later) at ∙ leaves_now covers later d to changed) stands.stands)) [
         | inl (before, out) ↦ (
           leaf,
           record { known = stands.known; stands = subst (λ e. HasLeaf (leaves_of covers e) leaf.1) (sym at) before },
-          inl (here_out leaf out, refl),
+          inl (here_out d f leaf out, refl),
         )
         | inr merged ↦
             let inside = some_inside (leaves_of covers d) f can.some in (
@@ -151,7 +124,7 @@ module _ (root : Leaf) (old new : Roots) (d : ℕ) (f : Fragment) (is : IsRootMe
         let from = origin leaf its.stands in
         let near = came root old new homes homes covers later (BecomesMerged d f) keep from.0 leaf table valid from.1 from.2 its.nearest in
         elim from.2 [
-          | inl (out, same) ↦ record { stands = subst (IsLeaf homes covers) (sym same) from.1; nearest = subst (λ k. NearestRoot old homes covers k root) (sym same) near }
+          | inl (out, same) ↦ record { stands = subst (IsLive homes covers) (sym same) from.1; nearest = subst (λ k. NearestRoot old homes covers k root) (sym same) near }
           | inr (inside, merged) ↦ absurd (outside from.0 inside from.1 near)
         ],
   )

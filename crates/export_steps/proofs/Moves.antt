@@ -1,5 +1,5 @@
 -- A directory moves between leaves of other regions.
-use Rattle.std.specs.Prelude.{◌≡◌, ◌≢◌, ◌⊎◌, ◌↔◌, ◌||◌, ◌==◌, ℕ, Bool, true, false, Some, IsSome, is_some, refl}
+use Rattle.std.specs.Prelude.{◌≡◌, ◌≢◌, ◌⊎◌, ◌↔◌, ◌||◌, ◌==◌, ℕ, true, Some, IsSome, is_some, refl}
 use Rattle.std.proofs.Common.{inl, inr, sym, ap, subst, ◌∙◌}
 use Rattle.std.specs.FinMap as map
 use Rattle.sorted_map.proofs.NatKeys as nat
@@ -8,7 +8,7 @@ use Rattle.inode_table.specs.Dirs.{Homes, Covers, MayMove, is_known}
 use Rattle.mds_types.specs.Leaf.{Leaf}
 use Rattle.subtree_map.specs.Authority.{Roots, HoldsDentry, IsInRegion, NearestRoot, itself, inherited}
 use Rattle.subtree_map.specs.Moves.{IsSettled}
-use Rattle.inode_table.proofs.Tables.{still_known}
+use Rattle.inode_table.proofs.Tables.{still_known, known_by}
 use Rattle.subtree_map.proofs.Options.{one_value, value_of}
 
 module _ (root : Leaf) (old new : Roots) (homes : Homes) (covers : Covers) (d : ℕ) (home : Home) (is : IsSettled old new homes covers d home) (may : MayMove homes d home) (is_root : IsSome (map.get old root))
@@ -35,12 +35,8 @@ module _ (root : Leaf) (old new : Roots) (homes : Homes) (covers : Covers) (d : 
   was_known : (x : ℕ) → is_known (map.insert homes d home) x ≡ true → is_known homes x ≡ true
   was_known x known = go (nat.same_or_apart x d)
     where
-      either : (b : Bool) → (b || true) ≡ true
-      either true = refl
-      either false = refl
-
       go : (x ≡ d) ⊎ (x ≢ d) → is_known homes x ≡ true
-      go (inl at) = ap (λ s. (x == 1) || s) (ap (λ e. is_some (map.get homes e)) at ∙ may.there) ∙ either (x == 1)
+      go (inl at) = known_by homes x (map.get homes x) refl (ap (λ e. is_some (map.get homes e)) at ∙ may.there)
       go (inr apart) = ap (λ (o : _). (x == 1) || is_some o) (sym (nat.get_beside homes d home x apart)) ∙ known
 
   pub move_elsewhere : (leaf : Leaf) → IsInRegion old homes covers root leaf ↔ IsInRegion new (map.insert homes d home) covers root leaf

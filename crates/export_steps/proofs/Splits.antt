@@ -5,13 +5,13 @@ use Rattle.std.specs.FinMap as map
 use Rattle.sorted_map.proofs.NatKeys as nat
 use Rattle.mds_types.specs.Frag.{Fragment}
 use Rattle.fragtree.specs.FragTree.{FitsSplit, HasLeaf, IsChild, IsSplit, IsTree}
-use Rattle.inode_table.specs.Dirs.{Homes, Covers, IsTable, is_known, leaves_of}
+use Rattle.inode_table.specs.Dirs.{Homes, Covers, IsLive, IsTable, is_known, leaves_of}
+use Rattle.inode_table.proofs.Tables.{tree_of_row}
 use Rattle.mds_types.specs.Leaf.{Leaf}
-use Rattle.subtree_map.specs.Authority.{Roots, IsInRegion, IsLeaf, IsSubtrees, NearestRoot, itself}
+use Rattle.subtree_map.specs.Authority.{Roots, IsInRegion, IsSubtrees, NearestRoot, itself}
 use Rattle.subtree_map.specs.Changes.{BecomesSplit, IsRootSplit, KeepAuthority, leaf_of}
 use Rattle.subtree_map.proofs.Options.{value_of}
-use Rattle.subtree_map.proofs.Nearest.{tree_of_row}
-use Rattle.subtree_map.proofs.Covers.{leaves_here, leaves_beside, child_is_new}
+use Rattle.subtree_map.proofs.Covers.{child_is_new, leaves_now, leaves_still}
 use Rattle.subtree_map.proofs.Split.{splits_soundly, stands_beside, stands_here}
 use Rattle.export_steps.proofs.Coloured.{coloured, came, goes_on, of_other, paint_none, paint_same, paint_some, painted_some, valid_to}
 
@@ -49,17 +49,11 @@ module _ (root : Leaf) (old new : Roots) (d : ℕ) (f : Fragment) (nb : ℕ) (is
   keep : KeepAuthority (coloured root old) (coloured root new) homes homes covers later (BecomesSplit d f nb)
   keep = (splits_soundly (coloured root old) (coloured root new) d f nb split_coloured homes covers later to table (valid_to root old homes covers valid) split has fits tree changed).0
 
-  here : leaves_of later d ≡ to
-  here = ap (λ c. leaves_of c d) changed ∙ leaves_here covers d to
-
-  beside : (e : ℕ) → e ≢ d → leaves_of later e ≡ leaves_of covers e
-  beside e apart = ap (λ c. leaves_of c e) changed ∙ leaves_beside covers d to e apart
-
   -- a leaf that stands goes on to stand, but for the one that is split
-  still : (leaf : Leaf) → IsLeaf homes covers leaf → leaf ≢ leaf_of d f → IsLeaf homes later leaf
+  still : (leaf : Leaf) → IsLive homes covers leaf → leaf ≢ leaf_of d f → IsLive homes later leaf
   still leaf stood apart = go (nat.same_or_apart leaf.0.0 d)
     where
-      go : (leaf.0.0 ≡ d) ⊎ (leaf.0.0 ≢ d) → IsLeaf homes later leaf
+      go : (leaf.0.0 ≡ d) ⊎ (leaf.0.0 ≢ d) → IsLive homes later leaf
       go (inr elsewhere) = stands_beside homes covers later d to changed leaf elsewhere stood
       go (inl at) =
           let other : leaf.1 ≢ f = λ same. apart (λ i. (record { 0 = at i }, same i)) in
@@ -67,16 +61,16 @@ module _ (root : Leaf) (old new : Roots) (d : ℕ) (f : Fragment) (nb : ℕ) (is
           stands_here homes covers later d to changed leaf at (subst (λ e. is_known homes e ≡ true) at stood.known) ((split.leaves leaf.1).1 (inl (before, other)))
 
   -- what stands afterwards stood before, or is a child of the one that is split
-  origin : (leaf : Leaf) → IsLeaf homes later leaf → (was : Leaf) × IsLeaf homes covers was × BecomesSplit d f nb was leaf
+  origin : (leaf : Leaf) → IsLive homes later leaf → (was : Leaf) × IsLive homes covers was × BecomesSplit d f nb was leaf
   origin leaf stands = go (nat.same_or_apart leaf.0.0 d)
     where
-      go : (leaf.0.0 ≡ d) ⊎ (leaf.0.0 ≢ d) → (was : Leaf) × IsLeaf homes covers was × BecomesSplit d f nb was leaf
+      go : (leaf.0.0 ≡ d) ⊎ (leaf.0.0 ≢ d) → (was : Leaf) × IsLive homes covers was × BecomesSplit d f nb was leaf
       go (inr elsewhere) = (
         leaf,
-        record { known = stands.known; stands = subst (λ ls. HasLeaf ls leaf.1) (beside leaf.0.0 elsewhere) stands.stands },
+        record { known = stands.known; stands = subst (λ ls. HasLeaf ls leaf.1) (leaves_still covers later d to changed leaf.0.0 elsewhere) stands.stands },
         inl (λ same. elsewhere (ap (λ (k : Leaf). k.0.0) same), refl),
       )
-      go (inl at) = elim ((split.leaves leaf.1).0 (subst (λ ls. HasLeaf ls leaf.1) (ap (leaves_of later) at ∙ here) stands.stands)) [
+      go (inl at) = elim ((split.leaves leaf.1).0 (subst (λ ls. HasLeaf ls leaf.1) (ap (leaves_of later) at ∙ leaves_now covers later d to changed) stands.stands)) [
         | inl (before, other) ↦ (
           leaf,
           record { known = stands.known; stands = subst (λ e. HasLeaf (leaves_of covers e) leaf.1) (sym at) before },
@@ -101,7 +95,7 @@ module _ (root : Leaf) (old new : Roots) (d : ℕ) (f : Fragment) (nb : ℕ) (is
         let from = origin leaf its.stands in
         let near = came root old new homes homes covers later (BecomesSplit d f nb) keep from.0 leaf table valid from.1 from.2 its.nearest in
         elim from.2 [
-          | inl (apart, same) ↦ record { stands = subst (IsLeaf homes covers) (sym same) from.1; nearest = subst (λ k. NearestRoot old homes covers k root) (sym same) near }
+          | inl (apart, same) ↦ record { stands = subst (IsLive homes covers) (sym same) from.1; nearest = subst (λ k. NearestRoot old homes covers k root) (sym same) near }
           | inr (itself_split, child) ↦ absurd (outside (subst (λ k. NearestRoot old homes covers k root) itself_split near))
         ],
   )

@@ -4,9 +4,9 @@ use Rattle.std.specs.FinMap as map
 use Rattle.mds_types.specs.Frag.{Fragment}
 use Rattle.fragtree.specs.FragTree.{CanMerge, FitsSplit, HasLeaf, IsMerge, IsSplit, IsTree}
 use Rattle.inode_table.specs.declared.dirs.Home.{Home}
-use Rattle.inode_table.specs.Dirs.{Homes, Covers, IsChildless, IsTable, MayCome, MayMove, leaves_of}
+use Rattle.inode_table.specs.Dirs.{Homes, Covers, IsChildless, IsLive, IsTable, MayCome, MayMove, leaves_of}
 use Rattle.mds_types.specs.Leaf.{Leaf}
-use Rattle.subtree_map.specs.Authority.{HoldsDentry, IsInRegion, IsLeaf, IsSubtrees}
+use Rattle.subtree_map.specs.Authority.{HoldsDentry, IsInRegion, IsSubtrees}
 use Rattle.subtree_map.specs.Changes.{AreGone, IsRootMerge, IsRootSplit, Subtrees, is_inside, leaf_of}
 use Rattle.subtree_map.specs.Moves.{IsSettled}
 use Rattle.export_steps.specs.declared.exports.StandingExport.{StandingExport}
@@ -45,7 +45,7 @@ pub record IsMergeElsewhere (standing : Standing) (was now : Subtrees) (homes : 
   pub dir : ℕ
   pub frag : Fragment
   pub leaves : List Fragment
-  pub thawed : (leaf : Leaf) → is_inside dir frag leaf ≡ true → IsLeaf homes covers leaf → IsFrozen standing was.roots homes covers leaf → ⊥
+  pub thawed : (leaf : Leaf) → is_inside dir frag leaf ≡ true → IsLive homes covers leaf → IsFrozen standing was.roots homes covers leaf → ⊥
   pub can : CanMerge (leaves_of covers dir) frag
   pub merge : IsMerge (leaves_of covers dir) leaves frag
   pub tree : IsTree leaves
@@ -77,7 +77,7 @@ pub record IsRemovalElsewhere (standing : Standing) (was now : Subtrees) (homes 
   pub dir : ℕ
   pub below : dir ≢ 1
   pub childless : IsChildless homes dir
-  pub thawed : (leaf : Leaf) → leaf.0.0 ≡ dir → IsLeaf homes covers leaf → IsFrozen standing was.roots homes covers leaf → ⊥
+  pub thawed : (leaf : Leaf) → leaf.0.0 ≡ dir → IsLive homes covers leaf → IsFrozen standing was.roots homes covers leaf → ⊥
   pub home_gone : later_homes ≡ map.remove homes dir
   pub leaves_gone : later_covers ≡ map.remove covers dir
   pub roots : AreGone was.roots now.roots dir

@@ -1,9 +1,9 @@
 //! Laws of exports, for the crates that hold them. A law is its contract: its body does nothing.
 ghost use Rattle.std.specs.Prelude.{◌≡◌, ◌↔◌};
 ghost use Rattle.mds_types.specs.declared.ids.Rank.{Rank};
-ghost use Rattle.inode_table.specs.Dirs.{Homes, Covers, IsTable};
+ghost use Rattle.inode_table.specs.Dirs.{Homes, Covers, IsLive, IsTable};
 ghost use Rattle.mds_types.specs.Leaf.{Leaf};
-ghost use Rattle.subtree_map.specs.Authority.{HasAuthority, IsInRegion, IsLeaf, IsSubtrees, Roots};
+ghost use Rattle.subtree_map.specs.Authority.{HasAuthority, IsInRegion, IsSubtrees, Roots};
 ghost use Rattle.subtree_map.specs.Changes.{Subtrees as SubtreesSeen};
 ghost use Rattle.export_steps.specs.Standing.{ArePlaced, ComesTo, IsCancel, IsFinish, IsFreeze, Standing};
 ghost use Rattle.export_steps.specs.declared.exports.ExportState.TheVariants as state;
@@ -13,7 +13,7 @@ ghost use Rattle.export_steps.specs.Regions.{AreFrozenRegionsKept, IsMakingElsew
 
 /// Each leaf has a holder, and no other.
 pub fn each_leaf_has_one_holder()
-    ensures some { (standing : Standing) (roots : Roots) (homes : Homes) (covers : Covers) (leaf : Leaf) → IsTable homes covers → IsSubtrees roots homes covers → IsLeaf homes covers leaf → (rank : Rank) × HasHolder standing roots homes covers leaf rank }
+    ensures some { (standing : Standing) (roots : Roots) (homes : Homes) (covers : Covers) (leaf : Leaf) → IsTable homes covers → IsSubtrees roots homes covers → IsLive homes covers leaf → (rank : Rank) × HasHolder standing roots homes covers leaf rank }
     ensures one { (standing : Standing) (roots : Roots) (homes : Homes) (covers : Covers) (leaf : Leaf) (a b : Rank) → HasHolder standing roots homes covers leaf a → HasHolder standing roots homes covers leaf b → a ≡ b }
 {}
 

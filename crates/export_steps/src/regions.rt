@@ -2,7 +2,8 @@
 ghost use Rattle.std.specs.Prelude.{◌≡◌, ◌↔◌, MatchOption, IsTrue};
 ghost use Rattle.std.specs.FinMap as map;
 ghost use Rattle.mds_types.specs.declared.ids.Rank.{Rank as RankNumber};
-ghost use Rattle.subtree_map.specs.Authority.{IsLeaf, IsSubtrees};
+ghost use Rattle.inode_table.specs.Dirs.{IsLive};
+ghost use Rattle.subtree_map.specs.Authority.{IsSubtrees};
 ghost use Rattle.export_steps.specs.Holder.{HasHolder, IsFrozen, region_holder};
 
 use crate::exports::{ExportState, Exports};
@@ -28,7 +29,7 @@ impl Exports {
     /// The holder of a leaf: the importer where the export of its nearest root is imported, otherwise the leaf's authority.
     /// Takes no memory, and asks for that root alone.
     pub fn holder(&self, subtrees: &Subtrees, dirs: &Dirs, dir: Ino, frag: Frag) -> Rank
-        requires leaf { IsLeaf dirs.now.homes dirs.now.trees (dir, frag) }
+        requires leaf { IsLive dirs.now.homes dirs.now.trees (dir, frag) }
         requires valid { IsSubtrees subtrees.now.roots dirs.now.homes dirs.now.trees }
         ensures { HasHolder self.now subtrees.now.roots dirs.now.homes dirs.now.trees (dir, frag) result }
     {

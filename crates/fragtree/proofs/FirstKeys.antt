@@ -3,8 +3,8 @@ use Rattle.std.proofs.Common.{◌≡◌, ◌⊎◌, inl, inr, ◌<◌, ◌≤◌
 use Rattle.std.proofs.lemmas.Bool.{cases_lt}
 use Rattle.std.specs.declared.cmp.Ordering.{Ordering}
 use Rattle.std.specs.declared.cmp.Ordering.TheVariants.{Less, Equal, Greater}
-use Rattle.std.specs.Ordering.{nat_cmp, ordering_then, is_lt, is_le}
-use Rattle.std.specs.Cmp.{nat_cmp_is}
+use Rattle.std.specs.Ordering.{nat_cmp, ordering_then, is_lt, is_le, MatchOrdering}
+use Rattle.std.specs.Cmp.{nat_cmp_is, ranks}
 use Rattle.std.specs.FinMap as map
 use Rattle.std.specs.FinMap.{find, is_sorted, get-entries, entries_sorted}
 use Rattle.std.specs.FinMap.Entries.{where_key, below_all, find-where_key, is_sorted-where_key}
@@ -16,6 +16,17 @@ use Rattle.fragtree.specs.Descents.{Splits}
 use Rattle.fragtree.proofs.Entries.{apart, itself}
 use Rattle.fragtree.proofs.Ranges.{span_pos, ends_before, quotient_from_range, range_from_quotient}
 
+-- the order of fragments
+frag_le_by : (v w b c : ℕ) (r s : Ordering) → MatchOrdering r (v < w) (v ≡ w) (w < v) → MatchOrdering s (b < c) (b ≡ c) (c < b) → is_le (ordering_then r s) ≡ true → (v < w) ⊎ ((v ≡ w) × (b ≤ c))
+frag_le_by v w b c Less s h k le = inl h
+frag_le_by v w b c Equal Less h k le = inr (h, omega arith)
+frag_le_by v w b c Equal Equal h k le = inr (h, omega arith)
+frag_le_by v w b c Equal Greater h k le = cc
+frag_le_by v w b c Greater s h k le = cc
+
+pub frag_le : (f g : Fragment) → is_le (frag_cmp f g) ≡ true → (f.value < g.value) ⊎ ((f.value ≡ g.value) × (f.bits ≤ g.bits))
+frag_le f g le = frag_le_by f.value g.value f.bits g.bits (nat_cmp f.value g.value) (nat_cmp f.bits g.bits) (ranks f.value g.value) (ranks f.bits g.bits) le
+
 module _ (f e : Fragment) where
   by_values : (r : Ordering) → r ≡ nat_cmp f.value e.value → frag_cmp f e ≡ ordering_then r (nat_cmp f.bits e.bits)
   by_values r is = ap (λ o. ordering_then o (nat_cmp f.bits e.bits)) (sym is)
@@ -24,22 +35,6 @@ module _ (f e : Fragment) where
   value_rises less = elim (cases_lt e.value f.value) [
     | inl below ↦ absurd (subst (λ r. T (is_lt r)) (by_values Greater (nat_cmp_is f.value e.value Greater below)) less)
     | inr above ↦ omega arith
-  ]
-
-  from_tells : is_le (frag_cmp f e) ≡ true → (f.value < e.value) ⊎ ((f.value ≡ e.value) × (f.bits ≤ e.bits))
-  from_tells from = elim (cases_lt f.value e.value) [
-    | inl less ↦ inl less
-    | inr more ↦ elim (cases_lt e.value f.value) [
-      | inl below ↦ let clash : false ≡ true = sym (ap is_le (by_values Greater (nat_cmp_is f.value e.value Greater below))) ∙ from in cc
-      | inr above ↦
-          let same : f.value ≡ e.value = omega arith in
-          elim (cases_lt e.bits f.bits) [
-            | inl fewer ↦
-                let bits : frag_cmp f e ≡ Greater = by_values Equal (nat_cmp_is f.value e.value Equal same) ∙ sym (nat_cmp_is f.bits e.bits Greater fewer) in
-                let clash : false ≡ true = sym (ap is_le bits) ∙ from in cc
-            | inr some ↦ inr (same, some)
-          ]
-    ]
   ]
 
   from_told : f.value ≤ e.value → f.bits ≤ e.bits → is_le (frag_cmp f e) ≡ true
@@ -102,7 +97,7 @@ within_from f g fragment (more, same) =
 
 -- and what stands from f on, and begins before the end of f, lies within it
 pub from_within : (f g : Fragment) → IsFragment f → IsFragment g → is_from frag_cmp f g ≡ true → g.value < f.value + span f.bits → ContainsFragment f g
-from_within f g hf hg from below = elim (from_tells f g from) [
+from_within f g hf hg from below = elim (frag_le f g from) [
   | inr tied ↦ (tied.1, quotient_from_range f.value g.value (span f.bits) (span_pos f.bits) hf.justified (omega (arith, tied.0)) below)
   | inl less ↦
       let not_coarse : g.bits ≤ f.bits → ⊥ = λ coarse. omega (arith, ends_before g f hg hf coarse less, below) in

@@ -12,6 +12,7 @@ use Rattle.fragtree.proofs.Places.{IsPlace, StandFrom, leaf_at}
 use Rattle.fragtree.proofs.Ranges.{span_pos, span_falls, ends_before, ends_within, lies_inside-true, range_from_inside}
 use Rattle.fragtree.proofs.Tilings.{around, between, in_order, low_le_high, one_place, tiles-append}
 use Rattle.fragtree.proofs.Splits.{at_place}
+use Rattle.fragtree.proofs.TreeLaws.{only_leaf}
 
 -- tiles up to the end of the leaf at a place, and from there on
 pub around_end : (low high : ℕ) (xs : List Fragment) (i : ℕ) → Tiles low high xs → i < length xs
@@ -37,10 +38,6 @@ in_three xs from to le =
 -- the front of a list in two parts
 take-add : (n m : ℕ) (xs : List Fragment) → take (n + m) xs ≡ take n xs ++ take m (drop n xs)
 take-add n m xs = sym (take-append-drop n (take (n + m) xs)) ∙ ap (λ ys. ys ++ drop n (take (n + m) xs)) (take-take n (n + m) xs (omega arith)) ∙ ap (λ ys. take n xs ++ ys) (drop-take n m xs)
-
-only_leaf : (f g : Fragment) → HasLeaf (f ∷ []) g → g ≡ f
-only_leaf f g (zero, stands, is) = sym is
-only_leaf f g (suc k, stands, is) = absurd (omega (arith, stands))
 
 module _ (f : Fragment) (h : IsFragment f) where
   not_inside : (g : Fragment) → (lies_inside f g ≡ true → ⊥) → lies_inside f g ≡ false

@@ -11,6 +11,7 @@ use Rattle.fragtree.specs.FragTree.{Tiles, IsTree, HasLeaf, FitsSplit, IsChild, 
 use Rattle.fragtree.proofs.Places.{leaf_at, first_children}
 use Rattle.fragtree.proofs.Ranges.{span_pos}
 use Rattle.fragtree.proofs.Tilings.{tiles-append, around, between}
+use Rattle.fragtree.proofs.TreeLaws.{only_leaf}
 
 -- a list is what stands before a place, what stands there and what stands after it
 pub at_place : (xs : List Fragment) (i : ℕ) → i < length xs → xs ≡ take i xs ++ leaf_at xs i ∷ drop (suc i) xs
@@ -73,13 +74,10 @@ module _ (f : Fragment) (nb : ℕ) (front back : List Fragment) (before : Tiles 
       elim (Contains-append_cases front (f ∷ back) g stands) [
         | inl here ↦ Contains-append_left (front ++ first_children f nb (2 ^ nb)) back g (Contains-append_left front (first_children f nb (2 ^ nb)) g here)
         | inr last ↦ elim (Contains-append_cases (f ∷ []) back g last) [
-          | inl here ↦ absurd (other (only g here))
+          | inl here ↦ absurd (other (only_leaf f g here))
           | inr here ↦ Contains-append_right (front ++ first_children f nb (2 ^ nb)) back g here
         ]
-      ] where
-        only : (g : Fragment) → HasLeaf (f ∷ []) g → g ≡ f
-        only g (zero, stands, is) = sym is
-        only g (suc k, stands, is) = absurd (omega (arith, stands))
+      ]
 
   splits_between : IsFragment f → FitsSplit f nb → length (front ++ f ∷ back) - 1 + 2 ^ nb ≤ 4096
       → IsTree (front ++ first_children f nb (2 ^ nb) ++ back) × IsSplit (front ++ f ∷ back) (front ++ first_children f nb (2 ^ nb) ++ back) f nb

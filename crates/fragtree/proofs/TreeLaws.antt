@@ -32,6 +32,13 @@ first_or_later f g fs (suc k, stands, is) = inr (k, omega (arith, stands), is)
 pub later : (f g : Fragment) (fs : List Fragment) → HasLeaf fs g → HasLeaf (f ∷ fs) g
 later f g fs (k, stands, is) = (suc k, omega (arith, stands), is)
 
+pub first : (f : Fragment) (fs : List Fragment) → HasLeaf (f ∷ fs) f
+first f fs = (zero, omega arith, refl)
+
+pub only_leaf : (f g : Fragment) → HasLeaf (f ∷ []) g → g ≡ f
+only_leaf f g (zero, stands, is) = sym is
+only_leaf f g (suc k, stands, is) = absurd (omega (arith, stands))
+
 pub same_tiles : (low high : ℕ) (xs ys : List Fragment) → Tiles low high xs → Tiles low high ys → ((g : Fragment) → HasLeaf xs g → HasLeaf ys g) → xs ≡ ys
 same_tiles low high [] [] t u h = refl
 same_tiles low high [] (g ∷ gs) t u h = absurd (omega (arith, t, span_pos g.bits, low_le_high (low + span g.bits) high gs u.2))

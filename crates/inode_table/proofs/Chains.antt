@@ -32,7 +32,7 @@ parent_reaches homes (suc n) x home rootless is (other, stands, reaches) =
     (n, refl, subst (λ (h : Home). Reaches homes n h.parent.0) alike reaches)
 
 -- a known directory reaches the root
-known_reaches : (homes : Homes) → IsRooted homes → (x : ℕ) → is_known homes x ≡ true → (n : ℕ) × Reaches homes n x
+pub known_reaches : (homes : Homes) → IsRooted homes → (x : ℕ) → is_known homes x ≡ true → (n : ℕ) × Reaches homes n x
 known_reaches homes rooted x known = go (same_or_apart x 1)
   where
     there : (o : Option Home) → map.get homes x ≡ o → is_some o ≡ true → (n : ℕ) × Reaches homes n x

@@ -3,7 +3,7 @@ use Rattle.std.proofs.Common.{◌≡◌, ℕ, true, false, is_some, Option, Some
 use Rattle.std.specs.FinMap as map
 use Rattle.mds_types.specs.declared.dentries.Dentry.{Dentry}
 use Rattle.mds_types.specs.declared.inodes.Inode.{Inode}
-use Rattle.mds_types.specs.Tree.{Tree, dentry_of, is_dir_kind}
+use Rattle.mds_types.specs.Tree.{Tree, dentry_of, is_dir_kind, IsWellFormed, NothingIn}
 use Rattle.mds_types.specs.Step.{with_moved, IsMove}
 use Rattle.mds_types.proofs.MovedLaws.{MayMove as MayMoveIn, may_move, well-formed-moved, stands_moved, still_moved, arrived}
 use Rattle.mds_types.proofs.EntryLaws.{get_left}
@@ -142,3 +142,12 @@ pub taken_is : (key dentry : Dentry) (taken moved : Inode) → ◌≡◌ {A = Op
 taken_is key dentry taken moved same =
     let row : ◌≡◌ {A = Dentry × Inode} (dentry, taken) (key, moved) = cc in
     sym (ap (λ (r : Dentry × Inode). r.1) row)
+
+-- where an entry moved, nothing is in what it replaced
+pub replaced_empty : (tree : Tree) (from to : Dentry) (inode : Inode) → IsWellFormed tree → IsMove tree from to inode → (gone : Inode) → map.get tree to ≡ Some gone → NothingIn (with_moved tree from to inode) gone.ino.0
+replaced_empty tree from to inode whole move gone there q x stands same =
+    let may = may_move tree from to inode whole move in
+    ⊎_elim
+    (λ w. may.replaces gone there to gone there (ap (λ (p : Dentry). p.dir.0) (sym w.0) ∙ same))
+    (λ w. may.replaces gone there q x w.2 same)
+    (stands_moved tree from to inode whole may q x stands)

@@ -3,7 +3,7 @@ use Rattle.std.proofs.Common.{◌≡◌, ◌==◌, ◌&&◌, ◌||◌, ◌↔◌
 use Rattle.std.specs.FinMap as map
 use Rattle.std.specs.FinMap.{get-empty}
 use Rattle.std.specs.Ordering.{nat_cmp}
-use Rattle.std.proofs.lemmas.Bool.{eqb-true}
+use Rattle.std.proofs.lemmas.Bool.{eqb-true, or_cases, or_left, or_right}
 use Rattle.mds_types.specs.declared.dentries.Dentry.{Dentry}
 use Rattle.mds_types.specs.declared.inodes.Inode.{Inode}
 use Rattle.mds_types.specs.Tree.{Tree, dentry_cmp, dentry_of, at, is_directory, is_dir_kind, is_above, has_entries, IsAbove as IsAboveIn, child, further as further_down, IsWellFormed, NothingIn}
@@ -14,7 +14,6 @@ use Rattle.mds_types.proofs.RemovedLaws.{well-formed-removed}
 use Rattle.mds_types.proofs.WellFormedLaws.{well-formed-grown, sized_still}
 use Rattle.mds_types.proofs.EntryLaws.{get_put, get_beside, get_left, stands_after_put, stands_after_removal, same_or_apart}
 use Rattle.mds_types.proofs.DirectoryLaws.{StandsAs, directory_stands, root_stands, entry_stands, one_dentry, nothing_in_empty, nothing_in_file}
-use Rattle.sorted_map.proofs.Bools.{or_cases, or_first, or_second}
 use Rattle.sorted_map.proofs.NatKeys.{is_same, after_put, after_removal, get_put as get_put_home, get_beside as get_beside_home, get_left as get_left_home, get_removed as get_removed_home, same_or_apart as same_number}
 use Rattle.inode_table.specs.declared.dirs.Home.{Home}
 use Rattle.inode_table.specs.Dirs.{Homes, Covers, or_whole, leaves_of, is_known, IsAbove, parent, further, MayCome, IsChildless, MayGo}
@@ -53,8 +52,8 @@ module _ (tree : Tree) (homes : Homes) (tabled : IsTabled tree homes) where
 
       here : is_directory tree d ≡ true → is_known homes d ≡ true
       here stands =
-          ⊎_elim (λ root. or_first (d == 1) _ (is_same d 1 root))
-          (λ (w : StandsAs tree d). or_second (d == 1) _ (ap is_some (home_of w.dentry w.inode d w.stands w.numbered w.kinded))) (directory_stands tree d stands)
+          ⊎_elim (λ root. or_left (d == 1) _ (is_same d 1 root))
+          (λ (w : StandsAs tree d). or_right (d == 1) _ (ap is_some (home_of w.dentry w.inode d w.stands w.numbered w.kinded))) (directory_stands tree d stands)
 
   -- what is above by parents is above by entries,
   pub above_in_tree : (d x : ℕ) → IsAbove homes d x → IsAboveIn tree d x

@@ -1,13 +1,15 @@
 -- The invariant of a directory table, and what a change leaves of it.
-use Rattle.std.proofs.Common.{◌≡◌, ◌==◌, ◌||◌, ℕ, true, false, is_some, Option, Some, None, List, ◌⊎◌, inl, inr, refl, sym, ap, subst, ◌∙◌}
+use Rattle.std.proofs.Common.{◌≡◌, ◌==◌, ◌||◌, ℕ, true, is_some, Option, Some, None, List, ◌⊎◌, inl, inr, refl, sym, ap, subst, ◌∙◌}
+use Rattle.std.proofs.lemmas.Bool.{or_right}
 use Rattle.std.specs.Ordering.{nat_cmp}
 use Rattle.std.specs.FinMap as map
 use Rattle.std.specs.FinMap.{get-empty}
 use Rattle.mds_types.specs.Frag.{Fragment}
 use Rattle.fragtree.specs.FragTree.{IsTree}
+use Rattle.fragtree.proofs.Kept.{whole_tree}
 use Rattle.sorted_map.proofs.NatKeys.{same_or_apart, get_put, get_beside, get_left, after_put, after_removal}
 use Rattle.inode_table.specs.declared.dirs.Home.{Home}
-use Rattle.inode_table.specs.Dirs.{Homes, Covers, IsTable, MayCome, MayMove, IsChildless, is_known}
+use Rattle.inode_table.specs.Dirs.{Homes, Covers, IsTable, MayCome, MayMove, IsChildless, is_known, leaves_of, or_whole}
 use Rattle.inode_table.proofs.Chains.{empty_rooted, adopted_rooted, moved_rooted, dropped_rooted}
 
 -- the table of the root alone
@@ -18,13 +20,17 @@ empty_table = record {
   covers = λ d leaves is. let clash : None ≡ Some leaves = sym (get-empty nat_cmp d) ∙ is in absurd cc;
 }
 
+-- the leaves of every directory are those of a tree
+pub tree_of_row : (homes : Homes) (covers : Covers) → IsTable homes covers → (d : ℕ) → IsTree (leaves_of covers d)
+tree_of_row homes covers table d = go (map.get covers d) refl
+  where
+    go : (row : Option (List Fragment)) → map.get covers d ≡ row → IsTree (or_whole row)
+    go None is = whole_tree
+    go (Some leaves) is = table.covers d leaves is
+
 -- what has a home is a directory, and so is the root
 pub known_by : (homes : Homes) (d : ℕ) (o : Option Home) → map.get homes d ≡ o → is_some o ≡ true → is_known homes d ≡ true
-known_by homes d o is some = go (d == 1)
-  where
-    go : (b : _) → (b || is_some (map.get homes d)) ≡ true
-    go true = refl
-    go false = ap is_some is ∙ some
+known_by homes d o is some = or_right (d == 1) _ (ap is_some is ∙ some)
 
 -- a directory stays one when another gets a home
 pub still_known : (homes : Homes) (d : ℕ) (home : Home) (x : ℕ) → is_known homes x ≡ true → is_known (map.insert homes d home) x ≡ true

@@ -3,7 +3,8 @@ use Rattle.std.specs.Prelude.{◌≡◌, ℕ, zero, suc, Bool, true, ◌||◌, �
 use Rattle.std.specs.Ordering.{nat_cmp}
 use Rattle.std.specs.FinMap as map
 use Rattle.mds_types.specs.Frag.{Fragment, root_fragment}
-use Rattle.fragtree.specs.FragTree.{IsTree}
+use Rattle.mds_types.specs.Leaf.{Leaf}
+use Rattle.fragtree.specs.FragTree.{HasLeaf, IsTree}
 use Rattle.inode_table.specs.declared.dirs.Home.{Home}
 
 -- from the number of each directory but the root to its parent and name
@@ -33,6 +34,11 @@ leaves_of trees d = or_whole (map.get trees d)
 -- d is a directory of the table: the root, 1, or one that has a home
 abbrev pub is_known : Homes → ℕ → Bool
 is_known homes d = (d == 1) || is_some (map.get homes d)
+
+-- a leaf is live: its directory is in the table, and has it
+pub record IsLive (homes : Homes) (covers : Covers) (leaf : Leaf) : Type 0 where
+  pub known : is_known homes leaf.0.0 ≡ true
+  pub stands : HasLeaf (leaves_of covers leaf.0.0) leaf.1
 
 -- d is above x: a chain of one or more parents leads from x to d
 pub data IsAbove (homes : Homes) (d : ℕ) : ℕ → Type 0 where

@@ -9,10 +9,11 @@ use Rattle.std.specs.FinMap as finmap
 use Rattle.std.specs.FinMap.{find, is_sorted, get-entries, entries_sorted, get-empty, same_map}
 use Rattle.std.specs.Option.{option_or}
 use Rattle.std.proofs.lemmas.Map.Lookups.{exact_bytes}
+use Rattle.std.proofs.lemmas.Bool.{or_right}
 use Rattle.sorted_map.specs.Overlay.{overlaid, with_pairs}
 use Rattle.sorted_map.proofs.MapLaws.{get-overlaid, tie}
 use Rattle.std.specs.FinMap.Entries.{find_tied}
-use Rattle.sorted_map.proofs.Bools.{left_of, right_of, or_second}
+use Rattle.sorted_map.proofs.Bools.{left_of, right_of}
 use Rattle.mds_types.specs.declared.inodes.Inode.{Inode}
 use Rattle.mds_types.specs.Frag.{Fragment}
 use Rattle.mds_types.proofs.EntrySearch.{not_found_below}
@@ -60,7 +61,7 @@ pick_fresh leaves d from to f name inode placed goes has g pick = go (is_leaf fr
     go true was = let clash : true ≡ false = sym (leaf_is to g pick.stands) ∙ ap (is_leaf to) (its.alone g (is_one from g was) pick.contains) ∙ goes in cc
 
 leaf_later : (f g : Fragment) (fs : List Fragment) → is_leaf fs g ≡ true → is_leaf (f ∷ fs) g ≡ true
-leaf_later f g fs there = or_second _ _ there
+leaf_later f g fs there = or_right _ _ there
 
 -- each leaf of a cover is one of it
 pub each_leaf : (from fs : List Fragment) → ((f : Fragment) → is_leaf fs f ≡ true → is_leaf from f ≡ true) → AllByRecursion (λ f. is_leaf from f ≡ true) fs

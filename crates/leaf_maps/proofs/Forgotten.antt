@@ -1,5 +1,6 @@
 -- The leaves of a directory, dropped one after the other.
 use Rattle.std.proofs.Common.{◌≡◌, ℕ, zero, suc, ◌-◌, ◌<◌, Bool, true, false, T, List, [], ◌∷◌, Some, None, IsSome, refl, sym, ap, subst, ◌∙◌, arith}
+use Rattle.std.proofs.lemmas.Bool.{eqb-true}
 use Rattle.std.specs.Prelude.{cond, ◌==◌, is_some}
 use Rattle.std.specs.Ordering.{eq_by_cmp, is_eq}
 use Rattle.std.specs.Cmp.{tied_itself}
@@ -13,7 +14,7 @@ use Rattle.sorted_map.proofs.MapLaws.{tie}
 use Rattle.mds_types.proofs.EntrySearch.{not_found_below}
 use Rattle.mds_types.specs.Leaf.{Leaf, leaf_cmp}
 use Rattle.leaf_maps.specs.Leaves.{Rows, Leaves, kept_of}
-use Rattle.mds_types.proofs.LeafLaws.{leaf-exact, leaf-total, nat_same}
+use Rattle.mds_types.proofs.LeafLaws.{leaf-exact, leaf-total}
 use Rattle.leaf_maps.proofs.OneLeaf.{key, apart_keys}
 use Rattle.leaf_maps.specs.Listed.{leaves_of_dir}
 
@@ -56,7 +57,7 @@ of_dir d leaf rest [] is = cc
 of_dir d leaf rest (e ∷ es) is = go (e.0.0.0 == d) refl is (λ more. of_dir d leaf rest es more)
   where
     go : (b : Bool) → (e.0.0.0 == d) ≡ b → cond b (e ∷ leaves_of_dir d es) (leaves_of_dir d es) ≡ leaf ∷ rest → (leaves_of_dir d es ≡ leaf ∷ rest → leaf.0.0.0 ≡ d) → leaf.0.0.0 ≡ d
-    go true here is more = let same : e ≡ leaf = cc in ap (λ (l : Leaf × Rows). l.0.0.0) (sym same) ∙ nat_same e.0.0.0 d here
+    go true here is more = let same : e ≡ leaf = cc in ap (λ (l : Leaf × Rows). l.0.0.0) (sym same) ∙ eqb-true e.0.0.0 d here
     go false other is more = more is
 
 pub told : (leaves : Leaves) (d : ℕ) (leaf : Leaf × Rows) (rest : List (Leaf × Rows)) → leaves_of_dir d (finmap.entries leaves) ≡ leaf ∷ rest → (leaf.0.0.0 ≡ d) × IsSome (finmap.get leaves leaf.0)

@@ -2,6 +2,7 @@
 use Rattle.std.specs.Prelude.{◌≡◌, ℕ, Bool, true, false, ◌==◌, ◌&&◌, cond, T, List, [], ◌∷◌, ◌++◌, Option, Some, None, refl}
 use Rattle.std.specs.Option.{option_or}
 use Rattle.std.proofs.Common.{sym, ap, ◌∙◌}
+use Rattle.std.proofs.lemmas.Bool.{eqb-true}
 use Rattle.std.specs.Ordering.{nat_cmp, eq_by_cmp}
 use Rattle.std.specs.Cmp.Lexicographic.{slice_cmp}
 use Rattle.std.specs.FinMap as finmap
@@ -21,7 +22,7 @@ use Rattle.fragtree.specs.FragTree.{IsPick}
 use Rattle.namehash.specs.Rjenkins.{hash_of}
 use Rattle.inode_table.specs.Dirs.{Covers, leaves_of}
 use Rattle.mds_types.specs.Leaf.{Leaf, leaf_cmp}
-use Rattle.mds_types.proofs.LeafLaws.{key_itself, leaf-exact, leaf-total, nat_same}
+use Rattle.mds_types.proofs.LeafLaws.{key_itself, leaf-exact, leaf-total}
 use Rattle.leaf_maps.specs.Leaves.{Rows, Leaves, names_of, entries_of, entries_in, shown_by, ArePlaced, IsShown}
 
 -- an entry of a directory's names is found by its name
@@ -94,7 +95,7 @@ one_leaf d f name (e ∷ es) sorted others = go (eq_by_cmp leaf_cmp key e.0) ref
         at_e a = ap (λ b. cond b (Some e.1) (find leaf_cmp (record { 0 = d }, e.0.1) es)) (ap (λ (n : ℕ). eq_by_cmp leaf_cmp (record { 0 = n }, e.0.1) e.0) (sym a) ∙ key_itself e.0)
 
         other : (b : Bool) → (e.0.0.0 == d) ≡ b → option_or (cond b (finmap.get (contents (slice_cmp nat_cmp) e.1) name) None) (first_at d name es) ≡ finmap.get (names_of (find leaf_cmp key es)) name
-        other true is = ap (λ o. option_or o (first_at d name es)) (others e.0.1 e.1 (at_e (nat_same e.0.0.0 d is)) (not_f (nat_same e.0.0.0 d is))) ∙ later
+        other true is = ap (λ o. option_or o (first_at d name es)) (others e.0.1 e.1 (at_e (eqb-true e.0.0.0 d is)) (not_f (eqb-true e.0.0.0 d is))) ∙ later
         other false is = later
 
 -- a name stands where the leaf that its hash picks has it

@@ -11,6 +11,7 @@ use Rattle.std.proofs.Permutation.{every_shuffled}
 use Rattle.std.proofs.lemmas.List.Sums.{sum_by-cons}
 use Rattle.std.proofs.lemmas.List.Sorted.{sum_by-IsPermutation}
 use Rattle.sorted_map.proofs.Bools.{left_of, right_of}
+use Rattle.sorted_map.proofs.PlaceLaws.{less}
 use Rattle.leaf_maps.specs.Merge.{Row, tally, HasSameRows, IsLeast, TakesLeast, Cursor, next_cmp, rows_left, IsRun, IsMerge}
 
 pub tally-append : (f : Row → ℕ) (xs ys : List Row) → tally f (xs ++ ys) ≡ tally f xs + tally f ys
@@ -53,11 +54,6 @@ popped_merge cursor old new same pops merge = record { heap = (pops merge.heap).
 no_less : (x y z : List ℕ) → is_lt (slice_cmp nat_cmp y x) ≡ false → T (is_lt (slice_cmp nat_cmp y z)) → is_lt (slice_cmp nat_cmp z x) ≡ false
 no_less x y z over below = go (slice_cmp nat_cmp z x) refl
   where
-    less : (r : Ordering) → T (is_lt r) → r ≡ Less
-    less Less h = refl
-    less Equal h = absurd h
-    less Greater h = absurd h
-
     go : (r : Ordering) → slice_cmp nat_cmp z x ≡ r → is_lt r ≡ false
     go Less is = let clash : true ≡ false = sym (ap is_lt (nat_list_cmp_total.trans y z x (less _ below) is)) ∙ over in cc
     go Equal is = refl

@@ -1,5 +1,6 @@
 -- Where each leaf has only names whose hashes pick it, no dentry stands twice.
 use Rattle.std.proofs.Common.{◌≡◌, ℕ, Bool, true, false, cond, ◌==◌, T, List, [], ◌∷◌, ◌++◌, Option, Some, None, is_some, Ordering, is_lt, refl, sym, ap, ◌∙◌, subst}
+use Rattle.std.proofs.lemmas.Bool.{eqb-true}
 use Rattle.std.specs.List.{AllByRecursion}
 use Rattle.std.specs.Option.{option_or}
 use Rattle.std.specs.Ordering.{nat_cmp, is_eq, eq_by_cmp}
@@ -23,7 +24,7 @@ use Rattle.namehash.specs.Rjenkins.{hash_of}
 use Rattle.inode_table.specs.Dirs.{Covers, leaves_of}
 use Rattle.mds_types.specs.Leaf.{Leaf, leaf_cmp}
 use Rattle.leaf_maps.specs.Leaves.{Rows, Leaves, names_of, entries_of, entries_in, shown_by, ArePlaced}
-use Rattle.mds_types.proofs.LeafLaws.{leaf-total, nat_same}
+use Rattle.mds_types.proofs.LeafLaws.{leaf-total}
 use Rattle.leaf_maps.proofs.LeafLaws.{found_row, first_at, found_first}
 use Rattle.leaf_maps.specs.Listed.{leaves_of_dir, rows_of, rows_in}
 use Rattle.leaf_maps.specs.Merge.{Row, HasSameRows, IsOrderOf}
@@ -69,7 +70,7 @@ alone_behind covers e (g ∷ gs) name below placed pick =
     go true here None is =
         ap (λ b. option_or (cond b (finmap.get (contents (slice_cmp nat_cmp) g.1) name) None) (first_at e.0.0.0 name gs)) here
         ∙ ap (λ o. option_or o (first_at e.0.0.0 name gs)) is
-    go true here (Some inode) is = absurd (not_both covers e g name (left_of _ _ below) (nat_same g.0.0.0 e.0.0.0 here) pick (placed.0 name inode is))
+    go true here (Some inode) is = absurd (not_both covers e g name (left_of _ _ below) (eqb-true g.0.0.0 e.0.0.0 here) pick (placed.0 name inode is))
 
 some_more : (b : Bool) (i : Inode) (o : Option Inode) → is_some o ≡ true → is_some (cond b (Some i) o) ≡ true
 some_more true i o some = refl

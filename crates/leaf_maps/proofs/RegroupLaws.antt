@@ -4,6 +4,7 @@ use Rattle.std.specs.Option.{option_or}
 use Rattle.std.proofs.Common.{inl, inr, sym, ap, subst, ◌∙◌}
 use Rattle.std.proofs.lemmas.Map.Views.{list_any-from_Contains, Contains-from_any}
 use Rattle.std.proofs.lemmas.Map.Lookups.{exact_bytes}
+use Rattle.std.proofs.lemmas.Bool.{false_from_ne_true}
 use Rattle.std.specs.Ordering.{nat_cmp, eq_by_cmp}
 use Rattle.std.specs.Cmp.{eq_by_cmp_equiv}
 use Rattle.std.specs.Cmp.Lexicographic.{slice_cmp, nat_list_cmp_total}
@@ -15,7 +16,6 @@ use Rattle.mds_types.specs.declared.inodes.Inode.{Inode}
 use Rattle.mds_types.specs.Frag.{Fragment, frag_cmp}
 use Rattle.mds_types.specs.OrderLaws.{frag-exact}
 use Rattle.mds_types.proofs.OrderLaws.{frag-total}
-use Rattle.sorted_map.proofs.Bools.{not_true}
 use Rattle.fragtree.specs.FragTree.{HasLeaf, IsPick}
 use Rattle.namehash.specs.Rjenkins.{hash_of}
 use Rattle.leaf_maps.specs.Leaves.{Names, Rows, Leaves, names_in}
@@ -81,7 +81,7 @@ gathers_put parts mid new d from to have leaf name inode gathers same alone is k
         go (inl here) = mine g n here.1 ∙ ap (cond (eq_by_cmp (slice_cmp nat_cmp) n name) (Some inode)) (ap (λ h. finmap.get (names_in parts d h) n) (sym here.1) ∙ gathers.held n g its)
         go (inr apart) =
             others g n apart ∙ gathers.held n g its
-            ∙ ap (λ b. cond b (Some inode) (finmap.get have n)) (sym (not_true _ (λ tied. apart (refl, one_pick to (hash_of name) leaf g pick (subst (λ m. IsPick to (hash_of m) g) (exact_bytes n name (tie _ tied)) its)))))
+            ∙ ap (λ b. cond b (Some inode) (finmap.get have n)) (sym (false_from_ne_true _ (λ tied. apart (refl, one_pick to (hash_of name) leaf g pick (subst (λ m. IsPick to (hash_of m) g) (exact_bytes n name (tie _ tied)) its)))))
 
 -- what one leaf of a cover has of a name, all that are gathered have of it
 module _ (leaves : Leaves) (d : ℕ) (from to : List Fragment) (placed : ArePlacedIn leaves d from) (name : List ℕ) (f : Fragment) (pick : IsPick from (hash_of name) f) where

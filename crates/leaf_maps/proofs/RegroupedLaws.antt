@@ -2,11 +2,11 @@
 use Rattle.std.specs.Prelude.{◌≡◌, ℕ, ◌||◌, Bool, true, false, cond, List, [], ◌∷◌, Option, Some, None, refl}
 use Rattle.std.specs.Option.{option_or}
 use Rattle.std.proofs.Common.{inl, sym, ap, subst, ◌∙◌}
+use Rattle.std.proofs.lemmas.Bool.{or_left, or_right}
 use Rattle.std.specs.Ordering.{eq_by_cmp, is_eq}
 use Rattle.std.specs.Cmp.{tied_itself}
 use Rattle.std.specs.FinMap as finmap
 use Rattle.std.specs.FinMap.{get-remove, get-empty}
-use Rattle.sorted_map.proofs.Bools.{or_first, or_second}
 use Rattle.sorted_map.specs.Overlay.{overlaid}
 use Rattle.sorted_map.proofs.MapLaws.{get-overlaid, tie}
 use Rattle.mds_types.specs.declared.inodes.Inode.{Inode}
@@ -23,13 +23,13 @@ use Rattle.leaf_maps.specs.Regroup.{ArePlacedIn, AreKeptIn, IsRegrouped, is_leaf
 use Rattle.leaf_maps.proofs.RegroupLaws.{leaf_is, is_one, gathered_has}
 
 pub leaf_itself : (f : Fragment) (fs : List Fragment) → is_leaf (f ∷ fs) f ≡ true
-leaf_itself f fs = or_first _ _ (ap is_eq (tied_itself frag-total f))
+leaf_itself f fs = or_left _ _ (ap is_eq (tied_itself frag-total f))
 
 -- a row that is none of those cleared away stays
 cleared_other : (m : Leaves) (d : ℕ) (to fs : List Fragment) (e : ℕ) (g : Fragment) → ((f : Fragment) → is_leaf fs f ≡ true → is_leaf to f ≡ false → (e ≡ d) × (g ≡ f) → ⊥)
     → finmap.get (cleared m d to fs) (record { 0 = e }, g) ≡ finmap.get m (record { 0 = e }, g)
 cleared_other m d to [] e g stays = refl
-cleared_other m d to (f ∷ fs) e g stays = go (is_leaf to f) refl (λ n. cleared_other n d to fs e g (λ h there gone. stays h (or_second _ _ there) gone))
+cleared_other m d to (f ∷ fs) e g stays = go (is_leaf to f) refl (λ n. cleared_other n d to fs e g (λ h there gone. stays h (or_right _ _ there) gone))
   where
     go : (b : Bool) → is_leaf to f ≡ b → ((n : Leaves) → finmap.get (cleared n d to fs) (record { 0 = e }, g) ≡ finmap.get n (record { 0 = e }, g))
         → finmap.get (cleared (cond b m (finmap.remove m (record { 0 = d }, f))) d to fs) (record { 0 = e }, g) ≡ finmap.get m (record { 0 = e }, g)

@@ -1,5 +1,5 @@
 -- The rows of one leaf, and sums over those of several.
-use Rattle.std.proofs.Common.{◌≡◌, ℕ, ◌+◌, T, List, [], ◌∷◌, ◌++◌, Option, None, refl, sym, ap, subst, arith}
+use Rattle.std.proofs.Common.{◌≡◌, ℕ, ◌+◌, T, List, ◌∷◌, ◌++◌, Option, sym, ap, subst, arith}
 use Rattle.std.specs.Ordering.{nat_cmp}
 use Rattle.std.specs.Cmp.Lexicographic.{slice_cmp}
 use Rattle.std.specs.FinMap.{is_sorted, entries_sorted}
@@ -11,11 +11,6 @@ use Rattle.leaf_maps.specs.Leaves.{Rows}
 use Rattle.leaf_maps.specs.Listed.{rows_of, rows_after, rows_in}
 use Rattle.leaf_maps.specs.Merge.{Row, tally, HasSameRows}
 use Rattle.leaf_maps.proofs.MergeLaws.{tally-append}
-
--- every name comes after none
-pub all_after : (rows : List Row) → rows_after None rows ≡ rows
-all_after [] = refl
-all_after (row ∷ rows) = ap (λ rs. row ∷ rs) (all_after rows)
 
 -- the names of a leaf rise, from any one on
 pub after_rises : (after : Option (List ℕ)) (rows : Rows) (some : List Row) → some ≡ rows_after after (rows_of rows) → T (is_sorted (slice_cmp nat_cmp) some)

@@ -4,11 +4,11 @@ use Rattle.std.specs.Ordering.{nat_cmp, is_eq, eq_by_cmp}
 use Rattle.std.specs.Cmp.{tied_itself}
 use Rattle.std.specs.Cmp.Lexicographic.{slice_cmp, nat_list_cmp_total}
 use Rattle.std.proofs.lemmas.Map.Lookups.{exact_bytes}
+use Rattle.std.proofs.lemmas.Bool.{and_from, and_parts}
 use Rattle.mds_types.specs.declared.inodes.Inode.{Inode}
 use Rattle.mds_types.specs.declared.inodes.Kind.{Kind}
 use Rattle.mds_types.specs.declared.inodes.Kind.TheVariants.{File, Dir, Symlink}
 use Rattle.sorted_map.proofs.MapLaws.{tie}
-use Rattle.sorted_map.proofs.Bools.{first_true, second_true, both_true}
 use Rattle.leaf_maps.specs.Merge.{Row}
 
 -- an inode as numbers, and back
@@ -58,10 +58,10 @@ abbrev pub same_row : Row → Row → Bool
 same_row x y = same_bytes x.0 y.0 && same_bytes (spelling x.1) (spelling y.1)
 
 pub row_itself : (x : Row) → same_row x x ≡ true
-row_itself x = both_true _ _ (bytes_itself x.0) (bytes_itself (spelling x.1))
+row_itself x = and_from _ _ (bytes_itself x.0) (bytes_itself (spelling x.1))
 
 pub row_same : (x y : Row) → same_row x y ≡ true → x ≡ y
 row_same x y tied =
-    let names : x.0 ≡ y.0 = bytes_same x.0 y.0 (first_true _ _ tied) in
-    let inodes : x.1 ≡ y.1 = one_spelling x.1 y.1 (bytes_same _ _ (second_true _ _ tied)) in
+    let names : x.0 ≡ y.0 = bytes_same x.0 y.0 (and_parts _ _ tied).0 in
+    let inodes : x.1 ≡ y.1 = one_spelling x.1 y.1 (bytes_same _ _ (and_parts _ _ tied).1) in
     λ i. (names i, inodes i)

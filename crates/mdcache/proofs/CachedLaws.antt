@@ -44,7 +44,7 @@ used_keeps leaf (Some f) old new is h q =
     go false apart = same_itself (cached old.entries q)
 
 -- room is no part of a tie
-tied_but : (b : Base) (f : Cached) (room places : ℕ) (object : Option Omap) → IsTiedAt b f object → IsTiedAt b (record f { room = room; places = places }) object
+pub tied_but : (b : Base) (f : Cached) (room places : ℕ) (object : Option Omap) → IsTiedAt b f object → IsTiedAt b (record f { room = room; places = places }) object
 tied_but Fresh f room places object tie = tt
 tied_but (Stored version) f room places None tie = tie
 tied_but (Stored version) f room places (Some object) tie = tie

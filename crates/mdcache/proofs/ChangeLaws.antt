@@ -11,14 +11,13 @@ use Rattle.mds_types.specs.Tree.{IsWellFormed, NothingIn, Tree, is_dir_kind, is_
 use Rattle.mds_types.specs.Step.{IsMove, with_moved}
 use Rattle.mds_types.proofs.DirectoryLaws.{entry_stands}
 use Rattle.mds_types.proofs.EntryLaws.{stands_after_removal}
-use Rattle.mds_types.proofs.MovedLaws.{MayMove, may_move, stands_moved}
 use Rattle.dentry_cache.specs.Cache.{Leaf, leaf_is}
 use Rattle.dentry_cache.proofs.LeafLaws.{leaf_or_apart}
 use Rattle.inode_table.specs.Dirs.{Covers, Homes, IsTable, MayCome, MayGo, MayMove as MayRelocate, is_known, leaves_of}
 use Rattle.inode_table.specs.TreeChanges.{MayRemove}
 use Rattle.inode_table.specs.TreeTable.{IsTabled, home_at, with_home, without_cover, without_home}
 use Rattle.inode_table.proofs.TableLaws.{added_tabled, dir_or_not, known_is, leaves_kept, may_come, may_drop, nothing_in, removed_tabled, set_tabled, with_dir, with_file}
-use Rattle.inode_table.proofs.MoveLaws.{may_relocate, may_replace, moved_tabled}
+use Rattle.inode_table.proofs.MoveLaws.{may_relocate, may_replace, moved_tabled, replaced_empty}
 use Rattle.fragtree.specs.FragTree.{HasLeaf}
 use Rattle.fragtree.proofs.TreeLaws.{first_or_later}
 use Rattle.namespace_ops.specs.Changes.{IsLeafAt, MayChange, directory_at, fragments_of, in_directory, leaves, leaves_gone, moved}
@@ -272,17 +271,6 @@ moving tree from to inode stands may =
     let inodes : Some may.0 ≡ Some inode = sym may.1.stands ∙ stands in
     let alike : may.0 ≡ inode = cc in
     subst (λ (i : Inode). IsMove tree from to i) alike may.1
-
--- where an entry moved, nothing is in what it replaced
-replaced_empty : (tree : Tree) (from to : Dentry) (inode : Inode) → IsWellFormed tree → IsMove tree from to inode → (gone : Inode) → map.get tree to ≡ Some gone → NothingIn (with_moved tree from to inode) gone.ino.0
-replaced_empty tree from to inode whole move gone there q x stands same = go (stands_moved tree from to inode whole may q x stands)
-  where
-    may : MayMove tree from to inode
-    may = may_move tree from to inode whole move
-
-    go : ((q ≡ to) × (inode ≡ x)) ⊎ ((q ≡ to → ⊥) × (q ≡ from → ⊥) × (map.get tree q ≡ Some x)) → ⊥
-    go (inl w) = may.replaces gone there to gone there (ap (λ (p : Dentry). p.dir.0) (sym w.0) ∙ same)
-    go (inr w) = may.replaces gone there q x w.2 same
 
 module _ (from to : Dentry) (source target : Fragment) (gone : Option Ino) (old new : State) (sound : IsSound old) (may : MayChange (shown_tree old) old.covers (Move from source to target gone))
     (makes : Makes (Move from source to target gone) old new) where

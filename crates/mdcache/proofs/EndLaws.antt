@@ -1,7 +1,7 @@
 -- What the end of a commit keeps.
 use Rattle.std.proofs.Common.{◌≡◌, inl, ℕ, ◌<◌, Bool, true, false, cond, not, List, Option, Some, None, refl, sym, ap, subst, ◌∙◌, arith}
 use Rattle.std.specs.Prelude.{◌==◌, is_some}
-use Rattle.std.proofs.lemmas.Bool.Decides.{nat_tests}
+use Rattle.std.proofs.lemmas.Bool.{eqb-true}
 use Rattle.std.specs.Ordering.{eq_by_cmp}
 use Rattle.std.specs.FinMap as map
 use Rattle.std.specs.FinMap.{empty_of_len}
@@ -46,12 +46,9 @@ nothing_patched names marks none = ap (λ es. with_marks names es) (none_entries
 pub cached_shows : (f : Cached) (object : Option Omap) → IsTied f object → shown_at (unsaved_of f) object ≡ shown f
 cached_shows f object tie = go (is_clean f) refl
   where
-    is_empty : (n : ℕ) → (n == 0) ≡ true → n ≡ 0
-    is_empty n h = grind (arith, nat_tests)
-
     clean_shows : (b : Base) → f.base ≡ b → is_clean_over b f.dirty ≡ true → names_at object ≡ shown_over b (names_at object) f.dirty
     clean_shows Fresh is clean = let clash : false ≡ true = clean in cc
-    clean_shows (Stored version) is clean = sym (nothing_patched (names_at object) f.dirty (is_empty (map.len f.dirty) clean))
+    clean_shows (Stored version) is clean = sym (nothing_patched (names_at object) f.dirty (eqb-true (map.len f.dirty) 0 clean))
 
     go : (b : Bool) → is_clean f ≡ b → shown_at (cond b None (Some (record { base = f.base; generation = f.generation; dirty = f.dirty }))) object ≡ shown f
     go true clean = clean_shows f.base refl clean ∙ sym (tied_show f object tie)
@@ -113,7 +110,7 @@ module _ (s : State) (job : Job) (old : Held) (kept : IsKept s old) (view : s.un
 
   object_beside : (q : Leaf) → IsLive s.homes s.covers q → leaf_is q leaf ≡ false → object_of t.objects q.0 q.1 ≡ object_of s.objects q.0 q.1
   unfolding written
-  object_beside q is apart = get_beside s.objects (text_of leaf) _ (text_of q) (λ same. let clash : true ≡ false = sym (same_leaf q leaf (one_text s kept.sound q leaf is live same)) ∙ apart in cc)
+  object_beside q is apart = get_beside s.objects (text_of leaf) _ (text_of q) (λ same. let clash : true ≡ false = sym (same_leaf q leaf (one_text s.homes s.covers kept.sound.table kept.sound.numbered q leaf is live same)) ∙ apart in cc)
 
   -- what isn't clean
 

@@ -2,17 +2,14 @@
 use Rattle.std.proofs.Common.{◌≡◌, ◌⊎◌, inl, inr, ℕ, zero, suc, Bool, true, false, cond, T, List, [], ◌∷◌, Option, Some, None, refl, sym, ap, subst, ◌∙◌, arith}
 use Rattle.std.specs.List.{Contains}
 use Rattle.std.specs.Option.{option_or}
-use Rattle.std.specs.declared.cmp.Ordering.{Ordering}
-use Rattle.std.specs.declared.cmp.Ordering.TheVariants.{Less, Equal, Greater}
-use Rattle.std.specs.Ordering.{eq_by_cmp, is_eq, is_lt}
+use Rattle.std.specs.Ordering.{eq_by_cmp}
 use Rattle.std.specs.Cmp.Lexicographic.{nat_list_cmp_total}
 use Rattle.std.proofs.lemmas.Map.Lookups.{exact_bytes}
 use Rattle.std.specs.FinMap as map
 use Rattle.std.specs.FinMap.{entries_sorted, get-entries}
-use Rattle.std.specs.FinMap.Entries.{below_all, find, find-put, find-where_key, is_sorted, is_sorted-put, is_sorted-where_key, put, same_entries}
+use Rattle.std.specs.FinMap.Entries.{find, find-put, find-where_key, is_sorted, is_sorted-put, is_sorted-where_key, put, same_entries}
 use Rattle.sorted_map.specs.Places.{puts}
 use Rattle.sorted_map.proofs.Bools.{left_of, right_of}
-use Rattle.sorted_map.proofs.MapLaws.{tie}
 use Rattle.mds_types.specs.declared.ids.Ino.{Ino}
 use Rattle.mds_types.specs.declared.inodes.Inode.{Inode}
 use Rattle.mds_types.specs.Frag.{Fragment}
@@ -20,18 +17,19 @@ use Rattle.mds_types.specs.Step.{is_after, names_after}
 use Rattle.mds_types.proofs.ListingLaws.{names_are_listed}
 use Rattle.omap.specs.Omap.{key_cmp}
 use Rattle.fragtree.specs.FragTree.{IsPick}
-use Rattle.fragtree.proofs.TreeLaws.{some_pick}
+use Rattle.fragtree.proofs.TreeLaws.{some_pick, later as later_has}
 use Rattle.namehash.specs.Rjenkins.{hash_of}
 use Rattle.dirfrag_codec.specs.FragmentObject.{Names}
+use Rattle.dirfrag_codec.proofs.ByteKeys.{key_tied, not_found}
 use Rattle.cached_frag.specs.Rows.{Row, rows_after}
 use Rattle.inode_table.specs.Dirs.{is_known, leaves_of}
+use Rattle.inode_table.proofs.Tables.{tree_of_row}
 use Rattle.mdcache.specs.Pages.{Gathered, IsPageOf, gathered}
 use Rattle.mdcache.specs.Shown.{names_of, shown_tree}
 use Rattle.mdcache.specs.Sound.{IsSound}
 use Rattle.mdcache.specs.State.{State}
-use Rattle.mdcache.proofs.TextLaws.{tree_of_row}
 use Rattle.mdcache.proofs.TreeLookups.{at_dentry}
-use Rattle.mdcache.proofs.WalkLaws.{first_has, later_has}
+use Rattle.dentry_cache.proofs.NameParts.{none_either}
 
 -- ---- names put to others
 
@@ -39,23 +37,12 @@ puts_sorted : (es fs : List Row) → T (is_sorted key_cmp es) → T (is_sorted k
 puts_sorted es [] sorted = sorted
 puts_sorted es (f ∷ fs) sorted = puts_sorted (put key_cmp f.0 f.1 es) fs (is_sorted-put key_cmp nat_list_cmp_total f.0 f.1 es sorted)
 
-apart_below : (q k : List ℕ) (es : List Row) → key_cmp q k ≡ Equal → T (below_all key_cmp k es) → find key_cmp q es ≡ None
-apart_below q k [] tied below = refl
-apart_below q k (e ∷ es) tied below =
-    ap (λ b. cond b (Some e.1) (find key_cmp q es)) (apart (key_cmp q e.0) (subst (λ r. T (is_lt r)) (sym (nat_list_cmp_total.congr q k e.0 tied)) (left_of _ _ below)))
-    ∙ apart_below q k es tied (right_of _ _ below)
-  where
-    apart : (r : Ordering) → T (is_lt r) → is_eq r ≡ false
-    apart Less h = refl
-    apart Equal h = absurd h
-    apart Greater h = absurd h
-
 find-puts : (es fs : List Row) (q : List ℕ) → T (is_sorted key_cmp fs) → find key_cmp q (puts key_cmp es fs) ≡ option_or (find key_cmp q fs) (find key_cmp q es)
 find-puts es [] q sorted = refl
 find-puts es (f ∷ fs) q sorted =
     find-puts (put key_cmp f.0 f.1 es) fs q (right_of _ _ sorted)
     ∙ ap (option_or (find key_cmp q fs)) (find-put key_cmp nat_list_cmp_total q f.0 f.1 es)
-    ∙ go (eq_by_cmp key_cmp q f.0) (find key_cmp q fs) (find key_cmp q es) (λ same. apart_below q f.0 fs (tie (key_cmp q f.0) same) (left_of _ _ sorted))
+    ∙ go (eq_by_cmp key_cmp q f.0) (find key_cmp q fs) (find key_cmp q es) (λ same. not_found f.0 q fs (key_tied q f.0 same) (left_of _ _ sorted))
   where
     go : (b : Bool) (later before : Option Inode) → (b ≡ true → later ≡ None) → option_or later (cond b (Some f.1) before) ≡ option_or (cond b (Some f.1) later) before
     go true later before none = ap (λ l. option_or l (Some f.1)) (none refl)
@@ -159,12 +146,8 @@ module _ (s : State) (sound : IsSound s) (dir : Ino) (known : is_known s.homes d
       alone : (at : Fragment) → IsPick leaves (hash_of q) at → (g : Fragment) → Contains leaves g → Tells (find key_cmp q (rows_after after (map.entries (names_in at)))) (find key_cmp q (rows_after after (map.entries (names_in g))))
       alone at pick g stands = go (map.get (names_in g) q) refl
         where
-          nothing : (b : Bool) → cond {A = Option Inode} b None None ≡ None
-          nothing true = refl
-          nothing false = refl
-
           go : (o : Option Inode) → map.get (names_in g) q ≡ o → Tells (find key_cmp q (rows_after after (map.entries (names_in at)))) (find key_cmp q (rows_after after (map.entries (names_in g))))
-          go None is = inl (row_found names_in after g q ∙ ap (λ o. cond (is_after after q) o None) is ∙ nothing (is_after after q))
+          go None is = inl (row_found names_in after g q ∙ ap (λ o. cond (is_after after q) o None) is ∙ none_either (is_after after q))
           go (Some inode) is =
               let placed : IsPick leaves (hash_of q) g = sound.placed (dir, g) q inode (record { known = known; stands = stands }) is in
               inr (ap (λ (h : Fragment). find key_cmp q (rows_after after (map.entries (names_in h)))) (pick.alone g placed.stands placed.contains))

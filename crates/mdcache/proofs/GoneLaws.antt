@@ -1,5 +1,6 @@
 -- A directory goes in which nothing is: nothing of it is left but names of objects to be removed, and the tree stays.
 use Rattle.std.proofs.Common.{◌≡◌, ◌⊎◌, inl, inr, ℕ, zero, ◌==◌, ◌||◌, Bool, true, false, cond, List, [], ◌∷◌, Option, Some, None, refl, sym, ap, subst, ◌∙◌, arith}
+use Rattle.std.proofs.lemmas.Bool.{or_left, or_right}
 use Rattle.std.specs.Prelude.{is_some, map as each}
 use Rattle.std.specs.List.{list_any}
 use Rattle.std.specs.FinMap as map
@@ -7,21 +8,17 @@ use Rattle.std.specs.FinMap.{get-remove, same_map}
 use Rattle.mds_types.specs.declared.ids.Ino.{Ino}
 use Rattle.mds_types.specs.declared.dentries.Dentry.{Dentry}
 use Rattle.mds_types.specs.declared.inodes.Inode.{Inode}
-use Rattle.mds_types.specs.declared.object_names.ObjName.{ObjName}
-use Rattle.mds_types.specs.declared.object_names.ObjName.TheVariants.{Frag, Tree as TreeOf}
-use Rattle.mds_types.specs.Frag.{Fragment, IsFragment, root_fragment}
+use Rattle.mds_types.specs.Frag.{Fragment}
 use Rattle.mds_types.specs.Tree.{NothingIn}
 use Rattle.mds_types.specs.OrderLaws.{dentry-exact}
 use Rattle.mds_types.proofs.OrderLaws.{dentry-total}
-use Rattle.mds_types.proofs.ObjectTextLaws.{texts_differ}
 use Rattle.sorted_map.proofs.NatKeys.{get_left as get_left_home, get_removed as get_removed_home, is_apart, same_or_apart as same_number}
 use Rattle.fragtree.specs.FragTree.{HasLeaf, IsPick}
 use Rattle.fragtree.proofs.TreeLaws.{first_or_later, later}
-use Rattle.fragtree.proofs.Tilings.{between}
 use Rattle.namehash.specs.Rjenkins.{hash_of}
 use Rattle.omap.specs.Omap.{Keys}
 use Rattle.dirfrag_codec.specs.FragmentObject.{Names}
-use Rattle.dirfrag_codec.proofs.ByteKeys.{get_beside, get_put}
+use Rattle.dirfrag_codec.proofs.ByteKeys.{get_beside, get_put, same_or_apart as key_or_apart}
 use Rattle.commit_jobs.specs.declared.jobs.Job.{Job}
 use Rattle.dentry_cache.specs.Cache.{Leaf, Unsaved, leaf_cmp, leaf_is}
 use Rattle.dentry_cache.proofs.LeafLaws.{leaf-total, leaf_itself, one_leaf, tied_leaf}
@@ -34,9 +31,8 @@ use Rattle.mdcache.specs.Shown.{names_of, shown_tree}
 use Rattle.mdcache.specs.Sound.{IsOwned, IsStanding}
 use Rattle.mdcache.specs.State.{IsLive, State, text_of, tree_text}
 use Rattle.mdcache.proofs.NamedLaws.{HasSoundLeaves, known_or_not, pick_at, stands_at, stands_nowhere}
-use Rattle.mdcache.proofs.HomeLaws.{key_or_apart}
 use Rattle.mdcache.proofs.SoundLaws.{names_alike}
-use Rattle.mdcache.proofs.TextLaws.{tree_of_row}
+use Rattle.mdcache.proofs.TextLaws.{no_tree_text, one_text}
 
 -- ---- what is kept of leaves, without some
 
@@ -58,19 +54,11 @@ pub among : (d : ℕ) (q : Leaf) (fs : List Fragment) → q.0.0 ≡ d → HasLea
 among d q [] same (k, stands, is) = absurd (omega (arith, stands))
 among d q (f ∷ fs) same has = go (among d q fs same) (first_or_later f q.1 fs has)
   where
-    first : (b c : Bool) → b ≡ true → (b || c) ≡ true
-    first true c h = refl
-    first false c h = let clash : false ≡ true = h in cc
-
-    second : (b c : Bool) → c ≡ true → (b || c) ≡ true
-    second true c h = refl
-    second false c h = h
-
     go : (HasLeaf fs q.1 → list_any (leaf_is q) (each (in_directory d) fs) ≡ true) → (f ≡ q.1) ⊎ HasLeaf fs q.1 → (leaf_is q (in_directory d f) || list_any (leaf_is q) (each (in_directory d) fs)) ≡ true
     go next (inl here) =
         let its : in_directory d f ≡ q = λ i. (record { 0 = sym same i }, here i) in
-        first (leaf_is q (in_directory d f)) (list_any (leaf_is q) (each (in_directory d) fs)) (ap (leaf_is q) its ∙ leaf_itself q)
-    go next (inr more) = second (leaf_is q (in_directory d f)) (list_any (leaf_is q) (each (in_directory d) fs)) (next more)
+        or_left (leaf_is q (in_directory d f)) (list_any (leaf_is q) (each (in_directory d) fs)) (ap (leaf_is q) its ∙ leaf_itself q)
+    go next (inr more) = or_right (leaf_is q (in_directory d f)) (list_any (leaf_is q) (each (in_directory d) fs)) (next more)
 
 -- and those of another aren't
 elsewhere : (d : ℕ) (q : Leaf) (fs : List Fragment) → (q.0.0 ≡ d → ⊥) → list_any (leaf_is q) (each (in_directory d) fs) ≡ false
@@ -115,36 +103,12 @@ not_listed names d q [] none apart = none
 not_listed names d q (f ∷ fs) none apart =
     not_listed (map.insert names (text_of (in_directory d f)) tt) d q fs (get_beside names (text_of (in_directory d f)) tt q (apart f (zero, omega arith, refl)) ∙ none) (λ g stands. apart g (later f g fs stands))
 
-abbrev leaf_in : ObjName → Leaf
-leaf_in (Frag dir f) = (dir, f)
-leaf_in (TreeOf dir) = (dir, root_fragment)
-
-abbrev is_tree : ObjName → Bool
-is_tree (Frag dir f) = false
-is_tree (TreeOf dir) = true
-
--- ---- a directory goes
-
 module _ (s : State) (sound : HasSoundLeaves s) (dir : Ino) (may : MayGo s.homes dir.0) (known : is_known s.homes dir.0 ≡ true) (nothing : NothingIn (shown_tree s) dir.0) where
   abbrev pub left : State
   left = without_directory s dir
 
   abbrev ls : List Leaf
   ls = leaves s.covers dir.0
-
-  -- names of objects
-
-  is_fragment : (leaf : Leaf) → IsLive s.homes s.covers leaf → IsFragment leaf.1
-  is_fragment leaf live = (between 0 16777216 (leaves_of s.covers leaf.0.0) leaf.1 (tree_of_row s.homes s.covers sound.table leaf.0.0).tiles live.stands).0
-
-  one_text : (a b : Leaf) → IsLive s.homes s.covers a → IsLive s.homes s.covers b → text_of a ≡ text_of b → a ≡ b
-  one_text a b p q same =
-      ap leaf_in (texts_differ (Frag a.0 a.1) (Frag b.0 b.1) (sound.numbered a.0.0 p.known, is_fragment a p) (sound.numbered b.0.0 q.known, is_fragment b q) same)
-
-  no_tree_text : (leaf : Leaf) → IsLive s.homes s.covers leaf → text_of leaf ≡ tree_text dir → ⊥
-  no_tree_text leaf live same =
-      let clash : false ≡ true = ap is_tree (texts_differ (Frag leaf.0 leaf.1) (TreeOf dir) (sound.numbered leaf.0.0 live.known, is_fragment leaf live) (sound.numbered dir.0 known) same) in
-      cc
 
   -- directories
 
@@ -219,8 +183,8 @@ module _ (s : State) (sound : HasSoundLeaves s) (dir : Ino) (may : MayGo s.homes
   listed_left leaf live =
       let b = live_back leaf live in
       not_listed (map.insert s.purge (tree_text dir) tt) dir.0 (text_of leaf) (leaves_of s.covers dir.0)
-      (get_beside s.purge (tree_text dir) tt (text_of leaf) (no_tree_text leaf b.1) ∙ sound.listed leaf b.1)
-      (λ f stands same. b.0 (ap (λ (l : Leaf). l.0.0) (one_text leaf (in_directory dir.0 f) b.1 (record { known = known; stands = stands }) same)))
+      (get_beside s.purge (tree_text dir) tt (text_of leaf) (no_tree_text s.homes s.covers sound.table sound.numbered leaf dir b.1 known) ∙ sound.listed leaf b.1)
+      (λ f stands same. b.0 (ap (λ (l : Leaf). l.0.0) (one_text s.homes s.covers sound.table sound.numbered leaf (in_directory dir.0 f) b.1 (record { known = known; stands = stands }) same)))
 
   standing_left : (leaf : Leaf) (job : Job) → map.get left.jobs leaf ≡ Some job → IsStanding left leaf job
   standing_left leaf job is =

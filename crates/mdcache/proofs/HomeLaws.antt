@@ -18,7 +18,7 @@ use Rattle.fragtree.proofs.TreeLaws.{first_or_later}
 use Rattle.namehash.specs.Rjenkins.{hash_of}
 use Rattle.omap.specs.Omap.{Keys, key_cmp}
 use Rattle.dirfrag_codec.specs.FragmentObject.{Names}
-use Rattle.dirfrag_codec.proofs.ByteKeys.{get_left, get_removed, key_itself, key_tied}
+use Rattle.dirfrag_codec.proofs.ByteKeys.{get_left, get_removed, same_or_apart as key_or_apart}
 use Rattle.commit_jobs.specs.declared.jobs.Job.{Job}
 use Rattle.cached_frag.proofs.ShownLaws.{only_below}
 use Rattle.dentry_cache.specs.Cache.{Leaf, Unsaved, leaf_is}
@@ -106,13 +106,6 @@ none_still names k q none = get-remove nat_list_cmp_total names k q ∙ go (eq_b
     go : (b : Bool) → cond b None (map.get names q) ≡ None
     go true = refl
     go false = none
-
-pub key_or_apart : (a b : List ℕ) → (a ≡ b) ⊎ (a ≡ b → ⊥)
-key_or_apart a b = go (eq_by_cmp key_cmp a b) refl
-  where
-    go : (t : Bool) → eq_by_cmp key_cmp a b ≡ t → (a ≡ b) ⊎ (a ≡ b → ⊥)
-    go true is = inl (key_tied a b is)
-    go false is = inr (λ same. let clash : true ≡ false = sym (key_itself b) ∙ ap (λ (k : List ℕ). eq_by_cmp key_cmp k b) (sym same) ∙ is in cc)
 
 module _ (s : State) (sound : HasSoundLeaves s) (dentry : Dentry) (dir : Ino) (come : MayCome s.homes dir.0 (home_at dentry)) (fits : dir.0 < 2 ^ 64) where
   abbrev first : Leaf

@@ -21,14 +21,16 @@ use Rattle.commit_jobs.specs.declared.bases.Base.TheVariants.{Fresh, Stored}
 use Rattle.commit_jobs.specs.declared.jobs.Job.{Job}
 use Rattle.commit_jobs.specs.declared.marks.Mark.{Mark}
 use Rattle.commit_jobs.specs.Marks.{Marks, with_mark}
+use Rattle.commit_jobs.proofs.MarkLaws.{marked_beside, marked_here}
 use Rattle.cached_frag.specs.Cached.{shown_over}
-use Rattle.cached_frag.proofs.ShownLaws.{marked_beside, marked_here, only_below, shown_put}
+use Rattle.cached_frag.proofs.ShownLaws.{only_below, shown_put}
 use Rattle.dentry_cache.specs.Cache.{Leaf, Unsaved, leaf_is}
 use Rattle.dentry_cache.specs.Loading.{object_of}
 use Rattle.dentry_cache.specs.Ties.{Keeps, KeepsAt, names_at}
 use Rattle.dentry_cache.proofs.LeafLaws.{leaf-total, leaf_itself, leaf_or_apart, tied_leaf}
 use Rattle.inode_table.specs.Dirs.{Homes, IsTable, is_known, leaves_of}
 use Rattle.inode_table.specs.TreeTable.{IsTabled}
+use Rattle.inode_table.proofs.Tables.{tree_of_row}
 use Rattle.namespace_ops.specs.Changes.{IsLeafAt}
 use Rattle.mdcache.specs.Changes.{Counts, IsAsItStands, dirtied, with_name}
 use Rattle.mdcache.specs.Shown.{names_of, shown_at, shown_tree}
@@ -36,7 +38,6 @@ use Rattle.mdcache.specs.Sound.{AreYoung, IsOwned, IsSaved, IsSound, IsStanding,
 use Rattle.mdcache.specs.State.{IsLive, State, text_of}
 use Rattle.mdcache.proofs.ShownLaws.{found_at, found_nowhere}
 use Rattle.mdcache.proofs.SoundLaws.{names_alike}
-use Rattle.mdcache.proofs.TextLaws.{tree_of_row}
 
 -- all that every state keeps, but that the table is that of the tree
 pub record HasSoundLeaves (s : State) : Type 0 where

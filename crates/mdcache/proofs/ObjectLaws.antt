@@ -97,14 +97,14 @@ module _ (s : State) (dir : Ino) (sound : IsSound s) (known : is_known s.homes d
       go false = get_left s.objects (tree_text dir) q apart
 
   same_beside : (leaf : Leaf) → IsLive s.homes s.covers leaf → object_of objects leaf.0 leaf.1 ≡ object_of s.objects leaf.0 leaf.1
-  same_beside leaf live = beside (text_of leaf) (no_tree_text s sound leaf dir live known)
+  same_beside leaf live = beside (text_of leaf) (no_tree_text s.homes s.covers sound.table sound.numbered leaf dir live known)
 
   pub tree_saved_tree : shown_tree (tree_saved s dir) ≡ shown_tree s
   tree_saved_tree = other_objects_tree s objects (map.remove s.purge (tree_text dir)) sound same_beside
 
   pub tree_saved_sound : IsSound (tree_saved s dir)
   tree_saved_sound = other_objects s objects (map.remove s.purge (tree_text dir)) sound same_beside
-      (λ q has. go q has (name_or_other (tree_text dir) q)) (λ leaf live. get_left s.purge (tree_text dir) (text_of leaf) (no_tree_text s sound leaf dir live known) ∙ sound.listed leaf live)
+      (λ q has. go q has (name_or_other (tree_text dir) q)) (λ leaf live. get_left s.purge (tree_text dir) (text_of leaf) (no_tree_text s.homes s.covers sound.table sound.numbered leaf dir live known) ∙ sound.listed leaf live)
     where
       go : (q : List ℕ) → is_some (map.get objects q) ≡ true → (q ≡ tree_text dir) ⊎ (q ≡ tree_text dir → ⊥) → IsOwned (tree_saved s dir) q
       go q has (inl same) = inr (inl (dir, known, same))

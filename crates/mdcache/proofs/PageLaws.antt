@@ -3,6 +3,7 @@ use Rattle.std.proofs.Common.{◌≡◌, ℕ, zero, suc, ◌≤◌, ◌||◌, Bo
 use Rattle.std.proofs.lemmas.Bool.Decides.{nat_tests}
 use Rattle.std.proofs.lemmas.List.{length-set, take_all}
 use Rattle.std.proofs.lemmas.List.Edits.{length-insert}
+use Rattle.std.proofs.lemmas.Bool.{or_right}
 use Rattle.std.specs.Cmp.{IsTotalOrder}
 use Rattle.std.specs.Cmp.Lexicographic.{nat_list_cmp_total}
 use Rattle.std.specs.FinMap.Entries.{below_all, by_order, is_sorted, is_sorted-put, put}
@@ -17,10 +18,6 @@ use Rattle.mdcache.specs.Pages.{Gathered, IsBeyond, IsPageOf, Takes}
 pub or_false : (b : Bool) → b ≡ (b || false)
 or_false true = refl
 or_false false = refl
-
-pub or_true : (b : Bool) → (b || true) ≡ true
-or_true true = refl
-or_true false = refl
 
 -- ---- the first of a list
 
@@ -209,7 +206,7 @@ module _ (name : List ℕ) (inode : Inode) (rows : List Row) (most : ℕ) (kept 
         let long : length with_row ≡ length (insert rows at (name, inode)) = ap length put_is in
         let one_more = length-insert rows at (name, inode) (omega (arith, within, seen_long)) in
         let many : nat_lt most (length with_row) ≡ true = grind (arith, nat_tests) in
-        sym (or_true more) ∙ ap (λ b. more || b) (sym many)
+        sym (or_right more true refl) ∙ ap (λ b. more || b) (sym many)
 
     -- within the page
     module _ (new : List Row) (row : Row) (n : ℕ) (copied : row ≡ (name, inode)) (bound : n ≡ most) where

@@ -10,10 +10,9 @@ use Rattle.mds_types.proofs.Fragments.{child_is_fragment}
 use Rattle.mds_types.proofs.ObjectTextLaws.{texts_differ}
 use Rattle.fragtree.specs.FragTree.{HasLeaf, IsChild}
 use Rattle.omap.specs.Omap.{Keys}
-use Rattle.dirfrag_codec.proofs.ByteKeys.{get_beside, get_left, get_put, get_removed}
+use Rattle.dirfrag_codec.proofs.ByteKeys.{get_beside, get_left, get_put, get_removed, same_or_apart as key_or_apart}
 use Rattle.mdcache.specs.Splits.{IsListedAnew, NameChildren, without_objects}
 use Rattle.mdcache.specs.State.{text_of}
-use Rattle.mdcache.proofs.HomeLaws.{key_or_apart}
 
 -- what isn't on the list stays off it
 stays_off : (names : Keys) (texts : List (List ℕ)) (q : List ℕ) → map.get names q ≡ None → map.get (without_objects names texts) q ≡ None

@@ -1,7 +1,7 @@
 -- What a change of one name leaves, from the parts of the state.
-use Rattle.std.proofs.Common.{◌≡◌, ◌⊎◌, inl, inr, ℕ, ◌+◌, ◌<◌, Bool, true, false, cond, List, Option, Some, None, refl, sym, ap, subst, ◌∙◌, arith}
+use Rattle.std.proofs.Common.{◌≡◌, ◌⊎◌, inl, inr, ℕ, ◌+◌, ◌<◌, Bool, true, false, cond, List, Option, Some, None, refl, sym, ap, subst, ◌∙◌}
 use Rattle.std.specs.Prelude.{◌==◌}
-use Rattle.std.proofs.lemmas.Bool.Decides.{nat_tests}
+use Rattle.std.proofs.lemmas.Bool.{eqb-true}
 use Rattle.std.specs.FinMap as map
 use Rattle.std.specs.FinMap.{empty_of_len, get-empty}
 use Rattle.mds_types.specs.declared.dentries.Dentry.{Dentry}
@@ -40,10 +40,7 @@ use Rattle.mdcache.proofs.ChangeLaws.{changes_are_right}
 
 -- no names are dirty where their number is 0
 none_dirty : (marks : Marks) → (map.len marks == 0) ≡ true → marks ≡ map.empty
-none_dirty marks h = empty_of_len marks (zero_is (map.len marks) h)
-  where
-    zero_is : (n : ℕ) → (n == 0) ≡ true → n ≡ 0
-    zero_is n h = grind (arith, nat_tests)
+none_dirty marks h = empty_of_len marks (eqb-true (map.len marks) 0 h)
 
 -- a fragment in which a name was marked isn't clean
 marked_unclean : (base : Base) (dirty : Marks) (name : List ℕ) (mark : Mark) → is_clean_over base (map.insert dirty name mark) ≡ false

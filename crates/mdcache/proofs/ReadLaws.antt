@@ -1,5 +1,6 @@
 -- What reads leave of the places of a cache.
 use Rattle.std.proofs.Common.{◌≡◌, ◌⊎◌, inl, inr, ℕ, ◌+◌, ◌≤◌, Bool, true, false, cond, not, ◌&&◌, [], ◌∷◌, ◌++◌, length, Option, Some, None, Result, Ok, Err, OnOk, OnErr, refl, sym, ap, subst, ◌∙◌, arith}
+use Rattle.std.proofs.lemmas.Bool.{and_parts}
 use Rattle.std.specs.Prelude.{◌==◌, IfErr, IfOk}
 use Rattle.std.specs.Map.{lookup, remove_entry}
 use Rattle.std.specs.FinMap as map
@@ -41,14 +42,10 @@ fixed_append : (xs ys : Places) → fixed_places (xs ++ ys) ≡ fixed_places xs 
 fixed_append [] ys = omega arith
 fixed_append (x ∷ xs) ys = omega (arith, fixed_append xs ys)
 
-first_true : (a b : Bool) → (a && b) ≡ true → a ≡ true
-first_true true b h = refl
-first_true false b h = h
-
 evicted_fixed : (old mid : Held) → Evicts None old mid → fixed_places mid.entries ≡ fixed_places old.entries
 evicted_fixed old mid e =
     let o = e.1 in
-    let goes : weight o.place ≡ 0 = ap (λ (b : Bool). cond b 0 1) (first_true (is_evictable o.place) (not (stays None e.0)) o.goes) in
+    let goes : weight o.place ≡ 0 = ap (λ (b : Bool). cond b 0 1) (and_parts (is_evictable o.place) (not (stays None e.0)) o.goes).0 in
     let was : fixed_places old.entries ≡ fixed_places o.later + (weight o.place + fixed_places o.before) = ap fixed_places o.among ∙ fixed_append o.later ((e.0, o.place) ∷ o.before) in
     let now : fixed_places mid.entries ≡ fixed_places o.later + fixed_places o.before = ap (λ (h : Held). fixed_places h.entries) e.2 ∙ fixed_append o.later o.before in
     omega (arith, goes, was, now)
@@ -299,10 +296,6 @@ module _ (leaf : Leaf) (old new : Held) where
 pub map_err : {A E P : Type 0} {Q R : E → Type 0} (r : Result A E) → ((e : E) → P → Q e → R e) → OnErr r P → IfErr r Q → IfErr r R
 map_err (Ok x) f p q = tt
 map_err (Err e) f p q = f e p q
-
-pub map_ok : {A E P Q : Type 0} (r : Result A E) → (P → Q) → OnOk r P → OnOk r Q
-map_ok (Ok x) f p = f p
-map_ok (Err e) f p = tt
 
 pub map_if_ok : {A E : Type 0} {P Q : A → Type 0} (r : Result A E) → ((x : A) → P x → Q x) → IfOk r P → IfOk r Q
 map_if_ok (Ok x) f p = f x p

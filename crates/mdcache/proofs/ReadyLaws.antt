@@ -9,14 +9,12 @@ use Rattle.mds_types.specs.Frag.{Fragment}
 use Rattle.mds_types.specs.Tree.{is_directory}
 use Rattle.omap.specs.Omap.{Omap}
 use Rattle.objstore.specs.Objects.{Objects}
-use Rattle.commit_jobs.specs.declared.bases.Base.{Base}
-use Rattle.commit_jobs.specs.declared.bases.Base.TheVariants.{Fresh, Stored}
 use Rattle.cached_frag.specs.Cached.{Cached}
 use Rattle.dentry_cache.specs.Cache.{HasCached, HasRoom, Held, IsChanged, IsFull, IsThere, Leaf, MayMakeRoom, NoneGoes, Places, cached, fragment_in, is_kept, kept_place, leaf_is, may_go, unsaved, without}
 use Rattle.dentry_cache.specs.declared.cache.Place.{Place}
 use Rattle.dentry_cache.specs.Leaving.{IsLeft, LeavesBeside}
 use Rattle.dentry_cache.specs.Loading.{Loads, object_of}
-use Rattle.dentry_cache.specs.Ties.{IsTied, IsTiedAt}
+use Rattle.dentry_cache.specs.Ties.{IsTied}
 use Rattle.dentry_cache.proofs.LeafLaws.{leaf_itself, one_leaf}
 use Rattle.dentry_cache.proofs.LeavingLaws.{staying_is_left}
 use Rattle.dentry_cache.proofs.TieLaws.{fetched_are_tied}
@@ -31,7 +29,7 @@ use Rattle.mdcache.specs.Ready.{IsFrom, LacksBeside, MayNotFind, Readies}
 use Rattle.mdcache.specs.Reads.{MayNotRead, Reads}
 use Rattle.mdcache.specs.Shown.{shown_tree}
 use Rattle.mdcache.specs.State.{IsLive, State}
-use Rattle.mdcache.proofs.CachedLaws.{cached_after, keeps_unsaved, used_keeps}
+use Rattle.mdcache.proofs.CachedLaws.{cached_after, keeps_unsaved, used_keeps, tied_but}
 
 -- ---- one step after the other
 
@@ -115,11 +113,6 @@ pub not_there : (o : Option Place) → is_kept o ≡ false → fragment_in o ≡
 not_there None unkept absent = refl
 not_there (Some place) unkept absent = let clash : Some place.frag ≡ None = sym (ap (λ (b : Bool). cond b None (Some place.frag)) unkept) ∙ absent in absurd cc
 
--- a place that is kept has no fragment yet
-pub kept_none : (o : Option Place) → is_kept o ≡ true → fragment_in o ≡ None
-kept_none None kept = refl
-kept_none (Some place) kept = ap (λ (b : Bool). cond b None (Some place.frag)) kept
-
 pub given_up : (leaf : Leaf) (old new : Held) → cached old.entries leaf ≡ None → new ≡ without leaf old → lookup (leaf_is leaf) new.entries ≡ None → (q : Leaf) → cached new.entries q ≡ cached old.entries q
 given_up leaf old new absent is gone q = go (leaf_is leaf q) refl
   where
@@ -190,12 +183,6 @@ map_if_err (Ok x) f p = tt
 map_if_err (Err e) f p = f e p
 
 -- ---- the state
-
--- room is no part of a tie
-tied_but : (b : Base) (g : Cached) (room places : ℕ) (object : Option Omap) → IsTiedAt b g object → IsTiedAt b (record g { room = room; places = places }) object
-tied_but Fresh g room places object tie = tt
-tied_but (Stored version) g room places None tie = tie
-tied_but (Stored version) g room places (Some object) tie = tie
 
 module _ (dirs : Table) (cache : Held) (objects : Objects) (jobs : Standing) (purge : Listed) (next : Counters) (kept : IsKept (state_of dirs cache objects jobs purge next) cache) where
   abbrev s : State

@@ -4,25 +4,22 @@ use Rattle.std.specs.Prelude.{is_some, map as each}
 use Rattle.std.specs.List.{Contains, list_all, list_any}
 use Rattle.std.specs.FinMap as map
 use Rattle.std.specs.FinMap.{empty_of_len, get-empty, same_map}
-use Rattle.std.proofs.lemmas.Bool.{eqb-true}
+use Rattle.std.proofs.lemmas.Bool.{eqb-true, and_right}
 use Rattle.mds_types.specs.declared.ids.Ino.{Ino}
 use Rattle.mds_types.specs.declared.dentries.Dentry.{Dentry}
 use Rattle.mds_types.specs.declared.inodes.Inode.{Inode}
-use Rattle.mds_types.specs.declared.object_names.ObjName.{ObjName}
-use Rattle.mds_types.specs.declared.object_names.ObjName.TheVariants.{Frag, Tree as TreeOf}
-use Rattle.mds_types.specs.Frag.{Contains as Holds, Fragment, IsFragment, root_fragment, span}
+use Rattle.mds_types.specs.Frag.{Contains as Holds, Fragment, span}
 use Rattle.mds_types.specs.Tree.{Tree, dentry_of}
 use Rattle.mds_types.specs.OrderLaws.{dentry-exact}
 use Rattle.mds_types.proofs.OrderLaws.{dentry-total}
-use Rattle.mds_types.proofs.ObjectTextLaws.{texts_differ}
 use Rattle.sorted_map.proofs.NatKeys.{get_beside as get_other_cover, get_put as get_cover, is_same, same_or_apart as same_number}
 use Rattle.fragtree.specs.FragTree.{HasLeaf, IsPick}
 use Rattle.fragtree.proofs.Entries.{one_or_other}
-use Rattle.fragtree.proofs.Tilings.{between}
 use Rattle.fragtree.proofs.TreeLaws.{first_or_later, later, pick_from_leaf}
 use Rattle.namehash.specs.Rjenkins.{hash_of}
 use Rattle.omap.specs.Omap.{key_cmp}
 use Rattle.dirfrag_codec.specs.FragmentObject.{Names}
+use Rattle.dirfrag_codec.proofs.ByteKeys.{same_or_apart as key_or_apart}
 use Rattle.commit_jobs.specs.declared.bases.Base.{Base}
 use Rattle.commit_jobs.specs.declared.bases.Base.TheVariants.{Fresh, Stored}
 use Rattle.commit_jobs.specs.declared.jobs.Job.{Job}
@@ -34,11 +31,11 @@ use Rattle.dentry_cache.specs.Cache.{Leaf, Unsaved, leaf_is}
 use Rattle.dentry_cache.specs.Loading.{object_of}
 use Rattle.dentry_cache.specs.Pairs.{holds}
 use Rattle.dentry_cache.specs.Ties.{names_at}
-use Rattle.dentry_cache.proofs.LeafLaws.{leaf_itself, one_leaf}
+use Rattle.dentry_cache.proofs.LeafLaws.{one_leaf}
 use Rattle.dentry_cache.proofs.LoadLaws.{holds_contains}
-use Rattle.inode_table.specs.Dirs.{Covers, Homes, IsTable, is_known, leaves_of, or_whole}
+use Rattle.inode_table.specs.Dirs.{IsTable, is_known, leaves_of, or_whole}
 use Rattle.inode_table.specs.TreeTable.{IsTabled}
-use Rattle.inode_table.proofs.Tables.{set_table}
+use Rattle.inode_table.proofs.Tables.{set_table, tree_of_row}
 use Rattle.namespace_ops.specs.Changes.{in_directory}
 use Rattle.mdcache.specs.Made.{StaysAsItIs}
 use Rattle.mdcache.specs.Reads.{has_none}
@@ -46,11 +43,10 @@ use Rattle.mdcache.specs.Shown.{names_of, shown_at, shown_tree}
 use Rattle.mdcache.specs.Sound.{AreYoung, IsOwned, IsSaved, IsSound, IsStanding, IsUnsaved}
 use Rattle.mdcache.specs.Splits.{Comes, HasUnsaved, IsConcerned, IsNewLeaf, IsRegrouped, KeepsTree, are_empty, regrouped}
 use Rattle.mdcache.specs.State.{IsLive, State, text_of}
-use Rattle.mdcache.proofs.GoneLaws.{get_without}
-use Rattle.mdcache.proofs.HomeLaws.{key_or_apart}
+use Rattle.mdcache.proofs.GoneLaws.{get_without, among}
 use Rattle.mdcache.proofs.NamedLaws.{HasSoundLeaves, known_or_not, pick_at, sound_again, sound_leaves, stands_at, stands_nowhere}
 use Rattle.mdcache.proofs.SoundLaws.{names_alike}
-use Rattle.mdcache.proofs.TextLaws.{tree_of_row}
+use Rattle.mdcache.proofs.TextLaws.{one_text}
 
 -- ---- leaves of a list
 
@@ -100,36 +96,14 @@ unmapped d q (f ∷ fs) is = go (leaf_is q (in_directory d f)) refl is (unmapped
     go true here h next = let same = one_leaf q (in_directory d f) here in (ap (λ (l : Leaf). l.0.0) same, (zero, omega arith, ap (λ (l : Leaf). l.1) (sym same)))
     go false here h next = let rest = next h in (rest.0, later f q.1 fs rest.1)
 
-among : (d : ℕ) (q : Leaf) (fs : List Fragment) → q.0.0 ≡ d → HasLeaf fs q.1 → list_any (leaf_is q) (each (in_directory d) fs) ≡ true
-among d q [] same (k, stands, is) = absurd (omega (arith, stands))
-among d q (f ∷ fs) same has = go (among d q fs same) (first_or_later f q.1 fs has)
-  where
-    first : (b c : Bool) → b ≡ true → (b || c) ≡ true
-    first true c h = refl
-    first false c h = let clash : false ≡ true = h in cc
-
-    second : (b c : Bool) → c ≡ true → (b || c) ≡ true
-    second true c h = refl
-    second false c h = h
-
-    go : (HasLeaf fs q.1 → list_any (leaf_is q) (each (in_directory d) fs) ≡ true) → (f ≡ q.1) ⊎ HasLeaf fs q.1 → (leaf_is q (in_directory d f) || list_any (leaf_is q) (each (in_directory d) fs)) ≡ true
-    go next (inl here) =
-        let its : in_directory d f ≡ q = λ i. (record { 0 = sym same i }, here i) in
-        first (leaf_is q (in_directory d f)) (list_any (leaf_is q) (each (in_directory d) fs)) (ap (leaf_is q) its ∙ leaf_itself q)
-    go next (inr more) = second (leaf_is q (in_directory d f)) (list_any (leaf_is q) (each (in_directory d) fs)) (next more)
-
 -- a test that some leaf fails fails for all of them
 one_fails : (test : Fragment → Bool) (f : Fragment) (fs : List Fragment) → HasLeaf fs f → test f ≡ false → list_all test fs ≡ false
 one_fails test f [] (k, stands, is) fails = absurd (omega (arith, stands))
 one_fails test f (g ∷ gs) has fails = go (one_fails test f gs) (first_or_later g f gs has)
   where
-    second : (b c : Bool) → c ≡ false → (b && c) ≡ false
-    second true c h = h
-    second false c h = refl
-
     go : (HasLeaf gs f → test f ≡ false → list_all test gs ≡ false) → (g ≡ f) ⊎ HasLeaf gs f → (test g && list_all test gs) ≡ false
     go next (inl is) = ap (λ (b : Bool). b && list_all test gs) (ap test is ∙ fails)
-    go next (inr more) = second (test g) (list_all test gs) (next more fails)
+    go next (inr more) = and_right (test g) (list_all test gs) (next more fails)
 
 -- ---- names of a leaf that came
 
@@ -156,10 +130,6 @@ dirty_shows Fresh below u version name inode fresh is = get-patched map.empty u.
 abbrev version_in : Option Mark → ℕ
 version_in None = 0
 version_in (Some m) = m.version
-
-abbrev leaf_in : ObjName → Leaf
-leaf_in (Frag dir f) = (dir, f)
-leaf_in (TreeOf dir) = (dir, root_fragment)
 
 -- ---- the state
 
@@ -365,23 +335,15 @@ module _ (s : State) (sound : IsSound s) (dir : Ino) (gone cover : List Fragment
           neither f same (inl ended) = other f ended same
           neither f same (inr came) = none f came.0 same
 
-  -- leaves whose objects have one name are one
-  is_fragment : (homes : Homes) (covers : Covers) (leaf : Leaf) → IsTable homes covers → IsLive homes covers leaf → IsFragment leaf.1
-  is_fragment homes covers leaf valid live = (between 0 16777216 (leaves_of covers leaf.0.0) leaf.1 (tree_of_row homes covers valid leaf.0.0).tiles live.stands).0
-
-  one_text : (covers : Covers) (a b : Leaf) → IsTable s.homes covers → IsLive s.homes covers a → IsLive s.homes covers b → text_of a ≡ text_of b → a ≡ b
-  one_text covers a b valid p q same =
-      ap leaf_in (texts_differ (Frag a.0 a.1) (Frag b.0 b.1) (sound.numbered a.0.0 p.known, is_fragment s.homes covers a valid p) (sound.numbered b.0.0 q.known, is_fragment s.homes covers b valid q) same)
-
   listed_now : (leaf : Leaf) → IsLive n.homes n.covers leaf → map.get r.purge (text_of leaf) ≡ None
   listed_now leaf live = go (live_which leaf live)
     where
       neither : (apart : Apart leaf) → IsLive s.homes s.covers leaf → (f : Fragment) → HasLeaf gone f ⊎ Comes row cover f → text_of leaf ≡ text_of (dir, f) → ⊥
       neither apart old f (inl ended) same =
-          let one : leaf ≡ (dir, f) = one_text s.covers leaf (dir, f) sound.table old (gone_live f ended) same in
+          let one : leaf ≡ (dir, f) = one_text s.homes s.covers sound.table sound.numbered leaf (dir, f) old (gone_live f ended) same in
           apart (ap (λ (l : Leaf). l.0.0) one) (inl (subst (HasLeaf gone) (ap (λ (l : Leaf). l.1) (sym one)) ended))
       neither apart old f (inr came) same =
-          let one : leaf ≡ (dir, f) = one_text n.covers leaf (dir, f) table live (came_live (dir, f) refl came.0) same in
+          let one : leaf ≡ (dir, f) = one_text s.homes n.covers table sound.numbered leaf (dir, f) live (came_live (dir, f) refl came.0) same in
           apart (ap (λ (l : Leaf). l.0.0) one) (inr (subst (Comes row cover) (ap (λ (l : Leaf). l.1) (sym one)) came))
 
       go : ((leaf.0.0 ≡ dir.0) × Comes row cover leaf.1) ⊎ (Apart leaf × IsLive s.homes s.covers leaf) → map.get r.purge (text_of leaf) ≡ None

@@ -34,6 +34,7 @@ use Rattle.dentry_cache.proofs.LoadLaws.{holds_contains}
 use Rattle.dentry_cache.proofs.NameParts.{get-names_in}
 use Rattle.dentry_cache.proofs.SplitShows.{fresh_tied}
 use Rattle.inode_table.specs.Dirs.{Covers, Homes, Table, is_known, leaves_of}
+use Rattle.inode_table.proofs.Tables.{tree_of_row}
 use Rattle.purge_list.specs.PurgeList.{Listed}
 use Rattle.standing_jobs.specs.StandingJobs.{Standing}
 use Rattle.mdcache.specs.declared.mdcache.Counters.{Counters}
@@ -45,7 +46,6 @@ use Rattle.mdcache.proofs.EndLaws.{cached_shows}
 use Rattle.mdcache.proofs.NamedLaws.{pick_at, sound_leaves, stands_at}
 use Rattle.mdcache.proofs.RegroupLaws.{apart_live, came_live, which}
 use Rattle.mdcache.proofs.SplitLaws.{split_ends, split_stood, splits_right}
-use Rattle.mdcache.proofs.TextLaws.{tree_of_row}
 
 -- a child is no leaf of a tree that has the fragment
 no_leaf_yet : (leaves : List Fragment) (frag : Fragment) (nb i : ℕ) → IsTree leaves → HasLeaf leaves frag → 1 ≤ nb → frag.bits + nb ≤ 24 → i < 2 ^ nb → HasLeaf leaves (child_of frag i nb) → ⊥

@@ -1,6 +1,7 @@
 -- What a walk over the leaves of a directory finds.
 use Rattle.std.proofs.Common.{◌≡◌, ◌⊎◌, inl, inr, ℕ, zero, suc, Bool, true, false, cond, not, ◌&&◌, List, [], ◌∷◌, length, Option, Some, None, refl, sym, ap, subst, ◌∙◌, arith}
 use Rattle.std.proofs.lemmas.Bool.Decides.{nat_tests}
+use Rattle.std.proofs.lemmas.Bool.{and_parts}
 use Rattle.std.specs.List.{Contains, list_all}
 use Rattle.std.specs.FinMap as map
 use Rattle.std.specs.FinMap.{find, get-entries, len-entries}
@@ -14,7 +15,7 @@ use Rattle.mds_types.proofs.ListingLaws.{names_are_listed, no_entries_listed}
 use Rattle.omap.specs.Omap.{key_cmp}
 use Rattle.objstore.specs.Objects.{Objects}
 use Rattle.fragtree.specs.FragTree.{HasLeaf, IsPick}
-use Rattle.fragtree.proofs.TreeLaws.{some_pick}
+use Rattle.fragtree.proofs.TreeLaws.{some_pick, first as first_has, later as later_has}
 use Rattle.namehash.specs.Rjenkins.{hash_of}
 use Rattle.dirfrag_codec.specs.FragmentObject.{Names}
 use Rattle.dirfrag_codec.proofs.ByteKeys.{key_itself}
@@ -25,12 +26,12 @@ use Rattle.dentry_cache.specs.Ties.{AreTied, IsTied}
 use Rattle.dentry_cache.proofs.CacheLaws.{get-unsaved}
 use Rattle.dentry_cache.proofs.TieLaws.{fetched_are_tied}
 use Rattle.inode_table.specs.Dirs.{is_known, leaves_of}
+use Rattle.inode_table.proofs.Tables.{tree_of_row}
 use Rattle.mdcache.specs.Reads.{Reads, has_none}
 use Rattle.mdcache.specs.Shown.{names_of, shown_at, shown_tree}
 use Rattle.mdcache.specs.Sound.{IsSound}
 use Rattle.mdcache.specs.State.{State, UnsavedLeaves}
 use Rattle.mdcache.proofs.EndLaws.{cached_shows}
-use Rattle.mdcache.proofs.TextLaws.{tree_of_row}
 use Rattle.mdcache.proofs.TreeLookups.{at_dentry}
 
 -- ---- what is cached after a read
@@ -58,12 +59,6 @@ shown_after May objects old new reads tied leaf P has = go (cached new.entries l
         subst P (sym (ap (λ (m : UnsavedLeaves). names_of m objects leaf) (sym reads.unsaved) ∙ shows_tied new.entries objects (reads_tied May objects old new reads tied) leaf f there)) h
 
 -- ---- leaf by leaf
-
-pub first_has : (f : Fragment) (fs : List Fragment) → Contains (f ∷ fs) f
-first_has f fs = (zero, omega arith, refl)
-
-pub later_has : (f g : Fragment) (fs : List Fragment) → Contains fs g → Contains (f ∷ fs) g
-later_has f g fs has = (suc has.0, omega (arith, has.1), has.2)
 
 -- the leaves to come are some of all
 abbrev pub AreWithin : List Fragment → List Fragment → Type 0
@@ -96,16 +91,8 @@ some_fails p (f ∷ fs) fails = go (λ rest. some_fails p fs rest) (p f) refl fa
 
 all_pass : (p : Fragment → Bool) (fs : List Fragment) → list_all p fs ≡ true → (f : Fragment) → Contains fs f → p f ≡ true
 all_pass p [] holds f (k, within, is) = absurd (omega (arith, within))
-all_pass p (g ∷ gs) holds f (zero, within, is) = ap p (sym is) ∙ first_true (p g) (list_all p gs) holds
-  where
-    first_true : (a b : Bool) → (a && b) ≡ true → a ≡ true
-    first_true true b h = refl
-    first_true false b h = h
-all_pass p (g ∷ gs) holds f (suc k, within, is) = all_pass p gs (second_true (p g) (list_all p gs) holds) f (k, omega (arith, within), is)
-  where
-    second_true : (a b : Bool) → (a && b) ≡ true → b ≡ true
-    second_true true b h = h
-    second_true false b h = cc
+all_pass p (g ∷ gs) holds f (zero, within, is) = ap p (sym is) ∙ (and_parts (p g) (list_all p gs) holds).0
+all_pass p (g ∷ gs) holds f (suc k, within, is) = all_pass p gs (and_parts (p g) (list_all p gs) holds).1 f (k, omega (arith, within), is)
 
 -- names that aren't none have a first
 some_name : (names : Names) → has_none names ≡ false → (name : List ℕ) × (inode : Inode) × (map.get names name ≡ Some inode)

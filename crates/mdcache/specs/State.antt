@@ -1,15 +1,15 @@
 -- What contracts see of the tree over caches and a store.
-use Rattle.std.specs.Prelude.{◌≡◌, ℕ, true, List}
+use Rattle.std.specs.Prelude.{ℕ, List}
 use Rattle.std.specs.FinMap as map
 use Rattle.mds_types.specs.ObjectText.{object_text}
 use Rattle.mds_types.specs.declared.ids.Ino.{Ino}
 use Rattle.mds_types.specs.declared.object_names.ObjName.TheVariants.{Tree as TreeOf}
-use Rattle.fragtree.specs.FragTree.{HasLeaf}
 use Rattle.omap.specs.Omap.{Keys}
 use Rattle.objstore.specs.Objects.{Objects}
 use Rattle.dentry_cache.specs.Cache.{Leaf, Unsaved, leaf_cmp}
 use Rattle.dentry_cache.specs.Commits.{leaf_text}
-use Rattle.inode_table.specs.Dirs.{Covers, Homes, is_known, leaves_of}
+use Rattle.inode_table.specs.Dirs.{Covers, Homes}
+pub use Rattle.inode_table.specs.Dirs.{IsLive}
 use Rattle.standing_jobs.specs.StandingJobs.{Jobs}
 
 -- the fragments that aren't clean
@@ -28,11 +28,6 @@ pub record State : Type 0 where
   pub next_job : ℕ
   pub next_generation : ℕ
   pub next_version : ℕ
-
--- a leaf is live: its directory is in the table, and has it
-pub record IsLive (homes : Homes) (covers : Covers) (leaf : Leaf) : Type 0 where
-  pub known : is_known homes leaf.0.0 ≡ true
-  pub stands : HasLeaf (leaves_of covers leaf.0.0) leaf.1
 
 -- the texts that name a leaf's object and the object of a directory's tree
 abbrev pub text_of : Leaf → List ℕ

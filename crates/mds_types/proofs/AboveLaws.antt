@@ -2,7 +2,7 @@
 -- is longer than the tree.
 use Rattle.std.specs.Prelude.{◌≡◌, ℕ, zero, suc, ◌<◌, ◌≤◌, ◌-◌, ◌↔◌, Bool, true, false, cond, ◌||◌, ◌&&◌, ◌==◌, is_some, Option, Some, None, refl}
 use Rattle.std.proofs.Common.{sym, ap, subst, ◌∙◌, ⊎_elim, arith}
-use Rattle.std.proofs.lemmas.Bool.{eqb-true}
+use Rattle.std.proofs.lemmas.Bool.{eqb-true, and_from, and_parts, or_left, or_right}
 use Rattle.std.specs.FinMap as map
 use Rattle.std.specs.FinMap.{get-empty, get-entries, len-remove, empty_of_len}
 use Rattle.mds_types.specs.declared.dentries.Dentry.{Dentry}
@@ -12,7 +12,6 @@ use Rattle.mds_types.proofs.OrderLaws.{dentry-total}
 use Rattle.mds_types.proofs.DirectoryLaws.{one_dentry}
 use Rattle.mds_types.proofs.EntryLaws.{get_left, stands_after_removal, any_of}
 use Rattle.mds_types.proofs.EntrySearch.{any_found}
-use Rattle.sorted_map.proofs.Bools.{first_true, second_true, both_true, or_first, or_second}
 use Rattle.sorted_map.proofs.NatKeys.{is_same}
 
 -- so many entries lead from the root to the inode of a number
@@ -88,8 +87,8 @@ above_found zero tree d x holds = cc
 above_found (suc n) tree d x holds =
     let w = any_found dentry-total (λ e. (e.1.ino.0 == x) && ((e.0.dir.0 == d) || is_above_within n tree d e.0.dir.0)) (map.entries tree) (map.entries_sorted tree) holds in
     let stands : at tree w.0.0.dir.0 w.0.0.name ≡ Some w.0.1 = get-entries tree w.0.0 ∙ w.1 in
-    subst (λ y. IsAbove tree d y) (eqb-true w.0.1.ino.0 x (first_true _ _ w.2))
-    (go w.0.0 w.0.1 stands (w.0.0.dir.0 == d) refl (is_above_within n tree d w.0.0.dir.0) (above_found n tree d w.0.0.dir.0) (second_true _ _ w.2))
+    subst (λ y. IsAbove tree d y) (eqb-true w.0.1.ino.0 x (and_parts _ _ w.2).0)
+    (go w.0.0 w.0.1 stands (w.0.0.dir.0 == d) refl (is_above_within n tree d w.0.0.dir.0) (above_found n tree d w.0.0.dir.0) (and_parts _ _ w.2).1)
   where
     go : (p : Dentry) (i : Inode) → at tree p.dir.0 p.name ≡ Some i → (a : Bool) → (p.dir.0 == d) ≡ a → (b : Bool) → (b ≡ true → IsAbove tree d p.dir.0) → (a || b) ≡ true → IsAbove tree d i.ino.0
     go p i stands true is b below some = child p.name i (ap (λ m. at tree m p.name) (sym (eqb-true p.dir.0 d is)) ∙ stands)
@@ -100,13 +99,13 @@ found_above : (tree : Tree) (d x : ℕ) → IsNumbered tree → IsAbove tree d x
 found_above tree d _ numbers (child name inode stands) zero k root few = absurd (numbers.rootless (dentry_of d name) inode stands root)
 found_above tree d _ numbers (child name inode stands) (suc n) zero climbs few = absurd (omega arith)
 found_above tree d _ numbers (child name inode stands) (suc n) (suc k) climbs few =
-    any_of tree _ (dentry_of d name) inode stands (both_true _ _ (is_same inode.ino.0 inode.ino.0 refl) (or_first _ _ (is_same d d refl)))
+    any_of tree _ (dentry_of d name) inode stands (and_from _ _ (is_same inode.ino.0 inode.ino.0 refl) (or_left _ _ (is_same d d refl)))
 found_above tree d _ numbers (further m name inode above stands) zero k root few = absurd (numbers.rootless (dentry_of m name) inode stands root)
 found_above tree d _ numbers (further m name inode above stands) (suc n) zero climbs few = absurd (omega arith)
 found_above tree d _ numbers (further m name inode above stands) (suc n) (suc k) (p, i, stood, is, rest) few =
     let alike : p ≡ dentry_of m name = numbers.once p (dentry_of m name) i inode stood stands is in
     let shorter : Climbs tree n m = subst (λ (q : Dentry). Climbs tree n q.dir.0) alike rest in
-    any_of tree _ (dentry_of m name) inode stands (both_true _ _ (is_same inode.ino.0 inode.ino.0 refl) (or_second _ _ (found_above tree d m numbers above n k shorter (omega arith))))
+    any_of tree _ (dentry_of m name) inode stands (and_from _ _ (is_same inode.ino.0 inode.ino.0 refl) (or_right _ _ (found_above tree d m numbers above n k shorter (omega arith))))
 
 -- whatever is above something has an entry below it: the chain to that has a length
 climbs_below : (tree : Tree) (d x : ℕ) → IsWellFormed tree → IsAbove tree d x → (n : ℕ) × Climbs tree n x

@@ -2,7 +2,7 @@
 use Rattle.std.specs.Prelude.{◌≡◌, ℕ, true, false, ◌==◌, ◌⊎◌, Some, refl}
 use Rattle.std.specs.List.{list_any}
 use Rattle.std.proofs.Common.{sym, ap, subst, ◌∙◌, ⊎_elim, inl, inr}
-use Rattle.std.proofs.lemmas.Bool.{eqb-true}
+use Rattle.std.proofs.lemmas.Bool.{eqb-true, and_from, and_parts, or_cases, or_right}
 use Rattle.std.specs.FinMap as map
 use Rattle.std.specs.FinMap.{get-entries}
 use Rattle.mds_types.specs.declared.dentries.Dentry.{Dentry}
@@ -11,7 +11,6 @@ use Rattle.mds_types.specs.Tree.{Tree, at, is_directory, is_entry_of_directory, 
 use Rattle.mds_types.proofs.OrderLaws.{dentry-total}
 use Rattle.mds_types.proofs.EntryLaws.{any_of}
 use Rattle.mds_types.proofs.EntrySearch.{any_found}
-use Rattle.sorted_map.proofs.Bools.{first_true, second_true, both_true, or_cases, or_second}
 use Rattle.sorted_map.proofs.NatKeys.{is_same}
 
 -- no number stands at two dentries
@@ -39,8 +38,8 @@ directory_stands tree d here =
       dentry = w.0.0;
       inode = w.0.1;
       stands = get-entries tree w.0.0 ∙ w.1;
-      numbered = eqb-true w.0.1.ino.0 d (second_true _ _ w.2);
-      kinded = first_true _ _ w.2;
+      numbered = eqb-true w.0.1.ino.0 d (and_parts _ _ w.2).1;
+      kinded = (and_parts _ _ w.2).0;
     }))
     (or_cases (d == 1) (list_any (is_entry_of_directory d) (map.entries tree)) here)
 
@@ -53,7 +52,7 @@ root_stands tree = refl
 pub entry_stands : (tree : Tree) (dentry : Dentry) (inode : Inode) → map.get tree dentry ≡ Some inode → is_dir_kind inode.kind ≡ true → is_directory tree inode.ino.0 ≡ true
 unfolding is_directory
 entry_stands tree dentry inode stands kinded =
-    or_second (inode.ino.0 == 1) _ (any_of tree (is_entry_of_directory inode.ino.0) dentry inode stands (both_true _ _ kinded (is_same inode.ino.0 inode.ino.0 refl)))
+    or_right (inode.ino.0 == 1) _ (any_of tree (is_entry_of_directory inode.ino.0) dentry inode stands (and_from _ _ kinded (is_same inode.ino.0 inode.ino.0 refl)))
 
 -- a directory with an entry has entries
 pub entries_there : (tree : Tree) (dentry : Dentry) (inode : Inode) → map.get tree dentry ≡ Some inode → has_entries tree dentry.dir.0 ≡ true

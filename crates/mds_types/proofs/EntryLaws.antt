@@ -2,6 +2,7 @@
 use Rattle.std.specs.Prelude.{◌≡◌, Bool, true, false, cond, ◌||◌, ◌⊎◌, List, [], ◌∷◌, Some, None, refl}
 use Rattle.std.specs.List.{list_any}
 use Rattle.std.proofs.Common.{sym, ap, ◌∙◌, inl, inr}
+use Rattle.std.proofs.lemmas.Bool.{false_from_ne_true, or_left, or_right}
 use Rattle.std.specs.Ordering.{is_eq, eq_by_cmp}
 use Rattle.std.specs.Cmp.{tied_itself}
 use Rattle.std.specs.FinMap as map
@@ -11,7 +12,6 @@ use Rattle.mds_types.specs.declared.inodes.Inode.{Inode}
 use Rattle.mds_types.specs.Tree.{Tree, dentry_cmp}
 use Rattle.mds_types.proofs.OrderLaws.{dentry-total}
 use Rattle.mds_types.specs.OrderLaws.{dentry-exact}
-use Rattle.sorted_map.proofs.Bools.{or_first, or_second, not_true}
 use Rattle.sorted_map.proofs.MapLaws.{tie}
 
 -- two dentries that tie are one
@@ -25,7 +25,7 @@ pub same_dentry_is : (p q : Dentry) → p ≡ q → eq_by_cmp dentry_cmp p q ≡
 same_dentry_is p q same = ap (λ r. eq_by_cmp dentry_cmp p r) (sym same) ∙ dentry_itself p
 
 pub dentry_apart : (p q : Dentry) → (p ≡ q → ⊥) → eq_by_cmp dentry_cmp p q ≡ false
-dentry_apart p q apart = not_true _ (λ tied. apart (dentry_tied p q tied))
+dentry_apart p q apart = false_from_ne_true _ (λ tied. apart (dentry_tied p q tied))
 
 pub same_or_apart : (p q : Dentry) → (p ≡ q) ⊎ (p ≡ q → ⊥)
 same_or_apart p q = go (eq_by_cmp dentry_cmp p q) refl
@@ -73,8 +73,8 @@ any_of_pairs p (e ∷ es) k v found holds = go (eq_by_cmp dentry_cmp k e.0) refl
     go true tied more =
         let value : Some e.1 ≡ Some v = sym (ap (λ b. cond b (Some e.1) (find dentry_cmp k es)) tied) ∙ found in
         let is : v ≡ e.1 = cc in
-        or_first (p e) (list_any p es) (ap (λ (q : Dentry). p (q, e.1)) (sym (dentry_tied k e.0 tied)) ∙ ap (λ (i : Inode). p (k, i)) (sym is) ∙ holds)
-    go false apart more = or_second (p e) (list_any p es) (more (sym (ap (λ b. cond b (Some e.1) (find dentry_cmp k es)) apart) ∙ found))
+        or_left (p e) (list_any p es) (ap (λ (q : Dentry). p (q, e.1)) (sym (dentry_tied k e.0 tied)) ∙ ap (λ (i : Inode). p (k, i)) (sym is) ∙ holds)
+    go false apart more = or_right (p e) (list_any p es) (more (sym (ap (λ b. cond b (Some e.1) (find dentry_cmp k es)) apart) ∙ found))
 
 -- a test that an entry passes is passed by some entry
 pub any_of : (tree : Tree) (p : Dentry × Inode → Bool) (dentry : Dentry) (inode : Inode) → map.get tree dentry ≡ Some inode → p (dentry, inode) ≡ true → list_any p (map.entries tree) ≡ true

@@ -3,24 +3,19 @@ use Rattle.std.specs.Prelude.{◌≡◌, Bool, true, false, cond, ◌||◌, T, L
 use Rattle.std.proofs.Common.{sym, ap, ◌∙◌}
 use Rattle.std.specs.List.{list_any}
 use Rattle.std.specs.declared.cmp.Ordering.{Ordering}
-use Rattle.std.specs.declared.cmp.Ordering.TheVariants.{Less, Equal, Greater}
-use Rattle.std.specs.Ordering.{is_lt, is_eq, eq_by_cmp}
+use Rattle.std.specs.Ordering.{is_eq, eq_by_cmp}
 use Rattle.std.specs.Cmp.{IsTotalOrder, tied_itself}
 use Rattle.std.specs.FinMap.{find, is_sorted}
 use Rattle.std.specs.FinMap.Entries.{below_all, find_tied}
 use Rattle.sorted_map.proofs.Bools.{left_of, right_of}
 use Rattle.sorted_map.proofs.MapLaws.{tie}
+use Rattle.sorted_map.proofs.PlaceLaws.{less}
 
 -- an entry that passes a test is found at its key
 module _ {K X : Type 0} {R : K → K → Ordering} (o : IsTotalOrder R) where
   pub not_found_below : (k : K) (es : List (K × X)) → T (below_all R k es) → find R k es ≡ None
   not_found_below k [] below = refl
   not_found_below k (e ∷ es) below = ap (λ r. cond (is_eq r) (Some e.1) (find R k es)) (less (R k e.0) (left_of _ _ below)) ∙ not_found_below k es (right_of _ _ below)
-    where
-      less : (r : Ordering) → T (is_lt r) → r ≡ Less
-      less Less h = refl
-      less Equal h = absurd h
-      less Greater h = absurd h
 
   pub found_behind : (e f : K × X) (es : List (K × X)) (b : Bool) → eq_by_cmp R f.0 e.0 ≡ b → T (below_all R e.0 es) → find R f.0 es ≡ Some f.1 → find R f.0 (e ∷ es) ≡ Some f.1
   found_behind e f es false apart below found = ap (λ b. cond b (Some e.1) (find R f.0 es)) apart ∙ found

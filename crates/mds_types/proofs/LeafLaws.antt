@@ -1,13 +1,12 @@
 -- Leaves as keys: their order, when two are one, and what a finite map answers after a change.
-use Rattle.std.proofs.Common.{◌≡◌, ℕ, Bool, true, false, cond, ◌&&◌, ◌⊎◌, inl, inr, Some, None, refl, sym, ap, ◌∙◌, arith}
+use Rattle.std.proofs.Common.{◌≡◌, Bool, true, false, cond, ◌&&◌, ◌⊎◌, inl, inr, Some, None, refl, sym, ap, ◌∙◌}
 use Rattle.std.specs.Prelude.{◌==◌}
 use Rattle.std.specs.Ordering.{eq_by_cmp, is_eq, nat_cmp}
 use Rattle.std.specs.Cmp.{IsEquivalence, IsTotalOrder, nat_cmp_total, on_total, then_total, tied_itself}
 use Rattle.std.specs.FinMap as map
 use Rattle.std.specs.FinMap.{IsAntisymmetric, get-insert, get-remove}
-use Rattle.std.proofs.lemmas.Bool.Decides.{nat_tests}
 use Rattle.std.proofs.lemmas.Map.Lookups.{exact_pairs}
-use Rattle.sorted_map.proofs.Bools.{both_true, first_true, not_true, second_true}
+use Rattle.std.proofs.lemmas.Bool.{and_from, and_parts, false_from_ne_true, eqb-true}
 use Rattle.sorted_map.proofs.MapLaws.{tie}
 use Rattle.sorted_map.proofs.NatKeys.{is_same}
 use Rattle.mds_types.specs.declared.ids.Ino.{Ino}
@@ -30,7 +29,7 @@ pub tied_same : (a b : Leaf) → a ≡ b → eq_by_cmp leaf_cmp a b ≡ true
 tied_same a b same = ap (eq_by_cmp leaf_cmp a) (sym same) ∙ key_itself a
 
 pub tied_apart : (a b : Leaf) → (a ≡ b → ⊥) → eq_by_cmp leaf_cmp a b ≡ false
-tied_apart a b apart = not_true _ (λ tied. apart (leaf-exact a b (tie _ tied)))
+tied_apart a b apart = false_from_ne_true _ (λ tied. apart (leaf-exact a b (tie _ tied)))
 
 -- two leaves are one, or they differ
 pub same_or_apart : (a b : Leaf) → (a ≡ b) ⊎ (a ≡ b → ⊥)
@@ -40,20 +39,17 @@ same_or_apart a b = go (eq_by_cmp leaf_cmp a b) refl
     go true tied = inl (leaf-exact a b (tie _ tied))
     go false is = inr (λ same. let clash : true ≡ false = sym (tied_same a b same) ∙ is in cc)
 
-pub nat_same : (a b : ℕ) → (a == b) ≡ true → a ≡ b
-nat_same a b h = grind (arith, nat_tests)
-
 -- the test of keys by their parts
 pub one_leaf : (a b : Leaf) → leaf_is a b ≡ true → a ≡ b
 one_leaf a b is =
-    let rest : ((a.1.value == b.1.value) && (a.1.bits == b.1.bits)) ≡ true = second_true (a.0.0 == b.0.0) ((a.1.value == b.1.value) && (a.1.bits == b.1.bits)) is in
-    let dir : a.0.0 ≡ b.0.0 = nat_same a.0.0 b.0.0 (first_true (a.0.0 == b.0.0) ((a.1.value == b.1.value) && (a.1.bits == b.1.bits)) is) in
-    let value : a.1.value ≡ b.1.value = nat_same a.1.value b.1.value (first_true (a.1.value == b.1.value) (a.1.bits == b.1.bits) rest) in
-    let bits : a.1.bits ≡ b.1.bits = nat_same a.1.bits b.1.bits (second_true (a.1.value == b.1.value) (a.1.bits == b.1.bits) rest) in
+    let rest : ((a.1.value == b.1.value) && (a.1.bits == b.1.bits)) ≡ true = (and_parts (a.0.0 == b.0.0) ((a.1.value == b.1.value) && (a.1.bits == b.1.bits)) is).1 in
+    let dir : a.0.0 ≡ b.0.0 = eqb-true a.0.0 b.0.0 (and_parts (a.0.0 == b.0.0) ((a.1.value == b.1.value) && (a.1.bits == b.1.bits)) is).0 in
+    let value : a.1.value ≡ b.1.value = eqb-true a.1.value b.1.value (and_parts (a.1.value == b.1.value) (a.1.bits == b.1.bits) rest).0 in
+    let bits : a.1.bits ≡ b.1.bits = eqb-true a.1.bits b.1.bits (and_parts (a.1.value == b.1.value) (a.1.bits == b.1.bits) rest).1 in
     λ i. (record { 0 = dir i }, record { bits = bits i; value = value i })
 
 pub leaf_itself : (a : Leaf) → leaf_is a a ≡ true
-leaf_itself a = both_true (a.0.0 == a.0.0) ((a.1.value == a.1.value) && (a.1.bits == a.1.bits)) (is_same a.0.0 a.0.0 refl) (both_true (a.1.value == a.1.value) (a.1.bits == a.1.bits) (is_same a.1.value a.1.value refl) (is_same a.1.bits a.1.bits refl))
+leaf_itself a = and_from (a.0.0 == a.0.0) ((a.1.value == a.1.value) && (a.1.bits == a.1.bits)) (is_same a.0.0 a.0.0 refl) (and_from (a.1.value == a.1.value) (a.1.bits == a.1.bits) (is_same a.1.value a.1.value refl) (is_same a.1.bits a.1.bits refl))
 
 pub same_leaf : (a b : Leaf) → a ≡ b → leaf_is a b ≡ true
 same_leaf a b same = ap (leaf_is a) (sym same) ∙ leaf_itself a
@@ -78,7 +74,7 @@ flips a b = go (leaf_is b a) refl
   where
     go : (s : Bool) → leaf_is b a ≡ s → leaf_is a b ≡ s
     go true is = same_leaf a b (sym (one_leaf b a is))
-    go false is = not_true _ (λ same. let clash : true ≡ false = sym (same_leaf b a (sym (one_leaf a b same))) ∙ is in cc)
+    go false is = false_from_ne_true _ (λ same. let clash : true ≡ false = sym (same_leaf b a (sym (one_leaf a b same))) ∙ is in cc)
 
 pub leaf_equivalence : IsEquivalence leaf_is
 leaf_equivalence = record { refl = leaf_itself; symm = flips; congr = λ x y z e. ap (λ (a : Leaf). leaf_is a z) (one_leaf x y e) }

@@ -5,6 +5,7 @@ use Rattle.std.proofs.Common.{sym, ap, subst, ◌∙◌, arith}
 use Rattle.std.proofs.lemmas.Bool.Decides.{nat_tests}
 use Rattle.std.proofs.lemmas.List.{take-append-drop}
 use Rattle.std.proofs.lemmas.Map.Lookups.{exact_bytes}
+use Rattle.std.proofs.lemmas.Bool.{and_parts, true≢false, false≢true}
 use Rattle.std.specs.declared.cmp.Ordering.{Ordering}
 use Rattle.std.specs.declared.cmp.Ordering.TheVariants.{Less, Equal, Greater}
 use Rattle.std.specs.Ordering.{nat_cmp, ordering_then, ordering_reverse, is_lt, is_eq, eq_by_cmp, MatchOrdering}
@@ -17,7 +18,7 @@ use Rattle.mds_types.specs.declared.dentries.Dentry.{Dentry}
 use Rattle.mds_types.specs.declared.inodes.Inode.{Inode}
 use Rattle.mds_types.specs.Tree.{Tree, dentry_cmp, dentry_of, has_entries}
 use Rattle.mds_types.specs.Step.{is_after, names_after}
-use Rattle.sorted_map.proofs.Bools.{left_of, right_of, both_of, first_true, second_true}
+use Rattle.sorted_map.proofs.Bools.{left_of, right_of, both_of}
 use Rattle.mds_types.specs.Outcomes.{IsListing}
 use Rattle.sorted_map.proofs.PlaceLaws.{less as less_of}
 use Rattle.sorted_map.proofs.MapLaws.{tie}
@@ -52,7 +53,7 @@ below_listed d after dentry (e ∷ es) here below = go (is_listed d after e) ref
   where
     go : (b : Bool) → is_listed d after e ≡ b → T (below_all (slice_cmp nat_cmp) dentry.name (listed d after es)) → T (below_all (slice_cmp nat_cmp) dentry.name (listed d after (e ∷ es)))
     go true is rest =
-        let less : T (is_lt (slice_cmp nat_cmp dentry.name e.0.name)) = subst (λ r. T (is_lt r)) (same_dir d dentry e.0 here (first_true _ _ is)) (left_of _ _ below) in
+        let less : T (is_lt (slice_cmp nat_cmp dentry.name e.0.name)) = subst (λ r. T (is_lt r)) (same_dir d dentry e.0 here (and_parts _ _ is).0) (left_of _ _ below) in
         subst (λ names. T (below_all (slice_cmp nat_cmp) dentry.name names)) (sym (chosen d after e es true is)) (both_of _ _ less rest)
     go false is rest = subst (λ names. T (below_all (slice_cmp nat_cmp) dentry.name names)) (sym (chosen d after e es false is)) rest
 
@@ -63,7 +64,7 @@ sorted_listed d after (e ∷ es) sorted = go (is_listed d after e) refl (sorted_
     go : (b : Bool) → is_listed d after e ≡ b → T (is_sorted (slice_cmp nat_cmp) (listed d after es)) → T (is_sorted (slice_cmp nat_cmp) (listed d after (e ∷ es)))
     go true is rest =
         subst (λ names. T (is_sorted (slice_cmp nat_cmp) names)) (sym (chosen d after e es true is))
-        (both_of _ _ (below_listed d after e.0 es (first_true _ _ is) (left_of _ _ sorted)) rest)
+        (both_of _ _ (below_listed d after e.0 es (and_parts _ _ is).0 (left_of _ _ sorted)) rest)
     go false is rest = subst (λ names. T (is_sorted (slice_cmp nat_cmp) names)) (sym (chosen d after e es false is)) rest
 
 -- a dentry of the directory is found among dentries as its name among names
@@ -81,14 +82,8 @@ found_more : (here past tied : Bool) (row : Inode) (rest others : Option Inode) 
     → cond (here && past) (cond tied (Some row) rest) rest ≡ cond p (cond (here && tied) (Some row) others) None
 found_more true true true row rest others true same e = refl
 found_more true true true row rest others false same e = absurd (true≢false (same refl))
-  where
-    true≢false : true ≡ false → ⊥
-    true≢false q = cc
 found_more true true false row rest others p same e = e
 found_more true false true row rest others true same e = absurd (false≢true (same refl))
-  where
-    false≢true : false ≡ true → ⊥
-    false≢true q = cc
 found_more true false true row rest others false same e = e
 found_more true false false row rest others p same e = e
 found_more false past tied row rest others p same e = e
@@ -204,22 +199,22 @@ listed_narrowed d after x (e ∷ es) implies =
     ∙ narrowed (e.0.dir.0 == d) (is_after after e.0.name) (is_lt (slice_cmp nat_cmp x e.0.name)) (named e) _ (listed d after es) x (implies e.0.name) refl (listed_narrowed d after x es implies)
     ∙ sym (ap (filter (λ p. is_lt (slice_cmp nat_cmp x p.0))) (chosen_by d after e es))
 
+pub less_is : (r : Ordering) → is_lt r ≡ true → r ≡ Less
+less_is Less h = refl
+less_is Equal h = cc
+less_is Greater h = cc
+
 -- a name greater than one that comes after `after` comes after it too
 after_chain : (after : Option (List ℕ)) (x : List ℕ) → is_after after x ≡ true → (name : List ℕ) → is_lt (slice_cmp nat_cmp x name) ≡ true → is_after after name ≡ true
 after_chain None x past name less = refl
 after_chain (Some a) x past name less = ap is_lt (nat_list_cmp_total.trans a x name (less_is _ past) (less_is _ less))
-  where
-    less_is : (r : Ordering) → is_lt r ≡ true → r ≡ Less
-    less_is Less h = refl
-    less_is Equal h = cc
-    less_is Greater h = cc
 
 listed_after_by : (d : ℕ) (after : Option (List ℕ)) (e : Dentry × Inode) (es : List (Dentry × Inode)) (i : ℕ) (row : List ℕ × Inode) (b : Bool) → is_listed d after e ≡ b
     → ((j : ℕ) → slice_get (listed d after es) j ≡ Some row → is_after after row.0 ≡ true) → slice_get (listed d after (e ∷ es)) i ≡ Some row → is_after after row.0 ≡ true
 listed_after_by d after e es zero row true is others got =
     let same : Some (named e) ≡ Some row = sym (ap (λ names. slice_get names 0) (chosen d after e es true is)) ∙ got in
     let one : named e ≡ row = cc in
-    subst (λ (r : List ℕ × Inode). is_after after r.0 ≡ true) one (second_true _ _ is)
+    subst (λ (r : List ℕ × Inode). is_after after r.0 ≡ true) one (and_parts _ _ is).1
 listed_after_by d after e es (suc i) row true is others got = others i (sym (ap (λ names. slice_get names (suc i)) (chosen d after e es true is)) ∙ got)
 listed_after_by d after e es i row false is others got = others i (sym (ap (λ names. slice_get names i) (chosen d after e es false is)) ∙ got)
 

@@ -2,13 +2,13 @@
 -- nothing that has an entry.
 use Rattle.std.specs.Prelude.{Option, ◌≡◌, ℕ, Bool, true, false, cond, ◌&&◌, ◌||◌, ◌==◌, ◌⊎◌, Some, None, refl}
 use Rattle.std.proofs.Common.{sym, ap, subst, ◌∙◌, ⊎_elim, inl, inr}
+use Rattle.std.proofs.lemmas.Bool.{or_parts}
 use Rattle.std.specs.FinMap as map
 use Rattle.mds_types.specs.declared.dentries.Dentry.{Dentry}
 use Rattle.mds_types.specs.declared.inodes.Inode.{Inode}
 use Rattle.mds_types.specs.Tree.{Tree, at, dentry_of, is_directory, is_dir_kind, is_above, has_entries, IsAbove, child, further, HasSize, IsWellFormed, NothingIn}
 use Rattle.mds_types.specs.Step.{with_moved, replace_errno, IsMove}
 use Rattle.mds_types.proofs.AboveLaws.{above_exact}
-use Rattle.sorted_map.proofs.Bools.{neither_first, neither_second}
 use Rattle.sorted_map.proofs.NatKeys.{is_same}
 use Rattle.mds_types.proofs.EntryLaws.{get_put, get_beside, get_left, stands_after_put, stands_after_removal, same_or_apart, same_dentry_is}
 use Rattle.mds_types.proofs.DirectoryLaws.{StandsAs, directory_stands, root_stands, entry_stands, reaches_root, one_dentry, no_directory, nothing_in_empty, nothing_in_file, above_nothing}
@@ -35,11 +35,11 @@ may_move tree from to inode whole move = record {
 }
   where
     not_itself : (b : Bool) → is_dir_kind inode.kind ≡ b → (b && ((inode.ino.0 == to.dir.0) || is_above tree inode.ino.0 to.dir.0)) ≡ false → inode.ino.0 ≡ to.dir.0 → ⊥
-    not_itself true kinded outside same = let clash : true ≡ false = sym (is_same inode.ino.0 to.dir.0 same) ∙ neither_first (inode.ino.0 == to.dir.0) (is_above tree inode.ino.0 to.dir.0) outside in cc
+    not_itself true kinded outside same = let clash : true ≡ false = sym (is_same inode.ino.0 to.dir.0 same) ∙ (or_parts (inode.ino.0 == to.dir.0) (is_above tree inode.ino.0 to.dir.0) outside).0 in cc
     not_itself false kinded outside same = no_directory tree from inode whole move.stands kinded (ap (is_directory tree) same ∙ move.parent)
 
     not_under : (b : Bool) → is_dir_kind inode.kind ≡ b → (b && ((inode.ino.0 == to.dir.0) || is_above tree inode.ino.0 to.dir.0)) ≡ false → IsAbove tree inode.ino.0 to.dir.0 → ⊥
-    not_under true kinded outside above = let clash : true ≡ false = sym ((above_exact tree inode.ino.0 to.dir.0 whole).1 above) ∙ neither_second (inode.ino.0 == to.dir.0) (is_above tree inode.ino.0 to.dir.0) outside in cc
+    not_under true kinded outside above = let clash : true ≡ false = sym ((above_exact tree inode.ino.0 to.dir.0 whole).1 above) ∙ (or_parts (inode.ino.0 == to.dir.0) (is_above tree inode.ino.0 to.dir.0) outside).1 in cc
     not_under false kinded outside above = above_nothing tree inode.ino.0 to.dir.0 (nothing_in_file tree from inode whole move.stands kinded) above
 
     nothing : (t : Inode) → map.get tree to ≡ Some t → (a b : Bool) → is_dir_kind t.kind ≡ b → (e : Bool) → has_entries tree t.ino.0 ≡ e

@@ -1,5 +1,5 @@
 -- Laws of the plain tree.
-use Rattle.std.specs.Prelude.{◌≡◌, ℕ, Bool, true, false, cond, ◌||◌, ◌==◌, List, [], ◌∷◌, length, Some, None, refl}
+use Rattle.std.specs.Prelude.{◌≡◌, ℕ, Bool, true, false, cond, ◌||◌, ◌==◌, List, [], ◌∷◌, Some, None, refl}
 use Rattle.std.specs.List.{list_any}
 use Rattle.std.specs.declared.cmp.Ordering.{Ordering}
 use Rattle.std.specs.declared.cmp.Ordering.TheVariants.{Less, Equal, Greater}
@@ -7,12 +7,13 @@ use Rattle.std.specs.Ordering.{is_eq}
 use Rattle.std.specs.FinMap as map
 use Rattle.std.specs.FinMap.{find, put, entries-insert, get-entries, len-entries, len-empty}
 use Rattle.std.specs.FinMap.Entries.{by_order}
-use Rattle.std.proofs.Common.{sym, ap, ◌∙◌, arith}
+use Rattle.std.proofs.Common.{sym, ap, ◌∙◌}
 use Rattle.mds_types.specs.declared.dentries.Dentry.{Dentry}
 use Rattle.mds_types.specs.declared.inodes.Inode.{Inode}
 use Rattle.mds_types.specs.Tree.{Tree, dentry_cmp, is_directory, is_entry_of_directory}
 use Rattle.mds_types.proofs.OrderLaws.{dentry-total}
 use Rattle.std.proofs.Math.Bool.{or-false}
+use Rattle.std.proofs.lemmas.List.{nil_from_length}
 
 or_swap : (a b c : Bool) → (a || (b || c)) ≡ (b || (a || c))
 or_swap true true c = refl
@@ -42,13 +43,9 @@ is_directory-insert tree dentry inode d absent =
     ∙ ap (λ b. (d == 1) || b) (list_any-put dentry_cmp (is_entry_of_directory d) dentry inode (map.entries tree) (sym (get-entries tree dentry) ∙ absent))
     ∙ or_swap (d == 1) (is_entry_of_directory d (dentry, inode)) (list_any (is_entry_of_directory d) (map.entries tree))
 
-no_entries : {A : Type 0} (es : List A) → length es ≡ 0 → es ≡ []
-no_entries [] none = refl
-no_entries (e ∷ es) none = absurd (omega arith)
-
 -- where nothing stands there is no entry
 pub entries-empty : map.entries (map.empty {K = Dentry} {X = Inode} {R = dentry_cmp}) ≡ []
-entries-empty = no_entries _ (sym (len-entries map.empty) ∙ len-empty dentry_cmp Inode)
+entries-empty = nil_from_length _ (sym (len-entries map.empty) ∙ len-empty dentry_cmp Inode)
 
 -- where nothing stands only the root is a directory
 pub is_directory-empty : (d : ℕ) → is_directory map.empty d ≡ (d == 1)

@@ -1,6 +1,7 @@
 -- Every step of the operation table keeps the tree well formed.
 use Rattle.std.specs.Prelude.{◌≡◌, ℕ, Bool, true, false, cond, ◌&&◌, List, Option, Some, None, unwrap_or, refl}
 use Rattle.std.proofs.Common.{sym, ap, subst, ◌∙◌, ⊎_elim, ◌⊎◌, inl, inr}
+use Rattle.std.proofs.lemmas.Bool.{or_right}
 use Rattle.std.specs.Ordering.{eq_by_cmp}
 use Rattle.std.specs.FinMap as map
 use Rattle.std.specs.FinMap.{get-insert}
@@ -15,7 +16,6 @@ use Rattle.mds_types.specs.declared.operations.Op.TheVariants.{Lookup, Readdir, 
 use Rattle.mds_types.specs.Step.{Outcome, answers, new_size, directory_of, destination_of, found, made, new_inode, link_mode, read_link, size_errno, with_attributes, attributes_set, unless, unlinked, dir_removed, removal_errno, leads_to, replace_errno, renamed, within, step}
 use Rattle.mds_types.specs.Tree.{Tree, dentry_cmp, dentry_of, at, is_directory, is_dir_kind, has_entries, IsAbove, child, further, HasSize, IsWellFormed, IsUnused}
 use Rattle.mds_types.proofs.TreeLaws.{is_directory-insert}
-use Rattle.sorted_map.proofs.Bools.{or_second}
 use Rattle.sorted_map.proofs.MapLaws.{tie}
 use Rattle.mds_types.proofs.OrderLaws.{dentry-total}
 use Rattle.mds_types.specs.OrderLaws.{dentry-exact}
@@ -59,7 +59,7 @@ module _ (tree : Tree) (dir : ℕ) (new_name : List ℕ) (new : Inode) (free : a
   still_above d x (further m name inode above stood) = further m name inode (still_above d m above) (still m name inode stood)
 
   still_directory : (d : ℕ) → is_directory tree d ≡ true → is_directory grown d ≡ true
-  still_directory d here = is_directory-insert tree (dentry_of dir new_name) new d free ∙ or_second _ _ here
+  still_directory d here = is_directory-insert tree (dentry_of dir new_name) new d free ∙ or_right _ _ here
 
   dir_is : (d : ℕ) (name : List ℕ) → dentry_of d name ≡ dentry_of dir new_name → d ≡ dir
   dir_is d name same = ap (λ (p : Dentry). p.dir.0) same

@@ -1,12 +1,11 @@
 -- Members of lists of leaves.
 use Rattle.std.proofs.Common.{◌≡◌, ◌+◌, ◌==◌, ◌&&◌, ℕ, zero, suc, true, false, List, [], ◌∷◌, map, ◌⊎◌, inl, inr, ⊎_elim, refl, sym, ap, ◌∙◌, arith}
 use Rattle.std.specs.List.{Contains}
-use Rattle.std.proofs.lemmas.Bool.{eqb-true}
+use Rattle.std.proofs.lemmas.Bool.{eqb-true, and_parts}
 use Rattle.mds_types.specs.Frag.{Fragment, span}
 use Rattle.fragtree.specs.FragTree.{HasLeaf, Tiles}
 use Rattle.fragtree.proofs.Ranges.{span_pos}
 use Rattle.fragtree.proofs.Tilings.{between}
-use Rattle.sorted_map.proofs.Bools.{first_true, second_true}
 use Rattle.sorted_map.proofs.NatKeys.{is_same}
 use Rattle.mds_types.specs.Leaf.{Leaf}
 use Rattle.namespace_ops.specs.Changes.{in_directory, same_leaf}
@@ -54,9 +53,9 @@ leaves_apart d low high (f ∷ fs) tiles = (not_again, leaves_apart d (low + spa
 -- the test of two leaves
 pub one_leaf : (a b : Leaf) → same_leaf a b ≡ true → a ≡ b
 one_leaf a b same =
-    let dirs = eqb-true a.0.0 b.0.0 (first_true _ _ same) in
-    let values = eqb-true a.1.value b.1.value (first_true _ _ (second_true _ _ same)) in
-    let bits = eqb-true a.1.bits b.1.bits (second_true _ _ (second_true _ _ same)) in
+    let dirs = eqb-true a.0.0 b.0.0 (and_parts _ _ same).0 in
+    let values = eqb-true a.1.value b.1.value (and_parts _ _ (and_parts _ _ same).1).0 in
+    let bits = eqb-true a.1.bits b.1.bits (and_parts _ _ (and_parts _ _ same).1).1 in
     λ i. (record { 0 = dirs i }, record { value = values i; bits = bits i })
 
 pub two_leaves : (a b : Leaf) → same_leaf a b ≡ false → a ≡ b → ⊥

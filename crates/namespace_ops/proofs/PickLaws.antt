@@ -1,19 +1,16 @@
 -- The first leaf that contains a hash is its pick.
-use Rattle.std.specs.Prelude.{◌≡◌, ℕ, zero, ◌/◌, ◌%◌, ◌^◌, true, false, cond, List, [], ◌∷◌, refl}
+use Rattle.std.specs.Prelude.{◌≡◌, ℕ, ◌/◌, ◌%◌, ◌^◌, true, false, cond, List, [], ◌∷◌}
 use Rattle.std.proofs.Common.{◌⊎◌, inl, inr, ⊎_elim, sym, ap, subst, ◌∙◌, arith}
 use Rattle.mds_types.specs.Frag.{Fragment, Contains, span}
 use Rattle.fragtree.specs.FragTree.{HasLeaf, IsPick}
 use Rattle.sorted_map.proofs.NatKeys.{is_same, same_or_apart, is_apart}
 use Rattle.namespace_ops.specs.Picks.{pick_of, is_in}
-use Rattle.fragtree.proofs.TreeLaws.{first_or_later, later}
+use Rattle.fragtree.proofs.TreeLaws.{first_or_later, later, first}
 
 is_in_or_not : (f : Fragment) (hash : ℕ) → ((is_in f hash ≡ true) × Contains f hash) ⊎ ((is_in f hash ≡ false) × (Contains f hash → ⊥))
 is_in_or_not f hash =
     ⊎_elim (λ same. inl (is_same _ _ same, same)) (λ apart. inr (is_apart _ _ apart, apart))
     (same_or_apart ((hash % 2 ^ 24) / span f.bits) (f.value / span f.bits))
-
-first : (f : Fragment) (fs : List Fragment) → HasLeaf (f ∷ fs) f
-first f fs = (zero, omega (arith), refl)
 
 module _ (hash : ℕ) (f : Fragment) (contains : Contains f hash) where
   other : (g : Fragment) (gs : List Fragment) → HasLeaf (g ∷ gs) f → (Contains g hash → ⊥) → HasLeaf gs f

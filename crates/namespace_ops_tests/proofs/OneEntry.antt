@@ -120,6 +120,3 @@ unused_none n not_root = record {
   not_root = not_root;
   not_there = λ d name inode stands same. let clash : None ≡ Some inode = sym (get-empty dentry_cmp (dentry_of d name)) ∙ stands in absurd cc;
 }
-
-pub apart : (a b : ℕ) → false ≡ (a == b) → a ≡ b → ⊥
-apart a b told same = let clash : false ≡ true = told ∙ is_same a b same in cc

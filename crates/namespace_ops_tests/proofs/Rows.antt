@@ -17,6 +17,7 @@ use Rattle.mds_types.specs.Tree.{Tree, dentry_cmp, dentry_of, has_entries}
 use Rattle.mds_types.specs.Step.{is_after, names_after}
 use Rattle.namespace_ops_tests.specs.Run.{run}
 use Rattle.sorted_map.proofs.Bools.{left_of, right_of}
+use Rattle.sorted_map.proofs.NatKeys.{is_apart}
 
 -- whether a dentry comes after a name of the directory; after none, whether it comes no earlier than the directory's names
 abbrev pub begins : ℕ → Option (List ℕ) → Dentry → Bool
@@ -40,9 +41,6 @@ pub data Standing (d : ℕ) (after : Option (List ℕ)) (dentry : Dentry) : Type
   here : begins d after dentry ≡ is_after after dentry.name → (dentry.dir.0 == d) ≡ true → Standing d after dentry
   later : begins d after dentry ≡ true → d < dentry.dir.0 → Standing d after dentry
 
-differs : (a b : ℕ) → (a ≡ b → ⊥) → (a == b) ≡ false
-differs a b apart = grind (arith, nat_tests)
-
 -- nothing comes before the empty name
 from_empty : (name : List ℕ) → is_le (slice_cmp nat_cmp [] name) ≡ true
 from_empty [] = refl
@@ -53,8 +51,8 @@ begins_by d None dentry Less is h = later (ap (λ r. is_le (ordering_then r (sli
 begins_by d (Some name) dentry Less is h = later (ap (λ r. is_lt (ordering_then r (slice_cmp nat_cmp name dentry.name))) is) h
 begins_by d None dentry Equal is h = here (ap (λ r. is_le (ordering_then r (slice_cmp nat_cmp [] dentry.name))) is ∙ from_empty dentry.name) (grind (arith, nat_tests))
 begins_by d (Some name) dentry Equal is h = here (ap (λ r. is_lt (ordering_then r (slice_cmp nat_cmp name dentry.name))) is) (grind (arith, nat_tests))
-begins_by d None dentry Greater is h = earlier (ap (λ r. is_le (ordering_then r (slice_cmp nat_cmp [] dentry.name))) is) (differs dentry.dir.0 d (λ e. omega arith))
-begins_by d (Some name) dentry Greater is h = earlier (ap (λ r. is_lt (ordering_then r (slice_cmp nat_cmp name dentry.name))) is) (differs dentry.dir.0 d (λ e. omega arith))
+begins_by d None dentry Greater is h = earlier (ap (λ r. is_le (ordering_then r (slice_cmp nat_cmp [] dentry.name))) is) (is_apart dentry.dir.0 d (λ e. omega arith))
+begins_by d (Some name) dentry Greater is h = earlier (ap (λ r. is_lt (ordering_then r (slice_cmp nat_cmp name dentry.name))) is) (is_apart dentry.dir.0 d (λ e. omega arith))
 
 standing : (d : ℕ) (after : Option (List ℕ)) (dentry : Dentry) → Standing d after dentry
 standing d after dentry = begins_by d after dentry (nat_cmp d dentry.dir.0) refl (ranks d dentry.dir.0)
@@ -75,7 +73,7 @@ dir_rises a b less = at_least a.dir.0 b.dir.0 (dir_rises_by a b (nat_cmp a.dir.0
 none_later : (d : ℕ) (after : Option (List ℕ)) (dentry : Dentry) (es : List (Dentry × Inode)) → d < dentry.dir.0 → T (below_all dentry_cmp dentry es) → filter (is_listed d after) es ≡ []
 none_later d after dentry [] past below = refl
 none_later d after dentry (e ∷ es) past below =
-    let apart : (e.0.dir.0 == d) ≡ false = differs e.0.dir.0 d (λ same. omega (arith, dir_rises dentry e.0 (left_of _ _ below))) in
+    let apart : (e.0.dir.0 == d) ≡ false = is_apart e.0.dir.0 d (λ same. omega (arith, dir_rises dentry e.0 (left_of _ _ below))) in
     ap (λ b. cond (b && is_after after e.0.name) (e ∷ filter (is_listed d after) es) (filter (is_listed d after) es)) apart
     ∙ none_later d after dentry es past (right_of _ _ below)
 
@@ -95,7 +93,7 @@ row_more d after e es below same (here starts inside) =
     both_ways true = ap (λ names. named e ∷ names) same ∙ sym (ap (λ b. cond b (named e ∷ run d (rows_from d after es)) []) inside)
     both_ways false = same
 row_more d after e es below same (later starts past) =
-    let other : (e.0.dir.0 == d) ≡ false = differs e.0.dir.0 d (λ is. omega (arith, is)) in
+    let other : (e.0.dir.0 == d) ≡ false = is_apart e.0.dir.0 d (λ is. omega (arith, is)) in
     ap (λ b. map named (cond (b && is_after after e.0.name) (e ∷ filter (is_listed d after) es) (filter (is_listed d after) es))) other
     ∙ ap (map named) (none_later d after e.0 es past below)
     ∙ sym (ap (λ b. run d (cond b (e ∷ rows_from d after es) (rows_from d after es))) starts ∙ ap (λ b. cond b (named e ∷ run d (rows_from d after es)) []) other)

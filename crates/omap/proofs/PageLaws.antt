@@ -2,20 +2,13 @@
 use Rattle.std.specs.Prelude.{◌≡◌, ℕ, zero, suc, Bool, true, false, cond, List, [], ◌∷◌, ◌++◌, filter, take, drop, slice_get, Option, Some, None, refl}
 use Rattle.std.proofs.Common.{sym, ap, subst, ◌∙◌}
 use Rattle.std.proofs.lemmas.List.{take-append-drop}
-use Rattle.std.specs.declared.cmp.Ordering.{Ordering}
-use Rattle.std.specs.declared.cmp.Ordering.TheVariants.{Less, Equal, Greater}
 use Rattle.std.specs.Ordering.{is_lt}
 use Rattle.std.specs.Cmp.Lexicographic.{nat_list_cmp_total}
 use Rattle.std.specs.FinMap as map
 use Rattle.std.specs.FinMap.Entries.{is_sorted-where_key}
 use Rattle.mds_types.specs.Step.{is_after}
-use Rattle.mds_types.proofs.ListingLaws.{greater_than_row}
+use Rattle.mds_types.proofs.ListingLaws.{greater_than_row, less_is}
 use Rattle.omap.specs.Omap.{key_cmp, pairs_after, PagesMakeUpWhole}
-
-less_is : (r : Ordering) → is_lt r ≡ true → r ≡ Less
-less_is Less h = refl
-less_is Equal h = cc
-less_is Greater h = cc
 
 -- a key greater than one that comes after `after` comes after it too
 chained : (after : Option (List ℕ)) (x : List ℕ) → is_after after x ≡ true → (key : List ℕ) → is_lt (key_cmp x key) ≡ true → is_after after key ≡ true

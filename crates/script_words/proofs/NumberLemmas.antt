@@ -1,7 +1,8 @@
 -- Digits from the left.
-use Rattle.std.proofs.Common.{◌≡◌, ◌≢◌, lt-ltb, le-leb, IfSome, ℕ, ◌+◌, ◌*◌, ◌<◌, ◌≤◌, Bool, true, false, ◌&&◌, ltb, ltb-true, Option, Some, None, SomeIff, List, [], ◌∷◌, length, drop, get_or, refl, ap, ◌∙◌, arith, drop-cons}
+use Rattle.std.proofs.Common.{◌≡◌, ◌≢◌, lt-ltb, le-leb, IfSome, ℕ, ◌+◌, ◌*◌, ◌<◌, ◌≤◌, true, ltb, ltb-true, Option, Some, None, SomeIff, List, [], ◌∷◌, length, drop, get_or, ap, ◌∙◌, arith, drop-cons}
 use Rattle.std.proofs.Math.Nat.{mul-le-mul_left}
 use Rattle.std.proofs.Math.Numerals.{add-one}
+use Rattle.std.proofs.lemmas.Bool.{and_parts}
 use Rattle.std.specs.List.{fold}
 use Rattle.script_words.specs.Numbers.{digit_of, are_digits, value_of, octal_mode_of}
 
@@ -26,15 +27,10 @@ value_from-passes base n i v limit word some within same passes fits =
     let all : v ≡ value_from base (n * base + digit_of (get_or word i 0)) (drop (i + 1) word) = same ∙ ap (value_from base n) next in
     passes (omega arith)
 
--- both tests hold
-both : (a b : Bool) → (a && b) ≡ true → (a ≡ true) × (b ≡ true)
-both true b e = (refl, e)
-both false b e = cc
-
 -- every digit is below the base
 pub digits_below : (base digit : ℕ) (digits : List ℕ) → are_digits base (digit ∷ digits) ≡ true → (digit_of digit < base) × (are_digits base digits ≡ true)
 digits_below base digit digits e =
-    let p = both (ltb (digit_of digit) base) (are_digits base digits) e in
+    let p = and_parts (ltb (digit_of digit) base) (are_digits base digits) e in
     (ltb-true (digit_of digit) base p.0, p.1)
 
 -- four octal digits stand for no more than a mode has

@@ -1,5 +1,6 @@
 -- What a loop that copies pairs in order leaves.
 use Rattle.std.proofs.Common.{◌≡◌, ◌-◌, suc, true, T, List, [], ◌∷◌, ◌++◌, length, slice_get, Some, None, Ordering, Less, Greater, is_lt, refl, sym, ap, ◌∙◌, subst, arith}
+use Rattle.std.proofs.lemmas.Option.{none-some, same_Some}
 use Rattle.std.specs.Cmp.{IsTotalOrder}
 use Rattle.std.specs.List.{AllZip}
 use Rattle.std.specs.Ordering.{ordering_reverse}
@@ -46,20 +47,11 @@ module _ {K V : Type 0} {R : K → K → Ordering} (o : IsTotalOrder R) where
       rest (f ∷ es) ends = ends
 
 pub last_below : {K V : Type 0} (R : K → K → Ordering) (k : K) (es : List (K × V)) (x : K × V) → Some x ≡ slice_get es (length es - 1) → is_lt (R x.0 k) ≡ ends_below R k es
-last_below R k [] x is = absurd (some_none is)
-  where
-    some_none : {A : Type 0} {x : A} → Some x ≡ None → ⊥
-    some_none e = cc
-last_below R k (e ∷ []) x is = ap (λ y. is_lt (R y.0 k)) (one is)
-  where
-    one : {A : Type 0} {x y : A} → Some x ≡ Some y → x ≡ y
-    one e = cc
+last_below R k [] x is = absurd (none-some x (sym is))
+last_below R k (e ∷ []) x is = ap (λ y. is_lt (R y.0 k)) (same_Some x e is)
 last_below R k (e ∷ f ∷ es) x is = last_below R k (f ∷ es) x (is ∙ ap (slice_get (e ∷ f ∷ es)) {y = suc (length (f ∷ es) - 1)} (omega arith))
 
 pub none_below : {K V : Type 0} (R : K → K → Ordering) (k : K) (es : List (K × V)) → None ≡ slice_get es (length es - 1) → true ≡ ends_below R k es
 none_below R k [] is = refl
-none_below R k (e ∷ []) is = absurd (none_some is)
-  where
-    none_some : {A : Type 0} {x : A} → None ≡ Some x → ⊥
-    none_some e = cc
+none_below R k (e ∷ []) is = absurd (none-some e is)
 none_below R k (e ∷ f ∷ es) is = none_below R k (f ∷ es) (is ∙ ap (slice_get (e ∷ f ∷ es)) {y = suc (length (f ∷ es) - 1)} (omega arith))

@@ -1,5 +1,5 @@
 -- What an edit of pairs in order does to the finite map that they show.
-use Rattle.std.proofs.Common.{◌≡◌, ℕ, ◌-◌, ◌<◌, Bool, cond, not, T, List, [], ◌∷◌, length, take, drop, get_or, slice_get, set, insert, remove, Some, None, option_map, Ordering, Equal, sym, ap, ap₂, ◌∙◌, subst, arith}
+use Rattle.std.proofs.Common.{◌≡◌, ◌⊎◌, inl, ℕ, ◌-◌, ◌<◌, Bool, cond, not, T, List, [], ◌∷◌, length, take, drop, get_or, slice_get, set, insert, remove, Some, None, option_map, Ordering, Equal, sym, ap, ap₂, ◌∙◌, subst, arith}
 use Rattle.std.proofs.lemmas.List.{nil_from_length, take_rest}
 use Rattle.std.specs.Cmp.{IsTotalOrder, eq_by_cmp_equiv}
 use Rattle.std.specs.Ordering.{eq_by_cmp}
@@ -10,6 +10,10 @@ use Rattle.sorted_map.specs.SortedMap.{first_pair, last_pair}
 use Rattle.sorted_map.specs.Places.{IsAt, IsGap}
 use Rattle.sorted_map.proofs.PlaceLaws.{find_at, find_gap, tied_at, first_at, put_at, put_gap, others_at, others_gap}
 use Rattle.sorted_map.proofs.MapLaws.{swapped as turned}
+
+-- a loan is named alike, and leaves alike at each value that is written
+pub same_loan : {N D E : Type 0} (name : N) (f h : E → D) → ((w : E) → f w ≡ h w) → ◌≡◌ {A = (N × (E → D)) ⊎ D} (inl (name, f)) (inl (name, h))
+same_loan name f h e i = inl (name, λ w. e w i)
 
 first_of : {A : Type 0} (es : List A) (x : A) → 0 < length es → x ≡ get_or es 0 x → Some x ≡ slice_get es 0
 first_of [] x some e = absurd (omega arith)

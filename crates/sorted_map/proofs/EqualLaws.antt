@@ -1,5 +1,6 @@
 -- When a test of pairs tells maps apart.
 use Rattle.std.proofs.Common.{◌≡◌, Bool, true, T, List, Decides, Ordering, is_eq, sym, ap, ◌∙◌, subst}
+use Rattle.std.proofs.lemmas.Bool.{and_from, and_parts}
 use Rattle.std.proofs.lemmas.Slice.Eq.{slice_eq-Decides}
 use Rattle.std.specs.Cmp.{IsTotalOrder, Equal-is, tied_itself}
 use Rattle.std.specs.Cmp.Lexicographic.{pointwise}
@@ -7,7 +8,6 @@ use Rattle.std.specs.Ordering.{eq_by_cmp}
 use Rattle.std.specs.FinMap as map
 use Rattle.std.specs.FinMap.{IsAntisymmetric, entries-from_sorted}
 use Rattle.std.specs.FinMap.Entries.{is_sorted}
-use Rattle.sorted_map.proofs.Bools.{first_true, second_true, both_true as joined}
 use Rattle.sorted_map.specs.SortedMap.{TellsApart, pairs_eq}
 
 -- `==` at keys in an exact order
@@ -20,8 +20,8 @@ keys_told {K} {R} o exact E ties x y = (
 -- and at pairs
 pub pairs_told : {K V : Type 0} (E : K → K → Bool) (F : V → V → Bool) → TellsApart E → TellsApart F → TellsApart (pairs_eq E F)
 pairs_told E F e f p q = (
-  λ t i. ((e p.0 q.0).0 (first_true _ _ t) i, (f p.1 q.1).0 (second_true _ _ t) i),
-  λ s. joined _ _ ((e p.0 q.0).1 (ap (λ r. r.0) s)) ((f p.1 q.1).1 (ap (λ r. r.1) s)),
+  λ t i. ((e p.0 q.0).0 (and_parts _ _ t).0 i, (f p.1 q.1).0 (and_parts _ _ t).1 i),
+  λ s. and_from _ _ ((e p.0 q.0).1 (ap (λ r. r.0) s)) ((f p.1 q.1).1 (ap (λ r. r.1) s)),
 )
 
 -- the pairs of two maps are equal just where the maps are one

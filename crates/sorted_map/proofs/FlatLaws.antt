@@ -2,6 +2,7 @@
 use Rattle.std.proofs.Common.{◌≡◌, ℕ, zero, suc, ◌+◌, ◌-◌, ◌<◌, ◌≤◌, List, [], ◌∷◌, ◌++◌, length, drop, get_or, slice_get, set, insert, remove, refl, sym, ap, ◌∙◌, arith, length-append, append_assoc}
 use Rattle.std.specs.Prelude.{◌==◌, false}
 use Rattle.std.proofs.lemmas.Bool.{false≢true}
+use Rattle.std.proofs.lemmas.List.{append-nil}
 use Rattle.sorted_map.specs.Chunks.{flat, start, AllSome, over, load, with_value}
 use Rattle.sorted_map.proofs.ChunkLaws.{got, got_default}
 
@@ -164,11 +165,7 @@ module _ {A : Type 0} where
   slice_behind (e ∷ c) fs i (suc n) is = slice_behind c fs i n (omega (arith, is))
 
   last_alone : (c : List A) → slice_get c (length c - 1) ≡ slice_get (c ++ []) (length (c ++ []) - 1)
-  last_alone c = ap (λ l. slice_get l (length l - 1)) (sym (append_nil c))
-    where
-      append_nil : (c : List A) → c ++ [] ≡ c
-      append_nil [] = refl
-      append_nil (e ∷ c) = ap (λ t. e ∷ t) (append_nil c)
+  last_alone c = ap (λ l. slice_get l (length l - 1)) (sym (append-nil c))
 
   pub flat_some : (cs : List (List A)) → AllSome cs → 0 < length cs → 0 < length (flat cs)
   flat_some [] all some = some

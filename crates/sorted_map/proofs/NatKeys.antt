@@ -1,24 +1,12 @@
 -- Finite maps whose keys are numbers: what one answers after a change.
-use Rattle.std.specs.Prelude.{◌≡◌, ℕ, Bool, true, false, cond, ◌==◌, ◌⊎◌, Some, None, refl}
-use Rattle.std.proofs.Common.{sym, ap, ◌∙◌, inl, inr, arith}
-use Rattle.std.proofs.lemmas.Bool.Decides.{nat_tests}
+use Rattle.std.specs.Prelude.{◌≡◌, ℕ, cond, ◌⊎◌, Some, None, refl}
+use Rattle.std.proofs.Common.{sym, ap, ◌∙◌, inl, inr}
+-- whether two numbers are one
+pub use Rattle.std.proofs.lemmas.Bool.{eq-eqb as is_same, ne_eqb as is_apart, cases_eq as same_or_apart}
 use Rattle.std.specs.Ordering.{nat_cmp}
 use Rattle.std.specs.Cmp.{nat_cmp_total, unsigned_tied}
 use Rattle.std.specs.FinMap as map
 use Rattle.std.specs.FinMap.{get-insert, get-remove}
-
-pub is_same : (a b : ℕ) → a ≡ b → (a == b) ≡ true
-is_same a b same = grind (arith, nat_tests)
-
-pub is_apart : (a b : ℕ) → (a ≡ b → ⊥) → (a == b) ≡ false
-is_apart a b apart = grind (arith, nat_tests)
-
-pub same_or_apart : (a b : ℕ) → (a ≡ b) ⊎ (a ≡ b → ⊥)
-same_or_apart a b = go (a == b) refl
-  where
-    go : (t : Bool) → (a == b) ≡ t → (a ≡ b) ⊎ (a ≡ b → ⊥)
-    go true is = inl (grind (arith, nat_tests))
-    go false is = inr (λ same. let t : true ≡ false = sym (is_same a b same) ∙ is in cc)
 
 module _ {X : Type 0} (m : map.FinMap nat_cmp X) (k : ℕ) where
   pub get_put : (x : X) → map.get (map.insert m k x) k ≡ Some x

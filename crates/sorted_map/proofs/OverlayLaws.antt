@@ -6,6 +6,7 @@ use Rattle.std.specs.Ordering.{ordering_reverse, is_le, eq_by_cmp}
 use Rattle.std.specs.FinMap as map
 use Rattle.std.specs.FinMap.{IsAntisymmetric, entries-insert, entries_sorted, same_entries_map, same_map, get-entries, get-remove, len-entries, len-empty}
 use Rattle.std.proofs.lemmas.List.{nil_from_length}
+use Rattle.std.proofs.lemmas.Option.{none-some, same_Some}
 use Rattle.std.specs.FinMap.Entries.{find, put, where_key, is_sorted, below_all}
 use Rattle.sorted_map.proofs.Bools.{left_of, right_of}
 use Rattle.sorted_map.specs.Overlay.{starts_below, with_pairs, overlaid, without_keys}
@@ -43,21 +44,12 @@ removals m (e ∷ es) = removals (map.remove m e.0) es
 
 -- the first pair and the rest make up a list
 pub popped : {A : Type 0} (es fs : List A) (o : Option A) (x : A) → o ≡ Some x → o ≡ slice_get es 0 → fs ≡ drop 1 es → es ≡ x ∷ fs
-popped [] fs o x some is rest = absurd (none_some (sym is ∙ some))
-  where
-    none_some : {A : Type 0} {x : A} → None ≡ Some x → ⊥
-    none_some e = cc
-popped (e ∷ es) fs o x some is rest = let same : e ≡ x = one (sym is ∙ some) in (λ i. same i ∷ sym rest i)
-  where
-    one : {A : Type 0} {x y : A} → Some x ≡ Some y → x ≡ y
-    one e = cc
+popped [] fs o x some is rest = absurd (none-some x (sym is ∙ some))
+popped (e ∷ es) fs o x some is rest = let same : e ≡ x = same_Some e x (sym is ∙ some) in (λ i. same i ∷ sym rest i)
 
 pub none_left : {A : Type 0} (es : List A) (o : Option A) → o ≡ None → o ≡ slice_get es 0 → es ≡ []
 none_left [] o none is = refl
-none_left (e ∷ es) o none is = absurd (some_none (sym is ∙ none))
-  where
-    some_none : {A : Type 0} {x : A} → Some x ≡ None → ⊥
-    some_none e = cc
+none_left (e ∷ es) o none is = absurd (none-some e (sym none ∙ is))
 
 pub none_entries : {K V : Type 0} {R : K → K → Ordering} (n : map.FinMap R V) → n ≡ map.empty → map.entries n ≡ []
 none_entries {K} {V} {R} n e = nil_from_length (map.entries n) (sym (len-entries n) ∙ ap map.len e ∙ len-empty R V)

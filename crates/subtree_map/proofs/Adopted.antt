@@ -5,9 +5,9 @@ use Rattle.std.specs.FinMap as map
 use Rattle.mds_types.specs.declared.ids.Rank.{Rank}
 use Rattle.sorted_map.proofs.NatKeys as nat
 use Rattle.inode_table.specs.declared.dirs.Home.{Home}
-use Rattle.inode_table.specs.Dirs.{Homes, Covers, IsTable, MayCome, is_known}
+use Rattle.inode_table.specs.Dirs.{Homes, Covers, IsLive, IsTable, MayCome, is_known}
 use Rattle.mds_types.specs.Leaf.{Leaf}
-use Rattle.subtree_map.specs.Authority.{Roots, IsLeaf, NearestRoot, itself, inherited, HasAuthority, IsSubtrees}
+use Rattle.subtree_map.specs.Authority.{Roots, NearestRoot, itself, inherited, HasAuthority, IsSubtrees}
 use Rattle.subtree_map.proofs.Nearest.{holder_is_leaf}
 use Rattle.inode_table.proofs.Tables.{still_known}
 
@@ -19,11 +19,11 @@ unknown homes d home may x known same =
     let clash = sym none ∙ sym gone ∙ known in
     cc
 
-pub adopted_authority : (roots : Roots) (homes : Homes) (covers : Covers) (d : ℕ) (home : Home) (leaf : Leaf) (rank : Rank) → IsTable homes covers → MayCome homes d home → IsLeaf homes covers leaf
+pub adopted_authority : (roots : Roots) (homes : Homes) (covers : Covers) (d : ℕ) (home : Home) (leaf : Leaf) (rank : Rank) → IsTable homes covers → MayCome homes d home → IsLive homes covers leaf
     → HasAuthority roots homes covers leaf rank → HasAuthority roots (map.insert homes d home) covers leaf rank
 adopted_authority roots homes covers d home leaf rank table may is has = record { root = has.root; nearest = way leaf has.root is has.nearest; ranked = has.ranked }
   where
-    way : (leaf root : Leaf) → IsLeaf homes covers leaf → NearestRoot roots homes covers leaf root → NearestRoot roots (map.insert homes d home) covers leaf root
+    way : (leaf root : Leaf) → IsLive homes covers leaf → NearestRoot roots homes covers leaf root → NearestRoot roots (map.insert homes d home) covers leaf root
     way _ _ is (itself root r has) = itself root r has
     way _ _ is (inherited leaf holder root place none stands holds rest) =
         inherited leaf holder root place none (nat.get_beside homes d home leaf.0.0 (unknown homes d home may leaf.0.0 is.known) ∙ stands) holds

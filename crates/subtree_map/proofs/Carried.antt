@@ -5,9 +5,9 @@ use Rattle.std.specs.FinMap as map
 use Rattle.mds_types.specs.declared.ids.Ino.{Ino}
 use Rattle.mds_types.specs.declared.ids.Rank.{Rank}
 use Rattle.inode_table.specs.declared.dirs.Home.{Home}
-use Rattle.inode_table.specs.Dirs.{Homes, Covers, IsTable}
+use Rattle.inode_table.specs.Dirs.{Homes, Covers, IsLive, IsTable}
 use Rattle.mds_types.specs.Leaf.{Leaf}
-use Rattle.subtree_map.specs.Authority.{Roots, IsLeaf, HoldsDentry, NearestRoot, itself, inherited, HasAuthority}
+use Rattle.subtree_map.specs.Authority.{Roots, HoldsDentry, NearestRoot, itself, inherited, HasAuthority}
 use Rattle.subtree_map.specs.Changes.{KeepAuthority}
 use Rattle.subtree_map.proofs.Nearest.{holder_is_leaf}
 
@@ -15,12 +15,12 @@ module _ (old new : Roots) (homes : Homes) (covers later : Covers) (table : IsTa
     -- what becomes of a leaf is a leaf of the same directory
     (place : (leaf after : Leaf) → Becomes leaf after → after.0 ≡ leaf.0)
     -- a root's rank stays
-    (ranked : (leaf after : Leaf) (rank : Rank) → IsLeaf homes covers leaf → Becomes leaf after → map.get old leaf ≡ Some rank → map.get new after ≡ Some rank)
+    (ranked : (leaf after : Leaf) (rank : Rank) → IsLive homes covers leaf → Becomes leaf after → map.get old leaf ≡ Some rank → map.get new after ≡ Some rank)
     -- a leaf that becomes a root has the rank that it inherited
-    (gained : (leaf after : Leaf) (rank now : Rank) → IsLeaf homes covers leaf → Becomes leaf after → map.get old leaf ≡ None → HasAuthority old homes covers leaf rank → map.get new after ≡ Some now → now ≡ rank)
+    (gained : (leaf after : Leaf) (rank now : Rank) → IsLive homes covers leaf → Becomes leaf after → map.get old leaf ≡ None → HasAuthority old homes covers leaf rank → map.get new after ≡ Some now → now ≡ rank)
     -- what holds a dentry becomes what holds it then
-    (holders : (home : Home) (holder : Leaf) → IsLeaf homes covers holder → HoldsDentry covers home holder → (after : Leaf) × Becomes holder after × HoldsDentry later home after) where
-  carried : (leaf root : Leaf) → IsLeaf homes covers leaf → NearestRoot old homes covers leaf root → (rank : Rank) → map.get old root ≡ Some rank → (after : Leaf) → Becomes leaf after → HasAuthority new homes later after rank
+    (holders : (home : Home) (holder : Leaf) → IsLive homes covers holder → HoldsDentry covers home holder → (after : Leaf) × Becomes holder after × HoldsDentry later home after) where
+  carried : (leaf root : Leaf) → IsLive homes covers leaf → NearestRoot old homes covers leaf root → (rank : Rank) → map.get old root ≡ Some rank → (after : Leaf) → Becomes leaf after → HasAuthority new homes later after rank
   carried _ _ is (itself root r has) rank ranks after becomes =
       let stays = ranked root after rank is becomes ranks in
       record { root = after; nearest = itself after rank stays; ranked = stays }

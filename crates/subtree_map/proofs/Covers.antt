@@ -18,6 +18,16 @@ leaves_here covers d to = ap or_whole (nat.get_put covers d to)
 pub leaves_beside : (covers : Covers) (d : ℕ) (to : List Fragment) (e : ℕ) → e ≢ d → leaves_of (map.insert covers d to) e ≡ leaves_of covers e
 leaves_beside covers d to e apart = ap or_whole (nat.get_beside covers d to e apart)
 
+pub leaves_left : (covers : Covers) (d e : ℕ) → e ≢ d → leaves_of (map.remove covers d) e ≡ leaves_of covers e
+leaves_left covers d e apart = ap or_whole (nat.get_left covers d e apart)
+
+-- the leaves of a table in which one directory got others
+pub leaves_now : (covers later : Covers) (d : ℕ) (to : List Fragment) → later ≡ map.insert covers d to → leaves_of later d ≡ to
+leaves_now covers later d to changed = ap (λ c. leaves_of c d) changed ∙ leaves_here covers d to
+
+pub leaves_still : (covers later : Covers) (d : ℕ) (to : List Fragment) → later ≡ map.insert covers d to → (e : ℕ) → e ≢ d → leaves_of later e ≡ leaves_of covers e
+leaves_still covers later d to changed e apart = ap (λ c. leaves_of c e) changed ∙ leaves_beside covers d to e apart
+
 -- two leaves that contain a hash are one
 pub one_leaf : (leaves : List Fragment) (f g : Fragment) (hash : ℕ) → IsTree leaves → HasLeaf leaves f → HasLeaf leaves g → Contains f hash → Contains g hash → f ≡ g
 one_leaf leaves f g hash tree has also in_f in_g =

@@ -3,9 +3,9 @@ use Rattle.std.specs.Prelude.{◌≡◌, ◌⊎◌, Some, None, IsSome, is_some}
 use Rattle.std.proofs.Common.{inl, inr, sym, ap, subst, ◌∙◌}
 use Rattle.std.specs.FinMap as map
 use Rattle.mds_types.specs.declared.ids.Rank.{Rank}
-use Rattle.inode_table.specs.Dirs.{Homes, Covers}
+use Rattle.inode_table.specs.Dirs.{Homes, Covers, IsLive}
 use Rattle.mds_types.specs.Leaf.{Leaf}
-use Rattle.subtree_map.specs.Authority.{Roots, IsLeaf, IsSubtrees, NearestRoot, itself, inherited}
+use Rattle.subtree_map.specs.Authority.{Roots, IsSubtrees, NearestRoot, itself, inherited}
 use Rattle.subtree_map.specs.Changes.{IsCutOff, IsHanded}
 use Rattle.mds_types.proofs.LeafLaws.{get_put, get_beside, same_or_apart}
 use Rattle.subtree_map.proofs.Options.{not_none, value_of}
@@ -33,11 +33,11 @@ cut_off old new root rank is homes covers = way
     ]
 
 -- a leaf that is made a root leaves a map of subtrees
-pub cut_valid : (old new : Roots) (root : Leaf) (rank : Rank) → new ≡ map.insert old root rank → (homes : Homes) (covers : Covers) → IsSubtrees old homes covers → IsLeaf homes covers root → IsSubtrees new homes covers
+pub cut_valid : (old new : Roots) (root : Leaf) (rank : Rank) → new ≡ map.insert old root rank → (homes : Homes) (covers : Covers) → IsSubtrees old homes covers → IsLive homes covers root → IsSubtrees new homes covers
 cut_valid old new root rank is homes covers valid stands = record {
   top = λ f has. some_still (record { 0 = 1 }, f) (valid.top f has);
   live = λ leaf some. elim (same_or_apart leaf root) [
-    | inl same ↦ subst (IsLeaf homes covers) (sym same) stands
+    | inl same ↦ subst (IsLive homes covers) (sym same) stands
     | inr apart ↦ valid.live leaf (ap is_some (sym (beside leaf apart)) ∙ some)
   ];
 }

@@ -4,13 +4,13 @@ use Rattle.std.proofs.Common.{sym, ap, subst, ◌∙◌}
 use Rattle.std.specs.FinMap as map
 use Rattle.sorted_map.proofs.NatKeys as nat
 use Rattle.inode_table.specs.declared.dirs.Home.{Home}
-use Rattle.inode_table.specs.Dirs.{Homes, Covers, IsTable, is_known}
+use Rattle.inode_table.specs.Dirs.{Homes, Covers, IsLive, IsTable, is_known}
 use Rattle.mds_types.specs.Leaf.{Leaf}
-use Rattle.subtree_map.specs.Authority.{Roots, IsLeaf, HoldsDentry, NearestRoot, IsSubtrees, HasOneRoot, IsInOneRegion, BoundsOneRegion}
+use Rattle.subtree_map.specs.Authority.{Roots, HoldsDentry, NearestRoot, IsSubtrees, HasOneRoot, IsInOneRegion, BoundsOneRegion}
 use Rattle.subtree_map.proofs.Options.{value_of, one_value}
 use Rattle.subtree_map.proofs.Nearest.{is_ranked, one_root, some_root, one_holder, some_holder, holder_is_leaf}
 
-pub one_nearest : (roots : Roots) (homes : Homes) (covers : Covers) (leaf : Leaf) → IsTable homes covers → IsSubtrees roots homes covers → IsLeaf homes covers leaf → HasOneRoot roots homes covers leaf
+pub one_nearest : (roots : Roots) (homes : Homes) (covers : Covers) (leaf : Leaf) → IsTable homes covers → IsSubtrees roots homes covers → IsLive homes covers leaf → HasOneRoot roots homes covers leaf
 one_nearest roots homes covers leaf table valid is =
     let near = some_root roots homes covers table valid leaf is in
     record {
@@ -20,7 +20,7 @@ one_nearest roots homes covers leaf table valid is =
       alone = λ other its. one_root roots homes covers leaf other near.0 its near.1;
     }
 
-pub one_region : (roots : Roots) (homes : Homes) (covers : Covers) (leaf : Leaf) → IsTable homes covers → IsSubtrees roots homes covers → IsLeaf homes covers leaf → IsInOneRegion roots homes covers leaf
+pub one_region : (roots : Roots) (homes : Homes) (covers : Covers) (leaf : Leaf) → IsTable homes covers → IsSubtrees roots homes covers → IsLive homes covers leaf → IsInOneRegion roots homes covers leaf
 one_region roots homes covers leaf table valid is =
     let near = one_nearest roots homes covers leaf table valid is in
     record {

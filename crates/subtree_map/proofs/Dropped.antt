@@ -7,16 +7,14 @@ use Rattle.fragtree.specs.FragTree.{HasLeaf, IsPick}
 use Rattle.namehash.specs.Rjenkins.{hash_of}
 use Rattle.sorted_map.proofs.NatKeys as nat
 use Rattle.inode_table.specs.declared.dirs.Home.{Home}
-use Rattle.inode_table.specs.Dirs.{Homes, Covers, IsTable, IsChildless, leaves_of, or_whole}
+use Rattle.inode_table.specs.Dirs.{Homes, Covers, IsLive, IsTable, IsChildless}
 use Rattle.mds_types.specs.Leaf.{Leaf}
-use Rattle.subtree_map.specs.Authority.{Roots, IsLeaf, NearestRoot, itself, inherited, HasAuthority, IsSubtrees}
+use Rattle.subtree_map.specs.Authority.{Roots, NearestRoot, itself, inherited, HasAuthority, IsSubtrees}
 use Rattle.subtree_map.specs.Changes.{AreGone, DropsSoundly, KeepAuthority, StaysElsewhere, leaf_of}
 use Rattle.subtree_map.proofs.Options.{not_none, value_of}
+use Rattle.subtree_map.proofs.Covers.{leaves_left}
 
 module _ (old new : Roots) (d : ℕ) (is : AreGone old new d) (homes : Homes) (covers : Covers) (table : IsTable homes covers) (valid : IsSubtrees old homes covers) (childless : IsChildless homes d) (below : d ≢ 1) where
-  beside : (e : ℕ) → e ≢ d → leaves_of (map.remove covers d) e ≡ leaves_of covers e
-  beside e apart = ap or_whole (nat.get_left covers d e apart)
-
   way : (leaf root : Leaf) → leaf.0.0 ≢ d → NearestRoot old homes covers leaf root → NearestRoot new (map.remove homes d) (map.remove covers d) leaf root × (root.0.0 ≢ d)
   way _ _ apart (itself root rank has) = (itself root rank (is.others root apart ∙ has), apart)
   way _ _ apart (inherited leaf holder root home none stands holds rest) =
@@ -24,7 +22,7 @@ module _ (old new : Roots) (d : ℕ) (is : AreGone old new d) (homes : Homes) (c
       let up = way holder root (λ same. parent (ap (λ (p : Ino). p.0) (sym holds.parent) ∙ same)) rest in (
         inherited leaf holder root home (is.others leaf apart ∙ none) (nat.get_left homes d leaf.0.0 apart ∙ stands) (record {
           parent = holds.parent;
-          pick = subst (λ ls. IsPick ls (hash_of home.name) holder.1) (sym (beside home.parent.0 parent)) holds.pick;
+          pick = subst (λ ls. IsPick ls (hash_of home.name) holder.1) (sym (leaves_left covers d home.parent.0 parent)) holds.pick;
         }) up.0,
         up.1,
       )
@@ -34,23 +32,23 @@ module _ (old new : Roots) (d : ℕ) (is : AreGone old new d) (homes : Homes) (c
       let up = way leaf has.root apart has.nearest in
       subst (λ k. HasAuthority new (map.remove homes d) (map.remove covers d) k rank) (sym same) (record { root = has.root; nearest = up.0; ranked = is.others has.root up.1 ∙ has.ranked })
 
-  still_live : (root : Leaf) → IsSome (map.get new root) → IsLeaf (map.remove homes d) (map.remove covers d) root
+  still_live : (root : Leaf) → IsSome (map.get new root) → IsLive (map.remove homes d) (map.remove covers d) root
   still_live root there = go (nat.same_or_apart root.0.0 d)
     where
-      go : (root.0.0 ≡ d) ⊎ (root.0.0 ≢ d) → IsLeaf (map.remove homes d) (map.remove covers d) root
+      go : (root.0.0 ≡ d) ⊎ (root.0.0 ≢ d) → IsLive (map.remove homes d) (map.remove covers d) root
       go (inl at) = let gone = value_of _ there in absurd (not_none _ gone.0 (is.gone root at) gone.1)
       go (inr apart) =
           let live = valid.live root (ap is_some (sym (is.others root apart)) ∙ there) in
           record {
             known = ap (λ (o : Option Home). (root.0.0 == 1) || is_some o) (nat.get_left homes d root.0.0 apart) ∙ live.known;
-            stands = subst (λ ls. HasLeaf ls root.1) (sym (beside root.0.0 apart)) live.stands;
+            stands = subst (λ ls. HasLeaf ls root.1) (sym (leaves_left covers d root.0.0 apart)) live.stands;
           }
 
   pub sound : KeepAuthority old new homes (map.remove homes d) covers (map.remove covers d) (StaysElsewhere d) × IsSubtrees new (map.remove homes d) (map.remove covers d)
   sound = (
     keeps,
     record {
-      top = λ f has. ap is_some (is.others (leaf_of 1 f) (λ same. below (sym same))) ∙ valid.top f (subst (λ ls. HasLeaf ls f) (beside 1 (λ same. below (sym same))) has);
+      top = λ f has. ap is_some (is.others (leaf_of 1 f) (λ same. below (sym same))) ∙ valid.top f (subst (λ ls. HasLeaf ls f) (leaves_left covers d 1 (λ same. below (sym same))) has);
       live = still_live;
     },
   )

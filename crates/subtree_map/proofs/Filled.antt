@@ -1,7 +1,7 @@
 -- Leaves that get a rank where they have none.
 use Rattle.std.specs.Prelude.{◌≡◌, Bool, true, false, Option, Some, None, is_some, ℕ, zero, suc, ◌+◌, ◌^◌, ◌<◌, ◌≤◌, List, [], ◌∷◌, ◌++◌, length, refl}
 use Rattle.std.proofs.Common.{inl, inr, sym, ap, subst, ◌∙◌, arith}
-use Rattle.std.proofs.lemmas.List.{append_assoc, length-append}
+use Rattle.std.proofs.lemmas.List.{append_assoc, length-append, append-nil}
 use Rattle.std.proofs.lemmas.List.Elements.{Contains-append_cases, Contains-append_left, Contains-append_right}
 use Rattle.std.specs.FinMap as map
 use Rattle.mds_types.specs.declared.ids.Rank.{Rank}
@@ -153,14 +153,10 @@ module _ (leaves : List Fragment) (hash : ℕ) (old now : Roots) (d : ℕ) (rank
   pub walk_ends : 2 ^ 24 ≤ hash → AreFilled old now d leaves rank × (before ≤ room + length leaves)
   walk_ends high =
       let none : walk.rest ≡ [] = no_rest walk.rest walk.tiles in
-      let all : leaves ≡ walk.done = walk.all ∙ ap (λ r. walk.done ++ r) none ∙ append_nil walk.done in
+      let all : leaves ≡ walk.done = walk.all ∙ ap (λ r. walk.done ++ r) none ∙ append-nil walk.done in
       let many : length leaves ≡ length walk.done = ap (length {A = Fragment}) all in
       (subst (λ ls. AreFilled old now d ls rank) (sym all) walk.filled, omega (arith, walk.enough, many))
     where
       no_rest : (rest : List Fragment) → Tiles hash (2 ^ 24) rest → rest ≡ []
       no_rest [] tiles = refl
       no_rest (f ∷ more) tiles = absurd (omega (arith, tiles.0.in_range, tiles.1, high))
-
-      append_nil : (xs : List Fragment) → xs ++ [] ≡ xs
-      append_nil [] = refl
-      append_nil (x ∷ xs) = ap (λ ys. x ∷ ys) (append_nil xs)

@@ -14,6 +14,7 @@ use Rattle.mds_types.specs.declared.ids.Rank.{Rank}
 use Rattle.mds_types.specs.Frag.{Fragment, IsFragment, frag_cmp, span}
 use Rattle.sorted_map.proofs.MapLaws.{tie}
 use Rattle.fragtree.proofs.Ranges.{range_from_inside, lies_inside-true, ends_before}
+use Rattle.fragtree.proofs.FirstKeys.{frag_le}
 use Rattle.mds_types.specs.Leaf.{Leaf, leaf_cmp}
 use Rattle.subtree_map.specs.Authority.{Roots}
 use Rattle.subtree_map.specs.Changes.{is_inside, leaf_of}
@@ -65,17 +66,6 @@ first_row rows passes left is = go left sorted found
         later : (leaf : Leaf) (b : Bool) → eq_by_cmp leaf_cmp leaf e.0 ≡ b → IsSome (cond b (Some e.1) (find leaf_cmp leaf es)) → (leaf ≡ e.0) ⊎ (leaf_cmp e.0 leaf ≡ Less)
         later leaf true tied some = inl (leaf-exact leaf e.0 (tie _ tied))
         later leaf false apart some = inr (behind e.0 es leaf (left_of _ _ ordered) some)
-
--- the order of fragments
-frag_le_by : (v w b c : ℕ) (r s : Ordering) → MatchOrdering r (v < w) (v ≡ w) (w < v) → MatchOrdering s (b < c) (b ≡ c) (c < b) → is_le (ordering_then r s) ≡ true → (v < w) ⊎ ((v ≡ w) × (b ≤ c))
-frag_le_by v w b c Less s h k le = inl h
-frag_le_by v w b c Equal Less h k le = inr (h, omega arith)
-frag_le_by v w b c Equal Equal h k le = inr (h, omega arith)
-frag_le_by v w b c Equal Greater h k le = cc
-frag_le_by v w b c Greater s h k le = cc
-
-pub frag_le : (f g : Fragment) → is_le (frag_cmp f g) ≡ true → (f.value < g.value) ⊎ ((f.value ≡ g.value) × (f.bits ≤ g.bits))
-frag_le f g le = frag_le_by f.value g.value f.bits g.bits (nat_cmp f.value g.value) (nat_cmp f.bits g.bits) (ranks f.value g.value) (ranks f.bits g.bits) le
 
 -- the order of leaves
 leaf_le_by : (d e : ℕ) (r s : Ordering) → MatchOrdering r (d < e) (d ≡ e) (e < d) → is_le (ordering_then r s) ≡ true → (d < e) ⊎ ((d ≡ e) × (is_le s ≡ true))

@@ -1,6 +1,7 @@
 -- Leaves of one authority are merged: all leaves keep their authority, and the merged leaf has theirs.
 use Rattle.std.specs.Prelude.{◌≡◌, ◌≢◌, ◌⊎◌, ℕ, Bool, true, false, ◌&&◌, ◌==◌, is_some, IsSome, List, Some, None, refl}
 use Rattle.std.proofs.Common.{inl, inr, sym, ap, subst, ◌∙◌}
+use Rattle.std.proofs.lemmas.Bool.{and_from, and_parts, eqb-true, and_left, and_right}
 use Rattle.std.specs.FinMap as map
 use Rattle.mds_types.specs.declared.ids.Ino.{Ino}
 use Rattle.mds_types.specs.declared.ids.Rank.{Rank}
@@ -8,52 +9,52 @@ use Rattle.mds_types.specs.Frag.{Fragment}
 use Rattle.fragtree.specs.FragTree.{CanMerge, HasLeaf, IsMerge, IsPick, IsTree, lies_inside}
 use Rattle.fragtree.proofs.TreeLaws.{pick_after_merge, merged_after_merge}
 use Rattle.namehash.specs.Rjenkins.{hash_of}
-use Rattle.sorted_map.proofs.Bools.{first_true, second_true, both_true}
 use Rattle.sorted_map.proofs.NatKeys as nat
 use Rattle.inode_table.specs.declared.dirs.Home.{Home}
-use Rattle.inode_table.specs.Dirs.{Homes, Covers, IsTable, leaves_of, is_known}
+use Rattle.inode_table.specs.Dirs.{Homes, Covers, IsLive, IsTable, leaves_of, is_known}
+use Rattle.inode_table.proofs.Tables.{tree_of_row}
 use Rattle.mds_types.specs.Leaf.{Leaf}
-use Rattle.subtree_map.specs.Authority.{Roots, IsLeaf, HoldsDentry, itself, HasAuthority, IsSubtrees}
+use Rattle.subtree_map.specs.Authority.{Roots, HoldsDentry, itself, HasAuthority, IsSubtrees}
 use Rattle.subtree_map.specs.Changes.{BecomesMerged, HaveOneAuthority, IsRootMerge, KeepAuthority, MergesSoundly, is_inside, leaf_of}
 use Rattle.subtree_map.proofs.Options.{not_none, value_of}
-use Rattle.mds_types.proofs.LeafLaws.{nat_same, same_or_apart}
-use Rattle.subtree_map.proofs.Nearest.{tree_of_row}
-use Rattle.subtree_map.proofs.Covers.{leaves_here, leaves_beside, merged_is_new, some_inside}
+use Rattle.mds_types.proofs.LeafLaws.{same_or_apart}
+use Rattle.subtree_map.proofs.Covers.{merged_is_new, some_inside, leaves_now, leaves_still}
 use Rattle.subtree_map.proofs.Split.{stands_beside, stands_here}
 use Rattle.subtree_map.proofs.Carried.{kept}
 
 pub inside_at : (d : ℕ) (f : Fragment) (leaf : Leaf) → is_inside d f leaf ≡ true → leaf.0.0 ≡ d
-inside_at d f leaf inside = nat_same leaf.0.0 d (first_true _ _ inside)
+inside_at d f leaf inside = eqb-true leaf.0.0 d (and_parts _ _ inside).0
 
 pub inside_of : (d : ℕ) (f : Fragment) (leaf : Leaf) → is_inside d f leaf ≡ true → lies_inside f leaf.1 ≡ true
-inside_of d f leaf inside = second_true (leaf.0.0 == d) _ inside
+inside_of d f leaf inside = (and_parts (leaf.0.0 == d) _ inside).1
 
 pub is_within : (d : ℕ) (f : Fragment) (leaf : Leaf) → leaf.0.0 ≡ d → lies_inside f leaf.1 ≡ true → is_inside d f leaf ≡ true
-is_within d f leaf at inside = both_true _ _ (nat.is_same leaf.0.0 d at) inside
+is_within d f leaf at inside = and_from _ _ (nat.is_same leaf.0.0 d at) inside
 
-outside_of : (d : ℕ) (f : Fragment) (leaf : Leaf) → leaf.0.0 ≡ d → is_inside d f leaf ≡ false → lies_inside f leaf.1 ≡ false
+pub outside_of : (d : ℕ) (f : Fragment) (leaf : Leaf) → leaf.0.0 ≡ d → is_inside d f leaf ≡ false → lies_inside f leaf.1 ≡ false
 outside_of d f leaf at outside = sym (ap (λ b. b && lies_inside f leaf.1) (nat.is_same leaf.0.0 d at)) ∙ outside
+
+-- outside of the directory nothing is inside the fragment
+pub elsewhere_out : (d : ℕ) (f : Fragment) (leaf : Leaf) → leaf.0.0 ≢ d → is_inside d f leaf ≡ false
+elsewhere_out d f leaf apart = and_left _ (lies_inside f leaf.1) (nat.is_apart leaf.0.0 d apart)
+
+pub here_out : (d : ℕ) (f : Fragment) (leaf : Leaf) → lies_inside f leaf.1 ≡ false → is_inside d f leaf ≡ false
+here_out d f leaf outside = and_right (leaf.0.0 == d) _ outside
 
 module _ (old new : Roots) (d : ℕ) (f : Fragment) (is : IsRootMerge old new d f) (homes : Homes) (covers later : Covers) (to : List Fragment) (table : IsTable homes covers) (valid : IsSubtrees old homes covers)
     (one : HaveOneAuthority old homes covers d f) (can : CanMerge (leaves_of covers d) f) (merge : IsMerge (leaves_of covers d) to f) (tree : IsTree to) (changed : later ≡ map.insert covers d to) where
   was : IsTree (leaves_of covers d)
   was = tree_of_row homes covers table d
 
-  here : leaves_of later d ≡ to
-  here = ap (λ c. leaves_of c d) changed ∙ leaves_here covers d to
-
-  beside : (e : ℕ) → e ≢ d → leaves_of later e ≡ leaves_of covers e
-  beside e apart = ap (λ c. leaves_of c e) changed ∙ leaves_beside covers d to e apart
-
   -- a leaf that stood isn't the merged one
-  not_merged : (leaf : Leaf) → IsLeaf homes covers leaf → leaf ≢ leaf_of d f
+  not_merged : (leaf : Leaf) → IsLive homes covers leaf → leaf ≢ leaf_of d f
   not_merged leaf stood same = merged_is_new (leaves_of covers d) f was can (subst (λ (k : Leaf). HasLeaf (leaves_of covers k.0.0) k.1) same stood.stands)
 
-  unchanged : (leaf : Leaf) → IsLeaf homes covers leaf → is_inside d f leaf ≡ false → map.get new leaf ≡ map.get old leaf
+  unchanged : (leaf : Leaf) → IsLive homes covers leaf → is_inside d f leaf ≡ false → map.get new leaf ≡ map.get old leaf
   unchanged leaf stood outside = is.others leaf outside (not_merged leaf stood)
 
   -- the rank of the merged leaf is the authority of those that it came from
-  rank_is : (leaf : Leaf) (rank now : Rank) → IsLeaf homes covers leaf → is_inside d f leaf ≡ true → HasAuthority old homes covers leaf rank → map.get new (leaf_of d f) ≡ Some now → now ≡ rank
+  rank_is : (leaf : Leaf) (rank now : Rank) → IsLive homes covers leaf → is_inside d f leaf ≡ true → HasAuthority old homes covers leaf rank → map.get new (leaf_of d f) ≡ Some now → now ≡ rank
   rank_is leaf rank now stood inside has gets =
       let from = is.rank now gets in
       let live = valid.live from.0 (ap is_some from.2) in
@@ -67,22 +68,22 @@ module _ (old new : Roots) (d : ℕ) (f : Fragment) (is : IsRootMerge old new d 
   place leaf after (inl (outside, same)) = ap (λ (k : Leaf). k.0) same
   place leaf after (inr (inside, same)) = let at = inside_at d f leaf inside in ap (λ (k : Leaf). k.0) same ∙ (λ i. record { 0 = sym at i })
 
-  ranked : (leaf after : Leaf) (rank : Rank) → IsLeaf homes covers leaf → BecomesMerged d f leaf after → map.get old leaf ≡ Some rank → map.get new after ≡ Some rank
+  ranked : (leaf after : Leaf) (rank : Rank) → IsLive homes covers leaf → BecomesMerged d f leaf after → map.get old leaf ≡ Some rank → map.get new after ≡ Some rank
   ranked leaf after rank stood (inl (outside, same)) ranks = ap (map.get new) same ∙ unchanged leaf stood outside ∙ ranks
   ranked leaf after rank stood (inr (inside, same)) ranks =
       let now = value_of _ (is.some leaf inside (ap is_some ranks)) in
       let equal = rank_is leaf rank now.0 stood inside (record { root = leaf; nearest = itself leaf rank ranks; ranked = ranks }) now.1 in
       ap (map.get new) same ∙ now.1 ∙ ap (λ r. Some r) equal
 
-  gained : (leaf after : Leaf) (rank now : Rank) → IsLeaf homes covers leaf → BecomesMerged d f leaf after → map.get old leaf ≡ None → HasAuthority old homes covers leaf rank → map.get new after ≡ Some now → now ≡ rank
+  gained : (leaf after : Leaf) (rank now : Rank) → IsLive homes covers leaf → BecomesMerged d f leaf after → map.get old leaf ≡ None → HasAuthority old homes covers leaf rank → map.get new after ≡ Some now → now ≡ rank
   gained leaf after rank now stood (inl (outside, same)) none its gets = absurd (not_none _ now (ap (map.get new) same ∙ unchanged leaf stood outside ∙ none) gets)
   gained leaf after rank now stood (inr (inside, same)) none its gets = rank_is leaf rank now stood inside its (ap (map.get new) (sym same) ∙ gets)
 
-  holders : (home : Home) (holder : Leaf) → IsLeaf homes covers holder → HoldsDentry covers home holder → (after : Leaf) × BecomesMerged d f holder after × HoldsDentry later home after
+  holders : (home : Home) (holder : Leaf) → IsLive homes covers holder → HoldsDentry covers home holder → (after : Leaf) × BecomesMerged d f holder after × HoldsDentry later home after
   holders home holder stood holds = go (is_inside d f holder) refl (nat.same_or_apart home.parent.0 d)
     where
       now_at : home.parent.0 ≡ d → leaves_of later home.parent.0 ≡ to
-      now_at at = ap (leaves_of later) at ∙ here
+      now_at at = ap (leaves_of later) at ∙ leaves_now covers later d to changed
 
       pick_at : home.parent.0 ≡ d → IsPick (leaves_of covers d) (hash_of home.name) holder.1
       pick_at at = subst (λ e. IsPick (leaves_of covers e) (hash_of home.name) holder.1) at holds.pick
@@ -111,28 +112,21 @@ module _ (old new : Roots) (d : ℕ) (f : Fragment) (is : IsRootMerge old new d 
         inl (outside, refl),
         record {
           parent = holds.parent;
-          pick = subst (λ ls. IsPick ls (hash_of home.name) holder.1) (sym (beside home.parent.0 elsewhere)) holds.pick;
+          pick = subst (λ ls. IsPick ls (hash_of home.name) holder.1) (sym (leaves_still covers later d to changed home.parent.0 elsewhere)) holds.pick;
         },
       )
-
-  -- outside of the directory nothing is inside the fragment
-  elsewhere_out : (leaf : Leaf) → leaf.0.0 ≢ d → is_inside d f leaf ≡ false
-  elsewhere_out leaf apart = ap (λ b. b && lies_inside f leaf.1) (nat.is_apart leaf.0.0 d apart)
-
-  here_out : (g : Fragment) → lies_inside f g ≡ false → is_inside d f (leaf_of d g) ≡ false
-  here_out g outside = ap (λ b. b && lies_inside f g) (nat.is_same d d refl) ∙ outside
 
   still_top : (g : Fragment) → HasLeaf (leaves_of later 1) g → IsSome (map.get new (leaf_of 1 g))
   still_top g there = go (nat.same_or_apart 1 d)
     where
       go : (1 ≡ d) ⊎ (1 ≢ d) → IsSome (map.get new (leaf_of 1 g))
       go (inr apart) =
-          let root = valid.top g (subst (λ ls. HasLeaf ls g) (beside 1 apart) there) in
-          ap is_some (unchanged (leaf_of 1 g) (valid.live (leaf_of 1 g) root) (elsewhere_out (leaf_of 1 g) apart)) ∙ root
-      go (inl at) = elim ((merge.leaves g).0 (subst (λ ls. HasLeaf ls g) (ap (leaves_of later) at ∙ here) there)) [
+          let root = valid.top g (subst (λ ls. HasLeaf ls g) (leaves_still covers later d to changed 1 apart) there) in
+          ap is_some (unchanged (leaf_of 1 g) (valid.live (leaf_of 1 g) root) (elsewhere_out d f (leaf_of 1 g) apart)) ∙ root
+      go (inl at) = elim ((merge.leaves g).0 (subst (λ ls. HasLeaf ls g) (ap (leaves_of later) at ∙ leaves_now covers later d to changed) there)) [
         | inl (before, outside) ↦
             let root = valid.top g (subst (λ e. HasLeaf (leaves_of covers e) g) (sym at) before) in
-            let out : is_inside d f (leaf_of 1 g) ≡ false = subst (λ e. is_inside d f (leaf_of e g) ≡ false) (sym at) (here_out g outside) in
+            let out : is_inside d f (leaf_of 1 g) ≡ false = subst (λ e. is_inside d f (leaf_of e g) ≡ false) (sym at) (here_out d f (leaf_of d g) outside) in
             ap is_some (unchanged (leaf_of 1 g) (valid.live (leaf_of 1 g) root) out) ∙ root
         | inr merged ↦
             let inside = some_inside (leaves_of covers d) f can.some in
@@ -140,7 +134,7 @@ module _ (old new : Roots) (d : ℕ) (f : Fragment) (is : IsRootMerge old new d 
             subst (λ h. IsSome (map.get new (leaf_of 1 h))) (sym merged) (subst (λ e. IsSome (map.get new (leaf_of e f))) (sym at) (is.some (leaf_of 1 inside.0) (is_within d f (leaf_of 1 inside.0) at inside.2) root))
       ]
 
-  still_live : (root : Leaf) → IsSome (map.get new root) → IsLeaf homes later root
+  still_live : (root : Leaf) → IsSome (map.get new root) → IsLive homes later root
   still_live root there = go (same_or_apart root (leaf_of d f)) (is_inside d f root) refl
     where
       known_d : IsSome (map.get new (leaf_of d f)) → is_known homes d ≡ true
@@ -153,15 +147,15 @@ module _ (old new : Roots) (d : ℕ) (f : Fragment) (is : IsRootMerge old new d 
             | inr inside ↦ subst (λ e. is_known homes e ≡ true) (inside_at d f from.0 inside) live.known
           ]
 
-      stood : is_inside d f root ≡ false → IsLeaf homes covers root → (root.0.0 ≡ d) ⊎ (root.0.0 ≢ d) → IsLeaf homes later root
+      stood : is_inside d f root ≡ false → IsLive homes covers root → (root.0.0 ≡ d) ⊎ (root.0.0 ≢ d) → IsLive homes later root
       stood outside live (inr apart) = stands_beside homes covers later d to changed root apart live
       stood outside live (inl at) =
           stands_here homes covers later d to changed root at (subst (λ e. is_known homes e ≡ true) at live.known)
           ((merge.leaves root.1).1 (inl (subst (λ e. HasLeaf (leaves_of covers e) root.1) at live.stands, outside_of d f root at outside)))
 
-      go : (root ≡ leaf_of d f) ⊎ (root ≢ leaf_of d f) → (b : Bool) → is_inside d f root ≡ b → IsLeaf homes later root
+      go : (root ≡ leaf_of d f) ⊎ (root ≢ leaf_of d f) → (b : Bool) → is_inside d f root ≡ b → IsLive homes later root
       go (inl same) _ _ =
-          subst (IsLeaf homes later) (sym same)
+          subst (IsLive homes later) (sym same)
           (stands_here homes covers later d to changed (leaf_of d f) refl (known_d (subst (λ k. IsSome (map.get new k)) same there)) ((merge.leaves f).1 (inr refl)))
       go (inr apart) true inside = let gone = value_of _ there in absurd (not_none _ gone.0 (is.gone root inside) gone.1)
       go (inr apart) false outside = stood outside (valid.live root (ap is_some (sym (is.others root outside apart)) ∙ there)) (nat.same_or_apart root.0.0 d)

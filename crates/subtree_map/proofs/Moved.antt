@@ -7,9 +7,9 @@ use Rattle.mds_types.specs.declared.ids.Rank.{Rank}
 use Rattle.sorted_map.proofs.NatKeys as nat
 use Rattle.fragtree.specs.FragTree.{HasLeaf}
 use Rattle.inode_table.specs.declared.dirs.Home.{Home}
-use Rattle.inode_table.specs.Dirs.{Homes, Covers, IsTable, IsAbove, parent, further, MayMove, is_known, leaves_of}
+use Rattle.inode_table.specs.Dirs.{Homes, Covers, IsLive, IsTable, IsAbove, parent, further, MayMove, is_known, leaves_of}
 use Rattle.mds_types.specs.Leaf.{Leaf}
-use Rattle.subtree_map.specs.Authority.{Roots, IsLeaf, HoldsDentry, NearestRoot, itself, inherited, HasAuthority, IsSubtrees}
+use Rattle.subtree_map.specs.Authority.{Roots, HoldsDentry, NearestRoot, itself, inherited, HasAuthority, IsSubtrees}
 use Rattle.subtree_map.specs.Changes.{leaf_of}
 use Rattle.subtree_map.specs.Moves.{IsInheritedAt, IsSettled, MovesSoundly}
 use Rattle.subtree_map.proofs.Nearest.{holder_is_leaf, some_holder, some_authority}
@@ -37,7 +37,7 @@ module _ (old new : Roots) (homes : Homes) (covers : Covers) (d : ℕ) (home : H
   up_there : (holder : Leaf) × HoldsDentry covers home holder
   up_there = some_holder homes covers table home
 
-  up_is_leaf : IsLeaf homes covers up_there.0
+  up_is_leaf : IsLive homes covers up_there.0
   up_is_leaf = record {
     known = subst (λ (p : Ino). is_known homes p.0 ≡ true) (sym up_there.1.parent) may.parent_known;
     stands = subst (λ (p : Ino). HasLeaf (leaves_of covers p.0) up_there.0.1) (sym up_there.1.parent) up_there.1.pick.stands;
@@ -52,7 +52,7 @@ module _ (old new : Roots) (homes : Homes) (covers : Covers) (d : ℕ) (home : H
       (now.0, now.1, record { root = now.1.root; nearest = up.0; ranked = up.1 ∙ now.1.ranked })
 
   -- a leaf of the directory that inherits
-  of_moved : (leaf : Leaf) (rank : Rank) → IsLeaf homes covers leaf → leaf.0.0 ≡ d → map.get old leaf ≡ None → HasAuthority old homes covers leaf rank → HasAuthority new (map.insert homes d home) covers leaf rank
+  of_moved : (leaf : Leaf) (rank : Rank) → IsLive homes covers leaf → leaf.0.0 ≡ d → map.get old leaf ≡ None → HasAuthority old homes covers leaf rank → HasAuthority new (map.insert homes d home) covers leaf rank
   of_moved leaf rank stood at none has = go (same_rank rank there.0)
     where
       other_place : IsInheritedAt old homes covers home there.0
@@ -71,7 +71,7 @@ module _ (old new : Roots) (homes : Homes) (covers : Covers) (d : ℕ) (home : H
           let gets = is.lost leaf rank there.0 stood at none has other_place apart in
           record { root = leaf; nearest = itself leaf rank gets; ranked = gets }
 
-  moved_by : (leaf root : Leaf) → IsLeaf homes covers leaf → NearestRoot old homes covers leaf root → (rank : Rank) → map.get old root ≡ Some rank → HasAuthority new (map.insert homes d home) covers leaf rank
+  moved_by : (leaf root : Leaf) → IsLive homes covers leaf → NearestRoot old homes covers leaf root → (rank : Rank) → map.get old root ≡ Some rank → HasAuthority new (map.insert homes d home) covers leaf rank
   moved_by _ _ stood (itself root r has) rank ranks =
       let stays = is.kept root (ap is_some ranks) ∙ ranks in
       record { root = root; nearest = itself root rank stays; ranked = stays }
@@ -98,5 +98,5 @@ module _ (old new : Roots) (homes : Homes) (covers : Covers) (d : ℕ) (home : H
     },
   )
     where
-      still : {leaf : Leaf} → IsLeaf homes covers leaf → IsLeaf (map.insert homes d home) covers leaf
+      still : {leaf : Leaf} → IsLive homes covers leaf → IsLive (map.insert homes d home) covers leaf
       still {leaf} live = record { known = still_known homes d home leaf.0.0 live.known; stands = live.stands }

@@ -1,29 +1,21 @@
 -- The nearest root of a leaf: there is one, and one alone.
-use Rattle.std.specs.Prelude.{◌≡◌, ◌⊎◌, ℕ, zero, suc, ◌||◌, ◌==◌, true, false, is_some, IsSome, List, Option, Some, None, MatchOption, refl}
-use Rattle.std.proofs.Common.{inl, inr, sym, ap, subst, ◌∙◌}
+use Rattle.std.specs.Prelude.{◌≡◌, ℕ, zero, suc, ◌==◌, true, IsSome, Option, Some, None, MatchOption, refl}
+use Rattle.std.proofs.Common.{sym, ap, subst, ◌∙◌}
+use Rattle.std.proofs.lemmas.Bool.{or_left}
 use Rattle.std.specs.FinMap as map
 use Rattle.mds_types.specs.declared.ids.Ino.{Ino}
 use Rattle.mds_types.specs.declared.ids.Rank.{Rank}
-use Rattle.mds_types.specs.Frag.{Fragment}
-use Rattle.fragtree.specs.FragTree.{HasLeaf, IsTree}
+use Rattle.fragtree.specs.FragTree.{HasLeaf}
 use Rattle.fragtree.proofs.TreeLaws.{some_pick}
 use Rattle.namehash.specs.Rjenkins.{hash_of}
 use Rattle.sorted_map.proofs.NatKeys as nat
 use Rattle.inode_table.specs.declared.dirs.Home.{Home}
-use Rattle.inode_table.specs.Dirs.{Homes, Covers, Reaches, IsTable, is_known, leaves_of, or_whole}
-use Rattle.inode_table.proofs.Chains.{parent_reaches}
+use Rattle.inode_table.specs.Dirs.{Homes, Covers, IsLive, Reaches, IsTable, is_known, leaves_of}
+use Rattle.inode_table.proofs.Chains.{parent_reaches, known_reaches}
+use Rattle.inode_table.proofs.Tables.{known_by, tree_of_row}
 use Rattle.mds_types.specs.Leaf.{Leaf}
-use Rattle.subtree_map.specs.Authority.{Roots, IsLeaf, HoldsDentry, NearestRoot, itself, inherited, HasAuthority, IsSubtrees}
+use Rattle.subtree_map.specs.Authority.{Roots, HoldsDentry, NearestRoot, itself, inherited, HasAuthority, IsSubtrees}
 use Rattle.subtree_map.proofs.Options.{not_none, value_of, one_value}
-use Rattle.fragtree.proofs.Kept.{whole_tree as whole_is_tree}
-
--- the leaves of every directory are those of a tree
-pub tree_of_row : (homes : Homes) (covers : Covers) → IsTable homes covers → (d : ℕ) → IsTree (leaves_of covers d)
-tree_of_row homes covers table d = go (map.get covers d) refl
-  where
-    go : (row : Option (List Fragment)) → map.get covers d ≡ row → IsTree (or_whole row)
-    go None is = whole_is_tree
-    go (Some leaves) is = table.covers d leaves is
 
 -- a directory that others stand in is known
 pub parent_known : (homes : Homes) (covers : Covers) → IsTable homes covers → (x : ℕ) (home : Home) → map.get homes x ≡ Some home → is_known homes home.parent.0 ≡ true
@@ -32,28 +24,9 @@ parent_known homes covers table x home is =
     let rest = parent_reaches homes up.0 x home table.rooted.rootless is up.1 in
     reached rest.0 home.parent.0 rest.2
   where
-    known : (p : ℕ) (o : Option Home) → map.get homes p ≡ o → (h : Home) → o ≡ Some h → is_known homes p ≡ true
-    known p o is h some = ap (λ (q : Option Home). (p == 1) || is_some q) (is ∙ some) ∙ go (p == 1)
-      where
-        go : (b : _) → (b || true) ≡ true
-        go true = refl
-        go false = refl
-
     reached : (n p : ℕ) → Reaches homes n p → is_known homes p ≡ true
-    reached zero p root = ap (λ b. b || is_some (map.get homes p)) (nat.is_same p 1 root)
-    reached (suc n) p (h, is, reaches) = known p (map.get homes p) refl h is
-
--- a directory that is known reaches the root
-known_reaches : (homes : Homes) (covers : Covers) → IsTable homes covers → (x : ℕ) → is_known homes x ≡ true → (n : ℕ) × Reaches homes n x
-known_reaches homes covers table x known = go (nat.same_or_apart x 1)
-  where
-    there : (o : Option Home) → map.get homes x ≡ o → is_some o ≡ true → (n : ℕ) × Reaches homes n x
-    there None is none = cc
-    there (Some home) is some = table.rooted.rooted x home is
-
-    go : (x ≡ 1) ⊎ (x ≡ 1 → ⊥) → (n : ℕ) × Reaches homes n x
-    go (inl root) = (0, root)
-    go (inr apart) = there (map.get homes x) refl (sym (ap (λ b. b || is_some (map.get homes x)) (nat.is_apart x 1 apart)) ∙ known)
+    reached zero p root = or_left (p == 1) _ (nat.is_same p 1 root)
+    reached (suc n) p (h, is, reaches) = known_by homes p (Some h) is refl
 
 -- one leaf holds a dentry
 pub one_holder : (covers : Covers) (home : Home) (a b : Leaf) → HoldsDentry covers home a → HoldsDentry covers home b → a ≡ b
@@ -68,7 +41,7 @@ some_holder homes covers table home =
     let pick = some_pick (leaves_of covers home.parent.0) (hash_of home.name) (tree_of_row homes covers table home.parent.0) in
     ((home.parent, pick.0), record { parent = refl; pick = pick.1 })
 
-pub holder_is_leaf : (homes : Homes) (covers : Covers) → IsTable homes covers → (x : ℕ) (home : Home) (holder : Leaf) → map.get homes x ≡ Some home → HoldsDentry covers home holder → IsLeaf homes covers holder
+pub holder_is_leaf : (homes : Homes) (covers : Covers) → IsTable homes covers → (x : ℕ) (home : Home) (holder : Leaf) → map.get homes x ≡ Some home → HoldsDentry covers home holder → IsLive homes covers holder
 holder_is_leaf homes covers table x home holder is holds = record {
   known = subst (λ (d : Ino). is_known homes d.0 ≡ true) (sym holds.parent) (parent_known homes covers table x home is);
   stands = subst (λ (d : Ino). HasLeaf (leaves_of covers d.0) holder.1) (sym holds.parent) holds.pick.stands;
@@ -100,13 +73,13 @@ module _ (roots : Roots) (homes : Homes) (covers : Covers) where
   one_authority leaf a b p q = one_value _ a b (ap (map.get roots) (sym (one_root leaf p.root q.root p.nearest q.nearest)) ∙ p.ranked) q.ranked
 
   -- no way leads up from a leaf of the root directory, which is a root
-  pub top_is_root : IsSubtrees roots homes covers → (leaf : Leaf) → IsLeaf homes covers leaf → leaf.0.0 ≡ 1 → IsSome (map.get roots leaf)
+  pub top_is_root : IsSubtrees roots homes covers → (leaf : Leaf) → IsLive homes covers leaf → leaf.0.0 ≡ 1 → IsSome (map.get roots leaf)
   top_is_root valid leaf is top =
       let there : HasLeaf (leaves_of covers 1) leaf.1 = subst (λ d. HasLeaf (leaves_of covers d) leaf.1) top is.stands in
       let key : ◌≡◌ {A = Leaf} (record { 0 = 1 }, leaf.1) leaf = λ i. (record { 0 = sym top i }, leaf.1) in
       subst (λ (k : Leaf). IsSome (map.get roots k)) key (valid.top leaf.1 there)
 
-  has_root : IsTable homes covers → IsSubtrees roots homes covers → (n : ℕ) (leaf : Leaf) → IsLeaf homes covers leaf → Reaches homes n leaf.0.0 → (o : Option Rank) → map.get roots leaf ≡ o → (root : Leaf) × NearestRoot roots homes covers leaf root
+  has_root : IsTable homes covers → IsSubtrees roots homes covers → (n : ℕ) (leaf : Leaf) → IsLive homes covers leaf → Reaches homes n leaf.0.0 → (o : Option Rank) → map.get roots leaf ≡ o → (root : Leaf) × NearestRoot roots homes covers leaf root
   has_root table valid n leaf is reaches (Some r) has = (leaf, itself leaf r has)
   has_root table valid zero leaf is top None none = let there = value_of _ (top_is_root valid leaf is top) in absurd (not_none _ there.0 none there.1)
   has_root table valid (suc n) leaf is reaches None none =
@@ -116,12 +89,12 @@ module _ (roots : Roots) (homes : Homes) (covers : Covers) where
       (rest.0, inherited leaf up.0 rest.0 reaches.0 none reaches.1 up.1 rest.1)
 
   -- each leaf of a well-formed table has a nearest root
-  pub some_root : IsTable homes covers → IsSubtrees roots homes covers → (leaf : Leaf) → IsLeaf homes covers leaf → (root : Leaf) × NearestRoot roots homes covers leaf root
+  pub some_root : IsTable homes covers → IsSubtrees roots homes covers → (leaf : Leaf) → IsLive homes covers leaf → (root : Leaf) × NearestRoot roots homes covers leaf root
   some_root table valid leaf is =
-      let way = known_reaches homes covers table leaf.0.0 is.known in
+      let way = known_reaches homes table.rooted leaf.0.0 is.known in
       has_root table valid way.0 leaf is way.1 (map.get roots leaf) refl
 
-  pub some_authority : IsTable homes covers → IsSubtrees roots homes covers → (leaf : Leaf) → IsLeaf homes covers leaf → (rank : Rank) × HasAuthority roots homes covers leaf rank
+  pub some_authority : IsTable homes covers → IsSubtrees roots homes covers → (leaf : Leaf) → IsLive homes covers leaf → (rank : Rank) × HasAuthority roots homes covers leaf rank
   some_authority table valid leaf is =
       let near = some_root table valid leaf is in
       let ranked = is_ranked leaf near.0 near.1 in

@@ -1,13 +1,14 @@
 -- Which leaves a directory's move makes roots.
-use Rattle.std.specs.Prelude.{◌≡◌, ◌⊎◌, ℕ, ◌||◌, ◌==◌, Bool, true, false, Option, Some, None, IsSome, is_some, refl}
+use Rattle.std.specs.Prelude.{◌≡◌, ◌⊎◌, ℕ, true, Option, Some, None, IsSome, is_some, refl}
 use Rattle.std.proofs.Common.{inl, inr, sym, ap, subst, ◌∙◌}
 use Rattle.std.specs.FinMap as map
 use Rattle.mds_types.specs.declared.ids.Rank.{Rank}
 use Rattle.inode_table.specs.declared.dirs.Home.{Home}
-use Rattle.inode_table.specs.Dirs.{Homes, Covers, MayMove, is_known, leaves_of}
+use Rattle.inode_table.specs.Dirs.{Homes, Covers, IsLive, MayMove, is_known, leaves_of}
+use Rattle.inode_table.proofs.Tables.{known_by}
 use Rattle.fragtree.specs.FragTree.{HasLeaf}
 use Rattle.mds_types.specs.Leaf.{Leaf}
-use Rattle.subtree_map.specs.Authority.{Roots, IsLeaf, HoldsDentry, NearestRoot, itself, inherited, HasAuthority}
+use Rattle.subtree_map.specs.Authority.{Roots, HoldsDentry, NearestRoot, itself, inherited, HasAuthority}
 use Rattle.subtree_map.specs.Changes.{leaf_of}
 use Rattle.subtree_map.specs.Moves.{IsInheritedAt, IsLostRank, IsSettled}
 use Rattle.subtree_map.specs.Rows.{AreFilled}
@@ -59,13 +60,6 @@ module _ (old : Roots) (homes : Homes) (covers : Covers) (d : ℕ) (home : Home)
         );
   }
 
-  known_by : IsSome (map.get homes d) → is_known homes d ≡ true
-  known_by some = ap (λ b. (d == 1) || b) some ∙ go (d == 1)
-    where
-      go : (b : Bool) → (b || true) ≡ true
-      go true = refl
-      go false = refl
-
   -- where it would be lost the leaves that inherit it get it
   pub settled_filled : (new : Roots) (rank : Rank) → MayMove homes d home → IsLostRank old homes covers d home (Some rank) → AreFilled old new d (leaves_of covers d) rank → IsSettled old new homes covers d home
   settled_filled new rank may (was, other, stands, before, after, apart) filled = record {
@@ -87,11 +81,11 @@ module _ (old : Roots) (homes : Homes) (covers : Covers) (d : ℕ) (home : Home)
       is_own : (leaf : Leaf) (r : Rank) → leaf.0.0 ≡ d → map.get old leaf ≡ None → HasAuthority old homes covers leaf r → r ≡ rank
       is_own leaf r at none has = one_inherited old homes covers was r rank (inherits old homes covers leaf was r none (ap (map.get homes) at ∙ stands) has) before
 
-      made : (leaf : Leaf) (o : Option Rank) → map.get old leaf ≡ o → IsSome (map.get new leaf) → IsSome (map.get old leaf) ⊎ IsLeaf homes covers leaf
+      made : (leaf : Leaf) (o : Option Rank) → map.get old leaf ≡ o → IsSome (map.get new leaf) → IsSome (map.get old leaf) ⊎ IsLive homes covers leaf
       made leaf (Some r) has some = inl (ap is_some has)
       made leaf None none some =
           let row = filled.made leaf none some in
           inr (record {
-            known = subst (λ e. is_known homes e ≡ true) (sym row.0) (known_by may.there);
+            known = subst (λ e. is_known homes e ≡ true) (sym row.0) (known_by homes d (map.get homes d) refl may.there);
             stands = subst (λ e. HasLeaf (leaves_of covers e) leaf.1) (sym row.0) row.1;
           })

@@ -10,25 +10,25 @@ use Rattle.fragtree.proofs.TreeLaws.{some_pick, pick_after_split, child_after_sp
 use Rattle.namehash.specs.Rjenkins.{hash_of}
 use Rattle.sorted_map.proofs.NatKeys as nat
 use Rattle.inode_table.specs.declared.dirs.Home.{Home}
-use Rattle.inode_table.specs.Dirs.{Homes, Covers, IsTable, leaves_of, is_known}
+use Rattle.inode_table.specs.Dirs.{Homes, Covers, IsLive, IsTable, leaves_of, is_known}
+use Rattle.inode_table.proofs.Tables.{tree_of_row}
 use Rattle.mds_types.specs.Leaf.{Leaf}
-use Rattle.subtree_map.specs.Authority.{Roots, IsLeaf, HoldsDentry, HasAuthority, IsSubtrees}
+use Rattle.subtree_map.specs.Authority.{Roots, HoldsDentry, HasAuthority, IsSubtrees}
 use Rattle.subtree_map.specs.Changes.{BecomesSplit, IsRootSplit, KeepAuthority, SplitsSoundly, leaf_of}
 use Rattle.subtree_map.proofs.Options.{not_none, value_of}
 use Rattle.mds_types.proofs.LeafLaws.{same_or_apart}
-use Rattle.subtree_map.proofs.Nearest.{tree_of_row}
-use Rattle.subtree_map.proofs.Covers.{leaves_here, leaves_beside, child_is_new}
+use Rattle.subtree_map.proofs.Covers.{leaves_here, leaves_beside, child_is_new, leaves_now, leaves_still}
 use Rattle.subtree_map.proofs.Carried.{kept}
 
 -- where the leaf of another directory stands, it stands when one gets other leaves
-pub stands_beside : (homes : Homes) (covers later : Covers) (d : ℕ) (to : List Fragment) → later ≡ map.insert covers d to → (leaf : Leaf) → leaf.0.0 ≢ d → IsLeaf homes covers leaf → IsLeaf homes later leaf
+pub stands_beside : (homes : Homes) (covers later : Covers) (d : ℕ) (to : List Fragment) → later ≡ map.insert covers d to → (leaf : Leaf) → leaf.0.0 ≢ d → IsLive homes covers leaf → IsLive homes later leaf
 stands_beside homes covers later d to changed leaf apart is = record {
   known = is.known;
   stands = subst (λ ls. HasLeaf ls leaf.1) (sym (ap (λ c. leaves_of c leaf.0.0) changed ∙ leaves_beside covers d to leaf.0.0 apart)) is.stands;
 }
 
 -- and one of those leaves stands
-pub stands_here : (homes : Homes) (covers later : Covers) (d : ℕ) (to : List Fragment) → later ≡ map.insert covers d to → (leaf : Leaf) → leaf.0.0 ≡ d → is_known homes d ≡ true → HasLeaf to leaf.1 → IsLeaf homes later leaf
+pub stands_here : (homes : Homes) (covers later : Covers) (d : ℕ) (to : List Fragment) → later ≡ map.insert covers d to → (leaf : Leaf) → leaf.0.0 ≡ d → is_known homes d ≡ true → HasLeaf to leaf.1 → IsLive homes later leaf
 stands_here homes covers later d to changed leaf here known has = record {
   known = subst (λ e. is_known homes e ≡ true) (sym here) known;
   stands = subst (λ ls. HasLeaf ls leaf.1) (sym (ap (λ e. leaves_of later e) here ∙ ap (λ c. leaves_of c d) changed ∙ leaves_here covers d to)) has;
@@ -39,26 +39,20 @@ module _ (old new : Roots) (d : ℕ) (f : Fragment) (nb : ℕ) (is : IsRootSplit
   was : IsTree (leaves_of covers d)
   was = tree_of_row homes covers table d
 
-  here : leaves_of later d ≡ to
-  here = ap (λ c. leaves_of c d) changed ∙ leaves_here covers d to
-
-  beside : (e : ℕ) → e ≢ d → leaves_of later e ≡ leaves_of covers e
-  beside e apart = ap (λ c. leaves_of c e) changed ∙ leaves_beside covers d to e apart
-
   -- a leaf that stood is no child of the one that is split
-  no_child : (leaf : Leaf) → IsLeaf homes covers leaf → (g : Fragment) → IsChild f nb g → leaf ≢ leaf_of d g
+  no_child : (leaf : Leaf) → IsLive homes covers leaf → (g : Fragment) → IsChild f nb g → leaf ≢ leaf_of d g
   no_child leaf stood g child same =
       let there : HasLeaf (leaves_of covers d) g = subst (λ (k : Leaf). HasLeaf (leaves_of covers k.0.0) k.1) same stood.stands in
       child_is_new (leaves_of covers d) f g nb was has fits child there
 
-  unchanged : (leaf : Leaf) → IsLeaf homes covers leaf → leaf ≢ leaf_of d f → map.get new leaf ≡ map.get old leaf
+  unchanged : (leaf : Leaf) → IsLive homes covers leaf → leaf ≢ leaf_of d f → map.get new leaf ≡ map.get old leaf
   unchanged leaf stood apart = is.others leaf apart (no_child leaf stood)
 
   place : (leaf after : Leaf) → BecomesSplit d f nb leaf after → after.0 ≡ leaf.0
   place leaf after (inl (apart, same)) = ap (λ (k : Leaf). k.0) same
   place leaf after (inr (itself, (g, child, same))) = ap (λ (k : Leaf). k.0) same ∙ sym (ap (λ (k : Leaf). k.0) itself)
 
-  ranked : (leaf after : Leaf) (rank : Rank) → IsLeaf homes covers leaf → BecomesSplit d f nb leaf after → map.get old leaf ≡ Some rank → map.get new after ≡ Some rank
+  ranked : (leaf after : Leaf) (rank : Rank) → IsLive homes covers leaf → BecomesSplit d f nb leaf after → map.get old leaf ≡ Some rank → map.get new after ≡ Some rank
   ranked leaf after rank stood (inl (apart, same)) ranks = ap (map.get new) same ∙ unchanged leaf stood apart ∙ ranks
   ranked leaf after rank stood (inr (itself, (g, child, same))) ranks =
       let root : map.get old (leaf_of d f) ≡ Some rank = ap (map.get old) (sym itself) ∙ ranks in
@@ -68,7 +62,7 @@ module _ (old new : Roots) (d : ℕ) (f : Fragment) (nb : ℕ) (is : IsRootSplit
   child_is_none : (g : Fragment) → IsChild f nb g → IsSome (map.get old (leaf_of d g)) → ⊥
   child_is_none g child root = no_child (leaf_of d g) (valid.live (leaf_of d g) root) g child refl
 
-  gained : (leaf after : Leaf) (rank now : Rank) → IsLeaf homes covers leaf → BecomesSplit d f nb leaf after → map.get old leaf ≡ None → HasAuthority old homes covers leaf rank → map.get new after ≡ Some now → now ≡ rank
+  gained : (leaf after : Leaf) (rank now : Rank) → IsLive homes covers leaf → BecomesSplit d f nb leaf after → map.get old leaf ≡ None → HasAuthority old homes covers leaf rank → map.get new after ≡ Some now → now ≡ rank
   gained leaf after rank now stood (inl (apart, same)) none its gets = absurd (not_none _ now (ap (map.get new) same ∙ unchanged leaf stood apart ∙ none) gets)
   gained leaf after rank now stood (inr (itself, (g, child, same))) none its gets =
       let root : IsSome (map.get new (leaf_of d g)) = ap is_some (ap (map.get new) (sym same) ∙ gets) in
@@ -77,11 +71,11 @@ module _ (old new : Roots) (d : ℕ) (f : Fragment) (nb : ℕ) (is : IsRootSplit
         | inr (split_root, _) ↦ let there = value_of _ split_root in absurd (not_none _ there.0 (ap (map.get old) (sym itself) ∙ none) there.1)
       ]
 
-  holders : (home : Home) (holder : Leaf) → IsLeaf homes covers holder → HoldsDentry covers home holder → (after : Leaf) × BecomesSplit d f nb holder after × HoldsDentry later home after
+  holders : (home : Home) (holder : Leaf) → IsLive homes covers holder → HoldsDentry covers home holder → (after : Leaf) × BecomesSplit d f nb holder after × HoldsDentry later home after
   holders home holder stood holds = go (same_or_apart holder (leaf_of d f)) (nat.same_or_apart home.parent.0 d)
     where
       now_at : home.parent.0 ≡ d → leaves_of later home.parent.0 ≡ to
-      now_at at = ap (leaves_of later) at ∙ here
+      now_at at = ap (leaves_of later) at ∙ leaves_now covers later d to changed
 
       old_at : home.parent.0 ≡ d → leaves_of covers home.parent.0 ≡ leaves_of covers d
       old_at at = ap (leaves_of covers) at
@@ -116,7 +110,7 @@ module _ (old new : Roots) (d : ℕ) (f : Fragment) (nb : ℕ) (is : IsRootSplit
         inl (apart, refl),
         record {
           parent = holds.parent;
-          pick = subst (λ ls. IsPick ls (hash_of home.name) holder.1) (sym (beside home.parent.0 elsewhere)) holds.pick;
+          pick = subst (λ ls. IsPick ls (hash_of home.name) holder.1) (sym (leaves_still covers later d to changed home.parent.0 elsewhere)) holds.pick;
         },
       )
 
@@ -125,10 +119,10 @@ module _ (old new : Roots) (d : ℕ) (f : Fragment) (nb : ℕ) (is : IsRootSplit
     where
       go : (1 ≡ d) ⊎ (1 ≢ d) → IsSome (map.get new (leaf_of 1 g))
       go (inr apart) =
-          let before : HasLeaf (leaves_of covers 1) g = subst (λ ls. HasLeaf ls g) (beside 1 apart) there in
+          let before : HasLeaf (leaves_of covers 1) g = subst (λ ls. HasLeaf ls g) (leaves_still covers later d to changed 1 apart) there in
           let root = valid.top g before in
           ap is_some (unchanged (leaf_of 1 g) (valid.live (leaf_of 1 g) root) (λ same. apart (ap (λ (k : Leaf). k.0.0) same))) ∙ root
-      go (inl at) = elim ((split.leaves g).0 (subst (λ ls. HasLeaf ls g) (ap (leaves_of later) at ∙ here) there)) [
+      go (inl at) = elim ((split.leaves g).0 (subst (λ ls. HasLeaf ls g) (ap (leaves_of later) at ∙ leaves_now covers later d to changed) there)) [
         | inl (before, other) ↦
             let root = valid.top g (subst (λ e. HasLeaf (leaves_of covers e) g) (sym at) before) in
             ap is_some (unchanged (leaf_of 1 g) (valid.live (leaf_of 1 g) root) (λ same. other (ap (λ (k : Leaf). k.1) same))) ∙ root
@@ -137,13 +131,13 @@ module _ (old new : Roots) (d : ℕ) (f : Fragment) (nb : ℕ) (is : IsRootSplit
             subst (λ e. IsSome (map.get new (leaf_of e g))) (sym at) (ap is_some (is.children g child root) ∙ root)
       ]
 
-  still_live : (root : Leaf) → IsSome (map.get new root) → IsLeaf homes later root
+  still_live : (root : Leaf) → IsSome (map.get new root) → IsLive homes later root
   still_live root there = elim (is.made root there) [
     | inl before ↦ stood (valid.live root before) (nat.same_or_apart root.0.0 d) (same_or_apart root (leaf_of d f))
-    | inr (split_root, (g, child, same)) ↦ subst (IsLeaf homes later) (sym same) (stands_here homes covers later d to changed (leaf_of d g) refl (valid.live (leaf_of d f) split_root).known ((split.leaves g).1 (inr child)))
+    | inr (split_root, (g, child, same)) ↦ subst (IsLive homes later) (sym same) (stands_here homes covers later d to changed (leaf_of d g) refl (valid.live (leaf_of d f) split_root).known ((split.leaves g).1 (inr child)))
   ]
     where
-      stood : IsLeaf homes covers root → (root.0.0 ≡ d) ⊎ (root.0.0 ≢ d) → (root ≡ leaf_of d f) ⊎ (root ≢ leaf_of d f) → IsLeaf homes later root
+      stood : IsLive homes covers root → (root.0.0 ≡ d) ⊎ (root.0.0 ≢ d) → (root ≡ leaf_of d f) ⊎ (root ≢ leaf_of d f) → IsLive homes later root
       stood live _ (inl itself) = let gone = value_of _ there in absurd (not_none _ gone.0 (ap (map.get new) itself ∙ is.gone) gone.1)
       stood live (inr apart) _ = stands_beside homes covers later d to changed root apart live
       stood live (inl at) (inr apart) =

@@ -1,5 +1,5 @@
 -- Whose fragment it is: that of the nearest subtree root (Weil et al., OSDI 2006; CephFS's subtree map).
-use Rattle.std.specs.Prelude.{◌≡◌, true, Some, None, IsSome}
+use Rattle.std.specs.Prelude.{◌≡◌, Some, None, IsSome}
 use Rattle.std.specs.FinMap as map
 use Rattle.mds_types.specs.declared.ids.Rank.{Rank}
 use Rattle.mds_types.specs.Frag.{Fragment}
@@ -7,16 +7,11 @@ pub use Rattle.mds_types.specs.Leaf.{Leaf, leaf_cmp}
 use Rattle.fragtree.specs.FragTree.{HasLeaf, IsPick}
 use Rattle.namehash.specs.Rjenkins.{hash_of}
 use Rattle.inode_table.specs.declared.dirs.Home.{Home}
-use Rattle.inode_table.specs.Dirs.{Homes, Covers, is_known, leaves_of}
+use Rattle.inode_table.specs.Dirs.{Homes, Covers, IsLive, leaves_of}
 
 -- the subtree roots, each with its rank
 abbrev pub Roots : Type 0
 Roots = map.FinMap leaf_cmp Rank
-
--- a leaf of a directory of the table
-pub record IsLeaf (homes : Homes) (covers : Covers) (leaf : Leaf) : Type 0 where
-  pub known : is_known homes leaf.0.0 ≡ true
-  pub stands : HasLeaf (leaves_of covers leaf.0.0) leaf.1
 
 -- a leaf holds the dentry of a directory: it is the one of its parent's leaves that the hash of its name picks
 pub record HoldsDentry (covers : Covers) (home : Home) (leaf : Leaf) : Type 0 where
@@ -37,7 +32,7 @@ pub record HasAuthority (roots : Roots) (homes : Homes) (covers : Covers) (leaf 
 
 -- the region of a root: every leaf whose nearest root it is
 pub record IsInRegion (roots : Roots) (homes : Homes) (covers : Covers) (root leaf : Leaf) : Type 0 where
-  pub stands : IsLeaf homes covers leaf
+  pub stands : IsLive homes covers leaf
   pub nearest : NearestRoot roots homes covers leaf root
 
 -- a bound of a root's region: a root next below, so that the dentry of its directory is held in the region
@@ -52,7 +47,7 @@ pub record IsBound (roots : Roots) (homes : Homes) (covers : Covers) (root bound
 -- each leaf of the root directory is a subtree root, and only leaves of directories are
 pub record IsSubtrees (roots : Roots) (homes : Homes) (covers : Covers) : Type 0 where
   pub top : (f : Fragment) → HasLeaf (leaves_of covers 1) f → IsSome (map.get roots (record { 0 = 1 }, f))
-  pub live : (root : Leaf) → IsSome (map.get roots root) → IsLeaf homes covers root
+  pub live : (root : Leaf) → IsSome (map.get roots root) → IsLive homes covers root
 
 -- a leaf has one nearest root, which is a root, and no other
 pub record HasOneRoot (roots : Roots) (homes : Homes) (covers : Covers) (leaf : Leaf) : Type 0 where

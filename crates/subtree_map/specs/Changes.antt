@@ -4,9 +4,9 @@ use Rattle.std.specs.FinMap as map
 use Rattle.mds_types.specs.declared.ids.Rank.{Rank}
 use Rattle.mds_types.specs.Frag.{Fragment}
 use Rattle.fragtree.specs.FragTree.{CanMerge, FitsSplit, IsTree, IsChild, IsSplit, IsMerge, HasLeaf, lies_inside}
-use Rattle.inode_table.specs.Dirs.{Homes, Covers, IsTable, IsChildless, leaves_of}
+use Rattle.inode_table.specs.Dirs.{Homes, Covers, IsLive, IsTable, IsChildless, leaves_of}
 use Rattle.mds_types.specs.Leaf.{Leaf}
-use Rattle.subtree_map.specs.Authority.{Roots, IsLeaf, NearestRoot, HasAuthority, IsSubtrees}
+use Rattle.subtree_map.specs.Authority.{Roots, NearestRoot, HasAuthority, IsSubtrees}
 
 -- what contracts see of a map of subtrees: the roots, the ranks that roots are promised to, and how many more roots fit with no growth
 pub record Subtrees : Type 0 where
@@ -30,7 +30,7 @@ pub record IsHanded (old new : Roots) (root : Leaf) (rank : Rank) : Type 0 where
 
 -- what each leaf became has the authority that the leaf had
 abbrev pub KeepAuthority : Roots → Roots → Homes → Homes → Covers → Covers → (Leaf → Leaf → Type 0) → Type 0
-KeepAuthority old new homes now covers later Becomes = (leaf after : Leaf) (rank : Rank) → IsLeaf homes covers leaf → Becomes leaf after → HasAuthority old homes covers leaf rank → HasAuthority new now later after rank
+KeepAuthority old new homes now covers later Becomes = (leaf after : Leaf) (rank : Rank) → IsLive homes covers leaf → Becomes leaf after → HasAuthority old homes covers leaf rank → HasAuthority new now later after rank
 
 -- a leaf stays what it is
 abbrev pub Stays : Leaf → Leaf → Type 0
@@ -83,7 +83,7 @@ BecomesMerged d f leaf after = ((is_inside d f leaf ≡ false) × (after ≡ lea
 
 -- the leaves of d inside f have one authority
 abbrev pub HaveOneAuthority : Roots → Homes → Covers → ℕ → Fragment → Type 0
-HaveOneAuthority roots homes covers d f = (one other : Leaf) (a b : Rank) → is_inside d f one ≡ true → is_inside d f other ≡ true → IsLeaf homes covers one → IsLeaf homes covers other
+HaveOneAuthority roots homes covers d f = (one other : Leaf) (a b : Rank) → is_inside d f one ≡ true → is_inside d f other ≡ true → IsLive homes covers one → IsLive homes covers other
     → HasAuthority roots homes covers one a → HasAuthority roots homes covers other b → a ≡ b
 
 -- where the directory gets the leaves that the merge makes, and the merged leaves had one authority, all leaves keep theirs, and the merged leaf has that of those

@@ -3,9 +3,9 @@ use Rattle.std.specs.Prelude.{◌≡◌, ◌≢◌, ◌⊎◌, ℕ, ◌≤◌, O
 use Rattle.std.specs.FinMap as map
 use Rattle.mds_types.specs.declared.ids.Rank.{Rank}
 use Rattle.inode_table.specs.declared.dirs.Home.{Home}
-use Rattle.inode_table.specs.Dirs.{Homes, Covers, leaves_of}
+use Rattle.inode_table.specs.Dirs.{Homes, Covers, IsLive, leaves_of}
 use Rattle.mds_types.specs.Leaf.{Leaf}
-use Rattle.subtree_map.specs.Authority.{Roots, IsLeaf, HoldsDentry, HasAuthority, IsSubtrees}
+use Rattle.subtree_map.specs.Authority.{Roots, HoldsDentry, HasAuthority, IsSubtrees}
 use Rattle.subtree_map.specs.Changes.{KeepAuthority, Stays}
 
 -- the rank that leaves inherit whose directory stands there: the authority of the leaf that holds its dentry
@@ -28,9 +28,9 @@ HasRoomToMove roots room homes covers d home = (rank : Rank) → IsLostRank root
 pub record IsSettled (old new : Roots) (homes : Homes) (covers : Covers) (d : ℕ) (home : Home) : Type 0 where
   pub elsewhere : (leaf : Leaf) → leaf.0.0 ≢ d → map.get new leaf ≡ map.get old leaf
   pub kept : (leaf : Leaf) → IsSome (map.get old leaf) → map.get new leaf ≡ map.get old leaf
-  pub made : (leaf : Leaf) → IsSome (map.get new leaf) → IsSome (map.get old leaf) ⊎ IsLeaf homes covers leaf
-  pub same : (leaf : Leaf) (rank : Rank) → IsLeaf homes covers leaf → leaf.0.0 ≡ d → map.get old leaf ≡ None → HasAuthority old homes covers leaf rank → IsInheritedAt old homes covers home rank → map.get new leaf ≡ None
-  pub lost : (leaf : Leaf) (rank other : Rank) → IsLeaf homes covers leaf → leaf.0.0 ≡ d → map.get old leaf ≡ None → HasAuthority old homes covers leaf rank → IsInheritedAt old homes covers home other → rank ≢ other
+  pub made : (leaf : Leaf) → IsSome (map.get new leaf) → IsSome (map.get old leaf) ⊎ IsLive homes covers leaf
+  pub same : (leaf : Leaf) (rank : Rank) → IsLive homes covers leaf → leaf.0.0 ≡ d → map.get old leaf ≡ None → HasAuthority old homes covers leaf rank → IsInheritedAt old homes covers home rank → map.get new leaf ≡ None
+  pub lost : (leaf : Leaf) (rank other : Rank) → IsLive homes covers leaf → leaf.0.0 ≡ d → map.get old leaf ≡ None → HasAuthority old homes covers leaf rank → IsInheritedAt old homes covers home other → rank ≢ other
       → map.get new leaf ≡ Some rank
 
 -- where the directory stands at its new place, every leaf has the authority that it had

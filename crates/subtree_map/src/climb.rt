@@ -2,7 +2,8 @@
 ghost use Rattle.std.specs.Prelude.{◌≡◌, Some, None, MatchOption};
 ghost use Rattle.std.specs.FinMap as map;
 ghost use Rattle.mds_types.specs.Leaf.{Leaf};
-ghost use Rattle.subtree_map.specs.Authority.{HasAuthority, HoldsDentry, IsLeaf, IsSubtrees, NearestRoot};
+ghost use Rattle.inode_table.specs.Dirs.{IsLive};
+ghost use Rattle.subtree_map.specs.Authority.{HasAuthority, HoldsDentry, IsSubtrees, NearestRoot};
 ghost use Rattle.mds_types.specs.declared.ids.Rank.{Rank as RankNumber};
 ghost use Rattle.subtree_map.specs.Climb.{IsTop};
 
@@ -15,7 +16,7 @@ impl Subtrees {
     /// The authority of a leaf: the rank of its nearest root. Takes no memory, and a look-up and a hash for each directory on
     /// the way to that root.
     pub fn authority(&self, dirs: &Dirs, dir: Ino, frag: Frag) -> Rank
-        requires leaf { IsLeaf dirs.now.homes dirs.now.trees (dir, frag) }
+        requires leaf { IsLive dirs.now.homes dirs.now.trees (dir, frag) }
         requires valid { IsSubtrees self.now.roots dirs.now.homes dirs.now.trees }
         ensures { HasAuthority self.now.roots dirs.now.homes dirs.now.trees (dir, frag) result }
     {
@@ -29,7 +30,7 @@ impl Subtrees {
     /// The nearest root of a leaf: itself where it is one, otherwise that of the leaf that holds the dentry of its directory.
     /// Takes no memory, and a look-up and a hash for each directory on the way to that root.
     pub fn root_of(&self, dirs: &Dirs, dir: Ino, frag: Frag) -> (Ino, Frag)
-        requires leaf { IsLeaf dirs.now.homes dirs.now.trees (dir, frag) }
+        requires leaf { IsLive dirs.now.homes dirs.now.trees (dir, frag) }
         requires valid { IsSubtrees self.now.roots dirs.now.homes dirs.now.trees }
         ensures { NearestRoot self.now.roots dirs.now.homes dirs.now.trees (dir, frag) result }
     {

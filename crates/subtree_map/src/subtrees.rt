@@ -2,9 +2,9 @@
 ghost use Rattle.std.specs.Prelude.{◌≡◌, ◌+◌, ◌-◌, ◌<◌, ◌≤◌, if◌then◌else◌, is_some, None, OnOk, OnErr, IsTrue, IfErr};
 ghost use Rattle.std.specs.FinMap as map;
 ghost use Rattle.mds_types.specs.declared.refusals.Refusal.TheVariants.{NoMemory};
-ghost use Rattle.inode_table.specs.Dirs.{Homes, Covers};
+ghost use Rattle.inode_table.specs.Dirs.{Homes, Covers, IsLive};
 ghost use Rattle.mds_types.specs.Leaf.{leaf_cmp};
-ghost use Rattle.subtree_map.specs.Authority.{IsLeaf, IsSubtrees};
+ghost use Rattle.subtree_map.specs.Authority.{IsSubtrees};
 ghost use Rattle.subtree_map.specs.Changes.{IsCutOff};
 
 use mds_types::{Frag, Ino, Rank, Refusal};
@@ -87,7 +87,7 @@ impl Subtrees {
         requires { 0 < self.old.room }
         ensures roots { self.new.roots ≡ map.insert self.old.roots (dir, frag) rank }
         ensures authority { IsCutOff self.old.roots self.new.roots (dir, frag) }
-        ensures valid { (homes : Homes) (covers : Covers) → IsSubtrees self.old.roots homes covers → IsLeaf homes covers (dir, frag) → IsSubtrees self.new.roots homes covers }
+        ensures valid { (homes : Homes) (covers : Covers) → IsSubtrees self.old.roots homes covers → IsLive homes covers (dir, frag) → IsSubtrees self.new.roots homes covers }
         ensures promises { self.new.promises ≡ self.old.promises }
         ensures room { self.old.room ≤ self.new.room + 1 }
     {

@@ -4,15 +4,16 @@ use Rattle.std.specs.FinMap as map
 use Rattle.cached_frag.specs.Cached.{shown}
 use Rattle.cached_frag.specs.Rows.{Row, rows_left}
 use Rattle.dentry_cache.specs.Parting.{is_place}
-use Rattle.dentry_cache.proofs.PartLaws.{all_rows, first_roomy, numbered, ready, roomy_step}
+use Rattle.dentry_cache.proofs.PartLaws.{first_roomy, numbered, ready, roomy_step}
 use Rattle.dentry_cache.proofs.parts.parts_of.Goals as goal
+use Rattle.sorted_map.proofs.Filters.{all_kept}
 
 pub loop-name-init : goal.loop-name-init
 loop-name-init c =
     record {
       count = c.in_ok-items.ensures.count;
       each = λ i d within.
-          first_roomy c.args.frag c.args.nb c.args.generation (map.entries (shown c.args.fragment.now)) (rows_left c.rows_after-rows.result) i (slice_index_or c.in_ok-items.items.items i d) (c.rows_after-rows.ensures ∙ all_rows (map.entries (shown c.args.fragment.now)))
+          first_roomy c.args.frag c.args.nb c.args.generation (map.entries (shown c.args.fragment.now)) (rows_left c.rows_after-rows.result) i (slice_index_or c.in_ok-items.items.items i d) (c.rows_after-rows.ensures ∙ all_kept (map.entries (shown c.args.fragment.now)))
           (c.in_ok-items.ensures.each i d within);
     }
 

@@ -5,8 +5,8 @@ use Rattle.namespace_ops.specs.Changes.{moved}
 use Rattle.std.specs.Option.{option_copied}
 use Rattle.inode_table.specs.TreeTable.{without_cover}
 use Rattle.inode_table.proofs.TableLaws.{leaves_kept}
-use Rattle.inode_table.proofs.MoveLaws.{may_relocate, may_replace, moved_tabled}
-use Rattle.dirfrags.proofs.LeafChanges.{moving, moved_tree, replaced_is, replaced_empty}
+use Rattle.inode_table.proofs.MoveLaws.{may_relocate, may_replace, moved_tabled, replaced_empty}
+use Rattle.dirfrags.proofs.LeafChanges.{moving, moved_tree, replaced_is}
 use Rattle.dirfrags.proofs.LeafFrames.{only_two_then}
 use Rattle.dirfrags.proofs.Standing.{known_with, written}
 use Rattle.dirfrags.proofs.Shown.{have_picks}

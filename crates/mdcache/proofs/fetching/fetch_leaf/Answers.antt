@@ -1,14 +1,15 @@
 use Rattle.std.proofs.Common.{◌≡◌, sym, ap, ◌∙◌, arith}
+use Rattle.std.proofs.lemmas.Result.{on_ok_weaker}
 use Rattle.std.specs.Map.{lookup}
 use Rattle.std.specs.FinMap as map
 use Rattle.dentry_cache.specs.Cache.{leaf_is}
-use Rattle.mdcache.proofs.ReadLaws.{fetch_reads, fetch_refused, found_there, map_err, map_ok, reads_on, refused_after}
+use Rattle.mdcache.proofs.ReadLaws.{fetch_reads, fetch_refused, found_there, map_err, reads_on, refused_after}
 use Rattle.mdcache.proofs.fetching.fetch_leaf.Goals as goal
 
 pub returns-clause-there : goal.returns-clause-there
 returns-clause-there g c =
     let objects = g.S.Store.objects c.args.store.now in
-    map_ok c.fetch.result (found_there (c.args.dir, c.args.frag) objects c.release.new.cache c.fetch.new.self (lookup (leaf_is (c.args.dir, c.args.frag)) c.release.new.cache.entries) c.release.ensures.not_kept) c.fetch.ensures.found
+    on_ok_weaker c.fetch.result (found_there (c.args.dir, c.args.frag) objects c.release.new.cache c.fetch.new.self (lookup (leaf_is (c.args.dir, c.args.frag)) c.release.new.cache.entries) c.release.ensures.not_kept) c.fetch.ensures.found
 
 pub returns-clause-reads : goal.returns-clause-reads
 returns-clause-reads g c =

@@ -1,8 +1,9 @@
 use Rattle.std.proofs.Common.{sym, ◌∙◌}
 use Rattle.std.specs.Map.{lookup}
 use Rattle.dentry_cache.specs.Cache.{leaf_is}
+use Rattle.dentry_cache.proofs.StandingLaws.{kept_none}
 use Rattle.mdcache.proofs.ReadLaws.{released_reads}
-use Rattle.mdcache.proofs.ReadyLaws.{given_up, kept_none}
+use Rattle.mdcache.proofs.ReadyLaws.{given_up}
 use Rattle.mdcache.proofs.fetching.release.Goals as goal
 
 pub returns-then-is_kept-clause-reads : goal.returns-then-is_kept-clause-reads

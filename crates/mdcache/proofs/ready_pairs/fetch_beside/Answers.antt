@@ -1,8 +1,9 @@
 use Rattle.std.proofs.Common.{◌≡◌, sym, ap, subst, ◌∙◌}
+use Rattle.std.proofs.lemmas.Result.{on_ok_weaker}
 use Rattle.std.specs.Map.{lookup}
 use Rattle.std.specs.FinMap as map
 use Rattle.dentry_cache.specs.Cache.{IsThere, leaf_is}
-use Rattle.mdcache.proofs.ReadLaws.{found_there, map_err, map_ok}
+use Rattle.mdcache.proofs.ReadLaws.{found_there, map_err}
 use Rattle.mdcache.proofs.ReadyLaws.{readies_on, reads_ready}
 use Rattle.mdcache.proofs.ReadyPairs.{beside_refused, fetch_ready, stays_fetched}
 use Rattle.mdcache.proofs.ready_pairs.fetch_beside.Goals as goal
@@ -10,7 +11,7 @@ use Rattle.mdcache.proofs.ready_pairs.fetch_beside.Goals as goal
 pub returns-clause-there : goal.returns-clause-there
 returns-clause-there g c =
     let objects = g.S.Store.objects c.args.store.now in
-    map_ok c.fetch.result (found_there (c.args.dir, c.args.frag) objects c.release.new.cache c.fetch.new.self (lookup (leaf_is (c.args.dir, c.args.frag)) c.release.new.cache.entries) c.release.ensures.not_kept) c.fetch.ensures.found
+    on_ok_weaker c.fetch.result (found_there (c.args.dir, c.args.frag) objects c.release.new.cache c.fetch.new.self (lookup (leaf_is (c.args.dir, c.args.frag)) c.release.new.cache.entries) c.release.ensures.not_kept) c.fetch.ensures.found
 
 pub returns-clause-stays : goal.returns-clause-stays
 returns-clause-stays g c =

@@ -1,9 +1,9 @@
 use Rattle.std.proofs.Common.{◌-◌, ◌^◌, ◌<◌, arith}
 use Rattle.inode_table.specs.Dirs.{leaves_of}
+use Rattle.inode_table.proofs.Tables.{tree_of_row}
 use Rattle.sorted_map.specs.SortedMap.{contents}
 use Rattle.mds_types.specs.Leaf.{leaf_cmp}
 use Rattle.subtree_map.proofs.Filled.{walk_starts, walk_room, walk_goes, walk_on, walk_ends}
-use Rattle.subtree_map.proofs.Nearest.{tree_of_row}
 use Rattle.subtree_map.proofs.moves.fill.Goals as goal
 
 pub loop-hash-init : goal.loop-hash-init

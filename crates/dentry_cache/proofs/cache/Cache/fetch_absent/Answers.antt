@@ -1,5 +1,6 @@
 use Rattle.dentry_cache.specs.Loading.{object_of}
-use Rattle.dentry_cache.proofs.UsedLaws.{fetched_unsaved, on_err, on_ok, left_with, still_absent, takes}
+use Rattle.std.proofs.lemmas.Result.{on_ok_weaker, on_err_weaker}
+use Rattle.dentry_cache.proofs.UsedLaws.{fetched_unsaved, left_with, still_absent, takes}
 use Rattle.dentry_cache.proofs.LeavingLaws.{found_loaded, held_leaves}
 use Rattle.dentry_cache.proofs.StandingLaws.{held_keep, keeps_over, left_keep, loaded_tied}
 use Rattle.dentry_cache.proofs.cache.Cache.fetch_absent.Goals as goal
@@ -9,10 +10,10 @@ hold-requires-clause-absent g c = still_absent c.args.stay c.args.self.now _ (c.
 
 pub returns-clause-fetched : goal.returns-clause-fetched
 returns-clause-fetched g c =
-    on_ok c.hold.result (λ is. (c.in_ok-loaded.loaded, c.in_ok-loaded.ensures.loaded, takes c.args.stay (c.args.dir, c.args.frag) _ c.args.self.now _ _ c.in_ok-make_room.ensures.room is)) c.hold.ensures.ok
+    on_ok_weaker c.hold.result (λ is. (c.in_ok-loaded.loaded, c.in_ok-loaded.ensures.loaded, takes c.args.stay (c.args.dir, c.args.frag) _ c.args.self.now _ _ c.in_ok-make_room.ensures.room is)) c.hold.ensures.ok
 
 pub returns-clause-left : goal.returns-clause-left
-returns-clause-left g c = on_err c.hold.result (λ is. left_with c.args.stay c.args.self.now _ _ c.in_ok-make_room.ensures.room is) c.hold.ensures.err
+returns-clause-left g c = on_err_weaker c.hold.result (λ is. left_with c.args.stay c.args.self.now _ _ c.in_ok-make_room.ensures.room is) c.hold.ensures.err
 
 pub returns-clause-unsaved : goal.returns-clause-unsaved
 returns-clause-unsaved g c =

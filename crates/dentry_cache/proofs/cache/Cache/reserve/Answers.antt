@@ -1,9 +1,9 @@
 use Rattle.std.proofs.Common.{◌≡◌, ◌≤◌, ◌∙◌, refl, sym, ap}
+use Rattle.std.proofs.lemmas.Result.{on_ok_weaker}
 use Rattle.std.specs.Option.{option_copied_mut}
 use Rattle.cached_frag.specs.Cached.{Cached}
 use Rattle.dentry_cache.specs.Cache.{cached}
 use Rattle.dentry_cache.proofs.EditLaws.{changed}
-use Rattle.dentry_cache.proofs.UsedLaws.{on_ok}
 use Rattle.dentry_cache.proofs.StandingLaws.{room_keeps}
 use Rattle.dentry_cache.proofs.cache.Cache.reserve.Goals as goal
 
@@ -15,7 +15,7 @@ returns-clause-same c =
 
 pub returns-clause-room : goal.returns-clause-room
 returns-clause-room c =
-    on_ok c.reserve.result (λ room.
+    on_ok_weaker c.reserve.result (λ room.
     changed (c.args.dir, c.args.frag) c.args.self.now _ _ _ c.touch.ensures c.self.view_is
     (λ (f now : Cached). c.args.changes ≤ now.room) (cached c.args.self.now.entries (c.args.dir, c.args.frag)) c.in-Some.place.now _ refl c.requires (ap option_copied_mut (sym c.in-Some.is) ∙ c.peek_mut.ensures.value) room) c.reserve.ensures.room
 

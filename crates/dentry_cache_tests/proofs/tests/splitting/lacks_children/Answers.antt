@@ -1,20 +1,11 @@
-use Rattle.std.proofs.Common.{◌≡◌, ℕ, zero, suc, ◌+◌, ◌<◌, ◌≤◌, false, ◌⊎◌, inl, inr, Option, Some, None, refl, sym, ap, ◌∙◌, arith}
+use Rattle.std.proofs.Common.{◌≡◌, ℕ, ◌<◌, false, ◌⊎◌, inl, inr, Option, Some, None, refl, sym, ap, ◌∙◌, arith}
 use Rattle.std.specs.Prelude.{is_some}
 use Rattle.std.specs.Map.{lookup}
 use Rattle.mds_types.specs.Frag.{Fragment, child_of}
 use Rattle.dentry_cache.specs.declared.cache.Place.{Place}
 use Rattle.dentry_cache.specs.Cache.{leaf_is}
 use Rattle.dentry_cache_tests.proofs.tests.splitting.lacks_children.Goals as goal
-
-below_or_it : (i n : ℕ) → i < n + 1 → (i < n) ⊎ (i ≡ n)
-below_or_it zero zero less = inr refl
-below_or_it zero (suc n) less = inl (omega arith)
-below_or_it (suc i) zero less = absurd (omega (arith, less))
-below_or_it (suc i) (suc n) less = go (below_or_it i n (omega (arith, less)))
-  where
-    go : (i < n) ⊎ (i ≡ n) → (suc i < suc n) ⊎ (suc i ≡ suc n)
-    go (inl below) = inl (omega (arith, below))
-    go (inr it) = inr (ap (λ (m : ℕ). suc m) it)
+use Rattle.dentry_cache.proofs.SplitShows.{below_or_it}
 
 none_of : (o : Option Place) → is_some o ≡ false → o ≡ None
 none_of (Some place) is = cc

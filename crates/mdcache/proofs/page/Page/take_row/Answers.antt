@@ -1,7 +1,8 @@
-use Rattle.std.proofs.Common.{◌≡◌, ◌-◌, true, false, sym, ◌∙◌, arith}
+use Rattle.std.proofs.Common.{◌≡◌, ◌-◌, true, false, refl, sym, ◌∙◌, arith}
 use Rattle.std.proofs.lemmas.Bool.Decides.{nat_tests}
+use Rattle.std.proofs.lemmas.Bool.{or_right}
 use Rattle.cached_frag.specs.Rows.{Row}
-use Rattle.mdcache.proofs.PageLaws.{behind_more, behind_put, kept_put, kept_taken, or_false, or_true, placed_more, placed_put, set_more, set_put, takes_by}
+use Rattle.mdcache.proofs.PageLaws.{behind_more, behind_put, kept_put, kept_taken, or_false, placed_more, placed_put, set_more, set_put, takes_by}
 use Rattle.mdcache.proofs.page.Page.take_row.Goals as goal
 
 pub invariant_of-self-in-Ok : goal.invariant_of-self-in-Ok
@@ -71,7 +72,7 @@ returns-then-branch-clause-takes c =
     let bound = c.from-most.ensures ∙ c.entries.ensures.entries in
     takes_by (name, inode) rows c.put_row.new.rows.items c.self.inside.more true max c.args.self.now c.self.view_is
     (placed_put name inode rows max c.self.invariant c.deref.result.now c.in-Err.at c.deref.ensures.value c.in-Err.ensures.place c.in-Err.ensures.within c.put_row.new.rows.items row c.from-most.result copied bound c.in_ok-put_row-in-Err.ensures.rows)
-    (sym (or_true c.self.inside.more) ∙ placed_more name inode rows max c.self.invariant c.deref.result.now c.in-Err.at c.deref.ensures.value c.in-Err.ensures.place c.in-Err.ensures.within c.put_row.new.rows.items row c.from-most.result copied bound c.self.inside.more c.in_ok-put_row-in-Err.field-0 c.in_ok-put_row-in-Err.ensures.over true c.if-branch.true)
+    (sym (or_right c.self.inside.more true refl) ∙ placed_more name inode rows max c.self.invariant c.deref.result.now c.in-Err.at c.deref.ensures.value c.in-Err.ensures.place c.in-Err.ensures.within c.put_row.new.rows.items row c.from-most.result copied bound c.self.inside.more c.in_ok-put_row-in-Err.field-0 c.in_ok-put_row-in-Err.ensures.over true c.if-branch.true)
 
 pub returns-else-branch-clause-takes : goal.returns-else-branch-clause-takes
 returns-else-branch-clause-takes c =

@@ -1,20 +1,16 @@
-use Rattle.std.proofs.Common.{◌≡◌, ◌⊎◌, ◌<◌, ◌+◌, inl, ℕ, List, T, Some, Ordering, [], length, get_or, refl, set, sym, ap, ◌∙◌, arith}
+use Rattle.std.proofs.Common.{◌≡◌, ◌<◌, ◌+◌, ℕ, List, T, Some, Ordering, [], length, get_or, refl, set, sym, ap, ◌∙◌, arith}
 use Rattle.std.specs.FinMap as map
 use Rattle.std.specs.Cmp.{IsTotalOrder}
 use Rattle.std.specs.FinMap.Entries.{is_sorted}
 use Rattle.sorted_map.specs.Places.{IsAt}
 use Rattle.sorted_map.specs.Chunks.{flat, start, load, room_by, with_value}
 use Rattle.sorted_map.proofs.ChunkLaws.{one_of}
-use Rattle.sorted_map.proofs.ContentLaws.{put_in_place, value_at, got_gap}
+use Rattle.sorted_map.proofs.ContentLaws.{put_in_place, same_loan, value_at, got_gap}
 use Rattle.sorted_map.proofs.FlatLaws.{flat_get, some_set, value_flat, value_length}
 use Rattle.sorted_map.proofs.HomeLaws.{some_at}
 use Rattle.sorted_map.proofs.RoomLaws.{set_load}
 use Rattle.std.specs.FinMap.{entries-from_sorted}
 use Rattle.sorted_map.proofs.chunked.map.ChunkMap.get_mut.Goals as goal
-
--- a loan is named alike, and leaves alike at each value that is written
-same_loan : {N D E : Type 0} (name : N) (f h : E → D) → ((w : E) → f w ≡ h w) → ◌≡◌ {A = (N × (E → D)) ⊎ D} (inl (name, f)) (inl (name, h))
-same_loan name f h e i = inl (name, λ w. e w i)
 
 -- a value that is written is inserted
 written : {K V : Type 0} {R : K → K → Ordering} (o : IsTotalOrder R) (k : K) (w : V) (cs : List (List (K × V))) (i at : ℕ) → T (is_sorted R (flat cs)) → IsAt R k (flat cs) (start cs i + at) → i < length cs → at < length (get_or cs i [])

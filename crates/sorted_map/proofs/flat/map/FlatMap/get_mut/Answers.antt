@@ -1,10 +1,6 @@
-use Rattle.std.proofs.Common.{◌≡◌, ◌⊎◌, inl, refl, vec_capacity, vec_len, ◌-◌}
-use Rattle.sorted_map.proofs.ContentLaws.{written_at, got_at, got_gap}
+use Rattle.std.proofs.Common.{refl, vec_capacity, vec_len, ◌-◌}
+use Rattle.sorted_map.proofs.ContentLaws.{written_at, got_at, got_gap, same_loan}
 use Rattle.sorted_map.proofs.flat.map.FlatMap.get_mut.Goals as goal
-
--- a loan is named alike, and leaves alike at each value that is written
-same_loan : {N D E : Type 0} (name : N) (f h : E → D) → ((w : E) → f w ≡ h w) → ◌≡◌ {A = (N × (E → D)) ⊎ D} (inl (name, f)) (inl (name, h))
-same_loan name f h e i = inl (name, λ w. e w i)
 
 -- the order does not read the values
 pub invariant_of-self-lent : goal.invariant_of-self-lent
