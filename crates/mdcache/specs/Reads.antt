@@ -1,5 +1,5 @@
 -- What reads leave, and why they may be refused.
-use Rattle.std.specs.Prelude.{◌≡◌, ◌⊎◌, ℕ, ◌+◌, ◌<◌, ◌≤◌, Bool, ◌==◌, cond, List, [], ◌∷◌, Some}
+use Rattle.std.specs.Prelude.{◌≡◌, ◌⊎◌, ℕ, ◌+◌, ◌<◌, ◌≤◌, Bool, ◌==◌, List, Some}
 use Rattle.std.specs.FinMap as map
 use Rattle.mds_types.specs.declared.refusals.Refusal.{Refusal}
 use Rattle.mds_types.specs.declared.refusals.Refusal.TheVariants.{NoMemory, StoreFault, NothingToEvict}
@@ -9,13 +9,9 @@ use Rattle.fragtree.specs.FragTree.{HasLeaf}
 use Rattle.objstore.specs.Objects.{Objects}
 use Rattle.dirfrag_codec.specs.FragmentObject.{Names}
 use Rattle.cached_frag.specs.Cached.{Cached}
-use Rattle.dentry_cache.specs.Cache.{Held, Leaf, Places, cached, is_evictable, unsaved}
+use Rattle.dentry_cache.specs.Cache.{Held, Leaf, cached, unsaved}
 use Rattle.dentry_cache.specs.Loading.{Loads, object_of}
-
--- how many places can't become free: those kept for fragments that will be made, and those of fragments that aren't clean
-abbrev pub fixed_places : Places → ℕ
-fixed_places [] = 0
-fixed_places (e ∷ places) = cond (is_evictable e.1) 0 1 + fixed_places places
+pub use Rattle.dentry_cache.specs.Places.{fixed_places}
 
 -- fewer than so many places are free or can become so
 abbrev pub LacksPlaces : ℕ → Held → Type 0
