@@ -23,9 +23,11 @@ mod ready;
 mod ready_leaves;
 mod ready_move;
 mod ready_pairs;
+mod regrouping;
 mod removing;
 mod renaming;
 mod setting;
+mod split_parts;
 mod splitting;
 mod trees;
 
