@@ -1,3 +1,4 @@
+pub mod CopiedLaws
 pub mod CountedLaws
 pub mod KeptLaws
 pub mod MovedLaws

@@ -2,6 +2,7 @@
 //! shows.
 #![tactic(auto)]
 
+mod copying;
 mod counting;
 mod edits;
 mod fragments;

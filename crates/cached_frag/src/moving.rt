@@ -38,7 +38,7 @@ impl CachedFrag {
 }
 
 // The names of a base, once each of these is what it became.
-fn all_shown(
+pub(crate) fn all_shown(
     mut names: SortedMap<Name, Inode>,
     mut dirty: SortedMap<Name, Mark>,
 ) -> SortedMap<Name, Inode>

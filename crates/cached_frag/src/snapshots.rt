@@ -35,7 +35,7 @@ impl CachedFrag {
 }
 
 // A copy of the dirty names.
-fn copy_of(dirty: &SortedMap<Name, Mark>) -> Result<SortedMap<Name, Mark>, AllocError>
+pub(crate) fn copy_of(dirty: &SortedMap<Name, Mark>) -> Result<SortedMap<Name, Mark>, AllocError>
     ensures { IfOk result (λ copy. contents key_cmp copy ≡ contents key_cmp dirty.now) }
 {
     dirty.clone()

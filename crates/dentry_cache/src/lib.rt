@@ -8,6 +8,7 @@ mod dividing;
 mod editing;
 mod eviction;
 mod fetching;
+mod gathering;
 mod holding;
 pub mod laws;
 mod loading;

@@ -1,0 +1,58 @@
+//! Names that are copied from one fragment into another.
+ghost use Rattle.std.specs.Prelude.{◌≡◌, ◌≤◌, IfOk, OnOk, OnErr};
+ghost use Rattle.std.specs.FinMap as map;
+ghost use Rattle.omap.specs.Omap.{key_cmp};
+ghost use Rattle.sorted_map.specs.SortedMap.{contents};
+ghost use Rattle.commit_jobs.specs.Marks.{patched};
+ghost use Rattle.cached_frag.specs.Cached.{AreEntries, shown};
+ghost use Rattle.cached_frag.specs.Moving.{TakesIn};
+
+use crate::fragments::CachedFrag;
+use crate::moving::all_shown;
+use crate::snapshots::copy_of;
+use commit_jobs::Mark;
+use mds_types::{Inode, Name};
+use sorted_map::SortedMap;
+use std::alloc::AllocError;
+
+impl CachedFrag {
+    /// The names that it shows, copied with their inodes. Takes memory for the copies.
+    pub fn copy_names(&self) -> Result<SortedMap<Name, Inode>, AllocError>
+        ensures names { IfOk result (λ names. contents key_cmp names ≡ shown self.now) }
+        ensures entries { IfOk result (λ names. AreEntries (contents key_cmp names)) }
+    {
+        copy_shown(&self.clean, &self.dirty)
+    }
+
+    /// Takes in a copy of each name that another fragment shows, dirty at this version; what the fragment showed of one of
+    /// them is replaced. Takes memory for the copies and their room, before it changes a name.
+    pub fn join_copy(&mut self, other: &CachedFrag, version: u64) -> Result<(), AllocError>
+        ensures taken { OnOk result (TakesIn self.old self.new (shown other.now) version) }
+        ensures err { OnErr result (self.new ≡ record self.old { room = self.new.room }) }
+    {
+        let names = other.copy_names()?;
+        self.reserve(names.len())?;
+        self.join(names, version);
+        Ok(())
+    }
+}
+
+// A copy of the names of a base, once each of the dirty ones is what it became.
+fn copy_shown(
+    clean: &SortedMap<Name, Inode>,
+    dirty: &SortedMap<Name, Mark>,
+) -> Result<SortedMap<Name, Inode>, AllocError>
+    ensures { IfOk result (λ names. contents key_cmp names ≡ patched (contents key_cmp clean.now) (contents key_cmp dirty.now)) }
+{
+    let mut names = copy_clean(clean)?;
+    names.reserve(dirty.len())?;
+    let dirty = copy_of(dirty)?;
+    Ok(all_shown(names, dirty))
+}
+
+// A copy of names with their inodes.
+fn copy_clean(names: &SortedMap<Name, Inode>) -> Result<SortedMap<Name, Inode>, AllocError>
+    ensures { IfOk result (λ copy. contents key_cmp copy ≡ contents key_cmp names.now) }
+{
+    names.clone()
+}
