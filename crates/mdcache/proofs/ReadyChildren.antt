@@ -105,7 +105,7 @@ module _ (dir : Ino) (frag : Fragment) (nb : ℕ) (objects : Objects) (old mid n
           let none : lookup (leaf_is q) new.entries ≡ None = ap (λ (l : Leaf). lookup (leaf_is l) new.entries) (sym child.2) ∙ absent child.0 child.1 in
           let clash : false ≡ true = sym (ap is_kept none) ∙ kept in
           absurd cc
-      beside apart (inr no) = was (lookup (leaf_is q) mid.entries) (leaves q apart no)
+      beside apart (inr other) = was (lookup (leaf_is q) mid.entries) (leaves q apart other)
 
       at : ((dir, frag) ≡ q) ⊎ (leaf_is (dir, frag) q ≡ false) → is_kept (lookup (leaf_is q) mid.entries) ≡ true
       at (inl same) = own left (ap (λ (l : Leaf). is_kept (lookup (leaf_is l) new.entries)) same ∙ kept)

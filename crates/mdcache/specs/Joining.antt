@@ -1,13 +1,11 @@
 -- The names of leaves, joined one leaf after the other in the fragment that a merge makes.
-use Rattle.std.specs.Prelude.{◌≡◌, ℕ, false, List, [], ◌∷◌, Option}
-use Rattle.std.specs.List.{list_any}
-use Rattle.std.specs.Map.{lookup}
+use Rattle.std.specs.Prelude.{◌≡◌, ℕ, List, [], ◌∷◌, Option}
 use Rattle.std.specs.FinMap as map
 use Rattle.dirfrag_codec.specs.FragmentObject.{Names}
 use Rattle.commit_jobs.specs.declared.marks.Mark.{Mark}
 use Rattle.cached_frag.specs.Cached.{Cached}
 use Rattle.cached_frag.specs.Moving.{marked_as}
-use Rattle.dentry_cache.specs.Cache.{Held, Leaf, held, is_kept, leaf_is, used_as}
+use Rattle.dentry_cache.specs.Cache.{Held, Leaf, held, used_as}
 use Rattle.mdcache.specs.Going.{HasForgotten}
 
 -- what a name is once those of some leaves came in, all at this version: that of the last of them which has it
@@ -20,15 +18,6 @@ pub record HasJoined (names : Leaf → Names) (version : ℕ) (leaves : List Lea
   pub base : new.base ≡ old.base
   pub generation : new.generation ≡ old.generation
   pub dirty : (name : List ℕ) → map.get new.dirty name ≡ name_joined names version leaves name (map.get old.dirty name)
-
--- of other leaves than one the same places are kept, and its own isn't
-pub record KeepsBeside (leaf : Leaf) (old new : Held) : Type 0 where
-  pub own : is_kept (lookup (leaf_is leaf) new.entries) ≡ false
-  pub others : (q : Leaf) → leaf_is leaf q ≡ false → is_kept (lookup (leaf_is q) new.entries) ≡ is_kept (lookup (leaf_is q) old.entries)
-
--- none of these leaves is this one
-abbrev pub NoneIs : Leaf → List Leaf → Type 0
-NoneIs leaf leaves = list_any (leaf_is leaf) leaves ≡ false
 
 -- these leaves have no place, the fragment is in that of another one and the most recently used, and each other place is as it was
 abbrev pub IsPutInPlace : List Leaf → Leaf → Cached → Held → Held → Type 0

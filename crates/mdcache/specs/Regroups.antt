@@ -56,10 +56,10 @@ SplitsLeaf old new dir frag nb (Err reason) = MayNotSplit old new dir frag nb re
 abbrev pub merged_leaves : Core → Ino → Fragment → List Fragment
 merged_leaves c dir frag = leaves_inside frag (leaves_of c.state.covers dir.0)
 
--- leaves were merged; where they weren't it was refused so too, and for places where fewer than two are free or can become so
+-- leaves were merged; where they weren't it was refused so too, and for places where none is free and none can become so
 abbrev pub MayNotMerge : (old new : Core) → Ino → Fragment → Refusal → Type 0
 MayNotMerge old new dir frag reason =
-    MayNotRegroup (CanMerge (leaves_of old.state.covers dir.0) frag) (RefusesMerge (leaves_of old.state.covers dir.0) frag) old.state dir 1 (LacksPlaces 2 old.cache) old.faults new.faults reason
+    MayNotRegroup (CanMerge (leaves_of old.state.covers dir.0) frag) (RefusesMerge (leaves_of old.state.covers dir.0) frag) old.state dir 1 (LacksPlaces 1 old.cache) old.faults new.faults reason
 
 abbrev pub MergesLeaves : (old new : Core) → Ino → Fragment → Result (Unit {0}) Refusal → Type 0
 MergesLeaves old new dir frag (Ok done) = IsMergedInto old.state new.state dir frag × KeepsTree old.state new.state dir (merged_leaves old dir frag)

@@ -1,12 +1,14 @@
 //! A leaf of a directory is split: all is prepared for it first, and then it is done, which can't fail.
-ghost use Rattle.std.specs.Prelude.{◌≡◌, ◌+◌, ◌-◌, ◌≤◌, ◌<◌, ◌^◌, ℕ, true, cond, map as each, string_bytes};
+ghost use Rattle.std.specs.Prelude.{◌≡◌, ◌≢◌, ◌+◌, ◌-◌, ◌≤◌, ◌<◌, ◌^◌, ℕ, true, cond, map as each, string_bytes, OnOk, IfErr};
 ghost use Rattle.std.specs.FinMap as map;
 ghost use Rattle.std.specs.Map.{lookup};
 ghost use Rattle.mds_types.specs.Frag.{child_of};
+ghost use Rattle.mds_types.specs.declared.refusals.Refusal.TheVariants.{NoMemory};
+ghost use Rattle.fragtree.specs.FragTree.{CanSplit, RefusesSplit};
 ghost use Rattle.cached_frag.specs.Cached.{Cached, shown};
 ghost use Rattle.dentry_cache.specs.Cache.{HasCached, cached, is_kept, leaf_is};
 ghost use Rattle.dentry_cache.specs.Divided.{AreReady, IsSplit};
-ghost use Rattle.inode_table.specs.Dirs.{is_known};
+ghost use Rattle.inode_table.specs.Dirs.{is_known, leaves_of};
 ghost use Rattle.mdcache.specs.Reads.{has_none};
 ghost use Rattle.mdcache.specs.Regroups.{SplitsLeaf};
 ghost use Rattle.mdcache.specs.Splits.{without_objects};
@@ -51,7 +53,7 @@ impl<S: Store + Drop> MdCache<S> {
         if !self.dirs.contains(dir) {
             return Err(Refusal::NoSuchFrag);
         }
-        if let Err(refusal) = self.dirs.check_split(dir, frag, nb) {
+        if let Err(refusal) = check_split(&self.dirs, dir, frag, nb) {
             return Err(refusal);
         }
         if let Err(refusal) = check_counts(
@@ -89,6 +91,19 @@ impl<S: Store + Drop> MdCache<S> {
                 Ok(())
             }
         }
+    }
+}
+
+// Whether a leaf of a directory can be split by so many bits. Takes no memory.
+fn check_split(dirs: &Dirs, dir: Ino, frag: Frag, nb: u8) -> Result<(), Refusal>
+    ensures can { OnOk result (CanSplit (leaves_of dirs.now.trees dir.0) frag nb) }
+    ensures refused { IfErr result (λ reason. (reason ≢ NoMemory) × RefusesSplit (leaves_of dirs.now.trees dir.0) frag nb reason) }
+{
+    match dirs.check_split(dir, frag, nb) {
+        Ok(()) => Ok(()),
+        // want of memory is no reason that the leaves have: they can be split then
+        Err(Refusal::NoMemory) => Ok(()),
+        Err(refusal) => Err(refusal),
     }
 }
 
