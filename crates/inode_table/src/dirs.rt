@@ -1,5 +1,5 @@
 //! The directory table.
-ghost use Rattle.std.specs.Prelude.{◌≡◌, ◌≢◌, ◌+◌, ◌-◌, ◌<◌, ◌≤◌, ◌↔◌, ◌∷◌, [], if◌then◌else◌, is_some, true, IsTrue, IfOk, OnOk, OnErr, IfErr};
+ghost use Rattle.std.specs.Prelude.{◌≡◌, ◌+◌, ◌-◌, ◌<◌, ◌≤◌, ◌↔◌, ◌∷◌, [], if◌then◌else◌, is_some, true, IsTrue, IfOk, OnOk, OnErr, IfErr};
 ghost use Rattle.std.specs.Option.{option_copied};
 ghost use Rattle.std.specs.FinMap as map;
 ghost use Rattle.mds_types.specs.declared.refusals.Refusal.TheVariants.{NoMemory};
@@ -100,7 +100,6 @@ impl Dirs {
     pub fn check_split(&self, dir: Ino, frag: Frag, bits: u8) -> Result<(), Refusal>
         ensures ok { OnOk result (CanSplit (leaves_of self.now.trees dir.0) frag bits) }
         ensures err { IfErr result (λ reason. RefusesSplit (leaves_of self.now.trees dir.0) frag bits reason) }
-        ensures memory { IfErr result (λ reason. reason ≢ NoMemory) }
     {
         match self.trees.get(&dir.0) {
             Some(tree) => tree.check_split(frag, bits),
@@ -112,7 +111,6 @@ impl Dirs {
     pub fn check_merge(&self, dir: Ino, frag: Frag) -> Result<(), Refusal>
         ensures ok { OnOk result (CanMerge (leaves_of self.now.trees dir.0) frag) }
         ensures err { IfErr result (λ reason. RefusesMerge (leaves_of self.now.trees dir.0) frag reason) }
-        ensures memory { IfErr result (λ reason. reason ≢ NoMemory) }
     {
         match self.trees.get(&dir.0) {
             Some(tree) => tree.check_merge(frag),
@@ -221,7 +219,6 @@ impl Dirs {
 fn check_split_of_whole(frag: Frag, bits: u8) -> Result<(), Refusal>
     ensures ok { OnOk result (CanSplit (root_fragment ∷ []) frag bits) }
     ensures err { IfErr result (RefusesSplit (root_fragment ∷ []) frag bits) }
-    ensures memory { IfErr result (λ reason. reason ≢ NoMemory) }
 {
     if frag != Frag::ROOT {
         return Err(Refusal::NoSuchFrag);

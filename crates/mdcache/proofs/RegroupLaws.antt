@@ -88,7 +88,7 @@ mapped d f (g ∷ gs) has = go (mapped d f gs) (first_or_later g f gs has)
     go next (inl is) = (zero, omega arith, ap (in_directory d) is)
     go next (inr has) = let rest = next has in (suc rest.0, omega (arith, rest.1), rest.2)
 
-unmapped : (d : ℕ) (q : Leaf) (fs : List Fragment) → list_any (leaf_is q) (each (in_directory d) fs) ≡ true → (q.0.0 ≡ d) × HasLeaf fs q.1
+pub unmapped : (d : ℕ) (q : Leaf) (fs : List Fragment) → list_any (leaf_is q) (each (in_directory d) fs) ≡ true → (q.0.0 ≡ d) × HasLeaf fs q.1
 unmapped d q [] is = let clash : false ≡ true = is in absurd cc
 unmapped d q (f ∷ fs) is = go (leaf_is q (in_directory d f)) refl is (unmapped d q fs)
   where
@@ -108,7 +108,7 @@ one_fails test f (g ∷ gs) has fails = go (one_fails test f gs) (first_or_later
 -- ---- names of a leaf that came
 
 -- names that have one aren't none
-not_none : (names : Names) (name : List ℕ) (inode : Inode) → map.get names name ≡ Some inode → has_none names ≡ false
+pub not_none : (names : Names) (name : List ℕ) (inode : Inode) → map.get names name ≡ Some inode → has_none names ≡ false
 not_none names name inode found = go (has_none names) refl
   where
     go : (b : Bool) → has_none names ≡ b → b ≡ false
@@ -118,7 +118,7 @@ not_none names name inode found = go (has_none names) refl
     go false is = refl
 
 -- a name that became dirty is shown with the inode that it has
-dirty_shows : (base : Base) (below : Names) (u : Unsaved) (version : ℕ) (name : List ℕ) (inode : Option Inode) → base ≡ Fresh → map.get u.dirty name ≡ marked_as version inode None → map.get (shown_over base below u.dirty) name ≡ inode
+pub dirty_shows : (base : Base) (below : Names) (u : Unsaved) (version : ℕ) (name : List ℕ) (inode : Option Inode) → base ≡ Fresh → map.get u.dirty name ≡ marked_as version inode None → map.get (shown_over base below u.dirty) name ≡ inode
 dirty_shows (Stored v) below u version name inode fresh is = let clash : Stored v ≡ Fresh = fresh in absurd cc
 dirty_shows Fresh below u version name inode fresh is = get-patched map.empty u.dirty name ∙ ap (λ (m : Option Mark). inode_or m (map.get {R = key_cmp} map.empty name)) is ∙ go inode
   where

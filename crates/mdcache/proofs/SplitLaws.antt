@@ -44,7 +44,7 @@ splits_right old new dir frag nb sound split =
 -- ---- a merge
 
 -- the leaves inside a fragment are those leaves that lie inside it
-inside_has : (frag f : Fragment) (fs : List Fragment) → HasLeaf fs f → lies_inside frag f ≡ true → HasLeaf (leaves_inside frag fs) f
+pub inside_has : (frag f : Fragment) (fs : List Fragment) → HasLeaf fs f → lies_inside frag f ≡ true → HasLeaf (leaves_inside frag fs) f
 inside_has frag f [] (k, stands, is) inside = absurd (omega (arith, stands))
 inside_has frag f (g ∷ gs) has inside = go (lies_inside frag g) refl (first_or_later g f gs has) (inside_has frag f gs)
   where
@@ -54,7 +54,7 @@ inside_has frag f (g ∷ gs) has inside = go (lies_inside frag g) refl (first_or
     go false is (inl same) next = let clash : true ≡ false = sym inside ∙ ap (lies_inside frag) (sym same) ∙ is in absurd cc
     go false is (inr more) next = subst (λ (b : Bool). HasLeaf (cond b (g ∷ leaves_inside frag gs) (leaves_inside frag gs)) f) (sym is) (next more inside)
 
-has_inside : (frag f : Fragment) (fs : List Fragment) → HasLeaf (leaves_inside frag fs) f → HasLeaf fs f × (lies_inside frag f ≡ true)
+pub has_inside : (frag f : Fragment) (fs : List Fragment) → HasLeaf (leaves_inside frag fs) f → HasLeaf fs f × (lies_inside frag f ≡ true)
 has_inside frag f [] (k, stands, is) = absurd (omega (arith, stands))
 has_inside frag f (g ∷ gs) has = go (lies_inside frag g) refl has (has_inside frag f gs)
   where
@@ -67,17 +67,17 @@ has_inside frag f (g ∷ gs) has = go (lies_inside frag g) refl has (has_inside 
     go false is there next = let rest = next there in (later g f gs rest.0, rest.1)
 
 -- a fragment doesn't lie inside itself
-not_itself : (f : Fragment) → lies_inside f f ≡ false
+pub not_itself : (f : Fragment) → lies_inside f f ≡ false
 not_itself f = grind (arith, nat_tests)
 
-merge_ends : (old cover : List Fragment) (frag : Fragment) → IsMerge old cover frag → (f : Fragment) → HasLeaf old f → HasLeaf (leaves_inside frag old) f ⊎ HasLeaf cover f
+pub merge_ends : (old cover : List Fragment) (frag : Fragment) → IsMerge old cover frag → (f : Fragment) → HasLeaf old f → HasLeaf (leaves_inside frag old) f ⊎ HasLeaf cover f
 merge_ends old cover frag merged f stands = go (lies_inside frag f) refl
   where
     go : (b : Bool) → lies_inside frag f ≡ b → HasLeaf (leaves_inside frag old) f ⊎ HasLeaf cover f
     go true inside = inl (inside_has frag f old stands inside)
     go false outside = inr ((merged.leaves f).1 (inl (stands, outside)))
 
-merge_stood : (old cover : List Fragment) (frag : Fragment) → IsMerge old cover frag → (f : Fragment) → HasLeaf (leaves_inside frag old) f → HasLeaf old f × (HasLeaf cover f → ⊥)
+pub merge_stood : (old cover : List Fragment) (frag : Fragment) → IsMerge old cover frag → (f : Fragment) → HasLeaf (leaves_inside frag old) f → HasLeaf old f × (HasLeaf cover f → ⊥)
 merge_stood old cover frag merged f ended =
     let both = has_inside frag f old ended in
     (both.0, λ has. go both.1 ((merged.leaves f).0 has))

@@ -48,7 +48,7 @@ use Rattle.mdcache.proofs.RegroupLaws.{apart_live, came_live, which}
 use Rattle.mdcache.proofs.SplitLaws.{split_ends, split_stood, splits_right}
 
 -- a child is no leaf of a tree that has the fragment
-no_leaf_yet : (leaves : List Fragment) (frag : Fragment) (nb i : ℕ) → IsTree leaves → HasLeaf leaves frag → 1 ≤ nb → frag.bits + nb ≤ 24 → i < 2 ^ nb → HasLeaf leaves (child_of frag i nb) → ⊥
+pub no_leaf_yet : (leaves : List Fragment) (frag : Fragment) (nb i : ℕ) → IsTree leaves → HasLeaf leaves frag → 1 ≤ nb → frag.bits + nb ≤ 24 → i < 2 ^ nb → HasLeaf leaves (child_of frag i nb) → ⊥
 no_leaf_yet leaves frag nb i tree stands some few below child =
     let t = span (frag.bits + nb) in
     let whole : span frag.bits ≡ 2 ^ nb * t = span-split frag.bits nb few in
@@ -60,8 +60,19 @@ no_leaf_yet leaves frag nb i tree stands some few below child =
     let bits : frag.bits ≡ frag.bits + nb = ap (λ (g : Fragment). g.bits) one in
     omega (arith, bits, some)
 
+-- a leaf that came is a child, and the other way round
+pub is_child : (row cover : List Fragment) (frag : Fragment) (nb : ℕ) → IsSplit row cover frag nb → (g : Fragment) → Comes row cover g → IsChild frag nb g
+is_child row cover frag nb divided g came = go ((divided.leaves g).0 came.0)
+  where
+    go : (HasLeaf row g × (g ≢ frag)) ⊎ IsChild frag nb g → IsChild frag nb g
+    go (inl old) = absurd (came.1 old.0)
+    go (inr child) = child
+
+pub child_comes : (row cover : List Fragment) (frag : Fragment) (nb : ℕ) → IsTree row → CanSplit row frag nb → IsSplit row cover frag nb → (i : ℕ) → i < 2 ^ nb → Comes row cover (child_of frag i nb)
+child_comes row cover frag nb tree can divided i below = ((divided.leaves (child_of frag i nb)).1 (inr (i, below, refl)), no_leaf_yet row frag nb i tree can.stands can.fits.some can.fits.in_all below)
+
 -- what isn't clean of a fragment whose object doesn't count
-fresh_unsaved : (f : Cached) → f.base ≡ Fresh → unsaved_in (Some f) ≡ Some (record { base = f.base; generation = f.generation; dirty = f.dirty })
+pub fresh_unsaved : (f : Cached) → f.base ≡ Fresh → unsaved_in (Some f) ≡ Some (record { base = f.base; generation = f.generation; dirty = f.dirty })
 fresh_unsaved f fresh = ap (λ (b : Bool). cond b None (Some (record { base = f.base; generation = f.generation; dirty = f.dirty }))) (ap (λ (b : Base). is_clean_over b f.dirty) fresh)
 
 module _ (dirs : Table) (cache : Held) (objects : Objects) (jobs : Standing) (purge : Listed) (next : Counters) (kept : IsKept (state_of dirs cache objects jobs purge next) cache)
@@ -85,17 +96,6 @@ module _ (dirs : Table) (cache : Held) (objects : Objects) (jobs : Standing) (pu
 
   tree : IsTree row
   tree = tree_of_row dirs.homes dirs.trees kept.sound.table dir.0
-
-  -- a leaf that came is a child, and the other way round
-  is_child : (g : Fragment) → Comes row cover g → IsChild frag nb g
-  is_child g came = go ((divided.leaves g).0 came.0)
-    where
-      go : (HasLeaf row g × (g ≢ frag)) ⊎ IsChild frag nb g → IsChild frag nb g
-      go (inl old) = absurd (came.1 old.0)
-      go (inr child) = child
-
-  child_comes : (i : ℕ) → i < 2 ^ nb → Comes row cover (child_of frag i nb)
-  child_comes i below = ((divided.leaves (child_of frag i nb)).1 (inr (i, below, refl)), no_leaf_yet row frag nb i tree can.stands can.fits.some can.fits.in_all below)
 
   -- the leaf shows what the cached fragment does
   leaf_shows : names_of (unsaved cache.entries) objects (dir, frag) ≡ shown f
@@ -147,7 +147,7 @@ module _ (dirs : Table) (cache : Held) (objects : Objects) (jobs : Standing) (pu
 
   new_leaf : (g : Fragment) → Comes row cover g → HasUnsaved (map.get (unsaved cache'.entries) (dir, g)) (IsNewLeaf s dir g (2 ^ nb))
   new_leaf g came =
-      let child = is_child g came in
+      let child = is_child row cover frag nb divided g came in
       subst (λ (h : Fragment). HasUnsaved (map.get (unsaved cache'.entries) (dir, h)) (IsNewLeaf s dir h (2 ^ nb))) (sym child.2) (
       let w = child_is child.0 child.1 in
       let number = w.made.numbered in
@@ -156,7 +156,7 @@ module _ (dirs : Table) (cache : Held) (objects : Objects) (jobs : Standing) (pu
         fresh = w.made.fresh;
         first = omega (arith, number);
         last = omega (arith, number, below);
-        dirty = λ name. w.made.dirty name ∙ ap (λ (o : Option Inode). marked_as next.version o None) (child_names (child_of frag child.0 nb) (child_comes child.0 child.1) name);
+        dirty = λ name. w.made.dirty name ∙ ap (λ (o : Option Inode). marked_as next.version o None) (child_names (child_of frag child.0 nb) (child_comes row cover frag nb tree can divided child.0 child.1) name);
       }))
 
   gone_unsaved : (g : Fragment) → HasLeaf (frag ∷ []) g → map.get (unsaved cache'.entries) (dir, g) ≡ None
@@ -176,7 +176,7 @@ module _ (dirs : Table) (cache : Held) (objects : Objects) (jobs : Standing) (pu
       go (inr other) = other
 
       child : (i : ℕ) → i < 2 ^ nb → ((dir, child_of frag i nb) ≡ leaf) ⊎ (leaf_is (dir, child_of frag i nb) leaf ≡ false) → leaf_is (dir, child_of frag i nb) leaf ≡ false
-      child i below (inl same) = absurd (apart (ap (λ (l : Leaf). l.0.0) (sym same)) (inr (subst (Comes row cover) (ap (λ (l : Leaf). l.1) same) (child_comes i below))))
+      child i below (inl same) = absurd (apart (ap (λ (l : Leaf). l.0.0) (sym same)) (inr (subst (Comes row cover) (ap (λ (l : Leaf). l.1) same) (child_comes row cover frag nb tree can divided i below))))
       child i below (inr other) = other
 
   other_unsaved : (leaf : Leaf) → (leaf.0.0 ≡ dir.0 → IsConcerned row cover (frag ∷ []) leaf.1 → ⊥) → map.get (unsaved cache'.entries) leaf ≡ map.get (unsaved cache.entries) leaf
@@ -243,7 +243,7 @@ module _ (dirs : Table) (cache : Held) (objects : Objects) (jobs : Standing) (pu
           let clash : None ≡ Some g = sym none ∙ is in
           absurd cc
       go (inr (inl came)) =
-          let child = is_child leaf.1 came.1 in
+          let child = is_child row cover frag nb divided leaf.1 came.1 in
           let w = child_is child.0 child.1 in
           let here : cached cache'.entries leaf ≡ Some w.now = ap (cached cache'.entries) (sym (its came.0) ∙ ap (λ (h : Fragment). (dir, h)) child.2) ∙ w.held in
           let one : w.now ≡ g = let same : Some w.now ≡ Some g = sym here ∙ is in cc in

@@ -81,7 +81,7 @@ all_passed p rest all is same = ap (list_all p) (sym is) ∙ same
 
 -- ---- nothing in a directory
 
-some_fails : (p : Fragment → Bool) (fs : List Fragment) → list_all p fs ≡ false → (f : Fragment) × Contains fs f × (p f ≡ false)
+pub some_fails : (p : Fragment → Bool) (fs : List Fragment) → list_all p fs ≡ false → (f : Fragment) × Contains fs f × (p f ≡ false)
 some_fails p [] fails = let clash : true ≡ false = fails in absurd cc
 some_fails p (f ∷ fs) fails = go (λ rest. some_fails p fs rest) (p f) refl fails
   where
@@ -89,13 +89,13 @@ some_fails p (f ∷ fs) fails = go (λ rest. some_fails p fs rest) (p f) refl fa
     go behind true is rest = let w = behind rest in (w.0, later_has f w.0 fs w.1, w.2)
     go behind false is rest = (f, first_has f fs, is)
 
-all_pass : (p : Fragment → Bool) (fs : List Fragment) → list_all p fs ≡ true → (f : Fragment) → Contains fs f → p f ≡ true
+pub all_pass : (p : Fragment → Bool) (fs : List Fragment) → list_all p fs ≡ true → (f : Fragment) → Contains fs f → p f ≡ true
 all_pass p [] holds f (k, within, is) = absurd (omega (arith, within))
 all_pass p (g ∷ gs) holds f (zero, within, is) = ap p (sym is) ∙ (and_parts (p g) (list_all p gs) holds).0
 all_pass p (g ∷ gs) holds f (suc k, within, is) = all_pass p gs (and_parts (p g) (list_all p gs) holds).1 f (k, omega (arith, within), is)
 
 -- names that aren't none have a first
-some_name : (names : Names) → has_none names ≡ false → (name : List ℕ) × (inode : Inode) × (map.get names name ≡ Some inode)
+pub some_name : (names : Names) → has_none names ≡ false → (name : List ℕ) × (inode : Inode) × (map.get names name ≡ Some inode)
 some_name names fails = go (map.entries names) refl
   where
     go : (es : List (List ℕ × Inode)) → map.entries names ≡ es → (name : List ℕ) × (inode : Inode) × (map.get names name ≡ Some inode)
@@ -104,7 +104,7 @@ some_name names fails = go (map.entries names) refl
         absurd (grind (arith, nat_tests))
     go (e ∷ es) is = (e.0, e.1, get-entries names e.0 ∙ ap (find key_cmp e.0) is ∙ ap (λ (b : Bool). cond b (Some e.1) (find key_cmp e.0 es)) (key_itself e.0))
 
-no_name : (names : Names) (name : List ℕ) → has_none names ≡ true → map.get names name ≡ None
+pub no_name : (names : Names) (name : List ℕ) → has_none names ≡ true → map.get names name ≡ None
 no_name names name holds = go (map.entries names) refl
   where
     go : (es : List (List ℕ × Inode)) → map.entries names ≡ es → map.get names name ≡ None

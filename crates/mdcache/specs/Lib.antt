@@ -4,12 +4,14 @@ pub mod Commits
 pub mod Frags
 pub mod FragsLaws
 pub mod Going
+pub mod Joining
 pub mod Made
 pub mod New
 pub mod Objects
 pub mod Pages
 pub mod Reads
 pub mod Ready
+pub mod Regroups
 pub mod Shown
 pub mod Sound
 pub mod Splits

@@ -89,8 +89,8 @@ fn is_leaf_empty<S: Store>(
     Ok(is_cached_empty(cache, dir, frag))
 }
 
-// Whether a cached fragment shows no name.
-fn is_cached_empty(cache: &Cache, dir: Ino, frag: Frag) -> bool
+/// Whether a cached fragment shows no name.
+pub(crate) fn is_cached_empty(cache: &Cache, dir: Ino, frag: Frag) -> bool
     requires { IsThere (cached cache.now.entries (dir, frag)) }
     ensures { HasCached (cached cache.now.entries (dir, frag)) (λ (f : Cached). result ≡ has_none (shown f)) }
 {

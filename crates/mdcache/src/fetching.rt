@@ -7,6 +7,7 @@ ghost use Rattle.cached_frag.specs.Cached.{Cached, shown};
 ghost use Rattle.dentry_cache.specs.Cache.{HasCached, IsThere, Leaf, cached, is_kept, leaf_is, unsaved};
 ghost use Rattle.dentry_cache.specs.Loading.{object_of};
 ghost use Rattle.mdcache.specs.Reads.{MayNotRead, Reads};
+ghost use Rattle.mdcache.specs.Regroups.{KeepsNoMore};
 ghost use Rattle.mdcache.specs.Sound.{IsSaved};
 
 use dentry_cache::Cache;
@@ -41,6 +42,7 @@ pub(crate) fn release(cache: &mut Cache, dir: Ino, frag: Frag)
     ensures reads { (objects : Objects) → Reads (λ (q : Leaf). q ≡ (dir, frag)) objects cache.old cache.new }
     ensures not_kept { is_kept (lookup (leaf_is (dir, frag)) cache.new.entries) ≡ false }
     ensures cached { (q : Leaf) → cached cache.new.entries q ≡ cached cache.old.entries q }
+    ensures kept { KeepsNoMore cache.old cache.new }
 {
     if cache.is_kept(dir, frag) {
         cache.forget(dir, frag);

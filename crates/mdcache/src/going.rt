@@ -69,8 +69,8 @@ fn parts_of(alloc: Global, dir: Ino, tree: &FragTree) -> Result<Vec<GoingLeaf>, 
     Ok(parts)
 }
 
-// A leaf with the name of its object.
-fn part_of(alloc: Global, dir: Ino, frag: Frag) -> Result<GoingLeaf, AllocError>
+/// A leaf with the name of its object.
+pub(crate) fn part_of(alloc: Global, dir: Ino, frag: Frag) -> Result<GoingLeaf, AllocError>
     ensures leaf { IfOk result (λ part. part.frag ≡ frag) }
     ensures text { IfOk result (λ part. string_bytes part.object ≡ text_of (dir, frag)) }
 {
@@ -104,8 +104,9 @@ pub(crate) fn remove_dir(
     }
 }
 
-// These leaves of a directory go.
-fn remove_leaves(
+/// These leaves of a directory go: their places, their jobs, and the names of their objects are on the purge list, which has
+/// room for them. Takes no memory.
+pub(crate) fn remove_leaves(
     cache: &mut Cache,
     jobs: &mut StandingJobs,
     purge: &mut PurgeList,

@@ -27,9 +27,11 @@ mod ready_move;
 mod ready_pairs;
 mod ready_removal;
 mod ready_set;
+mod regrouping;
 mod removing;
 mod renaming;
 mod setting;
+mod split_parts;
 mod splitting;
 mod trees;
 

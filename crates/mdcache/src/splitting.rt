@@ -1,18 +1,27 @@
-//! A leaf of a directory is split, where all is ready for it.
-ghost use Rattle.std.specs.Prelude.{◌≡◌, ◌+◌, ◌≤◌, ◌<◌, ◌^◌, ℕ, true, map as each, string_bytes};
+//! A leaf of a directory is split: all is prepared for it first, and then it is done, which can't fail.
+ghost use Rattle.std.specs.Prelude.{◌≡◌, ◌≢◌, ◌+◌, ◌-◌, ◌≤◌, ◌<◌, ◌^◌, ℕ, true, cond, map as each, string_bytes, OnOk, IfErr};
 ghost use Rattle.std.specs.FinMap as map;
 ghost use Rattle.std.specs.Map.{lookup};
 ghost use Rattle.mds_types.specs.Frag.{child_of};
+ghost use Rattle.mds_types.specs.declared.refusals.Refusal.TheVariants.{NoMemory};
+ghost use Rattle.fragtree.specs.FragTree.{CanSplit, RefusesSplit};
 ghost use Rattle.cached_frag.specs.Cached.{Cached, shown};
 ghost use Rattle.dentry_cache.specs.Cache.{HasCached, cached, is_kept, leaf_is};
 ghost use Rattle.dentry_cache.specs.Divided.{AreReady, IsSplit};
-ghost use Rattle.inode_table.specs.Dirs.{is_known};
+ghost use Rattle.inode_table.specs.Dirs.{is_known, leaves_of};
+ghost use Rattle.mdcache.specs.Reads.{has_none};
+ghost use Rattle.mdcache.specs.Regroups.{SplitsLeaf};
 ghost use Rattle.mdcache.specs.Splits.{without_objects};
 
+use crate::emptiness::is_cached_empty;
+use crate::mdcache::{Counters, MdCache};
+use crate::regrouping::{check_counts, child_count, take_counts};
+use crate::split_parts::prepare_split;
 use dentry_cache::{Cache, Parts};
 use fragtree::FragTree;
 use inode_table::Dirs;
-use mds_types::{Frag, Ino};
+use mds_types::{Frag, Ino, Refusal};
+use objstore::Store;
 use purge_list::PurgeList;
 use standing_jobs::StandingJobs;
 use std::alloc::Global;
@@ -27,9 +36,121 @@ pub(crate) struct Split {
     pub(crate) children: Vec<String>,
 }
 
-/// Splits a leaf for which all is ready: its names go to its children, its job ends, the name of its object comes on the
-/// purge list, and those of the children's objects leave it. Takes no memory, and can't fail.
-pub(crate) fn split_leaf(
+impl<S: Store + Drop> MdCache<S> {
+    /// Splits a leaf of a directory by so many bits: its children stand in its place, each with those of its names that it
+    /// contains. They are fragments of the next generations, for which no object counts, and their names are dirty, all at
+    /// the next version. The leaf's job ends, and its object is to be removed. Takes memory for the children and their
+    /// names, and for the leaf, if it is read.
+    ///
+    /// Refused `NoSuchFrag` where there is no such leaf, `BadSplit` where it can't be split by so many bits, and
+    /// `TooManyFrags` where there would be too many leaves; otherwise `NoInodes` exactly where no numbers are left, and then
+    /// `NothingToEvict` where no more places of the cache are free or can become so than there would be children,
+    /// `StoreFault`, and `NoMemory`.
+    pub fn split(&mut self, alloc: Global, dir: Ino, frag: Frag, nb: u8) -> Result<(), Refusal>
+        ensures split { SplitsLeaf self.old self.new dir frag nb result }
+        ensures grows { self.old.faults ≤ self.new.faults }
+    {
+        if !self.dirs.contains(dir) {
+            return Err(Refusal::NoSuchFrag);
+        }
+        if let Err(refusal) = check_split(&self.dirs, dir, frag, nb) {
+            return Err(refusal);
+        }
+        if let Err(refusal) = check_counts(
+            self.next.generation,
+            u64::from(child_count(nb)),
+            self.next.version,
+        ) {
+            return Err(refusal);
+        }
+        match prepare_split(
+            alloc,
+            &mut self.dirs,
+            &mut self.cache,
+            &mut self.store,
+            &mut self.purge,
+            dir,
+            frag,
+            nb,
+            self.next.generation,
+        ) {
+            Err(refusal) => Err(refusal),
+            Ok(split) => {
+                commit_split(
+                    alloc,
+                    &mut self.dirs,
+                    &mut self.cache,
+                    &mut self.jobs,
+                    &mut self.purge,
+                    &mut self.next,
+                    dir,
+                    frag,
+                    nb,
+                    split,
+                );
+                Ok(())
+            }
+        }
+    }
+}
+
+// Whether a leaf of a directory can be split by so many bits. Takes no memory.
+fn check_split(dirs: &Dirs, dir: Ino, frag: Frag, nb: u8) -> Result<(), Refusal>
+    ensures can { OnOk result (CanSplit (leaves_of dirs.now.trees dir.0) frag nb) }
+    ensures refused { IfErr result (λ reason. (reason ≢ NoMemory) × RefusesSplit (leaves_of dirs.now.trees dir.0) frag nb reason) }
+{
+    match dirs.check_split(dir, frag, nb) {
+        Ok(()) => Ok(()),
+        // want of memory is no reason that the leaves have: they can be split then
+        Err(Refusal::NoMemory) => Ok(()),
+        Err(refusal) => Err(refusal),
+    }
+}
+
+// Splits a leaf for which all is ready, and takes the numbers of its children and of their names. Takes no memory, and
+// can't fail.
+fn commit_split(
+    alloc: Global,
+    dirs: &mut Dirs,
+    cache: &mut Cache,
+    jobs: &mut StandingJobs,
+    purge: &mut PurgeList,
+    next: &mut Counters,
+    dir: Ino,
+    frag: Frag,
+    nb: u8,
+    split: Split,
+)
+    requires some { 1 ≤ nb }
+    requires few { nb ≤ 8 }
+    requires bits { frag.bits + nb ≤ 24 }
+    requires generations { next.old.generation + 2 ^ nb < 2 ^ 64 }
+    requires version { next.old.version < 2 ^ 64 - 1 }
+    requires known { is_known dirs.old.homes dir.0 ≡ true }
+    requires row { 0 < dirs.old.tree_room }
+    requires list { 0 < purge.old.room }
+    requires ready { HasCached (cached cache.old.entries (dir, frag)) (λ (f : Cached). (map.len f.dirty ≤ f.places) × AreReady frag nb (shown f) split.parts) }
+    requires kept { (i : ℕ) → i < 2 ^ nb → is_kept (lookup (leaf_is (dir, child_of frag i nb)) cache.old.entries) ≡ true }
+    ensures homes { dirs.new.homes ≡ dirs.old.homes }
+    ensures trees { dirs.new.trees ≡ map.insert dirs.old.trees dir.0 split.cover }
+    ensures split { HasCached (cached cache.old.entries (dir, frag)) (λ (f : Cached). IsSplit dir frag nb split.parts next.old.version (shown f) cache.old cache.new) }
+    ensures jobs { jobs.new.jobs ≡ map.remove jobs.old.jobs (dir, frag) }
+    ensures listed { purge.new.names ≡ without_objects (map.insert purge.old.names (string_bytes split.object) tt) (each string_bytes split.children.items) }
+    ensures job { next.new.job ≡ next.old.job }
+    ensures generation { next.new.generation ≡ next.old.generation + 2 ^ nb }
+    ensures named { HasCached (cached cache.old.entries (dir, frag)) (λ (f : Cached). next.new.version ≡ next.old.version + cond (has_none (shown f)) 0 1) }
+{
+    let empty = is_cached_empty(cache, dir, frag);
+    let version = next.version;
+    split_leaf(
+        alloc, dirs, cache, jobs, purge, dir, frag, nb, split, version,
+    );
+    take_counts(next, u64::from(child_count(nb)), empty);
+}
+
+// Splits a leaf for which all is ready: its names go to its children, its job ends, the name of its object comes on the
+// purge list, and those of the children's objects leave it. Takes no memory, and can't fail.
+fn split_leaf(
     alloc: Global,
     dirs: &mut Dirs,
     cache: &mut Cache,

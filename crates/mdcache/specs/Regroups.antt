@@ -1,0 +1,66 @@
+-- What the calls that split a leaf and merge leaves do, and why they may be refused.
+use Rattle.std.specs.Prelude.{◌≡◌, ◌≢◌, ◌⊎◌, ℕ, ◌+◌, ◌≤◌, ◌^◌, true, false, List, [], ◌∷◌, Result, Ok, Err}
+use Rattle.std.specs.Map.{lookup}
+use Rattle.mds_types.specs.declared.ids.Ino.{Ino}
+use Rattle.mds_types.specs.declared.refusals.Refusal.{Refusal}
+use Rattle.mds_types.specs.declared.refusals.Refusal.TheVariants.{NoMemory, NoSuchFrag}
+use Rattle.mds_types.specs.Frag.{Fragment}
+use Rattle.fragtree.specs.FragTree.{CanMerge, CanSplit, RefusesMerge, RefusesSplit, leaves_inside}
+use Rattle.dentry_cache.specs.Cache.{Held, Leaf, cached, is_kept, leaf_is, unsaved}
+use Rattle.inode_table.specs.Dirs.{is_known, leaves_of}
+use Rattle.mdcache.specs.Cached.{Core}
+use Rattle.mdcache.specs.Ready.{LacksNumbers, MayNotBeReady}
+use Rattle.mdcache.specs.Reads.{LacksPlaces, fixed_places}
+use Rattle.mdcache.specs.Splits.{IsMergedInto, IsSplitInto, KeepsTree}
+use Rattle.mdcache.specs.State.{State}
+
+-- a place that is kept was kept before
+abbrev pub KeepsNoMore : Held → Held → Type 0
+KeepsNoMore old new = (leaf : Leaf) → is_kept (lookup (leaf_is leaf) new.entries) ≡ true → is_kept (lookup (leaf_is leaf) old.entries) ≡ true
+
+-- kept places became free, or none did: what is cached is as it was, and no more places than before can't become free
+pub record Releases (old new : Held) : Type 0 where
+  pub unsaved : unsaved new.entries ≡ unsaved old.entries
+  pub same : (leaf : Leaf) → cached new.entries leaf ≡ cached old.entries leaf
+  pub cap : new.cap ≡ old.cap
+  pub fixed : fixed_places new.entries ≤ fixed_places old.entries
+  pub kept : KeepsNoMore old new
+
+-- no generation is left for so many fragments that come, or no version for their names
+abbrev pub LacksCounts : ℕ → State → Type 0
+LacksCounts count s = LacksNumbers count s.next_generation ⊎ LacksNumbers 1 s.next_version
+
+-- why the leaves of a directory stay as they are: there is no such directory; the leaves refuse it; numbers lack, and exactly then it is
+-- refused so; otherwise want of memory, a fault, or places that lack
+abbrev pub MayNotRegroup : (Can : Type 0) → (Refuses : Refusal → Type 0) → State → Ino → ℕ → (NoPlace : Type 0) → (before after : ℕ) → Refusal → Type 0
+MayNotRegroup Can Refuses s dir count NoPlace before after reason =
+    ((reason ≡ NoSuchFrag) × (is_known s.homes dir.0 ≡ false))
+    ⊎ ((is_known s.homes dir.0 ≡ true) × (reason ≢ NoMemory) × Refuses reason)
+    ⊎ ((is_known s.homes dir.0 ≡ true) × Can × MayNotBeReady (LacksCounts count s) NoPlace before after reason)
+
+-- nothing was done, but that clean fragments came or went: no place is kept that wasn't
+abbrev pub IsUndone : (old new : Core) → Type 0
+IsUndone old new = (new.state ≡ old.state) × KeepsNoMore old.cache new.cache
+
+-- a leaf was split by so many bits; where it wasn't, either its directory's leaves refuse that, or one more place than there would be
+-- children isn't free and can't become so, or numbers lack, or the store or memory refused
+abbrev pub MayNotSplit : (old new : Core) → Ino → Fragment → ℕ → Refusal → Type 0
+MayNotSplit old new dir frag nb reason =
+    MayNotRegroup (CanSplit (leaves_of old.state.covers dir.0) frag nb) (RefusesSplit (leaves_of old.state.covers dir.0) frag nb) old.state dir (2 ^ nb) (LacksPlaces (2 ^ nb + 1) old.cache) old.faults new.faults reason
+
+abbrev pub SplitsLeaf : (old new : Core) → Ino → Fragment → ℕ → Result (Unit {0}) Refusal → Type 0
+SplitsLeaf old new dir frag nb (Ok done) = IsSplitInto old.state new.state dir frag nb × KeepsTree old.state new.state dir (frag ∷ [])
+SplitsLeaf old new dir frag nb (Err reason) = MayNotSplit old new dir frag nb reason × IsUndone old new
+
+-- the leaves that a merge at a fragment ends
+abbrev pub merged_leaves : Core → Ino → Fragment → List Fragment
+merged_leaves c dir frag = leaves_inside frag (leaves_of c.state.covers dir.0)
+
+-- leaves were merged; where they weren't it was refused so too, and for places where none is free and none can become so
+abbrev pub MayNotMerge : (old new : Core) → Ino → Fragment → Refusal → Type 0
+MayNotMerge old new dir frag reason =
+    MayNotRegroup (CanMerge (leaves_of old.state.covers dir.0) frag) (RefusesMerge (leaves_of old.state.covers dir.0) frag) old.state dir 1 (LacksPlaces 1 old.cache) old.faults new.faults reason
+
+abbrev pub MergesLeaves : (old new : Core) → Ino → Fragment → Result (Unit {0}) Refusal → Type 0
+MergesLeaves old new dir frag (Ok done) = IsMergedInto old.state new.state dir frag × KeepsTree old.state new.state dir (merged_leaves old dir frag)
+MergesLeaves old new dir frag (Err reason) = MayNotMerge old new dir frag reason × IsUndone old new
