@@ -8,7 +8,7 @@ use Rattle.script_words.specs.Numbers.{number_of, octal_mode_of}
 use Rattle.script_output.specs.Texts.{hexadecimal, octal}
 use Rattle.std.specs.Fmt.{decimal}
 
--- what is printed of a name or a target stands for its bytes
+-- what is printed of a name, a target or a key stands for its bytes
 abbrev pub NamesReadBack : Type 0
 NamesReadBack = (bytes : List ℕ) → All (λ byte. byte < 256) bytes → bytes_of (escaped bytes) ≡ Some bytes
 

@@ -1,5 +1,6 @@
 pub mod Escapes
 pub mod Texts
+pub mod ObjectLines
 pub mod Lines
 pub mod Writing
 pub mod Laws

@@ -73,6 +73,22 @@ leaf_text leaf = codes " " ++ fragment_text leaf
 abbrev pub frags_text : List Fragment → List ℕ
 frags_text leaves = codes "frags " ++ (decimal (length leaves) ++ flat_map leaf_text leaves)
 
+-- `tree K F ..`: how many leaves a fragment tree has, and then each of them
+abbrev pub tree_text : List Fragment → List ℕ
+tree_text leaves = codes "tree " ++ (decimal (length leaves) ++ flat_map leaf_text leaves)
+
+-- a space and a key or the name of an object, as it prints
+abbrev pub word_text : List ℕ → List ℕ
+word_text word = codes " " ++ escaped word
+
+-- `frag VERSION FILES DIRS KEY ..`: a fragment's commit version, its entry counts, and the key of each entry
+abbrev pub frag_text : ℕ → ℕ → ℕ → List (List ℕ) → List ℕ
+frag_text version files dirs keys = codes "frag " ++ (decimal version ++ (codes " " ++ (decimal files ++ (codes " " ++ (decimal dirs ++ flat_map word_text keys)))))
+
+-- `objects K NAME ..`: how many objects there are, and then the name of each
+abbrev pub objects_text : List (List ℕ) → List ℕ
+objects_text names = codes "objects " ++ (decimal (length names) ++ flat_map word_text names)
+
 -- a space and the name of the object that is damaged; of another refusal nothing
 abbrev pub damaged_text : Refusal → List ℕ
 damaged_text (Damaged object) = codes " " ++ object_text object

@@ -1,10 +1,10 @@
-//! Names and targets as they are printed.
+//! Names, targets and keys as they are printed.
 ghost use Rattle.std.specs.Prelude.{◌≡◌, Some};
 ghost use Rattle.script_output.specs.Escapes.{escaped, escaped_byte, prints_plain};
 
 use std::fmt;
 
-/// One byte of a name or a target as it is printed.
+/// One byte of a name, a target or a key as it is printed.
 #[derive(Clone, Copy)]
 pub struct EscapedByte(pub u8);
 
@@ -30,7 +30,7 @@ fn prints_plain(byte: u8) -> bool
     0x21 <= byte && byte <= 0x7e && byte != b'%'
 }
 
-/// A name or a target as it is printed.
+/// A name, a target or a key as it is printed.
 #[derive(Clone, Copy)]
 pub struct Escaped<'a>(pub &'a [u8]);
 

@@ -4,7 +4,7 @@ ghost use Rattle.std.specs.Cmp.Lexicographic.{lists_equiv, pointwise};
 ghost use Rattle.std.specs.List.{flat_map};
 ghost use Rattle.std.specs.Prelude.{◌≡◌, Some};
 ghost use Rattle.std.proofs.Common.{rules};
-ghost use Rattle.script_output.specs.Texts.{frags_text, leaf_text};
+ghost use Rattle.script_output.specs.Texts.{frags_text, leaf_text, tree_text};
 
 use mds_types::Frag;
 use std::fmt;
@@ -78,5 +78,19 @@ impl fmt::Display for FragList {
         let count = self.as_slice().len();
         let leaves = LeafTexts(self);
         write!(f, "frags {count}{leaves}")
+    }
+}
+
+/// `tree K F ..`: how many fragments, and then each of them, as the leaves of a fragment tree's object.
+#[derive(Clone, Copy)]
+pub struct TreeText<'a>(pub &'a FragList);
+
+impl fmt::Display for TreeText<'_> {
+    ghost output = { λ text. Some (tree_text text.0.now) };
+
+    fn fmt<W: fmt::Write>(&self, f: &mut fmt::Formatter<W>) -> fmt::Result {
+        let count = self.0.as_slice().len();
+        let leaves = LeafTexts(self.0);
+        write!(f, "tree {count}{leaves}")
     }
 }

@@ -1,7 +1,7 @@
 //! Laws of the script's text: what it prints can be read back.
 ghost use Rattle.script_output.specs.Laws.{FragmentsReadBack, NamesReadBack, NumbersReadBack};
 
-/// A name or a target is read back from what is printed of it.
+/// A name, a target or a key is read back from what is printed of it.
 pub fn names_read_back()
     ensures { NamesReadBack }
 {}

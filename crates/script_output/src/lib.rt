@@ -1,5 +1,5 @@
-//! What a script for a metadata cluster prints: the line for each result, the text of replies, names and leaves, and the
-//! writing of such lines. The definitions of the text stand in `specs/`, with the laws that what it prints of a name, a
+//! What a script for a metadata cluster prints: the line for each result, the text of replies, names, leaves and objects, and
+//! the writing of such lines. The definitions of the text stand in `specs/`, with the laws that what it prints of a name, a
 //! number or a fragment is read back.
 #![tactic(auto)]
 
@@ -7,10 +7,14 @@ mod escapes;
 mod frag_lists;
 mod laws;
 mod lines;
+mod object_lines;
 mod replies;
+mod word_lists;
 mod writing;
 
 pub use frag_lists::FragList;
 pub use laws::{fragments_read_back, names_read_back, numbers_read_back};
 pub use lines::OutputLine;
+pub use object_lines::ObjectLine;
+pub use word_lists::WordList;
 pub use writing::{OutputFault, WriteFault, write_all_of, write_line};

@@ -4,7 +4,9 @@ ghost use Rattle.script_output.specs.Texts.{damaged_text, first_text};
 ghost use Rattle.script_output.specs.Lines.{output_line};
 
 use crate::frag_lists::FragList;
+use crate::object_lines::ObjectLine;
 use crate::replies::ReplyText;
+use crate::word_lists::{ObjectsText, WordList};
 use mds_types::{Refusal, Reply};
 use std::alloc::{AllocError, Global};
 use std::fmt;
@@ -28,6 +30,12 @@ pub enum OutputLine {
     Nothing,
     /// `frags K F ..`: the leaves of a directory.
     Frags(FragList),
+    /// `job J`: a commit was begun, with a job of this number.
+    Job(u64),
+    /// `frag ..`, `tree ..`, `absent` or `damaged`: what an object is.
+    Object(ObjectLine),
+    /// `objects K NAME ..`: the names of objects.
+    Objects(WordList),
     /// `history LENGTH`: how many entries the history has.
     History(u64),
     /// `refused N`: a step was refused; `refused 17 OBJECT`, where an object is damaged.
@@ -72,6 +80,12 @@ impl fmt::Display for OutputLine {
             OutputLine::Queued => write!(f, "queued"),
             OutputLine::Nothing => write!(f, "nothing"),
             OutputLine::Frags(leaves) => write!(f, "{leaves}"),
+            OutputLine::Job(number) => write!(f, "job {number}"),
+            OutputLine::Object(object) => write!(f, "{object}"),
+            OutputLine::Objects(names) => {
+                let names = ObjectsText(names);
+                write!(f, "{names}")
+            }
             OutputLine::History(length) => write!(f, "history {length}"),
             OutputLine::Refused(refusal) => {
                 let number = refusal.number();

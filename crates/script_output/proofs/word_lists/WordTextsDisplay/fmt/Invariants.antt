@@ -1,0 +1,10 @@
+use Rattle.std.proofs.Common.{take}
+use Rattle.std.specs.Fmt.{HasWritten, IsPlainFormatter}
+use Rattle.std.specs.List.{flat_map}
+use Rattle.script_output.specs.Texts.{word_text}
+use Rattle.script_output.proofs.word_lists.WordTextsDisplay.fmt.Given as goal
+
+-- the words passed are written
+abbrev pub invariant-loop-word : goal.invariant-loop-word
+invariant-loop-word g l =
+    IsPlainFormatter l.initial.f → HasWritten g.W.Write.write_str_gives l.initial.f (flat_map word_text (take l.word-index l.word-items)) l.f
