@@ -155,90 +155,71 @@ const SPLITS: [(Did, Came); 18] = [
     (Did::Serve(0), Came::Replied(0, 5, 4, true, Said::Names(2))),
 ];
 
-// The dentry of a name of one byte in the root.
-fn dentry_of(alloc: Global, name: u8) -> Option<Dentry> {
-    let name = Name::from_bytes(alloc, &[name]).ok()?;
-    Some(Dentry { dir: Ino(1), name })
-}
-
-fn dir_made(alloc: Global, name: u8) -> Option<Op> {
-    let mode = Mode::new(0o755)?;
-    let dentry = dentry_of(alloc, name)?;
-    Some(Op::Mkdir {
-        dentry,
-        mode,
-        mtime: 0,
-    })
-}
-
-fn file_made(alloc: Global, name: u8) -> Option<Op> {
-    let mode = Mode::new(0o644)?;
-    let dentry = dentry_of(alloc, name)?;
-    Some(Op::Create {
-        dentry,
-        mode,
-        mtime: 0,
-    })
-}
-
-fn moved(alloc: Global, name: u8, to: u8) -> Option<Op> {
-    let from = dentry_of(alloc, name)?;
-    let to = dentry_of(alloc, to)?;
-    Some(Op::Rename { from, to })
+fn name_of(asked: Asked) -> u8 {
+    match asked {
+        Asked::MakeX => b'x',
+        Asked::MakeE => b'e',
+        _ => b'd',
+    }
 }
 
 fn op_of(alloc: Global, asked: Asked) -> Option<Op> {
+    let dir = Ino(1);
+    let name = Name::from_bytes(alloc, &[name_of(asked)]).ok()?;
+    let dentry = Dentry { dir, name };
     match asked {
-        Asked::MakeD => dir_made(alloc, b'd'),
-        Asked::MakeE => dir_made(alloc, b'e'),
-        Asked::MakeX => file_made(alloc, b'x'),
-        Asked::FindD => Some(Op::Lookup(dentry_of(alloc, b'd')?)),
-        Asked::MoveDToE => moved(alloc, b'd', b'e'),
+        Asked::MakeD | Asked::MakeE => Some(Op::Mkdir {
+            dentry,
+            mode: Mode::new(0o755)?,
+            mtime: 0,
+        }),
+        Asked::MakeX => Some(Op::Create {
+            dentry,
+            mode: Mode::new(0o644)?,
+            mtime: 0,
+        }),
+        Asked::FindD => Some(Op::Lookup(dentry)),
+        Asked::MoveDToE => Some(Op::Rename {
+            from: dentry,
+            to: Dentry {
+                dir,
+                name: Name::from_bytes(alloc, b"e").ok()?,
+            },
+        }),
         Asked::List => Some(Op::Readdir {
-            dir: Ino(1),
+            dir,
             after: None,
             max: PageSize::MAX,
         }),
     }
 }
 
-fn request_of(alloc: Global, client: u64, tid: u64, oldest: u64, asked: Asked) -> Option<Event> {
-    let op = op_of(alloc, asked)?;
-    let request = Request {
-        client,
-        tid,
-        oldest,
-        op,
-    };
-    let rank = Rank(0);
-    Some(Event::Arrive { rank, request })
-}
-
-fn split_of(rank: Rank, frag: Frag, bits: u8) -> Event {
-    Event::Split {
-        rank,
-        ino: Ino(1),
-        frag,
-        bits,
-    }
-}
-
-fn merge_of(rank: Rank, frag: Frag) -> Event {
-    Event::Merge {
-        rank,
-        ino: Ino(1),
-        frag,
-    }
-}
-
 fn event_of(alloc: Global, did: Did) -> Option<Event> {
     match did {
-        Did::Ask(client, tid, oldest, asked) => request_of(alloc, client, tid, oldest, asked),
-        Did::Serve(rank) => Some(Event::Serve { rank: Rank(rank) }),
-        Did::Split(rank, value, bits, more) => {
-            Some(split_of(Rank(rank), Frag::new(value, bits)?, more))
+        Did::Ask(client, tid, oldest, asked) => {
+            let request = Request {
+                client,
+                tid,
+                oldest,
+                op: op_of(alloc, asked)?,
+            };
+            Some(Event::Arrive {
+                rank: Rank(0),
+                request,
+            })
         }
-        Did::Merge(rank, value, bits) => Some(merge_of(Rank(rank), Frag::new(value, bits)?)),
+        Did::Serve(rank) => Some(Event::Serve { rank: Rank(rank) }),
+        Did::Split(rank, value, bits, more) => Some(Event::Split {
+            rank: Rank(rank),
+            ino: Ino(1),
+            frag: Frag::new(value, bits)?,
+            bits: more,
+        }),
+        Did::Merge(rank, value, bits) => Some(Event::Merge {
+            rank: Rank(rank),
+            ino: Ino(1),
+            frag: Frag::new(value, bits)?,
+        }),
     }
 }
 
