@@ -4,6 +4,7 @@ pub mod ChangeLaws
 pub mod ChildNames
 pub mod EmptyLaws
 pub mod EndLaws
+pub mod FragsLaws
 pub mod FragsSteps
 pub mod FreedLaws
 pub mod GatherLaws

@@ -2,7 +2,6 @@ pub mod Cached
 pub mod Changes
 pub mod Commits
 pub mod Frags
-pub mod FragsLaws
 pub mod Going
 pub mod Joining
 pub mod Made
