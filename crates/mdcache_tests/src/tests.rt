@@ -1,9 +1,7 @@
 //! The tree over a cache and a store by hand-known answers.
 
-mod asked;
 mod faults;
 mod fixtures;
 mod going;
 mod listing;
-mod operations;
 mod roots;
