@@ -16,6 +16,8 @@ mod laws;
 mod leaves;
 mod listing;
 mod mdcache;
+mod merge_parts;
+mod merging;
 mod page;
 mod purging;
 mod reading;
