@@ -13,6 +13,8 @@ pub mod GoneSteps
 pub mod HomeLaws
 pub mod NamedLaws
 pub mod NewLaws
+pub mod JoinLaws
+pub mod MergeMade
 pub mod MergeNames
 pub mod MergeSteps
 pub mod MoveSteps

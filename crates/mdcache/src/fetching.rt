@@ -29,6 +29,7 @@ pub(crate) fn fetch_leaf<S: Store>(
     requires saved { map.get (unsaved cache.old.entries) (dir, frag) ≡ None → IsSaved frag (object_of (S.objects store.old) dir frag) }
     ensures there { OnOk result (IsThere (cached cache.new.entries (dir, frag))) }
     ensures reads { Reads (λ (q : Leaf). q ≡ (dir, frag)) (S.objects store.old) cache.old cache.new }
+    ensures kept { KeepsNoMore cache.old cache.new }
     ensures refused { IfErr result (MayNotRead (S.faults store.old) (S.faults store.new) cache.old) }
     ensures same { S.objects store.new ≡ S.objects store.old }
     ensures grows { S.faults store.old ≤ S.faults store.new }

@@ -17,6 +17,8 @@ mod laws;
 mod leaves;
 mod listing;
 mod mdcache;
+mod merge_parts;
+mod merging;
 mod page;
 mod prepared;
 mod purging;

@@ -3,6 +3,8 @@ use Rattle.std.proofs.lemmas.Result.{on_ok_weaker}
 use Rattle.std.specs.Map.{lookup}
 use Rattle.std.specs.FinMap as map
 use Rattle.dentry_cache.specs.Cache.{leaf_is}
+use Rattle.dentry_cache.specs.Loading.{object_of}
+use Rattle.mdcache.proofs.JoinLaws.{fetch_keeps}
 use Rattle.mdcache.proofs.ReadLaws.{fetch_reads, fetch_refused, found_there, map_err, reads_on, refused_after}
 use Rattle.mdcache.proofs.fetching.fetch_leaf.Goals as goal
 
@@ -25,3 +27,7 @@ returns-clause-refused g c =
     (fetch_refused (c.args.dir, c.args.frag) objects c.release.new.cache c.fetch.new.self (g.S.Store.faults c.args.store.now) (g.S.Store.faults c.fetch.new.store) reason
     (λ clean. c.requires.saved (ap (λ m. map.get m (c.args.dir, c.args.frag)) (sym (c.release.ensures.reads objects).unsaved) ∙ clean)) left because))
     c.fetch.ensures.left c.fetch.ensures.refused
+
+pub returns-clause-kept : goal.returns-clause-kept
+returns-clause-kept g c = λ q kept.
+    c.release.ensures.kept q (fetch_keeps c.fetch.result (c.args.dir, c.args.frag) (object_of (g.S.Store.objects c.args.store.now) c.args.dir c.args.frag) c.release.new.cache c.fetch.new.self c.release.ensures.not_kept c.fetch.ensures.leaves c.fetch.ensures.found c.fetch.ensures.left q kept)

@@ -1,7 +1,7 @@
 use Rattle.std.proofs.Common.{◌≡◌, ap}
 use Rattle.mds_types.specs.Frag.{child_of}
 use Rattle.dentry_cache.specs.Cache.{is_kept}
-use Rattle.mdcache.proofs.ReadLaws.{map_ok}
+use Rattle.std.proofs.lemmas.Result.{on_ok_weaker}
 use Rattle.mdcache.proofs.ReadyChildren.{children_dropped, children_ready, children_refused, no_place}
 use Rattle.mdcache.proofs.split_parts.ready_children.Goals as goal
 
@@ -13,7 +13,7 @@ ready_split-requires-clause-absent g c = λ i below.
     no_place c.args.cache.now c.release_places.new.cache (c.args.dir, child_of c.args.frag i c.args.nb) c.release_places.ensures.left.same (c.requires.vacant i below) (c.release_places.ensures.children i below)
 
 pub returns-clause-kept : goal.returns-clause-kept
-returns-clause-kept g c = map_ok c.ready_split.result (λ kept i below. ap is_kept (kept i below)) c.ready_split.ensures.kept
+returns-clause-kept g c = on_ok_weaker c.ready_split.result (λ kept i below. ap is_kept (kept i below)) c.ready_split.ensures.kept
 
 pub returns-clause-left : goal.returns-clause-left
 returns-clause-left g c =
