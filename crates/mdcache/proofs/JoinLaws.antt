@@ -30,7 +30,7 @@ use Rattle.mdcache.specs.Reads.{LacksPlaces, MayNotRead, Reads}
 use Rattle.mdcache.specs.Regroups.{KeepsNoMore, Releases}
 use Rattle.mdcache.specs.State.{text_of}
 use Rattle.mdcache.proofs.ReadLaws.{found_there, full_lacks}
-use Rattle.mdcache.proofs.ReadyLaws.{kept_none}
+use Rattle.dentry_cache.proofs.StandingLaws.{kept_none}
 use Rattle.mdcache.proofs.SplitLaws.{has_inside, not_itself}
 
 -- ---- names

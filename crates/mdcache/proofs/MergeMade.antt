@@ -31,7 +31,7 @@ use Rattle.mdcache.proofs.MergeSteps.{is_merged, merge_kept}
 use Rattle.mdcache.proofs.ReadyLaws.{not_cached}
 use Rattle.mdcache.proofs.SplitLaws.{has_inside, merges_right}
 use Rattle.mdcache.proofs.SplitMade.{prepared_kept, prepared_state}
-use Rattle.mdcache.proofs.TextLaws.{tree_of_row}
+use Rattle.inode_table.proofs.Tables.{tree_of_row}
 
 -- one of the leaves of a directory that some fragments are
 pub from_mapped : (dir : Ino) (fs : List Fragment) (q : Leaf) → Contains (each (in_directory dir.0) fs) q → (f : Fragment) × HasLeaf fs f × (q ≡ (dir, f))

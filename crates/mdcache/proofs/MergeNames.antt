@@ -29,7 +29,7 @@ use Rattle.mdcache.specs.State.{IsLive, State}
 use Rattle.mdcache.proofs.NamedLaws.{pick_at, sound_leaves, stands_at}
 use Rattle.mdcache.proofs.RegroupLaws.{has_or_not}
 use Rattle.mdcache.proofs.SplitLaws.{has_inside, inside_has}
-use Rattle.mdcache.proofs.TextLaws.{tree_of_row}
+use Rattle.inode_table.proofs.Tables.{tree_of_row}
 
 -- ---- the fragment of a merge
 

@@ -46,13 +46,13 @@ use Rattle.mdcache.specs.Splits.{Comes, HasUnsaved, IsConcerned, IsListedAnew, I
 use Rattle.mdcache.specs.State.{IsLive, State, text_of}
 use Rattle.mdcache.proofs.CachedLaws.{cached_after}
 use Rattle.mdcache.proofs.GoneLaws.{among}
-use Rattle.mdcache.proofs.HomeLaws.{key_or_apart}
+use Rattle.dirfrag_codec.proofs.ByteKeys.{same_or_apart as key_or_apart}
 use Rattle.mdcache.proofs.MergeNames.{joined_is, merged_is_new, pick_inside}
 use Rattle.mdcache.proofs.NamedLaws.{pick_at, sound_leaves, stands_at}
 use Rattle.mdcache.proofs.RegroupLaws.{apart_live, came_live, dirty_shows, unmapped, which}
 use Rattle.mdcache.proofs.SplitLaws.{has_inside, inside_has, merge_ends, merge_stood, merges_right, not_itself}
 use Rattle.mdcache.proofs.SplitSteps.{fresh_unsaved}
-use Rattle.mdcache.proofs.TextLaws.{tree_of_row}
+use Rattle.inode_table.proofs.Tables.{tree_of_row}
 use Rattle.mdcache.proofs.WalkLaws.{all_pass, no_name, some_fails, some_name}
 
 -- ---- the purge list

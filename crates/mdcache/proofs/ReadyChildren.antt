@@ -23,7 +23,8 @@ use Rattle.mdcache.specs.Reads.{LacksPlaces}
 use Rattle.mdcache.specs.Regroups.{KeepsNoMore, Releases}
 use Rattle.mdcache.specs.Sound.{IsSaved}
 use Rattle.mdcache.proofs.FreedLaws.{below_or_it, spare_lacks}
-use Rattle.mdcache.proofs.ReadyLaws.{kept_none, not_there}
+use Rattle.dentry_cache.proofs.StandingLaws.{kept_none}
+use Rattle.mdcache.proofs.ReadyLaws.{not_there}
 
 -- a leaf of which nothing is cached, and no place is kept, has none
 pub no_place : (old new : Held) (leaf : Leaf) → ((q : Leaf) → cached new.entries q ≡ cached old.entries q) → cached old.entries leaf ≡ None → is_kept (lookup (leaf_is leaf) new.entries) ≡ false → lookup (leaf_is leaf) new.entries ≡ None

@@ -27,7 +27,7 @@ use Rattle.mdcache.proofs.ReadSteps.{shows_cached}
 use Rattle.mdcache.proofs.ReadyLaws.{not_cached, ready_kept}
 use Rattle.mdcache.proofs.SplitLaws.{splits_right}
 use Rattle.mdcache.proofs.SplitSteps.{child_comes, is_child, is_split, no_leaf_yet, split_kept}
-use Rattle.mdcache.proofs.TextLaws.{tree_of_row}
+use Rattle.inode_table.proofs.Tables.{tree_of_row}
 
 -- numbers that are left aren't lacking
 pub counts_left : (count generation version : ℕ) → generation + count < 2 ^ 64 → version < 2 ^ 64 - 1 → LacksNumbers count generation ⊎ LacksNumbers 1 version → ⊥

@@ -30,7 +30,7 @@ pub returns-in-Ok-clause-dirty : goal.returns-in-Ok-clause-dirty
 returns-in-Ok-clause-dirty g c = λ name.
     c.in_default.ensures.joined.dirty name
     ∙ ap (λ (o : Option Mark). name_joined (names_of (unsaved c.args.cache.now.entries) (g.S.Store.objects c.args.store.now)) c.args.version (leaves_in c.args.dir c.args.leaves.now) name o)
-      (ap (λ (f : Cached). map.get f.dirty name) c.fresh-joined.ensures ∙ get-empty key_cmp name)
+    (ap (λ (f : Cached). map.get f.dirty name) c.fresh-joined.ensures ∙ get-empty key_cmp name)
 
 pub returns-in-Ok-clause-left : goal.returns-in-Ok-clause-left
 returns-in-Ok-clause-left g c =

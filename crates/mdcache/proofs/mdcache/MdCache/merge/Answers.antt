@@ -54,10 +54,11 @@ returns-in-Ok-clause-merged g c =
     let places = subst (λ ls. IsPutInPlace ls (c.args.dir, c.args.frag) c.in-Ok.merge.joined c.prepare_merge.new.cache c.commit_merge.new.cache) e.leaves d.places in
     let jobs = d.jobs ∙ ap (without_leaves c.self.inside.jobs.jobs) e.leaves in
     let listed = d.listed ∙ (λ i. map.remove (with_objects c.prepare_merge.new.purge.names (e.texts i)) (e.object i)) in
-    subst (λ (v : Core). MergesLeaves v (record { state = state_of c.commit_merge.new.dirs c.commit_merge.new.cache (g.S.Store.objects c.prepare_merge.new.store) c.commit_merge.new.jobs c.commit_merge.new.purge c.commit_merge.new.next; cache = c.commit_merge.new.cache; dirs_left = c.commit_merge.new.dirs.room; purge_left = c.commit_merge.new.purge.room; faults = g.S.Store.faults c.prepare_merge.new.store }) c.args.dir c.args.frag (Ok tt)) c.self.view_is
-    (made_merge c.self.inside.dirs c.self.inside.cache (g.S.Store.objects c.self.inside.store) c.self.inside.jobs c.self.inside.purge c.self.inside.next c.self.invariant c.args.dir c.args.frag (sym c.contains.ensures.known ∙ c.if-not-contains.false) c.in_default.ensures.can
-    c.prepare_merge.new.dirs e.homes e.trees c.prepare_merge.new.cache (g.S.Store.objects c.prepare_merge.new.store) e.same e.left c.prepare_merge.new.purge e.names
-    c.in-Ok.merge.cover e.merged e.whole c.in-Ok.merge.joined e.fresh e.numbered e.dirty c.commit_merge.new.dirs d.homes d.trees c.commit_merge.new.cache places c.commit_merge.new.jobs jobs c.commit_merge.new.purge listed c.commit_merge.new.next d.job d.generation d.named,
-    made_keeps c.self.inside.dirs c.self.inside.cache (g.S.Store.objects c.self.inside.store) c.self.inside.jobs c.self.inside.purge c.self.inside.next c.self.invariant c.args.dir c.args.frag (sym c.contains.ensures.known ∙ c.if-not-contains.false) c.in_default.ensures.can
-    c.prepare_merge.new.dirs e.homes e.trees c.prepare_merge.new.cache (g.S.Store.objects c.prepare_merge.new.store) e.same e.left c.prepare_merge.new.purge e.names
-    c.in-Ok.merge.cover e.merged e.whole c.in-Ok.merge.joined e.fresh e.numbered e.dirty c.commit_merge.new.dirs d.homes d.trees c.commit_merge.new.cache places c.commit_merge.new.jobs jobs c.commit_merge.new.purge listed c.commit_merge.new.next d.job d.generation d.named)
+    subst (λ (v : Core). MergesLeaves v (record { state = state_of c.commit_merge.new.dirs c.commit_merge.new.cache (g.S.Store.objects c.prepare_merge.new.store) c.commit_merge.new.jobs c.commit_merge.new.purge c.commit_merge.new.next; cache = c.commit_merge.new.cache; dirs_left = c.commit_merge.new.dirs.room; purge_left = c.commit_merge.new.purge.room; faults = g.S.Store.faults c.prepare_merge.new.store }) c.args.dir c.args.frag (Ok tt)) c.self.view_is (
+      made_merge c.self.inside.dirs c.self.inside.cache (g.S.Store.objects c.self.inside.store) c.self.inside.jobs c.self.inside.purge c.self.inside.next c.self.invariant c.args.dir c.args.frag (sym c.contains.ensures.known ∙ c.if-not-contains.false) c.in_default.ensures.can
+          c.prepare_merge.new.dirs e.homes e.trees c.prepare_merge.new.cache (g.S.Store.objects c.prepare_merge.new.store) e.same e.left c.prepare_merge.new.purge e.names
+          c.in-Ok.merge.cover e.merged e.whole c.in-Ok.merge.joined e.fresh e.numbered e.dirty c.commit_merge.new.dirs d.homes d.trees c.commit_merge.new.cache places c.commit_merge.new.jobs jobs c.commit_merge.new.purge listed c.commit_merge.new.next d.job d.generation d.named,
+      made_keeps c.self.inside.dirs c.self.inside.cache (g.S.Store.objects c.self.inside.store) c.self.inside.jobs c.self.inside.purge c.self.inside.next c.self.invariant c.args.dir c.args.frag (sym c.contains.ensures.known ∙ c.if-not-contains.false) c.in_default.ensures.can
+          c.prepare_merge.new.dirs e.homes e.trees c.prepare_merge.new.cache (g.S.Store.objects c.prepare_merge.new.store) e.same e.left c.prepare_merge.new.purge e.names
+          c.in-Ok.merge.cover e.merged e.whole c.in-Ok.merge.joined e.fresh e.numbered e.dirty c.commit_merge.new.dirs d.homes d.trees c.commit_merge.new.cache places c.commit_merge.new.jobs jobs c.commit_merge.new.purge listed c.commit_merge.new.next d.job d.generation d.named,
+    )
