@@ -7,8 +7,9 @@ use Rattle.mds_types.specs.declared.refusals.Refusal.{Refusal}
 use Rattle.dentry_cache.specs.Cache.{Leaf}
 use Rattle.namespace_ops.specs.Reasons.{IsOfFragments}
 use Rattle.mdcache.specs.Cached.{Core}
-use Rattle.mdcache.specs.Frags.{KeepsState, LacksFor, LacksPlaces, MayRefuse}
+use Rattle.mdcache.specs.Frags.{KeepsState, LacksFor, MayRefuse}
 use Rattle.mdcache.specs.Made.{IsUntouched, StaysAsItIs}
+use Rattle.mdcache.specs.Reads.{LacksPlaces}
 use Rattle.mdcache.specs.Shown.{names_of}
 use Rattle.mdcache.specs.State.{IsLive, State}
 
