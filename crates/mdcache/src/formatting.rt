@@ -65,6 +65,7 @@ impl<S: Store + Drop> MdCache<S> {
                     generation: 2,
                     version: 1,
                 },
+                kept: None,
             }),
             Err(_) => Err(store),
         }

@@ -12,6 +12,7 @@ mod evicting;
 mod fetching;
 mod formatting;
 mod going;
+mod kept_places;
 mod laws;
 mod leaves;
 mod listing;
