@@ -1,6 +1,8 @@
 pub mod CacheLaws
+pub mod CapLaws
 pub mod CommitSteps
 pub mod EditLaws
+pub mod FixedPlaces
 pub mod LeafLaws
 pub mod LeavingLaws
 pub mod LoadLaws
@@ -8,6 +10,7 @@ pub mod NameParts
 pub mod PageSteps
 pub mod PairLaws
 pub mod PartLaws
+pub mod ReadyFrom
 pub mod ReadySplit
 pub mod SpareLaws
 pub mod SplitShows

@@ -11,13 +11,13 @@ use Rattle.dentry_cache.specs.declared.cache.Place.{Place}
 use Rattle.dentry_cache.specs.Cache.{Held, IsChanged, Leaf, Places, cached, fragment_in, held, is_evictable, leaf_is, unsaved, unsaved_in}
 use Rattle.dentry_cache.specs.Leaving.{IsFound, IsLeft, LeavesBeside}
 use Rattle.dentry_cache.specs.Loading.{IsNotFetched, MayNotFetch, MayNotLoad}
-use Rattle.dentry_cache.specs.Divided.{IsFoundReady, IsNoChild, spare}
+use Rattle.dentry_cache.specs.Divided.{IsFoundReady, IsLeftReady, IsNoChild, spare}
 use Rattle.dentry_cache.proofs.CacheLaws.{unsaved_alike}
 use Rattle.dentry_cache.proofs.LeafLaws.{flips, leaf_itself, leaf_or_apart}
 use Rattle.dentry_cache.proofs.LeavingLaws.{staying_is_left}
 use Rattle.dentry_cache.proofs.NameParts.{no_child}
 use Rattle.dentry_cache.proofs.SpareLaws.{full_none}
-use Rattle.dentry_cache.proofs.SplitShows.{apart_used, left_twice, none_left}
+use Rattle.dentry_cache.proofs.SplitShows.{apart_used, left_twice, none_left, refused_none}
 use Rattle.dentry_cache.proofs.UsedLaws.{after_use}
 
 -- ---- a refused fetch
@@ -54,6 +54,15 @@ pub none_beside : (dir : Ino) (frag : Fragment) (nb : ℕ) (old new : Places) �
     → (i : ℕ) → i < 2 ^ nb → lookup (leaf_is (dir, child_of frag i nb)) new ≡ None
 none_beside dir frag nb old new some beside absent i less =
     none_left None (dir, child_of frag i nb) (lookup (leaf_is (dir, child_of frag i nb)) old) (lookup (leaf_is (dir, child_of frag i nb)) new) (absent i less) (beside.left (dir, child_of frag i nb) (no_child dir frag nb i some))
+
+-- the fragment isn't there then, as before
+pub left_unfetched : (leaf : Leaf) (object : Option Omap) (old new : Held) → IsNotFetched None old (lookup (leaf_is leaf) old.entries) new
+    → IsLeftReady leaf.1 object (lookup (leaf_is leaf) old.entries) (lookup (leaf_is leaf) new.entries)
+left_unfetched leaf object old new left = go (lookup (leaf_is leaf) old.entries) refl left
+  where
+    go : (o : Option Place) → lookup (leaf_is leaf) old.entries ≡ o → IsNotFetched None old o new → IsLeftReady leaf.1 object (lookup (leaf_is leaf) old.entries) (lookup (leaf_is leaf) new.entries)
+    go None none room = inl (none, refused_none None leaf old new room none)
+    go (Some place) found left = absurd left
 
 -- ---- only the room for names that become clean is another
 

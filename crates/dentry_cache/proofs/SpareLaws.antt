@@ -21,7 +21,7 @@ counted : (b : Bool) (e : Leaf × Place) (rest : Places) → length (cond b (e �
 counted true e rest = omega arith
 counted false e rest = omega arith
 
-first_counted : (e : Leaf × Place) (rest : Places) → evictable_in (e ∷ rest) ≡ cond (is_evictable e.1) 1 0 + evictable_in rest
+pub first_counted : (e : Leaf × Place) (rest : Places) → evictable_in (e ∷ rest) ≡ cond (is_evictable e.1) 1 0 + evictable_in rest
 first_counted e rest = counted (is_evictable e.1) e (filter (λ (e : Leaf × Place). is_evictable e.1) rest)
 
 both_counted : (some more : Places) → evictable_in (some ++ more) ≡ evictable_in some + evictable_in more

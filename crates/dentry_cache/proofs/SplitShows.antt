@@ -76,7 +76,7 @@ pub first_dropping : (dir : Ino) (frag : Fragment) (nb : ℕ) (old : Places) →
 first_dropping dir frag nb old vacant = record { absent = λ i less. absurd (omega (arith, less)); vacant = vacant; others = λ leaf none. refl; same = refl; keeps = λ objects. kept_once objects old }
 
 -- one of the numbers below is this one, or below it
-below_or_it : (i n : ℕ) → i < n + 1 → (i < n) ⊎ (i ≡ n)
+pub below_or_it : (i n : ℕ) → i < n + 1 → (i < n) ⊎ (i ≡ n)
 below_or_it zero zero less = inr refl
 below_or_it zero (suc n) less = inl (omega arith)
 below_or_it (suc i) zero less = absurd (omega (arith, less))

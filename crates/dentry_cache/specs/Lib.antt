@@ -5,5 +5,6 @@ pub mod Leaving
 pub mod Loading
 pub mod Pairs
 pub mod Parting
+pub mod Places
 pub mod Standing
 pub mod Ties

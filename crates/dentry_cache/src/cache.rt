@@ -3,6 +3,7 @@ ghost use Rattle.std.specs.Prelude.{◌≡◌, ◌≤◌, [], length, is_some, I
 ghost use Rattle.std.specs.Map.{lookup};
 ghost use Rattle.lru.specs.LruCache.{lru_cache};
 ghost use Rattle.dentry_cache.specs.Cache.{IsUsed, cached, is_kept, leaf_is};
+ghost use Rattle.dentry_cache.specs.Places.{IsCache};
 
 use cached_frag::CachedFrag;
 use lru::LruCache;
@@ -60,9 +61,10 @@ impl Cache {
         self.places.cap().get()
     }
 
-    /// How many places are taken.
+    /// How many places are taken. No leaf has two of them.
     pub fn len(&self) -> usize
-        ensures { result ≡ length self.now.entries }
+        ensures taken { result ≡ length self.now.entries }
+        ensures valid { IsCache self.now }
     {
         self.places.len()
     }

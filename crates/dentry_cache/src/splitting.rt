@@ -10,7 +10,7 @@ ghost use Rattle.dentry_cache.specs.Cache.{HasCached, IsChanged, IsThere, Leaf, 
 ghost use Rattle.dentry_cache.specs.Leaving.{IsLeft};
 ghost use Rattle.dentry_cache.specs.Loading.{MayNotLoad, object_of};
 ghost use Rattle.dentry_cache.specs.Standing.{Each, KeepsTies, OfOthers};
-ghost use Rattle.dentry_cache.specs.Divided.{AreNumbered, AreReady, IsFoundReady, IsNoChild, IsSplit, filled, spare};
+ghost use Rattle.dentry_cache.specs.Divided.{AreNumbered, AreReady, IsFoundReady, IsLeftReady, IsNoChild, IsSplit, filled, spare};
 ghost use Rattle.dentry_cache.specs.Parting.{Fillable};
 
 use crate::cache::Cache;
@@ -27,7 +27,8 @@ impl Cache {
     /// number on. Where no place is free the least recently used of the clean fragments goes, but for the fragment itself.
     ///
     /// Refused `NothingToEvict` where no more places are free or can become so than there will be children, as the fetch
-    /// of the fragment is refused, and `NoMemory`. No place is kept then; clean fragments may have come or gone.
+    /// of the fragment is refused, and `NoMemory`. No place is kept then; clean fragments may have come or gone, but for the
+    /// fragment itself, which stays where it was there.
     pub fn ready_split<S: Store>(
         &mut self,
         alloc: Global,
@@ -47,11 +48,13 @@ impl Cache {
         ensures numbered { IfOk result (λ parts. AreNumbered generation parts) }
         ensures found { OnOk result (IsFoundReady frag (object_of (S.objects store.old) dir frag) (lookup (leaf_is (dir, frag)) self.old.entries) (cached self.new.entries (dir, frag))) }
         ensures kept { OnOk result ((i : ℕ) → i < 2 ^ nb → lookup (leaf_is (dir, child_of frag i nb)) self.new.entries ≡ Some kept_place) }
+        ensures left { OnErr result (IsLeftReady frag (object_of (S.objects store.old) dir frag) (lookup (leaf_is (dir, frag)) self.old.entries) (lookup (leaf_is (dir, frag)) self.new.entries)) }
         ensures absent { OnErr result ((i : ℕ) → i < 2 ^ nb → lookup (leaf_is (dir, child_of frag i nb)) self.new.entries ≡ None) }
         ensures leaves { (leaf : Leaf) → leaf_is (dir, frag) leaf ≡ false → IsNoChild dir frag nb leaf → IsLeft None leaf (lookup (leaf_is leaf) self.old.entries) (lookup (leaf_is leaf) self.new.entries) }
         ensures unsaved { unsaved self.new.entries ≡ unsaved self.old.entries }
         ensures keeps { KeepsTies Each (S.objects store.old) (S.objects store.new) self.old.entries self.new.entries }
         ensures refused { IfErr result (λ refusal. (refusal ≡ NoMemory) ⊎ ((refusal ≡ NothingToEvict) × (spare self.old ≤ 2 ^ nb)) ⊎ ((lookup (leaf_is (dir, frag)) self.old.entries ≡ None) × MayNotLoad dir frag (object_of (S.objects store.old) dir frag) (S.faults store.old) (S.faults store.new) refusal)) }
+        ensures cap { self.new.cap ≡ self.old.cap }
         ensures same { S.objects store.new ≡ S.objects store.old }
         ensures grows { S.faults store.old ≤ S.faults store.new }
     {
@@ -77,6 +80,7 @@ impl Cache {
         ensures others { (leaf : Leaf) → IsNoChild dir frag nb leaf → lookup (leaf_is leaf) self.new.entries ≡ lookup (leaf_is leaf) self.old.entries }
         ensures unsaved { unsaved self.new.entries ≡ unsaved self.old.entries }
         ensures keeps { (objects : Objects) → KeepsTies Each objects objects self.old.entries self.new.entries }
+        ensures cap { self.new.cap ≡ self.old.cap }
     {
         for i in 0..child_count(nb) {
             let Some(child) = frag.child(i, nb) else {
@@ -150,6 +154,7 @@ impl Cache {
         ensures unsaved { unsaved self.new.entries ≡ unsaved self.old.entries }
         ensures keeps { (objects : Objects) → KeepsTies Each objects objects self.old.entries self.new.entries }
         ensures refused { IfErr result (λ refusal. (refusal ≡ NoMemory) ⊎ ((refusal ≡ NothingToEvict) × (spare self.old ≤ 2 ^ nb))) }
+        ensures cap { self.new.cap ≡ self.old.cap }
     {
         for i in 0..child_count(nb) {
             let Some(child) = frag.child(i, nb) else {

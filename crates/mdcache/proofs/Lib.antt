@@ -10,9 +10,11 @@ pub mod GoneSteps
 pub mod HomeLaws
 pub mod NamedLaws
 pub mod NewLaws
+pub mod KeptPlaces
 pub mod MoveSteps
 pub mod ObjectLaws
 pub mod PageLaws
+pub mod PlaceLaws
 pub mod PurgeSteps
 pub mod PutSteps
 pub mod ReadLaws

@@ -14,6 +14,7 @@ mod fetching;
 mod formatting;
 mod frags;
 mod going;
+mod kept_places;
 mod laws;
 mod leaves;
 mod listing;

@@ -1,4 +1,4 @@
-use Rattle.std.proofs.Common.{◌≡◌, Some, None, ◌≤◌, ◌^◌, ◌⊎◌, inl, inr, arith, ◌∙◌, sym, subst}
+use Rattle.std.proofs.Common.{◌≡◌, Some, None, ◌≤◌, ◌^◌, ◌⊎◌, inl, inr, arith, ◌∙◌, refl, sym, subst}
 use Rattle.std.specs.List.{IsDistinct}
 use Rattle.std.specs.Map.{keys_of, lookup}
 use Rattle.mds_types.specs.Frag.{Fragment, child_of}
@@ -7,13 +7,14 @@ use Rattle.dentry_cache.specs.Cache.{Held, IsFull, kept_place, leaf_is, TakesPla
 use Rattle.dentry_cache.specs.Leaving.{LeavesBeside}
 use Rattle.dentry_cache.specs.Standing.{Each}
 use Rattle.dentry_cache.specs.Divided.{spare}
+use Rattle.dentry_cache.proofs.CapLaws.{freed_cap, taken_cap}
 use Rattle.dentry_cache.proofs.SplitShows.{first_keeping, given_up_left, keeping_step, none_yet, refused_none}
 use Rattle.dentry_cache.proofs.SpareLaws.{full_but_one, spare_taken}
 use Rattle.dentry_cache.proofs.StandingLaws.{kept_twice}
 use Rattle.dentry_cache.proofs.cache.Cache.keep_children.Goals as goal
 
 pub loop-i-init : goal.loop-i-init
-loop-i-init c = record { keeping = first_keeping c.args.dir c.args.frag c.args.nb c.args.self.now.entries c.requires.absent; spare = omega arith }
+loop-i-init c = record { keeping = first_keeping c.args.dir c.args.frag c.args.nb c.args.self.now.entries c.requires.absent; spare = omega arith; cap = refl }
 
 pub loop-i-preserved-in_default : goal.loop-i-preserved-in_default
 loop-i-preserved-in_default c = absurd (c.in_default.ensures (c.requires.bits, omega (arith, c.loop-i-test.true, c.child_count-i-end.ensures)))
@@ -60,6 +61,7 @@ loop-i-preserved c =
           (subst (λ (f : Fragment). LeavesBeside (Some (c.args.dir, c.args.frag)) (c.args.dir, f) c.loop-i.self.entries c.keep.new.self.entries) c.in-Some.ensures.1 c.keep.ensures.leaves) c.keep.ensures.unsaved c.keep.ensures.keeps
           (subst (λ (f : Fragment). lookup (leaf_is (c.args.dir, f)) c.keep.new.self.entries ≡ Some kept_place) c.in-Some.ensures.1 c.in_default-keep.ensures.place);
       spare = omega (arith, more, c.loop-i.invariant.spare);
+      cap = taken_cap (Some (c.args.dir, c.args.frag)) (c.args.dir, c.in-Some.child) kept_place c.loop-i.self c.keep.new.self taken ∙ c.loop-i.invariant.cap;
     }
 
 pub returns-clause-kept : goal.returns-clause-kept
@@ -73,3 +75,9 @@ returns-clause-unsaved c = c.loop-i.invariant.keeping.same
 
 pub returns-clause-keeps : goal.returns-clause-keeps
 returns-clause-keeps c = c.loop-i.invariant.keeping.keeps
+
+pub returns-in-Err-clause-cap : goal.returns-in-Err-clause-cap
+returns-in-Err-clause-cap c = c.drop_split.ensures.cap ∙ freed_cap (Some (c.args.dir, c.args.frag)) c.loop-i.self c.keep.new.self c.in-Err.ensures.left ∙ c.loop-i.invariant.cap
+
+pub returns-clause-cap : goal.returns-clause-cap
+returns-clause-cap c = c.loop-i.invariant.cap

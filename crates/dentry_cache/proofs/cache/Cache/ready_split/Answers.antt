@@ -1,15 +1,16 @@
-use Rattle.std.proofs.Common.{◌≡◌, None, ◌≤◌, Option, sym, subst, ◌∙◌, arith}
+use Rattle.std.proofs.Common.{◌≡◌, None, ◌≤◌, inr, Option, sym, subst, ◌∙◌, arith}
 use Rattle.std.specs.FinMap as map
 use Rattle.std.specs.Map.{lookup}
 use Rattle.mds_types.specs.Frag.{child_of}
 use Rattle.cached_frag.specs.Cached.{Cached, shown}
-use Rattle.dentry_cache.specs.Cache.{HasCached, leaf_is}
+use Rattle.dentry_cache.specs.Cache.{HasCached, cached, leaf_is}
 use Rattle.dentry_cache.specs.Leaving.{IsLeft}
 use Rattle.dentry_cache.specs.Loading.{object_of}
 use Rattle.dentry_cache.specs.Divided.{AreReady, IsFoundReady, spare}
 use Rattle.dentry_cache.specs.Standing.{Each}
+use Rattle.dentry_cache.proofs.CapLaws.{changed_cap, fetched_cap, unfetched_cap}
 use Rattle.dentry_cache.proofs.NameParts.{no_child}
-use Rattle.dentry_cache.proofs.ReadySplit.{found_ready, it_stays, left_of_all, none_beside, others_same, refused_fetch, refused_keep, same_unsaved}
+use Rattle.dentry_cache.proofs.ReadySplit.{OnlyRoom, found_ready, it_stays, left_of_all, left_unfetched, none_beside, others_same, refused_fetch, refused_keep, same_unsaved}
 use Rattle.dentry_cache.proofs.SpareLaws.{spare_changed, spare_fetched}
 use Rattle.dentry_cache.proofs.StandingLaws.{kept_twice}
 use Rattle.dentry_cache.proofs.cache.Cache.ready_split.Goals as goal
@@ -82,3 +83,33 @@ pub returns-clause-keeps : goal.returns-clause-keeps
 returns-clause-keeps g c =
     kept_twice Each (g.S.Store.objects c.args.store.now) (g.S.Store.objects c.fetch.new.store) (g.S.Store.objects c.fetch.new.store) c.args.self.now.entries c.ready_parts.new.self.entries c.keep_children.new.self.entries
     (kept_twice Each (g.S.Store.objects c.args.store.now) (g.S.Store.objects c.fetch.new.store) (g.S.Store.objects c.fetch.new.store) c.args.self.now.entries c.fetch.new.self.entries c.ready_parts.new.self.entries c.fetch.ensures.keeps (c.ready_parts.ensures.keeps (g.S.Store.objects c.fetch.new.store))) (c.keep_children.ensures.keeps (g.S.Store.objects c.fetch.new.store))
+
+pub returns-in-Err-clause-left : goal.returns-in-Err-clause-left
+returns-in-Err-clause-left g c = left_unfetched (c.args.dir, c.args.frag) (object_of (g.S.Store.objects c.args.store.now) c.args.dir c.args.frag) c.args.self.now c.fetch.new.self c.in-Err.ensures.left
+
+pub returns-in-Err-ready_parts-clause-left : goal.returns-in-Err-ready_parts-clause-left
+returns-in-Err-ready_parts-clause-left g c =
+    inr (found_ready (c.args.dir, c.args.frag) c.fetch.new.self c.ready_parts.new.self c.ready_parts.ensures.same c.args.frag (object_of (g.S.Store.objects c.args.store.now) c.args.dir c.args.frag) (lookup (leaf_is (c.args.dir, c.args.frag)) c.args.self.now.entries) c.in_default.ensures.found)
+
+pub returns-in-Err-keep_children-clause-left : goal.returns-in-Err-keep_children-clause-left
+returns-in-Err-keep_children-clause-left g c =
+    inr (subst (IsFoundReady c.args.frag (object_of (g.S.Store.objects c.args.store.now) c.args.dir c.args.frag) (lookup (leaf_is (c.args.dir, c.args.frag)) c.args.self.now.entries)) (sym (it_stays c.args.dir c.args.frag c.args.nb c.requires.some c.args.self.now c.fetch.new.self c.ready_parts.new.self c.keep_children.new.self c.fetch.ensures.leaves c.ready_parts.ensures.same c.keep_children.ensures.leaves))
+    (found_ready (c.args.dir, c.args.frag) c.fetch.new.self c.ready_parts.new.self c.ready_parts.ensures.same c.args.frag (object_of (g.S.Store.objects c.args.store.now) c.args.dir c.args.frag) (lookup (leaf_is (c.args.dir, c.args.frag)) c.args.self.now.entries) c.in_default.ensures.found))
+
+pub returns-in-Err-clause-cap : goal.returns-in-Err-clause-cap
+returns-in-Err-clause-cap g c = unfetched_cap None c.args.self.now (lookup (leaf_is (c.args.dir, c.args.frag)) c.args.self.now.entries) c.fetch.new.self c.in-Err.ensures.left
+
+pub returns-in-Err-ready_parts-clause-cap : goal.returns-in-Err-ready_parts-clause-cap
+returns-in-Err-ready_parts-clause-cap g c =
+    (changed_cap (cached c.fetch.new.self.entries (c.args.dir, c.args.frag)) OnlyRoom (c.args.dir, c.args.frag) c.fetch.new.self c.ready_parts.new.self c.ready_parts.ensures.same)
+    ∙ fetched_cap None c.args.self.now (c.args.dir, c.args.frag) (object_of (g.S.Store.objects c.args.store.now) c.args.dir c.args.frag) (lookup (leaf_is (c.args.dir, c.args.frag)) c.args.self.now.entries) c.fetch.new.self c.in_default.ensures.fetched
+
+pub returns-in-Err-keep_children-clause-cap : goal.returns-in-Err-keep_children-clause-cap
+returns-in-Err-keep_children-clause-cap g c =
+    c.keep_children.ensures.cap ∙ (changed_cap (cached c.fetch.new.self.entries (c.args.dir, c.args.frag)) OnlyRoom (c.args.dir, c.args.frag) c.fetch.new.self c.ready_parts.new.self c.ready_parts.ensures.same)
+    ∙ fetched_cap None c.args.self.now (c.args.dir, c.args.frag) (object_of (g.S.Store.objects c.args.store.now) c.args.dir c.args.frag) (lookup (leaf_is (c.args.dir, c.args.frag)) c.args.self.now.entries) c.fetch.new.self c.in_default.ensures.fetched
+
+pub returns-clause-cap : goal.returns-clause-cap
+returns-clause-cap g c =
+    c.keep_children.ensures.cap ∙ (changed_cap (cached c.fetch.new.self.entries (c.args.dir, c.args.frag)) OnlyRoom (c.args.dir, c.args.frag) c.fetch.new.self c.ready_parts.new.self c.ready_parts.ensures.same)
+    ∙ fetched_cap None c.args.self.now (c.args.dir, c.args.frag) (object_of (g.S.Store.objects c.args.store.now) c.args.dir c.args.frag) (lookup (leaf_is (c.args.dir, c.args.frag)) c.args.self.now.entries) c.fetch.new.self c.in_default.ensures.fetched

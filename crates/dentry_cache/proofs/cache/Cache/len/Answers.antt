@@ -1,0 +1,7 @@
+use Rattle.std.proofs.Common.{subst}
+use Rattle.dentry_cache.specs.Cache.{Held}
+use Rattle.dentry_cache.specs.Places.{IsCache}
+use Rattle.dentry_cache.proofs.cache.Cache.len.Goals as goal
+
+pub returns-clause-valid : goal.returns-clause-valid
+returns-clause-valid c = subst IsCache c.self.view_is (record { distinct = c.len.ensures.valid.0; fits = c.len.ensures.valid.1 })
