@@ -31,9 +31,10 @@ use Rattle.mdcache.specs.declared.prepared.Prepared.TheVariants.{Nothing, Remova
 use Rattle.mdcache.specs.declared.ready_move.MovingEntry.{MovingEntry}
 use Rattle.mdcache.specs.Cached.{Core}
 use Rattle.mdcache.specs.Changes.{Makes, first_leaf}
-use Rattle.mdcache.specs.Frags.{IsDirectoryReady, IsForDirectory, IsForMove, IsForRemoval, IsMoveReady, IsNameReady, IsReady, KeepsState, LacksFor, LacksPlaces, LacksToMake, MayRefuse}
+use Rattle.mdcache.specs.Frags.{IsDirectoryReady, IsForDirectory, IsForMove, IsForRemoval, IsMoveReady, IsNameReady, IsReady, KeepsState, LacksFor, LacksToMake, MayRefuse}
 use Rattle.mdcache.specs.Going.{dir_going}
-use Rattle.mdcache.specs.Ready.{LacksNumbers, MayNotBeReady, MayNotFind}
+use Rattle.mdcache.specs.Reads.{LacksPlaces, MayNotFind}
+use Rattle.mdcache.specs.Ready.{LacksNumbers, MayNotBeReady}
 use Rattle.mdcache.specs.Shown.{shown_tree}
 use Rattle.mdcache.specs.State.{State}
 

@@ -10,7 +10,7 @@ use Rattle.dentry_cache.specs.Divided.{spare}
 use Rattle.dentry_cache.proofs.LeafLaws.{leaf_or_apart}
 use Rattle.dentry_cache.proofs.UsedLaws.{beside_removal}
 use Rattle.mdcache.specs.Ready.{Readies}
-use Rattle.mdcache.specs.Reads.{LacksPlaces, Reads, fixed_places}
+use Rattle.mdcache.specs.Reads.{FixesAllBut, Reads, fixed_places}
 use Rattle.mdcache.specs.Regroups.{KeepsNoMore, Releases}
 
 -- where a leaf lost its place no other is kept
@@ -45,7 +45,7 @@ releases_on old mid new p q = record {
 }
 
 pub released : (leaf : Leaf) (old new : Held) → ((objects : Objects) → Reads (λ (q : Leaf). q ≡ leaf) objects old new) → ((q : Leaf) → cached new.entries q ≡ cached old.entries q) → KeepsNoMore old new → Releases old new
-released leaf old new reads same kept = record { unsaved = (reads map.empty).unsaved; same = same; cap = (reads map.empty).cap; fixed = (reads map.empty).fixed; kept = kept }
+released leaf old new reads same kept = record { unsaved = (reads map.empty).unsaved; same = same; cap = (reads map.empty).fixes.cap; fixed = (reads map.empty).fixes.fixed; kept = kept }
 
 -- one of the numbers below is this one, or below it
 pub below_or_it : (i n : ℕ) → i < n + 1 → (i < n) ⊎ (i ≡ n)
@@ -92,7 +92,7 @@ fixed_or_not (e ∷ places) =
     omega (arith, rest, first, one)
 
 -- where at most so many places are free or become so, one more is lacking
-pub spare_lacks : (n : ℕ) (old new : Held) → new.cap ≡ old.cap → fixed_places new.entries ≤ fixed_places old.entries → spare new ≤ n → LacksPlaces (n + 1) old
+pub spare_lacks : (n : ℕ) (old new : Held) → new.cap ≡ old.cap → fixed_places new.entries ≤ fixed_places old.entries → spare new ≤ n → FixesAllBut (n + 1) old
 spare_lacks n old new cap fixed few =
     let all = fixed_or_not new.entries in
     omega (arith, cap, fixed, few, all)

@@ -17,7 +17,7 @@ use Rattle.mds_types.specs.Step.{is_after, names_after}
 use Rattle.mds_types.proofs.ListingLaws.{names_are_listed}
 use Rattle.omap.specs.Omap.{key_cmp}
 use Rattle.fragtree.specs.FragTree.{IsPick}
-use Rattle.fragtree.proofs.TreeLaws.{some_pick, later as later_has}
+use Rattle.fragtree.proofs.TreeLaws.{first as first_has, some_pick, later as later_has}
 use Rattle.namehash.specs.Rjenkins.{hash_of}
 use Rattle.dirfrag_codec.specs.FragmentObject.{Names}
 use Rattle.dirfrag_codec.proofs.ByteKeys.{key_tied, not_found}

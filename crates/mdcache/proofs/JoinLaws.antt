@@ -26,7 +26,8 @@ use Rattle.namespace_ops.specs.Changes.{in_directory}
 use Rattle.mdcache.specs.declared.going.GoingLeaf.{GoingLeaf}
 use Rattle.mdcache.specs.Going.{HasForgotten, leaves_in}
 use Rattle.mdcache.specs.Joining.{HasJoined, name_joined}
-use Rattle.mdcache.specs.Reads.{LacksPlaces, MayNotRead, Reads}
+use Rattle.mdcache.specs.Ready.{KeepsAtMost}
+use Rattle.mdcache.specs.Reads.{FixesAllBut, MayNotRead, Reads}
 use Rattle.mdcache.specs.Regroups.{KeepsNoMore, Releases}
 use Rattle.mdcache.specs.State.{text_of}
 use Rattle.mdcache.proofs.ReadLaws.{found_there, full_lacks}
@@ -128,10 +129,10 @@ module _ {A : Type 0} (r : Result A Refusal) (leaf : Leaf) (old new : Held) (abs
       go (Err e) h = beside_keeps None leaf old new left (λ kept. let clash : false ≡ true = sym (ap is_kept h) ∙ kept in cc)
 
 -- why it wasn't kept
-pub keep_lacks : {A : Type 0} (r : Result A Refusal) (old mid : Held) → Releases old mid → IfErr r (λ reason. (reason ≡ NoMemory) ⊎ ((reason ≡ NothingToEvict) × IsFull None mid)) → IfErr r (λ reason. (reason ≡ NoMemory) ⊎ ((reason ≡ NothingToEvict) × LacksPlaces 1 old))
+pub keep_lacks : {A : Type 0} (r : Result A Refusal) (old mid : Held) → Releases old mid → IfErr r (λ reason. (reason ≡ NoMemory) ⊎ ((reason ≡ NothingToEvict) × IsFull None mid)) → IfErr r (λ reason. (reason ≡ NoMemory) ⊎ ((reason ≡ NothingToEvict) × FixesAllBut 1 old))
 keep_lacks (Ok x) old mid freed h = tt
 keep_lacks (Err e) old mid freed (inl memory) = inl memory
-keep_lacks (Err e) old mid freed (inr full) = let lacks : LacksPlaces 1 mid = full_lacks mid full.1 in inr (full.0, omega (arith, freed.cap, freed.fixed, lacks))
+keep_lacks (Err e) old mid freed (inr full) = let lacks : FixesAllBut 1 mid = full_lacks mid full.1 in inr (full.0, omega (arith, freed.cap, freed.fixed, lacks))
 
 pub after_keeps : {A E : Type 0} (r : Result A E) (old mid new : Held) → KeepsNoMore old mid → OnErr r (KeepsNoMore mid new) → OnErr r (KeepsNoMore old new)
 after_keeps (Ok x) old mid new first h = tt
@@ -215,9 +216,9 @@ still_none May objects old new leaf reads none never = go (cached new.entries le
         from (inr came) = absurd (never came.0)
 
 -- a place that lacks after reads lacked before
-pub lacks_before : (May : Leaf → Type 0) (objects : Objects) (before after : ℕ) (old new : Held) (reason : Refusal) → Reads May objects old new → (reason ≡ NoMemory) ⊎ ((reason ≡ NothingToEvict) × LacksPlaces 1 new) → MayNotRead before after old reason
+pub lacks_before : (May : Leaf → Type 0) (objects : Objects) (before after : ℕ) (old new : Held) (reason : Refusal) → Reads May objects old new → (reason ≡ NoMemory) ⊎ ((reason ≡ NothingToEvict) × FixesAllBut 1 new) → MayNotRead before after old reason
 lacks_before May objects before after old new reason reads (inl memory) = inl memory
-lacks_before May objects before after old new reason reads (inr full) = let lacks = full.1 in inr (inr (full.0, omega (arith, reads.cap, reads.fixed, lacks)))
+lacks_before May objects before after old new reason reads (inr full) = let lacks = full.1 in inr (inr (full.0, omega (arith, reads.fixes.cap, reads.fixes.fixed, lacks)))
 
 pub mapped_twice : {A B C : Type 0} (h : B → C) (g : A → B) (xs : List A) → each h (each g xs) ≡ each (λ x. h (g x)) xs
 mapped_twice h g [] = refl
@@ -253,3 +254,11 @@ itself_apart dir frag row has = go (leaves_inside frag row) refl has
     go fs is h =
         let clash : true ≡ false = sym (has_inside frag frag row (subst (λ (gs : List Fragment). Contains gs frag) (sym is) (find fs h))).1 ∙ not_itself frag in
         cc
+
+-- a place that is kept then was so before, or is that of this leaf
+pub keep_most : (leaf : Leaf) (old new : Held) → LeavesBeside None leaf old.entries new.entries → KeepsAtMost leaf old new
+keep_most leaf old new left q kept = go (leaf_or_apart leaf q)
+  where
+    go : (leaf ≡ q) ⊎ (leaf_is leaf q ≡ false) → (is_kept (lookup (leaf_is q) old.entries) ≡ true) ⊎ (leaf ≡ q)
+    go (inl same) = inr same
+    go (inr apart) = inl (left_kept None q (lookup (leaf_is q) old.entries) (lookup (leaf_is q) new.entries) (left.left q apart) kept)

@@ -4,7 +4,6 @@ pub mod ChangeLaws
 pub mod ChildNames
 pub mod EmptyLaws
 pub mod EndLaws
-pub mod FragsLaws
 pub mod FragsSteps
 pub mod FreedLaws
 pub mod GatherLaws
@@ -17,9 +16,11 @@ pub mod JoinLaws
 pub mod MergeMade
 pub mod MergeNames
 pub mod MergeSteps
+pub mod KeptPlaces
 pub mod MoveSteps
 pub mod ObjectLaws
 pub mod PageLaws
+pub mod PlaceLaws
 pub mod PurgeSteps
 pub mod PutSteps
 pub mod ReadLaws

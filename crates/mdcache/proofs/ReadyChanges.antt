@@ -1,5 +1,5 @@
 -- What stands in a leaf that was made ready, and a purge list that got room, from the parts of the state.
-use Rattle.std.proofs.Common.{◌≡◌, ℕ, Bool, true, Option, Some, None, Result, OnOk, OnErr, refl, sym, ap, subst, ◌∙◌}
+use Rattle.std.proofs.Common.{◌≡◌, true, Option, Some, None, refl, sym, ap, subst, ◌∙◌}
 use Rattle.std.specs.Prelude.{IfSome, is_some}
 use Rattle.std.specs.FinMap as map
 use Rattle.mds_types.specs.declared.dentries.Dentry.{Dentry}
@@ -17,15 +17,24 @@ use Rattle.standing_jobs.specs.StandingJobs.{Standing}
 use Rattle.mdcache.specs.declared.mdcache.Counters.{Counters}
 use Rattle.mdcache.specs.Cached.{IsKept, state_of}
 use Rattle.mdcache.specs.Ready.{Readies}
+use Rattle.mdcache.specs.Reads.{Reads}
 use Rattle.mdcache.specs.Shown.{names_of, shown_tree}
 use Rattle.mdcache.specs.State.{IsLive, State}
-use Rattle.mdcache.proofs.ReadSteps.{shows_cached}
+use Rattle.mdcache.proofs.ReadSteps.{read_kept, read_state, shows_cached}
 use Rattle.mdcache.proofs.ReadyLaws.{ready_kept, ready_state}
 use Rattle.mdcache.proofs.TreeLookups.{at_dentry}
 
 module _ (dirs : Table) (cache : Held) (objects : Objects) (jobs : Standing) (purge : Listed) (next : Counters) (kept : IsKept (state_of dirs cache objects jobs purge next) cache) where
   abbrev s : State
   s = state_of dirs cache objects jobs purge next
+
+  -- a place that was kept is free again
+  module _ (cache' : Held) (reads : Reads (λ (q : Leaf). ⊥) objects cache cache') where
+    pub given_kept : IsKept (state_of dirs cache' objects jobs purge next) cache'
+    given_kept = read_kept dirs cache objects jobs purge next kept (λ (q : Leaf). ⊥) cache' objects refl reads (λ q none. absurd none)
+
+    pub given_state : state_of dirs cache' objects jobs purge next ≡ s
+    given_state = read_state dirs cache objects jobs purge next kept (λ (q : Leaf). ⊥) cache' objects refl reads (λ q none. absurd none)
 
   -- a list that got room alone
   module _ (purge' : Listed) (same : purge'.names ≡ purge.names) where

@@ -1,5 +1,5 @@
 -- What making the children of a leaf ready leaves of the places, and why it may be refused.
-use Rattle.std.proofs.Common.{◌≡◌, ◌⊎◌, inl, inr, ℕ, zero, suc, ◌+◌, ◌<◌, ◌≤◌, ◌^◌, Bool, true, false, cond, Option, Some, None, refl, sym, ap, subst, ◌∙◌, arith}
+use Rattle.std.proofs.Common.{◌≡◌, ◌⊎◌, inl, inr, ℕ, zero, suc, ◌+◌, ◌<◌, ◌≤◌, ◌^◌, Bool, true, false, cond, List, Option, Some, None, refl, sym, ap, subst, ◌∙◌, arith}
 use Rattle.std.specs.Prelude.{Result, Ok, Err, OnOk, OnErr, IfErr}
 use Rattle.std.specs.FinMap as map
 use Rattle.std.specs.Map.{lookup}
@@ -9,18 +9,20 @@ use Rattle.mds_types.specs.declared.refusals.Refusal.TheVariants.{NoMemory, Stor
 use Rattle.mds_types.specs.Frag.{Fragment, child_of}
 use Rattle.omap.specs.Omap.{Omap}
 use Rattle.objstore.specs.Objects.{Objects}
-use Rattle.cached_frag.specs.Cached.{Cached}
+use Rattle.cached_frag.specs.Cached.{Cached, shown}
 use Rattle.dentry_cache.specs.declared.cache.Place.{Place}
-use Rattle.dentry_cache.specs.Cache.{Held, Leaf, cached, fragment_in, is_kept, kept_place, leaf_is, unsaved, unsaved_in}
-use Rattle.dentry_cache.specs.Divided.{IsFoundReady, IsLeftReady, IsNoChild, spare}
+use Rattle.dentry_cache.specs.declared.parts.Part.{Part}
+use Rattle.dentry_cache.specs.Cache.{HasCached, Held, Leaf, cached, fragment_in, is_kept, kept_place, leaf_is, unsaved, unsaved_in}
+use Rattle.dentry_cache.specs.Divided.{IsFoundReady, IsLeftReady, IsNoChild, IsSplit, bare, spare}
 use Rattle.dentry_cache.specs.Leaving.{IsLeft}
 use Rattle.dentry_cache.specs.Loading.{Loads, MayNotLoad, object_of}
 use Rattle.dentry_cache.proofs.CacheLaws.{get-unsaved}
 use Rattle.dentry_cache.proofs.LeafLaws.{leaf_or_apart}
 use Rattle.dentry_cache.proofs.ReadyFrom.{ComesFrom, ready_from}
-use Rattle.mdcache.specs.Ready.{IsFrom, MayNotFind, Readies}
-use Rattle.mdcache.specs.Reads.{LacksPlaces}
-use Rattle.mdcache.specs.Regroups.{KeepsNoMore, Releases}
+use Rattle.mdcache.specs.Cached.{KeepsNone}
+use Rattle.mdcache.specs.Ready.{IsFrom, Readies}
+use Rattle.mdcache.specs.Reads.{FixesAllBut, KeepsNoMore, MayNotFind}
+use Rattle.mdcache.specs.Regroups.{KeepsButChildren, Releases}
 use Rattle.mdcache.specs.Sound.{IsSaved}
 use Rattle.mdcache.proofs.FreedLaws.{below_or_it, spare_lacks}
 use Rattle.dentry_cache.proofs.StandingLaws.{kept_none}
@@ -88,9 +90,9 @@ module _ (dir : Ino) (frag : Fragment) (nb : ℕ) (objects : Objects) (old mid n
     from = λ q f is. came q f (ready_from dir frag nb object mid new (itself_of r found left) (none_of r kept absent) leaves q f is);
   }
 
-  -- no place is kept where it was refused
-  none_more : Itself → ((i : ℕ) → i < 2 ^ nb → lookup (leaf_is (dir, child_of frag i nb)) new.entries ≡ None) → KeepsNoMore mid new
-  none_more left absent q kept = at (leaf_or_apart (dir, frag) q)
+  -- a place that is kept then was so before, unless it is that of a child
+  others_more : Itself → (q : Leaf) → IsNoChild dir frag nb q → is_kept (lookup (leaf_is q) new.entries) ≡ true → is_kept (lookup (leaf_is q) mid.entries) ≡ true
+  others_more left q other kept = at (leaf_or_apart (dir, frag) q)
     where
       own : Itself → is_kept (lookup (leaf_is (dir, frag)) new.entries) ≡ true → is_kept (lookup (leaf_is q) mid.entries) ≡ true
       own (inl gone) is = let clash : false ≡ true = sym (ap is_kept gone.1) ∙ is in absurd cc
@@ -101,16 +103,23 @@ module _ (dir : Ino) (frag : Fragment) (nb : ℕ) (objects : Objects) (old mid n
       was (Some place) (inl same) = sym (ap is_kept same) ∙ kept
       was (Some place) (inr gone) = let clash : false ≡ true = sym (ap is_kept gone.0) ∙ kept in absurd cc
 
-      beside : leaf_is (dir, frag) q ≡ false → ((i : ℕ) × (i < 2 ^ nb) × ((dir, child_of frag i nb) ≡ q)) ⊎ IsNoChild dir frag nb q → is_kept (lookup (leaf_is q) mid.entries) ≡ true
-      beside apart (inl child) =
+      at : ((dir, frag) ≡ q) ⊎ (leaf_is (dir, frag) q ≡ false) → is_kept (lookup (leaf_is q) mid.entries) ≡ true
+      at (inl same) = own left (ap (λ (l : Leaf). is_kept (lookup (leaf_is l) new.entries)) same ∙ kept)
+      at (inr apart) = was (lookup (leaf_is q) mid.entries) (leaves q apart other)
+
+  pub children_others : {A E : Type 0} (r : Result A E) → OnOk r (IsFoundReady frag object (lookup (leaf_is (dir, frag)) mid.entries) (cached new.entries (dir, frag))) → OnErr r Itself → KeepsButChildren dir frag nb old new
+  children_others r found left q other kept = released.kept q (others_more (itself_of r found left) q other kept)
+
+  -- no place is kept where it was refused
+  none_more : Itself → ((i : ℕ) → i < 2 ^ nb → lookup (leaf_is (dir, child_of frag i nb)) new.entries ≡ None) → KeepsNoMore mid new
+  none_more left absent q kept = go (child_or_not dir frag nb q (2 ^ nb))
+    where
+      go : ((i : ℕ) × (i < 2 ^ nb) × ((dir, child_of frag i nb) ≡ q)) ⊎ IsNoChild dir frag nb q → is_kept (lookup (leaf_is q) mid.entries) ≡ true
+      go (inl child) =
           let none : lookup (leaf_is q) new.entries ≡ None = ap (λ (l : Leaf). lookup (leaf_is l) new.entries) (sym child.2) ∙ absent child.0 child.1 in
           let clash : false ≡ true = sym (ap is_kept none) ∙ kept in
           absurd cc
-      beside apart (inr other) = was (lookup (leaf_is q) mid.entries) (leaves q apart other)
-
-      at : ((dir, frag) ≡ q) ⊎ (leaf_is (dir, frag) q ≡ false) → is_kept (lookup (leaf_is q) mid.entries) ≡ true
-      at (inl same) = own left (ap (λ (l : Leaf). is_kept (lookup (leaf_is l) new.entries)) same ∙ kept)
-      at (inr apart) = beside apart (child_or_not dir frag nb q (2 ^ nb))
+      go (inr other) = others_more left q other kept
 
   pub children_dropped : {A E : Type 0} (r : Result A E) → OnErr r Itself → OnErr r ((i : ℕ) → i < 2 ^ nb → lookup (leaf_is (dir, child_of frag i nb)) new.entries ≡ None) → OnErr r (KeepsNoMore old new)
   children_dropped (Ok x) left absent = tt
@@ -148,11 +157,47 @@ module _ (dir : Ino) (frag : Fragment) (nb : ℕ) (objects : Objects) (old mid n
   Refuses before after reason = (reason ≡ NoMemory) ⊎ ((reason ≡ NothingToEvict) × (spare mid ≤ 2 ^ nb)) ⊎ ((lookup (leaf_is (dir, frag)) mid.entries ≡ None) × MayNotLoad dir frag object before after reason)
 
   pub children_refused : {A : Type 0} (r : Result A Refusal) (before after : ℕ) → (map.get (unsaved old.entries) (dir, frag) ≡ None → IsSaved frag object) → IfErr r (Refuses before after)
-      → IfErr r (MayNotFind (LacksPlaces (2 ^ nb + 1) old) before after)
+      → IfErr r (MayNotFind (FixesAllBut (2 ^ nb + 1) old) before after)
   children_refused (Ok x) before after saved h = tt
   children_refused (Err e) before after saved h = go h
     where
-      go : Refuses before after e → MayNotFind (LacksPlaces (2 ^ nb + 1) old) before after e
+      go : Refuses before after e → MayNotFind (FixesAllBut (2 ^ nb + 1) old) before after e
       go (inl memory) = inl memory
       go (inr (inl full)) = inr (inr (full.0, spare_lacks (2 ^ nb) old mid released.cap released.fixed full.1))
-      go (inr (inr load)) = not_loaded before after (LacksPlaces (2 ^ nb + 1) old) e (saved (absent_clean load.0)) load.1
+      go (inr (inr load)) = not_loaded before after (FixesAllBut (2 ^ nb + 1) old) e (saved (absent_clean load.0)) load.1
+
+-- no place is kept once the children are there
+module _ (dir : Ino) (frag : Fragment) (nb : ℕ) (parts : List Part) (version : ℕ) (old mid new : Held) (none : KeepsNone old.entries) (others : KeepsButChildren dir frag nb old mid) where
+  any_part : Part
+  any_part = record { frag = frag; fragment = bare 0 0 }
+
+  is_there : (o : Option Cached) (P : Cached → Type 0) → HasCached o P → o ≡ None → ⊥
+  is_there None P h is = h
+  is_there (Some g) P h is = cc
+
+  pub split_none : (o : Option Cached) → HasCached o (λ (f : Cached). IsSplit dir frag nb parts version (shown f) mid new) → KeepsNone new.entries
+  split_none None split q = absurd split
+  split_none (Some f) split q = go (is_kept (lookup (leaf_is q) new.entries)) refl
+    where
+      there : ((i : ℕ) × (i < 2 ^ nb) × ((dir, child_of frag i nb) ≡ q)) → is_kept (lookup (leaf_is q) new.entries) ≡ true → ⊥
+      there child kept =
+          is_there (cached new.entries (dir, child_of frag child.0 nb)) _ (split.children child.0 any_part child.1)
+          (ap (λ (l : Leaf). cached new.entries l) child.2 ∙ kept_none (lookup (leaf_is q) new.entries) kept)
+
+      beside : IsNoChild dir frag nb q → ((dir, frag) ≡ q) ⊎ (leaf_is (dir, frag) q ≡ false) → is_kept (lookup (leaf_is q) new.entries) ≡ true → ⊥
+      beside other (inl same) kept =
+          let gone : lookup (leaf_is q) new.entries ≡ None = ap (λ (l : Leaf). lookup (leaf_is l) new.entries) (sym same) ∙ split.gone in
+          let clash : false ≡ true = sym (ap is_kept gone) ∙ kept in
+          cc
+      beside other (inr apart) kept =
+          let before : is_kept (lookup (leaf_is q) old.entries) ≡ true = others q other (sym (ap is_kept (split.others q apart other)) ∙ kept) in
+          let clash : false ≡ true = sym (none q) ∙ before in
+          cc
+
+      at : ((i : ℕ) × (i < 2 ^ nb) × ((dir, child_of frag i nb) ≡ q)) ⊎ IsNoChild dir frag nb q → is_kept (lookup (leaf_is q) new.entries) ≡ true → ⊥
+      at (inl child) kept = there child kept
+      at (inr other) kept = beside other (leaf_or_apart (dir, frag) q) kept
+
+      go : (b : Bool) → is_kept (lookup (leaf_is q) new.entries) ≡ b → is_kept (lookup (leaf_is q) new.entries) ≡ false
+      go false is = is
+      go true is = absurd (at (child_or_not dir frag nb q (2 ^ nb)) is)

@@ -1,5 +1,5 @@
 -- What making ready leaves of the places of a cache, and of the state.
-use Rattle.std.proofs.Common.{◌≡◌, ◌⊎◌, inl, inr, ℕ, ◌<◌, ◌≤◌, Bool, true, false, cond, ◌++◌, ◌∷◌, [], Option, Some, None, Result, Ok, Err, OnOk, OnErr, refl, sym, ap, subst, ◌∙◌, arith}
+use Rattle.std.proofs.Common.{◌≡◌, ◌⊎◌, inl, inr, ℕ, ◌<◌, ◌≤◌, Bool, true, false, cond, Option, Some, None, Result, Ok, Err, OnOk, OnErr, refl, sym, ap, subst, ◌∙◌, arith}
 use Rattle.std.specs.Prelude.{IfErr}
 use Rattle.std.specs.Map.{lookup}
 use Rattle.mds_types.specs.declared.ids.Ino.{Ino}
@@ -10,11 +10,12 @@ use Rattle.mds_types.specs.Tree.{is_directory}
 use Rattle.omap.specs.Omap.{Omap}
 use Rattle.objstore.specs.Objects.{Objects}
 use Rattle.cached_frag.specs.Cached.{Cached}
-use Rattle.dentry_cache.specs.Cache.{HasCached, HasRoom, Held, IsChanged, IsFull, IsThere, Leaf, MayMakeRoom, NoneGoes, Places, cached, fragment_in, is_kept, kept_place, leaf_is, may_go, unsaved, without}
+use Rattle.dentry_cache.specs.Cache.{HasCached, HasRoom, Held, IsChanged, IsFull, IsThere, Leaf, MayMakeRoom, TakesPlace, cached, fragment_in, is_kept, kept_place, leaf_is, unsaved, without}
 use Rattle.dentry_cache.specs.declared.cache.Place.{Place}
 use Rattle.dentry_cache.specs.Leaving.{IsLeft, LeavesBeside}
 use Rattle.dentry_cache.specs.Loading.{Loads, object_of}
-use Rattle.dentry_cache.specs.Ties.{IsTied}
+use Rattle.dentry_cache.specs.Places.{IsCache}
+use Rattle.dentry_cache.specs.Ties.{IsTied, IsTiedAt}
 use Rattle.dentry_cache.proofs.LeafLaws.{leaf_itself, one_leaf}
 use Rattle.dentry_cache.proofs.LeavingLaws.{staying_is_left}
 use Rattle.dentry_cache.proofs.TieLaws.{fetched_are_tied}
@@ -25,11 +26,14 @@ use Rattle.purge_list.specs.PurgeList.{Listed}
 use Rattle.standing_jobs.specs.StandingJobs.{Standing}
 use Rattle.mdcache.specs.declared.mdcache.Counters.{Counters}
 use Rattle.mdcache.specs.Cached.{IsKept, IsSameBut, KeepsCached, state_of}
-use Rattle.mdcache.specs.Ready.{IsFrom, LacksBeside, MayNotFind, Readies}
-use Rattle.mdcache.specs.Reads.{MayNotRead, Reads}
+use Rattle.mdcache.specs.Ready.{IsFrom, KeepsAtMost, Readies}
+use Rattle.mdcache.specs.Reads.{FixesAllBut, FixesNoMore, KeepsNoMore, MayNotFind, MayNotRead, Reads}
 use Rattle.mdcache.specs.Shown.{shown_tree}
 use Rattle.mdcache.specs.State.{IsLive, State}
 use Rattle.mdcache.proofs.CachedLaws.{cached_after, keeps_unsaved, used_keeps, tied_but}
+use Rattle.mdcache.proofs.KeptPlaces.{beside_no_more, left_kept, no_more_same}
+use Rattle.mdcache.proofs.PlaceLaws.{full_fixes}
+use Rattle.mdcache.proofs.ReadLaws.{find_after, fixes_back, room_cap}
 
 -- ---- one step after the other
 
@@ -139,6 +143,24 @@ module _ (first leaf : Leaf) (old new : Held) (left : LeavesBeside (Some leaf) f
       go true same = let clash : None ≡ Some f = sym (none_first r absent place room) ∙ ap (cached new.entries) (one_leaf first q same) ∙ is in absurd cc
       go false apart = beside (lookup (leaf_is q) old.entries) (left.left q apart)
 
+  -- the cap is as it was; no more places are kept where it is refused, and otherwise that one alone
+  pub keep_cap : {A E : Type 0} (r : Result A E) → OnOk r (TakesPlace (Some leaf) first kept_place old new) → OnErr r (MayMakeRoom (Some leaf) old new) → new.cap ≡ old.cap
+  keep_cap (Ok x) taken room = ap (λ (h : Held). h.cap) taken.2
+  keep_cap (Err e) taken (inl same) = ap (λ (h : Held). h.cap) same
+  keep_cap (Err e) taken (inr room) = room_cap (Some leaf) old new room
+
+  pub keep_none : {A E : Type 0} (r : Result A E) → lookup (leaf_is first) old.entries ≡ None → OnErr r (MayMakeRoom (Some leaf) old new) → OnErr r (KeepsNoMore old new)
+  keep_none (Ok x) absent room = tt
+  keep_none (Err e) absent (inl same) = no_more_same old new same
+  keep_none (Err e) absent (inr room) = beside_no_more (Some leaf) first old new left (λ is. let clash : false ≡ true = sym (ap is_kept (still_absent (Some leaf) old new first room absent)) ∙ is in absurd cc)
+
+  pub keep_one : KeepsAtMost first old new
+  keep_one q is = go (leaf_is first q) refl
+    where
+      go : (b : Bool) → leaf_is first q ≡ b → (is_kept (lookup (leaf_is q) old.entries) ≡ true) ⊎ (first ≡ q)
+      go true same = inr (one_leaf first q same)
+      go false apart = inl (left_kept (Some leaf) q (lookup (leaf_is q) old.entries) (lookup (leaf_is q) new.entries) (left.left q apart) is)
+
   -- the fragment that is to stay is there still
   pub stays_there : cached old.entries first ≡ None → IsThere (cached old.entries leaf) → cached new.entries leaf ≡ cached old.entries leaf
   stays_there absent there = go (leaf_is first leaf) refl
@@ -147,36 +169,31 @@ module _ (first leaf : Leaf) (old new : Held) (left : LeavesBeside (Some leaf) f
       go true same = absurd (subst IsThere (ap (cached old.entries) (sym (one_leaf first leaf same)) ∙ absent) there)
       go false apart = ap fragment_in (staying_is_left (Some leaf) leaf (lookup (leaf_is leaf) old.entries) (lookup (leaf_is leaf) new.entries) (left.left leaf apart) (leaf_itself leaf))
 
--- where no fragment may go, none went
-among_goes : (stay : Option Leaf) (later before : Places) (e : Leaf × Place) → NoneGoes stay (later ++ e ∷ before) → may_go stay e ≡ false
-among_goes stay [] before e all = all.0
-among_goes stay (x ∷ later) before e all = among_goes stay later before e all.1
-
-pub still_full : (stay : Option Leaf) (old new : Held) → IsFull stay old → MayMakeRoom stay old new → IsFull stay new
-still_full stay old new full (inl same) = subst (IsFull stay) (sym same) full
-still_full stay old new full (inr (inl free)) = subst (IsFull stay) (sym free.1) full
-still_full stay old new full (inr (inr gone)) =
-    let o = gone.1.1 in
-    let none = among_goes stay o.later o.before (gone.1.0, o.place) (subst (NoneGoes stay) o.among full.none) in
-    let clash : true ≡ false = sym o.goes ∙ none in
-    absurd cc
-
-pub keep_refused : {A : Type 0} (stay : Option Leaf) (old new : Held) (r : Result A Refusal) → OnErr r (MayMakeRoom stay old new) → IfErr r (λ reason. (reason ≡ NoMemory) ⊎ ((reason ≡ NothingToEvict) × IsFull stay old))
-    → IfErr r (λ reason. (reason ≡ NoMemory) ⊎ ((reason ≡ NothingToEvict) × IsFull stay new))
-keep_refused stay old new (Ok x) left h = tt
-keep_refused stay old new (Err e) left (inl memory) = inl memory
-keep_refused stay old new (Err e) left (inr full) = inr (full.0, still_full stay old new full.1 left)
-
 -- ---- why nothing is made ready
 
-pub read_refused : (leaf : Leaf) (before after : ℕ) (old new : Held) (reason : Refusal) → MayNotRead before after old reason → MayNotFind (LacksBeside leaf old new) before after reason
-read_refused leaf before after old new reason (inl memory) = inl memory
-read_refused leaf before after old new reason (inr (inl fault)) = inr (inl fault)
-read_refused leaf before after old new reason (inr (inr none)) = inr (inr (none.0, inl none.1))
+pub keep_refused : {A : Type 0} (leaf : Leaf) (old mid : Held) (r : Result A Refusal) → FixesNoMore old mid → IsCache mid → IfErr r (λ reason. (reason ≡ NoMemory) ⊎ ((reason ≡ NothingToEvict) × IsFull (Some leaf) mid))
+    → IfErr r (λ reason. (reason ≡ NoMemory) ⊎ ((reason ≡ NothingToEvict) × FixesAllBut 2 old))
+keep_refused leaf old mid (Ok x) fixes distinct h = tt
+keep_refused leaf old mid (Err e) fixes distinct (inl memory) = inl memory
+keep_refused leaf old mid (Err e) fixes distinct (inr full) = inr (full.0, fixes_back 2 old mid fixes (full_fixes leaf mid full.1 distinct))
 
-pub first_refused : (leaf : Leaf) (before after : ℕ) (old new : Held) (reason : Refusal) → (reason ≡ NoMemory) ⊎ ((reason ≡ NothingToEvict) × IsFull (Some leaf) new) → MayNotFind (LacksBeside leaf old new) before after reason
-first_refused leaf before after old new reason (inl memory) = inl memory
-first_refused leaf before after old new reason (inr none) = inr (inr (none.0, inr none.1))
+pub read_refused : (before after : ℕ) (old : Held) (reason : Refusal) → MayNotRead before after old reason → MayNotFind (FixesAllBut 2 old) before after reason
+read_refused before after old reason h = find_after (FixesAllBut 2 old) (FixesAllBut 1 old) before before after reason (omega arith) (λ all. omega (arith, all)) h
+
+pub first_refused : (before after : ℕ) (old mid : Held) (reason : Refusal) → FixesNoMore old mid → (reason ≡ NoMemory) ⊎ ((reason ≡ NothingToEvict) × FixesAllBut 2 mid) → MayNotFind (FixesAllBut 2 old) before after reason
+first_refused before after old mid reason fixes (inl memory) = inl memory
+first_refused before after old mid reason fixes (inr none) = inr (inr (none.0, fixes_back 2 old mid fixes none.1))
+
+pub second_refused : (before mid after : ℕ) (old new : Held) (reason : Refusal) → before ≤ mid → FixesNoMore old new → MayNotFind (FixesAllBut 2 new) mid after reason → MayNotFind (FixesAllBut 2 old) before after reason
+second_refused before mid after old new reason grows fixes h = find_after (FixesAllBut 2 old) (FixesAllBut 2 new) before mid after reason grows (fixes_back 2 old new fixes) h
+
+pub neither : {A B : Type 0} → (A → ⊥) → (B → ⊥) → A ⊎ B → ⊥
+neither p q (inl a) = p a
+neither p q (inr b) = q b
+
+pub map_on_err : {A E P Q : Type 0} (r : Result A E) → (P → Q) → OnErr r P → OnErr r Q
+map_on_err (Ok x) f p = tt
+map_on_err (Err e) f p = f p
 
 pub map_if_err : {A E : Type 0} {P Q : E → Type 0} (r : Result A E) → ((e : E) → P e → Q e) → IfErr r P → IfErr r Q
 map_if_err (Ok x) f p = tt

@@ -16,10 +16,9 @@ use Rattle.dentry_cache.proofs.LeafLaws.{leaf_itself, one_leaf}
 use Rattle.dentry_cache.proofs.LeavingLaws.{staying_is_left}
 use Rattle.dentry_cache.proofs.UsedLaws.{still_absent}
 use Rattle.inode_table.specs.Dirs.{Covers, Homes}
-use Rattle.mdcache.specs.Ready.{LacksBeside, MayNotFind, Readies}
+use Rattle.mdcache.specs.Ready.{Readies}
 use Rattle.mdcache.specs.Sound.{IsSaved}
 use Rattle.mdcache.specs.State.{IsLive}
-use Rattle.mdcache.proofs.ReadyLaws.{still_full}
 
 module _ (two one : Leaf) (objects : Objects) (old new : Held) where
   abbrev object : Option Omap
@@ -71,40 +70,6 @@ module _ (two one : Leaf) (objects : Objects) (old new : Held) where
             subst (λ (l : Leaf). cached new.entries l ≡ cached old.entries l) it (same_there r (lookup (leaf_is two) old.entries) refl (subst (λ (l : Leaf). IsThere (cached old.entries l)) (sym it) there) found failed)
         go false apart = ap fragment_in (staying_is_left (Some one) one (lookup (leaf_is one) old.entries) (lookup (leaf_is one) new.entries) (left.left one apart) (leaf_itself one))
 
-  -- no leaf whose object spells it is damaged
-  not_damaged : (o : Option Omap) → IsSaved two.1 o → Loads two.1 o None → ⊥
-  not_damaged None saved none = saved
-  not_damaged (Some spelled) saved none = none saved.0 saved.1 saved.2
-
-  absent_saved : (o : Option Place) → lookup (leaf_is two) old.entries ≡ o → IsNotFetched (Some one) old o new → map.get (unsaved old.entries) two ≡ None
-  absent_saved (Some place) was h = absurd h
-  absent_saved None was h = get-unsaved old.entries two ∙ ap (λ (p : Option Place). unsaved_in (fragment_in p)) was
-
-  made_room : (o : Option Place) → IsNotFetched (Some one) old o new → MayMakeRoom (Some one) old new
-  made_room (Some place) h = absurd h
-  made_room None h = h
-
-  pub beside_refused : (before after : ℕ) (reason : Refusal) → (map.get (unsaved old.entries) two ≡ None → IsSaved two.1 object) → IsNotFetched (Some one) old (lookup (leaf_is two) old.entries) new → MayNotFetch (Some one) old two object before after reason
-      → MayNotFind (IsFull (Some one) new) before after reason
-  beside_refused before after NoMemory saved failed h = inl refl
-  beside_refused before after StoreFault saved failed h = inr (inl (refl, h))
-  beside_refused before after NothingToEvict saved failed h = inr (inr (refl, still_full (Some one) old new h (made_room (lookup (leaf_is two) old.entries) failed)))
-  beside_refused before after (Damaged name) saved failed h = absurd (not_damaged object (saved (absent_saved (lookup (leaf_is two) old.entries) refl failed)) h.1)
-  beside_refused before after NoInodes saved failed h = absurd h
-  beside_refused before after Trimmed saved failed h = absurd h
-  beside_refused before after NotAuthority saved failed h = absurd h
-  beside_refused before after Frozen saved failed h = absurd h
-  beside_refused before after Pinned saved failed h = absurd h
-  beside_refused before after NoSuchFrag saved failed h = absurd h
-  beside_refused before after BadSplit saved failed h = absurd h
-  beside_refused before after TooManyFrags saved failed h = absurd h
-  beside_refused before after StaleJob saved failed h = absurd h
-  beside_refused before after JobOutstanding saved failed h = absurd h
-  beside_refused before after WrongExportState saved failed h = absurd h
-  beside_refused before after InboxEmpty saved failed h = absurd h
-  beside_refused before after InboxFull saved failed h = absurd h
-  beside_refused before after NotClean saved failed h = absurd h
-
 -- ---- one leaf after the other
 
 pub readies_wider : (May Might : Leaf → Type 0) (objects : Objects) (old new : Held) → ((q : Leaf) → May q → Might q) → Readies May objects old new → Readies Might objects old new
@@ -113,11 +78,6 @@ readies_wider May Might objects old new wider p = record { unsaved = p.unsaved; 
     go : (q : Leaf) (g : Cached) → (cached old.entries q ≡ Some g) ⊎ (May q × Loads q.1 (object_of objects q.0 q.1) (Some g)) → (cached old.entries q ≡ Some g) ⊎ (Might q × Loads q.1 (object_of objects q.0 q.1) (Some g))
     go q g (inl was) = inl was
     go q g (inr here) = inr (wider q here.0, here.1)
-
-pub second_refused : (leaf : Leaf) (before mid after : ℕ) (old new : Held) (reason : Refusal) → before ≤ mid → MayNotFind (IsFull (Some leaf) new) mid after reason → MayNotFind (LacksBeside leaf old new) before after reason
-second_refused leaf before mid after old new reason grows (inl memory) = inl memory
-second_refused leaf before mid after old new reason grows (inr (inl fault)) = let rose = fault.1 in inr (inl (fault.0, omega (arith, grows, rose)))
-second_refused leaf before mid after old new reason grows (inr (inr none)) = inr (inr (none.0, inr none.1))
 
 pub either_live : (homes : Homes) (covers : Covers) (one two : Leaf) → IsLive homes covers one → IsLive homes covers two → (q : Leaf) → (q ≡ one) ⊎ (q ≡ two) → IsLive homes covers q
 either_live homes covers one two first second q (inl is) = subst (IsLive homes covers) (sym is) first

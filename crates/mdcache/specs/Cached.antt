@@ -1,8 +1,9 @@
 -- What stands beside the state: a refused step may change it, but for what the state has of it.
-use Rattle.std.specs.Prelude.{◌≡◌, ℕ, ◌<◌, Option, Some, None}
+use Rattle.std.specs.Prelude.{◌≡◌, ℕ, ◌<◌, true, false, Option, Some, None}
+use Rattle.std.specs.Map.{lookup}
 use Rattle.cached_frag.specs.Cached.{Cached}
 use Rattle.objstore.specs.Objects.{Objects}
-use Rattle.dentry_cache.specs.Cache.{Held, Leaf, Places, cached, unsaved}
+use Rattle.dentry_cache.specs.Cache.{Held, Leaf, Places, cached, is_kept, leaf_is, unsaved}
 use Rattle.dentry_cache.specs.Ties.{AreTied}
 use Rattle.inode_table.specs.Dirs.{Covers, Homes, Table}
 use Rattle.purge_list.specs.PurgeList.{Listed}
@@ -50,6 +51,14 @@ pub record IsKept (state : State) (cache : Held) : Type 0 where
   pub live : AreLive state.homes state.covers cache.entries
   pub tied : AreTied cache.entries state.objects
   pub made : AreMade state.next_generation cache.entries
+
+-- no place is kept for a fragment that will be made
+abbrev pub KeepsNone : Places → Type 0
+KeepsNone places = (leaf : Leaf) → is_kept (lookup (leaf_is leaf) places) ≡ false
+
+-- if one is, it is that of this leaf
+abbrev pub KeepsOnly : Option Leaf → Places → Type 0
+KeepsOnly kept places = (leaf : Leaf) → is_kept (lookup (leaf_is leaf) places) ≡ true → kept ≡ Some leaf
 
 -- what is cached of a leaf stays, but for the room that it has
 abbrev pub IsSameBut : Option Cached → Option Cached → Type 0

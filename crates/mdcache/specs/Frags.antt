@@ -1,5 +1,5 @@
 -- The tree over caches and a store as operations see it: what reads keep, why a call is refused, and what is ready for a change.
-use Rattle.std.specs.Prelude.{◌≡◌, ◌⊎◌, ℕ, ◌+◌, ◌-◌, ◌<◌, ◌≤◌, ◌^◌, true, Option, Some, string_bytes}
+use Rattle.std.specs.Prelude.{◌≡◌, ◌⊎◌, ℕ, ◌-◌, ◌<◌, ◌≤◌, ◌^◌, true, Option, Some, string_bytes}
 use Rattle.std.specs.Map.{lookup}
 use Rattle.std.specs.FinMap as map
 use Rattle.mds_types.specs.declared.dentries.Dentry.{Dentry}
@@ -20,15 +20,12 @@ use Rattle.mdcache.specs.declared.prepared.Prepared.TheVariants.{Nothing, Direct
 use Rattle.mdcache.specs.Cached.{Core}
 use Rattle.mdcache.specs.Changes.{first_leaf}
 use Rattle.mdcache.specs.Going.{IsGoingOrNone, count_going, dir_going}
+use Rattle.mdcache.specs.Reads.{LacksPlaces}
 use Rattle.mdcache.specs.Ready.{LacksNumbers}
 use Rattle.mdcache.specs.Shown.{shown_tree}
 use Rattle.mdcache.specs.State.{State, text_of}
 
 -- ---- reads and refusals
-
--- fewer than so many places are free or can become so
-abbrev pub LacksPlaces : ℕ → Core → Type 0
-LacksPlaces count core = core.cache.cap < map.len core.state.unsaved + count
 
 -- reads and refusals keep the state and the number of places; the store's faults only rise
 pub record KeepsState (old new : Core) : Type 0 where

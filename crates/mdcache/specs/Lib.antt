@@ -2,6 +2,7 @@ pub mod Cached
 pub mod Changes
 pub mod Commits
 pub mod Frags
+pub mod FragsLaws
 pub mod Going
 pub mod Joining
 pub mod Made

@@ -1,5 +1,6 @@
 -- What reads leave, and why they may be refused.
-use Rattle.std.specs.Prelude.{◌≡◌, ◌⊎◌, ℕ, ◌+◌, ◌<◌, ◌≤◌, Bool, ◌==◌, List, Some}
+use Rattle.std.specs.Prelude.{◌≡◌, ◌⊎◌, ℕ, ◌+◌, ◌<◌, ◌≤◌, Bool, true, ◌==◌, List, Some}
+use Rattle.std.specs.Map.{lookup}
 use Rattle.std.specs.FinMap as map
 use Rattle.mds_types.specs.declared.refusals.Refusal.{Refusal}
 use Rattle.mds_types.specs.declared.refusals.Refusal.TheVariants.{NoMemory, StoreFault, NothingToEvict}
@@ -9,26 +10,43 @@ use Rattle.fragtree.specs.FragTree.{HasLeaf}
 use Rattle.objstore.specs.Objects.{Objects}
 use Rattle.dirfrag_codec.specs.FragmentObject.{Names}
 use Rattle.cached_frag.specs.Cached.{Cached}
-use Rattle.dentry_cache.specs.Cache.{Held, Leaf, cached, unsaved}
+use Rattle.dentry_cache.specs.Cache.{Held, Leaf, cached, is_kept, leaf_is, unsaved}
 use Rattle.dentry_cache.specs.Loading.{Loads, object_of}
 pub use Rattle.dentry_cache.specs.Places.{fixed_places}
+use Rattle.mdcache.specs.Cached.{Core}
 
 -- fewer than so many places are free or can become so
-abbrev pub LacksPlaces : ℕ → Held → Type 0
-LacksPlaces count cache = cache.cap < fixed_places cache.entries + count
+abbrev pub FixesAllBut : ℕ → Held → Type 0
+FixesAllBut count cache = cache.cap < fixed_places cache.entries + count
 
--- a read is refused for want of memory, by a store whose count of faults rose, or where no place is free and none can become so: no leaf of
--- a sound state has an object that is damaged
+-- so it is, whatever was fetched and in whatever order fragments were used: each other place is that of a fragment that isn't clean
+abbrev pub LacksPlaces : ℕ → Core → Type 0
+LacksPlaces count core = core.cache.cap < map.len core.state.unsaved + count
+
+-- want of memory, a store whose count of faults rose, or places that lack: no leaf of a sound state has an object that is damaged
+abbrev pub MayNotFind : (NoPlace : Type 0) → (before after : ℕ) → Refusal → Type 0
+MayNotFind NoPlace before after reason = (reason ≡ NoMemory) ⊎ ((reason ≡ StoreFault) × (before < after)) ⊎ ((reason ≡ NothingToEvict) × NoPlace)
+
+-- why a read of a cache may be refused: no place is free and none can become so, or as above
 abbrev pub MayNotRead : (before after : ℕ) → Held → Refusal → Type 0
-MayNotRead before after cache reason = (reason ≡ NoMemory) ⊎ ((reason ≡ StoreFault) × (before < after)) ⊎ ((reason ≡ NothingToEvict) × LacksPlaces 1 cache)
+MayNotRead before after cache reason = MayNotFind (FixesAllBut 1 cache) before after reason
+
+-- a place that is kept was so before
+abbrev pub KeepsNoMore : (old new : Held) → Type 0
+KeepsNoMore old new = (leaf : Leaf) → is_kept (lookup (leaf_is leaf) new.entries) ≡ true → is_kept (lookup (leaf_is leaf) old.entries) ≡ true
+
+-- no more places than before can't become free, and none is kept that wasn't
+pub record FixesNoMore (old new : Held) : Type 0 where
+  pub cap : new.cap ≡ old.cap
+  pub fixed : fixed_places new.entries ≤ fixed_places old.entries
+  pub kept : KeepsNoMore old new
 
 -- what a read leaves of the places: what isn't clean is as it was, no more places than before can't become free, and what is cached of a leaf
 -- was so before, or is what its object spells, of a leaf that may come
 pub record Reads (May : Leaf → Type 0) (objects : Objects) (old new : Held) : Type 0 where
   pub unsaved : unsaved new.entries ≡ unsaved old.entries
   pub from : (leaf : Leaf) (f : Cached) → cached new.entries leaf ≡ Some f → (cached old.entries leaf ≡ Some f) ⊎ (May leaf × Loads leaf.1 (object_of objects leaf.0 leaf.1) (Some f))
-  pub cap : new.cap ≡ old.cap
-  pub fixed : fixed_places new.entries ≤ fixed_places old.entries
+  pub fixes : FixesNoMore old new
 
 -- a leaf of a directory that has these
 abbrev pub IsLeafOf : Ino → List Fragment → Leaf → Type 0

@@ -1,24 +1,17 @@
 -- What is made ready for a change, and why it may be refused.
-use Rattle.std.specs.Prelude.{◌≡◌, ◌⊎◌, ℕ, ◌+◌, ◌-◌, ◌<◌, ◌^◌, Some}
+use Rattle.std.specs.Prelude.{◌≡◌, ◌⊎◌, ℕ, ◌+◌, ◌-◌, ◌<◌, ◌^◌, true, Some}
+use Rattle.std.specs.Map.{lookup}
 use Rattle.mds_types.specs.declared.refusals.Refusal.{Refusal}
-use Rattle.mds_types.specs.declared.refusals.Refusal.TheVariants.{NoInodes, NoMemory, NothingToEvict, StoreFault}
+use Rattle.mds_types.specs.declared.refusals.Refusal.TheVariants.{NoInodes}
 use Rattle.objstore.specs.Objects.{Objects}
 use Rattle.cached_frag.specs.Cached.{Cached}
-use Rattle.dentry_cache.specs.Cache.{Held, IsFull, Leaf, cached, unsaved}
+use Rattle.dentry_cache.specs.Cache.{Held, Leaf, cached, is_kept, leaf_is, unsaved}
 use Rattle.dentry_cache.specs.Loading.{Loads, object_of}
-use Rattle.mdcache.specs.Reads.{LacksPlaces}
+use Rattle.mdcache.specs.Reads.{MayNotFind}
 
 -- fewer than so many numbers are left of a counter: none is given out from 2^64 - 1 on
 abbrev pub LacksNumbers : ℕ → ℕ → Type 0
 LacksNumbers count next = 2 ^ 64 - 1 < next + count
-
--- no place is free and none can become so; or so it is then but for the fragment of a leaf, which has to stay
-abbrev pub LacksBeside : Leaf → (old new : Held) → Type 0
-LacksBeside leaf old new = LacksPlaces 1 old ⊎ IsFull (Some leaf) new
-
--- want of memory, a store whose count of faults rose, or places that lack
-abbrev pub MayNotFind : Type 0 → (before after : ℕ) → Refusal → Type 0
-MayNotFind NoPlace before after reason = (reason ≡ NoMemory) ⊎ ((reason ≡ StoreFault) × (before < after)) ⊎ ((reason ≡ NothingToEvict) × NoPlace)
 
 -- why nothing is made ready: numbers lack, and exactly then it is refused so; otherwise want of memory, a fault, or places that lack
 abbrev pub MayNotBeReady : (Lacks NoPlace : Type 0) → (before after : ℕ) → Refusal → Type 0
@@ -33,3 +26,7 @@ IsFrom May objects old leaf f = (g : Cached) × (f ≡ record g { room = f.room;
 pub record Readies (May : Leaf → Type 0) (objects : Objects) (old new : Held) : Type 0 where
   pub unsaved : unsaved new.entries ≡ unsaved old.entries
   pub from : (leaf : Leaf) (f : Cached) → cached new.entries leaf ≡ Some f → IsFrom May objects old leaf f
+
+-- a place that is kept was so before, or is that of this leaf
+abbrev pub KeepsAtMost : Leaf → (old new : Held) → Type 0
+KeepsAtMost one old new = (leaf : Leaf) → is_kept (lookup (leaf_is leaf) new.entries) ≡ true → (is_kept (lookup (leaf_is leaf) old.entries) ≡ true) ⊎ (one ≡ leaf)

@@ -7,16 +7,18 @@ use Rattle.mds_types.specs.declared.refusals.Refusal.TheVariants.{NoMemory, NoSu
 use Rattle.mds_types.specs.Frag.{Fragment}
 use Rattle.fragtree.specs.FragTree.{CanMerge, CanSplit, RefusesMerge, RefusesSplit, leaves_inside}
 use Rattle.dentry_cache.specs.Cache.{Held, Leaf, cached, is_kept, leaf_is, unsaved}
+use Rattle.dentry_cache.specs.Divided.{IsNoChild}
 use Rattle.inode_table.specs.Dirs.{is_known, leaves_of}
 use Rattle.mdcache.specs.Cached.{Core}
 use Rattle.mdcache.specs.Ready.{LacksNumbers, MayNotBeReady}
+pub use Rattle.mdcache.specs.Reads.{KeepsNoMore}
 use Rattle.mdcache.specs.Reads.{LacksPlaces, fixed_places}
 use Rattle.mdcache.specs.Splits.{IsMergedInto, IsSplitInto, KeepsTree}
 use Rattle.mdcache.specs.State.{State}
 
--- a place that is kept was kept before
-abbrev pub KeepsNoMore : Held → Held → Type 0
-KeepsNoMore old new = (leaf : Leaf) → is_kept (lookup (leaf_is leaf) new.entries) ≡ true → is_kept (lookup (leaf_is leaf) old.entries) ≡ true
+-- a place that is kept was so before, or is that of a child of this fragment
+abbrev pub KeepsButChildren : Ino → Fragment → ℕ → (old new : Held) → Type 0
+KeepsButChildren dir frag nb old new = (leaf : Leaf) → IsNoChild dir frag nb leaf → is_kept (lookup (leaf_is leaf) new.entries) ≡ true → is_kept (lookup (leaf_is leaf) old.entries) ≡ true
 
 -- kept places became free, or none did: what is cached is as it was, and no more places than before can't become free
 pub record Releases (old new : Held) : Type 0 where
@@ -46,7 +48,7 @@ IsUndone old new = (new.state ≡ old.state) × KeepsNoMore old.cache new.cache
 -- children isn't free and can't become so, or numbers lack, or the store or memory refused
 abbrev pub MayNotSplit : (old new : Core) → Ino → Fragment → ℕ → Refusal → Type 0
 MayNotSplit old new dir frag nb reason =
-    MayNotRegroup (CanSplit (leaves_of old.state.covers dir.0) frag nb) (RefusesSplit (leaves_of old.state.covers dir.0) frag nb) old.state dir (2 ^ nb) (LacksPlaces (2 ^ nb + 1) old.cache) old.faults new.faults reason
+    MayNotRegroup (CanSplit (leaves_of old.state.covers dir.0) frag nb) (RefusesSplit (leaves_of old.state.covers dir.0) frag nb) old.state dir (2 ^ nb) (LacksPlaces (2 ^ nb + 1) old) old.faults new.faults reason
 
 abbrev pub SplitsLeaf : (old new : Core) → Ino → Fragment → ℕ → Result (Unit {0}) Refusal → Type 0
 SplitsLeaf old new dir frag nb (Ok done) = IsSplitInto old.state new.state dir frag nb × KeepsTree old.state new.state dir (frag ∷ [])
@@ -59,7 +61,7 @@ merged_leaves c dir frag = leaves_inside frag (leaves_of c.state.covers dir.0)
 -- leaves were merged; where they weren't it was refused so too, and for places where none is free and none can become so
 abbrev pub MayNotMerge : (old new : Core) → Ino → Fragment → Refusal → Type 0
 MayNotMerge old new dir frag reason =
-    MayNotRegroup (CanMerge (leaves_of old.state.covers dir.0) frag) (RefusesMerge (leaves_of old.state.covers dir.0) frag) old.state dir 1 (LacksPlaces 1 old.cache) old.faults new.faults reason
+    MayNotRegroup (CanMerge (leaves_of old.state.covers dir.0) frag) (RefusesMerge (leaves_of old.state.covers dir.0) frag) old.state dir 1 (LacksPlaces 1 old) old.faults new.faults reason
 
 abbrev pub MergesLeaves : (old new : Core) → Ino → Fragment → Result (Unit {0}) Refusal → Type 0
 MergesLeaves old new dir frag (Ok done) = IsMergedInto old.state new.state dir frag × KeepsTree old.state new.state dir (merged_leaves old dir frag)

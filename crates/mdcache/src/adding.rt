@@ -80,6 +80,7 @@ impl<S: Store + Drop> MdCache<S> {
             CachedFrag::fresh(alloc, self.next.generation),
         );
         self.next.generation += 1;
+        self.kept = None;
         self.purge.remove(object);
     }
 }

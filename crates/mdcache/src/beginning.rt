@@ -8,6 +8,7 @@ ghost use Rattle.cached_frag.specs.Cached.{Cached, is_clean, snapshot_of};
 ghost use Rattle.dentry_cache.specs.Cache.{HasCached, Unsaved, cached, unsaved as unsaved_in};
 ghost use Rattle.mdcache.specs.Cached.{KeepsCached};
 ghost use Rattle.mdcache.specs.Commits.{Begins, IsAtEnd};
+ghost use Rattle.mdcache.specs.Reads.{KeepsNoMore};
 
 use crate::leaves::is_live;
 use crate::mdcache::MdCache;
@@ -93,6 +94,7 @@ fn begin_in(
     ensures err { IfErr result (λ reason. reason ≡ NoMemory) }
     ensures left { OnErr result (jobs.new.jobs ≡ jobs.old.jobs) }
     ensures cached { KeepsCached cache.old cache.new }
+    ensures places { KeepsNoMore cache.old cache.new }
 {
     let Some(snapshot) = cache.begin_commit(dir, frag)? else {
         unreachable!()

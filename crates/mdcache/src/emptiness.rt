@@ -10,11 +10,12 @@ ghost use Rattle.cached_frag.specs.Cached.{Cached, shown};
 ghost use Rattle.dentry_cache.specs.Cache.{HasCached, IsThere, Leaf, cached, unsaved};
 ghost use Rattle.dentry_cache.specs.Loading.{object_of};
 ghost use Rattle.dentry_cache.specs.Ties.{AreTied};
-ghost use Rattle.mdcache.specs.Reads.{IsLeafOf, MayNotRead, Reads, has_none};
+ghost use Rattle.mdcache.specs.Reads.{IsLeafOf, LacksPlaces, MayNotFind, MayNotRead, Reads, has_none};
 ghost use Rattle.mdcache.specs.Shown.{names_of, shown_tree};
 ghost use Rattle.mdcache.specs.Sound.{IsSaved};
 
 use crate::fetching::fetch_leaf;
+use crate::kept_places::give_up;
 use crate::mdcache::MdCache;
 use dentry_cache::Cache;
 use fragtree::FragTree;
@@ -31,11 +32,15 @@ impl<S: Store + Drop> MdCache<S> {
         requires { is_directory (shown_tree self.old.state) dir.0 ≡ true }
         ensures found { IfOk result (λ empty. empty ≡ not (has_entries (shown_tree self.old.state) dir.0)) }
         ensures same { self.new.state ≡ self.old.state }
-        ensures refused { IfErr result (MayNotRead self.old.faults self.new.faults self.old.cache) }
+        ensures cap { self.new.cache.cap ≡ self.old.cache.cap }
+        ensures refused { IfErr result (MayNotFind (LacksPlaces 1 self.old) self.old.faults self.new.faults) }
         ensures grows { self.old.faults ≤ self.new.faults }
     {
         match self.dirs.tree(alloc, dir) {
-            Ok(leaves) => are_empty(alloc, &mut self.cache, &mut self.store, dir, &leaves),
+            Ok(leaves) => {
+                give_up(&mut self.cache, &mut self.kept);
+                are_empty(alloc, &mut self.cache, &mut self.store, dir, &leaves)
+            }
             Err(_) => Err(Refusal::NoMemory),
         }
     }

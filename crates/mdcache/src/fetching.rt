@@ -6,6 +6,7 @@ ghost use Rattle.objstore.specs.Objects.{Objects};
 ghost use Rattle.cached_frag.specs.Cached.{Cached, shown};
 ghost use Rattle.dentry_cache.specs.Cache.{HasCached, IsThere, Leaf, cached, is_kept, leaf_is, unsaved};
 ghost use Rattle.dentry_cache.specs.Loading.{object_of};
+ghost use Rattle.dentry_cache.specs.Places.{IsCache};
 ghost use Rattle.mdcache.specs.Reads.{MayNotRead, Reads};
 ghost use Rattle.mdcache.specs.Regroups.{KeepsNoMore};
 ghost use Rattle.mdcache.specs.Sound.{IsSaved};
@@ -40,6 +41,19 @@ pub(crate) fn fetch_leaf<S: Store>(
 
 /// A place that was kept for a fragment which wasn't made then is free again. What is cached stays.
 pub(crate) fn release(cache: &mut Cache, dir: Ino, frag: Frag)
+    ensures reads { (objects : Objects) → Reads (λ (q : Leaf). q ≡ (dir, frag)) objects cache.old cache.new }
+    ensures not_kept { is_kept (lookup (leaf_is (dir, frag)) cache.new.entries) ≡ false }
+    ensures cached { (q : Leaf) → cached cache.new.entries q ≡ cached cache.old.entries q }
+    ensures kept { KeepsNoMore cache.old cache.new }
+    ensures valid { IsCache cache.new }
+{
+    free(cache, dir, frag);
+    // The contract of `len` is what says here that no leaf has two places.
+    let _ = cache.len();
+}
+
+// As `release`.
+fn free(cache: &mut Cache, dir: Ino, frag: Frag)
     ensures reads { (objects : Objects) → Reads (λ (q : Leaf). q ≡ (dir, frag)) objects cache.old cache.new }
     ensures not_kept { is_kept (lookup (leaf_is (dir, frag)) cache.new.entries) ≡ false }
     ensures cached { (q : Leaf) → cached cache.new.entries q ≡ cached cache.old.entries q }

@@ -68,6 +68,7 @@ impl<S: Store + Drop> MdCache<S> {
                 },
                 prepared: Prepared::Nothing,
                 alloc,
+                kept: None,
             }),
             Err(_) => Err(store),
         }

@@ -16,11 +16,12 @@ ghost use Rattle.dentry_cache.specs.Cache.{HasCached, IsThere, Leaf, cached, uns
 ghost use Rattle.dentry_cache.specs.Loading.{object_of};
 ghost use Rattle.dentry_cache.specs.Ties.{AreTied};
 ghost use Rattle.mdcache.specs.Pages.{IsPageOf, gathered};
-ghost use Rattle.mdcache.specs.Reads.{IsLeafOf, MayNotRead, Reads};
+ghost use Rattle.mdcache.specs.Reads.{IsLeafOf, LacksPlaces, MayNotFind, MayNotRead, Reads};
 ghost use Rattle.mdcache.specs.Shown.{names_of, shown_tree};
 ghost use Rattle.mdcache.specs.Sound.{IsSaved};
 
 use crate::fetching::fetch_leaf;
+use crate::kept_places::give_up;
 use crate::mdcache::MdCache;
 use crate::page::Page;
 use dentry_cache::Cache;
@@ -47,19 +48,23 @@ impl<S: Store + Drop> MdCache<S> {
         ensures listed { IfOk result (λ page. page.0 ≡ take max (names_after (shown_tree self.old.state) dir.0 (option_copied after.entry))) }
         ensures more { IfOk result (λ page. page.1 ≡ nat_lt max (length (names_after (shown_tree self.old.state) dir.0 (option_copied after.entry)))) }
         ensures same { self.new.state ≡ self.old.state }
-        ensures refused { IfErr result (MayNotRead self.old.faults self.new.faults self.old.cache) }
+        ensures cap { self.new.cache.cap ≡ self.old.cache.cap }
+        ensures refused { IfErr result (MayNotFind (LacksPlaces 1 self.old) self.old.faults self.new.faults) }
         ensures grows { self.old.faults ≤ self.new.faults }
     {
         match self.dirs.tree(alloc, dir) {
-            Ok(leaves) => list_leaves(
-                alloc,
-                &mut self.cache,
-                &mut self.store,
-                dir,
-                &leaves,
-                after,
-                max,
-            ),
+            Ok(leaves) => {
+                give_up(&mut self.cache, &mut self.kept);
+                list_leaves(
+                    alloc,
+                    &mut self.cache,
+                    &mut self.store,
+                    dir,
+                    &leaves,
+                    after,
+                    max,
+                )
+            }
             Err(_) => Err(Refusal::NoMemory),
         }
     }

@@ -4,6 +4,7 @@ ghost use Rattle.std.specs.Prelude.{◌≡◌};
 use crate::prepared::Prepared;
 use dentry_cache::Cache;
 use inode_table::Dirs;
+use mds_types::{Frag, Ino};
 use objstore::Store;
 use purge_list::PurgeList;
 use standing_jobs::StandingJobs;
@@ -20,7 +21,8 @@ pub(crate) struct Counters {
 
 /// A directory table, a cache of fragments over a store, the commits that were begun, and the purge list.
 ///
-/// Of each it holds that its state is sound, and that each cached fragment is a live leaf and tied to its object.
+/// Of each it holds that its state is sound, that each cached fragment is a live leaf and tied to its object, and that at most
+/// one place is kept, for the leaf `*` of a directory that was made ready and didn't come yet.
 #[derive(Drop)]
 pub struct MdCache<S: Store + Drop> {
     pub(crate) dirs: Dirs,
@@ -33,12 +35,14 @@ pub struct MdCache<S: Store + Drop> {
     pub(crate) prepared: Prepared,
     /// For leaves that are fetched, and for what is made ready.
     pub(crate) alloc: Global,
+    // the leaf that a place is kept for, if one is
+    pub(crate) kept: Option<(Ino, Frag)>,
 }
 
 impl<S: Store + Drop> Model for MdCache<S> {
     ghost use Rattle.std.specs.Coded.{codes};
     ghost use Rattle.std.specs.FinMap as map;
-    ghost use Rattle.mdcache.specs.Cached.{Core, IsKept, state_of};
+    ghost use Rattle.mdcache.specs.Cached.{Core, IsKept, KeepsOnly, state_of};
 
     ghost Value = { Core };
 
@@ -46,7 +50,7 @@ impl<S: Store + Drop> Model for MdCache<S> {
 
     ghost view = { λ m. record { state = state_of m.dirs m.cache (S.objects m.store) m.jobs m.purge m.next; cache = m.cache; dirs_left = m.dirs.room; purge_left = m.purge.room; faults = S.faults m.store; prepared = m.prepared } };
 
-    ghost invariant = { λ m. IsKept (state_of m.dirs m.cache (S.objects m.store) m.jobs m.purge m.next) m.cache };
+    ghost invariant = { λ m. IsKept (state_of m.dirs m.cache (S.objects m.store) m.jobs m.purge m.next) m.cache × KeepsOnly m.kept m.cache.entries };
 }
 
 impl<S: Store + Drop> MdCache<S> {

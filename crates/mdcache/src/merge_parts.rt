@@ -15,8 +15,8 @@ ghost use Rattle.inode_table.specs.Dirs.{leaves_of};
 ghost use Rattle.namespace_ops.specs.Changes.{in_directory};
 ghost use Rattle.mdcache.specs.Going.{leaves_in, texts_in};
 ghost use Rattle.mdcache.specs.Joining.{HasJoined, name_joined};
-ghost use Rattle.mdcache.specs.Ready.{Readies};
-ghost use Rattle.mdcache.specs.Reads.{LacksPlaces, MayNotRead, Reads};
+ghost use Rattle.mdcache.specs.Ready.{KeepsAtMost, Readies};
+ghost use Rattle.mdcache.specs.Reads.{FixesAllBut, MayNotRead, Reads};
 ghost use Rattle.mdcache.specs.Regroups.{KeepsNoMore};
 ghost use Rattle.mdcache.specs.Shown.{names_of};
 ghost use Rattle.mdcache.specs.Sound.{IsSaved};
@@ -71,6 +71,7 @@ pub(crate) fn prepare_merge<S: Store>(
     ensures names { purge.new.names ≡ purge.old.names }
     ensures left { Readies (Contains (each (in_directory dir.0) (leaves_inside frag (leaves_of dirs.old.trees dir.0)))) (S.objects store.old) cache.old cache.new }
     ensures none { OnErr result (KeepsNoMore cache.old cache.new) }
+    ensures most { KeepsAtMost (dir, frag) cache.old cache.new }
     ensures refused { IfErr result (MayNotRead (S.faults store.old) (S.faults store.new) cache.old) }
     ensures same { S.objects store.new ≡ S.objects store.old }
     ensures grows { S.faults store.old ≤ S.faults store.new }
@@ -229,6 +230,7 @@ fn join_names<S: Store>(
     ensures place { OnOk result (is_kept (lookup (leaf_is (dir, frag)) cache.new.entries) ≡ true) }
     ensures left { Readies (Contains (leaves_in dir leaves.now)) (S.objects store.old) cache.old cache.new }
     ensures none { OnErr result (KeepsNoMore cache.old cache.new) }
+    ensures most { KeepsAtMost (dir, frag) cache.old cache.new }
     ensures refused { IfErr result (MayNotRead (S.faults store.old) (S.faults store.new) cache.old) }
     ensures same { S.objects store.new ≡ S.objects store.old }
     ensures grows { S.faults store.old ≤ S.faults store.new }
@@ -250,7 +252,8 @@ fn keep_place(alloc: Global, cache: &mut Cache, dir: Ino, frag: Frag) -> Result<
     ensures unsaved { unsaved cache.new.entries ≡ unsaved cache.old.entries }
     ensures from { (q : Leaf) (f : Cached) → cached cache.new.entries q ≡ Some f → cached cache.old.entries q ≡ Some f }
     ensures none { OnErr result (KeepsNoMore cache.old cache.new) }
-    ensures refused { IfErr result (λ reason. (reason ≡ NoMemory) ⊎ ((reason ≡ NothingToEvict) × LacksPlaces 1 cache.old)) }
+    ensures most { KeepsAtMost (dir, frag) cache.old cache.new }
+    ensures refused { IfErr result (λ reason. (reason ≡ NoMemory) ⊎ ((reason ≡ NothingToEvict) × FixesAllBut 1 cache.old)) }
 {
     release(cache, dir, frag);
     cache.keep(alloc, dir, frag, None)

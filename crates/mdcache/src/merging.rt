@@ -15,6 +15,7 @@ ghost use Rattle.mdcache.specs.Reads.{has_none};
 ghost use Rattle.mdcache.specs.Regroups.{MergesLeaves};
 
 use crate::going::{GoingLeaf, remove_leaves};
+use crate::kept_places::give_up;
 use crate::mdcache::{Counters, MdCache};
 use crate::merge_parts::prepare_merge;
 use crate::regrouping::{check_counts, take_counts};
@@ -60,6 +61,7 @@ impl<S: Store + Drop> MdCache<S> {
         if let Err(refusal) = check_counts(self.next.generation, 1, self.next.version) {
             return Err(refusal);
         }
+        give_up(&mut self.cache, &mut self.kept);
         match prepare_merge(
             alloc,
             &mut self.dirs,

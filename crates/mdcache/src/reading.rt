@@ -5,10 +5,11 @@ ghost use Rattle.mds_types.specs.Tree.{is_above, is_directory};
 ghost use Rattle.fragtree.specs.FragTree.{IsPick};
 ghost use Rattle.namehash.specs.Rjenkins.{hash_of};
 ghost use Rattle.inode_table.specs.Dirs.{leaves_of};
-ghost use Rattle.mdcache.specs.Reads.{MayNotRead};
+ghost use Rattle.mdcache.specs.Reads.{LacksPlaces, MayNotFind};
 ghost use Rattle.mdcache.specs.Shown.{shown_tree};
 
 use crate::fetching::look_in;
+use crate::kept_places::give_up;
 use crate::mdcache::MdCache;
 use mds_types::{Dentry, Frag, Ino, Inode, Refusal};
 use namehash::rjenkins;
@@ -52,9 +53,11 @@ impl<S: Store + Drop> MdCache<S> {
         requires leaf { IsPick (leaves_of self.old.state.covers dentry.now.dir.0) (hash_of dentry.now.name) leaf }
         ensures found { IfOk result (λ found. found ≡ map.get (shown_tree self.old.state) dentry.now) }
         ensures same { self.new.state ≡ self.old.state }
-        ensures refused { IfErr result (MayNotRead self.old.faults self.new.faults self.old.cache) }
+        ensures cap { self.new.cache.cap ≡ self.old.cache.cap }
+        ensures refused { IfErr result (MayNotFind (LacksPlaces 1 self.old) self.old.faults self.new.faults) }
         ensures grows { self.old.faults ≤ self.new.faults }
     {
+        give_up(&mut self.cache, &mut self.kept);
         look_in(
             alloc,
             &mut self.cache,

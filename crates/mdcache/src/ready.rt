@@ -8,11 +8,12 @@ ghost use Rattle.namehash.specs.Rjenkins.{hash_of};
 ghost use Rattle.inode_table.specs.Dirs.{leaves_of};
 ghost use Rattle.dentry_cache.specs.Cache.{HasRoom, cached, is_kept, leaf_is};
 ghost use Rattle.mdcache.specs.Changes.{first_leaf};
-ghost use Rattle.mdcache.specs.Ready.{LacksBeside, LacksNumbers, MayNotBeReady};
+ghost use Rattle.mdcache.specs.Ready.{LacksNumbers, MayNotBeReady};
 ghost use Rattle.mdcache.specs.Reads.{LacksPlaces};
 ghost use Rattle.mdcache.specs.Shown.{shown_tree};
 ghost use Rattle.mdcache.specs.State.{text_of};
 
+use crate::kept_places::give_up;
 use crate::mdcache::MdCache;
 use crate::ready_leaves::{ready_first, ready_leaf};
 use mds_types::{Dentry, Frag, Ino, Name, ObjName, Refusal};
@@ -41,12 +42,14 @@ impl<S: Store + Drop> MdCache<S> {
         ensures room { OnOk result (HasRoom (cached self.new.cache.entries (dentry.now.dir, leaf))) }
         ensures number { OnOk result (self.new.state.next_version < 2 ^ 64 - 1) }
         ensures same { self.new.state ≡ self.old.state }
-        ensures refused { IfErr result (MayNotBeReady (LacksNumbers 1 self.old.state.next_version) (LacksPlaces 1 self.old.cache) self.old.faults self.new.faults) }
+        ensures cap { self.new.cache.cap ≡ self.old.cache.cap }
+        ensures refused { IfErr result (MayNotBeReady (LacksNumbers 1 self.old.state.next_version) (LacksPlaces 1 self.old) self.old.faults self.new.faults) }
         ensures grows { self.old.faults ≤ self.new.faults }
     {
         if let Err(refusal) = check_left(self.next.version) {
             return Err(refusal);
         }
+        give_up(&mut self.cache, &mut self.kept);
         ready_leaf(alloc, &mut self.cache, &mut self.store, dentry.dir, leaf, 1)
     }
 
@@ -75,7 +78,8 @@ impl<S: Store + Drop> MdCache<S> {
         ensures number { OnOk result (self.new.state.next_version < 2 ^ 64 - 1) }
         ensures generation { OnOk result (self.new.state.next_generation < 2 ^ 64 - 1) }
         ensures same { self.new.state ≡ self.old.state }
-        ensures refused { IfErr result (MayNotBeReady (LacksNumbers 1 self.old.state.next_version ⊎ LacksNumbers 1 self.old.state.next_generation) (LacksBeside (dentry.now.dir, leaf) self.old.cache self.new.cache) self.old.faults self.new.faults) }
+        ensures cap { self.new.cache.cap ≡ self.old.cache.cap }
+        ensures refused { IfErr result (MayNotBeReady (LacksNumbers 1 self.old.state.next_version ⊎ LacksNumbers 1 self.old.state.next_generation) (LacksPlaces 2 self.old) self.old.faults self.new.faults) }
         ensures grows { self.old.faults ≤ self.new.faults }
     {
         if let Err(refusal) = check_left(self.next.version) {
@@ -88,6 +92,7 @@ impl<S: Store + Drop> MdCache<S> {
         if let Err(refusal) = self.dirs.reserve() {
             return Err(refusal);
         }
+        give_up(&mut self.cache, &mut self.kept);
         if let Err(refusal) = ready_first(
             alloc,
             &mut self.cache,
@@ -98,6 +103,7 @@ impl<S: Store + Drop> MdCache<S> {
         ) {
             return Err(refusal);
         }
+        self.kept = Some((dir, Frag::ROOT));
         Ok(made)
     }
 }

@@ -1,14 +1,14 @@
 //! Leaves of the cache, made ready for changes of their names, and places kept for those that will come.
-ghost use Rattle.std.specs.Prelude.{◌≡◌, ◌⊎◌, ◌<◌, ◌≤◌, true, None, Some, OnOk, IfErr};
+ghost use Rattle.std.specs.Prelude.{◌≡◌, ◌⊎◌, ◌<◌, ◌≤◌, true, None, Some, OnOk, OnErr, IfErr};
 ghost use Rattle.std.specs.FinMap as map;
 ghost use Rattle.std.specs.Map.{lookup};
 ghost use Rattle.mds_types.specs.declared.refusals.Refusal.TheVariants.{NoMemory, NothingToEvict};
 ghost use Rattle.cached_frag.specs.Cached.{Cached};
-ghost use Rattle.dentry_cache.specs.Cache.{HasCached, HasRoom, IsFull, IsThere, Leaf, cached, is_kept, leaf_is, unsaved};
+ghost use Rattle.dentry_cache.specs.Cache.{HasCached, HasRoom, IsThere, Leaf, cached, is_kept, leaf_is, unsaved};
 ghost use Rattle.dentry_cache.specs.Loading.{object_of};
 ghost use Rattle.mdcache.specs.Changes.{first_leaf};
-ghost use Rattle.mdcache.specs.Ready.{LacksBeside, MayNotFind, Readies};
-ghost use Rattle.mdcache.specs.Reads.{MayNotRead};
+ghost use Rattle.mdcache.specs.Ready.{KeepsAtMost, Readies};
+ghost use Rattle.mdcache.specs.Reads.{FixesAllBut, FixesNoMore, KeepsNoMore, MayNotFind, MayNotRead};
 ghost use Rattle.mdcache.specs.Sound.{IsSaved};
 
 use crate::fetching::{fetch_leaf, release};
@@ -34,6 +34,7 @@ pub(crate) fn ready_leaf<S: Store>(
     ensures room { OnOk result (HasRoom (cached cache.new.entries (dir, frag))) }
     ensures rooms { OnOk result (HasCached (cached cache.new.entries (dir, frag)) (λ (f : Cached). changes ≤ f.room)) }
     ensures left { Readies (λ (q : Leaf). q ≡ (dir, frag)) (S.objects store.old) cache.old cache.new }
+    ensures fixes { FixesNoMore cache.old cache.new }
     ensures refused { IfErr result (MayNotRead (S.faults store.old) (S.faults store.new) cache.old) }
     ensures same { S.objects store.new ≡ S.objects store.old }
     ensures grows { S.faults store.old ≤ S.faults store.new }
@@ -66,7 +67,10 @@ pub(crate) fn ready_first<S: Store>(
     ensures room { OnOk result (HasRoom (cached cache.new.entries (dir, frag))) }
     ensures place { OnOk result (is_kept (lookup (leaf_is (first_leaf new)) cache.new.entries) ≡ true) }
     ensures left { Readies (λ (q : Leaf). q ≡ (dir, frag)) (S.objects store.old) cache.old cache.new }
-    ensures refused { IfErr result (MayNotFind (LacksBeside (dir, frag) cache.old cache.new) (S.faults store.old) (S.faults store.new)) }
+    ensures cap { cache.new.cap ≡ cache.old.cap }
+    ensures one { KeepsAtMost (first_leaf new) cache.old cache.new }
+    ensures none { OnErr result (KeepsNoMore cache.old cache.new) }
+    ensures refused { IfErr result (MayNotFind (FixesAllBut 2 cache.old) (S.faults store.old) (S.faults store.new)) }
     ensures same { S.objects store.new ≡ S.objects store.old }
     ensures grows { S.faults store.old ≤ S.faults store.new }
 {
@@ -90,7 +94,10 @@ fn keep_first(
     ensures stays { cached cache.new.entries (dir, frag) ≡ cached cache.old.entries (dir, frag) }
     ensures unsaved { unsaved cache.new.entries ≡ unsaved cache.old.entries }
     ensures from { (q : Leaf) (f : Cached) → cached cache.new.entries q ≡ Some f → cached cache.old.entries q ≡ Some f }
-    ensures refused { IfErr result (λ reason. (reason ≡ NoMemory) ⊎ ((reason ≡ NothingToEvict) × IsFull (Some (dir, frag)) cache.new)) }
+    ensures cap { cache.new.cap ≡ cache.old.cap }
+    ensures one { KeepsAtMost (first_leaf new) cache.old cache.new }
+    ensures none { OnErr result (KeepsNoMore cache.old cache.new) }
+    ensures refused { IfErr result (λ reason. (reason ≡ NoMemory) ⊎ ((reason ≡ NothingToEvict) × FixesAllBut 2 cache.old)) }
 {
     release(cache, new, Frag::ROOT);
     cache.keep(alloc, new, Frag::ROOT, Some((dir, frag)))

@@ -10,10 +10,12 @@ ghost use Rattle.dirfrag_codec.specs.EntryRecord.{IsRecordable};
 ghost use Rattle.cached_frag.specs.Cached.{Cached, shown};
 ghost use Rattle.dentry_cache.specs.Cache.{HasCached, HasRoom, cached};
 ghost use Rattle.mdcache.specs.Going.{IsGoingOrNone, count_going, dir_going};
-ghost use Rattle.mdcache.specs.Ready.{LacksBeside, LacksNumbers, MayNotBeReady};
+ghost use Rattle.mdcache.specs.Ready.{LacksNumbers, MayNotBeReady};
+ghost use Rattle.mdcache.specs.Reads.{LacksPlaces};
 ghost use Rattle.mdcache.specs.Shown.{shown_tree};
 
 use crate::going::Going;
+use crate::kept_places::give_up;
 use crate::mdcache::MdCache;
 use crate::ready_pairs::ready_pair;
 use crate::ready_removal::ready_going;
@@ -65,7 +67,8 @@ impl<S: Store + Drop> MdCache<S> {
         ensures target { OnOk result (HasRoom (cached self.new.cache.entries (to.now.dir, target))) }
         ensures number { OnOk result (self.new.state.next_version < 2 ^ 64 - 2) }
         ensures same { self.new.state ≡ self.old.state }
-        ensures refused { IfErr result (MayNotBeReady (LacksNumbers 2 self.old.state.next_version) (LacksBeside (from.now.dir, source) self.old.cache self.new.cache) self.old.faults self.new.faults) }
+        ensures cap { self.new.cache.cap ≡ self.old.cache.cap }
+        ensures refused { IfErr result (MayNotBeReady (LacksNumbers 2 self.old.state.next_version) (LacksPlaces 2 self.old) self.old.faults self.new.faults) }
         ensures grows { self.old.faults ≤ self.new.faults }
     {
         if let Err(refusal) = check_two_left(self.next.version) {
@@ -73,6 +76,7 @@ impl<S: Store + Drop> MdCache<S> {
         }
         let name = to.name.try_clone()?;
         let going = ready_going(alloc, &self.dirs, &mut self.purge, went)?;
+        give_up(&mut self.cache, &mut self.kept);
         if let Err(refusal) = ready_pair(
             alloc,
             &mut self.cache,

@@ -2,9 +2,10 @@
 ghost use Rattle.std.specs.Prelude.{◌≡◌, ◌⊎◌, ◌<◌, ◌≤◌, None, Some, OnOk, IfErr};
 ghost use Rattle.std.specs.FinMap as map;
 ghost use Rattle.cached_frag.specs.Cached.{Cached};
-ghost use Rattle.dentry_cache.specs.Cache.{HasCached, HasRoom, IsFull, IsThere, Leaf, cached, unsaved};
+ghost use Rattle.dentry_cache.specs.Cache.{HasCached, HasRoom, IsThere, Leaf, cached, unsaved};
 ghost use Rattle.dentry_cache.specs.Loading.{object_of};
-ghost use Rattle.mdcache.specs.Ready.{LacksBeside, MayNotFind, Readies};
+ghost use Rattle.mdcache.specs.Ready.{Readies};
+ghost use Rattle.mdcache.specs.Reads.{FixesAllBut, FixesNoMore, MayNotFind};
 ghost use Rattle.mdcache.specs.Sound.{IsSaved};
 
 use crate::fetching::release;
@@ -32,7 +33,8 @@ pub(crate) fn ready_pair<S: Store>(
     ensures source { OnOk result (HasCached (cached cache.new.entries (from, source)) (λ (f : Cached). 1 < f.room)) }
     ensures target { OnOk result (HasRoom (cached cache.new.entries (to, target))) }
     ensures left { Readies (λ (q : Leaf). (q ≡ (from, source)) ⊎ (q ≡ (to, target))) (S.objects store.old) cache.old cache.new }
-    ensures refused { IfErr result (MayNotFind (LacksBeside (from, source) cache.old cache.new) (S.faults store.old) (S.faults store.new)) }
+    ensures fixes { FixesNoMore cache.old cache.new }
+    ensures refused { IfErr result (MayNotFind (FixesAllBut 2 cache.old) (S.faults store.old) (S.faults store.new)) }
     ensures same { S.objects store.new ≡ S.objects store.old }
     ensures grows { S.faults store.old ≤ S.faults store.new }
 {
@@ -57,7 +59,8 @@ fn ready_beside<S: Store>(
     ensures room { OnOk result (HasRoom (cached cache.new.entries (dir, frag))) }
     ensures stays { OnOk result (HasCached (cached cache.new.entries (first, leaf)) (λ (f : Cached). 1 < f.room)) }
     ensures left { Readies (λ (q : Leaf). q ≡ (dir, frag)) (S.objects store.old) cache.old cache.new }
-    ensures refused { IfErr result (MayNotFind (IsFull (Some (first, leaf)) cache.new) (S.faults store.old) (S.faults store.new)) }
+    ensures fixes { FixesNoMore cache.old cache.new }
+    ensures refused { IfErr result (MayNotFind (FixesAllBut 2 cache.old) (S.faults store.old) (S.faults store.new)) }
     ensures same { S.objects store.new ≡ S.objects store.old }
     ensures grows { S.faults store.old ≤ S.faults store.new }
 {
@@ -85,7 +88,8 @@ fn fetch_beside<S: Store>(
     ensures there { OnOk result (IsThere (cached cache.new.entries (dir, frag))) }
     ensures stays { cached cache.new.entries (first, leaf) ≡ cached cache.old.entries (first, leaf) }
     ensures left { Readies (λ (q : Leaf). q ≡ (dir, frag)) (S.objects store.old) cache.old cache.new }
-    ensures refused { IfErr result (MayNotFind (IsFull (Some (first, leaf)) cache.new) (S.faults store.old) (S.faults store.new)) }
+    ensures fixes { FixesNoMore cache.old cache.new }
+    ensures refused { IfErr result (MayNotFind (FixesAllBut 2 cache.old) (S.faults store.old) (S.faults store.new)) }
     ensures same { S.objects store.new ≡ S.objects store.old }
     ensures grows { S.faults store.old ≤ S.faults store.new }
 {

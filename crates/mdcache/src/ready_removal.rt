@@ -12,6 +12,7 @@ ghost use Rattle.mdcache.specs.Reads.{LacksPlaces};
 ghost use Rattle.mdcache.specs.Shown.{shown_tree};
 
 use crate::going::{Going, going_of};
+use crate::kept_places::give_up;
 use crate::mdcache::MdCache;
 use crate::ready::check_left;
 use crate::ready_leaves::ready_leaf;
@@ -43,13 +44,15 @@ impl<S: Store + Drop> MdCache<S> {
         ensures room { OnOk result (HasRoom (cached self.new.cache.entries (dentry.now.dir, leaf))) }
         ensures number { OnOk result (self.new.state.next_version < 2 ^ 64 - 1) }
         ensures same { self.new.state ≡ self.old.state }
-        ensures refused { IfErr result (MayNotBeReady (LacksNumbers 1 self.old.state.next_version) (LacksPlaces 1 self.old.cache) self.old.faults self.new.faults) }
+        ensures cap { self.new.cache.cap ≡ self.old.cache.cap }
+        ensures refused { IfErr result (MayNotBeReady (LacksNumbers 1 self.old.state.next_version) (LacksPlaces 1 self.old) self.old.faults self.new.faults) }
         ensures grows { self.old.faults ≤ self.new.faults }
     {
         if let Err(refusal) = check_left(self.next.version) {
             return Err(refusal);
         }
         let going = ready_going(alloc, &self.dirs, &mut self.purge, went)?;
+        give_up(&mut self.cache, &mut self.kept);
         if let Err(refusal) = ready_leaf(
             alloc,
             &mut self.cache,

@@ -10,9 +10,9 @@ ghost use Rattle.dentry_cache.specs.Cache.{HasCached, Leaf, cached, is_kept, lea
 ghost use Rattle.dentry_cache.specs.Divided.{AreNumbered, AreReady};
 ghost use Rattle.dentry_cache.specs.Loading.{object_of};
 ghost use Rattle.inode_table.specs.Dirs.{leaves_of};
-ghost use Rattle.mdcache.specs.Ready.{MayNotFind, Readies};
-ghost use Rattle.mdcache.specs.Reads.{LacksPlaces};
-ghost use Rattle.mdcache.specs.Regroups.{KeepsNoMore, Releases};
+ghost use Rattle.mdcache.specs.Ready.{Readies};
+ghost use Rattle.mdcache.specs.Reads.{FixesAllBut, MayNotFind};
+ghost use Rattle.mdcache.specs.Regroups.{KeepsButChildren, KeepsNoMore, Releases};
 ghost use Rattle.mdcache.specs.Sound.{IsSaved};
 ghost use Rattle.mdcache.specs.Splits.{NameChildren};
 ghost use Rattle.mdcache.specs.State.{text_of};
@@ -62,7 +62,8 @@ pub(crate) fn prepare_split<S: Store>(
     ensures names { purge.new.names ≡ purge.old.names }
     ensures left { Readies (λ (q : Leaf). q ≡ (dir, frag)) (S.objects store.old) cache.old cache.new }
     ensures none { OnErr result (KeepsNoMore cache.old cache.new) }
-    ensures refused { IfErr result (MayNotFind (LacksPlaces (2 ^ nb + 1) cache.old) (S.faults store.old) (S.faults store.new)) }
+    ensures others { KeepsButChildren dir frag nb cache.old cache.new }
+    ensures refused { IfErr result (MayNotFind (FixesAllBut (2 ^ nb + 1) cache.old) (S.faults store.old) (S.faults store.new)) }
     ensures same { S.objects store.new ≡ S.objects store.old }
     ensures grows { S.faults store.old ≤ S.faults store.new }
 {
@@ -189,7 +190,8 @@ fn ready_children<S: Store>(
     ensures kept { OnOk result ((i : ℕ) → i < 2 ^ nb → is_kept (lookup (leaf_is (dir, child_of frag i nb)) cache.new.entries) ≡ true) }
     ensures left { Readies (λ (q : Leaf). q ≡ (dir, frag)) (S.objects store.old) cache.old cache.new }
     ensures none { OnErr result (KeepsNoMore cache.old cache.new) }
-    ensures refused { IfErr result (MayNotFind (LacksPlaces (2 ^ nb + 1) cache.old) (S.faults store.old) (S.faults store.new)) }
+    ensures others { KeepsButChildren dir frag nb cache.old cache.new }
+    ensures refused { IfErr result (MayNotFind (FixesAllBut (2 ^ nb + 1) cache.old) (S.faults store.old) (S.faults store.new)) }
     ensures same { S.objects store.new ≡ S.objects store.old }
     ensures grows { S.faults store.old ≤ S.faults store.new }
 {

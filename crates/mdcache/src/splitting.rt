@@ -14,6 +14,7 @@ ghost use Rattle.mdcache.specs.Regroups.{SplitsLeaf};
 ghost use Rattle.mdcache.specs.Splits.{without_objects};
 
 use crate::emptiness::is_cached_empty;
+use crate::kept_places::give_up;
 use crate::mdcache::{Counters, MdCache};
 use crate::regrouping::{check_counts, child_count, take_counts};
 use crate::split_parts::prepare_split;
@@ -63,6 +64,7 @@ impl<S: Store + Drop> MdCache<S> {
         ) {
             return Err(refusal);
         }
+        give_up(&mut self.cache, &mut self.kept);
         match prepare_split(
             alloc,
             &mut self.dirs,

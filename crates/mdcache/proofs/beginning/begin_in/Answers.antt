@@ -1,3 +1,4 @@
+use Rattle.mdcache.proofs.KeptPlaces.{changed_no_more}
 use Rattle.mdcache.proofs.Steps.{use_keeps}
 use Rattle.mdcache.proofs.beginning.begin_in.Goals as goal
 
@@ -12,3 +13,15 @@ returns-in_err-try_clone-clause-cached c = use_keeps (c.args.dir, c.args.frag) c
 
 pub returns-clause-cached : goal.returns-clause-cached
 returns-clause-cached c = use_keeps (c.args.dir, c.args.frag) c.args.cache.now _ c.begin_commit.ensures.used
+
+pub returns-in_err-snapshot-clause-places : goal.returns-in_err-snapshot-clause-places
+returns-in_err-snapshot-clause-places c = changed_no_more _ (c.args.dir, c.args.frag) c.args.cache.now _ c.begin_commit.ensures.used
+
+pub returns-in_err-reserve-clause-places : goal.returns-in_err-reserve-clause-places
+returns-in_err-reserve-clause-places c = changed_no_more _ (c.args.dir, c.args.frag) c.args.cache.now _ c.begin_commit.ensures.used
+
+pub returns-in_err-try_clone-clause-places : goal.returns-in_err-try_clone-clause-places
+returns-in_err-try_clone-clause-places c = changed_no_more _ (c.args.dir, c.args.frag) c.args.cache.now _ c.begin_commit.ensures.used
+
+pub returns-clause-places : goal.returns-clause-places
+returns-clause-places c = changed_no_more _ (c.args.dir, c.args.frag) c.args.cache.now _ c.begin_commit.ensures.used

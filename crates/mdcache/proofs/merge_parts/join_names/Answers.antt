@@ -1,4 +1,4 @@
-use Rattle.std.proofs.Common.{◌≡◌, ℕ, List, Option, None, refl, sym, ap, subst, ◌∙◌}
+use Rattle.std.proofs.Common.{◌≡◌, ℕ, List, Option, None, inl, refl, sym, ap, subst, ◌∙◌}
 use Rattle.std.specs.List.{Contains}
 use Rattle.std.specs.FinMap as map
 use Rattle.std.specs.FinMap.{get-empty}
@@ -10,6 +10,7 @@ use Rattle.mdcache.specs.Going.{leaves_in}
 use Rattle.mdcache.specs.Joining.{name_joined}
 use Rattle.mdcache.specs.Shown.{names_of}
 use Rattle.mdcache.proofs.JoinLaws.{lacks_before, still_none}
+use Rattle.mdcache.proofs.KeptPlaces.{most_on}
 use Rattle.mdcache.proofs.ReadyLaws.{readies_on, reads_ready, thin_ready}
 use Rattle.mdcache.proofs.merge_parts.join_names.Goals as goal
 
@@ -50,3 +51,12 @@ returns-in-Err-keep_place-clause-none g c = λ q kept. c.in_default.ensures.none
 pub returns-in-Err-keep_place-clause-refused : goal.returns-in-Err-keep_place-clause-refused
 returns-in-Err-keep_place-clause-refused g c =
     lacks_before (Contains (leaves_in c.args.dir c.args.leaves.now)) (g.S.Store.objects c.args.store.now) _ _ c.args.cache.now c.join_leaves.new.cache c.in-Err-keep_place.refusal c.in_default.ensures.reads c.in-Err-keep_place.ensures.refused
+
+pub returns-in-Err-clause-most : goal.returns-in-Err-clause-most
+returns-in-Err-clause-most g c = λ q kept. inl (c.in-Err.ensures.none q kept)
+
+pub returns-in-Ok-clause-most : goal.returns-in-Ok-clause-most
+returns-in-Ok-clause-most g c = most_on (c.args.dir, c.args.frag) c.args.cache.now c.join_leaves.new.cache c.keep_place.new.cache c.in_default.ensures.none c.in-Ok.ensures.most
+
+pub returns-in-Err-keep_place-clause-most : goal.returns-in-Err-keep_place-clause-most
+returns-in-Err-keep_place-clause-most g c = most_on (c.args.dir, c.args.frag) c.args.cache.now c.join_leaves.new.cache c.keep_place.new.cache c.in_default.ensures.none c.in-Err-keep_place.ensures.most

@@ -3,7 +3,8 @@ use Rattle.std.specs.Map.{lookup}
 use Rattle.dentry_cache.specs.Cache.{is_kept, leaf_is, unsaved_in}
 use Rattle.dentry_cache.proofs.CacheLaws.{unsaved_alike}
 use Rattle.mdcache.proofs.FreedLaws.{released}
-use Rattle.mdcache.proofs.JoinLaws.{after_keeps, keep_from, keep_lacks, keep_none}
+use Rattle.mdcache.proofs.JoinLaws.{after_keeps, keep_from, keep_lacks, keep_most, keep_none}
+use Rattle.mdcache.proofs.KeptPlaces.{most_on}
 use Rattle.std.proofs.lemmas.Result.{on_ok_weaker}
 use Rattle.mdcache.proofs.ReadyLaws.{not_there}
 use Rattle.mdcache.proofs.merge_parts.keep_place.Goals as goal
@@ -30,3 +31,6 @@ returns-clause-none c =
 pub returns-clause-refused : goal.returns-clause-refused
 returns-clause-refused c =
     keep_lacks c.keep.result c.args.cache.now c.release.new.cache (released (c.args.dir, c.args.frag) c.args.cache.now c.release.new.cache c.release.ensures.reads c.release.ensures.cached c.release.ensures.kept) c.keep.ensures.refused
+
+pub returns-clause-most : goal.returns-clause-most
+returns-clause-most c = most_on (c.args.dir, c.args.frag) c.args.cache.now c.release.new.cache c.keep.new.self c.release.ensures.kept (keep_most (c.args.dir, c.args.frag) c.release.new.cache c.keep.new.self c.keep.ensures.leaves)

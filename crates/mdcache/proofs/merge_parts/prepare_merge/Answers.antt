@@ -1,4 +1,4 @@
-use Rattle.std.proofs.Common.{List, sym, ap, subst, ◌∙◌}
+use Rattle.std.proofs.Common.{List, inl, sym, ap, subst, ◌∙◌}
 use Rattle.std.specs.List.{Contains}
 use Rattle.std.specs.Prelude.{map as each}
 use Rattle.fragtree.specs.FragTree.{leaves_inside}
@@ -16,3 +16,6 @@ join_names-requires-clause-apart g c =
 
 pub returns-in-Err-clause-left : goal.returns-in-Err-clause-left
 returns-in-Err-clause-left g c = readies_itself (Contains (each (in_directory c.args.dir.0) (leaves_inside c.args.frag (leaves_of c.args.dirs.now.trees c.args.dir.0)))) (g.S.Store.objects c.args.store.now) c.args.cache.now
+
+pub returns-in-Err-clause-most : goal.returns-in-Err-clause-most
+returns-in-Err-clause-most g c = λ q kept. inl kept

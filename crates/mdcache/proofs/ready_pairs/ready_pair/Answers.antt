@@ -5,8 +5,9 @@ use Rattle.dentry_cache.specs.Cache.{Leaf, cached}
 use Rattle.dentry_cache.specs.Loading.{object_of}
 use Rattle.mdcache.specs.Ready.{Readies}
 use Rattle.mdcache.specs.Sound.{IsSaved}
-use Rattle.mdcache.proofs.ReadyLaws.{map_if_err, readies_on, two_fit}
-use Rattle.mdcache.proofs.ReadyPairs.{readies_wider, second_refused}
+use Rattle.mdcache.proofs.ReadLaws.{fixes_on}
+use Rattle.mdcache.proofs.ReadyLaws.{map_if_err, read_refused, readies_on, second_refused, two_fit}
+use Rattle.mdcache.proofs.ReadyPairs.{readies_wider}
 use Rattle.mdcache.proofs.ready_pairs.ready_pair.Goals as goal
 
 pub ready_beside-requires-clause-saved : goal.ready_beside-requires-clause-saved
@@ -30,8 +31,14 @@ returns-clause-left g c =
     (readies_wider (λ (q : Leaf). q ≡ (c.args.to, c.args.target)) May objects c.ready_leaf.new.cache c.ready_beside.new.cache (λ q is. inr is)
     (subst (λ (o : Objects). Readies (λ (q : Leaf). q ≡ (c.args.to, c.args.target)) o c.ready_leaf.new.cache c.ready_beside.new.cache) c.in_default.ensures.same c.ready_beside.ensures.left))
 
+pub returns-in-Err-clause-refused : goal.returns-in-Err-clause-refused
+returns-in-Err-clause-refused g c = read_refused (g.S.Store.faults c.args.store.now) (g.S.Store.faults c.ready_leaf.new.store) c.args.cache.now c.in-Err.refusal c.in-Err.ensures.refused
+
+pub returns-clause-fixes : goal.returns-clause-fixes
+returns-clause-fixes g c = fixes_on c.args.cache.now c.ready_leaf.new.cache c.ready_beside.new.cache c.in_default.ensures.fixes c.ready_beside.ensures.fixes
+
 pub returns-clause-refused : goal.returns-clause-refused
 returns-clause-refused g c =
     map_if_err c.ready_beside.result
-    (λ reason because. second_refused (c.args.from, c.args.source) (g.S.Store.faults c.args.store.now) (g.S.Store.faults c.ready_leaf.new.store) (g.S.Store.faults c.ready_beside.new.store) c.args.cache.now c.ready_beside.new.cache reason c.in_default.ensures.grows because)
+    (λ reason because. second_refused (g.S.Store.faults c.args.store.now) (g.S.Store.faults c.ready_leaf.new.store) (g.S.Store.faults c.ready_beside.new.store) c.args.cache.now c.ready_leaf.new.cache reason c.in_default.ensures.grows c.in_default.ensures.fixes because)
     c.ready_beside.ensures.refused

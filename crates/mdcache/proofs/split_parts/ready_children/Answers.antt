@@ -2,7 +2,7 @@ use Rattle.std.proofs.Common.{◌≡◌, ap}
 use Rattle.mds_types.specs.Frag.{child_of}
 use Rattle.dentry_cache.specs.Cache.{is_kept}
 use Rattle.std.proofs.lemmas.Result.{on_ok_weaker}
-use Rattle.mdcache.proofs.ReadyChildren.{children_dropped, children_ready, children_refused, no_place}
+use Rattle.mdcache.proofs.ReadyChildren.{children_dropped, children_others, children_ready, children_refused, no_place}
 use Rattle.mdcache.proofs.split_parts.ready_children.Goals as goal
 
 pub ready_split-requires-clause-made : goal.ready_split-requires-clause-made
@@ -29,3 +29,8 @@ pub returns-clause-refused : goal.returns-clause-refused
 returns-clause-refused g c =
     children_refused c.args.dir c.args.frag c.args.nb (g.S.Store.objects c.args.store.now) c.args.cache.now c.release_places.new.cache c.ready_split.new.self c.release_places.ensures.left c.ready_split.ensures.leaves
     c.ready_split.result (g.S.Store.faults c.args.store.now) (g.S.Store.faults c.ready_split.new.store) c.requires.saved c.ready_split.ensures.refused
+
+pub returns-clause-others : goal.returns-clause-others
+returns-clause-others g c =
+    children_others c.args.dir c.args.frag c.args.nb (g.S.Store.objects c.args.store.now) c.args.cache.now c.release_places.new.cache c.ready_split.new.self c.release_places.ensures.left c.ready_split.ensures.leaves
+    c.ready_split.result c.ready_split.ensures.found c.ready_split.ensures.left

@@ -7,22 +7,25 @@ use Rattle.mdcache.specs.Made.{IsRight}
 use Rattle.mdcache.specs.Shown.{shown_tree}
 use Rattle.mdcache.proofs.AddSteps.{file_made, file_right}
 use Rattle.mdcache.proofs.PutSteps.{put_kept}
+use Rattle.mdcache.proofs.KeptPlaces.{changed_no_more, only_on}
 use Rattle.mdcache.proofs.mdcache.MdCache.add_file.Goals as goal
 
 pub returns-clause-made : goal.returns-clause-made
 returns-clause-made g c =
     let may = subst (λ (v : Core). MayChange (shown_tree v.state) v.state.covers (Add c.args.dentry c.args.leaf c.args.inode)) (sym c.self.view_is) c.requires.may in
     subst (λ (v : Core). Makes (Add c.args.dentry c.args.leaf c.args.inode) v.state (state_of c.self.inside.dirs c.put.new.self (g.S.Store.objects c.self.inside.store) c.self.inside.jobs c.self.inside.purge (record { job = c.self.inside.next.job; generation = c.self.inside.next.generation; version = c.self.inside.next.version + 1 }))) c.self.view_is
-    (file_made c.self.inside.dirs c.self.inside.cache (g.S.Store.objects c.self.inside.store) c.self.inside.jobs c.self.inside.purge c.self.inside.next c.self.invariant c.args.dentry c.args.leaf c.args.inode may c.has_64_bits.ensures c.put.new.self c.put.ensures c.requires.file)
+    (file_made c.self.inside.dirs c.self.inside.cache (g.S.Store.objects c.self.inside.store) c.self.inside.jobs c.self.inside.purge c.self.inside.next c.self.invariant.0 c.args.dentry c.args.leaf c.args.inode may c.has_64_bits.ensures c.put.new.self c.put.ensures c.requires.file)
 
 pub invariant_of-self : goal.invariant_of-self
 invariant_of-self g c =
-    let may = subst (λ (v : Core). MayChange (shown_tree v.state) v.state.covers (Add c.args.dentry c.args.leaf c.args.inode)) (sym c.self.view_is) c.requires.may in
-    put_kept c.self.inside.dirs c.self.inside.cache (g.S.Store.objects c.self.inside.store) c.self.inside.jobs c.self.inside.purge c.self.inside.next c.self.invariant.live c.self.invariant.tied c.self.invariant.made (c.args.dentry.dir, c.args.leaf) c.args.dentry.name (Some c.args.inode) c.put.new.self c.put.ensures
-    (file_right c.self.inside.dirs c.self.inside.cache (g.S.Store.objects c.self.inside.store) c.self.inside.jobs c.self.inside.purge c.self.inside.next c.self.invariant c.args.dentry c.args.leaf c.args.inode may c.has_64_bits.ensures c.put.new.self c.put.ensures c.requires.file).sound
+    let may = subst (λ (v : Core). MayChange (shown_tree v.state) v.state.covers (Add c.args.dentry c.args.leaf c.args.inode)) (sym c.self.view_is) c.requires.may in (
+      put_kept c.self.inside.dirs c.self.inside.cache (g.S.Store.objects c.self.inside.store) c.self.inside.jobs c.self.inside.purge c.self.inside.next c.self.invariant.0.live c.self.invariant.0.tied c.self.invariant.0.made (c.args.dentry.dir, c.args.leaf) c.args.dentry.name (Some c.args.inode) c.put.new.self c.put.ensures
+          (file_right c.self.inside.dirs c.self.inside.cache (g.S.Store.objects c.self.inside.store) c.self.inside.jobs c.self.inside.purge c.self.inside.next c.self.invariant.0 c.args.dentry c.args.leaf c.args.inode may c.has_64_bits.ensures c.put.new.self c.put.ensures c.requires.file).sound,
+      only_on c.self.inside.kept c.self.inside.cache c.put.new.self c.self.invariant.1 (changed_no_more _ (c.args.dentry.dir, c.args.leaf) c.self.inside.cache c.put.new.self c.put.ensures),
+    )
 
 pub returns-clause-right : goal.returns-clause-right
 returns-clause-right g c =
     let may = subst (λ (v : Core). MayChange (shown_tree v.state) v.state.covers (Add c.args.dentry c.args.leaf c.args.inode)) (sym c.self.view_is) c.requires.may in
     subst (λ (v : Core). IsRight (Add c.args.dentry c.args.leaf c.args.inode) v.state (state_of c.self.inside.dirs c.put.new.self (g.S.Store.objects c.self.inside.store) c.self.inside.jobs c.self.inside.purge (record { job = c.self.inside.next.job; generation = c.self.inside.next.generation; version = c.self.inside.next.version + 1 }))) c.self.view_is
-    (file_right c.self.inside.dirs c.self.inside.cache (g.S.Store.objects c.self.inside.store) c.self.inside.jobs c.self.inside.purge c.self.inside.next c.self.invariant c.args.dentry c.args.leaf c.args.inode may c.has_64_bits.ensures c.put.new.self c.put.ensures c.requires.file)
+    (file_right c.self.inside.dirs c.self.inside.cache (g.S.Store.objects c.self.inside.store) c.self.inside.jobs c.self.inside.purge c.self.inside.next c.self.invariant.0 c.args.dentry c.args.leaf c.args.inode may c.has_64_bits.ensures c.put.new.self c.put.ensures c.requires.file)

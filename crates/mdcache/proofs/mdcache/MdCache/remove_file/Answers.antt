@@ -6,21 +6,24 @@ use Rattle.mdcache.specs.Changes.{Makes}
 use Rattle.mdcache.specs.Made.{IsRight}
 use Rattle.mdcache.specs.Shown.{shown_tree}
 use Rattle.mdcache.proofs.PutSteps.{erased_made, erased_right, put_kept}
+use Rattle.mdcache.proofs.KeptPlaces.{changed_no_more, only_on}
 use Rattle.mdcache.proofs.mdcache.MdCache.remove_file.Goals as goal
 
 pub returns-clause-made : goal.returns-clause-made
 returns-clause-made g c =
     subst (λ (v : Core). Makes (Remove c.args.dentry c.args.leaf None) v.state (state_of c.self.inside.dirs c.erase.new.self (g.S.Store.objects c.self.inside.store) c.self.inside.jobs c.self.inside.purge (record { job = c.self.inside.next.job; generation = c.self.inside.next.generation; version = c.self.inside.next.version + 1 }))) c.self.view_is
-    (erased_made c.self.inside.dirs c.self.inside.cache (g.S.Store.objects c.self.inside.store) c.self.inside.jobs c.self.inside.purge c.self.inside.next c.self.invariant c.args.dentry c.args.leaf c.erase.new.self c.erase.ensures)
+    (erased_made c.self.inside.dirs c.self.inside.cache (g.S.Store.objects c.self.inside.store) c.self.inside.jobs c.self.inside.purge c.self.inside.next c.self.invariant.0 c.args.dentry c.args.leaf c.erase.new.self c.erase.ensures)
 
 pub invariant_of-self : goal.invariant_of-self
 invariant_of-self g c =
-    let may = subst (λ (v : Core). MayChange (shown_tree v.state) v.state.covers (Remove c.args.dentry c.args.leaf None)) (sym c.self.view_is) c.requires.may in
-    put_kept c.self.inside.dirs c.self.inside.cache (g.S.Store.objects c.self.inside.store) c.self.inside.jobs c.self.inside.purge c.self.inside.next c.self.invariant.live c.self.invariant.tied c.self.invariant.made (c.args.dentry.dir, c.args.leaf) c.args.dentry.name None c.erase.new.self c.erase.ensures
-    (erased_right c.self.inside.dirs c.self.inside.cache (g.S.Store.objects c.self.inside.store) c.self.inside.jobs c.self.inside.purge c.self.inside.next c.self.invariant c.args.dentry c.args.leaf c.erase.new.self c.erase.ensures may).sound
+    let may = subst (λ (v : Core). MayChange (shown_tree v.state) v.state.covers (Remove c.args.dentry c.args.leaf None)) (sym c.self.view_is) c.requires.may in (
+      put_kept c.self.inside.dirs c.self.inside.cache (g.S.Store.objects c.self.inside.store) c.self.inside.jobs c.self.inside.purge c.self.inside.next c.self.invariant.0.live c.self.invariant.0.tied c.self.invariant.0.made (c.args.dentry.dir, c.args.leaf) c.args.dentry.name None c.erase.new.self c.erase.ensures
+          (erased_right c.self.inside.dirs c.self.inside.cache (g.S.Store.objects c.self.inside.store) c.self.inside.jobs c.self.inside.purge c.self.inside.next c.self.invariant.0 c.args.dentry c.args.leaf c.erase.new.self c.erase.ensures may).sound,
+      only_on c.self.inside.kept c.self.inside.cache c.erase.new.self c.self.invariant.1 (changed_no_more _ (c.args.dentry.dir, c.args.leaf) c.self.inside.cache c.erase.new.self c.erase.ensures),
+    )
 
 pub returns-clause-right : goal.returns-clause-right
 returns-clause-right g c =
     let may = subst (λ (v : Core). MayChange (shown_tree v.state) v.state.covers (Remove c.args.dentry c.args.leaf None)) (sym c.self.view_is) c.requires.may in
     subst (λ (v : Core). IsRight (Remove c.args.dentry c.args.leaf None) v.state (state_of c.self.inside.dirs c.erase.new.self (g.S.Store.objects c.self.inside.store) c.self.inside.jobs c.self.inside.purge (record { job = c.self.inside.next.job; generation = c.self.inside.next.generation; version = c.self.inside.next.version + 1 }))) c.self.view_is
-    (erased_right c.self.inside.dirs c.self.inside.cache (g.S.Store.objects c.self.inside.store) c.self.inside.jobs c.self.inside.purge c.self.inside.next c.self.invariant c.args.dentry c.args.leaf c.erase.new.self c.erase.ensures may)
+    (erased_right c.self.inside.dirs c.self.inside.cache (g.S.Store.objects c.self.inside.store) c.self.inside.jobs c.self.inside.purge c.self.inside.next c.self.invariant.0 c.args.dentry c.args.leaf c.erase.new.self c.erase.ensures may)

@@ -7,8 +7,9 @@ use Rattle.mds_types.specs.declared.refusals.Refusal.{Refusal}
 use Rattle.dentry_cache.specs.Cache.{Leaf}
 use Rattle.namespace_ops.specs.Reasons.{IsOfFragments}
 use Rattle.mdcache.specs.Cached.{Core}
-use Rattle.mdcache.specs.Frags.{KeepsState, LacksFor, LacksPlaces, MayRefuse}
+use Rattle.mdcache.specs.Frags.{KeepsState, LacksFor, MayRefuse}
 use Rattle.mdcache.specs.Made.{IsUntouched, StaysAsItIs}
+use Rattle.mdcache.specs.Reads.{LacksPlaces}
 use Rattle.mdcache.specs.Shown.{names_of}
 use Rattle.mdcache.specs.State.{IsLive, State}
 
@@ -34,19 +35,15 @@ untouched_on a b c leaf p q live =
     let second = q first.live in
     record { live = second.live; names = second.names ∙ first.names }
 
--- places that lack, lacked before
-pub lacked_before : (a b : Core) → KeepsState a b → LacksPlaces 4 b → LacksPlaces 4 a
-lacked_before a b kept lacks =
-    let cap = kept.cap in
-    let count = ap (λ (s : State). map.len s.unsaved) kept.state in
-    omega (arith, cap, count, lacks)
-
 pub refused_later : (a b c : Core) (op : Op) (reason : Refusal) → KeepsState a b → MayRefuse b c op reason → MayRefuse a c op reason
 refused_later a b c op reason kept (inl memory) = inl memory
 refused_later a b c op reason kept (inr (inl (is, rose))) =
     let grows = kept.grows in
     inr (inl (is, omega (arith, grows, rose)))
-refused_later a b c op reason kept (inr (inr (inl (is, lacks)))) = inr (inr (inl (is, lacked_before a b kept lacks)))
+refused_later a b c op reason kept (inr (inr (inl (is, lacks)))) =
+    let cap = kept.cap in
+    let count = ap (λ (s : State). map.len s.unsaved) kept.state in
+    inr (inr (inl (is, omega (arith, cap, count, lacks))))
 refused_later a b c op reason kept (inr (inr (inr (is, lacks)))) = inr (inr (inr (is, subst (λ (s : State). LacksFor op s) kept.state lacks)))
 
 pub refused_so : (a b : Core) (op : Op) (reason : Refusal) → MayRefuse a b op reason → IsOfFragments reason
