@@ -4,6 +4,7 @@ mod commits;
 mod counting_stores;
 mod fetches;
 mod fixtures;
+mod gathering;
 mod orders;
 mod refused_growths;
 mod splits;

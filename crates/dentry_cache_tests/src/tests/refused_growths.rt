@@ -1,6 +1,7 @@
 //! A script of calls with each growth refused in turn: a refused call leaves what was there, and then succeeds.
 
 use crate::tests::fixtures::{DIR, cache, commit, erase, files, give_names, make, mode_of, put};
+use crate::tests::gathering::gather_halves;
 use crate::tests::splitting::{merge, split};
 use dentry_cache::Cache;
 use mds_types::{Frag, Ino};
@@ -19,6 +20,7 @@ enum Call {
     Give(u64),
     Split(u64),
     Merge(u64),
+    Gather(u64),
 }
 
 // The directory whose fragment takes the names of the first one.
@@ -90,6 +92,7 @@ fn does(alloc: Global, cache: &mut Cache, store: &mut MemStore, call: Call) -> b
         Call::Give(version) => give_names(alloc, cache, DIR, INTO, version),
         Call::Split(version) => split(alloc, cache, store, INTO, Frag::ROOT, 1, version),
         Call::Merge(version) => merge(alloc, cache, INTO, version),
+        Call::Gather(version) => gather_halves(alloc, cache, store, INTO, version),
     }
 }
 
@@ -100,7 +103,7 @@ fn is_left_or_done(alloc: Global, cache: &mut Cache, store: &mut MemStore, call:
         || shown_all(alloc, cache) == before && does(alloc, cache, store, call)
 }
 
-const SCRIPT: [Call; 18] = [
+const SCRIPT: [Call; 21] = [
     Call::Make,
     Call::Put(0, 0o644, 1),
     Call::Put(1, 0o644, 2),
@@ -119,6 +122,9 @@ const SCRIPT: [Call; 18] = [
     Call::Merge(8),
     Call::Commit(INTO),
     Call::Fetch(INTO),
+    Call::Split(9),
+    Call::Gather(10),
+    Call::Commit(INTO),
 ];
 
 // Whether each call of the script is left or done.

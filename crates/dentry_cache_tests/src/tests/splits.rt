@@ -1,6 +1,7 @@
 //! Fragments split, and merged back. The low 24 bits of the hashes of a, b, c and d are eec818, aca597, a4bedb and 2f4a94.
 
-use crate::tests::fixtures::{DIR, cache, file, files, has_room, is_there, make, reserve};
+use crate::tests::fixtures::{DIR, cache, commit, file, files, has_room, is_there, make, reserve};
+use crate::tests::gathering::gather_halves;
 use crate::tests::splitting::{merge, split};
 use dentry_cache::Cache;
 use dirfrag_codec::is_recordable;
@@ -130,6 +131,41 @@ fn a_fault_leaves_nothing_split(rt: HostRuntime) {
     let mut store = FaultStore::new(MemStore::new(rt.alloc()), 1);
     match cache(rt.alloc()) {
         Some(mut cache) => assert!(rt; is_refused(rt.alloc(), &mut cache, &mut store)),
+        None => assert!(rt; false),
+    }
+}
+
+// How many names of the whole directory are dirty.
+fn dirty(cache: &Cache) -> Option<usize> {
+    match cache.get(DIR, Frag::ROOT) {
+        Some(fragment) => Some(fragment.dirty().len()),
+        None => None,
+    }
+}
+
+// Splits the directory in two, of which the upper one goes, and gathers both.
+fn is_split_and_gathered(alloc: Global, cache: &mut Cache, store: &mut MemStore) -> bool {
+    let Some(high) = Frag::ROOT.child(1, 1) else {
+        return false;
+    };
+    split(alloc, cache, store, DIR, Frag::ROOT, 1, 2)
+        && commit(alloc, cache, store, DIR, high)
+        && cache.evict() == Ok(())
+        && gather_halves(alloc, cache, store, DIR, 3)
+        && cache.len() == 1
+        && dirty(cache) == Some(4)
+        && seen(alloc, cache, 0, 0) == (Some(4), ALL)
+        && cache.evict() == Err(Refusal::NothingToEvict)
+}
+
+#[test]
+fn clean_and_dirty_names_are_gathered(rt: HostRuntime) {
+    let mut store = MemStore::new(rt.alloc());
+    match cache(rt.alloc()) {
+        Some(mut cache) => {
+            assert!(rt; four(rt.alloc(), &mut cache));
+            assert!(rt; is_split_and_gathered(rt.alloc(), &mut cache, &mut store));
+        }
         None => assert!(rt; false),
     }
 }

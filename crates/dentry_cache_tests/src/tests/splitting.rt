@@ -134,8 +134,8 @@ fn joins(
     }
 }
 
-// Fills the place that is kept for the whole of a directory.
-fn fills(cache: &mut Cache, dir: Ino, made: CachedFrag) -> bool {
+/// Fills the place that is kept for the whole of a directory.
+pub fn fills(cache: &mut Cache, dir: Ino, made: CachedFrag) -> bool {
     if !cache.is_kept(dir, Frag::ROOT) {
         return false;
     }
