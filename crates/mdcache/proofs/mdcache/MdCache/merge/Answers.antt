@@ -38,9 +38,9 @@ prepare_merge-requires-clause-absent g c =
 pub invariant_of-self : goal.invariant_of-self
 invariant_of-self g c =
     let e = c.in-Err-prepare_merge.ensures in (
-    undone_kept c.self.inside.dirs c.give_up.new.cache (g.S.Store.objects c.self.inside.store) c.self.inside.jobs c.self.inside.purge c.self.inside.next (given_kept c.self.inside.dirs c.self.inside.cache (g.S.Store.objects c.self.inside.store) c.self.inside.jobs c.self.inside.purge c.self.inside.next c.self.invariant.0 c.give_up.new.cache (c.give_up.ensures.reads (g.S.Store.objects c.self.inside.store))) c.args.dir c.args.frag (sym c.contains.ensures.known ∙ c.if-not-contains.false) c.in_default.ensures.can
-    c.prepare_merge.new.dirs e.homes e.trees c.prepare_merge.new.cache (g.S.Store.objects c.prepare_merge.new.store) e.same e.left c.prepare_merge.new.purge e.names,
-    none_only c.give_up.new.kept c.prepare_merge.new.cache.entries (none_on c.give_up.new.cache c.prepare_merge.new.cache c.give_up.ensures.none e.none),
+      undone_kept c.self.inside.dirs c.give_up.new.cache (g.S.Store.objects c.self.inside.store) c.self.inside.jobs c.self.inside.purge c.self.inside.next (given_kept c.self.inside.dirs c.self.inside.cache (g.S.Store.objects c.self.inside.store) c.self.inside.jobs c.self.inside.purge c.self.inside.next c.self.invariant.0 c.give_up.new.cache (c.give_up.ensures.reads (g.S.Store.objects c.self.inside.store))) c.args.dir c.args.frag (sym c.contains.ensures.known ∙ c.if-not-contains.false) c.in_default.ensures.can
+          c.prepare_merge.new.dirs e.homes e.trees c.prepare_merge.new.cache (g.S.Store.objects c.prepare_merge.new.store) e.same e.left c.prepare_merge.new.purge e.names,
+      none_only c.give_up.new.kept c.prepare_merge.new.cache.entries (none_on c.give_up.new.cache c.prepare_merge.new.cache c.give_up.ensures.none e.none),
     )
 
 pub commit_merge-requires-clause-apart : goal.commit_merge-requires-clause-apart
@@ -52,14 +52,14 @@ invariant_of-self-in-Ok g c =
     let e = c.in-Ok.ensures in
     let d = c.commit_merge.ensures in
     let put = d.places in (
-    made_kept c.self.inside.dirs c.give_up.new.cache (g.S.Store.objects c.self.inside.store) c.self.inside.jobs c.self.inside.purge c.self.inside.next (given_kept c.self.inside.dirs c.self.inside.cache (g.S.Store.objects c.self.inside.store) c.self.inside.jobs c.self.inside.purge c.self.inside.next c.self.invariant.0 c.give_up.new.cache (c.give_up.ensures.reads (g.S.Store.objects c.self.inside.store))) c.args.dir c.args.frag (sym c.contains.ensures.known ∙ c.if-not-contains.false) c.in_default.ensures.can
-    c.prepare_merge.new.dirs e.homes e.trees c.prepare_merge.new.cache (g.S.Store.objects c.prepare_merge.new.store) e.same e.left c.prepare_merge.new.purge e.names
-    c.in-Ok.merge.cover e.merged e.whole c.in-Ok.merge.joined e.fresh e.numbered e.dirty c.commit_merge.new.dirs d.homes d.trees
-    c.commit_merge.new.cache (subst (λ ls. IsPutInPlace ls (c.args.dir, c.args.frag) c.in-Ok.merge.joined c.prepare_merge.new.cache c.commit_merge.new.cache) e.leaves d.places)
-    c.commit_merge.new.jobs (d.jobs ∙ ap (without_leaves c.self.inside.jobs.jobs) e.leaves)
-    c.commit_merge.new.purge (d.listed ∙ (λ i. map.remove (with_objects c.prepare_merge.new.purge.names (e.texts i)) (e.object i))) c.commit_merge.new.next d.job d.generation d.named,
-    none_only c.give_up.new.kept c.commit_merge.new.cache.entries (filled_none (Some (c.args.dir, c.args.frag)) (c.args.dir, c.args.frag) c.in-Ok.merge.joined c.prepare_merge.new.cache put.0 c.commit_merge.new.cache
-    (one_only (c.args.dir, c.args.frag) c.give_up.new.cache c.prepare_merge.new.cache c.give_up.ensures.none e.most) e.place (forgotten_no_more _ c.prepare_merge.new.cache put.0 put.1) put.2),
+      made_kept c.self.inside.dirs c.give_up.new.cache (g.S.Store.objects c.self.inside.store) c.self.inside.jobs c.self.inside.purge c.self.inside.next (given_kept c.self.inside.dirs c.self.inside.cache (g.S.Store.objects c.self.inside.store) c.self.inside.jobs c.self.inside.purge c.self.inside.next c.self.invariant.0 c.give_up.new.cache (c.give_up.ensures.reads (g.S.Store.objects c.self.inside.store))) c.args.dir c.args.frag (sym c.contains.ensures.known ∙ c.if-not-contains.false) c.in_default.ensures.can
+          c.prepare_merge.new.dirs e.homes e.trees c.prepare_merge.new.cache (g.S.Store.objects c.prepare_merge.new.store) e.same e.left c.prepare_merge.new.purge e.names
+          c.in-Ok.merge.cover e.merged e.whole c.in-Ok.merge.joined e.fresh e.numbered e.dirty c.commit_merge.new.dirs d.homes d.trees
+          c.commit_merge.new.cache (subst (λ ls. IsPutInPlace ls (c.args.dir, c.args.frag) c.in-Ok.merge.joined c.prepare_merge.new.cache c.commit_merge.new.cache) e.leaves d.places)
+          c.commit_merge.new.jobs (d.jobs ∙ ap (without_leaves c.self.inside.jobs.jobs) e.leaves)
+          c.commit_merge.new.purge (d.listed ∙ (λ i. map.remove (with_objects c.prepare_merge.new.purge.names (e.texts i)) (e.object i))) c.commit_merge.new.next d.job d.generation d.named,
+      none_only c.give_up.new.kept c.commit_merge.new.cache.entries (filled_none (Some (c.args.dir, c.args.frag)) (c.args.dir, c.args.frag) c.in-Ok.merge.joined c.prepare_merge.new.cache put.0 c.commit_merge.new.cache
+          (one_only (c.args.dir, c.args.frag) c.give_up.new.cache c.prepare_merge.new.cache c.give_up.ensures.none e.most) e.place (forgotten_no_more _ c.prepare_merge.new.cache put.0 put.1) put.2),
     )
 
 pub returns-in-Ok-clause-merged : goal.returns-in-Ok-clause-merged
@@ -86,10 +86,14 @@ returns-in-Err-prepare_merge-clause-merged g c =
     let some : c.self.inside.next.generation + 1 < 2 ^ 64 = search rules in
     let one : c.self.inside.next.version < 2 ^ 64 - 1 = search rules in
     subst (λ (v : Core). MergesLeaves v (record { state = state_of c.prepare_merge.new.dirs c.prepare_merge.new.cache (g.S.Store.objects c.prepare_merge.new.store) c.self.inside.jobs c.prepare_merge.new.purge c.self.inside.next; cache = c.prepare_merge.new.cache; dirs_left = c.prepare_merge.new.dirs.room; purge_left = c.prepare_merge.new.purge.room; faults = g.S.Store.faults c.prepare_merge.new.store; prepared = c.self.inside.prepared }) c.args.dir c.args.frag (Err c.in-Err-prepare_merge.refusal)) c.self.view_is (
-      inr (inr (known, c.in_default.ensures.can, inr (
-        counts_left (1) c.self.inside.next.generation c.self.inside.next.version some one,
-        words_read (1) c.self.inside.cache c.give_up.new.cache (g.S.Store.faults c.self.inside.store) (g.S.Store.faults c.prepare_merge.new.store) reads.fixes.cap reads.unsaved c.give_up.ensures.fixed c.in-Err-prepare_merge.refusal e.refused,
-      ))),
+      inr (inr (
+        known,
+        c.in_default.ensures.can,
+        inr (
+          counts_left (1) c.self.inside.next.generation c.self.inside.next.version some one,
+          words_read (1) c.self.inside.cache c.give_up.new.cache (g.S.Store.faults c.self.inside.store) (g.S.Store.faults c.prepare_merge.new.store) reads.fixes.cap reads.unsaved c.give_up.ensures.fixed c.in-Err-prepare_merge.refusal e.refused,
+        ),
+      )),
       (
         λ i. record (state_of c.self.inside.dirs c.self.inside.cache (g.S.Store.objects c.self.inside.store) c.self.inside.jobs c.self.inside.purge c.self.inside.next) { homes = e.homes i; covers = e.trees i; unsaved = (e.left.unsaved ∙ reads.unsaved) i; objects = e.same i; purge = e.names i },
         no_more_on c.self.inside.cache c.give_up.new.cache c.prepare_merge.new.cache reads.fixes.kept e.none,
