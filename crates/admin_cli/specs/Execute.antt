@@ -17,7 +17,7 @@ use Rattle.cluster_core.specs.Splits.{ListsLeaves}
 use Rattle.script_text.specs.declared.commands.Command.{Command}
 use Rattle.script_text.specs.declared.commands.Command.TheVariants.{Operation, Request, Serve, History, Split, Merge, Leaves}
 use Rattle.script_output.specs.declared.lines.OutputLine.{OutputLine}
-use Rattle.script_output.specs.declared.lines.OutputLine.TheVariants.{Reply as ReplyLine, Queued, Nothing as NothingLine, Frags, History as HistoryLine, Refused, Errno}
+use Rattle.script_output.specs.declared.lines.OutputLine.TheVariants.{Reply as ReplyLine, Queued, Nothing as NothingLine, Frags, Job as JobLine, Object as ObjectLine, Objects as ObjectsLine, History as HistoryLine, Refused, Errno}
 use Rattle.admin_cli.specs.declared.commands.Admin.{Admin}
 
 -- one event led from a book to the next with this result, by all that the contract of a book's step says
@@ -85,6 +85,9 @@ ListsLine book dir (Refused refusal) = ListsLeaves book.core.state dir (Err refu
 ListsLine book dir (ReplyLine client tid place first reply) = ⊥
 ListsLine book dir Queued = ⊥
 ListsLine book dir NothingLine = ⊥
+ListsLine book dir (JobLine number) = ⊥
+ListsLine book dir (ObjectLine object) = ⊥
+ListsLine book dir (ObjectsLine names) = ⊥
 ListsLine book dir (HistoryLine entries) = ⊥
 ListsLine book dir (Errno errno) = ⊥
 
