@@ -1,5 +1,6 @@
 pub mod AddSteps
 pub mod CachedLaws
+pub mod CapLaws
 pub mod ChangeLaws
 pub mod ChildNames
 pub mod EmptyLaws

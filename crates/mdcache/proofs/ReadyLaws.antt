@@ -10,7 +10,7 @@ use Rattle.mds_types.specs.Tree.{is_directory}
 use Rattle.omap.specs.Omap.{Omap}
 use Rattle.objstore.specs.Objects.{Objects}
 use Rattle.cached_frag.specs.Cached.{Cached}
-use Rattle.dentry_cache.specs.Cache.{HasCached, HasRoom, Held, IsChanged, IsFull, IsThere, Leaf, MayMakeRoom, TakesPlace, cached, fragment_in, is_kept, kept_place, leaf_is, unsaved, without}
+use Rattle.dentry_cache.specs.Cache.{HasCached, HasRoom, Held, IsChanged, IsFull, IsThere, Leaf, MayMakeRoom, cached, fragment_in, is_kept, kept_place, leaf_is, unsaved, without}
 use Rattle.dentry_cache.specs.declared.cache.Place.{Place}
 use Rattle.dentry_cache.specs.Leaving.{IsLeft, LeavesBeside}
 use Rattle.dentry_cache.specs.Loading.{Loads, object_of}
@@ -33,7 +33,7 @@ use Rattle.mdcache.specs.State.{IsLive, State}
 use Rattle.mdcache.proofs.CachedLaws.{cached_after, keeps_unsaved, used_keeps, tied_but}
 use Rattle.mdcache.proofs.KeptPlaces.{beside_no_more, left_kept, no_more_same}
 use Rattle.mdcache.proofs.PlaceLaws.{full_fixes}
-use Rattle.mdcache.proofs.ReadLaws.{find_after, fixes_back, room_cap}
+use Rattle.mdcache.proofs.ReadLaws.{find_after, fixes_back}
 
 -- ---- one step after the other
 
@@ -143,12 +143,7 @@ module _ (first leaf : Leaf) (old new : Held) (left : LeavesBeside (Some leaf) f
       go true same = let clash : None ≡ Some f = sym (none_first r absent place room) ∙ ap (cached new.entries) (one_leaf first q same) ∙ is in absurd cc
       go false apart = beside (lookup (leaf_is q) old.entries) (left.left q apart)
 
-  -- the cap is as it was; no more places are kept where it is refused, and otherwise that one alone
-  pub keep_cap : {A E : Type 0} (r : Result A E) → OnOk r (TakesPlace (Some leaf) first kept_place old new) → OnErr r (MayMakeRoom (Some leaf) old new) → new.cap ≡ old.cap
-  keep_cap (Ok x) taken room = ap (λ (h : Held). h.cap) taken.2
-  keep_cap (Err e) taken (inl same) = ap (λ (h : Held). h.cap) same
-  keep_cap (Err e) taken (inr room) = room_cap (Some leaf) old new room
-
+  -- no more places are kept where it is refused, and otherwise that one alone
   pub keep_none : {A E : Type 0} (r : Result A E) → lookup (leaf_is first) old.entries ≡ None → OnErr r (MayMakeRoom (Some leaf) old new) → OnErr r (KeepsNoMore old new)
   keep_none (Ok x) absent room = tt
   keep_none (Err e) absent (inl same) = no_more_same old new same

@@ -29,6 +29,7 @@ impl<S: Store + Drop> MdCache<S> {
         requires recordable { IsRecordable inode }
         ensures made { Makes (Add dentry leaf inode) self.old.state self.new.state }
         ensures right { IsRight (Add dentry leaf inode) self.old.state self.new.state }
+        ensures cap { self.new.cache.cap ≡ self.old.cache.cap }
         ensures faults { self.new.faults ≡ self.old.faults }
     {
         has_64_bits(inode.ino);
@@ -62,6 +63,7 @@ impl<S: Store + Drop> MdCache<S> {
         requires object { object.now ≡ text_of (first_leaf inode.ino) }
         ensures made { Makes (Add dentry leaf inode) self.old.state self.new.state }
         ensures right { IsRight (Add dentry leaf inode) self.old.state self.new.state }
+        ensures cap { self.new.cache.cap ≡ self.old.cache.cap }
         ensures faults { self.new.faults ≡ self.old.faults }
     {
         has_64_bits(inode.ino);

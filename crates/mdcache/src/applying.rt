@@ -24,6 +24,7 @@ impl<S: Store + Drop> MdCache<S> {
         requires may { MayChange (shown_tree self.old.state) self.old.state.covers change }
         ensures made { Makes change self.old.state self.new.state }
         ensures right { IsRight change self.old.state self.new.state }
+        ensures cap { self.new.cache.cap ≡ self.old.cache.cap }
         ensures faults { self.new.faults ≡ self.old.faults }
     {
         match change {
@@ -54,6 +55,7 @@ impl<S: Store + Drop> MdCache<S> {
         requires may { MayChange (shown_tree self.old.state) self.old.state.covers (Add dentry leaf inode) }
         ensures made { Makes (Add dentry leaf inode) self.old.state self.new.state }
         ensures right { IsRight (Add dentry leaf inode) self.old.state self.new.state }
+        ensures cap { self.new.cache.cap ≡ self.old.cache.cap }
         ensures faults { self.new.faults ≡ self.old.faults }
     {
         if inode.kind.is_dir() {
@@ -70,6 +72,7 @@ impl<S: Store + Drop> MdCache<S> {
         requires may { MayChange (shown_tree self.old.state) self.old.state.covers (Add dentry leaf inode) }
         ensures made { Makes (Add dentry leaf inode) self.old.state self.new.state }
         ensures right { IsRight (Add dentry leaf inode) self.old.state self.new.state }
+        ensures cap { self.new.cache.cap ≡ self.old.cache.cap }
         ensures faults { self.new.faults ≡ self.old.faults }
     {
         let alloc = self.alloc;
@@ -87,6 +90,7 @@ impl<S: Store + Drop> MdCache<S> {
         requires may { MayChange (shown_tree self.old.state) self.old.state.covers (Remove dentry leaf gone) }
         ensures made { Makes (Remove dentry leaf gone) self.old.state self.new.state }
         ensures right { IsRight (Remove dentry leaf gone) self.old.state self.new.state }
+        ensures cap { self.new.cache.cap ≡ self.old.cache.cap }
         ensures faults { self.new.faults ≡ self.old.faults }
     {
         match self.take_prepared() {
@@ -109,6 +113,7 @@ impl<S: Store + Drop> MdCache<S> {
         requires may { MayChange (shown_tree self.old.state) self.old.state.covers (Move from source to target gone) }
         ensures made { Makes (Move from source to target gone) self.old.state self.new.state }
         ensures right { IsRight (Move from source to target gone) self.old.state self.new.state }
+        ensures cap { self.new.cache.cap ≡ self.old.cache.cap }
         ensures faults { self.new.faults ≡ self.old.faults }
     {
         match self.take_prepared() {

@@ -26,6 +26,7 @@ impl<S: Store + Drop> MdCache<S> {
     /// number is left for the job or for the version that the commit writes, and `NoMemory`.
     pub fn begin(&mut self, dir: Ino, frag: Frag) -> Result<Option<Job>, Refusal>
         ensures begun { Begins self.old.state self.new.state (dir, frag) result }
+        ensures cap { self.new.cache.cap ≡ self.old.cache.cap }
         ensures faults { self.new.faults ≡ self.old.faults }
     {
         if !is_live(&self.dirs, dir, frag) {
@@ -95,6 +96,7 @@ fn begin_in(
     ensures left { OnErr result (jobs.new.jobs ≡ jobs.old.jobs) }
     ensures cached { KeepsCached cache.old cache.new }
     ensures places { KeepsNoMore cache.old cache.new }
+    ensures cap { cache.new.cap ≡ cache.old.cap }
 {
     let Some(snapshot) = cache.begin_commit(dir, frag)? else {
         unreachable!()

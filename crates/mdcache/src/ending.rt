@@ -18,6 +18,7 @@ impl<S: Store + Drop> MdCache<S> {
     /// store refuses the write, and `NoMemory`: all stays dirty then, and the job stands.
     pub fn end(&mut self, alloc: Global, encoded: &Encoded) -> Result<(), Refusal>
         ensures ended { Ends self.old.state self.new.state self.old.faults self.new.faults encoded.now.job result }
+        ensures cap { self.new.cache.cap ≡ self.old.cache.cap }
         ensures grows { self.old.faults ≤ self.new.faults }
     {
         let job = encoded.job();

@@ -14,6 +14,7 @@ impl<S: Store + Drop> MdCache<S> {
     pub fn evict(&mut self) -> Result<(), Refusal>
         ensures evicted { OnOk result (Evicts None self.old.cache self.new.cache) }
         ensures same { self.new.state ≡ self.old.state }
+        ensures cap { self.new.cache.cap ≡ self.old.cache.cap }
         ensures faults { self.new.faults ≡ self.old.faults }
         ensures refused { IfErr result (λ reason. reason ≡ NothingToEvict) }
         ensures none { OnErr result (NoneGoes None self.old.cache.entries) }

@@ -32,6 +32,8 @@ impl<S: Store + Drop> MdCache<S> {
         ensures cache { IfOk result (λ m. m.cache ≡ lru_cache ((root_leaf, held cached_root) ∷ []) places) }
         ensures refused { IfErr result (λ back. MayNotFormat (S.objects store) (S.faults store) (S.faults back.1) back.0) }
         ensures left { IfErr result (λ back. S.objects back.1 ≡ S.objects store) }
+        ensures faults { IfOk result (λ m. S.faults store ≤ m.faults) }
+        ensures grows { IfErr result (λ back. S.faults store ≤ S.faults back.1) }
     {
         match has_objects(alloc, &mut store) {
             Err(refusal) => Err((refusal, store)),
@@ -53,6 +55,7 @@ impl<S: Store + Drop> MdCache<S> {
         ensures state { IfOk result (λ m. m.state ≡ new_state) }
         ensures cache { IfOk result (λ m. m.cache ≡ lru_cache ((root_leaf, held cached_root) ∷ []) places) }
         ensures left { IfErr result (λ back. back ≡ store) }
+        ensures faults { IfOk result (λ m. m.faults ≡ S.faults store) }
     {
         match root_cache(alloc, places) {
             Ok(cache) => Ok(MdCache {

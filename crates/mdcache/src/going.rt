@@ -94,6 +94,7 @@ pub(crate) fn remove_dir(
     ensures homes { dirs.new.homes ≡ rows_but dirs.old.homes (dir_going going) }
     ensures covers { dirs.new.trees ≡ rows_but dirs.old.trees (dir_going going) }
     ensures cache { HasForgotten (leaves_going going) cache.old cache.new }
+    ensures cap { cache.new.cap ≡ cache.old.cap }
     ensures jobs { jobs.new.jobs ≡ without_leaves jobs.old.jobs (leaves_going going) }
     ensures purge { purge.new.names ≡ with_objects purge.old.names (texts_going going) }
 {
@@ -115,6 +116,7 @@ pub(crate) fn remove_leaves(
 )
     requires { length leaves.items ≤ purge.old.room }
     ensures cache { HasForgotten (leaves_in dir leaves.items) cache.old cache.new }
+    ensures cap { cache.new.cap ≡ cache.old.cap }
     ensures jobs { jobs.new.jobs ≡ without_leaves jobs.old.jobs (leaves_in dir leaves.items) }
     ensures purge { purge.new.names ≡ with_objects purge.old.names (texts_in leaves.items) }
 {

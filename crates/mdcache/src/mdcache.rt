@@ -1,5 +1,6 @@
 //! `MdCache`, and what a contract sees of it.
 ghost use Rattle.std.specs.Prelude.{◌≡◌};
+ghost use Rattle.mdcache.specs.Cached.{IsKept};
 
 use crate::prepared::Prepared;
 use dentry_cache::Cache;
@@ -54,9 +55,10 @@ impl<S: Store + Drop> Model for MdCache<S> {
 }
 
 impl<S: Store + Drop> MdCache<S> {
-    /// The store.
+    /// The store. A caller also learns from it that the state is sound, and each cached fragment a live leaf's.
     pub fn store(&self) -> &S
-        ensures { S.objects result.now ≡ self.now.state.objects }
+        ensures objects { S.objects result.now ≡ self.now.state.objects }
+        ensures kept { IsKept self.now.state self.now.cache }
     {
         &self.store
     }

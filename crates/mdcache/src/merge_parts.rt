@@ -72,6 +72,7 @@ pub(crate) fn prepare_merge<S: Store>(
     ensures left { Readies (Contains (each (in_directory dir.0) (leaves_inside frag (leaves_of dirs.old.trees dir.0)))) (S.objects store.old) cache.old cache.new }
     ensures none { OnErr result (KeepsNoMore cache.old cache.new) }
     ensures most { KeepsAtMost (dir, frag) cache.old cache.new }
+    ensures cap { cache.new.cap ≡ cache.old.cap }
     ensures refused { IfErr result (MayNotRead (S.faults store.old) (S.faults store.new) cache.old) }
     ensures same { S.objects store.new ≡ S.objects store.old }
     ensures grows { S.faults store.old ≤ S.faults store.new }
@@ -231,6 +232,7 @@ fn join_names<S: Store>(
     ensures left { Readies (Contains (leaves_in dir leaves.now)) (S.objects store.old) cache.old cache.new }
     ensures none { OnErr result (KeepsNoMore cache.old cache.new) }
     ensures most { KeepsAtMost (dir, frag) cache.old cache.new }
+    ensures cap { cache.new.cap ≡ cache.old.cap }
     ensures refused { IfErr result (MayNotRead (S.faults store.old) (S.faults store.new) cache.old) }
     ensures same { S.objects store.new ≡ S.objects store.old }
     ensures grows { S.faults store.old ≤ S.faults store.new }
@@ -253,6 +255,7 @@ fn keep_place(alloc: Global, cache: &mut Cache, dir: Ino, frag: Frag) -> Result<
     ensures from { (q : Leaf) (f : Cached) → cached cache.new.entries q ≡ Some f → cached cache.old.entries q ≡ Some f }
     ensures none { OnErr result (KeepsNoMore cache.old cache.new) }
     ensures most { KeepsAtMost (dir, frag) cache.old cache.new }
+    ensures cap { cache.new.cap ≡ cache.old.cap }
     ensures refused { IfErr result (λ reason. (reason ≡ NoMemory) ⊎ ((reason ≡ NothingToEvict) × FixesAllBut 1 cache.old)) }
 {
     release(cache, dir, frag);

@@ -50,6 +50,7 @@ impl<S: Store + Drop> MdCache<S> {
     /// become so, `StoreFault`, and `NoMemory`.
     pub fn merge(&mut self, alloc: Global, dir: Ino, frag: Frag) -> Result<(), Refusal>
         ensures merged { MergesLeaves self.old self.new dir frag result }
+        ensures cap { self.new.cache.cap ≡ self.old.cache.cap }
         ensures grows { self.old.faults ≤ self.new.faults }
     {
         if !self.dirs.contains(dir) {
@@ -126,6 +127,7 @@ fn commit_merge(
     ensures homes { dirs.new.homes ≡ dirs.old.homes }
     ensures trees { dirs.new.trees ≡ map.insert dirs.old.trees dir.0 merge.cover }
     ensures places { IsPutInPlace (leaves_in dir merge.leaves.items) (dir, frag) merge.joined cache.old cache.new }
+    ensures cap { cache.new.cap ≡ cache.old.cap }
     ensures jobs { jobs.new.jobs ≡ without_leaves jobs.old.jobs (leaves_in dir merge.leaves.items) }
     ensures listed { purge.new.names ≡ map.remove (with_objects purge.old.names (texts_in merge.leaves.items)) (string_bytes merge.object) }
     ensures job { next.new.job ≡ next.old.job }

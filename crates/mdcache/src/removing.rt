@@ -22,6 +22,7 @@ impl<S: Store + Drop> MdCache<S> {
         requires number { self.old.state.next_version < 2 ^ 64 - 1 }
         ensures made { Makes (Remove dentry leaf None) self.old.state self.new.state }
         ensures right { IsRight (Remove dentry leaf None) self.old.state self.new.state }
+        ensures cap { self.new.cache.cap ≡ self.old.cache.cap }
         ensures faults { self.new.faults ≡ self.old.faults }
     {
         self.cache
@@ -40,6 +41,7 @@ impl<S: Store + Drop> MdCache<S> {
         requires purge { 1 + length going.leaves.items ≤ self.old.purge_left }
         ensures made { Makes (Remove dentry leaf (Some going.dir)) self.old.state self.new.state }
         ensures right { IsRight (Remove dentry leaf (Some going.dir)) self.old.state self.new.state }
+        ensures cap { self.new.cache.cap ≡ self.old.cache.cap }
         ensures faults { self.new.faults ≡ self.old.faults }
     {
         self.cache

@@ -47,6 +47,7 @@ impl<S: Store + Drop> MdCache<S> {
         requires purge { count_going going ≤ self.old.purge_left }
         ensures made { Makes (Move from source to target (dir_going going)) self.old.state self.new.state }
         ensures right { IsRight (Move from source to target (dir_going going)) self.old.state self.new.state }
+        ensures cap { self.new.cache.cap ≡ self.old.cache.cap }
         ensures faults { self.new.faults ≡ self.old.faults }
     {
         self.cache

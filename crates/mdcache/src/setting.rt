@@ -22,6 +22,7 @@ impl<S: Store + Drop> MdCache<S> {
         requires recordable { IsRecordable inode }
         ensures made { Makes (Set dentry leaf inode) self.old.state self.new.state }
         ensures right { IsRight (Set dentry leaf inode) self.old.state self.new.state }
+        ensures cap { self.new.cache.cap ≡ self.old.cache.cap }
         ensures faults { self.new.faults ≡ self.old.faults }
     {
         self.cache

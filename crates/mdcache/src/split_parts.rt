@@ -63,6 +63,7 @@ pub(crate) fn prepare_split<S: Store>(
     ensures left { Readies (λ (q : Leaf). q ≡ (dir, frag)) (S.objects store.old) cache.old cache.new }
     ensures none { OnErr result (KeepsNoMore cache.old cache.new) }
     ensures others { KeepsButChildren dir frag nb cache.old cache.new }
+    ensures cap { cache.new.cap ≡ cache.old.cap }
     ensures refused { IfErr result (MayNotFind (FixesAllBut (2 ^ nb + 1) cache.old) (S.faults store.old) (S.faults store.new)) }
     ensures same { S.objects store.new ≡ S.objects store.old }
     ensures grows { S.faults store.old ≤ S.faults store.new }
@@ -191,6 +192,7 @@ fn ready_children<S: Store>(
     ensures left { Readies (λ (q : Leaf). q ≡ (dir, frag)) (S.objects store.old) cache.old cache.new }
     ensures none { OnErr result (KeepsNoMore cache.old cache.new) }
     ensures others { KeepsButChildren dir frag nb cache.old cache.new }
+    ensures cap { cache.new.cap ≡ cache.old.cap }
     ensures refused { IfErr result (MayNotFind (FixesAllBut (2 ^ nb + 1) cache.old) (S.faults store.old) (S.faults store.new)) }
     ensures same { S.objects store.new ≡ S.objects store.old }
     ensures grows { S.faults store.old ≤ S.faults store.new }

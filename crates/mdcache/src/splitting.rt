@@ -49,6 +49,7 @@ impl<S: Store + Drop> MdCache<S> {
     /// `StoreFault`, and `NoMemory`.
     pub fn split(&mut self, alloc: Global, dir: Ino, frag: Frag, nb: u8) -> Result<(), Refusal>
         ensures split { SplitsLeaf self.old self.new dir frag nb result }
+        ensures cap { self.new.cache.cap ≡ self.old.cache.cap }
         ensures grows { self.old.faults ≤ self.new.faults }
     {
         if !self.dirs.contains(dir) {
@@ -136,6 +137,7 @@ fn commit_split(
     ensures homes { dirs.new.homes ≡ dirs.old.homes }
     ensures trees { dirs.new.trees ≡ map.insert dirs.old.trees dir.0 split.cover }
     ensures split { HasCached (cached cache.old.entries (dir, frag)) (λ (f : Cached). IsSplit dir frag nb split.parts next.old.version (shown f) cache.old cache.new) }
+    ensures cap { cache.new.cap ≡ cache.old.cap }
     ensures jobs { jobs.new.jobs ≡ map.remove jobs.old.jobs (dir, frag) }
     ensures listed { purge.new.names ≡ without_objects (map.insert purge.old.names (string_bytes split.object) tt) (each string_bytes split.children.items) }
     ensures job { next.new.job ≡ next.old.job }
@@ -175,6 +177,7 @@ fn split_leaf(
     ensures trees { dirs.new.trees ≡ map.insert dirs.old.trees dir.0 split.cover }
     ensures room { dirs.new.room ≡ dirs.old.room }
     ensures split { HasCached (cached cache.old.entries (dir, frag)) (λ (f : Cached). IsSplit dir frag nb split.parts version (shown f) cache.old cache.new) }
+    ensures cap { cache.new.cap ≡ cache.old.cap }
     ensures jobs { jobs.new.jobs ≡ map.remove jobs.old.jobs (dir, frag) }
     ensures listed { purge.new.names ≡ without_objects (map.insert purge.old.names (string_bytes split.object) tt) (each string_bytes split.children.items) }
 {

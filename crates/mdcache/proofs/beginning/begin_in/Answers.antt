@@ -1,5 +1,6 @@
 use Rattle.mdcache.proofs.KeptPlaces.{changed_no_more}
 use Rattle.mdcache.proofs.Steps.{use_keeps}
+use Rattle.dentry_cache.proofs.CapLaws.{changed_cap}
 use Rattle.mdcache.proofs.beginning.begin_in.Goals as goal
 
 pub returns-in_err-snapshot-clause-cached : goal.returns-in_err-snapshot-clause-cached
@@ -25,3 +26,15 @@ returns-in_err-try_clone-clause-places c = changed_no_more _ (c.args.dir, c.args
 
 pub returns-clause-places : goal.returns-clause-places
 returns-clause-places c = changed_no_more _ (c.args.dir, c.args.frag) c.args.cache.now _ c.begin_commit.ensures.used
+
+pub returns-in_err-snapshot-clause-cap : goal.returns-in_err-snapshot-clause-cap
+returns-in_err-snapshot-clause-cap c = changed_cap _ _ (c.args.dir, c.args.frag) c.args.cache.now _ c.begin_commit.ensures.used
+
+pub returns-in_err-reserve-clause-cap : goal.returns-in_err-reserve-clause-cap
+returns-in_err-reserve-clause-cap c = changed_cap _ _ (c.args.dir, c.args.frag) c.args.cache.now _ c.begin_commit.ensures.used
+
+pub returns-in_err-try_clone-clause-cap : goal.returns-in_err-try_clone-clause-cap
+returns-in_err-try_clone-clause-cap c = changed_cap _ _ (c.args.dir, c.args.frag) c.args.cache.now _ c.begin_commit.ensures.used
+
+pub returns-clause-cap : goal.returns-clause-cap
+returns-clause-cap c = changed_cap _ _ (c.args.dir, c.args.frag) c.args.cache.now _ c.begin_commit.ensures.used

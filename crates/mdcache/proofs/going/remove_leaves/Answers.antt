@@ -1,8 +1,8 @@
-use Rattle.std.proofs.Common.{rules, ◌≡◌, ◌∷◌, suc, List, length, sym, ap, ◌∙◌, arith}
+use Rattle.std.proofs.Common.{rules, ◌≡◌, ◌∷◌, suc, List, length, sym, ap, ◌∙◌, arith, refl}
 use Rattle.std.proofs.lemmas.List.{nil_from_length}
 use Rattle.std.specs.Vec.Iter.{into_iter_items}
 use Rattle.omap.specs.Omap.{Keys}
-use Rattle.dentry_cache.specs.Cache.{Leaf}
+use Rattle.dentry_cache.specs.Cache.{Held, Leaf}
 use Rattle.standing_jobs.specs.StandingJobs.{Jobs}
 use Rattle.mdcache.specs.declared.going.GoingLeaf.{GoingLeaf}
 use Rattle.mdcache.specs.Changes.{with_objects, without_leaves}
@@ -16,6 +16,7 @@ loop-part-init c =
     record {
       count = search rules;
       places = λ leaf. ap (λ (parts : List GoingLeaf). place_but (leaves_in c.args.dir parts) c.args.cache.now leaf) same;
+      cap = refl;
       jobs = ap (λ (parts : List GoingLeaf). without_leaves c.args.jobs.now.jobs (leaves_in c.args.dir parts)) same;
       purge = ap (λ (parts : List GoingLeaf). with_objects c.args.purge.now.names (texts_in parts)) same;
       room = search rules;
@@ -39,6 +40,7 @@ loop-part-preserved c =
       places = λ leaf.
           forgotten_on left (leaves_in c.args.dir rest) c.loop-part.cache c.forget.new.self c.forget.ensures.without c.forget.ensures.gone leaf
           ∙ sym (ap (λ (parts : List GoingLeaf). place_but (leaves_in c.args.dir parts) c.loop-part.cache leaf) steps) ∙ inv.places leaf;
+      cap = ap (λ (h : Held). h.cap) c.forget.ensures.without ∙ inv.cap;
       jobs = ap (λ (j : Jobs). without_leaves j (leaves_in c.args.dir rest)) c.end.ensures.ended ∙ sym (ap (λ (parts : List GoingLeaf). without_leaves c.loop-part.jobs.jobs (leaves_in c.args.dir parts)) steps) ∙ inv.jobs;
       purge = ap (λ (names : Keys). with_objects names (texts_in rest)) c.put.ensures.put ∙ sym (ap (λ (parts : List GoingLeaf). with_objects c.loop-part.purge.names (texts_in parts)) steps) ∙ inv.purge;
       room = omega (arith, inv.room, longer, c.put.ensures.room);

@@ -10,6 +10,7 @@ abbrev pub invariant-loop-part : goal.invariant-loop-part
 invariant-loop-part l = record {
   count : into_iter_len l.part-iterator ≡ length (into_iter_items l.part-iterator);
   places : (leaf : Leaf) → place_but (leaves_in l.dir (into_iter_items l.part-iterator)) l.cache leaf ≡ place_but (leaves_in l.dir l.fn.leaves.items) l.fn.cache leaf;
+  cap : l.cache.cap ≡ l.fn.cache.cap;
   jobs : without_leaves l.jobs.jobs (leaves_in l.dir (into_iter_items l.part-iterator)) ≡ without_leaves l.fn.jobs.jobs (leaves_in l.dir l.fn.leaves.items);
   purge : with_objects l.purge.names (texts_in (into_iter_items l.part-iterator)) ≡ with_objects l.fn.purge.names (texts_in l.fn.leaves.items);
   room : length (into_iter_items l.part-iterator) ≤ l.purge.room;

@@ -60,3 +60,12 @@ returns-in-Ok-clause-most g c = most_on (c.args.dir, c.args.frag) c.args.cache.n
 
 pub returns-in-Err-keep_place-clause-most : goal.returns-in-Err-keep_place-clause-most
 returns-in-Err-keep_place-clause-most g c = most_on (c.args.dir, c.args.frag) c.args.cache.now c.join_leaves.new.cache c.keep_place.new.cache c.in_default.ensures.none c.in-Err-keep_place.ensures.most
+
+pub returns-in-Err-clause-cap : goal.returns-in-Err-clause-cap
+returns-in-Err-clause-cap g c = c.in-Err.ensures.reads.fixes.cap
+
+pub returns-in-Ok-clause-cap : goal.returns-in-Ok-clause-cap
+returns-in-Ok-clause-cap g c = c.in-Ok.ensures.cap ∙ c.in_default.ensures.reads.fixes.cap
+
+pub returns-in-Err-keep_place-clause-cap : goal.returns-in-Err-keep_place-clause-cap
+returns-in-Err-keep_place-clause-cap g c = c.in-Err-keep_place.ensures.cap ∙ c.in_default.ensures.reads.fixes.cap

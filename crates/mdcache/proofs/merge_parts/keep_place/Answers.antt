@@ -1,12 +1,14 @@
-use Rattle.std.proofs.Common.{◌≡◌, sym, ap, ◌∙◌}
+use Rattle.std.proofs.Common.{◌≡◌, sym, ap, ◌∙◌, None}
 use Rattle.std.specs.Map.{lookup}
-use Rattle.dentry_cache.specs.Cache.{is_kept, leaf_is, unsaved_in}
+use Rattle.std.specs.FinMap as map
+use Rattle.dentry_cache.specs.Cache.{is_kept, kept_place, leaf_is, unsaved_in}
 use Rattle.dentry_cache.proofs.CacheLaws.{unsaved_alike}
 use Rattle.mdcache.proofs.FreedLaws.{released}
 use Rattle.mdcache.proofs.JoinLaws.{after_keeps, keep_from, keep_lacks, keep_most, keep_none}
 use Rattle.mdcache.proofs.KeptPlaces.{most_on}
 use Rattle.std.proofs.lemmas.Result.{on_ok_weaker}
 use Rattle.mdcache.proofs.ReadyLaws.{not_there}
+use Rattle.mdcache.proofs.CapLaws.{keep_cap}
 use Rattle.mdcache.proofs.merge_parts.keep_place.Goals as goal
 
 pub keep-requires : goal.keep-requires
@@ -34,3 +36,6 @@ returns-clause-refused c =
 
 pub returns-clause-most : goal.returns-clause-most
 returns-clause-most c = most_on (c.args.dir, c.args.frag) c.args.cache.now c.release.new.cache c.keep.new.self c.release.ensures.kept (keep_most (c.args.dir, c.args.frag) c.release.new.cache c.keep.new.self c.keep.ensures.leaves)
+
+pub returns-clause-cap : goal.returns-clause-cap
+returns-clause-cap c = keep_cap c.keep.result None (c.args.dir, c.args.frag) kept_place c.release.new.cache c.keep.new.self c.keep.ensures.kept c.keep.ensures.left ∙ (c.release.ensures.reads map.empty).fixes.cap

@@ -1,11 +1,12 @@
-use Rattle.std.proofs.Common.{sym, ap, subst, ◌∙◌}
+use Rattle.std.proofs.Common.{sym, ap, subst, ◌∙◌, Some}
 use Rattle.std.specs.Map.{lookup}
 use Rattle.std.specs.FinMap as map
-use Rattle.dentry_cache.specs.Cache.{IsThere, leaf_is, unsaved_in}
+use Rattle.dentry_cache.specs.Cache.{IsThere, kept_place, leaf_is, unsaved_in}
 use Rattle.dentry_cache.proofs.CacheLaws.{unsaved_alike}
 use Rattle.mdcache.specs.Changes.{first_leaf}
 use Rattle.mdcache.proofs.KeptPlaces.{most_on, no_more_on}
-use Rattle.mdcache.proofs.ReadyLaws.{keep_cap, keep_none, keep_one, keep_refused, kept_from, map_on_err, not_there, stays_there}
+use Rattle.mdcache.proofs.ReadyLaws.{keep_none, keep_one, keep_refused, kept_from, map_on_err, not_there, stays_there}
+use Rattle.mdcache.proofs.CapLaws.{keep_cap}
 use Rattle.mdcache.proofs.ready_leaves.keep_first.Goals as goal
 
 pub returns-clause-stays : goal.returns-clause-stays
@@ -24,7 +25,7 @@ returns-clause-from c = λ q f is.
 
 pub returns-clause-cap : goal.returns-clause-cap
 returns-clause-cap c =
-    keep_cap (first_leaf c.args.new) (c.args.dir, c.args.frag) c.release.new.cache c.keep.new.self c.keep.ensures.leaves c.keep.result c.keep.ensures.kept c.keep.ensures.left ∙ (c.release.ensures.reads map.empty).fixes.cap
+    keep_cap c.keep.result (Some (c.args.dir, c.args.frag)) (first_leaf c.args.new) kept_place c.release.new.cache c.keep.new.self c.keep.ensures.kept c.keep.ensures.left ∙ (c.release.ensures.reads map.empty).fixes.cap
 
 pub returns-clause-one : goal.returns-clause-one
 returns-clause-one c = most_on (first_leaf c.args.new) c.args.cache.now c.release.new.cache c.keep.new.self (c.release.ensures.reads map.empty).fixes.kept (keep_one (first_leaf c.args.new) (c.args.dir, c.args.frag) c.release.new.cache c.keep.new.self c.keep.ensures.leaves)

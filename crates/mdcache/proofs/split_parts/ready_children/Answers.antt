@@ -1,4 +1,4 @@
-use Rattle.std.proofs.Common.{◌≡◌, ap}
+use Rattle.std.proofs.Common.{◌≡◌, ap, ◌∙◌}
 use Rattle.mds_types.specs.Frag.{child_of}
 use Rattle.dentry_cache.specs.Cache.{is_kept}
 use Rattle.std.proofs.lemmas.Result.{on_ok_weaker}
@@ -34,3 +34,6 @@ pub returns-clause-others : goal.returns-clause-others
 returns-clause-others g c =
     children_others c.args.dir c.args.frag c.args.nb (g.S.Store.objects c.args.store.now) c.args.cache.now c.release_places.new.cache c.ready_split.new.self c.release_places.ensures.left c.ready_split.ensures.leaves
     c.ready_split.result c.ready_split.ensures.found c.ready_split.ensures.left
+
+pub returns-clause-cap : goal.returns-clause-cap
+returns-clause-cap g c = c.ready_split.ensures.cap ∙ c.release_places.ensures.left.cap

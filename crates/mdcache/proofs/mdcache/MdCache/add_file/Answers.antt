@@ -1,4 +1,4 @@
-use Rattle.std.proofs.Common.{◌+◌, Some, subst, sym}
+use Rattle.std.proofs.Common.{◌+◌, Some, subst, sym, ap, ◌∙◌}
 use Rattle.namespace_ops.specs.Changes.{MayChange}
 use Rattle.namespace_ops.specs.declared.plans.Change.TheVariants.{Add}
 use Rattle.mdcache.specs.Cached.{Core, state_of}
@@ -8,6 +8,7 @@ use Rattle.mdcache.specs.Shown.{shown_tree}
 use Rattle.mdcache.proofs.AddSteps.{file_made, file_right}
 use Rattle.mdcache.proofs.PutSteps.{put_kept}
 use Rattle.mdcache.proofs.KeptPlaces.{changed_no_more, only_on}
+use Rattle.dentry_cache.proofs.CapLaws.{changed_cap}
 use Rattle.mdcache.proofs.mdcache.MdCache.add_file.Goals as goal
 
 pub returns-clause-made : goal.returns-clause-made
@@ -29,3 +30,6 @@ returns-clause-right g c =
     let may = subst (λ (v : Core). MayChange (shown_tree v.state) v.state.covers (Add c.args.dentry c.args.leaf c.args.inode)) (sym c.self.view_is) c.requires.may in
     subst (λ (v : Core). IsRight (Add c.args.dentry c.args.leaf c.args.inode) v.state (state_of c.self.inside.dirs c.put.new.self (g.S.Store.objects c.self.inside.store) c.self.inside.jobs c.self.inside.purge (record { job = c.self.inside.next.job; generation = c.self.inside.next.generation; version = c.self.inside.next.version + 1 }))) c.self.view_is
     (file_right c.self.inside.dirs c.self.inside.cache (g.S.Store.objects c.self.inside.store) c.self.inside.jobs c.self.inside.purge c.self.inside.next c.self.invariant.0 c.args.dentry c.args.leaf c.args.inode may c.has_64_bits.ensures c.put.new.self c.put.ensures c.requires.file)
+
+pub returns-clause-cap : goal.returns-clause-cap
+returns-clause-cap g c = changed_cap _ _ (c.args.dentry.dir, c.args.leaf) c.self.inside.cache c.put.new.self c.put.ensures ∙ ap (λ (k : Core). k.cache.cap) c.self.view_is

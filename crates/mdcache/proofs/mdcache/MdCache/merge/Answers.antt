@@ -99,3 +99,9 @@ returns-in-Err-prepare_merge-clause-merged g c =
         no_more_on c.self.inside.cache c.give_up.new.cache c.prepare_merge.new.cache reads.fixes.kept e.none,
       ),
     )
+
+pub returns-in-Err-prepare_merge-clause-cap : goal.returns-in-Err-prepare_merge-clause-cap
+returns-in-Err-prepare_merge-clause-cap g c = c.in-Err-prepare_merge.ensures.cap ∙ (c.give_up.ensures.reads (g.S.Store.objects c.self.inside.store)).fixes.cap ∙ ap (λ (k : Core). k.cache.cap) c.self.view_is
+
+pub returns-in-Ok-clause-cap : goal.returns-in-Ok-clause-cap
+returns-in-Ok-clause-cap g c = c.commit_merge.ensures.cap ∙ c.in-Ok.ensures.cap ∙ (c.give_up.ensures.reads (g.S.Store.objects c.self.inside.store)).fixes.cap ∙ ap (λ (k : Core). k.cache.cap) c.self.view_is

@@ -16,6 +16,7 @@ use Rattle.mdcache.specs.Made.{IsRight}
 use Rattle.mdcache.specs.Shown.{shown_tree}
 use Rattle.mdcache.proofs.MoveSteps.{moved_kept, moved_made, moved_right, relocates, replaces, room_left}
 use Rattle.mdcache.proofs.KeptPlaces.{changed_no_more, forgotten_no_more, no_more_on, only_on}
+use Rattle.dentry_cache.proofs.CapLaws.{changed_cap}
 use Rattle.mdcache.proofs.mdcache.MdCache.move_entry.Goals as goal
 
 pub relocate-requires : goal.relocate-requires
@@ -69,3 +70,6 @@ returns-clause-right g c =
     let prepared = subst (λ (v : Core). IsGoingOrNone v.state.covers c.args.going) (sym c.self.view_is) c.requires.going in
     subst (λ (v : Core). IsRight (Move c.args.from c.args.source c.args.to c.args.target (dir_going c.args.going)) v.state (state_of c.remove_dir.new.dirs c.remove_dir.new.cache (g.S.Store.objects c.self.inside.store) c.remove_dir.new.jobs c.remove_dir.new.purge (record { job = c.self.inside.next.job; generation = c.self.inside.next.generation; version = c.self.inside.next.version + 1 + 1 }))) c.self.view_is
     (moved_right c.self.inside.dirs c.self.inside.cache (g.S.Store.objects c.self.inside.store) c.self.inside.jobs c.self.inside.purge c.self.inside.next c.self.invariant.0 c.args.from c.args.to c.args.source c.args.target c.args.inode c.args.going may stands c.erase.new.self c.erase.ensures c.relocate.new.dirs homes c.relocate.ensures.covers c.put.new.self c.put.ensures prepared c.remove_dir.new.dirs c.remove_dir.new.cache c.remove_dir.new.jobs c.remove_dir.new.purge c.remove_dir.ensures.homes c.remove_dir.ensures.covers c.remove_dir.ensures.cache c.remove_dir.ensures.jobs c.remove_dir.ensures.purge)
+
+pub returns-clause-cap : goal.returns-clause-cap
+returns-clause-cap g c = c.remove_dir.ensures.cap ∙ changed_cap _ _ (c.args.to.dir, c.args.target) c.erase.new.self c.put.new.self c.put.ensures ∙ changed_cap _ _ (c.args.from.dir, c.args.source) c.self.inside.cache c.erase.new.self c.erase.ensures ∙ ap (λ (k : Core). k.cache.cap) c.self.view_is

@@ -1,4 +1,4 @@
-use Rattle.std.proofs.Common.{rules, ◌+◌, ◌-◌, ◌<◌, ◌^◌, inl, inr, refl, sym, subst, ◌∙◌}
+use Rattle.std.proofs.Common.{rules, ◌+◌, ◌-◌, ◌<◌, ◌^◌, inl, inr, refl, sym, subst, ◌∙◌, ap}
 use Rattle.std.specs.Prelude.{map as each, string_bytes, [], ◌∷◌, Ok, Err}
 use Rattle.dentry_cache.specs.Cache.{cached}
 use Rattle.mdcache.specs.Cached.{Core, state_of}
@@ -83,3 +83,9 @@ returns-in-Err-prepare_split-clause-split g c =
         no_more_on c.self.inside.cache c.give_up.new.cache c.prepare_split.new.cache reads.fixes.kept e.none,
       ),
     )
+
+pub returns-in-Err-prepare_split-clause-cap : goal.returns-in-Err-prepare_split-clause-cap
+returns-in-Err-prepare_split-clause-cap g c = c.in-Err-prepare_split.ensures.cap ∙ (c.give_up.ensures.reads (g.S.Store.objects c.self.inside.store)).fixes.cap ∙ ap (λ (k : Core). k.cache.cap) c.self.view_is
+
+pub returns-in-Ok-clause-cap : goal.returns-in-Ok-clause-cap
+returns-in-Ok-clause-cap g c = c.commit_split.ensures.cap ∙ c.in-Ok.ensures.cap ∙ (c.give_up.ensures.reads (g.S.Store.objects c.self.inside.store)).fixes.cap ∙ ap (λ (k : Core). k.cache.cap) c.self.view_is
