@@ -2,7 +2,7 @@
 use Rattle.std.specs.Prelude.{ℕ, if◌then◌else◌, List, [], ◌∷◌, codes, Result, Ok, Err}
 use Rattle.std.specs.List.{list_all}
 use Rattle.script_text.specs.declared.commands.Command.{Command}
-use Rattle.script_text.specs.declared.commands.Command.TheVariants.{Operation, Request, Serve, History}
+use Rattle.script_text.specs.declared.commands.Command.TheVariants.{Operation, Request, Serve, History, Store}
 use Rattle.script_text.specs.declared.lines.Line.{Line}
 use Rattle.script_text.specs.declared.lines.Line.TheVariants as line
 use Rattle.script_words.specs.declared.faults.Fault.{Fault}
@@ -12,6 +12,7 @@ use Rattle.script_words.specs.Reading.{◌>>=◌, first, one}
 use Rattle.script_words.specs.Arguments.{rank_of, client_of, decimal_of}
 use Rattle.script_text.specs.Operations.{operation_of}
 use Rattle.script_text.specs.Dirfrags.{dirfrag_of}
+use Rattle.script_text.specs.StoreCommands.{is_store_verb, store_command_of}
 
 -- `serve RANK`
 unfoldable pub serve_of : List (List ℕ) → Result Command Fault
@@ -47,7 +48,8 @@ command_of verb args =
     (if is_text verb (codes "req") then req_of args else
     (if is_text verb (codes "history") then history_of args else
     (if is_text verb (codes "dirfrag") then dirfrag_of args else
-    (operation_of verb args >>= λ op. Ok (Operation op)))))
+    (if is_store_verb verb then (store_command_of verb args >>= λ command. Ok (Store command)) else
+    (operation_of verb args >>= λ op. Ok (Operation op))))))
 
 -- the line of a command, or of its fault
 abbrev pub line_from : Result Command Fault → Line

@@ -1,5 +1,5 @@
 -- The commands on the store: commits, fragment trees, the purge list, eviction, and looks at objects.
-use Rattle.std.specs.Prelude.{ℕ, if◌then◌else◌, List, codes, Some, None, Result, Ok, Err}
+use Rattle.std.specs.Prelude.{ℕ, Bool, ◌||◌, if◌then◌else◌, List, codes, Some, None, Result, Ok, Err}
 use Rattle.std.specs.Str.{is_utf8}
 use Rattle.mds_types.specs.declared.ids.Ino.{Ino}
 use Rattle.mds_types.specs.declared.ids.Rank.{Rank}
@@ -84,6 +84,13 @@ unfoldable pub objects_of : List (List ℕ) → Result StoreCommand Fault
 objects_of args = do
   end ← none args
   Ok Objects
+
+-- whether commands on the store begin with this word
+abbrev pub is_store_verb : List ℕ → Bool
+is_store_verb verb =
+    is_text verb (codes "begin") || is_text verb (codes "end") || is_text verb (codes "drop")
+    || is_text verb (codes "commit") || is_text verb (codes "tree") || is_text verb (codes "purge")
+    || is_text verb (codes "evict") || is_text verb (codes "object") || is_text verb (codes "objects")
 
 -- a command on the store, by its first word and the words after it
 unfoldable pub store_command_of : List ℕ → List (List ℕ) → Result StoreCommand Fault

@@ -5,6 +5,7 @@ ghost use Rattle.script_text.specs.Script.{command_of, history_of, req_of, serve
 
 use crate::dirfrags::dirfrag;
 use crate::operations::read_operation;
+use crate::store_commands::{StoreCommand, is_store_verb, read_store_command};
 use mds_types::{Frag, Ino, Op, Rank, Request};
 use script_words::{NOT_COMMAND, ReadError, client, decimal, first, next_word, one, rank};
 use std::alloc::Global;
@@ -35,6 +36,8 @@ pub enum Command {
     },
     /// Which leaves has the directory?
     Leaves(Ino),
+    /// What is asked of commits and of the store.
+    Store(StoreCommand),
 }
 
 /// The command of this first word, with the arguments in these words.
@@ -53,6 +56,9 @@ pub fn read_command(alloc: Global, verb: &[u8], args: &[u8]) -> Result<Command, 
     }
     if verb == b"dirfrag".as_slice() {
         return dirfrag(args);
+    }
+    if is_store_verb(verb) {
+        return Ok(Command::Store(read_store_command(alloc, verb, args)?));
     }
     Ok(Command::Operation(read_operation(alloc, verb, args)?))
 }

@@ -18,7 +18,8 @@ pub enum Line {
     NotCommand,
 }
 
-/// What the line asks for. Its bytes are those without the LF. Takes memory for names and targets.
+/// What the line asks for. Its bytes are those without the LF. Takes memory for names, targets and names of
+/// objects.
 #[tactic(auto, unfolding(crate::specs::Script::line_of))]
 pub fn read_line(alloc: Global, bytes: &[u8]) -> Result<Line, AllocError>
     ensures { IfOk result (λ line. line ≡ line_of bytes.now) }

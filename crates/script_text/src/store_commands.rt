@@ -1,14 +1,15 @@
 //! Commands on the store: commits, fragment trees, the purge list, eviction, and looks at objects.
+ghost use Rattle.std.specs.Prelude.{◌≡◌};
 ghost use Rattle.script_words.specs.Words.{words_of};
 ghost use Rattle.script_words.specs.Reading.{Gives};
-ghost use Rattle.script_text.specs.StoreCommands.{begin_of, commit_of, drop_of, end_of, evict_of, leaf_of, object_of, objects_of, purge_of, store_command_of, text_name_of, tree_of};
+ghost use Rattle.script_text.specs.StoreCommands.{begin_of, commit_of, drop_of, end_of, evict_of, is_store_verb, leaf_of, object_of, objects_of, purge_of, store_command_of, text_name_of, tree_of};
 
 use byte_strings::Text;
 use mds_types::{Frag, Ino, Rank};
 use script_words::{NOT_COMMAND, ReadError, decimal, frag, ino, none, one, rank, three};
 use std::alloc::Global;
 
-/// What a line on the store asks for. No line is read as one of these yet: `read_line` knows none of their words.
+/// What a line on the store asks for.
 #[derive(Clone, Debug, Drop, PartialEq, Eq)]
 pub enum StoreCommand {
     /// A commit of a leaf is begun, and its job kept.
@@ -29,6 +30,21 @@ pub enum StoreCommand {
     Object(Text),
     /// Which objects has the store?
     Objects,
+}
+
+/// Whether commands on the store begin with this word.
+pub fn is_store_verb(verb: &[u8]) -> bool
+    ensures { result ≡ is_store_verb verb.now }
+{
+    verb == b"begin".as_slice()
+        || verb == b"end".as_slice()
+        || verb == b"drop".as_slice()
+        || verb == b"commit".as_slice()
+        || verb == b"tree".as_slice()
+        || verb == b"purge".as_slice()
+        || verb == b"evict".as_slice()
+        || verb == b"object".as_slice()
+        || verb == b"objects".as_slice()
 }
 
 /// The command on the store of this first word, with the arguments in these words. Takes memory for an object's name.

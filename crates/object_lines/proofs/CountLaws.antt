@@ -1,0 +1,112 @@
+-- The counts of pairs are those of the names that they show.
+use Rattle.std.proofs.Common.{◌≡◌, ℕ, suc, ◌+◌, Bool, true, false, cond, not, List, [], ◌∷◌, length, Option, Some, None, refl, sym, ap, ◌∙◌, arith}
+use Rattle.std.specs.Prelude.{T, filter}
+use Rattle.std.specs.declared.cmp.Ordering.{Ordering}
+use Rattle.std.specs.declared.cmp.Ordering.TheVariants.{Less, Equal, Greater}
+use Rattle.std.specs.Ordering.{is_eq}
+use Rattle.std.specs.Cmp.Lexicographic.{nat_list_cmp_total}
+use Rattle.std.specs.FinMap as map
+use Rattle.std.specs.FinMap.{find, is_sorted, entries-from_sorted, entries-insert, get-entries, get-from_sorted, len-empty, len-entries}
+use Rattle.std.proofs.lemmas.List.{nil_from_length}
+use Rattle.std.proofs.lemmas.Option.{same_Some}
+use Rattle.std.specs.FinMap.Entries.{by_order, put}
+use Rattle.sorted_map.proofs.Bools.{left_of, right_of}
+use Rattle.mds_types.specs.Tree.{is_dir_kind}
+use Rattle.mds_types.specs.declared.inodes.Inode.{Inode}
+use Rattle.omap.specs.EntryKeys.{entry_key}
+use Rattle.omap.specs.Omap.{key_cmp}
+use Rattle.dirfrag_codec.specs.declared.headers.FragHeader.{FragHeader}
+use Rattle.dirfrag_codec.specs.FragmentObject.{Names, SpellsKey, dirs_in, files_in, names_in, names_of, with_entry}
+use Rattle.dirfrag_codec.specs.Reading.{◌>>=◌}
+use Rattle.dirfrag_codec.specs.Values.{entry_of, is_name, name_of}
+use Rattle.dirfrag_codec.proofs.ByteKeys.{not_found}
+use Rattle.dirfrag_codec.proofs.FragmentLaws.{shows_at_each}
+use Rattle.dirfrag_codec.proofs.ValueLaws.{reads_key, spelled_as}
+use Rattle.object_lines.specs.Entries.{counted_after, is_dir_under, with_one}
+
+-- ---- one name more, that wasn't there
+
+module _ (p : Inode → Bool) where
+  abbrev tally : List (List ℕ × Inode) → ℕ
+  tally es = length (filter (λ (e : List ℕ × Inode). p e.1) es)
+
+  longer : (b : Bool) (x : List ℕ × Inode) (rest : List (List ℕ × Inode)) → length (cond b (x ∷ rest) rest) ≡ cond b 1 0 + length rest
+  longer true x rest = omega arith
+  longer false x rest = omega arith
+
+  one_more : (e : List ℕ × Inode) (es : List (List ℕ × Inode)) → tally (e ∷ es) ≡ cond (p e.1) 1 0 + tally es
+  one_more e es = longer (p e.1) e (filter (λ (f : List ℕ × Inode). p f.1) es)
+
+  put_tally : (k : List ℕ) (v : Inode) (es : List (List ℕ × Inode)) → find key_cmp k es ≡ None → tally (put key_cmp k v es) ≡ cond (p v) 1 0 + tally es
+  put_tally k v [] none = one_more (k, v) []
+  put_tally k v (e ∷ es) none = go (put_tally k v es) (key_cmp k e.0) none
+    where
+      go : (find key_cmp k es ≡ None → tally (put key_cmp k v es) ≡ cond (p v) 1 0 + tally es) → (r : Ordering) → cond (is_eq r) (Some e.1) (find key_cmp k es) ≡ None
+          → tally (by_order r ((k, v) ∷ e ∷ es) ((e.0, v) ∷ es) (e ∷ put key_cmp k v es)) ≡ cond (p v) 1 0 + tally (e ∷ es)
+      go rest Less is = one_more (k, v) (e ∷ es)
+      go rest Equal is = absurd cc
+      go rest Greater is =
+          let so_far : tally (put key_cmp k v es) ≡ cond (p v) 1 0 + tally es = rest is in
+          let one : tally (e ∷ put key_cmp k v es) ≡ cond (p e.1) 1 0 + tally (put key_cmp k v es) = one_more e (put key_cmp k v es) in
+          let two : tally (e ∷ es) ≡ cond (p e.1) 1 0 + tally es = one_more e es in
+          omega (arith, so_far, one, two)
+
+  pub insert_tally : (m : Names) (k : List ℕ) (v : Inode) → map.get m k ≡ None → tally (map.entries (map.insert m k v)) ≡ cond (p v) 1 0 + tally (map.entries m)
+  insert_tally m k v none = ap tally (entries-insert nat_list_cmp_total m k v) ∙ put_tally k v (map.entries m) (sym (get-entries m k) ∙ none)
+
+-- ---- a name whose key isn't among pairs isn't shown by them
+
+nothing : (b : Bool) → cond b (None >>= entry_of) None ≡ None
+nothing true = refl
+nothing false = refl
+
+not_shown : (es : List (List ℕ × List ℕ)) (name : List ℕ) → T (is_sorted key_cmp es) → find key_cmp (entry_key name) es ≡ None → map.get (names_in es) name ≡ None
+unfolding names_of
+not_shown es name sorted none =
+    ap (λ (l : List (List ℕ × List ℕ)). map.get (names_in l) name) (sym (entries-from_sorted key_cmp es sorted)) ∙ shows_at_each (map.from_sorted {R = key_cmp} es) name
+    ∙ ap (λ (r : Option (List ℕ)). cond (is_name name) (r >>= entry_of) None) (get-from_sorted key_cmp es (entry_key name) sorted ∙ none) ∙ nothing (is_name name)
+
+-- ---- pairs counted one by one
+
+-- a header with so many entries more
+abbrev pub with_counts : FragHeader → ℕ → ℕ → FragHeader
+with_counts header files dirs = record { version = header.version; files = header.files + files; dirs = header.dirs + dirs }
+
+one_step : (header : FragHeader) (is_dir : Bool) (files dirs more_files more_dirs : ℕ) → more_files ≡ cond (not is_dir) 1 0 + files → more_dirs ≡ cond is_dir 1 0 + dirs
+    → with_counts (with_one header is_dir) files dirs ≡ with_counts header more_files more_dirs
+one_step header true files dirs more_files more_dirs f d =
+    let a : header.files + files ≡ header.files + more_files = omega (arith, f) in
+    let b : suc header.dirs + dirs ≡ header.dirs + more_dirs = omega (arith, d) in
+    λ i. record { version = header.version; files = a i; dirs = b i }
+one_step header false files dirs more_files more_dirs f d =
+    let a : suc header.files + files ≡ header.files + more_files = omega (arith, f) in
+    let b : header.dirs + dirs ≡ header.dirs + more_dirs = omega (arith, d) in
+    λ i. record { version = header.version; files = a i; dirs = b i }
+
+no_names : (header : FragHeader) → header ≡ with_counts header (files_in (names_in [])) (dirs_in (names_in []))
+no_names header =
+    let none : map.entries (map.empty {X = Inode} {R = key_cmp}) ≡ [] = nil_from_length (map.entries (map.empty {X = Inode} {R = key_cmp})) (sym (len-entries (map.empty {X = Inode} {R = key_cmp})) ∙ len-empty key_cmp Inode) in
+    let files : tally (λ (i : Inode). not (is_dir_kind i.kind)) (map.entries (map.empty {X = Inode} {R = key_cmp})) ≡ 0 = ap (tally (λ (i : Inode). not (is_dir_kind i.kind))) none in
+    let dirs : tally (λ (i : Inode). is_dir_kind i.kind) (map.entries (map.empty {X = Inode} {R = key_cmp})) ≡ 0 = ap (tally (λ (i : Inode). is_dir_kind i.kind)) none in
+    let a : header.files ≡ header.files + tally (λ (i : Inode). not (is_dir_kind i.kind)) (map.entries (map.empty {X = Inode} {R = key_cmp})) = omega (arith, files) in
+    let b : header.dirs ≡ header.dirs + tally (λ (i : Inode). is_dir_kind i.kind) (map.entries (map.empty {X = Inode} {R = key_cmp})) = omega (arith, dirs) in
+    λ i. record { version = header.version; files = a i; dirs = b i }
+
+-- the header that counts pairs has the entry counts of the names that they show
+pub names_counted : (es : List (List ℕ × List ℕ)) (header all : FragHeader) → T (is_sorted key_cmp es) → counted_after header es ≡ Some all
+    → all ≡ with_counts header (files_in (names_in es)) (dirs_in (names_in es))
+names_counted [] header all sorted is = sym (same_Some header all is) ∙ no_names header
+names_counted (e ∷ es) header all sorted is = go (λ next so. names_counted es next all (right_of _ _ sorted) so) (name_of e.0) (entry_of e.1) refl refl is
+  where
+    go : ((next : FragHeader) → counted_after next es ≡ Some all → all ≡ with_counts next (files_in (names_in es)) (dirs_in (names_in es)))
+        → (n : Option (List ℕ)) (o : Option Inode) → name_of e.0 ≡ n → entry_of e.1 ≡ o → (is_dir_under n o >>= λ is_dir. counted_after (with_one header is_dir) es) ≡ Some all
+        → all ≡ with_counts header (files_in (with_entry (names_in es) n o)) (dirs_in (with_entry (names_in es) n o))
+    go rest (Some name) (Some inode) k r so =
+        let keyed : e.0 ≡ entry_key name = (spelled_as SpellsKey name_of reads_key e.0 name k).1 in
+        let none : map.get (names_in es) name ≡ None = not_shown es name (right_of _ _ sorted) (not_found e.0 (entry_key name) es (sym keyed) (left_of _ _ sorted)) in
+        let files = insert_tally (λ (i : Inode). not (is_dir_kind i.kind)) (names_in es) name inode none in
+        let dirs = insert_tally (λ (i : Inode). is_dir_kind i.kind) (names_in es) name inode none in
+        rest (with_one header (is_dir_kind inode.kind)) so
+        ∙ one_step header (is_dir_kind inode.kind) (files_in (names_in es)) (dirs_in (names_in es)) (files_in (map.insert (names_in es) name inode)) (dirs_in (map.insert (names_in es) name inode)) files dirs
+    go rest (Some name) None k r so = absurd cc
+    go rest None o k r so = absurd cc

@@ -1,0 +1,18 @@
+use Rattle.std.proofs.Common.{◌≡◌, ℕ, true, false, List, refl, sym, ap, subst, ◌∙◌}
+use Rattle.dirfrag_codec.specs.FragHeader.{SpellsHeader}
+use Rattle.object_lines.specs.Entries.{counted}
+use Rattle.object_lines.proofs.ObjectLaws.{no_header, shows_fragment, shows_none}
+use Rattle.object_lines.proofs.fragments.frag_line.Goals as goal
+
+pub returns-in_default-clause-line : goal.returns-in_default-clause-line
+returns-in_default-clause-line c = no_header c.args.object.now _ (c.as_slice.ensures ∙ c.header.ensures) c.in_default.ensures.spelled
+
+pub returns-then-not-has_counts-clause-line : goal.returns-then-not-has_counts-clause-line
+returns-then-not-has_counts-clause-line c =
+    shows_none c.args.object.now c.in-Some.header (subst (λ (b : List ℕ). SpellsHeader b c.in-Some.header) (c.as_slice.ensures ∙ c.header.ensures) c.in-Some.ensures.spelled) _ (c.deref.ensures.value ∙ c.in_ok-pairs.ensures)
+    (λ so. let clash : false ≡ true = c.if-not-has_counts.ensures.1 (c.in_ok-counted.ensures ∙ so) in cc)
+
+pub returns-clause-line : goal.returns-clause-line
+returns-clause-line c =
+    shows_fragment c.args.object.now c.in-Some.header (subst (λ (b : List ℕ). SpellsHeader b c.in-Some.header) (c.as_slice.ensures ∙ c.header.ensures) c.in-Some.ensures.spelled) c.in_ok-pairs.pairs.items c.in_ok-pairs.ensures
+    c.in_ok-keys_of.field-0 (ap (counted c.in-Some.header.version) (sym c.deref.ensures.value) ∙ sym c.in_ok-counted.ensures ∙ c.if-not-has_counts.ensures.0 refl) c.in_ok-keys_of.ensures
