@@ -1,4 +1,4 @@
-pub mod Operated
+pub mod Committed
 pub mod LineLemmas
+pub mod Operated
 pub mod Progress
-pub mod ServedReplies

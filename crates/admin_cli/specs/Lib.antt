@@ -1,4 +1,7 @@
 pub mod Execute
-pub mod Scripts
-pub mod OneLine
 pub mod FaultText
+pub mod Jobs
+pub mod OneLine
+pub mod Scripts
+pub mod StepLines
+pub mod StoreLines

@@ -1,5 +1,5 @@
 -- One line of a script, from its bytes to what is written of it.
-use Rattle.std.specs.Prelude.{◌≡◌, ℕ, List, [], ◌∷◌, Option, Some, None, Result, Ok, Err}
+use Rattle.std.specs.Prelude.{◌≡◌, ◌⊎◌, ℕ, List, [], ◌∷◌, Option, Some, None, Result, Ok, Err}
 use Rattle.std.specs.Io.KnownBytes.{Appends, Keeps}
 use Rattle.script_text.specs.declared.lines.Line.{Line}
 use Rattle.script_text.specs.declared.lines.Line.TheVariants as line
@@ -10,11 +10,11 @@ use Rattle.admin_cli.specs.declared.faults.FaultKind.{FaultKind}
 use Rattle.admin_cli.specs.declared.faults.FaultKind.TheVariants.{NotCommand, TooLong, ReadFault, WriteFault, OutOfMemory}
 use Rattle.admin_cli.specs.Scripts.{text_of, DoesLine, RunsLine, StopsBefore}
 
--- a line before it is printed: the line to print, if it prints one, or that it is no command
+-- a line before it is printed: the line to print, if it prints one, that it is no command, or want of memory for what is kept of it
 abbrev pub AnswersLine : (old new : Admin) → Line → Result (Option OutputLine) FaultKind → Type 0
 AnswersLine old new found (Ok None) = DoesLine old new found []
 AnswersLine old new found (Ok (Some printed)) = DoesLine old new found (text_of printed)
-AnswersLine old new found (Err kind) = (found ≡ line.NotCommand) × (kind ≡ NotCommand)
+AnswersLine old new found (Err kind) = ((found ≡ line.NotCommand) × (kind ≡ NotCommand)) ⊎ (kind ≡ OutOfMemory)
 
 -- what is written of a text: all of it, for want of memory nothing, and at a write fault a beginning
 abbrev pub Prints : (before after : Option (List ℕ)) → List ℕ → Result (Unit {0}) FaultKind → Type 0

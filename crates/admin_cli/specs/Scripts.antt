@@ -1,6 +1,6 @@
 -- What a script does to a book, line after line, and what it writes.
-use Rattle.std.specs.Prelude.{◌≡◌, ℕ, ◌+◌, ◌^◌, ◌<◌, ◌≤◌, List, [], ◌∷◌, ◌++◌, length, codes, Option, IfSome, Result, Ok, Err}
-use Rattle.std.specs.Io.KnownBytes.{Appends}
+use Rattle.std.specs.Prelude.{◌≡◌, ◌⊎◌, ℕ, ◌+◌, ◌^◌, ◌<◌, ◌≤◌, List, [], ◌∷◌, ◌++◌, length, codes, Option, IfSome, Result, Ok, Err}
+use Rattle.std.specs.Io.KnownBytes.{Appends, Keeps}
 use Rattle.std.specs.FinMap as map
 use Rattle.cluster_core.specs.State.{Kept, new_state}
 use Rattle.script_text.specs.declared.lines.Line.{Line}
@@ -82,14 +82,23 @@ pub record RunsInput (old : Admin) (known before after : Option (List ℕ)) (res
   pub read : IfSome known (λ bytes. lines ≡ lines_of bytes)
   pub script : RunsScript old lines before after result
 
--- a book as `format` makes it: an empty tree, an empty history, and the state of a new cluster
-pub record IsFormatted (book : Kept) : Type 0 where
+-- a book as `format` makes it with a cache of so many places: an empty tree, an empty history, and the state of a new cluster
+pub record IsFormatted (cache : ℕ) (book : Kept) : Type 0 where
   pub opening : book.opening ≡ map.empty
   pub history : book.history ≡ []
   pub state : book.core.state ≡ new_state
+  pub places : book.core.cache.cap ≡ cache
 
 -- a whole script, from a new book, with no line read yet
-pub record RunsNew (known before after : Option (List ℕ)) (result : Result (Unit {0}) ScriptFault) : Type 0 where
+pub record RunsFormatted (cache : ℕ) (known before after : Option (List ℕ)) (result : Result (Unit {0}) ScriptFault) : Type 0 where
   pub book : Kept
-  pub formatted : IsFormatted book
-  pub runs : RunsInput (record { book = book; operations = 0 }) known before after result
+  pub formatted : IsFormatted cache book
+  pub runs : RunsInput (record { book = book; operations = 0; jobs = map.empty }) known before after result
+
+-- memory for a book was refused before the first line: nothing was written
+pub record HasNoBook (before after : Option (List ℕ)) (result : Result (Unit {0}) ScriptFault) : Type 0 where
+  pub told : result ≡ Err (record { line = 1; kind = OutOfMemory })
+  pub same : Keeps before after
+
+abbrev pub RunsNew : ℕ → (known before after : Option (List ℕ)) → Result (Unit {0}) ScriptFault → Type 0
+RunsNew cache known before after result = RunsFormatted cache known before after result ⊎ HasNoBook before after result

@@ -10,7 +10,7 @@ use std::alloc::Global;
 pub struct Options {
     /// How many ranks the cluster has; 1, so far.
     pub ranks: u8,
-    /// How many fragments a rank may cache; it has no effect yet.
+    /// How many fragments a rank may cache.
     pub cache: u32,
 }
 
@@ -35,6 +35,33 @@ pub fn settings(alloc: Global, words: &[String]) -> Result<Options, Error>
     Err(program.error(ErrorKind::InvalidValue, "a number is out of its range")?)
 }
 
+// What a line of a script may be.
+const LINES: &str = "\
+A line of the script is one of these, and one line is printed for each. Directories are named by
+inode number in hexadecimal, the root is 1; a fragment is written as its bits and a star, as 01*.
+Empty lines, lines of spaces and lines that begin with # print nothing.
+
+Operations (OP), served at rank 0:
+  lookup INO NAME                   readdir INO AFTER MAX (AFTER - for none)
+  create INO NAME MODE              mkdir INO NAME MODE
+  symlink INO NAME TARGET           readlink INO NAME
+  setattr INO NAME [mode MODE] [size N] [mtime N]
+  unlink INO NAME                   rmdir INO NAME
+  rename INO NAME INO NAME
+Clients:
+  req RANK CLIENT TID OLDEST OP     serve RANK
+Fragments:
+  dirfrag split RANK INO FRAG NB    dirfrag merge RANK INO FRAG
+  dirfrag ls INO
+Commits and the store:
+  commit RANK INO FRAG              begin RANK INO FRAG
+  end JOB                           drop JOB
+  tree INO                          purge
+  evict RANK                        object NAME
+  objects                           history
+
+In names and targets % and two hexadecimal digits stand for a byte.";
+
 // The command that clap parses.
 fn program<'a>(alloc: Global) -> Result<Command<'a>, Error> {
     let ranks = Arg::new(alloc, "ranks")
@@ -51,10 +78,12 @@ fn program<'a>(alloc: Global) -> Result<Command<'a>, Error> {
         .help("Fragments that a rank may cache");
     let script = Command::new(alloc, "script")
         .about("Runs a script from standard input over a cluster with an empty tree")
+        .after_help(LINES)
         .arg(ranks)?
         .arg(cache)?;
     let program = Command::new(alloc, "cephmeta")
         .about("A metadata cluster in one process")
+        .version("0.1.0")
         .subcommand_required(true)
         .subcommand(script)?;
     Ok(program)

@@ -1,51 +1,72 @@
 //! Commands over a book.
 
-ghost use Rattle.std.specs.Prelude.{◌≡◌, ◌+◌, ◌<◌, ◌^◌};
+ghost use Rattle.std.specs.Prelude.{◌≡◌, ◌+◌, ◌<◌, ◌≤◌, ◌^◌, IfOk};
+ghost use Rattle.std.specs.FinMap as map;
+ghost use Rattle.admin_cli.specs.StepLines.{shown_line as line_of};
 
+use crate::kept_jobs::KeptJobs;
 use cluster_core::{Answer, Book, Event};
-use mds_types::{Frag, Ino, Op, Rank, Request};
+use mds_types::{Frag, Ino, Op, Rank, Refusal, Request};
+use objstore::MemStore;
 use script_output::{FragList, OutputLine};
 use script_text::Command;
-use std::alloc::Global;
+use std::alloc::{AllocError, Global};
 
-/// A book, and how many lines with an operation alone were read for it.
-#[derive(Debug, Drop)]
+/// A book, how many lines with an operation alone were read for it, and the jobs that were begun.
+#[derive(Drop)]
 pub struct Admin {
-    book: Book,
+    pub(crate) book: Book<MemStore>,
     operations: u64,
+    pub(crate) jobs: KeptJobs,
 }
 
 impl Admin {
-    ghost use Rattle.admin_cli.specs.Execute.{ArrivesLine, Executes, ListsLine, MergesLine, OperatesLine, ServesLine, SplitsLine};
+    ghost use Rattle.cluster_core.specs.declared.events.Event.TheVariants.{Arrive};
+    ghost use Rattle.admin_cli.specs.Execute.{Executes, ListsLine, OperatesLine};
+    ghost use Rattle.admin_cli.specs.StepLines.{Does, StepsLine, arrived_line};
 
     /// An administrator of this book, who has read no line yet.
-    pub fn new(book: Book) -> Admin
-        ensures { result ≡ record { book = book; operations = 0 } }
+    pub fn new(alloc: Global, book: Book<MemStore>) -> Admin
+        ensures { result ≡ record { book = book; operations = 0; jobs = map.empty } }
     {
         Admin {
             book,
             operations: 0,
+            jobs: KeptJobs::new(alloc),
         }
     }
 
-    /// Does what a command asks for, and answers the line to print. So many lines were read that one more fits 64 bits.
-    pub fn execute(&mut self, alloc: Global, command: Command) -> OutputLine
+    /// Does what a command asks for, and answers the line to print. So many lines were read that one more fits 64 bits. An
+    /// error is want of memory for a job that is kept, or for its copy.
+    pub fn execute(&mut self, alloc: Global, command: Command) -> Result<OutputLine, AllocError>
         requires { self.old.operations + 1 < 2 ^ 64 }
-        ensures { Executes self.old self.new command result }
+        ensures line { IfOk result (Executes self.old self.new command) }
+        ensures count { self.new.operations ≤ self.old.operations + 1 }
     {
         match command {
-            Command::Operation(op) => self.operate(alloc, op),
-            Command::Request(rank, request) => self.arrive(alloc, rank, request),
-            Command::Serve(rank) => self.serve(alloc, rank),
-            Command::History => OutputLine::History(self.book.history().len() as u64),
+            Command::Store(command) => self.execute_store(alloc, command),
+            Command::Operation(op) => Ok(self.operate(alloc, op)),
+            Command::Request(rank, request) => Ok(self.arrive(alloc, rank, request)),
+            Command::Serve(rank) => Ok(self.step(alloc, Event::Serve { rank })),
+            Command::History => Ok(OutputLine::History(self.book.history().len() as u64)),
             Command::Split {
                 rank,
                 ino,
                 frag,
                 bits,
-            } => self.split(alloc, rank, ino, frag, bits),
-            Command::Merge { rank, ino, frag } => self.merge(alloc, rank, ino, frag),
-            Command::Leaves(ino) => self.leaves(alloc, ino),
+            } => Ok(self.step(
+                alloc,
+                Event::Split {
+                    rank,
+                    ino,
+                    frag,
+                    bits,
+                },
+            )),
+            Command::Merge { rank, ino, frag } => {
+                Ok(self.step(alloc, Event::Merge { rank, ino, frag }))
+            }
+            Command::Leaves(ino) => Ok(self.leaves(alloc, ino)),
         }
     }
 
@@ -54,6 +75,7 @@ impl Admin {
     fn operate(&mut self, alloc: Global, op: Op) -> OutputLine
         requires { self.old.operations + 1 < 2 ^ 64 }
         ensures count { self.new.operations ≡ self.old.operations + 1 }
+        ensures jobs { self.new.jobs ≡ self.old.jobs }
         ensures operated { OperatesLine self.old.book self.new.book self.new.operations op result }
     {
         self.operations += 1;
@@ -74,13 +96,14 @@ impl Admin {
         if let Err(refusal) = arrived {
             return OutputLine::Refused(refusal);
         }
-        self.serve(alloc, Rank(0))
+        self.step(alloc, Event::Serve { rank: Rank(0) })
     }
 
     // A request comes in at a rank.
     fn arrive(&mut self, alloc: Global, rank: Rank, request: Request) -> OutputLine
         ensures count { self.new.operations ≡ self.old.operations }
-        ensures arrived { ArrivesLine self.old.book self.new.book rank request result }
+        ensures jobs { self.new.jobs ≡ self.old.jobs }
+        ensures arrived { StepsLine self.old.book self.new.book (Arrive rank request) arrived_line result }
     {
         let arrived = self.book.step(alloc, Event::Arrive { rank, request });
         if let Err(refusal) = arrived {
@@ -89,63 +112,11 @@ impl Admin {
         OutputLine::Queued
     }
 
-    fn serve(&mut self, alloc: Global, rank: Rank) -> OutputLine
-        ensures count { self.new.operations ≡ self.old.operations }
-        ensures served { ServesLine self.old.book self.new.book rank result }
+    // One event.
+    pub(crate) fn step(&mut self, alloc: Global, event: Event) -> OutputLine
+        ensures { Does self.old self.new event result }
     {
-        match self.book.step(alloc, Event::Serve { rank }) {
-            Ok(
-                Answer::Reply {
-                    client,
-                    tid,
-                    place,
-                    first,
-                    reply,
-                },
-            ) => {
-                OutputLine::Reply {
-                    client,
-                    tid,
-                    place: place as u64,
-                    first,
-                    reply,
-                }
-            }
-            Ok(Answer::Nothing) => unreachable!(),
-            Err(refusal) => OutputLine::Refused(refusal),
-        }
-    }
-
-    // A leaf of a directory is split.
-    fn split(&mut self, alloc: Global, rank: Rank, ino: Ino, frag: Frag, bits: u8) -> OutputLine
-        ensures count { self.new.operations ≡ self.old.operations }
-        ensures split { SplitsLine self.old.book self.new.book rank ino frag bits result }
-    {
-        let split = self.book.step(
-            alloc,
-            Event::Split {
-                rank,
-                ino,
-                frag,
-                bits,
-            },
-        );
-        if let Err(refusal) = split {
-            return OutputLine::Refused(refusal);
-        }
-        OutputLine::Nothing
-    }
-
-    // Leaves of a directory are merged.
-    fn merge(&mut self, alloc: Global, rank: Rank, ino: Ino, frag: Frag) -> OutputLine
-        ensures count { self.new.operations ≡ self.old.operations }
-        ensures merged { MergesLine self.old.book self.new.book rank ino frag result }
-    {
-        let merged = self.book.step(alloc, Event::Merge { rank, ino, frag });
-        if let Err(refusal) = merged {
-            return OutputLine::Refused(refusal);
-        }
-        OutputLine::Nothing
+        shown_line(self.book.step(alloc, event))
     }
 
     // The leaves of a directory.
@@ -156,5 +127,31 @@ impl Admin {
             Ok(leaves) => OutputLine::Frags(FragList::from_vec(leaves)),
             Err(refusal) => OutputLine::Refused(refusal),
         }
+    }
+}
+
+// The line that shows what a step came to.
+fn shown_line(came: Result<Answer, Refusal>) -> OutputLine
+    ensures { result ≡ line_of came }
+{
+    match came {
+        Ok(Answer::Nothing) => OutputLine::Nothing,
+        Ok(Answer::Job(job)) => OutputLine::Job(job.number),
+        Ok(
+            Answer::Reply {
+                client,
+                tid,
+                place,
+                first,
+                reply,
+            },
+        ) => OutputLine::Reply {
+            client,
+            tid,
+            place: place as u64,
+            first,
+            reply,
+        },
+        Err(refusal) => OutputLine::Refused(refusal),
     }
 }

@@ -4,7 +4,9 @@
 mod command_line;
 mod commands;
 mod faults;
+mod kept_jobs;
 mod script;
+mod store_commands;
 
 pub use command_line::{Options, settings};
 pub use faults::{FaultKind, ScriptFault};

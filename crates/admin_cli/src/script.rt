@@ -6,6 +6,7 @@ ghost use Rattle.admin_cli.specs.OneLine.{EndsLine, AnswersLine, Prints};
 use crate::commands::Admin;
 use crate::faults::{FaultKind, ScriptFault};
 use cluster_core::format;
+use objstore::MemStore;
 use script_output::{OutputFault, OutputLine, write_line};
 use script_text::{Line, LineBuffer, LineFault, NextLine, next_line, read_line};
 use std::alloc::Global;
@@ -24,11 +25,16 @@ pub fn run_script<H: AllocGlobal, R: Read + Drop, W: Write>(
     requires ranked { ranks ≡ 1 }
     requires least { 512 ≤ cache }
     requires most { cache ≤ 65536 }
-    ensures { RunsNew (R.remaining reader) (W.contents writer.old) (W.contents writer.new) result }
+    ensures { RunsNew cache (R.remaining reader) (W.contents writer.old) (W.contents writer.new) result }
 {
     let alloc = rt.alloc();
-    let mut admin = Admin::new(format(alloc, ranks, cache));
-    run_input(alloc, reader, writer, &mut admin)
+    match format(alloc, MemStore::new(alloc), ranks, cache) {
+        Ok(book) => {
+            let mut admin = Admin::new(alloc, book);
+            run_input(alloc, reader, writer, &mut admin)
+        }
+        Err(_) => Err(NO_MEMORY_AT_START),
+    }
 }
 
 // Takes the memory that reading needs, and runs the lines of a reader.
@@ -123,7 +129,10 @@ fn do_line(alloc: Global, line: Line, admin: &mut Admin) -> Result<Option<Output
         Line::Nothing => Ok(None),
         Line::NotCommand => Err(FaultKind::NotCommand),
         Line::BadWord(errno) => Ok(Some(OutputLine::Errno(errno))),
-        Line::Command(command) => Ok(Some(admin.execute(alloc, command))),
+        Line::Command(command) => match admin.execute(alloc, command) {
+            Ok(output) => Ok(Some(output)),
+            Err(_) => Err(FaultKind::OutOfMemory),
+        },
     }
 }
 

@@ -12,11 +12,11 @@ use Rattle.mds_types.specs.History.{after, IsNext, IsLawful}
 use Rattle.mds_types.proofs.HistoryLaws.{after-push, legal-push, used-push}
 use Rattle.inode_table.specs.Numbers.{Supply, IsSupply, offer, first_number, end_number}
 use Rattle.sessions.proofs.TableLaws.{table-push}
-use Rattle.cluster_core.specs.State.{State, shown}
+use Rattle.mdcache.specs.Cached.{IsKept}
+use Rattle.cluster_core.specs.State.{Core, State, shown}
 use Rattle.cluster_core.specs.declared.events.Answer.{Answer}
 use Rattle.cluster_core.specs.Offer.{after_taking}
 use Rattle.cluster_core.specs.Serve.{IsApplied, entry_of, number_of, outcome_of, with_entry}
-use Rattle.dirfrags.specs.Divided.{IsDivided}
 use Rattle.cluster_core.specs.Sound.{IsFresh, IsSound}
 
 -- what an offer of a number comes to: the table took it, or it took none and the outcome is that of any number
@@ -79,28 +79,29 @@ lawful opening past s (Some n) h fresh next_one = λ before.
     omega (arith, w.0, fresh n.0 low high before)
 
 -- a book stays sound where a request is applied
-pub sound-applied : (opening : Tree) (past now : List Entry) (old new : State) (request : Request) (rest : List Request) (answer : Answer)
-    → IsSound opening past old → IsDivided new.homes new.covers new.dentries → IsApplied old new past now request rest answer → IsSound opening now new
-sound-applied opening past now old new request rest answer sound divided done =
-    let e = entry_of old request in
-    let t = taking_of old request done.numbered in
-    let tree = after opening past in
-    let same : step tree e.op (number_or e.number) ≡ outcome_of old request = ap (λ (t : Tree). step t e.op (number_or e.number)) (sym sound.replayed) ∙ t.same in
+pub sound-applied : (opening : Tree) (past now : List Entry) (old new : Core) (request : Request) (rest : List Request) (answer : Answer)
+    → IsSound opening past old → IsKept new.state.tree new.cache → IsApplied old.state new.state past now request rest answer → IsSound opening now new
+sound-applied opening past now old new request rest answer sound tree done =
+    let before = old.state in
+    let e = entry_of before request in
+    let t = taking_of before request done.numbered in
+    let first = after opening past in
+    let same : step first e.op (number_or e.number) ≡ outcome_of before request = ap (λ (t : Tree). step t e.op (number_or e.number)) (sym sound.replayed) ∙ t.same in
     let next : IsNext opening past e = record {
       once = done.is_new.absent;
       own = done.is_new.own;
       marked = done.is_new.marked;
       number = t.numbered ∙ ap (λ (o : Outcome). o.takes) (sym same);
-      lawful = lawful opening past old.numbers e.number sound.supplied sound.fresh t.next_one;
+      lawful = lawful opening past before.numbers e.number sound.supplied sound.fresh t.next_one;
       reply = ap (λ (o : Outcome). o.reply) (sym same);
     } in
-    let numbers : new.numbers ≡ after_taking old.numbers e.number = ap (λ (s : State). s.numbers) done.left in
-    let sessions : new.sessions ≡ with_entry old.sessions (length past) e = ap (λ (s : State). s.sessions) done.left in
+    let numbers : new.state.numbers ≡ after_taking before.numbers e.number = ap (λ (s : State). s.numbers) done.left in
+    let sessions : new.state.sessions ≡ with_entry before.sessions (length past) e = ap (λ (s : State). s.sessions) done.left in
     record {
       legal = rw done.appended (legal-push opening past e sound.legal next);
       replayed = done.tree ∙ ap (λ (o : Outcome). o.tree) (sym same) ∙ sym (after-push opening past e) ∙ ap (after opening) (sym done.appended);
-      divided = divided;
-      supplied = rw numbers (after_taking-supplied old.numbers e.number sound.supplied t.next_one);
-      fresh = rw (numbers, done.appended) (after_taking-fresh opening past old.numbers e sound.fresh (λ n is. (t.next_one n is).0));
-      kept = rw (sessions, done.appended) (table-push past old.sessions e sound.kept);
+      tree = tree;
+      supplied = rw numbers (after_taking-supplied before.numbers e.number sound.supplied t.next_one);
+      fresh = rw (numbers, done.appended) (after_taking-fresh opening past before.numbers e sound.fresh (λ n is. (t.next_one n is).0));
+      kept = rw (sessions, done.appended) (table-push past before.sessions e sound.kept);
     }

@@ -1,5 +1,5 @@
 -- Whole runs: the history grows, and each reply that was handed out stands in it.
-use Rattle.std.proofs.Common.{◌≡◌, ℕ, ◌+◌, ◌<◌, ◌≤◌, Bool, true, false, nat_lt, List, [], ◌∷◌, ◌++◌, take, drop, get_or, length, suc, ◌-◌, MatchBool, Result, Ok, Err, inl, inr, refl, sym, ap, subst, ◌∙◌, append_assoc, arith}
+use Rattle.std.proofs.Common.{◌≡◌, ℕ, ◌+◌, ◌<◌, ◌≤◌, Bool, true, false, nat_lt, List, [], ◌∷◌, ◌++◌, Option, Some, None, take, drop, get_or, length, suc, ◌-◌, MatchBool, Result, Ok, Err, inl, inr, refl, sym, ap, subst, ◌∙◌, append_assoc, arith}
 use Rattle.std.proofs.Math.Seq.{get_or-append_seam}
 use Rattle.std.proofs.lemmas.List.{append-nil, length-append, length-drop, get_or_append_left, drop_more, take_more, take_all}
 use Rattle.std.proofs.lemmas.Bool.{eqb-true, and_parts}
@@ -7,16 +7,20 @@ use Rattle.std.specs.List.{slice_index_or}
 use Rattle.mds_types.specs.declared.entries.Entry.{Entry}
 use Rattle.mds_types.specs.declared.requests.Request.{Request}
 use Rattle.mds_types.specs.declared.replies.Reply.{Reply as Replied}
+use Rattle.mds_types.specs.declared.operations.Op.{Op}
 use Rattle.mds_types.specs.declared.refusals.Refusal.{Refusal}
 use Rattle.mds_types.specs.declared.refusals.Refusal.TheVariants.{NotAuthority, InboxEmpty}
 use Rattle.cluster_core.specs.declared.events.Answer.{Answer}
-use Rattle.cluster_core.specs.declared.events.Answer.TheVariants.{Nothing, Reply}
+use Rattle.commit_jobs.specs.declared.jobs.Job.{Job as Begun}
+use Rattle.cluster_core.specs.declared.events.Answer.TheVariants.{Job, Nothing, Reply}
 use Rattle.cluster_core.specs.declared.events.Event.{Event}
-use Rattle.cluster_core.specs.declared.events.Event.TheVariants.{Arrive, Serve, Split, Merge}
-use Rattle.cluster_core.specs.State.{Kept, State}
+use Rattle.cluster_core.specs.declared.events.Event.TheVariants.{Arrive, Serve, Split, Merge, CommitBegin, CommitEnd, CommitDrop, CommitTree, Purge, Evict}
+use Rattle.cluster_core.specs.State.{Core, Kept, State}
 use Rattle.cluster_core.specs.Serve.{IsApplied, IsRepeated, IsLeft, ServesRequest, ServesInbox, entry_of}
-use Rattle.cluster_core.specs.Splits.{DoesUnseen}
-use Rattle.cluster_core.specs.Steps.{Steps, ArrivesInbox, MayRefuse, ranks}
+use Rattle.mdcache.specs.Commits.{Begins, Drops, Ends}
+use Rattle.mdcache.specs.Objects.{Purges, SavesTree}
+use Rattle.cluster_core.specs.Administers.{Administers, EvictsOne, MergesLeaves, SplitsLeaf, nothing, told_job}
+use Rattle.cluster_core.specs.Steps.{ArrivesInbox, Does, MayRefuse, ranks}
 use Rattle.cluster_core.specs.Runs.{StepsBook, Runs, IsRun, StandsAt, IsOfHistory, BeginsWith}
 
 -- what one step leaves of the history, and what its answer says of it
@@ -73,32 +77,51 @@ module _ (old new : State) (past now : List Entry) where
   arrived request (Ok answer) h = quiet answer h.0 h.3
   arrived request (Err reason) h = left reason h.1
 
-  served : (request : Request) (rest : List Request) (result : Result Answer Refusal) → ServesRequest old new past now MayRefuse request rest result → IsStepOf past now result
-  served request rest (Ok answer) (inl h) = applied old new past now request rest answer h
-  served request rest (Ok answer) (inr h) = repeated old new past now request rest answer h
-  served request rest (Err reason) (inl h) = refused past now reason h.2.same
-  served request rest (Err reason) (inr (inl h)) = refused past now reason h.3.same
-  served request rest (Err reason) (inr (inr (inl h))) = left reason h.2
-  served request rest (Err reason) (inr (inr (inr h))) = left reason h.3
+  served : (MayRefuse : Op → Refusal → Type 0) (request : Request) (rest : List Request) (result : Result Answer Refusal) → ServesRequest old new past now MayRefuse request rest result → IsStepOf past now result
+  served MayRefuse request rest (Ok answer) (inl h) = applied old new past now request rest answer h
+  served MayRefuse request rest (Ok answer) (inr h) = repeated old new past now request rest answer h
+  served MayRefuse request rest (Err reason) (inl h) = refused past now reason h.2.same
+  served MayRefuse request rest (Err reason) (inr (inl h)) = refused past now reason h.3.same
+  served MayRefuse request rest (Err reason) (inr (inr (inl h))) = left reason h.2
+  served MayRefuse request rest (Err reason) (inr (inr (inr h))) = left reason h.3
 
-  served_inbox : (result : Result Answer Refusal) (inbox : List Request) → ServesInbox old new past now MayRefuse result inbox → IsStepOf past now result
-  served_inbox result [] h = subst (IsStepOf past now) (sym h.0) (left InboxEmpty h.1)
-  served_inbox result (request ∷ rest) h = served request rest result h
+  served_inbox : (MayRefuse : Op → Refusal → Type 0) (result : Result Answer Refusal) (inbox : List Request) → ServesInbox old new past now MayRefuse result inbox → IsStepOf past now result
+  served_inbox MayRefuse result [] h = subst (IsStepOf past now) (sym h.0) (left InboxEmpty h.1)
+  served_inbox MayRefuse result (request ∷ rest) h = served MayRefuse request rest result h
 
-  done_unseen : (Done : Type 0) (Refuses : Refusal → Type 0) (result : Result Answer Refusal) → DoesUnseen old new past now Done Refuses result → IsStepOf past now result
-  done_unseen Done Refuses (Ok answer) h = quiet answer h.0 h.2.same
-  done_unseen Done Refuses (Err reason) h = left reason h.1
+  -- an administrator's step adds nothing to the history, and what it tells is no reply
+  administered : {X : Type 0} (told : X → Answer) (Did : Result X Refusal → Type 0) → ((given : X) → IsOfHistory now (Ok (told given)))
+      → (result : Result Answer Refusal) → Administers old new past now told Did result → IsStepOf past now result
+  administered told Did quiet_told (Ok answer) h =
+      record { grows = unchanged past now h.3.same; told = subst (λ a. IsOfHistory now (Ok a)) (sym h.1) (quiet_told h.0) }
+  administered told Did quiet_told (Err reason) h = left reason h.1
+
+  done : (Did : Result (Unit {0}) Refusal → Type 0) (result : Result Answer Refusal) → Administers old new past now nothing Did result → IsStepOf past now result
+  done Did result h = administered nothing Did (λ given. tt) result h
+
+  job_is_no_reply : (job : Option Begun) → IsOfHistory now (Ok (told_job job))
+  job_is_no_reply None = tt
+  job_is_no_reply (Some job) = tt
+
+  begun : (Did : Result (Option Begun) Refusal → Type 0) (result : Result Answer Refusal) → Administers old new past now told_job Did result → IsStepOf past now result
+  begun Did result h = administered told_job Did job_is_no_reply result h
 
   at_rank : (here : Bool) (result : Result Answer Refusal) {done : Type 0} → (done → IsStepOf past now result) → MatchBool here done ((result ≡ Err NotAuthority) × IsLeft old new past now) → IsStepOf past now result
   at_rank true result go h = go h
   at_rank false result go h = subst (IsStepOf past now) (sym h.0) (left NotAuthority h.1)
 
-  -- one step adds to the history alone, and a reply that it hands out stands there
-  pub step_of : (result : Result Answer Refusal) (event : Event) → Steps old new past now result event → IsStepOf past now result
-  step_of result (Arrive rank request) h = at_rank (nat_lt rank.0 ranks) result (arrived request result) h
-  step_of result (Serve rank) h = at_rank (nat_lt rank.0 ranks) result (served_inbox result old.inbox) h
-  step_of result (Split rank dir f nb) h = at_rank (nat_lt rank.0 ranks) result (done_unseen _ _ result) h
-  step_of result (Merge rank dir f) h = at_rank (nat_lt rank.0 ranks) result (done_unseen _ _ result) h
+-- one step adds to the history alone, and a reply that it hands out stands there
+pub step_of : (old new : Core) (past now : List Entry) (result : Result Answer Refusal) (event : Event) → Does old new past now result event → IsStepOf past now result
+step_of old new past now result (Arrive rank request) h = at_rank old.state new.state past now (nat_lt rank.0 ranks) result (arrived old.state new.state past now request result) h
+step_of old new past now result (Serve rank) h = at_rank old.state new.state past now (nat_lt rank.0 ranks) result (served_inbox old.state new.state past now (MayRefuse old new) result old.state.inbox) h
+step_of old new past now result (Split rank dir f nb) h = at_rank old.state new.state past now (nat_lt rank.0 ranks) result (done old.state new.state past now (SplitsLeaf old new dir f nb) result) h
+step_of old new past now result (Merge rank dir f) h = at_rank old.state new.state past now (nat_lt rank.0 ranks) result (done old.state new.state past now (MergesLeaves old new dir f) result) h
+step_of old new past now result (CommitBegin rank dir f) h = at_rank old.state new.state past now (nat_lt rank.0 ranks) result (begun old.state new.state past now (Begins old.state.tree new.state.tree (dir, f)) result) h
+step_of old new past now result (CommitEnd encoded) h = done old.state new.state past now (Ends old.state.tree new.state.tree old.faults new.faults encoded.job) result h
+step_of old new past now result (CommitDrop number) h = done old.state new.state past now (Drops old.state.tree new.state.tree number) result h
+step_of old new past now result (CommitTree dir) h = done old.state new.state past now (SavesTree old.state.tree new.state.tree old.faults new.faults dir) result h
+step_of old new past now result Purge h = done old.state new.state past now (Purges old.state.tree new.state.tree old.faults new.faults) result h
+step_of old new past now result (Evict rank) h = at_rank old.state new.state past now (nat_lt rank.0 ranks) result (done old.state new.state past now (EvictsOne old new) result) h
 
 -- what stands in a history stands in each that begins with it
 still_stands : (past now : List Entry) (client tid place : ℕ) (reply : Replied) → BeginsWith now past → StandsAt past client tid place reply → StandsAt now client tid place reply
@@ -113,6 +136,7 @@ still_stands past now client tid place reply (rest, grown) h =
 
 still_told : (past now : List Entry) (result : Result Answer Refusal) → BeginsWith now past → IsOfHistory past result → IsOfHistory now result
 still_told past now (Ok Nothing) grown h = tt
+still_told past now (Ok (Job job)) grown h = tt
 still_told past now (Ok (Reply client tid place first reply)) grown h = still_stands past now client tid place reply grown h
 still_told past now (Err reason) grown h = tt
 
@@ -133,7 +157,7 @@ run_of start [] [] end h = run_of_no_events start end h
 run_of start [] (result ∷ results) end h = absurd h
 run_of start (event ∷ events) [] end h = absurd h
 run_of start (event ∷ events) (result ∷ results) end (next, one, more) =
-    let first = step_of start.core.state next.core.state start.history next.history result event one.stepped in
+    let first = step_of start.core next.core start.history next.history result event one.stepped.does in
     let others = run_of next events results end more in
     record {
       ran = (next, one, more);

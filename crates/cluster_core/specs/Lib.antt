@@ -2,12 +2,12 @@ pub use Rattle.mds_types.specs.Tree
 pub use Rattle.mds_types.specs.Step
 pub use Rattle.mds_types.specs.History
 pub use Rattle.inode_table.specs.Numbers
+pub mod Administers
 pub mod Inbox
 pub mod Offer
 pub mod Prepared
 pub mod Runs
 pub mod Serve
 pub mod Sound
-pub mod Splits
 pub mod State
 pub mod Steps

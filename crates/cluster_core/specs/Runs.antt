@@ -5,14 +5,14 @@ use Rattle.mds_types.specs.declared.entries.Entry.{Entry}
 use Rattle.mds_types.specs.declared.replies.Reply.{Reply as Replied}
 use Rattle.mds_types.specs.declared.refusals.Refusal.{Refusal}
 use Rattle.cluster_core.specs.declared.events.Answer.{Answer}
-use Rattle.cluster_core.specs.declared.events.Answer.TheVariants.{Nothing, Reply}
+use Rattle.cluster_core.specs.declared.events.Answer.TheVariants.{Job, Nothing, Reply}
 use Rattle.cluster_core.specs.declared.events.Event.{Event}
 use Rattle.cluster_core.specs.State.{Kept}
 use Rattle.cluster_core.specs.Steps.{Steps}
 
 -- one event leads from a book to the next, with this result
 pub record StepsBook (old new : Kept) (result : Result Answer Refusal) (event : Event) : Type 0 where
-  pub stepped : Steps old.core.state new.core.state old.history new.history result event
+  pub stepped : Steps old.core new.core old.history new.history result event
   pub same_opening : new.opening ≡ old.opening
 
 -- events lead from one book to another, one after the other, with a result for each
@@ -33,6 +33,7 @@ pub record StandsAt (history : List Entry) (client tid place : ℕ) (reply : Rep
 abbrev pub IsOfHistory : List Entry → Result Answer Refusal → Type 0
 IsOfHistory history (Ok Nothing) = Unit {0}
 IsOfHistory history (Ok (Reply client tid place first reply)) = StandsAt history client tid place reply
+IsOfHistory history (Ok (Job job)) = Unit {0}
 IsOfHistory history (Err reason) = Unit {0}
 
 -- one history begins with another

@@ -3,18 +3,24 @@ use Rattle.std.specs.Prelude.{◌≡◌, ◌≢◌, ℕ, true, false, cond, ◌�
 use Rattle.std.specs.List.{slice_index_or}
 use Rattle.mds_types.specs.declared.ids.Ino.{Ino}
 use Rattle.mds_types.specs.declared.entries.Entry.{Entry}
+use Rattle.mds_types.specs.declared.operations.Op.{Op}
 use Rattle.mds_types.specs.declared.replies.Reply.{Reply as Replied}
 use Rattle.mds_types.specs.declared.requests.Request.{Request}
 use Rattle.mds_types.specs.declared.refusals.Refusal.{Refusal}
 use Rattle.mds_types.specs.declared.refusals.Refusal.TheVariants.{NoMemory, NoInodes, Trimmed, InboxEmpty}
+use Rattle.mds_types.specs.Frag.{root_fragment}
 use Rattle.mds_types.specs.Step.{Outcome, step, number_or}
+use Rattle.mds_types.specs.Tree.{Tree, is_directory}
 use Rattle.mds_types.specs.History.{IsTrimmed, IsKeptAt, IsNew}
+use Rattle.inode_table.specs.Dirs.{Covers, leaves_of}
 use Rattle.inode_table.specs.Numbers.{offer}
 use Rattle.sessions.specs.Table.{Table, noted, trimmed}
+use Rattle.namespace_ops.specs.ChangedFragments.{changed_fragments}
+use Rattle.namespace_ops.specs.Kept.{ChangesOnly}
 use Rattle.namespace_ops.specs.Served.{LacksNumber}
+use Rattle.mdcache.specs.Made.{IsUntouched}
 use Rattle.cluster_core.specs.declared.events.Answer.{Answer}
 use Rattle.cluster_core.specs.declared.events.Answer.TheVariants.{Reply}
-use Rattle.dirfrags.specs.Divided.{CarryLeaves}
 use Rattle.cluster_core.specs.State.{State, shown}
 use Rattle.cluster_core.specs.Offer.{after_taking}
 
@@ -41,6 +47,10 @@ entry_of state request = record {
 abbrev pub with_entry : Table → ℕ → Entry → Table
 with_entry sessions place e = trimmed (noted sessions e.client e.tid e.oldest place e.reply) e.client
 
+-- each directory that stands has the leaves that it had before, and one that came the leaf `*`
+abbrev pub CarryLeaves : (before tree : Tree) → (old new : Covers) → Type 0
+CarryLeaves before tree old new = (d : ℕ) → is_directory tree d ≡ true → leaves_of new d ≡ cond (is_directory before d) (leaves_of old d) (root_fragment ∷ [])
+
 -- a refusal that leaves all as it was
 pub record IsLeft (old new : State) (past now : List Entry) : Type 0 where
   pub same : now ≡ past
@@ -51,7 +61,8 @@ pub record IsTakenOut (old new : State) (past now : List Entry) (rest : List Req
   pub same : now ≡ past
   pub left : new ≡ record old { inbox = rest }
 
--- a new request was applied: one entry more, and the table's tree and reply
+-- a new request was applied: one entry more, and the table's tree and reply. A leaf that is none of those which the operation changes shows
+-- what it showed
 pub record IsApplied (old new : State) (past now : List Entry) (request : Request) (rest : List Request) (answer : Answer) : Type 0 where
   pub is_new : IsNew past request.client request.tid request.oldest
   pub answered : answer ≡ Reply request.client request.tid (length past) true (outcome_of old request).reply
@@ -59,9 +70,9 @@ pub record IsApplied (old new : State) (past now : List Entry) (request : Reques
   pub numbered : offer old.numbers ≡ None → (outcome_of old request).takes ≡ false
   pub appended : now ≡ past ++ entry_of old request ∷ []
   pub tree : shown new ≡ (outcome_of old request).tree
-  pub leaves : CarryLeaves (shown old) (shown new) old.covers new.covers
-  -- where directories stand and where names lie follows from the tree and the leaves
-  pub left : new ≡ record new { inbox = rest; numbers = after_taking old.numbers (number_of old request); sessions = with_entry old.sessions (length past) (entry_of old request) }
+  pub leaves : CarryLeaves (shown old) (shown new) old.tree.covers new.tree.covers
+  pub frame : ChangesOnly (IsUntouched old.tree new.tree) (changed_fragments old.tree.covers (shown old) request.op)
+  pub left : new ≡ record old { tree = new.tree; inbox = rest; numbers = after_taking old.numbers (number_of old request); sessions = with_entry old.sessions (length past) (entry_of old request) }
 
 -- a request that was applied before is answered again: the reply of its place, and nothing changes but the inbox
 pub record IsRepeated (old new : State) (past now : List Entry) (request : Request) (rest : List Request) (answer : Answer) : Type 0 where
@@ -71,21 +82,21 @@ pub record IsRepeated (old new : State) (past now : List Entry) (request : Reque
   pub out : IsTakenOut old new past now rest
 
 -- why a request is not served: it is trimmed, or lacks a number, and leaves the inbox; or it stays there, for want of memory or for one
--- of the reasons that the fragments had in this call, `MayRefuse`
-abbrev pub RefusesRequest : (old new : State) → (past now : List Entry) → (MayRefuse : Refusal → Type 0) → Request → List Request → Refusal → Type 0
+-- of the reasons that the tree had in this call for this operation, `MayRefuse`
+abbrev pub RefusesRequest : (old new : State) → (past now : List Entry) → (MayRefuse : Op → Refusal → Type 0) → Request → List Request → Refusal → Type 0
 RefusesRequest old new past now MayRefuse request rest reason =
     ((reason ≡ Trimmed) × IsTrimmed past request.client request.tid request.oldest × IsTakenOut old new past now rest)
-    ⊎ ((reason ≡ NoInodes) × IsNew past request.client request.tid request.oldest × (LacksNumber (outcome_of old request) (offer old.numbers) NoInodes ⊎ MayRefuse NoInodes) × IsTakenOut old new past now rest)
+    ⊎ ((reason ≡ NoInodes) × IsNew past request.client request.tid request.oldest × (LacksNumber (outcome_of old request) (offer old.numbers) NoInodes ⊎ MayRefuse request.op NoInodes) × IsTakenOut old new past now rest)
     ⊎ ((reason ≡ NoMemory) × (IsTrimmed past request.client request.tid request.oldest → ⊥) × IsLeft old new past now)
-    ⊎ ((reason ≢ NoInodes) × IsNew past request.client request.tid request.oldest × MayRefuse reason × IsLeft old new past now)
+    ⊎ ((reason ≢ NoInodes) × IsNew past request.client request.tid request.oldest × MayRefuse request.op reason × IsLeft old new past now)
 
 -- what becomes of the request at the front
-abbrev pub ServesRequest : (old new : State) → (past now : List Entry) → (MayRefuse : Refusal → Type 0) → Request → List Request → Result Answer Refusal → Type 0
+abbrev pub ServesRequest : (old new : State) → (past now : List Entry) → (MayRefuse : Op → Refusal → Type 0) → Request → List Request → Result Answer Refusal → Type 0
 ServesRequest old new past now MayRefuse request rest (Ok answer) = IsApplied old new past now request rest answer ⊎ IsRepeated old new past now request rest answer
 ServesRequest old new past now MayRefuse request rest (Err reason) = RefusesRequest old new past now MayRefuse request rest reason
 
 -- serving a rank: refused InboxEmpty exactly where nothing waits
-abbrev pub ServesInbox : (old new : State) → (past now : List Entry) → (MayRefuse : Refusal → Type 0) → Result Answer Refusal → List Request → Type 0
+abbrev pub ServesInbox : (old new : State) → (past now : List Entry) → (MayRefuse : Op → Refusal → Type 0) → Result Answer Refusal → List Request → Type 0
 ServesInbox old new past now MayRefuse result [] = (result ≡ Err InboxEmpty) × IsLeft old new past now
 ServesInbox old new past now MayRefuse result (request ∷ rest) = ServesRequest old new past now MayRefuse request rest result
 

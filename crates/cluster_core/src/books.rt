@@ -1,27 +1,32 @@
 //! The book: a cluster with the history of what it answered.
-ghost use Rattle.std.specs.Prelude.{◌≡◌, ◌≤◌, []};
+ghost use Rattle.std.specs.Prelude.{◌≡◌, ◌≤◌, ◌∷◌, [], IfOk, IfErr, OnOk};
 ghost use Rattle.std.specs.FinMap as map;
+ghost use Rattle.lru.specs.LruCache.{lru_cache};
+ghost use Rattle.dentry_cache.specs.Cache.{held};
+ghost use Rattle.mdcache.specs.New.{MayNotFormat, cached_root, root_leaf};
 ghost use Rattle.cluster_core.specs.State.{new_state};
-ghost use Rattle.cluster_core.specs.Steps.{Steps, ranks};
+ghost use Rattle.cluster_core.specs.Steps.{Steps};
 ghost use Rattle.cluster_core.specs.Sound.{IsSoundBook};
 
 use crate::clusters::Cluster;
 use crate::events::{Answer, Event};
 use crate::plain_trees::PlainTree;
 use mds_types::{Entry, Refusal};
+use objstore::Store;
 use std::alloc::Global;
 use std::marker::Model;
 
 /// A cluster, the history of what it answered, and the tree that it opened with. Of every value of this type it holds
-/// that the history is legal from the opening tree, and that the tree which the cluster shows is the tree after it.
-#[derive(Debug, Drop)]
-pub struct Book {
-    cluster: Cluster,
+/// that the history is legal from the opening tree, and that the tree which the cluster shows is the tree after it: the
+/// objects of its store, overlaid with what isn't clean.
+#[derive(Drop)]
+pub struct Book<S: Store + Drop> {
+    cluster: Cluster<S>,
     history: Vec<Entry>,
     opening: PlainTree,
 }
 
-impl Model for Book {
+impl<S: Store + Drop> Model for Book<S> {
     ghost use Rattle.std.specs.Coded.{codes};
     ghost use Rattle.std.specs.FinMap as map;
     ghost use Rattle.cluster_core.specs.State.{Kept};
@@ -36,7 +41,7 @@ impl Model for Book {
     ghost invariant = { λ b. IsSoundBook (record { opening = b.opening; history = b.history.items; core = b.cluster }) };
 }
 
-impl Book {
+impl<S: Store + Drop> Book<S> {
     /// The history so far.
     pub fn history(&self) -> &[Entry]
         ensures history { result.now ≡ self.now.history }
@@ -53,7 +58,7 @@ impl Book {
     }
 
     /// The cluster, to read.
-    pub fn cluster(&self) -> &Cluster
+    pub fn cluster(&self) -> &Cluster<S>
         ensures { result.now ≡ self.now.core }
     {
         &self.cluster
@@ -61,7 +66,7 @@ impl Book {
 
     /// One event, one atomic step: what it answers, or why it is refused. The opening tree stays.
     pub fn step(&mut self, alloc: Global, event: Event) -> Result<Answer, Refusal>
-        ensures stepped { Steps self.old.core.state self.new.core.state self.old.history self.new.history result event }
+        ensures stepped { Steps self.old.core self.new.core self.old.history self.new.history result event }
         ensures opening { self.new.opening ≡ self.old.opening }
         ensures sound { IsSoundBook self.new }
     {
@@ -69,19 +74,35 @@ impl Book {
     }
 }
 
-/// A book with an empty tree, an empty history, and nothing that waits. So far there is one rank; `cache`, the number of
-/// fragments that a rank may cache, has no effect yet.
-pub fn format(alloc: Global, ranks: u8, cache: u32) -> Book
+/// A book over a store that has no object: an empty tree, an empty history, and nothing that waits. So far there is one
+/// rank. `cache` is the number of fragments that a rank may cache; the root's `*` is cached, and no object counts for it.
+/// Takes memory.
+///
+/// Refused `NotClean` exactly where the store has objects, unless it refuses to tell, and `NoMemory`; the store is handed
+/// back then, with its objects as they were.
+pub fn format<S: Store + Drop>(
+    alloc: Global,
+    store: S,
+    ranks: u8,
+    cache: u32,
+) -> Result<Book<S>, (Refusal, S)>
     requires ranked { ranks ≡ 1 }
     requires least { 512 ≤ cache }
     requires most { cache ≤ 65536 }
-    ensures opening { result.opening ≡ map.empty }
-    ensures history { result.history ≡ [] }
-    ensures state { result.core.state ≡ new_state }
+    ensures empty { OnOk result (S.objects store ≡ map.empty) }
+    ensures opening { IfOk result (λ book. book.opening ≡ map.empty) }
+    ensures history { IfOk result (λ book. book.history ≡ []) }
+    ensures state { IfOk result (λ book. book.core.state ≡ new_state) }
+    ensures cache { IfOk result (λ book. book.core.cache ≡ lru_cache ((root_leaf, held cached_root) ∷ []) cache) }
+    ensures refused { IfErr result (λ back. MayNotFormat (S.objects store) (S.faults store) (S.faults back.1) back.0) }
+    ensures left { IfErr result (λ back. S.objects back.1 ≡ S.objects store) }
 {
-    Book {
-        cluster: Cluster::new(alloc),
-        history: Vec::new(alloc),
-        opening: PlainTree::new(alloc),
+    match Cluster::format(alloc, store, cache as usize) {
+        Ok(cluster) => Ok(Book {
+            cluster,
+            history: Vec::new(alloc),
+            opening: PlainTree::new(alloc),
+        }),
+        Err(back) => Err(back),
     }
 }

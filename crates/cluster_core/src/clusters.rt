@@ -1,61 +1,78 @@
 //! The cluster and its events.
-ghost use Rattle.std.specs.Prelude.{◌≡◌, List, nat_lt, Ok, Err, IfOk, IfErr};
+ghost use Rattle.std.specs.Prelude.{◌≡◌, ◌≤◌, ◌∷◌, [], List, nat_lt, Ok, Err, IfOk, IfErr, OnOk};
+ghost use Rattle.std.specs.FinMap as map;
+ghost use Rattle.lru.specs.LruCache.{lru_cache};
 ghost use Rattle.mds_types.specs.declared.entries.Entry.{Entry as Applied};
-ghost use Rattle.cluster_core.specs.State.{new_state};
-ghost use Rattle.cluster_core.specs.Steps.{Steps, AtRank, ArrivesInbox, MayRefuse, ranks};
 ghost use Rattle.mds_types.specs.Tree.{Tree};
-ghost use Rattle.dirfrags.specs.Divided.{IsDivided};
+ghost use Rattle.dentry_cache.specs.Cache.{held};
+ghost use Rattle.mdcache.specs.Cached.{IsKept};
+ghost use Rattle.mdcache.specs.New.{MayNotFormat, cached_root, root_leaf};
+ghost use Rattle.cluster_core.specs.State.{new_state};
+ghost use Rattle.cluster_core.specs.Steps.{AtRank, ArrivesInbox, ServesRank, Steps, ranks};
 ghost use Rattle.cluster_core.specs.Sound.{IsSound};
-ghost use Rattle.cluster_core.specs.Serve.{ServesInbox};
-ghost use Rattle.cluster_core.specs.Splits.{ListsLeaves, Merges, Splits};
+ghost use Rattle.cluster_core.specs.Administers.{ListsLeaves};
 
 use crate::events::{Answer, Event};
 use crate::inboxes::Inbox;
 use crate::serving::serve_front;
-use dirfrags::LeafFrags;
 use inode_table::Numbers;
+use mdcache::MdCache;
 use mds_types::{Entry, Frag, Ino, Rank, Refusal, Request};
 use namespace_ops::Frags;
+use objstore::Store;
 use sessions::Sessions;
 use std::alloc::Global;
 use std::marker::Model;
 
-/// A cluster of metadata server ranks that serve one tree; of one rank, so far.
-#[derive(Debug, Drop)]
-pub struct Cluster {
-    frags: LeafFrags,
-    inbox: Inbox,
-    numbers: Numbers,
-    sessions: Sessions,
+/// A cluster of metadata server ranks that serve one tree over a store; of one rank, so far.
+#[derive(Drop)]
+pub struct Cluster<S: Store + Drop> {
+    pub(crate) tree: MdCache<S>,
+    pub(crate) inbox: Inbox,
+    pub(crate) numbers: Numbers,
+    pub(crate) sessions: Sessions,
 }
 
-impl Model for Cluster {
+impl<S: Store + Drop> Model for Cluster<S> {
     ghost use Rattle.std.specs.Coded.{codes};
     ghost use Rattle.std.specs.FinMap as map;
     ghost use Rattle.sessions.specs.Rooms.{table};
-    ghost use Rattle.cluster_core.specs.State.{Core};
-    ghost use Rattle.cluster_core.specs.State.{state_of};
+    ghost use Rattle.cluster_core.specs.State.{Core, core_of};
 
     ghost Value = { Core };
 
     ghost coded = { Prim.hlevel (codes, map.code) };
 
-    ghost view = { λ c. record { state = state_of c.frags c.numbers c.inbox (table c.sessions) } };
+    ghost view = { λ c. core_of c.tree c.numbers c.inbox (table c.sessions) };
 }
 
-impl Cluster {
-    /// How many ranks there are.
-    pub const RANKS: u8 = 1;
-
-    /// A cluster that serves the empty tree.
-    pub(crate) fn new(alloc: Global) -> Cluster
-        ensures { result.state ≡ new_state }
+impl<S: Store + Drop> Cluster<S> {
+    /// A cluster that serves the empty tree over a store that has no object, with a cache of so many places.
+    ///
+    /// Refused `NotClean` exactly where the store has objects, unless it refuses to tell, and `NoMemory`; the store is handed
+    /// back then, with its objects as they were.
+    pub(crate) fn format(alloc: Global, store: S, places: usize) -> Result<Cluster<S>, (Refusal, S)>
+        requires few { 512 ≤ places }
+        requires many { places ≤ 65536 }
+        ensures empty { OnOk result (S.objects store ≡ map.empty) }
+        ensures state { IfOk result (λ c. c.state ≡ new_state) }
+        ensures cache { IfOk result (λ c. c.cache ≡ lru_cache ((root_leaf, held cached_root) ∷ []) places) }
+        ensures kept { IfOk result (λ c. IsKept c.state.tree c.cache) }
+        ensures refused { IfErr result (λ back. MayNotFormat (S.objects store) (S.faults store) (S.faults back.1) back.0) }
+        ensures left { IfErr result (λ back. S.objects back.1 ≡ S.objects store) }
     {
-        Cluster {
-            frags: LeafFrags::new(alloc),
-            inbox: Inbox::new(alloc),
-            numbers: Numbers::from(Rank(0), Numbers::first_of(Rank(0)).0),
-            sessions: Sessions::new(alloc),
+        match MdCache::format(alloc, store, places) {
+            Ok(tree) => {
+                // The contract of `store` is what says here that the tree is sound.
+                let _ = tree.store();
+                Ok(Cluster {
+                    tree,
+                    inbox: Inbox::new(alloc),
+                    numbers: Numbers::from(Rank(0), Numbers::first_of(Rank(0)).0),
+                    sessions: Sessions::new(alloc),
+                })
+            }
+            Err(back) => Err(back),
         }
     }
 
@@ -67,9 +84,25 @@ impl Cluster {
         history: &mut Vec<Entry>,
         event: Event,
     ) -> Result<Answer, Refusal>
-        requires { (opening : Tree) × IsSound opening history.old.items self.old.state }
-        ensures stepped { Steps self.old.state self.new.state history.old.items history.new.items result event }
-        ensures sound { (opening : Tree) → IsSound opening history.old.items self.old.state → IsSound opening history.new.items self.new.state }
+        requires { (opening : Tree) × IsSound opening history.old.items self.old }
+        ensures stepped { Steps self.old self.new history.old.items history.new.items result event }
+        ensures sound { (opening : Tree) → IsSound opening history.old.items self.old → IsSound opening history.new.items self.new }
+    {
+        let answer = self.choose(alloc, history, event);
+        // The contract of `store` is what says here that the tree is sound.
+        let _ = self.tree.store();
+        answer
+    }
+
+    // Chooses what an event does.
+    fn choose(
+        &mut self,
+        alloc: Global,
+        history: &mut Vec<Entry>,
+        event: Event,
+    ) -> Result<Answer, Refusal>
+        requires { (opening : Tree) × IsSound opening history.old.items self.old }
+        ensures stepped { Steps self.old self.new history.old.items history.new.items result event }
     {
         match event {
             Event::Arrive { rank, request } => self.arrive(rank, request),
@@ -81,12 +114,20 @@ impl Cluster {
                 bits,
             } => self.split(alloc, rank, ino, frag, bits),
             Event::Merge { rank, ino, frag } => self.merge(alloc, rank, ino, frag),
+            Event::CommitBegin { rank, ino, frag } => self.begin_commit(rank, ino, frag),
+            Event::CommitEnd(encoded) => self.end_commit(alloc, &encoded),
+            Event::CommitDrop { job } => self.drop_commit(job),
+            Event::CommitTree { ino } => self.commit_tree(alloc, ino),
+            Event::Purge => self.purge(),
+            Event::Evict { rank } => self.evict(rank),
         }
     }
 
     // A request comes in, and waits at the back of the rank's inbox.
     fn arrive(&mut self, rank: Rank, request: Request) -> Result<Answer, Refusal>
-        ensures { (past : List Applied) → AtRank self.old.state self.new.state past past rank result (ArrivesInbox self.old.state self.new.state past past request result) }
+        ensures arrived { (past : List Applied) → AtRank self.old.state self.new.state past past rank result (ArrivesInbox self.old.state self.new.state past past request result) }
+        ensures cache { self.new.cache ≡ self.old.cache }
+        ensures faults { self.new.faults ≡ self.old.faults }
     {
         if !is_rank(rank) {
             return Err(Refusal::NotAuthority);
@@ -102,61 +143,29 @@ impl Cluster {
         history: &mut Vec<Entry>,
         rank: Rank,
     ) -> Result<Answer, Refusal>
-        requires { (opening : Tree) × IsSound opening history.old.items self.old.state }
-        ensures served { AtRank self.old.state self.new.state history.old.items history.new.items rank result
-            (ServesInbox self.old.state self.new.state history.old.items history.new.items MayRefuse result self.old.state.inbox) }
-        ensures divided { IsDivided self.new.state.homes self.new.state.covers self.new.state.dentries }
+        requires { (opening : Tree) × IsSound opening history.old.items self.old }
+        ensures served { AtRank self.old.state self.new.state history.old.items history.new.items rank result (ServesRank self.old self.new history.old.items history.new.items result) }
+        ensures cap { self.new.cache.cap ≡ self.old.cache.cap }
+        ensures grows { self.old.faults ≤ self.new.faults }
     {
         if !is_rank(rank) {
             return Err(Refusal::NotAuthority);
         }
         serve_front(
             alloc,
-            &mut self.frags,
+            &mut self.tree,
             &mut self.inbox,
             &mut self.numbers,
             &mut self.sessions,
             history,
         )
     }
-}
 
-impl Cluster {
-    // A leaf of a directory is split. The tree that the cluster shows stays.
-    fn split(
-        &mut self,
-        alloc: Global,
-        rank: Rank,
-        ino: Ino,
-        frag: Frag,
-        bits: u8,
-    ) -> Result<Answer, Refusal>
-        requires { IsDivided self.old.state.homes self.old.state.covers self.old.state.dentries }
-        ensures split { (past : List Applied) → AtRank self.old.state self.new.state past past rank result (Splits self.old.state self.new.state past past ino frag bits result) }
-        ensures divided { IsDivided self.new.state.homes self.new.state.covers self.new.state.dentries }
+    /// The store, to read.
+    pub fn store(&self) -> &S
+        ensures { S.objects result.now ≡ self.now.state.tree.objects }
     {
-        if !is_rank(rank) {
-            return Err(Refusal::NotAuthority);
-        }
-        if let Err(refusal) = self.frags.split(alloc, ino, frag, bits) {
-            return Err(refusal);
-        }
-        Ok(Answer::Nothing)
-    }
-
-    // Leaves of a directory are merged. The tree that the cluster shows stays.
-    fn merge(&mut self, alloc: Global, rank: Rank, ino: Ino, frag: Frag) -> Result<Answer, Refusal>
-        requires { IsDivided self.old.state.homes self.old.state.covers self.old.state.dentries }
-        ensures merged { (past : List Applied) → AtRank self.old.state self.new.state past past rank result (Merges self.old.state self.new.state past past ino frag result) }
-        ensures divided { IsDivided self.new.state.homes self.new.state.covers self.new.state.dentries }
-    {
-        if !is_rank(rank) {
-            return Err(Refusal::NotAuthority);
-        }
-        if let Err(refusal) = self.frags.merge(alloc, ino, frag) {
-            return Err(refusal);
-        }
-        Ok(Answer::Nothing)
+        self.tree.store()
     }
 
     /// The leaves of a directory by value. Refused `NoSuchFrag` where there is no such directory, and for want of memory.
@@ -164,16 +173,19 @@ impl Cluster {
         ensures listed { IfOk result (λ leaves. ListsLeaves self.now.state ino (Ok leaves.items)) }
         ensures err { IfErr result (λ reason. ListsLeaves self.now.state ino (Err reason)) }
     {
-        if !self.frags.is_dir(ino) {
+        if !self.tree.is_dir(ino) {
             return Err(Refusal::NoSuchFrag);
         }
-        self.frags.leaves(alloc, ino)
+        self.tree.leaves(alloc, ino)
     }
 }
 
-// Whether the rank is one of the cluster's.
-fn is_rank(rank: Rank) -> bool
+/// Whether the rank is one of the cluster's.
+pub(crate) fn is_rank(rank: Rank) -> bool
     ensures { result ≡ nat_lt rank.0 ranks }
 {
-    rank.0 < Cluster::RANKS
+    rank.0 < RANKS
 }
+
+/// How many ranks there are.
+pub(crate) const RANKS: u8 = 1;

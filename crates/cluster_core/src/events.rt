@@ -1,11 +1,12 @@
 //! What can happen to a cluster, and what a step answers.
 ghost use Rattle.std.specs.Prelude.{◌≡◌, IfOk};
 
+use commit_jobs::{Encoded, Job};
 use mds_types::{Frag, Ino, Rank, Reply, Request};
 use std::alloc::AllocError;
 
 /// One event of the cluster, one atomic step.
-#[derive(Clone, Debug, Drop, PartialEq, Eq)]
+#[derive(Debug, Drop)]
 pub enum Event {
     /// A request comes in at a rank, and waits at the back of its inbox.
     Arrive {
@@ -29,13 +30,37 @@ pub enum Event {
         ino: Ino,
         frag: Frag,
     },
+    /// A commit of a leaf begins: the job of its snapshot is given out.
+    CommitBegin {
+        rank: Rank,
+        ino: Ino,
+        frag: Frag,
+    },
+    /// A commit ends: what was encoded is written.
+    CommitEnd(Encoded),
+    /// The commit of this job's number is given up.
+    CommitDrop {
+        job: u64,
+    },
+    /// The object of a directory's tree is written, or removed.
+    CommitTree {
+        ino: Ino,
+    },
+    /// The first object of the purge list is removed.
+    Purge,
+    /// The least recently used clean fragment of a rank's cache goes.
+    Evict {
+        rank: Rank,
+    },
 }
 
 /// The answer of a step that isn't refused.
-#[derive(Debug, Drop, PartialEq, Eq)]
+#[derive(Debug, Drop)]
 pub enum Answer {
     /// Done, with nothing to say.
     Nothing,
+    /// The commit that was begun, to be encoded.
+    Job(Job),
     /// The reply to a request, with its place in the history; `first` tells a request that was applied now from one that
     /// had been applied before.
     Reply {
@@ -48,7 +73,7 @@ pub enum Answer {
 }
 
 impl Event {
-    /// A copy. Takes memory for a request's names.
+    /// A copy. Takes memory for a request's names, and for what was encoded.
     pub fn try_clone(&self) -> Result<Event, AllocError>
         ensures { IfOk result (λ copy. copy ≡ self.now) }
     {
@@ -74,6 +99,16 @@ impl Event {
                 ino: *ino,
                 frag: *frag,
             }),
+            Event::CommitBegin { rank, ino, frag } => Ok(Event::CommitBegin {
+                rank: *rank,
+                ino: *ino,
+                frag: *frag,
+            }),
+            Event::CommitEnd(encoded) => Ok(Event::CommitEnd(encoded.try_clone()?)),
+            Event::CommitDrop { job } => Ok(Event::CommitDrop { job: *job }),
+            Event::CommitTree { ino } => Ok(Event::CommitTree { ino: *ino }),
+            Event::Purge => Ok(Event::Purge),
+            Event::Evict { rank } => Ok(Event::Evict { rank: *rank }),
         }
     }
 }

@@ -1,6 +1,7 @@
 //! The metadata cluster: its events, and the book that keeps a cluster together with the history of what it answered.
 #![tactic(auto)]
 
+mod administering;
 mod books;
 mod clusters;
 mod events;

@@ -6,14 +6,15 @@ ghost use Rattle.cluster_core.specs.Runs.{IsRun};
 use crate::books::Book;
 use crate::events::{Answer, Event};
 use mds_types::Refusal;
+use objstore::Store;
 use std::alloc::Global;
 
 /// Steps a book by each event of a list, one after the other, and answers a result for each. Each reply among them is the
 /// history's, which is legal from the opening tree. The list of results is reserved before the first event: an error says
 /// that this was refused, and that nothing was done.
-pub fn run(
+pub fn run<S: Store + Drop>(
     alloc: Global,
-    book: &mut Book,
+    book: &mut Book<S>,
     events: Vec<Event>,
 ) -> Result<Vec<Result<Answer, Refusal>>, Refusal>
     ensures ran { MatchResult result (λ results. IsRun book.old events.items results.items book.new) (λ reason. (reason ≡ Refusal.NoMemory) × (book.new ≡ book.old)) }

@@ -1,29 +1,29 @@
 //! Serving the request at the front of an inbox.
-ghost use Rattle.std.specs.Prelude.{◌≡◌, ◌<◌, ◌++◌, ◌∷◌, [], true, length, vec_len, vec_capacity, IsSome, MatchResult, OnOk};
+ghost use Rattle.std.specs.Prelude.{◌≡◌, ◌<◌, ◌≤◌, ◌++◌, ◌∷◌, [], true, length, vec_len, vec_capacity, IsSome, MatchResult, OnOk};
 ghost use Rattle.mds_types.specs.Step.{step, number_or};
 ghost use Rattle.inode_table.specs.Numbers.{offer};
 ghost use Rattle.cluster_core.specs.Offer.{after_taking};
-ghost use Rattle.namespace_ops.specs.Changes.{IsOffered};
-ghost use Rattle.namespace_ops.specs.Kept.{KeepsAll};
+ghost use Rattle.namespace_ops.specs.Changes.{IsOffered, fragments_in};
+ghost use Rattle.namespace_ops.specs.Kept.{ChangesOnly, KeepsAll};
 ghost use Rattle.namespace_ops.specs.Planned.{IsReadyToChange, after_plan};
 ghost use Rattle.namespace_ops.specs.Served.{IsRefused};
 ghost use Rattle.sessions.specs.Table.{IsTableOf, noted, trimmed};
 ghost use Rattle.sessions.specs.Rooms.{IsReady, table};
-ghost use Rattle.leaf_maps.specs.Leaves.{shown_by};
-ghost use Rattle.dirfrags.specs.LeafFrags.{IsReady as IsReadyIn, dentries_of};
+ghost use Rattle.dirfrag_codec.specs.EntryRecord.{IsRankNumber};
+ghost use Rattle.mdcache.specs.Frags.{IsReady as IsReadyIn, MayRefuse};
+ghost use Rattle.mdcache.specs.Made.{IsUntouched};
+ghost use Rattle.mdcache.specs.Shown.{shown_tree};
 ghost use Rattle.cluster_core.specs.State.{state_of};
-ghost use Rattle.dirfrags.specs.Divided.{IsDivided};
-ghost use Rattle.dirfrags.specs.Divided.{CarryLeaves};
-ghost use Rattle.cluster_core.specs.Serve.{ServesInbox, RepeatsFront};
-ghost use Rattle.cluster_core.specs.Steps.{MayRefuse};
+ghost use Rattle.cluster_core.specs.Serve.{CarryLeaves, ServesInbox, RepeatsFront};
 ghost use Rattle.cluster_core.specs.Prepared.{IsPrepared};
 
 use crate::events::Answer;
 use crate::inboxes::Inbox;
-use dirfrags::LeafFrags;
 use inode_table::Numbers;
+use mdcache::MdCache;
 use mds_types::{Entry, Ino, Op, Refusal, Reply, Request};
-use namespace_ops::{Frags, Plan, plan_op};
+use namespace_ops::{Change, Frags, Plan, plan_op};
+use objstore::Store;
 use sessions::{Seen, Sessions};
 use std::alloc::Global;
 
@@ -76,21 +76,22 @@ pub fn prepare<F: Frags>(
 }
 
 /// Applies a request for which everything was prepared. It can't fail.
-pub fn commit(
-    frags: &mut LeafFrags,
+pub fn commit<S: Store + Drop>(
+    tree: &mut MdCache<S>,
     numbers: &mut Numbers,
     sessions: &mut Sessions,
     history: &mut Vec<Entry>,
     request: Request,
     prepared: Prepared,
 ) -> Answer
-    requires ready { IsReadyToChange (shown_by frags.old.leaves) frags.old.covers (IsReadyIn frags.old) prepared.plan.change }
+    requires ready { IsReadyToChange (shown_tree tree.old.state) tree.old.state.covers (IsReadyIn tree.old) prepared.plan.change }
     requires room { vec_len history.old < vec_capacity history.old }
     requires reserved { IsReady sessions.old request.client }
-    requires divided { IsDivided frags.old.homes frags.old.covers (dentries_of frags.old.leaves) }
-    ensures tree { shown_by frags.new.leaves ≡ after_plan (shown_by frags.old.leaves) prepared.plan.change }
-    ensures leaves { CarryLeaves (shown_by frags.old.leaves) (shown_by frags.new.leaves) frags.old.covers frags.new.covers }
-    ensures divided { IsDivided frags.new.homes frags.new.covers (dentries_of frags.new.leaves) }
+    ensures tree { shown_tree tree.new.state ≡ after_plan (shown_tree tree.old.state) prepared.plan.change }
+    ensures leaves { CarryLeaves (shown_tree tree.old.state) (shown_tree tree.new.state) tree.old.state.covers tree.new.state.covers }
+    ensures frame { ChangesOnly (IsUntouched tree.old.state tree.new.state) (fragments_in tree.old.state.covers prepared.plan.change) }
+    ensures cap { tree.new.cache.cap ≡ tree.old.cache.cap }
+    ensures faults { tree.new.faults ≡ tree.old.faults }
     ensures appended { history.new.items ≡ history.old.items ++ record {
       client = request.client;
       tid = request.tid;
@@ -115,7 +116,7 @@ pub fn commit(
         change,
         number,
     } = prepared.plan;
-    frags.carry_out(change);
+    carry_out(tree, change);
     *numbers = prepared.numbers;
     sessions.keep(client, tid, oldest, place, prepared.kept);
     sessions.trim(client);
@@ -136,21 +137,38 @@ pub fn commit(
     }
 }
 
+// Makes a planned change, where there is one.
+fn carry_out<S: Store + Drop>(tree: &mut MdCache<S>, change: Option<Change>)
+    requires ready { IsReadyToChange (shown_tree tree.old.state) tree.old.state.covers (IsReadyIn tree.old) change }
+    ensures tree { shown_tree tree.new.state ≡ after_plan (shown_tree tree.old.state) change }
+    ensures leaves { CarryLeaves (shown_tree tree.old.state) (shown_tree tree.new.state) tree.old.state.covers tree.new.state.covers }
+    ensures frame { ChangesOnly (IsUntouched tree.old.state tree.new.state) (fragments_in tree.old.state.covers change) }
+    ensures cap { tree.new.cache.cap ≡ tree.old.cache.cap }
+    ensures faults { tree.new.faults ≡ tree.old.faults }
+{
+    // The contract of `store` is what says here that the state is sound.
+    let _ = tree.store();
+    match change {
+        Some(change) => tree.apply(change),
+        None => {}
+    }
+}
+
 /// Serves the request at the front of the inbox: applies it if it is new, answers it again if it was applied before.
-pub fn serve_front(
+pub fn serve_front<S: Store + Drop>(
     alloc: Global,
-    frags: &mut LeafFrags,
+    tree: &mut MdCache<S>,
     inbox: &mut Inbox,
     numbers: &mut Numbers,
     sessions: &mut Sessions,
     history: &mut Vec<Entry>,
 ) -> Result<Answer, Refusal>
     requires known { IsTableOf history.old.items (table sessions.old) }
-    requires offered { IsOffered (shown_by frags.old.leaves) (λ n. Unit {0}) (offer numbers.old) }
-    requires divided { IsDivided frags.old.homes frags.old.covers (dentries_of frags.old.leaves) }
-    ensures served { ServesInbox (state_of frags.old numbers.old inbox.old (table sessions.old)) (state_of frags.new numbers.new inbox.new (table sessions.new))
-        history.old.items history.new.items MayRefuse result inbox.old }
-    ensures divided { IsDivided frags.new.homes frags.new.covers (dentries_of frags.new.leaves) }
+    requires offered { IsOffered (shown_tree tree.old.state) (λ n. IsRankNumber n) (offer numbers.old) }
+    ensures served { ServesInbox (state_of tree.old.state numbers.old inbox.old (table sessions.old)) (state_of tree.new.state numbers.new inbox.new (table sessions.new))
+        history.old.items history.new.items (MayRefuse tree.old tree.new) result inbox.old }
+    ensures cap { tree.new.cache.cap ≡ tree.old.cache.cap }
+    ensures grows { tree.old.faults ≤ tree.new.faults }
 {
     let Some(front) = inbox.front() else {
         return Err(Refusal::InboxEmpty)
@@ -163,7 +181,7 @@ pub fn serve_front(
         Seen::Kept(place, reply) => answer_again(inbox, place, reply),
         Seen::New => match prepare(
             alloc,
-            frags,
+            tree,
             *numbers,
             sessions,
             history,
@@ -174,7 +192,7 @@ pub fn serve_front(
                 let Some(request) = inbox.take() else {
                     unreachable!()
                 };
-                Ok(commit(frags, numbers, sessions, history, request, prepared))
+                Ok(commit(tree, numbers, sessions, history, request, prepared))
             }
             Err(Refusal::NoInodes) => {
                 let _ = inbox.take();

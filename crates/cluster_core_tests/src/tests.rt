@@ -5,7 +5,10 @@ use cluster_core::{Answer, Book, Event, PlainTree, format, run};
 use mds_types::{
     Dentry, Entry, Frag, Ino, Kind, Mode, Name, Op, PageSize, Rank, Refusal, Reply, Request,
 };
+use objstore::{MemStore, Store};
 use std::alloc::Global;
+
+mod stores;
 
 const FIRST: u64 = 1 << 40;
 
@@ -48,6 +51,8 @@ enum Said {
 #[derive(Clone, Copy, Debug, PartialEq, Eq)]
 enum Came {
     Waits,
+    /// A commit with the job of this number.
+    Began(u64),
     /// Client, transaction number, place, whether it was applied now, and the reply.
     Replied(u64, u64, usize, bool, Said),
     Refused(u8),
@@ -242,6 +247,7 @@ fn told(reply: &Reply) -> Said {
 fn outcome(res: &Result<Answer, Refusal>) -> Came {
     match res {
         Ok(Answer::Nothing) => Came::Waits,
+        Ok(Answer::Job(job)) => Came::Began(job.number),
         Ok(
             Answer::Reply {
                 client,
@@ -256,49 +262,82 @@ fn outcome(res: &Result<Answer, Refusal>) -> Came {
 }
 
 // An event that could not be made for want of memory is one that was refused so.
-fn stepped(alloc: Global, book: &mut Book, did: Did) -> Came {
+fn stepped<S: Store + Drop>(alloc: Global, book: &mut Book<S>, did: Did) -> Came {
     match event_of(alloc, did) {
         Some(event) => outcome(&book.step(alloc, event)),
         None => Came::Refused(1),
     }
 }
 
-// The book as text, unless memory is refused.
-fn text_of(alloc: Global, book: &Book) -> Option<String> {
-    format!(in alloc; "{book:?}").ok()
+// A book over an empty store in memory, unless memory is refused.
+fn new_book(alloc: Global) -> Option<Book<MemStore>> {
+    format(alloc, MemStore::new(alloc), 1, 512).ok()
 }
 
-// The book as text. `tests/refused_growths` refuses one allocation of a run, so the second try succeeds.
-fn shown(alloc: Global, book: &Book) -> Option<String> {
-    match text_of(alloc, book) {
-        Some(text) => Some(text),
-        None => text_of(alloc, book),
+/// What is seen of a book beside its answers.
+#[derive(Clone, Copy, Debug, PartialEq, Eq)]
+struct Look {
+    entries: usize,
+    leaves: usize,
+}
+
+// What is seen of a book, unless memory is refused.
+fn look_at<S: Store + Drop>(alloc: Global, book: &Book<S>) -> Option<Look> {
+    match book.cluster().leaves(alloc, Ino(1)) {
+        Ok(leaves) => Some(Look {
+            entries: book.history().len(),
+            leaves: leaves.len(),
+        }),
+        Err(_) => None,
+    }
+}
+
+// What is seen of a book. `tests/refused_growths` refuses one allocation of a run, so the second try succeeds.
+fn seen<S: Store + Drop>(alloc: Global, book: &Book<S>) -> Option<Look> {
+    match look_at(alloc, book) {
+        Some(seen) => Some(seen),
+        None => look_at(alloc, book),
     }
 }
 
 // Steps, and once more where growth was refused and left the book as it was.
-fn stepped_again(alloc: Global, book: &mut Book, did: Did) -> Came {
-    let before = shown(alloc, book);
+fn stepped_again<S: Store + Drop>(alloc: Global, book: &mut Book<S>, did: Did) -> Came {
+    let before = seen(alloc, book);
     let first = stepped(alloc, book, did);
     if first != Came::Refused(1) {
         return first;
     }
-    if shown(alloc, book) != before {
+    if seen(alloc, book) != before {
         return Came::Changed;
     }
     stepped(alloc, book, did)
 }
 
 // Where a row first comes to something else, and to what.
-fn wrong(alloc: Global, row: &[(Did, Came)]) -> Option<(usize, Came)> {
-    let mut book = format(alloc, 1, 512);
+fn wrong_in(
+    alloc: Global,
+    book: &mut Book<MemStore>,
+    row: &[(Did, Came)],
+) -> Option<(usize, Came)> {
     for (place, (did, wanted)) in row.iter().enumerate() {
-        let found = stepped_again(alloc, &mut book, *did);
+        let found = stepped_again(alloc, book, *did);
         if found != *wanted {
             return Some((place, found));
         }
     }
     None
+}
+
+// The same, of a new book, which is made once more where growth was refused.
+fn wrong(alloc: Global, row: &[(Did, Came)]) -> Option<(usize, Came)> {
+    let made = match new_book(alloc) {
+        Some(book) => Some(book),
+        None => new_book(alloc),
+    };
+    match made {
+        Some(mut book) => wrong_in(alloc, &mut book, row),
+        None => Some((0, Came::Refused(1))),
+    }
 }
 
 #[test]
@@ -338,10 +377,12 @@ fn are_wanted(results: &[Result<Answer, Refusal>], row: &[(Did, Came)]) -> bool 
 fn runs(alloc: Global, row: &[(Did, Came)]) -> bool {
     let mut events = Vec::new(alloc);
     put_events(alloc, &mut events, row);
-    let mut book = format(alloc, 1, 512);
-    match run(alloc, &mut book, events) {
-        Ok(results) => are_wanted(&results, row),
-        Err(_) => false,
+    match new_book(alloc) {
+        Some(mut book) => match run(alloc, &mut book, events) {
+            Ok(results) => are_wanted(&results, row),
+            Err(_) => false,
+        },
+        None => false,
     }
 }
 
@@ -363,7 +404,7 @@ fn is_made(entry: &Entry) -> bool {
 }
 
 // Serves a request, and says whether its entry is the only one.
-fn makes_entry(alloc: Global, book: &mut Book) -> bool {
+fn makes_entry(alloc: Global, book: &mut Book<MemStore>) -> bool {
     let _ = stepped(alloc, book, Did::Ask(1, 5, 4, Asked::MakeD));
     let _ = stepped(alloc, book, Did::Serve(0));
     match book.history() {
@@ -372,10 +413,17 @@ fn makes_entry(alloc: Global, book: &mut Book) -> bool {
     }
 }
 
+// The same, of a new book.
+fn makes_one(alloc: Global) -> bool {
+    match new_book(alloc) {
+        Some(mut book) => makes_entry(alloc, &mut book),
+        None => false,
+    }
+}
+
 #[test]
 fn an_entry_holds_what_was_asked_and_taken(rt: HostRuntime) {
-    let mut book = format(rt.alloc(), 1, 512);
-    assert!(rt; makes_entry(rt.alloc(), &mut book));
+    assert!(rt; makes_one(rt.alloc()));
 }
 
 #[test]
@@ -384,18 +432,10 @@ fn trees_are_copied(rt: HostRuntime) {
     assert!(rt; tree.try_clone() == Ok(tree));
 }
 
-// Whether a copy is the same event.
-fn is_copied(event: &Event) -> bool {
-    match event.try_clone() {
-        Ok(copy) => copy == *event,
-        Err(_) => false,
-    }
-}
-
 // Whether the event of what was done is copied.
 fn copies(alloc: Global, did: Did) -> bool {
     match event_of(alloc, did) {
-        Some(event) => is_copied(&event),
+        Some(event) => event.try_clone().is_ok(),
         None => false,
     }
 }

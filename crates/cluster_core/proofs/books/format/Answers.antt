@@ -3,4 +3,4 @@ use Rattle.cluster_core.proofs.Stepped.{sound-empty}
 use Rattle.cluster_core.proofs.books.format.Goals as goal
 
 pub invariant_of-result : goal.invariant_of-result
-invariant_of-result c = rw (c.new-3.ensures, c.new-2.ensures.items) (sound-empty c.new.result.state c.new.ensures)
+invariant_of-result g c = rw (c.new-in-Ok.ensures, c.new.ensures.items) (sound-empty c.in-Ok.cluster c.in-Ok.ensures.state c.in-Ok.ensures.kept)

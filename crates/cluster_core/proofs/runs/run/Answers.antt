@@ -5,7 +5,7 @@ use Rattle.cluster_core.proofs.RunLaws.{run_more, run_all, run_of}
 use Rattle.cluster_core.proofs.runs.run.Goals as goal
 
 pub loop-event-preserved : goal.loop-event-preserved
-loop-event-preserved c =
+loop-event-preserved g c =
     let h = c.loop-event.invariant in
     let w = run_more _ _ _ c.args.events.items (into_iter_items c.next.new.self) c.loop-event.results.items c.put.new.results.items c.step.result c.in-Some.event _ _
     h.ran (sym c.in-Some.ensures.items ∙ h.left) (record { stepped = c.step.ensures.stepped; same_opening = c.step.ensures.opening }) c.put.ensures.len c.put.ensures.items in
@@ -18,5 +18,5 @@ loop-event-preserved c =
     }
 
 pub returns-clause-ran : goal.returns-clause-ran
-returns-clause-ran c =
+returns-clause-ran g c =
     run_of _ _ _ _ (run_all _ _ c.args.events.items _ _ c.loop-event.invariant.ran (omega (arith, c.loop-event.invariant.count, c.in_default.ensures.cases.0)))

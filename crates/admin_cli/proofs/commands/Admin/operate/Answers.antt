@@ -12,9 +12,9 @@ returns-in-Err-clause-operated c = record {
 }
 
 pub returns-clause-operated : goal.returns-clause-operated
-returns-clause-operated c = rw c.serve.ensures.count (record {
+returns-clause-operated c = rw c.step.ensures.0 (record {
   middle = c.step-arrived.new.self;
   arrived = c.step-arrived.result;
   stepped = record { stepped = record { stepped = c.step-arrived.ensures.stepped; same_opening = c.step-arrived.ensures.opening }; sound = c.step-arrived.ensures.sound };
-  rest = served_after _ _ c.step-arrived.result _ c.in_default.not-Err c.serve.ensures.served;
+  rest = served_after _ _ c.step-arrived.result _ c.in_default.not-Err c.step.ensures.2;
 })

@@ -1,0 +1,23 @@
+-- A commit that began is ended at once.
+use Rattle.std.proofs.Common.{◌≡◌, ℕ, Option, Some, None, Result, Ok, Err, IfOk, refl, subst}
+use Rattle.mds_types.specs.declared.ids.Ino.{Ino}
+use Rattle.mds_types.specs.declared.ids.Rank.{Rank}
+use Rattle.mds_types.specs.declared.refusals.Refusal.{Refusal}
+use Rattle.mds_types.specs.Frag.{Fragment}
+use Rattle.script_output.specs.declared.lines.OutputLine.{OutputLine}
+use Rattle.script_output.specs.declared.lines.OutputLine.TheVariants.{Nothing, Refused}
+use Rattle.admin_cli.specs.declared.commands.Admin.{Admin}
+use Rattle.admin_cli.specs.StoreLines.{BeginsCommit, CommitsLine, EndsLine}
+
+module _ (old middle new : Admin) (rank : Rank) (dir : Ino) (f : Fragment) (told : Result (Option ℕ) Refusal) (begun : BeginsCommit old middle rank dir f told) where
+  -- the line is that of the end
+  pub ended : {A : Type 0} (number : ℕ) (result : Result OutputLine A) → told ≡ Ok (Some number) → IfOk result (EndsLine middle new number) → IfOk result (CommitsLine old new rank dir f)
+  ended number (Ok line) is h = record { middle = middle; number = Ok (Some number); begun = subst (BeginsCommit old middle rank dir f) is begun; rest = h }
+  ended number (Err reason) is h = tt
+
+  -- nothing began
+  pub nothing_begun : told ≡ Ok None → CommitsLine old middle rank dir f Nothing
+  nothing_begun is = record { middle = middle; number = Ok None; begun = subst (BeginsCommit old middle rank dir f) is begun; rest = (refl, refl) }
+
+  pub refused : (reason : Refusal) → told ≡ Err reason → CommitsLine old middle rank dir f (Refused reason)
+  refused reason is = record { middle = middle; number = Err reason; begun = subst (BeginsCommit old middle rank dir f) is begun; rest = (refl, refl) }

@@ -1,0 +1,39 @@
+-- One step of a book, and the line that shows what it came to.
+use Rattle.std.specs.Prelude.{◌≡◌, Result, Ok, Err}
+use Rattle.mds_types.specs.declared.refusals.Refusal.{Refusal}
+use Rattle.cluster_core.specs.declared.events.Answer.{Answer}
+use Rattle.cluster_core.specs.declared.events.Answer.TheVariants.{Job, Nothing, Reply}
+use Rattle.cluster_core.specs.declared.events.Event.{Event}
+use Rattle.cluster_core.specs.State.{Kept}
+use Rattle.cluster_core.specs.Runs.{StepsBook}
+use Rattle.cluster_core.specs.Sound.{IsSoundBook}
+use Rattle.script_output.specs.declared.lines.OutputLine.{OutputLine}
+use Rattle.script_output.specs.declared.lines.OutputLine.TheVariants.{Reply as ReplyLine, Queued, Nothing as NothingLine, Job as JobLine, Refused}
+use Rattle.admin_cli.specs.declared.commands.Admin.{Admin}
+
+-- one event led from a book to the next with this result, by all that the contract of a book's step says
+pub record IsStep (old new : Kept) (result : Result Answer Refusal) (event : Event) : Type 0 where
+  pub stepped : StepsBook old new result event
+  pub sound : IsSoundBook new
+
+-- the line that shows what a step came to
+abbrev pub shown_line : Result Answer Refusal → OutputLine
+shown_line (Ok Nothing) = NothingLine
+shown_line (Ok (Job job)) = JobLine job.number
+shown_line (Ok (Reply client tid place first reply)) = ReplyLine client tid place first reply
+shown_line (Err refusal) = Refused refusal
+
+-- and what an arrival came to: the request waits, unless it was refused
+abbrev pub arrived_line : Result Answer Refusal → OutputLine
+arrived_line (Ok answer) = Queued
+arrived_line (Err refusal) = Refused refusal
+
+-- one step of the book, and the line that shows what it came to
+pub record StepsLine (old new : Kept) (event : Event) (line_of : Result Answer Refusal → OutputLine) (line : OutputLine) : Type 0 where
+  pub result : Result Answer Refusal
+  pub stepped : IsStep old new result event
+  pub shown : line ≡ line_of result
+
+-- a command that is one event: nothing else changes
+abbrev pub Does : (old new : Admin) → Event → OutputLine → Type 0
+Does old new event line = (new.operations ≡ old.operations) × (new.jobs ≡ old.jobs) × StepsLine old.book new.book event shown_line line

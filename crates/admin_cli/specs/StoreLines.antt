@@ -1,0 +1,100 @@
+-- What a command on the store does, and the line that it prints.
+use Rattle.std.specs.Prelude.{◌≡◌, ◌⊎◌, ℕ, List, Option, Some, None, Result, Ok, Err}
+use Rattle.std.specs.FinMap as map
+use Rattle.mds_types.specs.declared.ids.Ino.{Ino}
+use Rattle.mds_types.specs.declared.ids.Rank.{Rank}
+use Rattle.mds_types.specs.declared.refusals.Refusal.{Refusal}
+use Rattle.mds_types.specs.declared.refusals.Refusal.TheVariants.{NoMemory, StaleJob}
+use Rattle.mds_types.specs.Frag.{Fragment}
+use Rattle.objstore.specs.Objects.{Objects as Stored}
+use Rattle.commit_jobs.specs.declared.jobs.Job.{Job as Begun}
+use Rattle.commit_jobs.specs.Commit.{carried}
+use Rattle.cluster_core.specs.declared.events.Answer.{Answer}
+use Rattle.cluster_core.specs.declared.events.Answer.TheVariants.{Job, Nothing, Reply}
+use Rattle.cluster_core.specs.declared.events.Event.TheVariants.{CommitBegin as BeginEvent, CommitEnd as EndEvent, CommitDrop as DropEvent, CommitTree as TreeEvent, Purge as PurgeEvent, Evict as EvictEvent}
+use Rattle.script_text.specs.declared.store_commands.StoreCommand.{StoreCommand}
+use Rattle.script_text.specs.declared.store_commands.StoreCommand.TheVariants.{CommitBegin, CommitEnd, CommitDrop, Commit, CommitTree, Purge, Evict, Object, Objects}
+use Rattle.script_output.specs.declared.lines.OutputLine.{OutputLine}
+use Rattle.script_output.specs.declared.lines.OutputLine.TheVariants.{Nothing as NothingLine, Job as JobLine, Object as ObjectLine, Objects as ObjectsLine, Refused}
+use Rattle.script_output.specs.declared.object_lines.ObjectLine.{ObjectLine as Shown}
+use Rattle.object_lines.specs.ObjectLines.{IsLineOf}
+use Rattle.admin_cli.specs.declared.commands.Admin.{Admin}
+use Rattle.admin_cli.specs.Jobs.{Jobs}
+use Rattle.admin_cli.specs.StepLines.{Does, IsStep}
+
+-- ---- commits
+
+-- the number of the job that a step began, if it began one, or why not
+abbrev pub number_in : Result Answer Refusal → Result (Option ℕ) Refusal
+number_in (Ok (Job job)) = Ok (Some job.number)
+number_in (Ok Nothing) = Ok None
+number_in (Ok (Reply client tid place first reply)) = Ok None
+number_in (Err refusal) = Err refusal
+
+-- the job is kept, by its number
+abbrev pub with_begun : Jobs → Result Answer Refusal → Jobs
+with_begun jobs (Ok (Job job)) = map.insert jobs job.number job
+with_begun jobs (Ok Nothing) = jobs
+with_begun jobs (Ok (Reply client tid place first reply)) = jobs
+with_begun jobs (Err refusal) = jobs
+
+-- a commit of a leaf began, which gave a job of this number, or nothing, or was refused
+pub record BeginsCommit (old new : Admin) (rank : Rank) (dir : Ino) (f : Fragment) (number : Result (Option ℕ) Refusal) : Type 0 where
+  pub result : Result Answer Refusal
+  pub stepped : IsStep old.book new.book result (BeginEvent rank dir f)
+  pub kept : new.jobs ≡ with_begun old.jobs result
+  pub numbered : number ≡ number_in result
+  pub count : new.operations ≡ old.operations
+
+-- its line
+abbrev pub begun_line : Result (Option ℕ) Refusal → OutputLine
+begun_line (Ok (Some number)) = JobLine number
+begun_line (Ok None) = NothingLine
+begun_line (Err refusal) = Refused refusal
+
+abbrev pub BeginsLine : (old new : Admin) → Rank → Ino → Fragment → OutputLine → Type 0
+BeginsLine old new rank dir f line = (number : Result (Option ℕ) Refusal) × BeginsCommit old new rank dir f number × (line ≡ begun_line number)
+
+-- a kept job was encoded, and its commit ended; none of this number is told as a stale one, and want of memory for what is encoded as a
+-- refusal: both leave all
+abbrev pub EndsKept : (old new : Admin) → Option Begun → OutputLine → Type 0
+EndsKept old new None line = (new ≡ old) × (line ≡ Refused StaleJob)
+EndsKept old new (Some job) line = ((new ≡ old) × (line ≡ Refused NoMemory)) ⊎ Does old new (EndEvent (carried job)) line
+
+abbrev pub EndsLine : (old new : Admin) → ℕ → OutputLine → Type 0
+EndsLine old new number line = EndsKept old new (map.get old.jobs number) line
+
+-- a commit that began is ended at once; where nothing began, the line is that of the begin
+abbrev pub CommitsAfter : (middle new : Admin) → Result (Option ℕ) Refusal → OutputLine → Type 0
+CommitsAfter middle new (Ok (Some number)) line = EndsLine middle new number line
+CommitsAfter middle new (Ok None) line = (new ≡ middle) × (line ≡ NothingLine)
+CommitsAfter middle new (Err refusal) line = (new ≡ middle) × (line ≡ Refused refusal)
+
+pub record CommitsLine (old new : Admin) (rank : Rank) (dir : Ino) (f : Fragment) (line : OutputLine) : Type 0 where
+  pub middle : Admin
+  pub number : Result (Option ℕ) Refusal
+  pub begun : BeginsCommit old middle rank dir f number
+  pub rest : CommitsAfter middle new number line
+
+-- ---- looks at the store
+
+-- what the object of a name is, or want of memory
+abbrev pub LooksLine : Stored → List ℕ → OutputLine → Type 0
+LooksLine objects name line = ((shown : Shown) × IsLineOf (map.get objects name) shown × (line ≡ ObjectLine shown)) ⊎ (line ≡ Refused NoMemory)
+
+-- the names of all objects, or want of memory
+abbrev pub ListsObjects : Stored → OutputLine → Type 0
+ListsObjects objects line = (line ≡ ObjectsLine (map.keys objects)) ⊎ (line ≡ Refused NoMemory)
+
+-- ---- a command on the store
+
+abbrev pub ExecutesStore : (old new : Admin) → StoreCommand → OutputLine → Type 0
+ExecutesStore old new (CommitBegin rank dir f) line = BeginsLine old new rank dir f line
+ExecutesStore old new (CommitEnd number) line = EndsLine old new number line
+ExecutesStore old new (CommitDrop number) line = Does old new (DropEvent number) line
+ExecutesStore old new (Commit rank dir f) line = CommitsLine old new rank dir f line
+ExecutesStore old new (CommitTree dir) line = Does old new (TreeEvent dir) line
+ExecutesStore old new Purge line = Does old new PurgeEvent line
+ExecutesStore old new (Evict rank) line = Does old new (EvictEvent rank) line
+ExecutesStore old new (Object name) line = (new ≡ old) × LooksLine old.book.core.state.tree.objects name line
+ExecutesStore old new Objects line = (new ≡ old) × ListsObjects old.book.core.state.tree.objects line

@@ -1,0 +1,143 @@
+//! Commands on the store: commits, fragment trees, the purge list, eviction, and looks at objects.
+ghost use Rattle.std.specs.Prelude.{◌≡◌, ℕ, IfOk, List};
+ghost use Rattle.std.specs.Prelude.{Option, Result};
+ghost use Rattle.admin_cli.specs.StoreLines.{BeginsCommit, BeginsLine, CommitsLine, EndsLine, ExecutesStore, ListsObjects, LooksLine, begun_line as line_of};
+
+use crate::commands::Admin;
+use cluster_core::{Answer, Event};
+use commit_jobs::Encoded;
+use mds_types::{Frag, Ino, Rank, Refusal};
+use object_lines::{object_line, objects_line};
+use script_output::OutputLine;
+use script_text::StoreCommand;
+use std::alloc::{AllocError, Global};
+
+impl Admin {
+    // Does what a command on the store asks for.
+    pub(crate) fn execute_store(
+        &mut self,
+        alloc: Global,
+        command: StoreCommand,
+    ) -> Result<OutputLine, AllocError>
+        ensures line { IfOk result (ExecutesStore self.old self.new command) }
+        ensures count { self.new.operations ≡ self.old.operations }
+    {
+        match command {
+            StoreCommand::CommitBegin { rank, ino, frag } => {
+                self.begin_line(alloc, rank, ino, frag)
+            }
+            StoreCommand::CommitEnd(job) => self.end(alloc, job),
+            StoreCommand::CommitDrop(job) => Ok(self.step(alloc, Event::CommitDrop { job })),
+            StoreCommand::Commit { rank, ino, frag } => self.commit(alloc, rank, ino, frag),
+            StoreCommand::CommitTree(ino) => Ok(self.step(alloc, Event::CommitTree { ino })),
+            StoreCommand::Purge => Ok(self.step(alloc, Event::Purge)),
+            StoreCommand::Evict(rank) => Ok(self.step(alloc, Event::Evict { rank })),
+            StoreCommand::Object(name) => Ok(self.object(alloc, name.as_str())),
+            StoreCommand::Objects => Ok(self.objects(alloc)),
+        }
+    }
+
+    // A commit of a leaf begins, and its job is kept; its number, if there is one.
+    fn begin(
+        &mut self,
+        alloc: Global,
+        rank: Rank,
+        ino: Ino,
+        frag: Frag,
+    ) -> Result<Result<Option<u64>, Refusal>, AllocError>
+        ensures begun { IfOk result (λ number. BeginsCommit self.old self.new rank ino frag number) }
+        ensures count { self.new.operations ≡ self.old.operations }
+    {
+        match self
+            .book
+            .step(alloc, Event::CommitBegin { rank, ino, frag })
+        {
+            Ok(Answer::Job(job)) => {
+                let number = job.number;
+                self.jobs.keep(job)?;
+                Ok(Ok(Some(number)))
+            }
+            Ok(Answer::Nothing) => Ok(Ok(None)),
+            Ok(Answer::Reply { .. }) => Ok(Ok(None)),
+            Err(refusal) => Ok(Err(refusal)),
+        }
+    }
+
+    // `begin RANK INO FRAG`
+    fn begin_line(
+        &mut self,
+        alloc: Global,
+        rank: Rank,
+        ino: Ino,
+        frag: Frag,
+    ) -> Result<OutputLine, AllocError>
+        ensures line { IfOk result (BeginsLine self.old self.new rank ino frag) }
+        ensures count { self.new.operations ≡ self.old.operations }
+    {
+        Ok(begun_line(self.begin(alloc, rank, ino, frag)?))
+    }
+
+    // `end J`: the kept job is encoded, and its commit ended.
+    fn end(&mut self, alloc: Global, number: u64) -> Result<OutputLine, AllocError>
+        ensures line { IfOk result (EndsLine self.old self.new number) }
+        ensures count { self.new.operations ≡ self.old.operations }
+    {
+        let Some(job) = self.jobs.get(number) else {
+            return Ok(OutputLine::Refused(Refusal::StaleJob))
+        };
+        let copy = job.try_clone()?;
+        match Encoded::of(alloc, copy) {
+            Ok(encoded) => Ok(self.step(alloc, Event::CommitEnd(encoded))),
+            Err(refusal) => Ok(OutputLine::Refused(refusal)),
+        }
+    }
+
+    // `commit RANK INO FRAG`: a commit of a leaf begins, and is ended at once.
+    fn commit(
+        &mut self,
+        alloc: Global,
+        rank: Rank,
+        ino: Ino,
+        frag: Frag,
+    ) -> Result<OutputLine, AllocError>
+        ensures line { IfOk result (CommitsLine self.old self.new rank ino frag) }
+        ensures count { self.new.operations ≡ self.old.operations }
+    {
+        match self.begin(alloc, rank, ino, frag)? {
+            Ok(Some(number)) => self.end(alloc, number),
+            Ok(None) => Ok(OutputLine::Nothing),
+            Err(refusal) => Ok(OutputLine::Refused(refusal)),
+        }
+    }
+
+    // What is the object of this name?
+    fn object(&self, alloc: Global, name: &str) -> OutputLine
+        ensures { LooksLine self.now.book.core.state.tree.objects name.now result }
+    {
+        match object_line(alloc, self.book.cluster().store().get(name)) {
+            Ok(line) => OutputLine::Object(line),
+            Err(refusal) => OutputLine::Refused(refusal),
+        }
+    }
+
+    // Which objects has the store?
+    fn objects(&self, alloc: Global) -> OutputLine
+        ensures { ListsObjects self.now.book.core.state.tree.objects result }
+    {
+        match objects_line(alloc, self.book.cluster().store()) {
+            Ok(line) => line,
+            Err(refusal) => OutputLine::Refused(refusal),
+        }
+    }
+}
+
+// The line of a commit that began, or of why not.
+fn begun_line(number: Result<Option<u64>, Refusal>) -> OutputLine
+    ensures { result ≡ line_of number }
+{
+    match number {
+        Ok(Some(number)) => OutputLine::Job(number),
+        Ok(None) => OutputLine::Nothing,
+        Err(refusal) => OutputLine::Refused(refusal),
+    }
+}

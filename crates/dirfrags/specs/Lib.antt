@@ -1,4 +1,0 @@
-pub mod Covers
-pub mod Dentries
-pub mod Divided
-pub mod LeafFrags
