@@ -1,5 +1,0 @@
-//! Tests of `inode_table`, through its public calls alone.
-#![tactic(auto)]
-
-#[cfg(test)]
-mod tests;

@@ -1,0 +1,5 @@
+//! Tests of `object_lines`, through its public calls alone.
+#![tactic(auto)]
+
+#[cfg(test)]
+mod tests;
