@@ -1,5 +1,5 @@
 -- What each fragment keeps, once it is made and once a name has changed.
-use Rattle.std.proofs.Common.{◌≡◌, ℕ, ◌+◌, ◌-◌, ◌^◌, ◌<◌, ◌≤◌, Bool, true, false, not, cond, List, Option, Some, None, sym, ap, subst, ◌∙◌, arith}
+use Rattle.std.proofs.Common.{◌≡◌, ℕ, ◌+◌, ◌-◌, ◌^◌, ◌<◌, ◌≤◌, List, Option, Some, None, refl, sym, ap, subst, ◌∙◌, arith}
 use Rattle.std.specs.FinMap as map
 use Rattle.std.specs.FinMap.{get-empty}
 use Rattle.mds_types.specs.declared.inodes.Inode.{Inode}
@@ -8,14 +8,14 @@ use Rattle.dirfrag_codec.specs.FragmentObject.{Names}
 use Rattle.commit_jobs.specs.declared.bases.Base.TheVariants.{Fresh, Stored}
 use Rattle.commit_jobs.specs.declared.bases.EntryCounts.{EntryCounts}
 use Rattle.commit_jobs.specs.declared.marks.Mark.{Mark}
-use Rattle.commit_jobs.specs.Counting.{is_dir, is_file}
 use Rattle.commit_jobs.specs.Marks.{AreDirtyNames, IsDirtyName, Marks, with_mark}
 use Rattle.commit_jobs.specs.Snap.{counts_of}
-use Rattle.commit_jobs.proofs.MarkLaws.{none_dirty, one_dirty}
+use Rattle.commit_jobs.proofs.MarkLaws.{inode_or, none_dirty, one_dirty}
 use Rattle.cached_frag.specs.Cached.{AreEntries, Cached, IsBased, marked, shown, shown_over}
+use Rattle.cached_frag.specs.Counted.{counted, counted_or}
 use Rattle.cached_frag.specs.Kept.{IsKept}
 use Rattle.cached_frag.proofs.CountedLaws.{all_counted, dirs_marked, dirs_some, files_marked, files_some, nothing_counted}
-use Rattle.cached_frag.proofs.ShownLaws.{nothing_shown, only_below, shown_marked}
+use Rattle.cached_frag.proofs.ShownLaws.{get-shown, nothing_shown, only_below, shown_marked}
 
 pub no_entries : (names : Names) → names ≡ map.empty → AreEntries names
 no_entries names none name inode is =
@@ -34,51 +34,47 @@ kept_fresh generation clean dirty places free bare none =
       reserved = omega arith;
     }
 
+-- what a name counted as
+pub was_counted : (f : Cached) (counts : EntryCounts) (places : ℕ) (name : List ℕ) (below before : EntryCounts) → IsKept f counts places → below ≡ counted (map.get f.clean name) → before ≡ counted_or (map.get f.dirty name) below
+    → before ≡ counted (map.get (shown f) name)
+was_counted f counts places name below before kept low is =
+    is ∙ ap (counted_or (map.get f.dirty name)) low ∙ either (map.get f.dirty name) ∙ sym (ap counted (get-shown f.base f.clean f.dirty name kept.based))
+  where
+    either : (o : Option Mark) → counted_or o (counted (map.get f.clean name)) ≡ counted (inode_or o (map.get f.clean name))
+    either (Some mark) = refl
+    either None = refl
+
 -- the counts allow the change of a name
-pub file_there : (f : Cached) (counts : EntryCounts) (places : ℕ) (name : List ℕ) (before : Option Inode) → IsKept f counts places → before ≡ map.get (shown f) name → cond (is_file before) 1 0 ≤ counts.files
+pub file_there : (f : Cached) (counts : EntryCounts) (places : ℕ) (name : List ℕ) (before : EntryCounts) → IsKept f counts places → before ≡ counted (map.get (shown f) name) → before.files ≤ counts.files
 file_there f counts places name before kept is =
-    let some : cond (is_file (map.get (shown f) name)) 1 0 ≤ (counts_of (shown f)).files = files_some (shown f) name in
-    let same : cond (is_file before) 1 0 ≡ cond (is_file (map.get (shown f) name)) 1 0 = ap (λ (o : Option Inode). cond {A = ℕ} (is_file o) 1 0) is in
+    let some : (counted (map.get (shown f) name)).files ≤ (counts_of (shown f)).files = files_some (shown f) name in
+    let same : before.files ≡ (counted (map.get (shown f) name)).files = ap (λ (c : EntryCounts). c.files) is in
     let total : counts.files ≡ (counts_of (shown f)).files = ap (λ (c : EntryCounts). c.files) kept.counted in
     omega (arith, some, same, total)
 
-pub dir_there : (f : Cached) (counts : EntryCounts) (places : ℕ) (name : List ℕ) (before : Option Inode) → IsKept f counts places → before ≡ map.get (shown f) name → cond (is_dir before) 1 0 ≤ counts.dirs
+pub dir_there : (f : Cached) (counts : EntryCounts) (places : ℕ) (name : List ℕ) (before : EntryCounts) → IsKept f counts places → before ≡ counted (map.get (shown f) name) → before.dirs ≤ counts.dirs
 dir_there f counts places name before kept is =
-    let some : cond (is_dir (map.get (shown f) name)) 1 0 ≤ (counts_of (shown f)).dirs = dirs_some (shown f) name in
-    let same : cond (is_dir before) 1 0 ≡ cond (is_dir (map.get (shown f) name)) 1 0 = ap (λ (o : Option Inode). cond {A = ℕ} (is_dir o) 1 0) is in
+    let some : (counted (map.get (shown f) name)).dirs ≤ (counts_of (shown f)).dirs = dirs_some (shown f) name in
+    let same : before.dirs ≡ (counted (map.get (shown f) name)).dirs = ap (λ (c : EntryCounts). c.dirs) is in
     let total : counts.dirs ≡ (counts_of (shown f)).dirs = ap (λ (c : EntryCounts). c.dirs) kept.counted in
     omega (arith, some, same, total)
 
-module _ (f : Cached) (counts now : EntryCounts) (places left : ℕ) (name : List ℕ) (mark : Mark) (before after : Option Inode) (kept : IsKept f counts places) (dirty : IsDirtyName name mark) (room : 0 < f.room)
-    (was : before ≡ map.get (shown f) name) (is : after ≡ mark.inode) (files : now.files + cond (is_file before) 1 0 ≡ counts.files + cond (is_file after) 1 0)
-    (dirs : now.dirs + cond (is_dir before) 1 0 ≡ counts.dirs + cond (is_dir after) 1 0) (places_left : places ≤ left + 1) where
-  total : now.files + now.dirs ≤ counts.files + counts.dirs + 1
-  total = go before after files dirs
-    where
-      go : (b a : Option Inode) → now.files + cond (is_file b) 1 0 ≡ counts.files + cond (is_file a) 1 0 → now.dirs + cond (is_dir b) 1 0 ≡ counts.dirs + cond (is_dir a) 1 0 → now.files + now.dirs ≤ counts.files + counts.dirs + 1
-      go b a p q = let one = one_of a in omega (arith, p, q, one)
-        where
-          one_of : (o : Option Inode) → cond {A = ℕ} (is_file o) 1 0 + cond {A = ℕ} (is_dir o) 1 0 ≤ 1
-          one_of None = omega arith
-          one_of (Some inode) = either (is_dir (Some inode))
-            where
-              either : (t : Bool) → cond {A = ℕ} (not t) 1 0 + cond {A = ℕ} t 1 0 ≤ 1
-              either true = omega arith
-              either false = omega arith
-
+module _ (f : Cached) (counts now : EntryCounts) (places left : ℕ) (name : List ℕ) (mark : Mark) (before after : EntryCounts) (kept : IsKept f counts places) (dirty : IsDirtyName name mark) (room : 0 < f.room)
+    (was : before ≡ counted (map.get (shown f) name)) (is : after ≡ counted mark.inode) (one : after.files + after.dirs ≤ 1)
+    (files : now.files + before.files ≡ counts.files + after.files) (dirs : now.dirs + before.dirs ≡ counts.dirs + after.dirs) (places_left : places ≤ left + 1) where
   files_now : now.files ≡ (counts_of (with_mark (shown f) name mark.inode)).files
   files_now =
-      let law : (counts_of (with_mark (shown f) name mark.inode)).files + cond (is_file (map.get (shown f) name)) 1 0 ≡ (counts_of (shown f)).files + cond (is_file mark.inode) 1 0 = files_marked (shown f) name mark.inode in
-      let same : cond (is_file before) 1 0 ≡ cond (is_file (map.get (shown f) name)) 1 0 = ap (λ (o : Option Inode). cond {A = ℕ} (is_file o) 1 0) was in
-      let new : cond (is_file after) 1 0 ≡ cond (is_file mark.inode) 1 0 = ap (λ (o : Option Inode). cond {A = ℕ} (is_file o) 1 0) is in
+      let law : (counts_of (with_mark (shown f) name mark.inode)).files + (counted (map.get (shown f) name)).files ≡ (counts_of (shown f)).files + (counted mark.inode).files = files_marked (shown f) name mark.inode in
+      let same : before.files ≡ (counted (map.get (shown f) name)).files = ap (λ (c : EntryCounts). c.files) was in
+      let new : after.files ≡ (counted mark.inode).files = ap (λ (c : EntryCounts). c.files) is in
       let old : counts.files ≡ (counts_of (shown f)).files = ap (λ (c : EntryCounts). c.files) kept.counted in
       omega (arith, law, same, new, old, files)
 
   dirs_now : now.dirs ≡ (counts_of (with_mark (shown f) name mark.inode)).dirs
   dirs_now =
-      let law : (counts_of (with_mark (shown f) name mark.inode)).dirs + cond (is_dir (map.get (shown f) name)) 1 0 ≡ (counts_of (shown f)).dirs + cond (is_dir mark.inode) 1 0 = dirs_marked (shown f) name mark.inode in
-      let same : cond (is_dir before) 1 0 ≡ cond (is_dir (map.get (shown f) name)) 1 0 = ap (λ (o : Option Inode). cond {A = ℕ} (is_dir o) 1 0) was in
-      let new : cond (is_dir after) 1 0 ≡ cond (is_dir mark.inode) 1 0 = ap (λ (o : Option Inode). cond {A = ℕ} (is_dir o) 1 0) is in
+      let law : (counts_of (with_mark (shown f) name mark.inode)).dirs + (counted (map.get (shown f) name)).dirs ≡ (counts_of (shown f)).dirs + (counted mark.inode).dirs = dirs_marked (shown f) name mark.inode in
+      let same : before.dirs ≡ (counted (map.get (shown f) name)).dirs = ap (λ (c : EntryCounts). c.dirs) was in
+      let new : after.dirs ≡ (counted mark.inode).dirs = ap (λ (c : EntryCounts). c.dirs) is in
       let old : counts.dirs ≡ (counts_of (shown f)).dirs = ap (λ (c : EntryCounts). c.dirs) kept.counted in
       omega (arith, law, same, new, old, dirs)
 
@@ -88,14 +84,13 @@ module _ (f : Cached) (counts now : EntryCounts) (places left : ℕ) (name : Lis
   pub kept_marked : (new : Marks) → new ≡ map.insert f.dirty name mark → IsKept (record { base = f.base; generation = f.generation; clean = f.clean; dirty = new; room = f.room - 1; places = f.places }) now left
   kept_marked new same =
       let few : counts.files + counts.dirs + f.room < 2 ^ 64 = kept.few in
-      let most : now.files + now.dirs ≤ counts.files + counts.dirs + 1 = total in
       let reserved : f.room ≤ places = kept.reserved in
       record {
         based = kept.based;
         entries = kept.entries;
         dirty = one_dirty f.dirty new name mark kept.dirty dirty same;
         counted = counted_now ∙ sym (ap (λ (d : Marks). counts_of (shown (record { base = f.base; generation = f.generation; clean = f.clean; dirty = d; room = f.room - 1; places = f.places }))) same);
-        few = omega (arith, few, most, room);
+        few = omega (arith, few, files, dirs, one, room);
         reserved = omega (arith, reserved, places_left, room);
       }
 

@@ -1,4 +1,5 @@
 pub mod Cached
+pub mod Counted
 pub mod Kept
 pub mod Moving
 pub mod Rows

@@ -6,10 +6,11 @@ ghost use Rattle.sorted_map.specs.SortedMap.{contents};
 ghost use Rattle.dirfrag_codec.specs.EntryRecord.{IsRecordable};
 ghost use Rattle.commit_jobs.specs.Marks.{with_mark};
 ghost use Rattle.cached_frag.specs.Cached.{marked, shown};
+ghost use Rattle.cached_frag.specs.Counted.{counted_or};
 
-use crate::counting::recounted;
-use crate::fragments::{CachedFrag, shown_in};
-use commit_jobs::Mark;
+use crate::counting::{counted, recounted};
+use crate::fragments::CachedFrag;
+use commit_jobs::{EntryCounts, Mark};
 use commit_jobs::laws::dirty_names_are_recorded;
 use mds_types::{Inode, Name};
 use sorted_map::SortedMap;
@@ -44,18 +45,28 @@ impl CachedFrag {
         ensures shown { shown self.new ≡ with_mark (shown self.old) name mark.inode }
     {
         dirty_names_are_recorded(&name, &mark);
-        let before = shown_in(&self.clean, &self.dirty, &name);
-        self.counts = recounted(self.counts, before, mark.inode.as_ref());
-        put_mark(&mut self.dirty, name, mark);
+        let after = counted(mark.inode.as_ref());
+        let below = counted(self.clean.get(&name));
+        let before = put_mark(&mut self.dirty, name, mark, below);
+        self.counts = recounted(self.counts, before, after);
         self.room -= 1;
     }
 }
 
-// Says what became of a name, where there is room.
-fn put_mark(dirty: &mut SortedMap<Name, Mark>, name: Name, mark: Mark)
+// Says what became of a name, where there is room, and tells what it counted as: `below`, unless it was dirty.
+fn put_mark(
+    dirty: &mut SortedMap<Name, Mark>,
+    name: Name,
+    mark: Mark,
+    below: EntryCounts,
+) -> EntryCounts
     requires { 0 < dirty.old.room }
+    ensures before { result ≡ counted_or (map.get (contents key_cmp dirty.old) name) below }
     ensures put { contents key_cmp dirty.new ≡ map.insert (contents key_cmp dirty.old) name mark }
     ensures room { dirty.old.room ≤ dirty.new.room + 1 }
 {
-    let _ = dirty.insert(name, mark);
+    match dirty.insert(name, mark) {
+        Some(before) => counted(before.inode.as_ref()),
+        None => below,
+    }
 }
