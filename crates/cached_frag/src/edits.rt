@@ -10,8 +10,8 @@ ghost use Rattle.cached_frag.specs.Counted.{counted_or};
 
 use crate::counting::{counted, recounted};
 use crate::fragments::CachedFrag;
-use commit_jobs::{EntryCounts, Mark};
 use commit_jobs::laws::dirty_names_are_recorded;
+use commit_jobs::{EntryCounts, Mark};
 use mds_types::{Inode, Name};
 use sorted_map::SortedMap;
 

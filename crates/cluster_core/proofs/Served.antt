@@ -29,7 +29,7 @@ use Rattle.cluster_core.specs.State.{State, shown, state_of}
 use Rattle.cluster_core.specs.Inbox.{Takes}
 use Rattle.cluster_core.specs.Offer.{after_taking}
 use Rattle.cluster_core.specs.Prepared.{IsPrepared}
-use Rattle.cluster_core.specs.Serve.{CarryLeaves, IsTakenOut, ServesInbox, entry_of, number_of, outcome_of, with_entry}
+use Rattle.cluster_core.specs.Serve.{CarryLeaves, IsTakenOut, MakesPlanned, ServesInbox, entry_of, number_of, outcome_of, with_entry}
 
 -- what is taken is the front
 pub front_taken : (inbox rest : List Request) (front : Request) (result : Option Request) → Some front ≡ slice_get inbox 0 → Takes inbox rest result → inbox ≡ front ∷ rest
@@ -46,6 +46,7 @@ module _ (f g : TreeState) (MayRefuse : Op → Refusal → Type 0) (numbers : Su
   module _ (taken : inbox ≡ request ∷ rest) (h : TreeState) (numbers_now : Supply) (sessions_now : Table) (now : List Entry) (IsReady : Change → Type 0) (prepared : Prepared) (answer : Answer)
       (ready : IsPrepared (shown_tree f) f.covers IsReady front.op (step (shown_tree f) front.op (number_or (offer numbers))) numbers prepared)
       (tree : shown_tree h ≡ after_plan (shown_tree g) prepared.plan.change)
+      (made : MakesPlanned prepared.plan.change g h)
       (leaves : CarryLeaves (shown_tree g) (shown_tree h) g.covers h.covers)
       (frame : ChangesOnly (IsUntouched g h) (fragments_in g.covers prepared.plan.change))
       (appended : now ≡ middle ++ record { client = request.client; tid = request.tid; oldest = request.oldest; op = request.op; number = prepared.plan.number; reply = prepared.plan.reply } ∷ [])
@@ -85,6 +86,13 @@ module _ (f g : TreeState) (MayRefuse : Op → Refusal → Type 0) (numbers : Su
               appended ∙ ap (λ n. middle ++ entry n prepared.plan.reply ∷ []) planned.planned.took ∙ ap (λ r. middle ++ entry (number_of old request) r ∷ []) planned.planned.replied
               ∙ ap (λ m. m ++ entry_of old request ∷ []) past_is;
           tree = tree ∙ ap (λ s. after_plan (shown_tree s) prepared.plan.change) follows ∙ planned.planned.leads;
+          made = record {
+            change = prepared.plan.change;
+            one_of = planned.planned.one_of;
+            leads = planned.planned.leads;
+            fragments = planned.planned.fragments;
+            made = subst (λ (s : TreeState). MakesPlanned prepared.plan.change s h) follows made;
+          };
           leaves = subst (λ (s : TreeState). CarryLeaves (shown_tree s) (shown_tree h) s.covers h.covers) follows leaves;
           frame =
               subst (λ (leaves : List Leaf). ChangesOnly (IsUntouched f h) leaves) planned.planned.fragments

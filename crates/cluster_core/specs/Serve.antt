@@ -1,5 +1,5 @@
 -- What serving the request at the front of an inbox gives.
-use Rattle.std.specs.Prelude.{◌≡◌, ◌≢◌, ℕ, true, false, cond, ◌⊎◌, ◌++◌, ◌∷◌, [], List, length, Option, None, Result, Ok, Err}
+use Rattle.std.specs.Prelude.{◌≡◌, ◌≢◌, ℕ, true, false, cond, ◌⊎◌, ◌++◌, ◌∷◌, [], List, length, Option, None, Some, Result, Ok, Err}
 use Rattle.std.specs.List.{slice_index_or}
 use Rattle.mds_types.specs.declared.ids.Ino.{Ino}
 use Rattle.mds_types.specs.declared.entries.Entry.{Entry}
@@ -16,9 +16,14 @@ use Rattle.inode_table.specs.Dirs.{Covers, leaves_of}
 use Rattle.inode_table.specs.Numbers.{offer}
 use Rattle.sessions.specs.Table.{Table, noted, trimmed}
 use Rattle.namespace_ops.specs.ChangedFragments.{changed_fragments}
+use Rattle.namespace_ops.specs.Changes.{fragments_in}
 use Rattle.namespace_ops.specs.Kept.{ChangesOnly}
+use Rattle.namespace_ops.specs.Planned.{IsOneOf, after_plan}
 use Rattle.namespace_ops.specs.Served.{LacksNumber}
+use Rattle.namespace_ops.specs.declared.plans.Change.{Change}
+use Rattle.mdcache.specs.Changes.{Makes}
 use Rattle.mdcache.specs.Made.{IsUntouched}
+use Rattle.mdcache.specs.State.{State as TreeState}
 use Rattle.cluster_core.specs.declared.events.Answer.{Answer}
 use Rattle.cluster_core.specs.declared.events.Answer.TheVariants.{Reply}
 use Rattle.cluster_core.specs.State.{State, shown}
@@ -61,6 +66,19 @@ pub record IsTakenOut (old new : State) (past now : List Entry) (rest : List Req
   pub same : now ≡ past
   pub left : new ≡ record old { inbox = rest }
 
+-- a planned change was made: what isn't clean, the jobs, the names to be removed and the counters are as it leaves them. With none they stay
+abbrev pub MakesPlanned : Option Change → (old new : TreeState) → Type 0
+MakesPlanned None old new = new ≡ old
+MakesPlanned (Some change) old new = Makes change old new
+
+-- one change of the operation, or none, was made: that which leads to the table's tree, in the leaves that the operation changes
+pub record IsMade (old new : State) (request : Request) : Type 0 where
+  pub change : Option Change
+  pub one_of : IsOneOf request.op change
+  pub leads : after_plan (shown old) change ≡ (outcome_of old request).tree
+  pub fragments : fragments_in old.tree.covers change ≡ changed_fragments old.tree.covers (shown old) request.op
+  pub made : MakesPlanned change old.tree new.tree
+
 -- a new request was applied: one entry more, and the table's tree and reply. A leaf that is none of those which the operation changes shows
 -- what it showed
 pub record IsApplied (old new : State) (past now : List Entry) (request : Request) (rest : List Request) (answer : Answer) : Type 0 where
@@ -70,6 +88,7 @@ pub record IsApplied (old new : State) (past now : List Entry) (request : Reques
   pub numbered : offer old.numbers ≡ None → (outcome_of old request).takes ≡ false
   pub appended : now ≡ past ++ entry_of old request ∷ []
   pub tree : shown new ≡ (outcome_of old request).tree
+  pub made : IsMade old new request
   pub leaves : CarryLeaves (shown old) (shown new) old.tree.covers new.tree.covers
   pub frame : ChangesOnly (IsUntouched old.tree new.tree) (changed_fragments old.tree.covers (shown old) request.op)
   pub left : new ≡ record old { tree = new.tree; inbox = rest; numbers = after_taking old.numbers (number_of old request); sessions = with_entry old.sessions (length past) (entry_of old request) }

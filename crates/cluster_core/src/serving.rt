@@ -14,7 +14,7 @@ ghost use Rattle.mdcache.specs.Frags.{IsReady as IsReadyIn, MayRefuse};
 ghost use Rattle.mdcache.specs.Made.{IsUntouched};
 ghost use Rattle.mdcache.specs.Shown.{shown_tree};
 ghost use Rattle.cluster_core.specs.State.{state_of};
-ghost use Rattle.cluster_core.specs.Serve.{CarryLeaves, ServesInbox, RepeatsFront};
+ghost use Rattle.cluster_core.specs.Serve.{CarryLeaves, MakesPlanned, ServesInbox, RepeatsFront};
 ghost use Rattle.cluster_core.specs.Prepared.{IsPrepared};
 
 use crate::events::Answer;
@@ -88,6 +88,7 @@ pub fn commit<S: Store + Drop>(
     requires room { vec_len history.old < vec_capacity history.old }
     requires reserved { IsReady sessions.old request.client }
     ensures tree { shown_tree tree.new.state ≡ after_plan (shown_tree tree.old.state) prepared.plan.change }
+    ensures made { MakesPlanned prepared.plan.change tree.old.state tree.new.state }
     ensures leaves { CarryLeaves (shown_tree tree.old.state) (shown_tree tree.new.state) tree.old.state.covers tree.new.state.covers }
     ensures frame { ChangesOnly (IsUntouched tree.old.state tree.new.state) (fragments_in tree.old.state.covers prepared.plan.change) }
     ensures cap { tree.new.cache.cap ≡ tree.old.cache.cap }
@@ -141,6 +142,7 @@ pub fn commit<S: Store + Drop>(
 fn carry_out<S: Store + Drop>(tree: &mut MdCache<S>, change: Option<Change>)
     requires ready { IsReadyToChange (shown_tree tree.old.state) tree.old.state.covers (IsReadyIn tree.old) change }
     ensures tree { shown_tree tree.new.state ≡ after_plan (shown_tree tree.old.state) change }
+    ensures made { MakesPlanned change tree.old.state tree.new.state }
     ensures leaves { CarryLeaves (shown_tree tree.old.state) (shown_tree tree.new.state) tree.old.state.covers tree.new.state.covers }
     ensures frame { ChangesOnly (IsUntouched tree.old.state tree.new.state) (fragments_in tree.old.state.covers change) }
     ensures cap { tree.new.cache.cap ≡ tree.old.cache.cap }

@@ -1,10 +1,11 @@
 -- What is in each place once one of them is used, taken or given up.
 use Rattle.std.proofs.Common.{◌≡◌, ℕ, ◌+◌, ◌-◌, ◌<◌, ◌≤◌, Bool, true, false, cond, inl, inr, [], ◌∷◌, ◌++◌, length, take, Option, Some, None, refl, sym, ap, subst, ◌∙◌, arith}
-use Rattle.std.specs.Prelude.{Result, Ok, Err, IsOk, OnOk, OnErr, is_some, ◌==◌}
+use Rattle.std.specs.Prelude.{Result, Ok, Err, IsOk, OnOk, OnErr, is_some, slice_get, ◌==◌}
 use Rattle.std.specs.Option.{option_map_or}
 use Rattle.std.specs.Map.{lookup, lookup_entry, remove_entry}
 use Rattle.std.specs.FinMap.{len-empty}
 use Rattle.std.proofs.lemmas.List.{length-append, take_all}
+use Rattle.std.proofs.lemmas.Option.{same_Some}
 use Rattle.std.proofs.lemmas.Map.{NonePasses, lookup-none, none_passes_from_lookup}
 use Rattle.lru.proofs.Splits.{all_both, all_left, all_right}
 use Rattle.lru.specs.LruCache.{lru_cache, promoted, put_entries}
@@ -13,7 +14,7 @@ use Rattle.omap.specs.Omap.{Omap, key_cmp}
 use Rattle.commit_jobs.specs.declared.marks.Mark.{Mark}
 use Rattle.cached_frag.specs.Cached.{Cached, is_clean}
 use Rattle.dentry_cache.specs.declared.cache.Place.{Place}
-use Rattle.dentry_cache.specs.Cache.{Evicts, Held, IsUsed, Leaf, MakesRoom, MayMakeRoom, Places, TakesPlace, cached, fragment_in, held, is_kept, leaf_is, unsaved, unsaved_in, used_as}
+use Rattle.dentry_cache.specs.Cache.{Evicts, Held, IsNewest, IsUsed, Leaf, MakesRoom, MayMakeRoom, Places, TakesPlace, cached, fragment_in, held, is_kept, leaf_is, unsaved, unsaved_in, used_as}
 use Rattle.dentry_cache.specs.Loading.{IsFetched, IsNotFetched, Loads}
 use Rattle.dentry_cache.proofs.CacheLaws.{unsaved_alike, unsaved_same}
 use Rattle.dentry_cache.proofs.LeafLaws.{flips, one_leaf}
@@ -86,6 +87,11 @@ is_used leaf old mid new there same told is = go (lookup (leaf_is leaf) old.entr
     go : (o : Option Place) → lookup (leaf_is leaf) old.entries ≡ o → IsUsed o leaf old new there
     go (Some place) found = (said ∙ ap (λ (o : Option Place). is_some o) found, now ∙ ap (λ (es : Places). lru_cache es old.cap) (promoted_is leaf place old.entries found))
     go None found = (said ∙ ap (λ (o : Option Place). is_some o) found, now ∙ ap (λ (es : Places). lru_cache es old.cap) (not_promoted leaf old.entries found))
+
+-- the most recently used place is the first
+pub newest_from : (leaf one : Leaf) (place : Place) (places : Places) → leaf_is leaf one ≡ true → Some (one, place) ≡ slice_get places 0 → IsNewest leaf place places
+newest_from leaf one place [] same is = absurd cc
+newest_from leaf one place (e ∷ es) same is = (es, ap (λ (x : Leaf × Place). x ∷ es) (sym (same_Some (one, place) e is) ∙ ap (λ (l : Leaf). (l, place)) (sym (one_leaf leaf one same))))
 
 -- what was used, and what was not there
 pub used_unsaved : (leaf : Leaf) (old new : Held) (there : Bool) → IsUsed (lookup (leaf_is leaf) old.entries) leaf old new there → unsaved new.entries ≡ unsaved old.entries

@@ -120,6 +120,10 @@ abbrev pub IsUsed : Option Place → Leaf → Held → Held → Bool → Type 0
 IsUsed (Some place) leaf old new there = (there ≡ true) × (new ≡ used_as leaf place old)
 IsUsed None leaf old new there = (there ≡ false) × (new ≡ old)
 
+-- a leaf's place is the most recently used
+abbrev pub IsNewest : Leaf → Place → Places → Type 0
+IsNewest leaf place places = (rest : Places) × (places ≡ (leaf, place) ∷ rest)
+
 -- ---- what isn't clean
 
 -- what a fragment that isn't clean has beyond its object: its base, which of the fragments of its name it is, and its dirty names

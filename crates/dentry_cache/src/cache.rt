@@ -1,8 +1,8 @@
 //! `Cache`, what a contract sees of it, and the calls that read it.
-ghost use Rattle.std.specs.Prelude.{◌≡◌, ◌≤◌, [], length, is_some, IfOk, option_copied};
+ghost use Rattle.std.specs.Prelude.{◌≡◌, ◌≤◌, [], length, is_some, IfOk, IfSome, option_copied};
 ghost use Rattle.std.specs.Map.{lookup};
 ghost use Rattle.lru.specs.LruCache.{lru_cache};
-ghost use Rattle.dentry_cache.specs.Cache.{IsUsed, cached, is_kept, leaf_is};
+ghost use Rattle.dentry_cache.specs.Cache.{IsNewest, IsUsed, cached, is_kept, leaf_is};
 ghost use Rattle.dentry_cache.specs.Places.{IsCache};
 
 use cached_frag::CachedFrag;
@@ -73,6 +73,9 @@ impl Cache {
     pub fn touch(&mut self, dir: Ino, frag: Frag) -> bool
         ensures { IsUsed (lookup (leaf_is (dir, frag)) self.old.entries) (dir, frag) self.old self.new result }
     {
+        if self.newest(dir, frag).is_some() {
+            return true;
+        }
         self.places.promote(&(dir, frag))
     }
 
@@ -80,14 +83,14 @@ impl Cache {
     pub fn has_place(&self, dir: Ino, frag: Frag) -> bool
         ensures { result ≡ is_some (lookup (leaf_is (dir, frag)) self.now.entries) }
     {
-        self.places.contains(&(dir, frag))
+        self.find(dir, frag).is_some()
     }
 
     /// Whether a place is kept for a leaf.
     pub fn is_kept(&self, dir: Ino, frag: Frag) -> bool
         ensures { result ≡ is_kept (lookup (leaf_is (dir, frag)) self.now.entries) }
     {
-        match self.places.peek(&(dir, frag)) {
+        match self.find(dir, frag) {
             Some(place) => place.kept,
             None => false,
         }
@@ -97,8 +100,29 @@ impl Cache {
     pub fn get(&self, dir: Ino, frag: Frag) -> Option<&CachedFrag>
         ensures { option_copied result ≡ cached self.now.entries (dir, frag) }
     {
-        match self.places.peek(&(dir, frag)) {
+        match self.find(dir, frag) {
             Some(place) if !place.kept => Some(&place.frag),
+            _ => None,
+        }
+    }
+
+    // The place of a leaf.
+    fn find(&self, dir: Ino, frag: Frag) -> Option<&Place>
+        ensures { option_copied result ≡ lookup (leaf_is (dir, frag)) self.now.entries }
+    {
+        match self.newest(dir, frag) {
+            Some(place) => Some(place),
+            None => self.places.peek(&(dir, frag)),
+        }
+    }
+
+    // The place of a leaf, if it is the most recently used: of the calls of one operation most ask for that one, and no
+    // key is hashed for it.
+    fn newest(&self, dir: Ino, frag: Frag) -> Option<&Place>
+        ensures { IfSome result (λ place. IsNewest (dir, frag) place.now self.now.entries) }
+    {
+        match self.places.peek_mru() {
+            Some((leaf, place)) if &(dir, frag) == leaf => Some(place),
             _ => None,
         }
     }
