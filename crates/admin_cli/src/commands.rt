@@ -21,7 +21,7 @@ pub struct Admin {
 }
 
 impl Admin {
-    ghost use Rattle.cluster_core.specs.declared.events.Event.TheVariants.{Arrive};
+    ghost use Rattle.cluster_core.specs.declared.events.Event.TheVariants.{Arrive, Merge, Serve, Split};
     ghost use Rattle.admin_cli.specs.Execute.{Executes, ListsLine, OperatesLine};
     ghost use Rattle.admin_cli.specs.StepLines.{Does, StepsLine, arrived_line};
 
@@ -47,25 +47,15 @@ impl Admin {
             Command::Store(command) => self.execute_store(alloc, command),
             Command::Operation(op) => Ok(self.operate(alloc, op)),
             Command::Request(rank, request) => Ok(self.arrive(alloc, rank, request)),
-            Command::Serve(rank) => Ok(self.step(alloc, Event::Serve { rank })),
+            Command::Serve(rank) => Ok(self.serve(alloc, rank)),
             Command::History => Ok(OutputLine::History(self.book.history().len() as u64)),
             Command::Split {
                 rank,
                 ino,
                 frag,
                 bits,
-            } => Ok(self.step(
-                alloc,
-                Event::Split {
-                    rank,
-                    ino,
-                    frag,
-                    bits,
-                },
-            )),
-            Command::Merge { rank, ino, frag } => {
-                Ok(self.step(alloc, Event::Merge { rank, ino, frag }))
-            }
+            } => Ok(self.split(alloc, rank, ino, frag, bits)),
+            Command::Merge { rank, ino, frag } => Ok(self.merge(alloc, rank, ino, frag)),
             Command::Leaves(ino) => Ok(self.leaves(alloc, ino)),
         }
     }
@@ -110,6 +100,36 @@ impl Admin {
             return OutputLine::Refused(refusal);
         }
         OutputLine::Queued
+    }
+
+    // A rank serves. This and the next two are functions of their own, since an event is large, and `execute`, through which
+    // each line goes, would clear the room for one event after another.
+    fn serve(&mut self, alloc: Global, rank: Rank) -> OutputLine
+        ensures { Does self.old self.new (Serve rank) result }
+    {
+        self.step(alloc, Event::Serve { rank })
+    }
+
+    // A leaf of a directory is split.
+    fn split(&mut self, alloc: Global, rank: Rank, ino: Ino, frag: Frag, bits: u8) -> OutputLine
+        ensures { Does self.old self.new (Split rank ino frag bits) result }
+    {
+        self.step(
+            alloc,
+            Event::Split {
+                rank,
+                ino,
+                frag,
+                bits,
+            },
+        )
+    }
+
+    // Leaves of a directory are merged.
+    fn merge(&mut self, alloc: Global, rank: Rank, ino: Ino, frag: Frag) -> OutputLine
+        ensures { Does self.old self.new (Merge rank ino frag) result }
+    {
+        self.step(alloc, Event::Merge { rank, ino, frag })
     }
 
     // One event.
