@@ -373,15 +373,30 @@ fn are_wanted(results: &[Result<Answer, Refusal>], row: &[(Did, Came)]) -> bool 
     all
 }
 
-// Whether one call of `run` comes to the row.
-fn runs(alloc: Global, row: &[(Did, Came)]) -> bool {
+// The events of a row.
+fn events_of(alloc: Global, row: &[(Did, Came)]) -> Vec<Event> {
     let mut events = Vec::new(alloc);
     put_events(alloc, &mut events, row);
+    events
+}
+
+// Whether one call of `run` comes to the row.
+fn ran_well(
+    alloc: Global,
+    book: &mut Book<MemStore>,
+    events: Vec<Event>,
+    row: &[(Did, Came)],
+) -> bool {
+    match run(alloc, book, events) {
+        Ok(results) => are_wanted(&results, row),
+        Err(_) => false,
+    }
+}
+
+// The same, of a new book.
+fn runs(alloc: Global, row: &[(Did, Came)]) -> bool {
     match new_book(alloc) {
-        Some(mut book) => match run(alloc, &mut book, events) {
-            Ok(results) => are_wanted(&results, row),
-            Err(_) => false,
-        },
+        Some(mut book) => ran_well(alloc, &mut book, events_of(alloc, row), row),
         None => false,
     }
 }
