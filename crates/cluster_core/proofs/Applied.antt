@@ -1,8 +1,10 @@
 -- A book stays sound where a request is applied.
-use Rattle.std.proofs.Common.{◌≡◌, ℕ, ◌<◌, ◌≤◌, Bool, true, false, cond, is_some, nat_lt, List, [], ◌∷◌, ◌++◌, length, Option, Some, None, refl, sym, ap, ◌∙◌, ⊎_elim, arith}
+use Rattle.std.proofs.Common.{◌≡◌, ◌≢◌, ℕ, ◌<◌, ◌≤◌, Bool, true, false, cond, is_some, nat_lt, eqb, get_or, set, List, [], ◌∷◌, ◌++◌, length, Option, Some, None, refl, sym, ap, ◌∙◌, ⊎_elim, arith}
 use Rattle.std.proofs.lemmas.Bool.Decides.{nat_tests}
-use Rattle.std.proofs.lemmas.Bool.{true≢false}
+use Rattle.std.proofs.lemmas.Bool.{eqb-false, eqb-true, true≢false}
+use Rattle.std.proofs.lemmas.List.{get_or-set_other, get_or-set_same, length-set}
 use Rattle.mds_types.specs.declared.ids.Ino.{Ino}
+use Rattle.mds_types.specs.declared.ids.Rank.{Rank}
 use Rattle.mds_types.specs.declared.entries.Entry.{Entry}
 use Rattle.mds_types.specs.declared.requests.Request.{Request}
 use Rattle.mds_types.specs.Tree.{Tree}
@@ -10,14 +12,16 @@ use Rattle.mds_types.specs.Step.{Outcome, step, number_or}
 use Rattle.mds_types.proofs.StepLaws.{unused}
 use Rattle.mds_types.specs.History.{after, IsNext, IsLawful}
 use Rattle.mds_types.proofs.HistoryLaws.{after-push, legal-push, used-push}
+use Rattle.inboxes.specs.Inboxes.{with_waiting}
 use Rattle.inode_table.specs.Numbers.{Supply, IsSupply, offer, first_number, end_number}
 use Rattle.sessions.proofs.TableLaws.{table-push}
 use Rattle.mdcache.specs.Cached.{IsKept}
-use Rattle.cluster_core.specs.State.{Core, State, shown}
+use Rattle.cluster_core.specs.State.{Core, State, no_supply, shown, supply_of}
 use Rattle.cluster_core.specs.declared.events.Answer.{Answer}
 use Rattle.cluster_core.specs.Offer.{after_taking}
 use Rattle.cluster_core.specs.Serve.{IsApplied, entry_of, number_of, outcome_of, with_entry}
-use Rattle.cluster_core.specs.Sound.{IsFresh, IsSound}
+use Rattle.cluster_core.specs.Sound.{AreRanks, AreSupplied, IsFresh, IsSound, IsSupplied}
+use Rattle.cluster_core.specs.Subtrees.{KeepsRoots}
 
 -- what an offer of a number comes to: the table took it, or it took none and the outcome is that of any number
 pub record IsTaking (tree : Tree) (request : Request) (s : Supply) (number : Option Ino) (outcome : Outcome) : Type 0 where
@@ -49,10 +53,11 @@ taking tree request s true true below takes numbered = record {
 taking tree request s false true below takes numbered = absurd (true≢false (numbered refl))
 
 -- what a request that is applied takes
-taking_of : (state : State) (request : Request) → (offer state.numbers ≡ None → (outcome_of state request).takes ≡ false) → IsTaking (shown state) request state.numbers (number_of state request) (outcome_of state request)
-taking_of state request numbered =
-    taking (shown state) request state.numbers (nat_lt state.numbers.next (end_number state.numbers.rank)) (outcome_of state request).takes
-    (λ e. grind (arith, nat_tests)) refl numbered
+taking_of : (state : State) (rank : Rank) (request : Request) → (offer (supply_of state rank) ≡ None → (outcome_of state rank request).takes ≡ false)
+    → IsTaking (shown state) request (supply_of state rank) (number_of state rank request) (outcome_of state rank request)
+taking_of state rank request numbered =
+    let s = supply_of state rank in
+    taking (shown state) request s (nat_lt s.next (end_number s.rank)) (outcome_of state rank request).takes (λ e. grind (arith, nat_tests)) refl numbered
 
 -- the supply afterwards
 after_taking-fresh : (opening : Tree) (past : List Entry) (s : Supply) (e : Entry)
@@ -78,30 +83,86 @@ lawful opening past s (Some n) h fresh next_one = λ before.
     let high : n.0 < end_number s.rank = omega (arith, w.0, w.1) in
     omega (arith, w.0, fresh n.0 low high before)
 
+-- a supply of the same rank
+taking_keeps_rank : (s : Supply) (number : Option Ino) → (after_taking s number).rank ≡ s.rank
+taking_keeps_rank s None = refl
+taking_keeps_rank s (Some n) = refl
+
+-- a number is of one rank's range
+one_range : (a b n : ℕ) → first_number a ≤ n → n < end_number a → first_number b ≤ n → n < end_number b → a ≡ b
+one_range a b n low high least most = omega (arith, low, high, least, most)
+
+-- another rank's supply is as fresh as it was
+others-fresh : (opening : Tree) (past : List Entry) (s other : Supply) (e : Entry) → s.rank ≢ other.rank → IsFresh opening past other
+    → ((n : Ino) → e.number ≡ Some n → (first_number s.rank ≤ n.0) × (n.0 < end_number s.rank)) → IsFresh opening (past ++ e ∷ []) other
+others-fresh opening past s other e apart fresh range n from below among =
+    ⊎_elim (λ before. fresh n from below before) (λ now. let r = range (record { 0 = n }) now in absurd (apart (one_range s.rank other.rank n r.0 r.1 from below))) (used-push opening past e n among)
+
+-- each rank has its supply after one of them gave out a number
+module _ (opening : Tree) (past : List Entry) (numbers : List Supply) (rank : ℕ) (e : Entry) (there : rank < length numbers) (before : AreSupplied opening past numbers)
+    (next_one : (n : Ino) → e.number ≡ Some n → (n.0 ≡ (get_or numbers rank no_supply).next) × ((get_or numbers rank no_supply).next < end_number (get_or numbers rank no_supply).rank)) where
+  mine : Supply
+  mine = get_or numbers rank no_supply
+
+  taken : Supply
+  taken = after_taking mine e.number
+
+  range : (n : Ino) → e.number ≡ Some n → (first_number mine.rank ≤ n.0) × (n.0 < end_number mine.rank)
+  range n is = let w = next_one n is in (omega (arith, w.0, (before rank there).supply.started), omega (arith, w.0, w.1))
+
+  at_rank : IsSupplied opening (past ++ e ∷ []) rank taken
+  at_rank = let h = before rank there in record {
+    supply = after_taking-supplied mine e.number h.supply next_one;
+    own = taking_keeps_rank mine e.number ∙ h.own;
+    fresh = after_taking-fresh opening past mine e h.fresh (λ n is. (next_one n is).0);
+  }
+
+  elsewhere : (k : ℕ) → k < length numbers → k ≢ rank → IsSupplied opening (past ++ e ∷ []) k (get_or numbers k no_supply)
+  elsewhere k below apart = let h = before k below in record {
+    supply = h.supply;
+    own = h.own;
+    fresh = others-fresh opening past mine (get_or numbers k no_supply) e (λ same. apart (sym h.own ∙ sym same ∙ (before rank there).own)) h.fresh range;
+  }
+
+  pub supplied_after : AreSupplied opening (past ++ e ∷ []) (set numbers rank taken)
+  supplied_after k below = go (eqb k rank) refl
+    where
+      go : (b : Bool) → eqb k rank ≡ b → IsSupplied opening (past ++ e ∷ []) k (get_or (set numbers rank taken) k no_supply)
+      go true same = let is = eqb-true k rank same in rw (is, get_or-set_same numbers rank taken no_supply there) at_rank
+      go false other = let apart = eqb-false k rank other in rw (get_or-set_other numbers rank k taken no_supply apart) (elsewhere k (omega (arith, below, length-set numbers rank taken)) apart)
+
 -- a book stays sound where a request is applied
-pub sound-applied : (opening : Tree) (past now : List Entry) (old new : Core) (request : Request) (rest : List Request) (answer : Answer)
-    → IsSound opening past old → IsKept new.state.tree new.cache → IsApplied old.state new.state past now request rest answer → IsSound opening now new
-sound-applied opening past now old new request rest answer sound tree done =
+pub sound-applied : (opening : Tree) (past now : List Entry) (old new : Core) (rank : Rank) (request : Request) (rest : List Request) (answer : Answer)
+    → rank.0 < length old.state.numbers → IsSound opening past old → IsKept new.state.tree new.cache → KeepsRoots old.state.tree new.state.tree old.state.roots new.state.roots
+    → IsApplied old.state new.state past now rank request rest answer → IsSound opening now new
+sound-applied opening past now old new rank request rest answer there sound tree kept done =
     let before = old.state in
-    let e = entry_of before request in
-    let t = taking_of before request done.numbered in
+    let e = entry_of before rank request in
+    let t = taking_of before rank request done.numbered in
     let first = after opening past in
-    let same : step first e.op (number_or e.number) ≡ outcome_of before request = ap (λ (t : Tree). step t e.op (number_or e.number)) (sym sound.replayed) ∙ t.same in
+    let same : step first e.op (number_or e.number) ≡ outcome_of before rank request = ap (λ (t : Tree). step t e.op (number_or e.number)) (sym sound.replayed) ∙ t.same in
+    let mine = sound.supplied rank.0 there in
     let next : IsNext opening past e = record {
       once = done.is_new.absent;
       own = done.is_new.own;
       marked = done.is_new.marked;
       number = t.numbered ∙ ap (λ (o : Outcome). o.takes) (sym same);
-      lawful = lawful opening past before.numbers e.number sound.supplied sound.fresh t.next_one;
+      lawful = lawful opening past (supply_of before rank) e.number mine.supply mine.fresh t.next_one;
       reply = ap (λ (o : Outcome). o.reply) (sym same);
     } in
-    let numbers : new.state.numbers ≡ after_taking before.numbers e.number = ap (λ (s : State). s.numbers) done.left in
+    let numbers : new.state.numbers ≡ set before.numbers rank.0 (after_taking (supply_of before rank) e.number) = ap (λ (s : State). s.numbers) done.left in
+    let inboxes : new.state.inboxes ≡ with_waiting before.inboxes rank rest = ap (λ (s : State). s.inboxes) done.left in
     let sessions : new.state.sessions ≡ with_entry before.sessions (length past) e = ap (λ (s : State). s.sessions) done.left in
     record {
       legal = rw done.appended (legal-push opening past e sound.legal next);
       replayed = done.tree ∙ ap (λ (o : Outcome). o.tree) (sym same) ∙ sym (after-push opening past e) ∙ ap (after opening) (sym done.appended);
       tree = tree;
-      supplied = rw numbers (after_taking-supplied before.numbers e.number sound.supplied t.next_one);
-      fresh = rw (numbers, done.appended) (after_taking-fresh opening past before.numbers e sound.fresh (λ n is. (t.next_one n is).0));
+      subtrees = kept.valid;
+      first = λ leaf r is. let w = kept.ranks leaf r is in sound.first w.0 r w.1;
+      ranks = rw (numbers, inboxes) (record {
+        some = omega (arith, sound.ranks.some, length-set before.numbers rank.0 (after_taking (supply_of before rank) e.number));
+        inboxes = length-set before.inboxes rank.0 rest ∙ sound.ranks.inboxes ∙ sym (length-set before.numbers rank.0 (after_taking (supply_of before rank) e.number));
+      });
+      supplied = rw (numbers, done.appended) (supplied_after opening past before.numbers rank.0 e there sound.supplied t.next_one);
       kept = rw (sessions, done.appended) (table-push past before.sessions e sound.kept);
     }

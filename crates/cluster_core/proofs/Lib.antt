@@ -1,7 +1,13 @@
 pub mod Applied
 pub mod Carried
+pub mod InsideLaws
+pub mod Kept
+pub mod MasterLaws
+pub mod NewBook
 pub mod Offered
+pub mod RootLaws
 pub mod RunLaws
 pub mod Served
 pub mod Stepped
+pub mod SubtreeLaws
 pub mod Worked

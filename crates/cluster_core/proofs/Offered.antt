@@ -1,34 +1,52 @@
 -- The number that a rank offers next is unused in the tree that a sound cluster shows, and in a rank's range.
-use Rattle.std.proofs.Common.{◌≡◌, ◌<◌, Bool, true, false, nat_lt, cond, List, Option, Some, None, refl, ap, ◌∙◌, sym, arith}
+use Rattle.std.proofs.Common.{◌≡◌, ◌<◌, Bool, true, false, nat_lt, cond, length, MatchBool, List, Option, Some, None, refl, ap, ◌∙◌, sym, arith}
 use Rattle.std.proofs.lemmas.Bool.Decides.{nat_tests}
 use Rattle.std.specs.FinMap as map
 use Rattle.mds_types.specs.declared.ids.Ino.{Ino}
+use Rattle.mds_types.specs.declared.ids.Rank.{Rank}
 use Rattle.mds_types.specs.declared.entries.Entry.{Entry}
-use Rattle.mds_types.specs.Tree.{Tree, dentry_of, IsUnused}
+use Rattle.mds_types.specs.Step.{destination_of}
+use Rattle.mds_types.specs.Tree.{Tree, dentry_of, is_directory, IsUnused}
 use Rattle.mds_types.proofs.UsedLaws.{numbers_used}
 use Rattle.dirfrag_codec.specs.EntryRecord.{IsRankNumber}
-use Rattle.inode_table.specs.Numbers.{offer, end_number}
+use Rattle.inode_table.specs.Numbers.{Supply, offer, end_number}
 use Rattle.namespace_ops.specs.Changes.{IsOffered}
-use Rattle.cluster_core.specs.State.{Core, shown}
-use Rattle.cluster_core.specs.Sound.{IsSound}
+use Rattle.cluster_core.specs.Master.{AreMastersThere, main_leaf}
+use Rattle.cluster_core.specs.State.{Core, shown, supply_of}
+use Rattle.cluster_core.specs.Sound.{IsSound, IsSupplied}
+use Rattle.cluster_core.specs.Subtrees.{Rules}
 
-module _ (opening : Tree) (past : List Entry) (core : Core) (sound : IsSound opening past core) where
-  next_unused : core.state.numbers.next < end_number core.state.numbers.rank → IsUnused (shown core.state) core.state.numbers.next
+module _ (opening : Tree) (past : List Entry) (core : Core) (sound : IsSound opening past core) (rank : Rank) (there : rank.0 < length core.state.numbers) where
+  mine : Supply
+  mine = supply_of core.state rank
+
+  has : IsSupplied opening past rank.0 mine
+  has = sound.supplied rank.0 there
+
+  next_unused : mine.next < end_number mine.rank → IsUnused (shown core.state) mine.next
   next_unused below = record {
-    not_root = λ one. omega (arith, one, sound.supplied.started);
+    not_root = λ one. omega (arith, one, has.supply.started);
     not_there = λ d name inode stands same.
         let used = numbers_used opening past sound.legal (dentry_of d name) inode (ap (λ t. map.get t (dentry_of d name)) (sym sound.replayed) ∙ stands) in
-        let low : _ = sound.fresh inode.ino.0 (omega (arith, same, sound.supplied.started)) (omega (arith, same, below)) used in
+        let low : _ = has.fresh inode.ino.0 (omega (arith, same, has.supply.started)) (omega (arith, same, below)) used in
         omega (arith, same, low);
   }
 
-  next_in_range : core.state.numbers.next < end_number core.state.numbers.rank → IsRankNumber core.state.numbers.next
-  next_in_range below = record { least = omega (arith, sound.supplied.started); most = omega (arith, below, sound.supplied.ranked) }
+  next_in_range : mine.next < end_number mine.rank → IsRankNumber mine.next
+  next_in_range below = record { least = omega (arith, has.supply.started); most = omega (arith, below, has.supply.ranked) }
 
-  pub offer_unused : IsOffered (shown core.state) (λ n. IsRankNumber n) (offer core.state.numbers)
-  offer_unused = go (nat_lt core.state.numbers.next (end_number core.state.numbers.rank)) (λ e. grind (arith, nat_tests))
+  pub offer_unused : IsOffered (shown core.state) (λ n. IsRankNumber n) (offer mine)
+  offer_unused = go (nat_lt mine.next (end_number mine.rank)) (λ e. grind (arith, nat_tests))
     where
-      go : (left : Bool) → (left ≡ true → core.state.numbers.next < end_number core.state.numbers.rank)
-          → IsOffered (shown core.state) (λ n. IsRankNumber n) (cond {A = Option Ino} left (Some (record { 0 = core.state.numbers.next })) None)
+      go : (left : Bool) → (left ≡ true → mine.next < end_number mine.rank)
+          → IsOffered (shown core.state) (λ n. IsRankNumber n) (cond {A = Option Ino} left (Some (record { 0 = mine.next })) None)
       go true below = (next_unused (below refl), next_in_range (below refl))
       go false below = tt
+
+  -- the master of each operation is one of the ranks: the rank itself, or rank 0, whose every root is
+  pub masters_there : AreMastersThere core.state.tree core.state.roots rank (length core.state.inboxes)
+  masters_there op master h = go (is_directory (shown core.state) (destination_of op)) h
+    where
+      go : (b : Bool) → MatchBool b (Rules core.state.tree core.state.roots (main_leaf core.state.tree.covers op) master) (master ≡ rank) → master.0 < length core.state.inboxes
+      go true rules = omega (arith, sound.first rules.root master rules.ranked, sound.ranks.some, sound.ranks.inboxes)
+      go false same = omega (arith, ap (λ (r : Rank). r.0) same, there, sound.ranks.inboxes)

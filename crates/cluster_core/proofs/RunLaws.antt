@@ -5,6 +5,7 @@ use Rattle.std.proofs.lemmas.List.{append-nil, length-append, length-drop, get_o
 use Rattle.std.proofs.lemmas.Bool.{eqb-true, and_parts}
 use Rattle.std.specs.List.{slice_index_or}
 use Rattle.mds_types.specs.declared.entries.Entry.{Entry}
+use Rattle.mds_types.specs.declared.ids.Rank.{Rank}
 use Rattle.mds_types.specs.declared.requests.Request.{Request}
 use Rattle.mds_types.specs.declared.replies.Reply.{Reply as Replied}
 use Rattle.mds_types.specs.declared.operations.Op.{Op}
@@ -12,15 +13,17 @@ use Rattle.mds_types.specs.declared.refusals.Refusal.{Refusal}
 use Rattle.mds_types.specs.declared.refusals.Refusal.TheVariants.{NotAuthority, InboxEmpty}
 use Rattle.cluster_core.specs.declared.events.Answer.{Answer}
 use Rattle.commit_jobs.specs.declared.jobs.Job.{Job as Begun}
-use Rattle.cluster_core.specs.declared.events.Answer.TheVariants.{Job, Nothing, Reply}
+use Rattle.cluster_core.specs.declared.events.Answer.TheVariants.{Deferred, Forwarded, Job, Nothing, Reply}
 use Rattle.cluster_core.specs.declared.events.Event.{Event}
-use Rattle.cluster_core.specs.declared.events.Event.TheVariants.{Arrive, Serve, Split, Merge, CommitBegin, CommitEnd, CommitDrop, CommitTree, Purge, Evict}
+use Rattle.cluster_core.specs.declared.events.Event.TheVariants.{Arrive, Grant, Serve, Split, Merge, CommitBegin, CommitEnd, CommitDrop, CommitTree, Purge, Evict}
 use Rattle.cluster_core.specs.State.{Core, Kept, State}
 use Rattle.cluster_core.specs.Serve.{IsApplied, IsRepeated, IsLeft, ServesRequest, ServesInbox, entry_of}
-use Rattle.mdcache.specs.Commits.{Begins, Drops, Ends}
+use Rattle.cluster_core.specs.Grants.{GrantsFirst}
+use Rattle.inboxes.specs.Inboxes.{first_waiting, waiting_at}
+use Rattle.mdcache.specs.Commits.{Drops, Ends}
 use Rattle.mdcache.specs.Objects.{Purges, SavesTree}
-use Rattle.cluster_core.specs.Administers.{Administers, EvictsOne, MergesLeaves, SplitsLeaf, nothing, told_job}
-use Rattle.cluster_core.specs.Steps.{ArrivesInbox, Does, MayRefuse, ranks}
+use Rattle.cluster_core.specs.Administers.{Administers, BeginsAt, EvictsOne, MergesLeaves, SplitsLeaf, nothing, told_job}
+use Rattle.cluster_core.specs.Steps.{ArrivesAt, Does, MayRefuse}
 use Rattle.cluster_core.specs.Runs.{StepsBook, Runs, IsRun, StandsAt, IsOfHistory, BeginsWith}
 
 -- what one step leaves of the history, and what its answer says of it
@@ -34,9 +37,9 @@ unchanged past now same = ([], same ∙ sym (append-nil past))
 refused : (past now : List Entry) (reason : Refusal) → now ≡ past → IsStepOf past now (Err reason)
 refused past now reason same = record { grows = unchanged past now same; told = tt }
 
-applied : (old new : State) (past now : List Entry) (request : Request) (rest : List Request) (answer : Answer) → IsApplied old new past now request rest answer → IsStepOf past now (Ok answer)
-applied old new past now request rest answer h =
-    let entry = entry_of old request in
+applied : (old new : State) (past now : List Entry) (rank : Rank) (request : Request) (rest : List Request) (answer : Answer) → IsApplied old new past now rank request rest answer → IsStepOf past now (Ok answer)
+applied old new past now rank request rest answer h =
+    let entry = entry_of old rank request in
     let last : (e : Entry) → slice_index_or now (length past) e ≡ entry = λ e. rw h.appended (get_or-append_seam past entry [] e) in
     record {
       grows = (entry ∷ [], h.appended);
@@ -53,16 +56,16 @@ applied old new past now request rest answer h =
 one_reply : (answer : Answer) (client tid place : ℕ) (r s : Replied) → answer ≡ Reply client tid place false r → answer ≡ Reply client tid place false s → r ≡ s
 one_reply answer client tid place r s p q = let both : Reply client tid place false r ≡ Reply client tid place false s = sym p ∙ q in cc
 
-repeated : (old new : State) (past now : List Entry) (request : Request) (rest : List Request) (answer : Answer) → IsRepeated old new past now request rest answer → IsStepOf past now (Ok answer)
-repeated old new past now request rest answer h =
+repeated : (old new : State) (past now : List Entry) (rank : Rank) (request : Request) (rest : List Request) (answer : Answer) → IsRepeated old new past now rank request rest answer → IsStepOf past now (Ok answer)
+repeated old new past now rank request rest answer h =
     let pair = λ (e : Entry). and_parts _ _ (h.kept.at.pair e) in
     record {
       grows = unchanged past now h.out.same;
-      told = subst (λ a. IsOfHistory now (Ok a)) (sym (h.answered (entry_of old request))) (rw h.out.same (record {
+      told = subst (λ a. IsOfHistory now (Ok a)) (sym (h.answered (entry_of old rank request))) (rw h.out.same (record {
         in_range = h.kept.at.in_range;
         client_is = λ e. eqb-true _ _ (pair e).0;
         tid_is = λ e. eqb-true _ _ (pair e).1;
-        reply_is = λ e. one_reply answer _ _ _ _ _ (h.answered e) (h.answered (entry_of old request));
+        reply_is = λ e. one_reply answer _ _ _ _ _ (h.answered e) (h.answered (entry_of old rank request));
       }));
     }
 
@@ -70,24 +73,34 @@ module _ (old new : State) (past now : List Entry) where
   left : (reason : Refusal) → IsLeft old new past now → IsStepOf past now (Err reason)
   left reason h = refused past now reason h.same
 
-  quiet : (answer : Answer) → answer ≡ Nothing → now ≡ past → IsStepOf past now (Ok answer)
-  quiet answer is same = rw is (record { grows = unchanged past now same; told = tt })
+  -- an answer that is no reply
+  quiet : (answer is : Answer) → answer ≡ is → IsOfHistory now (Ok is) → now ≡ past → IsStepOf past now (Ok answer)
+  quiet answer is same told kept = record { grows = unchanged past now kept; told = subst (λ a. IsOfHistory now (Ok a)) (sym same) told }
 
-  arrived : (request : Request) (result : Result Answer Refusal) → ArrivesInbox old new past now request result → IsStepOf past now result
-  arrived request (Ok answer) h = quiet answer h.0 h.3
-  arrived request (Err reason) h = left reason h.1
+  arrived : (rank : Rank) (request : Request) (result : Result Answer Refusal) → ArrivesAt old new past now rank request result → IsStepOf past now result
+  arrived rank request (Ok answer) h = quiet answer Nothing h.0 tt h.3
+  arrived rank request (Err reason) h = left reason h.2
 
-  served : (MayRefuse : Op → Refusal → Type 0) (request : Request) (rest : List Request) (result : Result Answer Refusal) → ServesRequest old new past now MayRefuse request rest result → IsStepOf past now result
-  served MayRefuse request rest (Ok answer) (inl h) = applied old new past now request rest answer h
-  served MayRefuse request rest (Ok answer) (inr h) = repeated old new past now request rest answer h
-  served MayRefuse request rest (Err reason) (inl h) = refused past now reason h.2.same
-  served MayRefuse request rest (Err reason) (inr (inl h)) = refused past now reason h.3.same
-  served MayRefuse request rest (Err reason) (inr (inr (inl h))) = left reason h.2
-  served MayRefuse request rest (Err reason) (inr (inr (inr h))) = left reason h.3
+  module _ (MayRefuse : Op → Refusal → Type 0) (rank : Rank) where
+    served : (request : Request) (rest : List Request) (result : Result Answer Refusal) → ServesRequest old new past now MayRefuse rank request rest result → IsStepOf past now result
+    served request rest (Ok answer) (inl h) = applied old new past now rank request rest answer h
+    served request rest (Ok answer) (inr (inl h)) = repeated old new past now rank request rest answer h
+    served request rest (Ok answer) (inr (inr (inl h))) = quiet answer (Forwarded h.master) h.answered tt h.same
+    served request rest (Ok answer) (inr (inr (inr h))) = quiet answer Deferred h.answered tt h.same
+    served request rest (Err reason) (inl h) = refused past now reason h.2.same
+    served request rest (Err reason) (inr (inl h)) = refused past now reason h.3.same
+    served request rest (Err reason) (inr (inr (inl h))) = left reason h.2
+    served request rest (Err reason) (inr (inr (inr (inl h)))) = left reason h.2
+    served request rest (Err reason) (inr (inr (inr (inr h)))) = left reason h.3
 
-  served_inbox : (MayRefuse : Op → Refusal → Type 0) (result : Result Answer Refusal) (inbox : List Request) → ServesInbox old new past now MayRefuse result inbox → IsStepOf past now result
-  served_inbox MayRefuse result [] h = subst (IsStepOf past now) (sym h.0) (left InboxEmpty h.1)
-  served_inbox MayRefuse result (request ∷ rest) h = served MayRefuse request rest result h
+    served_inbox : (result : Result Answer Refusal) (inbox : List Request) → ServesInbox old new past now MayRefuse rank result inbox → IsStepOf past now result
+    served_inbox result [] h = subst (IsStepOf past now) (sym h.0) (left InboxEmpty h.1)
+    served_inbox result (request ∷ rest) h = served request rest result h
+
+  granted : (MayRefuse : Op → Refusal → Type 0) (rank : Rank) (client tid : ℕ) (result : Result Answer Refusal) (found : Option Request) → GrantsFirst old new past now MayRefuse rank client tid result found → IsStepOf past now result
+  granted MayRefuse rank client tid result None h = subst (IsStepOf past now) (sym h.0) (left InboxEmpty h.1)
+  granted MayRefuse rank client tid (Ok answer) (Some request) h = quiet answer Nothing h.answered tt h.same
+  granted MayRefuse rank client tid (Err reason) (Some request) h = left reason h.1
 
   -- an administrator's step adds nothing to the history, and what it tells is no reply
   administered : {X : Type 0} (told : X → Answer) (Did : Result X Refusal → Type 0) → ((given : X) → IsOfHistory now (Ok (told given)))
@@ -112,16 +125,20 @@ module _ (old new : State) (past now : List Entry) where
 
 -- one step adds to the history alone, and a reply that it hands out stands there
 pub step_of : (old new : Core) (past now : List Entry) (result : Result Answer Refusal) (event : Event) → Does old new past now result event → IsStepOf past now result
-step_of old new past now result (Arrive rank request) h = at_rank old.state new.state past now (nat_lt rank.0 ranks) result (arrived old.state new.state past now request result) h
-step_of old new past now result (Serve rank) h = at_rank old.state new.state past now (nat_lt rank.0 ranks) result (served_inbox old.state new.state past now (MayRefuse old new) result old.state.inbox) h
-step_of old new past now result (Split rank dir f nb) h = at_rank old.state new.state past now (nat_lt rank.0 ranks) result (done old.state new.state past now (SplitsLeaf old new dir f nb) result) h
-step_of old new past now result (Merge rank dir f) h = at_rank old.state new.state past now (nat_lt rank.0 ranks) result (done old.state new.state past now (MergesLeaves old new dir f) result) h
-step_of old new past now result (CommitBegin rank dir f) h = at_rank old.state new.state past now (nat_lt rank.0 ranks) result (begun old.state new.state past now (Begins old.state.tree new.state.tree (dir, f)) result) h
-step_of old new past now result (CommitEnd encoded) h = done old.state new.state past now (Ends old.state.tree new.state.tree old.faults new.faults encoded.job) result h
-step_of old new past now result (CommitDrop number) h = done old.state new.state past now (Drops old.state.tree new.state.tree number) result h
-step_of old new past now result (CommitTree dir) h = done old.state new.state past now (SavesTree old.state.tree new.state.tree old.faults new.faults dir) result h
-step_of old new past now result Purge h = done old.state new.state past now (Purges old.state.tree new.state.tree old.faults new.faults) result h
-step_of old new past now result (Evict rank) h = at_rank old.state new.state past now (nat_lt rank.0 ranks) result (done old.state new.state past now (EvictsOne old new) result) h
+step_of old new past now result (Arrive rank request) h = at_rank old.state new.state past now (nat_lt rank.0 (length old.state.inboxes)) result (arrived old.state new.state past now rank request result) h
+step_of old new past now result (Serve rank) h =
+    at_rank old.state new.state past now (nat_lt rank.0 (length old.state.inboxes)) result (served_inbox old.state new.state past now (MayRefuse old new) rank result (waiting_at old.state.inboxes rank)) h
+step_of old new past now result (Grant rank client tid) h =
+    at_rank old.state new.state past now (nat_lt rank.0 (length old.state.inboxes)) result (granted old.state new.state past now (MayRefuse old new) rank client tid result (first_waiting client tid old.state.inboxes)) h
+step_of old new past now result (Split rank dir f nb) h = at_rank old.state new.state past now (nat_lt rank.0 (length old.state.inboxes)) result (done old.state new.state past now (SplitsLeaf old new rank dir f nb) result) h
+step_of old new past now result (Merge rank dir f) h = at_rank old.state new.state past now (nat_lt rank.0 (length old.state.inboxes)) result (done old.state new.state past now (MergesLeaves old new rank dir f) result) h
+step_of old new past now result (CommitBegin rank dir f) h =
+    at_rank old.state new.state past now (nat_lt rank.0 (length old.state.inboxes)) result (λ w. begun old.state new.state past now (BeginsAt old.state new.state rank (dir, f)) result w.0) h
+step_of old new past now result (CommitEnd encoded) h = done old.state new.state past now (Ends old.state.tree new.state.tree old.faults new.faults encoded.job) result h.0
+step_of old new past now result (CommitDrop number) h = done old.state new.state past now (Drops old.state.tree new.state.tree number) result h.0
+step_of old new past now result (CommitTree dir) h = done old.state new.state past now (SavesTree old.state.tree new.state.tree old.faults new.faults dir) result h.0
+step_of old new past now result Purge h = done old.state new.state past now (Purges old.state.tree new.state.tree old.faults new.faults) result h.0
+step_of old new past now result (Evict rank) h = at_rank old.state new.state past now (nat_lt rank.0 (length old.state.inboxes)) result (λ w. done old.state new.state past now (EvictsOne old new rank) result w.0) h
 
 -- what stands in a history stands in each that begins with it
 still_stands : (past now : List Entry) (client tid place : ℕ) (reply : Replied) → BeginsWith now past → StandsAt past client tid place reply → StandsAt now client tid place reply
@@ -137,6 +154,8 @@ still_stands past now client tid place reply (rest, grown) h =
 still_told : (past now : List Entry) (result : Result Answer Refusal) → BeginsWith now past → IsOfHistory past result → IsOfHistory now result
 still_told past now (Ok Nothing) grown h = tt
 still_told past now (Ok (Job job)) grown h = tt
+still_told past now (Ok (Forwarded rank)) grown h = tt
+still_told past now (Ok Deferred) grown h = tt
 still_told past now (Ok (Reply client tid place first reply)) grown h = still_stands past now client tid place reply grown h
 still_told past now (Err reason) grown h = tt
 

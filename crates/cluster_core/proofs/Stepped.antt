@@ -1,103 +1,112 @@
--- A book stays sound at every step, and begins sound.
-use Rattle.std.proofs.Common.{◌≡◌, ℕ, ◌^◌, ◌≤◌, Bool, true, false, nat_lt, inl, inr, List, [], ◌∷◌, map, length, MatchBool, Result, Ok, Err, refl, ap, ◌∙◌, arith}
-use Rattle.std.specs.FinMap as finmap
+-- A book stays sound at every step.
+use Rattle.std.proofs.Common.{◌≡◌, ℕ, ◌<◌, Bool, true, false, nat_lt, inl, inr, List, [], ◌∷◌, ◌++◌, length, MatchBool, Option, Some, None, Result, Ok, Err, refl, ap, ◌∙◌, arith}
+use Rattle.std.proofs.lemmas.Bool.{ltb-true}
+use Rattle.std.proofs.lemmas.List.{length-set}
 use Rattle.mds_types.specs.declared.entries.Entry.{Entry}
+use Rattle.mds_types.specs.declared.ids.Rank.{Rank}
 use Rattle.mds_types.specs.declared.requests.Request.{Request}
 use Rattle.mds_types.specs.declared.refusals.Refusal.{Refusal}
 use Rattle.mds_types.specs.declared.refusals.Refusal.TheVariants.{NotAuthority}
 use Rattle.mds_types.specs.declared.operations.Op.{Op}
-use Rattle.mds_types.specs.Tree.{Tree, numbers}
-use Rattle.mds_types.proofs.TreeLaws.{entries-empty}
-use Rattle.mds_types.specs.History.{IsUsed}
+use Rattle.mds_types.specs.Tree.{Tree}
+use Rattle.inboxes.specs.declared.pins.Pin.{Pin}
+use Rattle.inboxes.specs.Inboxes.{Inboxes, first_waiting, waiting_at, with_waiting}
 use Rattle.mdcache.specs.Cached.{IsKept}
-use Rattle.mdcache.proofs.NewLaws.{new_tree}
-use Rattle.sessions.proofs.TableLaws.{table-none}
 use Rattle.cluster_core.specs.declared.events.Answer.{Answer}
 use Rattle.cluster_core.specs.declared.events.Event.{Event}
-use Rattle.cluster_core.specs.declared.events.Event.TheVariants.{Arrive, Serve, Split, Merge, CommitBegin, CommitEnd, CommitDrop, CommitTree, Purge, Evict}
-use Rattle.mdcache.specs.Commits.{Begins, Drops, Ends}
+use Rattle.cluster_core.specs.declared.events.Event.TheVariants.{Arrive, Grant, Serve, Split, Merge, CommitBegin, CommitEnd, CommitDrop, CommitTree, Purge, Evict}
+use Rattle.mdcache.specs.Commits.{Drops, Ends}
 use Rattle.mdcache.specs.Objects.{Purges, SavesTree}
-use Rattle.cluster_core.specs.Administers.{Administers, EvictsOne, IsUnseen, MergesLeaves, SplitsLeaf, nothing, told_job}
-use Rattle.cluster_core.specs.State.{Core, State, new_state, shown}
-use Rattle.cluster_core.specs.Serve.{IsLeft, IsTakenOut, ServesRequest, ServesInbox}
-use Rattle.cluster_core.specs.Steps.{ArrivesInbox, Does, MayRefuse, ranks}
+use Rattle.cluster_core.specs.Grants.{GrantsFirst}
+use Rattle.cluster_core.specs.Administers.{Administers, BeginsAt, EvictsOne, IsUnseen, MergesLeaves, SplitsLeaf, nothing, told_job}
+use Rattle.cluster_core.specs.State.{Core, State, shown}
+use Rattle.cluster_core.specs.Serve.{IsForwarded, IsLeft, IsTakenOut, ServesRequest, ServesInbox}
+use Rattle.cluster_core.specs.Steps.{ArrivesAt, Does, MayRefuse}
 use Rattle.cluster_core.specs.Sound.{IsSound}
+use Rattle.cluster_core.specs.Subtrees.{KeepsRoots}
 use Rattle.cluster_core.proofs.Applied.{sound-applied}
 
-module _ (opening : Tree) (past now : List Entry) (old new : Core) (sound : IsSound opening past old) (tree : IsKept new.state.tree new.cache) where
-  -- the same history, and the same tree, numbers and sessions: the inbox has no part in it
-  sound-same : now ≡ past → shown new.state ≡ shown old.state → new.state.numbers ≡ old.state.numbers → new.state.sessions ≡ old.state.sessions → IsSound opening now new
-  sound-same same shown_same numbers_same sessions_same = record {
+module _ (opening : Tree) (past now : List Entry) (old new : Core) (sound : IsSound opening past old) (tree : IsKept new.state.tree new.cache) (kept : KeepsRoots old.state.tree new.state.tree old.state.roots new.state.roots) where
+  -- the same history, and the same tree, numbers and sessions: what the inboxes have has no part in it
+  sound-same : now ≡ past → shown new.state ≡ shown old.state → new.state.numbers ≡ old.state.numbers → length new.state.inboxes ≡ length old.state.inboxes → new.state.sessions ≡ old.state.sessions → IsSound opening now new
+  sound-same same shown_same numbers_same inboxes_same sessions_same = record {
     legal = rw same sound.legal;
     replayed = shown_same ∙ rw same sound.replayed;
     tree = tree;
-    supplied = rw numbers_same sound.supplied;
-    fresh = rw (numbers_same, same) sound.fresh;
+    subtrees = kept.valid;
+    first = λ leaf rank is. let w = kept.ranks leaf rank is in sound.first w.0 rank w.1;
+    ranks = record { some = rw numbers_same sound.ranks.some; inboxes = inboxes_same ∙ rw numbers_same sound.ranks.inboxes };
+    supplied = rw (numbers_same, same) sound.supplied;
     kept = rw (sessions_same, same) sound.kept;
   }
 
-  sound-left : IsLeft old.state new.state past now → IsSound opening now new
-  sound-left h = sound-same h.same (ap shown h.left) (ap (λ (s : State). s.numbers) h.left) (ap (λ (s : State). s.sessions) h.left)
+  -- so it is where the new state is the old one with other inboxes, of which there are as many
+  sound-but : now ≡ past → (inboxes : Inboxes) (pins : List Pin) → length inboxes ≡ length old.state.inboxes → new.state ≡ record old.state { inboxes = inboxes; pins = pins } → IsSound opening now new
+  sound-but same inboxes pins long left =
+      sound-same same (ap shown left) (ap (λ (s : State). s.numbers) left) (ap (λ (s : State). length s.inboxes) left ∙ long) (ap (λ (s : State). s.sessions) left)
 
-  sound-out : (rest : List Request) → IsTakenOut old.state new.state past now rest → IsSound opening now new
-  sound-out rest h = sound-same h.same (ap shown h.left) (ap (λ (s : State). s.numbers) h.left) (ap (λ (s : State). s.sessions) h.left)
+  sound-left : IsLeft old.state new.state past now → IsSound opening now new
+  sound-left h = sound-but h.same old.state.inboxes old.state.pins refl h.left
+
+  sound-out : (rank : Rank) (request : Request) (rest : List Request) → IsTakenOut old.state new.state past now rank request rest → IsSound opening now new
+  sound-out rank request rest h = sound-but h.same _ _ (length-set old.state.inboxes rank.0 rest) h.left
 
   -- what administrators do is unseen
   unseen : IsUnseen old.state new.state past now → IsSound opening now new
-  unseen h = sound-same h.same h.tree (ap (λ (s : State). s.numbers) h.left) (ap (λ (s : State). s.sessions) h.left)
+  unseen h = sound-same h.same h.tree (ap (λ (s : State). s.numbers) h.left) (ap (λ (s : State). length s.inboxes) h.left) (ap (λ (s : State). s.sessions) h.left)
 
-  arrived : (request : Request) (result : Result Answer Refusal) → ArrivesInbox old.state new.state past now request result → IsSound opening now new
-  arrived request (Ok answer) h = sound-same h.3 (ap shown h.2) (ap (λ (s : State). s.numbers) h.2) (ap (λ (s : State). s.sessions) h.2)
-  arrived request (Err reason) h = sound-left h.1
+  arrived : (rank : Rank) (request : Request) (result : Result Answer Refusal) → ArrivesAt old.state new.state past now rank request result → IsSound opening now new
+  arrived rank request (Ok answer) h = sound-but h.3 _ old.state.pins (length-set old.state.inboxes rank.0 (waiting_at old.state.inboxes rank ++ request ∷ [])) h.2
+  arrived rank request (Err reason) h = sound-left h.2
 
-  served : (MayRefuse : Op → Refusal → Type 0) (request : Request) (rest : List Request) (result : Result Answer Refusal) → ServesRequest old.state new.state past now MayRefuse request rest result → IsSound opening now new
-  served MayRefuse request rest (Ok answer) (inl h) = sound-applied opening past now old new request rest answer sound tree h
-  served MayRefuse request rest (Ok answer) (inr h) = sound-out rest h.out
-  served MayRefuse request rest (Err reason) (inl h) = sound-out rest h.2
-  served MayRefuse request rest (Err reason) (inr (inl h)) = sound-out rest h.3
-  served MayRefuse request rest (Err reason) (inr (inr (inl h))) = sound-left h.2
-  served MayRefuse request rest (Err reason) (inr (inr (inr h))) = sound-left h.3
+  forwarded : (rank : Rank) (request : Request) (rest : List Request) (answer : Answer) → IsForwarded old.state new.state past now rank request rest answer → IsSound opening now new
+  forwarded rank request rest answer h =
+      let out = with_waiting old.state.inboxes rank rest in
+      sound-but h.same _ old.state.pins (length-set out h.master.0 (waiting_at out h.master ++ request ∷ []) ∙ length-set old.state.inboxes rank.0 rest) h.left
 
-  served_inbox : (MayRefuse : Op → Refusal → Type 0) (result : Result Answer Refusal) (inbox : List Request) → ServesInbox old.state new.state past now MayRefuse result inbox → IsSound opening now new
-  served_inbox MayRefuse result [] h = sound-left h.1
-  served_inbox MayRefuse result (request ∷ rest) h = served MayRefuse request rest result h
+  module _ (MayRefuse : Op → Refusal → Type 0) (rank : Rank) (there : rank.0 < length old.state.numbers) where
+    served : (request : Request) (rest : List Request) (result : Result Answer Refusal) → ServesRequest old.state new.state past now MayRefuse rank request rest result → IsSound opening now new
+    served request rest (Ok answer) (inl h) = sound-applied opening past now old new rank request rest answer there sound tree kept h
+    served request rest (Ok answer) (inr (inl h)) = sound-out rank request rest h.out
+    served request rest (Ok answer) (inr (inr (inl h))) = forwarded rank request rest answer h
+    served request rest (Ok answer) (inr (inr (inr h))) = sound-but h.same _ old.state.pins (length-set old.state.inboxes rank.0 (rest ++ request ∷ [])) h.left
+    served request rest (Err reason) (inl h) = sound-out rank request rest h.2
+    served request rest (Err reason) (inr (inl h)) = sound-out rank request rest h.3
+    served request rest (Err reason) (inr (inr (inl h))) = sound-left h.2
+    served request rest (Err reason) (inr (inr (inr (inl h)))) = sound-left h.2
+    served request rest (Err reason) (inr (inr (inr (inr h)))) = sound-left h.3
+
+    served_inbox : (result : Result Answer Refusal) (inbox : List Request) → ServesInbox old.state new.state past now MayRefuse rank result inbox → IsSound opening now new
+    served_inbox result [] h = sound-left h.1
+    served_inbox result (request ∷ rest) h = served request rest result h
+
+  granted : (MayRefuse : Op → Refusal → Type 0) (rank : Rank) (client tid : ℕ) (result : Result Answer Refusal) (found : Option Request) → GrantsFirst old.state new.state past now MayRefuse rank client tid result found → IsSound opening now new
+  granted MayRefuse rank client tid result None h = sound-left h.1
+  granted MayRefuse rank client tid (Ok answer) (Some request) h = sound-but h.same old.state.inboxes _ refl h.left
+  granted MayRefuse rank client tid (Err reason) (Some request) h = sound-left h.1
 
   administered : {X : Type 0} (told : X → Answer) (Did : Result X Refusal → Type 0) (result : Result Answer Refusal) → Administers old.state new.state past now told Did result → IsSound opening now new
   administered told Did (Ok answer) h = unseen h.3
   administered told Did (Err reason) h = sound-left h.1
 
-  at_rank : (here : Bool) (result : Result Answer Refusal) {done : Type 0} → (done → IsSound opening now new) → MatchBool here done ((result ≡ Err NotAuthority) × IsLeft old.state new.state past now) → IsSound opening now new
-  at_rank true result go h = go h
+  at_rank : (here : Bool) (result : Result Answer Refusal) {done : Type 0} → (here ≡ true → done → IsSound opening now new) → MatchBool here done ((result ≡ Err NotAuthority) × IsLeft old.state new.state past now) → IsSound opening now new
+  at_rank true result go h = go refl h
   at_rank false result go h = sound-left h.1
+
+  -- a rank that is there has its supply
+  there_of : (rank : Rank) → nat_lt rank.0 (length old.state.inboxes) ≡ true → rank.0 < length old.state.numbers
+  there_of rank here = omega (arith, ltb-true rank.0 (length old.state.inboxes) here, sound.ranks.inboxes)
 
   -- every step keeps a book sound
   pub sound-step : (result : Result Answer Refusal) (event : Event) → Does old new past now result event → IsSound opening now new
-  sound-step result (Arrive rank request) h = at_rank (nat_lt rank.0 ranks) result (arrived request result) h
-  sound-step result (Serve rank) h = at_rank (nat_lt rank.0 ranks) result (served_inbox (MayRefuse old new) result old.state.inbox) h
-  sound-step result (Split rank dir f nb) h = at_rank (nat_lt rank.0 ranks) result (administered nothing (SplitsLeaf old new dir f nb) result) h
-  sound-step result (Merge rank dir f) h = at_rank (nat_lt rank.0 ranks) result (administered nothing (MergesLeaves old new dir f) result) h
-  sound-step result (CommitBegin rank dir f) h = at_rank (nat_lt rank.0 ranks) result (administered told_job (Begins old.state.tree new.state.tree (dir, f)) result) h
-  sound-step result (CommitEnd encoded) h = administered nothing (Ends old.state.tree new.state.tree old.faults new.faults encoded.job) result h
-  sound-step result (CommitDrop number) h = administered nothing (Drops old.state.tree new.state.tree number) result h
-  sound-step result (CommitTree dir) h = administered nothing (SavesTree old.state.tree new.state.tree old.faults new.faults dir) result h
-  sound-step result Purge h = administered nothing (Purges old.state.tree new.state.tree old.faults new.faults) result h
-  sound-step result (Evict rank) h = at_rank (nat_lt rank.0 ranks) result (administered nothing (EvictsOne old new) result) h
-
--- no number of a rank is used in an empty book
-unused-empty : (n : ℕ) → 2 ^ 40 ≤ n → IsUsed finmap.empty [] n → ⊥
-unused-empty n low (inl one) = omega arith
-unused-empty n low (inr (inl (k, below, is))) =
-    let none : length (numbers finmap.empty) ≡ 0 = ap (λ es. length (map (λ (e : _). e.1.ino.0) es)) entries-empty in
-    omega arith
-unused-empty n low (inr (inr (k, x, below, is, took))) = omega arith
-
--- a new book is sound
-pub sound-empty : (core : Core) → core.state ≡ new_state → IsKept core.state.tree core.cache → IsSound finmap.empty [] core
-sound-empty core is tree = record {
-  legal = λ k e below. absurd (omega arith);
-  replayed = ap shown is ∙ new_tree;
-  tree = tree;
-  supplied = rw is (record { ranked = omega arith; started = omega arith; ended = omega arith });
-  fresh = rw is (λ n low high used. absurd (unused-empty n low used));
-  kept = rw is table-none;
-}
+  sound-step result (Arrive rank request) h = at_rank (nat_lt rank.0 (length old.state.inboxes)) result (λ here. arrived rank request result) h
+  sound-step result (Serve rank) h = at_rank (nat_lt rank.0 (length old.state.inboxes)) result (λ here. served_inbox (MayRefuse old new) rank (there_of rank here) result (waiting_at old.state.inboxes rank)) h
+  sound-step result (Grant rank client tid) h = at_rank (nat_lt rank.0 (length old.state.inboxes)) result (λ here. granted (MayRefuse old new) rank client tid result (first_waiting client tid old.state.inboxes)) h
+  sound-step result (Split rank dir f nb) h = at_rank (nat_lt rank.0 (length old.state.inboxes)) result (λ here. administered nothing (SplitsLeaf old new rank dir f nb) result) h
+  sound-step result (Merge rank dir f) h = at_rank (nat_lt rank.0 (length old.state.inboxes)) result (λ here. administered nothing (MergesLeaves old new rank dir f) result) h
+  sound-step result (CommitBegin rank dir f) h = at_rank (nat_lt rank.0 (length old.state.inboxes)) result (λ here done. administered told_job (BeginsAt old.state new.state rank (dir, f)) result done.0) h
+  sound-step result (CommitEnd encoded) h = administered nothing (Ends old.state.tree new.state.tree old.faults new.faults encoded.job) result h.0
+  sound-step result (CommitDrop number) h = administered nothing (Drops old.state.tree new.state.tree number) result h.0
+  sound-step result (CommitTree dir) h = administered nothing (SavesTree old.state.tree new.state.tree old.faults new.faults dir) result h.0
+  sound-step result Purge h = administered nothing (Purges old.state.tree new.state.tree old.faults new.faults) result h.0
+  sound-step result (Evict rank) h = at_rank (nat_lt rank.0 (length old.state.inboxes)) result (λ here done. administered nothing (EvictsOne old new rank) result done.0) h

@@ -1,34 +1,44 @@
 -- What an administrator's steps do to a cluster.
-use Rattle.std.specs.Prelude.{◌≡◌, ◌⊎◌, ℕ, ◌+◌, ◌^◌, true, false, List, [], ◌∷◌, Option, Some, None, Result, Ok, Err}
+use Rattle.std.specs.Prelude.{◌≡◌, ◌≢◌, ◌⊎◌, ℕ, ◌+◌, ◌^◌, Bool, true, false, List, [], ◌∷◌, Option, Some, None, Result, Ok, Err}
+use Rattle.std.specs.List.{list_any}
 use Rattle.mds_types.specs.declared.ids.Ino.{Ino}
+use Rattle.mds_types.specs.declared.ids.Rank.{Rank}
 use Rattle.mds_types.specs.declared.entries.Entry.{Entry}
 use Rattle.mds_types.specs.declared.refusals.Refusal.{Refusal}
-use Rattle.mds_types.specs.declared.refusals.Refusal.TheVariants.{NoMemory, NoSuchFrag, NothingToEvict}
+use Rattle.mds_types.specs.declared.refusals.Refusal.TheVariants.{NoMemory, NoSuchFrag, NotAuthority, NothingToEvict, Pinned}
 use Rattle.mds_types.specs.Frag.{Fragment}
 use Rattle.mds_types.specs.Tree.{is_directory}
 use Rattle.fragtree.specs.FragTree.{CanMerge, CanSplit, RefusesMerge, RefusesSplit}
 use Rattle.commit_jobs.specs.declared.jobs.Job.{Job as Begun}
 use Rattle.dentry_cache.specs.Cache.{Evicts, Leaf, NoneGoes}
-use Rattle.inode_table.specs.Dirs.{leaves_of}
+use Rattle.inboxes.specs.Pins.{is_on}
+use Rattle.inode_table.specs.Dirs.{IsLive, is_known, leaves_of}
+use Rattle.subtree_map.specs.Changes.{IsRootMerge, IsRootSplit}
 use Rattle.mdcache.specs.Commits.{Begins, Drops, Ends}
 use Rattle.mdcache.specs.Objects.{Purges, SavesTree}
 use Rattle.mdcache.specs.Regroups.{MayNotRegroup}
 use Rattle.mdcache.specs.Splits.{IsMergedInto, IsSplitInto}
 use Rattle.cluster_core.specs.declared.events.Answer.{Answer}
 use Rattle.cluster_core.specs.declared.events.Answer.TheVariants.{Job, Nothing}
-use Rattle.cluster_core.specs.State.{Core, LacksPlaces, State, shown}
+use Rattle.cluster_core.specs.State.{Core, LacksPlaces, State, cache_of, shown}
+use Rattle.cluster_core.specs.Master.{IsAuthority}
 use Rattle.cluster_core.specs.Serve.{IsLeft}
+use Rattle.cluster_core.specs.Subtrees.{AllHave, IsAnyPinned}
 
--- what such a step leaves unseen: the shown tree, and all but the tree's own state
+-- what such a step leaves unseen: the shown tree, and all but the tree's own state and the subtree roots
 pub record IsUnseen (old new : State) (past now : List Entry) : Type 0 where
   pub same : now ≡ past
   pub tree : shown new ≡ shown old
-  pub left : new ≡ record old { tree = new.tree }
+  pub left : new ≡ record old { tree = new.tree; roots = new.roots }
 
 -- a step that answers has done its work, unseen, and tells what it gave; a refused one has left all, and was refused as the work was
 abbrev pub Administers : {X : Type 0} → (old new : State) → (past now : List Entry) → (told : X → Answer) → (Did : Result X Refusal → Type 0) → Result Answer Refusal → Type 0
 Administers old new past now told Did (Ok answer) = (given : _) × (answer ≡ told given) × Did (Ok given) × IsUnseen old new past now
 Administers old new past now told Did (Err reason) = Did (Err reason) × IsLeft old new past now
+
+-- so it is with a step that leaves the subtree roots
+abbrev pub AdministersTree : {X : Type 0} → (old new : State) → (past now : List Entry) → (told : X → Answer) → (Did : Result X Refusal → Type 0) → Result Answer Refusal → Type 0
+AdministersTree old new past now told Did result = Administers old new past now told Did result × (new.roots ≡ old.roots)
 
 -- work that gives nothing is told so
 abbrev pub nothing : Unit {0} → Answer
@@ -36,24 +46,54 @@ nothing done = Nothing
 
 -- ---- leaves
 
--- a leaf was split by so many bits; where it wasn't, the leaves refuse it, or numbers lack, or as many places as there would be children
--- and one, or the store or memory refused
-abbrev pub SplitsLeaf : (old new : Core) → Ino → Fragment → ℕ → Result (Unit {0}) Refusal → Type 0
-SplitsLeaf old new dir f nb (Ok done) = IsSplitInto old.state.tree new.state.tree dir f nb
-SplitsLeaf old new dir f nb (Err reason) =
-    MayNotRegroup (CanSplit (leaves_of old.state.tree.covers dir.0) f nb) (RefusesSplit (leaves_of old.state.tree.covers dir.0) f nb) old.state.tree dir (2 ^ nb) (LacksPlaces (2 ^ nb + 1) old) old.faults new.faults reason
+-- why leaves of a directory stay: there is no such directory, or its leaves refuse it; the rank isn't the authority of all that are concerned;
+-- one of them is pinned; or for another reason
+abbrev pub RefusesRegroup : (known : Bool) → (Refuses : Refusal → Type 0) → (Can Mine IsPinned : Type 0) → (Else : Refusal → Type 0) → Refusal → Type 0
+RefusesRegroup known Refuses Can Mine IsPinned Else reason =
+    ((reason ≡ NoSuchFrag) × (known ≡ false))
+    ⊎ ((known ≡ true) × (reason ≢ NoMemory) × Refuses reason)
+    ⊎ ((known ≡ true) × Can × (reason ≡ NotAuthority) × (Mine → ⊥))
+    ⊎ ((known ≡ true) × Can × Mine × (reason ≡ Pinned) × IsPinned)
+    ⊎ ((known ≡ true) × Can × Mine × (IsPinned → ⊥) × Else reason)
 
--- the leaves inside a fragment were merged; where they weren't, it was refused so too, and for places where one lacks
-abbrev pub MergesLeaves : (old new : Core) → Ino → Fragment → Result (Unit {0}) Refusal → Type 0
-MergesLeaves old new dir f (Ok done) = IsMergedInto old.state.tree new.state.tree dir f
-MergesLeaves old new dir f (Err reason) =
-    MayNotRegroup (CanMerge (leaves_of old.state.tree.covers dir.0) f) (RefusesMerge (leaves_of old.state.tree.covers dir.0) f) old.state.tree dir 1 (LacksPlaces 1 old) old.faults new.faults reason
+-- a grant stands on a leaf
+abbrev pub IsPinned : State → Leaf → Type 0
+IsPinned state leaf = list_any (is_on leaf.0 leaf.1) state.pins ≡ true
 
-abbrev pub Splits : (old new : Core) → (past now : List Entry) → Ino → Fragment → ℕ → Result Answer Refusal → Type 0
-Splits old new past now dir f nb result = Administers old.state new.state past now nothing (SplitsLeaf old new dir f nb) result
+-- a leaf of the rank's, not pinned, was split by so many bits, and its children are roots if it was one; where it wasn't, the leaves refuse it, or
+-- the rank isn't its authority, or it is pinned, or numbers lack, or as many places as there would be children and one, or the store or memory
+-- refused
+abbrev pub SplitsLeaf : (old new : Core) → Rank → Ino → Fragment → ℕ → Result (Unit {0}) Refusal → Type 0
+SplitsLeaf old new rank dir f nb (Ok done) =
+    IsAuthority old.state (dir, f) rank × (IsPinned old.state (dir, f) → ⊥) × IsSplitInto old.state.tree new.state.tree dir f nb × IsRootSplit old.state.roots new.state.roots dir.0 f nb
+SplitsLeaf old new rank dir f nb (Err reason) =
+    RefusesRegroup (is_known old.state.tree.homes dir.0) (RefusesSplit (leaves_of old.state.tree.covers dir.0) f nb) (CanSplit (leaves_of old.state.tree.covers dir.0) f nb) (IsAuthority old.state (dir, f) rank) (IsPinned old.state (dir, f))
+    (λ why. MayNotRegroup (CanSplit (leaves_of old.state.tree.covers dir.0) f nb) (RefusesSplit (leaves_of old.state.tree.covers dir.0) f nb) old.state.tree dir (2 ^ nb) (LacksPlaces (2 ^ nb + 1) old) old.faults new.faults why)
+    reason
 
-abbrev pub Merges : (old new : Core) → (past now : List Entry) → Ino → Fragment → Result Answer Refusal → Type 0
-Merges old new past now dir f result = Administers old.state new.state past now nothing (MergesLeaves old new dir f) result
+-- the rank is the authority of each leaf of a directory that lies properly inside a fragment
+abbrev pub HoldsInside : State → Rank → Ino → Fragment → Type 0
+HoldsInside state rank dir f = AllHave state.tree.homes state.tree.covers state.roots dir f rank
+
+-- one of these is pinned
+abbrev pub HasPinnedInside : State → Ino → Fragment → Type 0
+HasPinnedInside state dir f = IsAnyPinned state.tree.homes state.tree.covers state.pins dir f
+
+-- the leaves inside a fragment, all the rank's and none pinned, were merged, and it is a root if one of them was; where they weren't, it was
+-- refused so too, and for places where one lacks
+abbrev pub MergesLeaves : (old new : Core) → Rank → Ino → Fragment → Result (Unit {0}) Refusal → Type 0
+MergesLeaves old new rank dir f (Ok done) =
+    HoldsInside old.state rank dir f × (HasPinnedInside old.state dir f → ⊥) × IsMergedInto old.state.tree new.state.tree dir f × IsRootMerge old.state.roots new.state.roots dir.0 f
+MergesLeaves old new rank dir f (Err reason) =
+    RefusesRegroup (is_known old.state.tree.homes dir.0) (RefusesMerge (leaves_of old.state.tree.covers dir.0) f) (CanMerge (leaves_of old.state.tree.covers dir.0) f) (HoldsInside old.state rank dir f) (HasPinnedInside old.state dir f)
+    (λ why. MayNotRegroup (CanMerge (leaves_of old.state.tree.covers dir.0) f) (RefusesMerge (leaves_of old.state.tree.covers dir.0) f) old.state.tree dir 1 (LacksPlaces 1 old) old.faults new.faults why)
+    reason
+
+abbrev pub Splits : (old new : Core) → (past now : List Entry) → Rank → Ino → Fragment → ℕ → Result Answer Refusal → Type 0
+Splits old new past now rank dir f nb result = Administers old.state new.state past now nothing (SplitsLeaf old new rank dir f nb) result
+
+abbrev pub Merges : (old new : Core) → (past now : List Entry) → Rank → Ino → Fragment → Result Answer Refusal → Type 0
+Merges old new past now rank dir f result = Administers old.state new.state past now nothing (MergesLeaves old new rank dir f) result
 
 -- the leaves of a directory by value; refused NoSuchFrag exactly where there is no such directory, and else for want of memory
 abbrev pub ListsLeaves : State → Ino → Result (List Fragment) Refusal → Type 0
@@ -67,27 +107,35 @@ abbrev pub told_job : Option Begun → Answer
 told_job None = Nothing
 told_job (Some job) = Job job
 
-abbrev pub BeginsCommit : (old new : Core) → (past now : List Entry) → Leaf → Result Answer Refusal → Type 0
-BeginsCommit old new past now leaf result = Administers old.state new.state past now told_job (Begins old.state.tree new.state.tree leaf) result
+-- a commit of a leaf begins at its authority; a rank that isn't is refused NotAuthority
+abbrev pub BeginsAt : (old new : State) → Rank → Leaf → Result (Option Begun) Refusal → Type 0
+BeginsAt old new rank leaf (Ok job) = IsAuthority old leaf rank × Begins old.tree new.tree leaf (Ok job)
+BeginsAt old new rank leaf (Err reason) =
+    ((reason ≡ NotAuthority) × IsLive old.tree.homes old.tree.covers leaf × (IsAuthority old leaf rank → ⊥))
+    ⊎ ((IsLive old.tree.homes old.tree.covers leaf → IsAuthority old leaf rank) × Begins old.tree new.tree leaf (Err reason))
+
+abbrev pub BeginsCommit : (old new : Core) → (past now : List Entry) → Rank → Leaf → Result Answer Refusal → Type 0
+BeginsCommit old new past now rank leaf result = AdministersTree old.state new.state past now told_job (BeginsAt old.state new.state rank leaf) result
 
 abbrev pub EndsCommit : (old new : Core) → (past now : List Entry) → Begun → Result Answer Refusal → Type 0
-EndsCommit old new past now job result = Administers old.state new.state past now nothing (Ends old.state.tree new.state.tree old.faults new.faults job) result
+EndsCommit old new past now job result = AdministersTree old.state new.state past now nothing (Ends old.state.tree new.state.tree old.faults new.faults job) result
 
 abbrev pub DropsCommit : (old new : Core) → (past now : List Entry) → ℕ → Result Answer Refusal → Type 0
-DropsCommit old new past now number result = Administers old.state new.state past now nothing (Drops old.state.tree new.state.tree number) result
+DropsCommit old new past now number result = AdministersTree old.state new.state past now nothing (Drops old.state.tree new.state.tree number) result
 
 -- ---- objects and places
 
 abbrev pub CommitsTree : (old new : Core) → (past now : List Entry) → Ino → Result Answer Refusal → Type 0
-CommitsTree old new past now dir result = Administers old.state new.state past now nothing (SavesTree old.state.tree new.state.tree old.faults new.faults dir) result
+CommitsTree old new past now dir result = AdministersTree old.state new.state past now nothing (SavesTree old.state.tree new.state.tree old.faults new.faults dir) result
 
 abbrev pub PurgesObject : (old new : Core) → (past now : List Entry) → Result Answer Refusal → Type 0
-PurgesObject old new past now result = Administers old.state new.state past now nothing (Purges old.state.tree new.state.tree old.faults new.faults) result
+PurgesObject old new past now result = AdministersTree old.state new.state past now nothing (Purges old.state.tree new.state.tree old.faults new.faults) result
 
--- the least recently used of the clean fragments is no longer cached, and all else is as it was; refused exactly where none is clean
-abbrev pub EvictsOne : (old new : Core) → Result (Unit {0}) Refusal → Type 0
-EvictsOne old new (Ok done) = Evicts None old.cache new.cache × (new.state ≡ old.state)
-EvictsOne old new (Err reason) = (reason ≡ NothingToEvict) × NoneGoes None old.cache.entries × (new.cache ≡ old.cache)
+-- the least recently used of the clean fragments that a rank caches is no longer cached, and all else is as it was; refused exactly where
+-- none is clean
+abbrev pub EvictsOne : (old new : Core) → Rank → Result (Unit {0}) Refusal → Type 0
+EvictsOne old new rank (Ok done) = Evicts None (cache_of old rank) (cache_of new rank) × (new.state ≡ old.state)
+EvictsOne old new rank (Err reason) = (reason ≡ NothingToEvict) × NoneGoes None (cache_of old rank).entries × (new.cache ≡ old.cache)
 
-abbrev pub EvictsFragment : (old new : Core) → (past now : List Entry) → Result Answer Refusal → Type 0
-EvictsFragment old new past now result = Administers old.state new.state past now nothing (EvictsOne old new) result
+abbrev pub EvictsFragment : (old new : Core) → (past now : List Entry) → Rank → Result Answer Refusal → Type 0
+EvictsFragment old new past now rank result = AdministersTree old.state new.state past now nothing (EvictsOne old new rank) result

@@ -3,7 +3,8 @@ pub use Rattle.mds_types.specs.Step
 pub use Rattle.mds_types.specs.History
 pub use Rattle.inode_table.specs.Numbers
 pub mod Administers
-pub mod Inbox
+pub mod Grants
+pub mod Master
 pub mod Offer
 pub mod Prepared
 pub mod Runs
@@ -11,3 +12,4 @@ pub mod Serve
 pub mod Sound
 pub mod State
 pub mod Steps
+pub mod Subtrees

@@ -5,7 +5,7 @@ use Rattle.mds_types.specs.declared.entries.Entry.{Entry}
 use Rattle.mds_types.specs.declared.replies.Reply.{Reply as Replied}
 use Rattle.mds_types.specs.declared.refusals.Refusal.{Refusal}
 use Rattle.cluster_core.specs.declared.events.Answer.{Answer}
-use Rattle.cluster_core.specs.declared.events.Answer.TheVariants.{Job, Nothing, Reply}
+use Rattle.cluster_core.specs.declared.events.Answer.TheVariants.{Deferred, Forwarded, Job, Nothing, Reply}
 use Rattle.cluster_core.specs.declared.events.Event.{Event}
 use Rattle.cluster_core.specs.State.{Kept}
 use Rattle.cluster_core.specs.Steps.{Steps}
@@ -34,6 +34,8 @@ abbrev pub IsOfHistory : List Entry → Result Answer Refusal → Type 0
 IsOfHistory history (Ok Nothing) = Unit {0}
 IsOfHistory history (Ok (Reply client tid place first reply)) = StandsAt history client tid place reply
 IsOfHistory history (Ok (Job job)) = Unit {0}
+IsOfHistory history (Ok (Forwarded rank)) = Unit {0}
+IsOfHistory history (Ok Deferred) = Unit {0}
 IsOfHistory history (Err reason) = Unit {0}
 
 -- one history begins with another

@@ -1,21 +1,26 @@
 -- What serving the request at the front of an inbox gives.
-use Rattle.std.specs.Prelude.{◌≡◌, ◌≢◌, ℕ, true, false, cond, ◌⊎◌, ◌++◌, ◌∷◌, [], List, length, Option, None, Some, Result, Ok, Err}
+use Rattle.std.specs.Prelude.{◌≡◌, ◌≢◌, ℕ, true, false, cond, ◌⊎◌, set, ◌++◌, ◌∷◌, ◌<◌, [], List, length, Option, None, Some, Result, Ok, Err}
 use Rattle.std.specs.List.{slice_index_or}
 use Rattle.mds_types.specs.declared.ids.Ino.{Ino}
+use Rattle.mds_types.specs.declared.ids.Rank.{Rank}
 use Rattle.mds_types.specs.declared.entries.Entry.{Entry}
 use Rattle.mds_types.specs.declared.operations.Op.{Op}
 use Rattle.mds_types.specs.declared.replies.Reply.{Reply as Replied}
 use Rattle.mds_types.specs.declared.requests.Request.{Request}
 use Rattle.mds_types.specs.declared.refusals.Refusal.{Refusal}
-use Rattle.mds_types.specs.declared.refusals.Refusal.TheVariants.{NoMemory, NoInodes, Trimmed, InboxEmpty}
+use Rattle.mds_types.specs.declared.refusals.Refusal.TheVariants.{NoMemory, NoInodes, Trimmed, InboxEmpty, InboxFull}
 use Rattle.mds_types.specs.Frag.{root_fragment}
 use Rattle.mds_types.specs.Step.{Outcome, step, number_or}
 use Rattle.mds_types.specs.Tree.{Tree, is_directory}
 use Rattle.mds_types.specs.History.{IsTrimmed, IsKeptAt, IsNew}
 use Rattle.inode_table.specs.Dirs.{Covers, leaves_of}
+use Rattle.inboxes.specs.declared.pins.Pin.{Pin}
+use Rattle.inboxes.specs.Inboxes.{Inboxes, waiting_at, with_last, with_waiting}
+use Rattle.inboxes.specs.Pins.{is_for, is_in, left_without}
 use Rattle.inode_table.specs.Numbers.{offer}
+use Rattle.subtree_map.specs.Authority.{Roots}
 use Rattle.sessions.specs.Table.{Table, noted, trimmed}
-use Rattle.namespace_ops.specs.ChangedFragments.{changed_fragments}
+use Rattle.namespace_ops.specs.ChangedFragments.{gone_with}
 use Rattle.namespace_ops.specs.Changes.{fragments_in}
 use Rattle.namespace_ops.specs.Kept.{ChangesOnly}
 use Rattle.namespace_ops.specs.Planned.{IsOneOf, after_plan}
@@ -25,27 +30,29 @@ use Rattle.mdcache.specs.Changes.{Makes}
 use Rattle.mdcache.specs.Made.{IsUntouched}
 use Rattle.mdcache.specs.State.{State as TreeState}
 use Rattle.cluster_core.specs.declared.events.Answer.{Answer}
-use Rattle.cluster_core.specs.declared.events.Answer.TheVariants.{Reply}
-use Rattle.cluster_core.specs.State.{State, shown}
+use Rattle.cluster_core.specs.declared.events.Answer.TheVariants.{Deferred, Forwarded, Reply}
+use Rattle.cluster_core.specs.State.{State, shown, supply_of}
+use Rattle.cluster_core.specs.Master.{IsMaster, LacksGrant, MayTouchAll, would_change}
+use Rattle.cluster_core.specs.Subtrees.{FollowChange}
 use Rattle.cluster_core.specs.Offer.{after_taking}
 
--- the table's outcome for a request, offered the rank's next number
-abbrev pub outcome_of : State → Request → Outcome
-outcome_of state request = step (shown state) request.op (number_or (offer state.numbers))
+-- the table's outcome for a request at a rank, offered the rank's next number
+abbrev pub outcome_of : State → Rank → Request → Outcome
+outcome_of state rank request = step (shown state) request.op (number_or (offer (supply_of state rank)))
 
 -- the number that the table takes for a request, if it takes one
-abbrev pub number_of : State → Request → Option Ino
-number_of state request = cond (outcome_of state request).takes (offer state.numbers) None
+abbrev pub number_of : State → Rank → Request → Option Ino
+number_of state rank request = cond (outcome_of state rank request).takes (offer (supply_of state rank)) None
 
 -- the entry that a request adds to the history
-abbrev pub entry_of : State → Request → Entry
-entry_of state request = record {
+abbrev pub entry_of : State → Rank → Request → Entry
+entry_of state rank request = record {
   client = request.client;
   tid = request.tid;
   oldest = request.oldest;
   op = request.op;
-  number = number_of state request;
-  reply = (outcome_of state request).reply;
+  number = number_of state rank request;
+  reply = (outcome_of state rank request).reply;
 }
 
 -- the sessions with the reply of an entry at this place; what its client's mark leaves behind is forgotten
@@ -61,65 +68,159 @@ pub record IsLeft (old new : State) (past now : List Entry) : Type 0 where
   pub same : now ≡ past
   pub left : new ≡ old
 
--- the request has left the inbox, and nothing else happened
-pub record IsTakenOut (old new : State) (past now : List Entry) (rest : List Request) : Type 0 where
+-- the grants left where those of a request end
+abbrev pub without_request : List Pin → Request → List Pin
+without_request pins request = left_without (is_for request.client request.tid) pins
+
+-- the grants left where those on a directory that went end, if one did
+abbrev pub without_gone : List Pin → Option Ino → List Pin
+without_gone pins None = pins
+without_gone pins (Some dir) = left_without (is_in dir) pins
+
+-- the directory that went with a planned change, if one did
+abbrev pub went_with : Option Change → Option Ino
+went_with None = None
+went_with (Some change) = gone_with change
+
+-- the request has left the rank's inbox, with its grants, and nothing else happened
+pub record IsTakenOut (old new : State) (past now : List Entry) (rank : Rank) (request : Request) (rest : List Request) : Type 0 where
   pub same : now ≡ past
-  pub left : new ≡ record old { inbox = rest }
+  pub left : new ≡ record old { inboxes = with_waiting old.inboxes rank rest; pins = without_request old.pins request }
 
 -- a planned change was made: what isn't clean, the jobs, the names to be removed and the counters are as it leaves them. With none they stay
 abbrev pub MakesPlanned : Option Change → (old new : TreeState) → Type 0
 MakesPlanned None old new = new ≡ old
 MakesPlanned (Some change) old new = Makes change old new
 
--- one change of the operation, or none, was made: that which leads to the table's tree, in the leaves that the operation changes
-pub record IsMade (old new : State) (request : Request) : Type 0 where
+-- the roots follow a planned change; with none they stay
+abbrev pub FollowPlanned : Option Change → TreeState → (before after : Roots) → Type 0
+FollowPlanned None tree before after = after ≡ before
+FollowPlanned (Some change) tree before after = FollowChange change tree before after
+
+-- one change of the operation, or none, was made: that which leads to the table's tree, in the leaves that the operation changes. The
+-- grants of the request end, and those on what went
+pub record IsMade (old new : State) (rank : Rank) (request : Request) : Type 0 where
   pub change : Option Change
   pub one_of : IsOneOf request.op change
-  pub leads : after_plan (shown old) change ≡ (outcome_of old request).tree
-  pub fragments : fragments_in old.tree.covers change ≡ changed_fragments old.tree.covers (shown old) request.op
+  pub leads : after_plan (shown old) change ≡ (outcome_of old rank request).tree
+  pub fragments : fragments_in old.tree.covers change ≡ would_change old request.op
   pub made : MakesPlanned change old.tree new.tree
+  pub roots : FollowPlanned change old.tree old.roots new.roots
+  pub pins : new.pins ≡ without_gone (without_request old.pins request) (went_with change)
 
--- a new request was applied: one entry more, and the table's tree and reply. A leaf that is none of those which the operation changes shows
--- what it showed
-pub record IsApplied (old new : State) (past now : List Entry) (request : Request) (rest : List Request) (answer : Answer) : Type 0 where
+-- a new request was applied at its master, which may change all that it changes: one entry more, and the table's tree and reply. A leaf that
+-- is none of those which the operation changes shows what it showed
+pub record IsApplied (old new : State) (past now : List Entry) (rank : Rank) (request : Request) (rest : List Request) (answer : Answer) : Type 0 where
   pub is_new : IsNew past request.client request.tid request.oldest
-  pub answered : answer ≡ Reply request.client request.tid (length past) true (outcome_of old request).reply
+  pub master : IsMaster old rank request.op rank
+  pub may : MayTouchAll old rank request
+  pub answered : answer ≡ Reply request.client request.tid (length past) true (outcome_of old rank request).reply
   -- where the table takes a number, there is one
-  pub numbered : offer old.numbers ≡ None → (outcome_of old request).takes ≡ false
-  pub appended : now ≡ past ++ entry_of old request ∷ []
-  pub tree : shown new ≡ (outcome_of old request).tree
-  pub made : IsMade old new request
+  pub numbered : offer (supply_of old rank) ≡ None → (outcome_of old rank request).takes ≡ false
+  pub appended : now ≡ past ++ entry_of old rank request ∷ []
+  pub tree : shown new ≡ (outcome_of old rank request).tree
+  pub made : IsMade old new rank request
   pub leaves : CarryLeaves (shown old) (shown new) old.tree.covers new.tree.covers
-  pub frame : ChangesOnly (IsUntouched old.tree new.tree) (changed_fragments old.tree.covers (shown old) request.op)
-  pub left : new ≡ record old { tree = new.tree; inbox = rest; numbers = after_taking old.numbers (number_of old request); sessions = with_entry old.sessions (length past) (entry_of old request) }
+  pub frame : ChangesOnly (IsUntouched old.tree new.tree) (would_change old request.op)
+  pub left : new ≡ record old {
+    tree = new.tree;
+    roots = new.roots;
+    pins = new.pins;
+    inboxes = with_waiting old.inboxes rank rest;
+    numbers = set old.numbers rank.0 (after_taking (supply_of old rank) (number_of old rank request));
+    sessions = with_entry old.sessions (length past) (entry_of old rank request);
+  }
 
--- a request that was applied before is answered again: the reply of its place, and nothing changes but the inbox
-pub record IsRepeated (old new : State) (past now : List Entry) (request : Request) (rest : List Request) (answer : Answer) : Type 0 where
+-- a request that was applied before is answered again: the reply of its place, and nothing changes but that the request and its grants go
+pub record IsRepeated (old new : State) (past now : List Entry) (rank : Rank) (request : Request) (rest : List Request) (answer : Answer) : Type 0 where
   pub place : ℕ
   pub kept : IsKeptAt past request.client request.tid request.oldest place
   pub answered : (e : Entry) → answer ≡ Reply request.client request.tid place false (slice_index_or past place e).reply
-  pub out : IsTakenOut old new past now rest
+  pub out : IsTakenOut old new past now rank request rest
 
--- why a request is not served: it is trimmed, or lacks a number, and leaves the inbox; or it stays there, for want of memory or for one
--- of the reasons that the tree had in this call for this operation, `MayRefuse`
-abbrev pub RefusesRequest : (old new : State) → (past now : List Entry) → (MayRefuse : Op → Refusal → Type 0) → Request → List Request → Refusal → Type 0
-RefusesRequest old new past now MayRefuse request rest reason =
-    ((reason ≡ Trimmed) × IsTrimmed past request.client request.tid request.oldest × IsTakenOut old new past now rest)
-    ⊎ ((reason ≡ NoInodes) × IsNew past request.client request.tid request.oldest × (LacksNumber (outcome_of old request) (offer old.numbers) NoInodes ⊎ MayRefuse request.op NoInodes) × IsTakenOut old new past now rest)
+-- a new request of which another rank is the master goes to the back of the master's inbox
+pub record IsForwarded (old new : State) (past now : List Entry) (rank : Rank) (request : Request) (rest : List Request) (answer : Answer) : Type 0 where
+  pub is_new : IsNew past request.client request.tid request.oldest
+  pub master : Rank
+  pub is_master : IsMaster old rank request.op master
+  pub other : master ≢ rank
+  pub answered : answer ≡ Forwarded master
+  pub room : length (waiting_at old.inboxes master) < 1024
+  pub same : now ≡ past
+  pub left : new ≡ record old { inboxes = with_last (with_waiting old.inboxes rank rest) master request }
+
+-- a new request that lacks a grant at its master goes to the back of the same inbox
+pub record IsDeferred (old new : State) (past now : List Entry) (rank : Rank) (request : Request) (rest : List Request) (answer : Answer) : Type 0 where
+  pub is_new : IsNew past request.client request.tid request.oldest
+  pub master : IsMaster old rank request.op rank
+  pub lacks : LacksGrant old rank request
+  pub answered : answer ≡ Deferred
+  pub same : now ≡ past
+  pub left : new ≡ record old { inboxes = with_waiting old.inboxes rank (rest ++ request ∷ []) }
+
+-- a new request of which another rank is the master, whose inbox is full
+pub record FindsFull (old : State) (past : List Entry) (rank : Rank) (request : Request) : Type 0 where
+  pub is_new : IsNew past request.client request.tid request.oldest
+  pub master : Rank
+  pub is_master : IsMaster old rank request.op master
+  pub other : master ≢ rank
+  pub full : length (waiting_at old.inboxes master) ≡ 1024
+
+-- a new request at its master
+pub record IsAtMaster (old : State) (past : List Entry) (rank : Rank) (request : Request) : Type 0 where
+  pub is_new : IsNew past request.client request.tid request.oldest
+  pub master : IsMaster old rank request.op rank
+
+-- why a request lacks a number: the table takes one, the rank has none left, and nothing lacks a grant; or a counter of the tree's is at its end
+abbrev pub LacksAny : State → (MayRefuse : Op → Refusal → Type 0) → Rank → Request → Type 0
+LacksAny old MayRefuse rank request =
+    (MayTouchAll old rank request × LacksNumber (outcome_of old rank request) (offer (supply_of old rank)) NoInodes) ⊎ MayRefuse request.op NoInodes
+
+-- why a request is not served: it is trimmed, or lacks a number, and leaves the inbox with its grants; or it stays there: its master's inbox
+-- is full, or for want of memory, or for one of the reasons that the tree had in this call for this operation, `MayRefuse`
+abbrev pub RefusesRequest : (old new : State) → (past now : List Entry) → (MayRefuse : Op → Refusal → Type 0) → Rank → Request → List Request → Refusal → Type 0
+RefusesRequest old new past now MayRefuse rank request rest reason =
+    ((reason ≡ Trimmed) × IsTrimmed past request.client request.tid request.oldest × IsTakenOut old new past now rank request rest)
+    ⊎ ((reason ≡ NoInodes) × IsAtMaster old past rank request × LacksAny old MayRefuse rank request × IsTakenOut old new past now rank request rest)
+    ⊎ ((reason ≡ InboxFull) × FindsFull old past rank request × IsLeft old new past now)
     ⊎ ((reason ≡ NoMemory) × (IsTrimmed past request.client request.tid request.oldest → ⊥) × IsLeft old new past now)
-    ⊎ ((reason ≢ NoInodes) × IsNew past request.client request.tid request.oldest × MayRefuse request.op reason × IsLeft old new past now)
+    ⊎ ((reason ≢ NoInodes) × IsAtMaster old past rank request × MayRefuse request.op reason × IsLeft old new past now)
 
 -- what becomes of the request at the front
-abbrev pub ServesRequest : (old new : State) → (past now : List Entry) → (MayRefuse : Op → Refusal → Type 0) → Request → List Request → Result Answer Refusal → Type 0
-ServesRequest old new past now MayRefuse request rest (Ok answer) = IsApplied old new past now request rest answer ⊎ IsRepeated old new past now request rest answer
-ServesRequest old new past now MayRefuse request rest (Err reason) = RefusesRequest old new past now MayRefuse request rest reason
+abbrev pub ServesRequest : (old new : State) → (past now : List Entry) → (MayRefuse : Op → Refusal → Type 0) → Rank → Request → List Request → Result Answer Refusal → Type 0
+ServesRequest old new past now MayRefuse rank request rest (Ok answer) =
+    IsApplied old new past now rank request rest answer ⊎ IsRepeated old new past now rank request rest answer
+    ⊎ IsForwarded old new past now rank request rest answer ⊎ IsDeferred old new past now rank request rest answer
+ServesRequest old new past now MayRefuse rank request rest (Err reason) = RefusesRequest old new past now MayRefuse rank request rest reason
 
 -- serving a rank: refused InboxEmpty exactly where nothing waits
-abbrev pub ServesInbox : (old new : State) → (past now : List Entry) → (MayRefuse : Op → Refusal → Type 0) → Result Answer Refusal → List Request → Type 0
-ServesInbox old new past now MayRefuse result [] = (result ≡ Err InboxEmpty) × IsLeft old new past now
-ServesInbox old new past now MayRefuse result (request ∷ rest) = ServesRequest old new past now MayRefuse request rest result
+abbrev pub ServesInbox : (old new : State) → (past now : List Entry) → (MayRefuse : Op → Refusal → Type 0) → Rank → Result Answer Refusal → List Request → Type 0
+ServesInbox old new past now MayRefuse rank result [] = (result ≡ Err InboxEmpty) × IsLeft old new past now
+ServesInbox old new past now MayRefuse rank result (request ∷ rest) = ServesRequest old new past now MayRefuse rank request rest result
+
+-- ---- words of this crate's own contracts
+
+-- the front of a rank's inbox is taken out, and its grants end
+abbrev pub EndsFront : (old new : Inboxes) → (before after : List Pin) → Rank → List Request → Type 0
+EndsFront old new before after rank [] = (new ≡ old) × (after ≡ before)
+EndsFront old new before after rank (request ∷ rest) = (new ≡ with_waiting old rank rest) × (after ≡ without_request before request)
 
 -- the front is answered again with the reply that it got at this place; for want of memory it stays
-abbrev pub RepeatsFront : (old new : List Request) → ℕ → Replied → Result Answer Refusal → Type 0
-RepeatsFront old new at said (Ok answer) = (request : Request) × (old ≡ request ∷ new) × (answer ≡ Reply request.client request.tid at false said)
-RepeatsFront old new at said (Err reason) = (reason ≡ NoMemory) × (new ≡ old)
+abbrev pub RepeatsOne : (old new : Inboxes) → (before after : List Pin) → Rank → ℕ → Replied → Result Answer Refusal → Request → List Request → Type 0
+RepeatsOne old new before after rank at said (Ok answer) request rest =
+    (answer ≡ Reply request.client request.tid at false said) × (new ≡ with_waiting old rank rest) × (after ≡ without_request before request)
+RepeatsOne old new before after rank at said (Err reason) request rest = (reason ≡ NoMemory) × (new ≡ old) × (after ≡ before)
+
+abbrev pub RepeatsFront : (old new : Inboxes) → (before after : List Pin) → Rank → ℕ → Replied → Result Answer Refusal → List Request → Type 0
+RepeatsFront old new before after rank at said result [] = (new ≡ old) × (after ≡ before)
+RepeatsFront old new before after rank at said result (request ∷ rest) = RepeatsOne old new before after rank at said result request rest
+
+-- the front goes to the back of another inbox, unless that is full
+abbrev pub ForwardsOneTo : (old new : Inboxes) → (rank master : Rank) → Result Answer Refusal → Request → List Request → Type 0
+ForwardsOneTo old new rank master (Ok answer) request rest =
+    (answer ≡ Forwarded master) × (length (waiting_at old master) < 1024) × (new ≡ with_last (with_waiting old rank rest) master request)
+ForwardsOneTo old new rank master (Err reason) request rest = (reason ≡ InboxFull) × (length (waiting_at old master) ≡ 1024) × (new ≡ old)
+
+abbrev pub ForwardsFront : (old new : Inboxes) → (rank master : Rank) → Result Answer Refusal → List Request → Type 0
+ForwardsFront old new rank master result [] = (result ≡ Err InboxEmpty) × (new ≡ old)
+ForwardsFront old new rank master result (request ∷ rest) = ForwardsOneTo old new rank master result request rest

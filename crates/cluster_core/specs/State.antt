@@ -1,28 +1,34 @@
 -- What contracts see of a cluster.
-use Rattle.std.specs.Prelude.{ℕ, ◌<◌, ◌+◌, ◌^◌, List, []}
+use Rattle.std.specs.Prelude.{ℕ, zero, suc, ◌==◌, ◌<◌, ◌+◌, ◌*◌, ◌^◌, cond, get_or, List, [], ◌∷◌, replicate}
 use Rattle.std.specs.FinMap as map
 use Rattle.mds_types.specs.declared.entries.Entry.{Entry}
-use Rattle.mds_types.specs.declared.requests.Request.{Request}
+use Rattle.mds_types.specs.declared.ids.Rank.{Rank}
 use Rattle.mds_types.specs.Tree.{Tree}
+use Rattle.lru.specs.LruCache.{lru_cache}
 use Rattle.dentry_cache.specs.Cache.{Held}
-use Rattle.inode_table.specs.Numbers.{Supply}
+use Rattle.inboxes.specs.Inboxes.{Inboxes}
+use Rattle.inboxes.specs.declared.pins.Pin.{Pin}
+use Rattle.inode_table.specs.Numbers.{Supply, first_number}
 use Rattle.mdcache.specs.Cached.{Core as TreeCore}
-use Rattle.mdcache.specs.New.{new_state as new_tree}
+use Rattle.mdcache.specs.New.{new_state as new_tree, root_leaf}
 use Rattle.mdcache.specs.Shown.{shown_tree}
 use Rattle.mdcache.specs.State.{State as TreeState}
 use Rattle.sessions.specs.Table.{Table}
+use Rattle.subtree_map.specs.Authority.{Roots}
 
 -- all that a refused step leaves as it was: the tree with its directories and their leaves, what of it isn't clean, the objects of the
--- store, the commits that were begun, the purge list and the next numbers; the inode numbers left, the requests that wait, and what is
--- known of each client
+-- store, the commits that were begun, the purge list and the next numbers; the subtree roots with their ranks; for each rank the inode
+-- numbers left and the requests that wait; the grants; and what is known of each client
 pub record State : Type 0 where
   pub tree : TreeState
-  pub numbers : Supply
-  pub inbox : List Request
+  pub roots : Roots
+  pub numbers : List Supply
+  pub inboxes : Inboxes
+  pub pins : List Pin
   pub sessions : Table
 
--- a cluster of one rank: its state; the places of its cache in the order of their use, and how many faults its store had, which a
--- refused step may change
+-- a cluster: its state; the places of its cache in the order of their use, and how many faults its store had, which a refused step may
+-- change
 pub record Core : Type 0 where
   pub state : State
   pub cache : Held
@@ -38,22 +44,46 @@ pub record Kept : Type 0 where
 abbrev pub shown : State → Tree
 shown state = shown_tree state.tree
 
+-- a rank's cache. So far every subtree is rank 0's, so what is cached lies in its cache, and no other rank caches anything
+abbrev pub cache_of : Core → Rank → Held
+cache_of core rank = cond (rank.0 == 0) core.cache (lru_cache [] core.cache.cap)
+
 -- fewer than so many places of the cache are free or can become so: each other one is that of a fragment that isn't clean
 abbrev pub LacksPlaces : ℕ → Core → Type 0
 LacksPlaces count core = core.cache.cap < map.len core.state.tree.unsaved + count
 
+-- a supply that has nothing left, of a rank that isn't there
+abbrev pub no_supply : Supply
+no_supply = record { rank = 0; next = 2 * 2 ^ 40 }
+
+-- the inode numbers that a rank has left
+abbrev pub supply_of : State → Rank → Supply
+supply_of state rank = get_or state.numbers rank.0 no_supply
+
 -- the state of a cluster over this tree, and the cluster
-abbrev pub state_of : TreeState → Supply → List Request → Table → State
-state_of tree numbers inbox sessions = record { tree = tree; numbers = numbers; inbox = inbox; sessions = sessions }
+abbrev pub state_of : TreeState → Roots → List Supply → Inboxes → List Pin → Table → State
+state_of tree roots numbers inboxes pins sessions = record { tree = tree; roots = roots; numbers = numbers; inboxes = inboxes; pins = pins; sessions = sessions }
 
-abbrev pub core_of : TreeCore → Supply → List Request → Table → Core
-core_of tree numbers inbox sessions = record { state = state_of tree.state numbers inbox sessions; cache = tree.cache; faults = tree.faults }
+abbrev pub core_of : TreeCore → Roots → List Supply → Inboxes → List Pin → Table → Core
+core_of tree roots numbers inboxes pins sessions = record { state = state_of tree.state roots numbers inboxes pins sessions; cache = tree.cache; faults = tree.faults }
 
--- the state of a new book: no directory but the root, no name, no object, nothing that waits or is kept, and the numbers of rank 0
-abbrev pub new_state : State
-new_state = record {
+-- the whole range of numbers for each of so many ranks, from this one on
+abbrev pub whole_supplies : ℕ → ℕ → List Supply
+whole_supplies first zero = []
+whole_supplies first (suc more) = record { rank = first; next = first_number first } ∷ whole_supplies (suc first) more
+
+-- the one subtree root of a new book: the root directory's leaf is rank 0's
+abbrev pub new_roots : Roots
+new_roots = map.insert map.empty root_leaf (record { 0 = 0 })
+
+-- the state of a new book of so many ranks: no directory but the root, no name, no object, nothing that waits, is granted or is kept, and
+-- for each rank all its numbers
+abbrev pub new_state : ℕ → State
+new_state ranks = record {
   tree = new_tree;
-  numbers = record { rank = 0; next = 2 ^ 40 };
-  inbox = [];
+  roots = new_roots;
+  numbers = whole_supplies 0 ranks;
+  inboxes = replicate ranks [];
+  pins = [];
   sessions = map.empty;
 }

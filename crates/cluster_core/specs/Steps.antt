@@ -10,19 +10,18 @@ use Rattle.mdcache.specs.Frags.{LacksFor}
 use Rattle.cluster_core.specs.declared.events.Answer.{Answer}
 use Rattle.cluster_core.specs.declared.events.Answer.TheVariants.{Nothing}
 use Rattle.cluster_core.specs.declared.events.Event.{Event}
-use Rattle.cluster_core.specs.declared.events.Event.TheVariants.{Arrive, Serve, Split, Merge, CommitBegin, CommitEnd, CommitDrop, CommitTree, Purge, Evict}
+use Rattle.cluster_core.specs.declared.events.Event.TheVariants.{Arrive, Grant, Serve, Split, Merge, CommitBegin, CommitEnd, CommitDrop, CommitTree, Purge, Evict}
 use Rattle.cluster_core.specs.Administers.{BeginsCommit, CommitsTree, DropsCommit, EndsCommit, EvictsFragment, Merges, PurgesObject, Splits}
+use Rattle.inboxes.specs.Inboxes.{Arrives, waiting_at, with_last}
+use Rattle.cluster_core.specs.Grants.{GrantsWaiting}
 use Rattle.cluster_core.specs.State.{Core, LacksPlaces, State}
 use Rattle.cluster_core.specs.Serve.{IsLeft, ServesInbox}
-
--- a cluster of one rank, so far
-abbrev pub ranks : ℕ
-ranks = 1
+use Rattle.cluster_core.specs.Subtrees.{KeepsAuthorities}
 
 -- an arriving request goes to the back of the rank's inbox; refused InboxFull exactly where 1024 requests wait there
-abbrev pub ArrivesInbox : (old new : State) → (past now : List Entry) → Request → Result Answer Refusal → Type 0
-ArrivesInbox old new past now request (Ok answer) = (answer ≡ Nothing) × (length old.inbox < 1024) × (new ≡ record old { inbox = old.inbox ++ request ∷ [] }) × (now ≡ past)
-ArrivesInbox old new past now request (Err reason) = (((reason ≡ InboxFull) × (length old.inbox ≡ 1024)) ⊎ ((reason ≡ NoMemory) × (length old.inbox < 1024))) × IsLeft old new past now
+abbrev pub ArrivesAt : (old new : State) → (past now : List Entry) → Rank → Request → Result Answer Refusal → Type 0
+ArrivesAt old new past now rank request (Ok answer) = (answer ≡ Nothing) × (length (waiting_at old.inboxes rank) < 1024) × (new ≡ record old { inboxes = with_last old.inboxes rank request }) × (now ≡ past)
+ArrivesAt old new past now rank request (Err reason) = (reason ≡ InboxFull) × (length (waiting_at old.inboxes rank) ≡ 1024) × IsLeft old new past now
 
 -- why the tree refuses an operation in a step: want of memory, a store whose count of faults rose in it, fewer than four places of the
 -- cache that are free or can become so, or a counter at its end
@@ -31,28 +30,31 @@ MayRefuse old new op reason =
     (reason ≡ NoMemory) ⊎ ((reason ≡ StoreFault) × (old.faults < new.faults)) ⊎ ((reason ≡ NothingToEvict) × LacksPlaces 4 old) ⊎ ((reason ≡ NoInodes) × LacksFor op old.state.tree)
 
 -- the request at the front of the rank's inbox is served
-abbrev pub ServesRank : (old new : Core) → (past now : List Entry) → Result Answer Refusal → Type 0
-ServesRank old new past now result = ServesInbox old.state new.state past now (MayRefuse old new) result old.state.inbox
+abbrev pub ServesRank : (old new : Core) → (past now : List Entry) → Rank → Result Answer Refusal → Type 0
+ServesRank old new past now rank result = ServesInbox old.state new.state past now (MayRefuse old new) rank result (waiting_at old.state.inboxes rank)
 
 -- an event names a rank, and a rank that isn't there is refused NotAuthority before all else
 abbrev pub AtRank : (old new : State) → (past now : List Entry) → Rank → Result Answer Refusal → Type 0 → Type 0
-AtRank old new past now rank result done = MatchBool (nat_lt rank.0 ranks) done ((result ≡ Err NotAuthority) × IsLeft old new past now)
+AtRank old new past now rank result done = MatchBool (nat_lt rank.0 (length old.inboxes)) done ((result ≡ Err NotAuthority) × IsLeft old new past now)
 
 -- what an event does
 abbrev pub Does : (old new : Core) → (past now : List Entry) → Result Answer Refusal → Event → Type 0
-Does old new past now result (Arrive rank request) = AtRank old.state new.state past now rank result (ArrivesInbox old.state new.state past now request result)
-Does old new past now result (Serve rank) = AtRank old.state new.state past now rank result (ServesRank old new past now result)
-Does old new past now result (Split rank dir f nb) = AtRank old.state new.state past now rank result (Splits old new past now dir f nb result)
-Does old new past now result (Merge rank dir f) = AtRank old.state new.state past now rank result (Merges old new past now dir f result)
-Does old new past now result (CommitBegin rank dir f) = AtRank old.state new.state past now rank result (BeginsCommit old new past now (dir, f) result)
+Does old new past now result (Arrive rank request) = AtRank old.state new.state past now rank result (ArrivesAt old.state new.state past now rank request result)
+Does old new past now result (Serve rank) = AtRank old.state new.state past now rank result (ServesRank old new past now rank result)
+Does old new past now result (Grant rank client tid) = AtRank old.state new.state past now rank result (GrantsWaiting old.state new.state past now (MayRefuse old new) rank client tid result)
+Does old new past now result (Split rank dir f nb) = AtRank old.state new.state past now rank result (Splits old new past now rank dir f nb result)
+Does old new past now result (Merge rank dir f) = AtRank old.state new.state past now rank result (Merges old new past now rank dir f result)
+Does old new past now result (CommitBegin rank dir f) = AtRank old.state new.state past now rank result (BeginsCommit old new past now rank (dir, f) result)
 Does old new past now result (CommitEnd encoded) = EndsCommit old new past now encoded.job result
 Does old new past now result (CommitDrop number) = DropsCommit old new past now number result
 Does old new past now result (CommitTree dir) = CommitsTree old new past now dir result
 Does old new past now result Purge = PurgesObject old new past now result
-Does old new past now result (Evict rank) = AtRank old.state new.state past now rank result (EvictsFragment old new past now result)
+Does old new past now result (Evict rank) = AtRank old.state new.state past now rank result (EvictsFragment old new past now rank result)
 
--- one step: what its event does. The cache keeps its number of places, and the store's count of faults doesn't fall
+-- one step: what its event does. Each leaf that stays keeps its authority, the cache its number of places, and the store's count of faults
+-- doesn't fall
 pub record Steps (old new : Core) (past now : List Entry) (result : Result Answer Refusal) (event : Event) : Type 0 where
   pub does : Does old new past now result event
+  pub authorities : KeepsAuthorities old.state.tree new.state.tree old.state.roots new.state.roots
   pub capacity : new.cache.cap ≡ old.cache.cap
   pub grows : old.faults ≤ new.faults

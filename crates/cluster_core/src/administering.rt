@@ -1,15 +1,27 @@
 //! The administrator's steps: what each does is unseen, but for the answer.
 ghost use Rattle.std.specs.Prelude.{◌≡◌, ◌≤◌, List};
 ghost use Rattle.mds_types.specs.declared.entries.Entry.{Entry as Applied};
+ghost use Rattle.inboxes.specs.Inboxes.{Inboxes as Waiting};
+ghost use Rattle.inboxes.specs.declared.pins.Pin.{Pin as Granted};
+ghost use Rattle.inode_table.specs.Numbers.{Supply};
+ghost use Rattle.sessions.specs.Table.{Table};
+ghost use Rattle.cluster_core.specs.State.{core_of};
+ghost use Rattle.cluster_core.specs.Subtrees.{AreRoots, KeepsRoots};
 ghost use Rattle.cluster_core.specs.Administers.{BeginsCommit, CommitsTree, DropsCommit, EndsCommit, EvictsFragment, Merges, PurgesObject, Splits, told_job};
 ghost use Rattle.cluster_core.specs.Steps.{AtRank};
 
-use crate::clusters::{Cluster, is_rank};
+use crate::clusters::Cluster;
 use crate::events::Answer;
+use crate::masters::is_authority;
+use crate::inside::{is_all_of, is_any_pinned};
+use crate::root_steps::{merge_with_roots, split_with_roots};
 use commit_jobs::{Encoded, Job};
+use inboxes::Pins;
+use mdcache::MdCache;
 use mds_types::{Frag, Ino, Rank, Refusal};
 use objstore::Store;
 use std::alloc::Global;
+use subtree_map::Subtrees;
 
 impl<S: Store + Drop> Cluster<S> {
     // A leaf of a directory is split.
@@ -21,17 +33,25 @@ impl<S: Store + Drop> Cluster<S> {
         frag: Frag,
         bits: u8,
     ) -> Result<Answer, Refusal>
-        ensures split { (past : List Applied) → AtRank self.old.state self.new.state past past rank result (Splits self.old self.new past past ino frag bits result) }
+        requires { AreRoots self.old.state.tree self.old.state.roots }
+        ensures split { (past : List Applied) → AtRank self.old.state self.new.state past past rank result (Splits self.old self.new past past rank ino frag bits result) }
+        ensures kept { KeepsRoots self.old.state.tree self.new.state.tree self.old.state.roots self.new.state.roots }
         ensures cap { self.new.cache.cap ≡ self.old.cache.cap }
         ensures grows { self.old.faults ≤ self.new.faults }
     {
-        if !is_rank(rank) {
+        if !self.is_rank(rank) {
             return Err(Refusal::NotAuthority);
         }
-        if let Err(refusal) = self.tree.split(alloc, ino, frag, bits) {
-            return Err(refusal);
-        }
-        Ok(Answer::Nothing)
+        split_at(
+            alloc,
+            &mut self.tree,
+            &mut self.roots,
+            &self.pins,
+            rank,
+            ino,
+            frag,
+            bits,
+        )
     }
 
     // Leaves of a directory are merged.
@@ -42,17 +62,24 @@ impl<S: Store + Drop> Cluster<S> {
         ino: Ino,
         frag: Frag,
     ) -> Result<Answer, Refusal>
-        ensures merged { (past : List Applied) → AtRank self.old.state self.new.state past past rank result (Merges self.old self.new past past ino frag result) }
+        requires { AreRoots self.old.state.tree self.old.state.roots }
+        ensures merged { (past : List Applied) → AtRank self.old.state self.new.state past past rank result (Merges self.old self.new past past rank ino frag result) }
+        ensures kept { KeepsRoots self.old.state.tree self.new.state.tree self.old.state.roots self.new.state.roots }
         ensures cap { self.new.cache.cap ≡ self.old.cache.cap }
         ensures grows { self.old.faults ≤ self.new.faults }
     {
-        if !is_rank(rank) {
+        if !self.is_rank(rank) {
             return Err(Refusal::NotAuthority);
         }
-        if let Err(refusal) = self.tree.merge(alloc, ino, frag) {
-            return Err(refusal);
-        }
-        Ok(Answer::Nothing)
+        merge_at(
+            alloc,
+            &mut self.tree,
+            &mut self.roots,
+            &self.pins,
+            rank,
+            ino,
+            frag,
+        )
     }
 
     // A commit of a leaf begins; of a clean one there is nothing to commit.
@@ -62,18 +89,14 @@ impl<S: Store + Drop> Cluster<S> {
         ino: Ino,
         frag: Frag,
     ) -> Result<Answer, Refusal>
-        ensures begun { (past : List Applied) → AtRank self.old.state self.new.state past past rank result (BeginsCommit self.old self.new past past (ino, frag) result) }
+        ensures begun { (past : List Applied) → AtRank self.old.state self.new.state past past rank result (BeginsCommit self.old self.new past past rank (ino, frag) result) }
         ensures cap { self.new.cache.cap ≡ self.old.cache.cap }
         ensures grows { self.old.faults ≤ self.new.faults }
     {
-        if !is_rank(rank) {
+        if !self.is_rank(rank) {
             return Err(Refusal::NotAuthority);
         }
-        let job = match self.tree.begin(ino, frag) {
-            Ok(job) => job,
-            Err(refusal) => return Err(refusal),
-        };
-        Ok(told_job(job))
+        begin_at(&mut self.tree, &self.roots, rank, ino, frag)
     }
 
     // A commit ends: what was encoded is written.
@@ -124,20 +147,108 @@ impl<S: Store + Drop> Cluster<S> {
         Ok(Answer::Nothing)
     }
 
-    // The least recently used clean fragment goes.
+    // The least recently used clean fragment of a rank's cache goes. So far all that is cached is rank 0's.
     pub(crate) fn evict(&mut self, rank: Rank) -> Result<Answer, Refusal>
-        ensures evicted { (past : List Applied) → AtRank self.old.state self.new.state past past rank result (EvictsFragment self.old self.new past past result) }
+        ensures evicted { (past : List Applied) → AtRank self.old.state self.new.state past past rank result (EvictsFragment self.old self.new past past rank result) }
         ensures cap { self.new.cache.cap ≡ self.old.cache.cap }
         ensures grows { self.old.faults ≤ self.new.faults }
     {
-        if !is_rank(rank) {
+        if !self.is_rank(rank) {
             return Err(Refusal::NotAuthority);
+        }
+        if rank.0 != 0 {
+            return Err(Refusal::NothingToEvict);
         }
         if let Err(refusal) = self.tree.evict() {
             return Err(refusal);
         }
         Ok(Answer::Nothing)
     }
+}
+
+// A leaf of a rank's is split, unless a grant stands on it.
+fn split_at<S: Store + Drop>(
+    alloc: Global,
+    tree: &mut MdCache<S>,
+    roots: &mut Subtrees,
+    pins: &Pins,
+    rank: Rank,
+    ino: Ino,
+    frag: Frag,
+    bits: u8,
+) -> Result<Answer, Refusal>
+    requires { AreRoots tree.old.state roots.old.roots }
+    ensures split { (numbers : List Supply) (inboxes : Waiting) (sessions : Table) (past : List Applied) → Splits (core_of tree.old roots.old.roots numbers inboxes pins.now sessions) (core_of tree.new roots.new.roots numbers inboxes pins.now sessions) past past rank ino frag bits result }
+    ensures kept { KeepsRoots tree.old.state tree.new.state roots.old.roots roots.new.roots }
+    ensures cap { tree.new.cache.cap ≡ tree.old.cache.cap }
+    ensures grows { tree.old.faults ≤ tree.new.faults }
+{
+    if let Err(refusal) = tree.check_split(ino, frag, bits) {
+        return Err(refusal);
+    }
+    if !is_authority(tree, roots, rank, ino, frag) {
+        return Err(Refusal::NotAuthority);
+    }
+    if pins.is_pinned(ino, frag) {
+        return Err(Refusal::Pinned);
+    }
+    if let Err(refusal) = split_with_roots(alloc, tree, roots, ino, frag, bits) {
+        return Err(refusal);
+    }
+    Ok(Answer::Nothing)
+}
+
+// Leaves inside a fragment, all of a rank's, are merged, unless a grant stands on one of them.
+fn merge_at<S: Store + Drop>(
+    alloc: Global,
+    tree: &mut MdCache<S>,
+    roots: &mut Subtrees,
+    pins: &Pins,
+    rank: Rank,
+    ino: Ino,
+    frag: Frag,
+) -> Result<Answer, Refusal>
+    requires { AreRoots tree.old.state roots.old.roots }
+    ensures merged { (numbers : List Supply) (inboxes : Waiting) (sessions : Table) (past : List Applied) → Merges (core_of tree.old roots.old.roots numbers inboxes pins.now sessions) (core_of tree.new roots.new.roots numbers inboxes pins.now sessions) past past rank ino frag result }
+    ensures kept { KeepsRoots tree.old.state tree.new.state roots.old.roots roots.new.roots }
+    ensures cap { tree.new.cache.cap ≡ tree.old.cache.cap }
+    ensures grows { tree.old.faults ≤ tree.new.faults }
+{
+    if let Err(refusal) = tree.check_merge(ino, frag) {
+        return Err(refusal);
+    }
+    if !is_all_of(tree, roots, ino, frag, rank) {
+        return Err(Refusal::NotAuthority);
+    }
+    if is_any_pinned(tree, pins, ino, frag) {
+        return Err(Refusal::Pinned);
+    }
+    if let Err(refusal) = merge_with_roots(alloc, tree, roots, ino, frag) {
+        return Err(refusal);
+    }
+    Ok(Answer::Nothing)
+}
+
+// A commit of a leaf of a rank's begins.
+fn begin_at<S: Store + Drop>(
+    tree: &mut MdCache<S>,
+    roots: &Subtrees,
+    rank: Rank,
+    ino: Ino,
+    frag: Frag,
+) -> Result<Answer, Refusal>
+    ensures begun { (numbers : List Supply) (inboxes : Waiting) (pins : List Granted) (sessions : Table) (past : List Applied) → BeginsCommit (core_of tree.old roots.now.roots numbers inboxes pins sessions) (core_of tree.new roots.now.roots numbers inboxes pins sessions) past past rank (ino, frag) result }
+    ensures cap { tree.new.cache.cap ≡ tree.old.cache.cap }
+    ensures faults { tree.new.faults ≡ tree.old.faults }
+{
+    if tree.has_leaf(ino, frag) && !is_authority(tree, roots, rank, ino, frag) {
+        return Err(Refusal::NotAuthority);
+    }
+    let job = match tree.begin(ino, frag) {
+        Ok(job) => job,
+        Err(refusal) => return Err(refusal),
+    };
+    Ok(told_job(job))
 }
 
 // What a commit that began is told as: its job, or nothing of a clean fragment.

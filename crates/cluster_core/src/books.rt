@@ -74,8 +74,8 @@ impl<S: Store + Drop> Book<S> {
     }
 }
 
-/// A book over a store that has no object: an empty tree, an empty history, and nothing that waits. So far there is one
-/// rank. `cache` is the number of fragments that a rank may cache; the root's `*` is cached, and no object counts for it.
+/// A book of so many ranks over a store that has no object: an empty tree, an empty history, and nothing that waits. The root
+/// directory's leaf is rank 0's. `cache` is the number of fragments that a rank may cache; the root's `*` is cached, and no object counts for it.
 /// Takes memory.
 ///
 /// Refused `NotClean` exactly where the store has objects, unless it refuses to tell, and `NoMemory`; the store is handed
@@ -86,18 +86,19 @@ pub fn format<S: Store + Drop>(
     ranks: u8,
     cache: u32,
 ) -> Result<Book<S>, (Refusal, S)>
-    requires ranked { ranks ≡ 1 }
+    requires some { 1 ≤ ranks }
+    requires ranked { ranks ≤ 16 }
     requires least { 512 ≤ cache }
     requires most { cache ≤ 65536 }
     ensures empty { OnOk result (S.objects store ≡ map.empty) }
     ensures opening { IfOk result (λ book. book.opening ≡ map.empty) }
     ensures history { IfOk result (λ book. book.history ≡ []) }
-    ensures state { IfOk result (λ book. book.core.state ≡ new_state) }
+    ensures state { IfOk result (λ book. book.core.state ≡ new_state ranks) }
     ensures cache { IfOk result (λ book. book.core.cache ≡ lru_cache ((root_leaf, held cached_root) ∷ []) cache) }
     ensures refused { IfErr result (λ back. MayNotFormat (S.objects store) (S.faults store) (S.faults back.1) back.0) }
     ensures left { IfErr result (λ back. S.objects back.1 ≡ S.objects store) }
 {
-    match Cluster::format(alloc, store, cache as usize) {
+    match Cluster::format(alloc, store, ranks, cache as usize) {
         Ok(cluster) => Ok(Book {
             cluster,
             history: Vec::new(alloc),

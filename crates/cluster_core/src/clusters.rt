@@ -1,5 +1,5 @@
 //! The cluster and its events.
-ghost use Rattle.std.specs.Prelude.{◌≡◌, ◌≤◌, ◌∷◌, [], List, nat_lt, Ok, Err, IfOk, IfErr, OnOk};
+ghost use Rattle.std.specs.Prelude.{◌≡◌, ◌≤◌, ◌∷◌, [], List, length, nat_lt, replicate, Ok, Err, IfOk, IfErr, OnOk};
 ghost use Rattle.std.specs.FinMap as map;
 ghost use Rattle.lru.specs.LruCache.{lru_cache};
 ghost use Rattle.mds_types.specs.declared.entries.Entry.{Entry as Applied};
@@ -7,29 +7,39 @@ ghost use Rattle.mds_types.specs.Tree.{Tree};
 ghost use Rattle.dentry_cache.specs.Cache.{held};
 ghost use Rattle.mdcache.specs.Cached.{IsKept};
 ghost use Rattle.mdcache.specs.New.{MayNotFormat, cached_root, root_leaf};
-ghost use Rattle.cluster_core.specs.State.{new_state};
-ghost use Rattle.cluster_core.specs.Steps.{AtRank, ArrivesInbox, ServesRank, Steps, ranks};
+ghost use Rattle.cluster_core.specs.State.{new_roots, new_state, whole_supplies};
+ghost use Rattle.cluster_core.specs.Steps.{ArrivesAt, AtRank, MayRefuse, ServesRank, Steps};
+ghost use Rattle.cluster_core.specs.Grants.{GrantsWaiting};
+ghost use Rattle.cluster_core.specs.Subtrees.{KeepsRoots};
 ghost use Rattle.cluster_core.specs.Sound.{IsSound};
 ghost use Rattle.cluster_core.specs.Administers.{ListsLeaves};
 
 use crate::events::{Answer, Event};
-use crate::inboxes::Inbox;
+use crate::granting::grant_first;
 use crate::serving::serve_front;
+use inboxes::{Inboxes, Pins};
 use inode_table::Numbers;
 use mdcache::MdCache;
 use mds_types::{Entry, Frag, Ino, Rank, Refusal, Request};
 use namespace_ops::Frags;
 use objstore::Store;
 use sessions::Sessions;
-use std::alloc::Global;
+use std::alloc::{AllocError, Global};
 use std::marker::Model;
+use subtree_map::Subtrees;
 
-/// A cluster of metadata server ranks that serve one tree over a store; of one rank, so far.
+/// A cluster of metadata server ranks that serve one tree over a store.
 #[derive(Drop)]
 pub struct Cluster<S: Store + Drop> {
     pub(crate) tree: MdCache<S>,
-    pub(crate) inbox: Inbox,
-    pub(crate) numbers: Numbers,
+    /// Whose each leaf is.
+    pub(crate) roots: Subtrees,
+    /// What waits at each rank.
+    pub(crate) inboxes: Inboxes,
+    /// The grants that stand.
+    pub(crate) pins: Pins,
+    /// The inode numbers of each rank.
+    pub(crate) numbers: Vec<Numbers>,
     pub(crate) sessions: Sessions,
 }
 
@@ -43,36 +53,54 @@ impl<S: Store + Drop> Model for Cluster<S> {
 
     ghost coded = { Prim.hlevel (codes, map.code) };
 
-    ghost view = { λ c. core_of c.tree c.numbers c.inbox (table c.sessions) };
+    ghost view = { λ c. core_of c.tree c.roots.roots c.numbers.items c.inboxes c.pins (table c.sessions) };
 }
 
 impl<S: Store + Drop> Cluster<S> {
-    /// A cluster that serves the empty tree over a store that has no object, with a cache of so many places.
+    /// A cluster of so many ranks that serves the empty tree over a store that has no object, with a cache of so many places.
+    /// The root directory's leaf is rank 0's.
     ///
     /// Refused `NotClean` exactly where the store has objects, unless it refuses to tell, and `NoMemory`; the store is handed
     /// back then, with its objects as they were.
-    pub(crate) fn format(alloc: Global, store: S, places: usize) -> Result<Cluster<S>, (Refusal, S)>
+    pub(crate) fn format(
+        alloc: Global,
+        store: S,
+        ranks: u8,
+        places: usize,
+    ) -> Result<Cluster<S>, (Refusal, S)>
+        requires some { 1 ≤ ranks }
+        requires ranked { ranks ≤ 16 }
         requires few { 512 ≤ places }
         requires many { places ≤ 65536 }
         ensures empty { OnOk result (S.objects store ≡ map.empty) }
-        ensures state { IfOk result (λ c. c.state ≡ new_state) }
+        ensures state { IfOk result (λ c. c.state ≡ new_state ranks) }
         ensures cache { IfOk result (λ c. c.cache ≡ lru_cache ((root_leaf, held cached_root) ∷ []) places) }
         ensures kept { IfOk result (λ c. IsKept c.state.tree c.cache) }
         ensures refused { IfErr result (λ back. MayNotFormat (S.objects store) (S.faults store) (S.faults back.1) back.0) }
         ensures left { IfErr result (λ back. S.objects back.1 ≡ S.objects store) }
     {
-        match MdCache::format(alloc, store, places) {
-            Ok(tree) => {
-                // The contract of `store` is what says here that the tree is sound.
-                let _ = tree.store();
-                Ok(Cluster {
-                    tree,
-                    inbox: Inbox::new(alloc),
-                    numbers: Numbers::from(Rank(0), Numbers::first_of(Rank(0)).0),
-                    sessions: Sessions::new(alloc),
-                })
-            }
-            Err(back) => Err(back),
+        match parts_of(alloc, ranks) {
+            Err(_) => Err((Refusal::NoMemory, store)),
+            Ok(parts) => match MdCache::format(alloc, store, places) {
+                Err(back) => Err(back),
+                Ok(tree) => {
+                    // The contract of `store` is what says here that the tree is sound.
+                    let _ = tree.store();
+                    let Parts {
+                        roots,
+                        inboxes,
+                        numbers,
+                    } = parts;
+                    Ok(Cluster {
+                        tree,
+                        roots,
+                        inboxes,
+                        pins: Pins::new(alloc),
+                        numbers,
+                        sessions: Sessions::new(alloc),
+                    })
+                }
+            },
         }
     }
 
@@ -107,6 +135,7 @@ impl<S: Store + Drop> Cluster<S> {
         match event {
             Event::Arrive { rank, request } => self.arrive(rank, request),
             Event::Serve { rank } => self.serve(alloc, history, rank),
+            Event::Grant { rank, client, tid } => self.grant(alloc, rank, client, tid),
             Event::Split {
                 rank,
                 ino,
@@ -125,14 +154,18 @@ impl<S: Store + Drop> Cluster<S> {
 
     // A request comes in, and waits at the back of the rank's inbox.
     fn arrive(&mut self, rank: Rank, request: Request) -> Result<Answer, Refusal>
-        ensures arrived { (past : List Applied) → AtRank self.old.state self.new.state past past rank result (ArrivesInbox self.old.state self.new.state past past request result) }
+        ensures arrived { (past : List Applied) → AtRank self.old.state self.new.state past past rank result (ArrivesAt self.old.state self.new.state past past rank request result) }
+        ensures tree { self.new.state.tree ≡ self.old.state.tree }
+        ensures roots { self.new.state.roots ≡ self.old.state.roots }
         ensures cache { self.new.cache ≡ self.old.cache }
         ensures faults { self.new.faults ≡ self.old.faults }
     {
-        if !is_rank(rank) {
+        if !self.is_rank(rank) {
             return Err(Refusal::NotAuthority);
         }
-        self.inbox.arrive(request)?;
+        if let Err(refusal) = self.inboxes.arrive(rank, request) {
+            return Err(refusal);
+        }
         Ok(Answer::Nothing)
     }
 
@@ -144,20 +177,53 @@ impl<S: Store + Drop> Cluster<S> {
         rank: Rank,
     ) -> Result<Answer, Refusal>
         requires { (opening : Tree) × IsSound opening history.old.items self.old }
-        ensures served { AtRank self.old.state self.new.state history.old.items history.new.items rank result (ServesRank self.old self.new history.old.items history.new.items result) }
+        ensures served { AtRank self.old.state self.new.state history.old.items history.new.items rank result (ServesRank self.old self.new history.old.items history.new.items rank result) }
+        ensures kept { KeepsRoots self.old.state.tree self.new.state.tree self.old.state.roots self.new.state.roots }
         ensures cap { self.new.cache.cap ≡ self.old.cache.cap }
         ensures grows { self.old.faults ≤ self.new.faults }
     {
-        if !is_rank(rank) {
+        if !self.is_rank(rank) {
             return Err(Refusal::NotAuthority);
         }
         serve_front(
             alloc,
             &mut self.tree,
-            &mut self.inbox,
+            &mut self.roots,
+            &mut self.inboxes,
+            &mut self.pins,
             &mut self.numbers,
             &mut self.sessions,
             history,
+            rank,
+        )
+    }
+
+    // The rank grants a waiting request what it would change of the rank's.
+    fn grant(
+        &mut self,
+        alloc: Global,
+        rank: Rank,
+        client: u64,
+        tid: u64,
+    ) -> Result<Answer, Refusal>
+        ensures granted { (past : List Applied) → AtRank self.old.state self.new.state past past rank result (GrantsWaiting self.old.state self.new.state past past (MayRefuse self.old self.new) rank client tid result) }
+        ensures tree { self.new.state.tree ≡ self.old.state.tree }
+        ensures roots { self.new.state.roots ≡ self.old.state.roots }
+        ensures cap { self.new.cache.cap ≡ self.old.cache.cap }
+        ensures grows { self.old.faults ≤ self.new.faults }
+    {
+        if !self.is_rank(rank) {
+            return Err(Refusal::NotAuthority);
+        }
+        grant_first(
+            alloc,
+            &mut self.tree,
+            &self.roots,
+            &self.inboxes,
+            &mut self.pins,
+            rank,
+            client,
+            tid,
         )
     }
 
@@ -178,14 +244,61 @@ impl<S: Store + Drop> Cluster<S> {
         }
         self.tree.leaves(alloc, ino)
     }
+
+    /// The subtree roots with their ranks, to read.
+    pub fn roots(&self) -> &Subtrees
+        ensures { result.now.roots ≡ self.now.state.roots }
+    {
+        &self.roots
+    }
+
+    // Whether a rank is one of the cluster's.
+    pub(crate) fn is_rank(&self, rank: Rank) -> bool
+        ensures { result ≡ nat_lt rank.0 (length self.now.state.inboxes) }
+    {
+        usize::from(rank.0) < self.inboxes.ranks()
+    }
 }
 
-/// Whether the rank is one of the cluster's.
-pub(crate) fn is_rank(rank: Rank) -> bool
-    ensures { result ≡ nat_lt rank.0 ranks }
+// What a cluster has beside its tree and what comes empty.
+#[derive(Drop)]
+struct Parts {
+    roots: Subtrees,
+    inboxes: Inboxes,
+    numbers: Vec<Numbers>,
+}
+
+// The root directory's leaf as the one subtree root, rank 0's; for each of so many ranks an inbox where nothing waits, and all
+// its numbers.
+fn parts_of(alloc: Global, ranks: u8) -> Result<Parts, AllocError>
+    requires { ranks ≤ 16 }
+    ensures roots { IfOk result (λ parts. parts.roots.roots ≡ new_roots) }
+    ensures inboxes { IfOk result (λ parts. parts.inboxes ≡ replicate ranks []) }
+    ensures numbers { IfOk result (λ parts. parts.numbers.items ≡ whole_supplies 0 ranks) }
 {
-    rank.0 < RANKS
+    let mut roots = Subtrees::new(alloc);
+    if roots.reserve(1).is_err() {
+        return Err(AllocError);
+    }
+    roots.set(Ino::ROOT, Frag::ROOT, Rank(0));
+    Ok(Parts {
+        roots,
+        inboxes: Inboxes::new(alloc, ranks)?,
+        numbers: whole_supplies(alloc, ranks)?,
+    })
 }
 
-/// How many ranks there are.
-pub(crate) const RANKS: u8 = 1;
+// All numbers of each of so many ranks.
+fn whole_supplies(alloc: Global, ranks: u8) -> Result<Vec<Numbers>, AllocError>
+    requires { ranks ≤ 16 }
+    ensures { IfOk result (λ numbers. numbers.items ≡ whole_supplies 0 ranks) }
+{
+    let mut numbers = Vec::new(alloc);
+    for rank in 0..ranks {
+        numbers.push(Numbers::from(
+            Rank(rank),
+            Numbers::first_of(Rank(rank)).0,
+        ))?;
+    }
+    Ok(numbers)
+}

@@ -17,6 +17,12 @@ pub enum Event {
     Serve {
         rank: Rank,
     },
+    /// A rank lets the request of this client and transaction number that waits somewhere change its fragments.
+    Grant {
+        rank: Rank,
+        client: u64,
+        tid: u64,
+    },
     /// A leaf of a directory is split into its children of `bits` more bits.
     Split {
         rank: Rank,
@@ -59,6 +65,10 @@ pub enum Event {
 pub enum Answer {
     /// Done, with nothing to say.
     Nothing,
+    /// Another rank is the request's master, and it waits there now.
+    Forwarded(Rank),
+    /// The request would change fragments of another rank that hasn't granted it, and waits behind all others.
+    Deferred,
     /// The commit that was begun, to be encoded.
     Job(Job),
     /// The reply to a request, with its place in the history; `first` tells a request that was applied now from one that
@@ -83,6 +93,11 @@ impl Event {
                 request: request.try_clone()?,
             }),
             Event::Serve { rank } => Ok(Event::Serve { rank: *rank }),
+            Event::Grant { rank, client, tid } => Ok(Event::Grant {
+                rank: *rank,
+                client: *client,
+                tid: *tid,
+            }),
             Event::Split {
                 rank,
                 ino,

@@ -2,13 +2,18 @@
 #![tactic(auto)]
 
 mod administering;
+mod applying;
 mod books;
 mod clusters;
 mod events;
-mod inboxes;
+mod granting;
+mod inside;
+mod masters;
 mod plain_trees;
+mod root_steps;
 mod runs;
 mod serving;
+mod subtrees;
 
 pub use books::{Book, format};
 pub use clusters::Cluster;

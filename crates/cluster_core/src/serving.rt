@@ -1,219 +1,228 @@
-//! Serving the request at the front of an inbox.
-ghost use Rattle.std.specs.Prelude.{◌≡◌, ◌<◌, ◌≤◌, ◌++◌, ◌∷◌, [], true, length, vec_len, vec_capacity, IsSome, MatchResult, OnOk};
-ghost use Rattle.mds_types.specs.Step.{step, number_or};
+//! Serving the request at the front of a rank's inbox.
+ghost use Rattle.std.specs.Prelude.{◌≡◌, ◌<◌, ◌≤◌, ◌∷◌, [], length, get_or, slice_get, vec_capacity, vec_len, IfErr, IfOk, IfSome, OnOk, Some};
+ghost use Rattle.mds_types.specs.History.{IsNew};
+ghost use Rattle.mds_types.specs.declared.refusals.Refusal.TheVariants.{NoMemory};
+ghost use Rattle.mds_types.specs.declared.requests.Request.{Request as Waiting};
+ghost use Rattle.inboxes.specs.Inboxes.{waiting_at};
 ghost use Rattle.inode_table.specs.Numbers.{offer};
-ghost use Rattle.cluster_core.specs.Offer.{after_taking};
-ghost use Rattle.namespace_ops.specs.Changes.{IsOffered, fragments_in};
-ghost use Rattle.namespace_ops.specs.Kept.{ChangesOnly, KeepsAll};
-ghost use Rattle.namespace_ops.specs.Planned.{IsReadyToChange, after_plan};
-ghost use Rattle.namespace_ops.specs.Served.{IsRefused};
-ghost use Rattle.sessions.specs.Table.{IsTableOf, noted, trimmed};
+ghost use Rattle.namespace_ops.specs.Changes.{IsOffered};
+ghost use Rattle.sessions.specs.Table.{IsTableOf};
 ghost use Rattle.sessions.specs.Rooms.{IsReady, table};
 ghost use Rattle.dirfrag_codec.specs.EntryRecord.{IsRankNumber};
 ghost use Rattle.mdcache.specs.Frags.{IsReady as IsReadyIn, MayRefuse};
-ghost use Rattle.mdcache.specs.Made.{IsUntouched};
+ghost use Rattle.namespace_ops.specs.Planned.{IsReadyToChange};
 ghost use Rattle.mdcache.specs.Shown.{shown_tree};
-ghost use Rattle.cluster_core.specs.State.{state_of};
-ghost use Rattle.cluster_core.specs.Serve.{CarryLeaves, MakesPlanned, ServesInbox, RepeatsFront};
-ghost use Rattle.cluster_core.specs.Prepared.{IsPrepared};
+ghost use Rattle.cluster_core.specs.State.{no_supply, state_of};
+ghost use Rattle.cluster_core.specs.Serve.{EndsFront, ForwardsFront, RepeatsFront, ServesInbox};
+ghost use Rattle.cluster_core.specs.Master.{AreMastersThere, IsMasterIn};
+ghost use Rattle.cluster_core.specs.Prepared.{IsMadeReady};
+ghost use Rattle.cluster_core.specs.Subtrees.{AreRoots, HasRoomForPlanned, KeepsRoots};
 
+use crate::applying::{Prepared, commit, prepare};
 use crate::events::Answer;
-use crate::inboxes::Inbox;
+use crate::masters::{lacks_grant, master_of};
+use crate::subtrees::reserve_roots;
+use inboxes::{Inboxes, Pins};
 use inode_table::Numbers;
 use mdcache::MdCache;
-use mds_types::{Entry, Ino, Op, Refusal, Reply, Request};
-use namespace_ops::{Change, Frags, Plan, plan_op};
+use mds_types::{Entry, Rank, Refusal, Reply, Request};
 use objstore::Store;
 use sessions::{Seen, Sessions};
 use std::alloc::Global;
+use subtree_map::Subtrees;
 
-/// All that applying a request needs, made before its first change.
-#[derive(Debug, Drop)]
-pub struct Prepared {
-    plan: Plan,
-    /// The reply once more, for the client.
-    answer: Reply,
-    /// And once more, for the sessions.
-    kept: Reply,
-    /// The rank's numbers afterwards.
-    numbers: Numbers,
-}
-
-/// Makes everything that applying an operation of a client needs: room for its entry in the history and for its reply in the
-/// sessions, its plan, the copies of its reply.
-pub fn prepare<F: Frags>(
-    alloc: Global,
-    frags: &mut F,
-    numbers: Numbers,
-    sessions: &mut Sessions,
-    history: &mut Vec<Entry>,
-    client: u64,
-    op: &Op,
-) -> Result<Prepared, Refusal>
-    requires { IsOffered (F.content frags.old) F.IsNumber (offer numbers) }
-    ensures prepared { let outcome = step (F.content frags.old) op.now (number_or (offer numbers)) in
-        MatchResult result
-        (IsPrepared (F.content frags.old) (F.covers frags.old) (F.IsReady frags.new) op.now outcome numbers)
-        (IsRefused (F.content frags.old) (F.content frags.new) (F.MayRefuse frags.old frags.new op.now) outcome (offer numbers)) }
-    ensures room { OnOk result (vec_len history.new < vec_capacity history.new) }
-    ensures reserved { OnOk result (IsReady sessions.new client) }
-    ensures past { history.new.items ≡ history.old.items }
-    ensures known { table sessions.new ≡ table sessions.old }
-    ensures kept { KeepsAll (F.content frags.old) (F.content frags.new) (F.covers frags.old) (F.covers frags.new) (F.Follows frags.old frags.new) }
-{
-    history.reserve(1)?;
-    sessions.reserve(alloc, client)?;
-    let plan = plan_op(alloc, frags, op, numbers.peek())?;
-    let answer = plan.reply.try_clone()?;
-    let kept = plan.reply.try_clone()?;
-    let numbers = supply_after(numbers, plan.number);
-    Ok(Prepared {
-        plan,
-        answer,
-        kept,
-        numbers,
-    })
-}
-
-/// Applies a request for which everything was prepared. It can't fail.
-pub fn commit<S: Store + Drop>(
-    tree: &mut MdCache<S>,
-    numbers: &mut Numbers,
-    sessions: &mut Sessions,
-    history: &mut Vec<Entry>,
-    request: Request,
-    prepared: Prepared,
-) -> Answer
-    requires ready { IsReadyToChange (shown_tree tree.old.state) tree.old.state.covers (IsReadyIn tree.old) prepared.plan.change }
-    requires room { vec_len history.old < vec_capacity history.old }
-    requires reserved { IsReady sessions.old request.client }
-    ensures tree { shown_tree tree.new.state ≡ after_plan (shown_tree tree.old.state) prepared.plan.change }
-    ensures made { MakesPlanned prepared.plan.change tree.old.state tree.new.state }
-    ensures leaves { CarryLeaves (shown_tree tree.old.state) (shown_tree tree.new.state) tree.old.state.covers tree.new.state.covers }
-    ensures frame { ChangesOnly (IsUntouched tree.old.state tree.new.state) (fragments_in tree.old.state.covers prepared.plan.change) }
-    ensures cap { tree.new.cache.cap ≡ tree.old.cache.cap }
-    ensures faults { tree.new.faults ≡ tree.old.faults }
-    ensures appended { history.new.items ≡ history.old.items ++ record {
-      client = request.client;
-      tid = request.tid;
-      oldest = request.oldest;
-      op = request.op;
-      number = prepared.plan.number;
-      reply = prepared.plan.reply;
-    } ∷ [] }
-    ensures drawn { numbers.new ≡ prepared.numbers }
-    ensures known { table sessions.new ≡ trimmed (noted (table sessions.old) request.client request.tid request.oldest (length history.old.items) prepared.kept) request.client }
-    ensures answer { result ≡ Answer.Reply request.client request.tid (length history.old.items) true prepared.answer }
-{
-    let place = history.len();
-    let Request {
-        client,
-        tid,
-        oldest,
-        op,
-    } = request;
-    let Plan {
-        reply,
-        change,
-        number,
-    } = prepared.plan;
-    carry_out(tree, change);
-    *numbers = prepared.numbers;
-    sessions.keep(client, tid, oldest, place, prepared.kept);
-    sessions.trim(client);
-    let _ = history.push(Entry {
-        client,
-        tid,
-        oldest,
-        op,
-        number,
-        reply,
-    });
-    Answer::Reply {
-        client,
-        tid,
-        place,
-        first: true,
-        reply: prepared.answer,
-    }
-}
-
-// Makes a planned change, where there is one.
-fn carry_out<S: Store + Drop>(tree: &mut MdCache<S>, change: Option<Change>)
-    requires ready { IsReadyToChange (shown_tree tree.old.state) tree.old.state.covers (IsReadyIn tree.old) change }
-    ensures tree { shown_tree tree.new.state ≡ after_plan (shown_tree tree.old.state) change }
-    ensures made { MakesPlanned change tree.old.state tree.new.state }
-    ensures leaves { CarryLeaves (shown_tree tree.old.state) (shown_tree tree.new.state) tree.old.state.covers tree.new.state.covers }
-    ensures frame { ChangesOnly (IsUntouched tree.old.state tree.new.state) (fragments_in tree.old.state.covers change) }
-    ensures cap { tree.new.cache.cap ≡ tree.old.cache.cap }
-    ensures faults { tree.new.faults ≡ tree.old.faults }
-{
-    // The contract of `store` is what says here that the state is sound.
-    let _ = tree.store();
-    match change {
-        Some(change) => tree.apply(change),
-        None => {}
-    }
-}
-
-/// Serves the request at the front of the inbox: applies it if it is new, answers it again if it was applied before.
+/// Serves the request at the front of a rank's inbox. One that was applied before is answered again; a new one goes to its
+/// master, or waits where it lacks a grant, or is applied.
 pub fn serve_front<S: Store + Drop>(
     alloc: Global,
     tree: &mut MdCache<S>,
-    inbox: &mut Inbox,
-    numbers: &mut Numbers,
+    roots: &mut Subtrees,
+    inboxes: &mut Inboxes,
+    pins: &mut Pins,
+    numbers: &mut Vec<Numbers>,
     sessions: &mut Sessions,
     history: &mut Vec<Entry>,
+    rank: Rank,
 ) -> Result<Answer, Refusal>
     requires known { IsTableOf history.old.items (table sessions.old) }
-    requires offered { IsOffered (shown_tree tree.old.state) (λ n. IsRankNumber n) (offer numbers.old) }
-    ensures served { ServesInbox (state_of tree.old.state numbers.old inbox.old (table sessions.old)) (state_of tree.new.state numbers.new inbox.new (table sessions.new))
-        history.old.items history.new.items (MayRefuse tree.old tree.new) result inbox.old }
+    requires offered { IsOffered (shown_tree tree.old.state) (λ n. IsRankNumber n) (offer (get_or numbers.old.items rank.0 no_supply)) }
+    requires there { rank.0 < vec_len numbers.old }
+    requires masters { AreMastersThere tree.old.state roots.old.roots rank (length inboxes.old) }
+    requires valid { AreRoots tree.old.state roots.old.roots }
+    ensures served { ServesInbox (state_of tree.old.state roots.old.roots numbers.old.items inboxes.old pins.old (table sessions.old)) (state_of tree.new.state roots.new.roots numbers.new.items inboxes.new pins.new (table sessions.new))
+        history.old.items history.new.items (MayRefuse tree.old tree.new) rank result (waiting_at inboxes.old rank) }
+    ensures kept { KeepsRoots tree.old.state tree.new.state roots.old.roots roots.new.roots }
     ensures cap { tree.new.cache.cap ≡ tree.old.cache.cap }
     ensures grows { tree.old.faults ≤ tree.new.faults }
 {
-    let Some(front) = inbox.front() else {
+    let Some(front) = inboxes.front(rank) else {
         return Err(Refusal::InboxEmpty)
     };
     match sessions.seen(front.client, front.tid, front.oldest) {
         Seen::Trimmed => {
-            let _ = inbox.take();
+            end_front(inboxes, pins, rank);
             Err(Refusal::Trimmed)
         }
-        Seen::Kept(place, reply) => answer_again(inbox, place, reply),
-        Seen::New => match prepare(
-            alloc,
-            tree,
-            *numbers,
-            sessions,
-            history,
-            front.client,
-            &front.op,
-        ) {
-            Ok(prepared) => {
-                let Some(request) = inbox.take() else {
-                    unreachable!()
-                };
-                Ok(commit(tree, numbers, sessions, history, request, prepared))
-            }
-            Err(Refusal::NoInodes) => {
-                let _ = inbox.take();
-                Err(Refusal::NoInodes)
-            }
-            Err(refusal) => Err(refusal),
-        },
+        Seen::Kept(place, reply) => answer_again(inboxes, pins, rank, place, reply),
+        Seen::New => serve_new(
+            alloc, tree, roots, inboxes, pins, numbers, sessions, history, rank,
+        ),
     }
 }
 
-// Answers the request at the front with the reply of its entry at this place.
-fn answer_again(inbox: &mut Inbox, place: usize, reply: &Reply) -> Result<Answer, Refusal>
-    requires waits { 0 < length inbox.old }
-    ensures { RepeatsFront inbox.old inbox.new place reply.now result }
+// Serves the request at the front of a rank's inbox, which is new.
+fn serve_new<S: Store + Drop>(
+    alloc: Global,
+    tree: &mut MdCache<S>,
+    roots: &mut Subtrees,
+    inboxes: &mut Inboxes,
+    pins: &mut Pins,
+    numbers: &mut Vec<Numbers>,
+    sessions: &mut Sessions,
+    history: &mut Vec<Entry>,
+    rank: Rank,
+) -> Result<Answer, Refusal>
+    requires new { (front : Waiting) → slice_get (waiting_at inboxes.old rank) 0 ≡ Some front → IsNew history.old.items front.client front.tid front.oldest }
+    requires offered { IsOffered (shown_tree tree.old.state) (λ n. IsRankNumber n) (offer (get_or numbers.old.items rank.0 no_supply)) }
+    requires there { rank.0 < vec_len numbers.old }
+    requires masters { AreMastersThere tree.old.state roots.old.roots rank (length inboxes.old) }
+    requires valid { AreRoots tree.old.state roots.old.roots }
+    ensures served { ServesInbox (state_of tree.old.state roots.old.roots numbers.old.items inboxes.old pins.old (table sessions.old)) (state_of tree.new.state roots.new.roots numbers.new.items inboxes.new pins.new (table sessions.new))
+        history.old.items history.new.items (MayRefuse tree.old tree.new) rank result (waiting_at inboxes.old rank) }
+    ensures kept { KeepsRoots tree.old.state tree.new.state roots.old.roots roots.new.roots }
+    ensures cap { tree.new.cache.cap ≡ tree.old.cache.cap }
+    ensures grows { tree.old.faults ≤ tree.new.faults }
+{
+    let Some(front) = inboxes.front(rank) else {
+        return Err(Refusal::InboxEmpty)
+    };
+    let master = master_of(tree, roots, rank, &front.op);
+    if master != rank {
+        return forward(inboxes, rank, master);
+    }
+    let supply = numbers[usize::from(rank.0)];
+    match make_ready(
+        alloc, tree, roots, pins, supply, sessions, history, rank, front,
+    ) {
+        Ok(Some(prepared)) => {
+            let Some(request) = inboxes.take(rank) else {
+                unreachable!()
+            };
+            Ok(commit(
+                tree, roots, numbers, pins, sessions, history, rank, request, prepared,
+            ))
+        }
+        Ok(None) => {
+            inboxes.rotate(rank);
+            Ok(Answer::Deferred)
+        }
+        Err(Refusal::NoInodes) => {
+            end_front(inboxes, pins, rank);
+            Err(Refusal::NoInodes)
+        }
+        Err(refusal) => Err(refusal),
+    }
+}
+
+// Makes everything that applying a request at its master needs; nothing where it lacks a grant.
+fn make_ready<S: Store + Drop>(
+    alloc: Global,
+    tree: &mut MdCache<S>,
+    roots: &mut Subtrees,
+    pins: &Pins,
+    supply: Numbers,
+    sessions: &mut Sessions,
+    history: &mut Vec<Entry>,
+    rank: Rank,
+    request: &Request,
+) -> Result<Option<Prepared>, Refusal>
+    requires offered { IsOffered (shown_tree tree.old.state) (λ n. IsRankNumber n) (offer supply) }
+    requires master { IsMasterIn tree.old.state roots.old.roots rank request.now.op rank }
+    requires valid { AreRoots tree.old.state roots.old.roots }
+    ensures ready { IsMadeReady tree.old.state roots.old.roots pins.now supply rank request.now (IsReadyIn tree.new) (HasRoomForPlanned tree.old.state roots.new.roots roots.new.room) (MayRefuse tree.old tree.new request.now.op) result }
+    ensures room { IfOk result (λ made. IfSome made (λ prepared. vec_len history.new < vec_capacity history.new)) }
+    ensures reserved { IfOk result (λ made. IfSome made (λ prepared. IsReady sessions.new request.now.client)) }
+    ensures same { tree.new.state ≡ tree.old.state }
+    ensures roots { roots.new.roots ≡ roots.old.roots }
+    ensures past { history.new.items ≡ history.old.items }
+    ensures known { table sessions.new ≡ table sessions.old }
+    ensures cap { tree.new.cache.cap ≡ tree.old.cache.cap }
+    ensures grows { tree.old.faults ≤ tree.new.faults }
+{
+    match lacks_grant(
+        alloc,
+        tree,
+        roots,
+        pins,
+        rank,
+        request.client,
+        request.tid,
+        &request.op,
+    ) {
+        Err(refusal) => return Err(refusal),
+        Ok(true) => return Ok(None),
+        Ok(false) => {}
+    }
+    let prepared = match prepare(
+        alloc,
+        tree,
+        supply,
+        sessions,
+        history,
+        request.client,
+        &request.op,
+    ) {
+        Err(refusal) => return Err(refusal),
+        Ok(prepared) => prepared,
+    };
+    if let Err(refusal) = reserve_planned(alloc, tree, roots, &prepared) {
+        return Err(refusal);
+    }
+    Ok(Some(prepared))
+}
+
+// Makes room for the roots of what was prepared.
+fn reserve_planned<S: Store + Drop>(
+    alloc: Global,
+    tree: &MdCache<S>,
+    roots: &mut Subtrees,
+    prepared: &Prepared,
+) -> Result<(), Refusal>
+    requires ready { IsReadyToChange (shown_tree tree.now.state) tree.now.state.covers (IsReadyIn tree.now) prepared.now.plan.change }
+    ensures room { OnOk result (HasRoomForPlanned tree.now.state roots.new.roots roots.new.room prepared.now.plan.change) }
+    ensures same { roots.new.roots ≡ roots.old.roots }
+    ensures refused { IfErr result (λ reason. reason ≡ NoMemory) }
+{
+    match prepared.change() {
+        Some(change) => reserve_roots(alloc, tree, roots, change),
+        None => Ok(()),
+    }
+}
+
+// The request at the front of a rank's inbox leaves it, and its grants end.
+fn end_front(inboxes: &mut Inboxes, pins: &mut Pins, rank: Rank)
+    ensures { EndsFront inboxes.old inboxes.new pins.old pins.new rank (waiting_at inboxes.old rank) }
+{
+    if let Some(request) = inboxes.take(rank) {
+        pins.end_pair(request.client, request.tid);
+    }
+}
+
+// Answers the request at the front of a rank's inbox with the reply of its entry at this place.
+fn answer_again(
+    inboxes: &mut Inboxes,
+    pins: &mut Pins,
+    rank: Rank,
+    place: usize,
+    reply: &Reply,
+) -> Result<Answer, Refusal>
+    ensures { RepeatsFront inboxes.old inboxes.new pins.old pins.new rank place reply.now result (waiting_at inboxes.old rank) }
 {
     let reply = reply.try_clone()?;
-    let Some(request) = inbox.take() else {
-        unreachable!()
+    let Some(request) = inboxes.take(rank) else {
+        return Err(Refusal::InboxEmpty)
     };
+    pins.end_pair(request.client, request.tid);
     Ok(Answer::Reply {
         client: request.client,
         tid: request.tid,
@@ -223,14 +232,13 @@ fn answer_again(inbox: &mut Inbox, place: usize, reply: &Reply) -> Result<Answer
     })
 }
 
-// The supply after an operation that took this number of it, if it took one.
-fn supply_after(numbers: Numbers, number: Option<Ino>) -> Numbers
-    requires { IsSome number → IsSome (offer numbers) }
-    ensures { result ≡ after_taking numbers number }
+// The request at the front of a rank's inbox goes to the back of its master's.
+fn forward(inboxes: &mut Inboxes, rank: Rank, master: Rank) -> Result<Answer, Refusal>
+    requires { master.0 < length inboxes.old }
+    ensures { ForwardsFront inboxes.old inboxes.new rank master result (waiting_at inboxes.old rank) }
 {
-    let mut left = numbers;
-    if number.is_some() {
-        let _ = left.draw();
+    if let Err(refusal) = inboxes.forward(rank, master) {
+        return Err(refusal);
     }
-    left
+    Ok(Answer::Forwarded(master))
 }

@@ -1,0 +1,64 @@
+-- A rank grants a waiting request that another rank changes its fragments.
+use Rattle.std.specs.Prelude.{◌≡◌, ◌⊎◌, ◌↔◌, ◌<◌, ℕ, List, [], ◌∷◌, length, Option, Some, None, Result, Ok, Err}
+use Rattle.std.specs.List.{Contains}
+use Rattle.mds_types.specs.declared.entries.Entry.{Entry}
+use Rattle.mds_types.specs.declared.ids.Rank.{Rank}
+use Rattle.mds_types.specs.declared.operations.Op.{Op}
+use Rattle.mds_types.specs.declared.requests.Request.{Request}
+use Rattle.mds_types.specs.declared.refusals.Refusal.{Refusal}
+use Rattle.mds_types.specs.declared.refusals.Refusal.TheVariants.{InboxEmpty, NoMemory, NotAuthority}
+use Rattle.inboxes.specs.declared.pins.Pin.{Pin}
+use Rattle.inboxes.specs.Inboxes.{first_waiting}
+use Rattle.inboxes.specs.Pins.{with_pin}
+use Rattle.subtree_map.specs.Authority.{Leaf, Roots}
+use Rattle.mdcache.specs.State.{State as TreeState}
+use Rattle.cluster_core.specs.declared.events.Answer.{Answer}
+use Rattle.cluster_core.specs.declared.events.Answer.TheVariants.{Nothing}
+use Rattle.cluster_core.specs.Master.{IsAuthority, grant_of, would_change}
+use Rattle.cluster_core.specs.Serve.{IsLeft}
+use Rattle.cluster_core.specs.State.{State}
+use Rattle.cluster_core.specs.Subtrees.{Rules}
+
+-- a leaf that a request would change now, and of which the rank is the authority
+pub record IsGranted (state : State) (rank : Rank) (op : Op) (leaf : Leaf) : Type 0 where
+  pub changes : Contains (would_change state op) leaf
+  pub mine : IsAuthority state leaf rank
+
+-- the grants with one of each of these leaves for this client and number; one that stands stays as it is
+abbrev pub with_grants : List Pin → List Leaf → (client tid : ℕ) → List Pin
+with_grants pins [] client tid = pins
+with_grants pins (leaf ∷ leaves) client tid = with_grants (with_pin pins (grant_of leaf client tid)) leaves client tid
+
+-- the rank granted the request all of its leaves that it would change, of which there are some; nothing else changes
+pub record Grants (old new : State) (past now : List Entry) (rank : Rank) (client tid : ℕ) (op : Op) (answer : Answer) : Type 0 where
+  pub answered : answer ≡ Nothing
+  pub leaves : List Leaf
+  pub exactly : (leaf : Leaf) → Contains leaves leaf ↔ IsGranted old rank op leaf
+  pub some : 0 < length leaves
+  pub same : now ≡ past
+  pub left : new ≡ record old { pins = with_grants old.pins leaves client tid }
+
+-- refused NotAuthority exactly where there is no such leaf, unless the tree refused to tell, and for want of memory; all is left
+abbrev pub RefusesGrant : (old new : State) → (past now : List Entry) → (MayRefuse : Op → Refusal → Type 0) → Rank → Op → Refusal → Type 0
+RefusesGrant old new past now MayRefuse rank op reason =
+    (((reason ≡ NotAuthority) × ((leaf : Leaf) → IsGranted old rank op leaf → ⊥)) ⊎ (reason ≡ NoMemory) ⊎ MayRefuse op reason) × IsLeft old new past now
+
+abbrev pub GrantsRequest : (old new : State) → (past now : List Entry) → (MayRefuse : Op → Refusal → Type 0) → Rank → (client tid : ℕ) → Op → Result Answer Refusal → Type 0
+GrantsRequest old new past now MayRefuse rank client tid op (Ok answer) = Grants old new past now rank client tid op answer
+GrantsRequest old new past now MayRefuse rank client tid op (Err reason) = RefusesGrant old new past now MayRefuse rank op reason
+
+-- of the first waiting copy of the request; InboxEmpty exactly where none waits. Whether it was applied before plays no part
+abbrev pub GrantsFirst : (old new : State) → (past now : List Entry) → (MayRefuse : Op → Refusal → Type 0) → Rank → (client tid : ℕ) → Result Answer Refusal → Option Request → Type 0
+GrantsFirst old new past now MayRefuse rank client tid result None = (result ≡ Err InboxEmpty) × IsLeft old new past now
+GrantsFirst old new past now MayRefuse rank client tid result (Some request) = GrantsRequest old new past now MayRefuse rank client tid request.op result
+
+abbrev pub GrantsWaiting : (old new : State) → (past now : List Entry) → (MayRefuse : Op → Refusal → Type 0) → Rank → (client tid : ℕ) → Result Answer Refusal → Type 0
+GrantsWaiting old new past now MayRefuse rank client tid result = GrantsFirst old new past now MayRefuse rank client tid result (first_waiting client tid old.inboxes)
+
+-- ---- words of this crate's own contracts
+
+-- those of some leaves of which a rank is the authority
+abbrev pub AreHeldAmong : TreeState → Roots → Rank → (leaves held : List Leaf) → Type 0
+AreHeldAmong tree roots rank [] held = held ≡ []
+AreHeldAmong tree roots rank (leaf ∷ leaves) held =
+    (Rules tree roots leaf rank × ((rest : List Leaf) × (held ≡ leaf ∷ rest) × AreHeldAmong tree roots rank leaves rest)) ⊎ ((Rules tree roots leaf rank → ⊥) × AreHeldAmong tree roots rank leaves held)

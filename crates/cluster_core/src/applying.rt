@@ -1,0 +1,213 @@
+//! Applying a request: everything that may be refused is made first, and then it is done, which can't fail.
+ghost use Rattle.std.specs.Prelude.{◌≡◌, ◌<◌, ◌++◌, ◌∷◌, [], length, set, vec_len, vec_capacity, IsSome, MatchResult, OnOk};
+ghost use Rattle.std.specs.Option.{option_copied};
+ghost use Rattle.mds_types.specs.Step.{step, number_or};
+ghost use Rattle.inode_table.specs.Numbers.{offer};
+ghost use Rattle.cluster_core.specs.Offer.{after_taking};
+ghost use Rattle.inboxes.specs.Pins.{is_for, left_without};
+ghost use Rattle.namespace_ops.specs.Changes.{IsOffered, fragments_in};
+ghost use Rattle.namespace_ops.specs.Kept.{ChangesOnly, KeepsAll};
+ghost use Rattle.namespace_ops.specs.Planned.{IsReadyToChange, after_plan};
+ghost use Rattle.namespace_ops.specs.Served.{IsRefused};
+ghost use Rattle.sessions.specs.Table.{noted, trimmed};
+ghost use Rattle.sessions.specs.Rooms.{IsReady, table};
+ghost use Rattle.mdcache.specs.Frags.{IsReady as IsReadyIn};
+ghost use Rattle.mdcache.specs.Made.{IsUntouched};
+ghost use Rattle.mdcache.specs.Shown.{shown_tree};
+ghost use Rattle.cluster_core.specs.Serve.{CarryLeaves, FollowPlanned, MakesPlanned, without_gone, went_with};
+ghost use Rattle.cluster_core.specs.Prepared.{IsPrepared};
+ghost use Rattle.cluster_core.specs.Subtrees.{AreRoots, HasRoomForPlanned, KeepsRoots};
+
+use crate::events::Answer;
+use crate::subtrees::{change_tree, went_with};
+use inboxes::Pins;
+use inode_table::Numbers;
+use mdcache::MdCache;
+use mds_types::{Entry, Ino, Op, Rank, Refusal, Reply, Request};
+use namespace_ops::{Change, Frags, Plan, plan_op};
+use objstore::Store;
+use sessions::Sessions;
+use std::alloc::Global;
+use subtree_map::Subtrees;
+
+/// All that applying a request needs, made before its first change.
+#[derive(Debug, Drop)]
+pub struct Prepared {
+    plan: Plan,
+    /// The reply once more, for the client.
+    answer: Reply,
+    /// And once more, for the sessions.
+    kept: Reply,
+    /// The rank's numbers afterwards.
+    numbers: Numbers,
+}
+
+impl Prepared {
+    /// The change that was planned, if there is one.
+    pub fn change(&self) -> Option<&Change>
+        ensures { option_copied result ≡ self.now.plan.change }
+    {
+        self.plan.change.as_ref()
+    }
+}
+
+/// Makes everything that applying an operation of a client needs: room for its entry in the history and for its reply in the
+/// sessions, its plan, the copies of its reply.
+pub fn prepare<F: Frags>(
+    alloc: Global,
+    frags: &mut F,
+    numbers: Numbers,
+    sessions: &mut Sessions,
+    history: &mut Vec<Entry>,
+    client: u64,
+    op: &Op,
+) -> Result<Prepared, Refusal>
+    requires { IsOffered (F.content frags.old) F.IsNumber (offer numbers) }
+    ensures prepared { let outcome = step (F.content frags.old) op.now (number_or (offer numbers)) in
+        MatchResult result
+        (IsPrepared (F.content frags.old) (F.covers frags.old) (F.IsReady frags.new) op.now outcome numbers)
+        (IsRefused (F.content frags.old) (F.content frags.new) (F.MayRefuse frags.old frags.new op.now) outcome (offer numbers)) }
+    ensures room { OnOk result (vec_len history.new < vec_capacity history.new) }
+    ensures reserved { OnOk result (IsReady sessions.new client) }
+    ensures past { history.new.items ≡ history.old.items }
+    ensures known { table sessions.new ≡ table sessions.old }
+    ensures kept { KeepsAll (F.content frags.old) (F.content frags.new) (F.covers frags.old) (F.covers frags.new) (F.Follows frags.old frags.new) }
+{
+    history.reserve(1)?;
+    sessions.reserve(alloc, client)?;
+    let plan = plan_op(alloc, frags, op, numbers.peek())?;
+    let answer = plan.reply.try_clone()?;
+    let kept = plan.reply.try_clone()?;
+    let numbers = supply_after(numbers, plan.number);
+    Ok(Prepared {
+        plan,
+        answer,
+        kept,
+        numbers,
+    })
+}
+
+/// Applies a request of this rank for which everything was prepared. It can't fail.
+pub fn commit<S: Store + Drop>(
+    tree: &mut MdCache<S>,
+    roots: &mut Subtrees,
+    numbers: &mut Vec<Numbers>,
+    pins: &mut Pins,
+    sessions: &mut Sessions,
+    history: &mut Vec<Entry>,
+    rank: Rank,
+    request: Request,
+    prepared: Prepared,
+) -> Answer
+    requires ready { IsReadyToChange (shown_tree tree.old.state) tree.old.state.covers (IsReadyIn tree.old) prepared.plan.change }
+    requires room { vec_len history.old < vec_capacity history.old }
+    requires reserved { IsReady sessions.old request.client }
+    requires there { rank.0 < vec_len numbers.old }
+    requires roots { HasRoomForPlanned tree.old.state roots.old.roots roots.old.room prepared.plan.change }
+    requires valid { AreRoots tree.old.state roots.old.roots }
+    ensures tree { shown_tree tree.new.state ≡ after_plan (shown_tree tree.old.state) prepared.plan.change }
+    ensures made { MakesPlanned prepared.plan.change tree.old.state tree.new.state }
+    ensures leaves { CarryLeaves (shown_tree tree.old.state) (shown_tree tree.new.state) tree.old.state.covers tree.new.state.covers }
+    ensures frame { ChangesOnly (IsUntouched tree.old.state tree.new.state) (fragments_in tree.old.state.covers prepared.plan.change) }
+    ensures cap { tree.new.cache.cap ≡ tree.old.cache.cap }
+    ensures faults { tree.new.faults ≡ tree.old.faults }
+    ensures followed { FollowPlanned prepared.plan.change tree.old.state roots.old.roots roots.new.roots }
+    ensures kept { KeepsRoots tree.old.state tree.new.state roots.old.roots roots.new.roots }
+    ensures pins { pins.new ≡ without_gone (left_without (is_for request.client request.tid) pins.old) (went_with prepared.plan.change) }
+    ensures appended { history.new.items ≡ history.old.items ++ record {
+      client = request.client;
+      tid = request.tid;
+      oldest = request.oldest;
+      op = request.op;
+      number = prepared.plan.number;
+      reply = prepared.plan.reply;
+    } ∷ [] }
+    ensures drawn { numbers.new.items ≡ set numbers.old.items rank.0 prepared.numbers }
+    ensures known { table sessions.new ≡ trimmed (noted (table sessions.old) request.client request.tid request.oldest (length history.old.items) prepared.kept) request.client }
+    ensures answer { result ≡ Answer.Reply request.client request.tid (length history.old.items) true prepared.answer }
+{
+    let place = history.len();
+    let Request {
+        client,
+        tid,
+        oldest,
+        op,
+    } = request;
+    let Plan {
+        reply,
+        change,
+        number,
+    } = prepared.plan;
+    pins.end_pair(client, tid);
+    carry_out(tree, roots, pins, change);
+    numbers[usize::from(rank.0)] = prepared.numbers;
+    sessions.keep(client, tid, oldest, place, prepared.kept);
+    sessions.trim(client);
+    let _ = history.push(Entry {
+        client,
+        tid,
+        oldest,
+        op,
+        number,
+        reply,
+    });
+    Answer::Reply {
+        client,
+        tid,
+        place,
+        first: true,
+        reply: prepared.answer,
+    }
+}
+
+// Makes a planned change, where there is one, with the subtree roots; grants on what goes end.
+fn carry_out<S: Store + Drop>(
+    tree: &mut MdCache<S>,
+    roots: &mut Subtrees,
+    pins: &mut Pins,
+    change: Option<Change>,
+)
+    requires ready { IsReadyToChange (shown_tree tree.old.state) tree.old.state.covers (IsReadyIn tree.old) change }
+    requires roots { HasRoomForPlanned tree.old.state roots.old.roots roots.old.room change }
+    requires valid { AreRoots tree.old.state roots.old.roots }
+    ensures tree { shown_tree tree.new.state ≡ after_plan (shown_tree tree.old.state) change }
+    ensures made { MakesPlanned change tree.old.state tree.new.state }
+    ensures leaves { CarryLeaves (shown_tree tree.old.state) (shown_tree tree.new.state) tree.old.state.covers tree.new.state.covers }
+    ensures frame { ChangesOnly (IsUntouched tree.old.state tree.new.state) (fragments_in tree.old.state.covers change) }
+    ensures cap { tree.new.cache.cap ≡ tree.old.cache.cap }
+    ensures faults { tree.new.faults ≡ tree.old.faults }
+    ensures followed { FollowPlanned change tree.old.state roots.old.roots roots.new.roots }
+    ensures kept { KeepsRoots tree.old.state tree.new.state roots.old.roots roots.new.roots }
+    ensures pins { pins.new ≡ without_gone pins.old (went_with change) }
+{
+    // The contract of `store` is what says here that the state is sound.
+    let _ = tree.store();
+    match change {
+        Some(change) => {
+            forget_gone(pins, went_with(&change));
+            change_tree(tree, roots, change);
+        }
+        None => {}
+    }
+}
+
+// Grants on the fragments of a directory that goes end, if one goes.
+fn forget_gone(pins: &mut Pins, went: Option<Ino>)
+    ensures { pins.new ≡ without_gone pins.old went }
+{
+    if let Some(dir) = went {
+        pins.forget_directory(dir);
+    }
+}
+
+// The supply after an operation that took this number of it, if it took one.
+fn supply_after(numbers: Numbers, number: Option<Ino>) -> Numbers
+    requires { IsSome number → IsSome (offer numbers) }
+    ensures { result ≡ after_taking numbers number }
+{
+    let mut left = numbers;
+    if number.is_some() {
+        let _ = left.draw();
+    }
+    left
+}

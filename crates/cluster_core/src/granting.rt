@@ -1,0 +1,109 @@
+//! Grants: a rank lets a request that waits somewhere change its fragments.
+ghost use Rattle.std.specs.Prelude.{◌≡◌, ◌≤◌, List, IfOk, OnErr, OnOk};
+ghost use Rattle.mds_types.specs.declared.entries.Entry.{Entry as Applied};
+ghost use Rattle.mdcache.specs.Frags.{MayRefuse};
+ghost use Rattle.sessions.specs.Table.{Table};
+ghost use Rattle.inode_table.specs.Numbers.{Supply};
+ghost use Rattle.cluster_core.specs.State.{state_of};
+ghost use Rattle.cluster_core.specs.Grants.{AreHeldAmong, GrantsWaiting, with_grants};
+
+use crate::events::Answer;
+use crate::masters::is_authority;
+use inboxes::{Inboxes, Pin, Pins};
+use mdcache::MdCache;
+use mds_types::{Frag, Ino, Rank, Refusal};
+use namespace_ops::changes;
+use objstore::Store;
+use std::alloc::{AllocError, Global};
+use subtree_map::Subtrees;
+
+/// A rank grants the first waiting copy of a request all its own fragments that the request would change now. Takes memory for
+/// the list of these, and for the grants, which are made on a copy: a refusal leaves all.
+pub fn grant_first<S: Store + Drop>(
+    alloc: Global,
+    tree: &mut MdCache<S>,
+    roots: &Subtrees,
+    inboxes: &Inboxes,
+    pins: &mut Pins,
+    rank: Rank,
+    client: u64,
+    tid: u64,
+) -> Result<Answer, Refusal>
+    ensures granted { (numbers : List Supply) (sessions : Table) (past : List Applied) → GrantsWaiting (state_of tree.old.state roots.now.roots numbers inboxes.now pins.old sessions) (state_of tree.new.state roots.now.roots numbers inboxes.now pins.new sessions) past past (MayRefuse tree.old tree.new) rank client tid result }
+    ensures same { tree.new.state ≡ tree.old.state }
+    ensures cap { tree.new.cache.cap ≡ tree.old.cache.cap }
+    ensures grows { tree.old.faults ≤ tree.new.faults }
+{
+    let Some(request) = inboxes.find(client, tid) else {
+        return Err(Refusal::InboxEmpty)
+    };
+    let changed = match changes(alloc, tree, &request.op) {
+        Ok(changed) => changed,
+        Err(refusal) => return Err(refusal),
+    };
+    let mine = match held_among(alloc, tree, roots, rank, &changed) {
+        Ok(mine) => mine,
+        Err(_) => return Err(Refusal::NoMemory),
+    };
+    if mine.is_empty() {
+        return Err(Refusal::NotAuthority);
+    }
+    match pin_all(pins, client, tid, &mine) {
+        Ok(()) => Ok(Answer::Nothing),
+        Err(_) => Err(Refusal::NoMemory),
+    }
+}
+
+// Those of some leaves of which a rank is the authority.
+fn held_among<S: Store + Drop>(
+    alloc: Global,
+    tree: &MdCache<S>,
+    roots: &Subtrees,
+    rank: Rank,
+    leaves: &Vec<(Ino, Frag)>,
+) -> Result<Vec<(Ino, Frag)>, AllocError>
+    ensures { IfOk result (λ held. AreHeldAmong tree.now.state roots.now.roots rank leaves.now.items held.items) }
+{
+    let mut held = Vec::new(alloc);
+    for leaf in leaves {
+        if is_authority(tree, roots, rank, leaf.0, leaf.1) {
+            held.push(*leaf)?;
+        }
+    }
+    Ok(held)
+}
+
+// Grants all these leaves for a request, or, for want of memory, none.
+fn pin_all(
+    pins: &mut Pins,
+    client: u64,
+    tid: u64,
+    leaves: &Vec<(Ino, Frag)>,
+) -> Result<(), AllocError>
+    ensures ok { OnOk result (pins.new ≡ with_grants pins.old leaves.now.items client tid) }
+    ensures err { OnErr result (pins.new ≡ pins.old) }
+{
+    *pins = granted(pins, client, tid, leaves)?;
+    Ok(())
+}
+
+// A copy of the grants with those of these leaves for a request.
+fn granted(
+    pins: &Pins,
+    client: u64,
+    tid: u64,
+    leaves: &Vec<(Ino, Frag)>,
+) -> Result<Pins, AllocError>
+    ensures { IfOk result (λ more. more ≡ with_grants pins.now leaves.now.items client tid) }
+{
+    let mut more = pins.try_clone()?;
+    for leaf in leaves {
+        more.pin(Pin {
+            dir: leaf.0,
+            frag: leaf.1,
+            client,
+            tid,
+        })?;
+    }
+    Ok(more)
+}

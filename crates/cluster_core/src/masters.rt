@@ -1,0 +1,147 @@
+//! Which rank answers a request, and whether it may change what the request changes.
+ghost use Rattle.std.specs.Prelude.{◌≡◌, ◌≤◌, ◌↔◌, ◌⊎◌, Some, None, IsTrue, MatchBool, IfOk, IfErr};
+ghost use Rattle.mds_types.specs.declared.refusals.Refusal.TheVariants.{NoMemory};
+ghost use Rattle.mds_types.specs.declared.ids.Rank.{Rank as RankNumber};
+ghost use Rattle.std.specs.Option.{option_copied};
+ghost use Rattle.inode_table.specs.Dirs.{IsLive};
+ghost use Rattle.mdcache.specs.Frags.{MayRefuse};
+ghost use Rattle.cluster_core.specs.Master.{HasForeign, IsMasterIn, LacksGrantIn, MayTouchAllIn, MayTouchEach, MayTouchIn, changes_others, main_dentry};
+ghost use Rattle.cluster_core.specs.Subtrees.{AreRoots, Rules};
+
+use inboxes::{Pin, Pins};
+use mdcache::MdCache;
+use mds_types::{Dentry, Frag, Ino, Op, Rank, Refusal};
+use namespace_ops::changes;
+use objstore::Store;
+use std::alloc::Global;
+use subtree_map::Subtrees;
+
+/// The master of an operation that a rank serves: the authority of its dentry's leaf, of a rename the destination's, of a
+/// readdir the directory's first. Where the directory isn't there, the rank itself. Takes no memory.
+pub fn master_of<S: Store + Drop>(
+    tree: &MdCache<S>,
+    roots: &Subtrees,
+    rank: Rank,
+    op: &Op,
+) -> Rank
+    requires { AreRoots tree.now.state roots.now.roots }
+    ensures { IsMasterIn tree.now.state roots.now.roots rank op.now result }
+{
+    let dir = op.destination();
+    // The contract of `store` is what says here that the tree is sound.
+    let _ = tree.store();
+    if !tree.is_dir(dir) {
+        return rank;
+    }
+    let leaf = match main_dentry(op) {
+        Some(dentry) => tree.frag_of(dentry),
+        None => tree.first_leaf(dir),
+    };
+    roots.authority(tree.dirs(), dir, leaf)
+}
+
+// The dentry whose leaf tells the master of an operation; a readdir has none.
+fn main_dentry(op: &Op) -> Option<&Dentry>
+    ensures { option_copied result ≡ main_dentry op.now }
+{
+    match op {
+        Op::Readdir { .. } => None,
+        Op::Lookup(dentry)
+        | Op::Readlink(dentry)
+        | Op::Create { dentry, .. }
+        | Op::Mkdir { dentry, .. }
+        | Op::Symlink { dentry, .. }
+        | Op::Setattr { dentry, .. }
+        | Op::Unlink(dentry)
+        | Op::Rmdir(dentry)
+        | Op::Rename { to: dentry, .. } => Some(dentry),
+    }
+}
+
+// Whether an operation may change other leaves than that which tells its master: a removed directory's, a rename's source.
+fn changes_others(op: &Op) -> bool
+    ensures { result ≡ changes_others op.now }
+{
+    matches!(op, Op::Rmdir(_) | Op::Rename { .. })
+}
+
+/// Whether a rank that is the master of an operation lacks a grant for it: it would change a leaf of another authority that
+/// isn't granted for this client and transaction number. Takes memory for the list of what would change, where that may be
+/// another leaf than its main one. Refused as a read is, and for want of memory; nothing changes either way.
+pub fn lacks_grant<S: Store + Drop>(
+    alloc: Global,
+    tree: &mut MdCache<S>,
+    roots: &Subtrees,
+    pins: &Pins,
+    rank: Rank,
+    client: u64,
+    tid: u64,
+    op: &Op,
+) -> Result<bool, Refusal>
+    requires valid { AreRoots tree.old.state roots.now.roots }
+    requires master { IsMasterIn tree.old.state roots.now.roots rank op.now rank }
+    ensures found { IfOk result (λ lacks. MatchBool lacks (LacksGrantIn tree.old.state roots.now.roots pins.now rank client tid op.now) (MayTouchAllIn tree.old.state roots.now.roots pins.now rank client tid op.now)) }
+    ensures refused { IfErr result (λ reason. (reason ≡ NoMemory) ⊎ MayRefuse tree.old tree.new op.now reason) }
+    ensures same { tree.new.state ≡ tree.old.state }
+    ensures cap { tree.new.cache.cap ≡ tree.old.cache.cap }
+    ensures grows { tree.old.faults ≤ tree.new.faults }
+{
+    if !changes_others(op) {
+        return Ok(false);
+    }
+    match changes(alloc, tree, op) {
+        Ok(leaves) => Ok(any_lacks(tree, roots, pins, rank, client, tid, &leaves)),
+        Err(refusal) => Err(refusal),
+    }
+}
+
+// Whether one of these leaves may not be changed.
+fn any_lacks<S: Store + Drop>(
+    tree: &MdCache<S>,
+    roots: &Subtrees,
+    pins: &Pins,
+    rank: Rank,
+    client: u64,
+    tid: u64,
+    leaves: &Vec<(Ino, Frag)>,
+) -> bool
+    requires { AreRoots tree.now.state roots.now.roots }
+    ensures { MatchBool result (HasForeign tree.now.state roots.now.roots pins.now rank client tid leaves.now.items) (MayTouchEach tree.now.state roots.now.roots pins.now rank client tid leaves.now.items) }
+{
+    for leaf in leaves {
+        if !may_touch(tree, roots, pins, rank, client, tid, leaf.0, leaf.1) {
+            return true;
+        }
+    }
+    false
+}
+
+// Whether a rank may change a leaf for a request: it is its authority, or the leaf is granted.
+fn may_touch<S: Store + Drop>(
+    tree: &MdCache<S>,
+    roots: &Subtrees,
+    pins: &Pins,
+    rank: Rank,
+    client: u64,
+    tid: u64,
+    dir: Ino,
+    frag: Frag,
+) -> bool
+    requires { AreRoots tree.now.state roots.now.roots }
+    ensures { IsTrue result ↔ MayTouchIn tree.now.state roots.now.roots pins.now rank client tid (dir, frag) }
+{
+    is_authority(tree, roots, rank, dir, frag) || pins.is_granted(&Pin { dir, frag, client, tid })
+}
+
+/// Whether a rank is the authority of a leaf. Takes no memory.
+pub fn is_authority<S: Store + Drop>(
+    tree: &MdCache<S>,
+    roots: &Subtrees,
+    rank: Rank,
+    dir: Ino,
+    frag: Frag,
+) -> bool
+    ensures { IsTrue result ↔ Rules tree.now.state roots.now.roots (dir, frag) rank }
+{
+    roots.find_authority(tree.dirs(), dir, frag) == Some(rank)
+}
