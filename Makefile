@@ -1,9 +1,10 @@
 # make                    proves every crate that the program stands on and builds it as ./cephmeta
 # make run                does so, and runs a script from standard input
 # make test               is the gate: every proof from nothing, the edits that must fail, the tests and the programs
+# make units [NAME..]     runs the tests of these files of tests/units or of all
 # make strength [CRATE..] tries the edits that the gate leaves out, of these crates or of all
 
-.PHONY: all run test strength
+.PHONY: all run test units strength
 
 all:
 	@cd crates/cephmeta && rt run -- script < /dev/null >&2
@@ -16,6 +17,7 @@ run: all
 test:
 	@rt ci
 	@tests/claims/run
+	@tests/units/run
 	@cp crates/cephmeta/out/cephmeta cephmeta
 	@examples/check
 	@tests/rows/run
@@ -23,13 +25,16 @@ test:
 	@tests/many_names/run
 	@tests/refused_growths/run
 
-strength:
-	@strength/run $(CRATES)
+units:
+	@tests/units/run $(NAMES)
 
-# the words after `strength` are crates
-ifeq (strength,$(firstword $(MAKECMDGOALS)))
-CRATES := $(wordlist 2,$(words $(MAKECMDGOALS)),$(MAKECMDGOALS))
-.PHONY: $(CRATES)
-$(CRATES):
+strength:
+	@strength/run $(NAMES)
+
+# the words after these two are no goals of their own
+ifneq (,$(filter units strength,$(firstword $(MAKECMDGOALS))))
+NAMES := $(wordlist 2,$(words $(MAKECMDGOALS)),$(MAKECMDGOALS))
+.PHONY: $(NAMES)
+$(NAMES):
 	@:
 endif

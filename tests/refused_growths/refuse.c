@@ -1,15 +1,12 @@
-/* Loaded before a program, it refuses one allocation: that of the number in REFUSED_GROWTH, counted from 1. Or it refuses one
-   after another, for a program that tries again after each refusal: the first allocation, then the second of those that
-   follow, then the third of those, and so on. It does so between two allocations of as many bytes as REFUSED_BETWEEN says,
-   by which the program tells where its tries begin and end. For each refusal there is a byte more in the file that
+/* Loaded before a program, it refuses one allocation: that of the number in REFUSED_GROWTH, counted from 1. Where REFUSED_GAP has a
+   number, it refuses one after another from there on, for a program that tries again after each refusal: so many allocations
+   later the next one, then one more later the next, and so on. For each refusal there is a byte more in the file that
    REFUSAL_TOLD names. */
 #define _GNU_SOURCE
 #include <dlfcn.h>
 #include <fcntl.h>
 #include <stdlib.h>
 #include <unistd.h>
-
-static long seen;
 
 static void tell(void)
 {
@@ -22,25 +19,18 @@ static void tell(void)
     close(file);
 }
 
-/* whether the next of the tries is to be refused this allocation */
-static int refuses_in_turn(size_t size, size_t signal)
+static int refuses(void)
 {
-    static int is_on;
-    static long turn = 1;
-    if (size == signal)
-        is_on = !is_on;
-    if (size == signal || !is_on || ++seen < turn)
+    static long seen, next, gap;
+    const char *first = getenv("REFUSED_GROWTH"), *later = getenv("REFUSED_GAP");
+    if (!next && first)
+        next = atol(first);
+    if (!gap && later)
+        gap = atol(later);
+    if (++seen != next)
         return 0;
-    seen = 0;
-    turn++;
-    return 1;
-}
-
-static int refuses(size_t size)
-{
-    const char *number = getenv("REFUSED_GROWTH"), *signal = getenv("REFUSED_BETWEEN");
-    if (signal ? !refuses_in_turn(size, strtoul(signal, NULL, 10)) : !number || ++seen != atol(number))
-        return 0;
+    if (gap)
+        next += gap++;
     tell();
     return 1;
 }
@@ -50,7 +40,7 @@ void *malloc(size_t size)
     static void *(*real)(size_t);
     if (!real)
         real = dlsym(RTLD_NEXT, "malloc");
-    return refuses(size) ? NULL : real(size);
+    return refuses() ? NULL : real(size);
 }
 
 void *realloc(void *block, size_t size)
@@ -58,5 +48,5 @@ void *realloc(void *block, size_t size)
     static void *(*real)(void *, size_t);
     if (!real)
         real = dlsym(RTLD_NEXT, "realloc");
-    return refuses(size) ? NULL : real(block, size);
+    return refuses() ? NULL : real(block, size);
 }

@@ -1,4 +1,0 @@
-pub mod Frames
-pub mod OneEntry
-pub mod Rows
-pub mod Unused

@@ -1,5 +1,0 @@
-use Rattle.inode_table.proofs.TableLaws.{empty_tabled}
-use Rattle.namespace_ops_tests.proofs.tests.plain_frags.PlainFrags.new.Goals as goal
-
-pub invariant_of-result : goal.invariant_of-result
-invariant_of-result c = rw (c.new.ensures.empty, c.new-2.ensures.homes) empty_tabled

@@ -1,3 +1,0 @@
-pub mod OneEntry
-pub mod PlainFrags
-pub mod Run

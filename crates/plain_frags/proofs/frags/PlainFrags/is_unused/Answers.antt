@@ -1,0 +1,11 @@
+use Rattle.std.proofs.Common.{rules, ◌≡◌, not, true, ◌↔◌, ap, subst, ◌∙◌}
+use Rattle.std.specs.List.{list_any}
+use Rattle.mds_types.specs.Tree.{IsUnused}
+use Rattle.plain_frags.specs.PlainFrags.{Kept, is_numbered}
+use Rattle.plain_frags.proofs.Unused.{unused_told}
+use Rattle.plain_frags.proofs.frags.PlainFrags.is_unused.Goals as goal
+
+pub returns-then-ne : goal.returns-then-ne
+returns-then-ne c =
+    subst (λ (k : Kept). (c.none_numbered.result ≡ true) ↔ IsUnused k.tree c.args.number.0) c.self.view_is
+    (unused_told _ c.args.number.0 _ (search rules) (c.none_numbered.ensures ∙ ap (λ rows. not (list_any (is_numbered c.args.number.0) rows)) c.iter.ensures))

@@ -1,0 +1,5 @@
+use Rattle.inode_table.proofs.TableLaws.{empty_tabled}
+use Rattle.plain_frags.proofs.frags.PlainFrags.new.Goals as goal
+
+pub invariant_of-result : goal.invariant_of-result
+invariant_of-result c = rw (c.new.ensures.empty, c.new-2.ensures.homes) empty_tabled

@@ -1,0 +1,11 @@
+use Rattle.std.proofs.Common.{◌≡◌, length}
+use Rattle.std.specs.List.{list_any}
+use Rattle.plain_frags.specs.PlainFrags.{is_numbered}
+use Rattle.plain_frags.proofs.frags.none_numbered.Given as goal
+
+-- the rows so far don't have the number
+abbrev pub invariant-loop-row : goal.invariant-loop-row
+invariant-loop-row l = list_any (is_numbered l.number.0) l.rows ≡ list_any (is_numbered l.number.0) l.fn.rows
+
+abbrev pub decreases-loop-row : goal.decreases-loop-row
+decreases-loop-row l = length l.rows

@@ -1,0 +1,2 @@
+pub mod PlainFrags
+pub mod Run

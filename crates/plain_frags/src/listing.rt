@@ -1,0 +1,36 @@
+//! The rows of a listing.
+ghost use Rattle.std.specs.Prelude.{◌≡◌, ◌∷◌, [], take, ◌<◌, ◌≤◌, length, nat_lt, IfOk, MatchOption};
+ghost use Rattle.plain_frags.specs.Run.{run};
+
+use mds_types::{Dentry, Ino, Inode, Listing, Name, PageSize};
+use sorted_map::Iter;
+use std::alloc::{AllocError, Global};
+
+/// Of the rows of one directory at the front, the first `max` with their names and inodes copied, and whether more follow.
+pub fn first_rows(
+    alloc: Global,
+    mut rows: Iter<'_, Dentry, Inode>,
+    dir: Ino,
+    max: PageSize,
+) -> Result<(Listing, bool), AllocError>
+    ensures listed { IfOk result (λ page. page.0 ≡ take max (run dir.0 rows.entry)) }
+    ensures more { IfOk result (λ page. page.1 ≡ nat_lt max (length (run dir.0 rows.entry))) }
+{
+    let most = usize::from(max.entries());
+    let mut list: Vec<(Name, Inode)> = Vec::new(alloc);
+    while let Some(row) = next_in(&mut rows, dir) {
+        if list.len() == most {
+            return Ok((Listing::from_vec(list), true));
+        }
+        list.push((row.0.name.try_clone()?, row.1.try_clone()?))?;
+    }
+    Ok((Listing::from_vec(list), false))
+}
+
+/// The next row, if it is one of the directory.
+pub fn next_in<'a>(rows: &mut Iter<'a, Dentry, Inode>, dir: Ino) -> Option<&'a (Dentry, Inode)>
+    ensures run { MatchOption result (run dir.0 rows.old ≡ []) (λ row. run dir.0 rows.old ≡ (row.now.0.name, row.now.1) ∷ run dir.0 rows.new) }
+    ensures fewer { MatchOption result (length rows.new ≤ length rows.old) (λ row. length rows.new < length rows.old) }
+{
+    rows.next().filter(|row| row.0.dir == dir)
+}
