@@ -1,10 +1,10 @@
 -- A walk over the leaves of a directory that lie properly inside a fragment, from hash to hash.
-use Rattle.std.proofs.Common.{◌≡◌, ◌⊎◌, inl, inr, ℕ, ◌+◌, ◌%◌, ◌^◌, ◌<◌, ◌≤◌, ◌&&◌, ◌==◌, Bool, true, false, List, Option, Some, None, refl, sym, ap, subst, ◌∙◌, arith}
+use Rattle.std.proofs.Common.{◌≡◌, ◌⊎◌, inl, inr, ℕ, ◌+◌, ◌%◌, ◌^◌, ◌<◌, ◌≤◌, ◌==◌, true, false, List, Some, None, refl, sym, ap, subst, ◌∙◌, arith}
 use Rattle.std.proofs.lemmas.Bool.{and_from, and_parts, cases_lt, eq-eqb, eqb-true}
 use Rattle.mds_types.specs.declared.ids.Ino.{Ino}
 use Rattle.mds_types.specs.Frag.{Contains, Fragment, IsFragment, span}
 use Rattle.fragtree.specs.FragTree.{HasLeaf, IsPick, IsTree, lies_inside}
-use Rattle.fragtree.proofs.Ranges.{Contains-from_range, ends_before, ends_low, ends_within, lies_inside-true, range_from_Contains, range_from_inside, span_pos}
+use Rattle.fragtree.proofs.Ranges.{Contains-from_range, ends_before, ends_low, ends_within, lies_inside-true, range_from_Contains, range_from_inside}
 use Rattle.inode_table.specs.Dirs.{Covers, Homes, IsLive, is_known, leaves_of}
 use Rattle.mds_types.specs.Leaf.{Leaf}
 use Rattle.subtree_map.specs.Changes.{is_inside}
@@ -65,6 +65,10 @@ module _ (leaves : List Fragment) (tree : IsTree leaves) (f : Fragment) (valid :
         let bits : leaf.bits ≡ g.bits = ap (λ (h : Fragment). h.bits) one in
         absurd (omega (arith, bits, fewer, inner.0))
 
+-- each turn comes nearer to the end of all hashes
+pub walk_on : (leaves : List Fragment) (f : Fragment) (hash : ℕ) (leaf : Fragment) (end : ℕ) → IsTree leaves → IsInsideAt leaves f hash (Some leaf) → end ≡ leaf.value + span leaf.bits → (hash < end) × (end ≤ 2 ^ 24)
+walk_on leaves f hash leaf end tree at ends = (omega (arith, at.3, ends), omega (arith, ends, ends_low leaf (is_fragment leaves leaf tree at.0)))
+
 -- of each leaf inside that begins before a hash this holds
 abbrev pub Done : List Fragment → Fragment → (Fragment → Type 0) → ℕ → Type 0
 Done leaves f P hash = (g : Fragment) → HasLeaf leaves g → lies_inside f g ≡ true → g.value < hash → P g
@@ -87,10 +91,6 @@ module _ (leaves : List Fragment) (tree : IsTree leaves) (f : Fragment) (valid :
       go : (g.value < hash) ⊎ (hash ≤ g.value) → P g
       go (inl earlier) = done g has inside earlier
       go (inr behind) = own behind
-
-  -- each turn comes nearer to the end of all hashes
-  pub walk_on : (hash : ℕ) (leaf : Fragment) (end : ℕ) → IsInsideAt leaves f hash (Some leaf) → end ≡ leaf.value + span leaf.bits → (hash < end) × (end ≤ 2 ^ 24)
-  walk_on hash leaf end at ends = (omega (arith, at.3, ends), omega (arith, ends, ends_low leaf (is_fragment leaves leaf tree at.0)))
 
   -- where none is left it holds of all inside
   pub walk_ends : (hash : ℕ) → Done leaves f P hash → IsInsideAt leaves f hash None → (g : Fragment) → HasLeaf leaves g → lies_inside f g ≡ true → P g

@@ -8,6 +8,7 @@ pub mod Offered
 pub mod RootLaws
 pub mod RunLaws
 pub mod Served
+pub mod Stays
 pub mod Stepped
 pub mod SubtreeLaws
 pub mod Worked

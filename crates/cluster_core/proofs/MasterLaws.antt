@@ -1,8 +1,11 @@
 -- Which leaves an operation changes, and which of them a rank may change.
-use Rattle.std.proofs.Common.{◌≡◌, ◌↔◌, ◌&&◌, inl, inr, ℕ, Bool, true, false, cond, List, [], ◌∷◌, refl, sym, subst, MatchBool, elim, arith}
+use Rattle.std.proofs.Common.{◌≡◌, ◌↔◌, ◌&&◌, inl, inr, ℕ, Bool, true, false, cond, List, [], ◌∷◌, Some, None, refl, sym, ap, ◌∙◌, subst, MatchBool, elim, arith}
 use Rattle.std.specs.List.{Contains}
 use Rattle.std.proofs.lemmas.Bool.{and_parts, true≢false}
+use Rattle.mds_types.specs.declared.dentries.Dentry.{Dentry}
+use Rattle.mds_types.specs.declared.ids.Ino.{Ino}
 use Rattle.mds_types.specs.declared.ids.Rank.{Rank}
+use Rattle.mds_types.specs.Frag.{Fragment}
 use Rattle.mds_types.specs.declared.operations.Op.{Op}
 use Rattle.mds_types.specs.declared.operations.Op.TheVariants.{Lookup, Readdir, Readlink, Create, Mkdir, Symlink, Setattr, Unlink, Rmdir, Rename}
 use Rattle.mds_types.specs.declared.replies.Reply.TheVariants.{Errno}
@@ -10,14 +13,17 @@ use Rattle.mds_types.specs.Outcomes.{is_errno}
 use Rattle.mds_types.specs.Step.{answers, destination_of, directory_of, within}
 use Rattle.mds_types.specs.Tree.{Tree, is_directory}
 use Rattle.inboxes.specs.declared.pins.Pin.{Pin}
-use Rattle.inode_table.specs.Dirs.{Covers}
+use Rattle.namehash.specs.Rjenkins.{hash_of}
+use Rattle.fragtree.specs.FragTree.{IsPick}
+use Rattle.inode_table.specs.Dirs.{Covers, leaves_of}
 use Rattle.namespace_ops.specs.ChangedFragments.{NamesOnce, changed_fragments, touched, unless_errno}
+use Rattle.namespace_ops.proofs.PickLaws.{picked}
 use Rattle.namespace_ops.proofs.Members.{first, first_or_later, later}
 use Rattle.subtree_map.specs.Authority.{Leaf, Roots}
 use Rattle.mdcache.specs.Shown.{shown_tree}
 use Rattle.mdcache.specs.State.{State as TreeState}
 use Rattle.cluster_core.specs.Grants.{AreHeldAmong}
-use Rattle.cluster_core.specs.Master.{HasForeign, IsMasterIn, LacksGrantIn, MayTouchAllIn, MayTouchEach, MayTouchIn, changes_others, main_leaf}
+use Rattle.cluster_core.specs.Master.{HasForeign, IsMasterIn, LacksGrantIn, MayTouchAllIn, MayTouchEach, MayTouchIn, changes_others, leaf_at, main_dentry, main_leaf}
 use Rattle.cluster_core.specs.Subtrees.{Rules}
 
 -- nothing is in an empty list
@@ -29,6 +35,28 @@ only_one x y has = elim (first_or_later x y [] has) [
   | inl same ↦ sym same
   | inr more ↦ absurd (not_in_none y more)
 ]
+
+-- the main leaf of an operation is of the directory that it leads to
+pub main_directory : (covers : Covers) (op : Op) → (main_leaf covers op).0.0 ≡ destination_of op
+main_directory covers (Lookup dentry) = refl
+main_directory covers (Readdir dir after max) = refl
+main_directory covers (Readlink dentry) = refl
+main_directory covers (Create dentry mode mtime) = refl
+main_directory covers (Mkdir dentry mode mtime) = refl
+main_directory covers (Symlink dentry target mtime) = refl
+main_directory covers (Setattr dentry given) = refl
+main_directory covers (Unlink dentry) = refl
+main_directory covers (Rmdir dentry) = refl
+main_directory covers (Rename from to) = refl
+
+-- it is the leaf of its dentry, or the directory's first one
+pub main_at : (covers : Covers) (op : Op) (dentry : Dentry) (f : Fragment) → Some dentry ≡ main_dentry op → IsPick (leaves_of covers dentry.dir.0) (hash_of dentry.name) f → (dentry.dir, f) ≡ main_leaf covers op
+main_at covers op dentry f is pick =
+    ap (λ (g : Fragment). (dentry.dir, g)) (sym (picked (leaves_of covers dentry.dir.0) (hash_of dentry.name) f pick)) ∙ ap (leaf_at covers (destination_of op)) is
+
+pub main_first : (covers : Covers) (op : Op) (dir : Ino) (f : Fragment) → dir.0 ≡ destination_of op → None ≡ main_dentry op → IsPick (leaves_of covers dir.0) 0 f → (dir, f) ≡ main_leaf covers op
+main_first covers op dir f there is pick =
+    ap (λ (g : Fragment). (dir, g)) (sym (picked (leaves_of covers dir.0) 0 f pick)) ∙ ap (λ (d : ℕ). leaf_at covers d None) there ∙ ap (leaf_at covers (destination_of op)) is
 
 -- an operation that changes no other leaf changes at most its main one
 one_leaf : (covers : Covers) (tree : Tree) (op : Op) → changes_others op ≡ false → (leaf : Leaf) → Contains (touched covers tree op) leaf → leaf ≡ main_leaf covers op

@@ -1,21 +1,19 @@
 -- What a change of the tree makes of the roots, and of every leaf's authority.
-use Rattle.std.proofs.Common.{◌≡◌, ◌⊎◌, inl, inr, Bool, true, false, cond, Option, Some, None, refl, sym, ap, subst, ◌∙◌}
+use Rattle.std.proofs.Common.{◌≡◌, Bool, true, false, cond, Option, Some, None, refl, sym, ap, subst, ◌∙◌}
 use Rattle.std.specs.Prelude.{IfSome, MatchBool, MatchOption, ℕ}
 use Rattle.std.specs.FinMap as map
 use Rattle.mds_types.specs.declared.ids.Ino.{Ino}
 use Rattle.mds_types.specs.declared.dentries.Dentry.{Dentry}
 use Rattle.mds_types.specs.declared.inodes.Inode.{Inode}
 use Rattle.mds_types.specs.Frag.{Fragment}
-use Rattle.mds_types.specs.Step.{IsMove}
 use Rattle.mds_types.specs.Tree.{is_dir_kind}
-use Rattle.inode_table.specs.declared.dirs.Home.{Home}
-use Rattle.inode_table.specs.Dirs.{Covers, Homes, IsLive, IsTable, MayGo, MayMove}
+use Rattle.inode_table.specs.Dirs.{Covers, Homes, IsTable, MayGo, MayMove}
 use Rattle.inode_table.specs.TreeTable.{home_at, with_home}
-use Rattle.inode_table.proofs.TableLaws.{dir_or_not, may_come, may_drop, with_dir, with_file}
+use Rattle.inode_table.proofs.TableLaws.{may_come, may_drop, with_dir, with_file}
 use Rattle.namespace_ops.specs.Changes.{MayChange, directory_at}
 use Rattle.namespace_ops.specs.declared.plans.Change.{Change}
 use Rattle.namespace_ops.specs.declared.plans.Change.TheVariants.{Add, Set, Remove, Move}
-use Rattle.subtree_map.specs.Authority.{HasAuthority, IsSubtrees, Leaf, Roots}
+use Rattle.subtree_map.specs.Authority.{HasAuthority, IsSubtrees, Roots}
 use Rattle.subtree_map.specs.Changes.{HaveOneAuthority, IsRootMerge, IsRootSplit}
 use Rattle.subtree_map.specs.Moves.{HasRoomToMove, IsSettled}
 use Rattle.subtree_map.proofs.Options.{one_value}
@@ -103,9 +101,9 @@ changes_soundly (Remove dentry leaf went) old new before after sound may makes f
     (lose before after old.homes old.covers went sound.table valid (subst (λ (r : Roots). LoseDirectory r after went) follow.1 follow.2) (removable old dentry leaf went sound may))
 changes_soundly (Move from source to target went) old new before after sound may makes follow valid =
     at_table before after old.homes new.homes (rows_but moved_homes went) old.covers new.covers (rows_but old.covers went) homes_are covers_are (
-      sound_on before settled after old.homes moved_homes (rows_but moved_homes went) old.covers old.covers (rows_but old.covers went) first
-      (lose settled after moved_homes old.covers went table first.valid follow.2 (replaces old sound from to source target inode went may makes.1))
-      (λ leaf was is. record { known = moved_known old.homes old.covers sound.table to inode may_settle leaf.0.0 ∙ was.known; stands = was.stands })
+    sound_on before settled after old.homes moved_homes (rows_but moved_homes went) old.covers old.covers (rows_but old.covers went) first
+    (lose settled after moved_homes old.covers went table first.valid follow.2 (replaces old sound from to source target inode went may makes.1))
+    (λ leaf was is. record { known = moved_known old.homes old.covers sound.table to inode may_settle leaf.0.0 ∙ was.known; stands = was.stands })
     )
   where
     inode : Inode
@@ -196,7 +194,7 @@ module _ (old new : State) (before after : Roots) (sound : IsSound old) (valid :
     children_have child rank is has =
         subst (λ (h : Homes). HasAuthority after h new.covers (dir, child) rank) (sym (ap (λ (s : State). s.homes) split.regrouped.left))
         (child_authority before after old.homes old.covers sound.table valid dir.0 frag nb split.cover new.covers roots split.divided split.can.stands split.can.fits split.regrouped.whole (ap (λ (s : State). s.covers) split.regrouped.left)
-          child rank is (record { known = split.regrouped.known; stands = split.can.stands }) has)
+        child rank is (record { known = split.regrouped.known; stands = split.can.stands }) has)
 
   -- leaves were merged that had one authority
   module _ (merge : IsMergedInto old new dir frag) (roots : IsRootMerge before after dir.0 frag) (one : HaveOneAuthority before old.homes old.covers dir.0 frag) where

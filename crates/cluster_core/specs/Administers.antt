@@ -111,7 +111,7 @@ told_job (Some job) = Job job
 abbrev pub BeginsAt : (old new : State) → Rank → Leaf → Result (Option Begun) Refusal → Type 0
 BeginsAt old new rank leaf (Ok job) = IsAuthority old leaf rank × Begins old.tree new.tree leaf (Ok job)
 BeginsAt old new rank leaf (Err reason) =
-    ((reason ≡ NotAuthority) × IsLive old.tree.homes old.tree.covers leaf × (IsAuthority old leaf rank → ⊥))
+    ((reason ≡ NotAuthority) × IsLive old.tree.homes old.tree.covers leaf × (IsAuthority old leaf rank → ⊥) × (new.tree ≡ old.tree))
     ⊎ ((IsLive old.tree.homes old.tree.covers leaf → IsAuthority old leaf rank) × Begins old.tree new.tree leaf (Err reason))
 
 abbrev pub BeginsCommit : (old new : Core) → (past now : List Entry) → Rank → Leaf → Result Answer Refusal → Type 0

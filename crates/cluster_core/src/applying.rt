@@ -1,5 +1,5 @@
 //! Applying a request: everything that may be refused is made first, and then it is done, which can't fail.
-ghost use Rattle.std.specs.Prelude.{◌≡◌, ◌<◌, ◌++◌, ◌∷◌, [], length, set, vec_len, vec_capacity, IsSome, MatchResult, OnOk};
+ghost use Rattle.std.specs.Prelude.{◌≡◌, ◌<◌, ◌++◌, ◌∷◌, [], true, length, set, vec_len, vec_capacity, IsSome, MatchResult, OnOk};
 ghost use Rattle.std.specs.Option.{option_copied};
 ghost use Rattle.mds_types.specs.Step.{step, number_or};
 ghost use Rattle.inode_table.specs.Numbers.{offer};

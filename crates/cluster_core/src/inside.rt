@@ -28,12 +28,7 @@ pub fn is_all_of<S: Store + Drop>(
 }
 
 /// Whether a leaf of a directory that lies properly inside a fragment is pinned. Takes no memory.
-pub fn is_any_pinned<S: Store + Drop>(
-    tree: &MdCache<S>,
-    pins: &Pins,
-    dir: Ino,
-    frag: Frag,
-) -> bool
+pub fn is_any_pinned<S: Store + Drop>(tree: &MdCache<S>, pins: &Pins, dir: Ino, frag: Frag) -> bool
     ensures { IsTrue result ↔ IsAnyPinned tree.now.state.homes tree.now.state.covers pins.now dir frag }
 {
     some_pinned(tree.dirs(), pins, dir, frag)
@@ -77,8 +72,8 @@ fn some_pinned(dirs: &Dirs, pins: &Pins, dir: Ino, frag: Frag) -> bool
 // The leaf properly inside a fragment that contains a hash from its first one on, if one does; otherwise each of those inside
 // begins before the hash.
 fn inside_at(dirs: &Dirs, dir: Ino, frag: Frag, hash: u32) -> Option<Frag>
-    requires from { frag.value ≤ hash }
-    ensures inside { IsInsideAt (leaves_of dirs.now.trees dir.0) frag hash result }
+    requires { frag.value ≤ hash }
+    ensures { IsInsideAt (leaves_of dirs.now.trees dir.0) frag hash result }
 {
     if hash >= end_of(frag) {
         return None;

@@ -3,9 +3,10 @@ ghost use Rattle.std.specs.Prelude.{◌≡◌, ◌≤◌, ◌↔◌, ◌⊎◌, 
 ghost use Rattle.mds_types.specs.declared.refusals.Refusal.TheVariants.{NoMemory};
 ghost use Rattle.mds_types.specs.declared.ids.Rank.{Rank as RankNumber};
 ghost use Rattle.std.specs.Option.{option_copied};
-ghost use Rattle.inode_table.specs.Dirs.{IsLive};
+ghost use Rattle.fragtree.specs.FragTree.{HasLeaf};
+ghost use Rattle.inode_table.specs.Dirs.{leaves_of};
 ghost use Rattle.mdcache.specs.Frags.{MayRefuse};
-ghost use Rattle.cluster_core.specs.Master.{HasForeign, IsMasterIn, LacksGrantIn, MayTouchAllIn, MayTouchEach, MayTouchIn, changes_others, main_dentry};
+ghost use Rattle.cluster_core.specs.Master.{HasForeign, IsMasterIn, LacksGrantIn, MayTouchAllIn, MayTouchEach, MayTouchIn, changes_others, main_dentry, main_leaf};
 ghost use Rattle.cluster_core.specs.Subtrees.{AreRoots, Rules};
 
 use inboxes::{Pin, Pins};
@@ -27,17 +28,24 @@ pub fn master_of<S: Store + Drop>(
     requires { AreRoots tree.now.state roots.now.roots }
     ensures { IsMasterIn tree.now.state roots.now.roots rank op.now result }
 {
-    let dir = op.destination();
     // The contract of `store` is what says here that the tree is sound.
     let _ = tree.store();
-    if !tree.is_dir(dir) {
+    if !tree.is_dir(op.destination()) {
         return rank;
     }
-    let leaf = match main_dentry(op) {
-        Some(dentry) => tree.frag_of(dentry),
-        None => tree.first_leaf(dir),
-    };
-    roots.authority(tree.dirs(), dir, leaf)
+    let leaf = main_leaf(tree, op);
+    roots.authority(tree.dirs(), leaf.0, leaf.1)
+}
+
+// The leaf that tells the master of an operation.
+fn main_leaf<S: Store + Drop>(tree: &MdCache<S>, op: &Op) -> (Ino, Frag)
+    ensures leaf { result ≡ main_leaf tree.now.state.covers op.now }
+    ensures stands { HasLeaf (leaves_of tree.now.state.covers result.0.0) result.1 }
+{
+    match main_dentry(op) {
+        Some(dentry) => (dentry.dir, tree.frag_of(dentry)),
+        None => (op.destination(), tree.first_leaf(op.destination())),
+    }
 }
 
 // The dentry whose leaf tells the master of an operation; a readdir has none.

@@ -89,7 +89,7 @@ fn reserve_split<S: Store + Drop>(
     ensures refused { IfErr result (MayNotSplit tree.now tree.now dir frag bits) }
     ensures same { roots.new.roots ≡ roots.old.roots }
     ensures promises { roots.new.promises ≡ roots.old.promises }
-    ensures sound { OnOk result (IsSound tree.now.state) }
+    ensures sound { IsSound tree.now.state }
 {
     if let Err(refusal) = tree.check_split(dir, frag, bits) {
         return Err(refusal);
@@ -115,7 +115,7 @@ fn reserve_merge<S: Store + Drop>(
     ensures refused { IfErr result (MayNotMerge tree.now tree.now dir frag) }
     ensures same { roots.new.roots ≡ roots.old.roots }
     ensures promises { roots.new.promises ≡ roots.old.promises }
-    ensures sound { OnOk result (IsSound tree.now.state) }
+    ensures sound { IsSound tree.now.state }
 {
     if let Err(refusal) = tree.check_merge(dir, frag) {
         return Err(refusal);

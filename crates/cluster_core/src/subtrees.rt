@@ -1,6 +1,5 @@
 //! The subtree roots beside the tree: whose a leaf is, and what a change of the tree makes of the roots.
-ghost use Rattle.std.specs.Prelude.{◌≡◌, ◌≤◌, MatchOption, IfSome, OnOk, OnErr, IfErr};
-ghost use Rattle.mds_types.specs.declared.ids.Rank.{Rank as RankNumber};
+ghost use Rattle.std.specs.Prelude.{◌≡◌, MatchOption, IfSome, OnOk, OnErr, IfErr};
 ghost use Rattle.mds_types.specs.declared.refusals.Refusal.TheVariants.{NoMemory};
 ghost use Rattle.inode_table.specs.Dirs.{IsLive, MayMove};
 ghost use Rattle.inode_table.specs.TreeTable.{home_at};

@@ -100,6 +100,6 @@ impl Pins {
     pub fn forget_directory(&mut self, dir: Ino)
         ensures { self.new ≡ left_without (is_in dir) self.old }
     {
-        self.pins.retain(|pin| pin.dir != dir);
+        self.pins.retain(|pin| !(pin.dir == dir));
     }
 }

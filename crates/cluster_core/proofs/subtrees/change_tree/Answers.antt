@@ -1,31 +1,24 @@
-use Rattle.std.proofs.Common.{rules, ◌≡◌, ◌≤◌, MatchOption, IfSome, OnOk, OnErr, IfErr, ℕ, ◌+◌, ◌-◌, ◌*◌, ◌<◌, length, ◌/◌, ◌%◌, Bool, true, false, nat_eq, nat_lt, List, [], ◌∷◌, ◌++◌, slice_index_or, slice_set, bit_and, bit_or, Fits, w8, w32, w64, Bor, MutBor}
-use Rattle.mds_types.specs.declared.ids.Rank.{Rank as RankNumber}
-use Rattle.mds_types.specs.declared.refusals.Refusal.TheVariants.{NoMemory}
-use Rattle.inode_table.specs.Dirs.{IsLive, MayMove}
-use Rattle.inode_table.specs.TreeTable.{home_at}
-use Rattle.namespace_ops.specs.ChangedFragments.{gone_with}
-use Rattle.namespace_ops.specs.Changes.{MayChange}
-use Rattle.subtree_map.specs.Authority.{IsSubtrees}
-use Rattle.subtree_map.specs.Moves.{HasRoomToMove, IsSettled}
-use Rattle.mdcache.specs.Changes.{Makes}
-use Rattle.mdcache.specs.Frags.{IsReady as IsReadyIn}
-use Rattle.mdcache.specs.Made.{IsRight}
-use Rattle.mdcache.specs.Shown.{shown_tree}
-use Rattle.cluster_core.specs.Subtrees.{AreRoots, FollowChange, HasRoomFor, KeepsAuthorities, LoseDirectory, NoNewRank, Rules, SettleMoving}
+use Rattle.std.proofs.Common.{Option, subst}
+use Rattle.mds_types.specs.declared.ids.Ino.{Ino}
+use Rattle.cluster_core.specs.Subtrees.{LoseDirectory}
+use Rattle.cluster_core.proofs.SubtreeLaws.{changes_soundly}
 use Rattle.cluster_core.proofs.subtrees.change_tree.Goals as goal
 
--- src/subtrees.rt:66:1
 pub returns-clause-roots : goal.returns-clause-roots
-returns-clause-roots g c = ?
+returns-clause-roots g c = (
+  c.settle.new.roots.roots,
+  c.settle.ensures.settled,
+  subst (λ (went : Option Ino). LoseDirectory c.settle.new.roots.roots c.lose.new.roots.roots went) c.went_with-went.ensures c.lose.ensures.roots,
+)
 
--- src/subtrees.rt:66:1
 pub returns-clause-authority : goal.returns-clause-authority
-returns-clause-authority g c = ?
+returns-clause-authority g c =
+    (changes_soundly c.args.change c.args.tree.now.state c.apply.new.self.state c.args.roots.now.roots c.lose.new.roots.roots c.settle.ensures.sound c.requires.may c.apply.ensures.made (returns-clause-roots g c) c.requires.valid).keeps
 
--- src/subtrees.rt:66:1
 pub returns-clause-ranks : goal.returns-clause-ranks
-returns-clause-ranks g c = ?
+returns-clause-ranks g c =
+    (changes_soundly c.args.change c.args.tree.now.state c.apply.new.self.state c.args.roots.now.roots c.lose.new.roots.roots c.settle.ensures.sound c.requires.may c.apply.ensures.made (returns-clause-roots g c) c.requires.valid).ranks
 
--- src/subtrees.rt:66:1
 pub returns-clause-valid : goal.returns-clause-valid
-returns-clause-valid g c = ?
+returns-clause-valid g c =
+    (changes_soundly c.args.change c.args.tree.now.state c.apply.new.self.state c.args.roots.now.roots c.lose.new.roots.roots c.settle.ensures.sound c.requires.may c.apply.ensures.made (returns-clause-roots g c) c.requires.valid).valid

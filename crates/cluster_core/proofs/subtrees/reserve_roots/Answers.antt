@@ -1,23 +1,38 @@
-use Rattle.std.proofs.Common.{rules, ◌≡◌, ◌≤◌, MatchOption, IfSome, OnOk, OnErr, IfErr, ℕ, ◌+◌, ◌-◌, ◌*◌, ◌<◌, length, ◌/◌, ◌%◌, Bool, true, false, nat_eq, nat_lt, List, [], ◌∷◌, ◌++◌, slice_index_or, slice_set, bit_and, bit_or, Fits, w8, w32, w64, Bor, MutBor}
-use Rattle.mds_types.specs.declared.ids.Rank.{Rank as RankNumber}
-use Rattle.mds_types.specs.declared.refusals.Refusal.TheVariants.{NoMemory}
-use Rattle.inode_table.specs.Dirs.{IsLive, MayMove}
+use Rattle.std.proofs.Common.{sym, subst}
+use Rattle.std.specs.Prelude.{IfSome}
+use Rattle.std.proofs.lemmas.Result.{on_ok_weaker}
+use Rattle.mds_types.specs.declared.ids.Ino.{Ino}
+use Rattle.inode_table.specs.Dirs.{Covers, Homes, MayMove}
 use Rattle.inode_table.specs.TreeTable.{home_at}
-use Rattle.namespace_ops.specs.ChangedFragments.{gone_with}
 use Rattle.namespace_ops.specs.Changes.{MayChange}
-use Rattle.subtree_map.specs.Authority.{IsSubtrees}
-use Rattle.subtree_map.specs.Moves.{HasRoomToMove, IsSettled}
-use Rattle.mdcache.specs.Changes.{Makes}
-use Rattle.mdcache.specs.Frags.{IsReady as IsReadyIn}
-use Rattle.mdcache.specs.Made.{IsRight}
+use Rattle.namespace_ops.specs.declared.plans.Change.{Change}
+use Rattle.subtree_map.specs.Moves.{HasRoomToMove}
+use Rattle.mdcache.specs.Frags.{IsReady}
 use Rattle.mdcache.specs.Shown.{shown_tree}
-use Rattle.cluster_core.specs.Subtrees.{AreRoots, FollowChange, HasRoomFor, KeepsAuthorities, LoseDirectory, NoNewRank, Rules, SettleMoving}
+use Rattle.cluster_core.specs.Subtrees.{HasRoomFor}
+use Rattle.cluster_core.proofs.SubtreeLaws.{over, room_for}
 use Rattle.cluster_core.proofs.subtrees.reserve_roots.Goals as goal
 
--- src/subtrees.rt:58:36
 pub reserve_move-requires : goal.reserve_move-requires
-reserve_move-requires g c = ?
+reserve_move-requires g c =
+    let ready = subst (λ (ch : Change). IsReady c.args.tree.now ch) c.in-Move.is c.requires.ready in
+    let may = subst (λ (ch : Change). MayChange (shown_tree c.args.tree.now.state) c.args.tree.now.state.covers ch) c.in-Move.is c.requires.may in
+    record {
+      may =
+          subst (λ (h : Homes). IfSome c.moving.result (λ (dir : Ino). MayMove h dir.0 (home_at c.in-Move.to))) (sym c.dirs.ensures.homes)
+          ((c.moving.ensures c.in-Move.from c.in-Move.to c.in-Move.source c.in-Move.target c.in-Move.gone ready).1 may);
+    }
 
--- src/subtrees.rt:43:1
 pub returns-in-Move-clause-room : goal.returns-in-Move-clause-room
-returns-in-Move-clause-room g c = ?
+returns-in-Move-clause-room g c =
+    let ready = subst (λ (ch : Change). IsReady c.args.tree.now ch) c.in-Move.is c.requires.ready in
+    let may = subst (λ (ch : Change). MayChange (shown_tree c.args.tree.now.state) c.args.tree.now.state.covers ch) c.in-Move.is c.requires.may in
+    let along = (c.moving.ensures c.in-Move.from c.in-Move.to c.in-Move.source c.in-Move.target c.in-Move.gone ready).0 in
+    on_ok_weaker c.reserve_move.result
+    (λ room.
+    let there =
+    over (λ (h : Homes) (cs : Covers). IfSome c.moving.result (λ (dir : Ino). HasRoomToMove c.reserve_move.new.roots.roots c.reserve_move.new.roots.room h cs dir.0 (home_at c.in-Move.to)))
+    c.args.tree.now.state.homes c.dirs.result.now.homes c.args.tree.now.state.covers c.dirs.result.now.trees (sym c.dirs.ensures.homes) (sym c.dirs.ensures.trees) room in
+    subst (λ (ch : Change). HasRoomFor ch c.args.tree.now.state c.reserve_move.new.roots.roots c.reserve_move.new.roots.room) (sym c.in-Move.is)
+    (room_for c.args.tree.now.state c.in-Move.from c.in-Move.to c.in-Move.source c.in-Move.target c.in-Move.gone c.moving.result may along c.reserve_move.new.roots.roots c.reserve_move.new.roots.room there))
+    c.reserve_move.ensures.room

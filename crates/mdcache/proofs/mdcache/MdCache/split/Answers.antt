@@ -1,4 +1,4 @@
-use Rattle.std.proofs.Common.{rules, ◌+◌, ◌-◌, ◌<◌, ◌^◌, inl, inr, refl, sym, subst, ◌∙◌, ap}
+use Rattle.std.proofs.Common.{rules, ◌+◌, ◌-◌, ◌<◌, ◌^◌, inr, refl, subst, ◌∙◌, ap}
 use Rattle.std.specs.Prelude.{map as each, string_bytes, [], ◌∷◌, Ok, Err}
 use Rattle.fragtree.specs.FragTree.{CanSplit, RefusesSplit}
 use Rattle.inode_table.specs.Dirs.{leaves_of}

@@ -1,0 +1,89 @@
+-- What an administrator's step on the tree leaves: each leaf keeps its authority.
+use Rattle.std.proofs.Common.{◌≡◌, ℕ, Bool, true, false, inl, inr, MatchBool, List, Option, Some, None, Result, Ok, Err, ap}
+use Rattle.mds_types.specs.declared.entries.Entry.{Entry}
+use Rattle.mds_types.specs.declared.ids.Ino.{Ino}
+use Rattle.mds_types.specs.declared.ids.Rank.{Rank}
+use Rattle.mds_types.specs.declared.refusals.Refusal.{Refusal}
+use Rattle.mds_types.specs.declared.refusals.Refusal.TheVariants.{NotAuthority}
+use Rattle.purge_list.specs.PurgeList.{first_name}
+use Rattle.commit_jobs.specs.declared.jobs.Job.{Job as Begun}
+use Rattle.dentry_cache.specs.Cache.{Leaf, Unsaved}
+use Rattle.mdcache.specs.Commits.{BeginsWith, Drops, Ends}
+use Rattle.mdcache.specs.Objects.{Purges, PurgesName, SavesTree}
+use Rattle.mdcache.specs.State.{State as TreeState}
+use Rattle.subtree_map.specs.Authority.{Roots}
+use Rattle.cluster_core.specs.declared.events.Answer.{Answer}
+use Rattle.cluster_core.specs.Administers.{AdministersTree, BeginsAt, EvictsOne, nothing, told_job}
+use Rattle.cluster_core.specs.Serve.{IsLeft}
+use Rattle.cluster_core.specs.State.{Core, State}
+use Rattle.cluster_core.specs.Subtrees.{AreRoots, KeepsRoots}
+use Rattle.cluster_core.proofs.Kept.{keeps_same, keeps_tables}
+
+-- directories and leaves stay
+abbrev TablesStay : (old new : TreeState) → Type 0
+TablesStay old new = (new.homes ≡ old.homes) × (new.covers ≡ old.covers)
+
+same_tables : (old new : TreeState) → new ≡ old → TablesStay old new
+same_tables old new same = (ap (λ (s : TreeState). s.homes) same, ap (λ (s : TreeState). s.covers) same)
+
+module _ (old new : TreeState) where
+  begun : (unsaved : Option Unsaved) (leaf : Leaf) (job : Option Begun) → BeginsWith old new leaf unsaved job → TablesStay old new
+  begun None leaf job h = same_tables old new h.1
+  begun (Some u) leaf None h = absurd h
+  begun (Some u) leaf (Some job) h = (ap (λ (s : TreeState). s.homes) h.2, ap (λ (s : TreeState). s.covers) h.2)
+
+  ended : (before after : ℕ) (job : Begun) (result : Result (Unit {0}) Refusal) → Ends old new before after job result → TablesStay old new
+  ended before after job (Ok done) h = (ap (λ (s : TreeState). s.homes) h.left, ap (λ (s : TreeState). s.covers) h.left)
+  ended before after job (Err reason) h = same_tables old new h.1
+
+  dropped : (number : ℕ) (result : Result (Unit {0}) Refusal) → Drops old new number result → TablesStay old new
+  dropped number (Ok done) h = (ap (λ (s : TreeState). s.homes) h.left, ap (λ (s : TreeState). s.covers) h.left)
+  dropped number (Err reason) h = same_tables old new h.2
+
+  saved : (before after : ℕ) (dir : Ino) (result : Result (Unit {0}) Refusal) → SavesTree old new before after dir result → TablesStay old new
+  saved before after dir (Ok done) h = (ap (λ (s : TreeState). s.homes) h.1, ap (λ (s : TreeState). s.covers) h.1)
+  saved before after dir (Err reason) h = same_tables old new h.1
+
+  purged : (before after : ℕ) (name : Option (List ℕ)) (result : Result (Unit {0}) Refusal) → PurgesName old new before after name result → TablesStay old new
+  purged before after None result h = same_tables old new h.1
+  purged before after (Some name) (Ok done) h = (ap (λ (s : TreeState). s.homes) h.0, ap (λ (s : TreeState). s.covers) h.0)
+  purged before after (Some name) (Err reason) h = same_tables old new h.1
+
+module _ (old new : State) (past now : List Entry) (valid : AreRoots old.tree old.roots) where
+  -- a step whose work leaves directories and leaves
+  by_work : {X : Type 0} (told : X → Answer) (Did : Result X Refusal → Type 0) → ((result : Result X Refusal) → Did result → TablesStay old.tree new.tree) → (result : Result Answer Refusal)
+      → AdministersTree old new past now told Did result → KeepsRoots old.tree new.tree old.roots new.roots
+  by_work told Did stays (Ok answer) h = let s = stays (Ok h.0.0) h.0.2 in keeps_tables old.tree new.tree old.roots new.roots s.0 s.1 h.1 valid
+  by_work told Did stays (Err reason) h = let s = stays (Err reason) h.0.0 in keeps_tables old.tree new.tree old.roots new.roots s.0 s.1 h.1 valid
+
+  begun_at : (rank : Rank) (leaf : Leaf) (result : Result (Option Begun) Refusal) → BeginsAt old new rank leaf result → TablesStay old.tree new.tree
+  begun_at rank leaf (Ok job) h = begun old.tree new.tree _ leaf job h.1.2
+  begun_at rank leaf (Err reason) (inl h) = same_tables old.tree new.tree h.3
+  begun_at rank leaf (Err reason) (inr h) = same_tables old.tree new.tree h.1.1
+
+  pub begun_keeps : (rank : Rank) (leaf : Leaf) (result : Result Answer Refusal) → AdministersTree old new past now told_job (BeginsAt old new rank leaf) result → KeepsRoots old.tree new.tree old.roots new.roots
+  begun_keeps rank leaf result h = by_work told_job (BeginsAt old new rank leaf) (begun_at rank leaf) result h
+
+  pub ended_keeps : (before after : ℕ) (job : Begun) (result : Result Answer Refusal) → AdministersTree old new past now nothing (Ends old.tree new.tree before after job) result → KeepsRoots old.tree new.tree old.roots new.roots
+  ended_keeps before after job result h = by_work nothing (Ends old.tree new.tree before after job) (ended old.tree new.tree before after job) result h
+
+  pub dropped_keeps : (number : ℕ) (result : Result Answer Refusal) → AdministersTree old new past now nothing (Drops old.tree new.tree number) result → KeepsRoots old.tree new.tree old.roots new.roots
+  dropped_keeps number result h = by_work nothing (Drops old.tree new.tree number) (dropped old.tree new.tree number) result h
+
+  pub saved_keeps : (before after : ℕ) (dir : Ino) (result : Result Answer Refusal) → AdministersTree old new past now nothing (SavesTree old.tree new.tree before after dir) result → KeepsRoots old.tree new.tree old.roots new.roots
+  saved_keeps before after dir result h = by_work nothing (SavesTree old.tree new.tree before after dir) (saved old.tree new.tree before after dir) result h
+
+  pub purged_keeps : (before after : ℕ) (result : Result Answer Refusal) → AdministersTree old new past now nothing (Purges old.tree new.tree before after) result → KeepsRoots old.tree new.tree old.roots new.roots
+  purged_keeps before after result h = by_work nothing (Purges old.tree new.tree before after) (purged old.tree new.tree before after (first_name old.tree.purge)) result h
+
+-- an eviction leaves the whole state
+pub evicted_keeps : (old new : Core) (past now : List Entry) (rank : Rank) (result : Result Answer Refusal) → AreRoots old.state.tree old.state.roots → AdministersTree old.state new.state past now nothing (EvictsOne old new rank) result
+    → KeepsRoots old.state.tree new.state.tree old.state.roots new.state.roots
+evicted_keeps old new past now rank (Ok answer) valid h = keeps_same old.state.tree new.state.tree old.state.roots new.state.roots (ap (λ (s : State). s.tree) h.0.2.1) h.1 valid
+evicted_keeps old new past now rank (Err reason) valid h = keeps_same old.state.tree new.state.tree old.state.roots new.state.roots (ap (λ (s : State). s.tree) h.0.1.left) h.1 valid
+
+-- at a rank that isn't there all is left
+pub at_rank_keeps : (old new : State) (past now : List Entry) (here : Bool) (result : Result Answer Refusal) {done : Type 0} → AreRoots old.tree old.roots → (done → KeepsRoots old.tree new.tree old.roots new.roots)
+    → MatchBool here done ((result ≡ Err NotAuthority) × IsLeft old new past now) → KeepsRoots old.tree new.tree old.roots new.roots
+at_rank_keeps old new past now true result valid go h = go h
+at_rank_keeps old new past now false result valid go h = keeps_same old.tree new.tree old.roots new.roots (ap (λ (s : State). s.tree) h.1.left) (ap (λ (s : State). s.roots) h.1.left) valid
