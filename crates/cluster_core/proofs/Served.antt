@@ -41,7 +41,7 @@ not_trimmed past client tid oldest new (inl below) = omega (arith, below, new.ma
 not_trimmed past client tid oldest new (inr below) = omega (arith, below, new.own)
 
 -- what waits isn't none
-waits_some : (front : Request) → Some front ≡ slice_get {A = Request} [] 0 → ⊥
+waits_some : (front : Request) → Some front ≡ None → ⊥
 waits_some front is = cc
 
 module _ (f : TreeState) (roots : Roots) (numbers : List Supply) (inboxes : Inboxes) (pins : List Pin) (sessions : Table) (past : List Entry) (rank : Rank) (MayRefuse : Op → Refusal → Type 0) where

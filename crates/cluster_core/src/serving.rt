@@ -1,5 +1,5 @@
 //! Serving the request at the front of a rank's inbox.
-ghost use Rattle.std.specs.Prelude.{◌≡◌, ◌<◌, ◌≤◌, ◌∷◌, [], length, get_or, slice_get, vec_capacity, vec_len, IfErr, IfOk, IfSome, OnOk, Some};
+ghost use Rattle.std.specs.Prelude.{◌≡◌, ◌↔◌, ◌<◌, ◌≤◌, ◌∷◌, [], IsTrue, length, get_or, slice_get, vec_capacity, vec_len, IfErr, IfOk, IfSome, OnOk, Some};
 ghost use Rattle.mds_types.specs.History.{IsNew};
 ghost use Rattle.mds_types.specs.declared.refusals.Refusal.TheVariants.{NoMemory};
 ghost use Rattle.mds_types.specs.declared.requests.Request.{Request as Waiting};
@@ -97,10 +97,10 @@ fn serve_new<S: Store + Drop>(
         return Err(Refusal::InboxEmpty)
     };
     let master = master_of(tree, roots, rank, &front.op);
-    if master != rank {
+    if !is_same(master, rank) {
         return forward(inboxes, rank, master);
     }
-    let supply = numbers[usize::from(rank.0)];
+    let supply = supply_of(numbers, rank);
     match make_ready(
         alloc, tree, roots, pins, supply, sessions, history, rank, front,
     ) {
@@ -241,4 +241,19 @@ fn forward(inboxes: &mut Inboxes, rank: Rank, master: Rank) -> Result<Answer, Re
         return Err(refusal);
     }
     Ok(Answer::Forwarded(master))
+}
+
+// Whether two ranks are one.
+fn is_same(one: Rank, other: Rank) -> bool
+    ensures { IsTrue result ↔ (one ≡ other) }
+{
+    one == other
+}
+
+// The inode numbers that a rank has left, which is there.
+fn supply_of(numbers: &Vec<Numbers>, rank: Rank) -> Numbers
+    requires { rank.0 < vec_len numbers.now }
+    ensures { result ≡ get_or numbers.now.items rank.0 no_supply }
+{
+    numbers[usize::from(rank.0)]
 }
