@@ -1,3 +1,4 @@
+pub mod AdminLaws
 pub mod Applied
 pub mod Carried
 pub mod InsideLaws
@@ -11,4 +12,5 @@ pub mod Served
 pub mod Stays
 pub mod Stepped
 pub mod SubtreeLaws
+pub mod Supplies
 pub mod Worked
