@@ -1,5 +1,5 @@
 -- The list of the leaves that a rank holds, and what a grant makes of it.
-use Rattle.std.proofs.Common.{◌≡◌, ◌⊎◌, ◌↔◌, inl, inr, ℕ, ◌+◌, ◌<◌, ◌≤◌, List, [], ◌∷◌, ◌++◌, drop, length, Some, Err, Ok, refl, sym, ap, ◌∙◌, subst, arith}
+use Rattle.std.proofs.Common.{◌≡◌, ◌↔◌, inl, inr, ℕ, ◌+◌, ◌<◌, ◌≤◌, List, [], ◌∷◌, ◌++◌, drop, length, Some, Err, Ok, refl, sym, ap, ◌∙◌, subst}
 use Rattle.std.specs.List.{Contains}
 use Rattle.std.proofs.lemmas.List.{append-nil, append_assoc, drop_all}
 use Rattle.mds_types.specs.declared.entries.Entry.{Entry}
@@ -17,7 +17,7 @@ use Rattle.subtree_map.specs.Authority.{Leaf, Roots}
 use Rattle.mdcache.specs.Shown.{shown_tree}
 use Rattle.mdcache.specs.State.{State as TreeState}
 use Rattle.cluster_core.specs.declared.events.Answer.TheVariants.{Nothing}
-use Rattle.cluster_core.specs.Grants.{AreHeldAmong, Grants, GrantsFirst, GrantsWaiting, IsGranted, with_grants}
+use Rattle.cluster_core.specs.Grants.{AreHeldAmong, GrantsFirst, GrantsWaiting, IsGranted, with_grants}
 use Rattle.cluster_core.specs.State.{State, state_of}
 use Rattle.cluster_core.specs.Subtrees.{Rules}
 use Rattle.cluster_core.proofs.MasterLaws.{held_exactly, not_in_none}

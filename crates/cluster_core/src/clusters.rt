@@ -10,13 +10,14 @@ ghost use Rattle.mdcache.specs.New.{MayNotFormat, cached_root, root_leaf};
 ghost use Rattle.cluster_core.specs.State.{new_roots, new_state, whole_supplies};
 ghost use Rattle.cluster_core.specs.Steps.{ArrivesAt, AtRank, MayRefuse, ServesRank, Steps};
 ghost use Rattle.cluster_core.specs.Grants.{GrantsWaiting};
-ghost use Rattle.cluster_core.specs.Subtrees.{KeepsRoots};
+ghost use Rattle.cluster_core.specs.Subtrees.{AreRoots, KeepsRoots};
 ghost use Rattle.cluster_core.specs.Sound.{IsSound};
-ghost use Rattle.cluster_core.specs.Administers.{ListsLeaves};
+ghost use Rattle.cluster_core.specs.Administers.{ListsLeaves, TellsAuthority};
 
 use crate::events::{Answer, Event};
 use crate::granting::grant_first;
 use crate::serving::serve_front;
+use crate::subtrees::authority_of;
 use inboxes::{Inboxes, Pins};
 use inode_table::Numbers;
 use mdcache::MdCache;
@@ -244,6 +245,17 @@ impl<S: Store + Drop> Cluster<S> {
             return Err(Refusal::NoSuchFrag);
         }
         self.tree.leaves(alloc, ino)
+    }
+
+    // The authority of a leaf.
+    pub(crate) fn authority(&self, ino: Ino, frag: Frag) -> Result<Rank, Refusal>
+        requires { AreRoots self.now.state.tree self.now.state.roots }
+        ensures { TellsAuthority self.now.state (ino, frag) result }
+    {
+        match authority_of(&self.tree, &self.roots, ino, frag) {
+            Some(rank) => Ok(rank),
+            None => Err(Refusal::NoSuchFrag),
+        }
     }
 
     /// The subtree roots with their ranks, to read.
