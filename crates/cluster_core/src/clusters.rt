@@ -201,13 +201,7 @@ impl<S: Store + Drop> Cluster<S> {
     }
 
     // The rank grants a waiting request what it would change of the rank's.
-    fn grant(
-        &mut self,
-        alloc: Global,
-        rank: Rank,
-        client: u64,
-        tid: u64,
-    ) -> Result<Answer, Refusal>
+    fn grant(&mut self, alloc: Global, rank: Rank, client: u64, tid: u64) -> Result<Answer, Refusal>
         ensures granted { (past : List Applied) → AtRank self.old.state self.new.state past past rank result (GrantsWaiting self.old.state self.new.state past past (MayRefuse self.old self.new) rank client tid result) }
         ensures tree { self.new.state.tree ≡ self.old.state.tree }
         ensures roots { self.new.state.roots ≡ self.old.state.roots }
@@ -308,10 +302,7 @@ fn whole_supplies(alloc: Global, ranks: u8) -> Result<Vec<Numbers>, AllocError>
 {
     let mut numbers = Vec::new(alloc);
     for rank in 0..ranks {
-        numbers.push(Numbers::from(
-            Rank(rank),
-            Numbers::first_of(Rank(rank)).0,
-        ))?;
+        numbers.push(Numbers::from(Rank(rank), Numbers::first_of(Rank(rank)).0))?;
     }
     Ok(numbers)
 }
