@@ -1,6 +1,7 @@
 pub mod AdminLaws
 pub mod Applied
 pub mod Carried
+pub mod HeldLaws
 pub mod InsideLaws
 pub mod Kept
 pub mod MasterLaws

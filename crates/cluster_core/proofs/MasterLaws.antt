@@ -29,7 +29,7 @@ use Rattle.cluster_core.specs.Master.{HasForeign, IsMasterIn, LacksGrantIn, MayT
 use Rattle.cluster_core.specs.Subtrees.{Rules}
 
 -- nothing is in an empty list
-not_in_none : {A : Type 0} (x : A) → Contains {X = A} [] x → ⊥
+pub not_in_none : {A : Type 0} (x : A) → Contains {X = A} [] x → ⊥
 not_in_none x (k, below, is) = omega (arith, below)
 
 only_one : {A : Type 0} (x y : A) → Contains (x ∷ []) y → y ≡ x
@@ -106,6 +106,7 @@ module _ (tree : TreeState) (roots : Roots) (pins : List Pin) (rank : Rank) (cli
   ]
 
   a_foreign : (leaves : List Leaf) → HasForeign tree roots pins rank client tid leaves → (leaf : Leaf) × Contains leaves leaf × (MayTouchIn tree roots pins rank client tid leaf → ⊥)
+  a_foreign [] none = absurd none
   a_foreign (one ∷ leaves) (inl none) = (one, first one leaves, none)
   a_foreign (one ∷ leaves) (inr more) = let f = a_foreign leaves more in (f.0, later one f.0 leaves f.1, f.2)
 
@@ -119,7 +120,7 @@ module _ (tree : TreeState) (roots : Roots) (pins : List Pin) (rank : Rank) (cli
 -- those that are held among some leaves
 pub held_exactly : (tree : TreeState) (roots : Roots) (rank : Rank) (leaves held : List Leaf) → AreHeldAmong tree roots rank leaves held → (leaf : Leaf) → Contains held leaf ↔ (Contains leaves leaf × Rules tree roots leaf rank)
 held_exactly tree roots rank [] held none leaf = (λ has. absurd (not_in_none leaf (subst (λ o. Contains o leaf) none has)), λ w. absurd (not_in_none leaf w.0))
-held_exactly tree roots rank (one ∷ leaves) held (inl (mine, rest, is, more)) leaf =
+held_exactly tree roots rank (one ∷ leaves) held (inl (mine, (rest, is, more))) leaf =
     let others = held_exactly tree roots rank leaves rest more leaf in (
       λ has. elim (first_or_later one leaf rest (subst (λ o. Contains o leaf) is has)) [
         | inl same ↦ (subst (Contains (one ∷ leaves)) same (first one leaves), subst (λ (l : Leaf). Rules tree roots l rank) same mine)

@@ -1,5 +1,5 @@
 -- An administrator's step over the tree, said of the cluster.
-use Rattle.std.proofs.Common.{◌≡◌, Bool, true, List, MatchBool, refl, sym, ap, subst}
+use Rattle.std.proofs.Common.{◌≡◌, Bool, true, List, MatchBool, refl, sym, subst}
 use Rattle.mds_types.specs.declared.entries.Entry.{Entry}
 use Rattle.inboxes.specs.Inboxes.{Inboxes}
 use Rattle.inboxes.specs.declared.pins.Pin.{Pin}

@@ -1,4 +1,4 @@
-use Rattle.std.proofs.Common.{◌≡◌, true, false, rules, inl, inr, sym, ◌∙◌}
+use Rattle.std.proofs.Common.{◌≡◌, true, false, rules, inr, sym, ◌∙◌}
 use Rattle.cluster_core.proofs.AdminLaws.{one_of_all}
 use Rattle.cluster_core.proofs.Worked.{left}
 use Rattle.cluster_core.proofs.administering.merge_at.Goals as goal

@@ -1,4 +1,4 @@
-use Rattle.std.proofs.Common.{◌≡◌, ℕ, true, rules, sym, ap, ◌∙◌}
+use Rattle.std.proofs.Common.{sym, ap, ◌∙◌}
 use Rattle.mds_types.specs.Leaf.{Leaf}
 use Rattle.mds_types.specs.Tree.{is_directory}
 use Rattle.inode_table.specs.Dirs.{Covers, Homes, IsLive}

@@ -10,8 +10,8 @@ use Rattle.cluster_core.proofs.clusters.Cluster.evict.Goals as goal
 pub returns-clause-evicted : goal.returns-clause-evicted
 returns-clause-evicted g c past =
     let first : c.args.rank.0 ≡ 0 = search rules in
-    rw (← c.self.view_is)
-    (at_rank _ _ _ (sym c.is_rank.ensures ∙ c.if-not-is_rank.false) (
+    at_rank _ _ _ (sym c.is_rank.ensures ∙ c.if-not-is_rank.false)
+    (rw (← c.self.view_is) (
       (
         tt,
         refl,

@@ -5,5 +5,5 @@ use Rattle.cluster_core.proofs.clusters.Cluster.merge.Goals as goal
 
 pub returns-clause-merged : goal.returns-clause-merged
 returns-clause-merged g c past =
-    rw (← c.self.view_is)
-    (at_rank _ _ _ (sym c.is_rank.ensures ∙ c.if-not-is_rank.false) (c.merge_at.ensures.merged c.self.inside.numbers.items c.self.inside.inboxes (table c.self.inside.sessions) past))
+    at_rank _ _ _ (sym c.is_rank.ensures ∙ c.if-not-is_rank.false)
+    (rw (← c.self.view_is) (c.merge_at.ensures.merged c.self.inside.numbers.items c.self.inside.inboxes (table c.self.inside.sessions) past))
