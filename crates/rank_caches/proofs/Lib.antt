@@ -1,0 +1,4 @@
+pub mod PlaceLaws
+pub mod SizeLaws
+pub mod TiesLaws
+pub mod UnsavedLaws
