@@ -1,3 +1,4 @@
+pub mod FixedLaws
 pub mod PlaceLaws
 pub mod SizeLaws
 pub mod TiesLaws

@@ -104,6 +104,15 @@ has_or_none caches rank q apart = go (lookup (leaf_is q) (places_of caches)) ref
             let clash : None ≡ Some p = sym is ∙ here in
             absurd cc
 
+-- a rank may have a cache with no leaf but those that it had, and those without a place at another rank
+pub may_have : (caches : Caches) (rank : Rank) (now : Held) → rank.0 < length caches → AreApart caches
+    → ((q : Leaf) → is_some (lookup (leaf_is q) now.entries) ≡ true → (has_place caches rank q ≡ true) ⊎ HasNoneBeside caches rank q) → MayHave caches rank now
+may_have caches rank now there apart from = record { there = there; apart = apart; fits = λ q has. go q (from q has) }
+  where
+    go : (q : Leaf) → (has_place caches rank q ≡ true) ⊎ HasNoneBeside caches rank q → HasNoneBeside caches rank q
+    go q (inl was) = none_beside caches rank q apart was
+    go q (inr none) = none
+
 -- ---- one rank has another cache
 
 pub cache_there : (caches : Caches) (rank : Rank) (now : Held) → rank.0 < length caches → cache_of (with_cache caches rank now) rank ≡ now
