@@ -9,6 +9,10 @@ use Rattle.inboxes.specs.declared.pins.Pin.{Pin}
 abbrev pub is_on : Ino → Fragment → Pin → Bool
 is_on dir frag pin = (pin.dir.0 == dir.0) && ((pin.frag.value == frag.value) && (pin.frag.bits == frag.bits))
 
+-- whether a pin is one of some fragment of a directory
+abbrev pub is_in : Ino → Pin → Bool
+is_in dir pin = pin.dir.0 == dir.0
+
 -- whether a pin is one for this client and transaction number
 abbrev pub is_for : (client tid : ℕ) → Pin → Bool
 is_for client tid pin = (pin.client == client) && (pin.tid == tid)

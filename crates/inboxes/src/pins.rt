@@ -1,7 +1,7 @@
 //! Pins: the grants by which a rank lets another one change its fragments for one request.
-ghost use Rattle.std.specs.Prelude.{◌≡◌, [], false, OnOk, OnErr};
+ghost use Rattle.std.specs.Prelude.{◌≡◌, [], false, IfOk, OnOk, OnErr};
 ghost use Rattle.std.specs.List.{list_any};
-ghost use Rattle.inboxes.specs.Pins.{is_for, is_on, is_pin, left_without, with_pin};
+ghost use Rattle.inboxes.specs.Pins.{is_for, is_in, is_on, is_pin, left_without, with_pin};
 
 use mds_types::{Frag, Ino};
 use std::alloc::{AllocError, Global};
@@ -40,6 +40,15 @@ impl Pins {
         Pins {
             pins: Vec::new(alloc),
         }
+    }
+
+    /// A copy. Takes memory for the pins.
+    pub fn try_clone(&self) -> Result<Pins, AllocError>
+        ensures { IfOk result (λ copy. copy ≡ self.now) }
+    {
+        Ok(Pins {
+            pins: self.pins.clone()?,
+        })
     }
 
     /// Sets a pin; one that stands stays as it is, and takes no memory.
@@ -86,5 +95,11 @@ impl Pins {
     {
         self.pins
             .retain(|pin| !(pin.dir == dir && pin.frag == frag));
+    }
+    /// Ends the pins on all fragments of a directory, as one that is removed.
+    pub fn forget_directory(&mut self, dir: Ino)
+        ensures { self.new ≡ left_without (is_in dir) self.old }
+    {
+        self.pins.retain(|pin| !(pin.dir == dir));
     }
 }

@@ -22,8 +22,11 @@ use Rattle.purge_list.specs.PurgeList.{Listed}
 use Rattle.standing_jobs.specs.StandingJobs.{Standing}
 use Rattle.mdcache.specs.declared.going.Going.{Going}
 use Rattle.mdcache.specs.declared.mdcache.Counters.{Counters}
-use Rattle.mdcache.specs.Cached.{AreLive, AreMade, IsKept, state_of}
+use Rattle.mdcache.specs.declared.prepared.Prepared.{Prepared}
+use Rattle.mdcache.specs.declared.prepared.Prepared.TheVariants.{Nothing, Directory, Removal, Move as Moving}
+use Rattle.mdcache.specs.Cached.{AreLive, AreMade, Core, IsKept, state_of}
 use Rattle.mdcache.specs.Changes.{Makes, with_home_at, with_objects, without, without_leaves}
+use Rattle.mdcache.specs.Frags.{IsForMove, IsTakenAlong, dir_moving}
 use Rattle.mdcache.specs.Going.{HasForgotten, IsGoingOrNone, dir_going, leaves_going, rows_but, texts_going}
 use Rattle.mdcache.specs.Made.{IsRight}
 use Rattle.mdcache.specs.Shown.{shown_tree}
@@ -68,6 +71,24 @@ module _ (s : State) (sound : IsSound s) (from to : Dentry) (source target : Fra
       go : (o : Option Inode) → map.get (shown_tree s) to ≡ o → IfSome (directory_at o) (λ (dir : Ino). MayGo (with_home s.homes to inode) dir.0)
       go None is = tt
       go (Some i) is = at i (is_dir_kind i.kind) is
+
+-- what a rename takes along that was made ready is what stands at its first dentry, and a directory may have its home at the other
+pub taken_along : (core : Core) → IsSound core.state → IsTakenAlong core (dir_moving core.prepared)
+taken_along core sound from to source target went ready = its_own core.prepared ready.prepared
+  where
+    at : (inode : Inode) (b : Bool) → is_dir_kind inode.kind ≡ b → map.get (shown_tree core.state) from ≡ Some inode → MayChange (shown_tree core.state) core.state.covers (Move from source to target went)
+        → IfSome (cond b (Some inode.ino) None) (λ (dir : Ino). MayRelocate core.state.homes dir.0 (home_at to))
+    at inode true kinded stands may = relocates core.state sound from to source target inode went may stands kinded
+    at inode false kinded stands may = tt
+
+    Along : Prepared → Type 0
+    Along prepared = (dir_moving prepared ≡ directory_at (map.get (shown_tree core.state) from)) × (MayChange (shown_tree core.state) core.state.covers (Move from source to target went) → IfSome (dir_moving prepared) (λ (dir : Ino). MayRelocate core.state.homes dir.0 (home_at to)))
+
+    its_own : (prepared : Prepared) → IsForMove core.state core.purge_left from to went prepared → Along prepared
+    its_own Nothing none = absurd none
+    its_own (Directory made) none = absurd none
+    its_own (Removal going) none = absurd none
+    its_own (Moving entry) its = (ap directory_at (sym its.0), λ may. at entry.inode (is_dir_kind entry.inode.kind) refl its.0 may)
 
 module _ (dirs : Table) (cache : Held) (objects : Objects) (jobs : Standing) (purge : Listed) (next : Counters) (kept : IsKept (state_of dirs cache objects jobs purge next) cache)
     (from to : Dentry) (source target : Fragment) (inode : Inode) (going : Option Going) (may : MayChange (shown_tree (state_of dirs cache objects jobs purge next)) dirs.trees (Move from source to target (dir_going going)))

@@ -2,6 +2,7 @@
 use Rattle.std.proofs.Common.{◌≡◌, ◌⊎◌, inl, inr, ℕ, ◌+◌, ◌-◌, ◌<◌, ◌≤◌, ◌^◌, ◌&&◌, Bool, true, false, cond, List, [], ◌∷◌, Option, Some, None, refl, sym, ap, subst, ◌∙◌, arith}
 use Rattle.std.specs.FinMap as map
 use Rattle.mds_types.specs.declared.ids.Ino.{Ino}
+use Rattle.mds_types.specs.declared.refusals.Refusal.{Refusal}
 use Rattle.mds_types.specs.Frag.{Fragment, IsFragment, child_of}
 use Rattle.fragtree.specs.FragTree.{CanSplit, HasLeaf, IsSplit, IsTree}
 use Rattle.fragtree.proofs.Tilings.{between}
@@ -19,6 +20,7 @@ use Rattle.mdcache.specs.declared.mdcache.Counters.{Counters}
 use Rattle.mdcache.specs.Cached.{IsKept, state_of}
 use Rattle.mdcache.specs.Ready.{LacksNumbers, Readies}
 use Rattle.mdcache.specs.Reads.{has_none}
+use Rattle.mdcache.specs.Regroups.{MayNotRegroup, RefusesLeaves}
 use Rattle.mdcache.specs.Shown.{names_of}
 use Rattle.mdcache.specs.Splits.{Comes, IsListedAnew, IsSplitInto, KeepsTree, NameChildren, are_empty, without_objects}
 use Rattle.mdcache.specs.State.{IsLive, State, text_of}
@@ -33,6 +35,11 @@ use Rattle.inode_table.proofs.Tables.{tree_of_row}
 pub counts_left : (count generation version : ℕ) → generation + count < 2 ^ 64 → version < 2 ^ 64 - 1 → LacksNumbers count generation ⊎ LacksNumbers 1 version → ⊥
 counts_left count generation version some one (inl lacks) = omega (arith, some, lacks)
 counts_left count generation version some one (inr lacks) = omega (arith, one, lacks)
+
+-- what the leaves refuse is refused before anything is done
+pub not_begun : (Can : Type 0) (Refuses : Refusal → Type 0) (s : State) (dir : Ino) (count : ℕ) (NoPlace : Type 0) (before after : ℕ) (reason : Refusal) → RefusesLeaves Refuses s.homes dir reason → MayNotRegroup Can Refuses s dir count NoPlace before after reason
+not_begun Can Refuses s dir count NoPlace before after reason (inl none) = inl none
+not_begun Can Refuses s dir count NoPlace before after reason (inr their) = inr (inl their)
 
 pub has_there : (P : Cached → Type 0) (o : Option Cached) → HasCached o P → IsThere o
 has_there P None h = h

@@ -1,5 +1,5 @@
 -- The tree over caches and a store as operations see it: what reads keep, why a call is refused, and what is ready for a change.
-use Rattle.std.specs.Prelude.{◌≡◌, ◌⊎◌, ℕ, ◌-◌, ◌<◌, ◌≤◌, ◌^◌, true, Option, Some, string_bytes}
+use Rattle.std.specs.Prelude.{◌≡◌, ◌⊎◌, ℕ, ◌-◌, ◌<◌, ◌≤◌, ◌^◌, true, Option, Some, None, IfSome, string_bytes}
 use Rattle.std.specs.Map.{lookup}
 use Rattle.std.specs.FinMap as map
 use Rattle.mds_types.specs.declared.dentries.Dentry.{Dentry}
@@ -8,11 +8,14 @@ use Rattle.mds_types.specs.declared.operations.Op.{Op}
 use Rattle.mds_types.specs.declared.operations.Op.TheVariants.{Lookup, Readdir, Create, Mkdir, Readlink, Symlink, Setattr, Unlink, Rmdir, Rename}
 use Rattle.mds_types.specs.declared.refusals.Refusal.{Refusal}
 use Rattle.mds_types.specs.declared.refusals.Refusal.TheVariants.{NoInodes, NoMemory, NothingToEvict, StoreFault}
+use Rattle.mds_types.specs.Frag.{Fragment}
 use Rattle.mds_types.specs.Tree.{is_dir_kind}
 use Rattle.dirfrag_codec.specs.EntryRecord.{IsRecordable}
 use Rattle.cached_frag.specs.Cached.{Cached}
 use Rattle.dentry_cache.specs.Cache.{HasCached, HasRoom, Leaf, cached, is_kept, leaf_is}
-use Rattle.inode_table.specs.Dirs.{Covers}
+use Rattle.inode_table.specs.Dirs.{Covers, MayMove}
+use Rattle.inode_table.specs.TreeTable.{home_at}
+use Rattle.namespace_ops.specs.Changes.{MayChange, directory_at}
 use Rattle.namespace_ops.specs.declared.plans.Change.{Change}
 use Rattle.namespace_ops.specs.declared.plans.Change.TheVariants.{Add, Set, Remove, Move}
 use Rattle.mdcache.specs.declared.prepared.Prepared.{Prepared}
@@ -110,3 +113,17 @@ IsReady core (Add dentry leaf inode) = IsNameReady core (dentry.dir, leaf) × Is
 IsReady core (Set dentry leaf inode) = IsNameReady core (dentry.dir, leaf) × IsRecordable inode
 IsReady core (Remove dentry leaf went) = IsNameReady core (dentry.dir, leaf) × IsForRemoval core.state.covers core.purge_left went core.prepared
 IsReady core (Move from source to target went) = IsMoveReady core (from.dir, source) (to.dir, target) from to went
+
+-- the directory that moves, by what was prepared: what is taken along, where that is one
+abbrev pub dir_moving : Prepared → Option Ino
+dir_moving Nothing = None
+dir_moving (Directory made) = None
+dir_moving (Removal going) = None
+dir_moving (Moving moving) = directory_at (Some moving.inode)
+
+-- of a rename that was made ready this is the directory that moves, where it is one; it may move there, where the rename may be made
+abbrev pub IsTakenAlong : Core → Option Ino → Type 0
+IsTakenAlong core moving =
+    (from to : Dentry) (source target : Fragment) (went : Option Ino) → IsReady core (Move from source to target went)
+    → (moving ≡ directory_at (map.get (shown_tree core.state) from))
+    × (MayChange (shown_tree core.state) core.state.covers (Move from source to target went) → IfSome moving (λ (dir : Ino). MayMove core.state.homes dir.0 (home_at to)))

@@ -8,7 +8,7 @@ use Rattle.mds_types.specs.Frag.{Fragment}
 use Rattle.fragtree.specs.FragTree.{CanMerge, CanSplit, RefusesMerge, RefusesSplit, leaves_inside}
 use Rattle.dentry_cache.specs.Cache.{Held, Leaf, cached, is_kept, leaf_is, unsaved}
 use Rattle.dentry_cache.specs.Divided.{IsNoChild}
-use Rattle.inode_table.specs.Dirs.{is_known, leaves_of}
+use Rattle.inode_table.specs.Dirs.{Homes, is_known, leaves_of}
 use Rattle.mdcache.specs.Cached.{Core}
 use Rattle.mdcache.specs.Ready.{LacksNumbers, MayNotBeReady}
 pub use Rattle.mdcache.specs.Reads.{KeepsNoMore}
@@ -39,6 +39,10 @@ MayNotRegroup Can Refuses s dir count NoPlace before after reason =
     ((reason ≡ NoSuchFrag) × (is_known s.homes dir.0 ≡ false))
     ⊎ ((is_known s.homes dir.0 ≡ true) × (reason ≢ NoMemory) × Refuses reason)
     ⊎ ((is_known s.homes dir.0 ≡ true) × Can × MayNotBeReady (LacksCounts count s) NoPlace before after reason)
+
+-- the first of these reasons alone: the leaves themselves are not those that are asked for, whatever numbers, places and memory are left
+abbrev pub RefusesLeaves : (Refuses : Refusal → Type 0) → Homes → Ino → Refusal → Type 0
+RefusesLeaves Refuses homes dir reason = ((reason ≡ NoSuchFrag) × (is_known homes dir.0 ≡ false)) ⊎ ((is_known homes dir.0 ≡ true) × (reason ≢ NoMemory) × Refuses reason)
 
 -- nothing was done, but that clean fragments came or went: no place is kept that wasn't
 abbrev pub IsUndone : (old new : Core) → Type 0

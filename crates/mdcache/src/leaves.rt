@@ -1,10 +1,29 @@
-//! Whether there is such a leaf.
-ghost use Rattle.std.specs.Prelude.{◌≡◌, OnOk, OnErr, IfErr, IsTrue, ◌↔◌};
-ghost use Rattle.mds_types.specs.declared.refusals.Refusal.TheVariants.{NoSuchFrag};
+//! Which leaves there are.
+ghost use Rattle.std.specs.Prelude.{IsTrue, ◌↔◌};
+ghost use Rattle.fragtree.specs.FragTree.{IsPick};
+ghost use Rattle.inode_table.specs.Dirs.{leaves_of};
 ghost use Rattle.mdcache.specs.State.{IsLive};
 
+use crate::mdcache::MdCache;
 use inode_table::Dirs;
-use mds_types::{Frag, Ino, Refusal};
+use mds_types::{Frag, Ino};
+use objstore::Store;
+
+impl<S: Store + Drop> MdCache<S> {
+    /// Whether there is such a directory, and it has this leaf. Takes no memory.
+    pub fn has_leaf(&self, dir: Ino, frag: Frag) -> bool
+        ensures { IsTrue result ↔ IsLive self.now.state.homes self.now.state.covers (dir, frag) }
+    {
+        is_live(&self.dirs, dir, frag)
+    }
+
+    /// The first leaf of a directory: the one of the least value, which the hash 0 picks. Takes no memory.
+    pub fn first_leaf(&self, dir: Ino) -> Frag
+        ensures { IsPick (leaves_of self.now.state.covers dir.0) 0 result }
+    {
+        self.dirs.pick(dir, 0)
+    }
+}
 
 /// Whether a directory is in the table and has this leaf. Takes no memory.
 pub(crate) fn is_live(dirs: &Dirs, dir: Ino, frag: Frag) -> bool

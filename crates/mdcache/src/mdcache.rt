@@ -1,6 +1,7 @@
 //! `MdCache`, and what a contract sees of it.
 ghost use Rattle.std.specs.Prelude.{◌≡◌};
 ghost use Rattle.mdcache.specs.Cached.{IsKept};
+ghost use Rattle.mdcache.specs.Sound.{IsSound};
 
 use crate::prepared::Prepared;
 use dentry_cache::Cache;
@@ -61,5 +62,15 @@ impl<S: Store + Drop> MdCache<S> {
         ensures kept { IsKept self.now.state self.now.cache }
     {
         &self.store
+    }
+
+    /// Which directories there are, and the leaves of each. A caller also learns from it that the state is sound. Takes no
+    /// memory.
+    pub fn dirs(&self) -> &Dirs
+        ensures homes { result.now.homes ≡ self.now.state.homes }
+        ensures trees { result.now.trees ≡ self.now.state.covers }
+        ensures sound { IsSound self.now.state }
+    {
+        &self.dirs
     }
 }

@@ -1,9 +1,8 @@
 //! Leaves of a directory are merged: all is prepared for it first, and then it is done, which can't fail.
-ghost use Rattle.std.specs.Prelude.{◌≡◌, ◌≢◌, ◌+◌, ◌-◌, ◌≤◌, ◌<◌, ◌^◌, true, cond, length, string_bytes, OnOk, IfErr};
+ghost use Rattle.std.specs.Prelude.{◌≡◌, ◌+◌, ◌-◌, ◌≤◌, ◌<◌, ◌^◌, true, cond, length, string_bytes, OnOk, IfErr};
 ghost use Rattle.std.specs.FinMap as map;
 ghost use Rattle.std.specs.List.{Contains};
 ghost use Rattle.std.specs.Map.{lookup};
-ghost use Rattle.mds_types.specs.declared.refusals.Refusal.TheVariants.{NoMemory};
 ghost use Rattle.fragtree.specs.FragTree.{CanMerge, RefusesMerge};
 ghost use Rattle.cached_frag.specs.Cached.{shown};
 ghost use Rattle.dentry_cache.specs.Cache.{is_kept, leaf_is};
@@ -12,7 +11,8 @@ ghost use Rattle.mdcache.specs.Changes.{with_objects, without_leaves};
 ghost use Rattle.mdcache.specs.Going.{leaves_in, texts_in};
 ghost use Rattle.mdcache.specs.Joining.{IsPutInPlace};
 ghost use Rattle.mdcache.specs.Reads.{has_none};
-ghost use Rattle.mdcache.specs.Regroups.{MergesLeaves};
+ghost use Rattle.mdcache.specs.Regroups.{MergesLeaves, RefusesLeaves};
+ghost use Rattle.mdcache.specs.Sound.{IsSound};
 
 use crate::going::{GoingLeaf, remove_leaves};
 use crate::kept_places::give_up;
@@ -40,6 +40,20 @@ pub(crate) struct Merge {
 }
 
 impl<S: Store + Drop> MdCache<S> {
+    /// Whether there is such a directory, and leaves of it lie properly inside the fragment, not too many to merge them: what
+    /// `merge` asks first. A caller also learns that the state is sound. Takes no memory.
+    ///
+    /// Refused as `merge` is: `NoSuchFrag` where no leaf lies properly inside the fragment, and `TooManyFrags` where too many
+    /// do.
+    pub fn check_merge(&self, dir: Ino, frag: Frag) -> Result<(), Refusal>
+        ensures known { OnOk result (is_known self.now.state.homes dir.0 ≡ true) }
+        ensures can { OnOk result (CanMerge (leaves_of self.now.state.covers dir.0) frag) }
+        ensures refused { IfErr result (RefusesLeaves (RefusesMerge (leaves_of self.now.state.covers dir.0) frag) self.now.state.homes dir) }
+        ensures sound { IsSound self.now.state }
+    {
+        check_merge(&self.dirs, dir, frag)
+    }
+
     /// Merges the leaves of a directory properly inside a fragment: it stands in their place, with all their names. It is of
     /// the next generation, no object counts for it, and its names are dirty, all at the next version. The jobs of the leaves
     /// end, and their objects are to be removed. The leaves are fetched one after the other. Takes memory for copies of their
@@ -53,9 +67,6 @@ impl<S: Store + Drop> MdCache<S> {
         ensures cap { self.new.cache.cap ≡ self.old.cache.cap }
         ensures grows { self.old.faults ≤ self.new.faults }
     {
-        if !self.dirs.contains(dir) {
-            return Err(Refusal::NoSuchFrag);
-        }
         if let Err(refusal) = check_merge(&self.dirs, dir, frag) {
             return Err(refusal);
         }
@@ -92,11 +103,15 @@ impl<S: Store + Drop> MdCache<S> {
     }
 }
 
-// Whether leaves of a directory can be merged at a fragment. Takes no memory.
+// Whether there is such a directory, and leaves of it can be merged at a fragment. Takes no memory.
 fn check_merge(dirs: &Dirs, dir: Ino, frag: Frag) -> Result<(), Refusal>
+    ensures known { OnOk result (is_known dirs.now.homes dir.0 ≡ true) }
     ensures can { OnOk result (CanMerge (leaves_of dirs.now.trees dir.0) frag) }
-    ensures refused { IfErr result (λ reason. (reason ≢ NoMemory) × RefusesMerge (leaves_of dirs.now.trees dir.0) frag reason) }
+    ensures refused { IfErr result (RefusesLeaves (RefusesMerge (leaves_of dirs.now.trees dir.0) frag) dirs.now.homes dir) }
 {
+    if !dirs.contains(dir) {
+        return Err(Refusal::NoSuchFrag);
+    }
     match dirs.check_merge(dir, frag) {
         Ok(()) => Ok(()),
         // want of memory is no reason that the leaves have: they can be merged then

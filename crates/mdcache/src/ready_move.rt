@@ -9,7 +9,9 @@ ghost use Rattle.inode_table.specs.Dirs.{leaves_of};
 ghost use Rattle.dirfrag_codec.specs.EntryRecord.{IsRecordable};
 ghost use Rattle.cached_frag.specs.Cached.{Cached, shown};
 ghost use Rattle.dentry_cache.specs.Cache.{HasCached, HasRoom, cached};
+ghost use Rattle.mdcache.specs.Frags.{IsTakenAlong, dir_moving};
 ghost use Rattle.mdcache.specs.Going.{IsGoingOrNone, count_going, dir_going};
+ghost use Rattle.namespace_ops.specs.Changes.{directory_at};
 ghost use Rattle.mdcache.specs.Ready.{LacksNumbers, MayNotBeReady};
 ghost use Rattle.mdcache.specs.Reads.{LacksPlaces};
 ghost use Rattle.mdcache.specs.Shown.{shown_tree};
@@ -17,6 +19,7 @@ ghost use Rattle.mdcache.specs.Shown.{shown_tree};
 use crate::going::Going;
 use crate::kept_places::give_up;
 use crate::mdcache::MdCache;
+use crate::prepared::Prepared;
 use crate::ready_pairs::ready_pair;
 use crate::ready_removal::ready_going;
 use dentry_cache::Cache;
@@ -90,6 +93,34 @@ impl<S: Store + Drop> MdCache<S> {
         }
         let inode = inode_at(&self.cache, from.dir, source, &from.name)?;
         Ok(MovingEntry { inode, name, going })
+    }
+
+    /// The number of what the rename takes along that was made ready, if that is a directory. Takes no memory.
+    pub fn moving(&self) -> Option<Ino>
+        ensures { IsTakenAlong self.now result }
+    {
+        directory_moving(&self.prepared)
+    }
+}
+
+// The number of the directory that moves by what was prepared, if one does.
+fn directory_moving(prepared: &Prepared) -> Option<Ino>
+    ensures { result ≡ dir_moving prepared.now }
+{
+    match prepared {
+        Prepared::Move(moving) => number_of_dir(&moving.inode),
+        _ => None,
+    }
+}
+
+// The number of an inode, if it is a directory.
+fn number_of_dir(inode: &Inode) -> Option<Ino>
+    ensures { result ≡ directory_at (Some inode.now) }
+{
+    if inode.kind.is_dir() {
+        Some(inode.ino)
+    } else {
+        None
     }
 }
 

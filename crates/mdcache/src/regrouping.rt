@@ -2,11 +2,24 @@
 ghost use Rattle.std.specs.Prelude.{◌≡◌, ◌⊎◌, ◌+◌, ◌-◌, ◌<◌, ◌≤◌, ◌^◌, cond, string_bytes, OnOk, IfOk, IfErr};
 ghost use Rattle.mds_types.specs.declared.refusals.Refusal.TheVariants.{NoInodes};
 ghost use Rattle.mdcache.specs.Ready.{LacksNumbers};
+ghost use Rattle.mdcache.specs.Regroups.{LacksCounts};
 ghost use Rattle.mdcache.specs.State.{text_of};
 
-use crate::mdcache::Counters;
+use crate::mdcache::{Counters, MdCache};
 use mds_types::{Frag, Ino, ObjName, Refusal};
+use objstore::Store;
 use std::alloc::{AllocError, Global};
+
+impl<S: Store + Drop> MdCache<S> {
+    /// Whether numbers are left for so many fragments that come, and for their names: what `split` and `merge` ask before they
+    /// take memory. Refused `NoInodes` exactly where they aren't. Takes no memory.
+    pub fn check_numbers(&self, count: u64) -> Result<(), Refusal>
+        ensures ok { OnOk result (LacksCounts count self.now.state → ⊥) }
+        ensures err { IfErr result (λ reason. (reason ≡ NoInodes) × LacksCounts count self.now.state) }
+    {
+        check_counts(self.next.generation, count, self.next.version)
+    }
+}
 
 /// Whether numbers are left for so many fragments that come, and for their names.
 pub(crate) fn check_counts(generation: u64, count: u64, version: u64) -> Result<(), Refusal>

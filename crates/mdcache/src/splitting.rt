@@ -1,17 +1,17 @@
 //! A leaf of a directory is split: all is prepared for it first, and then it is done, which can't fail.
-ghost use Rattle.std.specs.Prelude.{◌≡◌, ◌≢◌, ◌+◌, ◌-◌, ◌≤◌, ◌<◌, ◌^◌, ℕ, true, cond, map as each, string_bytes, OnOk, IfErr};
+ghost use Rattle.std.specs.Prelude.{◌≡◌, ◌+◌, ◌-◌, ◌≤◌, ◌<◌, ◌^◌, ℕ, true, cond, map as each, string_bytes, OnOk, IfErr};
 ghost use Rattle.std.specs.FinMap as map;
 ghost use Rattle.std.specs.Map.{lookup};
 ghost use Rattle.mds_types.specs.Frag.{child_of};
-ghost use Rattle.mds_types.specs.declared.refusals.Refusal.TheVariants.{NoMemory};
 ghost use Rattle.fragtree.specs.FragTree.{CanSplit, RefusesSplit};
 ghost use Rattle.cached_frag.specs.Cached.{Cached, shown};
 ghost use Rattle.dentry_cache.specs.Cache.{HasCached, cached, is_kept, leaf_is};
 ghost use Rattle.dentry_cache.specs.Divided.{AreReady, IsSplit};
 ghost use Rattle.inode_table.specs.Dirs.{is_known, leaves_of};
 ghost use Rattle.mdcache.specs.Reads.{has_none};
-ghost use Rattle.mdcache.specs.Regroups.{SplitsLeaf};
+ghost use Rattle.mdcache.specs.Regroups.{RefusesLeaves, SplitsLeaf};
 ghost use Rattle.mdcache.specs.Splits.{without_objects};
+ghost use Rattle.mdcache.specs.Sound.{IsSound};
 
 use crate::emptiness::is_cached_empty;
 use crate::kept_places::give_up;
@@ -38,6 +38,20 @@ pub(crate) struct Split {
 }
 
 impl<S: Store + Drop> MdCache<S> {
+    /// Whether there is such a leaf, and it can be split by so many bits: what `split` asks first. A caller also learns
+    /// that the state is sound. Takes no memory.
+    ///
+    /// Refused as `split` is: `NoSuchFrag` where there is no such leaf, `BadSplit` where it can't be split by so many bits, and
+    /// `TooManyFrags` where there would be too many leaves.
+    pub fn check_split(&self, dir: Ino, frag: Frag, nb: u8) -> Result<(), Refusal>
+        ensures known { OnOk result (is_known self.now.state.homes dir.0 ≡ true) }
+        ensures can { OnOk result (CanSplit (leaves_of self.now.state.covers dir.0) frag nb) }
+        ensures refused { IfErr result (RefusesLeaves (RefusesSplit (leaves_of self.now.state.covers dir.0) frag nb) self.now.state.homes dir) }
+        ensures sound { IsSound self.now.state }
+    {
+        check_split(&self.dirs, dir, frag, nb)
+    }
+
     /// Splits a leaf of a directory by so many bits: its children stand in its place, each with those of its names that it
     /// contains. They are fragments of the next generations, for which no object counts, and their names are dirty, all at
     /// the next version. The leaf's job ends, and its object is to be removed. Takes memory for the children and their
@@ -52,9 +66,6 @@ impl<S: Store + Drop> MdCache<S> {
         ensures cap { self.new.cache.cap ≡ self.old.cache.cap }
         ensures grows { self.old.faults ≤ self.new.faults }
     {
-        if !self.dirs.contains(dir) {
-            return Err(Refusal::NoSuchFrag);
-        }
         if let Err(refusal) = check_split(&self.dirs, dir, frag, nb) {
             return Err(refusal);
         }
@@ -97,11 +108,15 @@ impl<S: Store + Drop> MdCache<S> {
     }
 }
 
-// Whether a leaf of a directory can be split by so many bits. Takes no memory.
+// Whether there is such a directory, and a leaf of it can be split by so many bits. Takes no memory.
 fn check_split(dirs: &Dirs, dir: Ino, frag: Frag, nb: u8) -> Result<(), Refusal>
+    ensures known { OnOk result (is_known dirs.now.homes dir.0 ≡ true) }
     ensures can { OnOk result (CanSplit (leaves_of dirs.now.trees dir.0) frag nb) }
-    ensures refused { IfErr result (λ reason. (reason ≢ NoMemory) × RefusesSplit (leaves_of dirs.now.trees dir.0) frag nb reason) }
+    ensures refused { IfErr result (RefusesLeaves (RefusesSplit (leaves_of dirs.now.trees dir.0) frag nb) dirs.now.homes dir) }
 {
+    if !dirs.contains(dir) {
+        return Err(Refusal::NoSuchFrag);
+    }
     match dirs.check_split(dir, frag, nb) {
         Ok(()) => Ok(()),
         // want of memory is no reason that the leaves have: they can be split then

@@ -1,5 +1,7 @@
-use Rattle.std.proofs.Common.{rules, ◌+◌, ◌-◌, ◌<◌, ◌^◌, inl, inr, refl, sym, subst, ◌∙◌, ap}
+use Rattle.std.proofs.Common.{rules, ◌+◌, ◌-◌, ◌<◌, ◌^◌, inr, refl, subst, ◌∙◌, ap}
 use Rattle.std.specs.Prelude.{map as each, string_bytes, [], ◌∷◌, Ok, Err}
+use Rattle.fragtree.specs.FragTree.{CanSplit, RefusesSplit}
+use Rattle.inode_table.specs.Dirs.{leaves_of}
 use Rattle.dentry_cache.specs.Cache.{cached}
 use Rattle.mdcache.specs.Cached.{Core, state_of}
 use Rattle.mdcache.specs.Regroups.{SplitsLeaf}
@@ -10,18 +12,18 @@ use Rattle.mdcache.proofs.ReadLaws.{words_read}
 use Rattle.mdcache.proofs.ReadSteps.{live_saved}
 use Rattle.mdcache.proofs.ReadyChanges.{given_kept, given_state}
 use Rattle.mdcache.proofs.ReadyChildren.{split_none}
-use Rattle.mdcache.proofs.SplitMade.{counts_left, made_keeps, made_kept, made_split, no_child_cached, undone_kept}
+use Rattle.mdcache.proofs.SplitMade.{counts_left, made_keeps, made_kept, made_split, no_child_cached, not_begun, undone_kept}
 use Rattle.mdcache.proofs.mdcache.MdCache.split.Goals as goal
 
 pub returns-in-Err-clause-split : goal.returns-in-Err-clause-split
 returns-in-Err-clause-split g c =
     subst (λ (v : Core). SplitsLeaf v v c.args.dir c.args.frag c.args.nb (Err c.in-Err.refusal)) c.self.view_is
-    (inr (inl (sym c.contains.ensures.known ∙ c.if-not-contains.false, c.in-Err.ensures.refused.0, c.in-Err.ensures.refused.1)), (refl, λ q kept. kept))
+    (not_begun (CanSplit (leaves_of c.self.inside.dirs.trees c.args.dir.0) c.args.frag c.args.nb) (RefusesSplit (leaves_of c.self.inside.dirs.trees c.args.dir.0) c.args.frag c.args.nb) (state_of c.self.inside.dirs c.self.inside.cache (g.S.Store.objects c.self.inside.store) c.self.inside.jobs c.self.inside.purge c.self.inside.next) c.args.dir (2 ^ c.args.nb) _ _ _ c.in-Err.refusal c.in-Err.ensures.refused, (refl, λ q kept. kept))
 
 pub prepare_split-requires-clause-saved : goal.prepare_split-requires-clause-saved
 prepare_split-requires-clause-saved g c =
     live_saved c.self.inside.dirs c.give_up.new.cache (g.S.Store.objects c.self.inside.store) c.self.inside.jobs c.self.inside.purge c.self.inside.next (given_kept c.self.inside.dirs c.self.inside.cache (g.S.Store.objects c.self.inside.store) c.self.inside.jobs c.self.inside.purge c.self.inside.next c.self.invariant.0 c.give_up.new.cache (c.give_up.ensures.reads (g.S.Store.objects c.self.inside.store))) (c.args.dir, c.args.frag)
-    (record { known = sym c.contains.ensures.known ∙ c.if-not-contains.false; stands = c.in_default.ensures.can.stands })
+    (record { known = c.in_default.ensures.known; stands = c.in_default.ensures.can.stands })
 
 pub prepare_split-requires-clause-vacant : goal.prepare_split-requires-clause-vacant
 prepare_split-requires-clause-vacant g c =
@@ -29,14 +31,14 @@ prepare_split-requires-clause-vacant g c =
 
 pub invariant_of-self : goal.invariant_of-self
 invariant_of-self g c = (
-  undone_kept c.self.inside.dirs c.give_up.new.cache (g.S.Store.objects c.self.inside.store) c.self.inside.jobs c.self.inside.purge c.self.inside.next (given_kept c.self.inside.dirs c.self.inside.cache (g.S.Store.objects c.self.inside.store) c.self.inside.jobs c.self.inside.purge c.self.inside.next c.self.invariant.0 c.give_up.new.cache (c.give_up.ensures.reads (g.S.Store.objects c.self.inside.store))) c.args.dir c.args.frag c.args.nb (sym c.contains.ensures.known ∙ c.if-not-contains.false) c.in_default.ensures.can
+  undone_kept c.self.inside.dirs c.give_up.new.cache (g.S.Store.objects c.self.inside.store) c.self.inside.jobs c.self.inside.purge c.self.inside.next (given_kept c.self.inside.dirs c.self.inside.cache (g.S.Store.objects c.self.inside.store) c.self.inside.jobs c.self.inside.purge c.self.inside.next c.self.invariant.0 c.give_up.new.cache (c.give_up.ensures.reads (g.S.Store.objects c.self.inside.store))) c.args.dir c.args.frag c.args.nb (c.in_default.ensures.known) c.in_default.ensures.can
       c.prepare_split.new.dirs c.in-Err-prepare_split.ensures.homes c.in-Err-prepare_split.ensures.trees c.prepare_split.new.cache (g.S.Store.objects c.prepare_split.new.store) c.in-Err-prepare_split.ensures.same c.in-Err-prepare_split.ensures.left c.prepare_split.new.purge c.in-Err-prepare_split.ensures.names,
   none_only c.give_up.new.kept c.prepare_split.new.cache.entries (none_on c.give_up.new.cache c.prepare_split.new.cache c.give_up.ensures.none c.in-Err-prepare_split.ensures.none),
 )
 
 pub invariant_of-self-in-Ok : goal.invariant_of-self-in-Ok
 invariant_of-self-in-Ok g c =
-    let known = sym c.contains.ensures.known ∙ c.if-not-contains.false in
+    let known = c.in_default.ensures.known in
     let e = c.in-Ok.ensures in
     let d = c.commit_split.ensures in (
       made_kept c.self.inside.dirs c.give_up.new.cache (g.S.Store.objects c.self.inside.store) c.self.inside.jobs c.self.inside.purge c.self.inside.next (given_kept c.self.inside.dirs c.self.inside.cache (g.S.Store.objects c.self.inside.store) c.self.inside.jobs c.self.inside.purge c.self.inside.next c.self.invariant.0 c.give_up.new.cache (c.give_up.ensures.reads (g.S.Store.objects c.self.inside.store))) c.args.dir c.args.frag c.args.nb known c.in_default.ensures.can
@@ -48,7 +50,7 @@ invariant_of-self-in-Ok g c =
 
 pub returns-in-Ok-clause-split : goal.returns-in-Ok-clause-split
 returns-in-Ok-clause-split g c =
-    let known = sym c.contains.ensures.known ∙ c.if-not-contains.false in
+    let known = c.in_default.ensures.known in
     let e = c.in-Ok.ensures in
     let d = c.commit_split.ensures in
     subst (λ (v : Core). SplitsLeaf v (record { state = state_of c.commit_split.new.dirs c.commit_split.new.cache (g.S.Store.objects c.prepare_split.new.store) c.commit_split.new.jobs c.commit_split.new.purge c.commit_split.new.next; cache = c.commit_split.new.cache; dirs_left = c.commit_split.new.dirs.room; purge_left = c.commit_split.new.purge.room; faults = g.S.Store.faults c.prepare_split.new.store; prepared = c.self.inside.prepared }) c.args.dir c.args.frag c.args.nb (Ok tt)) c.self.view_is (
@@ -65,7 +67,7 @@ returns-in-Ok-clause-split g c =
 pub returns-in-Err-prepare_split-clause-split : goal.returns-in-Err-prepare_split-clause-split
 returns-in-Err-prepare_split-clause-split g c =
     let e = c.in-Err-prepare_split.ensures in
-    let known = sym c.contains.ensures.known ∙ c.if-not-contains.false in
+    let known = c.in_default.ensures.known in
     let reads = c.give_up.ensures.reads (g.S.Store.objects c.self.inside.store) in
     let some : c.self.inside.next.generation + 2 ^ c.args.nb < 2 ^ 64 = search rules in
     let one : c.self.inside.next.version < 2 ^ 64 - 1 = search rules in

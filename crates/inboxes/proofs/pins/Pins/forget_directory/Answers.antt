@@ -1,0 +1,7 @@
+use Rattle.std.proofs.Common.{rules, not}
+use Rattle.std.proofs.lemmas.Fn.{filter_same}
+use Rattle.inboxes.specs.Pins.{is_in}
+use Rattle.inboxes.proofs.pins.Pins.forget_directory.Goals as goal
+
+pub returns : goal.returns
+returns c = rw (← c.self.view_is) (filter_same _ (λ pin. not (is_in c.args.dir pin)) _ (λ x b f called. search rules) _ _ c.retain.ensures.filtered)
