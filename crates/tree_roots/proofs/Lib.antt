@@ -1,0 +1,3 @@
+pub mod InsideLaws
+pub mod RootLaws
+pub mod SubtreeLaws
