@@ -23,7 +23,7 @@ returns-in-Some-take-clause-served g c =
     let f = c.args.tree.now.state in
     let op = c.in-Some.front.now.op in
     let made = subst (λ (o : Option Prepared). IsMadeReady f c.args.roots.now.roots c.args.pins.now c.supply_of-supply.result c.args.rank c.in-Some.front.now (IsReadyIn c.make_ready.new.tree) (HasRoomForPlanned f c.make_ready.new.roots.roots c.make_ready.new.roots.room) (MayRefuse c.args.tree.now c.make_ready.new.tree op) (Ok o))
-          c.in-Ok-Some.field-0-is c.in-Ok-Some.ensures.ready in
+    c.in-Ok-Some.field-0-is c.in-Ok-Some.ensures.ready in
     served_new c.args.tree.now.state c.args.roots.now.roots c.args.numbers.now.items c.args.inboxes.now c.args.pins.now (table c.args.sessions.now) c.args.history.now.items c.args.rank (MayRefuse c.args.tree.now c.commit.new.tree)
     c.make_ready.new.tree.state c.make_ready.new.roots.roots (table c.make_ready.new.sessions) c.make_ready.new.history.items c.in-Some.front.now c.make_ready.ensures.same c.make_ready.ensures.roots c.make_ready.ensures.known c.make_ready.ensures.past
     (c.requires.new _ (sym c.in-Some.ensures)) master
