@@ -5,16 +5,17 @@ use Rattle.mds_types.specs.declared.refusals.Refusal.{Refusal}
 use Rattle.mds_types.specs.declared.operations.Op.{Op}
 use Rattle.mds_types.specs.Frag.{Fragment}
 use Rattle.cluster_core.specs.declared.events.Answer.{Answer}
-use Rattle.cluster_core.specs.declared.events.Event.TheVariants.{Arrive, Serve as ServeEvent, Split as SplitEvent, Merge as MergeEvent}
+use Rattle.cluster_core.specs.declared.events.Event.TheVariants.{Arrive, Serve as ServeEvent, Split as SplitEvent, Merge as MergeEvent, Grant as GrantEvent}
 use Rattle.cluster_core.specs.Administers.{ListsLeaves}
 use Rattle.cluster_core.specs.State.{Kept}
 use Rattle.script_text.specs.declared.commands.Command.{Command}
-use Rattle.script_text.specs.declared.commands.Command.TheVariants.{Operation, Request, Serve, History, Split, Merge, Leaves, Store}
+use Rattle.script_text.specs.declared.commands.Command.TheVariants.{Operation, Request, Serve, History, Split, Merge, Leaves, Grant, Subtrees, Authority, Store}
 use Rattle.script_output.specs.declared.lines.OutputLine.{OutputLine}
 use Rattle.script_output.specs.declared.lines.OutputLine.TheVariants.{Frags, History as HistoryLine, Refused}
 use Rattle.admin_cli.specs.declared.commands.Admin.{Admin}
 use Rattle.admin_cli.specs.StepLines.{Does, IsStep, StepsLine, arrived_line, shown_line}
-use Rattle.admin_cli.specs.StoreLines.{ExecutesStore}
+use Rattle.admin_cli.specs.Authorities.{ListsSubtrees, TellsLine}
+use Rattle.admin_cli.specs.StoreLines.{ExecutesStore, TakesJobs}
 
 -- an operation alone: it arrives at rank 0 as client 0 with this transaction number, and is served there if it wasn't refused
 abbrev pub OperatesAfter : (middle new : Kept) → Result Answer Refusal → OutputLine → Type 0
@@ -41,4 +42,21 @@ Executes old new History line = (new ≡ old) × (line ≡ HistoryLine (length o
 Executes old new (Split rank dir f nb) line = Does old new (SplitEvent rank dir f nb) line
 Executes old new (Merge rank dir f) line = Does old new (MergeEvent rank dir f) line
 Executes old new (Leaves dir) line = (new ≡ old) × ListsLine old.book dir line
+Executes old new (Grant rank client tid) line = Does old new (GrantEvent rank client tid) line
+Executes old new Subtrees line = (new ≡ old) × ListsSubtrees old.book.core.state line
+Executes old new (Authority dir f) line = (new ≡ old) × TellsLine old.book.core.state dir f line
 Executes old new (Store command) line = ExecutesStore old new command line
+
+-- a command that may fail: one that keeps a job or copies one, and no other
+abbrev pub MayLackMemory : Command → Type 0
+MayLackMemory (Operation op) = ⊥
+MayLackMemory (Serve rank) = ⊥
+MayLackMemory (Request rank request) = ⊥
+MayLackMemory History = ⊥
+MayLackMemory (Split rank dir f nb) = ⊥
+MayLackMemory (Merge rank dir f) = ⊥
+MayLackMemory (Leaves dir) = ⊥
+MayLackMemory (Grant rank client tid) = ⊥
+MayLackMemory Subtrees = ⊥
+MayLackMemory (Authority dir f) = ⊥
+MayLackMemory (Store command) = TakesJobs command

@@ -1,3 +1,4 @@
+pub mod Authorities
 pub mod Execute
 pub mod FaultText
 pub mod Jobs

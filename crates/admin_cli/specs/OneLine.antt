@@ -8,13 +8,21 @@ use Rattle.script_output.specs.Writing.{AppendsBeginning}
 use Rattle.admin_cli.specs.declared.commands.Admin.{Admin}
 use Rattle.admin_cli.specs.declared.faults.FaultKind.{FaultKind}
 use Rattle.admin_cli.specs.declared.faults.FaultKind.TheVariants.{NotCommand, TooLong, ReadFault, WriteFault, OutOfMemory}
+use Rattle.admin_cli.specs.Execute.{MayLackMemory}
 use Rattle.admin_cli.specs.Scripts.{text_of, DoesLine, RunsLine, StopsBefore}
+
+-- a line whose command may fail
+abbrev pub FailsLine : Line → Type 0
+FailsLine line.Nothing = ⊥
+FailsLine (line.Command command) = MayLackMemory command
+FailsLine (line.BadWord errno) = ⊥
+FailsLine line.NotCommand = ⊥
 
 -- a line before it is printed: the line to print, if it prints one, that it is no command, or want of memory for what is kept of it
 abbrev pub AnswersLine : (old new : Admin) → Line → Result (Option OutputLine) FaultKind → Type 0
 AnswersLine old new found (Ok None) = DoesLine old new found []
 AnswersLine old new found (Ok (Some printed)) = DoesLine old new found (text_of printed)
-AnswersLine old new found (Err kind) = ((found ≡ line.NotCommand) × (kind ≡ NotCommand)) ⊎ (kind ≡ OutOfMemory)
+AnswersLine old new found (Err kind) = ((found ≡ line.NotCommand) × (kind ≡ NotCommand)) ⊎ (FailsLine found × (kind ≡ OutOfMemory))
 
 -- what is written of a text: all of it, for want of memory nothing, and at a write fault a beginning
 abbrev pub Prints : (before after : Option (List ℕ)) → List ℕ → Result (Unit {0}) FaultKind → Type 0

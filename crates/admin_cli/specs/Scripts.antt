@@ -82,17 +82,18 @@ pub record RunsInput (old : Admin) (known before after : Option (List ℕ)) (res
   pub read : IfSome known (λ bytes. lines ≡ lines_of bytes)
   pub script : RunsScript old lines before after result
 
--- a book as `format` makes it with a cache of so many places: an empty tree, an empty history, and the state of a new cluster
-pub record IsFormatted (cache : ℕ) (book : Kept) : Type 0 where
+-- a book as `format` makes it with so many ranks and a cache of so many places: an empty tree, an empty history, and the state of a new
+-- cluster
+pub record IsFormatted (ranks cache : ℕ) (book : Kept) : Type 0 where
   pub opening : book.opening ≡ map.empty
   pub history : book.history ≡ []
-  pub state : book.core.state ≡ new_state
+  pub state : book.core.state ≡ new_state ranks
   pub places : book.core.cache.cap ≡ cache
 
 -- a whole script, from a new book, with no line read yet
-pub record RunsFormatted (cache : ℕ) (known before after : Option (List ℕ)) (result : Result (Unit {0}) ScriptFault) : Type 0 where
+pub record RunsFormatted (ranks cache : ℕ) (known before after : Option (List ℕ)) (result : Result (Unit {0}) ScriptFault) : Type 0 where
   pub book : Kept
-  pub formatted : IsFormatted cache book
+  pub formatted : IsFormatted ranks cache book
   pub runs : RunsInput (record { book = book; operations = 0; jobs = map.empty }) known before after result
 
 -- memory for a book was refused before the first line: nothing was written
@@ -100,5 +101,5 @@ pub record HasNoBook (before after : Option (List ℕ)) (result : Result (Unit {
   pub told : result ≡ Err (record { line = 1; kind = OutOfMemory })
   pub same : Keeps before after
 
-abbrev pub RunsNew : ℕ → (known before after : Option (List ℕ)) → Result (Unit {0}) ScriptFault → Type 0
-RunsNew cache known before after result = RunsFormatted cache known before after result ⊎ HasNoBook before after result
+abbrev pub RunsNew : (ranks cache : ℕ) → (known before after : Option (List ℕ)) → Result (Unit {0}) ScriptFault → Type 0
+RunsNew ranks cache known before after result = RunsFormatted ranks cache known before after result ⊎ HasNoBook before after result

@@ -10,7 +10,7 @@ use Rattle.objstore.specs.Objects.{Objects as Stored}
 use Rattle.commit_jobs.specs.declared.jobs.Job.{Job as Begun}
 use Rattle.commit_jobs.specs.Commit.{carried}
 use Rattle.cluster_core.specs.declared.events.Answer.{Answer}
-use Rattle.cluster_core.specs.declared.events.Answer.TheVariants.{Job, Nothing, Reply}
+use Rattle.cluster_core.specs.declared.events.Answer.TheVariants.{Deferred, Forwarded, Job, Nothing, Reply}
 use Rattle.cluster_core.specs.declared.events.Event.TheVariants.{CommitBegin as BeginEvent, CommitEnd as EndEvent, CommitDrop as DropEvent, CommitTree as TreeEvent, Purge as PurgeEvent, Evict as EvictEvent}
 use Rattle.script_text.specs.declared.store_commands.StoreCommand.{StoreCommand}
 use Rattle.script_text.specs.declared.store_commands.StoreCommand.TheVariants.{CommitBegin, CommitEnd, CommitDrop, Commit, CommitTree, Purge, Evict, Object, Objects}
@@ -29,6 +29,8 @@ abbrev pub number_in : Result Answer Refusal → Result (Option ℕ) Refusal
 number_in (Ok (Job job)) = Ok (Some job.number)
 number_in (Ok Nothing) = Ok None
 number_in (Ok (Reply client tid place first reply)) = Ok None
+number_in (Ok (Forwarded rank)) = Ok None
+number_in (Ok Deferred) = Ok None
 number_in (Err refusal) = Err refusal
 
 -- the job is kept, by its number
@@ -36,6 +38,8 @@ abbrev pub with_begun : Jobs → Result Answer Refusal → Jobs
 with_begun jobs (Ok (Job job)) = map.insert jobs job.number job
 with_begun jobs (Ok Nothing) = jobs
 with_begun jobs (Ok (Reply client tid place first reply)) = jobs
+with_begun jobs (Ok (Forwarded rank)) = jobs
+with_begun jobs (Ok Deferred) = jobs
 with_begun jobs (Err refusal) = jobs
 
 -- a commit of a leaf began, which gave a job of this number, or nothing, or was refused
@@ -87,6 +91,18 @@ abbrev pub ListsObjects : Stored → OutputLine → Type 0
 ListsObjects objects line = (line ≡ ObjectsLine (map.keys objects)) ⊎ (line ≡ Refused NoMemory)
 
 -- ---- a command on the store
+
+-- a command that keeps a job, or copies one that is kept: what it wants memory for is the script's own, and of no step
+abbrev pub TakesJobs : StoreCommand → Type 0
+TakesJobs (CommitBegin rank dir f) = Unit {0}
+TakesJobs (CommitEnd number) = Unit {0}
+TakesJobs (CommitDrop number) = ⊥
+TakesJobs (Commit rank dir f) = Unit {0}
+TakesJobs (CommitTree dir) = ⊥
+TakesJobs Purge = ⊥
+TakesJobs (Evict rank) = ⊥
+TakesJobs (Object name) = ⊥
+TakesJobs Objects = ⊥
 
 abbrev pub ExecutesStore : (old new : Admin) → StoreCommand → OutputLine → Type 0
 ExecutesStore old new (CommitBegin rank dir f) line = BeginsLine old new rank dir f line

@@ -8,7 +8,7 @@ use std::alloc::Global;
 /// What the command line asks for: a script over a cluster of so many ranks.
 #[derive(Clone, Copy, Debug, PartialEq, Eq)]
 pub struct Options {
-    /// How many ranks the cluster has; 1, so far.
+    /// How many ranks the cluster has.
     pub ranks: u8,
     /// How many fragments a rank may cache.
     pub cache: u32,
@@ -17,7 +17,7 @@ pub struct Options {
 /// Reads the words of a command line, the program's own name first. An error is a text for the user with the status to
 /// exit with: 0 where help was asked for, and otherwise 2.
 pub fn settings(alloc: Global, words: &[String]) -> Result<Options, Error>
-    ensures ranks { IfOk result (λ s. s.ranks ≡ 1) }
+    ensures ranked { IfOk result (λ s. (1 ≤ s.ranks) × (s.ranks ≤ 16)) }
     ensures least { IfOk result (λ s. 512 ≤ s.cache) }
     ensures most { IfOk result (λ s. s.cache ≤ 65536) }
 {
@@ -26,9 +26,9 @@ pub fn settings(alloc: Global, words: &[String]) -> Result<Options, Error>
     if let Some(script) = matches.subcommand_matches("script") {
         let ranks = script.get_one::<u8>("ranks");
         let cache = script.get_one::<u32>("cache");
-        if let (Some(1), Some(cache)) = (ranks, cache) {
-            if 512 <= cache && cache <= 65536 {
-                return Ok(Options { ranks: 1, cache });
+        if let (Some(ranks), Some(cache)) = (ranks, cache) {
+            if 1 <= ranks && ranks <= 16 && 512 <= cache && cache <= 65536 {
+                return Ok(Options { ranks, cache });
             }
         }
     }
@@ -50,6 +50,9 @@ Operations (OP), served at rank 0:
   rename INO NAME INO NAME
 Clients:
   req RANK CLIENT TID OLDEST OP     serve RANK
+Ranks:
+  grant RANK CLIENT TID             get subtrees
+  authority INO FRAG
 Fragments:
   dirfrag split RANK INO FRAG NB    dirfrag merge RANK INO FRAG
   dirfrag ls INO
@@ -67,7 +70,7 @@ fn program<'a>(alloc: Global) -> Result<Command<'a>, Error> {
     let ranks = Arg::new(alloc, "ranks")
         .long("ranks")
         .value_name("N")
-        .value_parser(value_parser!(u8).range(1..=1))
+        .value_parser(value_parser!(u8).range(1..=16))
         .default_value("1")
         .help("Metadata server ranks in the cluster");
     let cache = Arg::new(alloc, "cache")

@@ -1,6 +1,6 @@
 //! Commands over a book.
 
-ghost use Rattle.std.specs.Prelude.{◌≡◌, ◌+◌, ◌<◌, ◌≤◌, ◌^◌, IfOk};
+ghost use Rattle.std.specs.Prelude.{◌≡◌, ◌+◌, ◌<◌, ◌≤◌, ◌^◌, IfOk, OnErr};
 ghost use Rattle.std.specs.FinMap as map;
 ghost use Rattle.admin_cli.specs.StepLines.{shown_line as line_of};
 
@@ -22,7 +22,7 @@ pub struct Admin {
 
 impl Admin {
     ghost use Rattle.cluster_core.specs.declared.events.Event.TheVariants.{Arrive, Merge, Serve, Split};
-    ghost use Rattle.admin_cli.specs.Execute.{Executes, ListsLine, OperatesLine};
+    ghost use Rattle.admin_cli.specs.Execute.{Executes, ListsLine, MayLackMemory, OperatesLine};
     ghost use Rattle.admin_cli.specs.StepLines.{Does, StepsLine, arrived_line};
 
     /// An administrator of this book, who has read no line yet.
@@ -37,10 +37,11 @@ impl Admin {
     }
 
     /// Does what a command asks for, and answers the line to print. So many lines were read that one more fits 64 bits. An
-    /// error is want of memory for a job that is kept, or for its copy.
+    /// error is want of memory for a job that is kept, or for its copy; only a command that begins or ends a commit fails.
     pub fn execute(&mut self, alloc: Global, command: Command) -> Result<OutputLine, AllocError>
         requires { self.old.operations + 1 < 2 ^ 64 }
         ensures line { IfOk result (Executes self.old self.new command) }
+        ensures err { OnErr result (MayLackMemory command) }
         ensures count { self.new.operations ≤ self.old.operations + 1 }
     {
         match command {
@@ -57,6 +58,9 @@ impl Admin {
             } => Ok(self.split(alloc, rank, ino, frag, bits)),
             Command::Merge { rank, ino, frag } => Ok(self.merge(alloc, rank, ino, frag)),
             Command::Leaves(ino) => Ok(self.leaves(alloc, ino)),
+            Command::Grant { rank, client, tid } => Ok(self.grant(alloc, rank, client, tid)),
+            Command::Subtrees => Ok(self.subtrees(alloc)),
+            Command::Authority { ino, frag } => Ok(self.authority(ino, frag)),
         }
     }
 
@@ -172,6 +176,8 @@ fn shown_line(came: Result<Answer, Refusal>) -> OutputLine
             first,
             reply,
         },
+        Ok(Answer::Forwarded(rank)) => OutputLine::Forwarded(rank),
+        Ok(Answer::Deferred) => OutputLine::Deferred,
         Err(refusal) => OutputLine::Refused(refusal),
     }
 }

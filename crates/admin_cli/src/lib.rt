@@ -1,6 +1,7 @@
 //! The engine of the `cephmeta` program: its command line, and the script that it runs over a cluster.
 #![tactic(auto)]
 
+mod authorities;
 mod command_line;
 mod commands;
 mod faults;

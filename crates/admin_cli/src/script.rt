@@ -22,10 +22,11 @@ pub fn run_script<H: AllocGlobal, R: Read + Drop, W: Write>(
     ranks: u8,
     cache: u32,
 ) -> Result<(), ScriptFault>
-    requires ranked { ranks ≡ 1 }
+    requires one { 1 ≤ ranks }
+    requires few { ranks ≤ 16 }
     requires least { 512 ≤ cache }
     requires most { cache ≤ 65536 }
-    ensures { RunsNew cache (R.remaining reader) (W.contents writer.old) (W.contents writer.new) result }
+    ensures { RunsNew ranks cache (R.remaining reader) (W.contents writer.old) (W.contents writer.new) result }
 {
     let alloc = rt.alloc();
     match format(alloc, MemStore::new(alloc), ranks, cache) {

@@ -1,7 +1,7 @@
 //! Commands on the store: commits, fragment trees, the purge list, eviction, and looks at objects.
-ghost use Rattle.std.specs.Prelude.{◌≡◌, ℕ, IfOk, List};
+ghost use Rattle.std.specs.Prelude.{◌≡◌, ℕ, IfOk, List, OnErr};
 ghost use Rattle.std.specs.Prelude.{Option, Result};
-ghost use Rattle.admin_cli.specs.StoreLines.{BeginsCommit, BeginsLine, CommitsLine, EndsLine, ExecutesStore, ListsObjects, LooksLine, begun_line as line_of};
+ghost use Rattle.admin_cli.specs.StoreLines.{BeginsCommit, BeginsLine, CommitsLine, EndsLine, ExecutesStore, ListsObjects, LooksLine, TakesJobs, begun_line as line_of};
 
 use crate::commands::Admin;
 use cluster_core::{Answer, Event};
@@ -20,6 +20,7 @@ impl Admin {
         command: StoreCommand,
     ) -> Result<OutputLine, AllocError>
         ensures line { IfOk result (ExecutesStore self.old self.new command) }
+        ensures err { OnErr result (TakesJobs command) }
         ensures count { self.new.operations ≡ self.old.operations }
     {
         match command {
@@ -59,6 +60,8 @@ impl Admin {
             }
             Ok(Answer::Nothing) => Ok(Ok(None)),
             Ok(Answer::Reply { .. }) => Ok(Ok(None)),
+            Ok(Answer::Forwarded(_)) => Ok(Ok(None)),
+            Ok(Answer::Deferred) => Ok(Ok(None)),
             Err(refusal) => Ok(Err(refusal)),
         }
     }

@@ -101,10 +101,10 @@ others-fresh opening past s other e apart fresh range n from below among =
 -- each rank has its supply after one of them gave out a number
 module _ (opening : Tree) (past : List Entry) (numbers : List Supply) (rank : ℕ) (e : Entry) (there : rank < length numbers) (before : AreSupplied opening past numbers)
     (next_one : (n : Ino) → e.number ≡ Some n → (n.0 ≡ (get_or numbers rank no_supply).next) × ((get_or numbers rank no_supply).next < end_number (get_or numbers rank no_supply).rank)) where
-  mine : Supply
+  abbrev mine : Supply
   mine = get_or numbers rank no_supply
 
-  taken : Supply
+  abbrev taken : Supply
   taken = after_taking mine e.number
 
   range : (n : Ino) → e.number ≡ Some n → (first_number mine.rank ≤ n.0) × (n.0 < end_number mine.rank)

@@ -1,5 +1,7 @@
+pub mod AdminLaws
 pub mod Applied
 pub mod Carried
+pub mod HeldLaws
 pub mod InsideLaws
 pub mod Kept
 pub mod MasterLaws
@@ -11,4 +13,5 @@ pub mod Served
 pub mod Stays
 pub mod Stepped
 pub mod SubtreeLaws
+pub mod Supplies
 pub mod Worked

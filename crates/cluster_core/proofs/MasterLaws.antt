@@ -1,7 +1,8 @@
 -- Which leaves an operation changes, and which of them a rank may change.
-use Rattle.std.proofs.Common.{◌≡◌, ◌↔◌, ◌&&◌, inl, inr, ℕ, Bool, true, false, cond, List, [], ◌∷◌, Some, None, refl, sym, ap, ◌∙◌, subst, MatchBool, elim, arith}
+use Rattle.std.proofs.Common.{◌≡◌, ◌↔◌, ◌&&◌, inl, inr, ℕ, Bool, true, false, cond, List, [], ◌∷◌, Option, Some, None, IsTrue, MatchOption, refl, sym, ap, ◌∙◌, subst, MatchBool, arith}
 use Rattle.std.specs.List.{Contains}
 use Rattle.std.proofs.lemmas.Bool.{and_parts, true≢false}
+use Rattle.std.proofs.lemmas.Option.{none-some, same_Some}
 use Rattle.mds_types.specs.declared.dentries.Dentry.{Dentry}
 use Rattle.mds_types.specs.declared.ids.Ino.{Ino}
 use Rattle.mds_types.specs.declared.ids.Rank.{Rank}
@@ -15,11 +16,12 @@ use Rattle.mds_types.specs.Tree.{Tree, is_directory}
 use Rattle.inboxes.specs.declared.pins.Pin.{Pin}
 use Rattle.namehash.specs.Rjenkins.{hash_of}
 use Rattle.fragtree.specs.FragTree.{IsPick}
-use Rattle.inode_table.specs.Dirs.{Covers, leaves_of}
+use Rattle.inode_table.specs.Dirs.{Covers, Homes, leaves_of}
 use Rattle.namespace_ops.specs.ChangedFragments.{NamesOnce, changed_fragments, touched, unless_errno}
 use Rattle.namespace_ops.proofs.PickLaws.{picked}
 use Rattle.namespace_ops.proofs.Members.{first, first_or_later, later}
-use Rattle.subtree_map.specs.Authority.{Leaf, Roots}
+use Rattle.subtree_map.specs.Authority.{HasAuthority, Leaf, Roots}
+use Rattle.subtree_map.proofs.Nearest.{one_authority}
 use Rattle.mdcache.specs.Shown.{shown_tree}
 use Rattle.mdcache.specs.State.{State as TreeState}
 use Rattle.cluster_core.specs.Grants.{AreHeldAmong}
@@ -27,7 +29,7 @@ use Rattle.cluster_core.specs.Master.{HasForeign, IsMasterIn, LacksGrantIn, MayT
 use Rattle.cluster_core.specs.Subtrees.{Rules}
 
 -- nothing is in an empty list
-not_in_none : {A : Type 0} (x : A) → Contains {X = A} [] x → ⊥
+pub not_in_none : {A : Type 0} (x : A) → Contains {X = A} [] x → ⊥
 not_in_none x (k, below, is) = omega (arith, below)
 
 only_one : {A : Type 0} (x y : A) → Contains (x ∷ []) y → y ≡ x
@@ -104,6 +106,7 @@ module _ (tree : TreeState) (roots : Roots) (pins : List Pin) (rank : Rank) (cli
   ]
 
   a_foreign : (leaves : List Leaf) → HasForeign tree roots pins rank client tid leaves → (leaf : Leaf) × Contains leaves leaf × (MayTouchIn tree roots pins rank client tid leaf → ⊥)
+  a_foreign [] none = absurd none
   a_foreign (one ∷ leaves) (inl none) = (one, first one leaves, none)
   a_foreign (one ∷ leaves) (inr more) = let f = a_foreign leaves more in (f.0, later one f.0 leaves f.1, f.2)
 
@@ -117,7 +120,7 @@ module _ (tree : TreeState) (roots : Roots) (pins : List Pin) (rank : Rank) (cli
 -- those that are held among some leaves
 pub held_exactly : (tree : TreeState) (roots : Roots) (rank : Rank) (leaves held : List Leaf) → AreHeldAmong tree roots rank leaves held → (leaf : Leaf) → Contains held leaf ↔ (Contains leaves leaf × Rules tree roots leaf rank)
 held_exactly tree roots rank [] held none leaf = (λ has. absurd (not_in_none leaf (subst (λ o. Contains o leaf) none has)), λ w. absurd (not_in_none leaf w.0))
-held_exactly tree roots rank (one ∷ leaves) held (inl (mine, rest, is, more)) leaf =
+held_exactly tree roots rank (one ∷ leaves) held (inl (mine, (rest, is, more))) leaf =
     let others = held_exactly tree roots rank leaves rest more leaf in (
       λ has. elim (first_or_later one leaf rest (subst (λ o. Contains o leaf) is has)) [
         | inl same ↦ (subst (Contains (one ∷ leaves)) same (first one leaves), subst (λ (l : Leaf). Rules tree roots l rank) same mine)
@@ -136,3 +139,12 @@ held_exactly tree roots rank (one ∷ leaves) held (inr (foreign, more)) leaf =
         | inr among ↦ others.1 (among, w.1)
       ],
     )
+
+-- whether the authority that was found is this rank
+pub authority_is : (roots : Roots) (homes : Homes) (covers : Covers) (leaf : Leaf) (rank : Rank) (found : Option Rank) (same : Bool) → (same ≡ true → found ≡ Some rank) → (found ≡ Some rank → same ≡ true)
+    → MatchOption found ((other : Rank) → HasAuthority roots homes covers leaf other → ⊥) (HasAuthority roots homes covers leaf) → IsTrue same ↔ HasAuthority roots homes covers leaf rank
+authority_is roots homes covers leaf rank None same there back tells = (λ told. absurd (none-some rank (there told)), λ has. absurd (tells rank has))
+authority_is roots homes covers leaf rank (Some its) same there back tells = (
+  λ told. subst (HasAuthority roots homes covers leaf) (same_Some its rank (there told)) tells,
+  λ has. back (ap Some (one_authority roots homes covers leaf its rank tells has)),
+)

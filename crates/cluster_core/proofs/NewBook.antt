@@ -1,5 +1,5 @@
 -- A book begins sound.
-use Rattle.std.proofs.Common.{◌≡◌, ℕ, zero, suc, ◌+◌, ◌^◌, ◌<◌, ◌≤◌, inl, inr, List, [], ◌∷◌, map, length, get_or, replicate, ◌==◌, ◌||◌, Bool, true, false, Some, refl, sym, ap, subst, ◌∙◌, elim, arith}
+use Rattle.std.proofs.Common.{◌≡◌, ℕ, zero, suc, ◌+◌, ◌^◌, ◌<◌, ◌≤◌, inl, inr, List, [], ◌∷◌, map, length, get_or, replicate, ◌==◌, ◌||◌, Bool, true, false, Some, refl, sym, ap, subst, ◌∙◌, arith}
 use Rattle.std.specs.Prelude.{IsSome, is_some}
 use Rattle.std.specs.List.{Contains}
 use Rattle.std.specs.Ordering.{nat_cmp}
@@ -104,7 +104,7 @@ one_root leaf some = elim (same_or_apart leaf root_leaf) [
 new_are_roots : AreRoots new_tree_state new_roots
 new_are_roots = record {
   top = λ f has. ap is_some (ap (finmap.get new_roots) (live_root (record { 0 = 1 }, f) (record { known = refl; stands = has })) ∙ root_is);
-  live = λ leaf some. subst (λ l. _) (sym (one_root leaf some)) root_live;
+  live = λ leaf some. subst (λ (l : Leaf). IsLive no_homes no_covers l) (sym (one_root leaf some)) root_live;
 }
 
 all_first : AreFirst new_roots

@@ -1,5 +1,6 @@
 -- The number that a rank offers next is unused in the tree that a sound cluster shows, and in a rank's range.
 use Rattle.std.proofs.Common.{◌≡◌, ◌<◌, Bool, true, false, nat_lt, cond, length, MatchBool, List, Option, Some, None, refl, ap, ◌∙◌, sym, arith}
+use Rattle.std.proofs.lemmas.Bool.{ltb-true}
 use Rattle.std.proofs.lemmas.Bool.Decides.{nat_tests}
 use Rattle.std.specs.FinMap as map
 use Rattle.mds_types.specs.declared.ids.Ino.{Ino}
@@ -12,12 +13,16 @@ use Rattle.dirfrag_codec.specs.EntryRecord.{IsRankNumber}
 use Rattle.inode_table.specs.Numbers.{Supply, offer, end_number}
 use Rattle.namespace_ops.specs.Changes.{IsOffered}
 use Rattle.cluster_core.specs.Master.{AreMastersThere, main_leaf}
-use Rattle.cluster_core.specs.State.{Core, shown, supply_of}
-use Rattle.cluster_core.specs.Sound.{IsSound, IsSupplied}
+use Rattle.cluster_core.specs.State.{Core, State, shown, supply_of}
+use Rattle.cluster_core.specs.Sound.{AreRanks, IsSound, IsSupplied}
 use Rattle.cluster_core.specs.Subtrees.{Rules}
 
+-- a rank that is there has its supply
+pub there_of : (state : State) → AreRanks state → (rank : Rank) → nat_lt rank.0 (length state.inboxes) ≡ true → rank.0 < length state.numbers
+there_of state ranks rank here = omega (arith, ltb-true rank.0 (length state.inboxes) here, ranks.inboxes)
+
 module _ (opening : Tree) (past : List Entry) (core : Core) (sound : IsSound opening past core) (rank : Rank) (there : rank.0 < length core.state.numbers) where
-  mine : Supply
+  abbrev mine : Supply
   mine = supply_of core.state rank
 
   has : IsSupplied opening past rank.0 mine

@@ -59,10 +59,14 @@ module _ (f : TreeState) (roots : Roots) (numbers : List Supply) (inboxes : Inbo
   trimmed_out [] front inboxes_now pins_now is late ends = absurd (waits_some front is)
   trimmed_out (request ∷ rest) front inboxes_now pins_now is late ends =
       let same = same_Some front request is in
-      inl (refl, subst (λ (r : Request). IsTrimmed past r.client r.tid r.oldest) same late, record {
-        same = refl;
-        left = λ i. record { tree = f; roots = roots; numbers = numbers; inboxes = ends.0 i; pins = ends.1 i; sessions = sessions };
-      })
+      inl (
+        refl,
+        subst (λ (r : Request). IsTrimmed past r.client r.tid r.oldest) same late,
+        record {
+          same = refl;
+          left = λ i. record { tree = f; roots = roots; numbers = numbers; inboxes = ends.0 i; pins = ends.1 i; sessions = sessions };
+        },
+      )
 
   repeats : (request : Request) (rest : List Request) (inboxes_now : Inboxes) (pins_now : List Pin) (place : ℕ) (said : Replied) (result : Result Answer Refusal)
       → IsKeptAt past request.client request.tid request.oldest place → ((e : Entry) → said ≡ (slice_index_or past place e).reply)
@@ -239,6 +243,6 @@ module _ (f : TreeState) (roots : Roots) (numbers : List Supply) (inboxes : Inbo
           let mine : front ≡ r = same_Some front r is in
           let its : request ≡ r = same_Some request r taken.0 in
           subst (λ (x : Inboxes). ServesInbox old (state_of h roots_now numbers_now x pins_now sessions_now) past now MayRefuse rank (Ok answer) (r ∷ rest)) (sym taken.1) (
-            subst (λ (x : Request). ServesInbox old (state_of h roots_now numbers_now (with_waiting inboxes rank rest) pins_now sessions_now) past now MayRefuse rank (Ok answer) (x ∷ rest)) its
-            (inl (applied (mine ∙ sym its) rest))
+          subst (λ (x : Request). ServesInbox old (state_of h roots_now numbers_now (with_waiting inboxes rank rest) pins_now sessions_now) past now MayRefuse rank (Ok answer) (x ∷ rest)) its
+          (inl (applied (mine ∙ sym its) rest))
           )

@@ -1,6 +1,5 @@
 -- A book stays sound at every step.
 use Rattle.std.proofs.Common.{◌≡◌, ℕ, ◌<◌, Bool, true, false, nat_lt, inl, inr, List, [], ◌∷◌, ◌++◌, length, MatchBool, Option, Some, None, Result, Ok, Err, refl, ap, ◌∙◌, arith}
-use Rattle.std.proofs.lemmas.Bool.{ltb-true}
 use Rattle.std.proofs.lemmas.List.{length-set}
 use Rattle.mds_types.specs.declared.entries.Entry.{Entry}
 use Rattle.mds_types.specs.declared.ids.Rank.{Rank}
@@ -25,6 +24,7 @@ use Rattle.cluster_core.specs.Steps.{ArrivesAt, Does, MayRefuse}
 use Rattle.cluster_core.specs.Sound.{IsSound}
 use Rattle.cluster_core.specs.Subtrees.{KeepsRoots}
 use Rattle.cluster_core.proofs.Applied.{sound-applied}
+use Rattle.cluster_core.proofs.Offered.{there_of}
 
 module _ (opening : Tree) (past now : List Entry) (old new : Core) (sound : IsSound opening past old) (tree : IsKept new.state.tree new.cache) (kept : KeepsRoots old.state.tree new.state.tree old.state.roots new.state.roots) where
   -- the same history, and the same tree, numbers and sessions: what the inboxes have has no part in it
@@ -93,14 +93,10 @@ module _ (opening : Tree) (past now : List Entry) (old new : Core) (sound : IsSo
   at_rank true result go h = go refl h
   at_rank false result go h = sound-left h.1
 
-  -- a rank that is there has its supply
-  there_of : (rank : Rank) → nat_lt rank.0 (length old.state.inboxes) ≡ true → rank.0 < length old.state.numbers
-  there_of rank here = omega (arith, ltb-true rank.0 (length old.state.inboxes) here, sound.ranks.inboxes)
-
   -- every step keeps a book sound
   pub sound-step : (result : Result Answer Refusal) (event : Event) → Does old new past now result event → IsSound opening now new
   sound-step result (Arrive rank request) h = at_rank (nat_lt rank.0 (length old.state.inboxes)) result (λ here. arrived rank request result) h
-  sound-step result (Serve rank) h = at_rank (nat_lt rank.0 (length old.state.inboxes)) result (λ here. served_inbox (MayRefuse old new) rank (there_of rank here) result (waiting_at old.state.inboxes rank)) h
+  sound-step result (Serve rank) h = at_rank (nat_lt rank.0 (length old.state.inboxes)) result (λ here. served_inbox (MayRefuse old new) rank (there_of old.state sound.ranks rank here) result (waiting_at old.state.inboxes rank)) h
   sound-step result (Grant rank client tid) h = at_rank (nat_lt rank.0 (length old.state.inboxes)) result (λ here. granted (MayRefuse old new) rank client tid result (first_waiting client tid old.state.inboxes)) h
   sound-step result (Split rank dir f nb) h = at_rank (nat_lt rank.0 (length old.state.inboxes)) result (λ here. administered nothing (SplitsLeaf old new rank dir f nb) result) h
   sound-step result (Merge rank dir f) h = at_rank (nat_lt rank.0 (length old.state.inboxes)) result (λ here. administered nothing (MergesLeaves old new rank dir f) result) h

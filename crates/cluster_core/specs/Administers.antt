@@ -100,6 +100,11 @@ abbrev pub ListsLeaves : State → Ino → Result (List Fragment) Refusal → Ty
 ListsLeaves state dir (Ok leaves) = (is_directory (shown state) dir.0 ≡ true) × (leaves ≡ leaves_of state.tree.covers dir.0)
 ListsLeaves state dir (Err reason) = ((reason ≡ NoSuchFrag) × (is_directory (shown state) dir.0 ≡ false)) ⊎ ((reason ≡ NoMemory) × (is_directory (shown state) dir.0 ≡ true))
 
+-- the authority of a leaf; refused NoSuchFrag exactly where there is no such directory or leaf
+abbrev pub TellsAuthority : State → Leaf → Result Rank Refusal → Type 0
+TellsAuthority state leaf (Ok rank) = IsLive state.tree.homes state.tree.covers leaf × IsAuthority state leaf rank
+TellsAuthority state leaf (Err reason) = (reason ≡ NoSuchFrag) × (IsLive state.tree.homes state.tree.covers leaf → ⊥)
+
 -- ---- commits
 
 -- the job that was begun; nothing for a clean fragment

@@ -12,8 +12,8 @@ ghost use Rattle.cluster_core.specs.Steps.{AtRank};
 
 use crate::clusters::Cluster;
 use crate::events::Answer;
-use crate::masters::is_authority;
 use crate::inside::{is_all_of, is_any_pinned};
+use crate::masters::is_authority;
 use crate::root_steps::{merge_with_roots, split_with_roots};
 use commit_jobs::{Encoded, Job};
 use inboxes::Pins;

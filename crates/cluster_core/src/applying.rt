@@ -102,7 +102,7 @@ pub fn commit<S: Store + Drop>(
     requires ready { IsReadyToChange (shown_tree tree.old.state) tree.old.state.covers (IsReadyIn tree.old) prepared.plan.change }
     requires room { vec_len history.old < vec_capacity history.old }
     requires reserved { IsReady sessions.old request.client }
-    requires there { rank.0 < vec_len numbers.old }
+    requires there { rank.0 < length numbers.old.items }
     requires roots { HasRoomForPlanned tree.old.state roots.old.roots roots.old.room prepared.plan.change }
     requires valid { AreRoots tree.old.state roots.old.roots }
     ensures tree { shown_tree tree.new.state ≡ after_plan (shown_tree tree.old.state) prepared.plan.change }

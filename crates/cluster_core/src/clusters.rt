@@ -10,13 +10,14 @@ ghost use Rattle.mdcache.specs.New.{MayNotFormat, cached_root, root_leaf};
 ghost use Rattle.cluster_core.specs.State.{new_roots, new_state, whole_supplies};
 ghost use Rattle.cluster_core.specs.Steps.{ArrivesAt, AtRank, MayRefuse, ServesRank, Steps};
 ghost use Rattle.cluster_core.specs.Grants.{GrantsWaiting};
-ghost use Rattle.cluster_core.specs.Subtrees.{KeepsRoots};
+ghost use Rattle.cluster_core.specs.Subtrees.{AreRoots, KeepsRoots};
 ghost use Rattle.cluster_core.specs.Sound.{IsSound};
-ghost use Rattle.cluster_core.specs.Administers.{ListsLeaves};
+ghost use Rattle.cluster_core.specs.Administers.{ListsLeaves, TellsAuthority};
 
 use crate::events::{Answer, Event};
 use crate::granting::grant_first;
 use crate::serving::serve_front;
+use crate::subtrees::authority_of;
 use inboxes::{Inboxes, Pins};
 use inode_table::Numbers;
 use mdcache::MdCache;
@@ -200,13 +201,7 @@ impl<S: Store + Drop> Cluster<S> {
     }
 
     // The rank grants a waiting request what it would change of the rank's.
-    fn grant(
-        &mut self,
-        alloc: Global,
-        rank: Rank,
-        client: u64,
-        tid: u64,
-    ) -> Result<Answer, Refusal>
+    fn grant(&mut self, alloc: Global, rank: Rank, client: u64, tid: u64) -> Result<Answer, Refusal>
         ensures granted { (past : List Applied) → AtRank self.old.state self.new.state past past rank result (GrantsWaiting self.old.state self.new.state past past (MayRefuse self.old self.new) rank client tid result) }
         ensures tree { self.new.state.tree ≡ self.old.state.tree }
         ensures roots { self.new.state.roots ≡ self.old.state.roots }
@@ -244,6 +239,17 @@ impl<S: Store + Drop> Cluster<S> {
             return Err(Refusal::NoSuchFrag);
         }
         self.tree.leaves(alloc, ino)
+    }
+
+    // The authority of a leaf.
+    pub(crate) fn authority(&self, ino: Ino, frag: Frag) -> Result<Rank, Refusal>
+        requires { AreRoots self.now.state.tree self.now.state.roots }
+        ensures { TellsAuthority self.now.state (ino, frag) result }
+    {
+        match authority_of(&self.tree, &self.roots, ino, frag) {
+            Some(rank) => Ok(rank),
+            None => Err(Refusal::NoSuchFrag),
+        }
     }
 
     /// The subtree roots with their ranks, to read.
@@ -296,10 +302,7 @@ fn whole_supplies(alloc: Global, ranks: u8) -> Result<Vec<Numbers>, AllocError>
 {
     let mut numbers = Vec::new(alloc);
     for rank in 0..ranks {
-        numbers.push(Numbers::from(
-            Rank(rank),
-            Numbers::first_of(Rank(rank)).0,
-        ))?;
+        numbers.push(Numbers::from(Rank(rank), Numbers::first_of(Rank(rank)).0))?;
     }
     Ok(numbers)
 }

@@ -19,12 +19,7 @@ use subtree_map::Subtrees;
 
 /// The master of an operation that a rank serves: the authority of its dentry's leaf, of a rename the destination's, of a
 /// readdir the directory's first. Where the directory isn't there, the rank itself. Takes no memory.
-pub fn master_of<S: Store + Drop>(
-    tree: &MdCache<S>,
-    roots: &Subtrees,
-    rank: Rank,
-    op: &Op,
-) -> Rank
+pub fn master_of<S: Store + Drop>(tree: &MdCache<S>, roots: &Subtrees, rank: Rank, op: &Op) -> Rank
     requires { AreRoots tree.now.state roots.now.roots }
     ensures { IsMasterIn tree.now.state roots.now.roots rank op.now result }
 {
@@ -138,7 +133,13 @@ fn may_touch<S: Store + Drop>(
     requires { AreRoots tree.now.state roots.now.roots }
     ensures { IsTrue result ↔ MayTouchIn tree.now.state roots.now.roots pins.now rank client tid (dir, frag) }
 {
-    is_authority(tree, roots, rank, dir, frag) || pins.is_granted(&Pin { dir, frag, client, tid })
+    is_authority(tree, roots, rank, dir, frag)
+        || pins.is_granted(&Pin {
+            dir,
+            frag,
+            client,
+            tid,
+        })
 }
 
 /// Whether a rank is the authority of a leaf. Takes no memory.

@@ -46,7 +46,7 @@ pub fn serve_front<S: Store + Drop>(
 ) -> Result<Answer, Refusal>
     requires known { IsTableOf history.old.items (table sessions.old) }
     requires offered { IsOffered (shown_tree tree.old.state) (λ n. IsRankNumber n) (offer (get_or numbers.old.items rank.0 no_supply)) }
-    requires there { rank.0 < vec_len numbers.old }
+    requires there { rank.0 < length numbers.old.items }
     requires masters { AreMastersThere tree.old.state roots.old.roots rank (length inboxes.old) }
     requires valid { AreRoots tree.old.state roots.old.roots }
     ensures served { ServesInbox (state_of tree.old.state roots.old.roots numbers.old.items inboxes.old pins.old (table sessions.old)) (state_of tree.new.state roots.new.roots numbers.new.items inboxes.new pins.new (table sessions.new))
@@ -84,7 +84,7 @@ fn serve_new<S: Store + Drop>(
 ) -> Result<Answer, Refusal>
     requires new { (front : Waiting) → slice_get (waiting_at inboxes.old rank) 0 ≡ Some front → IsNew history.old.items front.client front.tid front.oldest }
     requires offered { IsOffered (shown_tree tree.old.state) (λ n. IsRankNumber n) (offer (get_or numbers.old.items rank.0 no_supply)) }
-    requires there { rank.0 < vec_len numbers.old }
+    requires there { rank.0 < length numbers.old.items }
     requires masters { AreMastersThere tree.old.state roots.old.roots rank (length inboxes.old) }
     requires valid { AreRoots tree.old.state roots.old.roots }
     ensures served { ServesInbox (state_of tree.old.state roots.old.roots numbers.old.items inboxes.old pins.old (table sessions.old)) (state_of tree.new.state roots.new.roots numbers.new.items inboxes.new pins.new (table sessions.new))
@@ -252,7 +252,7 @@ fn is_same(one: Rank, other: Rank) -> bool
 
 // The inode numbers that a rank has left, which is there.
 fn supply_of(numbers: &Vec<Numbers>, rank: Rank) -> Numbers
-    requires { rank.0 < vec_len numbers.now }
+    requires { rank.0 < length numbers.now.items }
     ensures { result ≡ get_or numbers.now.items rank.0 no_supply }
 {
     numbers[usize::from(rank.0)]

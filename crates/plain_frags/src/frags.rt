@@ -9,8 +9,8 @@ ghost use Rattle.mds_types.specs.Step.{names_after};
 ghost use Rattle.plain_frags.specs.Run.{run};
 ghost use Rattle.plain_frags.specs.PlainFrags.{Kept, is_numbered};
 
-use super::listing::{first_rows, next_in};
 use super::changes::{add_entry, move_entry, remove_entry, set_entry};
+use super::listing::{first_rows, next_in};
 use inode_table::Dirs;
 use mds_types::{Dentry, Frag, Ino, Inode, Listing, Name, Op, PageSize, Refusal};
 use namehash::rjenkins;

@@ -12,6 +12,7 @@ use Rattle.mds_types.specs.declared.refusals.Refusal.TheVariants.{Damaged}
 use Rattle.mds_types.specs.ObjectText.{object_text}
 use Rattle.mds_types.specs.Refusal.{refusal_number}
 use Rattle.mds_types.specs.Frag.{Fragment, fragment_text}
+use Rattle.script_output.specs.declared.root_lists.Root.{Root}
 use Rattle.script_output.specs.Escapes.{escaped}
 
 -- inode numbers print in lower hexadecimal, modes in octal, other numbers in decimal
@@ -76,6 +77,14 @@ frags_text leaves = codes "frags " ++ (decimal (length leaves) ++ flat_map leaf_
 -- `tree K F ..`: how many leaves a fragment tree has, and then each of them
 abbrev pub tree_text : List Fragment → List ℕ
 tree_text leaves = codes "tree " ++ (decimal (length leaves) ++ flat_map leaf_text leaves)
+
+-- a space and `INO:FRAG:RANK`: the root of a subtree, and its rank
+abbrev pub root_text : Root → List ℕ
+root_text root = codes " " ++ (hexadecimal root.ino.0 ++ (codes ":" ++ (fragment_text root.frag ++ (codes ":" ++ decimal root.rank.0))))
+
+-- `subtrees K INO:FRAG:RANK ..`: how many roots, and then each of them
+abbrev pub subtrees_text : List Root → List ℕ
+subtrees_text roots = codes "subtrees " ++ (decimal (length roots) ++ flat_map root_text roots)
 
 -- a space and a key or the name of an object, as it prints
 abbrev pub word_text : List ℕ → List ℕ

@@ -1,6 +1,6 @@
-//! What a script for a metadata cluster prints: the line for each result, the text of replies, names, leaves and objects, and
-//! the writing of such lines. The definitions of the text stand in `specs/`, with the laws that what it prints of a name, a
-//! number or a fragment is read back.
+//! What a script for a metadata cluster prints: the line for each result, the text of replies, names, leaves, subtree roots
+//! and objects, and the writing of such lines. The definitions of the text stand in `specs/`, with the laws that what it
+//! prints of a name, a number or a fragment is read back.
 #![tactic(auto)]
 
 mod escapes;
@@ -9,6 +9,7 @@ mod laws;
 mod lines;
 mod object_lines;
 mod replies;
+mod root_lists;
 mod word_lists;
 mod writing;
 
@@ -16,5 +17,6 @@ pub use frag_lists::FragList;
 pub use laws::{fragments_read_back, names_read_back, numbers_read_back};
 pub use lines::OutputLine;
 pub use object_lines::ObjectLine;
+pub use root_lists::{Root, RootList};
 pub use word_lists::WordList;
 pub use writing::{OutputFault, WriteFault, write_all_of, write_line};

@@ -6,8 +6,9 @@ ghost use Rattle.script_output.specs.Lines.{output_line};
 use crate::frag_lists::FragList;
 use crate::object_lines::ObjectLine;
 use crate::replies::ReplyText;
+use crate::root_lists::RootList;
 use crate::word_lists::{ObjectsText, WordList};
-use mds_types::{Refusal, Reply};
+use mds_types::{Rank, Refusal, Reply};
 use std::alloc::{AllocError, Global};
 use std::fmt;
 
@@ -24,12 +25,20 @@ pub enum OutputLine {
         first: bool,
         reply: Reply,
     },
+    /// `forwarded R`: a request went to the inbox of the rank that has to serve it.
+    Forwarded(Rank),
+    /// `deferred`: a request can't be served yet, and went to the back of its inbox.
+    Deferred,
     /// `queued`: a request came in, and waits.
     Queued,
     /// `nothing`: a step was made that answers nothing.
     Nothing,
     /// `frags K F ..`: the leaves of a directory.
     Frags(FragList),
+    /// `subtrees K INO:FRAG:RANK ..`: the subtree map.
+    Subtrees(RootList),
+    /// `rank R`: the authority of a leaf.
+    Authority(Rank),
     /// `job J`: a commit was begun, with a job of this number.
     Job(u64),
     /// `frag ..`, `tree ..`, `absent` or `damaged`: what an object is.
@@ -77,9 +86,13 @@ impl fmt::Display for OutputLine {
                 let reply = ReplyText(reply);
                 write!(f, "reply {client} {tid} {place} {first} {reply}")
             }
+            OutputLine::Forwarded(Rank(rank)) => write!(f, "forwarded {rank}"),
+            OutputLine::Deferred => write!(f, "deferred"),
             OutputLine::Queued => write!(f, "queued"),
             OutputLine::Nothing => write!(f, "nothing"),
             OutputLine::Frags(leaves) => write!(f, "{leaves}"),
+            OutputLine::Subtrees(roots) => write!(f, "{roots}"),
+            OutputLine::Authority(Rank(rank)) => write!(f, "rank {rank}"),
             OutputLine::Job(number) => write!(f, "job {number}"),
             OutputLine::Object(object) => write!(f, "{object}"),
             OutputLine::Objects(names) => {

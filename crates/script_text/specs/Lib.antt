@@ -1,4 +1,5 @@
 pub mod Attributes
+pub mod Authorities
 pub mod Dirfrags
 pub mod Operations
 pub mod Script

@@ -11,6 +11,7 @@ use Rattle.script_words.specs.Words.{words_of, is_text, is_printable, is_comment
 use Rattle.script_words.specs.Reading.{◌>>=◌, first, one}
 use Rattle.script_words.specs.Arguments.{rank_of, client_of, decimal_of}
 use Rattle.script_text.specs.Operations.{operation_of}
+use Rattle.script_text.specs.Authorities.{grant_of, get_of, authority_of}
 use Rattle.script_text.specs.Dirfrags.{dirfrag_of}
 use Rattle.script_text.specs.StoreCommands.{is_store_verb, store_command_of}
 
@@ -48,8 +49,11 @@ command_of verb args =
     (if is_text verb (codes "req") then req_of args else
     (if is_text verb (codes "history") then history_of args else
     (if is_text verb (codes "dirfrag") then dirfrag_of args else
+    (if is_text verb (codes "grant") then grant_of args else
+    (if is_text verb (codes "get") then get_of args else
+    (if is_text verb (codes "authority") then authority_of args else
     (if is_store_verb verb then (store_command_of verb args >>= λ command. Ok (Store command)) else
-    (operation_of verb args >>= λ op. Ok (Operation op))))))
+    (operation_of verb args >>= λ op. Ok (Operation op)))))))))
 
 -- the line of a command, or of its fault
 abbrev pub line_from : Result Command Fault → Line

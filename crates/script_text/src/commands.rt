@@ -3,6 +3,7 @@ ghost use Rattle.script_words.specs.Words.{words_of};
 ghost use Rattle.script_words.specs.Reading.{Gives};
 ghost use Rattle.script_text.specs.Script.{command_of, history_of, req_of, serve_of};
 
+use crate::authorities::{authority, get, grant};
 use crate::dirfrags::dirfrag;
 use crate::operations::read_operation;
 use crate::store_commands::{StoreCommand, is_store_verb, read_store_command};
@@ -36,6 +37,19 @@ pub enum Command {
     },
     /// Which leaves has the directory?
     Leaves(Ino),
+    /// A rank lets a waiting request, of this client and transaction number, change fragments that are the rank's.
+    Grant {
+        rank: Rank,
+        client: u64,
+        tid: u64,
+    },
+    /// Which leaves have a rank of their own?
+    Subtrees,
+    /// Which rank is the authority of a leaf?
+    Authority {
+        ino: Ino,
+        frag: Frag,
+    },
     /// What is asked of commits and of the store.
     Store(StoreCommand),
 }
@@ -56,6 +70,15 @@ pub fn read_command(alloc: Global, verb: &[u8], args: &[u8]) -> Result<Command, 
     }
     if verb == b"dirfrag".as_slice() {
         return dirfrag(args);
+    }
+    if verb == b"grant".as_slice() {
+        return grant(args);
+    }
+    if verb == b"get".as_slice() {
+        return get(args);
+    }
+    if verb == b"authority".as_slice() {
+        return authority(args);
     }
     if is_store_verb(verb) {
         return Ok(Command::Store(read_store_command(alloc, verb, args)?));

@@ -3,6 +3,7 @@
 #![tactic(auto)]
 
 mod attributes;
+mod authorities;
 mod commands;
 mod dirfrags;
 mod lines;

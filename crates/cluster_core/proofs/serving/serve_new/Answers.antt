@@ -1,5 +1,5 @@
 -- What serving made of the parts, said of the cluster's state.
-use Rattle.std.proofs.Common.{◌≡◌, ◌⊎◌, sym, subst}
+use Rattle.std.proofs.Common.{◌≡◌, ◌⊎◌, Option, Ok, sym, subst}
 use Rattle.mds_types.specs.declared.ids.Rank.{Rank}
 use Rattle.mds_types.specs.declared.refusals.Refusal.TheVariants.{NoMemory}
 use Rattle.inboxes.specs.Inboxes.{waiting_at}
@@ -9,7 +9,9 @@ use Rattle.sessions.specs.Rooms.{table}
 use Rattle.mdcache.specs.Frags.{IsReady as IsReadyIn, MayRefuse}
 use Rattle.mdcache.specs.Shown.{shown_tree}
 use Rattle.cluster_core.specs.Master.{IsMasterIn, MayTouchAllIn}
-use Rattle.cluster_core.specs.Prepared.{IsPrepared, outcome_with}
+use Rattle.cluster_core.specs.declared.applying.Prepared.{Prepared}
+use Rattle.cluster_core.specs.Prepared.{IsMadeReady, IsPrepared, outcome_with}
+use Rattle.cluster_core.specs.Subtrees.{HasRoomForPlanned}
 use Rattle.cluster_core.proofs.Served.{lacks_number, served_new}
 use Rattle.cluster_core.proofs.serving.serve_new.Goals as goal
 
@@ -18,7 +20,10 @@ returns-in-Some-take-clause-served g c =
     let supply_is = c.supply_of-supply.ensures in
     let at_rank : c.master_of-master.result ≡ c.args.rank = c.is_same.ensures.0 c.if-not-is_same.false in
     let master = subst (λ (m : Rank). IsMasterIn c.args.tree.now.state c.args.roots.now.roots c.args.rank c.in-Some.front.now.op m) at_rank c.master_of-master.ensures in
-    let made = c.in-Ok-Some.ensures.ready in
+    let f = c.args.tree.now.state in
+    let op = c.in-Some.front.now.op in
+    let made = subst (λ (o : Option Prepared). IsMadeReady f c.args.roots.now.roots c.args.pins.now c.supply_of-supply.result c.args.rank c.in-Some.front.now (IsReadyIn c.make_ready.new.tree) (HasRoomForPlanned f c.make_ready.new.roots.roots c.make_ready.new.roots.room) (MayRefuse c.args.tree.now c.make_ready.new.tree op) (Ok o))
+    c.in-Ok-Some.field-0-is c.in-Ok-Some.ensures.ready in
     served_new c.args.tree.now.state c.args.roots.now.roots c.args.numbers.now.items c.args.inboxes.now c.args.pins.now (table c.args.sessions.now) c.args.history.now.items c.args.rank (MayRefuse c.args.tree.now c.commit.new.tree)
     c.make_ready.new.tree.state c.make_ready.new.roots.roots (table c.make_ready.new.sessions) c.make_ready.new.history.items c.in-Some.front.now c.make_ready.ensures.same c.make_ready.ensures.roots c.make_ready.ensures.known c.make_ready.ensures.past
     (c.requires.new _ (sym c.in-Some.ensures)) master

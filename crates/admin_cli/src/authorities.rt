@@ -1,0 +1,53 @@
+//! Commands on authorities: grants, the subtree map, and whose a leaf is.
+ghost use Rattle.std.specs.Prelude.{◌≡◌, IfOk};
+ghost use Rattle.cluster_core.specs.declared.events.Event.TheVariants.{Grant};
+ghost use Rattle.admin_cli.specs.Authorities.{ListsSubtrees, TellsLine, roots_in};
+ghost use Rattle.admin_cli.specs.StepLines.{Does};
+
+use crate::commands::Admin;
+use cluster_core::Event;
+use mds_types::{Frag, Ino, Rank, Refusal};
+use script_output::{OutputLine, Root, RootList};
+use std::alloc::{AllocError, Global};
+use subtree_map::Subtrees;
+
+impl Admin {
+    // A rank lets a waiting request change fragments that are the rank's.
+    pub(crate) fn grant(&mut self, alloc: Global, rank: Rank, client: u64, tid: u64) -> OutputLine
+        ensures { Does self.old self.new (Grant rank client tid) result }
+    {
+        self.step(alloc, Event::Grant { rank, client, tid })
+    }
+
+    // Which leaves have a rank of their own?
+    pub(crate) fn subtrees(&self, alloc: Global) -> OutputLine
+        ensures { ListsSubtrees self.now.book.core.state result }
+    {
+        match root_list(alloc, self.book.cluster().roots()) {
+            Ok(roots) => OutputLine::Subtrees(roots),
+            Err(_) => OutputLine::Refused(Refusal::NoMemory),
+        }
+    }
+
+    // Which rank is the authority of a leaf?
+    pub(crate) fn authority(&self, ino: Ino, frag: Frag) -> OutputLine
+        ensures { TellsLine self.now.book.core.state ino frag result }
+    {
+        match self.book.authority(ino, frag) {
+            Ok(rank) => OutputLine::Authority(rank),
+            Err(refusal) => OutputLine::Refused(refusal),
+        }
+    }
+}
+
+// The subtree roots with their ranks, in the order of the map.
+fn root_list(alloc: Global, subtrees: &Subtrees) -> Result<RootList, AllocError>
+    ensures { IfOk result (λ roots. roots ≡ roots_in subtrees.now.roots) }
+{
+    let mut roots = Vec::with_capacity(alloc, subtrees.iter().len())?;
+    for row in subtrees.iter() {
+        let ((ino, frag), rank) = *row;
+        roots.push(Root { ino, frag, rank })?;
+    }
+    Ok(RootList::from_vec(roots))
+}

@@ -1,0 +1,78 @@
+-- The list of the leaves that a rank holds, and what a grant makes of it.
+use Rattle.std.proofs.Common.{◌≡◌, ◌↔◌, inl, inr, ℕ, ◌+◌, ◌<◌, ◌≤◌, List, [], ◌∷◌, ◌++◌, drop, length, Some, Err, Ok, refl, sym, ap, ◌∙◌, subst}
+use Rattle.std.specs.List.{Contains}
+use Rattle.std.proofs.lemmas.List.{append-nil, append_assoc, drop_all}
+use Rattle.mds_types.specs.declared.entries.Entry.{Entry}
+use Rattle.mds_types.specs.declared.ids.Rank.{Rank}
+use Rattle.mds_types.specs.declared.operations.Op.{Op}
+use Rattle.mds_types.specs.declared.requests.Request.{Request}
+use Rattle.mds_types.specs.declared.refusals.Refusal.{Refusal}
+use Rattle.mds_types.specs.declared.refusals.Refusal.TheVariants.{NotAuthority}
+use Rattle.inboxes.specs.declared.pins.Pin.{Pin}
+use Rattle.inboxes.specs.Inboxes.{Inboxes, first_waiting}
+use Rattle.inode_table.specs.Numbers.{Supply}
+use Rattle.namespace_ops.specs.ChangedFragments.{NamesOnce, changed_fragments}
+use Rattle.sessions.specs.Table.{Table}
+use Rattle.subtree_map.specs.Authority.{Leaf, Roots}
+use Rattle.mdcache.specs.Shown.{shown_tree}
+use Rattle.mdcache.specs.State.{State as TreeState}
+use Rattle.cluster_core.specs.declared.events.Answer.TheVariants.{Nothing}
+use Rattle.cluster_core.specs.Grants.{AreHeldAmong, GrantsFirst, GrantsWaiting, IsGranted, with_grants}
+use Rattle.cluster_core.specs.State.{State, state_of}
+use Rattle.cluster_core.specs.Subtrees.{Rules}
+use Rattle.cluster_core.proofs.MasterLaws.{held_exactly, not_in_none}
+
+-- ---- a walk
+
+module _ (tree : TreeState) (roots : Roots) (rank : Rank) (all : List Leaf) (at : ℕ) (held : List Leaf) (so_far : (rest : List Leaf) → AreHeldAmong tree roots rank (drop at all) rest → AreHeldAmong tree roots rank all (held ++ rest)) where
+  module _ (leaf : Leaf) (is : drop at all ≡ leaf ∷ drop (at + 1) all) where
+    -- one more that is held
+    pub one_more : (now : List Leaf) → Rules tree roots leaf rank → now ≡ held ++ (leaf ∷ []) → (rest : List Leaf) → AreHeldAmong tree roots rank (drop (at + 1) all) rest → AreHeldAmong tree roots rank all (now ++ rest)
+    one_more now mine pushed rest others =
+        subst (AreHeldAmong tree roots rank all) (sym (ap (λ (h : List Leaf). h ++ rest) pushed ∙ append_assoc held (leaf ∷ []) rest))
+        (so_far (leaf ∷ rest) (subst (λ (ls : List Leaf). AreHeldAmong tree roots rank ls (leaf ∷ rest)) (sym is) (inl (mine, (rest, refl, others)))))
+
+    -- one that isn't
+    pub one_less : (now : List Leaf) → (Rules tree roots leaf rank → ⊥) → now ≡ held → (rest : List Leaf) → AreHeldAmong tree roots rank (drop (at + 1) all) rest → AreHeldAmong tree roots rank all (now ++ rest)
+    one_less now foreign same rest others =
+        subst (λ (h : List Leaf). AreHeldAmong tree roots rank all (h ++ rest)) (sym same) (so_far rest (subst (λ (ls : List Leaf). AreHeldAmong tree roots rank ls rest) (sym is) (inr (foreign, others))))
+
+  -- all of them
+  pub all_held : length all ≤ at → AreHeldAmong tree roots rank all held
+  all_held ends =
+      subst (AreHeldAmong tree roots rank all) (append-nil held) (so_far [] (subst (λ (ls : List Leaf). AreHeldAmong tree roots rank ls []) (sym (drop_all at all ends)) refl))
+
+-- ---- a grant
+
+module _ (tree now : TreeState) (roots : Roots) (numbers : List Supply) (inboxes : Inboxes) (pins after : List Pin) (sessions : Table) (past : List Entry) (MayRefuse : Op → Refusal → Type 0) (rank : Rank) (client tid : ℕ)
+    (request : Request) (waits : Some request ≡ first_waiting client tid inboxes) (changed mine : List Leaf) (names : NamesOnce (changed_fragments tree.covers (shown_tree tree) request.op) changed) (held : AreHeldAmong now roots rank changed mine) (same : now ≡ tree) where
+  abbrev before : State
+  before = state_of tree roots numbers inboxes pins sessions
+
+  abbrev later : State
+  later = state_of now roots numbers inboxes after sessions
+
+  exactly : (leaf : Leaf) → Contains mine leaf ↔ IsGranted before rank request.op leaf
+  exactly leaf =
+      let its = held_exactly tree roots rank changed mine (subst (λ (t : TreeState). AreHeldAmong t roots rank changed mine) same held) leaf in (
+        λ has. let h = its.0 has in record { changes = (names.exactly leaf).0 h.0; mine = h.1 },
+        λ granted. its.1 ((names.exactly leaf).1 granted.changes, granted.mine),
+      )
+
+  -- the rank holds nothing of what would change
+  pub none_granted : mine ≡ [] → after ≡ pins → GrantsWaiting before later past past MayRefuse rank client tid (Err NotAuthority)
+  none_granted none left = subst (GrantsFirst before later past past MayRefuse rank client tid (Err NotAuthority)) waits (
+    inl (refl, λ leaf granted. absurd (not_in_none leaf (subst (λ (ls : List Leaf). Contains ls leaf) none ((exactly leaf).1 granted)))),
+    record { same = refl; left = λ i. record { tree = same i; roots = roots; numbers = numbers; inboxes = inboxes; pins = left i; sessions = sessions } },
+  )
+
+  -- all that it holds of it is granted
+  pub all_granted : 0 < length mine → after ≡ with_grants pins mine client tid → GrantsWaiting before later past past MayRefuse rank client tid (Ok Nothing)
+  all_granted some pinned = subst (GrantsFirst before later past past MayRefuse rank client tid (Ok Nothing)) waits (record {
+    answered = refl;
+    leaves = mine;
+    exactly = exactly;
+    some = some;
+    same = refl;
+    left = λ i. record { tree = same i; roots = roots; numbers = numbers; inboxes = inboxes; pins = pinned i; sessions = sessions };
+  })

@@ -1,0 +1,9 @@
+use Rattle.std.proofs.Common.{sym, ◌∙◌}
+use Rattle.sessions.specs.Rooms.{table}
+use Rattle.cluster_core.proofs.Worked.{at_rank}
+use Rattle.cluster_core.proofs.clusters.Cluster.begin_commit.Goals as goal
+
+pub returns-clause-begun : goal.returns-clause-begun
+returns-clause-begun g c past =
+    at_rank _ _ _ (sym c.is_rank.ensures ∙ c.if-not-is_rank.false)
+    (rw (← c.self.view_is) (c.begin_at.ensures.begun c.self.inside.numbers.items c.self.inside.inboxes c.self.inside.pins (table c.self.inside.sessions) past))

@@ -1,0 +1,9 @@
+use Rattle.std.proofs.Common.{sym, ◌∙◌}
+use Rattle.sessions.specs.Rooms.{table}
+use Rattle.cluster_core.proofs.Worked.{at_rank}
+use Rattle.cluster_core.proofs.clusters.Cluster.split.Goals as goal
+
+pub returns-clause-split : goal.returns-clause-split
+returns-clause-split g c past =
+    at_rank _ _ _ (sym c.is_rank.ensures ∙ c.if-not-is_rank.false)
+    (rw (← c.self.view_is) (c.split_at.ensures.split c.self.inside.numbers.items c.self.inside.inboxes (table c.self.inside.sessions) past))

@@ -1,0 +1,12 @@
+use Rattle.std.specs.Prelude.{MatchBool}
+use Rattle.std.proofs.Common.{subst}
+use Rattle.mdcache.specs.State.{State}
+use Rattle.cluster_core.specs.Master.{HasForeign, MayTouchEach}
+use Rattle.cluster_core.proofs.MasterLaws.{tells}
+use Rattle.cluster_core.proofs.masters.lacks_grant.Goals as goal
+
+pub returns-in-Ok-clause-found : goal.returns-in-Ok-clause-found
+returns-in-Ok-clause-found g c =
+    tells c.args.tree.now.state c.args.roots.now.roots c.args.pins.now c.args.rank c.args.client c.args.tid c.args.op.now c.in-Ok.leaves.items c.any_lacks.result c.in-Ok.ensures.changed
+    (subst (λ (t : State). MatchBool c.any_lacks.result (HasForeign t c.args.roots.now.roots c.args.pins.now c.args.rank c.args.client c.args.tid c.in-Ok.leaves.items) (MayTouchEach t c.args.roots.now.roots c.args.pins.now c.args.rank c.args.client c.args.tid c.in-Ok.leaves.items))
+    c.in-Ok.ensures.kept.follows.state c.any_lacks.ensures)

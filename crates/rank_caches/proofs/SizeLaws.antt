@@ -1,0 +1,39 @@
+-- How many places each rank has, and that new caches have none taken.
+use Rattle.std.proofs.Common.{◌≡◌, ◌≢◌, ℕ, ◌<◌, ◌≤◌, ◌⊎◌, inl, inr, true, false, [], length, replicate, is_some, sym, ap, subst, ◌∙◌}
+use Rattle.std.specs.Map.{lookup}
+use Rattle.std.proofs.lemmas.Bool.{cases_lt}
+use Rattle.std.proofs.lemmas.List.{get_or-replicate, get_or_past, length-replicate, length-set}
+use Rattle.lru.specs.LruCache.{lru_cache}
+use Rattle.mds_types.specs.declared.ids.Rank.{Rank}
+use Rattle.dentry_cache.specs.Cache.{Held, Leaf, Places, leaf_is}
+use Rattle.rank_caches.specs.Caches.{AreApart, Caches, HaveEach, cache_of, has_place, no_cache, with_cache}
+use Rattle.rank_caches.specs.Changes.{StaySized}
+use Rattle.rank_caches.proofs.PlaceLaws.{cache_beside, cache_there, rank_or_apart}
+
+pub stay_sized : StaySized
+stay_sized caches rank now places have same = record { each = λ other there. go other (subst (λ (n : ℕ). other.0 < n) (length-set caches rank.0 now) there) (rank_or_apart other rank) }
+  where
+    go : (other : Rank) → other.0 < length caches → (other ≡ rank) ⊎ (other ≢ rank) → (cache_of (with_cache caches rank now) other).cap ≡ places
+    go other there (inl is) =
+        ap (λ (r : Rank). (cache_of (with_cache caches rank now) r).cap) is ∙ ap (λ (h : Held). h.cap) (cache_there caches rank now (subst (λ (r : Rank). r.0 < length caches) is there)) ∙ same
+        ∙ sym (ap (λ (r : Rank). (cache_of caches r).cap) is) ∙ have.each other there
+    go other there (inr differs) = ap (λ (h : Held). h.cap) (cache_beside caches rank other now differs) ∙ have.each other there
+
+-- so many caches without a place taken
+none_taken : (count places : ℕ) (rank : Rank) → (cache_of (replicate count (lru_cache [] places)) rank).entries ≡ []
+none_taken count places rank = go (cases_lt rank.0 count)
+  where
+    go : (rank.0 < count) ⊎ (count ≤ rank.0) → (cache_of (replicate count (lru_cache [] places)) rank).entries ≡ []
+    go (inl few) = ap (λ (h : Held). h.entries) (get_or-replicate count rank.0 (lru_cache [] places) no_cache few)
+    go (inr past) = ap (λ (h : Held). h.entries) (get_or_past (replicate count (lru_cache [] places)) rank.0 no_cache (subst (λ (n : ℕ). n ≤ rank.0) (sym (length-replicate count (lru_cache [] places))) past))
+
+pub new_apart : (count places : ℕ) (caches : Caches) → caches ≡ replicate count (lru_cache [] places) → AreApart caches
+new_apart count places caches is = subst AreApart (sym is) (record { one = λ q a b at_a at_b. never q a at_a })
+  where
+    never : {P : Type 0} (q : Leaf) (a : Rank) → has_place (replicate count (lru_cache [] places)) a q ≡ true → P
+    never q a at_a = let clash : false ≡ true = sym (ap (λ (es : Places). is_some (lookup (leaf_is q) es)) (none_taken count places a)) ∙ at_a in absurd cc
+
+pub new_each : (count places : ℕ) (caches : Caches) → caches ≡ replicate count (lru_cache [] places) → HaveEach places caches
+new_each count places caches is =
+    subst (HaveEach places) (sym is)
+    (record { each = λ rank there. ap (λ (h : Held). h.cap) (get_or-replicate count rank.0 (lru_cache [] places) no_cache (subst (λ (n : ℕ). rank.0 < n) (length-replicate count (lru_cache [] places)) there)) })

@@ -1,0 +1,8 @@
+use Rattle.rank_caches.proofs.UnsavedLaws.{unsaved_change, unsaved_stay}
+use Rattle.rank_caches.proofs.laws.unsaved_changes_at_ranks.Goals as goal
+
+pub returns-clause-same : goal.returns-clause-same
+returns-clause-same c = unsaved_stay
+
+pub returns-clause-changed : goal.returns-clause-changed
+returns-clause-changed c = unsaved_change

@@ -1,0 +1,42 @@
+-- What a contract sees of the caches of all ranks: one for each, rank 0 first (a cache for each metadata server: Weil et al., OSDI 2006).
+use Rattle.std.specs.Prelude.{◌≡◌, ◌≢◌, ◌<◌, ℕ, Bool, true, List, [], ◌∷◌, ◌++◌, length, get_or, set, is_some, None}
+use Rattle.std.specs.Map.{lookup}
+use Rattle.lru.specs.LruCache.{lru_cache}
+use Rattle.mds_types.specs.declared.ids.Rank.{Rank}
+use Rattle.dentry_cache.specs.Cache.{Held, Leaf, Places, leaf_is}
+
+abbrev pub Caches : Type 0
+Caches = List Held
+
+-- a cache without places
+abbrev pub no_cache : Held
+no_cache = lru_cache [] 0
+
+-- the cache of a rank; one without places where there is no such rank
+abbrev pub cache_of : Caches → Rank → Held
+cache_of caches rank = get_or caches rank.0 no_cache
+
+-- with this cache at a rank in place of its own
+abbrev pub with_cache : Caches → Rank → Held → Caches
+with_cache caches rank cache = set caches rank.0 cache
+
+-- the places of all ranks, those of rank 0 first
+abbrev pub places_of : Caches → Places
+places_of [] = []
+places_of (cache ∷ caches) = cache.entries ++ places_of caches
+
+-- whether a leaf has a place at a rank, be there a fragment in it or not
+abbrev pub has_place : Caches → Rank → Leaf → Bool
+has_place caches rank leaf = is_some (lookup (leaf_is leaf) (cache_of caches rank).entries)
+
+-- a leaf has no place at another rank than this
+pub record HasNoneBeside (caches : Caches) (rank : Rank) (leaf : Leaf) : Type 0 where
+  pub none : (other : Rank) → other ≢ rank → lookup (leaf_is leaf) (cache_of caches other).entries ≡ None
+
+-- no leaf has places at two ranks
+pub record AreApart (caches : Caches) : Type 0 where
+  pub one : (leaf : Leaf) (a b : Rank) → has_place caches a leaf ≡ true → has_place caches b leaf ≡ true → a ≡ b
+
+-- each rank has so many places
+pub record HaveEach (places : ℕ) (caches : Caches) : Type 0 where
+  pub each : (rank : Rank) → rank.0 < length caches → (cache_of caches rank).cap ≡ places
