@@ -33,7 +33,7 @@ impl Admin {
     pub(crate) fn authority(&self, ino: Ino, frag: Frag) -> OutputLine
         ensures { TellsLine self.now.book.core.state ino frag result }
     {
-        match self.book.authority(ino, frag) {
+        match self.book.cluster().authority(ino, frag) {
             Ok(rank) => OutputLine::Authority(rank),
             Err(refusal) => OutputLine::Refused(refusal),
         }

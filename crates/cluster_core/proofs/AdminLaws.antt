@@ -8,7 +8,7 @@ use Rattle.inode_table.specs.Dirs.{Covers, Homes}
 use Rattle.subtree_map.specs.Authority.{Roots}
 use Rattle.subtree_map.specs.Changes.{HaveOneAuthority}
 use Rattle.subtree_map.proofs.Nearest.{one_authority}
-use Rattle.cluster_core.specs.Subtrees.{AllHave}
+use Rattle.ranked_tree.specs.Subtrees.{AllHave}
 
 -- leaves that all have one rank have one authority
 pub one_of_all : (homes : Homes) (covers : Covers) (roots : Roots) (dir : Ino) (f : Fragment) (rank : Rank) → AllHave homes covers roots dir f rank → HaveOneAuthority roots homes covers dir.0 f

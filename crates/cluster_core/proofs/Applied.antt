@@ -20,8 +20,8 @@ use Rattle.cluster_core.specs.State.{Core, State, no_supply, shown, supply_of}
 use Rattle.cluster_core.specs.declared.events.Answer.{Answer}
 use Rattle.cluster_core.specs.Offer.{after_taking}
 use Rattle.cluster_core.specs.Serve.{IsApplied, entry_of, number_of, outcome_of, with_entry}
-use Rattle.cluster_core.specs.Sound.{AreRanks, AreSupplied, IsFresh, IsSound, IsSupplied}
-use Rattle.cluster_core.specs.Subtrees.{KeepsRoots}
+use Rattle.cluster_core.specs.Sound.{AreSupplied, IsFresh, IsSound, IsSupplied}
+use Rattle.ranked_tree.specs.Subtrees.{KeepsRoots}
 
 -- what an offer of a number comes to: the table took it, or it took none and the outcome is that of any number
 pub record IsTaking (tree : Tree) (request : Request) (s : Supply) (number : Option Ino) (outcome : Outcome) : Type 0 where

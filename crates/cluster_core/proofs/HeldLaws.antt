@@ -19,7 +19,7 @@ use Rattle.mdcache.specs.State.{State as TreeState}
 use Rattle.cluster_core.specs.declared.events.Answer.TheVariants.{Nothing}
 use Rattle.cluster_core.specs.Grants.{AreHeldAmong, GrantsFirst, GrantsWaiting, IsGranted, with_grants}
 use Rattle.cluster_core.specs.State.{State, state_of}
-use Rattle.cluster_core.specs.Subtrees.{Rules}
+use Rattle.ranked_tree.specs.Subtrees.{Rules}
 use Rattle.cluster_core.proofs.MasterLaws.{held_exactly, not_in_none}
 
 -- ---- a walk
@@ -44,17 +44,17 @@ module _ (tree : TreeState) (roots : Roots) (rank : Rank) (all : List Leaf) (at 
 
 -- ---- a grant
 
-module _ (tree now : TreeState) (roots : Roots) (numbers : List Supply) (inboxes : Inboxes) (pins after : List Pin) (sessions : Table) (past : List Entry) (MayRefuse : Op → Refusal → Type 0) (rank : Rank) (client tid : ℕ)
-    (request : Request) (waits : Some request ≡ first_waiting client tid inboxes) (changed mine : List Leaf) (names : NamesOnce (changed_fragments tree.covers (shown_tree tree) request.op) changed) (held : AreHeldAmong now roots rank changed mine) (same : now ≡ tree) where
+module _ (tree now : TreeState) (roots still : Roots) (numbers : List Supply) (inboxes : Inboxes) (pins after : List Pin) (sessions : Table) (past : List Entry) (MayRefuse : Op → Refusal → Type 0) (rank : Rank) (client tid : ℕ)
+    (request : Request) (waits : Some request ≡ first_waiting client tid inboxes) (changed mine : List Leaf) (names : NamesOnce (changed_fragments tree.covers (shown_tree tree) request.op) changed) (held : AreHeldAmong now still rank changed mine) (same : now ≡ tree) (rooted : still ≡ roots) where
   abbrev before : State
   before = state_of tree roots numbers inboxes pins sessions
 
   abbrev later : State
-  later = state_of now roots numbers inboxes after sessions
+  later = state_of now still numbers inboxes after sessions
 
   exactly : (leaf : Leaf) → Contains mine leaf ↔ IsGranted before rank request.op leaf
   exactly leaf =
-      let its = held_exactly tree roots rank changed mine (subst (λ (t : TreeState). AreHeldAmong t roots rank changed mine) same held) leaf in (
+      let its = held_exactly tree roots rank changed mine (subst (λ (t : TreeState). AreHeldAmong t roots rank changed mine) same (subst (λ (r : Roots). AreHeldAmong now r rank changed mine) rooted held)) leaf in (
         λ has. let h = its.0 has in record { changes = (names.exactly leaf).0 h.0; mine = h.1 },
         λ granted. its.1 ((names.exactly leaf).1 granted.changes, granted.mine),
       )
@@ -63,7 +63,7 @@ module _ (tree now : TreeState) (roots : Roots) (numbers : List Supply) (inboxes
   pub none_granted : mine ≡ [] → after ≡ pins → GrantsWaiting before later past past MayRefuse rank client tid (Err NotAuthority)
   none_granted none left = subst (GrantsFirst before later past past MayRefuse rank client tid (Err NotAuthority)) waits (
     inl (refl, λ leaf granted. absurd (not_in_none leaf (subst (λ (ls : List Leaf). Contains ls leaf) none ((exactly leaf).1 granted)))),
-    record { same = refl; left = λ i. record { tree = same i; roots = roots; numbers = numbers; inboxes = inboxes; pins = left i; sessions = sessions } },
+    record { same = refl; left = λ i. record { tree = same i; roots = rooted i; numbers = numbers; inboxes = inboxes; pins = left i; sessions = sessions } },
   )
 
   -- all that it holds of it is granted
@@ -74,5 +74,5 @@ module _ (tree now : TreeState) (roots : Roots) (numbers : List Supply) (inboxes
     exactly = exactly;
     some = some;
     same = refl;
-    left = λ i. record { tree = same i; roots = roots; numbers = numbers; inboxes = inboxes; pins = pinned i; sessions = sessions };
+    left = λ i. record { tree = same i; roots = rooted i; numbers = numbers; inboxes = inboxes; pins = pinned i; sessions = sessions };
   })

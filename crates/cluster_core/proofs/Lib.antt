@@ -2,16 +2,12 @@ pub mod AdminLaws
 pub mod Applied
 pub mod Carried
 pub mod HeldLaws
-pub mod InsideLaws
-pub mod Kept
 pub mod MasterLaws
 pub mod NewBook
 pub mod Offered
-pub mod RootLaws
 pub mod RunLaws
 pub mod Served
 pub mod Stays
 pub mod Stepped
-pub mod SubtreeLaws
 pub mod Supplies
 pub mod Worked

@@ -1,8 +1,7 @@
 -- Which leaves an operation changes, and which of them a rank may change.
-use Rattle.std.proofs.Common.{◌≡◌, ◌↔◌, ◌&&◌, inl, inr, ℕ, Bool, true, false, cond, List, [], ◌∷◌, Option, Some, None, IsTrue, MatchOption, refl, sym, ap, ◌∙◌, subst, MatchBool, arith}
+use Rattle.std.proofs.Common.{◌≡◌, ◌↔◌, ◌&&◌, inl, inr, ℕ, Bool, true, false, cond, List, [], ◌∷◌, Some, None, refl, sym, ap, ◌∙◌, subst, MatchBool, arith}
 use Rattle.std.specs.List.{Contains}
 use Rattle.std.proofs.lemmas.Bool.{and_parts, true≢false}
-use Rattle.std.proofs.lemmas.Option.{none-some, same_Some}
 use Rattle.mds_types.specs.declared.dentries.Dentry.{Dentry}
 use Rattle.mds_types.specs.declared.ids.Ino.{Ino}
 use Rattle.mds_types.specs.declared.ids.Rank.{Rank}
@@ -16,17 +15,16 @@ use Rattle.mds_types.specs.Tree.{Tree, is_directory}
 use Rattle.inboxes.specs.declared.pins.Pin.{Pin}
 use Rattle.namehash.specs.Rjenkins.{hash_of}
 use Rattle.fragtree.specs.FragTree.{IsPick}
-use Rattle.inode_table.specs.Dirs.{Covers, Homes, leaves_of}
+use Rattle.inode_table.specs.Dirs.{Covers, leaves_of}
 use Rattle.namespace_ops.specs.ChangedFragments.{NamesOnce, changed_fragments, touched, unless_errno}
 use Rattle.namespace_ops.proofs.PickLaws.{picked}
 use Rattle.namespace_ops.proofs.Members.{first, first_or_later, later}
-use Rattle.subtree_map.specs.Authority.{HasAuthority, Leaf, Roots}
-use Rattle.subtree_map.proofs.Nearest.{one_authority}
+use Rattle.subtree_map.specs.Authority.{Leaf, Roots}
 use Rattle.mdcache.specs.Shown.{shown_tree}
 use Rattle.mdcache.specs.State.{State as TreeState}
 use Rattle.cluster_core.specs.Grants.{AreHeldAmong}
 use Rattle.cluster_core.specs.Master.{HasForeign, IsMasterIn, LacksGrantIn, MayTouchAllIn, MayTouchEach, MayTouchIn, changes_others, leaf_at, main_dentry, main_leaf}
-use Rattle.cluster_core.specs.Subtrees.{Rules}
+use Rattle.ranked_tree.specs.Subtrees.{Rules}
 
 -- nothing is in an empty list
 pub not_in_none : {A : Type 0} (x : A) → Contains {X = A} [] x → ⊥
@@ -139,12 +137,3 @@ held_exactly tree roots rank (one ∷ leaves) held (inr (foreign, more)) leaf =
         | inr among ↦ others.1 (among, w.1)
       ],
     )
-
--- whether the authority that was found is this rank
-pub authority_is : (roots : Roots) (homes : Homes) (covers : Covers) (leaf : Leaf) (rank : Rank) (found : Option Rank) (same : Bool) → (same ≡ true → found ≡ Some rank) → (found ≡ Some rank → same ≡ true)
-    → MatchOption found ((other : Rank) → HasAuthority roots homes covers leaf other → ⊥) (HasAuthority roots homes covers leaf) → IsTrue same ↔ HasAuthority roots homes covers leaf rank
-authority_is roots homes covers leaf rank None same there back tells = (λ told. absurd (none-some rank (there told)), λ has. absurd (tells rank has))
-authority_is roots homes covers leaf rank (Some its) same there back tells = (
-  λ told. subst (HasAuthority roots homes covers leaf) (same_Some its rank (there told)) tells,
-  λ has. back (ap Some (one_authority roots homes covers leaf its rank tells has)),
-)

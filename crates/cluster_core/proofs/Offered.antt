@@ -15,7 +15,7 @@ use Rattle.namespace_ops.specs.Changes.{IsOffered}
 use Rattle.cluster_core.specs.Master.{AreMastersThere, main_leaf}
 use Rattle.cluster_core.specs.State.{Core, State, shown, supply_of}
 use Rattle.cluster_core.specs.Sound.{AreRanks, IsSound, IsSupplied}
-use Rattle.cluster_core.specs.Subtrees.{Rules}
+use Rattle.ranked_tree.specs.Subtrees.{Rules}
 
 -- a rank that is there has its supply
 pub there_of : (state : State) → AreRanks state → (rank : Rank) → nat_lt rank.0 (length state.inboxes) ≡ true → rank.0 < length state.numbers

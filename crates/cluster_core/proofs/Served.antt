@@ -1,5 +1,5 @@
 -- What serving makes of the tree and of what stands beside it, said of the cluster's state.
-use Rattle.std.proofs.Common.{◌≡◌, ◌≢◌, ℕ, ◌<◌, ◌≤◌, true, List, [], ◌∷◌, ◌++◌, Option, Some, None, Result, Ok, Err, length, set, slice_get, false, inl, inr, ◌⊎◌, refl, sym, ap, subst, ◌∙◌, arith}
+use Rattle.std.proofs.Common.{◌≡◌, ◌≢◌, ℕ, true, List, [], ◌∷◌, ◌++◌, Option, Some, None, Result, Ok, Err, length, set, slice_get, false, inl, inr, ◌⊎◌, refl, sym, ap, subst, ◌∙◌, arith}
 use Rattle.std.specs.List.{slice_index_or}
 use Rattle.std.proofs.lemmas.Option.{same_Some}
 use Rattle.mds_types.specs.declared.ids.Ino.{Ino}
@@ -14,7 +14,7 @@ use Rattle.mds_types.specs.History.{IsKeptAt, IsNew, IsTrimmed}
 use Rattle.dentry_cache.specs.Cache.{Leaf}
 use Rattle.inboxes.specs.declared.pins.Pin.{Pin}
 use Rattle.inboxes.specs.Inbox.{rotated}
-use Rattle.inboxes.specs.Inboxes.{Inboxes, TakesAt, waiting_at, with_waiting}
+use Rattle.inboxes.specs.Inboxes.{Inboxes, TakesAt, with_waiting}
 use Rattle.inode_table.specs.Numbers.{Supply, offer}
 use Rattle.sessions.specs.Table.{Table, noted, trimmed}
 use Rattle.subtree_map.specs.Authority.{Roots}
@@ -32,7 +32,7 @@ use Rattle.cluster_core.specs.declared.applying.Prepared.{Prepared}
 use Rattle.cluster_core.specs.State.{State, shown, state_of, supply_of}
 use Rattle.cluster_core.specs.Master.{IsMasterIn, LacksGrantIn, MayTouchAllIn}
 use Rattle.cluster_core.specs.Offer.{after_taking}
-use Rattle.cluster_core.specs.Prepared.{IsMadeReady, IsPrepared, outcome_with}
+use Rattle.cluster_core.specs.Prepared.{IsPrepared, outcome_with}
 use Rattle.cluster_core.specs.Serve.{CarryLeaves, EndsFront, FollowPlanned, ForwardsFront, IsApplied, IsLeft, IsTakenOut, MakesPlanned, RepeatsFront, ServesInbox, entry_of, number_of, outcome_of, went_with, with_entry, without_gone, without_request}
 
 -- a new request is not trimmed

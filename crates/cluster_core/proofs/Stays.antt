@@ -1,5 +1,5 @@
 -- What an administrator's step on the tree leaves: each leaf keeps its authority.
-use Rattle.std.proofs.Common.{◌≡◌, ℕ, Bool, true, false, inl, inr, MatchBool, List, Option, Some, None, Result, Ok, Err, ap}
+use Rattle.std.proofs.Common.{◌≡◌, ℕ, Bool, true, false, inl, inr, MatchBool, List, Option, Result, Ok, Err, ap}
 use Rattle.mds_types.specs.declared.entries.Entry.{Entry}
 use Rattle.mds_types.specs.declared.ids.Ino.{Ino}
 use Rattle.mds_types.specs.declared.ids.Rank.{Rank}
@@ -7,47 +7,16 @@ use Rattle.mds_types.specs.declared.refusals.Refusal.{Refusal}
 use Rattle.mds_types.specs.declared.refusals.Refusal.TheVariants.{NotAuthority}
 use Rattle.purge_list.specs.PurgeList.{first_name}
 use Rattle.commit_jobs.specs.declared.jobs.Job.{Job as Begun}
-use Rattle.dentry_cache.specs.Cache.{Leaf, Unsaved}
-use Rattle.mdcache.specs.Commits.{BeginsWith, Drops, Ends}
-use Rattle.mdcache.specs.Objects.{Purges, PurgesName, SavesTree}
-use Rattle.mdcache.specs.State.{State as TreeState}
-use Rattle.subtree_map.specs.Authority.{Roots}
+use Rattle.dentry_cache.specs.Cache.{Leaf}
+use Rattle.mdcache.specs.Commits.{Drops, Ends}
+use Rattle.mdcache.specs.Objects.{Purges, SavesTree}
 use Rattle.cluster_core.specs.declared.events.Answer.{Answer}
 use Rattle.cluster_core.specs.Administers.{AdministersTree, BeginsAt, EvictsOne, nothing, told_job}
 use Rattle.cluster_core.specs.Serve.{IsLeft}
 use Rattle.cluster_core.specs.State.{Core, State}
-use Rattle.cluster_core.specs.Subtrees.{AreRoots, KeepsRoots}
-use Rattle.cluster_core.proofs.Kept.{keeps_same, keeps_tables}
-
--- directories and leaves stay
-abbrev TablesStay : (old new : TreeState) → Type 0
-TablesStay old new = (new.homes ≡ old.homes) × (new.covers ≡ old.covers)
-
-same_tables : (old new : TreeState) → new ≡ old → TablesStay old new
-same_tables old new same = (ap (λ (s : TreeState). s.homes) same, ap (λ (s : TreeState). s.covers) same)
-
-module _ (old new : TreeState) where
-  begun : (unsaved : Option Unsaved) (leaf : Leaf) (job : Option Begun) → BeginsWith old new leaf unsaved job → TablesStay old new
-  begun None leaf job h = same_tables old new h.1
-  begun (Some u) leaf None h = absurd h
-  begun (Some u) leaf (Some job) h = (ap (λ (s : TreeState). s.homes) h.2, ap (λ (s : TreeState). s.covers) h.2)
-
-  ended : (before after : ℕ) (job : Begun) (result : Result (Unit {0}) Refusal) → Ends old new before after job result → TablesStay old new
-  ended before after job (Ok done) h = (ap (λ (s : TreeState). s.homes) h.left, ap (λ (s : TreeState). s.covers) h.left)
-  ended before after job (Err reason) h = same_tables old new h.1
-
-  dropped : (number : ℕ) (result : Result (Unit {0}) Refusal) → Drops old new number result → TablesStay old new
-  dropped number (Ok done) h = (ap (λ (s : TreeState). s.homes) h.left, ap (λ (s : TreeState). s.covers) h.left)
-  dropped number (Err reason) h = same_tables old new h.2
-
-  saved : (before after : ℕ) (dir : Ino) (result : Result (Unit {0}) Refusal) → SavesTree old new before after dir result → TablesStay old new
-  saved before after dir (Ok done) h = (ap (λ (s : TreeState). s.homes) h.1, ap (λ (s : TreeState). s.covers) h.1)
-  saved before after dir (Err reason) h = same_tables old new h.1
-
-  purged : (before after : ℕ) (name : Option (List ℕ)) (result : Result (Unit {0}) Refusal) → PurgesName old new before after name result → TablesStay old new
-  purged before after None result h = same_tables old new h.1
-  purged before after (Some name) (Ok done) h = (ap (λ (s : TreeState). s.homes) h.0, ap (λ (s : TreeState). s.covers) h.0)
-  purged before after (Some name) (Err reason) h = same_tables old new h.1
+use Rattle.ranked_tree.specs.Subtrees.{AreRoots, KeepsRoots}
+use Rattle.ranked_tree.proofs.Kept.{keeps_same, keeps_tables}
+use Rattle.ranked_tree.proofs.Stays.{TablesStay, begun, dropped, ended, purged, same_tables, saved}
 
 module _ (old new : State) (past now : List Entry) (valid : AreRoots old.tree old.roots) where
   -- a step whose work leaves directories and leaves

@@ -1,5 +1,5 @@
 -- A book stays sound at every step.
-use Rattle.std.proofs.Common.{◌≡◌, ℕ, ◌<◌, Bool, true, false, nat_lt, inl, inr, List, [], ◌∷◌, ◌++◌, length, MatchBool, Option, Some, None, Result, Ok, Err, refl, ap, ◌∙◌, arith}
+use Rattle.std.proofs.Common.{◌≡◌, ℕ, ◌<◌, Bool, true, false, nat_lt, inl, inr, List, [], ◌∷◌, ◌++◌, length, MatchBool, Option, Some, None, Result, Ok, Err, refl, ap, ◌∙◌}
 use Rattle.std.proofs.lemmas.List.{length-set}
 use Rattle.mds_types.specs.declared.entries.Entry.{Entry}
 use Rattle.mds_types.specs.declared.ids.Rank.{Rank}
@@ -22,7 +22,7 @@ use Rattle.cluster_core.specs.State.{Core, State, shown}
 use Rattle.cluster_core.specs.Serve.{IsForwarded, IsLeft, IsTakenOut, ServesRequest, ServesInbox}
 use Rattle.cluster_core.specs.Steps.{ArrivesAt, Does, MayRefuse}
 use Rattle.cluster_core.specs.Sound.{IsSound}
-use Rattle.cluster_core.specs.Subtrees.{KeepsRoots}
+use Rattle.ranked_tree.specs.Subtrees.{KeepsRoots}
 use Rattle.cluster_core.proofs.Applied.{sound-applied}
 use Rattle.cluster_core.proofs.Offered.{there_of}
 

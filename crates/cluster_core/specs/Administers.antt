@@ -1,5 +1,5 @@
 -- What an administrator's steps do to a cluster.
-use Rattle.std.specs.Prelude.{◌≡◌, ◌≢◌, ◌⊎◌, ℕ, ◌+◌, ◌^◌, Bool, true, false, List, [], ◌∷◌, Option, Some, None, Result, Ok, Err}
+use Rattle.std.specs.Prelude.{◌≡◌, ◌≢◌, ◌⊎◌, ℕ, ◌+◌, ◌^◌, Bool, true, false, List, Option, Some, None, Result, Ok, Err}
 use Rattle.std.specs.List.{list_any}
 use Rattle.mds_types.specs.declared.ids.Ino.{Ino}
 use Rattle.mds_types.specs.declared.ids.Rank.{Rank}
@@ -11,9 +11,10 @@ use Rattle.mds_types.specs.Tree.{is_directory}
 use Rattle.fragtree.specs.FragTree.{CanMerge, CanSplit, RefusesMerge, RefusesSplit}
 use Rattle.commit_jobs.specs.declared.jobs.Job.{Job as Begun}
 use Rattle.dentry_cache.specs.Cache.{Evicts, Leaf, NoneGoes}
+use Rattle.inboxes.specs.declared.pins.Pin.{Pin}
 use Rattle.inboxes.specs.Pins.{is_on}
-use Rattle.inode_table.specs.Dirs.{IsLive, is_known, leaves_of}
-use Rattle.subtree_map.specs.Changes.{IsRootMerge, IsRootSplit}
+use Rattle.inode_table.specs.Dirs.{Covers, Homes, IsLive, is_known, leaves_of}
+use Rattle.subtree_map.specs.Changes.{IsRootMerge, IsRootSplit, is_inside}
 use Rattle.mdcache.specs.Commits.{Begins, Drops, Ends}
 use Rattle.mdcache.specs.Objects.{Purges, SavesTree}
 use Rattle.mdcache.specs.Regroups.{MayNotRegroup}
@@ -23,7 +24,7 @@ use Rattle.cluster_core.specs.declared.events.Answer.TheVariants.{Job, Nothing}
 use Rattle.cluster_core.specs.State.{Core, LacksPlaces, State, cache_of, shown}
 use Rattle.cluster_core.specs.Master.{IsAuthority}
 use Rattle.cluster_core.specs.Serve.{IsLeft}
-use Rattle.cluster_core.specs.Subtrees.{AllHave, IsAnyPinned}
+use Rattle.ranked_tree.specs.Subtrees.{AllHave}
 
 -- what such a step leaves unseen: the shown tree, and all but the tree's own state and the subtree roots
 pub record IsUnseen (old new : State) (past now : List Entry) : Type 0 where
@@ -59,6 +60,10 @@ RefusesRegroup known Refuses Can Mine IsPinned Else reason =
 -- a grant stands on a leaf
 abbrev pub IsPinned : State → Leaf → Type 0
 IsPinned state leaf = list_any (is_on leaf.0 leaf.1) state.pins ≡ true
+
+-- a grant stands on a leaf of a directory that lies properly inside a fragment
+abbrev pub IsAnyPinned : Homes → Covers → List Pin → Ino → Fragment → Type 0
+IsAnyPinned homes covers pins dir frag = (leaf : Leaf) × IsLive homes covers leaf × (is_inside dir.0 frag leaf ≡ true) × (list_any (is_on leaf.0 leaf.1) pins ≡ true)
 
 -- a leaf of the rank's, not pinned, was split by so many bits, and its children are roots if it was one; where it wasn't, the leaves refuse it, or
 -- the rank isn't its authority, or it is pinned, or numbers lack, or as many places as there would be children and one, or the store or memory

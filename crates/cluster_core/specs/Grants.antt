@@ -17,7 +17,7 @@ use Rattle.cluster_core.specs.declared.events.Answer.TheVariants.{Nothing}
 use Rattle.cluster_core.specs.Master.{IsAuthority, grant_of, would_change}
 use Rattle.cluster_core.specs.Serve.{IsLeft}
 use Rattle.cluster_core.specs.State.{State}
-use Rattle.cluster_core.specs.Subtrees.{Rules}
+use Rattle.ranked_tree.specs.Subtrees.{Rules}
 
 -- a leaf that a request would change now, and of which the rank is the authority
 pub record IsGranted (state : State) (rank : Rank) (op : Op) (leaf : Leaf) : Type 0 where

@@ -12,4 +12,3 @@ pub mod Serve
 pub mod Sound
 pub mod State
 pub mod Steps
-pub mod Subtrees

@@ -18,7 +18,7 @@ use Rattle.subtree_map.specs.Authority.{Leaf, Roots}
 use Rattle.mdcache.specs.Shown.{shown_tree}
 use Rattle.mdcache.specs.State.{State as TreeState}
 use Rattle.cluster_core.specs.State.{State}
-use Rattle.cluster_core.specs.Subtrees.{Rules}
+use Rattle.ranked_tree.specs.Subtrees.{Rules}
 
 -- the dentry whose leaf tells the master of an operation: its own, of a rename the destination; a readdir has none
 abbrev pub main_dentry : Op → Option Dentry

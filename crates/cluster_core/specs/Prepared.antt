@@ -30,14 +30,13 @@ pub record IsPrepared (tree : Tree) (covers : Covers) (IsReady : Change → Type
 abbrev pub outcome_with : TreeState → Supply → Op → Outcome
 outcome_with tree supply op = step (shown_tree tree) op (number_or (offer supply))
 
--- what was made ready for a request: all, with room for its roots; or nothing, since it lacks a grant; or it is refused: for want of memory, or
+-- what was made ready for a request: all; or nothing, since it lacks a grant; or it is refused: for want of memory, or
 -- as the tree refuses it, or for want of a number where it lacks no grant
-abbrev pub IsMadeReady : TreeState → Roots → List Pin → Supply → Rank → Request → (IsReady : Change → Type 0) → (HasRoom : Option Change → Type 0) → (MayRefuse : Refusal → Type 0) → Result (Option Prepared) Refusal → Type 0
-IsMadeReady tree roots pins supply rank request IsReady HasRoom MayRefuse (Ok None) = LacksGrantIn tree roots pins rank request.client request.tid request.op
-IsMadeReady tree roots pins supply rank request IsReady HasRoom MayRefuse (Ok (Some prepared)) =
+abbrev pub IsMadeReady : TreeState → Roots → List Pin → Supply → Rank → Request → (IsReady : Change → Type 0) → (MayRefuse : Refusal → Type 0) → Result (Option Prepared) Refusal → Type 0
+IsMadeReady tree roots pins supply rank request IsReady MayRefuse (Ok None) = LacksGrantIn tree roots pins rank request.client request.tid request.op
+IsMadeReady tree roots pins supply rank request IsReady MayRefuse (Ok (Some prepared)) =
     MayTouchAllIn tree roots pins rank request.client request.tid request.op
     × IsPrepared (shown_tree tree) tree.covers IsReady request.op (outcome_with tree supply request.op) supply prepared
-    × HasRoom prepared.plan.change
-IsMadeReady tree roots pins supply rank request IsReady HasRoom MayRefuse (Err reason) =
+IsMadeReady tree roots pins supply rank request IsReady MayRefuse (Err reason) =
     (reason ≡ NoMemory) ⊎ MayRefuse reason
     ⊎ (MayTouchAllIn tree roots pins rank request.client request.tid request.op × LacksNumber (outcome_with tree supply request.op) (offer supply) reason)

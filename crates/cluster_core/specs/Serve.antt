@@ -33,7 +33,7 @@ use Rattle.cluster_core.specs.declared.events.Answer.{Answer}
 use Rattle.cluster_core.specs.declared.events.Answer.TheVariants.{Deferred, Forwarded, Reply}
 use Rattle.cluster_core.specs.State.{State, shown, supply_of}
 use Rattle.cluster_core.specs.Master.{IsMaster, LacksGrant, MayTouchAll, would_change}
-use Rattle.cluster_core.specs.Subtrees.{FollowChange}
+use Rattle.ranked_tree.specs.Subtrees.{FollowChange}
 use Rattle.cluster_core.specs.Offer.{after_taking}
 
 -- the table's outcome for a request at a rank, offered the rank's next number

@@ -10,7 +10,7 @@ use Rattle.mdcache.specs.Cached.{IsKept}
 use Rattle.sessions.specs.Table.{IsTableOf}
 use Rattle.subtree_map.specs.Authority.{Leaf, Roots}
 use Rattle.cluster_core.specs.State.{Core, Kept, State, no_supply, shown}
-use Rattle.cluster_core.specs.Subtrees.{AreRoots}
+use Rattle.ranked_tree.specs.Subtrees.{AreRoots}
 
 -- of a rank's range, only numbers below its next are used
 abbrev pub IsFresh : Tree → List Entry → Supply → Type 0

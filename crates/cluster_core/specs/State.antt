@@ -10,7 +10,8 @@ use Rattle.inboxes.specs.Inboxes.{Inboxes}
 use Rattle.inboxes.specs.declared.pins.Pin.{Pin}
 use Rattle.inode_table.specs.Numbers.{Supply, first_number}
 use Rattle.mdcache.specs.Cached.{Core as TreeCore}
-use Rattle.mdcache.specs.New.{new_state as new_tree, root_leaf}
+use Rattle.mdcache.specs.New.{new_state as new_tree}
+use Rattle.ranked_tree.specs.Ranked.{new_roots}
 use Rattle.mdcache.specs.Shown.{shown_tree}
 use Rattle.mdcache.specs.State.{State as TreeState}
 use Rattle.sessions.specs.Table.{Table}
@@ -72,11 +73,7 @@ abbrev pub whole_supplies : ℕ → ℕ → List Supply
 whole_supplies first zero = []
 whole_supplies first (suc more) = record { rank = first; next = first_number first } ∷ whole_supplies (suc first) more
 
--- the one subtree root of a new book: the root directory's leaf is rank 0's
-abbrev pub new_roots : Roots
-new_roots = map.insert map.empty root_leaf (record { 0 = 0 })
-
--- the state of a new book of so many ranks: no directory but the root, no name, no object, nothing that waits, is granted or is kept, and
+-- the state of a new book of so many ranks: no directory but the root, whose leaf is rank 0's, no name, no object, nothing that waits, is granted or is kept, and
 -- for each rank all its numbers
 abbrev pub new_state : ℕ → State
 new_state ranks = record {

@@ -1,5 +1,5 @@
 -- What each event does to a cluster and its history.
-use Rattle.std.specs.Prelude.{◌≡◌, ◌⊎◌, ℕ, nat_lt, MatchBool, ◌∷◌, [], ◌++◌, ◌<◌, ◌≤◌, List, length, Result, Ok, Err}
+use Rattle.std.specs.Prelude.{◌≡◌, ◌⊎◌, nat_lt, MatchBool, ◌<◌, ◌≤◌, List, length, Result, Ok, Err}
 use Rattle.mds_types.specs.declared.ids.Rank.{Rank}
 use Rattle.mds_types.specs.declared.entries.Entry.{Entry}
 use Rattle.mds_types.specs.declared.operations.Op.{Op}
@@ -12,11 +12,11 @@ use Rattle.cluster_core.specs.declared.events.Answer.TheVariants.{Nothing}
 use Rattle.cluster_core.specs.declared.events.Event.{Event}
 use Rattle.cluster_core.specs.declared.events.Event.TheVariants.{Arrive, Grant, Serve, Split, Merge, CommitBegin, CommitEnd, CommitDrop, CommitTree, Purge, Evict}
 use Rattle.cluster_core.specs.Administers.{BeginsCommit, CommitsTree, DropsCommit, EndsCommit, EvictsFragment, Merges, PurgesObject, Splits}
-use Rattle.inboxes.specs.Inboxes.{Arrives, waiting_at, with_last}
+use Rattle.inboxes.specs.Inboxes.{waiting_at, with_last}
 use Rattle.cluster_core.specs.Grants.{GrantsWaiting}
 use Rattle.cluster_core.specs.State.{Core, LacksPlaces, State}
 use Rattle.cluster_core.specs.Serve.{IsLeft, ServesInbox}
-use Rattle.cluster_core.specs.Subtrees.{KeepsAuthorities}
+use Rattle.ranked_tree.specs.Subtrees.{KeepsAuthorities}
 
 -- an arriving request goes to the back of the rank's inbox; refused InboxFull exactly where 1024 requests wait there
 abbrev pub ArrivesAt : (old new : State) → (past now : List Entry) → Rank → Request → Result Answer Refusal → Type 0

@@ -6,22 +6,19 @@ ghost use Rattle.inboxes.specs.declared.pins.Pin.{Pin as Granted};
 ghost use Rattle.inode_table.specs.Numbers.{Supply};
 ghost use Rattle.sessions.specs.Table.{Table};
 ghost use Rattle.cluster_core.specs.State.{core_of};
-ghost use Rattle.cluster_core.specs.Subtrees.{AreRoots, KeepsRoots};
+ghost use Rattle.ranked_tree.specs.Subtrees.{AreRoots, KeepsRoots};
 ghost use Rattle.cluster_core.specs.Administers.{BeginsCommit, CommitsTree, DropsCommit, EndsCommit, EvictsFragment, Merges, PurgesObject, Splits, told_job};
 ghost use Rattle.cluster_core.specs.Steps.{AtRank};
 
 use crate::clusters::Cluster;
 use crate::events::Answer;
-use crate::inside::{is_all_of, is_any_pinned};
-use crate::masters::is_authority;
-use crate::root_steps::{merge_with_roots, split_with_roots};
+use crate::pinned::is_any_pinned;
 use commit_jobs::{Encoded, Job};
 use inboxes::Pins;
-use mdcache::MdCache;
 use mds_types::{Frag, Ino, Rank, Refusal};
 use objstore::Store;
+use ranked_tree::RankedTree;
 use std::alloc::Global;
-use subtree_map::Subtrees;
 
 impl<S: Store + Drop> Cluster<S> {
     // A leaf of a directory is split.
@@ -42,16 +39,7 @@ impl<S: Store + Drop> Cluster<S> {
         if !self.is_rank(rank) {
             return Err(Refusal::NotAuthority);
         }
-        split_at(
-            alloc,
-            &mut self.tree,
-            &mut self.roots,
-            &self.pins,
-            rank,
-            ino,
-            frag,
-            bits,
-        )
+        split_at(alloc, &mut self.tree, &self.pins, rank, ino, frag, bits)
     }
 
     // Leaves of a directory are merged.
@@ -71,15 +59,7 @@ impl<S: Store + Drop> Cluster<S> {
         if !self.is_rank(rank) {
             return Err(Refusal::NotAuthority);
         }
-        merge_at(
-            alloc,
-            &mut self.tree,
-            &mut self.roots,
-            &self.pins,
-            rank,
-            ino,
-            frag,
-        )
+        merge_at(alloc, &mut self.tree, &self.pins, rank, ino, frag)
     }
 
     // A commit of a leaf begins; of a clean one there is nothing to commit.
@@ -96,7 +76,7 @@ impl<S: Store + Drop> Cluster<S> {
         if !self.is_rank(rank) {
             return Err(Refusal::NotAuthority);
         }
-        begin_at(&mut self.tree, &self.roots, rank, ino, frag)
+        begin_at(&mut self.tree, rank, ino, frag)
     }
 
     // A commit ends: what was encoded is written.
@@ -169,30 +149,29 @@ impl<S: Store + Drop> Cluster<S> {
 // A leaf of a rank's is split, unless a grant stands on it.
 fn split_at<S: Store + Drop>(
     alloc: Global,
-    tree: &mut MdCache<S>,
-    roots: &mut Subtrees,
+    tree: &mut RankedTree<S>,
     pins: &Pins,
     rank: Rank,
     ino: Ino,
     frag: Frag,
     bits: u8,
 ) -> Result<Answer, Refusal>
-    requires { AreRoots tree.old.state roots.old.roots }
-    ensures split { (numbers : List Supply) (inboxes : Waiting) (sessions : Table) (past : List Applied) → Splits (core_of tree.old roots.old.roots numbers inboxes pins.now sessions) (core_of tree.new roots.new.roots numbers inboxes pins.now sessions) past past rank ino frag bits result }
-    ensures kept { KeepsRoots tree.old.state tree.new.state roots.old.roots roots.new.roots }
-    ensures cap { tree.new.cache.cap ≡ tree.old.cache.cap }
-    ensures grows { tree.old.faults ≤ tree.new.faults }
+    requires { AreRoots tree.old.tree.state tree.old.subtrees.roots }
+    ensures split { (numbers : List Supply) (inboxes : Waiting) (sessions : Table) (past : List Applied) → Splits (core_of tree.old.tree tree.old.subtrees.roots numbers inboxes pins.now sessions) (core_of tree.new.tree tree.new.subtrees.roots numbers inboxes pins.now sessions) past past rank ino frag bits result }
+    ensures kept { KeepsRoots tree.old.tree.state tree.new.tree.state tree.old.subtrees.roots tree.new.subtrees.roots }
+    ensures cap { tree.new.tree.cache.cap ≡ tree.old.tree.cache.cap }
+    ensures grows { tree.old.tree.faults ≤ tree.new.tree.faults }
 {
     if let Err(refusal) = tree.check_split(ino, frag, bits) {
         return Err(refusal);
     }
-    if !is_authority(tree, roots, rank, ino, frag) {
+    if !tree.is_authority(rank, ino, frag) {
         return Err(Refusal::NotAuthority);
     }
     if pins.is_pinned(ino, frag) {
         return Err(Refusal::Pinned);
     }
-    if let Err(refusal) = split_with_roots(alloc, tree, roots, ino, frag, bits) {
+    if let Err(refusal) = tree.split(alloc, ino, frag, bits) {
         return Err(refusal);
     }
     Ok(Answer::Nothing)
@@ -201,29 +180,28 @@ fn split_at<S: Store + Drop>(
 // Leaves inside a fragment, all of a rank's, are merged, unless a grant stands on one of them.
 fn merge_at<S: Store + Drop>(
     alloc: Global,
-    tree: &mut MdCache<S>,
-    roots: &mut Subtrees,
+    tree: &mut RankedTree<S>,
     pins: &Pins,
     rank: Rank,
     ino: Ino,
     frag: Frag,
 ) -> Result<Answer, Refusal>
-    requires { AreRoots tree.old.state roots.old.roots }
-    ensures merged { (numbers : List Supply) (inboxes : Waiting) (sessions : Table) (past : List Applied) → Merges (core_of tree.old roots.old.roots numbers inboxes pins.now sessions) (core_of tree.new roots.new.roots numbers inboxes pins.now sessions) past past rank ino frag result }
-    ensures kept { KeepsRoots tree.old.state tree.new.state roots.old.roots roots.new.roots }
-    ensures cap { tree.new.cache.cap ≡ tree.old.cache.cap }
-    ensures grows { tree.old.faults ≤ tree.new.faults }
+    requires { AreRoots tree.old.tree.state tree.old.subtrees.roots }
+    ensures merged { (numbers : List Supply) (inboxes : Waiting) (sessions : Table) (past : List Applied) → Merges (core_of tree.old.tree tree.old.subtrees.roots numbers inboxes pins.now sessions) (core_of tree.new.tree tree.new.subtrees.roots numbers inboxes pins.now sessions) past past rank ino frag result }
+    ensures kept { KeepsRoots tree.old.tree.state tree.new.tree.state tree.old.subtrees.roots tree.new.subtrees.roots }
+    ensures cap { tree.new.tree.cache.cap ≡ tree.old.tree.cache.cap }
+    ensures grows { tree.old.tree.faults ≤ tree.new.tree.faults }
 {
     if let Err(refusal) = tree.check_merge(ino, frag) {
         return Err(refusal);
     }
-    if !is_all_of(tree, roots, ino, frag, rank) {
+    if !tree.is_all_of(ino, frag, rank) {
         return Err(Refusal::NotAuthority);
     }
     if is_any_pinned(tree, pins, ino, frag) {
         return Err(Refusal::Pinned);
     }
-    if let Err(refusal) = merge_with_roots(alloc, tree, roots, ino, frag) {
+    if let Err(refusal) = tree.merge(alloc, ino, frag) {
         return Err(refusal);
     }
     Ok(Answer::Nothing)
@@ -231,17 +209,16 @@ fn merge_at<S: Store + Drop>(
 
 // A commit of a leaf of a rank's begins.
 fn begin_at<S: Store + Drop>(
-    tree: &mut MdCache<S>,
-    roots: &Subtrees,
+    tree: &mut RankedTree<S>,
     rank: Rank,
     ino: Ino,
     frag: Frag,
 ) -> Result<Answer, Refusal>
-    ensures begun { (numbers : List Supply) (inboxes : Waiting) (pins : List Granted) (sessions : Table) (past : List Applied) → BeginsCommit (core_of tree.old roots.now.roots numbers inboxes pins sessions) (core_of tree.new roots.now.roots numbers inboxes pins sessions) past past rank (ino, frag) result }
-    ensures cap { tree.new.cache.cap ≡ tree.old.cache.cap }
-    ensures faults { tree.new.faults ≡ tree.old.faults }
+    ensures begun { (numbers : List Supply) (inboxes : Waiting) (pins : List Granted) (sessions : Table) (past : List Applied) → BeginsCommit (core_of tree.old.tree tree.old.subtrees.roots numbers inboxes pins sessions) (core_of tree.new.tree tree.new.subtrees.roots numbers inboxes pins sessions) past past rank (ino, frag) result }
+    ensures cap { tree.new.tree.cache.cap ≡ tree.old.tree.cache.cap }
+    ensures faults { tree.new.tree.faults ≡ tree.old.tree.faults }
 {
-    if tree.has_leaf(ino, frag) && !is_authority(tree, roots, rank, ino, frag) {
+    if tree.has_leaf(ino, frag) && !tree.is_authority(rank, ino, frag) {
         return Err(Refusal::NotAuthority);
     }
     let job = match tree.begin(ino, frag) {

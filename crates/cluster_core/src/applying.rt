@@ -11,24 +11,22 @@ ghost use Rattle.namespace_ops.specs.Planned.{IsReadyToChange, after_plan};
 ghost use Rattle.namespace_ops.specs.Served.{IsRefused};
 ghost use Rattle.sessions.specs.Table.{noted, trimmed};
 ghost use Rattle.sessions.specs.Rooms.{IsReady, table};
-ghost use Rattle.mdcache.specs.Frags.{IsReady as IsReadyIn};
 ghost use Rattle.mdcache.specs.Made.{IsUntouched};
 ghost use Rattle.mdcache.specs.Shown.{shown_tree};
 ghost use Rattle.cluster_core.specs.Serve.{CarryLeaves, FollowPlanned, MakesPlanned, without_gone, went_with};
 ghost use Rattle.cluster_core.specs.Prepared.{IsPrepared};
-ghost use Rattle.cluster_core.specs.Subtrees.{AreRoots, HasRoomForPlanned, KeepsRoots};
+ghost use Rattle.ranked_tree.specs.Ranked.{IsReady as IsReadyIn};
+ghost use Rattle.ranked_tree.specs.Subtrees.{KeepsRoots};
 
 use crate::events::Answer;
-use crate::subtrees::{change_tree, went_with};
 use inboxes::Pins;
 use inode_table::Numbers;
-use mdcache::MdCache;
 use mds_types::{Entry, Ino, Op, Rank, Refusal, Reply, Request};
 use namespace_ops::{Change, Frags, Plan, plan_op};
 use objstore::Store;
+use ranked_tree::{RankedTree, went_with};
 use sessions::Sessions;
 use std::alloc::Global;
-use subtree_map::Subtrees;
 
 /// All that applying a request needs, made before its first change.
 #[derive(Debug, Drop)]
@@ -89,8 +87,7 @@ pub fn prepare<F: Frags>(
 
 /// Applies a request of this rank for which everything was prepared. It can't fail.
 pub fn commit<S: Store + Drop>(
-    tree: &mut MdCache<S>,
-    roots: &mut Subtrees,
+    tree: &mut RankedTree<S>,
     numbers: &mut Vec<Numbers>,
     pins: &mut Pins,
     sessions: &mut Sessions,
@@ -99,20 +96,18 @@ pub fn commit<S: Store + Drop>(
     request: Request,
     prepared: Prepared,
 ) -> Answer
-    requires ready { IsReadyToChange (shown_tree tree.old.state) tree.old.state.covers (IsReadyIn tree.old) prepared.plan.change }
+    requires ready { IsReadyToChange (shown_tree tree.old.tree.state) tree.old.tree.state.covers (IsReadyIn tree.old) prepared.plan.change }
     requires room { vec_len history.old < vec_capacity history.old }
     requires reserved { IsReady sessions.old request.client }
     requires there { rank.0 < length numbers.old.items }
-    requires roots { HasRoomForPlanned tree.old.state roots.old.roots roots.old.room prepared.plan.change }
-    requires valid { AreRoots tree.old.state roots.old.roots }
-    ensures tree { shown_tree tree.new.state ≡ after_plan (shown_tree tree.old.state) prepared.plan.change }
-    ensures made { MakesPlanned prepared.plan.change tree.old.state tree.new.state }
-    ensures leaves { CarryLeaves (shown_tree tree.old.state) (shown_tree tree.new.state) tree.old.state.covers tree.new.state.covers }
-    ensures frame { ChangesOnly (IsUntouched tree.old.state tree.new.state) (fragments_in tree.old.state.covers prepared.plan.change) }
-    ensures cap { tree.new.cache.cap ≡ tree.old.cache.cap }
-    ensures faults { tree.new.faults ≡ tree.old.faults }
-    ensures followed { FollowPlanned prepared.plan.change tree.old.state roots.old.roots roots.new.roots }
-    ensures kept { KeepsRoots tree.old.state tree.new.state roots.old.roots roots.new.roots }
+    ensures tree { shown_tree tree.new.tree.state ≡ after_plan (shown_tree tree.old.tree.state) prepared.plan.change }
+    ensures made { MakesPlanned prepared.plan.change tree.old.tree.state tree.new.tree.state }
+    ensures leaves { CarryLeaves (shown_tree tree.old.tree.state) (shown_tree tree.new.tree.state) tree.old.tree.state.covers tree.new.tree.state.covers }
+    ensures frame { ChangesOnly (IsUntouched tree.old.tree.state tree.new.tree.state) (fragments_in tree.old.tree.state.covers prepared.plan.change) }
+    ensures cap { tree.new.tree.cache.cap ≡ tree.old.tree.cache.cap }
+    ensures faults { tree.new.tree.faults ≡ tree.old.tree.faults }
+    ensures followed { FollowPlanned prepared.plan.change tree.old.tree.state tree.old.subtrees.roots tree.new.subtrees.roots }
+    ensures kept { KeepsRoots tree.old.tree.state tree.new.tree.state tree.old.subtrees.roots tree.new.subtrees.roots }
     ensures pins { pins.new ≡ without_gone (left_without (is_for request.client request.tid) pins.old) (went_with prepared.plan.change) }
     ensures appended { history.new.items ≡ history.old.items ++ record {
       client = request.client;
@@ -139,7 +134,7 @@ pub fn commit<S: Store + Drop>(
         number,
     } = prepared.plan;
     pins.end_pair(client, tid);
-    carry_out(tree, roots, pins, change);
+    carry_out(tree, pins, change);
     numbers[usize::from(rank.0)] = prepared.numbers;
     sessions.keep(client, tid, oldest, place, prepared.kept);
     sessions.trim(client);
@@ -161,23 +156,16 @@ pub fn commit<S: Store + Drop>(
 }
 
 // Makes a planned change, where there is one, with the subtree roots; grants on what goes end.
-fn carry_out<S: Store + Drop>(
-    tree: &mut MdCache<S>,
-    roots: &mut Subtrees,
-    pins: &mut Pins,
-    change: Option<Change>,
-)
-    requires ready { IsReadyToChange (shown_tree tree.old.state) tree.old.state.covers (IsReadyIn tree.old) change }
-    requires roots { HasRoomForPlanned tree.old.state roots.old.roots roots.old.room change }
-    requires valid { AreRoots tree.old.state roots.old.roots }
-    ensures tree { shown_tree tree.new.state ≡ after_plan (shown_tree tree.old.state) change }
-    ensures made { MakesPlanned change tree.old.state tree.new.state }
-    ensures leaves { CarryLeaves (shown_tree tree.old.state) (shown_tree tree.new.state) tree.old.state.covers tree.new.state.covers }
-    ensures frame { ChangesOnly (IsUntouched tree.old.state tree.new.state) (fragments_in tree.old.state.covers change) }
-    ensures cap { tree.new.cache.cap ≡ tree.old.cache.cap }
-    ensures faults { tree.new.faults ≡ tree.old.faults }
-    ensures followed { FollowPlanned change tree.old.state roots.old.roots roots.new.roots }
-    ensures kept { KeepsRoots tree.old.state tree.new.state roots.old.roots roots.new.roots }
+fn carry_out<S: Store + Drop>(tree: &mut RankedTree<S>, pins: &mut Pins, change: Option<Change>)
+    requires ready { IsReadyToChange (shown_tree tree.old.tree.state) tree.old.tree.state.covers (IsReadyIn tree.old) change }
+    ensures tree { shown_tree tree.new.tree.state ≡ after_plan (shown_tree tree.old.tree.state) change }
+    ensures made { MakesPlanned change tree.old.tree.state tree.new.tree.state }
+    ensures leaves { CarryLeaves (shown_tree tree.old.tree.state) (shown_tree tree.new.tree.state) tree.old.tree.state.covers tree.new.tree.state.covers }
+    ensures frame { ChangesOnly (IsUntouched tree.old.tree.state tree.new.tree.state) (fragments_in tree.old.tree.state.covers change) }
+    ensures cap { tree.new.tree.cache.cap ≡ tree.old.tree.cache.cap }
+    ensures faults { tree.new.tree.faults ≡ tree.old.tree.faults }
+    ensures followed { FollowPlanned change tree.old.tree.state tree.old.subtrees.roots tree.new.subtrees.roots }
+    ensures kept { KeepsRoots tree.old.tree.state tree.new.tree.state tree.old.subtrees.roots tree.new.subtrees.roots }
     ensures pins { pins.new ≡ without_gone pins.old (went_with change) }
 {
     // The contract of `store` is what says here that the state is sound.
@@ -185,7 +173,7 @@ fn carry_out<S: Store + Drop>(
     match change {
         Some(change) => {
             forget_gone(pins, went_with(&change));
-            change_tree(tree, roots, change);
+            tree.apply(change);
         }
         None => {}
     }

@@ -5,14 +5,13 @@ ghost use Rattle.lru.specs.LruCache.{lru_cache};
 ghost use Rattle.dentry_cache.specs.Cache.{held};
 ghost use Rattle.mdcache.specs.New.{MayNotFormat, cached_root, root_leaf};
 ghost use Rattle.cluster_core.specs.State.{new_state};
-ghost use Rattle.cluster_core.specs.Administers.{TellsAuthority};
 ghost use Rattle.cluster_core.specs.Steps.{Steps};
 ghost use Rattle.cluster_core.specs.Sound.{IsSoundBook};
 
 use crate::clusters::Cluster;
 use crate::events::{Answer, Event};
 use crate::plain_trees::PlainTree;
-use mds_types::{Entry, Frag, Ino, Rank, Refusal};
+use mds_types::{Entry, Refusal};
 use objstore::Store;
 use std::alloc::Global;
 use std::marker::Model;
@@ -63,14 +62,6 @@ impl<S: Store + Drop> Book<S> {
         ensures { result.now ≡ self.now.core }
     {
         &self.cluster
-    }
-
-    /// The authority of a leaf of a directory. Refused `NoSuchFrag` exactly where there is no such directory or leaf. Takes no
-    /// memory.
-    pub fn authority(&self, ino: Ino, frag: Frag) -> Result<Rank, Refusal>
-        ensures { TellsAuthority self.now.core.state (ino, frag) result }
-    {
-        self.cluster.authority(ino, frag)
     }
 
     /// One event, one atomic step: what it answers, or why it is refused. The opening tree stays.

@@ -7,23 +7,22 @@ ghost use Rattle.mds_types.specs.Tree.{Tree};
 ghost use Rattle.dentry_cache.specs.Cache.{held};
 ghost use Rattle.mdcache.specs.Cached.{IsKept};
 ghost use Rattle.mdcache.specs.New.{MayNotFormat, cached_root, root_leaf};
-ghost use Rattle.cluster_core.specs.State.{new_roots, new_state, whole_supplies};
+ghost use Rattle.cluster_core.specs.State.{new_state, whole_supplies};
 ghost use Rattle.cluster_core.specs.Steps.{ArrivesAt, AtRank, MayRefuse, ServesRank, Steps};
 ghost use Rattle.cluster_core.specs.Grants.{GrantsWaiting};
-ghost use Rattle.cluster_core.specs.Subtrees.{AreRoots, KeepsRoots};
+ghost use Rattle.ranked_tree.specs.Subtrees.{KeepsRoots};
 ghost use Rattle.cluster_core.specs.Sound.{IsSound};
 ghost use Rattle.cluster_core.specs.Administers.{ListsLeaves, TellsAuthority};
 
 use crate::events::{Answer, Event};
 use crate::granting::grant_first;
 use crate::serving::serve_front;
-use crate::subtrees::authority_of;
 use inboxes::{Inboxes, Pins};
 use inode_table::Numbers;
-use mdcache::MdCache;
 use mds_types::{Entry, Frag, Ino, Rank, Refusal, Request};
 use namespace_ops::Frags;
 use objstore::Store;
+use ranked_tree::RankedTree;
 use sessions::Sessions;
 use std::alloc::{AllocError, Global};
 use std::marker::Model;
@@ -32,9 +31,8 @@ use subtree_map::Subtrees;
 /// A cluster of metadata server ranks that serve one tree over a store.
 #[derive(Drop)]
 pub struct Cluster<S: Store + Drop> {
-    pub(crate) tree: MdCache<S>,
-    /// Whose each leaf is.
-    pub(crate) roots: Subtrees,
+    /// The tree, and whose each leaf is.
+    pub(crate) tree: RankedTree<S>,
     /// What waits at each rank.
     pub(crate) inboxes: Inboxes,
     /// The grants that stand.
@@ -54,7 +52,7 @@ impl<S: Store + Drop> Model for Cluster<S> {
 
     ghost coded = { Prim.hlevel (codes, map.code) };
 
-    ghost view = { λ c. core_of c.tree c.roots.roots c.numbers.items c.inboxes c.pins (table c.sessions) };
+    ghost view = { λ c. core_of c.tree.tree c.tree.subtrees.roots c.numbers.items c.inboxes c.pins (table c.sessions) };
 }
 
 impl<S: Store + Drop> Cluster<S> {
@@ -82,19 +80,14 @@ impl<S: Store + Drop> Cluster<S> {
     {
         match parts_of(alloc, ranks) {
             Err(_) => Err((Refusal::NoMemory, store)),
-            Ok(parts) => match MdCache::format(alloc, store, places) {
+            Ok(parts) => match RankedTree::format(alloc, store, places) {
                 Err(back) => Err(back),
                 Ok(tree) => {
                     // The contract of `store` is what says here that the tree is sound.
                     let _ = tree.store();
-                    let Parts {
-                        roots,
-                        inboxes,
-                        numbers,
-                    } = parts;
+                    let Parts { inboxes, numbers } = parts;
                     Ok(Cluster {
                         tree,
-                        roots,
                         inboxes,
                         pins: Pins::new(alloc),
                         numbers,
@@ -190,7 +183,6 @@ impl<S: Store + Drop> Cluster<S> {
         serve_front(
             alloc,
             &mut self.tree,
-            &mut self.roots,
             &mut self.inboxes,
             &mut self.pins,
             &mut self.numbers,
@@ -214,7 +206,6 @@ impl<S: Store + Drop> Cluster<S> {
         grant_first(
             alloc,
             &mut self.tree,
-            &self.roots,
             &self.inboxes,
             &mut self.pins,
             rank,
@@ -241,12 +232,12 @@ impl<S: Store + Drop> Cluster<S> {
         self.tree.leaves(alloc, ino)
     }
 
-    // The authority of a leaf.
-    pub(crate) fn authority(&self, ino: Ino, frag: Frag) -> Result<Rank, Refusal>
-        requires { AreRoots self.now.state.tree self.now.state.roots }
+    /// The authority of a leaf of a directory. Refused `NoSuchFrag` exactly where there is no such directory or leaf. Takes no
+    /// memory.
+    pub fn authority(&self, ino: Ino, frag: Frag) -> Result<Rank, Refusal>
         ensures { TellsAuthority self.now.state (ino, frag) result }
     {
-        match authority_of(&self.tree, &self.roots, ino, frag) {
+        match self.tree.authority(ino, frag) {
             Some(rank) => Ok(rank),
             None => Err(Refusal::NoSuchFrag),
         }
@@ -256,7 +247,7 @@ impl<S: Store + Drop> Cluster<S> {
     pub fn roots(&self) -> &Subtrees
         ensures { result.now.roots ≡ self.now.state.roots }
     {
-        &self.roots
+        self.tree.roots()
     }
 
     // Whether a rank is one of the cluster's.
@@ -270,26 +261,17 @@ impl<S: Store + Drop> Cluster<S> {
 // What a cluster has beside its tree and what comes empty.
 #[derive(Drop)]
 struct Parts {
-    roots: Subtrees,
     inboxes: Inboxes,
     numbers: Vec<Numbers>,
 }
 
-// The root directory's leaf as the one subtree root, rank 0's; for each of so many ranks an inbox where nothing waits, and all
-// its numbers.
+// For each of so many ranks an inbox where nothing waits, and all its numbers.
 fn parts_of(alloc: Global, ranks: u8) -> Result<Parts, AllocError>
     requires { ranks ≤ 16 }
-    ensures roots { IfOk result (λ parts. parts.roots.roots ≡ new_roots) }
     ensures inboxes { IfOk result (λ parts. parts.inboxes ≡ replicate ranks []) }
     ensures numbers { IfOk result (λ parts. parts.numbers.items ≡ whole_supplies 0 ranks) }
 {
-    let mut roots = Subtrees::new(alloc);
-    if roots.reserve(1).is_err() {
-        return Err(AllocError);
-    }
-    roots.set(Ino::ROOT, Frag::ROOT, Rank(0));
     Ok(Parts {
-        roots,
         inboxes: Inboxes::new(alloc, ranks)?,
         numbers: whole_supplies(alloc, ranks)?,
     })

@@ -8,31 +8,29 @@ ghost use Rattle.cluster_core.specs.State.{state_of};
 ghost use Rattle.cluster_core.specs.Grants.{AreHeldAmong, GrantsWaiting, with_grants};
 
 use crate::events::Answer;
-use crate::masters::is_authority;
 use inboxes::{Inboxes, Pin, Pins};
-use mdcache::MdCache;
 use mds_types::{Frag, Ino, Rank, Refusal};
 use namespace_ops::changes;
 use objstore::Store;
+use ranked_tree::RankedTree;
 use std::alloc::{AllocError, Global};
-use subtree_map::Subtrees;
 
 /// A rank grants the first waiting copy of a request all its own fragments that the request would change now. Takes memory for
 /// the list of these, and for the grants, which are made on a copy: a refusal leaves all.
 pub fn grant_first<S: Store + Drop>(
     alloc: Global,
-    tree: &mut MdCache<S>,
-    roots: &Subtrees,
+    tree: &mut RankedTree<S>,
     inboxes: &Inboxes,
     pins: &mut Pins,
     rank: Rank,
     client: u64,
     tid: u64,
 ) -> Result<Answer, Refusal>
-    ensures granted { (numbers : List Supply) (sessions : Table) (past : List Applied) → GrantsWaiting (state_of tree.old.state roots.now.roots numbers inboxes.now pins.old sessions) (state_of tree.new.state roots.now.roots numbers inboxes.now pins.new sessions) past past (MayRefuse tree.old tree.new) rank client tid result }
-    ensures same { tree.new.state ≡ tree.old.state }
-    ensures cap { tree.new.cache.cap ≡ tree.old.cache.cap }
-    ensures grows { tree.old.faults ≤ tree.new.faults }
+    ensures granted { (numbers : List Supply) (sessions : Table) (past : List Applied) → GrantsWaiting (state_of tree.old.tree.state tree.old.subtrees.roots numbers inboxes.now pins.old sessions) (state_of tree.new.tree.state tree.new.subtrees.roots numbers inboxes.now pins.new sessions) past past (MayRefuse tree.old.tree tree.new.tree) rank client tid result }
+    ensures same { tree.new.tree.state ≡ tree.old.tree.state }
+    ensures roots { tree.new.subtrees.roots ≡ tree.old.subtrees.roots }
+    ensures cap { tree.new.tree.cache.cap ≡ tree.old.tree.cache.cap }
+    ensures grows { tree.old.tree.faults ≤ tree.new.tree.faults }
 {
     let Some(request) = inboxes.find(client, tid) else {
         return Err(Refusal::InboxEmpty)
@@ -41,7 +39,7 @@ pub fn grant_first<S: Store + Drop>(
         Ok(changed) => changed,
         Err(refusal) => return Err(refusal),
     };
-    let mine = match held_among(alloc, tree, roots, rank, &changed) {
+    let mine = match held_among(alloc, tree, rank, &changed) {
         Ok(mine) => mine,
         Err(_) => return Err(Refusal::NoMemory),
     };
@@ -57,16 +55,15 @@ pub fn grant_first<S: Store + Drop>(
 // Those of some leaves of which a rank is the authority.
 fn held_among<S: Store + Drop>(
     alloc: Global,
-    tree: &MdCache<S>,
-    roots: &Subtrees,
+    tree: &RankedTree<S>,
     rank: Rank,
     leaves: &Vec<(Ino, Frag)>,
 ) -> Result<Vec<(Ino, Frag)>, AllocError>
-    ensures { IfOk result (λ held. AreHeldAmong tree.now.state roots.now.roots rank leaves.now.items held.items) }
+    ensures { IfOk result (λ held. AreHeldAmong tree.now.tree.state tree.now.subtrees.roots rank leaves.now.items held.items) }
 {
     let mut held = Vec::new(alloc);
     for leaf in leaves {
-        if is_authority(tree, roots, rank, leaf.0, leaf.1) {
+        if tree.is_authority(rank, leaf.0, leaf.1) {
             held.push(*leaf)?;
         }
     }

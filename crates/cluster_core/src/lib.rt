@@ -7,13 +7,11 @@ mod books;
 mod clusters;
 mod events;
 mod granting;
-mod inside;
 mod masters;
+mod pinned;
 mod plain_trees;
-mod root_steps;
 mod runs;
 mod serving;
-mod subtrees;
 
 pub use books::{Book, format};
 pub use clusters::Cluster;

@@ -7,21 +7,18 @@ ghost use Rattle.fragtree.specs.FragTree.{HasLeaf};
 ghost use Rattle.inode_table.specs.Dirs.{leaves_of};
 ghost use Rattle.mdcache.specs.Frags.{MayRefuse};
 ghost use Rattle.cluster_core.specs.Master.{HasForeign, IsMasterIn, LacksGrantIn, MayTouchAllIn, MayTouchEach, MayTouchIn, changes_others, main_dentry, main_leaf};
-ghost use Rattle.cluster_core.specs.Subtrees.{AreRoots, Rules};
 
 use inboxes::{Pin, Pins};
-use mdcache::MdCache;
 use mds_types::{Dentry, Frag, Ino, Op, Rank, Refusal};
 use namespace_ops::changes;
 use objstore::Store;
+use ranked_tree::RankedTree;
 use std::alloc::Global;
-use subtree_map::Subtrees;
 
 /// The master of an operation that a rank serves: the authority of its dentry's leaf, of a rename the destination's, of a
 /// readdir the directory's first. Where the directory isn't there, the rank itself. Takes no memory.
-pub fn master_of<S: Store + Drop>(tree: &MdCache<S>, roots: &Subtrees, rank: Rank, op: &Op) -> Rank
-    requires { AreRoots tree.now.state roots.now.roots }
-    ensures { IsMasterIn tree.now.state roots.now.roots rank op.now result }
+pub fn master_of<S: Store + Drop>(tree: &RankedTree<S>, rank: Rank, op: &Op) -> Rank
+    ensures { IsMasterIn tree.now.tree.state tree.now.subtrees.roots rank op.now result }
 {
     // The contract of `store` is what says here that the tree is sound.
     let _ = tree.store();
@@ -29,13 +26,13 @@ pub fn master_of<S: Store + Drop>(tree: &MdCache<S>, roots: &Subtrees, rank: Ran
         return rank;
     }
     let leaf = main_leaf(tree, op);
-    roots.authority(tree.dirs(), leaf.0, leaf.1)
+    tree.roots().authority(tree.dirs(), leaf.0, leaf.1)
 }
 
 // The leaf that tells the master of an operation.
-fn main_leaf<S: Store + Drop>(tree: &MdCache<S>, op: &Op) -> (Ino, Frag)
-    ensures leaf { result ≡ main_leaf tree.now.state.covers op.now }
-    ensures stands { HasLeaf (leaves_of tree.now.state.covers result.0.0) result.1 }
+fn main_leaf<S: Store + Drop>(tree: &RankedTree<S>, op: &Op) -> (Ino, Frag)
+    ensures leaf { result ≡ main_leaf tree.now.tree.state.covers op.now }
+    ensures stands { HasLeaf (leaves_of tree.now.tree.state.covers result.0.0) result.1 }
 {
     match main_dentry(op) {
         Some(dentry) => (dentry.dir, tree.frag_of(dentry)),
@@ -73,46 +70,43 @@ fn changes_others(op: &Op) -> bool
 /// another leaf than its main one. Refused as a read is, and for want of memory; nothing changes either way.
 pub fn lacks_grant<S: Store + Drop>(
     alloc: Global,
-    tree: &mut MdCache<S>,
-    roots: &Subtrees,
+    tree: &mut RankedTree<S>,
     pins: &Pins,
     rank: Rank,
     client: u64,
     tid: u64,
     op: &Op,
 ) -> Result<bool, Refusal>
-    requires valid { AreRoots tree.old.state roots.now.roots }
-    requires master { IsMasterIn tree.old.state roots.now.roots rank op.now rank }
-    ensures found { IfOk result (λ lacks. MatchBool lacks (LacksGrantIn tree.old.state roots.now.roots pins.now rank client tid op.now) (MayTouchAllIn tree.old.state roots.now.roots pins.now rank client tid op.now)) }
-    ensures refused { IfErr result (λ reason. (reason ≡ NoMemory) ⊎ MayRefuse tree.old tree.new op.now reason) }
-    ensures same { tree.new.state ≡ tree.old.state }
-    ensures cap { tree.new.cache.cap ≡ tree.old.cache.cap }
-    ensures grows { tree.old.faults ≤ tree.new.faults }
+    requires master { IsMasterIn tree.old.tree.state tree.old.subtrees.roots rank op.now rank }
+    ensures found { IfOk result (λ lacks. MatchBool lacks (LacksGrantIn tree.old.tree.state tree.old.subtrees.roots pins.now rank client tid op.now) (MayTouchAllIn tree.old.tree.state tree.old.subtrees.roots pins.now rank client tid op.now)) }
+    ensures refused { IfErr result (λ reason. (reason ≡ NoMemory) ⊎ MayRefuse tree.old.tree tree.new.tree op.now reason) }
+    ensures same { tree.new.tree.state ≡ tree.old.tree.state }
+    ensures roots { tree.new.subtrees.roots ≡ tree.old.subtrees.roots }
+    ensures cap { tree.new.tree.cache.cap ≡ tree.old.tree.cache.cap }
+    ensures grows { tree.old.tree.faults ≤ tree.new.tree.faults }
 {
     if !changes_others(op) {
         return Ok(false);
     }
     match changes(alloc, tree, op) {
-        Ok(leaves) => Ok(any_lacks(tree, roots, pins, rank, client, tid, &leaves)),
+        Ok(leaves) => Ok(any_lacks(tree, pins, rank, client, tid, &leaves)),
         Err(refusal) => Err(refusal),
     }
 }
 
 // Whether one of these leaves may not be changed.
 fn any_lacks<S: Store + Drop>(
-    tree: &MdCache<S>,
-    roots: &Subtrees,
+    tree: &RankedTree<S>,
     pins: &Pins,
     rank: Rank,
     client: u64,
     tid: u64,
     leaves: &Vec<(Ino, Frag)>,
 ) -> bool
-    requires { AreRoots tree.now.state roots.now.roots }
-    ensures { MatchBool result (HasForeign tree.now.state roots.now.roots pins.now rank client tid leaves.now.items) (MayTouchEach tree.now.state roots.now.roots pins.now rank client tid leaves.now.items) }
+    ensures { MatchBool result (HasForeign tree.now.tree.state tree.now.subtrees.roots pins.now rank client tid leaves.now.items) (MayTouchEach tree.now.tree.state tree.now.subtrees.roots pins.now rank client tid leaves.now.items) }
 {
     for leaf in leaves {
-        if !may_touch(tree, roots, pins, rank, client, tid, leaf.0, leaf.1) {
+        if !may_touch(tree, pins, rank, client, tid, leaf.0, leaf.1) {
             return true;
         }
     }
@@ -121,8 +115,7 @@ fn any_lacks<S: Store + Drop>(
 
 // Whether a rank may change a leaf for a request: it is its authority, or the leaf is granted.
 fn may_touch<S: Store + Drop>(
-    tree: &MdCache<S>,
-    roots: &Subtrees,
+    tree: &RankedTree<S>,
     pins: &Pins,
     rank: Rank,
     client: u64,
@@ -130,27 +123,13 @@ fn may_touch<S: Store + Drop>(
     dir: Ino,
     frag: Frag,
 ) -> bool
-    requires { AreRoots tree.now.state roots.now.roots }
-    ensures { IsTrue result ↔ MayTouchIn tree.now.state roots.now.roots pins.now rank client tid (dir, frag) }
+    ensures { IsTrue result ↔ MayTouchIn tree.now.tree.state tree.now.subtrees.roots pins.now rank client tid (dir, frag) }
 {
-    is_authority(tree, roots, rank, dir, frag)
+    tree.is_authority(rank, dir, frag)
         || pins.is_granted(&Pin {
             dir,
             frag,
             client,
             tid,
         })
-}
-
-/// Whether a rank is the authority of a leaf. Takes no memory.
-pub fn is_authority<S: Store + Drop>(
-    tree: &MdCache<S>,
-    roots: &Subtrees,
-    rank: Rank,
-    dir: Ino,
-    frag: Frag,
-) -> bool
-    ensures { IsTrue result ↔ Rules tree.now.state roots.now.roots (dir, frag) rank }
-{
-    roots.find_authority(tree.dirs(), dir, frag) == Some(rank)
 }

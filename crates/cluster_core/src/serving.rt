@@ -9,34 +9,31 @@ ghost use Rattle.namespace_ops.specs.Changes.{IsOffered};
 ghost use Rattle.sessions.specs.Table.{IsTableOf};
 ghost use Rattle.sessions.specs.Rooms.{IsReady, table};
 ghost use Rattle.dirfrag_codec.specs.EntryRecord.{IsRankNumber};
-ghost use Rattle.mdcache.specs.Frags.{IsReady as IsReadyIn, MayRefuse};
-ghost use Rattle.namespace_ops.specs.Planned.{IsReadyToChange};
+ghost use Rattle.mdcache.specs.Frags.{MayRefuse};
 ghost use Rattle.mdcache.specs.Shown.{shown_tree};
 ghost use Rattle.cluster_core.specs.State.{no_supply, state_of};
 ghost use Rattle.cluster_core.specs.Serve.{EndsFront, ForwardsFront, RepeatsFront, ServesInbox};
 ghost use Rattle.cluster_core.specs.Master.{AreMastersThere, IsMasterIn};
 ghost use Rattle.cluster_core.specs.Prepared.{IsMadeReady};
-ghost use Rattle.cluster_core.specs.Subtrees.{AreRoots, HasRoomForPlanned, KeepsRoots};
+ghost use Rattle.ranked_tree.specs.Ranked.{IsReady as IsReadyIn};
+ghost use Rattle.ranked_tree.specs.Subtrees.{AreRoots, KeepsRoots};
 
 use crate::applying::{Prepared, commit, prepare};
 use crate::events::Answer;
 use crate::masters::{lacks_grant, master_of};
-use crate::subtrees::reserve_roots;
 use inboxes::{Inboxes, Pins};
 use inode_table::Numbers;
-use mdcache::MdCache;
 use mds_types::{Entry, Rank, Refusal, Reply, Request};
 use objstore::Store;
+use ranked_tree::RankedTree;
 use sessions::{Seen, Sessions};
 use std::alloc::Global;
-use subtree_map::Subtrees;
 
 /// Serves the request at the front of a rank's inbox. One that was applied before is answered again; a new one goes to its
 /// master, or waits where it lacks a grant, or is applied.
 pub fn serve_front<S: Store + Drop>(
     alloc: Global,
-    tree: &mut MdCache<S>,
-    roots: &mut Subtrees,
+    tree: &mut RankedTree<S>,
     inboxes: &mut Inboxes,
     pins: &mut Pins,
     numbers: &mut Vec<Numbers>,
@@ -45,15 +42,15 @@ pub fn serve_front<S: Store + Drop>(
     rank: Rank,
 ) -> Result<Answer, Refusal>
     requires known { IsTableOf history.old.items (table sessions.old) }
-    requires offered { IsOffered (shown_tree tree.old.state) (λ n. IsRankNumber n) (offer (get_or numbers.old.items rank.0 no_supply)) }
+    requires offered { IsOffered (shown_tree tree.old.tree.state) (λ n. IsRankNumber n) (offer (get_or numbers.old.items rank.0 no_supply)) }
     requires there { rank.0 < length numbers.old.items }
-    requires masters { AreMastersThere tree.old.state roots.old.roots rank (length inboxes.old) }
-    requires valid { AreRoots tree.old.state roots.old.roots }
-    ensures served { ServesInbox (state_of tree.old.state roots.old.roots numbers.old.items inboxes.old pins.old (table sessions.old)) (state_of tree.new.state roots.new.roots numbers.new.items inboxes.new pins.new (table sessions.new))
-        history.old.items history.new.items (MayRefuse tree.old tree.new) rank result (waiting_at inboxes.old rank) }
-    ensures kept { KeepsRoots tree.old.state tree.new.state roots.old.roots roots.new.roots }
-    ensures cap { tree.new.cache.cap ≡ tree.old.cache.cap }
-    ensures grows { tree.old.faults ≤ tree.new.faults }
+    requires masters { AreMastersThere tree.old.tree.state tree.old.subtrees.roots rank (length inboxes.old) }
+    requires valid { AreRoots tree.old.tree.state tree.old.subtrees.roots }
+    ensures served { ServesInbox (state_of tree.old.tree.state tree.old.subtrees.roots numbers.old.items inboxes.old pins.old (table sessions.old)) (state_of tree.new.tree.state tree.new.subtrees.roots numbers.new.items inboxes.new pins.new (table sessions.new))
+        history.old.items history.new.items (MayRefuse tree.old.tree tree.new.tree) rank result (waiting_at inboxes.old rank) }
+    ensures kept { KeepsRoots tree.old.tree.state tree.new.tree.state tree.old.subtrees.roots tree.new.subtrees.roots }
+    ensures cap { tree.new.tree.cache.cap ≡ tree.old.tree.cache.cap }
+    ensures grows { tree.old.tree.faults ≤ tree.new.tree.faults }
 {
     let Some(front) = inboxes.front(rank) else {
         return Err(Refusal::InboxEmpty)
@@ -64,17 +61,14 @@ pub fn serve_front<S: Store + Drop>(
             Err(Refusal::Trimmed)
         }
         Seen::Kept(place, reply) => answer_again(inboxes, pins, rank, place, reply),
-        Seen::New => serve_new(
-            alloc, tree, roots, inboxes, pins, numbers, sessions, history, rank,
-        ),
+        Seen::New => serve_new(alloc, tree, inboxes, pins, numbers, sessions, history, rank),
     }
 }
 
 // Serves the request at the front of a rank's inbox, which is new.
 fn serve_new<S: Store + Drop>(
     alloc: Global,
-    tree: &mut MdCache<S>,
-    roots: &mut Subtrees,
+    tree: &mut RankedTree<S>,
     inboxes: &mut Inboxes,
     pins: &mut Pins,
     numbers: &mut Vec<Numbers>,
@@ -83,33 +77,31 @@ fn serve_new<S: Store + Drop>(
     rank: Rank,
 ) -> Result<Answer, Refusal>
     requires new { (front : Waiting) → slice_get (waiting_at inboxes.old rank) 0 ≡ Some front → IsNew history.old.items front.client front.tid front.oldest }
-    requires offered { IsOffered (shown_tree tree.old.state) (λ n. IsRankNumber n) (offer (get_or numbers.old.items rank.0 no_supply)) }
+    requires offered { IsOffered (shown_tree tree.old.tree.state) (λ n. IsRankNumber n) (offer (get_or numbers.old.items rank.0 no_supply)) }
     requires there { rank.0 < length numbers.old.items }
-    requires masters { AreMastersThere tree.old.state roots.old.roots rank (length inboxes.old) }
-    requires valid { AreRoots tree.old.state roots.old.roots }
-    ensures served { ServesInbox (state_of tree.old.state roots.old.roots numbers.old.items inboxes.old pins.old (table sessions.old)) (state_of tree.new.state roots.new.roots numbers.new.items inboxes.new pins.new (table sessions.new))
-        history.old.items history.new.items (MayRefuse tree.old tree.new) rank result (waiting_at inboxes.old rank) }
-    ensures kept { KeepsRoots tree.old.state tree.new.state roots.old.roots roots.new.roots }
-    ensures cap { tree.new.cache.cap ≡ tree.old.cache.cap }
-    ensures grows { tree.old.faults ≤ tree.new.faults }
+    requires masters { AreMastersThere tree.old.tree.state tree.old.subtrees.roots rank (length inboxes.old) }
+    requires valid { AreRoots tree.old.tree.state tree.old.subtrees.roots }
+    ensures served { ServesInbox (state_of tree.old.tree.state tree.old.subtrees.roots numbers.old.items inboxes.old pins.old (table sessions.old)) (state_of tree.new.tree.state tree.new.subtrees.roots numbers.new.items inboxes.new pins.new (table sessions.new))
+        history.old.items history.new.items (MayRefuse tree.old.tree tree.new.tree) rank result (waiting_at inboxes.old rank) }
+    ensures kept { KeepsRoots tree.old.tree.state tree.new.tree.state tree.old.subtrees.roots tree.new.subtrees.roots }
+    ensures cap { tree.new.tree.cache.cap ≡ tree.old.tree.cache.cap }
+    ensures grows { tree.old.tree.faults ≤ tree.new.tree.faults }
 {
     let Some(front) = inboxes.front(rank) else {
         return Err(Refusal::InboxEmpty)
     };
-    let master = master_of(tree, roots, rank, &front.op);
+    let master = master_of(tree, rank, &front.op);
     if !is_same(master, rank) {
         return forward(inboxes, rank, master);
     }
     let supply = supply_of(numbers, rank);
-    match make_ready(
-        alloc, tree, roots, pins, supply, sessions, history, rank, front,
-    ) {
+    match make_ready(alloc, tree, pins, supply, sessions, history, rank, front) {
         Ok(Some(prepared)) => {
             let Some(request) = inboxes.take(rank) else {
                 unreachable!()
             };
             Ok(commit(
-                tree, roots, numbers, pins, sessions, history, rank, request, prepared,
+                tree, numbers, pins, sessions, history, rank, request, prepared,
             ))
         }
         Ok(None) => {
@@ -127,8 +119,7 @@ fn serve_new<S: Store + Drop>(
 // Makes everything that applying a request at its master needs; nothing where it lacks a grant.
 fn make_ready<S: Store + Drop>(
     alloc: Global,
-    tree: &mut MdCache<S>,
-    roots: &mut Subtrees,
+    tree: &mut RankedTree<S>,
     pins: &Pins,
     supply: Numbers,
     sessions: &mut Sessions,
@@ -136,23 +127,21 @@ fn make_ready<S: Store + Drop>(
     rank: Rank,
     request: &Request,
 ) -> Result<Option<Prepared>, Refusal>
-    requires offered { IsOffered (shown_tree tree.old.state) (λ n. IsRankNumber n) (offer supply) }
-    requires master { IsMasterIn tree.old.state roots.old.roots rank request.now.op rank }
-    requires valid { AreRoots tree.old.state roots.old.roots }
-    ensures ready { IsMadeReady tree.old.state roots.old.roots pins.now supply rank request.now (IsReadyIn tree.new) (HasRoomForPlanned tree.old.state roots.new.roots roots.new.room) (MayRefuse tree.old tree.new request.now.op) result }
+    requires offered { IsOffered (shown_tree tree.old.tree.state) (λ n. IsRankNumber n) (offer supply) }
+    requires master { IsMasterIn tree.old.tree.state tree.old.subtrees.roots rank request.now.op rank }
+    ensures ready { IsMadeReady tree.old.tree.state tree.old.subtrees.roots pins.now supply rank request.now (IsReadyIn tree.new) (MayRefuse tree.old.tree tree.new.tree request.now.op) result }
     ensures room { IfOk result (λ made. IfSome made (λ prepared. vec_len history.new < vec_capacity history.new)) }
     ensures reserved { IfOk result (λ made. IfSome made (λ prepared. IsReady sessions.new request.now.client)) }
-    ensures same { tree.new.state ≡ tree.old.state }
-    ensures roots { roots.new.roots ≡ roots.old.roots }
+    ensures same { tree.new.tree.state ≡ tree.old.tree.state }
+    ensures roots { tree.new.subtrees.roots ≡ tree.old.subtrees.roots }
     ensures past { history.new.items ≡ history.old.items }
     ensures known { table sessions.new ≡ table sessions.old }
-    ensures cap { tree.new.cache.cap ≡ tree.old.cache.cap }
-    ensures grows { tree.old.faults ≤ tree.new.faults }
+    ensures cap { tree.new.tree.cache.cap ≡ tree.old.tree.cache.cap }
+    ensures grows { tree.old.tree.faults ≤ tree.new.tree.faults }
 {
     match lacks_grant(
         alloc,
         tree,
-        roots,
         pins,
         rank,
         request.client,
@@ -163,7 +152,7 @@ fn make_ready<S: Store + Drop>(
         Ok(true) => return Ok(None),
         Ok(false) => {}
     }
-    let prepared = match prepare(
+    match prepare(
         alloc,
         tree,
         supply,
@@ -172,30 +161,8 @@ fn make_ready<S: Store + Drop>(
         request.client,
         &request.op,
     ) {
-        Err(refusal) => return Err(refusal),
-        Ok(prepared) => prepared,
-    };
-    if let Err(refusal) = reserve_planned(alloc, tree, roots, &prepared) {
-        return Err(refusal);
-    }
-    Ok(Some(prepared))
-}
-
-// Makes room for the roots of what was prepared.
-fn reserve_planned<S: Store + Drop>(
-    alloc: Global,
-    tree: &MdCache<S>,
-    roots: &mut Subtrees,
-    prepared: &Prepared,
-) -> Result<(), Refusal>
-    requires ready { IsReadyToChange (shown_tree tree.now.state) tree.now.state.covers (IsReadyIn tree.now) prepared.now.plan.change }
-    ensures room { OnOk result (HasRoomForPlanned tree.now.state roots.new.roots roots.new.room prepared.now.plan.change) }
-    ensures same { roots.new.roots ≡ roots.old.roots }
-    ensures refused { IfErr result (λ reason. reason ≡ NoMemory) }
-{
-    match prepared.change() {
-        Some(change) => reserve_roots(alloc, tree, roots, change),
-        None => Ok(()),
+        Err(refusal) => Err(refusal),
+        Ok(prepared) => Ok(Some(prepared)),
     }
 }
 

@@ -35,10 +35,10 @@ use Rattle.mdcache.specs.State.{IsLive, State, text_of}
 use Rattle.mdcache.proofs.CachedLaws.{get_with}
 use Rattle.mdcache.proofs.EndLaws.{nothing_patched}
 
-abbrev no_homes : Homes
+abbrev pub no_homes : Homes
 no_homes = map.empty
 
-abbrev no_covers : Covers
+abbrev pub no_covers : Covers
 no_covers = map.empty
 
 one_leaf_each : (d : ℕ) → leaves_of no_covers d ≡ root_fragment ∷ []
@@ -51,7 +51,7 @@ root_known d known = eqb-true d 1 (go (d == 1) (sym (ap (λ o. (d == 1) || is_so
     go true h = refl
     go false h = h
 
-live_root : (leaf : Leaf) → IsLive no_homes no_covers leaf → leaf ≡ root_leaf
+pub live_root : (leaf : Leaf) → IsLive no_homes no_covers leaf → leaf ≡ root_leaf
 live_root leaf live =
     let dir : leaf.0.0 ≡ 1 = root_known leaf.0.0 live.known in
     let frag : leaf.1 ≡ root_fragment = alone (subst (λ fs. Contains fs leaf.1) (one_leaf_each leaf.0.0) live.stands) in
@@ -61,7 +61,7 @@ live_root leaf live =
     alone (zero, stands, is) = sym is
     alone (suc k, stands, is) = let never : ⊥ = omega (arith, stands) in absurd never
 
-root_live : IsLive no_homes no_covers root_leaf
+pub root_live : IsLive no_homes no_covers root_leaf
 root_live = record { known = refl; stands = subst (λ fs. Contains fs root_fragment) (sym (one_leaf_each 1)) (zero, omega arith, refl) }
 
 its_unsaved : (q : Leaf) → map.get new_state.unsaved q ≡ cond (leaf_is q root_leaf) (Some new_root) None

@@ -14,4 +14,5 @@ mod splits;
 mod subtrees;
 
 pub use climb::holder_of;
+pub use moves::end_of;
 pub use subtrees::Subtrees;

@@ -4,7 +4,7 @@ ghost use Rattle.std.specs.FinMap as map;
 ghost use Rattle.sorted_map.specs.SortedMap.{contents};
 ghost use Rattle.mds_types.specs.declared.ids.Rank.{Rank as RankNumber};
 ghost use Rattle.mds_types.specs.declared.refusals.Refusal.TheVariants.{NoMemory};
-ghost use Rattle.mds_types.specs.Frag.{span};
+ghost use Rattle.mds_types.specs.Frag.{IsFragment, span};
 ghost use Rattle.inode_table.specs.Dirs.{MayMove, leaves_of};
 ghost use Rattle.mds_types.specs.Leaf.{leaf_cmp};
 ghost use Rattle.subtree_map.specs.Authority.{IsSubtrees};
@@ -118,10 +118,11 @@ fn put_absent(roots: &mut SortedMap<(Ino, Frag), Rank>, dir: Ino, leaf: Frag, ra
     }
 }
 
-// Where a fragment ends: the hash after its last.
-fn end_of(f: Frag) -> u32
+/// Where a fragment ends: the hash after its last.
+pub fn end_of(f: Frag) -> u32
     ensures end { result ≡ f.value + span f.bits }
     ensures low { result ≤ 2 ^ 24 }
+    ensures valid { IsFragment f }
 {
     f.value() + hashes(f.bits())
 }

@@ -16,10 +16,10 @@ returns-clause-evicted g c past =
         tt,
         refl,
         (
-          evicts_first c.self.inside.tree.cache c.evict.new.self.cache (lru_cache [] c.self.inside.tree.cache.cap) (lru_cache [] c.evict.new.self.cache.cap) c.args.rank.0 first c.in_default.ensures.evicted,
-          ap (λ t. state_of t c.self.inside.roots.roots c.self.inside.numbers.items c.self.inside.inboxes c.self.inside.pins (table c.self.inside.sessions)) c.in_default.ensures.same,
+          evicts_first c.self.inside.tree.tree.cache c.evict.new.self.tree.cache (lru_cache [] c.self.inside.tree.tree.cache.cap) (lru_cache [] c.evict.new.self.tree.cache.cap) c.args.rank.0 first c.in_default.ensures.evicted,
+          (λ i. state_of (c.in_default.ensures.same i) (c.in_default.ensures.roots i).roots c.self.inside.numbers.items c.self.inside.inboxes c.self.inside.pins (table c.self.inside.sessions)),
         ),
         worked _ _ _ _ _ _ _ _ past (ap shown_tree c.in_default.ensures.same),
       ),
-      refl,
+      ap (λ s. s.roots) c.in_default.ensures.roots,
     ))

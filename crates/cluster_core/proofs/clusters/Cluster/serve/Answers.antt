@@ -6,7 +6,7 @@ use Rattle.namespace_ops.specs.Changes.{IsOffered}
 use Rattle.cluster_core.specs.Master.{AreMastersThere}
 use Rattle.cluster_core.specs.State.{Core, shown, supply_of}
 use Rattle.cluster_core.proofs.Offered.{masters_there, offer_unused, there_of}
-use Rattle.cluster_core.specs.Subtrees.{AreRoots}
+use Rattle.ranked_tree.specs.Subtrees.{AreRoots}
 use Rattle.cluster_core.proofs.clusters.Cluster.serve.Goals as goal
 
 pub serve_front-requires-clause-offered : goal.serve_front-requires-clause-offered

@@ -1,0 +1,10 @@
+use Rattle.std.proofs.Common.{◌↔◌, IsTrue, sym}
+use Rattle.inode_table.specs.Dirs.{Covers, Homes}
+use Rattle.cluster_core.specs.Administers.{IsAnyPinned}
+use Rattle.ranked_tree.proofs.SubtreeLaws.{over}
+use Rattle.cluster_core.proofs.pinned.is_any_pinned.Goals as goal
+
+pub returns : goal.returns
+returns g c =
+    over (λ (h : Homes) (cs : Covers). IsTrue c.some_pinned.result ↔ IsAnyPinned h cs c.args.pins.now c.args.dir c.args.frag)
+    c.args.tree.now.tree.state.homes c.dirs.result.now.homes c.args.tree.now.tree.state.covers c.dirs.result.now.trees (sym c.dirs.ensures.homes) (sym c.dirs.ensures.trees) c.some_pinned.ensures

@@ -1,0 +1,39 @@
+//! Whether grants stand on leaves of a directory. Each leaf is asked once, and no memory is taken.
+ghost use Rattle.std.specs.Prelude.{◌↔◌, IsTrue};
+ghost use Rattle.cluster_core.specs.Administers.{IsAnyPinned};
+
+use inboxes::Pins;
+use inode_table::Dirs;
+use mds_types::{Frag, Ino};
+use objstore::Store;
+use ranked_tree::{RankedTree, leaf_inside};
+use subtree_map::end_of;
+
+/// Whether a leaf of a directory that lies properly inside a fragment is pinned. Takes no memory.
+pub fn is_any_pinned<S: Store + Drop>(
+    tree: &RankedTree<S>,
+    pins: &Pins,
+    dir: Ino,
+    frag: Frag,
+) -> bool
+    ensures { IsTrue result ↔ IsAnyPinned tree.now.tree.state.homes tree.now.tree.state.covers pins.now dir frag }
+{
+    some_pinned(tree.dirs(), pins, dir, frag)
+}
+
+// Whether a leaf inside a fragment is pinned.
+fn some_pinned(dirs: &Dirs, pins: &Pins, dir: Ino, frag: Frag) -> bool
+    ensures { IsTrue result ↔ IsAnyPinned dirs.now.homes dirs.now.trees pins.now dir frag }
+{
+    if !dirs.contains(dir) {
+        return false;
+    }
+    let mut hash = frag.value();
+    while let Some(leaf) = leaf_inside(dirs, dir, frag, hash) {
+        if pins.is_pinned(dir, leaf) {
+            return true;
+        }
+        hash = end_of(leaf);
+    }
+    false
+}

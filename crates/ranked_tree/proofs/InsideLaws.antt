@@ -1,0 +1,118 @@
+-- A walk over the leaves of a directory that lie properly inside a fragment, from hash to hash.
+use Rattle.std.proofs.Common.{◌≡◌, ◌⊎◌, inl, inr, ℕ, ◌+◌, ◌%◌, ◌^◌, ◌<◌, ◌≤◌, ◌==◌, true, false, List, Some, None, refl, sym, ap, subst, ◌∙◌, arith}
+use Rattle.std.proofs.lemmas.Bool.{and_from, and_parts, cases_lt, eq-eqb, eqb-true}
+use Rattle.mds_types.specs.declared.ids.Ino.{Ino}
+use Rattle.mds_types.specs.Frag.{Contains, Fragment, IsFragment, span}
+use Rattle.fragtree.specs.FragTree.{HasLeaf, IsPick, IsTree, lies_inside}
+use Rattle.fragtree.proofs.Ranges.{Contains-from_range, ends_before, ends_low, ends_within, lies_inside-true, range_from_Contains, range_from_inside}
+use Rattle.inode_table.specs.Dirs.{Covers, Homes, IsLive, is_known, leaves_of}
+use Rattle.mds_types.specs.Leaf.{Leaf}
+use Rattle.subtree_map.specs.Changes.{is_inside}
+use Rattle.subtree_map.proofs.Covers.{contains_start, is_fragment, one_leaf}
+use Rattle.ranked_tree.specs.Subtrees.{IsInsideAt}
+
+-- a leaf that contains a hash as a number of its range
+in_range : (leaf : Fragment) (hash : ℕ) → IsFragment leaf → hash < 2 ^ 24 → Contains leaf hash → (leaf.value ≤ hash) × (hash < leaf.value + span leaf.bits)
+in_range leaf hash valid low holds =
+    let range = range_from_Contains leaf hash valid holds in
+    let same : hash % 2 ^ 24 ≡ hash = omega (arith, low) in
+    (omega (arith, range.0, same), omega (arith, range.1, same))
+
+-- where a fragment ends, all leaves inside begin before
+pub none_beyond : (leaves : List Fragment) (f : Fragment) (hash : ℕ) → IsFragment f → f.value + span f.bits ≤ hash → IsInsideAt leaves f hash None
+none_beyond leaves f hash valid beyond g has inside = let range = range_from_inside f g valid inside in omega (arith, beyond, range.2)
+
+module _ (leaves : List Fragment) (tree : IsTree leaves) (f : Fragment) (valid : IsFragment f) (hash : ℕ) where
+  module _ (from : f.value ≤ hash) (within : hash < f.value + span f.bits) (leaf : Fragment) (pick : IsPick leaves hash leaf) where
+    low : hash < 2 ^ 24
+    low = omega (arith, within, ends_low f valid)
+
+    its : IsFragment leaf
+    its = is_fragment leaves leaf tree pick.stands
+
+    range : (leaf.value ≤ hash) × (hash < leaf.value + span leaf.bits)
+    range = in_range leaf hash its low pick.contains
+
+    -- the leaf at the hash lies inside,
+    pub inside_found : lies_inside f leaf ≡ true → IsInsideAt leaves f hash (Some leaf)
+    inside_found inside = (pick.stands, inside, range.0, range.1)
+
+    -- or it contains the fragment, and no leaf lies inside
+    contains_f : lies_inside f leaf ≡ false → leaf.bits ≤ f.bits
+    contains_f outside = go (cases_lt f.bits leaf.bits)
+      where
+        more : f.bits < leaf.bits → ⊥
+        more less =
+            let start : leaf.value < f.value → ⊥ = λ before. let ends = ends_before f leaf valid its (omega (arith, less)) before in omega (arith, ends, from, range.1) in
+            let inside = lies_inside-true f leaf valid less (omega (arith, start)) (omega (arith, range.0, within)) in
+            let clash : true ≡ false = sym inside ∙ outside in
+            cc
+
+        go : (f.bits < leaf.bits) ⊎ (leaf.bits ≤ f.bits) → leaf.bits ≤ f.bits
+        go (inl less) = absurd (more less)
+        go (inr more) = more
+
+    pub none_inside : lies_inside f leaf ≡ false → IsInsideAt leaves f hash None
+    none_inside outside g has inside =
+        let fewer = contains_f outside in
+        let start : f.value < leaf.value → ⊥ = λ after. let ends = ends_before leaf f its valid fewer after in omega (arith, ends, within, range.0) in
+        let ends = ends_within leaf f its valid fewer (omega (arith, from, range.1)) in
+        let of_g = is_fragment leaves g tree has in
+        let inner = range_from_inside f g valid inside in
+        let same : g.value % 2 ^ 24 ≡ g.value = omega (arith, of_g.in_range) in
+        let holds : Contains leaf g.value = Contains-from_range leaf g.value its (omega (arith, same, start, inner.1)) (omega (arith, same, ends, inner.2)) in
+        let one : leaf ≡ g = one_leaf leaves leaf g g.value tree pick.stands has holds (contains_start g of_g) in
+        let bits : leaf.bits ≡ g.bits = ap (λ (h : Fragment). h.bits) one in
+        absurd (omega (arith, bits, fewer, inner.0))
+
+-- each turn comes nearer to the end of all hashes
+pub walk_on : (leaves : List Fragment) (f : Fragment) (hash : ℕ) (leaf : Fragment) (end : ℕ) → IsTree leaves → IsInsideAt leaves f hash (Some leaf) → end ≡ leaf.value + span leaf.bits → (hash < end) × (end ≤ 2 ^ 24)
+walk_on leaves f hash leaf end tree at ends = (omega (arith, at.3, ends), omega (arith, ends, ends_low leaf (is_fragment leaves leaf tree at.0)))
+
+-- of each leaf inside that begins before a hash this holds
+abbrev pub Done : List Fragment → Fragment → (Fragment → Type 0) → ℕ → Type 0
+Done leaves f P hash = (g : Fragment) → HasLeaf leaves g → lies_inside f g ≡ true → g.value < hash → P g
+
+module _ (leaves : List Fragment) (tree : IsTree leaves) (f : Fragment) (valid : IsFragment f) (P : Fragment → Type 0) where
+  pub walk_starts : Done leaves f P f.value
+  walk_starts g has inside before = let range = range_from_inside f g valid inside in absurd (omega (arith, before, range.1))
+
+  pub walk_goes : (hash : ℕ) (leaf : Fragment) (end : ℕ) → Done leaves f P hash → IsInsideAt leaves f hash (Some leaf) → P leaf → end ≡ leaf.value + span leaf.bits → Done leaves f P end
+  walk_goes hash leaf end done at holds ends g has inside before = go (cases_lt g.value hash)
+    where
+      own : hash ≤ g.value → P g
+      own behind =
+          let its = is_fragment leaves leaf tree at.0 in
+          let of_g = is_fragment leaves g tree has in
+          let same : g.value % 2 ^ 24 ≡ g.value = omega (arith, of_g.in_range) in
+          let contains : Contains leaf g.value = Contains-from_range leaf g.value its (omega (arith, same, at.2, behind)) (omega (arith, same, ends, before)) in
+          subst P (one_leaf leaves leaf g g.value tree at.0 has contains (contains_start g of_g)) holds
+
+      go : (g.value < hash) ⊎ (hash ≤ g.value) → P g
+      go (inl earlier) = done g has inside earlier
+      go (inr behind) = own behind
+
+  -- where none is left it holds of all inside
+  pub walk_ends : (hash : ℕ) → Done leaves f P hash → IsInsideAt leaves f hash None → (g : Fragment) → HasLeaf leaves g → lies_inside f g ≡ true → P g
+  walk_ends hash done none g has inside = done g has inside (none g has inside)
+
+-- what holds of all leaves of a directory inside a fragment, in the words of all leaves
+pub of_all : (homes : Homes) (covers : Covers) (dir : Ino) (f : Fragment) (P : Leaf → Type 0) → ((g : Fragment) → HasLeaf (leaves_of covers dir.0) g → lies_inside f g ≡ true → P (dir, g))
+    → (leaf : Leaf) → IsLive homes covers leaf → is_inside dir.0 f leaf ≡ true → P leaf
+of_all homes covers dir f P all leaf live inside =
+    let both = and_parts (leaf.0.0 == dir.0) (lies_inside f leaf.1) inside in
+    let here : leaf.0.0 ≡ dir.0 = eqb-true _ _ both.0 in
+    let there : (dir, leaf.1) ≡ leaf = λ i. (record { 0 = sym here i }, leaf.1) in
+    subst P there (all leaf.1 (subst (λ (d : ℕ). HasLeaf (leaves_of covers d) leaf.1) here live.stands) both.1)
+
+-- one of them is a live leaf inside
+pub is_within : (dir : Ino) (f g : Fragment) → lies_inside f g ≡ true → is_inside dir.0 f (dir, g) ≡ true
+is_within dir f g inside = and_from (dir.0 == dir.0) (lies_inside f g) (eq-eqb dir.0 dir.0 refl) inside
+
+-- of what is no directory no leaf is live
+pub none_live : (homes : Homes) (covers : Covers) (dir : Ino) (f : Fragment) (leaf : Leaf) → is_known homes dir.0 ≡ false → IsLive homes covers leaf → is_inside dir.0 f leaf ≡ true → ⊥
+none_live homes covers dir f leaf unknown live inside =
+    let both = and_parts (leaf.0.0 == dir.0) (lies_inside f leaf.1) inside in
+    let here : leaf.0.0 ≡ dir.0 = eqb-true _ _ both.0 in
+    let clash : true ≡ false = sym live.known ∙ ap (is_known homes) here ∙ unknown in
+    cc

@@ -1,0 +1,215 @@
+-- What becomes of the roots and of every leaf's authority where directories come, move and go: from the table of directories alone.
+use Rattle.std.proofs.Common.{◌≡◌, ◌≢◌, ◌⊎◌, inl, inr, ℕ, ◌+◌, ◌/◌, ◌||◌, ◌&&◌, ◌==◌, nat_lt, Bool, true, false, is_some, IsSome, List, Option, Some, None, refl, sym, ap, subst, ◌∙◌, arith}
+use Rattle.std.proofs.lemmas.Bool.{and_right}
+use Rattle.std.proofs.lemmas.Bool.Decides.{nat_tests}
+use Rattle.std.specs.FinMap as map
+use Rattle.mds_types.specs.declared.ids.Ino.{Ino}
+use Rattle.mds_types.specs.declared.ids.Rank.{Rank}
+use Rattle.sorted_map.proofs.NatKeys as nat
+use Rattle.inode_table.specs.declared.dirs.Home.{Home}
+use Rattle.inode_table.specs.Dirs.{Covers, Homes, IsLive, IsTable, MayCome, MayGo, MayMove, is_known, leaves_of}
+use Rattle.inode_table.proofs.Tables.{tree_of_row}
+use Rattle.mds_types.specs.Frag.{Fragment, span}
+use Rattle.mds_types.proofs.LeafLaws.{same_or_apart as same_leaf_or_apart}
+use Rattle.fragtree.specs.FragTree.{CanMerge, FitsSplit, HasLeaf, IsChild, IsMerge, IsSplit, IsTree, lies_inside}
+use Rattle.subtree_map.specs.Authority.{HasAuthority, IsSubtrees, Leaf, Roots}
+use Rattle.subtree_map.specs.Changes.{AreGone, BecomesMerged, BecomesSplit, HaveOneAuthority, IsRootMerge, IsRootSplit, KeepAuthority, is_inside, leaf_of}
+use Rattle.subtree_map.specs.Moves.{IsInheritedAt, IsSettled}
+use Rattle.subtree_map.proofs.Adopted.{adopted_authority, adopted_valid}
+use Rattle.subtree_map.proofs.Covers.{child_is_new, leaves_now}
+use Rattle.subtree_map.proofs.Dropped.{drops_soundly}
+use Rattle.subtree_map.proofs.Merged.{merges_soundly}
+use Rattle.subtree_map.proofs.Moved.{moves_soundly}
+use Rattle.subtree_map.proofs.Nearest.{some_authority, some_holder}
+use Rattle.subtree_map.proofs.Split.{splits_soundly}
+use Rattle.subtree_map.proofs.Options.{not_none, one_value, value_of}
+use Rattle.ranked_tree.specs.Subtrees.{NoNewRank}
+
+-- what every change leaves: each leaf that stood and still stands has its authority, only leaves are roots, and no root has a rank that none had
+pub record IsSoundChange (before after : Roots) (homes now : Homes) (covers later : Covers) : Type 0 where
+  pub keeps : (leaf : Leaf) (rank : Rank) → IsLive homes covers leaf → IsLive now later leaf → HasAuthority before homes covers leaf rank → HasAuthority after now later leaf rank
+  pub valid : IsSubtrees after now later
+  pub ranks : NoNewRank before after
+
+-- one change after another, where each leaf that stands at both ends also stands between them
+pub sound_on : (a b c : Roots) (homes between now : Homes) (covers middle later : Covers) → IsSoundChange a b homes between covers middle → IsSoundChange b c between now middle later
+    → ((leaf : Leaf) → IsLive homes covers leaf → IsLive now later leaf → IsLive between middle leaf) → IsSoundChange a c homes now covers later
+sound_on a b c homes between now covers middle later first second stands = record {
+  keeps = λ leaf rank was is has. let there = stands leaf was is in second.keeps leaf rank there is (first.keeps leaf rank was there has);
+  valid = second.valid;
+  ranks = λ leaf rank has. let found = second.ranks leaf rank has in first.ranks found.0 rank found.1;
+}
+
+not_less : (n : ℕ) → nat_lt n n ≡ false
+not_less n = grind (arith, nat_tests)
+
+-- a leaf of a directory that went stands no more
+pub is_elsewhere : (homes : Homes) (covers : Covers) (d : ℕ) (leaf : Leaf) → (d ≡ 1 → ⊥) → IsLive (map.remove homes d) covers leaf → leaf.0.0 ≢ d
+is_elsewhere homes covers d leaf other live same =
+    let known : (d == 1) || is_some (map.get (map.remove homes d) d) ≡ true = subst (λ (n : ℕ). is_known (map.remove homes d) n ≡ true) same live.known in
+    let none : (d == 1) || is_some (map.get (map.remove homes d) d) ≡ false = λ i. nat.is_apart d 1 other i || is_some (nat.get_removed homes d i) in
+    let clash : true ≡ false = sym known ∙ none in
+    cc
+
+same_rank : (a b : Rank) → (a ≡ b) ⊎ (a ≡ b → ⊥)
+same_rank a b = go (nat.same_or_apart a.0 b.0)
+  where
+    go : (a.0 ≡ b.0) ⊎ (a.0 ≡ b.0 → ⊥) → (a ≡ b) ⊎ (a ≡ b → ⊥)
+    go (inl same) = inl (λ i. record { 0 = same i })
+    go (inr apart) = inr (λ same. apart (ap (λ (r : Rank). r.0) same))
+
+module _ (before after : Roots) (homes : Homes) (covers : Covers) (table : IsTable homes covers) (valid : IsSubtrees before homes covers) where
+  -- the roots stay, and so do the directories
+  pub unchanged : after ≡ before → IsSoundChange before after homes homes covers covers
+  unchanged same = subst (λ (r : Roots). IsSoundChange before r homes homes covers covers) (sym same) (record { keeps = λ leaf rank was is has. has; valid = valid; ranks = λ leaf rank has. (leaf, has) })
+
+  -- a new directory comes
+  pub grown : (d : ℕ) (home : Home) → MayCome homes d home → after ≡ before → IsSoundChange before after homes (map.insert homes d home) covers covers
+  grown d home may same = subst (λ (r : Roots). IsSoundChange before r homes (map.insert homes d home) covers covers) (sym same) (record {
+    keeps = λ leaf rank was is has. adopted_authority before homes covers d home leaf rank table may was has;
+    valid = adopted_valid before homes covers d home table may valid;
+    ranks = λ leaf rank has. (leaf, has);
+  })
+
+  lost_ranks : (d : ℕ) → AreGone before after d → NoNewRank before after
+  lost_ranks d gone leaf rank has = go (nat.same_or_apart leaf.0.0 d)
+    where
+      go : (leaf.0.0 ≡ d) ⊎ (leaf.0.0 ≡ d → ⊥) → (other : Leaf) × (map.get before other ≡ Some rank)
+      go (inl same) = absurd (not_none _ rank (gone.gone leaf same) has)
+      go (inr apart) = (leaf, sym (gone.others leaf apart) ∙ has)
+
+  -- a directory goes, and its roots with it
+  pub lost : (d : ℕ) → AreGone before after d → MayGo homes d → IsSoundChange before after homes (map.remove homes d) covers (map.remove covers d)
+  lost d gone may =
+      let sound = drops_soundly before after d gone homes covers table valid may.childless may.other in
+      record {
+        keeps = λ leaf rank was is has. sound.0 leaf leaf rank was (is_elsewhere homes (map.remove covers d) d leaf may.other is, refl) has;
+        valid = sound.1;
+        ranks = lost_ranks d gone;
+      }
+
+  -- a root that was made before a move has the rank of the leaf's authority, which is that of a root
+  settled_ranks : (d : ℕ) (home : Home) → IsSettled before after homes covers d home → is_known homes home.parent.0 ≡ true → NoNewRank before after
+  settled_ranks d home settled parent leaf rank has = go (map.get before leaf) refl
+    where
+      Found : Type 0
+      Found = (other : Leaf) × (map.get before other ≡ Some rank)
+
+      made : (a b : Rank) → map.get before leaf ≡ None → leaf.0.0 ≡ d → IsLive homes covers leaf → HasAuthority before homes covers leaf a → IsInheritedAt before homes covers home b → (a ≡ b) ⊎ (a ≡ b → ⊥) → Found
+      made a b none own live its inherits (inl same) =
+          absurd (not_none _ rank (settled.same leaf a live own none its (subst (λ (r : Rank). IsInheritedAt before homes covers home r) (sym same) inherits)) has)
+      made a b none own live its inherits (inr apart) =
+          let ranks : a ≡ rank = one_value _ a rank (settled.lost leaf a b live own none its inherits apart) has in
+          (its.root, subst (λ (r : Rank). map.get before its.root ≡ Some r) ranks its.ranked)
+
+      of_leaf : map.get before leaf ≡ None → leaf.0.0 ≡ d → IsLive homes covers leaf → Found
+      of_leaf none own live =
+          let its = some_authority before homes covers table valid leaf live in
+          let holder = some_holder homes covers table home in
+          let stands : IsLive homes covers holder.0 = record { known = subst (λ (i : Ino). is_known homes i.0 ≡ true) (sym holder.1.parent) parent; stands = subst (λ (i : Ino). HasLeaf (leaves_of covers i.0) holder.0.1) (sym holder.1.parent) holder.1.pick.stands } in
+          let there = some_authority before homes covers table valid holder.0 stands in
+          made its.0 there.0 none own live its.1 (record { holder = holder.0; holds = holder.1; has = there.1 }) (same_rank its.0 there.0)
+
+      by_made : map.get before leaf ≡ None → leaf.0.0 ≡ d → (IsSome (map.get before leaf)) ⊎ IsLive homes covers leaf → Found
+      by_made none own (inl some) = let there = value_of _ some in absurd (not_none _ there.0 none there.1)
+      by_made none own (inr live) = of_leaf none own live
+
+      here : map.get before leaf ≡ None → (leaf.0.0 ≡ d) ⊎ (leaf.0.0 ≡ d → ⊥) → Found
+      here none (inl own) = by_made none own (settled.made leaf (ap is_some has))
+      here none (inr apart) = absurd (not_none _ rank (settled.elsewhere leaf apart ∙ none) has)
+
+      go : (o : Option Rank) → map.get before leaf ≡ o → Found
+      go (Some r) was = (leaf, sym (settled.kept leaf (ap is_some was)) ∙ has)
+      go None none = here none (nat.same_or_apart leaf.0.0 d)
+
+  -- a directory moves, and its roots were settled first
+  pub rehomed : (d : ℕ) (home : Home) → IsSettled before after homes covers d home → MayMove homes d home → IsSoundChange before after homes (map.insert homes d home) covers covers
+  rehomed d home settled may =
+      let sound = moves_soundly before after homes covers d home settled table valid may in
+      record {
+        keeps = λ leaf rank was is has. sound.0 leaf leaf rank was refl has;
+        valid = sound.1;
+        ranks = settled_ranks d home settled may.parent_known;
+      }
+
+  -- a leaf is split, and so is its root, if it is one
+  module _ (d : ℕ) (f : Fragment) (nb : ℕ) (to : List Fragment) (later : Covers) (split : IsRootSplit before after d f nb) (divided : IsSplit (leaves_of covers d) to f nb) (has : HasLeaf (leaves_of covers d) f) (fits : FitsSplit f nb) (whole : IsTree to)
+      (becomes : later ≡ map.insert covers d to) where
+    abbrev at_f : Leaf
+    at_f = leaf_of d f
+
+    both : KeepAuthority before after homes homes covers later (BecomesSplit d f nb) × IsSubtrees after homes later
+    both = splits_soundly before after d f nb split homes covers later to table valid divided has fits whole becomes
+
+    no_leaf_still : HasLeaf to f → ⊥
+    no_leaf_still still = go ((divided.leaves f).0 still)
+      where
+        go : (HasLeaf (leaves_of covers d) f × (f ≢ f)) ⊎ IsChild f nb f → ⊥
+        go (inl its) = its.1 refl
+        go (inr (i, below, is)) = let more : f.bits ≡ f.bits + nb = ap (λ (g : Fragment). g.bits) is in omega (arith, more, fits.some)
+
+    is_other : (leaf : Leaf) → IsLive homes later leaf → leaf ≢ at_f
+    is_other leaf live same =
+        no_leaf_still (subst (λ (fs : List Fragment). HasLeaf fs f) (leaves_now covers later d to becomes) (subst (λ (l : Leaf). HasLeaf (leaves_of later l.0.0) l.1) same live.stands))
+
+    -- what was a root was a leaf, so it is no child
+    no_child : (leaf : Leaf) → IsSome (map.get before leaf) → (g : Fragment) → IsChild f nb g → leaf ≢ leaf_of d g
+    no_child leaf some g child same =
+        child_is_new (leaves_of covers d) f g nb (tree_of_row homes covers table d) has fits child (subst (λ (l : Leaf). HasLeaf (leaves_of covers l.0.0) l.1) same (valid.live leaf some).stands)
+
+    split_ranks : NoNewRank before after
+    split_ranks leaf rank is = go (split.made leaf (ap is_some is))
+      where
+        go : IsSome (map.get before leaf) ⊎ (IsSome (map.get before at_f) × ((g : Fragment) × IsChild f nb g × (leaf ≡ leaf_of d g))) → (other : Leaf) × (map.get before other ≡ Some rank)
+        go (inl some) = (leaf, sym (split.others leaf (λ same. not_none _ rank (ap (map.get after) same ∙ split.gone) is) (no_child leaf some)) ∙ is)
+        go (inr (some, (g, child, same))) = (at_f, sym (split.children g child some) ∙ ap (map.get after) (sym same) ∙ is)
+
+    pub divided_soundly : IsSoundChange before after homes homes covers later
+    divided_soundly = record {
+      keeps = λ leaf rank was is has. both.0 leaf leaf rank was (inl (is_other leaf is, refl)) has;
+      valid = both.1;
+      ranks = split_ranks;
+    }
+
+    -- each child has the authority that the leaf had
+    pub child_authority : (g : Fragment) (rank : Rank) → IsChild f nb g → IsLive homes covers at_f → HasAuthority before homes covers at_f rank → HasAuthority after homes later (leaf_of d g) rank
+    child_authority g rank child live its = both.0 at_f (leaf_of d g) rank live (inr (refl, (g, child, refl))) its
+
+  -- leaves are merged that have one authority
+  module _ (d : ℕ) (f : Fragment) (to : List Fragment) (later : Covers) (merge : IsRootMerge before after d f) (one : HaveOneAuthority before homes covers d f) (can : CanMerge (leaves_of covers d) f) (merged : IsMerge (leaves_of covers d) to f) (whole : IsTree to)
+      (becomes : later ≡ map.insert covers d to) where
+    joined : KeepAuthority before after homes homes covers later (BecomesMerged d f) × IsSubtrees after homes later
+    joined = merges_soundly before after d f merge homes covers later to table valid one can merged whole becomes
+
+    none_inside : (g : Fragment) → HasLeaf to g → lies_inside f g ≡ false
+    none_inside g has = go ((merged.leaves g).0 has)
+      where
+        go : (HasLeaf (leaves_of covers d) g × (lies_inside f g ≡ false)) ⊎ (g ≡ f) → lies_inside f g ≡ false
+        go (inl its) = its.1
+        go (inr same) = ap (lies_inside f) same ∙ (λ i. not_less f.bits i && (f.value / span f.bits == f.value / span f.bits))
+
+    is_outside : (leaf : Leaf) → IsLive homes later leaf → is_inside d f leaf ≡ false
+    is_outside leaf live = go (nat.same_or_apart leaf.0.0 d)
+      where
+        go : (leaf.0.0 ≡ d) ⊎ (leaf.0.0 ≡ d → ⊥) → is_inside d f leaf ≡ false
+        go (inl same) = and_right (leaf.0.0 == d) _ (none_inside leaf.1 (subst (λ (fs : List Fragment). HasLeaf fs leaf.1) (leaves_now covers later d to becomes) (subst (λ (e : ℕ). HasLeaf (leaves_of later e) leaf.1) same live.stands)))
+        go (inr apart) = λ i. nat.is_apart leaf.0.0 d apart i && lies_inside f leaf.1
+
+    merge_ranks : NoNewRank before after
+    merge_ranks leaf rank is = go (same_leaf_or_apart leaf (leaf_of d f)) (is_inside d f leaf) refl
+      where
+        go : (leaf ≡ leaf_of d f) ⊎ (leaf ≡ leaf_of d f → ⊥) → (b : Bool) → is_inside d f leaf ≡ b → (other : Leaf) × (map.get before other ≡ Some rank)
+        go (inl same) b inside = let found = merge.rank rank (ap (map.get after) (sym same) ∙ is) in (found.0, found.2)
+        go (inr apart) true inside = absurd (not_none _ rank (merge.gone leaf inside) is)
+        go (inr apart) false inside = (leaf, sym (merge.others leaf inside apart) ∙ is)
+
+    pub merged_soundly : IsSoundChange before after homes homes covers later
+    merged_soundly = record {
+      keeps = λ leaf rank was is has. joined.0 leaf leaf rank was (inl (is_outside leaf is, refl)) has;
+      valid = joined.1;
+      ranks = merge_ranks;
+    }
+
+    -- the merged leaf has the authority that each of them had
+    pub merged_authority : (leaf : Leaf) (rank : Rank) → is_inside d f leaf ≡ true → IsLive homes covers leaf → HasAuthority before homes covers leaf rank → HasAuthority after homes later (leaf_of d f) rank
+    merged_authority leaf rank inside live its = joined.0 leaf (leaf_of d f) rank live (inr (inside, refl)) its

@@ -1,0 +1,39 @@
+-- What the calls about commits and objects leave of the tables: directories and leaves stay, and so do the roots.
+use Rattle.std.proofs.Common.{◌≡◌, ℕ, List, Option, Some, None, Result, Ok, Err, ap}
+use Rattle.mds_types.specs.declared.ids.Ino.{Ino}
+use Rattle.mds_types.specs.declared.refusals.Refusal.{Refusal}
+use Rattle.commit_jobs.specs.declared.jobs.Job.{Job as Begun}
+use Rattle.dentry_cache.specs.Cache.{Leaf, Unsaved}
+use Rattle.mdcache.specs.Commits.{BeginsWith, Drops, Ends}
+use Rattle.mdcache.specs.Objects.{PurgesName, SavesTree}
+use Rattle.mdcache.specs.State.{State as TreeState}
+
+-- directories and leaves stay
+abbrev pub TablesStay : (old new : TreeState) → Type 0
+TablesStay old new = (new.homes ≡ old.homes) × (new.covers ≡ old.covers)
+
+pub same_tables : (old new : TreeState) → new ≡ old → TablesStay old new
+same_tables old new same = (ap (λ (s : TreeState). s.homes) same, ap (λ (s : TreeState). s.covers) same)
+
+module _ (old new : TreeState) where
+  pub begun : (unsaved : Option Unsaved) (leaf : Leaf) (job : Option Begun) → BeginsWith old new leaf unsaved job → TablesStay old new
+  begun None leaf job h = same_tables old new h.1
+  begun (Some u) leaf None h = absurd h
+  begun (Some u) leaf (Some job) h = (ap (λ (s : TreeState). s.homes) h.2, ap (λ (s : TreeState). s.covers) h.2)
+
+  pub ended : (before after : ℕ) (job : Begun) (result : Result (Unit {0}) Refusal) → Ends old new before after job result → TablesStay old new
+  ended before after job (Ok done) h = (ap (λ (s : TreeState). s.homes) h.left, ap (λ (s : TreeState). s.covers) h.left)
+  ended before after job (Err reason) h = same_tables old new h.1
+
+  pub dropped : (number : ℕ) (result : Result (Unit {0}) Refusal) → Drops old new number result → TablesStay old new
+  dropped number (Ok done) h = (ap (λ (s : TreeState). s.homes) h.left, ap (λ (s : TreeState). s.covers) h.left)
+  dropped number (Err reason) h = same_tables old new h.2
+
+  pub saved : (before after : ℕ) (dir : Ino) (result : Result (Unit {0}) Refusal) → SavesTree old new before after dir result → TablesStay old new
+  saved before after dir (Ok done) h = (ap (λ (s : TreeState). s.homes) h.1, ap (λ (s : TreeState). s.covers) h.1)
+  saved before after dir (Err reason) h = same_tables old new h.1
+
+  pub purged : (before after : ℕ) (name : Option (List ℕ)) (result : Result (Unit {0}) Refusal) → PurgesName old new before after name result → TablesStay old new
+  purged before after None result h = same_tables old new h.1
+  purged before after (Some name) (Ok done) h = (ap (λ (s : TreeState). s.homes) h.0, ap (λ (s : TreeState). s.covers) h.0)
+  purged before after (Some name) (Err reason) h = same_tables old new h.1

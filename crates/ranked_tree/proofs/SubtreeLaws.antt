@@ -1,0 +1,215 @@
+-- What a change of the tree makes of the roots, and of every leaf's authority.
+use Rattle.std.proofs.Common.{◌≡◌, Bool, true, false, cond, Option, Some, None, refl, sym, ap, subst, ◌∙◌}
+use Rattle.std.specs.Prelude.{IfSome, MatchBool, MatchOption, ℕ}
+use Rattle.std.specs.FinMap as map
+use Rattle.mds_types.specs.declared.ids.Ino.{Ino}
+use Rattle.mds_types.specs.declared.dentries.Dentry.{Dentry}
+use Rattle.mds_types.specs.declared.inodes.Inode.{Inode}
+use Rattle.mds_types.specs.Frag.{Fragment}
+use Rattle.mds_types.specs.Tree.{is_dir_kind}
+use Rattle.inode_table.specs.Dirs.{Covers, Homes, IsTable, MayGo, MayMove}
+use Rattle.inode_table.specs.TreeTable.{home_at, with_home}
+use Rattle.inode_table.proofs.TableLaws.{may_come, may_drop, with_dir, with_file}
+use Rattle.namespace_ops.specs.Changes.{MayChange, directory_at}
+use Rattle.namespace_ops.specs.declared.plans.Change.{Change}
+use Rattle.namespace_ops.specs.declared.plans.Change.TheVariants.{Add, Set, Remove, Move}
+use Rattle.subtree_map.specs.Authority.{HasAuthority, IsSubtrees, Roots}
+use Rattle.subtree_map.specs.Changes.{HaveOneAuthority, IsRootMerge, IsRootSplit}
+use Rattle.subtree_map.specs.Moves.{HasRoomToMove, IsSettled}
+use Rattle.subtree_map.proofs.Options.{one_value}
+use Rattle.mdcache.specs.Changes.{Makes, with_directory, with_home_at, without}
+use Rattle.mdcache.specs.Going.{rows_but}
+use Rattle.mdcache.specs.Shown.{shown_tree}
+use Rattle.mdcache.specs.Sound.{IsSound}
+use Rattle.mdcache.specs.Splits.{IsMergedInto, IsSplitInto}
+use Rattle.mdcache.specs.State.{State}
+use Rattle.mdcache.proofs.HomeLaws.{moved_home, moved_known}
+use Rattle.mdcache.proofs.MoveSteps.{relocates, replaces}
+use Rattle.ranked_tree.specs.Subtrees.{AreRoots, FollowChange, GivesToChildren, HasRoomFor, LoseDirectory, SettleMove, SettleMoving, TakesOver}
+use Rattle.ranked_tree.proofs.RootLaws.{IsSoundChange, child_authority, divided_soundly, grown, lost, merged_authority, merged_soundly, rehomed, sound_on, unchanged}
+
+-- the same of equal tables
+at_table : (before after : Roots) (homes now there : Homes) (covers later under : Covers) → now ≡ there → later ≡ under → IsSoundChange before after homes there covers under → IsSoundChange before after homes now covers later
+at_table before after homes now there covers later under same alike sound =
+    subst (λ (h : Homes). IsSoundChange before after homes h covers later) (sym same) (subst (λ (c : Covers). IsSoundChange before after homes there covers c) (sym alike) sound)
+
+-- a directory went, or none did
+lose : (before after : Roots) (homes : Homes) (covers : Covers) (went : Option Ino) → IsTable homes covers → IsSubtrees before homes covers → LoseDirectory before after went → IfSome went (λ (dir : Ino). MayGo homes dir.0)
+    → IsSoundChange before after homes (rows_but homes went) covers (rows_but covers went)
+lose before after homes covers None table valid same may = unchanged before after homes covers table valid same
+lose before after homes covers (Some dir) table valid gone may = lost before after homes covers table valid dir.0 gone may
+
+homes_without : (s : State) (went : Option Ino) → (without s went).homes ≡ rows_but s.homes went
+homes_without s None = refl
+homes_without s (Some dir) = refl
+
+covers_without : (s : State) (went : Option Ino) → (without s went).covers ≡ rows_but s.covers went
+covers_without s None = refl
+covers_without s (Some dir) = refl
+
+-- a directory that a removal takes away may go
+removable : (old : State) (dentry : Dentry) (leaf : Fragment) (went : Option Ino) → IsSound old → MayChange (shown_tree old) old.covers (Remove dentry leaf went) → IfSome went (λ (dir : Ino). MayGo old.homes dir.0)
+removable old dentry leaf went sound may = subst (λ (d : Option Ino). IfSome d (λ (dir : Ino). MayGo old.homes dir.0)) (sym may.carries.1) (go (map.get (shown_tree old) dentry) refl)
+  where
+    at : (i : Inode) (b : Bool) → is_dir_kind i.kind ≡ b → map.get (shown_tree old) dentry ≡ Some i → IfSome (cond b (Some i.ino) None) (λ (dir : Ino). MayGo old.homes dir.0)
+    at i true kinded is = may_drop (shown_tree old) old.homes dentry (Some i) is sound.tabled may.takes i refl kinded
+    at i false kinded is = tt
+
+    go : (found : Option Inode) → map.get (shown_tree old) dentry ≡ found → IfSome (directory_at found) (λ (dir : Ino). MayGo old.homes dir.0)
+    go None is = tt
+    go (Some i) is = at i (is_dir_kind i.kind) refl is
+
+-- what moves has its home there
+module _ (old : State) (before settled : Roots) (to : Dentry) (inode : Inode) (sound : IsSound old) (valid : AreRoots old before) (may : is_dir_kind inode.kind ≡ true → MayMove old.homes inode.ino.0 (home_at to)) where
+  moves : SettleMove old before settled to inode → IsSoundChange before settled old.homes (with_home old.homes to inode) old.covers old.covers
+  moves settles = go (is_dir_kind inode.kind) refl settles
+    where
+      go : (b : Bool) → is_dir_kind inode.kind ≡ b → MatchBool b (IsSettled before settled old.homes old.covers inode.ino.0 (home_at to)) (settled ≡ before) → IsSoundChange before settled old.homes (with_home old.homes to inode) old.covers old.covers
+      go true kinded its =
+          at_table before settled old.homes (with_home old.homes to inode) (map.insert old.homes inode.ino.0 (home_at to)) old.covers old.covers old.covers (with_dir old.homes to inode kinded) refl
+          (rehomed before settled old.homes old.covers sound.table valid inode.ino.0 (home_at to) its (may kinded))
+      go false kinded same =
+          at_table before settled old.homes (with_home old.homes to inode) old.homes old.covers old.covers old.covers (with_file old.homes to inode kinded) refl
+          (unchanged before settled old.homes old.covers sound.table valid same)
+
+-- every change keeps the authority of every leaf that stays
+pub changes_soundly : (change : Change) (old new : State) (before after : Roots) → IsSound old → MayChange (shown_tree old) old.covers change → Makes change old new → FollowChange change old before after → AreRoots old before
+    → IsSoundChange before after old.homes new.homes old.covers new.covers
+changes_soundly (Set dentry leaf inode) old new before after sound may makes follow valid =
+    at_table before after old.homes new.homes old.homes old.covers new.covers old.covers (ap (λ (s : State). s.homes) makes.left) (ap (λ (s : State). s.covers) makes.left)
+    (unchanged before after old.homes old.covers sound.table valid (follow.2 ∙ follow.1))
+changes_soundly (Add dentry leaf inode) old new before after sound may makes follow valid = go (is_dir_kind inode.kind) refl makes.2
+  where
+    same_homes : makes.0.homes ≡ old.homes
+    same_homes = ap (λ (s : State). s.homes) makes.1.left
+
+    same_covers : makes.0.covers ≡ old.covers
+    same_covers = ap (λ (s : State). s.covers) makes.1.left
+
+    go : (b : Bool) → is_dir_kind inode.kind ≡ b → new ≡ cond b (with_directory makes.0 dentry inode.ino) makes.0 → IsSoundChange before after old.homes new.homes old.covers new.covers
+    go true kinded is =
+        at_table before after old.homes new.homes (map.insert old.homes inode.ino.0 (home_at dentry)) old.covers new.covers old.covers
+        (ap (λ (s : State). s.homes) is ∙ ap (λ (h : Homes). map.insert h inode.ino.0 (home_at dentry)) same_homes) (ap (λ (s : State). s.covers) is ∙ same_covers)
+        (grown before after old.homes old.covers sound.table valid inode.ino.0 (home_at dentry) (may_come (shown_tree old) old.homes dentry inode sound.tabled may.takes) (follow.2 ∙ follow.1))
+    go false kinded is =
+        at_table before after old.homes new.homes old.homes old.covers new.covers old.covers (ap (λ (s : State). s.homes) is ∙ same_homes) (ap (λ (s : State). s.covers) is ∙ same_covers)
+        (unchanged before after old.homes old.covers sound.table valid (follow.2 ∙ follow.1))
+changes_soundly (Remove dentry leaf went) old new before after sound may makes follow valid =
+    at_table before after old.homes new.homes (rows_but old.homes went) old.covers new.covers (rows_but old.covers went)
+    (ap (λ (s : State). s.homes) makes.2 ∙ homes_without makes.0 went ∙ ap (λ (s : State). rows_but s.homes went) makes.1.left)
+    (ap (λ (s : State). s.covers) makes.2 ∙ covers_without makes.0 went ∙ ap (λ (s : State). rows_but s.covers went) makes.1.left)
+    (lose before after old.homes old.covers went sound.table valid (subst (λ (r : Roots). LoseDirectory r after went) follow.1 follow.2) (removable old dentry leaf went sound may))
+changes_soundly (Move from source to target went) old new before after sound may makes follow valid =
+    at_table before after old.homes new.homes (rows_but moved_homes went) old.covers new.covers (rows_but old.covers went) homes_are covers_are (
+    sound_on before settled after old.homes moved_homes (rows_but moved_homes went) old.covers old.covers (rows_but old.covers went) first
+    (lose settled after moved_homes old.covers went table first.valid follow.2 (replaces old sound from to source target inode went may makes.1))
+    (λ leaf was is. record { known = moved_known old.homes old.covers sound.table to inode may_settle leaf.0.0 ∙ was.known; stands = was.stands })
+    )
+  where
+    inode : Inode
+    inode = makes.0
+
+    settled : Roots
+    settled = follow.0
+
+    moved_homes : Homes
+    moved_homes = with_home old.homes to inode
+
+    may_settle : is_dir_kind inode.kind ≡ true → MayMove old.homes inode.ino.0 (home_at to)
+    may_settle kinded = relocates old sound from to source target inode went may makes.1 kinded
+
+    settles : SettleMove old before settled to inode
+    settles = subst (λ (i : Inode). SettleMove old before settled to i) (one_value _ follow.1.0 inode follow.1.1 makes.1) follow.1.2
+
+    first : IsSoundChange before settled old.homes moved_homes old.covers old.covers
+    first = moves old before settled to inode sound valid may_settle settles
+
+    table : IsTable moved_homes old.covers
+    table = moved_home old.homes old.covers sound.table to inode may_settle
+
+    named_is : makes.4.homes ≡ old.homes
+    named_is = ap (λ (s : State). s.homes) makes.5.left ∙ ap (λ (s : State). s.homes) makes.3.left
+
+    covers_named : makes.4.covers ≡ old.covers
+    covers_named = ap (λ (s : State). s.covers) makes.5.left ∙ ap (λ (s : State). s.covers) makes.3.left
+
+    homes_are : new.homes ≡ rows_but moved_homes went
+    homes_are = ap (λ (s : State). s.homes) makes.6 ∙ homes_without (with_home_at makes.4 to inode) went ∙ ap (λ (h : Homes). rows_but (with_home h to inode) went) named_is
+
+    covers_are : new.covers ≡ rows_but old.covers went
+    covers_are = ap (λ (s : State). s.covers) makes.6 ∙ covers_without (with_home_at makes.4 to inode) went ∙ ap (λ (c : Covers). rows_but c went) covers_named
+
+-- ---- what is about to move, as it was made ready
+
+module _ (tree : State) (from to : Dentry) (source target : Fragment) (went moving : Option Ino) (may : MayChange (shown_tree tree) tree.covers (Move from source to target went))
+    (along : moving ≡ directory_at (map.get (shown_tree tree) from)) where
+  abbrev inode_at : Inode
+  inode_at = may.takes.0
+
+  is_it : moving ≡ directory_at (Some inode_at)
+  is_it = along ∙ ap directory_at may.takes.1.stands
+
+  -- there is room for it, where there is for the change
+  pub room_at : (roots : Roots) (room : ℕ) → HasRoomFor (Move from source to target went) tree roots room → IfSome moving (λ (dir : Ino). HasRoomToMove roots room tree.homes tree.covers dir.0 (home_at to))
+  room_at roots room has = subst (λ (d : Option Ino). IfSome d (λ (dir : Ino). HasRoomToMove roots room tree.homes tree.covers dir.0 (home_at to))) (sym is_it) (go (is_dir_kind inode_at.kind) refl)
+    where
+      go : (b : Bool) → is_dir_kind inode_at.kind ≡ b → IfSome (cond b (Some inode_at.ino) None) (λ (dir : Ino). HasRoomToMove roots room tree.homes tree.covers dir.0 (home_at to))
+      go true kinded = has inode_at may.takes.1.stands kinded
+      go false kinded = tt
+
+  -- and there is for the change, where there is for it
+  pub room_for : (roots : Roots) (room : ℕ) → IfSome moving (λ (dir : Ino). HasRoomToMove roots room tree.homes tree.covers dir.0 (home_at to)) → HasRoomFor (Move from source to target went) tree roots room
+  room_for roots room has inode stands kinded = subst (λ (d : Option Ino). IfSome d (λ (dir : Ino). HasRoomToMove roots room tree.homes tree.covers dir.0 (home_at to))) number has
+    where
+      number : moving ≡ Some inode.ino
+      number = along ∙ ap directory_at stands ∙ ap (λ (b : Bool). cond {A = Option Ino} b (Some inode.ino) None) kinded
+
+  -- it is settled, where it is a directory
+  pub settled_at : (before after : Roots) → MatchOption moving (after ≡ before) (λ (dir : Ino). IsSettled before after tree.homes tree.covers dir.0 (home_at to)) → SettleMoving (Move from source to target went) tree before after
+  settled_at before after settled = (inode_at, may.takes.1.stands, go (is_dir_kind inode_at.kind) (subst Told is_it settled))
+    where
+      Told : Option Ino → Type 0
+      Told d = MatchOption d (after ≡ before) (λ (dir : Ino). IsSettled before after tree.homes tree.covers dir.0 (home_at to))
+
+      go : (b : Bool) → Told (cond b (Some inode_at.ino) None) → MatchBool b (IsSettled before after tree.homes tree.covers inode_at.ino.0 (home_at to)) (after ≡ before)
+      go true its = its
+      go false same = same
+
+-- ---- splits and merges
+
+-- nothing was done
+pub undone_soundly : (old new : State) (before after : Roots) → IsSound old → AreRoots old before → new ≡ old → after ≡ before → IsSoundChange before after old.homes new.homes old.covers new.covers
+undone_soundly old new before after sound valid same roots =
+    at_table before after old.homes new.homes old.homes old.covers new.covers old.covers (ap (λ (s : State). s.homes) same) (ap (λ (s : State). s.covers) same) (unchanged before after old.homes old.covers sound.table valid roots)
+
+module _ (old new : State) (before after : Roots) (sound : IsSound old) (valid : AreRoots old before) (dir : Ino) (frag : Fragment) where
+  -- a leaf was split, with its root, if it is one
+  module _ (nb : ℕ) (split : IsSplitInto old new dir frag nb) (roots : IsRootSplit before after dir.0 frag nb) where
+    pub split_soundly : IsSoundChange before after old.homes new.homes old.covers new.covers
+    split_soundly =
+        at_table before after old.homes new.homes old.homes old.covers new.covers new.covers (ap (λ (s : State). s.homes) split.regrouped.left) refl
+        (divided_soundly before after old.homes old.covers sound.table valid dir.0 frag nb split.cover new.covers roots split.divided split.can.stands split.can.fits split.regrouped.whole (ap (λ (s : State). s.covers) split.regrouped.left))
+
+    pub children_have : GivesToChildren old new before after dir frag nb
+    children_have child rank is has =
+        subst (λ (h : Homes). HasAuthority after h new.covers (dir, child) rank) (sym (ap (λ (s : State). s.homes) split.regrouped.left))
+        (child_authority before after old.homes old.covers sound.table valid dir.0 frag nb split.cover new.covers roots split.divided split.can.stands split.can.fits split.regrouped.whole (ap (λ (s : State). s.covers) split.regrouped.left)
+        child rank is (record { known = split.regrouped.known; stands = split.can.stands }) has)
+
+  -- leaves were merged that had one authority
+  module _ (merge : IsMergedInto old new dir frag) (roots : IsRootMerge before after dir.0 frag) (one : HaveOneAuthority before old.homes old.covers dir.0 frag) where
+    pub merge_soundly : IsSoundChange before after old.homes new.homes old.covers new.covers
+    merge_soundly =
+        at_table before after old.homes new.homes old.homes old.covers new.covers new.covers (ap (λ (s : State). s.homes) merge.regrouped.left) refl
+        (merged_soundly before after old.homes old.covers sound.table valid dir.0 frag merge.cover new.covers roots one merge.can merge.merged merge.regrouped.whole (ap (λ (s : State). s.covers) merge.regrouped.left))
+
+    pub takes_over : TakesOver old new before after dir frag
+    takes_over leaf rank inside live has =
+        subst (λ (h : Homes). HasAuthority after h new.covers (dir, frag) rank) (sym (ap (λ (s : State). s.homes) merge.regrouped.left))
+        (merged_authority before after old.homes old.covers sound.table valid dir.0 frag merge.cover new.covers roots one merge.can merge.merged merge.regrouped.whole (ap (λ (s : State). s.covers) merge.regrouped.left) leaf rank inside live has)
+
+-- ---- a table that is lent
+
+-- what holds of the tables of a state holds of equal ones
+pub over : (P : Homes → Covers → Type 0) (homes there : Homes) (covers under : Covers) → homes ≡ there → covers ≡ under → P there under → P homes covers
+over P homes there covers under same alike holds = subst (λ (h : Homes). P h covers) (sym same) (subst (λ (c : Covers). P there c) (sym alike) holds)

@@ -1,0 +1,3 @@
+pub mod FragsLaws
+pub mod Ranked
+pub mod Subtrees

@@ -1,0 +1,89 @@
+-- The subtree roots beside the tree: what each change of the tree makes of them, and that no leaf which stays gets another authority.
+use Rattle.std.specs.Prelude.{◌≡◌, ℕ, ◌+◌, ◌<◌, ◌≤◌, true, List, Option, Some, None, MatchBool}
+use Rattle.std.specs.FinMap as map
+use Rattle.mds_types.specs.declared.dentries.Dentry.{Dentry}
+use Rattle.mds_types.specs.declared.ids.Ino.{Ino}
+use Rattle.mds_types.specs.declared.ids.Rank.{Rank}
+use Rattle.mds_types.specs.declared.inodes.Inode.{Inode}
+use Rattle.mds_types.specs.Frag.{Fragment, span}
+use Rattle.mds_types.specs.Tree.{is_dir_kind}
+use Rattle.fragtree.specs.FragTree.{HasLeaf, IsChild, lies_inside}
+use Rattle.inode_table.specs.Dirs.{Covers, Homes, IsLive}
+use Rattle.inode_table.specs.TreeTable.{home_at}
+use Rattle.namespace_ops.specs.ChangedFragments.{gone_with}
+use Rattle.namespace_ops.specs.declared.plans.Change.{Change}
+use Rattle.namespace_ops.specs.declared.plans.Change.TheVariants.{Add, Set, Remove, Move}
+use Rattle.subtree_map.specs.Authority.{HasAuthority, IsSubtrees, Leaf, Roots}
+use Rattle.subtree_map.specs.Changes.{AreGone, is_inside}
+use Rattle.subtree_map.specs.Moves.{HasRoomToMove, IsSettled}
+use Rattle.mdcache.specs.Shown.{shown_tree}
+use Rattle.mdcache.specs.State.{State as TreeState}
+
+-- the authority of a leaf in a tree with these roots
+abbrev pub Rules : TreeState → Roots → Leaf → Rank → Type 0
+Rules tree roots leaf rank = HasAuthority roots tree.homes tree.covers leaf rank
+
+-- each leaf of the root directory is a root, and only leaves are
+abbrev pub AreRoots : TreeState → Roots → Type 0
+AreRoots tree roots = IsSubtrees roots tree.homes tree.covers
+
+-- each leaf that stood and still stands has the authority that it had
+abbrev pub KeepsAuthorities : (old new : TreeState) → (before after : Roots) → Type 0
+KeepsAuthorities old new before after = (leaf : Leaf) (rank : Rank) → IsLive old.homes old.covers leaf → IsLive new.homes new.covers leaf → Rules old before leaf rank → Rules new after leaf rank
+
+-- no root is of a rank that none was of
+abbrev pub NoNewRank : (before after : Roots) → Type 0
+NoNewRank before after = (leaf : Leaf) (rank : Rank) → map.get after leaf ≡ Some rank → (other : Leaf) × (map.get before other ≡ Some rank)
+
+-- a directory that went has no root any more, and each other root is as it was
+abbrev pub LoseDirectory : (before after : Roots) → Option Ino → Type 0
+LoseDirectory before after None = after ≡ before
+LoseDirectory before after (Some dir) = AreGone before after dir.0
+
+-- an inode is about to move to a dentry: of a directory those leaves that would inherit another rank there are roots of the one that they have
+abbrev pub SettleMove : TreeState → (before after : Roots) → Dentry → Inode → Type 0
+SettleMove tree before after to inode = MatchBool (is_dir_kind inode.kind) (IsSettled before after tree.homes tree.covers inode.ino.0 (home_at to)) (after ≡ before)
+
+-- before a change the roots of a directory that it moves are settled
+abbrev pub SettleMoving : Change → TreeState → (before after : Roots) → Type 0
+SettleMoving (Add dentry leaf inode) tree before after = after ≡ before
+SettleMoving (Set dentry leaf inode) tree before after = after ≡ before
+SettleMoving (Remove dentry leaf went) tree before after = after ≡ before
+SettleMoving (Move from source to target went) tree before after = (inode : Inode) × (map.get (shown_tree tree) from ≡ Some inode) × SettleMove tree before after to inode
+
+-- what a change makes of the roots: those of a directory that moves are settled first, and a directory that goes loses its own
+abbrev pub FollowChange : Change → TreeState → (before after : Roots) → Type 0
+FollowChange change tree before after = (settled : Roots) × SettleMoving change tree before settled × LoseDirectory settled after (gone_with change)
+
+-- there is room for the roots that a change makes: for those of a directory that moves
+abbrev pub HasRoomFor : Change → TreeState → Roots → ℕ → Type 0
+HasRoomFor (Add dentry leaf inode) tree roots room = Unit {0}
+HasRoomFor (Set dentry leaf inode) tree roots room = Unit {0}
+HasRoomFor (Remove dentry leaf went) tree roots room = Unit {0}
+HasRoomFor (Move from source to target went) tree roots room =
+    (inode : Inode) → map.get (shown_tree tree) from ≡ Some inode → is_dir_kind inode.kind ≡ true → HasRoomToMove roots room tree.homes tree.covers inode.ino.0 (home_at to)
+
+-- ---- splits and merges
+
+-- each child of a leaf that was split has the authority that the leaf had
+abbrev pub GivesToChildren : (old new : TreeState) → (before after : Roots) → Ino → Fragment → ℕ → Type 0
+GivesToChildren old new before after dir frag bits = (child : Fragment) (rank : Rank) → IsChild frag bits child → Rules old before (dir, frag) rank → Rules new after (dir, child) rank
+
+-- the leaf that was merged has the authority that each of those had which were merged
+abbrev pub TakesOver : (old new : TreeState) → (before after : Roots) → Ino → Fragment → Type 0
+TakesOver old new before after dir frag = (leaf : Leaf) (rank : Rank) → is_inside dir.0 frag leaf ≡ true → IsLive old.homes old.covers leaf → Rules old before leaf rank → Rules new after (dir, frag) rank
+
+-- each leaf of a directory that lies properly inside a fragment has this rank as its authority
+abbrev pub AllHave : Homes → Covers → Roots → Ino → Fragment → Rank → Type 0
+AllHave homes covers roots dir frag rank = (leaf : Leaf) → IsLive homes covers leaf → is_inside dir.0 frag leaf ≡ true → HasAuthority roots homes covers leaf rank
+
+-- the leaf properly inside a fragment that contains a hash, which isn't before its first; without one each of those inside begins before the hash
+abbrev pub IsInsideAt : List Fragment → Fragment → ℕ → Option Fragment → Type 0
+IsInsideAt leaves frag hash None = (leaf : Fragment) → HasLeaf leaves leaf → lies_inside frag leaf ≡ true → leaf.value < hash
+IsInsideAt leaves frag hash (Some leaf) = HasLeaf leaves leaf × (lies_inside frag leaf ≡ true) × (leaf.value ≤ hash) × (hash < leaf.value + span leaf.bits)
+
+-- what a step leaves of the roots: each leaf that stays has the authority that it had, no rank has its first one, and they are roots still
+pub record KeepsRoots (old new : TreeState) (before after : Roots) : Type 0 where
+  pub authorities : KeepsAuthorities old new before after
+  pub ranks : NoNewRank before after
+  pub valid : AreRoots new after

@@ -1,0 +1,77 @@
+//! Whose a leaf is.
+ghost use Rattle.std.specs.Prelude.{◌≡◌, ◌↔◌, IsTrue, MatchOption};
+ghost use Rattle.inode_table.specs.Dirs.{IsLive};
+ghost use Rattle.ranked_tree.specs.Subtrees.{AllHave, AreRoots, Rules};
+
+use crate::inside::all_have;
+use crate::ranked_tree::RankedTree;
+use mdcache::MdCache;
+use mds_types::{Frag, Ino, Rank};
+use objstore::Store;
+use subtree_map::Subtrees;
+
+impl<S: Store + Drop> RankedTree<S> {
+    /// The authority of a leaf; none exactly where there is no such leaf. Takes no memory.
+    pub fn authority(&self, dir: Ino, frag: Frag) -> Option<Rank>
+        ensures { MatchOption result (IsLive self.now.tree.state.homes self.now.tree.state.covers (dir, frag) → ⊥) (λ rank. IsLive self.now.tree.state.homes self.now.tree.state.covers (dir, frag) × Rules self.now.tree.state self.now.subtrees.roots (dir, frag) rank) }
+    {
+        authority_of(&self.tree, &self.roots, dir, frag)
+    }
+
+    /// Whether a rank is the authority of a leaf. Takes no memory.
+    pub fn is_authority(&self, rank: Rank, dir: Ino, frag: Frag) -> bool
+        ensures { IsTrue result ↔ Rules self.now.tree.state self.now.subtrees.roots (dir, frag) rank }
+    {
+        is_authority(&self.tree, &self.roots, rank, dir, frag)
+    }
+
+    /// Whether each leaf of a directory that lies properly inside a fragment has this rank as its authority. Takes no memory.
+    pub fn is_all_of(&self, dir: Ino, frag: Frag, rank: Rank) -> bool
+        ensures { IsTrue result ↔ AllHave self.now.tree.state.homes self.now.tree.state.covers self.now.subtrees.roots dir frag rank }
+    {
+        is_all_of(&self.tree, &self.roots, dir, frag, rank)
+    }
+}
+
+// The authority of a leaf; none exactly where there is no such leaf.
+fn authority_of<S: Store + Drop>(
+    tree: &MdCache<S>,
+    roots: &Subtrees,
+    dir: Ino,
+    frag: Frag,
+) -> Option<Rank>
+    requires { AreRoots tree.now.state roots.now.roots }
+    ensures { MatchOption result (IsLive tree.now.state.homes tree.now.state.covers (dir, frag) → ⊥) (λ rank. IsLive tree.now.state.homes tree.now.state.covers (dir, frag) × Rules tree.now.state roots.now.roots (dir, frag) rank) }
+{
+    if !tree.has_leaf(dir, frag) {
+        return None;
+    }
+    Some(roots.authority(tree.dirs(), dir, frag))
+}
+
+// Whether a rank is the authority of a leaf.
+fn is_authority<S: Store + Drop>(
+    tree: &MdCache<S>,
+    roots: &Subtrees,
+    rank: Rank,
+    dir: Ino,
+    frag: Frag,
+) -> bool
+    ensures { IsTrue result ↔ Rules tree.now.state roots.now.roots (dir, frag) rank }
+{
+    roots.find_authority(tree.dirs(), dir, frag) == Some(rank)
+}
+
+// Whether each leaf of a directory that lies properly inside a fragment has this rank as its authority.
+fn is_all_of<S: Store + Drop>(
+    tree: &MdCache<S>,
+    roots: &Subtrees,
+    dir: Ino,
+    frag: Frag,
+    rank: Rank,
+) -> bool
+    requires valid { AreRoots tree.now.state roots.now.roots }
+    ensures { IsTrue result ↔ AllHave tree.now.state.homes tree.now.state.covers roots.now.roots dir frag rank }
+{
+    all_have(tree.dirs(), roots, dir, frag, rank)
+}

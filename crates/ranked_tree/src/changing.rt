@@ -1,0 +1,173 @@
+//! Changes of the tree, made ready and then made, with what they make of the roots.
+ghost use Rattle.std.specs.Prelude.{◌≡◌, ◌≤◌, MatchOption, IfSome, OnOk, OnErr, IfErr};
+ghost use Rattle.mds_types.specs.declared.refusals.Refusal.TheVariants.{NoMemory};
+ghost use Rattle.inode_table.specs.Dirs.{MayMove};
+ghost use Rattle.inode_table.specs.TreeTable.{home_at};
+ghost use Rattle.namespace_ops.specs.ChangedFragments.{gone_with};
+ghost use Rattle.namespace_ops.specs.Changes.{MayChange};
+ghost use Rattle.subtree_map.specs.Authority.{IsSubtrees};
+ghost use Rattle.subtree_map.specs.Moves.{HasRoomToMove, IsSettled};
+ghost use Rattle.mdcache.specs.Changes.{Makes};
+ghost use Rattle.mdcache.specs.Frags.{IsReady as IsReadyIn};
+ghost use Rattle.mdcache.specs.Made.{IsRight};
+ghost use Rattle.mdcache.specs.Shown.{shown_tree};
+ghost use Rattle.mdcache.specs.Sound.{IsSound};
+ghost use Rattle.ranked_tree.specs.Ranked.{IsReady, KeepsRanked};
+ghost use Rattle.ranked_tree.specs.Subtrees.{AreRoots, FollowChange, HasRoomFor, KeepsRoots, LoseDirectory, SettleMoving, KeepsAuthorities, NoNewRank};
+
+use crate::ranked_tree::RankedTree;
+use inode_table::Dirs;
+use mdcache::MdCache;
+use mds_types::{Dentry, Ino, Refusal};
+use namespace_ops::Change;
+use objstore::Store;
+use std::alloc::Global;
+use subtree_map::Subtrees;
+
+impl<S: Store + Drop> RankedTree<S> {
+    /// Makes a change that may be made and was made ready, with the roots: before a directory moves, those of its leaves that
+    /// would inherit another rank become roots of the one that they have; a directory that goes has none any more. Takes no
+    /// memory.
+    pub fn apply(&mut self, change: Change)
+        requires ready { IsReady self.old change }
+        requires may { MayChange (shown_tree self.old.tree.state) self.old.tree.state.covers change }
+        ensures made { Makes change self.old.tree.state self.new.tree.state }
+        ensures right { IsRight change self.old.tree.state self.new.tree.state }
+        ensures cap { self.new.tree.cache.cap ≡ self.old.tree.cache.cap }
+        ensures faults { self.new.tree.faults ≡ self.old.tree.faults }
+        ensures roots { FollowChange change self.old.tree.state self.old.subtrees.roots self.new.subtrees.roots }
+        ensures promises { LoseDirectory self.old.subtrees.promises self.new.subtrees.promises (gone_with change) }
+        ensures kept { KeepsRoots self.old.tree.state self.new.tree.state self.old.subtrees.roots self.new.subtrees.roots }
+    {
+        change_tree(&mut self.tree, &mut self.roots, change);
+    }
+
+    // Makes room for the roots of a change that the tree is ready for.
+    pub(crate) fn reserve_roots(&mut self, change: &Change) -> Result<(), Refusal>
+        requires ready { IsReadyIn self.old.tree change.now }
+        requires may { MayChange (shown_tree self.old.tree.state) self.old.tree.state.covers change.now }
+        ensures room { OnOk result (HasRoomFor change.now self.old.tree.state self.new.subtrees.roots self.new.subtrees.room) }
+        ensures tree { self.new.tree ≡ self.old.tree }
+        ensures roots { self.new.subtrees.roots ≡ self.old.subtrees.roots }
+        ensures refused { IfErr result (λ reason. reason ≡ NoMemory) }
+    {
+        reserve_roots(self.alloc, &self.tree, &mut self.roots, change)
+    }
+}
+
+// Makes room for the roots that a change makes, which was made ready, so that it can't fail. Refused for want of memory
+// alone, and the roots are as they were then.
+fn reserve_roots<S: Store + Drop>(
+    alloc: Global,
+    tree: &MdCache<S>,
+    roots: &mut Subtrees,
+    change: &Change,
+) -> Result<(), Refusal>
+    requires ready { IsReadyIn tree.now change.now }
+    requires may { MayChange (shown_tree tree.now.state) tree.now.state.covers change.now }
+    ensures room { OnOk result (HasRoomFor change.now tree.now.state roots.new.roots roots.new.room) }
+    ensures same { roots.new.roots ≡ roots.old.roots }
+    ensures promises { roots.new.promises ≡ roots.old.promises }
+    ensures refused { IfErr result (λ reason. reason ≡ NoMemory) }
+    ensures left { OnErr result (roots.new ≡ roots.old) }
+{
+    match change {
+        Change::Move { to, .. } => reserve_move(alloc, tree.dirs(), roots, tree.moving(), to),
+        _ => Ok(()),
+    }
+}
+
+// Makes a change that was made ready, with the roots: before a directory moves, those of its leaves that would inherit
+// another rank become roots of the one that they have; a directory that goes has none any more, and no promise of one is
+// left. Takes no memory.
+fn change_tree<S: Store + Drop>(tree: &mut MdCache<S>, roots: &mut Subtrees, change: Change)
+    requires ready { IsReadyIn tree.old change }
+    requires may { MayChange (shown_tree tree.old.state) tree.old.state.covers change }
+    requires room { HasRoomFor change tree.old.state roots.old.roots roots.old.room }
+    requires valid { AreRoots tree.old.state roots.old.roots }
+    ensures made { Makes change tree.old.state tree.new.state }
+    ensures right { IsRight change tree.old.state tree.new.state }
+    ensures cap { tree.new.cache.cap ≡ tree.old.cache.cap }
+    ensures faults { tree.new.faults ≡ tree.old.faults }
+    ensures roots { FollowChange change tree.old.state roots.old.roots roots.new.roots }
+    ensures promises { LoseDirectory roots.old.promises roots.new.promises (gone_with change) }
+    ensures authority { KeepsAuthorities tree.old.state tree.new.state roots.old.roots roots.new.roots }
+    ensures ranks { NoNewRank roots.old.roots roots.new.roots }
+    ensures valid { AreRoots tree.new.state roots.new.roots }
+{
+    settle(tree, roots, &change);
+    let went = went_with(&change);
+    tree.apply(change);
+    lose(roots, went);
+}
+
+// Before a change makes a directory move, its roots are settled.
+fn settle<S: Store + Drop>(tree: &MdCache<S>, roots: &mut Subtrees, change: &Change)
+    requires ready { IsReadyIn tree.now change.now }
+    requires may { MayChange (shown_tree tree.now.state) tree.now.state.covers change.now }
+    requires room { HasRoomFor change.now tree.now.state roots.old.roots roots.old.room }
+    requires valid { AreRoots tree.now.state roots.old.roots }
+    ensures settled { SettleMoving change.now tree.now.state roots.old.roots roots.new.roots }
+    ensures sound { IsSound tree.now.state }
+    ensures promises { roots.new.promises ≡ roots.old.promises }
+{
+    let dirs = tree.dirs();
+    match change {
+        Change::Move { to, .. } => settle_move(dirs, roots, tree.moving(), to),
+        _ => {}
+    }
+}
+
+/// The directory that goes with a change, if one does.
+pub fn went_with(change: &Change) -> Option<Ino>
+    ensures { result ≡ gone_with change.now }
+{
+    match change {
+        Change::Add { .. } | Change::Set { .. } => None,
+        Change::Remove { gone, .. } | Change::Move { gone, .. } => *gone,
+    }
+}
+
+// Makes room for what the move of a directory to a dentry makes, if one moves.
+fn reserve_move(
+    alloc: Global,
+    dirs: &Dirs,
+    roots: &mut Subtrees,
+    moving: Option<Ino>,
+    to: &Dentry,
+) -> Result<(), Refusal>
+    requires may { IfSome moving (λ dir. MayMove dirs.now.homes dir.0 (home_at to.now)) }
+    ensures room { OnOk result (IfSome moving (λ dir. HasRoomToMove roots.new.roots roots.new.room dirs.now.homes dirs.now.trees dir.0 (home_at to.now))) }
+    ensures same { roots.new.roots ≡ roots.old.roots }
+    ensures promises { roots.new.promises ≡ roots.old.promises }
+    ensures refused { IfErr result (λ reason. reason ≡ NoMemory) }
+    ensures left { OnErr result (roots.new ≡ roots.old) }
+{
+    let Some(dir) = moving else {
+        return Ok(());
+    };
+    roots.reserve_rename(alloc, dirs, dir, to.dir, &to.name)
+}
+
+// Settles the roots of a directory that is about to move to a dentry, if one is.
+fn settle_move(dirs: &Dirs, roots: &mut Subtrees, moving: Option<Ino>, to: &Dentry)
+    requires may { IfSome moving (λ dir. MayMove dirs.now.homes dir.0 (home_at to.now)) }
+    requires room { IfSome moving (λ dir. HasRoomToMove roots.old.roots roots.old.room dirs.now.homes dirs.now.trees dir.0 (home_at to.now)) }
+    requires valid { IsSubtrees roots.old.roots dirs.now.homes dirs.now.trees }
+    ensures settled { MatchOption moving (roots.new.roots ≡ roots.old.roots) (λ dir. IsSettled roots.old.roots roots.new.roots dirs.now.homes dirs.now.trees dir.0 (home_at to.now)) }
+    ensures promises { roots.new.promises ≡ roots.old.promises }
+{
+    if let Some(dir) = moving {
+        roots.after_rename(dirs, dir, to.dir, &to.name);
+    }
+}
+
+// A directory that went has no root any more, if one did, and no promise of one is left.
+fn lose(roots: &mut Subtrees, went: Option<Ino>)
+    ensures roots { LoseDirectory roots.old.roots roots.new.roots went }
+    ensures promises { LoseDirectory roots.old.promises roots.new.promises went }
+{
+    if let Some(dir) = went {
+        roots.drop(dir);
+    }
+}

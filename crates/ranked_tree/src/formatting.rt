@@ -1,0 +1,49 @@
+//! A tree over a store that has no object, with its one subtree root.
+ghost use Rattle.std.specs.Prelude.{◌≡◌, ◌≤◌, [], ◌∷◌, OnOk, IfOk, IfErr};
+ghost use Rattle.std.specs.FinMap as map;
+ghost use Rattle.lru.specs.LruCache.{lru_cache};
+ghost use Rattle.dentry_cache.specs.Cache.{held};
+ghost use Rattle.mdcache.specs.New.{MayNotFormat, cached_root, new_state, root_leaf};
+ghost use Rattle.ranked_tree.specs.Ranked.{new_roots};
+
+use crate::ranked_tree::RankedTree;
+use mdcache::MdCache;
+use mds_types::{Frag, Ino, Rank, Refusal};
+use objstore::Store;
+use std::alloc::{AllocError, Global};
+use subtree_map::Subtrees;
+
+impl<S: Store + Drop> RankedTree<S> {
+    /// The empty tree over a store that has no object, as `MdCache::format` makes and refuses it. The root directory's leaf is
+    /// rank 0's.
+    pub fn format(alloc: Global, store: S, places: usize) -> Result<RankedTree<S>, (Refusal, S)>
+        requires few { 512 ≤ places }
+        requires many { places ≤ 65536 }
+        ensures empty { OnOk result (S.objects store ≡ map.empty) }
+        ensures state { IfOk result (λ t. t.tree.state ≡ new_state) }
+        ensures roots { IfOk result (λ t. t.subtrees.roots ≡ new_roots) }
+        ensures cache { IfOk result (λ t. t.tree.cache ≡ lru_cache ((root_leaf, held cached_root) ∷ []) places) }
+        ensures refused { IfErr result (λ back. MayNotFormat (S.objects store) (S.faults store) (S.faults back.1) back.0) }
+        ensures left { IfErr result (λ back. S.objects back.1 ≡ S.objects store) }
+    {
+        match first_roots(alloc) {
+            Err(_) => Err((Refusal::NoMemory, store)),
+            Ok(roots) => match MdCache::format(alloc, store, places) {
+                Ok(tree) => Ok(RankedTree { tree, roots, alloc }),
+                Err(back) => Err(back),
+            },
+        }
+    }
+}
+
+// The root directory's leaf as the one subtree root, rank 0's.
+fn first_roots(alloc: Global) -> Result<Subtrees, AllocError>
+    ensures { IfOk result (λ roots. roots.roots ≡ new_roots) }
+{
+    let mut roots = Subtrees::new(alloc);
+    if roots.reserve(1).is_err() {
+        return Err(AllocError);
+    }
+    roots.set(Ino::ROOT, Frag::ROOT, Rank(0));
+    Ok(roots)
+}

@@ -1,0 +1,17 @@
+//! The tree with its subtrees: whose each leaf is (CephFS's subtree map), kept together with the directories and leaves that it
+//! speaks of. No change of the tree gives a leaf that stays another authority.
+#![tactic(auto)]
+
+mod authorities;
+mod changing;
+mod commits;
+mod formatting;
+mod frags;
+mod inside;
+mod ranked_tree;
+mod reading;
+mod regrouping;
+
+pub use changing::went_with;
+pub use inside::leaf_inside;
+pub use ranked_tree::RankedTree;

@@ -1,0 +1,86 @@
+//! Reads that ask the tree alone, and no fragment. None takes memory.
+ghost use Rattle.std.specs.Prelude.{◌≡◌, true, IsTrue, ◌↔◌, OnOk, IfErr};
+ghost use Rattle.mds_types.specs.Tree.{is_directory};
+ghost use Rattle.fragtree.specs.FragTree.{CanMerge, CanSplit, IsPick, RefusesMerge, RefusesSplit};
+ghost use Rattle.namehash.specs.Rjenkins.{hash_of};
+ghost use Rattle.inode_table.specs.Dirs.{IsLive, is_known, leaves_of};
+ghost use Rattle.mdcache.specs.Cached.{IsKept};
+ghost use Rattle.mdcache.specs.Regroups.{RefusesLeaves};
+ghost use Rattle.mdcache.specs.Shown.{shown_tree};
+ghost use Rattle.mdcache.specs.Sound.{IsSound};
+ghost use Rattle.ranked_tree.specs.Subtrees.{AreRoots};
+
+use crate::ranked_tree::RankedTree;
+use inode_table::Dirs;
+use mds_types::{Dentry, Frag, Ino, Refusal};
+use objstore::Store;
+
+impl<S: Store + Drop> RankedTree<S> {
+    /// The store. A caller also learns from it that the state is sound, that each cached fragment is a live leaf's, and that the
+    /// roots are those of the tree.
+    pub fn store(&self) -> &S
+        ensures objects { S.objects result.now ≡ self.now.tree.state.objects }
+        ensures kept { IsKept self.now.tree.state self.now.tree.cache }
+        ensures valid { AreRoots self.now.tree.state self.now.subtrees.roots }
+    {
+        self.tree.store()
+    }
+
+    /// Which directories there are, and the leaves of each. A caller also learns from it that the state is sound.
+    pub fn dirs(&self) -> &Dirs
+        ensures homes { result.now.homes ≡ self.now.tree.state.homes }
+        ensures trees { result.now.trees ≡ self.now.tree.state.covers }
+        ensures sound { IsSound self.now.tree.state }
+    {
+        self.tree.dirs()
+    }
+
+    /// Whether this is the number of a directory of the tree now.
+    pub fn is_dir(&self, dir: Ino) -> bool
+        ensures { result ≡ is_directory (shown_tree self.now.tree.state) dir.0 }
+    {
+        self.tree.is_dir(dir)
+    }
+
+    /// The leaf that a dentry belongs to.
+    pub fn frag_of(&self, dentry: &Dentry) -> Frag
+        ensures { IsPick (leaves_of self.now.tree.state.covers dentry.now.dir.0) (hash_of dentry.now.name) result }
+    {
+        self.tree.frag_of(dentry)
+    }
+
+    /// Whether there is such a directory, and it has this leaf.
+    pub fn has_leaf(&self, dir: Ino, frag: Frag) -> bool
+        ensures { IsTrue result ↔ IsLive self.now.tree.state.homes self.now.tree.state.covers (dir, frag) }
+    {
+        self.tree.has_leaf(dir, frag)
+    }
+
+    /// The first leaf of a directory: the one of the least value, which the hash 0 picks.
+    pub fn first_leaf(&self, dir: Ino) -> Frag
+        ensures { IsPick (leaves_of self.now.tree.state.covers dir.0) 0 result }
+    {
+        self.tree.first_leaf(dir)
+    }
+
+    /// Whether there is such a leaf, and it can be split by so many bits, as `MdCache::check_split` tells and refuses.
+    pub fn check_split(&self, dir: Ino, frag: Frag, bits: u8) -> Result<(), Refusal>
+        ensures known { OnOk result (is_known self.now.tree.state.homes dir.0 ≡ true) }
+        ensures can { OnOk result (CanSplit (leaves_of self.now.tree.state.covers dir.0) frag bits) }
+        ensures refused { IfErr result (RefusesLeaves (RefusesSplit (leaves_of self.now.tree.state.covers dir.0) frag bits) self.now.tree.state.homes dir) }
+        ensures sound { IsSound self.now.tree.state }
+    {
+        self.tree.check_split(dir, frag, bits)
+    }
+
+    /// Whether there is such a directory, and leaves of it can be merged at a fragment, as `MdCache::check_merge` tells and
+    /// refuses.
+    pub fn check_merge(&self, dir: Ino, frag: Frag) -> Result<(), Refusal>
+        ensures known { OnOk result (is_known self.now.tree.state.homes dir.0 ≡ true) }
+        ensures can { OnOk result (CanMerge (leaves_of self.now.tree.state.covers dir.0) frag) }
+        ensures refused { IfErr result (RefusesLeaves (RefusesMerge (leaves_of self.now.tree.state.covers dir.0) frag) self.now.tree.state.homes dir) }
+        ensures sound { IsSound self.now.tree.state }
+    {
+        self.tree.check_merge(dir, frag)
+    }
+}

@@ -1,0 +1,164 @@
+//! Splits and merges of leaves, with their subtree roots.
+ghost use Rattle.std.specs.Prelude.{◌≡◌, ◌≤◌, ◌^◌, OnOk, OnErr, IfErr};
+ghost use Rattle.fragtree.specs.FragTree.{FitsSplit};
+ghost use Rattle.subtree_map.specs.Changes.{HaveOneAuthority, IsRootMerge, IsRootSplit};
+ghost use Rattle.mdcache.specs.Regroups.{MayNotMerge, MayNotSplit, MergesLeaves, SplitsLeaf};
+ghost use Rattle.mdcache.specs.Sound.{IsSound};
+ghost use Rattle.ranked_tree.specs.Subtrees.{AreRoots, GivesToChildren, KeepsAuthorities, KeepsRoots, NoNewRank, TakesOver};
+
+use crate::ranked_tree::RankedTree;
+use mdcache::MdCache;
+use mds_types::{Frag, Ino, Refusal};
+use objstore::Store;
+use std::alloc::Global;
+use subtree_map::Subtrees;
+
+impl<S: Store + Drop> RankedTree<S> {
+    /// Splits a leaf of a directory by so many bits, as `MdCache::split` does and refuses; where it is a root its children are
+    /// roots of its rank then, and where it inherits they do. Takes memory for those roots first.
+    pub fn split(&mut self, alloc: Global, dir: Ino, frag: Frag, bits: u8) -> Result<(), Refusal>
+        ensures split { SplitsLeaf self.old.tree self.new.tree dir frag bits result }
+        ensures roots { OnOk result (IsRootSplit self.old.subtrees.roots self.new.subtrees.roots dir.0 frag bits) }
+        ensures left { OnErr result (self.new.subtrees.roots ≡ self.old.subtrees.roots) }
+        ensures promises { self.new.subtrees.promises ≡ self.old.subtrees.promises }
+        ensures cap { self.new.tree.cache.cap ≡ self.old.tree.cache.cap }
+        ensures grows { self.old.tree.faults ≤ self.new.tree.faults }
+        ensures children { OnOk result (GivesToChildren self.old.tree.state self.new.tree.state self.old.subtrees.roots self.new.subtrees.roots dir frag bits) }
+        ensures kept { KeepsRoots self.old.tree.state self.new.tree.state self.old.subtrees.roots self.new.subtrees.roots }
+    {
+        split_with_roots(alloc, &mut self.tree, &mut self.roots, dir, frag, bits)
+    }
+
+    /// Merges the leaves of a directory properly inside a fragment, which have one authority, as `MdCache::merge` does and
+    /// refuses; where one of them is a root the merged leaf is a root of that rank then. Takes memory for that root first.
+    pub fn merge(&mut self, alloc: Global, dir: Ino, frag: Frag) -> Result<(), Refusal>
+        requires one { HaveOneAuthority self.old.subtrees.roots self.old.tree.state.homes self.old.tree.state.covers dir.0 frag }
+        ensures merged { MergesLeaves self.old.tree self.new.tree dir frag result }
+        ensures roots { OnOk result (IsRootMerge self.old.subtrees.roots self.new.subtrees.roots dir.0 frag) }
+        ensures left { OnErr result (self.new.subtrees.roots ≡ self.old.subtrees.roots) }
+        ensures promises { self.new.subtrees.promises ≡ self.old.subtrees.promises }
+        ensures cap { self.new.tree.cache.cap ≡ self.old.tree.cache.cap }
+        ensures grows { self.old.tree.faults ≤ self.new.tree.faults }
+        ensures one { OnOk result (TakesOver self.old.tree.state self.new.tree.state self.old.subtrees.roots self.new.subtrees.roots dir frag) }
+        ensures kept { KeepsRoots self.old.tree.state self.new.tree.state self.old.subtrees.roots self.new.subtrees.roots }
+    {
+        merge_with_roots(alloc, &mut self.tree, &mut self.roots, dir, frag)
+    }
+}
+
+// Splits a leaf of a directory by so many bits, as `MdCache::split` does and refuses; where it is a root its children are
+// roots of its rank then, and where it inherits they do. Takes memory for those roots first.
+fn split_with_roots<S: Store + Drop>(
+    alloc: Global,
+    tree: &mut MdCache<S>,
+    roots: &mut Subtrees,
+    dir: Ino,
+    frag: Frag,
+    bits: u8,
+) -> Result<(), Refusal>
+    requires valid { AreRoots tree.old.state roots.old.roots }
+    ensures split { SplitsLeaf tree.old tree.new dir frag bits result }
+    ensures roots { OnOk result (IsRootSplit roots.old.roots roots.new.roots dir.0 frag bits) }
+    ensures left { OnErr result (roots.new.roots ≡ roots.old.roots) }
+    ensures promises { roots.new.promises ≡ roots.old.promises }
+    ensures cap { tree.new.cache.cap ≡ tree.old.cache.cap }
+    ensures grows { tree.old.faults ≤ tree.new.faults }
+    ensures authority { KeepsAuthorities tree.old.state tree.new.state roots.old.roots roots.new.roots }
+    ensures children { OnOk result (GivesToChildren tree.old.state tree.new.state roots.old.roots roots.new.roots dir frag bits) }
+    ensures ranks { NoNewRank roots.old.roots roots.new.roots }
+    ensures valid { AreRoots tree.new.state roots.new.roots }
+{
+    if let Err(refusal) = reserve_split(tree, roots, dir, frag, bits) {
+        return Err(refusal);
+    }
+    if let Err(refusal) = tree.split(alloc, dir, frag, bits) {
+        return Err(refusal);
+    }
+    roots.split_root(dir, frag, bits);
+    Ok(())
+}
+
+// Merges the leaves of a directory properly inside a fragment, which have one authority, as `MdCache::merge` does and
+// refuses; where one of them is a root the merged leaf is a root of that rank then. Takes memory for that root first.
+fn merge_with_roots<S: Store + Drop>(
+    alloc: Global,
+    tree: &mut MdCache<S>,
+    roots: &mut Subtrees,
+    dir: Ino,
+    frag: Frag,
+) -> Result<(), Refusal>
+    requires valid { AreRoots tree.old.state roots.old.roots }
+    requires one { HaveOneAuthority roots.old.roots tree.old.state.homes tree.old.state.covers dir.0 frag }
+    ensures merged { MergesLeaves tree.old tree.new dir frag result }
+    ensures roots { OnOk result (IsRootMerge roots.old.roots roots.new.roots dir.0 frag) }
+    ensures left { OnErr result (roots.new.roots ≡ roots.old.roots) }
+    ensures promises { roots.new.promises ≡ roots.old.promises }
+    ensures cap { tree.new.cache.cap ≡ tree.old.cache.cap }
+    ensures grows { tree.old.faults ≤ tree.new.faults }
+    ensures authority { KeepsAuthorities tree.old.state tree.new.state roots.old.roots roots.new.roots }
+    ensures one { OnOk result (TakesOver tree.old.state tree.new.state roots.old.roots roots.new.roots dir frag) }
+    ensures ranks { NoNewRank roots.old.roots roots.new.roots }
+    ensures valid { AreRoots tree.new.state roots.new.roots }
+{
+    if let Err(refusal) = reserve_merge(tree, roots, dir, frag) {
+        return Err(refusal);
+    }
+    if let Err(refusal) = tree.merge(alloc, dir, frag) {
+        return Err(refusal);
+    }
+    roots.merge_roots(dir, frag);
+    Ok(())
+}
+
+// Makes room for the roots of a leaf's children, if it can be split.
+fn reserve_split<S: Store + Drop>(
+    tree: &MdCache<S>,
+    roots: &mut Subtrees,
+    dir: Ino,
+    frag: Frag,
+    bits: u8,
+) -> Result<(), Refusal>
+    ensures fits { OnOk result (FitsSplit frag bits) }
+    ensures room { OnOk result (2 ^ bits ≤ roots.new.room) }
+    ensures refused { IfErr result (MayNotSplit tree.now tree.now dir frag bits) }
+    ensures same { roots.new.roots ≡ roots.old.roots }
+    ensures promises { roots.new.promises ≡ roots.old.promises }
+    ensures sound { IsSound tree.now.state }
+{
+    if let Err(refusal) = tree.check_split(dir, frag, bits) {
+        return Err(refusal);
+    }
+    let count: u16 = 1 << bits;
+    if let Err(refusal) = tree.check_numbers(u64::from(count)) {
+        return Err(refusal);
+    }
+    if let Err(refusal) = roots.reserve(usize::from(count)) {
+        return Err(refusal);
+    }
+    Ok(())
+}
+
+// Makes room for the root that a merged leaf may be, if leaves can be merged.
+fn reserve_merge<S: Store + Drop>(
+    tree: &MdCache<S>,
+    roots: &mut Subtrees,
+    dir: Ino,
+    frag: Frag,
+) -> Result<(), Refusal>
+    ensures room { OnOk result (1 ≤ roots.new.room) }
+    ensures refused { IfErr result (MayNotMerge tree.now tree.now dir frag) }
+    ensures same { roots.new.roots ≡ roots.old.roots }
+    ensures promises { roots.new.promises ≡ roots.old.promises }
+    ensures sound { IsSound tree.now.state }
+{
+    if let Err(refusal) = tree.check_merge(dir, frag) {
+        return Err(refusal);
+    }
+    if let Err(refusal) = tree.check_numbers(1) {
+        return Err(refusal);
+    }
+    if let Err(refusal) = roots.reserve(1) {
+        return Err(refusal);
+    }
+    Ok(())
+}
