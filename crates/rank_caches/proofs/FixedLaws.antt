@@ -3,7 +3,8 @@ use Rattle.std.proofs.Common.{◌≡◌, ℕ, zero, suc, ◌+◌, ◌<◌, ◌�
 use Rattle.mds_types.specs.declared.ids.Rank.{Rank}
 use Rattle.dentry_cache.specs.Cache.{Held, Places}
 use Rattle.dentry_cache.specs.Places.{fixed_places}
-use Rattle.rank_caches.specs.Caches.{Caches, cache_of, no_cache, places_of, with_cache}
+use Rattle.rank_caches.specs.Caches.{Caches, all_of, cache_of, no_cache, places_of, with_cache}
+use Rattle.rank_caches.specs.Changes.{LackIsOfAll, NoMoreAreFixed}
 
 pub fixed_joined : (xs ys : Places) → fixed_places (xs ++ ys) ≡ fixed_places xs + fixed_places ys
 fixed_joined [] ys = omega arith
@@ -38,3 +39,15 @@ fixed_part caches rank = part_in caches rank.0
 pub fixed_changed : (caches : Caches) (rank : Rank) (now : Held) → rank.0 < length caches
     → fixed_places (places_of (with_cache caches rank now)) + fixed_places (cache_of caches rank).entries ≡ fixed_places (places_of caches) + fixed_places now.entries
 fixed_changed caches rank now there = changed_in caches rank.0 now there
+
+pub no_more_are_fixed : NoMoreAreFixed
+no_more_are_fixed caches rank now there fewer =
+    let all : fixed_places (places_of (with_cache caches rank now)) + fixed_places (cache_of caches rank).entries ≡ fixed_places (places_of caches) + fixed_places now.entries = fixed_changed caches rank now there in
+    omega (arith, all, fewer)
+
+pub lack_is_of_all : LackIsOfAll
+lack_is_of_all caches rank places count there have lacks =
+    let part : fixed_places (cache_of caches rank).entries ≤ fixed_places (places_of caches) = fixed_part caches rank in
+    let here : (cache_of caches rank).cap ≡ places = have.each rank there in
+    let first : (all_of caches).cap ≡ places = have.each (record { 0 = 0 }) (omega (arith, there)) in
+    omega (arith, part, here, first, lacks)

@@ -8,10 +8,10 @@ use Rattle.std.proofs.lemmas.List.{get_or-set_other, get_or-set_same}
 use Rattle.sorted_map.proofs.NatKeys.{is_same}
 use Rattle.mds_types.specs.declared.ids.Rank.{Rank}
 use Rattle.dentry_cache.specs.declared.cache.Place.{Place}
-use Rattle.dentry_cache.specs.Cache.{Held, Leaf, Places, leaf_is}
+use Rattle.dentry_cache.specs.Cache.{Held, Leaf, Places, fragment_in, is_kept, leaf_is}
 use Rattle.dentry_cache.proofs.LeafLaws.{leaf_or_apart}
 use Rattle.rank_caches.specs.Caches.{AreApart, Caches, HasNoneBeside, cache_of, has_place, no_cache, places_of, with_cache}
-use Rattle.rank_caches.specs.Changes.{MayHave, PlacesStay}
+use Rattle.rank_caches.specs.Changes.{MayHave, MayHaveCached, MayHaveOne, MayHaveThese, PlacesRelate, PlacesStay}
 
 -- ---- ranks
 
@@ -27,15 +27,15 @@ rank_or_apart a b = go (a.0 == b.0) refl
 
 -- ---- the places of two caches
 
-first_of : (b : Bool) (p : Place) (o rest : Option Place) → cond b (Some p) (option_or o rest) ≡ option_or (cond b (Some p) o) rest
-first_of true p o rest = refl
-first_of false p o rest = refl
+or_joined : (b : Bool) (p : Place) (o rest : Option Place) → cond b (Some p) (option_or o rest) ≡ option_or (cond b (Some p) o) rest
+or_joined true p o rest = refl
+or_joined false p o rest = refl
 
 pub lookup_joined : (q : Leaf) (front rest : Places) → lookup (leaf_is q) (front ++ rest) ≡ option_or (lookup (leaf_is q) front) (lookup (leaf_is q) rest)
 lookup_joined q [] rest = refl
-lookup_joined q (e ∷ front) rest = ap (cond (leaf_is q e.0) (Some e.1)) (lookup_joined q front rest) ∙ first_of (leaf_is q e.0) e.1 (lookup (leaf_is q) front) (lookup (leaf_is q) rest)
+lookup_joined q (e ∷ front) rest = ap (cond (leaf_is q e.0) (Some e.1)) (lookup_joined q front rest) ∙ or_joined (leaf_is q e.0) e.1 (lookup (leaf_is q) front) (lookup (leaf_is q) rest)
 
-or_none : (o : Option Place) → option_or o None ≡ o
+pub or_none : (o : Option Place) → option_or o None ≡ o
 or_none (Some p) = refl
 or_none None = refl
 
@@ -44,7 +44,7 @@ or_none None = refl
 abbrev place_in : Caches → ℕ → Leaf → Option Place
 place_in caches n q = lookup (leaf_is q) (get_or caches n no_cache).entries
 
-nowhere : (caches : Caches) (q : Leaf) → ((n : ℕ) → place_in caches n q ≡ None) → lookup (leaf_is q) (places_of caches) ≡ None
+pub nowhere : (caches : Caches) (q : Leaf) → ((n : ℕ) → place_in caches n q ≡ None) → lookup (leaf_is q) (places_of caches) ≡ None
 nowhere [] q none = refl
 nowhere (c ∷ cs) q none = lookup_joined q c.entries (places_of cs) ∙ ap (λ (o : Option Place). option_or o (lookup (leaf_is q) (places_of cs))) (none zero) ∙ nowhere cs q (λ n. none (suc n))
 
@@ -195,25 +195,52 @@ not_beside_stays caches rank now q may has = go (here_or_elsewhere caches rank n
     go (inl h) = absurd (has h.0)
     go (inr e) = e.1
 
--- what relates each leaf's places at the rank relates those among all, if it holds of a place that stays
+-- what relates each leaf's places at the rank relates those among all, if it holds of a place that stays, of a leaf that has one at another rank
+pub lifted_where : (Rel : Leaf → Option Place → Option Place → Type 0) → PlacesRelate Rel
+lifted_where Rel caches rank now may itself at q = go (here_or_elsewhere caches rank now may q)
+  where
+    go : IsHere caches rank now q ⊎ IsElsewhere caches rank now q → Rel q (lookup (leaf_is q) (places_of caches)) (lookup (leaf_is q) (places_of (with_cache caches rank now)))
+    go (inl h) = subst (λ (o : Option Place). Rel q o (lookup (leaf_is q) (places_of (with_cache caches rank now)))) (sym h.1) (subst (Rel q (lookup (leaf_is q) (cache_of caches rank).entries)) (sym h.2) (at q))
+    go (inr e) = subst (Rel q (lookup (leaf_is q) (places_of caches))) (sym e.1) (itself q (lookup (leaf_is q) (places_of caches)) e.0)
+
+-- so of each place that stays
 pub lifted : (caches : Caches) (rank : Rank) (now : Held) → MayHave caches rank now → (R : Leaf → Option Place → Option Place → Type 0) → ((q : Leaf) (o : Option Place) → R q o o)
     → ((q : Leaf) → R q (lookup (leaf_is q) (cache_of caches rank).entries) (lookup (leaf_is q) now.entries)) → (q : Leaf) → R q (lookup (leaf_is q) (places_of caches)) (lookup (leaf_is q) (places_of (with_cache caches rank now)))
-lifted caches rank now may R itself at q = go (here_or_elsewhere caches rank now may q)
-  where
-    go : IsHere caches rank now q ⊎ IsElsewhere caches rank now q → R q (lookup (leaf_is q) (places_of caches)) (lookup (leaf_is q) (places_of (with_cache caches rank now)))
-    go (inl h) = subst (λ (o : Option Place). R q o (lookup (leaf_is q) (places_of (with_cache caches rank now)))) (sym h.1) (subst (R q (lookup (leaf_is q) (cache_of caches rank).entries)) (sym h.2) (at q))
-    go (inr e) = subst (R q (lookup (leaf_is q) (places_of caches))) (sym e.1) (itself q (lookup (leaf_is q) (places_of caches)))
+lifted caches rank now may R itself at q = lifted_where R caches rank now may (λ q o none. itself q o) at q
 
--- so with one leaf of the rank for which it needn't
+-- so but for one leaf of the rank
 pub lifted_beside : (caches : Caches) (rank : Rank) (now : Held) (one : Leaf) → MayHave caches rank now → HasNoneBeside caches rank one → (R : Leaf → Option Place → Option Place → Type 0)
     → ((q : Leaf) (o : Option Place) → leaf_is one q ≡ false → R q o o) → ((q : Leaf) → R q (lookup (leaf_is q) (cache_of caches rank).entries) (lookup (leaf_is q) now.entries)) → (q : Leaf)
     → R q (lookup (leaf_is q) (places_of caches)) (lookup (leaf_is q) (places_of (with_cache caches rank now)))
-lifted_beside caches rank now one may beside R itself at q = go (here_or_elsewhere caches rank now may q)
+lifted_beside caches rank now one may beside R itself at q = lifted_where R caches rank now may (λ q o has. itself q o (apart q has (leaf_or_apart one q))) at q
   where
-    go : IsHere caches rank now q ⊎ IsElsewhere caches rank now q → R q (lookup (leaf_is q) (places_of caches)) (lookup (leaf_is q) (places_of (with_cache caches rank now)))
-    go (inl h) = subst (λ (o : Option Place). R q o (lookup (leaf_is q) (places_of (with_cache caches rank now)))) (sym h.1) (subst (R q (lookup (leaf_is q) (cache_of caches rank).entries)) (sym h.2) (at q))
-    go (inr e) = subst (R q (lookup (leaf_is q) (places_of caches))) (sym e.1) (itself q (lookup (leaf_is q) (places_of caches)) (apart (leaf_or_apart one q)))
+    apart : (q : Leaf) → (HasNoneBeside caches rank q → ⊥) → (one ≡ q) ⊎ (leaf_is one q ≡ false) → leaf_is one q ≡ false
+    apart q has (inl same) = absurd (has (subst (HasNoneBeside caches rank) same beside))
+    apart q has (inr differs) = differs
+
+-- ---- what a rank may have
+
+pub may_have_one : MayHaveOne
+may_have_one caches rank now one there apart beside from = may_have caches rank now there apart (λ q has. go q (from q has))
+  where
+    go : (q : Leaf) → (has_place caches rank q ≡ true) ⊎ (one ≡ q) → (has_place caches rank q ≡ true) ⊎ HasNoneBeside caches rank q
+    go q (inl was) = inl was
+    go q (inr it) = inr (subst (HasNoneBeside caches rank) it beside)
+
+pub may_have_these : (May : Leaf → Type 0) → MayHaveThese May
+may_have_these May caches rank now there apart beside from = may_have caches rank now there apart (λ q has. go q (from q has))
+  where
+    go : (q : Leaf) → (has_place caches rank q ≡ true) ⊎ May q → (has_place caches rank q ≡ true) ⊎ HasNoneBeside caches rank q
+    go q (inl was) = inl was
+    go q (inr comes) = inr (beside q comes)
+
+pub may_have_cached : (May : Leaf → Type 0) → MayHaveCached May
+may_have_cached May caches rank now there apart beside cached_from kept_from = may_have_these May caches rank now there apart beside (λ q has. go q (lookup (leaf_is q) now.entries) refl has)
+  where
+    go : (q : Leaf) (o : Option Place) → lookup (leaf_is q) now.entries ≡ o → is_some o ≡ true → (has_place caches rank q ≡ true) ⊎ May q
+    go q None is has = let clash : false ≡ true = has in absurd cc
+    go q (Some place) is has = test place.kept refl
       where
-        apart : (one ≡ q) ⊎ (leaf_is one q ≡ false) → leaf_is one q ≡ false
-        apart (inl same) = absurd (e.0 (subst (HasNoneBeside caches rank) same beside))
-        apart (inr differs) = differs
+        test : (b : Bool) → place.kept ≡ b → (has_place caches rank q ≡ true) ⊎ May q
+        test true kept = kept_from q (ap is_kept is ∙ kept)
+        test false kept = cached_from q place.frag (ap fragment_in is ∙ ap (λ (b : Bool). cond b None (Some place.frag)) kept)

@@ -40,3 +40,15 @@ pub record AreApart (caches : Caches) : Type 0 where
 -- each rank has so many places
 pub record HaveEach (places : ℕ) (caches : Caches) : Type 0 where
   pub each : (rank : Rank) → rank.0 < length caches → (cache_of caches rank).cap ≡ places
+
+-- the places of the ranks beside one
+abbrev pub places_beside : Caches → Rank → Places
+places_beside caches rank = places_of (with_cache caches rank no_cache)
+
+-- the places of all ranks as those of one cache, of which there may be as many as a rank has
+abbrev pub all_of : Caches → Held
+all_of caches = lru_cache (places_of caches) (cache_of caches (record { 0 = 0 })).cap
+
+-- so, with the places of one rank first
+abbrev pub first_of : Rank → Caches → Held
+first_of rank caches = lru_cache ((cache_of caches rank).entries ++ places_beside caches rank) (cache_of caches rank).cap

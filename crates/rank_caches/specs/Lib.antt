@@ -1,3 +1,4 @@
 pub mod Caches
 pub mod Changes
 pub mod Lending
+pub mod Orders
