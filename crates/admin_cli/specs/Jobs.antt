@@ -1,5 +1,4 @@
 -- The jobs that a script has begun.
-use Rattle.std.specs.Prelude.{ℕ}
 use Rattle.std.specs.FinMap as map
 use Rattle.std.specs.Ordering.{nat_cmp}
 use Rattle.commit_jobs.specs.declared.jobs.Job.{Job}

@@ -1,4 +1,4 @@
-use Rattle.std.proofs.Common.{inl, ap, ◌∙◌}
+use Rattle.std.proofs.Common.{inl, ap}
 use Rattle.admin_cli.proofs.script.run_script.Goals as goal
 
 pub returns-in-Ok : goal.returns-in-Ok
