@@ -7,16 +7,18 @@ use Rattle.dentry_cache.specs.Cache.{Held, Leaf, Places, cached, is_kept, leaf_i
 use Rattle.dentry_cache.specs.Ties.{AreTied}
 use Rattle.inode_table.specs.Dirs.{Covers, Homes, Table}
 use Rattle.purge_list.specs.PurgeList.{Listed}
+use Rattle.rank_caches.specs.Caches.{Caches}
 use Rattle.standing_jobs.specs.StandingJobs.{Standing}
 use Rattle.mdcache.specs.declared.mdcache.Counters.{Counters}
 use Rattle.mdcache.specs.declared.prepared.Prepared.{Prepared}
 use Rattle.mdcache.specs.Sound.{IsSound}
 use Rattle.mdcache.specs.State.{IsLive, State}
 
--- the state, the places of the cache in the order of their use, how many more directories and how many more names of objects to be
--- removed fit with no growth, how many faults the store had, and what was made ready for the next change
+-- the state, the caches of the ranks with their places in the order of use, and the places of all; how many more directories and how many
+-- more names of objects to be removed fit with no growth, how many faults the store had, and what was made ready for the next change
 pub record Core : Type 0 where
   pub state : State
+  pub ranks : Caches
   pub cache : Held
   pub dirs_left : ℕ
   pub purge_left : ℕ

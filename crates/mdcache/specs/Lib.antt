@@ -2,13 +2,13 @@ pub mod Cached
 pub mod Changes
 pub mod Commits
 pub mod Frags
-pub mod FragsLaws
 pub mod Going
 pub mod Joining
 pub mod Made
 pub mod New
 pub mod Objects
 pub mod Pages
+pub mod Ranks
 pub mod Reads
 pub mod Ready
 pub mod Regroups

@@ -1,5 +1,5 @@
 -- The state over a store that has no object.
-use Rattle.std.specs.Prelude.{◌≡◌, ◌⊎◌, ℕ}
+use Rattle.std.specs.Prelude.{◌≡◌, ◌⊎◌, ℕ, [], ◌∷◌, replicate}
 use Rattle.std.specs.FinMap as map
 use Rattle.mds_types.specs.Frag.{root_fragment}
 use Rattle.mds_types.specs.declared.refusals.Refusal.{Refusal}
@@ -7,7 +7,9 @@ use Rattle.mds_types.specs.declared.refusals.Refusal.TheVariants.{NotClean}
 use Rattle.objstore.specs.Objects.{MayRefuse, Objects}
 use Rattle.commit_jobs.specs.declared.bases.Base.TheVariants.{Fresh}
 use Rattle.cached_frag.specs.Cached.{Cached}
-use Rattle.dentry_cache.specs.Cache.{Leaf, Unsaved}
+use Rattle.lru.specs.LruCache.{lru_cache}
+use Rattle.dentry_cache.specs.Cache.{Leaf, Unsaved, held}
+use Rattle.rank_caches.specs.Caches.{Caches, with_cache}
 use Rattle.mdcache.specs.State.{State}
 
 -- the one leaf of the root directory
@@ -20,6 +22,10 @@ new_root = record { base = Fresh; generation = 1; dirty = map.empty }
 
 abbrev pub cached_root : Cached
 cached_root = record { base = Fresh; generation = 1; clean = map.empty; dirty = map.empty; room = 0; places = 0 }
+
+-- the caches of so many ranks, each with so many places: the root's leaf is cached at rank 0, and nothing else
+abbrev pub new_caches : ℕ → ℕ → Caches
+new_caches ranks places = with_cache (replicate ranks (lru_cache [] places)) (record { 0 = 0 }) (lru_cache ((root_leaf, held cached_root) ∷ []) places)
 
 -- the root directory alone, and nothing begun
 abbrev pub new_state : State

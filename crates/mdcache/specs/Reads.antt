@@ -1,11 +1,12 @@
 -- What reads leave, and why they may be refused.
-use Rattle.std.specs.Prelude.{◌≡◌, ◌⊎◌, ℕ, ◌+◌, ◌<◌, ◌≤◌, Bool, true, ◌==◌, List, Some}
+use Rattle.std.specs.Prelude.{◌≡◌, ◌⊎◌, ℕ, ◌+◌, ◌<◌, ◌≤◌, Bool, true, ◌==◌, List, length, Some}
 use Rattle.std.specs.Map.{lookup}
 use Rattle.std.specs.FinMap as map
 use Rattle.mds_types.specs.declared.refusals.Refusal.{Refusal}
 use Rattle.mds_types.specs.declared.refusals.Refusal.TheVariants.{NoMemory, StoreFault, NothingToEvict}
 use Rattle.mds_types.specs.Frag.{Fragment}
 use Rattle.mds_types.specs.declared.ids.Ino.{Ino}
+use Rattle.mds_types.specs.declared.ids.Rank.{Rank}
 use Rattle.fragtree.specs.FragTree.{HasLeaf}
 use Rattle.objstore.specs.Objects.{Objects}
 use Rattle.dirfrag_codec.specs.FragmentObject.{Names}
@@ -13,15 +14,22 @@ use Rattle.cached_frag.specs.Cached.{Cached}
 use Rattle.dentry_cache.specs.Cache.{Held, Leaf, cached, is_kept, leaf_is, unsaved}
 use Rattle.dentry_cache.specs.Loading.{Loads, object_of}
 pub use Rattle.dentry_cache.specs.Places.{fixed_places}
+use Rattle.rank_caches.specs.Caches.{Caches, all_of, cache_of}
 use Rattle.mdcache.specs.Cached.{Core}
+use Rattle.mdcache.specs.Ranks.{KeepUnsaved, KeepsCaches}
 
 -- fewer than so many places are free or can become so
 abbrev pub FixesAllBut : ℕ → Held → Type 0
 FixesAllBut count cache = cache.cap < fixed_places cache.entries + count
 
--- so it is, whatever was fetched and in whatever order fragments were used: each other place is that of a fragment that isn't clean
+-- so it is with a rank, whatever was fetched and in whatever order fragments were used: each other place of its cache is that of a fragment
+-- that isn't clean
+abbrev pub LacksPlacesAt : ℕ → Core → Rank → Type 0
+LacksPlacesAt count core rank = core.cache.cap < map.len (unsaved (cache_of core.ranks rank).entries) + count
+
+-- so it is with one of the ranks
 abbrev pub LacksPlaces : ℕ → Core → Type 0
-LacksPlaces count core = core.cache.cap < map.len core.state.unsaved + count
+LacksPlaces count core = (rank : Rank) × (rank.0 < length core.ranks) × LacksPlacesAt count core rank
 
 -- want of memory, a store whose count of faults rose, or places that lack: no leaf of a sound state has an object that is damaged
 abbrev pub MayNotFind : (NoPlace : Type 0) → (before after : ℕ) → Refusal → Type 0
@@ -55,3 +63,10 @@ IsLeafOf dir leaves leaf = (leaf.0 ≡ dir) × HasLeaf leaves leaf.1
 -- whether names are none
 abbrev pub has_none : Names → Bool
 has_none names = map.len names == 0
+
+-- what a read of a rank's cache leaves of the places of all: so it is, the caches are as many and as large, and of each rank what isn't clean
+-- is as it was
+pub record ReadsAt (May : Rank → Leaf → Type 0) (Come : Leaf → Type 0) (objects : Objects) (old new : Caches) : Type 0 where
+  pub reads : Reads Come objects (all_of old) (all_of new)
+  pub caches : KeepsCaches May old new
+  pub unsaved : KeepUnsaved old new

@@ -1,12 +1,15 @@
 -- What is made ready for a change, and why it may be refused.
 use Rattle.std.specs.Prelude.{◌≡◌, ◌⊎◌, ℕ, ◌+◌, ◌-◌, ◌<◌, ◌^◌, true, Some}
 use Rattle.std.specs.Map.{lookup}
+use Rattle.mds_types.specs.declared.ids.Rank.{Rank}
 use Rattle.mds_types.specs.declared.refusals.Refusal.{Refusal}
 use Rattle.mds_types.specs.declared.refusals.Refusal.TheVariants.{NoInodes}
 use Rattle.objstore.specs.Objects.{Objects}
 use Rattle.cached_frag.specs.Cached.{Cached}
 use Rattle.dentry_cache.specs.Cache.{Held, Leaf, cached, is_kept, leaf_is, unsaved}
 use Rattle.dentry_cache.specs.Loading.{Loads, object_of}
+use Rattle.rank_caches.specs.Caches.{Caches, all_of}
+use Rattle.mdcache.specs.Ranks.{KeepUnsaved, KeepsCaches}
 use Rattle.mdcache.specs.Reads.{MayNotFind}
 
 -- fewer than so many numbers are left of a counter: none is given out from 2^64 - 1 on
@@ -26,6 +29,12 @@ IsFrom May objects old leaf f = (g : Cached) × (f ≡ record g { room = f.room;
 pub record Readies (May : Leaf → Type 0) (objects : Objects) (old new : Held) : Type 0 where
   pub unsaved : unsaved new.entries ≡ unsaved old.entries
   pub from : (leaf : Leaf) (f : Cached) → cached new.entries leaf ≡ Some f → IsFrom May objects old leaf f
+
+-- so it is with the caches of all ranks: they are as many and as large, and of each rank what isn't clean is as it was
+pub record ReadiesAt (May : Rank → Leaf → Type 0) (Come : Leaf → Type 0) (objects : Objects) (old new : Caches) : Type 0 where
+  pub left : Readies Come objects (all_of old) (all_of new)
+  pub caches : KeepsCaches May old new
+  pub unsaved : KeepUnsaved old new
 
 -- a place that is kept was so before, or is that of this leaf
 abbrev pub KeepsAtMost : Leaf → (old new : Held) → Type 0

@@ -1,10 +1,10 @@
 -- What the calls that split a leaf and merge leaves do, and why they may be refused.
-use Rattle.std.specs.Prelude.{◌≡◌, ◌≢◌, ◌⊎◌, ℕ, ◌+◌, ◌≤◌, ◌^◌, true, false, List, [], ◌∷◌, Result, Ok, Err}
+use Rattle.std.specs.Prelude.{◌≡◌, ◌≢◌, ◌⊎◌, ℕ, ◌+◌, ◌<◌, ◌≤◌, ◌^◌, true, false, List, [], ◌∷◌, Result, Ok, Err}
 use Rattle.std.specs.Map.{lookup}
 use Rattle.mds_types.specs.declared.ids.Ino.{Ino}
 use Rattle.mds_types.specs.declared.refusals.Refusal.{Refusal}
 use Rattle.mds_types.specs.declared.refusals.Refusal.TheVariants.{NoMemory, NoSuchFrag}
-use Rattle.mds_types.specs.Frag.{Fragment}
+use Rattle.mds_types.specs.Frag.{Fragment, child_of}
 use Rattle.fragtree.specs.FragTree.{CanMerge, CanSplit, RefusesMerge, RefusesSplit, leaves_inside}
 use Rattle.dentry_cache.specs.Cache.{Held, Leaf, cached, is_kept, leaf_is, unsaved}
 use Rattle.dentry_cache.specs.Divided.{IsNoChild}
@@ -19,6 +19,10 @@ use Rattle.mdcache.specs.State.{State}
 -- a place that is kept was so before, or is that of a child of this fragment
 abbrev pub KeepsButChildren : Ino → Fragment → ℕ → (old new : Held) → Type 0
 KeepsButChildren dir frag nb old new = (leaf : Leaf) → IsNoChild dir frag nb leaf → is_kept (lookup (leaf_is leaf) new.entries) ≡ true → is_kept (lookup (leaf_is leaf) old.entries) ≡ true
+
+-- a fragment that is split, or a child of it
+abbrev pub IsFamily : Ino → Fragment → ℕ → Leaf → Type 0
+IsFamily dir frag nb leaf = (leaf ≡ (dir, frag)) ⊎ ((i : ℕ) × (i < 2 ^ nb) × (leaf ≡ (dir, child_of frag i nb)))
 
 -- kept places became free, or none did: what is cached is as it was, and no more places than before can't become free
 pub record Releases (old new : Held) : Type 0 where
@@ -48,8 +52,8 @@ RefusesLeaves Refuses homes dir reason = ((reason ≡ NoSuchFrag) × (is_known h
 abbrev pub IsUndone : (old new : Core) → Type 0
 IsUndone old new = (new.state ≡ old.state) × KeepsNoMore old.cache new.cache
 
--- a leaf was split by so many bits; where it wasn't, either its directory's leaves refuse that, or one more place than there would be
--- children isn't free and can't become so, or numbers lack, or the store or memory refused
+-- a leaf was split by so many bits; where it wasn't, either its directory's leaves refuse that, or a rank has fewer places
+-- free or that can become so than children and one more, or numbers lack, or the store or memory refused
 abbrev pub MayNotSplit : (old new : Core) → Ino → Fragment → ℕ → Refusal → Type 0
 MayNotSplit old new dir frag nb reason =
     MayNotRegroup (CanSplit (leaves_of old.state.covers dir.0) frag nb) (RefusesSplit (leaves_of old.state.covers dir.0) frag nb) old.state dir (2 ^ nb) (LacksPlaces (2 ^ nb + 1) old) old.faults new.faults reason
@@ -62,7 +66,7 @@ SplitsLeaf old new dir frag nb (Err reason) = MayNotSplit old new dir frag nb re
 abbrev pub merged_leaves : Core → Ino → Fragment → List Fragment
 merged_leaves c dir frag = leaves_inside frag (leaves_of c.state.covers dir.0)
 
--- leaves were merged; where they weren't it was refused so too, and for places where none is free and none can become so
+-- leaves were merged; where they weren't it was refused so too, and for places where a rank has none free and none can become so
 abbrev pub MayNotMerge : (old new : Core) → Ino → Fragment → Refusal → Type 0
 MayNotMerge old new dir frag reason =
     MayNotRegroup (CanMerge (leaves_of old.state.covers dir.0) frag) (RefusesMerge (leaves_of old.state.covers dir.0) frag) old.state dir 1 (LacksPlaces 1 old) old.faults new.faults reason

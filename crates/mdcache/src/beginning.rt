@@ -8,24 +8,28 @@ ghost use Rattle.cached_frag.specs.Cached.{Cached, is_clean, snapshot_of};
 ghost use Rattle.dentry_cache.specs.Cache.{HasCached, Unsaved, cached, unsaved as unsaved_in};
 ghost use Rattle.mdcache.specs.Cached.{KeepsCached};
 ghost use Rattle.mdcache.specs.Commits.{Begins, IsAtEnd};
+ghost use Rattle.mdcache.specs.Ranks.{KeepsCaches, MayHold, NoneComes};
 ghost use Rattle.mdcache.specs.Reads.{KeepsNoMore};
 
+use crate::commits_at::begin_at;
 use crate::leaves::is_live;
 use crate::mdcache::MdCache;
 use commit_jobs::{Base, Job};
 use dentry_cache::Cache;
-use mds_types::{Frag, Ino, Refusal};
+use mds_types::{Frag, Ino, Rank, Refusal};
 use objstore::Store;
 use standing_jobs::StandingJobs;
 
 impl<S: Store + Drop> MdCache<S> {
-    /// Begins a commit of a leaf: gives the job of its snapshot, which stands from now on; none, exactly where the leaf is
+    /// Begins a commit of a leaf, which the rank holds: gives the job of its snapshot, which stands from now on; none, exactly where the leaf is
     /// clean. Takes memory for the snapshot, twice.
     ///
     /// Refused `NoSuchFrag` where there is no such leaf, `JobOutstanding` where a job stands for it, `NoInodes` where no
     /// number is left for the job or for the version that the commit writes, and `NoMemory`.
-    pub fn begin(&mut self, dir: Ino, frag: Frag) -> Result<Option<Job>, Refusal>
+    pub fn begin(&mut self, rank: Rank, dir: Ino, frag: Frag) -> Result<Option<Job>, Refusal>
+        requires holds { MayHold self.old.ranks rank (dir, frag) }
         ensures begun { Begins self.old.state self.new.state (dir, frag) result }
+        ensures caches { KeepsCaches NoneComes self.old.ranks self.new.ranks }
         ensures cap { self.new.cache.cap ≡ self.old.cache.cap }
         ensures faults { self.new.faults ≡ self.old.faults }
     {
@@ -35,15 +39,16 @@ impl<S: Store + Drop> MdCache<S> {
         if self.jobs.get(dir, frag).is_some() {
             return Err(Refusal::JobOutstanding);
         }
-        let Some((base, generation)) = unsaved(&self.cache, dir, frag) else {
+        let Some((base, generation)) = unsaved(self.caches.of(rank), dir, frag) else {
             return Ok(None);
         };
         if let Err(refusal) = check_numbers(self.next.job, base) {
             return Err(refusal);
         }
-        match begin_in(
-            &mut self.cache,
+        match begin_at(
+            &mut self.caches,
             &mut self.jobs,
+            rank,
             self.next.job,
             dir,
             frag,
@@ -79,8 +84,8 @@ fn check_numbers(number: u64, base: Base) -> Result<(), Refusal>
     Ok(())
 }
 
-// A job of this number for a fragment that isn't clean stands from now on.
-fn begin_in(
+/// A job of this number for a fragment that isn't clean stands from now on.
+pub(crate) fn begin_in(
     cache: &mut Cache,
     jobs: &mut StandingJobs,
     number: u64,

@@ -13,6 +13,7 @@ impl<S: Store + Drop> MdCache<S> {
     /// Refused `StaleJob` exactly where no job of this number stands.
     pub fn drop_job(&mut self, number: u64) -> Result<(), Refusal>
         ensures dropped { Drops self.old.state self.new.state number result }
+        ensures ranks { self.new.ranks ≡ self.old.ranks }
         ensures cap { self.new.cache.cap ≡ self.old.cache.cap }
         ensures faults { self.new.faults ≡ self.old.faults }
     {

@@ -2,22 +2,26 @@
 ghost use Rattle.std.specs.Prelude.{◌≡◌, ◌≤◌, ◌↔◌, IsTrue, Some};
 ghost use Rattle.std.specs.FinMap as map;
 ghost use Rattle.mdcache.specs.Commits.{Ends, leaf_of};
+ghost use Rattle.mdcache.specs.Ranks.{KeepsCaches, MayHold, NoneComes};
 
+use crate::commits_at::end_at;
 use crate::mdcache::MdCache;
 use commit_jobs::{Encoded, Job};
-use mds_types::Refusal;
+use mds_types::{Rank, Refusal};
 use objstore::Store;
 use standing_jobs::StandingJobs;
 use std::alloc::Global;
 
 impl<S: Store + Drop> MdCache<S> {
-    /// Ends a commit: writes the object of its snapshot in one atomic operation. Exactly the names whose last change the
+    /// Ends a commit of a leaf that the rank holds: writes the object of its snapshot in one atomic operation. Exactly the names whose last change the
     /// snapshot has are clean then, and the job is gone. Takes memory before it writes.
     ///
     /// Refused `StaleJob` exactly where no job of this number, fragment, generation and snapshot stands; otherwise as the
     /// store refuses the write, and `NoMemory`: all stays dirty then, and the job stands.
-    pub fn end(&mut self, alloc: Global, encoded: &Encoded) -> Result<(), Refusal>
+    pub fn end(&mut self, alloc: Global, rank: Rank, encoded: &Encoded) -> Result<(), Refusal>
+        requires holds { MayHold self.old.ranks rank (leaf_of encoded.now.job) }
         ensures ended { Ends self.old.state self.new.state self.old.faults self.new.faults encoded.now.job result }
+        ensures caches { KeepsCaches NoneComes self.old.ranks self.new.ranks }
         ensures cap { self.new.cache.cap ≡ self.old.cache.cap }
         ensures grows { self.old.faults ≤ self.new.faults }
     {
@@ -25,7 +29,13 @@ impl<S: Store + Drop> MdCache<S> {
         if !stands(&self.jobs, job) {
             return Err(Refusal::StaleJob);
         }
-        if let Err(refusal) = self.cache.end_commit(alloc, &mut self.store, encoded) {
+        if let Err(refusal) = end_at(
+            alloc,
+            &mut self.caches,
+            &mut self.store,
+            rank,
+            encoded,
+        ) {
             return Err(refusal);
         }
         self.jobs.end(job.ino, job.frag);

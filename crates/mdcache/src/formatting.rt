@@ -1,20 +1,23 @@
 //! A tree over a store that has no object.
-ghost use Rattle.std.specs.Prelude.{◌≡◌, ◌≤◌, ◌==◌, ◌↔◌, ◌∷◌, [], length, not, IsTrue, IfOk, OnOk, IfErr};
+ghost use Rattle.std.specs.Prelude.{◌≡◌, ◌<◌, ◌≤◌, ◌==◌, ◌↔◌, ◌∷◌, [], length, not, IsTrue, IfOk, OnOk, IfErr};
 ghost use Rattle.std.specs.FinMap as map;
 ghost use Rattle.lru.specs.LruCache.{lru_cache};
 ghost use Rattle.mds_types.specs.declared.refusals.Refusal.TheVariants.{NoMemory};
 ghost use Rattle.dentry_cache.specs.Cache.{held};
 ghost use Rattle.objstore.specs.Objects.{MayRefuse};
-ghost use Rattle.mdcache.specs.New.{MayNotFormat, cached_root, new_state, root_leaf};
+ghost use Rattle.rank_caches.specs.Caches.{all_of};
+ghost use Rattle.mdcache.specs.New.{MayNotFormat, cached_root, new_caches, new_state, root_leaf};
+ghost use Rattle.mdcache.specs.Ranks.{AreRanks};
 
 use crate::mdcache::{Counters, MdCache};
 use crate::prepared::Prepared;
 use cached_frag::CachedFrag;
 use dentry_cache::Cache;
 use inode_table::Dirs;
-use mds_types::{Frag, Ino, Refusal};
+use mds_types::{Frag, Ino, Rank, Refusal};
 use objstore::{NamePage, Store};
 use purge_list::PurgeList;
+use rank_caches::RankCaches;
 use standing_jobs::StandingJobs;
 use std::alloc::Global;
 
@@ -24,12 +27,19 @@ impl<S: Store + Drop> MdCache<S> {
     ///
     /// Refused `NotClean` exactly where the store has objects, unless it refuses to tell, and `NoMemory`; the store is handed
     /// back then, with its objects as they were.
-    pub fn format(alloc: Global, mut store: S, places: usize) -> Result<MdCache<S>, (Refusal, S)>
+    pub fn format(
+        alloc: Global,
+        mut store: S,
+        ranks: u8,
+        places: usize,
+    ) -> Result<MdCache<S>, (Refusal, S)>
+        requires some { 0 < ranks }
         requires few { 512 ≤ places }
         requires many { places ≤ 65536 }
         ensures empty { OnOk result (S.objects store ≡ map.empty) }
         ensures state { IfOk result (λ m. m.state ≡ new_state) }
-        ensures cache { IfOk result (λ m. m.cache ≡ lru_cache ((root_leaf, held cached_root) ∷ []) places) }
+        ensures ranks { IfOk result (λ m. m.ranks ≡ new_caches ranks places) }
+        ensures cache { IfOk result (λ m. m.cache ≡ all_of (new_caches ranks places)) }
         ensures refused { IfErr result (λ back. MayNotFormat (S.objects store) (S.faults store) (S.faults back.1) back.0) }
         ensures left { IfErr result (λ back. S.objects back.1 ≡ S.objects store) }
         ensures faults { IfOk result (λ m. S.faults store ≤ m.faults) }
@@ -38,29 +48,31 @@ impl<S: Store + Drop> MdCache<S> {
         match has_objects(alloc, &mut store) {
             Err(refusal) => Err((refusal, store)),
             Ok(true) => Err((Refusal::NotClean, store)),
-            Ok(false) => match MdCache::new(alloc, store, places) {
+            Ok(false) => match MdCache::new(alloc, store, ranks, places) {
                 Ok(made) => Ok(made),
                 Err(store) => Err((Refusal::NoMemory, store)),
             },
         }
     }
 
-    /// The empty tree over a store that has no object, with a cache of so many places. The root's leaf `*` is the first
-    /// fragment made; it is cached, and no object counts for it. Takes little memory; where that is refused the store is
+    /// The empty tree over a store that has no object, with a cache of so many places for each of so many ranks. The root's leaf `*` is the first
+    /// fragment made; it is cached at rank 0, and no object counts for it. Takes little memory; where that is refused the store is
     /// handed back as it was.
-    pub fn new(alloc: Global, store: S, places: usize) -> Result<MdCache<S>, S>
+    pub fn new(alloc: Global, store: S, ranks: u8, places: usize) -> Result<MdCache<S>, S>
+        requires some { 0 < ranks }
         requires few { 512 ≤ places }
         requires many { places ≤ 65536 }
         requires empty { S.objects store ≡ map.empty }
         ensures state { IfOk result (λ m. m.state ≡ new_state) }
-        ensures cache { IfOk result (λ m. m.cache ≡ lru_cache ((root_leaf, held cached_root) ∷ []) places) }
+        ensures ranks { IfOk result (λ m. m.ranks ≡ new_caches ranks places) }
+        ensures cache { IfOk result (λ m. m.cache ≡ all_of (new_caches ranks places)) }
         ensures left { IfErr result (λ back. back ≡ store) }
         ensures faults { IfOk result (λ m. m.faults ≡ S.faults store) }
     {
-        match root_cache(alloc, places) {
-            Ok(cache) => Ok(MdCache {
+        match root_caches(alloc, ranks, places) {
+            Ok(caches) => Ok(MdCache {
                 dirs: Dirs::new(alloc),
-                cache,
+                caches,
                 store,
                 jobs: StandingJobs::new(alloc),
                 purge: PurgeList::new(alloc),
@@ -78,19 +90,34 @@ impl<S: Store + Drop> MdCache<S> {
     }
 }
 
-// A cache with the root's leaf alone.
-fn root_cache(alloc: Global, places: usize) -> Result<Cache, Refusal>
+// Caches of so many ranks, with the root's leaf alone, at rank 0.
+fn root_caches(alloc: Global, ranks: u8, places: usize) -> Result<RankCaches, Refusal>
+    requires some { 0 < ranks }
     requires few { 512 ≤ places }
     requires many { places ≤ 65536 }
-    ensures ok { IfOk result (λ cache. cache ≡ lru_cache ((root_leaf, held cached_root) ∷ []) places) }
+    ensures ok { IfOk result (λ caches. caches ≡ new_caches ranks places) }
+    ensures ranked { IfOk result AreRanks }
     ensures refused { IfErr result (λ reason. reason ≡ NoMemory) }
 {
-    let mut cache = Cache::new(alloc, places)?;
+    let mut caches = RankCaches::new(alloc, ranks, places)?;
+    match put_root(alloc, caches.of_mut(Rank(0))) {
+        Ok(()) => Ok(caches),
+        Err(refusal) => Err(refusal),
+    }
+}
+
+// Puts the root's leaf into a cache that has no place taken.
+fn put_root(alloc: Global, cache: &mut Cache) -> Result<(), Refusal>
+    requires empty { cache.old.entries ≡ [] }
+    requires some { 0 < cache.old.cap }
+    ensures ok { OnOk result (cache.new ≡ lru_cache ((root_leaf, held cached_root) ∷ []) cache.old.cap) }
+    ensures refused { IfErr result (λ reason. reason ≡ NoMemory) }
+{
     if cache.keep(alloc, Ino::ROOT, Frag::ROOT, None).is_err() {
         return Err(Refusal::NoMemory);
     }
     cache.fill(Ino::ROOT, Frag::ROOT, CachedFrag::fresh(alloc, 1));
-    Ok(cache)
+    Ok(())
 }
 
 // Whether a store has objects.

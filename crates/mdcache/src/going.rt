@@ -1,19 +1,25 @@
 //! What is prepared before a directory goes, and how it goes then.
 ghost use Rattle.std.specs.Prelude.{◌≡◌, ◌≤◌, length, string_bytes, map as each, IfOk, IfErr, IfSome};
+ghost use Rattle.std.specs.List.{Contains};
+ghost use Rattle.std.specs.Map.{lookup};
+ghost use Rattle.mds_types.specs.declared.ids.Rank.{Rank};
 ghost use Rattle.mds_types.specs.declared.refusals.Refusal.TheVariants.{NoMemory};
 ghost use Rattle.inode_table.specs.Dirs.{MayGo};
+ghost use Rattle.dentry_cache.specs.Cache.{Leaf, leaf_is};
 ghost use Rattle.namespace_ops.specs.Changes.{in_directory};
+ghost use Rattle.rank_caches.specs.Caches.{all_of, cache_of};
 ghost use Rattle.mdcache.specs.Changes.{with_objects, without_leaves};
 ghost use Rattle.mdcache.specs.Going.{HasForgotten, IsGoing, count_going, dir_going, leaves_going, leaves_in, rows_but, texts_going, texts_in};
+ghost use Rattle.mdcache.specs.Ranks.{AreRanks, KeepsCaches, NoneComes};
 ghost use Rattle.mdcache.specs.State.{text_of};
 
 use crate::mdcache::MdCache;
-use dentry_cache::Cache;
 use fragtree::FragTree;
 use inode_table::Dirs;
 use mds_types::{Frag, Ino, ObjName, Refusal};
 use objstore::Store;
 use purge_list::PurgeList;
+use rank_caches::RankCaches;
 use standing_jobs::StandingJobs;
 use std::alloc::{AllocError, Global};
 
@@ -79,49 +85,52 @@ pub(crate) fn part_of(alloc: Global, dir: Ino, frag: Frag) -> Result<GoingLeaf, 
     Ok(GoingLeaf { frag, object })
 }
 
-/// A directory goes that is no one's parent and not the root, or none: its home, its leaves with all that is cached of them
-/// and the jobs that stand for them. The names of its objects, for which there is room, are on the purge list then. Takes no
+/// A directory goes that is no one's parent and not the root, or none: its home, its leaves with all that is cached of them at
+/// any rank and the jobs that stand for them. The names of its objects, for which there is room, are on the purge list then. Takes no
 /// memory.
 pub(crate) fn remove_dir(
     dirs: &mut Dirs,
-    cache: &mut Cache,
+    caches: &mut RankCaches,
     jobs: &mut StandingJobs,
     purge: &mut PurgeList,
     going: Option<Going>,
 )
+    requires ranks { AreRanks caches.old }
     requires may { IfSome (dir_going going) (λ dir. MayGo dirs.old.homes dir.0) }
     requires room { count_going going ≤ purge.old.room }
     ensures homes { dirs.new.homes ≡ rows_but dirs.old.homes (dir_going going) }
     ensures covers { dirs.new.trees ≡ rows_but dirs.old.trees (dir_going going) }
-    ensures cache { HasForgotten (leaves_going going) cache.old cache.new }
-    ensures cap { cache.new.cap ≡ cache.old.cap }
+    ensures gone { HasForgotten (leaves_going going) (all_of caches.old) (all_of caches.new) }
+    ensures caches { KeepsCaches NoneComes caches.old caches.new }
     ensures jobs { jobs.new.jobs ≡ without_leaves jobs.old.jobs (leaves_going going) }
     ensures purge { purge.new.names ≡ with_objects purge.old.names (texts_going going) }
 {
     if let Some(going) = going {
         dirs.drop(going.dir);
         purge.put(going.tree);
-        remove_leaves(cache, jobs, purge, going.dir, going.leaves);
+        remove_leaves(caches, jobs, purge, going.dir, going.leaves);
     }
 }
 
-/// These leaves of a directory go: their places, their jobs, and the names of their objects are on the purge list, which has
+/// These leaves of a directory go: their places at any rank, their jobs, and the names of their objects are on the purge list, which has
 /// room for them. Takes no memory.
 pub(crate) fn remove_leaves(
-    cache: &mut Cache,
+    caches: &mut RankCaches,
     jobs: &mut StandingJobs,
     purge: &mut PurgeList,
     dir: Ino,
     leaves: Vec<GoingLeaf>,
 )
-    requires { length leaves.items ≤ purge.old.room }
-    ensures cache { HasForgotten (leaves_in dir leaves.items) cache.old cache.new }
-    ensures cap { cache.new.cap ≡ cache.old.cap }
+    requires ranks { AreRanks caches.old }
+    requires room { length leaves.items ≤ purge.old.room }
+    ensures gone { HasForgotten (leaves_in dir leaves.items) (all_of caches.old) (all_of caches.new) }
+    ensures caches { KeepsCaches NoneComes caches.old caches.new }
+    ensures others { (rank : Rank) (q : Leaf) → (Contains (leaves_in dir leaves.items) q → ⊥) → lookup (leaf_is q) (cache_of caches.new rank).entries ≡ lookup (leaf_is q) (cache_of caches.old rank).entries }
     ensures jobs { jobs.new.jobs ≡ without_leaves jobs.old.jobs (leaves_in dir leaves.items) }
     ensures purge { purge.new.names ≡ with_objects purge.old.names (texts_in leaves.items) }
 {
     for part in leaves {
-        cache.forget(dir, part.frag);
+        caches.forget(dir, part.frag);
         jobs.end(dir, part.frag);
         purge.put(part.object);
     }

@@ -1,6 +1,6 @@
 //! Which leaves there are.
-ghost use Rattle.std.specs.Prelude.{IsTrue, ◌↔◌};
-ghost use Rattle.fragtree.specs.FragTree.{IsPick};
+ghost use Rattle.std.specs.Prelude.{◌≡◌, IfOk, IsTrue, ◌↔◌};
+ghost use Rattle.fragtree.specs.FragTree.{IsPick, IsTree};
 ghost use Rattle.inode_table.specs.Dirs.{leaves_of};
 ghost use Rattle.mdcache.specs.State.{IsLive};
 
@@ -8,6 +8,7 @@ use crate::mdcache::MdCache;
 use inode_table::Dirs;
 use mds_types::{Frag, Ino};
 use objstore::Store;
+use std::alloc::{AllocError, Global};
 
 impl<S: Store + Drop> MdCache<S> {
     /// Whether there is such a directory, and it has this leaf. Takes no memory.
@@ -23,6 +24,25 @@ impl<S: Store + Drop> MdCache<S> {
     {
         self.dirs.pick(dir, 0)
     }
+
+    /// The leaves of a directory by value. Takes memory for them, and is refused for want of it alone.
+    pub fn leaves(&self, alloc: Global, dir: Ino) -> Result<Vec<Frag>, AllocError>
+        ensures listed { IfOk result (λ list. list.items ≡ leaves_of self.now.state.covers dir.0) }
+        ensures cover { IfOk result (λ list. IsTree list.items) }
+    {
+        leaves_in(alloc, &self.dirs, dir)
+    }
+}
+
+// The leaves of a directory by value.
+fn leaves_in(alloc: Global, dirs: &Dirs, dir: Ino) -> Result<Vec<Frag>, AllocError>
+    ensures listed { IfOk result (λ list. list.items ≡ leaves_of dirs.now.trees dir.0) }
+    ensures cover { IfOk result (λ list. IsTree list.items) }
+{
+    let tree = dirs.tree(alloc, dir)?;
+    // of a tree that is asked for its length its leaves are known to cover every hash
+    let _ = tree.len();
+    tree.leaves(alloc)
 }
 
 /// Whether a directory is in the table and has this leaf. Takes no memory.

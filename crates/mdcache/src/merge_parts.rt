@@ -15,6 +15,8 @@ ghost use Rattle.inode_table.specs.Dirs.{leaves_of};
 ghost use Rattle.namespace_ops.specs.Changes.{in_directory};
 ghost use Rattle.mdcache.specs.Going.{leaves_in, texts_in};
 ghost use Rattle.mdcache.specs.Joining.{HasJoined, name_joined};
+ghost use Rattle.rank_caches.specs.Caches.{all_of, cache_of};
+ghost use Rattle.mdcache.specs.Ranks.{AreRanks, KeepsCaches, MayHold};
 ghost use Rattle.mdcache.specs.Ready.{KeepsAtMost, Readies};
 ghost use Rattle.mdcache.specs.Reads.{FixesAllBut, MayNotRead, Reads};
 ghost use Rattle.mdcache.specs.Regroups.{KeepsNoMore};
@@ -26,13 +28,15 @@ use crate::fetching::{fetch_leaf, release};
 use crate::going::{GoingLeaf, part_of};
 use crate::merging::Merge;
 use crate::regrouping::object_name;
+use crate::regroups_at::join_names_at;
 use cached_frag::CachedFrag;
 use dentry_cache::Cache;
 use fragtree::FragTree;
 use inode_table::Dirs;
-use mds_types::{Frag, Ino, Refusal};
+use mds_types::{Frag, Ino, Rank, Refusal};
 use objstore::Store;
 use purge_list::PurgeList;
+use rank_caches::RankCaches;
 use std::alloc::{AllocError, Global};
 
 /// Prepares a merge of leaves that can be merged: what leaves the directory has then, the names of objects, the fragment
@@ -43,18 +47,22 @@ use std::alloc::{AllocError, Global};
 pub(crate) fn prepare_merge<S: Store>(
     alloc: Global,
     dirs: &mut Dirs,
-    cache: &mut Cache,
+    caches: &mut RankCaches,
     store: &mut S,
     purge: &mut PurgeList,
+    rank: Rank,
     dir: Ino,
     frag: Frag,
     generation: u64,
     version: u64,
 ) -> Result<Merge, Refusal>
+    requires holds { (q : Leaf) → Contains (each (in_directory dir.0) (leaves_inside frag (leaves_of dirs.old.trees dir.0))) q → MayHold caches.old rank q }
+    requires merged { MayHold caches.old rank (dir, frag) }
+    requires ranks { AreRanks caches.old }
     requires can { CanMerge (leaves_of dirs.old.trees dir.0) frag }
-    requires tied { AreTied cache.old.entries (S.objects store.old) }
-    requires saved { (q : Leaf) → Contains (each (in_directory dir.0) (leaves_inside frag (leaves_of dirs.old.trees dir.0))) q → map.get (unsaved cache.old.entries) q ≡ None → IsSaved q.1 (object_of (S.objects store.old) q.0 q.1) }
-    requires absent { cached cache.old.entries (dir, frag) ≡ None }
+    requires tied { AreTied (all_of caches.old).entries (S.objects store.old) }
+    requires saved { (q : Leaf) → Contains (each (in_directory dir.0) (leaves_inside frag (leaves_of dirs.old.trees dir.0))) q → map.get (unsaved (all_of caches.old).entries) q ≡ None → IsSaved q.1 (object_of (S.objects store.old) q.0 q.1) }
+    requires absent { cached (all_of caches.old).entries (dir, frag) ≡ None }
     ensures leaves { IfOk result (λ merge. leaves_in dir merge.leaves.items ≡ each (in_directory dir.0) (leaves_inside frag (leaves_of dirs.old.trees dir.0))) }
     ensures texts { IfOk result (λ merge. texts_in merge.leaves.items ≡ each text_of (each (in_directory dir.0) (leaves_inside frag (leaves_of dirs.old.trees dir.0)))) }
     ensures merged { IfOk result (λ merge. IsMerge (leaves_of dirs.old.trees dir.0) merge.cover frag) }
@@ -62,27 +70,28 @@ pub(crate) fn prepare_merge<S: Store>(
     ensures object { IfOk result (λ merge. string_bytes merge.object ≡ text_of (dir, frag)) }
     ensures fresh { IfOk result (λ merge. merge.joined.base ≡ Fresh) }
     ensures numbered { IfOk result (λ merge. merge.joined.generation ≡ generation) }
-    ensures dirty { IfOk result (λ merge. (name : List ℕ) → map.get merge.joined.dirty name ≡ name_joined (names_of (unsaved cache.old.entries) (S.objects store.old)) version (each (in_directory dir.0) (leaves_inside frag (leaves_of dirs.old.trees dir.0))) name None) }
-    ensures place { OnOk result (is_kept (lookup (leaf_is (dir, frag)) cache.new.entries) ≡ true) }
+    ensures dirty { IfOk result (λ merge. (name : List ℕ) → map.get merge.joined.dirty name ≡ name_joined (names_of (unsaved (all_of caches.old).entries) (S.objects store.old)) version (each (in_directory dir.0) (leaves_inside frag (leaves_of dirs.old.trees dir.0))) name None) }
+    ensures place { OnOk result (is_kept (lookup (leaf_is (dir, frag)) (cache_of caches.new rank).entries) ≡ true) }
     ensures row { OnOk result (0 < dirs.new.tree_room) }
     ensures list { IfOk result (λ merge. length merge.leaves.items ≤ purge.new.room) }
     ensures homes { dirs.new.homes ≡ dirs.old.homes }
     ensures trees { dirs.new.trees ≡ dirs.old.trees }
     ensures names { purge.new.names ≡ purge.old.names }
-    ensures left { Readies (Contains (each (in_directory dir.0) (leaves_inside frag (leaves_of dirs.old.trees dir.0)))) (S.objects store.old) cache.old cache.new }
-    ensures none { OnErr result (KeepsNoMore cache.old cache.new) }
-    ensures most { KeepsAtMost (dir, frag) cache.old cache.new }
-    ensures cap { cache.new.cap ≡ cache.old.cap }
-    ensures refused { IfErr result (MayNotRead (S.faults store.old) (S.faults store.new) cache.old) }
+    ensures left { Readies (Contains (each (in_directory dir.0) (leaves_inside frag (leaves_of dirs.old.trees dir.0)))) (S.objects store.old) (all_of caches.old) (all_of caches.new) }
+    ensures none { OnErr result (KeepsNoMore (all_of caches.old) (all_of caches.new)) }
+    ensures most { KeepsAtMost (dir, frag) (all_of caches.old) (all_of caches.new) }
+    ensures caches { KeepsCaches (λ other q. (other ≡ rank) × (Contains (each (in_directory dir.0) (leaves_inside frag (leaves_of dirs.old.trees dir.0))) q ⊎ ((dir, frag) ≡ q))) caches.old caches.new }
+    ensures refused { IfErr result (MayNotRead (S.faults store.old) (S.faults store.new) (cache_of caches.old rank)) }
     ensures same { S.objects store.new ≡ S.objects store.old }
     ensures grows { S.faults store.old ≤ S.faults store.new }
 {
     match plan_merge(alloc, dirs, purge, dir, frag) {
         Err(refusal) => Err(refusal),
-        Ok(plan) => match join_names(
+        Ok(plan) => match join_names_at(
             alloc,
-            cache,
+            caches,
             store,
+            rank,
             dir,
             frag,
             &plan.leaves,
@@ -209,9 +218,9 @@ fn is_inside(frag: Frag, leaf: Frag) -> bool
     frag.contains_frag(leaf)
 }
 
-// The fragment that has the names of all these leaves, and a place that is kept for it. The leaves are fetched one after
-// the other.
-fn join_names<S: Store>(
+/// The fragment that has the names of all these leaves, and a place that is kept for it. The leaves are fetched one after
+/// the other.
+pub(crate) fn join_names<S: Store>(
     alloc: Global,
     cache: &mut Cache,
     store: &mut S,

@@ -14,7 +14,7 @@ use std::marker::Model;
 
 /// The first names of those that were taken in, in order, at most a page, and whether there were more.
 #[derive(Drop)]
-pub(crate) struct Page {
+pub struct Page {
     rows: Vec<(Name, Inode)>,
     more: bool,
     max: PageSize,
@@ -35,7 +35,7 @@ impl Model for Page {
 
 impl Page {
     /// A page without names. Takes no memory.
-    pub(crate) fn new(alloc: Global, max: PageSize) -> Page
+    pub fn new(alloc: Global, max: PageSize) -> Page
         ensures page { IsPageOf [] result }
         ensures most { result.most ≡ max }
     {
@@ -47,7 +47,7 @@ impl Page {
     }
 
     /// The names, and whether there were more. Takes no memory.
-    pub(crate) fn into_listing(self) -> (Listing, bool)
+    pub fn into_listing(self) -> (Listing, bool)
         ensures rows { result.0 ≡ self.rows }
         ensures more { result.1 ≡ self.more }
     {

@@ -7,10 +7,12 @@ ghost use Rattle.dirfrag_codec.specs.EntryRecord.{HasTarget, IsRankNumber};
 ghost use Rattle.namespace_ops.specs.Changes.{IsNumbered, MayChange};
 ghost use Rattle.namespace_ops.specs.declared.plans.Change.TheVariants.{Add, Move, Remove, Set};
 ghost use Rattle.mdcache.specs.Frags.{IsReady, KeepsState, LacksToMake};
+ghost use Rattle.mdcache.specs.Ranks.{KeepsCaches, MayComeFor, MayHoldEach};
 ghost use Rattle.mdcache.specs.Reads.{LacksPlaces};
 ghost use Rattle.mdcache.specs.Ready.{MayNotBeReady};
 ghost use Rattle.mdcache.specs.Shown.{shown_tree};
 
+use crate::holders::Holders;
 use crate::mdcache::MdCache;
 use crate::prepared::Prepared;
 use mds_types::{Dentry, Frag, Ino, Inode, Kind, Refusal};
@@ -19,17 +21,24 @@ use objstore::Store;
 use std::alloc::Global;
 
 impl<S: Store + Drop> MdCache<S> {
-    /// Makes a change ready that may be made: its leaves are cached and have room, and what else it takes is kept until it is
-    /// made, or until another is made ready. A new inode has a number of a rank. Takes memory for all this.
+    /// Makes a change ready that may be made: its leaves are cached, each at its holder, and have room, and what else it takes is
+    /// kept until it is made, or until another is made ready. A new inode has a number of a rank. Takes memory for all this.
     ///
     /// Refused `NoInodes` exactly where versions lack for the names that change, or a generation for the leaf of a new
-    /// directory; otherwise `NothingToEvict` where fewer than four places of the cache are free or can become so,
+    /// directory; otherwise `NothingToEvict` where fewer than four places of a holder are free or can become so,
     /// `StoreFault`, and `NoMemory`.
-    pub fn prepare(&mut self, alloc: Global, change: &Change) -> Result<(), Refusal>
+    pub fn prepare(
+        &mut self,
+        alloc: Global,
+        at: Holders,
+        change: &Change,
+    ) -> Result<(), Refusal>
+        requires holds { MayHoldEach self.old.ranks at change.now }
         requires may { MayChange (shown_tree self.old.state) self.old.state.covers change.now }
         requires numbered { IsNumbered IsRankNumber change.now }
-        ensures ready { OnOk result (IsReady self.new change.now) }
+        ensures ready { OnOk result (IsReady self.new at change.now) }
         ensures kept { KeepsState self.old self.new }
+        ensures caches { KeepsCaches (MayComeFor at change.now) self.old.ranks self.new.ranks }
         ensures refused { IfErr result (MayNotBeReady (LacksToMake change.now self.old.state) (LacksPlaces 4 self.old) self.old.faults self.new.faults) }
     {
         match change {
@@ -37,14 +46,14 @@ impl<S: Store + Drop> MdCache<S> {
                 dentry,
                 leaf,
                 inode,
-            } => self.prepare_new(alloc, dentry, *leaf, inode),
+            } => self.prepare_new(alloc, at, dentry, *leaf, inode),
             Change::Set {
                 dentry,
                 leaf,
                 inode,
-            } => self.prepare_set(alloc, dentry, *leaf, inode),
+            } => self.prepare_set(alloc, at, dentry, *leaf, inode),
             Change::Remove { dentry, leaf, gone } => {
-                self.prepare_removal(alloc, dentry, *leaf, *gone)
+                self.prepare_removal(alloc, at, dentry, *leaf, *gone)
             }
             Change::Move {
                 from,
@@ -52,7 +61,7 @@ impl<S: Store + Drop> MdCache<S> {
                 to,
                 target,
                 gone,
-            } => self.prepare_move(alloc, from, *source, to, *target, *gone),
+            } => self.prepare_move(alloc, at, from, *source, to, *target, *gone),
         }
     }
 
@@ -60,60 +69,69 @@ impl<S: Store + Drop> MdCache<S> {
     fn prepare_new(
         &mut self,
         alloc: Global,
+        at: Holders,
         dentry: &Dentry,
         leaf: Frag,
         inode: &Inode,
     ) -> Result<(), Refusal>
+        requires holds { MayHoldEach self.old.ranks at (Add dentry.now leaf inode.now) }
         requires may { MayChange (shown_tree self.old.state) self.old.state.covers (Add dentry.now leaf inode.now) }
         requires number { IsRankNumber inode.now.ino.0 }
-        ensures ready { OnOk result (IsReady self.new (Add dentry.now leaf inode.now)) }
+        ensures ready { OnOk result (IsReady self.new at (Add dentry.now leaf inode.now)) }
         ensures kept { KeepsState self.old self.new }
+        ensures caches { KeepsCaches (MayComeFor at (Add dentry.now leaf inode.now)) self.old.ranks self.new.ranks }
         ensures refused { IfErr result (MayNotBeReady (LacksToMake (Add dentry.now leaf inode.now) self.old.state) (LacksPlaces 4 self.old) self.old.faults self.new.faults) }
     {
         has_parts(inode);
         if inode.kind.is_dir() {
-            match self.ready_directory(alloc, dentry, leaf, inode.ino) {
+            match self.ready_directory(alloc, at.first, dentry, leaf, inode.ino) {
                 Ok(made) => self.keep_prepared(Prepared::Directory(made)),
                 Err(refusal) => return Err(refusal),
             }
             return Ok(());
         }
-        self.ready_put(alloc, dentry, leaf)
+        self.ready_put(alloc, at.first, dentry, leaf)
     }
 
     // Makes ready that an inode gets other attributes.
     fn prepare_set(
         &mut self,
         alloc: Global,
+        at: Holders,
         dentry: &Dentry,
         leaf: Frag,
         inode: &Inode,
     ) -> Result<(), Refusal>
+        requires holds { MayHoldEach self.old.ranks at (Set dentry.now leaf inode.now) }
         requires may { MayChange (shown_tree self.old.state) self.old.state.covers (Set dentry.now leaf inode.now) }
-        ensures ready { OnOk result (IsReady self.new (Set dentry.now leaf inode.now)) }
+        ensures ready { OnOk result (IsReady self.new at (Set dentry.now leaf inode.now)) }
         ensures kept { KeepsState self.old self.new }
+        ensures caches { KeepsCaches (MayComeFor at (Set dentry.now leaf inode.now)) self.old.ranks self.new.ranks }
         ensures refused { IfErr result (MayNotBeReady (LacksToMake (Set dentry.now leaf inode.now) self.old.state) (LacksPlaces 4 self.old) self.old.faults self.new.faults) }
     {
         has_parts(inode);
         self.has_parent(dentry);
-        self.ready_set(alloc, dentry, leaf)
+        self.ready_set(alloc, at.first, dentry, leaf)
     }
 
     // Makes ready that the entry at a dentry goes.
     fn prepare_removal(
         &mut self,
         alloc: Global,
+        at: Holders,
         dentry: &Dentry,
         leaf: Frag,
         gone: Option<Ino>,
     ) -> Result<(), Refusal>
+        requires holds { MayHoldEach self.old.ranks at (Remove dentry.now leaf gone) }
         requires may { MayChange (shown_tree self.old.state) self.old.state.covers (Remove dentry.now leaf gone) }
-        ensures ready { OnOk result (IsReady self.new (Remove dentry.now leaf gone)) }
+        ensures ready { OnOk result (IsReady self.new at (Remove dentry.now leaf gone)) }
         ensures kept { KeepsState self.old self.new }
+        ensures caches { KeepsCaches (MayComeFor at (Remove dentry.now leaf gone)) self.old.ranks self.new.ranks }
         ensures refused { IfErr result (MayNotBeReady (LacksToMake (Remove dentry.now leaf gone) self.old.state) (LacksPlaces 4 self.old) self.old.faults self.new.faults) }
     {
         self.has_parent(dentry);
-        match self.ready_removal(alloc, dentry, leaf, gone) {
+        match self.ready_removal(alloc, at.first, dentry, leaf, gone) {
             Ok(going) => self.keep_prepared(Prepared::Removal(going)),
             Err(refusal) => return Err(refusal),
         }
@@ -124,19 +142,22 @@ impl<S: Store + Drop> MdCache<S> {
     fn prepare_move(
         &mut self,
         alloc: Global,
+        at: Holders,
         from: &Dentry,
         source: Frag,
         to: &Dentry,
         target: Frag,
         gone: Option<Ino>,
     ) -> Result<(), Refusal>
+        requires holds { MayHoldEach self.old.ranks at (Move from.now source to.now target gone) }
         requires may { MayChange (shown_tree self.old.state) self.old.state.covers (Move from.now source to.now target gone) }
-        ensures ready { OnOk result (IsReady self.new (Move from.now source to.now target gone)) }
+        ensures ready { OnOk result (IsReady self.new at (Move from.now source to.now target gone)) }
         ensures kept { KeepsState self.old self.new }
+        ensures caches { KeepsCaches (MayComeFor at (Move from.now source to.now target gone)) self.old.ranks self.new.ranks }
         ensures refused { IfErr result (MayNotBeReady (LacksToMake (Move from.now source to.now target gone) self.old.state) (LacksPlaces 4 self.old) self.old.faults self.new.faults) }
     {
         self.has_parent(from);
-        match self.ready_move(alloc, from, source, to, target, gone) {
+        match self.ready_move(alloc, at, from, source, to, target, gone) {
             Ok(moving) => self.keep_prepared(Prepared::Move(moving)),
             Err(refusal) => return Err(refusal),
         }

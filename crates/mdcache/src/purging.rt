@@ -15,6 +15,7 @@ impl<S: Store + Drop> MdCache<S> {
     /// Refused as the store refuses; the name stays on the list then.
     pub fn purge(&mut self) -> Result<(), Refusal>
         ensures purged { Purges self.old.state self.new.state self.old.faults self.new.faults result }
+        ensures ranks { self.new.ranks ≡ self.old.ranks }
         ensures cap { self.new.cache.cap ≡ self.old.cache.cap }
         ensures grows { self.old.faults ≤ self.new.faults }
     {

@@ -1,5 +1,5 @@
 //! What a rename needs is made ready: room in its two leaves, the inode that moves, and what is replaced.
-ghost use Rattle.std.specs.Prelude.{◌≡◌, ◌-◌, ◌<◌, ◌≤◌, ◌^◌, true, is_some, Some, OnOk, IfOk, IfErr};
+ghost use Rattle.std.specs.Prelude.{◌≡◌, ◌⊎◌, ◌-◌, ◌<◌, ◌≤◌, ◌^◌, true, is_some, Some, OnOk, IfOk, IfErr};
 ghost use Rattle.std.specs.FinMap as map;
 ghost use Rattle.mds_types.specs.Tree.{is_directory};
 ghost use Rattle.mds_types.specs.declared.refusals.Refusal.TheVariants.{NoInodes, NoMemory};
@@ -9,18 +9,21 @@ ghost use Rattle.inode_table.specs.Dirs.{leaves_of};
 ghost use Rattle.dirfrag_codec.specs.EntryRecord.{IsRecordable};
 ghost use Rattle.cached_frag.specs.Cached.{Cached, shown};
 ghost use Rattle.dentry_cache.specs.Cache.{HasCached, HasRoom, cached};
-ghost use Rattle.mdcache.specs.Frags.{IsTakenAlong, dir_moving};
+ghost use Rattle.rank_caches.specs.Caches.{cache_of};
+ghost use Rattle.mdcache.specs.Frags.{IsTakenAlong, KeepsState, dir_moving};
 ghost use Rattle.mdcache.specs.Going.{IsGoingOrNone, count_going, dir_going};
 ghost use Rattle.namespace_ops.specs.Changes.{directory_at};
+ghost use Rattle.mdcache.specs.Ranks.{IsThat, KeepsCaches, MayHold};
 ghost use Rattle.mdcache.specs.Ready.{LacksNumbers, MayNotBeReady};
-ghost use Rattle.mdcache.specs.Reads.{LacksPlaces};
+ghost use Rattle.mdcache.specs.Reads.{LacksPlacesAt};
 ghost use Rattle.mdcache.specs.Shown.{shown_tree};
 
 use crate::going::Going;
-use crate::kept_places::give_up;
+use crate::holders::Holders;
 use crate::mdcache::MdCache;
 use crate::prepared::Prepared;
-use crate::ready_pairs::ready_pair;
+use crate::readies_at::ready_pair_at;
+use crate::reads_at::{all_unsaved, give_up_at};
 use crate::ready_removal::ready_going;
 use dentry_cache::Cache;
 use mds_types::{Dentry, Frag, Ino, Inode, Name, Refusal};
@@ -50,12 +53,15 @@ impl<S: Store + Drop> MdCache<S> {
     pub fn ready_move(
         &mut self,
         alloc: Global,
+        at: Holders,
         from: &Dentry,
         source: Frag,
         to: &Dentry,
         target: Frag,
         went: Option<Ino>,
     ) -> Result<MovingEntry, Refusal>
+        requires source_holds { MayHold self.old.ranks at.first (from.now.dir, source) }
+        requires target_holds { MayHold self.old.ranks at.second (to.now.dir, target) }
         requires from_known { is_directory (shown_tree self.old.state) from.now.dir.0 ≡ true }
         requires from_leaf { IsPick (leaves_of self.old.state.covers from.now.dir.0) (hash_of from.now.name) source }
         requires stands { is_some (map.get (shown_tree self.old.state) from.now) ≡ true }
@@ -66,24 +72,25 @@ impl<S: Store + Drop> MdCache<S> {
         ensures name { IfOk result (λ moving. moving.name ≡ to.now.name) }
         ensures going { IfOk result (λ moving. (dir_going moving.going ≡ went) × IsGoingOrNone self.old.state.covers moving.going) }
         ensures purge { IfOk result (λ moving. count_going moving.going ≤ self.new.purge_left) }
-        ensures source { OnOk result (HasCached (cached self.new.cache.entries (from.now.dir, source)) (λ (f : Cached). 1 < f.room)) }
-        ensures target { OnOk result (HasRoom (cached self.new.cache.entries (to.now.dir, target))) }
+        ensures source { OnOk result (HasCached (cached (cache_of self.new.ranks at.first).entries (from.now.dir, source)) (λ (f : Cached). 1 < f.room)) }
+        ensures target { OnOk result (HasRoom (cached (cache_of self.new.ranks at.second).entries (to.now.dir, target))) }
         ensures number { OnOk result (self.new.state.next_version < 2 ^ 64 - 2) }
-        ensures same { self.new.state ≡ self.old.state }
-        ensures cap { self.new.cache.cap ≡ self.old.cache.cap }
-        ensures refused { IfErr result (MayNotBeReady (LacksNumbers 2 self.old.state.next_version) (LacksPlaces 2 self.old) self.old.faults self.new.faults) }
-        ensures grows { self.old.faults ≤ self.new.faults }
+        ensures kept { KeepsState self.old self.new }
+        ensures caches { KeepsCaches (λ other q. IsThat at.first (from.now.dir, source) other q ⊎ IsThat at.second (to.now.dir, target) other q) self.old.ranks self.new.ranks }
+        ensures refused { IfErr result (MayNotBeReady (LacksNumbers 2 self.old.state.next_version) (LacksPlacesAt 2 self.old at.first ⊎ LacksPlacesAt 2 self.old at.second) self.old.faults self.new.faults) }
     {
         if let Err(refusal) = check_two_left(self.next.version) {
             return Err(refusal);
         }
         let name = to.name.try_clone()?;
         let going = ready_going(alloc, &self.dirs, &mut self.purge, went)?;
-        give_up(&mut self.cache, &mut self.kept);
-        if let Err(refusal) = ready_pair(
+        give_up_at(&mut self.caches, &mut self.kept, at.first);
+        all_unsaved(&self.caches, at.second);
+        if let Err(refusal) = ready_pair_at(
             alloc,
-            &mut self.cache,
+            &mut self.caches,
             &mut self.store,
+            at,
             from.dir,
             source,
             to.dir,
@@ -91,7 +98,7 @@ impl<S: Store + Drop> MdCache<S> {
         ) {
             return Err(refusal);
         }
-        let inode = inode_at(&self.cache, from.dir, source, &from.name)?;
+        let inode = inode_at(self.caches.of(at.first), from.dir, source, &from.name)?;
         Ok(MovingEntry { inode, name, going })
     }
 

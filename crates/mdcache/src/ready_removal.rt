@@ -7,24 +7,27 @@ ghost use Rattle.namehash.specs.Rjenkins.{hash_of};
 ghost use Rattle.inode_table.specs.Dirs.{leaves_of};
 ghost use Rattle.dentry_cache.specs.Cache.{HasRoom, cached};
 ghost use Rattle.mdcache.specs.Going.{IsGoing, IsGoingOrNone, count_going, dir_going};
+ghost use Rattle.rank_caches.specs.Caches.{cache_of};
+ghost use Rattle.mdcache.specs.Frags.{KeepsState};
+ghost use Rattle.mdcache.specs.Ranks.{IsThat, KeepsCaches, MayHold};
 ghost use Rattle.mdcache.specs.Ready.{LacksNumbers, MayNotBeReady};
-ghost use Rattle.mdcache.specs.Reads.{LacksPlaces};
+ghost use Rattle.mdcache.specs.Reads.{LacksPlacesAt};
 ghost use Rattle.mdcache.specs.Shown.{shown_tree};
 
 use crate::going::{Going, going_of};
-use crate::kept_places::give_up;
 use crate::mdcache::MdCache;
 use crate::ready::check_left;
-use crate::ready_leaves::ready_leaf;
+use crate::readies_at::ready_at;
+use crate::reads_at::give_up_at;
 use inode_table::Dirs;
-use mds_types::{Dentry, Frag, Ino, Refusal};
+use mds_types::{Dentry, Frag, Ino, Rank, Refusal};
 use objstore::Store;
 use purge_list::PurgeList;
 use std::alloc::{AllocError, Global};
 
 impl<S: Store + Drop> MdCache<S> {
-    /// Makes ready that the entry at a dentry goes. `leaf` is the one that the dentry belongs to; it is fetched, where it
-    /// isn't cached, and has room for a change then. `went` is the number of the entry, if it is a directory: the names of
+    /// Makes ready that the entry at a dentry goes. `leaf` is the one that the dentry belongs to; it is fetched into the cache of
+    /// the rank that holds it, where it isn't cached, and has room for a change then. `went` is the number of the entry, if it is a directory: the names of
     /// that one's objects are given, and the purge list has room for them. Takes memory for a leaf that is read, for the
     /// room and for the names.
     ///
@@ -33,30 +36,32 @@ impl<S: Store + Drop> MdCache<S> {
     pub fn ready_removal(
         &mut self,
         alloc: Global,
+        rank: Rank,
         dentry: &Dentry,
         leaf: Frag,
         went: Option<Ino>,
     ) -> Result<Option<Going>, Refusal>
+        requires holds { MayHold self.old.ranks rank (dentry.now.dir, leaf) }
         requires known { is_directory (shown_tree self.old.state) dentry.now.dir.0 ≡ true }
         requires leaf { IsPick (leaves_of self.old.state.covers dentry.now.dir.0) (hash_of dentry.now.name) leaf }
         ensures going { IfOk result (λ going. (dir_going going ≡ went) × IsGoingOrNone self.old.state.covers going) }
         ensures purge { IfOk result (λ going. count_going going ≤ self.new.purge_left) }
-        ensures room { OnOk result (HasRoom (cached self.new.cache.entries (dentry.now.dir, leaf))) }
+        ensures room { OnOk result (HasRoom (cached (cache_of self.new.ranks rank).entries (dentry.now.dir, leaf))) }
         ensures number { OnOk result (self.new.state.next_version < 2 ^ 64 - 1) }
-        ensures same { self.new.state ≡ self.old.state }
-        ensures cap { self.new.cache.cap ≡ self.old.cache.cap }
-        ensures refused { IfErr result (MayNotBeReady (LacksNumbers 1 self.old.state.next_version) (LacksPlaces 1 self.old) self.old.faults self.new.faults) }
-        ensures grows { self.old.faults ≤ self.new.faults }
+        ensures kept { KeepsState self.old self.new }
+        ensures caches { KeepsCaches (IsThat rank (dentry.now.dir, leaf)) self.old.ranks self.new.ranks }
+        ensures refused { IfErr result (MayNotBeReady (LacksNumbers 1 self.old.state.next_version) (LacksPlacesAt 1 self.old rank) self.old.faults self.new.faults) }
     {
         if let Err(refusal) = check_left(self.next.version) {
             return Err(refusal);
         }
         let going = ready_going(alloc, &self.dirs, &mut self.purge, went)?;
-        give_up(&mut self.cache, &mut self.kept);
-        if let Err(refusal) = ready_leaf(
+        give_up_at(&mut self.caches, &mut self.kept, rank);
+        if let Err(refusal) = ready_at(
             alloc,
-            &mut self.cache,
+            &mut self.caches,
             &mut self.store,
+            rank,
             dentry.dir,
             leaf,
             1,

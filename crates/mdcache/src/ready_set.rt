@@ -8,48 +8,58 @@ ghost use Rattle.inode_table.specs.Dirs.{leaves_of};
 ghost use Rattle.dirfrag_codec.specs.EntryRecord.{IsRecordable};
 ghost use Rattle.cached_frag.specs.Cached.{Cached, shown};
 ghost use Rattle.dentry_cache.specs.Cache.{HasCached, HasRoom, IsThere, cached};
+ghost use Rattle.rank_caches.specs.Caches.{cache_of};
+ghost use Rattle.mdcache.specs.Frags.{KeepsState};
+ghost use Rattle.mdcache.specs.Ranks.{IsThat, KeepsCaches, MayHold};
 ghost use Rattle.mdcache.specs.Ready.{LacksNumbers, MayNotBeReady};
-ghost use Rattle.mdcache.specs.Reads.{LacksPlaces};
+ghost use Rattle.mdcache.specs.Reads.{LacksPlacesAt};
 ghost use Rattle.mdcache.specs.Shown.{shown_tree};
 
-use crate::kept_places::give_up;
 use crate::mdcache::MdCache;
 use crate::ready::check_left;
-use crate::ready_leaves::ready_leaf;
+use crate::readies_at::ready_at;
+use crate::reads_at::give_up_at;
 use dentry_cache::Cache;
-use mds_types::{Dentry, Frag, Ino, Name, Refusal};
+use mds_types::{Dentry, Frag, Ino, Name, Rank, Refusal};
 use objstore::Store;
 use std::alloc::Global;
 
 impl<S: Store + Drop> MdCache<S> {
     /// Makes ready that the inode at a dentry gets other attributes, as `ready_put` does, and tells that a record allows the
     /// one that stands there, so that it allows its number and kind with other attributes too.
-    pub fn ready_set(&mut self, alloc: Global, dentry: &Dentry, leaf: Frag) -> Result<(), Refusal>
+    pub fn ready_set(
+        &mut self,
+        alloc: Global,
+        rank: Rank,
+        dentry: &Dentry,
+        leaf: Frag,
+    ) -> Result<(), Refusal>
+        requires holds { MayHold self.old.ranks rank (dentry.now.dir, leaf) }
         requires known { is_directory (shown_tree self.old.state) dentry.now.dir.0 ≡ true }
         requires leaf { IsPick (leaves_of self.old.state.covers dentry.now.dir.0) (hash_of dentry.now.name) leaf }
         ensures recorded { OnOk result (IfSome (map.get (shown_tree self.old.state) dentry.now) IsRecordable) }
-        ensures room { OnOk result (HasRoom (cached self.new.cache.entries (dentry.now.dir, leaf))) }
+        ensures room { OnOk result (HasRoom (cached (cache_of self.new.ranks rank).entries (dentry.now.dir, leaf))) }
         ensures number { OnOk result (self.new.state.next_version < 2 ^ 64 - 1) }
-        ensures same { self.new.state ≡ self.old.state }
-        ensures cap { self.new.cache.cap ≡ self.old.cache.cap }
-        ensures refused { IfErr result (MayNotBeReady (LacksNumbers 1 self.old.state.next_version) (LacksPlaces 1 self.old) self.old.faults self.new.faults) }
-        ensures grows { self.old.faults ≤ self.new.faults }
+        ensures kept { KeepsState self.old self.new }
+        ensures caches { KeepsCaches (IsThat rank (dentry.now.dir, leaf)) self.old.ranks self.new.ranks }
+        ensures refused { IfErr result (MayNotBeReady (LacksNumbers 1 self.old.state.next_version) (LacksPlacesAt 1 self.old rank) self.old.faults self.new.faults) }
     {
         if let Err(refusal) = check_left(self.next.version) {
             return Err(refusal);
         }
-        give_up(&mut self.cache, &mut self.kept);
-        if let Err(refusal) = ready_leaf(
+        give_up_at(&mut self.caches, &mut self.kept, rank);
+        if let Err(refusal) = ready_at(
             alloc,
-            &mut self.cache,
+            &mut self.caches,
             &mut self.store,
+            rank,
             dentry.dir,
             leaf,
             1,
         ) {
             return Err(refusal);
         }
-        is_recorded(&self.cache, dentry.dir, leaf, &dentry.name);
+        is_recorded(self.caches.of(rank), dentry.dir, leaf, &dentry.name);
         Ok(())
     }
 }

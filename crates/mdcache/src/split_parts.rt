@@ -10,22 +10,26 @@ ghost use Rattle.dentry_cache.specs.Cache.{HasCached, Leaf, cached, is_kept, lea
 ghost use Rattle.dentry_cache.specs.Divided.{AreNumbered, AreReady};
 ghost use Rattle.dentry_cache.specs.Loading.{object_of};
 ghost use Rattle.inode_table.specs.Dirs.{leaves_of};
+ghost use Rattle.rank_caches.specs.Caches.{all_of, cache_of};
+ghost use Rattle.mdcache.specs.Ranks.{AreRanks, KeepsCaches, MayHold};
 ghost use Rattle.mdcache.specs.Ready.{Readies};
 ghost use Rattle.mdcache.specs.Reads.{FixesAllBut, MayNotFind};
-ghost use Rattle.mdcache.specs.Regroups.{KeepsButChildren, KeepsNoMore, Releases};
+ghost use Rattle.mdcache.specs.Regroups.{IsFamily, KeepsButChildren, KeepsNoMore, Releases};
 ghost use Rattle.mdcache.specs.Sound.{IsSaved};
 ghost use Rattle.mdcache.specs.Splits.{NameChildren};
 ghost use Rattle.mdcache.specs.State.{text_of};
 
 use crate::fetching::release;
 use crate::regrouping::{child_count, object_name};
+use crate::regroups_at::ready_children_at;
 use crate::splitting::Split;
 use dentry_cache::{Cache, Parts};
 use fragtree::FragTree;
 use inode_table::Dirs;
-use mds_types::{Frag, Ino, Refusal};
+use mds_types::{Frag, Ino, Rank, Refusal};
 use objstore::Store;
 use purge_list::PurgeList;
+use rank_caches::RankCaches;
 use std::alloc::{AllocError, Global};
 
 /// Prepares a split of a leaf that can be split: what leaves the directory has then, the names of objects, the children
@@ -36,35 +40,39 @@ use std::alloc::{AllocError, Global};
 pub(crate) fn prepare_split<S: Store>(
     alloc: Global,
     dirs: &mut Dirs,
-    cache: &mut Cache,
+    caches: &mut RankCaches,
     store: &mut S,
     purge: &mut PurgeList,
+    rank: Rank,
     dir: Ino,
     frag: Frag,
     nb: u8,
     generation: u64,
 ) -> Result<Split, Refusal>
+    requires holds { MayHold caches.old rank (dir, frag) }
+    requires children { (i : ℕ) → i < 2 ^ nb → MayHold caches.old rank (dir, child_of frag i nb) }
+    requires ranks { AreRanks caches.old }
     requires can { CanSplit (leaves_of dirs.old.trees dir.0) frag nb }
     requires numbers { generation + 2 ^ nb < 2 ^ 64 }
-    requires saved { map.get (unsaved cache.old.entries) (dir, frag) ≡ None → IsSaved frag (object_of (S.objects store.old) dir frag) }
-    requires vacant { (i : ℕ) → i < 2 ^ nb → cached cache.old.entries (dir, child_of frag i nb) ≡ None }
+    requires saved { map.get (unsaved (all_of caches.old).entries) (dir, frag) ≡ None → IsSaved frag (object_of (S.objects store.old) dir frag) }
+    requires vacant { (i : ℕ) → i < 2 ^ nb → cached (all_of caches.old).entries (dir, child_of frag i nb) ≡ None }
     ensures divided { IfOk result (λ split. IsSplit (leaves_of dirs.old.trees dir.0) split.cover frag nb) }
     ensures whole { IfOk result (λ split. IsTree split.cover) }
     ensures object { IfOk result (λ split. string_bytes split.object ≡ text_of (dir, frag)) }
     ensures children { IfOk result (λ split. NameChildren dir frag nb (each string_bytes split.children.items)) }
-    ensures ready { IfOk result (λ split. HasCached (cached cache.new.entries (dir, frag)) (λ (f : Cached). (map.len f.dirty ≤ f.places) × AreReady frag nb (shown f) split.parts)) }
+    ensures ready { IfOk result (λ split. HasCached (cached (cache_of caches.new rank).entries (dir, frag)) (λ (f : Cached). (map.len f.dirty ≤ f.places) × AreReady frag nb (shown f) split.parts)) }
     ensures numbered { IfOk result (λ split. AreNumbered generation split.parts) }
-    ensures kept { OnOk result ((i : ℕ) → i < 2 ^ nb → is_kept (lookup (leaf_is (dir, child_of frag i nb)) cache.new.entries) ≡ true) }
+    ensures kept { OnOk result ((i : ℕ) → i < 2 ^ nb → is_kept (lookup (leaf_is (dir, child_of frag i nb)) (cache_of caches.new rank).entries) ≡ true) }
     ensures row { OnOk result (0 < dirs.new.tree_room) }
     ensures list { OnOk result (0 < purge.new.room) }
     ensures homes { dirs.new.homes ≡ dirs.old.homes }
     ensures trees { dirs.new.trees ≡ dirs.old.trees }
     ensures names { purge.new.names ≡ purge.old.names }
-    ensures left { Readies (λ (q : Leaf). q ≡ (dir, frag)) (S.objects store.old) cache.old cache.new }
-    ensures none { OnErr result (KeepsNoMore cache.old cache.new) }
-    ensures others { KeepsButChildren dir frag nb cache.old cache.new }
-    ensures cap { cache.new.cap ≡ cache.old.cap }
-    ensures refused { IfErr result (MayNotFind (FixesAllBut (2 ^ nb + 1) cache.old) (S.faults store.old) (S.faults store.new)) }
+    ensures left { Readies (λ (q : Leaf). q ≡ (dir, frag)) (S.objects store.old) (all_of caches.old) (all_of caches.new) }
+    ensures none { OnErr result (KeepsNoMore (all_of caches.old) (all_of caches.new)) }
+    ensures others { KeepsButChildren dir frag nb (all_of caches.old) (all_of caches.new) }
+    ensures caches { KeepsCaches (λ other q. (other ≡ rank) × IsFamily dir frag nb q) caches.old caches.new }
+    ensures refused { IfErr result (MayNotFind (FixesAllBut (2 ^ nb + 1) (cache_of caches.old rank)) (S.faults store.old) (S.faults store.new)) }
     ensures same { S.objects store.new ≡ S.objects store.old }
     ensures grows { S.faults store.old ≤ S.faults store.new }
 {
@@ -72,7 +80,7 @@ pub(crate) fn prepare_split<S: Store>(
         Ok(plan) => plan,
         Err(refusal) => return Err(refusal),
     };
-    match ready_children(alloc, cache, store, dir, frag, nb, generation) {
+    match ready_children_at(alloc, caches, store, rank, dir, frag, nb, generation) {
         Ok(parts) => Ok(Split {
             parts,
             cover: plan.cover,
@@ -169,9 +177,9 @@ fn child_names(alloc: Global, dir: Ino, frag: Frag, nb: u8) -> Result<Vec<String
     Ok(names)
 }
 
-// Fetches a leaf, makes its children ready for its names, and keeps a place for each. Places that were kept for them
-// before are given up first.
-fn ready_children<S: Store>(
+/// Fetches a leaf, makes its children ready for its names, and keeps a place for each. Places that were kept for them
+/// before are given up first.
+pub(crate) fn ready_children<S: Store>(
     alloc: Global,
     cache: &mut Cache,
     store: &mut S,

@@ -8,22 +8,26 @@ ghost use Rattle.cached_frag.specs.Cached.{Cached, shown};
 ghost use Rattle.dentry_cache.specs.Cache.{HasCached, cached, is_kept, leaf_is};
 ghost use Rattle.dentry_cache.specs.Divided.{AreReady, IsSplit};
 ghost use Rattle.inode_table.specs.Dirs.{is_known, leaves_of};
+ghost use Rattle.rank_caches.specs.Caches.{cache_of, first_of};
+ghost use Rattle.mdcache.specs.Ranks.{AreRanks, KeepsCaches, MayHold, NoneComes};
 ghost use Rattle.mdcache.specs.Reads.{has_none};
-ghost use Rattle.mdcache.specs.Regroups.{RefusesLeaves, SplitsLeaf};
+ghost use Rattle.mdcache.specs.Regroups.{IsFamily, RefusesLeaves, SplitsLeaf};
 ghost use Rattle.mdcache.specs.Splits.{without_objects};
 ghost use Rattle.mdcache.specs.Sound.{IsSound};
 
 use crate::emptiness::is_cached_empty;
-use crate::kept_places::give_up;
 use crate::mdcache::{Counters, MdCache};
+use crate::reads_at::give_up_at;
 use crate::regrouping::{check_counts, child_count, take_counts};
+use crate::regroups_at::split_at;
 use crate::split_parts::prepare_split;
-use dentry_cache::{Cache, Parts};
+use dentry_cache::Parts;
 use fragtree::FragTree;
 use inode_table::Dirs;
-use mds_types::{Frag, Ino, Refusal};
+use mds_types::{Frag, Ino, Rank, Refusal};
 use objstore::Store;
 use purge_list::PurgeList;
+use rank_caches::RankCaches;
 use standing_jobs::StandingJobs;
 use std::alloc::Global;
 
@@ -55,14 +59,23 @@ impl<S: Store + Drop> MdCache<S> {
     /// Splits a leaf of a directory by so many bits: its children stand in its place, each with those of its names that it
     /// contains. They are fragments of the next generations, for which no object counts, and their names are dirty, all at
     /// the next version. The leaf's job ends, and its object is to be removed. Takes memory for the children and their
-    /// names, and for the leaf, if it is read.
+    /// names, and for the leaf, if it is read. All this is in the cache of the rank that holds the leaf.
     ///
     /// Refused `NoSuchFrag` where there is no such leaf, `BadSplit` where it can't be split by so many bits, and
     /// `TooManyFrags` where there would be too many leaves; otherwise `NoInodes` exactly where no numbers are left, and then
     /// `NothingToEvict` where no more places of the cache are free or can become so than there would be children,
     /// `StoreFault`, and `NoMemory`.
-    pub fn split(&mut self, alloc: Global, dir: Ino, frag: Frag, nb: u8) -> Result<(), Refusal>
+    pub fn split(
+        &mut self,
+        alloc: Global,
+        rank: Rank,
+        dir: Ino,
+        frag: Frag,
+        nb: u8,
+    ) -> Result<(), Refusal>
+        requires holds { MayHold self.old.ranks rank (dir, frag) }
         ensures split { SplitsLeaf self.old self.new dir frag nb result }
+        ensures caches { KeepsCaches (λ other q. (other ≡ rank) × IsFamily dir frag nb q) self.old.ranks self.new.ranks }
         ensures cap { self.new.cache.cap ≡ self.old.cache.cap }
         ensures grows { self.old.faults ≤ self.new.faults }
     {
@@ -76,13 +89,14 @@ impl<S: Store + Drop> MdCache<S> {
         ) {
             return Err(refusal);
         }
-        give_up(&mut self.cache, &mut self.kept);
+        give_up_at(&mut self.caches, &mut self.kept, rank);
         match prepare_split(
             alloc,
             &mut self.dirs,
-            &mut self.cache,
+            &mut self.caches,
             &mut self.store,
             &mut self.purge,
+            rank,
             dir,
             frag,
             nb,
@@ -93,10 +107,11 @@ impl<S: Store + Drop> MdCache<S> {
                 commit_split(
                     alloc,
                     &mut self.dirs,
-                    &mut self.cache,
+                    &mut self.caches,
                     &mut self.jobs,
                     &mut self.purge,
                     &mut self.next,
+                    rank,
                     dir,
                     frag,
                     nb,
@@ -130,15 +145,19 @@ fn check_split(dirs: &Dirs, dir: Ino, frag: Frag, nb: u8) -> Result<(), Refusal>
 fn commit_split(
     alloc: Global,
     dirs: &mut Dirs,
-    cache: &mut Cache,
+    caches: &mut RankCaches,
     jobs: &mut StandingJobs,
     purge: &mut PurgeList,
     next: &mut Counters,
+    rank: Rank,
     dir: Ino,
     frag: Frag,
     nb: u8,
     split: Split,
 )
+    requires holds { MayHold caches.old rank (dir, frag) }
+    requires children { (i : ℕ) → i < 2 ^ nb → MayHold caches.old rank (dir, child_of frag i nb) }
+    requires ranks { AreRanks caches.old }
     requires some { 1 ≤ nb }
     requires few { nb ≤ 8 }
     requires bits { frag.bits + nb ≤ 24 }
@@ -147,22 +166,22 @@ fn commit_split(
     requires known { is_known dirs.old.homes dir.0 ≡ true }
     requires row { 0 < dirs.old.tree_room }
     requires list { 0 < purge.old.room }
-    requires ready { HasCached (cached cache.old.entries (dir, frag)) (λ (f : Cached). (map.len f.dirty ≤ f.places) × AreReady frag nb (shown f) split.parts) }
-    requires kept { (i : ℕ) → i < 2 ^ nb → is_kept (lookup (leaf_is (dir, child_of frag i nb)) cache.old.entries) ≡ true }
+    requires ready { HasCached (cached (cache_of caches.old rank).entries (dir, frag)) (λ (f : Cached). (map.len f.dirty ≤ f.places) × AreReady frag nb (shown f) split.parts) }
+    requires kept { (i : ℕ) → i < 2 ^ nb → is_kept (lookup (leaf_is (dir, child_of frag i nb)) (cache_of caches.old rank).entries) ≡ true }
     ensures homes { dirs.new.homes ≡ dirs.old.homes }
     ensures trees { dirs.new.trees ≡ map.insert dirs.old.trees dir.0 split.cover }
-    ensures split { HasCached (cached cache.old.entries (dir, frag)) (λ (f : Cached). IsSplit dir frag nb split.parts next.old.version (shown f) cache.old cache.new) }
-    ensures cap { cache.new.cap ≡ cache.old.cap }
+    ensures split { HasCached (cached (first_of rank caches.old).entries (dir, frag)) (λ (f : Cached). IsSplit dir frag nb split.parts next.old.version (shown f) (first_of rank caches.old) (first_of rank caches.new)) }
+    ensures caches { KeepsCaches NoneComes caches.old caches.new }
     ensures jobs { jobs.new.jobs ≡ map.remove jobs.old.jobs (dir, frag) }
     ensures listed { purge.new.names ≡ without_objects (map.insert purge.old.names (string_bytes split.object) tt) (each string_bytes split.children.items) }
     ensures job { next.new.job ≡ next.old.job }
     ensures generation { next.new.generation ≡ next.old.generation + 2 ^ nb }
-    ensures named { HasCached (cached cache.old.entries (dir, frag)) (λ (f : Cached). next.new.version ≡ next.old.version + cond (has_none (shown f)) 0 1) }
+    ensures named { HasCached (cached (first_of rank caches.old).entries (dir, frag)) (λ (f : Cached). next.new.version ≡ next.old.version + cond (has_none (shown f)) 0 1) }
 {
-    let empty = is_cached_empty(cache, dir, frag);
+    let empty = is_cached_empty(caches.of(rank), dir, frag);
     let version = next.version;
     split_leaf(
-        alloc, dirs, cache, jobs, purge, dir, frag, nb, split, version,
+        alloc, dirs, caches, jobs, purge, rank, dir, frag, nb, split, version,
     );
     take_counts(next, u64::from(child_count(nb)), empty);
 }
@@ -172,27 +191,31 @@ fn commit_split(
 fn split_leaf(
     alloc: Global,
     dirs: &mut Dirs,
-    cache: &mut Cache,
+    caches: &mut RankCaches,
     jobs: &mut StandingJobs,
     purge: &mut PurgeList,
+    rank: Rank,
     dir: Ino,
     frag: Frag,
     nb: u8,
     split: Split,
     version: u64,
 )
+    requires holds { MayHold caches.old rank (dir, frag) }
+    requires children { (i : ℕ) → i < 2 ^ nb → MayHold caches.old rank (dir, child_of frag i nb) }
+    requires ranks { AreRanks caches.old }
     requires some { 1 ≤ nb }
     requires bits { frag.bits + nb ≤ 24 }
     requires known { is_known dirs.old.homes dir.0 ≡ true }
     requires row { 0 < dirs.old.tree_room }
     requires list { 0 < purge.old.room }
-    requires ready { HasCached (cached cache.old.entries (dir, frag)) (λ (f : Cached). (map.len f.dirty ≤ f.places) × AreReady frag nb (shown f) split.parts) }
-    requires kept { (i : ℕ) → i < 2 ^ nb → is_kept (lookup (leaf_is (dir, child_of frag i nb)) cache.old.entries) ≡ true }
+    requires ready { HasCached (cached (cache_of caches.old rank).entries (dir, frag)) (λ (f : Cached). (map.len f.dirty ≤ f.places) × AreReady frag nb (shown f) split.parts) }
+    requires kept { (i : ℕ) → i < 2 ^ nb → is_kept (lookup (leaf_is (dir, child_of frag i nb)) (cache_of caches.old rank).entries) ≡ true }
     ensures homes { dirs.new.homes ≡ dirs.old.homes }
     ensures trees { dirs.new.trees ≡ map.insert dirs.old.trees dir.0 split.cover }
     ensures room { dirs.new.room ≡ dirs.old.room }
-    ensures split { HasCached (cached cache.old.entries (dir, frag)) (λ (f : Cached). IsSplit dir frag nb split.parts version (shown f) cache.old cache.new) }
-    ensures cap { cache.new.cap ≡ cache.old.cap }
+    ensures split { HasCached (cached (first_of rank caches.old).entries (dir, frag)) (λ (f : Cached). IsSplit dir frag nb split.parts version (shown f) (first_of rank caches.old) (first_of rank caches.new)) }
+    ensures caches { KeepsCaches NoneComes caches.old caches.new }
     ensures jobs { jobs.new.jobs ≡ map.remove jobs.old.jobs (dir, frag) }
     ensures listed { purge.new.names ≡ without_objects (map.insert purge.old.names (string_bytes split.object) tt) (each string_bytes split.children.items) }
 {
@@ -203,7 +226,7 @@ fn split_leaf(
         children,
     } = split;
     dirs.set_tree(dir, cover);
-    cache.split_into(alloc, dir, frag, nb, parts, version);
+    split_at(alloc, caches, rank, dir, frag, nb, parts, version);
     jobs.end(dir, frag);
     purge.put(object);
     unlist(purge, &children);

@@ -22,6 +22,7 @@ impl<S: Store + Drop> MdCache<S> {
     /// Refused `NoSuchFrag` exactly where there is no such directory; otherwise as the store refuses, and `NoMemory`.
     pub fn commit_tree(&mut self, alloc: Global, dir: Ino) -> Result<(), Refusal>
         ensures saved { SavesTree self.old.state self.new.state self.old.faults self.new.faults dir result }
+        ensures ranks { self.new.ranks ≡ self.old.ranks }
         ensures cap { self.new.cache.cap ≡ self.old.cache.cap }
         ensures grows { self.old.faults ≤ self.new.faults }
     {

@@ -41,7 +41,7 @@ or_none None = refl
 
 -- ---- the places of all, rank by rank
 
-abbrev place_in : Caches → ℕ → Leaf → Option Place
+abbrev pub place_in : Caches → ℕ → Leaf → Option Place
 place_in caches n q = lookup (leaf_is q) (get_or caches n no_cache).entries
 
 pub nowhere : (caches : Caches) (q : Leaf) → ((n : ℕ) → place_in caches n q ≡ None) → lookup (leaf_is q) (places_of caches) ≡ None
@@ -57,7 +57,7 @@ only_in (c ∷ cs) (suc n) q none =
     ∙ only_in cs n q (λ m apart. none (suc m) (λ (e : suc m ≡ suc n). apart (omega (arith, e))))
 
 -- a place is at one of the ranks
-found_in : (caches : Caches) (q : Leaf) (p : Place) → lookup (leaf_is q) (places_of caches) ≡ Some p → (n : ℕ) × (n < length caches) × (place_in caches n q ≡ Some p)
+pub found_in : (caches : Caches) (q : Leaf) (p : Place) → lookup (leaf_is q) (places_of caches) ≡ Some p → (n : ℕ) × (n < length caches) × (place_in caches n q ≡ Some p)
 found_in [] q p is = let clash : None ≡ Some p = is in absurd cc
 found_in (c ∷ cs) q p is = go (lookup (leaf_is q) c.entries) refl (found_in cs q p)
   where

@@ -1,5 +1,5 @@
 -- What a contract sees of the caches of all ranks: one for each, rank 0 first (a cache for each metadata server: Weil et al., OSDI 2006).
-use Rattle.std.specs.Prelude.{◌≡◌, ◌≢◌, ◌<◌, ℕ, Bool, true, List, [], ◌∷◌, ◌++◌, length, get_or, set, is_some, None}
+use Rattle.std.specs.Prelude.{◌≡◌, ◌≢◌, ◌<◌, ℕ, Bool, true, cond, List, [], ◌∷◌, ◌++◌, length, get_or, set, is_some, None}
 use Rattle.std.specs.Map.{lookup}
 use Rattle.lru.specs.LruCache.{lru_cache}
 use Rattle.mds_types.specs.declared.ids.Rank.{Rank}
@@ -40,6 +40,12 @@ pub record AreApart (caches : Caches) : Type 0 where
 -- each rank has so many places
 pub record HaveEach (places : ℕ) (caches : Caches) : Type 0 where
   pub each : (rank : Rank) → rank.0 < length caches → (cache_of caches rank).cap ≡ places
+
+-- a leaf has no place at any rank; all else is as it was, but for the order of use
+pub record Forget (leaf : Leaf) (old new : Caches) : Type 0 where
+  pub count : length new ≡ length old
+  pub cap : (rank : Rank) → (cache_of new rank).cap ≡ (cache_of old rank).cap
+  pub places : (rank : Rank) (q : Leaf) → lookup (leaf_is q) (cache_of new rank).entries ≡ cond (leaf_is leaf q) None (lookup (leaf_is q) (cache_of old rank).entries)
 
 -- the places of the ranks beside one
 abbrev pub places_beside : Caches → Rank → Places

@@ -1,10 +1,10 @@
 //! `RankCaches`, and what a contract sees of it.
 ghost use Rattle.std.specs.Prelude.{◌≡◌, ◌<◌, ◌≤◌, [], length, replicate, IfOk};
 ghost use Rattle.lru.specs.LruCache.{lru_cache};
-ghost use Rattle.rank_caches.specs.Caches.{AreApart, HaveEach, cache_of};
+ghost use Rattle.rank_caches.specs.Caches.{AreApart, Forget, HaveEach, cache_of};
 
 use dentry_cache::Cache;
-use mds_types::Rank;
+use mds_types::{Frag, Ino, Rank};
 use std::alloc::{AllocError, Global};
 use std::marker::Model;
 
@@ -67,5 +67,23 @@ impl RankCaches {
         ensures cache { result.now ≡ cache_of self.old rank }
     {
         &mut self.caches[usize::from(rank.0)]
+    }
+
+    /// Gives up the place of a leaf at each rank, with the fragment that is in it. Takes no memory.
+    pub fn forget(&mut self, dir: Ino, frag: Frag)
+        ensures { Forget (dir, frag) self.old self.new }
+    {
+        forget_in(&mut self.caches, dir, frag);
+    }
+}
+
+// Gives up the place of a leaf in each of these caches.
+fn forget_in(caches: &mut Vec<Cache>, dir: Ino, frag: Frag)
+    ensures { Forget (dir, frag) caches.old.items caches.new.items }
+{
+    let mut i = 0;
+    while i < caches.len() {
+        caches[i].forget(dir, frag);
+        i += 1;
     }
 }

@@ -1,26 +1,29 @@
 -- The laws of what reads keep of the tree over caches and a store, and of why their calls are refused.
-use Rattle.std.specs.Prelude.{◌≡◌, ◌⊎◌, ◌+◌, ◌<◌, ◌≤◌, refl}
+use Rattle.std.specs.Prelude.{◌≡◌, ◌⊎◌, ℕ, ◌+◌, ◌<◌, ◌≤◌, length, refl}
 use Rattle.std.proofs.Common.{inl, inr, sym, ap, subst, ◌∙◌, arith}
 use Rattle.std.specs.FinMap as map
 use Rattle.mds_types.specs.declared.operations.Op.{Op}
+use Rattle.mds_types.specs.declared.ids.Rank.{Rank}
 use Rattle.mds_types.specs.declared.refusals.Refusal.{Refusal}
+use Rattle.rank_caches.specs.Caches.{cache_of}
+use Rattle.dentry_cache.specs.Cache.{unsaved}
 use Rattle.dentry_cache.specs.Cache.{Leaf}
 use Rattle.namespace_ops.specs.Reasons.{IsOfFragments}
 use Rattle.mdcache.specs.Cached.{Core}
 use Rattle.mdcache.specs.Frags.{KeepsState, LacksFor, MayRefuse}
 use Rattle.mdcache.specs.Made.{IsUntouched, StaysAsItIs}
-use Rattle.mdcache.specs.Reads.{LacksPlaces}
+use Rattle.mdcache.specs.Reads.{LacksPlaces, LacksPlacesAt}
 use Rattle.mdcache.specs.Shown.{names_of}
-use Rattle.mdcache.specs.State.{IsLive, State}
+use Rattle.mdcache.specs.State.{IsLive, State, UnsavedLeaves}
 
 pub keeps_itself : (a : Core) → KeepsState a a
-keeps_itself a = record { state = refl; cap = refl; grows = omega arith }
+keeps_itself a = record { state = refl; unsaved = λ rank. refl; count = refl; cap = refl; grows = omega arith }
 
 pub keeps_on : (a b c : Core) → KeepsState a b → KeepsState b c → KeepsState a c
 keeps_on a b c p q =
     let first = p.grows in
     let second = q.grows in
-    record { state = q.state ∙ p.state; cap = q.cap ∙ p.cap; grows = omega (arith, first, second) }
+    record { state = q.state ∙ p.state; unsaved = λ rank. q.unsaved rank ∙ p.unsaved rank; count = q.count ∙ p.count; cap = q.cap ∙ p.cap; grows = omega (arith, first, second) }
 
 -- a state that is the same has the same leaves with the same names
 pub untouched_by : (a b : Core) (leaf : Leaf) → KeepsState a b → IsUntouched a.state b.state leaf
@@ -35,15 +38,23 @@ untouched_on a b c leaf p q live =
     let second = q first.live in
     record { live = second.live; names = second.names ∙ first.names }
 
+-- places that lack now lacked before
+pub lacked_at : (count : ℕ) (a b : Core) (rank : Rank) → KeepsState a b → LacksPlacesAt count b rank → LacksPlacesAt count a rank
+lacked_at count a b rank kept lacks =
+    let cap = kept.cap in
+    let same = ap (λ (m : UnsavedLeaves). map.len m) (kept.unsaved rank) in
+    omega (arith, cap, same, lacks)
+
+pub lacked_before : (count : ℕ) (a b : Core) → KeepsState a b → LacksPlaces count b → LacksPlaces count a
+lacked_before count a b kept (rank, there, lacks) = (rank, subst (λ (n : ℕ). rank.0 < n) kept.count there, lacked_at count a b rank kept lacks)
+
 pub refused_later : (a b c : Core) (op : Op) (reason : Refusal) → KeepsState a b → MayRefuse b c op reason → MayRefuse a c op reason
 refused_later a b c op reason kept (inl memory) = inl memory
 refused_later a b c op reason kept (inr (inl (is, rose))) =
     let grows = kept.grows in
     inr (inl (is, omega (arith, grows, rose)))
 refused_later a b c op reason kept (inr (inr (inl (is, lacks)))) =
-    let cap = kept.cap in
-    let count = ap (λ (s : State). map.len s.unsaved) kept.state in
-    inr (inr (inl (is, omega (arith, cap, count, lacks))))
+    inr (inr (inl (is, lacked_before 4 a b kept lacks)))
 refused_later a b c op reason kept (inr (inr (inr (is, lacks)))) = inr (inr (inr (is, subst (λ (s : State). LacksFor op s) kept.state lacks)))
 
 pub refused_so : (a b : Core) (op : Op) (reason : Refusal) → MayRefuse a b op reason → IsOfFragments reason
