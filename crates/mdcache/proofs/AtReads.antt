@@ -6,9 +6,10 @@ use Rattle.std.proofs.lemmas.Option.{same_Some}
 use Rattle.mds_types.specs.declared.ids.Rank.{Rank}
 use Rattle.mds_types.specs.declared.refusals.Refusal.{Refusal}
 use Rattle.objstore.specs.Objects.{Objects}
-use Rattle.cached_frag.specs.Cached.{Cached}
+use Rattle.cached_frag.specs.Cached.{Cached, shown}
+use Rattle.dirfrag_codec.specs.FragmentObject.{Names}
 use Rattle.dentry_cache.specs.declared.cache.Place.{Place}
-use Rattle.dentry_cache.specs.Cache.{Held, Leaf, cached, is_kept, leaf_is, unsaved}
+use Rattle.dentry_cache.specs.Cache.{HasCached, Held, Leaf, cached, is_kept, leaf_is, unsaved}
 use Rattle.dentry_cache.specs.Loading.{object_of}
 use Rattle.inode_table.specs.Dirs.{Table}
 use Rattle.purge_list.specs.PurgeList.{Listed}
@@ -20,12 +21,13 @@ use Rattle.mdcache.specs.Cached.{IsKept, KeepsNone, state_of}
 use Rattle.mdcache.specs.Ranks.{AreRanks, IsThat, KeepUnsaved, KeepsCaches, KeepsOnlyAt, MayHold, NoneComes}
 use Rattle.mdcache.specs.Ready.{KeepsAtMost, Readies, ReadiesAt}
 use Rattle.mdcache.specs.Reads.{FixesAllBut, FixesNoMore, KeepsNoMore, MayNotFind, Reads, ReadsAt, fixed_places}
+use Rattle.mdcache.specs.Shown.{names_of}
 use Rattle.mdcache.specs.Sound.{IsSaved}
 use Rattle.mdcache.specs.State.{IsLive, State, UnsavedLeaves}
 use Rattle.mdcache.proofs.AtRanks.{caches_after, caches_on, holds_after, none_only, read_at, unsaved_on, wider}
 use Rattle.mdcache.proofs.KeptPlaces.{none_on}
 use Rattle.mdcache.proofs.ReadLaws.{fixes_self, reads_on, reads_wider}
-use Rattle.mdcache.proofs.ReadSteps.{read_kept, read_state}
+use Rattle.mdcache.proofs.ReadSteps.{names_then, read_kept, read_state}
 use Rattle.mdcache.proofs.ReadyChanges.{given_kept, given_state}
 use Rattle.mdcache.proofs.ReadyLaws.{readies_on, ready_kept, ready_state}
 use Rattle.mdcache.proofs.ReadyPairs.{readies_wider}
@@ -84,22 +86,40 @@ released_at caches rank one now objects there ranks reads same =
 -- ---- why a rank lacks places
 
 -- where no place is kept, and what isn't clean of each rank is as it was
+module _ (count : ℕ) (old mid : Caches) (kept : KeepsCaches NoneComes old mid) (same : KeepUnsaved old mid) where
+  lacks_words : (rank : Rank) → rank.0 < length mid → fixed_places (cache_of mid rank).entries ≡ map.len (unsaved (cache_of mid rank).entries) → FixesAllBut count (cache_of mid rank) → (all_of old).cap < map.len (unsaved (cache_of old rank).entries) + count
+  lacks_words rank there fixed few =
+      let cap : (cache_of mid rank).cap ≡ (all_of mid).cap = kept.ranks.each.each rank there in
+      let stays : (all_of mid).cap ≡ (all_of old).cap = kept.cap in
+      let unclean : map.len (unsaved (cache_of mid rank).entries) ≡ map.len (unsaved (cache_of old rank).entries) = ap (λ (m : UnsavedLeaves). map.len m) (same rank) in
+      omega (arith, cap, stays, unclean, fixed, few)
+
 pub words_at : (P : Type 0) (count : ℕ) (old mid : Caches) (rank : Rank) (before after : ℕ) → KeepsCaches NoneComes old mid → rank.0 < length mid → KeepUnsaved old mid
     → fixed_places (cache_of mid rank).entries ≡ map.len (unsaved (cache_of mid rank).entries) → ((all_of old).cap < map.len (unsaved (cache_of old rank).entries) + count → P)
     → (reason : Refusal) → MayNotFind (FixesAllBut count (cache_of mid rank)) before after reason → MayNotFind P before after reason
 words_at P count old mid rank before after kept there same fixed lacks reason (inl memory) = inl memory
 words_at P count old mid rank before after kept there same fixed lacks reason (inr (inl fault)) = inr (inl fault)
-words_at P count old mid rank before after kept there same fixed lacks reason (inr (inr (is, few))) =
-    let cap : (cache_of mid rank).cap ≡ (all_of mid).cap = kept.ranks.each.each rank there in
-    let stays : (all_of mid).cap ≡ (all_of old).cap = kept.cap in
-    let unclean : map.len (unsaved (cache_of mid rank).entries) ≡ map.len (unsaved (cache_of old rank).entries) = ap (λ (m : UnsavedLeaves). map.len m) (same rank) in
-    inr (inr (is, lacks (omega (arith, cap, stays, unclean, fixed, few))))
+words_at P count old mid rank before after kept there same fixed lacks reason (inr (inr (is, few))) = inr (inr (is, lacks (lacks_words count old mid kept same rank there fixed few)))
+
+pub words_two : (P : Type 0) (count : ℕ) (old mid : Caches) (a b : Rank) (before after : ℕ) → KeepsCaches NoneComes old mid → a.0 < length mid → b.0 < length mid → KeepUnsaved old mid
+    → fixed_places (cache_of mid a).entries ≡ map.len (unsaved (cache_of mid a).entries) → fixed_places (cache_of mid b).entries ≡ map.len (unsaved (cache_of mid b).entries)
+    → (((all_of old).cap < map.len (unsaved (cache_of old a).entries) + count) ⊎ ((all_of old).cap < map.len (unsaved (cache_of old b).entries) + count) → P)
+    → (reason : Refusal) → MayNotFind (FixesAllBut count (cache_of mid a) ⊎ FixesAllBut count (cache_of mid b)) before after reason → MayNotFind P before after reason
+words_two P count old mid a b before after kept at_a at_b same fixed_a fixed_b lacks reason (inl memory) = inl memory
+words_two P count old mid a b before after kept at_a at_b same fixed_a fixed_b lacks reason (inr (inl fault)) = inr (inl fault)
+words_two P count old mid a b before after kept at_a at_b same fixed_a fixed_b lacks reason (inr (inr (is, inl few))) = inr (inr (is, lacks (inl (lacks_words count old mid kept same a at_a fixed_a few))))
+words_two P count old mid a b before after kept at_a at_b same fixed_a fixed_b lacks reason (inr (inr (is, inr few))) = inr (inr (is, lacks (inr (lacks_words count old mid kept same b at_b fixed_b few))))
 
 -- ---- two leaves
 
 pub either : (P : Leaf → Type 0) (a b : Leaf) → P a → P b → (q : Leaf) → (q ≡ a) ⊎ (q ≡ b) → P q
 either P a b p q l (inl is) = subst P (sym is) p
 either P a b p q l (inr is) = subst P (sym is) q
+
+-- the first of two leaves comes at its rank alone
+pub one_holder : (first second : Rank) (a b : Leaf) → (a ≡ b → first ≡ second) → (other : Rank) → IsThat first a other a ⊎ IsThat second b other a → other ≡ first
+one_holder first second a b one other (inl is) = is.0
+one_holder first second a b one other (inr is) = is.0 ∙ sym (one is.1)
 
 pub at_most : (a one : Leaf) (old now : Held) → KeepsAtMost one old now → (q : Leaf) → is_kept (lookup (leaf_is q) now.entries) ≡ true → (is_kept (lookup (leaf_is q) old.entries) ≡ true) ⊎ ((q ≡ a) ⊎ (q ≡ one))
 at_most a one old now most q is = go (most q is)
@@ -161,6 +181,14 @@ module _ (dirs : Table) (caches : Caches) (objects : Objects) (jobs : Standing) 
 
     pub new_unsaved : KeepUnsaved caches new
     new_unsaved = unsaved_on caches mid new given.unsaved at.unsaved
+
+    -- what holds of the names that a leaf's fragment shows then holds of those that the leaf shows
+    pub on_names : (leaf : Leaf) (Q : Names → Type 0) → HasCached (cached (all_of new).entries leaf) (λ (f : Cached). Q (shown f)) → Q (names_of (unsaved (all_of caches).entries) objects leaf)
+    on_names leaf Q has = go (cached (all_of new).entries leaf) refl has
+      where
+        go : (o : Option Cached) → cached (all_of new).entries leaf ≡ o → HasCached o (λ (f : Cached). Q (shown f)) → Q (names_of (unsaved (all_of caches).entries) objects leaf)
+        go None there h = absurd h
+        go (Some f) there h = subst Q (sym (names_then dirs (all_of caches) objects jobs purge next kept Come (all_of new) objects' same both_reads live leaf f there)) h
 
   -- leaves are made ready then
   module _ (May : Rank → Leaf → Type 0) (Come : Leaf → Type 0) (live : (q : Leaf) → Come q → IsLive dirs.homes dirs.trees q) (new : Caches) (objects' : Objects) (same : objects' ≡ objects) (at : ReadiesAt May Come objects mid new) where

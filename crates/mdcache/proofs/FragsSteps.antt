@@ -1,10 +1,11 @@
 -- What making a change ready needs, and how its refusals are those of an operation.
 use Rattle.std.proofs.Common.{◌≡◌, ◌⊎◌, inl, inr, ℕ, ◌+◌, ◌-◌, ◌^◌, ◌<◌, ◌≤◌, Bool, true, false, Option, Some, None, Result, Ok, Err, OnOk, refl, sym, ap, subst, ◌∙◌, arith}
-use Rattle.std.specs.Prelude.{IfErr, IfSome, unwrap_or}
+use Rattle.std.specs.Prelude.{IfErr, IfSome, length, unwrap_or}
 use Rattle.std.specs.FinMap as map
 use Rattle.std.specs.Map.{lookup}
 use Rattle.mds_types.specs.declared.dentries.Dentry.{Dentry}
 use Rattle.mds_types.specs.declared.ids.Ino.{Ino}
+use Rattle.mds_types.specs.declared.ids.Rank.{Rank}
 use Rattle.mds_types.specs.declared.inodes.Attributes.{Attributes}
 use Rattle.mds_types.specs.declared.inodes.Inode.{Inode}
 use Rattle.mds_types.specs.declared.inodes.Kind.{Kind}
@@ -26,6 +27,8 @@ use Rattle.namespace_ops.specs.declared.plans.Change.TheVariants.{Add, Set, Remo
 use Rattle.namespace_ops.specs.Changes.{IsChangeOf}
 use Rattle.namespace_ops.specs.Kept.{KeepsAll}
 use Rattle.mdcache.specs.declared.going.Going.{Going}
+use Rattle.rank_caches.specs.Caches.{cache_of}
+use Rattle.mdcache.specs.declared.holders.Holders.{Holders}
 use Rattle.mdcache.specs.declared.prepared.Prepared.{Prepared}
 use Rattle.mdcache.specs.declared.prepared.Prepared.TheVariants.{Nothing, Removal, Move as Moving}
 use Rattle.mdcache.specs.declared.ready_move.MovingEntry.{MovingEntry}
@@ -33,7 +36,7 @@ use Rattle.mdcache.specs.Cached.{Core}
 use Rattle.mdcache.specs.Changes.{Makes, first_leaf}
 use Rattle.mdcache.specs.Frags.{IsDirectoryReady, IsForDirectory, IsForMove, IsForRemoval, IsMoveReady, IsNameReady, IsReady, KeepsState, LacksFor, LacksToMake, MayRefuse}
 use Rattle.mdcache.specs.Going.{dir_going}
-use Rattle.mdcache.specs.Reads.{LacksPlaces, MayNotFind}
+use Rattle.mdcache.specs.Reads.{LacksPlaces, LacksPlacesAt, MayNotFind}
 use Rattle.mdcache.specs.Ready.{LacksNumbers, MayNotBeReady}
 use Rattle.mdcache.specs.Shown.{shown_tree}
 use Rattle.mdcache.specs.State.{State}
@@ -119,15 +122,19 @@ lacks_for (Rename here there) (Set p leaf inode) s of lacks = absurd of
 lacks_for (Rename here there) (Remove p leaf went) s of lacks = absurd of
 lacks_for (Rename here there) (Move from source to target went) s of lacks = lacks
 
--- a read's refusal is one of the operation that reads
-pub read_refused : (old new : Core) (op : Op) (reason : Refusal) → MayNotFind (LacksPlaces 1 old) old.faults new.faults reason → MayRefuse old new op reason
-read_refused old new op reason (inl memory) = inl memory
-read_refused old new op reason (inr (inl fault)) = inr (inl fault)
-read_refused old new op reason (inr (inr (is, lacks))) = inr (inr (inl (is, omega (arith, lacks))))
+-- places that lack at a rank lack at one of the ranks, and more of them do
+pub lack_of_all : (few many : ℕ) (core : Core) (rank : Rank) → few ≤ many → rank.0 < length core.ranks → LacksPlacesAt few core rank → LacksPlaces many core
+lack_of_all few many core rank more there lacks = (rank, there, omega (arith, more, lacks))
 
-pub read_told : (X : Type 0) (result : Result X Refusal) (old new : Core) (op : Op) → IfErr result (MayNotFind (LacksPlaces 1 old) old.faults new.faults) → IfErr result (MayRefuse old new op)
-read_told X (Ok x) old new op h = tt
-read_told X (Err reason) old new op h = read_refused old new op reason h
+-- a read's refusal is one of the operation that reads
+pub read_refused : (old new : Core) (rank : Rank) (op : Op) (reason : Refusal) → rank.0 < length old.ranks → MayNotFind (LacksPlacesAt 1 old rank) old.faults new.faults reason → MayRefuse old new op reason
+read_refused old new rank op reason there (inl memory) = inl memory
+read_refused old new rank op reason there (inr (inl fault)) = inr (inl fault)
+read_refused old new rank op reason there (inr (inr (is, lacks))) = inr (inr (inl (is, lack_of_all 1 4 old rank (omega arith) there lacks)))
+
+pub read_told : (X : Type 0) (result : Result X Refusal) (old new : Core) (rank : Rank) (op : Op) → rank.0 < length old.ranks → IfErr result (MayNotFind (LacksPlacesAt 1 old rank) old.faults new.faults) → IfErr result (MayRefuse old new op)
+read_told X (Ok x) old new rank op there h = tt
+read_told X (Err reason) old new rank op there h = read_refused old new rank op reason there h
 
 -- and so is that of a change that is made ready
 pub prepare_refused : (old new : Core) (op : Op) (change : Change) (reason : Refusal) → IsChangeOf op change → MayNotBeReady (LacksToMake change old.state) (LacksPlaces 4 old) old.faults new.faults reason → MayRefuse old new op reason
@@ -160,32 +167,32 @@ kept_all old new kept = record { tree = ap shown_tree kept.state; leaves = ap (�
 
 -- ---- what is ready
 
-pub name_ready : (X : Type 0) (result : Result X Refusal) (core : Core) (leaf : Leaf) → OnOk result (HasRoom (cached core.cache.entries leaf)) → OnOk result (core.state.next_version < 2 ^ 64 - 1) → OnOk result (IsNameReady core leaf)
-name_ready X (Ok x) core leaf room number = record { room = room; number = number }
-name_ready X (Err reason) core leaf room number = tt
+pub name_ready : (X : Type 0) (result : Result X Refusal) (core : Core) (rank : Rank) (leaf : Leaf) → OnOk result (HasRoom (cached (cache_of core.ranks rank).entries leaf)) → OnOk result (core.state.next_version < 2 ^ 64 - 1) → OnOk result (IsNameReady core rank leaf)
+name_ready X (Ok x) core rank leaf room number = record { room = room; number = number }
+name_ready X (Err reason) core rank leaf room number = tt
 
 -- what was prepared stands beside what is ready
 module _ (core now : Core) (prepared : Prepared) (left : now ≡ record core { prepared = prepared }) where
   pub keeps_beside : (old : Core) → KeepsState old core → KeepsState old now
-  keeps_beside old kept = subst (KeepsState old) (sym left) (record { state = kept.state; cap = kept.cap; grows = kept.grows })
+  keeps_beside old kept = subst (KeepsState old) (sym left) (record { state = kept.state; unsaved = kept.unsaved; count = kept.count; cap = kept.cap; grows = kept.grows })
 
-  pub name_beside : (leaf : Leaf) → IsNameReady core leaf → IsNameReady now leaf
-  name_beside leaf ready = subst (λ (k : Core). IsNameReady k leaf) (sym left) (record { room = ready.room; number = ready.number })
+  pub name_beside : (rank : Rank) (leaf : Leaf) → IsNameReady core rank leaf → IsNameReady now rank leaf
+  name_beside rank leaf ready = subst (λ (k : Core). IsNameReady k rank leaf) (sym left) (record { room = ready.room; number = ready.number })
 
-  pub directory_beside : (dentry : Dentry) (leaf : Fragment) (inode : Inode) → IsNameReady core (dentry.dir, leaf) → IsRecordable inode → is_kept (lookup (leaf_is (first_leaf inode.ino)) core.cache.entries) ≡ true → 0 < core.dirs_left
-      → core.state.next_generation < 2 ^ 64 - 1 → IsForDirectory dentry inode.ino prepared → IsReady now (Add dentry leaf inode)
-  directory_beside dentry leaf inode name recordable place home generation is_for =
-      subst (λ (k : Core). IsReady k (Add dentry leaf inode)) (sym left)
+  pub directory_beside : (at : Holders) (dentry : Dentry) (leaf : Fragment) (inode : Inode) → IsNameReady core at.first (dentry.dir, leaf) → IsRecordable inode → is_kept (lookup (leaf_is (first_leaf inode.ino)) (cache_of core.ranks at.first).entries) ≡ true → 0 < core.dirs_left
+      → core.state.next_generation < 2 ^ 64 - 1 → IsForDirectory dentry inode.ino prepared → IsReady now at (Add dentry leaf inode)
+  directory_beside at dentry leaf inode name recordable place home generation is_for =
+      subst (λ (k : Core). IsReady k at (Add dentry leaf inode)) (sym left)
       (record { room = name.room; number = name.number }, recordable, λ directory. record { place = place; home = home; generation = generation; prepared = is_for })
 
-  pub removal_beside : (dentry : Dentry) (leaf : Fragment) (went : Option Ino) → IsNameReady core (dentry.dir, leaf) → IsForRemoval core.state.covers core.purge_left went prepared → IsReady now (Remove dentry leaf went)
-  removal_beside dentry leaf went name is_for =
-      subst (λ (k : Core). IsReady k (Remove dentry leaf went)) (sym left) (record { room = name.room; number = name.number }, is_for)
+  pub removal_beside : (at : Holders) (dentry : Dentry) (leaf : Fragment) (went : Option Ino) → IsNameReady core at.first (dentry.dir, leaf) → IsForRemoval core.state.covers core.purge_left went prepared → IsReady now at (Remove dentry leaf went)
+  removal_beside at dentry leaf went name is_for =
+      subst (λ (k : Core). IsReady k at (Remove dentry leaf went)) (sym left) (record { room = name.room; number = name.number }, is_for)
 
-  pub move_beside : (from to : Dentry) (source target : Fragment) (went : Option Ino) → HasCached (cached core.cache.entries (from.dir, source)) (λ (f : Cached). 1 < f.room) → HasRoom (cached core.cache.entries (to.dir, target)) → core.state.next_version < 2 ^ 64 - 2
-      → IsForMove core.state core.purge_left from to went prepared → IsReady now (Move from source to target went)
-  move_beside from to source target went first second number is_for =
-      subst (λ (k : Core). IsReady k (Move from source to target went)) (sym left) (record { source_room = first; target_room = second; number = number; prepared = is_for })
+  pub move_beside : (at : Holders) (from to : Dentry) (source target : Fragment) (went : Option Ino) → HasCached (cached (cache_of core.ranks at.first).entries (from.dir, source)) (λ (f : Cached). 1 < f.room) → HasRoom (cached (cache_of core.ranks at.second).entries (to.dir, target)) → core.state.next_version < 2 ^ 64 - 2
+      → IsForMove core.state core.purge_left from to went prepared → IsReady now at (Move from source to target went)
+  move_beside at from to source target went first second number is_for =
+      subst (λ (k : Core). IsReady k at (Move from source to target went)) (sym left) (record { source_room = first; target_room = second; number = number; prepared = is_for })
 
 -- ---- a change is made
 

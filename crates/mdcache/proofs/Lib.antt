@@ -22,6 +22,7 @@ pub mod MergeSteps
 pub mod MoveSteps
 pub mod NamedLaws
 pub mod NewLaws
+pub mod NewRanks
 pub mod ObjectLaws
 pub mod PageLaws
 pub mod PlaceLaws

@@ -7,7 +7,6 @@ ghost use Rattle.dentry_cache.specs.Cache.{held};
 ghost use Rattle.objstore.specs.Objects.{MayRefuse};
 ghost use Rattle.rank_caches.specs.Caches.{all_of};
 ghost use Rattle.mdcache.specs.New.{MayNotFormat, cached_root, new_caches, new_state, root_leaf};
-ghost use Rattle.mdcache.specs.Ranks.{AreRanks};
 
 use crate::mdcache::{Counters, MdCache};
 use crate::prepared::Prepared;
@@ -96,7 +95,6 @@ fn root_caches(alloc: Global, ranks: u8, places: usize) -> Result<RankCaches, Re
     requires few { 512 ≤ places }
     requires many { places ≤ 65536 }
     ensures ok { IfOk result (λ caches. caches ≡ new_caches ranks places) }
-    ensures ranked { IfOk result AreRanks }
     ensures refused { IfErr result (λ reason. reason ≡ NoMemory) }
 {
     let mut caches = RankCaches::new(alloc, ranks, places)?;

@@ -1,0 +1,125 @@
+use Rattle.std.proofs.Common.{◌≡◌, ◌⊎◌, ◌<◌, ◌+◌, inl, inr, ℕ, None, Option, length, sym, ap, subst, ◌∙◌, arith}
+use Rattle.std.specs.Prelude.{IfErr, IfOk}
+use Rattle.std.specs.FinMap as map
+use Rattle.mds_types.specs.Tree.{is_directory}
+use Rattle.mds_types.specs.declared.ids.Rank.{Rank}
+use Rattle.fragtree.specs.FragTree.{IsPick}
+use Rattle.namehash.specs.Rjenkins.{hash_of}
+use Rattle.objstore.specs.Objects.{Objects}
+use Rattle.dentry_cache.specs.Cache.{Leaf, cached, unsaved}
+use Rattle.inode_table.specs.Dirs.{leaves_of}
+use Rattle.rank_caches.specs.Caches.{all_of, cache_of}
+use Rattle.mdcache.specs.Cached.{Core, state_of}
+use Rattle.mdcache.specs.Frags.{KeepsState}
+use Rattle.mdcache.specs.Ranks.{IsThat, KeepsCaches, MayHold}
+use Rattle.mdcache.specs.Ready.{LacksNumbers, MayNotBeReady}
+use Rattle.mdcache.specs.Reads.{LacksPlacesAt, MayNotFind}
+use Rattle.mdcache.specs.Shown.{shown_tree}
+use Rattle.mdcache.specs.State.{IsLive, State}
+use Rattle.mdcache.proofs.AtRanks.{holds_after, none_only}
+use Rattle.mdcache.proofs.AtReads.{both_reads, made_caches, made_kept, made_only, made_state, made_unsaved, mid_kept, mid_saved, mid_state, new_caches, new_kept, new_only, new_state, new_unsaved, words_at}
+use Rattle.mdcache.proofs.ReadLaws.{map_if_ok}
+use Rattle.mdcache.proofs.ReadSteps.{dir_known, found_there, pick_live}
+use Rattle.mdcache.proofs.ReadyLaws.{map_if_err, neither, not_cached, roomy_kept, roomy_state, unknown_dead}
+use Rattle.mdcache.proofs.ReadyChanges.{listed_kept, listed_state, tree_has}
+use Rattle.mds_types.specs.Frag.{root_fragment}
+use Rattle.mdcache.specs.Changes.{first_leaf}
+use Rattle.mdcache.proofs.AtRanks.{held_by_any, one_only}
+use Rattle.mdcache.proofs.mdcache.MdCache.ready_directory.Goals as goal
+
+pub ready_first_at-requires-clause-holds : goal.ready_first_at-requires-clause-holds
+ready_first_at-requires-clause-holds g c =
+    let holds : MayHold c.self.inside.caches c.args.rank (c.args.dentry.now.dir, c.args.leaf) = subst (λ (k : Core). MayHold k.ranks c.args.rank (c.args.dentry.now.dir, c.args.leaf)) (sym c.self.view_is) c.requires.holds in
+    (holds_after c.self.inside.caches c.give_up_at.new.caches c.args.rank (c.args.dentry.now.dir, c.args.leaf) (c.give_up_at.ensures.at (g.S.Store.objects c.self.inside.store)).caches holds)
+
+pub ready_first_at-requires-clause-first : goal.ready_first_at-requires-clause-first
+ready_first_at-requires-clause-first g c =
+    let holds : MayHold c.self.inside.caches c.args.rank (c.args.dentry.now.dir, c.args.leaf) = subst (λ (k : Core). MayHold k.ranks c.args.rank (c.args.dentry.now.dir, c.args.leaf)) (sym c.self.view_is) c.requires.holds in
+    let unused = ap (λ (k : Core). is_directory (shown_tree k.state) c.args.dir.0) c.self.view_is ∙ c.requires.unused in
+    let absent : cached (all_of c.give_up_at.new.caches).entries (first_leaf c.args.dir) ≡ None = not_cached c.self.inside.dirs (all_of c.give_up_at.new.caches) (g.S.Store.objects c.self.inside.store) c.self.inside.jobs c.self.inside.purge c.self.inside.next (mid_kept c.self.inside.dirs c.self.inside.caches (g.S.Store.objects c.self.inside.store) c.self.inside.jobs c.self.inside.purge c.self.inside.next c.self.invariant.0 c.give_up_at.new.caches c.give_up_at.ensures.none (c.give_up_at.ensures.at (g.S.Store.objects c.self.inside.store))) (first_leaf c.args.dir) (unknown_dead c.self.inside.dirs (all_of c.self.inside.caches) (g.S.Store.objects c.self.inside.store) c.self.inside.jobs c.self.inside.purge c.self.inside.next c.self.invariant.0 c.args.dir root_fragment unused) in
+    held_by_any c.give_up_at.new.caches c.args.rank (first_leaf c.args.dir) (holds_after c.self.inside.caches c.give_up_at.new.caches c.args.rank (c.args.dentry.now.dir, c.args.leaf) (c.give_up_at.ensures.at (g.S.Store.objects c.self.inside.store)).caches holds).there (c.give_up_at.ensures.at (g.S.Store.objects c.self.inside.store)).caches.ranks.apart c.give_up_at.ensures.none absent
+
+pub ready_first_at-requires-clause-ranks : goal.ready_first_at-requires-clause-ranks
+ready_first_at-requires-clause-ranks g c =
+    (c.give_up_at.ensures.at (g.S.Store.objects c.self.inside.store)).caches.ranks
+
+pub ready_first_at-requires-clause-saved : goal.ready_first_at-requires-clause-saved
+ready_first_at-requires-clause-saved g c =
+    let known = ap (λ (k : Core). is_directory (shown_tree k.state) c.args.dentry.now.dir.0) c.self.view_is ∙ c.requires.known in
+    let pick : IsPick (leaves_of c.self.inside.dirs.trees c.args.dentry.now.dir.0) (hash_of c.args.dentry.now.name) c.args.leaf = subst (λ (k : Core). IsPick (leaves_of k.state.covers c.args.dentry.now.dir.0) (hash_of c.args.dentry.now.name) c.args.leaf) (sym c.self.view_is) c.requires.leaf in
+    let live : IsLive c.self.inside.dirs.homes c.self.inside.dirs.trees (c.args.dentry.now.dir, c.args.leaf) = pick_live c.self.inside.dirs (all_of c.self.inside.caches) (g.S.Store.objects c.self.inside.store) c.self.inside.jobs c.self.inside.purge c.self.inside.next c.self.invariant.0 c.args.dentry.now.dir (hash_of c.args.dentry.now.name) c.args.leaf known pick in
+    let come : (q : Leaf) → q ≡ (c.args.dentry.now.dir, c.args.leaf) → IsLive c.self.inside.dirs.homes c.self.inside.dirs.trees q = λ q is. subst (IsLive c.self.inside.dirs.homes c.self.inside.dirs.trees) (sym is) live in
+    mid_saved c.self.inside.dirs c.self.inside.caches (g.S.Store.objects c.self.inside.store) c.self.inside.jobs c.self.inside.purge c.self.inside.next c.self.invariant.0 c.give_up_at.new.caches c.give_up_at.ensures.none (c.give_up_at.ensures.at (g.S.Store.objects c.self.inside.store)) (c.args.dentry.now.dir, c.args.leaf) live
+
+pub ready_first_at-requires-clause-absent : goal.ready_first_at-requires-clause-absent
+ready_first_at-requires-clause-absent g c =
+    let unused = ap (λ (k : Core). is_directory (shown_tree k.state) c.args.dir.0) c.self.view_is ∙ c.requires.unused in
+    let absent : cached (all_of c.give_up_at.new.caches).entries (first_leaf c.args.dir) ≡ None = not_cached c.self.inside.dirs (all_of c.give_up_at.new.caches) (g.S.Store.objects c.self.inside.store) c.self.inside.jobs c.self.inside.purge c.self.inside.next (mid_kept c.self.inside.dirs c.self.inside.caches (g.S.Store.objects c.self.inside.store) c.self.inside.jobs c.self.inside.purge c.self.inside.next c.self.invariant.0 c.give_up_at.new.caches c.give_up_at.ensures.none (c.give_up_at.ensures.at (g.S.Store.objects c.self.inside.store))) (first_leaf c.args.dir) (unknown_dead c.self.inside.dirs (all_of c.self.inside.caches) (g.S.Store.objects c.self.inside.store) c.self.inside.jobs c.self.inside.purge c.self.inside.next c.self.invariant.0 c.args.dir root_fragment unused) in
+    absent
+
+pub invariant_of-self-in-Err-ready_first_at : goal.invariant_of-self-in-Err-ready_first_at
+invariant_of-self-in-Err-ready_first_at g c =
+    let known = ap (λ (k : Core). is_directory (shown_tree k.state) c.args.dentry.now.dir.0) c.self.view_is ∙ c.requires.known in
+    let pick : IsPick (leaves_of c.self.inside.dirs.trees c.args.dentry.now.dir.0) (hash_of c.args.dentry.now.name) c.args.leaf = subst (λ (k : Core). IsPick (leaves_of k.state.covers c.args.dentry.now.dir.0) (hash_of c.args.dentry.now.name) c.args.leaf) (sym c.self.view_is) c.requires.leaf in
+    let live : IsLive c.self.inside.dirs.homes c.self.inside.dirs.trees (c.args.dentry.now.dir, c.args.leaf) = pick_live c.self.inside.dirs (all_of c.self.inside.caches) (g.S.Store.objects c.self.inside.store) c.self.inside.jobs c.self.inside.purge c.self.inside.next c.self.invariant.0 c.args.dentry.now.dir (hash_of c.args.dentry.now.name) c.args.leaf known pick in
+    let come : (q : Leaf) → q ≡ (c.args.dentry.now.dir, c.args.leaf) → IsLive c.self.inside.dirs.homes c.self.inside.dirs.trees q = λ q is. subst (IsLive c.self.inside.dirs.homes c.self.inside.dirs.trees) (sym is) live in
+    (roomy_kept c.self.inside.dirs (all_of c.ready_first_at.new.caches) (g.S.Store.objects c.ready_first_at.new.store) c.self.inside.jobs c.self.inside.purge c.self.inside.next (made_kept c.self.inside.dirs c.self.inside.caches (g.S.Store.objects c.self.inside.store) c.self.inside.jobs c.self.inside.purge c.self.inside.next c.self.invariant.0 c.give_up_at.new.caches c.give_up_at.ensures.none (c.give_up_at.ensures.at (g.S.Store.objects c.self.inside.store)) (λ other q. IsThat c.args.rank (c.args.dentry.now.dir, c.args.leaf) other q ⊎ IsThat c.args.rank (first_leaf c.args.dir) other q) (λ (q : Leaf). q ≡ (c.args.dentry.now.dir, c.args.leaf)) come c.ready_first_at.new.caches (g.S.Store.objects c.ready_first_at.new.store) c.in-Err-ready_first_at.ensures.same c.in-Err-ready_first_at.ensures.at) c.reserve.new.self c.in_default-reserve.ensures.homes c.in_default-reserve.ensures.trees, made_only c.self.inside.dirs c.self.inside.caches (g.S.Store.objects c.self.inside.store) c.self.inside.jobs c.self.inside.purge c.self.inside.next c.self.invariant.0 c.give_up_at.new.caches c.give_up_at.ensures.none (c.give_up_at.ensures.at (g.S.Store.objects c.self.inside.store)) (λ other q. IsThat c.args.rank (c.args.dentry.now.dir, c.args.leaf) other q ⊎ IsThat c.args.rank (first_leaf c.args.dir) other q) (λ (q : Leaf). q ≡ (c.args.dentry.now.dir, c.args.leaf)) come c.ready_first_at.new.caches (g.S.Store.objects c.ready_first_at.new.store) c.in-Err-ready_first_at.ensures.same c.in-Err-ready_first_at.ensures.at c.give_up_at.new.kept c.in-Err-ready_first_at.ensures.none, c.in-Err-ready_first_at.ensures.at.caches.ranks)
+
+pub returns-in-Err-ready_first_at-clause-kept : goal.returns-in-Err-ready_first_at-clause-kept
+returns-in-Err-ready_first_at-clause-kept g c =
+    let known = ap (λ (k : Core). is_directory (shown_tree k.state) c.args.dentry.now.dir.0) c.self.view_is ∙ c.requires.known in
+    let pick : IsPick (leaves_of c.self.inside.dirs.trees c.args.dentry.now.dir.0) (hash_of c.args.dentry.now.name) c.args.leaf = subst (λ (k : Core). IsPick (leaves_of k.state.covers c.args.dentry.now.dir.0) (hash_of c.args.dentry.now.name) c.args.leaf) (sym c.self.view_is) c.requires.leaf in
+    let live : IsLive c.self.inside.dirs.homes c.self.inside.dirs.trees (c.args.dentry.now.dir, c.args.leaf) = pick_live c.self.inside.dirs (all_of c.self.inside.caches) (g.S.Store.objects c.self.inside.store) c.self.inside.jobs c.self.inside.purge c.self.inside.next c.self.invariant.0 c.args.dentry.now.dir (hash_of c.args.dentry.now.name) c.args.leaf known pick in
+    let come : (q : Leaf) → q ≡ (c.args.dentry.now.dir, c.args.leaf) → IsLive c.self.inside.dirs.homes c.self.inside.dirs.trees q = λ q is. subst (IsLive c.self.inside.dirs.homes c.self.inside.dirs.trees) (sym is) live in
+    record {
+      state = roomy_state c.self.inside.dirs (all_of c.ready_first_at.new.caches) (g.S.Store.objects c.ready_first_at.new.store) c.self.inside.jobs c.self.inside.purge c.self.inside.next (made_kept c.self.inside.dirs c.self.inside.caches (g.S.Store.objects c.self.inside.store) c.self.inside.jobs c.self.inside.purge c.self.inside.next c.self.invariant.0 c.give_up_at.new.caches c.give_up_at.ensures.none (c.give_up_at.ensures.at (g.S.Store.objects c.self.inside.store)) (λ other q. IsThat c.args.rank (c.args.dentry.now.dir, c.args.leaf) other q ⊎ IsThat c.args.rank (first_leaf c.args.dir) other q) (λ (q : Leaf). q ≡ (c.args.dentry.now.dir, c.args.leaf)) come c.ready_first_at.new.caches (g.S.Store.objects c.ready_first_at.new.store) c.in-Err-ready_first_at.ensures.same c.in-Err-ready_first_at.ensures.at) c.reserve.new.self c.in_default-reserve.ensures.homes c.in_default-reserve.ensures.trees ∙ made_state c.self.inside.dirs c.self.inside.caches (g.S.Store.objects c.self.inside.store) c.self.inside.jobs c.self.inside.purge c.self.inside.next c.self.invariant.0 c.give_up_at.new.caches c.give_up_at.ensures.none (c.give_up_at.ensures.at (g.S.Store.objects c.self.inside.store)) (λ other q. IsThat c.args.rank (c.args.dentry.now.dir, c.args.leaf) other q ⊎ IsThat c.args.rank (first_leaf c.args.dir) other q) (λ (q : Leaf). q ≡ (c.args.dentry.now.dir, c.args.leaf)) come c.ready_first_at.new.caches (g.S.Store.objects c.ready_first_at.new.store) c.in-Err-ready_first_at.ensures.same c.in-Err-ready_first_at.ensures.at ∙ ap (λ (k : Core). k.state) c.self.view_is;
+      unsaved = λ rank. made_unsaved c.self.inside.dirs c.self.inside.caches (g.S.Store.objects c.self.inside.store) c.self.inside.jobs c.self.inside.purge c.self.inside.next c.self.invariant.0 c.give_up_at.new.caches c.give_up_at.ensures.none (c.give_up_at.ensures.at (g.S.Store.objects c.self.inside.store)) (λ other q. IsThat c.args.rank (c.args.dentry.now.dir, c.args.leaf) other q ⊎ IsThat c.args.rank (first_leaf c.args.dir) other q) (λ (q : Leaf). q ≡ (c.args.dentry.now.dir, c.args.leaf)) come c.ready_first_at.new.caches (g.S.Store.objects c.ready_first_at.new.store) c.in-Err-ready_first_at.ensures.same c.in-Err-ready_first_at.ensures.at rank ∙ ap (λ (k : Core). unsaved (cache_of k.ranks rank).entries) c.self.view_is;
+      count = (made_caches c.self.inside.dirs c.self.inside.caches (g.S.Store.objects c.self.inside.store) c.self.inside.jobs c.self.inside.purge c.self.inside.next c.self.invariant.0 c.give_up_at.new.caches c.give_up_at.ensures.none (c.give_up_at.ensures.at (g.S.Store.objects c.self.inside.store)) (λ other q. IsThat c.args.rank (c.args.dentry.now.dir, c.args.leaf) other q ⊎ IsThat c.args.rank (first_leaf c.args.dir) other q) (λ (q : Leaf). q ≡ (c.args.dentry.now.dir, c.args.leaf)) come c.ready_first_at.new.caches (g.S.Store.objects c.ready_first_at.new.store) c.in-Err-ready_first_at.ensures.same c.in-Err-ready_first_at.ensures.at).count ∙ ap (λ (k : Core). length k.ranks) c.self.view_is;
+      cap = (made_caches c.self.inside.dirs c.self.inside.caches (g.S.Store.objects c.self.inside.store) c.self.inside.jobs c.self.inside.purge c.self.inside.next c.self.invariant.0 c.give_up_at.new.caches c.give_up_at.ensures.none (c.give_up_at.ensures.at (g.S.Store.objects c.self.inside.store)) (λ other q. IsThat c.args.rank (c.args.dentry.now.dir, c.args.leaf) other q ⊎ IsThat c.args.rank (first_leaf c.args.dir) other q) (λ (q : Leaf). q ≡ (c.args.dentry.now.dir, c.args.leaf)) come c.ready_first_at.new.caches (g.S.Store.objects c.ready_first_at.new.store) c.in-Err-ready_first_at.ensures.same c.in-Err-ready_first_at.ensures.at).cap ∙ ap (λ (k : Core). k.cache.cap) c.self.view_is;
+      grows = omega (arith, c.in-Err-ready_first_at.ensures.grows, ap (λ (k : Core). k.faults) c.self.view_is);
+    }
+
+pub returns-in-Err-ready_first_at-clause-caches : goal.returns-in-Err-ready_first_at-clause-caches
+returns-in-Err-ready_first_at-clause-caches g c =
+    let known = ap (λ (k : Core). is_directory (shown_tree k.state) c.args.dentry.now.dir.0) c.self.view_is ∙ c.requires.known in
+    let pick : IsPick (leaves_of c.self.inside.dirs.trees c.args.dentry.now.dir.0) (hash_of c.args.dentry.now.name) c.args.leaf = subst (λ (k : Core). IsPick (leaves_of k.state.covers c.args.dentry.now.dir.0) (hash_of c.args.dentry.now.name) c.args.leaf) (sym c.self.view_is) c.requires.leaf in
+    let live : IsLive c.self.inside.dirs.homes c.self.inside.dirs.trees (c.args.dentry.now.dir, c.args.leaf) = pick_live c.self.inside.dirs (all_of c.self.inside.caches) (g.S.Store.objects c.self.inside.store) c.self.inside.jobs c.self.inside.purge c.self.inside.next c.self.invariant.0 c.args.dentry.now.dir (hash_of c.args.dentry.now.name) c.args.leaf known pick in
+    let come : (q : Leaf) → q ≡ (c.args.dentry.now.dir, c.args.leaf) → IsLive c.self.inside.dirs.homes c.self.inside.dirs.trees q = λ q is. subst (IsLive c.self.inside.dirs.homes c.self.inside.dirs.trees) (sym is) live in
+    subst (λ (k : Core). KeepsCaches (λ other q. IsThat c.args.rank (c.args.dentry.now.dir, c.args.leaf) other q ⊎ IsThat c.args.rank (first_leaf c.args.dir) other q) k.ranks c.ready_first_at.new.caches) c.self.view_is (made_caches c.self.inside.dirs c.self.inside.caches (g.S.Store.objects c.self.inside.store) c.self.inside.jobs c.self.inside.purge c.self.inside.next c.self.invariant.0 c.give_up_at.new.caches c.give_up_at.ensures.none (c.give_up_at.ensures.at (g.S.Store.objects c.self.inside.store)) (λ other q. IsThat c.args.rank (c.args.dentry.now.dir, c.args.leaf) other q ⊎ IsThat c.args.rank (first_leaf c.args.dir) other q) (λ (q : Leaf). q ≡ (c.args.dentry.now.dir, c.args.leaf)) come c.ready_first_at.new.caches (g.S.Store.objects c.ready_first_at.new.store) c.in-Err-ready_first_at.ensures.same c.in-Err-ready_first_at.ensures.at)
+
+pub returns-in-Err-ready_first_at-clause-refused : goal.returns-in-Err-ready_first_at-clause-refused
+returns-in-Err-ready_first_at-clause-refused g c =
+    let holds : MayHold c.self.inside.caches c.args.rank (c.args.dentry.now.dir, c.args.leaf) = subst (λ (k : Core). MayHold k.ranks c.args.rank (c.args.dentry.now.dir, c.args.leaf)) (sym c.self.view_is) c.requires.holds in
+    subst (λ (k : Core). MayNotBeReady (LacksNumbers 1 k.state.next_version ⊎ LacksNumbers 1 k.state.next_generation) (LacksPlacesAt 2 k c.args.rank) k.faults (g.S.Store.faults c.ready_first_at.new.store) c.in-Err-ready_first_at.refusal) c.self.view_is
+    (inr (neither (λ lacks. omega (arith, lacks, c.in_default.ensures.ok)) (λ lacks. omega (arith, lacks, c.in_default-check_left.ensures.ok)), words_at ((all_of c.self.inside.caches).cap < map.len (unsaved (cache_of c.self.inside.caches c.args.rank).entries) + 2) 2 c.self.inside.caches c.give_up_at.new.caches c.args.rank (g.S.Store.faults c.self.inside.store) (g.S.Store.faults c.ready_first_at.new.store) (c.give_up_at.ensures.at (g.S.Store.objects c.self.inside.store)).caches (holds_after c.self.inside.caches c.give_up_at.new.caches c.args.rank (c.args.dentry.now.dir, c.args.leaf) (c.give_up_at.ensures.at (g.S.Store.objects c.self.inside.store)).caches holds).there (c.give_up_at.ensures.at (g.S.Store.objects c.self.inside.store)).unsaved c.give_up_at.ensures.fixed (λ lacks. lacks) c.in-Err-ready_first_at.refusal c.in-Err-ready_first_at.ensures.refused))
+
+pub invariant_of-self-3 : goal.invariant_of-self-3
+invariant_of-self-3 g c =
+    let known = ap (λ (k : Core). is_directory (shown_tree k.state) c.args.dentry.now.dir.0) c.self.view_is ∙ c.requires.known in
+    let pick : IsPick (leaves_of c.self.inside.dirs.trees c.args.dentry.now.dir.0) (hash_of c.args.dentry.now.name) c.args.leaf = subst (λ (k : Core). IsPick (leaves_of k.state.covers c.args.dentry.now.dir.0) (hash_of c.args.dentry.now.name) c.args.leaf) (sym c.self.view_is) c.requires.leaf in
+    let live : IsLive c.self.inside.dirs.homes c.self.inside.dirs.trees (c.args.dentry.now.dir, c.args.leaf) = pick_live c.self.inside.dirs (all_of c.self.inside.caches) (g.S.Store.objects c.self.inside.store) c.self.inside.jobs c.self.inside.purge c.self.inside.next c.self.invariant.0 c.args.dentry.now.dir (hash_of c.args.dentry.now.name) c.args.leaf known pick in
+    let come : (q : Leaf) → q ≡ (c.args.dentry.now.dir, c.args.leaf) → IsLive c.self.inside.dirs.homes c.self.inside.dirs.trees q = λ q is. subst (IsLive c.self.inside.dirs.homes c.self.inside.dirs.trees) (sym is) live in
+    (roomy_kept c.self.inside.dirs (all_of c.ready_first_at.new.caches) (g.S.Store.objects c.ready_first_at.new.store) c.self.inside.jobs c.self.inside.purge c.self.inside.next (made_kept c.self.inside.dirs c.self.inside.caches (g.S.Store.objects c.self.inside.store) c.self.inside.jobs c.self.inside.purge c.self.inside.next c.self.invariant.0 c.give_up_at.new.caches c.give_up_at.ensures.none (c.give_up_at.ensures.at (g.S.Store.objects c.self.inside.store)) (λ other q. IsThat c.args.rank (c.args.dentry.now.dir, c.args.leaf) other q ⊎ IsThat c.args.rank (first_leaf c.args.dir) other q) (λ (q : Leaf). q ≡ (c.args.dentry.now.dir, c.args.leaf)) come c.ready_first_at.new.caches (g.S.Store.objects c.ready_first_at.new.store) c.in_default-ready_first_at.ensures.same c.in_default-ready_first_at.ensures.at) c.reserve.new.self c.in_default-reserve.ensures.homes c.in_default-reserve.ensures.trees, one_only c.args.rank (first_leaf c.args.dir) c.give_up_at.new.caches c.ready_first_at.new.caches c.in_default-ready_first_at.ensures.at.caches.ranks.apart c.give_up_at.ensures.none c.in_default-ready_first_at.ensures.one c.in_default-ready_first_at.ensures.place, c.in_default-ready_first_at.ensures.at.caches.ranks)
+
+pub returns-clause-kept : goal.returns-clause-kept
+returns-clause-kept g c =
+    let known = ap (λ (k : Core). is_directory (shown_tree k.state) c.args.dentry.now.dir.0) c.self.view_is ∙ c.requires.known in
+    let pick : IsPick (leaves_of c.self.inside.dirs.trees c.args.dentry.now.dir.0) (hash_of c.args.dentry.now.name) c.args.leaf = subst (λ (k : Core). IsPick (leaves_of k.state.covers c.args.dentry.now.dir.0) (hash_of c.args.dentry.now.name) c.args.leaf) (sym c.self.view_is) c.requires.leaf in
+    let live : IsLive c.self.inside.dirs.homes c.self.inside.dirs.trees (c.args.dentry.now.dir, c.args.leaf) = pick_live c.self.inside.dirs (all_of c.self.inside.caches) (g.S.Store.objects c.self.inside.store) c.self.inside.jobs c.self.inside.purge c.self.inside.next c.self.invariant.0 c.args.dentry.now.dir (hash_of c.args.dentry.now.name) c.args.leaf known pick in
+    let come : (q : Leaf) → q ≡ (c.args.dentry.now.dir, c.args.leaf) → IsLive c.self.inside.dirs.homes c.self.inside.dirs.trees q = λ q is. subst (IsLive c.self.inside.dirs.homes c.self.inside.dirs.trees) (sym is) live in
+    record {
+      state = roomy_state c.self.inside.dirs (all_of c.ready_first_at.new.caches) (g.S.Store.objects c.ready_first_at.new.store) c.self.inside.jobs c.self.inside.purge c.self.inside.next (made_kept c.self.inside.dirs c.self.inside.caches (g.S.Store.objects c.self.inside.store) c.self.inside.jobs c.self.inside.purge c.self.inside.next c.self.invariant.0 c.give_up_at.new.caches c.give_up_at.ensures.none (c.give_up_at.ensures.at (g.S.Store.objects c.self.inside.store)) (λ other q. IsThat c.args.rank (c.args.dentry.now.dir, c.args.leaf) other q ⊎ IsThat c.args.rank (first_leaf c.args.dir) other q) (λ (q : Leaf). q ≡ (c.args.dentry.now.dir, c.args.leaf)) come c.ready_first_at.new.caches (g.S.Store.objects c.ready_first_at.new.store) c.in_default-ready_first_at.ensures.same c.in_default-ready_first_at.ensures.at) c.reserve.new.self c.in_default-reserve.ensures.homes c.in_default-reserve.ensures.trees ∙ made_state c.self.inside.dirs c.self.inside.caches (g.S.Store.objects c.self.inside.store) c.self.inside.jobs c.self.inside.purge c.self.inside.next c.self.invariant.0 c.give_up_at.new.caches c.give_up_at.ensures.none (c.give_up_at.ensures.at (g.S.Store.objects c.self.inside.store)) (λ other q. IsThat c.args.rank (c.args.dentry.now.dir, c.args.leaf) other q ⊎ IsThat c.args.rank (first_leaf c.args.dir) other q) (λ (q : Leaf). q ≡ (c.args.dentry.now.dir, c.args.leaf)) come c.ready_first_at.new.caches (g.S.Store.objects c.ready_first_at.new.store) c.in_default-ready_first_at.ensures.same c.in_default-ready_first_at.ensures.at ∙ ap (λ (k : Core). k.state) c.self.view_is;
+      unsaved = λ rank. made_unsaved c.self.inside.dirs c.self.inside.caches (g.S.Store.objects c.self.inside.store) c.self.inside.jobs c.self.inside.purge c.self.inside.next c.self.invariant.0 c.give_up_at.new.caches c.give_up_at.ensures.none (c.give_up_at.ensures.at (g.S.Store.objects c.self.inside.store)) (λ other q. IsThat c.args.rank (c.args.dentry.now.dir, c.args.leaf) other q ⊎ IsThat c.args.rank (first_leaf c.args.dir) other q) (λ (q : Leaf). q ≡ (c.args.dentry.now.dir, c.args.leaf)) come c.ready_first_at.new.caches (g.S.Store.objects c.ready_first_at.new.store) c.in_default-ready_first_at.ensures.same c.in_default-ready_first_at.ensures.at rank ∙ ap (λ (k : Core). unsaved (cache_of k.ranks rank).entries) c.self.view_is;
+      count = (made_caches c.self.inside.dirs c.self.inside.caches (g.S.Store.objects c.self.inside.store) c.self.inside.jobs c.self.inside.purge c.self.inside.next c.self.invariant.0 c.give_up_at.new.caches c.give_up_at.ensures.none (c.give_up_at.ensures.at (g.S.Store.objects c.self.inside.store)) (λ other q. IsThat c.args.rank (c.args.dentry.now.dir, c.args.leaf) other q ⊎ IsThat c.args.rank (first_leaf c.args.dir) other q) (λ (q : Leaf). q ≡ (c.args.dentry.now.dir, c.args.leaf)) come c.ready_first_at.new.caches (g.S.Store.objects c.ready_first_at.new.store) c.in_default-ready_first_at.ensures.same c.in_default-ready_first_at.ensures.at).count ∙ ap (λ (k : Core). length k.ranks) c.self.view_is;
+      cap = (made_caches c.self.inside.dirs c.self.inside.caches (g.S.Store.objects c.self.inside.store) c.self.inside.jobs c.self.inside.purge c.self.inside.next c.self.invariant.0 c.give_up_at.new.caches c.give_up_at.ensures.none (c.give_up_at.ensures.at (g.S.Store.objects c.self.inside.store)) (λ other q. IsThat c.args.rank (c.args.dentry.now.dir, c.args.leaf) other q ⊎ IsThat c.args.rank (first_leaf c.args.dir) other q) (λ (q : Leaf). q ≡ (c.args.dentry.now.dir, c.args.leaf)) come c.ready_first_at.new.caches (g.S.Store.objects c.ready_first_at.new.store) c.in_default-ready_first_at.ensures.same c.in_default-ready_first_at.ensures.at).cap ∙ ap (λ (k : Core). k.cache.cap) c.self.view_is;
+      grows = omega (arith, c.in_default-ready_first_at.ensures.grows, ap (λ (k : Core). k.faults) c.self.view_is);
+    }
+
+pub returns-clause-caches : goal.returns-clause-caches
+returns-clause-caches g c =
+    let known = ap (λ (k : Core). is_directory (shown_tree k.state) c.args.dentry.now.dir.0) c.self.view_is ∙ c.requires.known in
+    let pick : IsPick (leaves_of c.self.inside.dirs.trees c.args.dentry.now.dir.0) (hash_of c.args.dentry.now.name) c.args.leaf = subst (λ (k : Core). IsPick (leaves_of k.state.covers c.args.dentry.now.dir.0) (hash_of c.args.dentry.now.name) c.args.leaf) (sym c.self.view_is) c.requires.leaf in
+    let live : IsLive c.self.inside.dirs.homes c.self.inside.dirs.trees (c.args.dentry.now.dir, c.args.leaf) = pick_live c.self.inside.dirs (all_of c.self.inside.caches) (g.S.Store.objects c.self.inside.store) c.self.inside.jobs c.self.inside.purge c.self.inside.next c.self.invariant.0 c.args.dentry.now.dir (hash_of c.args.dentry.now.name) c.args.leaf known pick in
+    let come : (q : Leaf) → q ≡ (c.args.dentry.now.dir, c.args.leaf) → IsLive c.self.inside.dirs.homes c.self.inside.dirs.trees q = λ q is. subst (IsLive c.self.inside.dirs.homes c.self.inside.dirs.trees) (sym is) live in
+    subst (λ (k : Core). KeepsCaches (λ other q. IsThat c.args.rank (c.args.dentry.now.dir, c.args.leaf) other q ⊎ IsThat c.args.rank (first_leaf c.args.dir) other q) k.ranks c.ready_first_at.new.caches) c.self.view_is (made_caches c.self.inside.dirs c.self.inside.caches (g.S.Store.objects c.self.inside.store) c.self.inside.jobs c.self.inside.purge c.self.inside.next c.self.invariant.0 c.give_up_at.new.caches c.give_up_at.ensures.none (c.give_up_at.ensures.at (g.S.Store.objects c.self.inside.store)) (λ other q. IsThat c.args.rank (c.args.dentry.now.dir, c.args.leaf) other q ⊎ IsThat c.args.rank (first_leaf c.args.dir) other q) (λ (q : Leaf). q ≡ (c.args.dentry.now.dir, c.args.leaf)) come c.ready_first_at.new.caches (g.S.Store.objects c.ready_first_at.new.store) c.in_default-ready_first_at.ensures.same c.in_default-ready_first_at.ensures.at)
+
