@@ -36,22 +36,23 @@ none_there ranks places rank = go (cases_lt rank.0 ranks)
     go (inl few) = ap (λ (h : Held). h.entries) (get_or-replicate ranks rank.0 (lru_cache [] places) no_cache few)
     go (inr past) = ap (λ (h : Held). h.entries) (get_or_past (replicate ranks (lru_cache [] places)) rank.0 no_cache (subst (λ (n : ℕ). n ≤ rank.0) (sym (length-replicate ranks (lru_cache [] places))) past))
 
-pub new_ranks : (ranks places : ℕ) → 0 < ranks → AreRanks (new_caches ranks places)
-new_ranks ranks places some = (caches_then empty first (root_cache places) there (record { apart = new_apart ranks places empty refl; each = sized }) (λ (q : Leaf). q ≡ root_leaf)
-    (λ q is. record { none = λ other differs. ap (λ (es : Places). lookup (leaf_is q) es) (none_there ranks places other) }) (sym ((new_each ranks places empty refl).each first there)) (λ q has. inr (alone q has))).ranks
-  where
-    abbrev empty : Caches
-    empty = replicate ranks (lru_cache [] places)
+module _ (ranks places : ℕ) (some : 0 < ranks) where
+  abbrev empty : Caches
+  empty = replicate ranks (lru_cache [] places)
 
-    there : first.0 < length empty
-    there = subst (λ (n : ℕ). 0 < n) (sym (length-replicate ranks (lru_cache [] places))) some
+  there : first.0 < length empty
+  there = subst (λ (n : ℕ). 0 < n) (sym (length-replicate ranks (lru_cache [] places))) some
 
-    sized : HaveEach (all_of empty).cap empty
-    sized = subst (λ (n : ℕ). HaveEach n empty) (sym ((new_each ranks places empty refl).each first there)) (new_each ranks places empty refl)
+  sized : HaveEach (all_of empty).cap empty
+  sized = subst (λ (n : ℕ). HaveEach n empty) (sym ((new_each ranks places empty refl).each first there)) (new_each ranks places empty refl)
 
-    alone : (q : Leaf) → is_some (lookup (leaf_is q) (root_cache places).entries) ≡ true → q ≡ root_leaf
-    alone q has = go (leaf_is q root_leaf) refl has
-      where
-        go : (b : Bool) → leaf_is q root_leaf ≡ b → is_some (cond b (Some (held cached_root)) None) ≡ true → q ≡ root_leaf
-        go true same h = one_leaf q root_leaf same
-        go false apart h = let clash : false ≡ true = h in absurd cc
+  alone : (q : Leaf) → is_some (lookup (leaf_is q) (root_cache places).entries) ≡ true → q ≡ root_leaf
+  alone q has = go (leaf_is q root_leaf) refl has
+    where
+      go : (b : Bool) → leaf_is q root_leaf ≡ b → is_some (cond b (Some (held cached_root)) None) ≡ true → q ≡ root_leaf
+      go true same h = one_leaf q root_leaf same
+      go false apart h = let clash : false ≡ true = h in absurd cc
+
+  pub new_ranks : AreRanks (new_caches ranks places)
+  new_ranks = (caches_then empty first (root_cache places) there (record { apart = new_apart ranks places empty refl; each = sized }) (λ (q : Leaf). q ≡ root_leaf)
+      (λ q is. record { none = λ other differs. ap (λ (es : Places). lookup (leaf_is q) es) (none_there ranks places other) }) (sym ((new_each ranks places empty refl).each first there)) (λ q has. inr (alone q has))).ranks
