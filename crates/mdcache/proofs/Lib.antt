@@ -1,4 +1,5 @@
 pub mod AddSteps
+pub mod AtChanges
 pub mod AtRanks
 pub mod CachedLaws
 pub mod CapLaws
