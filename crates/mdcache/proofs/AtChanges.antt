@@ -1,6 +1,6 @@
 -- What an exact change of one rank's cache makes of the state, which sees nothing of the order of places.
-use Rattle.std.proofs.Common.{◌≡◌, ◌≢◌, ◌⊎◌, inl, inr, ℕ, ◌+◌, ◌<◌, ◌^◌, Bool, true, false, cond, List, length, Option, Some, None, is_some, refl, sym, ap, subst, ◌∙◌}
-use Rattle.std.specs.List.{list_any}
+use Rattle.std.proofs.Common.{◌≡◌, ◌⊎◌, inl, inr, ℕ, suc, ◌+◌, ◌<◌, ◌||◌, Bool, true, false, cond, List, [], ◌∷◌, length, Option, Some, None, is_some, refl, sym, ap, subst, ◌∙◌, arith}
+use Rattle.std.specs.List.{Contains, list_any}
 use Rattle.std.specs.Map.{lookup}
 use Rattle.std.specs.FinMap as map
 use Rattle.mds_types.specs.declared.dentries.Dentry.{Dentry}
@@ -11,48 +11,61 @@ use Rattle.mds_types.specs.Tree.{is_dir_kind}
 use Rattle.objstore.specs.Objects.{Objects}
 use Rattle.cached_frag.specs.Cached.{Cached, marked}
 use Rattle.dentry_cache.specs.declared.cache.Place.{Place}
-use Rattle.dentry_cache.specs.Cache.{Held, IsChanged, Leaf, Places, cached, held, is_kept, leaf_is, used_as}
+use Rattle.dentry_cache.specs.Cache.{Held, IsChanged, Leaf, cached, held, is_kept, leaf_is, unsaved, used_as}
+use Rattle.dentry_cache.specs.Leaving.{IsLeft, Leaves}
 use Rattle.dentry_cache.proofs.CapLaws.{changed_cap}
+use Rattle.dentry_cache.proofs.LeafLaws.{flips, one_leaf}
 use Rattle.inode_table.specs.Dirs.{Table}
 use Rattle.namespace_ops.specs.Changes.{MayChange}
 use Rattle.namespace_ops.specs.declared.plans.Change.TheVariants.{Add, Remove, Set}
 use Rattle.purge_list.specs.PurgeList.{Listed}
-use Rattle.rank_caches.specs.Caches.{Caches, HasNoneBeside, all_of, cache_of, first_of, has_place, with_cache}
+use Rattle.rank_caches.specs.Caches.{AreApart, Caches, Forget, all_of, cache_of, first_of, has_place, with_cache}
+use Rattle.rank_caches.specs.Changes.{MayHave}
 use Rattle.rank_caches.specs.Orders.{IsSameButOrder}
 use Rattle.rank_caches.proofs.OrderLaws.{changes_go_over, place_first, uses_go_over}
-use Rattle.rank_caches.proofs.PlaceLaws.{cache_there}
+use Rattle.rank_caches.proofs.PlaceLaws.{found_in, none_beside, place_at}
+use Rattle.rank_caches.proofs.UnsavedLaws.{unsaved_stay}
 use Rattle.standing_jobs.specs.StandingJobs.{Standing}
 use Rattle.mdcache.specs.declared.mdcache.Counters.{Counters}
 use Rattle.mdcache.specs.Cached.{IsKept, KeepsNone, KeepsOnly, state_of}
 use Rattle.mdcache.specs.Changes.{IsNamed, Makes, with_directory}
-use Rattle.mdcache.specs.Going.{HasForgotten}
+use Rattle.mdcache.specs.Going.{HasForgotten, place_but}
 use Rattle.mdcache.specs.Made.{IsRight}
-use Rattle.mdcache.specs.Ranks.{AreRanks, KeepsCaches, KeepsOnlyAt, MayHold, NoneComes}
+use Rattle.mdcache.specs.Ranks.{AreRanks, KeepUnsaved, KeepsCaches, KeepsOnlyAt, MayHold, NoneComes}
 use Rattle.mdcache.specs.Reads.{KeepsNoMore}
 use Rattle.mdcache.specs.Shown.{shown_tree}
 use Rattle.mdcache.specs.Sound.{IsSound}
 use Rattle.mdcache.specs.State.{State}
-use Rattle.mdcache.proofs.AtRanks.{caches_then, changed_places, filled_places, none_only, only_all, only_on, order, second_of, wider}
+use Rattle.mdcache.proofs.AtRanks.{caches_then, changed_places, filled_places, may_then, none_only, only_all, only_on, order, over, second_of, unsaved_each, wider}
 use Rattle.mdcache.proofs.ChangeLaws.{changes_are_right}
 use Rattle.mdcache.proofs.KeptPlaces.{changed_no_more, no_more_on, none_on}
 use Rattle.mdcache.proofs.PutSteps.{put_kept, put_named}
 
 -- ---- the cache of a rank, changed
 
-module _ (caches : Caches) (rank : Rank) (leaf : Leaf) (was now : Held) (same : was ≡ cache_of caches rank) (holds : MayHold caches rank leaf) (ranks : AreRanks caches) where
-  none_comes : now.cap ≡ was.cap → ((q : Leaf) → is_some (lookup (leaf_is q) now.entries) ≡ true → is_some (lookup (leaf_is q) was.entries) ≡ true) → KeepsCaches NoneComes caches (with_cache caches rank now)
-  none_comes cap from =
-      wider (λ other q. (other ≡ rank) × ⊥) NoneComes caches (with_cache caches rank now) (λ r q it. it.1)
-      (caches_then caches rank now holds.there ranks (λ q. ⊥) (λ q none. absurd none) (cap ∙ ap (λ (h : Held). h.cap) same)
-      (λ q has. inl (sym (ap (λ (h : Held). is_some (lookup (leaf_is q) h.entries)) same) ∙ from q has)))
+-- it has no place that it hadn't
+module _ (caches : Caches) (rank : Rank) (was now : Held) (same : was ≡ cache_of caches rank) (there : rank.0 < length caches) (ranks : AreRanks caches) (cap : now.cap ≡ was.cap)
+    (from : (q : Leaf) → is_some (lookup (leaf_is q) now.entries) ≡ true → is_some (lookup (leaf_is q) was.entries) ≡ true) where
+  cap_there : now.cap ≡ (cache_of caches rank).cap
+  cap_there = cap ∙ ap (λ (h : Held). h.cap) same
 
+  from_there : (q : Leaf) → is_some (lookup (leaf_is q) now.entries) ≡ true → (has_place caches rank q ≡ true) ⊎ ⊥
+  from_there q has = inl (sym (ap (λ (h : Held). is_some (lookup (leaf_is q) h.entries)) same) ∙ from q has)
+
+  none_may : MayHave caches rank now
+  none_may = may_then caches rank now there ranks (λ q. ⊥) (λ q none. absurd none) cap_there from_there
+
+  none_comes : KeepsCaches NoneComes caches (with_cache caches rank now)
+  none_comes = wider (λ other q. (other ≡ rank) × ⊥) NoneComes caches (with_cache caches rank now) (λ r q it. it.1) (caches_then caches rank now there ranks (λ q. ⊥) (λ q none. absurd none) cap_there from_there)
+
+module _ (caches : Caches) (rank : Rank) (leaf : Leaf) (was now : Held) (same : was ≡ cache_of caches rank) (holds : MayHold caches rank leaf) (ranks : AreRanks caches) where
   -- a fragment is changed
   module _ (Change : Cached → Cached → Type 0) (changed : IsChanged (cached was.entries leaf) Change leaf was now) where
     pub changed_first : IsChanged (cached (first_of rank caches).entries leaf) Change leaf (first_of rank caches) (first_of rank (with_cache caches rank now))
     changed_first = changes_go_over Change caches rank now leaf holds.there holds.alone (subst (λ (h : Held). IsChanged (cached h.entries leaf) Change leaf h now) same changed)
 
     pub changed_caches : KeepsCaches NoneComes caches (with_cache caches rank now)
-    changed_caches = none_comes (changed_cap (cached was.entries leaf) Change leaf was now changed) (changed_places Change leaf was now changed)
+    changed_caches = none_comes caches rank was now same holds.there ranks (changed_cap (cached was.entries leaf) Change leaf was now changed) (changed_places Change leaf was now changed)
 
   -- the place that is kept for a fragment is filled
   module _ (f : Cached) (kept : is_kept (lookup (leaf_is leaf) (cache_of caches rank).entries) ≡ true) (filled : now ≡ used_as leaf (held f) was) where
@@ -60,7 +73,124 @@ module _ (caches : Caches) (rank : Rank) (leaf : Leaf) (was now : Held) (same : 
     filled_first = uses_go_over caches rank now leaf (held f) holds.there holds.alone (filled ∙ ap (used_as leaf (held f)) same)
 
     pub filled_caches : KeepsCaches NoneComes caches (with_cache caches rank now)
-    filled_caches = none_comes (ap (λ (h : Held). h.cap) filled) (filled_places leaf f was now (ap (λ (h : Held). is_kept (lookup (leaf_is leaf) h.entries)) same ∙ kept) filled)
+    filled_caches = none_comes caches rank was now same holds.there ranks (ap (λ (h : Held). h.cap) filled) (filled_places leaf f was now (ap (λ (h : Held). is_kept (lookup (leaf_is leaf) h.entries)) same ∙ kept) filled)
+
+-- a place may have become free
+module _ (caches : Caches) (rank : Rank) (was now : Held) (same : was ≡ cache_of caches rank) (there : rank.0 < length caches) (ranks : AreRanks caches) (cap : now.cap ≡ was.cap)
+    (unclean : unsaved now.entries ≡ unsaved was.entries) (left : Leaves None was.entries now.entries) where
+  abbrev then : Caches
+  then = with_cache caches rank now
+
+  left_from : (q : Leaf) → is_some (lookup (leaf_is q) now.entries) ≡ true → is_some (lookup (leaf_is q) was.entries) ≡ true
+  left_from q has = go (lookup (leaf_is q) was.entries) (left.left q)
+    where
+      go : (o : Option Place) → IsLeft None q o (lookup (leaf_is q) now.entries) → is_some o ≡ true
+      go None is = sym (ap (λ (o : Option Place). is_some o) is) ∙ has
+      go (Some p) is = refl
+
+  left_may : MayHave caches rank now
+  left_may = none_may caches rank was now same there ranks cap left_from
+
+  unclean_there : unsaved now.entries ≡ unsaved (cache_of caches rank).entries
+  unclean_there = unclean ∙ ap (λ (h : Held). unsaved h.entries) same
+
+  pub left_caches : KeepsCaches NoneComes caches then
+  left_caches = none_comes caches rank was now same there ranks cap left_from
+
+  pub left_unsaved : unsaved (all_of then).entries ≡ unsaved (all_of caches).entries
+  left_unsaved = unsaved_stay caches rank now left_may unclean_there
+
+  pub left_each : KeepUnsaved caches then
+  left_each = unsaved_each caches rank now there ranks unclean_there
+
+  left_itself : (q : Leaf) (o : Option Place) → IsLeft None q o o
+  left_itself q None = refl
+  left_itself q (Some p) = inl refl
+
+  pub left_all : Leaves None (all_of caches).entries (all_of then).entries
+  left_all = record {
+    left = over caches rank now there ranks (λ q o n. IsLeft None q o n) left_may left_itself
+        (λ q. subst (λ (h : Held). IsLeft None q (lookup (leaf_is q) h.entries) (lookup (leaf_is q) now.entries)) same (left.left q));
+  }
+
+-- ---- the places of a leaf, given up at all ranks
+
+module _ (leaf : Leaf) (old new : Caches) (forgot : Forget leaf old new) (ranks : AreRanks old) where
+  had : (rank : Rank) (q : Leaf) → has_place new rank q ≡ true → has_place old rank q ≡ true
+  had rank q has = go (leaf_is leaf q) (sym (ap (λ (o : Option Place). is_some o) (forgot.places rank q)) ∙ has)
+    where
+      go : (b : Bool) → is_some (cond b None (lookup (leaf_is q) (cache_of old rank).entries)) ≡ true → has_place old rank q ≡ true
+      go true is = let clash : false ≡ true = is in absurd cc
+      go false is = is
+
+  apart_then : AreApart new
+  apart_then = record { one = λ q a b at_a at_b. ranks.apart.one q a b (had a q at_a) (had b q at_b) }
+
+  pub forget_caches : KeepsCaches NoneComes old new
+  forget_caches = record {
+    count = forgot.count;
+    ranks = record {
+      apart = apart_then;
+      each = record { each = λ rank there. forgot.cap rank ∙ ranks.each.each rank (subst (λ (n : ℕ). rank.0 < n) forgot.count there) ∙ sym (forgot.cap (record { 0 = 0 })) };
+    };
+    cap = forgot.cap (record { 0 = 0 });
+    places = λ rank q has. inl (had rank q has);
+  }
+
+  -- so it is among all
+  pub forget_all : (q : Leaf) → lookup (leaf_is q) (all_of new).entries ≡ cond (leaf_is leaf q) None (lookup (leaf_is q) (all_of old).entries)
+  forget_all q = go (lookup (leaf_is q) (all_of new).entries) (lookup (leaf_is q) (all_of old).entries) refl refl
+    where
+      nothing : (b : Bool) (o : Option Place) → o ≡ None → o ≡ cond b None o
+      nothing true o none = none
+      nothing false o none = refl
+
+      go : (n o : Option Place) → lookup (leaf_is q) (all_of new).entries ≡ n → lookup (leaf_is q) (all_of old).entries ≡ o → n ≡ cond (leaf_is leaf q) None o
+      go None None is was = nothing (leaf_is leaf q) None refl
+      go (Some p) o is was =
+          let f = found_in new q p is in
+          let rank : Rank = record { 0 = f.0 } in
+          let here : lookup (leaf_is q) (cache_of new rank).entries ≡ Some p = f.2 in
+          let all : lookup (leaf_is q) (all_of old).entries ≡ lookup (leaf_is q) (cache_of old rank).entries = place_at old rank q (none_beside old rank q ranks.apart (had rank q (ap (λ (o : Option Place). is_some o) here))) in
+          sym here ∙ forgot.places rank q ∙ ap (cond (leaf_is leaf q) None) (sym all ∙ was)
+      go None (Some p) is was = test (leaf_is leaf q) (forgot.places rank q ∙ ap (cond (leaf_is leaf q) None) here)
+        where
+          found : (n : ℕ) × (n < length old) × (lookup (leaf_is q) (cache_of old (record { 0 = n })).entries ≡ Some p)
+          found = found_in old q p was
+
+          rank : Rank
+          rank = record { 0 = found.0 }
+
+          here : lookup (leaf_is q) (cache_of old rank).entries ≡ Some p
+          here = found.2
+
+          test : (b : Bool) → lookup (leaf_is q) (cache_of new rank).entries ≡ cond b None (Some p) → None ≡ cond b None (Some p)
+          test true at = refl
+          test false at = sym is ∙ place_at new rank q (none_beside new rank q apart_then (ap (λ (o : Option Place). is_some o) at)) ∙ at
+
+  either : (a b : Bool) (o : Option Place) → cond b None (cond a None o) ≡ cond (a || b) None o
+  either true true o = refl
+  either true false o = refl
+  either false b o = refl
+
+  pub forget_on : (gone : List Leaf) (q : Leaf) → place_but gone (all_of new) q ≡ place_but (leaf ∷ gone) (all_of old) q
+  forget_on gone q =
+      ap (cond (list_any (leaf_is q) gone) None) (forget_all q ∙ ap (λ (b : Bool). cond b None (lookup (leaf_is q) (all_of old).entries)) (flips leaf q))
+      ∙ either (leaf_is q leaf) (list_any (leaf_is q) gone) (lookup (leaf_is q) (all_of old).entries)
+
+  -- of another leaf than one of these each rank has what it had
+  pub forget_others : (these : List Leaf) → Contains these leaf → (rank : Rank) (q : Leaf) → (Contains these q → ⊥) → lookup (leaf_is q) (cache_of new rank).entries ≡ lookup (leaf_is q) (cache_of old rank).entries
+  forget_others these among rank q not = forgot.places rank q ∙ go (leaf_is leaf q) refl
+    where
+      go : (b : Bool) → leaf_is leaf q ≡ b → cond b None (lookup (leaf_is q) (cache_of old rank).entries) ≡ lookup (leaf_is q) (cache_of old rank).entries
+      go true same = absurd (not (subst (Contains these) (one_leaf leaf q same) among))
+      go false apart = refl
+
+pub first_among : (leaf : Leaf) (rest : List Leaf) → Contains (leaf ∷ rest) leaf
+first_among leaf rest = (0, omega arith, refl)
+
+pub later_among : (leaf q : Leaf) (rest : List Leaf) → Contains rest q → Contains (leaf ∷ rest) q
+later_among leaf q rest (k, less, is) = (suc k, omega (arith, less), is)
 
 -- ---- one order and another
 
@@ -77,8 +207,8 @@ module _ (old new : Held) (o : IsSameButOrder old new) where
   pub same_none : KeepsNone old.entries → KeepsNone new.entries
   same_none none leaf = ap is_kept (o.places leaf) ∙ none leaf
 
-  pub same_gone : (left : List Leaf) (then : Held) → HasForgotten left old then → HasForgotten left new then
-  same_gone left then gone leaf = gone leaf ∙ sym (ap (cond (list_any (leaf_is leaf) left) None) (o.places leaf))
+  pub same_gone : (left : List Leaf) (end : Held) → HasForgotten left old end → HasForgotten left new end
+  same_gone left end gone leaf = gone leaf ∙ sym (ap (cond (list_any (leaf_is leaf) left) None) (o.places leaf))
 
   module _ (dirs : Table) (objects : Objects) (jobs : Standing) (purge : Listed) (next : Counters) where
     pub same_state : state_of dirs new objects jobs purge next ≡ state_of dirs old objects jobs purge next

@@ -75,7 +75,7 @@ module _ (s : State) (sound : IsSound s) (from to : Dentry) (source target : Fra
 
 -- what a rename takes along that was made ready is what stands at its first dentry, and a directory may have its home at the other
 pub taken_along : (core : Core) → IsSound core.state → IsTakenAlong core (dir_moving core.prepared)
-taken_along core sound from to source target went ready = its_own core.prepared ready.prepared
+taken_along core sound holders from to source target went ready = its_own core.prepared ready.prepared
   where
     at : (inode : Inode) (b : Bool) → is_dir_kind inode.kind ≡ b → map.get (shown_tree core.state) from ≡ Some inode → MayChange (shown_tree core.state) core.state.covers (Move from source to target went)
         → IfSome (cond b (Some inode.ino) None) (λ (dir : Ino). MayRelocate core.state.homes dir.0 (home_at to))
