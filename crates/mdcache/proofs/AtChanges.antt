@@ -1,6 +1,7 @@
 -- What an exact change of one rank's cache makes of the state, which sees nothing of the order of places.
-use Rattle.std.proofs.Common.{◌≡◌, ◌⊎◌, inl, inr, ℕ, suc, ◌+◌, ◌<◌, ◌||◌, Bool, true, false, cond, List, [], ◌∷◌, length, Option, Some, None, is_some, refl, sym, ap, subst, ◌∙◌, arith}
+use Rattle.std.proofs.Common.{◌≡◌, ◌≢◌, ◌⊎◌, inl, inr, ℕ, suc, ◌+◌, ◌<◌, ◌^◌, ◌||◌, Bool, true, false, cond, List, [], ◌∷◌, length, Option, Some, None, is_some, refl, sym, ap, subst, ◌∙◌, arith}
 use Rattle.std.specs.List.{Contains, list_any}
+use Rattle.std.specs.Prelude.{string_bytes}
 use Rattle.std.specs.Map.{lookup}
 use Rattle.std.specs.FinMap as map
 use Rattle.mds_types.specs.declared.dentries.Dentry.{Dentry}
@@ -9,36 +10,43 @@ use Rattle.mds_types.specs.declared.inodes.Inode.{Inode}
 use Rattle.mds_types.specs.Frag.{Fragment}
 use Rattle.mds_types.specs.Tree.{is_dir_kind}
 use Rattle.objstore.specs.Objects.{Objects}
+use Rattle.commit_jobs.specs.declared.bases.Base.TheVariants.{Fresh}
+use Rattle.commit_jobs.specs.declared.marks.Mark.{Mark}
 use Rattle.cached_frag.specs.Cached.{Cached, marked}
 use Rattle.dentry_cache.specs.declared.cache.Place.{Place}
-use Rattle.dentry_cache.specs.Cache.{Held, IsChanged, Leaf, cached, held, is_kept, leaf_is, unsaved, used_as}
+use Rattle.dentry_cache.specs.Cache.{HasCached, HasRoom, Held, IsChanged, Leaf, cached, held, is_kept, leaf_is, unsaved, used_as}
 use Rattle.dentry_cache.specs.Leaving.{IsLeft, Leaves}
 use Rattle.dentry_cache.proofs.CapLaws.{changed_cap}
 use Rattle.dentry_cache.proofs.LeafLaws.{flips, one_leaf}
 use Rattle.inode_table.specs.Dirs.{Table}
+use Rattle.inode_table.specs.TreeTable.{home_at, with_home}
 use Rattle.namespace_ops.specs.Changes.{MayChange}
-use Rattle.namespace_ops.specs.declared.plans.Change.TheVariants.{Add, Remove, Set}
+use Rattle.namespace_ops.specs.declared.plans.Change.TheVariants.{Add, Move, Remove}
 use Rattle.purge_list.specs.PurgeList.{Listed}
 use Rattle.rank_caches.specs.Caches.{AreApart, Caches, Forget, all_of, cache_of, first_of, has_place, with_cache}
 use Rattle.rank_caches.specs.Changes.{MayHave}
 use Rattle.rank_caches.specs.Orders.{IsSameButOrder}
 use Rattle.rank_caches.proofs.OrderLaws.{changes_go_over, place_first, uses_go_over}
-use Rattle.rank_caches.proofs.PlaceLaws.{found_in, none_beside, place_at}
+use Rattle.rank_caches.proofs.PlaceLaws.{found_in, none_beside, place_at, rank_or_apart}
 use Rattle.rank_caches.proofs.UnsavedLaws.{unsaved_stay}
 use Rattle.standing_jobs.specs.StandingJobs.{Standing}
+use Rattle.mdcache.specs.declared.going.Going.{Going}
 use Rattle.mdcache.specs.declared.mdcache.Counters.{Counters}
 use Rattle.mdcache.specs.Cached.{IsKept, KeepsNone, KeepsOnly, state_of}
-use Rattle.mdcache.specs.Changes.{IsNamed, Makes, with_directory}
-use Rattle.mdcache.specs.Going.{HasForgotten, place_but}
+use Rattle.mdcache.specs.Changes.{IsNamed, Makes, first_leaf, with_objects, without_leaves}
+use Rattle.mdcache.specs.Going.{HasForgotten, IsGoing, IsGoingOrNone, dir_going, leaves_going, leaves_in, place_but, rows_but, texts_going, texts_in}
 use Rattle.mdcache.specs.Made.{IsRight}
 use Rattle.mdcache.specs.Ranks.{AreRanks, KeepUnsaved, KeepsCaches, KeepsOnlyAt, MayHold, NoneComes}
 use Rattle.mdcache.specs.Reads.{KeepsNoMore}
 use Rattle.mdcache.specs.Shown.{shown_tree}
 use Rattle.mdcache.specs.Sound.{IsSound}
-use Rattle.mdcache.specs.State.{State}
-use Rattle.mdcache.proofs.AtRanks.{caches_then, changed_places, filled_places, may_then, none_only, only_all, only_on, order, over, second_of, unsaved_each, wider}
+use Rattle.mdcache.specs.State.{State, text_of}
+use Rattle.mdcache.proofs.AddSteps.{dir_kept, dir_made}
+use Rattle.mdcache.proofs.AtRanks.{caches_on, caches_then, changed_places, filled_places, holds_after, kept_has, may_then, none_only, only_all, only_on, order, over, second_of, unsaved_each, wider}
 use Rattle.mdcache.proofs.ChangeLaws.{changes_are_right}
-use Rattle.mdcache.proofs.KeptPlaces.{changed_no_more, no_more_on, none_on}
+use Rattle.mdcache.proofs.GoneSteps.{removed_kept, removed_made}
+use Rattle.mdcache.proofs.KeptPlaces.{changed_no_more, filled_none, forgotten_no_more, no_more_on}
+use Rattle.mdcache.proofs.MoveSteps.{moved_kept, moved_made, room_left}
 use Rattle.mdcache.proofs.PutSteps.{put_kept, put_named}
 
 -- ---- the cache of a rank, changed
@@ -292,3 +300,200 @@ module _ (dirs : Table) (caches : Caches) (objects : Objects) (jobs : Standing) 
 
       pub named_only : (one : Option (Rank × Leaf)) → KeepsOnlyAt one caches → KeepsOnlyAt one new
       named_only one only = only_back one only (changed_no_more (λ (f now : Cached). now ≡ marked f name (record { version = next.version; inode = inode })) leaf first (first_of rank new) changed)
+
+-- a directory came
+module _ (dirs : Table) (caches : Caches) (objects : Objects) (jobs : Standing) (purge : Listed) (next : Counters) (kept : IsKept (state_of dirs (all_of caches) objects jobs purge next) (all_of caches)) (ranks : AreRanks caches)
+    (rank : Rank) (there : rank.0 < length caches) (dentry : Dentry) (f : Fragment) (inode : Inode) (may : MayChange (shown_tree (state_of dirs (all_of caches) objects jobs purge next)) dirs.trees (Add dentry f inode)) (fits : inode.ino.0 < 2 ^ 64)
+    (mid : Caches) (comes : KeepsCaches NoneComes caches mid)
+    (changed : IsChanged (cached (first_of rank caches).entries (dentry.dir, f)) (λ (g now : Cached). now ≡ marked g dentry.name (record { version = next.version; inode = Some inode })) (dentry.dir, f) (first_of rank caches) (first_of rank mid))
+    (kinded : is_dir_kind inode.kind ≡ true) (dirs' : Table) (homes : dirs'.homes ≡ map.insert dirs.homes inode.ino.0 (home_at dentry)) (trees : dirs'.trees ≡ dirs.trees) (new : Caches) (comes' : KeepsCaches NoneComes mid new)
+    (filled : first_of rank new ≡ used_as (first_leaf inode.ino) (held (record { base = Fresh; generation = next.generation; clean = map.empty; dirty = map.empty; room = 0; places = 0 })) (first_of rank mid)) (purge' : Listed) (text : List ℕ)
+    (text_is : text ≡ text_of (first_leaf inode.ino)) (removed : purge'.names ≡ map.remove purge.names text) where
+  abbrev sooner : State
+  sooner = state_of dirs (all_of caches) objects jobs purge next
+
+  abbrev next' : Counters
+  next' = record { job = next.job; generation = next.generation + 1; version = next.version + 1 }
+
+  abbrev pub added : State
+  added = state_of dirs' (all_of new) objects jobs purge' next'
+
+  all_comes : KeepsCaches NoneComes caches new
+  all_comes = caches_on NoneComes caches mid new comes comes'
+
+  kept_so : IsKept (state_of dirs (first_of rank caches) objects jobs purge next) (first_of rank caches)
+  kept_so = kept_first dirs caches objects jobs purge next kept ranks rank there
+
+  may_so : MayChange (shown_tree (state_of dirs (first_of rank caches) objects jobs purge next)) dirs.trees (Add dentry f inode)
+  may_so = to_first dirs caches objects jobs purge next kept ranks rank there (λ (s : State). MayChange (shown_tree s) dirs.trees (Add dentry f inode)) may
+
+  pub added_made : Makes (Add dentry f inode) sooner added
+  added_made =
+      both_back dirs caches objects jobs purge next kept ranks rank there new all_comes dirs' jobs purge' next' (λ (a b : State). Makes (Add dentry f inode) a b)
+      (dir_made dirs (first_of rank caches) objects jobs purge next kept_so dentry f inode may_so fits (first_of rank mid) changed kinded dirs' homes trees (first_of rank new) filled purge' text text_is removed)
+
+  pub added_right : IsRight (Add dentry f inode) sooner added
+  added_right = changes_are_right (Add dentry f inode) sooner added kept.sound fits may added_made
+
+  pub added_kept : IsKept added (all_of new)
+  added_kept =
+      kept_back dirs caches objects jobs purge next kept ranks rank there new all_comes dirs' jobs purge' next'
+      (dir_kept dirs (first_of rank caches) objects jobs purge next kept_so dentry f inode may_so fits (first_of rank mid) changed kinded dirs' homes trees (first_of rank new) filled purge' text text_is removed)
+
+  -- the place that was kept is filled: none is then
+  pub added_only : (one : Option (Rank × Leaf)) → KeepsOnlyAt one caches → is_kept (lookup (leaf_is (first_leaf inode.ino)) (cache_of caches rank).entries) ≡ true → KeepsOnlyAt None new
+  added_only one only place = none_only None new comes'.ranks.apart (same_none (first_of rank new) (all_of new) (order_back (all_of new) (first_of rank new) (order new rank there_new comes'.ranks)) none)
+    where
+      there_new : rank.0 < length new
+      there_new = subst (λ (n : ℕ). rank.0 < n) (sym all_comes.count) there
+
+      its_order : IsSameButOrder (all_of caches) (first_of rank caches)
+      its_order = order caches rank there ranks
+
+      its_only : KeepsOnly (second_of one) (first_of rank caches).entries
+      its_only leaf is = only_all one caches ranks.apart only leaf (sym (ap is_kept (its_order.places leaf)) ∙ is)
+
+      its_place : is_kept (lookup (leaf_is (first_leaf inode.ino)) (first_of rank caches).entries) ≡ true
+      its_place = ap is_kept (place_first caches rank (first_leaf inode.ino) (none_beside caches rank (first_leaf inode.ino) ranks.apart (kept_has (lookup (leaf_is (first_leaf inode.ino)) (cache_of caches rank).entries) place))) ∙ place
+
+      none : KeepsNone (first_of rank new).entries
+      none =
+          filled_none (second_of one) (first_leaf inode.ino) (record { base = Fresh; generation = next.generation; clean = map.empty; dirty = map.empty; room = 0; places = 0 }) (first_of rank caches) (first_of rank mid) (first_of rank new) its_only its_place
+          (changed_no_more (λ (g now : Cached). now ≡ marked g dentry.name (record { version = next.version; inode = Some inode })) (dentry.dir, f) (first_of rank caches) (first_of rank mid) changed) filled
+
+-- a leaf for which a place is kept at a rank has none at another, also once another fragment changed there
+pub kept_holds : (caches new : Caches) (rank : Rank) (leaf : Leaf) → rank.0 < length caches → AreRanks caches → KeepsCaches NoneComes caches new → is_kept (lookup (leaf_is leaf) (cache_of caches rank).entries) ≡ true → MayHold new rank leaf
+kept_holds caches new rank leaf there ranks comes place =
+    holds_after caches new rank leaf comes (record { there = there; alone = none_beside caches rank leaf ranks.apart (kept_has (lookup (leaf_is leaf) (cache_of caches rank).entries) place) })
+
+-- a directory went, or none, after the names of one rank's cache changed
+module _ (old new : Caches) (rank : Rank) (there : rank.0 < length old) (ranks : AreRanks old) (left : List Leaf) (gone : HasForgotten left (all_of old) (all_of new)) where
+  pub gone_first : HasForgotten left (first_of rank old) (all_of new)
+  gone_first = same_gone (all_of old) (first_of rank old) (order old rank there ranks) left (all_of new) gone
+
+  pub gone_no_more : KeepsNoMore (first_of rank old) (all_of new)
+  gone_no_more = forgotten_no_more left (first_of rank old) (all_of new) gone_first
+
+-- an entry went that was a directory
+module _ (dirs : Table) (caches : Caches) (objects : Objects) (jobs : Standing) (purge : Listed) (next : Counters) (kept : IsKept (state_of dirs (all_of caches) objects jobs purge next) (all_of caches)) (ranks : AreRanks caches)
+    (rank : Rank) (there : rank.0 < length caches) (dentry : Dentry) (f : Fragment) (going : Going) (may : MayChange (shown_tree (state_of dirs (all_of caches) objects jobs purge next)) dirs.trees (Remove dentry f (Some going.dir)))
+    (mid : Caches) (comes : KeepsCaches NoneComes caches mid)
+    (changed : IsChanged (cached (first_of rank caches).entries (dentry.dir, f)) (λ (g now : Cached). now ≡ marked g dentry.name (record { version = next.version; inode = None })) (dentry.dir, f) (first_of rank caches) (first_of rank mid))
+    (prepared : IsGoing dirs.trees going) (dirs'' : Table) (new : Caches) (jobs'' : Standing) (purge'' : Listed) (homes : dirs''.homes ≡ map.remove dirs.homes going.dir.0) (trees : dirs''.trees ≡ map.remove dirs.trees going.dir.0)
+    (forgotten : HasForgotten (leaves_in going.dir going.leaves.items) (all_of mid) (all_of new)) (comes' : KeepsCaches NoneComes mid new) (ended : jobs''.jobs ≡ without_leaves jobs.jobs (leaves_in going.dir going.leaves.items))
+    (listed : purge''.names ≡ with_objects purge.names (string_bytes going.tree ∷ texts_in going.leaves.items)) where
+  abbrev standing : State
+  standing = state_of dirs (all_of caches) objects jobs purge next
+
+  abbrev pub went : State
+  went = state_of dirs'' (all_of new) objects jobs'' purge'' (record { job = next.job; generation = next.generation; version = next.version + 1 })
+
+  first_kept : IsKept (state_of dirs (first_of rank caches) objects jobs purge next) (first_of rank caches)
+  first_kept = kept_first dirs caches objects jobs purge next kept ranks rank there
+
+  first_may : MayChange (shown_tree (state_of dirs (first_of rank caches) objects jobs purge next)) dirs.trees (Remove dentry f (Some going.dir))
+  first_may = to_first dirs caches objects jobs purge next kept ranks rank there (λ (s : State). MayChange (shown_tree s) dirs.trees (Remove dentry f (Some going.dir))) may
+
+  there_mid : rank.0 < length mid
+  there_mid = subst (λ (n : ℕ). rank.0 < n) (sym comes.count) there
+
+  first_forgotten : HasForgotten (leaves_in going.dir going.leaves.items) (first_of rank mid) (all_of new)
+  first_forgotten = gone_first mid new rank there_mid comes.ranks (leaves_in going.dir going.leaves.items) forgotten
+
+  pub went_made : Makes (Remove dentry f (Some going.dir)) standing went
+  went_made =
+      from_first dirs caches objects jobs purge next kept ranks rank there (λ (s : State). Makes (Remove dentry f (Some going.dir)) s went)
+      (removed_made dirs (first_of rank caches) objects jobs purge next first_kept dentry f going first_may (first_of rank mid) changed prepared dirs'' (all_of new) jobs'' purge'' homes trees first_forgotten ended listed)
+
+  pub went_right : IsRight (Remove dentry f (Some going.dir)) standing went
+  went_right = changes_are_right (Remove dentry f (Some going.dir)) standing went kept.sound tt may went_made
+
+  pub went_kept : IsKept went (all_of new)
+  went_kept = removed_kept dirs (first_of rank caches) objects jobs purge next first_kept dentry f going first_may (first_of rank mid) changed prepared dirs'' (all_of new) jobs'' purge'' homes trees first_forgotten ended listed
+
+  pub went_only : (one : Option (Rank × Leaf)) → KeepsOnlyAt one caches → KeepsOnlyAt one new
+  went_only one only =
+      only_on one caches new ranks.apart (caches_on NoneComes caches mid new comes comes')
+      (no_more_on (all_of caches) (first_of rank caches) (all_of new) (same_no_more (all_of caches) (first_of rank caches) (order caches rank there ranks))
+      (no_more_on (first_of rank caches) (first_of rank mid) (all_of new)
+      (changed_no_more (λ (g now : Cached). now ≡ marked g dentry.name (record { version = next.version; inode = None })) (dentry.dir, f) (first_of rank caches) (first_of rank mid) changed)
+      (gone_no_more mid new rank there_mid comes.ranks (leaves_in going.dir going.leaves.items) forgotten))) only
+
+-- ---- a rename, at two ranks
+
+-- the target has room once the source changed, be they at one rank or two
+pub room_then : (caches mid : Caches) (a b : Rank) (source target : Leaf) (name : List ℕ) (mark : Mark) → IsChanged (cached (cache_of caches a).entries source) (λ (f now : Cached). now ≡ marked f name mark) source (cache_of caches a) (cache_of mid a)
+    → ((other : Rank) → other ≢ a → cache_of mid other ≡ cache_of caches other) → HasCached (cached (cache_of caches a).entries source) (λ (f : Cached). 1 < f.room) → HasRoom (cached (cache_of caches b).entries target)
+    → HasRoom (cached (cache_of mid b).entries target)
+room_then caches mid a b source target name mark changed beside two one = go (rank_or_apart b a)
+  where
+    go : (b ≡ a) ⊎ (b ≢ a) → HasRoom (cached (cache_of mid b).entries target)
+    go (inl same) =
+        subst (λ (r : Rank). HasRoom (cached (cache_of caches r).entries target) → HasRoom (cached (cache_of mid r).entries target)) (sym same)
+        (λ has. room_left source target name mark (cache_of caches a) (cache_of mid a) changed two has) one
+    go (inr differs) = subst (λ (h : Held). HasRoom (cached h.entries target)) (sym (beside b differs)) one
+
+module _ (dirs : Table) (caches : Caches) (objects : Objects) (jobs : Standing) (purge : Listed) (next : Counters) (kept : IsKept (state_of dirs (all_of caches) objects jobs purge next) (all_of caches)) (ranks : AreRanks caches)
+    (a b : Rank) (there_a : a.0 < length caches) (there_b : b.0 < length caches) (from to : Dentry) (source target : Fragment) (inode : Inode) (going : Option Going)
+    (may : MayChange (shown_tree (state_of dirs (all_of caches) objects jobs purge next)) dirs.trees (Move from source to target (dir_going going)))
+    (stands : map.get (shown_tree (state_of dirs (all_of caches) objects jobs purge next)) from ≡ Some inode) (mid : Caches) (comes : KeepsCaches NoneComes caches mid)
+    (erased : IsChanged (cached (first_of a caches).entries (from.dir, source)) (λ (f now : Cached). now ≡ marked f from.name (record { version = next.version; inode = None })) (from.dir, source) (first_of a caches) (first_of a mid))
+    (dirs1 : Table) (homes1 : dirs1.homes ≡ with_home dirs.homes to inode) (trees1 : dirs1.trees ≡ dirs.trees) (mid2 : Caches) (comes2 : KeepsCaches NoneComes mid mid2)
+    (given : IsChanged (cached (first_of b mid).entries (to.dir, target)) (λ (f now : Cached). now ≡ marked f to.name (record { version = next.version + 1; inode = Some inode })) (to.dir, target) (first_of b mid) (first_of b mid2))
+    (prepared : IsGoingOrNone dirs.trees going) (dirs2 : Table) (new : Caches) (jobs' : Standing) (purge' : Listed) (homes2 : dirs2.homes ≡ rows_but dirs1.homes (dir_going going)) (trees2 : dirs2.trees ≡ rows_but dirs1.trees (dir_going going))
+    (forgotten : HasForgotten (leaves_going going) (all_of mid2) (all_of new)) (comes3 : KeepsCaches NoneComes mid2 new) (ended : jobs'.jobs ≡ without_leaves jobs.jobs (leaves_going going))
+    (listed : purge'.names ≡ with_objects purge.names (texts_going going)) where
+  abbrev unmoved : State
+  unmoved = state_of dirs (all_of caches) objects jobs purge next
+
+  abbrev pub moved : State
+  moved = state_of dirs2 (all_of new) objects jobs' purge' (record { job = next.job; generation = next.generation; version = next.version + 1 + 1 })
+
+  kept_at : IsKept (state_of dirs (first_of a caches) objects jobs purge next) (first_of a caches)
+  kept_at = kept_first dirs caches objects jobs purge next kept ranks a there_a
+
+  may_at : MayChange (shown_tree (state_of dirs (first_of a caches) objects jobs purge next)) dirs.trees (Move from source to target (dir_going going))
+  may_at = to_first dirs caches objects jobs purge next kept ranks a there_a (λ (s : State). MayChange (shown_tree s) dirs.trees (Move from source to target (dir_going going))) may
+
+  stands_at : map.get (shown_tree (state_of dirs (first_of a caches) objects jobs purge next)) from ≡ Some inode
+  stands_at = to_first dirs caches objects jobs purge next kept ranks a there_a (λ (s : State). map.get (shown_tree s) from ≡ Some inode) stands
+
+  there_a_mid : a.0 < length mid
+  there_a_mid = subst (λ (n : ℕ). a.0 < n) (sym comes.count) there_a
+
+  there_b_mid : b.0 < length mid
+  there_b_mid = subst (λ (n : ℕ). b.0 < n) (sym comes.count) there_b
+
+  there_b_mid2 : b.0 < length mid2
+  there_b_mid2 = subst (λ (n : ℕ). b.0 < n) (sym comes2.count) there_b_mid
+
+  between : IsSameButOrder (first_of a mid) (first_of b mid)
+  between = two_orders mid a b there_a_mid there_b_mid comes.ranks
+
+  forgotten_at : HasForgotten (leaves_going going) (first_of b mid2) (all_of new)
+  forgotten_at = gone_first mid2 new b there_b_mid2 comes2.ranks (leaves_going going) forgotten
+
+  pub move_made : Makes (Move from source to target (dir_going going)) unmoved moved
+  move_made =
+      from_first dirs caches objects jobs purge next kept ranks a there_a (λ (s : State). Makes (Move from source to target (dir_going going)) s moved)
+      (moved_made dirs (first_of a caches) objects jobs purge next kept_at from to source target inode going may_at stands_at (first_of a mid) erased (first_of b mid) between dirs1 homes1 trees1 (first_of b mid2) given prepared dirs2 (all_of new) jobs' purge' homes2 trees2 forgotten_at ended listed)
+
+  pub move_right : IsRight (Move from source to target (dir_going going)) unmoved moved
+  move_right = changes_are_right (Move from source to target (dir_going going)) unmoved moved kept.sound tt may move_made
+
+  pub move_kept : IsKept moved (all_of new)
+  move_kept = moved_kept dirs (first_of a caches) objects jobs purge next kept_at from to source target inode going may_at stands_at (first_of a mid) erased (first_of b mid) between dirs1 homes1 trees1 (first_of b mid2) given prepared dirs2 (all_of new) jobs' purge' homes2 trees2 forgotten_at ended listed
+
+  pub move_caches : KeepsCaches NoneComes caches new
+  move_caches = caches_on NoneComes caches mid2 new (caches_on NoneComes caches mid mid2 comes comes2) comes3
+
+  pub move_only : (one : Option (Rank × Leaf)) → KeepsOnlyAt one caches → KeepsOnlyAt one new
+  move_only one only =
+      only_on one caches new ranks.apart move_caches
+      (no_more_on (all_of caches) (first_of a caches) (all_of new) (same_no_more (all_of caches) (first_of a caches) (order caches a there_a ranks))
+      (no_more_on (first_of a caches) (first_of a mid) (all_of new)
+      (changed_no_more (λ (f now : Cached). now ≡ marked f from.name (record { version = next.version; inode = None })) (from.dir, source) (first_of a caches) (first_of a mid) erased)
+      (no_more_on (first_of a mid) (first_of b mid) (all_of new) (same_no_more (first_of a mid) (first_of b mid) between)
+      (no_more_on (first_of b mid) (first_of b mid2) (all_of new)
+      (changed_no_more (λ (f now : Cached). now ≡ marked f to.name (record { version = next.version + 1; inode = Some inode })) (to.dir, target) (first_of b mid) (first_of b mid2) given)
+      (gone_no_more mid2 new b there_b_mid2 comes2.ranks (leaves_going going) forgotten))))) only
