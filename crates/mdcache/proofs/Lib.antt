@@ -1,4 +1,5 @@
 pub mod AddSteps
+pub mod AtChanges
 pub mod AtRanks
 pub mod AtReads
 pub mod CachedLaws

@@ -19,19 +19,20 @@ use Rattle.inode_table.proofs.MoveLaws.{may_relocate, may_replace}
 use Rattle.namespace_ops.specs.Changes.{MayChange, directory_at}
 use Rattle.namespace_ops.specs.declared.plans.Change.TheVariants.{Move}
 use Rattle.purge_list.specs.PurgeList.{Listed}
+use Rattle.rank_caches.specs.Orders.{IsSameButOrder}
 use Rattle.standing_jobs.specs.StandingJobs.{Standing}
 use Rattle.mdcache.specs.declared.going.Going.{Going}
 use Rattle.mdcache.specs.declared.mdcache.Counters.{Counters}
 use Rattle.mdcache.specs.declared.prepared.Prepared.{Prepared}
 use Rattle.mdcache.specs.declared.prepared.Prepared.TheVariants.{Nothing, Directory, Removal, Move as Moving}
 use Rattle.mdcache.specs.Cached.{AreLive, AreMade, Core, IsKept, state_of}
-use Rattle.mdcache.specs.Changes.{Makes, with_home_at, with_objects, without, without_leaves}
+use Rattle.mdcache.specs.Changes.{IsNamed, Makes, with_home_at, with_objects, without, without_leaves}
 use Rattle.mdcache.specs.Frags.{IsForMove, IsTakenAlong, dir_moving}
 use Rattle.mdcache.specs.Going.{HasForgotten, IsGoingOrNone, dir_going, leaves_going, rows_but, texts_going}
 use Rattle.mdcache.specs.Made.{IsRight}
 use Rattle.mdcache.specs.Shown.{shown_tree}
 use Rattle.mdcache.specs.Sound.{IsSound}
-use Rattle.mdcache.specs.State.{IsLive, State}
+use Rattle.mdcache.specs.State.{IsLive, State, UnsavedLeaves}
 use Rattle.mdcache.proofs.CachedLaws.{cached_after}
 use Rattle.mdcache.proofs.ChangeLaws.{changes_are_right, moving}
 use Rattle.mdcache.proofs.GoneSteps.{gone_kept, is_gone}
@@ -74,7 +75,7 @@ module _ (s : State) (sound : IsSound s) (from to : Dentry) (source target : Fra
 
 -- what a rename takes along that was made ready is what stands at its first dentry, and a directory may have its home at the other
 pub taken_along : (core : Core) → IsSound core.state → IsTakenAlong core (dir_moving core.prepared)
-taken_along core sound from to source target went ready = its_own core.prepared ready.prepared
+taken_along core sound holders from to source target went ready = its_own core.prepared ready.prepared
   where
     at : (inode : Inode) (b : Bool) → is_dir_kind inode.kind ≡ b → map.get (shown_tree core.state) from ≡ Some inode → MayChange (shown_tree core.state) core.state.covers (Move from source to target went)
         → IfSome (cond b (Some inode.ino) None) (λ (dir : Ino). MayRelocate core.state.homes dir.0 (home_at to))
@@ -94,8 +95,8 @@ module _ (dirs : Table) (cache : Held) (objects : Objects) (jobs : Standing) (pu
     (from to : Dentry) (source target : Fragment) (inode : Inode) (going : Option Going) (may : MayChange (shown_tree (state_of dirs cache objects jobs purge next)) dirs.trees (Move from source to target (dir_going going)))
     (stands : map.get (shown_tree (state_of dirs cache objects jobs purge next)) from ≡ Some inode) (cache1 : Held)
     (erased : IsChanged (cached cache.entries (from.dir, source)) (λ (f now : Cached). now ≡ marked f from.name (record { version = next.version; inode = None })) (from.dir, source) cache cache1)
-    (dirs1 : Table) (homes1 : dirs1.homes ≡ with_home dirs.homes to inode) (trees1 : dirs1.trees ≡ dirs.trees) (cache2 : Held)
-    (given : IsChanged (cached cache1.entries (to.dir, target)) (λ (f now : Cached). now ≡ marked f to.name (record { version = next.version + 1; inode = Some inode })) (to.dir, target) cache1 cache2)
+    (cache1' : Held) (order : IsSameButOrder cache1 cache1') (dirs1 : Table) (homes1 : dirs1.homes ≡ with_home dirs.homes to inode) (trees1 : dirs1.trees ≡ dirs.trees) (cache2 : Held)
+    (given : IsChanged (cached cache1'.entries (to.dir, target)) (λ (f now : Cached). now ≡ marked f to.name (record { version = next.version + 1; inode = Some inode })) (to.dir, target) cache1' cache2)
     (prepared : IsGoingOrNone dirs.trees going) (dirs2 : Table) (cache3 : Held) (jobs' : Standing) (purge' : Listed) (homes2 : dirs2.homes ≡ rows_but dirs1.homes (dir_going going)) (trees2 : dirs2.trees ≡ rows_but dirs1.trees (dir_going going))
     (forgotten : HasForgotten (leaves_going going) cache2 cache3) (ended : jobs'.jobs ≡ without_leaves jobs.jobs (leaves_going going)) (listed : purge'.names ≡ with_objects purge.names (texts_going going)) where
   abbrev old : State
@@ -113,14 +114,22 @@ module _ (dirs : Table) (cache : Held) (objects : Objects) (jobs : Standing) (pu
   abbrev pub moved : State
   moved = state_of dirs2 cache3 objects jobs' purge' next2
 
-  live1 : AreLive dirs.homes dirs.trees cache1.entries
-  live1 = put_live dirs cache objects jobs purge next kept.live kept.tied kept.made (from.dir, source) from.name None cache1 erased
+  live1 : AreLive dirs.homes dirs.trees cache1'.entries
+  live1 q g is = put_live dirs cache objects jobs purge next kept.live kept.tied kept.made (from.dir, source) from.name None cache1 erased q g (sym (order.alike q) ∙ is)
 
-  tied1 : AreTied cache1.entries objects
-  tied1 = put_tied dirs cache objects jobs purge next kept.live kept.tied kept.made (from.dir, source) from.name None cache1 erased
+  tied1 : AreTied cache1'.entries objects
+  tied1 q g is = put_tied dirs cache objects jobs purge next kept.live kept.tied kept.made (from.dir, source) from.name None cache1 erased q g (sym (order.alike q) ∙ is)
 
-  made1 : AreMade next.generation cache1.entries
-  made1 = put_made dirs cache objects jobs purge next kept.live kept.tied kept.made (from.dir, source) from.name None cache1 erased
+  made1 : AreMade next.generation cache1'.entries
+  made1 =
+      let made = put_made dirs cache objects jobs purge next kept.live kept.tied kept.made (from.dir, source) from.name None cache1 erased in
+      record { begun = made.begun; given = λ q g is. made.given q g (sym (order.alike q) ∙ is) }
+
+  -- the state sees nothing of the order
+  left_named : IsNamed old (state_of dirs cache1' objects jobs purge next1) (from.dir, source) from.name None
+  left_named =
+      subst (λ (u : UnsavedLeaves). IsNamed old (record (state_of dirs cache1 objects jobs purge next1) { unsaved = u }) (from.dir, source) from.name None) (sym order.unclean)
+      (put_named dirs cache objects jobs purge next kept.live kept.tied kept.made (from.dir, source) from.name None cache1 erased)
 
   housed : state_of dirs1 cache2 objects jobs purge next2 ≡ with_home_at named to inode
   housed = λ i. record named { homes = homes1 i; covers = trees1 i }
@@ -132,10 +141,10 @@ module _ (dirs : Table) (cache : Held) (objects : Objects) (jobs : Standing) (pu
   moved_made = (
     inode,
     stands,
-    state_of dirs cache1 objects jobs purge next1,
-    put_named dirs cache objects jobs purge next kept.live kept.tied kept.made (from.dir, source) from.name None cache1 erased,
+    state_of dirs cache1' objects jobs purge next1,
+    left_named,
     named,
-    put_named dirs cache1 objects jobs purge next1 live1 tied1 made1 (to.dir, target) to.name (Some inode) cache2 given,
+    put_named dirs cache1' objects jobs purge next1 live1 tied1 made1 (to.dir, target) to.name (Some inode) cache2 given,
     is_gone dirs1 cache2 objects jobs purge next2 dirs2 cache3 jobs' purge' going prepared1 homes2 trees2 forgotten ended listed ∙ ap (λ (t : State). without t (dir_going going)) housed,
   )
 
@@ -144,12 +153,12 @@ module _ (dirs : Table) (cache : Held) (objects : Objects) (jobs : Standing) (pu
 
   live2 : AreLive dirs1.homes dirs1.trees cache2.entries
   live2 q g is =
-      let here = put_live dirs cache1 objects jobs purge next1 live1 tied1 made1 (to.dir, target) to.name (Some inode) cache2 given q g is in
+      let here = put_live dirs cache1' objects jobs purge next1 live1 tied1 made1 (to.dir, target) to.name (Some inode) cache2 given q g is in
       let known = moved_known dirs.homes dirs.trees kept.sound.table to inode (relocates old kept.sound from to source target inode (dir_going going) may stands) q.0.0 ∙ here.known in
       subst (λ (h : Homes). IsLive h dirs1.trees q) (sym homes1) (subst (λ (c : Covers). IsLive (with_home dirs.homes to inode) c q) (sym trees1) (record { known = known; stands = here.stands }))
 
   pub moved_kept : IsKept moved cache3
   moved_kept =
       gone_kept dirs1 cache2 objects jobs purge next2 dirs2 cache3 jobs' purge' going prepared1 homes2 trees2 forgotten live2
-      (put_tied dirs cache1 objects jobs purge next1 live1 tied1 made1 (to.dir, target) to.name (Some inode) cache2 given)
-      (put_made dirs cache1 objects jobs purge next1 live1 tied1 made1 (to.dir, target) to.name (Some inode) cache2 given) moved_right.sound
+      (put_tied dirs cache1' objects jobs purge next1 live1 tied1 made1 (to.dir, target) to.name (Some inode) cache2 given)
+      (put_made dirs cache1' objects jobs purge next1 live1 tied1 made1 (to.dir, target) to.name (Some inode) cache2 given) moved_right.sound

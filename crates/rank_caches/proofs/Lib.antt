@@ -1,4 +1,5 @@
 pub mod FixedLaws
+pub mod ForgetLaws
 pub mod OrderLaws
 pub mod PlaceLaws
 pub mod SizeLaws

@@ -1,35 +1,36 @@
-use Rattle.std.proofs.Common.{◌+◌, Some, subst, sym, ap, ◌∙◌}
+use Rattle.std.proofs.Common.{◌+◌, Bool, Some, cond, subst, sym, ap}
 use Rattle.namespace_ops.specs.Changes.{MayChange}
 use Rattle.namespace_ops.specs.declared.plans.Change.TheVariants.{Add}
+use Rattle.rank_caches.specs.Caches.{all_of}
 use Rattle.mdcache.specs.Cached.{Core, state_of}
-use Rattle.mdcache.specs.Changes.{Makes}
+use Rattle.mdcache.specs.Changes.{Makes, with_directory}
 use Rattle.mdcache.specs.Made.{IsRight}
+use Rattle.mdcache.specs.Ranks.{MayHold}
 use Rattle.mdcache.specs.Shown.{shown_tree}
-use Rattle.mdcache.proofs.AddSteps.{file_made, file_right}
-use Rattle.mdcache.proofs.PutSteps.{put_kept}
-use Rattle.mdcache.proofs.KeptPlaces.{changed_no_more, only_on}
-use Rattle.dentry_cache.proofs.CapLaws.{changed_cap}
+use Rattle.mdcache.proofs.AtChanges.{named_is, named_kept, named_only}
+use Rattle.mdcache.proofs.ChangeLaws.{changes_are_right}
 use Rattle.mdcache.proofs.mdcache.MdCache.add_file.Goals as goal
 
 pub returns-clause-made : goal.returns-clause-made
 returns-clause-made g c =
-    let may = subst (λ (v : Core). MayChange (shown_tree v.state) v.state.covers (Add c.args.dentry c.args.leaf c.args.inode)) (sym c.self.view_is) c.requires.may in
-    subst (λ (v : Core). Makes (Add c.args.dentry c.args.leaf c.args.inode) v.state (state_of c.self.inside.dirs c.put.new.self (g.S.Store.objects c.self.inside.store) c.self.inside.jobs c.self.inside.purge (record { job = c.self.inside.next.job; generation = c.self.inside.next.generation; version = c.self.inside.next.version + 1 }))) c.self.view_is
-    (file_made c.self.inside.dirs c.self.inside.cache (g.S.Store.objects c.self.inside.store) c.self.inside.jobs c.self.inside.purge c.self.inside.next c.self.invariant.0 c.args.dentry c.args.leaf c.args.inode may c.has_64_bits.ensures c.put.new.self c.put.ensures c.requires.file)
-
-pub invariant_of-self : goal.invariant_of-self
-invariant_of-self g c =
-    let may = subst (λ (v : Core). MayChange (shown_tree v.state) v.state.covers (Add c.args.dentry c.args.leaf c.args.inode)) (sym c.self.view_is) c.requires.may in (
-      put_kept c.self.inside.dirs c.self.inside.cache (g.S.Store.objects c.self.inside.store) c.self.inside.jobs c.self.inside.purge c.self.inside.next c.self.invariant.0.live c.self.invariant.0.tied c.self.invariant.0.made (c.args.dentry.dir, c.args.leaf) c.args.dentry.name (Some c.args.inode) c.put.new.self c.put.ensures
-          (file_right c.self.inside.dirs c.self.inside.cache (g.S.Store.objects c.self.inside.store) c.self.inside.jobs c.self.inside.purge c.self.inside.next c.self.invariant.0 c.args.dentry c.args.leaf c.args.inode may c.has_64_bits.ensures c.put.new.self c.put.ensures c.requires.file).sound,
-      only_on c.self.inside.kept c.self.inside.cache c.put.new.self c.self.invariant.1 (changed_no_more _ (c.args.dentry.dir, c.args.leaf) c.self.inside.cache c.put.new.self c.put.ensures),
-    )
+    let holds = subst (λ (v : Core). MayHold v.ranks c.args.rank (c.args.dentry.dir, c.args.leaf)) (sym c.self.view_is) c.requires.holds in
+    subst (λ (v : Core). Makes (Add c.args.dentry c.args.leaf c.args.inode) v.state (state_of c.self.inside.dirs (all_of c.put_at.new.caches) (g.S.Store.objects c.self.inside.store) c.self.inside.jobs c.self.inside.purge (record { job = c.self.inside.next.job; generation = c.self.inside.next.generation; version = c.self.inside.next.version + 1 }))) c.self.view_is
+    ((state_of c.self.inside.dirs (all_of c.put_at.new.caches) (g.S.Store.objects c.self.inside.store) c.self.inside.jobs c.self.inside.purge (record { job = c.self.inside.next.job; generation = c.self.inside.next.generation; version = c.self.inside.next.version + 1 })), (named_is c.self.inside.dirs c.self.inside.caches (g.S.Store.objects c.self.inside.store) c.self.inside.jobs c.self.inside.purge c.self.inside.next c.self.invariant.0 c.self.invariant.2 c.args.rank holds.there c.put_at.new.caches c.put_at.ensures.caches (c.args.dentry.dir, c.args.leaf) c.args.dentry.name (Some c.args.inode) c.put_at.ensures.changed), sym (ap (λ (b : Bool). cond b (with_directory (state_of c.self.inside.dirs (all_of c.put_at.new.caches) (g.S.Store.objects c.self.inside.store) c.self.inside.jobs c.self.inside.purge (record { job = c.self.inside.next.job; generation = c.self.inside.next.generation; version = c.self.inside.next.version + 1 })) c.args.dentry c.args.inode.ino) (state_of c.self.inside.dirs (all_of c.put_at.new.caches) (g.S.Store.objects c.self.inside.store) c.self.inside.jobs c.self.inside.purge (record { job = c.self.inside.next.job; generation = c.self.inside.next.generation; version = c.self.inside.next.version + 1 }))) c.requires.file))
 
 pub returns-clause-right : goal.returns-clause-right
 returns-clause-right g c =
+    let holds = subst (λ (v : Core). MayHold v.ranks c.args.rank (c.args.dentry.dir, c.args.leaf)) (sym c.self.view_is) c.requires.holds in
     let may = subst (λ (v : Core). MayChange (shown_tree v.state) v.state.covers (Add c.args.dentry c.args.leaf c.args.inode)) (sym c.self.view_is) c.requires.may in
-    subst (λ (v : Core). IsRight (Add c.args.dentry c.args.leaf c.args.inode) v.state (state_of c.self.inside.dirs c.put.new.self (g.S.Store.objects c.self.inside.store) c.self.inside.jobs c.self.inside.purge (record { job = c.self.inside.next.job; generation = c.self.inside.next.generation; version = c.self.inside.next.version + 1 }))) c.self.view_is
-    (file_right c.self.inside.dirs c.self.inside.cache (g.S.Store.objects c.self.inside.store) c.self.inside.jobs c.self.inside.purge c.self.inside.next c.self.invariant.0 c.args.dentry c.args.leaf c.args.inode may c.has_64_bits.ensures c.put.new.self c.put.ensures c.requires.file)
+    subst (λ (v : Core). IsRight (Add c.args.dentry c.args.leaf c.args.inode) v.state (state_of c.self.inside.dirs (all_of c.put_at.new.caches) (g.S.Store.objects c.self.inside.store) c.self.inside.jobs c.self.inside.purge (record { job = c.self.inside.next.job; generation = c.self.inside.next.generation; version = c.self.inside.next.version + 1 }))) c.self.view_is
+    (changes_are_right (Add c.args.dentry c.args.leaf c.args.inode) (state_of c.self.inside.dirs (all_of c.self.inside.caches) (g.S.Store.objects c.self.inside.store) c.self.inside.jobs c.self.inside.purge c.self.inside.next) (state_of c.self.inside.dirs (all_of c.put_at.new.caches) (g.S.Store.objects c.self.inside.store) c.self.inside.jobs c.self.inside.purge (record { job = c.self.inside.next.job; generation = c.self.inside.next.generation; version = c.self.inside.next.version + 1 })) c.self.invariant.0.sound c.has_64_bits.ensures may ((state_of c.self.inside.dirs (all_of c.put_at.new.caches) (g.S.Store.objects c.self.inside.store) c.self.inside.jobs c.self.inside.purge (record { job = c.self.inside.next.job; generation = c.self.inside.next.generation; version = c.self.inside.next.version + 1 })), (named_is c.self.inside.dirs c.self.inside.caches (g.S.Store.objects c.self.inside.store) c.self.inside.jobs c.self.inside.purge c.self.inside.next c.self.invariant.0 c.self.invariant.2 c.args.rank holds.there c.put_at.new.caches c.put_at.ensures.caches (c.args.dentry.dir, c.args.leaf) c.args.dentry.name (Some c.args.inode) c.put_at.ensures.changed), sym (ap (λ (b : Bool). cond b (with_directory (state_of c.self.inside.dirs (all_of c.put_at.new.caches) (g.S.Store.objects c.self.inside.store) c.self.inside.jobs c.self.inside.purge (record { job = c.self.inside.next.job; generation = c.self.inside.next.generation; version = c.self.inside.next.version + 1 })) c.args.dentry c.args.inode.ino) (state_of c.self.inside.dirs (all_of c.put_at.new.caches) (g.S.Store.objects c.self.inside.store) c.self.inside.jobs c.self.inside.purge (record { job = c.self.inside.next.job; generation = c.self.inside.next.generation; version = c.self.inside.next.version + 1 }))) c.requires.file)))
 
-pub returns-clause-cap : goal.returns-clause-cap
-returns-clause-cap g c = changed_cap _ _ (c.args.dentry.dir, c.args.leaf) c.self.inside.cache c.put.new.self c.put.ensures ∙ ap (λ (k : Core). k.cache.cap) c.self.view_is
+pub invariant_of-self : goal.invariant_of-self
+invariant_of-self g c =
+    let holds = subst (λ (v : Core). MayHold v.ranks c.args.rank (c.args.dentry.dir, c.args.leaf)) (sym c.self.view_is) c.requires.holds in
+    let may = subst (λ (v : Core). MayChange (shown_tree v.state) v.state.covers (Add c.args.dentry c.args.leaf c.args.inode)) (sym c.self.view_is) c.requires.may in
+    (
+      named_kept c.self.inside.dirs c.self.inside.caches (g.S.Store.objects c.self.inside.store) c.self.inside.jobs c.self.inside.purge c.self.inside.next c.self.invariant.0 c.self.invariant.2 c.args.rank holds.there c.put_at.new.caches c.put_at.ensures.caches (c.args.dentry.dir, c.args.leaf) c.args.dentry.name (Some c.args.inode) c.put_at.ensures.changed
+          (changes_are_right (Add c.args.dentry c.args.leaf c.args.inode) (state_of c.self.inside.dirs (all_of c.self.inside.caches) (g.S.Store.objects c.self.inside.store) c.self.inside.jobs c.self.inside.purge c.self.inside.next) (state_of c.self.inside.dirs (all_of c.put_at.new.caches) (g.S.Store.objects c.self.inside.store) c.self.inside.jobs c.self.inside.purge (record { job = c.self.inside.next.job; generation = c.self.inside.next.generation; version = c.self.inside.next.version + 1 })) c.self.invariant.0.sound c.has_64_bits.ensures may ((state_of c.self.inside.dirs (all_of c.put_at.new.caches) (g.S.Store.objects c.self.inside.store) c.self.inside.jobs c.self.inside.purge (record { job = c.self.inside.next.job; generation = c.self.inside.next.generation; version = c.self.inside.next.version + 1 })), (named_is c.self.inside.dirs c.self.inside.caches (g.S.Store.objects c.self.inside.store) c.self.inside.jobs c.self.inside.purge c.self.inside.next c.self.invariant.0 c.self.invariant.2 c.args.rank holds.there c.put_at.new.caches c.put_at.ensures.caches (c.args.dentry.dir, c.args.leaf) c.args.dentry.name (Some c.args.inode) c.put_at.ensures.changed), sym (ap (λ (b : Bool). cond b (with_directory (state_of c.self.inside.dirs (all_of c.put_at.new.caches) (g.S.Store.objects c.self.inside.store) c.self.inside.jobs c.self.inside.purge (record { job = c.self.inside.next.job; generation = c.self.inside.next.generation; version = c.self.inside.next.version + 1 })) c.args.dentry c.args.inode.ino) (state_of c.self.inside.dirs (all_of c.put_at.new.caches) (g.S.Store.objects c.self.inside.store) c.self.inside.jobs c.self.inside.purge (record { job = c.self.inside.next.job; generation = c.self.inside.next.generation; version = c.self.inside.next.version + 1 }))) c.requires.file))).sound,
+      named_only c.self.inside.dirs c.self.inside.caches (g.S.Store.objects c.self.inside.store) c.self.inside.jobs c.self.inside.purge c.self.inside.next c.self.invariant.0 c.self.invariant.2 c.args.rank holds.there c.put_at.new.caches c.put_at.ensures.caches (c.args.dentry.dir, c.args.leaf) c.args.dentry.name (Some c.args.inode) c.put_at.ensures.changed c.self.inside.kept c.self.invariant.1,
+      c.put_at.ensures.caches.ranks,
+    )

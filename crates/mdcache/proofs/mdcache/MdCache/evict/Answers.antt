@@ -1,20 +1,55 @@
-use Rattle.std.proofs.Common.{None, subst, ap, ◌∙◌}
+use Rattle.std.proofs.Common.{◌≡◌, ◌<◌, length, None, refl, sym, ap, subst, arith}
 use Rattle.std.specs.Prelude.{OnOk}
-use Rattle.dentry_cache.specs.Cache.{Evicts}
-use Rattle.mdcache.specs.Cached.{Core}
-use Rattle.mdcache.proofs.Steps.{left_kept}
-use Rattle.mdcache.proofs.KeptPlaces.{left_no_more, only_on}
+use Rattle.dentry_cache.specs.Cache.{Evicts, Held}
+use Rattle.rank_caches.specs.Caches.{all_of, cache_of, with_cache}
+use Rattle.rank_caches.proofs.PlaceLaws.{cache_there}
+use Rattle.mdcache.specs.Cached.{Core, state_of}
+use Rattle.mdcache.specs.Frags.{KeepsState}
+use Rattle.mdcache.proofs.AtChanges.{left_all, left_caches, left_each, left_unsaved}
+use Rattle.mdcache.proofs.AtRanks.{only_on}
 use Rattle.mdcache.proofs.CapLaws.{evict_cap}
+use Rattle.mdcache.proofs.KeptPlaces.{left_no_more}
+use Rattle.mdcache.proofs.Steps.{left_kept}
 use Rattle.mdcache.proofs.mdcache.MdCache.evict.Goals as goal
 
 pub invariant_of-self : goal.invariant_of-self
-invariant_of-self g c = (
-  left_kept c.self.inside.dirs c.self.inside.cache (g.S.Store.objects c.self.inside.store) c.self.inside.jobs c.self.inside.purge c.self.inside.next c.self.invariant.0 None c.evict.new.self c.evict.ensures.unsaved c.evict.ensures.leaves,
-  only_on c.self.inside.kept c.self.inside.cache c.evict.new.self c.self.invariant.1 (left_no_more None c.self.inside.cache c.evict.new.self c.evict.ensures.leaves),
-)
+invariant_of-self g c =
+    let there = subst (λ (v : Core). c.args.rank.0 < length v.ranks) (sym c.self.view_is) c.requires in
+    let cap = evict_cap c.evict.result None c.of_mut.result.now c.evict.new.self c.evict.ensures.evicted c.evict.ensures.same in
+    let caches = left_caches c.self.inside.caches c.args.rank c.of_mut.result.now c.evict.new.self c.of_mut.ensures.cache there c.self.invariant.2 cap c.evict.ensures.unsaved c.evict.ensures.leaves in
+    let unclean = left_unsaved c.self.inside.caches c.args.rank c.of_mut.result.now c.evict.new.self c.of_mut.ensures.cache there c.self.invariant.2 cap c.evict.ensures.unsaved c.evict.ensures.leaves in
+    let left = left_all c.self.inside.caches c.args.rank c.of_mut.result.now c.evict.new.self c.of_mut.ensures.cache there c.self.invariant.2 cap c.evict.ensures.unsaved c.evict.ensures.leaves in (
+      left_kept c.self.inside.dirs (all_of c.self.inside.caches) (g.S.Store.objects c.self.inside.store) c.self.inside.jobs c.self.inside.purge c.self.inside.next c.self.invariant.0 None (all_of (with_cache c.self.inside.caches c.args.rank c.evict.new.self)) unclean left,
+      only_on c.self.inside.kept c.self.inside.caches (with_cache c.self.inside.caches c.args.rank c.evict.new.self) c.self.invariant.2.apart caches (left_no_more None (all_of c.self.inside.caches) (all_of (with_cache c.self.inside.caches c.args.rank c.evict.new.self)) left) c.self.invariant.1,
+      caches.ranks,
+    )
 
 pub returns-clause-evicted : goal.returns-clause-evicted
-returns-clause-evicted g c = subst (λ (v : Core). OnOk c.evict.result (Evicts None v.cache c.evict.new.self)) c.self.view_is c.evict.ensures.evicted
+returns-clause-evicted g c =
+    let there = subst (λ (v : Core). c.args.rank.0 < length v.ranks) (sym c.self.view_is) c.requires in
+    subst (λ (v : Core). OnOk c.evict.result (Evicts None (cache_of v.ranks c.args.rank) (cache_of (with_cache c.self.inside.caches c.args.rank c.evict.new.self) c.args.rank))) c.self.view_is
+    (subst (λ (h : Held). OnOk c.evict.result (Evicts None (cache_of c.self.inside.caches c.args.rank) h)) (sym (cache_there c.self.inside.caches c.args.rank c.evict.new.self there))
+    (subst (λ (h : Held). OnOk c.evict.result (Evicts None h c.evict.new.self)) c.of_mut.ensures.cache c.evict.ensures.evicted))
 
-pub returns-clause-cap : goal.returns-clause-cap
-returns-clause-cap g c = evict_cap c.evict.result None c.self.inside.cache c.evict.new.self c.evict.ensures.evicted c.evict.ensures.same ∙ ap (λ (k : Core). k.cache.cap) c.self.view_is
+pub returns-clause-kept : goal.returns-clause-kept
+returns-clause-kept g c =
+    let there = subst (λ (v : Core). c.args.rank.0 < length v.ranks) (sym c.self.view_is) c.requires in
+    let cap = evict_cap c.evict.result None c.of_mut.result.now c.evict.new.self c.evict.ensures.evicted c.evict.ensures.same in
+    let caches = left_caches c.self.inside.caches c.args.rank c.of_mut.result.now c.evict.new.self c.of_mut.ensures.cache there c.self.invariant.2 cap c.evict.ensures.unsaved c.evict.ensures.leaves in
+    let unclean = left_unsaved c.self.inside.caches c.args.rank c.of_mut.result.now c.evict.new.self c.of_mut.ensures.cache there c.self.invariant.2 cap c.evict.ensures.unsaved c.evict.ensures.leaves in
+    let after : Core = record {
+      state = state_of c.self.inside.dirs (all_of (with_cache c.self.inside.caches c.args.rank c.evict.new.self)) (g.S.Store.objects c.self.inside.store) c.self.inside.jobs c.self.inside.purge c.self.inside.next;
+      ranks = with_cache c.self.inside.caches c.args.rank c.evict.new.self;
+      cache = all_of (with_cache c.self.inside.caches c.args.rank c.evict.new.self);
+      dirs_left = c.self.inside.dirs.room;
+      purge_left = c.self.inside.purge.room;
+      faults = g.S.Store.faults c.self.inside.store;
+      prepared = c.self.inside.prepared;
+    } in
+    subst (λ (v : Core). KeepsState v after) c.self.view_is (record {
+      state = λ i. record (state_of c.self.inside.dirs (all_of c.self.inside.caches) (g.S.Store.objects c.self.inside.store) c.self.inside.jobs c.self.inside.purge c.self.inside.next) { unsaved = unclean i };
+      unsaved = left_each c.self.inside.caches c.args.rank c.of_mut.result.now c.evict.new.self c.of_mut.ensures.cache there c.self.invariant.2 cap c.evict.ensures.unsaved c.evict.ensures.leaves;
+      count = caches.count;
+      cap = caches.cap;
+      grows = omega arith;
+    })
