@@ -1,4 +1,9 @@
+pub mod AskLaws
 pub mod AuthorityLaws
+pub mod ChangedTables
+pub mod HeldChanges
+pub mod HeldLaws
+pub mod HolderLaws
 pub mod InsideLaws
 pub mod Kept
 pub mod NewLaws

@@ -1,11 +1,14 @@
 -- What the calls about commits and objects leave of the tables: directories and leaves stay, and so do the roots.
 use Rattle.std.proofs.Common.{◌≡◌, ℕ, List, Option, Some, None, Result, Ok, Err, ap}
+use Rattle.std.specs.FinMap as map
 use Rattle.mds_types.specs.declared.ids.Ino.{Ino}
 use Rattle.mds_types.specs.declared.refusals.Refusal.{Refusal}
 use Rattle.commit_jobs.specs.declared.jobs.Job.{Job as Begun}
 use Rattle.dentry_cache.specs.Cache.{Leaf, Unsaved}
-use Rattle.mdcache.specs.Commits.{BeginsWith, Drops, Ends}
+use Rattle.inode_table.specs.Dirs.{IsLive}
+use Rattle.mdcache.specs.Commits.{Begins, BeginsWith, Drops, Ends}
 use Rattle.mdcache.specs.Objects.{PurgesName, SavesTree}
+use Rattle.mdcache.specs.Sound.{IsSound}
 use Rattle.mdcache.specs.State.{State as TreeState}
 
 -- directories and leaves stay
@@ -20,6 +23,11 @@ module _ (old new : TreeState) where
   begun None leaf job h = same_tables old new h.1
   begun (Some u) leaf None h = absurd h
   begun (Some u) leaf (Some job) h = (ap (λ (s : TreeState). s.homes) h.2, ap (λ (s : TreeState). s.covers) h.2)
+
+  -- a commit of a leaf begins, or is refused
+  pub begun_stays : (leaf : Leaf) (result : Result (Option Begun) Refusal) → Begins old new leaf result → TablesStay old new
+  begun_stays leaf (Ok job) h = begun (map.get old.unsaved leaf) leaf job h.2
+  begun_stays leaf (Err reason) h = same_tables old new h.1
 
   pub ended : (before after : ℕ) (job : Begun) (result : Result (Unit {0}) Refusal) → Ends old new before after job result → TablesStay old new
   ended before after job (Ok done) h = (ap (λ (s : TreeState). s.homes) h.left, ap (λ (s : TreeState). s.covers) h.left)
@@ -37,3 +45,7 @@ module _ (old new : TreeState) where
   purged before after None result h = same_tables old new h.1
   purged before after (Some name) (Ok done) h = (ap (λ (s : TreeState). s.homes) h.0, ap (λ (s : TreeState). s.covers) h.0)
   purged before after (Some name) (Err reason) h = same_tables old new h.1
+
+-- where a leaf isn't live no job stands for it
+pub none_stands : (s : TreeState) (leaf : Leaf) (job : Begun) → IsSound s → (IsLive s.homes s.covers leaf → ⊥) → map.get s.jobs leaf ≡ Some job → ⊥
+none_stands s leaf job sound gone stands = let standing = sound.standing leaf job stands in gone (sound.unsaved leaf standing.unsaved standing.beside).live

@@ -17,7 +17,7 @@ use Rattle.subtree_map.specs.Authority.{HasAuthority, IsSubtrees, Roots}
 use Rattle.subtree_map.specs.Changes.{HaveOneAuthority, IsRootMerge, IsRootSplit}
 use Rattle.subtree_map.specs.Moves.{HasRoomToMove, IsSettled}
 use Rattle.subtree_map.proofs.Options.{one_value}
-use Rattle.mdcache.specs.Changes.{Makes, with_directory, with_home_at, without}
+use Rattle.mdcache.specs.Changes.{Makes}
 use Rattle.mdcache.specs.Going.{rows_but}
 use Rattle.mdcache.specs.Shown.{shown_tree}
 use Rattle.mdcache.specs.Sound.{IsSound}
@@ -26,6 +26,7 @@ use Rattle.mdcache.specs.State.{State}
 use Rattle.mdcache.proofs.HomeLaws.{moved_home, moved_known}
 use Rattle.mdcache.proofs.MoveSteps.{relocates, replaces}
 use Rattle.ranked_tree.specs.Subtrees.{AreRoots, FollowChange, GivesToChildren, HasRoomFor, LoseDirectory, SettleMove, SettleMoving, TakesOver}
+use Rattle.ranked_tree.proofs.ChangedTables.{TablesAre, added_tables, grown_tables, moved_tables, removed_tables, set_tables}
 use Rattle.ranked_tree.proofs.RootLaws.{IsSoundChange, child_authority, divided_soundly, grown, lost, merged_authority, merged_soundly, rehomed, sound_on, unchanged}
 
 -- the same of equal tables
@@ -39,16 +40,8 @@ lose : (before after : Roots) (homes : Homes) (covers : Covers) (went : Option I
 lose before after homes covers None table valid same may = unchanged before after homes covers table valid same
 lose before after homes covers (Some dir) table valid gone may = lost before after homes covers table valid dir.0 gone may
 
-homes_without : (s : State) (went : Option Ino) → (without s went).homes ≡ rows_but s.homes went
-homes_without s None = refl
-homes_without s (Some dir) = refl
-
-covers_without : (s : State) (went : Option Ino) → (without s went).covers ≡ rows_but s.covers went
-covers_without s None = refl
-covers_without s (Some dir) = refl
-
 -- a directory that a removal takes away may go
-removable : (old : State) (dentry : Dentry) (leaf : Fragment) (went : Option Ino) → IsSound old → MayChange (shown_tree old) old.covers (Remove dentry leaf went) → IfSome went (λ (dir : Ino). MayGo old.homes dir.0)
+pub removable : (old : State) (dentry : Dentry) (leaf : Fragment) (went : Option Ino) → IsSound old → MayChange (shown_tree old) old.covers (Remove dentry leaf went) → IfSome went (λ (dir : Ino). MayGo old.homes dir.0)
 removable old dentry leaf went sound may = subst (λ (d : Option Ino). IfSome d (λ (dir : Ino). MayGo old.homes dir.0)) (sym may.carries.1) (go (map.get (shown_tree old) dentry) refl)
   where
     at : (i : Inode) (b : Bool) → is_dir_kind i.kind ≡ b → map.get (shown_tree old) dentry ≡ Some i → IfSome (cond b (Some i.ino) None) (λ (dir : Ino). MayGo old.homes dir.0)
@@ -72,38 +65,36 @@ module _ (old : State) (before settled : Roots) (to : Dentry) (inode : Inode) (s
           at_table before settled old.homes (with_home old.homes to inode) old.homes old.covers old.covers old.covers (with_file old.homes to inode kinded) refl
           (unchanged before settled old.homes old.covers sound.table valid same)
 
+-- what moves may, where it is a directory
+pub may_settle : (old : State) (from to : Dentry) (source target : Fragment) (went : Option Ino) → IsSound old → (may : MayChange (shown_tree old) old.covers (Move from source to target went)) → (inode : Inode) → map.get (shown_tree old) from ≡ Some inode
+    → is_dir_kind inode.kind ≡ true → MayMove old.homes inode.ino.0 (home_at to)
+may_settle old from to source target went sound may inode stands kinded = relocates old sound from to source target inode went may stands kinded
+
 -- every change keeps the authority of every leaf that stays
 pub changes_soundly : (change : Change) (old new : State) (before after : Roots) → IsSound old → MayChange (shown_tree old) old.covers change → Makes change old new → FollowChange change old before after → AreRoots old before
     → IsSoundChange before after old.homes new.homes old.covers new.covers
 changes_soundly (Set dentry leaf inode) old new before after sound may makes follow valid =
-    at_table before after old.homes new.homes old.homes old.covers new.covers old.covers (ap (λ (s : State). s.homes) makes.left) (ap (λ (s : State). s.covers) makes.left)
-    (unchanged before after old.homes old.covers sound.table valid (follow.2 ∙ follow.1))
-changes_soundly (Add dentry leaf inode) old new before after sound may makes follow valid = go (is_dir_kind inode.kind) refl makes.2
+    let tables = set_tables old new dentry leaf inode makes in
+    at_table before after old.homes new.homes old.homes old.covers new.covers old.covers tables.0 tables.1 (unchanged before after old.homes old.covers sound.table valid (follow.2 ∙ follow.1))
+changes_soundly (Add dentry leaf inode) old new before after sound may makes follow valid = go (is_dir_kind inode.kind) refl
   where
-    same_homes : makes.0.homes ≡ old.homes
-    same_homes = ap (λ (s : State). s.homes) makes.1.left
-
-    same_covers : makes.0.covers ≡ old.covers
-    same_covers = ap (λ (s : State). s.covers) makes.1.left
-
-    go : (b : Bool) → is_dir_kind inode.kind ≡ b → new ≡ cond b (with_directory makes.0 dentry inode.ino) makes.0 → IsSoundChange before after old.homes new.homes old.covers new.covers
-    go true kinded is =
-        at_table before after old.homes new.homes (map.insert old.homes inode.ino.0 (home_at dentry)) old.covers new.covers old.covers
-        (ap (λ (s : State). s.homes) is ∙ ap (λ (h : Homes). map.insert h inode.ino.0 (home_at dentry)) same_homes) (ap (λ (s : State). s.covers) is ∙ same_covers)
+    go : (b : Bool) → is_dir_kind inode.kind ≡ b → IsSoundChange before after old.homes new.homes old.covers new.covers
+    go true kinded =
+        let tables = grown_tables old new dentry leaf inode kinded makes in
+        at_table before after old.homes new.homes (map.insert old.homes inode.ino.0 (home_at dentry)) old.covers new.covers old.covers tables.0 tables.1
         (grown before after old.homes old.covers sound.table valid inode.ino.0 (home_at dentry) (may_come (shown_tree old) old.homes dentry inode sound.tabled may.takes) (follow.2 ∙ follow.1))
-    go false kinded is =
-        at_table before after old.homes new.homes old.homes old.covers new.covers old.covers (ap (λ (s : State). s.homes) is ∙ same_homes) (ap (λ (s : State). s.covers) is ∙ same_covers)
-        (unchanged before after old.homes old.covers sound.table valid (follow.2 ∙ follow.1))
+    go false kinded =
+        let tables = added_tables old new dentry leaf inode kinded makes in
+        at_table before after old.homes new.homes old.homes old.covers new.covers old.covers tables.0 tables.1 (unchanged before after old.homes old.covers sound.table valid (follow.2 ∙ follow.1))
 changes_soundly (Remove dentry leaf went) old new before after sound may makes follow valid =
-    at_table before after old.homes new.homes (rows_but old.homes went) old.covers new.covers (rows_but old.covers went)
-    (ap (λ (s : State). s.homes) makes.2 ∙ homes_without makes.0 went ∙ ap (λ (s : State). rows_but s.homes went) makes.1.left)
-    (ap (λ (s : State). s.covers) makes.2 ∙ covers_without makes.0 went ∙ ap (λ (s : State). rows_but s.covers went) makes.1.left)
+    let tables = removed_tables old new dentry leaf went makes in
+    at_table before after old.homes new.homes (rows_but old.homes went) old.covers new.covers (rows_but old.covers went) tables.0 tables.1
     (lose before after old.homes old.covers went sound.table valid (subst (λ (r : Roots). LoseDirectory r after went) follow.1 follow.2) (removable old dentry leaf went sound may))
 changes_soundly (Move from source to target went) old new before after sound may makes follow valid =
-    at_table before after old.homes new.homes (rows_but moved_homes went) old.covers new.covers (rows_but old.covers went) homes_are covers_are (
+    at_table before after old.homes new.homes (rows_but moved_homes went) old.covers new.covers (rows_but old.covers went) tables.0 tables.1 (
     sound_on before settled after old.homes moved_homes (rows_but moved_homes went) old.covers old.covers (rows_but old.covers went) first
     (lose settled after moved_homes old.covers went table first.valid follow.2 (replaces old sound from to source target inode went may makes.1))
-    (λ leaf was is. record { known = moved_known old.homes old.covers sound.table to inode may_settle leaf.0.0 ∙ was.known; stands = was.stands })
+    (λ leaf was is. record { known = moved_known old.homes old.covers sound.table to inode settles_may leaf.0.0 ∙ was.known; stands = was.stands })
     )
   where
     inode : Inode
@@ -115,29 +106,20 @@ changes_soundly (Move from source to target went) old new before after sound may
     moved_homes : Homes
     moved_homes = with_home old.homes to inode
 
-    may_settle : is_dir_kind inode.kind ≡ true → MayMove old.homes inode.ino.0 (home_at to)
-    may_settle kinded = relocates old sound from to source target inode went may makes.1 kinded
+    settles_may : is_dir_kind inode.kind ≡ true → MayMove old.homes inode.ino.0 (home_at to)
+    settles_may = may_settle old from to source target went sound may inode makes.1
 
     settles : SettleMove old before settled to inode
     settles = subst (λ (i : Inode). SettleMove old before settled to i) (one_value _ follow.1.0 inode follow.1.1 makes.1) follow.1.2
 
     first : IsSoundChange before settled old.homes moved_homes old.covers old.covers
-    first = moves old before settled to inode sound valid may_settle settles
+    first = moves old before settled to inode sound valid settles_may settles
 
     table : IsTable moved_homes old.covers
-    table = moved_home old.homes old.covers sound.table to inode may_settle
+    table = moved_home old.homes old.covers sound.table to inode settles_may
 
-    named_is : makes.4.homes ≡ old.homes
-    named_is = ap (λ (s : State). s.homes) makes.5.left ∙ ap (λ (s : State). s.homes) makes.3.left
-
-    covers_named : makes.4.covers ≡ old.covers
-    covers_named = ap (λ (s : State). s.covers) makes.5.left ∙ ap (λ (s : State). s.covers) makes.3.left
-
-    homes_are : new.homes ≡ rows_but moved_homes went
-    homes_are = ap (λ (s : State). s.homes) makes.6 ∙ homes_without (with_home_at makes.4 to inode) went ∙ ap (λ (h : Homes). rows_but (with_home h to inode) went) named_is
-
-    covers_are : new.covers ≡ rows_but old.covers went
-    covers_are = ap (λ (s : State). s.covers) makes.6 ∙ covers_without (with_home_at makes.4 to inode) went ∙ ap (λ (c : Covers). rows_but c went) covers_named
+    tables : TablesAre new (rows_but moved_homes went) (rows_but old.covers went)
+    tables = moved_tables old new from to source target went makes
 
 -- ---- what is about to move, as it was made ready
 

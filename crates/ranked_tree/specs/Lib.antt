@@ -1,3 +1,3 @@
-pub mod FragsLaws
+pub mod Held
 pub mod Ranked
 pub mod Subtrees

@@ -4,9 +4,11 @@ use Rattle.std.specs.FinMap as map
 use Rattle.namespace_ops.specs.declared.plans.Change.{Change}
 use Rattle.subtree_map.specs.Authority.{Roots}
 use Rattle.subtree_map.specs.Changes.{Subtrees}
+use Rattle.mdcache.specs.declared.holders.Holders.{Holders}
 use Rattle.mdcache.specs.Cached.{Core}
 use Rattle.mdcache.specs.Frags.{KeepsState, IsReady as IsReadyIn}
 use Rattle.mdcache.specs.New.{root_leaf}
+use Rattle.ranked_tree.specs.Held.{AreHolders}
 use Rattle.ranked_tree.specs.Subtrees.{HasRoomFor}
 
 -- the tree over its caches and store, and its subtree roots
@@ -14,14 +16,20 @@ pub record Ranked : Type 0 where
   pub tree : Core
   pub subtrees : Subtrees
 
--- reads and refusals keep the state, the number of places and the roots; the store's faults only rise
+-- reads and refusals keep the state, the number of ranks and places and the roots; the store's faults only rise
 pub record KeepsRanked (old new : Ranked) : Type 0 where
   pub tree : KeepsState old.tree new.tree
   pub roots : new.subtrees.roots ≡ old.subtrees.roots
 
+-- the tree is ready for a change in the caches of the ranks that hold its leaves
+pub record IsReadyHeld (core : Core) (roots : Roots) (change : Change) : Type 0 where
+  pub at : Holders
+  pub holders : AreHolders core.state roots at change
+  pub ready : IsReadyIn core at change
+
 -- a change can be made with no growth: the tree is ready for it, and there is room for the roots that it makes
 pub record IsReady (ranked : Ranked) (change : Change) : Type 0 where
-  pub tree : IsReadyIn ranked.tree change
+  pub tree : IsReadyHeld ranked.tree ranked.subtrees.roots change
   pub roots : HasRoomFor change ranked.tree.state ranked.subtrees.roots ranked.subtrees.room
 
 -- the one subtree root of a new tree: the root directory's leaf is rank 0's

@@ -1,5 +1,5 @@
 //! Changes of the tree, made ready and then made, with what they make of the roots.
-ghost use Rattle.std.specs.Prelude.{◌≡◌, ◌≤◌, MatchOption, IfSome, OnOk, OnErr, IfErr};
+ghost use Rattle.std.specs.Prelude.{◌≡◌, ◌≤◌, MatchOption, IfSome, OnOk, OnErr, IfErr, length};
 ghost use Rattle.mds_types.specs.declared.refusals.Refusal.TheVariants.{NoMemory};
 ghost use Rattle.inode_table.specs.Dirs.{MayMove};
 ghost use Rattle.inode_table.specs.TreeTable.{home_at};
@@ -8,13 +8,14 @@ ghost use Rattle.namespace_ops.specs.Changes.{MayChange};
 ghost use Rattle.subtree_map.specs.Authority.{IsSubtrees};
 ghost use Rattle.subtree_map.specs.Moves.{HasRoomToMove, IsSettled};
 ghost use Rattle.mdcache.specs.Changes.{Makes};
-ghost use Rattle.mdcache.specs.Frags.{IsReady as IsReadyIn};
 ghost use Rattle.mdcache.specs.Made.{IsRight};
 ghost use Rattle.mdcache.specs.Shown.{shown_tree};
 ghost use Rattle.mdcache.specs.Sound.{IsSound};
-ghost use Rattle.ranked_tree.specs.Ranked.{IsReady, KeepsRanked};
-ghost use Rattle.ranked_tree.specs.Subtrees.{AreRoots, FollowChange, HasRoomFor, KeepsRoots, LoseDirectory, SettleMoving, KeepsAuthorities, NoNewRank};
+ghost use Rattle.ranked_tree.specs.Held.{AreHeld, IsOwned};
+ghost use Rattle.ranked_tree.specs.Ranked.{IsReady, IsReadyHeld};
+ghost use Rattle.ranked_tree.specs.Subtrees.{AreRoots, FollowChange, HasRoomFor, KeepsAuthorities, KeepsRoots, LoseDirectory, NoNewRank, SettleMoving};
 
+use crate::holding::holders_of;
 use crate::ranked_tree::RankedTree;
 use inode_table::Dirs;
 use mdcache::MdCache;
@@ -33,6 +34,7 @@ impl<S: Store + Drop> RankedTree<S> {
         requires may { MayChange (shown_tree self.old.tree.state) self.old.tree.state.covers change }
         ensures made { Makes change self.old.tree.state self.new.tree.state }
         ensures right { IsRight change self.old.tree.state self.new.tree.state }
+        ensures count { length self.new.tree.ranks ≡ length self.old.tree.ranks }
         ensures cap { self.new.tree.cache.cap ≡ self.old.tree.cache.cap }
         ensures faults { self.new.tree.faults ≡ self.old.tree.faults }
         ensures roots { FollowChange change self.old.tree.state self.old.subtrees.roots self.new.subtrees.roots }
@@ -41,29 +43,17 @@ impl<S: Store + Drop> RankedTree<S> {
     {
         change_tree(&mut self.tree, &mut self.roots, change);
     }
-
-    // Makes room for the roots of a change that the tree is ready for.
-    pub(crate) fn reserve_roots(&mut self, change: &Change) -> Result<(), Refusal>
-        requires ready { IsReadyIn self.old.tree change.now }
-        requires may { MayChange (shown_tree self.old.tree.state) self.old.tree.state.covers change.now }
-        ensures room { OnOk result (HasRoomFor change.now self.old.tree.state self.new.subtrees.roots self.new.subtrees.room) }
-        ensures tree { self.new.tree ≡ self.old.tree }
-        ensures roots { self.new.subtrees.roots ≡ self.old.subtrees.roots }
-        ensures refused { IfErr result (λ reason. reason ≡ NoMemory) }
-    {
-        reserve_roots(self.alloc, &self.tree, &mut self.roots, change)
-    }
 }
 
-// Makes room for the roots that a change makes, which was made ready, so that it can't fail. Refused for want of memory
-// alone, and the roots are as they were then.
-fn reserve_roots<S: Store + Drop>(
+/// Makes room for the roots that a change makes, which was made ready, so that it can't fail. Refused for want of memory
+/// alone, and the roots are as they were then.
+pub(crate) fn reserve_roots<S: Store + Drop>(
     alloc: Global,
     tree: &MdCache<S>,
     roots: &mut Subtrees,
     change: &Change,
 ) -> Result<(), Refusal>
-    requires ready { IsReadyIn tree.now change.now }
+    requires ready { IsReadyHeld tree.now roots.old.roots change.now }
     requires may { MayChange (shown_tree tree.now.state) tree.now.state.covers change.now }
     ensures room { OnOk result (HasRoomFor change.now tree.now.state roots.new.roots roots.new.room) }
     ensures same { roots.new.roots ≡ roots.old.roots }
@@ -81,12 +71,13 @@ fn reserve_roots<S: Store + Drop>(
 // another rank become roots of the one that they have; a directory that goes has none any more, and no promise of one is
 // left. Takes no memory.
 fn change_tree<S: Store + Drop>(tree: &mut MdCache<S>, roots: &mut Subtrees, change: Change)
-    requires ready { IsReadyIn tree.old change }
+    requires ready { IsReadyHeld tree.old roots.old.roots change }
     requires may { MayChange (shown_tree tree.old.state) tree.old.state.covers change }
     requires room { HasRoomFor change tree.old.state roots.old.roots roots.old.room }
-    requires valid { AreRoots tree.old.state roots.old.roots }
+    requires owned { IsOwned tree.old roots.old.roots }
     ensures made { Makes change tree.old.state tree.new.state }
     ensures right { IsRight change tree.old.state tree.new.state }
+    ensures count { length tree.new.ranks ≡ length tree.old.ranks }
     ensures cap { tree.new.cache.cap ≡ tree.old.cache.cap }
     ensures faults { tree.new.faults ≡ tree.old.faults }
     ensures roots { FollowChange change tree.old.state roots.old.roots roots.new.roots }
@@ -94,16 +85,20 @@ fn change_tree<S: Store + Drop>(tree: &mut MdCache<S>, roots: &mut Subtrees, cha
     ensures authority { KeepsAuthorities tree.old.state tree.new.state roots.old.roots roots.new.roots }
     ensures ranks { NoNewRank roots.old.roots roots.new.roots }
     ensures valid { AreRoots tree.new.state roots.new.roots }
+    ensures held { AreHeld tree.new.state tree.new.ranks roots.new.roots }
 {
+    // The contract of `store` is what says here that no leaf has places at two ranks.
+    let _ = tree.store();
+    let at = holders_of(tree, roots, &change);
     settle(tree, roots, &change);
     let went = went_with(&change);
-    tree.apply(change);
+    tree.apply(at, change);
     lose(roots, went);
 }
 
 // Before a change makes a directory move, its roots are settled.
 fn settle<S: Store + Drop>(tree: &MdCache<S>, roots: &mut Subtrees, change: &Change)
-    requires ready { IsReadyIn tree.now change.now }
+    requires ready { IsReadyHeld tree.now roots.old.roots change.now }
     requires may { MayChange (shown_tree tree.now.state) tree.now.state.covers change.now }
     requires room { HasRoomFor change.now tree.now.state roots.old.roots roots.old.room }
     requires valid { AreRoots tree.now.state roots.old.roots }

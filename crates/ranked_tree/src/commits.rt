@@ -1,41 +1,50 @@
 //! Commits, objects and places: none of it changes what leaves there are, nor whose.
-ghost use Rattle.std.specs.Prelude.{◌≡◌, ◌≤◌, None, OnOk, OnErr, IfErr};
+ghost use Rattle.std.specs.Prelude.{◌≡◌, ◌<◌, ◌≤◌, None, OnOk, OnErr, IfErr, length};
 ghost use Rattle.mds_types.specs.declared.refusals.Refusal.TheVariants.{NothingToEvict};
 ghost use Rattle.dentry_cache.specs.Cache.{Evicts, NoneGoes};
+ghost use Rattle.rank_caches.specs.Caches.{cache_of, with_cache};
 ghost use Rattle.mdcache.specs.Commits.{Begins, Drops, Ends};
+ghost use Rattle.mdcache.specs.Frags.{KeepsState};
 ghost use Rattle.mdcache.specs.Objects.{Purges, SavesTree};
+ghost use Rattle.ranked_tree.specs.Held.{IsOwned};
 
+use crate::holding::holder_of;
 use crate::ranked_tree::RankedTree;
 use commit_jobs::{Encoded, Job};
-use mds_types::{Frag, Ino, Refusal};
+use mdcache::MdCache;
+use mds_types::{Frag, Ino, Rank, Refusal};
 use objstore::Store;
 use std::alloc::Global;
+use subtree_map::Subtrees;
 
 impl<S: Store + Drop> RankedTree<S> {
     /// Begins a commit of a leaf, as `MdCache::begin` does and refuses.
     pub fn begin(&mut self, dir: Ino, frag: Frag) -> Result<Option<Job>, Refusal>
         ensures begun { Begins self.old.tree.state self.new.tree.state (dir, frag) result }
         ensures roots { self.new.subtrees ≡ self.old.subtrees }
+        ensures count { length self.new.tree.ranks ≡ length self.old.tree.ranks }
         ensures cap { self.new.tree.cache.cap ≡ self.old.tree.cache.cap }
         ensures faults { self.new.tree.faults ≡ self.old.tree.faults }
     {
-        self.tree.begin(dir, frag)
+        begin(&mut self.tree, &self.roots, dir, frag)
     }
 
     /// Ends a commit, as `MdCache::end` does and refuses.
     pub fn end(&mut self, alloc: Global, encoded: &Encoded) -> Result<(), Refusal>
         ensures ended { Ends self.old.tree.state self.new.tree.state self.old.tree.faults self.new.tree.faults encoded.now.job result }
         ensures roots { self.new.subtrees ≡ self.old.subtrees }
+        ensures count { length self.new.tree.ranks ≡ length self.old.tree.ranks }
         ensures cap { self.new.tree.cache.cap ≡ self.old.tree.cache.cap }
         ensures grows { self.old.tree.faults ≤ self.new.tree.faults }
     {
-        self.tree.end(alloc, encoded)
+        end(alloc, &mut self.tree, &self.roots, encoded)
     }
 
     /// Gives a commit up, as `MdCache::drop_job` does and refuses.
     pub fn drop_job(&mut self, number: u64) -> Result<(), Refusal>
         ensures dropped { Drops self.old.tree.state self.new.tree.state number result }
         ensures roots { self.new.subtrees ≡ self.old.subtrees }
+        ensures count { length self.new.tree.ranks ≡ length self.old.tree.ranks }
         ensures cap { self.new.tree.cache.cap ≡ self.old.tree.cache.cap }
         ensures faults { self.new.tree.faults ≡ self.old.tree.faults }
     {
@@ -46,6 +55,7 @@ impl<S: Store + Drop> RankedTree<S> {
     pub fn commit_tree(&mut self, alloc: Global, dir: Ino) -> Result<(), Refusal>
         ensures saved { SavesTree self.old.tree.state self.new.tree.state self.old.tree.faults self.new.tree.faults dir result }
         ensures roots { self.new.subtrees ≡ self.old.subtrees }
+        ensures count { length self.new.tree.ranks ≡ length self.old.tree.ranks }
         ensures cap { self.new.tree.cache.cap ≡ self.old.tree.cache.cap }
         ensures grows { self.old.tree.faults ≤ self.new.tree.faults }
     {
@@ -56,23 +66,70 @@ impl<S: Store + Drop> RankedTree<S> {
     pub fn purge(&mut self) -> Result<(), Refusal>
         ensures purged { Purges self.old.tree.state self.new.tree.state self.old.tree.faults self.new.tree.faults result }
         ensures roots { self.new.subtrees ≡ self.old.subtrees }
+        ensures count { length self.new.tree.ranks ≡ length self.old.tree.ranks }
         ensures cap { self.new.tree.cache.cap ≡ self.old.tree.cache.cap }
         ensures grows { self.old.tree.faults ≤ self.new.tree.faults }
     {
         self.tree.purge()
     }
 
-    /// Drops the least recently used of the clean fragments, as `MdCache::evict` does and refuses.
-    pub fn evict(&mut self) -> Result<(), Refusal>
-        ensures evicted { OnOk result (Evicts None self.old.tree.cache self.new.tree.cache) }
-        ensures same { self.new.tree.state ≡ self.old.tree.state }
+    /// Drops the least recently used of the clean fragments of a rank, as `MdCache::evict` does and refuses.
+    pub fn evict(&mut self, rank: Rank) -> Result<(), Refusal>
+        requires there { rank.0 < length self.old.tree.ranks }
+        ensures evicted { OnOk result (Evicts None (cache_of self.old.tree.ranks rank) (cache_of self.new.tree.ranks rank)) }
+        ensures others { self.new.tree.ranks ≡ with_cache self.old.tree.ranks rank (cache_of self.new.tree.ranks rank) }
+        ensures kept { KeepsState self.old.tree self.new.tree }
         ensures roots { self.new.subtrees ≡ self.old.subtrees }
-        ensures cap { self.new.tree.cache.cap ≡ self.old.tree.cache.cap }
         ensures faults { self.new.tree.faults ≡ self.old.tree.faults }
         ensures refused { IfErr result (λ reason. reason ≡ NothingToEvict) }
-        ensures none { OnErr result (NoneGoes None self.old.tree.cache.entries) }
+        ensures none { OnErr result (NoneGoes None (cache_of self.old.tree.ranks rank).entries) }
         ensures left { OnErr result (self.new.tree ≡ self.old.tree) }
     {
-        self.tree.evict()
+        self.tree.evict(rank)
     }
+}
+
+// Begins a commit of a leaf at the rank that holds it.
+fn begin<S: Store + Drop>(
+    tree: &mut MdCache<S>,
+    roots: &Subtrees,
+    dir: Ino,
+    frag: Frag,
+) -> Result<Option<Job>, Refusal>
+    requires owned { IsOwned tree.old roots.now.roots }
+    ensures begun { Begins tree.old.state tree.new.state (dir, frag) result }
+    ensures count { length tree.new.ranks ≡ length tree.old.ranks }
+    ensures cap { tree.new.cache.cap ≡ tree.old.cache.cap }
+    ensures faults { tree.new.faults ≡ tree.old.faults }
+    ensures owned { IsOwned tree.new roots.now.roots }
+{
+    if !tree.has_leaf(dir, frag) {
+        return Err(Refusal::NoSuchFrag);
+    }
+    let rank = holder_of(tree, roots, dir, frag);
+    tree.begin(rank, dir, frag)
+}
+
+// Ends a commit at the rank that holds its leaf. Where there is no such leaf no job of it stands.
+fn end<S: Store + Drop>(
+    alloc: Global,
+    tree: &mut MdCache<S>,
+    roots: &Subtrees,
+    encoded: &Encoded,
+) -> Result<(), Refusal>
+    requires owned { IsOwned tree.old roots.now.roots }
+    ensures ended { Ends tree.old.state tree.new.state tree.old.faults tree.new.faults encoded.now.job result }
+    ensures count { length tree.new.ranks ≡ length tree.old.ranks }
+    ensures cap { tree.new.cache.cap ≡ tree.old.cache.cap }
+    ensures grows { tree.old.faults ≤ tree.new.faults }
+    ensures owned { IsOwned tree.new roots.now.roots }
+{
+    // The contract of `dirs` is what says here that the state is sound.
+    let _ = tree.dirs();
+    let job = encoded.job();
+    if !tree.has_leaf(job.ino, job.frag) {
+        return Err(Refusal::StaleJob);
+    }
+    let rank = holder_of(tree, roots, job.ino, job.frag);
+    tree.end(alloc, rank, encoded)
 }

@@ -1,9 +1,8 @@
 //! A tree over a store that has no object, with its one subtree root.
-ghost use Rattle.std.specs.Prelude.{◌≡◌, ◌≤◌, [], ◌∷◌, OnOk, IfOk, IfErr};
+ghost use Rattle.std.specs.Prelude.{◌≡◌, ◌<◌, ◌≤◌, OnOk, IfOk, IfErr};
 ghost use Rattle.std.specs.FinMap as map;
-ghost use Rattle.lru.specs.LruCache.{lru_cache};
-ghost use Rattle.dentry_cache.specs.Cache.{held};
-ghost use Rattle.mdcache.specs.New.{MayNotFormat, cached_root, new_state, root_leaf};
+ghost use Rattle.rank_caches.specs.Caches.{all_of};
+ghost use Rattle.mdcache.specs.New.{MayNotFormat, new_caches, new_state};
 ghost use Rattle.ranked_tree.specs.Ranked.{new_roots};
 
 use crate::ranked_tree::RankedTree;
@@ -14,21 +13,28 @@ use std::alloc::{AllocError, Global};
 use subtree_map::Subtrees;
 
 impl<S: Store + Drop> RankedTree<S> {
-    /// The empty tree over a store that has no object, as `MdCache::format` makes and refuses it. The root directory's leaf is
-    /// rank 0's.
-    pub fn format(alloc: Global, store: S, places: usize) -> Result<RankedTree<S>, (Refusal, S)>
+    /// The empty tree over a store that has no object, with a cache of so many places for each of so many ranks, as
+    /// `MdCache::format` makes and refuses it. The root directory's leaf is rank 0's.
+    pub fn format(
+        alloc: Global,
+        store: S,
+        ranks: u8,
+        places: usize,
+    ) -> Result<RankedTree<S>, (Refusal, S)>
+        requires some { 0 < ranks }
         requires few { 512 ≤ places }
         requires many { places ≤ 65536 }
         ensures empty { OnOk result (S.objects store ≡ map.empty) }
         ensures state { IfOk result (λ t. t.tree.state ≡ new_state) }
         ensures roots { IfOk result (λ t. t.subtrees.roots ≡ new_roots) }
-        ensures cache { IfOk result (λ t. t.tree.cache ≡ lru_cache ((root_leaf, held cached_root) ∷ []) places) }
+        ensures ranks { IfOk result (λ t. t.tree.ranks ≡ new_caches ranks places) }
+        ensures cache { IfOk result (λ t. t.tree.cache ≡ all_of (new_caches ranks places)) }
         ensures refused { IfErr result (λ back. MayNotFormat (S.objects store) (S.faults store) (S.faults back.1) back.0) }
         ensures left { IfErr result (λ back. S.objects back.1 ≡ S.objects store) }
     {
         match first_roots(alloc) {
             Err(_) => Err((Refusal::NoMemory, store)),
-            Ok(roots) => match MdCache::format(alloc, store, places) {
+            Ok(roots) => match MdCache::format(alloc, store, ranks, places) {
                 Ok(tree) => Ok(RankedTree { tree, roots, alloc }),
                 Err(back) => Err(back),
             },

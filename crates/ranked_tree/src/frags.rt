@@ -1,17 +1,40 @@
-//! Operations run over the tree that is shown. What a change needs of the roots is made ready with it.
+//! Operations run over the tree that is shown: each leaf is asked, and made ready, at the rank that holds it. What a change needs
+//! of the roots is made ready with it.
+ghost use Rattle.std.specs.Prelude.{◌≡◌, true, IfOk, IfErr, OnOk};
+ghost use Rattle.std.specs.FinMap as map;
+ghost use Rattle.mds_types.specs.Tree.{is_directory};
+ghost use Rattle.fragtree.specs.FragTree.{IsPick};
+ghost use Rattle.namehash.specs.Rjenkins.{hash_of};
+ghost use Rattle.dirfrag_codec.specs.EntryRecord.{IsRankNumber};
+ghost use Rattle.inode_table.specs.Dirs.{leaves_of};
+ghost use Rattle.namespace_ops.specs.Changes.{IsNumbered, MayChange};
+ghost use Rattle.mdcache.specs.Frags.{KeepsState, LacksToMake};
+ghost use Rattle.mdcache.specs.Reads.{LacksPlaces, MayNotFind};
+ghost use Rattle.mdcache.specs.Ready.{MayNotBeReady};
+ghost use Rattle.mdcache.specs.Shown.{shown_tree};
+ghost use Rattle.ranked_tree.specs.Held.{IsOwned};
+ghost use Rattle.ranked_tree.specs.Ranked.{IsReadyHeld};
+
+use crate::changing::reserve_roots;
+use crate::emptiness::is_dir_empty;
+use crate::holding::{holder_of, holders_of};
+use crate::listing::list_dir;
 use crate::ranked_tree::RankedTree;
+use mdcache::MdCache;
 use mds_types::{Dentry, Frag, Ino, Inode, Listing, Name, Op, PageSize, Refusal};
 use namespace_ops::{Change, Frags};
 use objstore::Store;
 use std::alloc::Global;
+use subtree_map::Subtrees;
 
 impl<S: Store + Drop> Frags for RankedTree<S> {
+    ghost use Rattle.std.specs.Prelude.{refl};
+    ghost use Rattle.std.proofs.Common.{◌∙◌};
     ghost use Rattle.dirfrag_codec.specs.EntryRecord.{IsRankNumber};
     ghost use Rattle.mdcache.specs.Frags.{MayRefuse as MayRefuseIn};
-    ghost use Rattle.mdcache.specs.FragsLaws.{refused_so, untouched_on};
+    ghost use Rattle.mdcache.proofs.FragsLaws.{keeps_itself, keeps_on, refused_later, refused_so, untouched_by, untouched_on};
     ghost use Rattle.mdcache.specs.Made.{IsUntouched};
     ghost use Rattle.mdcache.specs.Shown.{shown_tree};
-    ghost use Rattle.ranked_tree.specs.FragsLaws.{keeps_itself, keeps_on, refused_later, untouched_by};
     ghost use Rattle.ranked_tree.specs.Ranked.{IsReady as IsRankedReady, KeepsRanked};
 
     ghost content = { λ t. shown_tree t.tree.state };
@@ -28,15 +51,15 @@ impl<S: Store + Drop> Frags for RankedTree<S> {
 
     ghost MayRefuse = { λ a b op reason. MayRefuseIn a.tree b.tree op reason };
 
-    ghost follows_self = { λ a. keeps_itself a };
+    ghost follows_self = { λ a. record { tree = keeps_itself a.tree; roots = refl } };
 
-    ghost follows_on = { λ a b c p q. keeps_on a b c p q };
+    ghost follows_on = { λ a b c p q. record { tree = keeps_on a.tree b.tree c.tree p.tree q.tree; roots = q.roots ∙ p.roots } };
 
-    ghost unchanged_by = { λ a b leaf kept. untouched_by a b leaf kept };
+    ghost unchanged_by = { λ a b leaf kept. untouched_by a.tree b.tree leaf kept.tree };
 
     ghost unchanged_on = { λ a b c leaf p q. untouched_on a.tree b.tree c.tree leaf p q };
 
-    ghost refused_on = { λ a b c op reason kept because. refused_later a b c op reason kept because };
+    ghost refused_on = { λ a b c op reason kept because. refused_later a.tree b.tree c.tree op reason kept.tree because };
 
     ghost refused_for = { λ a b op reason because. refused_so a.tree b.tree op reason because };
 
@@ -53,36 +76,79 @@ impl<S: Store + Drop> Frags for RankedTree<S> {
     }
 
     fn leaves(&self, alloc: Global, dir: Ino) -> Result<Vec<Frag>, Refusal> {
-        self.tree.leaves(alloc, dir)
+        Ok(self.tree.leaves(alloc, dir)?)
     }
 
-    fn look(&mut self, op: &Op, dentry: &Dentry, leaf: Frag) -> Result<Option<Inode>, Refusal> {
-        Frags::look(&mut self.tree, op, dentry, leaf)
+    fn look(&mut self, _op: &Op, dentry: &Dentry, leaf: Frag) -> Result<Option<Inode>, Refusal> {
+        look(self.alloc, &mut self.tree, &self.roots, dentry, leaf)
     }
 
     fn list_after(
         &mut self,
         alloc: Global,
-        op: &Op,
+        _op: &Op,
         dir: Ino,
         after: Option<&Name>,
         max: PageSize,
     ) -> Result<(Listing, bool), Refusal> {
-        Frags::list_after(&mut self.tree, alloc, op, dir, after, max)
+        list_dir(alloc, &mut self.tree, &self.roots, dir, after, max)
     }
 
-    fn is_empty(&mut self, op: &Op, dir: Ino) -> Result<bool, Refusal> {
-        Frags::is_empty(&mut self.tree, op, dir)
+    fn is_empty(&mut self, _op: &Op, dir: Ino) -> Result<bool, Refusal> {
+        is_dir_empty(self.alloc, &mut self.tree, &self.roots, dir)
     }
 
-    fn ready(&mut self, op: &Op, change: &Change) -> Result<(), Refusal> {
-        if let Err(refusal) = self.tree.ready(op, change) {
+    fn ready(&mut self, _op: &Op, change: &Change) -> Result<(), Refusal> {
+        if let Err(refusal) = prepare(self.alloc, &mut self.tree, &self.roots, change) {
             return Err(refusal);
         }
-        self.reserve_roots(change)
+        reserve_roots(self.alloc, &self.tree, &mut self.roots, change)
     }
 
     fn change(&mut self, change: Change) {
         self.apply(change);
     }
+}
+
+// The inode at a dentry, copied; its leaf is asked at the rank that holds it.
+fn look<S: Store + Drop>(
+    alloc: Global,
+    tree: &mut MdCache<S>,
+    roots: &Subtrees,
+    dentry: &Dentry,
+    leaf: Frag,
+) -> Result<Option<Inode>, Refusal>
+    requires known { is_directory (shown_tree tree.old.state) dentry.now.dir.0 ≡ true }
+    requires leaf { IsPick (leaves_of tree.old.state.covers dentry.now.dir.0) (hash_of dentry.now.name) leaf }
+    requires owned { IsOwned tree.old roots.now.roots }
+    ensures found { IfOk result (λ found. found ≡ map.get (shown_tree tree.old.state) dentry.now) }
+    ensures kept { KeepsState tree.old tree.new }
+    ensures owned { IsOwned tree.new roots.now.roots }
+    ensures refused { IfErr result (MayNotFind (LacksPlaces 1 tree.old) tree.old.faults tree.new.faults) }
+{
+    // The contract of `dirs` is what says here that the state is sound.
+    let _ = tree.dirs();
+    let rank = holder_of(tree, roots, dentry.dir, leaf);
+    tree.look(alloc, rank, dentry, leaf)
+}
+
+// Makes a change ready in the caches of the ranks that hold its leaves.
+fn prepare<S: Store + Drop>(
+    alloc: Global,
+    tree: &mut MdCache<S>,
+    roots: &Subtrees,
+    change: &Change,
+) -> Result<(), Refusal>
+    requires may { MayChange (shown_tree tree.old.state) tree.old.state.covers change.now }
+    requires numbered { IsNumbered IsRankNumber change.now }
+    requires owned { IsOwned tree.old roots.now.roots }
+    ensures ready { OnOk result (IsReadyHeld tree.new roots.now.roots change.now) }
+    ensures kept { KeepsState tree.old tree.new }
+    ensures owned { IsOwned tree.new roots.now.roots }
+    ensures refused { IfErr result (MayNotBeReady (LacksToMake change.now tree.old.state) (LacksPlaces 4 tree.old) tree.old.faults tree.new.faults) }
+{
+    // The contract of `dirs` is what says here that the state is sound.
+    let _ = tree.dirs();
+    let at = holders_of(tree, roots, change);
+    tree.prepare(alloc, at, change)
 }

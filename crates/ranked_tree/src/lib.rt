@@ -1,13 +1,16 @@
 //! The tree with its subtrees: whose each leaf is (CephFS's subtree map), kept together with the directories and leaves that it
-//! speaks of. No change of the tree gives a leaf that stays another authority.
+//! speaks of. No change of the tree gives a leaf that stays another authority. Each leaf is cached by its authority alone.
 #![tactic(auto)]
 
 mod authorities;
 mod changing;
 mod commits;
+mod emptiness;
 mod formatting;
 mod frags;
+mod holding;
 mod inside;
+mod listing;
 mod ranked_tree;
 mod reading;
 mod regrouping;

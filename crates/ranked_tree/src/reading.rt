@@ -4,10 +4,14 @@ ghost use Rattle.mds_types.specs.Tree.{is_directory};
 ghost use Rattle.fragtree.specs.FragTree.{CanMerge, CanSplit, IsPick, RefusesMerge, RefusesSplit};
 ghost use Rattle.namehash.specs.Rjenkins.{hash_of};
 ghost use Rattle.inode_table.specs.Dirs.{IsLive, is_known, leaves_of};
+ghost use Rattle.dentry_cache.specs.Cache.{unsaved};
+ghost use Rattle.rank_caches.specs.Caches.{all_of};
 ghost use Rattle.mdcache.specs.Cached.{IsKept};
+ghost use Rattle.mdcache.specs.Ranks.{AreRanks};
 ghost use Rattle.mdcache.specs.Regroups.{RefusesLeaves};
 ghost use Rattle.mdcache.specs.Shown.{shown_tree};
 ghost use Rattle.mdcache.specs.Sound.{IsSound};
+ghost use Rattle.ranked_tree.specs.Held.{AreHeld};
 ghost use Rattle.ranked_tree.specs.Subtrees.{AreRoots};
 
 use crate::ranked_tree::RankedTree;
@@ -16,12 +20,16 @@ use mds_types::{Dentry, Frag, Ino, Refusal};
 use objstore::Store;
 
 impl<S: Store + Drop> RankedTree<S> {
-    /// The store. A caller also learns from it that the state is sound, that each cached fragment is a live leaf's, and that the
-    /// roots are those of the tree.
+    /// The store. A caller also learns from it that the state is sound, that each cached fragment is a live leaf's, that the
+    /// roots are those of the tree, and that a rank caches only leaves that it is the authority of.
     pub fn store(&self) -> &S
         ensures objects { S.objects result.now ≡ self.now.tree.state.objects }
         ensures kept { IsKept self.now.tree.state self.now.tree.cache }
         ensures valid { AreRoots self.now.tree.state self.now.subtrees.roots }
+        ensures held { AreHeld self.now.tree.state self.now.tree.ranks self.now.subtrees.roots }
+        ensures ranked { AreRanks self.now.tree.ranks }
+        ensures whole { self.now.tree.cache ≡ all_of self.now.tree.ranks }
+        ensures unsaved { self.now.tree.state.unsaved ≡ unsaved self.now.tree.cache.entries }
     {
         self.tree.store()
     }

@@ -1,14 +1,22 @@
 //! Splits and merges of leaves, with their subtree roots.
-ghost use Rattle.std.specs.Prelude.{◌≡◌, ◌≤◌, ◌^◌, OnOk, OnErr, IfErr};
-ghost use Rattle.fragtree.specs.FragTree.{FitsSplit};
+ghost use Rattle.std.specs.Prelude.{◌≡◌, ◌<◌, ◌≤◌, ◌^◌, true, map as each, OnOk, OnErr, IfErr, length};
+ghost use Rattle.std.specs.List.{Contains};
+ghost use Rattle.fragtree.specs.FragTree.{CanMerge, FitsSplit, leaves_inside};
+ghost use Rattle.inode_table.specs.Dirs.{IsLive, is_known, leaves_of};
+ghost use Rattle.namespace_ops.specs.Changes.{in_directory};
+ghost use Rattle.subtree_map.specs.Authority.{Leaf};
 ghost use Rattle.subtree_map.specs.Changes.{HaveOneAuthority, IsRootMerge, IsRootSplit};
-ghost use Rattle.mdcache.specs.Regroups.{MayNotMerge, MayNotSplit, MergesLeaves, SplitsLeaf};
+ghost use Rattle.mdcache.specs.Ranks.{MayHold};
+ghost use Rattle.mdcache.specs.Regroups.{IsFamily, MayNotMerge, MayNotSplit, MergesLeaves, SplitsLeaf};
 ghost use Rattle.mdcache.specs.Sound.{IsSound};
-ghost use Rattle.ranked_tree.specs.Subtrees.{AreRoots, GivesToChildren, KeepsAuthorities, KeepsRoots, NoNewRank, TakesOver};
+ghost use Rattle.ranked_tree.specs.Held.{AreHeld, IsMergedHere, IsOwned, PlacesCome};
+ghost use Rattle.ranked_tree.specs.Subtrees.{AllHave, AreRoots, GivesToChildren, KeepsAuthorities, KeepsRoots, NoNewRank, Rules, TakesOver};
 
+use crate::holding::holder_of;
+use crate::inside::leaf_inside;
 use crate::ranked_tree::RankedTree;
 use mdcache::MdCache;
-use mds_types::{Frag, Ino, Refusal};
+use mds_types::{Frag, Ino, Rank, Refusal};
 use objstore::Store;
 use std::alloc::Global;
 use subtree_map::Subtrees;
@@ -21,6 +29,7 @@ impl<S: Store + Drop> RankedTree<S> {
         ensures roots { OnOk result (IsRootSplit self.old.subtrees.roots self.new.subtrees.roots dir.0 frag bits) }
         ensures left { OnErr result (self.new.subtrees.roots ≡ self.old.subtrees.roots) }
         ensures promises { self.new.subtrees.promises ≡ self.old.subtrees.promises }
+        ensures count { length self.new.tree.ranks ≡ length self.old.tree.ranks }
         ensures cap { self.new.tree.cache.cap ≡ self.old.tree.cache.cap }
         ensures grows { self.old.tree.faults ≤ self.new.tree.faults }
         ensures children { OnOk result (GivesToChildren self.old.tree.state self.new.tree.state self.old.subtrees.roots self.new.subtrees.roots dir frag bits) }
@@ -37,6 +46,7 @@ impl<S: Store + Drop> RankedTree<S> {
         ensures roots { OnOk result (IsRootMerge self.old.subtrees.roots self.new.subtrees.roots dir.0 frag) }
         ensures left { OnErr result (self.new.subtrees.roots ≡ self.old.subtrees.roots) }
         ensures promises { self.new.subtrees.promises ≡ self.old.subtrees.promises }
+        ensures count { length self.new.tree.ranks ≡ length self.old.tree.ranks }
         ensures cap { self.new.tree.cache.cap ≡ self.old.tree.cache.cap }
         ensures grows { self.old.tree.faults ≤ self.new.tree.faults }
         ensures one { OnOk result (TakesOver self.old.tree.state self.new.tree.state self.old.subtrees.roots self.new.subtrees.roots dir frag) }
@@ -56,22 +66,24 @@ fn split_with_roots<S: Store + Drop>(
     frag: Frag,
     bits: u8,
 ) -> Result<(), Refusal>
-    requires valid { AreRoots tree.old.state roots.old.roots }
+    requires owned { IsOwned tree.old roots.old.roots }
     ensures split { SplitsLeaf tree.old tree.new dir frag bits result }
     ensures roots { OnOk result (IsRootSplit roots.old.roots roots.new.roots dir.0 frag bits) }
     ensures left { OnErr result (roots.new.roots ≡ roots.old.roots) }
     ensures promises { roots.new.promises ≡ roots.old.promises }
+    ensures count { length tree.new.ranks ≡ length tree.old.ranks }
     ensures cap { tree.new.cache.cap ≡ tree.old.cache.cap }
     ensures grows { tree.old.faults ≤ tree.new.faults }
     ensures authority { KeepsAuthorities tree.old.state tree.new.state roots.old.roots roots.new.roots }
     ensures children { OnOk result (GivesToChildren tree.old.state tree.new.state roots.old.roots roots.new.roots dir frag bits) }
     ensures ranks { NoNewRank roots.old.roots roots.new.roots }
     ensures valid { AreRoots tree.new.state roots.new.roots }
+    ensures held { AreHeld tree.new.state tree.new.ranks roots.new.roots }
 {
     if let Err(refusal) = reserve_split(tree, roots, dir, frag, bits) {
         return Err(refusal);
     }
-    if let Err(refusal) = tree.split(alloc, dir, frag, bits) {
+    if let Err(refusal) = split_held(alloc, tree, roots, dir, frag, bits) {
         return Err(refusal);
     }
     roots.split_root(dir, frag, bits);
@@ -87,27 +99,99 @@ fn merge_with_roots<S: Store + Drop>(
     dir: Ino,
     frag: Frag,
 ) -> Result<(), Refusal>
-    requires valid { AreRoots tree.old.state roots.old.roots }
+    requires owned { IsOwned tree.old roots.old.roots }
     requires one { HaveOneAuthority roots.old.roots tree.old.state.homes tree.old.state.covers dir.0 frag }
     ensures merged { MergesLeaves tree.old tree.new dir frag result }
     ensures roots { OnOk result (IsRootMerge roots.old.roots roots.new.roots dir.0 frag) }
     ensures left { OnErr result (roots.new.roots ≡ roots.old.roots) }
     ensures promises { roots.new.promises ≡ roots.old.promises }
+    ensures count { length tree.new.ranks ≡ length tree.old.ranks }
     ensures cap { tree.new.cache.cap ≡ tree.old.cache.cap }
     ensures grows { tree.old.faults ≤ tree.new.faults }
     ensures authority { KeepsAuthorities tree.old.state tree.new.state roots.old.roots roots.new.roots }
     ensures one { OnOk result (TakesOver tree.old.state tree.new.state roots.old.roots roots.new.roots dir frag) }
     ensures ranks { NoNewRank roots.old.roots roots.new.roots }
     ensures valid { AreRoots tree.new.state roots.new.roots }
+    ensures held { AreHeld tree.new.state tree.new.ranks roots.new.roots }
 {
     if let Err(refusal) = reserve_merge(tree, roots, dir, frag) {
         return Err(refusal);
     }
-    if let Err(refusal) = tree.merge(alloc, dir, frag) {
+    if let Err(refusal) = merge_held(alloc, tree, roots, dir, frag) {
         return Err(refusal);
     }
     roots.merge_roots(dir, frag);
     Ok(())
+}
+
+// Splits a leaf in the cache of the rank that holds it. What was made ready before is given up.
+fn split_held<S: Store + Drop>(
+    alloc: Global,
+    tree: &mut MdCache<S>,
+    roots: &Subtrees,
+    dir: Ino,
+    frag: Frag,
+    bits: u8,
+) -> Result<(), Refusal>
+    requires live { IsLive tree.old.state.homes tree.old.state.covers (dir, frag) }
+    requires owned { IsOwned tree.old roots.now.roots }
+    ensures split { SplitsLeaf tree.old tree.new dir frag bits result }
+    ensures count { length tree.new.ranks ≡ length tree.old.ranks }
+    ensures cap { tree.new.cache.cap ≡ tree.old.cache.cap }
+    ensures grows { tree.old.faults ≤ tree.new.faults }
+    ensures places { PlacesCome (Rules tree.old.state roots.now.roots (dir, frag)) (IsFamily dir frag bits) tree.old.state tree.old.ranks tree.new.ranks }
+{
+    tree.unready();
+    // The contract of `store` is what says here that each place is that of a live leaf, where none is kept.
+    let _ = tree.store();
+    let rank = holder_of(tree, roots, dir, frag);
+    tree.split(alloc, rank, dir, frag, bits)
+}
+
+// Merges leaves in the cache of the one rank that holds them. What was made ready before is given up.
+fn merge_held<S: Store + Drop>(
+    alloc: Global,
+    tree: &mut MdCache<S>,
+    roots: &Subtrees,
+    dir: Ino,
+    frag: Frag,
+) -> Result<(), Refusal>
+    requires known { is_known tree.old.state.homes dir.0 ≡ true }
+    requires can { CanMerge (leaves_of tree.old.state.covers dir.0) frag }
+    requires one { HaveOneAuthority roots.now.roots tree.old.state.homes tree.old.state.covers dir.0 frag }
+    requires owned { IsOwned tree.old roots.now.roots }
+    ensures merged { MergesLeaves tree.old tree.new dir frag result }
+    ensures count { length tree.new.ranks ≡ length tree.old.ranks }
+    ensures cap { tree.new.cache.cap ≡ tree.old.cache.cap }
+    ensures grows { tree.old.faults ≤ tree.new.faults }
+    ensures places { PlacesCome (AllHave tree.old.state.homes tree.old.state.covers roots.now.roots dir frag) (IsMergedHere tree.old.state.covers dir frag) tree.old.state tree.old.ranks tree.new.ranks }
+{
+    tree.unready();
+    // The contract of `store` is what says here that each place is that of a live leaf, where none is kept.
+    let _ = tree.store();
+    let rank = holder_of_all(tree, roots, dir, frag);
+    tree.merge(alloc, rank, dir, frag)
+}
+
+// The rank that holds the leaves of a directory properly inside a fragment, which have one authority.
+fn holder_of_all<S: Store + Drop>(
+    tree: &MdCache<S>,
+    roots: &Subtrees,
+    dir: Ino,
+    frag: Frag,
+) -> Rank
+    requires known { is_known tree.now.state.homes dir.0 ≡ true }
+    requires can { CanMerge (leaves_of tree.now.state.covers dir.0) frag }
+    requires one { HaveOneAuthority roots.now.roots tree.now.state.homes tree.now.state.covers dir.0 frag }
+    requires owned { IsOwned tree.now roots.now.roots }
+    ensures all { AllHave tree.now.state.homes tree.now.state.covers roots.now.roots dir frag result }
+    ensures there { result.0 < length tree.now.ranks }
+    ensures holds { (q : Leaf) → Contains (each (in_directory dir.0) (leaves_inside frag (leaves_of tree.now.state.covers dir.0))) q → MayHold tree.now.ranks result q }
+{
+    match leaf_inside(tree.dirs(), dir, frag, frag.value()) {
+        Some(leaf) => holder_of(tree, roots, dir, leaf),
+        None => unreachable!(),
+    }
 }
 
 // Makes room for the roots of a leaf's children, if it can be split.
@@ -118,6 +202,7 @@ fn reserve_split<S: Store + Drop>(
     frag: Frag,
     bits: u8,
 ) -> Result<(), Refusal>
+    ensures live { OnOk result (IsLive tree.now.state.homes tree.now.state.covers (dir, frag)) }
     ensures fits { OnOk result (FitsSplit frag bits) }
     ensures room { OnOk result (2 ^ bits ≤ roots.new.room) }
     ensures refused { IfErr result (MayNotSplit tree.now tree.now dir frag bits) }
@@ -145,6 +230,8 @@ fn reserve_merge<S: Store + Drop>(
     dir: Ino,
     frag: Frag,
 ) -> Result<(), Refusal>
+    ensures known { OnOk result (is_known tree.now.state.homes dir.0 ≡ true) }
+    ensures can { OnOk result (CanMerge (leaves_of tree.now.state.covers dir.0) frag) }
     ensures room { OnOk result (1 ≤ roots.new.room) }
     ensures refused { IfErr result (MayNotMerge tree.now tree.now dir frag) }
     ensures same { roots.new.roots ≡ roots.old.roots }

@@ -7,27 +7,27 @@ use Rattle.inode_table.specs.TreeTable.{home_at}
 use Rattle.namespace_ops.specs.Changes.{MayChange}
 use Rattle.namespace_ops.specs.declared.plans.Change.{Change}
 use Rattle.subtree_map.specs.Moves.{HasRoomToMove}
-use Rattle.mdcache.specs.Frags.{IsReady}
 use Rattle.mdcache.specs.Shown.{shown_tree}
+use Rattle.ranked_tree.specs.Ranked.{IsReadyHeld}
 use Rattle.ranked_tree.specs.Subtrees.{HasRoomFor}
 use Rattle.ranked_tree.proofs.SubtreeLaws.{over, room_for}
 use Rattle.ranked_tree.proofs.changing.reserve_roots.Goals as goal
 
 pub reserve_move-requires : goal.reserve_move-requires
 reserve_move-requires g c =
-    let ready = subst (λ (ch : Change). IsReady c.args.tree.now ch) c.in-Move.is c.requires.ready in
+    let ready = subst (λ (ch : Change). IsReadyHeld c.args.tree.now c.args.roots.now.roots ch) c.in-Move.is c.requires.ready in
     let may = subst (λ (ch : Change). MayChange (shown_tree c.args.tree.now.state) c.args.tree.now.state.covers ch) c.in-Move.is c.requires.may in
     record {
       may =
           subst (λ (h : Homes). IfSome c.moving.result (λ (dir : Ino). MayMove h dir.0 (home_at c.in-Move.to))) (sym c.dirs.ensures.homes)
-          ((c.moving.ensures c.in-Move.from c.in-Move.to c.in-Move.source c.in-Move.target c.in-Move.gone ready).1 may);
+          ((c.moving.ensures ready.at c.in-Move.from c.in-Move.to c.in-Move.source c.in-Move.target c.in-Move.gone ready.ready).1 may);
     }
 
 pub returns-in-Move-clause-room : goal.returns-in-Move-clause-room
 returns-in-Move-clause-room g c =
-    let ready = subst (λ (ch : Change). IsReady c.args.tree.now ch) c.in-Move.is c.requires.ready in
+    let ready = subst (λ (ch : Change). IsReadyHeld c.args.tree.now c.args.roots.now.roots ch) c.in-Move.is c.requires.ready in
     let may = subst (λ (ch : Change). MayChange (shown_tree c.args.tree.now.state) c.args.tree.now.state.covers ch) c.in-Move.is c.requires.may in
-    let along = (c.moving.ensures c.in-Move.from c.in-Move.to c.in-Move.source c.in-Move.target c.in-Move.gone ready).0 in
+    let along = (c.moving.ensures ready.at c.in-Move.from c.in-Move.to c.in-Move.source c.in-Move.target c.in-Move.gone ready.ready).0 in
     on_ok_weaker c.reserve_move.result
     (λ room.
     let there =

@@ -1,0 +1,30 @@
+use Rattle.std.proofs.Common.{◌≡◌, ap, ◌∙◌}
+use Rattle.std.specs.Option.{option_copied}
+use Rattle.mds_types.specs.Frag.{Fragment}
+use Rattle.mdcache.specs.Shown.{names_of}
+use Rattle.mdcache.specs.State.{State as TreeState}
+use Rattle.mdcache.proofs.FragsLaws.{keeps_on}
+use Rattle.mdcache.proofs.GatherLaws.{leaf_more}
+use Rattle.mdcache.proofs.WalkLaws.{first_within, rest_within}
+use Rattle.ranked_tree.proofs.AskLaws.{live_still, told_later}
+use Rattle.ranked_tree.proofs.listing.gather_leaves.Goals as goal
+
+pub gather_leaf-requires-clause-live : goal.gather_leaf-requires-clause-live
+gather_leaf-requires-clause-live g c =
+    live_still c.args.tree.now c.loop-leaf.tree (c.args.dir, c.in-Some.leaf) c.loop-leaf.invariant.kept (c.requires.live c.in-Some.leaf (first_within c.in-Some.leaf c.next.new.self c.loop-leaf.leaf-iterator c.args.leaves.now c.in-Some.ensures.steps c.loop-leaf.invariant.within))
+
+pub loop-leaf-preserved : goal.loop-leaf-preserved
+loop-leaf-preserved g c =
+    let inv = c.loop-leaf.invariant in
+    let steps = c.in-Some.ensures.steps in
+    let told : names_of c.loop-leaf.tree.state.unsaved c.loop-leaf.tree.state.objects (c.args.dir, c.in-Some.leaf) ≡ names_of c.args.tree.now.state.unsaved c.args.tree.now.state.objects (c.args.dir, c.in-Some.leaf) = ap (λ (s : TreeState). names_of s.unsaved s.objects (c.args.dir, c.in-Some.leaf)) inv.kept.state in
+    record {
+      kept = keeps_on c.args.tree.now c.loop-leaf.tree c.gather_leaf.new.tree inv.kept c.in-Ok.ensures.kept;
+      owned = c.in-Ok.ensures.owned;
+      within = rest_within c.in-Some.leaf c.next.new.self c.loop-leaf.leaf-iterator c.args.leaves.now steps inv.within;
+      most = c.in-Ok.ensures.most ∙ inv.most;
+      page = λ whole is.
+          let w = inv.page whole is in
+          leaf_more (λ (f : Fragment). names_of c.args.tree.now.state.unsaved c.args.tree.now.state.objects (c.args.dir, f)) (option_copied c.args.after) c.in-Some.leaf c.next.new.self c.loop-leaf.leaf-iterator c.args.leaves.now w.0 whole c.loop-leaf.page c.gather_leaf.new.page
+          (names_of c.loop-leaf.tree.state.unsaved c.loop-leaf.tree.state.objects (c.args.dir, c.in-Some.leaf)) told steps w.1 w.2 c.in-Ok.ensures.page;
+    }

@@ -1,0 +1,23 @@
+-- The names of the leaves so far are in the page, and reads keep the state and whose the places are.
+use Rattle.std.proofs.Common.{◌≡◌, List}
+use Rattle.std.specs.Option.{option_copied}
+use Rattle.mds_types.specs.Frag.{Fragment}
+use Rattle.cached_frag.specs.Rows.{Row}
+use Rattle.mdcache.specs.Frags.{KeepsState}
+use Rattle.mdcache.specs.Pages.{IsPageOf, gathered}
+use Rattle.mdcache.specs.Shown.{names_of}
+use Rattle.mdcache.proofs.WalkLaws.{AreWithin}
+use Rattle.ranked_tree.specs.Held.{IsOwned}
+use Rattle.ranked_tree.proofs.listing.gather_leaves.Given as goal
+
+abbrev pub invariant-loop-leaf : goal.invariant-loop-leaf
+invariant-loop-leaf g l = record {
+  kept : KeepsState l.fn.tree l.tree;
+  owned : IsOwned l.tree l.roots.roots;
+  within : AreWithin l.leaf-iterator l.leaves;
+  most : l.page.most ≡ l.fn.page.most;
+  page : (whole : List Row) → IsPageOf whole l.fn.page
+      → (now : List Row) × IsPageOf now l.page
+      × (gathered (λ (f : Fragment). names_of l.fn.tree.state.unsaved l.fn.tree.state.objects (l.dir, f)) (option_copied l.after) now l.leaf-iterator
+      ≡ gathered (λ (f : Fragment). names_of l.fn.tree.state.unsaved l.fn.tree.state.objects (l.dir, f)) (option_copied l.after) whole l.leaves);
+}

@@ -1,0 +1,54 @@
+-- What the ranks' caches have: a rank caches only fragments that it is the authority of (Weil et al., OSDI 2006).
+use Rattle.std.specs.Prelude.{◌≡◌, ◌<◌, ◌⊎◌, true, length, map as each, Some}
+use Rattle.std.specs.List.{Contains}
+use Rattle.std.specs.FinMap as map
+use Rattle.mds_types.specs.declared.ids.Ino.{Ino}
+use Rattle.mds_types.specs.declared.ids.Rank.{Rank}
+use Rattle.mds_types.specs.Frag.{Fragment}
+use Rattle.fragtree.specs.FragTree.{leaves_inside}
+use Rattle.inode_table.specs.Dirs.{Covers, IsLive, leaves_of}
+use Rattle.namespace_ops.specs.Changes.{in_directory}
+use Rattle.namespace_ops.specs.declared.plans.Change.{Change}
+use Rattle.namespace_ops.specs.declared.plans.Change.TheVariants.{Add, Set, Remove, Move}
+use Rattle.rank_caches.specs.Caches.{Caches, has_place}
+use Rattle.subtree_map.specs.Authority.{Leaf, Roots}
+use Rattle.mdcache.specs.declared.holders.Holders.{Holders}
+use Rattle.mdcache.specs.Cached.{Core}
+use Rattle.mdcache.specs.State.{State as TreeState}
+use Rattle.ranked_tree.specs.Subtrees.{AreRoots, Rules}
+
+-- each place of a live leaf is at the leaf's authority; each root's rank is one of those that have a cache
+pub record AreHeld (tree : TreeState) (caches : Caches) (roots : Roots) : Type 0 where
+  pub places : (rank : Rank) (leaf : Leaf) → has_place caches rank leaf ≡ true → IsLive tree.homes tree.covers leaf → Rules tree roots leaf rank
+  pub ranks : (leaf : Leaf) (rank : Rank) → map.get roots leaf ≡ Some rank → rank.0 < length caches
+
+-- the roots are those of the tree, and each rank's places are of leaves that it holds
+abbrev pub IsOwned : Core → Roots → Type 0
+IsOwned core roots = AreRoots core.state roots × AreHeld core.state core.ranks roots
+
+-- the leaf of a change's dentry, of a rename that of the source; and that of the dentry where a rename goes
+abbrev pub first_named : Change → Leaf
+first_named (Add dentry leaf inode) = (dentry.dir, leaf)
+first_named (Set dentry leaf inode) = (dentry.dir, leaf)
+first_named (Remove dentry leaf went) = (dentry.dir, leaf)
+first_named (Move from source to target went) = (from.dir, source)
+
+abbrev pub second_named : Change → Leaf
+second_named (Add dentry leaf inode) = (dentry.dir, leaf)
+second_named (Set dentry leaf inode) = (dentry.dir, leaf)
+second_named (Remove dentry leaf went) = (dentry.dir, leaf)
+second_named (Move from source to target went) = (to.dir, target)
+
+-- these are the authorities of the leaves that a change names
+pub record AreHolders (tree : TreeState) (roots : Roots) (at : Holders) (change : Change) : Type 0 where
+  pub first : Rules tree roots (first_named change) at.first
+  pub second : Rules tree roots (second_named change) at.second
+
+-- where leaves of a directory are regrouped: each place was that of a live leaf, or is one that comes at a rank which holds those leaves
+abbrev pub PlacesCome : (Holds : Rank → Type 0) (Come : Leaf → Type 0) → TreeState → (old new : Caches) → Type 0
+PlacesCome Holds Come tree old new =
+    (rank : Rank) (leaf : Leaf) → has_place new rank leaf ≡ true → (IsLive tree.homes tree.covers leaf × (has_place old rank leaf ≡ true)) ⊎ (Holds rank × Come leaf)
+
+-- a leaf of a directory properly inside a fragment, or the leaf that they are merged to
+abbrev pub IsMergedHere : Covers → Ino → Fragment → Leaf → Type 0
+IsMergedHere covers dir frag leaf = Contains (each (in_directory dir.0) (leaves_inside frag (leaves_of covers dir.0))) leaf ⊎ ((dir, frag) ≡ leaf)

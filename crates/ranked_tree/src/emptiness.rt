@@ -1,0 +1,86 @@
+//! Whether nothing is in a directory: each of its leaves is asked at the rank that holds it.
+ghost use Rattle.std.specs.Prelude.{◌≡◌, true, not, IfOk, IfErr};
+ghost use Rattle.std.specs.List.{list_all};
+ghost use Rattle.mds_types.specs.Frag.{Fragment};
+ghost use Rattle.mds_types.specs.Tree.{has_entries, is_directory};
+ghost use Rattle.fragtree.specs.FragTree.{HasLeaf};
+ghost use Rattle.inode_table.specs.Dirs.{IsLive};
+ghost use Rattle.mdcache.specs.Frags.{KeepsState};
+ghost use Rattle.mdcache.specs.Reads.{LacksPlaces, MayNotFind, has_none};
+ghost use Rattle.mdcache.specs.Shown.{names_of, shown_tree};
+ghost use Rattle.ranked_tree.specs.Held.{IsOwned};
+
+use crate::holding::holder_of;
+use fragtree::FragTree;
+use mdcache::MdCache;
+use mds_types::{Frag, Ino, Refusal};
+use objstore::Store;
+use std::alloc::Global;
+use subtree_map::Subtrees;
+
+/// Whether nothing is in a directory. Its leaves are fetched one after the other, up to the first that shows a name. Takes
+/// memory for a copy of what leaves there are, and for a leaf that is read.
+///
+/// Refused `NothingToEvict` where no place of a leaf's rank is free and no fragment can go, `StoreFault`, and `NoMemory`.
+pub(crate) fn is_dir_empty<S: Store + Drop>(
+    alloc: Global,
+    tree: &mut MdCache<S>,
+    roots: &Subtrees,
+    dir: Ino,
+) -> Result<bool, Refusal>
+    requires known { is_directory (shown_tree tree.old.state) dir.0 ≡ true }
+    requires owned { IsOwned tree.old roots.now.roots }
+    ensures found { IfOk result (λ empty. empty ≡ not (has_entries (shown_tree tree.old.state) dir.0)) }
+    ensures kept { KeepsState tree.old tree.new }
+    ensures owned { IsOwned tree.new roots.now.roots }
+    ensures refused { IfErr result (MayNotFind (LacksPlaces 1 tree.old) tree.old.faults tree.new.faults) }
+{
+    match tree.dirs().tree(alloc, dir) {
+        Ok(leaves) => are_empty(alloc, tree, roots, dir, &leaves),
+        Err(_) => Err(Refusal::NoMemory),
+    }
+}
+
+// Whether none of these leaves of a directory shows a name. They are fetched up to the first that does.
+fn are_empty<S: Store + Drop>(
+    alloc: Global,
+    tree: &mut MdCache<S>,
+    roots: &Subtrees,
+    dir: Ino,
+    leaves: &FragTree,
+) -> Result<bool, Refusal>
+    requires live { (f : Fragment) → HasLeaf leaves.now f → IsLive tree.old.state.homes tree.old.state.covers (dir, f) }
+    requires owned { IsOwned tree.old roots.now.roots }
+    ensures found { IfOk result (λ empty. empty ≡ list_all (λ f. has_none (names_of tree.old.state.unsaved tree.old.state.objects (dir, f))) leaves.now) }
+    ensures kept { KeepsState tree.old tree.new }
+    ensures owned { IsOwned tree.new roots.now.roots }
+    ensures refused { IfErr result (MayNotFind (LacksPlaces 1 tree.old) tree.old.faults tree.new.faults) }
+{
+    for leaf in leaves {
+        match is_leaf_empty(alloc, tree, roots, dir, leaf) {
+            Ok(true) => {}
+            Ok(false) => return Ok(false),
+            Err(refusal) => return Err(refusal),
+        }
+    }
+    Ok(true)
+}
+
+// Whether a leaf shows no name; it is fetched.
+fn is_leaf_empty<S: Store + Drop>(
+    alloc: Global,
+    tree: &mut MdCache<S>,
+    roots: &Subtrees,
+    dir: Ino,
+    frag: Frag,
+) -> Result<bool, Refusal>
+    requires live { IsLive tree.old.state.homes tree.old.state.covers (dir, frag) }
+    requires owned { IsOwned tree.old roots.now.roots }
+    ensures found { IfOk result (λ empty. empty ≡ has_none (names_of tree.old.state.unsaved tree.old.state.objects (dir, frag))) }
+    ensures kept { KeepsState tree.old tree.new }
+    ensures owned { IsOwned tree.new roots.now.roots }
+    ensures refused { IfErr result (MayNotFind (LacksPlaces 1 tree.old) tree.old.faults tree.new.faults) }
+{
+    let rank = holder_of(tree, roots, dir, frag);
+    tree.is_leaf_empty(alloc, rank, dir, frag)
+}

@@ -1,0 +1,126 @@
+//! The names of a directory, a page at a time: each of its leaves is asked at the rank that holds it.
+ghost use Rattle.std.specs.Prelude.{◌≡◌, true, List, [], IfOk, IfErr, OnOk, length, nat_lt, take};
+ghost use Rattle.std.specs.Option.{option_copied};
+ghost use Rattle.std.specs.FinMap as map;
+ghost use Rattle.mds_types.specs.Frag.{Fragment};
+ghost use Rattle.mds_types.specs.Step.{names_after};
+ghost use Rattle.mds_types.specs.Tree.{is_directory};
+ghost use Rattle.fragtree.specs.FragTree.{HasLeaf};
+ghost use Rattle.omap.specs.Omap.{key_cmp};
+ghost use Rattle.sorted_map.specs.Places.{puts};
+ghost use Rattle.cached_frag.specs.Rows.{Row, rows_after};
+ghost use Rattle.inode_table.specs.Dirs.{IsLive};
+ghost use Rattle.mdcache.specs.Frags.{KeepsState};
+ghost use Rattle.mdcache.specs.Pages.{IsPageOf, gathered};
+ghost use Rattle.mdcache.specs.Reads.{LacksPlaces, MayNotFind};
+ghost use Rattle.mdcache.specs.Shown.{names_of, shown_tree};
+ghost use Rattle.ranked_tree.specs.Held.{IsOwned};
+
+use crate::holding::holder_of;
+use fragtree::FragTree;
+use mdcache::{MdCache, Page};
+use mds_types::{Frag, Ino, Listing, Name, PageSize, Refusal};
+use objstore::Store;
+use std::alloc::Global;
+use subtree_map::Subtrees;
+
+/// The first `max` names of a directory greater than `after`, or of all where none is given, in order, with their inodes, and
+/// whether more follow. Its leaves are fetched one after the other, and each is left at its first name that can't be in the
+/// page. Takes memory for the page, for a copy of what leaves there are, and for a leaf that is read.
+///
+/// Refused `NothingToEvict` where no place of a leaf's rank is free and no fragment can go, `StoreFault`, and `NoMemory`.
+pub(crate) fn list_dir<S: Store + Drop>(
+    alloc: Global,
+    tree: &mut MdCache<S>,
+    roots: &Subtrees,
+    dir: Ino,
+    after: Option<&Name>,
+    max: PageSize,
+) -> Result<(Listing, bool), Refusal>
+    requires known { is_directory (shown_tree tree.old.state) dir.0 ≡ true }
+    requires owned { IsOwned tree.old roots.now.roots }
+    ensures listed { IfOk result (λ page. page.0 ≡ take max (names_after (shown_tree tree.old.state) dir.0 (option_copied after.entry))) }
+    ensures more { IfOk result (λ page. page.1 ≡ nat_lt max (length (names_after (shown_tree tree.old.state) dir.0 (option_copied after.entry)))) }
+    ensures kept { KeepsState tree.old tree.new }
+    ensures owned { IsOwned tree.new roots.now.roots }
+    ensures refused { IfErr result (MayNotFind (LacksPlaces 1 tree.old) tree.old.faults tree.new.faults) }
+{
+    match tree.dirs().tree(alloc, dir) {
+        Ok(leaves) => list_leaves(alloc, tree, roots, dir, &leaves, after, max),
+        Err(_) => Err(Refusal::NoMemory),
+    }
+}
+
+// The first names of these leaves of a directory greater than `after`, and whether more follow.
+fn list_leaves<S: Store + Drop>(
+    alloc: Global,
+    tree: &mut MdCache<S>,
+    roots: &Subtrees,
+    dir: Ino,
+    leaves: &FragTree,
+    after: Option<&Name>,
+    max: PageSize,
+) -> Result<(Listing, bool), Refusal>
+    requires live { (f : Fragment) → HasLeaf leaves.now f → IsLive tree.old.state.homes tree.old.state.covers (dir, f) }
+    requires owned { IsOwned tree.old roots.now.roots }
+    ensures listed { IfOk result (λ page. page.0 ≡ take max (gathered (λ (f : Fragment). names_of tree.old.state.unsaved tree.old.state.objects (dir, f)) (option_copied after.entry) [] leaves.now)) }
+    ensures more { IfOk result (λ page. page.1 ≡ nat_lt max (length (gathered (λ (f : Fragment). names_of tree.old.state.unsaved tree.old.state.objects (dir, f)) (option_copied after.entry) [] leaves.now))) }
+    ensures kept { KeepsState tree.old tree.new }
+    ensures owned { IsOwned tree.new roots.now.roots }
+    ensures refused { IfErr result (MayNotFind (LacksPlaces 1 tree.old) tree.old.faults tree.new.faults) }
+{
+    let mut page = Page::new(alloc, max);
+    if let Err(refusal) = gather_leaves(alloc, tree, roots, dir, leaves, after, &mut page) {
+        return Err(refusal);
+    }
+    Ok(page.into_listing())
+}
+
+// Takes the names of these leaves of a directory greater than `after` into a page, leaf by leaf.
+fn gather_leaves<S: Store + Drop>(
+    alloc: Global,
+    tree: &mut MdCache<S>,
+    roots: &Subtrees,
+    dir: Ino,
+    leaves: &FragTree,
+    after: Option<&Name>,
+    page: &mut Page,
+) -> Result<(), Refusal>
+    requires live { (f : Fragment) → HasLeaf leaves.now f → IsLive tree.old.state.homes tree.old.state.covers (dir, f) }
+    requires owned { IsOwned tree.old roots.now.roots }
+    ensures page { (whole : List Row) → IsPageOf whole page.old → OnOk result (IsPageOf (gathered (λ (f : Fragment). names_of tree.old.state.unsaved tree.old.state.objects (dir, f)) (option_copied after.entry) whole leaves.now) page.new) }
+    ensures most { page.new.most ≡ page.old.most }
+    ensures kept { KeepsState tree.old tree.new }
+    ensures owned { IsOwned tree.new roots.now.roots }
+    ensures refused { IfErr result (MayNotFind (LacksPlaces 1 tree.old) tree.old.faults tree.new.faults) }
+{
+    for leaf in leaves {
+        match gather_leaf(alloc, tree, roots, dir, leaf, after, page) {
+            Ok(()) => {}
+            Err(refusal) => return Err(refusal),
+        }
+    }
+    Ok(())
+}
+
+// Takes the names of a leaf greater than `after` into a page; the leaf is fetched.
+fn gather_leaf<S: Store + Drop>(
+    alloc: Global,
+    tree: &mut MdCache<S>,
+    roots: &Subtrees,
+    dir: Ino,
+    frag: Frag,
+    after: Option<&Name>,
+    page: &mut Page,
+) -> Result<(), Refusal>
+    requires live { IsLive tree.old.state.homes tree.old.state.covers (dir, frag) }
+    requires owned { IsOwned tree.old roots.now.roots }
+    ensures page { (whole : List Row) → IsPageOf whole page.old → OnOk result (IsPageOf (puts key_cmp whole (rows_after (option_copied after.entry) (map.entries (names_of tree.old.state.unsaved tree.old.state.objects (dir, frag))))) page.new) }
+    ensures most { page.new.most ≡ page.old.most }
+    ensures kept { KeepsState tree.old tree.new }
+    ensures owned { IsOwned tree.new roots.now.roots }
+    ensures refused { IfErr result (MayNotFind (LacksPlaces 1 tree.old) tree.old.faults tree.new.faults) }
+{
+    let rank = holder_of(tree, roots, dir, frag);
+    tree.gather(alloc, rank, dir, frag, after, page)
+}
