@@ -1,9 +1,8 @@
--- What an administrator's steps ask of the subtree roots and of the cache.
-use Rattle.std.proofs.Common.{◌≡◌, ℕ, ◌==◌, cond, None, sym, subst, ◌∙◌}
+-- What an administrator's steps ask of the subtree roots.
+use Rattle.std.proofs.Common.{sym, ◌∙◌}
 use Rattle.mds_types.specs.declared.ids.Ino.{Ino}
 use Rattle.mds_types.specs.declared.ids.Rank.{Rank}
 use Rattle.mds_types.specs.Frag.{Fragment}
-use Rattle.dentry_cache.specs.Cache.{Evicts, Held}
 use Rattle.inode_table.specs.Dirs.{Covers, Homes}
 use Rattle.subtree_map.specs.Authority.{Roots}
 use Rattle.subtree_map.specs.Changes.{HaveOneAuthority}
@@ -14,7 +13,3 @@ use Rattle.ranked_tree.specs.Subtrees.{AllHave}
 pub one_of_all : (homes : Homes) (covers : Covers) (roots : Roots) (dir : Ino) (f : Fragment) (rank : Rank) → AllHave homes covers roots dir f rank → HaveOneAuthority roots homes covers dir.0 f
 one_of_all homes covers roots dir f rank all one other a b inside its live lives has rules =
     one_authority roots homes covers one a rank has (all one live inside) ∙ sym (one_authority roots homes covers other b rank rules (all other lives its))
-
--- an eviction from the cache of the first rank
-pub evicts_first : (old new other before : Held) (rank : ℕ) → rank ≡ 0 → Evicts None old new → Evicts None (cond (rank == 0) old other) (cond (rank == 0) new before)
-evicts_first old new other before rank is evicts = subst (λ (r : ℕ). Evicts None (cond (r == 0) old other) (cond (r == 0) new before)) (sym is) evicts

@@ -20,7 +20,7 @@ use Rattle.cluster_core.specs.State.{Core, State, no_supply, shown, supply_of}
 use Rattle.cluster_core.specs.declared.events.Answer.{Answer}
 use Rattle.cluster_core.specs.Offer.{after_taking}
 use Rattle.cluster_core.specs.Serve.{IsApplied, entry_of, number_of, outcome_of, with_entry}
-use Rattle.cluster_core.specs.Sound.{AreSupplied, IsFresh, IsSound, IsSupplied}
+use Rattle.cluster_core.specs.Sound.{AreCached, AreSupplied, IsFresh, IsSound, IsSupplied}
 use Rattle.ranked_tree.specs.Subtrees.{KeepsRoots}
 
 -- what an offer of a number comes to: the table took it, or it took none and the outcome is that of any number
@@ -133,9 +133,9 @@ module _ (opening : Tree) (past : List Entry) (numbers : List Supply) (rank : �
 
 -- a book stays sound where a request is applied
 pub sound-applied : (opening : Tree) (past now : List Entry) (old new : Core) (rank : Rank) (request : Request) (rest : List Request) (answer : Answer)
-    → rank.0 < length old.state.numbers → IsSound opening past old → IsKept new.state.tree new.cache → KeepsRoots old.state.tree new.state.tree old.state.roots new.state.roots
+    → rank.0 < length old.state.numbers → IsSound opening past old → IsKept new.state.tree new.cache → AreCached new → length new.ranks ≡ length old.ranks → KeepsRoots old.state.tree new.state.tree old.state.roots new.state.roots
     → IsApplied old.state new.state past now rank request rest answer → IsSound opening now new
-sound-applied opening past now old new rank request rest answer there sound tree kept done =
+sound-applied opening past now old new rank request rest answer there sound tree cached count kept done =
     let before = old.state in
     let e = entry_of before rank request in
     let t = taking_of before rank request done.numbered in
@@ -158,10 +158,11 @@ sound-applied opening past now old new rank request rest answer there sound tree
       replayed = done.tree ∙ ap (λ (o : Outcome). o.tree) (sym same) ∙ sym (after-push opening past e) ∙ ap (after opening) (sym done.appended);
       tree = tree;
       subtrees = kept.valid;
-      first = λ leaf r is. let w = kept.ranks leaf r is in sound.first w.0 r w.1;
+      cached = cached;
       ranks = rw (numbers, inboxes) (record {
         some = omega (arith, sound.ranks.some, length-set before.numbers rank.0 (after_taking (supply_of before rank) e.number));
         inboxes = length-set before.inboxes rank.0 rest ∙ sound.ranks.inboxes ∙ sym (length-set before.numbers rank.0 (after_taking (supply_of before rank) e.number));
+        caches = count ∙ sound.ranks.caches ∙ sym (length-set before.numbers rank.0 (after_taking (supply_of before rank) e.number));
       });
       supplied = rw (numbers, done.appended) (supplied_after opening past before.numbers rank.0 e there sound.supplied t.next_one);
       kept = rw (sessions, done.appended) (table-push past before.sessions e sound.kept);

@@ -1,22 +1,20 @@
 -- A book begins sound.
-use Rattle.std.proofs.Common.{◌≡◌, ℕ, zero, suc, ◌+◌, ◌^◌, ◌<◌, ◌≤◌, inl, inr, [], map, length, get_or, refl, sym, ap, subst, ◌∙◌, arith}
-use Rattle.std.specs.Prelude.{is_some}
+use Rattle.std.proofs.Common.{◌≡◌, ℕ, zero, suc, ◌+◌, ◌^◌, ◌<◌, ◌≤◌, inl, inr, [], ◌∷◌, replicate, map, length, get_or, refl, sym, ap, subst, ◌∙◌, arith}
 use Rattle.std.specs.FinMap as finmap
-use Rattle.std.proofs.lemmas.List.{length-replicate}
-use Rattle.mds_types.specs.declared.ids.Rank.{Rank}
+use Rattle.std.proofs.lemmas.List.{length-replicate, length-set}
+use Rattle.lru.specs.LruCache.{lru_cache}
 use Rattle.mds_types.specs.Tree.{numbers}
 use Rattle.mds_types.proofs.TreeLaws.{entries-empty}
 use Rattle.mds_types.specs.History.{IsUsed}
 use Rattle.inode_table.specs.Numbers.{Supply, first_number}
 use Rattle.mdcache.specs.Cached.{IsKept}
-use Rattle.mdcache.specs.New.{root_leaf}
+use Rattle.dentry_cache.specs.Cache.{held}
+use Rattle.mdcache.specs.New.{cached_root, new_caches, root_leaf}
 use Rattle.mdcache.proofs.NewLaws.{new_tree}
-use Rattle.ranked_tree.specs.Ranked.{new_roots}
-use Rattle.ranked_tree.proofs.NewLaws.{new_are_roots, one_root, root_is}
+use Rattle.ranked_tree.proofs.NewLaws.{new_are_roots}
 use Rattle.sessions.proofs.TableLaws.{table-none}
-use Rattle.subtree_map.proofs.Options.{one_value}
 use Rattle.cluster_core.specs.State.{Core, new_state, no_supply, shown, whole_supplies}
-use Rattle.cluster_core.specs.Sound.{AreFirst, AreSupplied, IsSound, IsSupplied}
+use Rattle.cluster_core.specs.Sound.{AreCached, AreSupplied, IsSound, IsSupplied}
 
 -- no number of a rank is used in an empty book
 unused-empty : (n : ℕ) → 2 ^ 40 ≤ n → IsUsed finmap.empty [] n → ⊥
@@ -51,20 +49,23 @@ all_supplied ranks most k below =
       fresh = λ n low high used. absurd (unused-empty n (omega (arith, low)) used);
     })
 
-all_first : AreFirst new_roots
-all_first leaf rank is =
-    let same = one_root leaf (ap is_some is) in
-    ap (λ (r : Rank). r.0) (one_value (finmap.get new_roots root_leaf) rank (record { 0 = 0 }) (ap (finmap.get new_roots) (sym same) ∙ is) root_is)
-
 -- a new book is sound
-pub sound-empty : (core : Core) (ranks : ℕ) → 1 ≤ ranks → ranks ≤ 16 → core.state ≡ new_state ranks → IsKept core.state.tree core.cache → IsSound finmap.empty [] core
-sound-empty core ranks some most is tree = record {
+pub sound-empty : (core : Core) (ranks : ℕ) → 1 ≤ ranks → ranks ≤ 16 → core.state ≡ new_state ranks → IsKept core.state.tree core.cache → AreCached core → length core.ranks ≡ ranks → IsSound finmap.empty [] core
+sound-empty core ranks some most is tree cached count = record {
   legal = λ k e below. absurd (omega arith);
   replayed = ap shown is ∙ new_tree;
   tree = tree;
   subtrees = rw is new_are_roots;
-  first = rw is all_first;
-  ranks = rw is (record { some = omega (arith, some, as_many 0 ranks); inboxes = length-replicate ranks [] ∙ sym (as_many 0 ranks) });
+  cached = cached;
+  ranks = record {
+    some = rw is (omega (arith, some, as_many 0 ranks));
+    inboxes = rw is (length-replicate ranks [] ∙ sym (as_many 0 ranks));
+    caches = count ∙ rw is (sym (as_many 0 ranks));
+  };
   supplied = rw is (all_supplied ranks most);
   kept = rw is table-none;
 }
+
+-- the caches of a new book are as many as its ranks
+pub new_count : (ranks places : ℕ) → length (new_caches ranks places) ≡ ranks
+new_count ranks places = length-set (replicate ranks (lru_cache [] places)) 0 (lru_cache ((root_leaf, held cached_root) ∷ []) places) ∙ length-replicate ranks (lru_cache [] places)

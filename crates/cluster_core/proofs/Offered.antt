@@ -13,13 +13,13 @@ use Rattle.dirfrag_codec.specs.EntryRecord.{IsRankNumber}
 use Rattle.inode_table.specs.Numbers.{Supply, offer, end_number}
 use Rattle.namespace_ops.specs.Changes.{IsOffered}
 use Rattle.cluster_core.specs.Master.{AreMastersThere, main_leaf}
-use Rattle.cluster_core.specs.State.{Core, State, shown, supply_of}
+use Rattle.cluster_core.specs.State.{Core, shown, supply_of}
 use Rattle.cluster_core.specs.Sound.{AreRanks, IsSound, IsSupplied}
 use Rattle.ranked_tree.specs.Subtrees.{Rules}
 
 -- a rank that is there has its supply
-pub there_of : (state : State) → AreRanks state → (rank : Rank) → nat_lt rank.0 (length state.inboxes) ≡ true → rank.0 < length state.numbers
-there_of state ranks rank here = omega (arith, ltb-true rank.0 (length state.inboxes) here, ranks.inboxes)
+pub there_of : (core : Core) → AreRanks core → (rank : Rank) → nat_lt rank.0 (length core.state.inboxes) ≡ true → rank.0 < length core.state.numbers
+there_of core ranks rank here = omega (arith, ltb-true rank.0 (length core.state.inboxes) here, ranks.inboxes)
 
 module _ (opening : Tree) (past : List Entry) (core : Core) (sound : IsSound opening past core) (rank : Rank) (there : rank.0 < length core.state.numbers) where
   abbrev mine : Supply
@@ -48,10 +48,10 @@ module _ (opening : Tree) (past : List Entry) (core : Core) (sound : IsSound ope
       go true below = (next_unused (below refl), next_in_range (below refl))
       go false below = tt
 
-  -- the master of each operation is one of the ranks: the rank itself, or rank 0, whose every root is
+  -- the master of each operation is one of the ranks: the rank itself, or that of a root
   pub masters_there : AreMastersThere core.state.tree core.state.roots rank (length core.state.inboxes)
   masters_there op master h = go (is_directory (shown core.state) (destination_of op)) h
     where
       go : (b : Bool) → MatchBool b (Rules core.state.tree core.state.roots (main_leaf core.state.tree.covers op) master) (master ≡ rank) → master.0 < length core.state.inboxes
-      go true rules = omega (arith, sound.first rules.root master rules.ranked, sound.ranks.some, sound.ranks.inboxes)
+      go true rules = omega (arith, sound.cached.held.ranks rules.root master rules.ranked, sound.ranks.caches, sound.ranks.inboxes)
       go false same = omega (arith, ap (λ (r : Rank). r.0) same, there, sound.ranks.inboxes)

@@ -21,12 +21,13 @@ use Rattle.cluster_core.specs.Administers.{Administers, BeginsAt, EvictsOne, IsU
 use Rattle.cluster_core.specs.State.{Core, State, shown}
 use Rattle.cluster_core.specs.Serve.{IsForwarded, IsLeft, IsTakenOut, ServesRequest, ServesInbox}
 use Rattle.cluster_core.specs.Steps.{ArrivesAt, Does, MayRefuse}
-use Rattle.cluster_core.specs.Sound.{IsSound}
+use Rattle.cluster_core.specs.Sound.{AreCached, IsSound}
 use Rattle.ranked_tree.specs.Subtrees.{KeepsRoots}
 use Rattle.cluster_core.proofs.Applied.{sound-applied}
 use Rattle.cluster_core.proofs.Offered.{there_of}
 
-module _ (opening : Tree) (past now : List Entry) (old new : Core) (sound : IsSound opening past old) (tree : IsKept new.state.tree new.cache) (kept : KeepsRoots old.state.tree new.state.tree old.state.roots new.state.roots) where
+module _ (opening : Tree) (past now : List Entry) (old new : Core) (sound : IsSound opening past old) (tree : IsKept new.state.tree new.cache) (cached : AreCached new) (count : length new.ranks ≡ length old.ranks)
+    (kept : KeepsRoots old.state.tree new.state.tree old.state.roots new.state.roots) where
   -- the same history, and the same tree, numbers and sessions: what the inboxes have has no part in it
   sound-same : now ≡ past → shown new.state ≡ shown old.state → new.state.numbers ≡ old.state.numbers → length new.state.inboxes ≡ length old.state.inboxes → new.state.sessions ≡ old.state.sessions → IsSound opening now new
   sound-same same shown_same numbers_same inboxes_same sessions_same = record {
@@ -34,8 +35,8 @@ module _ (opening : Tree) (past now : List Entry) (old new : Core) (sound : IsSo
     replayed = shown_same ∙ rw same sound.replayed;
     tree = tree;
     subtrees = kept.valid;
-    first = λ leaf rank is. let w = kept.ranks leaf rank is in sound.first w.0 rank w.1;
-    ranks = record { some = rw numbers_same sound.ranks.some; inboxes = inboxes_same ∙ rw numbers_same sound.ranks.inboxes };
+    cached = cached;
+    ranks = record { some = rw numbers_same sound.ranks.some; inboxes = inboxes_same ∙ rw numbers_same sound.ranks.inboxes; caches = count ∙ rw numbers_same sound.ranks.caches };
     supplied = rw (numbers_same, same) sound.supplied;
     kept = rw (sessions_same, same) sound.kept;
   }
@@ -66,7 +67,7 @@ module _ (opening : Tree) (past now : List Entry) (old new : Core) (sound : IsSo
 
   module _ (MayRefuse : Op → Refusal → Type 0) (rank : Rank) (there : rank.0 < length old.state.numbers) where
     served : (request : Request) (rest : List Request) (result : Result Answer Refusal) → ServesRequest old.state new.state past now MayRefuse rank request rest result → IsSound opening now new
-    served request rest (Ok answer) (inl h) = sound-applied opening past now old new rank request rest answer there sound tree kept h
+    served request rest (Ok answer) (inl h) = sound-applied opening past now old new rank request rest answer there sound tree cached count kept h
     served request rest (Ok answer) (inr (inl h)) = sound-out rank request rest h.out
     served request rest (Ok answer) (inr (inr (inl h))) = forwarded rank request rest answer h
     served request rest (Ok answer) (inr (inr (inr h))) = sound-but h.same _ old.state.pins (length-set old.state.inboxes rank.0 (rest ++ request ∷ [])) h.left
@@ -96,7 +97,7 @@ module _ (opening : Tree) (past now : List Entry) (old new : Core) (sound : IsSo
   -- every step keeps a book sound
   pub sound-step : (result : Result Answer Refusal) (event : Event) → Does old new past now result event → IsSound opening now new
   sound-step result (Arrive rank request) h = at_rank (nat_lt rank.0 (length old.state.inboxes)) result (λ here. arrived rank request result) h
-  sound-step result (Serve rank) h = at_rank (nat_lt rank.0 (length old.state.inboxes)) result (λ here. served_inbox (MayRefuse old new) rank (there_of old.state sound.ranks rank here) result (waiting_at old.state.inboxes rank)) h
+  sound-step result (Serve rank) h = at_rank (nat_lt rank.0 (length old.state.inboxes)) result (λ here. served_inbox (MayRefuse old new) rank (there_of old sound.ranks rank here) result (waiting_at old.state.inboxes rank)) h
   sound-step result (Grant rank client tid) h = at_rank (nat_lt rank.0 (length old.state.inboxes)) result (λ here. granted (MayRefuse old new) rank client tid result (first_waiting client tid old.state.inboxes)) h
   sound-step result (Split rank dir f nb) h = at_rank (nat_lt rank.0 (length old.state.inboxes)) result (λ here. administered nothing (SplitsLeaf old new rank dir f nb) result) h
   sound-step result (Merge rank dir f) h = at_rank (nat_lt rank.0 (length old.state.inboxes)) result (λ here. administered nothing (MergesLeaves old new rank dir f) result) h

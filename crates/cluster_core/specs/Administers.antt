@@ -19,6 +19,7 @@ use Rattle.mdcache.specs.Commits.{Begins, Drops, Ends}
 use Rattle.mdcache.specs.Objects.{Purges, SavesTree}
 use Rattle.mdcache.specs.Regroups.{MayNotRegroup}
 use Rattle.mdcache.specs.Splits.{IsMergedInto, IsSplitInto}
+use Rattle.rank_caches.specs.Caches.{with_cache}
 use Rattle.cluster_core.specs.declared.events.Answer.{Answer}
 use Rattle.cluster_core.specs.declared.events.Answer.TheVariants.{Job, Nothing}
 use Rattle.cluster_core.specs.State.{Core, LacksPlaces, State, cache_of, shown}
@@ -66,8 +67,8 @@ abbrev pub IsAnyPinned : Homes → Covers → List Pin → Ino → Fragment → 
 IsAnyPinned homes covers pins dir frag = (leaf : Leaf) × IsLive homes covers leaf × (is_inside dir.0 frag leaf ≡ true) × (list_any (is_on leaf.0 leaf.1) pins ≡ true)
 
 -- a leaf of the rank's, not pinned, was split by so many bits, and its children are roots if it was one; where it wasn't, the leaves refuse it, or
--- the rank isn't its authority, or it is pinned, or numbers lack, or as many places as there would be children and one, or the store or memory
--- refused
+-- the rank isn't its authority, or it is pinned, or numbers lack, or a rank lacks as many places as there would be children and one, or the store or
+-- memory refused
 abbrev pub SplitsLeaf : (old new : Core) → Rank → Ino → Fragment → ℕ → Result (Unit {0}) Refusal → Type 0
 SplitsLeaf old new rank dir f nb (Ok done) =
     IsAuthority old.state (dir, f) rank × (IsPinned old.state (dir, f) → ⊥) × IsSplitInto old.state.tree new.state.tree dir f nb × IsRootSplit old.state.roots new.state.roots dir.0 f nb
@@ -85,7 +86,7 @@ abbrev pub HasPinnedInside : State → Ino → Fragment → Type 0
 HasPinnedInside state dir f = IsAnyPinned state.tree.homes state.tree.covers state.pins dir f
 
 -- the leaves inside a fragment, all the rank's and none pinned, were merged, and it is a root if one of them was; where they weren't, it was
--- refused so too, and for places where one lacks
+-- refused so too, and for places where a rank has none
 abbrev pub MergesLeaves : (old new : Core) → Rank → Ino → Fragment → Result (Unit {0}) Refusal → Type 0
 MergesLeaves old new rank dir f (Ok done) =
     HoldsInside old.state rank dir f × (HasPinnedInside old.state dir f → ⊥) × IsMergedInto old.state.tree new.state.tree dir f × IsRootMerge old.state.roots new.state.roots dir.0 f
@@ -141,11 +142,11 @@ CommitsTree old new past now dir result = AdministersTree old.state new.state pa
 abbrev pub PurgesObject : (old new : Core) → (past now : List Entry) → Result Answer Refusal → Type 0
 PurgesObject old new past now result = AdministersTree old.state new.state past now nothing (Purges old.state.tree new.state.tree old.faults new.faults) result
 
--- the least recently used of the clean fragments that a rank caches is no longer cached, and all else is as it was; refused exactly where
--- none is clean
+-- the least recently used of the clean fragments that a rank caches is no longer cached, and all else is as it was, the caches of the other
+-- ranks too; refused exactly where none is clean
 abbrev pub EvictsOne : (old new : Core) → Rank → Result (Unit {0}) Refusal → Type 0
-EvictsOne old new rank (Ok done) = Evicts None (cache_of old rank) (cache_of new rank) × (new.state ≡ old.state)
-EvictsOne old new rank (Err reason) = (reason ≡ NothingToEvict) × NoneGoes None (cache_of old rank).entries × (new.cache ≡ old.cache)
+EvictsOne old new rank (Ok done) = Evicts None (cache_of old rank) (cache_of new rank) × (new.ranks ≡ with_cache old.ranks rank (cache_of new rank)) × (new.state ≡ old.state)
+EvictsOne old new rank (Err reason) = (reason ≡ NothingToEvict) × NoneGoes None (cache_of old rank).entries × (new.ranks ≡ old.ranks)
 
 abbrev pub EvictsFragment : (old new : Core) → (past now : List Entry) → Rank → Result Answer Refusal → Type 0
 EvictsFragment old new past now rank result = AdministersTree old.state new.state past now nothing (EvictsOne old new rank) result

@@ -1,11 +1,11 @@
 -- What contracts see of a cluster.
-use Rattle.std.specs.Prelude.{ℕ, zero, suc, ◌==◌, ◌<◌, ◌+◌, ◌*◌, ◌^◌, cond, get_or, List, [], ◌∷◌, replicate}
+use Rattle.std.specs.Prelude.{ℕ, zero, suc, ◌<◌, ◌+◌, ◌*◌, ◌^◌, get_or, length, List, [], ◌∷◌, replicate}
 use Rattle.std.specs.FinMap as map
 use Rattle.mds_types.specs.declared.entries.Entry.{Entry}
 use Rattle.mds_types.specs.declared.ids.Rank.{Rank}
 use Rattle.mds_types.specs.Tree.{Tree}
-use Rattle.lru.specs.LruCache.{lru_cache}
-use Rattle.dentry_cache.specs.Cache.{Held}
+use Rattle.dentry_cache.specs.Cache.{Held, unsaved}
+use Rattle.rank_caches.specs.Caches.{Caches, cache_of as cache_at}
 use Rattle.inboxes.specs.Inboxes.{Inboxes}
 use Rattle.inboxes.specs.declared.pins.Pin.{Pin}
 use Rattle.inode_table.specs.Numbers.{Supply, first_number}
@@ -28,10 +28,11 @@ pub record State : Type 0 where
   pub pins : List Pin
   pub sessions : Table
 
--- a cluster: its state; the places of its cache in the order of their use, and how many faults its store had, which a refused step may
--- change
+-- a cluster: its state; the caches of its ranks with their places in the order of use, the places of all, and how many faults its store had,
+-- which a refused step may change
 pub record Core : Type 0 where
   pub state : State
+  pub ranks : Caches
   pub cache : Held
   pub faults : ℕ
 
@@ -45,13 +46,13 @@ pub record Kept : Type 0 where
 abbrev pub shown : State → Tree
 shown state = shown_tree state.tree
 
--- a rank's cache. So far every subtree is rank 0's, so what is cached lies in its cache, and no other rank caches anything
+-- a rank's cache
 abbrev pub cache_of : Core → Rank → Held
-cache_of core rank = cond (rank.0 == 0) core.cache (lru_cache [] core.cache.cap)
+cache_of core rank = cache_at core.ranks rank
 
--- fewer than so many places of the cache are free or can become so: each other one is that of a fragment that isn't clean
+-- fewer than so many places of a rank's cache are free or can become so: each other one is that of a fragment that isn't clean
 abbrev pub LacksPlaces : ℕ → Core → Type 0
-LacksPlaces count core = core.cache.cap < map.len core.state.tree.unsaved + count
+LacksPlaces count core = (rank : Rank) × (rank.0 < length core.ranks) × (core.cache.cap < map.len (unsaved (cache_of core rank).entries) + count)
 
 -- a supply that has nothing left, of a rank that isn't there
 abbrev pub no_supply : Supply
@@ -66,7 +67,7 @@ abbrev pub state_of : TreeState → Roots → List Supply → Inboxes → List P
 state_of tree roots numbers inboxes pins sessions = record { tree = tree; roots = roots; numbers = numbers; inboxes = inboxes; pins = pins; sessions = sessions }
 
 abbrev pub core_of : TreeCore → Roots → List Supply → Inboxes → List Pin → Table → Core
-core_of tree roots numbers inboxes pins sessions = record { state = state_of tree.state roots numbers inboxes pins sessions; cache = tree.cache; faults = tree.faults }
+core_of tree roots numbers inboxes pins sessions = record { state = state_of tree.state roots numbers inboxes pins sessions; ranks = tree.ranks; cache = tree.cache; faults = tree.faults }
 
 -- the whole range of numbers for each of so many ranks, from this one on
 abbrev pub whole_supplies : ℕ → ℕ → List Supply

@@ -23,8 +23,8 @@ abbrev pub ArrivesAt : (old new : State) → (past now : List Entry) → Rank �
 ArrivesAt old new past now rank request (Ok answer) = (answer ≡ Nothing) × (length (waiting_at old.inboxes rank) < 1024) × (new ≡ record old { inboxes = with_last old.inboxes rank request }) × (now ≡ past)
 ArrivesAt old new past now rank request (Err reason) = (reason ≡ InboxFull) × (length (waiting_at old.inboxes rank) ≡ 1024) × IsLeft old new past now
 
--- why the tree refuses an operation in a step: want of memory, a store whose count of faults rose in it, fewer than four places of the
--- cache that are free or can become so, or a counter at its end
+-- why the tree refuses an operation in a step: want of memory, a store whose count of faults rose in it, fewer than four places of a
+-- rank's cache that are free or can become so, or a counter at its end
 abbrev pub MayRefuse : (old new : Core) → Op → Refusal → Type 0
 MayRefuse old new op reason =
     (reason ≡ NoMemory) ⊎ ((reason ≡ StoreFault) × (old.faults < new.faults)) ⊎ ((reason ≡ NothingToEvict) × LacksPlaces 4 old) ⊎ ((reason ≡ NoInodes) × LacksFor op old.state.tree)
@@ -51,10 +51,11 @@ Does old new past now result (CommitTree dir) = CommitsTree old new past now dir
 Does old new past now result Purge = PurgesObject old new past now result
 Does old new past now result (Evict rank) = AtRank old.state new.state past now rank result (EvictsFragment old new past now rank result)
 
--- one step: what its event does. Each leaf that stays keeps its authority, the cache its number of places, and the store's count of faults
--- doesn't fall
+-- one step: what its event does. Each leaf that stays keeps its authority, there are as many ranks, with as many places each, and the store's
+-- count of faults doesn't fall
 pub record Steps (old new : Core) (past now : List Entry) (result : Result Answer Refusal) (event : Event) : Type 0 where
   pub does : Does old new past now result event
   pub authorities : KeepsAuthorities old.state.tree new.state.tree old.state.roots new.state.roots
+  pub ranks : length new.ranks ≡ length old.ranks
   pub capacity : new.cache.cap ≡ old.cache.cap
   pub grows : old.faults ≤ new.faults

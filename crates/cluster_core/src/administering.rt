@@ -1,5 +1,5 @@
 //! The administrator's steps: what each does is unseen, but for the answer.
-ghost use Rattle.std.specs.Prelude.{◌≡◌, ◌≤◌, List};
+ghost use Rattle.std.specs.Prelude.{◌≡◌, ◌≤◌, List, length};
 ghost use Rattle.mds_types.specs.declared.entries.Entry.{Entry as Applied};
 ghost use Rattle.inboxes.specs.Inboxes.{Inboxes as Waiting};
 ghost use Rattle.inboxes.specs.declared.pins.Pin.{Pin as Granted};
@@ -33,6 +33,7 @@ impl<S: Store + Drop> Cluster<S> {
         requires { AreRoots self.old.state.tree self.old.state.roots }
         ensures split { (past : List Applied) → AtRank self.old.state self.new.state past past rank result (Splits self.old self.new past past rank ino frag bits result) }
         ensures kept { KeepsRoots self.old.state.tree self.new.state.tree self.old.state.roots self.new.state.roots }
+        ensures count { length self.new.ranks ≡ length self.old.ranks }
         ensures cap { self.new.cache.cap ≡ self.old.cache.cap }
         ensures grows { self.old.faults ≤ self.new.faults }
     {
@@ -53,6 +54,7 @@ impl<S: Store + Drop> Cluster<S> {
         requires { AreRoots self.old.state.tree self.old.state.roots }
         ensures merged { (past : List Applied) → AtRank self.old.state self.new.state past past rank result (Merges self.old self.new past past rank ino frag result) }
         ensures kept { KeepsRoots self.old.state.tree self.new.state.tree self.old.state.roots self.new.state.roots }
+        ensures count { length self.new.ranks ≡ length self.old.ranks }
         ensures cap { self.new.cache.cap ≡ self.old.cache.cap }
         ensures grows { self.old.faults ≤ self.new.faults }
     {
@@ -70,6 +72,7 @@ impl<S: Store + Drop> Cluster<S> {
         frag: Frag,
     ) -> Result<Answer, Refusal>
         ensures begun { (past : List Applied) → AtRank self.old.state self.new.state past past rank result (BeginsCommit self.old self.new past past rank (ino, frag) result) }
+        ensures count { length self.new.ranks ≡ length self.old.ranks }
         ensures cap { self.new.cache.cap ≡ self.old.cache.cap }
         ensures grows { self.old.faults ≤ self.new.faults }
     {
@@ -82,6 +85,7 @@ impl<S: Store + Drop> Cluster<S> {
     // A commit ends: what was encoded is written.
     pub(crate) fn end_commit(&mut self, alloc: Global, encoded: &Encoded) -> Result<Answer, Refusal>
         ensures ended { (past : List Applied) → EndsCommit self.old self.new past past encoded.now.job result }
+        ensures count { length self.new.ranks ≡ length self.old.ranks }
         ensures cap { self.new.cache.cap ≡ self.old.cache.cap }
         ensures grows { self.old.faults ≤ self.new.faults }
     {
@@ -94,6 +98,7 @@ impl<S: Store + Drop> Cluster<S> {
     // A commit is given up.
     pub(crate) fn drop_commit(&mut self, job: u64) -> Result<Answer, Refusal>
         ensures dropped { (past : List Applied) → DropsCommit self.old self.new past past job result }
+        ensures count { length self.new.ranks ≡ length self.old.ranks }
         ensures cap { self.new.cache.cap ≡ self.old.cache.cap }
         ensures grows { self.old.faults ≤ self.new.faults }
     {
@@ -106,6 +111,7 @@ impl<S: Store + Drop> Cluster<S> {
     // The object of a directory's tree is written, or removed.
     pub(crate) fn commit_tree(&mut self, alloc: Global, ino: Ino) -> Result<Answer, Refusal>
         ensures saved { (past : List Applied) → CommitsTree self.old self.new past past ino result }
+        ensures count { length self.new.ranks ≡ length self.old.ranks }
         ensures cap { self.new.cache.cap ≡ self.old.cache.cap }
         ensures grows { self.old.faults ≤ self.new.faults }
     {
@@ -118,6 +124,7 @@ impl<S: Store + Drop> Cluster<S> {
     // The first object of the purge list is removed.
     pub(crate) fn purge(&mut self) -> Result<Answer, Refusal>
         ensures purged { (past : List Applied) → PurgesObject self.old self.new past past result }
+        ensures count { length self.new.ranks ≡ length self.old.ranks }
         ensures cap { self.new.cache.cap ≡ self.old.cache.cap }
         ensures grows { self.old.faults ≤ self.new.faults }
     {
@@ -127,19 +134,18 @@ impl<S: Store + Drop> Cluster<S> {
         Ok(Answer::Nothing)
     }
 
-    // The least recently used clean fragment of a rank's cache goes. So far all that is cached is rank 0's.
+    // The least recently used clean fragment of a rank's cache goes.
     pub(crate) fn evict(&mut self, rank: Rank) -> Result<Answer, Refusal>
+        requires { length self.old.ranks ≡ length self.old.state.inboxes }
         ensures evicted { (past : List Applied) → AtRank self.old.state self.new.state past past rank result (EvictsFragment self.old self.new past past rank result) }
+        ensures count { length self.new.ranks ≡ length self.old.ranks }
         ensures cap { self.new.cache.cap ≡ self.old.cache.cap }
         ensures grows { self.old.faults ≤ self.new.faults }
     {
         if !self.is_rank(rank) {
             return Err(Refusal::NotAuthority);
         }
-        if rank.0 != 0 {
-            return Err(Refusal::NothingToEvict);
-        }
-        if let Err(refusal) = self.tree.evict() {
+        if let Err(refusal) = self.tree.evict(rank) {
             return Err(refusal);
         }
         Ok(Answer::Nothing)
@@ -159,6 +165,7 @@ fn split_at<S: Store + Drop>(
     requires { AreRoots tree.old.tree.state tree.old.subtrees.roots }
     ensures split { (numbers : List Supply) (inboxes : Waiting) (sessions : Table) (past : List Applied) → Splits (core_of tree.old.tree tree.old.subtrees.roots numbers inboxes pins.now sessions) (core_of tree.new.tree tree.new.subtrees.roots numbers inboxes pins.now sessions) past past rank ino frag bits result }
     ensures kept { KeepsRoots tree.old.tree.state tree.new.tree.state tree.old.subtrees.roots tree.new.subtrees.roots }
+    ensures count { length tree.new.tree.ranks ≡ length tree.old.tree.ranks }
     ensures cap { tree.new.tree.cache.cap ≡ tree.old.tree.cache.cap }
     ensures grows { tree.old.tree.faults ≤ tree.new.tree.faults }
 {
@@ -189,6 +196,7 @@ fn merge_at<S: Store + Drop>(
     requires { AreRoots tree.old.tree.state tree.old.subtrees.roots }
     ensures merged { (numbers : List Supply) (inboxes : Waiting) (sessions : Table) (past : List Applied) → Merges (core_of tree.old.tree tree.old.subtrees.roots numbers inboxes pins.now sessions) (core_of tree.new.tree tree.new.subtrees.roots numbers inboxes pins.now sessions) past past rank ino frag result }
     ensures kept { KeepsRoots tree.old.tree.state tree.new.tree.state tree.old.subtrees.roots tree.new.subtrees.roots }
+    ensures count { length tree.new.tree.ranks ≡ length tree.old.tree.ranks }
     ensures cap { tree.new.tree.cache.cap ≡ tree.old.tree.cache.cap }
     ensures grows { tree.old.tree.faults ≤ tree.new.tree.faults }
 {
@@ -215,6 +223,7 @@ fn begin_at<S: Store + Drop>(
     frag: Frag,
 ) -> Result<Answer, Refusal>
     ensures begun { (numbers : List Supply) (inboxes : Waiting) (pins : List Granted) (sessions : Table) (past : List Applied) → BeginsCommit (core_of tree.old.tree tree.old.subtrees.roots numbers inboxes pins sessions) (core_of tree.new.tree tree.new.subtrees.roots numbers inboxes pins sessions) past past rank (ino, frag) result }
+    ensures count { length tree.new.tree.ranks ≡ length tree.old.tree.ranks }
     ensures cap { tree.new.tree.cache.cap ≡ tree.old.tree.cache.cap }
     ensures faults { tree.new.tree.faults ≡ tree.old.tree.faults }
 {

@@ -104,6 +104,7 @@ pub fn commit<S: Store + Drop>(
     ensures made { MakesPlanned prepared.plan.change tree.old.tree.state tree.new.tree.state }
     ensures leaves { CarryLeaves (shown_tree tree.old.tree.state) (shown_tree tree.new.tree.state) tree.old.tree.state.covers tree.new.tree.state.covers }
     ensures frame { ChangesOnly (IsUntouched tree.old.tree.state tree.new.tree.state) (fragments_in tree.old.tree.state.covers prepared.plan.change) }
+    ensures count { length tree.new.tree.ranks ≡ length tree.old.tree.ranks }
     ensures cap { tree.new.tree.cache.cap ≡ tree.old.tree.cache.cap }
     ensures faults { tree.new.tree.faults ≡ tree.old.tree.faults }
     ensures followed { FollowPlanned prepared.plan.change tree.old.tree.state tree.old.subtrees.roots tree.new.subtrees.roots }
@@ -162,6 +163,7 @@ fn carry_out<S: Store + Drop>(tree: &mut RankedTree<S>, pins: &mut Pins, change:
     ensures made { MakesPlanned change tree.old.tree.state tree.new.tree.state }
     ensures leaves { CarryLeaves (shown_tree tree.old.tree.state) (shown_tree tree.new.tree.state) tree.old.tree.state.covers tree.new.tree.state.covers }
     ensures frame { ChangesOnly (IsUntouched tree.old.tree.state tree.new.tree.state) (fragments_in tree.old.tree.state.covers change) }
+    ensures count { length tree.new.tree.ranks ≡ length tree.old.tree.ranks }
     ensures cap { tree.new.tree.cache.cap ≡ tree.old.tree.cache.cap }
     ensures faults { tree.new.tree.faults ≡ tree.old.tree.faults }
     ensures followed { FollowPlanned change tree.old.tree.state tree.old.subtrees.roots tree.new.subtrees.roots }

@@ -1,9 +1,8 @@
 //! The book: a cluster with the history of what it answered.
-ghost use Rattle.std.specs.Prelude.{◌≡◌, ◌≤◌, ◌∷◌, [], IfOk, IfErr, OnOk};
+ghost use Rattle.std.specs.Prelude.{◌≡◌, ◌≤◌, [], IfOk, IfErr, OnOk};
 ghost use Rattle.std.specs.FinMap as map;
-ghost use Rattle.lru.specs.LruCache.{lru_cache};
-ghost use Rattle.dentry_cache.specs.Cache.{held};
-ghost use Rattle.mdcache.specs.New.{MayNotFormat, cached_root, root_leaf};
+ghost use Rattle.mdcache.specs.New.{MayNotFormat, new_caches};
+ghost use Rattle.cluster_core.specs.Fragments.{LieAtAuthority};
 ghost use Rattle.cluster_core.specs.State.{new_state};
 ghost use Rattle.cluster_core.specs.Steps.{Steps};
 ghost use Rattle.cluster_core.specs.Sound.{IsSoundBook};
@@ -57,9 +56,11 @@ impl<S: Store + Drop> Book<S> {
         &self.opening
     }
 
-    /// The cluster, to read.
+    /// The cluster, to read. A caller also learns from it that each fragment which a rank caches is one of its own, and that one
+    /// which isn't clean lies in the cache of its authority.
     pub fn cluster(&self) -> &Cluster<S>
-        ensures { result.now ≡ self.now.core }
+        ensures cluster { result.now ≡ self.now.core }
+        ensures lie { LieAtAuthority self.now.core }
     {
         &self.cluster
     }
@@ -94,7 +95,7 @@ pub fn format<S: Store + Drop>(
     ensures opening { IfOk result (λ book. book.opening ≡ map.empty) }
     ensures history { IfOk result (λ book. book.history ≡ []) }
     ensures state { IfOk result (λ book. book.core.state ≡ new_state ranks) }
-    ensures cache { IfOk result (λ book. book.core.cache ≡ lru_cache ((root_leaf, held cached_root) ∷ []) cache) }
+    ensures ranks { IfOk result (λ book. book.core.ranks ≡ new_caches ranks cache) }
     ensures refused { IfErr result (λ back. MayNotFormat (S.objects store) (S.faults store) (S.faults back.1) back.0) }
     ensures left { IfErr result (λ back. S.objects back.1 ≡ S.objects store) }
 {

@@ -1,17 +1,16 @@
 //! The cluster and its events.
-ghost use Rattle.std.specs.Prelude.{◌≡◌, ◌≤◌, ◌∷◌, [], List, length, nat_lt, replicate, Ok, Err, IfOk, IfErr, OnOk};
+ghost use Rattle.std.specs.Prelude.{◌≡◌, ◌≤◌, [], List, length, nat_lt, replicate, Ok, Err, IfOk, IfErr, OnOk};
 ghost use Rattle.std.specs.FinMap as map;
-ghost use Rattle.lru.specs.LruCache.{lru_cache};
 ghost use Rattle.mds_types.specs.declared.entries.Entry.{Entry as Applied};
 ghost use Rattle.mds_types.specs.Tree.{Tree};
-ghost use Rattle.dentry_cache.specs.Cache.{held};
+ghost use Rattle.rank_caches.specs.Caches.{all_of};
 ghost use Rattle.mdcache.specs.Cached.{IsKept};
-ghost use Rattle.mdcache.specs.New.{MayNotFormat, cached_root, root_leaf};
+ghost use Rattle.mdcache.specs.New.{MayNotFormat, new_caches};
 ghost use Rattle.cluster_core.specs.State.{new_state, whole_supplies};
 ghost use Rattle.cluster_core.specs.Steps.{ArrivesAt, AtRank, MayRefuse, ServesRank, Steps};
 ghost use Rattle.cluster_core.specs.Grants.{GrantsWaiting};
 ghost use Rattle.ranked_tree.specs.Subtrees.{KeepsRoots};
-ghost use Rattle.cluster_core.specs.Sound.{IsSound};
+ghost use Rattle.cluster_core.specs.Sound.{AreCached, IsSound};
 ghost use Rattle.cluster_core.specs.Administers.{ListsLeaves, TellsAuthority};
 
 use crate::events::{Answer, Event};
@@ -56,7 +55,7 @@ impl<S: Store + Drop> Model for Cluster<S> {
 }
 
 impl<S: Store + Drop> Cluster<S> {
-    /// A cluster of so many ranks that serves the empty tree over a store that has no object, with a cache of so many places.
+    /// A cluster of so many ranks that serves the empty tree over a store that has no object, with a cache of so many places each.
     /// The root directory's leaf is rank 0's.
     ///
     /// Refused `NotClean` exactly where the store has objects, unless it refuses to tell, and `NoMemory`; the store is handed
@@ -73,14 +72,16 @@ impl<S: Store + Drop> Cluster<S> {
         requires many { places ≤ 65536 }
         ensures empty { OnOk result (S.objects store ≡ map.empty) }
         ensures state { IfOk result (λ c. c.state ≡ new_state ranks) }
-        ensures cache { IfOk result (λ c. c.cache ≡ lru_cache ((root_leaf, held cached_root) ∷ []) places) }
+        ensures ranks { IfOk result (λ c. c.ranks ≡ new_caches ranks places) }
+        ensures cache { IfOk result (λ c. c.cache ≡ all_of (new_caches ranks places)) }
         ensures kept { IfOk result (λ c. IsKept c.state.tree c.cache) }
+        ensures cached { IfOk result AreCached }
         ensures refused { IfErr result (λ back. MayNotFormat (S.objects store) (S.faults store) (S.faults back.1) back.0) }
         ensures left { IfErr result (λ back. S.objects back.1 ≡ S.objects store) }
     {
         match parts_of(alloc, ranks) {
             Err(_) => Err((Refusal::NoMemory, store)),
-            Ok(parts) => match RankedTree::format(alloc, store, places) {
+            Ok(parts) => match RankedTree::format(alloc, store, ranks, places) {
                 Err(back) => Err(back),
                 Ok(tree) => {
                     // The contract of `store` is what says here that the tree is sound.
@@ -152,6 +153,7 @@ impl<S: Store + Drop> Cluster<S> {
         ensures arrived { (past : List Applied) → AtRank self.old.state self.new.state past past rank result (ArrivesAt self.old.state self.new.state past past rank request result) }
         ensures tree { self.new.state.tree ≡ self.old.state.tree }
         ensures roots { self.new.state.roots ≡ self.old.state.roots }
+        ensures ranks { self.new.ranks ≡ self.old.ranks }
         ensures cache { self.new.cache ≡ self.old.cache }
         ensures faults { self.new.faults ≡ self.old.faults }
     {
@@ -174,6 +176,7 @@ impl<S: Store + Drop> Cluster<S> {
         requires { (opening : Tree) × IsSound opening history.old.items self.old }
         ensures served { AtRank self.old.state self.new.state history.old.items history.new.items rank result (ServesRank self.old self.new history.old.items history.new.items rank result) }
         ensures kept { KeepsRoots self.old.state.tree self.new.state.tree self.old.state.roots self.new.state.roots }
+        ensures count { length self.new.ranks ≡ length self.old.ranks }
         ensures cap { self.new.cache.cap ≡ self.old.cache.cap }
         ensures grows { self.old.faults ≤ self.new.faults }
     {
@@ -197,6 +200,7 @@ impl<S: Store + Drop> Cluster<S> {
         ensures granted { (past : List Applied) → AtRank self.old.state self.new.state past past rank result (GrantsWaiting self.old.state self.new.state past past (MayRefuse self.old self.new) rank client tid result) }
         ensures tree { self.new.state.tree ≡ self.old.state.tree }
         ensures roots { self.new.state.roots ≡ self.old.state.roots }
+        ensures count { length self.new.ranks ≡ length self.old.ranks }
         ensures cap { self.new.cache.cap ≡ self.old.cache.cap }
         ensures grows { self.old.faults ≤ self.new.faults }
     {

@@ -1,5 +1,5 @@
 //! Grants: a rank lets a request that waits somewhere change its fragments.
-ghost use Rattle.std.specs.Prelude.{◌≡◌, ◌≤◌, List, IfOk, OnErr, OnOk};
+ghost use Rattle.std.specs.Prelude.{◌≡◌, ◌≤◌, List, IfOk, OnErr, OnOk, length};
 ghost use Rattle.mds_types.specs.declared.entries.Entry.{Entry as Applied};
 ghost use Rattle.mdcache.specs.Frags.{MayRefuse};
 ghost use Rattle.sessions.specs.Table.{Table};
@@ -29,6 +29,7 @@ pub fn grant_first<S: Store + Drop>(
     ensures granted { (numbers : List Supply) (sessions : Table) (past : List Applied) → GrantsWaiting (state_of tree.old.tree.state tree.old.subtrees.roots numbers inboxes.now pins.old sessions) (state_of tree.new.tree.state tree.new.subtrees.roots numbers inboxes.now pins.new sessions) past past (MayRefuse tree.old.tree tree.new.tree) rank client tid result }
     ensures same { tree.new.tree.state ≡ tree.old.tree.state }
     ensures roots { tree.new.subtrees.roots ≡ tree.old.subtrees.roots }
+    ensures count { length tree.new.tree.ranks ≡ length tree.old.tree.ranks }
     ensures cap { tree.new.tree.cache.cap ≡ tree.old.tree.cache.cap }
     ensures grows { tree.old.tree.faults ≤ tree.new.tree.faults }
 {

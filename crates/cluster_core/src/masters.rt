@@ -1,11 +1,12 @@
 //! Which rank answers a request, and whether it may change what the request changes.
-ghost use Rattle.std.specs.Prelude.{◌≡◌, ◌≤◌, ◌↔◌, ◌⊎◌, Some, None, IsTrue, MatchBool, IfOk, IfErr};
+ghost use Rattle.std.specs.Prelude.{◌≡◌, ◌↔◌, ◌⊎◌, Some, None, IsTrue, MatchBool, IfOk, IfErr};
 ghost use Rattle.mds_types.specs.declared.refusals.Refusal.TheVariants.{NoMemory};
 ghost use Rattle.mds_types.specs.declared.ids.Rank.{Rank as RankNumber};
 ghost use Rattle.std.specs.Option.{option_copied};
 ghost use Rattle.fragtree.specs.FragTree.{HasLeaf};
 ghost use Rattle.inode_table.specs.Dirs.{leaves_of};
 ghost use Rattle.mdcache.specs.Frags.{MayRefuse};
+ghost use Rattle.ranked_tree.specs.Ranked.{KeepsRanked};
 ghost use Rattle.cluster_core.specs.Master.{HasForeign, IsMasterIn, LacksGrantIn, MayTouchAllIn, MayTouchEach, MayTouchIn, changes_others, main_dentry, main_leaf};
 
 use inboxes::{Pin, Pins};
@@ -80,10 +81,7 @@ pub fn lacks_grant<S: Store + Drop>(
     requires master { IsMasterIn tree.old.tree.state tree.old.subtrees.roots rank op.now rank }
     ensures found { IfOk result (λ lacks. MatchBool lacks (LacksGrantIn tree.old.tree.state tree.old.subtrees.roots pins.now rank client tid op.now) (MayTouchAllIn tree.old.tree.state tree.old.subtrees.roots pins.now rank client tid op.now)) }
     ensures refused { IfErr result (λ reason. (reason ≡ NoMemory) ⊎ MayRefuse tree.old.tree tree.new.tree op.now reason) }
-    ensures same { tree.new.tree.state ≡ tree.old.tree.state }
-    ensures roots { tree.new.subtrees.roots ≡ tree.old.subtrees.roots }
-    ensures cap { tree.new.tree.cache.cap ≡ tree.old.tree.cache.cap }
-    ensures grows { tree.old.tree.faults ≤ tree.new.tree.faults }
+    ensures kept { KeepsRanked tree.old tree.new }
 {
     if !changes_others(op) {
         return Ok(false);

@@ -49,6 +49,7 @@ pub fn serve_front<S: Store + Drop>(
     ensures served { ServesInbox (state_of tree.old.tree.state tree.old.subtrees.roots numbers.old.items inboxes.old pins.old (table sessions.old)) (state_of tree.new.tree.state tree.new.subtrees.roots numbers.new.items inboxes.new pins.new (table sessions.new))
         history.old.items history.new.items (MayRefuse tree.old.tree tree.new.tree) rank result (waiting_at inboxes.old rank) }
     ensures kept { KeepsRoots tree.old.tree.state tree.new.tree.state tree.old.subtrees.roots tree.new.subtrees.roots }
+    ensures count { length tree.new.tree.ranks ≡ length tree.old.tree.ranks }
     ensures cap { tree.new.tree.cache.cap ≡ tree.old.tree.cache.cap }
     ensures grows { tree.old.tree.faults ≤ tree.new.tree.faults }
 {
@@ -84,6 +85,7 @@ fn serve_new<S: Store + Drop>(
     ensures served { ServesInbox (state_of tree.old.tree.state tree.old.subtrees.roots numbers.old.items inboxes.old pins.old (table sessions.old)) (state_of tree.new.tree.state tree.new.subtrees.roots numbers.new.items inboxes.new pins.new (table sessions.new))
         history.old.items history.new.items (MayRefuse tree.old.tree tree.new.tree) rank result (waiting_at inboxes.old rank) }
     ensures kept { KeepsRoots tree.old.tree.state tree.new.tree.state tree.old.subtrees.roots tree.new.subtrees.roots }
+    ensures count { length tree.new.tree.ranks ≡ length tree.old.tree.ranks }
     ensures cap { tree.new.tree.cache.cap ≡ tree.old.tree.cache.cap }
     ensures grows { tree.old.tree.faults ≤ tree.new.tree.faults }
 {
@@ -136,6 +138,7 @@ fn make_ready<S: Store + Drop>(
     ensures roots { tree.new.subtrees.roots ≡ tree.old.subtrees.roots }
     ensures past { history.new.items ≡ history.old.items }
     ensures known { table sessions.new ≡ table sessions.old }
+    ensures count { length tree.new.tree.ranks ≡ length tree.old.tree.ranks }
     ensures cap { tree.new.tree.cache.cap ≡ tree.old.tree.cache.cap }
     ensures grows { tree.old.tree.faults ≤ tree.new.tree.faults }
 {

@@ -1,6 +1,10 @@
 -- An empty book is sound.
-use Rattle.cluster_core.proofs.NewBook.{sound-empty}
+use Rattle.std.proofs.Common.{length, ap, ◌∙◌}
+use Rattle.rank_caches.specs.Caches.{Caches}
+use Rattle.cluster_core.proofs.NewBook.{new_count, sound-empty}
 use Rattle.cluster_core.proofs.books.format.Goals as goal
 
 pub invariant_of-result : goal.invariant_of-result
-invariant_of-result g c = rw (c.new-in-Ok.ensures, c.new.ensures.items) (sound-empty c.in-Ok.cluster c.args.ranks c.requires.some c.requires.ranked c.in-Ok.ensures.state c.in-Ok.ensures.kept)
+invariant_of-result g c =
+    let e = c.in-Ok.ensures in
+    rw (c.new-in-Ok.ensures, c.new.ensures.items) (sound-empty c.in-Ok.cluster c.args.ranks c.requires.some c.requires.ranked e.state e.kept e.cached (ap (λ (cs : Caches). length cs) e.ranks ∙ new_count c.args.ranks c.args.cache))

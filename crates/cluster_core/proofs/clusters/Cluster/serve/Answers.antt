@@ -12,16 +12,16 @@ use Rattle.cluster_core.proofs.clusters.Cluster.serve.Goals as goal
 pub serve_front-requires-clause-offered : goal.serve_front-requires-clause-offered
 serve_front-requires-clause-offered g c =
     subst (λ (core : Core). IsOffered (shown core.state) (λ n. IsRankNumber n) (offer (supply_of core.state c.args.rank))) (sym c.self.view_is)
-    (offer_unused c.requires.0 c.args.history.now.items c.args.self.now c.requires.1 c.args.rank (there_of c.args.self.now.state c.requires.1.ranks c.args.rank (sym c.is_rank.ensures ∙ c.if-not-is_rank.false)))
+    (offer_unused c.requires.0 c.args.history.now.items c.args.self.now c.requires.1 c.args.rank (there_of c.args.self.now c.requires.1.ranks c.args.rank (sym c.is_rank.ensures ∙ c.if-not-is_rank.false)))
 
 pub serve_front-requires-clause-there : goal.serve_front-requires-clause-there
 serve_front-requires-clause-there g c =
-    subst (λ (core : Core). c.args.rank.0 < length core.state.numbers) (sym c.self.view_is) (there_of c.args.self.now.state c.requires.1.ranks c.args.rank (sym c.is_rank.ensures ∙ c.if-not-is_rank.false))
+    subst (λ (core : Core). c.args.rank.0 < length core.state.numbers) (sym c.self.view_is) (there_of c.args.self.now c.requires.1.ranks c.args.rank (sym c.is_rank.ensures ∙ c.if-not-is_rank.false))
 
 pub serve_front-requires-clause-masters : goal.serve_front-requires-clause-masters
 serve_front-requires-clause-masters g c =
     subst (λ (core : Core). AreMastersThere core.state.tree core.state.roots c.args.rank (length core.state.inboxes)) (sym c.self.view_is)
-    (masters_there c.requires.0 c.args.history.now.items c.args.self.now c.requires.1 c.args.rank (there_of c.args.self.now.state c.requires.1.ranks c.args.rank (sym c.is_rank.ensures ∙ c.if-not-is_rank.false)))
+    (masters_there c.requires.0 c.args.history.now.items c.args.self.now c.requires.1 c.args.rank (there_of c.args.self.now c.requires.1.ranks c.args.rank (sym c.is_rank.ensures ∙ c.if-not-is_rank.false)))
 
 pub serve_front-requires-clause-valid : goal.serve_front-requires-clause-valid
 serve_front-requires-clause-valid g c = subst (λ (core : Core). AreRoots core.state.tree core.state.roots) (sym c.self.view_is) c.requires.1.subtrees

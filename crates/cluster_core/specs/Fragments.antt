@@ -1,0 +1,13 @@
+-- Where fragments are cached (Weil et al., OSDI 2006: a metadata server caches what it is the authority of).
+use Rattle.std.specs.Prelude.{◌≡◌, Some}
+use Rattle.std.specs.FinMap as map
+use Rattle.mds_types.specs.declared.ids.Rank.{Rank}
+use Rattle.cached_frag.specs.Cached.{Cached}
+use Rattle.dentry_cache.specs.Cache.{HasCached, Leaf, Unsaved, cached, unsaved_of}
+use Rattle.cluster_core.specs.Master.{IsAuthority}
+use Rattle.cluster_core.specs.State.{Core, cache_of}
+
+-- a rank caches only what it holds; and a fragment that isn't clean lies, as it stands, in the cache of its authority
+pub record LieAtAuthority (core : Core) : Type 0 where
+  pub held : (rank : Rank) (leaf : Leaf) (f : Cached) → cached (cache_of core rank).entries leaf ≡ Some f → IsAuthority core.state leaf rank
+  pub unclean : (leaf : Leaf) (u : Unsaved) (rank : Rank) → map.get core.state.tree.unsaved leaf ≡ Some u → IsAuthority core.state leaf rank → HasCached (cached (cache_of core rank).entries leaf) (λ (f : Cached). unsaved_of f ≡ Some u)
