@@ -14,12 +14,11 @@ use Rattle.sorted_map.proofs.NatKeys.{get_left as get_left_home}
 use Rattle.fragtree.specs.FragTree.{HasLeaf}
 use Rattle.objstore.specs.Objects.{Objects}
 use Rattle.cached_frag.specs.Cached.{Cached, marked}
-use Rattle.dentry_cache.specs.Cache.{Held, IsChanged, Leaf, cached, fragment_in, leaf_is, unsaved, unsaved_in, without as without_place}
+use Rattle.dentry_cache.specs.Cache.{Held, IsChanged, Leaf, cached, fragment_in, leaf_is, unsaved, unsaved_in}
 use Rattle.dentry_cache.specs.declared.cache.Place.{Place}
 use Rattle.dentry_cache.specs.Ties.{AreTied}
 use Rattle.dentry_cache.proofs.CacheLaws.{get-unsaved}
-use Rattle.dentry_cache.proofs.LeafLaws.{flips, leaf-exact, leaf-total, one_leaf}
-use Rattle.dentry_cache.proofs.UsedLaws.{beside_removal}
+use Rattle.dentry_cache.proofs.LeafLaws.{leaf-exact, leaf-total}
 use Rattle.inode_table.specs.declared.dirs.Home.{Home}
 use Rattle.inode_table.specs.Dirs.{Covers, Homes, MayGo, Table, leaves_of, or_whole}
 use Rattle.inode_table.proofs.TableLaws.{may_drop}
@@ -31,7 +30,7 @@ use Rattle.mdcache.specs.declared.going.Going.{Going}
 use Rattle.mdcache.specs.declared.mdcache.Counters.{Counters}
 use Rattle.mdcache.specs.Cached.{AreLive, AreMade, IsKept, state_of}
 use Rattle.mdcache.specs.Changes.{Makes, objects_of, with_objects, without, without_leaves}
-use Rattle.mdcache.specs.Going.{HasForgotten, IsGoing, IsGoingOrNone, dir_going, leaves_going, leaves_in, place_but, rows_but, texts_going, texts_in}
+use Rattle.mdcache.specs.Going.{HasForgotten, IsGoing, IsGoingOrNone, dir_going, leaves_going, leaves_in, rows_but, texts_going, texts_in}
 use Rattle.mdcache.specs.Made.{IsRight}
 use Rattle.mdcache.specs.Shown.{shown_tree}
 use Rattle.mdcache.specs.Sound.{IsSound}
@@ -50,18 +49,6 @@ part_on {A} {B} {C} f g parts now part before rest x whole pushed steps same is 
     slide (p ∷ ps) = ap (λ l. f p ∷ l) (slide ps)
 
 -- ---- leaves whose places are given up
-
--- one more
-pub forgotten_on : (leaf : Leaf) (gone : List Leaf) (old mid : Held) → mid ≡ without_place leaf old → lookup (leaf_is leaf) mid.entries ≡ None → (q : Leaf) → place_but gone mid q ≡ place_but (leaf ∷ gone) old q
-forgotten_on leaf gone old mid is none q = go (leaf_is q leaf) refl
-  where
-    neither : (b : Bool) (o : Option Place) → o ≡ None → cond b None o ≡ None
-    neither true o h = refl
-    neither false o h = h
-
-    go : (b : Bool) → leaf_is q leaf ≡ b → cond (list_any (leaf_is q) gone) None (lookup (leaf_is q) mid.entries) ≡ cond (b || list_any (leaf_is q) gone) None (lookup (leaf_is q) old.entries)
-    go true same = neither (list_any (leaf_is q) gone) (lookup (leaf_is q) mid.entries) (ap (λ (l : Leaf). lookup (leaf_is l) mid.entries) (one_leaf q leaf same) ∙ none)
-    go false apart = ap (λ (o : Option Place). cond (list_any (leaf_is q) gone) None o) (ap (λ (h : Held). lookup (leaf_is q) h.entries) is ∙ beside_removal leaf q old.entries (flips leaf q ∙ apart))
 
 module _ (gone : List Leaf) (old new : Held) (left : HasForgotten gone old new) where
   pub unsaved_but : unsaved new.entries ≡ without_leaves (unsaved old.entries) gone

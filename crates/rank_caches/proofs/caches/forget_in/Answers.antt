@@ -1,4 +1,4 @@
-use Rattle.std.proofs.Common.{◌≡◌, ◌+◌, ◌<◌, ◌≤◌, length, set, refl, ap, ◌∙◌, arith, rules}
+use Rattle.std.proofs.Common.{◌≡◌, ◌<◌, length, set, refl, ap, ◌∙◌, arith, rules}
 use Rattle.std.proofs.lemmas.List.{get_or_read_under, length-set}
 use Rattle.dentry_cache.specs.Cache.{without}
 use Rattle.rank_caches.specs.Caches.{no_cache}

@@ -1,4 +1,4 @@
-use Rattle.std.proofs.Common.{◌≡◌, ◌<◌, length, None, refl, sym, ap, subst, arith}
+use Rattle.std.proofs.Common.{◌<◌, length, None, sym, subst, arith}
 use Rattle.std.specs.Prelude.{OnOk}
 use Rattle.dentry_cache.specs.Cache.{Evicts, Held}
 use Rattle.rank_caches.specs.Caches.{all_of, cache_of, with_cache}
