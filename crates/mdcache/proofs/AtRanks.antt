@@ -19,9 +19,9 @@ use Rattle.rank_caches.specs.Changes.{MayHave}
 use Rattle.rank_caches.specs.Orders.{IsSameButOrder}
 use Rattle.rank_caches.proofs.FixedLaws.{no_more_are_fixed}
 use Rattle.rank_caches.proofs.OrderLaws.{orders_agree}
-use Rattle.rank_caches.proofs.PlaceLaws.{cache_beside, cache_there, found_in, lifted_where, may_have_these, none_beside, place_at, rank_or_apart, stay_apart}
+use Rattle.rank_caches.proofs.PlaceLaws.{cache_beside, cache_there, found_in, lifted_where, may_have_these, none_beside, place_at, place_then, rank_or_apart, stay_apart}
 use Rattle.rank_caches.proofs.SizeLaws.{cap_stays, stay_counted, stay_sized}
-use Rattle.rank_caches.proofs.UnsavedLaws.{unsaved_stay}
+use Rattle.rank_caches.proofs.UnsavedLaws.{unsaved_stay, unsaved_there}
 use Rattle.mdcache.specs.Cached.{IsSameBut, KeepsCached, KeepsNone, KeepsOnly}
 use Rattle.mdcache.specs.Ranks.{AreRanks, KeepUnsaved, KeepsCaches, KeepsOnlyAt, MayHold, NoneComes}
 use Rattle.mdcache.specs.Ready.{KeepsAtMost, Readies, ReadiesAt}
@@ -67,6 +67,14 @@ filled_places leaf f old new kept same q has = test (leaf_is leaf q) refl (sym (
     test true one there = subst (λ (l : Leaf). is_some (lookup (leaf_is l) old.entries) ≡ true) (one_leaf leaf q one) (kept_has (lookup (leaf_is leaf) old.entries) kept)
     test false apart there = there
 
+-- ---- what a leaf has at a rank that alone has a place for it, and among all
+
+pub saved_there : (P : Type 0) (caches : Caches) (rank : Rank) (leaf : Leaf) (h : Held) → h ≡ cache_of caches rank → HasNoneBeside caches rank leaf → (map.get (unsaved (all_of caches).entries) leaf ≡ None → P) → map.get (unsaved h.entries) leaf ≡ None → P
+saved_there P caches rank leaf h same beside saved clean = saved (unsaved_there caches rank leaf beside ∙ sym (ap (λ (c : Held). map.get (unsaved c.entries) leaf) same) ∙ clean)
+
+pub cached_here : (caches : Caches) (rank : Rank) (leaf : Leaf) → HasNoneBeside caches rank leaf → cached (all_of caches).entries leaf ≡ cached (cache_of caches rank).entries leaf
+cached_here caches rank leaf beside = ap fragment_in (place_at caches rank leaf beside)
+
 -- ---- one rank has another cache
 
 module _ (caches : Caches) (rank : Rank) (now : Held) (there : rank.0 < length caches) (ranks : AreRanks caches) where
@@ -108,6 +116,10 @@ module _ (caches : Caches) (rank : Rank) (now : Held) (there : rank.0 < length c
       → ((q : Leaf) → Rel q (lookup (leaf_is q) (cache_of caches rank).entries) (lookup (leaf_is q) now.entries)) → (q : Leaf) → Rel q (lookup (leaf_is q) (all_of caches).entries) (lookup (leaf_is q) (all_of after).entries)
   over Rel may itself at q = lifted_where Rel caches rank now may (λ q o none. itself q o) at q
 
+  -- a leaf without a place at another rank has among all what it has there then
+  pub cached_then : (q : Leaf) → MayHave caches rank now → HasNoneBeside caches rank q → cached (all_of after).entries q ≡ cached now.entries q
+  cached_then q may beside = ap fragment_in (place_then caches rank now may q beside)
+
   pub unsaved_each : unsaved now.entries ≡ unsaved (cache_of caches rank).entries → KeepUnsaved caches after
   unsaved_each same other = go (rank_or_apart other rank)
     where
@@ -143,22 +155,25 @@ module _ (caches : Caches) (rank : Rank) (now : Held) (there : rank.0 < length c
       };
     }
 
+    read_from : Reads Come objects (cache_of caches rank) now → (q : Leaf) → is_some (lookup (leaf_is q) now.entries) ≡ true → (has_place caches rank q ≡ true) ⊎ Come q
+    read_from reads q has =
+        in_place ((has_place caches rank q ≡ true) ⊎ Come q) (lookup (leaf_is q) now.entries) (λ f is. go f (reads.from q f is))
+        (λ is. inl (kept_has (lookup (leaf_is q) (cache_of caches rank).entries) (reads.fixes.kept q is))) has
+      where
+        go : (f : Cached) → (cached (cache_of caches rank).entries q ≡ Some f) ⊎ (Come q × Loads q.1 (object_of objects q.0 q.1) (Some f)) → (has_place caches rank q ≡ true) ⊎ Come q
+        go f (inl was) = inl (cached_has (lookup (leaf_is q) (cache_of caches rank).entries) f was)
+        go f (inr came) = inr came.0
+
     -- a read at the rank
     pub read_at : ((q : Leaf) → Come q → HasNoneBeside caches rank q) → Reads Come objects (cache_of caches rank) now → ReadsAt (λ other q. (other ≡ rank) × Come q) Come objects caches after
     read_at beside reads = record {
-      reads = reads_over (may_then Come beside reads.fixes.cap from) reads;
-      caches = caches_then Come beside reads.fixes.cap from;
+      reads = reads_over (may_then Come beside reads.fixes.cap (read_from reads)) reads;
+      caches = caches_then Come beside reads.fixes.cap (read_from reads);
       unsaved = unsaved_each reads.unsaved;
     }
-      where
-        from : (q : Leaf) → is_some (lookup (leaf_is q) now.entries) ≡ true → (has_place caches rank q ≡ true) ⊎ Come q
-        from q has =
-            in_place ((has_place caches rank q ≡ true) ⊎ Come q) (lookup (leaf_is q) now.entries) (λ f is. go (reads.from q f is))
-            (λ is. inl (kept_has (lookup (leaf_is q) (cache_of caches rank).entries) (reads.fixes.kept q is))) has
-          where
-            go : {f : Cached} → (cached (cache_of caches rank).entries q ≡ Some f) ⊎ (Come q × Loads q.1 (object_of objects q.0 q.1) (Some f)) → (has_place caches rank q ≡ true) ⊎ Come q
-            go {f} (inl was) = inl (cached_has (lookup (leaf_is q) (cache_of caches rank).entries) f was)
-            go (inr came) = inr came.0
+
+    pub read_may : ((q : Leaf) → Come q → HasNoneBeside caches rank q) → Reads Come objects (cache_of caches rank) now → MayHave caches rank now
+    read_may beside reads = may_then Come beside reads.fixes.cap (read_from reads)
 
     pub readies_over : MayHave caches rank now → Readies Come objects (cache_of caches rank) now → Readies Come objects (all_of caches) (all_of after)
     readies_over may left = record {
@@ -263,7 +278,7 @@ none_at caches rank apart none leaf = go (is_kept (lookup (leaf_is leaf) (cache_
     go false is = refl
     go true is = sym is ∙ sym (kept_all caches rank leaf apart (kept_has (lookup (leaf_is leaf) (cache_of caches rank).entries) is)) ∙ none leaf
 
-pub second_of : Option (Rank × Leaf) → Option Leaf
+abbrev pub second_of : Option (Rank × Leaf) → Option Leaf
 second_of None = None
 second_of (Some it) = Some it.1
 
@@ -294,7 +309,7 @@ one_only rank one old new apart none most place other leaf is = go (most leaf (k
     has : has_place new other leaf ≡ true
     has = kept_has (lookup (leaf_is leaf) (cache_of new other).entries) is
 
-    go : (is_kept (lookup (leaf_is leaf) (all_of old).entries) ≡ true) ⊎ (one ≡ leaf) → Some (rank, one) ≡ Some (other, leaf)
+    go : (is_kept (lookup (leaf_is leaf) (all_of old).entries) ≡ true) ⊎ (one ≡ leaf) → ◌≡◌ {A = Option (Rank × Leaf)} (Some (rank, one)) (Some (other, leaf))
     go (inl was) = let clash : true ≡ false = sym was ∙ none leaf in absurd cc
     go (inr it) =
         let here : has_place new rank leaf ≡ true = subst (λ (l : Leaf). has_place new rank l ≡ true) it (kept_has (lookup (leaf_is one) (cache_of new rank).entries) place) in

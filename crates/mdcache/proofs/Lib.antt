@@ -1,5 +1,6 @@
 pub mod AddSteps
 pub mod AtRanks
+pub mod AtRegroups
 pub mod CachedLaws
 pub mod CapLaws
 pub mod ChangeLaws

@@ -59,7 +59,7 @@ MayHoldEach caches at (Add dentry leaf inode) = MayHold caches at.first (dentry.
 MayHoldEach caches at (Set dentry leaf inode) = MayHold caches at.first (dentry.dir, leaf)
 MayHoldEach caches at (Remove dentry leaf went) = MayHold caches at.first (dentry.dir, leaf)
 MayHoldEach caches at (Move from source to target went) =
-    MayHold caches at.first (from.dir, source) × MayHold caches at.second (to.dir, target) × ((from.dir, source) ≡ (to.dir, target) → at.first ≡ at.second)
+    MayHold caches at.first (from.dir, source) × MayHold caches at.second (to.dir, target) × (◌≡◌ {A = Leaf} (from.dir, source) (to.dir, target) → at.first ≡ at.second)
 
 -- the places that a change may take: those of the leaves that it names, each at its rank, and that of a new directory's leaf beside its name's
 abbrev pub MayComeFor : Holders → Change → Rank → Leaf → Type 0

@@ -3,7 +3,7 @@ ghost use Rattle.std.specs.Prelude.{◌≡◌, ◌-◌, ◌<◌, ◌≤◌, ◌^
 ghost use Rattle.std.specs.FinMap as map;
 ghost use Rattle.mds_types.specs.Tree.{is_dir_kind};
 ghost use Rattle.dirfrag_codec.specs.EntryRecord.{IsRecordable};
-ghost use Rattle.dentry_cache.specs.Cache.{HasCached, HasRoom, cached};
+ghost use Rattle.dentry_cache.specs.Cache.{HasCached, HasRoom, Leaf, cached};
 ghost use Rattle.cached_frag.specs.Cached.{Cached};
 ghost use Rattle.inode_table.specs.Dirs.{MayMove};
 ghost use Rattle.inode_table.specs.TreeTable.{with_home};
@@ -43,7 +43,7 @@ impl<S: Store + Drop> MdCache<S> {
     )
         requires source_holds { MayHold self.old.ranks at.first (from.dir, source) }
         requires target_holds { MayHold self.old.ranks at.second (to.dir, target) }
-        requires one { (from.dir, source) ≡ (to.dir, target) → at.first ≡ at.second }
+        requires one { ◌≡◌ {A = Leaf} (from.dir, source) (to.dir, target) → at.first ≡ at.second }
         requires may { MayChange (shown_tree self.old.state) self.old.state.covers (Move from source to target (dir_going going)) }
         requires stands { map.get (shown_tree self.old.state) from ≡ Some inode }
         requires recordable { IsRecordable inode }
