@@ -1,5 +1,5 @@
 -- What commits, splits and merges in the cache of one rank make of the caches of all, in the words of the tree.
-use Rattle.std.proofs.Common.{◌≡◌, ◌⊎◌, inl, inr, ℕ, suc, ◌<◌, ◌≤◌, ◌^◌, true, false, arith, List, [], ◌∷◌, length, Option, Some, None, is_some, refl, sym, ap, subst, ◌∙◌}
+use Rattle.std.proofs.Common.{◌≡◌, ◌⊎◌, inl, inr, ℕ, suc, ◌+◌, ◌<◌, ◌≤◌, ◌^◌, true, false, cond, arith, List, [], ◌∷◌, length, Option, Some, None, is_some, refl, sym, ap, subst, ◌∙◌}
 use Rattle.std.specs.Prelude.{Result, Ok, Err, IfOk, OnOk, OnErr}
 use Rattle.std.proofs.lemmas.Result.{on_err_weaker}
 use Rattle.std.specs.List.{Contains}
@@ -16,11 +16,13 @@ use Rattle.cached_frag.specs.Moving.{marked_as}
 use Rattle.dentry_cache.specs.declared.cache.Place.{Place}
 use Rattle.dentry_cache.specs.Cache.{HasCached, Held, IsChanged, Leaf, Unsaved, cached, fragment_in, is_kept, leaf_is, unsaved}
 use Rattle.dentry_cache.specs.declared.parts.Part.{Part}
-use Rattle.dentry_cache.specs.Divided.{AreReady, IsNoChild, IsSplit}
+use Rattle.dentry_cache.specs.Divided.{AreNumbered, AreReady, IsNoChild, IsSplit}
 use Rattle.dentry_cache.specs.Loading.{Loads, object_of}
 use Rattle.dentry_cache.proofs.CapLaws.{changed_cap}
 use Rattle.dentry_cache.proofs.LeafLaws.{leaf_or_apart}
-use Rattle.inode_table.specs.Dirs.{Table}
+use Rattle.inode_table.specs.Dirs.{Table, is_known, leaves_of}
+use Rattle.fragtree.specs.FragTree.{CanSplit, IsSplit as IsSplitOf, IsTree}
+use Rattle.mds_types.specs.declared.refusals.Refusal.{Refusal}
 use Rattle.purge_list.specs.PurgeList.{Listed}
 use Rattle.standing_jobs.specs.StandingJobs.{Standing}
 use Rattle.mdcache.specs.declared.mdcache.Counters.{Counters}
@@ -30,19 +32,23 @@ use Rattle.rank_caches.specs.Orders.{IsSameButOrder}
 use Rattle.rank_caches.proofs.OrderLaws.{place_first, splits_go_over}
 use Rattle.rank_caches.proofs.PlaceLaws.{place_at}
 use Rattle.rank_caches.proofs.UnsavedLaws.{unsaved_there}
-use Rattle.mdcache.specs.Cached.{IsKept, IsSameBut, KeepsCached, state_of}
-use Rattle.mdcache.specs.Ranks.{AreRanks, KeepsCaches, MayHold, NoneComes}
+use Rattle.mdcache.specs.Cached.{IsKept, IsSameBut, KeepsCached, KeepsNone, state_of}
+use Rattle.mdcache.specs.Ranks.{AreRanks, KeepUnsaved, KeepsCaches, MayHold, NoneComes}
 use Rattle.mdcache.specs.Ready.{IsFrom, KeepsAtMost, Readies, ReadiesAt}
-use Rattle.mdcache.specs.Reads.{KeepsNoMore}
+use Rattle.mdcache.specs.Reads.{FixesAllBut, KeepsNoMore, MayNotFind, fixed_places, has_none}
 use Rattle.mdcache.specs.Regroups.{IsFamily, KeepsButChildren}
 use Rattle.mdcache.specs.Commits.{Begins, BeginsWith}
-use Rattle.mdcache.specs.State.{IsLive, State}
+use Rattle.mdcache.specs.Splits.{IsSplitInto, KeepsTree, NameChildren, without_objects}
+use Rattle.mdcache.specs.State.{IsLive, State, UnsavedLeaves, text_of}
 use Rattle.mdcache.specs.Joining.{name_joined}
 use Rattle.mdcache.specs.Shown.{names_of, shown_at}
 use Rattle.mdcache.specs.Sound.{IsSound}
 use Rattle.mdcache.proofs.CapLaws.{divided_cap}
-use Rattle.mdcache.proofs.AtRanks.{cached_has, cached_over, caches_then, changed_places, children_over, in_place, kept_has, may_then, most_over, no_more_over, order, ready_at, ready_may, wider}
-use Rattle.mdcache.proofs.ReadyChildren.{child_or_not}
+use Rattle.mdcache.proofs.AtRanks.{cached_has, cached_over, caches_on, caches_then, changed_places, children_over, in_place, kept_has, may_then, most_over, no_more_over, order, ready_at, ready_may, wider}
+use Rattle.mdcache.proofs.ReadyChildren.{child_or_not, split_none}
+use Rattle.mdcache.proofs.ReadLaws.{find_after}
+use Rattle.mdcache.proofs.SplitLaws.{splits_right}
+use Rattle.mdcache.proofs.SplitMade.{made_kept, made_split}
 use Rattle.mdcache.proofs.Steps.{told}
 
 -- the same places but for their order, either way
@@ -218,6 +224,10 @@ module _ (dirs : Table) (objects : Objects) (jobs : Standing) (purge : Listed) (
     pub kept_back : IsKept (state_of dirs (first_of rank caches) objects jobs purge next) (first_of rank caches) → IsKept (state_of dirs (all_of caches) objects jobs purge next) (all_of caches)
     kept_back = kept_order (first_of rank caches) (all_of caches) (turned (all_of caches) (first_of rank caches) (order caches rank there ranks))
 
+-- where no place comes last
+pub caches_before : (May : Rank → Leaf → Type 0) (old mid new : Caches) → KeepsCaches May old mid → KeepsCaches NoneComes mid new → KeepsCaches May old new
+caches_before May old mid new p q = caches_on May old mid new p (wider NoneComes May mid new (λ r l none. absurd none) q)
+
 -- there are as many ranks
 pub there_then : (May : Rank → Leaf → Type 0) (old new : Caches) (rank : Rank) → KeepsCaches May old new → rank.0 < length old → rank.0 < length new
 there_then May old new rank caches there = subst (λ (n : ℕ). rank.0 < n) (sym caches.count) there
@@ -264,3 +274,73 @@ none_told (Some u) is = let clash : Some (u.base, u.generation) ≡ None = is in
 -- of a clean leaf no commit begins
 pub begins_none : (s : State) (leaf : Leaf) → IsLive s.homes s.covers leaf → map.get s.jobs leaf ≡ None → map.get s.unsaved leaf ≡ None → Begins s s leaf (Ok None)
 begins_none s leaf live jobs clean = (live, jobs, subst (λ (o : Option Unsaved). BeginsWith s s leaf o None) (sym clean) (refl, refl))
+
+-- what holds of a fragment that is cached at a rank holds of it among all
+pub has_first : (P : Cached → Type 0) (caches : Caches) (old : Held) (rank : Rank) (leaf : Leaf) → MayHold caches rank leaf → old ≡ cache_of caches rank → HasCached (cached old.entries leaf) P → HasCached (cached (first_of rank caches).entries leaf) P
+has_first P caches old rank leaf holds is = subst (λ (o : Option Cached). HasCached o P) (ap (λ (h : Held). cached h.entries leaf) is ∙ sym (ap fragment_in (place_first caches rank leaf holds.alone)))
+
+-- why nothing is done, told by what isn't clean of the rank
+pub words_at : (count : ℕ) (old given : Caches) (rank : Rank) (before after : ℕ) → rank.0 < length old → KeepsCaches NoneComes old given → KeepUnsaved old given → fixed_places (cache_of given rank).entries ≡ map.len (unsaved (cache_of given rank).entries)
+    → (reason : Refusal) → MayNotFind (FixesAllBut count (cache_of given rank)) before after reason → MayNotFind ((other : Rank) × (other.0 < length old) × ((all_of old).cap < map.len (unsaved (cache_of old other).entries) + count)) before after reason
+words_at count old given rank before after there caches same fixed reason h =
+    find_after ((other : Rank) × (other.0 < length old) × ((all_of old).cap < map.len (unsaved (cache_of old other).entries) + count)) (FixesAllBut count (cache_of given rank)) before before after reason (omega arith) (λ all. (rank, there, lacks all)) h
+  where
+    lacks : FixesAllBut count (cache_of given rank) → (all_of old).cap < map.len (unsaved (cache_of old rank).entries) + count
+    lacks all =
+        let cap : (cache_of given rank).cap ≡ (all_of old).cap = caches.ranks.each.each rank (there_then NoneComes old given rank caches there) ∙ caches.cap in
+        let len : map.len (unsaved (cache_of given rank).entries) ≡ map.len (unsaved (cache_of old rank).entries) = ap (λ (m : UnsavedLeaves). map.len m) (same rank) in
+        omega (arith, all, cap, fixed, len)
+
+-- ---- a split, from what was prepared for it at a rank and what it did there
+
+module _ (dirs : Table) (given : Caches) (objects : Objects) (jobs : Standing) (purge : Listed) (next : Counters) (kept : IsKept (state_of dirs (all_of given) objects jobs purge next) (all_of given))
+    (rank : Rank) (there : rank.0 < length given) (ranks : AreRanks given) (dir : Ino) (frag : Fragment) (nb : ℕ) (known : is_known dirs.homes dir.0 ≡ true) (can : CanSplit (leaves_of dirs.trees dir.0) frag nb)
+    (mid : Table) (homes : mid.homes ≡ dirs.homes) (trees : mid.trees ≡ dirs.trees) (ready : Caches) (May : Rank → Leaf → Type 0) (came : KeepsCaches May given ready) (objects' : Objects) (same : objects' ≡ objects)
+    (left : Readies (λ (q : Leaf). q ≡ (dir, frag)) objects (all_of given) (all_of ready)) (roomy : Listed) (names : roomy.names ≡ purge.names) (holds : MayHold ready rank (dir, frag))
+    (cover : List Fragment) (divided : IsSplitOf (leaves_of dirs.trees dir.0) cover frag nb) (whole : IsTree cover)
+    (object : List ℕ) (text : object ≡ text_of (dir, frag)) (texts : List (List ℕ)) (named : NameChildren dir frag nb texts)
+    (parts : List Part) (children : HasCached (cached (cache_of ready rank).entries (dir, frag)) (λ (f : Cached). (map.len f.dirty ≤ f.places) × AreReady frag nb (shown f) parts)) (numbered : AreNumbered next.generation parts)
+    (dirs' : Table) (homes' : dirs'.homes ≡ mid.homes) (trees' : dirs'.trees ≡ map.insert mid.trees dir.0 cover)
+    (done : Caches) (stay : KeepsCaches NoneComes ready done)
+    (split : HasCached (cached (first_of rank ready).entries (dir, frag)) (λ (f : Cached). IsSplit dir frag nb parts next.version (shown f) (first_of rank ready) (first_of rank done)))
+    (jobs' : Standing) (ended : jobs'.jobs ≡ map.remove jobs.jobs (dir, frag))
+    (purge' : Listed) (listed : purge'.names ≡ without_objects (map.insert roomy.names object tt) texts)
+    (next' : Counters) (job : next'.job ≡ next.job) (generation : next'.generation ≡ next.generation + 2 ^ nb)
+    (version : HasCached (cached (first_of rank ready).entries (dir, frag)) (λ (f : Cached). next'.version ≡ next.version + cond (has_none (shown f)) 0 1)) where
+  there_ready : rank.0 < length ready
+  there_ready = there_then May given ready rank came there
+
+  there_done : rank.0 < length done
+  there_done = there_then NoneComes ready done rank stay there_ready
+
+  kept_given : IsKept (state_of dirs (first_of rank given) objects jobs purge next) (first_of rank given)
+  kept_given = kept_first dirs objects jobs purge next given rank there ranks kept
+
+  left_given : Readies (λ (q : Leaf). q ≡ (dir, frag)) objects (first_of rank given) (first_of rank ready)
+  left_given = readies_first May given ready rank there ranks came (λ (q : Leaf). q ≡ (dir, frag)) objects left
+
+  children_given : HasCached (cached (first_of rank ready).entries (dir, frag)) (λ (f : Cached). (map.len f.dirty ≤ f.places) × AreReady frag nb (shown f) parts)
+  children_given = has_first (λ (f : Cached). (map.len f.dirty ≤ f.places) × AreReady frag nb (shown f) parts) ready (cache_of ready rank) rank (dir, frag) holds refl children
+
+  pub split_kept : IsKept (state_of dirs' (all_of done) objects' jobs' purge' next') (all_of done)
+  split_kept =
+      kept_back dirs' objects' jobs' purge' next' done rank there_done stay.ranks (
+      made_kept dirs (first_of rank given) objects jobs purge next kept_given dir frag nb known can mid homes trees (first_of rank ready) objects' same left_given roomy names cover divided whole object text texts named parts children_given numbered
+      dirs' homes' trees' (first_of rank done) split jobs' ended purge' listed next' job generation version)
+
+  pub split_into : IsSplitInto (state_of dirs (all_of given) objects jobs purge next) (state_of dirs' (all_of done) objects' jobs' purge' next') dir frag nb
+  split_into =
+      subst (λ (s : State). IsSplitInto s (state_of dirs' (all_of done) objects' jobs' purge' next') dir frag nb) (state_first dirs objects jobs purge next given rank there ranks) (
+      subst (λ (s : State). IsSplitInto (state_of dirs (first_of rank given) objects jobs purge next) s dir frag nb) (state_first dirs' objects' jobs' purge' next' done rank there_done stay.ranks) (
+      made_split dirs (first_of rank given) objects jobs purge next kept_given dir frag nb known can mid homes trees (first_of rank ready) objects' same left_given roomy names cover divided whole object text texts named parts children_given numbered
+      dirs' homes' trees' (first_of rank done) split jobs' ended purge' listed next' job generation version))
+
+  pub split_keeps : KeepsTree (state_of dirs (all_of given) objects jobs purge next) (state_of dirs' (all_of done) objects' jobs' purge' next') dir (frag ∷ [])
+  split_keeps = splits_right (state_of dirs (all_of given) objects jobs purge next) (state_of dirs' (all_of done) objects' jobs' purge' next') dir frag nb kept.sound split_into
+
+-- no place is kept then
+pub none_split : (dir : Ino) (frag : Fragment) (nb : ℕ) (parts : List Part) (version : ℕ) (rank : Rank) (given : Held) (ready done : Caches) → rank.0 < length ready → AreRanks ready → KeepsCaches NoneComes ready done → KeepsNone given.entries → KeepsButChildren dir frag nb given (all_of ready)
+    → HasCached (cached (first_of rank ready).entries (dir, frag)) (λ (f : Cached). IsSplit dir frag nb parts version (shown f) (first_of rank ready) (first_of rank done)) → KeepsNone (all_of done).entries
+none_split dir frag nb parts version rank given ready done there ranks stay none others split leaf =
+    sym (ap is_kept ((order done rank (there_then NoneComes ready done rank stay there) stay.ranks).places leaf))
+    ∙ split_none dir frag nb parts version given (first_of rank ready) (first_of rank done) none (λ q other is. others q other (sym (ap is_kept ((order ready rank there ranks).places q)) ∙ is)) (cached (first_of rank ready).entries (dir, frag)) split leaf
