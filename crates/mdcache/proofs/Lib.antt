@@ -1,6 +1,6 @@
 pub mod AddSteps
 pub mod AtRanks
-pub mod AtRegroups
+pub mod AtReads
 pub mod CachedLaws
 pub mod CapLaws
 pub mod ChangeLaws

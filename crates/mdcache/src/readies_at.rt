@@ -90,6 +90,7 @@ pub(crate) fn ready_pair_at<S: Store>(
 ) -> Result<(), Refusal>
     requires first_holds { MayHold caches.old at.first (from, source) }
     requires second_holds { MayHold caches.old at.second (to, target) }
+    requires one { ◌≡◌ {A = Leaf} (from, source) (to, target) → at.first ≡ at.second }
     requires ranks { AreRanks caches.old }
     requires first { map.get (unsaved (all_of caches.old).entries) (from, source) ≡ None → IsSaved source (object_of (S.objects store.old) from source) }
     requires second { map.get (unsaved (all_of caches.old).entries) (to, target) ≡ None → IsSaved target (object_of (S.objects store.old) to target) }
@@ -149,6 +150,7 @@ fn ready_apart<S: Store>(
     requires differ { at.first ≢ at.second }
     requires first_holds { MayHold caches.old at.first (from, source) }
     requires second_holds { MayHold caches.old at.second (to, target) }
+    requires one { ◌≡◌ {A = Leaf} (from, source) (to, target) → at.first ≡ at.second }
     requires ranks { AreRanks caches.old }
     requires first { map.get (unsaved (all_of caches.old).entries) (from, source) ≡ None → IsSaved source (object_of (S.objects store.old) from source) }
     requires second { map.get (unsaved (all_of caches.old).entries) (to, target) ≡ None → IsSaved target (object_of (S.objects store.old) to target) }

@@ -8,7 +8,7 @@ ghost use Rattle.namehash.specs.Rjenkins.{hash_of};
 ghost use Rattle.inode_table.specs.Dirs.{leaves_of};
 ghost use Rattle.dirfrag_codec.specs.EntryRecord.{IsRecordable};
 ghost use Rattle.cached_frag.specs.Cached.{Cached, shown};
-ghost use Rattle.dentry_cache.specs.Cache.{HasCached, HasRoom, cached};
+ghost use Rattle.dentry_cache.specs.Cache.{HasCached, HasRoom, Leaf, cached};
 ghost use Rattle.rank_caches.specs.Caches.{cache_of};
 ghost use Rattle.mdcache.specs.Frags.{IsTakenAlong, KeepsState, dir_moving};
 ghost use Rattle.mdcache.specs.Going.{IsGoingOrNone, count_going, dir_going};
@@ -62,6 +62,7 @@ impl<S: Store + Drop> MdCache<S> {
     ) -> Result<MovingEntry, Refusal>
         requires source_holds { MayHold self.old.ranks at.first (from.now.dir, source) }
         requires target_holds { MayHold self.old.ranks at.second (to.now.dir, target) }
+        requires one { ◌≡◌ {A = Leaf} (from.now.dir, source) (to.now.dir, target) → at.first ≡ at.second }
         requires from_known { is_directory (shown_tree self.old.state) from.now.dir.0 ≡ true }
         requires from_leaf { IsPick (leaves_of self.old.state.covers from.now.dir.0) (hash_of from.now.name) source }
         requires stands { is_some (map.get (shown_tree self.old.state) from.now) ≡ true }
