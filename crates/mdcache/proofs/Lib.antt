@@ -1,6 +1,7 @@
 pub mod AddSteps
 pub mod AtRanks
 pub mod AtReads
+pub mod AtRegroups
 pub mod CachedLaws
 pub mod CapLaws
 pub mod ChangeLaws
