@@ -1,8 +1,8 @@
 -- What commits, splits and merges in the cache of one rank make of the caches of all, in the words of the tree.
 use Rattle.std.proofs.Common.{◌≡◌, ◌⊎◌, inl, inr, ℕ, suc, ◌+◌, ◌<◌, ◌≤◌, ◌^◌, true, false, cond, arith, List, [], ◌∷◌, length, Option, Some, None, is_some, refl, sym, ap, subst, ◌∙◌}
-use Rattle.std.specs.Prelude.{Result, Ok, Err, IfOk, OnOk, OnErr}
+use Rattle.std.specs.Prelude.{Result, Ok, Err, IfOk, OnOk, OnErr, map as each}
 use Rattle.std.proofs.lemmas.Result.{on_err_weaker}
-use Rattle.std.specs.List.{Contains}
+use Rattle.std.specs.List.{Contains, list_any}
 use Rattle.std.specs.Map.{lookup}
 use Rattle.std.specs.FinMap as map
 use Rattle.mds_types.specs.declared.ids.Ino.{Ino}
@@ -10,6 +10,7 @@ use Rattle.mds_types.specs.declared.ids.Rank.{Rank}
 use Rattle.mds_types.specs.Frag.{Fragment, child_of}
 use Rattle.objstore.specs.Objects.{Objects}
 use Rattle.dirfrag_codec.specs.FragmentObject.{Names}
+use Rattle.commit_jobs.specs.declared.bases.Base.TheVariants.{Fresh}
 use Rattle.commit_jobs.specs.declared.marks.Mark.{Mark}
 use Rattle.cached_frag.specs.Cached.{Cached, shown}
 use Rattle.cached_frag.specs.Moving.{marked_as}
@@ -21,8 +22,9 @@ use Rattle.dentry_cache.specs.Loading.{Loads, object_of}
 use Rattle.dentry_cache.proofs.CapLaws.{changed_cap}
 use Rattle.dentry_cache.proofs.LeafLaws.{leaf_or_apart}
 use Rattle.inode_table.specs.Dirs.{Table, is_known, leaves_of}
-use Rattle.fragtree.specs.FragTree.{CanSplit, IsSplit as IsSplitOf, IsTree}
+use Rattle.fragtree.specs.FragTree.{CanMerge, CanSplit, IsMerge, IsSplit as IsSplitOf, IsTree, leaves_inside}
 use Rattle.mds_types.specs.declared.refusals.Refusal.{Refusal}
+use Rattle.namespace_ops.specs.Changes.{in_directory}
 use Rattle.purge_list.specs.PurgeList.{Listed}
 use Rattle.standing_jobs.specs.StandingJobs.{Standing}
 use Rattle.mdcache.specs.declared.mdcache.Counters.{Counters}
@@ -38,16 +40,20 @@ use Rattle.mdcache.specs.Ready.{IsFrom, KeepsAtMost, Readies, ReadiesAt}
 use Rattle.mdcache.specs.Reads.{FixesAllBut, KeepsNoMore, MayNotFind, fixed_places, has_none}
 use Rattle.mdcache.specs.Regroups.{IsFamily, KeepsButChildren}
 use Rattle.mdcache.specs.Commits.{Begins, BeginsWith}
-use Rattle.mdcache.specs.Splits.{IsSplitInto, KeepsTree, NameChildren, without_objects}
-use Rattle.mdcache.specs.State.{IsLive, State, UnsavedLeaves, text_of}
-use Rattle.mdcache.specs.Joining.{name_joined}
+use Rattle.mdcache.specs.Splits.{IsMergedInto, IsSplitInto, KeepsTree, NameChildren, without_objects}
+use Rattle.mdcache.specs.State.{IsLive, State, text_of}
+use Rattle.mdcache.specs.Changes.{with_objects, without_leaves}
+use Rattle.mdcache.specs.Going.{HasForgotten}
+use Rattle.mdcache.specs.Joining.{IsPutInPlace, name_joined}
 use Rattle.mdcache.specs.Shown.{names_of, shown_at}
 use Rattle.mdcache.specs.Sound.{IsSound}
 use Rattle.mdcache.proofs.CapLaws.{divided_cap}
 use Rattle.mdcache.proofs.AtRanks.{cached_has, cached_over, caches_on, caches_then, changed_places, children_over, in_place, kept_has, may_then, most_over, no_more_over, order, ready_at, ready_may, wider}
+use Rattle.mdcache.proofs.AtReads.{words_at}
+use Rattle.mdcache.proofs.KeptPlaces.{filled_none, forgotten_no_more, one_only}
+use Rattle.mdcache.proofs.MergeMade.{made_kept as merged_kept, made_merge}
 use Rattle.mdcache.proofs.ReadyChildren.{child_or_not, split_none}
-use Rattle.mdcache.proofs.ReadLaws.{find_after}
-use Rattle.mdcache.proofs.SplitLaws.{splits_right}
+use Rattle.mdcache.proofs.SplitLaws.{merges_right, splits_right}
 use Rattle.mdcache.proofs.SplitMade.{made_kept, made_split}
 use Rattle.mdcache.proofs.Steps.{told}
 
@@ -279,17 +285,12 @@ begins_none s leaf live jobs clean = (live, jobs, subst (λ (o : Option Unsaved)
 pub has_first : (P : Cached → Type 0) (caches : Caches) (old : Held) (rank : Rank) (leaf : Leaf) → MayHold caches rank leaf → old ≡ cache_of caches rank → HasCached (cached old.entries leaf) P → HasCached (cached (first_of rank caches).entries leaf) P
 has_first P caches old rank leaf holds is = subst (λ (o : Option Cached). HasCached o P) (ap (λ (h : Held). cached h.entries leaf) is ∙ sym (ap fragment_in (place_first caches rank leaf holds.alone)))
 
--- why nothing is done, told by what isn't clean of the rank
-pub words_at : (count : ℕ) (old given : Caches) (rank : Rank) (before after : ℕ) → rank.0 < length old → KeepsCaches NoneComes old given → KeepUnsaved old given → fixed_places (cache_of given rank).entries ≡ map.len (unsaved (cache_of given rank).entries)
+-- why nothing is done: the rank lacks places
+pub lacks_at : (count : ℕ) (old given : Caches) (rank : Rank) (before after : ℕ) → rank.0 < length old → KeepsCaches NoneComes old given → KeepUnsaved old given → fixed_places (cache_of given rank).entries ≡ map.len (unsaved (cache_of given rank).entries)
     → (reason : Refusal) → MayNotFind (FixesAllBut count (cache_of given rank)) before after reason → MayNotFind ((other : Rank) × (other.0 < length old) × ((all_of old).cap < map.len (unsaved (cache_of old other).entries) + count)) before after reason
-words_at count old given rank before after there caches same fixed reason h =
-    find_after ((other : Rank) × (other.0 < length old) × ((all_of old).cap < map.len (unsaved (cache_of old other).entries) + count)) (FixesAllBut count (cache_of given rank)) before before after reason (omega arith) (λ all. (rank, there, lacks all)) h
-  where
-    lacks : FixesAllBut count (cache_of given rank) → (all_of old).cap < map.len (unsaved (cache_of old rank).entries) + count
-    lacks all =
-        let cap : (cache_of given rank).cap ≡ (all_of old).cap = caches.ranks.each.each rank (there_then NoneComes old given rank caches there) ∙ caches.cap in
-        let len : map.len (unsaved (cache_of given rank).entries) ≡ map.len (unsaved (cache_of old rank).entries) = ap (λ (m : UnsavedLeaves). map.len m) (same rank) in
-        omega (arith, all, cap, fixed, len)
+lacks_at count old given rank before after there caches same fixed reason h =
+    words_at ((other : Rank) × (other.0 < length old) × ((all_of old).cap < map.len (unsaved (cache_of old other).entries) + count)) count old given rank before after caches (there_then NoneComes old given rank caches there) same fixed
+    (λ less. (rank, there, less)) reason h
 
 -- ---- a split, from what was prepared for it at a rank and what it did there
 
@@ -344,3 +345,61 @@ pub none_split : (dir : Ino) (frag : Fragment) (nb : ℕ) (parts : List Part) (v
 none_split dir frag nb parts version rank given ready done there ranks stay none others split leaf =
     sym (ap is_kept ((order done rank (there_then NoneComes ready done rank stay there) stay.ranks).places leaf))
     ∙ split_none dir frag nb parts version given (first_of rank ready) (first_of rank done) none (λ q other is. others q other (sym (ap is_kept ((order ready rank there ranks).places q)) ∙ is)) (cached (first_of rank ready).entries (dir, frag)) split leaf
+
+-- ---- a merge, from what was prepared for it at a rank and what it did there
+
+module _ (rank : Rank) (old new : Caches) (there : rank.0 < length old) (ranks : AreRanks old) (caches : KeepsCaches NoneComes old new) where
+  pub forgotten_first : (gone : List Leaf) → HasForgotten gone (all_of old) (all_of new) → HasForgotten gone (first_of rank old) (first_of rank new)
+  forgotten_first gone forgotten leaf =
+      (order_then NoneComes old new rank there ranks caches).places leaf ∙ forgotten leaf
+      ∙ ap (λ (o : Option Place). cond (list_any (leaf_is leaf) gone) None o) (sym ((order old rank there ranks).places leaf))
+
+  -- no place is kept once the fragment is in that which was kept for it alone
+  pub none_merged : (gone : List Leaf) (one : Leaf) (joined : Cached) (given : Held) → MayHold old rank one → KeepsNone given.entries → KeepsAtMost one given (all_of old) → is_kept (lookup (leaf_is one) (cache_of old rank).entries) ≡ true
+      → IsPutInPlace gone one joined (first_of rank old) (first_of rank new) → KeepsNone (all_of new).entries
+  none_merged gone one joined given holds none most place put leaf =
+      sym (ap is_kept ((order_then NoneComes old new rank there ranks caches).places leaf))
+      ∙ filled_none (Some one) one joined (first_of rank old) put.0 (first_of rank new) (one_only one given (first_of rank old) none (λ q is. most q (sym (ap is_kept ((order old rank there ranks).places q)) ∙ is)))
+      (ap is_kept (place_first old rank one holds.alone) ∙ place) (forgotten_no_more gone (first_of rank old) put.0 put.1) put.2 leaf
+
+module _ (dirs : Table) (given : Caches) (objects : Objects) (jobs : Standing) (purge : Listed) (next : Counters) (kept : IsKept (state_of dirs (all_of given) objects jobs purge next) (all_of given))
+    (rank : Rank) (there : rank.0 < length given) (ranks : AreRanks given) (dir : Ino) (frag : Fragment) (known : is_known dirs.homes dir.0 ≡ true) (can : CanMerge (leaves_of dirs.trees dir.0) frag) where
+  abbrev ending : List Leaf
+  ending = each (in_directory dir.0) (leaves_inside frag (leaves_of dirs.trees dir.0))
+
+  module _ (mid : Table) (homes : mid.homes ≡ dirs.homes) (trees : mid.trees ≡ dirs.trees) (ready : Caches) (May : Rank → Leaf → Type 0) (came : KeepsCaches May given ready) (objects' : Objects) (same : objects' ≡ objects)
+      (left : Readies (Contains ending) objects (all_of given) (all_of ready)) (roomy : Listed) (names : roomy.names ≡ purge.names)
+      (cover : List Fragment) (merged : IsMerge (leaves_of dirs.trees dir.0) cover frag) (whole : IsTree cover) (joined : Cached) (fresh : joined.base ≡ Fresh) (numbered : joined.generation ≡ next.generation)
+      (dirty : (name : List ℕ) → map.get joined.dirty name ≡ name_joined (names_of (unsaved (all_of given).entries) objects) next.version ending name None)
+      (dirs' : Table) (homes' : dirs'.homes ≡ mid.homes) (trees' : dirs'.trees ≡ map.insert mid.trees dir.0 cover)
+      (done : Caches) (stay : KeepsCaches NoneComes ready done) (places : IsPutInPlace ending (dir, frag) joined (first_of rank ready) (first_of rank done))
+      (jobs' : Standing) (ended : jobs'.jobs ≡ without_leaves jobs.jobs ending)
+      (purge' : Listed) (listed : purge'.names ≡ map.remove (with_objects roomy.names (each text_of ending)) (text_of (dir, frag)))
+      (next' : Counters) (job : next'.job ≡ next.job) (generation : next'.generation ≡ next.generation + 1) (version : next'.version ≡ next.version + cond (has_none (shown joined)) 0 1) where
+    done_there : rank.0 < length done
+    done_there = there_then NoneComes ready done rank stay (there_then May given ready rank came there)
+
+    given_first : IsKept (state_of dirs (first_of rank given) objects jobs purge next) (first_of rank given)
+    given_first = kept_first dirs objects jobs purge next given rank there ranks kept
+
+    left_first : Readies (Contains ending) objects (first_of rank given) (first_of rank ready)
+    left_first = readies_first May given ready rank there ranks came (Contains ending) objects left
+
+    dirty_first : (name : List ℕ) → map.get joined.dirty name ≡ name_joined (names_of (unsaved (first_of rank given).entries) objects) next.version ending name None
+    dirty_first name = dirty name ∙ (λ i. name_joined (names_of (sym (order given rank there ranks).unclean i) objects) next.version ending name None)
+
+    pub merge_kept : IsKept (state_of dirs' (all_of done) objects' jobs' purge' next') (all_of done)
+    merge_kept =
+        kept_back dirs' objects' jobs' purge' next' done rank done_there stay.ranks (
+        merged_kept dirs (first_of rank given) objects jobs purge next given_first dir frag known can mid homes trees (first_of rank ready) objects' same left_first roomy names cover merged whole joined fresh numbered dirty_first
+        dirs' homes' trees' (first_of rank done) places jobs' ended purge' listed next' job generation version)
+
+    pub merge_into : IsMergedInto (state_of dirs (all_of given) objects jobs purge next) (state_of dirs' (all_of done) objects' jobs' purge' next') dir frag
+    merge_into =
+        subst (λ (s : State). IsMergedInto s (state_of dirs' (all_of done) objects' jobs' purge' next') dir frag) (state_first dirs objects jobs purge next given rank there ranks) (
+        subst (λ (s : State). IsMergedInto (state_of dirs (first_of rank given) objects jobs purge next) s dir frag) (state_first dirs' objects' jobs' purge' next' done rank done_there stay.ranks) (
+        made_merge dirs (first_of rank given) objects jobs purge next given_first dir frag known can mid homes trees (first_of rank ready) objects' same left_first roomy names cover merged whole joined fresh numbered dirty_first
+        dirs' homes' trees' (first_of rank done) places jobs' ended purge' listed next' job generation version))
+
+    pub merge_keeps : KeepsTree (state_of dirs (all_of given) objects jobs purge next) (state_of dirs' (all_of done) objects' jobs' purge' next') dir (leaves_inside frag (leaves_of dirs.trees dir.0))
+    merge_keeps = merges_right (state_of dirs (all_of given) objects jobs purge next) (state_of dirs' (all_of done) objects' jobs' purge' next') dir frag kept.sound merge_into

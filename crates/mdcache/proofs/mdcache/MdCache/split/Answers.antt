@@ -12,7 +12,7 @@ use Rattle.mdcache.specs.Regroups.{IsFamily, SplitsLeaf}
 use Rattle.mdcache.specs.Splits.{IsSplitInto, KeepsTree}
 use Rattle.mdcache.specs.State.{State}
 use Rattle.mdcache.proofs.AtRanks.{caches_after, caches_self, held_by_any, holds_after, holds_on, none_only}
-use Rattle.mdcache.proofs.AtRegroups.{caches_before, none_split, split_into, split_keeps, split_kept, there_then, words_at}
+use Rattle.mdcache.proofs.AtRegroups.{caches_before, none_split, split_into, split_keeps, split_kept, there_then, lacks_at}
 use Rattle.mdcache.proofs.KeptPlaces.{no_more_on, none_on}
 use Rattle.mdcache.proofs.ReadSteps.{live_saved}
 use Rattle.mdcache.proofs.ReadyChanges.{given_kept, given_state}
@@ -111,7 +111,7 @@ returns-in-Err-prepare_split-clause-split g c =
         c.in_default.ensures.can,
         inr (
           counts_left (2 ^ c.args.nb) c.self.inside.next.generation c.self.inside.next.version some one,
-          words_at (2 ^ c.args.nb + 1) c.self.inside.caches c.give_up_at.new.caches c.args.rank (g.S.Store.faults c.self.inside.store) (g.S.Store.faults c.prepare_split.new.store) (subst (λ (v : Core). MayHold v.ranks c.args.rank (c.args.dir, c.args.frag)) (sym c.self.view_is) c.requires.holds).there at.caches at.unsaved c.give_up_at.ensures.fixed c.in-Err-prepare_split.refusal e.refused,
+          lacks_at (2 ^ c.args.nb + 1) c.self.inside.caches c.give_up_at.new.caches c.args.rank (g.S.Store.faults c.self.inside.store) (g.S.Store.faults c.prepare_split.new.store) (subst (λ (v : Core). MayHold v.ranks c.args.rank (c.args.dir, c.args.frag)) (sym c.self.view_is) c.requires.holds).there at.caches at.unsaved c.give_up_at.ensures.fixed c.in-Err-prepare_split.refusal e.refused,
         ),
       )),
       (
