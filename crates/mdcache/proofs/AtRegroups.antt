@@ -1,6 +1,7 @@
 -- What commits, splits and merges in the cache of one rank make of the caches of all, in the words of the tree.
 use Rattle.std.proofs.Common.{◌≡◌, ◌⊎◌, inl, inr, ℕ, suc, ◌+◌, ◌<◌, ◌≤◌, ◌^◌, true, false, cond, arith, List, [], ◌∷◌, length, Option, Some, None, is_some, refl, sym, ap, subst, ◌∙◌}
 use Rattle.std.specs.Prelude.{Result, Ok, Err, IfOk, OnOk, OnErr, map as each}
+use Rattle.std.proofs.lemmas.Option.{none-some}
 use Rattle.std.proofs.lemmas.Result.{on_err_weaker}
 use Rattle.std.specs.List.{Contains, list_any}
 use Rattle.std.specs.Map.{lookup}
@@ -275,7 +276,7 @@ joined_named caches rank objects version come holds (Err e) dirty = tt
 
 pub none_told : (o : Option Unsaved) → told o ≡ None → o ≡ None
 none_told None is = refl
-none_told (Some u) is = let clash : Some (u.base, u.generation) ≡ None = is in absurd cc
+none_told (Some u) is = absurd (none-some (u.base, u.generation) (sym is))
 
 -- of a clean leaf no commit begins
 pub begins_none : (s : State) (leaf : Leaf) → IsLive s.homes s.covers leaf → map.get s.jobs leaf ≡ None → map.get s.unsaved leaf ≡ None → Begins s s leaf (Ok None)

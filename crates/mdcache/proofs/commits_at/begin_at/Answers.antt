@@ -4,7 +4,6 @@ use Rattle.commit_jobs.specs.Snap.{IsBelowEnd}
 use Rattle.commit_jobs.specs.declared.jobs.Job.{Job}
 use Rattle.cached_frag.specs.Cached.{Cached, is_clean, snapshot_of}
 use Rattle.dentry_cache.specs.Cache.{HasCached, Held, cached}
-use Rattle.rank_caches.specs.Caches.{all_of, cache_of}
 use Rattle.mdcache.specs.Cached.{KeepsCached}
 use Rattle.mdcache.specs.Reads.{KeepsNoMore}
 use Rattle.mdcache.proofs.AtRegroups.{begun_cached, begun_caches, begun_places, cached_at}
