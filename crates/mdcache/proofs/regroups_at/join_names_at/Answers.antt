@@ -1,4 +1,4 @@
-use Rattle.std.proofs.Common.{◌≡◌, ℕ, List, Option, None, sym, ap, subst, ◌∙◌}
+use Rattle.std.proofs.Common.{◌≡◌, ℕ, List, None, sym, ap, subst, ◌∙◌}
 use Rattle.std.specs.Prelude.{IfErr, IfOk, OnErr, OnOk, true}
 use Rattle.std.specs.FinMap as map
 use Rattle.std.specs.List.{Contains}
@@ -7,7 +7,6 @@ use Rattle.cached_frag.specs.Cached.{Cached}
 use Rattle.dentry_cache.specs.Cache.{Held, Leaf, cached, is_kept, leaf_is, unsaved}
 use Rattle.dentry_cache.specs.Loading.{object_of}
 use Rattle.dentry_cache.specs.Ties.{AreTied, IsTied}
-use Rattle.rank_caches.specs.Caches.{places_of}
 use Rattle.rank_caches.proofs.PlaceLaws.{cache_there}
 use Rattle.rank_caches.proofs.TiesLaws.{each_there}
 use Rattle.mdcache.specs.Going.{leaves_in}

@@ -8,7 +8,7 @@ use Rattle.mdcache.specs.Cached.{Core, state_of}
 use Rattle.mdcache.specs.Commits.{Ends, IsEnded, leaf_of}
 use Rattle.mdcache.specs.Ranks.{KeepsCaches, MayHold, NoneComes}
 use Rattle.mdcache.specs.State.{State}
-use Rattle.mdcache.proofs.AtRanks.{caches_self, only_on}
+use Rattle.mdcache.proofs.AtRanks.{only_on}
 use Rattle.mdcache.proofs.AtRegroups.{cached_back, kept_back, kept_first, no_more_back, state_first, there_then}
 use Rattle.mdcache.proofs.Steps.{end_is, end_kept, end_there, placing_keeps, refused_kept, refused_state}
 use Rattle.mdcache.proofs.KeptPlaces.{changed_no_more}

@@ -7,12 +7,12 @@ use Rattle.inode_table.specs.Dirs.{leaves_of}
 use Rattle.dentry_cache.specs.Cache.{Leaf}
 use Rattle.rank_caches.specs.Caches.{all_of}
 use Rattle.mdcache.specs.Cached.{Core, state_of}
-use Rattle.mdcache.specs.Ranks.{KeepsCaches, MayHold, NoneComes}
+use Rattle.mdcache.specs.Ranks.{KeepsCaches, MayHold}
 use Rattle.mdcache.specs.Regroups.{IsFamily, SplitsLeaf}
 use Rattle.mdcache.specs.Splits.{IsSplitInto, KeepsTree}
 use Rattle.mdcache.specs.State.{State}
 use Rattle.mdcache.proofs.AtRanks.{caches_after, caches_self, held_by_any, holds_after, holds_on, none_only}
-use Rattle.mdcache.proofs.AtRegroups.{caches_before, none_split, split_into, split_keeps, split_kept, there_then, lacks_at}
+use Rattle.mdcache.proofs.AtRegroups.{caches_before, none_split, split_into, split_keeps, split_kept, lacks_at}
 use Rattle.mdcache.proofs.KeptPlaces.{no_more_on, none_on}
 use Rattle.mdcache.proofs.ReadSteps.{live_saved}
 use Rattle.mdcache.proofs.ReadyChanges.{given_kept, given_state}
