@@ -2,6 +2,7 @@ pub mod AddSteps
 pub mod AtChanges
 pub mod AtRanks
 pub mod AtReads
+pub mod AtRegroups
 pub mod CachedLaws
 pub mod CapLaws
 pub mod ChangeLaws

@@ -37,7 +37,7 @@ not_found : (frag : Fragment) (object : Option Omap) (was now : Option Place) �
 not_found frag object was now kept found = subst (IsFoundReady frag object was) (kept_none now kept) found
 
 -- a leaf is one of the first children, or none of them
-child_or_not : (dir : Ino) (frag : Fragment) (nb : ℕ) (q : Leaf) (n : ℕ) → ((i : ℕ) × (i < n) × ((dir, child_of frag i nb) ≡ q)) ⊎ ((i : ℕ) → i < n → leaf_is (dir, child_of frag i nb) q ≡ false)
+pub child_or_not : (dir : Ino) (frag : Fragment) (nb : ℕ) (q : Leaf) (n : ℕ) → ((i : ℕ) × (i < n) × ((dir, child_of frag i nb) ≡ q)) ⊎ ((i : ℕ) → i < n → leaf_is (dir, child_of frag i nb) q ≡ false)
 child_or_not dir frag nb q zero = inr (λ i less. absurd (omega (arith, less)))
 child_or_not dir frag nb q (suc n) = go (child_or_not dir frag nb q n) (leaf_or_apart (dir, child_of frag n nb) q)
   where

@@ -1,13 +1,27 @@
-use Rattle.std.proofs.Common.{◌≡◌, Bool, true, false, None, sym, ap, cond, ◌∙◌}
-use Rattle.std.specs.List.{list_any}
-use Rattle.std.specs.Map.{lookup}
-use Rattle.dentry_cache.specs.Cache.{Held, is_kept, leaf_is}
+use Rattle.std.proofs.Common.{ap, ◌∙◌}
+use Rattle.dentry_cache.specs.Cache.{is_kept}
+use Rattle.rank_caches.specs.Caches.{first_of}
 use Rattle.mdcache.specs.Going.{leaves_in}
-use Rattle.mdcache.proofs.JoinLaws.{place_left}
+use Rattle.mdcache.specs.Ranks.{NoneComes}
+use Rattle.mdcache.proofs.AtRanks.{caches_on, holds_after}
+use Rattle.mdcache.proofs.AtRegroups.{forgotten_first}
 use Rattle.mdcache.proofs.merging.commit_merge.Goals as goal
 
-pub fill-requires : goal.fill-requires
-fill-requires c = ap is_kept (place_left (leaves_in c.args.dir c.args.merge.leaves.items) c.args.cache.now c.remove_leaves.new.cache (c.args.dir, c.args.frag) c.remove_leaves.ensures.cache c.requires.apart) ∙ c.requires.kept
+pub fill_at-requires-clause-holds : goal.fill_at-requires-clause-holds
+fill_at-requires-clause-holds c = holds_after c.args.caches.now c.remove_leaves.new.caches c.args.rank (c.args.dir, c.args.frag) c.remove_leaves.ensures.caches c.requires.holds
 
-pub returns-clause-cap : goal.returns-clause-cap
-returns-clause-cap c = ap (λ (h : Held). h.cap) c.fill.ensures ∙ c.remove_leaves.ensures.cap
+pub fill_at-requires-clause-ranks : goal.fill_at-requires-clause-ranks
+fill_at-requires-clause-ranks c = c.remove_leaves.ensures.caches.ranks
+
+pub fill_at-requires-clause-kept : goal.fill_at-requires-clause-kept
+fill_at-requires-clause-kept c = ap is_kept (c.remove_leaves.ensures.others c.args.rank (c.args.dir, c.args.frag) c.requires.apart) ∙ c.requires.kept
+
+pub returns-clause-places : goal.returns-clause-places
+returns-clause-places c = (
+  first_of c.args.rank c.remove_leaves.new.caches,
+  forgotten_first c.args.rank c.args.caches.now c.remove_leaves.new.caches c.requires.holds.there c.requires.ranks c.remove_leaves.ensures.caches (leaves_in c.args.dir c.args.merge.leaves.items) c.remove_leaves.ensures.gone,
+  c.fill_at.ensures.filled,
+)
+
+pub returns-clause-caches : goal.returns-clause-caches
+returns-clause-caches c = caches_on NoneComes c.args.caches.now c.remove_leaves.new.caches c.fill_at.new.caches c.remove_leaves.ensures.caches c.fill_at.ensures.caches
