@@ -1,4 +1,5 @@
 use Rattle.std.proofs.Common.{sym, subst}
+use Rattle.rank_caches.specs.Caches.{all_of}
 use Rattle.mdcache.specs.Cached.{Core, state_of}
 use Rattle.mdcache.specs.Frags.{IsTakenAlong}
 use Rattle.mdcache.proofs.MoveSteps.{taken_along}
@@ -6,5 +7,5 @@ use Rattle.mdcache.proofs.mdcache.MdCache.moving.Goals as goal
 
 pub returns : goal.returns
 returns g c =
-    let core : Core = record { state = state_of c.self.inside.dirs c.self.inside.cache (g.S.Store.objects c.self.inside.store) c.self.inside.jobs c.self.inside.purge c.self.inside.next; cache = c.self.inside.cache; dirs_left = c.self.inside.dirs.room; purge_left = c.self.inside.purge.room; faults = g.S.Store.faults c.self.inside.store; prepared = c.self.inside.prepared } in
+    let core : Core = record { state = state_of c.self.inside.dirs (all_of c.self.inside.caches) (g.S.Store.objects c.self.inside.store) c.self.inside.jobs c.self.inside.purge c.self.inside.next; ranks = c.self.inside.caches; cache = all_of c.self.inside.caches; dirs_left = c.self.inside.dirs.room; purge_left = c.self.inside.purge.room; faults = g.S.Store.faults c.self.inside.store; prepared = c.self.inside.prepared } in
     subst (λ (k : Core). IsTakenAlong k c.directory_moving.result) c.self.view_is (subst (IsTakenAlong core) (sym c.directory_moving.ensures) (taken_along core c.self.invariant.0.sound))
