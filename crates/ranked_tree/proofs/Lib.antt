@@ -3,6 +3,7 @@ pub mod AuthorityLaws
 pub mod ChangedTables
 pub mod HeldChanges
 pub mod HeldLaws
+pub mod HeldRegroups
 pub mod HolderLaws
 pub mod InsideLaws
 pub mod Kept
