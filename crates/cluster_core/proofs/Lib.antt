@@ -3,6 +3,7 @@ pub mod Applied
 pub mod Carried
 pub mod FragmentLaws
 pub mod HeldLaws
+pub mod MadeReady
 pub mod MasterLaws
 pub mod NewBook
 pub mod Offered

@@ -1,0 +1,24 @@
+-- Why a request isn't made ready, said of the tree before it was asked for grants.
+use Rattle.std.proofs.Common.{◌≡◌, ◌⊎◌, inl, inr, subst}
+use Rattle.mds_types.specs.declared.operations.Op.{Op}
+use Rattle.mds_types.specs.declared.refusals.Refusal.{Refusal}
+use Rattle.mds_types.specs.declared.refusals.Refusal.TheVariants.{NoMemory}
+use Rattle.mds_types.specs.Step.{number_or, step}
+use Rattle.inode_table.specs.Numbers.{Supply, offer}
+use Rattle.namespace_ops.specs.Served.{IsRefused, LacksNumber}
+use Rattle.mdcache.specs.Cached.{Core}
+use Rattle.mdcache.specs.Frags.{KeepsState, MayRefuse}
+use Rattle.mdcache.specs.Shown.{shown_tree}
+use Rattle.mdcache.specs.State.{State}
+use Rattle.mdcache.proofs.FragsLaws.{refused_later}
+
+pub still_refused : (old mid new : Core) (op : Op) (Touch : Type 0) (supply : Supply) (reason : Refusal) → KeepsState old mid → Touch
+    → IsRefused (shown_tree mid.state) (shown_tree new.state) (MayRefuse mid new op) (step (shown_tree mid.state) op (number_or (offer supply))) (offer supply) reason
+    → (reason ≡ NoMemory) ⊎ MayRefuse old new op reason ⊎ (Touch × LacksNumber (step (shown_tree old.state) op (number_or (offer supply))) (offer supply) reason)
+still_refused old mid new op Touch supply reason kept touch refused = go refused.because
+  where
+    go : LacksNumber (step (shown_tree mid.state) op (number_or (offer supply))) (offer supply) reason ⊎ ((reason ≡ NoMemory) ⊎ MayRefuse mid new op reason)
+        → (reason ≡ NoMemory) ⊎ MayRefuse old new op reason ⊎ (Touch × LacksNumber (step (shown_tree old.state) op (number_or (offer supply))) (offer supply) reason)
+    go (inl lacks) = inr (inr (touch, subst (λ (s : State). LacksNumber (step (shown_tree s) op (number_or (offer supply))) (offer supply) reason) kept.state lacks))
+    go (inr (inl memory)) = inl memory
+    go (inr (inr may)) = inr (inl (refused_later old mid new op reason kept may))
