@@ -1,6 +1,6 @@
 -- Why a read is refused, in the words of all ranks, and of a call that ends with the read.
 use Rattle.std.specs.Prelude.{◌≡◌, ◌<◌, ℕ, true, length, List, Result, Ok, Err, IfErr, IfOk}
-use Rattle.std.proofs.Common.{◌⊎◌, inl, inr, sym, subst, ◌∙◌, arith}
+use Rattle.std.proofs.Common.{inl, inr, sym, subst, ◌∙◌, arith}
 use Rattle.mds_types.specs.declared.ids.Ino.{Ino}
 use Rattle.mds_types.specs.declared.ids.Rank.{Rank}
 use Rattle.mds_types.specs.declared.refusals.Refusal.{Refusal}

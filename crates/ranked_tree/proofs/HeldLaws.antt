@@ -1,6 +1,6 @@
 -- Each place of a live leaf stays at the leaf's authority.
 use Rattle.std.specs.Prelude.{◌≡◌, ◌≢◌, ◌<◌, ℕ, true, is_some, length, Option, Some, None}
-use Rattle.std.proofs.Common.{◌⊎◌, inl, inr, refl, sym, ap, subst, ◌∙◌}
+use Rattle.std.proofs.Common.{◌⊎◌, inl, inr, refl, sym, ap, subst}
 use Rattle.std.specs.Map.{lookup}
 use Rattle.mds_types.specs.declared.ids.Rank.{Rank}
 use Rattle.dentry_cache.specs.Cache.{leaf_is}
@@ -14,7 +14,7 @@ use Rattle.mdcache.specs.Frags.{KeepsState}
 use Rattle.mdcache.specs.Ranks.{IsThat, KeepsCaches, MayHold, NoneComes}
 use Rattle.mdcache.specs.State.{State as TreeState}
 use Rattle.ranked_tree.specs.Held.{AreHeld, IsOwned}
-use Rattle.ranked_tree.specs.Subtrees.{AreRoots, NoNewRank, Rules}
+use Rattle.ranked_tree.specs.Subtrees.{NoNewRank, Rules}
 
 module _ (tree : TreeState) (caches : Caches) (roots : Roots) (held : AreHeld tree caches roots) (leaf : Leaf) (rank : Rank) (rules : Rules tree roots leaf rank) where
   -- there is a cache for the authority of a leaf,
@@ -68,5 +68,5 @@ pub owned_same : (old new : Core) (roots : Roots) → new.state.homes ≡ old.st
 owned_same old new roots homes covers ranks owned = (
   rw (homes, covers) owned.0,
   held_after old.state new.state old.ranks new.ranks roots roots owned.1 (λ leaf rank is. (leaf, is)) (ap (λ (cs : Caches). length cs) ranks)
-  (λ rank leaf has live. rw (homes, covers) (owned.1.places rank leaf (rw (← ranks) has) (rw (← homes, ← covers) live))),
+      (λ rank leaf has live. rw (homes, covers) (owned.1.places rank leaf (rw (← ranks) has) (rw (← homes, ← covers) live))),
 )

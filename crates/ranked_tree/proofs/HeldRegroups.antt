@@ -1,7 +1,7 @@
 -- What splits and merges make of the places: each of a live leaf is at the leaf's authority then.
-use Rattle.std.specs.Prelude.{◌≡◌, ◌≢◌, ◌+◌, ◌<◌, ◌==◌, ◌^◌, ℕ, zero, suc, true, false, map as each, length, List, [], ◌∷◌, Result, Ok, Err}
-use Rattle.std.proofs.Common.{◌⊎◌, inl, inr, Bool, refl, sym, ap, subst, ◌∙◌, arith}
-use Rattle.std.proofs.lemmas.Bool.{and_from, and_parts, eq-eqb, eqb-true}
+use Rattle.std.specs.Prelude.{◌≡◌, ◌+◌, ◌<◌, ◌==◌, ◌^◌, ℕ, zero, suc, true, false, map as each, length, List, [], ◌∷◌, Result, Ok, Err}
+use Rattle.std.proofs.Common.{◌⊎◌, inl, inr, refl, sym, subst, ◌∙◌, arith}
+use Rattle.std.proofs.lemmas.Bool.{and_from, eq-eqb}
 use Rattle.std.specs.List.{Contains}
 use Rattle.std.specs.Map.{lookup}
 use Rattle.mds_types.specs.declared.ids.Ino.{Ino}
@@ -11,11 +11,11 @@ use Rattle.mds_types.specs.Frag.{Fragment, IsFragment, child_of}
 use Rattle.fragtree.specs.FragTree.{CanMerge, CanSplit, FitsSplit, HasLeaf, RefusesMerge, RefusesSplit, leaves_inside, lies_inside}
 use Rattle.fragtree.proofs.Ranges.{range_from_inside}
 use Rattle.fragtree.proofs.TreeLaws.{first as first_has, later as later_has}
-use Rattle.inode_table.specs.Dirs.{Covers, IsLive, is_known, leaves_of}
+use Rattle.inode_table.specs.Dirs.{IsLive, is_known, leaves_of}
 use Rattle.inode_table.proofs.Tables.{tree_of_row}
 use Rattle.dentry_cache.specs.Cache.{Held, is_kept, leaf_is}
 use Rattle.namespace_ops.specs.Changes.{in_directory}
-use Rattle.rank_caches.specs.Caches.{Caches, all_of, cache_of, has_place}
+use Rattle.rank_caches.specs.Caches.{all_of, cache_of, has_place}
 use Rattle.subtree_map.specs.Authority.{Leaf, Roots}
 use Rattle.subtree_map.specs.Changes.{HaveOneAuthority, is_inside}
 use Rattle.subtree_map.proofs.Covers.{child_is_new, merged_is_new, some_inside}
@@ -24,8 +24,7 @@ use Rattle.mdcache.specs.Cached.{Core, KeepsNone}
 use Rattle.mdcache.specs.Frags.{KeepsState}
 use Rattle.mdcache.specs.Ranks.{AreLivePlaces, AreRanks, KeepsCaches, MayHold, NoneComes}
 use Rattle.mdcache.specs.Reads.{LacksPlaces}
-use Rattle.mdcache.specs.Ready.{MayNotBeReady}
-use Rattle.mdcache.specs.Regroups.{IsFamily, IsUndone, MayNotMerge, MayNotRegroup, MayNotSplit, MergesLeaves, SplitsLeaf}
+use Rattle.mdcache.specs.Regroups.{IsFamily, IsUndone, MayNotRegroup, MergesLeaves, SplitsLeaf}
 use Rattle.mdcache.specs.Sound.{IsSound}
 use Rattle.mdcache.specs.Splits.{IsMergedInto, IsSplitInto, KeepsTree}
 use Rattle.mdcache.specs.State.{State as TreeState}
@@ -86,8 +85,8 @@ pub split_on : (old mid new : Core) (dir : Ino) (frag : Fragment) (nb : ℕ) (re
 split_on old mid new dir frag nb (Ok done) kept faults none split = subst (λ (s : TreeState). IsSplitInto s new.state dir frag nb × KeepsTree s new.state dir (frag ∷ [])) kept.state split
 split_on old mid new dir frag nb (Err reason) kept faults none (because, undone) = (
   regroup_on (CanSplit (leaves_of old.state.covers dir.0) frag nb) (RefusesSplit (leaves_of old.state.covers dir.0) frag nb) old.state dir (2 ^ nb) (LacksPlaces (2 ^ nb + 1) mid) (LacksPlaces (2 ^ nb + 1) old) mid.faults old.faults new.faults reason
-  (lacked_before (2 ^ nb + 1) old mid kept) faults
-  (subst (λ (s : TreeState). MayNotRegroup (CanSplit (leaves_of s.covers dir.0) frag nb) (RefusesSplit (leaves_of s.covers dir.0) frag nb) s dir (2 ^ nb) (LacksPlaces (2 ^ nb + 1) mid) mid.faults new.faults reason) kept.state because),
+      (lacked_before (2 ^ nb + 1) old mid kept) faults
+      (subst (λ (s : TreeState). MayNotRegroup (CanSplit (leaves_of s.covers dir.0) frag nb) (RefusesSplit (leaves_of s.covers dir.0) frag nb) s dir (2 ^ nb) (LacksPlaces (2 ^ nb + 1) mid) mid.faults new.faults reason) kept.state because),
   undone_on old mid new kept.state none undone,
 )
 
@@ -96,8 +95,8 @@ merge_on old mid new dir frag (Ok done) kept faults none merged =
     subst (λ (s : TreeState). IsMergedInto s new.state dir frag × KeepsTree s new.state dir (leaves_inside frag (leaves_of s.covers dir.0))) kept.state merged
 merge_on old mid new dir frag (Err reason) kept faults none (because, undone) = (
   regroup_on (CanMerge (leaves_of old.state.covers dir.0) frag) (RefusesMerge (leaves_of old.state.covers dir.0) frag) old.state dir 1 (LacksPlaces 1 mid) (LacksPlaces 1 old) mid.faults old.faults new.faults reason
-  (lacked_before 1 old mid kept) faults
-  (subst (λ (s : TreeState). MayNotRegroup (CanMerge (leaves_of s.covers dir.0) frag) (RefusesMerge (leaves_of s.covers dir.0) frag) s dir 1 (LacksPlaces 1 mid) mid.faults new.faults reason) kept.state because),
+      (lacked_before 1 old mid kept) faults
+      (subst (λ (s : TreeState). MayNotRegroup (CanMerge (leaves_of s.covers dir.0) frag) (RefusesMerge (leaves_of s.covers dir.0) frag) s dir 1 (LacksPlaces 1 mid) mid.faults new.faults reason) kept.state because),
   undone_on old mid new kept.state none undone,
 )
 

@@ -1,6 +1,6 @@
 -- The leaves that a change names, and the ranks that hold them.
 use Rattle.std.specs.Prelude.{◌≡◌, ◌||◌, ◌==◌, ℕ, true, false, is_some, Some}
-use Rattle.std.proofs.Common.{◌⊎◌, inl, inr, refl, sym, ap, subst, ◌∙◌}
+use Rattle.std.proofs.Common.{inl, inr, sym, subst, ◌∙◌}
 use Rattle.std.specs.FinMap as map
 use Rattle.mds_types.specs.declared.dentries.Dentry.{Dentry}
 use Rattle.mds_types.specs.declared.ids.Ino.{Ino}
@@ -22,7 +22,7 @@ use Rattle.subtree_map.specs.Authority.{Leaf, Roots}
 use Rattle.subtree_map.proofs.Nearest.{one_authority}
 use Rattle.mdcache.specs.declared.holders.Holders.{Holders}
 use Rattle.mdcache.specs.Changes.{first_leaf}
-use Rattle.mdcache.specs.Ranks.{IsThat, MayComeFor, MayHold, MayHoldEach}
+use Rattle.mdcache.specs.Ranks.{MayComeFor, MayHold, MayHoldEach}
 use Rattle.mdcache.specs.Shown.{shown_tree}
 use Rattle.mdcache.specs.Sound.{IsSound}
 use Rattle.mdcache.specs.State.{State as TreeState}

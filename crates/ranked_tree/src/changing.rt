@@ -1,5 +1,5 @@
 //! Changes of the tree, made ready and then made, with what they make of the roots.
-ghost use Rattle.std.specs.Prelude.{◌≡◌, ◌≤◌, MatchOption, IfSome, OnOk, OnErr, IfErr, length};
+ghost use Rattle.std.specs.Prelude.{◌≡◌, MatchOption, IfSome, OnOk, OnErr, IfErr, length};
 ghost use Rattle.mds_types.specs.declared.refusals.Refusal.TheVariants.{NoMemory};
 ghost use Rattle.inode_table.specs.Dirs.{MayMove};
 ghost use Rattle.inode_table.specs.TreeTable.{home_at};

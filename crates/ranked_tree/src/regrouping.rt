@@ -174,12 +174,7 @@ fn merge_held<S: Store + Drop>(
 }
 
 // The rank that holds the leaves of a directory properly inside a fragment, which have one authority.
-fn holder_of_all<S: Store + Drop>(
-    tree: &MdCache<S>,
-    roots: &Subtrees,
-    dir: Ino,
-    frag: Frag,
-) -> Rank
+fn holder_of_all<S: Store + Drop>(tree: &MdCache<S>, roots: &Subtrees, dir: Ino, frag: Frag) -> Rank
     requires known { is_known tree.now.state.homes dir.0 ≡ true }
     requires can { CanMerge (leaves_of tree.now.state.covers dir.0) frag }
     requires one { HaveOneAuthority roots.now.roots tree.now.state.homes tree.now.state.covers dir.0 frag }

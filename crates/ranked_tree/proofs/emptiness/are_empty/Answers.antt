@@ -1,10 +1,10 @@
-use Rattle.std.proofs.Common.{◌≡◌, Bool, sym, ap, ◌∙◌}
+use Rattle.std.proofs.Common.{◌≡◌, sym, ap, ◌∙◌}
 use Rattle.mdcache.specs.Reads.{has_none}
 use Rattle.mdcache.specs.Shown.{names_of}
 use Rattle.mdcache.specs.State.{State as TreeState}
 use Rattle.mdcache.proofs.FragsLaws.{keeps_on}
-use Rattle.mdcache.proofs.WalkLaws.{all_passed, first_within, passed, rest_within, stopped}
-use Rattle.ranked_tree.proofs.AskLaws.{live_still, told_later}
+use Rattle.mdcache.proofs.WalkLaws.{first_within, passed, rest_within}
+use Rattle.ranked_tree.proofs.AskLaws.{live_still}
 use Rattle.ranked_tree.proofs.emptiness.are_empty.Goals as goal
 
 pub is_leaf_empty-requires-clause-live : goal.is_leaf_empty-requires-clause-live

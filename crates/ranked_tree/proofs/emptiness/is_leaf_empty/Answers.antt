@@ -1,4 +1,3 @@
-use Rattle.std.proofs.Common.{Bool}
 use Rattle.ranked_tree.proofs.AskLaws.{told_at}
 use Rattle.ranked_tree.proofs.HeldLaws.{owned_read}
 use Rattle.ranked_tree.proofs.emptiness.is_leaf_empty.Goals as goal

@@ -1,4 +1,4 @@
-use Rattle.std.proofs.Common.{sym, subst, ◌∙◌}
+use Rattle.std.proofs.Common.{sym, subst}
 use Rattle.inode_table.specs.Dirs.{IsLive}
 use Rattle.subtree_map.specs.Authority.{Leaf}
 use Rattle.mdcache.specs.declared.holders.Holders.{Holders}

@@ -6,7 +6,7 @@ use Rattle.mdcache.specs.State.{State as TreeState}
 use Rattle.mdcache.proofs.FragsLaws.{keeps_on}
 use Rattle.mdcache.proofs.GatherLaws.{leaf_more}
 use Rattle.mdcache.proofs.WalkLaws.{first_within, rest_within}
-use Rattle.ranked_tree.proofs.AskLaws.{live_still, told_later}
+use Rattle.ranked_tree.proofs.AskLaws.{live_still}
 use Rattle.ranked_tree.proofs.listing.gather_leaves.Goals as goal
 
 pub gather_leaf-requires-clause-live : goal.gather_leaf-requires-clause-live

@@ -1,4 +1,4 @@
-use Rattle.std.proofs.Common.{◌≡◌, ℕ, Option, None, Some, subst}
+use Rattle.std.proofs.Common.{ℕ, Option, None, subst}
 use Rattle.mds_types.specs.Frag.{Fragment}
 use Rattle.fragtree.specs.FragTree.{HasLeaf}
 use Rattle.inode_table.specs.Dirs.{Covers, leaves_of}
