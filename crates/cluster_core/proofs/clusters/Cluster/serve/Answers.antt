@@ -7,6 +7,7 @@ use Rattle.cluster_core.specs.Master.{AreMastersThere}
 use Rattle.cluster_core.specs.State.{Core, shown, supply_of}
 use Rattle.cluster_core.proofs.Offered.{masters_there, offer_unused, there_of}
 use Rattle.ranked_tree.specs.Subtrees.{AreRoots}
+use Rattle.cluster_core.proofs.Worked.{at_rank}
 use Rattle.cluster_core.proofs.clusters.Cluster.serve.Goals as goal
 
 pub serve_front-requires-clause-offered : goal.serve_front-requires-clause-offered
@@ -25,3 +26,6 @@ serve_front-requires-clause-masters g c =
 
 pub serve_front-requires-clause-valid : goal.serve_front-requires-clause-valid
 serve_front-requires-clause-valid g c = subst (λ (core : Core). AreRoots core.state.tree core.state.roots) (sym c.self.view_is) c.requires.1.subtrees
+
+pub returns-clause-served : goal.returns-clause-served
+returns-clause-served g c = at_rank _ _ _ (sym c.is_rank.ensures ∙ c.if-not-is_rank.false) (rw (← c.self.view_is) c.serve_front.ensures.served)
