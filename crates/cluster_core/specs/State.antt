@@ -10,6 +10,7 @@ use Rattle.inboxes.specs.Inboxes.{Inboxes}
 use Rattle.inboxes.specs.declared.pins.Pin.{Pin}
 use Rattle.inode_table.specs.Numbers.{Supply, first_number}
 use Rattle.mdcache.specs.Cached.{Core as TreeCore}
+pub use Rattle.mdcache.specs.New.{new_caches}
 use Rattle.mdcache.specs.New.{new_state as new_tree}
 use Rattle.ranked_tree.specs.Ranked.{new_roots}
 use Rattle.mdcache.specs.Shown.{shown_tree}
