@@ -1,6 +1,5 @@
 -- What a change of one rank's cache makes of the caches of all, in the words of the tree.
-use Rattle.std.proofs.Common.{◌≡◌, ◌≢◌, ◌⊎◌, inl, inr, ℕ, ◌<◌, ◌≤◌, Bool, true, false, cond, List, length, Option, Some, None, is_some, refl, sym, ap, subst, ◌∙◌, arith}
-use Rattle.std.specs.List.{list_any}
+use Rattle.std.proofs.Common.{◌≡◌, ◌≢◌, ◌⊎◌, inl, inr, ℕ, ◌<◌, Bool, true, false, cond, length, Option, Some, None, is_some, refl, sym, ap, subst, ◌∙◌}
 use Rattle.std.specs.Map.{lookup}
 use Rattle.std.specs.FinMap as map
 use Rattle.mds_types.specs.declared.ids.Ino.{Ino}
@@ -9,7 +8,7 @@ use Rattle.mds_types.specs.Frag.{Fragment}
 use Rattle.objstore.specs.Objects.{Objects}
 use Rattle.cached_frag.specs.Cached.{Cached}
 use Rattle.dentry_cache.specs.declared.cache.Place.{Place}
-use Rattle.dentry_cache.specs.Cache.{Held, IsChanged, Leaf, Places, cached, fragment_in, held, is_kept, leaf_is, unsaved, used_as}
+use Rattle.dentry_cache.specs.Cache.{Held, IsChanged, Leaf, cached, fragment_in, held, is_kept, leaf_is, unsaved, used_as}
 use Rattle.dentry_cache.specs.Divided.{IsNoChild}
 use Rattle.dentry_cache.specs.Loading.{Loads, object_of}
 use Rattle.dentry_cache.proofs.LeafLaws.{one_leaf}
@@ -25,7 +24,7 @@ use Rattle.rank_caches.proofs.UnsavedLaws.{unsaved_stay, unsaved_there}
 use Rattle.mdcache.specs.Cached.{IsSameBut, KeepsCached, KeepsNone, KeepsOnly}
 use Rattle.mdcache.specs.Ranks.{AreRanks, KeepUnsaved, KeepsCaches, KeepsOnlyAt, MayHold, NoneComes}
 use Rattle.mdcache.specs.Ready.{KeepsAtMost, Readies, ReadiesAt}
-use Rattle.mdcache.specs.Reads.{FixesNoMore, KeepsNoMore, Reads, ReadsAt}
+use Rattle.mdcache.specs.Reads.{KeepsNoMore, Reads, ReadsAt}
 use Rattle.mdcache.specs.Regroups.{KeepsButChildren}
 
 -- ---- places

@@ -1,5 +1,5 @@
 -- What reads and making ready at a rank leave of the caches of all and of the state, from the parts of the state.
-use Rattle.std.proofs.Common.{◌≡◌, ◌≢◌, ◌⊎◌, inl, inr, ℕ, ◌+◌, ◌<◌, ◌≤◌, Bool, true, false, length, Option, Some, None, is_some, refl, sym, ap, subst, ◌∙◌, arith}
+use Rattle.std.proofs.Common.{◌≡◌, ◌≢◌, ◌⊎◌, inl, inr, ℕ, ◌+◌, ◌<◌, ◌≤◌, Bool, true, false, length, Option, Some, None, refl, sym, ap, subst, ◌∙◌, arith}
 use Rattle.std.specs.Map.{lookup}
 use Rattle.std.specs.FinMap as map
 use Rattle.std.proofs.lemmas.Option.{same_Some}
@@ -14,19 +14,19 @@ use Rattle.dentry_cache.specs.Loading.{object_of}
 use Rattle.inode_table.specs.Dirs.{Table}
 use Rattle.purge_list.specs.PurgeList.{Listed}
 use Rattle.standing_jobs.specs.StandingJobs.{Standing}
-use Rattle.rank_caches.specs.Caches.{AreApart, Caches, all_of, cache_of, has_place, places_of, with_cache}
+use Rattle.rank_caches.specs.Caches.{Caches, all_of, cache_of, places_of, with_cache}
 use Rattle.rank_caches.proofs.PlaceLaws.{cache_beside, cache_there, found_in, rank_or_apart}
 use Rattle.mdcache.specs.declared.mdcache.Counters.{Counters}
 use Rattle.mdcache.specs.Cached.{IsKept, KeepsNone, state_of}
-use Rattle.mdcache.specs.Ranks.{AreRanks, IsThat, KeepUnsaved, KeepsCaches, KeepsOnlyAt, MayHold, NoneComes}
-use Rattle.mdcache.specs.Ready.{KeepsAtMost, Readies, ReadiesAt}
-use Rattle.mdcache.specs.Reads.{FixesAllBut, FixesNoMore, KeepsNoMore, MayNotFind, Reads, ReadsAt, fixed_places}
+use Rattle.mdcache.specs.Ranks.{AreRanks, IsThat, KeepUnsaved, KeepsCaches, KeepsOnlyAt, NoneComes}
+use Rattle.mdcache.specs.Ready.{KeepsAtMost, ReadiesAt}
+use Rattle.mdcache.specs.Reads.{FixesAllBut, KeepsNoMore, MayNotFind, Reads, ReadsAt, fixed_places}
 use Rattle.mdcache.specs.Shown.{names_of}
 use Rattle.mdcache.specs.Sound.{IsSaved}
 use Rattle.mdcache.specs.State.{IsLive, State, UnsavedLeaves}
-use Rattle.mdcache.proofs.AtRanks.{caches_after, caches_on, holds_after, none_only, read_at, unsaved_on, wider}
+use Rattle.mdcache.proofs.AtRanks.{caches_after, caches_on, none_only, read_at, unsaved_on, wider}
 use Rattle.mdcache.proofs.KeptPlaces.{none_on}
-use Rattle.mdcache.proofs.ReadLaws.{fixes_self, reads_on, reads_wider}
+use Rattle.mdcache.proofs.ReadLaws.{reads_on, reads_wider}
 use Rattle.mdcache.proofs.ReadSteps.{names_then, read_kept, read_state}
 use Rattle.mdcache.proofs.ReadyChanges.{given_kept, given_state}
 use Rattle.mdcache.proofs.ReadyLaws.{readies_on, ready_kept, ready_state}

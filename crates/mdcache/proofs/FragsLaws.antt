@@ -1,17 +1,15 @@
 -- The laws of what reads keep of the tree over caches and a store, and of why their calls are refused.
-use Rattle.std.specs.Prelude.{◌≡◌, ◌⊎◌, ℕ, ◌+◌, ◌<◌, ◌≤◌, length, refl}
+use Rattle.std.specs.Prelude.{ℕ, ◌<◌, refl}
 use Rattle.std.proofs.Common.{inl, inr, sym, ap, subst, ◌∙◌, arith}
 use Rattle.std.specs.FinMap as map
 use Rattle.mds_types.specs.declared.operations.Op.{Op}
 use Rattle.mds_types.specs.declared.ids.Rank.{Rank}
 use Rattle.mds_types.specs.declared.refusals.Refusal.{Refusal}
-use Rattle.rank_caches.specs.Caches.{cache_of}
-use Rattle.dentry_cache.specs.Cache.{unsaved}
 use Rattle.dentry_cache.specs.Cache.{Leaf}
 use Rattle.namespace_ops.specs.Reasons.{IsOfFragments}
 use Rattle.mdcache.specs.Cached.{Core}
 use Rattle.mdcache.specs.Frags.{KeepsState, LacksFor, MayRefuse}
-use Rattle.mdcache.specs.Made.{IsUntouched, StaysAsItIs}
+use Rattle.mdcache.specs.Made.{IsUntouched}
 use Rattle.mdcache.specs.Reads.{LacksPlaces, LacksPlacesAt}
 use Rattle.mdcache.specs.Shown.{names_of}
 use Rattle.mdcache.specs.State.{IsLive, State, UnsavedLeaves}

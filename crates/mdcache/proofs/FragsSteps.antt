@@ -1,12 +1,11 @@
 -- What making a change ready needs, and how its refusals are those of an operation.
-use Rattle.std.proofs.Common.{◌≡◌, ◌⊎◌, inl, inr, ℕ, ◌+◌, ◌-◌, ◌^◌, ◌<◌, ◌≤◌, Bool, true, false, Option, Some, None, Result, Ok, Err, OnOk, refl, sym, ap, subst, ◌∙◌, arith}
+use Rattle.std.proofs.Common.{◌≡◌, ◌⊎◌, inl, inr, ℕ, ◌-◌, ◌^◌, ◌<◌, ◌≤◌, Bool, true, false, Option, Some, None, Result, Ok, Err, OnOk, refl, sym, ap, subst, ◌∙◌, arith}
 use Rattle.std.specs.Prelude.{IfErr, IfSome, length, unwrap_or}
 use Rattle.std.specs.FinMap as map
 use Rattle.std.specs.Map.{lookup}
 use Rattle.mds_types.specs.declared.dentries.Dentry.{Dentry}
 use Rattle.mds_types.specs.declared.ids.Ino.{Ino}
 use Rattle.mds_types.specs.declared.ids.Rank.{Rank}
-use Rattle.mds_types.specs.declared.inodes.Attributes.{Attributes}
 use Rattle.mds_types.specs.declared.inodes.Inode.{Inode}
 use Rattle.mds_types.specs.declared.inodes.Kind.{Kind}
 use Rattle.mds_types.specs.declared.inodes.Kind.TheVariants.{File, Dir, Symlink as Link}
@@ -14,7 +13,7 @@ use Rattle.mds_types.specs.declared.operations.Op.{Op}
 use Rattle.mds_types.specs.declared.operations.Op.TheVariants.{Lookup, Readdir, Create, Mkdir, Readlink, Symlink, Setattr, Unlink, Rmdir, Rename}
 use Rattle.mds_types.specs.declared.refusals.Refusal.{Refusal}
 use Rattle.mds_types.specs.Frag.{Fragment}
-use Rattle.mds_types.specs.Step.{size_errno, with_attributes}
+use Rattle.mds_types.specs.Step.{size_errno}
 use Rattle.mds_types.specs.Tree.{HasSize, IsUnused, Tree, is_dir_kind, is_directory}
 use Rattle.mds_types.proofs.DirectoryLaws.{StandsAs, directory_stands}
 use Rattle.dirfrag_codec.specs.EntryRecord.{HasTarget, IsRankNumber, IsRecordable}
@@ -34,10 +33,10 @@ use Rattle.mdcache.specs.declared.prepared.Prepared.TheVariants.{Nothing, Remova
 use Rattle.mdcache.specs.declared.ready_move.MovingEntry.{MovingEntry}
 use Rattle.mdcache.specs.Cached.{Core}
 use Rattle.mdcache.specs.Changes.{Makes, first_leaf}
-use Rattle.mdcache.specs.Frags.{IsDirectoryReady, IsForDirectory, IsForMove, IsForRemoval, IsMoveReady, IsNameReady, IsReady, KeepsState, LacksFor, LacksToMake, MayRefuse}
+use Rattle.mdcache.specs.Frags.{IsForDirectory, IsForMove, IsForRemoval, IsNameReady, IsReady, KeepsState, LacksFor, LacksToMake, MayRefuse}
 use Rattle.mdcache.specs.Going.{dir_going}
 use Rattle.mdcache.specs.Reads.{LacksPlaces, LacksPlacesAt, MayNotFind}
-use Rattle.mdcache.specs.Ready.{LacksNumbers, MayNotBeReady}
+use Rattle.mdcache.specs.Ready.{MayNotBeReady}
 use Rattle.mdcache.specs.Shown.{shown_tree}
 use Rattle.mdcache.specs.State.{State}
 

@@ -10,13 +10,12 @@ use Rattle.mds_types.specs.declared.refusals.Refusal.{Refusal}
 use Rattle.mds_types.specs.declared.refusals.Refusal.TheVariants.{NoMemory, NothingToEvict}
 use Rattle.mds_types.specs.Frag.{ContainsFragment, Fragment, span}
 use Rattle.fragtree.specs.FragTree.{leaves_inside, lies_inside}
-use Rattle.fragtree.proofs.TreeLaws.{first_or_later}
 use Rattle.omap.specs.Omap.{Omap}
 use Rattle.dirfrag_codec.specs.FragmentObject.{Names}
 use Rattle.cached_frag.specs.Cached.{Cached}
 use Rattle.cached_frag.specs.Moving.{TakesIn, marked_as}
 use Rattle.dentry_cache.specs.declared.cache.Place.{Place}
-use Rattle.dentry_cache.specs.Cache.{Held, IsFull, IsThere, Leaf, MayMakeRoom, cached, fragment_in, is_kept, kept_place, leaf_is, may_go}
+use Rattle.dentry_cache.specs.Cache.{Held, IsFull, Leaf, MayMakeRoom, cached, fragment_in, is_kept, kept_place, leaf_is}
 use Rattle.dentry_cache.specs.Leaving.{IsFound, IsLeft, LeavesBeside}
 use Rattle.objstore.specs.Objects.{Objects}
 use Rattle.dentry_cache.specs.Loading.{IsNotFetched, Loads, object_of}
@@ -29,8 +28,7 @@ use Rattle.mdcache.specs.Joining.{HasJoined, name_joined}
 use Rattle.mdcache.specs.Ready.{KeepsAtMost}
 use Rattle.mdcache.specs.Reads.{FixesAllBut, MayNotRead, Reads}
 use Rattle.mdcache.specs.Regroups.{KeepsNoMore, Releases}
-use Rattle.mdcache.specs.State.{text_of}
-use Rattle.mdcache.proofs.ReadLaws.{found_there, full_lacks}
+use Rattle.mdcache.proofs.ReadLaws.{full_lacks}
 use Rattle.dentry_cache.proofs.StandingLaws.{kept_none}
 use Rattle.mdcache.proofs.SplitLaws.{has_inside, not_itself}
 

@@ -1,5 +1,5 @@
 -- The names of leaves that are merged are those that the joined fragment contains.
-use Rattle.std.proofs.Common.{◌≡◌, ◌≢◌, ◌⊎◌, inl, inr, ℕ, zero, suc, ◌+◌, ◌/◌, ◌%◌, ◌^◌, ◌<◌, ◌≤◌, ◌&&◌, Bool, true, false, cond, List, [], ◌∷◌, length, Option, Some, None, refl, sym, ap, subst, ◌∙◌, arith}
+use Rattle.std.proofs.Common.{◌≡◌, ◌⊎◌, inl, inr, ℕ, zero, ◌/◌, ◌%◌, ◌^◌, ◌≤◌, Bool, true, false, cond, List, [], ◌∷◌, length, Option, Some, None, refl, sym, ap, subst, ◌∙◌, arith}
 use Rattle.std.specs.Prelude.{map as each}
 use Rattle.std.specs.FinMap as map
 use Rattle.mds_types.specs.declared.ids.Ino.{Ino}
@@ -7,7 +7,6 @@ use Rattle.mds_types.specs.declared.inodes.Inode.{Inode}
 use Rattle.mds_types.specs.Frag.{Contains, Fragment, IsFragment, span}
 use Rattle.mds_types.specs.Tree.{dentry_of}
 use Rattle.fragtree.specs.FragTree.{CanMerge, HasLeaf, IsMerge, IsPick, IsTree, leaves_inside, lies_inside}
-use Rattle.fragtree.proofs.Entries.{one_or_other}
 use Rattle.fragtree.proofs.Ranges.{range_from_inside, span_pos}
 use Rattle.fragtree.proofs.Spelled.{one_leaf as one_of_hash}
 use Rattle.fragtree.proofs.Tilings.{between}
@@ -25,9 +24,8 @@ use Rattle.namespace_ops.specs.Changes.{in_directory}
 use Rattle.mdcache.specs.Joining.{name_joined}
 use Rattle.mdcache.specs.Shown.{names_of, shown_tree}
 use Rattle.mdcache.specs.Sound.{IsSound}
-use Rattle.mdcache.specs.State.{IsLive, State}
+use Rattle.mdcache.specs.State.{State}
 use Rattle.mdcache.proofs.NamedLaws.{pick_at, sound_leaves, stands_at}
-use Rattle.mdcache.proofs.RegroupLaws.{has_or_not}
 use Rattle.mdcache.proofs.SplitLaws.{has_inside, inside_has}
 use Rattle.inode_table.proofs.Tables.{tree_of_row}
 

@@ -1,17 +1,16 @@
 -- The caches of new ranks: of all places that of the root's leaf alone is taken.
-use Rattle.std.proofs.Common.{◌≡◌, ◌⊎◌, inl, inr, ℕ, zero, suc, ◌<◌, ◌≤◌, Bool, true, false, cond, [], ◌∷◌, ◌++◌, length, replicate, Option, Some, None, is_some, refl, sym, ap, subst, ◌∙◌, arith}
+use Rattle.std.proofs.Common.{◌≡◌, ◌⊎◌, inl, inr, ℕ, zero, suc, ◌<◌, ◌≤◌, Bool, true, false, cond, [], ◌∷◌, length, replicate, Some, None, is_some, refl, sym, ap, subst, arith}
 use Rattle.std.specs.Map.{lookup}
-use Rattle.std.proofs.lemmas.List.{append-nil, get_or-replicate, get_or_past, length-replicate}
+use Rattle.std.proofs.lemmas.List.{get_or-replicate, get_or_past, length-replicate}
 use Rattle.std.proofs.lemmas.Bool.{cases_lt}
 use Rattle.lru.specs.LruCache.{lru_cache}
 use Rattle.mds_types.specs.declared.ids.Rank.{Rank}
-use Rattle.dentry_cache.specs.declared.cache.Place.{Place}
 use Rattle.dentry_cache.specs.Cache.{Held, Leaf, Places, held, leaf_is}
 use Rattle.dentry_cache.proofs.LeafLaws.{one_leaf}
-use Rattle.rank_caches.specs.Caches.{Caches, HasNoneBeside, HaveEach, all_of, cache_of, has_place, no_cache, places_of}
+use Rattle.rank_caches.specs.Caches.{Caches, HaveEach, all_of, cache_of, no_cache, places_of}
 use Rattle.rank_caches.proofs.SizeLaws.{new_apart, new_each}
 use Rattle.mdcache.specs.New.{cached_root, new_caches, root_leaf}
-use Rattle.mdcache.specs.Ranks.{AreRanks, KeepsCaches}
+use Rattle.mdcache.specs.Ranks.{AreRanks}
 use Rattle.mdcache.proofs.AtRanks.{caches_then}
 
 abbrev first : Rank

@@ -1,8 +1,7 @@
 -- How many places can't become free, where no place is kept, and where all are taken while one fragment is to stay.
-use Rattle.std.proofs.Common.{◌≡◌, ℕ, ◌+◌, ◌<◌, ◌≤◌, true, false, [], Some, sym, ◌∙◌, arith}
-use Rattle.std.specs.Map.{lookup}
+use Rattle.std.proofs.Common.{◌≡◌, ◌≤◌, true, false, [], Some, sym, ◌∙◌, arith}
 use Rattle.std.specs.FinMap as map
-use Rattle.dentry_cache.specs.Cache.{Held, IsFull, Leaf, Places, is_kept, leaf_is, unsaved}
+use Rattle.dentry_cache.specs.Cache.{Held, IsFull, Leaf, Places, unsaved}
 use Rattle.dentry_cache.specs.Places.{AreDistinct, IsCache, fixed_places, kept_places}
 use Rattle.dentry_cache.proofs.FixedPlaces.{fixed_is, kept_fewer, spare_is}
 use Rattle.dentry_cache.proofs.SpareLaws.{full_but_one}

@@ -15,7 +15,7 @@ use Rattle.dentry_cache.specs.declared.cache.Place.{Place}
 use Rattle.dentry_cache.specs.Leaving.{IsLeft, LeavesBeside}
 use Rattle.dentry_cache.specs.Loading.{Loads, object_of}
 use Rattle.dentry_cache.specs.Places.{IsCache}
-use Rattle.dentry_cache.specs.Ties.{IsTied, IsTiedAt}
+use Rattle.dentry_cache.specs.Ties.{IsTied}
 use Rattle.dentry_cache.proofs.LeafLaws.{leaf_itself, one_leaf}
 use Rattle.dentry_cache.proofs.LeavingLaws.{staying_is_left}
 use Rattle.dentry_cache.proofs.TieLaws.{fetched_are_tied}

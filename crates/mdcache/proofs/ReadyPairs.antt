@@ -1,23 +1,18 @@
 -- What a fetch leaves while one fragment stays where it is.
-use Rattle.std.proofs.Common.{◌≡◌, ◌⊎◌, inl, inr, ℕ, ◌≤◌, Bool, true, false, Option, Some, None, Result, Ok, Err, OnOk, OnErr, refl, sym, ap, subst, ◌∙◌, arith}
+use Rattle.std.proofs.Common.{◌≡◌, ◌⊎◌, inl, inr, Bool, true, false, Option, Some, None, Result, Ok, Err, OnOk, OnErr, refl, sym, ap, subst, ◌∙◌}
 use Rattle.std.specs.Map.{lookup}
-use Rattle.std.specs.FinMap as map
-use Rattle.mds_types.specs.declared.refusals.Refusal.{Refusal}
-use Rattle.mds_types.specs.declared.refusals.Refusal.TheVariants.{NoMemory, StoreFault, NoInodes, Trimmed, NotAuthority, Frozen, Pinned, NoSuchFrag, BadSplit, TooManyFrags, StaleJob, JobOutstanding, WrongExportState, InboxEmpty, InboxFull, NothingToEvict, Damaged, NotClean}
 use Rattle.omap.specs.Omap.{Omap}
 use Rattle.objstore.specs.Objects.{Objects}
 use Rattle.cached_frag.specs.Cached.{Cached}
-use Rattle.dentry_cache.specs.Cache.{Held, IsFull, IsThere, Leaf, MayMakeRoom, cached, fragment_in, leaf_is, unsaved, unsaved_in}
+use Rattle.dentry_cache.specs.Cache.{Held, IsThere, Leaf, cached, fragment_in, leaf_is, unsaved}
 use Rattle.dentry_cache.specs.declared.cache.Place.{Place}
 use Rattle.dentry_cache.specs.Leaving.{IsFound, IsLeft, LeavesBeside}
-use Rattle.dentry_cache.specs.Loading.{IsNotFetched, Loads, MayNotFetch, object_of}
-use Rattle.dentry_cache.proofs.CacheLaws.{get-unsaved}
+use Rattle.dentry_cache.specs.Loading.{IsNotFetched, Loads, object_of}
 use Rattle.dentry_cache.proofs.LeafLaws.{leaf_itself, one_leaf}
 use Rattle.dentry_cache.proofs.LeavingLaws.{staying_is_left}
 use Rattle.dentry_cache.proofs.UsedLaws.{still_absent}
 use Rattle.inode_table.specs.Dirs.{Covers, Homes}
 use Rattle.mdcache.specs.Ready.{Readies}
-use Rattle.mdcache.specs.Sound.{IsSaved}
 use Rattle.mdcache.specs.State.{IsLive}
 
 module _ (two one : Leaf) (objects : Objects) (old new : Held) where

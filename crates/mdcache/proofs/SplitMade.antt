@@ -4,11 +4,10 @@ use Rattle.std.specs.FinMap as map
 use Rattle.mds_types.specs.declared.ids.Ino.{Ino}
 use Rattle.mds_types.specs.declared.refusals.Refusal.{Refusal}
 use Rattle.mds_types.specs.Frag.{Fragment, IsFragment, child_of}
-use Rattle.fragtree.specs.FragTree.{CanSplit, HasLeaf, IsSplit, IsTree}
+use Rattle.fragtree.specs.FragTree.{CanSplit, IsSplit, IsTree}
 use Rattle.fragtree.proofs.Tilings.{between}
 use Rattle.omap.specs.Omap.{Keys}
 use Rattle.objstore.specs.Objects.{Objects}
-use Rattle.dirfrag_codec.specs.FragmentObject.{Names}
 use Rattle.cached_frag.specs.Cached.{Cached, shown}
 use Rattle.dentry_cache.specs.declared.parts.Part.{Part}
 use Rattle.dentry_cache.specs.Cache.{HasCached, Held, IsThere, Leaf, cached, unsaved}

@@ -1,6 +1,5 @@
 -- No two objects of leaves and trees have one name.
 use Rattle.std.proofs.Common.{◌≡◌, ◌^◌, ◌<◌, ℕ, Bool, true, false, ap}
-use Rattle.std.specs.FinMap as map
 use Rattle.mds_types.specs.Frag.{IsFragment, root_fragment}
 use Rattle.mds_types.proofs.ObjectTextLaws.{texts_differ}
 use Rattle.mds_types.specs.declared.ids.Ino.{Ino}

@@ -1,9 +1,7 @@
 -- The caches of all ranks beside a state, and what a call leaves of them.
-use Rattle.std.specs.Prelude.{◌≡◌, ◌<◌, ◌⊎◌, ℕ, true, length, Option, Some}
+use Rattle.std.specs.Prelude.{◌≡◌, ◌<◌, ◌⊎◌, true, length, Option, Some}
 use Rattle.std.specs.Map.{lookup}
 use Rattle.mds_types.specs.declared.ids.Rank.{Rank}
-use Rattle.mds_types.specs.Frag.{Fragment}
-use Rattle.objstore.specs.Objects.{Objects}
 use Rattle.dentry_cache.specs.Cache.{Leaf, is_kept, leaf_is, unsaved}
 use Rattle.inode_table.specs.Dirs.{Covers, Homes, IsLive}
 use Rattle.namespace_ops.specs.declared.plans.Change.{Change}

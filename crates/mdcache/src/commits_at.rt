@@ -42,14 +42,7 @@ pub(crate) fn begin_at(
     ensures places { KeepsNoMore (all_of caches.old) (all_of caches.new) }
     ensures caches { KeepsCaches NoneComes caches.old caches.new }
 {
-    begin_in(
-        caches.of_mut(rank),
-        jobs,
-        number,
-        dir,
-        frag,
-        generation,
-    )
+    begin_in(caches.of_mut(rank), jobs, number, dir, frag, generation)
 }
 
 /// As `Cache::end_commit`, in the cache of a rank.

@@ -29,13 +29,7 @@ impl<S: Store + Drop> MdCache<S> {
         if !stands(&self.jobs, job) {
             return Err(Refusal::StaleJob);
         }
-        if let Err(refusal) = end_at(
-            alloc,
-            &mut self.caches,
-            &mut self.store,
-            rank,
-            encoded,
-        ) {
+        if let Err(refusal) = end_at(alloc, &mut self.caches, &mut self.store, rank, encoded) {
             return Err(refusal);
         }
         self.jobs.end(job.ino, job.frag);

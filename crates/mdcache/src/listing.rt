@@ -47,14 +47,7 @@ impl<S: Store + Drop> MdCache<S> {
         ensures refused { IfErr result (MayNotFind (LacksPlacesAt 1 self.old rank) self.old.faults self.new.faults) }
     {
         give_up_at(&mut self.caches, &mut self.kept, rank);
-        if let Err(refusal) = fetch_at(
-            alloc,
-            &mut self.caches,
-            &mut self.store,
-            rank,
-            dir,
-            frag,
-        ) {
+        if let Err(refusal) = fetch_at(alloc, &mut self.caches, &mut self.store, rank, dir, frag) {
             return Err(refusal);
         }
         gather_cached(self.caches.of(rank), dir, frag, after, page)

@@ -66,13 +66,7 @@ impl<S: Store + Drop> MdCache<S> {
     /// Refused `NoSuchFrag` where no leaf lies properly inside the fragment, and `TooManyFrags` where too many do; otherwise
     /// `NoInodes` exactly where no numbers are left, and then `NothingToEvict` where no place of the cache is free and none can
     /// become so, `StoreFault`, and `NoMemory`.
-    pub fn merge(
-        &mut self,
-        alloc: Global,
-        rank: Rank,
-        dir: Ino,
-        frag: Frag,
-    ) -> Result<(), Refusal>
+    pub fn merge(&mut self, alloc: Global, rank: Rank, dir: Ino, frag: Frag) -> Result<(), Refusal>
         requires there { rank.0 < length self.old.ranks }
         requires holds { (q : Leaf) → Contains (each (in_directory dir.0) (leaves_inside frag (leaves_of self.old.state.covers dir.0))) q → MayHold self.old.ranks rank q }
         ensures merged { MergesLeaves self.old self.new dir frag result }

@@ -27,12 +27,7 @@ impl<S: Store + Drop> MdCache<S> {
     /// Refused `NoInodes` exactly where versions lack for the names that change, or a generation for the leaf of a new
     /// directory; otherwise `NothingToEvict` where fewer than four places of a holder are free or can become so,
     /// `StoreFault`, and `NoMemory`.
-    pub fn prepare(
-        &mut self,
-        alloc: Global,
-        at: Holders,
-        change: &Change,
-    ) -> Result<(), Refusal>
+    pub fn prepare(&mut self, alloc: Global, at: Holders, change: &Change) -> Result<(), Refusal>
         requires holds { MayHoldEach self.old.ranks at change.now }
         requires may { MayChange (shown_tree self.old.state) self.old.state.covers change.now }
         requires numbered { IsNumbered IsRankNumber change.now }

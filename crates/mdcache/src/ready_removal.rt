@@ -16,9 +16,9 @@ ghost use Rattle.mdcache.specs.Shown.{shown_tree};
 
 use crate::going::{Going, going_of};
 use crate::mdcache::MdCache;
-use crate::ready::check_left;
 use crate::readies_at::ready_at;
 use crate::reads_at::give_up_at;
+use crate::ready::check_left;
 use inode_table::Dirs;
 use mds_types::{Dentry, Frag, Ino, Rank, Refusal};
 use objstore::Store;

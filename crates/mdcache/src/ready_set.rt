@@ -16,9 +16,9 @@ ghost use Rattle.mdcache.specs.Reads.{LacksPlacesAt};
 ghost use Rattle.mdcache.specs.Shown.{shown_tree};
 
 use crate::mdcache::MdCache;
-use crate::ready::check_left;
 use crate::readies_at::ready_at;
 use crate::reads_at::give_up_at;
+use crate::ready::check_left;
 use dentry_cache::Cache;
 use mds_types::{Dentry, Frag, Ino, Name, Rank, Refusal};
 use objstore::Store;

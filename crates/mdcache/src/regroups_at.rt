@@ -85,7 +85,9 @@ pub(crate) fn split_at(
     ensures split { HasCached (cached (first_of rank caches.old).entries (dir, frag)) (λ (f : Cached). IsSplit dir frag nb parts version (shown f) (first_of rank caches.old) (first_of rank caches.new)) }
     ensures caches { KeepsCaches NoneComes caches.old caches.new }
 {
-    caches.of_mut(rank).split_into(alloc, dir, frag, nb, parts, version);
+    caches
+        .of_mut(rank)
+        .split_into(alloc, dir, frag, nb, parts, version);
 }
 
 /// As `join_names`, in the cache of a rank.

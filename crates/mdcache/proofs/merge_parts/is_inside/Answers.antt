@@ -1,5 +1,5 @@
 use Rattle.std.proofs.Common.{arith}
-use Rattle.mdcache.proofs.JoinLaws.{is_within, not_within}
+use Rattle.mdcache.proofs.JoinLaws.{is_within}
 use Rattle.mdcache.proofs.merge_parts.is_inside.Goals as goal
 
 pub returns : goal.returns

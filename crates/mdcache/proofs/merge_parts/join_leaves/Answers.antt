@@ -1,4 +1,4 @@
-use Rattle.std.proofs.Common.{◌≡◌, ◌≤◌, ℕ, List, Bool, Some, None, refl, sym, ap, subst, ◌∙◌, arith, drop, length}
+use Rattle.std.proofs.Common.{◌≡◌, refl, sym, ap, subst, ◌∙◌, arith}
 use Rattle.std.specs.List.{Contains}
 use Rattle.std.specs.FinMap as map
 use Rattle.objstore.specs.Objects.{Objects}
@@ -10,7 +10,7 @@ use Rattle.mdcache.specs.Reads.{Reads}
 use Rattle.mdcache.specs.Shown.{names_of}
 use Rattle.mdcache.specs.Sound.{IsSaved}
 use Rattle.mdcache.proofs.JoinLaws.{joined_on, part_among}
-use Rattle.mdcache.proofs.ReadLaws.{reads_on, reads_self, reads_wider, refused_after}
+use Rattle.mdcache.proofs.ReadLaws.{reads_on, reads_self, reads_wider}
 use Rattle.mdcache.proofs.WalkLaws.{reads_tied}
 use Rattle.mdcache.proofs.merge_parts.join_leaves.Goals as goal
 

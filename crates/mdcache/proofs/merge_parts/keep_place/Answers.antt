@@ -1,4 +1,4 @@
-use Rattle.std.proofs.Common.{◌≡◌, sym, ap, ◌∙◌, None}
+use Rattle.std.proofs.Common.{sym, ap, ◌∙◌, None}
 use Rattle.std.specs.Map.{lookup}
 use Rattle.std.specs.FinMap as map
 use Rattle.dentry_cache.specs.Cache.{is_kept, kept_place, leaf_is, unsaved_in}

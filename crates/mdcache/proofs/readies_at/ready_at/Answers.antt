@@ -1,16 +1,11 @@
-use Rattle.std.proofs.Common.{◌≡◌, ◌≢◌, ◌⊎◌, ◌<◌, ◌≤◌, inl, inr, Option, Some, None, OnOk, true, sym, ap, subst, ◌∙◌}
-use Rattle.std.specs.Map.{lookup}
-use Rattle.std.specs.FinMap as map
-use Rattle.mds_types.specs.declared.ids.Rank.{Rank}
+use Rattle.std.proofs.Common.{◌≡◌, ◌≤◌, inl, OnOk, sym, subst}
 use Rattle.cached_frag.specs.Cached.{Cached}
-use Rattle.dentry_cache.specs.Cache.{HasCached, HasRoom, Held, Leaf, cached, is_kept, leaf_is}
+use Rattle.dentry_cache.specs.Cache.{HasCached, HasRoom, Held, Leaf, cached}
 use Rattle.dentry_cache.specs.Loading.{object_of}
-use Rattle.rank_caches.specs.Caches.{HasNoneBeside, all_of, cache_of, with_cache}
+use Rattle.rank_caches.specs.Caches.{HasNoneBeside, cache_of}
 use Rattle.rank_caches.proofs.PlaceLaws.{cache_beside, cache_there}
-use Rattle.mdcache.specs.Changes.{first_leaf}
-use Rattle.mdcache.specs.Ranks.{IsThat}
-use Rattle.mdcache.specs.Ready.{KeepsAtMost, Readies, ReadiesAt}
-use Rattle.mdcache.specs.Reads.{FixesNoMore, KeepsNoMore}
+use Rattle.mdcache.specs.Ready.{Readies}
+use Rattle.mdcache.specs.Reads.{FixesNoMore}
 use Rattle.mdcache.specs.Sound.{IsSaved}
 use Rattle.mdcache.proofs.AtRanks.{no_more_over, ready_at, ready_may, saved_there}
 use Rattle.mdcache.proofs.readies_at.ready_at.Goals as goal

@@ -1,5 +1,4 @@
 use Rattle.std.proofs.Common.{subst}
-use Rattle.dentry_cache.specs.Cache.{Held}
 use Rattle.dentry_cache.specs.Places.{IsCache}
 use Rattle.mdcache.proofs.AtRanks.{none_at}
 use Rattle.mdcache.proofs.PlaceLaws.{fixed_unsaved}

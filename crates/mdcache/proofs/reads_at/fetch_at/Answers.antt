@@ -1,10 +1,8 @@
-use Rattle.std.proofs.Common.{◌≡◌, ◌⊎◌, Option, Some, None, OnOk, IfOk, IfErr, sym, ap, subst, ◌∙◌}
-use Rattle.std.specs.FinMap as map
-use Rattle.cached_frag.specs.Cached.{Cached, shown}
-use Rattle.dentry_cache.specs.Cache.{HasCached, Held, IsThere, Leaf, cached}
+use Rattle.std.proofs.Common.{◌≡◌, OnOk, sym, subst}
+use Rattle.dentry_cache.specs.Cache.{Held, IsThere, Leaf, cached}
 use Rattle.dentry_cache.specs.Loading.{object_of}
-use Rattle.rank_caches.specs.Caches.{HasNoneBeside, all_of, cache_of, with_cache}
-use Rattle.mdcache.specs.Reads.{MayNotRead, Reads}
+use Rattle.rank_caches.specs.Caches.{HasNoneBeside, cache_of, with_cache}
+use Rattle.mdcache.specs.Reads.{Reads}
 use Rattle.mdcache.specs.Sound.{IsSaved}
 use Rattle.mdcache.specs.Ranks.{IsThat}
 use Rattle.mdcache.proofs.AtRanks.{holds_on, read_at, saved_there}

@@ -1,4 +1,4 @@
-use Rattle.std.proofs.Common.{Option, sym, subst}
+use Rattle.std.proofs.Common.{Option, subst}
 use Rattle.mds_types.specs.declared.ids.Rank.{Rank}
 use Rattle.dentry_cache.specs.Cache.{Leaf}
 use Rattle.mdcache.specs.Ranks.{KeepsOnlyAt}

@@ -1,10 +1,10 @@
-use Rattle.std.proofs.Common.{◌≡◌, ◌⊎◌, Option, Some, None, OnOk, IfOk, IfErr, sym, ap, subst, ◌∙◌}
+use Rattle.std.proofs.Common.{◌≡◌, Option, IfOk, sym, subst}
 use Rattle.std.specs.FinMap as map
 use Rattle.cached_frag.specs.Cached.{Cached, shown}
-use Rattle.dentry_cache.specs.Cache.{HasCached, Held, IsThere, Leaf, cached}
+use Rattle.dentry_cache.specs.Cache.{HasCached, Held, Leaf}
 use Rattle.dentry_cache.specs.Loading.{object_of}
-use Rattle.rank_caches.specs.Caches.{HasNoneBeside, all_of, cache_of, with_cache}
-use Rattle.mdcache.specs.Reads.{MayNotRead, Reads}
+use Rattle.rank_caches.specs.Caches.{HasNoneBeside, cache_of}
+use Rattle.mdcache.specs.Reads.{Reads}
 use Rattle.mdcache.specs.Sound.{IsSaved}
 use Rattle.mdcache.proofs.AtRanks.{cached_then, read_at, read_may, saved_there}
 use Rattle.mdcache.proofs.reads_at.look_at.Goals as goal

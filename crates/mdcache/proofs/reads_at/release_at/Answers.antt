@@ -1,8 +1,5 @@
-use Rattle.std.proofs.Common.{◌≡◌, ◌<◌, ◌≤◌, length, sym, subst, arith}
-use Rattle.std.specs.FinMap as map
-use Rattle.objstore.specs.Objects.{Objects}
+use Rattle.std.proofs.Common.{◌≡◌, ◌<◌, length, subst, arith}
 use Rattle.dentry_cache.specs.Cache.{Held, Leaf, cached}
-use Rattle.rank_caches.specs.Caches.{cache_of}
 use Rattle.mdcache.specs.Reads.{KeepsNoMore, Reads}
 use Rattle.mdcache.proofs.AtReads.{none_past, none_then, released_at}
 use Rattle.mdcache.proofs.reads_at.release_at.Goals as goal

@@ -1,4 +1,4 @@
-use Rattle.std.proofs.Common.{◌+◌, List, sym, ap, subst, ◌∙◌, arith}
+use Rattle.std.proofs.Common.{◌+◌, sym, ap, subst, ◌∙◌, arith}
 use Rattle.std.specs.Prelude.{map as each, string_bytes}
 use Rattle.mds_types.specs.Frag.{Fragment}
 use Rattle.mdcache.specs.State.{text_of}

@@ -1,4 +1,4 @@
-use Rattle.std.proofs.Common.{◌≡◌, ap, ◌∙◌}
+use Rattle.std.proofs.Common.{ap, ◌∙◌}
 use Rattle.mds_types.specs.Frag.{child_of}
 use Rattle.dentry_cache.specs.Cache.{is_kept}
 use Rattle.std.proofs.lemmas.Result.{on_ok_weaker}

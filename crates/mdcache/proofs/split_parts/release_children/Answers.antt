@@ -1,4 +1,4 @@
-use Rattle.std.proofs.Common.{◌≡◌, ℕ, refl, arith}
+use Rattle.std.proofs.Common.{ℕ, refl, arith}
 use Rattle.mds_types.specs.Frag.{child_of}
 use Rattle.mdcache.proofs.FreedLaws.{free_on, releases_on, releases_self}
 use Rattle.mdcache.proofs.split_parts.release_children.Goals as goal

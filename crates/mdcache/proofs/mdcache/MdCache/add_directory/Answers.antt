@@ -57,8 +57,7 @@ invariant_of-self g c =
     let holds = subst (λ (v : Core). MayHold v.ranks c.args.rank (c.args.dentry.dir, c.args.leaf)) (sym c.self.view_is) c.requires.holds in
     let may = subst (λ (v : Core). MayChange (shown_tree v.state) v.state.covers (Add c.args.dentry c.args.leaf c.args.inode)) (sym c.self.view_is) c.requires.may in
     let homes = c.adopt.ensures.homes ∙ ap (λ (n : List ℕ). map.insert c.self.inside.dirs.homes c.args.inode.ino.0 (record { parent = c.args.dentry.dir; name = n })) c.requires.name in
-    let filled = c.fill_at.ensures.filled ∙ ap (λ (k : Cached). used_as (first_leaf c.args.inode.ino) (held k) (first_of c.args.rank c.put_at.new.caches)) c.fresh.ensures in
-    (
+    let filled = c.fill_at.ensures.filled ∙ ap (λ (k : Cached). used_as (first_leaf c.args.inode.ino) (held k) (first_of c.args.rank c.put_at.new.caches)) c.fresh.ensures in (
       added_kept c.self.inside.dirs c.self.inside.caches (g.S.Store.objects c.self.inside.store) c.self.inside.jobs c.self.inside.purge c.self.inside.next c.self.invariant.0 c.self.invariant.2 c.args.rank holds.there c.args.dentry c.args.leaf c.args.inode may c.has_64_bits.ensures c.put_at.new.caches c.put_at.ensures.caches c.put_at.ensures.changed c.requires.directory c.adopt.new.self homes c.adopt.ensures.trees c.fill_at.new.caches c.fill_at.ensures.caches filled c.remove.new.self c.args.object.now c.requires.object c.remove.ensures.removed,
       added_only c.self.inside.dirs c.self.inside.caches (g.S.Store.objects c.self.inside.store) c.self.inside.jobs c.self.inside.purge c.self.inside.next c.self.invariant.0 c.self.invariant.2 c.args.rank holds.there c.args.dentry c.args.leaf c.args.inode may c.has_64_bits.ensures c.put_at.new.caches c.put_at.ensures.caches c.put_at.ensures.changed c.requires.directory c.adopt.new.self homes c.adopt.ensures.trees c.fill_at.new.caches c.fill_at.ensures.caches filled c.remove.new.self c.args.object.now c.requires.object c.remove.ensures.removed c.self.inside.kept c.self.invariant.1 (subst (λ (v : Core). is_kept (lookup (leaf_is (first_leaf c.args.inode.ino)) (cache_of v.ranks c.args.rank).entries) ≡ true) (sym c.self.view_is) c.requires.place),
       c.fill_at.ensures.caches.ranks,

@@ -46,9 +46,9 @@ pub invariant_of-self-2 : goal.invariant_of-self-2
 invariant_of-self-2 g c =
     let there = (subst (λ (v : Core). MayHold v.ranks c.args.rank (leaf_of c.args.encoded.now.job)) (sym c.self.view_is) c.requires.holds).there in (
       kept_back c.self.inside.dirs (g.S.Store.objects c.end_at.new.store) c.end.new.self c.self.inside.purge c.self.inside.next c.end_at.new.caches c.args.rank (there_then NoneComes c.self.inside.caches c.end_at.new.caches c.args.rank c.end_at.ensures.caches there) c.end_at.ensures.caches.ranks (
-      end_kept c.self.inside.dirs (first_of c.args.rank c.self.inside.caches) (g.S.Store.objects c.self.inside.store) c.self.inside.jobs c.self.inside.purge c.self.inside.next (kept_first c.self.inside.dirs (g.S.Store.objects c.self.inside.store) c.self.inside.jobs c.self.inside.purge c.self.inside.next c.self.inside.caches c.args.rank there c.self.invariant.2 c.self.invariant.0) c.args.encoded.now.job (subst (λ (j : Job). map.get c.self.inside.jobs.jobs (leaf_of j) ≡ Some j) c.job-job.ensures.job (c.stands.ensures.0 c.if-not-stands.false))
-      (first_of c.args.rank c.end_at.new.caches) (g.S.Store.objects c.end_at.new.store) c.end.new.self c.args.encoded.now.op c.in_default.ensures.written (ap (λ (e : Carried). e.op) c.job-job.ensures.valid) c.in_default.ensures.settled
-      (c.end.ensures.ended ∙ ap (λ (j : Job). map.remove c.self.inside.jobs.jobs (leaf_of j)) c.job-job.ensures.job)),
+          end_kept c.self.inside.dirs (first_of c.args.rank c.self.inside.caches) (g.S.Store.objects c.self.inside.store) c.self.inside.jobs c.self.inside.purge c.self.inside.next (kept_first c.self.inside.dirs (g.S.Store.objects c.self.inside.store) c.self.inside.jobs c.self.inside.purge c.self.inside.next c.self.inside.caches c.args.rank there c.self.invariant.2 c.self.invariant.0) c.args.encoded.now.job (subst (λ (j : Job). map.get c.self.inside.jobs.jobs (leaf_of j) ≡ Some j) c.job-job.ensures.job (c.stands.ensures.0 c.if-not-stands.false))
+          (first_of c.args.rank c.end_at.new.caches) (g.S.Store.objects c.end_at.new.store) c.end.new.self c.args.encoded.now.op c.in_default.ensures.written (ap (λ (e : Carried). e.op) c.job-job.ensures.valid) c.in_default.ensures.settled
+          (c.end.ensures.ended ∙ ap (λ (j : Job). map.remove c.self.inside.jobs.jobs (leaf_of j)) c.job-job.ensures.job)),
       only_on c.self.inside.kept c.self.inside.caches c.end_at.new.caches c.self.invariant.2.apart c.end_at.ensures.caches
           (no_more_back NoneComes c.self.inside.caches c.end_at.new.caches c.args.rank there c.self.invariant.2 c.end_at.ensures.caches (changed_no_more _ (leaf_of c.args.encoded.now.job) (first_of c.args.rank c.self.inside.caches) (first_of c.args.rank c.end_at.new.caches) c.in_default.ensures.settled)) c.self.invariant.1,
       c.end_at.ensures.caches.ranks,

@@ -1,30 +1,16 @@
-use Rattle.std.proofs.Common.{◌≡◌, ◌⊎◌, ◌<◌, ◌+◌, inl, inr, ℕ, List, Some, Option, length, sym, ap, subst, ◌∙◌, arith}
-use Rattle.std.specs.Prelude.{IfErr, IfOk, OnOk}
+use Rattle.std.proofs.Common.{◌≡◌, ◌<◌, ◌+◌, List, Option, length, sym, ap, subst, ◌∙◌, arith}
+use Rattle.std.specs.Prelude.{OnOk}
 use Rattle.std.specs.FinMap as map
-use Rattle.mds_types.specs.Tree.{is_directory}
-use Rattle.mds_types.specs.declared.ids.Rank.{Rank}
-use Rattle.fragtree.specs.FragTree.{IsPick}
-use Rattle.namehash.specs.Rjenkins.{hash_of}
-use Rattle.objstore.specs.Objects.{Objects}
 use Rattle.dentry_cache.specs.Cache.{HasCached, Held, Leaf, cached, unsaved}
-use Rattle.inode_table.specs.Dirs.{leaves_of}
 use Rattle.rank_caches.specs.Caches.{all_of, cache_of}
-use Rattle.mdcache.specs.Cached.{Core, state_of}
-use Rattle.mdcache.specs.Frags.{KeepsState}
+use Rattle.mdcache.specs.Cached.{Core}
 use Rattle.mdcache.specs.Ranks.{IsThat, KeepsCaches, MayHold}
-use Rattle.mdcache.specs.Ready.{LacksNumbers, MayNotBeReady}
 use Rattle.mdcache.specs.Reads.{LacksPlacesAt, MayNotFind}
-use Rattle.mdcache.specs.Shown.{shown_tree}
-use Rattle.mdcache.specs.State.{IsLive, State}
-use Rattle.mdcache.proofs.AtRanks.{holds_after, none_only}
-use Rattle.mdcache.proofs.AtReads.{both_reads, made_caches, made_kept, made_only, made_state, made_unsaved, mid_kept, mid_saved, mid_state, new_caches, new_kept, new_only, new_state, new_unsaved, words_at}
-use Rattle.mdcache.proofs.ReadLaws.{map_if_ok}
-use Rattle.mdcache.proofs.ReadSteps.{dir_known, found_there, pick_live}
-use Rattle.mdcache.proofs.ReadyLaws.{map_if_err, neither, not_cached, roomy_kept, roomy_state, unknown_dead}
-use Rattle.mdcache.proofs.ReadyChanges.{listed_kept, listed_state, tree_has}
+use Rattle.mdcache.specs.State.{IsLive}
+use Rattle.mdcache.proofs.AtRanks.{holds_after}
+use Rattle.mdcache.proofs.AtReads.{mid_saved, new_caches, new_kept, new_only, new_state, new_unsaved, words_at}
 use Rattle.cached_frag.specs.Cached.{Cached, shown}
 use Rattle.dirfrag_codec.specs.FragmentObject.{Names}
-use Rattle.mdcache.specs.Reads.{has_none}
 use Rattle.mdcache.specs.Shown.{names_of}
 use Rattle.mdcache.proofs.AtRanks.{cached_here}
 use Rattle.mdcache.proofs.AtReads.{on_names}
@@ -111,4 +97,3 @@ returns-clause-page g c =
     subst (λ (k : Core). (whole : List Row) → IsPageOf whole c.args.page.now → OnOk c.gather_cached.result (IsPageOf (puts key_cmp whole (rows_after (option_copied c.args.after) (map.entries (names_of k.state.unsaved k.state.objects (c.args.dir, c.args.frag))))) c.gather_cached.new.page)) c.self.view_is
     (on_names c.self.inside.dirs c.self.inside.caches (g.S.Store.objects c.self.inside.store) c.self.inside.jobs c.self.inside.purge c.self.inside.next c.self.invariant.0 c.give_up_at.new.caches c.give_up_at.ensures.none (c.give_up_at.ensures.at (g.S.Store.objects c.self.inside.store)) (IsThat c.args.rank (c.args.dir, c.args.frag)) (λ (q : Leaf). q ≡ (c.args.dir, c.args.frag)) come c.fetch_at.new.caches (g.S.Store.objects c.fetch_at.new.store) c.in_default.ensures.same c.in_default.ensures.at (c.args.dir, c.args.frag) (λ (names : Names). (whole : List Row) → IsPageOf whole c.args.page.now → OnOk c.gather_cached.result (IsPageOf (puts key_cmp whole (rows_after (option_copied c.args.after) (map.entries names))) c.gather_cached.new.page))
     (subst (λ (o : Option Cached). HasCached o (λ (f : Cached). (λ (names : Names). (whole : List Row) → IsPageOf whole c.args.page.now → OnOk c.gather_cached.result (IsPageOf (puts key_cmp whole (rows_after (option_copied c.args.after) (map.entries names))) c.gather_cached.new.page)) (shown f))) (sym (cached_here c.fetch_at.new.caches c.args.rank (c.args.dir, c.args.frag) c.in_default.ensures.holds.alone)) (subst (λ (h : Held). HasCached (cached h.entries (c.args.dir, c.args.frag)) (λ (f : Cached). (λ (names : Names). (whole : List Row) → IsPageOf whole c.args.page.now → OnOk c.gather_cached.result (IsPageOf (puts key_cmp whole (rows_after (option_copied c.args.after) (map.entries names))) c.gather_cached.new.page)) (shown f))) c.of.ensures c.gather_cached.ensures.page)))
-

@@ -1,23 +1,19 @@
-use Rattle.std.proofs.Common.{◌≡◌, ◌⊎◌, ◌<◌, ◌+◌, inl, inr, ℕ, Option, length, sym, ap, subst, ◌∙◌, arith}
-use Rattle.std.specs.Prelude.{IfErr, IfOk}
+use Rattle.std.proofs.Common.{◌≡◌, ◌<◌, ◌+◌, length, sym, ap, subst, ◌∙◌, arith}
+use Rattle.std.specs.Prelude.{IfErr}
 use Rattle.std.specs.FinMap as map
 use Rattle.mds_types.specs.Tree.{is_directory}
-use Rattle.mds_types.specs.declared.ids.Rank.{Rank}
 use Rattle.fragtree.specs.FragTree.{IsPick}
 use Rattle.namehash.specs.Rjenkins.{hash_of}
-use Rattle.objstore.specs.Objects.{Objects}
-use Rattle.dentry_cache.specs.Cache.{Leaf, cached, unsaved}
+use Rattle.dentry_cache.specs.Cache.{Leaf, unsaved}
 use Rattle.inode_table.specs.Dirs.{leaves_of}
 use Rattle.rank_caches.specs.Caches.{all_of, cache_of}
-use Rattle.mdcache.specs.Cached.{Core, state_of}
-use Rattle.mdcache.specs.Frags.{KeepsState}
+use Rattle.mdcache.specs.Cached.{Core}
 use Rattle.mdcache.specs.Ranks.{IsThat, KeepsCaches, MayHold}
-use Rattle.mdcache.specs.Ready.{LacksNumbers, MayNotBeReady}
 use Rattle.mdcache.specs.Reads.{LacksPlacesAt, MayNotFind}
 use Rattle.mdcache.specs.Shown.{shown_tree}
-use Rattle.mdcache.specs.State.{IsLive, State}
-use Rattle.mdcache.proofs.AtRanks.{holds_after, none_only}
-use Rattle.mdcache.proofs.AtReads.{both_reads, made_caches, made_kept, made_only, made_state, made_unsaved, mid_kept, mid_saved, mid_state, new_caches, new_kept, new_only, new_state, new_unsaved, words_at}
+use Rattle.mdcache.specs.State.{IsLive}
+use Rattle.mdcache.proofs.AtRanks.{holds_after}
+use Rattle.mdcache.proofs.AtReads.{both_reads, mid_saved, new_caches, new_kept, new_only, new_state, new_unsaved, words_at}
 use Rattle.mdcache.proofs.ReadLaws.{map_if_ok}
 use Rattle.mdcache.proofs.ReadSteps.{dir_known, found_there, pick_live}
 use Rattle.mdcache.proofs.ReadyLaws.{map_if_err}

@@ -55,8 +55,7 @@ invariant_of-self g c =
     let stands = subst (λ (v : Core). map.get (shown_tree v.state) c.args.from ≡ Some c.args.inode) (sym c.self.view_is) c.requires.stands in
     let named : c.args.to ≡ record { dir = c.args.to.dir; name = c.args.name } = λ i. record { dir = c.args.to.dir; name = sym c.requires.name i } in
     let homes = c.relocate.ensures.homes ∙ ap (λ (to : Dentry). with_home c.self.inside.dirs.homes to c.args.inode) (sym named) in
-    let prepared = subst (λ (v : Core). IsGoingOrNone v.state.covers c.args.going) (sym c.self.view_is) c.requires.going in
-    (
+    let prepared = subst (λ (v : Core). IsGoingOrNone v.state.covers c.args.going) (sym c.self.view_is) c.requires.going in (
       move_kept c.self.inside.dirs c.self.inside.caches (g.S.Store.objects c.self.inside.store) c.self.inside.jobs c.self.inside.purge c.self.inside.next c.self.invariant.0 c.self.invariant.2 c.args.at.first c.args.at.second source_holds.there target_holds.there c.args.from c.args.to c.args.source c.args.target c.args.inode c.args.going may stands c.erase_at.new.caches c.erase_at.ensures.caches c.erase_at.ensures.changed c.relocate.new.dirs homes c.relocate.ensures.covers c.put_at.new.caches c.put_at.ensures.caches c.put_at.ensures.changed prepared c.remove_dir.new.dirs c.remove_dir.new.caches c.remove_dir.new.jobs c.remove_dir.new.purge c.remove_dir.ensures.homes c.remove_dir.ensures.covers c.remove_dir.ensures.gone c.remove_dir.ensures.caches c.remove_dir.ensures.jobs c.remove_dir.ensures.purge,
       move_only c.self.inside.dirs c.self.inside.caches (g.S.Store.objects c.self.inside.store) c.self.inside.jobs c.self.inside.purge c.self.inside.next c.self.invariant.0 c.self.invariant.2 c.args.at.first c.args.at.second source_holds.there target_holds.there c.args.from c.args.to c.args.source c.args.target c.args.inode c.args.going may stands c.erase_at.new.caches c.erase_at.ensures.caches c.erase_at.ensures.changed c.relocate.new.dirs homes c.relocate.ensures.covers c.put_at.new.caches c.put_at.ensures.caches c.put_at.ensures.changed prepared c.remove_dir.new.dirs c.remove_dir.new.caches c.remove_dir.new.jobs c.remove_dir.new.purge c.remove_dir.ensures.homes c.remove_dir.ensures.covers c.remove_dir.ensures.gone c.remove_dir.ensures.caches c.remove_dir.ensures.jobs c.remove_dir.ensures.purge c.self.inside.kept c.self.invariant.1,
       c.remove_dir.ensures.caches.ranks,

@@ -1,4 +1,4 @@
-use Rattle.std.proofs.Common.{◌≡◌, None, refl, sym, ap, subst, ◌∙◌}
+use Rattle.std.proofs.Common.{None, refl, sym, ap, subst, ◌∙◌}
 use Rattle.dentry_cache.specs.Cache.{Held}
 use Rattle.rank_caches.specs.Caches.{Caches, all_of}
 use Rattle.mdcache.specs.Cached.{KeepsNone}

@@ -1,27 +1,21 @@
-use Rattle.std.proofs.Common.{◌≡◌, ◌⊎◌, ◌<◌, ◌+◌, inl, inr, ℕ, None, Option, length, sym, ap, subst, ◌∙◌, arith}
-use Rattle.std.specs.Prelude.{IfErr, IfOk}
+use Rattle.std.proofs.Common.{◌≡◌, ◌⊎◌, ◌<◌, ◌+◌, inr, None, length, sym, ap, subst, ◌∙◌, arith}
 use Rattle.std.specs.FinMap as map
 use Rattle.mds_types.specs.Tree.{is_directory}
-use Rattle.mds_types.specs.declared.ids.Rank.{Rank}
 use Rattle.fragtree.specs.FragTree.{IsPick}
 use Rattle.namehash.specs.Rjenkins.{hash_of}
-use Rattle.objstore.specs.Objects.{Objects}
 use Rattle.dentry_cache.specs.Cache.{Leaf, cached, unsaved}
 use Rattle.inode_table.specs.Dirs.{leaves_of}
 use Rattle.rank_caches.specs.Caches.{all_of, cache_of}
-use Rattle.mdcache.specs.Cached.{Core, state_of}
-use Rattle.mdcache.specs.Frags.{KeepsState}
+use Rattle.mdcache.specs.Cached.{Core}
 use Rattle.mdcache.specs.Ranks.{IsThat, KeepsCaches, MayHold}
 use Rattle.mdcache.specs.Ready.{LacksNumbers, MayNotBeReady}
-use Rattle.mdcache.specs.Reads.{LacksPlacesAt, MayNotFind}
+use Rattle.mdcache.specs.Reads.{LacksPlacesAt}
 use Rattle.mdcache.specs.Shown.{shown_tree}
-use Rattle.mdcache.specs.State.{IsLive, State}
-use Rattle.mdcache.proofs.AtRanks.{holds_after, none_only}
-use Rattle.mdcache.proofs.AtReads.{both_reads, made_caches, made_kept, made_only, made_state, made_unsaved, mid_kept, mid_saved, mid_state, new_caches, new_kept, new_only, new_state, new_unsaved, words_at}
-use Rattle.mdcache.proofs.ReadLaws.{map_if_ok}
-use Rattle.mdcache.proofs.ReadSteps.{dir_known, found_there, pick_live}
-use Rattle.mdcache.proofs.ReadyLaws.{map_if_err, neither, not_cached, roomy_kept, roomy_state, unknown_dead}
-use Rattle.mdcache.proofs.ReadyChanges.{listed_kept, listed_state, tree_has}
+use Rattle.mdcache.specs.State.{IsLive}
+use Rattle.mdcache.proofs.AtRanks.{holds_after}
+use Rattle.mdcache.proofs.AtReads.{made_caches, made_kept, made_only, made_state, made_unsaved, mid_kept, mid_saved, words_at}
+use Rattle.mdcache.proofs.ReadSteps.{pick_live}
+use Rattle.mdcache.proofs.ReadyLaws.{neither, not_cached, roomy_kept, roomy_state, unknown_dead}
 use Rattle.mds_types.specs.Frag.{root_fragment}
 use Rattle.mdcache.specs.Changes.{first_leaf}
 use Rattle.mdcache.proofs.AtRanks.{held_by_any, one_only}
@@ -122,4 +116,3 @@ returns-clause-caches g c =
     let live : IsLive c.self.inside.dirs.homes c.self.inside.dirs.trees (c.args.dentry.now.dir, c.args.leaf) = pick_live c.self.inside.dirs (all_of c.self.inside.caches) (g.S.Store.objects c.self.inside.store) c.self.inside.jobs c.self.inside.purge c.self.inside.next c.self.invariant.0 c.args.dentry.now.dir (hash_of c.args.dentry.now.name) c.args.leaf known pick in
     let come : (q : Leaf) → q ≡ (c.args.dentry.now.dir, c.args.leaf) → IsLive c.self.inside.dirs.homes c.self.inside.dirs.trees q = λ q is. subst (IsLive c.self.inside.dirs.homes c.self.inside.dirs.trees) (sym is) live in
     subst (λ (k : Core). KeepsCaches (λ other q. IsThat c.args.rank (c.args.dentry.now.dir, c.args.leaf) other q ⊎ IsThat c.args.rank (first_leaf c.args.dir) other q) k.ranks c.ready_first_at.new.caches) c.self.view_is (made_caches c.self.inside.dirs c.self.inside.caches (g.S.Store.objects c.self.inside.store) c.self.inside.jobs c.self.inside.purge c.self.inside.next c.self.invariant.0 c.give_up_at.new.caches c.give_up_at.ensures.none (c.give_up_at.ensures.at (g.S.Store.objects c.self.inside.store)) (λ other q. IsThat c.args.rank (c.args.dentry.now.dir, c.args.leaf) other q ⊎ IsThat c.args.rank (first_leaf c.args.dir) other q) (λ (q : Leaf). q ≡ (c.args.dentry.now.dir, c.args.leaf)) come c.ready_first_at.new.caches (g.S.Store.objects c.ready_first_at.new.store) c.in_default-ready_first_at.ensures.same c.in_default-ready_first_at.ensures.at)
-

@@ -1,26 +1,21 @@
-use Rattle.std.proofs.Common.{◌≡◌, ◌⊎◌, ◌<◌, ◌+◌, inl, inr, ℕ, true, Some, Option, length, sym, ap, subst, ◌∙◌, arith}
-use Rattle.std.specs.Prelude.{IfErr, IfOk, is_some}
+use Rattle.std.proofs.Common.{◌≡◌, ◌⊎◌, ◌<◌, ◌+◌, inr, true, Some, Option, length, sym, ap, subst, ◌∙◌, arith}
+use Rattle.std.specs.Prelude.{is_some}
 use Rattle.std.specs.FinMap as map
 use Rattle.mds_types.specs.Tree.{is_directory}
-use Rattle.mds_types.specs.declared.ids.Rank.{Rank}
 use Rattle.fragtree.specs.FragTree.{IsPick}
 use Rattle.namehash.specs.Rjenkins.{hash_of}
-use Rattle.objstore.specs.Objects.{Objects}
 use Rattle.dentry_cache.specs.Cache.{HasCached, Held, Leaf, cached, unsaved}
 use Rattle.inode_table.specs.Dirs.{leaves_of}
 use Rattle.rank_caches.specs.Caches.{all_of, cache_of}
-use Rattle.mdcache.specs.Cached.{Core, state_of}
-use Rattle.mdcache.specs.Frags.{KeepsState}
+use Rattle.mdcache.specs.Cached.{Core}
 use Rattle.mdcache.specs.Ranks.{IsThat, KeepsCaches, MayHold}
 use Rattle.mdcache.specs.Ready.{LacksNumbers, MayNotBeReady}
-use Rattle.mdcache.specs.Reads.{LacksPlacesAt, MayNotFind}
+use Rattle.mdcache.specs.Reads.{LacksPlacesAt}
 use Rattle.mdcache.specs.Shown.{shown_tree}
 use Rattle.mdcache.specs.State.{IsLive, State}
-use Rattle.mdcache.proofs.AtRanks.{holds_after, none_only}
-use Rattle.mdcache.proofs.AtReads.{both_reads, one_holder, words_two, made_caches, made_kept, made_only, made_state, made_unsaved, mid_kept, mid_saved, mid_state, new_caches, new_kept, new_only, new_state, new_unsaved, words_at}
-use Rattle.mdcache.proofs.ReadLaws.{map_if_ok}
-use Rattle.mdcache.proofs.ReadSteps.{dir_known, found_there, pick_live}
-use Rattle.mdcache.proofs.ReadyLaws.{map_if_err, neither, not_cached, roomy_kept, roomy_state, unknown_dead}
+use Rattle.mdcache.proofs.AtRanks.{holds_after}
+use Rattle.mdcache.proofs.AtReads.{one_holder, words_two, made_caches, made_kept, made_only, made_state, made_unsaved, mid_kept, mid_saved, mid_state}
+use Rattle.mdcache.proofs.ReadSteps.{dir_known, pick_live}
 use Rattle.mdcache.proofs.ReadyChanges.{listed_kept, cached_has, listed_state, tree_has}
 use Rattle.mds_types.specs.declared.inodes.Inode.{Inode}
 use Rattle.cached_frag.specs.Cached.{Cached, shown}
@@ -227,4 +222,3 @@ returns-clause-inode g c =
     (tree_has c.self.inside.dirs (all_of c.give_up_at.new.caches) (g.S.Store.objects c.self.inside.store) c.self.inside.jobs c.self.inside.purge c.self.inside.next (mid_kept c.self.inside.dirs c.self.inside.caches (g.S.Store.objects c.self.inside.store) c.self.inside.jobs c.self.inside.purge c.self.inside.next c.self.invariant.0 c.give_up_at.new.caches c.give_up_at.ensures.none (c.give_up_at.ensures.at (g.S.Store.objects c.self.inside.store))) (λ (q : Leaf). (q ≡ (c.args.from.now.dir, c.args.source)) ⊎ (q ≡ (c.args.to.now.dir, c.args.target))) (all_of c.ready_pair_at.new.caches) (g.S.Store.objects c.ready_pair_at.new.store) c.in_default-ready_pair_at.ensures.same c.in_default-ready_pair_at.ensures.at.left come c.args.from.now c.args.source (dir_known c.self.inside.dirs (all_of c.self.inside.caches) (g.S.Store.objects c.self.inside.store) c.self.inside.jobs c.self.inside.purge c.self.inside.next c.self.invariant.0 c.args.from.now.dir.0 first_known) first_pick (λ (o : Option Inode). o ≡ Some c.in_ok-inode.inode)
     (subst (λ (o : Option Cached). HasCached o (λ (f : Cached). map.get (shown f) c.args.from.now.name ≡ Some c.in_ok-inode.inode)) (sym (cached_here c.ready_pair_at.new.caches c.args.at.first (c.args.from.now.dir, c.args.source) (holds_on (λ other q. IsThat c.args.at.first (c.args.from.now.dir, c.args.source) other q ⊎ IsThat c.args.at.second (c.args.to.now.dir, c.args.target) other q) c.give_up_at.new.caches c.ready_pair_at.new.caches c.args.at.first (c.args.from.now.dir, c.args.source) (one_holder c.args.at.first c.args.at.second (c.args.from.now.dir, c.args.source) (c.args.to.now.dir, c.args.target) c.requires.one) c.in_default-ready_pair_at.ensures.at.caches (holds_after c.self.inside.caches c.give_up_at.new.caches c.args.at.first (c.args.from.now.dir, c.args.source) (c.give_up_at.ensures.at (g.S.Store.objects c.self.inside.store)).caches source_holds)).alone))
     (subst (λ (h : Held). HasCached (cached h.entries (c.args.from.now.dir, c.args.source)) (λ (f : Cached). map.get (shown f) c.args.from.now.name ≡ Some c.in_ok-inode.inode)) c.of.ensures c.in_ok-inode.ensures.inode))))
-

@@ -1,27 +1,22 @@
-use Rattle.std.proofs.Common.{◌≡◌, ◌⊎◌, ◌<◌, ◌+◌, inl, inr, ℕ, Option, length, sym, ap, subst, ◌∙◌, arith}
-use Rattle.std.specs.Prelude.{IfErr, IfOk}
+use Rattle.std.proofs.Common.{◌≡◌, ◌<◌, ◌+◌, inr, length, sym, ap, subst, ◌∙◌, arith}
+use Rattle.std.specs.Prelude.{IfErr}
 use Rattle.std.specs.FinMap as map
 use Rattle.mds_types.specs.Tree.{is_directory}
-use Rattle.mds_types.specs.declared.ids.Rank.{Rank}
 use Rattle.fragtree.specs.FragTree.{IsPick}
 use Rattle.namehash.specs.Rjenkins.{hash_of}
-use Rattle.objstore.specs.Objects.{Objects}
-use Rattle.dentry_cache.specs.Cache.{Leaf, cached, unsaved}
+use Rattle.dentry_cache.specs.Cache.{Leaf, unsaved}
 use Rattle.inode_table.specs.Dirs.{leaves_of}
 use Rattle.rank_caches.specs.Caches.{all_of, cache_of}
-use Rattle.mdcache.specs.Cached.{Core, state_of}
-use Rattle.mdcache.specs.Frags.{KeepsState}
+use Rattle.mdcache.specs.Cached.{Core}
 use Rattle.mdcache.specs.Ranks.{IsThat, KeepsCaches, MayHold}
 use Rattle.mdcache.specs.Ready.{LacksNumbers, MayNotBeReady}
-use Rattle.mdcache.specs.Reads.{LacksPlacesAt, MayNotFind}
+use Rattle.mdcache.specs.Reads.{LacksPlacesAt}
 use Rattle.mdcache.specs.Shown.{shown_tree}
-use Rattle.mdcache.specs.State.{IsLive, State}
-use Rattle.mdcache.proofs.AtRanks.{holds_after, none_only}
-use Rattle.mdcache.proofs.AtReads.{both_reads, made_caches, made_kept, made_only, made_state, made_unsaved, mid_kept, mid_saved, mid_state, new_caches, new_kept, new_only, new_state, new_unsaved, words_at}
-use Rattle.mdcache.proofs.ReadLaws.{map_if_ok}
-use Rattle.mdcache.proofs.ReadSteps.{dir_known, found_there, pick_live}
-use Rattle.mdcache.proofs.ReadyLaws.{map_if_err, neither, not_cached, roomy_kept, roomy_state, unknown_dead}
-use Rattle.mdcache.proofs.ReadyChanges.{listed_kept, listed_state, tree_has}
+use Rattle.mdcache.specs.State.{IsLive}
+use Rattle.mdcache.proofs.AtRanks.{holds_after}
+use Rattle.mdcache.proofs.AtReads.{made_caches, made_kept, made_only, made_state, made_unsaved, mid_saved, words_at}
+use Rattle.mdcache.proofs.ReadSteps.{pick_live}
+use Rattle.mdcache.proofs.ReadyLaws.{map_if_err}
 use Rattle.mdcache.proofs.mdcache.MdCache.ready_put.Goals as goal
 
 pub ready_at-requires-clause-holds : goal.ready_at-requires-clause-holds
@@ -76,4 +71,3 @@ returns-clause-refused g c =
     let holds : MayHold c.self.inside.caches c.args.rank (c.args.dentry.now.dir, c.args.leaf) = subst (λ (k : Core). MayHold k.ranks c.args.rank (c.args.dentry.now.dir, c.args.leaf)) (sym c.self.view_is) c.requires.holds in
     subst (λ (k : Core). IfErr c.ready_at.result (MayNotBeReady (LacksNumbers 1 k.state.next_version) (LacksPlacesAt 1 k c.args.rank) k.faults (g.S.Store.faults c.ready_at.new.store))) c.self.view_is
     (map_if_err c.ready_at.result (λ reason because. inr ((λ lacks. omega (arith, lacks, c.in_default.ensures.ok)), words_at ((all_of c.self.inside.caches).cap < map.len (unsaved (cache_of c.self.inside.caches c.args.rank).entries) + 1) 1 c.self.inside.caches c.give_up_at.new.caches c.args.rank (g.S.Store.faults c.self.inside.store) (g.S.Store.faults c.ready_at.new.store) (c.give_up_at.ensures.at (g.S.Store.objects c.self.inside.store)).caches (holds_after c.self.inside.caches c.give_up_at.new.caches c.args.rank (c.args.dentry.now.dir, c.args.leaf) (c.give_up_at.ensures.at (g.S.Store.objects c.self.inside.store)).caches holds).there (c.give_up_at.ensures.at (g.S.Store.objects c.self.inside.store)).unsaved c.give_up_at.ensures.fixed (λ lacks. lacks) reason because)) c.ready_at.ensures.refused)
-

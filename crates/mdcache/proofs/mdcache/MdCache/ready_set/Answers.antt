@@ -1,27 +1,22 @@
-use Rattle.std.proofs.Common.{◌≡◌, ◌⊎◌, ◌<◌, ◌+◌, inl, inr, ℕ, Option, length, sym, ap, subst, ◌∙◌, arith}
-use Rattle.std.specs.Prelude.{IfErr, IfOk, IfSome}
+use Rattle.std.proofs.Common.{◌≡◌, ◌<◌, ◌+◌, inr, Option, length, sym, ap, subst, ◌∙◌, arith}
+use Rattle.std.specs.Prelude.{IfSome}
 use Rattle.std.specs.FinMap as map
 use Rattle.mds_types.specs.Tree.{is_directory}
-use Rattle.mds_types.specs.declared.ids.Rank.{Rank}
 use Rattle.fragtree.specs.FragTree.{IsPick}
 use Rattle.namehash.specs.Rjenkins.{hash_of}
-use Rattle.objstore.specs.Objects.{Objects}
 use Rattle.dentry_cache.specs.Cache.{Held, Leaf, cached, unsaved}
 use Rattle.inode_table.specs.Dirs.{leaves_of}
 use Rattle.rank_caches.specs.Caches.{all_of, cache_of}
-use Rattle.mdcache.specs.Cached.{Core, state_of}
-use Rattle.mdcache.specs.Frags.{KeepsState}
+use Rattle.mdcache.specs.Cached.{Core}
 use Rattle.mdcache.specs.Ranks.{IsThat, KeepsCaches, MayHold}
 use Rattle.mdcache.specs.Ready.{LacksNumbers, MayNotBeReady}
-use Rattle.mdcache.specs.Reads.{LacksPlacesAt, MayNotFind}
+use Rattle.mdcache.specs.Reads.{LacksPlacesAt}
 use Rattle.mdcache.specs.Shown.{shown_tree}
 use Rattle.mdcache.specs.State.{IsLive, State}
-use Rattle.mdcache.proofs.AtRanks.{holds_after, none_only}
-use Rattle.mdcache.proofs.AtReads.{both_reads, made_caches, made_kept, made_only, made_state, made_unsaved, mid_kept, mid_saved, mid_state, new_caches, new_kept, new_only, new_state, new_unsaved, words_at}
-use Rattle.mdcache.proofs.ReadLaws.{map_if_ok}
-use Rattle.mdcache.proofs.ReadSteps.{dir_known, found_there, pick_live}
-use Rattle.mdcache.proofs.ReadyLaws.{map_if_err, neither, not_cached, roomy_kept, roomy_state, unknown_dead}
-use Rattle.mdcache.proofs.ReadyChanges.{listed_kept, listed_state, tree_has}
+use Rattle.mdcache.proofs.AtRanks.{holds_after}
+use Rattle.mdcache.proofs.AtReads.{made_caches, made_kept, made_only, made_state, made_unsaved, mid_kept, mid_saved, mid_state, words_at}
+use Rattle.mdcache.proofs.ReadSteps.{dir_known, pick_live}
+use Rattle.mdcache.proofs.ReadyChanges.{tree_has}
 use Rattle.mds_types.specs.declared.inodes.Inode.{Inode}
 use Rattle.dirfrag_codec.specs.EntryRecord.{IsRecordable}
 use Rattle.mdcache.proofs.AtRanks.{cached_here, holds_on}
@@ -125,4 +120,3 @@ returns-clause-recorded g c =
     c.args.dentry.now c.args.leaf (dir_known c.self.inside.dirs (all_of c.self.inside.caches) (g.S.Store.objects c.self.inside.store) c.self.inside.jobs c.self.inside.purge c.self.inside.next c.self.invariant.0 c.args.dentry.now.dir.0 known) pick (λ (o : Option Inode). IfSome o IsRecordable)
     (subst (λ (o : Option Cached). HasCached o (λ (f : Cached). IfSome (map.get (shown f) c.args.dentry.now.name) IsRecordable)) (sym (cached_here c.ready_at.new.caches c.args.rank (c.args.dentry.now.dir, c.args.leaf) (holds_on (IsThat c.args.rank (c.args.dentry.now.dir, c.args.leaf)) c.give_up_at.new.caches c.ready_at.new.caches c.args.rank (c.args.dentry.now.dir, c.args.leaf) (λ other may. may.0) c.in_default-ready_at.ensures.at.caches (holds_after c.self.inside.caches c.give_up_at.new.caches c.args.rank (c.args.dentry.now.dir, c.args.leaf) (c.give_up_at.ensures.at (g.S.Store.objects c.self.inside.store)).caches holds)).alone))
     (subst (λ (h : Held). HasCached (cached h.entries (c.args.dentry.now.dir, c.args.leaf)) (λ (f : Cached). IfSome (map.get (shown f) c.args.dentry.now.name) IsRecordable)) c.of.ensures c.is_recorded.ensures))))
-

@@ -21,8 +21,7 @@ pub invariant_of-self : goal.invariant_of-self
 invariant_of-self g c =
     let holds = subst (λ (v : Core). MayHold v.ranks c.args.rank (c.args.dentry.dir, c.args.leaf)) (sym c.self.view_is) c.requires.holds in
     let may = subst (λ (v : Core). MayChange (shown_tree v.state) v.state.covers (Remove c.args.dentry c.args.leaf (Some c.args.going.dir))) (sym c.self.view_is) c.requires.may in
-    let prepared = subst (λ (v : Core). IsGoing v.state.covers c.args.going) (sym c.self.view_is) c.requires.going in
-    (
+    let prepared = subst (λ (v : Core). IsGoing v.state.covers c.args.going) (sym c.self.view_is) c.requires.going in (
       went_kept c.self.inside.dirs c.self.inside.caches (g.S.Store.objects c.self.inside.store) c.self.inside.jobs c.self.inside.purge c.self.inside.next c.self.invariant.0 c.self.invariant.2 c.args.rank holds.there c.args.dentry c.args.leaf c.args.going may c.erase_at.new.caches c.erase_at.ensures.caches c.erase_at.ensures.changed prepared c.remove_dir.new.dirs c.remove_dir.new.caches c.remove_dir.new.jobs c.remove_dir.new.purge c.remove_dir.ensures.homes c.remove_dir.ensures.covers c.remove_dir.ensures.gone c.remove_dir.ensures.caches c.remove_dir.ensures.jobs c.remove_dir.ensures.purge,
       went_only c.self.inside.dirs c.self.inside.caches (g.S.Store.objects c.self.inside.store) c.self.inside.jobs c.self.inside.purge c.self.inside.next c.self.invariant.0 c.self.invariant.2 c.args.rank holds.there c.args.dentry c.args.leaf c.args.going may c.erase_at.new.caches c.erase_at.ensures.caches c.erase_at.ensures.changed prepared c.remove_dir.new.dirs c.remove_dir.new.caches c.remove_dir.new.jobs c.remove_dir.new.purge c.remove_dir.ensures.homes c.remove_dir.ensures.covers c.remove_dir.ensures.gone c.remove_dir.ensures.caches c.remove_dir.ensures.jobs c.remove_dir.ensures.purge c.self.inside.kept c.self.invariant.1,
       c.remove_dir.ensures.caches.ranks,

@@ -1,5 +1,4 @@
-use Rattle.std.proofs.Common.{◌≡◌, None, length, sym, ap, subst, ◌∙◌, arith}
-use Rattle.mds_types.specs.declared.ids.Rank.{Rank}
+use Rattle.std.proofs.Common.{None, length, ap, subst, ◌∙◌, arith}
 use Rattle.dentry_cache.specs.Cache.{unsaved}
 use Rattle.rank_caches.specs.Caches.{cache_of}
 use Rattle.mdcache.specs.Cached.{Core}
@@ -25,4 +24,3 @@ returns-clause-kept g c =
 pub returns-clause-caches : goal.returns-clause-caches
 returns-clause-caches g c =
     subst (λ (k : Core). KeepsCaches NoneComes k.ranks c.give_back.new.caches) c.self.view_is (c.give_back.ensures.at (g.S.Store.objects c.self.inside.store)).caches
-
