@@ -1,5 +1,5 @@
 -- Where fragments are cached: what a sound cluster keeps of it, said of fragments.
-use Rattle.std.proofs.Common.{◌≡◌, ◌≢◌, Option, Some, None, is_some, refl, sym, ap, subst, ◌∙◌}
+use Rattle.std.proofs.Common.{◌≡◌, Option, Some, None, refl, sym, ap, subst, ◌∙◌}
 use Rattle.std.specs.Map.{lookup}
 use Rattle.std.specs.FinMap as map
 use Rattle.mds_types.specs.declared.ids.Rank.{Rank}
@@ -7,7 +7,7 @@ use Rattle.cached_frag.specs.Cached.{Cached}
 use Rattle.dentry_cache.specs.declared.cache.Place.{Place}
 use Rattle.dentry_cache.specs.Cache.{HasCached, Leaf, Unsaved, cached, fragment_in, leaf_is, unsaved, unsaved_in, unsaved_of}
 use Rattle.dentry_cache.proofs.CacheLaws.{get-unsaved}
-use Rattle.rank_caches.specs.Caches.{all_of, places_of}
+use Rattle.rank_caches.specs.Caches.{places_of}
 use Rattle.rank_caches.proofs.PlaceLaws.{found_in}
 use Rattle.rank_caches.proofs.TiesLaws.{cached_there}
 use Rattle.subtree_map.proofs.Nearest.{one_authority}
