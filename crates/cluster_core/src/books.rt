@@ -76,8 +76,8 @@ impl<S: Store + Drop> Book<S> {
 }
 
 /// A book of so many ranks over a store that has no object: an empty tree, an empty history, and nothing that waits. The root
-/// directory's leaf is rank 0's. `cache` is the number of fragments that a rank may cache; the root's `*` is cached, and no object counts for it.
-/// Takes memory.
+/// directory's leaf is rank 0's. `cache` is the number of fragments that a rank may cache; the root's `*` is cached at rank 0,
+/// and no object counts for it. Takes memory.
 ///
 /// Refused `NotClean` exactly where the store has objects, unless it refuses to tell, and `NoMemory`; the store is handed
 /// back then, with its objects as they were.

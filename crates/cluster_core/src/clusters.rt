@@ -55,8 +55,8 @@ impl<S: Store + Drop> Model for Cluster<S> {
 }
 
 impl<S: Store + Drop> Cluster<S> {
-    /// A cluster of so many ranks that serves the empty tree over a store that has no object, with a cache of so many places each.
-    /// The root directory's leaf is rank 0's.
+    /// A cluster of so many ranks that serves the empty tree over a store that has no object, with a cache of so many places
+    /// each. The root directory's leaf is rank 0's.
     ///
     /// Refused `NotClean` exactly where the store has objects, unless it refuses to tell, and `NoMemory`; the store is handed
     /// back then, with its objects as they were.

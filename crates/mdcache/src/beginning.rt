@@ -21,8 +21,8 @@ use objstore::Store;
 use standing_jobs::StandingJobs;
 
 impl<S: Store + Drop> MdCache<S> {
-    /// Begins a commit of a leaf, which the rank holds: gives the job of its snapshot, which stands from now on; none, exactly where the leaf is
-    /// clean. Takes memory for the snapshot, twice.
+    /// Begins a commit of a leaf, which the rank holds: gives the job of its snapshot, which stands from now on; none, exactly
+    /// where the leaf is clean. Takes memory for the snapshot, twice.
     ///
     /// Refused `NoSuchFrag` where there is no such leaf, `JobOutstanding` where a job stands for it, `NoInodes` where no
     /// number is left for the job or for the version that the commit writes, and `NoMemory`.

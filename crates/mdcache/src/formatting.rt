@@ -54,9 +54,9 @@ impl<S: Store + Drop> MdCache<S> {
         }
     }
 
-    /// The empty tree over a store that has no object, with a cache of so many places for each of so many ranks. The root's leaf `*` is the first
-    /// fragment made; it is cached at rank 0, and no object counts for it. Takes little memory; where that is refused the store is
-    /// handed back as it was.
+    /// The empty tree over a store that has no object, with a cache of so many places for each of so many ranks. The root's
+    /// leaf `*` is the first fragment made; it is cached at rank 0, and no object counts for it. Takes little memory; where
+    /// that is refused the store is handed back as it was.
     pub fn new(alloc: Global, store: S, ranks: u8, places: usize) -> Result<MdCache<S>, S>
         requires some { 0 < ranks }
         requires few { 512 ≤ places }
