@@ -11,14 +11,15 @@ use Rattle.mdcache.specs.Frags.{KeepsState, MayRefuse}
 use Rattle.mdcache.specs.Shown.{shown_tree}
 use Rattle.mdcache.specs.State.{State}
 use Rattle.mdcache.proofs.FragsLaws.{refused_later}
+use Rattle.cluster_core.specs.Prepared.{IsUnready}
 
 pub still_refused : (old mid new : Core) (op : Op) (Touch : Type 0) (supply : Supply) (reason : Refusal) → KeepsState old mid → Touch
     → IsRefused (shown_tree mid.state) (shown_tree new.state) (MayRefuse mid new op) (step (shown_tree mid.state) op (number_or (offer supply))) (offer supply) reason
-    → (reason ≡ NoMemory) ⊎ MayRefuse old new op reason ⊎ (Touch × LacksNumber (step (shown_tree old.state) op (number_or (offer supply))) (offer supply) reason)
+    → IsUnready Touch (MayRefuse old new op) (step (shown_tree old.state) op (number_or (offer supply))) (offer supply) reason
 still_refused old mid new op Touch supply reason kept touch refused = go refused.because
   where
     go : LacksNumber (step (shown_tree mid.state) op (number_or (offer supply))) (offer supply) reason ⊎ ((reason ≡ NoMemory) ⊎ MayRefuse mid new op reason)
-        → (reason ≡ NoMemory) ⊎ MayRefuse old new op reason ⊎ (Touch × LacksNumber (step (shown_tree old.state) op (number_or (offer supply))) (offer supply) reason)
-    go (inl lacks) = inr (inr (touch, subst (λ (s : State). LacksNumber (step (shown_tree s) op (number_or (offer supply))) (offer supply) reason) kept.state lacks))
+        → IsUnready Touch (MayRefuse old new op) (step (shown_tree old.state) op (number_or (offer supply))) (offer supply) reason
+    go (inl lacks) = inr (inr (touch, inl (subst (λ (s : State). LacksNumber (step (shown_tree s) op (number_or (offer supply))) (offer supply) reason) kept.state lacks)))
     go (inr (inl memory)) = inl memory
-    go (inr (inr may)) = inr (inl (refused_later old mid new op reason kept may))
+    go (inr (inr may)) = inr (inr (touch, inr (refused_later old mid new op reason kept may)))

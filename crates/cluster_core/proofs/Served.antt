@@ -32,7 +32,7 @@ use Rattle.cluster_core.specs.declared.applying.Prepared.{Prepared}
 use Rattle.cluster_core.specs.State.{State, shown, state_of, supply_of}
 use Rattle.cluster_core.specs.Master.{IsMasterIn, LacksGrantIn, MayTouchAllIn}
 use Rattle.cluster_core.specs.Offer.{after_taking}
-use Rattle.cluster_core.specs.Prepared.{IsPrepared, outcome_with}
+use Rattle.cluster_core.specs.Prepared.{IsPrepared, IsUnready, outcome_with}
 use Rattle.cluster_core.specs.Serve.{CarryLeaves, EndsFront, FollowPlanned, ForwardsFront, IsApplied, IsLeft, IsTakenOut, MakesPlanned, RepeatsFront, ServesInbox, entry_of, number_of, outcome_of, went_with, with_entry, without_gone, without_request}
 
 -- a new request is not trimmed
@@ -124,7 +124,7 @@ module _ (f : TreeState) (roots : Roots) (numbers : List Supply) (inboxes : Inbo
     left_so inboxes_now pins_now here there = λ i. record { tree = follows i; roots = rooted i; numbers = numbers; inboxes = here i; pins = there i; sessions = known i }
 
     pub refused_there : (w : List Request) (reason : Refusal) → Some front ≡ slice_get w 0 → reason ≢ NoInodes
-        → (reason ≡ NoMemory) ⊎ MayRefuse front.op reason ⊎ (MayTouchAllIn f roots pins rank front.client front.tid front.op × LacksNumber (outcome_with f (supply_of old rank) front.op) (offer (supply_of old rank)) reason)
+        → IsUnready (MayTouchAllIn f roots pins rank front.client front.tid front.op) (MayRefuse front.op) (outcome_with f (supply_of old rank) front.op) (offer (supply_of old rank)) reason
         → ServesInbox old (state_of g between_roots numbers inboxes pins between) past middle MayRefuse rank (Err reason) w
     refused_there [] reason is other why = absurd (waits_some front is)
     refused_there (request ∷ rest) reason is other why =
@@ -133,14 +133,15 @@ module _ (f : TreeState) (roots : Roots) (numbers : List Supply) (inboxes : Inbo
         all_left : IsLeft old (state_of g between_roots numbers inboxes pins between) past middle
         all_left = record { same = past_is; left = left_so inboxes pins refl refl }
 
-        go : (reason ≡ NoMemory) ⊎ MayRefuse front.op reason ⊎ (MayTouchAllIn f roots pins rank front.client front.tid front.op × LacksNumber (outcome_with f (supply_of old rank) front.op) (offer (supply_of old rank)) reason)
+        go : IsUnready (MayTouchAllIn f roots pins rank front.client front.tid front.op) (MayRefuse front.op) (outcome_with f (supply_of old rank) front.op) (offer (supply_of old rank)) reason
             → ServesInbox old (state_of g between_roots numbers inboxes pins between) past middle MayRefuse rank (Err reason) (front ∷ rest)
         go (inl memory) = inr (inr (inr (inl (memory, not_trimmed past front.client front.tid front.oldest new, all_left))))
-        go (inr (inl may)) = inr (inr (inr (inr (other, record { is_new = new; master = master }, may, all_left))))
-        go (inr (inr lacks)) = absurd (other lacks.1.named)
+        go (inr (inl (isnt, may))) = inr (inr (inr (inr (other, record { is_new = new; master = master }, may, all_left))))
+        go (inr (inr (touch, inl lacks))) = absurd (other lacks.named)
+        go (inr (inr (touch, inr may))) = inr (inr (inr (inr (other, record { is_new = new; master = master }, may, all_left))))
 
     pub lacks_number : (w : List Request) (reason : Refusal) (inboxes_now : Inboxes) (pins_now : List Pin) → Some front ≡ slice_get w 0 → reason ≡ NoInodes
-        → (reason ≡ NoMemory) ⊎ MayRefuse front.op reason ⊎ (MayTouchAllIn f roots pins rank front.client front.tid front.op × LacksNumber (outcome_with f (supply_of old rank) front.op) (offer (supply_of old rank)) reason)
+        → IsUnready (MayTouchAllIn f roots pins rank front.client front.tid front.op) (MayRefuse front.op) (outcome_with f (supply_of old rank) front.op) (offer (supply_of old rank)) reason
         → EndsFront inboxes inboxes_now pins pins_now rank w
         → ServesInbox old (state_of g between_roots numbers inboxes_now pins_now between) past middle MayRefuse rank (Err NoInodes) w
     lacks_number [] reason inboxes_now pins_now is named why ends = absurd (waits_some front is)
@@ -156,11 +157,12 @@ module _ (f : TreeState) (roots : Roots) (numbers : List Supply) (inboxes : Inbo
             left_at : state_of g between_roots numbers inboxes_now pins_now between ≡ record old { inboxes = with_waiting inboxes rank rest; pins = without_request pins front }
             left_at = λ i. record { tree = follows i; roots = rooted i; numbers = numbers; inboxes = ends.0 i; pins = (ends.1 ∙ ap (without_request pins) (sym same)) i; sessions = known i }
 
-        go : (reason ≡ NoMemory) ⊎ MayRefuse front.op reason ⊎ (MayTouchAllIn f roots pins rank front.client front.tid front.op × LacksNumber (outcome_with f (supply_of old rank) front.op) (offer (supply_of old rank)) reason)
-            → (MayTouchAllIn f roots pins rank front.client front.tid front.op × LacksNumber (outcome_with f (supply_of old rank) front.op) (offer (supply_of old rank)) NoInodes) ⊎ MayRefuse front.op NoInodes
+        go : IsUnready (MayTouchAllIn f roots pins rank front.client front.tid front.op) (MayRefuse front.op) (outcome_with f (supply_of old rank) front.op) (offer (supply_of old rank)) reason
+            → MayTouchAllIn f roots pins rank front.client front.tid front.op × (LacksNumber (outcome_with f (supply_of old rank) front.op) (offer (supply_of old rank)) NoInodes ⊎ MayRefuse front.op NoInodes)
         go (inl memory) = let clash : NoInodes ≡ NoMemory = sym named ∙ memory in absurd cc
-        go (inr (inl may)) = inr (subst (MayRefuse front.op) named may)
-        go (inr (inr lacks)) = inl (lacks.0, subst (LacksNumber (outcome_with f (supply_of old rank) front.op) (offer (supply_of old rank))) named lacks.1)
+        go (inr (inl (isnt, may))) = absurd (isnt named)
+        go (inr (inr (touch, inl lacks))) = (touch, inl (subst (LacksNumber (outcome_with f (supply_of old rank) front.op) (offer (supply_of old rank))) named lacks))
+        go (inr (inr (touch, inr may))) = (touch, inr (subst (MayRefuse front.op) named may))
 
     pub deferred : (w : List Request) (inboxes_now : Inboxes) → Some front ≡ slice_get w 0 → LacksGrantIn f roots pins rank front.client front.tid front.op → inboxes_now ≡ with_waiting inboxes rank (rotated w)
         → ServesInbox old (state_of g between_roots numbers inboxes_now pins between) past middle MayRefuse rank (Ok Deferred) w

@@ -22,7 +22,7 @@ use Rattle.mdcache.specs.Splits.{IsMergedInto, IsSplitInto}
 use Rattle.rank_caches.specs.Caches.{with_cache}
 use Rattle.cluster_core.specs.declared.events.Answer.{Answer}
 use Rattle.cluster_core.specs.declared.events.Answer.TheVariants.{Job, Nothing}
-use Rattle.cluster_core.specs.State.{Core, LacksPlaces, State, cache_of, shown}
+use Rattle.cluster_core.specs.State.{Core, LacksPlacesAt, State, cache_of, shown}
 use Rattle.cluster_core.specs.Master.{IsAuthority}
 use Rattle.cluster_core.specs.Serve.{IsLeft}
 use Rattle.ranked_tree.specs.Subtrees.{AllHave}
@@ -67,14 +67,14 @@ abbrev pub IsAnyPinned : Homes → Covers → List Pin → Ino → Fragment → 
 IsAnyPinned homes covers pins dir frag = (leaf : Leaf) × IsLive homes covers leaf × (is_inside dir.0 frag leaf ≡ true) × (list_any (is_on leaf.0 leaf.1) pins ≡ true)
 
 -- a leaf of the rank's, not pinned, was split by so many bits, and its children are roots if it was one; where it wasn't, the leaves refuse it, or
--- the rank isn't its authority, or it is pinned, or numbers lack, or a rank lacks as many places as there would be children and one, or the store or
--- memory refused
+-- the rank isn't its authority, or it is pinned, or numbers lack, or the rank lacks as many places as there would be children and one, or the store
+-- or memory refused
 abbrev pub SplitsLeaf : (old new : Core) → Rank → Ino → Fragment → ℕ → Result (Unit {0}) Refusal → Type 0
 SplitsLeaf old new rank dir f nb (Ok done) =
     IsAuthority old.state (dir, f) rank × (IsPinned old.state (dir, f) → ⊥) × IsSplitInto old.state.tree new.state.tree dir f nb × IsRootSplit old.state.roots new.state.roots dir.0 f nb
 SplitsLeaf old new rank dir f nb (Err reason) =
     RefusesRegroup (is_known old.state.tree.homes dir.0) (RefusesSplit (leaves_of old.state.tree.covers dir.0) f nb) (CanSplit (leaves_of old.state.tree.covers dir.0) f nb) (IsAuthority old.state (dir, f) rank) (IsPinned old.state (dir, f))
-    (λ why. MayNotRegroup (CanSplit (leaves_of old.state.tree.covers dir.0) f nb) (RefusesSplit (leaves_of old.state.tree.covers dir.0) f nb) old.state.tree dir (2 ^ nb) (LacksPlaces (2 ^ nb + 1) old) old.faults new.faults why)
+    (λ why. MayNotRegroup (CanSplit (leaves_of old.state.tree.covers dir.0) f nb) (RefusesSplit (leaves_of old.state.tree.covers dir.0) f nb) old.state.tree dir (2 ^ nb) (LacksPlacesAt (2 ^ nb + 1) old rank) old.faults new.faults why)
     reason
 
 -- the rank is the authority of each leaf of a directory that lies properly inside a fragment
@@ -86,13 +86,13 @@ abbrev pub HasPinnedInside : State → Ino → Fragment → Type 0
 HasPinnedInside state dir f = IsAnyPinned state.tree.homes state.tree.covers state.pins dir f
 
 -- the leaves inside a fragment, all the rank's and none pinned, were merged, and it is a root if one of them was; where they weren't, it was
--- refused so too, and for places where a rank has none
+-- refused so too, and for places where the rank has none
 abbrev pub MergesLeaves : (old new : Core) → Rank → Ino → Fragment → Result (Unit {0}) Refusal → Type 0
 MergesLeaves old new rank dir f (Ok done) =
     HoldsInside old.state rank dir f × (HasPinnedInside old.state dir f → ⊥) × IsMergedInto old.state.tree new.state.tree dir f × IsRootMerge old.state.roots new.state.roots dir.0 f
 MergesLeaves old new rank dir f (Err reason) =
     RefusesRegroup (is_known old.state.tree.homes dir.0) (RefusesMerge (leaves_of old.state.tree.covers dir.0) f) (CanMerge (leaves_of old.state.tree.covers dir.0) f) (HoldsInside old.state rank dir f) (HasPinnedInside old.state dir f)
-    (λ why. MayNotRegroup (CanMerge (leaves_of old.state.tree.covers dir.0) f) (RefusesMerge (leaves_of old.state.tree.covers dir.0) f) old.state.tree dir 1 (LacksPlaces 1 old) old.faults new.faults why)
+    (λ why. MayNotRegroup (CanMerge (leaves_of old.state.tree.covers dir.0) f) (RefusesMerge (leaves_of old.state.tree.covers dir.0) f) old.state.tree dir 1 (LacksPlacesAt 1 old rank) old.faults new.faults why)
     reason
 
 abbrev pub Splits : (old new : Core) → (past now : List Entry) → Rank → Ino → Fragment → ℕ → Result Answer Refusal → Type 0

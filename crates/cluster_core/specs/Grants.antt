@@ -1,12 +1,12 @@
 -- A rank grants a waiting request that another rank changes its fragments.
-use Rattle.std.specs.Prelude.{◌≡◌, ◌⊎◌, ◌↔◌, ◌<◌, ℕ, List, [], ◌∷◌, length, Option, Some, None, Result, Ok, Err}
+use Rattle.std.specs.Prelude.{◌≡◌, ◌≢◌, ◌⊎◌, ◌↔◌, ◌<◌, ℕ, List, [], ◌∷◌, length, Option, Some, None, Result, Ok, Err}
 use Rattle.std.specs.List.{Contains}
 use Rattle.mds_types.specs.declared.entries.Entry.{Entry}
 use Rattle.mds_types.specs.declared.ids.Rank.{Rank}
 use Rattle.mds_types.specs.declared.operations.Op.{Op}
 use Rattle.mds_types.specs.declared.requests.Request.{Request}
 use Rattle.mds_types.specs.declared.refusals.Refusal.{Refusal}
-use Rattle.mds_types.specs.declared.refusals.Refusal.TheVariants.{InboxEmpty, NoMemory, NotAuthority}
+use Rattle.mds_types.specs.declared.refusals.Refusal.TheVariants.{InboxEmpty, NoInodes, NoMemory, NotAuthority}
 use Rattle.inboxes.specs.declared.pins.Pin.{Pin}
 use Rattle.inboxes.specs.Inboxes.{first_waiting}
 use Rattle.inboxes.specs.Pins.{with_pin}
@@ -38,10 +38,11 @@ pub record Grants (old new : State) (past now : List Entry) (rank : Rank) (clien
   pub same : now ≡ past
   pub left : new ≡ record old { pins = with_grants old.pins leaves client tid }
 
--- refused NotAuthority exactly where there is no such leaf, unless the tree refused to tell, and for want of memory; all is left
+-- refused NotAuthority exactly where there is no such leaf, unless the tree refused to tell, and for want of memory; never for want of a number,
+-- since a grant takes none; all is left
 abbrev pub RefusesGrant : (old new : State) → (past now : List Entry) → (MayRefuse : Op → Refusal → Type 0) → Rank → Op → Refusal → Type 0
 RefusesGrant old new past now MayRefuse rank op reason =
-    (((reason ≡ NotAuthority) × ((leaf : Leaf) → IsGranted old rank op leaf → ⊥)) ⊎ (reason ≡ NoMemory) ⊎ MayRefuse op reason) × IsLeft old new past now
+    (((reason ≡ NotAuthority) × ((leaf : Leaf) → IsGranted old rank op leaf → ⊥)) ⊎ (reason ≡ NoMemory) ⊎ ((reason ≢ NoInodes) × MayRefuse op reason)) × IsLeft old new past now
 
 abbrev pub GrantsRequest : (old new : State) → (past now : List Entry) → (MayRefuse : Op → Refusal → Type 0) → Rank → (client tid : ℕ) → Op → Result Answer Refusal → Type 0
 GrantsRequest old new past now MayRefuse rank client tid op (Ok answer) = Grants old new past now rank client tid op answer

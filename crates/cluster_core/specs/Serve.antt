@@ -171,10 +171,11 @@ pub record IsAtMaster (old : State) (past : List Entry) (rank : Rank) (request :
   pub is_new : IsNew past request.client request.tid request.oldest
   pub master : IsMaster old rank request.op rank
 
--- why a request lacks a number: the table takes one, the rank has none left, and nothing lacks a grant; or a counter of the tree's is at its end
+-- why a request lacks a number: it lacks no grant, and the table takes a number and the rank has none left, or a counter of the tree's is at
+-- its end
 abbrev pub LacksAny : State → (MayRefuse : Op → Refusal → Type 0) → Rank → Request → Type 0
 LacksAny old MayRefuse rank request =
-    (MayTouchAll old rank request × LacksNumber (outcome_of old rank request) (offer (supply_of old rank)) NoInodes) ⊎ MayRefuse request.op NoInodes
+    MayTouchAll old rank request × (LacksNumber (outcome_of old rank request) (offer (supply_of old rank)) NoInodes ⊎ MayRefuse request.op NoInodes)
 
 -- why a request is not served: it is trimmed, or lacks a number, and leaves the inbox with its grants; or it stays there: its master's inbox
 -- is full, or for want of memory, or for one of the reasons that the tree had in this call for this operation, `MayRefuse`

@@ -52,8 +52,12 @@ abbrev pub cache_of : Core → Rank → Held
 cache_of core rank = cache_at core.ranks rank
 
 -- fewer than so many places of a rank's cache are free or can become so: each other one is that of a fragment that isn't clean
+abbrev pub LacksPlacesAt : ℕ → Core → Rank → Type 0
+LacksPlacesAt count core rank = core.cache.cap < map.len (unsaved (cache_of core rank).entries) + count
+
+-- so it is with one of the ranks
 abbrev pub LacksPlaces : ℕ → Core → Type 0
-LacksPlaces count core = (rank : Rank) × (rank.0 < length core.ranks) × (core.cache.cap < map.len (unsaved (cache_of core rank).entries) + count)
+LacksPlaces count core = (rank : Rank) × (rank.0 < length core.ranks) × LacksPlacesAt count core rank
 
 -- a supply that has nothing left, of a rank that isn't there
 abbrev pub no_supply : Supply

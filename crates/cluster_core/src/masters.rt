@@ -1,6 +1,6 @@
 //! Which rank answers a request, and whether it may change what the request changes.
-ghost use Rattle.std.specs.Prelude.{◌≡◌, ◌↔◌, ◌⊎◌, Some, None, IsTrue, MatchBool, IfOk, IfErr};
-ghost use Rattle.mds_types.specs.declared.refusals.Refusal.TheVariants.{NoMemory};
+ghost use Rattle.std.specs.Prelude.{◌≡◌, ◌≢◌, ◌↔◌, ◌⊎◌, Some, None, IsTrue, MatchBool, IfOk, IfErr};
+ghost use Rattle.mds_types.specs.declared.refusals.Refusal.TheVariants.{NoInodes, NoMemory};
 ghost use Rattle.mds_types.specs.declared.ids.Rank.{Rank as RankNumber};
 ghost use Rattle.std.specs.Option.{option_copied};
 ghost use Rattle.fragtree.specs.FragTree.{HasLeaf};
@@ -80,7 +80,7 @@ pub fn lacks_grant<S: Store + Drop>(
 ) -> Result<bool, Refusal>
     requires master { IsMasterIn tree.old.tree.state tree.old.subtrees.roots rank op.now rank }
     ensures found { IfOk result (λ lacks. MatchBool lacks (LacksGrantIn tree.old.tree.state tree.old.subtrees.roots pins.now rank client tid op.now) (MayTouchAllIn tree.old.tree.state tree.old.subtrees.roots pins.now rank client tid op.now)) }
-    ensures refused { IfErr result (λ reason. (reason ≡ NoMemory) ⊎ MayRefuse tree.old.tree tree.new.tree op.now reason) }
+    ensures refused { IfErr result (λ reason. (reason ≡ NoMemory) ⊎ ((reason ≢ NoInodes) × MayRefuse tree.old.tree tree.new.tree op.now reason)) }
     ensures kept { KeepsRanked tree.old tree.new }
 {
     if !changes_others(op) {

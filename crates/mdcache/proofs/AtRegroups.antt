@@ -288,10 +288,10 @@ has_first P caches old rank leaf holds is = subst (λ (o : Option Cached). HasCa
 
 -- why nothing is done: the rank lacks places
 pub lacks_at : (count : ℕ) (old given : Caches) (rank : Rank) (before after : ℕ) → rank.0 < length old → KeepsCaches NoneComes old given → KeepUnsaved old given → fixed_places (cache_of given rank).entries ≡ map.len (unsaved (cache_of given rank).entries)
-    → (reason : Refusal) → MayNotFind (FixesAllBut count (cache_of given rank)) before after reason → MayNotFind ((other : Rank) × (other.0 < length old) × ((all_of old).cap < map.len (unsaved (cache_of old other).entries) + count)) before after reason
+    → (reason : Refusal) → MayNotFind (FixesAllBut count (cache_of given rank)) before after reason → MayNotFind ((all_of old).cap < map.len (unsaved (cache_of old rank).entries) + count) before after reason
 lacks_at count old given rank before after there caches same fixed reason h =
-    words_at ((other : Rank) × (other.0 < length old) × ((all_of old).cap < map.len (unsaved (cache_of old other).entries) + count)) count old given rank before after caches (there_then NoneComes old given rank caches there) same fixed
-    (λ less. (rank, there, less)) reason h
+    words_at ((all_of old).cap < map.len (unsaved (cache_of old rank).entries) + count) count old given rank before after caches (there_then NoneComes old given rank caches there) same fixed
+    (λ less. less) reason h
 
 -- ---- a split, from what was prepared for it at a rank and what it did there
 

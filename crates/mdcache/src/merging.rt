@@ -13,7 +13,7 @@ ghost use Rattle.mdcache.specs.Changes.{with_objects, without_leaves};
 ghost use Rattle.mdcache.specs.Going.{leaves_in, texts_in};
 ghost use Rattle.mdcache.specs.Joining.{IsPutInPlace};
 ghost use Rattle.mdcache.specs.Ranks.{AreRanks, KeepsCaches, MayHold, NoneComes};
-ghost use Rattle.mdcache.specs.Reads.{has_none};
+ghost use Rattle.mdcache.specs.Reads.{LacksPlacesAt, has_none};
 ghost use Rattle.mdcache.specs.Regroups.{MergesLeaves, RefusesLeaves};
 ghost use Rattle.mdcache.specs.Sound.{IsSound};
 
@@ -69,7 +69,7 @@ impl<S: Store + Drop> MdCache<S> {
     pub fn merge(&mut self, alloc: Global, rank: Rank, dir: Ino, frag: Frag) -> Result<(), Refusal>
         requires there { rank.0 < length self.old.ranks }
         requires holds { (q : Leaf) → Contains (each (in_directory dir.0) (leaves_inside frag (leaves_of self.old.state.covers dir.0))) q → MayHold self.old.ranks rank q }
-        ensures merged { MergesLeaves self.old self.new dir frag result }
+        ensures merged { MergesLeaves (LacksPlacesAt 1 self.old rank) self.old self.new dir frag result }
         ensures caches { KeepsCaches (λ other q. (other ≡ rank) × (Contains (each (in_directory dir.0) (leaves_inside frag (leaves_of self.old.state.covers dir.0))) q ⊎ ((dir, frag) ≡ q))) self.old.ranks self.new.ranks }
         ensures cap { self.new.cache.cap ≡ self.old.cache.cap }
         ensures grows { self.old.faults ≤ self.new.faults }

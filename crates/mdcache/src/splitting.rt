@@ -10,7 +10,7 @@ ghost use Rattle.dentry_cache.specs.Divided.{AreReady, IsSplit};
 ghost use Rattle.inode_table.specs.Dirs.{is_known, leaves_of};
 ghost use Rattle.rank_caches.specs.Caches.{cache_of, first_of};
 ghost use Rattle.mdcache.specs.Ranks.{AreRanks, KeepsCaches, MayHold, NoneComes};
-ghost use Rattle.mdcache.specs.Reads.{has_none};
+ghost use Rattle.mdcache.specs.Reads.{LacksPlacesAt, has_none};
 ghost use Rattle.mdcache.specs.Regroups.{IsFamily, RefusesLeaves, SplitsLeaf};
 ghost use Rattle.mdcache.specs.Splits.{without_objects};
 ghost use Rattle.mdcache.specs.Sound.{IsSound};
@@ -74,7 +74,7 @@ impl<S: Store + Drop> MdCache<S> {
         nb: u8,
     ) -> Result<(), Refusal>
         requires holds { MayHold self.old.ranks rank (dir, frag) }
-        ensures split { SplitsLeaf self.old self.new dir frag nb result }
+        ensures split { SplitsLeaf (LacksPlacesAt (2 ^ nb + 1) self.old rank) self.old self.new dir frag nb result }
         ensures caches { KeepsCaches (λ other q. (other ≡ rank) × IsFamily dir frag nb q) self.old.ranks self.new.ranks }
         ensures cap { self.new.cache.cap ≡ self.old.cache.cap }
         ensures grows { self.old.faults ≤ self.new.faults }

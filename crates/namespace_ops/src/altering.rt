@@ -1,5 +1,6 @@
 //! The checks of the operation that sets attributes.
-ghost use Rattle.std.specs.Prelude.{◌≡◌, ℕ, IfOk, IfErr};
+ghost use Rattle.std.specs.Prelude.{◌≡◌, ◌≢◌, ℕ, IfOk, IfErr};
+ghost use Rattle.mds_types.specs.declared.refusals.Refusal.TheVariants.{NoInodes};
 ghost use Rattle.mds_types.specs.declared.inodes.Inode.{Inode as Node};
 ghost use Rattle.mds_types.specs.Frag.{Fragment};
 ghost use Rattle.std.specs.FinMap as map;
@@ -28,6 +29,7 @@ pub fn set_attributes<F: Frags>(
         (attributes_set (F.content frags.old) dentry.now attributes (map.get (F.content frags.old) dentry.now))) }
     ensures kept { KeepsAll (F.content frags.old) (F.content frags.new) (F.covers frags.old) (F.covers frags.new) (F.Follows frags.old frags.new) }
     ensures err { IfErr result (Refuses (F.MayRefuse frags.old frags.new op.now)) }
+    ensures numbers { IfErr result (λ reason. reason ≢ NoInodes) }
 {
     let leaf = frags.frag_of(dentry);
     let Some(before) = frags.look(op, dentry, leaf)? else {

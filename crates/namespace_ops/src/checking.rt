@@ -1,5 +1,6 @@
 //! The checks of one operation, in their order. They read alone.
-ghost use Rattle.std.specs.Prelude.{◌≡◌, ◌&&◌, true, IfOk, IfErr};
+ghost use Rattle.std.specs.Prelude.{◌≡◌, ◌≢◌, ◌&&◌, true, IfOk, IfErr};
+ghost use Rattle.mds_types.specs.declared.refusals.Refusal.TheVariants.{NoInodes};
 ghost use Rattle.mds_types.specs.Tree.{is_directory};
 ghost use Rattle.mds_types.specs.Step.{step, within, directory_of, destination_of};
 ghost use Rattle.namespace_ops.specs.Kept.{KeepsAll};
@@ -27,6 +28,7 @@ pub fn check<F: Frags>(
     ensures checked { IfOk result (Checks (F.content frags.old) (F.covers frags.old) op.now number.0 (step (F.content frags.old) op.now number.0)) }
     ensures kept { KeepsAll (F.content frags.old) (F.content frags.new) (F.covers frags.old) (F.covers frags.new) (F.Follows frags.old frags.new) }
     ensures err { IfErr result (Refuses (F.MayRefuse frags.old frags.new op.now)) }
+    ensures numbers { IfErr result (λ reason. reason ≢ NoInodes) }
 {
     if !do_stand(frags, op) {
         return Ok(Checked::Answers(Reply::Errno(ESTALE)));
@@ -56,6 +58,7 @@ fn check_within<F: Frags>(
     ensures checked { IfOk result (Checks (F.content frags.old) (F.covers frags.old) op.now number.0 (within (F.content frags.old) op.now number.0)) }
     ensures kept { KeepsAll (F.content frags.old) (F.content frags.new) (F.covers frags.old) (F.covers frags.new) (F.Follows frags.old frags.new) }
     ensures err { IfErr result (Refuses (F.MayRefuse frags.old frags.new op.now)) }
+    ensures numbers { IfErr result (λ reason. reason ≢ NoInodes) }
 {
     match op {
         Op::Lookup(dentry) => lookup(frags, op, dentry),

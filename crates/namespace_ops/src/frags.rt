@@ -1,8 +1,8 @@
 //! What operations need of a directory's fragments.
-ghost use Rattle.std.specs.Prelude.{◌≡◌, ℕ, true, not, IfOk, IfErr, OnOk, take, length, nat_lt};
+ghost use Rattle.std.specs.Prelude.{◌≡◌, ◌≢◌, ℕ, true, not, IfOk, IfErr, OnOk, take, length, nat_lt};
 ghost use Rattle.std.specs.Option.{option_copied};
 ghost use Rattle.mds_types.specs.declared.refusals.Refusal.{Refusal as Reason};
-ghost use Rattle.mds_types.specs.declared.refusals.Refusal.TheVariants.{NoMemory};
+ghost use Rattle.mds_types.specs.declared.refusals.Refusal.TheVariants.{NoInodes, NoMemory};
 ghost use Rattle.mds_types.specs.declared.operations.Op.{Op as Operation};
 ghost use Rattle.std.specs.FinMap as map;
 ghost use Rattle.fragtree.specs.FragTree.{IsTree};
@@ -23,7 +23,8 @@ use std::alloc::Global;
 /// The fragments that operations read and change. Together they show one plain tree, whatever they are kept in.
 ///
 /// A read may have to fetch what it reads, and can then be refused; it keeps all, and so does a refusal. Which leaves a
-/// directory has is told with no fetch. A read is told for which operation it is asked, and asks of a directory of that.
+/// directory has is told with no fetch. A read is told for which operation it is asked, and asks of a directory of that. It takes
+/// no number, and is never refused for want of one.
 /// All growth that a change needs is made by `ready`; the change that follows can't fail.
 pub trait Frags {
     /// The plain tree that the fragments show.
@@ -72,7 +73,8 @@ pub trait Frags {
         requires leaf { IsLeafAt (covers self.old) dentry.now leaf }
         ensures found { IfOk result (λ found. found ≡ map.get (content self.old) dentry.now) }
         ensures kept { KeepsAll (content self.old) (content self.new) (covers self.old) (covers self.new) (Follows self.old self.new) }
-        ensures err { IfErr result (MayRefuse self.old self.new op.now) };
+        ensures err { IfErr result (MayRefuse self.old self.new op.now) }
+        ensures numbers { IfErr result (λ reason. reason ≢ NoInodes) };
 
     /// The first `max` names of a directory greater than `after`, in order, with their inodes, and whether more follow.
     fn list_after(
@@ -87,14 +89,16 @@ pub trait Frags {
         ensures listed { IfOk result (λ page. page.0 ≡ take max (names_after (content self.old) dir.0 (option_copied after.entry))) }
         ensures more { IfOk result (λ page. page.1 ≡ nat_lt max (length (names_after (content self.old) dir.0 (option_copied after.entry)))) }
         ensures kept { KeepsAll (content self.old) (content self.new) (covers self.old) (covers self.new) (Follows self.old self.new) }
-        ensures err { IfErr result (MayRefuse self.old self.new op.now) };
+        ensures err { IfErr result (MayRefuse self.old self.new op.now) }
+        ensures numbers { IfErr result (λ reason. reason ≢ NoInodes) };
 
     /// Whether nothing is in a directory.
     fn is_empty(&mut self, op: &Op, dir: Ino) -> Result<bool, Refusal>
         requires reads { Reads (content self.old) op.now dir.0 }
         ensures found { IfOk result (λ empty. empty ≡ not (has_entries (content self.old) dir.0)) }
         ensures kept { KeepsAll (content self.old) (content self.new) (covers self.old) (covers self.new) (Follows self.old self.new) }
-        ensures err { IfErr result (MayRefuse self.old self.new op.now) };
+        ensures err { IfErr result (MayRefuse self.old self.new op.now) }
+        ensures numbers { IfErr result (λ reason. reason ≢ NoInodes) };
 
     /// Makes every growth that a change needs, which is one of the operation.
     fn ready(&mut self, op: &Op, change: &Change) -> Result<(), Refusal>

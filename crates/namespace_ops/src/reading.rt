@@ -1,5 +1,6 @@
 //! The checks of the operations that only read.
-ghost use Rattle.std.specs.Prelude.{◌≡◌, ℕ, true, IfOk, IfErr};
+ghost use Rattle.std.specs.Prelude.{◌≡◌, ◌≢◌, ℕ, true, IfOk, IfErr};
+ghost use Rattle.mds_types.specs.declared.refusals.Refusal.TheVariants.{NoInodes};
 ghost use Rattle.std.specs.Option.{option_copied};
 ghost use Rattle.std.specs.FinMap as map;
 ghost use Rattle.mds_types.specs.Step.{found, page, names_after, target_of};
@@ -21,6 +22,7 @@ pub fn lookup<F: Frags>(frags: &mut F, op: &Op, dentry: &Dentry) -> Result<Check
     ensures checked { (n : ℕ) → IfOk result (Checks (F.content frags.old) (F.covers frags.old) op.now n (found (F.content frags.old) (map.get (F.content frags.old) dentry.now))) }
     ensures kept { KeepsAll (F.content frags.old) (F.content frags.new) (F.covers frags.old) (F.covers frags.new) (F.Follows frags.old frags.new) }
     ensures err { IfErr result (Refuses (F.MayRefuse frags.old frags.new op.now)) }
+    ensures numbers { IfErr result (λ reason. reason ≢ NoInodes) }
 {
     let leaf = frags.frag_of(dentry);
     match frags.look(op, dentry, leaf)? {
@@ -43,6 +45,7 @@ pub fn read_dir<F: Frags>(
     ensures checked { (n : ℕ) → IfOk result (Checks (F.content frags.old) (F.covers frags.old) op.now n (page (F.content frags.old) max (names_after (F.content frags.old) dir.0 (option_copied after.entry)))) }
     ensures kept { KeepsAll (F.content frags.old) (F.content frags.new) (F.covers frags.old) (F.covers frags.new) (F.Follows frags.old frags.new) }
     ensures err { IfErr result (Refuses (F.MayRefuse frags.old frags.new op.now)) }
+    ensures numbers { IfErr result (λ reason. reason ≢ NoInodes) }
 {
     let (list, more) = frags.list_after(alloc, op, dir, after, max)?;
     Ok(Checked::Answers(Reply::Entries { list, more }))
@@ -55,6 +58,7 @@ pub fn read_link<F: Frags>(frags: &mut F, op: &Op, dentry: &Dentry) -> Result<Ch
     ensures checked { (n : ℕ) → IfOk result (Checks (F.content frags.old) (F.covers frags.old) op.now n (link_read (F.content frags.old) (map.get (F.content frags.old) dentry.now))) }
     ensures kept { KeepsAll (F.content frags.old) (F.content frags.new) (F.covers frags.old) (F.covers frags.new) (F.Follows frags.old frags.new) }
     ensures err { IfErr result (Refuses (F.MayRefuse frags.old frags.new op.now)) }
+    ensures numbers { IfErr result (λ reason. reason ≢ NoInodes) }
 {
     let leaf = frags.frag_of(dentry);
     match frags.look(op, dentry, leaf)? {

@@ -1,5 +1,6 @@
 //! The checks of the operations that take an entry away.
-ghost use Rattle.std.specs.Prelude.{◌≡◌, ℕ, None, Some, Option, IfOk, IfErr};
+ghost use Rattle.std.specs.Prelude.{◌≡◌, ◌≢◌, ℕ, None, Some, Option, IfOk, IfErr};
+ghost use Rattle.mds_types.specs.declared.refusals.Refusal.TheVariants.{NoInodes};
 ghost use Rattle.mds_types.specs.declared.ids.Ino.{Ino as Number};
 ghost use Rattle.mds_types.specs.declared.inodes.Inode.{Inode as Node};
 ghost use Rattle.mds_types.specs.declared.inodes.Kind.TheVariants.{Dir};
@@ -25,6 +26,7 @@ pub fn unlink<F: Frags>(frags: &mut F, op: &Op, dentry: &Dentry) -> Result<Check
         (unlinked (F.content frags.old) dentry.now (map.get (F.content frags.old) dentry.now))) }
     ensures kept { KeepsAll (F.content frags.old) (F.content frags.new) (F.covers frags.old) (F.covers frags.new) (F.Follows frags.old frags.new) }
     ensures err { IfErr result (Refuses (F.MayRefuse frags.old frags.new op.now)) }
+    ensures numbers { IfErr result (λ reason. reason ≢ NoInodes) }
 {
     let leaf = frags.frag_of(dentry);
     let Some(inode) = frags.look(op, dentry, leaf)? else {
@@ -50,6 +52,7 @@ pub fn remove_dir<F: Frags>(frags: &mut F, op: &Op, dentry: &Dentry) -> Result<C
         (dir_removed (F.content frags.old) dentry.now (map.get (F.content frags.old) dentry.now))) }
     ensures kept { KeepsAll (F.content frags.old) (F.content frags.new) (F.covers frags.old) (F.covers frags.new) (F.Follows frags.old frags.new) }
     ensures err { IfErr result (Refuses (F.MayRefuse frags.old frags.new op.now)) }
+    ensures numbers { IfErr result (λ reason. reason ≢ NoInodes) }
 {
     let leaf = frags.frag_of(dentry);
     let Some(inode) = frags.look(op, dentry, leaf)? else {
@@ -72,6 +75,7 @@ fn removal_errno<F: Frags>(frags: &mut F, op: &Op, inode: &Inode) -> Result<Opti
     ensures found { IfOk result (λ errno. errno ≡ errno_of_removal (F.content frags.old) inode.now) }
     ensures kept { KeepsAll (F.content frags.old) (F.content frags.new) (F.covers frags.old) (F.covers frags.new) (F.Follows frags.old frags.new) }
     ensures err { IfErr result (F.MayRefuse frags.old frags.new op.now) }
+    ensures numbers { IfErr result (λ reason. reason ≢ NoInodes) }
 {
     if !inode.kind.is_dir() {
         return Ok(Some(ENOTDIR));

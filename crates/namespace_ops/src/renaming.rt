@@ -1,5 +1,6 @@
 //! The checks of a rename.
-ghost use Rattle.std.specs.Prelude.{◌≡◌, ℕ, true, false, Option, Some, IfOk, IfErr};
+ghost use Rattle.std.specs.Prelude.{◌≡◌, ◌≢◌, ℕ, true, false, Option, Some, IfOk, IfErr};
+ghost use Rattle.mds_types.specs.declared.refusals.Refusal.TheVariants.{NoInodes};
 ghost use Rattle.std.specs.FinMap as map;
 ghost use Rattle.mds_types.specs.declared.replies.Reply.TheVariants.{Done};
 ghost use Rattle.mds_types.specs.declared.ids.Ino.{Ino as Number};
@@ -40,6 +41,7 @@ pub fn rename<F: Frags>(
         (renamed tree from.now to.now (map.get tree from.now) (map.get tree to.now))) }
     ensures kept { KeepsAll (F.content frags.old) (F.content frags.new) (F.covers frags.old) (F.covers frags.new) (F.Follows frags.old frags.new) }
     ensures err { IfErr result (Refuses (F.MayRefuse frags.old frags.new op.now)) }
+    ensures numbers { IfErr result (λ reason. reason ≢ NoInodes) }
 {
     let source = frags.frag_of(from);
     let Some(inode) = frags.look(op, from, source)? else {
@@ -75,6 +77,7 @@ fn move_onto<F: Frags>(
         (unless tree (errno_of_replacing tree inode.now (map.get tree to.now)) (answers (with_moved tree from.now to.now inode.now) Done))) }
     ensures kept { KeepsAll (F.content frags.old) (F.content frags.new) (F.covers frags.old) (F.covers frags.new) (F.Follows frags.old frags.new) }
     ensures err { IfErr result (Refuses (F.MayRefuse frags.old frags.new op.now)) }
+    ensures numbers { IfErr result (λ reason. reason ≢ NoInodes) }
 {
     let target = frags.frag_of(to);
     let replaced = frags.look(op, to, target)?;
@@ -126,6 +129,7 @@ fn replace_errno<F: Frags>(
     ensures found { IfOk result (λ errno. errno ≡ errno_of_replacing (F.content frags.old) inode.now (option_copied replaced.entry)) }
     ensures kept { KeepsAll (F.content frags.old) (F.content frags.new) (F.covers frags.old) (F.covers frags.new) (F.Follows frags.old frags.new) }
     ensures err { IfErr result (F.MayRefuse frags.old frags.new op.now) }
+    ensures numbers { IfErr result (λ reason. reason ≢ NoInodes) }
 {
     let Some(replaced) = replaced else {
         return Ok(None)

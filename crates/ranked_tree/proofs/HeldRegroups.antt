@@ -1,5 +1,5 @@
 -- What splits and merges make of the places: each of a live leaf is at the leaf's authority then.
-use Rattle.std.specs.Prelude.{◌≡◌, ◌+◌, ◌<◌, ◌==◌, ◌^◌, ℕ, zero, suc, true, false, map as each, length, List, [], ◌∷◌, Result, Ok, Err}
+use Rattle.std.specs.Prelude.{◌≡◌, ◌<◌, ◌==◌, ◌^◌, ℕ, zero, suc, true, false, map as each, length, List, [], ◌∷◌, Result, Ok, Err}
 use Rattle.std.proofs.Common.{◌⊎◌, inl, inr, refl, sym, subst, ◌∙◌, arith}
 use Rattle.std.proofs.lemmas.Bool.{and_from, eq-eqb}
 use Rattle.std.specs.List.{Contains}
@@ -23,13 +23,11 @@ use Rattle.subtree_map.proofs.Nearest.{some_authority}
 use Rattle.mdcache.specs.Cached.{Core, KeepsNone}
 use Rattle.mdcache.specs.Frags.{KeepsState}
 use Rattle.mdcache.specs.Ranks.{AreLivePlaces, AreRanks, KeepsCaches, MayHold, NoneComes}
-use Rattle.mdcache.specs.Reads.{LacksPlaces}
 use Rattle.mdcache.specs.Regroups.{IsFamily, IsUndone, MayNotRegroup, MergesLeaves, SplitsLeaf}
 use Rattle.mdcache.specs.Sound.{IsSound}
 use Rattle.mdcache.specs.Splits.{IsMergedInto, IsSplitInto, KeepsTree}
 use Rattle.mdcache.specs.State.{State as TreeState}
 use Rattle.mdcache.proofs.AtRanks.{none_at}
-use Rattle.mdcache.proofs.FragsLaws.{lacked_before}
 use Rattle.mdcache.proofs.SplitLaws.{has_inside}
 use Rattle.ranked_tree.specs.Held.{AreHeld, IsMergedHere, IsOwned, PlacesCome}
 use Rattle.ranked_tree.specs.Subtrees.{AllHave, AreRoots, GivesToChildren, KeepsAuthorities, NoNewRank, Rules, TakesOver}
@@ -72,7 +70,7 @@ places_come Holds Come old mid new rank holds kept gave live caches r q has = go
 undone_on : (old mid new : Core) → mid.state ≡ old.state → KeepsNone mid.cache.entries → IsUndone mid new → IsUndone old new
 undone_on old mid new same none undone = (undone.0 ∙ same, λ leaf kept. let clash : true ≡ false = sym (undone.1 leaf kept) ∙ none leaf in absurd cc)
 
-regroup_on : (Can : Type 0) (Refuses : Refusal → Type 0) (s : TreeState) (dir : Ino) (count : ℕ) (NoPlace Fewer : Type 0) (before was after : ℕ) (reason : Refusal) → (NoPlace → Fewer) → before ≡ was
+pub regroup_on : (Can : Type 0) (Refuses : Refusal → Type 0) (s : TreeState) (dir : Ino) (count : ℕ) (NoPlace Fewer : Type 0) (before was after : ℕ) (reason : Refusal) → (NoPlace → Fewer) → before ≡ was
     → MayNotRegroup Can Refuses s dir count NoPlace before after reason → MayNotRegroup Can Refuses s dir count Fewer was after reason
 regroup_on Can Refuses s dir count NoPlace Fewer before was after reason less same (inl unknown) = inl unknown
 regroup_on Can Refuses s dir count NoPlace Fewer before was after reason less same (inr (inl refused)) = inr (inl refused)
@@ -81,22 +79,22 @@ regroup_on Can Refuses s dir count NoPlace Fewer before was after reason less sa
 regroup_on Can Refuses s dir count NoPlace Fewer before was after reason less same (inr (inr (known, can, inr (has, inr (inl (is, rose)))))) = inr (inr (known, can, inr (has, inr (inl (is, subst (λ (n : ℕ). n < after) same rose)))))
 regroup_on Can Refuses s dir count NoPlace Fewer before was after reason less same (inr (inr (known, can, inr (has, inr (inr (is, lacks)))))) = inr (inr (known, can, inr (has, inr (inr (is, less lacks)))))
 
-pub split_on : (old mid new : Core) (dir : Ino) (frag : Fragment) (nb : ℕ) (result : Result (Unit {0}) Refusal) → KeepsState old mid → mid.faults ≡ old.faults → KeepsNone mid.cache.entries → SplitsLeaf mid new dir frag nb result → SplitsLeaf old new dir frag nb result
-split_on old mid new dir frag nb (Ok done) kept faults none split = subst (λ (s : TreeState). IsSplitInto s new.state dir frag nb × KeepsTree s new.state dir (frag ∷ [])) kept.state split
-split_on old mid new dir frag nb (Err reason) kept faults none (because, undone) = (
-  regroup_on (CanSplit (leaves_of old.state.covers dir.0) frag nb) (RefusesSplit (leaves_of old.state.covers dir.0) frag nb) old.state dir (2 ^ nb) (LacksPlaces (2 ^ nb + 1) mid) (LacksPlaces (2 ^ nb + 1) old) mid.faults old.faults new.faults reason
-      (lacked_before (2 ^ nb + 1) old mid kept) faults
-      (subst (λ (s : TreeState). MayNotRegroup (CanSplit (leaves_of s.covers dir.0) frag nb) (RefusesSplit (leaves_of s.covers dir.0) frag nb) s dir (2 ^ nb) (LacksPlaces (2 ^ nb + 1) mid) mid.faults new.faults reason) kept.state because),
+pub split_on : (NoPlace Fewer : Type 0) (old mid new : Core) (dir : Ino) (frag : Fragment) (nb : ℕ) (result : Result (Unit {0}) Refusal) → (NoPlace → Fewer) → KeepsState old mid → mid.faults ≡ old.faults → KeepsNone mid.cache.entries
+    → SplitsLeaf NoPlace mid new dir frag nb result → SplitsLeaf Fewer old new dir frag nb result
+split_on NoPlace Fewer old mid new dir frag nb (Ok done) less kept faults none split = subst (λ (s : TreeState). IsSplitInto s new.state dir frag nb × KeepsTree s new.state dir (frag ∷ [])) kept.state split
+split_on NoPlace Fewer old mid new dir frag nb (Err reason) less kept faults none (because, undone) = (
+  regroup_on (CanSplit (leaves_of old.state.covers dir.0) frag nb) (RefusesSplit (leaves_of old.state.covers dir.0) frag nb) old.state dir (2 ^ nb) NoPlace Fewer mid.faults old.faults new.faults reason less faults
+      (subst (λ (s : TreeState). MayNotRegroup (CanSplit (leaves_of s.covers dir.0) frag nb) (RefusesSplit (leaves_of s.covers dir.0) frag nb) s dir (2 ^ nb) NoPlace mid.faults new.faults reason) kept.state because),
   undone_on old mid new kept.state none undone,
 )
 
-pub merge_on : (old mid new : Core) (dir : Ino) (frag : Fragment) (result : Result (Unit {0}) Refusal) → KeepsState old mid → mid.faults ≡ old.faults → KeepsNone mid.cache.entries → MergesLeaves mid new dir frag result → MergesLeaves old new dir frag result
-merge_on old mid new dir frag (Ok done) kept faults none merged =
+pub merge_on : (NoPlace Fewer : Type 0) (old mid new : Core) (dir : Ino) (frag : Fragment) (result : Result (Unit {0}) Refusal) → (NoPlace → Fewer) → KeepsState old mid → mid.faults ≡ old.faults → KeepsNone mid.cache.entries
+    → MergesLeaves NoPlace mid new dir frag result → MergesLeaves Fewer old new dir frag result
+merge_on NoPlace Fewer old mid new dir frag (Ok done) less kept faults none merged =
     subst (λ (s : TreeState). IsMergedInto s new.state dir frag × KeepsTree s new.state dir (leaves_inside frag (leaves_of s.covers dir.0))) kept.state merged
-merge_on old mid new dir frag (Err reason) kept faults none (because, undone) = (
-  regroup_on (CanMerge (leaves_of old.state.covers dir.0) frag) (RefusesMerge (leaves_of old.state.covers dir.0) frag) old.state dir 1 (LacksPlaces 1 mid) (LacksPlaces 1 old) mid.faults old.faults new.faults reason
-      (lacked_before 1 old mid kept) faults
-      (subst (λ (s : TreeState). MayNotRegroup (CanMerge (leaves_of s.covers dir.0) frag) (RefusesMerge (leaves_of s.covers dir.0) frag) s dir 1 (LacksPlaces 1 mid) mid.faults new.faults reason) kept.state because),
+merge_on NoPlace Fewer old mid new dir frag (Err reason) less kept faults none (because, undone) = (
+  regroup_on (CanMerge (leaves_of old.state.covers dir.0) frag) (RefusesMerge (leaves_of old.state.covers dir.0) frag) old.state dir 1 NoPlace Fewer mid.faults old.faults new.faults reason less faults
+      (subst (λ (s : TreeState). MayNotRegroup (CanMerge (leaves_of s.covers dir.0) frag) (RefusesMerge (leaves_of s.covers dir.0) frag) s dir 1 NoPlace mid.faults new.faults reason) kept.state because),
   undone_on old mid new kept.state none undone,
 )
 

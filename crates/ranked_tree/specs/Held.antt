@@ -1,5 +1,5 @@
 -- What the ranks' caches have: a rank caches only fragments that it is the authority of (Weil et al., OSDI 2006).
-use Rattle.std.specs.Prelude.{◌≡◌, ◌<◌, ◌⊎◌, true, length, map as each, Some}
+use Rattle.std.specs.Prelude.{◌≡◌, ◌<◌, ◌⊎◌, ℕ, true, length, map as each, Some}
 use Rattle.std.specs.List.{Contains}
 use Rattle.std.specs.FinMap as map
 use Rattle.mds_types.specs.declared.ids.Ino.{Ino}
@@ -12,8 +12,10 @@ use Rattle.namespace_ops.specs.declared.plans.Change.{Change}
 use Rattle.namespace_ops.specs.declared.plans.Change.TheVariants.{Add, Set, Remove, Move}
 use Rattle.rank_caches.specs.Caches.{Caches, has_place}
 use Rattle.subtree_map.specs.Authority.{Leaf, Roots}
+use Rattle.subtree_map.specs.Changes.{is_inside}
 use Rattle.mdcache.specs.declared.holders.Holders.{Holders}
 use Rattle.mdcache.specs.Cached.{Core}
+use Rattle.mdcache.specs.Reads.{LacksPlacesAt}
 use Rattle.mdcache.specs.State.{State as TreeState}
 use Rattle.ranked_tree.specs.Subtrees.{AreRoots, Rules}
 
@@ -52,3 +54,11 @@ PlacesCome Holds Come tree old new =
 -- a leaf of a directory properly inside a fragment, or the leaf that they are merged to
 abbrev pub IsMergedHere : Covers → Ino → Fragment → Leaf → Type 0
 IsMergedHere covers dir frag leaf = Contains (each (in_directory dir.0) (leaves_inside frag (leaves_of covers dir.0))) leaf ⊎ ((dir, frag) ≡ leaf)
+
+-- so many places lack at the rank that holds a leaf
+abbrev pub LacksPlacesFor : ℕ → Core → Roots → Leaf → Type 0
+LacksPlacesFor count core roots leaf = (rank : Rank) × Rules core.state roots leaf rank × LacksPlacesAt count core rank
+
+-- so many places lack at a rank that holds a leaf of a directory properly inside a fragment
+abbrev pub LacksPlacesInside : ℕ → Core → Roots → Ino → Fragment → Type 0
+LacksPlacesInside count core roots dir frag = (leaf : Leaf) × IsLive core.state.homes core.state.covers leaf × (is_inside dir.0 frag leaf ≡ true) × LacksPlacesFor count core roots leaf

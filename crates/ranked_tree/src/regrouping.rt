@@ -1,15 +1,15 @@
 //! Splits and merges of leaves, with their subtree roots.
-ghost use Rattle.std.specs.Prelude.{◌≡◌, ◌<◌, ◌≤◌, ◌^◌, true, map as each, OnOk, OnErr, IfErr, length};
+ghost use Rattle.std.specs.Prelude.{◌≡◌, ◌+◌, ◌<◌, ◌≤◌, ◌^◌, true, map as each, OnOk, OnErr, IfErr, length};
 ghost use Rattle.std.specs.List.{Contains};
 ghost use Rattle.fragtree.specs.FragTree.{CanMerge, FitsSplit, leaves_inside};
 ghost use Rattle.inode_table.specs.Dirs.{IsLive, is_known, leaves_of};
 ghost use Rattle.namespace_ops.specs.Changes.{in_directory};
 ghost use Rattle.subtree_map.specs.Authority.{Leaf};
-ghost use Rattle.subtree_map.specs.Changes.{HaveOneAuthority, IsRootMerge, IsRootSplit};
+ghost use Rattle.subtree_map.specs.Changes.{HaveOneAuthority, IsRootMerge, IsRootSplit, is_inside};
 ghost use Rattle.mdcache.specs.Ranks.{MayHold};
 ghost use Rattle.mdcache.specs.Regroups.{IsFamily, MayNotMerge, MayNotSplit, MergesLeaves, SplitsLeaf};
 ghost use Rattle.mdcache.specs.Sound.{IsSound};
-ghost use Rattle.ranked_tree.specs.Held.{AreHeld, IsMergedHere, IsOwned, PlacesCome};
+ghost use Rattle.ranked_tree.specs.Held.{AreHeld, IsMergedHere, IsOwned, LacksPlacesFor, LacksPlacesInside, PlacesCome};
 ghost use Rattle.ranked_tree.specs.Subtrees.{AllHave, AreRoots, GivesToChildren, KeepsAuthorities, KeepsRoots, NoNewRank, Rules, TakesOver};
 
 use crate::holding::holder_of;
@@ -25,7 +25,7 @@ impl<S: Store + Drop> RankedTree<S> {
     /// Splits a leaf of a directory by so many bits, as `MdCache::split` does and refuses; where it is a root its children are
     /// roots of its rank then, and where it inherits they do. Takes memory for those roots first.
     pub fn split(&mut self, alloc: Global, dir: Ino, frag: Frag, bits: u8) -> Result<(), Refusal>
-        ensures split { SplitsLeaf self.old.tree self.new.tree dir frag bits result }
+        ensures split { SplitsLeaf (LacksPlacesFor (2 ^ bits + 1) self.old.tree self.old.subtrees.roots (dir, frag)) self.old.tree self.new.tree dir frag bits result }
         ensures roots { OnOk result (IsRootSplit self.old.subtrees.roots self.new.subtrees.roots dir.0 frag bits) }
         ensures left { OnErr result (self.new.subtrees.roots ≡ self.old.subtrees.roots) }
         ensures promises { self.new.subtrees.promises ≡ self.old.subtrees.promises }
@@ -42,7 +42,7 @@ impl<S: Store + Drop> RankedTree<S> {
     /// refuses; where one of them is a root the merged leaf is a root of that rank then. Takes memory for that root first.
     pub fn merge(&mut self, alloc: Global, dir: Ino, frag: Frag) -> Result<(), Refusal>
         requires one { HaveOneAuthority self.old.subtrees.roots self.old.tree.state.homes self.old.tree.state.covers dir.0 frag }
-        ensures merged { MergesLeaves self.old.tree self.new.tree dir frag result }
+        ensures merged { MergesLeaves (LacksPlacesInside 1 self.old.tree self.old.subtrees.roots dir frag) self.old.tree self.new.tree dir frag result }
         ensures roots { OnOk result (IsRootMerge self.old.subtrees.roots self.new.subtrees.roots dir.0 frag) }
         ensures left { OnErr result (self.new.subtrees.roots ≡ self.old.subtrees.roots) }
         ensures promises { self.new.subtrees.promises ≡ self.old.subtrees.promises }
@@ -67,7 +67,7 @@ fn split_with_roots<S: Store + Drop>(
     bits: u8,
 ) -> Result<(), Refusal>
     requires owned { IsOwned tree.old roots.old.roots }
-    ensures split { SplitsLeaf tree.old tree.new dir frag bits result }
+    ensures split { SplitsLeaf (LacksPlacesFor (2 ^ bits + 1) tree.old roots.old.roots (dir, frag)) tree.old tree.new dir frag bits result }
     ensures roots { OnOk result (IsRootSplit roots.old.roots roots.new.roots dir.0 frag bits) }
     ensures left { OnErr result (roots.new.roots ≡ roots.old.roots) }
     ensures promises { roots.new.promises ≡ roots.old.promises }
@@ -101,7 +101,7 @@ fn merge_with_roots<S: Store + Drop>(
 ) -> Result<(), Refusal>
     requires owned { IsOwned tree.old roots.old.roots }
     requires one { HaveOneAuthority roots.old.roots tree.old.state.homes tree.old.state.covers dir.0 frag }
-    ensures merged { MergesLeaves tree.old tree.new dir frag result }
+    ensures merged { MergesLeaves (LacksPlacesInside 1 tree.old roots.old.roots dir frag) tree.old tree.new dir frag result }
     ensures roots { OnOk result (IsRootMerge roots.old.roots roots.new.roots dir.0 frag) }
     ensures left { OnErr result (roots.new.roots ≡ roots.old.roots) }
     ensures promises { roots.new.promises ≡ roots.old.promises }
@@ -135,7 +135,7 @@ fn split_held<S: Store + Drop>(
 ) -> Result<(), Refusal>
     requires live { IsLive tree.old.state.homes tree.old.state.covers (dir, frag) }
     requires owned { IsOwned tree.old roots.now.roots }
-    ensures split { SplitsLeaf tree.old tree.new dir frag bits result }
+    ensures split { SplitsLeaf (LacksPlacesFor (2 ^ bits + 1) tree.old roots.now.roots (dir, frag)) tree.old tree.new dir frag bits result }
     ensures count { length tree.new.ranks ≡ length tree.old.ranks }
     ensures cap { tree.new.cache.cap ≡ tree.old.cache.cap }
     ensures grows { tree.old.faults ≤ tree.new.faults }
@@ -160,7 +160,7 @@ fn merge_held<S: Store + Drop>(
     requires can { CanMerge (leaves_of tree.old.state.covers dir.0) frag }
     requires one { HaveOneAuthority roots.now.roots tree.old.state.homes tree.old.state.covers dir.0 frag }
     requires owned { IsOwned tree.old roots.now.roots }
-    ensures merged { MergesLeaves tree.old tree.new dir frag result }
+    ensures merged { MergesLeaves (LacksPlacesInside 1 tree.old roots.now.roots dir frag) tree.old tree.new dir frag result }
     ensures count { length tree.new.ranks ≡ length tree.old.ranks }
     ensures cap { tree.new.cache.cap ≡ tree.old.cache.cap }
     ensures grows { tree.old.faults ≤ tree.new.faults }
@@ -180,6 +180,7 @@ fn holder_of_all<S: Store + Drop>(tree: &MdCache<S>, roots: &Subtrees, dir: Ino,
     requires one { HaveOneAuthority roots.now.roots tree.now.state.homes tree.now.state.covers dir.0 frag }
     requires owned { IsOwned tree.now roots.now.roots }
     ensures all { AllHave tree.now.state.homes tree.now.state.covers roots.now.roots dir frag result }
+    ensures inside { (leaf : Leaf) × IsLive tree.now.state.homes tree.now.state.covers leaf × (is_inside dir.0 frag leaf ≡ true) }
     ensures there { result.0 < length tree.now.ranks }
     ensures holds { (q : Leaf) → Contains (each (in_directory dir.0) (leaves_inside frag (leaves_of tree.now.state.covers dir.0))) q → MayHold tree.now.ranks result q }
 {
@@ -200,7 +201,7 @@ fn reserve_split<S: Store + Drop>(
     ensures live { OnOk result (IsLive tree.now.state.homes tree.now.state.covers (dir, frag)) }
     ensures fits { OnOk result (FitsSplit frag bits) }
     ensures room { OnOk result (2 ^ bits ≤ roots.new.room) }
-    ensures refused { IfErr result (MayNotSplit tree.now tree.now dir frag bits) }
+    ensures refused { IfErr result (MayNotSplit (LacksPlacesFor (2 ^ bits + 1) tree.now roots.old.roots (dir, frag)) tree.now tree.now dir frag bits) }
     ensures same { roots.new.roots ≡ roots.old.roots }
     ensures promises { roots.new.promises ≡ roots.old.promises }
     ensures sound { IsSound tree.now.state }
@@ -228,7 +229,7 @@ fn reserve_merge<S: Store + Drop>(
     ensures known { OnOk result (is_known tree.now.state.homes dir.0 ≡ true) }
     ensures can { OnOk result (CanMerge (leaves_of tree.now.state.covers dir.0) frag) }
     ensures room { OnOk result (1 ≤ roots.new.room) }
-    ensures refused { IfErr result (MayNotMerge tree.now tree.now dir frag) }
+    ensures refused { IfErr result (MayNotMerge (LacksPlacesInside 1 tree.now roots.old.roots dir frag) tree.now tree.now dir frag) }
     ensures same { roots.new.roots ≡ roots.old.roots }
     ensures promises { roots.new.promises ≡ roots.old.promises }
     ensures sound { IsSound tree.now.state }

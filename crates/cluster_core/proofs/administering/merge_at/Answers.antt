@@ -1,5 +1,10 @@
-use Rattle.std.proofs.Common.{◌≡◌, true, false, rules, inr, sym, ◌∙◌}
-use Rattle.cluster_core.proofs.AdminLaws.{one_of_all}
+use Rattle.std.proofs.Common.{◌≡◌, true, false, rules, inr, refl, sym, ◌∙◌}
+use Rattle.fragtree.specs.FragTree.{CanMerge, RefusesMerge}
+use Rattle.inode_table.specs.Dirs.{leaves_of}
+use Rattle.mdcache.specs.Reads.{LacksPlacesAt}
+use Rattle.ranked_tree.specs.Held.{LacksPlacesInside}
+use Rattle.ranked_tree.proofs.HeldRegroups.{regroup_on}
+use Rattle.cluster_core.proofs.AdminLaws.{lacks_inside, one_of_all}
 use Rattle.cluster_core.proofs.Worked.{left}
 use Rattle.cluster_core.proofs.administering.merge_at.Goals as goal
 
@@ -17,7 +22,9 @@ returns-in-Err-merge-clause-merged g c numbers inboxes sessions past =
         c.in_default.ensures.can,
         c.is_all_of.ensures.0 mine,
         (λ pinned. let clash : false ≡ true = sym free ∙ c.is_any_pinned.ensures.1 pinned in cc),
-        c.in-Err-merge.ensures.merged.0,
+        regroup_on (CanMerge (leaves_of c.args.tree.now.tree.state.covers c.args.ino.0) c.args.frag) (RefusesMerge (leaves_of c.args.tree.now.tree.state.covers c.args.ino.0) c.args.frag) c.args.tree.now.tree.state c.args.ino 1
+            (LacksPlacesInside 1 c.args.tree.now.tree c.args.tree.now.subtrees.roots c.args.ino c.args.frag) (LacksPlacesAt 1 c.args.tree.now.tree c.args.rank) c.args.tree.now.tree.faults c.args.tree.now.tree.faults c.merge.new.self.tree.faults c.in-Err-merge.refusal
+            (lacks_inside 1 c.args.tree.now.tree c.args.tree.now.subtrees.roots c.args.ino c.args.frag c.args.rank (c.is_all_of.ensures.0 mine)) refl c.in-Err-merge.ensures.merged.0,
       )))),
       left c.args.tree.now.tree.state c.merge.new.self.tree.state c.args.tree.now.subtrees.roots c.merge.new.self.subtrees.roots numbers inboxes c.args.pins.now sessions past c.in-Err-merge.ensures.merged.1.0 c.in-Err-merge.ensures.left,
     )

@@ -1,18 +1,17 @@
 -- What serving made of the parts, said of the cluster's state.
-use Rattle.std.proofs.Common.{◌≡◌, ◌⊎◌, Option, Ok, sym, subst}
+use Rattle.std.proofs.Common.{◌≡◌, ◌≢◌, Option, Ok, rules, sym, subst}
 use Rattle.mds_types.specs.declared.ids.Rank.{Rank}
-use Rattle.mds_types.specs.declared.refusals.Refusal.TheVariants.{NoMemory}
+use Rattle.mds_types.specs.declared.refusals.Refusal.TheVariants.{NoInodes}
 use Rattle.inboxes.specs.Inboxes.{waiting_at}
 use Rattle.inode_table.specs.Numbers.{Supply, offer}
-use Rattle.namespace_ops.specs.Served.{LacksNumber}
 use Rattle.sessions.specs.Rooms.{table}
 use Rattle.mdcache.specs.Frags.{MayRefuse}
 use Rattle.ranked_tree.specs.Ranked.{IsReady as IsReadyIn}
 use Rattle.mdcache.specs.Shown.{shown_tree}
 use Rattle.cluster_core.specs.Master.{IsMasterIn, MayTouchAllIn}
 use Rattle.cluster_core.specs.declared.applying.Prepared.{Prepared}
-use Rattle.cluster_core.specs.Prepared.{IsMadeReady, IsPrepared, outcome_with}
-use Rattle.cluster_core.proofs.Served.{lacks_number, served_new}
+use Rattle.cluster_core.specs.Prepared.{IsMadeReady, IsPrepared, IsUnready, outcome_with}
+use Rattle.cluster_core.proofs.Served.{lacks_number, refused_there, served_new}
 use Rattle.cluster_core.proofs.serving.serve_new.Goals as goal
 
 pub returns-in-Some-take-clause-served : goal.returns-in-Some-take-clause-served
@@ -44,5 +43,19 @@ returns-in-Err-NoInodes-clause-served g c =
     c.make_ready.new.tree.tree.state c.make_ready.new.tree.subtrees.roots (table c.make_ready.new.sessions) c.make_ready.new.history.items c.in-Some.front.now c.make_ready.ensures.same c.make_ready.ensures.roots c.make_ready.ensures.known c.make_ready.ensures.past
     (c.requires.new _ (sym c.in-Some.ensures)) master
     (waiting_at c.args.inboxes.now c.args.rank) c.in-Err-NoInodes.field-0 c.end_front.new.inboxes c.end_front.new.pins c.in-Some.ensures c.in-Err-NoInodes.field-0-is
-    (subst (λ (s : Supply). (c.in-Err-NoInodes.field-0 ≡ NoMemory) ⊎ (MayRefuse c.args.tree.now.tree c.make_ready.new.tree.tree op c.in-Err-NoInodes.field-0) ⊎ (MayTouchAllIn f c.args.tree.now.subtrees.roots c.args.pins.now c.args.rank c.in-Some.front.now.client c.in-Some.front.now.tid op × LacksNumber (outcome_with f s op) (offer s) c.in-Err-NoInodes.field-0)) supply_is c.in-Err-NoInodes.ensures.ready)
+    (subst (λ (s : Supply). IsUnready (MayTouchAllIn f c.args.tree.now.subtrees.roots c.args.pins.now c.args.rank c.in-Some.front.now.client c.in-Some.front.now.tid op) (MayRefuse c.args.tree.now.tree c.make_ready.new.tree.tree op) (outcome_with f s op) (offer s) c.in-Err-NoInodes.field-0) supply_is c.in-Err-NoInodes.ensures.ready)
     c.end_front.ensures
+
+pub returns-in-Err-clause-served : goal.returns-in-Err-clause-served
+returns-in-Err-clause-served g c =
+    let supply_is = c.supply_of-supply.ensures in
+    let at_rank : c.master_of-master.result ≡ c.args.rank = c.is_same.ensures.0 c.if-not-is_same.false in
+    let master = subst (λ (m : Rank). IsMasterIn c.args.tree.now.tree.state c.args.tree.now.subtrees.roots c.args.rank c.in-Some.front.now.op m) at_rank c.master_of-master.ensures in
+    let f = c.args.tree.now.tree.state in
+    let op = c.in-Some.front.now.op in
+    let isnt : c.in-Err.refusal ≢ NoInodes = search rules in
+    refused_there f c.args.tree.now.subtrees.roots c.args.numbers.now.items c.args.inboxes.now c.args.pins.now (table c.args.sessions.now) c.args.history.now.items c.args.rank (MayRefuse c.args.tree.now.tree c.make_ready.new.tree.tree)
+    c.make_ready.new.tree.tree.state c.make_ready.new.tree.subtrees.roots (table c.make_ready.new.sessions) c.make_ready.new.history.items c.in-Some.front.now c.make_ready.ensures.same c.make_ready.ensures.roots c.make_ready.ensures.known c.make_ready.ensures.past
+    (c.requires.new _ (sym c.in-Some.ensures)) master
+    (waiting_at c.args.inboxes.now c.args.rank) c.in-Err.refusal c.in-Some.ensures isnt
+    (subst (λ (s : Supply). IsUnready (MayTouchAllIn f c.args.tree.now.subtrees.roots c.args.pins.now c.args.rank c.in-Some.front.now.client c.in-Some.front.now.tid op) (MayRefuse c.args.tree.now.tree c.make_ready.new.tree.tree op) (outcome_with f s op) (offer s) c.in-Err.refusal) supply_is c.in-Err.ensures.ready)

@@ -20,5 +20,13 @@ returns-clause-all g c =
     all_as_one c.args.tree.now.state c.args.roots.now.roots c.args.dir c.args.frag c.holder_of.result (c.args.dir, c.in-Some.leaf) c.dirs.ensures.sound c.requires.owned.0 c.requires.one (is_within c.args.dir c.args.frag c.in-Some.leaf told.1)
     (record { known = c.requires.known; stands = subst (λ (cs : Covers). HasLeaf (leaves_of cs c.args.dir.0) c.in-Some.leaf) c.dirs.ensures.trees told.0 }) c.holder_of.ensures.rules
 
+pub returns-clause-inside : goal.returns-clause-inside
+returns-clause-inside g c =
+    let told = subst (λ (o : Option Fragment). IsInsideAt (leaves_of c.dirs.result.now.trees c.args.dir.0) c.args.frag c.value.result o) c.in-Some.is c.leaf_inside.ensures in (
+      (c.args.dir, c.in-Some.leaf),
+      record { known = c.requires.known; stands = subst (λ (cs : Covers). HasLeaf (leaves_of cs c.args.dir.0) c.in-Some.leaf) c.dirs.ensures.trees told.0 },
+      is_within c.args.dir c.args.frag c.in-Some.leaf told.1,
+    )
+
 pub returns-clause-holds : goal.returns-clause-holds
 returns-clause-holds g c = may_hold_all c.args.tree.now c.args.roots.now.roots c.args.dir c.args.frag c.holder_of.result c.requires.known c.requires.owned (returns-clause-all g c)

@@ -1,12 +1,14 @@
 use Rattle.std.proofs.Common.{◌≡◌, true, sym, ap, subst}
 use Rattle.mds_types.specs.declared.ids.Rank.{Rank}
 use Rattle.fragtree.specs.FragTree.{CanMerge}
-use Rattle.inode_table.specs.Dirs.{is_known, leaves_of}
+use Rattle.inode_table.specs.Dirs.{IsLive, is_known, leaves_of}
 use Rattle.subtree_map.specs.Authority.{Leaf}
-use Rattle.subtree_map.specs.Changes.{HaveOneAuthority}
+use Rattle.subtree_map.specs.Changes.{HaveOneAuthority, is_inside}
 use Rattle.mdcache.specs.Ranks.{KeepsCaches}
+use Rattle.mdcache.specs.Reads.{LacksPlacesAt}
 use Rattle.mdcache.specs.State.{State as TreeState}
-use Rattle.ranked_tree.specs.Held.{IsMergedHere}
+use Rattle.mdcache.proofs.FragsLaws.{lacked_at}
+use Rattle.ranked_tree.specs.Held.{IsMergedHere, LacksPlacesInside}
 use Rattle.ranked_tree.specs.Subtrees.{AllHave}
 use Rattle.ranked_tree.proofs.HeldLaws.{owned_still}
 use Rattle.ranked_tree.proofs.HeldRegroups.{all_live, merge_on, places_come}
@@ -23,7 +25,12 @@ holder_of_all-rank-requires g c =
     }
 
 pub returns-clause-merged : goal.returns-clause-merged
-returns-clause-merged g c = merge_on c.args.tree.now c.unready.new.self c.merge.new.self c.args.dir c.args.frag c.merge.result c.unready.ensures.kept c.unready.ensures.faults c.unready.ensures.none c.merge.ensures.merged
+returns-clause-merged g c =
+    let rank = c.holder_of_all-rank.result in
+    let all = subst (λ (s : TreeState). AllHave s.homes s.covers c.args.roots.now.roots c.args.dir c.args.frag rank) c.unready.ensures.kept.state c.holder_of_all-rank.ensures.all in
+    let some = subst (λ (s : TreeState). (leaf : Leaf) × IsLive s.homes s.covers leaf × (is_inside c.args.dir.0 c.args.frag leaf ≡ true)) c.unready.ensures.kept.state c.holder_of_all-rank.ensures.inside in
+    merge_on (LacksPlacesAt 1 c.unready.new.self rank) (LacksPlacesInside 1 c.args.tree.now c.args.roots.now.roots c.args.dir c.args.frag) c.args.tree.now c.unready.new.self c.merge.new.self c.args.dir c.args.frag c.merge.result
+    (λ lacks. (some.0, some.1, some.2, (rank, all some.0 some.1 some.2, lacked_at 1 c.args.tree.now c.unready.new.self rank c.unready.ensures.kept lacks))) c.unready.ensures.kept c.unready.ensures.faults c.unready.ensures.none c.merge.ensures.merged
 
 pub returns-clause-places : goal.returns-clause-places
 returns-clause-places g c =

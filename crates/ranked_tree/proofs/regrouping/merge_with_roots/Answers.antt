@@ -1,7 +1,8 @@
-use Rattle.std.proofs.Common.{refl, sym, subst}
+use Rattle.std.proofs.Common.{Err, refl, sym, subst}
 use Rattle.subtree_map.specs.Authority.{Roots}
 use Rattle.subtree_map.specs.Changes.{HaveOneAuthority, IsRootMerge}
-use Rattle.ranked_tree.specs.Held.{IsMergedHere, PlacesCome}
+use Rattle.mdcache.specs.Regroups.{MergesLeaves}
+use Rattle.ranked_tree.specs.Held.{IsMergedHere, LacksPlacesInside, PlacesCome}
 use Rattle.ranked_tree.specs.Subtrees.{AllHave}
 use Rattle.ranked_tree.proofs.HeldRegroups.{merge_held, unmerged_held}
 use Rattle.ranked_tree.proofs.SubtreeLaws.{takes_over, merge_soundly, undone_soundly}
@@ -18,6 +19,11 @@ returns-in-Err-clause-ranks g c = (undone_soundly c.args.tree.now.state c.args.t
 
 pub returns-in-Err-clause-valid : goal.returns-in-Err-clause-valid
 returns-in-Err-clause-valid g c = (undone_soundly c.args.tree.now.state c.args.tree.now.state c.args.roots.now.roots c.reserve_merge.new.roots.roots c.reserve_merge.ensures.sound c.requires.owned.0 refl c.reserve_merge.ensures.same).valid
+
+pub returns-in-Err-merge_held-clause-merged : goal.returns-in-Err-merge_held-clause-merged
+returns-in-Err-merge_held-clause-merged g c =
+    subst (λ (r : Roots). MergesLeaves (LacksPlacesInside 1 c.args.tree.now r c.args.dir c.args.frag) c.args.tree.now c.merge_held.new.tree c.args.dir c.args.frag (Err c.in-Err-merge_held.refusal))
+    c.reserve_merge.ensures.same c.in-Err-merge_held.ensures.merged
 
 pub returns-in-Err-merge_held-clause-authority : goal.returns-in-Err-merge_held-clause-authority
 returns-in-Err-merge_held-clause-authority g c =

@@ -1,14 +1,13 @@
-use Rattle.std.proofs.Common.{◌≡◌, ◌+◌, ◌^◌, ℕ, inl, inr, subst, rules}
+use Rattle.std.proofs.Common.{◌≡◌, ◌^◌, ℕ, inl, inr, subst, rules}
 use Rattle.fragtree.specs.FragTree.{CanSplit, RefusesSplit}
 use Rattle.inode_table.specs.Dirs.{leaves_of}
-use Rattle.mdcache.specs.Reads.{LacksPlaces}
 use Rattle.mdcache.specs.Regroups.{LacksCounts}
 use Rattle.mdcache.proofs.SplitMade.{not_begun}
 use Rattle.ranked_tree.proofs.regrouping.reserve_split.Goals as goal
 
 pub returns-in-Err-clause-refused : goal.returns-in-Err-clause-refused
 returns-in-Err-clause-refused g c =
-    not_begun (CanSplit (leaves_of c.args.tree.now.state.covers c.args.dir.0) c.args.frag c.args.bits) (RefusesSplit (leaves_of c.args.tree.now.state.covers c.args.dir.0) c.args.frag c.args.bits) c.args.tree.now.state c.args.dir (2 ^ c.args.bits) (LacksPlaces (2 ^ c.args.bits + 1) c.args.tree.now) c.args.tree.now.faults c.args.tree.now.faults c.in-Err.refusal c.in-Err.ensures.refused
+    not_begun (CanSplit (leaves_of c.args.tree.now.state.covers c.args.dir.0) c.args.frag c.args.bits) (RefusesSplit (leaves_of c.args.tree.now.state.covers c.args.dir.0) c.args.frag c.args.bits) c.args.tree.now.state c.args.dir (2 ^ c.args.bits) _ c.args.tree.now.faults c.args.tree.now.faults c.in-Err.refusal c.in-Err.ensures.refused
 
 pub returns-in-Err-check_numbers-clause-refused : goal.returns-in-Err-check_numbers-clause-refused
 returns-in-Err-check_numbers-clause-refused g c =

@@ -1,6 +1,9 @@
-use Rattle.std.proofs.Common.{ap, subst}
+use Rattle.std.proofs.Common.{◌+◌, ◌^◌, ap, subst}
+use Rattle.mdcache.specs.Reads.{LacksPlacesAt}
 use Rattle.mdcache.specs.Regroups.{IsFamily}
 use Rattle.mdcache.specs.State.{State as TreeState}
+use Rattle.mdcache.proofs.FragsLaws.{lacked_at}
+use Rattle.ranked_tree.specs.Held.{LacksPlacesFor}
 use Rattle.ranked_tree.specs.Subtrees.{Rules}
 use Rattle.ranked_tree.proofs.AskLaws.{live_still}
 use Rattle.ranked_tree.proofs.HeldLaws.{owned_still}
@@ -15,7 +18,11 @@ holder_of-rank-requires-clause-owned g c =
     owned_still c.args.tree.now c.unready.new.self c.args.roots.now.roots (ap (λ (s : TreeState). s.homes) c.unready.ensures.kept.state) (ap (λ (s : TreeState). s.covers) c.unready.ensures.kept.state) c.unready.ensures.caches c.requires.owned
 
 pub returns-clause-split : goal.returns-clause-split
-returns-clause-split g c = split_on c.args.tree.now c.unready.new.self c.split.new.self c.args.dir c.args.frag c.args.bits c.split.result c.unready.ensures.kept c.unready.ensures.faults c.unready.ensures.none c.split.ensures.split
+returns-clause-split g c =
+    let rank = c.holder_of-rank.result in
+    let rules = subst (λ (s : TreeState). Rules s c.args.roots.now.roots (c.args.dir, c.args.frag) rank) c.unready.ensures.kept.state c.holder_of-rank.ensures.rules in
+    split_on (LacksPlacesAt (2 ^ c.args.bits + 1) c.unready.new.self rank) (LacksPlacesFor (2 ^ c.args.bits + 1) c.args.tree.now c.args.roots.now.roots (c.args.dir, c.args.frag)) c.args.tree.now c.unready.new.self c.split.new.self c.args.dir c.args.frag c.args.bits c.split.result
+    (λ lacks. (rank, rules, lacked_at (2 ^ c.args.bits + 1) c.args.tree.now c.unready.new.self rank c.unready.ensures.kept lacks)) c.unready.ensures.kept c.unready.ensures.faults c.unready.ensures.none c.split.ensures.split
 
 pub returns-clause-places : goal.returns-clause-places
 returns-clause-places g c =

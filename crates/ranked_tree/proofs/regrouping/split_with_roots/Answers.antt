@@ -1,8 +1,8 @@
-use Rattle.std.proofs.Common.{refl, subst}
+use Rattle.std.proofs.Common.{◌+◌, ◌^◌, Err, refl, subst}
 use Rattle.subtree_map.specs.Authority.{Roots}
 use Rattle.subtree_map.specs.Changes.{IsRootSplit}
-use Rattle.mdcache.specs.Regroups.{IsFamily}
-use Rattle.ranked_tree.specs.Held.{PlacesCome}
+use Rattle.mdcache.specs.Regroups.{IsFamily, SplitsLeaf}
+use Rattle.ranked_tree.specs.Held.{LacksPlacesFor, PlacesCome}
 use Rattle.ranked_tree.specs.Subtrees.{Rules}
 use Rattle.ranked_tree.proofs.HeldRegroups.{split_held, unsplit_held}
 use Rattle.ranked_tree.proofs.SubtreeLaws.{children_have, split_soundly, undone_soundly}
@@ -19,6 +19,11 @@ returns-in-Err-clause-ranks g c = (undone_soundly c.args.tree.now.state c.args.t
 
 pub returns-in-Err-clause-valid : goal.returns-in-Err-clause-valid
 returns-in-Err-clause-valid g c = (undone_soundly c.args.tree.now.state c.args.tree.now.state c.args.roots.now.roots c.reserve_split.new.roots.roots c.reserve_split.ensures.sound c.requires.owned.0 refl c.reserve_split.ensures.same).valid
+
+pub returns-in-Err-split_held-clause-split : goal.returns-in-Err-split_held-clause-split
+returns-in-Err-split_held-clause-split g c =
+    subst (λ (r : Roots). SplitsLeaf (LacksPlacesFor (2 ^ c.args.bits + 1) c.args.tree.now r (c.args.dir, c.args.frag)) c.args.tree.now c.split_held.new.tree c.args.dir c.args.frag c.args.bits (Err c.in-Err-split_held.refusal))
+    c.reserve_split.ensures.same c.in-Err-split_held.ensures.split
 
 pub returns-in-Err-split_held-clause-authority : goal.returns-in-Err-split_held-clause-authority
 returns-in-Err-split_held-clause-authority g c =

@@ -12,6 +12,7 @@ use Rattle.mdcache.specs.Cached.{Core, state_of}
 use Rattle.mdcache.specs.Changes.{with_objects, without_leaves}
 use Rattle.mdcache.specs.Joining.{IsPutInPlace}
 use Rattle.mdcache.specs.Ranks.{KeepsCaches, MayHold, NoneComes}
+use Rattle.mdcache.specs.Reads.{LacksPlacesAt}
 use Rattle.mdcache.specs.Regroups.{MergesLeaves}
 use Rattle.mdcache.specs.Splits.{IsMergedInto, KeepsTree}
 use Rattle.mdcache.specs.State.{State}
@@ -26,7 +27,7 @@ use Rattle.mdcache.proofs.mdcache.MdCache.merge.Goals as goal
 
 pub returns-in-Err-clause-merged : goal.returns-in-Err-clause-merged
 returns-in-Err-clause-merged g c =
-    subst (λ (v : Core). MergesLeaves v v c.args.dir c.args.frag (Err c.in-Err.refusal)) c.self.view_is
+    subst (λ (v : Core). MergesLeaves (LacksPlacesAt 1 v c.args.rank) v v c.args.dir c.args.frag (Err c.in-Err.refusal)) c.self.view_is
     (not_begun (CanMerge (leaves_of c.self.inside.dirs.trees c.args.dir.0) c.args.frag) (RefusesMerge (leaves_of c.self.inside.dirs.trees c.args.dir.0) c.args.frag) (state_of c.self.inside.dirs (all_of c.self.inside.caches) (g.S.Store.objects c.self.inside.store) c.self.inside.jobs c.self.inside.purge c.self.inside.next) c.args.dir 1 _ _ _ c.in-Err.refusal c.in-Err.ensures.refused, (refl, λ q kept. kept))
 
 pub give_up_at-requires-clause-there : goal.give_up_at-requires-clause-there
@@ -91,7 +92,7 @@ returns-in-Ok-clause-merged g c =
     let d = c.commit_merge.ensures in
     let after = state_of c.commit_merge.new.dirs (all_of c.commit_merge.new.caches) (g.S.Store.objects c.prepare_merge.new.store) c.commit_merge.new.jobs c.commit_merge.new.purge c.commit_merge.new.next in
     let given = given_state c.self.inside.dirs (all_of c.self.inside.caches) (g.S.Store.objects c.self.inside.store) c.self.inside.jobs c.self.inside.purge c.self.inside.next c.self.invariant.0 (all_of c.give_up_at.new.caches) (c.give_up_at.ensures.at (g.S.Store.objects c.self.inside.store)).reads in
-    subst (λ (v : Core). MergesLeaves v (record { state = after; ranks = c.commit_merge.new.caches; cache = all_of c.commit_merge.new.caches; dirs_left = c.commit_merge.new.dirs.room; purge_left = c.commit_merge.new.purge.room; faults = g.S.Store.faults c.prepare_merge.new.store; prepared = c.self.inside.prepared }) c.args.dir c.args.frag (Ok tt)) c.self.view_is (
+    subst (λ (v : Core). MergesLeaves (LacksPlacesAt 1 v c.args.rank) v (record { state = after; ranks = c.commit_merge.new.caches; cache = all_of c.commit_merge.new.caches; dirs_left = c.commit_merge.new.dirs.room; purge_left = c.commit_merge.new.purge.room; faults = g.S.Store.faults c.prepare_merge.new.store; prepared = c.self.inside.prepared }) c.args.dir c.args.frag (Ok tt)) c.self.view_is (
       subst (λ (s : State). IsMergedInto s after c.args.dir c.args.frag) given (merge_into c.self.inside.dirs c.give_up_at.new.caches (g.S.Store.objects c.self.inside.store) c.self.inside.jobs c.self.inside.purge c.self.inside.next (given_kept c.self.inside.dirs (all_of c.self.inside.caches) (g.S.Store.objects c.self.inside.store) c.self.inside.jobs c.self.inside.purge c.self.inside.next c.self.invariant.0 (all_of c.give_up_at.new.caches) (c.give_up_at.ensures.at (g.S.Store.objects c.self.inside.store)).reads) c.args.rank (there_then NoneComes c.self.inside.caches c.give_up_at.new.caches c.args.rank (c.give_up_at.ensures.at (g.S.Store.objects c.self.inside.store)).caches (subst (λ (v : Core). c.args.rank.0 < length v.ranks) (sym c.self.view_is) c.requires.there)) (c.give_up_at.ensures.at (g.S.Store.objects c.self.inside.store)).caches.ranks c.args.dir c.args.frag c.in_default.ensures.known c.in_default.ensures.can
           c.prepare_merge.new.dirs e.homes e.trees c.prepare_merge.new.caches (λ (other : Rank) (q : Leaf). (other ≡ c.args.rank) × (Contains (each (in_directory c.args.dir.0) (leaves_inside c.args.frag (leaves_of c.self.inside.dirs.trees c.args.dir.0))) q ⊎ ((c.args.dir, c.args.frag) ≡ q))) e.caches (g.S.Store.objects c.prepare_merge.new.store) e.same e.left c.prepare_merge.new.purge e.names
           c.in-Ok.merge.cover e.merged e.whole c.in-Ok.merge.joined e.fresh e.numbered e.dirty c.commit_merge.new.dirs d.homes d.trees
@@ -112,7 +113,7 @@ returns-in-Err-prepare_merge-clause-merged g c =
     let at = c.give_up_at.ensures.at (g.S.Store.objects c.self.inside.store) in
     let some : c.self.inside.next.generation + 1 < 2 ^ 64 = search rules in
     let one : c.self.inside.next.version < 2 ^ 64 - 1 = search rules in
-    subst (λ (v : Core). MergesLeaves v (record { state = state_of c.prepare_merge.new.dirs (all_of c.prepare_merge.new.caches) (g.S.Store.objects c.prepare_merge.new.store) c.self.inside.jobs c.prepare_merge.new.purge c.self.inside.next; ranks = c.prepare_merge.new.caches; cache = all_of c.prepare_merge.new.caches; dirs_left = c.prepare_merge.new.dirs.room; purge_left = c.prepare_merge.new.purge.room; faults = g.S.Store.faults c.prepare_merge.new.store; prepared = c.self.inside.prepared }) c.args.dir c.args.frag (Err c.in-Err-prepare_merge.refusal)) c.self.view_is (
+    subst (λ (v : Core). MergesLeaves (LacksPlacesAt 1 v c.args.rank) v (record { state = state_of c.prepare_merge.new.dirs (all_of c.prepare_merge.new.caches) (g.S.Store.objects c.prepare_merge.new.store) c.self.inside.jobs c.prepare_merge.new.purge c.self.inside.next; ranks = c.prepare_merge.new.caches; cache = all_of c.prepare_merge.new.caches; dirs_left = c.prepare_merge.new.dirs.room; purge_left = c.prepare_merge.new.purge.room; faults = g.S.Store.faults c.prepare_merge.new.store; prepared = c.self.inside.prepared }) c.args.dir c.args.frag (Err c.in-Err-prepare_merge.refusal)) c.self.view_is (
       inr (inr (
         c.in_default.ensures.known,
         c.in_default.ensures.can,

@@ -8,6 +8,7 @@ use Rattle.dentry_cache.specs.Cache.{Leaf}
 use Rattle.rank_caches.specs.Caches.{all_of}
 use Rattle.mdcache.specs.Cached.{Core, state_of}
 use Rattle.mdcache.specs.Ranks.{KeepsCaches, MayHold}
+use Rattle.mdcache.specs.Reads.{LacksPlacesAt}
 use Rattle.mdcache.specs.Regroups.{IsFamily, SplitsLeaf}
 use Rattle.mdcache.specs.Splits.{IsSplitInto, KeepsTree}
 use Rattle.mdcache.specs.State.{State}
@@ -21,7 +22,7 @@ use Rattle.mdcache.proofs.mdcache.MdCache.split.Goals as goal
 
 pub returns-in-Err-clause-split : goal.returns-in-Err-clause-split
 returns-in-Err-clause-split g c =
-    subst (λ (v : Core). SplitsLeaf v v c.args.dir c.args.frag c.args.nb (Err c.in-Err.refusal)) c.self.view_is
+    subst (λ (v : Core). SplitsLeaf (LacksPlacesAt (2 ^ c.args.nb + 1) v c.args.rank) v v c.args.dir c.args.frag c.args.nb (Err c.in-Err.refusal)) c.self.view_is
     (not_begun (CanSplit (leaves_of c.self.inside.dirs.trees c.args.dir.0) c.args.frag c.args.nb) (RefusesSplit (leaves_of c.self.inside.dirs.trees c.args.dir.0) c.args.frag c.args.nb) (state_of c.self.inside.dirs (all_of c.self.inside.caches) (g.S.Store.objects c.self.inside.store) c.self.inside.jobs c.self.inside.purge c.self.inside.next) c.args.dir (2 ^ c.args.nb) _ _ _ c.in-Err.refusal c.in-Err.ensures.refused, (refl, λ q kept. kept))
 
 pub prepare_split-requires-clause-holds : goal.prepare_split-requires-clause-holds
@@ -88,7 +89,7 @@ returns-in-Ok-clause-split g c =
     let holds = holds_on (λ (other : Rank) (q : Leaf). (other ≡ c.args.rank) × IsFamily c.args.dir c.args.frag c.args.nb q) c.give_up_at.new.caches c.prepare_split.new.caches c.args.rank (c.args.dir, c.args.frag) (λ other may. may.0) e.caches (holds_after c.self.inside.caches c.give_up_at.new.caches c.args.rank (c.args.dir, c.args.frag) (c.give_up_at.ensures.at (g.S.Store.objects c.self.inside.store)).caches (subst (λ (v : Core). MayHold v.ranks c.args.rank (c.args.dir, c.args.frag)) (sym c.self.view_is) c.requires.holds)) in
     let after = state_of c.commit_split.new.dirs (all_of c.commit_split.new.caches) (g.S.Store.objects c.prepare_split.new.store) c.commit_split.new.jobs c.commit_split.new.purge c.commit_split.new.next in
     let given = given_state c.self.inside.dirs (all_of c.self.inside.caches) (g.S.Store.objects c.self.inside.store) c.self.inside.jobs c.self.inside.purge c.self.inside.next c.self.invariant.0 (all_of c.give_up_at.new.caches) (c.give_up_at.ensures.at (g.S.Store.objects c.self.inside.store)).reads in
-    subst (λ (v : Core). SplitsLeaf v (record { state = after; ranks = c.commit_split.new.caches; cache = all_of c.commit_split.new.caches; dirs_left = c.commit_split.new.dirs.room; purge_left = c.commit_split.new.purge.room; faults = g.S.Store.faults c.prepare_split.new.store; prepared = c.self.inside.prepared }) c.args.dir c.args.frag c.args.nb (Ok tt)) c.self.view_is (
+    subst (λ (v : Core). SplitsLeaf (LacksPlacesAt (2 ^ c.args.nb + 1) v c.args.rank) v (record { state = after; ranks = c.commit_split.new.caches; cache = all_of c.commit_split.new.caches; dirs_left = c.commit_split.new.dirs.room; purge_left = c.commit_split.new.purge.room; faults = g.S.Store.faults c.prepare_split.new.store; prepared = c.self.inside.prepared }) c.args.dir c.args.frag c.args.nb (Ok tt)) c.self.view_is (
       subst (λ (s : State). IsSplitInto s after c.args.dir c.args.frag c.args.nb) given (split_into c.self.inside.dirs c.give_up_at.new.caches (g.S.Store.objects c.self.inside.store) c.self.inside.jobs c.self.inside.purge c.self.inside.next (given_kept c.self.inside.dirs (all_of c.self.inside.caches) (g.S.Store.objects c.self.inside.store) c.self.inside.jobs c.self.inside.purge c.self.inside.next c.self.invariant.0 (all_of c.give_up_at.new.caches) (c.give_up_at.ensures.at (g.S.Store.objects c.self.inside.store)).reads) c.args.rank (holds_after c.self.inside.caches c.give_up_at.new.caches c.args.rank (c.args.dir, c.args.frag) (c.give_up_at.ensures.at (g.S.Store.objects c.self.inside.store)).caches (subst (λ (v : Core). MayHold v.ranks c.args.rank (c.args.dir, c.args.frag)) (sym c.self.view_is) c.requires.holds)).there (c.give_up_at.ensures.at (g.S.Store.objects c.self.inside.store)).caches.ranks c.args.dir c.args.frag c.args.nb c.in_default.ensures.known c.in_default.ensures.can
           c.prepare_split.new.dirs e.homes e.trees c.prepare_split.new.caches (λ (other : Rank) (q : Leaf). (other ≡ c.args.rank) × IsFamily c.args.dir c.args.frag c.args.nb q) e.caches (g.S.Store.objects c.prepare_split.new.store) e.same e.left c.prepare_split.new.purge e.names holds
           c.in-Ok.split.cover e.divided e.whole (string_bytes c.in-Ok.split.object) e.object (each string_bytes c.in-Ok.split.children.items) e.children c.in-Ok.split.parts e.ready e.numbered
@@ -105,7 +106,7 @@ returns-in-Err-prepare_split-clause-split g c =
     let at = c.give_up_at.ensures.at (g.S.Store.objects c.self.inside.store) in
     let some : c.self.inside.next.generation + 2 ^ c.args.nb < 2 ^ 64 = search rules in
     let one : c.self.inside.next.version < 2 ^ 64 - 1 = search rules in
-    subst (λ (v : Core). SplitsLeaf v (record { state = state_of c.prepare_split.new.dirs (all_of c.prepare_split.new.caches) (g.S.Store.objects c.prepare_split.new.store) c.self.inside.jobs c.prepare_split.new.purge c.self.inside.next; ranks = c.prepare_split.new.caches; cache = all_of c.prepare_split.new.caches; dirs_left = c.prepare_split.new.dirs.room; purge_left = c.prepare_split.new.purge.room; faults = g.S.Store.faults c.prepare_split.new.store; prepared = c.self.inside.prepared }) c.args.dir c.args.frag c.args.nb (Err c.in-Err-prepare_split.refusal)) c.self.view_is (
+    subst (λ (v : Core). SplitsLeaf (LacksPlacesAt (2 ^ c.args.nb + 1) v c.args.rank) v (record { state = state_of c.prepare_split.new.dirs (all_of c.prepare_split.new.caches) (g.S.Store.objects c.prepare_split.new.store) c.self.inside.jobs c.prepare_split.new.purge c.self.inside.next; ranks = c.prepare_split.new.caches; cache = all_of c.prepare_split.new.caches; dirs_left = c.prepare_split.new.dirs.room; purge_left = c.prepare_split.new.purge.room; faults = g.S.Store.faults c.prepare_split.new.store; prepared = c.self.inside.prepared }) c.args.dir c.args.frag c.args.nb (Err c.in-Err-prepare_split.refusal)) c.self.view_is (
       inr (inr (
         c.in_default.ensures.known,
         c.in_default.ensures.can,
