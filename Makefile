@@ -13,9 +13,10 @@ all:
 run: all
 	@./cephmeta script
 
-# `rt ci` proves and builds the program; nothing is proved again for what follows it
+# `rt ci` proves and builds the program; nothing is proved again for what follows it. With RT_JOBS each check has one job, and as many
+# run side by side as there are processors: the same wall time, for fewer processor minutes (docs/PROVING.md, Times)
 test:
-	@rt ci
+	@RT_JOBS=$$(nproc) rt ci
 	@tests/claims/run
 	@tests/units/run
 	@cp crates/cephmeta/out/cephmeta cephmeta

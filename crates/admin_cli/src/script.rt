@@ -1,11 +1,12 @@
 //! Running a script.
-ghost use Rattle.std.specs.Prelude.{◌≡◌, ◌+◌, ◌<◌, ◌≤◌, ◌^◌, length};
-ghost use Rattle.admin_cli.specs.Scripts.{text_of, RunsInput, RunsNew};
+ghost use Rattle.std.specs.Prelude.{◌≡◌, ◌+◌, ◌<◌, ◌≤◌, ◌^◌, length, IfSome};
+ghost use Rattle.std.specs.FinMap as map;
+ghost use Rattle.admin_cli.specs.Scripts.{text_of, IsFormatted, RunsInput, RunsNew};
 ghost use Rattle.admin_cli.specs.OneLine.{EndsLine, AnswersLine, Prints};
 
 use crate::commands::Admin;
 use crate::faults::{FaultKind, ScriptFault};
-use cluster_core::format;
+use cluster_core::{Book, format};
 use objstore::MemStore;
 use script_output::{OutputFault, OutputLine, write_line};
 use script_text::{Line, LineBuffer, LineFault, NextLine, next_line, read_line};
@@ -29,13 +30,43 @@ pub fn run_script<H: AllocGlobal, R: Read + Drop, W: Write>(
     ensures { RunsNew ranks cache (R.remaining reader) (W.contents writer.old) (W.contents writer.new) result }
 {
     let alloc = rt.alloc();
-    match format(alloc, MemStore::new(alloc), ranks, cache) {
-        Ok(book) => {
-            let mut admin = Admin::new(alloc, book);
-            run_input(alloc, reader, writer, &mut admin)
+    match new_book(alloc, ranks, cache) {
+        Some(book) => run_book(alloc, reader, writer, book),
+        // (dropped by name, as what has many parts is: docs/PROVING.md)
+        none => {
+            drop(none);
+            Err(NO_MEMORY_AT_START)
         }
-        Err(_) => Err(NO_MEMORY_AT_START),
     }
+}
+
+// A book over a new store; nothing where memory for it is refused.
+fn new_book(alloc: Global, ranks: u8, cache: u32) -> Option<Book<MemStore>>
+    requires one { 1 ≤ ranks }
+    requires few { ranks ≤ 16 }
+    requires least { 512 ≤ cache }
+    requires most { cache ≤ 65536 }
+    ensures { IfSome result (IsFormatted ranks cache) }
+{
+    match format(alloc, MemStore::new(alloc), ranks, cache) {
+        Ok(book) => Some(book),
+        Err(_) => None,
+    }
+}
+
+// Runs the lines of a reader over a book, with no line read yet.
+fn run_book<R: Read + Drop, W: Write>(
+    alloc: Global,
+    reader: R,
+    writer: &mut W,
+    book: Book<MemStore>,
+) -> Result<(), ScriptFault>
+    ensures { RunsInput (record { book = book; operations = 0; jobs = map.empty }) (R.remaining reader) (W.contents writer.old) (W.contents writer.new) result }
+{
+    let mut admin = Admin::new(alloc, book);
+    let ended = run_input(alloc, reader, writer, &mut admin);
+    drop(admin);
+    ended
 }
 
 // Takes the memory that reading needs, and runs the lines of a reader.

@@ -1,5 +1,5 @@
 //! Applying a request: everything that may be refused is made first, and then it is done, which can't fail.
-ghost use Rattle.std.specs.Prelude.{◌≡◌, ◌<◌, ◌++◌, ◌∷◌, [], true, length, set, vec_len, vec_capacity, IsSome, MatchResult, OnOk};
+ghost use Rattle.std.specs.Prelude.{◌≡◌, ◌<◌, ◌++◌, ◌∷◌, [], true, length, set, vec_len, vec_capacity, IfErr, IfOk, IsSome, MatchResult, OnOk};
 ghost use Rattle.std.specs.Option.{option_copied};
 ghost use Rattle.mds_types.specs.Step.{step, number_or};
 ghost use Rattle.inode_table.specs.Numbers.{offer};
@@ -26,7 +26,7 @@ use namespace_ops::{Change, Frags, Plan, plan_op};
 use objstore::Store;
 use ranked_tree::{RankedTree, went_with};
 use sessions::Sessions;
-use std::alloc::Global;
+use std::alloc::{AllocError, Global};
 
 /// All that applying a request needs, made before its first change.
 #[derive(Debug, Drop)]
@@ -74,15 +74,47 @@ pub fn prepare<F: Frags>(
     history.reserve(1)?;
     sessions.reserve(alloc, client)?;
     let plan = plan_op(alloc, frags, op, numbers.peek())?;
-    let answer = plan.reply.try_clone()?;
-    let kept = plan.reply.try_clone()?;
-    let numbers = supply_after(numbers, plan.number);
-    Ok(Prepared {
-        plan,
-        answer,
-        kept,
-        numbers,
-    })
+    with_copies(plan, numbers)
+}
+
+// A plan with two more copies of its reply, and the numbers that it leaves.
+fn with_copies(plan: Plan, numbers: Numbers) -> Result<Prepared, Refusal>
+    requires { IsSome plan.number → IsSome (offer numbers) }
+    ensures planned { IfOk result (λ prepared. prepared.plan ≡ plan) }
+    ensures copied { IfOk result (λ prepared. prepared.answer ≡ plan.reply) }
+    ensures kept { IfOk result (λ prepared. prepared.kept ≡ plan.reply) }
+    ensures drawn { IfOk result (λ prepared. prepared.numbers ≡ after_taking numbers plan.number) }
+    ensures refused { IfErr result (λ reason. reason ≡ Refusal.NoMemory) }
+{
+    match copies_of(&plan.reply) {
+        Ok((answer, kept)) => {
+            let numbers = supply_after(numbers, plan.number);
+            Ok(Prepared {
+                plan,
+                answer,
+                kept,
+                numbers,
+            })
+        }
+        Err(_) => {
+            drop(plan);
+            Err(Refusal::NoMemory)
+        }
+    }
+}
+
+// Two copies of a reply.
+fn copies_of(reply: &Reply) -> Result<(Reply, Reply), AllocError>
+    ensures { IfOk result (λ copies. (copies.0 ≡ reply.now) × (copies.1 ≡ reply.now)) }
+{
+    let one = reply.try_clone()?;
+    match reply.try_clone() {
+        Ok(other) => Ok((one, other)),
+        Err(refused) => {
+            drop(one);
+            Err(refused)
+        }
+    }
 }
 
 /// Applies a request of this rank for which everything was prepared. It can't fail.

@@ -140,7 +140,11 @@ impl<S: Store + Drop> Cluster<S> {
             } => self.split(alloc, rank, ino, frag, bits),
             Event::Merge { rank, ino, frag } => self.merge(alloc, rank, ino, frag),
             Event::CommitBegin { rank, ino, frag } => self.begin_commit(rank, ino, frag),
-            Event::CommitEnd(encoded) => self.end_commit(alloc, &encoded),
+            Event::CommitEnd(encoded) => {
+                let ended = self.end_commit(alloc, &encoded);
+                drop(encoded);
+                ended
+            }
             Event::CommitDrop { job } => self.drop_commit(job),
             Event::CommitTree { ino } => self.commit_tree(alloc, ino),
             Event::Purge => self.purge(),
@@ -158,6 +162,7 @@ impl<S: Store + Drop> Cluster<S> {
         ensures faults { self.new.faults ≡ self.old.faults }
     {
         if !self.is_rank(rank) {
+            drop(request);
             return Err(Refusal::NotAuthority);
         }
         if let Err(refusal) = self.inboxes.arrive(rank, request) {

@@ -190,12 +190,15 @@ fn answer_again(
 {
     let reply = reply.try_clone()?;
     let Some(request) = inboxes.take(rank) else {
-        return Err(Refusal::InboxEmpty)
+        drop(reply);
+        return Err(Refusal::InboxEmpty);
     };
-    pins.end_pair(request.client, request.tid);
+    let (client, tid) = (request.client, request.tid);
+    drop(request);
+    pins.end_pair(client, tid);
     Ok(Answer::Reply {
-        client: request.client,
-        tid: request.tid,
+        client,
+        tid,
         place,
         first: false,
         reply,

@@ -21,8 +21,8 @@ returns-in-CommitBegin g c =
 
 pub returns-in-CommitEnd : goal.returns-in-CommitEnd
 returns-in-CommitEnd g c =
-    let kept = ended_keeps c.args.self.now.state c.end_commit.new.self.state c.args.history.now.items c.args.history.now.items c.requires.1.subtrees _ _ _ _ (c.end_commit.ensures.ended _) in
-    record { stepped = rw c.in-CommitEnd.is (record { does = c.end_commit.ensures.ended _; authorities = kept.authorities; ranks = c.end_commit.ensures.count; capacity = c.end_commit.ensures.cap; grows = c.end_commit.ensures.grows }); kept = kept }
+    let kept = ended_keeps c.args.self.now.state c.end_commit-ended.new.self.state c.args.history.now.items c.args.history.now.items c.requires.1.subtrees _ _ _ _ (c.end_commit-ended.ensures.ended _) in
+    record { stepped = rw c.in-CommitEnd.is (record { does = c.end_commit-ended.ensures.ended _; authorities = kept.authorities; ranks = c.end_commit-ended.ensures.count; capacity = c.end_commit-ended.ensures.cap; grows = c.end_commit-ended.ensures.grows }); kept = kept }
 
 pub returns-in-CommitDrop : goal.returns-in-CommitDrop
 returns-in-CommitDrop g c =
