@@ -173,7 +173,9 @@ impl Frags for PlainFrags {
         let tree = self.dirs.tree(alloc, dir)?;
         // of a tree that is asked for its length its leaves are known to cover every hash
         let _ = tree.len();
-        Ok(tree.leaves(alloc)?)
+        let leaves = tree.leaves(alloc);
+        drop(tree);
+        Ok(leaves?)
     }
 
     fn look(&mut self, _op: &Op, dentry: &Dentry, _leaf: Frag) -> Result<Option<Inode>, Refusal> {

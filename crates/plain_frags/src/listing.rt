@@ -22,9 +22,23 @@ pub fn first_rows(
         if list.len() == most {
             return Ok((Listing::from_vec(list), true));
         }
-        list.push((row.0.name.try_clone()?, row.1.try_clone()?))?;
+        list.push(copy_of(row)?)?;
     }
     Ok((Listing::from_vec(list), false))
+}
+
+// The name and the inode of a row.
+fn copy_of(row: &(Dentry, Inode)) -> Result<(Name, Inode), AllocError>
+    ensures { IfOk result (λ copy. copy ≡ (row.now.0.name, row.now.1)) }
+{
+    let name = row.0.name.try_clone()?;
+    match row.1.try_clone() {
+        Ok(inode) => Ok((name, inode)),
+        Err(refused) => {
+            drop(name);
+            Err(refused)
+        }
+    }
 }
 
 /// The next row, if it is one of the directory.

@@ -12,7 +12,7 @@ use script_words::{NOT_COMMAND, ReadError, client, decimal, first, next_word, on
 use std::alloc::Global;
 
 /// What a line of the script asks for.
-#[derive(Clone, Debug, Drop, PartialEq, Eq)]
+#[derive(Debug, Drop, PartialEq, Eq)]
 pub enum Command {
     /// An operation alone: it arrives at rank 0 as client 0, and is served there.
     Operation(Op),

@@ -10,7 +10,7 @@ use script_words::{NOT_COMMAND, ReadError, decimal, frag, ino, none, one, rank, 
 use std::alloc::Global;
 
 /// What a line on the store asks for.
-#[derive(Clone, Debug, Drop, PartialEq, Eq)]
+#[derive(Debug, Drop, PartialEq, Eq)]
 pub enum StoreCommand {
     /// A commit of a leaf is begun, and its job kept.
     CommitBegin { rank: Rank, ino: Ino, frag: Frag },
