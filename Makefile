@@ -14,7 +14,7 @@ run: all
 	@./cephmeta script
 
 # `rt ci` proves and builds the program; nothing is proved again for what follows it. With RT_JOBS each check has one job, and as many
-# run side by side as there are processors: the same wall time, for fewer processor minutes (docs/PROVING.md, Times)
+# run side by side as there are processors, which takes fewer processor minutes (docs/PROVING.md, Times)
 test:
 	@RT_JOBS=$$(nproc) rt ci
 	@tests/claims/run
