@@ -184,7 +184,21 @@ fn first_rows(
         if list.len() == most {
             return Ok((Listing::from_vec(list), true));
         }
-        list.push((name.try_clone()?, inode.try_clone()?))?;
+        list.push(copy_of(name, inode)?)?;
     }
     Ok((Listing::from_vec(list), false))
+}
+
+// A name and its inode, copied.
+fn copy_of(name: &Name, inode: &Inode) -> Result<(Name, Inode), AllocError>
+    ensures { IfOk result (λ copy. copy ≡ (name.now, inode.now)) }
+{
+    let name = name.try_clone()?;
+    match inode.try_clone() {
+        Ok(inode) => Ok((name, inode)),
+        Err(refused) => {
+            drop(name);
+            Err(refused)
+        }
+    }
 }

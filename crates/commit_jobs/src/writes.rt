@@ -19,12 +19,34 @@ pub fn write_of(alloc: Global, snapshot: &Snapshot) -> Result<WriteOp, AllocErro
     ensures { IfOk result (λ op. op ≡ write_of snapshot.now) }
 {
     let base = snapshot.base();
-    Ok(WriteOp {
-        clear: base.is_fresh(),
-        header: Some(header_after(alloc, snapshot)?),
-        set: set_of(alloc, snapshot.names())?,
-        remove: removed_on(alloc, base, snapshot.names())?,
-    })
+    let (set, remove) = changes_of(alloc, snapshot)?;
+    match header_after(alloc, snapshot) {
+        Ok(header) => Ok(WriteOp {
+            clear: base.is_fresh(),
+            header: Some(header),
+            set,
+            remove,
+        }),
+        Err(refused) => {
+            drop(set);
+            drop(remove);
+            Err(refused)
+        }
+    }
+}
+
+// What the write of a snapshot sets, and what it removes.
+fn changes_of(alloc: Global, snapshot: &Snapshot) -> Result<(Pairs, KeySet), AllocError>
+    ensures { IfOk result (λ changes. (changes.0 ≡ set_of snapshot.now.names) × (changes.1 ≡ removed_on snapshot.now.base snapshot.now.names)) }
+{
+    let set = set_of(alloc, snapshot.names())?;
+    match removed_on(alloc, snapshot.base(), snapshot.names()) {
+        Ok(remove) => Ok((set, remove)),
+        Err(refused) => {
+            drop(set);
+            Err(refused)
+        }
+    }
 }
 
 // The bytes of the header that a commit of the snapshot writes.

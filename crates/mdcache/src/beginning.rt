@@ -19,6 +19,7 @@ use dentry_cache::Cache;
 use mds_types::{Frag, Ino, Rank, Refusal};
 use objstore::Store;
 use standing_jobs::StandingJobs;
+use std::alloc::AllocError;
 
 impl<S: Store + Drop> MdCache<S> {
     /// Begins a commit of a leaf, which the rank holds: gives the job of its snapshot, which stands from now on; none, exactly
@@ -108,14 +109,43 @@ pub(crate) fn begin_in(
     };
     // The contract of `base` is what says here that it is a snapshot.
     let _ = snapshot.base();
+    stand(
+        jobs,
+        Job {
+            number,
+            ino: dir,
+            frag,
+            generation,
+            snapshot,
+        },
+    )
+}
+
+// A job stands from now on, as a copy, and is given back.
+fn stand(jobs: &mut StandingJobs, job: Job) -> Result<Job, Refusal>
+    ensures given { IfOk result (λ given. given ≡ job) }
+    ensures stands { OnOk result (jobs.new.jobs ≡ map.insert jobs.old.jobs (job.ino, job.frag) job) }
+    ensures err { IfErr result (λ reason. reason ≡ NoMemory) }
+    ensures left { OnErr result (jobs.new.jobs ≡ jobs.old.jobs) }
+{
+    match copy_with_room(jobs, &job) {
+        Ok(copy) => {
+            jobs.put(copy);
+            Ok(job)
+        }
+        Err(_) => {
+            drop(job);
+            Err(Refusal::NoMemory)
+        }
+    }
+}
+
+// A copy of a job, and room for it among those that stand.
+fn copy_with_room(jobs: &mut StandingJobs, job: &Job) -> Result<Job, AllocError>
+    ensures copy { IfOk result (λ copy. copy ≡ job.now) }
+    ensures room { OnOk result (0 < jobs.new.room) }
+    ensures same { jobs.new.jobs ≡ jobs.old.jobs }
+{
     jobs.reserve(1)?;
-    let job = Job {
-        number,
-        ino: dir,
-        frag,
-        generation,
-        snapshot,
-    };
-    jobs.put(job.try_clone()?);
-    Ok(job)
+    job.try_clone()
 }

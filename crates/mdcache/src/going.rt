@@ -4,14 +4,14 @@ ghost use Rattle.std.specs.List.{Contains};
 ghost use Rattle.std.specs.Map.{lookup};
 ghost use Rattle.mds_types.specs.declared.ids.Rank.{Rank};
 ghost use Rattle.mds_types.specs.declared.refusals.Refusal.TheVariants.{NoMemory};
-ghost use Rattle.inode_table.specs.Dirs.{MayGo};
+ghost use Rattle.inode_table.specs.Dirs.{MayGo, leaves_of};
 ghost use Rattle.dentry_cache.specs.Cache.{Leaf, leaf_is};
 ghost use Rattle.namespace_ops.specs.Changes.{in_directory};
 ghost use Rattle.rank_caches.specs.Caches.{all_of, cache_of};
 ghost use Rattle.mdcache.specs.Changes.{with_objects, without_leaves};
 ghost use Rattle.mdcache.specs.Going.{HasForgotten, IsGoing, count_going, dir_going, leaves_going, leaves_in, rows_but, texts_going, texts_in};
 ghost use Rattle.mdcache.specs.Ranks.{AreRanks, KeepsCaches, NoneComes};
-ghost use Rattle.mdcache.specs.State.{text_of};
+ghost use Rattle.mdcache.specs.State.{text_of, tree_text};
 
 use crate::mdcache::MdCache;
 use fragtree::FragTree;
@@ -56,11 +56,33 @@ impl<S: Store + Drop> MdCache<S> {
 pub(crate) fn going_of(alloc: Global, dirs: &Dirs, dir: Ino) -> Result<Going, AllocError>
     ensures { IfOk result (λ going. (going.dir ≡ dir) × IsGoing dirs.now.trees going) }
 {
-    let leaves = dirs.tree(alloc, dir)?;
-    let leaves = parts_of(alloc, dir, &leaves)?;
+    let leaves = parts_of_dir(alloc, dirs, dir)?;
+    match tree_name(alloc, dir) {
+        Ok(tree) => Ok(Going { dir, tree, leaves }),
+        Err(refused) => {
+            drop(leaves);
+            Err(refused)
+        }
+    }
+}
+
+// The name of the object of a directory's tree.
+fn tree_name(alloc: Global, dir: Ino) -> Result<String, AllocError>
+    ensures { IfOk result (λ name. string_bytes name ≡ tree_text dir) }
+{
     let name = ObjName::Tree(dir);
-    let tree = format!(in alloc; "{name}")?;
-    Ok(Going { dir, tree, leaves })
+    format!(in alloc; "{name}")
+}
+
+// The leaves of a directory, each with the name of its object.
+fn parts_of_dir(alloc: Global, dirs: &Dirs, dir: Ino) -> Result<Vec<GoingLeaf>, AllocError>
+    ensures leaves { IfOk result (λ parts. leaves_in dir parts.items ≡ each (in_directory dir.0) (leaves_of dirs.now.trees dir.0)) }
+    ensures texts { IfOk result (λ parts. texts_in parts.items ≡ each text_of (each (in_directory dir.0) (leaves_of dirs.now.trees dir.0))) }
+{
+    let tree = dirs.tree(alloc, dir)?;
+    let parts = parts_of(alloc, dir, &tree);
+    drop(tree);
+    parts
 }
 
 // These leaves of a directory, each with the name of its object.

@@ -139,17 +139,65 @@ fn plan_merge(
     ensures names { purge.new.names ≡ purge.old.names }
     ensures refused { IfErr result (λ reason. reason ≡ NoMemory) }
 {
-    let tree = dirs.tree(alloc, dir)?;
-    let leaves = ending_leaves(alloc, dir, frag, &tree)?;
-    let object = object_name(alloc, dir, frag)?;
-    purge.reserve(leaves.len())?;
-    match ready_cover(alloc, dirs, dir, frag) {
-        Ok(cover) => Ok(Plan {
+    let leaves = ending_leaves_of(alloc, dirs, dir, frag)?;
+    match ready_object(alloc, dirs, purge, dir, frag, leaves.len()) {
+        Ok((cover, object)) => Ok(Plan {
             leaves,
             cover,
             object,
         }),
-        Err(refusal) => Err(refusal),
+        Err(refusal) => {
+            drop(leaves);
+            Err(refusal)
+        }
+    }
+}
+
+// The leaves of a directory that lie properly inside a fragment, each with the name of its object.
+fn ending_leaves_of(
+    alloc: Global,
+    dirs: &Dirs,
+    dir: Ino,
+    frag: Frag,
+) -> Result<Vec<GoingLeaf>, AllocError>
+    ensures leaves { IfOk result (λ parts. leaves_in dir parts.items ≡ each (in_directory dir.0) (leaves_inside frag (leaves_of dirs.now.trees dir.0))) }
+    ensures texts { IfOk result (λ parts. texts_in parts.items ≡ each text_of (each (in_directory dir.0) (leaves_inside frag (leaves_of dirs.now.trees dir.0)))) }
+{
+    let tree = dirs.tree(alloc, dir)?;
+    let leaves = ending_leaves(alloc, dir, frag, &tree);
+    drop(tree);
+    leaves
+}
+
+// The leaves of a directory once some of them are merged and the name of the new leaf's object, with room in the table, and on the
+// purge list for so many names.
+fn ready_object(
+    alloc: Global,
+    dirs: &mut Dirs,
+    purge: &mut PurgeList,
+    dir: Ino,
+    frag: Frag,
+    names: usize,
+) -> Result<(FragTree, String), Refusal>
+    requires { CanMerge (leaves_of dirs.old.trees dir.0) frag }
+    ensures merged { IfOk result (λ made. IsMerge (leaves_of dirs.old.trees dir.0) made.0 frag) }
+    ensures whole { IfOk result (λ made. IsTree made.0) }
+    ensures object { IfOk result (λ made. string_bytes made.1 ≡ text_of (dir, frag)) }
+    ensures row { OnOk result (0 < dirs.new.tree_room) }
+    ensures list { OnOk result (names ≤ purge.new.room) }
+    ensures homes { dirs.new.homes ≡ dirs.old.homes }
+    ensures trees { dirs.new.trees ≡ dirs.old.trees }
+    ensures names { purge.new.names ≡ purge.old.names }
+    ensures refused { IfErr result (λ reason. reason ≡ NoMemory) }
+{
+    purge.reserve(names)?;
+    let object = object_name(alloc, dir, frag)?;
+    match ready_cover(alloc, dirs, dir, frag) {
+        Ok(cover) => Ok((cover, object)),
+        Err(refusal) => {
+            drop(object);
+            Err(refusal)
+        }
     }
 }
 

@@ -1,5 +1,5 @@
 //! The object of a directory's tree, written or removed.
-ghost use Rattle.std.specs.Prelude.{◌≡◌, ◌≤◌, true, IsTrue, Some, IfOk, OnOk, OnErr, IfErr, length};
+ghost use Rattle.std.specs.Prelude.{◌≡◌, ◌≤◌, ◌<◌, true, IsTrue, MatchOption, Some, IfOk, OnOk, OnErr, IfErr, length};
 ghost use Rattle.std.specs.FinMap as map;
 ghost use Rattle.objstore.specs.Objects.{MayRefuse};
 ghost use Rattle.inode_table.specs.Dirs.{leaves_of};
@@ -12,7 +12,7 @@ use inode_table::Dirs;
 use mds_types::{Ino, ObjName, Refusal};
 use objstore::Store;
 use omap::{Bytes, WriteOp};
-use std::alloc::Global;
+use std::alloc::{AllocError, Global};
 
 impl<S: Store + Drop> MdCache<S> {
     /// Makes the object of a directory's tree say what leaves the directory has: it is written, if there is more than one
@@ -52,15 +52,34 @@ fn save_tree<S: Store>(
     ensures refused { IfErr result (MayRefuse (S.faults store.old) (S.faults store.new)) }
     ensures grows { S.faults store.old ≤ S.faults store.new }
 {
+    let Some(header) = header_of(alloc, dirs, dir)? else {
+        return store.remove(name);
+    };
+    match is_written(alloc, store, name, &header) {
+        Ok(false) => write_tree(alloc, store, name, header),
+        Ok(true) => {
+            drop(header);
+            Ok(())
+        }
+        Err(refusal) => {
+            drop(header);
+            Err(refusal)
+        }
+    }
+}
+
+// The header of the object that says what leaves a directory has; none where it has one.
+fn header_of(alloc: Global, dirs: &Dirs, dir: Ino) -> Result<Option<Vec<u8>>, AllocError>
+    ensures { IfOk result (λ header. MatchOption header (length (leaves_of dirs.now.trees dir.0) < 2) (λ bytes. SpellsTree bytes.items (leaves_of dirs.now.trees dir.0))) }
+{
     let tree = dirs.tree(alloc, dir)?;
     if tree.len() < 2 {
-        return store.remove(name);
+        drop(tree);
+        return Ok(None);
     }
-    let header = encode_tree(alloc, &tree)?;
-    if is_written(alloc, store, name, &header)? {
-        return Ok(());
-    }
-    write_tree(alloc, store, name, header)
+    let header = encode_tree(alloc, &tree);
+    drop(tree);
+    Ok(Some(header?))
 }
 
 // Whether the object of this name has this header, and no pairs.

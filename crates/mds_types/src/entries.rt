@@ -22,13 +22,20 @@ impl Entry {
     pub fn try_clone(&self) -> Result<Entry, AllocError>
         ensures { IfOk result (λ copy. copy ≡ self.now) }
     {
-        Ok(Entry {
-            client: self.client,
-            tid: self.tid,
-            oldest: self.oldest,
-            op: self.op.try_clone()?,
-            number: self.number,
-            reply: self.reply.try_clone()?,
-        })
+        let op = self.op.try_clone()?;
+        match self.reply.try_clone() {
+            Ok(reply) => Ok(Entry {
+                client: self.client,
+                tid: self.tid,
+                oldest: self.oldest,
+                op,
+                number: self.number,
+                reply,
+            }),
+            Err(refused) => {
+                drop(op);
+                Err(refused)
+            }
+        }
     }
 }

@@ -12,7 +12,7 @@ use std::alloc::AllocError;
 
 /// An operation on the tree. Each works in a directory, that of its dentry but for a `Readdir`; a rename leads to another
 /// one.
-#[derive(Clone, Debug, Drop, PartialEq, Eq)]
+#[derive(Debug, Drop, PartialEq, Eq)]
 pub enum Op {
     /// The inode at a dentry.
     Lookup(Dentry),
@@ -95,6 +95,76 @@ impl Op {
     pub fn try_clone(&self) -> Result<Op, AllocError>
         ensures { IfOk result (λ copy. copy ≡ self.now) }
     {
-        self.clone()
+        match self {
+            Op::Lookup(dentry) => Ok(Op::Lookup(dentry.try_clone()?)),
+            Op::Readdir { dir, after, max } => Ok(Op::Readdir {
+                dir: *dir,
+                after: after.clone()?,
+                max: *max,
+            }),
+            Op::Create {
+                dentry,
+                mode,
+                mtime,
+            } => Ok(Op::Create {
+                dentry: dentry.try_clone()?,
+                mode: *mode,
+                mtime: *mtime,
+            }),
+            Op::Mkdir {
+                dentry,
+                mode,
+                mtime,
+            } => Ok(Op::Mkdir {
+                dentry: dentry.try_clone()?,
+                mode: *mode,
+                mtime: *mtime,
+            }),
+            Op::Readlink(dentry) => Ok(Op::Readlink(dentry.try_clone()?)),
+            Op::Symlink {
+                dentry,
+                target,
+                mtime,
+            } => copy_of_symlink(dentry, target, *mtime),
+            Op::Setattr { dentry, attributes } => Ok(Op::Setattr {
+                dentry: dentry.try_clone()?,
+                attributes: *attributes,
+            }),
+            Op::Unlink(dentry) => Ok(Op::Unlink(dentry.try_clone()?)),
+            Op::Rmdir(dentry) => Ok(Op::Rmdir(dentry.try_clone()?)),
+            Op::Rename { from, to } => copy_of_rename(from, to),
+        }
+    }
+}
+
+// A copy of a symbolic link's making.
+fn copy_of_symlink(dentry: &Dentry, target: &Target, mtime: u64) -> Result<Op, AllocError>
+    ensures { IfOk result (λ copy. copy ≡ Op.Symlink dentry.now target.now mtime) }
+{
+    let dentry = dentry.try_clone()?;
+    match target.try_clone() {
+        Ok(target) => Ok(Op::Symlink {
+            dentry,
+            target,
+            mtime,
+        }),
+        Err(refused) => {
+            drop(dentry);
+            Err(refused)
+        }
+    }
+}
+
+// A copy of a rename.
+fn copy_of_rename(from: &Dentry, to: &Dentry) -> Result<Op, AllocError>
+    ensures { IfOk result (λ copy. copy ≡ Op.Rename from.now to.now) }
+{
+    let from = from.try_clone()?;
+    match to.try_clone() {
+        Ok(to) => Ok(Op::Rename { from, to }),
+        Err(refused) => {
+            drop(from);
+            Err(refused)
+        }
     }
 }

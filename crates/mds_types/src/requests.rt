@@ -6,7 +6,7 @@ use std::alloc::AllocError;
 
 /// An operation with its client and transaction number. A client that heard no reply sends the same pair of numbers
 /// again, perhaps to another rank; `oldest` is its least transaction number that still waits for a reply.
-#[derive(Clone, Debug, Drop, PartialEq, Eq)]
+#[derive(Debug, Drop, PartialEq, Eq)]
 pub struct Request {
     pub client: u64,
     pub tid: u64,
@@ -19,6 +19,11 @@ impl Request {
     pub fn try_clone(&self) -> Result<Request, AllocError>
         ensures { IfOk result (λ copy. copy ≡ self.now) }
     {
-        self.clone()
+        Ok(Request {
+            client: self.client,
+            tid: self.tid,
+            oldest: self.oldest,
+            op: self.op.try_clone()?,
+        })
     }
 }

@@ -2,7 +2,8 @@
 ghost use Rattle.std.specs.Prelude.{◌≡◌, ◌≤◌, ℕ, List, None, map, IfOk, IfErr, IsOk, IsSome, OnOk, OnErr, option_copied, string_bytes};
 ghost use Rattle.std.specs.FinMap as finmap;
 ghost use Rattle.mds_types.specs.declared.refusals.Refusal.TheVariants.{NoMemory};
-ghost use Rattle.omap.specs.Omap.{Omap, key_cmp};
+ghost use Rattle.omap.specs.Omap.{Omap, empty_omap, key_cmp};
+ghost use Rattle.omap.specs.Writes.{applied};
 ghost use Rattle.objstore.specs.Objects.{header_at, names_after, page_at, written};
 ghost use Rattle.sorted_map.specs.SortedMap.{contents};
 
@@ -159,12 +160,32 @@ fn add(
     ensures done { OnOk result (contents key_cmp objects.new ≡ written (contents key_cmp objects.old) name.now op.now) }
     ensures same { OnErr result (contents key_cmp objects.new ≡ contents key_cmp objects.old) }
 {
-    let name = Text::copy_of(alloc, name)?;
-    let mut object = Object::new(alloc);
-    object.apply(op)?;
     objects.reserve(1)?;
-    let _ = objects.insert(name, object);
-    Ok(())
+    let name = Text::copy_of(alloc, name)?;
+    match object_of(alloc, op) {
+        Ok(object) => {
+            let _ = objects.insert(name, object);
+            Ok(())
+        }
+        Err(refused) => {
+            drop(name);
+            Err(refused)
+        }
+    }
+}
+
+// The object that an operation makes.
+fn object_of(alloc: Global, op: &WriteOp) -> Result<Object, AllocError>
+    ensures { IfOk result (λ object. object ≡ applied op.now empty_omap) }
+{
+    let mut object = Object::new(alloc);
+    match object.apply(op) {
+        Ok(()) => Ok(object),
+        Err(refused) => {
+            drop(object);
+            Err(refused)
+        }
+    }
 }
 
 // The objects whose names come after one.

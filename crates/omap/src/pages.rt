@@ -58,7 +58,21 @@ pub(crate) fn first_page(
         if pairs.len() == max {
             return Ok(Page { pairs, more: true });
         }
-        pairs.push((pair.0.try_clone()?, pair.1.try_clone()?))?;
+        pairs.push(copy_of(pair)?)?;
     }
     Ok(Page { pairs, more: false })
+}
+
+// A copy of a pair.
+fn copy_of(pair: &(Bytes, Bytes)) -> Result<(Bytes, Bytes), AllocError>
+    ensures { IfOk result (λ copy. copy ≡ pair.now) }
+{
+    let key = pair.0.try_clone()?;
+    match pair.1.try_clone() {
+        Ok(value) => Ok((key, value)),
+        Err(refused) => {
+            drop(key);
+            Err(refused)
+        }
+    }
 }

@@ -1,9 +1,7 @@
-use Rattle.std.proofs.Common.{ap, ◌∙◌}
-use Rattle.omap.specs.Writes.{applied}
 use Rattle.objstore.proofs.WriteLemmas.{added}
 use Rattle.objstore.proofs.mem_stores.add.Goals as goal
+use Rattle.std.proofs.Common.{◌∙◌}
 
-pub returns-clause-done : goal.returns-clause-done
-returns-clause-done c =
-    c.insert.ensures.inserted
-    ∙ added _ _ _ c.args.name.now c.args.op.now c.apply.new.self c.in_ok-reserve.ensures.same c.in_ok-name.ensures c.requires (c.in_ok-apply.ensures.ok ∙ ap (applied c.args.op.now) c.new-object.ensures)
+pub returns-in-Ok-clause-done : goal.returns-in-Ok-clause-done
+returns-in-Ok-clause-done c =
+    c.insert.ensures.inserted ∙ added _ _ _ c.args.name.now c.args.op.now c.in-Ok.object c.in_ok-reserve.ensures.same c.in_ok-name.ensures c.requires c.in-Ok.ensures
