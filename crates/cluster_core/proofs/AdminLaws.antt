@@ -4,8 +4,8 @@ use Rattle.mds_types.specs.declared.ids.Ino.{Ino}
 use Rattle.mds_types.specs.declared.ids.Rank.{Rank}
 use Rattle.mds_types.specs.Frag.{Fragment}
 use Rattle.inode_table.specs.Dirs.{Covers, Homes}
-use Rattle.mdcache.specs.Cached.{Core}
-use Rattle.mdcache.specs.Reads.{LacksPlacesAt}
+use Rattle.mdcache.specs.Core.{Core}
+use Rattle.mdcache.specs.Core.{LacksPlacesAt}
 use Rattle.subtree_map.specs.Authority.{Leaf, Roots}
 use Rattle.subtree_map.specs.Changes.{HaveOneAuthority}
 use Rattle.subtree_map.proofs.Nearest.{one_authority}

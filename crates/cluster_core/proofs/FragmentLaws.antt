@@ -11,8 +11,8 @@ use Rattle.rank_caches.specs.Caches.{places_of}
 use Rattle.rank_caches.proofs.PlaceLaws.{found_in}
 use Rattle.rank_caches.proofs.TiesLaws.{cached_there}
 use Rattle.subtree_map.proofs.Nearest.{one_authority}
-use Rattle.mdcache.specs.Cached.{IsKept}
-use Rattle.mdcache.proofs.AtRanks.{cached_has}
+use Rattle.dirfrag_steps.specs.Cached.{IsKept}
+use Rattle.dirfrag_steps.proofs.AtRanks.{cached_has}
 use Rattle.cluster_core.specs.Fragments.{LieAtAuthority}
 use Rattle.cluster_core.specs.Master.{IsAuthority}
 use Rattle.cluster_core.specs.Sound.{AreCached}

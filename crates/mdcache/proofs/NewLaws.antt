@@ -25,15 +25,15 @@ use Rattle.inode_table.specs.TreeTable.{IsTabled}
 use Rattle.inode_table.proofs.TableLaws.{empty_tabled}
 use Rattle.standing_jobs.specs.StandingJobs.{Standing, leaf_cmp}
 use Rattle.purge_list.specs.PurgeList.{Listed}
-use Rattle.mdcache.specs.declared.mdcache.Counters.{Counters}
+use Rattle.dirfrag_steps.specs.declared.counters.Counters.{Counters}
 use Rattle.lru.specs.LruCache.{lru_cache}
-use Rattle.mdcache.specs.Cached.{IsKept, state_of}
+use Rattle.dirfrag_steps.specs.Cached.{IsKept, state_of}
 use Rattle.mdcache.specs.New.{cached_root, new_root, new_state, root_leaf}
-use Rattle.mdcache.specs.Shown.{directories, entries_in, entries_of, entries_under, names_of, shown_at, shown_tree, tree_of}
-use Rattle.mdcache.specs.Sound.{IsSound, IsUnsaved}
-use Rattle.mdcache.specs.State.{IsLive, State, text_of}
-use Rattle.mdcache.proofs.CachedLaws.{get_with}
-use Rattle.mdcache.proofs.EndLaws.{nothing_patched}
+use Rattle.dirfrag_steps.specs.Shown.{directories, entries_in, entries_of, entries_under, names_of, shown_at, shown_tree, tree_of}
+use Rattle.dirfrag_steps.specs.Sound.{IsSound, IsUnsaved}
+use Rattle.dirfrag_steps.specs.State.{IsLive, State, text_of}
+use Rattle.dirfrag_steps.proofs.CachedLaws.{get_with}
+use Rattle.dirfrag_steps.proofs.EndLaws.{nothing_patched}
 
 abbrev pub no_homes : Homes
 no_homes = map.empty

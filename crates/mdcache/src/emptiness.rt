@@ -1,16 +1,14 @@
 //! Whether a leaf shows a name.
 ghost use Rattle.std.specs.Prelude.{◌≡◌, IfOk, IfErr};
-ghost use Rattle.cached_frag.specs.Cached.{Cached, shown};
-ghost use Rattle.dentry_cache.specs.Cache.{HasCached, IsThere, cached};
 ghost use Rattle.mdcache.specs.Frags.{KeepsState};
-ghost use Rattle.mdcache.specs.Ranks.{IsThat, KeepsCaches, MayHold};
-ghost use Rattle.mdcache.specs.Reads.{LacksPlacesAt, MayNotFind, has_none};
-ghost use Rattle.mdcache.specs.Shown.{names_of};
-ghost use Rattle.mdcache.specs.State.{IsLive};
+ghost use Rattle.dirfrag_steps.specs.Ranks.{IsThat, KeepsCaches, MayHold};
+ghost use Rattle.mdcache.specs.Core.{LacksPlacesAt};
+ghost use Rattle.dirfrag_steps.specs.Reads.{MayNotFind, has_none};
+ghost use Rattle.dirfrag_steps.specs.Shown.{names_of};
+ghost use Rattle.dirfrag_steps.specs.State.{IsLive};
 
 use crate::mdcache::MdCache;
-use crate::reads_at::{fetch_at, give_up_at};
-use dentry_cache::Cache;
+use dirfrag_steps::{fetch_at, give_up_at, is_cached_empty};
 use mds_types::{Frag, Ino, Rank, Refusal};
 use objstore::Store;
 use std::alloc::Global;
@@ -39,16 +37,5 @@ impl<S: Store + Drop> MdCache<S> {
             return Err(refusal);
         }
         Ok(is_cached_empty(self.caches.of(rank), dir, frag))
-    }
-}
-
-/// Whether a cached fragment shows no name.
-pub(crate) fn is_cached_empty(cache: &Cache, dir: Ino, frag: Frag) -> bool
-    requires { IsThere (cached cache.now.entries (dir, frag)) }
-    ensures { HasCached (cached cache.now.entries (dir, frag)) (λ (f : Cached). result ≡ has_none (shown f)) }
-{
-    match cache.get(dir, frag) {
-        Some(fragment) => fragment.len() == 0,
-        None => true,
     }
 }

@@ -4,7 +4,7 @@ ghost use Rattle.mds_types.specs.declared.refusals.Refusal.TheVariants.{NothingT
 ghost use Rattle.dentry_cache.specs.Cache.{Evicts, NoneGoes};
 ghost use Rattle.rank_caches.specs.Caches.{cache_of, with_cache};
 ghost use Rattle.mdcache.specs.Frags.{KeepsState};
-ghost use Rattle.mdcache.specs.Ranks.{KeepsCaches, NoneComes};
+ghost use Rattle.dirfrag_steps.specs.Ranks.{KeepsCaches, NoneComes};
 
 use crate::mdcache::MdCache;
 use mds_types::{Rank, Refusal};

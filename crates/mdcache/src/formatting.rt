@@ -8,10 +8,11 @@ ghost use Rattle.objstore.specs.Objects.{MayRefuse};
 ghost use Rattle.rank_caches.specs.Caches.{all_of};
 ghost use Rattle.mdcache.specs.New.{MayNotFormat, cached_root, new_caches, new_state, root_leaf};
 
-use crate::mdcache::{Counters, MdCache};
+use crate::mdcache::MdCache;
 use crate::prepared::Prepared;
 use cached_frag::CachedFrag;
 use dentry_cache::Cache;
+use dirfrag_steps::Counters;
 use inode_table::Dirs;
 use mds_types::{Frag, Ino, Rank, Refusal};
 use objstore::{NamePage, Store};

@@ -2,30 +2,19 @@
 ghost use Rattle.std.specs.Prelude.{◌≡◌};
 ghost use Rattle.dentry_cache.specs.Cache.{unsaved};
 ghost use Rattle.rank_caches.specs.Caches.{all_of};
-ghost use Rattle.mdcache.specs.Cached.{IsKept};
-ghost use Rattle.mdcache.specs.Ranks.{AreLivePlaces, AreRanks};
-ghost use Rattle.mdcache.specs.Sound.{IsSound};
+ghost use Rattle.dirfrag_steps.specs.Cached.{IsKept};
+ghost use Rattle.dirfrag_steps.specs.Ranks.{AreLivePlaces, AreRanks};
+ghost use Rattle.dirfrag_steps.specs.Sound.{IsSound};
 
 use crate::prepared::Prepared;
+use dirfrag_steps::{Counters, Kept};
 use inode_table::Dirs;
-use mds_types::{Frag, Ino, Rank};
 use objstore::Store;
 use purge_list::PurgeList;
 use rank_caches::RankCaches;
 use standing_jobs::StandingJobs;
 use std::alloc::Global;
 use std::marker::Model;
-
-/// The numbers that the next job, the next fragment that is made and the next dirty name get.
-#[derive(Clone, Copy, Debug)]
-pub(crate) struct Counters {
-    pub(crate) job: u64,
-    pub(crate) generation: u64,
-    pub(crate) version: u64,
-}
-
-/// A place that is kept: at a rank, for a leaf.
-pub(crate) type Kept = (Rank, (Ino, Frag));
 
 /// A directory table, a cache of fragments over a store for each rank, the commits that were begun, and the purge list.
 ///
@@ -52,8 +41,9 @@ impl<S: Store + Drop> Model for MdCache<S> {
     ghost use Rattle.std.specs.Coded.{codes};
     ghost use Rattle.std.specs.FinMap as map;
     ghost use Rattle.rank_caches.specs.Caches.{all_of};
-    ghost use Rattle.mdcache.specs.Cached.{Core, IsKept, state_of};
-    ghost use Rattle.mdcache.specs.Ranks.{AreRanks, KeepsOnlyAt};
+    ghost use Rattle.mdcache.specs.Core.{Core};
+    ghost use Rattle.dirfrag_steps.specs.Cached.{IsKept, state_of};
+    ghost use Rattle.dirfrag_steps.specs.Ranks.{AreRanks, KeepsOnlyAt};
 
     ghost Value = { Core };
 

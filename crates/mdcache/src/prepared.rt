@@ -1,8 +1,8 @@
 //! What was made ready for a change, beside room: it is kept until the change is made.
 
-use crate::going::Going;
 use crate::ready::NewDirectory;
 use crate::ready_move::MovingEntry;
+use dirfrag_steps::Going;
 
 /// What a change takes beside itself.
 #[derive(Debug, Drop)]

@@ -1,12 +1,10 @@
 //! Objects that nothing owns any more are removed, one by one.
-ghost use Rattle.std.specs.Prelude.{◌≡◌, ◌≤◌, OnOk, OnErr, IfErr};
-ghost use Rattle.objstore.specs.Objects.{MayRefuse};
-ghost use Rattle.mdcache.specs.Objects.{Purges};
+ghost use Rattle.std.specs.Prelude.{◌≡◌, ◌≤◌};
+ghost use Rattle.dirfrag_steps.specs.Objects.{Purges};
 
 use crate::mdcache::MdCache;
 use mds_types::Refusal;
 use objstore::Store;
-use purge_list::PurgeList;
 
 impl<S: Store + Drop> MdCache<S> {
     /// Removes the first object of the purge list from the store, and its name from the list. Where the list is empty there

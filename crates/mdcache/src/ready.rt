@@ -1,5 +1,5 @@
 //! What a change needs is made ready: numbers, leaves, places and room.
-ghost use Rattle.std.specs.Prelude.{◌≡◌, ◌⊎◌, ◌+◌, ◌-◌, ◌<◌, ◌≤◌, ◌^◌, true, false, string_bytes, OnOk, IfOk, IfErr};
+ghost use Rattle.std.specs.Prelude.{◌≡◌, ◌⊎◌, ◌+◌, ◌-◌, ◌<◌, ◌^◌, true, false, string_bytes, OnOk, IfOk, IfErr};
 ghost use Rattle.std.specs.Map.{lookup};
 ghost use Rattle.mds_types.specs.Tree.{is_directory};
 ghost use Rattle.mds_types.specs.declared.refusals.Refusal.TheVariants.{NoInodes, NoMemory};
@@ -7,18 +7,17 @@ ghost use Rattle.fragtree.specs.FragTree.{IsPick};
 ghost use Rattle.namehash.specs.Rjenkins.{hash_of};
 ghost use Rattle.inode_table.specs.Dirs.{leaves_of};
 ghost use Rattle.dentry_cache.specs.Cache.{HasRoom, cached, is_kept, leaf_is};
-ghost use Rattle.mdcache.specs.Changes.{first_leaf};
+ghost use Rattle.dirfrag_steps.specs.Changes.{first_leaf};
 ghost use Rattle.rank_caches.specs.Caches.{cache_of};
 ghost use Rattle.mdcache.specs.Frags.{KeepsState};
-ghost use Rattle.mdcache.specs.Ranks.{IsThat, KeepsCaches, MayHold};
-ghost use Rattle.mdcache.specs.Ready.{LacksNumbers, MayNotBeReady};
-ghost use Rattle.mdcache.specs.Reads.{LacksPlacesAt};
-ghost use Rattle.mdcache.specs.Shown.{shown_tree};
-ghost use Rattle.mdcache.specs.State.{text_of};
+ghost use Rattle.dirfrag_steps.specs.Ranks.{IsThat, KeepsCaches, MayHold};
+ghost use Rattle.dirfrag_steps.specs.Ready.{LacksNumbers, MayNotBeReady};
+ghost use Rattle.mdcache.specs.Core.{LacksPlacesAt};
+ghost use Rattle.dirfrag_steps.specs.Shown.{shown_tree};
+ghost use Rattle.dirfrag_steps.specs.State.{text_of};
 
 use crate::mdcache::MdCache;
-use crate::readies_at::{ready_at, ready_first_at};
-use crate::reads_at::give_up_at;
+use dirfrag_steps::{give_up_at, ready_at, ready_first_at};
 use mds_types::{Dentry, Frag, Ino, Name, ObjName, Rank, Refusal};
 use objstore::Store;
 use std::alloc::Global;

@@ -1,5 +1,5 @@
 //! What other attributes of an inode need is made ready.
-ghost use Rattle.std.specs.Prelude.{◌≡◌, ◌-◌, ◌<◌, ◌≤◌, ◌^◌, true, OnOk, IfErr, IfSome};
+ghost use Rattle.std.specs.Prelude.{◌≡◌, ◌-◌, ◌<◌, ◌^◌, true, OnOk, IfErr, IfSome};
 ghost use Rattle.std.specs.FinMap as map;
 ghost use Rattle.mds_types.specs.Tree.{is_directory};
 ghost use Rattle.fragtree.specs.FragTree.{IsPick};
@@ -10,16 +10,15 @@ ghost use Rattle.cached_frag.specs.Cached.{Cached, shown};
 ghost use Rattle.dentry_cache.specs.Cache.{HasCached, HasRoom, IsThere, cached};
 ghost use Rattle.rank_caches.specs.Caches.{cache_of};
 ghost use Rattle.mdcache.specs.Frags.{KeepsState};
-ghost use Rattle.mdcache.specs.Ranks.{IsThat, KeepsCaches, MayHold};
-ghost use Rattle.mdcache.specs.Ready.{LacksNumbers, MayNotBeReady};
-ghost use Rattle.mdcache.specs.Reads.{LacksPlacesAt};
-ghost use Rattle.mdcache.specs.Shown.{shown_tree};
+ghost use Rattle.dirfrag_steps.specs.Ranks.{IsThat, KeepsCaches, MayHold};
+ghost use Rattle.dirfrag_steps.specs.Ready.{LacksNumbers, MayNotBeReady};
+ghost use Rattle.mdcache.specs.Core.{LacksPlacesAt};
+ghost use Rattle.dirfrag_steps.specs.Shown.{shown_tree};
 
 use crate::mdcache::MdCache;
-use crate::readies_at::ready_at;
-use crate::reads_at::give_up_at;
 use crate::ready::check_left;
 use dentry_cache::Cache;
+use dirfrag_steps::{give_up_at, ready_at};
 use mds_types::{Dentry, Frag, Ino, Name, Rank, Refusal};
 use objstore::Store;
 use std::alloc::Global;

@@ -1,14 +1,12 @@
 //! What splits and merges share: the numbers that they take, and the names of objects.
-ghost use Rattle.std.specs.Prelude.{◌≡◌, ◌⊎◌, ◌+◌, ◌-◌, ◌<◌, ◌≤◌, ◌^◌, cond, string_bytes, OnOk, IfOk, IfErr};
+ghost use Rattle.std.specs.Prelude.{◌≡◌, ◌⊎◌, ◌+◌, ◌-◌, ◌<◌, ◌^◌, OnOk, IfErr};
 ghost use Rattle.mds_types.specs.declared.refusals.Refusal.TheVariants.{NoInodes};
-ghost use Rattle.mdcache.specs.Ready.{LacksNumbers};
-ghost use Rattle.mdcache.specs.Regroups.{LacksCounts};
-ghost use Rattle.mdcache.specs.State.{text_of};
+ghost use Rattle.dirfrag_steps.specs.Ready.{LacksNumbers};
+ghost use Rattle.dirfrag_steps.specs.Regroups.{LacksCounts};
 
-use crate::mdcache::{Counters, MdCache};
-use mds_types::{Frag, Ino, ObjName, Refusal};
+use crate::mdcache::MdCache;
+use mds_types::Refusal;
 use objstore::Store;
-use std::alloc::{AllocError, Global};
 
 impl<S: Store + Drop> MdCache<S> {
     /// Whether numbers are left for so many fragments that come, and for their names: what `split` and `merge` ask before they
@@ -30,34 +28,4 @@ pub(crate) fn check_counts(generation: u64, count: u64, version: u64) -> Result<
         return Err(Refusal::NoInodes);
     }
     Ok(())
-}
-
-/// Takes the generations of so many fragments that came, and a version, if they have names.
-pub(crate) fn take_counts(next: &mut Counters, count: u64, empty: bool)
-    requires generation { next.old.generation + count < 2 ^ 64 }
-    requires version { next.old.version < 2 ^ 64 - 1 }
-    ensures job { next.new.job ≡ next.old.job }
-    ensures generation { next.new.generation ≡ next.old.generation + count }
-    ensures version { next.new.version ≡ next.old.version + cond empty 0 1 }
-{
-    next.generation += count;
-    if !empty {
-        next.version += 1;
-    }
-}
-
-/// How many children of so many more bits a fragment has.
-pub(crate) fn child_count(nb: u8) -> u32
-    requires { nb ≤ 8 }
-    ensures { result ≡ 2 ^ nb }
-{
-    1 << nb
-}
-
-/// The name of a leaf's object.
-pub(crate) fn object_name(alloc: Global, dir: Ino, frag: Frag) -> Result<String, AllocError>
-    ensures { IfOk result (λ name. string_bytes name ≡ text_of (dir, frag)) }
-{
-    let name = ObjName::Frag(dir, frag);
-    format!(in alloc; "{name}")
 }

@@ -9,10 +9,10 @@ use Rattle.inode_table.specs.Dirs.{IsLive}
 use Rattle.rank_caches.specs.Caches.{Caches, cache_of, has_place}
 use Rattle.subtree_map.specs.Authority.{Leaf, Roots}
 use Rattle.subtree_map.proofs.Nearest.{one_authority}
-use Rattle.mdcache.specs.Cached.{Core}
+use Rattle.mdcache.specs.Core.{Core}
 use Rattle.mdcache.specs.Frags.{KeepsState}
-use Rattle.mdcache.specs.Ranks.{IsThat, KeepsCaches, MayHold, NoneComes}
-use Rattle.mdcache.specs.State.{State as TreeState}
+use Rattle.dirfrag_steps.specs.Ranks.{IsThat, KeepsCaches, MayHold, NoneComes}
+use Rattle.dirfrag_steps.specs.State.{State as TreeState}
 use Rattle.ranked_tree.specs.Held.{AreHeld, IsOwned}
 use Rattle.ranked_tree.specs.Subtrees.{NoNewRank, Rules}
 

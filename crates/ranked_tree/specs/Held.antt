@@ -13,10 +13,10 @@ use Rattle.namespace_ops.specs.declared.plans.Change.TheVariants.{Add, Set, Remo
 use Rattle.rank_caches.specs.Caches.{Caches, has_place}
 use Rattle.subtree_map.specs.Authority.{Leaf, Roots}
 use Rattle.subtree_map.specs.Changes.{is_inside}
-use Rattle.mdcache.specs.declared.holders.Holders.{Holders}
-use Rattle.mdcache.specs.Cached.{Core}
-use Rattle.mdcache.specs.Reads.{LacksPlacesAt}
-use Rattle.mdcache.specs.State.{State as TreeState}
+use Rattle.dirfrag_steps.specs.declared.holders.Holders.{Holders}
+use Rattle.mdcache.specs.Core.{Core}
+use Rattle.mdcache.specs.Core.{LacksPlacesAt}
+use Rattle.dirfrag_steps.specs.State.{State as TreeState}
 use Rattle.ranked_tree.specs.Subtrees.{AreRoots, Rules}
 
 -- each place of a live leaf is at the leaf's authority; each root's rank is one of those that have a cache

@@ -4,8 +4,8 @@ use Rattle.std.specs.FinMap as map
 use Rattle.namespace_ops.specs.declared.plans.Change.{Change}
 use Rattle.subtree_map.specs.Authority.{Roots}
 use Rattle.subtree_map.specs.Changes.{Subtrees}
-use Rattle.mdcache.specs.declared.holders.Holders.{Holders}
-use Rattle.mdcache.specs.Cached.{Core}
+use Rattle.dirfrag_steps.specs.declared.holders.Holders.{Holders}
+use Rattle.mdcache.specs.Core.{Core}
 use Rattle.mdcache.specs.Frags.{KeepsState, IsReady as IsReadyIn}
 use Rattle.mdcache.specs.New.{root_leaf}
 use Rattle.ranked_tree.specs.Held.{AreHolders}

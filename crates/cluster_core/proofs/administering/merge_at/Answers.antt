@@ -1,7 +1,7 @@
 use Rattle.std.proofs.Common.{◌≡◌, true, false, rules, inr, refl, sym, ◌∙◌}
 use Rattle.fragtree.specs.FragTree.{CanMerge, RefusesMerge}
 use Rattle.inode_table.specs.Dirs.{leaves_of}
-use Rattle.mdcache.specs.Reads.{LacksPlacesAt}
+use Rattle.mdcache.specs.Core.{LacksPlacesAt}
 use Rattle.ranked_tree.specs.Held.{LacksPlacesInside}
 use Rattle.ranked_tree.proofs.HeldRegroups.{regroup_on}
 use Rattle.cluster_core.proofs.AdminLaws.{lacks_inside, one_of_all}

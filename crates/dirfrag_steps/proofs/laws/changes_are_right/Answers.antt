@@ -1,0 +1,5 @@
+use Rattle.dirfrag_steps.proofs.ChangeLaws.{changes_are_right as law}
+use Rattle.dirfrag_steps.proofs.laws.changes_are_right.Goals as goal
+
+pub returns : goal.returns
+returns c = law

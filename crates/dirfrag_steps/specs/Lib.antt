@@ -1,0 +1,16 @@
+pub mod Cached
+pub mod Changes
+pub mod Commits
+pub mod Going
+pub mod Joining
+pub mod Made
+pub mod Objects
+pub mod Pages
+pub mod Ranks
+pub mod Reads
+pub mod Ready
+pub mod Regroups
+pub mod Shown
+pub mod Sound
+pub mod Splits
+pub mod State
