@@ -5,7 +5,9 @@ use Rattle.std.specs.Cmp.{IsTotalOrder, alike_right}
 use Rattle.std.specs.FinMap.Entries.{is_sorted, below_all}
 use Rattle.sorted_map.proofs.Bools.{left_of, right_of, both_of}
 use Rattle.sorted_map.specs.Places.{IsAt, IsGap, IsPlace}
-use Rattle.sorted_map.specs.Chunks.{flat, start, AllSome, IsAbove, IsHome, starts_above, place_in}
+use Rattle.chunks.specs.Chunks.{flat, start, AllSome}
+use Rattle.chunks.proofs.FlatLaws.{some_at}
+use Rattle.sorted_map.specs.Homes.{IsAbove, IsHome, starts_above, place_in}
 use Rattle.sorted_map.proofs.PlaceLaws.{less, turned}
 
 -- ---- a place in the chunk of a key is its place among all
@@ -85,11 +87,6 @@ module _ {K V : Type 0} (R : K → K → Ordering) where
   below_part x (c ∷ cs) (suc i) h = below_part x cs i (below_back x c (flat cs) h)
 
 -- ---- where the search for a chunk ends
-
-pub some_at : {A : Type 0} (cs : List (List A)) (i : ℕ) → i < length cs → AllSome cs → 0 < length (get_or cs i [])
-some_at [] i lt some = absurd (omega (arith, lt))
-some_at (c ∷ cs) zero lt some = some.0
-some_at (c ∷ cs) (suc i) lt some = some_at cs i (omega (arith, lt)) some.1
 
 module _ {K : Type 0} {R : K → K → Ordering} (o : IsTotalOrder R) (k : K) where
   -- a key below one that k isn't below

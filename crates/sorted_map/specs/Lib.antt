@@ -1,12 +1,9 @@
 pub mod ChunkLending
-pub mod ChunkValues
-pub mod Chunks
 pub mod Clones
 pub mod FlatLending
-pub mod Iters
+pub mod Homes
 pub mod Lending
 pub mod Overlay
 pub mod Places
-pub mod RowValues
 pub mod SortedMap
 pub mod Stores

@@ -4,10 +4,10 @@ ghost use Rattle.std.specs.FinMap as map;
 ghost use Rattle.sorted_map.specs.SortedMap.{contents};
 ghost use Rattle.sorted_map.specs.Overlay.{overlaid};
 
-use crate::chunked::chunk::MOST;
 use crate::chunked::map::ChunkMap;
 use crate::keys::ExactOrd;
 use crate::map::{SortedMap, Store};
+use chunks::MOST;
 use std::alloc::{AllocError, Global};
 use std::mem;
 

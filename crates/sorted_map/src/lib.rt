@@ -10,15 +10,13 @@ mod compare;
 mod edits;
 mod flat;
 mod growth;
-mod iters;
 mod keys;
 mod lends;
 mod map;
 mod places;
 mod ranges;
 mod removals;
-mod vectors;
 
-pub use iters::Iter;
+pub use chunks::Iter;
 pub use keys::{ExactOrd, Probe};
 pub use map::SortedMap;

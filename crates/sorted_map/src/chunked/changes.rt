@@ -3,10 +3,10 @@ ghost use Rattle.std.specs.Prelude.{◌≡◌, ◌-◌, ◌<◌, ◌≤◌, if�
 ghost use Rattle.std.specs.FinMap as map;
 ghost use Rattle.sorted_map.specs.SortedMap.{contents, first_pair};
 
-use crate::chunked::edits::{put_new, put_value, take_out};
 use crate::chunked::map::ChunkMap;
 use crate::chunked::places::spot;
 use crate::keys::{ExactOrd, Probe};
+use chunks::{put_new, put_value, take_out};
 
 impl<K: ExactOrd + Drop, V: Drop> ChunkMap<K, V> {
     /// Gives the key a value, and returns the one that it had. A new key needs room.

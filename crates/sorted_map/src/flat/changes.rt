@@ -6,7 +6,7 @@ ghost use Rattle.sorted_map.specs.SortedMap.{contents, first_pair, is_from};
 use crate::flat::map::FlatMap;
 use crate::keys::{ExactOrd, Probe};
 use crate::places::{place, place_from, place_from_end};
-use crate::vectors::{drop_front, put_at, replaced};
+use chunks::vectors::{drop_front, put_at, replaced};
 
 impl<K: ExactOrd + Drop, V: Drop> FlatMap<K, V> {
     /// Gives the key a value, and returns the one that it had. A new key needs room.

@@ -1,7 +1,8 @@
 use Rattle.std.proofs.Common.{◌≡◌, ◌⊎◌, ◌+◌, ◌-◌, ◌/◌, ◌<◌, true, length, get_or, [], subst, sym, arith}
-use Rattle.sorted_map.specs.Chunks.{starts_above}
-use Rattle.sorted_map.proofs.ChunkLaws.{got}
-use Rattle.sorted_map.proofs.HomeLaws.{some_at, home_found}
+use Rattle.sorted_map.specs.Homes.{starts_above}
+use Rattle.chunks.proofs.ChunkLaws.{got}
+use Rattle.chunks.proofs.FlatLaws.{some_at}
+use Rattle.sorted_map.proofs.HomeLaws.{home_found}
 use Rattle.sorted_map.proofs.chunked.places.home.Goals as goal
 
 pub starts_above-requires : goal.starts_above-requires

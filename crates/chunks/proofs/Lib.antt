@@ -1,0 +1,3 @@
+pub mod ChunkLaws
+pub mod FlatLaws
+pub mod RoomLaws

@@ -1,0 +1,4 @@
+pub mod ChunkValues
+pub mod Chunks
+pub mod Iters
+pub mod RowValues
