@@ -1,5 +1,5 @@
 -- How many places can't become free: those of fragments that aren't clean, and those that are kept.
-use Rattle.std.proofs.Common.{◌≡◌, ℕ, ◌+◌, ◌-◌, ◌≤◌, Bool, true, false, cond, not, ◌&&◌, [], ◌∷◌, length, filter, Option, Some, None, refl, sym, ap, ◌∙◌, arith}
+use Rattle.std.proofs.Common.{◌≡◌, ℕ, ◌+◌, ◌-◌, ◌≤◌, Bool, true, false, cond, not, ◌&&◌, [], ◌∷◌, length, Option, Some, None, refl, sym, ap, ◌∙◌, arith}
 use Rattle.std.specs.Prelude.{is_some}
 use Rattle.std.specs.List.{AllByRecursion, IsDistinct}
 use Rattle.std.specs.Map.{keys_of, lookup, remove_entry}
@@ -7,7 +7,7 @@ use Rattle.std.specs.FinMap as finmap
 use Rattle.std.specs.FinMap.{len-empty, len-insert, len-remove}
 use Rattle.cached_frag.specs.Cached.{is_clean}
 use Rattle.dentry_cache.specs.declared.cache.Place.{Place}
-use Rattle.dentry_cache.specs.Cache.{Held, Leaf, Places, Unsaved, cached, fragment_in, is_evictable, is_kept, leaf_cmp, leaf_is, unsaved, unsaved_in, with_unsaved}
+use Rattle.dentry_cache.specs.Cache.{Held, Leaf, Places, Unsaved, fragment_in, is_evictable, is_kept, leaf_cmp, leaf_is, unsaved, unsaved_in, with_unsaved}
 use Rattle.dentry_cache.specs.Divided.{spare}
 use Rattle.dentry_cache.specs.Places.{AreDistinct, IsCache, fixed_places, kept_places}
 use Rattle.dentry_cache.proofs.CacheLaws.{get-unsaved}

@@ -5,10 +5,7 @@ pub mod EditLaws
 pub mod FixedPlaces
 pub mod LeafLaws
 pub mod LeavingLaws
-pub mod LoadLaws
 pub mod NameParts
-pub mod PageSteps
-pub mod PairLaws
 pub mod PartLaws
 pub mod ReadyFrom
 pub mod ReadySplit

@@ -1,15 +1,15 @@
 -- Where each fragment comes from that is cached once a split was made ready, or was refused.
-use Rattle.std.proofs.Common.{◌≡◌, ℕ, zero, suc, ◌+◌, ◌^◌, ◌<◌, Bool, true, false, ◌⊎◌, inl, inr, Option, Some, None, refl, sym, ap, subst, ◌∙◌, arith}
+use Rattle.std.proofs.Common.{◌≡◌, ℕ, zero, suc, ◌^◌, ◌<◌, Bool, true, false, ◌⊎◌, inl, inr, Option, Some, None, refl, sym, ap, subst, ◌∙◌, arith}
 use Rattle.std.specs.Map.{lookup}
 use Rattle.mds_types.specs.Frag.{Fragment, child_of}
 use Rattle.mds_types.specs.declared.ids.Ino.{Ino}
 use Rattle.omap.specs.Omap.{Omap}
 use Rattle.cached_frag.specs.Cached.{Cached, is_clean}
+use Rattle.frag_fetch.specs.Loading.{Loads}
 use Rattle.dentry_cache.specs.declared.cache.Place.{Place}
 use Rattle.dentry_cache.specs.Cache.{HasCached, Held, Leaf, cached, fragment_in, leaf_is, stays}
 use Rattle.dentry_cache.specs.Divided.{IsFoundReady, IsLeftReady, IsNoChild}
 use Rattle.dentry_cache.specs.Leaving.{IsFound, IsLeft}
-use Rattle.dentry_cache.specs.Loading.{Loads}
 use Rattle.dentry_cache.proofs.LeafLaws.{leaf_or_apart, one_leaf}
 use Rattle.dentry_cache.proofs.LeavingLaws.{left_or_gone}
 use Rattle.dentry_cache.proofs.SplitShows.{below_or_it}

@@ -22,11 +22,11 @@ use Rattle.commit_jobs.specs.Commit.{write_of}
 use Rattle.commit_jobs.specs.Marks.{Marks}
 use Rattle.commit_jobs.specs.Snap.{IsSnap, Snap, counts_of}
 use Rattle.cached_frag.specs.Cached.{Cached, is_clean, is_clean_over, marked, shown_over}
+use Rattle.frag_fetch.specs.Loading.{Loads, object_of}
 use Rattle.dentry_cache.specs.declared.cache.Place.{Place}
 use Rattle.dentry_cache.specs.Cache.{HasCached, Held, IsChanged, Leaf, Places, cached, fragment_in, held, is_kept, kept_place, leaf_is, stays, used_as}
 use Rattle.dentry_cache.specs.Commits.{IsCommitted, Takes}
 use Rattle.dentry_cache.specs.Leaving.{IsLeft, Leaves, LeavesBeside}
-use Rattle.dentry_cache.specs.Loading.{Loads, object_of}
 use Rattle.dentry_cache.specs.Standing.{AreBelow, Before, ChangeKeeps, ChangedCanEnd, Each, FillKeeps, IsLeaf, KeepsTies, OfOthers, StandingIsUnclean, Stands, TakenCanEnd, Ties, UseKeeps}
 use Rattle.dentry_cache.specs.Ties.{Commits, IsTied, IsTiedAt, Keeps, KeepsAt, names_at, object_after}
 use Rattle.dentry_cache.proofs.LeavingLaws.{cached_first, held_leaves, left_or_gone, unclean_is_left, used_leaves}

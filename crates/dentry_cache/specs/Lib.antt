@@ -3,7 +3,6 @@ pub mod Commits
 pub mod Divided
 pub mod Leaving
 pub mod Loading
-pub mod Pairs
 pub mod Parting
 pub mod Places
 pub mod Standing

@@ -7,10 +7,10 @@ use Rattle.mds_types.specs.declared.ids.Rank.{Rank}
 use Rattle.mds_types.specs.Frag.{Fragment}
 use Rattle.objstore.specs.Objects.{Objects}
 use Rattle.cached_frag.specs.Cached.{Cached}
+use Rattle.frag_fetch.specs.Loading.{Loads, object_of}
 use Rattle.dentry_cache.specs.declared.cache.Place.{Place}
 use Rattle.dentry_cache.specs.Cache.{Held, IsChanged, Leaf, cached, fragment_in, held, is_kept, leaf_is, unsaved, used_as}
 use Rattle.dentry_cache.specs.Divided.{IsNoChild}
-use Rattle.dentry_cache.specs.Loading.{Loads, object_of}
 use Rattle.dentry_cache.proofs.LeafLaws.{one_leaf}
 use Rattle.dentry_cache.proofs.UsedLaws.{after_use}
 use Rattle.rank_caches.specs.Caches.{AreApart, Caches, HasNoneBeside, HaveEach, all_of, cache_of, first_of, has_place, places_of, with_cache}

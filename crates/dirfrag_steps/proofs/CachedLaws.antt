@@ -8,10 +8,10 @@ use Rattle.omap.specs.Omap.{Omap}
 use Rattle.commit_jobs.specs.declared.bases.Base.{Base}
 use Rattle.commit_jobs.specs.declared.bases.Base.TheVariants.{Fresh, Stored}
 use Rattle.cached_frag.specs.Cached.{Cached, is_clean}
+use Rattle.frag_fetch.specs.Loading.{Loads, object_of}
 use Rattle.dentry_cache.specs.Cache.{Held, IsChanged, Leaf, Unsaved, cached, fragment_in, held, leaf_cmp, leaf_is, unsaved, unsaved_in, unsaved_of, used_as, with_unsaved}
 use Rattle.dentry_cache.specs.declared.cache.Place.{Place}
 use Rattle.dentry_cache.specs.Leaving.{IsLeft, Leaves}
-use Rattle.dentry_cache.specs.Loading.{Loads, object_of}
 use Rattle.dentry_cache.specs.Ties.{AreTied, IsTied, IsTiedAt}
 use Rattle.dentry_cache.proofs.CacheLaws.{get-unsaved, unsaved_alike}
 use Rattle.dentry_cache.proofs.LeafLaws.{flips, leaf-exact, leaf-total, one_leaf, tied_leaf}

@@ -20,9 +20,9 @@ use Rattle.commit_jobs.specs.Marks.{Marks, patched, with_marks}
 use Rattle.commit_jobs.specs.Snap.{Snap, next_version}
 use Rattle.cached_frag.specs.Cached.{Cached, is_clean, is_clean_over, is_settled, shown, shown_over, unsettled}
 use Rattle.cached_frag.proofs.SettledLaws.{get-unsettled}
+use Rattle.frag_fetch.specs.Loading.{object_of}
 use Rattle.dentry_cache.specs.Cache.{Held, Leaf, Unsaved, cached, held, leaf_is, unsaved, unsaved_of, used_as, with_unsaved}
 use Rattle.dentry_cache.specs.Commits.{IsCommitted}
-use Rattle.dentry_cache.specs.Loading.{object_of}
 use Rattle.dentry_cache.specs.Ties.{Commits, IsRight, IsTied, Keeps, names_at, object_after}
 use Rattle.dentry_cache.proofs.LeafLaws.{flips, leaf_itself, one_leaf, same_leaf}
 use Rattle.dentry_cache.proofs.TieLaws.{committed_are_tied, tied_show}

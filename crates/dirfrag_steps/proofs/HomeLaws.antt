@@ -21,8 +21,8 @@ use Rattle.dirfrag_codec.specs.FragmentObject.{Names}
 use Rattle.dirfrag_codec.proofs.ByteKeys.{get_left, get_removed, same_or_apart as key_or_apart}
 use Rattle.commit_jobs.specs.declared.jobs.Job.{Job}
 use Rattle.cached_frag.proofs.ShownLaws.{only_below}
+use Rattle.frag_fetch.specs.Loading.{object_of}
 use Rattle.dentry_cache.specs.Cache.{Leaf, Unsaved, leaf_is}
-use Rattle.dentry_cache.specs.Loading.{object_of}
 use Rattle.dentry_cache.proofs.LeafLaws.{leaf-total, leaf_itself, leaf_or_apart, tied_leaf}
 use Rattle.inode_table.specs.declared.dirs.Home.{Home}
 use Rattle.inode_table.specs.Dirs.{Covers, Homes, IsTable, MayCome, MayMove, is_known, leaves_of, or_whole}

@@ -18,7 +18,8 @@ use Rattle.dentry_cache.specs.declared.cache.Place.{Place}
 use Rattle.dentry_cache.specs.Cache.{Held, IsFull, Leaf, MayMakeRoom, cached, fragment_in, is_kept, kept_place, leaf_is}
 use Rattle.dentry_cache.specs.Leaving.{IsFound, IsLeft, LeavesBeside}
 use Rattle.objstore.specs.Objects.{Objects}
-use Rattle.dentry_cache.specs.Loading.{IsNotFetched, Loads, object_of}
+use Rattle.frag_fetch.specs.Loading.{Loads, object_of}
+use Rattle.dentry_cache.specs.Loading.{IsNotFetched}
 use Rattle.dentry_cache.proofs.LeafLaws.{leaf_or_apart, one_leaf}
 use Rattle.dentry_cache.proofs.UsedLaws.{still_absent}
 use Rattle.namespace_ops.specs.Changes.{in_directory}

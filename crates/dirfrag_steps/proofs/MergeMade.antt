@@ -9,8 +9,8 @@ use Rattle.fragtree.specs.FragTree.{CanMerge, HasLeaf, IsMerge, IsTree, leaves_i
 use Rattle.objstore.specs.Objects.{Objects}
 use Rattle.commit_jobs.specs.declared.bases.Base.TheVariants.{Fresh}
 use Rattle.cached_frag.specs.Cached.{Cached, shown}
+use Rattle.frag_fetch.specs.Loading.{object_of}
 use Rattle.dentry_cache.specs.Cache.{Held, Leaf, cached, unsaved}
-use Rattle.dentry_cache.specs.Loading.{object_of}
 use Rattle.inode_table.specs.Dirs.{Covers, Homes, Table, is_known, leaves_of}
 use Rattle.namespace_ops.specs.Changes.{in_directory}
 use Rattle.purge_list.specs.PurgeList.{Listed}

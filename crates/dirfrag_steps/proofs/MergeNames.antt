@@ -15,9 +15,9 @@ use Rattle.namehash.specs.Rjenkins.{hash_of}
 use Rattle.dirfrag_codec.specs.FragmentObject.{Names}
 use Rattle.commit_jobs.specs.declared.marks.Mark.{Mark}
 use Rattle.cached_frag.specs.Moving.{marked_as}
+use Rattle.frag_fetch.specs.Pairs.{holds}
+use Rattle.frag_fetch.proofs.LoadLaws.{holds_contains}
 use Rattle.dentry_cache.specs.Cache.{Leaf}
-use Rattle.dentry_cache.specs.Pairs.{holds}
-use Rattle.dentry_cache.proofs.LoadLaws.{holds_contains}
 use Rattle.sorted_map.proofs.NatKeys.{is_same}
 use Rattle.inode_table.specs.Dirs.{is_known, leaves_of}
 use Rattle.namespace_ops.specs.Changes.{in_directory}

@@ -20,9 +20,9 @@ use Rattle.dirfrag_codec.proofs.ByteKeys.{get_beside, get_left, get_put, get_rem
 use Rattle.commit_jobs.specs.declared.bases.Base.TheVariants.{Fresh}
 use Rattle.cached_frag.specs.Cached.{Cached, shown}
 use Rattle.cached_frag.specs.Moving.{marked_as}
+use Rattle.frag_fetch.specs.Loading.{object_of}
+use Rattle.frag_fetch.specs.Pairs.{holds}
 use Rattle.dentry_cache.specs.Cache.{Held, Leaf, Unsaved, cached, fragment_in, held, leaf_is, unsaved, unsaved_in, used_as}
-use Rattle.dentry_cache.specs.Loading.{object_of}
-use Rattle.dentry_cache.specs.Pairs.{holds}
 use Rattle.dentry_cache.specs.Ties.{IsTied}
 use Rattle.dentry_cache.proofs.CacheLaws.{get-unsaved}
 use Rattle.dentry_cache.proofs.LeafLaws.{leaf_itself, leaf_or_apart}

@@ -24,8 +24,8 @@ use Rattle.commit_jobs.specs.Marks.{Marks, with_mark}
 use Rattle.commit_jobs.proofs.MarkLaws.{marked_beside, marked_here}
 use Rattle.cached_frag.specs.Cached.{shown_over}
 use Rattle.cached_frag.proofs.ShownLaws.{only_below, shown_put}
+use Rattle.frag_fetch.specs.Loading.{object_of}
 use Rattle.dentry_cache.specs.Cache.{Leaf, Unsaved, leaf_is}
-use Rattle.dentry_cache.specs.Loading.{object_of}
 use Rattle.dentry_cache.specs.Ties.{Keeps, KeepsAt, names_at}
 use Rattle.dentry_cache.proofs.LeafLaws.{leaf-total, leaf_itself, leaf_or_apart, tied_leaf}
 use Rattle.inode_table.specs.Dirs.{Homes, IsTable, is_known, leaves_of}

@@ -17,8 +17,8 @@ use Rattle.sorted_map.specs.Overlay.{without_keys}
 use Rattle.objstore.specs.Objects.{Objects, written}
 use Rattle.dirfrag_codec.proofs.ByteKeys.{get_beside, get_left, get_removed, key_itself, key_tied}
 use Rattle.purge_list.specs.PurgeList.{first_name}
+use Rattle.frag_fetch.specs.Loading.{object_of}
 use Rattle.dentry_cache.specs.Cache.{Held, Leaf}
-use Rattle.dentry_cache.specs.Loading.{object_of}
 use Rattle.inode_table.specs.Dirs.{is_known, leaves_of}
 use Rattle.dirfrag_steps.specs.Cached.{IsKept}
 use Rattle.dirfrag_steps.specs.Objects.{purged, tree_object, tree_saved, with_tree_at}

@@ -15,8 +15,8 @@ use Rattle.commit_jobs.specs.declared.bases.Base.TheVariants.{Fresh, Stored}
 use Rattle.commit_jobs.specs.declared.marks.Mark.{Mark}
 use Rattle.commit_jobs.specs.Marks.{Marks}
 use Rattle.cached_frag.specs.Cached.{Cached, is_clean, is_clean_over, marked}
+use Rattle.frag_fetch.specs.Loading.{object_of}
 use Rattle.dentry_cache.specs.Cache.{Held, IsChanged, Leaf, Unsaved, cached, held, leaf_is, unsaved, unsaved_in, unsaved_of, used_as, with_unsaved}
-use Rattle.dentry_cache.specs.Loading.{object_of}
 use Rattle.dentry_cache.specs.Ties.{AreTied, IsTied, IsTiedAt}
 use Rattle.dentry_cache.proofs.CacheLaws.{get-unsaved}
 use Rattle.dentry_cache.proofs.LeafLaws.{one_leaf}

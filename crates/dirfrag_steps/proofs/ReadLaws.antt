@@ -12,10 +12,11 @@ use Rattle.omap.specs.Omap.{Omap, key_cmp}
 use Rattle.objstore.specs.Objects.{Objects}
 use Rattle.commit_jobs.specs.declared.marks.Mark.{Mark}
 use Rattle.cached_frag.specs.Cached.{Cached, is_clean}
+use Rattle.frag_fetch.specs.Loading.{Loads, object_of}
 use Rattle.dentry_cache.specs.Cache.{Evicts, Held, IsChanged, IsFull, IsThere, Leaf, MakesRoom, NoneGoes, Places, cached, fragment_in, held, is_evictable, is_kept, leaf_is, stays, unsaved, unsaved_in, used_as, without}
 use Rattle.dentry_cache.specs.declared.cache.Place.{Place}
 use Rattle.dentry_cache.specs.Leaving.{IsFound, IsLeft, LeavesBeside}
-use Rattle.dentry_cache.specs.Loading.{IsFetched, IsNotFetched, Loads, MayNotFetch, object_of}
+use Rattle.dentry_cache.specs.Loading.{IsFetched, IsNotFetched, MayNotFetch}
 use Rattle.dentry_cache.proofs.CacheLaws.{get-unsaved, unsaved_alike}
 use Rattle.dentry_cache.proofs.LeafLaws.{one_leaf}
 use Rattle.dentry_cache.proofs.UsedLaws.{beside_removal, still_absent}

@@ -10,12 +10,12 @@ use Rattle.mds_types.specs.Frag.{Fragment, child_of}
 use Rattle.omap.specs.Omap.{Omap}
 use Rattle.objstore.specs.Objects.{Objects}
 use Rattle.cached_frag.specs.Cached.{Cached, shown}
+use Rattle.frag_fetch.specs.Loading.{Loads, MayNotLoad, object_of}
 use Rattle.dentry_cache.specs.declared.cache.Place.{Place}
 use Rattle.dentry_cache.specs.declared.parts.Part.{Part}
 use Rattle.dentry_cache.specs.Cache.{HasCached, Held, Leaf, cached, fragment_in, is_kept, kept_place, leaf_is, unsaved, unsaved_in}
 use Rattle.dentry_cache.specs.Divided.{IsFoundReady, IsLeftReady, IsNoChild, IsSplit, bare, spare}
 use Rattle.dentry_cache.specs.Leaving.{IsLeft}
-use Rattle.dentry_cache.specs.Loading.{Loads, MayNotLoad, object_of}
 use Rattle.dentry_cache.proofs.CacheLaws.{get-unsaved}
 use Rattle.dentry_cache.proofs.LeafLaws.{leaf_or_apart}
 use Rattle.dentry_cache.proofs.ReadyFrom.{ComesFrom, ready_from}

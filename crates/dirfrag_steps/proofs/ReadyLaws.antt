@@ -10,10 +10,10 @@ use Rattle.mds_types.specs.Tree.{is_directory}
 use Rattle.omap.specs.Omap.{Omap}
 use Rattle.objstore.specs.Objects.{Objects}
 use Rattle.cached_frag.specs.Cached.{Cached}
+use Rattle.frag_fetch.specs.Loading.{Loads, object_of}
 use Rattle.dentry_cache.specs.Cache.{HasCached, HasRoom, Held, IsChanged, IsFull, IsThere, Leaf, MayMakeRoom, cached, fragment_in, is_kept, kept_place, leaf_is, unsaved, without}
 use Rattle.dentry_cache.specs.declared.cache.Place.{Place}
 use Rattle.dentry_cache.specs.Leaving.{IsLeft, LeavesBeside}
-use Rattle.dentry_cache.specs.Loading.{Loads, object_of}
 use Rattle.dentry_cache.specs.Places.{IsCache}
 use Rattle.dentry_cache.specs.Ties.{IsTied}
 use Rattle.dentry_cache.proofs.LeafLaws.{leaf_itself, one_leaf}

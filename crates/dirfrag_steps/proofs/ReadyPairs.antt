@@ -4,10 +4,11 @@ use Rattle.std.specs.Map.{lookup}
 use Rattle.omap.specs.Omap.{Omap}
 use Rattle.objstore.specs.Objects.{Objects}
 use Rattle.cached_frag.specs.Cached.{Cached}
+use Rattle.frag_fetch.specs.Loading.{Loads, object_of}
 use Rattle.dentry_cache.specs.Cache.{Held, IsThere, Leaf, cached, fragment_in, leaf_is, unsaved}
 use Rattle.dentry_cache.specs.declared.cache.Place.{Place}
 use Rattle.dentry_cache.specs.Leaving.{IsFound, IsLeft, LeavesBeside}
-use Rattle.dentry_cache.specs.Loading.{IsNotFetched, Loads, object_of}
+use Rattle.dentry_cache.specs.Loading.{IsNotFetched}
 use Rattle.dentry_cache.proofs.LeafLaws.{leaf_itself, one_leaf}
 use Rattle.dentry_cache.proofs.LeavingLaws.{staying_is_left}
 use Rattle.dentry_cache.proofs.UsedLaws.{still_absent}

@@ -27,12 +27,12 @@ use Rattle.commit_jobs.specs.declared.marks.Mark.{Mark}
 use Rattle.commit_jobs.proofs.MarkLaws.{get-patched, inode_or}
 use Rattle.cached_frag.specs.Cached.{shown_over}
 use Rattle.cached_frag.specs.Moving.{marked_as}
+use Rattle.frag_fetch.specs.Loading.{object_of}
+use Rattle.frag_fetch.specs.Pairs.{holds}
+use Rattle.frag_fetch.proofs.LoadLaws.{holds_contains}
 use Rattle.dentry_cache.specs.Cache.{Leaf, Unsaved, leaf_is}
-use Rattle.dentry_cache.specs.Loading.{object_of}
-use Rattle.dentry_cache.specs.Pairs.{holds}
 use Rattle.dentry_cache.specs.Ties.{names_at}
 use Rattle.dentry_cache.proofs.LeafLaws.{one_leaf}
-use Rattle.dentry_cache.proofs.LoadLaws.{holds_contains}
 use Rattle.inode_table.specs.Dirs.{IsTable, is_known, leaves_of, or_whole}
 use Rattle.inode_table.specs.TreeTable.{IsTabled}
 use Rattle.inode_table.proofs.Tables.{set_table, tree_of_row}

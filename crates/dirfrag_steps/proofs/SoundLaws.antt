@@ -8,8 +8,8 @@ use Rattle.omap.specs.Omap.{Keys}
 use Rattle.objstore.specs.Objects.{Objects}
 use Rattle.dirfrag_codec.specs.FragmentObject.{Names}
 use Rattle.commit_jobs.specs.declared.jobs.Job.{Job}
+use Rattle.frag_fetch.specs.Loading.{object_of}
 use Rattle.dentry_cache.specs.Cache.{Held, Leaf, Unsaved, leaf_is}
-use Rattle.dentry_cache.specs.Loading.{object_of}
 use Rattle.dentry_cache.specs.Ties.{IsTied}
 use Rattle.dentry_cache.proofs.LeafLaws.{leaf-total, one_leaf, tied_leaf}
 use Rattle.dirfrag_steps.specs.Cached.{IsKept}

@@ -21,16 +21,16 @@ use Rattle.commit_jobs.specs.declared.bases.Base.{Base}
 use Rattle.commit_jobs.specs.declared.bases.Base.TheVariants.{Fresh}
 use Rattle.cached_frag.specs.Cached.{Cached, is_clean_over, shown}
 use Rattle.cached_frag.specs.Moving.{marked_as}
+use Rattle.frag_fetch.specs.Loading.{object_of}
+use Rattle.frag_fetch.specs.Pairs.{holds}
+use Rattle.frag_fetch.proofs.LoadLaws.{holds_contains}
 use Rattle.dentry_cache.specs.declared.parts.Part.{Part}
 use Rattle.dentry_cache.specs.declared.cache.Place.{Place}
 use Rattle.dentry_cache.specs.Cache.{HasCached, Held, Leaf, Unsaved, cached, fragment_in, leaf_is, unsaved, unsaved_in}
 use Rattle.dentry_cache.specs.Divided.{AreNumbered, IsChild as IsMadeChild, IsSplit as IsSplitIn, names_in}
-use Rattle.dentry_cache.specs.Loading.{object_of}
-use Rattle.dentry_cache.specs.Pairs.{holds}
 use Rattle.dentry_cache.specs.Ties.{IsTied}
 use Rattle.dentry_cache.proofs.CacheLaws.{get-unsaved}
 use Rattle.dentry_cache.proofs.LeafLaws.{leaf_or_apart}
-use Rattle.dentry_cache.proofs.LoadLaws.{holds_contains}
 use Rattle.dentry_cache.proofs.NameParts.{get-names_in}
 use Rattle.dentry_cache.proofs.SplitShows.{fresh_tied}
 use Rattle.inode_table.specs.Dirs.{Covers, Homes, Table, is_known, leaves_of}

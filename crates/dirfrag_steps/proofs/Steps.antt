@@ -11,7 +11,7 @@ use Rattle.commit_jobs.specs.declared.jobs.Job.{Job}
 use Rattle.commit_jobs.specs.declared.marks.Mark.{Mark}
 use Rattle.commit_jobs.specs.Snap.{IsBelowEnd, IsSnap, counts_of}
 use Rattle.omap.specs.Omap.{Omap}
-use Rattle.dentry_cache.specs.Loading.{object_of}
+use Rattle.frag_fetch.specs.Loading.{object_of}
 use Rattle.dentry_cache.specs.Ties.{KeepsAt}
 use Rattle.dentry_cache.proofs.TieLaws.{tied_show}
 use Rattle.cached_frag.specs.Cached.{Cached, is_clean, shown, snapshot_of}

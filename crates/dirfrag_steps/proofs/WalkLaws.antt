@@ -20,8 +20,8 @@ use Rattle.namehash.specs.Rjenkins.{hash_of}
 use Rattle.dirfrag_codec.specs.FragmentObject.{Names}
 use Rattle.dirfrag_codec.proofs.ByteKeys.{key_itself}
 use Rattle.cached_frag.specs.Cached.{Cached, shown}
+use Rattle.frag_fetch.specs.Loading.{Loads, object_of}
 use Rattle.dentry_cache.specs.Cache.{HasCached, Held, Leaf, Places, cached, unsaved, unsaved_in}
-use Rattle.dentry_cache.specs.Loading.{Loads, object_of}
 use Rattle.dentry_cache.specs.Ties.{AreTied, IsTied}
 use Rattle.dentry_cache.proofs.CacheLaws.{get-unsaved}
 use Rattle.dentry_cache.proofs.TieLaws.{fetched_are_tied}

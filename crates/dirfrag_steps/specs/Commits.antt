@@ -13,8 +13,8 @@ use Rattle.commit_jobs.specs.Commit.{write_of}
 use Rattle.commit_jobs.specs.Marks.{Marks}
 use Rattle.commit_jobs.specs.Snap.{IsBelowEnd, Snap, counts_of, next_version}
 use Rattle.cached_frag.specs.Cached.{shown_over, unsettled}
+use Rattle.frag_fetch.specs.Loading.{object_of}
 use Rattle.dentry_cache.specs.Cache.{Leaf, Unsaved, with_unsaved}
-use Rattle.dentry_cache.specs.Loading.{object_of}
 use Rattle.dentry_cache.specs.Ties.{names_at}
 use Rattle.standing_jobs.specs.StandingJobs.{NoneHasNumber}
 use Rattle.dirfrag_steps.specs.Shown.{shown_at, shown_tree}

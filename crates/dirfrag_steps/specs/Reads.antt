@@ -11,8 +11,8 @@ use Rattle.fragtree.specs.FragTree.{HasLeaf}
 use Rattle.objstore.specs.Objects.{Objects}
 use Rattle.dirfrag_codec.specs.FragmentObject.{Names}
 use Rattle.cached_frag.specs.Cached.{Cached}
+use Rattle.frag_fetch.specs.Loading.{Loads, object_of}
 use Rattle.dentry_cache.specs.Cache.{Held, Leaf, cached, is_kept, leaf_is, unsaved}
-use Rattle.dentry_cache.specs.Loading.{Loads, object_of}
 pub use Rattle.dentry_cache.specs.Places.{fixed_places}
 use Rattle.rank_caches.specs.Caches.{Caches, all_of}
 use Rattle.dirfrag_steps.specs.Ranks.{KeepUnsaved, KeepsCaches}

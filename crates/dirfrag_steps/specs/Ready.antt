@@ -6,8 +6,8 @@ use Rattle.mds_types.specs.declared.refusals.Refusal.{Refusal}
 use Rattle.mds_types.specs.declared.refusals.Refusal.TheVariants.{NoInodes}
 use Rattle.objstore.specs.Objects.{Objects}
 use Rattle.cached_frag.specs.Cached.{Cached}
+use Rattle.frag_fetch.specs.Loading.{Loads, object_of}
 use Rattle.dentry_cache.specs.Cache.{Held, Leaf, cached, is_kept, leaf_is, unsaved}
-use Rattle.dentry_cache.specs.Loading.{Loads, object_of}
 use Rattle.rank_caches.specs.Caches.{Caches, all_of}
 use Rattle.dirfrag_steps.specs.Ranks.{KeepUnsaved, KeepsCaches}
 use Rattle.dirfrag_steps.specs.Reads.{MayNotFind}

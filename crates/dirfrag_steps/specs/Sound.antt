@@ -13,8 +13,8 @@ use Rattle.commit_jobs.specs.declared.marks.Mark.{Mark}
 use Rattle.commit_jobs.specs.Marks.{Marks}
 use Rattle.commit_jobs.specs.Snap.{IsSnap, counts_of}
 use Rattle.cached_frag.specs.Cached.{shown_over}
+use Rattle.frag_fetch.specs.Loading.{IsWhole, object_of}
 use Rattle.dentry_cache.specs.Cache.{Leaf, Unsaved}
-use Rattle.dentry_cache.specs.Loading.{IsWhole, object_of}
 use Rattle.dentry_cache.specs.Ties.{Keeps, names_at}
 use Rattle.inode_table.specs.Dirs.{IsTable, is_known, leaves_of}
 use Rattle.inode_table.specs.TreeTable.{IsTabled}

@@ -10,8 +10,8 @@ use Rattle.namehash.specs.Rjenkins.{hash_of}
 use Rattle.omap.specs.Omap.{Keys}
 use Rattle.commit_jobs.specs.declared.bases.Base.TheVariants.{Fresh}
 use Rattle.cached_frag.specs.Moving.{marked_as}
+use Rattle.frag_fetch.specs.Pairs.{holds}
 use Rattle.dentry_cache.specs.Cache.{Leaf, Unsaved}
-use Rattle.dentry_cache.specs.Pairs.{holds}
 use Rattle.inode_table.specs.Dirs.{is_known, leaves_of}
 use Rattle.namespace_ops.specs.Changes.{in_directory}
 use Rattle.namespace_ops.specs.Kept.{ChangesOnly}

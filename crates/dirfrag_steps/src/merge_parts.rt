@@ -8,8 +8,8 @@ ghost use Rattle.mds_types.specs.declared.refusals.Refusal.TheVariants.{NoMemory
 ghost use Rattle.fragtree.specs.FragTree.{CanMerge, IsMerge, IsTree, leaves_inside, lies_inside};
 ghost use Rattle.commit_jobs.specs.declared.bases.Base.TheVariants.{Fresh};
 ghost use Rattle.cached_frag.specs.Cached.{Cached};
+ghost use Rattle.frag_fetch.specs.Loading.{object_of};
 ghost use Rattle.dentry_cache.specs.Cache.{Leaf, cached, is_kept, leaf_is, unsaved};
-ghost use Rattle.dentry_cache.specs.Loading.{object_of};
 ghost use Rattle.dentry_cache.specs.Ties.{AreTied};
 ghost use Rattle.inode_table.specs.Dirs.{leaves_of};
 ghost use Rattle.namespace_ops.specs.Changes.{in_directory};

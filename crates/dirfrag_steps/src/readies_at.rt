@@ -3,8 +3,8 @@ ghost use Rattle.std.specs.Prelude.{◌≡◌, ◌≢◌, ◌⊎◌, ◌<◌, �
 ghost use Rattle.std.specs.FinMap as map;
 ghost use Rattle.std.specs.Map.{lookup};
 ghost use Rattle.cached_frag.specs.Cached.{Cached};
+ghost use Rattle.frag_fetch.specs.Loading.{object_of};
 ghost use Rattle.dentry_cache.specs.Cache.{HasCached, HasRoom, Leaf, cached, is_kept, leaf_is, unsaved};
-ghost use Rattle.dentry_cache.specs.Loading.{object_of};
 ghost use Rattle.rank_caches.specs.Caches.{all_of, cache_of};
 ghost use Rattle.dirfrag_steps.specs.Changes.{first_leaf};
 ghost use Rattle.dirfrag_steps.specs.Ranks.{AreRanks, IsThat, MayHold};

@@ -3,8 +3,8 @@ ghost use Rattle.std.specs.Prelude.{◌≡◌, ◌≤◌, ◌<◌, None, Some, I
 ghost use Rattle.std.specs.FinMap as map;
 ghost use Rattle.objstore.specs.Objects.{Objects};
 ghost use Rattle.cached_frag.specs.Cached.{Cached, shown};
+ghost use Rattle.frag_fetch.specs.Loading.{object_of};
 ghost use Rattle.dentry_cache.specs.Cache.{HasCached, IsThere, Leaf, cached, unsaved};
-ghost use Rattle.dentry_cache.specs.Loading.{object_of};
 ghost use Rattle.dentry_cache.specs.Ties.{AreTied};
 ghost use Rattle.rank_caches.specs.Caches.{all_of, cache_of};
 ghost use Rattle.dirfrag_steps.specs.Cached.{KeepsNone};

@@ -2,8 +2,8 @@
 ghost use Rattle.std.specs.Prelude.{◌≡◌, ◌⊎◌, ◌<◌, ◌≤◌, None, Some, OnOk, IfErr};
 ghost use Rattle.std.specs.FinMap as map;
 ghost use Rattle.cached_frag.specs.Cached.{Cached};
+ghost use Rattle.frag_fetch.specs.Loading.{object_of};
 ghost use Rattle.dentry_cache.specs.Cache.{HasCached, HasRoom, IsThere, Leaf, cached, unsaved};
-ghost use Rattle.dentry_cache.specs.Loading.{object_of};
 ghost use Rattle.dirfrag_steps.specs.Ready.{Readies};
 ghost use Rattle.dirfrag_steps.specs.Reads.{FixesAllBut, FixesNoMore, MayNotFind};
 ghost use Rattle.dirfrag_steps.specs.Sound.{IsSaved};

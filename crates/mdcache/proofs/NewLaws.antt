@@ -16,9 +16,9 @@ use Rattle.objstore.specs.Objects.{Objects}
 use Rattle.dirfrag_codec.specs.FragmentObject.{Names}
 use Rattle.commit_jobs.specs.declared.marks.Mark.{Mark}
 use Rattle.cached_frag.specs.Cached.{Cached}
+use Rattle.frag_fetch.specs.Loading.{object_of}
 use Rattle.dentry_cache.specs.Cache.{Held, Leaf, Places, Unsaved, cached, fragment_in, held, leaf_is, unsaved}
 use Rattle.dentry_cache.specs.Ties.{IsTied}
-use Rattle.dentry_cache.specs.Loading.{object_of}
 use Rattle.dentry_cache.proofs.LeafLaws.{leaf_itself, one_leaf}
 use Rattle.inode_table.specs.Dirs.{Covers, Homes, IsTable, Table, is_known, leaves_of, or_whole}
 use Rattle.inode_table.specs.TreeTable.{IsTabled}

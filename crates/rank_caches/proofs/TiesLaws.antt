@@ -6,9 +6,9 @@ use Rattle.commit_jobs.specs.Snap.{Snap}
 use Rattle.omap.specs.Omap.{Omap}
 use Rattle.objstore.specs.Objects.{Objects}
 use Rattle.cached_frag.specs.Cached.{Cached}
+use Rattle.frag_fetch.specs.Loading.{object_of}
 use Rattle.dentry_cache.specs.declared.cache.Place.{Place}
 use Rattle.dentry_cache.specs.Cache.{HasCached, Held, Leaf, Places, cached, fragment_in, leaf_is}
-use Rattle.dentry_cache.specs.Loading.{object_of}
 use Rattle.dentry_cache.specs.Standing.{IsLeaf, Stands, Ties}
 use Rattle.dentry_cache.specs.Ties.{Commits, IsTied}
 use Rattle.dentry_cache.proofs.LeafLaws.{leaf_or_apart}

@@ -6,9 +6,9 @@ use Rattle.mds_types.specs.declared.ids.Rank.{Rank}
 use Rattle.commit_jobs.specs.Snap.{Snap}
 use Rattle.objstore.specs.Objects.{Objects}
 use Rattle.cached_frag.specs.Cached.{Cached}
+use Rattle.frag_fetch.specs.Loading.{object_of}
 use Rattle.dentry_cache.specs.declared.cache.Place.{Place}
 use Rattle.dentry_cache.specs.Cache.{Held, Leaf, Unsaved, cached, is_kept, leaf_is, unsaved, with_unsaved}
-use Rattle.dentry_cache.specs.Loading.{object_of}
 use Rattle.dentry_cache.specs.Places.{AreDistinct, fixed_places}
 use Rattle.dentry_cache.specs.Standing.{KeepsTies}
 use Rattle.rank_caches.specs.Caches.{AreApart, Caches, HasNoneBeside, HaveEach, all_of, cache_of, has_place, places_of, with_cache}

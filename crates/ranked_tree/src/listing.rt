@@ -18,8 +18,8 @@ ghost use Rattle.dirfrag_steps.specs.Shown.{names_of, shown_tree};
 ghost use Rattle.ranked_tree.specs.Held.{IsOwned};
 
 use crate::holding::holder_of;
-use fragtree::FragTree;
 use dirfrag_steps::Page;
+use fragtree::FragTree;
 use mdcache::MdCache;
 use mds_types::{Frag, Ino, Listing, Name, PageSize, Refusal};
 use objstore::Store;

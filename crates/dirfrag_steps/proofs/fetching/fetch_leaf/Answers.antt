@@ -2,8 +2,8 @@ use Rattle.std.proofs.Common.{◌≡◌, None, sym, ap, ◌∙◌, arith}
 use Rattle.std.proofs.lemmas.Result.{on_ok_weaker}
 use Rattle.std.specs.Map.{lookup}
 use Rattle.std.specs.FinMap as map
+use Rattle.frag_fetch.specs.Loading.{object_of}
 use Rattle.dentry_cache.specs.Cache.{leaf_is}
-use Rattle.dentry_cache.specs.Loading.{object_of}
 use Rattle.dirfrag_steps.specs.Reads.{FixesAllBut}
 use Rattle.dirfrag_steps.proofs.JoinLaws.{fetch_keeps}
 use Rattle.dirfrag_steps.proofs.ReadLaws.{fetch_reads, fetch_refused, found_there, full_lacks, map_err, reads_on, refused_after}

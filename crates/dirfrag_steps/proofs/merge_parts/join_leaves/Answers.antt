@@ -2,8 +2,8 @@ use Rattle.std.proofs.Common.{◌≡◌, refl, sym, ap, subst, ◌∙◌, arith}
 use Rattle.std.specs.List.{Contains}
 use Rattle.std.specs.FinMap as map
 use Rattle.objstore.specs.Objects.{Objects}
+use Rattle.frag_fetch.specs.Loading.{object_of}
 use Rattle.dentry_cache.specs.Cache.{Leaf, unsaved}
-use Rattle.dentry_cache.specs.Loading.{object_of}
 use Rattle.dentry_cache.specs.Ties.{AreTied}
 use Rattle.dirfrag_steps.specs.Going.{leaves_in}
 use Rattle.dirfrag_steps.specs.Reads.{Reads}

@@ -1,7 +1,7 @@
 use Rattle.std.proofs.Common.{◌≡◌, ◌⊎◌, ◌<◌, inl, OnOk, sym, subst}
 use Rattle.cached_frag.specs.Cached.{Cached}
+use Rattle.frag_fetch.specs.Loading.{object_of}
 use Rattle.dentry_cache.specs.Cache.{HasCached, HasRoom, Held, Leaf, cached}
-use Rattle.dentry_cache.specs.Loading.{object_of}
 use Rattle.rank_caches.specs.Caches.{HasNoneBeside, cache_of, with_cache}
 use Rattle.rank_caches.proofs.PlaceLaws.{cache_there}
 use Rattle.dirfrag_steps.specs.Ready.{Readies}

@@ -1,7 +1,7 @@
 use Rattle.std.proofs.Common.{◌≡◌, ◌⊎◌, inl, OnOk, true, sym, ap, subst, ◌∙◌}
 use Rattle.std.specs.Map.{lookup}
+use Rattle.frag_fetch.specs.Loading.{object_of}
 use Rattle.dentry_cache.specs.Cache.{HasRoom, Held, Leaf, cached, is_kept, leaf_is}
-use Rattle.dentry_cache.specs.Loading.{object_of}
 use Rattle.rank_caches.specs.Caches.{HasNoneBeside, cache_of, with_cache}
 use Rattle.rank_caches.proofs.PlaceLaws.{cache_there}
 use Rattle.dirfrag_steps.specs.Changes.{first_leaf}

@@ -1,6 +1,6 @@
 use Rattle.std.proofs.Common.{◌≡◌, OnOk, sym, subst}
+use Rattle.frag_fetch.specs.Loading.{object_of}
 use Rattle.dentry_cache.specs.Cache.{Held, IsThere, Leaf, cached}
-use Rattle.dentry_cache.specs.Loading.{object_of}
 use Rattle.rank_caches.specs.Caches.{HasNoneBeside, cache_of, with_cache}
 use Rattle.dirfrag_steps.specs.Reads.{Reads}
 use Rattle.dirfrag_steps.specs.Sound.{IsSaved}

@@ -1,8 +1,8 @@
 use Rattle.std.proofs.Common.{◌≡◌, Option, IfOk, sym, subst}
 use Rattle.std.specs.FinMap as map
 use Rattle.cached_frag.specs.Cached.{Cached, shown}
+use Rattle.frag_fetch.specs.Loading.{object_of}
 use Rattle.dentry_cache.specs.Cache.{HasCached, Held, Leaf}
-use Rattle.dentry_cache.specs.Loading.{object_of}
 use Rattle.rank_caches.specs.Caches.{HasNoneBeside, cache_of}
 use Rattle.dirfrag_steps.specs.Reads.{Reads}
 use Rattle.dirfrag_steps.specs.Sound.{IsSaved}

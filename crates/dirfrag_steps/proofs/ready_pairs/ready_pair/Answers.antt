@@ -1,8 +1,8 @@
 use Rattle.std.proofs.Common.{◌≡◌, ◌⊎◌, inl, inr, sym, ap, subst, ◌∙◌}
 use Rattle.std.specs.FinMap as map
 use Rattle.objstore.specs.Objects.{Objects}
+use Rattle.frag_fetch.specs.Loading.{object_of}
 use Rattle.dentry_cache.specs.Cache.{Leaf, cached}
-use Rattle.dentry_cache.specs.Loading.{object_of}
 use Rattle.dirfrag_steps.specs.Ready.{Readies}
 use Rattle.dirfrag_steps.specs.Sound.{IsSaved}
 use Rattle.dirfrag_steps.proofs.ReadLaws.{fixes_on}

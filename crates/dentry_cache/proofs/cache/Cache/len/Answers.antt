@@ -1,5 +1,4 @@
 use Rattle.std.proofs.Common.{subst}
-use Rattle.dentry_cache.specs.Cache.{Held}
 use Rattle.dentry_cache.specs.Places.{IsCache}
 use Rattle.dentry_cache.proofs.cache.Cache.len.Goals as goal
 

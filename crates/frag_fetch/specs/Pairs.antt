@@ -4,8 +4,8 @@ use Rattle.std.specs.List.{list_all}
 use Rattle.std.specs.FinMap as map
 use Rattle.mds_types.specs.Frag.{Fragment, span}
 use Rattle.mds_types.specs.declared.inodes.Inode.{Inode}
-use Rattle.dentry_cache.specs.declared.loading.PageEnd.{PageEnd}
-use Rattle.dentry_cache.specs.declared.loading.PageEnd.TheVariants.{Off, Last, More}
+use Rattle.frag_fetch.specs.declared.loading.PageEnd.{PageEnd}
+use Rattle.frag_fetch.specs.declared.loading.PageEnd.TheVariants.{Off, Last, More}
 use Rattle.omap.specs.Omap.{Omap, PairMap, key_cmp, pairs_after}
 use Rattle.sorted_map.specs.SortedMap.{Shown, contents}
 use Rattle.dirfrag_codec.specs.declared.headers.FragHeader.{FragHeader}

@@ -1,9 +1,9 @@
 use Rattle.std.proofs.Common.{◌≡◌, ◌∙◌, sym, ap}
 use Rattle.omap.specs.Omap.{key_cmp}
 use Rattle.sorted_map.specs.SortedMap.{contents}
-use Rattle.dentry_cache.specs.Pairs.{added, are_good}
-use Rattle.dentry_cache.proofs.PageSteps.{page_end, page_off}
-use Rattle.dentry_cache.proofs.loading.add_page.Goals as goal
+use Rattle.frag_fetch.specs.Pairs.{added, are_good}
+use Rattle.frag_fetch.proofs.PageSteps.{page_end, page_off}
+use Rattle.frag_fetch.proofs.loading.add_page.Goals as goal
 
 pub returns-then-not-branch : goal.returns-then-not-branch
 returns-then-not-branch c = λ pairs after is.

@@ -28,8 +28,8 @@ use Rattle.commit_jobs.specs.declared.bases.Base.TheVariants.{Stored}
 use Rattle.commit_jobs.specs.Snap.{counts_of}
 use Rattle.cached_frag.specs.Cached.{AreEntries, Cached, shown}
 use Rattle.cached_frag.proofs.ShownLaws.{only_below}
-use Rattle.dentry_cache.specs.Loading.{AreWithin, IsWhole, Loads}
-use Rattle.dentry_cache.specs.Pairs.{AreNamesOf, IsCounted, IsHeaderOf, added, are_good, holds, is_good, is_good_as}
+use Rattle.frag_fetch.specs.Loading.{AreWithin, IsWhole, Loads}
+use Rattle.frag_fetch.specs.Pairs.{AreNamesOf, IsCounted, IsHeaderOf, added, are_good, holds, is_good, is_good_as}
 
 -- ---- good pairs
 

@@ -3,8 +3,8 @@ use Rattle.std.proofs.Common.{◌≡◌, ◌≤◌, length, None}
 use Rattle.std.specs.FinMap as map
 use Rattle.omap.specs.Omap.{key_cmp}
 use Rattle.sorted_map.specs.SortedMap.{contents}
-use Rattle.dentry_cache.specs.Pairs.{added, are_good, pairs_left}
-use Rattle.dentry_cache.proofs.loading.read_names.Given as goal
+use Rattle.frag_fetch.specs.Pairs.{added, are_good, pairs_left}
+use Rattle.frag_fetch.proofs.loading.read_names.Given as goal
 
 abbrev pub invariant-loop-after : goal.invariant-loop-after
 invariant-loop-after g l = record {

@@ -10,9 +10,9 @@ use Rattle.omap.specs.Omap.{PairMap, PairPage, page_of, pairs_after}
 use Rattle.omap.proofs.PageLaws.{pages_make_up}
 use Rattle.dirfrag_codec.specs.FragmentObject.{Names, with_entry}
 use Rattle.dirfrag_codec.specs.Values.{entry_of, name_of}
-use Rattle.dentry_cache.specs.declared.loading.PageEnd.{PageEnd}
-use Rattle.dentry_cache.specs.declared.loading.PageEnd.TheVariants.{Off, Last, More}
-use Rattle.dentry_cache.specs.Pairs.{EndsPairs, IsEndOf, added, are_good, is_good}
+use Rattle.frag_fetch.specs.declared.loading.PageEnd.{PageEnd}
+use Rattle.frag_fetch.specs.declared.loading.PageEnd.TheVariants.{Off, Last, More}
+use Rattle.frag_fetch.specs.Pairs.{EndsPairs, IsEndOf, added, are_good, is_good}
 
 added_split : (names : Names) (a b : List (List ℕ × List ℕ)) → added names (a ++ b) ≡ added (added names a) b
 added_split names [] b = refl

@@ -4,8 +4,8 @@ ghost use Rattle.omap.specs.Omap.{PairMap, key_cmp, page_of};
 ghost use Rattle.sorted_map.specs.SortedMap.{contents};
 ghost use Rattle.objstore.specs.Objects.{MayRefuse};
 ghost use Rattle.std.specs.FinMap as map;
-ghost use Rattle.dentry_cache.specs.Loading.{Loads, MayNotLoad, object_of};
-ghost use Rattle.dentry_cache.specs.Pairs.{AreNamesOf, EndsPage, EndsPairs, IsCounted, IsEndOf, IsHeaderOf};
+ghost use Rattle.frag_fetch.specs.Loading.{Loads, MayNotLoad, object_of};
+ghost use Rattle.frag_fetch.specs.Pairs.{AreNamesOf, EndsPage, EndsPairs, IsCounted, IsEndOf, IsHeaderOf};
 
 use crate::pairs::add_pairs;
 use cached_frag::CachedFrag;
@@ -32,9 +32,9 @@ pub enum PageEnd {
 /// The fragment of a leaf, read from its object: one call for the header, and one for each 64 pairs or less. Takes memory
 /// for the names.
 ///
-/// Refused `Damaged` where the object is absent or isn't one that spells a fragment with no name of another leaf, and
-/// otherwise as the store refuses a call.
-pub(crate) fn load<S: Store>(
+/// Refused `Damaged`, with the object's name, where the object is absent or isn't one that spells a fragment with no name
+/// of another leaf, and otherwise as the store refuses a call (`StoreFault`), or `NoMemory`. The objects stay as they are.
+pub fn load<S: Store>(
     alloc: Global,
     store: &mut S,
     dir: Ino,

@@ -2,8 +2,8 @@
 use Rattle.std.proofs.Common.{◌≡◌, drop}
 use Rattle.omap.specs.Omap.{key_cmp}
 use Rattle.sorted_map.specs.SortedMap.{contents}
-use Rattle.dentry_cache.specs.Pairs.{added, are_good}
-use Rattle.dentry_cache.proofs.pairs.add_pairs.Given as goal
+use Rattle.frag_fetch.specs.Pairs.{added, are_good}
+use Rattle.frag_fetch.proofs.pairs.add_pairs.Given as goal
 
 abbrev pub invariant-loop-key : goal.invariant-loop-key
 invariant-loop-key l = record {

@@ -7,7 +7,7 @@ ghost use Rattle.sorted_map.specs.SortedMap.{contents};
 ghost use Rattle.mds_types.specs.Frag.{Fragment};
 ghost use Rattle.dirfrag_codec.specs.FragmentObject.{with_entry};
 ghost use Rattle.dirfrag_codec.specs.Values.{entry_of, name_of};
-ghost use Rattle.dentry_cache.specs.Pairs.{IsRead, added, are_good, holds, is_good};
+ghost use Rattle.frag_fetch.specs.Pairs.{IsRead, added, are_good, holds, is_good};
 
 use dirfrag_codec::decode_entry;
 use mds_types::{Frag, Inode, Name};

@@ -1,8 +1,8 @@
 use Rattle.std.proofs.Common.{ap}
 use Rattle.std.specs.FinMap as map
 use Rattle.objstore.specs.Objects.{Objects}
-use Rattle.dentry_cache.proofs.LoadLaws.{entries_read, loaded_is, no_header, no_names}
-use Rattle.dentry_cache.proofs.loading.load_object.Goals as goal
+use Rattle.frag_fetch.proofs.LoadLaws.{entries_read, loaded_is, no_header, no_names}
+use Rattle.frag_fetch.proofs.loading.load_object.Goals as goal
 
 pub returns-in_default-clause-loaded : goal.returns-in_default-clause-loaded
 returns-in_default-clause-loaded g c = no_header c.args.frag _ (rw c.in_default.is at c.in_ok-header.ensures.read)
