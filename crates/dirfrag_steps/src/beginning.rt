@@ -1,4 +1,4 @@
-//! Commits begin: a snapshot of a fragment that isn't clean is given out as a job.
+//! A commit begins in one cache: a snapshot of a fragment that isn't clean stands as a job.
 ghost use Rattle.std.specs.Prelude.{◌≡◌, ◌-◌, ◌<◌, false, OnOk, OnErr, IfOk, IfErr};
 ghost use Rattle.std.specs.FinMap as map;
 ghost use Rattle.mds_types.specs.declared.refusals.Refusal.TheVariants.{NoMemory};

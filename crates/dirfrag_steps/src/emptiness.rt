@@ -1,4 +1,4 @@
-//! Whether a leaf shows a name.
+//! Whether a cached fragment shows a name.
 ghost use Rattle.std.specs.Prelude.{◌≡◌};
 ghost use Rattle.cached_frag.specs.Cached.{Cached, shown};
 ghost use Rattle.dentry_cache.specs.Cache.{HasCached, IsThere, cached};

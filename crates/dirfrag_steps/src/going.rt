@@ -1,4 +1,4 @@
-//! What is prepared before a directory goes, and how it goes then.
+//! A directory that goes: the names of its objects, and what goes with it.
 ghost use Rattle.std.specs.Prelude.{◌≡◌, ◌≤◌, length, string_bytes, map as each, IfOk, IfSome};
 ghost use Rattle.std.specs.List.{Contains};
 ghost use Rattle.std.specs.Map.{lookup};

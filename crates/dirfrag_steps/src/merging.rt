@@ -1,4 +1,4 @@
-//! Leaves of a directory are merged: all is prepared for it first, and then it is done, which can't fail.
+//! A merge for which all is ready is done, which can't fail.
 ghost use Rattle.std.specs.Prelude.{◌≡◌, ◌+◌, ◌-◌, ◌≤◌, ◌<◌, ◌^◌, true, cond, length, string_bytes};
 ghost use Rattle.std.specs.FinMap as map;
 ghost use Rattle.std.specs.List.{Contains};

@@ -1,4 +1,4 @@
-//! A leaf of a directory is split: all is prepared for it first, and then it is done, which can't fail.
+//! A split for which all is ready is done, which can't fail.
 ghost use Rattle.std.specs.Prelude.{◌≡◌, ◌+◌, ◌-◌, ◌≤◌, ◌<◌, ◌^◌, ℕ, true, cond, map as each, string_bytes};
 ghost use Rattle.std.specs.FinMap as map;
 ghost use Rattle.std.specs.Map.{lookup};

@@ -1,4 +1,4 @@
-//! The object of a directory's tree, written or removed.
+//! The object of a directory's tree, written to a store or removed from it.
 ghost use Rattle.std.specs.Prelude.{◌≡◌, ◌≤◌, ◌<◌, true, MatchOption, Some, IfOk, OnOk, OnErr, IfErr, length};
 ghost use Rattle.std.specs.FinMap as map;
 ghost use Rattle.objstore.specs.Objects.{MayRefuse};

@@ -1,4 +1,4 @@
-//! What is prepared before a directory goes, and how it goes then.
+//! What has to be named before a directory goes.
 ghost use Rattle.std.specs.Prelude.{◌≡◌, IfOk, IfErr};
 ghost use Rattle.mds_types.specs.declared.refusals.Refusal.TheVariants.{NoMemory};
 ghost use Rattle.dirfrag_steps.specs.Going.{IsGoing};

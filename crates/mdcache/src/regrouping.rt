@@ -1,4 +1,4 @@
-//! What splits and merges share: the numbers that they take, and the names of objects.
+//! Whether numbers are left for a split or a merge.
 ghost use Rattle.std.specs.Prelude.{◌≡◌, ◌⊎◌, ◌+◌, ◌-◌, ◌<◌, ◌^◌, OnOk, IfErr};
 ghost use Rattle.mds_types.specs.declared.refusals.Refusal.TheVariants.{NoInodes};
 ghost use Rattle.dirfrag_steps.specs.Ready.{LacksNumbers};

@@ -1,4 +1,4 @@
-//! The object of a directory's tree, written or removed.
+//! The object of a directory's tree is brought up to date.
 ghost use Rattle.std.specs.Prelude.{◌≡◌, ◌≤◌, ◌<◌};
 ghost use Rattle.dirfrag_steps.specs.Objects.{SavesTree};
 
