@@ -11,7 +11,7 @@ use cached_frag::CachedFrag;
 use mds_types::{Frag, Ino, Inode, Name, Rank};
 use rank_caches::RankCaches;
 
-/// As `Cache::put`, in the cache of a rank.
+/// As `Cache::put`, in the cache of the rank that holds the leaf.
 pub fn put_at(
     caches: &mut RankCaches,
     rank: Rank,
@@ -33,7 +33,7 @@ pub fn put_at(
     caches.of_mut(rank).put(dir, frag, name, inode, version);
 }
 
-/// As `Cache::erase`, in the cache of a rank.
+/// As `Cache::erase`, in the cache of the rank that holds the leaf.
 pub fn erase_at(caches: &mut RankCaches, rank: Rank, dir: Ino, frag: Frag, name: Name, version: u64)
     requires holds { MayHold caches.old rank (dir, frag) }
     requires ranks { AreRanks caches.old }
@@ -46,7 +46,7 @@ pub fn erase_at(caches: &mut RankCaches, rank: Rank, dir: Ino, frag: Frag, name:
     caches.of_mut(rank).erase(dir, frag, name, version);
 }
 
-/// As `Cache::fill`, in the cache of a rank.
+/// As `Cache::fill`, in the cache of the rank that holds the leaf.
 pub fn fill_at(caches: &mut RankCaches, rank: Rank, dir: Ino, frag: Frag, fragment: CachedFrag)
     requires holds { MayHold caches.old rank (dir, frag) }
     requires ranks { AreRanks caches.old }

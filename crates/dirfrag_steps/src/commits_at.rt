@@ -20,7 +20,10 @@ use rank_caches::RankCaches;
 use standing_jobs::StandingJobs;
 use std::alloc::Global;
 
-/// As `begin_in`, in the cache of a rank.
+/// A job of this number stands from now on for a fragment that isn't clean, of the rank that holds it, and is given back. What is
+/// cached stays, and the number is the caller's to take. Takes memory for the snapshot, twice.
+///
+/// Refused for want of memory alone (`NoMemory`); no more jobs stand then than before.
 pub fn begin_at(
     caches: &mut RankCaches,
     jobs: &mut StandingJobs,
@@ -45,7 +48,7 @@ pub fn begin_at(
     begin_in(caches.of_mut(rank), jobs, number, dir, frag, generation)
 }
 
-/// As `Cache::end_commit`, in the cache of a rank.
+/// As `Cache::end_commit`, in the cache of the rank that holds the leaf.
 pub fn end_at<S: Store>(
     alloc: Global,
     caches: &mut RankCaches,

@@ -20,7 +20,10 @@ use objstore::Store;
 use rank_caches::RankCaches;
 use std::alloc::Global;
 
-/// As `ready_leaf`, in the cache of a rank.
+/// Makes sure that a leaf is cached at the rank that holds it and has room for so many changes, one at least, and makes it the
+/// most recently used. Takes memory for a leaf that is read, and for the room.
+///
+/// Refused `NothingToEvict` where no place is free and no fragment can go, `StoreFault`, and `NoMemory`.
 pub fn ready_at<S: Store>(
     alloc: Global,
     caches: &mut RankCaches,
@@ -46,7 +49,11 @@ pub fn ready_at<S: Store>(
     ready_leaf(alloc, caches.of_mut(rank), store, dir, frag, changes)
 }
 
-/// As `ready_first`, in the cache of a rank.
+/// Makes a leaf ready for one change, and keeps a place of the same rank for the leaf `*` of a directory that will come, which
+/// isn't cached. The first leaf stays where it is. Takes memory for both.
+///
+/// Refused `NothingToEvict` where no place is free and no other fragment can go, `StoreFault`, and `NoMemory`. No place is
+/// kept then.
 pub fn ready_first_at<S: Store>(
     alloc: Global,
     caches: &mut RankCaches,

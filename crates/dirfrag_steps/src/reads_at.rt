@@ -72,7 +72,11 @@ fn release_at(caches: &mut RankCaches, rank: Rank, dir: Ino, frag: Frag)
     }
 }
 
-/// As `look_in`, in the cache of a rank.
+/// The inode that a name of a leaf stands for, if it is there. The leaf is read from the store into the cache of the rank that
+/// holds it, where it isn't cached; what isn't clean stays, whatever is answered. Takes memory for a leaf that is read, and for a
+/// link's target.
+///
+/// Refused `NothingToEvict` where no place is free and no fragment can go, `StoreFault`, and `NoMemory`.
 pub fn look_at<S: Store>(
     alloc: Global,
     caches: &mut RankCaches,
@@ -94,7 +98,10 @@ pub fn look_at<S: Store>(
     look_in(alloc, caches.of_mut(rank), store, dir, frag, name)
 }
 
-/// As `fetch_leaf`, in the cache of a rank.
+/// Makes sure that a leaf is cached at the rank that holds it, and makes it the most recently used. A clean one that isn't there
+/// is read from the store: one call for the header, and one for each 64 names or less. Takes memory for a leaf that is read.
+///
+/// Refused `NothingToEvict` where no place is free and no fragment can go, `StoreFault`, and `NoMemory`.
 pub fn fetch_at<S: Store>(
     alloc: Global,
     caches: &mut RankCaches,

@@ -20,7 +20,7 @@ pub(crate) fn take_counts(next: &mut Counters, count: u64, empty: bool)
     }
 }
 
-/// How many children of so many more bits a fragment has.
+/// How many children a fragment has that is split by so many bits, at most 8.
 pub fn child_count(nb: u8) -> u32
     requires { nb ≤ 8 }
     ensures { result ≡ 2 ^ nb }

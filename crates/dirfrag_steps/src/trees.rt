@@ -13,7 +13,10 @@ use objstore::Store;
 use omap::{Bytes, WriteOp};
 use std::alloc::{AllocError, Global};
 
-/// Makes the object of this name say what leaves a directory has.
+/// Makes the object of this name say what leaves a directory has: it is written, if there is more than one and it isn't so
+/// already, and removed, if there is one. Takes memory before it writes.
+///
+/// Refused as the store refuses a call, and `NoMemory`. The objects stay as they were then.
 pub fn save_tree<S: Store>(
     alloc: Global,
     dirs: &Dirs,
