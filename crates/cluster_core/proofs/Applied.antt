@@ -15,7 +15,7 @@ use Rattle.mds_types.proofs.HistoryLaws.{after-push, legal-push, used-push}
 use Rattle.inboxes.specs.Inboxes.{with_waiting}
 use Rattle.inode_table.specs.Numbers.{Supply, IsSupply, offer, first_number, end_number}
 use Rattle.sessions.proofs.TableLaws.{table-push}
-use Rattle.dirfrag_steps.specs.Cached.{IsKept}
+use Rattle.mdcache.specs.Cached.{IsKept}
 use Rattle.cluster_core.specs.State.{Core, State, no_supply, shown, supply_of}
 use Rattle.cluster_core.specs.declared.events.Answer.{Answer}
 use Rattle.cluster_core.specs.Offer.{after_taking}

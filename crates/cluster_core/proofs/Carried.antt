@@ -6,9 +6,9 @@ use Rattle.mds_types.specs.Tree.{Tree, is_directory}
 use Rattle.inode_table.specs.Dirs.{Covers, is_known, leaves_of, or_whole}
 use Rattle.inode_table.specs.TreeChanges.{KeepLeaves}
 use Rattle.inode_table.proofs.TableLaws.{known_is}
-use Rattle.dirfrag_steps.specs.Shown.{shown_tree}
-use Rattle.dirfrag_steps.specs.Sound.{IsSound}
-use Rattle.dirfrag_steps.specs.State.{State}
+use Rattle.mdcache.specs.Shown.{shown_tree}
+use Rattle.mdcache.specs.Sound.{IsSound}
+use Rattle.mdcache.specs.State.{State}
 use Rattle.cluster_core.specs.Serve.{CarryLeaves}
 
 module _ (s : State) (sound : IsSound s) where

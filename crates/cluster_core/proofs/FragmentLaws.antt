@@ -7,12 +7,12 @@ use Rattle.cached_frag.specs.Cached.{Cached}
 use Rattle.dentry_cache.specs.declared.cache.Place.{Place}
 use Rattle.dentry_cache.specs.Cache.{HasCached, Leaf, Unsaved, cached, fragment_in, leaf_is, unsaved, unsaved_in, unsaved_of}
 use Rattle.dentry_cache.proofs.CacheLaws.{get-unsaved}
-use Rattle.rank_caches.specs.Caches.{places_of}
-use Rattle.rank_caches.proofs.PlaceLaws.{found_in}
-use Rattle.rank_caches.proofs.TiesLaws.{cached_there}
+use Rattle.dentry_cache.specs.Caches.{places_of}
+use Rattle.dentry_cache.proofs.PlaceLaws.{found_in}
+use Rattle.dentry_cache.proofs.TiesLaws.{cached_there}
 use Rattle.subtree_map.proofs.Nearest.{one_authority}
-use Rattle.dirfrag_steps.specs.Cached.{IsKept}
-use Rattle.dirfrag_steps.proofs.AtRanks.{cached_has}
+use Rattle.mdcache.specs.Cached.{IsKept}
+use Rattle.mdcache.proofs.AtRanks.{cached_has}
 use Rattle.cluster_core.specs.Fragments.{LieAtAuthority}
 use Rattle.cluster_core.specs.Master.{IsAuthority}
 use Rattle.cluster_core.specs.Sound.{AreCached}

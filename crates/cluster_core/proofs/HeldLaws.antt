@@ -14,8 +14,8 @@ use Rattle.inode_table.specs.Numbers.{Supply}
 use Rattle.namespace_ops.specs.ChangedFragments.{NamesOnce, changed_fragments}
 use Rattle.sessions.specs.Table.{Table}
 use Rattle.subtree_map.specs.Authority.{Leaf, Roots}
-use Rattle.dirfrag_steps.specs.Shown.{shown_tree}
-use Rattle.dirfrag_steps.specs.State.{State as TreeState}
+use Rattle.mdcache.specs.Shown.{shown_tree}
+use Rattle.mdcache.specs.State.{State as TreeState}
 use Rattle.cluster_core.specs.declared.events.Answer.TheVariants.{Nothing}
 use Rattle.cluster_core.specs.Grants.{AreHeldAmong, GrantsFirst, GrantsWaiting, IsGranted, with_grants}
 use Rattle.cluster_core.specs.State.{State, state_of}

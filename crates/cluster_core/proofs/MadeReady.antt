@@ -8,8 +8,8 @@ use Rattle.inode_table.specs.Numbers.{Supply, offer}
 use Rattle.namespace_ops.specs.Served.{IsRefused, LacksNumber}
 use Rattle.mdcache.specs.Core.{Core}
 use Rattle.mdcache.specs.Frags.{KeepsState, MayRefuse}
-use Rattle.dirfrag_steps.specs.Shown.{shown_tree}
-use Rattle.dirfrag_steps.specs.State.{State}
+use Rattle.mdcache.specs.Shown.{shown_tree}
+use Rattle.mdcache.specs.State.{State}
 use Rattle.mdcache.proofs.FragsLaws.{refused_later}
 use Rattle.cluster_core.specs.Prepared.{IsUnready}
 

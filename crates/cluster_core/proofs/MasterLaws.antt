@@ -20,8 +20,8 @@ use Rattle.namespace_ops.specs.ChangedFragments.{NamesOnce, changed_fragments, t
 use Rattle.namespace_ops.proofs.PickLaws.{picked}
 use Rattle.namespace_ops.proofs.Members.{first, first_or_later, later}
 use Rattle.subtree_map.specs.Authority.{Leaf, Roots}
-use Rattle.dirfrag_steps.specs.Shown.{shown_tree}
-use Rattle.dirfrag_steps.specs.State.{State as TreeState}
+use Rattle.mdcache.specs.Shown.{shown_tree}
+use Rattle.mdcache.specs.State.{State as TreeState}
 use Rattle.cluster_core.specs.Grants.{AreHeldAmong}
 use Rattle.cluster_core.specs.Master.{HasForeign, IsMasterIn, LacksGrantIn, MayTouchAllIn, MayTouchEach, MayTouchIn, changes_others, leaf_at, main_dentry, main_leaf}
 use Rattle.ranked_tree.specs.Subtrees.{Rules}

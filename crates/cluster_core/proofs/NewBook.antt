@@ -7,7 +7,7 @@ use Rattle.mds_types.specs.Tree.{numbers}
 use Rattle.mds_types.proofs.TreeLaws.{entries-empty}
 use Rattle.mds_types.specs.History.{IsUsed}
 use Rattle.inode_table.specs.Numbers.{Supply, first_number}
-use Rattle.dirfrag_steps.specs.Cached.{IsKept}
+use Rattle.mdcache.specs.Cached.{IsKept}
 use Rattle.dentry_cache.specs.Cache.{held}
 use Rattle.mdcache.specs.New.{cached_root, new_caches, root_leaf}
 use Rattle.mdcache.proofs.NewLaws.{new_tree}

@@ -20,8 +20,8 @@ use Rattle.cluster_core.specs.State.{Core, Kept, State}
 use Rattle.cluster_core.specs.Serve.{IsApplied, IsRepeated, IsLeft, ServesRequest, ServesInbox, entry_of}
 use Rattle.cluster_core.specs.Grants.{GrantsFirst}
 use Rattle.inboxes.specs.Inboxes.{first_waiting, waiting_at}
-use Rattle.dirfrag_steps.specs.Commits.{Drops, Ends}
-use Rattle.dirfrag_steps.specs.Objects.{Purges, SavesTree}
+use Rattle.mdcache.specs.Commits.{Drops, Ends}
+use Rattle.mdcache.specs.Objects.{Purges, SavesTree}
 use Rattle.cluster_core.specs.Administers.{Administers, BeginsAt, EvictsOne, MergesLeaves, SplitsLeaf, nothing, told_job}
 use Rattle.cluster_core.specs.Steps.{ArrivesAt, Does, MayRefuse}
 use Rattle.cluster_core.specs.Runs.{StepsBook, Runs, IsRun, StandsAt, IsOfHistory, BeginsWith}

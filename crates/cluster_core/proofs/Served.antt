@@ -23,9 +23,9 @@ use Rattle.namespace_ops.specs.Changes.{fragments_in}
 use Rattle.namespace_ops.specs.Kept.{ChangesOnly}
 use Rattle.namespace_ops.specs.Planned.{after_plan}
 use Rattle.namespace_ops.specs.Served.{LacksNumber}
-use Rattle.dirfrag_steps.specs.Made.{IsUntouched}
-use Rattle.dirfrag_steps.specs.Shown.{shown_tree}
-use Rattle.dirfrag_steps.specs.State.{State as TreeState}
+use Rattle.mdcache.specs.Made.{IsUntouched}
+use Rattle.mdcache.specs.Shown.{shown_tree}
+use Rattle.mdcache.specs.State.{State as TreeState}
 use Rattle.cluster_core.specs.declared.events.Answer.{Answer}
 use Rattle.cluster_core.specs.declared.events.Answer.TheVariants.{Deferred, Reply}
 use Rattle.cluster_core.specs.declared.applying.Prepared.{Prepared}

@@ -5,11 +5,11 @@ use Rattle.mds_types.specs.declared.ids.Ino.{Ino}
 use Rattle.mds_types.specs.declared.ids.Rank.{Rank}
 use Rattle.mds_types.specs.declared.refusals.Refusal.{Refusal}
 use Rattle.mds_types.specs.declared.refusals.Refusal.TheVariants.{NotAuthority}
-use Rattle.purge_list.specs.PurgeList.{first_name}
+use Rattle.mdcache.specs.PurgeList.{first_name}
 use Rattle.commit_jobs.specs.declared.jobs.Job.{Job as Begun}
 use Rattle.dentry_cache.specs.Cache.{Leaf}
-use Rattle.dirfrag_steps.specs.Commits.{Drops, Ends}
-use Rattle.dirfrag_steps.specs.Objects.{Purges, SavesTree}
+use Rattle.mdcache.specs.Commits.{Drops, Ends}
+use Rattle.mdcache.specs.Objects.{Purges, SavesTree}
 use Rattle.cluster_core.specs.declared.events.Answer.{Answer}
 use Rattle.cluster_core.specs.Administers.{AdministersTree, BeginsAt, EvictsOne, nothing, told_job}
 use Rattle.cluster_core.specs.Serve.{IsLeft}

@@ -10,12 +10,12 @@ use Rattle.mds_types.specs.declared.operations.Op.{Op}
 use Rattle.mds_types.specs.Tree.{Tree}
 use Rattle.inboxes.specs.declared.pins.Pin.{Pin}
 use Rattle.inboxes.specs.Inboxes.{Inboxes, first_waiting, waiting_at, with_waiting}
-use Rattle.dirfrag_steps.specs.Cached.{IsKept}
+use Rattle.mdcache.specs.Cached.{IsKept}
 use Rattle.cluster_core.specs.declared.events.Answer.{Answer}
 use Rattle.cluster_core.specs.declared.events.Event.{Event}
 use Rattle.cluster_core.specs.declared.events.Event.TheVariants.{Arrive, Grant, Serve, Split, Merge, CommitBegin, CommitEnd, CommitDrop, CommitTree, Purge, Evict}
-use Rattle.dirfrag_steps.specs.Commits.{Drops, Ends}
-use Rattle.dirfrag_steps.specs.Objects.{Purges, SavesTree}
+use Rattle.mdcache.specs.Commits.{Drops, Ends}
+use Rattle.mdcache.specs.Objects.{Purges, SavesTree}
 use Rattle.cluster_core.specs.Grants.{GrantsFirst}
 use Rattle.cluster_core.specs.Administers.{Administers, BeginsAt, EvictsOne, IsUnseen, MergesLeaves, SplitsLeaf, nothing, told_job}
 use Rattle.cluster_core.specs.State.{Core, State, shown}

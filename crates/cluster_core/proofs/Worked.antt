@@ -4,8 +4,8 @@ use Rattle.mds_types.specs.declared.entries.Entry.{Entry}
 use Rattle.inboxes.specs.Inboxes.{Inboxes}
 use Rattle.inboxes.specs.declared.pins.Pin.{Pin}
 use Rattle.inode_table.specs.Numbers.{Supply}
-use Rattle.dirfrag_steps.specs.Shown.{shown_tree}
-use Rattle.dirfrag_steps.specs.State.{State as TreeState}
+use Rattle.mdcache.specs.Shown.{shown_tree}
+use Rattle.mdcache.specs.State.{State as TreeState}
 use Rattle.sessions.specs.Table.{Table}
 use Rattle.subtree_map.specs.Authority.{Roots}
 use Rattle.cluster_core.specs.State.{state_of}

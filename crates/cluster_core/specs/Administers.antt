@@ -15,11 +15,11 @@ use Rattle.inboxes.specs.declared.pins.Pin.{Pin}
 use Rattle.inboxes.specs.Pins.{is_on}
 use Rattle.inode_table.specs.Dirs.{Covers, Homes, IsLive, is_known, leaves_of}
 use Rattle.subtree_map.specs.Changes.{IsRootMerge, IsRootSplit, is_inside}
-use Rattle.dirfrag_steps.specs.Commits.{Begins, Drops, Ends}
-use Rattle.dirfrag_steps.specs.Objects.{Purges, SavesTree}
-use Rattle.dirfrag_steps.specs.Regroups.{MayNotRegroup}
-use Rattle.dirfrag_steps.specs.Splits.{IsMergedInto, IsSplitInto}
-use Rattle.rank_caches.specs.Caches.{with_cache}
+use Rattle.mdcache.specs.Commits.{Begins, Drops, Ends}
+use Rattle.mdcache.specs.Objects.{Purges, SavesTree}
+use Rattle.mdcache.specs.Regroups.{MayNotRegroup}
+use Rattle.mdcache.specs.Splits.{IsMergedInto, IsSplitInto}
+use Rattle.dentry_cache.specs.Caches.{with_cache}
 use Rattle.cluster_core.specs.declared.events.Answer.{Answer}
 use Rattle.cluster_core.specs.declared.events.Answer.TheVariants.{Job, Nothing}
 use Rattle.cluster_core.specs.State.{Core, LacksPlacesAt, State, cache_of, shown}

@@ -11,7 +11,7 @@ use Rattle.inboxes.specs.declared.pins.Pin.{Pin}
 use Rattle.inboxes.specs.Inboxes.{first_waiting}
 use Rattle.inboxes.specs.Pins.{with_pin}
 use Rattle.subtree_map.specs.Authority.{Leaf, Roots}
-use Rattle.dirfrag_steps.specs.State.{State as TreeState}
+use Rattle.mdcache.specs.State.{State as TreeState}
 use Rattle.cluster_core.specs.declared.events.Answer.{Answer}
 use Rattle.cluster_core.specs.declared.events.Answer.TheVariants.{Nothing}
 use Rattle.cluster_core.specs.Master.{IsAuthority, grant_of, would_change}

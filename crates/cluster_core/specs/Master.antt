@@ -15,8 +15,8 @@ use Rattle.namespace_ops.specs.Picks.{pick_of}
 use Rattle.namespace_ops.specs.ChangedFragments.{changed_fragments, fragment_of}
 use Rattle.namespace_ops.specs.Changes.{in_directory}
 use Rattle.subtree_map.specs.Authority.{Leaf, Roots}
-use Rattle.dirfrag_steps.specs.Shown.{shown_tree}
-use Rattle.dirfrag_steps.specs.State.{State as TreeState}
+use Rattle.mdcache.specs.Shown.{shown_tree}
+use Rattle.mdcache.specs.State.{State as TreeState}
 use Rattle.cluster_core.specs.State.{State}
 use Rattle.ranked_tree.specs.Subtrees.{Rules}
 

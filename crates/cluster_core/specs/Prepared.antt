@@ -15,8 +15,8 @@ use Rattle.namespace_ops.specs.declared.plans.Change.{Change}
 use Rattle.namespace_ops.specs.Planned.{IsPlanned}
 use Rattle.namespace_ops.specs.Served.{LacksNumber}
 use Rattle.subtree_map.specs.Authority.{Roots}
-use Rattle.dirfrag_steps.specs.Shown.{shown_tree}
-use Rattle.dirfrag_steps.specs.State.{State as TreeState}
+use Rattle.mdcache.specs.Shown.{shown_tree}
+use Rattle.mdcache.specs.State.{State as TreeState}
 use Rattle.cluster_core.specs.Master.{LacksGrantIn, MayTouchAllIn}
 use Rattle.cluster_core.specs.Offer.{after_taking}
 use Rattle.cluster_core.specs.declared.applying.Prepared.{Prepared}

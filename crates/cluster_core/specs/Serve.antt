@@ -26,9 +26,9 @@ use Rattle.namespace_ops.specs.Kept.{ChangesOnly}
 use Rattle.namespace_ops.specs.Planned.{IsOneOf, after_plan}
 use Rattle.namespace_ops.specs.Served.{LacksNumber}
 use Rattle.namespace_ops.specs.declared.plans.Change.{Change}
-use Rattle.dirfrag_steps.specs.Changes.{Makes}
-use Rattle.dirfrag_steps.specs.Made.{IsUntouched}
-use Rattle.dirfrag_steps.specs.State.{State as TreeState}
+use Rattle.mdcache.specs.Changes.{Makes}
+use Rattle.mdcache.specs.Made.{IsUntouched}
+use Rattle.mdcache.specs.State.{State as TreeState}
 use Rattle.cluster_core.specs.declared.events.Answer.{Answer}
 use Rattle.cluster_core.specs.declared.events.Answer.TheVariants.{Deferred, Forwarded, Reply}
 use Rattle.cluster_core.specs.State.{State, shown, supply_of}

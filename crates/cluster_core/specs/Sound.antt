@@ -5,9 +5,9 @@ use Rattle.mds_types.specs.Tree.{Tree}
 use Rattle.mds_types.specs.History.{after, IsLegal, IsUsed}
 use Rattle.inode_table.specs.Numbers.{Supply, IsSupply, first_number, end_number}
 use Rattle.dentry_cache.specs.Cache.{unsaved}
-use Rattle.rank_caches.specs.Caches.{all_of}
-use Rattle.dirfrag_steps.specs.Cached.{IsKept}
-use Rattle.dirfrag_steps.specs.Ranks.{AreRanks as AreCaches}
+use Rattle.dentry_cache.specs.Caches.{all_of}
+use Rattle.mdcache.specs.Cached.{IsKept}
+use Rattle.mdcache.specs.Ranks.{AreRanks as AreCaches}
 use Rattle.sessions.specs.Table.{IsTableOf}
 use Rattle.cluster_core.specs.State.{Core, Kept, no_supply, shown}
 use Rattle.ranked_tree.specs.Held.{AreHeld}

@@ -5,7 +5,7 @@ use Rattle.mds_types.specs.declared.entries.Entry.{Entry}
 use Rattle.mds_types.specs.declared.ids.Rank.{Rank}
 use Rattle.mds_types.specs.Tree.{Tree}
 use Rattle.dentry_cache.specs.Cache.{Held, unsaved}
-use Rattle.rank_caches.specs.Caches.{Caches, cache_of as cache_at}
+use Rattle.dentry_cache.specs.Caches.{Caches, cache_of as cache_at}
 use Rattle.inboxes.specs.Inboxes.{Inboxes}
 use Rattle.inboxes.specs.declared.pins.Pin.{Pin}
 use Rattle.inode_table.specs.Numbers.{Supply, first_number}
@@ -13,8 +13,8 @@ use Rattle.mdcache.specs.Core.{Core as TreeCore}
 pub use Rattle.mdcache.specs.New.{new_caches}
 use Rattle.mdcache.specs.New.{new_state as new_tree}
 use Rattle.ranked_tree.specs.Ranked.{new_roots}
-use Rattle.dirfrag_steps.specs.Shown.{shown_tree}
-use Rattle.dirfrag_steps.specs.State.{State as TreeState}
+use Rattle.mdcache.specs.Shown.{shown_tree}
+use Rattle.mdcache.specs.State.{State as TreeState}
 use Rattle.sessions.specs.Table.{Table}
 use Rattle.subtree_map.specs.Authority.{Roots}
 

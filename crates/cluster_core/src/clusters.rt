@@ -3,8 +3,8 @@ ghost use Rattle.std.specs.Prelude.{◌≡◌, ◌≤◌, [], List, length, nat_
 ghost use Rattle.std.specs.FinMap as map;
 ghost use Rattle.mds_types.specs.declared.entries.Entry.{Entry as Applied};
 ghost use Rattle.mds_types.specs.Tree.{Tree};
-ghost use Rattle.rank_caches.specs.Caches.{all_of};
-ghost use Rattle.dirfrag_steps.specs.Cached.{IsKept};
+ghost use Rattle.dentry_cache.specs.Caches.{all_of};
+ghost use Rattle.mdcache.specs.Cached.{IsKept};
 ghost use Rattle.mdcache.specs.New.{MayNotFormat, new_caches};
 ghost use Rattle.cluster_core.specs.State.{new_state, whole_supplies};
 ghost use Rattle.cluster_core.specs.Steps.{ArrivesAt, AtRank, MayRefuse, ServesRank, Steps};

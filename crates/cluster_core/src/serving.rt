@@ -10,7 +10,7 @@ ghost use Rattle.sessions.specs.Table.{IsTableOf};
 ghost use Rattle.sessions.specs.Rooms.{IsReady, table};
 ghost use Rattle.dirfrag_codec.specs.EntryRecord.{IsRankNumber};
 ghost use Rattle.mdcache.specs.Frags.{MayRefuse};
-ghost use Rattle.dirfrag_steps.specs.Shown.{shown_tree};
+ghost use Rattle.mdcache.specs.Shown.{shown_tree};
 ghost use Rattle.cluster_core.specs.State.{no_supply, state_of};
 ghost use Rattle.cluster_core.specs.Serve.{EndsFront, ForwardsFront, RepeatsFront, ServesInbox};
 ghost use Rattle.cluster_core.specs.Master.{AreMastersThere, IsMasterIn};

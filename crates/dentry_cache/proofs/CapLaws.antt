@@ -9,7 +9,7 @@ use Rattle.dentry_cache.specs.declared.cache.Place.{Place}
 use Rattle.dentry_cache.specs.declared.parts.Part.{Part}
 use Rattle.dentry_cache.specs.Cache.{Held, IsChanged, IsUsed, Leaf, MakesRoom, MayMakeRoom, TakesPlace, held, used_as, without}
 use Rattle.dentry_cache.specs.Divided.{IsSplit, filled}
-use Rattle.dentry_cache.specs.Loading.{IsFetched, IsNotFetched}
+use Rattle.dentry_cache.specs.Fetches.{IsFetched, IsNotFetched}
 
 pub room_cap : (stay : Option Leaf) (old new : Held) → MakesRoom stay old new → new.cap ≡ old.cap
 room_cap stay old new (inl same) = ap (λ (h : Held). h.cap) same.1

@@ -8,7 +8,7 @@ use Rattle.lru.specs.LruCache.{lru_cache}
 use Rattle.mds_types.specs.Frag.{Fragment}
 use Rattle.omap.specs.Omap.{Omap}
 use Rattle.cached_frag.specs.Cached.{Cached, is_clean}
-use Rattle.frag_fetch.specs.Loading.{Loads}
+use Rattle.dentry_cache.specs.Loading.{Loads}
 use Rattle.dentry_cache.specs.declared.cache.Place.{Place}
 use Rattle.dentry_cache.specs.Cache.{HasCached, Held, IsOldest, IsUsed, Leaf, Places, cached, fragment_in, held, is_evictable, kept_place, leaf_is, may_go, stays}
 use Rattle.dentry_cache.specs.Leaving.{IsFound, IsLeft, KeptIsLeft, Leaves, LeavesBeside, LeftOrGone, StayingIsLeft, UncleanIsLeft}

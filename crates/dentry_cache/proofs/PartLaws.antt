@@ -16,7 +16,7 @@ use Rattle.cached_frag.specs.Moving.{marked_as, shown_as}
 use Rattle.cached_frag.specs.Rows.{Row}
 use Rattle.cached_frag.proofs.MovedLaws.{dirty_step, shown_step}
 use Rattle.cached_frag.proofs.ShownLaws.{nothing_shown}
-use Rattle.frag_fetch.specs.Pairs.{holds}
+use Rattle.dentry_cache.specs.Pairs.{holds}
 use Rattle.dentry_cache.specs.declared.parts.Part.{Part}
 use Rattle.dentry_cache.specs.Divided.{AreChildren, AreNumbered, AreReady, IsChild, IsReady, bare, names_in}
 use Rattle.dentry_cache.specs.Parting.{Each, EachThen, Grows, IsBare, Puts}

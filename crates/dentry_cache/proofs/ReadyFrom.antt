@@ -5,7 +5,7 @@ use Rattle.mds_types.specs.Frag.{Fragment, child_of}
 use Rattle.mds_types.specs.declared.ids.Ino.{Ino}
 use Rattle.omap.specs.Omap.{Omap}
 use Rattle.cached_frag.specs.Cached.{Cached, is_clean}
-use Rattle.frag_fetch.specs.Loading.{Loads}
+use Rattle.dentry_cache.specs.Loading.{Loads}
 use Rattle.dentry_cache.specs.declared.cache.Place.{Place}
 use Rattle.dentry_cache.specs.Cache.{HasCached, Held, Leaf, cached, fragment_in, leaf_is, stays}
 use Rattle.dentry_cache.specs.Divided.{IsFoundReady, IsLeftReady, IsNoChild}

@@ -7,11 +7,11 @@ use Rattle.mds_types.specs.declared.refusals.Refusal.{Refusal}
 use Rattle.mds_types.specs.declared.refusals.Refusal.TheVariants.{NoMemory, StoreFault, NoInodes, Trimmed, NotAuthority, Frozen, Pinned, NoSuchFrag, BadSplit, TooManyFrags, StaleJob, JobOutstanding, WrongExportState, InboxEmpty, InboxFull, NothingToEvict, Damaged, NotClean}
 use Rattle.omap.specs.Omap.{Omap}
 use Rattle.cached_frag.specs.Cached.{Cached}
-use Rattle.frag_fetch.specs.Loading.{MayNotLoad}
+use Rattle.dentry_cache.specs.Loading.{MayNotLoad}
 use Rattle.dentry_cache.specs.declared.cache.Place.{Place}
 use Rattle.dentry_cache.specs.Cache.{Held, IsChanged, Leaf, Places, cached, fragment_in, held, is_evictable, leaf_is, unsaved, unsaved_in}
 use Rattle.dentry_cache.specs.Leaving.{IsFound, IsLeft, LeavesBeside}
-use Rattle.dentry_cache.specs.Loading.{IsNotFetched, MayNotFetch}
+use Rattle.dentry_cache.specs.Fetches.{IsNotFetched, MayNotFetch}
 use Rattle.dentry_cache.specs.Divided.{IsFoundReady, IsLeftReady, IsNoChild, spare}
 use Rattle.dentry_cache.proofs.CacheLaws.{unsaved_alike}
 use Rattle.dentry_cache.proofs.LeafLaws.{flips, leaf_itself, leaf_or_apart}

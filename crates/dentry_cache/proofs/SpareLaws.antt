@@ -10,9 +10,9 @@ use Rattle.omap.specs.Omap.{Omap, key_cmp}
 use Rattle.commit_jobs.specs.declared.marks.Mark.{Mark}
 use Rattle.dentry_cache.specs.declared.cache.Place.{Place}
 use Rattle.cached_frag.specs.Cached.{Cached, is_clean}
-use Rattle.frag_fetch.specs.Loading.{Loads}
+use Rattle.dentry_cache.specs.Loading.{Loads}
 use Rattle.dentry_cache.specs.Cache.{Held, IsChanged, IsFull, Leaf, MakesRoom, NoneGoes, Places, TakesPlace, cached, fragment_in, held, is_evictable, leaf_is, may_go, stays, used_as}
-use Rattle.dentry_cache.specs.Loading.{IsFetched}
+use Rattle.dentry_cache.specs.Fetches.{IsFetched}
 use Rattle.dentry_cache.specs.Divided.{spare}
 use Rattle.dentry_cache.proofs.LeafLaws.{one_leaf}
 

@@ -13,7 +13,7 @@ use Rattle.commit_jobs.specs.declared.bases.Base.{Base}
 use Rattle.commit_jobs.specs.declared.bases.Base.TheVariants.{Fresh}
 use Rattle.dirfrag_codec.specs.FragmentObject.{Names}
 use Rattle.cached_frag.specs.Cached.{Cached, shown}
-use Rattle.frag_fetch.specs.Loading.{object_of}
+use Rattle.dentry_cache.specs.Loading.{object_of}
 use Rattle.dentry_cache.specs.declared.cache.Place.{Place}
 use Rattle.dentry_cache.specs.declared.parts.Part.{Part}
 use Rattle.dentry_cache.specs.Cache.{HasCached, Held, Leaf, MayMakeRoom, Places, cached, fragment_in, held, is_kept, kept_place, leaf_is, unsaved, unsaved_in, used_as, without}

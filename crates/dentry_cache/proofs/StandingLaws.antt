@@ -22,7 +22,7 @@ use Rattle.commit_jobs.specs.Commit.{write_of}
 use Rattle.commit_jobs.specs.Marks.{Marks}
 use Rattle.commit_jobs.specs.Snap.{IsSnap, Snap, counts_of}
 use Rattle.cached_frag.specs.Cached.{Cached, is_clean, is_clean_over, marked, shown_over}
-use Rattle.frag_fetch.specs.Loading.{Loads, object_of}
+use Rattle.dentry_cache.specs.Loading.{Loads, object_of}
 use Rattle.dentry_cache.specs.declared.cache.Place.{Place}
 use Rattle.dentry_cache.specs.Cache.{HasCached, Held, IsChanged, Leaf, Places, cached, fragment_in, held, is_kept, kept_place, leaf_is, stays, used_as}
 use Rattle.dentry_cache.specs.Commits.{IsCommitted, Takes}

@@ -21,7 +21,7 @@ use Rattle.commit_jobs.proofs.CommitLaws.{commit_is_right}
 use Rattle.commit_jobs.proofs.MarkLaws.{get-patched, inode_or}
 use Rattle.cached_frag.specs.Cached.{Cached, is_settled, marked, names_below, shown, shown_over}
 use Rattle.cached_frag.proofs.SettledLaws.{get-unsettled}
-use Rattle.frag_fetch.specs.Loading.{Loads, object_of}
+use Rattle.dentry_cache.specs.Loading.{Loads, object_of}
 use Rattle.dentry_cache.specs.Cache.{Leaf, fragment_in, held, leaf_is}
 use Rattle.dentry_cache.specs.Commits.{IsCommitted}
 use Rattle.dentry_cache.specs.Ties.{ChangedAreTied, Commits, CommittedAreTied, FetchedAreTied, IsRight, IsTied, IsTiedAt, KeepsAt, TiedShow, UsedAreTied, names_at, object_after}

@@ -13,10 +13,10 @@ use Rattle.mds_types.specs.Frag.{Fragment}
 use Rattle.omap.specs.Omap.{Omap, key_cmp}
 use Rattle.commit_jobs.specs.declared.marks.Mark.{Mark}
 use Rattle.cached_frag.specs.Cached.{Cached, is_clean}
-use Rattle.frag_fetch.specs.Loading.{Loads}
+use Rattle.dentry_cache.specs.Loading.{Loads}
 use Rattle.dentry_cache.specs.declared.cache.Place.{Place}
 use Rattle.dentry_cache.specs.Cache.{Evicts, Held, IsNewest, IsUsed, Leaf, MakesRoom, MayMakeRoom, Places, TakesPlace, cached, fragment_in, held, is_kept, leaf_is, unsaved, unsaved_in, used_as}
-use Rattle.dentry_cache.specs.Loading.{IsFetched, IsNotFetched}
+use Rattle.dentry_cache.specs.Fetches.{IsFetched, IsNotFetched}
 use Rattle.dentry_cache.proofs.CacheLaws.{unsaved_alike, unsaved_same}
 use Rattle.dentry_cache.proofs.LeafLaws.{flips, one_leaf}
 

@@ -12,8 +12,8 @@ use Rattle.dirfrag_codec.specs.FragmentObject.{Names}
 use Rattle.commit_jobs.specs.declared.bases.Base.TheVariants.{Fresh}
 use Rattle.cached_frag.specs.Cached.{Cached, shown}
 use Rattle.cached_frag.specs.Moving.{marked_as}
-use Rattle.frag_fetch.specs.Loading.{AreWithin}
-use Rattle.frag_fetch.specs.Pairs.{holds}
+use Rattle.dentry_cache.specs.Loading.{AreWithin}
+use Rattle.dentry_cache.specs.Pairs.{holds}
 use Rattle.dentry_cache.specs.declared.parts.Part.{Part}
 use Rattle.dentry_cache.specs.declared.cache.Place.{Place}
 use Rattle.dentry_cache.specs.Cache.{HasCached, Held, Leaf, cached, fragment_in, held, is_evictable, leaf_is, used_as, without}

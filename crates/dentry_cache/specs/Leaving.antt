@@ -4,7 +4,7 @@ use Rattle.std.specs.Map.{lookup}
 use Rattle.omap.specs.Omap.{Omap}
 use Rattle.mds_types.specs.Frag.{Fragment}
 use Rattle.cached_frag.specs.Cached.{Cached, is_clean}
-use Rattle.frag_fetch.specs.Loading.{Loads}
+use Rattle.dentry_cache.specs.Loading.{Loads}
 use Rattle.dentry_cache.specs.declared.cache.Place.{Place}
 use Rattle.dentry_cache.specs.Cache.{HasCached, Leaf, Places, fragment_in, is_kept, leaf_is, may_go, stays}
 

@@ -1,8 +1,14 @@
 pub mod Cache
+pub mod Caches
+pub mod Changes
 pub mod Commits
 pub mod Divided
+pub mod Fetches
 pub mod Leaving
+pub mod Lending
 pub mod Loading
+pub mod Orders
+pub mod Pairs
 pub mod Parting
 pub mod Places
 pub mod Standing

@@ -9,7 +9,7 @@ use Rattle.commit_jobs.specs.declared.marks.Mark.{Mark}
 use Rattle.commit_jobs.specs.Marks.{Marks}
 use Rattle.commit_jobs.specs.Snap.{IsSnap, Snap}
 use Rattle.cached_frag.specs.Cached.{Cached, is_clean, is_clean_over, marked}
-use Rattle.frag_fetch.specs.Loading.{object_of}
+use Rattle.dentry_cache.specs.Loading.{object_of}
 use Rattle.dentry_cache.specs.Cache.{HasCached, Held, IsChanged, IsUsed, Leaf, Places, cached, held, is_kept, leaf_is, used_as}
 use Rattle.dentry_cache.specs.Commits.{Takes}
 use Rattle.dentry_cache.specs.Ties.{AreTied, Commits, IsTied}

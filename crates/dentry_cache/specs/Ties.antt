@@ -14,7 +14,7 @@ use Rattle.commit_jobs.specs.Commit.{write_of}
 use Rattle.commit_jobs.specs.Marks.{Marks}
 use Rattle.commit_jobs.specs.Snap.{IsSnap, Snap, counts_of, next_version}
 use Rattle.cached_frag.specs.Cached.{Cached, marked, shown, shown_over}
-use Rattle.frag_fetch.specs.Loading.{Loads, object_of}
+use Rattle.dentry_cache.specs.Loading.{Loads, object_of}
 use Rattle.dentry_cache.specs.Cache.{Held, Leaf, Places, cached, held, used_as}
 use Rattle.dentry_cache.specs.Commits.{IsCommitted}
 

@@ -8,7 +8,7 @@ ghost use Rattle.mds_types.specs.Frag.{child_of, span};
 ghost use Rattle.namehash.specs.Rjenkins.{hash_of};
 ghost use Rattle.dirfrag_codec.specs.EntryRecord.{IsRecordable};
 ghost use Rattle.cached_frag.specs.Cached.{AreEntries};
-ghost use Rattle.frag_fetch.specs.Pairs.{holds};
+ghost use Rattle.dentry_cache.specs.Pairs.{holds};
 ghost use Rattle.dentry_cache.specs.declared.parts.Part.{Part as Child};
 ghost use Rattle.dentry_cache.specs.Divided.{AreChildren, AreReady};
 ghost use Rattle.dentry_cache.specs.Parting.{EachThen, Puts, is_place};

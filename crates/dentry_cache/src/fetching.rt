@@ -3,16 +3,16 @@ ghost use Rattle.std.specs.Prelude.{◌≡◌, ◌≤◌, ◌<◌, ◌∷◌, le
 ghost use Rattle.std.specs.Map.{lookup};
 ghost use Rattle.lru.specs.LruCache.{lru_cache};
 ghost use Rattle.mds_types.specs.declared.refusals.Refusal.TheVariants.{NoMemory};
-ghost use Rattle.frag_fetch.specs.Loading.{object_of};
+ghost use Rattle.dentry_cache.specs.Loading.{object_of};
 ghost use Rattle.dentry_cache.specs.Cache.{cached, leaf_is, unsaved};
 ghost use Rattle.dentry_cache.specs.Standing.{Each, KeepsTies};
 ghost use Rattle.dentry_cache.specs.Leaving.{IsFound, LeavesBeside};
-ghost use Rattle.dentry_cache.specs.Loading.{IsFetched, IsNotFetched, MayNotFetch};
+ghost use Rattle.dentry_cache.specs.Fetches.{IsFetched, IsNotFetched, MayNotFetch};
 
 use crate::cache::{Cache, Place};
 use crate::laws::is_leaf;
+use crate::loading::load;
 use cached_frag::CachedFrag;
-use frag_fetch::load;
 use mds_types::{Frag, Ino, Refusal};
 use objstore::Store;
 use std::alloc::{AllocError, Global};

@@ -3,10 +3,10 @@ ghost use Rattle.std.specs.Prelude.{◌≡◌, ◌≤◌, ◌⊎◌, None, false
 ghost use Rattle.std.specs.Map.{lookup};
 ghost use Rattle.cached_frag.specs.Cached.{Cached, shown};
 ghost use Rattle.cached_frag.specs.Moving.{TakesIn};
-ghost use Rattle.frag_fetch.specs.Loading.{object_of};
+ghost use Rattle.dentry_cache.specs.Loading.{object_of};
 ghost use Rattle.dentry_cache.specs.Cache.{HasCached, IsThere, cached, is_kept, leaf_is, unsaved};
 ghost use Rattle.dentry_cache.specs.Leaving.{IsFound, LeavesBeside};
-ghost use Rattle.dentry_cache.specs.Loading.{IsFetched, IsNotFetched, MayNotFetch};
+ghost use Rattle.dentry_cache.specs.Fetches.{IsFetched, IsNotFetched, MayNotFetch};
 ghost use Rattle.dentry_cache.specs.Standing.{Each, KeepsTies};
 
 use crate::cache::Cache;

@@ -1,7 +1,12 @@
-//! A rank's cache: whole fragments of directories, the least recently used of which goes where a place is needed. What
-//! isn't clean stays.
+//! The caches of the ranks: of each the whole fragments of directories that it holds, the least recently used of which goes
+//! where a place is needed. What isn't clean stays. A fragment that isn't there is read from its object in the store.
 #![tactic(auto)]
 
+// what a dirfrag's object says, read as a cached fragment: its header, then its omap in pages, pair by pair
+mod loading;
+mod pairs;
+
+// one rank's cache
 mod cache;
 mod committing;
 mod dividing;
@@ -16,5 +21,10 @@ mod parts;
 mod reading;
 mod splitting;
 
+// the caches of all ranks, each with the same number of places
+mod rank_caches;
+pub mod rank_laws;
+
 pub use cache::{Cache, Place};
 pub use parts::{Part, Parts};
+pub use rank_caches::RankCaches;

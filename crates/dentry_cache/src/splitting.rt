@@ -6,7 +6,7 @@ ghost use Rattle.mds_types.specs.Frag.{child_of};
 ghost use Rattle.mds_types.specs.declared.refusals.Refusal.TheVariants.{NoMemory, NothingToEvict};
 ghost use Rattle.objstore.specs.Objects.{Objects};
 ghost use Rattle.cached_frag.specs.Cached.{Cached, shown};
-ghost use Rattle.frag_fetch.specs.Loading.{MayNotLoad, object_of};
+ghost use Rattle.dentry_cache.specs.Loading.{MayNotLoad, object_of};
 ghost use Rattle.dentry_cache.specs.Cache.{HasCached, IsChanged, IsThere, Leaf, cached, is_kept, kept_place, leaf_is, unsaved};
 ghost use Rattle.dentry_cache.specs.Leaving.{IsLeft};
 ghost use Rattle.dentry_cache.specs.Standing.{Each, KeepsTies, OfOthers};

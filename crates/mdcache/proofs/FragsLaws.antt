@@ -9,10 +9,10 @@ use Rattle.dentry_cache.specs.Cache.{Leaf}
 use Rattle.namespace_ops.specs.Reasons.{IsOfFragments}
 use Rattle.mdcache.specs.Core.{Core}
 use Rattle.mdcache.specs.Frags.{KeepsState, LacksFor, MayRefuse}
-use Rattle.dirfrag_steps.specs.Made.{IsUntouched}
+use Rattle.mdcache.specs.Made.{IsUntouched}
 use Rattle.mdcache.specs.Core.{LacksPlaces, LacksPlacesAt}
-use Rattle.dirfrag_steps.specs.Shown.{names_of}
-use Rattle.dirfrag_steps.specs.State.{IsLive, State, UnsavedLeaves}
+use Rattle.mdcache.specs.Shown.{names_of}
+use Rattle.mdcache.specs.State.{IsLive, State, UnsavedLeaves}
 
 pub keeps_itself : (a : Core) → KeepsState a a
 keeps_itself a = record { state = refl; unsaved = λ rank. refl; count = refl; cap = refl; grows = omega arith }

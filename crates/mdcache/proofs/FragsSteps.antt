@@ -25,21 +25,21 @@ use Rattle.namespace_ops.specs.declared.plans.Change.{Change}
 use Rattle.namespace_ops.specs.declared.plans.Change.TheVariants.{Add, Set, Remove, Move}
 use Rattle.namespace_ops.specs.Changes.{IsChangeOf}
 use Rattle.namespace_ops.specs.Kept.{KeepsAll}
-use Rattle.dirfrag_steps.specs.declared.going.Going.{Going}
-use Rattle.rank_caches.specs.Caches.{cache_of}
-use Rattle.dirfrag_steps.specs.declared.holders.Holders.{Holders}
+use Rattle.mdcache.specs.declared.steps.going.Going.{Going}
+use Rattle.dentry_cache.specs.Caches.{cache_of}
+use Rattle.mdcache.specs.declared.steps.holders.Holders.{Holders}
 use Rattle.mdcache.specs.declared.prepared.Prepared.{Prepared}
 use Rattle.mdcache.specs.declared.prepared.Prepared.TheVariants.{Nothing, Removal, Move as Moving}
 use Rattle.mdcache.specs.declared.ready_move.MovingEntry.{MovingEntry}
 use Rattle.mdcache.specs.Core.{Core}
-use Rattle.dirfrag_steps.specs.Changes.{Makes, first_leaf}
+use Rattle.mdcache.specs.Changes.{Makes, first_leaf}
 use Rattle.mdcache.specs.Frags.{IsForDirectory, IsForMove, IsForRemoval, IsNameReady, IsReady, KeepsState, LacksFor, LacksToMake, MayRefuse}
-use Rattle.dirfrag_steps.specs.Going.{dir_going}
+use Rattle.mdcache.specs.Going.{dir_going}
 use Rattle.mdcache.specs.Core.{LacksPlaces, LacksPlacesAt}
-use Rattle.dirfrag_steps.specs.Reads.{MayNotFind}
-use Rattle.dirfrag_steps.specs.Ready.{MayNotBeReady}
-use Rattle.dirfrag_steps.specs.Shown.{shown_tree}
-use Rattle.dirfrag_steps.specs.State.{State}
+use Rattle.mdcache.specs.Reads.{MayNotFind}
+use Rattle.mdcache.specs.Ready.{MayNotBeReady}
+use Rattle.mdcache.specs.Shown.{shown_tree}
+use Rattle.mdcache.specs.State.{State}
 
 -- ---- inodes that a record allows
 

@@ -24,11 +24,11 @@ use Rattle.dirfrag_codec.proofs.ByteKeys.{key_tied, not_found}
 use Rattle.cached_frag.specs.Rows.{Row, rows_after}
 use Rattle.inode_table.specs.Dirs.{is_known, leaves_of}
 use Rattle.inode_table.proofs.Tables.{tree_of_row}
-use Rattle.dirfrag_steps.specs.Pages.{Gathered, IsPageOf, gathered}
-use Rattle.dirfrag_steps.specs.Shown.{names_of, shown_tree}
-use Rattle.dirfrag_steps.specs.Sound.{IsSound}
-use Rattle.dirfrag_steps.specs.State.{State}
-use Rattle.dirfrag_steps.proofs.TreeLookups.{at_dentry}
+use Rattle.mdcache.specs.Pages.{Gathered, IsPageOf, gathered}
+use Rattle.mdcache.specs.Shown.{names_of, shown_tree}
+use Rattle.mdcache.specs.Sound.{IsSound}
+use Rattle.mdcache.specs.State.{State}
+use Rattle.mdcache.proofs.TreeLookups.{at_dentry}
 use Rattle.dentry_cache.proofs.NameParts.{none_either}
 
 -- ---- names put to others

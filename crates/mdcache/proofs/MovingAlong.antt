@@ -9,9 +9,9 @@ use Rattle.inode_table.specs.Dirs.{MayMove as MayRelocate}
 use Rattle.inode_table.specs.TreeTable.{home_at}
 use Rattle.namespace_ops.specs.Changes.{MayChange, directory_at}
 use Rattle.namespace_ops.specs.declared.plans.Change.TheVariants.{Move}
-use Rattle.dirfrag_steps.specs.Shown.{shown_tree}
-use Rattle.dirfrag_steps.specs.Sound.{IsSound}
-use Rattle.dirfrag_steps.proofs.MoveSteps.{relocates}
+use Rattle.mdcache.specs.Shown.{shown_tree}
+use Rattle.mdcache.specs.Sound.{IsSound}
+use Rattle.mdcache.proofs.MoveSteps.{relocates}
 use Rattle.mdcache.specs.declared.prepared.Prepared.{Prepared}
 use Rattle.mdcache.specs.declared.prepared.Prepared.TheVariants.{Nothing, Directory, Removal, Move as Moving}
 use Rattle.mdcache.specs.Core.{Core}

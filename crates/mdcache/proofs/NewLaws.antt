@@ -16,24 +16,24 @@ use Rattle.objstore.specs.Objects.{Objects}
 use Rattle.dirfrag_codec.specs.FragmentObject.{Names}
 use Rattle.commit_jobs.specs.declared.marks.Mark.{Mark}
 use Rattle.cached_frag.specs.Cached.{Cached}
-use Rattle.frag_fetch.specs.Loading.{object_of}
+use Rattle.dentry_cache.specs.Loading.{object_of}
 use Rattle.dentry_cache.specs.Cache.{Held, Leaf, Places, Unsaved, cached, fragment_in, held, leaf_is, unsaved}
 use Rattle.dentry_cache.specs.Ties.{IsTied}
 use Rattle.dentry_cache.proofs.LeafLaws.{leaf_itself, one_leaf}
 use Rattle.inode_table.specs.Dirs.{Covers, Homes, IsTable, Table, is_known, leaves_of, or_whole}
 use Rattle.inode_table.specs.TreeTable.{IsTabled}
 use Rattle.inode_table.proofs.TableLaws.{empty_tabled}
-use Rattle.standing_jobs.specs.StandingJobs.{Standing, leaf_cmp}
-use Rattle.purge_list.specs.PurgeList.{Listed}
-use Rattle.dirfrag_steps.specs.declared.counters.Counters.{Counters}
+use Rattle.mdcache.specs.StandingJobs.{Standing, leaf_cmp}
+use Rattle.mdcache.specs.PurgeList.{Listed}
+use Rattle.mdcache.specs.declared.steps.counters.Counters.{Counters}
 use Rattle.lru.specs.LruCache.{lru_cache}
-use Rattle.dirfrag_steps.specs.Cached.{IsKept, state_of}
+use Rattle.mdcache.specs.Cached.{IsKept, state_of}
 use Rattle.mdcache.specs.New.{cached_root, new_root, new_state, root_leaf}
-use Rattle.dirfrag_steps.specs.Shown.{directories, entries_in, entries_of, entries_under, names_of, shown_at, shown_tree, tree_of}
-use Rattle.dirfrag_steps.specs.Sound.{IsSound, IsUnsaved}
-use Rattle.dirfrag_steps.specs.State.{IsLive, State, text_of}
-use Rattle.dirfrag_steps.proofs.CachedLaws.{get_with}
-use Rattle.dirfrag_steps.proofs.EndLaws.{nothing_patched}
+use Rattle.mdcache.specs.Shown.{directories, entries_in, entries_of, entries_under, names_of, shown_at, shown_tree, tree_of}
+use Rattle.mdcache.specs.Sound.{IsSound, IsUnsaved}
+use Rattle.mdcache.specs.State.{IsLive, State, text_of}
+use Rattle.mdcache.proofs.CachedLaws.{get_with}
+use Rattle.mdcache.proofs.EndLaws.{nothing_patched}
 
 abbrev pub no_homes : Homes
 no_homes = map.empty

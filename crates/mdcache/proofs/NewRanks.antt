@@ -7,11 +7,11 @@ use Rattle.lru.specs.LruCache.{lru_cache}
 use Rattle.mds_types.specs.declared.ids.Rank.{Rank}
 use Rattle.dentry_cache.specs.Cache.{Held, Leaf, Places, held, leaf_is}
 use Rattle.dentry_cache.proofs.LeafLaws.{one_leaf}
-use Rattle.rank_caches.specs.Caches.{Caches, HaveEach, all_of, cache_of, no_cache, places_of}
-use Rattle.rank_caches.proofs.SizeLaws.{new_apart, new_each}
+use Rattle.dentry_cache.specs.Caches.{Caches, HaveEach, all_of, cache_of, no_cache, places_of}
+use Rattle.dentry_cache.proofs.SizeLaws.{new_apart, new_each}
 use Rattle.mdcache.specs.New.{cached_root, new_caches, root_leaf}
-use Rattle.dirfrag_steps.specs.Ranks.{AreRanks}
-use Rattle.dirfrag_steps.proofs.AtRanks.{caches_then}
+use Rattle.mdcache.specs.Ranks.{AreRanks}
+use Rattle.mdcache.proofs.AtRanks.{caches_then}
 
 abbrev first : Rank
 first = record { 0 = 0 }

@@ -3,8 +3,8 @@ use Rattle.std.specs.Prelude.{ℕ, ◌+◌, ◌<◌, length}
 use Rattle.std.specs.FinMap as map
 use Rattle.mds_types.specs.declared.ids.Rank.{Rank}
 use Rattle.dentry_cache.specs.Cache.{Held, unsaved}
-use Rattle.rank_caches.specs.Caches.{Caches, cache_of}
-use Rattle.dirfrag_steps.specs.State.{State}
+use Rattle.dentry_cache.specs.Caches.{Caches, cache_of}
+use Rattle.mdcache.specs.State.{State}
 use Rattle.mdcache.specs.declared.prepared.Prepared.{Prepared}
 
 -- the state, the caches of the ranks with their places in the order of use, and the places of all; how many more directories and how many

@@ -19,18 +19,18 @@ use Rattle.inode_table.specs.TreeTable.{home_at}
 use Rattle.namespace_ops.specs.Changes.{MayChange, directory_at}
 use Rattle.namespace_ops.specs.declared.plans.Change.{Change}
 use Rattle.namespace_ops.specs.declared.plans.Change.TheVariants.{Add, Set, Remove, Move}
-use Rattle.rank_caches.specs.Caches.{cache_of}
-use Rattle.dirfrag_steps.specs.declared.holders.Holders.{Holders}
+use Rattle.dentry_cache.specs.Caches.{cache_of}
+use Rattle.mdcache.specs.declared.steps.holders.Holders.{Holders}
 use Rattle.mdcache.specs.declared.prepared.Prepared.{Prepared}
 use Rattle.mdcache.specs.declared.prepared.Prepared.TheVariants.{Nothing, Directory, Removal, Move as Moving}
 use Rattle.mdcache.specs.Core.{Core}
-use Rattle.dirfrag_steps.specs.Changes.{first_leaf}
-use Rattle.dirfrag_steps.specs.Going.{IsGoingOrNone, count_going, dir_going}
-use Rattle.dirfrag_steps.specs.Ranks.{KeepUnsaved}
+use Rattle.mdcache.specs.Changes.{first_leaf}
+use Rattle.mdcache.specs.Going.{IsGoingOrNone, count_going, dir_going}
+use Rattle.mdcache.specs.Ranks.{KeepUnsaved}
 use Rattle.mdcache.specs.Core.{LacksPlaces}
-use Rattle.dirfrag_steps.specs.Ready.{LacksNumbers}
-use Rattle.dirfrag_steps.specs.Shown.{shown_tree}
-use Rattle.dirfrag_steps.specs.State.{State, text_of}
+use Rattle.mdcache.specs.Ready.{LacksNumbers}
+use Rattle.mdcache.specs.Shown.{shown_tree}
+use Rattle.mdcache.specs.State.{State, text_of}
 
 -- ---- reads and refusals
 

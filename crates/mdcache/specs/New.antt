@@ -9,8 +9,8 @@ use Rattle.commit_jobs.specs.declared.bases.Base.TheVariants.{Fresh}
 use Rattle.cached_frag.specs.Cached.{Cached}
 use Rattle.lru.specs.LruCache.{lru_cache}
 use Rattle.dentry_cache.specs.Cache.{Leaf, Unsaved, held}
-use Rattle.rank_caches.specs.Caches.{Caches, with_cache}
-use Rattle.dirfrag_steps.specs.State.{State}
+use Rattle.dentry_cache.specs.Caches.{Caches, with_cache}
+use Rattle.mdcache.specs.State.{State}
 
 -- the one leaf of the root directory
 abbrev pub root_leaf : Leaf

@@ -1,38 +1,46 @@
--- What splits and merges of the whole do, and why they are refused.
-use Rattle.std.specs.Prelude.{◌≡◌, ℕ, ◌^◌, List, [], ◌∷◌, Result, Ok, Err}
+-- What the calls that split a leaf and merge leaves do, and why they may be refused.
+use Rattle.std.specs.Prelude.{◌≡◌, ◌≢◌, ◌⊎◌, ℕ, ◌<◌, ◌≤◌, ◌^◌, true, false}
+use Rattle.std.specs.Map.{lookup}
 use Rattle.mds_types.specs.declared.ids.Ino.{Ino}
 use Rattle.mds_types.specs.declared.refusals.Refusal.{Refusal}
-use Rattle.mds_types.specs.Frag.{Fragment}
-use Rattle.fragtree.specs.FragTree.{CanMerge, CanSplit, RefusesMerge, RefusesSplit, leaves_inside}
-use Rattle.inode_table.specs.Dirs.{leaves_of}
-use Rattle.dirfrag_steps.specs.Reads.{KeepsNoMore}
-use Rattle.dirfrag_steps.specs.Regroups.{MayNotRegroup}
-use Rattle.dirfrag_steps.specs.Splits.{IsMergedInto, IsSplitInto, KeepsTree}
-use Rattle.mdcache.specs.Core.{Core}
+use Rattle.mds_types.specs.declared.refusals.Refusal.TheVariants.{NoMemory, NoSuchFrag}
+use Rattle.mds_types.specs.Frag.{Fragment, child_of}
+use Rattle.dentry_cache.specs.Cache.{Held, Leaf, cached, is_kept, leaf_is, unsaved}
+use Rattle.dentry_cache.specs.Divided.{IsNoChild}
+use Rattle.inode_table.specs.Dirs.{Homes, is_known}
+use Rattle.mdcache.specs.Ready.{LacksNumbers, MayNotBeReady}
+pub use Rattle.mdcache.specs.Reads.{KeepsNoMore}
+use Rattle.mdcache.specs.Reads.{fixed_places}
+use Rattle.mdcache.specs.State.{State}
 
--- nothing was done, but that clean fragments came or went: no place is kept that wasn't
-abbrev pub IsUndone : (old new : Core) → Type 0
-IsUndone old new = (new.state ≡ old.state) × KeepsNoMore old.cache new.cache
+-- a place that is kept was so before, or is that of a child of this fragment
+abbrev pub KeepsButChildren : Ino → Fragment → ℕ → (old new : Held) → Type 0
+KeepsButChildren dir frag nb old new = (leaf : Leaf) → IsNoChild dir frag nb leaf → is_kept (lookup (leaf_is leaf) new.entries) ≡ true → is_kept (lookup (leaf_is leaf) old.entries) ≡ true
 
--- a leaf was split by so many bits; where it wasn't, either its directory's leaves refuse that, or places lack at the rank that holds it
--- (`NoPlace`), or numbers, or the store or memory refused
-abbrev pub MayNotSplit : (NoPlace : Type 0) → (old new : Core) → Ino → Fragment → ℕ → Refusal → Type 0
-MayNotSplit NoPlace old new dir frag nb reason =
-    MayNotRegroup (CanSplit (leaves_of old.state.covers dir.0) frag nb) (RefusesSplit (leaves_of old.state.covers dir.0) frag nb) old.state dir (2 ^ nb) NoPlace old.faults new.faults reason
+-- a fragment that is split, or a child of it
+abbrev pub IsFamily : Ino → Fragment → ℕ → Leaf → Type 0
+IsFamily dir frag nb leaf = (leaf ≡ (dir, frag)) ⊎ ((i : ℕ) × (i < 2 ^ nb) × (leaf ≡ (dir, child_of frag i nb)))
 
-abbrev pub SplitsLeaf : (NoPlace : Type 0) → (old new : Core) → Ino → Fragment → ℕ → Result (Unit {0}) Refusal → Type 0
-SplitsLeaf NoPlace old new dir frag nb (Ok done) = IsSplitInto old.state new.state dir frag nb × KeepsTree old.state new.state dir (frag ∷ [])
-SplitsLeaf NoPlace old new dir frag nb (Err reason) = MayNotSplit NoPlace old new dir frag nb reason × IsUndone old new
+-- kept places became free, or none did: what is cached is as it was, and no more places than before can't become free
+pub record Releases (old new : Held) : Type 0 where
+  pub unsaved : unsaved new.entries ≡ unsaved old.entries
+  pub same : (leaf : Leaf) → cached new.entries leaf ≡ cached old.entries leaf
+  pub cap : new.cap ≡ old.cap
+  pub fixed : fixed_places new.entries ≤ fixed_places old.entries
+  pub kept : KeepsNoMore old new
 
--- the leaves that a merge at a fragment ends
-abbrev pub merged_leaves : Core → Ino → Fragment → List Fragment
-merged_leaves c dir frag = leaves_inside frag (leaves_of c.state.covers dir.0)
+-- no generation is left for so many fragments that come, or no version for their names
+abbrev pub LacksCounts : ℕ → State → Type 0
+LacksCounts count s = LacksNumbers count s.next_generation ⊎ LacksNumbers 1 s.next_version
 
--- leaves were merged; where they weren't it was refused so too
-abbrev pub MayNotMerge : (NoPlace : Type 0) → (old new : Core) → Ino → Fragment → Refusal → Type 0
-MayNotMerge NoPlace old new dir frag reason =
-    MayNotRegroup (CanMerge (leaves_of old.state.covers dir.0) frag) (RefusesMerge (leaves_of old.state.covers dir.0) frag) old.state dir 1 NoPlace old.faults new.faults reason
+-- why the leaves of a directory stay as they are: there is no such directory; the leaves refuse it; numbers lack, and exactly then it is
+-- refused so; otherwise want of memory, a fault, or places that lack
+abbrev pub MayNotRegroup : (Can : Type 0) → (Refuses : Refusal → Type 0) → State → Ino → ℕ → (NoPlace : Type 0) → (before after : ℕ) → Refusal → Type 0
+MayNotRegroup Can Refuses s dir count NoPlace before after reason =
+    ((reason ≡ NoSuchFrag) × (is_known s.homes dir.0 ≡ false))
+    ⊎ ((is_known s.homes dir.0 ≡ true) × (reason ≢ NoMemory) × Refuses reason)
+    ⊎ ((is_known s.homes dir.0 ≡ true) × Can × MayNotBeReady (LacksCounts count s) NoPlace before after reason)
 
-abbrev pub MergesLeaves : (NoPlace : Type 0) → (old new : Core) → Ino → Fragment → Result (Unit {0}) Refusal → Type 0
-MergesLeaves NoPlace old new dir frag (Ok done) = IsMergedInto old.state new.state dir frag × KeepsTree old.state new.state dir (merged_leaves old dir frag)
-MergesLeaves NoPlace old new dir frag (Err reason) = MayNotMerge NoPlace old new dir frag reason × IsUndone old new
+-- the first of these reasons alone: the leaves themselves are not those that are asked for, whatever numbers, places and memory are left
+abbrev pub RefusesLeaves : (Refuses : Refusal → Type 0) → Homes → Ino → Refusal → Type 0
+RefusesLeaves Refuses homes dir reason = ((reason ≡ NoSuchFrag) × (is_known homes dir.0 ≡ false)) ⊎ ((is_known homes dir.0 ≡ true) × (reason ≢ NoMemory) × Refuses reason)

@@ -6,14 +6,14 @@ ghost use Rattle.mds_types.specs.declared.refusals.Refusal.TheVariants.{NoInodes
 ghost use Rattle.commit_jobs.specs.Snap.{IsBelowEnd};
 ghost use Rattle.cached_frag.specs.Cached.{is_clean};
 ghost use Rattle.dentry_cache.specs.Cache.{Unsaved, unsaved as unsaved_in};
-ghost use Rattle.dirfrag_steps.specs.Commits.{Begins, IsAtEnd};
-ghost use Rattle.dirfrag_steps.specs.Ranks.{KeepsCaches, MayHold, NoneComes};
+ghost use Rattle.mdcache.specs.Commits.{Begins, IsAtEnd};
+ghost use Rattle.mdcache.specs.Ranks.{KeepsCaches, MayHold, NoneComes};
 
 use crate::leaves::is_live;
 use crate::mdcache::MdCache;
+use crate::steps::begin_at;
 use commit_jobs::{Base, Job};
 use dentry_cache::Cache;
-use dirfrag_steps::begin_at;
 use mds_types::{Frag, Ino, Rank, Refusal};
 use objstore::Store;
 

@@ -1,6 +1,6 @@
 //! Commits that are given up.
 ghost use Rattle.std.specs.Prelude.{◌≡◌};
-ghost use Rattle.dirfrag_steps.specs.Commits.{Drops};
+ghost use Rattle.mdcache.specs.Commits.{Drops};
 
 use crate::mdcache::MdCache;
 use mds_types::Refusal;

@@ -1,14 +1,14 @@
 //! Whether a leaf shows a name.
 ghost use Rattle.std.specs.Prelude.{◌≡◌, IfOk, IfErr};
 ghost use Rattle.mdcache.specs.Frags.{KeepsState};
-ghost use Rattle.dirfrag_steps.specs.Ranks.{IsThat, KeepsCaches, MayHold};
+ghost use Rattle.mdcache.specs.Ranks.{IsThat, KeepsCaches, MayHold};
 ghost use Rattle.mdcache.specs.Core.{LacksPlacesAt};
-ghost use Rattle.dirfrag_steps.specs.Reads.{MayNotFind, has_none};
-ghost use Rattle.dirfrag_steps.specs.Shown.{names_of};
-ghost use Rattle.dirfrag_steps.specs.State.{IsLive};
+ghost use Rattle.mdcache.specs.Reads.{MayNotFind, has_none};
+ghost use Rattle.mdcache.specs.Shown.{names_of};
+ghost use Rattle.mdcache.specs.State.{IsLive};
 
 use crate::mdcache::MdCache;
-use dirfrag_steps::{fetch_at, give_up_at, is_cached_empty};
+use crate::steps::{fetch_at, give_up_at, is_cached_empty};
 use mds_types::{Frag, Ino, Rank, Refusal};
 use objstore::Store;
 use std::alloc::Global;

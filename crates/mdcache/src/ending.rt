@@ -1,15 +1,15 @@
 //! Commits end: what was encoded is written, and what it has is clean then.
 ghost use Rattle.std.specs.Prelude.{◌≡◌, ◌≤◌, ◌↔◌, IsTrue, Some};
 ghost use Rattle.std.specs.FinMap as map;
-ghost use Rattle.dirfrag_steps.specs.Commits.{Ends, leaf_of};
-ghost use Rattle.dirfrag_steps.specs.Ranks.{KeepsCaches, MayHold, NoneComes};
+ghost use Rattle.mdcache.specs.Commits.{Ends, leaf_of};
+ghost use Rattle.mdcache.specs.Ranks.{KeepsCaches, MayHold, NoneComes};
 
 use crate::mdcache::MdCache;
+use crate::standing_jobs::StandingJobs;
+use crate::steps::end_at;
 use commit_jobs::{Encoded, Job};
-use dirfrag_steps::end_at;
 use mds_types::{Rank, Refusal};
 use objstore::Store;
-use standing_jobs::StandingJobs;
 use std::alloc::Global;
 
 impl<S: Store + Drop> MdCache<S> {

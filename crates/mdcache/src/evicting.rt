@@ -2,9 +2,9 @@
 ghost use Rattle.std.specs.Prelude.{◌≡◌, ◌<◌, None, length, OnOk, OnErr, IfErr};
 ghost use Rattle.mds_types.specs.declared.refusals.Refusal.TheVariants.{NothingToEvict};
 ghost use Rattle.dentry_cache.specs.Cache.{Evicts, NoneGoes};
-ghost use Rattle.rank_caches.specs.Caches.{cache_of, with_cache};
+ghost use Rattle.dentry_cache.specs.Caches.{cache_of, with_cache};
 ghost use Rattle.mdcache.specs.Frags.{KeepsState};
-ghost use Rattle.dirfrag_steps.specs.Ranks.{KeepsCaches, NoneComes};
+ghost use Rattle.mdcache.specs.Ranks.{KeepsCaches, NoneComes};
 
 use crate::mdcache::MdCache;
 use mds_types::{Rank, Refusal};

@@ -5,20 +5,19 @@ ghost use Rattle.lru.specs.LruCache.{lru_cache};
 ghost use Rattle.mds_types.specs.declared.refusals.Refusal.TheVariants.{NoMemory};
 ghost use Rattle.dentry_cache.specs.Cache.{held};
 ghost use Rattle.objstore.specs.Objects.{MayRefuse};
-ghost use Rattle.rank_caches.specs.Caches.{all_of};
+ghost use Rattle.dentry_cache.specs.Caches.{all_of};
 ghost use Rattle.mdcache.specs.New.{MayNotFormat, cached_root, new_caches, new_state, root_leaf};
 
 use crate::mdcache::MdCache;
 use crate::prepared::Prepared;
+use crate::purge_list::PurgeList;
+use crate::standing_jobs::StandingJobs;
+use crate::steps::Counters;
 use cached_frag::CachedFrag;
-use dentry_cache::Cache;
-use dirfrag_steps::Counters;
+use dentry_cache::{Cache, RankCaches};
 use inode_table::Dirs;
 use mds_types::{Frag, Ino, Rank, Refusal};
 use objstore::{NamePage, Store};
-use purge_list::PurgeList;
-use rank_caches::RankCaches;
-use standing_jobs::StandingJobs;
 use std::alloc::Global;
 
 impl<S: Store + Drop> MdCache<S> {

@@ -1,10 +1,10 @@
 //! What has to be named before a directory goes.
 ghost use Rattle.std.specs.Prelude.{◌≡◌, IfOk, IfErr};
 ghost use Rattle.mds_types.specs.declared.refusals.Refusal.TheVariants.{NoMemory};
-ghost use Rattle.dirfrag_steps.specs.Going.{IsGoing};
+ghost use Rattle.mdcache.specs.Going.{IsGoing};
 
 use crate::mdcache::MdCache;
-use dirfrag_steps::{Going, going_of};
+use crate::steps::{Going, going_of};
 use mds_types::{Ino, Refusal};
 use objstore::Store;
 use std::alloc::Global;

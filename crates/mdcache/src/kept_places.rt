@@ -1,11 +1,11 @@
 //! The one place that is kept between calls, given up: that for the leaf `*` of a directory that was to come.
 ghost use Rattle.std.specs.Prelude.{◌≡◌};
-ghost use Rattle.dirfrag_steps.specs.Cached.{KeepsNone};
+ghost use Rattle.mdcache.specs.Cached.{KeepsNone};
 ghost use Rattle.mdcache.specs.Frags.{KeepsState};
-ghost use Rattle.dirfrag_steps.specs.Ranks.{KeepsCaches, NoneComes};
+ghost use Rattle.mdcache.specs.Ranks.{KeepsCaches, NoneComes};
 
 use crate::mdcache::MdCache;
-use dirfrag_steps::give_back;
+use crate::steps::give_back;
 use objstore::Store;
 
 impl<S: Store + Drop> MdCache<S> {

@@ -2,7 +2,7 @@
 ghost use Rattle.std.specs.Prelude.{◌≡◌, IfOk, IsTrue, ◌↔◌};
 ghost use Rattle.fragtree.specs.FragTree.{IsPick, IsTree};
 ghost use Rattle.inode_table.specs.Dirs.{leaves_of};
-ghost use Rattle.dirfrag_steps.specs.State.{IsLive};
+ghost use Rattle.mdcache.specs.State.{IsLive};
 
 use crate::mdcache::MdCache;
 use inode_table::Dirs;

@@ -1,18 +1,18 @@
 //! `MdCache`, and what a contract sees of it.
 ghost use Rattle.std.specs.Prelude.{◌≡◌};
 ghost use Rattle.dentry_cache.specs.Cache.{unsaved};
-ghost use Rattle.rank_caches.specs.Caches.{all_of};
-ghost use Rattle.dirfrag_steps.specs.Cached.{IsKept};
-ghost use Rattle.dirfrag_steps.specs.Ranks.{AreLivePlaces, AreRanks};
-ghost use Rattle.dirfrag_steps.specs.Sound.{IsSound};
+ghost use Rattle.dentry_cache.specs.Caches.{all_of};
+ghost use Rattle.mdcache.specs.Cached.{IsKept};
+ghost use Rattle.mdcache.specs.Ranks.{AreLivePlaces, AreRanks};
+ghost use Rattle.mdcache.specs.Sound.{IsSound};
 
 use crate::prepared::Prepared;
-use dirfrag_steps::{Counters, Kept};
+use crate::purge_list::PurgeList;
+use crate::standing_jobs::StandingJobs;
+use crate::steps::{Counters, Kept};
+use dentry_cache::RankCaches;
 use inode_table::Dirs;
 use objstore::Store;
-use purge_list::PurgeList;
-use rank_caches::RankCaches;
-use standing_jobs::StandingJobs;
 use std::alloc::Global;
 use std::marker::Model;
 
@@ -40,10 +40,10 @@ pub struct MdCache<S: Store + Drop> {
 impl<S: Store + Drop> Model for MdCache<S> {
     ghost use Rattle.std.specs.Coded.{codes};
     ghost use Rattle.std.specs.FinMap as map;
-    ghost use Rattle.rank_caches.specs.Caches.{all_of};
+    ghost use Rattle.dentry_cache.specs.Caches.{all_of};
     ghost use Rattle.mdcache.specs.Core.{Core};
-    ghost use Rattle.dirfrag_steps.specs.Cached.{IsKept, state_of};
-    ghost use Rattle.dirfrag_steps.specs.Ranks.{AreRanks, KeepsOnlyAt};
+    ghost use Rattle.mdcache.specs.Cached.{IsKept, state_of};
+    ghost use Rattle.mdcache.specs.Ranks.{AreRanks, KeepsOnlyAt};
 
     ghost Value = { Core };
 

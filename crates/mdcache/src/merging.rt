@@ -5,15 +5,15 @@ ghost use Rattle.fragtree.specs.FragTree.{CanMerge, RefusesMerge, leaves_inside}
 ghost use Rattle.dentry_cache.specs.Cache.{Leaf};
 ghost use Rattle.inode_table.specs.Dirs.{is_known, leaves_of};
 ghost use Rattle.namespace_ops.specs.Changes.{in_directory};
-ghost use Rattle.dirfrag_steps.specs.Ranks.{KeepsCaches, MayHold};
+ghost use Rattle.mdcache.specs.Ranks.{KeepsCaches, MayHold};
 ghost use Rattle.mdcache.specs.Core.{LacksPlacesAt};
-ghost use Rattle.mdcache.specs.Regroups.{MergesLeaves};
-ghost use Rattle.dirfrag_steps.specs.Regroups.{RefusesLeaves};
-ghost use Rattle.dirfrag_steps.specs.Sound.{IsSound};
+ghost use Rattle.mdcache.specs.SplitsAndMerges.{MergesLeaves};
+ghost use Rattle.mdcache.specs.Regroups.{RefusesLeaves};
+ghost use Rattle.mdcache.specs.Sound.{IsSound};
 
 use crate::mdcache::MdCache;
 use crate::regrouping::check_counts;
-use dirfrag_steps::{commit_merge, give_up_at, prepare_merge};
+use crate::steps::{commit_merge, give_up_at, prepare_merge};
 use inode_table::Dirs;
 use mds_types::{Frag, Ino, Rank, Refusal};
 use objstore::Store;

@@ -2,7 +2,7 @@
 
 use crate::ready::NewDirectory;
 use crate::ready_move::MovingEntry;
-use dirfrag_steps::Going;
+use crate::steps::Going;
 
 /// What a change takes beside itself.
 #[derive(Debug, Drop)]

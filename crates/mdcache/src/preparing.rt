@@ -7,14 +7,14 @@ ghost use Rattle.dirfrag_codec.specs.EntryRecord.{HasTarget, IsRankNumber};
 ghost use Rattle.namespace_ops.specs.Changes.{IsNumbered, MayChange};
 ghost use Rattle.namespace_ops.specs.declared.plans.Change.TheVariants.{Add, Move, Remove, Set};
 ghost use Rattle.mdcache.specs.Frags.{IsReady, KeepsState, LacksToMake};
-ghost use Rattle.dirfrag_steps.specs.Ranks.{KeepsCaches, MayComeFor, MayHoldEach};
+ghost use Rattle.mdcache.specs.Ranks.{KeepsCaches, MayComeFor, MayHoldEach};
 ghost use Rattle.mdcache.specs.Core.{LacksPlaces};
-ghost use Rattle.dirfrag_steps.specs.Ready.{MayNotBeReady};
-ghost use Rattle.dirfrag_steps.specs.Shown.{shown_tree};
+ghost use Rattle.mdcache.specs.Ready.{MayNotBeReady};
+ghost use Rattle.mdcache.specs.Shown.{shown_tree};
 
 use crate::mdcache::MdCache;
 use crate::prepared::Prepared;
-use dirfrag_steps::Holders;
+use crate::steps::Holders;
 use mds_types::{Dentry, Frag, Ino, Inode, Kind, Refusal};
 use namespace_ops::Change;
 use objstore::Store;

@@ -1,6 +1,6 @@
 //! Objects that nothing owns any more are removed, one by one.
 ghost use Rattle.std.specs.Prelude.{◌≡◌, ◌≤◌};
-ghost use Rattle.dirfrag_steps.specs.Objects.{Purges};
+ghost use Rattle.mdcache.specs.Objects.{Purges};
 
 use crate::mdcache::MdCache;
 use mds_types::Refusal;

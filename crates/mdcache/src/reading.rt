@@ -6,13 +6,13 @@ ghost use Rattle.fragtree.specs.FragTree.{IsPick};
 ghost use Rattle.namehash.specs.Rjenkins.{hash_of};
 ghost use Rattle.inode_table.specs.Dirs.{leaves_of};
 ghost use Rattle.mdcache.specs.Frags.{KeepsState};
-ghost use Rattle.dirfrag_steps.specs.Ranks.{IsThat, KeepsCaches, MayHold};
+ghost use Rattle.mdcache.specs.Ranks.{IsThat, KeepsCaches, MayHold};
 ghost use Rattle.mdcache.specs.Core.{LacksPlacesAt};
-ghost use Rattle.dirfrag_steps.specs.Reads.{MayNotFind};
-ghost use Rattle.dirfrag_steps.specs.Shown.{shown_tree};
+ghost use Rattle.mdcache.specs.Reads.{MayNotFind};
+ghost use Rattle.mdcache.specs.Shown.{shown_tree};
 
 use crate::mdcache::MdCache;
-use dirfrag_steps::{give_up_at, look_at};
+use crate::steps::{give_up_at, look_at};
 use mds_types::{Dentry, Frag, Ino, Inode, Rank, Refusal};
 use namehash::rjenkins;
 use objstore::Store;

@@ -6,21 +6,21 @@ ghost use Rattle.fragtree.specs.FragTree.{IsPick};
 ghost use Rattle.namehash.specs.Rjenkins.{hash_of};
 ghost use Rattle.inode_table.specs.Dirs.{leaves_of};
 ghost use Rattle.dentry_cache.specs.Cache.{HasRoom, cached};
-ghost use Rattle.dirfrag_steps.specs.Going.{IsGoing, IsGoingOrNone, count_going, dir_going};
-ghost use Rattle.rank_caches.specs.Caches.{cache_of};
+ghost use Rattle.mdcache.specs.Going.{IsGoing, IsGoingOrNone, count_going, dir_going};
+ghost use Rattle.dentry_cache.specs.Caches.{cache_of};
 ghost use Rattle.mdcache.specs.Frags.{KeepsState};
-ghost use Rattle.dirfrag_steps.specs.Ranks.{IsThat, KeepsCaches, MayHold};
-ghost use Rattle.dirfrag_steps.specs.Ready.{LacksNumbers, MayNotBeReady};
+ghost use Rattle.mdcache.specs.Ranks.{IsThat, KeepsCaches, MayHold};
+ghost use Rattle.mdcache.specs.Ready.{LacksNumbers, MayNotBeReady};
 ghost use Rattle.mdcache.specs.Core.{LacksPlacesAt};
-ghost use Rattle.dirfrag_steps.specs.Shown.{shown_tree};
+ghost use Rattle.mdcache.specs.Shown.{shown_tree};
 
 use crate::mdcache::MdCache;
+use crate::purge_list::PurgeList;
 use crate::ready::check_left;
-use dirfrag_steps::{Going, give_up_at, going_of, ready_at};
+use crate::steps::{Going, give_up_at, going_of, ready_at};
 use inode_table::Dirs;
 use mds_types::{Dentry, Frag, Ino, Rank, Refusal};
 use objstore::Store;
-use purge_list::PurgeList;
 use std::alloc::{AllocError, Global};
 
 impl<S: Store + Drop> MdCache<S> {

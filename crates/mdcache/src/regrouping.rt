@@ -1,8 +1,8 @@
 //! Whether numbers are left for a split or a merge.
 ghost use Rattle.std.specs.Prelude.{◌≡◌, ◌⊎◌, ◌+◌, ◌-◌, ◌<◌, ◌^◌, OnOk, IfErr};
 ghost use Rattle.mds_types.specs.declared.refusals.Refusal.TheVariants.{NoInodes};
-ghost use Rattle.dirfrag_steps.specs.Ready.{LacksNumbers};
-ghost use Rattle.dirfrag_steps.specs.Regroups.{LacksCounts};
+ghost use Rattle.mdcache.specs.Ready.{LacksNumbers};
+ghost use Rattle.mdcache.specs.Regroups.{LacksCounts};
 
 use crate::mdcache::MdCache;
 use mds_types::Refusal;

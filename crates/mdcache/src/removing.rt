@@ -3,15 +3,15 @@ ghost use Rattle.std.specs.Prelude.{◌≡◌, ◌-◌, ◌<◌, ◌≤◌, ◌+
 ghost use Rattle.dentry_cache.specs.Cache.{HasRoom, cached};
 ghost use Rattle.namespace_ops.specs.Changes.{MayChange};
 ghost use Rattle.namespace_ops.specs.declared.plans.Change.TheVariants.{Remove};
-ghost use Rattle.rank_caches.specs.Caches.{cache_of};
-ghost use Rattle.dirfrag_steps.specs.Changes.{Makes};
-ghost use Rattle.dirfrag_steps.specs.Going.{IsGoing};
-ghost use Rattle.dirfrag_steps.specs.Made.{IsRight};
-ghost use Rattle.dirfrag_steps.specs.Ranks.{KeepsCaches, MayHold, NoneComes};
-ghost use Rattle.dirfrag_steps.specs.Shown.{shown_tree};
+ghost use Rattle.dentry_cache.specs.Caches.{cache_of};
+ghost use Rattle.mdcache.specs.Changes.{Makes};
+ghost use Rattle.mdcache.specs.Going.{IsGoing};
+ghost use Rattle.mdcache.specs.Made.{IsRight};
+ghost use Rattle.mdcache.specs.Ranks.{KeepsCaches, MayHold, NoneComes};
+ghost use Rattle.mdcache.specs.Shown.{shown_tree};
 
 use crate::mdcache::MdCache;
-use dirfrag_steps::{Going, erase_at, remove_dir};
+use crate::steps::{Going, erase_at, remove_dir};
 use mds_types::{Dentry, Frag, Rank};
 use objstore::Store;
 

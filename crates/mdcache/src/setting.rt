@@ -4,14 +4,14 @@ ghost use Rattle.dirfrag_codec.specs.EntryRecord.{IsRecordable};
 ghost use Rattle.dentry_cache.specs.Cache.{HasRoom, cached};
 ghost use Rattle.namespace_ops.specs.Changes.{MayChange};
 ghost use Rattle.namespace_ops.specs.declared.plans.Change.TheVariants.{Set};
-ghost use Rattle.rank_caches.specs.Caches.{cache_of};
-ghost use Rattle.dirfrag_steps.specs.Changes.{Makes};
-ghost use Rattle.dirfrag_steps.specs.Made.{IsRight};
-ghost use Rattle.dirfrag_steps.specs.Ranks.{KeepsCaches, MayHold, NoneComes};
-ghost use Rattle.dirfrag_steps.specs.Shown.{shown_tree};
+ghost use Rattle.dentry_cache.specs.Caches.{cache_of};
+ghost use Rattle.mdcache.specs.Changes.{Makes};
+ghost use Rattle.mdcache.specs.Made.{IsRight};
+ghost use Rattle.mdcache.specs.Ranks.{KeepsCaches, MayHold, NoneComes};
+ghost use Rattle.mdcache.specs.Shown.{shown_tree};
 
 use crate::mdcache::MdCache;
-use dirfrag_steps::put_at;
+use crate::steps::put_at;
 use mds_types::{Dentry, Frag, Inode, Rank};
 use objstore::Store;
 

@@ -2,15 +2,15 @@
 ghost use Rattle.std.specs.Prelude.{◌≡◌, ◌+◌, ◌-◌, ◌≤◌, ◌<◌, ◌^◌, true, OnOk, IfErr};
 ghost use Rattle.fragtree.specs.FragTree.{CanSplit, RefusesSplit};
 ghost use Rattle.inode_table.specs.Dirs.{is_known, leaves_of};
-ghost use Rattle.dirfrag_steps.specs.Ranks.{KeepsCaches, MayHold};
+ghost use Rattle.mdcache.specs.Ranks.{KeepsCaches, MayHold};
 ghost use Rattle.mdcache.specs.Core.{LacksPlacesAt};
-ghost use Rattle.dirfrag_steps.specs.Regroups.{IsFamily, RefusesLeaves};
-ghost use Rattle.mdcache.specs.Regroups.{SplitsLeaf};
-ghost use Rattle.dirfrag_steps.specs.Sound.{IsSound};
+ghost use Rattle.mdcache.specs.Regroups.{IsFamily, RefusesLeaves};
+ghost use Rattle.mdcache.specs.SplitsAndMerges.{SplitsLeaf};
+ghost use Rattle.mdcache.specs.Sound.{IsSound};
 
 use crate::mdcache::MdCache;
 use crate::regrouping::check_counts;
-use dirfrag_steps::{child_count, commit_split, give_up_at, prepare_split};
+use crate::steps::{child_count, commit_split, give_up_at, prepare_split};
 use inode_table::Dirs;
 use mds_types::{Frag, Ino, Rank, Refusal};
 use objstore::Store;

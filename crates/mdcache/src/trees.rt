@@ -1,9 +1,9 @@
 //! The object of a directory's tree is brought up to date.
 ghost use Rattle.std.specs.Prelude.{◌≡◌, ◌≤◌, ◌<◌};
-ghost use Rattle.dirfrag_steps.specs.Objects.{SavesTree};
+ghost use Rattle.mdcache.specs.Objects.{SavesTree};
 
 use crate::mdcache::MdCache;
-use dirfrag_steps::save_tree;
+use crate::steps::save_tree;
 use mds_types::{Ino, ObjName, Refusal};
 use objstore::Store;
 use std::alloc::Global;

@@ -13,10 +13,10 @@ use Rattle.inode_table.proofs.TableLaws.{known_is}
 use Rattle.mdcache.specs.Core.{Core}
 use Rattle.mdcache.specs.Frags.{KeepsState}
 use Rattle.mdcache.specs.Core.{LacksPlaces, LacksPlacesAt}
-use Rattle.dirfrag_steps.specs.Reads.{MayNotFind}
-use Rattle.dirfrag_steps.specs.Shown.{shown_tree}
-use Rattle.dirfrag_steps.specs.Sound.{IsSound}
-use Rattle.dirfrag_steps.specs.State.{State as TreeState}
+use Rattle.mdcache.specs.Reads.{MayNotFind}
+use Rattle.mdcache.specs.Shown.{shown_tree}
+use Rattle.mdcache.specs.Sound.{IsSound}
+use Rattle.mdcache.specs.State.{State as TreeState}
 use Rattle.mdcache.proofs.FragsLaws.{lacked_before}
 
 -- what lacks at a rank lacks at some

@@ -10,9 +10,9 @@ use Rattle.mds_types.specs.Tree.{is_dir_kind}
 use Rattle.inode_table.specs.Dirs.{Covers, Homes}
 use Rattle.inode_table.specs.TreeTable.{home_at, with_home}
 use Rattle.namespace_ops.specs.declared.plans.Change.TheVariants.{Add, Set, Remove, Move}
-use Rattle.dirfrag_steps.specs.Changes.{Makes, with_directory, with_home_at, without}
-use Rattle.dirfrag_steps.specs.Going.{rows_but}
-use Rattle.dirfrag_steps.specs.State.{State}
+use Rattle.mdcache.specs.Changes.{Makes, with_directory, with_home_at, without}
+use Rattle.mdcache.specs.Going.{rows_but}
+use Rattle.mdcache.specs.State.{State}
 
 -- the tables of a state are these
 abbrev pub TablesAre : State → Homes → Covers → Type 0

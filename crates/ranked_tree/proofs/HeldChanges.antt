@@ -23,17 +23,17 @@ use Rattle.dentry_cache.specs.declared.cache.Place.{Place}
 use Rattle.namespace_ops.specs.Changes.{MayChange}
 use Rattle.namespace_ops.specs.declared.plans.Change.{Change}
 use Rattle.namespace_ops.specs.declared.plans.Change.TheVariants.{Add, Set, Remove, Move}
-use Rattle.rank_caches.specs.Caches.{cache_of, has_place}
+use Rattle.dentry_cache.specs.Caches.{cache_of, has_place}
 use Rattle.subtree_map.specs.Authority.{Leaf, Roots, inherited}
 use Rattle.mdcache.specs.Core.{Core}
-use Rattle.dirfrag_steps.specs.Changes.{Makes, first_leaf}
-use Rattle.dirfrag_steps.specs.Going.{rows_but}
-use Rattle.dirfrag_steps.specs.Ranks.{AreRanks, KeepsCaches, NoneComes}
-use Rattle.dirfrag_steps.specs.Shown.{shown_tree}
-use Rattle.dirfrag_steps.specs.Sound.{IsSound}
-use Rattle.dirfrag_steps.specs.State.{State as TreeState}
-use Rattle.dirfrag_steps.proofs.HomeLaws.{moved_known}
-use Rattle.dirfrag_steps.proofs.MoveSteps.{replaces}
+use Rattle.mdcache.specs.Changes.{Makes, first_leaf}
+use Rattle.mdcache.specs.Going.{rows_but}
+use Rattle.mdcache.specs.Ranks.{AreRanks, KeepsCaches, NoneComes}
+use Rattle.mdcache.specs.Shown.{shown_tree}
+use Rattle.mdcache.specs.Sound.{IsSound}
+use Rattle.mdcache.specs.State.{State as TreeState}
+use Rattle.mdcache.proofs.HomeLaws.{moved_known}
+use Rattle.mdcache.proofs.MoveSteps.{replaces}
 use Rattle.ranked_tree.specs.Held.{AreHeld, IsOwned}
 use Rattle.ranked_tree.specs.Ranked.{IsReadyHeld}
 use Rattle.ranked_tree.specs.Subtrees.{FollowChange, KeepsAuthorities, NoNewRank, Rules}

@@ -6,13 +6,13 @@ use Rattle.mds_types.specs.declared.ids.Rank.{Rank}
 use Rattle.dentry_cache.specs.Cache.{leaf_is}
 use Rattle.dentry_cache.specs.declared.cache.Place.{Place}
 use Rattle.inode_table.specs.Dirs.{IsLive}
-use Rattle.rank_caches.specs.Caches.{Caches, cache_of, has_place}
+use Rattle.dentry_cache.specs.Caches.{Caches, cache_of, has_place}
 use Rattle.subtree_map.specs.Authority.{Leaf, Roots}
 use Rattle.subtree_map.proofs.Nearest.{one_authority}
 use Rattle.mdcache.specs.Core.{Core}
 use Rattle.mdcache.specs.Frags.{KeepsState}
-use Rattle.dirfrag_steps.specs.Ranks.{IsThat, KeepsCaches, MayHold, NoneComes}
-use Rattle.dirfrag_steps.specs.State.{State as TreeState}
+use Rattle.mdcache.specs.Ranks.{IsThat, KeepsCaches, MayHold, NoneComes}
+use Rattle.mdcache.specs.State.{State as TreeState}
 use Rattle.ranked_tree.specs.Held.{AreHeld, IsOwned}
 use Rattle.ranked_tree.specs.Subtrees.{NoNewRank, Rules}
 

@@ -15,22 +15,22 @@ use Rattle.inode_table.specs.Dirs.{IsLive, is_known, leaves_of}
 use Rattle.inode_table.proofs.Tables.{tree_of_row}
 use Rattle.dentry_cache.specs.Cache.{Held, is_kept, leaf_is}
 use Rattle.namespace_ops.specs.Changes.{in_directory}
-use Rattle.rank_caches.specs.Caches.{all_of, cache_of, has_place}
+use Rattle.dentry_cache.specs.Caches.{all_of, cache_of, has_place}
 use Rattle.subtree_map.specs.Authority.{Leaf, Roots}
 use Rattle.subtree_map.specs.Changes.{HaveOneAuthority, is_inside}
 use Rattle.subtree_map.proofs.Covers.{child_is_new, merged_is_new, some_inside}
 use Rattle.subtree_map.proofs.Nearest.{some_authority}
 use Rattle.mdcache.specs.Core.{Core}
-use Rattle.dirfrag_steps.specs.Cached.{KeepsNone}
+use Rattle.mdcache.specs.Cached.{KeepsNone}
 use Rattle.mdcache.specs.Frags.{KeepsState}
-use Rattle.dirfrag_steps.specs.Ranks.{AreLivePlaces, AreRanks, KeepsCaches, MayHold, NoneComes}
-use Rattle.dirfrag_steps.specs.Regroups.{IsFamily, MayNotRegroup}
-use Rattle.mdcache.specs.Regroups.{IsUndone, MergesLeaves, SplitsLeaf}
-use Rattle.dirfrag_steps.specs.Sound.{IsSound}
-use Rattle.dirfrag_steps.specs.Splits.{IsMergedInto, IsSplitInto, KeepsTree}
-use Rattle.dirfrag_steps.specs.State.{State as TreeState}
-use Rattle.dirfrag_steps.proofs.AtRanks.{none_at}
-use Rattle.dirfrag_steps.proofs.SplitLaws.{has_inside}
+use Rattle.mdcache.specs.Ranks.{AreLivePlaces, AreRanks, KeepsCaches, MayHold, NoneComes}
+use Rattle.mdcache.specs.Regroups.{IsFamily, MayNotRegroup}
+use Rattle.mdcache.specs.SplitsAndMerges.{IsUndone, MergesLeaves, SplitsLeaf}
+use Rattle.mdcache.specs.Sound.{IsSound}
+use Rattle.mdcache.specs.Splits.{IsMergedInto, IsSplitInto, KeepsTree}
+use Rattle.mdcache.specs.State.{State as TreeState}
+use Rattle.mdcache.proofs.AtRanks.{none_at}
+use Rattle.mdcache.proofs.SplitLaws.{has_inside}
 use Rattle.ranked_tree.specs.Held.{AreHeld, IsMergedHere, IsOwned, PlacesCome}
 use Rattle.ranked_tree.specs.Subtrees.{AllHave, AreRoots, GivesToChildren, KeepsAuthorities, NoNewRank, Rules, TakesOver}
 use Rattle.ranked_tree.proofs.HeldLaws.{held_after, may_hold}

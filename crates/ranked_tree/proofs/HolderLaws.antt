@@ -17,15 +17,15 @@ use Rattle.inode_table.proofs.TableLaws.{known_is, may_come}
 use Rattle.namespace_ops.specs.Changes.{MayChange}
 use Rattle.namespace_ops.specs.declared.plans.Change.{Change}
 use Rattle.namespace_ops.specs.declared.plans.Change.TheVariants.{Add, Set, Remove, Move}
-use Rattle.rank_caches.specs.Caches.{Caches}
+use Rattle.dentry_cache.specs.Caches.{Caches}
 use Rattle.subtree_map.specs.Authority.{Leaf, Roots}
 use Rattle.subtree_map.proofs.Nearest.{one_authority}
-use Rattle.dirfrag_steps.specs.declared.holders.Holders.{Holders}
-use Rattle.dirfrag_steps.specs.Changes.{first_leaf}
-use Rattle.dirfrag_steps.specs.Ranks.{MayComeFor, MayHold, MayHoldEach}
-use Rattle.dirfrag_steps.specs.Shown.{shown_tree}
-use Rattle.dirfrag_steps.specs.Sound.{IsSound}
-use Rattle.dirfrag_steps.specs.State.{State as TreeState}
+use Rattle.mdcache.specs.declared.steps.holders.Holders.{Holders}
+use Rattle.mdcache.specs.Changes.{first_leaf}
+use Rattle.mdcache.specs.Ranks.{MayComeFor, MayHold, MayHoldEach}
+use Rattle.mdcache.specs.Shown.{shown_tree}
+use Rattle.mdcache.specs.Sound.{IsSound}
+use Rattle.mdcache.specs.State.{State as TreeState}
 use Rattle.ranked_tree.specs.Held.{AreHolders, first_named, second_named}
 use Rattle.ranked_tree.specs.Subtrees.{Rules}
 use Rattle.ranked_tree.proofs.HeldLaws.{is_that}

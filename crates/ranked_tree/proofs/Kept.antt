@@ -2,7 +2,7 @@
 use Rattle.std.proofs.Common.{◌≡◌, sym, ap, ◌∙◌}
 use Rattle.std.specs.FinMap as map
 use Rattle.subtree_map.specs.Authority.{Roots}
-use Rattle.dirfrag_steps.specs.State.{State as TreeState}
+use Rattle.mdcache.specs.State.{State as TreeState}
 use Rattle.ranked_tree.specs.Subtrees.{AreRoots, KeepsRoots}
 
 -- where directories, leaves and roots stay

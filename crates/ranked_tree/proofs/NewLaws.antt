@@ -11,13 +11,13 @@ use Rattle.mds_types.specs.declared.ids.Rank.{Rank}
 use Rattle.mds_types.proofs.LeafLaws.{get_beside, get_put, same_or_apart}
 use Rattle.inode_table.specs.Dirs.{IsLive}
 use Rattle.dentry_cache.specs.Cache.{Held, Places, held, leaf_is}
-use Rattle.rank_caches.specs.Caches.{Caches, cache_of, has_place, no_cache}
-use Rattle.rank_caches.proofs.PlaceLaws.{cache_beside, rank_or_apart}
+use Rattle.dentry_cache.specs.Caches.{Caches, cache_of, has_place, no_cache}
+use Rattle.dentry_cache.proofs.PlaceLaws.{cache_beside, rank_or_apart}
 use Rattle.subtree_map.specs.Authority.{Leaf, Roots, itself}
 use Rattle.subtree_map.proofs.Options.{one_value}
 use Rattle.mdcache.specs.Core.{Core}
 use Rattle.mdcache.specs.New.{cached_root, new_caches, new_state, root_leaf}
-use Rattle.dirfrag_steps.specs.State.{State}
+use Rattle.mdcache.specs.State.{State}
 use Rattle.mdcache.proofs.NewLaws.{live_root, no_covers, no_homes, root_live}
 use Rattle.ranked_tree.specs.Held.{AreHeld}
 use Rattle.ranked_tree.specs.Ranked.{new_roots}

@@ -6,10 +6,10 @@ use Rattle.mds_types.specs.declared.refusals.Refusal.{Refusal}
 use Rattle.commit_jobs.specs.declared.jobs.Job.{Job as Begun}
 use Rattle.dentry_cache.specs.Cache.{Leaf, Unsaved}
 use Rattle.inode_table.specs.Dirs.{IsLive}
-use Rattle.dirfrag_steps.specs.Commits.{Begins, BeginsWith, Drops, Ends}
-use Rattle.dirfrag_steps.specs.Objects.{PurgesName, SavesTree}
-use Rattle.dirfrag_steps.specs.Sound.{IsSound}
-use Rattle.dirfrag_steps.specs.State.{State as TreeState}
+use Rattle.mdcache.specs.Commits.{Begins, BeginsWith, Drops, Ends}
+use Rattle.mdcache.specs.Objects.{PurgesName, SavesTree}
+use Rattle.mdcache.specs.Sound.{IsSound}
+use Rattle.mdcache.specs.State.{State as TreeState}
 
 -- directories and leaves stay
 abbrev pub TablesStay : (old new : TreeState) → Type 0

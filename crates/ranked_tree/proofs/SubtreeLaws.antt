@@ -17,14 +17,14 @@ use Rattle.subtree_map.specs.Authority.{HasAuthority, IsSubtrees, Roots}
 use Rattle.subtree_map.specs.Changes.{HaveOneAuthority, IsRootMerge, IsRootSplit}
 use Rattle.subtree_map.specs.Moves.{HasRoomToMove, IsSettled}
 use Rattle.subtree_map.proofs.Options.{one_value}
-use Rattle.dirfrag_steps.specs.Changes.{Makes}
-use Rattle.dirfrag_steps.specs.Going.{rows_but}
-use Rattle.dirfrag_steps.specs.Shown.{shown_tree}
-use Rattle.dirfrag_steps.specs.Sound.{IsSound}
-use Rattle.dirfrag_steps.specs.Splits.{IsMergedInto, IsSplitInto}
-use Rattle.dirfrag_steps.specs.State.{State}
-use Rattle.dirfrag_steps.proofs.HomeLaws.{moved_home, moved_known}
-use Rattle.dirfrag_steps.proofs.MoveSteps.{relocates, replaces}
+use Rattle.mdcache.specs.Changes.{Makes}
+use Rattle.mdcache.specs.Going.{rows_but}
+use Rattle.mdcache.specs.Shown.{shown_tree}
+use Rattle.mdcache.specs.Sound.{IsSound}
+use Rattle.mdcache.specs.Splits.{IsMergedInto, IsSplitInto}
+use Rattle.mdcache.specs.State.{State}
+use Rattle.mdcache.proofs.HomeLaws.{moved_home, moved_known}
+use Rattle.mdcache.proofs.MoveSteps.{relocates, replaces}
 use Rattle.ranked_tree.specs.Subtrees.{AreRoots, FollowChange, GivesToChildren, HasRoomFor, LoseDirectory, SettleMove, SettleMoving, TakesOver}
 use Rattle.ranked_tree.proofs.ChangedTables.{TablesAre, added_tables, grown_tables, moved_tables, removed_tables, set_tables}
 use Rattle.ranked_tree.proofs.RootLaws.{IsSoundChange, child_authority, divided_soundly, grown, lost, merged_authority, merged_soundly, rehomed, sound_on, unchanged}

@@ -10,13 +10,13 @@ use Rattle.inode_table.specs.Dirs.{Covers, IsLive, leaves_of}
 use Rattle.namespace_ops.specs.Changes.{in_directory}
 use Rattle.namespace_ops.specs.declared.plans.Change.{Change}
 use Rattle.namespace_ops.specs.declared.plans.Change.TheVariants.{Add, Set, Remove, Move}
-use Rattle.rank_caches.specs.Caches.{Caches, has_place}
+use Rattle.dentry_cache.specs.Caches.{Caches, has_place}
 use Rattle.subtree_map.specs.Authority.{Leaf, Roots}
 use Rattle.subtree_map.specs.Changes.{is_inside}
-use Rattle.dirfrag_steps.specs.declared.holders.Holders.{Holders}
+use Rattle.mdcache.specs.declared.steps.holders.Holders.{Holders}
 use Rattle.mdcache.specs.Core.{Core}
 use Rattle.mdcache.specs.Core.{LacksPlacesAt}
-use Rattle.dirfrag_steps.specs.State.{State as TreeState}
+use Rattle.mdcache.specs.State.{State as TreeState}
 use Rattle.ranked_tree.specs.Subtrees.{AreRoots, Rules}
 
 -- each place of a live leaf is at the leaf's authority; each root's rank is one of those that have a cache

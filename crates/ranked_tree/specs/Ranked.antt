@@ -4,7 +4,7 @@ use Rattle.std.specs.FinMap as map
 use Rattle.namespace_ops.specs.declared.plans.Change.{Change}
 use Rattle.subtree_map.specs.Authority.{Roots}
 use Rattle.subtree_map.specs.Changes.{Subtrees}
-use Rattle.dirfrag_steps.specs.declared.holders.Holders.{Holders}
+use Rattle.mdcache.specs.declared.steps.holders.Holders.{Holders}
 use Rattle.mdcache.specs.Core.{Core}
 use Rattle.mdcache.specs.Frags.{KeepsState, IsReady as IsReadyIn}
 use Rattle.mdcache.specs.New.{root_leaf}

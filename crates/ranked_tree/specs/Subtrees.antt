@@ -16,8 +16,8 @@ use Rattle.namespace_ops.specs.declared.plans.Change.TheVariants.{Add, Set, Remo
 use Rattle.subtree_map.specs.Authority.{HasAuthority, IsSubtrees, Leaf, Roots}
 use Rattle.subtree_map.specs.Changes.{AreGone, is_inside}
 use Rattle.subtree_map.specs.Moves.{HasRoomToMove, IsSettled}
-use Rattle.dirfrag_steps.specs.Shown.{shown_tree}
-use Rattle.dirfrag_steps.specs.State.{State as TreeState}
+use Rattle.mdcache.specs.Shown.{shown_tree}
+use Rattle.mdcache.specs.State.{State as TreeState}
 
 -- the authority of a leaf in a tree with these roots
 abbrev pub Rules : TreeState → Roots → Leaf → Rank → Type 0

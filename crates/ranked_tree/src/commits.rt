@@ -2,10 +2,10 @@
 ghost use Rattle.std.specs.Prelude.{◌≡◌, ◌<◌, ◌≤◌, None, OnOk, OnErr, IfErr, length};
 ghost use Rattle.mds_types.specs.declared.refusals.Refusal.TheVariants.{NothingToEvict};
 ghost use Rattle.dentry_cache.specs.Cache.{Evicts, NoneGoes};
-ghost use Rattle.rank_caches.specs.Caches.{cache_of, with_cache};
-ghost use Rattle.dirfrag_steps.specs.Commits.{Begins, Drops, Ends};
+ghost use Rattle.dentry_cache.specs.Caches.{cache_of, with_cache};
+ghost use Rattle.mdcache.specs.Commits.{Begins, Drops, Ends};
 ghost use Rattle.mdcache.specs.Frags.{KeepsState};
-ghost use Rattle.dirfrag_steps.specs.Objects.{Purges, SavesTree};
+ghost use Rattle.mdcache.specs.Objects.{Purges, SavesTree};
 ghost use Rattle.ranked_tree.specs.Held.{IsOwned};
 
 use crate::holding::holder_of;

@@ -7,8 +7,8 @@ ghost use Rattle.fragtree.specs.FragTree.{HasLeaf};
 ghost use Rattle.inode_table.specs.Dirs.{IsLive};
 ghost use Rattle.mdcache.specs.Frags.{KeepsState};
 ghost use Rattle.mdcache.specs.Core.{LacksPlaces};
-ghost use Rattle.dirfrag_steps.specs.Reads.{MayNotFind, has_none};
-ghost use Rattle.dirfrag_steps.specs.Shown.{names_of, shown_tree};
+ghost use Rattle.mdcache.specs.Reads.{MayNotFind, has_none};
+ghost use Rattle.mdcache.specs.Shown.{names_of, shown_tree};
 ghost use Rattle.ranked_tree.specs.Held.{IsOwned};
 
 use crate::holding::holder_of;

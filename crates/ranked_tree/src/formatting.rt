@@ -1,7 +1,7 @@
 //! A tree over a store that has no object, with its one subtree root.
 ghost use Rattle.std.specs.Prelude.{◌≡◌, ◌<◌, ◌≤◌, OnOk, IfOk, IfErr};
 ghost use Rattle.std.specs.FinMap as map;
-ghost use Rattle.rank_caches.specs.Caches.{all_of};
+ghost use Rattle.dentry_cache.specs.Caches.{all_of};
 ghost use Rattle.mdcache.specs.New.{MayNotFormat, new_caches, new_state};
 ghost use Rattle.ranked_tree.specs.Ranked.{new_roots};
 

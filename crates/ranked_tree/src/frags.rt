@@ -10,9 +10,9 @@ ghost use Rattle.inode_table.specs.Dirs.{leaves_of};
 ghost use Rattle.namespace_ops.specs.Changes.{IsNumbered, MayChange};
 ghost use Rattle.mdcache.specs.Frags.{KeepsState, LacksToMake};
 ghost use Rattle.mdcache.specs.Core.{LacksPlaces};
-ghost use Rattle.dirfrag_steps.specs.Reads.{MayNotFind};
-ghost use Rattle.dirfrag_steps.specs.Ready.{MayNotBeReady};
-ghost use Rattle.dirfrag_steps.specs.Shown.{shown_tree};
+ghost use Rattle.mdcache.specs.Reads.{MayNotFind};
+ghost use Rattle.mdcache.specs.Ready.{MayNotBeReady};
+ghost use Rattle.mdcache.specs.Shown.{shown_tree};
 ghost use Rattle.ranked_tree.specs.Held.{IsOwned};
 ghost use Rattle.ranked_tree.specs.Ranked.{IsReadyHeld};
 
@@ -34,8 +34,8 @@ impl<S: Store + Drop> Frags for RankedTree<S> {
     ghost use Rattle.dirfrag_codec.specs.EntryRecord.{IsRankNumber};
     ghost use Rattle.mdcache.specs.Frags.{MayRefuse as MayRefuseIn};
     ghost use Rattle.mdcache.proofs.FragsLaws.{keeps_itself, keeps_on, refused_later, refused_so, untouched_by, untouched_on};
-    ghost use Rattle.dirfrag_steps.specs.Made.{IsUntouched};
-    ghost use Rattle.dirfrag_steps.specs.Shown.{shown_tree};
+    ghost use Rattle.mdcache.specs.Made.{IsUntouched};
+    ghost use Rattle.mdcache.specs.Shown.{shown_tree};
     ghost use Rattle.ranked_tree.specs.Ranked.{IsReady as IsRankedReady, KeepsRanked};
 
     ghost content = { λ t. shown_tree t.tree.state };

@@ -2,12 +2,12 @@
 ghost use Rattle.std.specs.Prelude.{◌≡◌};
 ghost use Rattle.inode_table.specs.Dirs.{IsLive};
 ghost use Rattle.namespace_ops.specs.Changes.{MayChange};
-ghost use Rattle.dirfrag_steps.specs.Ranks.{MayHold, MayHoldEach};
-ghost use Rattle.dirfrag_steps.specs.Shown.{shown_tree};
+ghost use Rattle.mdcache.specs.Ranks.{MayHold, MayHoldEach};
+ghost use Rattle.mdcache.specs.Shown.{shown_tree};
 ghost use Rattle.ranked_tree.specs.Held.{AreHolders, IsOwned, first_named, second_named};
 ghost use Rattle.ranked_tree.specs.Subtrees.{Rules};
 
-use dirfrag_steps::Holders;
+use mdcache::Holders;
 use mdcache::MdCache;
 use mds_types::{Frag, Ino, Rank};
 use namespace_ops::Change;

@@ -11,14 +11,14 @@ ghost use Rattle.sorted_map.specs.Places.{puts};
 ghost use Rattle.cached_frag.specs.Rows.{Row, rows_after};
 ghost use Rattle.inode_table.specs.Dirs.{IsLive};
 ghost use Rattle.mdcache.specs.Frags.{KeepsState};
-ghost use Rattle.dirfrag_steps.specs.Pages.{IsPageOf, gathered};
+ghost use Rattle.mdcache.specs.Pages.{IsPageOf, gathered};
 ghost use Rattle.mdcache.specs.Core.{LacksPlaces};
-ghost use Rattle.dirfrag_steps.specs.Reads.{MayNotFind};
-ghost use Rattle.dirfrag_steps.specs.Shown.{names_of, shown_tree};
+ghost use Rattle.mdcache.specs.Reads.{MayNotFind};
+ghost use Rattle.mdcache.specs.Shown.{names_of, shown_tree};
 ghost use Rattle.ranked_tree.specs.Held.{IsOwned};
 
 use crate::holding::holder_of;
-use dirfrag_steps::Page;
+use mdcache::Page;
 use fragtree::FragTree;
 use mdcache::MdCache;
 use mds_types::{Frag, Ino, Listing, Name, PageSize, Refusal};

@@ -5,12 +5,12 @@ ghost use Rattle.fragtree.specs.FragTree.{CanMerge, CanSplit, IsPick, RefusesMer
 ghost use Rattle.namehash.specs.Rjenkins.{hash_of};
 ghost use Rattle.inode_table.specs.Dirs.{IsLive, is_known, leaves_of};
 ghost use Rattle.dentry_cache.specs.Cache.{unsaved};
-ghost use Rattle.rank_caches.specs.Caches.{all_of};
-ghost use Rattle.dirfrag_steps.specs.Cached.{IsKept};
-ghost use Rattle.dirfrag_steps.specs.Ranks.{AreRanks};
-ghost use Rattle.dirfrag_steps.specs.Regroups.{RefusesLeaves};
-ghost use Rattle.dirfrag_steps.specs.Shown.{shown_tree};
-ghost use Rattle.dirfrag_steps.specs.Sound.{IsSound};
+ghost use Rattle.dentry_cache.specs.Caches.{all_of};
+ghost use Rattle.mdcache.specs.Cached.{IsKept};
+ghost use Rattle.mdcache.specs.Ranks.{AreRanks};
+ghost use Rattle.mdcache.specs.Regroups.{RefusesLeaves};
+ghost use Rattle.mdcache.specs.Shown.{shown_tree};
+ghost use Rattle.mdcache.specs.Sound.{IsSound};
 ghost use Rattle.ranked_tree.specs.Held.{AreHeld};
 ghost use Rattle.ranked_tree.specs.Subtrees.{AreRoots};
 

@@ -6,10 +6,10 @@ ghost use Rattle.inode_table.specs.Dirs.{IsLive, is_known, leaves_of};
 ghost use Rattle.namespace_ops.specs.Changes.{in_directory};
 ghost use Rattle.subtree_map.specs.Authority.{Leaf};
 ghost use Rattle.subtree_map.specs.Changes.{HaveOneAuthority, IsRootMerge, IsRootSplit, is_inside};
-ghost use Rattle.dirfrag_steps.specs.Ranks.{MayHold};
-ghost use Rattle.dirfrag_steps.specs.Regroups.{IsFamily};
-ghost use Rattle.mdcache.specs.Regroups.{MayNotMerge, MayNotSplit, MergesLeaves, SplitsLeaf};
-ghost use Rattle.dirfrag_steps.specs.Sound.{IsSound};
+ghost use Rattle.mdcache.specs.Ranks.{MayHold};
+ghost use Rattle.mdcache.specs.Regroups.{IsFamily};
+ghost use Rattle.mdcache.specs.SplitsAndMerges.{MayNotMerge, MayNotSplit, MergesLeaves, SplitsLeaf};
+ghost use Rattle.mdcache.specs.Sound.{IsSound};
 ghost use Rattle.ranked_tree.specs.Held.{AreHeld, IsMergedHere, IsOwned, LacksPlacesFor, LacksPlacesInside, PlacesCome};
 ghost use Rattle.ranked_tree.specs.Subtrees.{AllHave, AreRoots, GivesToChildren, KeepsAuthorities, KeepsRoots, NoNewRank, Rules, TakesOver};
 

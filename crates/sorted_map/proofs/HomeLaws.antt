@@ -5,8 +5,8 @@ use Rattle.std.specs.Cmp.{IsTotalOrder, alike_right}
 use Rattle.std.specs.FinMap.Entries.{is_sorted, below_all}
 use Rattle.sorted_map.proofs.Bools.{left_of, right_of, both_of}
 use Rattle.sorted_map.specs.Places.{IsAt, IsGap, IsPlace}
-use Rattle.chunks.specs.Chunks.{flat, start, AllSome}
-use Rattle.chunks.proofs.FlatLaws.{some_at}
+use Rattle.sorted_map.specs.Chunks.{flat, start, AllSome}
+use Rattle.sorted_map.proofs.FlatLaws.{some_at}
 use Rattle.sorted_map.specs.Homes.{IsAbove, IsHome, starts_above, place_in}
 use Rattle.sorted_map.proofs.PlaceLaws.{less, turned}
 

@@ -1,11 +1,14 @@
 pub mod Bools
+pub mod ChunkLaws
 pub mod CloneLaws
 pub mod ContentLaws
 pub mod Decided
 pub mod EqualLaws
 pub mod Filters
+pub mod FlatLaws
 pub mod HomeLaws
 pub mod MapLaws
 pub mod NatKeys
 pub mod OverlayLaws
 pub mod PlaceLaws
+pub mod RoomLaws

@@ -3,7 +3,7 @@ use Rattle.std.specs.Prelude.{◌≡◌, Bool, false, ℕ, zero, suc, ◌+◌, L
 use Rattle.std.specs.declared.cmp.Ordering.{Ordering}
 use Rattle.std.specs.declared.cmp.Ordering.TheVariants.{Greater}
 use Rattle.std.specs.Ordering.{is_lt}
-use Rattle.chunks.specs.Chunks.{flat, start}
+use Rattle.sorted_map.specs.Chunks.{flat, start}
 use Rattle.sorted_map.specs.Places.{IsGap}
 
 module _ {K V : Type 0} (R : K → K → Ordering) (k : K) where

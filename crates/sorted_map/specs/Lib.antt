@@ -1,9 +1,13 @@
 pub mod ChunkLending
+pub mod Chunks
+pub mod ChunkValues
 pub mod Clones
 pub mod FlatLending
 pub mod Homes
+pub mod Iters
 pub mod Lending
 pub mod Overlay
 pub mod Places
+pub mod RowValues
 pub mod SortedMap
 pub mod Stores

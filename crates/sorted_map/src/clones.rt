@@ -6,9 +6,9 @@ ghost use Rattle.std.specs.FinMap as map;
 ghost use Rattle.sorted_map.specs.SortedMap.{IsClone, contents};
 ghost use Rattle.sorted_map.specs.Clones.{AddsClone, ClonePair, ends_below};
 
+use crate::chunks::Iter;
 use crate::keys::ExactOrd;
 use crate::map::{SortedMap, Store};
-use chunks::Iter;
 use std::alloc::{AllocError, Global};
 
 impl<K: ExactOrd + Clone, V: Clone> SortedMap<K, V> {

@@ -4,9 +4,9 @@ ghost use Rattle.std.specs.Cmp.{on_per, on_equiv, and_per, and_equiv};
 ghost use Rattle.std.specs.Cmp.Lexicographic.{pointwise, lists_per, lists_equiv};
 ghost use Rattle.sorted_map.specs.SortedMap.{TellsApart, contents, pairs_eq};
 
+use crate::chunks::Iter;
 use crate::keys::ExactOrd;
 use crate::map::SortedMap;
-use chunks::Iter;
 
 impl<K: ExactOrd, V: PartialEq> PartialEq for SortedMap<K, V> {
     ghost eq = { λ a b. pointwise (pairs_eq K.eq V.eq) a.entries b.entries };

@@ -5,9 +5,9 @@ ghost use Rattle.sorted_map.specs.SortedMap.{contents};
 ghost use Rattle.sorted_map.specs.Overlay.{overlaid};
 
 use crate::chunked::map::ChunkMap;
+use crate::chunks::MOST;
 use crate::keys::ExactOrd;
 use crate::map::{SortedMap, Store};
-use chunks::MOST;
 use std::alloc::{AllocError, Global};
 use std::mem;
 

@@ -5,6 +5,7 @@
 #![tactic(auto)]
 
 mod chunked;
+mod chunks;
 mod clones;
 mod compare;
 mod edits;

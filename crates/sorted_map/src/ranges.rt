@@ -4,9 +4,9 @@ ghost use Rattle.std.specs.FinMap as map;
 ghost use Rattle.std.specs.FinMap.Entries.{where_key};
 ghost use Rattle.sorted_map.specs.SortedMap.{contents, after, is_from};
 
+use crate::chunks::Iter;
 use crate::keys::{ExactOrd, Probe};
 use crate::map::{SortedMap, Store};
-use chunks::Iter;
 
 impl<K: ExactOrd, V> SortedMap<K, V> {
     /// The pairs in the order of their keys.

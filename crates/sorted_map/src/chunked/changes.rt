@@ -5,8 +5,8 @@ ghost use Rattle.sorted_map.specs.SortedMap.{contents, first_pair};
 
 use crate::chunked::map::ChunkMap;
 use crate::chunked::places::spot;
+use crate::chunks::{put_new, put_value, take_out};
 use crate::keys::{ExactOrd, Probe};
-use chunks::{put_new, put_value, take_out};
 
 impl<K: ExactOrd + Drop, V: Drop> ChunkMap<K, V> {
     /// Gives the key a value, and returns the one that it had. A new key needs room.

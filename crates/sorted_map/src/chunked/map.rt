@@ -3,11 +3,11 @@ ghost use Rattle.std.specs.Prelude.{◌≡◌, ◌≤◌, ◌↔◌, T, IsTrue, 
 ghost use Rattle.std.specs.FinMap as map;
 ghost use Rattle.std.specs.FinMap.{is_sorted};
 ghost use Rattle.sorted_map.specs.SortedMap.{contents, first_pair, last_pair};
-ghost use Rattle.chunks.specs.Chunks.{room_in};
+ghost use Rattle.sorted_map.specs.Chunks.{room_in};
 
 use crate::chunked::places::spot;
+use crate::chunks::{Chunks, HALF};
 use crate::keys::{ExactOrd, Probe};
-use chunks::{Chunks, HALF};
 use std::alloc::{AllocError, Global};
 use std::marker::Model;
 
@@ -21,7 +21,7 @@ impl<K: ExactOrd, V> Model for ChunkMap<K, V> {
     ghost use Rattle.std.specs.Prelude.{T};
     ghost use Rattle.std.specs.FinMap.{is_sorted};
     ghost use Rattle.sorted_map.specs.SortedMap.{Shown, shown_code};
-    ghost use Rattle.chunks.specs.Chunks.{flat, room_in, AllSome};
+    ghost use Rattle.sorted_map.specs.Chunks.{flat, room_in, AllSome};
 
     ghost Value = { Shown K V };
 

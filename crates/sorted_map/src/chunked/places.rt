@@ -3,12 +3,12 @@ ghost use Rattle.std.specs.Prelude.{◌≡◌, ◌<◌, [], T, OnOk, length, sli
 ghost use Rattle.std.specs.List.Sorted.{IsSearchInRange};
 ghost use Rattle.std.specs.FinMap.{is_sorted};
 ghost use Rattle.sorted_map.specs.Places.{IsPlace};
-ghost use Rattle.chunks.specs.Chunks.{flat, AllSome};
+ghost use Rattle.sorted_map.specs.Chunks.{flat, AllSome};
 ghost use Rattle.sorted_map.specs.Homes.{place_in, starts_above, IsHome};
 
+use crate::chunks::Chunk;
 use crate::keys::Probe;
 use crate::places::place;
-use chunks::Chunk;
 
 /// The chunk of the probe's key, and its place there, or that where it would go.
 pub(crate) fn spot<K: Ord, V, Q: Probe<K>>(

@@ -4,12 +4,12 @@ ghost use Rattle.std.specs.FinMap as map;
 ghost use Rattle.std.specs.FinMap.{is_sorted};
 ghost use Rattle.std.specs.FinMap.Entries.{where_key};
 ghost use Rattle.sorted_map.specs.SortedMap.{contents, after, is_from};
-ghost use Rattle.chunks.specs.Chunks.{flat, start, total, AllSome};
+ghost use Rattle.sorted_map.specs.Chunks.{flat, start, total, AllSome};
 
 use crate::chunked::map::ChunkMap;
 use crate::chunked::places::spot;
+use crate::chunks::{Chunk, Iter};
 use crate::keys::{ExactOrd, Probe};
-use chunks::{Chunk, Iter};
 
 impl<K: ExactOrd, V> ChunkMap<K, V> {
     /// The pairs in the order of their keys.

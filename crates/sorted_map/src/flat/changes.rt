@@ -3,10 +3,10 @@ ghost use Rattle.std.specs.Prelude.{◌≡◌, ℕ, ◌+◌, ◌-◌, ◌<◌, �
 ghost use Rattle.std.specs.FinMap as map;
 ghost use Rattle.sorted_map.specs.SortedMap.{contents, first_pair, is_from};
 
+use crate::chunks::vectors::{drop_front, put_at, replaced};
 use crate::flat::map::FlatMap;
 use crate::keys::{ExactOrd, Probe};
 use crate::places::{place, place_from, place_from_end};
-use chunks::vectors::{drop_front, put_at, replaced};
 
 impl<K: ExactOrd + Drop, V: Drop> FlatMap<K, V> {
     /// Gives the key a value, and returns the one that it had. A new key needs room.

@@ -4,10 +4,10 @@ ghost use Rattle.std.specs.FinMap as map;
 ghost use Rattle.std.specs.FinMap.Entries.{where_key};
 ghost use Rattle.sorted_map.specs.SortedMap.{contents, after, is_from};
 
+use crate::chunks::Iter;
 use crate::flat::map::FlatMap;
 use crate::keys::{ExactOrd, Probe};
 use crate::places::{place_after, place_from};
-use chunks::Iter;
 
 impl<K: ExactOrd, V> FlatMap<K, V> {
     /// The pairs in the order of their keys.

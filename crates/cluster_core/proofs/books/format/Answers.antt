@@ -1,6 +1,6 @@
 -- An empty book is sound.
 use Rattle.std.proofs.Common.{length, ap, ◌∙◌}
-use Rattle.rank_caches.specs.Caches.{Caches}
+use Rattle.dentry_cache.specs.Caches.{Caches}
 use Rattle.cluster_core.proofs.NewBook.{new_count, sound-empty}
 use Rattle.cluster_core.proofs.books.format.Goals as goal
 

@@ -1,7 +1,7 @@
 use Rattle.std.specs.Prelude.{MatchBool}
 use Rattle.std.proofs.Common.{subst}
 use Rattle.subtree_map.specs.Authority.{Roots}
-use Rattle.dirfrag_steps.specs.State.{State}
+use Rattle.mdcache.specs.State.{State}
 use Rattle.cluster_core.specs.Master.{HasForeign, MayTouchEach}
 use Rattle.cluster_core.proofs.MasterLaws.{tells}
 use Rattle.cluster_core.proofs.masters.lacks_grant.Goals as goal

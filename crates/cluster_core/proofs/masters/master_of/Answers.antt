@@ -3,7 +3,7 @@ use Rattle.mds_types.specs.Leaf.{Leaf}
 use Rattle.mds_types.specs.Tree.{is_directory}
 use Rattle.inode_table.specs.Dirs.{Covers, Homes, IsLive}
 use Rattle.inode_table.proofs.TableLaws.{known_is}
-use Rattle.dirfrag_steps.specs.Shown.{shown_tree}
+use Rattle.mdcache.specs.Shown.{shown_tree}
 use Rattle.cluster_core.proofs.MasterLaws.{main_directory}
 use Rattle.ranked_tree.proofs.SubtreeLaws.{over}
 use Rattle.cluster_core.proofs.masters.master_of.Goals as goal

@@ -7,7 +7,7 @@ use Rattle.inode_table.specs.Numbers.{Supply, offer}
 use Rattle.sessions.specs.Rooms.{table}
 use Rattle.mdcache.specs.Frags.{MayRefuse}
 use Rattle.ranked_tree.specs.Ranked.{IsReady as IsReadyIn}
-use Rattle.dirfrag_steps.specs.Shown.{shown_tree}
+use Rattle.mdcache.specs.Shown.{shown_tree}
 use Rattle.cluster_core.specs.Master.{IsMasterIn, MayTouchAllIn}
 use Rattle.cluster_core.specs.declared.applying.Prepared.{Prepared}
 use Rattle.cluster_core.specs.Prepared.{IsMadeReady, IsPrepared, IsUnready, outcome_with}

@@ -1,6 +1,6 @@
 use Rattle.std.proofs.Common.{◌∙◌, sym, ap}
 use Rattle.std.specs.Option.{option_copied}
-use Rattle.dirfrag_steps.proofs.Steps.{absent_told, clean_told, unclean_told}
+use Rattle.mdcache.proofs.StepLaws.{absent_told, clean_told, unclean_told}
 use Rattle.mdcache.proofs.beginning.unsaved.Goals as goal
 
 pub returns-in-Some : goal.returns-in-Some

@@ -1,4 +1,4 @@
-use Rattle.dirfrag_steps.proofs.EmptyLaws.{page_told}
+use Rattle.mdcache.proofs.EmptyLaws.{page_told}
 use Rattle.mdcache.proofs.formatting.has_objects.Goals as goal
 
 pub returns-in-Ok-clause-found : goal.returns-in-Ok-clause-found

@@ -6,7 +6,7 @@ use Rattle.sorted_map.specs.Places.{puts}
 use Rattle.cached_frag.specs.Cached.{Cached, shown}
 use Rattle.cached_frag.specs.Rows.{Row, rows_after, rows_left}
 use Rattle.dentry_cache.specs.Cache.{HasCached}
-use Rattle.dirfrag_steps.specs.Pages.{IsPageOf}
+use Rattle.mdcache.specs.Pages.{IsPageOf}
 use Rattle.mdcache.proofs.GatherLaws.{leaf_taken}
 use Rattle.mdcache.proofs.listing.gather_cached.Goals as goal
 

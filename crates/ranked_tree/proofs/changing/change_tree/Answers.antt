@@ -1,6 +1,6 @@
 use Rattle.std.proofs.Common.{Option, subst}
 use Rattle.mds_types.specs.declared.ids.Ino.{Ino}
-use Rattle.dirfrag_steps.specs.declared.holders.Holders.{Holders}
+use Rattle.mdcache.specs.declared.steps.holders.Holders.{Holders}
 use Rattle.mdcache.specs.Frags.{IsReady}
 use Rattle.ranked_tree.specs.Subtrees.{LoseDirectory}
 use Rattle.ranked_tree.proofs.HeldChanges.{change_held}

@@ -7,7 +7,7 @@ use Rattle.inode_table.specs.TreeTable.{home_at}
 use Rattle.namespace_ops.specs.Changes.{MayChange}
 use Rattle.namespace_ops.specs.declared.plans.Change.{Change}
 use Rattle.subtree_map.specs.Moves.{HasRoomToMove}
-use Rattle.dirfrag_steps.specs.Shown.{shown_tree}
+use Rattle.mdcache.specs.Shown.{shown_tree}
 use Rattle.ranked_tree.specs.Ranked.{IsReadyHeld}
 use Rattle.ranked_tree.specs.Subtrees.{HasRoomFor}
 use Rattle.ranked_tree.proofs.SubtreeLaws.{over, room_for}

@@ -1,6 +1,6 @@
 use Rattle.std.proofs.Common.{inl, refl, rules}
 use Rattle.inode_table.specs.Dirs.{IsLive}
-use Rattle.dirfrag_steps.specs.Commits.{leaf_of}
+use Rattle.mdcache.specs.Commits.{leaf_of}
 use Rattle.ranked_tree.proofs.HeldLaws.{owned_still}
 use Rattle.ranked_tree.proofs.Stays.{ended, none_stands}
 use Rattle.ranked_tree.proofs.commits.end.Goals as goal

@@ -1,9 +1,9 @@
 use Rattle.std.proofs.Common.{◌≡◌, sym, ap, ◌∙◌}
-use Rattle.dirfrag_steps.specs.Reads.{has_none}
-use Rattle.dirfrag_steps.specs.Shown.{names_of}
-use Rattle.dirfrag_steps.specs.State.{State as TreeState}
+use Rattle.mdcache.specs.Reads.{has_none}
+use Rattle.mdcache.specs.Shown.{names_of}
+use Rattle.mdcache.specs.State.{State as TreeState}
 use Rattle.mdcache.proofs.FragsLaws.{keeps_on}
-use Rattle.dirfrag_steps.proofs.WalkLaws.{first_within, passed, rest_within}
+use Rattle.mdcache.proofs.WalkLaws.{first_within, passed, rest_within}
 use Rattle.ranked_tree.proofs.AskLaws.{live_still}
 use Rattle.ranked_tree.proofs.emptiness.are_empty.Goals as goal
 

@@ -2,9 +2,9 @@
 use Rattle.std.proofs.Common.{◌≡◌}
 use Rattle.std.specs.List.{list_all}
 use Rattle.mdcache.specs.Frags.{KeepsState}
-use Rattle.dirfrag_steps.specs.Reads.{has_none}
-use Rattle.dirfrag_steps.specs.Shown.{names_of}
-use Rattle.dirfrag_steps.proofs.WalkLaws.{AreWithin}
+use Rattle.mdcache.specs.Reads.{has_none}
+use Rattle.mdcache.specs.Shown.{names_of}
+use Rattle.mdcache.proofs.WalkLaws.{AreWithin}
 use Rattle.ranked_tree.specs.Held.{IsOwned}
 use Rattle.ranked_tree.proofs.emptiness.are_empty.Given as goal
 

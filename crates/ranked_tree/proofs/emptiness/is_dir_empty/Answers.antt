@@ -2,9 +2,9 @@ use Rattle.std.proofs.Common.{List, refl, ap, ◌∙◌}
 use Rattle.std.specs.List.{list_all}
 use Rattle.mds_types.specs.Frag.{Fragment}
 use Rattle.inode_table.specs.Dirs.{leaves_of}
-use Rattle.dirfrag_steps.specs.Reads.{has_none}
-use Rattle.dirfrag_steps.specs.Shown.{names_of}
-use Rattle.dirfrag_steps.proofs.WalkLaws.{told_empty}
+use Rattle.mdcache.specs.Reads.{has_none}
+use Rattle.mdcache.specs.Shown.{names_of}
+use Rattle.mdcache.proofs.WalkLaws.{told_empty}
 use Rattle.ranked_tree.proofs.AskLaws.{dir_known, leaf_live, map_if_ok}
 use Rattle.ranked_tree.proofs.emptiness.is_dir_empty.Goals as goal
 

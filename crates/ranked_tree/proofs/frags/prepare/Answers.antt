@@ -1,7 +1,7 @@
 use Rattle.std.proofs.Common.{sym, ap, subst}
 use Rattle.std.proofs.lemmas.Result.{on_ok_weaker}
-use Rattle.dirfrag_steps.specs.State.{State as TreeState}
-use Rattle.dirfrag_steps.specs.Ranks.{MayComeFor}
+use Rattle.mdcache.specs.State.{State as TreeState}
+use Rattle.mdcache.specs.Ranks.{MayComeFor}
 use Rattle.ranked_tree.specs.Held.{AreHolders}
 use Rattle.ranked_tree.proofs.HeldLaws.{owned_kept}
 use Rattle.ranked_tree.proofs.HolderLaws.{come_held}

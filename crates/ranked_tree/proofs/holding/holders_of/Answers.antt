@@ -1,8 +1,8 @@
 use Rattle.std.proofs.Common.{sym, subst}
 use Rattle.inode_table.specs.Dirs.{IsLive}
 use Rattle.subtree_map.specs.Authority.{Leaf}
-use Rattle.dirfrag_steps.specs.declared.holders.Holders.{Holders}
-use Rattle.dirfrag_steps.specs.Ranks.{MayHold}
+use Rattle.mdcache.specs.declared.steps.holders.Holders.{Holders}
+use Rattle.mdcache.specs.Ranks.{MayHold}
 use Rattle.ranked_tree.specs.Subtrees.{Rules}
 use Rattle.ranked_tree.proofs.HolderLaws.{may_hold_each, named_live, one_holder}
 use Rattle.ranked_tree.proofs.holding.holders_of.Goals as goal

@@ -1,11 +1,11 @@
 use Rattle.std.proofs.Common.{◌≡◌, ap, ◌∙◌}
 use Rattle.std.specs.Option.{option_copied}
 use Rattle.mds_types.specs.Frag.{Fragment}
-use Rattle.dirfrag_steps.specs.Shown.{names_of}
-use Rattle.dirfrag_steps.specs.State.{State as TreeState}
+use Rattle.mdcache.specs.Shown.{names_of}
+use Rattle.mdcache.specs.State.{State as TreeState}
 use Rattle.mdcache.proofs.FragsLaws.{keeps_on}
 use Rattle.mdcache.proofs.GatherLaws.{leaf_more}
-use Rattle.dirfrag_steps.proofs.WalkLaws.{first_within, rest_within}
+use Rattle.mdcache.proofs.WalkLaws.{first_within, rest_within}
 use Rattle.ranked_tree.proofs.AskLaws.{live_still}
 use Rattle.ranked_tree.proofs.listing.gather_leaves.Goals as goal
 

@@ -4,9 +4,9 @@ use Rattle.std.specs.Option.{option_copied}
 use Rattle.mds_types.specs.Frag.{Fragment}
 use Rattle.cached_frag.specs.Rows.{Row}
 use Rattle.mdcache.specs.Frags.{KeepsState}
-use Rattle.dirfrag_steps.specs.Pages.{IsPageOf, gathered}
-use Rattle.dirfrag_steps.specs.Shown.{names_of}
-use Rattle.dirfrag_steps.proofs.WalkLaws.{AreWithin}
+use Rattle.mdcache.specs.Pages.{IsPageOf, gathered}
+use Rattle.mdcache.specs.Shown.{names_of}
+use Rattle.mdcache.proofs.WalkLaws.{AreWithin}
 use Rattle.ranked_tree.specs.Held.{IsOwned}
 use Rattle.ranked_tree.proofs.listing.gather_leaves.Given as goal
 

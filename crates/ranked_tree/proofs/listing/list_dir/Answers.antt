@@ -4,8 +4,8 @@ use Rattle.std.specs.Option.{option_copied}
 use Rattle.mds_types.specs.Frag.{Fragment}
 use Rattle.cached_frag.specs.Rows.{Row}
 use Rattle.inode_table.specs.Dirs.{leaves_of}
-use Rattle.dirfrag_steps.specs.Pages.{gathered}
-use Rattle.dirfrag_steps.specs.Shown.{names_of}
+use Rattle.mdcache.specs.Pages.{gathered}
+use Rattle.mdcache.specs.Shown.{names_of}
 use Rattle.mdcache.proofs.GatherLaws.{gathers_listed}
 use Rattle.ranked_tree.proofs.AskLaws.{dir_known, leaf_live, map_if_ok}
 use Rattle.ranked_tree.proofs.listing.list_dir.Goals as goal

@@ -4,9 +4,9 @@ use Rattle.fragtree.specs.FragTree.{CanMerge}
 use Rattle.inode_table.specs.Dirs.{IsLive, is_known, leaves_of}
 use Rattle.subtree_map.specs.Authority.{Leaf}
 use Rattle.subtree_map.specs.Changes.{HaveOneAuthority, is_inside}
-use Rattle.dirfrag_steps.specs.Ranks.{KeepsCaches}
+use Rattle.mdcache.specs.Ranks.{KeepsCaches}
 use Rattle.mdcache.specs.Core.{LacksPlacesAt}
-use Rattle.dirfrag_steps.specs.State.{State as TreeState}
+use Rattle.mdcache.specs.State.{State as TreeState}
 use Rattle.mdcache.proofs.FragsLaws.{lacked_at}
 use Rattle.ranked_tree.specs.Held.{IsMergedHere, LacksPlacesInside}
 use Rattle.ranked_tree.specs.Subtrees.{AllHave}

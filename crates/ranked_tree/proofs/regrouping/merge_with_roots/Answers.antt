@@ -1,7 +1,7 @@
 use Rattle.std.proofs.Common.{Err, refl, sym, subst}
 use Rattle.subtree_map.specs.Authority.{Roots}
 use Rattle.subtree_map.specs.Changes.{HaveOneAuthority, IsRootMerge}
-use Rattle.mdcache.specs.Regroups.{MergesLeaves}
+use Rattle.mdcache.specs.SplitsAndMerges.{MergesLeaves}
 use Rattle.ranked_tree.specs.Held.{IsMergedHere, LacksPlacesInside, PlacesCome}
 use Rattle.ranked_tree.specs.Subtrees.{AllHave}
 use Rattle.ranked_tree.proofs.HeldRegroups.{merge_held, unmerged_held}

@@ -1,7 +1,7 @@
 use Rattle.std.proofs.Common.{inl, inr}
 use Rattle.fragtree.specs.FragTree.{CanMerge, RefusesMerge}
 use Rattle.inode_table.specs.Dirs.{leaves_of}
-use Rattle.dirfrag_steps.proofs.SplitMade.{not_begun}
+use Rattle.mdcache.proofs.SplitMade.{not_begun}
 use Rattle.ranked_tree.proofs.regrouping.reserve_merge.Goals as goal
 
 pub returns-in-Err-clause-refused : goal.returns-in-Err-clause-refused

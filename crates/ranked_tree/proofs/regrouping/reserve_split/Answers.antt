@@ -1,8 +1,8 @@
 use Rattle.std.proofs.Common.{◌≡◌, ◌^◌, ℕ, inl, inr, subst, rules}
 use Rattle.fragtree.specs.FragTree.{CanSplit, RefusesSplit}
 use Rattle.inode_table.specs.Dirs.{leaves_of}
-use Rattle.dirfrag_steps.specs.Regroups.{LacksCounts}
-use Rattle.dirfrag_steps.proofs.SplitMade.{not_begun}
+use Rattle.mdcache.specs.Regroups.{LacksCounts}
+use Rattle.mdcache.proofs.SplitMade.{not_begun}
 use Rattle.ranked_tree.proofs.regrouping.reserve_split.Goals as goal
 
 pub returns-in-Err-clause-refused : goal.returns-in-Err-clause-refused

@@ -1,7 +1,7 @@
 use Rattle.std.proofs.Common.{◌+◌, ◌^◌, ap, subst}
 use Rattle.mdcache.specs.Core.{LacksPlacesAt}
-use Rattle.dirfrag_steps.specs.Regroups.{IsFamily}
-use Rattle.dirfrag_steps.specs.State.{State as TreeState}
+use Rattle.mdcache.specs.Regroups.{IsFamily}
+use Rattle.mdcache.specs.State.{State as TreeState}
 use Rattle.mdcache.proofs.FragsLaws.{lacked_at}
 use Rattle.ranked_tree.specs.Held.{LacksPlacesFor}
 use Rattle.ranked_tree.specs.Subtrees.{Rules}

@@ -1,8 +1,8 @@
 use Rattle.std.proofs.Common.{◌+◌, ◌^◌, Err, refl, subst}
 use Rattle.subtree_map.specs.Authority.{Roots}
 use Rattle.subtree_map.specs.Changes.{IsRootSplit}
-use Rattle.dirfrag_steps.specs.Regroups.{IsFamily}
-use Rattle.mdcache.specs.Regroups.{SplitsLeaf}
+use Rattle.mdcache.specs.Regroups.{IsFamily}
+use Rattle.mdcache.specs.SplitsAndMerges.{SplitsLeaf}
 use Rattle.ranked_tree.specs.Held.{LacksPlacesFor, PlacesCome}
 use Rattle.ranked_tree.specs.Subtrees.{Rules}
 use Rattle.ranked_tree.proofs.HeldRegroups.{split_held, unsplit_held}

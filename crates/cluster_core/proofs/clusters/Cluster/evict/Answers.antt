@@ -1,6 +1,6 @@
 use Rattle.std.proofs.Common.{◌≡◌, length, refl, sym, ap, ◌∙◌, arith}
 use Rattle.std.proofs.lemmas.Bool.{ltb-true}
-use Rattle.dirfrag_steps.specs.Shown.{shown_tree}
+use Rattle.mdcache.specs.Shown.{shown_tree}
 use Rattle.sessions.specs.Rooms.{table}
 use Rattle.cluster_core.specs.State.{Core, state_of}
 use Rattle.cluster_core.proofs.Worked.{at_rank, worked}

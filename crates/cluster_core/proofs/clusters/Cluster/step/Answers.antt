@@ -1,5 +1,5 @@
 use Rattle.std.proofs.Common.{subst}
-use Rattle.dirfrag_steps.specs.Cached.{IsKept}
+use Rattle.mdcache.specs.Cached.{IsKept}
 use Rattle.cluster_core.specs.Sound.{AreCached}
 use Rattle.cluster_core.specs.State.{Core}
 use Rattle.cluster_core.proofs.Stepped.{sound-step}

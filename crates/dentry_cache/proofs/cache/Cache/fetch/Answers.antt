@@ -1,5 +1,5 @@
 use Rattle.std.specs.Map.{lookup}
-use Rattle.frag_fetch.specs.Loading.{object_of}
+use Rattle.dentry_cache.specs.Loading.{object_of}
 use Rattle.dentry_cache.specs.Cache.{leaf_is}
 use Rattle.dentry_cache.proofs.UsedLaws.{fetched_from, left_alone, left_from, used_unsaved, was_absent}
 use Rattle.dentry_cache.proofs.LeavingLaws.{beside, found_from, found_used, leaves_from, used_leaves}

@@ -1,4 +1,4 @@
-use Rattle.frag_fetch.specs.Loading.{object_of}
+use Rattle.dentry_cache.specs.Loading.{object_of}
 use Rattle.std.proofs.lemmas.Result.{on_ok_weaker, on_err_weaker}
 use Rattle.dentry_cache.proofs.UsedLaws.{fetched_unsaved, left_with, still_absent, takes}
 use Rattle.dentry_cache.proofs.LeavingLaws.{found_loaded, held_leaves}

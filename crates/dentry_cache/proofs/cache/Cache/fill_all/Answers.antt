@@ -1,7 +1,7 @@
 use Rattle.std.proofs.Common.{rules, ◌≡◌, suc, List, length, sym, ap, subst, ◌∙◌, arith}
 use Rattle.std.proofs.lemmas.List.{nil_from_length}
 use Rattle.std.specs.Vec.Iter.{into_iter_items}
-use Rattle.frag_fetch.specs.Loading.{object_of}
+use Rattle.dentry_cache.specs.Loading.{object_of}
 use Rattle.dentry_cache.specs.declared.parts.Part.{Part}
 use Rattle.dentry_cache.specs.Cache.{Held, held}
 use Rattle.dentry_cache.specs.Standing.{Each}

@@ -3,7 +3,7 @@ use Rattle.std.specs.FinMap as map
 use Rattle.std.specs.Map.{lookup}
 use Rattle.mds_types.specs.Frag.{child_of}
 use Rattle.cached_frag.specs.Cached.{Cached, shown}
-use Rattle.frag_fetch.specs.Loading.{object_of}
+use Rattle.dentry_cache.specs.Loading.{object_of}
 use Rattle.dentry_cache.specs.Cache.{HasCached, cached, leaf_is}
 use Rattle.dentry_cache.specs.Leaving.{IsLeft}
 use Rattle.dentry_cache.specs.Divided.{AreReady, IsFoundReady, spare}

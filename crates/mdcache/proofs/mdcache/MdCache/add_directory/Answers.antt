@@ -7,15 +7,15 @@ use Rattle.inode_table.specs.Dirs.{MayCome}
 use Rattle.inode_table.proofs.TableLaws.{may_come}
 use Rattle.namespace_ops.specs.Changes.{MayChange}
 use Rattle.namespace_ops.specs.declared.plans.Change.TheVariants.{Add}
-use Rattle.rank_caches.specs.Caches.{all_of, cache_of, first_of}
+use Rattle.dentry_cache.specs.Caches.{all_of, cache_of, first_of}
 use Rattle.mdcache.specs.Core.{Core}
-use Rattle.dirfrag_steps.specs.Cached.{state_of}
-use Rattle.dirfrag_steps.specs.Changes.{Makes, first_leaf}
-use Rattle.dirfrag_steps.specs.Made.{IsRight}
-use Rattle.dirfrag_steps.specs.Ranks.{MayHold}
-use Rattle.dirfrag_steps.specs.Shown.{shown_tree}
-use Rattle.dirfrag_steps.proofs.AddSteps.{place_stays}
-use Rattle.dirfrag_steps.proofs.AtChanges.{added_kept, added_made, added_only, added_right, kept_holds}
+use Rattle.mdcache.specs.Cached.{state_of}
+use Rattle.mdcache.specs.Changes.{Makes, first_leaf}
+use Rattle.mdcache.specs.Made.{IsRight}
+use Rattle.mdcache.specs.Ranks.{MayHold}
+use Rattle.mdcache.specs.Shown.{shown_tree}
+use Rattle.mdcache.proofs.AddSteps.{place_stays}
+use Rattle.mdcache.proofs.AtChanges.{added_kept, added_made, added_only, added_right, kept_holds}
 use Rattle.mdcache.proofs.mdcache.MdCache.add_directory.Goals as goal
 
 pub adopt-requires-clause-may : goal.adopt-requires-clause-may

@@ -1,15 +1,15 @@
 use Rattle.std.proofs.Common.{◌+◌, Bool, Some, cond, subst, sym, ap}
 use Rattle.namespace_ops.specs.Changes.{MayChange}
 use Rattle.namespace_ops.specs.declared.plans.Change.TheVariants.{Add}
-use Rattle.rank_caches.specs.Caches.{all_of}
+use Rattle.dentry_cache.specs.Caches.{all_of}
 use Rattle.mdcache.specs.Core.{Core}
-use Rattle.dirfrag_steps.specs.Cached.{state_of}
-use Rattle.dirfrag_steps.specs.Changes.{Makes, with_directory}
-use Rattle.dirfrag_steps.specs.Made.{IsRight}
-use Rattle.dirfrag_steps.specs.Ranks.{MayHold}
-use Rattle.dirfrag_steps.specs.Shown.{shown_tree}
-use Rattle.dirfrag_steps.proofs.AtChanges.{named_is, named_kept, named_only}
-use Rattle.dirfrag_steps.proofs.ChangeLaws.{changes_are_right}
+use Rattle.mdcache.specs.Cached.{state_of}
+use Rattle.mdcache.specs.Changes.{Makes, with_directory}
+use Rattle.mdcache.specs.Made.{IsRight}
+use Rattle.mdcache.specs.Ranks.{MayHold}
+use Rattle.mdcache.specs.Shown.{shown_tree}
+use Rattle.mdcache.proofs.AtChanges.{named_is, named_kept, named_only}
+use Rattle.mdcache.proofs.ChangeLaws.{changes_are_right}
 use Rattle.mdcache.proofs.mdcache.MdCache.add_file.Goals as goal
 
 pub returns-clause-made : goal.returns-clause-made

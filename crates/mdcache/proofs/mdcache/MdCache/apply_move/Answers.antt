@@ -1,6 +1,6 @@
 use Rattle.std.proofs.Common.{sym, ap, ◌∙◌}
 use Rattle.namespace_ops.specs.declared.plans.Change.TheVariants.{Move}
-use Rattle.dirfrag_steps.specs.Going.{dir_going}
+use Rattle.mdcache.specs.Going.{dir_going}
 use Rattle.mdcache.proofs.FragsSteps.{made_after, move_went}
 use Rattle.mdcache.proofs.mdcache.MdCache.apply_move.Goals as goal
 

@@ -5,13 +5,13 @@ use Rattle.mds_types.specs.declared.refusals.Refusal.{Refusal}
 use Rattle.commit_jobs.specs.Snap.{IsBelowEnd}
 use Rattle.dentry_cache.specs.Cache.{unsaved}
 use Rattle.mdcache.specs.Core.{Core}
-use Rattle.dirfrag_steps.specs.Cached.{state_of}
-use Rattle.dirfrag_steps.specs.Commits.{Begins, IsAtEnd}
-use Rattle.dirfrag_steps.proofs.Steps.{begun_is, begun_kept, can_begin, lacks_number, none_found, not_begun, not_begun_kept, unsaved_from}
-use Rattle.rank_caches.specs.Caches.{all_of}
-use Rattle.dirfrag_steps.specs.Ranks.{MayHold}
-use Rattle.dirfrag_steps.proofs.AtRanks.{only_on}
-use Rattle.dirfrag_steps.proofs.AtRegroups.{begins_none, none_told, told_at}
+use Rattle.mdcache.specs.Cached.{state_of}
+use Rattle.mdcache.specs.Commits.{Begins, IsAtEnd}
+use Rattle.mdcache.proofs.StepLaws.{begun_is, begun_kept, can_begin, lacks_number, none_found, not_begun, not_begun_kept, unsaved_from}
+use Rattle.dentry_cache.specs.Caches.{all_of}
+use Rattle.mdcache.specs.Ranks.{MayHold}
+use Rattle.mdcache.proofs.AtRanks.{only_on}
+use Rattle.mdcache.proofs.AtRegroups.{begins_none, none_told, told_at}
 use Rattle.mdcache.proofs.mdcache.MdCache.begin.Goals as goal
 
 pub returns-in-Err-clause-begun : goal.returns-in-Err-clause-begun

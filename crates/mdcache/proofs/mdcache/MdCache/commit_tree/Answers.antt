@@ -1,11 +1,11 @@
 use Rattle.std.proofs.Common.{◌≡◌, subst, sym, ◌∙◌}
 use Rattle.std.specs.Prelude.{Ok, string_bytes}
-use Rattle.rank_caches.specs.Caches.{all_of}
+use Rattle.dentry_cache.specs.Caches.{all_of}
 use Rattle.mdcache.specs.Core.{Core}
-use Rattle.dirfrag_steps.specs.Cached.{state_of}
-use Rattle.dirfrag_steps.specs.Objects.{SavesTree}
-use Rattle.dirfrag_steps.specs.State.{tree_text}
-use Rattle.dirfrag_steps.proofs.Steps.{tree_is, tree_kept}
+use Rattle.mdcache.specs.Cached.{state_of}
+use Rattle.mdcache.specs.Objects.{SavesTree}
+use Rattle.mdcache.specs.State.{tree_text}
+use Rattle.mdcache.proofs.StepLaws.{tree_is, tree_kept}
 use Rattle.mdcache.proofs.mdcache.MdCache.commit_tree.Goals as goal
 
 pub invariant_of-self-2 : goal.invariant_of-self-2

@@ -1,9 +1,9 @@
 use Rattle.std.proofs.Common.{subst}
-use Rattle.rank_caches.specs.Caches.{all_of}
+use Rattle.dentry_cache.specs.Caches.{all_of}
 use Rattle.mdcache.specs.Core.{Core}
-use Rattle.dirfrag_steps.specs.Cached.{state_of}
-use Rattle.dirfrag_steps.specs.Commits.{IsDropped}
-use Rattle.dirfrag_steps.proofs.Steps.{dropped_is, dropped_kept}
+use Rattle.mdcache.specs.Cached.{state_of}
+use Rattle.mdcache.specs.Commits.{IsDropped}
+use Rattle.mdcache.proofs.StepLaws.{dropped_is, dropped_kept}
 use Rattle.mdcache.proofs.mdcache.MdCache.drop_job.Goals as goal
 
 pub invariant_of-self : goal.invariant_of-self

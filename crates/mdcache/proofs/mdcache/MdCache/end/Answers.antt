@@ -3,16 +3,16 @@ use Rattle.std.specs.Prelude.{Err}
 use Rattle.std.specs.FinMap as map
 use Rattle.commit_jobs.specs.declared.jobs.Job.{Job}
 use Rattle.commit_jobs.specs.Commit.{Carried}
-use Rattle.rank_caches.specs.Caches.{all_of, first_of}
+use Rattle.dentry_cache.specs.Caches.{all_of, first_of}
 use Rattle.mdcache.specs.Core.{Core}
-use Rattle.dirfrag_steps.specs.Cached.{state_of}
-use Rattle.dirfrag_steps.specs.Commits.{Ends, IsEnded, leaf_of}
-use Rattle.dirfrag_steps.specs.Ranks.{KeepsCaches, MayHold, NoneComes}
-use Rattle.dirfrag_steps.specs.State.{State}
-use Rattle.dirfrag_steps.proofs.AtRanks.{only_on}
-use Rattle.dirfrag_steps.proofs.AtRegroups.{cached_back, kept_back, kept_first, no_more_back, state_first, there_then}
-use Rattle.dirfrag_steps.proofs.Steps.{end_is, end_kept, end_there, placing_keeps, refused_kept, refused_state}
-use Rattle.dirfrag_steps.proofs.KeptPlaces.{changed_no_more}
+use Rattle.mdcache.specs.Cached.{state_of}
+use Rattle.mdcache.specs.Commits.{Ends, IsEnded, leaf_of}
+use Rattle.mdcache.specs.Ranks.{KeepsCaches, MayHold, NoneComes}
+use Rattle.mdcache.specs.State.{State}
+use Rattle.mdcache.proofs.AtRanks.{only_on}
+use Rattle.mdcache.proofs.AtRegroups.{cached_back, kept_back, kept_first, no_more_back, state_first, there_then}
+use Rattle.mdcache.proofs.StepLaws.{end_is, end_kept, end_there, placing_keeps, refused_kept, refused_state}
+use Rattle.mdcache.proofs.KeptPlaces.{changed_no_more}
 use Rattle.mdcache.proofs.mdcache.MdCache.end.Goals as goal
 
 pub end_at-requires-clause-there : goal.end_at-requires-clause-there

@@ -1,16 +1,16 @@
 use Rattle.std.proofs.Common.{◌<◌, length, None, sym, subst, arith}
 use Rattle.std.specs.Prelude.{OnOk}
 use Rattle.dentry_cache.specs.Cache.{Evicts, Held}
-use Rattle.rank_caches.specs.Caches.{all_of, cache_of, with_cache}
-use Rattle.rank_caches.proofs.PlaceLaws.{cache_there}
+use Rattle.dentry_cache.specs.Caches.{all_of, cache_of, with_cache}
+use Rattle.dentry_cache.proofs.PlaceLaws.{cache_there}
 use Rattle.mdcache.specs.Core.{Core}
-use Rattle.dirfrag_steps.specs.Cached.{state_of}
+use Rattle.mdcache.specs.Cached.{state_of}
 use Rattle.mdcache.specs.Frags.{KeepsState}
-use Rattle.dirfrag_steps.proofs.AtChanges.{left_all, left_caches, left_each, left_unsaved}
-use Rattle.dirfrag_steps.proofs.AtRanks.{only_on}
-use Rattle.dirfrag_steps.proofs.CapLaws.{evict_cap}
-use Rattle.dirfrag_steps.proofs.KeptPlaces.{left_no_more}
-use Rattle.dirfrag_steps.proofs.Steps.{left_kept}
+use Rattle.mdcache.proofs.AtChanges.{left_all, left_caches, left_each, left_unsaved}
+use Rattle.mdcache.proofs.AtRanks.{only_on}
+use Rattle.mdcache.proofs.CapLaws.{evict_cap}
+use Rattle.mdcache.proofs.KeptPlaces.{left_no_more}
+use Rattle.mdcache.proofs.StepLaws.{left_kept}
 use Rattle.mdcache.proofs.mdcache.MdCache.evict.Goals as goal
 
 pub invariant_of-self : goal.invariant_of-self

@@ -1,5 +1,5 @@
 use Rattle.std.proofs.Common.{◌∙◌}
-use Rattle.dirfrag_steps.proofs.EmptyLaws.{none_if_not}
+use Rattle.mdcache.proofs.EmptyLaws.{none_if_not}
 use Rattle.mdcache.proofs.mdcache.MdCache.format.Goals as goal
 
 pub new-requires-clause-empty : goal.new-requires-clause-empty

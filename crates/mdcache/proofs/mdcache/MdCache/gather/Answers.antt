@@ -2,24 +2,24 @@ use Rattle.std.proofs.Common.{◌≡◌, ◌<◌, ◌+◌, List, Option, length,
 use Rattle.std.specs.Prelude.{OnOk}
 use Rattle.std.specs.FinMap as map
 use Rattle.dentry_cache.specs.Cache.{HasCached, Held, Leaf, cached, unsaved}
-use Rattle.rank_caches.specs.Caches.{all_of, cache_of}
+use Rattle.dentry_cache.specs.Caches.{all_of, cache_of}
 use Rattle.mdcache.specs.Core.{Core}
-use Rattle.dirfrag_steps.specs.Ranks.{IsThat, KeepsCaches, MayHold}
+use Rattle.mdcache.specs.Ranks.{IsThat, KeepsCaches, MayHold}
 use Rattle.mdcache.specs.Core.{LacksPlacesAt}
-use Rattle.dirfrag_steps.specs.Reads.{MayNotFind}
-use Rattle.dirfrag_steps.specs.State.{IsLive}
-use Rattle.dirfrag_steps.proofs.AtRanks.{holds_after}
-use Rattle.dirfrag_steps.proofs.AtReads.{mid_saved, new_caches, new_kept, new_only, new_state, new_unsaved, words_at}
+use Rattle.mdcache.specs.Reads.{MayNotFind}
+use Rattle.mdcache.specs.State.{IsLive}
+use Rattle.mdcache.proofs.AtRanks.{holds_after}
+use Rattle.mdcache.proofs.AtReads.{mid_saved, new_caches, new_kept, new_only, new_state, new_unsaved, words_at}
 use Rattle.cached_frag.specs.Cached.{Cached, shown}
 use Rattle.dirfrag_codec.specs.FragmentObject.{Names}
-use Rattle.dirfrag_steps.specs.Shown.{names_of}
-use Rattle.dirfrag_steps.proofs.AtRanks.{cached_here}
-use Rattle.dirfrag_steps.proofs.AtReads.{on_names}
+use Rattle.mdcache.specs.Shown.{names_of}
+use Rattle.mdcache.proofs.AtRanks.{cached_here}
+use Rattle.mdcache.proofs.AtReads.{on_names}
 use Rattle.std.specs.Option.{option_copied}
 use Rattle.omap.specs.Omap.{key_cmp}
 use Rattle.sorted_map.specs.Places.{puts}
 use Rattle.cached_frag.specs.Rows.{Row, rows_after}
-use Rattle.dirfrag_steps.specs.Pages.{IsPageOf}
+use Rattle.mdcache.specs.Pages.{IsPageOf}
 use Rattle.mdcache.proofs.mdcache.MdCache.gather.Goals as goal
 
 pub fetch_at-requires-clause-holds : goal.fetch_at-requires-clause-holds

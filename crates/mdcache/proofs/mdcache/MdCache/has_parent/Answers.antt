@@ -3,7 +3,7 @@ use Rattle.std.specs.FinMap as map
 use Rattle.mds_types.specs.declared.inodes.Inode.{Inode}
 use Rattle.mds_types.specs.Tree.{is_directory}
 use Rattle.mdcache.specs.Core.{Core}
-use Rattle.dirfrag_steps.specs.Shown.{shown_tree}
+use Rattle.mdcache.specs.Shown.{shown_tree}
 use Rattle.mdcache.proofs.mdcache.MdCache.has_parent.Goals as goal
 
 pub returns : goal.returns

@@ -2,7 +2,7 @@ use Rattle.std.proofs.Common.{ap, ◌∙◌}
 use Rattle.mds_types.specs.Tree.{is_above, is_directory}
 use Rattle.inode_table.proofs.TableLaws.{above_is}
 use Rattle.mdcache.specs.Core.{Core}
-use Rattle.dirfrag_steps.specs.Shown.{shown_tree}
+use Rattle.mdcache.specs.Shown.{shown_tree}
 use Rattle.mdcache.proofs.mdcache.MdCache.is_above.Goals as goal
 
 pub returns : goal.returns

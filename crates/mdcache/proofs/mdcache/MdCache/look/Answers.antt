@@ -6,18 +6,18 @@ use Rattle.fragtree.specs.FragTree.{IsPick}
 use Rattle.namehash.specs.Rjenkins.{hash_of}
 use Rattle.dentry_cache.specs.Cache.{Leaf, unsaved}
 use Rattle.inode_table.specs.Dirs.{leaves_of}
-use Rattle.rank_caches.specs.Caches.{all_of, cache_of}
+use Rattle.dentry_cache.specs.Caches.{all_of, cache_of}
 use Rattle.mdcache.specs.Core.{Core}
-use Rattle.dirfrag_steps.specs.Ranks.{IsThat, KeepsCaches, MayHold}
+use Rattle.mdcache.specs.Ranks.{IsThat, KeepsCaches, MayHold}
 use Rattle.mdcache.specs.Core.{LacksPlacesAt}
-use Rattle.dirfrag_steps.specs.Reads.{MayNotFind}
-use Rattle.dirfrag_steps.specs.Shown.{shown_tree}
-use Rattle.dirfrag_steps.specs.State.{IsLive}
-use Rattle.dirfrag_steps.proofs.AtRanks.{holds_after}
-use Rattle.dirfrag_steps.proofs.AtReads.{both_reads, mid_saved, new_caches, new_kept, new_only, new_state, new_unsaved, words_at}
-use Rattle.dirfrag_steps.proofs.ReadLaws.{map_if_ok}
-use Rattle.dirfrag_steps.proofs.ReadSteps.{dir_known, found_there, pick_live}
-use Rattle.dirfrag_steps.proofs.ReadyLaws.{map_if_err}
+use Rattle.mdcache.specs.Reads.{MayNotFind}
+use Rattle.mdcache.specs.Shown.{shown_tree}
+use Rattle.mdcache.specs.State.{IsLive}
+use Rattle.mdcache.proofs.AtRanks.{holds_after}
+use Rattle.mdcache.proofs.AtReads.{both_reads, mid_saved, new_caches, new_kept, new_only, new_state, new_unsaved, words_at}
+use Rattle.mdcache.proofs.ReadLaws.{map_if_ok}
+use Rattle.mdcache.proofs.ReadSteps.{dir_known, found_there, pick_live}
+use Rattle.mdcache.proofs.ReadyLaws.{map_if_err}
 use Rattle.mdcache.proofs.mdcache.MdCache.look.Goals as goal
 
 pub give_up_at-requires-clause-there : goal.give_up_at-requires-clause-there

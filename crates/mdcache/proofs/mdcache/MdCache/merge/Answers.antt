@@ -7,23 +7,23 @@ use Rattle.fragtree.specs.FragTree.{CanMerge, RefusesMerge, leaves_inside}
 use Rattle.inode_table.specs.Dirs.{leaves_of}
 use Rattle.namespace_ops.specs.Changes.{in_directory}
 use Rattle.dentry_cache.specs.Cache.{Leaf}
-use Rattle.rank_caches.specs.Caches.{all_of, first_of}
+use Rattle.dentry_cache.specs.Caches.{all_of, first_of}
 use Rattle.mdcache.specs.Core.{Core}
-use Rattle.dirfrag_steps.specs.Cached.{state_of}
-use Rattle.dirfrag_steps.specs.Changes.{with_objects, without_leaves}
-use Rattle.dirfrag_steps.specs.Joining.{IsPutInPlace}
-use Rattle.dirfrag_steps.specs.Ranks.{KeepsCaches, MayHold, NoneComes}
+use Rattle.mdcache.specs.Cached.{state_of}
+use Rattle.mdcache.specs.Changes.{with_objects, without_leaves}
+use Rattle.mdcache.specs.Joining.{IsPutInPlace}
+use Rattle.mdcache.specs.Ranks.{KeepsCaches, MayHold, NoneComes}
 use Rattle.mdcache.specs.Core.{LacksPlacesAt}
-use Rattle.mdcache.specs.Regroups.{MergesLeaves}
-use Rattle.dirfrag_steps.specs.Splits.{IsMergedInto, KeepsTree}
-use Rattle.dirfrag_steps.specs.State.{State}
-use Rattle.dirfrag_steps.proofs.AtRanks.{caches_after, caches_self, held_by_any, holds_after, holds_on, none_only}
-use Rattle.dirfrag_steps.proofs.AtRegroups.{caches_before, merge_into, merge_keeps, merge_kept, none_merged, there_then, lacks_at}
-use Rattle.dirfrag_steps.proofs.KeptPlaces.{no_more_on, none_on}
-use Rattle.dirfrag_steps.proofs.ReadyChanges.{given_kept, given_state}
-use Rattle.dirfrag_steps.proofs.JoinLaws.{itself_apart}
-use Rattle.dirfrag_steps.proofs.MergeMade.{gone_saved, merged_absent, undone_kept}
-use Rattle.dirfrag_steps.proofs.SplitMade.{counts_left, not_begun}
+use Rattle.mdcache.specs.SplitsAndMerges.{MergesLeaves}
+use Rattle.mdcache.specs.Splits.{IsMergedInto, KeepsTree}
+use Rattle.mdcache.specs.State.{State}
+use Rattle.mdcache.proofs.AtRanks.{caches_after, caches_self, held_by_any, holds_after, holds_on, none_only}
+use Rattle.mdcache.proofs.AtRegroups.{caches_before, merge_into, merge_keeps, merge_kept, none_merged, there_then, lacks_at}
+use Rattle.mdcache.proofs.KeptPlaces.{no_more_on, none_on}
+use Rattle.mdcache.proofs.ReadyChanges.{given_kept, given_state}
+use Rattle.mdcache.proofs.JoinLaws.{itself_apart}
+use Rattle.mdcache.proofs.MergeMade.{gone_saved, merged_absent, undone_kept}
+use Rattle.mdcache.proofs.SplitMade.{counts_left, not_begun}
 use Rattle.mdcache.proofs.mdcache.MdCache.merge.Goals as goal
 
 pub returns-in-Err-clause-merged : goal.returns-in-Err-clause-merged

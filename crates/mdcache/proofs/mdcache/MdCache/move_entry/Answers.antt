@@ -9,17 +9,17 @@ use Rattle.inode_table.specs.Dirs.{Homes, MayGo, MayMove}
 use Rattle.inode_table.specs.TreeTable.{home_at, with_home}
 use Rattle.namespace_ops.specs.Changes.{MayChange}
 use Rattle.namespace_ops.specs.declared.plans.Change.TheVariants.{Move}
-use Rattle.rank_caches.specs.Caches.{all_of, cache_of}
+use Rattle.dentry_cache.specs.Caches.{all_of, cache_of}
 use Rattle.mdcache.specs.Core.{Core}
-use Rattle.dirfrag_steps.specs.Cached.{state_of}
-use Rattle.dirfrag_steps.specs.Changes.{Makes}
-use Rattle.dirfrag_steps.specs.Going.{IsGoingOrNone, dir_going}
-use Rattle.dirfrag_steps.specs.Made.{IsRight}
-use Rattle.dirfrag_steps.specs.Ranks.{KeepsCaches, MayHold, NoneComes}
-use Rattle.dirfrag_steps.specs.Shown.{shown_tree}
-use Rattle.dirfrag_steps.proofs.AtChanges.{move_caches, move_kept, move_made, move_only, move_right, room_then}
-use Rattle.dirfrag_steps.proofs.AtRanks.{holds_after}
-use Rattle.dirfrag_steps.proofs.MoveSteps.{relocates, replaces}
+use Rattle.mdcache.specs.Cached.{state_of}
+use Rattle.mdcache.specs.Changes.{Makes}
+use Rattle.mdcache.specs.Going.{IsGoingOrNone, dir_going}
+use Rattle.mdcache.specs.Made.{IsRight}
+use Rattle.mdcache.specs.Ranks.{KeepsCaches, MayHold, NoneComes}
+use Rattle.mdcache.specs.Shown.{shown_tree}
+use Rattle.mdcache.proofs.AtChanges.{move_caches, move_kept, move_made, move_only, move_right, room_then}
+use Rattle.mdcache.proofs.AtRanks.{holds_after}
+use Rattle.mdcache.proofs.MoveSteps.{relocates, replaces}
 use Rattle.mdcache.proofs.mdcache.MdCache.move_entry.Goals as goal
 
 pub relocate-requires : goal.relocate-requires

@@ -1,7 +1,7 @@
 use Rattle.std.proofs.Common.{sym, subst}
-use Rattle.rank_caches.specs.Caches.{all_of}
+use Rattle.dentry_cache.specs.Caches.{all_of}
 use Rattle.mdcache.specs.Core.{Core}
-use Rattle.dirfrag_steps.specs.Cached.{state_of}
+use Rattle.mdcache.specs.Cached.{state_of}
 use Rattle.mdcache.specs.Frags.{IsTakenAlong}
 use Rattle.mdcache.proofs.MovingAlong.{taken_along}
 use Rattle.mdcache.proofs.mdcache.MdCache.moving.Goals as goal

@@ -1,11 +1,11 @@
 use Rattle.std.proofs.Common.{None, refl, sym, ap, subst, ◌∙◌}
 use Rattle.dentry_cache.specs.Cache.{Held}
-use Rattle.rank_caches.specs.Caches.{Caches, all_of}
-use Rattle.dirfrag_steps.specs.Cached.{KeepsNone}
+use Rattle.dentry_cache.specs.Caches.{Caches, all_of}
+use Rattle.mdcache.specs.Cached.{KeepsNone}
 use Rattle.mdcache.specs.New.{cached_root, root_leaf}
-use Rattle.dirfrag_steps.specs.Ranks.{AreRanks}
-use Rattle.dirfrag_steps.proofs.AtRanks.{none_only}
-use Rattle.dirfrag_steps.proofs.KeptPlaces.{alone_none}
+use Rattle.mdcache.specs.Ranks.{AreRanks}
+use Rattle.mdcache.proofs.AtRanks.{none_only}
+use Rattle.mdcache.proofs.KeptPlaces.{alone_none}
 use Rattle.mdcache.proofs.NewLaws.{new_is, new_is_kept}
 use Rattle.mdcache.proofs.NewRanks.{all_new, new_ranks}
 use Rattle.mdcache.proofs.mdcache.MdCache.new.Goals as goal

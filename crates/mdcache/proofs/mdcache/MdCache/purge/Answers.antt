@@ -1,11 +1,11 @@
 use Rattle.std.proofs.Common.{subst, sym, ap, ◌∙◌}
 use Rattle.std.specs.Prelude.{Ok}
 use Rattle.std.specs.Option.{option_copied}
-use Rattle.rank_caches.specs.Caches.{all_of}
+use Rattle.dentry_cache.specs.Caches.{all_of}
 use Rattle.mdcache.specs.Core.{Core}
-use Rattle.dirfrag_steps.specs.Cached.{state_of}
-use Rattle.dirfrag_steps.specs.Objects.{Purges}
-use Rattle.dirfrag_steps.proofs.Steps.{purge_is, purge_kept}
+use Rattle.mdcache.specs.Cached.{state_of}
+use Rattle.mdcache.specs.Objects.{Purges}
+use Rattle.mdcache.proofs.StepLaws.{purge_is, purge_kept}
 use Rattle.mdcache.proofs.mdcache.MdCache.purge.Goals as goal
 
 pub invariant_of-self-2 : goal.invariant_of-self-2

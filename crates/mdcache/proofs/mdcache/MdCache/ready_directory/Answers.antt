@@ -5,20 +5,20 @@ use Rattle.fragtree.specs.FragTree.{IsPick}
 use Rattle.namehash.specs.Rjenkins.{hash_of}
 use Rattle.dentry_cache.specs.Cache.{Leaf, cached, unsaved}
 use Rattle.inode_table.specs.Dirs.{leaves_of}
-use Rattle.rank_caches.specs.Caches.{all_of, cache_of}
+use Rattle.dentry_cache.specs.Caches.{all_of, cache_of}
 use Rattle.mdcache.specs.Core.{Core}
-use Rattle.dirfrag_steps.specs.Ranks.{IsThat, KeepsCaches, MayHold}
-use Rattle.dirfrag_steps.specs.Ready.{LacksNumbers, MayNotBeReady}
+use Rattle.mdcache.specs.Ranks.{IsThat, KeepsCaches, MayHold}
+use Rattle.mdcache.specs.Ready.{LacksNumbers, MayNotBeReady}
 use Rattle.mdcache.specs.Core.{LacksPlacesAt}
-use Rattle.dirfrag_steps.specs.Shown.{shown_tree}
-use Rattle.dirfrag_steps.specs.State.{IsLive}
-use Rattle.dirfrag_steps.proofs.AtRanks.{holds_after}
-use Rattle.dirfrag_steps.proofs.AtReads.{made_caches, made_kept, made_only, made_state, made_unsaved, mid_kept, mid_saved, words_at}
-use Rattle.dirfrag_steps.proofs.ReadSteps.{pick_live}
-use Rattle.dirfrag_steps.proofs.ReadyLaws.{neither, not_cached, roomy_kept, roomy_state, unknown_dead}
+use Rattle.mdcache.specs.Shown.{shown_tree}
+use Rattle.mdcache.specs.State.{IsLive}
+use Rattle.mdcache.proofs.AtRanks.{holds_after}
+use Rattle.mdcache.proofs.AtReads.{made_caches, made_kept, made_only, made_state, made_unsaved, mid_kept, mid_saved, words_at}
+use Rattle.mdcache.proofs.ReadSteps.{pick_live}
+use Rattle.mdcache.proofs.ReadyLaws.{neither, not_cached, roomy_kept, roomy_state, unknown_dead}
 use Rattle.mds_types.specs.Frag.{root_fragment}
-use Rattle.dirfrag_steps.specs.Changes.{first_leaf}
-use Rattle.dirfrag_steps.proofs.AtRanks.{held_by_any, one_only}
+use Rattle.mdcache.specs.Changes.{first_leaf}
+use Rattle.mdcache.proofs.AtRanks.{held_by_any, one_only}
 use Rattle.mdcache.proofs.mdcache.MdCache.ready_directory.Goals as goal
 
 pub ready_first_at-requires-clause-holds : goal.ready_first_at-requires-clause-holds

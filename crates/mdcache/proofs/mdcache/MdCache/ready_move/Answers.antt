@@ -6,21 +6,21 @@ use Rattle.fragtree.specs.FragTree.{IsPick}
 use Rattle.namehash.specs.Rjenkins.{hash_of}
 use Rattle.dentry_cache.specs.Cache.{HasCached, Held, Leaf, cached, unsaved}
 use Rattle.inode_table.specs.Dirs.{leaves_of}
-use Rattle.rank_caches.specs.Caches.{all_of, cache_of}
+use Rattle.dentry_cache.specs.Caches.{all_of, cache_of}
 use Rattle.mdcache.specs.Core.{Core}
-use Rattle.dirfrag_steps.specs.Ranks.{IsThat, KeepsCaches, MayHold}
-use Rattle.dirfrag_steps.specs.Ready.{LacksNumbers, MayNotBeReady}
+use Rattle.mdcache.specs.Ranks.{IsThat, KeepsCaches, MayHold}
+use Rattle.mdcache.specs.Ready.{LacksNumbers, MayNotBeReady}
 use Rattle.mdcache.specs.Core.{LacksPlacesAt}
-use Rattle.dirfrag_steps.specs.Shown.{shown_tree}
-use Rattle.dirfrag_steps.specs.State.{IsLive, State}
-use Rattle.dirfrag_steps.proofs.AtRanks.{holds_after}
-use Rattle.dirfrag_steps.proofs.AtReads.{one_holder, words_two, made_caches, made_kept, made_only, made_state, made_unsaved, mid_kept, mid_saved, mid_state}
-use Rattle.dirfrag_steps.proofs.ReadSteps.{dir_known, pick_live}
-use Rattle.dirfrag_steps.proofs.ReadyChanges.{listed_kept, cached_has, listed_state, tree_has}
+use Rattle.mdcache.specs.Shown.{shown_tree}
+use Rattle.mdcache.specs.State.{IsLive, State}
+use Rattle.mdcache.proofs.AtRanks.{holds_after}
+use Rattle.mdcache.proofs.AtReads.{one_holder, words_two, made_caches, made_kept, made_only, made_state, made_unsaved, mid_kept, mid_saved, mid_state}
+use Rattle.mdcache.proofs.ReadSteps.{dir_known, pick_live}
+use Rattle.mdcache.proofs.ReadyChanges.{listed_kept, cached_has, listed_state, tree_has}
 use Rattle.mds_types.specs.declared.inodes.Inode.{Inode}
 use Rattle.cached_frag.specs.Cached.{Cached, shown}
-use Rattle.dirfrag_steps.proofs.AtRanks.{cached_here, holds_on}
-use Rattle.dirfrag_steps.proofs.ReadyPairs.{either_live}
+use Rattle.mdcache.proofs.AtRanks.{cached_here, holds_on}
+use Rattle.mdcache.proofs.ReadyPairs.{either_live}
 use Rattle.mdcache.proofs.mdcache.MdCache.ready_move.Goals as goal
 
 pub all_unsaved-requires-clause-there : goal.all_unsaved-requires-clause-there

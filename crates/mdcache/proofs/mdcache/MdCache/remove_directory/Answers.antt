@@ -1,16 +1,16 @@
 use Rattle.std.proofs.Common.{◌+◌, Some, subst, sym}
 use Rattle.namespace_ops.specs.Changes.{MayChange}
 use Rattle.namespace_ops.specs.declared.plans.Change.TheVariants.{Remove}
-use Rattle.rank_caches.specs.Caches.{all_of}
+use Rattle.dentry_cache.specs.Caches.{all_of}
 use Rattle.mdcache.specs.Core.{Core}
-use Rattle.dirfrag_steps.specs.Cached.{state_of}
-use Rattle.dirfrag_steps.specs.Changes.{Makes}
-use Rattle.dirfrag_steps.specs.Going.{IsGoing}
-use Rattle.dirfrag_steps.specs.Made.{IsRight}
-use Rattle.dirfrag_steps.specs.Ranks.{MayHold}
-use Rattle.dirfrag_steps.specs.Shown.{shown_tree}
-use Rattle.dirfrag_steps.proofs.AtChanges.{went_kept, went_made, went_only, went_right}
-use Rattle.dirfrag_steps.proofs.GoneSteps.{may_go}
+use Rattle.mdcache.specs.Cached.{state_of}
+use Rattle.mdcache.specs.Changes.{Makes}
+use Rattle.mdcache.specs.Going.{IsGoing}
+use Rattle.mdcache.specs.Made.{IsRight}
+use Rattle.mdcache.specs.Ranks.{MayHold}
+use Rattle.mdcache.specs.Shown.{shown_tree}
+use Rattle.mdcache.proofs.AtChanges.{went_kept, went_made, went_only, went_right}
+use Rattle.mdcache.proofs.GoneSteps.{may_go}
 use Rattle.mdcache.proofs.mdcache.MdCache.remove_directory.Goals as goal
 
 pub remove_dir-requires-clause-may : goal.remove_dir-requires-clause-may

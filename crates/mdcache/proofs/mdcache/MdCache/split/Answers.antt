@@ -5,21 +5,21 @@ use Rattle.mds_types.specs.declared.ids.Rank.{Rank}
 use Rattle.fragtree.specs.FragTree.{CanSplit, RefusesSplit}
 use Rattle.inode_table.specs.Dirs.{leaves_of}
 use Rattle.dentry_cache.specs.Cache.{Leaf}
-use Rattle.rank_caches.specs.Caches.{all_of}
+use Rattle.dentry_cache.specs.Caches.{all_of}
 use Rattle.mdcache.specs.Core.{Core}
-use Rattle.dirfrag_steps.specs.Cached.{state_of}
-use Rattle.dirfrag_steps.specs.Ranks.{KeepsCaches, MayHold}
+use Rattle.mdcache.specs.Cached.{state_of}
+use Rattle.mdcache.specs.Ranks.{KeepsCaches, MayHold}
 use Rattle.mdcache.specs.Core.{LacksPlacesAt}
-use Rattle.dirfrag_steps.specs.Regroups.{IsFamily}
-use Rattle.mdcache.specs.Regroups.{SplitsLeaf}
-use Rattle.dirfrag_steps.specs.Splits.{IsSplitInto, KeepsTree}
-use Rattle.dirfrag_steps.specs.State.{State}
-use Rattle.dirfrag_steps.proofs.AtRanks.{caches_after, caches_self, held_by_any, holds_after, holds_on, none_only}
-use Rattle.dirfrag_steps.proofs.AtRegroups.{caches_before, none_split, split_into, split_keeps, split_kept, lacks_at}
-use Rattle.dirfrag_steps.proofs.KeptPlaces.{no_more_on, none_on}
-use Rattle.dirfrag_steps.proofs.ReadSteps.{live_saved}
-use Rattle.dirfrag_steps.proofs.ReadyChanges.{given_kept, given_state}
-use Rattle.dirfrag_steps.proofs.SplitMade.{counts_left, no_child_cached, not_begun, undone_kept}
+use Rattle.mdcache.specs.Regroups.{IsFamily}
+use Rattle.mdcache.specs.SplitsAndMerges.{SplitsLeaf}
+use Rattle.mdcache.specs.Splits.{IsSplitInto, KeepsTree}
+use Rattle.mdcache.specs.State.{State}
+use Rattle.mdcache.proofs.AtRanks.{caches_after, caches_self, held_by_any, holds_after, holds_on, none_only}
+use Rattle.mdcache.proofs.AtRegroups.{caches_before, none_split, split_into, split_keeps, split_kept, lacks_at}
+use Rattle.mdcache.proofs.KeptPlaces.{no_more_on, none_on}
+use Rattle.mdcache.proofs.ReadSteps.{live_saved}
+use Rattle.mdcache.proofs.ReadyChanges.{given_kept, given_state}
+use Rattle.mdcache.proofs.SplitMade.{counts_left, no_child_cached, not_begun, undone_kept}
 use Rattle.mdcache.proofs.mdcache.MdCache.split.Goals as goal
 
 pub returns-in-Err-clause-split : goal.returns-in-Err-clause-split

@@ -1,12 +1,12 @@
 use Rattle.std.proofs.Common.{◌≡◌, ◌⊎◌, true, inl, inr, subst}
 use Rattle.std.specs.Map.{lookup}
 use Rattle.dentry_cache.specs.Cache.{is_kept, leaf_is}
-use Rattle.rank_caches.specs.Caches.{cache_of}
-use Rattle.rank_caches.proofs.TiesLaws.{cached_there}
+use Rattle.dentry_cache.specs.Caches.{cache_of}
+use Rattle.dentry_cache.proofs.TiesLaws.{cached_there}
 use Rattle.mdcache.specs.Core.{Core}
-use Rattle.dirfrag_steps.specs.Ranks.{AreLivePlaces}
-use Rattle.dirfrag_steps.specs.State.{IsLive}
-use Rattle.dirfrag_steps.proofs.AtRanks.{in_place}
+use Rattle.mdcache.specs.Ranks.{AreLivePlaces}
+use Rattle.mdcache.specs.State.{IsLive}
+use Rattle.mdcache.proofs.AtRanks.{in_place}
 use Rattle.mdcache.proofs.mdcache.MdCache.store.Goals as goal
 
 pub returns-clause-live : goal.returns-clause-live

@@ -1,10 +1,10 @@
 use Rattle.std.proofs.Common.{None, length, ap, subst, ◌∙◌, arith}
 use Rattle.dentry_cache.specs.Cache.{unsaved}
-use Rattle.rank_caches.specs.Caches.{cache_of}
+use Rattle.dentry_cache.specs.Caches.{cache_of}
 use Rattle.mdcache.specs.Core.{Core}
-use Rattle.dirfrag_steps.specs.Ranks.{KeepsCaches, NoneComes}
-use Rattle.dirfrag_steps.proofs.AtRanks.{none_only}
-use Rattle.dirfrag_steps.proofs.AtReads.{mid_kept, mid_state}
+use Rattle.mdcache.specs.Ranks.{KeepsCaches, NoneComes}
+use Rattle.mdcache.proofs.AtRanks.{none_only}
+use Rattle.mdcache.proofs.AtReads.{mid_kept, mid_state}
 use Rattle.mdcache.proofs.mdcache.MdCache.unready.Goals as goal
 
 pub invariant_of-self : goal.invariant_of-self

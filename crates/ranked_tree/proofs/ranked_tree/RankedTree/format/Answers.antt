@@ -1,5 +1,5 @@
 use Rattle.std.proofs.Common.{sym, subst}
-use Rattle.dirfrag_steps.specs.State.{State}
+use Rattle.mdcache.specs.State.{State}
 use Rattle.ranked_tree.specs.Subtrees.{AreRoots}
 use Rattle.ranked_tree.specs.Ranked.{new_roots}
 use Rattle.ranked_tree.proofs.NewLaws.{new_are_held, new_are_roots}

@@ -1,7 +1,7 @@
 use Rattle.std.proofs.Common.{◌≡◌, ◌⊎◌, ◌+◌, ◌-◌, ◌/◌, ◌<◌, true, length, get_or, [], subst, sym, arith}
 use Rattle.sorted_map.specs.Homes.{starts_above}
-use Rattle.chunks.proofs.ChunkLaws.{got}
-use Rattle.chunks.proofs.FlatLaws.{some_at}
+use Rattle.sorted_map.proofs.ChunkLaws.{got}
+use Rattle.sorted_map.proofs.FlatLaws.{some_at}
 use Rattle.sorted_map.proofs.HomeLaws.{home_found}
 use Rattle.sorted_map.proofs.chunked.places.home.Goals as goal
 

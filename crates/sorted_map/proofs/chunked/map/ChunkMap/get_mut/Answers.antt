@@ -3,11 +3,11 @@ use Rattle.std.specs.FinMap as map
 use Rattle.std.specs.Cmp.{IsTotalOrder}
 use Rattle.std.specs.FinMap.Entries.{is_sorted}
 use Rattle.sorted_map.specs.Places.{IsAt}
-use Rattle.chunks.specs.Chunks.{flat, start, load, room_by, with_value}
-use Rattle.chunks.proofs.ChunkLaws.{one_of}
+use Rattle.sorted_map.specs.Chunks.{flat, start, load, room_by, with_value}
+use Rattle.sorted_map.proofs.ChunkLaws.{one_of}
 use Rattle.sorted_map.proofs.ContentLaws.{put_in_place, same_loan, value_at, got_gap}
-use Rattle.chunks.proofs.FlatLaws.{flat_get, some_at, some_set, value_flat, value_length}
-use Rattle.chunks.proofs.RoomLaws.{set_load}
+use Rattle.sorted_map.proofs.FlatLaws.{flat_get, some_at, some_set, value_flat, value_length}
+use Rattle.sorted_map.proofs.RoomLaws.{set_load}
 use Rattle.std.specs.FinMap.{entries-from_sorted}
 use Rattle.sorted_map.proofs.chunked.map.ChunkMap.get_mut.Goals as goal
 

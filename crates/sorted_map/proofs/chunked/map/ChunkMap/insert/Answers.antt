@@ -1,5 +1,5 @@
 use Rattle.std.proofs.Common.{◌≡◌, ◌<◌, Some, sym, ap, ◌∙◌, arith}
-use Rattle.chunks.specs.Chunks.{room_in}
+use Rattle.sorted_map.specs.Chunks.{room_in}
 use Rattle.sorted_map.proofs.ContentLaws.{put_in_place, put_in_gap, value_at, got_gap}
 use Rattle.sorted_map.proofs.chunked.map.ChunkMap.insert.Goals as goal
 

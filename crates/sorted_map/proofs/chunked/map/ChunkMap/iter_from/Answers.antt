@@ -2,7 +2,7 @@ use Rattle.std.proofs.Common.{sym, ap, ◌∙◌}
 use Rattle.std.specs.FinMap.{entries-from_sorted}
 use Rattle.std.specs.FinMap.Entries.{where_key}
 use Rattle.sorted_map.specs.SortedMap.{is_from}
-use Rattle.chunks.specs.Chunks.{flat}
+use Rattle.sorted_map.specs.Chunks.{flat}
 use Rattle.sorted_map.proofs.chunked.map.ChunkMap.iter_from.Goals as goal
 
 pub returns : goal.returns

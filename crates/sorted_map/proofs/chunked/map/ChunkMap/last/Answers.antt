@@ -1,7 +1,7 @@
 use Rattle.std.proofs.Common.{◌<◌, ◌-◌, [], length, slice_get, sym, ap, ◌∙◌, eqb-true, arith}
-use Rattle.chunks.specs.Chunks.{flat}
-use Rattle.chunks.proofs.ChunkLaws.{got}
-use Rattle.chunks.proofs.FlatLaws.{flat_none, last_flat, not_none}
+use Rattle.sorted_map.specs.Chunks.{flat}
+use Rattle.sorted_map.proofs.ChunkLaws.{got}
+use Rattle.sorted_map.proofs.FlatLaws.{flat_none, last_flat, not_none}
 use Rattle.sorted_map.proofs.ContentLaws.{none_last, last_shown}
 use Rattle.sorted_map.proofs.chunked.map.ChunkMap.last.Goals as goal
 

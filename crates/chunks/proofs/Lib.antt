@@ -1,3 +1,0 @@
-pub mod ChunkLaws
-pub mod FlatLaws
-pub mod RoomLaws

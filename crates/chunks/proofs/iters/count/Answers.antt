@@ -1,7 +1,0 @@
-use Rattle.std.proofs.Common.{arith}
-use Rattle.chunks.proofs.ChunkLaws.{part_left}
-use Rattle.chunks.proofs.iters.count.Goals as goal
-
-pub overflow_add-count : goal.overflow_add-count
-overflow_add-count g c =
-    omega (arith, c.loop-chunk.invariant.whole, c.requires, c.len-count.ensures.len, part_left c.args.chunks.now c.loop-chunk.chunk-index c.chunk-item.result c.loop-chunk-test.true c.chunk-item.is)

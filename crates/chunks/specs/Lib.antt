@@ -1,4 +1,0 @@
-pub mod ChunkValues
-pub mod Chunks
-pub mod Iters
-pub mod RowValues

@@ -1,0 +1,94 @@
+-- Pages of pairs, read one after the other.
+use Rattle.std.proofs.Common.{◌≡◌, ℕ, zero, suc, ◌+◌, ◌-◌, ◌<◌, ◌≤◌, Bool, true, false, ◌&&◌, ◌⊎◌, inl, inr, List, [], ◌∷◌, ◌++◌, length, take, drop, slice_get, Option, Some, refl, sym, ap, subst, ◌∙◌, arith}
+use Rattle.std.specs.Prelude.{nat_lt}
+use Rattle.std.proofs.lemmas.Bool.Decides.{nat_tests}
+use Rattle.std.proofs.lemmas.List.{length-append, length-take-le, take-append-drop, take_all}
+use Rattle.std.proofs.lemmas.List.Folds.{list_all-append}
+use Rattle.std.proofs.lemmas.Bool.{and_left}
+use Rattle.mds_types.specs.Frag.{Fragment}
+use Rattle.omap.specs.Omap.{PairMap, PairPage, page_of, pairs_after}
+use Rattle.omap.proofs.PageLaws.{pages_make_up}
+use Rattle.dirfrag_codec.specs.FragmentObject.{Names, with_entry}
+use Rattle.dirfrag_codec.specs.Values.{entry_of, name_of}
+use Rattle.dentry_cache.specs.declared.loading.PageEnd.{PageEnd}
+use Rattle.dentry_cache.specs.declared.loading.PageEnd.TheVariants.{Off, Last, More}
+use Rattle.dentry_cache.specs.Pairs.{EndsPairs, IsEndOf, added, are_good, is_good}
+
+added_split : (names : Names) (a b : List (List ℕ × List ℕ)) → added names (a ++ b) ≡ added (added names a) b
+added_split names [] b = refl
+added_split names (pair ∷ a) b = added_split (with_entry names (name_of pair.0) (entry_of pair.1)) a b
+
+left_true : (a b : Bool) → a ≡ true → (a && b) ≡ b
+left_true true b is = refl
+left_true false b is = cc
+
+get_taken : {A : Type 0} (n i : ℕ) (xs : List A) → i < n → slice_get (take n xs) i ≡ slice_get xs i
+get_taken zero i xs less = absurd (omega (arith, less))
+get_taken (suc n) i [] less = refl
+get_taken (suc n) zero (x ∷ xs) less = refl
+get_taken (suc n) (suc i) (x ∷ xs) less = get_taken n i xs (omega (arith, less))
+
+nothing_taken : {A : Type 0} (n : ℕ) (xs : List A) → take (suc n) xs ≡ [] → xs ≡ []
+nothing_taken n [] is = refl
+nothing_taken n (x ∷ xs) is = cc
+
+few : (n m : ℕ) → nat_lt n m ≡ false → m ≤ n
+few n m is = grind (arith, nat_tests)
+
+many : (n m : ℕ) → nat_lt n m ≡ true → n < m
+many n m is = grind (arith, nat_tests)
+
+module _ (frag : Fragment) (pairs : PairMap) (after : Option (List ℕ)) (page : PairPage) (is : page ≡ page_of pairs after 64) where
+  abbrev xs : List (List ℕ × List ℕ)
+  xs = pairs_after pairs after
+
+  items : page.pairs ≡ take 64 xs
+  items = ap (λ (p : PairPage). p.pairs) is
+
+  flag : page.more ≡ nat_lt 64 (length xs)
+  flag = ap (λ (p : PairPage). p.more) is
+
+  pub page_off : are_good frag page.pairs ≡ false → are_good frag (pairs_after pairs after) ≡ false
+  page_off bad =
+      ap (are_good frag) (sym (take-append-drop 64 xs)) ∙ list_all-append (is_good frag) (take 64 xs) (drop 64 xs)
+      ∙ and_left (are_good frag (take 64 xs)) (are_good frag (drop 64 xs)) (ap (are_good frag) (sym items) ∙ bad)
+
+  module _ (old new : Names) (good : are_good frag page.pairs ≡ true) (put : new ≡ added old page.pairs) where
+    whole : page.pairs ≡ xs → EndsPairs frag pairs after old new Last
+    whole all = (sym (ap (are_good frag) all) ∙ good, put ∙ ap (added old) all)
+
+    last_page : (page.more ≡ false) ⊎ (page.pairs ≡ []) → page.pairs ≡ xs
+    last_page (inl last) = items ∙ take_all 64 xs (few 64 (length xs) (sym flag ∙ last))
+    last_page (inr none) = none ∙ sym (nothing_taken 63 xs (sym items ∙ none))
+
+    module _ (key bytes : List ℕ) (more : page.more ≡ true) (last : slice_get page.pairs (length page.pairs - 1) ≡ Some (key, bytes)) where
+      beyond : 64 < length xs
+      beyond = many 64 (length xs) (sym flag ∙ more)
+
+      count : length page.pairs ≡ 64
+      count = ap (length {A = List ℕ × List ℕ}) items ∙ length-take-le 64 xs (omega (arith, beyond))
+
+      here : slice_get xs 63 ≡ Some (key, bytes)
+      here =
+          let at : length page.pairs - 1 ≡ 63 = omega (arith, count) in
+          sym (get_taken 64 63 xs (omega arith)) ∙ ap (λ (l : List (List ℕ × List ℕ)). slice_get l 63) (sym items) ∙ ap (slice_get page.pairs) (sym at) ∙ last
+
+      split : page.pairs ++ pairs_after pairs (Some key) ≡ xs
+      split = ap (λ (l : List (List ℕ × List ℕ)). l ++ pairs_after pairs (Some key)) items ∙ pages_make_up pairs after 63 (key, bytes) here
+
+      goes_on : EndsPairs frag pairs after old new (More key)
+      goes_on =
+          let rest = pairs_after pairs (Some key) in
+          let total : length page.pairs + length rest ≡ length xs = sym (length-append page.pairs rest) ∙ ap (length {A = List ℕ × List ℕ}) split in (
+            ap (are_good frag) (sym split) ∙ list_all-append (is_good frag) page.pairs rest ∙ left_true (are_good frag page.pairs) (are_good frag rest) good,
+            ap (λ (n : Names). added n rest) put ∙ sym (added_split old page.pairs rest) ∙ ap (added old) split,
+            omega (arith, total, count),
+          )
+
+    ended : (end : PageEnd) → IsEndOf page.more page.pairs end → EndsPairs frag pairs after old new end
+    ended Off h = absurd h
+    ended Last h = whole (last_page h)
+    ended (More key) h = goes_on key h.1.0 h.0 h.1.1
+
+    pub page_end : (end : PageEnd) (more : Bool) (list : List (List ℕ × List ℕ)) → more ≡ page.more → list ≡ page.pairs → IsEndOf more list end → EndsPairs frag pairs after old new end
+    page_end end more list m l h = ended end (subst (λ (b : Bool). IsEndOf b page.pairs end) m (subst (λ (ps : List (List ℕ × List ℕ)). IsEndOf more ps end) l h))

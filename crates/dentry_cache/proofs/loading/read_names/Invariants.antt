@@ -1,0 +1,18 @@
+-- What is to come of the pairs is as good as all of them, and adds what all of them add.
+use Rattle.std.proofs.Common.{◌≡◌, ◌≤◌, length, None}
+use Rattle.std.specs.FinMap as map
+use Rattle.omap.specs.Omap.{key_cmp}
+use Rattle.sorted_map.specs.SortedMap.{contents}
+use Rattle.dentry_cache.specs.Pairs.{added, are_good, pairs_left}
+use Rattle.dentry_cache.proofs.loading.read_names.Given as goal
+
+abbrev pub invariant-loop-after : goal.invariant-loop-after
+invariant-loop-after g l = record {
+  same : g.S.Store.objects l.store ≡ g.S.Store.objects l.fn.store;
+  grows : g.S.Store.faults l.fn.store ≤ g.S.Store.faults l.store;
+  good : are_good l.frag (pairs_left (map.get (g.S.Store.objects l.fn.store) l.fn.text) l.after) ≡ are_good l.fn.frag (pairs_left (map.get (g.S.Store.objects l.fn.store) l.fn.text) None);
+  whole : added (contents key_cmp l.names) (pairs_left (map.get (g.S.Store.objects l.fn.store) l.fn.text) l.after) ≡ added map.empty (pairs_left (map.get (g.S.Store.objects l.fn.store) l.fn.text) None);
+}
+
+abbrev pub decreases-loop-after : goal.decreases-loop-after
+decreases-loop-after g l = length (pairs_left (map.get (g.S.Store.objects l.fn.store) l.fn.text) l.after)

@@ -1,0 +1,177 @@
+//! A fragment, read from its object in the store.
+ghost use Rattle.std.specs.Prelude.{◌≡◌, ◌≤◌, ℕ, List, Option, Some, IfOk, IfErr, option_copied};
+ghost use Rattle.omap.specs.Omap.{PairMap, key_cmp, page_of};
+ghost use Rattle.sorted_map.specs.SortedMap.{contents};
+ghost use Rattle.objstore.specs.Objects.{MayRefuse};
+ghost use Rattle.std.specs.FinMap as map;
+ghost use Rattle.dentry_cache.specs.Loading.{Loads, MayNotLoad, object_of};
+ghost use Rattle.dentry_cache.specs.Pairs.{AreNamesOf, EndsPage, EndsPairs, IsCounted, IsEndOf, IsHeaderOf};
+
+use crate::pairs::add_pairs;
+use cached_frag::CachedFrag;
+use dirfrag_codec::{FragHeader, decode_header};
+use mds_types::{Frag, Ino, Inode, Name, ObjName, Refusal};
+use objstore::Store;
+use omap::{Bytes, Page};
+use sorted_map::SortedMap;
+use std::alloc::{AllocError, Global};
+
+// How many pairs are read at once.
+const PAGE: usize = 64;
+
+// What follows a page.
+pub enum PageEnd {
+    // Nothing is read: the object is absent, or a pair is off the grammar or belongs elsewhere.
+    Off,
+    // Nothing: these were all pairs.
+    Last,
+    // The pairs behind this key.
+    More(Bytes),
+}
+
+/// The fragment of a leaf, read from its object: one call for the header, and one for each 64 pairs or less. Takes memory
+/// for the names.
+///
+/// Refused `Damaged`, with the object's name, where the object is absent or isn't one that spells a fragment with no name
+/// of another leaf, and otherwise as the store refuses a call (`StoreFault`), or `NoMemory`. The objects stay as they are.
+pub fn load<S: Store>(
+    alloc: Global,
+    store: &mut S,
+    dir: Ino,
+    frag: Frag,
+) -> Result<CachedFrag, Refusal>
+    ensures loaded { IfOk result (λ loaded. Loads frag (object_of (S.objects store.old) dir frag) (Some loaded)) }
+    ensures refused { IfErr result (MayNotLoad dir frag (object_of (S.objects store.old) dir frag) (S.faults store.old) (S.faults store.new)) }
+    ensures same { S.objects store.new ≡ S.objects store.old }
+    ensures grows { S.faults store.old ≤ S.faults store.new }
+{
+    let name = ObjName::Frag(dir, frag);
+    let text = format!(in alloc; "{name}")?;
+    match load_object(alloc, store, text.as_str(), frag)? {
+        Some(loaded) => Ok(loaded),
+        None => Err(Refusal::Damaged(name)),
+    }
+}
+
+// The fragment that the object of this name spells; none, where it spells none.
+fn load_object<S: Store>(
+    alloc: Global,
+    store: &mut S,
+    text: &str,
+    frag: Frag,
+) -> Result<Option<CachedFrag>, Refusal>
+    ensures loaded { IfOk result (Loads frag (map.get (S.objects store.old) text.now)) }
+    ensures refused { IfErr result (MayRefuse (S.faults store.old) (S.faults store.new)) }
+    ensures same { S.objects store.new ≡ S.objects store.old }
+    ensures grows { S.faults store.old ≤ S.faults store.new }
+{
+    let Some(header) = read_header(alloc, store, text)? else {
+        return Ok(None);
+    };
+    let Some(names) = read_names(alloc, store, text, frag)? else {
+        return Ok(None);
+    };
+    Ok(counted(CachedFrag::stored(alloc, header.version, names), header))
+}
+
+// The fragment, if the header has its counts.
+fn counted(loaded: CachedFrag, header: FragHeader) -> Option<CachedFrag>
+    ensures { IsCounted loaded header result }
+{
+    let counts = loaded.counts();
+    if counts.files == header.files && counts.dirs == header.dirs {
+        Some(loaded)
+    } else {
+        None
+    }
+}
+
+// The header of the object; none, where the object is absent or its header is off the grammar.
+fn read_header<S: Store>(
+    alloc: Global,
+    store: &mut S,
+    text: &str,
+) -> Result<Option<FragHeader>, Refusal>
+    ensures read { IfOk result (IsHeaderOf (map.get (S.objects store.old) text.now)) }
+    ensures refused { IfErr result (MayRefuse (S.faults store.old) (S.faults store.new)) }
+    ensures same { S.objects store.new ≡ S.objects store.old }
+    ensures grows { S.faults store.old ≤ S.faults store.new }
+{
+    match store.header(alloc, text)? {
+        Some(bytes) => Ok(decode_header(bytes.as_slice())),
+        None => Ok(None),
+    }
+}
+
+// The names of the object's pairs; none, where the object is absent, or a pair is off the grammar or belongs elsewhere.
+fn read_names<S: Store>(
+    alloc: Global,
+    store: &mut S,
+    text: &str,
+    frag: Frag,
+) -> Result<Option<SortedMap<Name, Inode>>, Refusal>
+    ensures read { IfOk result (AreNamesOf frag (map.get (S.objects store.old) text.now)) }
+    ensures refused { IfErr result (MayRefuse (S.faults store.old) (S.faults store.new)) }
+    ensures same { S.objects store.new ≡ S.objects store.old }
+    ensures grows { S.faults store.old ≤ S.faults store.new }
+{
+    let mut names = SortedMap::new(alloc);
+    let mut after = None;
+    loop {
+        match read_page(alloc, store, text, frag, &mut names, after.as_ref())? {
+            PageEnd::Off => return Ok(None),
+            PageEnd::Last => return Ok(Some(names)),
+            PageEnd::More(key) => after = Some(key),
+        }
+    }
+}
+
+// Adds the names of the next pairs of the object.
+fn read_page<S: Store>(
+    alloc: Global,
+    store: &mut S,
+    text: &str,
+    frag: Frag,
+    names: &mut SortedMap<Name, Inode>,
+    after: Option<&Bytes>,
+) -> Result<PageEnd, Refusal>
+    ensures read { IfOk result (EndsPage frag (map.get (S.objects store.old) text.now) (option_copied after.entry) (contents key_cmp names.old) (contents key_cmp names.new)) }
+    ensures refused { IfErr result (MayRefuse (S.faults store.old) (S.faults store.new)) }
+    ensures same { S.objects store.new ≡ S.objects store.old }
+    ensures grows { S.faults store.old ≤ S.faults store.new }
+{
+    match store.page(alloc, text, after, PAGE)? {
+        Some(page) => Ok(add_page(alloc, names, frag, page)?),
+        None => Ok(PageEnd::Off),
+    }
+}
+
+// Adds the names of a page.
+fn add_page(
+    alloc: Global,
+    names: &mut SortedMap<Name, Inode>,
+    frag: Frag,
+    page: Page,
+) -> Result<PageEnd, AllocError>
+    ensures { (pairs : PairMap) (after : Option (List ℕ)) → page ≡ page_of pairs after 64 → IfOk result (EndsPairs frag pairs after (contents key_cmp names.old) (contents key_cmp names.new)) }
+{
+    let more = page.more();
+    let pairs = page.into_pairs();
+    if !add_pairs(alloc, names, frag, &pairs)? {
+        return Ok(PageEnd::Off);
+    }
+    Ok(end_of(more, pairs))
+}
+
+// What follows a page whose pairs are good.
+fn end_of(more: bool, mut pairs: Vec<(Bytes, Bytes)>) -> PageEnd
+    ensures { IsEndOf more pairs.items result }
+{
+    if !more {
+        return PageEnd::Last;
+    }
+    match pairs.pop() {
+        Some(pair) => PageEnd::More(pair.0),
+        None => PageEnd::Last,
+    }
+}

@@ -1,5 +1,0 @@
-use Rattle.dirfrag_steps.proofs.ChangeLaws.{changes_are_right as law}
-use Rattle.dirfrag_steps.proofs.laws.changes_are_right.Goals as goal
-
-pub returns : goal.returns
-returns c = law

@@ -1,3 +1,0 @@
-pub mod LoadLaws
-pub mod PageSteps
-pub mod PairLaws

@@ -1,5 +1,0 @@
-use Rattle.frag_fetch.proofs.PairLaws.{name_is}
-use Rattle.frag_fetch.proofs.pairs.named.Goals as goal
-
-pub returns : goal.returns
-returns c = name_is c.args.key.now _ c.name_of.ensures.named

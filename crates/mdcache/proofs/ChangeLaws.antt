@@ -1,0 +1,390 @@
+-- The four changes are right.
+use Rattle.std.proofs.Common.{◌≡◌, ◌⊎◌, inl, inr, ℕ, zero, suc, ◌<◌, ◌^◌, Bool, true, false, cond, List, [], ◌∷◌, Option, Some, None, refl, sym, ap, subst, ◌∙◌, arith}
+use Rattle.std.specs.Prelude.{map as each}
+use Rattle.std.specs.List.{Contains}
+use Rattle.std.specs.FinMap as map
+use Rattle.mds_types.specs.declared.ids.Ino.{Ino}
+use Rattle.mds_types.specs.declared.dentries.Dentry.{Dentry}
+use Rattle.mds_types.specs.declared.inodes.Inode.{Inode}
+use Rattle.mds_types.specs.Frag.{Fragment}
+use Rattle.mds_types.specs.Tree.{IsWellFormed, NothingIn, Tree, is_dir_kind, is_directory}
+use Rattle.mds_types.specs.Step.{IsMove, with_moved}
+use Rattle.mds_types.proofs.DirectoryLaws.{entry_stands}
+use Rattle.mds_types.proofs.EntryLaws.{stands_after_removal}
+use Rattle.dentry_cache.specs.Cache.{Leaf, leaf_is}
+use Rattle.dentry_cache.proofs.LeafLaws.{leaf_or_apart}
+use Rattle.inode_table.specs.Dirs.{Covers, Homes, IsTable, MayCome, MayGo, MayMove as MayRelocate, is_known, leaves_of}
+use Rattle.inode_table.specs.TreeChanges.{MayRemove}
+use Rattle.inode_table.specs.TreeTable.{IsTabled, home_at, with_home, without_cover, without_home}
+use Rattle.inode_table.proofs.TableLaws.{added_tabled, dir_or_not, known_is, leaves_kept, may_come, may_drop, nothing_in, removed_tabled, set_tabled, with_dir, with_file}
+use Rattle.inode_table.proofs.MoveLaws.{may_relocate, may_replace, moved_tabled, replaced_empty}
+use Rattle.fragtree.specs.FragTree.{HasLeaf}
+use Rattle.fragtree.proofs.TreeLaws.{first_or_later}
+use Rattle.namespace_ops.specs.Changes.{IsLeafAt, MayChange, directory_at, fragments_of, in_directory, leaves, leaves_gone, moved}
+use Rattle.namespace_ops.specs.declared.plans.Change.TheVariants.{Add, Set, Remove, Move}
+use Rattle.mdcache.specs.Changes.{IsNamed, Makes, with_directory, with_home_at, without, without_directory}
+use Rattle.mdcache.specs.Made.{ChangesAreRight, IsRight, StaysAsItIs}
+use Rattle.mdcache.specs.Shown.{shown_tree}
+use Rattle.mdcache.specs.Sound.{IsSound}
+use Rattle.mdcache.specs.State.{IsLive, State}
+use Rattle.mdcache.proofs.NamedLaws.{HasSoundLeaves, named_leaves, named_tree, shows_beside, sound_again, sound_leaves, with_at}
+use Rattle.mdcache.proofs.HomeLaws.{grown_leaves, grown_live, grown_names, grown_tree, moved_home, moved_known, rehomed_leaves, rehomed_live, rehomed_tree}
+use Rattle.mdcache.proofs.GoneLaws.{left_leaves, left_live, left_names, left_tree}
+
+-- ---- what stays
+
+stays_on : (a b c : State) (leaf : Leaf) → StaysAsItIs a b leaf → StaysAsItIs b c leaf → StaysAsItIs a c leaf
+stays_on a b c leaf first second = record { live = second.live; names = second.names ∙ first.names }
+
+-- a leaf that isn't on a list isn't its first, nor on the rest
+not_first : (q leaf : Leaf) (rest : List Leaf) → (Contains (leaf ∷ rest) q → ⊥) → leaf_is q leaf ≡ false
+not_first q leaf rest none = go (leaf_or_apart q leaf)
+  where
+    go : (q ≡ leaf) ⊎ (leaf_is q leaf ≡ false) → leaf_is q leaf ≡ false
+    go (inl same) = absurd (none (zero, omega arith, sym same))
+    go (inr apart) = apart
+
+not_later : (q leaf : Leaf) (rest : List Leaf) → (Contains (leaf ∷ rest) q → ⊥) → Contains rest q → ⊥
+not_later q leaf rest none (k, stands, is) = none (suc k, omega (arith, stands), is)
+
+-- ---- one name
+
+-- what a name that changed leaves
+record IsNamedSo (old new : State) (dentry : Dentry) (f : Fragment) (inode : Option Inode) : Type 0 where
+  leaves : HasSoundLeaves new
+  tree : shown_tree new ≡ with_at (shown_tree old) dentry inode
+  homes : new.homes ≡ old.homes
+  covers : new.covers ≡ old.covers
+  stays : (leaf : Leaf) → leaf_is leaf (dentry.dir, f) ≡ false → IsLive old.homes old.covers leaf → StaysAsItIs old new leaf
+
+named_so : (old new : State) (dentry : Dentry) (f : Fragment) (inode : Option Inode) → HasSoundLeaves old → is_known old.homes dentry.dir.0 ≡ true → IsLeafAt old.covers dentry f → IsNamed old new (dentry.dir, f) dentry.name inode
+    → IsNamedSo old new dentry f inode
+named_so old new dentry f inode sound known pick named =
+    subst (λ (t : State). IsNamedSo old t dentry f inode) (sym named.left) (record {
+      leaves = named_leaves old sound dentry f inode live pick named.before named.stands;
+      tree = named_tree old sound dentry f inode live pick named.before named.stands;
+      homes = refl;
+      covers = refl;
+      stays = λ leaf apart is. record { live = is; names = shows_beside old sound dentry f inode live pick named.before named.stands leaf apart };
+    })
+  where
+    live : IsLive old.homes old.covers (dentry.dir, f)
+    live = record { known = known; stands = pick.stands }
+
+-- the directory of an entry is known
+dir_known : (s : State) (dentry : Dentry) → IsSound s → is_directory (shown_tree s) dentry.dir.0 ≡ true → is_known s.homes dentry.dir.0 ≡ true
+dir_known s dentry sound is = known_is (shown_tree s) s.homes sound.tabled dentry.dir.0 ∙ is
+
+entry_known : (s : State) (dentry : Dentry) (inode : Inode) → IsSound s → map.get (shown_tree s) dentry ≡ Some inode → is_known s.homes dentry.dir.0 ≡ true
+entry_known s dentry inode sound stands = dir_known s dentry sound (sound.tabled.whole.parents dentry.dir.0 dentry.name inode stands)
+
+-- a table of one tree is that of another that is equal
+tabled_as : (old new : Tree) (homes now : Homes) → new ≡ old → now ≡ homes → IsTabled old homes → IsTabled new now
+tabled_as old new homes now tree same tabled = subst (λ (h : Homes). IsTabled new h) (sym same) (subst (λ (t : Tree). IsTabled t homes) (sym tree) tabled)
+
+-- ---- other attributes
+
+set_right : (dentry : Dentry) (f : Fragment) (inode : Inode) (old new : State) → IsSound old → MayChange (shown_tree old) old.covers (Set dentry f inode) → Makes (Set dentry f inode) old new → IsRight (Set dentry f inode) old new
+set_right dentry f inode old new sound may makes =
+    let so = named_so old new dentry f (Some inode) (sound_leaves old sound) (entry_known old dentry may.takes.before sound may.takes.stands) may.carries makes in
+    record {
+      sound = sound_again new so.leaves (tabled_as (map.insert (shown_tree old) dentry inode) (shown_tree new) old.homes new.homes so.tree so.homes (set_tabled (shown_tree old) old.homes dentry inode sound.tabled may.takes));
+      tree = so.tree;
+      leaves = λ d is. ap (λ (c : Covers). leaves_of c d) so.covers;
+      frame = λ leaf none live. so.stays leaf (not_first leaf (dentry.dir, f) [] none) live;
+    }
+
+-- ---- a new inode
+
+module _ (dentry : Dentry) (f : Fragment) (inode : Inode) (old named : State) (sound : IsSound old) (fits : inode.ino.0 < 2 ^ 64) (may : MayChange (shown_tree old) old.covers (Add dentry f inode))
+    (so : IsNamedSo old named dentry f (Some inode)) where
+  grown_tabled : IsTabled (map.insert (shown_tree old) dentry inode) (with_home old.homes dentry inode)
+  grown_tabled = added_tabled (shown_tree old) old.homes dentry inode sound.tabled may.takes
+
+  added_file : is_dir_kind inode.kind ≡ false → IsRight (Add dentry f inode) old named
+  added_file kinded = record {
+    sound = sound_again named so.leaves (tabled_as (map.insert (shown_tree old) dentry inode) (shown_tree named) (with_home old.homes dentry inode) named.homes so.tree (so.homes ∙ sym (with_file old.homes dentry inode kinded)) grown_tabled);
+    tree = so.tree;
+    leaves = λ d is. ap (λ (c : Covers). leaves_of c d) so.covers;
+    frame = λ leaf none live. so.stays leaf (not_first leaf (dentry.dir, f) [] none) live;
+  }
+
+  added_dir : is_dir_kind inode.kind ≡ true → IsRight (Add dentry f inode) old (with_directory named dentry inode.ino)
+  added_dir kinded = record {
+    sound = sound_again grown (grown_leaves named so.leaves dentry inode.ino come fits) (tabled_as (map.insert (shown_tree old) dentry inode) (shown_tree grown) (with_home old.homes dentry inode) grown.homes tree homes grown_tabled);
+    tree = tree;
+    leaves = λ d is. ap (λ (c : Covers). leaves_of c d) so.covers;
+    frame = λ leaf none live.
+        let first = so.stays leaf (not_first leaf (dentry.dir, f) [] none) live in
+        stays_on old named grown leaf first (record { live = grown_live named so.leaves dentry inode.ino come fits leaf first.live; names = grown_names named so.leaves dentry inode.ino come fits leaf first.live });
+  }
+    where
+      grown : State
+      grown = with_directory named dentry inode.ino
+
+      come : MayCome named.homes inode.ino.0 (home_at dentry)
+      come = subst (λ (h : Homes). MayCome h inode.ino.0 (home_at dentry)) (sym so.homes) (may_come (shown_tree old) old.homes dentry inode sound.tabled may.takes)
+
+      tree : shown_tree grown ≡ map.insert (shown_tree old) dentry inode
+      tree = grown_tree named so.leaves dentry inode.ino come fits ∙ so.tree
+
+      homes : grown.homes ≡ with_home old.homes dentry inode
+      homes = ap (λ (h : Homes). map.insert h inode.ino.0 (home_at dentry)) so.homes ∙ sym (with_dir old.homes dentry inode kinded)
+
+add_right : (dentry : Dentry) (f : Fragment) (inode : Inode) (old new : State) → IsSound old → inode.ino.0 < 2 ^ 64 → MayChange (shown_tree old) old.covers (Add dentry f inode) → Makes (Add dentry f inode) old new
+    → IsRight (Add dentry f inode) old new
+add_right dentry f inode old new sound fits may makes = go (dir_or_not inode)
+  where
+    so : IsNamedSo old makes.0 dentry f (Some inode)
+    so = named_so old makes.0 dentry f (Some inode) (sound_leaves old sound) (dir_known old dentry sound may.takes.parent) may.carries makes.1
+
+    is_with : (b : Bool) → is_dir_kind inode.kind ≡ b → new ≡ cond b (with_directory makes.0 dentry inode.ino) makes.0
+    is_with b is = makes.2 ∙ ap (λ (c : Bool). cond c (with_directory makes.0 dentry inode.ino) makes.0) is
+
+    go : (is_dir_kind inode.kind ≡ true) ⊎ (is_dir_kind inode.kind ≡ false) → IsRight (Add dentry f inode) old new
+    go (inl kinded) = subst (IsRight (Add dentry f inode) old) (sym (is_with true kinded)) (added_dir dentry f inode old makes.0 sound fits may so kinded)
+    go (inr kinded) = subst (IsRight (Add dentry f inode) old) (sym (is_with false kinded)) (added_file dentry f inode old makes.0 sound fits may so kinded)
+
+-- ---- what goes
+
+-- what went leaves a state behind, of whatever was there before
+record IsLeftSo (named new : State) (gone : Option Ino) : Type 0 where
+  leaves : HasSoundLeaves new
+  tree : shown_tree new ≡ shown_tree named
+  stays : (leaf : Leaf) → (Contains (leaves_gone named.covers gone) leaf → ⊥) → IsLive named.homes named.covers leaf → StaysAsItIs named new leaf
+
+-- a leaf of a directory that goes is one of those of it
+one_of_those : (covers : Covers) (d : ℕ) (leaf : Leaf) → (Contains (leaves covers d) leaf → ⊥) → HasLeaf (leaves_of covers leaf.0.0) leaf.1 → leaf.0.0 ≡ d → ⊥
+one_of_those covers d leaf none stands same =
+    none (subst (λ (l : Leaf). Contains (leaves covers d) l) (λ i. (record { 0 = sym same i }, leaf.1)) (mapped (leaves_of covers d) (subst (λ (e : ℕ). HasLeaf (leaves_of covers e) leaf.1) same stands)))
+  where
+    mapped : (fs : List Fragment) → HasLeaf fs leaf.1 → Contains (each (in_directory d) fs) (in_directory d leaf.1)
+    mapped [] (k, stands, is) = absurd (omega (arith, stands))
+    mapped (g ∷ gs) has = go (mapped gs) (first_or_later g leaf.1 gs has)
+      where
+        go : (HasLeaf gs leaf.1 → Contains (each (in_directory d) gs) (in_directory d leaf.1)) → (g ≡ leaf.1) ⊎ HasLeaf gs leaf.1 → Contains (each (in_directory d) (g ∷ gs)) (in_directory d leaf.1)
+        go next (inl here) = (zero, omega arith, ap (in_directory d) here)
+        go next (inr more) = let n = next more in let stands = n.1 in (suc n.0, omega (arith, stands), n.2)
+
+dir_left : (named : State) (dir : Ino) → HasSoundLeaves named → MayGo named.homes dir.0 → is_known named.homes dir.0 ≡ true → NothingIn (shown_tree named) dir.0 → IsLeftSo named (without_directory named dir) (Some dir)
+dir_left named dir sound may known nothing = record {
+  leaves = left_leaves named sound dir may known nothing;
+  tree = left_tree named sound dir may known nothing;
+  stays = λ leaf none live.
+      let apart = one_of_those named.covers dir.0 leaf none live.stands in
+      record { live = left_live named sound dir may known nothing leaf apart live; names = left_names named sound dir may known nothing leaf apart };
+}
+
+none_left : (named : State) → HasSoundLeaves named → IsLeftSo named named None
+none_left named sound = record { leaves = sound; tree = refl; stays = λ leaf none live. record { live = live; names = refl } }
+
+-- the table and the leaves of directories without what stood at a dentry
+homes_without : (s : State) (found : Option Inode) → (without s (directory_at found)).homes ≡ without_home s.homes found
+homes_without s None = refl
+homes_without s (Some inode) = go (is_dir_kind inode.kind)
+  where
+    go : (b : Bool) → (without s (cond b (Some inode.ino) None)).homes ≡ cond b (map.remove s.homes inode.ino.0) s.homes
+    go true = refl
+    go false = refl
+
+covers_without : (s : State) (found : Option Inode) → (without s (directory_at found)).covers ≡ without_cover s.covers found
+covers_without s None = refl
+covers_without s (Some inode) = go (is_dir_kind inode.kind)
+  where
+    go : (b : Bool) → (without s (cond b (Some inode.ino) None)).covers ≡ cond b (map.remove s.covers inode.ino.0) s.covers
+    go true = refl
+    go false = refl
+
+-- what stood at a dentry goes, whatever it was
+left_so : (named : State) (found : Option Inode) → HasSoundLeaves named
+    → ((inode : Inode) → found ≡ Some inode → is_dir_kind inode.kind ≡ true → MayGo named.homes inode.ino.0 × (is_known named.homes inode.ino.0 ≡ true) × NothingIn (shown_tree named) inode.ino.0)
+    → IsLeftSo named (without named (directory_at found)) (directory_at found)
+left_so named None sound may = none_left named sound
+left_so named (Some inode) sound may = go (is_dir_kind inode.kind) refl
+  where
+    go : (b : Bool) → is_dir_kind inode.kind ≡ b → IsLeftSo named (without named (cond b (Some inode.ino) None)) (cond b (Some inode.ino) None)
+    go true kinded = let m = may inode refl kinded in dir_left named inode.ino sound m.0 m.1 m.2
+    go false kinded = none_left named sound
+
+-- an entry that stands for a directory is known
+stands_known : (s : State) (dentry : Dentry) (inode : Inode) → IsSound s → map.get (shown_tree s) dentry ≡ Some inode → is_dir_kind inode.kind ≡ true → is_known s.homes inode.ino.0 ≡ true
+stands_known s dentry inode sound stands kinded = known_is (shown_tree s) s.homes sound.tabled inode.ino.0 ∙ entry_stands (shown_tree s) dentry inode stands kinded
+
+-- ---- a removal
+
+-- where an entry went, nothing is in what stood there
+removed_empty : (tree : Tree) (dentry : Dentry) → IsWellFormed tree → (may : MayRemove tree dentry) → NothingIn (map.remove tree dentry) may.inode.ino.0
+removed_empty tree dentry whole may q x stands same = nothing_in tree dentry may.inode whole may.stands may.empty q x (stands_after_removal tree dentry q x stands).1 same
+
+remove_right : (dentry : Dentry) (f : Fragment) (gone : Option Ino) (old new : State) → IsSound old → MayChange (shown_tree old) old.covers (Remove dentry f gone) → Makes (Remove dentry f gone) old new → IsRight (Remove dentry f gone) old new
+remove_right dentry f gone old new sound may makes = record {
+  sound = sound_again new its.leaves (tabled_as (map.remove (shown_tree old) dentry) (shown_tree new) (without_home old.homes found) new.homes tree homes tabled);
+  tree = tree;
+  leaves = leaves_kept (shown_tree old) (shown_tree new) new.homes old.homes old.covers new.covers dentry found (tabled_as (map.remove (shown_tree old) dentry) (shown_tree new) (without_home old.homes found) new.homes tree homes tabled)
+      sound.tabled.whole refl homes covers;
+  frame = λ leaf none live.
+      let first = so.stays leaf (not_first leaf (dentry.dir, f) (leaves_gone old.covers gone) none) live in
+      stays_on old named new leaf first (its.stays leaf (λ has. not_later leaf (dentry.dir, f) (leaves_gone old.covers gone) none (subst (λ (c : Covers). Contains (leaves_gone c gone) leaf) so.covers has)) first.live);
+}
+  where
+    named : State
+    named = makes.0
+
+    found : Option Inode
+    found = map.get (shown_tree old) dentry
+
+    so : IsNamedSo old named dentry f None
+    so = named_so old named dentry f None (sound_leaves old sound) (entry_known old dentry may.takes.inode sound may.takes.stands) may.carries.0 makes.1
+
+    is : new ≡ without named (directory_at found)
+    is = makes.2 ∙ ap (without named) may.carries.1
+
+    may_leave : (inode : Inode) → found ≡ Some inode → is_dir_kind inode.kind ≡ true → MayGo named.homes inode.ino.0 × (is_known named.homes inode.ino.0 ≡ true) × NothingIn (shown_tree named) inode.ino.0
+    may_leave inode there kinded =
+        let inodes : Some may.takes.inode ≡ Some inode = sym may.takes.stands ∙ there in
+        let alike : may.takes.inode ≡ inode = cc in (
+          subst (λ (h : Homes). MayGo h inode.ino.0) (sym so.homes) (may_drop (shown_tree old) old.homes dentry found refl sound.tabled may.takes inode there kinded),
+          ap (λ (h : Homes). is_known h inode.ino.0) so.homes ∙ stands_known old dentry inode sound there kinded,
+          subst (λ (t : Tree). NothingIn t inode.ino.0) (sym so.tree) (subst (λ (i : Inode). NothingIn (map.remove (shown_tree old) dentry) i.ino.0) alike (removed_empty (shown_tree old) dentry sound.tabled.whole may.takes)),
+        )
+
+    its : IsLeftSo named new gone
+    its = subst (λ (g : Option Ino). IsLeftSo named new g) (sym may.carries.1) (subst (λ (t : State). IsLeftSo named t (directory_at found)) (sym is) (left_so named found so.leaves may_leave))
+
+    tree : shown_tree new ≡ map.remove (shown_tree old) dentry
+    tree = its.tree ∙ so.tree
+
+    homes : new.homes ≡ without_home old.homes found
+    homes = ap (λ (t : State). t.homes) is ∙ homes_without named found ∙ ap (λ (h : Homes). without_home h found) so.homes
+
+    covers : new.covers ≡ without_cover old.covers found
+    covers = ap (λ (t : State). t.covers) is ∙ covers_without named found ∙ ap (λ (c : Covers). without_cover c found) so.covers
+
+    tabled : IsTabled (map.remove (shown_tree old) dentry) (without_home old.homes found)
+    tabled = removed_tabled (shown_tree old) old.homes dentry found refl sound.tabled may.takes
+
+-- ---- a move
+
+-- the entry that stands there is the one that moves
+pub moving : (tree : Tree) (from to : Dentry) (inode : Inode) → map.get tree from ≡ Some inode → (i : Inode) × IsMove tree from to i → IsMove tree from to inode
+moving tree from to inode stands may =
+    let inodes : Some may.0 ≡ Some inode = sym may.1.stands ∙ stands in
+    let alike : may.0 ≡ inode = cc in
+    subst (λ (i : Inode). IsMove tree from to i) alike may.1
+
+module _ (from to : Dentry) (source target : Fragment) (gone : Option Ino) (old new : State) (sound : IsSound old) (may : MayChange (shown_tree old) old.covers (Move from source to target gone))
+    (makes : Makes (Move from source to target gone) old new) where
+  abbrev inode : Inode
+  inode = makes.0
+
+  abbrev out : State
+  out = makes.2
+
+  abbrev in_place : State
+  in_place = makes.4
+
+  abbrev housed : State
+  housed = with_home_at in_place to inode
+
+  abbrev found : Option Inode
+  found = map.get (shown_tree old) to
+
+  move : IsMove (shown_tree old) from to inode
+  move = moving (shown_tree old) from to inode makes.1 may.takes
+
+  first : IsNamedSo old out from source None
+  first = named_so old out from source None (sound_leaves old sound) (entry_known old from inode sound makes.1) may.carries.0 makes.3
+
+  second : IsNamedSo out in_place to target (Some inode)
+  second =
+      named_so out in_place to target (Some inode) first.leaves (ap (λ (h : Homes). is_known h to.dir.0) first.homes ∙ dir_known old to sound move.parent)
+      (subst (λ (c : Covers). IsLeafAt c to target) (sym first.covers) may.carries.1) makes.5
+
+  same_homes : in_place.homes ≡ old.homes
+  same_homes = second.homes ∙ first.homes
+
+  same_covers : in_place.covers ≡ old.covers
+  same_covers = second.covers ∙ first.covers
+
+  named_tree_is : shown_tree in_place ≡ with_moved (shown_tree old) from to inode
+  named_tree_is = second.tree ∙ ap (λ (t : Tree). map.insert t to inode) first.tree
+
+  relocates : is_dir_kind inode.kind ≡ true → MayRelocate in_place.homes inode.ino.0 (home_at to)
+  relocates kinded = subst (λ (h : Homes). MayRelocate h inode.ino.0 (home_at to)) (sym same_homes) (may_relocate (shown_tree old) old.homes from to inode sound.tabled move kinded)
+
+  known_still : (d : ℕ) → is_known housed.homes d ≡ is_known in_place.homes d
+  known_still = moved_known in_place.homes in_place.covers second.leaves.table to inode relocates
+
+  table_still : IsTable housed.homes in_place.covers
+  table_still = moved_home in_place.homes in_place.covers second.leaves.table to inode relocates
+
+  housed_leaves : HasSoundLeaves housed
+  housed_leaves = rehomed_leaves in_place housed.homes second.leaves table_still known_still
+
+  housed_tree : shown_tree housed ≡ with_moved (shown_tree old) from to inode
+  housed_tree = rehomed_tree in_place housed.homes second.leaves table_still known_still ∙ named_tree_is
+
+  housed_homes : housed.homes ≡ with_home old.homes to inode
+  housed_homes = ap (λ (h : Homes). with_home h to inode) same_homes
+
+  is : new ≡ without housed (directory_at found)
+  is = makes.6 ∙ ap (without housed) may.carries.2
+
+  may_leave : (i : Inode) → found ≡ Some i → is_dir_kind i.kind ≡ true → MayGo housed.homes i.ino.0 × (is_known housed.homes i.ino.0 ≡ true) × NothingIn (shown_tree housed) i.ino.0
+  may_leave i there kinded = (
+    subst (λ (h : Homes). MayGo h i.ino.0) (sym housed_homes) (may_replace (shown_tree old) old.homes from to inode sound.tabled move i there),
+    known_still i.ino.0 ∙ ap (λ (h : Homes). is_known h i.ino.0) same_homes ∙ stands_known old to i sound there kinded,
+    subst (λ (t : Tree). NothingIn t i.ino.0) (sym housed_tree) (replaced_empty (shown_tree old) from to inode sound.tabled.whole move i there),
+  )
+
+  its : IsLeftSo housed new gone
+  its = subst (λ (g : Option Ino). IsLeftSo housed new g) (sym may.carries.2) (subst (λ (t : State). IsLeftSo housed t (directory_at found)) (sym is) (left_so housed found housed_leaves may_leave))
+
+  tree_is : shown_tree new ≡ with_moved (shown_tree old) from to inode
+  tree_is = its.tree ∙ housed_tree
+
+  homes_are : new.homes ≡ without_home (with_home old.homes to inode) found
+  homes_are = ap (λ (t : State). t.homes) is ∙ homes_without housed found ∙ ap (λ (h : Homes). without_home h found) housed_homes
+
+  covers_are : new.covers ≡ without_cover old.covers found
+  covers_are = ap (λ (t : State). t.covers) is ∙ covers_without housed found ∙ ap (λ (c : Covers). without_cover c found) same_covers
+
+  tabled_now : IsTabled (shown_tree new) new.homes
+  tabled_now = tabled_as (with_moved (shown_tree old) from to inode) (shown_tree new) (without_home (with_home old.homes to inode) found) new.homes tree_is homes_are (moved_tabled (shown_tree old) old.homes from to inode sound.tabled move)
+
+  untouched : (leaf : Leaf) → (Contains (fragments_of old.covers (Move from source to target gone)) leaf → ⊥) → IsLive old.homes old.covers leaf → StaysAsItIs old new leaf
+  untouched leaf none live = stays_on old in_place new leaf at_second (stays_on in_place housed new leaf at_third (its.stays leaf others at_third.live))
+    where
+      rest : List Leaf
+      rest = leaves_gone old.covers gone
+
+      not_from : Contains ((to.dir, target) ∷ rest) leaf → ⊥
+      not_from = not_later leaf (from.dir, source) ((to.dir, target) ∷ rest) none
+
+      at_first : StaysAsItIs old out leaf
+      at_first = first.stays leaf (not_first leaf (from.dir, source) ((to.dir, target) ∷ rest) none) live
+
+      at_second : StaysAsItIs old in_place leaf
+      at_second = stays_on old out in_place leaf at_first (second.stays leaf (not_first leaf (to.dir, target) rest not_from) at_first.live)
+
+      at_third : StaysAsItIs in_place housed leaf
+      at_third = record { live = rehomed_live in_place housed.homes second.leaves table_still known_still leaf at_second.live; names = refl }
+
+      others : Contains (leaves_gone housed.covers gone) leaf → ⊥
+      others has = not_later leaf (to.dir, target) rest not_from (subst (λ (c : Covers). Contains (leaves_gone c gone) leaf) same_covers has)
+
+  move_right : IsRight (Move from source to target gone) old new
+  move_right = record {
+    sound = sound_again new its.leaves tabled_now;
+    tree = tree_is ∙ sym (ap (moved (shown_tree old) from to) makes.1);
+    leaves = leaves_kept (shown_tree old) (shown_tree new) new.homes (with_home old.homes to inode) old.covers new.covers to found tabled_now sound.tabled.whole refl homes_are covers_are;
+    frame = untouched;
+  }
+
+-- ---- every change
+
+pub changes_are_right : ChangesAreRight
+changes_are_right (Add dentry leaf inode) old new sound fits may makes = add_right dentry leaf inode old new sound fits may makes
+changes_are_right (Set dentry leaf inode) old new sound fits may makes = set_right dentry leaf inode old new sound may makes
+changes_are_right (Remove dentry leaf gone) old new sound fits may makes = remove_right dentry leaf gone old new sound may makes
+changes_are_right (Move from source to target gone) old new sound fits may makes = move_right from to source target gone old new sound may makes

@@ -1,0 +1,274 @@
+-- What the end of a commit keeps.
+use Rattle.std.proofs.Common.{◌≡◌, inl, ℕ, ◌<◌, Bool, true, false, cond, not, List, Option, Some, None, refl, sym, ap, subst, ◌∙◌, arith}
+use Rattle.std.specs.Prelude.{◌==◌, is_some}
+use Rattle.std.proofs.lemmas.Bool.{eqb-true}
+use Rattle.std.specs.Ordering.{eq_by_cmp}
+use Rattle.std.specs.FinMap as map
+use Rattle.std.specs.FinMap.{empty_of_len}
+use Rattle.sorted_map.proofs.OverlayLaws.{none_entries}
+use Rattle.mds_types.specs.declared.inodes.Inode.{Inode}
+use Rattle.dirfrag_codec.proofs.ByteKeys.{get_beside, get_put, key_itself, key_tied}
+use Rattle.inode_table.specs.TreeTable.{IsTabled}
+use Rattle.omap.specs.Omap.{Omap, key_cmp}
+use Rattle.objstore.specs.Objects.{written}
+use Rattle.dirfrag_codec.specs.FragmentObject.{Names, SpellsFragment}
+use Rattle.dirfrag_codec.proofs.FragmentLaws.{spells_what_it_shows}
+use Rattle.commit_jobs.specs.declared.bases.Base.{Base}
+use Rattle.commit_jobs.specs.declared.bases.Base.TheVariants.{Fresh, Stored}
+use Rattle.commit_jobs.specs.declared.jobs.Job.{Job}
+use Rattle.commit_jobs.specs.Marks.{Marks, patched, with_marks}
+use Rattle.commit_jobs.specs.Snap.{Snap, next_version}
+use Rattle.cached_frag.specs.Cached.{Cached, is_clean, is_clean_over, is_settled, shown, shown_over, unsettled}
+use Rattle.cached_frag.proofs.SettledLaws.{get-unsettled}
+use Rattle.dentry_cache.specs.Loading.{object_of}
+use Rattle.dentry_cache.specs.Cache.{Held, Leaf, Unsaved, cached, held, leaf_is, unsaved, unsaved_of, used_as, with_unsaved}
+use Rattle.dentry_cache.specs.Commits.{IsCommitted}
+use Rattle.dentry_cache.specs.Ties.{Commits, IsRight, IsTied, Keeps, names_at, object_after}
+use Rattle.dentry_cache.proofs.LeafLaws.{flips, leaf_itself, one_leaf, same_leaf}
+use Rattle.dentry_cache.proofs.TieLaws.{committed_are_tied, tied_show}
+use Rattle.mdcache.specs.Cached.{IsKept}
+use Rattle.mdcache.specs.Commits.{HasSpelled, IsEnded, committed, leaf_of, left_of, names_then}
+use Rattle.mdcache.specs.Shown.{names_of, shown_at, shown_tree}
+use Rattle.mdcache.specs.Sound.{AreYoung, IsOf, IsOwned, IsSaved, IsSound, IsStanding, IsUnsaved}
+use Rattle.mdcache.specs.State.{IsLive, State, text_of}
+use Rattle.mdcache.proofs.CachedLaws.{cached_after, get_with, is_cached, unsaved_after}
+use Rattle.mdcache.proofs.SoundLaws.{get_ended, names_alike, stood_before}
+use Rattle.mdcache.proofs.TextLaws.{one_text}
+use Rattle.mdcache.proofs.TreeLaws.{tree_alike}
+
+-- ---- what is clean shows what its object has
+
+pub nothing_patched : (names : Names) (marks : Marks) → map.len marks ≡ 0 → patched names marks ≡ names
+unfolding patched
+nothing_patched names marks none = ap (λ es. with_marks names es) (none_entries marks (empty_of_len marks none))
+
+-- a cached fragment shows what isn't clean of it over its object
+pub cached_shows : (f : Cached) (object : Option Omap) → IsTied f object → shown_at (unsaved_of f) object ≡ shown f
+cached_shows f object tie = go (is_clean f) refl
+  where
+    clean_shows : (b : Base) → f.base ≡ b → is_clean_over b f.dirty ≡ true → names_at object ≡ shown_over b (names_at object) f.dirty
+    clean_shows Fresh is clean = let clash : false ≡ true = clean in cc
+    clean_shows (Stored version) is clean = sym (nothing_patched (names_at object) f.dirty (eqb-true (map.len f.dirty) 0 clean))
+
+    go : (b : Bool) → is_clean f ≡ b → shown_at (cond b None (Some (record { base = f.base; generation = f.generation; dirty = f.dirty }))) object ≡ shown f
+    go true clean = clean_shows f.base refl clean ∙ sym (tied_show f object tie)
+    go false dirty = sym (tied_show f object tie)
+
+-- ---- a commit ended
+
+module _ (s : State) (job : Job) (old : Held) (kept : IsKept s old) (view : s.unsaved ≡ unsaved old.entries) (stood : map.get s.jobs (leaf_of job) ≡ Some job)
+    (f now : Cached) (there : cached old.entries (leaf_of job) ≡ Some f) (done : IsCommitted job.snapshot f now) where
+  abbrev pub leaf : Leaf
+  leaf = leaf_of job
+
+  abbrev pub snap : Snap
+  snap = job.snapshot
+
+  abbrev pub object : Option Omap
+  object = object_of s.objects job.ino job.frag
+
+  abbrev pub here : Omap
+  here = object_after snap object
+
+  abbrev pub stands : IsStanding s leaf job
+  stands = kept.sound.standing leaf job stood
+
+  abbrev pub u : Unsaved
+  u = stands.unsaved
+
+  was_there : map.get (unsaved old.entries) leaf ≡ Some u
+  was_there = ap (λ m. map.get m leaf) (sym view) ∙ stands.beside
+
+  its_own : u ≡ record { base = f.base; generation = f.generation; dirty = f.dirty }
+  its_own =
+      let c = is_cached old leaf u was_there in
+      let one : c.0 ≡ f = let both : Some c.0 ≡ Some f = sym c.1 ∙ there in cc in
+      c.3 ∙ ap (λ (g : Cached). record { base = g.base; generation = g.generation; dirty = g.dirty }) one
+
+  tie : IsTied f object
+  tie = kept.tied leaf f there
+
+  commits : Commits snap f object
+  commits =
+      let o = stands.taken in
+      record { valid = o.valid; based = o.base ∙ ap (λ (v : Unsaved). v.base) its_own; keeps = subst (λ (v : Unsaved). Keeps v.dirty snap.names) its_own o.keeps; counted = o.counted }
+
+  right : IsRight snap now object
+  right = committed_are_tied snap f now object tie commits done
+
+  abbrev pub t : State
+  t = committed s job u
+
+  live : IsLive s.homes s.covers leaf
+  live = (kept.sound.unsaved leaf u stands.beside).live
+
+  -- objects
+
+  object_here : object_of t.objects leaf.0 leaf.1 ≡ Some here
+  unfolding written
+  object_here = get_put s.objects (text_of leaf) _
+
+  object_beside : (q : Leaf) → IsLive s.homes s.covers q → leaf_is q leaf ≡ false → object_of t.objects q.0 q.1 ≡ object_of s.objects q.0 q.1
+  unfolding written
+  object_beside q is apart = get_beside s.objects (text_of leaf) _ (text_of q) (λ same. let clash : true ≡ false = sym (same_leaf q leaf (one_text s.homes s.covers kept.sound.table kept.sound.numbered q leaf is live same)) ∙ apart in cc)
+
+  -- what isn't clean
+
+  left_unsaved : unsaved_of now ≡ left_of u snap
+  left_unsaved =
+      let dirty : now.dirty ≡ unsettled u.dirty snap.names = done.dirty ∙ ap (λ (v : Unsaved). unsettled v.dirty snap.names) (sym its_own) in
+      let generation : now.generation ≡ u.generation = done.generation ∙ ap (λ (v : Unsaved). v.generation) (sym its_own) in
+      let based = done.based in
+      λ i. cond (is_clean_over (based i) (dirty i)) None (Some (record { base = based i; generation = generation i; dirty = dirty i }))
+
+  pub now_unsaved : unsaved (used_as leaf (held now) old).entries ≡ t.unsaved
+  now_unsaved = unsaved_after leaf now old ∙ (λ i. with_unsaved (sym view i) leaf (left_unsaved i))
+
+  unsaved_here : map.get t.unsaved leaf ≡ left_of u snap
+  unsaved_here = get_with s.unsaved leaf leaf (left_of u snap) ∙ ap (λ (b : Bool). cond b (left_of u snap) (map.get s.unsaved leaf)) (leaf_itself leaf)
+
+  unsaved_beside : (q : Leaf) → leaf_is q leaf ≡ false → map.get t.unsaved q ≡ map.get s.unsaved q
+  unsaved_beside q apart = get_with s.unsaved leaf q (left_of u snap) ∙ ap (λ (b : Bool). cond b (left_of u snap) (map.get s.unsaved q)) apart
+
+  -- what is shown
+
+  shows_here : names_of t.unsaved t.objects leaf ≡ names_of s.unsaved s.objects leaf
+  unfolding names_of
+  shows_here =
+      (λ i. shown_at ((unsaved_here ∙ sym left_unsaved) i) (object_here i)) ∙ cached_shows now (Some here) right.tied ∙ done.shown ∙ sym (cached_shows f object tie)
+      ∙ (λ i. shown_at (back i) object)
+    where
+      back : unsaved_of f ≡ map.get s.unsaved leaf
+      back =
+          let c = is_cached old leaf u was_there in
+          let one : c.0 ≡ f = let both : Some c.0 ≡ Some f = sym c.1 ∙ there in cc in
+          ap (λ (b : Bool). cond b None (Some (record { base = f.base; generation = f.generation; dirty = f.dirty }))) (ap is_clean (sym one) ∙ c.2) ∙ ap (λ (v : Unsaved). Some v) (sym its_own) ∙ sym stands.beside
+
+  shows : (q : Leaf) → IsLive s.homes s.covers q → names_of t.unsaved t.objects q ≡ names_of s.unsaved s.objects q
+  shows q is = go (leaf_is q leaf) refl
+    where
+      go : (b : Bool) → leaf_is q leaf ≡ b → names_of t.unsaved t.objects q ≡ names_of s.unsaved s.objects q
+      go true same = subst (λ (l : Leaf). names_of t.unsaved t.objects l ≡ names_of s.unsaved s.objects l) (sym (one_leaf q leaf same)) shows_here
+      go false apart = names_alike s t q (unsaved_beside q apart) (object_beside q is apart)
+
+  pub tree_stays : shown_tree t ≡ shown_tree s
+  tree_stays = tree_alike s.homes s.covers (names_of t.unsaved t.objects) (names_of s.unsaved s.objects) shows
+
+  -- soundness
+
+  younger : AreYoung (unsettled u.dirty snap.names) s.next_version
+  younger name mark is = go (not (is_settled (map.get u.dirty name) (map.get snap.names name))) (sym (get-unsettled u.dirty snap.names name) ∙ is)
+    where
+      go : (b : Bool) → cond b (map.get u.dirty name) None ≡ Some mark → mark.version < s.next_version
+      go true h = (kept.sound.unsaved leaf u stands.beside).young name mark h
+      go false h = let clash : None ≡ Some mark = h in cc
+
+  left_is : (v : Unsaved) (b : Bool) → cond b None (Some (record { base = Stored (next_version snap.base); generation = u.generation; dirty = unsettled u.dirty snap.names })) ≡ Some v → IsUnsaved t leaf v
+  left_is v true h = let clash : None ≡ Some v = h in cc
+  left_is v false h =
+      let same : record { base = Stored (next_version snap.base); generation = u.generation; dirty = unsettled u.dirty snap.names } ≡ v = cc in
+      subst (IsUnsaved t leaf) same (record { live = live; made = (kept.sound.unsaved leaf u stands.beside).made; young = younger })
+
+  unsaved_stays : (q : Leaf) (v : Unsaved) → map.get t.unsaved q ≡ Some v → IsUnsaved t q v
+  unsaved_stays q v is = go (leaf_is q leaf) refl
+    where
+      go : (b : Bool) → leaf_is q leaf ≡ b → IsUnsaved t q v
+      go true same =
+          let key = one_leaf q leaf same in
+          subst (λ (l : Leaf). IsUnsaved t l v) (sym key) (left_is v (map.len (unsettled u.dirty snap.names) == 0) (sym unsaved_here ∙ ap (map.get t.unsaved) (sym key) ∙ is))
+      go false apart = let before = kept.sound.unsaved q v (sym (unsaved_beside q apart) ∙ is) in record { live = before.live; made = before.made; young = before.young }
+
+  spells : SpellsFragment here (next_version snap.base) (names_then snap object)
+  spells = right.spelled
+
+  names_if_clean : map.get t.unsaved leaf ≡ None → names_of t.unsaved t.objects leaf ≡ names_at (Some here)
+  unfolding names_of
+  names_if_clean clean = λ i. shown_at (clean i) (object_here i)
+
+  saved_here : map.get t.unsaved leaf ≡ None → IsSaved leaf.1 (Some here)
+  saved_here clean = (next_version snap.base, names_then snap object, (spells, λ name inode has. (kept.sound.placed leaf name inode live (told name inode has)).contains))
+    where
+      told : (name : List ℕ) (inode : Inode) → map.get (names_then snap object) name ≡ Some inode → map.get (names_of s.unsaved s.objects leaf) name ≡ Some inode
+      told name inode has = ap (λ (n : Names). map.get n name) (sym shows_here ∙ names_if_clean clean ∙ sym (spells_what_it_shows here (next_version snap.base) (names_then snap object) spells)) ∙ has
+
+  saved_stays : (q : Leaf) → IsLive s.homes s.covers q → map.get t.unsaved q ≡ None → IsSaved q.1 (object_of t.objects q.0 q.1)
+  saved_stays q is clean = go (leaf_is q leaf) refl
+    where
+      go : (b : Bool) → leaf_is q leaf ≡ b → IsSaved q.1 (object_of t.objects q.0 q.1)
+      go true same =
+          let key = one_leaf q leaf same in
+          subst (λ (l : Leaf). IsSaved l.1 (object_of t.objects l.0 l.1)) (sym key) (subst (IsSaved leaf.1) (sym object_here) (saved_here (ap (map.get t.unsaved) (sym key) ∙ clean)))
+      go false apart = subst (IsSaved q.1) (sym (object_beside q is apart)) (kept.sound.saved q is (sym (unsaved_beside q apart) ∙ clean))
+
+  owned_stays : (name : List ℕ) → is_some (map.get t.objects name) ≡ true → IsOwned t name
+  unfolding written
+  owned_stays name has = go (eq_by_cmp key_cmp name (text_of leaf)) refl
+    where
+      go : (b : Bool) → eq_by_cmp key_cmp name (text_of leaf) ≡ b → IsOwned t name
+      go true same = inl (leaf, live, key_tied name (text_of leaf) same)
+      go false apart =
+          kept.sound.owned name (ap (λ (o : Option Omap). is_some o) (sym (get_beside s.objects (text_of leaf) _ name (λ same. let clash : true ≡ false = sym (ap (λ (k : List ℕ). eq_by_cmp key_cmp k (text_of leaf)) same ∙ key_itself (text_of leaf)) ∙ apart in cc))) ∙ has)
+
+  stands_stay : (q : Leaf) (i : Job) → map.get t.jobs q ≡ Some i → IsStanding t q i
+  stands_stay q i is = go (leaf_is q leaf) refl
+    where
+      before : IsStanding s q i
+      before = kept.sound.standing q i (stood_before s leaf q i is)
+
+      go : (b : Bool) → leaf_is q leaf ≡ b → IsStanding t q i
+      go true same = let clash : None ≡ Some i = sym (get_ended s leaf q ∙ ap (λ (b : Bool). cond b None (map.get s.jobs q)) same) ∙ is in cc
+      go false apart = record {
+        mine = before.mine;
+        given = before.given;
+        young = before.young;
+        unsaved = before.unsaved;
+        beside = unsaved_beside q apart ∙ before.beside;
+        taken = subst (IsOf i before.unsaved) (sym (object_beside q (kept.sound.unsaved q before.unsaved before.beside).live apart)) before.taken;
+      }
+
+  pub ended_sound : IsSound t
+  ended_sound = record {
+    table = kept.sound.table;
+    numbered = kept.sound.numbered;
+    tabled = subst (λ tree. IsTabled tree s.homes) (sym tree_stays) kept.sound.tabled;
+    placed = λ q name inode is has. kept.sound.placed q name inode is (ap (λ (n : Names). map.get n name) (sym (shows q is)) ∙ has);
+    unsaved = unsaved_stays;
+    saved = saved_stays;
+    owned = owned_stays;
+    listed = kept.sound.listed;
+    standing = stands_stay;
+    once = λ a b i j p q same. kept.sound.once a b i j (stood_before s leaf a i p) (stood_before s leaf b j q) same;
+  }
+
+  tied_stays : (q : Leaf) (g : Cached) → cached (used_as leaf (held now) old).entries q ≡ Some g → IsTied g (object_of t.objects q.0 q.1)
+  tied_stays q g is = go (leaf_is leaf q) refl (sym (cached_after leaf q now old) ∙ is)
+    where
+      go : (b : Bool) → leaf_is leaf q ≡ b → cond b (Some now) (cached old.entries q) ≡ Some g → IsTied g (object_of t.objects q.0 q.1)
+      go true same h =
+          let one : now ≡ g = cc in
+          subst (λ (l : Leaf). IsTied g (object_of t.objects l.0 l.1)) (one_leaf leaf q same) (subst (IsTied g) (sym object_here) (subst (λ (k : Cached). IsTied k (Some here)) one right.tied))
+      go false apart h = subst (IsTied g) (sym (object_beside q (kept.live q g h) (flips q leaf ∙ apart))) (kept.tied q g h)
+
+  live_stays : (q : Leaf) (g : Cached) → cached (used_as leaf (held now) old).entries q ≡ Some g → IsLive s.homes s.covers q
+  live_stays q g is = go (leaf_is leaf q) refl (sym (cached_after leaf q now old) ∙ is)
+    where
+      go : (b : Bool) → leaf_is leaf q ≡ b → cond b (Some now) (cached old.entries q) ≡ Some g → IsLive s.homes s.covers q
+      go true same h = subst (IsLive s.homes s.covers) (one_leaf leaf q same) live
+      go false apart h = kept.live q g h
+
+  made_stays : (q : Leaf) (g : Cached) → cached (used_as leaf (held now) old).entries q ≡ Some g → g.generation < s.next_generation
+  made_stays q g is = go (leaf_is leaf q) refl (sym (cached_after leaf q now old) ∙ is)
+    where
+      go : (b : Bool) → leaf_is leaf q ≡ b → cond b (Some now) (cached old.entries q) ≡ Some g → g.generation < s.next_generation
+      go true same h =
+          let one : now ≡ g = cc in
+          let given = kept.made.given leaf f there in
+          let generation : g.generation ≡ f.generation = ap (λ (k : Cached). k.generation) (sym one) ∙ done.generation in
+          omega (arith, given, generation)
+      go false apart h = kept.made.given q g h
+
+  pub ended_kept : IsKept t (used_as leaf (held now) old)
+  ended_kept = record { sound = ended_sound; live = live_stays; tied = tied_stays; made = record { begun = kept.made.begun; given = made_stays } }
+
+  pub ended : IsEnded s t job
+  ended = record { stood = stood; unsaved = u; beside = stands.beside; left = refl; spelled = subst (λ o. HasSpelled o (next_version snap.base) (names_then snap object)) (sym object_here) spells; tree = tree_stays }

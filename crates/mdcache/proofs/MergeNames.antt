@@ -1,0 +1,176 @@
+-- The names of leaves that are merged are those that the joined fragment contains.
+use Rattle.std.proofs.Common.{◌≡◌, ◌⊎◌, inl, inr, ℕ, zero, ◌/◌, ◌%◌, ◌^◌, ◌≤◌, Bool, true, false, cond, List, [], ◌∷◌, length, Option, Some, None, refl, sym, ap, subst, ◌∙◌, arith}
+use Rattle.std.specs.Prelude.{map as each}
+use Rattle.std.specs.FinMap as map
+use Rattle.mds_types.specs.declared.ids.Ino.{Ino}
+use Rattle.mds_types.specs.declared.inodes.Inode.{Inode}
+use Rattle.mds_types.specs.Frag.{Contains, Fragment, IsFragment, span}
+use Rattle.mds_types.specs.Tree.{dentry_of}
+use Rattle.fragtree.specs.FragTree.{CanMerge, HasLeaf, IsMerge, IsPick, IsTree, leaves_inside, lies_inside}
+use Rattle.fragtree.proofs.Ranges.{range_from_inside, span_pos}
+use Rattle.fragtree.proofs.Spelled.{one_leaf as one_of_hash}
+use Rattle.fragtree.proofs.Tilings.{between}
+use Rattle.fragtree.proofs.TreeLaws.{first_or_later, later, merged_after_merge, pick_after_merge}
+use Rattle.namehash.specs.Rjenkins.{hash_of}
+use Rattle.dirfrag_codec.specs.FragmentObject.{Names}
+use Rattle.commit_jobs.specs.declared.marks.Mark.{Mark}
+use Rattle.cached_frag.specs.Moving.{marked_as}
+use Rattle.dentry_cache.specs.Pairs.{holds}
+use Rattle.dentry_cache.proofs.LoadLaws.{holds_contains}
+use Rattle.dentry_cache.specs.Cache.{Leaf}
+use Rattle.sorted_map.proofs.NatKeys.{is_same}
+use Rattle.inode_table.specs.Dirs.{is_known, leaves_of}
+use Rattle.namespace_ops.specs.Changes.{in_directory}
+use Rattle.mdcache.specs.Joining.{name_joined}
+use Rattle.mdcache.specs.Shown.{names_of, shown_tree}
+use Rattle.mdcache.specs.Sound.{IsSound}
+use Rattle.mdcache.specs.State.{State}
+use Rattle.mdcache.proofs.NamedLaws.{pick_at, sound_leaves, stands_at}
+use Rattle.mdcache.proofs.SplitLaws.{has_inside, inside_has}
+use Rattle.inode_table.proofs.Tables.{tree_of_row}
+
+-- ---- the fragment of a merge
+
+-- where leaves can be merged, one lies inside
+some_inside : (leaves : List Fragment) (f : Fragment) → 1 ≤ length (leaves_inside f leaves) → (g : Fragment) × HasLeaf leaves g × (lies_inside f g ≡ true)
+some_inside leaves f some = go (leaves_inside f leaves) refl some
+  where
+    go : (ls : List Fragment) → leaves_inside f leaves ≡ ls → 1 ≤ length ls → (g : Fragment) × HasLeaf leaves g × (lies_inside f g ≡ true)
+    go [] is more = absurd (omega (arith, more))
+    go (g ∷ gs) is more =
+        let has = has_inside f g leaves (subst (λ (ls : List Fragment). HasLeaf ls g) (sym is) (zero, omega arith, refl)) in
+        (g, has.0, has.1)
+
+-- the fragment is no leaf before the merge
+pub merged_is_new : (row : List Fragment) (frag : Fragment) → IsTree row → CanMerge row frag → HasLeaf row frag → ⊥
+merged_is_new row frag tree can has =
+    let g = some_inside row frag can.some in
+    let valid : IsFragment frag = (between 0 16777216 row frag tree.tiles has).0 in
+    let within = range_from_inside frag g.0 valid g.2 in
+    let positive = span_pos g.0.bits in
+    let one : frag ≡ g.0 = one_of_hash row frag g.0 g.0.value tree has g.1 within.1 within.2 (omega arith) (omega (arith, positive)) in
+    let bits : frag.bits ≡ g.0.bits = ap (λ (f : Fragment). f.bits) one in
+    omega (arith, bits, within.0)
+
+contains_holds : (frag : Fragment) (hash : ℕ) → Contains frag hash → holds frag hash ≡ true
+contains_holds frag hash is = is_same ((hash % 2 ^ 24) / span frag.bits) (frag.value / span frag.bits) is
+
+-- the pick of a hash is merged if and only if the fragment contains the hash
+pub pick_inside : (row cover : List Fragment) (frag : Fragment) → IsTree row → IsTree cover → CanMerge row frag → IsMerge row cover frag → (hash : ℕ) (p : Fragment) → IsPick row hash p → lies_inside frag p ≡ holds frag hash
+pick_inside row cover frag tree whole can merged hash p pick = go (lies_inside frag p) refl (holds frag hash) refl
+  where
+    stands : HasLeaf cover frag
+    stands = (merged.leaves frag).1 (inr refl)
+
+    go : (a : Bool) → lies_inside frag p ≡ a → (b : Bool) → holds frag hash ≡ b → a ≡ b
+    go true inside true has = refl
+    go false outside false none = refl
+    go true inside false none =
+        let now = merged_after_merge row cover frag whole hash p pick tree merged inside in
+        let clash : true ≡ false = sym (contains_holds frag hash now.contains) ∙ none in
+        cc
+    go false outside true has =
+        let now = pick_after_merge row cover frag whole hash p pick merged outside in
+        let one : frag ≡ p = now.alone frag stands (holds_contains frag hash has) in
+        absurd (merged_is_new row frag tree can (subst (HasLeaf row) (sym one) pick.stands))
+
+-- ---- a name of the leaves that were merged
+
+module _ (s : State) (sound : IsSound s) (dir : Ino) (known : is_known s.homes dir.0 ≡ true) (name : List ℕ) where
+  abbrev row : List Fragment
+  row = leaves_of s.covers dir.0
+
+  abbrev names : Leaf → Names
+  names = names_of s.unsaved s.objects
+
+  pick : (f : Fragment) × IsPick row (hash_of name) f
+  pick = pick_at s (sound_leaves s sound) (dentry_of dir.0 name)
+
+  abbrev found : Option Inode
+  found = map.get (shown_tree s) (dentry_of dir.0 name)
+
+  -- a leaf has the name, if it is its pick and the tree has it
+  its : (f : Fragment) → HasLeaf row f → (map.get (names (dir, f)) name ≡ found) ⊎ (map.get (names (dir, f)) name ≡ None)
+  its f has = go (map.get (names (dir, f)) name) refl
+    where
+      go : (o : Option Inode) → map.get (names (dir, f)) name ≡ o → (o ≡ found) ⊎ (o ≡ None)
+      go None is = inr refl
+      go (Some inode) is =
+          let one : f ≡ pick.0 = pick.1.alone f has (sound.placed (dir, f) name inode (record { known = known; stands = has }) is).contains in
+          inl (sym (stands_at s (sound_leaves s sound) (dentry_of dir.0 name) pick.0 known pick.1 ∙ ap (λ (g : Fragment). map.get (names (dir, g)) name) (sym one) ∙ is))
+
+  -- of all leaves the pick alone has it
+  none_beside : (f : Fragment) → HasLeaf row f → (f ≡ pick.0 → ⊥) → map.get (names (dir, f)) name ≡ None
+  none_beside f has apart = go (map.get (names (dir, f)) name) refl
+    where
+      go : (o : Option Inode) → map.get (names (dir, f)) name ≡ o → o ≡ None
+      go None is = refl
+      go (Some inode) is = absurd (apart (pick.1.alone f has (sound.placed (dir, f) name inode (record { known = known; stands = has }) is).contains))
+
+  here : map.get (names (dir, pick.0)) name ≡ found
+  here = sym (stands_at s (sound_leaves s sound) (dentry_of dir.0 name) pick.0 known pick.1)
+
+  module _ (version : ℕ) where
+    abbrev joined : List Fragment → Option Mark → Option Mark
+    joined fs was = name_joined names version (each (in_directory dir.0) fs) name was
+
+    joined_none : (fs : List Fragment) (was : Option Mark) → ((f : Fragment) → HasLeaf fs f → map.get (names (dir, f)) name ≡ None) → joined fs was ≡ was
+    joined_none [] was none = refl
+    joined_none (f ∷ fs) was none =
+        ap (λ (o : Option Inode). joined fs (marked_as version o was)) (none f (zero, omega arith, refl)) ∙ joined_none fs was (λ g has. none g (later f g fs has))
+
+    module _ (inode : Inode) (there : found ≡ Some inode) where
+      abbrev mark : Option Mark
+      mark = Some (record { version = version; inode = Some inode })
+
+      stays : (fs : List Fragment) → ((f : Fragment) → HasLeaf fs f → HasLeaf row f) → joined fs mark ≡ mark
+      stays [] within = refl
+      stays (f ∷ fs) within = step (its f (within f (zero, omega arith, refl))) ∙ stays fs (λ g has. within g (later f g fs has))
+        where
+          step : (map.get (names (dir, f)) name ≡ found) ⊎ (map.get (names (dir, f)) name ≡ None) → joined fs (marked_as version (map.get (names (dir, f)) name) mark) ≡ joined fs mark
+          step (inl is) = ap (λ (o : Option Inode). joined fs (marked_as version o mark)) (is ∙ there)
+          step (inr none) = ap (λ (o : Option Inode). joined fs (marked_as version o mark)) none
+
+      comes : (fs : List Fragment) (was : Option Mark) → ((f : Fragment) → HasLeaf fs f → HasLeaf row f) → HasLeaf fs pick.0 → joined fs was ≡ mark
+      comes [] was within has = let none = has.1 in absurd (omega (arith, none))
+      comes (f ∷ fs) was within has = go (comes fs (marked_as version (map.get (names (dir, f)) name) was) (λ g h. within g (later f g fs h))) (first_or_later f pick.0 fs has)
+        where
+          go : (HasLeaf fs pick.0 → joined (f ∷ fs) was ≡ mark) → (f ≡ pick.0) ⊎ HasLeaf fs pick.0 → joined (f ∷ fs) was ≡ mark
+          go next (inl same) =
+              ap (λ (o : Option Inode). joined fs (marked_as version o was)) (ap (λ (g : Fragment). map.get (names (dir, g)) name) same ∙ here ∙ there)
+              ∙ stays fs (λ g h. within g (later f g fs h))
+          go next (inr more) = next more
+
+    -- a name of the leaves that are merged is dirty in the joined fragment, if this contains it
+    module _ (cover : List Fragment) (frag : Fragment) (whole : IsTree cover) (can : CanMerge row frag) (merged : IsMerge row cover frag) where
+      abbrev gone : List Fragment
+      gone = leaves_inside frag row
+
+      tree : IsTree row
+      tree = tree_of_row s.homes s.covers sound.table dir.0
+
+      told : lies_inside frag pick.0 ≡ holds frag (hash_of name)
+      told = pick_inside row cover frag tree whole can merged (hash_of name) pick.0 pick.1
+
+      within : (f : Fragment) → HasLeaf gone f → HasLeaf row f
+      within f has = (has_inside frag f row has).0
+
+      pub joined_is : joined gone None ≡ marked_as version (cond (holds frag (hash_of name)) found None) None
+      joined_is = go (holds frag (hash_of name)) refl
+        where
+          outside : holds frag (hash_of name) ≡ false → (f : Fragment) → HasLeaf gone f → f ≡ pick.0 → ⊥
+          outside is f has same =
+              let clash : true ≡ false = sym (has_inside frag f row has).1 ∙ ap (lies_inside frag) same ∙ told ∙ is in
+              cc
+
+          some : (o : Option Inode) → found ≡ o → holds frag (hash_of name) ≡ true → joined gone None ≡ marked_as version o None
+          some None is has = joined_none gone None (λ f in_it. either (its f (within f in_it)))
+            where
+              either : {o : Option Inode} → (o ≡ found) ⊎ (o ≡ None) → o ≡ None
+              either (inl same) = same ∙ is
+              either (inr none) = none
+          some (Some inode) is has = comes inode is gone None within (inside_has frag pick.0 row pick.1.stands (told ∙ has))
+
+          go : (b : Bool) → holds frag (hash_of name) ≡ b → joined gone None ≡ marked_as version (cond b found None) None
+          go false is = joined_none gone None (λ f has. none_beside f (within f has) (outside is f has))
+          go true is = some found refl is

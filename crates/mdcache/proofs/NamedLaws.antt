@@ -1,0 +1,296 @@
+-- A name of a leaf gets an inode, or is removed: all but the table of directories is sound as before, and the tree has the name so.
+use Rattle.std.proofs.Common.{◌≡◌, ◌⊎◌, inl, inr, ℕ, ◌+◌, ◌<◌, ◌^◌, Bool, true, false, cond, List, Option, Some, None, refl, sym, ap, subst, ◌∙◌, arith}
+use Rattle.std.specs.Prelude.{is_some}
+use Rattle.std.specs.FinMap as map
+use Rattle.std.specs.FinMap.{get-empty, get-insert, same_map}
+use Rattle.mds_types.specs.declared.dentries.Dentry.{Dentry}
+use Rattle.mds_types.specs.declared.inodes.Inode.{Inode}
+use Rattle.mds_types.specs.Frag.{Fragment}
+use Rattle.mds_types.specs.Tree.{Tree, dentry_of}
+use Rattle.mds_types.specs.OrderLaws.{dentry-exact}
+use Rattle.mds_types.proofs.OrderLaws.{dentry-total}
+use Rattle.mds_types.proofs.EntryLaws.{get_put as get_dentry, get_beside as get_other_dentry, get_removed, get_left as get_left_dentry, same_or_apart}
+use Rattle.fragtree.specs.FragTree.{IsPick}
+use Rattle.fragtree.proofs.TreeLaws.{some_pick}
+use Rattle.namehash.specs.Rjenkins.{hash_of}
+use Rattle.omap.specs.Omap.{Omap, key_cmp}
+use Rattle.dirfrag_codec.specs.FragmentObject.{Names}
+use Rattle.dirfrag_codec.proofs.ByteKeys.{get_beside, get_put}
+use Rattle.commit_jobs.specs.declared.bases.Base.{Base}
+use Rattle.commit_jobs.specs.declared.bases.Base.TheVariants.{Fresh, Stored}
+use Rattle.commit_jobs.specs.declared.jobs.Job.{Job}
+use Rattle.commit_jobs.specs.declared.marks.Mark.{Mark}
+use Rattle.commit_jobs.specs.Marks.{Marks, with_mark}
+use Rattle.commit_jobs.proofs.MarkLaws.{marked_beside, marked_here}
+use Rattle.cached_frag.specs.Cached.{shown_over}
+use Rattle.cached_frag.proofs.ShownLaws.{only_below, shown_put}
+use Rattle.dentry_cache.specs.Loading.{object_of}
+use Rattle.dentry_cache.specs.Cache.{Leaf, Unsaved, leaf_is}
+use Rattle.dentry_cache.specs.Ties.{Keeps, KeepsAt, names_at}
+use Rattle.dentry_cache.proofs.LeafLaws.{leaf-total, leaf_itself, leaf_or_apart, tied_leaf}
+use Rattle.inode_table.specs.Dirs.{Homes, IsTable, is_known, leaves_of}
+use Rattle.inode_table.specs.TreeTable.{IsTabled}
+use Rattle.inode_table.proofs.Tables.{tree_of_row}
+use Rattle.namespace_ops.specs.Changes.{IsLeafAt}
+use Rattle.mdcache.specs.Changes.{Counts, IsAsItStands, dirtied, with_name}
+use Rattle.mdcache.specs.Shown.{names_of, shown_at, shown_tree}
+use Rattle.mdcache.specs.Sound.{AreYoung, IsOwned, IsSaved, IsSound, IsStanding, IsUnsaved}
+use Rattle.mdcache.specs.State.{IsLive, State, text_of}
+use Rattle.mdcache.proofs.ShownLaws.{found_at, found_nowhere}
+use Rattle.mdcache.proofs.SoundLaws.{names_alike}
+
+-- all that every state keeps, but that the table is that of the tree
+pub record HasSoundLeaves (s : State) : Type 0 where
+  pub table : IsTable s.homes s.covers
+  pub numbered : (d : ℕ) → is_known s.homes d ≡ true → d < 2 ^ 64
+  pub placed : (leaf : Leaf) (name : List ℕ) (inode : Inode) → IsLive s.homes s.covers leaf → map.get (names_of s.unsaved s.objects leaf) name ≡ Some inode → IsPick (leaves_of s.covers leaf.0.0) (hash_of name) leaf.1
+  pub unsaved : (leaf : Leaf) (u : Unsaved) → map.get s.unsaved leaf ≡ Some u → IsUnsaved s leaf u
+  pub saved : (leaf : Leaf) → IsLive s.homes s.covers leaf → map.get s.unsaved leaf ≡ None → IsSaved leaf.1 (object_of s.objects leaf.0 leaf.1)
+  pub owned : (name : List ℕ) → is_some (map.get s.objects name) ≡ true → IsOwned s name
+  pub listed : (leaf : Leaf) → IsLive s.homes s.covers leaf → map.get s.purge (text_of leaf) ≡ None
+  pub standing : (leaf : Leaf) (job : Job) → map.get s.jobs leaf ≡ Some job → IsStanding s leaf job
+  pub once : (a b : Leaf) (i j : Job) → map.get s.jobs a ≡ Some i → map.get s.jobs b ≡ Some j → i.number ≡ j.number → a ≡ b
+
+pub sound_leaves : (s : State) → IsSound s → HasSoundLeaves s
+sound_leaves s sound = record { table = sound.table; numbered = sound.numbered; placed = sound.placed; unsaved = sound.unsaved; saved = sound.saved; owned = sound.owned; listed = sound.listed; standing = sound.standing; once = sound.once }
+
+pub sound_again : (s : State) → HasSoundLeaves s → IsTabled (shown_tree s) s.homes → IsSound s
+sound_again s leaves tabled = record {
+  table = leaves.table;
+  numbered = leaves.numbered;
+  tabled = tabled;
+  placed = leaves.placed;
+  unsaved = leaves.unsaved;
+  saved = leaves.saved;
+  owned = leaves.owned;
+  listed = leaves.listed;
+  standing = leaves.standing;
+  once = leaves.once;
+}
+
+-- ---- what stands in a tree whose leaves are sound
+
+module _ (s : State) (sound : HasSoundLeaves s) where
+  pub pick_at : (q : Dentry) → (f : Fragment) × IsPick (leaves_of s.covers q.dir.0) (hash_of q.name) f
+  pick_at q = some_pick (leaves_of s.covers q.dir.0) (hash_of q.name) (tree_of_row s.homes s.covers sound.table q.dir.0)
+
+  -- a dentry of a directory that is known
+  pub stands_at : (q : Dentry) (f : Fragment) → is_known s.homes q.dir.0 ≡ true → IsLeafAt s.covers q f → map.get (shown_tree s) q ≡ map.get (names_of s.unsaved s.objects (q.dir, f)) q.name
+  stands_at q f known pick = found_at (names_of s.unsaved s.objects) s.homes s.covers q.dir.0 q.name f known pick.stands (λ g inode stands has.
+      pick.alone g stands (sound.placed (q.dir, g) q.name inode (record { known = known; stands = stands }) has).contains)
+
+  pub stands_nowhere : (q : Dentry) → is_known s.homes q.dir.0 ≡ false → map.get (shown_tree s) q ≡ None
+  stands_nowhere q unknown = found_nowhere (names_of s.unsaved s.objects) s.homes s.covers q.dir.0 q.name unknown
+
+-- a directory is known or isn't
+pub known_or_not : (homes : Homes) (d : ℕ) → (is_known homes d ≡ true) ⊎ (is_known homes d ≡ false)
+known_or_not homes d = go (is_known homes d) refl
+  where
+    go : (b : Bool) → is_known homes d ≡ b → (b ≡ true) ⊎ (b ≡ false)
+    go true is = inl refl
+    go false is = inr refl
+
+-- the tree with an inode at a dentry, or with none
+abbrev pub with_at : Tree → Dentry → Option Inode → Tree
+with_at tree dentry (Some inode) = map.insert tree dentry inode
+with_at tree dentry None = map.remove tree dentry
+
+get_here : (tree : Tree) (p : Dentry) (o : Option Inode) → map.get (with_at tree p o) p ≡ o
+get_here tree p None = get_removed tree p
+get_here tree p (Some inode) = get_dentry tree p inode
+
+get_elsewhere : (tree : Tree) (p : Dentry) (o : Option Inode) (q : Dentry) → (q ≡ p → ⊥) → map.get (with_at tree p o) q ≡ map.get tree q
+get_elsewhere tree p None q apart = get_left_dentry tree p q apart
+get_elsewhere tree p (Some inode) q apart = get_other_dentry tree p inode q apart
+
+-- ---- one name
+
+-- a fragment as it stands shows what its leaf shows
+as_it_shows : (o : Option Unsaved) (object : Option Omap) (next : ℕ) (u : Unsaved) → IsAsItStands o object next u → shown_over u.base (names_at object) u.dirty ≡ shown_at o object
+as_it_shows (Some v) object next u is = ap (λ (w : Unsaved). shown_over w.base (names_at object) w.dirty) is
+as_it_shows None object next u is = go u.base is.0
+  where
+    go : (b : Base) → Counts b object → shown_over b (names_at object) u.dirty ≡ names_at object
+    go Fresh h = absurd h
+    go (Stored version) h = only_below (names_at object) u.dirty is.1
+
+module _ (s : State) (sound : HasSoundLeaves s) (dentry : Dentry) (f : Fragment) (inode : Option Inode) (live : IsLive s.homes s.covers (dentry.dir, f)) (pick : IsLeafAt s.covers dentry f)
+    (u : Unsaved) (stands : IsAsItStands (map.get s.unsaved (dentry.dir, f)) (object_of s.objects dentry.dir f) s.next_generation u) where
+  abbrev pub leaf : Leaf
+  leaf = (dentry.dir, f)
+
+  abbrev pub t : State
+  t = with_name s leaf u dentry.name inode
+
+  abbrev v : Unsaved
+  v = dirtied u dentry.name s.next_version inode
+
+  unsaved_at : (q : Leaf) → map.get t.unsaved q ≡ cond (leaf_is q leaf) (Some v) (map.get s.unsaved q)
+  unsaved_at q = get-insert leaf-total s.unsaved leaf v q ∙ ap (λ (b : Bool). cond b (Some v) (map.get s.unsaved q)) (tied_leaf q leaf)
+
+  unsaved_here : map.get t.unsaved leaf ≡ Some v
+  unsaved_here = unsaved_at leaf ∙ ap (λ (b : Bool). cond b (Some v) (map.get s.unsaved leaf)) (leaf_itself leaf)
+
+  unsaved_beside : (q : Leaf) → leaf_is q leaf ≡ false → map.get t.unsaved q ≡ map.get s.unsaved q
+  unsaved_beside q apart = unsaved_at q ∙ ap (λ (b : Bool). cond b (Some v) (map.get s.unsaved q)) apart
+
+  -- what is shown
+
+  shows_here : names_of t.unsaved t.objects leaf ≡ with_mark (names_of s.unsaved s.objects leaf) dentry.name inode
+  unfolding names_of
+  shows_here =
+      ap (λ o. shown_at o (object_of s.objects dentry.dir f)) unsaved_here
+      ∙ shown_put u.base (names_at (object_of s.objects dentry.dir f)) u.dirty v.dirty dentry.name (record { version = s.next_version; inode = inode }) refl
+      ∙ ap (λ (n : Names). with_mark n dentry.name inode) (as_it_shows (map.get s.unsaved leaf) (object_of s.objects dentry.dir f) s.next_generation u stands)
+
+  pub shows_beside : (q : Leaf) → leaf_is q leaf ≡ false → names_of t.unsaved t.objects q ≡ names_of s.unsaved s.objects q
+  shows_beside q apart = names_alike s t q (unsaved_beside q apart) refl
+
+  -- a name of a leaf that isn't this one stands for what it stood for
+  same_name : (q : Leaf) (name : List ℕ) → (q ≡ leaf → name ≡ dentry.name → ⊥) → map.get (names_of t.unsaved t.objects q) name ≡ map.get (names_of s.unsaved s.objects q) name
+  same_name q name other = go (leaf_or_apart q leaf)
+    where
+      go : (q ≡ leaf) ⊎ (leaf_is q leaf ≡ false) → map.get (names_of t.unsaved t.objects q) name ≡ map.get (names_of s.unsaved s.objects q) name
+      go (inl same) =
+          ap (λ (l : Leaf). map.get (names_of t.unsaved t.objects l) name) same ∙ ap (λ (n : Names). map.get n name) shows_here
+          ∙ marked_beside (names_of s.unsaved s.objects leaf) dentry.name inode name (other same) ∙ ap (λ (l : Leaf). map.get (names_of s.unsaved s.objects l) name) (sym same)
+      go (inr apart) = ap (λ (n : Names). map.get n name) (shows_beside q apart)
+
+  this_name : map.get (names_of t.unsaved t.objects leaf) dentry.name ≡ inode
+  this_name = ap (λ (n : Names). map.get n dentry.name) shows_here ∙ marked_here (names_of s.unsaved s.objects leaf) dentry.name inode
+
+  this_or_other : (q : Leaf) (name : List ℕ) → ((q ≡ leaf) × (name ≡ dentry.name)) ⊎ (q ≡ leaf → name ≡ dentry.name → ⊥)
+  this_or_other q name = go (same_or_apart (dentry_of q.0.0 name) dentry) (leaf_or_apart q leaf)
+    where
+      go : (dentry_of q.0.0 name ≡ dentry) ⊎ (dentry_of q.0.0 name ≡ dentry → ⊥) → (q ≡ leaf) ⊎ (leaf_is q leaf ≡ false) → ((q ≡ leaf) × (name ≡ dentry.name)) ⊎ (q ≡ leaf → name ≡ dentry.name → ⊥)
+      go (inl same) (inl one) = inl (one, ap (λ (p : Dentry). p.name) same)
+      go (inl same) (inr apart) = inr (λ one n. let clash : true ≡ false = sym (leaf_itself leaf) ∙ ap (λ (l : Leaf). leaf_is l leaf) (sym one) ∙ apart in cc)
+      go (inr apart) either = inr (λ one n. apart (λ i. record { dir = (one i).0; name = n i }))
+
+  placed_still : (q : Leaf) (name : List ℕ) (i : Inode) → IsLive s.homes s.covers q → map.get (names_of t.unsaved t.objects q) name ≡ Some i → IsPick (leaves_of s.covers q.0.0) (hash_of name) q.1
+  placed_still q name i is has = go (this_or_other q name)
+    where
+      go : ((q ≡ leaf) × (name ≡ dentry.name)) ⊎ (q ≡ leaf → name ≡ dentry.name → ⊥) → IsPick (leaves_of s.covers q.0.0) (hash_of name) q.1
+      go (inl same) = subst (λ (n : List ℕ). IsPick (leaves_of s.covers q.0.0) (hash_of n) q.1) (sym same.1) (subst (λ (l : Leaf). IsPick (leaves_of s.covers l.0.0) (hash_of dentry.name) l.1) (sym same.0) pick)
+      go (inr other) = sound.placed q name i is (sym (same_name q name other) ∙ has)
+
+  -- what isn't clean
+
+  made : (o : Option Unsaved) → map.get s.unsaved leaf ≡ o → IsAsItStands o (object_of s.objects dentry.dir f) s.next_generation u → u.generation < s.next_generation
+  made (Some w) is h = let old = (sound.unsaved leaf w is).made in let same = ap (λ (x : Unsaved). x.generation) h in omega (arith, old, same)
+  made None is h = h.2
+
+  young_before : (o : Option Unsaved) → map.get s.unsaved leaf ≡ o → IsAsItStands o (object_of s.objects dentry.dir f) s.next_generation u → AreYoung u.dirty s.next_version
+  young_before (Some w) is h = subst (λ (x : Unsaved). AreYoung x.dirty s.next_version) (sym h) (sound.unsaved leaf w is).young
+  young_before None is h = λ name mark has. let clash : None ≡ Some mark = sym (ap (λ (m : Marks). map.get m name) h.1 ∙ get-empty key_cmp name) ∙ has in absurd cc
+
+  younger : AreYoung v.dirty t.next_version
+  younger name mark has = go (name_is name)
+    where
+      name_is : (name : List ℕ) → (name ≡ dentry.name) ⊎ (name ≡ dentry.name → ⊥)
+      name_is name = from (same_or_apart (dentry_of dentry.dir.0 name) dentry)
+        where
+          from : (dentry_of dentry.dir.0 name ≡ dentry) ⊎ (dentry_of dentry.dir.0 name ≡ dentry → ⊥) → (name ≡ dentry.name) ⊎ (name ≡ dentry.name → ⊥)
+          from (inl same) = inl (ap (λ (p : Dentry). p.name) same)
+          from (inr apart) = inr (λ n. apart (λ i. record { dir = dentry.dir; name = n i }))
+
+      go : (name ≡ dentry.name) ⊎ (name ≡ dentry.name → ⊥) → mark.version < s.next_version + 1
+      go (inl same) =
+          let both : Some (record { version = s.next_version; inode = inode }) ≡ Some mark = sym (ap (map.get v.dirty) same ∙ get_put u.dirty dentry.name _) ∙ has in
+          let its : record { version = s.next_version; inode = inode } ≡ mark = cc in
+          let version = ap (λ (m : Mark). m.version) its in
+          omega (arith, version)
+      go (inr apart) =
+          let old = young_before (map.get s.unsaved leaf) refl stands name mark (sym (get_beside u.dirty dentry.name _ name apart) ∙ has) in
+          omega (arith, old)
+
+  raised : (marks : Marks) → AreYoung marks s.next_version → AreYoung marks t.next_version
+  raised marks young name mark has = let old = young name mark has in omega (arith, old)
+
+  unsaved_still : (q : Leaf) (w : Unsaved) → map.get t.unsaved q ≡ Some w → IsUnsaved t q w
+  unsaved_still q w is = go (leaf_or_apart q leaf)
+    where
+      go : (q ≡ leaf) ⊎ (leaf_is q leaf ≡ false) → IsUnsaved t q w
+      go (inl same) =
+          let both : Some v ≡ Some w = sym unsaved_here ∙ ap (map.get t.unsaved) (sym same) ∙ is in
+          let its : v ≡ w = cc in
+          subst (IsUnsaved t q) its (subst (λ (l : Leaf). IsUnsaved t l v) (sym same) (record { live = live; made = made (map.get s.unsaved leaf) refl stands; young = younger }))
+      go (inr apart) = let old = sound.unsaved q w (sym (unsaved_beside q apart) ∙ is) in record { live = old.live; made = old.made; young = raised w.dirty old.young }
+
+  saved_still : (q : Leaf) → IsLive s.homes s.covers q → map.get t.unsaved q ≡ None → IsSaved q.1 (object_of s.objects q.0 q.1)
+  saved_still q is clean = go (leaf_or_apart q leaf)
+    where
+      go : (q ≡ leaf) ⊎ (leaf_is q leaf ≡ false) → IsSaved q.1 (object_of s.objects q.0 q.1)
+      go (inl same) = let clash : None ≡ Some v = sym clean ∙ ap (map.get t.unsaved) same ∙ unsaved_here in absurd cc
+      go (inr apart) = sound.saved q is (sym (unsaved_beside q apart) ∙ clean)
+
+  -- jobs
+
+  keeps : (job : Job) → Keeps u.dirty job.snapshot.names → AreYoung job.snapshot.names s.next_version → Keeps v.dirty job.snapshot.names
+  keeps job old young name = go (same_or_apart (dentry_of dentry.dir.0 name) dentry)
+    where
+      new : (o : Option Mark) → map.get job.snapshot.names name ≡ o → KeepsAt (Some (record { version = s.next_version; inode = inode })) o
+      new None is = tt
+      new (Some then) is = λ same. let before = young name then is in absurd (omega (arith, before, same))
+
+      go : (dentry_of dentry.dir.0 name ≡ dentry) ⊎ (dentry_of dentry.dir.0 name ≡ dentry → ⊥) → KeepsAt (map.get v.dirty name) (map.get job.snapshot.names name)
+      go (inl same) =
+          subst (λ o. KeepsAt o (map.get job.snapshot.names name)) (sym (ap (map.get v.dirty) (ap (λ (p : Dentry). p.name) same) ∙ get_put u.dirty dentry.name _)) (new (map.get job.snapshot.names name) refl)
+      go (inr apart) = subst (λ o. KeepsAt o (map.get job.snapshot.names name)) (sym (get_beside u.dirty dentry.name _ name (λ n. apart (λ i. record { dir = dentry.dir; name = n i })))) (old name)
+
+  standing_here : (job : Job) → IsStanding s leaf job → IsStanding t leaf job
+  standing_here job old = record {
+    mine = old.mine;
+    given = old.given;
+    young = raised job.snapshot.names old.young;
+    unsaved = v;
+    beside = unsaved_here;
+    taken = record {
+      valid = old.taken.valid;
+      base = old.taken.base ∙ ap (λ (x : Unsaved). x.base) its;
+      generation = old.taken.generation ∙ ap (λ (x : Unsaved). x.generation) its;
+      keeps = keeps job (subst (λ (x : Unsaved). Keeps x.dirty job.snapshot.names) its old.taken.keeps) old.young;
+      counted = old.taken.counted;
+    };
+  }
+    where
+      its : old.unsaved ≡ u
+      its = sym (subst (λ o. IsAsItStands o (object_of s.objects dentry.dir f) s.next_generation u) old.beside stands)
+
+  standing_still : (q : Leaf) (job : Job) → IsStanding s q job → IsStanding t q job
+  standing_still q job old = go (leaf_or_apart q leaf)
+    where
+      go : (q ≡ leaf) ⊎ (leaf_is q leaf ≡ false) → IsStanding t q job
+      go (inl same) = subst (λ (l : Leaf). IsStanding t l job) (sym same) (standing_here job (subst (λ (l : Leaf). IsStanding s l job) same old))
+      go (inr apart) = record { mine = old.mine; given = old.given; young = raised job.snapshot.names old.young; unsaved = old.unsaved; beside = unsaved_beside q apart ∙ old.beside; taken = old.taken }
+
+  pub named_leaves : HasSoundLeaves t
+  named_leaves = record {
+    table = sound.table;
+    numbered = sound.numbered;
+    placed = placed_still;
+    unsaved = unsaved_still;
+    saved = saved_still;
+    owned = λ name there. sound.owned name there;
+    listed = sound.listed;
+    standing = λ q job is. standing_still q job (sound.standing q job is);
+    once = sound.once;
+  }
+
+  -- the tree
+
+  stands_so : (q : Dentry) → map.get (shown_tree t) q ≡ map.get (with_at (shown_tree s) dentry inode) q
+  stands_so q = go (same_or_apart q dentry) (known_or_not s.homes q.dir.0)
+    where
+      go : (q ≡ dentry) ⊎ (q ≡ dentry → ⊥) → (is_known s.homes q.dir.0 ≡ true) ⊎ (is_known s.homes q.dir.0 ≡ false) → map.get (shown_tree t) q ≡ map.get (with_at (shown_tree s) dentry inode) q
+      go (inl same) either = ap (map.get (shown_tree t)) same ∙ stands_at t named_leaves dentry f live.known pick ∙ this_name ∙ sym (ap (map.get (with_at (shown_tree s) dentry inode)) same ∙ get_here (shown_tree s) dentry inode)
+      go (inr apart) (inl known) =
+          let p = pick_at s sound q in
+          stands_at t named_leaves q p.0 known p.1
+          ∙ same_name (q.dir, p.0) q.name (λ one n. apart (λ i. record { dir = (one i).0; name = n i }))
+          ∙ sym (stands_at s sound q p.0 known p.1)
+          ∙ sym (get_elsewhere (shown_tree s) dentry inode q apart)
+      go (inr apart) (inr unknown) = stands_nowhere t named_leaves q unknown ∙ sym (stands_nowhere s sound q unknown) ∙ sym (get_elsewhere (shown_tree s) dentry inode q apart)
+
+  pub named_tree : shown_tree t ≡ with_at (shown_tree s) dentry inode
+  named_tree = same_map dentry-total dentry-exact (shown_tree t) (with_at (shown_tree s) dentry inode) stands_so

@@ -1,0 +1,135 @@
+-- A purge and a commit of a directory's tree change no object of a live leaf.
+use Rattle.std.proofs.Common.{◌≡◌, ◌⊎◌, inl, inr, ℕ, Bool, true, false, cond, List, [], ◌∷◌, Option, Some, None, refl, sym, ap, ◌∙◌}
+use Rattle.std.specs.Prelude.{is_some, length, nat_lt, slice_get}
+use Rattle.std.specs.Option.{option_map, unwrap_or}
+use Rattle.std.specs.Ordering.{eq_by_cmp}
+use Rattle.std.specs.FinMap as map
+use Rattle.std.specs.FinMap.{find, get-empty, get-entries, same_map}
+use Rattle.std.specs.Cmp.Lexicographic.{nat_list_cmp_total}
+use Rattle.std.proofs.lemmas.Map.Lookups.{exact_bytes}
+use Rattle.mds_types.specs.Frag.{Fragment}
+use Rattle.mds_types.specs.declared.ids.Ino.{Ino}
+use Rattle.omap.specs.declared.write_ops.WriteOp.{WriteOp}
+use Rattle.omap.specs.Omap.{Keys, Omap, PairMap, empty_omap, key_cmp}
+use Rattle.omap.proofs.WriteLaws.{applied-by-parts, overlaid-empty}
+use Rattle.sorted_map.proofs.MapLaws.{get-without_keys}
+use Rattle.sorted_map.specs.Overlay.{without_keys}
+use Rattle.objstore.specs.Objects.{Objects, written}
+use Rattle.dirfrag_codec.proofs.ByteKeys.{get_beside, get_left, get_removed, key_itself, key_tied}
+use Rattle.mdcache.specs.PurgeList.{first_name}
+use Rattle.dentry_cache.specs.Loading.{object_of}
+use Rattle.dentry_cache.specs.Cache.{Held, Leaf}
+use Rattle.inode_table.specs.Dirs.{is_known, leaves_of}
+use Rattle.mdcache.specs.Cached.{IsKept}
+use Rattle.mdcache.specs.Objects.{purged, tree_object, tree_saved, with_tree_at}
+use Rattle.mdcache.specs.Shown.{shown_tree}
+use Rattle.mdcache.specs.Sound.{IsOwned, IsSound}
+use Rattle.mdcache.specs.State.{IsLive, State, text_of, tree_text}
+use Rattle.mdcache.proofs.SoundLaws.{other_objects, other_objects_kept, other_objects_tree}
+use Rattle.mdcache.proofs.TextLaws.{no_tree_text}
+
+-- ---- the first name of a list
+
+first_stands : (names : Keys) (name : List ℕ) → first_name names ≡ Some name → is_some (map.get names name) ≡ true
+first_stands names name is = ap (λ (o : Option (Unit {0})). is_some o) (get-entries names name) ∙ go (map.entries names) is
+  where
+    go : (es : List (List ℕ × Unit {0})) → option_map (λ (e : List ℕ × Unit {0}). e.0) (slice_get es 0) ≡ Some name → is_some (find key_cmp name es) ≡ true
+    go [] h = let clash : None ≡ Some name = h in cc
+    go (e ∷ es) h =
+        let one : e.0 ≡ name = cc in
+        ap (λ (b : Bool). is_some (cond b (Some e.1) (find key_cmp name es))) (ap (λ (k : List ℕ). eq_by_cmp key_cmp name k) one ∙ key_itself name)
+
+-- a name that is of an object still, or of one that came
+name_or_other : (name q : List ℕ) → (q ≡ name) ⊎ (q ≡ name → ⊥)
+name_or_other name q = go (eq_by_cmp key_cmp q name) refl
+  where
+    go : (b : Bool) → eq_by_cmp key_cmp q name ≡ b → (q ≡ name) ⊎ (q ≡ name → ⊥)
+    go true is = inl (key_tied q name is)
+    go false is = inr (λ same. let clash : true ≡ false = sym (ap (λ (k : List ℕ). eq_by_cmp key_cmp k name) same ∙ key_itself name) ∙ is in cc)
+
+-- what owns an object owns it still, where another name left the list
+owned_beside : (s : State) (objects : Objects) (name q : List ℕ) → (q ≡ name → ⊥) → IsOwned s q → IsOwned (record s { objects = objects; purge = map.remove s.purge name }) q
+owned_beside s objects name q apart (inl leaf) = inl leaf
+owned_beside s objects name q apart (inr (inl tree)) = inr (inl tree)
+owned_beside s objects name q apart (inr (inr listed)) = inr (inr (ap (λ (o : Option (Unit {0})). is_some o) (get_left s.purge name q apart) ∙ listed))
+
+-- ---- an object is purged
+
+module _ (s : State) (name : List ℕ) (sound : IsSound s) (first : first_name s.purge ≡ Some name) where
+  not_live : (leaf : Leaf) → IsLive s.homes s.covers leaf → text_of leaf ≡ name → ⊥
+  not_live leaf live same =
+      let clash : true ≡ false = sym (first_stands s.purge name first) ∙ ap (λ (k : List ℕ). is_some (map.get s.purge k)) (sym same) ∙ ap (λ (o : Option (Unit {0})). is_some o) (sound.listed leaf live) in
+      cc
+
+  same_objects : (leaf : Leaf) → IsLive s.homes s.covers leaf → object_of (map.remove s.objects name) leaf.0 leaf.1 ≡ object_of s.objects leaf.0 leaf.1
+  same_objects leaf live = get_left s.objects name (text_of leaf) (not_live leaf live)
+
+  pub purged_tree : shown_tree (purged s name) ≡ shown_tree s
+  purged_tree = other_objects_tree s (map.remove s.objects name) (map.remove s.purge name) sound same_objects
+
+  pub purged_sound : IsSound (purged s name)
+  purged_sound = other_objects s (map.remove s.objects name) (map.remove s.purge name) sound same_objects
+      (λ q has. go q has (name_or_other name q)) (λ leaf live. get_left s.purge name (text_of leaf) (not_live leaf live) ∙ sound.listed leaf live)
+    where
+      go : (q : List ℕ) → is_some (map.get (map.remove s.objects name) q) ≡ true → (q ≡ name) ⊎ (q ≡ name → ⊥) → IsOwned (purged s name) q
+      go q has (inl same) =
+          let clash : false ≡ true = ap (λ (o : Option Omap). is_some o) (sym (ap (map.get (map.remove s.objects name)) same ∙ get_removed s.objects name)) ∙ has in
+          cc
+      go q has (inr apart) = owned_beside s (map.remove s.objects name) name q apart (sound.owned q (ap (λ (o : Option Omap). is_some o) (sym (get_left s.objects name q apart)) ∙ has))
+
+  pub purged_kept : (cache : Held) → IsKept s cache → IsKept (purged s name) cache
+  purged_kept cache kept = other_objects_kept s (map.remove s.objects name) (map.remove s.purge name) sound same_objects cache kept purged_sound
+
+-- ---- the object of a directory's tree is written or removed
+
+module _ (s : State) (dir : Ino) (sound : IsSound s) (known : is_known s.homes dir.0 ≡ true) where
+  abbrev leaves : List Fragment
+  leaves = leaves_of s.covers dir.0
+
+  abbrev objects : Objects
+  objects = with_tree_at s.objects (tree_text dir) leaves
+
+  beside : (q : List ℕ) → (q ≡ tree_text dir → ⊥) → map.get objects q ≡ map.get s.objects q
+  beside q apart = go (nat_lt 1 (length leaves))
+    where
+      go : (b : Bool) → map.get (cond b (map.insert s.objects (tree_text dir) (tree_object leaves)) (map.remove s.objects (tree_text dir))) q ≡ map.get s.objects q
+      go true = get_beside s.objects (tree_text dir) (tree_object leaves) q apart
+      go false = get_left s.objects (tree_text dir) q apart
+
+  same_beside : (leaf : Leaf) → IsLive s.homes s.covers leaf → object_of objects leaf.0 leaf.1 ≡ object_of s.objects leaf.0 leaf.1
+  same_beside leaf live = beside (text_of leaf) (no_tree_text s.homes s.covers sound.table sound.numbered leaf dir live known)
+
+  pub tree_saved_tree : shown_tree (tree_saved s dir) ≡ shown_tree s
+  tree_saved_tree = other_objects_tree s objects (map.remove s.purge (tree_text dir)) sound same_beside
+
+  pub tree_saved_sound : IsSound (tree_saved s dir)
+  tree_saved_sound = other_objects s objects (map.remove s.purge (tree_text dir)) sound same_beside
+      (λ q has. go q has (name_or_other (tree_text dir) q)) (λ leaf live. get_left s.purge (tree_text dir) (text_of leaf) (no_tree_text s.homes s.covers sound.table sound.numbered leaf dir live known) ∙ sound.listed leaf live)
+    where
+      go : (q : List ℕ) → is_some (map.get objects q) ≡ true → (q ≡ tree_text dir) ⊎ (q ≡ tree_text dir → ⊥) → IsOwned (tree_saved s dir) q
+      go q has (inl same) = inr (inl (dir, known, same))
+      go q has (inr apart) = owned_beside s objects (tree_text dir) q apart (sound.owned q (ap (λ (o : Option Omap). is_some o) (sym (beside q apart)) ∙ has))
+
+  pub tree_saved_kept : (cache : Held) → IsKept s cache → IsKept (tree_saved s dir) cache
+  tree_saved_kept cache kept = other_objects_kept s objects (map.remove s.purge (tree_text dir)) sound same_beside cache kept tree_saved_sound
+
+abbrev pub no_pairs : PairMap
+no_pairs = map.empty
+
+abbrev pub no_keys : Keys
+no_keys = map.empty
+
+nothing_left : without_keys no_pairs no_keys ≡ no_pairs
+nothing_left = same_map nat_list_cmp_total exact_bytes (without_keys no_pairs no_keys) no_pairs (λ q. get-without_keys exact_bytes no_pairs no_keys q ∙ none_at (map.contains_key no_keys q) q)
+  where
+    none_at : (b : Bool) (q : List ℕ) → cond b None (map.get no_pairs q) ≡ map.get no_pairs q
+    none_at true q = sym (get-empty key_cmp q)
+    none_at false q = refl
+
+-- the write of a tree's object: its header, and no pairs
+pub tree_written : (objects : Objects) (name header : List ℕ) → written objects name (record { clear = true; header = Some header; set = no_pairs; remove = no_keys }) ≡ map.insert objects name (record { header = header; pairs = no_pairs })
+unfolding written
+tree_written objects name header =
+    let op : WriteOp = record { clear = true; header = Some header; set = no_pairs; remove = no_keys } in
+    let old : Omap = unwrap_or (map.get objects name) empty_omap in
+    ap (map.insert objects name) (sym (applied-by-parts op old header no_pairs refl (sym (ap (λ (pairs : PairMap). without_keys pairs no_keys) (overlaid-empty no_pairs) ∙ nothing_left))))

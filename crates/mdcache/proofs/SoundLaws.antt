@@ -1,0 +1,152 @@
+-- What keeps a state sound.
+use Rattle.std.proofs.Common.{◌≡◌, ◌⊎◌, inl, inr, ℕ, Bool, true, false, cond, List, Some, None, refl, sym, ap, subst, ◌∙◌, arith}
+use Rattle.std.specs.Prelude.{is_some}
+use Rattle.std.specs.FinMap as map
+use Rattle.std.specs.FinMap.{get-insert, get-remove}
+use Rattle.inode_table.specs.TreeTable.{IsTabled}
+use Rattle.omap.specs.Omap.{Keys}
+use Rattle.objstore.specs.Objects.{Objects}
+use Rattle.dirfrag_codec.specs.FragmentObject.{Names}
+use Rattle.commit_jobs.specs.declared.jobs.Job.{Job}
+use Rattle.dentry_cache.specs.Loading.{object_of}
+use Rattle.dentry_cache.specs.Cache.{Held, Leaf, Unsaved, leaf_is}
+use Rattle.dentry_cache.specs.Ties.{IsTied}
+use Rattle.dentry_cache.proofs.LeafLaws.{leaf-total, one_leaf, tied_leaf}
+use Rattle.mdcache.specs.Cached.{IsKept}
+use Rattle.mdcache.specs.Commits.{leaf_of, with_job}
+use Rattle.mdcache.specs.Shown.{names_of, shown_at, shown_tree}
+use Rattle.mdcache.specs.Sound.{AreYoung, IsOf, IsOwned, IsSaved, IsSound, IsStanding}
+use Rattle.mdcache.specs.State.{IsLive, State, text_of}
+use Rattle.mdcache.proofs.TreeLaws.{tree_alike}
+
+-- what a leaf shows is told by what isn't clean of it and by its object
+pub names_alike : (s t : State) (leaf : Leaf) → map.get t.unsaved leaf ≡ map.get s.unsaved leaf → object_of t.objects leaf.0 leaf.1 ≡ object_of s.objects leaf.0 leaf.1
+    → names_of t.unsaved t.objects leaf ≡ names_of s.unsaved s.objects leaf
+unfolding names_of
+names_alike s t leaf unsaved object = λ i. shown_at (unsaved i) (object i)
+
+-- ---- objects change that no live leaf has
+
+module _ (s : State) (objects : Objects) (purge : Keys) (sound : IsSound s) where
+  abbrev pub now : State
+  now = record s { objects = objects; purge = purge }
+
+  module _ (same : (leaf : Leaf) → IsLive s.homes s.covers leaf → object_of objects leaf.0 leaf.1 ≡ object_of s.objects leaf.0 leaf.1) where
+    names : (leaf : Leaf) → IsLive s.homes s.covers leaf → names_of s.unsaved objects leaf ≡ names_of s.unsaved s.objects leaf
+    names leaf live = names_alike s now leaf refl (same leaf live)
+
+    pub other_objects_tree : shown_tree now ≡ shown_tree s
+    other_objects_tree = tree_alike s.homes s.covers (names_of s.unsaved objects) (names_of s.unsaved s.objects) names
+
+    pub other_objects : ((name : List ℕ) → is_some (map.get objects name) ≡ true → IsOwned now name) → ((leaf : Leaf) → IsLive s.homes s.covers leaf → map.get purge (text_of leaf) ≡ None) → IsSound now
+    other_objects owned listed = record {
+      table = sound.table;
+      numbered = sound.numbered;
+      tabled = subst (λ t. IsTabled t s.homes) (sym other_objects_tree) sound.tabled;
+      placed = λ leaf name inode live has. sound.placed leaf name inode live (ap (λ (n : Names). map.get n name) (sym (names leaf live)) ∙ has);
+      unsaved = λ leaf u is. let old = sound.unsaved leaf u is in record { live = old.live; made = old.made; young = old.young };
+      saved = λ leaf live clean. subst (IsSaved leaf.1) (sym (same leaf live)) (sound.saved leaf live clean);
+      owned = owned;
+      listed = listed;
+      standing = λ leaf job is. stands leaf job (sound.standing leaf job is);
+      once = sound.once;
+    }
+      where
+        stands : (leaf : Leaf) (job : Job) → IsStanding s leaf job → IsStanding now leaf job
+        stands leaf job old = record {
+          mine = old.mine;
+          given = old.given;
+          young = old.young;
+          unsaved = old.unsaved;
+          beside = old.beside;
+          taken = subst (IsOf job old.unsaved) (sym (same leaf (sound.unsaved leaf old.unsaved old.beside).live)) old.taken;
+        }
+
+    pub other_objects_kept : (cache : Held) → IsKept s cache → IsSound now → IsKept now cache
+    other_objects_kept cache old is = record {
+      sound = is;
+      live = old.live;
+      tied = λ leaf f there. subst (IsTied f) (sym (same leaf (old.live leaf f there))) (old.tied leaf f there);
+      made = old.made;
+    }
+
+-- ---- jobs
+
+pub get_job : (s : State) (leaf q : Leaf) (job : Job) → map.get (map.insert s.jobs leaf job) q ≡ cond (leaf_is q leaf) (Some job) (map.get s.jobs q)
+get_job s leaf q job = get-insert leaf-total s.jobs leaf job q ∙ ap (λ (b : Bool). cond b (Some job) (map.get s.jobs q)) (tied_leaf q leaf)
+
+pub get_ended : (s : State) (leaf q : Leaf) → map.get (map.remove s.jobs leaf) q ≡ cond (leaf_is q leaf) None (map.get s.jobs q)
+get_ended s leaf q = get-remove leaf-total s.jobs leaf q ∙ ap (λ (b : Bool). cond b None (map.get s.jobs q)) (tied_leaf q leaf)
+
+-- a job that stands after another ended stood before
+pub stood_before : (s : State) (leaf q : Leaf) (job : Job) → map.get (map.remove s.jobs leaf) q ≡ Some job → map.get s.jobs q ≡ Some job
+stood_before s leaf q job is = go (leaf_is q leaf) (sym (get_ended s leaf q) ∙ is)
+  where
+    go : (b : Bool) → cond b None (map.get s.jobs q) ≡ Some job → map.get s.jobs q ≡ Some job
+    go true h = let clash : None ≡ Some job = h in cc
+    go false h = h
+
+pub dropped_sound : (s : State) (leaf : Leaf) → IsSound s → IsSound (record s { jobs = map.remove s.jobs leaf })
+dropped_sound s leaf sound = record {
+  table = sound.table;
+  numbered = sound.numbered;
+  tabled = sound.tabled;
+  placed = sound.placed;
+  unsaved = λ q u is. let old = sound.unsaved q u is in record { live = old.live; made = old.made; young = old.young };
+  saved = sound.saved;
+  owned = λ name there. sound.owned name there;
+  listed = sound.listed;
+  standing = λ q job is. let old = sound.standing q job (stood_before s leaf q job is) in record { mine = old.mine; given = old.given; young = old.young; unsaved = old.unsaved; beside = old.beside; taken = old.taken };
+  once = λ a b i j p q same. sound.once a b i j (stood_before s leaf a i p) (stood_before s leaf b j q) same;
+}
+
+module _ (s : State) (job : Job) (u : Unsaved) (sound : IsSound s) (beside : map.get s.unsaved (leaf_of job) ≡ Some u) (number : job.number ≡ s.next_job)
+    (young : AreYoung job.snapshot.names s.next_version) (taken : IsOf job u (object_of s.objects job.ino job.frag)) where
+  abbrev pub begun : State
+  begun = with_job s job
+
+  begun_or_before : (q : Leaf) (i : Job) → map.get begun.jobs q ≡ Some i → ((q ≡ leaf_of job) × (job ≡ i)) ⊎ (map.get s.jobs q ≡ Some i)
+  begun_or_before q i is = go (leaf_is q (leaf_of job)) refl (sym (get_job s (leaf_of job) q job) ∙ is)
+    where
+      go : (b : Bool) → leaf_is q (leaf_of job) ≡ b → cond b (Some job) (map.get s.jobs q) ≡ Some i → ((q ≡ leaf_of job) × (job ≡ i)) ⊎ (map.get s.jobs q ≡ Some i)
+      go true same h = inl (one_leaf q (leaf_of job) same, cc)
+      go false same h = inr h
+
+  first_stands : IsStanding begun (leaf_of job) job
+  first_stands = record { mine = refl; given = omega (arith, number); young = young; unsaved = u; beside = beside; taken = taken }
+
+  stands_still : (q : Leaf) (i : Job) → IsStanding s q i → IsStanding begun q i
+  stands_still q i old = let given = old.given in record { mine = old.mine; given = omega (arith, given); young = old.young; unsaved = old.unsaved; beside = old.beside; taken = old.taken }
+
+  all_stand : (q : Leaf) (i : Job) → map.get begun.jobs q ≡ Some i → IsStanding begun q i
+  all_stand q i is = go (begun_or_before q i is)
+    where
+      go : ((q ≡ leaf_of job) × (job ≡ i)) ⊎ (map.get s.jobs q ≡ Some i) → IsStanding begun q i
+      go (inl same) = subst (λ (j : Job). IsStanding begun q j) same.1 (subst (λ (l : Leaf). IsStanding begun l job) (sym same.0) first_stands)
+      go (inr old) = stands_still q i (sound.standing q i old)
+
+  below : (q : Leaf) (i : Job) → map.get s.jobs q ≡ Some i → i.number ≡ job.number → ⊥
+  below q i is same = let given = (sound.standing q i is).given in omega (arith, given, same, number)
+
+  one_number : (a b : Leaf) (i j : Job) → map.get begun.jobs a ≡ Some i → map.get begun.jobs b ≡ Some j → i.number ≡ j.number → a ≡ b
+  one_number a b i j p q same = go (begun_or_before a i p) (begun_or_before b j q)
+    where
+      go : ((a ≡ leaf_of job) × (job ≡ i)) ⊎ (map.get s.jobs a ≡ Some i) → ((b ≡ leaf_of job) × (job ≡ j)) ⊎ (map.get s.jobs b ≡ Some j) → a ≡ b
+      go (inl x) (inl y) = x.0 ∙ sym y.0
+      go (inl x) (inr y) = absurd (below b j y (sym same ∙ ap (λ (k : Job). k.number) (sym x.1)))
+      go (inr x) (inl y) = absurd (below a i x (same ∙ ap (λ (k : Job). k.number) (sym y.1)))
+      go (inr x) (inr y) = sound.once a b i j x y same
+
+  pub begun_sound : IsSound begun
+  begun_sound = record {
+    table = sound.table;
+    numbered = sound.numbered;
+    tabled = sound.tabled;
+    placed = sound.placed;
+    unsaved = λ q v is. let old = sound.unsaved q v is in record { live = old.live; made = old.made; young = old.young };
+    saved = sound.saved;
+    owned = λ name there. sound.owned name there;
+    listed = sound.listed;
+    standing = all_stand;
+    once = one_number;
+  }

@@ -1,0 +1,6 @@
+use Rattle.std.proofs.Common.{subst}
+use Rattle.mdcache.specs.StandingJobs.{Finds, Standing}
+use Rattle.mdcache.proofs.standing_jobs.StandingJobs.leaf_of.Goals as goal
+
+pub returns : goal.returns
+returns c = subst (λ (s : Standing). Finds s.jobs c.args.number c.find.result) c.self.view_is c.find.ensures

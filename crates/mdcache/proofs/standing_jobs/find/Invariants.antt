@@ -1,0 +1,13 @@
+-- The jobs that are left are all that can have the number.
+use Rattle.std.proofs.Common.{length}
+use Rattle.std.specs.FinMap as map
+use Rattle.sorted_map.specs.SortedMap.{contents}
+use Rattle.mds_types.specs.Leaf.{leaf_cmp}
+use Rattle.mdcache.proofs.Walks.{IsRest}
+use Rattle.mdcache.proofs.standing_jobs.find.Given as goal
+
+abbrev pub invariant-loop-leaf : goal.invariant-loop-leaf
+invariant-loop-leaf l = IsRest l.number (map.entries (contents leaf_cmp l.jobs)) l.left
+
+abbrev pub decreases-loop-leaf : goal.decreases-loop-leaf
+decreases-loop-leaf l = length l.left

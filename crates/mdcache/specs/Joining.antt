@@ -1,0 +1,24 @@
+-- The names of leaves, joined one leaf after the other in the fragment that a merge makes.
+use Rattle.std.specs.Prelude.{◌≡◌, ℕ, List, [], ◌∷◌, Option}
+use Rattle.std.specs.FinMap as map
+use Rattle.dirfrag_codec.specs.FragmentObject.{Names}
+use Rattle.commit_jobs.specs.declared.marks.Mark.{Mark}
+use Rattle.cached_frag.specs.Cached.{Cached}
+use Rattle.cached_frag.specs.Moving.{marked_as}
+use Rattle.dentry_cache.specs.Cache.{Held, Leaf, held, used_as}
+use Rattle.mdcache.specs.Going.{HasForgotten}
+
+-- what a name is once those of some leaves came in, all at this version: that of the last of them which has it
+abbrev pub name_joined : (Leaf → Names) → ℕ → List Leaf → List ℕ → Option Mark → Option Mark
+name_joined names version [] name was = was
+name_joined names version (leaf ∷ leaves) name was = name_joined names version leaves name (marked_as version (map.get (names leaf) name) was)
+
+-- a fragment has taken the names of some leaves in
+pub record HasJoined (names : Leaf → Names) (version : ℕ) (leaves : List Leaf) (old new : Cached) : Type 0 where
+  pub base : new.base ≡ old.base
+  pub generation : new.generation ≡ old.generation
+  pub dirty : (name : List ℕ) → map.get new.dirty name ≡ name_joined names version leaves name (map.get old.dirty name)
+
+-- these leaves have no place, the fragment is in that of another one and the most recently used, and each other place is as it was
+abbrev pub IsPutInPlace : List Leaf → Leaf → Cached → Held → Held → Type 0
+IsPutInPlace gone leaf f old new = (mid : Held) × HasForgotten gone old mid × (new ≡ used_as leaf (held f) mid)

@@ -1,0 +1,104 @@
+//! `StandingJobs`, what a contract sees of it, and its calls.
+ghost use Rattle.std.specs.Prelude.{◌≡◌, ◌≤◌, ◌<◌, ◌+◌, OnOk, OnErr, option_copied};
+ghost use Rattle.std.specs.FinMap as map;
+ghost use Rattle.sorted_map.specs.SortedMap.{contents};
+ghost use Rattle.mds_types.specs.Leaf.{leaf_cmp};
+ghost use Rattle.mdcache.specs.StandingJobs.{Finds};
+
+use commit_jobs::Job;
+use mds_types::{Frag, Ino};
+use sorted_map::SortedMap;
+use std::alloc::{AllocError, Global};
+use std::marker::Model;
+
+/// The jobs that were given out and are awaited, at most one for each leaf.
+#[derive(Debug, Drop)]
+pub struct StandingJobs {
+    jobs: SortedMap<(Ino, Frag), Job>,
+}
+
+impl Model for StandingJobs {
+    ghost use Rattle.std.specs.Coded.{codes};
+    ghost use Rattle.std.specs.FinMap as map;
+    ghost use Rattle.sorted_map.specs.SortedMap.{contents};
+    ghost use Rattle.mds_types.specs.Leaf.{leaf_cmp};
+    ghost use Rattle.mdcache.specs.StandingJobs.{Standing};
+
+    ghost Value = { Standing };
+
+    ghost coded = { Prim.hlevel (codes, map.code) };
+
+    ghost view = { λ s. record { jobs = contents leaf_cmp s.jobs; room = s.jobs.room } };
+}
+
+impl StandingJobs {
+    /// No jobs, and no room. Takes no memory.
+    pub fn new(alloc: Global) -> StandingJobs
+        ensures { result ≡ record { jobs = map.empty; room = 0 } }
+    {
+        StandingJobs {
+            jobs: SortedMap::new(alloc),
+        }
+    }
+
+    /// How many jobs stand.
+    pub fn len(&self) -> usize
+        ensures { result ≡ map.len self.now.jobs }
+    {
+        self.jobs.len()
+    }
+
+    /// The job that stands for a leaf. Takes logarithmic time.
+    pub fn get(&self, dir: Ino, frag: Frag) -> Option<&Job>
+        ensures { option_copied result ≡ map.get self.now.jobs (dir, frag) }
+    {
+        self.jobs.get(&(dir, frag))
+    }
+
+    /// The leaf for which the job of a number stands. Each job is looked at; takes no memory.
+    pub fn leaf_of(&self, number: u64) -> Option<(Ino, Frag)>
+        ensures { Finds self.now.jobs number result }
+    {
+        find(&self.jobs, number)
+    }
+
+    /// Makes room for so many jobs. Where the room is there already nothing is done, and there is no error.
+    pub fn reserve(&mut self, jobs: usize) -> Result<(), AllocError>
+        ensures ok { OnOk result (jobs ≤ self.new.room) }
+        ensures same { self.new.jobs ≡ self.old.jobs }
+        ensures grows { self.old.room ≤ self.new.room }
+        ensures err { OnErr result (self.new ≡ self.old) }
+    {
+        self.jobs.reserve(jobs)
+    }
+
+    /// A job stands for its leaf, for which there is room; one that stood for it is gone. Takes no memory.
+    pub fn put(&mut self, job: Job)
+        requires { 0 < self.old.room }
+        ensures put { self.new.jobs ≡ map.insert self.old.jobs (job.ino, job.frag) job }
+        ensures room { self.old.room ≤ self.new.room + 1 }
+    {
+        let _ = self.jobs.insert((job.ino, job.frag), job);
+    }
+
+    /// The job of a leaf ends. A leaf for which none stands changes nothing. Takes no memory.
+    pub fn end(&mut self, dir: Ino, frag: Frag)
+        ensures ended { self.new.jobs ≡ map.remove self.old.jobs (dir, frag) }
+        ensures room { self.old.room ≤ self.new.room }
+    {
+        let _ = self.jobs.remove(&(dir, frag));
+    }
+}
+
+// The leaf of the first job with a number.
+fn find(jobs: &SortedMap<(Ino, Frag), Job>, number: u64) -> Option<(Ino, Frag)>
+    ensures { Finds (contents leaf_cmp jobs.now) number result }
+{
+    let mut left = jobs.iter();
+    while let Some((leaf, job)) = left.next() {
+        if job.number == number {
+            return Some(*leaf);
+        }
+    }
+    None
+}

@@ -1,4 +1,0 @@
-pub mod Caches
-pub mod Changes
-pub mod Lending
-pub mod Orders

@@ -1,0 +1,138 @@
+//! Edits of a row of chunks at a place among all its pairs.
+ghost use Rattle.std.specs.Prelude.{◌≡◌, ◌+◌, ◌-◌, ◌<◌, ◌≤◌, ◌∷◌, [], length, slice_index_or, slice_set, insert, remove};
+ghost use Rattle.sorted_map.specs.Chunks.{flat, load, start, room_in, AllSome};
+
+use crate::chunks::chunk::{HALF, MOST};
+use crate::chunks::row::Chunks;
+
+/// Puts a pair in at a place of chunk `home`, for which there is room. A full chunk is split before, and its halves join their
+/// neighbours where they fit into one. Takes no memory, and at most one of the room.
+pub fn put_new<K: Drop, V: Drop>(chunks: &mut Chunks<K, V>, home: usize, at: usize, pair: (K, V))
+    requires some { AllSome chunks.old.lists }
+    requires home { 0 < length chunks.old.lists → home < length chunks.old.lists }
+    requires within { at ≤ length (slice_index_or chunks.old.lists home []) }
+    requires room { 0 < room_in chunks.old }
+    ensures items { flat chunks.new.lists ≡ insert (flat chunks.old.lists) (start chunks.old.lists home + at) pair }
+    ensures some { AllSome chunks.new.lists }
+    ensures room { room_in chunks.old ≤ room_in chunks.new + 1 }
+{
+    if chunks.row().is_empty() {
+        put_first(chunks, pair);
+        return;
+    }
+    if chunks.row()[home].len() < MOST {
+        put_within(chunks, home, at, pair);
+        return;
+    }
+    put_apart(chunks, home, at, pair);
+    join(chunks, home + 1);
+    if 0 < home {
+        join(chunks, home - 1);
+    }
+}
+
+// Puts the first pair in.
+fn put_first<K: Drop, V: Drop>(chunks: &mut Chunks<K, V>, pair: (K, V))
+    requires none { length chunks.old.lists ≡ 0 }
+    requires room { 0 < room_in chunks.old }
+    ensures items { flat chunks.new.lists ≡ pair ∷ [] }
+    ensures some { AllSome chunks.new.lists }
+    ensures room { room_in chunks.old ≤ room_in chunks.new + 1 }
+{
+    chunks.open();
+    chunks.put_at(0, 0, pair);
+}
+
+// Puts a pair into a chunk that isn't full.
+fn put_within<K: Drop, V: Drop>(chunks: &mut Chunks<K, V>, home: usize, at: usize, pair: (K, V))
+    requires some { AllSome chunks.old.lists }
+    requires home { home < length chunks.old.lists }
+    requires within { at ≤ length (slice_index_or chunks.old.lists home []) }
+    requires few { length (slice_index_or chunks.old.lists home []) < 64 }
+    ensures items { flat chunks.new.lists ≡ insert (flat chunks.old.lists) (start chunks.old.lists home + at) pair }
+    ensures some { AllSome chunks.new.lists }
+    ensures room { room_in chunks.old ≤ room_in chunks.new + 1 }
+    ensures load { load chunks.new.lists ≤ load chunks.old.lists + 1 }
+    ensures spare { chunks.new.spare ≡ chunks.old.spare }
+{
+    chunks.put_at(home, at, pair);
+}
+
+// Puts a pair into one of the halves of a full chunk.
+fn put_apart<K: Drop, V: Drop>(chunks: &mut Chunks<K, V>, home: usize, at: usize, pair: (K, V))
+    requires some { AllSome chunks.old.lists }
+    requires home { home < length chunks.old.lists }
+    requires within { at ≤ 64 }
+    requires full { length (slice_index_or chunks.old.lists home []) ≡ 64 }
+    requires room { 0 < room_in chunks.old }
+    ensures items { flat chunks.new.lists ≡ insert (flat chunks.old.lists) (start chunks.old.lists home + at) pair }
+    ensures some { AllSome chunks.new.lists }
+    ensures room { room_in chunks.old ≤ room_in chunks.new + 1 }
+{
+    chunks.split(home);
+    if at <= HALF {
+        put_within(chunks, home, at, pair);
+    } else {
+        put_within(chunks, home + 1, at - HALF, pair);
+    }
+}
+
+/// Puts a value at a place of chunk `home`, and returns the one that was there. The key stays, and the room too.
+pub fn put_value<K, V>(chunks: &mut Chunks<K, V>, home: usize, at: usize, value: V) -> V
+    requires some { AllSome chunks.old.lists }
+    requires home { home < length chunks.old.lists }
+    requires within { at < length (slice_index_or chunks.old.lists home []) }
+    ensures items { (d : K × V) → flat chunks.new.lists ≡ slice_set (flat chunks.old.lists) (start chunks.old.lists home + at) ((slice_index_or (flat chunks.old.lists) (start chunks.old.lists home + at) d).0, value) }
+    ensures value { (d : K × V) → result ≡ (slice_index_or (flat chunks.old.lists) (start chunks.old.lists home + at) d).1 }
+    ensures some { AllSome chunks.new.lists }
+    ensures room { room_in chunks.new ≡ room_in chunks.old }
+{
+    chunks.replaced(home, at, value)
+}
+
+/// Takes the pair at a place of chunk `home` out. Where that leaves the chunk empty it is kept as room, and where it and a
+/// neighbour fit into one they join. Takes no memory, and none of the room.
+pub fn take_out<K: Drop, V: Drop>(chunks: &mut Chunks<K, V>, home: usize, at: usize) -> (K, V)
+    requires some { AllSome chunks.old.lists }
+    requires home { home < length chunks.old.lists }
+    requires within { at < length (slice_index_or chunks.old.lists home []) }
+    ensures value { (d : K × V) → result ≡ slice_index_or (flat chunks.old.lists) (start chunks.old.lists home + at) d }
+    ensures items { flat chunks.new.lists ≡ remove (flat chunks.old.lists) (start chunks.old.lists home + at) }
+    ensures some { AllSome chunks.new.lists }
+    ensures room { room_in chunks.old ≤ room_in chunks.new }
+{
+    let pair = chunks.take_at(home, at);
+    tidy(chunks, home);
+    pair
+}
+
+// Keeps a chunk as room if it is empty, or joins it with a neighbour if they fit into one.
+fn tidy<K: Drop, V: Drop>(chunks: &mut Chunks<K, V>, home: usize)
+    requires home { home < length chunks.old.lists }
+    requires others { AllSome (remove chunks.old.lists home) }
+    ensures items { flat chunks.new.lists ≡ flat chunks.old.lists }
+    ensures some { AllSome chunks.new.lists }
+    ensures room { room_in chunks.old ≤ room_in chunks.new }
+{
+    if chunks.row()[home].len() == 0 {
+        chunks.set_aside(home);
+        return;
+    }
+    join(chunks, home);
+    if 0 < home {
+        join(chunks, home - 1);
+    }
+}
+
+// Joins a chunk with the next if they fit into one.
+fn join<K: Drop, V: Drop>(chunks: &mut Chunks<K, V>, home: usize)
+    requires some { AllSome chunks.old.lists }
+    ensures items { flat chunks.new.lists ≡ flat chunks.old.lists }
+    ensures some { AllSome chunks.new.lists }
+    ensures room { room_in chunks.old ≤ room_in chunks.new }
+{
+    let row = chunks.row();
+    if home < row.len().saturating_sub(1) && row[home].len() + row[home + 1].len() <= MOST {
+        chunks.move_down(home);
+    }
+}
