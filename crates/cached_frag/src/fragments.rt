@@ -152,7 +152,8 @@ pub(crate) fn shown_in<'a>(
 
 // Whether the counts can hold so many entries more: there is never memory for so many that they can't.
 fn fits(counts: EntryCounts, changes: usize) -> Result<(), AllocError>
-    ensures { OnOk result (counts.files + counts.dirs + changes < 2 ^ 64) }
+    ensures ok { OnOk result (counts.files + counts.dirs + changes < 2 ^ 64) }
+    ensures err { OnErr result (2 ^ 64 ≤ counts.files + counts.dirs + changes) }
 {
     match counts.files.checked_add(counts.dirs) {
         Some(entries) if entries.checked_add(changes as u64).is_some() => Ok(()),

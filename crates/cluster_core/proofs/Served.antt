@@ -78,11 +78,7 @@ module _ (f : TreeState) (roots : Roots) (numbers : List Supply) (inboxes : Inbo
     out = record { same = refl; left = λ i. record { tree = f; roots = roots; numbers = numbers; inboxes = h.1 i; pins = h.2 i; sessions = sessions } };
   }))
   repeats request rest inboxes_now pins_now place said (Err reason) kept is h =
-      inr (inr (inr (inl (h.0, late, record { same = refl; left = λ i. record { tree = f; roots = roots; numbers = numbers; inboxes = h.1 i; pins = h.2 i; sessions = sessions } }))))
-    where
-      late : IsTrimmed past request.client request.tid request.oldest → ⊥
-      late (inl below) = omega (arith, below, kept.marked)
-      late (inr below) = omega (arith, below, kept.own)
+      inr (inr (inr (inl (h.0, inl (place, kept), record { same = refl; left = λ i. record { tree = f; roots = roots; numbers = numbers; inboxes = h.1 i; pins = h.2 i; sessions = sessions } }))))
 
   pub answered_again : (w : List Request) (front : Request) (inboxes_now : Inboxes) (pins_now : List Pin) (place : ℕ) (said : Replied) (result : Result Answer Refusal)
       → Some front ≡ slice_get w 0 → IsKeptAt past front.client front.tid front.oldest place → ((e : Entry) → said ≡ (slice_index_or past place e).reply)
@@ -135,7 +131,7 @@ module _ (f : TreeState) (roots : Roots) (numbers : List Supply) (inboxes : Inbo
 
         go : IsUnready (MayTouchAllIn f roots pins rank front.client front.tid front.op) (MayRefuse front.op) (outcome_with f (supply_of old rank) front.op) (offer (supply_of old rank)) reason
             → ServesInbox old (state_of g between_roots numbers inboxes pins between) past middle MayRefuse rank (Err reason) (front ∷ rest)
-        go (inl memory) = inr (inr (inr (inl (memory, not_trimmed past front.client front.tid front.oldest new, all_left))))
+        go (inl memory) = inr (inr (inr (inl (memory, inr (record { is_new = new; master = master }), all_left))))
         go (inr (inl (isnt, may))) = inr (inr (inr (inr (other, record { is_new = new; master = master }, may, all_left))))
         go (inr (inr (touch, inl lacks))) = absurd (other lacks.named)
         go (inr (inr (touch, inr may))) = inr (inr (inr (inr (other, record { is_new = new; master = master }, may, all_left))))

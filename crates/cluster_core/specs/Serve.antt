@@ -171,6 +171,10 @@ pub record IsAtMaster (old : State) (past : List Entry) (rank : Rank) (request :
   pub is_new : IsNew past request.client request.tid request.oldest
   pub master : IsMaster old rank request.op rank
 
+-- serving a request takes memory where its reply is copied, since it was applied before, or where it's new and at its master, and nowhere else
+abbrev pub TakesMemory : State → List Entry → Rank → Request → Type 0
+TakesMemory old past rank request = ((place : ℕ) × IsKeptAt past request.client request.tid request.oldest place) ⊎ IsAtMaster old past rank request
+
 -- why a request lacks a number: it lacks no grant, and the table takes a number and the rank has none left, or a counter of the tree's is at
 -- its end
 abbrev pub LacksAny : State → (MayRefuse : Op → Refusal → Type 0) → Rank → Request → Type 0
@@ -184,7 +188,7 @@ RefusesRequest old new past now MayRefuse rank request rest reason =
     ((reason ≡ Trimmed) × IsTrimmed past request.client request.tid request.oldest × IsTakenOut old new past now rank request rest)
     ⊎ ((reason ≡ NoInodes) × IsAtMaster old past rank request × LacksAny old MayRefuse rank request × IsTakenOut old new past now rank request rest)
     ⊎ ((reason ≡ InboxFull) × FindsFull old past rank request × IsLeft old new past now)
-    ⊎ ((reason ≡ NoMemory) × (IsTrimmed past request.client request.tid request.oldest → ⊥) × IsLeft old new past now)
+    ⊎ ((reason ≡ NoMemory) × TakesMemory old past rank request × IsLeft old new past now)
     ⊎ ((reason ≢ NoInodes) × IsAtMaster old past rank request × MayRefuse request.op reason × IsLeft old new past now)
 
 -- what becomes of the request at the front

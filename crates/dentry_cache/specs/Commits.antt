@@ -1,12 +1,14 @@
 -- What a commit takes of a cached fragment, and what it leaves.
-use Rattle.std.specs.Prelude.{◌≡◌, ℕ, true, false, List, Option, Some, None}
+use Rattle.std.specs.Prelude.{◌≡◌, ◌⊎◌, ℕ, true, false, List, Option, Some, None}
 use Rattle.mds_types.specs.Frag.{Fragment}
 use Rattle.mds_types.specs.ObjectText.{object_text}
 use Rattle.mds_types.specs.declared.ids.Ino.{Ino}
 use Rattle.mds_types.specs.declared.object_names.ObjName.TheVariants.{Frag as FragOf}
 use Rattle.commit_jobs.specs.declared.bases.Base.TheVariants.{Stored}
 use Rattle.commit_jobs.specs.Marks.{Marks}
-use Rattle.commit_jobs.specs.Snap.{Snap, next_version}
+use Rattle.commit_jobs.specs.Snap.{IsBelowEnd, Snap, next_version}
+use Rattle.mds_types.specs.declared.refusals.Refusal.{Refusal}
+use Rattle.mds_types.specs.declared.refusals.Refusal.TheVariants.{NoInodes, NoMemory}
 use Rattle.cached_frag.specs.Cached.{Cached, is_clean, shown, snapshot_of, unsettled}
 
 -- the text that names a leaf's object
@@ -17,6 +19,10 @@ leaf_text dir frag = object_text (FragOf dir frag)
 abbrev pub Takes : Option Snap → Cached → Type 0
 Takes None f = is_clean f ≡ true
 Takes (Some snapshot) f = (is_clean f ≡ false) × (snapshot ≡ snapshot_of f)
+
+-- why nothing is taken of a fragment that isn't clean: no version is left, or else want of memory
+abbrev pub MayNotBegin : Refusal → Cached → Type 0
+MayNotBegin refusal f = (is_clean f ≡ false) × (((refusal ≡ NoInodes) × (IsBelowEnd f.base → ⊥)) ⊎ ((refusal ≡ NoMemory) × IsBelowEnd f.base))
 
 -- a fragment whose object has these names at their versions, and is at this commit version: exactly those names became clean whose
 -- last change the object has, and it shows what it showed

@@ -1,13 +1,13 @@
 //! Commits of cached fragments.
-ghost use Rattle.std.specs.Prelude.{◌≡◌, ◌≤◌, ◌⊎◌, ◌↔◌, IsTrue, Option, OnOk, OnErr, IfOk, IfErr, IfSome};
+ghost use Rattle.std.specs.Prelude.{◌≡◌, ◌+◌, ◌≤◌, ◌↔◌, IsTrue, Option, None, OnOk, OnErr, IfOk, IfErr, IfSome};
 ghost use Rattle.std.specs.FinMap as map;
-ghost use Rattle.mds_types.specs.declared.refusals.Refusal.TheVariants.{NoInodes, NoMemory};
-ghost use Rattle.objstore.specs.Objects.{MayRefuse, Objects, written};
+ghost use Rattle.objstore.specs.Objects.{MayRefuse, Objects, faults_told, written};
+ghost use Rattle.std.specs.Result.{result_err};
 ghost use Rattle.dentry_cache.specs.Standing.{Each, KeepsTies, OfOthers, Stands, Ties};
 ghost use Rattle.commit_jobs.specs.Snap.{IsBelowEnd, IsSnap};
 ghost use Rattle.cached_frag.specs.Cached.{Cached};
 ghost use Rattle.dentry_cache.specs.Cache.{HasCached, IsChanged, IsThere, cached};
-ghost use Rattle.dentry_cache.specs.Commits.{IsSettled, IsCommitted, Takes, leaf_text};
+ghost use Rattle.dentry_cache.specs.Commits.{IsSettled, IsCommitted, MayNotBegin, Takes, leaf_text};
 
 use crate::cache::Cache;
 use cached_frag::CachedFrag;
@@ -23,7 +23,7 @@ impl Cache {
     pub fn begin_commit(&mut self, dir: Ino, frag: Frag) -> Result<Option<Snapshot>, Refusal>
         requires { IsThere (cached self.old.entries (dir, frag)) }
         ensures taken { IfOk result (λ taken. HasCached (cached self.old.entries (dir, frag)) (Takes taken)) }
-        ensures refused { IfErr result (λ refusal. (refusal ≡ NoMemory) ⊎ ((refusal ≡ NoInodes) × HasCached (cached self.old.entries (dir, frag)) (λ (f : Cached). IsBelowEnd f.base → ⊥))) }
+        ensures refused { IfErr result (λ refusal. HasCached (cached self.old.entries (dir, frag)) (MayNotBegin refusal)) }
         ensures used { IsChanged (cached self.old.entries (dir, frag)) (λ (f now : Cached). now ≡ f) (dir, frag) self.old self.new }
         ensures keeps { (objects : Objects) → KeepsTies Each objects objects self.old.entries self.new.entries }
         ensures stands { (objects : Objects) → IfOk result (λ taken. IfSome taken (λ snapshot. Ties self.old.entries objects → Stands (dir, frag) snapshot self.new.entries objects)) }
@@ -54,6 +54,8 @@ impl Cache {
         ensures stays { OnErr result (KeepsTies Each (S.objects store.old) (S.objects store.new) self.old.entries self.new.entries) }
         ensures refused { IfErr result (MayRefuse (S.faults store.old) (S.faults store.new)) }
         ensures grows { S.faults store.old ≤ S.faults store.new }
+        ensures counted { S.faults store.new ≡ S.faults store.old + faults_told (result_err result) }
+        ensures once { OnOk result (S.IsCall store.old None store.new) }
     {
         ObjName::texts_differ();
         let job = encoded.job();
@@ -105,7 +107,7 @@ impl Cache {
 fn snapshot_of(fragment: &CachedFrag) -> Result<Option<Snapshot>, Refusal>
     ensures taken { IfOk result (λ taken. Takes taken fragment.now) }
     ensures valid { IfOk result (λ taken. IfSome taken IsSnap) }
-    ensures refused { IfErr result (λ refusal. (refusal ≡ NoMemory) ⊎ ((refusal ≡ NoInodes) × (IsBelowEnd fragment.now.base → ⊥))) }
+    ensures refused { IfErr result (λ refusal. MayNotBegin refusal fragment.now) }
 {
     if fragment.is_clean() {
         return Ok(None);
@@ -135,6 +137,8 @@ fn write<S: Store>(alloc: Global, store: &mut S, encoded: &Encoded) -> Result<()
     ensures same { OnErr result (S.objects store.new ≡ S.objects store.old) }
     ensures refused { IfErr result (MayRefuse (S.faults store.old) (S.faults store.new)) }
     ensures grows { S.faults store.old ≤ S.faults store.new }
+    ensures counted { S.faults store.new ≡ S.faults store.old + faults_told (result_err result) }
+    ensures once { OnOk result (S.IsCall store.old None store.new) }
 {
     let job = encoded.job();
     let name = ObjName::Frag(job.ino, job.frag);

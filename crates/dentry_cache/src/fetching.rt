@@ -1,5 +1,7 @@
 //! Fetches, and places kept for fragments that will be made.
-ghost use Rattle.std.specs.Prelude.{◌≡◌, ◌≤◌, ◌<◌, ◌∷◌, length, None, OnOk, OnErr, IfErr};
+ghost use Rattle.std.specs.Result.{result_err};
+ghost use Rattle.objstore.specs.Objects.{faults_told};
+ghost use Rattle.std.specs.Prelude.{◌≡◌, ◌+◌, ◌≤◌, ◌<◌, ◌∷◌, length, None, OnOk, OnErr, IfErr};
 ghost use Rattle.std.specs.Map.{lookup};
 ghost use Rattle.lru.specs.LruCache.{lru_cache};
 ghost use Rattle.mds_types.specs.declared.refusals.Refusal.TheVariants.{NoMemory};
@@ -40,7 +42,7 @@ impl Cache {
         ensures leaves { LeavesBeside stay (dir, frag) self.old.entries self.new.entries }
         ensures keeps { KeepsTies Each (S.objects store.old) (S.objects store.new) self.old.entries self.new.entries }
         ensures same { S.objects store.new ≡ S.objects store.old }
-        ensures grows { S.faults store.old ≤ S.faults store.new }
+        ensures counted { S.faults store.new ≡ S.faults store.old + faults_told (result_err result) }
     {
         if self.touch(dir, frag) {
             return Ok(());
@@ -66,7 +68,7 @@ impl Cache {
         ensures leaves { LeavesBeside stay (dir, frag) self.old.entries self.new.entries }
         ensures keeps { KeepsTies Each (S.objects store.old) (S.objects store.new) self.old.entries self.new.entries }
         ensures same { S.objects store.new ≡ S.objects store.old }
-        ensures grows { S.faults store.old ≤ S.faults store.new }
+        ensures counted { S.faults store.new ≡ S.faults store.old + faults_told (result_err result) }
     {
         is_leaf(dir, frag);
         self.make_room(stay)?;

@@ -1,8 +1,9 @@
 //! A fragment, read from its object in the store.
-ghost use Rattle.std.specs.Prelude.{◌≡◌, ◌≤◌, ℕ, List, Option, Some, IfOk, IfErr, option_copied};
+ghost use Rattle.std.specs.Prelude.{◌≡◌, ◌+◌, ◌≤◌, ℕ, List, Option, Some, None, IfOk, IfErr, OnOk, option_copied};
 ghost use Rattle.omap.specs.Omap.{PairMap, key_cmp, page_of};
 ghost use Rattle.sorted_map.specs.SortedMap.{contents};
-ghost use Rattle.objstore.specs.Objects.{MayRefuse};
+ghost use Rattle.std.specs.Result.{result_err};
+ghost use Rattle.objstore.specs.Objects.{MayRefuse, faults_told};
 ghost use Rattle.std.specs.FinMap as map;
 ghost use Rattle.dentry_cache.specs.Loading.{Loads, MayNotLoad, object_of};
 ghost use Rattle.dentry_cache.specs.Pairs.{AreNamesOf, EndsPage, EndsPairs, IsCounted, IsEndOf, IsHeaderOf};
@@ -43,7 +44,7 @@ pub fn load<S: Store>(
     ensures loaded { IfOk result (λ loaded. Loads frag (object_of (S.objects store.old) dir frag) (Some loaded)) }
     ensures refused { IfErr result (MayNotLoad dir frag (object_of (S.objects store.old) dir frag) (S.faults store.old) (S.faults store.new)) }
     ensures same { S.objects store.new ≡ S.objects store.old }
-    ensures grows { S.faults store.old ≤ S.faults store.new }
+    ensures counted { S.faults store.new ≡ S.faults store.old + faults_told (result_err result) }
 {
     let name = ObjName::Frag(dir, frag);
     let text = format!(in alloc; "{name}")?;
@@ -63,7 +64,7 @@ fn load_object<S: Store>(
     ensures loaded { IfOk result (Loads frag (map.get (S.objects store.old) text.now)) }
     ensures refused { IfErr result (MayRefuse (S.faults store.old) (S.faults store.new)) }
     ensures same { S.objects store.new ≡ S.objects store.old }
-    ensures grows { S.faults store.old ≤ S.faults store.new }
+    ensures counted { S.faults store.new ≡ S.faults store.old + faults_told (result_err result) }
 {
     let Some(header) = read_header(alloc, store, text)? else {
         return Ok(None);
@@ -95,7 +96,8 @@ fn read_header<S: Store>(
     ensures read { IfOk result (IsHeaderOf (map.get (S.objects store.old) text.now)) }
     ensures refused { IfErr result (MayRefuse (S.faults store.old) (S.faults store.new)) }
     ensures same { S.objects store.new ≡ S.objects store.old }
-    ensures grows { S.faults store.old ≤ S.faults store.new }
+    ensures counted { S.faults store.new ≡ S.faults store.old + faults_told (result_err result) }
+    ensures once { OnOk result (S.IsCall store.old None store.new) }
 {
     match store.header(alloc, text)? {
         Some(bytes) => Ok(decode_header(bytes.as_slice())),
@@ -113,7 +115,7 @@ fn read_names<S: Store>(
     ensures read { IfOk result (AreNamesOf frag (map.get (S.objects store.old) text.now)) }
     ensures refused { IfErr result (MayRefuse (S.faults store.old) (S.faults store.new)) }
     ensures same { S.objects store.new ≡ S.objects store.old }
-    ensures grows { S.faults store.old ≤ S.faults store.new }
+    ensures counted { S.faults store.new ≡ S.faults store.old + faults_told (result_err result) }
 {
     let mut names = SortedMap::new(alloc);
     let mut after = None;
@@ -138,7 +140,8 @@ fn read_page<S: Store>(
     ensures read { IfOk result (EndsPage frag (map.get (S.objects store.old) text.now) (option_copied after.entry) (contents key_cmp names.old) (contents key_cmp names.new)) }
     ensures refused { IfErr result (MayRefuse (S.faults store.old) (S.faults store.new)) }
     ensures same { S.objects store.new ≡ S.objects store.old }
-    ensures grows { S.faults store.old ≤ S.faults store.new }
+    ensures counted { S.faults store.new ≡ S.faults store.old + faults_told (result_err result) }
+    ensures once { OnOk result (S.IsCall store.old None store.new) }
 {
     match store.page(alloc, text, after, PAGE)? {
         Some(page) => Ok(add_page(alloc, names, frag, page)?),

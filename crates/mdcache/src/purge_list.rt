@@ -1,5 +1,5 @@
 //! `PurgeList`, what a contract sees of it, and its calls.
-ghost use Rattle.std.specs.Prelude.{◌≡◌, ◌≤◌, ◌<◌, ◌+◌, ℕ, List, string_bytes, OnOk, OnErr, IfSome, IfNone, option_copied};
+ghost use Rattle.std.specs.Prelude.{◌≡◌, ◌≤◌, ◌<◌, ◌+◌, ℕ, List, string_bytes, IsOk, OnOk, OnErr, IfSome, IfNone, option_copied};
 ghost use Rattle.std.specs.FinMap as map;
 ghost use Rattle.mdcache.specs.PurgeList.{first_name};
 
@@ -74,6 +74,7 @@ impl PurgeList {
         ensures ok { OnOk result (names ≤ self.new.room) }
         ensures same { self.new.names ≡ self.old.names }
         ensures grows { self.old.room ≤ self.new.room }
+        ensures ready { names ≤ self.old.room → IsOk result × (self.new ≡ self.old) }
         ensures err { OnErr result (self.new ≡ self.old) }
     {
         self.names.reserve(names)

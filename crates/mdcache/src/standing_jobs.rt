@@ -1,5 +1,5 @@
 //! `StandingJobs`, what a contract sees of it, and its calls.
-ghost use Rattle.std.specs.Prelude.{◌≡◌, ◌≤◌, ◌<◌, ◌+◌, OnOk, OnErr, option_copied};
+ghost use Rattle.std.specs.Prelude.{◌≡◌, ◌≤◌, ◌<◌, ◌+◌, IsOk, OnOk, OnErr, option_copied};
 ghost use Rattle.std.specs.FinMap as map;
 ghost use Rattle.sorted_map.specs.SortedMap.{contents};
 ghost use Rattle.mds_types.specs.Leaf.{leaf_cmp};
@@ -67,6 +67,7 @@ impl StandingJobs {
         ensures ok { OnOk result (jobs ≤ self.new.room) }
         ensures same { self.new.jobs ≡ self.old.jobs }
         ensures grows { self.old.room ≤ self.new.room }
+        ensures ready { jobs ≤ self.old.room → IsOk result × (self.new ≡ self.old) }
         ensures err { OnErr result (self.new ≡ self.old) }
     {
         self.jobs.reserve(jobs)

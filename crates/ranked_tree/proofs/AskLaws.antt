@@ -18,6 +18,9 @@ use Rattle.mdcache.specs.Shown.{shown_tree}
 use Rattle.mdcache.specs.Sound.{IsSound}
 use Rattle.mdcache.specs.State.{State as TreeState}
 use Rattle.mdcache.proofs.FragsLaws.{lacked_before}
+use Rattle.subtree_map.specs.Authority.{Roots}
+use Rattle.ranked_tree.specs.Held.{LacksPlacesFor}
+use Rattle.ranked_tree.specs.Subtrees.{Rules}
 
 -- what lacks at a rank lacks at some
 pub told_at : (X : Type 0) (result : Result X Refusal) (old : Core) (after : ℕ) (rank : Rank) → rank.0 < length old.ranks → IfErr result (MayNotFind (LacksPlacesAt 1 old rank) old.faults after) → IfErr result (MayNotFind (LacksPlaces 1 old) old.faults after)
@@ -28,6 +31,17 @@ told_at X (Err reason) old after rank there h = go h
     go (inl memory) = inl memory
     go (inr (inl fault)) = inr (inl fault)
     go (inr (inr (is, lacks))) = inr (inr (is, (rank, there, lacks)))
+
+-- what lacks at the rank that holds a leaf
+pub told_for : (X : Type 0) (result : Result X Refusal) (old : Core) (roots : Roots) (leaf : Leaf) (after : ℕ) (rank : Rank) → Rules old.state roots leaf rank
+    → IfErr result (MayNotFind (LacksPlacesAt 1 old rank) old.faults after) → IfErr result (MayNotFind (LacksPlacesFor 1 old roots leaf) old.faults after)
+told_for X (Ok x) old roots leaf after rank rules h = tt
+told_for X (Err reason) old roots leaf after rank rules h = go h
+  where
+    go : MayNotFind (LacksPlacesAt 1 old rank) old.faults after reason → MayNotFind (LacksPlacesFor 1 old roots leaf) old.faults after reason
+    go (inl memory) = inl memory
+    go (inr (inl fault)) = inr (inl fault)
+    go (inr (inr (is, lacks))) = inr (inr (is, (rank, rules, lacks)))
 
 -- reads before it change nothing of that
 pub told_later : (X : Type 0) (result : Result X Refusal) (a b : Core) (after : ℕ) → KeepsState a b → IfErr result (MayNotFind (LacksPlaces 1 b) b.faults after) → IfErr result (MayNotFind (LacksPlaces 1 a) a.faults after)

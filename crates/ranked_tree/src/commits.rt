@@ -43,6 +43,7 @@ impl<S: Store + Drop> RankedTree<S> {
     /// Gives a commit up, as `MdCache::drop_job` does and refuses.
     pub fn drop_job(&mut self, number: u64) -> Result<(), Refusal>
         ensures dropped { Drops self.old.tree.state self.new.tree.state number result }
+        ensures places { self.new.tree.ranks ≡ self.old.tree.ranks }
         ensures roots { self.new.subtrees ≡ self.old.subtrees }
         ensures count { length self.new.tree.ranks ≡ length self.old.tree.ranks }
         ensures cap { self.new.tree.cache.cap ≡ self.old.tree.cache.cap }
@@ -54,6 +55,7 @@ impl<S: Store + Drop> RankedTree<S> {
     /// Writes or removes the object of a directory's tree, as `MdCache::commit_tree` does and refuses.
     pub fn commit_tree(&mut self, alloc: Global, dir: Ino) -> Result<(), Refusal>
         ensures saved { SavesTree self.old.tree.state self.new.tree.state self.old.tree.faults self.new.tree.faults dir result }
+        ensures places { self.new.tree.ranks ≡ self.old.tree.ranks }
         ensures roots { self.new.subtrees ≡ self.old.subtrees }
         ensures count { length self.new.tree.ranks ≡ length self.old.tree.ranks }
         ensures cap { self.new.tree.cache.cap ≡ self.old.tree.cache.cap }
@@ -65,6 +67,7 @@ impl<S: Store + Drop> RankedTree<S> {
     /// Removes the first object of the purge list, as `MdCache::purge` does and refuses.
     pub fn purge(&mut self) -> Result<(), Refusal>
         ensures purged { Purges self.old.tree.state self.new.tree.state self.old.tree.faults self.new.tree.faults result }
+        ensures places { self.new.tree.ranks ≡ self.old.tree.ranks }
         ensures roots { self.new.subtrees ≡ self.old.subtrees }
         ensures count { length self.new.tree.ranks ≡ length self.old.tree.ranks }
         ensures cap { self.new.tree.cache.cap ≡ self.old.tree.cache.cap }

@@ -9,7 +9,7 @@ ghost use Rattle.mdcache.specs.Frags.{KeepsState};
 ghost use Rattle.mdcache.specs.Core.{LacksPlaces};
 ghost use Rattle.mdcache.specs.Reads.{MayNotFind, has_none};
 ghost use Rattle.mdcache.specs.Shown.{names_of, shown_tree};
-ghost use Rattle.ranked_tree.specs.Held.{IsOwned};
+ghost use Rattle.ranked_tree.specs.Held.{IsOwned, LacksPlacesFor};
 
 use crate::holding::holder_of;
 use fragtree::FragTree;
@@ -80,7 +80,7 @@ fn is_leaf_empty<S: Store + Drop>(
     ensures found { IfOk result (λ empty. empty ≡ has_none (names_of tree.old.state.unsaved tree.old.state.objects (dir, frag))) }
     ensures kept { KeepsState tree.old tree.new }
     ensures owned { IsOwned tree.new roots.now.roots }
-    ensures refused { IfErr result (MayNotFind (LacksPlaces 1 tree.old) tree.old.faults tree.new.faults) }
+    ensures refused { IfErr result (MayNotFind (LacksPlacesFor 1 tree.old roots.now.roots (dir, frag)) tree.old.faults tree.new.faults) }
 {
     let rank = holder_of(tree, roots, dir, frag);
     tree.is_leaf_empty(alloc, rank, dir, frag)

@@ -13,7 +13,7 @@ ghost use Rattle.mdcache.specs.Core.{LacksPlaces};
 ghost use Rattle.mdcache.specs.Reads.{MayNotFind};
 ghost use Rattle.mdcache.specs.Ready.{MayNotBeReady};
 ghost use Rattle.mdcache.specs.Shown.{shown_tree};
-ghost use Rattle.ranked_tree.specs.Held.{IsOwned};
+ghost use Rattle.ranked_tree.specs.Held.{IsOwned, LacksPlacesFor};
 ghost use Rattle.ranked_tree.specs.Ranked.{IsReadyHeld};
 
 use crate::changing::reserve_roots;
@@ -125,7 +125,7 @@ fn look<S: Store + Drop>(
     ensures found { IfOk result (λ found. found ≡ map.get (shown_tree tree.old.state) dentry.now) }
     ensures kept { KeepsState tree.old tree.new }
     ensures owned { IsOwned tree.new roots.now.roots }
-    ensures refused { IfErr result (MayNotFind (LacksPlaces 1 tree.old) tree.old.faults tree.new.faults) }
+    ensures refused { IfErr result (MayNotFind (LacksPlacesFor 1 tree.old roots.now.roots (dentry.now.dir, leaf)) tree.old.faults tree.new.faults) }
 {
     // The contract of `dirs` is what says here that the state is sound.
     let _ = tree.dirs();

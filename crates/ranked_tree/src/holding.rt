@@ -7,8 +7,7 @@ ghost use Rattle.mdcache.specs.Shown.{shown_tree};
 ghost use Rattle.ranked_tree.specs.Held.{AreHolders, IsOwned, first_named, second_named};
 ghost use Rattle.ranked_tree.specs.Subtrees.{Rules};
 
-use mdcache::Holders;
-use mdcache::MdCache;
+use mdcache::{Holders, MdCache};
 use mds_types::{Frag, Ino, Rank};
 use namespace_ops::Change;
 use objstore::Store;

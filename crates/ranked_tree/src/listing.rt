@@ -15,12 +15,11 @@ ghost use Rattle.mdcache.specs.Pages.{IsPageOf, gathered};
 ghost use Rattle.mdcache.specs.Core.{LacksPlaces};
 ghost use Rattle.mdcache.specs.Reads.{MayNotFind};
 ghost use Rattle.mdcache.specs.Shown.{names_of, shown_tree};
-ghost use Rattle.ranked_tree.specs.Held.{IsOwned};
+ghost use Rattle.ranked_tree.specs.Held.{IsOwned, LacksPlacesFor};
 
 use crate::holding::holder_of;
-use mdcache::Page;
 use fragtree::FragTree;
-use mdcache::MdCache;
+use mdcache::{MdCache, Page};
 use mds_types::{Frag, Ino, Listing, Name, PageSize, Refusal};
 use objstore::Store;
 use std::alloc::Global;
@@ -121,7 +120,7 @@ fn gather_leaf<S: Store + Drop>(
     ensures most { page.new.most ≡ page.old.most }
     ensures kept { KeepsState tree.old tree.new }
     ensures owned { IsOwned tree.new roots.now.roots }
-    ensures refused { IfErr result (MayNotFind (LacksPlaces 1 tree.old) tree.old.faults tree.new.faults) }
+    ensures refused { IfErr result (MayNotFind (LacksPlacesFor 1 tree.old roots.now.roots (dir, frag)) tree.old.faults tree.new.faults) }
 {
     let rank = holder_of(tree, roots, dir, frag);
     tree.gather(alloc, rank, dir, frag, after, page)

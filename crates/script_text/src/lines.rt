@@ -1,5 +1,7 @@
 //! Lines of the script.
-ghost use Rattle.std.specs.Prelude.{◌≡◌, IfOk};
+ghost use Rattle.std.specs.Prelude.{◌≡◌, IfOk, OnErr, true, false};
+ghost use Rattle.std.specs.List.{list_all};
+ghost use Rattle.script_words.specs.Words.{is_comment, is_printable};
 ghost use Rattle.script_text.specs.Script.{line_of};
 
 use crate::commands::{Command, read_command};
@@ -22,7 +24,8 @@ pub enum Line {
 /// objects.
 #[tactic(auto, unfolding(crate::specs::Script::line_of))]
 pub fn read_line(alloc: Global, bytes: &[u8]) -> Result<Line, AllocError>
-    ensures { IfOk result (λ line. line ≡ line_of bytes.now) }
+    ensures line { IfOk result (λ line. line ≡ line_of bytes.now) }
+    ensures memory { OnErr result ((is_comment bytes.now ≡ false) × (list_all is_printable bytes.now ≡ true)) }
 {
     if is_comment(bytes) {
         return Ok(Line::Nothing);

@@ -1,5 +1,7 @@
 //! Leaves come into the cache.
-ghost use Rattle.std.specs.Prelude.{◌≡◌, ◌≤◌, false, None, IfOk, OnOk, IfErr};
+ghost use Rattle.std.specs.Result.{result_err};
+ghost use Rattle.objstore.specs.Objects.{faults_told};
+ghost use Rattle.std.specs.Prelude.{◌≡◌, ◌+◌, ◌≤◌, false, None, IfOk, OnOk, IfErr};
 ghost use Rattle.std.specs.FinMap as map;
 ghost use Rattle.std.specs.Map.{lookup};
 ghost use Rattle.objstore.specs.Objects.{Objects};
@@ -33,7 +35,7 @@ pub(crate) fn fetch_leaf<S: Store>(
     ensures kept { KeepsNoMore cache.old cache.new }
     ensures refused { IfErr result (MayNotRead (S.faults store.old) (S.faults store.new) cache.old) }
     ensures same { S.objects store.new ≡ S.objects store.old }
-    ensures grows { S.faults store.old ≤ S.faults store.new }
+    ensures counted { S.faults store.new ≡ S.faults store.old + faults_told (result_err result) }
 {
     release(cache, dir, frag);
     cache.fetch(alloc, store, dir, frag, None)

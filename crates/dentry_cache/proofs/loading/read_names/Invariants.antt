@@ -9,7 +9,7 @@ use Rattle.dentry_cache.proofs.loading.read_names.Given as goal
 abbrev pub invariant-loop-after : goal.invariant-loop-after
 invariant-loop-after g l = record {
   same : g.S.Store.objects l.store ≡ g.S.Store.objects l.fn.store;
-  grows : g.S.Store.faults l.fn.store ≤ g.S.Store.faults l.store;
+  counted : g.S.Store.faults l.store ≡ g.S.Store.faults l.fn.store;
   good : are_good l.frag (pairs_left (map.get (g.S.Store.objects l.fn.store) l.fn.text) l.after) ≡ are_good l.fn.frag (pairs_left (map.get (g.S.Store.objects l.fn.store) l.fn.text) None);
   whole : added (contents key_cmp l.names) (pairs_left (map.get (g.S.Store.objects l.fn.store) l.fn.text) l.after) ≡ added map.empty (pairs_left (map.get (g.S.Store.objects l.fn.store) l.fn.text) None);
 }
