@@ -15,7 +15,7 @@ use Rattle.dentry_cache.proofs.LeafLaws.{flips, leaf-exact, leaf-total, leaf_equ
 
 -- ---- what isn't clean
 
-unsaved_here : (m : finmap.FinMap leaf_cmp Unsaved) (leaf q : Leaf) (u : Option Unsaved) → finmap.get (with_unsaved m leaf u) q ≡ cond (leaf_is q leaf) u (finmap.get m q)
+pub unsaved_here : (m : finmap.FinMap leaf_cmp Unsaved) (leaf q : Leaf) (u : Option Unsaved) → finmap.get (with_unsaved m leaf u) q ≡ cond (leaf_is q leaf) u (finmap.get m q)
 unsaved_here m leaf q (Some u) = get-insert leaf-total m leaf u q ∙ ap (λ (b : Bool). cond b (Some u) (finmap.get m q)) (tied_leaf q leaf)
 unsaved_here m leaf q None = get-remove leaf-total m leaf q ∙ ap (λ (b : Bool). cond b None (finmap.get m q)) (tied_leaf q leaf)
 
@@ -43,12 +43,12 @@ lookup_cut : (leaf : Leaf) (place : Place) (later before : Places) → NonePasse
 lookup_cut leaf place [] before none = ap (λ (b : Bool). cond b (Some place) (lookup (leaf_is leaf) before)) (leaf_itself leaf)
 lookup_cut leaf place (e ∷ later) before none = ap (λ (b : Bool). cond b (Some e.1) (lookup (leaf_is leaf) (later ++ (leaf, place) ∷ before))) none.0 ∙ lookup_cut leaf place later before none.1
 
-remove_cut : (leaf : Leaf) (place : Place) (later before : Places) → NonePasses (leaf_is leaf) later → remove_entry (leaf_is leaf) (later ++ (leaf, place) ∷ before) ≡ later ++ before
+pub remove_cut : (leaf : Leaf) (place : Place) (later before : Places) → NonePasses (leaf_is leaf) later → remove_entry (leaf_is leaf) (later ++ (leaf, place) ∷ before) ≡ later ++ before
 remove_cut leaf place [] before none = ap (λ (b : Bool). cond b before ((leaf, place) ∷ remove_entry (leaf_is leaf) before)) (leaf_itself leaf)
 remove_cut leaf place (e ∷ later) before none =
     ap (λ (b : Bool). cond b (later ++ (leaf, place) ∷ before) (e ∷ remove_entry (leaf_is leaf) (later ++ (leaf, place) ∷ before))) none.0 ∙ ap (λ (es : Places). e ∷ es) (remove_cut leaf place later before none.1)
 
-apart_later : (leaf : Leaf) (place : Place) (later before : Places) → IsDistinct leaf_is (keys_of (later ++ (leaf, place) ∷ before)) → NonePasses (leaf_is leaf) later
+pub apart_later : (leaf : Leaf) (place : Place) (later before : Places) → IsDistinct leaf_is (keys_of (later ++ (leaf, place) ∷ before)) → NonePasses (leaf_is leaf) later
 apart_later leaf place later before distinct =
     all_left (λ (e : Leaf × Place). leaf_is leaf e.0 ≡ false) later before (distinct_differs (λ (e : Leaf × Place). e.0) leaf_is flips later (leaf, place) before distinct)
 

@@ -79,7 +79,7 @@ orders_agree caches rank places there apart have = record {
 abbrev with_more : Held → Places → Held
 with_more h more = lru_cache (h.entries ++ more) h.cap
 
-not_removed : (leaf : Leaf) (places : Places) → lookup (leaf_is leaf) places ≡ None → remove_entry (leaf_is leaf) places ≡ places
+pub not_removed : (leaf : Leaf) (places : Places) → lookup (leaf_is leaf) places ≡ None → remove_entry (leaf_is leaf) places ≡ places
 not_removed leaf [] none = refl
 not_removed leaf (e ∷ es) none = go (not_removed leaf es) (leaf_is leaf e.0) none
   where

@@ -132,7 +132,7 @@ pub still_absent : (stay : Option Leaf) (old mid : Held) (leaf : Leaf) → Makes
 still_absent stay old mid leaf (inl same) none = ap (λ (h : Held). lookup (leaf_is leaf) h.entries) same.1 ∙ none
 still_absent stay old mid leaf (inr gone) none = absent_then stay old mid leaf gone.1 none
 
-same_cap : (stay : Option Leaf) (old mid : Held) → MakesRoom stay old mid → mid.cap ≡ old.cap
+pub same_cap : (stay : Option Leaf) (old mid : Held) → MakesRoom stay old mid → mid.cap ≡ old.cap
 same_cap stay old mid (inl same) = ap (λ (h : Held). h.cap) same.1
 same_cap stay old mid (inr gone) = ap (λ (h : Held). h.cap) gone.1.2
 
@@ -151,7 +151,7 @@ left_with stay old mid new room is = inr (subst (MakesRoom stay old) (sym is) ro
 
 -- ---- a clean fragment changes nothing of what isn't clean
 
-loaded_clean : (frag : Fragment) (object : Option Omap) (f : Cached) → Loads frag object (Some f) → unsaved_in (fragment_in (Some (held f))) ≡ None
+pub loaded_clean : (frag : Fragment) (object : Option Omap) (f : Cached) → Loads frag object (Some f) → unsaved_in (fragment_in (Some (held f))) ≡ None
 loaded_clean frag None f h = absurd h
 loaded_clean frag (Some object) f h =
     let clean : is_clean f ≡ true = ap is_clean h.3 ∙ ap (λ (n : ℕ). no_names n) (len-empty key_cmp Mark) in

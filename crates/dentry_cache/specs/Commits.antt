@@ -5,7 +5,9 @@ use Rattle.mds_types.specs.ObjectText.{object_text}
 use Rattle.mds_types.specs.declared.ids.Ino.{Ino}
 use Rattle.mds_types.specs.declared.object_names.ObjName.TheVariants.{Frag as FragOf}
 use Rattle.commit_jobs.specs.declared.bases.Base.TheVariants.{Stored}
+use Rattle.commit_jobs.specs.Commit.{Carried}
 use Rattle.commit_jobs.specs.Marks.{Marks}
+use Rattle.mds_types.specs.Leaf.{Leaf}
 use Rattle.commit_jobs.specs.Snap.{IsBelowEnd, Snap, next_version}
 use Rattle.mds_types.specs.declared.refusals.Refusal.{Refusal}
 use Rattle.mds_types.specs.declared.refusals.Refusal.TheVariants.{NoInodes, NoMemory}
@@ -14,6 +16,10 @@ use Rattle.cached_frag.specs.Cached.{Cached, is_clean, shown, snapshot_of, unset
 -- the text that names a leaf's object
 abbrev pub leaf_text : Ino → Fragment → List ℕ
 leaf_text dir frag = object_text (FragOf dir frag)
+
+-- the leaf of an encoded job
+abbrev pub job_leaf : Carried → Leaf
+job_leaf encoded = (encoded.job.ino, encoded.job.frag)
 
 -- nothing is taken of a clean fragment; of any other its base, its dirty names and its entry counts
 abbrev pub Takes : Option Snap → Cached → Type 0

@@ -1,5 +1,8 @@
 pub mod Cache
+pub mod CacheCalls
+pub mod CacheMap
 pub mod Caches
+pub mod Came
 pub mod Changes
 pub mod Commits
 pub mod Divided

@@ -21,10 +21,16 @@ mod parts;
 mod reading;
 mod splitting;
 
-// the caches of all ranks, each with the same number of places
+// the caches of all ranks, each with the same number of places, as one map of fragments
+mod caches;
+mod dirfrag;
+
+// the same as a list of caches, which is lent cache by cache
 mod rank_caches;
 pub mod rank_laws;
 
 pub use cache::{Cache, Place};
+pub use caches::Caches;
+pub use dirfrag::Dirfrag;
 pub use parts::{Part, Parts};
 pub use rank_caches::RankCaches;

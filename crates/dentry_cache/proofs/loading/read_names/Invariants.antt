@@ -1,5 +1,5 @@
 -- What is to come of the pairs is as good as all of them, and adds what all of them add.
-use Rattle.std.proofs.Common.{◌≡◌, ◌≤◌, length, None}
+use Rattle.std.proofs.Common.{◌≡◌, length, None}
 use Rattle.std.specs.FinMap as map
 use Rattle.omap.specs.Omap.{key_cmp}
 use Rattle.sorted_map.specs.SortedMap.{contents}

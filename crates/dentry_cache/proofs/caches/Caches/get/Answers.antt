@@ -1,0 +1,6 @@
+use Rattle.dentry_cache.proofs.MapCalls.{cached_is}
+use Rattle.std.proofs.Common.{◌∙◌}
+use Rattle.dentry_cache.proofs.caches.Caches.get.Goals as goal
+
+pub returns : goal.returns
+returns c = c.get.ensures ∙ cached_is c.self.inside.caches.items c.self.inside.places c.args.at.rank.0 c.args.self.now c.self.view_is c.self.invariant c.requires c.index.result.now c.index.ensures (c.args.at.dir, c.args.at.frag)

@@ -1,0 +1,15 @@
+use Rattle.std.proofs.Common.{Some}
+use Rattle.cached_frag.specs.Cached.{Cached, marked}
+use Rattle.dentry_cache.specs.Cache.{HasRoom}
+use Rattle.dentry_cache.specs.CacheMap.{here}
+use Rattle.dentry_cache.proofs.MapCalls.{changed_now, has_there, there_too}
+use Rattle.dentry_cache.proofs.caches.Caches.put.Goals as goal
+
+pub put-requires-clause-room : goal.put-requires-clause-room
+put-requires-clause-room c = there_too c.self.inside.caches.items c.self.inside.places c.args.at.rank.0 c.args.self.now c.self.view_is c.self.invariant c.requires.there c.index_mut.result.now c.index_mut.ensures.value (c.args.at.dir, c.args.at.frag) HasRoom c.requires.room
+
+pub returns : goal.returns
+returns c = (changed_now c.self.inside.caches.items c.self.inside.places c.args.at.rank.0 c.args.self.now c.self.view_is c.self.invariant c.requires.there c.index_mut.result.now c.index_mut.ensures.value c.put.new.self (c.args.at.dir, c.args.at.frag) (λ (f : Cached). marked f c.args.name (record { version = c.args.version; inode = Some c.args.inode })) (has_there (here c.args.self.now c.args.at.rank.0 (c.args.at.dir, c.args.at.frag)) c.requires.room) c.put.ensures).0
+
+pub invariant_of-self : goal.invariant_of-self
+invariant_of-self c = (changed_now c.self.inside.caches.items c.self.inside.places c.args.at.rank.0 c.args.self.now c.self.view_is c.self.invariant c.requires.there c.index_mut.result.now c.index_mut.ensures.value c.put.new.self (c.args.at.dir, c.args.at.frag) (λ (f : Cached). marked f c.args.name (record { version = c.args.version; inode = Some c.args.inode })) (has_there (here c.args.self.now c.args.at.rank.0 (c.args.at.dir, c.args.at.frag)) c.requires.room) c.put.ensures).1
