@@ -20,7 +20,7 @@ use Rattle.dirfrag_codec.proofs.Front.{IsBytes, IsBytes-drop, Takes-then, bind_s
 pub word_low : (f : Fragment) → IsFragment f → word_of f < 256 ^ 4
 word_low f h = omega (arith, h.few_bits, h.in_range)
 
-one_fragment : (f g : Fragment) → IsFragment f → IsFragment g → word_of f ≡ word_of g → f ≡ g
+pub one_fragment : (f g : Fragment) → IsFragment f → IsFragment g → word_of f ≡ word_of g → f ≡ g
 one_fragment f g hf hg e i =
     let bits : f.bits ≡ g.bits = omega (arith, hf.in_range, hg.in_range, e) in
     let values : f.value ≡ g.value = omega (arith, hf.in_range, hg.in_range, e) in
@@ -30,7 +30,7 @@ one_fragment f g hf hg e i =
 first_word : (f : Fragment) (fs : List Fragment) → IsFragment f → number_at 4 (flat_map leaf_bytes (f ∷ fs)) ≡ Some (word_of f, flat_map leaf_bytes fs)
 first_word f fs h = ap (number_at 4) (flat_map-cons leaf_bytes f fs) ∙ number_again 4 (word_of f) (flat_map leaf_bytes fs) (word_low f h)
 
-some_word : (p q : ℕ × List ℕ) → Some p ≡ Some q → (p.0 ≡ q.0) × (p.1 ≡ q.1)
+pub some_word : (p q : ℕ × List ℕ) → Some p ≡ Some q → (p.0 ≡ q.0) × (p.1 ≡ q.1)
 some_word p q e = (ap (λ (r : ℕ × List ℕ). r.0) (same_Some p q e), ap (λ (r : ℕ × List ℕ). r.1) (same_Some p q e))
 
 pub one_list : (fs gs : List Fragment) → AllByRecursion IsFragment fs → AllByRecursion IsFragment gs → flat_map leaf_bytes fs ≡ flat_map leaf_bytes gs → fs ≡ gs

@@ -1,8 +1,8 @@
 //! The header of a fragment tree's object.
-ghost use Rattle.std.specs.Prelude.{◌≡◌, ◌≤◌, IfOk, OnErr, length};
-ghost use Rattle.mds_types.specs.Frag.{word_of};
+ghost use Rattle.std.specs.Prelude.{◌≡◌, ◌+◌, ◌≤◌, ◌↔◌, IfOk, IsSome, IsTrue, MatchOption, OnErr, length};
+ghost use Rattle.mds_types.specs.Frag.{span, word_of};
 ghost use Rattle.dirfrag_codec.specs.Grammar.{Decodes};
-ghost use Rattle.dirfrag_codec.specs.Leaves.{AreLeavesOf, IsFragmentOf};
+ghost use Rattle.dirfrag_codec.specs.Leaves.{AreLeavesOf, AreTilesFrom, AreTreeOf, BeginsWithNone, EndsAt, IsFragmentOf};
 ghost use Rattle.dirfrag_codec.specs.Reading.{Gives, words_at};
 ghost use Rattle.dirfrag_codec.specs.TreeObject.{SpellsTree, StatesLeaves};
 ghost use Rattle.dirfrag_codec.specs.Values.{tree_of};
@@ -37,17 +37,20 @@ pub fn encode_tree(alloc: Global, tree: &FragTree) -> Result<Vec<u8>, AllocError
     Ok(bytes)
 }
 
-/// The tree whose bytes these are; none, where they are no tree of two leaves or more. Takes memory for the leaves.
-///
-/// There is an error only where as many words stand there as the bytes state.
+/// The tree whose bytes these are; none, where they are no tree of two leaves or more. Takes memory for the leaves, and only
+/// once they are known to be a tree's, so there is an error for trees alone.
 pub fn decode_tree(alloc: Global, bytes: &[u8]) -> Result<Option<FragTree>, AllocError>
     ensures spelled { IfOk result (Decodes SpellsTree bytes.now) }
     ensures value { IfOk result (λ answer. answer ≡ tree_of bytes.now) }
     ensures memory { OnErr result (StatesLeaves bytes.now) }
+    ensures tree { OnErr result (IsSome (tree_of bytes.now)) }
 {
     let Some(words) = words_of(bytes) else {
         return Ok(None);
     };
+    if !are_tree(words) {
+        return Ok(None);
+    }
     let Some(leaves) = leaves_of(alloc, words)? else {
         return Ok(None);
     };
@@ -65,6 +68,52 @@ fn words_of(bytes: &[u8]) -> Option<&[u8]>
         return None;
     }
     Some(words)
+}
+
+// Whether the words are those of a tree's leaves. Takes no memory.
+fn are_tree(words: &[u8]) -> bool
+    ensures { IsTrue result ↔ AreTreeOf words.now }
+{
+    if words.len() > LEAF_LEN * FragTree::MAX_LEAVES {
+        return false;
+    }
+    do_tile(words)
+}
+
+// Whether the words are those of fragments that tile the hashes: each begins where the one before it ends.
+fn do_tile(words: &[u8]) -> bool
+    ensures { IsTrue result ↔ AreTilesFrom 0 words.now }
+{
+    let mut next = 0;
+    let mut rest = words;
+    while let Some((end, after)) = end_at(rest, next) {
+        next = end;
+        rest = after;
+    }
+    rest.is_empty() && next == 1 << Frag::MAX_BITS
+}
+
+// Where a fragment ends that begins at a hash, if its word stands at the front, and the bytes after it.
+fn end_at(bytes: &[u8], low: u32) -> Option<(u32, &[u8])>
+    ensures { MatchOption result (BeginsWithNone bytes.now low) (λ x. EndsAt bytes.now low x.0 x.1.now) }
+{
+    let Some((word, rest)) = u32_at(bytes) else {
+        return None;
+    };
+    let Some(leaf) = frag_of(word) else {
+        return None;
+    };
+    if leaf.value() != low {
+        return None;
+    }
+    Some((end_of(leaf), rest))
+}
+
+// Where a fragment ends: the hash after its last.
+fn end_of(f: Frag) -> u32
+    ensures { result ≡ f.value + span f.bits }
+{
+    f.value() + (1 << (Frag::MAX_BITS - f.bits()))
 }
 
 // The fragments of these words, in the order of the words; none, where one is no fragment.

@@ -1,5 +1,5 @@
 //! How a tree is made of its leaves.
-ghost use Rattle.std.specs.Prelude.{◌≡◌, ◌↔◌, ◌^◌, IfOk, IsTrue, OnOk, SomeIff};
+ghost use Rattle.std.specs.Prelude.{◌≡◌, ◌↔◌, ◌^◌, IfOk, IsTrue, OnErr, OnOk, SomeIff};
 ghost use Rattle.mds_types.specs.Frag.{frag_cmp};
 ghost use Rattle.sorted_map.specs.SortedMap.{contents};
 ghost use Rattle.fragtree.specs.FragTree.{IsTree, Tiles};
@@ -13,10 +13,11 @@ use std::alloc::{AllocError, Global};
 
 impl FragTree {
     /// The tree of these leaves, if they are those of a tree: by strictly ascending value, with every 24-bit hash in
-    /// exactly one, and at most 4096. Each fragment round a leaf is split by 1 bit. Takes memory for the splits; only want
-    /// of it is an error.
+    /// exactly one, and at most 4096. Each fragment round a leaf is split by 1 bit. Takes memory for the splits, so there
+    /// is an error only where the leaves are a tree's.
     pub fn from_leaves(alloc: Global, leaves: &[Frag]) -> Result<Option<FragTree>, AllocError>
-        ensures { IfOk result (λ made. SomeIff made (IsTree leaves.now) leaves.now) }
+        ensures made { IfOk result (λ made. SomeIff made (IsTree leaves.now) leaves.now) }
+        ensures memory { OnErr result (IsTree leaves.now) }
     {
         if leaves.len() > FragTree::MAX_LEAVES || !do_tile(leaves) {
             return Ok(None);

@@ -41,13 +41,13 @@ impl FragTree {
     pub const MAX_SPLIT_BITS: u8 = 8;
 
     /// The leaves of a new directory: `*` alone. Takes no memory.
-    pub fn whole(alloc: Global) -> Result<FragTree, AllocError>
-        ensures { IfOk result (λ tree. tree ≡ root_fragment ∷ []) }
+    pub fn whole(alloc: Global) -> FragTree
+        ensures { result ≡ root_fragment ∷ [] }
     {
-        Ok(FragTree {
+        FragTree {
             splits: SortedMap::new(alloc),
             count: 1,
-        })
+        }
     }
 
     /// How many leaves there are. A directory always has one.

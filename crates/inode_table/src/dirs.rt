@@ -1,5 +1,5 @@
 //! The directory table.
-ghost use Rattle.std.specs.Prelude.{◌≡◌, ◌+◌, ◌-◌, ◌<◌, ◌≤◌, ◌↔◌, ◌∷◌, [], if◌then◌else◌, is_some, true, IsTrue, IfOk, OnOk, OnErr, IfErr};
+ghost use Rattle.std.specs.Prelude.{◌≡◌, ◌≢◌, ◌+◌, ◌-◌, ◌<◌, ◌≤◌, ◌↔◌, ◌∷◌, [], if◌then◌else◌, is_some, length, true, IsOk, IsSome, IsTrue, IfOk, OnOk, OnErr, IfErr};
 ghost use Rattle.std.specs.Option.{option_copied};
 ghost use Rattle.std.specs.FinMap as map;
 ghost use Rattle.mds_types.specs.declared.refusals.Refusal.TheVariants.{NoMemory};
@@ -75,13 +75,25 @@ impl Dirs {
         dir == Ino::ROOT || self.homes.contains(&dir.0)
     }
 
-    /// The leaves of a directory, as a copy that its changes don't touch. Takes memory for the leaves.
+    /// The leaves of a directory, as a copy that its changes don't touch. Takes memory for leaves that were set, and none for
+    /// the one leaf `*` of a directory whose leaves never were.
     pub fn tree(&self, alloc: Global, dir: Ino) -> Result<FragTree, AllocError>
-        ensures { IfOk result (λ tree. tree ≡ leaves_of self.now.trees dir.0) }
+        ensures leaves { IfOk result (λ tree. tree ≡ leaves_of self.now.trees dir.0) }
+        ensures memory { OnErr result (IsSome (map.get self.now.trees dir.0)) }
     {
         match self.trees.get(&dir.0) {
             Some(tree) => tree.try_clone(),
-            None => FragTree::whole(alloc),
+            None => Ok(FragTree::whole(alloc)),
+        }
+    }
+
+    /// How many leaves a directory has. Takes no memory.
+    pub fn leaf_count(&self, dir: Ino) -> usize
+        ensures { result ≡ length (leaves_of self.now.trees dir.0) }
+    {
+        match self.trees.get(&dir.0) {
+            Some(tree) => tree.len(),
+            None => 1,
         }
     }
 
@@ -100,6 +112,7 @@ impl Dirs {
     pub fn check_split(&self, dir: Ino, frag: Frag, bits: u8) -> Result<(), Refusal>
         ensures ok { OnOk result (CanSplit (leaves_of self.now.trees dir.0) frag bits) }
         ensures err { IfErr result (λ reason. RefusesSplit (leaves_of self.now.trees dir.0) frag bits reason) }
+        ensures memory { IfErr result (λ reason. reason ≢ NoMemory) }
     {
         match self.trees.get(&dir.0) {
             Some(tree) => tree.check_split(frag, bits),
@@ -111,6 +124,7 @@ impl Dirs {
     pub fn check_merge(&self, dir: Ino, frag: Frag) -> Result<(), Refusal>
         ensures ok { OnOk result (CanMerge (leaves_of self.now.trees dir.0) frag) }
         ensures err { IfErr result (λ reason. RefusesMerge (leaves_of self.now.trees dir.0) frag reason) }
+        ensures memory { IfErr result (λ reason. reason ≢ NoMemory) }
     {
         match self.trees.get(&dir.0) {
             Some(tree) => tree.check_merge(frag),
@@ -118,13 +132,14 @@ impl Dirs {
         }
     }
 
-    /// Makes room for one more directory, so that the next `adopt` can't fail. Refused for want of memory alone, and then
-    /// all is left as it was.
+    /// Makes room for one more directory, so that the next `adopt` can't fail. Where the room is there already nothing is
+    /// done. Refused for want of memory alone, and then all is left as it was.
     pub fn reserve(&mut self) -> Result<(), Refusal>
         ensures ok { OnOk result (0 < self.new.room) }
         ensures homes { self.new.homes ≡ self.old.homes }
         ensures trees { self.new.trees ≡ self.old.trees }
         ensures tree_room { self.new.tree_room ≡ self.old.tree_room }
+        ensures ready { 0 < self.old.room → IsOk result × (self.new ≡ self.old) }
         ensures err { IfErr result (λ reason. reason ≡ NoMemory) }
         ensures left { OnErr result (self.new ≡ self.old) }
     {
@@ -132,13 +147,14 @@ impl Dirs {
         Ok(())
     }
 
-    /// Makes room for the leaves of one more directory, so that the next `set_tree` can't fail. Refused for want of memory
-    /// alone, and then all is left as it was.
+    /// Makes room for the leaves of one more directory, so that the next `set_tree` can't fail. Where the room is there
+    /// already nothing is done. Refused for want of memory alone, and then all is left as it was.
     pub fn reserve_tree(&mut self) -> Result<(), Refusal>
         ensures ok { OnOk result (0 < self.new.tree_room) }
         ensures homes { self.new.homes ≡ self.old.homes }
         ensures trees { self.new.trees ≡ self.old.trees }
         ensures room { self.new.room ≡ self.old.room }
+        ensures ready { 0 < self.old.tree_room → IsOk result × (self.new ≡ self.old) }
         ensures err { IfErr result (λ reason. reason ≡ NoMemory) }
         ensures left { OnErr result (self.new ≡ self.old) }
     {
@@ -219,6 +235,7 @@ impl Dirs {
 fn check_split_of_whole(frag: Frag, bits: u8) -> Result<(), Refusal>
     ensures ok { OnOk result (CanSplit (root_fragment ∷ []) frag bits) }
     ensures err { IfErr result (RefusesSplit (root_fragment ∷ []) frag bits) }
+    ensures memory { IfErr result (λ reason. reason ≢ NoMemory) }
 {
     if frag != Frag::ROOT {
         return Err(Refusal::NoSuchFrag);

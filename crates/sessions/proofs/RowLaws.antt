@@ -78,6 +78,17 @@ module _ (m : map.FinMap nat_cmp Session) (client : ℕ) where
       go q true one = ap Some same ∙ ap (option_map (λ (t : Session). t.row)) is ∙ sym (get-rows m client) ∙ ap (map.get (rows m)) (sym (eqb-true q client one))
       go q false apart = refl
 
+  -- a session that was written as it was
+  pub same_sessions : (s w : Session) → Some s ≡ map.get m client → w ≡ s → map.from_sorted (map.entries (map.insert m client w)) ≡ m
+  same_sessions s w is same = contents-entries (map.insert m client w) ∙ same_map nat_cmp_total nat_cmp-IsAntisymmetric _ _ (λ q.
+      get-insert nat_cmp_total m client w q
+      ∙ ap (λ b. cond b (Some w) (map.get m q)) (unsigned_tied q client)
+      ∙ go q (q == client) refl)
+    where
+      go : (q : ℕ) (b : Bool) → (q == client) ≡ b → cond b (Some w) (map.get m q) ≡ map.get m q
+      go q true one = ap Some same ∙ is ∙ ap (map.get m) (sym (eqb-true q client one))
+      go q false apart = refl
+
   -- a session is found as it was written
   pub found_written : (w : Session) → map.get {R = nat_cmp} (map.from_sorted (map.entries (map.insert m client w))) client ≡ Some w
   found_written w =

@@ -1,5 +1,5 @@
 //! What is kept for one client.
-ghost use Rattle.std.specs.Prelude.{◌≡◌, ◌<◌, OnOk, OnErr};
+ghost use Rattle.std.specs.Prelude.{◌≡◌, ◌<◌, IsOk, OnOk};
 ghost use Rattle.sessions.specs.Table.{no_row, noted_row, trimmed_row};
 ghost use Rattle.sessions.specs.Seen.{SeesInRow};
 
@@ -58,10 +58,11 @@ impl Client {
         }
     }
 
-    /// Makes room for one more reply.
+    /// Makes room for one more reply. Where the room is there already nothing is done.
     pub(crate) fn reserve(&mut self) -> Result<(), AllocError>
         ensures room { OnOk result (0 < self.new.room) }
         ensures same { self.new.row ≡ self.old.row }
+        ensures ready { 0 < self.old.room → IsOk result × (self.new ≡ self.old) }
     {
         self.kept.reserve(1)
     }

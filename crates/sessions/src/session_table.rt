@@ -1,5 +1,5 @@
 //! The session table and its calls.
-ghost use Rattle.std.specs.Prelude.{◌≡◌, ◌<◌, List, OnOk, IfErr};
+ghost use Rattle.std.specs.Prelude.{◌≡◌, ◌<◌, List, IsOk, OnOk, IfErr};
 ghost use Rattle.std.specs.Ordering.{nat_cmp};
 ghost use Rattle.std.specs.FinMap as map;
 ghost use Rattle.sorted_map.specs.SortedMap.{contents};
@@ -64,11 +64,12 @@ impl Sessions {
         }
     }
 
-    /// Makes room for one more reply to the client, so that keeping it can't fail. May be refused for want of memory
-    /// alone; the table stays as it was in either case.
+    /// Makes room for one more reply to the client, so that keeping it can't fail. Where the room is there already nothing
+    /// is done. May be refused for want of memory alone; the table stays as it was in either case.
     pub fn reserve(&mut self, alloc: Global, client: u64) -> Result<(), Refusal>
         ensures ready { OnOk result (IsReady self.new client) }
         ensures same { table self.new ≡ table self.old }
+        ensures there { IsReady self.old client → IsOk result × (self.new ≡ self.old) }
         ensures err { IfErr result (λ e. e ≡ Refusal.NoMemory) }
     {
         if let Some(known) = self.clients.get_mut(&client) {

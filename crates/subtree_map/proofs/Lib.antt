@@ -12,6 +12,7 @@ pub mod Merged
 pub mod Moved
 pub mod Nearest
 pub mod Options
+pub mod Rising
 pub mod Settled
 pub mod Split
 pub mod TakenOut

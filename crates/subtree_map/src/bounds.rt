@@ -1,6 +1,7 @@
 //! The bounds of a region.
 ghost use Rattle.std.specs.Prelude.{◌≡◌, ◌↔◌, IfOk, IsTrue, Some};
 ghost use Rattle.std.specs.List as list;
+ghost use Rattle.std.specs.List.Sorted.{IsStrictlySortedBy};
 ghost use Rattle.std.specs.FinMap as map;
 ghost use Rattle.mds_types.specs.Leaf.{Leaf, leaf_cmp};
 ghost use Rattle.subtree_map.specs.Authority.{IsBound};
@@ -13,8 +14,8 @@ use mds_types::{Frag, Ino};
 use std::alloc::{AllocError, Global};
 
 impl Subtrees {
-    /// The bounds of a root's region: the roots next below, by directory and then as fragments. Takes memory for them, and asks
-    /// each root once.
+    /// The bounds of a root's region: the roots next below, by directory and then as fragments, each once. Takes memory for
+    /// them, and asks each root once.
     pub fn bounds(
         &self,
         alloc: Global,
@@ -23,6 +24,7 @@ impl Subtrees {
         frag: Frag,
     ) -> Result<Vec<(Ino, Frag)>, AllocError>
         ensures bounds { IfOk result (λ bounds. (bound : Leaf) → list.Contains bounds.items bound ↔ IsBound self.now.roots dirs.now.homes dirs.now.trees (dir, frag) bound) }
+        ensures order { IfOk result (λ bounds. IsStrictlySortedBy leaf_cmp bounds.items) }
     {
         let mut bounds = Vec::new(alloc);
         for row in &self.roots {

@@ -1,5 +1,5 @@
 //! The roots where a directory moves.
-ghost use Rattle.std.specs.Prelude.{◌≡◌, ◌≢◌, ◌+◌, ◌^◌, ◌<◌, ◌≤◌, ◌⊎◌, Some, None, IsSome, IfSome, IfNone, OnOk, OnErr, IfErr, length};
+ghost use Rattle.std.specs.Prelude.{◌≡◌, ◌≢◌, ◌+◌, ◌^◌, ◌<◌, ◌≤◌, ◌⊎◌, Some, None, IsOk, IsSome, IfSome, IfNone, OnOk, OnErr, IfErr, length};
 ghost use Rattle.std.specs.FinMap as map;
 ghost use Rattle.sorted_map.specs.SortedMap.{contents};
 ghost use Rattle.mds_types.specs.declared.ids.Rank.{Rank as RankNumber};
@@ -17,15 +17,13 @@ use inode_table::Dirs;
 use mds_types::{Frag, Ino, Name, Rank, Refusal};
 use namehash::rjenkins;
 use sorted_map::SortedMap;
-use std::alloc::Global;
 
 impl Subtrees {
-    /// Makes room for what a directory's move to another place makes, so that `after_rename` can't fail. Takes memory only
-    /// where the directory's leaves would inherit another rank there. Refused for want of memory alone, and then all is left
-    /// as it was.
+    /// Makes room for what a directory's move to another place makes, so that `after_rename` can't fail. Where the room is
+    /// there already nothing is done, so not where the directory's leaves would inherit the same rank there. Refused for want
+    /// of memory alone, and then all is left as it was.
     pub fn reserve_rename(
         &mut self,
-        alloc: Global,
         dirs: &Dirs,
         dir: Ino,
         parent: Ino,
@@ -36,14 +34,14 @@ impl Subtrees {
         ensures roots { self.new.roots ≡ self.old.roots }
         ensures promises { self.new.promises ≡ self.old.promises }
         ensures grows { self.old.room ≤ self.new.room }
+        ensures ready { HasRoomToMove self.old.roots self.old.room dirs.now.homes dirs.now.trees dir.0 (record { parent = parent; name = name.now }) → IsOk result × (self.new ≡ self.old) }
         ensures err { IfErr result (λ reason. reason ≡ NoMemory) }
         ensures left { OnErr result (self.new ≡ self.old) }
     {
         let Some(_) = self.lost_rank(dirs, dir, parent, name) else {
             return Ok(());
         };
-        let leaves = dirs.tree(alloc, dir)?;
-        self.reserve(leaves.len())
+        self.reserve(dirs.leaf_count(dir))
     }
 
     /// A directory is about to move to another place: those of its leaves that inherit their rank, and would inherit another

@@ -1,5 +1,5 @@
 //! The subtree roots, and the calls that read and change single ones.
-ghost use Rattle.std.specs.Prelude.{◌≡◌, ◌+◌, ◌-◌, ◌<◌, ◌≤◌, if◌then◌else◌, is_some, None, OnOk, OnErr, IsTrue, IfErr};
+ghost use Rattle.std.specs.Prelude.{◌≡◌, ◌+◌, ◌-◌, ◌<◌, ◌≤◌, if◌then◌else◌, is_some, None, IsOk, OnOk, OnErr, IsTrue, IfErr};
 ghost use Rattle.std.specs.FinMap as map;
 ghost use Rattle.mds_types.specs.declared.refusals.Refusal.TheVariants.{NoMemory};
 ghost use Rattle.inode_table.specs.Dirs.{Homes, Covers, IsLive};
@@ -68,13 +68,14 @@ impl Subtrees {
         self.roots.iter()
     }
 
-    /// Makes room for so many more roots, so that changes that make no more of them can't fail. Refused for want of memory
-    /// alone, and then all is left as it was.
+    /// Makes room for so many more roots, so that changes that make no more of them can't fail. Where the room is there
+    /// already nothing is done. Refused for want of memory alone, and then all is left as it was.
     pub fn reserve(&mut self, additional: usize) -> Result<(), Refusal>
         ensures ok { OnOk result (additional ≤ self.new.room) }
         ensures roots { self.new.roots ≡ self.old.roots }
         ensures promises { self.new.promises ≡ self.old.promises }
         ensures grows { self.old.room ≤ self.new.room }
+        ensures ready { additional ≤ self.old.room → IsOk result × (self.new ≡ self.old) }
         ensures err { IfErr result (λ reason. reason ≡ NoMemory) }
         ensures left { OnErr result (self.new ≡ self.old) }
     {

@@ -13,4 +13,4 @@ invariant_of-result c =
 pub returns : goal.returns
 returns c =
     let tree : IsTree c.args.leaves.now = record { tiles = c.do_tile.ensures.0 c.if-not-do_tile.false; few = omega (arith, c.if-leaves-gt-MAX_LEAVES.false) } in
-    (tree, leaves_of-is (contents frag_cmp c.in_ok-splits.splits) c.args.leaves.now tree c.in_ok-splits.ensures)
+    record { made = (tree, leaves_of-is (contents frag_cmp c.in_ok-splits.splits) c.args.leaves.now tree c.in_ok-splits.ensures); memory = tt }

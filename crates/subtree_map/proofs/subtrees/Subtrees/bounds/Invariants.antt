@@ -1,12 +1,16 @@
--- What is a bound is one of the roots to come, or was put on the list.
-use Rattle.std.specs.Prelude.{◌⊎◌, ◌↔◌, IsSome}
+-- What is a bound is one of the roots to come, or was put on the list, which goes on in order with the roots to come.
+use Rattle.std.specs.Prelude.{◌⊎◌, ◌↔◌, ◌++◌, IsSome}
 use Rattle.std.specs.List as list
+use Rattle.std.specs.List.Sorted.{IsStrictlySortedBy}
 use Rattle.std.specs.FinMap.{find}
 use Rattle.mds_types.specs.Leaf.{Leaf, leaf_cmp}
 use Rattle.subtree_map.specs.Authority.{IsBound}
 use Rattle.subtree_map.specs.Climb.{IsNextBelow}
+use Rattle.subtree_map.proofs.Rising.{keys}
 use Rattle.subtree_map.proofs.subtrees.Subtrees.bounds.Given as goal
 
 abbrev pub invariant-loop-row : goal.invariant-loop-row
-invariant-loop-row l =
-    (bound : Leaf) → ((IsSome (find leaf_cmp bound l.row-iterator) × IsNextBelow l.self.roots l.dirs.homes l.dirs.trees (l.dir, l.frag) bound) ⊎ list.Contains l.bounds.items bound) ↔ IsBound l.self.roots l.dirs.homes l.dirs.trees (l.dir, l.frag) bound
+invariant-loop-row l = record {
+  listed : (bound : Leaf) → ((IsSome (find leaf_cmp bound l.row-iterator) × IsNextBelow l.self.roots l.dirs.homes l.dirs.trees (l.dir, l.frag) bound) ⊎ list.Contains l.bounds.items bound) ↔ IsBound l.self.roots l.dirs.homes l.dirs.trees (l.dir, l.frag) bound;
+  rise : IsStrictlySortedBy leaf_cmp (l.bounds.items ++ keys l.row-iterator);
+}
