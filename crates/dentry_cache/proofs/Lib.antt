@@ -8,6 +8,7 @@ pub mod FixedLaws
 pub mod FixedPlaces
 pub mod ForgetLaws
 pub mod FrameLaws
+pub mod KeptLaws
 pub mod LeafLaws
 pub mod LeavingLaws
 pub mod LoadLaws

@@ -2,6 +2,7 @@ pub mod Cache
 pub mod CacheCalls
 pub mod CacheMap
 pub mod Caches
+pub mod CacheSplits
 pub mod Came
 pub mod Changes
 pub mod Commits

@@ -60,6 +60,13 @@ impl Dirs {
         }
     }
 
+    /// Tells what every table keeps: each directory reaches the root, and the leaves of each cover every hash once.
+    pub fn is_table(&self)
+        ensures { IsTable self.now.homes self.now.trees }
+    {
+        let _ = &self.homes;
+    }
+
     /// Where a directory stands; none for the root, and for what is no directory.
     pub fn get(&self, dir: Ino) -> Option<&Home>
         ensures { option_copied result ≡ map.get self.now.homes dir.0 }

@@ -20,7 +20,7 @@ impl Subtrees {
         requires valid { IsSubtrees self.now.roots dirs.now.homes dirs.now.trees }
         ensures { HasAuthority self.now.roots dirs.now.homes dirs.now.trees (dir, frag) result }
     {
-        let _ = dirs.contains(dir);
+        dirs.is_table();
         match self.find_authority(dirs, dir, frag) {
             Some(rank) => rank,
             None => unreachable!(),
@@ -34,7 +34,7 @@ impl Subtrees {
         requires valid { IsSubtrees self.now.roots dirs.now.homes dirs.now.trees }
         ensures { NearestRoot self.now.roots dirs.now.homes dirs.now.trees (dir, frag) result }
     {
-        let _ = dirs.contains(dir);
+        dirs.is_table();
         match self.find_root(dirs, dir, frag) {
             Some(root) => root,
             None => unreachable!(),
@@ -55,7 +55,7 @@ impl Subtrees {
     pub fn find_root(&self, dirs: &Dirs, dir: Ino, frag: Frag) -> Option<(Ino, Frag)>
         ensures { MatchOption result ((root : Leaf) → NearestRoot self.now.roots dirs.now.homes dirs.now.trees (dir, frag) root → ⊥) (NearestRoot self.now.roots dirs.now.homes dirs.now.trees (dir, frag)) }
     {
-        let _ = dirs.contains(dir);
+        dirs.is_table();
         let mut leaf = (dir, frag);
         while let Some(home) = self.above(dirs, &leaf) {
             leaf = holder_of(dirs, home);

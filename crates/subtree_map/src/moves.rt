@@ -57,7 +57,7 @@ impl Subtrees {
         ensures promises { self.new.promises ≡ self.old.promises }
         ensures room { self.old.room ≤ self.new.room + length (leaves_of dirs.now.trees dir.0) }
     {
-        let _ = dirs.contains(dir);
+        dirs.is_table();
         if let Some(rank) = self.lost_rank(dirs, dir, parent, name) {
             fill(&mut self.roots, dirs, dir, rank);
         }
@@ -70,7 +70,7 @@ impl Subtrees {
         ensures none { IfNone result ((rank : RankNumber) → IsLostRank self.now.roots dirs.now.homes dirs.now.trees dir.0 (record { parent = parent; name = name.now }) (Some rank) → ⊥) }
         ensures kept { IfNone result (IsSubtrees self.now.roots dirs.now.homes dirs.now.trees → IsLostRank self.now.roots dirs.now.homes dirs.now.trees dir.0 (record { parent = parent; name = name.now }) None) }
     {
-        let _ = dirs.contains(dir);
+        dirs.is_table();
         let Some(home) = dirs.get(dir) else {
             unreachable!();
         };
@@ -95,8 +95,7 @@ fn fill(roots: &mut SortedMap<(Ino, Frag), Rank>, dirs: &Dirs, dir: Ino, rank: R
     ensures filled { AreFilled (contents leaf_cmp roots.old) (contents leaf_cmp roots.new) dir.0 (leaves_of dirs.now.trees dir.0) rank }
     ensures room { roots.old.room ≤ roots.new.room + length (leaves_of dirs.now.trees dir.0) }
 {
-    // of a table that is asked for a directory its leaves are known to cover every hash
-    let _ = dirs.contains(dir);
+    dirs.is_table();
     let mut hash = 0;
     while hash < 1 << Frag::MAX_BITS {
         let leaf = dirs.pick(dir, hash);

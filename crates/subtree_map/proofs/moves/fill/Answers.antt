@@ -8,7 +8,7 @@ use Rattle.subtree_map.proofs.moves.fill.Goals as goal
 
 pub loop-hash-init : goal.loop-hash-init
 loop-hash-init c =
-    walk_starts (leaves_of c.args.dirs.now.trees c.args.dir.0) (contents leaf_cmp c.args.roots.now) c.args.dir.0 c.args.rank c.args.roots.now.room (tree_of_row c.args.dirs.now.homes c.args.dirs.now.trees c.contains.ensures.valid c.args.dir.0) c.requires.room
+    walk_starts (leaves_of c.args.dirs.now.trees c.args.dir.0) (contents leaf_cmp c.args.roots.now) c.args.dir.0 c.args.rank c.args.roots.now.room (tree_of_row c.args.dirs.now.homes c.args.dirs.now.trees c.is_table.ensures c.args.dir.0) c.requires.room
 
 pub put_absent-requires : goal.put_absent-requires
 put_absent-requires c = walk_room _ c.loop-hash.hash _ _ c.args.dir.0 c.args.rank _ _ c.loop-hash.invariant (omega arith)

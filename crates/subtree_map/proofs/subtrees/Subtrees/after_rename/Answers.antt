@@ -18,7 +18,7 @@ returns-in-Some-clause-roots c valid =
 
 pub returns-in-Some-clause-authority : goal.returns-in-Some-clause-authority
 returns-in-Some-clause-authority c valid =
-    moves_soundly c.args.self.now.roots _ c.args.dirs.now.homes c.args.dirs.now.trees c.args.dir.0 (record { parent = c.args.parent; name = c.args.name.now }) (returns-in-Some-clause-roots c valid) c.contains.ensures.valid valid c.requires.may
+    moves_soundly c.args.self.now.roots _ c.args.dirs.now.homes c.args.dirs.now.trees c.args.dir.0 (record { parent = c.args.parent; name = c.args.name.now }) (returns-in-Some-clause-roots c valid) c.is_table.ensures valid c.requires.may
 
 pub returns-in_default-clause-roots : goal.returns-in_default-clause-roots
 returns-in_default-clause-roots c valid =
@@ -27,4 +27,4 @@ returns-in_default-clause-roots c valid =
 
 pub returns-in_default-clause-authority : goal.returns-in_default-clause-authority
 returns-in_default-clause-authority c valid =
-    moves_soundly c.args.self.now.roots _ c.args.dirs.now.homes c.args.dirs.now.trees c.args.dir.0 (record { parent = c.args.parent; name = c.args.name.now }) (returns-in_default-clause-roots c valid) c.contains.ensures.valid valid c.requires.may
+    moves_soundly c.args.self.now.roots _ c.args.dirs.now.homes c.args.dirs.now.trees c.args.dir.0 (record { parent = c.args.parent; name = c.args.name.now }) (returns-in_default-clause-roots c valid) c.is_table.ensures valid c.requires.may

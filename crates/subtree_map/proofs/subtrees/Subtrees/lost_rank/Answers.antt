@@ -18,8 +18,8 @@ returns-in_default-find_authority-clause-none c rank lost =
 
 pub returns-in_default-find_authority-clause-kept : goal.returns-in_default-find_authority-clause-kept
 returns-in_default-find_authority-clause-kept c valid =
-    let stands = holder_is_leaf c.args.dirs.now.homes c.args.dirs.now.trees c.contains.ensures.valid c.args.dir.0 c.in-Some.home.now c.holder_of-holder.result (sym c.in-Some.ensures) c.holder_of-holder.ensures in
-    let its = some_authority c.args.self.now.roots c.args.dirs.now.homes c.args.dirs.now.trees c.contains.ensures.valid valid c.holder_of-holder.result stands in
+    let stands = holder_is_leaf c.args.dirs.now.homes c.args.dirs.now.trees c.is_table.ensures c.args.dir.0 c.in-Some.home.now c.holder_of-holder.result (sym c.in-Some.ensures) c.holder_of-holder.ensures in
+    let its = some_authority c.args.self.now.roots c.args.dirs.now.homes c.args.dirs.now.trees c.is_table.ensures valid c.holder_of-holder.result stands in
     absurd (c.in_default-find_authority.ensures its.0 its.1)
 
 pub returns-in_default-find_authority-2-clause-none : goal.returns-in_default-find_authority-2-clause-none
@@ -30,7 +30,7 @@ returns-in_default-find_authority-2-clause-none c rank lost =
 
 pub returns-in_default-find_authority-2-clause-kept : goal.returns-in_default-find_authority-2-clause-kept
 returns-in_default-find_authority-2-clause-kept c valid =
-    let its = some_authority c.args.self.now.roots c.args.dirs.now.homes c.args.dirs.now.trees c.contains.ensures.valid valid (c.args.parent, c.pick-leaf.result) (record { known = c.requires.parent_known; stands = c.pick-leaf.ensures.pick.stands }) in
+    let its = some_authority c.args.self.now.roots c.args.dirs.now.homes c.args.dirs.now.trees c.is_table.ensures valid (c.args.parent, c.pick-leaf.result) (record { known = c.requires.parent_known; stands = c.pick-leaf.ensures.pick.stands }) in
     absurd (c.in_default-find_authority-2.ensures its.0 its.1)
 
 pub returns-then-eq-clause-none : goal.returns-then-eq-clause-none
