@@ -37,8 +37,8 @@ pub fn encode_tree(alloc: Global, tree: &FragTree) -> Result<Vec<u8>, AllocError
     Ok(bytes)
 }
 
-/// The tree whose bytes these are; none, where they are no tree of two leaves or more. Takes memory for the leaves, and only
-/// once they are known to be a tree's, so there is an error for trees alone.
+/// The tree whose bytes these are; none, where they are no tree of two leaves or more. Takes memory for the leaves, and
+/// only once they are known to be a tree's, so there is an error for trees alone.
 pub fn decode_tree(alloc: Global, bytes: &[u8]) -> Result<Option<FragTree>, AllocError>
     ensures spelled { IfOk result (Decodes SpellsTree bytes.now) }
     ensures value { IfOk result (λ answer. answer ≡ tree_of bytes.now) }

@@ -1,6 +1,5 @@
 -- The laws of the format.
 use Rattle.std.proofs.Common.{◌≡◌, ℕ, List, [], ◌++◌, length, Option, Some, None, sym, ap, ◌∙◌}
-use Rattle.std.specs.Prelude.{Result, Ok, Err, IfOk}
 use Rattle.std.proofs.lemmas.Bool.Decides.{Decides-and, Decides-like}
 use Rattle.std.proofs.lemmas.List.{append-nil}
 use Rattle.std.proofs.lemmas.Slice.Eq.{bytes_eq-Decides}
@@ -22,7 +21,7 @@ export_decides bytes e =
     Decides-like _ (λ p. record { sendable = p.0; spelled = p.1 }) (λ s. (s.sendable, s.spelled))
     (Decides-and (is_sendable e) _ (λ t. t, λ t. t) (bytes_eq-Decides bytes (export_bytes e)))
 
-export_first : (bytes : List ℕ) (e : Export) → SpellsExport bytes e → parts_at bytes ≡ Some e
+pub export_first : (bytes : List ℕ) (e : Export) → SpellsExport bytes e → parts_at bytes ≡ Some e
 export_first bytes e s = ap parts_at s.spelled ∙ parts_again e s.sendable
 
 pub reads_export : Reads SpellsExport export_of
@@ -49,10 +48,6 @@ no_export_begins_another bytes more a b s t =
 
 -- ---- what is decoded
 
-export_decoded : (bytes : List ℕ) (answer : Option Export) → IsBytes bytes → answer ≡ parts_at bytes → Decodes SpellsExport bytes answer
+pub export_decoded : (bytes : List ℕ) (answer : Option Export) → IsBytes bytes → answer ≡ parts_at bytes → Decodes SpellsExport bytes answer
 export_decoded bytes (Some e) fits is = parts_taken bytes e fits (sym is)
 export_decoded bytes None fits is = λ e s. none-some e (is ∙ export_first bytes e s)
-
-pub export_answered : {E : Type 0} (bytes : List ℕ) (answer : Result (Option Export) E) → IsBytes bytes → IfOk answer (λ found. found ≡ parts_at bytes) → IfOk answer (Decodes SpellsExport bytes)
-export_answered bytes (Ok found) fits h = export_decoded bytes found fits h
-export_answered bytes (Err e) fits h = tt

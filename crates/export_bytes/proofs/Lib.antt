@@ -4,3 +4,5 @@ pub mod Taken
 pub mod ExportLaws
 pub mod Written
 pub mod Recorded
+pub mod RisenItems
+pub mod Told

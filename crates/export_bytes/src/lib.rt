@@ -1,7 +1,8 @@
-//! What an export hands over, byte for byte: each fragment of the exported region that isn't clean, with its dirty names.
-//! The format is one grammar, which the encoder and the decoder both keep.
+//! What an export hands over, byte for byte: each fragment of the exported region that isn't clean, with its dirty
+//! names. The format is one grammar, which the encoder and the decoder both keep.
 #![tactic(auto)]
 
+mod checking;
 mod exports;
 pub mod laws;
 mod reading;

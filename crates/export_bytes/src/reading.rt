@@ -1,10 +1,11 @@
 //! The export whose bytes these are.
-ghost use Rattle.std.specs.Prelude.{◌≡◌, IfOk, OnErr};
+ghost use Rattle.std.specs.Prelude.{◌≡◌, IfOk, IsSome, None, OnErr};
 ghost use Rattle.dirfrag_codec.specs.Grammar.{Decodes};
 ghost use Rattle.dirfrag_codec.specs.Reading.{Gives};
 ghost use Rattle.export_bytes.specs.Export.{SpellsExport};
 ghost use Rattle.export_bytes.specs.Reading.{Front, Head, StatesFragment, StatesHead, base_of, export_of, frag_of, front_at, head_at, inode_at, items_at, long_part_at, name_at, part_at, parts_at, present_at, record_at, sent_frag_at, sent_name_at, short_part_at};
 
+use crate::checking::are_parts;
 use crate::exports::{Export, SentFrag, SentFrags, SentNames};
 use crate::rising::{frags_rise, names_rise};
 use crate::writing::{FRESH, LETTER, PRESENT, REMOVED, STORED, VERSION};
@@ -14,14 +15,29 @@ use dirfrag_codec::fields::{after_tag, u8_at, u16_at, u32_at, u64_at};
 use mds_types::{Frag, Ino, Inode, Name, NameFault, Rank};
 use std::alloc::{AllocError, Global};
 
-/// The export whose bytes these are; none, where they are no export. Takes memory for the fragments and their names, so
-/// there is an error only where a fragment stands there.
+/// The export whose bytes these are; none, where they are no export. Takes memory for the fragments and their names.
+/// Where it is wanting the bytes are read once more with nothing kept, so there is an error for exports alone.
 pub fn decode_export(alloc: Global, bytes: &[u8]) -> Result<Option<Export>, AllocError>
     ensures spelled { IfOk result (Decodes SpellsExport bytes.now) }
     ensures value { IfOk result (λ answer. answer ≡ export_of bytes.now) }
     ensures memory { OnErr result (StatesFragment bytes.now) }
+    ensures export { OnErr result (IsSome (export_of bytes.now)) }
 {
-    parts_at(alloc, bytes)
+    match parts_at(alloc, bytes) {
+        Ok(answer) => Ok(answer),
+        Err(_) => without_memory(alloc, bytes),
+    }
+}
+
+// What is answered where memory is wanting: an error for an export's bytes, and none for others.
+fn without_memory(alloc: Global, bytes: &[u8]) -> Result<Option<Export>, AllocError>
+    ensures none { IfOk result (λ answer. (answer ≡ None) × (parts_at bytes.now ≡ None)) }
+    ensures export { OnErr result (IsSome (parts_at bytes.now)) }
+{
+    if are_parts(alloc, bytes) {
+        return Err(AllocError);
+    }
+    Ok(None)
 }
 
 // The export of the parts that stand there.
@@ -50,17 +66,17 @@ fn parts_at(alloc: Global, bytes: &[u8]) -> Result<Option<Export>, AllocError>
 
 // What stands before the fragments.
 #[derive(Clone, Copy)]
-struct Opening {
+pub(crate) struct Opening {
     ino: u64,
     frag: Frag,
     exporter: u8,
     importer: u8,
-    count: u32,
+    pub(crate) count: u32,
 }
 
 // What stands before the fragments, and the bytes of these.
 #[tactic(auto, unfolding(crate::specs::Reading::front_at))]
-fn front_at(bytes: &[u8]) -> Option<(Opening, &[u8])>
+pub(crate) fn front_at(bytes: &[u8]) -> Option<(Opening, &[u8])>
     ensures { Gives (λ x. (record { ino = x.0.ino; frag = x.0.frag; exporter = x.0.exporter; importer = x.0.importer; count = x.0.count }, x.1.now)) result (front_at bytes.now) }
 {
     let rest = after_tag(bytes, LETTER, VERSION)?;
@@ -130,16 +146,16 @@ fn sent_frag_at(alloc: Global, bytes: &[u8]) -> Result<Option<(SentFrag, &[u8])>
 
 // What stands before the names of a fragment.
 #[derive(Clone, Copy)]
-struct Start {
-    ino: u64,
-    frag: Frag,
+pub(crate) struct Start {
+    pub(crate) ino: u64,
+    pub(crate) frag: Frag,
     base: Base,
-    count: u32,
+    pub(crate) count: u32,
 }
 
 // What stands before the names of a fragment, and the bytes of these.
 #[tactic(auto, unfolding(crate::specs::Reading::head_at))]
-fn head_at(bytes: &[u8]) -> Option<(Start, &[u8])>
+pub(crate) fn head_at(bytes: &[u8]) -> Option<(Start, &[u8])>
     ensures { Gives (λ x. (record { ino = x.0.ino; frag = x.0.frag; base = x.0.base; count = x.0.count }, x.1.now)) result (head_at bytes.now) }
 {
     let (ino, rest) = u64_at(bytes)?;
@@ -234,7 +250,7 @@ fn name_at(alloc: Global, bytes: &[u8]) -> Result<Option<(Name, &[u8])>, AllocEr
 }
 
 // Bytes behind their number in one byte, and the bytes after them.
-fn short_part_at(bytes: &[u8]) -> Option<(&[u8], &[u8])>
+pub(crate) fn short_part_at(bytes: &[u8]) -> Option<(&[u8], &[u8])>
     ensures { Gives (λ x. (x.0.now, x.1.now)) result (short_part_at bytes.now) }
 {
     let (len, rest) = u8_at(bytes)?;
@@ -242,7 +258,7 @@ fn short_part_at(bytes: &[u8]) -> Option<(&[u8], &[u8])>
 }
 
 // Bytes behind their number in two bytes, and the bytes after them.
-fn long_part_at(bytes: &[u8]) -> Option<(&[u8], &[u8])>
+pub(crate) fn long_part_at(bytes: &[u8]) -> Option<(&[u8], &[u8])>
     ensures { Gives (λ x. (x.0.now, x.1.now)) result (long_part_at bytes.now) }
 {
     let (len, rest) = u16_at(bytes)?;

@@ -13,8 +13,8 @@ use std::alloc::{AllocError, Global};
 
 impl FragTree {
     /// The tree of these leaves, if they are those of a tree: by strictly ascending value, with every 24-bit hash in
-    /// exactly one, and at most 4096. Each fragment round a leaf is split by 1 bit. Takes memory for the splits, so there
-    /// is an error only where the leaves are a tree's.
+    /// exactly one, and at most 4096. Each fragment round a leaf is split by 1 bit. Takes memory for the splits, so
+    /// there is an error only where the leaves are a tree's.
     pub fn from_leaves(alloc: Global, leaves: &[Frag]) -> Result<Option<FragTree>, AllocError>
         ensures made { IfOk result (λ made. SomeIff made (IsTree leaves.now) leaves.now) }
         ensures memory { OnErr result (IsTree leaves.now) }

@@ -9,8 +9,8 @@ use sorted_map::SortedMap;
 use std::alloc::{AllocError, Global};
 use std::marker::Model;
 
-/// The leaves of one directory, kept as CephFS keeps them: by how many bits fragments are split, from `*` on. Contracts see
-/// the list of the leaves by ascending value: fragments that cover every 24-bit hash exactly once, at most 4096.
+/// The leaves of one directory, kept as CephFS keeps them: by how many bits fragments are split, from `*` on. Contracts
+/// see the list of the leaves by ascending value: fragments that cover every 24-bit hash exactly once, at most 4096.
 #[derive(Debug, Drop)]
 pub struct FragTree {
     pub(crate) splits: SortedMap<Frag, u8>,
@@ -80,8 +80,8 @@ impl FragTree {
         })
     }
 
-    /// The leaf that a hash picks: the one that contains it. The top 8 bits of the hash play no part. Takes no memory, and
-    /// logarithmic time for the leaf and for each split that the descent passes, 24 at most.
+    /// The leaf that a hash picks: the one that contains it. The top 8 bits of the hash play no part. Takes no memory,
+    /// and logarithmic time for the leaf and for each split that the descent passes, 24 at most.
     pub fn pick(&self, hash: u32) -> Frag
         ensures { IsPick self.now hash result }
     {

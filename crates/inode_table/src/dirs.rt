@@ -20,12 +20,12 @@ pub struct Home {
     pub name: Name,
 }
 
-/// For each directory its parent and its name there, and its leaves. The root directory is always there, and has neither
-/// parent nor name.
+/// For each directory its parent and its name there, and its leaves. The root directory is always there, and has
+/// neither parent nor name.
 ///
-/// Of every table it holds that each directory reaches the root by finitely many parents, and that only directories have
-/// leaves of their own, which cover every hash exactly once. A directory whose leaves were never set has the one leaf `*`,
-/// and takes no memory for it.
+/// Of every table it holds that each directory reaches the root by finitely many parents, and that only directories
+/// have leaves of their own, which cover every hash exactly once. A directory whose leaves were never set has the one
+/// leaf `*`, and takes no memory for it.
 #[derive(Debug, Drop)]
 pub struct Dirs {
     homes: SortedMap<u64, Home>,
@@ -82,8 +82,8 @@ impl Dirs {
         dir == Ino::ROOT || self.homes.contains(&dir.0)
     }
 
-    /// The leaves of a directory, as a copy that its changes don't touch. Takes memory for leaves that were set, and none for
-    /// the one leaf `*` of a directory whose leaves never were.
+    /// The leaves of a directory, as a copy that its changes don't touch. Takes memory for leaves that were set, and
+    /// none for the one leaf `*` of a directory whose leaves never were.
     pub fn tree(&self, alloc: Global, dir: Ino) -> Result<FragTree, AllocError>
         ensures leaves { IfOk result (λ tree. tree ≡ leaves_of self.now.trees dir.0) }
         ensures memory { OnErr result (IsSome (map.get self.now.trees dir.0)) }
@@ -115,7 +115,8 @@ impl Dirs {
         }
     }
 
-    /// Whether a leaf of a directory can be split by so many bits. Refused as the split is where it can't be. Takes no memory.
+    /// Whether a leaf of a directory can be split by so many bits. Refused as the split is where it can't be. Takes no
+    /// memory.
     pub fn check_split(&self, dir: Ino, frag: Frag, bits: u8) -> Result<(), Refusal>
         ensures ok { OnOk result (CanSplit (leaves_of self.now.trees dir.0) frag bits) }
         ensures err { IfErr result (λ reason. RefusesSplit (leaves_of self.now.trees dir.0) frag bits reason) }
@@ -127,7 +128,8 @@ impl Dirs {
         }
     }
 
-    /// Whether leaves of a directory can be merged into a fragment. Refused as the merge is where they can't be. Takes no memory.
+    /// Whether leaves of a directory can be merged into a fragment. Refused as the merge is where they can't be. Takes
+    /// no memory.
     pub fn check_merge(&self, dir: Ino, frag: Frag) -> Result<(), Refusal>
         ensures ok { OnOk result (CanMerge (leaves_of self.now.trees dir.0) frag) }
         ensures err { IfErr result (λ reason. RefusesMerge (leaves_of self.now.trees dir.0) frag reason) }
@@ -139,8 +141,8 @@ impl Dirs {
         }
     }
 
-    /// Makes room for one more directory, so that the next `adopt` can't fail. Where the room is there already nothing is
-    /// done. Refused for want of memory alone, and then all is left as it was.
+    /// Makes room for one more directory, so that the next `adopt` can't fail. Where the room is there already nothing
+    /// is done. Refused for want of memory alone, and then all is left as it was.
     pub fn reserve(&mut self) -> Result<(), Refusal>
         ensures ok { OnOk result (0 < self.new.room) }
         ensures homes { self.new.homes ≡ self.old.homes }
@@ -222,8 +224,8 @@ impl Dirs {
         let _ = self.trees.remove(&dir.0);
     }
 
-    /// Whether a directory is above another: a chain of one or more parents leads from `below` to `dir`. Takes no memory,
-    /// and one look-up for each directory on the way to the root.
+    /// Whether a directory is above another: a chain of one or more parents leads from `below` to `dir`. Takes no
+    /// memory, and one look-up for each directory on the way to the root.
     pub fn is_above(&self, dir: Ino, below: Ino) -> bool
         ensures { IsTrue result ↔ IsAbove self.now.homes dir.0 below.0 }
     {

@@ -64,8 +64,8 @@ impl Sessions {
         }
     }
 
-    /// Makes room for one more reply to the client, so that keeping it can't fail. Where the room is there already nothing
-    /// is done. May be refused for want of memory alone; the table stays as it was in either case.
+    /// Makes room for one more reply to the client, so that keeping it can't fail. Where the room is there already
+    /// nothing is done. May be refused for want of memory alone; the table stays as it was in either case.
     pub fn reserve(&mut self, alloc: Global, client: u64) -> Result<(), Refusal>
         ensures ready { OnOk result (IsReady self.new client) }
         ensures same { table self.new ≡ table self.old }

@@ -14,8 +14,8 @@ use mds_types::{Frag, Ino};
 use std::alloc::{AllocError, Global};
 
 impl Subtrees {
-    /// The bounds of a root's region: the roots next below, by directory and then as fragments, each once. Takes memory for
-    /// them, and asks each root once.
+    /// The bounds of a root's region: the roots next below, by directory and then as fragments, each once. Takes memory
+    /// for them, and asks each root once.
     pub fn bounds(
         &self,
         alloc: Global,

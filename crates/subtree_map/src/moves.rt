@@ -19,9 +19,9 @@ use namehash::rjenkins;
 use sorted_map::SortedMap;
 
 impl Subtrees {
-    /// Makes room for what a directory's move to another place makes, so that `after_rename` can't fail. Where the room is
-    /// there already nothing is done, so not where the directory's leaves would inherit the same rank there. Refused for want
-    /// of memory alone, and then all is left as it was.
+    /// Makes room for what a directory's move to another place makes, so that `after_rename` can't fail. Where the room
+    /// is there already nothing is done, so not where the directory's leaves would inherit the same rank there. Refused
+    /// for want of memory alone, and then all is left as it was.
     pub fn reserve_rename(
         &mut self,
         dirs: &Dirs,
@@ -44,9 +44,9 @@ impl Subtrees {
         self.reserve(dirs.leaf_count(dir))
     }
 
-    /// A directory is about to move to another place: those of its leaves that inherit their rank, and would inherit another
-    /// there, become roots of the rank that they have, so that the move changes the authority of no leaf. There has to be
-    /// room. Takes no memory.
+    /// A directory is about to move to another place: those of its leaves that inherit their rank, and would inherit
+    /// another there, become roots of the rank that they have, so that the move changes the authority of no leaf. There
+    /// has to be room. Takes no memory.
     ///
     /// It is called before the directory table is told, since it asks whose the leaves are.
     pub fn after_rename(&mut self, dirs: &Dirs, dir: Ino, parent: Ino, name: &Name)

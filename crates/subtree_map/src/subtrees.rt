@@ -12,8 +12,8 @@ use sorted_map::{Iter, SortedMap};
 use std::alloc::Global;
 use std::marker::Model;
 
-/// The subtree roots: leaves that have a rank of their own. Every other leaf has the rank of the leaf that holds the dentry of
-/// its directory.
+/// The subtree roots: leaves that have a rank of their own. Every other leaf has the rank of the leaf that holds the
+/// dentry of its directory.
 #[derive(Debug, Drop)]
 pub struct Subtrees {
     pub(crate) roots: SortedMap<(Ino, Frag), Rank>,
