@@ -1,5 +1,7 @@
 //! Names of leaves, gathered for a fragment that will be made of them.
-ghost use Rattle.std.specs.Prelude.{◌≡◌, ◌≤◌, ◌⊎◌, None, false, OnOk, OnErr, IfErr};
+ghost use Rattle.std.specs.Prelude.{◌≡◌, ◌+◌, ◌⊎◌, None, false, OnOk, OnErr, IfErr};
+ghost use Rattle.objstore.specs.Objects.{faults_told};
+ghost use Rattle.std.specs.Result.{result_err};
 ghost use Rattle.std.specs.Map.{lookup};
 ghost use Rattle.cached_frag.specs.Cached.{Cached, shown};
 ghost use Rattle.cached_frag.specs.Moving.{TakesIn};
@@ -44,7 +46,7 @@ impl Cache {
         ensures leaves { LeavesBeside None (dir, frag) self.old.entries self.new.entries }
         ensures keeps { KeepsTies Each (S.objects store.old) (S.objects store.new) self.old.entries self.new.entries }
         ensures same { S.objects store.new ≡ S.objects store.old }
-        ensures grows { S.faults store.old ≤ S.faults store.new }
+        ensures counted { S.faults store.new ≡ S.faults store.old + faults_told (result_err result) }
     {
         if let Err(refusal) = self.fetch(alloc, store, dir, frag, None) {
             return Err(refusal);

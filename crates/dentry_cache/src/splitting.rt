@@ -1,10 +1,11 @@
 //! A fragment split into its children, in one call that can't be refused once all is ready.
 ghost use Rattle.std.specs.Prelude.{◌≡◌, ◌+◌, ◌≤◌, ◌<◌, ◌^◌, ◌⊎◌, Some, None, true, false, IfOk, IfErr, OnOk, OnErr, ℕ};
+ghost use Rattle.std.specs.Result.{result_err};
 ghost use Rattle.std.specs.FinMap as map;
 ghost use Rattle.std.specs.Map.{lookup};
 ghost use Rattle.mds_types.specs.Frag.{child_of};
 ghost use Rattle.mds_types.specs.declared.refusals.Refusal.TheVariants.{NoMemory, NothingToEvict};
-ghost use Rattle.objstore.specs.Objects.{Objects};
+ghost use Rattle.objstore.specs.Objects.{Objects, faults_told};
 ghost use Rattle.cached_frag.specs.Cached.{Cached, shown};
 ghost use Rattle.dentry_cache.specs.Loading.{MayNotLoad, object_of};
 ghost use Rattle.dentry_cache.specs.Cache.{HasCached, IsChanged, IsThere, Leaf, cached, is_kept, kept_place, leaf_is, unsaved};
@@ -56,7 +57,7 @@ impl Cache {
         ensures refused { IfErr result (λ refusal. (refusal ≡ NoMemory) ⊎ ((refusal ≡ NothingToEvict) × (spare self.old ≤ 2 ^ nb)) ⊎ ((lookup (leaf_is (dir, frag)) self.old.entries ≡ None) × MayNotLoad dir frag (object_of (S.objects store.old) dir frag) (S.faults store.old) (S.faults store.new) refusal)) }
         ensures cap { self.new.cap ≡ self.old.cap }
         ensures same { S.objects store.new ≡ S.objects store.old }
-        ensures grows { S.faults store.old ≤ S.faults store.new }
+        ensures counted { S.faults store.new ≡ S.faults store.old + faults_told (result_err result) }
     {
         if let Err(refusal) = self.fetch(alloc, store, dir, frag, None) {
             return Err(refusal);

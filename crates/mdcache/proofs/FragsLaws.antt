@@ -1,10 +1,11 @@
 -- The laws of what reads keep of the tree over caches and a store, and of why their calls are refused.
-use Rattle.std.specs.Prelude.{ℕ, ◌<◌, refl}
+use Rattle.std.specs.Prelude.{◌≡◌, ℕ, ◌<◌, Option, None, Some, refl}
 use Rattle.std.proofs.Common.{inl, inr, sym, ap, subst, ◌∙◌, arith}
 use Rattle.std.specs.FinMap as map
 use Rattle.mds_types.specs.declared.operations.Op.{Op}
 use Rattle.mds_types.specs.declared.ids.Rank.{Rank}
 use Rattle.mds_types.specs.declared.refusals.Refusal.{Refusal}
+use Rattle.objstore.specs.Objects.{faults_in}
 use Rattle.dentry_cache.specs.Cache.{Leaf}
 use Rattle.namespace_ops.specs.Reasons.{IsOfFragments}
 use Rattle.mdcache.specs.Core.{Core}
@@ -14,18 +15,26 @@ use Rattle.mdcache.specs.Core.{LacksPlaces, LacksPlacesAt}
 use Rattle.mdcache.specs.Shown.{names_of}
 use Rattle.mdcache.specs.State.{IsLive, State, UnsavedLeaves}
 
-pub keeps_itself : (a : Core) → KeepsState a a
-keeps_itself a = record { state = refl; unsaved = λ rank. refl; count = refl; cap = refl; grows = omega arith }
+pub keeps_itself : (a : Core) → KeepsState a a None
+keeps_itself a = record { state = refl; unsaved = λ rank. refl; count = refl; cap = refl; counted = omega arith }
 
-pub keeps_on : (a b c : Core) → KeepsState a b → KeepsState b c → KeepsState a c
-keeps_on a b c p q =
-    let first = p.grows in
-    let second = q.grows in
-    record { state = q.state ∙ p.state; unsaved = λ rank. q.unsaved rank ∙ p.unsaved rank; count = q.count ∙ p.count; cap = q.cap ∙ p.cap; grows = omega (arith, first, second) }
+pub keeps_on : (a b c : Core) (told : Option Refusal) → KeepsState a b None → KeepsState b c told
+    → KeepsState a c told
+keeps_on a b c told p q =
+    let first = p.counted in
+    let second = q.counted in
+    record { state = q.state ∙ p.state; unsaved = λ rank. q.unsaved rank ∙ p.unsaved rank; count = q.count ∙ p.count; cap = q.cap ∙ p.cap; counted = omega (arith, first, second) }
+
+-- a refusal that is no fault counts none
+pub keeps_refused : (a b : Core) (reason : Refusal) → faults_in reason ≡ 0 → KeepsState a b None
+    → KeepsState a b (Some reason)
+keeps_refused a b reason none p =
+    let counted = p.counted in
+    record { state = p.state; unsaved = p.unsaved; count = p.count; cap = p.cap; counted = omega (arith, counted, none) }
 
 -- a state that is the same has the same leaves with the same names
-pub untouched_by : (a b : Core) (leaf : Leaf) → KeepsState a b → IsUntouched a.state b.state leaf
-untouched_by a b leaf kept live = record {
+pub untouched_by : (a b : Core) (leaf : Leaf) (told : Option Refusal) → KeepsState a b told → IsUntouched a.state b.state leaf
+untouched_by a b leaf told kept live = record {
   live = subst (λ (s : State). IsLive s.homes s.covers leaf) (sym kept.state) live;
   names = ap (λ (s : State). names_of s.unsaved s.objects leaf) kept.state;
 }
@@ -37,20 +46,20 @@ untouched_on a b c leaf p q live =
     record { live = second.live; names = second.names ∙ first.names }
 
 -- places that lack now lacked before
-pub lacked_at : (count : ℕ) (a b : Core) (rank : Rank) → KeepsState a b → LacksPlacesAt count b rank → LacksPlacesAt count a rank
+pub lacked_at : (count : ℕ) (a b : Core) (rank : Rank) → KeepsState a b None → LacksPlacesAt count b rank → LacksPlacesAt count a rank
 lacked_at count a b rank kept lacks =
     let cap = kept.cap in
     let same = ap (λ (m : UnsavedLeaves). map.len m) (kept.unsaved rank) in
     omega (arith, cap, same, lacks)
 
-pub lacked_before : (count : ℕ) (a b : Core) → KeepsState a b → LacksPlaces count b → LacksPlaces count a
+pub lacked_before : (count : ℕ) (a b : Core) → KeepsState a b None → LacksPlaces count b → LacksPlaces count a
 lacked_before count a b kept (rank, there, lacks) = (rank, subst (λ (n : ℕ). rank.0 < n) kept.count there, lacked_at count a b rank kept lacks)
 
-pub refused_later : (a b c : Core) (op : Op) (reason : Refusal) → KeepsState a b → MayRefuse b c op reason → MayRefuse a c op reason
+pub refused_later : (a b c : Core) (op : Op) (reason : Refusal) → KeepsState a b None → MayRefuse b c op reason → MayRefuse a c op reason
 refused_later a b c op reason kept (inl memory) = inl memory
 refused_later a b c op reason kept (inr (inl (is, rose))) =
-    let grows = kept.grows in
-    inr (inl (is, omega (arith, grows, rose)))
+    let counted = kept.counted in
+    inr (inl (is, omega (arith, counted, rose)))
 refused_later a b c op reason kept (inr (inr (inl (is, lacks)))) =
     inr (inr (inl (is, lacked_before 4 a b kept lacks)))
 refused_later a b c op reason kept (inr (inr (inr (is, lacks)))) = inr (inr (inr (is, subst (λ (s : State). LacksFor op s) kept.state lacks)))

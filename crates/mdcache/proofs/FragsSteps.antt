@@ -162,8 +162,8 @@ module _ (Lacks Wide NoPlace Fewer : Type 0) (before after : ℕ) (out : Lacks �
 -- ---- what reads and refusals keep
 
 -- where the state is the same, all is kept that the fragments show
-pub kept_all : (old new : Core) → KeepsState old new → KeepsAll (shown_tree old.state) (shown_tree new.state) old.state.covers new.state.covers (KeepsState old new)
-kept_all old new kept = record { tree = ap shown_tree kept.state; leaves = ap (λ (s : State). s.covers) kept.state; follows = kept }
+pub kept_all : (old new : Core) (told : Option Refusal) → KeepsState old new told → KeepsAll (shown_tree old.state) (shown_tree new.state) old.state.covers new.state.covers (KeepsState old new told)
+kept_all old new told kept = record { tree = ap shown_tree kept.state; leaves = ap (λ (s : State). s.covers) kept.state; follows = kept }
 
 -- ---- what is ready
 
@@ -173,8 +173,8 @@ name_ready X (Err reason) core rank leaf room number = tt
 
 -- what was prepared stands beside what is ready
 module _ (core now : Core) (prepared : Prepared) (left : now ≡ record core { prepared = prepared }) where
-  pub keeps_beside : (old : Core) → KeepsState old core → KeepsState old now
-  keeps_beside old kept = subst (KeepsState old) (sym left) (record { state = kept.state; unsaved = kept.unsaved; count = kept.count; cap = kept.cap; grows = kept.grows })
+  pub keeps_beside : (old : Core) → KeepsState old core None → KeepsState old now None
+  keeps_beside old kept = subst (λ k. KeepsState old k None) (sym left) (record { state = kept.state; unsaved = kept.unsaved; count = kept.count; cap = kept.cap; counted = kept.counted })
 
   pub name_beside : (rank : Rank) (leaf : Leaf) → IsNameReady core rank leaf → IsNameReady now rank leaf
   name_beside rank leaf ready = subst (λ (k : Core). IsNameReady k rank leaf) (sym left) (record { room = ready.room; number = ready.number })

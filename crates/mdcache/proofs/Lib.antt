@@ -7,6 +7,7 @@ pub mod CachedLaws
 pub mod CapLaws
 pub mod ChangeLaws
 pub mod ChildNames
+pub mod CountLaws
 pub mod EmptyLaws
 pub mod EndLaws
 pub mod FragsLaws

@@ -1,5 +1,5 @@
 -- The tree over caches and a store as operations see it: what reads keep, why a call is refused, and what is ready for a change.
-use Rattle.std.specs.Prelude.{◌≡◌, ◌⊎◌, ℕ, ◌-◌, ◌<◌, ◌≤◌, ◌^◌, true, Option, Some, None, IfSome, length, string_bytes}
+use Rattle.std.specs.Prelude.{◌≡◌, ◌⊎◌, ℕ, ◌+◌, ◌-◌, ◌<◌, ◌≤◌, ◌^◌, true, Option, Some, None, IfSome, length, string_bytes}
 use Rattle.std.specs.Map.{lookup}
 use Rattle.std.specs.FinMap as map
 use Rattle.mds_types.specs.declared.dentries.Dentry.{Dentry}
@@ -12,6 +12,7 @@ use Rattle.mds_types.specs.declared.refusals.Refusal.TheVariants.{NoInodes, NoMe
 use Rattle.mds_types.specs.Frag.{Fragment}
 use Rattle.mds_types.specs.Tree.{is_dir_kind}
 use Rattle.dirfrag_codec.specs.EntryRecord.{IsRecordable}
+use Rattle.objstore.specs.Objects.{faults_told}
 use Rattle.cached_frag.specs.Cached.{Cached}
 use Rattle.dentry_cache.specs.Cache.{HasCached, HasRoom, Leaf, cached, is_kept, leaf_is}
 use Rattle.inode_table.specs.Dirs.{Covers, MayMove}
@@ -34,13 +35,14 @@ use Rattle.mdcache.specs.State.{State, text_of}
 
 -- ---- reads and refusals
 
--- reads and refusals keep the state, what isn't clean of each rank, and the number of ranks and places; the store's faults only rise
-pub record KeepsState (old new : Core) : Type 0 where
+-- reads and refusals keep the state, what isn't clean of each rank, and the number of ranks and places; the store's count
+-- of faults rises by one where a fault is told, and not otherwise
+pub record KeepsState (old new : Core) (told : Option Refusal) : Type 0 where
   pub state : new.state ≡ old.state
   pub unsaved : KeepUnsaved old.ranks new.ranks
   pub count : length new.ranks ≡ length old.ranks
   pub cap : new.cache.cap ≡ old.cache.cap
-  pub grows : old.faults ≤ new.faults
+  pub counted : new.faults ≡ old.faults + faults_told told
 
 -- the numbers that lack for an operation: a version for the name that it changes, two for a rename, and a generation for the leaf of a new
 -- directory

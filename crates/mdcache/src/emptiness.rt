@@ -1,5 +1,6 @@
 //! Whether a leaf shows a name.
 ghost use Rattle.std.specs.Prelude.{◌≡◌, IfOk, IfErr};
+ghost use Rattle.std.specs.Result.{result_err};
 ghost use Rattle.mdcache.specs.Frags.{KeepsState};
 ghost use Rattle.mdcache.specs.Ranks.{IsThat, KeepsCaches, MayHold};
 ghost use Rattle.mdcache.specs.Core.{LacksPlacesAt};
@@ -28,7 +29,7 @@ impl<S: Store + Drop> MdCache<S> {
         requires live { IsLive self.old.state.homes self.old.state.covers (dir, frag) }
         requires holds { MayHold self.old.ranks rank (dir, frag) }
         ensures found { IfOk result (λ empty. empty ≡ has_none (names_of self.old.state.unsaved self.old.state.objects (dir, frag))) }
-        ensures kept { KeepsState self.old self.new }
+        ensures kept { KeepsState self.old self.new (result_err result) }
         ensures caches { KeepsCaches (IsThat rank (dir, frag)) self.old.ranks self.new.ranks }
         ensures refused { IfErr result (MayNotFind (LacksPlacesAt 1 self.old rank) self.old.faults self.new.faults) }
     {

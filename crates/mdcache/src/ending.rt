@@ -1,5 +1,7 @@
 //! Commits end: what was encoded is written, and what it has is clean then.
-ghost use Rattle.std.specs.Prelude.{◌≡◌, ◌≤◌, ◌↔◌, IsTrue, Some};
+ghost use Rattle.std.specs.Prelude.{◌≡◌, ◌+◌, ◌↔◌, IsTrue, Some};
+ghost use Rattle.objstore.specs.Objects.{faults_told};
+ghost use Rattle.std.specs.Result.{result_err};
 ghost use Rattle.std.specs.FinMap as map;
 ghost use Rattle.mdcache.specs.Commits.{Ends, leaf_of};
 ghost use Rattle.mdcache.specs.Ranks.{KeepsCaches, MayHold, NoneComes};
@@ -23,7 +25,7 @@ impl<S: Store + Drop> MdCache<S> {
         ensures ended { Ends self.old.state self.new.state self.old.faults self.new.faults encoded.now.job result }
         ensures caches { KeepsCaches NoneComes self.old.ranks self.new.ranks }
         ensures cap { self.new.cache.cap ≡ self.old.cache.cap }
-        ensures grows { self.old.faults ≤ self.new.faults }
+        ensures counted { self.new.faults ≡ self.old.faults + faults_told (result_err result) }
     {
         let job = encoded.job();
         if !stands(&self.jobs, job) {

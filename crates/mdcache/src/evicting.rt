@@ -1,5 +1,6 @@
 //! Places of a rank's cache, made free.
 ghost use Rattle.std.specs.Prelude.{◌≡◌, ◌<◌, None, length, OnOk, OnErr, IfErr};
+ghost use Rattle.std.specs.Result.{result_err};
 ghost use Rattle.mds_types.specs.declared.refusals.Refusal.TheVariants.{NothingToEvict};
 ghost use Rattle.dentry_cache.specs.Cache.{Evicts, NoneGoes};
 ghost use Rattle.dentry_cache.specs.Caches.{cache_of, with_cache};
@@ -20,7 +21,7 @@ impl<S: Store + Drop> MdCache<S> {
         ensures evicted { OnOk result (Evicts None (cache_of self.old.ranks rank) (cache_of self.new.ranks rank)) }
         ensures others { self.new.ranks ≡ with_cache self.old.ranks rank (cache_of self.new.ranks rank) }
         ensures caches { KeepsCaches NoneComes self.old.ranks self.new.ranks }
-        ensures kept { KeepsState self.old self.new }
+        ensures kept { KeepsState self.old self.new (result_err result) }
         ensures faults { self.new.faults ≡ self.old.faults }
         ensures refused { IfErr result (λ reason. reason ≡ NothingToEvict) }
         ensures none { OnErr result (NoneGoes None (cache_of self.old.ranks rank).entries) }

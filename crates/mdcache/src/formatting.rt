@@ -1,10 +1,11 @@
 //! A tree over a store that has no object.
-ghost use Rattle.std.specs.Prelude.{◌≡◌, ◌<◌, ◌≤◌, ◌==◌, ◌↔◌, ◌∷◌, [], length, not, IsTrue, IfOk, OnOk, IfErr};
+ghost use Rattle.std.specs.Prelude.{◌≡◌, ◌+◌, ◌<◌, ◌≤◌, ◌==◌, ◌↔◌, ◌∷◌, [], length, not, IsTrue, IfOk, OnOk, IfErr};
+ghost use Rattle.std.specs.Result.{result_err};
 ghost use Rattle.std.specs.FinMap as map;
 ghost use Rattle.lru.specs.LruCache.{lru_cache};
 ghost use Rattle.mds_types.specs.declared.refusals.Refusal.TheVariants.{NoMemory};
 ghost use Rattle.dentry_cache.specs.Cache.{held};
-ghost use Rattle.objstore.specs.Objects.{MayRefuse};
+ghost use Rattle.objstore.specs.Objects.{MayRefuse, faults_in, faults_told};
 ghost use Rattle.dentry_cache.specs.Caches.{all_of};
 ghost use Rattle.mdcache.specs.New.{MayNotFormat, cached_root, new_caches, new_state, root_leaf};
 
@@ -41,8 +42,8 @@ impl<S: Store + Drop> MdCache<S> {
         ensures cache { IfOk result (λ m. m.cache ≡ all_of (new_caches ranks places)) }
         ensures refused { IfErr result (λ back. MayNotFormat (S.objects store) (S.faults store) (S.faults back.1) back.0) }
         ensures left { IfErr result (λ back. S.objects back.1 ≡ S.objects store) }
-        ensures faults { IfOk result (λ m. S.faults store ≤ m.faults) }
-        ensures grows { IfErr result (λ back. S.faults store ≤ S.faults back.1) }
+        ensures faults { IfOk result (λ m. m.faults ≡ S.faults store) }
+        ensures counted { IfErr result (λ back. S.faults back.1 ≡ S.faults store + faults_in back.0) }
     {
         match has_objects(alloc, &mut store) {
             Err(refusal) => Err((refusal, store)),
@@ -123,7 +124,7 @@ fn has_objects<S: Store>(alloc: Global, store: &mut S) -> Result<bool, Refusal>
     ensures found { IfOk result (λ some. IsTrue some ↔ (S.objects store.old ≡ map.empty → ⊥)) }
     ensures same { S.objects store.new ≡ S.objects store.old }
     ensures refused { IfErr result (MayRefuse (S.faults store.old) (S.faults store.new)) }
-    ensures grows { S.faults store.old ≤ S.faults store.new }
+    ensures counted { S.faults store.new ≡ S.faults store.old + faults_told (result_err result) }
 {
     match store.names_page(alloc, None, 1) {
         Ok(page) => Ok(has_names(&page)),

@@ -1,5 +1,5 @@
 //! The one place that is kept between calls, given up: that for the leaf `*` of a directory that was to come.
-ghost use Rattle.std.specs.Prelude.{◌≡◌};
+ghost use Rattle.std.specs.Prelude.{◌≡◌, None};
 ghost use Rattle.mdcache.specs.Cached.{KeepsNone};
 ghost use Rattle.mdcache.specs.Frags.{KeepsState};
 ghost use Rattle.mdcache.specs.Ranks.{KeepsCaches, NoneComes};
@@ -12,7 +12,7 @@ impl<S: Store + Drop> MdCache<S> {
     /// Gives up what was made ready: a place that was kept for a directory which didn't come is free again. Each read and
     /// each call that makes something ready does so first. Takes no memory.
     pub fn unready(&mut self)
-        ensures kept { KeepsState self.old self.new }
+        ensures kept { KeepsState self.old self.new None }
         ensures none { KeepsNone self.new.cache.entries }
         ensures caches { KeepsCaches NoneComes self.old.ranks self.new.ranks }
         ensures faults { self.new.faults ≡ self.old.faults }

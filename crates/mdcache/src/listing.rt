@@ -1,5 +1,6 @@
 //! The names of a leaf, gathered into a page of its directory.
 ghost use Rattle.std.specs.Prelude.{◌≡◌, List, IfErr, OnOk};
+ghost use Rattle.std.specs.Result.{result_err};
 ghost use Rattle.std.specs.Option.{option_copied};
 ghost use Rattle.std.specs.FinMap as map;
 ghost use Rattle.mds_types.specs.declared.refusals.Refusal.TheVariants.{NoMemory};
@@ -42,7 +43,7 @@ impl<S: Store + Drop> MdCache<S> {
         requires holds { MayHold self.old.ranks rank (dir, frag) }
         ensures page { (whole : List Row) → IsPageOf whole page.old → OnOk result (IsPageOf (puts key_cmp whole (rows_after (option_copied after.entry) (map.entries (names_of self.old.state.unsaved self.old.state.objects (dir, frag))))) page.new) }
         ensures most { page.new.most ≡ page.old.most }
-        ensures kept { KeepsState self.old self.new }
+        ensures kept { KeepsState self.old self.new (result_err result) }
         ensures caches { KeepsCaches (IsThat rank (dir, frag)) self.old.ranks self.new.ranks }
         ensures refused { IfErr result (MayNotFind (LacksPlacesAt 1 self.old rank) self.old.faults self.new.faults) }
     {

@@ -59,6 +59,7 @@ impl<S: Store + Drop> MdCache<S> {
     /// is that of a live leaf, unless it is kept.
     pub fn store(&self) -> &S
         ensures objects { S.objects result.now ≡ self.now.state.objects }
+        ensures faults { S.faults result.now ≡ self.now.faults }
         ensures kept { IsKept self.now.state self.now.cache }
         ensures live { AreLivePlaces self.now.state.homes self.now.state.covers self.now.ranks }
         ensures ranked { AreRanks self.now.ranks }

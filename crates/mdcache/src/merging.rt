@@ -1,5 +1,7 @@
 //! Leaves of a directory are merged: all is prepared for it first, and then it is done, which can't fail.
-ghost use Rattle.std.specs.Prelude.{◌≡◌, ◌+◌, ◌-◌, ◌≤◌, ◌<◌, ◌⊎◌, true, length, map as each, OnOk, IfErr};
+ghost use Rattle.std.specs.Prelude.{◌≡◌, ◌+◌, ◌-◌, ◌<◌, ◌⊎◌, true, length, map as each, OnOk, IfErr};
+ghost use Rattle.objstore.specs.Objects.{faults_told};
+ghost use Rattle.std.specs.Result.{result_err};
 ghost use Rattle.std.specs.List.{Contains};
 ghost use Rattle.fragtree.specs.FragTree.{CanMerge, RefusesMerge, leaves_inside};
 ghost use Rattle.dentry_cache.specs.Cache.{Leaf};
@@ -48,7 +50,7 @@ impl<S: Store + Drop> MdCache<S> {
         ensures merged { MergesLeaves (LacksPlacesAt 1 self.old rank) self.old self.new dir frag result }
         ensures caches { KeepsCaches (λ other q. (other ≡ rank) × (Contains (each (in_directory dir.0) (leaves_inside frag (leaves_of self.old.state.covers dir.0))) q ⊎ ((dir, frag) ≡ q))) self.old.ranks self.new.ranks }
         ensures cap { self.new.cache.cap ≡ self.old.cache.cap }
-        ensures grows { self.old.faults ≤ self.new.faults }
+        ensures counted { self.new.faults ≡ self.old.faults + faults_told (result_err result) }
     {
         if let Err(refusal) = check_merge(&self.dirs, dir, frag) {
             return Err(refusal);

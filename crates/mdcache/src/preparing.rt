@@ -1,5 +1,6 @@
 //! A change of the tree is made ready.
 ghost use Rattle.std.specs.Prelude.{◌≡◌, ◌≤◌, true, Some, OnOk, IfErr};
+ghost use Rattle.std.specs.Result.{result_err};
 ghost use Rattle.std.specs.FinMap as map;
 ghost use Rattle.mds_types.specs.declared.inodes.Inode.{Inode as Node};
 ghost use Rattle.mds_types.specs.Tree.{is_directory};
@@ -32,7 +33,7 @@ impl<S: Store + Drop> MdCache<S> {
         requires may { MayChange (shown_tree self.old.state) self.old.state.covers change.now }
         requires numbered { IsNumbered IsRankNumber change.now }
         ensures ready { OnOk result (IsReady self.new at change.now) }
-        ensures kept { KeepsState self.old self.new }
+        ensures kept { KeepsState self.old self.new (result_err result) }
         ensures caches { KeepsCaches (MayComeFor at change.now) self.old.ranks self.new.ranks }
         ensures refused { IfErr result (MayNotBeReady (LacksToMake change.now self.old.state) (LacksPlaces 4 self.old) self.old.faults self.new.faults) }
     {
@@ -73,7 +74,7 @@ impl<S: Store + Drop> MdCache<S> {
         requires may { MayChange (shown_tree self.old.state) self.old.state.covers (Add dentry.now leaf inode.now) }
         requires number { IsRankNumber inode.now.ino.0 }
         ensures ready { OnOk result (IsReady self.new at (Add dentry.now leaf inode.now)) }
-        ensures kept { KeepsState self.old self.new }
+        ensures kept { KeepsState self.old self.new (result_err result) }
         ensures caches { KeepsCaches (MayComeFor at (Add dentry.now leaf inode.now)) self.old.ranks self.new.ranks }
         ensures refused { IfErr result (MayNotBeReady (LacksToMake (Add dentry.now leaf inode.now) self.old.state) (LacksPlaces 4 self.old) self.old.faults self.new.faults) }
     {
@@ -100,7 +101,7 @@ impl<S: Store + Drop> MdCache<S> {
         requires holds { MayHoldEach self.old.ranks at (Set dentry.now leaf inode.now) }
         requires may { MayChange (shown_tree self.old.state) self.old.state.covers (Set dentry.now leaf inode.now) }
         ensures ready { OnOk result (IsReady self.new at (Set dentry.now leaf inode.now)) }
-        ensures kept { KeepsState self.old self.new }
+        ensures kept { KeepsState self.old self.new (result_err result) }
         ensures caches { KeepsCaches (MayComeFor at (Set dentry.now leaf inode.now)) self.old.ranks self.new.ranks }
         ensures refused { IfErr result (MayNotBeReady (LacksToMake (Set dentry.now leaf inode.now) self.old.state) (LacksPlaces 4 self.old) self.old.faults self.new.faults) }
     {
@@ -121,7 +122,7 @@ impl<S: Store + Drop> MdCache<S> {
         requires holds { MayHoldEach self.old.ranks at (Remove dentry.now leaf gone) }
         requires may { MayChange (shown_tree self.old.state) self.old.state.covers (Remove dentry.now leaf gone) }
         ensures ready { OnOk result (IsReady self.new at (Remove dentry.now leaf gone)) }
-        ensures kept { KeepsState self.old self.new }
+        ensures kept { KeepsState self.old self.new (result_err result) }
         ensures caches { KeepsCaches (MayComeFor at (Remove dentry.now leaf gone)) self.old.ranks self.new.ranks }
         ensures refused { IfErr result (MayNotBeReady (LacksToMake (Remove dentry.now leaf gone) self.old.state) (LacksPlaces 4 self.old) self.old.faults self.new.faults) }
     {
@@ -147,7 +148,7 @@ impl<S: Store + Drop> MdCache<S> {
         requires holds { MayHoldEach self.old.ranks at (Move from.now source to.now target gone) }
         requires may { MayChange (shown_tree self.old.state) self.old.state.covers (Move from.now source to.now target gone) }
         ensures ready { OnOk result (IsReady self.new at (Move from.now source to.now target gone)) }
-        ensures kept { KeepsState self.old self.new }
+        ensures kept { KeepsState self.old self.new (result_err result) }
         ensures caches { KeepsCaches (MayComeFor at (Move from.now source to.now target gone)) self.old.ranks self.new.ranks }
         ensures refused { IfErr result (MayNotBeReady (LacksToMake (Move from.now source to.now target gone) self.old.state) (LacksPlaces 4 self.old) self.old.faults self.new.faults) }
     {

@@ -1,5 +1,7 @@
 //! Objects that nothing owns any more are removed, one by one.
-ghost use Rattle.std.specs.Prelude.{◌≡◌, ◌≤◌};
+ghost use Rattle.std.specs.Prelude.{◌≡◌, ◌+◌};
+ghost use Rattle.objstore.specs.Objects.{faults_told};
+ghost use Rattle.std.specs.Result.{result_err};
 ghost use Rattle.mdcache.specs.Objects.{Purges};
 
 use crate::mdcache::MdCache;
@@ -15,7 +17,7 @@ impl<S: Store + Drop> MdCache<S> {
         ensures purged { Purges self.old.state self.new.state self.old.faults self.new.faults result }
         ensures ranks { self.new.ranks ≡ self.old.ranks }
         ensures cap { self.new.cache.cap ≡ self.old.cache.cap }
-        ensures grows { self.old.faults ≤ self.new.faults }
+        ensures counted { self.new.faults ≡ self.old.faults + faults_told (result_err result) }
     {
         let Some(name) = self.purge.first() else {
             return Ok(());

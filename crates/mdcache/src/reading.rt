@@ -1,5 +1,6 @@
 //! Reads of the tree that is shown.
 ghost use Rattle.std.specs.Prelude.{◌≡◌, true, IfOk, IfErr};
+ghost use Rattle.std.specs.Result.{result_err};
 ghost use Rattle.std.specs.FinMap as map;
 ghost use Rattle.mds_types.specs.Tree.{is_above, is_directory};
 ghost use Rattle.fragtree.specs.FragTree.{IsPick};
@@ -56,7 +57,7 @@ impl<S: Store + Drop> MdCache<S> {
         requires known { is_directory (shown_tree self.old.state) dentry.now.dir.0 ≡ true }
         requires leaf { IsPick (leaves_of self.old.state.covers dentry.now.dir.0) (hash_of dentry.now.name) leaf }
         ensures found { IfOk result (λ found. found ≡ map.get (shown_tree self.old.state) dentry.now) }
-        ensures kept { KeepsState self.old self.new }
+        ensures kept { KeepsState self.old self.new (result_err result) }
         ensures caches { KeepsCaches (IsThat rank (dentry.now.dir, leaf)) self.old.ranks self.new.ranks }
         ensures refused { IfErr result (MayNotFind (LacksPlacesAt 1 self.old rank) self.old.faults self.new.faults) }
     {

@@ -1,5 +1,6 @@
 //! What a change needs is made ready: numbers, leaves, places and room.
 ghost use Rattle.std.specs.Prelude.{◌≡◌, ◌⊎◌, ◌+◌, ◌-◌, ◌<◌, ◌^◌, true, false, string_bytes, OnOk, IfOk, IfErr};
+ghost use Rattle.std.specs.Result.{result_err};
 ghost use Rattle.std.specs.Map.{lookup};
 ghost use Rattle.mds_types.specs.Tree.{is_directory};
 ghost use Rattle.mds_types.specs.declared.refusals.Refusal.TheVariants.{NoInodes, NoMemory};
@@ -50,7 +51,7 @@ impl<S: Store + Drop> MdCache<S> {
         requires leaf { IsPick (leaves_of self.old.state.covers dentry.now.dir.0) (hash_of dentry.now.name) leaf }
         ensures room { OnOk result (HasRoom (cached (cache_of self.new.ranks rank).entries (dentry.now.dir, leaf))) }
         ensures number { OnOk result (self.new.state.next_version < 2 ^ 64 - 1) }
-        ensures kept { KeepsState self.old self.new }
+        ensures kept { KeepsState self.old self.new (result_err result) }
         ensures caches { KeepsCaches (IsThat rank (dentry.now.dir, leaf)) self.old.ranks self.new.ranks }
         ensures refused { IfErr result (MayNotBeReady (LacksNumbers 1 self.old.state.next_version) (LacksPlacesAt 1 self.old rank) self.old.faults self.new.faults) }
     {
@@ -96,7 +97,7 @@ impl<S: Store + Drop> MdCache<S> {
         ensures home { OnOk result (0 < self.new.dirs_left) }
         ensures number { OnOk result (self.new.state.next_version < 2 ^ 64 - 1) }
         ensures generation { OnOk result (self.new.state.next_generation < 2 ^ 64 - 1) }
-        ensures kept { KeepsState self.old self.new }
+        ensures kept { KeepsState self.old self.new (result_err result) }
         ensures caches { KeepsCaches (λ other q. IsThat rank (dentry.now.dir, leaf) other q ⊎ IsThat rank (first_leaf dir) other q) self.old.ranks self.new.ranks }
         ensures refused { IfErr result (MayNotBeReady (LacksNumbers 1 self.old.state.next_version ⊎ LacksNumbers 1 self.old.state.next_generation) (LacksPlacesAt 2 self.old rank) self.old.faults self.new.faults) }
     {

@@ -1,5 +1,6 @@
 //! What a rename needs is made ready: room in its two leaves, the inode that moves, and what is replaced.
 ghost use Rattle.std.specs.Prelude.{◌≡◌, ◌⊎◌, ◌-◌, ◌<◌, ◌≤◌, ◌^◌, true, is_some, Some, OnOk, IfOk, IfErr};
+ghost use Rattle.std.specs.Result.{result_err};
 ghost use Rattle.std.specs.FinMap as map;
 ghost use Rattle.mds_types.specs.Tree.{is_directory};
 ghost use Rattle.mds_types.specs.declared.refusals.Refusal.TheVariants.{NoInodes, NoMemory};
@@ -73,7 +74,7 @@ impl<S: Store + Drop> MdCache<S> {
         ensures source { OnOk result (HasCached (cached (cache_of self.new.ranks at.first).entries (from.now.dir, source)) (λ (f : Cached). 1 < f.room)) }
         ensures target { OnOk result (HasRoom (cached (cache_of self.new.ranks at.second).entries (to.now.dir, target))) }
         ensures number { OnOk result (self.new.state.next_version < 2 ^ 64 - 2) }
-        ensures kept { KeepsState self.old self.new }
+        ensures kept { KeepsState self.old self.new (result_err result) }
         ensures caches { KeepsCaches (λ other q. IsThat at.first (from.now.dir, source) other q ⊎ IsThat at.second (to.now.dir, target) other q) self.old.ranks self.new.ranks }
         ensures refused { IfErr result (MayNotBeReady (LacksNumbers 2 self.old.state.next_version) (LacksPlacesAt 2 self.old at.first ⊎ LacksPlacesAt 2 self.old at.second) self.old.faults self.new.faults) }
     {

@@ -1,5 +1,6 @@
 //! What a removal of an entry needs is made ready, that of a directory too.
 ghost use Rattle.std.specs.Prelude.{◌≡◌, ◌+◌, ◌-◌, ◌<◌, ◌≤◌, ◌^◌, true, length, OnOk, IfOk, IfErr};
+ghost use Rattle.std.specs.Result.{result_err};
 ghost use Rattle.mds_types.specs.Tree.{is_directory};
 ghost use Rattle.mds_types.specs.declared.refusals.Refusal.TheVariants.{NoMemory};
 ghost use Rattle.fragtree.specs.FragTree.{IsPick};
@@ -46,7 +47,7 @@ impl<S: Store + Drop> MdCache<S> {
         ensures purge { IfOk result (λ going. count_going going ≤ self.new.purge_left) }
         ensures room { OnOk result (HasRoom (cached (cache_of self.new.ranks rank).entries (dentry.now.dir, leaf))) }
         ensures number { OnOk result (self.new.state.next_version < 2 ^ 64 - 1) }
-        ensures kept { KeepsState self.old self.new }
+        ensures kept { KeepsState self.old self.new (result_err result) }
         ensures caches { KeepsCaches (IsThat rank (dentry.now.dir, leaf)) self.old.ranks self.new.ranks }
         ensures refused { IfErr result (MayNotBeReady (LacksNumbers 1 self.old.state.next_version) (LacksPlacesAt 1 self.old rank) self.old.faults self.new.faults) }
     {

@@ -1,5 +1,6 @@
 //! What other attributes of an inode need is made ready.
 ghost use Rattle.std.specs.Prelude.{◌≡◌, ◌-◌, ◌<◌, ◌^◌, true, OnOk, IfErr, IfSome};
+ghost use Rattle.std.specs.Result.{result_err};
 ghost use Rattle.std.specs.FinMap as map;
 ghost use Rattle.mds_types.specs.Tree.{is_directory};
 ghost use Rattle.fragtree.specs.FragTree.{IsPick};
@@ -39,7 +40,7 @@ impl<S: Store + Drop> MdCache<S> {
         ensures recorded { OnOk result (IfSome (map.get (shown_tree self.old.state) dentry.now) IsRecordable) }
         ensures room { OnOk result (HasRoom (cached (cache_of self.new.ranks rank).entries (dentry.now.dir, leaf))) }
         ensures number { OnOk result (self.new.state.next_version < 2 ^ 64 - 1) }
-        ensures kept { KeepsState self.old self.new }
+        ensures kept { KeepsState self.old self.new (result_err result) }
         ensures caches { KeepsCaches (IsThat rank (dentry.now.dir, leaf)) self.old.ranks self.new.ranks }
         ensures refused { IfErr result (MayNotBeReady (LacksNumbers 1 self.old.state.next_version) (LacksPlacesAt 1 self.old rank) self.old.faults self.new.faults) }
     {

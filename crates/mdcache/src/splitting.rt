@@ -1,5 +1,7 @@
 //! A leaf of a directory is split: all is prepared for it first, and then it is done, which can't fail.
-ghost use Rattle.std.specs.Prelude.{◌≡◌, ◌+◌, ◌-◌, ◌≤◌, ◌<◌, ◌^◌, true, OnOk, IfErr};
+ghost use Rattle.std.specs.Prelude.{◌≡◌, ◌+◌, ◌-◌, ◌<◌, ◌^◌, true, OnOk, IfErr};
+ghost use Rattle.objstore.specs.Objects.{faults_told};
+ghost use Rattle.std.specs.Result.{result_err};
 ghost use Rattle.fragtree.specs.FragTree.{CanSplit, RefusesSplit};
 ghost use Rattle.inode_table.specs.Dirs.{is_known, leaves_of};
 ghost use Rattle.mdcache.specs.Ranks.{KeepsCaches, MayHold};
@@ -52,7 +54,7 @@ impl<S: Store + Drop> MdCache<S> {
         ensures split { SplitsLeaf (LacksPlacesAt (2 ^ nb + 1) self.old rank) self.old self.new dir frag nb result }
         ensures caches { KeepsCaches (λ other q. (other ≡ rank) × IsFamily dir frag nb q) self.old.ranks self.new.ranks }
         ensures cap { self.new.cache.cap ≡ self.old.cache.cap }
-        ensures grows { self.old.faults ≤ self.new.faults }
+        ensures counted { self.new.faults ≡ self.old.faults + faults_told (result_err result) }
     {
         if let Err(refusal) = check_split(&self.dirs, dir, frag, nb) {
             return Err(refusal);

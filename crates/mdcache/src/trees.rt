@@ -1,5 +1,7 @@
 //! The object of a directory's tree is brought up to date.
-ghost use Rattle.std.specs.Prelude.{◌≡◌, ◌≤◌, ◌<◌};
+ghost use Rattle.std.specs.Prelude.{◌≡◌, ◌+◌, ◌<◌};
+ghost use Rattle.objstore.specs.Objects.{faults_told};
+ghost use Rattle.std.specs.Result.{result_err};
 ghost use Rattle.mdcache.specs.Objects.{SavesTree};
 
 use crate::mdcache::MdCache;
@@ -18,7 +20,7 @@ impl<S: Store + Drop> MdCache<S> {
         ensures saved { SavesTree self.old.state self.new.state self.old.faults self.new.faults dir result }
         ensures ranks { self.new.ranks ≡ self.old.ranks }
         ensures cap { self.new.cache.cap ≡ self.old.cache.cap }
-        ensures grows { self.old.faults ≤ self.new.faults }
+        ensures counted { self.new.faults ≡ self.old.faults + faults_told (result_err result) }
     {
         if !self.dirs.contains(dir) {
             return Err(Refusal::NoSuchFrag);

@@ -1,5 +1,6 @@
 //! The checks of one operation, in their order. They read alone.
 ghost use Rattle.std.specs.Prelude.{◌≡◌, ◌≢◌, ◌&&◌, true, IfOk, IfErr};
+ghost use Rattle.std.specs.Result.{result_err};
 ghost use Rattle.mds_types.specs.declared.refusals.Refusal.TheVariants.{NoInodes};
 ghost use Rattle.mds_types.specs.Tree.{is_directory};
 ghost use Rattle.mds_types.specs.Step.{step, within, directory_of, destination_of};
@@ -26,7 +27,7 @@ pub fn check<F: Frags>(
     number: Ino,
 ) -> Result<Checked, Refusal>
     ensures checked { IfOk result (Checks (F.content frags.old) (F.covers frags.old) op.now number.0 (step (F.content frags.old) op.now number.0)) }
-    ensures kept { KeepsAll (F.content frags.old) (F.content frags.new) (F.covers frags.old) (F.covers frags.new) (F.Follows frags.old frags.new) }
+    ensures kept { KeepsAll (F.content frags.old) (F.content frags.new) (F.covers frags.old) (F.covers frags.new) (F.Follows frags.old frags.new (result_err result)) }
     ensures err { IfErr result (Refuses (F.MayRefuse frags.old frags.new op.now)) }
     ensures numbers { IfErr result (λ reason. reason ≢ NoInodes) }
 {
@@ -56,7 +57,7 @@ fn check_within<F: Frags>(
     requires here { is_directory (F.content frags.old) (directory_of op.now) ≡ true }
     requires there { is_directory (F.content frags.old) (destination_of op.now) ≡ true }
     ensures checked { IfOk result (Checks (F.content frags.old) (F.covers frags.old) op.now number.0 (within (F.content frags.old) op.now number.0)) }
-    ensures kept { KeepsAll (F.content frags.old) (F.content frags.new) (F.covers frags.old) (F.covers frags.new) (F.Follows frags.old frags.new) }
+    ensures kept { KeepsAll (F.content frags.old) (F.content frags.new) (F.covers frags.old) (F.covers frags.new) (F.Follows frags.old frags.new (result_err result)) }
     ensures err { IfErr result (Refuses (F.MayRefuse frags.old frags.new op.now)) }
     ensures numbers { IfErr result (λ reason. reason ≢ NoInodes) }
 {

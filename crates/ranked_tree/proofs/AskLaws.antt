@@ -1,5 +1,5 @@
 -- Why a read is refused, in the words of all ranks, and of a call that ends with the read.
-use Rattle.std.specs.Prelude.{◌≡◌, ◌<◌, ℕ, true, length, List, Result, Ok, Err, IfErr, IfOk}
+use Rattle.std.specs.Prelude.{◌≡◌, ◌<◌, ℕ, true, length, List, None, Result, Ok, Err, IfErr, IfOk}
 use Rattle.std.proofs.Common.{inl, inr, sym, subst, ◌∙◌, arith}
 use Rattle.mds_types.specs.declared.ids.Ino.{Ino}
 use Rattle.mds_types.specs.declared.ids.Rank.{Rank}
@@ -44,17 +44,17 @@ told_for X (Err reason) old roots leaf after rank rules h = go h
     go (inr (inr (is, lacks))) = inr (inr (is, (rank, rules, lacks)))
 
 -- reads before it change nothing of that
-pub told_later : (X : Type 0) (result : Result X Refusal) (a b : Core) (after : ℕ) → KeepsState a b → IfErr result (MayNotFind (LacksPlaces 1 b) b.faults after) → IfErr result (MayNotFind (LacksPlaces 1 a) a.faults after)
+pub told_later : (X : Type 0) (result : Result X Refusal) (a b : Core) (after : ℕ) → KeepsState a b None → IfErr result (MayNotFind (LacksPlaces 1 b) b.faults after) → IfErr result (MayNotFind (LacksPlaces 1 a) a.faults after)
 told_later X (Ok x) a b after kept h = tt
 told_later X (Err reason) a b after kept h = go h
   where
     go : MayNotFind (LacksPlaces 1 b) b.faults after reason → MayNotFind (LacksPlaces 1 a) a.faults after reason
     go (inl memory) = inl memory
-    go (inr (inl (is, rose))) = let grows = kept.grows in inr (inl (is, omega (arith, grows, rose)))
+    go (inr (inl (is, rose))) = let counted = kept.counted in inr (inl (is, omega (arith, counted, rose)))
     go (inr (inr (is, lacks))) = inr (inr (is, lacked_before 1 a b kept lacks))
 
 -- a leaf is live still
-pub live_still : (a b : Core) (leaf : Leaf) → KeepsState a b → IsLive a.state.homes a.state.covers leaf → IsLive b.state.homes b.state.covers leaf
+pub live_still : (a b : Core) (leaf : Leaf) → KeepsState a b None → IsLive a.state.homes a.state.covers leaf → IsLive b.state.homes b.state.covers leaf
 live_still a b leaf kept live = subst (λ (s : TreeState). IsLive s.homes s.covers leaf) (sym kept.state) live
 
 -- a directory of the tree is one of the table, and its leaves are live

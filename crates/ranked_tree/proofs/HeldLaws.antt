@@ -3,6 +3,7 @@ use Rattle.std.specs.Prelude.{◌≡◌, ◌≢◌, ◌<◌, ℕ, true, is_some,
 use Rattle.std.proofs.Common.{◌⊎◌, inl, inr, refl, sym, ap, subst}
 use Rattle.std.specs.Map.{lookup}
 use Rattle.mds_types.specs.declared.ids.Rank.{Rank}
+use Rattle.mds_types.specs.declared.refusals.Refusal.{Refusal}
 use Rattle.dentry_cache.specs.Cache.{leaf_is}
 use Rattle.dentry_cache.specs.declared.cache.Place.{Place}
 use Rattle.inode_table.specs.Dirs.{IsLive}
@@ -55,8 +56,8 @@ pub is_that : (tree : TreeState) (roots : Roots) (leaf : Leaf) (rank : Rank) →
 is_that tree roots leaf rank rules other q that = subst (λ (r : Rank). Rules tree roots q r) (sym that.0) (subst (λ (l : Leaf). Rules tree roots l rank) (sym that.1) rules)
 
 -- a read at the authority of a leaf
-pub owned_read : (old new : Core) (roots : Roots) (leaf : Leaf) (rank : Rank) → Rules old.state roots leaf rank → KeepsState old new → KeepsCaches (IsThat rank leaf) old.ranks new.ranks → IsOwned old roots → IsOwned new roots
-owned_read old new roots leaf rank rules kept caches owned =
+pub owned_read : (old new : Core) (roots : Roots) (leaf : Leaf) (rank : Rank) (told : Option Refusal) → Rules old.state roots leaf rank → KeepsState old new told → KeepsCaches (IsThat rank leaf) old.ranks new.ranks → IsOwned old roots → IsOwned new roots
+owned_read old new roots leaf rank told rules kept caches owned =
     owned_kept (IsThat rank leaf) old new roots (ap (λ (s : TreeState). s.homes) kept.state) (ap (λ (s : TreeState). s.covers) kept.state) caches (λ other q that live. is_that old.state roots leaf rank rules other q that) owned
 
 -- no place came

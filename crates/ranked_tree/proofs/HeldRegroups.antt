@@ -1,6 +1,6 @@
 -- What splits and merges make of the places: each of a live leaf is at the leaf's authority then.
 use Rattle.std.specs.Prelude.{◌≡◌, ◌<◌, ◌==◌, ◌^◌, ℕ, zero, suc, true, false, map as each, length, List, [], ◌∷◌, Result, Ok, Err}
-use Rattle.std.proofs.Common.{◌⊎◌, inl, inr, refl, sym, subst, ◌∙◌, arith}
+use Rattle.std.proofs.Common.{◌⊎◌, None, inl, inr, refl, sym, subst, ◌∙◌, arith}
 use Rattle.std.proofs.lemmas.Bool.{and_from, eq-eqb}
 use Rattle.std.specs.List.{Contains}
 use Rattle.std.specs.Map.{lookup}
@@ -50,7 +50,7 @@ all_live core none live ranks whole rank leaf has = go (live rank leaf has)
     go (inr kept) = let clash : true ≡ false = sym kept ∙ not_kept in absurd cc
 
 -- the places then, where what was kept was given up first
-pub places_come : (Holds : Rank → Type 0) (Come : Leaf → Type 0) (old mid new : Core) (rank : Rank) → Holds rank → KeepsState old mid → KeepsCaches NoneComes old.ranks mid.ranks
+pub places_come : (Holds : Rank → Type 0) (Come : Leaf → Type 0) (old mid new : Core) (rank : Rank) → Holds rank → KeepsState old mid None → KeepsCaches NoneComes old.ranks mid.ranks
     → ((r : Rank) (q : Leaf) → has_place mid.ranks r q ≡ true → IsLive mid.state.homes mid.state.covers q) → KeepsCaches (λ (other : Rank) (q : Leaf). (other ≡ rank) × Come q) mid.ranks new.ranks
     → PlacesCome Holds Come old.state old.ranks new.ranks
 places_come Holds Come old mid new rank holds kept gave live caches r q has = go (caches.places r q has)
@@ -81,7 +81,7 @@ regroup_on Can Refuses s dir count NoPlace Fewer before was after reason less sa
 regroup_on Can Refuses s dir count NoPlace Fewer before was after reason less same (inr (inr (known, can, inr (has, inr (inl (is, rose)))))) = inr (inr (known, can, inr (has, inr (inl (is, subst (λ (n : ℕ). n < after) same rose)))))
 regroup_on Can Refuses s dir count NoPlace Fewer before was after reason less same (inr (inr (known, can, inr (has, inr (inr (is, lacks)))))) = inr (inr (known, can, inr (has, inr (inr (is, less lacks)))))
 
-pub split_on : (NoPlace Fewer : Type 0) (old mid new : Core) (dir : Ino) (frag : Fragment) (nb : ℕ) (result : Result (Unit {0}) Refusal) → (NoPlace → Fewer) → KeepsState old mid → mid.faults ≡ old.faults → KeepsNone mid.cache.entries
+pub split_on : (NoPlace Fewer : Type 0) (old mid new : Core) (dir : Ino) (frag : Fragment) (nb : ℕ) (result : Result (Unit {0}) Refusal) → (NoPlace → Fewer) → KeepsState old mid None → mid.faults ≡ old.faults → KeepsNone mid.cache.entries
     → SplitsLeaf NoPlace mid new dir frag nb result → SplitsLeaf Fewer old new dir frag nb result
 split_on NoPlace Fewer old mid new dir frag nb (Ok done) less kept faults none split = subst (λ (s : TreeState). IsSplitInto s new.state dir frag nb × KeepsTree s new.state dir (frag ∷ [])) kept.state split
 split_on NoPlace Fewer old mid new dir frag nb (Err reason) less kept faults none (because, undone) = (
@@ -90,7 +90,7 @@ split_on NoPlace Fewer old mid new dir frag nb (Err reason) less kept faults non
   undone_on old mid new kept.state none undone,
 )
 
-pub merge_on : (NoPlace Fewer : Type 0) (old mid new : Core) (dir : Ino) (frag : Fragment) (result : Result (Unit {0}) Refusal) → (NoPlace → Fewer) → KeepsState old mid → mid.faults ≡ old.faults → KeepsNone mid.cache.entries
+pub merge_on : (NoPlace Fewer : Type 0) (old mid new : Core) (dir : Ino) (frag : Fragment) (result : Result (Unit {0}) Refusal) → (NoPlace → Fewer) → KeepsState old mid None → mid.faults ≡ old.faults → KeepsNone mid.cache.entries
     → MergesLeaves NoPlace mid new dir frag result → MergesLeaves Fewer old new dir frag result
 merge_on NoPlace Fewer old mid new dir frag (Ok done) less kept faults none merged =
     subst (λ (s : TreeState). IsMergedInto s new.state dir frag × KeepsTree s new.state dir (leaves_inside frag (leaves_of s.covers dir.0))) kept.state merged

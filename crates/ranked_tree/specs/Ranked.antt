@@ -1,6 +1,7 @@
 -- The tree with its subtrees as contracts see it, what reads keep of it, and what is ready for a change.
-use Rattle.std.specs.Prelude.{◌≡◌}
+use Rattle.std.specs.Prelude.{◌≡◌, Option}
 use Rattle.std.specs.FinMap as map
+use Rattle.mds_types.specs.declared.refusals.Refusal.{Refusal}
 use Rattle.namespace_ops.specs.declared.plans.Change.{Change}
 use Rattle.subtree_map.specs.Authority.{Roots}
 use Rattle.subtree_map.specs.Changes.{Subtrees}
@@ -16,9 +17,10 @@ pub record Ranked : Type 0 where
   pub tree : Core
   pub subtrees : Subtrees
 
--- reads and refusals keep the state, the number of ranks and places and the roots; the store's faults only rise
-pub record KeepsRanked (old new : Ranked) : Type 0 where
-  pub tree : KeepsState old.tree new.tree
+-- reads and refusals keep the state, the number of ranks and places and the roots; the store's count of faults rises by one
+-- where a fault is told, and not otherwise
+pub record KeepsRanked (old new : Ranked) (told : Option Refusal) : Type 0 where
+  pub tree : KeepsState old.tree new.tree told
   pub roots : new.subtrees.roots ≡ old.subtrees.roots
 
 -- the tree is ready for a change in the caches of the ranks that hold its leaves

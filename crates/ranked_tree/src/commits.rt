@@ -1,5 +1,7 @@
 //! Commits, objects and places: none of it changes what leaves there are, nor whose.
-ghost use Rattle.std.specs.Prelude.{◌≡◌, ◌<◌, ◌≤◌, None, OnOk, OnErr, IfErr, length};
+ghost use Rattle.std.specs.Prelude.{◌≡◌, ◌+◌, ◌<◌, None, OnOk, OnErr, IfErr, length};
+ghost use Rattle.objstore.specs.Objects.{faults_told};
+ghost use Rattle.std.specs.Result.{result_err};
 ghost use Rattle.mds_types.specs.declared.refusals.Refusal.TheVariants.{NothingToEvict};
 ghost use Rattle.dentry_cache.specs.Cache.{Evicts, NoneGoes};
 ghost use Rattle.dentry_cache.specs.Caches.{cache_of, with_cache};
@@ -35,7 +37,7 @@ impl<S: Store + Drop> RankedTree<S> {
         ensures roots { self.new.subtrees ≡ self.old.subtrees }
         ensures count { length self.new.tree.ranks ≡ length self.old.tree.ranks }
         ensures cap { self.new.tree.cache.cap ≡ self.old.tree.cache.cap }
-        ensures grows { self.old.tree.faults ≤ self.new.tree.faults }
+        ensures counted { self.new.tree.faults ≡ self.old.tree.faults + faults_told (result_err result) }
     {
         end(alloc, &mut self.tree, &self.roots, encoded)
     }
@@ -59,7 +61,7 @@ impl<S: Store + Drop> RankedTree<S> {
         ensures roots { self.new.subtrees ≡ self.old.subtrees }
         ensures count { length self.new.tree.ranks ≡ length self.old.tree.ranks }
         ensures cap { self.new.tree.cache.cap ≡ self.old.tree.cache.cap }
-        ensures grows { self.old.tree.faults ≤ self.new.tree.faults }
+        ensures counted { self.new.tree.faults ≡ self.old.tree.faults + faults_told (result_err result) }
     {
         self.tree.commit_tree(alloc, dir)
     }
@@ -71,7 +73,7 @@ impl<S: Store + Drop> RankedTree<S> {
         ensures roots { self.new.subtrees ≡ self.old.subtrees }
         ensures count { length self.new.tree.ranks ≡ length self.old.tree.ranks }
         ensures cap { self.new.tree.cache.cap ≡ self.old.tree.cache.cap }
-        ensures grows { self.old.tree.faults ≤ self.new.tree.faults }
+        ensures counted { self.new.tree.faults ≡ self.old.tree.faults + faults_told (result_err result) }
     {
         self.tree.purge()
     }
@@ -81,7 +83,7 @@ impl<S: Store + Drop> RankedTree<S> {
         requires there { rank.0 < length self.old.tree.ranks }
         ensures evicted { OnOk result (Evicts None (cache_of self.old.tree.ranks rank) (cache_of self.new.tree.ranks rank)) }
         ensures others { self.new.tree.ranks ≡ with_cache self.old.tree.ranks rank (cache_of self.new.tree.ranks rank) }
-        ensures kept { KeepsState self.old.tree self.new.tree }
+        ensures kept { KeepsState self.old.tree self.new.tree (result_err result) }
         ensures roots { self.new.subtrees ≡ self.old.subtrees }
         ensures faults { self.new.tree.faults ≡ self.old.tree.faults }
         ensures refused { IfErr result (λ reason. reason ≡ NothingToEvict) }
@@ -124,7 +126,7 @@ fn end<S: Store + Drop>(
     ensures ended { Ends tree.old.state tree.new.state tree.old.faults tree.new.faults encoded.now.job result }
     ensures count { length tree.new.ranks ≡ length tree.old.ranks }
     ensures cap { tree.new.cache.cap ≡ tree.old.cache.cap }
-    ensures grows { tree.old.faults ≤ tree.new.faults }
+    ensures counted { tree.new.faults ≡ tree.old.faults + faults_told (result_err result) }
     ensures owned { IsOwned tree.new roots.now.roots }
 {
     // The contract of `dirs` is what says here that the state is sound.

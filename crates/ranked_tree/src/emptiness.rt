@@ -1,5 +1,6 @@
 //! Whether nothing is in a directory: each of its leaves is asked at the rank that holds it.
 ghost use Rattle.std.specs.Prelude.{◌≡◌, true, not, IfOk, IfErr};
+ghost use Rattle.std.specs.Result.{result_err};
 ghost use Rattle.std.specs.List.{list_all};
 ghost use Rattle.mds_types.specs.Frag.{Fragment};
 ghost use Rattle.mds_types.specs.Tree.{has_entries, is_directory};
@@ -32,7 +33,7 @@ pub(crate) fn is_dir_empty<S: Store + Drop>(
     requires known { is_directory (shown_tree tree.old.state) dir.0 ≡ true }
     requires owned { IsOwned tree.old roots.now.roots }
     ensures found { IfOk result (λ empty. empty ≡ not (has_entries (shown_tree tree.old.state) dir.0)) }
-    ensures kept { KeepsState tree.old tree.new }
+    ensures kept { KeepsState tree.old tree.new (result_err result) }
     ensures owned { IsOwned tree.new roots.now.roots }
     ensures refused { IfErr result (MayNotFind (LacksPlaces 1 tree.old) tree.old.faults tree.new.faults) }
 {
@@ -53,7 +54,7 @@ fn are_empty<S: Store + Drop>(
     requires live { (f : Fragment) → HasLeaf leaves.now f → IsLive tree.old.state.homes tree.old.state.covers (dir, f) }
     requires owned { IsOwned tree.old roots.now.roots }
     ensures found { IfOk result (λ empty. empty ≡ list_all (λ f. has_none (names_of tree.old.state.unsaved tree.old.state.objects (dir, f))) leaves.now) }
-    ensures kept { KeepsState tree.old tree.new }
+    ensures kept { KeepsState tree.old tree.new (result_err result) }
     ensures owned { IsOwned tree.new roots.now.roots }
     ensures refused { IfErr result (MayNotFind (LacksPlaces 1 tree.old) tree.old.faults tree.new.faults) }
 {
@@ -78,7 +79,7 @@ fn is_leaf_empty<S: Store + Drop>(
     requires live { IsLive tree.old.state.homes tree.old.state.covers (dir, frag) }
     requires owned { IsOwned tree.old roots.now.roots }
     ensures found { IfOk result (λ empty. empty ≡ has_none (names_of tree.old.state.unsaved tree.old.state.objects (dir, frag))) }
-    ensures kept { KeepsState tree.old tree.new }
+    ensures kept { KeepsState tree.old tree.new (result_err result) }
     ensures owned { IsOwned tree.new roots.now.roots }
     ensures refused { IfErr result (MayNotFind (LacksPlacesFor 1 tree.old roots.now.roots (dir, frag)) tree.old.faults tree.new.faults) }
 {

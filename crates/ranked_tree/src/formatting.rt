@@ -1,6 +1,7 @@
 //! A tree over a store that has no object, with its one subtree root.
-ghost use Rattle.std.specs.Prelude.{◌≡◌, ◌<◌, ◌≤◌, OnOk, IfOk, IfErr};
+ghost use Rattle.std.specs.Prelude.{◌≡◌, ◌+◌, ◌<◌, ◌≤◌, OnOk, IfOk, IfErr};
 ghost use Rattle.std.specs.FinMap as map;
+ghost use Rattle.objstore.specs.Objects.{faults_in};
 ghost use Rattle.dentry_cache.specs.Caches.{all_of};
 ghost use Rattle.mdcache.specs.New.{MayNotFormat, new_caches, new_state};
 ghost use Rattle.ranked_tree.specs.Ranked.{new_roots};
@@ -31,6 +32,8 @@ impl<S: Store + Drop> RankedTree<S> {
         ensures cache { IfOk result (λ t. t.tree.cache ≡ all_of (new_caches ranks places)) }
         ensures refused { IfErr result (λ back. MayNotFormat (S.objects store) (S.faults store) (S.faults back.1) back.0) }
         ensures left { IfErr result (λ back. S.objects back.1 ≡ S.objects store) }
+        ensures faults { IfOk result (λ t. t.tree.faults ≡ S.faults store) }
+        ensures counted { IfErr result (λ back. S.faults back.1 ≡ S.faults store + faults_in back.0) }
     {
         match first_roots(alloc) {
             Err(_) => Err((Refusal::NoMemory, store)),

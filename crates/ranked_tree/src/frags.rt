@@ -1,6 +1,7 @@
 //! Operations run over the tree that is shown: each leaf is asked, and made ready, at the rank that holds it. What a change needs
 //! of the roots is made ready with it.
 ghost use Rattle.std.specs.Prelude.{◌≡◌, true, IfOk, IfErr, OnOk};
+ghost use Rattle.std.specs.Result.{result_err};
 ghost use Rattle.std.specs.FinMap as map;
 ghost use Rattle.mds_types.specs.Tree.{is_directory};
 ghost use Rattle.fragtree.specs.FragTree.{IsPick};
@@ -33,7 +34,8 @@ impl<S: Store + Drop> Frags for RankedTree<S> {
     ghost use Rattle.std.proofs.Common.{◌∙◌};
     ghost use Rattle.dirfrag_codec.specs.EntryRecord.{IsRankNumber};
     ghost use Rattle.mdcache.specs.Frags.{MayRefuse as MayRefuseIn};
-    ghost use Rattle.mdcache.proofs.FragsLaws.{keeps_itself, keeps_on, refused_later, refused_so, untouched_by, untouched_on};
+    ghost use Rattle.mdcache.proofs.FragsLaws.{keeps_itself, keeps_on, keeps_refused, refused_later, refused_so, untouched_by, untouched_on};
+    ghost use Rattle.mds_types.specs.declared.refusals.Refusal.TheVariants.{NoInodes, NoMemory};
     ghost use Rattle.mdcache.specs.Made.{IsUntouched};
     ghost use Rattle.mdcache.specs.Shown.{shown_tree};
     ghost use Rattle.ranked_tree.specs.Ranked.{IsReady as IsRankedReady, KeepsRanked};
@@ -46,7 +48,7 @@ impl<S: Store + Drop> Frags for RankedTree<S> {
 
     ghost IsReady = { λ t change. IsRankedReady t change };
 
-    ghost Follows = { λ a b. KeepsRanked a b };
+    ghost Follows = { λ a b told. KeepsRanked a b told };
 
     ghost Unchanged = { λ a b leaf. IsUntouched a.tree.state b.tree.state leaf };
 
@@ -54,9 +56,13 @@ impl<S: Store + Drop> Frags for RankedTree<S> {
 
     ghost follows_self = { λ a. record { tree = keeps_itself a.tree; roots = refl } };
 
-    ghost follows_on = { λ a b c p q. record { tree = keeps_on a.tree b.tree c.tree p.tree q.tree; roots = q.roots ∙ p.roots } };
+    ghost follows_on = { λ a b c told p q. record { tree = keeps_on a.tree b.tree c.tree told p.tree q.tree; roots = q.roots ∙ p.roots } };
 
-    ghost unchanged_by = { λ a b leaf kept. untouched_by a.tree b.tree leaf kept.tree };
+    ghost follows_memory = { λ a b p. record { tree = keeps_refused a.tree b.tree NoMemory refl p.tree; roots = p.roots } };
+
+    ghost follows_number = { λ a b p. record { tree = keeps_refused a.tree b.tree NoInodes refl p.tree; roots = p.roots } };
+
+    ghost unchanged_by = { λ a b leaf told kept. untouched_by a.tree b.tree leaf told kept.tree };
 
     ghost unchanged_on = { λ a b c leaf p q. untouched_on a.tree b.tree c.tree leaf p q };
 
@@ -123,7 +129,7 @@ fn look<S: Store + Drop>(
     requires leaf { IsPick (leaves_of tree.old.state.covers dentry.now.dir.0) (hash_of dentry.now.name) leaf }
     requires owned { IsOwned tree.old roots.now.roots }
     ensures found { IfOk result (λ found. found ≡ map.get (shown_tree tree.old.state) dentry.now) }
-    ensures kept { KeepsState tree.old tree.new }
+    ensures kept { KeepsState tree.old tree.new (result_err result) }
     ensures owned { IsOwned tree.new roots.now.roots }
     ensures refused { IfErr result (MayNotFind (LacksPlacesFor 1 tree.old roots.now.roots (dentry.now.dir, leaf)) tree.old.faults tree.new.faults) }
 {
@@ -144,7 +150,7 @@ fn prepare<S: Store + Drop>(
     requires numbered { IsNumbered IsRankNumber change.now }
     requires owned { IsOwned tree.old roots.now.roots }
     ensures ready { OnOk result (IsReadyHeld tree.new roots.now.roots change.now) }
-    ensures kept { KeepsState tree.old tree.new }
+    ensures kept { KeepsState tree.old tree.new (result_err result) }
     ensures owned { IsOwned tree.new roots.now.roots }
     ensures refused { IfErr result (MayNotBeReady (LacksToMake change.now tree.old.state) (LacksPlaces 4 tree.old) tree.old.faults tree.new.faults) }
 {

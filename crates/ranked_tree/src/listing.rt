@@ -1,5 +1,6 @@
 //! The names of a directory, a page at a time: each of its leaves is asked at the rank that holds it.
 ghost use Rattle.std.specs.Prelude.{◌≡◌, true, List, [], IfOk, IfErr, OnOk, length, nat_lt, take};
+ghost use Rattle.std.specs.Result.{result_err};
 ghost use Rattle.std.specs.Option.{option_copied};
 ghost use Rattle.std.specs.FinMap as map;
 ghost use Rattle.mds_types.specs.Frag.{Fragment};
@@ -42,7 +43,7 @@ pub(crate) fn list_dir<S: Store + Drop>(
     requires owned { IsOwned tree.old roots.now.roots }
     ensures listed { IfOk result (λ page. page.0 ≡ take max (names_after (shown_tree tree.old.state) dir.0 (option_copied after.entry))) }
     ensures more { IfOk result (λ page. page.1 ≡ nat_lt max (length (names_after (shown_tree tree.old.state) dir.0 (option_copied after.entry)))) }
-    ensures kept { KeepsState tree.old tree.new }
+    ensures kept { KeepsState tree.old tree.new (result_err result) }
     ensures owned { IsOwned tree.new roots.now.roots }
     ensures refused { IfErr result (MayNotFind (LacksPlaces 1 tree.old) tree.old.faults tree.new.faults) }
 {
@@ -66,7 +67,7 @@ fn list_leaves<S: Store + Drop>(
     requires owned { IsOwned tree.old roots.now.roots }
     ensures listed { IfOk result (λ page. page.0 ≡ take max (gathered (λ (f : Fragment). names_of tree.old.state.unsaved tree.old.state.objects (dir, f)) (option_copied after.entry) [] leaves.now)) }
     ensures more { IfOk result (λ page. page.1 ≡ nat_lt max (length (gathered (λ (f : Fragment). names_of tree.old.state.unsaved tree.old.state.objects (dir, f)) (option_copied after.entry) [] leaves.now))) }
-    ensures kept { KeepsState tree.old tree.new }
+    ensures kept { KeepsState tree.old tree.new (result_err result) }
     ensures owned { IsOwned tree.new roots.now.roots }
     ensures refused { IfErr result (MayNotFind (LacksPlaces 1 tree.old) tree.old.faults tree.new.faults) }
 {
@@ -91,7 +92,7 @@ fn gather_leaves<S: Store + Drop>(
     requires owned { IsOwned tree.old roots.now.roots }
     ensures page { (whole : List Row) → IsPageOf whole page.old → OnOk result (IsPageOf (gathered (λ (f : Fragment). names_of tree.old.state.unsaved tree.old.state.objects (dir, f)) (option_copied after.entry) whole leaves.now) page.new) }
     ensures most { page.new.most ≡ page.old.most }
-    ensures kept { KeepsState tree.old tree.new }
+    ensures kept { KeepsState tree.old tree.new (result_err result) }
     ensures owned { IsOwned tree.new roots.now.roots }
     ensures refused { IfErr result (MayNotFind (LacksPlaces 1 tree.old) tree.old.faults tree.new.faults) }
 {
@@ -118,7 +119,7 @@ fn gather_leaf<S: Store + Drop>(
     requires owned { IsOwned tree.old roots.now.roots }
     ensures page { (whole : List Row) → IsPageOf whole page.old → OnOk result (IsPageOf (puts key_cmp whole (rows_after (option_copied after.entry) (map.entries (names_of tree.old.state.unsaved tree.old.state.objects (dir, frag))))) page.new) }
     ensures most { page.new.most ≡ page.old.most }
-    ensures kept { KeepsState tree.old tree.new }
+    ensures kept { KeepsState tree.old tree.new (result_err result) }
     ensures owned { IsOwned tree.new roots.now.roots }
     ensures refused { IfErr result (MayNotFind (LacksPlacesFor 1 tree.old roots.now.roots (dir, frag)) tree.old.faults tree.new.faults) }
 {

@@ -24,6 +24,7 @@ impl<S: Store + Drop> RankedTree<S> {
     /// roots are those of the tree, and that a rank caches only leaves that it is the authority of.
     pub fn store(&self) -> &S
         ensures objects { S.objects result.now ≡ self.now.tree.state.objects }
+        ensures faults { S.faults result.now ≡ self.now.tree.faults }
         ensures kept { IsKept self.now.tree.state self.now.tree.cache }
         ensures valid { AreRoots self.now.tree.state self.now.subtrees.roots }
         ensures held { AreHeld self.now.tree.state self.now.tree.ranks self.now.subtrees.roots }

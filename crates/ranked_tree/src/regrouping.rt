@@ -1,5 +1,7 @@
 //! Splits and merges of leaves, with their subtree roots.
 ghost use Rattle.std.specs.Prelude.{◌≡◌, ◌+◌, ◌<◌, ◌≤◌, ◌^◌, true, map as each, OnOk, OnErr, IfErr, length};
+ghost use Rattle.objstore.specs.Objects.{faults_told};
+ghost use Rattle.std.specs.Result.{result_err};
 ghost use Rattle.std.specs.List.{Contains};
 ghost use Rattle.fragtree.specs.FragTree.{CanMerge, FitsSplit, leaves_inside};
 ghost use Rattle.inode_table.specs.Dirs.{IsLive, is_known, leaves_of};
@@ -32,7 +34,7 @@ impl<S: Store + Drop> RankedTree<S> {
         ensures promises { self.new.subtrees.promises ≡ self.old.subtrees.promises }
         ensures count { length self.new.tree.ranks ≡ length self.old.tree.ranks }
         ensures cap { self.new.tree.cache.cap ≡ self.old.tree.cache.cap }
-        ensures grows { self.old.tree.faults ≤ self.new.tree.faults }
+        ensures counted { self.new.tree.faults ≡ self.old.tree.faults + faults_told (result_err result) }
         ensures children { OnOk result (GivesToChildren self.old.tree.state self.new.tree.state self.old.subtrees.roots self.new.subtrees.roots dir frag bits) }
         ensures kept { KeepsRoots self.old.tree.state self.new.tree.state self.old.subtrees.roots self.new.subtrees.roots }
     {
@@ -49,7 +51,7 @@ impl<S: Store + Drop> RankedTree<S> {
         ensures promises { self.new.subtrees.promises ≡ self.old.subtrees.promises }
         ensures count { length self.new.tree.ranks ≡ length self.old.tree.ranks }
         ensures cap { self.new.tree.cache.cap ≡ self.old.tree.cache.cap }
-        ensures grows { self.old.tree.faults ≤ self.new.tree.faults }
+        ensures counted { self.new.tree.faults ≡ self.old.tree.faults + faults_told (result_err result) }
         ensures one { OnOk result (TakesOver self.old.tree.state self.new.tree.state self.old.subtrees.roots self.new.subtrees.roots dir frag) }
         ensures kept { KeepsRoots self.old.tree.state self.new.tree.state self.old.subtrees.roots self.new.subtrees.roots }
     {
@@ -74,7 +76,7 @@ fn split_with_roots<S: Store + Drop>(
     ensures promises { roots.new.promises ≡ roots.old.promises }
     ensures count { length tree.new.ranks ≡ length tree.old.ranks }
     ensures cap { tree.new.cache.cap ≡ tree.old.cache.cap }
-    ensures grows { tree.old.faults ≤ tree.new.faults }
+    ensures counted { tree.new.faults ≡ tree.old.faults + faults_told (result_err result) }
     ensures authority { KeepsAuthorities tree.old.state tree.new.state roots.old.roots roots.new.roots }
     ensures children { OnOk result (GivesToChildren tree.old.state tree.new.state roots.old.roots roots.new.roots dir frag bits) }
     ensures ranks { NoNewRank roots.old.roots roots.new.roots }
@@ -108,7 +110,7 @@ fn merge_with_roots<S: Store + Drop>(
     ensures promises { roots.new.promises ≡ roots.old.promises }
     ensures count { length tree.new.ranks ≡ length tree.old.ranks }
     ensures cap { tree.new.cache.cap ≡ tree.old.cache.cap }
-    ensures grows { tree.old.faults ≤ tree.new.faults }
+    ensures counted { tree.new.faults ≡ tree.old.faults + faults_told (result_err result) }
     ensures authority { KeepsAuthorities tree.old.state tree.new.state roots.old.roots roots.new.roots }
     ensures one { OnOk result (TakesOver tree.old.state tree.new.state roots.old.roots roots.new.roots dir frag) }
     ensures ranks { NoNewRank roots.old.roots roots.new.roots }
@@ -139,7 +141,7 @@ fn split_held<S: Store + Drop>(
     ensures split { SplitsLeaf (LacksPlacesFor (2 ^ bits + 1) tree.old roots.now.roots (dir, frag)) tree.old tree.new dir frag bits result }
     ensures count { length tree.new.ranks ≡ length tree.old.ranks }
     ensures cap { tree.new.cache.cap ≡ tree.old.cache.cap }
-    ensures grows { tree.old.faults ≤ tree.new.faults }
+    ensures counted { tree.new.faults ≡ tree.old.faults + faults_told (result_err result) }
     ensures places { PlacesCome (Rules tree.old.state roots.now.roots (dir, frag)) (IsFamily dir frag bits) tree.old.state tree.old.ranks tree.new.ranks }
 {
     tree.unready();
@@ -164,7 +166,7 @@ fn merge_held<S: Store + Drop>(
     ensures merged { MergesLeaves (LacksPlacesInside 1 tree.old roots.now.roots dir frag) tree.old tree.new dir frag result }
     ensures count { length tree.new.ranks ≡ length tree.old.ranks }
     ensures cap { tree.new.cache.cap ≡ tree.old.cache.cap }
-    ensures grows { tree.old.faults ≤ tree.new.faults }
+    ensures counted { tree.new.faults ≡ tree.old.faults + faults_told (result_err result) }
     ensures places { PlacesCome (AllHave tree.old.state.homes tree.old.state.covers roots.now.roots dir frag) (IsMergedHere tree.old.state.covers dir frag) tree.old.state tree.old.ranks tree.new.ranks }
 {
     tree.unready();

@@ -1,8 +1,9 @@
 //! Commits of fragments in the cache of one rank, and what they make of the places of all.
-ghost use Rattle.std.specs.Prelude.{◌≡◌, ◌≤◌, false, OnOk, OnErr, IfOk, IfErr};
+ghost use Rattle.std.specs.Prelude.{◌≡◌, ◌+◌, false, OnOk, OnErr, IfOk, IfErr};
+ghost use Rattle.std.specs.Result.{result_err};
 ghost use Rattle.std.specs.FinMap as map;
 ghost use Rattle.mds_types.specs.declared.refusals.Refusal.TheVariants.{NoMemory};
-ghost use Rattle.objstore.specs.Objects.{MayRefuse, written};
+ghost use Rattle.objstore.specs.Objects.{MayRefuse, written, faults_told};
 ghost use Rattle.commit_jobs.specs.Snap.{IsBelowEnd, IsSnap};
 ghost use Rattle.cached_frag.specs.Cached.{Cached, is_clean, snapshot_of};
 ghost use Rattle.dentry_cache.specs.Cache.{HasCached, IsChanged, IsThere, cached};
@@ -65,7 +66,7 @@ pub fn end_at<S: Store>(
     ensures kept { OnErr result (IsChanged (cached (first_of rank caches.old).entries (encoded.now.job.ino, encoded.now.job.frag)) (λ (f now : Cached). now ≡ record f { places = now.places }) (encoded.now.job.ino, encoded.now.job.frag) (first_of rank caches.old) (first_of rank caches.new)) }
     ensures caches { KeepsCaches NoneComes caches.old caches.new }
     ensures refused { IfErr result (MayRefuse (S.faults store.old) (S.faults store.new)) }
-    ensures grows { S.faults store.old ≤ S.faults store.new }
+    ensures counted { S.faults store.new ≡ S.faults store.old + faults_told (result_err result) }
 {
     caches.of_mut(rank).end_commit(alloc, store, encoded)
 }

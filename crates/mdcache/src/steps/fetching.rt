@@ -1,7 +1,7 @@
 //! Leaves come into the cache.
 ghost use Rattle.std.specs.Result.{result_err};
 ghost use Rattle.objstore.specs.Objects.{faults_told};
-ghost use Rattle.std.specs.Prelude.{◌≡◌, ◌+◌, ◌≤◌, false, None, IfOk, OnOk, IfErr};
+ghost use Rattle.std.specs.Prelude.{◌≡◌, ◌+◌, false, None, IfOk, OnOk, IfErr};
 ghost use Rattle.std.specs.FinMap as map;
 ghost use Rattle.std.specs.Map.{lookup};
 ghost use Rattle.objstore.specs.Objects.{Objects};
@@ -80,7 +80,7 @@ pub(crate) fn look_in<S: Store>(
     ensures reads { Reads (λ (q : Leaf). q ≡ (dir, frag)) (S.objects store.old) cache.old cache.new }
     ensures refused { IfErr result (MayNotRead (S.faults store.old) (S.faults store.new) cache.old) }
     ensures same { S.objects store.new ≡ S.objects store.old }
-    ensures grows { S.faults store.old ≤ S.faults store.new }
+    ensures counted { S.faults store.new ≡ S.faults store.old + faults_told (result_err result) }
 {
     if let Err(refusal) = fetch_leaf(alloc, cache, store, dir, frag) {
         return Err(refusal);

@@ -1,6 +1,8 @@
 //! What a merge needs is prepared: the leaves after it, names of objects, and the fragment that joins the leaves' names with
 //! its place.
-ghost use Rattle.std.specs.Prelude.{◌≡◌, ◌⊎◌, ◌++◌, ◌∷◌, [], ◌≤◌, ◌<◌, true, None, Some, length, map as each, string_bytes, List, ℕ, OnOk, OnErr, IfOk, IfErr};
+ghost use Rattle.std.specs.Prelude.{◌≡◌, ◌+◌, ◌⊎◌, ◌++◌, ◌∷◌, [], ◌≤◌, ◌<◌, true, None, Some, length, map as each, string_bytes, List, ℕ, OnOk, OnErr, IfOk, IfErr};
+ghost use Rattle.objstore.specs.Objects.{faults_told};
+ghost use Rattle.std.specs.Result.{result_err};
 ghost use Rattle.std.specs.FinMap as map;
 ghost use Rattle.std.specs.List.{Contains};
 ghost use Rattle.std.specs.Map.{lookup};
@@ -82,7 +84,7 @@ pub fn prepare_merge<S: Store>(
     ensures caches { KeepsCaches (λ other q. (other ≡ rank) × (Contains (each (in_directory dir.0) (leaves_inside frag (leaves_of dirs.old.trees dir.0))) q ⊎ ((dir, frag) ≡ q))) caches.old caches.new }
     ensures refused { IfErr result (MayNotRead (S.faults store.old) (S.faults store.new) (cache_of caches.old rank)) }
     ensures same { S.objects store.new ≡ S.objects store.old }
-    ensures grows { S.faults store.old ≤ S.faults store.new }
+    ensures counted { S.faults store.new ≡ S.faults store.old + faults_told (result_err result) }
 {
     match plan_merge(alloc, dirs, purge, dir, frag) {
         Err(refusal) => Err(refusal),
@@ -291,7 +293,7 @@ pub(crate) fn join_names<S: Store>(
     ensures cap { cache.new.cap ≡ cache.old.cap }
     ensures refused { IfErr result (MayNotRead (S.faults store.old) (S.faults store.new) cache.old) }
     ensures same { S.objects store.new ≡ S.objects store.old }
-    ensures grows { S.faults store.old ≤ S.faults store.new }
+    ensures counted { S.faults store.new ≡ S.faults store.old + faults_told (result_err result) }
 {
     let mut joined = CachedFrag::fresh(alloc, generation);
     if let Err(refusal) = join_leaves(alloc, cache, store, dir, leaves, &mut joined, version) {
@@ -335,7 +337,7 @@ fn join_leaves<S: Store>(
     ensures none { KeepsNoMore cache.old cache.new }
     ensures refused { IfErr result (MayNotRead (S.faults store.old) (S.faults store.new) cache.old) }
     ensures same { S.objects store.new ≡ S.objects store.old }
-    ensures grows { S.faults store.old ≤ S.faults store.new }
+    ensures counted { S.faults store.new ≡ S.faults store.old + faults_told (result_err result) }
 {
     for part in leaves {
         match join_leaf(alloc, cache, store, dir, part.frag, joined, version) {
@@ -363,7 +365,7 @@ fn join_leaf<S: Store>(
     ensures none { KeepsNoMore cache.old cache.new }
     ensures refused { IfErr result (MayNotRead (S.faults store.old) (S.faults store.new) cache.old) }
     ensures same { S.objects store.new ≡ S.objects store.old }
-    ensures grows { S.faults store.old ≤ S.faults store.new }
+    ensures counted { S.faults store.new ≡ S.faults store.old + faults_told (result_err result) }
 {
     if let Err(refusal) = fetch_leaf(alloc, cache, store, dir, frag) {
         return Err(refusal);

@@ -1,5 +1,7 @@
 //! Leaves made ready for changes, in the caches of their ranks, and what that leaves of the caches of all.
-ghost use Rattle.std.specs.Prelude.{◌≡◌, ◌≢◌, ◌⊎◌, ◌<◌, ◌≤◌, true, None, OnOk, OnErr, IfErr};
+ghost use Rattle.std.specs.Prelude.{◌≡◌, ◌+◌, ◌≢◌, ◌⊎◌, ◌<◌, ◌≤◌, true, None, OnOk, OnErr, IfErr};
+ghost use Rattle.objstore.specs.Objects.{faults_told};
+ghost use Rattle.std.specs.Result.{result_err};
 ghost use Rattle.std.specs.FinMap as map;
 ghost use Rattle.std.specs.Map.{lookup};
 ghost use Rattle.cached_frag.specs.Cached.{Cached};
@@ -44,7 +46,7 @@ pub fn ready_at<S: Store>(
     ensures beside { (other : Rank) → other ≢ rank → cache_of caches.new other ≡ cache_of caches.old other }
     ensures refused { IfErr result (MayNotRead (S.faults store.old) (S.faults store.new) (cache_of caches.old rank)) }
     ensures same { S.objects store.new ≡ S.objects store.old }
-    ensures grows { S.faults store.old ≤ S.faults store.new }
+    ensures counted { S.faults store.new ≡ S.faults store.old + faults_told (result_err result) }
 {
     ready_leaf(alloc, caches.of_mut(rank), store, dir, frag, changes)
 }
@@ -76,7 +78,7 @@ pub fn ready_first_at<S: Store>(
     ensures none { OnErr result (KeepsNoMore (all_of caches.old) (all_of caches.new)) }
     ensures refused { IfErr result (MayNotFind (FixesAllBut 2 (cache_of caches.old rank)) (S.faults store.old) (S.faults store.new)) }
     ensures same { S.objects store.new ≡ S.objects store.old }
-    ensures grows { S.faults store.old ≤ S.faults store.new }
+    ensures counted { S.faults store.new ≡ S.faults store.old + faults_told (result_err result) }
 {
     ready_first(alloc, caches.of_mut(rank), store, dir, frag, new)
 }
@@ -107,7 +109,7 @@ pub fn ready_pair_at<S: Store>(
     ensures kept { KeepsNoMore (all_of caches.old) (all_of caches.new) }
     ensures refused { IfErr result (MayNotFind (FixesAllBut 2 (cache_of caches.old at.first) ⊎ FixesAllBut 2 (cache_of caches.old at.second)) (S.faults store.old) (S.faults store.new)) }
     ensures same { S.objects store.new ≡ S.objects store.old }
-    ensures grows { S.faults store.old ≤ S.faults store.new }
+    ensures counted { S.faults store.new ≡ S.faults store.old + faults_told (result_err result) }
 {
     if at.first == at.second {
         ready_both(alloc, caches, store, at.first, from, source, to, target)
@@ -138,7 +140,7 @@ fn ready_both<S: Store>(
     ensures kept { KeepsNoMore (all_of caches.old) (all_of caches.new) }
     ensures refused { IfErr result (MayNotFind (FixesAllBut 2 (cache_of caches.old rank)) (S.faults store.old) (S.faults store.new)) }
     ensures same { S.objects store.new ≡ S.objects store.old }
-    ensures grows { S.faults store.old ≤ S.faults store.new }
+    ensures counted { S.faults store.new ≡ S.faults store.old + faults_told (result_err result) }
 {
     ready_pair(alloc, caches.of_mut(rank), store, from, source, to, target)
 }
@@ -167,7 +169,7 @@ fn ready_apart<S: Store>(
     ensures kept { KeepsNoMore (all_of caches.old) (all_of caches.new) }
     ensures refused { IfErr result (MayNotFind (FixesAllBut 2 (cache_of caches.old at.first) ⊎ FixesAllBut 2 (cache_of caches.old at.second)) (S.faults store.old) (S.faults store.new)) }
     ensures same { S.objects store.new ≡ S.objects store.old }
-    ensures grows { S.faults store.old ≤ S.faults store.new }
+    ensures counted { S.faults store.new ≡ S.faults store.old + faults_told (result_err result) }
 {
     if let Err(refusal) = ready_at(alloc, caches, store, at.first, from, source, 2) {
         return Err(refusal);

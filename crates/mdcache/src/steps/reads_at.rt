@@ -1,7 +1,8 @@
 //! Reads in the cache of one rank, and what they leave of the caches of all.
-ghost use Rattle.std.specs.Prelude.{◌≡◌, ◌≤◌, ◌<◌, None, Some, IfOk, OnOk, IfErr, length};
+ghost use Rattle.std.specs.Prelude.{◌≡◌, ◌+◌, ◌<◌, None, Some, IfOk, OnOk, IfErr, length};
+ghost use Rattle.std.specs.Result.{result_err};
 ghost use Rattle.std.specs.FinMap as map;
-ghost use Rattle.objstore.specs.Objects.{Objects};
+ghost use Rattle.objstore.specs.Objects.{Objects, faults_told};
 ghost use Rattle.cached_frag.specs.Cached.{Cached, shown};
 ghost use Rattle.dentry_cache.specs.Loading.{object_of};
 ghost use Rattle.dentry_cache.specs.Cache.{HasCached, IsThere, Leaf, cached, unsaved};
@@ -93,7 +94,7 @@ pub fn look_at<S: Store>(
     ensures at { ReadsAt (IsThat rank (dir, frag)) (λ (q : Leaf). q ≡ (dir, frag)) (S.objects store.old) caches.old caches.new }
     ensures refused { IfErr result (MayNotRead (S.faults store.old) (S.faults store.new) (cache_of caches.old rank)) }
     ensures same { S.objects store.new ≡ S.objects store.old }
-    ensures grows { S.faults store.old ≤ S.faults store.new }
+    ensures counted { S.faults store.new ≡ S.faults store.old + faults_told (result_err result) }
 {
     look_in(alloc, caches.of_mut(rank), store, dir, frag, name)
 }
@@ -118,7 +119,7 @@ pub fn fetch_at<S: Store>(
     ensures at { ReadsAt (IsThat rank (dir, frag)) (λ (q : Leaf). q ≡ (dir, frag)) (S.objects store.old) caches.old caches.new }
     ensures refused { IfErr result (MayNotRead (S.faults store.old) (S.faults store.new) (cache_of caches.old rank)) }
     ensures same { S.objects store.new ≡ S.objects store.old }
-    ensures grows { S.faults store.old ≤ S.faults store.new }
+    ensures counted { S.faults store.new ≡ S.faults store.old + faults_told (result_err result) }
 {
     fetch_leaf(alloc, caches.of_mut(rank), store, dir, frag)
 }

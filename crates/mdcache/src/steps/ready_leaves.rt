@@ -1,5 +1,7 @@
 //! Leaves of the cache, made ready for changes of their names, and places kept for those that will come.
-ghost use Rattle.std.specs.Prelude.{◌≡◌, ◌⊎◌, ◌<◌, ◌≤◌, true, None, Some, OnOk, OnErr, IfErr};
+ghost use Rattle.std.specs.Prelude.{◌≡◌, ◌+◌, ◌⊎◌, ◌<◌, ◌≤◌, true, None, Some, OnOk, OnErr, IfErr};
+ghost use Rattle.objstore.specs.Objects.{faults_told};
+ghost use Rattle.std.specs.Result.{result_err};
 ghost use Rattle.std.specs.FinMap as map;
 ghost use Rattle.std.specs.Map.{lookup};
 ghost use Rattle.mds_types.specs.declared.refusals.Refusal.TheVariants.{NoMemory, NothingToEvict};
@@ -37,7 +39,7 @@ pub(crate) fn ready_leaf<S: Store>(
     ensures fixes { FixesNoMore cache.old cache.new }
     ensures refused { IfErr result (MayNotRead (S.faults store.old) (S.faults store.new) cache.old) }
     ensures same { S.objects store.new ≡ S.objects store.old }
-    ensures grows { S.faults store.old ≤ S.faults store.new }
+    ensures counted { S.faults store.new ≡ S.faults store.old + faults_told (result_err result) }
 {
     if let Err(refusal) = fetch_leaf(alloc, cache, store, dir, frag) {
         return Err(refusal);
@@ -72,7 +74,7 @@ pub(crate) fn ready_first<S: Store>(
     ensures none { OnErr result (KeepsNoMore cache.old cache.new) }
     ensures refused { IfErr result (MayNotFind (FixesAllBut 2 cache.old) (S.faults store.old) (S.faults store.new)) }
     ensures same { S.objects store.new ≡ S.objects store.old }
-    ensures grows { S.faults store.old ≤ S.faults store.new }
+    ensures counted { S.faults store.new ≡ S.faults store.old + faults_told (result_err result) }
 {
     if let Err(refusal) = ready_leaf(alloc, cache, store, dir, frag, 1) {
         return Err(refusal);

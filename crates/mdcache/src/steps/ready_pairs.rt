@@ -1,5 +1,7 @@
 //! Two leaves of the cache, made ready for one change: the first stays where it is while the second comes.
-ghost use Rattle.std.specs.Prelude.{◌≡◌, ◌⊎◌, ◌<◌, ◌≤◌, None, Some, OnOk, IfErr};
+ghost use Rattle.std.specs.Prelude.{◌≡◌, ◌+◌, ◌⊎◌, ◌<◌, None, Some, OnOk, IfErr};
+ghost use Rattle.objstore.specs.Objects.{faults_told};
+ghost use Rattle.std.specs.Result.{result_err};
 ghost use Rattle.std.specs.FinMap as map;
 ghost use Rattle.cached_frag.specs.Cached.{Cached};
 ghost use Rattle.dentry_cache.specs.Loading.{object_of};
@@ -36,7 +38,7 @@ pub(crate) fn ready_pair<S: Store>(
     ensures fixes { FixesNoMore cache.old cache.new }
     ensures refused { IfErr result (MayNotFind (FixesAllBut 2 cache.old) (S.faults store.old) (S.faults store.new)) }
     ensures same { S.objects store.new ≡ S.objects store.old }
-    ensures grows { S.faults store.old ≤ S.faults store.new }
+    ensures counted { S.faults store.new ≡ S.faults store.old + faults_told (result_err result) }
 {
     if let Err(refusal) = ready_leaf(alloc, cache, store, from, source, 2) {
         return Err(refusal);
@@ -62,7 +64,7 @@ fn ready_beside<S: Store>(
     ensures fixes { FixesNoMore cache.old cache.new }
     ensures refused { IfErr result (MayNotFind (FixesAllBut 2 cache.old) (S.faults store.old) (S.faults store.new)) }
     ensures same { S.objects store.new ≡ S.objects store.old }
-    ensures grows { S.faults store.old ≤ S.faults store.new }
+    ensures counted { S.faults store.new ≡ S.faults store.old + faults_told (result_err result) }
 {
     if let Err(refusal) = fetch_beside(alloc, cache, store, dir, frag, first, leaf) {
         return Err(refusal);
@@ -91,7 +93,7 @@ fn fetch_beside<S: Store>(
     ensures fixes { FixesNoMore cache.old cache.new }
     ensures refused { IfErr result (MayNotFind (FixesAllBut 2 cache.old) (S.faults store.old) (S.faults store.new)) }
     ensures same { S.objects store.new ≡ S.objects store.old }
-    ensures grows { S.faults store.old ≤ S.faults store.new }
+    ensures counted { S.faults store.new ≡ S.faults store.old + faults_told (result_err result) }
 {
     release(cache, dir, frag);
     cache.fetch(alloc, store, dir, frag, Some((first, leaf)))

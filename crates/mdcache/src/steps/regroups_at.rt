@@ -1,5 +1,7 @@
 //! What a split and a merge prepare in the cache of one rank, and what that leaves of the caches of all.
 ghost use Rattle.std.specs.Prelude.{◌≡◌, ◌⊎◌, ◌+◌, ◌≤◌, ◌<◌, ◌^◌, ℕ, List, true, None, OnOk, OnErr, IfOk, IfErr};
+ghost use Rattle.objstore.specs.Objects.{faults_told};
+ghost use Rattle.std.specs.Result.{result_err};
 ghost use Rattle.std.specs.FinMap as map;
 ghost use Rattle.std.specs.List.{Contains};
 ghost use Rattle.std.specs.Map.{lookup};
@@ -58,7 +60,7 @@ pub(crate) fn ready_children_at<S: Store>(
     ensures caches { KeepsCaches (λ other q. (other ≡ rank) × IsFamily dir frag nb q) caches.old caches.new }
     ensures refused { IfErr result (MayNotFind (FixesAllBut (2 ^ nb + 1) (cache_of caches.old rank)) (S.faults store.old) (S.faults store.new)) }
     ensures same { S.objects store.new ≡ S.objects store.old }
-    ensures grows { S.faults store.old ≤ S.faults store.new }
+    ensures counted { S.faults store.new ≡ S.faults store.old + faults_told (result_err result) }
 {
     ready_children(alloc, caches.of_mut(rank), store, dir, frag, nb, generation)
 }
@@ -118,7 +120,7 @@ pub(crate) fn join_names_at<S: Store>(
     ensures caches { KeepsCaches (λ other q. (other ≡ rank) × (Contains (leaves_in dir leaves.now) q ⊎ ((dir, frag) ≡ q))) caches.old caches.new }
     ensures refused { IfErr result (MayNotRead (S.faults store.old) (S.faults store.new) (cache_of caches.old rank)) }
     ensures same { S.objects store.new ≡ S.objects store.old }
-    ensures grows { S.faults store.old ≤ S.faults store.new }
+    ensures counted { S.faults store.new ≡ S.faults store.old + faults_told (result_err result) }
 {
     join_names(
         alloc,

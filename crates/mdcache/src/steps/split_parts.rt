@@ -1,5 +1,7 @@
 //! What a split needs is prepared: the leaves after it, names of objects, and the children with their places.
 ghost use Rattle.std.specs.Prelude.{◌≡◌, ◌⊎◌, ◌+◌, ◌≤◌, ◌<◌, ◌^◌, ℕ, true, false, None, map as each, string_bytes, OnOk, OnErr, IfOk, IfErr};
+ghost use Rattle.objstore.specs.Objects.{faults_told};
+ghost use Rattle.std.specs.Result.{result_err};
 ghost use Rattle.std.specs.FinMap as map;
 ghost use Rattle.std.specs.Map.{lookup};
 ghost use Rattle.mds_types.specs.Frag.{child_of};
@@ -73,7 +75,7 @@ pub fn prepare_split<S: Store>(
     ensures caches { KeepsCaches (λ other q. (other ≡ rank) × IsFamily dir frag nb q) caches.old caches.new }
     ensures refused { IfErr result (MayNotFind (FixesAllBut (2 ^ nb + 1) (cache_of caches.old rank)) (S.faults store.old) (S.faults store.new)) }
     ensures same { S.objects store.new ≡ S.objects store.old }
-    ensures grows { S.faults store.old ≤ S.faults store.new }
+    ensures counted { S.faults store.new ≡ S.faults store.old + faults_told (result_err result) }
 {
     let plan = match plan_split(alloc, dirs, purge, dir, frag, nb) {
         Ok(plan) => plan,
@@ -202,7 +204,7 @@ pub(crate) fn ready_children<S: Store>(
     ensures cap { cache.new.cap ≡ cache.old.cap }
     ensures refused { IfErr result (MayNotFind (FixesAllBut (2 ^ nb + 1) cache.old) (S.faults store.old) (S.faults store.new)) }
     ensures same { S.objects store.new ≡ S.objects store.old }
-    ensures grows { S.faults store.old ≤ S.faults store.new }
+    ensures counted { S.faults store.new ≡ S.faults store.old + faults_told (result_err result) }
 {
     release_places(cache, dir, frag, nb);
     cache.ready_split(alloc, store, dir, frag, nb, generation)

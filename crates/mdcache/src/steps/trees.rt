@@ -1,7 +1,8 @@
 //! The object of a directory's tree, written to a store or removed from it.
-ghost use Rattle.std.specs.Prelude.{◌≡◌, ◌≤◌, ◌<◌, true, MatchOption, Some, IfOk, OnOk, OnErr, IfErr, length};
+ghost use Rattle.std.specs.Prelude.{◌≡◌, ◌+◌, ◌<◌, true, MatchOption, Some, IfOk, OnOk, OnErr, IfErr, length};
+ghost use Rattle.std.specs.Result.{result_err};
 ghost use Rattle.std.specs.FinMap as map;
-ghost use Rattle.objstore.specs.Objects.{MayRefuse};
+ghost use Rattle.objstore.specs.Objects.{MayRefuse, faults_told};
 ghost use Rattle.inode_table.specs.Dirs.{leaves_of};
 ghost use Rattle.dirfrag_codec.specs.TreeObject.{SpellsTree};
 ghost use Rattle.mdcache.specs.Objects.{with_tree_at};
@@ -27,7 +28,7 @@ pub fn save_tree<S: Store>(
     ensures saved { OnOk result (S.objects store.new ≡ with_tree_at (S.objects store.old) name.now (leaves_of dirs.now.trees dir.0)) }
     ensures same { OnErr result (S.objects store.new ≡ S.objects store.old) }
     ensures refused { IfErr result (MayRefuse (S.faults store.old) (S.faults store.new)) }
-    ensures grows { S.faults store.old ≤ S.faults store.new }
+    ensures counted { S.faults store.new ≡ S.faults store.old + faults_told (result_err result) }
 {
     let Some(header) = header_of(alloc, dirs, dir)? else {
         return store.remove(name);
@@ -69,7 +70,7 @@ fn is_written<S: Store>(
     ensures so { IfOk result (λ so. so ≡ true → map.get (S.objects store.old) name.now ≡ Some (record { header = header.now; pairs = map.empty })) }
     ensures same { S.objects store.new ≡ S.objects store.old }
     ensures refused { IfErr result (MayRefuse (S.faults store.old) (S.faults store.new)) }
-    ensures grows { S.faults store.old ≤ S.faults store.new }
+    ensures counted { S.faults store.new ≡ S.faults store.old + faults_told (result_err result) }
 {
     let Some(bytes) = store.header(alloc, name)? else {
         return Ok(false);
@@ -93,7 +94,7 @@ fn write_tree<S: Store>(
     ensures written { OnOk result (S.objects store.new ≡ map.insert (S.objects store.old) name.now (record { header = header.items; pairs = map.empty })) }
     ensures same { OnErr result (S.objects store.new ≡ S.objects store.old) }
     ensures refused { IfErr result (MayRefuse (S.faults store.old) (S.faults store.new)) }
-    ensures grows { S.faults store.old ≤ S.faults store.new }
+    ensures counted { S.faults store.new ≡ S.faults store.old + faults_told (result_err result) }
 {
     let mut op = WriteOp::new(alloc);
     op.clear = true;

@@ -1,4 +1,4 @@
-use Rattle.std.proofs.Common.{◌≡◌, sym, ap, ◌∙◌}
+use Rattle.std.proofs.Common.{◌≡◌, None, sym, ap, ◌∙◌}
 use Rattle.mdcache.specs.Reads.{has_none}
 use Rattle.mdcache.specs.Shown.{names_of}
 use Rattle.mdcache.specs.State.{State as TreeState}
@@ -17,7 +17,7 @@ loop-leaf-preserved g c =
     let steps = c.in-Some.ensures.steps in
     let told : has_none (names_of c.loop-leaf.tree.state.unsaved c.loop-leaf.tree.state.objects (c.args.dir, c.in-Some.leaf)) ≡ has_none (names_of c.args.tree.now.state.unsaved c.args.tree.now.state.objects (c.args.dir, c.in-Some.leaf)) = ap (λ (s : TreeState). has_none (names_of s.unsaved s.objects (c.args.dir, c.in-Some.leaf))) inv.kept.state in
     record {
-      kept = keeps_on c.args.tree.now c.loop-leaf.tree c.is_leaf_empty.new.tree inv.kept c.in-Ok-true.ensures.kept;
+      kept = keeps_on c.args.tree.now c.loop-leaf.tree c.is_leaf_empty.new.tree None inv.kept c.in-Ok-true.ensures.kept;
       owned = c.in-Ok-true.ensures.owned;
       within = rest_within c.in-Some.leaf c.next.new.self c.loop-leaf.leaf-iterator c.args.leaves.now steps inv.within;
       left = passed (λ f. has_none (names_of c.args.tree.now.state.unsaved c.args.tree.now.state.objects (c.args.dir, f))) c.in-Some.leaf c.next.new.self c.loop-leaf.leaf-iterator c.args.leaves.now steps (sym c.in-Ok-true.field-0-test ∙ c.in-Ok-true.ensures.found ∙ told) inv.left;

@@ -1,5 +1,5 @@
 -- The leaves so far show no name, and reads keep the state and whose the places are.
-use Rattle.std.proofs.Common.{◌≡◌}
+use Rattle.std.proofs.Common.{◌≡◌, None}
 use Rattle.std.specs.List.{list_all}
 use Rattle.mdcache.specs.Frags.{KeepsState}
 use Rattle.mdcache.specs.Reads.{has_none}
@@ -10,7 +10,7 @@ use Rattle.ranked_tree.proofs.emptiness.are_empty.Given as goal
 
 abbrev pub invariant-loop-leaf : goal.invariant-loop-leaf
 invariant-loop-leaf g l = record {
-  kept : KeepsState l.fn.tree l.tree;
+  kept : KeepsState l.fn.tree l.tree None;
   owned : IsOwned l.tree l.roots.roots;
   within : AreWithin l.leaf-iterator l.leaves;
   left : list_all (λ f. has_none (names_of l.fn.tree.state.unsaved l.fn.tree.state.objects (l.dir, f))) l.leaf-iterator ≡ list_all (λ f. has_none (names_of l.fn.tree.state.unsaved l.fn.tree.state.objects (l.dir, f))) l.leaves;

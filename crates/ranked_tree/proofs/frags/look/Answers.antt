@@ -9,7 +9,7 @@ holder_of-rank-requires-clause-live g c = pick_live c.args.tree.now.state c.dirs
 
 pub returns-clause-owned : goal.returns-clause-owned
 returns-clause-owned g c =
-    owned_read c.args.tree.now c.look.new.self c.args.roots.now.roots (c.args.dentry.now.dir, c.args.leaf) c.holder_of-rank.result c.holder_of-rank.ensures.rules c.look.ensures.kept c.look.ensures.caches c.requires.owned
+    owned_read c.args.tree.now c.look.new.self c.args.roots.now.roots (c.args.dentry.now.dir, c.args.leaf) c.holder_of-rank.result _ c.holder_of-rank.ensures.rules c.look.ensures.kept c.look.ensures.caches c.requires.owned
 
 pub returns-clause-refused : goal.returns-clause-refused
 returns-clause-refused g c =

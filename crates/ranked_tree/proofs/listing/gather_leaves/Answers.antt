@@ -1,4 +1,4 @@
-use Rattle.std.proofs.Common.{◌≡◌, ap, ◌∙◌}
+use Rattle.std.proofs.Common.{◌≡◌, None, ap, ◌∙◌}
 use Rattle.std.specs.Option.{option_copied}
 use Rattle.mds_types.specs.Frag.{Fragment}
 use Rattle.mdcache.specs.Shown.{names_of}
@@ -19,7 +19,7 @@ loop-leaf-preserved g c =
     let steps = c.in-Some.ensures.steps in
     let told : names_of c.loop-leaf.tree.state.unsaved c.loop-leaf.tree.state.objects (c.args.dir, c.in-Some.leaf) ≡ names_of c.args.tree.now.state.unsaved c.args.tree.now.state.objects (c.args.dir, c.in-Some.leaf) = ap (λ (s : TreeState). names_of s.unsaved s.objects (c.args.dir, c.in-Some.leaf)) inv.kept.state in
     record {
-      kept = keeps_on c.args.tree.now c.loop-leaf.tree c.gather_leaf.new.tree inv.kept c.in-Ok.ensures.kept;
+      kept = keeps_on c.args.tree.now c.loop-leaf.tree c.gather_leaf.new.tree None inv.kept c.in-Ok.ensures.kept;
       owned = c.in-Ok.ensures.owned;
       within = rest_within c.in-Some.leaf c.next.new.self c.loop-leaf.leaf-iterator c.args.leaves.now steps inv.within;
       most = c.in-Ok.ensures.most ∙ inv.most;

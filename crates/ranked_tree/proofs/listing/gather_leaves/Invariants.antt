@@ -1,5 +1,5 @@
 -- The names of the leaves so far are in the page, and reads keep the state and whose the places are.
-use Rattle.std.proofs.Common.{◌≡◌, List}
+use Rattle.std.proofs.Common.{◌≡◌, List, None}
 use Rattle.std.specs.Option.{option_copied}
 use Rattle.mds_types.specs.Frag.{Fragment}
 use Rattle.cached_frag.specs.Rows.{Row}
@@ -12,7 +12,7 @@ use Rattle.ranked_tree.proofs.listing.gather_leaves.Given as goal
 
 abbrev pub invariant-loop-leaf : goal.invariant-loop-leaf
 invariant-loop-leaf g l = record {
-  kept : KeepsState l.fn.tree l.tree;
+  kept : KeepsState l.fn.tree l.tree None;
   owned : IsOwned l.tree l.roots.roots;
   within : AreWithin l.leaf-iterator l.leaves;
   most : l.page.most ≡ l.fn.page.most;

@@ -1,4 +1,4 @@
-use Rattle.std.proofs.Common.{Err, refl, sym, subst}
+use Rattle.std.proofs.Common.{Err, refl, sym, subst, arith}
 use Rattle.subtree_map.specs.Authority.{Roots}
 use Rattle.subtree_map.specs.Changes.{HaveOneAuthority, IsRootMerge}
 use Rattle.mdcache.specs.SplitsAndMerges.{MergesLeaves}
@@ -6,6 +6,9 @@ use Rattle.ranked_tree.specs.Held.{IsMergedHere, LacksPlacesInside, PlacesCome}
 use Rattle.ranked_tree.specs.Subtrees.{AllHave}
 use Rattle.ranked_tree.proofs.HeldRegroups.{merge_held, unmerged_held}
 use Rattle.ranked_tree.proofs.SubtreeLaws.{takes_over, merge_soundly, undone_soundly}
+use Rattle.fragtree.specs.FragTree.{CanMerge, RefusesMerge}
+use Rattle.inode_table.specs.Dirs.{leaves_of}
+use Rattle.mdcache.proofs.CountLaws.{regroup_free}
 use Rattle.ranked_tree.proofs.regrouping.merge_with_roots.Goals as goal
 
 pub returns-in-Err-clause-merged : goal.returns-in-Err-clause-merged
@@ -70,3 +73,12 @@ returns-clause-held g c =
     merge_held c.args.tree.now c.merge_held.new.tree c.args.roots.now.roots c.merge_roots.new.self.roots c.requires.owned c.in_default-merge_held.ensures.count c.args.dir c.args.frag c.in_default.ensures.known c.in_default.ensures.can
     (subst (λ (r : Roots). PlacesCome (AllHave c.args.tree.now.state.homes c.args.tree.now.state.covers r c.args.dir c.args.frag) (IsMergedHere c.args.tree.now.state.covers c.args.dir c.args.frag) c.args.tree.now.state c.args.tree.now.ranks c.merge_held.new.tree.ranks) c.reserve_merge.ensures.same c.in_default-merge_held.ensures.places)
     (returns-clause-authority g c) (returns-clause-ranks g c) (returns-clause-one g c)
+
+pub returns-in-Err-clause-counted : goal.returns-in-Err-clause-counted
+returns-in-Err-clause-counted g c =
+    let leaves = leaves_of c.args.tree.now.state.covers c.args.dir.0 in
+    omega (
+      arith,
+      regroup_free (CanMerge leaves c.args.frag) (RefusesMerge leaves c.args.frag) (λ never. never) c.args.tree.now.state c.args.dir 1
+          (LacksPlacesInside 1 c.args.tree.now c.args.roots.now.roots c.args.dir c.args.frag) c.args.tree.now.faults c.in-Err.refusal c.in-Err.ensures.refused,
+    )

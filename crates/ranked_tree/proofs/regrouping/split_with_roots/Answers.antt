@@ -1,4 +1,4 @@
-use Rattle.std.proofs.Common.{◌+◌, ◌^◌, Err, refl, subst}
+use Rattle.std.proofs.Common.{◌+◌, ◌^◌, Err, refl, subst, arith}
 use Rattle.subtree_map.specs.Authority.{Roots}
 use Rattle.subtree_map.specs.Changes.{IsRootSplit}
 use Rattle.mdcache.specs.Regroups.{IsFamily}
@@ -7,6 +7,9 @@ use Rattle.ranked_tree.specs.Held.{LacksPlacesFor, PlacesCome}
 use Rattle.ranked_tree.specs.Subtrees.{Rules}
 use Rattle.ranked_tree.proofs.HeldRegroups.{split_held, unsplit_held}
 use Rattle.ranked_tree.proofs.SubtreeLaws.{children_have, split_soundly, undone_soundly}
+use Rattle.fragtree.specs.FragTree.{CanSplit, RefusesSplit}
+use Rattle.inode_table.specs.Dirs.{leaves_of}
+use Rattle.mdcache.proofs.CountLaws.{regroup_free}
 use Rattle.ranked_tree.proofs.regrouping.split_with_roots.Goals as goal
 
 pub returns-in-Err-clause-split : goal.returns-in-Err-clause-split
@@ -68,3 +71,12 @@ returns-clause-held g c =
     split_held c.args.tree.now c.split_held.new.tree c.args.roots.now.roots c.split_root.new.self.roots c.requires.owned c.in_default-split_held.ensures.count c.args.dir c.args.frag c.args.bits c.in_default.ensures.live
     (subst (λ (r : Roots). PlacesCome (Rules c.args.tree.now.state r (c.args.dir, c.args.frag)) (IsFamily c.args.dir c.args.frag c.args.bits) c.args.tree.now.state c.args.tree.now.ranks c.split_held.new.tree.ranks) c.reserve_split.ensures.same c.in_default-split_held.ensures.places)
     (returns-clause-authority g c) (returns-clause-ranks g c) (returns-clause-children g c)
+
+pub returns-in-Err-clause-counted : goal.returns-in-Err-clause-counted
+returns-in-Err-clause-counted g c =
+    let leaves = leaves_of c.args.tree.now.state.covers c.args.dir.0 in
+    omega (
+      arith,
+      regroup_free (CanSplit leaves c.args.frag c.args.bits) (RefusesSplit leaves c.args.frag c.args.bits) (λ never. never) c.args.tree.now.state c.args.dir (2 ^ c.args.bits)
+          (LacksPlacesFor (2 ^ c.args.bits + 1) c.args.tree.now c.args.roots.now.roots (c.args.dir, c.args.frag)) c.args.tree.now.faults c.in-Err.refusal c.in-Err.ensures.refused,
+    )

@@ -1,5 +1,7 @@
 use Rattle.std.proofs.Common.{◌<◌, length, None, sym, subst, arith}
-use Rattle.std.specs.Prelude.{OnOk}
+use Rattle.std.specs.Prelude.{OnOk, refl}
+use Rattle.std.specs.Result.{result_err}
+use Rattle.mds_types.specs.declared.refusals.Refusal.TheVariants.{NothingToEvict}
 use Rattle.dentry_cache.specs.Cache.{Evicts, Held}
 use Rattle.dentry_cache.specs.Caches.{all_of, cache_of, with_cache}
 use Rattle.dentry_cache.proofs.PlaceLaws.{cache_there}
@@ -11,6 +13,7 @@ use Rattle.mdcache.proofs.AtRanks.{only_on}
 use Rattle.mdcache.proofs.CapLaws.{evict_cap}
 use Rattle.mdcache.proofs.KeptPlaces.{left_no_more}
 use Rattle.mdcache.proofs.StepLaws.{left_kept}
+use Rattle.mdcache.proofs.CountLaws.{no_fault}
 use Rattle.mdcache.proofs.mdcache.MdCache.evict.Goals as goal
 
 pub invariant_of-self : goal.invariant_of-self
@@ -47,10 +50,10 @@ returns-clause-kept g c =
       faults = g.S.Store.faults c.self.inside.store;
       prepared = c.self.inside.prepared;
     } in
-    subst (λ (v : Core). KeepsState v after) c.self.view_is (record {
+    subst (λ (v : Core). KeepsState v after (result_err c.evict.result)) c.self.view_is (record {
       state = λ i. record (state_of c.self.inside.dirs (all_of c.self.inside.caches) (g.S.Store.objects c.self.inside.store) c.self.inside.jobs c.self.inside.purge c.self.inside.next) { unsaved = unclean i };
       unsaved = left_each c.self.inside.caches c.args.rank c.of_mut.result.now c.evict.new.self c.of_mut.ensures.cache there c.self.invariant.2 cap c.evict.ensures.unsaved c.evict.ensures.leaves;
       count = caches.count;
       cap = caches.cap;
-      grows = omega arith;
+      counted = omega (arith, no_fault (Unit {0}) c.evict.result NothingToEvict refl c.evict.ensures.refused);
     })

@@ -1,6 +1,7 @@
 use Rattle.std.proofs.Common.{◌≡◌, ◌<◌, ◌+◌, List, Option, length, sym, ap, subst, ◌∙◌, arith}
-use Rattle.std.specs.Prelude.{OnOk}
+use Rattle.std.specs.Prelude.{OnOk, refl}
 use Rattle.std.specs.FinMap as map
+use Rattle.mds_types.specs.declared.refusals.Refusal.TheVariants.{NoMemory}
 use Rattle.dentry_cache.specs.Cache.{HasCached, Held, Leaf, cached, unsaved}
 use Rattle.dentry_cache.specs.Caches.{all_of, cache_of}
 use Rattle.mdcache.specs.Core.{Core}
@@ -20,6 +21,7 @@ use Rattle.omap.specs.Omap.{key_cmp}
 use Rattle.sorted_map.specs.Places.{puts}
 use Rattle.cached_frag.specs.Rows.{Row, rows_after}
 use Rattle.mdcache.specs.Pages.{IsPageOf}
+use Rattle.mdcache.proofs.CountLaws.{no_fault}
 use Rattle.mdcache.proofs.mdcache.MdCache.gather.Goals as goal
 
 pub fetch_at-requires-clause-holds : goal.fetch_at-requires-clause-holds
@@ -52,7 +54,7 @@ returns-in-Err-clause-kept g c =
       unsaved = λ rank. new_unsaved c.self.inside.dirs c.self.inside.caches (g.S.Store.objects c.self.inside.store) c.self.inside.jobs c.self.inside.purge c.self.inside.next c.self.invariant.0 c.give_up_at.new.caches c.give_up_at.ensures.none (c.give_up_at.ensures.at (g.S.Store.objects c.self.inside.store)) (IsThat c.args.rank (c.args.dir, c.args.frag)) (λ (q : Leaf). q ≡ (c.args.dir, c.args.frag)) come c.fetch_at.new.caches (g.S.Store.objects c.fetch_at.new.store) c.in-Err.ensures.same c.in-Err.ensures.at rank ∙ ap (λ (k : Core). unsaved (cache_of k.ranks rank).entries) c.self.view_is;
       count = (new_caches c.self.inside.dirs c.self.inside.caches (g.S.Store.objects c.self.inside.store) c.self.inside.jobs c.self.inside.purge c.self.inside.next c.self.invariant.0 c.give_up_at.new.caches c.give_up_at.ensures.none (c.give_up_at.ensures.at (g.S.Store.objects c.self.inside.store)) (IsThat c.args.rank (c.args.dir, c.args.frag)) (λ (q : Leaf). q ≡ (c.args.dir, c.args.frag)) come c.fetch_at.new.caches (g.S.Store.objects c.fetch_at.new.store) c.in-Err.ensures.same c.in-Err.ensures.at).count ∙ ap (λ (k : Core). length k.ranks) c.self.view_is;
       cap = (new_caches c.self.inside.dirs c.self.inside.caches (g.S.Store.objects c.self.inside.store) c.self.inside.jobs c.self.inside.purge c.self.inside.next c.self.invariant.0 c.give_up_at.new.caches c.give_up_at.ensures.none (c.give_up_at.ensures.at (g.S.Store.objects c.self.inside.store)) (IsThat c.args.rank (c.args.dir, c.args.frag)) (λ (q : Leaf). q ≡ (c.args.dir, c.args.frag)) come c.fetch_at.new.caches (g.S.Store.objects c.fetch_at.new.store) c.in-Err.ensures.same c.in-Err.ensures.at).cap ∙ ap (λ (k : Core). k.cache.cap) c.self.view_is;
-      grows = omega (arith, c.in-Err.ensures.grows, ap (λ (k : Core). k.faults) c.self.view_is);
+      counted = omega (arith, c.in-Err.ensures.counted, ap (λ (k : Core). k.faults) c.self.view_is);
     }
 
 pub returns-in-Err-clause-caches : goal.returns-in-Err-clause-caches
@@ -82,7 +84,7 @@ returns-clause-kept g c =
       unsaved = λ rank. new_unsaved c.self.inside.dirs c.self.inside.caches (g.S.Store.objects c.self.inside.store) c.self.inside.jobs c.self.inside.purge c.self.inside.next c.self.invariant.0 c.give_up_at.new.caches c.give_up_at.ensures.none (c.give_up_at.ensures.at (g.S.Store.objects c.self.inside.store)) (IsThat c.args.rank (c.args.dir, c.args.frag)) (λ (q : Leaf). q ≡ (c.args.dir, c.args.frag)) come c.fetch_at.new.caches (g.S.Store.objects c.fetch_at.new.store) c.in_default.ensures.same c.in_default.ensures.at rank ∙ ap (λ (k : Core). unsaved (cache_of k.ranks rank).entries) c.self.view_is;
       count = (new_caches c.self.inside.dirs c.self.inside.caches (g.S.Store.objects c.self.inside.store) c.self.inside.jobs c.self.inside.purge c.self.inside.next c.self.invariant.0 c.give_up_at.new.caches c.give_up_at.ensures.none (c.give_up_at.ensures.at (g.S.Store.objects c.self.inside.store)) (IsThat c.args.rank (c.args.dir, c.args.frag)) (λ (q : Leaf). q ≡ (c.args.dir, c.args.frag)) come c.fetch_at.new.caches (g.S.Store.objects c.fetch_at.new.store) c.in_default.ensures.same c.in_default.ensures.at).count ∙ ap (λ (k : Core). length k.ranks) c.self.view_is;
       cap = (new_caches c.self.inside.dirs c.self.inside.caches (g.S.Store.objects c.self.inside.store) c.self.inside.jobs c.self.inside.purge c.self.inside.next c.self.invariant.0 c.give_up_at.new.caches c.give_up_at.ensures.none (c.give_up_at.ensures.at (g.S.Store.objects c.self.inside.store)) (IsThat c.args.rank (c.args.dir, c.args.frag)) (λ (q : Leaf). q ≡ (c.args.dir, c.args.frag)) come c.fetch_at.new.caches (g.S.Store.objects c.fetch_at.new.store) c.in_default.ensures.same c.in_default.ensures.at).cap ∙ ap (λ (k : Core). k.cache.cap) c.self.view_is;
-      grows = omega (arith, c.in_default.ensures.grows, ap (λ (k : Core). k.faults) c.self.view_is);
+      counted = omega (arith, c.in_default.ensures.counted, no_fault (Unit {0}) c.gather_cached.result NoMemory refl c.gather_cached.ensures.refused, ap (λ (k : Core). k.faults) c.self.view_is);
     }
 
 pub returns-clause-caches : goal.returns-clause-caches

@@ -47,7 +47,7 @@ returns-in-Err-clause-kept g c =
       unsaved = λ rank. new_unsaved c.self.inside.dirs c.self.inside.caches (g.S.Store.objects c.self.inside.store) c.self.inside.jobs c.self.inside.purge c.self.inside.next c.self.invariant.0 c.give_up_at.new.caches c.give_up_at.ensures.none (c.give_up_at.ensures.at (g.S.Store.objects c.self.inside.store)) (IsThat c.args.rank (c.args.dir, c.args.frag)) (λ (q : Leaf). q ≡ (c.args.dir, c.args.frag)) come c.fetch_at.new.caches (g.S.Store.objects c.fetch_at.new.store) c.in-Err.ensures.same c.in-Err.ensures.at rank ∙ ap (λ (k : Core). unsaved (cache_of k.ranks rank).entries) c.self.view_is;
       count = (new_caches c.self.inside.dirs c.self.inside.caches (g.S.Store.objects c.self.inside.store) c.self.inside.jobs c.self.inside.purge c.self.inside.next c.self.invariant.0 c.give_up_at.new.caches c.give_up_at.ensures.none (c.give_up_at.ensures.at (g.S.Store.objects c.self.inside.store)) (IsThat c.args.rank (c.args.dir, c.args.frag)) (λ (q : Leaf). q ≡ (c.args.dir, c.args.frag)) come c.fetch_at.new.caches (g.S.Store.objects c.fetch_at.new.store) c.in-Err.ensures.same c.in-Err.ensures.at).count ∙ ap (λ (k : Core). length k.ranks) c.self.view_is;
       cap = (new_caches c.self.inside.dirs c.self.inside.caches (g.S.Store.objects c.self.inside.store) c.self.inside.jobs c.self.inside.purge c.self.inside.next c.self.invariant.0 c.give_up_at.new.caches c.give_up_at.ensures.none (c.give_up_at.ensures.at (g.S.Store.objects c.self.inside.store)) (IsThat c.args.rank (c.args.dir, c.args.frag)) (λ (q : Leaf). q ≡ (c.args.dir, c.args.frag)) come c.fetch_at.new.caches (g.S.Store.objects c.fetch_at.new.store) c.in-Err.ensures.same c.in-Err.ensures.at).cap ∙ ap (λ (k : Core). k.cache.cap) c.self.view_is;
-      grows = omega (arith, c.in-Err.ensures.grows, ap (λ (k : Core). k.faults) c.self.view_is);
+      counted = omega (arith, c.in-Err.ensures.counted, ap (λ (k : Core). k.faults) c.self.view_is);
     }
 
 pub returns-in-Err-clause-caches : goal.returns-in-Err-clause-caches
@@ -77,7 +77,7 @@ returns-clause-kept g c =
       unsaved = λ rank. new_unsaved c.self.inside.dirs c.self.inside.caches (g.S.Store.objects c.self.inside.store) c.self.inside.jobs c.self.inside.purge c.self.inside.next c.self.invariant.0 c.give_up_at.new.caches c.give_up_at.ensures.none (c.give_up_at.ensures.at (g.S.Store.objects c.self.inside.store)) (IsThat c.args.rank (c.args.dir, c.args.frag)) (λ (q : Leaf). q ≡ (c.args.dir, c.args.frag)) come c.fetch_at.new.caches (g.S.Store.objects c.fetch_at.new.store) c.in_default.ensures.same c.in_default.ensures.at rank ∙ ap (λ (k : Core). unsaved (cache_of k.ranks rank).entries) c.self.view_is;
       count = (new_caches c.self.inside.dirs c.self.inside.caches (g.S.Store.objects c.self.inside.store) c.self.inside.jobs c.self.inside.purge c.self.inside.next c.self.invariant.0 c.give_up_at.new.caches c.give_up_at.ensures.none (c.give_up_at.ensures.at (g.S.Store.objects c.self.inside.store)) (IsThat c.args.rank (c.args.dir, c.args.frag)) (λ (q : Leaf). q ≡ (c.args.dir, c.args.frag)) come c.fetch_at.new.caches (g.S.Store.objects c.fetch_at.new.store) c.in_default.ensures.same c.in_default.ensures.at).count ∙ ap (λ (k : Core). length k.ranks) c.self.view_is;
       cap = (new_caches c.self.inside.dirs c.self.inside.caches (g.S.Store.objects c.self.inside.store) c.self.inside.jobs c.self.inside.purge c.self.inside.next c.self.invariant.0 c.give_up_at.new.caches c.give_up_at.ensures.none (c.give_up_at.ensures.at (g.S.Store.objects c.self.inside.store)) (IsThat c.args.rank (c.args.dir, c.args.frag)) (λ (q : Leaf). q ≡ (c.args.dir, c.args.frag)) come c.fetch_at.new.caches (g.S.Store.objects c.fetch_at.new.store) c.in_default.ensures.same c.in_default.ensures.at).cap ∙ ap (λ (k : Core). k.cache.cap) c.self.view_is;
-      grows = omega (arith, c.in_default.ensures.grows, ap (λ (k : Core). k.faults) c.self.view_is);
+      counted = omega (arith, c.in_default.ensures.counted, ap (λ (k : Core). k.faults) c.self.view_is);
     }
 
 pub returns-clause-caches : goal.returns-clause-caches

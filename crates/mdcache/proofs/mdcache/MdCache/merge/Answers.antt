@@ -1,4 +1,4 @@
-use Rattle.std.proofs.Common.{rules, ◌≡◌, ◌⊎◌, ◌+◌, ◌-◌, ◌<◌, ◌^◌, List, inr, refl, sym, ap, subst, ◌∙◌}
+use Rattle.std.proofs.Common.{rules, ◌≡◌, ◌⊎◌, ◌+◌, ◌-◌, ◌<◌, ◌^◌, List, inr, refl, sym, ap, subst, ◌∙◌, arith}
 use Rattle.std.specs.Prelude.{length, map as each, Ok, Err}
 use Rattle.std.specs.List.{Contains}
 use Rattle.std.specs.FinMap as map
@@ -24,6 +24,8 @@ use Rattle.mdcache.proofs.ReadyChanges.{given_kept, given_state}
 use Rattle.mdcache.proofs.JoinLaws.{itself_apart}
 use Rattle.mdcache.proofs.MergeMade.{gone_saved, merged_absent, undone_kept}
 use Rattle.mdcache.proofs.SplitMade.{counts_left, not_begun}
+use Rattle.objstore.specs.Objects.{faults_in}
+use Rattle.mdcache.proofs.CountLaws.{leaves_free}
 use Rattle.mdcache.proofs.mdcache.MdCache.merge.Goals as goal
 
 pub returns-in-Err-clause-merged : goal.returns-in-Err-clause-merged
@@ -147,3 +149,12 @@ returns-in-Err-prepare_merge-clause-cap g c = c.in-Err-prepare_merge.ensures.cac
 
 pub returns-in-Ok-clause-cap : goal.returns-in-Ok-clause-cap
 returns-in-Ok-clause-cap g c = c.commit_merge.ensures.caches.cap ∙ c.in-Ok.ensures.caches.cap ∙ (c.give_up_at.ensures.at (g.S.Store.objects c.self.inside.store)).caches.cap ∙ ap (λ (k : Core). k.cache.cap) c.self.view_is
+
+pub returns-in-Err-clause-counted : goal.returns-in-Err-clause-counted
+returns-in-Err-clause-counted g c =
+    let dirs = c.self.inside.dirs in
+    let Refuses = RefusesMerge (leaves_of dirs.trees c.args.dir.0) c.args.frag in
+    omega (arith, leaves_free Refuses (λ never. never) dirs.homes c.args.dir c.in-Err.refusal c.in-Err.ensures.refused)
+
+pub returns-in-Err-check_counts-clause-counted : goal.returns-in-Err-check_counts-clause-counted
+returns-in-Err-check_counts-clause-counted g c = omega (arith, ap faults_in c.in-Err-check_counts.ensures.err.0)

@@ -1,4 +1,4 @@
-use Rattle.std.proofs.Common.{◌≡◌, ◌⊎◌, ◌<◌, ◌+◌, inr, None, length, sym, ap, subst, ◌∙◌, arith}
+use Rattle.std.proofs.Common.{◌≡◌, ◌⊎◌, ◌<◌, ◌+◌, inr, None, length, sym, ap, subst, ◌∙◌, arith, rules}
 use Rattle.std.specs.FinMap as map
 use Rattle.mds_types.specs.Tree.{is_directory}
 use Rattle.fragtree.specs.FragTree.{IsPick}
@@ -19,6 +19,8 @@ use Rattle.mdcache.proofs.ReadyLaws.{neither, not_cached, roomy_kept, roomy_stat
 use Rattle.mds_types.specs.Frag.{root_fragment}
 use Rattle.mdcache.specs.Changes.{first_leaf}
 use Rattle.mdcache.proofs.AtRanks.{held_by_any, one_only}
+use Rattle.objstore.specs.Objects.{faults_in}
+use Rattle.mdcache.proofs.FragsLaws.{keeps_refused}
 use Rattle.mdcache.proofs.mdcache.MdCache.ready_directory.Goals as goal
 
 pub ready_first_at-requires-clause-holds : goal.ready_first_at-requires-clause-holds
@@ -70,7 +72,7 @@ returns-in-Err-ready_first_at-clause-kept g c =
       unsaved = λ rank. made_unsaved c.self.inside.dirs c.self.inside.caches (g.S.Store.objects c.self.inside.store) c.self.inside.jobs c.self.inside.purge c.self.inside.next c.self.invariant.0 c.give_up_at.new.caches c.give_up_at.ensures.none (c.give_up_at.ensures.at (g.S.Store.objects c.self.inside.store)) (λ other q. IsThat c.args.rank (c.args.dentry.now.dir, c.args.leaf) other q ⊎ IsThat c.args.rank (first_leaf c.args.dir) other q) (λ (q : Leaf). q ≡ (c.args.dentry.now.dir, c.args.leaf)) come c.ready_first_at.new.caches (g.S.Store.objects c.ready_first_at.new.store) c.in-Err-ready_first_at.ensures.same c.in-Err-ready_first_at.ensures.at rank ∙ ap (λ (k : Core). unsaved (cache_of k.ranks rank).entries) c.self.view_is;
       count = (made_caches c.self.inside.dirs c.self.inside.caches (g.S.Store.objects c.self.inside.store) c.self.inside.jobs c.self.inside.purge c.self.inside.next c.self.invariant.0 c.give_up_at.new.caches c.give_up_at.ensures.none (c.give_up_at.ensures.at (g.S.Store.objects c.self.inside.store)) (λ other q. IsThat c.args.rank (c.args.dentry.now.dir, c.args.leaf) other q ⊎ IsThat c.args.rank (first_leaf c.args.dir) other q) (λ (q : Leaf). q ≡ (c.args.dentry.now.dir, c.args.leaf)) come c.ready_first_at.new.caches (g.S.Store.objects c.ready_first_at.new.store) c.in-Err-ready_first_at.ensures.same c.in-Err-ready_first_at.ensures.at).count ∙ ap (λ (k : Core). length k.ranks) c.self.view_is;
       cap = (made_caches c.self.inside.dirs c.self.inside.caches (g.S.Store.objects c.self.inside.store) c.self.inside.jobs c.self.inside.purge c.self.inside.next c.self.invariant.0 c.give_up_at.new.caches c.give_up_at.ensures.none (c.give_up_at.ensures.at (g.S.Store.objects c.self.inside.store)) (λ other q. IsThat c.args.rank (c.args.dentry.now.dir, c.args.leaf) other q ⊎ IsThat c.args.rank (first_leaf c.args.dir) other q) (λ (q : Leaf). q ≡ (c.args.dentry.now.dir, c.args.leaf)) come c.ready_first_at.new.caches (g.S.Store.objects c.ready_first_at.new.store) c.in-Err-ready_first_at.ensures.same c.in-Err-ready_first_at.ensures.at).cap ∙ ap (λ (k : Core). k.cache.cap) c.self.view_is;
-      grows = omega (arith, c.in-Err-ready_first_at.ensures.grows, ap (λ (k : Core). k.faults) c.self.view_is);
+      counted = omega (arith, c.in-Err-ready_first_at.ensures.counted, ap (λ (k : Core). k.faults) c.self.view_is);
     }
 
 pub returns-in-Err-ready_first_at-clause-caches : goal.returns-in-Err-ready_first_at-clause-caches
@@ -106,7 +108,7 @@ returns-clause-kept g c =
       unsaved = λ rank. made_unsaved c.self.inside.dirs c.self.inside.caches (g.S.Store.objects c.self.inside.store) c.self.inside.jobs c.self.inside.purge c.self.inside.next c.self.invariant.0 c.give_up_at.new.caches c.give_up_at.ensures.none (c.give_up_at.ensures.at (g.S.Store.objects c.self.inside.store)) (λ other q. IsThat c.args.rank (c.args.dentry.now.dir, c.args.leaf) other q ⊎ IsThat c.args.rank (first_leaf c.args.dir) other q) (λ (q : Leaf). q ≡ (c.args.dentry.now.dir, c.args.leaf)) come c.ready_first_at.new.caches (g.S.Store.objects c.ready_first_at.new.store) c.in_default-ready_first_at.ensures.same c.in_default-ready_first_at.ensures.at rank ∙ ap (λ (k : Core). unsaved (cache_of k.ranks rank).entries) c.self.view_is;
       count = (made_caches c.self.inside.dirs c.self.inside.caches (g.S.Store.objects c.self.inside.store) c.self.inside.jobs c.self.inside.purge c.self.inside.next c.self.invariant.0 c.give_up_at.new.caches c.give_up_at.ensures.none (c.give_up_at.ensures.at (g.S.Store.objects c.self.inside.store)) (λ other q. IsThat c.args.rank (c.args.dentry.now.dir, c.args.leaf) other q ⊎ IsThat c.args.rank (first_leaf c.args.dir) other q) (λ (q : Leaf). q ≡ (c.args.dentry.now.dir, c.args.leaf)) come c.ready_first_at.new.caches (g.S.Store.objects c.ready_first_at.new.store) c.in_default-ready_first_at.ensures.same c.in_default-ready_first_at.ensures.at).count ∙ ap (λ (k : Core). length k.ranks) c.self.view_is;
       cap = (made_caches c.self.inside.dirs c.self.inside.caches (g.S.Store.objects c.self.inside.store) c.self.inside.jobs c.self.inside.purge c.self.inside.next c.self.invariant.0 c.give_up_at.new.caches c.give_up_at.ensures.none (c.give_up_at.ensures.at (g.S.Store.objects c.self.inside.store)) (λ other q. IsThat c.args.rank (c.args.dentry.now.dir, c.args.leaf) other q ⊎ IsThat c.args.rank (first_leaf c.args.dir) other q) (λ (q : Leaf). q ≡ (c.args.dentry.now.dir, c.args.leaf)) come c.ready_first_at.new.caches (g.S.Store.objects c.ready_first_at.new.store) c.in_default-ready_first_at.ensures.same c.in_default-ready_first_at.ensures.at).cap ∙ ap (λ (k : Core). k.cache.cap) c.self.view_is;
-      grows = omega (arith, c.in_default-ready_first_at.ensures.grows, ap (λ (k : Core). k.faults) c.self.view_is);
+      counted = omega (arith, c.in_default-ready_first_at.ensures.counted, ap (λ (k : Core). k.faults) c.self.view_is);
     }
 
 pub returns-clause-caches : goal.returns-clause-caches
@@ -116,3 +118,10 @@ returns-clause-caches g c =
     let live : IsLive c.self.inside.dirs.homes c.self.inside.dirs.trees (c.args.dentry.now.dir, c.args.leaf) = pick_live c.self.inside.dirs (all_of c.self.inside.caches) (g.S.Store.objects c.self.inside.store) c.self.inside.jobs c.self.inside.purge c.self.inside.next c.self.invariant.0 c.args.dentry.now.dir (hash_of c.args.dentry.now.name) c.args.leaf known pick in
     let come : (q : Leaf) → q ≡ (c.args.dentry.now.dir, c.args.leaf) → IsLive c.self.inside.dirs.homes c.self.inside.dirs.trees q = λ q is. subst (IsLive c.self.inside.dirs.homes c.self.inside.dirs.trees) (sym is) live in
     subst (λ (k : Core). KeepsCaches (λ other q. IsThat c.args.rank (c.args.dentry.now.dir, c.args.leaf) other q ⊎ IsThat c.args.rank (first_leaf c.args.dir) other q) k.ranks c.ready_first_at.new.caches) c.self.view_is (made_caches c.self.inside.dirs c.self.inside.caches (g.S.Store.objects c.self.inside.store) c.self.inside.jobs c.self.inside.purge c.self.inside.next c.self.invariant.0 c.give_up_at.new.caches c.give_up_at.ensures.none (c.give_up_at.ensures.at (g.S.Store.objects c.self.inside.store)) (λ other q. IsThat c.args.rank (c.args.dentry.now.dir, c.args.leaf) other q ⊎ IsThat c.args.rank (first_leaf c.args.dir) other q) (λ (q : Leaf). q ≡ (c.args.dentry.now.dir, c.args.leaf)) come c.ready_first_at.new.caches (g.S.Store.objects c.ready_first_at.new.store) c.in_default-ready_first_at.ensures.same c.in_default-ready_first_at.ensures.at)
+
+pub returns-in-Err-clause-kept : goal.returns-in-Err-clause-kept
+returns-in-Err-clause-kept g c = keeps_refused _ _ c.in-Err.refusal (ap faults_in c.in-Err.ensures.err.0) (search rules)
+
+pub returns-in-Err-check_left-clause-kept : goal.returns-in-Err-check_left-clause-kept
+returns-in-Err-check_left-clause-kept g c =
+    keeps_refused _ _ c.in-Err-check_left.refusal (ap faults_in c.in-Err-check_left.ensures.err.0) (search rules)

@@ -1,4 +1,4 @@
-use Rattle.std.proofs.Common.{◌≡◌, ◌⊎◌, ◌<◌, ◌+◌, inr, true, Some, Option, length, sym, ap, subst, ◌∙◌, arith}
+use Rattle.std.proofs.Common.{◌≡◌, ◌⊎◌, ◌<◌, ◌+◌, inr, true, Some, Option, length, sym, ap, subst, ◌∙◌, arith, rules}
 use Rattle.std.specs.Prelude.{is_some}
 use Rattle.std.specs.FinMap as map
 use Rattle.mds_types.specs.Tree.{is_directory}
@@ -21,6 +21,9 @@ use Rattle.mds_types.specs.declared.inodes.Inode.{Inode}
 use Rattle.cached_frag.specs.Cached.{Cached, shown}
 use Rattle.mdcache.proofs.AtRanks.{cached_here, holds_on}
 use Rattle.mdcache.proofs.ReadyPairs.{either_live}
+use Rattle.objstore.specs.Objects.{faults_in, faults_told}
+use Rattle.mdcache.proofs.FragsLaws.{keeps_refused}
+use Rattle.std.specs.Result.{result_err}
 use Rattle.mdcache.proofs.mdcache.MdCache.ready_move.Goals as goal
 
 pub all_unsaved-requires-clause-there : goal.all_unsaved-requires-clause-there
@@ -93,7 +96,7 @@ returns-in-Err-ready_pair_at-clause-kept g c =
       unsaved = λ rank. made_unsaved c.self.inside.dirs c.self.inside.caches (g.S.Store.objects c.self.inside.store) c.self.inside.jobs c.self.inside.purge c.self.inside.next c.self.invariant.0 c.give_up_at.new.caches c.give_up_at.ensures.none (c.give_up_at.ensures.at (g.S.Store.objects c.self.inside.store)) (λ other q. IsThat c.args.at.first (c.args.from.now.dir, c.args.source) other q ⊎ IsThat c.args.at.second (c.args.to.now.dir, c.args.target) other q) (λ (q : Leaf). (q ≡ (c.args.from.now.dir, c.args.source)) ⊎ (q ≡ (c.args.to.now.dir, c.args.target))) come c.ready_pair_at.new.caches (g.S.Store.objects c.ready_pair_at.new.store) c.in-Err-ready_pair_at.ensures.same c.in-Err-ready_pair_at.ensures.at rank ∙ ap (λ (k : Core). unsaved (cache_of k.ranks rank).entries) c.self.view_is;
       count = (made_caches c.self.inside.dirs c.self.inside.caches (g.S.Store.objects c.self.inside.store) c.self.inside.jobs c.self.inside.purge c.self.inside.next c.self.invariant.0 c.give_up_at.new.caches c.give_up_at.ensures.none (c.give_up_at.ensures.at (g.S.Store.objects c.self.inside.store)) (λ other q. IsThat c.args.at.first (c.args.from.now.dir, c.args.source) other q ⊎ IsThat c.args.at.second (c.args.to.now.dir, c.args.target) other q) (λ (q : Leaf). (q ≡ (c.args.from.now.dir, c.args.source)) ⊎ (q ≡ (c.args.to.now.dir, c.args.target))) come c.ready_pair_at.new.caches (g.S.Store.objects c.ready_pair_at.new.store) c.in-Err-ready_pair_at.ensures.same c.in-Err-ready_pair_at.ensures.at).count ∙ ap (λ (k : Core). length k.ranks) c.self.view_is;
       cap = (made_caches c.self.inside.dirs c.self.inside.caches (g.S.Store.objects c.self.inside.store) c.self.inside.jobs c.self.inside.purge c.self.inside.next c.self.invariant.0 c.give_up_at.new.caches c.give_up_at.ensures.none (c.give_up_at.ensures.at (g.S.Store.objects c.self.inside.store)) (λ other q. IsThat c.args.at.first (c.args.from.now.dir, c.args.source) other q ⊎ IsThat c.args.at.second (c.args.to.now.dir, c.args.target) other q) (λ (q : Leaf). (q ≡ (c.args.from.now.dir, c.args.source)) ⊎ (q ≡ (c.args.to.now.dir, c.args.target))) come c.ready_pair_at.new.caches (g.S.Store.objects c.ready_pair_at.new.store) c.in-Err-ready_pair_at.ensures.same c.in-Err-ready_pair_at.ensures.at).cap ∙ ap (λ (k : Core). k.cache.cap) c.self.view_is;
-      grows = omega (arith, c.in-Err-ready_pair_at.ensures.grows, ap (λ (k : Core). k.faults) c.self.view_is);
+      counted = omega (arith, c.in-Err-ready_pair_at.ensures.counted, ap (λ (k : Core). k.faults) c.self.view_is);
     }
 
 pub returns-in-Err-ready_pair_at-clause-caches : goal.returns-in-Err-ready_pair_at-clause-caches
@@ -149,12 +152,13 @@ returns-in_err-inode-clause-kept g c =
     let second_pick : IsPick (leaves_of c.self.inside.dirs.trees c.args.to.now.dir.0) (hash_of c.args.to.now.name) c.args.target = subst (λ (k : Core). IsPick (leaves_of k.state.covers c.args.to.now.dir.0) (hash_of c.args.to.now.name) c.args.target) (sym c.self.view_is) c.requires.to_leaf in
     let second : IsLive c.self.inside.dirs.homes c.self.inside.dirs.trees (c.args.to.now.dir, c.args.target) = pick_live c.self.inside.dirs (all_of c.self.inside.caches) (g.S.Store.objects c.self.inside.store) c.self.inside.jobs c.self.inside.purge c.self.inside.next c.self.invariant.0 c.args.to.now.dir (hash_of c.args.to.now.name) c.args.target second_known second_pick in
     let come : (q : Leaf) → (q ≡ (c.args.from.now.dir, c.args.source)) ⊎ (q ≡ (c.args.to.now.dir, c.args.target)) → IsLive c.self.inside.dirs.homes c.self.inside.dirs.trees q = either_live c.self.inside.dirs.homes c.self.inside.dirs.trees (c.args.from.now.dir, c.args.source) (c.args.to.now.dir, c.args.target) first second in
+    let none : faults_told (result_err c.from_residual-in_err-inode.result) ≡ 0 = search rules in
     record {
       state = listed_state c.self.inside.dirs (all_of c.ready_pair_at.new.caches) (g.S.Store.objects c.ready_pair_at.new.store) c.self.inside.jobs c.self.inside.purge c.self.inside.next (made_kept c.self.inside.dirs c.self.inside.caches (g.S.Store.objects c.self.inside.store) c.self.inside.jobs c.self.inside.purge c.self.inside.next c.self.invariant.0 c.give_up_at.new.caches c.give_up_at.ensures.none (c.give_up_at.ensures.at (g.S.Store.objects c.self.inside.store)) (λ other q. IsThat c.args.at.first (c.args.from.now.dir, c.args.source) other q ⊎ IsThat c.args.at.second (c.args.to.now.dir, c.args.target) other q) (λ (q : Leaf). (q ≡ (c.args.from.now.dir, c.args.source)) ⊎ (q ≡ (c.args.to.now.dir, c.args.target))) come c.ready_pair_at.new.caches (g.S.Store.objects c.ready_pair_at.new.store) c.in_default-ready_pair_at.ensures.same c.in_default-ready_pair_at.ensures.at) c.ready_going.new.purge c.ready_going.ensures.same ∙ made_state c.self.inside.dirs c.self.inside.caches (g.S.Store.objects c.self.inside.store) c.self.inside.jobs c.self.inside.purge c.self.inside.next c.self.invariant.0 c.give_up_at.new.caches c.give_up_at.ensures.none (c.give_up_at.ensures.at (g.S.Store.objects c.self.inside.store)) (λ other q. IsThat c.args.at.first (c.args.from.now.dir, c.args.source) other q ⊎ IsThat c.args.at.second (c.args.to.now.dir, c.args.target) other q) (λ (q : Leaf). (q ≡ (c.args.from.now.dir, c.args.source)) ⊎ (q ≡ (c.args.to.now.dir, c.args.target))) come c.ready_pair_at.new.caches (g.S.Store.objects c.ready_pair_at.new.store) c.in_default-ready_pair_at.ensures.same c.in_default-ready_pair_at.ensures.at ∙ ap (λ (k : Core). k.state) c.self.view_is;
       unsaved = λ rank. made_unsaved c.self.inside.dirs c.self.inside.caches (g.S.Store.objects c.self.inside.store) c.self.inside.jobs c.self.inside.purge c.self.inside.next c.self.invariant.0 c.give_up_at.new.caches c.give_up_at.ensures.none (c.give_up_at.ensures.at (g.S.Store.objects c.self.inside.store)) (λ other q. IsThat c.args.at.first (c.args.from.now.dir, c.args.source) other q ⊎ IsThat c.args.at.second (c.args.to.now.dir, c.args.target) other q) (λ (q : Leaf). (q ≡ (c.args.from.now.dir, c.args.source)) ⊎ (q ≡ (c.args.to.now.dir, c.args.target))) come c.ready_pair_at.new.caches (g.S.Store.objects c.ready_pair_at.new.store) c.in_default-ready_pair_at.ensures.same c.in_default-ready_pair_at.ensures.at rank ∙ ap (λ (k : Core). unsaved (cache_of k.ranks rank).entries) c.self.view_is;
       count = (made_caches c.self.inside.dirs c.self.inside.caches (g.S.Store.objects c.self.inside.store) c.self.inside.jobs c.self.inside.purge c.self.inside.next c.self.invariant.0 c.give_up_at.new.caches c.give_up_at.ensures.none (c.give_up_at.ensures.at (g.S.Store.objects c.self.inside.store)) (λ other q. IsThat c.args.at.first (c.args.from.now.dir, c.args.source) other q ⊎ IsThat c.args.at.second (c.args.to.now.dir, c.args.target) other q) (λ (q : Leaf). (q ≡ (c.args.from.now.dir, c.args.source)) ⊎ (q ≡ (c.args.to.now.dir, c.args.target))) come c.ready_pair_at.new.caches (g.S.Store.objects c.ready_pair_at.new.store) c.in_default-ready_pair_at.ensures.same c.in_default-ready_pair_at.ensures.at).count ∙ ap (λ (k : Core). length k.ranks) c.self.view_is;
       cap = (made_caches c.self.inside.dirs c.self.inside.caches (g.S.Store.objects c.self.inside.store) c.self.inside.jobs c.self.inside.purge c.self.inside.next c.self.invariant.0 c.give_up_at.new.caches c.give_up_at.ensures.none (c.give_up_at.ensures.at (g.S.Store.objects c.self.inside.store)) (λ other q. IsThat c.args.at.first (c.args.from.now.dir, c.args.source) other q ⊎ IsThat c.args.at.second (c.args.to.now.dir, c.args.target) other q) (λ (q : Leaf). (q ≡ (c.args.from.now.dir, c.args.source)) ⊎ (q ≡ (c.args.to.now.dir, c.args.target))) come c.ready_pair_at.new.caches (g.S.Store.objects c.ready_pair_at.new.store) c.in_default-ready_pair_at.ensures.same c.in_default-ready_pair_at.ensures.at).cap ∙ ap (λ (k : Core). k.cache.cap) c.self.view_is;
-      grows = omega (arith, c.in_default-ready_pair_at.ensures.grows, ap (λ (k : Core). k.faults) c.self.view_is);
+      counted = omega (arith, c.in_default-ready_pair_at.ensures.counted, none, ap (λ (k : Core). k.faults) c.self.view_is);
     }
 
 pub returns-in_err-inode-clause-caches : goal.returns-in_err-inode-clause-caches
@@ -193,7 +197,7 @@ returns-clause-kept g c =
       unsaved = λ rank. made_unsaved c.self.inside.dirs c.self.inside.caches (g.S.Store.objects c.self.inside.store) c.self.inside.jobs c.self.inside.purge c.self.inside.next c.self.invariant.0 c.give_up_at.new.caches c.give_up_at.ensures.none (c.give_up_at.ensures.at (g.S.Store.objects c.self.inside.store)) (λ other q. IsThat c.args.at.first (c.args.from.now.dir, c.args.source) other q ⊎ IsThat c.args.at.second (c.args.to.now.dir, c.args.target) other q) (λ (q : Leaf). (q ≡ (c.args.from.now.dir, c.args.source)) ⊎ (q ≡ (c.args.to.now.dir, c.args.target))) come c.ready_pair_at.new.caches (g.S.Store.objects c.ready_pair_at.new.store) c.in_default-ready_pair_at.ensures.same c.in_default-ready_pair_at.ensures.at rank ∙ ap (λ (k : Core). unsaved (cache_of k.ranks rank).entries) c.self.view_is;
       count = (made_caches c.self.inside.dirs c.self.inside.caches (g.S.Store.objects c.self.inside.store) c.self.inside.jobs c.self.inside.purge c.self.inside.next c.self.invariant.0 c.give_up_at.new.caches c.give_up_at.ensures.none (c.give_up_at.ensures.at (g.S.Store.objects c.self.inside.store)) (λ other q. IsThat c.args.at.first (c.args.from.now.dir, c.args.source) other q ⊎ IsThat c.args.at.second (c.args.to.now.dir, c.args.target) other q) (λ (q : Leaf). (q ≡ (c.args.from.now.dir, c.args.source)) ⊎ (q ≡ (c.args.to.now.dir, c.args.target))) come c.ready_pair_at.new.caches (g.S.Store.objects c.ready_pair_at.new.store) c.in_default-ready_pair_at.ensures.same c.in_default-ready_pair_at.ensures.at).count ∙ ap (λ (k : Core). length k.ranks) c.self.view_is;
       cap = (made_caches c.self.inside.dirs c.self.inside.caches (g.S.Store.objects c.self.inside.store) c.self.inside.jobs c.self.inside.purge c.self.inside.next c.self.invariant.0 c.give_up_at.new.caches c.give_up_at.ensures.none (c.give_up_at.ensures.at (g.S.Store.objects c.self.inside.store)) (λ other q. IsThat c.args.at.first (c.args.from.now.dir, c.args.source) other q ⊎ IsThat c.args.at.second (c.args.to.now.dir, c.args.target) other q) (λ (q : Leaf). (q ≡ (c.args.from.now.dir, c.args.source)) ⊎ (q ≡ (c.args.to.now.dir, c.args.target))) come c.ready_pair_at.new.caches (g.S.Store.objects c.ready_pair_at.new.store) c.in_default-ready_pair_at.ensures.same c.in_default-ready_pair_at.ensures.at).cap ∙ ap (λ (k : Core). k.cache.cap) c.self.view_is;
-      grows = omega (arith, c.in_default-ready_pair_at.ensures.grows, ap (λ (k : Core). k.faults) c.self.view_is);
+      counted = omega (arith, c.in_default-ready_pair_at.ensures.counted, ap (λ (k : Core). k.faults) c.self.view_is);
     }
 
 pub returns-clause-caches : goal.returns-clause-caches
@@ -222,3 +226,6 @@ returns-clause-inode g c =
     (tree_has c.self.inside.dirs (all_of c.give_up_at.new.caches) (g.S.Store.objects c.self.inside.store) c.self.inside.jobs c.self.inside.purge c.self.inside.next (mid_kept c.self.inside.dirs c.self.inside.caches (g.S.Store.objects c.self.inside.store) c.self.inside.jobs c.self.inside.purge c.self.inside.next c.self.invariant.0 c.give_up_at.new.caches c.give_up_at.ensures.none (c.give_up_at.ensures.at (g.S.Store.objects c.self.inside.store))) (λ (q : Leaf). (q ≡ (c.args.from.now.dir, c.args.source)) ⊎ (q ≡ (c.args.to.now.dir, c.args.target))) (all_of c.ready_pair_at.new.caches) (g.S.Store.objects c.ready_pair_at.new.store) c.in_default-ready_pair_at.ensures.same c.in_default-ready_pair_at.ensures.at.left come c.args.from.now c.args.source (dir_known c.self.inside.dirs (all_of c.self.inside.caches) (g.S.Store.objects c.self.inside.store) c.self.inside.jobs c.self.inside.purge c.self.inside.next c.self.invariant.0 c.args.from.now.dir.0 first_known) first_pick (λ (o : Option Inode). o ≡ Some c.in_ok-inode.inode)
     (subst (λ (o : Option Cached). HasCached o (λ (f : Cached). map.get (shown f) c.args.from.now.name ≡ Some c.in_ok-inode.inode)) (sym (cached_here c.ready_pair_at.new.caches c.args.at.first (c.args.from.now.dir, c.args.source) (holds_on (λ other q. IsThat c.args.at.first (c.args.from.now.dir, c.args.source) other q ⊎ IsThat c.args.at.second (c.args.to.now.dir, c.args.target) other q) c.give_up_at.new.caches c.ready_pair_at.new.caches c.args.at.first (c.args.from.now.dir, c.args.source) (one_holder c.args.at.first c.args.at.second (c.args.from.now.dir, c.args.source) (c.args.to.now.dir, c.args.target) c.requires.one) c.in_default-ready_pair_at.ensures.at.caches (holds_after c.self.inside.caches c.give_up_at.new.caches c.args.at.first (c.args.from.now.dir, c.args.source) (c.give_up_at.ensures.at (g.S.Store.objects c.self.inside.store)).caches source_holds)).alone))
     (subst (λ (h : Held). HasCached (cached h.entries (c.args.from.now.dir, c.args.source)) (λ (f : Cached). map.get (shown f) c.args.from.now.name ≡ Some c.in_ok-inode.inode)) c.of.ensures c.in_ok-inode.ensures.inode))))
+
+pub returns-in-Err-clause-kept : goal.returns-in-Err-clause-kept
+returns-in-Err-clause-kept g c = keeps_refused _ _ c.in-Err.refusal (ap faults_in c.in-Err.ensures.err.0) (search rules)

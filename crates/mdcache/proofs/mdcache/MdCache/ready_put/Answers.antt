@@ -1,4 +1,4 @@
-use Rattle.std.proofs.Common.{◌≡◌, ◌<◌, ◌+◌, inr, length, sym, ap, subst, ◌∙◌, arith}
+use Rattle.std.proofs.Common.{◌≡◌, ◌<◌, ◌+◌, inr, length, sym, ap, subst, ◌∙◌, arith, rules}
 use Rattle.std.specs.Prelude.{IfErr}
 use Rattle.std.specs.FinMap as map
 use Rattle.mds_types.specs.Tree.{is_directory}
@@ -17,6 +17,8 @@ use Rattle.mdcache.proofs.AtRanks.{holds_after}
 use Rattle.mdcache.proofs.AtReads.{made_caches, made_kept, made_only, made_state, made_unsaved, mid_saved, words_at}
 use Rattle.mdcache.proofs.ReadSteps.{pick_live}
 use Rattle.mdcache.proofs.ReadyLaws.{map_if_err}
+use Rattle.objstore.specs.Objects.{faults_in}
+use Rattle.mdcache.proofs.FragsLaws.{keeps_refused}
 use Rattle.mdcache.proofs.mdcache.MdCache.ready_put.Goals as goal
 
 pub ready_at-requires-clause-holds : goal.ready_at-requires-clause-holds
@@ -55,7 +57,7 @@ returns-clause-kept g c =
       unsaved = λ rank. made_unsaved c.self.inside.dirs c.self.inside.caches (g.S.Store.objects c.self.inside.store) c.self.inside.jobs c.self.inside.purge c.self.inside.next c.self.invariant.0 c.give_up_at.new.caches c.give_up_at.ensures.none (c.give_up_at.ensures.at (g.S.Store.objects c.self.inside.store)) (IsThat c.args.rank (c.args.dentry.now.dir, c.args.leaf)) (λ (q : Leaf). q ≡ (c.args.dentry.now.dir, c.args.leaf)) come c.ready_at.new.caches (g.S.Store.objects c.ready_at.new.store) c.ready_at.ensures.same c.ready_at.ensures.at rank ∙ ap (λ (k : Core). unsaved (cache_of k.ranks rank).entries) c.self.view_is;
       count = (made_caches c.self.inside.dirs c.self.inside.caches (g.S.Store.objects c.self.inside.store) c.self.inside.jobs c.self.inside.purge c.self.inside.next c.self.invariant.0 c.give_up_at.new.caches c.give_up_at.ensures.none (c.give_up_at.ensures.at (g.S.Store.objects c.self.inside.store)) (IsThat c.args.rank (c.args.dentry.now.dir, c.args.leaf)) (λ (q : Leaf). q ≡ (c.args.dentry.now.dir, c.args.leaf)) come c.ready_at.new.caches (g.S.Store.objects c.ready_at.new.store) c.ready_at.ensures.same c.ready_at.ensures.at).count ∙ ap (λ (k : Core). length k.ranks) c.self.view_is;
       cap = (made_caches c.self.inside.dirs c.self.inside.caches (g.S.Store.objects c.self.inside.store) c.self.inside.jobs c.self.inside.purge c.self.inside.next c.self.invariant.0 c.give_up_at.new.caches c.give_up_at.ensures.none (c.give_up_at.ensures.at (g.S.Store.objects c.self.inside.store)) (IsThat c.args.rank (c.args.dentry.now.dir, c.args.leaf)) (λ (q : Leaf). q ≡ (c.args.dentry.now.dir, c.args.leaf)) come c.ready_at.new.caches (g.S.Store.objects c.ready_at.new.store) c.ready_at.ensures.same c.ready_at.ensures.at).cap ∙ ap (λ (k : Core). k.cache.cap) c.self.view_is;
-      grows = omega (arith, c.ready_at.ensures.grows, ap (λ (k : Core). k.faults) c.self.view_is);
+      counted = omega (arith, c.ready_at.ensures.counted, ap (λ (k : Core). k.faults) c.self.view_is);
     }
 
 pub returns-clause-caches : goal.returns-clause-caches
@@ -71,3 +73,6 @@ returns-clause-refused g c =
     let holds : MayHold c.self.inside.caches c.args.rank (c.args.dentry.now.dir, c.args.leaf) = subst (λ (k : Core). MayHold k.ranks c.args.rank (c.args.dentry.now.dir, c.args.leaf)) (sym c.self.view_is) c.requires.holds in
     subst (λ (k : Core). IfErr c.ready_at.result (MayNotBeReady (LacksNumbers 1 k.state.next_version) (LacksPlacesAt 1 k c.args.rank) k.faults (g.S.Store.faults c.ready_at.new.store))) c.self.view_is
     (map_if_err c.ready_at.result (λ reason because. inr ((λ lacks. omega (arith, lacks, c.in_default.ensures.ok)), words_at ((all_of c.self.inside.caches).cap < map.len (unsaved (cache_of c.self.inside.caches c.args.rank).entries) + 1) 1 c.self.inside.caches c.give_up_at.new.caches c.args.rank (g.S.Store.faults c.self.inside.store) (g.S.Store.faults c.ready_at.new.store) (c.give_up_at.ensures.at (g.S.Store.objects c.self.inside.store)).caches (holds_after c.self.inside.caches c.give_up_at.new.caches c.args.rank (c.args.dentry.now.dir, c.args.leaf) (c.give_up_at.ensures.at (g.S.Store.objects c.self.inside.store)).caches holds).there (c.give_up_at.ensures.at (g.S.Store.objects c.self.inside.store)).unsaved c.give_up_at.ensures.fixed (λ lacks. lacks) reason because)) c.ready_at.ensures.refused)
+
+pub returns-in-Err-clause-kept : goal.returns-in-Err-clause-kept
+returns-in-Err-clause-kept g c = keeps_refused _ _ c.in-Err.refusal (ap faults_in c.in-Err.ensures.err.0) (search rules)

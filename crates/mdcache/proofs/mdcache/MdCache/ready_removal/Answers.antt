@@ -1,4 +1,4 @@
-use Rattle.std.proofs.Common.{◌≡◌, ◌<◌, ◌+◌, inr, length, sym, ap, subst, ◌∙◌, arith}
+use Rattle.std.proofs.Common.{◌≡◌, ◌<◌, ◌+◌, inr, length, sym, ap, subst, ◌∙◌, arith, rules}
 use Rattle.std.specs.FinMap as map
 use Rattle.mds_types.specs.Tree.{is_directory}
 use Rattle.fragtree.specs.FragTree.{IsPick}
@@ -16,6 +16,8 @@ use Rattle.mdcache.proofs.AtRanks.{holds_after}
 use Rattle.mdcache.proofs.AtReads.{made_caches, made_kept, made_only, made_state, made_unsaved, mid_saved, words_at}
 use Rattle.mdcache.proofs.ReadSteps.{pick_live}
 use Rattle.mdcache.proofs.ReadyChanges.{listed_kept, listed_state}
+use Rattle.objstore.specs.Objects.{faults_in}
+use Rattle.mdcache.proofs.FragsLaws.{keeps_refused}
 use Rattle.mdcache.proofs.mdcache.MdCache.ready_removal.Goals as goal
 
 pub ready_at-requires-clause-holds : goal.ready_at-requires-clause-holds
@@ -54,7 +56,7 @@ returns-in-Err-ready_at-clause-kept g c =
       unsaved = λ rank. made_unsaved c.self.inside.dirs c.self.inside.caches (g.S.Store.objects c.self.inside.store) c.self.inside.jobs c.self.inside.purge c.self.inside.next c.self.invariant.0 c.give_up_at.new.caches c.give_up_at.ensures.none (c.give_up_at.ensures.at (g.S.Store.objects c.self.inside.store)) (IsThat c.args.rank (c.args.dentry.now.dir, c.args.leaf)) (λ (q : Leaf). q ≡ (c.args.dentry.now.dir, c.args.leaf)) come c.ready_at.new.caches (g.S.Store.objects c.ready_at.new.store) c.in-Err-ready_at.ensures.same c.in-Err-ready_at.ensures.at rank ∙ ap (λ (k : Core). unsaved (cache_of k.ranks rank).entries) c.self.view_is;
       count = (made_caches c.self.inside.dirs c.self.inside.caches (g.S.Store.objects c.self.inside.store) c.self.inside.jobs c.self.inside.purge c.self.inside.next c.self.invariant.0 c.give_up_at.new.caches c.give_up_at.ensures.none (c.give_up_at.ensures.at (g.S.Store.objects c.self.inside.store)) (IsThat c.args.rank (c.args.dentry.now.dir, c.args.leaf)) (λ (q : Leaf). q ≡ (c.args.dentry.now.dir, c.args.leaf)) come c.ready_at.new.caches (g.S.Store.objects c.ready_at.new.store) c.in-Err-ready_at.ensures.same c.in-Err-ready_at.ensures.at).count ∙ ap (λ (k : Core). length k.ranks) c.self.view_is;
       cap = (made_caches c.self.inside.dirs c.self.inside.caches (g.S.Store.objects c.self.inside.store) c.self.inside.jobs c.self.inside.purge c.self.inside.next c.self.invariant.0 c.give_up_at.new.caches c.give_up_at.ensures.none (c.give_up_at.ensures.at (g.S.Store.objects c.self.inside.store)) (IsThat c.args.rank (c.args.dentry.now.dir, c.args.leaf)) (λ (q : Leaf). q ≡ (c.args.dentry.now.dir, c.args.leaf)) come c.ready_at.new.caches (g.S.Store.objects c.ready_at.new.store) c.in-Err-ready_at.ensures.same c.in-Err-ready_at.ensures.at).cap ∙ ap (λ (k : Core). k.cache.cap) c.self.view_is;
-      grows = omega (arith, c.in-Err-ready_at.ensures.grows, ap (λ (k : Core). k.faults) c.self.view_is);
+      counted = omega (arith, c.in-Err-ready_at.ensures.counted, ap (λ (k : Core). k.faults) c.self.view_is);
     }
 
 pub returns-in-Err-ready_at-clause-caches : goal.returns-in-Err-ready_at-clause-caches
@@ -90,7 +92,7 @@ returns-clause-kept g c =
       unsaved = λ rank. made_unsaved c.self.inside.dirs c.self.inside.caches (g.S.Store.objects c.self.inside.store) c.self.inside.jobs c.self.inside.purge c.self.inside.next c.self.invariant.0 c.give_up_at.new.caches c.give_up_at.ensures.none (c.give_up_at.ensures.at (g.S.Store.objects c.self.inside.store)) (IsThat c.args.rank (c.args.dentry.now.dir, c.args.leaf)) (λ (q : Leaf). q ≡ (c.args.dentry.now.dir, c.args.leaf)) come c.ready_at.new.caches (g.S.Store.objects c.ready_at.new.store) c.in_default-ready_at.ensures.same c.in_default-ready_at.ensures.at rank ∙ ap (λ (k : Core). unsaved (cache_of k.ranks rank).entries) c.self.view_is;
       count = (made_caches c.self.inside.dirs c.self.inside.caches (g.S.Store.objects c.self.inside.store) c.self.inside.jobs c.self.inside.purge c.self.inside.next c.self.invariant.0 c.give_up_at.new.caches c.give_up_at.ensures.none (c.give_up_at.ensures.at (g.S.Store.objects c.self.inside.store)) (IsThat c.args.rank (c.args.dentry.now.dir, c.args.leaf)) (λ (q : Leaf). q ≡ (c.args.dentry.now.dir, c.args.leaf)) come c.ready_at.new.caches (g.S.Store.objects c.ready_at.new.store) c.in_default-ready_at.ensures.same c.in_default-ready_at.ensures.at).count ∙ ap (λ (k : Core). length k.ranks) c.self.view_is;
       cap = (made_caches c.self.inside.dirs c.self.inside.caches (g.S.Store.objects c.self.inside.store) c.self.inside.jobs c.self.inside.purge c.self.inside.next c.self.invariant.0 c.give_up_at.new.caches c.give_up_at.ensures.none (c.give_up_at.ensures.at (g.S.Store.objects c.self.inside.store)) (IsThat c.args.rank (c.args.dentry.now.dir, c.args.leaf)) (λ (q : Leaf). q ≡ (c.args.dentry.now.dir, c.args.leaf)) come c.ready_at.new.caches (g.S.Store.objects c.ready_at.new.store) c.in_default-ready_at.ensures.same c.in_default-ready_at.ensures.at).cap ∙ ap (λ (k : Core). k.cache.cap) c.self.view_is;
-      grows = omega (arith, c.in_default-ready_at.ensures.grows, ap (λ (k : Core). k.faults) c.self.view_is);
+      counted = omega (arith, c.in_default-ready_at.ensures.counted, ap (λ (k : Core). k.faults) c.self.view_is);
     }
 
 pub returns-clause-caches : goal.returns-clause-caches
@@ -100,3 +102,6 @@ returns-clause-caches g c =
     let live : IsLive c.self.inside.dirs.homes c.self.inside.dirs.trees (c.args.dentry.now.dir, c.args.leaf) = pick_live c.self.inside.dirs (all_of c.self.inside.caches) (g.S.Store.objects c.self.inside.store) c.self.inside.jobs c.self.inside.purge c.self.inside.next c.self.invariant.0 c.args.dentry.now.dir (hash_of c.args.dentry.now.name) c.args.leaf known pick in
     let come : (q : Leaf) → q ≡ (c.args.dentry.now.dir, c.args.leaf) → IsLive c.self.inside.dirs.homes c.self.inside.dirs.trees q = λ q is. subst (IsLive c.self.inside.dirs.homes c.self.inside.dirs.trees) (sym is) live in
     subst (λ (k : Core). KeepsCaches (IsThat c.args.rank (c.args.dentry.now.dir, c.args.leaf)) k.ranks c.ready_at.new.caches) c.self.view_is (made_caches c.self.inside.dirs c.self.inside.caches (g.S.Store.objects c.self.inside.store) c.self.inside.jobs c.self.inside.purge c.self.inside.next c.self.invariant.0 c.give_up_at.new.caches c.give_up_at.ensures.none (c.give_up_at.ensures.at (g.S.Store.objects c.self.inside.store)) (IsThat c.args.rank (c.args.dentry.now.dir, c.args.leaf)) (λ (q : Leaf). q ≡ (c.args.dentry.now.dir, c.args.leaf)) come c.ready_at.new.caches (g.S.Store.objects c.ready_at.new.store) c.in_default-ready_at.ensures.same c.in_default-ready_at.ensures.at)
+
+pub returns-in-Err-clause-kept : goal.returns-in-Err-clause-kept
+returns-in-Err-clause-kept g c = keeps_refused _ _ c.in-Err.refusal (ap faults_in c.in-Err.ensures.err.0) (search rules)

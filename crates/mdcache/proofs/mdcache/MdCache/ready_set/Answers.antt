@@ -1,4 +1,4 @@
-use Rattle.std.proofs.Common.{◌≡◌, ◌<◌, ◌+◌, inr, Option, length, sym, ap, subst, ◌∙◌, arith}
+use Rattle.std.proofs.Common.{◌≡◌, ◌<◌, ◌+◌, inr, Option, length, sym, ap, subst, ◌∙◌, arith, rules}
 use Rattle.std.specs.Prelude.{IfSome}
 use Rattle.std.specs.FinMap as map
 use Rattle.mds_types.specs.Tree.{is_directory}
@@ -22,6 +22,8 @@ use Rattle.dirfrag_codec.specs.EntryRecord.{IsRecordable}
 use Rattle.mdcache.proofs.AtRanks.{cached_here, holds_on}
 use Rattle.cached_frag.specs.Cached.{Cached, shown}
 use Rattle.dentry_cache.specs.Cache.{HasCached}
+use Rattle.objstore.specs.Objects.{faults_in}
+use Rattle.mdcache.proofs.FragsLaws.{keeps_refused}
 use Rattle.mdcache.proofs.mdcache.MdCache.ready_set.Goals as goal
 
 pub ready_at-requires-clause-holds : goal.ready_at-requires-clause-holds
@@ -60,7 +62,7 @@ returns-in-Err-ready_at-clause-kept g c =
       unsaved = λ rank. made_unsaved c.self.inside.dirs c.self.inside.caches (g.S.Store.objects c.self.inside.store) c.self.inside.jobs c.self.inside.purge c.self.inside.next c.self.invariant.0 c.give_up_at.new.caches c.give_up_at.ensures.none (c.give_up_at.ensures.at (g.S.Store.objects c.self.inside.store)) (IsThat c.args.rank (c.args.dentry.now.dir, c.args.leaf)) (λ (q : Leaf). q ≡ (c.args.dentry.now.dir, c.args.leaf)) come c.ready_at.new.caches (g.S.Store.objects c.ready_at.new.store) c.in-Err-ready_at.ensures.same c.in-Err-ready_at.ensures.at rank ∙ ap (λ (k : Core). unsaved (cache_of k.ranks rank).entries) c.self.view_is;
       count = (made_caches c.self.inside.dirs c.self.inside.caches (g.S.Store.objects c.self.inside.store) c.self.inside.jobs c.self.inside.purge c.self.inside.next c.self.invariant.0 c.give_up_at.new.caches c.give_up_at.ensures.none (c.give_up_at.ensures.at (g.S.Store.objects c.self.inside.store)) (IsThat c.args.rank (c.args.dentry.now.dir, c.args.leaf)) (λ (q : Leaf). q ≡ (c.args.dentry.now.dir, c.args.leaf)) come c.ready_at.new.caches (g.S.Store.objects c.ready_at.new.store) c.in-Err-ready_at.ensures.same c.in-Err-ready_at.ensures.at).count ∙ ap (λ (k : Core). length k.ranks) c.self.view_is;
       cap = (made_caches c.self.inside.dirs c.self.inside.caches (g.S.Store.objects c.self.inside.store) c.self.inside.jobs c.self.inside.purge c.self.inside.next c.self.invariant.0 c.give_up_at.new.caches c.give_up_at.ensures.none (c.give_up_at.ensures.at (g.S.Store.objects c.self.inside.store)) (IsThat c.args.rank (c.args.dentry.now.dir, c.args.leaf)) (λ (q : Leaf). q ≡ (c.args.dentry.now.dir, c.args.leaf)) come c.ready_at.new.caches (g.S.Store.objects c.ready_at.new.store) c.in-Err-ready_at.ensures.same c.in-Err-ready_at.ensures.at).cap ∙ ap (λ (k : Core). k.cache.cap) c.self.view_is;
-      grows = omega (arith, c.in-Err-ready_at.ensures.grows, ap (λ (k : Core). k.faults) c.self.view_is);
+      counted = omega (arith, c.in-Err-ready_at.ensures.counted, ap (λ (k : Core). k.faults) c.self.view_is);
     }
 
 pub returns-in-Err-ready_at-clause-caches : goal.returns-in-Err-ready_at-clause-caches
@@ -96,7 +98,7 @@ returns-clause-kept g c =
       unsaved = λ rank. made_unsaved c.self.inside.dirs c.self.inside.caches (g.S.Store.objects c.self.inside.store) c.self.inside.jobs c.self.inside.purge c.self.inside.next c.self.invariant.0 c.give_up_at.new.caches c.give_up_at.ensures.none (c.give_up_at.ensures.at (g.S.Store.objects c.self.inside.store)) (IsThat c.args.rank (c.args.dentry.now.dir, c.args.leaf)) (λ (q : Leaf). q ≡ (c.args.dentry.now.dir, c.args.leaf)) come c.ready_at.new.caches (g.S.Store.objects c.ready_at.new.store) c.in_default-ready_at.ensures.same c.in_default-ready_at.ensures.at rank ∙ ap (λ (k : Core). unsaved (cache_of k.ranks rank).entries) c.self.view_is;
       count = (made_caches c.self.inside.dirs c.self.inside.caches (g.S.Store.objects c.self.inside.store) c.self.inside.jobs c.self.inside.purge c.self.inside.next c.self.invariant.0 c.give_up_at.new.caches c.give_up_at.ensures.none (c.give_up_at.ensures.at (g.S.Store.objects c.self.inside.store)) (IsThat c.args.rank (c.args.dentry.now.dir, c.args.leaf)) (λ (q : Leaf). q ≡ (c.args.dentry.now.dir, c.args.leaf)) come c.ready_at.new.caches (g.S.Store.objects c.ready_at.new.store) c.in_default-ready_at.ensures.same c.in_default-ready_at.ensures.at).count ∙ ap (λ (k : Core). length k.ranks) c.self.view_is;
       cap = (made_caches c.self.inside.dirs c.self.inside.caches (g.S.Store.objects c.self.inside.store) c.self.inside.jobs c.self.inside.purge c.self.inside.next c.self.invariant.0 c.give_up_at.new.caches c.give_up_at.ensures.none (c.give_up_at.ensures.at (g.S.Store.objects c.self.inside.store)) (IsThat c.args.rank (c.args.dentry.now.dir, c.args.leaf)) (λ (q : Leaf). q ≡ (c.args.dentry.now.dir, c.args.leaf)) come c.ready_at.new.caches (g.S.Store.objects c.ready_at.new.store) c.in_default-ready_at.ensures.same c.in_default-ready_at.ensures.at).cap ∙ ap (λ (k : Core). k.cache.cap) c.self.view_is;
-      grows = omega (arith, c.in_default-ready_at.ensures.grows, ap (λ (k : Core). k.faults) c.self.view_is);
+      counted = omega (arith, c.in_default-ready_at.ensures.counted, ap (λ (k : Core). k.faults) c.self.view_is);
     }
 
 pub returns-clause-caches : goal.returns-clause-caches
@@ -120,3 +122,6 @@ returns-clause-recorded g c =
     c.args.dentry.now c.args.leaf (dir_known c.self.inside.dirs (all_of c.self.inside.caches) (g.S.Store.objects c.self.inside.store) c.self.inside.jobs c.self.inside.purge c.self.inside.next c.self.invariant.0 c.args.dentry.now.dir.0 known) pick (λ (o : Option Inode). IfSome o IsRecordable)
     (subst (λ (o : Option Cached). HasCached o (λ (f : Cached). IfSome (map.get (shown f) c.args.dentry.now.name) IsRecordable)) (sym (cached_here c.ready_at.new.caches c.args.rank (c.args.dentry.now.dir, c.args.leaf) (holds_on (IsThat c.args.rank (c.args.dentry.now.dir, c.args.leaf)) c.give_up_at.new.caches c.ready_at.new.caches c.args.rank (c.args.dentry.now.dir, c.args.leaf) (λ other may. may.0) c.in_default-ready_at.ensures.at.caches (holds_after c.self.inside.caches c.give_up_at.new.caches c.args.rank (c.args.dentry.now.dir, c.args.leaf) (c.give_up_at.ensures.at (g.S.Store.objects c.self.inside.store)).caches holds)).alone))
     (subst (λ (h : Held). HasCached (cached h.entries (c.args.dentry.now.dir, c.args.leaf)) (λ (f : Cached). IfSome (map.get (shown f) c.args.dentry.now.name) IsRecordable)) c.of.ensures c.is_recorded.ensures))))
+
+pub returns-in-Err-clause-kept : goal.returns-in-Err-clause-kept
+returns-in-Err-clause-kept g c = keeps_refused _ _ c.in-Err.refusal (ap faults_in c.in-Err.ensures.err.0) (search rules)

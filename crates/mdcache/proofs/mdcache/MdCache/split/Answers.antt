@@ -1,4 +1,4 @@
-use Rattle.std.proofs.Common.{rules, ◌≡◌, ◌+◌, ◌-◌, ◌<◌, ◌^◌, inr, refl, sym, subst, ◌∙◌, ap}
+use Rattle.std.proofs.Common.{rules, ◌≡◌, ◌+◌, ◌-◌, ◌<◌, ◌^◌, inr, refl, sym, subst, ◌∙◌, ap, arith}
 use Rattle.std.specs.Prelude.{map as each, string_bytes, [], ◌∷◌, Ok, Err}
 use Rattle.mds_types.specs.Frag.{child_of}
 use Rattle.mds_types.specs.declared.ids.Rank.{Rank}
@@ -20,6 +20,8 @@ use Rattle.mdcache.proofs.KeptPlaces.{no_more_on, none_on}
 use Rattle.mdcache.proofs.ReadSteps.{live_saved}
 use Rattle.mdcache.proofs.ReadyChanges.{given_kept, given_state}
 use Rattle.mdcache.proofs.SplitMade.{counts_left, no_child_cached, not_begun, undone_kept}
+use Rattle.objstore.specs.Objects.{faults_in}
+use Rattle.mdcache.proofs.CountLaws.{leaves_free}
 use Rattle.mdcache.proofs.mdcache.MdCache.split.Goals as goal
 
 pub returns-in-Err-clause-split : goal.returns-in-Err-clause-split
@@ -138,3 +140,12 @@ returns-in-Err-prepare_split-clause-cap g c = c.in-Err-prepare_split.ensures.cac
 
 pub returns-in-Ok-clause-cap : goal.returns-in-Ok-clause-cap
 returns-in-Ok-clause-cap g c = c.commit_split.ensures.caches.cap ∙ c.in-Ok.ensures.caches.cap ∙ (c.give_up_at.ensures.at (g.S.Store.objects c.self.inside.store)).caches.cap ∙ ap (λ (k : Core). k.cache.cap) c.self.view_is
+
+pub returns-in-Err-clause-counted : goal.returns-in-Err-clause-counted
+returns-in-Err-clause-counted g c =
+    let dirs = c.self.inside.dirs in
+    let Refuses = RefusesSplit (leaves_of dirs.trees c.args.dir.0) c.args.frag c.args.nb in
+    omega (arith, leaves_free Refuses (λ never. never) dirs.homes c.args.dir c.in-Err.refusal c.in-Err.ensures.refused)
+
+pub returns-in-Err-check_counts-clause-counted : goal.returns-in-Err-check_counts-clause-counted
+returns-in-Err-check_counts-clause-counted g c = omega (arith, ap faults_in c.in-Err-check_counts.ensures.err.0)

@@ -18,7 +18,7 @@ returns-clause-kept g c =
       unsaved = λ rank. (c.give_back.ensures.at (g.S.Store.objects c.self.inside.store)).unsaved rank ∙ ap (λ (k : Core). unsaved (cache_of k.ranks rank).entries) c.self.view_is;
       count = (c.give_back.ensures.at (g.S.Store.objects c.self.inside.store)).caches.count ∙ ap (λ (k : Core). length k.ranks) c.self.view_is;
       cap = (c.give_back.ensures.at (g.S.Store.objects c.self.inside.store)).caches.cap ∙ ap (λ (k : Core). k.cache.cap) c.self.view_is;
-      grows = omega (arith, ap (λ (k : Core). k.faults) c.self.view_is);
+      counted = omega (arith, ap (λ (k : Core). k.faults) c.self.view_is);
     }
 
 pub returns-clause-caches : goal.returns-clause-caches

@@ -17,7 +17,7 @@ use Rattle.mdcache.proofs.steps.merge_parts.join_leaves.Goals as goal
 pub loop-part-init : goal.loop-part-init
 loop-part-init g c = record {
   same = refl;
-  grows = omega arith;
+  counted = refl;
   reads = reads_self (Contains (leaves_in c.args.dir c.args.leaves.now)) (g.S.Store.objects c.args.store.now) c.args.cache.now c.args.cache.now refl;
   none = λ q kept. kept;
   base = refl;
@@ -44,7 +44,7 @@ loop-part-preserved g c =
     let told : names_of (unsaved c.loop-part.cache.entries) (g.S.Store.objects c.loop-part.store) q ≡ names_of (unsaved c.args.cache.now.entries) (g.S.Store.objects c.args.store.now) q = λ i. names_of (inv.reads.unsaved i) (inv.same i) q in
     record {
       same = c.in-Ok.ensures.same ∙ inv.same;
-      grows = omega (arith, inv.grows, c.in-Ok.ensures.grows);
+      counted = omega (arith, inv.counted, c.in-Ok.ensures.counted);
       reads = reads_on (Contains (leaves_in c.args.dir c.args.leaves.now)) (g.S.Store.objects c.args.store.now) c.args.cache.now c.loop-part.cache c.join_leaf.new.cache inv.reads
           (reads_wider (λ (l : Leaf). l ≡ q) (Contains (leaves_in c.args.dir c.args.leaves.now)) (g.S.Store.objects c.args.store.now) c.loop-part.cache c.join_leaf.new.cache (λ l is. subst (Contains (leaves_in c.args.dir c.args.leaves.now)) (sym is) among) more);
       none = λ l kept. inv.none l (c.in-Ok.ensures.none l kept);

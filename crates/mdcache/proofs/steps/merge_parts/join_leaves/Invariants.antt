@@ -1,5 +1,5 @@
 -- The names of the leaves that were passed are in the fragment, and those leaves are the ones that were read.
-use Rattle.std.proofs.Common.{◌≡◌, ◌≤◌, ℕ, List, drop}
+use Rattle.std.proofs.Common.{◌≡◌, ℕ, List, drop}
 use Rattle.std.specs.List.{Contains}
 use Rattle.std.specs.FinMap as map
 use Rattle.dentry_cache.specs.Cache.{unsaved}
@@ -13,7 +13,7 @@ use Rattle.mdcache.proofs.steps.merge_parts.join_leaves.Given as goal
 abbrev pub invariant-loop-part : goal.invariant-loop-part
 invariant-loop-part g l = record {
   same : g.S.Store.objects l.store ≡ g.S.Store.objects l.fn.store;
-  grows : g.S.Store.faults l.fn.store ≤ g.S.Store.faults l.store;
+  counted : g.S.Store.faults l.store ≡ g.S.Store.faults l.fn.store;
   reads : Reads (Contains (leaves_in l.dir l.leaves)) (g.S.Store.objects l.fn.store) l.fn.cache l.cache;
   none : KeepsNoMore l.fn.cache l.cache;
   base : l.joined.base ≡ l.fn.joined.base;

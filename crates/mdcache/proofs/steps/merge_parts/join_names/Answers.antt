@@ -1,4 +1,4 @@
-use Rattle.std.proofs.Common.{Option, inl, ap, ◌∙◌}
+use Rattle.std.proofs.Common.{Option, inl, ap, ◌∙◌, arith}
 use Rattle.std.specs.List.{Contains}
 use Rattle.std.specs.FinMap as map
 use Rattle.std.specs.FinMap.{get-empty}
@@ -12,6 +12,7 @@ use Rattle.mdcache.specs.Shown.{names_of}
 use Rattle.mdcache.proofs.JoinLaws.{lacks_before, still_none}
 use Rattle.mdcache.proofs.KeptPlaces.{most_on}
 use Rattle.mdcache.proofs.ReadyLaws.{readies_on, reads_ready, thin_ready}
+use Rattle.mdcache.proofs.CountLaws.{kept_free}
 use Rattle.mdcache.proofs.steps.merge_parts.join_names.Goals as goal
 
 pub returns-in-Err-clause-left : goal.returns-in-Err-clause-left
@@ -69,3 +70,8 @@ returns-in-Ok-clause-cap g c = c.in-Ok.ensures.cap ∙ c.in_default.ensures.read
 
 pub returns-in-Err-keep_place-clause-cap : goal.returns-in-Err-keep_place-clause-cap
 returns-in-Err-keep_place-clause-cap g c = c.in-Err-keep_place.ensures.cap ∙ c.in_default.ensures.reads.fixes.cap
+
+pub returns-in-Err-keep_place-clause-counted : goal.returns-in-Err-keep_place-clause-counted
+returns-in-Err-keep_place-clause-counted g c =
+    let none = kept_free c.in-Err-keep_place.refusal _ c.in-Err-keep_place.ensures.refused in
+    omega (arith, c.in_default.ensures.counted, none)

@@ -1,4 +1,4 @@
-use Rattle.std.proofs.Common.{◌≡◌, ◌⊎◌, List, inl, sym, ap, subst, ◌∙◌}
+use Rattle.std.proofs.Common.{◌≡◌, ◌⊎◌, List, inl, sym, ap, subst, ◌∙◌, arith}
 use Rattle.std.specs.List.{Contains}
 use Rattle.std.specs.Prelude.{map as each}
 use Rattle.mds_types.specs.declared.ids.Rank.{Rank}
@@ -12,6 +12,7 @@ use Rattle.mdcache.specs.Ranks.{MayHold}
 use Rattle.mdcache.proofs.AtRanks.{caches_self}
 use Rattle.mdcache.proofs.FreedLaws.{readies_itself}
 use Rattle.mdcache.proofs.JoinLaws.{itself_apart}
+use Rattle.objstore.specs.Objects.{faults_in}
 use Rattle.mdcache.proofs.steps.merge_parts.prepare_merge.Goals as goal
 
 pub join_names_at-requires-clause-holds : goal.join_names_at-requires-clause-holds
@@ -31,3 +32,6 @@ returns-in-Err-clause-most g c = λ q kept. inl kept
 pub returns-in-Err-clause-caches : goal.returns-in-Err-clause-caches
 returns-in-Err-clause-caches g c =
     caches_self (λ (other : Rank) (q : Leaf). (other ≡ c.args.rank) × (Contains (each (in_directory c.args.dir.0) (leaves_inside c.args.frag (leaves_of c.args.dirs.now.trees c.args.dir.0))) q ⊎ ((c.args.dir, c.args.frag) ≡ q))) c.args.caches.now c.requires.ranks
+
+pub returns-in-Err-clause-counted : goal.returns-in-Err-clause-counted
+returns-in-Err-clause-counted g c = omega (arith, ap faults_in c.in-Err.ensures.refused)

@@ -1,7 +1,9 @@
-use Rattle.std.proofs.Common.{◌≡◌, inl, ◌∙◌}
+use Rattle.std.proofs.Common.{◌≡◌, inl, ◌∙◌, arith}
 use Rattle.mdcache.specs.Changes.{first_leaf}
 use Rattle.mdcache.proofs.KeptPlaces.{most_on, no_more_on}
 use Rattle.mdcache.proofs.ReadyLaws.{first_refused, map_if_err, map_on_err, read_refused, readies_on, thin_ready}
+use Rattle.mdcache.specs.Reads.{FixesAllBut}
+use Rattle.mdcache.proofs.CountLaws.{no_fault_kept}
 use Rattle.mdcache.proofs.steps.ready_leaves.ready_first.Goals as goal
 
 pub returns-clause-left : goal.returns-clause-left
@@ -27,3 +29,9 @@ returns-clause-none g c = map_on_err c.keep_first.result (no_more_on c.args.cach
 pub returns-clause-refused : goal.returns-clause-refused
 returns-clause-refused g c =
     map_if_err c.keep_first.result (λ reason because. first_refused (g.S.Store.faults c.args.store.now) (g.S.Store.faults c.ready_leaf.new.store) c.args.cache.now c.ready_leaf.new.cache reason c.in_default.ensures.fixes because) c.keep_first.ensures.refused
+
+pub returns-clause-counted : goal.returns-clause-counted
+returns-clause-counted g c =
+    let NoPlace = FixesAllBut 2 c.ready_leaf.new.cache in
+    let none = no_fault_kept (Unit {0}) c.keep_first.result NoPlace c.keep_first.ensures.refused in
+    omega (arith, c.in_default.ensures.counted, none)

@@ -1,4 +1,4 @@
-use Rattle.std.proofs.Common.{◌≡◌, ◌⊎◌, inl, inr, sym, ap, subst, ◌∙◌}
+use Rattle.std.proofs.Common.{◌≡◌, ◌⊎◌, inl, inr, sym, ap, subst, ◌∙◌, arith}
 use Rattle.std.specs.FinMap as map
 use Rattle.objstore.specs.Objects.{Objects}
 use Rattle.dentry_cache.specs.Loading.{object_of}
@@ -40,5 +40,5 @@ returns-clause-fixes g c = fixes_on c.args.cache.now c.ready_leaf.new.cache c.re
 pub returns-clause-refused : goal.returns-clause-refused
 returns-clause-refused g c =
     map_if_err c.ready_beside.result
-    (λ reason because. second_refused (g.S.Store.faults c.args.store.now) (g.S.Store.faults c.ready_leaf.new.store) (g.S.Store.faults c.ready_beside.new.store) c.args.cache.now c.ready_leaf.new.cache reason c.in_default.ensures.grows c.in_default.ensures.fixes because)
+    (λ reason because. second_refused (g.S.Store.faults c.args.store.now) (g.S.Store.faults c.ready_leaf.new.store) (g.S.Store.faults c.ready_beside.new.store) c.args.cache.now c.ready_leaf.new.cache reason (omega (arith, c.in_default.ensures.counted)) c.in_default.ensures.fixes because)
     c.ready_beside.ensures.refused

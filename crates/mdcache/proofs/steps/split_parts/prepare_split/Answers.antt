@@ -1,10 +1,11 @@
-use Rattle.std.proofs.Common.{◌≡◌, inl}
+use Rattle.std.proofs.Common.{◌≡◌, inl, ap, arith}
 use Rattle.dentry_cache.specs.Cache.{Leaf}
 use Rattle.mds_types.specs.declared.ids.Rank.{Rank}
 use Rattle.dentry_cache.specs.Caches.{all_of}
 use Rattle.mdcache.specs.Regroups.{IsFamily}
 use Rattle.mdcache.proofs.AtRanks.{caches_self}
 use Rattle.mdcache.proofs.FreedLaws.{no_more_itself, readies_itself}
+use Rattle.objstore.specs.Objects.{faults_in}
 use Rattle.mdcache.proofs.steps.split_parts.prepare_split.Goals as goal
 
 pub returns-in-Err-clause-left : goal.returns-in-Err-clause-left
@@ -18,3 +19,6 @@ returns-in-Err-clause-caches g c = caches_self (λ (other : Rank) (q : Leaf). (o
 
 pub returns-in-Err-clause-refused : goal.returns-in-Err-clause-refused
 returns-in-Err-clause-refused g c = inl c.in-Err.ensures.refused
+
+pub returns-in-Err-clause-counted : goal.returns-in-Err-clause-counted
+returns-in-Err-clause-counted g c = omega (arith, ap faults_in c.in-Err.ensures.refused)
