@@ -1,6 +1,7 @@
 pub mod AdminLaws
 pub mod Applied
 pub mod Carried
+pub mod Counted
 pub mod FragmentLaws
 pub mod HeldLaws
 pub mod MadeReady

@@ -1,5 +1,5 @@
 -- Why a request isn't made ready, said of the tree before it was asked for grants.
-use Rattle.std.proofs.Common.{◌≡◌, ◌⊎◌, inl, inr, subst}
+use Rattle.std.proofs.Common.{◌≡◌, ◌⊎◌, None, inl, inr, subst}
 use Rattle.mds_types.specs.declared.operations.Op.{Op}
 use Rattle.mds_types.specs.declared.refusals.Refusal.{Refusal}
 use Rattle.mds_types.specs.declared.refusals.Refusal.TheVariants.{NoMemory}
@@ -13,7 +13,7 @@ use Rattle.mdcache.specs.State.{State}
 use Rattle.mdcache.proofs.FragsLaws.{refused_later}
 use Rattle.cluster_core.specs.Prepared.{IsUnready}
 
-pub still_refused : (old mid new : Core) (op : Op) (Touch : Type 0) (supply : Supply) (reason : Refusal) → KeepsState old mid → Touch
+pub still_refused : (old mid new : Core) (op : Op) (Touch : Type 0) (supply : Supply) (reason : Refusal) → KeepsState old mid None → Touch
     → IsRefused (shown_tree mid.state) (shown_tree new.state) (MayRefuse mid new op) (step (shown_tree mid.state) op (number_or (offer supply))) (offer supply) reason
     → IsUnready Touch (MayRefuse old new op) (step (shown_tree old.state) op (number_or (offer supply))) (offer supply) reason
 still_refused old mid new op Touch supply reason kept touch refused = go refused.because

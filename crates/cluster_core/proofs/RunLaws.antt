@@ -24,6 +24,7 @@ use Rattle.mdcache.specs.Commits.{Drops, Ends}
 use Rattle.mdcache.specs.Objects.{Purges, SavesTree}
 use Rattle.cluster_core.specs.Administers.{Administers, BeginsAt, EvictsOne, MergesLeaves, SplitsLeaf, nothing, told_job}
 use Rattle.cluster_core.specs.Steps.{ArrivesAt, Does, MayRefuse}
+use Rattle.cluster_core.specs.Sound.{IsSoundBook}
 use Rattle.cluster_core.specs.Runs.{StepsBook, Runs, IsRun, StandsAt, IsOfHistory, BeginsWith}
 
 -- what one step leaves of the history, and what its answer says of it
@@ -175,11 +176,11 @@ pub run_of : (start : Kept) (events : List Event) (results : List (Result Answer
 run_of start [] [] end h = run_of_no_events start end h
 run_of start [] (result ∷ results) end h = absurd h
 run_of start (event ∷ events) [] end h = absurd h
-run_of start (event ∷ events) (result ∷ results) end (next, one, more) =
+run_of start (event ∷ events) (result ∷ results) end (next, one, sound, more) =
     let first = step_of start.core next.core start.history next.history result event one.stepped.does in
     let others = run_of next events results end more in
     record {
-      ran = (next, one, more);
+      ran = (next, one, sound, more);
       same_opening = others.same_opening ∙ one.same_opening;
       grows = grown_twice start.history next.history end.history first.grows others.grows;
       told = (still_told next.history end.history result others.grows first.told, others.told);
@@ -187,12 +188,12 @@ run_of start (event ∷ events) (result ∷ results) end (next, one, more) =
 
 -- one event more
 pub runs-push : (start middle end : Kept) (events : List Event) (results : List (Result Answer Refusal)) (result : Result Answer Refusal) (event : Event)
-    → Runs start events results middle → StepsBook middle end result event → Runs start (events ++ event ∷ []) (results ++ result ∷ []) end
-runs-push start middle end [] [] result event h one = (end, subst (λ k. StepsBook k end result event) h one, refl)
-runs-push start middle end [] (r ∷ results) result event h one = absurd h
-runs-push start middle end (e ∷ events) [] result event h one = absurd h
-runs-push start middle end (e ∷ events) (r ∷ results) result event (next, first, more) one =
-    (next, first, runs-push next middle end events results result event more one)
+    → Runs start events results middle → StepsBook middle end result event → IsSoundBook end → Runs start (events ++ event ∷ []) (results ++ result ∷ []) end
+runs-push start middle end [] [] result event h one sound = (end, subst (λ k. StepsBook k end result event) h one, sound, refl)
+runs-push start middle end [] (r ∷ results) result event h one sound = absurd h
+runs-push start middle end (e ∷ events) [] result event h one sound = absurd h
+runs-push start middle end (e ∷ events) (r ∷ results) result event (next, first, good, more) one sound =
+    (next, first, good, runs-push next middle end events results result event more one sound)
 
 -- the first of what is left of a list
 split_next : {A : Type 0} (n : ℕ) (xs : List A) (x : A) (rest : List A) → x ∷ rest ≡ drop n xs → (take (n + 1) xs ≡ take n xs ++ x ∷ []) × (rest ≡ drop (n + 1) xs)
@@ -206,11 +207,11 @@ split_next n xs x rest left =
 
 -- one event more of those that are left
 pub run_more : (start middle end : Kept) (events rest : List Event) (results new_results : List (Result Answer Refusal)) (result : Result Answer Refusal) (event : Event) (n m : ℕ)
-    → Runs start (take n events) results middle → event ∷ rest ≡ drop n events → StepsBook middle end result event → m ≡ n + 1 → new_results ≡ results ++ result ∷ []
+    → Runs start (take n events) results middle → event ∷ rest ≡ drop n events → StepsBook middle end result event → IsSoundBook end → m ≡ n + 1 → new_results ≡ results ++ result ∷ []
     → Runs start (take m events) new_results end × (rest ≡ drop m events)
-run_more start middle end events rest results new_results result event n m h left one more grown =
+run_more start middle end events rest results new_results result event n m h left one sound more grown =
     let s = split_next n events event rest left in
-    rw (more, grown) (rw s.0 (runs-push start middle end (take n events) results result event h one), s.1)
+    rw (more, grown) (rw s.0 (runs-push start middle end (take n events) results result event h one sound), s.1)
 
 -- no event is left
 pub run_all : (start end : Kept) (events : List Event) (results : List (Result Answer Refusal)) (n : ℕ) → Runs start (take n events) results end → length events ≤ n → Runs start events results end

@@ -7,6 +7,7 @@ use Rattle.mds_types.specs.declared.refusals.Refusal.{Refusal}
 use Rattle.cluster_core.specs.declared.events.Answer.{Answer}
 use Rattle.cluster_core.specs.declared.events.Answer.TheVariants.{Deferred, Forwarded, Job, Nothing, Reply}
 use Rattle.cluster_core.specs.declared.events.Event.{Event}
+use Rattle.cluster_core.specs.Sound.{IsSoundBook}
 use Rattle.cluster_core.specs.State.{Kept}
 use Rattle.cluster_core.specs.Steps.{Steps}
 
@@ -15,12 +16,13 @@ pub record StepsBook (old new : Kept) (result : Result Answer Refusal) (event : 
   pub stepped : Steps old.core new.core old.history new.history result event
   pub same_opening : new.opening ≡ old.opening
 
--- events lead from one book to another, one after the other, with a result for each
+-- events lead from one book to another, one after the other, with a result for each; each leads to a sound book
 abbrev pub Runs : Kept → List Event → List (Result Answer Refusal) → Kept → Type 0
 Runs start [] [] end = end ≡ start
 Runs start [] (result ∷ results) end = ⊥
 Runs start (event ∷ events) [] end = ⊥
-Runs start (event ∷ events) (result ∷ results) end = (next : Kept) × StepsBook start next result event × Runs next events results end
+Runs start (event ∷ events) (result ∷ results) end =
+    (next : Kept) × StepsBook start next result event × IsSoundBook next × Runs next events results end
 
 -- the entry at a place is that of this client and transaction number, with this reply
 pub record StandsAt (history : List Entry) (client tid place : ℕ) (reply : Replied) : Type 0 where

@@ -1,5 +1,7 @@
 -- What each event does to a cluster and its history.
-use Rattle.std.specs.Prelude.{◌≡◌, ◌⊎◌, nat_lt, MatchBool, ◌<◌, ◌≤◌, List, length, Result, Ok, Err}
+use Rattle.std.specs.Prelude.{◌≡◌, ◌⊎◌, ◌+◌, nat_lt, MatchBool, ◌<◌, List, length, Result, Ok, Err}
+use Rattle.std.specs.Result.{result_err}
+use Rattle.objstore.specs.Objects.{faults_told}
 use Rattle.mds_types.specs.declared.ids.Rank.{Rank}
 use Rattle.mds_types.specs.declared.entries.Entry.{Entry}
 use Rattle.mds_types.specs.declared.operations.Op.{Op}
@@ -51,11 +53,12 @@ Does old new past now result (CommitTree dir) = CommitsTree old new past now dir
 Does old new past now result Purge = PurgesObject old new past now result
 Does old new past now result (Evict rank) = AtRank old.state new.state past now rank result (EvictsFragment old new past now rank result)
 
--- one step: what its event does. Each leaf that stays keeps its authority, there are as many ranks, with as many places each, and the store's
--- count of faults doesn't fall
+-- one step: what its event does. Each leaf that stays keeps its authority, there are as many ranks, with as many places
+-- each, and the store's count of faults rises by one where the event is refused by a fault, and not otherwise: so no fault
+-- is hidden, tried again, or told as anything else
 pub record Steps (old new : Core) (past now : List Entry) (result : Result Answer Refusal) (event : Event) : Type 0 where
   pub does : Does old new past now result event
   pub authorities : KeepsAuthorities old.state.tree new.state.tree old.state.roots new.state.roots
   pub ranks : length new.ranks ≡ length old.ranks
   pub capacity : new.cache.cap ≡ old.cache.cap
-  pub grows : old.faults ≤ new.faults
+  pub counted : new.faults ≡ old.faults + faults_told (result_err result)

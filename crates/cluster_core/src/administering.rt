@@ -1,5 +1,7 @@
 //! The administrator's steps: what each does is unseen, but for the answer.
-ghost use Rattle.std.specs.Prelude.{◌≡◌, ◌≤◌, List, length};
+ghost use Rattle.std.specs.Prelude.{◌≡◌, ◌+◌, List, length};
+ghost use Rattle.objstore.specs.Objects.{faults_told};
+ghost use Rattle.std.specs.Result.{result_err};
 ghost use Rattle.mds_types.specs.declared.entries.Entry.{Entry as Applied};
 ghost use Rattle.inboxes.specs.Inboxes.{Inboxes as Waiting};
 ghost use Rattle.inboxes.specs.declared.pins.Pin.{Pin as Granted};
@@ -35,7 +37,7 @@ impl<S: Store + Drop> Cluster<S> {
         ensures kept { KeepsRoots self.old.state.tree self.new.state.tree self.old.state.roots self.new.state.roots }
         ensures count { length self.new.ranks ≡ length self.old.ranks }
         ensures cap { self.new.cache.cap ≡ self.old.cache.cap }
-        ensures grows { self.old.faults ≤ self.new.faults }
+        ensures counted { self.new.faults ≡ self.old.faults + faults_told (result_err result) }
     {
         if !self.is_rank(rank) {
             return Err(Refusal::NotAuthority);
@@ -56,7 +58,7 @@ impl<S: Store + Drop> Cluster<S> {
         ensures kept { KeepsRoots self.old.state.tree self.new.state.tree self.old.state.roots self.new.state.roots }
         ensures count { length self.new.ranks ≡ length self.old.ranks }
         ensures cap { self.new.cache.cap ≡ self.old.cache.cap }
-        ensures grows { self.old.faults ≤ self.new.faults }
+        ensures counted { self.new.faults ≡ self.old.faults + faults_told (result_err result) }
     {
         if !self.is_rank(rank) {
             return Err(Refusal::NotAuthority);
@@ -74,7 +76,7 @@ impl<S: Store + Drop> Cluster<S> {
         ensures begun { (past : List Applied) → AtRank self.old.state self.new.state past past rank result (BeginsCommit self.old self.new past past rank (ino, frag) result) }
         ensures count { length self.new.ranks ≡ length self.old.ranks }
         ensures cap { self.new.cache.cap ≡ self.old.cache.cap }
-        ensures grows { self.old.faults ≤ self.new.faults }
+        ensures counted { self.new.faults ≡ self.old.faults + faults_told (result_err result) }
     {
         if !self.is_rank(rank) {
             return Err(Refusal::NotAuthority);
@@ -87,7 +89,7 @@ impl<S: Store + Drop> Cluster<S> {
         ensures ended { (past : List Applied) → EndsCommit self.old self.new past past encoded.now.job result }
         ensures count { length self.new.ranks ≡ length self.old.ranks }
         ensures cap { self.new.cache.cap ≡ self.old.cache.cap }
-        ensures grows { self.old.faults ≤ self.new.faults }
+        ensures counted { self.new.faults ≡ self.old.faults + faults_told (result_err result) }
     {
         if let Err(refusal) = self.tree.end(alloc, encoded) {
             return Err(refusal);
@@ -100,7 +102,7 @@ impl<S: Store + Drop> Cluster<S> {
         ensures dropped { (past : List Applied) → DropsCommit self.old self.new past past job result }
         ensures count { length self.new.ranks ≡ length self.old.ranks }
         ensures cap { self.new.cache.cap ≡ self.old.cache.cap }
-        ensures grows { self.old.faults ≤ self.new.faults }
+        ensures counted { self.new.faults ≡ self.old.faults + faults_told (result_err result) }
     {
         if let Err(refusal) = self.tree.drop_job(job) {
             return Err(refusal);
@@ -113,7 +115,7 @@ impl<S: Store + Drop> Cluster<S> {
         ensures saved { (past : List Applied) → CommitsTree self.old self.new past past ino result }
         ensures count { length self.new.ranks ≡ length self.old.ranks }
         ensures cap { self.new.cache.cap ≡ self.old.cache.cap }
-        ensures grows { self.old.faults ≤ self.new.faults }
+        ensures counted { self.new.faults ≡ self.old.faults + faults_told (result_err result) }
     {
         if let Err(refusal) = self.tree.commit_tree(alloc, ino) {
             return Err(refusal);
@@ -126,7 +128,7 @@ impl<S: Store + Drop> Cluster<S> {
         ensures purged { (past : List Applied) → PurgesObject self.old self.new past past result }
         ensures count { length self.new.ranks ≡ length self.old.ranks }
         ensures cap { self.new.cache.cap ≡ self.old.cache.cap }
-        ensures grows { self.old.faults ≤ self.new.faults }
+        ensures counted { self.new.faults ≡ self.old.faults + faults_told (result_err result) }
     {
         if let Err(refusal) = self.tree.purge() {
             return Err(refusal);
@@ -140,7 +142,7 @@ impl<S: Store + Drop> Cluster<S> {
         ensures evicted { (past : List Applied) → AtRank self.old.state self.new.state past past rank result (EvictsFragment self.old self.new past past rank result) }
         ensures count { length self.new.ranks ≡ length self.old.ranks }
         ensures cap { self.new.cache.cap ≡ self.old.cache.cap }
-        ensures grows { self.old.faults ≤ self.new.faults }
+        ensures counted { self.new.faults ≡ self.old.faults + faults_told (result_err result) }
     {
         if !self.is_rank(rank) {
             return Err(Refusal::NotAuthority);
@@ -167,7 +169,7 @@ fn split_at<S: Store + Drop>(
     ensures kept { KeepsRoots tree.old.tree.state tree.new.tree.state tree.old.subtrees.roots tree.new.subtrees.roots }
     ensures count { length tree.new.tree.ranks ≡ length tree.old.tree.ranks }
     ensures cap { tree.new.tree.cache.cap ≡ tree.old.tree.cache.cap }
-    ensures grows { tree.old.tree.faults ≤ tree.new.tree.faults }
+    ensures counted { tree.new.tree.faults ≡ tree.old.tree.faults + faults_told (result_err result) }
 {
     if let Err(refusal) = tree.check_split(ino, frag, bits) {
         return Err(refusal);
@@ -198,7 +200,7 @@ fn merge_at<S: Store + Drop>(
     ensures kept { KeepsRoots tree.old.tree.state tree.new.tree.state tree.old.subtrees.roots tree.new.subtrees.roots }
     ensures count { length tree.new.tree.ranks ≡ length tree.old.tree.ranks }
     ensures cap { tree.new.tree.cache.cap ≡ tree.old.tree.cache.cap }
-    ensures grows { tree.old.tree.faults ≤ tree.new.tree.faults }
+    ensures counted { tree.new.tree.faults ≡ tree.old.tree.faults + faults_told (result_err result) }
 {
     if let Err(refusal) = tree.check_merge(ino, frag) {
         return Err(refusal);
@@ -226,6 +228,7 @@ fn begin_at<S: Store + Drop>(
     ensures count { length tree.new.tree.ranks ≡ length tree.old.tree.ranks }
     ensures cap { tree.new.tree.cache.cap ≡ tree.old.tree.cache.cap }
     ensures faults { tree.new.tree.faults ≡ tree.old.tree.faults }
+    ensures counted { tree.new.tree.faults ≡ tree.old.tree.faults + faults_told (result_err result) }
 {
     if tree.has_leaf(ino, frag) && !tree.is_authority(rank, ino, frag) {
         return Err(Refusal::NotAuthority);

@@ -1,5 +1,6 @@
 //! Applying a request: everything that may be refused is made first, and then it is done, which can't fail.
 ghost use Rattle.std.specs.Prelude.{◌≡◌, ◌<◌, ◌++◌, ◌∷◌, [], true, length, set, vec_len, vec_capacity, IfErr, IfOk, IsSome, MatchResult, OnOk};
+ghost use Rattle.std.specs.Result.{result_err};
 ghost use Rattle.std.specs.Option.{option_copied};
 ghost use Rattle.mds_types.specs.Step.{step, number_or};
 ghost use Rattle.inode_table.specs.Numbers.{offer};
@@ -69,12 +70,15 @@ pub fn prepare<F: Frags>(
     ensures reserved { OnOk result (IsReady sessions.new client) }
     ensures past { history.new.items ≡ history.old.items }
     ensures known { table sessions.new ≡ table sessions.old }
-    ensures kept { KeepsAll (F.content frags.old) (F.content frags.new) (F.covers frags.old) (F.covers frags.new) (F.Follows frags.old frags.new) }
+    ensures kept { KeepsAll (F.content frags.old) (F.content frags.new) (F.covers frags.old) (F.covers frags.new) (F.Follows frags.old frags.new (result_err result)) }
 {
     history.reserve(1)?;
     sessions.reserve(alloc, client)?;
     let plan = plan_op(alloc, frags, op, numbers.peek())?;
-    with_copies(plan, numbers)
+    match with_copies(plan, numbers) {
+        Ok(prepared) => Ok(prepared),
+        Err(_) => Err(Refusal::NoMemory),
+    }
 }
 
 // A plan with two more copies of its reply, and the numbers that it leaves.

@@ -1,6 +1,7 @@
 //! The book: a cluster with the history of what it answered.
-ghost use Rattle.std.specs.Prelude.{◌≡◌, ◌≤◌, [], IfOk, IfErr, OnOk};
+ghost use Rattle.std.specs.Prelude.{◌≡◌, ◌+◌, ◌≤◌, [], IfOk, IfErr, OnOk};
 ghost use Rattle.std.specs.FinMap as map;
+ghost use Rattle.objstore.specs.Objects.{faults_in};
 ghost use Rattle.mdcache.specs.New.{MayNotFormat, new_caches};
 ghost use Rattle.cluster_core.specs.Fragments.{LieAtAuthority};
 ghost use Rattle.cluster_core.specs.State.{new_state};
@@ -98,6 +99,9 @@ pub fn format<S: Store + Drop>(
     ensures ranks { IfOk result (λ book. book.core.ranks ≡ new_caches ranks cache) }
     ensures refused { IfErr result (λ back. MayNotFormat (S.objects store) (S.faults store) (S.faults back.1) back.0) }
     ensures left { IfErr result (λ back. S.objects back.1 ≡ S.objects store) }
+    ensures sound { IfOk result IsSoundBook }
+    ensures faults { IfOk result (λ book. book.core.faults ≡ S.faults store) }
+    ensures counted { IfErr result (λ back. S.faults back.1 ≡ S.faults store + faults_in back.0) }
 {
     match Cluster::format(alloc, store, ranks, cache as usize) {
         Ok(cluster) => Ok(Book {

@@ -1,5 +1,7 @@
 //! The cluster and its events.
-ghost use Rattle.std.specs.Prelude.{◌≡◌, ◌≤◌, [], List, length, nat_lt, replicate, Ok, Err, IfOk, IfErr, OnOk};
+ghost use Rattle.std.specs.Prelude.{◌≡◌, ◌+◌, ◌≤◌, [], List, length, nat_lt, replicate, Ok, Err, IfOk, IfErr, OnOk};
+ghost use Rattle.objstore.specs.Objects.{faults_in, faults_told};
+ghost use Rattle.std.specs.Result.{result_err};
 ghost use Rattle.std.specs.FinMap as map;
 ghost use Rattle.mds_types.specs.declared.entries.Entry.{Entry as Applied};
 ghost use Rattle.mds_types.specs.Tree.{Tree};
@@ -78,6 +80,8 @@ impl<S: Store + Drop> Cluster<S> {
         ensures cached { IfOk result AreCached }
         ensures refused { IfErr result (λ back. MayNotFormat (S.objects store) (S.faults store) (S.faults back.1) back.0) }
         ensures left { IfErr result (λ back. S.objects back.1 ≡ S.objects store) }
+        ensures faults { IfOk result (λ c. c.faults ≡ S.faults store) }
+        ensures counted { IfErr result (λ back. S.faults back.1 ≡ S.faults store + faults_in back.0) }
     {
         match parts_of(alloc, ranks) {
             Err(_) => Err((Refusal::NoMemory, store)),
@@ -160,6 +164,7 @@ impl<S: Store + Drop> Cluster<S> {
         ensures ranks { self.new.ranks ≡ self.old.ranks }
         ensures cache { self.new.cache ≡ self.old.cache }
         ensures faults { self.new.faults ≡ self.old.faults }
+        ensures counted { self.new.faults ≡ self.old.faults + faults_told (result_err result) }
     {
         if !self.is_rank(rank) {
             drop(request);
@@ -183,7 +188,7 @@ impl<S: Store + Drop> Cluster<S> {
         ensures kept { KeepsRoots self.old.state.tree self.new.state.tree self.old.state.roots self.new.state.roots }
         ensures count { length self.new.ranks ≡ length self.old.ranks }
         ensures cap { self.new.cache.cap ≡ self.old.cache.cap }
-        ensures grows { self.old.faults ≤ self.new.faults }
+        ensures counted { self.new.faults ≡ self.old.faults + faults_told (result_err result) }
     {
         if !self.is_rank(rank) {
             return Err(Refusal::NotAuthority);
@@ -207,7 +212,7 @@ impl<S: Store + Drop> Cluster<S> {
         ensures roots { self.new.state.roots ≡ self.old.state.roots }
         ensures count { length self.new.ranks ≡ length self.old.ranks }
         ensures cap { self.new.cache.cap ≡ self.old.cache.cap }
-        ensures grows { self.old.faults ≤ self.new.faults }
+        ensures counted { self.new.faults ≡ self.old.faults + faults_told (result_err result) }
     {
         if !self.is_rank(rank) {
             return Err(Refusal::NotAuthority);
@@ -225,7 +230,8 @@ impl<S: Store + Drop> Cluster<S> {
 
     /// The store, to read.
     pub fn store(&self) -> &S
-        ensures { S.objects result.now ≡ self.now.state.tree.objects }
+        ensures objects { S.objects result.now ≡ self.now.state.tree.objects }
+        ensures faults { S.faults result.now ≡ self.now.faults }
     {
         self.tree.store()
     }

@@ -1,5 +1,7 @@
 //! Grants: a rank lets a request that waits somewhere change its fragments.
-ghost use Rattle.std.specs.Prelude.{◌≡◌, ◌≤◌, List, IfOk, OnErr, OnOk, length};
+ghost use Rattle.std.specs.Prelude.{◌≡◌, ◌+◌, List, IfOk, OnErr, OnOk, length};
+ghost use Rattle.objstore.specs.Objects.{faults_told};
+ghost use Rattle.std.specs.Result.{result_err};
 ghost use Rattle.mds_types.specs.declared.entries.Entry.{Entry as Applied};
 ghost use Rattle.mdcache.specs.Frags.{MayRefuse};
 ghost use Rattle.sessions.specs.Table.{Table};
@@ -31,7 +33,7 @@ pub fn grant_first<S: Store + Drop>(
     ensures roots { tree.new.subtrees.roots ≡ tree.old.subtrees.roots }
     ensures count { length tree.new.tree.ranks ≡ length tree.old.tree.ranks }
     ensures cap { tree.new.tree.cache.cap ≡ tree.old.tree.cache.cap }
-    ensures grows { tree.old.tree.faults ≤ tree.new.tree.faults }
+    ensures counted { tree.new.tree.faults ≡ tree.old.tree.faults + faults_told (result_err result) }
 {
     let Some(request) = inboxes.find(client, tid) else {
         return Err(Refusal::InboxEmpty)

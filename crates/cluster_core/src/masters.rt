@@ -3,6 +3,7 @@ ghost use Rattle.std.specs.Prelude.{◌≡◌, ◌≢◌, ◌↔◌, ◌⊎◌, 
 ghost use Rattle.mds_types.specs.declared.refusals.Refusal.TheVariants.{NoInodes, NoMemory};
 ghost use Rattle.mds_types.specs.declared.ids.Rank.{Rank as RankNumber};
 ghost use Rattle.std.specs.Option.{option_copied};
+ghost use Rattle.std.specs.Result.{result_err};
 ghost use Rattle.fragtree.specs.FragTree.{HasLeaf};
 ghost use Rattle.inode_table.specs.Dirs.{leaves_of};
 ghost use Rattle.mdcache.specs.Frags.{MayRefuse};
@@ -81,7 +82,7 @@ pub fn lacks_grant<S: Store + Drop>(
     requires master { IsMasterIn tree.old.tree.state tree.old.subtrees.roots rank op.now rank }
     ensures found { IfOk result (λ lacks. MatchBool lacks (LacksGrantIn tree.old.tree.state tree.old.subtrees.roots pins.now rank client tid op.now) (MayTouchAllIn tree.old.tree.state tree.old.subtrees.roots pins.now rank client tid op.now)) }
     ensures refused { IfErr result (λ reason. (reason ≡ NoMemory) ⊎ ((reason ≢ NoInodes) × MayRefuse tree.old.tree tree.new.tree op.now reason)) }
-    ensures kept { KeepsRanked tree.old tree.new }
+    ensures kept { KeepsRanked tree.old tree.new (result_err result) }
 {
     if !changes_others(op) {
         return Ok(false);

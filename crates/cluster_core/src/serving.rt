@@ -1,5 +1,7 @@
 //! Serving the request at the front of a rank's inbox.
-ghost use Rattle.std.specs.Prelude.{◌≡◌, ◌↔◌, ◌<◌, ◌≤◌, ◌∷◌, [], IsTrue, length, get_or, slice_get, vec_capacity, vec_len, IfErr, IfOk, IfSome, OnOk, Some};
+ghost use Rattle.std.specs.Prelude.{◌≡◌, ◌+◌, ◌↔◌, ◌<◌, ◌∷◌, [], IsTrue, length, get_or, slice_get, vec_capacity, vec_len, IfErr, IfOk, IfSome, OnOk, Some};
+ghost use Rattle.objstore.specs.Objects.{faults_told};
+ghost use Rattle.std.specs.Result.{result_err};
 ghost use Rattle.mds_types.specs.History.{IsNew};
 ghost use Rattle.mds_types.specs.declared.refusals.Refusal.TheVariants.{NoMemory};
 ghost use Rattle.mds_types.specs.declared.requests.Request.{Request as Waiting};
@@ -51,7 +53,7 @@ pub fn serve_front<S: Store + Drop>(
     ensures kept { KeepsRoots tree.old.tree.state tree.new.tree.state tree.old.subtrees.roots tree.new.subtrees.roots }
     ensures count { length tree.new.tree.ranks ≡ length tree.old.tree.ranks }
     ensures cap { tree.new.tree.cache.cap ≡ tree.old.tree.cache.cap }
-    ensures grows { tree.old.tree.faults ≤ tree.new.tree.faults }
+    ensures counted { tree.new.tree.faults ≡ tree.old.tree.faults + faults_told (result_err result) }
 {
     let Some(front) = inboxes.front(rank) else {
         return Err(Refusal::InboxEmpty)
@@ -87,7 +89,7 @@ fn serve_new<S: Store + Drop>(
     ensures kept { KeepsRoots tree.old.tree.state tree.new.tree.state tree.old.subtrees.roots tree.new.subtrees.roots }
     ensures count { length tree.new.tree.ranks ≡ length tree.old.tree.ranks }
     ensures cap { tree.new.tree.cache.cap ≡ tree.old.tree.cache.cap }
-    ensures grows { tree.old.tree.faults ≤ tree.new.tree.faults }
+    ensures counted { tree.new.tree.faults ≡ tree.old.tree.faults + faults_told (result_err result) }
 {
     let Some(front) = inboxes.front(rank) else {
         return Err(Refusal::InboxEmpty)
@@ -140,7 +142,7 @@ fn make_ready<S: Store + Drop>(
     ensures known { table sessions.new ≡ table sessions.old }
     ensures count { length tree.new.tree.ranks ≡ length tree.old.tree.ranks }
     ensures cap { tree.new.tree.cache.cap ≡ tree.old.tree.cache.cap }
-    ensures grows { tree.old.tree.faults ≤ tree.new.tree.faults }
+    ensures counted { tree.new.tree.faults ≡ tree.old.tree.faults + faults_told (result_err result) }
 {
     match lacks_grant(
         alloc,
@@ -186,7 +188,8 @@ fn answer_again(
     place: usize,
     reply: &Reply,
 ) -> Result<Answer, Refusal>
-    ensures { RepeatsFront inboxes.old inboxes.new pins.old pins.new rank place reply.now result (waiting_at inboxes.old rank) }
+    ensures repeats { RepeatsFront inboxes.old inboxes.new pins.old pins.new rank place reply.now result (waiting_at inboxes.old rank) }
+    ensures counted { faults_told (result_err result) ≡ 0 }
 {
     let reply = reply.try_clone()?;
     let Some(request) = inboxes.take(rank) else {
@@ -208,7 +211,8 @@ fn answer_again(
 // The request at the front of a rank's inbox goes to the back of its master's.
 fn forward(inboxes: &mut Inboxes, rank: Rank, master: Rank) -> Result<Answer, Refusal>
     requires { master.0 < length inboxes.old }
-    ensures { ForwardsFront inboxes.old inboxes.new rank master result (waiting_at inboxes.old rank) }
+    ensures forwards { ForwardsFront inboxes.old inboxes.new rank master result (waiting_at inboxes.old rank) }
+    ensures counted { faults_told (result_err result) ≡ 0 }
 {
     if let Err(refusal) = inboxes.forward(rank, master) {
         return Err(refusal);

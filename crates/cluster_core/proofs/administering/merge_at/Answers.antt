@@ -1,4 +1,4 @@
-use Rattle.std.proofs.Common.{◌≡◌, true, false, rules, inr, refl, sym, ◌∙◌}
+use Rattle.std.proofs.Common.{◌≡◌, true, false, rules, inr, refl, sym, ◌∙◌, arith}
 use Rattle.fragtree.specs.FragTree.{CanMerge, RefusesMerge}
 use Rattle.inode_table.specs.Dirs.{leaves_of}
 use Rattle.mdcache.specs.Core.{LacksPlacesAt}
@@ -6,6 +6,7 @@ use Rattle.ranked_tree.specs.Held.{LacksPlacesInside}
 use Rattle.ranked_tree.proofs.HeldRegroups.{regroup_on}
 use Rattle.cluster_core.proofs.AdminLaws.{lacks_inside, one_of_all}
 use Rattle.cluster_core.proofs.Worked.{left}
+use Rattle.mdcache.proofs.CountLaws.{leaves_free}
 use Rattle.cluster_core.proofs.administering.merge_at.Goals as goal
 
 pub merge-requires : goal.merge-requires
@@ -28,3 +29,9 @@ returns-in-Err-merge-clause-merged g c numbers inboxes sessions past =
       )))),
       left c.args.tree.now.tree.state c.merge.new.self.tree.state c.args.tree.now.subtrees.roots c.merge.new.self.subtrees.roots numbers inboxes c.args.pins.now sessions past c.in-Err-merge.ensures.merged.1.0 c.in-Err-merge.ensures.left,
     )
+
+pub returns-in-Err-clause-counted : goal.returns-in-Err-clause-counted
+returns-in-Err-clause-counted g c =
+    let s = c.args.tree.now.tree.state in
+    let Refuses = RefusesMerge (leaves_of s.covers c.args.ino.0) c.args.frag in
+    omega (arith, leaves_free Refuses (λ never. never) s.homes c.args.ino c.in-Err.refusal c.in-Err.ensures.refused)

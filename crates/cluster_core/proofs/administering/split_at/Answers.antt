@@ -1,4 +1,4 @@
-use Rattle.std.proofs.Common.{◌≡◌, ◌+◌, ◌^◌, true, false, rules, inr, refl, sym, ◌∙◌}
+use Rattle.std.proofs.Common.{◌≡◌, ◌+◌, ◌^◌, true, false, rules, inr, refl, sym, ◌∙◌, arith}
 use Rattle.fragtree.specs.FragTree.{CanSplit, RefusesSplit}
 use Rattle.inode_table.specs.Dirs.{leaves_of}
 use Rattle.mdcache.specs.Core.{LacksPlacesAt}
@@ -6,6 +6,7 @@ use Rattle.ranked_tree.specs.Held.{LacksPlacesFor}
 use Rattle.ranked_tree.proofs.HeldRegroups.{regroup_on}
 use Rattle.cluster_core.proofs.AdminLaws.{lacks_here}
 use Rattle.cluster_core.proofs.Worked.{left}
+use Rattle.mdcache.proofs.CountLaws.{leaves_free}
 use Rattle.cluster_core.proofs.administering.split_at.Goals as goal
 
 pub returns-in-Err-split-clause-split : goal.returns-in-Err-split-clause-split
@@ -23,3 +24,9 @@ returns-in-Err-split-clause-split g c numbers inboxes sessions past =
       )))),
       left c.args.tree.now.tree.state c.split.new.self.tree.state c.args.tree.now.subtrees.roots c.split.new.self.subtrees.roots numbers inboxes c.args.pins.now sessions past c.in-Err-split.ensures.split.1.0 c.in-Err-split.ensures.left,
     )
+
+pub returns-in-Err-clause-counted : goal.returns-in-Err-clause-counted
+returns-in-Err-clause-counted g c =
+    let s = c.args.tree.now.tree.state in
+    let Refuses = RefusesSplit (leaves_of s.covers c.args.ino.0) c.args.frag c.args.bits in
+    omega (arith, leaves_free Refuses (λ never. never) s.homes c.args.ino c.in-Err.refusal c.in-Err.ensures.refused)

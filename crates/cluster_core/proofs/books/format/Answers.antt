@@ -8,3 +8,6 @@ pub invariant_of-result : goal.invariant_of-result
 invariant_of-result g c =
     let e = c.in-Ok.ensures in
     rw (c.new-in-Ok.ensures, c.new.ensures.items) (sound-empty c.in-Ok.cluster c.args.ranks c.requires.some c.requires.ranked e.state e.kept e.cached (ap (λ (cs : Caches). length cs) e.ranks ∙ new_count c.args.ranks c.args.cache))
+
+pub returns-in-Ok-clause-sound : goal.returns-in-Ok-clause-sound
+returns-in-Ok-clause-sound g c = invariant_of-result g c
