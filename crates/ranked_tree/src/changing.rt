@@ -22,7 +22,6 @@ use mdcache::MdCache;
 use mds_types::{Dentry, Ino, Refusal};
 use namespace_ops::Change;
 use objstore::Store;
-use std::alloc::Global;
 use subtree_map::Subtrees;
 
 impl<S: Store + Drop> RankedTree<S> {
@@ -48,7 +47,6 @@ impl<S: Store + Drop> RankedTree<S> {
 /// Makes room for the roots that a change makes, which was made ready, so that it can't fail. Refused for want of memory
 /// alone, and the roots are as they were then.
 pub(crate) fn reserve_roots<S: Store + Drop>(
-    alloc: Global,
     tree: &MdCache<S>,
     roots: &mut Subtrees,
     change: &Change,
@@ -62,7 +60,7 @@ pub(crate) fn reserve_roots<S: Store + Drop>(
     ensures left { OnErr result (roots.new ≡ roots.old) }
 {
     match change {
-        Change::Move { to, .. } => reserve_move(alloc, tree.dirs(), roots, tree.moving(), to),
+        Change::Move { to, .. } => reserve_move(tree.dirs(), roots, tree.moving(), to),
         _ => Ok(()),
     }
 }
@@ -125,7 +123,6 @@ pub fn went_with(change: &Change) -> Option<Ino>
 
 // Makes room for what the move of a directory to a dentry makes, if one moves.
 fn reserve_move(
-    alloc: Global,
     dirs: &Dirs,
     roots: &mut Subtrees,
     moving: Option<Ino>,
@@ -141,7 +138,7 @@ fn reserve_move(
     let Some(dir) = moving else {
         return Ok(());
     };
-    roots.reserve_rename(alloc, dirs, dir, to.dir, &to.name)
+    roots.reserve_rename(dirs, dir, to.dir, &to.name)
 }
 
 // Settles the roots of a directory that is about to move to a dentry, if one is.

@@ -109,7 +109,7 @@ impl<S: Store + Drop> Frags for RankedTree<S> {
         if let Err(refusal) = prepare(self.alloc, &mut self.tree, &self.roots, change) {
             return Err(refusal);
         }
-        reserve_roots(self.alloc, &self.tree, &mut self.roots, change)
+        reserve_roots(&self.tree, &mut self.roots, change)
     }
 
     fn change(&mut self, change: Change) {

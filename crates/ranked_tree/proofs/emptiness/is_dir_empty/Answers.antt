@@ -9,7 +9,7 @@ use Rattle.ranked_tree.proofs.AskLaws.{dir_known, leaf_live, map_if_ok}
 use Rattle.ranked_tree.proofs.emptiness.is_dir_empty.Goals as goal
 
 pub are_empty-requires-clause-live : goal.are_empty-requires-clause-live
-are_empty-requires-clause-live g c = leaf_live c.args.tree.now.state c.dirs.ensures.sound c.args.dir c.requires.known c.in-Ok.leaves (c.in-Ok.ensures ∙ ap (λ t. leaves_of t c.args.dir.0) c.dirs.ensures.trees)
+are_empty-requires-clause-live g c = leaf_live c.args.tree.now.state c.dirs.ensures.sound c.args.dir c.requires.known c.in-Ok.leaves (c.in-Ok.ensures.leaves ∙ ap (λ t. leaves_of t c.args.dir.0) c.dirs.ensures.trees)
 
 pub returns-in-Ok-clause-found : goal.returns-in-Ok-clause-found
 returns-in-Ok-clause-found g c =
@@ -17,6 +17,6 @@ returns-in-Ok-clause-found g c =
     map_if_ok c.are_empty.result
     (λ empty is.
     is
-    ∙ ap (λ (fs : List Fragment). list_all (λ (f : Fragment). has_none (names_of s.unsaved s.objects (c.args.dir, f))) fs) (c.in-Ok.ensures ∙ ap (λ t. leaves_of t c.args.dir.0) c.dirs.ensures.trees)
+    ∙ ap (λ (fs : List Fragment). list_all (λ (f : Fragment). has_none (names_of s.unsaved s.objects (c.args.dir, f))) fs) (c.in-Ok.ensures.leaves ∙ ap (λ t. leaves_of t c.args.dir.0) c.dirs.ensures.trees)
     ∙ told_empty s c.dirs.ensures.sound c.args.dir (dir_known s c.dirs.ensures.sound c.args.dir c.requires.known) _ refl)
     c.are_empty.ensures.found
