@@ -2,6 +2,7 @@
 use Rattle.std.specs.Prelude.{◌≡◌, ◌⊎◌, ℕ, ◌+◌, ◌<◌, ◌≤◌, List, [], ◌∷◌, ◌++◌, length, codes, Option, IfSome, Result, Ok, Err}
 use Rattle.std.specs.Io.KnownBytes.{Appends, Keeps}
 use Rattle.std.specs.FinMap as map
+use Rattle.cluster_core.specs.Sound.{IsSoundBook}
 use Rattle.cluster_core.specs.State.{Kept, new_caches, new_state}
 use Rattle.script_text.specs.declared.lines.Line.{Line}
 use Rattle.script_text.specs.declared.lines.Line.TheVariants as line
@@ -82,13 +83,16 @@ pub record RunsInput (old : Admin) (known before after : Option (List ℕ)) (res
   pub read : IfSome known (λ bytes. lines ≡ lines_of bytes)
   pub script : RunsScript old lines before after result
 
--- a book as `format` makes it with so many ranks and a cache of so many places for each: an empty tree, an empty history, the state of a new
--- cluster, and its caches, of which rank 0's has the root's leaf
+-- a book as `format` makes it with so many ranks and a cache of so many places for each: a sound book with an empty
+-- tree, an empty history, the state of a new cluster, and its caches, each of that size and with no place taken but that
+-- of the root's leaf at rank 0. Its store told no fault
 pub record IsFormatted (ranks cache : ℕ) (book : Kept) : Type 0 where
   pub opening : book.opening ≡ map.empty
   pub history : book.history ≡ []
   pub state : book.core.state ≡ new_state ranks
   pub places : book.core.ranks ≡ new_caches ranks cache
+  pub sound : IsSoundBook book
+  pub faults : book.core.faults ≡ 0
 
 -- a whole script, from a new book, with no line read yet
 pub record RunsFormatted (ranks cache : ℕ) (known before after : Option (List ℕ)) (result : Result (Unit {0}) ScriptFault) : Type 0 where

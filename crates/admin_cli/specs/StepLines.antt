@@ -11,10 +11,12 @@ use Rattle.script_output.specs.declared.lines.OutputLine.{OutputLine}
 use Rattle.script_output.specs.declared.lines.OutputLine.TheVariants.{Reply as ReplyLine, Forwarded as ForwardedLine, Deferred as DeferredLine, Queued, Nothing as NothingLine, Job as JobLine, Refused}
 use Rattle.admin_cli.specs.declared.commands.Admin.{Admin}
 
--- one event led from a book to the next with this result, by all that the contract of a book's step says
+-- one event led from a book to the next with this result, by all that the contract of a book's step says; its store, which
+-- is in memory, tells no fault
 pub record IsStep (old new : Kept) (result : Result Answer Refusal) (event : Event) : Type 0 where
   pub stepped : StepsBook old new result event
   pub sound : IsSoundBook new
+  pub faults : new.core.faults ≡ 0
 
 -- the line that shows what a step came to
 abbrev pub shown_line : Result Answer Refusal → OutputLine

@@ -23,7 +23,7 @@ pub struct Admin {
 impl Admin {
     ghost use Rattle.cluster_core.specs.declared.events.Event.TheVariants.{Arrive, Merge, Serve, Split};
     ghost use Rattle.admin_cli.specs.Execute.{Executes, ListsLine, MayLackMemory, OperatesLine};
-    ghost use Rattle.admin_cli.specs.StepLines.{Does, StepsLine, arrived_line};
+    ghost use Rattle.admin_cli.specs.StepLines.{Does, IsStep, StepsLine, arrived_line};
 
     /// An administrator of this book, who has read no line yet.
     pub fn new(alloc: Global, book: Book<MemStore>) -> Admin
@@ -80,7 +80,7 @@ impl Admin {
             oldest: tid,
             op,
         };
-        let arrived = self.book.step(
+        let arrived = self.step_book(
             alloc,
             Event::Arrive {
                 rank: Rank(0),
@@ -99,7 +99,7 @@ impl Admin {
         ensures jobs { self.new.jobs ≡ self.old.jobs }
         ensures arrived { StepsLine self.old.book self.new.book (Arrive rank request) arrived_line result }
     {
-        let arrived = self.book.step(alloc, Event::Arrive { rank, request });
+        let arrived = self.step_book(alloc, Event::Arrive { rank, request });
         if let Err(refusal) = arrived {
             return OutputLine::Refused(refusal);
         }
@@ -140,7 +140,19 @@ impl Admin {
     pub(crate) fn step(&mut self, alloc: Global, event: Event) -> OutputLine
         ensures { Does self.old self.new event result }
     {
-        shown_line(self.book.step(alloc, event))
+        shown_line(self.step_book(alloc, event))
+    }
+
+    // One event, and what it came to.
+    pub(crate) fn step_book(&mut self, alloc: Global, event: Event) -> Result<Answer, Refusal>
+        ensures count { self.new.operations ≡ self.old.operations }
+        ensures jobs { self.new.jobs ≡ self.old.jobs }
+        ensures stepped { IsStep self.old.book self.new.book result event }
+    {
+        let came = self.book.step(alloc, event);
+        // The contract of `store` is what says here that a store in memory tells no fault.
+        let _ = self.book.cluster().store();
+        came
     }
 
     // The leaves of a directory.

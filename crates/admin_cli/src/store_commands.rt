@@ -49,10 +49,7 @@ impl Admin {
         ensures begun { IfOk result (λ number. BeginsCommit self.old self.new rank ino frag number) }
         ensures count { self.new.operations ≡ self.old.operations }
     {
-        match self
-            .book
-            .step(alloc, Event::CommitBegin { rank, ino, frag })
-        {
+        match self.step_book(alloc, Event::CommitBegin { rank, ino, frag }) {
             Ok(Answer::Job(job)) => {
                 let number = job.number;
                 self.jobs.keep(job)?;
