@@ -6,7 +6,7 @@ use Rattle.std.specs.Cmp.{IsTotalOrder, tied_itself, tied_back, alike_right}
 use Rattle.std.specs.Ordering.{ordering_index, ordering_reverse, eq_by_cmp}
 use Rattle.std.specs.List.Sorted.{IsSearchInRange, IsBinarySearchResult, IsNonDecreasingBy}
 use Rattle.std.specs.FinMap.Entries.{find, put, where_key, is_sorted, below_all}
-use Rattle.sorted_map.proofs.Bools.{left_of, right_of, both_of}
+use Rattle.sorted_map.proofs.Bools.{left_of, right_of, both_of, true_of, false_of}
 use Rattle.sorted_map.specs.SortedMap.{after, is_from}
 use Rattle.sorted_map.specs.Places.{IsAt, IsGap, IsPlace}
 
@@ -189,3 +189,18 @@ module _ {K V : Type 0} {R : K → K → Ordering} (o : IsTotalOrder R) where
   pub rises_by : (es : List (K × V)) (r : Bool) → IsAllAdjacentAnswer (λ x y b. b ≡ is_lt (R x.0 y.0)) es r → r ≡ true → T (is_sorted R es)
   rises_by es true h e = adjacent es (λ j d lt. rw add-one at (h j d (omega arith)))
   rises_by es false h e = absurd (false≢true e)
+
+  rising : (es : List (K × V)) (j : ℕ) (d : K × V) → T (is_sorted R es) → suc j < length es → T (is_lt (R (get_or es j d).0 (get_or es (suc j) d).0))
+  rising [] j d s lt = absurd (omega arith)
+  rising (e ∷ []) j d s lt = absurd (omega arith)
+  rising (e ∷ f ∷ es) zero d s lt = left_of _ _ (left_of _ _ s)
+  rising (e ∷ f ∷ es) (suc j) d s lt = rising (f ∷ es) j d (right_of _ _ s) (omega arith)
+
+  falls : (es : List (K × V)) → IsAllAdjacentAnswer (λ x y b. b ≡ is_lt (R x.0 y.0)) es false → T (is_sorted R es) → ⊥
+  falls [] h s = absurd (omega arith)
+  falls (e ∷ es) h s = subst T (sym (h.2 e)) (subst (λ n. T (is_lt (R (get_or (e ∷ es) h.0 e).0 (get_or (e ∷ es) n e).0))) (sym (add-one h.0)) (rising (e ∷ es) h.0 e s (omega arith)))
+
+  -- the test of the neighbours is exact
+  pub rises_as : (es : List (K × V)) (r : Bool) → IsAllAdjacentAnswer (λ x y b. b ≡ is_lt (R x.0 y.0)) es r → r ≡ is_sorted R es
+  rises_as es true h = sym (true_of _ (rises_by es true h refl))
+  rises_as es false h = sym (false_of _ (falls es h))

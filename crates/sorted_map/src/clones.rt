@@ -1,5 +1,5 @@
 //! Clones of maps.
-ghost use Rattle.std.specs.Prelude.{◌≡◌, ◌≢◌, ◌<◌, ◌++◌, ◌∷◌, [], OnOk, OnErr, IfOk};
+ghost use Rattle.std.specs.Prelude.{◌≡◌, ◌≢◌, ◌<◌, ◌++◌, ◌∷◌, [], true, false, OnOk, OnErr, IfOk};
 ghost use Rattle.std.specs.Ordering.{is_lt};
 ghost use Rattle.std.specs.List.{AllZip};
 ghost use Rattle.std.specs.FinMap as map;
@@ -86,11 +86,21 @@ fn add_clone<K: ExactOrd + Clone, V: Clone>(
     copy.reserve(1)?;
     let key = pair.0.clone()?;
     let value = pair.1.clone()?;
-    if !ends_below(copy, &key) {
-        return Err(AllocError);
-    }
+    must_end_below(copy, &key)?;
     copy.put((key, value));
     Ok(())
+}
+
+// An error says that a key is not above all others.
+fn must_end_below<K: ExactOrd, V>(pairs: &SortedMap<K, V>, key: &K) -> Result<(), AllocError>
+    ensures ok { OnOk result (ends_below K.cmp key.now (map.entries (contents K.cmp pairs.now)) ≡ true) }
+    ensures err { OnErr result (ends_below K.cmp key.now (map.entries (contents K.cmp pairs.now)) ≡ false) }
+{
+    if ends_below(pairs, key) {
+        Ok(())
+    } else {
+        Err(AllocError)
+    }
 }
 
 // Whether all keys are less than one.

@@ -1,5 +1,5 @@
 //! The calls that take memory for more pairs.
-ghost use Rattle.std.specs.Prelude.{◌≡◌, ◌+◌, ◌<◌, ◌≤◌, IsOk, OnOk, OnErr};
+ghost use Rattle.std.specs.Prelude.{◌≡◌, ◌+◌, ◌^◌, ◌<◌, ◌≤◌, IsOk, OnOk, OnErr, IfOk};
 ghost use Rattle.std.specs.FinMap as map;
 ghost use Rattle.sorted_map.specs.SortedMap.{contents};
 ghost use Rattle.sorted_map.specs.Overlay.{overlaid};
@@ -55,9 +55,7 @@ impl<K: ExactOrd + Drop, V: Drop> SortedMap<K, V> {
         ensures same { contents K.cmp self.new ≡ contents K.cmp self.old }
         ensures err { OnErr result (self.new ≡ self.old) }
     {
-        let Some(total) = self.len().checked_add(additional) else {
-            return Err(AllocError);
-        };
+        let total = in_all(self.len(), additional)?;
         let mut chunked = ChunkMap::new(alloc);
         chunked.reserve(total)?;
         let fresh = SortedMap {
@@ -87,4 +85,12 @@ impl<K: ExactOrd + Drop, V: Drop> SortedMap<K, V> {
     {
         let _ = self.insert(pair.0, pair.1);
     }
+}
+
+// So many pairs and so many more. An error says that they are more than can be counted.
+fn in_all(len: usize, additional: usize) -> Result<usize, AllocError>
+    ensures ok { IfOk result (λ total. total ≡ len + additional) }
+    ensures err { OnErr result (2 ^ 64 ≤ len + additional) }
+{
+    len.checked_add(additional).ok_or(AllocError)
 }

@@ -5,8 +5,7 @@ ghost use Rattle.sorted_map.specs.Chunks.{flat, load, start, room_in, AllSome};
 use crate::chunks::chunk::{HALF, MOST};
 use crate::chunks::row::Chunks;
 
-/// Puts a pair in at a place of chunk `home`, for which there is room. A full chunk is split before, and its halves join their
-/// neighbours where they fit into one. Takes no memory, and at most one of the room.
+/// Puts a pair in at a place of chunk `home`, for which there is room. Takes no memory, and at most one of the room.
 pub fn put_new<K: Drop, V: Drop>(chunks: &mut Chunks<K, V>, home: usize, at: usize, pair: (K, V))
     requires some { AllSome chunks.old.lists }
     requires home { 0 < length chunks.old.lists → home < length chunks.old.lists }
@@ -90,8 +89,7 @@ pub fn put_value<K, V>(chunks: &mut Chunks<K, V>, home: usize, at: usize, value:
     chunks.replaced(home, at, value)
 }
 
-/// Takes the pair at a place of chunk `home` out. Where that leaves the chunk empty it is kept as room, and where it and a
-/// neighbour fit into one they join. Takes no memory, and none of the room.
+/// Takes the pair at a place of chunk `home` out. No chunk is left empty in the row. Takes no memory, and none of the room.
 pub fn take_out<K: Drop, V: Drop>(chunks: &mut Chunks<K, V>, home: usize, at: usize) -> (K, V)
     requires some { AllSome chunks.old.lists }
     requires home { home < length chunks.old.lists }

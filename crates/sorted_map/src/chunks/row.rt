@@ -103,9 +103,7 @@ impl<K, V> Chunks<K, V> {
             self.ready += 1;
             return Ok(());
         }
-        if count + spare == LIMIT {
-            return Err(AllocError);
-        }
+        takes_more(count + spare)?;
         self.row.reserve(spare + 1)?;
         self.spare.reserve(count + 1)?;
         let fresh = Chunk::new(*self.row.allocator())?;
@@ -226,6 +224,18 @@ impl<K: Drop, V: Drop> Chunks<K, V> {
         self.row[home].take_all(&mut next);
         self.spare.push_reserved(next);
         self.ready += 1;
+    }
+}
+
+// Whether there may be one more beside so many chunks. An error says that they are 2^40.
+fn takes_more(chunks: usize) -> Result<(), AllocError>
+    ensures ok { OnOk result (chunks < 1099511627776) }
+    ensures err { OnErr result (1099511627776 ≤ chunks) }
+{
+    if chunks < LIMIT {
+        Ok(())
+    } else {
+        Err(AllocError)
     }
 }
 

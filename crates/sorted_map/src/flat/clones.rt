@@ -1,5 +1,5 @@
 //! Clones of a map in one vector.
-ghost use Rattle.std.specs.Prelude.{T, IsTrue};
+ghost use Rattle.std.specs.Prelude.{◌≡◌, true, false, OnOk, OnErr};
 ghost use Rattle.std.specs.FinMap.{is_sorted};
 ghost use Rattle.sorted_map.specs.SortedMap.{IsClone};
 
@@ -14,16 +14,26 @@ impl<K: ExactOrd + Clone, V: Clone> Clone for FlatMap<K, V> {
     /// the clones of the keys do not rise.
     fn clone(&self) -> Result<FlatMap<K, V>, AllocError> {
         let pairs = self.pairs.clone()?;
-        if !rises(&pairs) {
-            return Err(AllocError);
-        }
+        must_rise(&pairs)?;
         Ok(FlatMap { pairs })
+    }
+}
+
+// An error says that the keys do not rise.
+fn must_rise<K: Ord, V>(pairs: &[(K, V)]) -> Result<(), AllocError>
+    ensures ok { OnOk result (is_sorted K.cmp pairs.now ≡ true) }
+    ensures err { OnErr result (is_sorted K.cmp pairs.now ≡ false) }
+{
+    if rises(pairs) {
+        Ok(())
+    } else {
+        Err(AllocError)
     }
 }
 
 // Whether each key is less than the next.
 fn rises<K: Ord, V>(pairs: &[(K, V)]) -> bool
-    ensures { IsTrue result → T (is_sorted K.cmp pairs.now) }
+    ensures { result ≡ is_sorted K.cmp pairs.now }
 {
     pairs.is_sorted_by(|a, b| a.0.cmp(&b.0).is_lt())
 }

@@ -11,7 +11,7 @@ returns g c =
     let m = contents R c.reserve.new.self in
     let k = c.in_ok-key.key in
     let v = c.in_ok-value.value in
-    let ends = sym c.ends_below.ensures ∙ c.if-not-ends_below.false in (
+    let ends = c.in_ok-must_end_below.ensures.ok in (
       (k, v),
       (c.in_ok-key.ensures.cases, c.in_ok-value.ensures.cases),
       ap map.entries c.put.ensures.put ∙ entries-insert g.met.K.Ord.total m k v ∙ put_end g.met.K.Ord.total k v (map.entries m) (entries_sorted m) ends

@@ -1,8 +1,8 @@
 use Rattle.std.proofs.Common.{rules, is_lt}
 use Rattle.std.proofs.lemmas.Fn.{always_returns_same}
-use Rattle.sorted_map.proofs.PlaceLaws.{rises_by}
+use Rattle.sorted_map.proofs.PlaceLaws.{rises_as}
 use Rattle.sorted_map.proofs.flat.clones.rises.Goals as goal
 
 pub returns : goal.returns
 returns g c =
-    rises_by g.met.K.Ord.total _ _ (c.is_sorted_by.ensures.cases (λ x y. is_lt (g.K.Ord.cmp x.0 y.0)) (always_returns_same _ _ _ (λ a r f called. search rules)))
+    rises_as g.met.K.Ord.total _ _ (c.is_sorted_by.ensures.cases (λ x y. is_lt (g.K.Ord.cmp x.0 y.0)) (always_returns_same _ _ _ (λ a r f called. search rules)))
