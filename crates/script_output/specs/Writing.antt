@@ -1,6 +1,11 @@
 -- What a write that may fail leaves.
 use Rattle.std.specs.Prelude.{◌≡◌, ℕ, ◌<◌, List, ◌++◌, length, Option, Result, Ok, Err}
 use Rattle.std.specs.Io.KnownBytes.{Appends, Keeps}
+use Rattle.mds_types.specs.declared.object_names.ObjName.{ObjName}
+use Rattle.mds_types.specs.declared.refusals.Refusal.{Refusal}
+use Rattle.mds_types.specs.declared.refusals.Refusal.TheVariants.{Damaged}
+use Rattle.script_output.specs.declared.lines.OutputLine.{OutputLine}
+use Rattle.script_output.specs.declared.lines.OutputLine.TheVariants.{Reply, Forwarded, Deferred, Queued, Nothing, Frags, Subtrees, Authority, Job, Object, Objects, History, Refused, Errno}
 use Rattle.script_output.specs.declared.writing.OutputFault.{OutputFault}
 use Rattle.script_output.specs.declared.writing.OutputFault.TheVariants.{NoMemory, Write}
 
@@ -17,3 +22,24 @@ abbrev pub WritesLine : Option (List ℕ) → Option (List ℕ) → List ℕ →
 WritesLine old new text (Ok done) = Appends old new text
 WritesLine old new text (Err NoMemory) = Keeps old new
 WritesLine old new text (Err Write) = AppendsBeginning old new text
+
+-- a refusal whose line names an object
+abbrev pub NamesObject : Refusal → Type 0
+NamesObject refusal = (object : ObjName) × (refusal ≡ Damaged object)
+
+-- a line whose text isn't always the same, so that it takes memory; that of any refusal but a damaged object's is
+abbrev pub TakesText : OutputLine → Type 0
+TakesText (Reply client tid place first reply) = Unit {0}
+TakesText (Forwarded rank) = Unit {0}
+TakesText Deferred = ⊥
+TakesText Queued = ⊥
+TakesText Nothing = ⊥
+TakesText (Frags leaves) = Unit {0}
+TakesText (Subtrees roots) = Unit {0}
+TakesText (Authority rank) = Unit {0}
+TakesText (Job number) = Unit {0}
+TakesText (Object object) = Unit {0}
+TakesText (Objects names) = Unit {0}
+TakesText (History length) = Unit {0}
+TakesText (Refused refusal) = NamesObject refusal
+TakesText (Errno errno) = Unit {0}

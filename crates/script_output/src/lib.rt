@@ -4,6 +4,7 @@
 #![tactic(auto)]
 
 mod escapes;
+mod fixed_texts;
 mod frag_lists;
 mod laws;
 mod lines;

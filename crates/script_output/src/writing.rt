@@ -1,9 +1,10 @@
 //! Texts and lines to a writer.
-ghost use Rattle.std.specs.Prelude.{OnOk, OnErr, ◌++◌, codes};
+ghost use Rattle.std.specs.Prelude.{◌≡◌, OnOk, OnErr, IfErr, ◌++◌, codes};
 ghost use Rattle.std.specs.Io.KnownBytes.{Appends};
 ghost use Rattle.script_output.specs.Lines.{output_line};
-ghost use Rattle.script_output.specs.Writing.{AppendsBeginning, WritesLine};
+ghost use Rattle.script_output.specs.Writing.{AppendsBeginning, TakesText, WritesLine};
 
+use crate::fixed_texts::fixed_text;
 use crate::lines::OutputLine;
 use std::alloc::Global;
 use std::io::Write;
@@ -34,23 +35,36 @@ pub fn write_all_of<W: Write>(writer: &mut W, bytes: &[u8]) -> Result<(), WriteF
 /// Why a line was not written.
 #[derive(Clone, Copy, Debug, PartialEq, Eq)]
 pub enum OutputFault {
-    /// There was no memory for the line's text. Nothing of it is written.
+    /// There was no memory for the line's text, which isn't always the same. Nothing of it is written.
     NoMemory,
     /// The writer failed or took no byte. A beginning of the line is written.
     Write,
 }
 
-/// Writes the line and its LF. Takes memory for its text.
+/// Writes the line and its LF. Takes memory for its text, unless the text is always the same, as that of `nothing` and of a
+/// refusal.
 pub fn write_line<W: Write>(
     alloc: Global,
     writer: &mut W,
     line: &OutputLine,
 ) -> Result<(), OutputFault>
-    ensures { WritesLine (W.contents writer.old) (W.contents writer.new) (output_line line.now ++ codes "\n") result }
+    ensures written { WritesLine (W.contents writer.old) (W.contents writer.new) (output_line line.now ++ codes "\n") result }
+    ensures memory { IfErr result (λ fault. fault ≡ OutputFault.NoMemory → TakesText line.now) }
 {
+    if let Some(text) = fixed_text(line) {
+        return write_text(writer, text);
+    }
     let Ok(text) = line.to_text(alloc) else {
         return Err(OutputFault::NoMemory);
     };
+    write_text(writer, text.as_str())
+}
+
+// Writes a line's text.
+fn write_text<W: Write>(writer: &mut W, text: &str) -> Result<(), OutputFault>
+    ensures written { WritesLine (W.contents writer.old) (W.contents writer.new) text.now result }
+    ensures fault { IfErr result (λ fault. fault ≡ OutputFault.Write) }
+{
     match write_all_of(writer, text.as_bytes()) {
         Ok(()) => Ok(()),
         Err(WriteFault) => Err(OutputFault::Write),

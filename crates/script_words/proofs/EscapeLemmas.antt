@@ -1,5 +1,5 @@
 -- Reading escapes from the left.
-use Rattle.std.proofs.Common.{◌≡◌, ◌≢◌, ne_eqb, ℕ, ◌<◌, false, cond, eqb, List, [], ◌∷◌, ◌++◌, length, Option, Some, None, refl, ap, sym, ◌∙◌, append-nil, arith}
+use Rattle.std.proofs.Common.{◌≡◌, ◌≢◌, ne_eqb, ℕ, ◌<◌, false, cond, eqb, List, [], ◌∷◌, ◌++◌, length, Option, Some, None, is_some, refl, ap, sym, ◌∙◌, append-nil, arith}
 use Rattle.script_words.specs.Escapes.{bytes_of, onto, hex_byte_of}
 
 -- bytes before those of the rest, where the rest stands for any
@@ -40,3 +40,9 @@ bytes_of-short byte rest word e percent short = ap bytes_of e ∙ ap (λ b. byte
     at [] short = refl
     at (a ∷ []) short = refl
     at (a ∷ b ∷ word) short = absurd (omega arith)
+
+-- a word of which no further byte is read
+pub end-escaped : (rest : List ℕ) → (0 < length rest → bytes_of rest ≡ None) → eqb (length rest) 0 ≡ is_some (bytes_of rest)
+unfolding bytes_of
+end-escaped [] none = refl
+end-escaped (a ∷ rest) none = ne_eqb (length (a ∷ rest)) 0 (omega arith) ∙ ap is_some (sym (none (omega arith)))

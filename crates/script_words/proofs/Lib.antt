@@ -3,3 +3,4 @@ pub mod NumberLemmas
 pub mod WordLemmas
 pub mod NameLemmas
 pub mod FragLemmas
+pub mod FormLemmas

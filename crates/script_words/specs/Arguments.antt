@@ -46,6 +46,10 @@ page_size_of word = wanted (option_and_then (within 1 1024) (number_of 10 word))
 unfoldable pub text_of : List ℕ → Result (List ℕ) Fault
 text_of word = wanted (bytes_of word)
 
+-- NAME and TARGET, or two names: the bytes that both words stand for
+unfoldable pub two_texts_of : List ℕ → List ℕ → Result (List ℕ × List ℕ) Fault
+two_texts_of word other = text_of word >>= λ bytes. (text_of other >>= λ others. Ok (bytes, others))
+
 -- the word `-`
 abbrev pub is_dash : List ℕ → Bool
 is_dash [] = false

@@ -1,7 +1,7 @@
 -- Reading with a fault: steps that go on with what was read, or stop.
 use Rattle.std.specs.Prelude.{◌≡◌, ℕ, Option, Some, None, Result, Ok, Err, List, [], ◌∷◌}
 use Rattle.script_words.specs.declared.faults.Fault.{Fault}
-use Rattle.script_words.specs.declared.faults.Fault.TheVariants.{NotCommand}
+use Rattle.script_words.specs.declared.faults.Fault.TheVariants.{NotCommand, BadWord}
 use Rattle.script_words.specs.declared.faults.ReadError.{ReadError}
 use Rattle.script_words.specs.declared.faults.ReadError.TheVariants as errors
 
@@ -53,12 +53,28 @@ four (a ∷ b ∷ c ∷ []) = Err NotCommand
 four (a ∷ b ∷ c ∷ d ∷ []) = Ok (a, b, c, d)
 four (a ∷ b ∷ c ∷ d ∷ e ∷ words) = Err NotCommand
 
--- a fault is that of the definition, but for want of memory, which no definition speaks of
+-- the words have a command's form, be a name or a target among them outside its rules or not
+abbrev pub HasForm : {B : Type 0} → Result B Fault → Type 0
+HasForm (Ok x) = Unit {0}
+HasForm (Err NotCommand) = ⊥
+HasForm (Err (BadWord errno)) = Unit {0}
+
+-- a fault is that of the definition; memory is wanted only for words that have a command's form
 abbrev pub Fails : {B : Type 0} → ReadError → Result B Fault → Type 0
-Fails errors.NoMemory read = Unit {0}
+Fails errors.NoMemory read = HasForm read
 Fails (errors.Fault fault) read = read ≡ Err fault
 
 -- what a function returned, seen by view, is what the definition reads, unless memory was refused
 abbrev pub Gives : {A B : Type 0} → (A → B) → Result A ReadError → Result B Fault → Type 0
 Gives view (Ok x) read = read ≡ Ok (view x)
 Gives view (Err error) read = Fails error read
+
+-- a fault is that of the definition, and never want of memory
+abbrev pub Tells : {B : Type 0} → ReadError → Result B Fault → Type 0
+Tells errors.NoMemory read = ⊥
+Tells (errors.Fault fault) read = read ≡ Err fault
+
+-- what a function that takes no memory returned, seen by view, is what the definition reads
+abbrev pub Reads : {A B : Type 0} → (A → B) → Result A ReadError → Result B Fault → Type 0
+Reads view (Ok x) read = read ≡ Ok (view x)
+Reads view (Err error) read = Tells error read

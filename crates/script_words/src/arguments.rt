@@ -1,9 +1,9 @@
 //! The words after a command's first.
 ghost use Rattle.std.specs.Prelude.{◌≡◌, option_map};
-ghost use Rattle.script_words.specs.Reading.{Gives};
-ghost use Rattle.script_words.specs.Arguments.{ino_of, rank_of, client_of, decimal_of, mode_of, page_size_of, text_of, after_text_of, name_of, after_name_of, target_of, is_dash};
+ghost use Rattle.script_words.specs.Reading.{Gives, Reads};
+ghost use Rattle.script_words.specs.Arguments.{ino_of, rank_of, client_of, decimal_of, mode_of, page_size_of, text_of, two_texts_of, after_text_of, name_of, after_name_of, target_of, is_dash};
 
-use crate::escapes::unescaped;
+use crate::escapes::{is_escaped, unescaped};
 use crate::faults::{Fault, NOT_COMMAND, ReadError};
 use crate::numbers::{number, octal_mode};
 use mds_types::{
@@ -14,7 +14,7 @@ use std::alloc::Global;
 /// INO: lower hexadecimal.
 #[tactic(auto, unfolding(crate::specs::Arguments::ino_of))]
 pub fn ino(word: &[u8]) -> Result<Ino, ReadError>
-    ensures { Gives (λ ino. ino) result (ino_of word.now) }
+    ensures { Reads (λ ino. ino) result (ino_of word.now) }
 {
     match number(word, 16) {
         Some(n) => Ok(Ino(n)),
@@ -25,7 +25,7 @@ pub fn ino(word: &[u8]) -> Result<Ino, ReadError>
 /// RANK: decimal, 0 to 255.
 #[tactic(auto, unfolding(crate::specs::Arguments::rank_of))]
 pub fn rank(word: &[u8]) -> Result<Rank, ReadError>
-    ensures { Gives (λ rank. rank) result (rank_of word.now) }
+    ensures { Reads (λ rank. rank) result (rank_of word.now) }
 {
     match number(word, 10) {
         Some(n) if n <= 255 => Ok(Rank(n as u8)),
@@ -36,7 +36,7 @@ pub fn rank(word: &[u8]) -> Result<Rank, ReadError>
 /// CLIENT: decimal, at least 1.
 #[tactic(auto, unfolding(crate::specs::Arguments::client_of))]
 pub fn client(word: &[u8]) -> Result<u64, ReadError>
-    ensures { Gives (λ client. client) result (client_of word.now) }
+    ensures { Reads (λ client. client) result (client_of word.now) }
 {
     match number(word, 10) {
         Some(n) if 1 <= n => Ok(n),
@@ -47,7 +47,7 @@ pub fn client(word: &[u8]) -> Result<u64, ReadError>
 /// TID, OLDEST and the N of an attribute: decimal.
 #[tactic(auto, unfolding(crate::specs::Arguments::decimal_of))]
 pub fn decimal(word: &[u8]) -> Result<u64, ReadError>
-    ensures { Gives (λ n. n) result (decimal_of word.now) }
+    ensures { Reads (λ n. n) result (decimal_of word.now) }
 {
     match number(word, 10) {
         Some(n) => Ok(n),
@@ -58,7 +58,7 @@ pub fn decimal(word: &[u8]) -> Result<u64, ReadError>
 /// MODE: one to four octal digits.
 #[tactic(auto, unfolding(crate::specs::Arguments::mode_of))]
 pub fn mode(word: &[u8]) -> Result<Mode, ReadError>
-    ensures { Gives (λ mode. mode) result (mode_of word.now) }
+    ensures { Reads (λ mode. mode) result (mode_of word.now) }
 {
     let Some(n) = octal_mode(word) else {
         return Err(NOT_COMMAND);
@@ -72,7 +72,7 @@ pub fn mode(word: &[u8]) -> Result<Mode, ReadError>
 /// MAX: decimal, 1 to 1024.
 #[tactic(auto, unfolding(crate::specs::Arguments::page_size_of))]
 pub fn page_size(word: &[u8]) -> Result<PageSize, ReadError>
-    ensures { Gives (λ max. max) result (page_size_of word.now) }
+    ensures { Reads (λ max. max) result (page_size_of word.now) }
 {
     let Some(n) = number(word, 10) else {
         return Err(NOT_COMMAND);
@@ -94,6 +94,23 @@ pub fn text(alloc: Global, word: &[u8]) -> Result<Vec<u8>, ReadError>
     match unescaped(alloc, word)? {
         Some(bytes) => Ok(bytes),
         None => Err(NOT_COMMAND),
+    }
+}
+
+/// NAME and TARGET, or two names: the bytes that both words stand for.
+#[tactic(auto, unfolding(crate::specs::Arguments::two_texts_of))]
+pub fn two_texts(alloc: Global, word: &[u8], other: &[u8]) -> Result<(Vec<u8>, Vec<u8>), ReadError>
+    ensures { Gives (λ both. (both.0.items, both.1.items)) result (two_texts_of word.now other.now) }
+{
+    match text(alloc, word) {
+        Ok(bytes) => Ok((bytes, text(alloc, other)?)),
+        Err(ReadError::Fault(fault)) => Err(ReadError::Fault(fault)),
+        Err(ReadError::NoMemory) => {
+            if is_escaped(other) {
+                return Err(ReadError::NoMemory);
+            }
+            Err(NOT_COMMAND)
+        }
     }
 }
 
@@ -121,20 +138,21 @@ fn is_dash(word: &[u8]) -> bool
 /// The name that these bytes are, or the error number of bytes that are none.
 #[tactic(auto, unfolding(crate::specs::Arguments::name_of))]
 pub fn name(bytes: Vec<u8>) -> Result<Name, ReadError>
-    ensures { Gives (λ name. name) result (name_of bytes.items) }
+    ensures { Reads (λ name. name) result (name_of bytes.items) }
 {
     match Name::from_vec(bytes) {
         Ok(name) => Ok(name),
         Err(NameFault::Invalid) => Err(ReadError::Fault(Fault::BadWord(EINVAL))),
         Err(NameFault::TooLong) => Err(ReadError::Fault(Fault::BadWord(ENAMETOOLONG))),
-        Err(NameFault::NoMemory) => Err(ReadError::NoMemory),
+        // (bytes that are there take no memory)
+        Err(NameFault::NoMemory) => unreachable!(),
     }
 }
 
 /// The name after which a listing begins, where there are bytes for one.
 #[tactic(auto, unfolding(crate::specs::Arguments::after_name_of))]
 pub fn after_name(bytes: Option<Vec<u8>>) -> Result<Option<Name>, ReadError>
-    ensures { Gives (λ name. name) result (after_name_of (option_map (λ v. v.items) bytes)) }
+    ensures { Reads (λ name. name) result (after_name_of (option_map (λ v. v.items) bytes)) }
 {
     match bytes {
         None => Ok(None),

@@ -1,12 +1,40 @@
 //! Bytes that a word writes as `%` and two hexadecimal digits.
-ghost use Rattle.std.specs.Prelude.{◌≡◌, ◌<◌, length, IfOk, IfSome, IfNone, Some, None, option_map};
+ghost use Rattle.std.specs.Prelude.{◌≡◌, ◌<◌, length, true, IfOk, IfSome, IfNone, OnErr, Some, None, is_some, option_map};
 ghost use Rattle.script_words.specs.Escapes.{bytes_of, onto, hex_byte_of, hex_digit_of};
 
 use crate::numbers::digit;
 use std::alloc::{AllocError, Global};
 
-/// The bytes that a word stands for; none where a `%` is not followed by two hexadecimal digits.
+/// The bytes that a word stands for; none where a `%` is not followed by two hexadecimal digits. Takes memory for the bytes;
+/// where it is wanting, the word is read once more with nothing kept, so there is an error only for a word that stands for some.
 pub fn unescaped(alloc: Global, word: &[u8]) -> Result<Option<Vec<u8>>, AllocError>
+    ensures bytes { IfOk result (λ bytes. option_map (λ v. v.items) bytes ≡ bytes_of word.now) }
+    ensures memory { OnErr result (is_some (bytes_of word.now) ≡ true) }
+{
+    match kept_bytes(alloc, word) {
+        Ok(bytes) => Ok(bytes),
+        Err(error) => {
+            if is_escaped(word) {
+                return Err(error);
+            }
+            Ok(None)
+        }
+    }
+}
+
+/// Whether a word stands for bytes: each `%` is followed by two hexadecimal digits. Takes no memory.
+pub fn is_escaped(word: &[u8]) -> bool
+    ensures { result ≡ is_some (bytes_of word.now) }
+{
+    let mut rest = word;
+    while let Some((_, after)) = next_byte(rest) {
+        rest = after;
+    }
+    rest.is_empty()
+}
+
+// The bytes that a word stands for, in memory of their own.
+fn kept_bytes(alloc: Global, word: &[u8]) -> Result<Option<Vec<u8>>, AllocError>
     ensures { IfOk result (λ bytes. option_map (λ v. v.items) bytes ≡ bytes_of word.now) }
 {
     let mut bytes = Vec::with_capacity(alloc, word.len())?;

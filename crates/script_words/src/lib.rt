@@ -13,6 +13,7 @@ mod words;
 
 pub use arguments::{
     after_name, after_text, client, decimal, ino, mode, name, page_size, rank, target, text,
+    two_texts,
 };
 pub use counts::{first, four, none, one, three, two};
 pub use faults::{Fault, NOT_COMMAND, ReadError};

@@ -1,7 +1,7 @@
 use Rattle.std.proofs.Common.{length, ◌∙◌, sym, eqb-true}
 use Rattle.script_words.specs.Escapes.{bytes_of}
 use Rattle.script_words.proofs.EscapeLemmas.{before-nothing}
-use Rattle.script_words.proofs.escapes.unescaped.Goals as goal
+use Rattle.script_words.proofs.escapes.kept_bytes.Goals as goal
 
 pub returns-then-is_empty : goal.returns-then-is_empty
 returns-then-is_empty c =

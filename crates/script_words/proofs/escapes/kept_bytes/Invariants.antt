@@ -1,7 +1,7 @@
 use Rattle.std.proofs.Common.{◌≡◌, length}
 use Rattle.script_words.specs.Escapes.{bytes_of}
 use Rattle.script_words.proofs.EscapeLemmas.{before}
-use Rattle.script_words.proofs.escapes.unescaped.Given as goal
+use Rattle.script_words.proofs.escapes.kept_bytes.Given as goal
 
 -- the word stands for the bytes so far, and then for those of the rest
 abbrev pub invariant-loop-byte : goal.invariant-loop-byte

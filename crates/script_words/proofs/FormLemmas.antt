@@ -1,0 +1,68 @@
+-- Which words have a command's form.
+use Rattle.std.proofs.Common.{◌≡◌, ℕ, ◌<◌, Bool, true, false, cond, nat_lt, ◌==◌, List, length, Option, Some, None, is_some, Result, Ok, Err, refl, ap, subst}
+use Rattle.std.specs.List.{list_all}
+use Rattle.mds_types.specs.Name.{fits_target}
+use Rattle.script_words.specs.declared.faults.Fault.{Fault}
+use Rattle.script_words.specs.declared.faults.Fault.TheVariants.{NotCommand, BadWord}
+use Rattle.script_words.specs.Escapes.{bytes_of}
+use Rattle.script_words.specs.Reading.{HasForm, wanted, ◌>>=◌}
+use Rattle.script_words.specs.Arguments.{after_name_of, is_plain_name, name_of, target_of, text_of, two_texts_of}
+
+-- what has a form, and what follows it has one
+pub form_on : {A B : Type 0} (read : Result A Fault) (next : A → Result B Fault) → HasForm read → ((x : A) → HasForm (next x)) → HasForm (read >>= next)
+form_on (Ok x) next form others = others x
+form_on (Err NotCommand) next form others = absurd form
+form_on (Err (BadWord errno)) next form others = tt
+
+-- a word that stands for bytes
+pub form_of_wanted : (bytes : Option (List ℕ)) → is_some bytes ≡ true → HasForm (wanted bytes)
+form_of_wanted None some = cc
+form_of_wanted (Some bytes) some = tt
+
+pub form_of_text : (word : List ℕ) → is_some (bytes_of word) ≡ true → HasForm (text_of word)
+unfolding text_of
+form_of_text word some = form_of_wanted (bytes_of word) some
+
+-- any bytes are a name or outside its rules, and a target too
+pub form_of_name : (bytes : List ℕ) → HasForm (name_of bytes)
+unfolding name_of
+form_of_name bytes = at (nat_lt 255 (length bytes)) (is_plain_name bytes)
+  where
+    at : (long plain : Bool) → HasForm (cond long (Err (BadWord 36)) (cond plain (Ok bytes) (Err (BadWord 22))))
+    at true plain = tt
+    at false true = tt
+    at false false = tt
+
+pub form_of_after : (bytes : Option (List ℕ)) → HasForm (after_name_of bytes)
+unfolding after_name_of
+form_of_after None = tt
+form_of_after (Some bytes) = form_on (name_of bytes) (λ name. Ok (Some name)) (form_of_name bytes) (λ name. tt)
+
+pub form_of_target : (bytes : List ℕ) → HasForm (target_of bytes)
+unfolding target_of
+form_of_target bytes = at (nat_lt 4095 (length bytes)) (length bytes == 0) (list_all fits_target bytes)
+  where
+    at : (long none fits : Bool) → HasForm (cond long (Err (BadWord 36)) (cond none (Err (BadWord 2)) (cond fits (Ok bytes) (Err (BadWord 22)))))
+    at true none fits = tt
+    at false true fits = tt
+    at false false true = tt
+    at false false false = tt
+
+-- both of two
+abbrev both : List ℕ → List ℕ → Result (List ℕ × List ℕ) Fault
+both bytes others = Ok (bytes, others)
+
+-- two words of which the second stands for no bytes
+pub two_without : (word other : List ℕ) → HasForm (text_of word) → false ≡ is_some (bytes_of other) → two_texts_of word other ≡ Err NotCommand
+unfolding two_texts_of text_of
+two_without word other form none = at (bytes_of word) (bytes_of other) form none
+  where
+    at : (one two : Option (List ℕ)) → HasForm (wanted one) → false ≡ is_some two → (wanted one >>= λ bytes. (wanted two >>= λ others. both bytes others)) ≡ Err NotCommand
+    at None two form none = absurd form
+    at (Some bytes) None form none = refl
+    at (Some bytes) (Some others) form none = cc
+
+-- and two that both stand for some
+pub form_of_two : (word other : List ℕ) → HasForm (text_of word) → HasForm (text_of other) → HasForm (two_texts_of word other)
+unfolding two_texts_of
+form_of_two word other one two = form_on (text_of word) (λ bytes. (text_of other >>= λ others. both bytes others)) one (λ bytes. form_on (text_of other) (λ others. both bytes others) two (λ others. tt))

@@ -1,0 +1,10 @@
+use Rattle.std.proofs.Common.{◌≡◌, length, is_some}
+use Rattle.script_words.specs.Escapes.{bytes_of}
+use Rattle.script_words.proofs.escapes.is_escaped.Given as goal
+
+-- the word stands for bytes exactly where the rest does
+abbrev pub invariant-loop-after : goal.invariant-loop-after
+invariant-loop-after l = is_some (bytes_of l.fn.word) ≡ is_some (bytes_of l.rest)
+
+abbrev pub decreases-loop-after : goal.decreases-loop-after
+decreases-loop-after l = length l.rest
