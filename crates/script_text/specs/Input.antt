@@ -1,5 +1,5 @@
 -- The lines of a script's bytes.
-use Rattle.std.specs.Prelude.{◌≡◌, ℕ, ◌<◌, ◌==◌, if◌then◌else◌, List, [], ◌∷◌, length, Option, Some, Result, Ok, Err}
+use Rattle.std.specs.Prelude.{◌≡◌, ℕ, ◌<◌, ◌==◌, if◌then◌else◌, Bool, List, [], ◌∷◌, length, Option, Some, Result, Ok, Err}
 use Rattle.std.specs.List.{onto_first}
 use Rattle.script_text.specs.declared.reading.input.NextLine.{NextLine}
 use Rattle.script_text.specs.declared.reading.input.NextLine.TheVariants.{Read, End}
@@ -10,6 +10,11 @@ use Rattle.script_text.specs.declared.reading.input.LineFault.TheVariants as fau
 unfoldable pub lines_of : List ℕ → List (List ℕ)
 lines_of [] = []
 lines_of (byte ∷ bytes) = if byte == 10 then [] ∷ lines_of bytes else onto_first byte (lines_of bytes)
+
+-- the line that was read last, and whether a reader of lines has failed
+pub record Buffered : Type 0 where
+  pub line : List ℕ
+  pub failed : Bool
 
 -- line is the first of the lines, and the bytes left have the others
 pub record IsFirstLine (bytes line : List ℕ) (left : Option (List ℕ)) : Type 0 where

@@ -7,7 +7,7 @@ use Rattle.script_words.specs.declared.faults.Fault.{Fault}
 use Rattle.script_words.specs.declared.faults.Fault.TheVariants.{NotCommand}
 use Rattle.script_words.specs.Words.{is_text}
 use Rattle.script_words.specs.Reading.{◌>>=◌, first, two, three, four}
-use Rattle.script_words.specs.Arguments.{ino_of, mode_of, page_size_of, text_of, after_text_of, name_of, after_name_of, target_of}
+use Rattle.script_words.specs.Arguments.{ino_of, mode_of, page_size_of, text_of, two_texts_of, after_text_of, name_of, after_name_of, target_of}
 use Rattle.script_text.specs.Attributes.{attributes_of}
 
 -- In each form below that of all its words comes before the rules of names and targets; of two words outside those rules the first decides.
@@ -26,8 +26,8 @@ unfoldable pub made_of : List (List ℕ) → Result (Dentry × ℕ) Fault
 made_of args = do
   words ← three args
   dir ← ino_of words.0
-  bytes ← text_of words.1
   mode ← mode_of words.2
+  bytes ← text_of words.1
   name ← name_of bytes
   Ok (record { dir = dir; name = name }, mode)
 
@@ -36,8 +36,8 @@ unfoldable pub readdir_of : List (List ℕ) → Result Op Fault
 readdir_of args = do
   words ← three args
   dir ← ino_of words.0
-  bytes ← after_text_of words.1
   max ← page_size_of words.2
+  bytes ← after_text_of words.1
   after ← after_name_of bytes
   Ok (Readdir dir after max)
 
@@ -46,10 +46,9 @@ unfoldable pub symlink_of : List (List ℕ) → Result Op Fault
 symlink_of args = do
   words ← three args
   dir ← ino_of words.0
-  bytes ← text_of words.1
-  target_bytes ← text_of words.2
-  name ← name_of bytes
-  target ← target_of target_bytes
+  both ← two_texts_of words.1 words.2
+  name ← name_of both.0
+  target ← target_of both.1
   Ok (Symlink (record { dir = dir; name = name }) target 0)
 
 -- `INO NAME [mode MODE] [size N] [mtime N]`
@@ -58,8 +57,8 @@ setattr_of args = do
   dir ← first args
   name ← first dir.1
   ino ← ino_of dir.0
-  bytes ← text_of name.0
   given ← attributes_of name.1
+  bytes ← text_of name.0
   name ← name_of bytes
   Ok (Setattr (record { dir = ino; name = name }) given)
 
@@ -68,11 +67,10 @@ unfoldable pub rename_of : List (List ℕ) → Result Op Fault
 rename_of args = do
   words ← four args
   dir ← ino_of words.0
-  bytes ← text_of words.1
   to_dir ← ino_of words.2
-  to_bytes ← text_of words.3
-  name ← name_of bytes
-  to_name ← name_of to_bytes
+  both ← two_texts_of words.1 words.3
+  name ← name_of both.0
+  to_name ← name_of both.1
   Ok (Rename (record { dir = dir; name = name }) (record { dir = to_dir; name = to_name }))
 
 -- an operation, by its first word and the words after it; what is made has mtime 0

@@ -69,3 +69,14 @@ line_of_words (verb ∷ args) = line_from (command_of verb args)
 -- what a line asks for: a comment nothing, whatever its bytes; any other line must be printable ASCII
 unfoldable pub line_of : List ℕ → Line
 line_of bytes = if is_comment bytes then line.Nothing else (if list_all is_printable bytes then line_of_words (words_of bytes) else line.NotCommand)
+
+-- a line of a command, or of one with a name or a target outside its rules
+abbrev pub HasLineForm : Line → Type 0
+HasLineForm line.Nothing = ⊥
+HasLineForm (line.Command command) = Unit {0}
+HasLineForm (line.BadWord errno) = Unit {0}
+HasLineForm line.NotCommand = ⊥
+
+-- a line that memory may be wanted for: one that has a command's form, be a name or a target in it outside its rules or not
+abbrev pub TakesMemory : List ℕ → Type 0
+TakesMemory bytes = HasLineForm (line_of bytes)

@@ -1,6 +1,6 @@
 //! Commands, by their first word.
 ghost use Rattle.script_words.specs.Words.{words_of};
-ghost use Rattle.script_words.specs.Reading.{Gives};
+ghost use Rattle.script_words.specs.Reading.{Gives, Reads};
 ghost use Rattle.script_text.specs.Script.{command_of, history_of, req_of, serve_of};
 
 use crate::authorities::{authority, get, grant};
@@ -89,7 +89,7 @@ pub fn read_command(alloc: Global, verb: &[u8], args: &[u8]) -> Result<Command, 
 // `serve RANK`
 #[tactic(auto, unfolding(crate::specs::Script::serve_of))]
 fn serve(args: &[u8]) -> Result<Command, ReadError>
-    ensures { Gives (λ command. command) result (serve_of (words_of args.now)) }
+    ensures { Reads (λ command. command) result (serve_of (words_of args.now)) }
 {
     let word = one(args)?;
     Ok(Command::Serve(rank(word)?))
@@ -123,7 +123,7 @@ fn req(alloc: Global, args: &[u8]) -> Result<Command, ReadError>
 
 // `history`
 fn history(args: &[u8]) -> Result<Command, ReadError>
-    ensures { Gives (λ command. command) result (history_of (words_of args.now)) }
+    ensures { Reads (λ command. command) result (history_of (words_of args.now)) }
 {
     match next_word(args) {
         None => Ok(Command::History),

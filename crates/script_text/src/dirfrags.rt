@@ -1,6 +1,6 @@
 //! Commands on the leaves of a directory, by the word after `dirfrag`.
 ghost use Rattle.script_words.specs.Words.{words_of};
-ghost use Rattle.script_words.specs.Reading.{Gives};
+ghost use Rattle.script_words.specs.Reading.{Reads};
 ghost use Rattle.script_text.specs.Dirfrags.{dirfrag_of, dirfrag_step_of, leaves_of, merge_of, split_of};
 
 use crate::commands::Command;
@@ -9,7 +9,7 @@ use script_words::{NOT_COMMAND, ReadError, first, four, frag, ino, one, rank, sp
 /// `dirfrag` and what follows it.
 #[tactic(auto, unfolding(crate::specs::Dirfrags::dirfrag_of))]
 pub fn dirfrag(args: &[u8]) -> Result<Command, ReadError>
-    ensures { Gives (λ command. command) result (dirfrag_of (words_of args.now)) }
+    ensures { Reads (λ command. command) result (dirfrag_of (words_of args.now)) }
 {
     let (verb, rest) = first(args)?;
     dirfrag_step(verb, rest)
@@ -18,7 +18,7 @@ pub fn dirfrag(args: &[u8]) -> Result<Command, ReadError>
 // The command of this word after `dirfrag`, with the arguments in these words.
 #[tactic(auto, unfolding(crate::specs::Dirfrags::dirfrag_step_of))]
 fn dirfrag_step(verb: &[u8], args: &[u8]) -> Result<Command, ReadError>
-    ensures { Gives (λ command. command) result (dirfrag_step_of verb.now (words_of args.now)) }
+    ensures { Reads (λ command. command) result (dirfrag_step_of verb.now (words_of args.now)) }
 {
     if verb == b"split".as_slice() {
         return split(args);
@@ -35,7 +35,7 @@ fn dirfrag_step(verb: &[u8], args: &[u8]) -> Result<Command, ReadError>
 // `dirfrag split RANK INO FRAG NB`
 #[tactic(auto, unfolding(crate::specs::Dirfrags::split_of))]
 fn split(args: &[u8]) -> Result<Command, ReadError>
-    ensures { Gives (λ command. command) result (split_of (words_of args.now)) }
+    ensures { Reads (λ command. command) result (split_of (words_of args.now)) }
 {
     let (at, dir, leaf, number) = four(args)?;
     let rank = rank(at)?;
@@ -53,7 +53,7 @@ fn split(args: &[u8]) -> Result<Command, ReadError>
 // `dirfrag merge RANK INO FRAG`
 #[tactic(auto, unfolding(crate::specs::Dirfrags::merge_of))]
 fn merge(args: &[u8]) -> Result<Command, ReadError>
-    ensures { Gives (λ command. command) result (merge_of (words_of args.now)) }
+    ensures { Reads (λ command. command) result (merge_of (words_of args.now)) }
 {
     let (at, dir, around) = three(args)?;
     let rank = rank(at)?;
@@ -65,7 +65,7 @@ fn merge(args: &[u8]) -> Result<Command, ReadError>
 // `dirfrag ls INO`
 #[tactic(auto, unfolding(crate::specs::Dirfrags::leaves_of))]
 fn leaves(args: &[u8]) -> Result<Command, ReadError>
-    ensures { Gives (λ command. command) result (leaves_of (words_of args.now)) }
+    ensures { Reads (λ command. command) result (leaves_of (words_of args.now)) }
 {
     let dir = one(args)?;
     Ok(Command::Leaves(ino(dir)?))

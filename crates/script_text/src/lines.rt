@@ -1,8 +1,6 @@
 //! Lines of the script.
-ghost use Rattle.std.specs.Prelude.{◌≡◌, IfOk, OnErr, true, false};
-ghost use Rattle.std.specs.List.{list_all};
-ghost use Rattle.script_words.specs.Words.{is_comment, is_printable};
-ghost use Rattle.script_text.specs.Script.{line_of};
+ghost use Rattle.std.specs.Prelude.{◌≡◌, IfOk, OnErr};
+ghost use Rattle.script_text.specs.Script.{TakesMemory, line_of};
 
 use crate::commands::{Command, read_command};
 use script_words::{Fault, ReadError, is_comment, is_printable, next_word};
@@ -21,11 +19,11 @@ pub enum Line {
 }
 
 /// What the line asks for. Its bytes are those without the LF. Takes memory for names, targets and names of
-/// objects.
+/// objects: an error comes only of a line that has a command's form.
 #[tactic(auto, unfolding(crate::specs::Script::line_of))]
 pub fn read_line(alloc: Global, bytes: &[u8]) -> Result<Line, AllocError>
     ensures line { IfOk result (λ line. line ≡ line_of bytes.now) }
-    ensures memory { OnErr result ((is_comment bytes.now ≡ false) × (list_all is_printable bytes.now ≡ true)) }
+    ensures memory { OnErr result (TakesMemory bytes.now) }
 {
     if is_comment(bytes) {
         return Ok(Line::Nothing);

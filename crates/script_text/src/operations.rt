@@ -7,7 +7,7 @@ use crate::attributes::given_attributes;
 use mds_types::{Dentry, Mode, Op};
 use script_words::{
     NOT_COMMAND, ReadError, after_name, after_text, first, four, ino, mode, name, page_size,
-    target, text, three, two,
+    target, text, three, two, two_texts,
 };
 use std::alloc::Global;
 
@@ -78,8 +78,8 @@ fn made(alloc: Global, args: &[u8]) -> Result<(Dentry, Mode), ReadError>
 {
     let (dir, word, digits) = three(args)?;
     let dir = ino(dir)?;
-    let bytes = text(alloc, word)?;
     let mode = mode(digits)?;
+    let bytes = text(alloc, word)?;
     let name = name(bytes)?;
     Ok((Dentry { dir, name }, mode))
 }
@@ -91,8 +91,8 @@ fn readdir(alloc: Global, args: &[u8]) -> Result<Op, ReadError>
 {
     let (dir, after, max) = three(args)?;
     let dir = ino(dir)?;
-    let bytes = after_text(alloc, after)?;
     let max = page_size(max)?;
+    let bytes = after_text(alloc, after)?;
     let after = after_name(bytes)?;
     Ok(Op::Readdir { dir, after, max })
 }
@@ -104,8 +104,7 @@ fn symlink(alloc: Global, args: &[u8]) -> Result<Op, ReadError>
 {
     let (dir, word, to) = three(args)?;
     let dir = ino(dir)?;
-    let bytes = text(alloc, word)?;
-    let to_bytes = text(alloc, to)?;
+    let (bytes, to_bytes) = two_texts(alloc, word, to)?;
     let name = name(bytes)?;
     let target = target(alloc, &to_bytes)?;
     Ok(Op::Symlink {
@@ -123,8 +122,8 @@ fn setattr(alloc: Global, args: &[u8]) -> Result<Op, ReadError>
     let (dir, rest) = first(args)?;
     let (word, rest) = first(rest)?;
     let dir = ino(dir)?;
-    let bytes = text(alloc, word)?;
     let attributes = given_attributes(rest)?;
+    let bytes = text(alloc, word)?;
     let name = name(bytes)?;
     Ok(Op::Setattr {
         dentry: Dentry { dir, name },
@@ -139,9 +138,8 @@ fn rename(alloc: Global, args: &[u8]) -> Result<Op, ReadError>
 {
     let (dir, word, to_dir, to_word) = four(args)?;
     let dir = ino(dir)?;
-    let bytes = text(alloc, word)?;
     let to_dir = ino(to_dir)?;
-    let to_bytes = text(alloc, to_word)?;
+    let (bytes, to_bytes) = two_texts(alloc, word, to_word)?;
     let from_name = name(bytes)?;
     let to_name = name(to_bytes)?;
     Ok(Op::Rename {

@@ -1,7 +1,7 @@
 //! Commands on the store: commits, fragment trees, the purge list, eviction, and looks at objects.
 ghost use Rattle.std.specs.Prelude.{◌≡◌};
 ghost use Rattle.script_words.specs.Words.{words_of};
-ghost use Rattle.script_words.specs.Reading.{Gives};
+ghost use Rattle.script_words.specs.Reading.{Gives, Reads};
 ghost use Rattle.script_text.specs.StoreCommands.{begin_of, commit_of, drop_of, end_of, evict_of, is_store_verb, leaf_of, object_of, objects_of, purge_of, store_command_of, text_name_of, tree_of};
 
 use byte_strings::Text;
@@ -89,7 +89,7 @@ pub fn read_store_command(
 // `RANK INO FRAG`: a leaf, and the rank that is asked.
 #[tactic(auto, unfolding(crate::specs::StoreCommands::leaf_of))]
 fn leaf(args: &[u8]) -> Result<(Rank, Ino, Frag), ReadError>
-    ensures { Gives (λ leaf. leaf) result (leaf_of (words_of args.now)) }
+    ensures { Reads (λ leaf. leaf) result (leaf_of (words_of args.now)) }
 {
     let (at, dir, part) = three(args)?;
     let rank = rank(at)?;
@@ -101,7 +101,7 @@ fn leaf(args: &[u8]) -> Result<(Rank, Ino, Frag), ReadError>
 // `begin RANK INO FRAG`
 #[tactic(auto, unfolding(crate::specs::StoreCommands::begin_of))]
 fn begin(args: &[u8]) -> Result<StoreCommand, ReadError>
-    ensures { Gives (λ command. command) result (begin_of (words_of args.now)) }
+    ensures { Reads (λ command. command) result (begin_of (words_of args.now)) }
 {
     let (rank, ino, frag) = leaf(args)?;
     Ok(StoreCommand::CommitBegin { rank, ino, frag })
@@ -110,7 +110,7 @@ fn begin(args: &[u8]) -> Result<StoreCommand, ReadError>
 // `end J`
 #[tactic(auto, unfolding(crate::specs::StoreCommands::end_of))]
 fn end(args: &[u8]) -> Result<StoreCommand, ReadError>
-    ensures { Gives (λ command. command) result (end_of (words_of args.now)) }
+    ensures { Reads (λ command. command) result (end_of (words_of args.now)) }
 {
     let word = one(args)?;
     Ok(StoreCommand::CommitEnd(decimal(word)?))
@@ -119,7 +119,7 @@ fn end(args: &[u8]) -> Result<StoreCommand, ReadError>
 // `drop J`
 #[tactic(auto, unfolding(crate::specs::StoreCommands::drop_of))]
 fn drop_job(args: &[u8]) -> Result<StoreCommand, ReadError>
-    ensures { Gives (λ command. command) result (drop_of (words_of args.now)) }
+    ensures { Reads (λ command. command) result (drop_of (words_of args.now)) }
 {
     let word = one(args)?;
     Ok(StoreCommand::CommitDrop(decimal(word)?))
@@ -128,7 +128,7 @@ fn drop_job(args: &[u8]) -> Result<StoreCommand, ReadError>
 // `commit RANK INO FRAG`
 #[tactic(auto, unfolding(crate::specs::StoreCommands::commit_of))]
 fn commit(args: &[u8]) -> Result<StoreCommand, ReadError>
-    ensures { Gives (λ command. command) result (commit_of (words_of args.now)) }
+    ensures { Reads (λ command. command) result (commit_of (words_of args.now)) }
 {
     let (rank, ino, frag) = leaf(args)?;
     Ok(StoreCommand::Commit { rank, ino, frag })
@@ -137,7 +137,7 @@ fn commit(args: &[u8]) -> Result<StoreCommand, ReadError>
 // `tree INO`
 #[tactic(auto, unfolding(crate::specs::StoreCommands::tree_of))]
 fn tree(args: &[u8]) -> Result<StoreCommand, ReadError>
-    ensures { Gives (λ command. command) result (tree_of (words_of args.now)) }
+    ensures { Reads (λ command. command) result (tree_of (words_of args.now)) }
 {
     let dir = one(args)?;
     Ok(StoreCommand::CommitTree(ino(dir)?))
@@ -146,7 +146,7 @@ fn tree(args: &[u8]) -> Result<StoreCommand, ReadError>
 // `purge`
 #[tactic(auto, unfolding(crate::specs::StoreCommands::purge_of))]
 fn purge(args: &[u8]) -> Result<StoreCommand, ReadError>
-    ensures { Gives (λ command. command) result (purge_of (words_of args.now)) }
+    ensures { Reads (λ command. command) result (purge_of (words_of args.now)) }
 {
     none(args)?;
     Ok(StoreCommand::Purge)
@@ -155,7 +155,7 @@ fn purge(args: &[u8]) -> Result<StoreCommand, ReadError>
 // `evict RANK`
 #[tactic(auto, unfolding(crate::specs::StoreCommands::evict_of))]
 fn evict(args: &[u8]) -> Result<StoreCommand, ReadError>
-    ensures { Gives (λ command. command) result (evict_of (words_of args.now)) }
+    ensures { Reads (λ command. command) result (evict_of (words_of args.now)) }
 {
     let word = one(args)?;
     Ok(StoreCommand::Evict(rank(word)?))
@@ -184,7 +184,7 @@ fn text_name(alloc: Global, word: &[u8]) -> Result<Text, ReadError>
 // `objects`
 #[tactic(auto, unfolding(crate::specs::StoreCommands::objects_of))]
 fn objects(args: &[u8]) -> Result<StoreCommand, ReadError>
-    ensures { Gives (λ command. command) result (objects_of (words_of args.now)) }
+    ensures { Reads (λ command. command) result (objects_of (words_of args.now)) }
 {
     none(args)?;
     Ok(StoreCommand::Objects)

@@ -5,7 +5,9 @@ use Rattle.mds_types.specs.Name.{fits_target}
 use Rattle.script_words.specs.declared.faults.Fault.{Fault}
 use Rattle.script_words.specs.declared.faults.Fault.TheVariants.{NotCommand, BadWord}
 use Rattle.script_words.specs.Escapes.{bytes_of}
-use Rattle.script_words.specs.Reading.{HasForm, wanted, ◌>>=◌}
+use Rattle.script_words.specs.declared.faults.ReadError.{ReadError}
+use Rattle.script_words.specs.declared.faults.ReadError.TheVariants as errors
+use Rattle.script_words.specs.Reading.{Fails, HasForm, wanted, ◌>>=◌}
 use Rattle.script_words.specs.Arguments.{after_name_of, is_plain_name, name_of, target_of, text_of, two_texts_of}
 
 -- what has a form, and what follows it has one
@@ -66,3 +68,8 @@ two_without word other form none = at (bytes_of word) (bytes_of other) form none
 pub form_of_two : (word other : List ℕ) → HasForm (text_of word) → HasForm (text_of other) → HasForm (two_texts_of word other)
 unfolding two_texts_of
 form_of_two word other one two = form_on (text_of word) (λ bytes. (text_of other >>= λ others. both bytes others)) one (λ bytes. form_on (text_of other) (λ others. both bytes others) two (λ others. tt))
+
+-- a fault of what was read is one of all, where what follows always has a form
+pub fails_on : {A B : Type 0} (error : ReadError) (read : Result A Fault) (next : A → Result B Fault) → Fails error read → ((x : A) → HasForm (next x)) → Fails error (read >>= next)
+fails_on errors.NoMemory read next form others = form_on read next form others
+fails_on (errors.Fault fault) read next is others = ap (λ r. r >>= next) is

@@ -1,5 +1,5 @@
 //! The next line of a reader.
-ghost use Rattle.std.specs.Prelude.{◌≡◌, ◌≤◌, length, IfOk, OnOk, IfSome, IfErr};
+ghost use Rattle.std.specs.Prelude.{◌≡◌, ◌≤◌, length, true, IfOk, OnOk, IfSome, IfErr};
 ghost use Rattle.std.specs.List.{prefix_len};
 ghost use Rattle.script_text.specs.Input.{GivesLine};
 ghost use Rattle.script_text.specs.Looks.{is_not_lf, Moves, Overflows};
@@ -21,7 +21,7 @@ pub enum NextLine {
 pub enum LineFault {
     /// The line has more than `MAX_LINE_LEN` bytes.
     TooLong,
-    /// The reader failed.
+    /// The reader failed, and the buffer has noted it.
     Fault,
 }
 
@@ -39,7 +39,8 @@ pub enum Shown {
 /// Reads the next line into the buffer, without its LF; the last line may have none. Takes no memory. After a fault
 /// the buffer holds a part of a line.
 pub fn next_line<R: BufRead>(reader: &mut R, line: &mut LineBuffer) -> Result<NextLine, LineFault>
-    ensures { IfSome (R.remaining reader.old) (λ bytes. GivesLine bytes line.new (R.remaining reader.new) result) }
+    ensures line { IfSome (R.remaining reader.old) (λ bytes. GivesLine bytes line.new.line (R.remaining reader.new) result) }
+    ensures failed { IfErr result (λ fault. fault ≡ LineFault.Fault → line.new.failed ≡ true) }
 {
     line.clear();
     'looks: loop {
@@ -59,12 +60,17 @@ pub fn next_line<R: BufRead>(reader: &mut R, line: &mut LineBuffer) -> Result<Ne
 
 // Moves the bytes that the reader shows to the end of the line, up to an LF, which is taken off too and not kept.
 fn take_shown<R: BufRead>(reader: &mut R, line: &mut LineBuffer) -> Result<Shown, LineFault>
-    ensures moves { IfOk result (λ shown. Moves (R.remaining reader.old) (R.remaining reader.new) line.old line.new shown) }
-    ensures short { OnOk result (length line.new ≤ 16384) }
-    ensures long { IfErr result (λ fault. fault ≡ LineFault.TooLong → IfSome (R.remaining reader.old) (λ bytes. Overflows bytes line.old)) }
+    ensures moves { IfOk result (λ shown. Moves (R.remaining reader.old) (R.remaining reader.new) line.old.line line.new.line shown) }
+    ensures short { OnOk result (length line.new.line ≤ 16384) }
+    ensures long { IfErr result (λ fault. fault ≡ LineFault.TooLong → IfSome (R.remaining reader.old) (λ bytes. Overflows bytes line.old.line)) }
+    ensures failed { IfErr result (λ fault. fault ≡ LineFault.Fault → line.new.failed ≡ true) }
 {
-    let Ok(shown) = reader.fill_buf() else {
-        return Err(LineFault::Fault);
+    let shown = match reader.fill_buf() {
+        Ok(shown) => shown,
+        Err(error) => {
+            line.fail(error);
+            return Err(LineFault::Fault);
+        }
     };
     let len = len_before_lf(shown);
     let (part, rest) = shown.split_at(len);

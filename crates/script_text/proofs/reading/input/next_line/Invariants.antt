@@ -6,9 +6,9 @@ use Rattle.script_text.proofs.reading.input.next_line.Given as goal
 -- the line so far was taken from the reader, and is a part of one line
 abbrev pub invariant-looks : goal.invariant-looks
 invariant-looks g l = record {
-  taken : Consumes (g.R.Read.remaining l.initial.reader) (g.R.Read.remaining l.reader) l.line;
-  one_line : IsOfOneLine l.line;
+  taken : Consumes (g.R.Read.remaining l.initial.reader) (g.R.Read.remaining l.reader) l.line.line;
+  one_line : IsOfOneLine l.line.line;
 }
 
 abbrev pub decreases-looks : goal.decreases-looks
-decreases-looks g l = 16384 - length l.line
+decreases-looks g l = 16384 - length l.line.line

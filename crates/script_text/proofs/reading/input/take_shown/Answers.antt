@@ -7,7 +7,7 @@ use Rattle.script_text.proofs.reading.input.take_shown.Goals as goal
 
 pub returns-then-len-as_bytes-clause-long : goal.returns-then-len-as_bytes-clause-long
 returns-then-len-as_bytes-clause-long g c = λ _.
-    overflows (g.R.Read.remaining c.args.reader.now) c.in-Ok.shown.now c.split_at.result.0.now c.split_at.result.1.now c.args.line.now c.len_before_lf-len.result c.in-Ok.ensures.front
+    overflows (g.R.Read.remaining c.args.reader.now) c.in-Ok.shown.now c.split_at.result.0.now c.split_at.result.1.now c.args.line.now.line c.len_before_lf-len.result c.in-Ok.ensures.front
     c.len_before_lf-len.ensures.value c.split_at.ensures.front c.split_at.ensures.by_index.0 (omega (arith, ap length c.as_bytes.ensures.bytes))
 
 pub returns-then-not-is_empty-clause-moves : goal.returns-then-not-is_empty-clause-moves
@@ -21,7 +21,7 @@ returns-then-not-is_empty-clause-moves g c =
     let some : length rest ≢ 0 = eqb-false (length rest) 0 (sym c.is_empty.ensures ∙ c.if-not-is_empty.true) in (
       part,
       took_part shown part len c.len_before_lf-len.ensures.value c.split_at.ensures.front,
-      c.append.ensures,
+      ap (λ b. b.line) c.append.ensures,
       took_line _ _ shown part rest len c.len_before_lf-len.ensures.value c.split_at.ensures.front c.split_at.ensures.back some
           (λ within. (Consumes_shown _ _ _ _ shown (len + 1) within c.in-Ok.ensures.front c.in-Ok.ensures.end filled.0 filled.1 c.consume.ensures.bytes).0),
     )
@@ -37,6 +37,6 @@ returns-else-len-eq0-clause-moves g c =
       part,
       took_part shown part len c.len_before_lf-len.ensures.value c.split_at.ensures.front,
       omega (arith, c.if-len-eq0.false, c.split_at.ensures.front_len),
-      c.append.ensures,
+      ap (λ b. b.line) c.append.ensures,
       took_shown _ _ shown part len c.split_at.ensures.front moved.0,
     )
