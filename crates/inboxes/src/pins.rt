@@ -1,5 +1,5 @@
 //! Pins: the grants by which a rank lets another one change its fragments for one request.
-ghost use Rattle.std.specs.Prelude.{◌≡◌, [], false, IfOk, OnOk, OnErr};
+ghost use Rattle.std.specs.Prelude.{◌≡◌, ◌≢◌, [], false, IfOk, OnOk, OnErr};
 ghost use Rattle.std.specs.List.{list_any};
 ghost use Rattle.inboxes.specs.Pins.{is_for, is_in, is_on, is_pin, left_without, with_pin};
 
@@ -42,10 +42,14 @@ impl Pins {
         }
     }
 
-    /// A copy. Takes memory for the pins.
+    /// A copy. Takes memory for the pins: none where there are none, so that this copy can't fail.
     pub fn try_clone(&self) -> Result<Pins, AllocError>
-        ensures { IfOk result (λ copy. copy ≡ self.now) }
+        ensures ok { IfOk result (λ copy. copy ≡ self.now) }
+        ensures err { OnErr result (self.now ≢ []) }
     {
+        if self.pins.is_empty() {
+            return Ok(Pins::new(*self.pins.allocator()));
+        }
         Ok(Pins {
             pins: self.pins.clone()?,
         })
@@ -96,6 +100,7 @@ impl Pins {
         self.pins
             .retain(|pin| !(pin.dir == dir && pin.frag == frag));
     }
+
     /// Ends the pins on all fragments of a directory, as one that is removed.
     pub fn forget_directory(&mut self, dir: Ino)
         ensures { self.new ≡ left_without (is_in dir) self.old }
