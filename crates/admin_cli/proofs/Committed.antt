@@ -1,5 +1,5 @@
 -- A commit that began is ended at once.
-use Rattle.std.proofs.Common.{◌≡◌, ℕ, Option, Some, None, Result, Ok, Err, IfOk, refl, subst}
+use Rattle.std.proofs.Common.{◌≡◌, ℕ, Option, Some, None, Result, Ok, Err, IfOk, OnErr, inr, refl, subst}
 use Rattle.mds_types.specs.declared.ids.Ino.{Ino}
 use Rattle.mds_types.specs.declared.ids.Rank.{Rank}
 use Rattle.mds_types.specs.declared.refusals.Refusal.{Refusal}
@@ -7,7 +7,12 @@ use Rattle.mds_types.specs.Frag.{Fragment}
 use Rattle.script_output.specs.declared.lines.OutputLine.{OutputLine}
 use Rattle.script_output.specs.declared.lines.OutputLine.TheVariants.{Nothing, Refused}
 use Rattle.admin_cli.specs.declared.commands.Admin.{Admin}
-use Rattle.admin_cli.specs.StoreLines.{BeginsCommit, CommitsLine, EndsLine}
+use Rattle.admin_cli.specs.StoreLines.{BeginsCommit, CommitsLine, CopiesNone, EndsLine, LacksForCommit}
+
+-- what is known is known of an error too
+pub on_err : {A E : Type 0} {P : Type 0} (result : Result A E) → P → OnErr result P
+on_err (Ok x) known = tt
+on_err (Err e) known = known
 
 module _ (old middle new : Admin) (rank : Rank) (dir : Ino) (f : Fragment) (told : Result (Option ℕ) Refusal) (begun : BeginsCommit old middle rank dir f told) where
   -- the line is that of the end
@@ -21,3 +26,8 @@ module _ (old middle new : Admin) (rank : Rank) (dir : Ino) (f : Fragment) (told
 
   pub refused : (reason : Refusal) → told ≡ Err reason → CommitsLine old middle rank dir f (Refused reason)
   refused reason is = record { middle = middle; number = Err reason; begun = subst (BeginsCommit old middle rank dir f) is begun; rest = (refl, refl) }
+
+  -- the job wasn't copied
+  pub stopped : {A : Type 0} (number : ℕ) (result : Result OutputLine A) → told ≡ Ok (Some number) → OnErr result (CopiesNone middle new number) → OnErr result (LacksForCommit old new rank dir f)
+  stopped number (Ok line) is h = tt
+  stopped number (Err reason) is h = inr (record { middle = middle; number = number; begun = subst (BeginsCommit old middle rank dir f) is begun; rest = h })

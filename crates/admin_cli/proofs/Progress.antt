@@ -1,15 +1,17 @@
 -- A script so far, and what its next line or its end makes of it.
-use Rattle.std.proofs.Common.{◌≡◌, ℕ, suc, ◌+◌, ◌<◌, List, [], ◌∷◌, ◌++◌, length, replicate, Option, Some, None, IfSome, Result, Ok, Err, refl, sym, ap, subst, ◌∙◌, arith, append_assoc, append-nil, length-append}
+use Rattle.std.proofs.Common.{◌≡◌, ℕ, suc, ◌+◌, ◌<◌, List, [], ◌∷◌, ◌++◌, length, replicate, Option, Some, None, IfSome, Result, Ok, Err, refl, sym, ap, subst, ◌∙◌, inl, inr, arith, append_assoc, append-nil, length-append}
 use Rattle.std.proofs.lemmas.List.{length-replicate}
 use Rattle.std.proofs.KnownBytes.{Appends-nil, Appends-trans}
 use Rattle.std.specs.Io.KnownBytes.{Appends}
+use Rattle.std.specs.FinMap as map
+use Rattle.cluster_core.specs.State.{Kept}
 use Rattle.script_text.specs.Input.{lines_of, IsFirstLine, IsTooLong}
 use Rattle.admin_cli.specs.declared.commands.Admin.{Admin}
 use Rattle.admin_cli.specs.declared.faults.ScriptFault.{ScriptFault}
 use Rattle.admin_cli.specs.declared.faults.FaultKind.{FaultKind}
 use Rattle.admin_cli.specs.declared.faults.FaultKind.TheVariants.{NotCommand, TooLong, ReadFault, WriteFault, OutOfMemory}
-use Rattle.admin_cli.specs.Scripts.{RunsLine, RunsLines, StopsBefore, Ends, RunsInput}
-use Rattle.admin_cli.specs.OneLine.{EndsLine}
+use Rattle.admin_cli.specs.Scripts.{RunsLine, RunsLines, IsFormatted, StopsAt, StopsBefore, Ends, RunsInput, RunsNew}
+use Rattle.admin_cli.specs.OneLine.{EndsLine, RunsOrNot}
 
 -- these lines were taken from the known bytes
 abbrev pub TakesLines : Option (List ℕ) → Option (List ℕ) → List (List ℕ) → Type 0
@@ -100,18 +102,12 @@ some_left : (left : Option (List ℕ)) → (lines : List (List ℕ)) × IsLeft l
 some_left None = ([], tt)
 some_left (Some bytes) = (lines_of bytes, refl)
 
--- the reader failed, or memory was refused, before another line was read
+-- the reader failed before another line was read
 pub stop_reading : (old now : Admin) (known left before after : Option (List ℕ)) (number : ℕ) → IsReached old now known left before after number
     → RunsInput old known before after (Err (record { line = number; kind = ReadFault }))
 stop_reading old now known left before after number r =
     let (lines, rest) = some_left left in
     end old now known left before after after number r lines (Err (record { line = number; kind = ReadFault })) [] rest (r.count, refl) (Appends-nil after)
-
-pub stop_unread : (old now : Admin) (known left before after : Option (List ℕ)) (number : ℕ) → IsReached old now known left before after number
-    → RunsInput old known before after (Err (record { line = number; kind = OutOfMemory }))
-stop_unread old now known left before after number r =
-    let (lines, rest) = some_left left in
-    end old now known left before after after number r lines (Err (record { line = number; kind = OutOfMemory })) [] rest (r.count, refl) (Appends-nil after)
 
 -- there are lines of any length
 long_line : (n : ℕ) → (line : List ℕ) × (n < length line)
@@ -130,10 +126,10 @@ stop_long old now known left before after number r long =
     end old now known left before after after number r (line ∷ others) (Err (record { line = number; kind = TooLong })) [] rest (r.count, (more, refl)) (Appends-nil after)
 
 -- what stops one line stops the lines that begin with it
-stops-first : (old : Admin) (bytes : List ℕ) (others : List (List ℕ)) (kind : FaultKind) (front : List ℕ) → StopsBefore old (bytes ∷ []) kind front → StopsBefore old (bytes ∷ others) kind front
+stops-first : (old : Admin) (bytes : List ℕ) (others : List (List ℕ)) (kind : FaultKind) (front : List ℕ) → StopsAt old bytes kind front → StopsBefore old (bytes ∷ others) kind front
 stops-first old bytes others NotCommand front stops = stops
-stops-first old bytes others TooLong front stops = stops
-stops-first old bytes others ReadFault front stops = stops
+stops-first old bytes others TooLong front stops = absurd stops
+stops-first old bytes others ReadFault front stops = absurd stops
 stops-first old bytes others WriteFault front stops = stops
 stops-first old bytes others OutOfMemory front stops = stops
 
@@ -149,3 +145,17 @@ pub stop_line : (old now new : Admin) (known left rest before mid after : Option
 stop_line old now new known left rest before mid after number bytes kind r next (front, stops, wrote) =
     let (others, all) = first_left left rest bytes next in
     end old now known left before mid after number r (bytes ∷ others) (Err (record { line = number; kind = kind })) front all (r.count, stops-first now bytes others kind front stops) wrote
+
+-- a line that was read is no fault of the reader's
+pub no_read_fault : (old new : Admin) (bytes : List ℕ) (before after : Option (List ℕ)) (kind : FaultKind) → EndsLine old new bytes before after (Err kind) → kind ≡ ReadFault → ⊥
+no_read_fault old new bytes before after NotCommand ends is = cc
+no_read_fault old new bytes before after TooLong (front, stops, wrote) is = absurd stops
+no_read_fault old new bytes before after ReadFault (front, stops, wrote) is = absurd stops
+no_read_fault old new bytes before after WriteFault ends is = cc
+no_read_fault old new bytes before after OutOfMemory ends is = cc
+
+-- a script over a book that was made
+pub started : (ranks cache : ℕ) (known before after : Option (List ℕ)) (result : Result (Unit {0}) ScriptFault) (book : Kept) → IsFormatted ranks cache book
+    → RunsOrNot (record { book = book; operations = 0; jobs = map.empty }) known before after result → RunsNew ranks cache known before after result
+started ranks cache known before after result book formatted (inl runs) = inl (record { book = book; formatted = formatted; runs = runs })
+started ranks cache known before after result book formatted (inr never) = inr never

@@ -4,7 +4,6 @@ use Rattle.std.specs.FinMap as map
 use Rattle.mds_types.specs.declared.ids.Ino.{Ino}
 use Rattle.mds_types.specs.declared.ids.Rank.{Rank}
 use Rattle.mds_types.specs.declared.refusals.Refusal.{Refusal}
-use Rattle.mds_types.specs.declared.refusals.Refusal.TheVariants.{NoMemory}
 use Rattle.mds_types.specs.Frag.{Fragment}
 use Rattle.subtree_map.specs.Authority.{Leaf, Roots}
 use Rattle.cluster_core.specs.State.{State}
@@ -21,9 +20,9 @@ root_of row = record { ino = row.0.0; frag = row.0.1; rank = row.1 }
 abbrev pub roots_in : Roots → List Root
 roots_in roots = each root_of (map.entries roots)
 
--- the subtree map was listed, or memory for the list was refused
+-- the subtree map was listed: no step is made for it, so nothing is refused
 abbrev pub ListsSubtrees : State → OutputLine → Type 0
-ListsSubtrees state line = (line ≡ Subtrees (roots_in state.roots)) ⊎ (line ≡ Refused NoMemory)
+ListsSubtrees state line = line ≡ Subtrees (roots_in state.roots)
 
 -- whose a leaf is was told, or why not
 abbrev pub TellsLine : State → Ino → Fragment → OutputLine → Type 0

@@ -15,7 +15,7 @@ use Rattle.script_output.specs.declared.lines.OutputLine.TheVariants.{Frags, His
 use Rattle.admin_cli.specs.declared.commands.Admin.{Admin}
 use Rattle.admin_cli.specs.StepLines.{Does, IsStep, StepsLine, arrived_line, shown_line}
 use Rattle.admin_cli.specs.Authorities.{ListsSubtrees, TellsLine}
-use Rattle.admin_cli.specs.StoreLines.{ExecutesStore, TakesJobs}
+use Rattle.admin_cli.specs.StoreLines.{ExecutesStore, LacksForStore}
 
 -- an operation alone: it arrives at rank 0 as client 0 with this transaction number, and is served there if it wasn't refused
 abbrev pub OperatesAfter : (middle new : Kept) → Result Answer Refusal → OutputLine → Type 0
@@ -47,16 +47,16 @@ Executes old new Subtrees line = (new ≡ old) × ListsSubtrees old.book.core.st
 Executes old new (Authority dir f) line = (new ≡ old) × TellsLine old.book.core.state dir f line
 Executes old new (Store command) line = ExecutesStore old new command line
 
--- a command that may fail: one that keeps a job or copies one, and no other
-abbrev pub MayLackMemory : Command → Type 0
-MayLackMemory (Operation op) = ⊥
-MayLackMemory (Serve rank) = ⊥
-MayLackMemory (Request rank request) = ⊥
-MayLackMemory History = ⊥
-MayLackMemory (Split rank dir f nb) = ⊥
-MayLackMemory (Merge rank dir f) = ⊥
-MayLackMemory (Leaves dir) = ⊥
-MayLackMemory (Grant rank client tid) = ⊥
-MayLackMemory Subtrees = ⊥
-MayLackMemory (Authority dir f) = ⊥
-MayLackMemory (Store command) = TakesJobs command
+-- memory that the script itself needs for a command was refused: for a list of the subtree map, or for a job
+abbrev pub LacksFor : (old new : Admin) → Command → Type 0
+LacksFor old new (Operation op) = ⊥
+LacksFor old new (Serve rank) = ⊥
+LacksFor old new (Request rank request) = ⊥
+LacksFor old new History = ⊥
+LacksFor old new (Split rank dir f nb) = ⊥
+LacksFor old new (Merge rank dir f) = ⊥
+LacksFor old new (Leaves dir) = ⊥
+LacksFor old new (Grant rank client tid) = ⊥
+LacksFor old new Subtrees = new ≡ old
+LacksFor old new (Authority dir f) = ⊥
+LacksFor old new (Store command) = LacksForStore old new command

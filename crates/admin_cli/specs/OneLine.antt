@@ -1,39 +1,36 @@
 -- One line of a script, from its bytes to what is written of it.
-use Rattle.std.specs.Prelude.{◌≡◌, ◌⊎◌, ℕ, List, [], ◌∷◌, Option, Some, None, Result, Ok, Err}
+use Rattle.std.specs.Prelude.{◌≡◌, ◌⊎◌, ℕ, List, [], Option, Some, None, Result, Ok, Err}
 use Rattle.std.specs.Io.KnownBytes.{Appends, Keeps}
 use Rattle.script_text.specs.declared.lines.Line.{Line}
 use Rattle.script_text.specs.declared.lines.Line.TheVariants as line
 use Rattle.script_output.specs.declared.lines.OutputLine.{OutputLine}
-use Rattle.script_output.specs.Writing.{AppendsBeginning}
+use Rattle.script_output.specs.Writing.{AppendsBeginning, TakesText}
 use Rattle.admin_cli.specs.declared.commands.Admin.{Admin}
+use Rattle.admin_cli.specs.declared.faults.ScriptFault.{ScriptFault}
 use Rattle.admin_cli.specs.declared.faults.FaultKind.{FaultKind}
 use Rattle.admin_cli.specs.declared.faults.FaultKind.TheVariants.{NotCommand, TooLong, ReadFault, WriteFault, OutOfMemory}
-use Rattle.admin_cli.specs.Execute.{MayLackMemory}
-use Rattle.admin_cli.specs.Scripts.{text_of, DoesLine, RunsLine, StopsBefore}
-
--- a line whose command may fail
-abbrev pub FailsLine : Line → Type 0
-FailsLine line.Nothing = ⊥
-FailsLine (line.Command command) = MayLackMemory command
-FailsLine (line.BadWord errno) = ⊥
-FailsLine line.NotCommand = ⊥
+use Rattle.admin_cli.specs.Scripts.{text_of, DoesLine, LacksLine, NeverStarts, RunsInput, RunsLine, StopsAt}
 
 -- a line before it is printed: the line to print, if it prints one, that it is no command, or want of memory for what is kept of it
 abbrev pub AnswersLine : (old new : Admin) → Line → Result (Option OutputLine) FaultKind → Type 0
 AnswersLine old new found (Ok None) = DoesLine old new found []
 AnswersLine old new found (Ok (Some printed)) = DoesLine old new found (text_of printed)
-AnswersLine old new found (Err kind) = ((found ≡ line.NotCommand) × (kind ≡ NotCommand)) ⊎ (FailsLine found × (kind ≡ OutOfMemory))
+AnswersLine old new found (Err kind) = ((found ≡ line.NotCommand) × (kind ≡ NotCommand)) ⊎ (LacksLine old new found × (kind ≡ OutOfMemory))
 
--- what is written of a text: all of it, for want of memory nothing, and at a write fault a beginning
-abbrev pub Prints : (before after : Option (List ℕ)) → List ℕ → Result (Unit {0}) FaultKind → Type 0
-Prints before after text (Ok done) = Appends before after text
-Prints before after text (Err OutOfMemory) = Keeps before after
-Prints before after text (Err WriteFault) = AppendsBeginning before after text
-Prints before after text (Err NotCommand) = ⊥
-Prints before after text (Err TooLong) = ⊥
-Prints before after text (Err ReadFault) = ⊥
+-- what is written of a line: all its text, for want of memory for one that takes some nothing, and at a write fault a beginning
+abbrev pub Prints : (before after : Option (List ℕ)) → OutputLine → Result (Unit {0}) FaultKind → Type 0
+Prints before after printed (Ok done) = Appends before after (text_of printed)
+Prints before after printed (Err OutOfMemory) = Keeps before after × TakesText printed
+Prints before after printed (Err WriteFault) = AppendsBeginning before after (text_of printed)
+Prints before after printed (Err NotCommand) = ⊥
+Prints before after printed (Err TooLong) = ⊥
+Prints before after printed (Err ReadFault) = ⊥
 
 -- one line that was read: all its text was appended to the known bytes, or a beginning at its fault
 abbrev pub EndsLine : (old new : Admin) → List ℕ → (before after : Option (List ℕ)) → Result (Unit {0}) FaultKind → Type 0
 EndsLine old new bytes before after (Ok done) = (text : List ℕ) × RunsLine old new bytes text × Appends before after text
-EndsLine old new bytes before after (Err kind) = (front : List ℕ) × StopsBefore old (bytes ∷ []) kind front × Appends before after front
+EndsLine old new bytes before after (Err kind) = (front : List ℕ) × StopsAt old bytes kind front × Appends before after front
+
+-- lines were run after all memory for reading was taken; or none was
+abbrev pub RunsOrNot : Admin → (known before after : Option (List ℕ)) → Result (Unit {0}) ScriptFault → Type 0
+RunsOrNot old known before after result = RunsInput old known before after result ⊎ NeverStarts before after result

@@ -9,13 +9,14 @@ use Rattle.script_text.specs.declared.lines.Line.TheVariants as line
 use Rattle.script_output.specs.declared.lines.OutputLine.{OutputLine}
 use Rattle.script_output.specs.declared.lines.OutputLine.TheVariants.{Errno}
 use Rattle.script_text.specs.Input.{lines_of}
-use Rattle.script_text.specs.Script.{line_of}
+use Rattle.script_text.specs.Script.{line_of, TakesMemory}
 use Rattle.script_output.specs.Lines.{output_line}
+use Rattle.script_output.specs.Writing.{TakesText}
 use Rattle.admin_cli.specs.declared.commands.Admin.{Admin}
 use Rattle.admin_cli.specs.declared.faults.ScriptFault.{ScriptFault}
 use Rattle.admin_cli.specs.declared.faults.FaultKind.{FaultKind}
 use Rattle.admin_cli.specs.declared.faults.FaultKind.TheVariants.{NotCommand, TooLong, ReadFault, WriteFault, OutOfMemory}
-use Rattle.admin_cli.specs.Execute.{Executes}
+use Rattle.admin_cli.specs.Execute.{Executes, LacksFor}
 
 -- a printed line with its LF
 abbrev pub text_of : OutputLine → List ℕ
@@ -52,13 +53,40 @@ abbrev pub OfFirst : (List ℕ → Type 0) → List (List ℕ) → Type 0
 OfFirst Holds [] = ⊥
 OfFirst Holds (bytes ∷ lines) = Holds bytes
 
--- why a script ends before these lines, and the beginning of the first one's text that was written; too long comes before all else, and only a write fault leaves a beginning
+-- memory that the script itself needs for what a line asks for was refused
+abbrev pub LacksLine : (old new : Admin) → Line → Type 0
+LacksLine old new line.Nothing = ⊥
+LacksLine old new (line.Command command) = LacksFor old new command
+LacksLine old new (line.BadWord errno) = ⊥
+LacksLine old new line.NotCommand = ⊥
+
+-- a line was done, and there was no memory for the text that it prints
+pub record LacksText (old : Admin) (bytes : List ℕ) : Type 0 where
+  pub new : Admin
+  pub printed : OutputLine
+  pub runs : RunsLine old new bytes (text_of printed)
+  pub takes : TakesText printed
+
+-- memory that the script itself needs for a line was refused: to read it, for what its command keeps or lists, or for its text
+abbrev pub LacksMemory : Admin → List ℕ → Type 0
+LacksMemory old bytes = TakesMemory bytes ⊎ (((new : Admin) × LacksLine old new (line_of bytes)) ⊎ LacksText old bytes)
+
+-- why a line that was read ends a script, and the beginning of its text that was written: only a write fault leaves one. What it
+-- is never told as is a fault of the reader, or as too long
+abbrev pub StopsAt : Admin → List ℕ → FaultKind → List ℕ → Type 0
+StopsAt old bytes NotCommand front = (length bytes ≤ 16384) × (line_of bytes ≡ line.NotCommand) × (front ≡ [])
+StopsAt old bytes TooLong front = ⊥
+StopsAt old bytes ReadFault front = ⊥
+StopsAt old bytes WriteFault front = BreaksOff old bytes front
+StopsAt old bytes OutOfMemory front = (length bytes ≤ 16384) × LacksMemory old bytes × (front ≡ [])
+
+-- why a script ends before these lines: at the first of them, which is too long before all else; or the reader failed
 abbrev pub StopsBefore : Admin → List (List ℕ) → FaultKind → List ℕ → Type 0
-StopsBefore old lines NotCommand front = OfFirst (λ bytes. (length bytes ≤ 16384) × (line_of bytes ≡ line.NotCommand)) lines × (front ≡ [])
+StopsBefore old lines NotCommand front = OfFirst (λ bytes. StopsAt old bytes NotCommand front) lines
 StopsBefore old lines TooLong front = OfFirst (λ bytes. 16384 < length bytes) lines × (front ≡ [])
 StopsBefore old lines ReadFault front = front ≡ []
-StopsBefore old lines WriteFault front = OfFirst (λ bytes. BreaksOff old bytes front) lines
-StopsBefore old lines OutOfMemory front = front ≡ []
+StopsBefore old lines WriteFault front = OfFirst (λ bytes. StopsAt old bytes WriteFault front) lines
+StopsBefore old lines OutOfMemory front = OfFirst (λ bytes. StopsAt old bytes OutOfMemory front) lines
 
 -- how a script ended after so many lines: Ok where none is left, else a fault at the next one, all lines counted from 1
 abbrev pub Ends : Admin → ℕ → List (List ℕ) → Result (Unit {0}) ScriptFault → List ℕ → Type 0
@@ -100,10 +128,10 @@ pub record RunsFormatted (ranks cache : ℕ) (known before after : Option (List 
   pub formatted : IsFormatted ranks cache book
   pub runs : RunsInput (record { book = book; operations = 0; jobs = map.empty }) known before after result
 
--- memory for a book was refused before the first line: nothing was written
-pub record HasNoBook (before after : Option (List ℕ)) (result : Result (Unit {0}) ScriptFault) : Type 0 where
+-- memory for a book, or to read lines, was refused before the first line: nothing was written
+pub record NeverStarts (before after : Option (List ℕ)) (result : Result (Unit {0}) ScriptFault) : Type 0 where
   pub told : result ≡ Err (record { line = 1; kind = OutOfMemory })
   pub same : Keeps before after
 
 abbrev pub RunsNew : (ranks cache : ℕ) → (known before after : Option (List ℕ)) → Result (Unit {0}) ScriptFault → Type 0
-RunsNew ranks cache known before after result = RunsFormatted ranks cache known before after result ⊎ HasNoBook before after result
+RunsNew ranks cache known before after result = RunsFormatted ranks cache known before after result ⊎ NeverStarts before after result

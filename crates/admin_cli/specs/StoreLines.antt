@@ -17,7 +17,7 @@ use Rattle.script_text.specs.declared.store_commands.StoreCommand.TheVariants.{C
 use Rattle.script_output.specs.declared.lines.OutputLine.{OutputLine}
 use Rattle.script_output.specs.declared.lines.OutputLine.TheVariants.{Nothing as NothingLine, Job as JobLine, Object as ObjectLine, Objects as ObjectsLine, Refused}
 use Rattle.script_output.specs.declared.object_lines.ObjectLine.{ObjectLine as Shown}
-use Rattle.object_lines.specs.ObjectLines.{IsLineOf}
+use Rattle.object_lines.specs.ObjectLines.{IsLineOf, MayTakeMemory}
 use Rattle.admin_cli.specs.declared.commands.Admin.{Admin}
 use Rattle.admin_cli.specs.Jobs.{Jobs}
 use Rattle.admin_cli.specs.StepLines.{Does, IsStep}
@@ -80,11 +80,35 @@ pub record CommitsLine (old new : Admin) (rank : Rank) (dir : Ino) (f : Fragment
   pub begun : BeginsCommit old middle rank dir f number
   pub rest : CommitsAfter middle new number line
 
+-- ---- memory that the script itself needs for jobs
+
+-- a commit began, and there was no memory to keep its job
+pub record LosesJob (old new : Admin) (rank : Rank) (dir : Ino) (f : Fragment) : Type 0 where
+  pub job : Begun
+  pub stepped : IsStep old.book new.book (Ok (Job job)) (BeginEvent rank dir f)
+  pub jobs : new.jobs ≡ old.jobs
+  pub count : new.operations ≡ old.operations
+
+-- there was no memory to copy the kept job of a number; all is left
+abbrev pub CopiesNone : (old new : Admin) → ℕ → Type 0
+CopiesNone old new number = (new ≡ old) × ((job : Begun) × (map.get old.jobs number ≡ Some job))
+
+-- a commit began, and there was no memory to copy its job, which was kept
+pub record BeginsAlone (old new : Admin) (rank : Rank) (dir : Ino) (f : Fragment) : Type 0 where
+  pub middle : Admin
+  pub number : ℕ
+  pub begun : BeginsCommit old middle rank dir f (Ok (Some number))
+  pub rest : CopiesNone middle new number
+
+abbrev pub LacksForCommit : (old new : Admin) → Rank → Ino → Fragment → Type 0
+LacksForCommit old new rank dir f = LosesJob old new rank dir f ⊎ BeginsAlone old new rank dir f
+
 -- ---- looks at the store
 
--- what the object of a name is, or want of memory
+-- what the object of a name is, or want of memory, of an object whose line takes some
 abbrev pub LooksLine : Stored → List ℕ → OutputLine → Type 0
-LooksLine objects name line = ((shown : Shown) × IsLineOf (map.get objects name) shown × (line ≡ ObjectLine shown)) ⊎ (line ≡ Refused NoMemory)
+LooksLine objects name line =
+    ((shown : Shown) × IsLineOf (map.get objects name) shown × (line ≡ ObjectLine shown)) ⊎ ((line ≡ Refused NoMemory) × MayTakeMemory (map.get objects name))
 
 -- the names of all objects, or want of memory
 abbrev pub ListsObjects : Stored → OutputLine → Type 0
@@ -92,17 +116,17 @@ ListsObjects objects line = (line ≡ ObjectsLine (map.keys objects)) ⊎ (line 
 
 -- ---- a command on the store
 
--- a command that keeps a job, or copies one that is kept: what it wants memory for is the script's own, and of no step
-abbrev pub TakesJobs : StoreCommand → Type 0
-TakesJobs (CommitBegin rank dir f) = Unit {0}
-TakesJobs (CommitEnd number) = Unit {0}
-TakesJobs (CommitDrop number) = ⊥
-TakesJobs (Commit rank dir f) = Unit {0}
-TakesJobs (CommitTree dir) = ⊥
-TakesJobs Purge = ⊥
-TakesJobs (Evict rank) = ⊥
-TakesJobs (Object name) = ⊥
-TakesJobs Objects = ⊥
+-- memory that the script itself needs for a command on the store was refused: for a job that it keeps or copies, of no step's
+abbrev pub LacksForStore : (old new : Admin) → StoreCommand → Type 0
+LacksForStore old new (CommitBegin rank dir f) = LosesJob old new rank dir f
+LacksForStore old new (CommitEnd number) = CopiesNone old new number
+LacksForStore old new (CommitDrop number) = ⊥
+LacksForStore old new (Commit rank dir f) = LacksForCommit old new rank dir f
+LacksForStore old new (CommitTree dir) = ⊥
+LacksForStore old new Purge = ⊥
+LacksForStore old new (Evict rank) = ⊥
+LacksForStore old new (Object name) = ⊥
+LacksForStore old new Objects = ⊥
 
 abbrev pub ExecutesStore : (old new : Admin) → StoreCommand → OutputLine → Type 0
 ExecutesStore old new (CommitBegin rank dir f) line = BeginsLine old new rank dir f line

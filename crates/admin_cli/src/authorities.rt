@@ -6,7 +6,7 @@ ghost use Rattle.admin_cli.specs.StepLines.{Does};
 
 use crate::commands::Admin;
 use cluster_core::Event;
-use mds_types::{Frag, Ino, Rank, Refusal};
+use mds_types::{Frag, Ino, Rank};
 use script_output::{OutputLine, Root, RootList};
 use std::alloc::{AllocError, Global};
 use subtree_map::Subtrees;
@@ -19,14 +19,12 @@ impl Admin {
         self.step(alloc, Event::Grant { rank, client, tid })
     }
 
-    // Which leaves have a rank of their own?
-    pub(crate) fn subtrees(&self, alloc: Global) -> OutputLine
-        ensures { ListsSubtrees self.now.book.core.state result }
+    // Which leaves have a rank of their own? Takes memory for the list of them, which is the script's own: nothing is refused.
+    pub(crate) fn subtrees(&self, alloc: Global) -> Result<OutputLine, AllocError>
+        ensures { IfOk result (ListsSubtrees self.now.book.core.state) }
     {
-        match root_list(alloc, self.book.cluster().roots()) {
-            Ok(roots) => OutputLine::Subtrees(roots),
-            Err(_) => OutputLine::Refused(Refusal::NoMemory),
-        }
+        let roots = root_list(alloc, self.book.cluster().roots())?;
+        Ok(OutputLine::Subtrees(roots))
     }
 
     // Which rank is the authority of a leaf?

@@ -22,7 +22,7 @@ pub struct Admin {
 
 impl Admin {
     ghost use Rattle.cluster_core.specs.declared.events.Event.TheVariants.{Arrive, Merge, Serve, Split};
-    ghost use Rattle.admin_cli.specs.Execute.{Executes, ListsLine, MayLackMemory, OperatesLine};
+    ghost use Rattle.admin_cli.specs.Execute.{Executes, LacksFor, ListsLine, OperatesLine};
     ghost use Rattle.admin_cli.specs.StepLines.{Does, IsStep, StepsLine, arrived_line};
 
     /// An administrator of this book, who has read no line yet.
@@ -37,11 +37,12 @@ impl Admin {
     }
 
     /// Does what a command asks for, and answers the line to print. So many lines were read that one more fits 64 bits. An
-    /// error is want of memory for a job that is kept, or for its copy; only a command that begins or ends a commit fails.
+    /// error is want of memory that the script itself needs: for a job that it keeps, once the step has given it; for a copy
+    /// of a job that it kept; or for a list of the subtree map. No step's answer is lost by it but such a job.
     pub fn execute(&mut self, alloc: Global, command: Command) -> Result<OutputLine, AllocError>
         requires { self.old.operations + 1 < 2 ^ 64 }
         ensures line { IfOk result (Executes self.old self.new command) }
-        ensures err { OnErr result (MayLackMemory command) }
+        ensures err { OnErr result (LacksFor self.old self.new command) }
         ensures count { self.new.operations ≤ self.old.operations + 1 }
     {
         match command {
@@ -59,7 +60,7 @@ impl Admin {
             Command::Merge { rank, ino, frag } => Ok(self.merge(alloc, rank, ino, frag)),
             Command::Leaves(ino) => Ok(self.leaves(alloc, ino)),
             Command::Grant { rank, client, tid } => Ok(self.grant(alloc, rank, client, tid)),
-            Command::Subtrees => Ok(self.subtrees(alloc)),
+            Command::Subtrees => self.subtrees(alloc),
             Command::Authority { ino, frag } => Ok(self.authority(ino, frag)),
         }
     }

@@ -1,8 +1,8 @@
 //! Running a script.
-ghost use Rattle.std.specs.Prelude.{◌≡◌, ◌+◌, ◌<◌, ◌≤◌, ◌^◌, length, IfSome};
+ghost use Rattle.std.specs.Prelude.{◌≡◌, ◌⊎◌, ◌+◌, ◌-◌, ◌<◌, ◌≤◌, ◌^◌, length, true, IfErr, IfSome};
 ghost use Rattle.std.specs.FinMap as map;
-ghost use Rattle.admin_cli.specs.Scripts.{text_of, IsFormatted, RunsInput, RunsNew};
-ghost use Rattle.admin_cli.specs.OneLine.{EndsLine, AnswersLine, Prints};
+ghost use Rattle.admin_cli.specs.Scripts.{IsFormatted, RunsInput, RunsNew};
+ghost use Rattle.admin_cli.specs.OneLine.{AnswersLine, EndsLine, Prints, RunsOrNot};
 
 use crate::commands::Admin;
 use crate::faults::{FaultKind, ScriptFault};
@@ -61,7 +61,7 @@ fn run_book<R: Read + Drop, W: Write>(
     writer: &mut W,
     book: Book<MemStore>,
 ) -> Result<(), ScriptFault>
-    ensures { RunsInput (record { book = book; operations = 0; jobs = map.empty }) (R.remaining reader) (W.contents writer.old) (W.contents writer.new) result }
+    ensures { RunsOrNot (record { book = book; operations = 0; jobs = map.empty }) (R.remaining reader) (W.contents writer.old) (W.contents writer.new) result }
 {
     let mut admin = Admin::new(alloc, book);
     let ended = run_input(alloc, reader, writer, &mut admin);
@@ -77,7 +77,7 @@ fn run_input<R: Read + Drop, W: Write>(
     admin: &mut Admin,
 ) -> Result<(), ScriptFault>
     requires { admin.old.operations ≡ 0 }
-    ensures { RunsInput admin.old (R.remaining reader) (W.contents writer.old) (W.contents writer.new) result }
+    ensures { RunsOrNot admin.old (R.remaining reader) (W.contents writer.old) (W.contents writer.new) result }
 {
     let Ok(mut buffer) = LineBuffer::new(alloc) else {
         return Err(NO_MEMORY_AT_START);
@@ -103,7 +103,8 @@ fn run_lines<R: BufRead, W: Write>(
     admin: &mut Admin,
 ) -> Result<(), ScriptFault>
     requires { admin.old.operations ≡ 0 }
-    ensures { RunsInput admin.old (R.remaining reader.old) (W.contents writer.old) (W.contents writer.new) result }
+    ensures runs { RunsInput admin.old (R.remaining reader.old) (W.contents writer.old) (W.contents writer.new) result }
+    ensures failed { IfErr result (λ fault. fault.kind ≡ FaultKind.ReadFault → (buffer.new.failed ≡ true) ⊎ (fault.line ≡ 2 ^ 64 - 1)) }
 {
     for line in 1..u64::MAX {
         match next_line(reader, buffer) {
@@ -170,7 +171,7 @@ fn do_line(alloc: Global, line: Line, admin: &mut Admin) -> Result<Option<Output
 
 // Writes a line with its LF.
 fn print<W: Write>(alloc: Global, writer: &mut W, line: &OutputLine) -> Result<(), FaultKind>
-    ensures { Prints (W.contents writer.old) (W.contents writer.new) (text_of line.now) result }
+    ensures { Prints (W.contents writer.old) (W.contents writer.new) line.now result }
 {
     match write_line(alloc, writer, line) {
         Ok(()) => Ok(()),

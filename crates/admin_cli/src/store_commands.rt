@@ -1,7 +1,7 @@
 //! Commands on the store: commits, fragment trees, the purge list, eviction, and looks at objects.
 ghost use Rattle.std.specs.Prelude.{◌≡◌, ℕ, IfOk, List, OnErr};
 ghost use Rattle.std.specs.Prelude.{Option, Result};
-ghost use Rattle.admin_cli.specs.StoreLines.{BeginsCommit, BeginsLine, CommitsLine, EndsLine, ExecutesStore, ListsObjects, LooksLine, TakesJobs, begun_line as line_of};
+ghost use Rattle.admin_cli.specs.StoreLines.{BeginsCommit, BeginsLine, CommitsLine, CopiesNone, EndsLine, ExecutesStore, LacksForCommit, LacksForStore, ListsObjects, LooksLine, LosesJob, begun_line as line_of};
 
 use crate::commands::Admin;
 use cluster_core::{Answer, Event};
@@ -20,7 +20,7 @@ impl Admin {
         command: StoreCommand,
     ) -> Result<OutputLine, AllocError>
         ensures line { IfOk result (ExecutesStore self.old self.new command) }
-        ensures err { OnErr result (TakesJobs command) }
+        ensures err { OnErr result (LacksForStore self.old self.new command) }
         ensures count { self.new.operations ≡ self.old.operations }
     {
         match command {
@@ -38,7 +38,8 @@ impl Admin {
         }
     }
 
-    // A commit of a leaf begins, and its job is kept; its number, if there is one.
+    // A commit of a leaf begins, and its job is kept; its number, if there is one. An error says that a job came, and that there was no
+    // memory to keep it.
     fn begin(
         &mut self,
         alloc: Global,
@@ -47,6 +48,7 @@ impl Admin {
         frag: Frag,
     ) -> Result<Result<Option<u64>, Refusal>, AllocError>
         ensures begun { IfOk result (λ number. BeginsCommit self.old self.new rank ino frag number) }
+        ensures err { OnErr result (LosesJob self.old self.new rank ino frag) }
         ensures count { self.new.operations ≡ self.old.operations }
     {
         match self.step_book(alloc, Event::CommitBegin { rank, ino, frag }) {
@@ -72,14 +74,16 @@ impl Admin {
         frag: Frag,
     ) -> Result<OutputLine, AllocError>
         ensures line { IfOk result (BeginsLine self.old self.new rank ino frag) }
+        ensures err { OnErr result (LosesJob self.old self.new rank ino frag) }
         ensures count { self.new.operations ≡ self.old.operations }
     {
         Ok(begun_line(self.begin(alloc, rank, ino, frag)?))
     }
 
-    // `end J`: the kept job is encoded, and its commit ended.
+    // `end J`: the kept job is encoded, and its commit ended. An error says that there was no memory to copy it.
     fn end(&mut self, alloc: Global, number: u64) -> Result<OutputLine, AllocError>
         ensures line { IfOk result (EndsLine self.old self.new number) }
+        ensures err { OnErr result (CopiesNone self.old self.new number) }
         ensures count { self.new.operations ≡ self.old.operations }
     {
         let Some(job) = self.jobs.get(number) else {
@@ -101,6 +105,7 @@ impl Admin {
         frag: Frag,
     ) -> Result<OutputLine, AllocError>
         ensures line { IfOk result (CommitsLine self.old self.new rank ino frag) }
+        ensures err { OnErr result (LacksForCommit self.old self.new rank ino frag) }
         ensures count { self.new.operations ≡ self.old.operations }
     {
         match self.begin(alloc, rank, ino, frag)? {

@@ -1,5 +1,5 @@
 use Rattle.std.proofs.Common.{ℕ, Option, Ok, ap, ◌∙◌}
-use Rattle.admin_cli.proofs.Committed.{ended, nothing_begun, refused}
+use Rattle.admin_cli.proofs.Committed.{ended, nothing_begun, refused, stopped}
 use Rattle.admin_cli.proofs.commands.Admin.commit.Goals as goal
 
 pub returns-in-Ok-Some-clause-line : goal.returns-in-Ok-Some-clause-line
@@ -12,3 +12,7 @@ returns-in-Ok-None-clause-line c =
 
 pub returns-in-Err-clause-line : goal.returns-in-Err-clause-line
 returns-in-Err-clause-line c = refused _ _ c.begin.new.self c.args.rank c.args.ino c.args.frag _ c.in_ok-number.ensures.begun c.in-Err.refusal c.in-Err.is
+
+pub returns-in-Ok-Some-clause-err : goal.returns-in-Ok-Some-clause-err
+returns-in-Ok-Some-clause-err c =
+    stopped _ _ c.end.new.self c.args.rank c.args.ino c.args.frag _ c.in_ok-number.ensures.begun c.in-Ok-Some.number c.end.result (c.in-Ok-Some.is ∙ ap (λ (n : Option ℕ). Ok n) c.in-Ok-Some.field-0-is) c.end.ensures.err
