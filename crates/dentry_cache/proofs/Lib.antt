@@ -23,10 +23,12 @@ pub mod PairLaws
 pub mod PartLaws
 pub mod PlaceLaws
 pub mod ReadyFrom
+pub mod ReadsLaws
 pub mod ReadySplit
 pub mod SizeLaws
 pub mod SpareLaws
 pub mod SplitShows
+pub mod StepLaws
 pub mod StandingLaws
 pub mod TieLaws
 pub mod TiesLaws
