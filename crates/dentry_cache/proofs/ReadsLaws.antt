@@ -12,10 +12,11 @@ use Rattle.dentry_cache.specs.CacheMap.{At, CacheMap, at, at_rank, given_up, has
 use Rattle.dentry_cache.specs.Came.{Came, StaysNamed}
 use Rattle.dentry_cache.specs.Came.Came.{stays as came_stays, uses as came_uses, has as came_has, room as came_room, ends as came_ends}
 use Rattle.dentry_cache.specs.Loading.{Loads, object_of}
-use Rattle.dentry_cache.specs.Reads.{IsButRoom, Reads}
+use Rattle.dentry_cache.specs.Reads.{IsButRoom, IsReadOf, Reads}
 use Rattle.dentry_cache.specs.Reads.Reads.{stays as it_stays, uses, grows, loads, room, frees}
 use Rattle.dentry_cache.proofs.CameLaws.{absent_roomy}
 use Rattle.sorted_map.proofs.NatKeys.{is_apart, is_same, same_or_apart}
+use Rattle.dentry_cache.proofs.FrameLaws.{staying_named}
 use Rattle.dentry_cache.proofs.LeafLaws.{one_leaf}
 use Rattle.dentry_cache.proofs.StepLaws.{get_with_frag, held_given_up, held_roomy}
 use Rattle.dentry_cache.proofs.UncleanLaws.{get_unclean, unclean_alike, unclean_gone, unclean_roomy, unclean_same}
@@ -50,6 +51,11 @@ here_is r (Some a) f is = go (same_or_apart a.rank r)
         let one : a.frag ≡ f = same_Some a.frag f (sym (ap (λ b. cond b (Some a.frag) None) (is_same a.rank r same)) ∙ is) in
         λ i. Some (record { rank = same i; frag = one i })
     go (inr apart) = let clash : None ≡ Some f = sym (ap (λ b. cond b (Some a.frag) None) (is_apart a.rank r apart)) ∙ is in absurd cc
+
+-- what was read has other room then
+pub read_more : (Uses : ℕ → Leaf → Type 0) (objects : Objects) (q : Leaf) (was : Option At) (a : At) (now : Cached) → IsReadOf Uses objects q was a → IsButRoom a.frag now → IsReadOf Uses objects q was (at a.rank now)
+read_more Uses objects q was a now (inl of) more = inl (of.0, of.1, room_twice of.0 a.frag now of.2 more)
+read_more Uses objects q was a now (inr of) more = inr (of.0, of.1, of.2, room_twice of.1 a.frag now of.3 more)
 
 -- ---- each call is a step
 
@@ -109,3 +115,45 @@ module _ (Uses Ends : ℕ → Leaf → Type 0) (objects : Objects) (old : CacheM
       unclean_same mid r leaf f (ap unsaved_at none ∙ sym (loaded_clean leaf.1 (object_of objects leaf.0 leaf.1) f spelt)) ∙ reads_unclean mid before
   reads_unclean _ (room mid new r leaf stay before named none kept is) = unclean_roomy mid new r stay is ∙ reads_unclean mid before
   reads_unclean _ (frees mid r leaf before named none) = unclean_gone mid r leaf (λ some. ap unsaved_at none) ∙ reads_unclean mid before
+
+  -- each fragment was there at its rank, with other room at most, or its object spells it and its leaf is read at its rank
+  pub reads_held : (new : CacheMap) → Reads Uses Ends objects old new → (q : Leaf) (a : At) → finmap.get new.held q ≡ Some a → IsReadOf Uses objects q (finmap.get old.held q) a
+  reads_held _ it_stays q a is = inl (a.frag, is, room_itself a.frag)
+  reads_held _ (uses mid r leaf before named) q a is = reads_held mid before q a is
+  reads_held _ (grows mid r leaf f now before named seen same) q a is = go (λ b was. reads_held mid before q b was) (leaf_is q leaf) refl (sym (get_with_frag mid r leaf now q) ∙ is)
+    where
+      go : ((b : At) → finmap.get mid.held q ≡ Some b → IsReadOf Uses objects q (finmap.get old.held q) b) → (b : Bool) → leaf_is q leaf ≡ b → cond b (Some (at r now)) (finmap.get mid.held q) ≡ Some a
+          → IsReadOf Uses objects q (finmap.get old.held q) a
+      go rest true one is =
+          subst (IsReadOf Uses objects q (finmap.get old.held q)) (same_Some (at r now) a is)
+          (read_more Uses objects q (finmap.get old.held q) (at r f) now (rest (at r f) (ap (finmap.get mid.held) (one_leaf q leaf one) ∙ here_is r (finmap.get mid.held leaf) f seen)) same)
+      go rest false one is = rest a is
+  reads_held _ (loads mid r leaf f before named none spelt) q a is = go (λ was. reads_held mid before q a was) (leaf_is q leaf) refl (sym (get_with_frag mid r leaf f q) ∙ is)
+    where
+      go : (finmap.get mid.held q ≡ Some a → IsReadOf Uses objects q (finmap.get old.held q) a) → (b : Bool) → leaf_is q leaf ≡ b → cond b (Some (at r f)) (finmap.get mid.held q) ≡ Some a
+          → IsReadOf Uses objects q (finmap.get old.held q) a
+      go rest true one is =
+          subst (IsReadOf Uses objects q (finmap.get old.held q)) (same_Some (at r f) a is)
+          (subst (λ (l : Leaf). IsReadOf Uses objects l (finmap.get old.held q) (at r f)) (sym (one_leaf q leaf one)) (inr (named, f, spelt, room_itself f)))
+      go rest false one is = rest is
+  reads_held _ (room mid new r leaf stay before named none kept is) q a there = reads_held mid before q a (held_roomy mid new r stay q a is there)
+  reads_held _ (frees mid r leaf before named none) q a is = reads_held mid before q a (held_given_up mid r leaf q a is)
+
+-- steps after others
+pub reads_then : (Uses Ends : ℕ → Leaf → Type 0) (objects : Objects) (old mid new : CacheMap) → Reads Uses Ends objects old mid → Reads Uses Ends objects mid new → Reads Uses Ends objects old new
+reads_then Uses Ends objects old mid _ first it_stays = first
+reads_then Uses Ends objects old mid _ first (uses next r leaf before named) = uses next r leaf (reads_then Uses Ends objects old mid next first before) named
+reads_then Uses Ends objects old mid _ first (grows next r leaf f now before named seen same) = grows next r leaf f now (reads_then Uses Ends objects old mid next first before) named seen same
+reads_then Uses Ends objects old mid _ first (loads next r leaf f before named none spelt) = loads next r leaf f (reads_then Uses Ends objects old mid next first before) named none spelt
+reads_then Uses Ends objects old mid _ first (room next new r leaf stay before named none kept is) = room next new r leaf stay (reads_then Uses Ends objects old mid next first before) named none kept is
+reads_then Uses Ends objects old mid _ first (frees next r leaf before named none) = frees next r leaf (reads_then Uses Ends objects old mid next first before) named none
+
+-- steps that name no more than others
+module _ (Uses Ends More Other : ℕ → Leaf → Type 0) (used : (r : ℕ) (leaf : Leaf) → Uses r leaf → More r leaf) (ended : (r : ℕ) (leaf : Leaf) → Ends r leaf → Other r leaf) (objects : Objects) (old : CacheMap) where
+  pub reads_weaker : (new : CacheMap) → Reads Uses Ends objects old new → Reads More Other objects old new
+  reads_weaker _ it_stays = it_stays
+  reads_weaker _ (uses mid r leaf before named) = uses mid r leaf (reads_weaker mid before) (used r leaf named)
+  reads_weaker _ (grows mid r leaf f now before named seen same) = grows mid r leaf f now (reads_weaker mid before) (used r leaf named) seen same
+  reads_weaker _ (loads mid r leaf f before named none spelt) = loads mid r leaf f (reads_weaker mid before) (used r leaf named) none spelt
+  reads_weaker _ (room mid new r leaf stay before named none kept is) = room mid new r leaf stay (reads_weaker mid before) (used r leaf named) none (staying_named Uses More used stay kept) is
+  reads_weaker _ (frees mid r leaf before named none) = frees mid r leaf (reads_weaker mid before) (ended r leaf named) none

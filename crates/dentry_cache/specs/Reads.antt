@@ -1,10 +1,10 @@
 -- What reads and preparations make of the caches of all ranks.
-use Rattle.std.specs.Prelude.{◌≡◌, ℕ, false, Option, Some, None}
+use Rattle.std.specs.Prelude.{◌≡◌, ◌⊎◌, ℕ, false, Option, Some, None}
 use Rattle.std.specs.FinMap as finmap
 use Rattle.objstore.specs.Objects.{Objects}
 use Rattle.cached_frag.specs.Cached.{Cached}
 use Rattle.dentry_cache.specs.Cache.{Leaf}
-use Rattle.dentry_cache.specs.CacheMap.{CacheMap, given_up, has_place, here, roomy, used_at, with_frag}
+use Rattle.dentry_cache.specs.CacheMap.{At, CacheMap, at, given_up, has_place, here, roomy, used_at, with_frag}
 use Rattle.dentry_cache.specs.Came.{StaysNamed}
 use Rattle.dentry_cache.specs.Loading.{Loads, object_of}
 
@@ -25,3 +25,9 @@ pub data Reads (Uses Ends : ℕ → Leaf → Type 0) (objects : Objects) (old : 
       → StaysNamed Uses stay → roomy mid r stay ≡ Some new → Reads Uses Ends objects old new
   frees : (mid : CacheMap) (r : ℕ) (leaf : Leaf) → Reads Uses Ends objects old mid → Ends r leaf → finmap.get mid.held leaf ≡ None
       → Reads Uses Ends objects old (given_up mid r leaf)
+
+-- a fragment that reads left: it was there at its rank, with other room at most, or its object spells it, and its leaf is read at its rank
+abbrev pub IsReadOf : (ℕ → Leaf → Type 0) → Objects → Leaf → Option At → At → Type 0
+IsReadOf Uses objects q was now =
+    ((f : Cached) × (was ≡ Some (at now.rank f)) × IsButRoom f now.frag)
+    ⊎ (Uses now.rank q × (f : Cached) × Loads q.1 (object_of objects q.0 q.1) (Some f) × IsButRoom f now.frag)
