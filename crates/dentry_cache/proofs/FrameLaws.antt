@@ -22,7 +22,7 @@ then_left a b c (inl same) (inr went) = inr (went.0, ap unsaved_at (sym same) �
 then_left a b c (inr went) (inl again) = inr (again ∙ went.0, went.1)
 then_left a b c (inr went) (inr more) = inr (more.0, went.1)
 
-roomy_left : (c new : CacheMap) (r : ℕ) (stay : Option Leaf) (q : Leaf) → roomy c r stay ≡ Some new → IsLeft (finmap.get c.held q) (finmap.get new.held q)
+pub roomy_left : (c new : CacheMap) (r : ℕ) (stay : Option Leaf) (q : Leaf) → roomy c r stay ≡ Some new → IsLeft (finmap.get c.held q) (finmap.get new.held q)
 roomy_left c new r stay q is = go (nat_lt (length (order c r)) c.cap) (victim c r stay) refl is
   where
     on : (v : Leaf) → victim c r stay ≡ Some v → (b : Bool) → leaf_is q v ≡ b → IsLeft (finmap.get c.held q) (cond b None (finmap.get c.held q))

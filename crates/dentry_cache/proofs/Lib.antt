@@ -1,6 +1,7 @@
 pub mod CacheLaws
 pub mod CameLaws
 pub mod CapLaws
+pub mod ChildLaws
 pub mod CommitSteps
 pub mod CountLaws
 pub mod EditLaws

@@ -83,7 +83,7 @@ nothing_past [] r far = refl
 nothing_past (c ∷ cs) zero far = absurd (omega (arith, far))
 nothing_past (c ∷ cs) (suc r) far = nothing_past cs r (omega (arith, far))
 
-below_or_past : (r n : ℕ) → (r < n) ⊎ (n ≤ r)
+pub below_or_past : (r n : ℕ) → (r < n) ⊎ (n ≤ r)
 below_or_past r zero = inr (omega arith)
 below_or_past zero (suc n) = inl (omega arith)
 below_or_past (suc r) (suc n) = go (below_or_past r n)

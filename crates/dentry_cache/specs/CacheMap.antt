@@ -145,6 +145,10 @@ tabulate f (k ∷ ks) = with_some (tabulate f ks) k (f k)
 unfoldable pub unclean : CacheMap → finmap.FinMap leaf_cmp Unsaved
 unclean c = tabulate (λ (q : Leaf). unsaved_at (finmap.get c.held q)) (finmap.keys c.held)
 
+-- what a rank's fragments that aren't clean have beyond their objects
+unfoldable pub unclean_of : CacheMap → ℕ → finmap.FinMap leaf_cmp Unsaved
+unclean_of c r = tabulate (λ (q : Leaf). unsaved_in (here c r q)) (finmap.keys c.held)
+
 -- ---- the caches of the code, and what is seen of them
 
 -- a cache without places

@@ -29,7 +29,7 @@ use std::marker::Model;
 /// A cache for each rank, rank 0 first, each with as many places. No leaf's fragment is at two ranks.
 #[derive(Drop)]
 pub struct Caches {
-    caches: Vec<Cache>,
+    pub(crate) caches: Vec<Cache>,
     places: usize,
 }
 
@@ -147,6 +147,7 @@ impl Caches {
         ensures refused { IfErr result (MayNotFetchAt at.rank.0 (leaf_of at) stay (object_of (S.objects store.old) at.dir at.frag) self.old) }
         ensures same { S.objects store.new ≡ S.objects store.old }
         ensures counted { S.faults store.new ≡ S.faults store.old + faults_told (result_err result) }
+        ensures valid { AreCaches self.old }
     {
         self.caches[at.rank.0 as usize].fetch(alloc, store, at.dir, at.frag, stay)
     }
@@ -167,6 +168,7 @@ impl Caches {
         ensures kept { OnOk result (KeepsAt at.rank.0 (leaf_of at) stay self.old self.new) }
         ensures left { OnErr result (MakesRoomAt at.rank.0 stay self.old self.new) }
         ensures refused { IfErr result (MayNotKeepAt at.rank.0 stay self.old) }
+        ensures valid { AreCaches self.old }
     {
         self.caches[at.rank.0 as usize].keep(alloc, at.dir, at.frag, stay)
     }
@@ -267,17 +269,17 @@ impl Caches {
     pub(crate) fn ready_parts(
         &mut self,
         alloc: Global,
-        at: Dirfrag,
+        at: &Dirfrag,
         bits: u8,
         generation: u64,
     ) -> Result<Parts, AllocError>
-        requires there { at.rank.0 < length self.old.used }
+        requires there { at.now.rank.0 < length self.old.used }
         requires few { bits ≤ 8 }
-        requires deep { at.frag.bits + bits ≤ 24 }
+        requires deep { at.now.frag.bits + bits ≤ 24 }
         requires numbers { generation + 2 ^ bits ≤ 2 ^ 64 }
-        requires cached { IsThere (here self.old at.rank.0 (leaf_of at)) }
-        ensures same { Edits IsButPlaces at.rank.0 (leaf_of at) self.old self.new }
-        ensures ready { IfOk result (λ parts. HasCached (here self.new at.rank.0 (leaf_of at)) (IsReadyToSplit at.frag bits parts)) }
+        requires cached { IsThere (here self.old at.now.rank.0 (leaf_of at.now)) }
+        ensures same { Edits IsButPlaces at.now.rank.0 (leaf_of at.now) self.old self.new }
+        ensures ready { IfOk result (λ parts. HasCached (here self.new at.now.rank.0 (leaf_of at.now)) (IsReadyToSplit at.now.frag bits parts)) }
         ensures numbered { IfOk result (λ parts. AreNumbered generation parts) }
     {
         self.caches[at.rank.0 as usize].ready_parts(alloc, at.dir, at.frag, bits, generation)

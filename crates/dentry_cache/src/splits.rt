@@ -52,11 +52,11 @@ impl Caches {
         ensures reads { (objects : Objects) → Reads (IsFamilyAt at.rank.0 at.dir at.frag bits) (IsChildAt at.rank.0 at.dir at.frag bits) objects self.old self.new }
         ensures refused { IfErr result (MayNotKeepAll (2 ^ bits) self.old at.rank.0) }
     {
-        let parts = match self.ready_parts(alloc, at, bits, generation) {
+        let parts = match self.ready_parts(alloc, &at, bits, generation) {
             Ok(parts) => parts,
             Err(_) => return Err(Refusal::NoMemory),
         };
-        match self.keep_children(alloc, at, bits) {
+        match self.keep_children(alloc, &at, bits) {
             Ok(()) => Ok(parts),
             Err(refusal) => {
                 drop(parts);
@@ -74,7 +74,7 @@ impl Caches {
         ensures { self.new ≡ without_children at.rank.0 at.dir at.frag bits (2 ^ bits) self.old }
     {
         for i in 0..child_count(bits) {
-            self.forget(child_at(at, i, bits));
+            self.forget(child_at(&at, i, bits));
         }
     }
 
@@ -89,29 +89,29 @@ impl Caches {
         requires kept { AreKept self.old at.rank.0 at.dir at.frag bits }
         ensures { HasCached (here self.old at.rank.0 (leaf_of at)) (SplitsAt at.rank.0 at.dir at.frag bits parts version self.old self.new) }
     {
-        let names = self.give_names(at);
+        let names = self.give_names(&at);
         let mut items = parts.items;
         divide(&mut items, at.frag, bits, names, version);
-        self.fill_all(at, items);
+        self.fill_all(&at, items);
     }
 
     // Keeps a place for each child.
-    fn keep_children(&mut self, alloc: Global, at: Dirfrag, bits: u8) -> Result<(), Refusal>
-        requires there { at.rank.0 < length self.old.used }
+    fn keep_children(&mut self, alloc: Global, at: &Dirfrag, bits: u8) -> Result<(), Refusal>
+        requires there { at.now.rank.0 < length self.old.used }
         requires some { 1 ≤ bits }
         requires few { bits ≤ 8 }
-        requires deep { at.frag.bits + bits ≤ 24 }
-        requires absent { AreAbsent self.old at.rank.0 at.dir at.frag bits }
-        ensures keeps { OnOk result (KeepsChildren at.rank.0 at.dir at.frag bits (2 ^ bits) self.old self.new) }
-        ensures left { OnErr result (AreAbsent self.new at.rank.0 at.dir at.frag bits) }
-        ensures stays { here self.new at.rank.0 (leaf_of at) ≡ here self.old at.rank.0 (leaf_of at) }
-        ensures reads { (objects : Objects) → Reads (IsFamilyAt at.rank.0 at.dir at.frag bits) (IsChildAt at.rank.0 at.dir at.frag bits) objects self.old self.new }
-        ensures refused { IfErr result (MayNotKeepAll (2 ^ bits) self.old at.rank.0) }
+        requires deep { at.now.frag.bits + bits ≤ 24 }
+        requires absent { AreAbsent self.old at.now.rank.0 at.now.dir at.now.frag bits }
+        ensures keeps { OnOk result (KeepsChildren at.now.rank.0 at.now.dir at.now.frag bits (2 ^ bits) self.old self.new) }
+        ensures left { OnErr result (AreAbsent self.new at.now.rank.0 at.now.dir at.now.frag bits) }
+        ensures stays { here self.new at.now.rank.0 (leaf_of at.now) ≡ here self.old at.now.rank.0 (leaf_of at.now) }
+        ensures reads { (objects : Objects) → Reads (IsFamilyAt at.now.rank.0 at.now.dir at.now.frag bits) (IsChildAt at.now.rank.0 at.now.dir at.now.frag bits) objects self.old self.new }
+        ensures refused { IfErr result (MayNotKeepAll (2 ^ bits) self.old at.now.rank.0) }
     {
         for i in 0..child_count(bits) {
             let child = child_at(at, i, bits);
             if let Err(refusal) = self.keep(alloc, child, Some((at.dir, at.frag))) {
-                self.drop_children(at, bits);
+                self.drop_children(*at, bits);
                 return Err(refusal);
             }
         }
@@ -119,24 +119,24 @@ impl Caches {
     }
 
     // Takes a fragment out that is ready for it, and gives away the names that it shows.
-    fn give_names(&mut self, at: Dirfrag) -> SortedMap<Name, Inode>
-        requires there { at.rank.0 < length self.old.used }
-        requires ready { HasCached (here self.old at.rank.0 (leaf_of at)) (λ (f : Cached). map.len f.dirty ≤ f.places) }
-        ensures names { HasCached (here self.old at.rank.0 (leaf_of at)) (λ (f : Cached). contents key_cmp result ≡ shown f) }
+    fn give_names(&mut self, at: &Dirfrag) -> SortedMap<Name, Inode>
+        requires there { at.now.rank.0 < length self.old.used }
+        requires ready { HasCached (here self.old at.now.rank.0 (leaf_of at.now)) (λ (f : Cached). map.len f.dirty ≤ f.places) }
+        ensures names { HasCached (here self.old at.now.rank.0 (leaf_of at.now)) (λ (f : Cached). contents key_cmp result ≡ shown f) }
         ensures entries { AreEntries (contents key_cmp result) }
-        ensures without { self.new ≡ given_up self.old at.rank.0 (leaf_of at) }
+        ensures without { self.new ≡ given_up self.old at.now.rank.0 (leaf_of at.now) }
     {
-        match self.take(at) {
+        match self.take(*at) {
             Some(fragment) => fragment.into_names(),
             None => unreachable!(),
         }
     }
 
     // Fills the places of these children.
-    fn fill_all(&mut self, at: Dirfrag, parts: Vec<Part>)
-        requires there { at.rank.0 < length self.old.used }
-        requires kept { AreFillable at.rank.0 at.dir parts.items self.old }
-        ensures { self.new ≡ with_parts at.dir at.rank.0 parts.items self.old }
+    fn fill_all(&mut self, at: &Dirfrag, parts: Vec<Part>)
+        requires there { at.now.rank.0 < length self.old.used }
+        requires kept { AreFillable at.now.rank.0 at.now.dir parts.items self.old }
+        ensures { self.new ≡ with_parts at.now.dir at.now.rank.0 parts.items self.old }
     {
         for part in parts {
             let child = Dirfrag {
@@ -150,10 +150,10 @@ impl Caches {
 }
 
 // The child of so many more bits at this place among them, at the same rank.
-fn child_at(at: Dirfrag, i: u32, bits: u8) -> Dirfrag
-    requires deep { at.frag.bits + bits ≤ 24 }
+fn child_at(at: &Dirfrag, i: u32, bits: u8) -> Dirfrag
+    requires deep { at.now.frag.bits + bits ≤ 24 }
     requires among { i < 2 ^ bits }
-    ensures { result ≡ record at { frag = child_of at.frag i bits } }
+    ensures { result ≡ record at.now { frag = child_of at.now.frag i bits } }
 {
     match at.frag.child(i, bits) {
         Some(frag) => Dirfrag {

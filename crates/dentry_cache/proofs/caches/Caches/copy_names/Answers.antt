@@ -1,5 +1,4 @@
-use Rattle.dentry_cache.proofs.ReadsLaws.{reads_came}
-use Rattle.dentry_cache.proofs.StepLaws.{here_put}
+use Rattle.dentry_cache.proofs.ChildLaws.{refused_so}
 use Rattle.std.proofs.Common.{Option, OnOk, subst}
 use Rattle.cached_frag.specs.Cached.{Cached, shown}
 use Rattle.cached_frag.specs.Moving.{TakesIn}
