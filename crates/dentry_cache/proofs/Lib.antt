@@ -10,6 +10,7 @@ pub mod FixedPlaces
 pub mod ForgetLaws
 pub mod FrameLaws
 pub mod KeptLaws
+pub mod LacksLaws
 pub mod LeafLaws
 pub mod LeavingLaws
 pub mod LoadLaws
@@ -22,6 +23,7 @@ pub mod OrderLaws
 pub mod PageSteps
 pub mod PairLaws
 pub mod PartLaws
+pub mod PartsLaws
 pub mod PlaceLaws
 pub mod ReadyFrom
 pub mod ReadsLaws

@@ -174,7 +174,7 @@ here_beside_mark c r leaf name mark s q apart = go (here c r leaf)
 -- ---- places
 
 -- what stands in an order of use that was set
-set_either : (xss : List (List Leaf)) (r s : ℕ) (xs : List Leaf) → ((s ≡ r) × (get_or (set xss r xs) s [] ≡ xs)) ⊎ (get_or (set xss r xs) s [] ≡ get_or xss s [])
+pub set_either : (xss : List (List Leaf)) (r s : ℕ) (xs : List Leaf) → ((s ≡ r) × (get_or (set xss r xs) s [] ≡ xs)) ⊎ (get_or (set xss r xs) s [] ≡ get_or xss s [])
 set_either [] r s xs = inr refl
 set_either (x ∷ xss) zero zero xs = inl (refl, refl)
 set_either (x ∷ xss) zero (suc s) xs = inr refl

@@ -281,6 +281,8 @@ impl Caches {
         ensures same { Edits IsButPlaces at.now.rank.0 (leaf_of at.now) self.old self.new }
         ensures ready { IfOk result (λ parts. HasCached (here self.new at.now.rank.0 (leaf_of at.now)) (IsReadyToSplit at.now.frag bits parts)) }
         ensures numbered { IfOk result (λ parts. AreNumbered generation parts) }
+        ensures before { AreCaches self.old }
+        ensures valid { AreCaches self.new }
     {
         self.caches[at.rank.0 as usize].ready_parts(alloc, at.dir, at.frag, bits, generation)
     }

@@ -7,7 +7,7 @@ ghost use Rattle.mds_types.specs.Frag.{child_of};
 ghost use Rattle.objstore.specs.Objects.{Objects};
 ghost use Rattle.cached_frag.specs.Cached.{AreEntries, Cached, shown};
 ghost use Rattle.dentry_cache.specs.Cache.{HasCached, IsThere};
-ghost use Rattle.dentry_cache.specs.CacheMap.{given_up, here, leaf_of};
+ghost use Rattle.dentry_cache.specs.CacheMap.{AreCaches, given_up, here, leaf_of};
 ghost use Rattle.dentry_cache.specs.CacheSplits.{AreAbsent, AreFillable, AreKept, IsButPlaces, IsChildAt, IsFamilyAt, IsReadyToSplit, KeepsChildren, MayNotKeepAll, ReadiesAt, SplitsAt, with_parts, without_children};
 ghost use Rattle.dentry_cache.specs.Divided.{AreNumbered};
 ghost use Rattle.dentry_cache.specs.Reads.{Reads};
@@ -102,6 +102,8 @@ impl Caches {
         requires few { bits ≤ 8 }
         requires deep { at.now.frag.bits + bits ≤ 24 }
         requires absent { AreAbsent self.old at.now.rank.0 at.now.dir at.now.frag bits }
+        requires valid { AreCaches self.old }
+        ensures kept { OnOk result (AreKept self.new at.now.rank.0 at.now.dir at.now.frag bits) }
         ensures keeps { OnOk result (KeepsChildren at.now.rank.0 at.now.dir at.now.frag bits (2 ^ bits) self.old self.new) }
         ensures left { OnErr result (AreAbsent self.new at.now.rank.0 at.now.dir at.now.frag bits) }
         ensures stays { here self.new at.now.rank.0 (leaf_of at.now) ≡ here self.old at.now.rank.0 (leaf_of at.now) }
