@@ -30,6 +30,7 @@ pub mod ReadsLaws
 pub mod ReadySplit
 pub mod SizeLaws
 pub mod SpareLaws
+pub mod SplitLaws
 pub mod SplitShows
 pub mod StepLaws
 pub mod StandingLaws
