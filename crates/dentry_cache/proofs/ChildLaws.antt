@@ -12,13 +12,14 @@ use Rattle.dentry_cache.specs.Cache.{Leaf, leaf_is}
 use Rattle.dentry_cache.specs.CacheCalls.{IsAbsent, KeepsAt, MakesRoomAt, MayNotKeepAt, kept_at, unclean_at, unclean_in}
 use Rattle.dentry_cache.specs.CacheMap.{CacheMap, at_rank, first, given_up, has_place, here, less, order, removed, roomy, used_at}
 use Rattle.dentry_cache.specs.CacheSplits.{AreAbsent, AreKept, IsChildAt, IsFamilyAt, IsKeptFor, KeepsChildren, MayNotKeepAll, without_children}
+use Rattle.dentry_cache.specs.Came.{NoneEnds}
 use Rattle.dentry_cache.specs.Reads.{Reads}
 use Rattle.dentry_cache.specs.Reads.Reads.{stays as it_stays, uses, room, frees}
 use Rattle.dentry_cache.proofs.CountLaws.{full_where}
 use Rattle.dentry_cache.proofs.KeptLaws.{counted, first_distinct, just_kept, less_distinct, order_given_up, order_used, roomy_absent, roomy_counted, roomy_distinct, roomy_kept, roomy_stays, used_absent, used_counted, used_counted_one, used_kept}
 use Rattle.dentry_cache.proofs.LeafLaws.{leaf_itself}
 use Rattle.dentry_cache.proofs.NameParts.{no_child, one_child}
-use Rattle.dentry_cache.proofs.ReadsLaws.{reads_then}
+use Rattle.dentry_cache.proofs.ReadsLaws.{reads_then, reads_weaker}
 use Rattle.dentry_cache.proofs.SplitShows.{below_or_it}
 use Rattle.dentry_cache.proofs.MapCalls.{below_or_past}
 use Rattle.dentry_cache.proofs.StepLaws.{cap_roomy, has_given_up, placed_given_up, ranks_given_up, ranks_roomy, ranks_used}
@@ -47,7 +48,7 @@ module _ (r : ℕ) (dir : Ino) (frag : Fragment) (bits : ℕ) where
     pub stays : finmap.get now.held (dir, frag) ≡ finmap.get old.held (dir, frag)
     pub unclean : length (unclean_at now r) ≤ length (unclean_at old r)
     pub places : length (kept_at now r) ≤ length (kept_at old r) + n
-    pub reads : (objects : Objects) → Reads (IsFamilyAt r dir frag bits) (IsChildAt r dir frag bits) objects old now
+    pub reads : (objects : Objects) → Reads (IsFamilyAt r dir frag bits) NoneEnds objects old now
 
   named : (n : ℕ) → n < 2 ^ bits → IsFamilyAt r dir frag bits r (child n)
   named n below = inr (refl, n, below, refl)
@@ -112,6 +113,10 @@ module _ (r : ℕ) (dir : Ino) (frag : Fragment) (bits : ℕ) where
   are_keeping (suc n) old now most there distinct absent keeps =
       let before = are_keeping n old keeps.0 (omega (arith, most)) there distinct absent keeps.1 in
       one_kept n (omega (arith, most)) old keeps.2.0 (room_kept n (omega (arith, most)) old keeps.0 before keeps.2.0 keeps.2.1) now keeps.2.2
+
+  -- so no name is changed, and no fragment ends
+  pub kept_reads : (n : ℕ) (old now : CacheMap) → AreKeeping n old now → (objects : Objects) → Reads (IsFamilyAt r dir frag bits) (IsChildAt r dir frag bits) objects old now
+  kept_reads n old now k objects = reads_weaker (IsFamilyAt r dir frag bits) NoneEnds (IsFamilyAt r dir frag bits) (IsChildAt r dir frag bits) (λ s q named. named) (λ s q none. absurd none) objects old now (k.reads objects)
 
   -- ---- given up
 
@@ -182,7 +187,7 @@ module _ (r : ℕ) (dir : Ino) (frag : Fragment) (bits : ℕ) where
     stays_then = ap (λ m. at_rank r (finmap.get m (dir, frag))) dropped.held ∙ ap (at_rank r) then_keeping.stays
 
     pub reads_so : (objects : Objects) → Reads (IsFamilyAt r dir frag bits) (IsChildAt r dir frag bits) objects old last
-    reads_so objects = reads_then (IsFamilyAt r dir frag bits) (IsChildAt r dir frag bits) objects old now last (then_keeping.reads objects) (dropped.reads objects)
+    reads_so objects = reads_then (IsFamilyAt r dir frag bits) (IsChildAt r dir frag bits) objects old now last (kept_reads n old now then_keeping objects) (dropped.reads objects)
 
   -- why it isn't
   pub refused_so : (n : ℕ) → n < 2 ^ bits → (old mid : CacheMap) → AreKeeping n old mid → (reason : Refusal) → MayNotKeepAt r (Some (dir, frag)) mid reason → MayNotKeepAll (2 ^ bits) old r reason

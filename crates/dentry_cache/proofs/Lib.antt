@@ -39,3 +39,4 @@ pub mod TiesLaws
 pub mod UncleanLaws
 pub mod UnsavedLaws
 pub mod UsedLaws
+pub mod WholeLaws

@@ -14,19 +14,21 @@ use Rattle.dentry_cache.specs.declared.parts.Part.{Part}
 use Rattle.dentry_cache.specs.Cache.{HasCached, Leaf, leaf_is, unsaved_in, with_unsaved}
 use Rattle.dentry_cache.specs.CacheCalls.{Edits, IsEdited, kept_at, unclean_at, unclean_in}
 use Rattle.dentry_cache.specs.CacheMap.{AreCaches, CacheMap, IsFreeFor, at_rank, given_up, has_place, here, unclean, with_frag}
-use Rattle.dentry_cache.specs.CacheSplits.{AreAbsent, AreFillable, AreKept, IsButPlaces, IsChildAt, IsFamilyAt, IsKeptFor, IsReadyToSplit, MayNotKeepAll, SplitsAt, with_parts, with_unclean}
+use Rattle.dentry_cache.specs.CacheSplits.{AreAbsent, AreFillable, AreKept, IsButPlaces, IsChildAt, IsFamilyAt, IsKeptFor, IsReadyToSplit, MayNotKeepAll, ReadiesAt, SplitsAt, with_parts, with_unclean}
+use Rattle.dentry_cache.specs.Came.{NoneEnds}
 use Rattle.dentry_cache.specs.Divided.{AreChildren, AreReady, IsNoChild}
 use Rattle.dentry_cache.specs.Parting.{AreApart}
 use Rattle.dentry_cache.specs.Reads.{Reads}
 use Rattle.dentry_cache.specs.Reads.Reads.{stays as it_stays}
+use Rattle.dentry_cache.proofs.ChildLaws.{are_keeping}
 use Rattle.dentry_cache.proofs.KeptLaws.{counted}
-use Rattle.dentry_cache.proofs.LacksLaws.{frag_counts, still_left}
+use Rattle.dentry_cache.proofs.LacksLaws.{IsPlaced, caches_placed, frag_counts, placed_by_frag, still_left}
 use Rattle.dentry_cache.proofs.LeafLaws.{flips, leaf_itself}
 use Rattle.dentry_cache.proofs.MapLaws.{here_free}
 use Rattle.dentry_cache.proofs.NameParts.{no_child, one_child}
-use Rattle.dentry_cache.proofs.ReadsLaws.{edits_reads, places_changed}
+use Rattle.dentry_cache.proofs.ReadsLaws.{edits_reads, places_changed, reads_then, reads_weaker}
 use Rattle.dentry_cache.proofs.SplitShows.{apart_from}
-use Rattle.dentry_cache.proofs.StepLaws.{get_beside, get_with_frag, has_with_frag, here_put, placed_used, ranks_with_frag}
+use Rattle.dentry_cache.proofs.StepLaws.{by_edits, get_beside, get_with_frag, has_with_frag, here_put, placed_used, ranks_with_frag}
 use Rattle.dentry_cache.proofs.UncleanLaws.{unclean_given_up, unclean_with}
 
 -- ---- the fragment is ready
@@ -89,6 +91,18 @@ module _ (r : ℕ) (dir : Ino) (frag : Fragment) (bits : ℕ) (some : 1 ≤ bits
       counts : (P : Option Cached → Bool) → ((f now : Cached) → here old r (dir, frag) ≡ Some f → IsButPlaces f now → P (Some now) ≡ P (Some f)) → counted P mid r ≤ counted P old r
       counts P alike = by_edit (λ (k : CacheMap). counted P k r ≤ counted P old r) (λ f now seen same.
           frag_counts P old r (dir, frag) now r (inl (valid.placed r (dir, frag) (ap (λ (o : Option Cached). is_some o) seen))) (here_free r (finmap.get old.held (dir, frag)) (ap (λ (o : Option Cached). is_some o) seen)) (alike f now seen same ∙ sym (ap P seen)))
+
+-- what is made ready changes no name, and ends no fragment
+pub readies_reads : (r : ℕ) (dir : Ino) (frag : Fragment) (bits : ℕ) → 1 ≤ bits → (old new : CacheMap) → r < length old.used → AreCaches old → AreAbsent old r dir frag bits → ReadiesAt r dir frag bits old new
+    → (Uses Ends : ℕ → Leaf → Type 0) (objects : Objects) (start : CacheMap) → ((s : ℕ) (q : Leaf) → IsFamilyAt r dir frag bits s q → Uses s q) → Reads Uses Ends objects start old → Reads Uses Ends objects start new
+readies_reads r dir frag bits some old new there valid absent made Uses Ends objects start named before =
+    let mid = made.0 in
+    let ready : Reads (IsFamilyAt r dir frag bits) NoneEnds objects old mid = edits_reads (IsFamilyAt r dir frag bits) NoneEnds objects old old mid r (dir, frag) IsButPlaces places_changed it_stays (inl (refl, refl)) made.1 in
+    let placed : IsPlaced mid = by_edits r (dir, frag) IsButPlaces old mid made.1 IsPlaced (λ f now seen same. placed_by_frag old r (dir, frag) now there (caches_placed old valid)) in
+    let kept : Reads (IsFamilyAt r dir frag bits) NoneEnds objects mid new =
+    (are_keeping r dir frag bits (2 ^ bits) mid new (omega arith) (ready_ranks r dir frag bits some old mid made.1 there) (placed.distinct r) (ready_absent r dir frag bits some old mid made.1 absent) made.2).reads objects in
+    reads_then Uses Ends objects start old new before
+    (reads_weaker (IsFamilyAt r dir frag bits) NoneEnds Uses Ends named (λ s q none. absurd none) objects old new (reads_then (IsFamilyAt r dir frag bits) NoneEnds objects old mid new ready kept))
 
 -- ---- the children come in
 

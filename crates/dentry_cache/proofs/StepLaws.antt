@@ -10,8 +10,8 @@ use Rattle.std.specs.List.{AllByRecursion}
 use Rattle.sorted_map.proofs.NatKeys.{is_apart, is_same, same_or_apart}
 use Rattle.commit_jobs.specs.declared.marks.Mark.{Mark}
 use Rattle.cached_frag.specs.Cached.{Cached, marked}
-use Rattle.dentry_cache.specs.Cache.{IsThere, Leaf, leaf_is}
-use Rattle.dentry_cache.specs.CacheCalls.{IsWhole}
+use Rattle.dentry_cache.specs.Cache.{HasCached, Leaf, leaf_is}
+use Rattle.dentry_cache.specs.CacheCalls.{Edits, IsEdited}
 use Rattle.dentry_cache.specs.CacheMap.{At, CacheMap, IsFree, IsFreeFor, at, at_rank, clean_in, edited_as, first, given_up, goes, has_place, here, less, order, removed, roomy, used_at, victim, with_frag, with_mark}
 use Rattle.dentry_cache.proofs.LeafLaws.{leaf-total, leaf_itself, one_leaf, tied_leaf}
 use Rattle.dentry_cache.proofs.UncleanLaws.{last_passes}
@@ -280,48 +280,39 @@ has_given_up c r leaf s q there distinct = go (same_or_apart r s)
         ap (list_any (leaf_is q)) (get_or-set_other c.used r s (less leaf (order c r)) [] (λ (e : s ≡ r). apart (sym e)))
         ∙ ap (λ (b : Bool). cond (b && leaf_is q leaf) false (has_place c s q)) (sym (is_apart r s apart))
 
--- ---- a place in which its fragment is stays so
+pub has_with_mark : (c : CacheMap) (r : ℕ) (leaf : Leaf) (name : List ℕ) (mark : Mark) (f : Cached) (s : ℕ) (q : Leaf) → r < length c.used → here c r leaf ≡ Some f
+    → has_place (with_mark c r leaf name mark) s q ≡ cond ((r == s) && leaf_is q leaf) true (has_place c s q)
+has_with_mark c r leaf name mark f s q there seen =
+    ap (λ (o : Option Cached). has_place (edited_as c r leaf (λ (g : Cached). marked g name mark) o) s q) seen ∙ has_with_frag c r leaf (marked f name mark) s q there
 
--- a leaf that is used, and is there
-pub whole_used : (c : CacheMap) (r : ℕ) (leaf : Leaf) (s : ℕ) (q : Leaf) → IsThere (here c r leaf) → IsWhole c s q → IsWhole (used_at c r leaf) s q
-whole_used c r leaf s q there whole placed = go (placed_used c r leaf s q placed)
+-- ---- a fragment that was changed in some way
+
+-- how a statement of the caches before and after is proved
+pub by_edits : (r : ℕ) (leaf : Leaf) (Change : Cached → Cached → Type 0) (old new : CacheMap) → Edits Change r leaf old new → (P : CacheMap → Type 0)
+    → ((f now : Cached) → here old r leaf ≡ Some f → Change f now → P (with_frag old r leaf now)) → P new
+by_edits r leaf Change old new e P so = go (here old r leaf) refl e
   where
-    go : (has_place c s q ≡ true) ⊎ ((s ≡ r) × (q ≡ leaf)) → IsThere (here c s q)
-    go (inl before) = whole before
-    go (inr one) = subst (λ (k : ℕ). IsThere (here c k q)) (sym one.0) (subst (λ (l : Leaf). IsThere (here c r l)) (sym one.1) there)
+    go : (o : Option Cached) → here old r leaf ≡ o → IsEdited Change r leaf o old new → P new
+    go None seen e = absurd e
+    go (Some f) seen e = subst P (sym e.2) (so f e.0 seen e.1)
 
-pub whole_with_frag : (c : CacheMap) (r : ℕ) (leaf : Leaf) (f : Cached) (s : ℕ) (q : Leaf) → IsFreeFor c r leaf → IsWhole c s q → IsWhole (with_frag c r leaf f) s q
-whole_with_frag c r leaf f s q free whole placed = go (placed_used c r leaf s q placed)
-  where
+module _ (r : ℕ) (leaf : Leaf) (Change : Cached → Cached → Type 0) (old new : CacheMap) (e : Edits Change r leaf old new) where
+  pub ranks_edits : length new.used ≡ length old.used
+  ranks_edits = by_edits r leaf Change old new e (λ (k : CacheMap). length k.used ≡ length old.used) (λ f now seen change. ranks_with_frag old r leaf now)
 
-    of_rank : (o : Option At) → IsFree r o → IsThere (at_rank s o) → r ≡ s
-    of_rank None free is = absurd is
-    of_rank (Some a) free is = by (same_or_apart a.rank s)
-      where
-        by : (a.rank ≡ s) ⊎ (a.rank ≡ s → ⊥) → r ≡ s
-        by (inl same) = sym free ∙ same
-        by (inr apart) = absurd (subst IsThere (ap (λ b. cond b (Some a.frag) None) (is_apart a.rank s apart)) is)
+  pub cap_edits : new.cap ≡ old.cap
+  cap_edits = by_edits r leaf Change old new e (λ (k : CacheMap). k.cap ≡ old.cap) (λ f now seen change. refl)
 
-    still : (b : Bool) → leaf_is q leaf ≡ b → IsThere (here c s q) → IsThere (cond b (cond (r == s) (Some f) None) (here c s q))
-    still true one is =
-        let same : r ≡ s = of_rank (finmap.get c.held leaf) free (subst (λ (l : Leaf). IsThere (here c s l)) (one_leaf q leaf one) is) in
-        subst (λ (b : Bool). IsThere (cond b (Some f) None)) (sym (is_same r s same)) tt
-    still false one is = is
+  -- it is there, changed so
+  pub here_edits : HasCached (here old r leaf) (λ (f : Cached). HasCached (here new r leaf) (Change f))
+  here_edits = by_edits r leaf Change old new e (λ (k : CacheMap). HasCached (here old r leaf) (λ (f : Cached). HasCached (here k r leaf) (Change f)))
+      (λ f now seen change. subst (λ (o : Option Cached). HasCached o (λ (f : Cached). HasCached (here (with_frag old r leaf now) r leaf) (Change f))) (sym seen)
+      (subst (λ (o : Option Cached). HasCached o (Change f)) (sym (here_put old r leaf now)) change))
 
-    go : (has_place c s q ≡ true) ⊎ ((s ≡ r) × (q ≡ leaf)) → IsThere (here (with_frag c r leaf f) s q)
-    go (inl before) = subst IsThere (sym (here_with_frag c r leaf f s q)) (still (leaf_is q leaf) refl (whole before))
-    go (inr one) = subst (λ (k : ℕ). IsThere (here (with_frag c r leaf f) k q)) (sym one.0) (subst (λ (l : Leaf). IsThere (here (with_frag c r leaf f) r l)) (sym one.1) (subst IsThere (sym (here_put c r leaf f)) tt))
+  -- any other is as it was
+  pub get_beside_edits : (q : Leaf) → leaf_is q leaf ≡ false → finmap.get new.held q ≡ finmap.get old.held q
+  get_beside_edits q apart = by_edits r leaf Change old new e (λ (k : CacheMap). finmap.get k.held q ≡ finmap.get old.held q)
+      (λ f now seen change. get_with_frag old r leaf now q ∙ ap (λ b. cond b (Some (at r now)) (finmap.get old.held q)) apart)
 
-pub whole_given_up : (c : CacheMap) (r : ℕ) (leaf : Leaf) (s : ℕ) (q : Leaf) → r < length c.used → IsDistinct leaf_is (order c r) → IsWhole c s q → IsWhole (given_up c r leaf) s q
-whole_given_up c r leaf s q there distinct whole placed =
-    subst IsThere (sym (here_given_up c r leaf s q))
-    (still (r == s) (leaf_is q leaf) (sym (has_given_up c r leaf s q there distinct) ∙ placed) (whole (placed_given_up c r leaf s q placed)))
-  where
-    still : (a b : Bool) → cond (a && b) false (has_place c s q) ≡ true → IsThere (here c s q) → IsThere (cond (b && a) None (here c s q))
-    still true true is whole = let clash : false ≡ true = is in absurd cc
-    still true false is whole = whole
-    still false true is whole = whole
-    still false false is whole = whole
-
-pub whole_roomy : (c mid : CacheMap) (r : ℕ) (stay : Option Leaf) (s : ℕ) (q : Leaf) → r < length c.used → IsDistinct leaf_is (order c r) → roomy c r stay ≡ Some mid → IsWhole c s q → IsWhole mid s q
-whole_roomy c mid r stay s q there distinct made whole = by_room c mid r stay made (λ (k : CacheMap). IsWhole k s q) whole (λ v passes. whole_given_up c r v s q there distinct whole)
+  pub has_edits : (s : ℕ) (q : Leaf) → r < length old.used → has_place new s q ≡ cond ((r == s) && leaf_is q leaf) true (has_place old s q)
+  has_edits s q there = by_edits r leaf Change old new e (λ (k : CacheMap). has_place k s q ≡ cond ((r == s) && leaf_is q leaf) true (has_place old s q)) (λ f now seen change. has_with_frag old r leaf now s q there)

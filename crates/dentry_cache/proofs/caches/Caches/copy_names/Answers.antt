@@ -1,4 +1,3 @@
-use Rattle.dentry_cache.proofs.SplitLaws.{split_cap}
 use Rattle.std.proofs.Common.{Option, OnOk, subst}
 use Rattle.cached_frag.specs.Cached.{Cached, shown}
 use Rattle.cached_frag.specs.Moving.{TakesIn}

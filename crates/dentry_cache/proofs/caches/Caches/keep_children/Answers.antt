@@ -6,7 +6,7 @@ use Rattle.dentry_cache.specs.CacheCalls.{KeepsAt, MakesRoomAt, MayNotKeepAt}
 use Rattle.dentry_cache.specs.CacheMap.{CacheMap, here}
 use Rattle.dentry_cache.specs.CacheSplits.{AreAbsent, IsChildAt, IsFamilyAt, KeepsChildren}
 use Rattle.dentry_cache.specs.Reads.{Reads}
-use Rattle.dentry_cache.proofs.ChildLaws.{AreKeeping, none_kept, none_then, one_kept, reads_so, refused_so, room_kept, stays_then}
+use Rattle.dentry_cache.proofs.ChildLaws.{AreKeeping, kept_reads, none_kept, none_then, one_kept, reads_so, refused_so, room_kept, stays_then}
 use Rattle.dentry_cache.proofs.caches.Caches.keep_children.Goals as goal
 
 pub loop-i-init : goal.loop-i-init
@@ -42,3 +42,6 @@ loop-i-preserved c =
           (room_kept c.args.at.now.rank.0 c.args.at.now.dir c.args.at.now.frag c.args.bits c.loop-i.i below c.args.self.now c.loop-i.self c.loop-i.invariant.keeping kept.0 kept.1) c.keep.new.self kept.2);
       keeps = subst (λ (n : ℕ). KeepsChildren c.args.at.now.rank.0 c.args.at.now.dir c.args.at.now.frag c.args.bits n c.args.self.now c.keep.new.self) more (c.loop-i.self, c.loop-i.invariant.keeps, kept);
     }
+
+pub returns-clause-reads : goal.returns-clause-reads
+returns-clause-reads c = kept_reads c.args.at.now.rank.0 c.args.at.now.dir c.args.at.now.frag c.args.bits c.loop-i.i c.args.self.now c.loop-i.self c.loop-i.invariant.keeping
