@@ -9,7 +9,7 @@ use Rattle.dentry_cache.specs.CacheMap.{At, CacheMap, at, first, given_up, goes,
 use Rattle.dentry_cache.specs.Came.{Came, StaysNamed}
 use Rattle.dentry_cache.specs.Came.Came.{stays as it_stays, uses, has, room, ends}
 use Rattle.dentry_cache.proofs.LeafLaws.{leaf-total, one_leaf, tied_leaf}
-use Rattle.dentry_cache.proofs.StepLaws.{cap_roomy, get_with_frag, held_given_up, held_roomy, placed_given_up, placed_roomy, placed_used, ranks_given_up, ranks_roomy, ranks_used, ranks_with_frag}
+use Rattle.dentry_cache.proofs.StepLaws.{cap_roomy, get_beside, get_with_frag, held_given_up, held_roomy, placed_given_up, placed_roomy, placed_used, ranks_given_up, ranks_roomy, ranks_used, ranks_with_frag}
 use Rattle.dentry_cache.proofs.UncleanLaws.{clean_there, last_passes}
 
 -- it is where it was, as it was; or it was clean, and is given_up
@@ -53,20 +53,13 @@ module _ (Uses Ends : ℕ → Leaf → Type 0) (old : CacheMap) (q : Leaf) (unus
       go true same = absurd (unended r (subst (Ends r) (sym (one_leaf q leaf same)) named))
       go false apart = refl
 
-  gone_left : (c : CacheMap) (r : ℕ) (leaf : Leaf) → leaf_is q leaf ≡ false → finmap.get (given_up c r leaf).held q ≡ finmap.get c.held q
-  gone_left c r leaf apart = go (here c r leaf)
-    where
-      go : (o : Option Cached) → finmap.get (removed c.held leaf o) q ≡ finmap.get c.held q
-      go None = refl
-      go (Some f) = get-remove leaf-total c.held leaf q ∙ ap (λ b. cond b None (finmap.get c.held q)) (tied_leaf q leaf ∙ apart)
-
   pub came_left : (new : CacheMap) → Came Uses Ends old new → IsLeft (finmap.get old.held q) (finmap.get new.held q)
   came_left _ it_stays = inl refl
   came_left _ (uses mid r leaf before named) = came_left mid before
   came_left _ (has mid r leaf f before named) =
       then_left _ _ _ (came_left mid before) (inl (get-insert leaf-total mid.held leaf (at r f) q ∙ ap (λ b. cond b (Some (at r f)) (finmap.get mid.held q)) (tied_leaf q leaf ∙ beside_uses r leaf named)))
   came_left _ (room mid new r leaf stay before named none kept is) = then_left _ _ _ (came_left mid before) (roomy_left mid new r stay q is)
-  came_left _ (ends mid r leaf before named) = then_left _ _ _ (came_left mid before) (inl (gone_left mid r leaf (beside_ends r leaf named)))
+  came_left _ (ends mid r leaf before named) = then_left _ _ _ (came_left mid before) (inl (get_beside mid r leaf q (beside_ends r leaf named)))
 
 -- the order of a rank that isn't named is as it was
 module _ (Uses Ends : ℕ → Leaf → Type 0) (old : CacheMap) (s : ℕ) (unused : (r : ℕ) (q : Leaf) → Uses r q → s ≢ r) (unended : (r : ℕ) (q : Leaf) → Ends r q → s ≢ r) where

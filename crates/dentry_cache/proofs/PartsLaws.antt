@@ -1,5 +1,5 @@
 -- A split at a rank: what is made ready for it, and what it leaves.
-use Rattle.std.proofs.Common.{◌≡◌, ℕ, zero, suc, ◌+◌, ◌<◌, ◌≤◌, ◌^◌, Bool, true, false, cond, not, ◌&&◌, ◌||◌, ◌⊎◌, inl, inr, List, [], ◌∷◌, length, is_some, Option, Some, None, refl, sym, ap, subst, ◌∙◌, arith}
+use Rattle.std.proofs.Common.{◌≡◌, ℕ, suc, ◌+◌, ◌<◌, ◌≤◌, ◌^◌, Bool, true, false, cond, not, ◌&&◌, ◌⊎◌, inl, inr, List, [], ◌∷◌, length, is_some, Option, Some, None, refl, sym, ap, subst, ◌∙◌, arith}
 use Rattle.std.specs.Prelude.{◌==◌}
 use Rattle.std.specs.List.{slice_index_or}
 use Rattle.sorted_map.proofs.NatKeys.{is_same}
@@ -11,12 +11,12 @@ use Rattle.objstore.specs.Objects.{Objects}
 use Rattle.dirfrag_codec.specs.FragmentObject.{Names}
 use Rattle.cached_frag.specs.Cached.{Cached, shown}
 use Rattle.dentry_cache.specs.declared.parts.Part.{Part}
-use Rattle.dentry_cache.specs.Cache.{HasCached, Leaf, leaf_is, unsaved_in, with_unsaved}
+use Rattle.dentry_cache.specs.Cache.{HasCached, Leaf, leaf_is}
 use Rattle.dentry_cache.specs.CacheCalls.{Edits, IsEdited, kept_at, unclean_at, unclean_in}
-use Rattle.dentry_cache.specs.CacheMap.{AreCaches, CacheMap, IsFreeFor, at_rank, given_up, has_place, here, unclean, with_frag}
-use Rattle.dentry_cache.specs.CacheSplits.{AreAbsent, AreFillable, AreKept, IsButPlaces, IsChildAt, IsFamilyAt, IsKeptFor, IsReadyToSplit, MayNotKeepAll, ReadiesAt, SplitsAt, with_parts, with_unclean}
+use Rattle.dentry_cache.specs.CacheMap.{AreCaches, CacheMap, IsFreeFor, given_up, has_place, here, unclean, with_frag}
+use Rattle.dentry_cache.specs.CacheSplits.{AreAbsent, AreFillable, AreKept, IsButPlaces, IsChildAt, IsFamilyAt, IsKeptFor, MayNotKeepAll, ReadiesAt, SplitsAt, with_parts, with_unclean}
 use Rattle.dentry_cache.specs.Came.{NoneEnds}
-use Rattle.dentry_cache.specs.Divided.{AreChildren, AreReady, IsNoChild}
+use Rattle.dentry_cache.specs.Divided.{AreChildren}
 use Rattle.dentry_cache.specs.Parting.{AreApart}
 use Rattle.dentry_cache.specs.Reads.{Reads}
 use Rattle.dentry_cache.specs.Reads.Reads.{stays as it_stays}
@@ -42,11 +42,7 @@ module _ (r : ℕ) (dir : Ino) (frag : Fragment) (bits : ℕ) (some : 1 ≤ bits
 
   -- how a statement of the caches before and after is proved
   by_edit : (P : CacheMap → Type 0) → ((f now : Cached) → here old r (dir, frag) ≡ Some f → IsButPlaces f now → P (with_frag old r (dir, frag) now)) → P mid
-  by_edit P so = go (here old r (dir, frag)) refl e
-    where
-      go : (o : Option Cached) → here old r (dir, frag) ≡ o → IsEdited IsButPlaces r (dir, frag) o old mid → P mid
-      go None seen e = absurd e
-      go (Some f) seen e = subst P (sym e.2) (so f e.0 seen e.1)
+  by_edit P so = by_edits r (dir, frag) IsButPlaces old mid e P so
 
   pub ready_ranks : r < length old.used → r < length mid.used
   ready_ranks there = by_edit (λ (k : CacheMap). r < length k.used) (λ f now seen same. subst (λ (n : ℕ). r < n) (sym (ranks_with_frag old r (dir, frag) now)) there)

@@ -1,17 +1,15 @@
 -- What reads and preparations leave, and that they come from `Came` steps.
-use Rattle.std.proofs.Common.{◌≡◌, ◌≢◌, ℕ, ◌+◌, ◌<◌, ◌≤◌, ◌==◌, Bool, true, false, cond, ◌⊎◌, inl, inr, List, length, filter, is_some, Option, Some, None, Result, Ok, Err, OnOk, OnErr, refl, sym, ap, subst, ◌∙◌, arith}
-use Rattle.std.specs.List.{IsDistinct}
+use Rattle.std.proofs.Common.{◌≡◌, ℕ, Bool, true, false, cond, ◌⊎◌, inl, inr, Option, Some, None, refl, sym, ap, subst, ◌∙◌}
 use Rattle.std.specs.FinMap as finmap
 use Rattle.std.proofs.lemmas.Option.{same_Some}
-use Rattle.omap.specs.Omap.{Omap}
 use Rattle.objstore.specs.Objects.{Objects}
 use Rattle.cached_frag.specs.Cached.{Cached, is_clean}
 use Rattle.dentry_cache.specs.Cache.{Leaf, Unsaved, leaf_is, unsaved_in}
 use Rattle.dentry_cache.specs.CacheCalls.{Edits, FetchesAt, IsEdited, KeepsAt, MakesRoomAt}
-use Rattle.dentry_cache.specs.CacheMap.{At, CacheMap, at, at_rank, given_up, has_place, here, roomy, unclean, unsaved_at, used_at, with_frag}
+use Rattle.dentry_cache.specs.CacheMap.{At, CacheMap, at, at_rank, given_up, has_place, here, unclean, unsaved_at, used_at}
 use Rattle.dentry_cache.specs.Came.{Came, StaysNamed}
 use Rattle.dentry_cache.specs.Came.Came.{stays as came_stays, uses as came_uses, has as came_has, room as came_room, ends as came_ends}
-use Rattle.dentry_cache.specs.Loading.{Loads, object_of}
+use Rattle.dentry_cache.specs.Loading.{object_of}
 use Rattle.dentry_cache.specs.Reads.{IsButRoom, IsReadOf, Reads}
 use Rattle.dentry_cache.specs.Reads.Reads.{stays as it_stays, uses, grows, loads, room, frees}
 use Rattle.dentry_cache.proofs.CameLaws.{absent_roomy}

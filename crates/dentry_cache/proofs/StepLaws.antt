@@ -1,5 +1,5 @@
 -- What each step makes of a leaf's fragment and of its place, and of the sizes.
-use Rattle.std.proofs.Common.{◌≡◌, ◌≢◌, ℕ, zero, suc, ◌<◌, Bool, true, false, cond, not, ◌&&◌, ◌||◌, ◌⊎◌, inl, inr, List, [], ◌∷◌, set, get_or, length, nat_lt, is_some, option_map, Option, Some, None, refl, sym, ap, subst, ◌∙◌, get_or-set_same, get_or-set_other, length-set}
+use Rattle.std.proofs.Common.{◌≡◌, ℕ, zero, suc, ◌<◌, Bool, true, false, cond, ◌&&◌, ◌||◌, ◌⊎◌, inl, inr, List, [], ◌∷◌, set, get_or, length, nat_lt, option_map, Option, Some, None, refl, sym, ap, subst, ◌∙◌, get_or-set_same, get_or-set_other, length-set}
 use Rattle.std.specs.Prelude.{◌==◌}
 use Rattle.std.specs.List.{IsDistinct, list_any}
 use Rattle.std.specs.FinMap as finmap
@@ -12,7 +12,7 @@ use Rattle.commit_jobs.specs.declared.marks.Mark.{Mark}
 use Rattle.cached_frag.specs.Cached.{Cached, marked}
 use Rattle.dentry_cache.specs.Cache.{HasCached, Leaf, leaf_is}
 use Rattle.dentry_cache.specs.CacheCalls.{Edits, IsEdited}
-use Rattle.dentry_cache.specs.CacheMap.{At, CacheMap, IsFree, IsFreeFor, at, at_rank, clean_in, edited_as, first, given_up, goes, has_place, here, less, order, removed, roomy, used_at, victim, with_frag, with_mark}
+use Rattle.dentry_cache.specs.CacheMap.{At, CacheMap, IsFree, IsFreeFor, at, at_rank, edited_as, first, given_up, goes, has_place, here, less, order, removed, roomy, used_at, victim, with_frag, with_mark}
 use Rattle.dentry_cache.proofs.LeafLaws.{leaf-total, leaf_itself, one_leaf, tied_leaf}
 use Rattle.dentry_cache.proofs.UncleanLaws.{last_passes}
 

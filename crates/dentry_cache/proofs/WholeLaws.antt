@@ -26,7 +26,6 @@ whole_used c r leaf s q there whole placed = go (placed_used c r leaf s q placed
 pub whole_with_frag : (c : CacheMap) (r : ℕ) (leaf : Leaf) (f : Cached) (s : ℕ) (q : Leaf) → IsFreeFor c r leaf → IsWhole c s q → IsWhole (with_frag c r leaf f) s q
 whole_with_frag c r leaf f s q free whole placed = go (placed_used c r leaf s q placed)
   where
-
     of_rank : (o : Option At) → IsFree r o → IsThere (at_rank s o) → r ≡ s
     of_rank None free is = absurd is
     of_rank (Some a) free is = by (same_or_apart a.rank s)

@@ -39,6 +39,10 @@ at_rank r (Some a) = cond (a.rank == r) (Some a.frag) None
 abbrev pub here : CacheMap → ℕ → Leaf → Option Cached
 here c r leaf = at_rank r (finmap.get c.held leaf)
 
+-- the fragment that lies somewhere
+abbrev pub frag_of : CacheMap → Dirfrag → Option Cached
+frag_of c at = here c at.rank.0 (leaf_of at)
+
 -- no other rank has it
 abbrev pub IsFree : ℕ → Option At → Type 0
 IsFree r None = Unit {0}

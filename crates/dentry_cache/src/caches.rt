@@ -11,8 +11,8 @@ ghost use Rattle.cached_frag.specs.Moving.{TakesIn};
 ghost use Rattle.mds_types.specs.declared.refusals.Refusal.TheVariants.{NothingToEvict};
 ghost use Rattle.dentry_cache.specs.Cache.{HasCached, HasRoom, IsThere};
 ghost use Rattle.dentry_cache.specs.CacheCalls.{Edits, FetchesAt, IsAbsent, IsWhole, KeepsAt, MakesRoomAt, MayNotFetchAt, MayNotKeepAt};
-ghost use Rattle.dentry_cache.specs.CacheMap.{AreCaches, IsFreeFor, evicted, given_up, has_place, here, leaf_of, no_caches, order, used_at, with_frag, with_mark};
-ghost use Rattle.dentry_cache.specs.CacheSplits.{IsButPlaces, IsReadyToSplit};
+ghost use Rattle.dentry_cache.specs.CacheMap.{AreCaches, IsFreeFor, evicted, frag_of, given_up, has_place, here, leaf_of, no_caches, order, used_at, with_frag, with_mark};
+ghost use Rattle.dentry_cache.specs.CacheSplits.{IsButPlaces, IsReadyAt};
 ghost use Rattle.dentry_cache.specs.Divided.{AreNumbered};
 ghost use Rattle.dentry_cache.specs.Loading.{object_of};
 
@@ -259,7 +259,7 @@ impl Caches {
     ) -> Result<(), AllocError>
         requires there { at.rank.0 < length self.now.used }
         requires cached { IsThere (here self.now at.rank.0 (leaf_of at)) }
-        ensures copied { OnOk result (HasCached (here self.now at.rank.0 (leaf_of at)) (λ (f : Cached). TakesIn into.old into.new (shown f) version)) }
+        ensures copied { OnOk result (HasCached (frag_of self.now at) (λ f. TakesIn into.old into.new (shown f) version)) }
         ensures kept { OnErr result (into.new ≡ record into.old { room = into.new.room }) }
     {
         self.caches[at.rank.0 as usize].copy_names(at.dir, at.frag, into, version)
@@ -279,7 +279,7 @@ impl Caches {
         requires numbers { generation + 2 ^ bits ≤ 2 ^ 64 }
         requires cached { IsThere (here self.old at.now.rank.0 (leaf_of at.now)) }
         ensures same { Edits IsButPlaces at.now.rank.0 (leaf_of at.now) self.old self.new }
-        ensures ready { IfOk result (λ parts. HasCached (here self.new at.now.rank.0 (leaf_of at.now)) (IsReadyToSplit at.now.frag bits parts)) }
+        ensures ready { IfOk result (IsReadyAt at.now.rank.0 at.now.dir at.now.frag bits self.new) }
         ensures numbered { IfOk result (λ parts. AreNumbered generation parts) }
         ensures before { AreCaches self.old }
         ensures valid { AreCaches self.new }

@@ -4,13 +4,11 @@ ghost use Rattle.std.specs.FinMap as map;
 ghost use Rattle.sorted_map.specs.SortedMap.{contents};
 ghost use Rattle.omap.specs.Omap.{key_cmp};
 ghost use Rattle.mds_types.specs.Frag.{child_of};
-ghost use Rattle.objstore.specs.Objects.{Objects};
 ghost use Rattle.cached_frag.specs.Cached.{AreEntries, Cached, shown};
 ghost use Rattle.dentry_cache.specs.Cache.{HasCached, IsThere};
-ghost use Rattle.dentry_cache.specs.CacheMap.{AreCaches, given_up, here, leaf_of};
-ghost use Rattle.dentry_cache.specs.CacheSplits.{AreAbsent, AreFillable, AreKept, IsButPlaces, IsChildAt, IsFamilyAt, IsReadyToSplit, KeepsChildren, MayNotKeepAll, ReadiesAt, SplitsAt, with_parts, without_children};
+ghost use Rattle.dentry_cache.specs.CacheMap.{AreCaches, frag_of, given_up, here, leaf_of};
+ghost use Rattle.dentry_cache.specs.CacheSplits.{AreAbsent, AreFillable, AreKept, IsReadyAt, KeepsAll, MayNotKeepAll, ReadiesAt, ReadsFamily, SplitsInto, StaysAt, with_parts, without_children};
 ghost use Rattle.dentry_cache.specs.Divided.{AreNumbered};
-ghost use Rattle.dentry_cache.specs.Reads.{Reads};
 
 use crate::caches::Caches;
 use crate::dirfrag::Dirfrag;
@@ -22,13 +20,14 @@ use sorted_map::SortedMap;
 use std::alloc::Global;
 
 impl Caches {
-    /// Makes all ready for a split of a fragment by so many bits (`split_into`): a place of its rank is kept for each child, one
-    /// after the other, and each child has room for its names. The children's generations follow one another from this number
-    /// on. Where no place is free the least recently used of the rank's clean fragments goes, but for the fragment itself, which
-    /// stays. Takes memory for the children and their places.
+    /// Makes all ready for a split of a fragment by so many bits (`split_into`): a place of its rank is kept for each
+    /// child, one after the other, and each child has room for its names. The children's generations follow one
+    /// another from this number on. Where no place is free the least recently used of the rank's clean fragments goes,
+    /// but for the fragment itself, which stays. Takes memory for the children and their places.
     ///
-    /// Refused `NothingToEvict` where no more places of the rank are free or can become so than there will be children, beside
-    /// that of the fragment, and `NoMemory`. No place is kept then; clean fragments may have gone, but for the fragment itself.
+    /// Refused `NothingToEvict` where fewer places of the rank are free or can become so than there will be children,
+    /// beside that of the fragment, and `NoMemory`. No place is kept then; clean fragments may have gone, but for the
+    /// fragment itself.
     pub fn ready_split(
         &mut self,
         alloc: Global,
@@ -43,13 +42,13 @@ impl Caches {
         requires numbers { generation + 2 ^ bits ≤ 2 ^ 64 }
         requires cached { IsThere (here self.old at.rank.0 (leaf_of at)) }
         requires absent { AreAbsent self.old at.rank.0 at.dir at.frag bits }
-        ensures ready { IfOk result (λ parts. HasCached (here self.new at.rank.0 (leaf_of at)) (IsReadyToSplit at.frag bits parts)) }
+        ensures ready { IfOk result (IsReadyAt at.rank.0 at.dir at.frag bits self.new) }
         ensures numbered { IfOk result (λ parts. AreNumbered generation parts) }
         ensures kept { OnOk result (AreKept self.new at.rank.0 at.dir at.frag bits) }
         ensures readies { OnOk result (ReadiesAt at.rank.0 at.dir at.frag bits self.old self.new) }
         ensures left { OnErr result (AreAbsent self.new at.rank.0 at.dir at.frag bits) }
-        ensures stays { HasCached (here self.old at.rank.0 (leaf_of at)) (λ (f : Cached). HasCached (here self.new at.rank.0 (leaf_of at)) (IsButPlaces f)) }
-        ensures reads { (objects : Objects) → Reads (IsFamilyAt at.rank.0 at.dir at.frag bits) (IsChildAt at.rank.0 at.dir at.frag bits) objects self.old self.new }
+        ensures stays { StaysAt at.rank.0 (leaf_of at) self.old self.new }
+        ensures reads { ReadsFamily at.rank.0 at.dir at.frag bits self.old self.new }
         ensures refused { IfErr result (MayNotKeepAll (2 ^ bits) self.old at.rank.0) }
     {
         let parts = match self.ready_parts(alloc, &at, bits, generation) {
@@ -65,8 +64,8 @@ impl Caches {
         }
     }
 
-    /// Gives up the places of a fragment's children by so many bits, as they are kept for a split that isn't made. Takes no
-    /// memory.
+    /// Gives up the places of a fragment's children by so many bits, as they are kept for a split that isn't made.
+    /// Takes no memory.
     pub fn drop_children(&mut self, at: Dirfrag, bits: u8)
         requires there { at.rank.0 < length self.old.used }
         requires few { bits ≤ 8 }
@@ -79,15 +78,15 @@ impl Caches {
     }
 
     /// Splits a fragment, where all is ready for it (`ready_split`): each of its names goes to the child that its hash
-    /// picks. A child has a fresh base, and all its names are dirty at this version. The fragment is gone, and its children
-    /// are the most recently used of its rank, the last one first. Takes no memory, and can't fail.
+    /// picks. A child has a fresh base, and all its names are dirty at this version. The fragment is gone, and its
+    /// children are the most recently used of its rank, the last one first. Takes no memory, and can't fail.
     pub fn split_into(&mut self, at: Dirfrag, bits: u8, parts: Parts, version: u64)
         requires there { at.rank.0 < length self.old.used }
         requires some { 1 ≤ bits }
         requires deep { at.frag.bits + bits ≤ 24 }
-        requires ready { HasCached (here self.old at.rank.0 (leaf_of at)) (IsReadyToSplit at.frag bits parts) }
+        requires ready { IsReadyAt at.rank.0 at.dir at.frag bits self.old parts }
         requires kept { AreKept self.old at.rank.0 at.dir at.frag bits }
-        ensures { HasCached (here self.old at.rank.0 (leaf_of at)) (SplitsAt at.rank.0 at.dir at.frag bits parts version self.old self.new) }
+        ensures { SplitsInto at.rank.0 at.dir at.frag bits parts version self.old self.new }
     {
         let names = self.give_names(&at);
         let mut items = parts.items;
@@ -104,10 +103,10 @@ impl Caches {
         requires absent { AreAbsent self.old at.now.rank.0 at.now.dir at.now.frag bits }
         requires valid { AreCaches self.old }
         ensures kept { OnOk result (AreKept self.new at.now.rank.0 at.now.dir at.now.frag bits) }
-        ensures keeps { OnOk result (KeepsChildren at.now.rank.0 at.now.dir at.now.frag bits (2 ^ bits) self.old self.new) }
+        ensures keeps { OnOk result (KeepsAll at.now.rank.0 at.now.dir at.now.frag bits self.old self.new) }
         ensures left { OnErr result (AreAbsent self.new at.now.rank.0 at.now.dir at.now.frag bits) }
         ensures stays { here self.new at.now.rank.0 (leaf_of at.now) ≡ here self.old at.now.rank.0 (leaf_of at.now) }
-        ensures reads { (objects : Objects) → Reads (IsFamilyAt at.now.rank.0 at.now.dir at.now.frag bits) (IsChildAt at.now.rank.0 at.now.dir at.now.frag bits) objects self.old self.new }
+        ensures reads { ReadsFamily at.now.rank.0 at.now.dir at.now.frag bits self.old self.new }
         ensures refused { IfErr result (MayNotKeepAll (2 ^ bits) self.old at.now.rank.0) }
     {
         for i in 0..child_count(bits) {
@@ -123,8 +122,8 @@ impl Caches {
     // Takes a fragment out that is ready for it, and gives away the names that it shows.
     fn give_names(&mut self, at: &Dirfrag) -> SortedMap<Name, Inode>
         requires there { at.now.rank.0 < length self.old.used }
-        requires ready { HasCached (here self.old at.now.rank.0 (leaf_of at.now)) (λ (f : Cached). map.len f.dirty ≤ f.places) }
-        ensures names { HasCached (here self.old at.now.rank.0 (leaf_of at.now)) (λ (f : Cached). contents key_cmp result ≡ shown f) }
+        requires ready { HasCached (frag_of self.old at.now) (λ (f : Cached). map.len f.dirty ≤ f.places) }
+        ensures names { HasCached (frag_of self.old at.now) (λ (f : Cached). contents key_cmp result ≡ shown f) }
         ensures entries { AreEntries (contents key_cmp result) }
         ensures without { self.new ≡ given_up self.old at.now.rank.0 (leaf_of at.now) }
     {

@@ -1,6 +1,4 @@
 use Rattle.std.proofs.Common.{◌≡◌, Some, refl, subst, sym, arith, ◌<◌, ◌^◌, ◌+◌, suc, ℕ, ◌∙◌, ap}
-use Rattle.mds_types.specs.declared.refusals.Refusal.{Refusal}
-use Rattle.objstore.specs.Objects.{Objects}
 use Rattle.dentry_cache.specs.declared.dirfrag.Dirfrag.{Dirfrag}
 use Rattle.dentry_cache.specs.CacheCalls.{KeepsAt, MakesRoomAt, MayNotKeepAt}
 use Rattle.dentry_cache.specs.CacheMap.{CacheMap, here}

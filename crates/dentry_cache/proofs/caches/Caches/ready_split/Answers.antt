@@ -1,5 +1,4 @@
-use Rattle.std.proofs.Common.{refl, sym, ◌∙◌}
-use Rattle.objstore.specs.Objects.{Objects}
+use Rattle.std.proofs.Common.{refl}
 use Rattle.dentry_cache.specs.CacheSplits.{IsChildAt, IsFamilyAt}
 use Rattle.dentry_cache.proofs.PartsLaws.{ready_absent, ready_reads, ready_refused, ready_stays}
 use Rattle.dentry_cache.proofs.ReadsLaws.{reads_then}
