@@ -67,8 +67,8 @@ stays_once (Some one) (x ∷ xs) distinct = go (leaf_is one x) refl (stays_once 
     go false apart rest = rest
 
 -- where no place of a rank is free and none can become so, each is that of a fragment that isn't clean, or kept, or that of the leaf that stays
-pub full_counts : (c : CacheMap) (r : ℕ) (stay : Option Leaf) → AreCaches c → roomy c r stay ≡ None → c.cap ≤ length (unclean_at c r) + length (kept_at c r) + staying stay
-full_counts c r stay valid full = go (nat_lt (length (order c r)) c.cap) refl (victim c r stay) refl full
+pub full_where : (c : CacheMap) (r : ℕ) (stay : Option Leaf) → IsDistinct leaf_is (order c r) → roomy c r stay ≡ None → c.cap ≤ length (unclean_at c r) + length (kept_at c r) + staying stay
+full_where c r stay distinct full = go (nat_lt (length (order c r)) c.cap) refl (victim c r stay) refl full
   where
     each : (leaf : Leaf) → goes c r stay leaf ≡ false → (unclean_in (here c r leaf) ≡ true) ⊎ (not (is_some (here c r leaf)) ≡ true) ⊎ (stays stay leaf ≡ true)
     each leaf is = on (here c r leaf) (stays stay leaf) is
@@ -92,5 +92,8 @@ full_counts c r stay valid full = go (nat_lt (length (order c r)) c.cap) refl (v
     go false lt None seen is =
         let taken : c.cap ≤ length (order c r) = grind (arith, nat_tests, lt) in
         let counted = three (λ (leaf : Leaf). unclean_in (here c r leaf)) (λ (leaf : Leaf). not (is_some (here c r leaf))) (stays stay) (order c r) (all (order c r) (none_last (goes c r stay) (order c r) seen)) in
-        let once = stays_once stay (order c r) (valid.distinct r) in
+        let once = stays_once stay (order c r) distinct in
         omega (arith, taken, counted, once)
+
+pub full_counts : (c : CacheMap) (r : ℕ) (stay : Option Leaf) → AreCaches c → roomy c r stay ≡ None → c.cap ≤ length (unclean_at c r) + length (kept_at c r) + staying stay
+full_counts c r stay valid full = full_where c r stay (valid.distinct r) full

@@ -1,18 +1,17 @@
 -- Places that are kept one after the other, and given up again.
-use Rattle.std.proofs.Common.{◌≡◌, ℕ, suc, ◌<◌, ◌≤◌, Bool, true, false, cond, not, ◌&&◌, ◌||◌, List, [], ◌∷◌, length, filter, nat_lt, option_map, Option, Some, None, refl, sym, ap, subst, ◌∙◌, arith, get_or-set_same, length-set}
+use Rattle.std.proofs.Common.{◌≡◌, ℕ, suc, ◌<◌, ◌≤◌, Bool, true, false, cond, not, ◌&&◌, ◌||◌, List, [], ◌∷◌, length, filter, nat_lt, option_map, Option, Some, None, refl, sym, ap, subst, ◌∙◌, arith, get_or-set_same}
 use Rattle.std.specs.List.{AllByRecursion, IsDistinct, list_any}
 use Rattle.std.specs.FinMap as finmap
-use Rattle.std.specs.FinMap.{get-remove}
 use Rattle.std.proofs.lemmas.Map.Keys.{IsDistinct-cons, IsDistinct-head, IsDistinct-tail}
 use Rattle.std.proofs.lemmas.Option.{same_Some}
 use Rattle.cached_frag.specs.Cached.{Cached}
 use Rattle.dentry_cache.specs.Cache.{Leaf, leaf_is, stays}
 use Rattle.dentry_cache.specs.CacheCalls.{IsAbsent}
-use Rattle.dentry_cache.specs.CacheMap.{At, CacheMap, at_rank, clean_in, first, given_up, goes, has_place, here, less, order, removed, roomy, used_at, victim}
+use Rattle.dentry_cache.specs.CacheMap.{At, CacheMap, at_rank, clean_in, first, given_up, goes, has_place, here, less, order, roomy, used_at, victim}
 use Rattle.dentry_cache.specs.CacheSplits.{IsKeptFor}
 use Rattle.dentry_cache.proofs.CameLaws.{absent_roomy}
-use Rattle.dentry_cache.proofs.LeafLaws.{flips, leaf-total, leaf_itself, one_leaf, tied_leaf}
-use Rattle.dentry_cache.proofs.UncleanLaws.{last_passes}
+use Rattle.dentry_cache.proofs.LeafLaws.{flips, leaf_itself, one_leaf}
+use Rattle.dentry_cache.proofs.StepLaws.{any_less, by_room, get_beside}
 
 -- ---- lists of leaves
 
@@ -47,7 +46,7 @@ less_distinct leaf (x ∷ xs) distinct = go (leaf_is leaf x) (less_distinct leaf
 pub first_distinct : (leaf : Leaf) (xs : List Leaf) → IsDistinct leaf_is xs → IsDistinct leaf_is (first leaf xs)
 first_distinct leaf xs distinct = IsDistinct-cons leaf_is leaf (less leaf xs) (less_apart leaf xs distinct) (less_distinct leaf xs distinct)
 
-filter_less : (p : Leaf → Bool) (leaf : Leaf) (xs : List Leaf) → length (filter p (less leaf xs)) ≤ length (filter p xs)
+pub filter_less : (p : Leaf → Bool) (leaf : Leaf) (xs : List Leaf) → length (filter p (less leaf xs)) ≤ length (filter p xs)
 filter_less p leaf [] = omega arith
 filter_less p leaf (x ∷ xs) = go (leaf_is leaf x) (p x) (filter_less p leaf xs)
   where
@@ -66,18 +65,9 @@ filter_less p leaf (x ∷ xs) = go (leaf_is leaf x) (p x) (filter_less p leaf xs
         both true = omega (arith, le)
         both false = omega (arith, le)
 
-same_filter : (p q : Leaf → Bool) (xs : List Leaf) → AllByRecursion (λ (x : Leaf). p x ≡ q x) xs → filter p xs ≡ filter q xs
+pub same_filter : (p q : Leaf → Bool) (xs : List Leaf) → AllByRecursion (λ (x : Leaf). p x ≡ q x) xs → filter p xs ≡ filter q xs
 same_filter p q [] all = refl
 same_filter p q (x ∷ xs) all = ap (λ (b : Bool). cond b (x ∷ filter p xs) (filter p xs)) all.0 ∙ ap (λ (rest : List Leaf). cond (q x) (x ∷ rest) rest) (same_filter p q xs all.1)
-
--- a leaf is among others as before where another one leaves them
-any_less : (q leaf : Leaf) (xs : List Leaf) → leaf_is q leaf ≡ false → list_any (leaf_is q) (less leaf xs) ≡ list_any (leaf_is q) xs
-any_less q leaf [] apart = refl
-any_less q leaf (x ∷ xs) apart = go (leaf_is leaf x) refl (any_less q leaf xs apart)
-  where
-    go : (b : Bool) → leaf_is leaf x ≡ b → list_any (leaf_is q) (less leaf xs) ≡ list_any (leaf_is q) xs → list_any (leaf_is q) (cond b xs (x ∷ less leaf xs)) ≡ (leaf_is q x || list_any (leaf_is q) xs)
-    go true same rest = ap (λ (b : Bool). b || list_any (leaf_is q) xs) (sym (ap (leaf_is q) (sym (one_leaf leaf x same)) ∙ apart))
-    go false other rest = ap (λ (b : Bool). leaf_is q x || b) rest
 
 none_less : (q leaf : Leaf) (xs : List Leaf) → list_any (leaf_is q) xs ≡ false → list_any (leaf_is q) (less leaf xs) ≡ false
 none_less q leaf [] none = refl
@@ -97,15 +87,8 @@ module _ (c : CacheMap) (r : ℕ) (there : r < length c.used) where
   pub order_given_up : (leaf : Leaf) → order (given_up c r leaf) r ≡ less leaf (order c r)
   order_given_up leaf = get_or-set_same c.used r (less leaf (order c r)) [] there
 
-get_given_up : (c : CacheMap) (r : ℕ) (v q : Leaf) → leaf_is q v ≡ false → finmap.get (given_up c r v).held q ≡ finmap.get c.held q
-get_given_up c r v q apart = go (here c r v)
-  where
-    go : (o : Option Cached) → finmap.get (removed c.held v o) q ≡ finmap.get c.held q
-    go None = refl
-    go (Some f) = get-remove leaf-total c.held v q ∙ ap (λ (b : Bool). cond b None (finmap.get c.held q)) (tied_leaf q v ∙ apart)
-
 here_given_up : (c : CacheMap) (r : ℕ) (v q : Leaf) → leaf_is v q ≡ false → here (given_up c r v) r q ≡ here c r q
-here_given_up c r v q apart = ap (at_rank r) (get_given_up c r v q (flips q v ∙ apart))
+here_given_up c r v q apart = ap (at_rank r) (get_beside c r v q (flips q v ∙ apart))
 
 -- ---- how many places of a rank have what passes a test
 
@@ -154,27 +137,12 @@ module _ (P : Option Cached → Bool) (c : CacheMap) (r : ℕ) (there : r < leng
 -- ---- what a free place leaves
 
 module _ (c mid : CacheMap) (r : ℕ) (stay : Option Leaf) (there : r < length c.used) (made : roomy c r stay ≡ Some mid) where
-  -- how a statement of the caches before and after is proved: nothing changed, or a clean fragment went that isn't the one to stay
-  pub by_room : (P : CacheMap → Type 0) → P c → ((v : Leaf) → goes c r stay v ≡ true → P (given_up c r v)) → P mid
-  by_room P same went = go (nat_lt (length (order c r)) c.cap) (victim c r stay) refl made
-    where
-      go : (b : Bool) (v : Option Leaf) → victim c r stay ≡ v → cond b (Some c) (option_map (given_up c r) v) ≡ Some mid → P mid
-      go true v seen is = subst P (same_Some c mid is) same
-      go false None seen is = let clash : None ≡ Some mid = is in absurd cc
-      go false (Some v) seen is = subst P (same_Some (given_up c r v) mid is) (went v (last_passes (goes c r stay) (order c r) v seen))
-
-  pub roomy_ranks : length mid.used ≡ length c.used
-  roomy_ranks = by_room (λ (k : CacheMap). length k.used ≡ length c.used) refl (λ v passes. length-set c.used r (less v (order c r)))
-
-  pub roomy_cap : mid.cap ≡ c.cap
-  roomy_cap = by_room (λ (k : CacheMap). k.cap ≡ c.cap) refl (λ v passes. refl)
-
   pub roomy_distinct : IsDistinct leaf_is (order c r) → IsDistinct leaf_is (order mid r)
-  roomy_distinct distinct = by_room (λ (k : CacheMap). IsDistinct leaf_is (order k r)) distinct (λ v passes. subst (IsDistinct leaf_is) (sym (order_given_up c r there v)) (less_distinct v (order c r) distinct))
+  roomy_distinct distinct = by_room c mid r stay made (λ (k : CacheMap). IsDistinct leaf_is (order k r)) distinct (λ v passes. subst (IsDistinct leaf_is) (sym (order_given_up c r there v)) (less_distinct v (order c r) distinct))
 
   pub roomy_absent : (q : Leaf) → IsAbsent c r q → IsAbsent mid r q
   roomy_absent q none = (
-    by_room (λ (k : CacheMap). has_place k r q ≡ false) none.0 (λ v passes. ap (list_any (leaf_is q)) (order_given_up c r there v) ∙ none_less q v (order c r) none.0),
+    by_room c mid r stay made (λ (k : CacheMap). has_place k r q ≡ false) none.0 (λ v passes. ap (list_any (leaf_is q)) (order_given_up c r there v) ∙ none_less q v (order c r) none.0),
     absent_roomy c mid r stay q made none.1,
   )
 
@@ -189,7 +157,7 @@ module _ (c mid : CacheMap) (r : ℕ) (stay : Option Leaf) (there : r < length c
 
   pub roomy_kept : (q : Leaf) → IsKeptFor c r q → IsKeptFor mid r q
   roomy_kept q kept = (
-    by_room (λ (k : CacheMap). has_place k r q ≡ true) kept.0
+    by_room c mid r stay made (λ (k : CacheMap). has_place k r q ≡ true) kept.0
         (λ v passes. ap (list_any (leaf_is q)) (order_given_up c r there v) ∙ any_less q v (order c r) (not_kept q v kept.1 passes) ∙ kept.0),
     absent_roomy c mid r stay q made kept.1,
   )
@@ -197,7 +165,7 @@ module _ (c mid : CacheMap) (r : ℕ) (stay : Option Leaf) (there : r < length c
 -- the one to stay is where it was, as it was
 pub roomy_stays : (c mid : CacheMap) (r : ℕ) (one : Leaf) → r < length c.used → roomy c r (Some one) ≡ Some mid → finmap.get mid.held one ≡ finmap.get c.held one
 roomy_stays c mid r one there made =
-    by_room c mid r (Some one) there made (λ (k : CacheMap). finmap.get k.held one ≡ finmap.get c.held one) refl (λ v passes. get_given_up c r v one (apart v (clean_in (here c r v)) (leaf_is one v) refl passes))
+    by_room c mid r (Some one) made (λ (k : CacheMap). finmap.get k.held one ≡ finmap.get c.held one) refl (λ v passes. get_beside c r v one (apart v (clean_in (here c r v)) (leaf_is one v) refl passes))
   where
     apart : (v : Leaf) (a b : Bool) → leaf_is one v ≡ b → (a && not b) ≡ true → leaf_is one v ≡ false
     apart v a false seen passes = seen

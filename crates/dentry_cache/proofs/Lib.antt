@@ -1,6 +1,7 @@
 pub mod CacheLaws
 pub mod CameLaws
 pub mod CapLaws
+pub mod ChildLaws
 pub mod CommitSteps
 pub mod CountLaws
 pub mod EditLaws
@@ -9,6 +10,7 @@ pub mod FixedPlaces
 pub mod ForgetLaws
 pub mod FrameLaws
 pub mod KeptLaws
+pub mod LacksLaws
 pub mod LeafLaws
 pub mod LeavingLaws
 pub mod LoadLaws
@@ -21,15 +23,20 @@ pub mod OrderLaws
 pub mod PageSteps
 pub mod PairLaws
 pub mod PartLaws
+pub mod PartsLaws
 pub mod PlaceLaws
 pub mod ReadyFrom
+pub mod ReadsLaws
 pub mod ReadySplit
 pub mod SizeLaws
 pub mod SpareLaws
+pub mod SplitLaws
 pub mod SplitShows
+pub mod StepLaws
 pub mod StandingLaws
 pub mod TieLaws
 pub mod TiesLaws
 pub mod UncleanLaws
 pub mod UnsavedLaws
 pub mod UsedLaws
+pub mod WholeLaws

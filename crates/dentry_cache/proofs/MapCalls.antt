@@ -5,7 +5,7 @@ use Rattle.std.specs.Map.{keys_of, lookup, remove_entry}
 use Rattle.lru.specs.LruCache.{lru_cache}
 use Rattle.std.specs.Ordering.{eq_by_cmp}
 use Rattle.std.specs.FinMap as finmap
-use Rattle.std.specs.FinMap.{get-insert, get-remove}
+use Rattle.std.specs.FinMap.{get-remove}
 use Rattle.std.proofs.lemmas.List.{get_or_read_under, length-map, set-get_or}
 use Rattle.std.proofs.lemmas.Map.Entries.{length-keys_of}
 use Rattle.std.proofs.lemmas.Option.{same_Some}
@@ -16,26 +16,21 @@ use Rattle.omap.specs.Omap.{Omap}
 use Rattle.cached_frag.specs.Cached.{Cached}
 use Rattle.dentry_cache.specs.declared.cache.Place.{Place}
 use Rattle.dentry_cache.specs.Cache.{Evicts, HasRoom, Held, IsChanged, IsFull, IsThere, Leaf, MakesRoom, MayMakeRoom, NoneGoes, Places, TakesPlace, cached, fragment_in, held, is_kept, kept_place, leaf_cmp, leaf_is, used_as, without}
-use Rattle.dentry_cache.specs.CacheMap.{AreAtOneRank, AreCaches, At, CacheMap, IsFree, IsFreeFor, at, at_rank, cache_map, edited, evicted, given_up, has_place, here, no_cache, order, orders, removed, roomy, used_at, victim, with_frag}
+use Rattle.dentry_cache.specs.CacheMap.{AreAtOneRank, AreCaches, At, CacheMap, IsFree, IsFreeFor, at_rank, cache_map, edited, evicted, given_up, has_place, here, no_cache, order, orders, removed, roomy, used_at, victim, with_frag}
 use Rattle.dentry_cache.specs.Places.{IsCache}
 use Rattle.dentry_cache.specs.CacheCalls.{Edits, FetchesAt, IsAbsent, IsEdited, IsWhole, KeepsAt, MakesRoomAt, MayNotFetchAt, MayNotKeepAt}
 use Rattle.dentry_cache.specs.Fetches.{IsFetched, IsNotFetched, MayNotFetch}
-use Rattle.dentry_cache.proofs.LeafLaws.{leaf-total, leaf_itself, tied_leaf}
+use Rattle.dentry_cache.proofs.LeafLaws.{leaf-total}
 use Rattle.dentry_cache.proofs.MapLaws.{cached_placed, changed_so, each_at, evicted_so, frag_so, get_held, given_up_so, here_free, none_evicted, none_roomy, order_is, roomy_so, used_so}
 use Rattle.dentry_cache.proofs.OneCache.{HasRoomFor, none_distinct, room_then, changed, changed_by, dropped, evicts_by, full_by, makes_room_by, none_by, room_made}
 use Rattle.dentry_cache.proofs.OrderLaws.{not_removed}
+use Rattle.dentry_cache.proofs.StepLaws.{here_put}
 use Rattle.dentry_cache.proofs.UsedLaws.{same_cap, still_absent}
 
 -- a fragment that has room is there
 pub has_there : (o : Option Cached) → HasRoom o → IsThere o
 has_there (Some f) room = tt
 has_there None room = absurd room
-
--- a fragment that a rank was given is there
-pub put_here : (c : CacheMap) (r : ℕ) (leaf : Leaf) (f : Cached) → here (with_frag c r leaf f) r leaf ≡ Some f
-put_here c r leaf f =
-    ap (at_rank r) (get-insert leaf-total c.held leaf (at r f) leaf ∙ ap (λ b. cond b (Some (at r f)) (finmap.get c.held leaf)) (tied_leaf leaf leaf ∙ leaf_itself leaf))
-    ∙ ap (λ b. cond b (Some f) None) (is_same r r refl)
 
 -- ---- a leaf's place, and the order of its rank
 
@@ -83,7 +78,7 @@ nothing_past [] r far = refl
 nothing_past (c ∷ cs) zero far = absurd (omega (arith, far))
 nothing_past (c ∷ cs) (suc r) far = nothing_past cs r (omega (arith, far))
 
-below_or_past : (r n : ℕ) → (r < n) ⊎ (n ≤ r)
+pub below_or_past : (r n : ℕ) → (r < n) ⊎ (n ≤ r)
 below_or_past r zero = inr (omega arith)
 below_or_past zero (suc n) = inl (omega arith)
 below_or_past (suc r) (suc n) = go (below_or_past r n)
@@ -384,4 +379,4 @@ module _ (cs : List Held) (cap r : ℕ) (old : CacheMap) (view : cache_map cs ca
 -- a leaf that is fetched is there, if no place was kept for it
 pub fetched_there : (r : ℕ) (leaf : Leaf) (stay : Option Leaf) (object : Option Omap) (old now : CacheMap) → IsWhole old r leaf → (b : Bool) → has_place old r leaf ≡ b → FetchesAt r leaf stay object b old now → IsThere (here now r leaf)
 fetched_there r leaf stay object old now whole true seen is = subst (λ (c : CacheMap). IsThere (here c r leaf)) (sym is) (whole seen)
-fetched_there r leaf stay object old now whole false seen f = subst IsThere (sym (ap (λ (c : CacheMap). here c r leaf) f.5 ∙ put_here f.3 r leaf f.1)) tt
+fetched_there r leaf stay object old now whole false seen f = subst IsThere (sym (ap (λ (c : CacheMap). here c r leaf) f.5 ∙ here_put f.3 r leaf f.1)) tt

@@ -16,7 +16,7 @@ use Rattle.dentry_cache.proofs.MapLaws.{get_tabulate}
 
 -- ---- what isn't clean
 
-any_tied : (q : Leaf) (ks : List Leaf) → list_any (leaf_is q) ks ≡ list_any (eq_by_cmp leaf_cmp q) ks
+pub any_tied : (q : Leaf) (ks : List Leaf) → list_any (leaf_is q) ks ≡ list_any (eq_by_cmp leaf_cmp q) ks
 any_tied q [] = refl
 any_tied q (k ∷ ks) = ap (λ b. b || list_any (leaf_is q) ks) (sym (tied_leaf q k)) ∙ ap (λ b. eq_by_cmp leaf_cmp q k || b) (any_tied q ks)
 

@@ -22,6 +22,10 @@ Edits Change r leaf old new = IsEdited Change r leaf (here old r leaf) old new
 abbrev pub IsWhole : CacheMap → ℕ → Leaf → Type 0
 IsWhole c r leaf = has_place c r leaf ≡ true → IsThere (here c r leaf)
 
+-- so it is with each leaf at each rank
+abbrev pub KeepsNone : CacheMap → Type 0
+KeepsNone c = (r : ℕ) (leaf : Leaf) → IsWhole c r leaf
+
 -- a leaf has no place at a rank, and its fragment is at none
 abbrev pub IsAbsent : CacheMap → ℕ → Leaf → Type 0
 IsAbsent c r leaf = (has_place c r leaf ≡ false) × (finmap.get c.held leaf ≡ None)

@@ -39,6 +39,10 @@ at_rank r (Some a) = cond (a.rank == r) (Some a.frag) None
 abbrev pub here : CacheMap → ℕ → Leaf → Option Cached
 here c r leaf = at_rank r (finmap.get c.held leaf)
 
+-- the fragment that lies somewhere
+abbrev pub frag_of : CacheMap → Dirfrag → Option Cached
+frag_of c at = here c at.rank.0 (leaf_of at)
+
 -- no other rank has it
 abbrev pub IsFree : ℕ → Option At → Type 0
 IsFree r None = Unit {0}
@@ -144,6 +148,10 @@ tabulate f (k ∷ ks) = with_some (tabulate f ks) k (f k)
 -- what each fragment that isn't clean has beyond its object, whose ever it is
 unfoldable pub unclean : CacheMap → finmap.FinMap leaf_cmp Unsaved
 unclean c = tabulate (λ (q : Leaf). unsaved_at (finmap.get c.held q)) (finmap.keys c.held)
+
+-- what a rank's fragments that aren't clean have beyond their objects
+unfoldable pub unclean_of : CacheMap → ℕ → finmap.FinMap leaf_cmp Unsaved
+unclean_of c r = tabulate (λ (q : Leaf). unsaved_in (here c r q)) (finmap.keys c.held)
 
 -- ---- the caches of the code, and what is seen of them
 

@@ -15,5 +15,6 @@ pub mod Orders
 pub mod Pairs
 pub mod Parting
 pub mod Places
+pub mod Reads
 pub mod Standing
 pub mod Ties

@@ -1,5 +1,5 @@
 //! `Caches`: a contract sees one map of the fragments that are there, each with its rank, and each rank's leaves by use.
-ghost use Rattle.std.specs.Prelude.{◌≡◌, ◌<◌, ◌≤◌, ◌+◌, true, false, Some, None, [], length, replicate, OnOk, OnErr, IfOk, IfErr, option_copied};
+ghost use Rattle.std.specs.Prelude.{◌≡◌, ◌<◌, ◌≤◌, ◌+◌, ◌^◌, true, false, Some, None, [], length, replicate, OnOk, OnErr, IfOk, IfErr, option_copied};
 ghost use Rattle.std.specs.FinMap as map;
 ghost use Rattle.std.specs.Result.{result_err};
 ghost use Rattle.lru.specs.LruCache.{lru_cache};
@@ -7,14 +7,18 @@ ghost use Rattle.dirfrag_codec.specs.EntryRecord.{IsRecordable};
 ghost use Rattle.objstore.specs.Objects.{MayRefuse, faults_told, written};
 ghost use Rattle.dentry_cache.specs.Commits.{IsCommitted, MayNotBegin, Takes, job_leaf, leaf_text};
 ghost use Rattle.cached_frag.specs.Cached.{Cached, shown};
+ghost use Rattle.cached_frag.specs.Moving.{TakesIn};
 ghost use Rattle.mds_types.specs.declared.refusals.Refusal.TheVariants.{NothingToEvict};
 ghost use Rattle.dentry_cache.specs.Cache.{HasCached, HasRoom, IsThere};
 ghost use Rattle.dentry_cache.specs.CacheCalls.{Edits, FetchesAt, IsAbsent, IsWhole, KeepsAt, MakesRoomAt, MayNotFetchAt, MayNotKeepAt};
-ghost use Rattle.dentry_cache.specs.CacheMap.{AreCaches, IsFreeFor, evicted, given_up, has_place, here, leaf_of, no_caches, order, used_at, with_frag, with_mark};
+ghost use Rattle.dentry_cache.specs.CacheMap.{AreCaches, IsFreeFor, evicted, frag_of, given_up, has_place, here, leaf_of, no_caches, order, used_at, with_frag, with_mark};
+ghost use Rattle.dentry_cache.specs.CacheSplits.{IsButPlaces, IsReadyAt};
+ghost use Rattle.dentry_cache.specs.Divided.{AreNumbered};
 ghost use Rattle.dentry_cache.specs.Loading.{object_of};
 
 use crate::cache::Cache;
 use crate::dirfrag::Dirfrag;
+use crate::parts::Parts;
 use cached_frag::CachedFrag;
 use commit_jobs::{Encoded, Snapshot};
 use mds_types::{Frag, Ino, Inode, Name, Rank, Refusal};
@@ -25,7 +29,7 @@ use std::marker::Model;
 /// A cache for each rank, rank 0 first, each with as many places. No leaf's fragment is at two ranks.
 #[derive(Drop)]
 pub struct Caches {
-    caches: Vec<Cache>,
+    pub(crate) caches: Vec<Cache>,
     places: usize,
 }
 
@@ -143,6 +147,7 @@ impl Caches {
         ensures refused { IfErr result (MayNotFetchAt at.rank.0 (leaf_of at) stay (object_of (S.objects store.old) at.dir at.frag) self.old) }
         ensures same { S.objects store.new ≡ S.objects store.old }
         ensures counted { S.faults store.new ≡ S.faults store.old + faults_told (result_err result) }
+        ensures valid { AreCaches self.old }
     {
         self.caches[at.rank.0 as usize].fetch(alloc, store, at.dir, at.frag, stay)
     }
@@ -163,6 +168,7 @@ impl Caches {
         ensures kept { OnOk result (KeepsAt at.rank.0 (leaf_of at) stay self.old self.new) }
         ensures left { OnErr result (MakesRoomAt at.rank.0 stay self.old self.new) }
         ensures refused { IfErr result (MayNotKeepAt at.rank.0 stay self.old) }
+        ensures valid { AreCaches self.old }
     {
         self.caches[at.rank.0 as usize].keep(alloc, at.dir, at.frag, stay)
     }
@@ -241,6 +247,44 @@ impl Caches {
         ensures count { IfOk result (λ count. HasCached (here self.old at.rank.0 (leaf_of at)) (λ (f : Cached). count ≡ map.len (shown f))) }
     {
         self.caches[at.rank.0 as usize].ready_names(at.dir, at.frag)
+    }
+
+    /// Puts a copy of each name that a fragment shows into another one, dirty there at this version. The order of use stays.
+    /// Takes memory for the copies and their room, before it changes a name.
+    pub fn copy_names(
+        &self,
+        at: Dirfrag,
+        into: &mut CachedFrag,
+        version: u64,
+    ) -> Result<(), AllocError>
+        requires there { at.rank.0 < length self.now.used }
+        requires cached { IsThere (here self.now at.rank.0 (leaf_of at)) }
+        ensures copied { OnOk result (HasCached (frag_of self.now at) (λ f. TakesIn into.old into.new (shown f) version)) }
+        ensures kept { OnErr result (into.new ≡ record into.old { room = into.new.room }) }
+    {
+        self.caches[at.rank.0 as usize].copy_names(at.dir, at.frag, into, version)
+    }
+
+    // Makes room for a fragment's names in its children, whose generations follow one another. Takes memory for them.
+    pub(crate) fn ready_parts(
+        &mut self,
+        alloc: Global,
+        at: &Dirfrag,
+        bits: u8,
+        generation: u64,
+    ) -> Result<Parts, AllocError>
+        requires there { at.now.rank.0 < length self.old.used }
+        requires few { bits ≤ 8 }
+        requires deep { at.now.frag.bits + bits ≤ 24 }
+        requires numbers { generation + 2 ^ bits ≤ 2 ^ 64 }
+        requires cached { IsThere (here self.old at.now.rank.0 (leaf_of at.now)) }
+        ensures same { Edits IsButPlaces at.now.rank.0 (leaf_of at.now) self.old self.new }
+        ensures ready { IfOk result (IsReadyAt at.now.rank.0 at.now.dir at.now.frag bits self.new) }
+        ensures numbered { IfOk result (λ parts. AreNumbered generation parts) }
+        ensures before { AreCaches self.old }
+        ensures valid { AreCaches self.new }
+    {
+        self.caches[at.rank.0 as usize].ready_parts(alloc, at.dir, at.frag, bits, generation)
     }
 
     /// Drops the least recently used of a rank's clean fragments. Takes no memory.

@@ -117,7 +117,7 @@ impl Cache {
     }
 
     // Makes room for a fragment's names in its children.
-    fn ready_parts(
+    pub(crate) fn ready_parts(
         &mut self,
         alloc: Global,
         dir: Ino,
@@ -184,8 +184,8 @@ impl Cache {
     }
 }
 
-// How many children of so many more bits a fragment has.
-fn child_count(nb: u8) -> u32
+/// How many children of so many more bits a fragment has.
+pub(crate) fn child_count(nb: u8) -> u32
     requires { nb ≤ 8 }
     ensures { result ≡ 2 ^ nb }
 {

@@ -1,0 +1,168 @@
+-- A split at a rank: what is made ready for it, and what it leaves.
+use Rattle.std.proofs.Common.{◌≡◌, ℕ, suc, ◌+◌, ◌<◌, ◌≤◌, ◌^◌, Bool, true, false, cond, not, ◌&&◌, ◌⊎◌, inl, inr, List, [], ◌∷◌, length, is_some, Option, Some, None, refl, sym, ap, subst, ◌∙◌, arith}
+use Rattle.std.specs.Prelude.{◌==◌}
+use Rattle.std.specs.List.{slice_index_or}
+use Rattle.sorted_map.proofs.NatKeys.{is_same}
+use Rattle.std.specs.FinMap as finmap
+use Rattle.mds_types.specs.declared.ids.Ino.{Ino}
+use Rattle.mds_types.specs.Frag.{Fragment, child_of}
+use Rattle.mds_types.specs.declared.refusals.Refusal.{Refusal}
+use Rattle.objstore.specs.Objects.{Objects}
+use Rattle.dirfrag_codec.specs.FragmentObject.{Names}
+use Rattle.cached_frag.specs.Cached.{Cached, shown}
+use Rattle.dentry_cache.specs.declared.parts.Part.{Part}
+use Rattle.dentry_cache.specs.Cache.{HasCached, Leaf, leaf_is}
+use Rattle.dentry_cache.specs.CacheCalls.{Edits, IsEdited, kept_at, unclean_at, unclean_in}
+use Rattle.dentry_cache.specs.CacheMap.{AreCaches, CacheMap, IsFreeFor, given_up, has_place, here, unclean, with_frag}
+use Rattle.dentry_cache.specs.CacheSplits.{AreAbsent, AreFillable, AreKept, IsButPlaces, IsChildAt, IsFamilyAt, IsKeptFor, MayNotKeepAll, ReadiesAt, SplitsAt, with_parts, with_unclean}
+use Rattle.dentry_cache.specs.Came.{NoneEnds}
+use Rattle.dentry_cache.specs.Divided.{AreChildren}
+use Rattle.dentry_cache.specs.Parting.{AreApart}
+use Rattle.dentry_cache.specs.Reads.{Reads}
+use Rattle.dentry_cache.specs.Reads.Reads.{stays as it_stays}
+use Rattle.dentry_cache.proofs.ChildLaws.{are_keeping}
+use Rattle.dentry_cache.proofs.KeptLaws.{counted}
+use Rattle.dentry_cache.proofs.LacksLaws.{IsPlaced, caches_placed, frag_counts, placed_by_frag, still_left}
+use Rattle.dentry_cache.proofs.LeafLaws.{flips, leaf_itself}
+use Rattle.dentry_cache.proofs.MapLaws.{here_free}
+use Rattle.dentry_cache.proofs.NameParts.{no_child, one_child}
+use Rattle.dentry_cache.proofs.ReadsLaws.{edits_reads, places_changed, reads_then, reads_weaker}
+use Rattle.dentry_cache.proofs.SplitShows.{apart_from}
+use Rattle.dentry_cache.proofs.StepLaws.{by_edits, get_beside, get_with_frag, has_with_frag, here_put, placed_used, ranks_with_frag}
+use Rattle.dentry_cache.proofs.UncleanLaws.{unclean_given_up, unclean_with}
+
+-- ---- the fragment is ready
+
+module _ (r : ℕ) (dir : Ino) (frag : Fragment) (bits : ℕ) (some : 1 ≤ bits) (old mid : CacheMap) (e : Edits IsButPlaces r (dir, frag) old mid) where
+  abbrev one : Leaf
+  one = (dir, frag)
+
+  abbrev child : ℕ → Leaf
+  child i = (dir, child_of frag i bits)
+
+  -- how a statement of the caches before and after is proved
+  by_edit : (P : CacheMap → Type 0) → ((f now : Cached) → here old r (dir, frag) ≡ Some f → IsButPlaces f now → P (with_frag old r (dir, frag) now)) → P mid
+  by_edit P so = by_edits r (dir, frag) IsButPlaces old mid e P so
+
+  pub ready_ranks : r < length old.used → r < length mid.used
+  ready_ranks there = by_edit (λ (k : CacheMap). r < length k.used) (λ f now seen same. subst (λ (n : ℕ). r < n) (sym (ranks_with_frag old r (dir, frag) now)) there)
+
+  -- no child has a place yet
+  pub ready_absent : AreAbsent old r dir frag bits → AreAbsent mid r dir frag bits
+  ready_absent absent i among = by_edit (λ (k : CacheMap). (has_place k r (dir, child_of frag i bits) ≡ false) × (finmap.get k.held (dir, child_of frag i bits) ≡ None)) (λ f now seen same. (
+    none now (has_place (with_frag old r (dir, frag) now) r (dir, child_of frag i bits)) refl,
+    get_with_frag old r (dir, frag) now (dir, child_of frag i bits) ∙ ap (λ b. cond b (Some (record { rank = r; frag = now })) (finmap.get old.held (dir, child_of frag i bits))) apart ∙ (absent i among).1,
+  ))
+    where
+      apart : leaf_is (dir, child_of frag i bits) (dir, frag) ≡ false
+      apart = flips (dir, child_of frag i bits) (dir, frag) ∙ no_child dir frag bits i some
+
+      none : (now : Cached) (b : Bool) → has_place (with_frag old r (dir, frag) now) r (dir, child_of frag i bits) ≡ b → b ≡ false
+      none now false is = refl
+      none now true is = go (placed_used old r (dir, frag) r (dir, child_of frag i bits) is)
+        where
+          go : (has_place old r (child i) ≡ true) ⊎ ((r ≡ r) × (child i ≡ one)) → true ≡ false
+          go (inl was) = sym was ∙ (absent i among).0
+          go (inr same) = sym (leaf_itself (child i)) ∙ ap (leaf_is (child i)) same.1 ∙ apart
+
+  pub ready_stays : (now : Option Cached) → now ≡ here mid r (dir, frag) → HasCached (here old r (dir, frag)) (λ (f : Cached). HasCached now (IsButPlaces f))
+  ready_stays now is = subst (λ (o : Option Cached). HasCached (here old r (dir, frag)) (λ (f : Cached). HasCached o (IsButPlaces f))) (sym is) (go (here old r (dir, frag)) e)
+    where
+      go : (o : Option Cached) → IsEdited IsButPlaces r (dir, frag) o old mid → HasCached o (λ (f : Cached). HasCached (here mid r (dir, frag)) (IsButPlaces f))
+      go None e = absurd e
+      go (Some f) e = subst (λ (o : Option Cached). HasCached o (IsButPlaces f)) (sym (ap (λ (k : CacheMap). here k r (dir, frag)) e.2 ∙ here_put old r (dir, frag) e.0)) e.1
+
+  pub ready_reads : (objects : Objects) → Reads (IsFamilyAt r dir frag bits) (IsChildAt r dir frag bits) objects old mid
+  ready_reads objects = edits_reads (IsFamilyAt r dir frag bits) (IsChildAt r dir frag bits) objects old old mid r (dir, frag) IsButPlaces places_changed it_stays (inl (refl, refl)) e
+
+  -- no more places can't become free
+  pub ready_refused : AreCaches old → (reason : Refusal) → MayNotKeepAll (2 ^ bits) mid r reason → MayNotKeepAll (2 ^ bits) old r reason
+  ready_refused valid reason (inl memory) = inl memory
+  ready_refused valid reason (inr full) =
+      let cap : mid.cap ≡ old.cap = by_edit (λ (k : CacheMap). k.cap ≡ old.cap) (λ f now seen same. refl) in
+      let fewer : length (unclean_at mid r) ≤ length (unclean_at old r) = counts unclean_in (λ f now seen same. ap (λ (k : Cached). unclean_in (Some k)) same) in
+      let kept : length (kept_at mid r) ≤ length (kept_at old r) = counts (λ (o : Option Cached). not (is_some o)) (λ f now seen same. refl) in
+      inr (full.0, omega (arith, full.1, cap, fewer, kept))
+    where
+      counts : (P : Option Cached → Bool) → ((f now : Cached) → here old r (dir, frag) ≡ Some f → IsButPlaces f now → P (Some now) ≡ P (Some f)) → counted P mid r ≤ counted P old r
+      counts P alike = by_edit (λ (k : CacheMap). counted P k r ≤ counted P old r) (λ f now seen same.
+          frag_counts P old r (dir, frag) now r (inl (valid.placed r (dir, frag) (ap (λ (o : Option Cached). is_some o) seen))) (here_free r (finmap.get old.held (dir, frag)) (ap (λ (o : Option Cached). is_some o) seen)) (alike f now seen same ∙ sym (ap P seen)))
+
+-- what is made ready changes no name, and ends no fragment
+pub readies_reads : (r : ℕ) (dir : Ino) (frag : Fragment) (bits : ℕ) → 1 ≤ bits → (old new : CacheMap) → r < length old.used → AreCaches old → AreAbsent old r dir frag bits → ReadiesAt r dir frag bits old new
+    → (Uses Ends : ℕ → Leaf → Type 0) (objects : Objects) (start : CacheMap) → ((s : ℕ) (q : Leaf) → IsFamilyAt r dir frag bits s q → Uses s q) → Reads Uses Ends objects start old → Reads Uses Ends objects start new
+readies_reads r dir frag bits some old new there valid absent made Uses Ends objects start named before =
+    let mid = made.0 in
+    let ready : Reads (IsFamilyAt r dir frag bits) NoneEnds objects old mid = edits_reads (IsFamilyAt r dir frag bits) NoneEnds objects old old mid r (dir, frag) IsButPlaces places_changed it_stays (inl (refl, refl)) made.1 in
+    let placed : IsPlaced mid = by_edits r (dir, frag) IsButPlaces old mid made.1 IsPlaced (λ f now seen same. placed_by_frag old r (dir, frag) now there (caches_placed old valid)) in
+    let kept : Reads (IsFamilyAt r dir frag bits) NoneEnds objects mid new =
+    (are_keeping r dir frag bits (2 ^ bits) mid new (omega arith) (ready_ranks r dir frag bits some old mid made.1 there) (placed.distinct r) (ready_absent r dir frag bits some old mid made.1 absent) made.2).reads objects in
+    reads_then Uses Ends objects start old new before
+    (reads_weaker (IsFamilyAt r dir frag bits) NoneEnds Uses Ends named (λ s q none. absurd none) objects old new (reads_then (IsFamilyAt r dir frag bits) NoneEnds objects old mid new ready kept))
+
+-- ---- the children come in
+
+-- places are kept for others still
+kept_beside : (c : CacheMap) (r : ℕ) (leaf q : Leaf) (f : Cached) → r < length c.used → leaf_is q leaf ≡ false → IsKeptFor c r q → IsKeptFor (with_frag c r leaf f) r q
+kept_beside c r leaf q f there apart kept = (
+  has_with_frag c r leaf f r q there ∙ ap (λ (b : Bool). cond ((r == r) && b) true (has_place c r q)) apart ∙ ap (λ (b : Bool). cond (b && false) true (has_place c r q)) (is_same r r refl) ∙ kept.0,
+  get_with_frag c r leaf f q ∙ ap (λ b. cond b (Some (record { rank = r; frag = f })) (finmap.get c.held q)) apart ∙ kept.1,
+)
+
+pub fillable_with : (c : CacheMap) (r : ℕ) (dir : Ino) (part : Part) (parts : List Part) → r < length c.used → AreFillable r dir (part ∷ parts) c → AreFillable r dir parts (with_frag c r (dir, part.frag) part.fragment)
+fillable_with c r dir part parts there f = go parts f.1 f.2
+  where
+    go : (rest : List Part) → AreApart (dir, part.frag) dir rest → AreFillable r dir rest c → AreFillable r dir rest (with_frag c r (dir, part.frag) part.fragment)
+    go [] apart f = tt
+    go (x ∷ rest) apart f = (kept_beside c r (dir, part.frag) (dir, x.frag) part.fragment there (flips (dir, x.frag) (dir, part.frag) ∙ apart.0) f.0, f.1, go rest apart.1 f.2)
+
+-- each child is one of these, and its place is kept
+fillable_from : (r : ℕ) (dir : Ino) (frag : Fragment) (bits n : ℕ) (parts : List Part) (c : CacheMap) → ((i : ℕ) (d : Part) → i < length parts → (slice_index_or parts i d).frag ≡ child_of frag (n + i) bits)
+    → ((i : ℕ) → i < length parts → IsKeptFor c r (dir, child_of frag (n + i) bits)) → AreFillable r dir parts c
+fillable_from r dir frag bits n [] c are kept = tt
+fillable_from r dir frag bits n (part ∷ parts) c are kept =
+    let first : part.frag ≡ child_of frag (n + 0) bits = are 0 part (omega arith) in
+    let rest : (i : ℕ) (d : Part) → i < length parts → (slice_index_or parts i d).frag ≡ child_of frag (n + 1 + i) bits = λ i d within. are (suc i) d (omega (arith, within)) ∙ next i in (
+      subst (λ (f : Fragment). IsKeptFor c r (dir, f)) (sym first) (kept 0 (omega arith)),
+      subst (λ (f : Fragment). AreApart (dir, f) dir parts) (sym first) (apart_from (dir, child_of frag (n + 0) bits) dir frag bits (n + 1) parts rest (λ i within. one_child dir frag bits (n + 0) (n + 1 + i) (λ same. omega (arith, same)))),
+      fillable_from r dir frag bits (n + 1) parts c rest (λ i within. subst (λ (f : Fragment). IsKeptFor c r (dir, f)) (next i) (kept (suc i) (omega (arith, within)))),
+    )
+  where
+    next : (i : ℕ) → child_of frag (n + suc i) bits ≡ child_of frag (n + 1 + i) bits
+    next i = let same : n + suc i ≡ n + 1 + i = omega arith in ap (λ (m : ℕ). child_of frag m bits) same
+
+module _ (r : ℕ) (dir : Ino) (frag : Fragment) (bits version : ℕ) (names : Names) (ready made : List Part) (old : CacheMap) (some : 1 ≤ bits) (count : length ready ≡ 2 ^ bits) (d : AreChildren frag bits names version ready made)
+    (kept : AreKept old r dir frag bits) where
+  -- each child is the one at its place
+  pub at_its_place : (i : ℕ) (e : Part) → i < length made → (slice_index_or made i e).frag ≡ child_of frag (0 + i) bits
+  at_its_place i e within = let same : i ≡ 0 + i = omega arith in d.child i e within ∙ ap (λ (k : ℕ). child_of frag k bits) same
+
+  still_kept : (i : ℕ) → i < 2 ^ bits → IsKeptFor (given_up old r (dir, frag)) r (dir, child_of frag i bits)
+  still_kept i among =
+      let apart : leaf_is (dir, child_of frag i bits) (dir, frag) ≡ false = flips (dir, child_of frag i bits) (dir, frag) ∙ no_child dir frag bits i some in (
+        still_left old r (dir, frag) r (dir, child_of frag i bits) (λ same. apart) (kept i among).0,
+        get_beside old r (dir, frag) (dir, child_of frag i bits) apart ∙ (kept i among).1,
+      )
+
+  -- all of them can come in once the fragment is gone
+  pub are_fillable : AreFillable r dir made (given_up old r (dir, frag))
+  are_fillable = fillable_from r dir frag bits 0 made (given_up old r (dir, frag)) at_its_place (λ i within. still_kept (0 + i) (omega (arith, within, d.count, count)))
+
+-- ---- what isn't clean
+
+-- these fragments come in
+pub unclean_with_parts : (dir : Ino) (r : ℕ) (parts : List Part) (c : CacheMap) → unclean (with_parts dir r parts c) ≡ with_unclean dir parts (unclean c)
+unclean_with_parts dir r [] c = refl
+unclean_with_parts dir r (part ∷ parts) c =
+    unclean_with_parts dir r parts (with_frag c r (dir, part.frag) part.fragment) ∙ ap (with_unclean dir parts) (unclean_with c r (dir, part.frag) part.fragment)
+
+-- so at a split: the fragment is gone, and its children are there
+pub unclean_split : (dir : Ino) (r : ℕ) (frag : Fragment) (made : List Part) (old new : CacheMap) → IsFreeFor old r (dir, frag) → new ≡ with_parts dir r made (given_up old r (dir, frag)) → unclean new ≡ with_unclean dir made (finmap.remove (unclean old) (dir, frag))
+unclean_split dir r frag made old new free is = ap unclean is ∙ unclean_with_parts dir r made (given_up old r (dir, frag)) ∙ ap (with_unclean dir made) (unclean_given_up old r (dir, frag) free)
+
+-- ---- of the fragment that was there
+
+pub split_so : (r : ℕ) (dir : Ino) (frag : Fragment) (bits : ℕ) (parts made : List Part) (version : ℕ) (names : Names) (old new : CacheMap) (o : Option Cached) → HasCached o (λ (f : Cached). names ≡ shown f) → AreChildren frag bits names version parts made
+    → new ≡ with_parts dir r made (given_up old r (dir, frag)) → HasCached o (SplitsAt r dir frag bits parts version old new)
+split_so r dir frag bits parts made version names old new None is d done = absurd is
+split_so r dir frag bits parts made version names old new (Some f) is d done = (made, subst (λ (n : Names). AreChildren frag bits n version parts made) is d, done)

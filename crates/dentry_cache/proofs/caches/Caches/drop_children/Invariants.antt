@@ -1,0 +1,7 @@
+-- The places of the children that were passed are given up.
+use Rattle.std.proofs.Common.{◌≡◌}
+use Rattle.dentry_cache.specs.CacheSplits.{without_children}
+use Rattle.dentry_cache.proofs.caches.Caches.drop_children.Given as goal
+
+abbrev pub invariant-loop-i : goal.invariant-loop-i
+invariant-loop-i l = l.self ≡ without_children l.at.rank.0 l.at.dir l.at.frag l.bits l.i l.fn.self

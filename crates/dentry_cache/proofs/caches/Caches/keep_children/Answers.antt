@@ -1,0 +1,45 @@
+use Rattle.std.proofs.Common.{◌≡◌, Some, refl, subst, sym, arith, ◌<◌, ◌^◌, ◌+◌, suc, ℕ, ◌∙◌, ap}
+use Rattle.dentry_cache.specs.declared.dirfrag.Dirfrag.{Dirfrag}
+use Rattle.dentry_cache.specs.CacheCalls.{KeepsAt, MakesRoomAt, MayNotKeepAt}
+use Rattle.dentry_cache.specs.CacheMap.{CacheMap, here}
+use Rattle.dentry_cache.specs.CacheSplits.{AreAbsent, IsChildAt, IsFamilyAt, KeepsChildren}
+use Rattle.dentry_cache.specs.Reads.{Reads}
+use Rattle.dentry_cache.proofs.ChildLaws.{AreKeeping, kept_reads, none_kept, none_then, one_kept, reads_so, refused_so, room_kept, stays_then}
+use Rattle.dentry_cache.proofs.caches.Caches.keep_children.Goals as goal
+
+pub loop-i-init : goal.loop-i-init
+loop-i-init c = record { keeping = none_kept c.args.at.now.rank.0 c.args.at.now.dir c.args.at.now.frag c.args.bits c.args.self.now c.requires.there (c.requires.valid.distinct c.args.at.now.rank.0) c.requires.absent; keeps = refl }
+
+pub returns-in-Err-clause-left : goal.returns-in-Err-clause-left
+returns-in-Err-clause-left c =
+    subst (λ (k : CacheMap). AreAbsent k c.args.at.now.rank.0 c.args.at.now.dir c.args.at.now.frag c.args.bits) (sym c.drop_children.ensures)
+    (none_then c.args.at.now.rank.0 c.args.at.now.dir c.args.at.now.frag c.args.bits c.loop-i.i (omega (arith, c.loop-i-test.true, c.child_count-i-end.ensures)) c.args.self.now c.loop-i.self c.keep.new.self c.loop-i.invariant.keeping (subst (λ (x : Dirfrag). MakesRoomAt x.rank.0 (Some (c.args.at.now.dir, c.args.at.now.frag)) c.loop-i.self c.keep.new.self) c.child_at-child.ensures c.in-Err.ensures.left))
+
+pub returns-in-Err-clause-stays : goal.returns-in-Err-clause-stays
+returns-in-Err-clause-stays c =
+    ap (λ (k : CacheMap). here k c.args.at.now.rank.0 (c.args.at.now.dir, c.args.at.now.frag)) c.drop_children.ensures
+    ∙ stays_then c.args.at.now.rank.0 c.args.at.now.dir c.args.at.now.frag c.args.bits c.loop-i.i (omega (arith, c.loop-i-test.true, c.child_count-i-end.ensures)) c.args.self.now c.loop-i.self c.keep.new.self c.loop-i.invariant.keeping (subst (λ (x : Dirfrag). MakesRoomAt x.rank.0 (Some (c.args.at.now.dir, c.args.at.now.frag)) c.loop-i.self c.keep.new.self) c.child_at-child.ensures c.in-Err.ensures.left)
+
+pub returns-in-Err-clause-reads : goal.returns-in-Err-clause-reads
+returns-in-Err-clause-reads c objects =
+    subst (λ (k : CacheMap). Reads (IsFamilyAt c.args.at.now.rank.0 c.args.at.now.dir c.args.at.now.frag c.args.bits) (IsChildAt c.args.at.now.rank.0 c.args.at.now.dir c.args.at.now.frag c.args.bits) objects c.args.self.now k) (sym c.drop_children.ensures)
+    (reads_so c.args.at.now.rank.0 c.args.at.now.dir c.args.at.now.frag c.args.bits c.loop-i.i (omega (arith, c.loop-i-test.true, c.child_count-i-end.ensures)) c.args.self.now c.loop-i.self c.keep.new.self c.loop-i.invariant.keeping (subst (λ (x : Dirfrag). MakesRoomAt x.rank.0 (Some (c.args.at.now.dir, c.args.at.now.frag)) c.loop-i.self c.keep.new.self) c.child_at-child.ensures c.in-Err.ensures.left) objects)
+
+pub returns-in-Err-clause-refused : goal.returns-in-Err-clause-refused
+returns-in-Err-clause-refused c =
+    refused_so c.args.at.now.rank.0 c.args.at.now.dir c.args.at.now.frag c.args.bits c.loop-i.i (omega (arith, c.loop-i-test.true, c.child_count-i-end.ensures)) c.args.self.now c.loop-i.self c.loop-i.invariant.keeping c.in-Err.refusal
+    (subst (λ (x : Dirfrag). MayNotKeepAt x.rank.0 (Some (c.args.at.now.dir, c.args.at.now.frag)) c.loop-i.self c.in-Err.refusal) c.child_at-child.ensures c.in-Err.ensures.refused)
+
+pub loop-i-preserved : goal.loop-i-preserved
+loop-i-preserved c =
+    let kept = subst (λ (x : Dirfrag). KeepsAt x.rank.0 (x.dir, x.frag) (Some (c.args.at.now.dir, c.args.at.now.frag)) c.loop-i.self c.keep.new.self) c.child_at-child.ensures c.in_default.ensures.kept in
+    let below : c.loop-i.i < 2 ^ c.args.bits = omega (arith, c.loop-i-test.true, c.child_count-i-end.ensures) in
+    let more : suc c.loop-i.i ≡ c.loop-i.i + 1 = omega arith in
+    record {
+      keeping = subst (λ (n : ℕ). AreKeeping c.args.at.now.rank.0 c.args.at.now.dir c.args.at.now.frag c.args.bits n c.args.self.now c.keep.new.self) more (one_kept c.args.at.now.rank.0 c.args.at.now.dir c.args.at.now.frag c.args.bits c.loop-i.i below c.args.self.now kept.0
+          (room_kept c.args.at.now.rank.0 c.args.at.now.dir c.args.at.now.frag c.args.bits c.loop-i.i below c.args.self.now c.loop-i.self c.loop-i.invariant.keeping kept.0 kept.1) c.keep.new.self kept.2);
+      keeps = subst (λ (n : ℕ). KeepsChildren c.args.at.now.rank.0 c.args.at.now.dir c.args.at.now.frag c.args.bits n c.args.self.now c.keep.new.self) more (c.loop-i.self, c.loop-i.invariant.keeps, kept);
+    }
+
+pub returns-clause-reads : goal.returns-clause-reads
+returns-clause-reads c = kept_reads c.args.at.now.rank.0 c.args.at.now.dir c.args.at.now.frag c.args.bits c.loop-i.i c.args.self.now c.loop-i.self c.loop-i.invariant.keeping

@@ -1,0 +1,10 @@
+-- A place is kept for each child that was passed.
+use Rattle.dentry_cache.specs.CacheSplits.{KeepsChildren}
+use Rattle.dentry_cache.proofs.ChildLaws.{AreKeeping}
+use Rattle.dentry_cache.proofs.caches.Caches.keep_children.Given as goal
+
+abbrev pub invariant-loop-i : goal.invariant-loop-i
+invariant-loop-i l = record {
+  keeping : AreKeeping l.at.rank.0 l.at.dir l.at.frag l.bits l.i l.fn.self l.self;
+  keeps : KeepsChildren l.at.rank.0 l.at.dir l.at.frag l.bits l.i l.fn.self l.self;
+}
