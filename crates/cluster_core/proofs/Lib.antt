@@ -8,6 +8,7 @@ pub mod MadeReady
 pub mod MasterLaws
 pub mod NewBook
 pub mod Offered
+pub mod Recorded
 pub mod RunLaws
 pub mod Served
 pub mod Stays

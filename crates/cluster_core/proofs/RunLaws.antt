@@ -25,18 +25,19 @@ use Rattle.mdcache.specs.Objects.{Purges, SavesTree}
 use Rattle.cluster_core.specs.Administers.{Administers, BeginsAt, EvictsOne, MergesLeaves, SplitsLeaf, nothing, told_job}
 use Rattle.cluster_core.specs.Steps.{ArrivesAt, Does, MayRefuse}
 use Rattle.cluster_core.specs.Sound.{IsSoundBook}
-use Rattle.cluster_core.specs.Runs.{StepsBook, Runs, IsRun, StandsAt, IsOfHistory, BeginsWith}
+use Rattle.cluster_core.specs.Runs.{StepsBook, Runs, IsRun, StandsAt, IsOfHistory, BeginsWith, AddsTo}
 
 -- what one step leaves of the history, and what its answer says of it
 pub record IsStepOf (past now : List Entry) (result : Result Answer Refusal) : Type 0 where
   pub grows : BeginsWith now past
+  pub adds : AddsTo past now result
   pub told : IsOfHistory now result
 
 unchanged : (past now : List Entry) → now ≡ past → BeginsWith now past
 unchanged past now same = ([], same ∙ sym (append-nil past))
 
 refused : (past now : List Entry) (reason : Refusal) → now ≡ past → IsStepOf past now (Err reason)
-refused past now reason same = record { grows = unchanged past now same; told = tt }
+refused past now reason same = record { grows = unchanged past now same; adds = same; told = tt }
 
 applied : (old new : State) (past now : List Entry) (rank : Rank) (request : Request) (rest : List Request) (answer : Answer) → IsApplied old new past now rank request rest answer → IsStepOf past now (Ok answer)
 applied old new past now rank request rest answer h =
@@ -44,6 +45,7 @@ applied old new past now rank request rest answer h =
     let last : (e : Entry) → slice_index_or now (length past) e ≡ entry = λ e. rw h.appended (get_or-append_seam past entry [] e) in
     record {
       grows = (entry ∷ [], h.appended);
+      adds = subst (λ a. AddsTo past now (Ok a)) (sym h.answered) (entry, refl, h.appended);
       told =
           subst (λ a. IsOfHistory now (Ok a)) (sym h.answered) (record {
             in_range = rw h.appended (omega (arith, length-append past (entry ∷ [])));
@@ -62,6 +64,7 @@ repeated old new past now rank request rest answer h =
     let pair = λ (e : Entry). and_parts _ _ (h.kept.at.pair e) in
     record {
       grows = unchanged past now h.out.same;
+      adds = subst (λ a. AddsTo past now (Ok a)) (sym (h.answered (entry_of old rank request))) h.out.same;
       told = subst (λ a. IsOfHistory now (Ok a)) (sym (h.answered (entry_of old rank request))) (rw h.out.same (record {
         in_range = h.kept.at.in_range;
         client_is = λ e. eqb-true _ _ (pair e).0;
@@ -75,19 +78,23 @@ module _ (old new : State) (past now : List Entry) where
   left reason h = refused past now reason h.same
 
   -- an answer that is no reply
-  quiet : (answer is : Answer) → answer ≡ is → IsOfHistory now (Ok is) → now ≡ past → IsStepOf past now (Ok answer)
-  quiet answer is same told kept = record { grows = unchanged past now kept; told = subst (λ a. IsOfHistory now (Ok a)) (sym same) told }
+  quiet : (answer is : Answer) → answer ≡ is → AddsTo past now (Ok is) → IsOfHistory now (Ok is) → now ≡ past → IsStepOf past now (Ok answer)
+  quiet answer is same adds told kept = record {
+    grows = unchanged past now kept;
+    adds = subst (λ a. AddsTo past now (Ok a)) (sym same) adds;
+    told = subst (λ a. IsOfHistory now (Ok a)) (sym same) told;
+  }
 
   arrived : (rank : Rank) (request : Request) (result : Result Answer Refusal) → ArrivesAt old new past now rank request result → IsStepOf past now result
-  arrived rank request (Ok answer) h = quiet answer Nothing h.0 tt h.3
+  arrived rank request (Ok answer) h = quiet answer Nothing h.0 h.3 tt h.3
   arrived rank request (Err reason) h = left reason h.2
 
   module _ (MayRefuse : Op → Refusal → Type 0) (rank : Rank) where
     served : (request : Request) (rest : List Request) (result : Result Answer Refusal) → ServesRequest old new past now MayRefuse rank request rest result → IsStepOf past now result
     served request rest (Ok answer) (inl h) = applied old new past now rank request rest answer h
     served request rest (Ok answer) (inr (inl h)) = repeated old new past now rank request rest answer h
-    served request rest (Ok answer) (inr (inr (inl h))) = quiet answer (Forwarded h.master) h.answered tt h.same
-    served request rest (Ok answer) (inr (inr (inr h))) = quiet answer Deferred h.answered tt h.same
+    served request rest (Ok answer) (inr (inr (inl h))) = quiet answer (Forwarded h.master) h.answered h.same tt h.same
+    served request rest (Ok answer) (inr (inr (inr h))) = quiet answer Deferred h.answered h.same tt h.same
     served request rest (Err reason) (inl h) = refused past now reason h.2.same
     served request rest (Err reason) (inr (inl h)) = refused past now reason h.3.same
     served request rest (Err reason) (inr (inr (inl h))) = left reason h.2
@@ -100,22 +107,22 @@ module _ (old new : State) (past now : List Entry) where
 
   granted : (MayRefuse : Op → Refusal → Type 0) (rank : Rank) (client tid : ℕ) (result : Result Answer Refusal) (found : Option Request) → GrantsFirst old new past now MayRefuse rank client tid result found → IsStepOf past now result
   granted MayRefuse rank client tid result None h = subst (IsStepOf past now) (sym h.0) (left InboxEmpty h.1)
-  granted MayRefuse rank client tid (Ok answer) (Some request) h = quiet answer Nothing h.answered tt h.same
+  granted MayRefuse rank client tid (Ok answer) (Some request) h = quiet answer Nothing h.answered h.same tt h.same
   granted MayRefuse rank client tid (Err reason) (Some request) h = left reason h.1
 
   -- an administrator's step adds nothing to the history, and what it tells is no reply
-  administered : {X : Type 0} (told : X → Answer) (Did : Result X Refusal → Type 0) → ((given : X) → IsOfHistory now (Ok (told given)))
+  administered : {X : Type 0} (told : X → Answer) (Did : Result X Refusal → Type 0) → ((given : X) → now ≡ past → AddsTo past now (Ok (told given)) × IsOfHistory now (Ok (told given)))
       → (result : Result Answer Refusal) → Administers old new past now told Did result → IsStepOf past now result
   administered told Did quiet_told (Ok answer) h =
-      record { grows = unchanged past now h.3.same; told = subst (λ a. IsOfHistory now (Ok a)) (sym h.1) (quiet_told h.0) }
+      let w = quiet_told h.0 h.3.same in quiet answer (told h.0) h.1 w.0 w.1 h.3.same
   administered told Did quiet_told (Err reason) h = left reason h.1
 
   done : (Did : Result (Unit {0}) Refusal → Type 0) (result : Result Answer Refusal) → Administers old new past now nothing Did result → IsStepOf past now result
-  done Did result h = administered nothing Did (λ given. tt) result h
+  done Did result h = administered nothing Did (λ given same. (same, tt)) result h
 
-  job_is_no_reply : (job : Option Begun) → IsOfHistory now (Ok (told_job job))
-  job_is_no_reply None = tt
-  job_is_no_reply (Some job) = tt
+  job_is_no_reply : (job : Option Begun) → now ≡ past → AddsTo past now (Ok (told_job job)) × IsOfHistory now (Ok (told_job job))
+  job_is_no_reply None same = (same, tt)
+  job_is_no_reply (Some job) same = (same, tt)
 
   begun : (Did : Result (Option Begun) Refusal → Type 0) (result : Result Answer Refusal) → Administers old new past now told_job Did result → IsStepOf past now result
   begun Did result h = administered told_job Did job_is_no_reply result h

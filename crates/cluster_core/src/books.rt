@@ -4,6 +4,7 @@ ghost use Rattle.std.specs.FinMap as map;
 ghost use Rattle.objstore.specs.Objects.{faults_in};
 ghost use Rattle.mdcache.specs.New.{MayNotFormat, new_caches};
 ghost use Rattle.cluster_core.specs.Fragments.{LieAtAuthority};
+ghost use Rattle.cluster_core.specs.Runs.{Records};
 ghost use Rattle.cluster_core.specs.State.{new_state};
 ghost use Rattle.cluster_core.specs.Steps.{Steps};
 ghost use Rattle.cluster_core.specs.Sound.{IsSoundBook};
@@ -66,11 +67,14 @@ impl<S: Store + Drop> Book<S> {
         &self.cluster
     }
 
-    /// One event, one atomic step: what it answers, or why it is refused. The opening tree stays.
+    #[tactic(auto, using(crate::proofs::Recorded::records_of))]
+    /// One event, one atomic step: what it answers, or why it is refused. The opening tree stays. The history grows by one entry
+    /// where a request is applied, and each reply that is handed out stands in it.
     pub fn step(&mut self, alloc: Global, event: Event) -> Result<Answer, Refusal>
         ensures stepped { Steps self.old.core self.new.core self.old.history self.new.history result event }
         ensures opening { self.new.opening ≡ self.old.opening }
         ensures sound { IsSoundBook self.new }
+        ensures recorded { Records event self.old.history self.new.history result }
     {
         self.cluster.step(alloc, &mut self.history, event)
     }

@@ -1,0 +1,63 @@
+-- What each event makes of the history.
+use Rattle.std.proofs.Common.{◌≡◌, ℕ, Bool, true, false, nat_lt, List, length, Option, Some, None, MatchBool, Result, Ok, Err}
+use Rattle.mds_types.specs.declared.entries.Entry.{Entry}
+use Rattle.mds_types.specs.declared.operations.Op.{Op}
+use Rattle.mds_types.specs.declared.requests.Request.{Request}
+use Rattle.mds_types.specs.declared.ids.Rank.{Rank}
+use Rattle.mds_types.specs.declared.refusals.Refusal.{Refusal}
+use Rattle.mds_types.specs.declared.refusals.Refusal.TheVariants.{NotAuthority}
+use Rattle.inboxes.specs.Inboxes.{first_waiting}
+use Rattle.mdcache.specs.Commits.{Drops, Ends}
+use Rattle.mdcache.specs.Objects.{Purges, SavesTree}
+use Rattle.cluster_core.specs.declared.events.Answer.{Answer}
+use Rattle.cluster_core.specs.declared.events.Event.{Event}
+use Rattle.cluster_core.specs.declared.events.Event.TheVariants.{Arrive, Grant, Serve, Split, Merge, CommitBegin, CommitEnd, CommitDrop, CommitTree, Purge, Evict}
+use Rattle.cluster_core.specs.State.{Core, State}
+use Rattle.cluster_core.specs.Serve.{IsLeft}
+use Rattle.cluster_core.specs.Grants.{GrantsFirst}
+use Rattle.cluster_core.specs.Administers.{Administers, BeginsAt, EvictsOne, MergesLeaves, SplitsLeaf, nothing, told_job}
+use Rattle.cluster_core.specs.Steps.{ArrivesAt, Does, MayRefuse, Steps}
+use Rattle.cluster_core.specs.Runs.{AddsAtServe, Records}
+use Rattle.cluster_core.proofs.RunLaws.{step_of}
+
+module _ (old new : State) (past now : List Entry) where
+  arrived : (rank : Rank) (request : Request) (result : Result Answer Refusal) → ArrivesAt old new past now rank request result → now ≡ past
+  arrived rank request (Ok answer) h = h.3
+  arrived rank request (Err reason) h = h.2.same
+
+  granted : (MayRefuse : Op → Refusal → Type 0) (rank : Rank) (client tid : ℕ) (result : Result Answer Refusal) (found : Option Request) → GrantsFirst old new past now MayRefuse rank client tid result found → now ≡ past
+  granted MayRefuse rank client tid result None h = h.1.same
+  granted MayRefuse rank client tid (Ok answer) (Some request) h = h.same
+  granted MayRefuse rank client tid (Err reason) (Some request) h = h.1.same
+
+  administered : {X : Type 0} (told : X → Answer) (Did : Result X Refusal → Type 0) (result : Result Answer Refusal) → Administers old new past now told Did result → now ≡ past
+  administered told Did (Ok answer) h = h.3.same
+  administered told Did (Err reason) h = h.1.same
+
+  at_rank : (here : Bool) (result : Result Answer Refusal) {done : Type 0} → (done → now ≡ past) → MatchBool here done ((result ≡ Err NotAuthority) × IsLeft old new past now) → now ≡ past
+  at_rank true result go h = go h
+  at_rank false result go h = h.1.same
+
+adds_at_serve : (old new : Core) (past now : List Entry) (result : Result Answer Refusal) (event : Event) → Does old new past now result event → AddsAtServe event past now
+adds_at_serve old new past now result (Arrive rank request) h = at_rank old.state new.state past now (nat_lt rank.0 (length old.state.inboxes)) result (arrived old.state new.state past now rank request result) h
+adds_at_serve old new past now result (Serve rank) h = tt
+adds_at_serve old new past now result (Grant rank client tid) h =
+    at_rank old.state new.state past now (nat_lt rank.0 (length old.state.inboxes)) result (granted old.state new.state past now (MayRefuse old new) rank client tid result (first_waiting client tid old.state.inboxes)) h
+adds_at_serve old new past now result (Split rank dir f nb) h =
+    at_rank old.state new.state past now (nat_lt rank.0 (length old.state.inboxes)) result (administered old.state new.state past now nothing (SplitsLeaf old new rank dir f nb) result) h
+adds_at_serve old new past now result (Merge rank dir f) h =
+    at_rank old.state new.state past now (nat_lt rank.0 (length old.state.inboxes)) result (administered old.state new.state past now nothing (MergesLeaves old new rank dir f) result) h
+adds_at_serve old new past now result (CommitBegin rank dir f) h =
+    at_rank old.state new.state past now (nat_lt rank.0 (length old.state.inboxes)) result (λ w. administered old.state new.state past now told_job (BeginsAt old.state new.state rank (dir, f)) result w.0) h
+adds_at_serve old new past now result (CommitEnd encoded) h = administered old.state new.state past now nothing (Ends old.state.tree new.state.tree old.faults new.faults encoded.job) result h.0
+adds_at_serve old new past now result (CommitDrop number) h = administered old.state new.state past now nothing (Drops old.state.tree new.state.tree number) result h.0
+adds_at_serve old new past now result (CommitTree dir) h = administered old.state new.state past now nothing (SavesTree old.state.tree new.state.tree old.faults new.faults dir) result h.0
+adds_at_serve old new past now result Purge h = administered old.state new.state past now nothing (Purges old.state.tree new.state.tree old.faults new.faults) result h.0
+adds_at_serve old new past now result (Evict rank) h =
+    at_rank old.state new.state past now (nat_lt rank.0 (length old.state.inboxes)) result (λ w. administered old.state new.state past now nothing (EvictsOne old new rank) result w.0) h
+
+-- what one step makes of the history
+pub records_of : (old new : Core) (past now : List Entry) (result : Result Answer Refusal) (event : Event) → Steps old new past now result event → Records event past now result
+records_of old new past now result event h =
+    let w = step_of old new past now result event h.does in
+    record { adds = w.adds; at_serve = adds_at_serve old new past now result event h.does; told = w.told }

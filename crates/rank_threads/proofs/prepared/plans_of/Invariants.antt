@@ -1,0 +1,9 @@
+use Rattle.std.proofs.Common.{◌≡◌, ◌+◌, length, map, vec_items}
+use Rattle.rank_threads.proofs.prepared.plans_of.Given as goal
+
+abbrev pub invariant-loop-turns : goal.invariant-loop-turns
+invariant-loop-turns g l = record {
+  turns : map (λ p. p.turns.items) l.plans.items ≡ map vec_items l.yielded;
+  parts : l.all.parts + length l.yielded ≡ l.initial.all.parts;
+  amount : l.all.amount ≡ l.initial.all.amount;
+}

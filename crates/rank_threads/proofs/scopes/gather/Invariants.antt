@@ -1,0 +1,10 @@
+use Rattle.std.proofs.Common.{◌≡◌, ◌+◌, length, map, vec_items}
+use Rattle.rank_threads.specs.Turns.{PlansAnswered, firsts_of_all}
+use Rattle.rank_threads.proofs.scopes.gather.Given as goal
+
+abbrev pub invariant-loop-handle : goal.invariant-loop-handle
+invariant-loop-handle g l = record {
+  answered : PlansAnswered (map (λ h. h.promise.0.value.items) l.yielded) (map vec_items l.answers.items);
+  parts : l.all.parts ≡ l.initial.all.parts + length l.yielded;
+  amount : l.all.amount ≡ l.initial.all.amount + firsts_of_all (map vec_items l.answers.items);
+}

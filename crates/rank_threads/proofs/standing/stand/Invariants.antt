@@ -1,0 +1,15 @@
+use Rattle.std.proofs.Common.{◌≤◌, length, drop}
+use Rattle.rank_threads.specs.Agreement.{Stand}
+use Rattle.rank_threads.proofs.ReceiptLaws.{AreMarked}
+use Rattle.rank_threads.proofs.standing.stand.Given as goal
+
+-- those behind stand, and the places of the first ones among them are named
+abbrev pub invariant-loop-left : goal.invariant-loop-left
+invariant-loop-left l = record {
+  within : l.left ≤ length l.receipts;
+  marked : AreMarked (length l.history) l.named.items (drop l.left l.receipts);
+  stand : Stand l.history l.from (drop l.left l.receipts);
+}
+
+abbrev pub decreases-loop-left : goal.decreases-loop-left
+decreases-loop-left l = l.left

@@ -1,0 +1,66 @@
+-- What the turns of a plan give.
+use Rattle.std.specs.Prelude.{◌≡◌, ◌+◌, ℕ, List, [], ◌∷◌, ◌++◌, length, map, vec_items, Result, Ok, Err}
+use Rattle.std.specs.Global.{Vec}
+use Rattle.mds_types.specs.declared.refusals.Refusal.{Refusal}
+use Rattle.cluster_core.specs.declared.events.Answer.{Answer}
+use Rattle.cluster_core.specs.declared.events.Answer.TheVariants.{Deferred, Forwarded, Job, Nothing, Reply}
+use Rattle.rank_threads.specs.declared.plans.Turn.{Turn}
+use Rattle.rank_threads.specs.declared.plans.Turn.TheVariants.{Step, Commit}
+use Rattle.rank_threads.specs.declared.receipts.Receipt.{Receipt}
+use Rattle.rank_threads.specs.Agreement.{first_places}
+
+-- a commit's turn stands as Nothing or a refusal
+abbrev pub FitsTurn : Turn → Result Answer Refusal → Type 0
+FitsTurn (Step event) result = Unit {0}
+FitsTurn (Commit ino frag) (Ok answer) = answer ≡ Nothing
+FitsTurn (Commit ino frag) (Err reason) = Unit {0}
+
+-- one result for each turn
+abbrev pub AreAnswered : List Turn → List (Result Answer Refusal) → Type 0
+AreAnswered [] [] = Unit {0}
+AreAnswered [] (result ∷ results) = ⊥
+AreAnswered (turn ∷ turns) [] = ⊥
+AreAnswered (turn ∷ turns) (result ∷ results) = FitsTurn turn result × AreAnswered turns results
+
+-- one list of results for each plan
+abbrev pub PlansAnswered : List (List Turn) → List (List (Result Answer Refusal)) → Type 0
+PlansAnswered [] [] = Unit {0}
+PlansAnswered [] (results ∷ more) = ⊥
+PlansAnswered (turns ∷ plans) [] = ⊥
+PlansAnswered (turns ∷ plans) (results ∷ more) = AreAnswered turns results × PlansAnswered plans more
+
+-- the lists that are kept in vectors
+abbrev pub lists_of : {A : Type 0} → List (Vec A) → List (List A)
+lists_of vectors = map vec_items vectors
+
+-- the receipt of a result, if it is a reply
+abbrev pub receipt_of : Result Answer Refusal → List Receipt
+receipt_of (Ok (Reply client tid place first reply)) = record { client = client; tid = tid; place = place; first = first; reply = reply } ∷ []
+receipt_of (Ok Nothing) = []
+receipt_of (Ok (Job job)) = []
+receipt_of (Ok (Forwarded rank)) = []
+receipt_of (Ok Deferred) = []
+receipt_of (Err reason) = []
+
+-- the receipts of the replies among results, in their order
+abbrev pub receipts_of : List (Result Answer Refusal) → List Receipt
+receipts_of [] = []
+receipts_of (result ∷ results) = receipt_of result ++ receipts_of results
+
+-- those of all plans
+abbrev pub receipts_of_all : List (List (Result Answer Refusal)) → List Receipt
+receipts_of_all [] = []
+receipts_of_all (results ∷ more) = receipts_of results ++ receipts_of_all more
+
+-- how many replies among them were first ones
+abbrev pub first_in : Result Answer Refusal → ℕ
+first_in result = length (first_places (receipt_of result))
+
+abbrev pub firsts : List (Result Answer Refusal) → ℕ
+firsts [] = 0
+firsts (result ∷ results) = first_in result + firsts results
+
+-- in all plans
+abbrev pub firsts_of_all : List (List (Result Answer Refusal)) → ℕ
+firsts_of_all [] = 0
+firsts_of_all (results ∷ more) = firsts results + firsts_of_all more

@@ -1,0 +1,73 @@
+//! Commits that are ended.
+
+use crate::desks::{Desk, Handed};
+use crate::workers::Finished;
+use commit_jobs::Encoded;
+use crossbeam_channel::Receiver;
+use mds_types::Refusal;
+use objstore::Store;
+use std::alloc::Global;
+use std::sync::{Mutex, Wait};
+
+/// The number of a job that was handed to the workers, and how its commit ended: as the event that ends it was answered, or
+/// as its encoding failed.
+#[derive(Debug, Drop)]
+pub struct Commit {
+    pub job: u64,
+    pub ended: Result<(), Refusal>,
+}
+
+/// Ends the commits whose results come, until no more can come, and lists them in the order taken. Answers whether there was
+/// memory to list them all.
+pub(crate) fn end_all<S: Store + Drop, L: Handed, R: Wait>(
+    rt: &R,
+    alloc: Global,
+    desk: &Mutex<Desk<S, L>>,
+    results: &Receiver<Finished>,
+    commits: &mut Vec<Commit>,
+) -> bool {
+    let mut listed = true;
+    for finished in results.iter(rt) {
+        let commit = end(rt, alloc, desk, finished);
+        if commits.push(commit).is_err() {
+            listed = false;
+        }
+    }
+    listed
+}
+
+// Ends one commit.
+fn end<S: Store + Drop, L: Handed, R: Wait>(
+    rt: &R,
+    alloc: Global,
+    desk: &Mutex<Desk<S, L>>,
+    finished: Finished,
+) -> Commit {
+    match finished {
+        Finished::Encoded(encoded) => end_encoded(rt, alloc, desk, encoded),
+        Finished::Failed { job, refusal } => {
+            desk.lock(rt).give_up(alloc, job);
+            Commit {
+                job,
+                ended: Err(refusal),
+            }
+        }
+    }
+}
+
+// Ends the commit of what was encoded. It is given up where that is refused, unless no such job stands.
+fn end_encoded<S: Store + Drop, L: Handed, R: Wait>(
+    rt: &R,
+    alloc: Global,
+    desk: &Mutex<Desk<S, L>>,
+    encoded: Encoded,
+) -> Commit {
+    let job = encoded.job().number;
+    let ended = desk.lock(rt).end(alloc, encoded);
+    if let Err(refusal) = &ended {
+        if *refusal != Refusal::StaleJob {
+            desk.lock(rt).give_up(alloc, job);
+        }
+    }
+    Commit { job, ended }
+}

@@ -1,0 +1,126 @@
+//! What lies under the lock.
+ghost use Rattle.std.specs.Prelude.{◌≡◌, ◌+◌, ◌<◌, ℕ, List, [], cond, length, take};
+ghost use Rattle.std.specs.Coded.{codes};
+ghost use Rattle.std.specs.FinMap as map;
+ghost use Rattle.mds_types.specs.declared.entries.Entry.{Entry as Applied};
+ghost use Rattle.mds_types.specs.Tree.{Tree};
+ghost use Rattle.rank_threads.specs.Continued.{Continues};
+ghost use Rattle.rank_threads.specs.Turns.{first_in};
+
+use cluster_core::{Answer, Book, Event};
+use commit_jobs::{Encoded, Job};
+use mds_types::{Frag, Ino, Rank, Refusal};
+use objstore::Store;
+use std::alloc::Global;
+use std::marker::Brand;
+use std::sync::ledger;
+use std::sync::ledger::{Ledger, Share};
+
+/// What a run was handed. Each call of a run picks its own.
+pub trait Handed: Ledger {
+    /// The history that it was handed.
+    ghost begun: { List Applied };
+
+    /// The tree that its book opened with.
+    ghost opened: { Tree };
+}
+
+impl Handed for Brand {
+    ghost begun = { [] };
+
+    ghost opened = { map.empty };
+}
+
+/// The book, with the total of all shares: as long as the history is. The history begins with the one that was handed in.
+#[derive(Drop)]
+pub(crate) struct Desk<S: Store + Drop, L: Handed> {
+    pub(crate) book: Book<S>,
+    pub(crate) total: ledger::Book<L>,
+    ghost counted: { length book.history ≡ total.total },
+    ghost begins: { take (length L.begun) book.history ≡ L.begun },
+    ghost opens: { book.opening ≡ L.opened } by { Prim.hlevel (codes, map.code) },
+}
+
+impl<S: Store + Drop, L: Handed> Desk<S, L> {
+    /// One step of the book. The share rises by one where the step adds an entry to the history.
+    #[tactic(auto, using(crate::proofs::StepLaws::still_begins, crate::proofs::StepLaws::counts_on))]
+    pub(crate) fn step(
+        &mut self,
+        alloc: Global,
+        mine: &mut Share<L>,
+        event: Event,
+    ) -> Result<Answer, Refusal>
+        requires { 0 < mine.old.parts }
+        ensures parts { mine.new.parts ≡ mine.old.parts }
+        ensures amount { mine.new.amount ≡ mine.old.amount + first_in result }
+    {
+        let Desk { book, total } = self;
+        let answer = book.step(alloc, event);
+        if is_first(&answer) {
+            total.add(mine, 1);
+        }
+        answer
+    }
+
+    /// A commit of a leaf begins at a rank: its job, unless the leaf is clean. The history stays.
+    pub(crate) fn begin(
+        &mut self,
+        alloc: Global,
+        rank: Rank,
+        ino: Ino,
+        frag: Frag,
+    ) -> Result<Option<Job>, Refusal> {
+        match self
+            .book
+            .step(alloc, Event::CommitBegin { rank, ino, frag })
+        {
+            Ok(Answer::Job(job)) => Ok(Some(job)),
+            Ok(_) => Ok(None),
+            Err(refusal) => Err(refusal),
+        }
+    }
+
+    /// The commit of what was encoded ends. The history stays.
+    pub(crate) fn end(&mut self, alloc: Global, encoded: Encoded) -> Result<(), Refusal> {
+        self.book.step(alloc, Event::CommitEnd(encoded)).map(|_| ())
+    }
+
+    /// A commit is given up. The history stays.
+    pub(crate) fn give_up(&mut self, alloc: Global, job: u64) {
+        let _ = self.book.step(alloc, Event::CommitDrop { job });
+    }
+
+    /// The book, where shares were lost.
+    #[tactic(auto, using(crate::proofs::StepLaws::continued))]
+    pub(crate) fn close(self) -> Book<S>
+        ensures { Continues L.opened L.begun result }
+    {
+        let Desk { book, .. } = self;
+        let _ = book.history();
+        book
+    }
+
+    /// The book, once all shares are gathered: its history has as many entries as they say.
+    #[tactic(auto, using(crate::proofs::StepLaws::continued))]
+    pub(crate) fn settle(self, all: &mut Share<L>) -> Book<S>
+        requires { all.old.parts ≡ L.parts }
+        ensures counted { length result.history ≡ all.old.amount }
+        ensures continued { Continues L.opened L.begun result }
+    {
+        let Desk {
+            book,
+            mut total,
+            ..
+        } = self;
+        total.audit(all);
+        let _ = book.history();
+        book
+    }
+}
+
+// Whether a result is the reply to a request that was applied now.
+fn is_first(told: &Result<Answer, Refusal>) -> bool
+    ensures { first_in told.now ≡ cond result 1 0 }
+{
+    matches!(told, Ok(Answer::Reply { first: true, .. }))
+}

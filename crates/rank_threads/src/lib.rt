@@ -1,0 +1,26 @@
+//! Rank threads: several threads work on one book under one lock, one for each rank, and workers encode what is committed
+//! with no lock held. Whatever the schedule was, a run that succeeds gives a book whose history replays and begins with the
+//! one handed in, and the replies that its threads were given agree with that history.
+#![tactic(auto)]
+
+mod commits;
+mod desks;
+mod gates;
+mod outcomes;
+mod plans;
+mod prepared;
+mod ranks;
+mod receipts;
+mod replies;
+mod running;
+mod scopes;
+mod standing;
+mod workers;
+
+pub use commits::Commit;
+pub use gates::{Gate, OpenGate};
+pub use outcomes::{Outcome, RunError, RunFault};
+pub use plans::Turn;
+pub use receipts::Receipt;
+pub use running::run_cluster;
+pub use standing::audit;

@@ -1,0 +1,55 @@
+//! What a run gives, or why it gave nothing.
+ghost use Rattle.std.specs.Prelude.{◌≡◌};
+ghost use Rattle.rank_threads.specs.Faults.{run_fault_number};
+
+use crate::commits::Commit;
+use crate::receipts::Receipt;
+use cluster_core::{Answer, Book};
+use mds_types::Refusal;
+use objstore::Store;
+
+/// What a run gave.
+#[derive(Drop)]
+pub struct Outcome<S: Store + Drop> {
+    /// The book as the threads left it.
+    pub book: Book<S>,
+    /// For each plan the results of its turns, in their order.
+    pub answers: Vec<Vec<Result<Answer, Refusal>>>,
+    /// The replies among the answers.
+    pub receipts: Vec<Receipt>,
+    /// How each commit ended that was handed to the workers, in the order in which that was done.
+    pub commits: Vec<Commit>,
+}
+
+/// A run that gave no outcome, with its book.
+#[derive(Drop)]
+pub struct RunError<S: Store + Drop> {
+    pub fault: RunFault,
+    /// The book as the threads left it.
+    pub book: Book<S>,
+}
+
+/// Why a run gave no outcome.
+#[derive(Clone, Copy, Debug, PartialEq, Eq)]
+pub enum RunFault {
+    /// A growth was refused.
+    NoMemory,
+    /// A thread could not be made.
+    Spawn,
+    /// The history does not hold a reply at its place, or two requests were told that they were applied at one place, or at an
+    /// older one.
+    Strayed,
+}
+
+impl RunFault {
+    /// The number that the program prints: 1 to 3 in the order above.
+    pub fn number(self) -> u8
+        ensures { result ≡ run_fault_number self }
+    {
+        match self {
+            RunFault::NoMemory => 1,
+            RunFault::Spawn => 2,
+            RunFault::Strayed => 3,
+        }
+    }
+}

@@ -1,0 +1,13 @@
+//! What a rank's thread is to do.
+
+use cluster_core::Event;
+use mds_types::{Frag, Ino};
+
+/// One turn of a rank's thread.
+#[derive(Debug, Drop)]
+pub enum Turn {
+    /// One step of the book.
+    Step(Event),
+    /// A commit of a leaf begins at the thread's own rank, and its job goes to the workers.
+    Commit { ino: Ino, frag: Frag },
+}

@@ -1,0 +1,137 @@
+//! What a run needs, made before its first lock.
+ghost use Rattle.std.specs.Prelude.{◌≡◌, ◌+◌, ◌<◌, [], IfOk, map, vec_len};
+ghost use Rattle.rank_threads.specs.Turns.{lists_of};
+
+use crate::commits::Commit;
+use crate::desks::Handed;
+use crate::plans::Turn;
+use crate::ranks::{Answered, Plan, Working};
+use crate::workers::Finished;
+use commit_jobs::Job;
+use crossbeam_channel::{Receiver, Sender};
+use mds_types::Rank;
+use std::alloc::{AllocError, Global};
+use std::sync::ledger::Share;
+
+/// What a worker is handed: where jobs come from, and where results go.
+#[derive(Drop)]
+pub(crate) struct Ends {
+    pub(crate) jobs: Receiver<Job>,
+    pub(crate) results: Sender<Finished>,
+}
+
+/// All that a run needs. It keeps no sending end but those of its plans and workers, so each channel ends with them.
+#[derive(Drop)]
+pub(crate) struct Needs<L: Handed> {
+    pub(crate) plans: Vec<Plan<L>>,
+    pub(crate) workers: Vec<Ends>,
+    pub(crate) results: Receiver<Finished>,
+    pub(crate) handles: Vec<Working<L>>,
+    pub(crate) answers: Vec<Vec<Answered>>,
+    pub(crate) commits: Vec<Commit>,
+}
+
+/// All that a run needs: a plan for each list of turns, which takes a part of the share, and room for all results.
+pub(crate) fn prepare<L: Handed>(
+    alloc: Global,
+    lists: Vec<Vec<Turn>>,
+    workers: u8,
+    all: &mut Share<L>,
+) -> Result<Needs<L>, AllocError>
+    requires { vec_len lists < all.old.parts }
+    ensures turns { IfOk result (λ r. map (λ p. p.turns.items) r.plans.items ≡ lists_of lists.items) }
+    ensures count { IfOk result (λ r. vec_len r.plans ≡ vec_len lists) }
+    ensures empty { IfOk result (λ r. (r.handles.items ≡ []) × (r.answers.items ≡ [])) }
+    ensures parts { IfOk result (λ r. all.new.parts + vec_len lists ≡ all.old.parts) }
+    ensures amount { IfOk result (λ r. all.new.amount ≡ all.old.amount) }
+{
+    let handles = Vec::with_capacity(alloc, lists.len())?;
+    let answers = Vec::with_capacity(alloc, lists.len())?;
+    let commits = Vec::with_capacity(alloc, count_commits(&lists))?;
+    let (jobs, from) = crossbeam_channel::unbounded(alloc)?;
+    let (to, results) = crossbeam_channel::unbounded(alloc)?;
+    let workers = ends_of(alloc, workers, &from, &to)?;
+    let plans = plans_of(alloc, lists, &jobs, all)?;
+    Ok(Needs {
+        plans,
+        workers,
+        results,
+        handles,
+        answers,
+        commits,
+    })
+}
+
+// A plan for each list of turns, in the order of ranks, with a part of the share each.
+fn plans_of<L: Handed>(
+    alloc: Global,
+    lists: Vec<Vec<Turn>>,
+    jobs: &Sender<Job>,
+    all: &mut Share<L>,
+) -> Result<Vec<Plan<L>>, AllocError>
+    requires { vec_len lists < all.old.parts }
+    ensures turns { IfOk result (λ plans. map (λ p. p.turns.items) plans.items ≡ lists_of lists.items) }
+    ensures parts { IfOk result (λ plans. all.new.parts + vec_len lists ≡ all.old.parts) }
+    ensures amount { IfOk result (λ plans. all.new.amount ≡ all.old.amount) }
+{
+    let mut plans = Vec::new(alloc);
+    let mut rank: u8 = 0;
+    for turns in lists {
+        let share = all.split_off(1, 0);
+        plans.push(plan_of(alloc, Rank(rank), turns, jobs.clone()?, share)?)?;
+        rank = rank.wrapping_add(1);
+    }
+    Ok(plans)
+}
+
+// A plan, with room for its results.
+fn plan_of<L: Handed>(
+    alloc: Global,
+    rank: Rank,
+    turns: Vec<Turn>,
+    jobs: Sender<Job>,
+    share: Share<L>,
+) -> Result<Plan<L>, AllocError>
+    requires one { share.parts ≡ 1 }
+    requires none { share.amount ≡ 0 }
+    ensures { IfOk result (λ p. p.turns ≡ turns) }
+{
+    let answers = Vec::with_capacity(alloc, turns.len())?;
+    Ok(Plan {
+        rank,
+        turns,
+        answers,
+        jobs,
+        share,
+    })
+}
+
+// Ends of both channels for each worker.
+fn ends_of(
+    alloc: Global,
+    workers: u8,
+    jobs: &Receiver<Job>,
+    results: &Sender<Finished>,
+) -> Result<Vec<Ends>, AllocError> {
+    let mut all = Vec::new(alloc);
+    for _ in 0..workers {
+        all.push(Ends {
+            jobs: jobs.clone()?,
+            results: results.clone()?,
+        })?;
+    }
+    Ok(all)
+}
+
+// How many commits the plans have.
+fn count_commits(lists: &Vec<Vec<Turn>>) -> usize {
+    let mut count: usize = 0;
+    for turns in lists {
+        for turn in turns {
+            if let Turn::Commit { .. } = turn {
+                count = count.saturating_add(1);
+            }
+        }
+    }
+    count
+}

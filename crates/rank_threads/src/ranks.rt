@@ -1,0 +1,175 @@
+//! The threads of ranks.
+ghost use Rattle.std.specs.Prelude.{◌≡◌, ◌+◌, ◌<◌, ◌≤◌, ◌++◌, ◌∷◌, [], IfSome, vec_len, vec_capacity};
+ghost use Rattle.rank_threads.specs.Turns.{AreAnswered, FitsTurn, first_in, firsts};
+
+use crate::desks::{Desk, Handed};
+use crate::gates::Gate;
+use crate::plans::Turn;
+use cluster_core::Answer;
+use commit_jobs::Job;
+use crossbeam_channel::Sender;
+use mds_types::{Frag, Ino, Rank, Refusal};
+use objstore::Store;
+use std::alloc::Global;
+use std::snapshot::Snapshot;
+use std::sync::ledger::Share;
+use std::sync::{Mutex, Wait};
+use std::thread::{Promise, PromisedHandle, Scope, Threads};
+
+/// What a turn gave.
+pub(crate) type Answered = Result<Answer, Refusal>;
+
+/// What a rank's thread is handed: its turns, room for a result of each, an end of the channel of jobs, and its share.
+#[derive(Drop)]
+pub(crate) struct Plan<L: Handed> {
+    pub(crate) rank: Rank,
+    pub(crate) turns: Vec<Turn>,
+    pub(crate) answers: Vec<Answered>,
+    pub(crate) jobs: Sender<Job>,
+    pub(crate) share: Share<L>,
+    pub(crate) ghost one_part: { share.parts ≡ 1 },
+    pub(crate) ghost none_yet: { share.amount ≡ 0 },
+    pub(crate) ghost empty: { answers.items ≡ [] },
+    pub(crate) ghost room: { vec_len turns ≤ vec_capacity answers },
+}
+
+/// What a rank's thread hands back: a result for each turn, and its share, which counts the first replies among them.
+#[derive(Drop)]
+pub(crate) struct Work<L: Handed> {
+    pub(crate) answers: Vec<Answered>,
+    pub(crate) share: Share<L>,
+    pub(crate) ghost one_part: { share.parts ≡ 1 },
+    pub(crate) ghost counted: { share.amount ≡ firsts answers.items },
+}
+
+/// That work has a result for each of these turns.
+#[derive(Drop)]
+pub(crate) struct Answers(Snapshot<Vec<Turn>>);
+
+impl<L: Handed> Promise<Work<L>> for Answers {
+    ghost kept_by = { λ p w. AreAnswered p.0.value.items w.answers.items };
+}
+
+/// A thread that works off a plan.
+pub(crate) type Working<L> = PromisedHandle<Work<L>, Answers>;
+
+/// Starts a thread for a plan; none, where none can be made.
+pub(crate) fn start<'s, E, S, L, G, R>(
+    scope: &Scope<'s, E>,
+    rt: &'s R,
+    alloc: Global,
+    desk: &'s Mutex<Desk<S, L>>,
+    gate: &'s G,
+    plan: Plan<L>,
+) -> Option<Working<L>>
+where
+    S: Store + Drop + Send + 's,
+    L: Handed + Send + Sync + 's,
+    G: Gate + 's,
+    R: Threads + Wait + Sync + 's,
+    ensures { IfSome result (λ h. h.promise.0.value.items ≡ plan.turns.items) }
+{
+    let promise = Answers(Snapshot::of(&plan.turns));
+    scope
+        .spawn_with(promise, move || work_off(rt, alloc, desk, gate, plan))
+        .ok()
+}
+
+// Works off a plan, and takes the lock anew for each turn.
+#[tactic(auto, using(crate::proofs::TurnLaws::answered_more, crate::proofs::TurnLaws::firsts_more))]
+fn work_off<S: Store + Drop, L: Handed, G: Gate, R: Wait>(
+    rt: &R,
+    alloc: Global,
+    desk: &Mutex<Desk<S, L>>,
+    gate: &G,
+    plan: Plan<L>,
+) -> Work<L>
+    ensures { AreAnswered plan.turns.items result.answers.items }
+{
+    let Plan {
+        rank,
+        turns,
+        mut answers,
+        jobs,
+        mut share,
+        ..
+    } = plan;
+    for turn in turns {
+        let answer = take_turn(rt, alloc, desk, &jobs, gate, rank, &mut share, turn);
+        put(&mut answers, answer);
+    }
+    finished(answers, share)
+}
+
+// The work that was done. A function of its own, since one with a loop loses what a struct's fields keep.
+fn finished<L: Handed>(answers: Vec<Answered>, share: Share<L>) -> Work<L>
+    requires one { share.parts ≡ 1 }
+    requires counted { share.amount ≡ firsts answers.items }
+    ensures { result.answers ≡ answers }
+{
+    Work { answers, share }
+}
+
+// Puts a result at the end of a list that has room for it.
+fn put(answers: &mut Vec<Answered>, newest: Answered)
+    requires { vec_len answers.old < vec_capacity answers.old }
+    ensures items { answers.new.items ≡ answers.old.items ++ newest ∷ [] }
+    ensures len { vec_len answers.new ≡ vec_len answers.old + 1 }
+    ensures capacity { vec_capacity answers.old ≤ vec_capacity answers.new }
+{
+    let _ = answers.push(newest);
+}
+
+// One turn.
+fn take_turn<S: Store + Drop, L: Handed, G: Gate, R: Wait>(
+    rt: &R,
+    alloc: Global,
+    desk: &Mutex<Desk<S, L>>,
+    jobs: &Sender<Job>,
+    gate: &G,
+    rank: Rank,
+    mine: &mut Share<L>,
+    turn: Turn,
+) -> Answered
+    requires { mine.old.parts ≡ 1 }
+    ensures parts { mine.new.parts ≡ 1 }
+    ensures amount { mine.new.amount ≡ mine.old.amount + first_in result }
+    ensures fits { FitsTurn turn result }
+{
+    match turn {
+        Turn::Step(event) => {
+            let answer = desk.lock(rt).step(alloc, mine, event);
+            if let Ok(Answer::Reply { .. }) = &answer {
+                gate.answered(rank);
+            }
+            answer
+        }
+        Turn::Commit { ino, frag } => match begin_commit(rt, alloc, desk, jobs, rank, ino, frag) {
+            Ok(()) => Ok(Answer::Nothing),
+            Err(refusal) => Err(refusal),
+        },
+    }
+}
+
+// Begins a commit and hands its job to the workers. Where it can't be handed on, the commit is given up.
+fn begin_commit<S: Store + Drop, L: Handed, R: Wait>(
+    rt: &R,
+    alloc: Global,
+    desk: &Mutex<Desk<S, L>>,
+    jobs: &Sender<Job>,
+    rank: Rank,
+    ino: Ino,
+    frag: Frag,
+) -> Result<(), Refusal> {
+    // the lock is let go before the job is sent
+    let begun = desk.lock(rt).begin(alloc, rank, ino, frag)?;
+    let Some(job) = begun else {
+        return Ok(());
+    };
+    let number = job.number;
+    if jobs.send(rt, job).is_err() {
+        desk.lock(rt).give_up(alloc, number);
+        return Err(Refusal::NoMemory);
+    }
+    Ok(())
+}

@@ -1,0 +1,206 @@
+//! The threads of a run, from their start to their ends.
+ghost use Rattle.std.specs.Prelude.{◌≡◌, ◌+◌, [], IfOk, OnOk, OnSome, map, vec_len};
+ghost use Rattle.rank_threads.specs.Turns.{PlansAnswered, firsts_of_all, lists_of};
+
+use crate::commits::{Commit, end_all};
+use crate::desks::{Desk, Handed};
+use crate::gates::Gate;
+use crate::outcomes::RunFault;
+use crate::prepared::{Ends, Needs};
+use crate::ranks::{Answered, Plan, Work, Working, start};
+use crate::workers::encode_all;
+use objstore::Store;
+use std::alloc::{AllocError, Global};
+use std::sync::ledger::Share;
+use std::sync::{Mutex, Wait};
+use std::thread;
+use std::thread::{Scope, Threads};
+
+/// What the threads of a run gave.
+#[derive(Drop)]
+pub(crate) struct Ran<L: Handed> {
+    pub(crate) answers: Vec<Vec<Answered>>,
+    pub(crate) commits: Vec<Commit>,
+    pub(crate) all: Share<L>,
+}
+
+/// Runs all threads to their ends.
+pub(crate) fn run_all<S, L, G, R>(
+    rt: &R,
+    alloc: Global,
+    desk: &Mutex<Desk<S, L>>,
+    gate: &G,
+    needs: Needs<L>,
+    all: Share<L>,
+) -> Result<Ran<L>, RunFault>
+where
+    S: Store + Drop + Send,
+    L: Handed + Send + Sync,
+    G: Gate,
+    R: Threads + Wait + Sync,
+    requires { (needs.handles.items ≡ []) × (needs.answers.items ≡ []) }
+    ensures answered { IfOk result (λ r.
+        PlansAnswered (map (λ p. p.turns.items) needs.plans.items) (lists_of r.answers.items)) }
+    ensures parts { IfOk result (λ r. r.all.parts ≡ all.parts + vec_len needs.plans) }
+    ensures amount { IfOk result (λ r. r.all.amount ≡ all.amount + firsts_of_all (lists_of r.answers.items)) }
+{
+    thread::scope(
+        thread::scope_env(),
+        rt,
+        move |scope| -> Result<Ran<L>, RunFault>
+            requires { (needs.handles.items ≡ []) × (needs.answers.items ≡ []) }
+            ensures { IfOk result (λ r.
+                PlansAnswered (map (λ p. p.turns.items) needs.plans.items) (lists_of r.answers.items)
+                × (r.all.parts ≡ all.parts + vec_len needs.plans)
+                × (r.all.amount ≡ all.amount + firsts_of_all (lists_of r.answers.items))) }
+        { run_in(scope, rt, alloc, desk, gate, needs, all) },
+    )
+}
+
+// Starts the workers and the ranks' threads, ends their commits, and joins the ranks' threads.
+fn run_in<'s, E, S, L, G, R>(
+    scope: &Scope<'s, E>,
+    rt: &'s R,
+    alloc: Global,
+    desk: &'s Mutex<Desk<S, L>>,
+    gate: &'s G,
+    needs: Needs<L>,
+    all: Share<L>,
+) -> Result<Ran<L>, RunFault>
+where
+    S: Store + Drop + Send + 's,
+    L: Handed + Send + Sync + 's,
+    G: Gate + 's,
+    R: Threads + Wait + Sync + 's,
+    requires { (needs.handles.items ≡ []) × (needs.answers.items ≡ []) }
+    ensures answered { IfOk result (λ r.
+        PlansAnswered (map (λ p. p.turns.items) needs.plans.items) (lists_of r.answers.items)) }
+    ensures parts { IfOk result (λ r. r.all.parts ≡ all.parts + vec_len needs.plans) }
+    ensures amount { IfOk result (λ r. r.all.amount ≡ all.amount + firsts_of_all (lists_of r.answers.items)) }
+{
+    let Needs {
+        plans,
+        workers,
+        results,
+        mut handles,
+        mut answers,
+        mut commits,
+        ..
+    } = needs;
+    let mut all = all;
+    if !start_workers(scope, rt, alloc, desk, gate, workers) {
+        return Err(RunFault::Spawn);
+    }
+    let started = start_all(scope, rt, alloc, desk, gate, plans, &mut handles);
+    // All threads run to their ends, also where one couldn't be made.
+    let listed = end_all(rt, alloc, desk, &results, &mut commits);
+    if started.is_none() {
+        return Err(RunFault::Spawn);
+    }
+    if gather(rt, handles, &mut answers, &mut all).is_err() || !listed {
+        return Err(RunFault::NoMemory);
+    }
+    Ok(Ran {
+        answers,
+        commits,
+        all,
+    })
+}
+
+// Starts a thread for each plan, until one can't be made: then none is answered.
+fn start_all<'s, E, S, L, G, R>(
+    scope: &Scope<'s, E>,
+    rt: &'s R,
+    alloc: Global,
+    desk: &'s Mutex<Desk<S, L>>,
+    gate: &'s G,
+    plans: Vec<Plan<L>>,
+    handles: &mut Vec<Working<L>>,
+) -> Option<()>
+where
+    S: Store + Drop + Send + 's,
+    L: Handed + Send + Sync + 's,
+    G: Gate + 's,
+    R: Threads + Wait + Sync + 's,
+    requires empty { handles.old.items ≡ [] }
+    ensures { OnSome result (
+        map (λ h. h.promise.0.value.items) handles.new.items ≡ map (λ p. p.turns.items) plans.items) }
+{
+    for plan in plans {
+        handles
+            .push(start(scope, rt, alloc, desk, gate, plan)?)
+            .ok()?;
+    }
+    Some(())
+}
+
+// Joins all threads, and gathers their answers and shares.
+fn gather<L: Handed, R: Threads>(
+    rt: &R,
+    handles: Vec<Working<L>>,
+    answers: &mut Vec<Vec<Answered>>,
+    all: &mut Share<L>,
+) -> Result<(), AllocError>
+    requires empty { answers.old.items ≡ [] }
+    ensures answered { OnOk result (
+        PlansAnswered (map (λ h. h.promise.0.value.items) handles.items) (lists_of answers.new.items)) }
+    ensures parts { OnOk result (all.new.parts ≡ all.old.parts + vec_len handles) }
+    ensures amount { OnOk result (all.new.amount ≡ all.old.amount + firsts_of_all (lists_of answers.new.items)) }
+{
+    for handle in handles {
+        let Work {
+            answers: given,
+            share,
+            ..
+        } = handle.join(rt);
+        all.merge(share);
+        answers.push(given)?;
+    }
+    Ok(())
+}
+
+// Starts a thread for each worker. Answers whether all could be made.
+fn start_workers<'s, E, S, L, G, R>(
+    scope: &Scope<'s, E>,
+    rt: &'s R,
+    alloc: Global,
+    desk: &'s Mutex<Desk<S, L>>,
+    gate: &'s G,
+    workers: Vec<Ends>,
+) -> bool
+where
+    S: Store + Drop + Send + 's,
+    L: Handed + Send + Sync + 's,
+    G: Gate + 's,
+    R: Threads + Wait + Sync + 's,
+{
+    for ends in workers {
+        if !start_worker(scope, rt, alloc, desk, gate, ends) {
+            return false;
+        }
+    }
+    true
+}
+
+// Starts a thread for a worker. Answers whether it could be made.
+fn start_worker<'s, E, S, L, G, R>(
+    scope: &Scope<'s, E>,
+    rt: &'s R,
+    alloc: Global,
+    desk: &'s Mutex<Desk<S, L>>,
+    gate: &'s G,
+    ends: Ends,
+) -> bool
+where
+    S: Store + Drop + Send + 's,
+    L: Handed + Send + Sync + 's,
+    G: Gate + 's,
+    R: Threads + Wait + Sync + 's,
+{
+    scope
+        .spawn(move || {
+            let Ends { jobs, results } = ends;
+            encode_all(rt, alloc, desk, jobs, results, gate);
+        })
+        .is_ok()
+}

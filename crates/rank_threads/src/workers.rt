@@ -1,0 +1,49 @@
+//! The workers, which encode.
+
+use crate::desks::{Desk, Handed};
+use crate::gates::Gate;
+use commit_jobs::{Encoded, Job};
+use crossbeam_channel::{Receiver, Sender};
+use mds_types::Refusal;
+use objstore::Store;
+use std::alloc::Global;
+use std::sync::{Mutex, Wait};
+
+/// What became of a job at a worker.
+#[derive(Drop)]
+pub(crate) enum Finished {
+    /// It was encoded.
+    Encoded(Encoded),
+    /// It wasn't, for this reason.
+    Failed { job: u64, refusal: Refusal },
+}
+
+/// Encodes jobs with no lock held, until no more can come. A job whose result can't be sent on is given up.
+pub(crate) fn encode_all<S: Store + Drop, L: Handed, G: Gate, R: Wait>(
+    rt: &R,
+    alloc: Global,
+    desk: &Mutex<Desk<S, L>>,
+    jobs: Receiver<Job>,
+    results: Sender<Finished>,
+    gate: &G,
+) {
+    for job in jobs.iter(rt) {
+        let number = job.number;
+        gate.encoding(number);
+        if results.send(rt, encoded(alloc, job)).is_err() {
+            desk.lock(rt).give_up(alloc, number);
+        }
+    }
+}
+
+// A job's encoding, or that it failed.
+fn encoded(alloc: Global, job: Job) -> Finished {
+    let number = job.number;
+    match Encoded::of(alloc, job) {
+        Ok(encoded) => Finished::Encoded(encoded),
+        Err(refusal) => Finished::Failed {
+            job: number,
+            refusal,
+        },
+    }
+}
