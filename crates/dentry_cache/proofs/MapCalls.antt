@@ -18,8 +18,8 @@ use Rattle.dentry_cache.specs.declared.cache.Place.{Place}
 use Rattle.dentry_cache.specs.Cache.{Evicts, HasRoom, Held, IsChanged, IsFull, IsThere, Leaf, MakesRoom, MayMakeRoom, NoneGoes, Places, TakesPlace, cached, fragment_in, held, is_kept, kept_place, leaf_cmp, leaf_is, used_as, without}
 use Rattle.dentry_cache.specs.CacheMap.{AreAtOneRank, AreCaches, At, CacheMap, IsFree, IsFreeFor, at_rank, cache_map, edited, evicted, given_up, has_place, here, no_cache, order, orders, removed, roomy, used_at, victim, with_frag}
 use Rattle.dentry_cache.specs.Places.{IsCache}
-use Rattle.dentry_cache.specs.CacheCalls.{Edits, FetchesAt, IsAbsent, IsEdited, IsWhole, KeepsAt, MakesRoomAt, MayNotFetchAt, MayNotKeepAt}
-use Rattle.dentry_cache.specs.Fetches.{IsFetched, IsNotFetched, MayNotFetch}
+use Rattle.dentry_cache.specs.CacheCalls.{Edits, FetchesAt, IsAbsent, IsEdited, IsRefusedAt, IsWhole, KeepsAt, MakesRoomAt, MayNotFetchAt, MayNotKeepAt}
+use Rattle.dentry_cache.specs.Fetches.{IsFetched, IsNotFetched, IsRefusedIn, MayNotFetch}
 use Rattle.dentry_cache.proofs.LeafLaws.{leaf-total}
 use Rattle.dentry_cache.proofs.MapLaws.{cached_placed, changed_so, each_at, evicted_so, frag_so, get_held, given_up_so, here_free, none_evicted, none_roomy, order_is, roomy_so, used_so}
 use Rattle.dentry_cache.proofs.OneCache.{HasRoomFor, none_distinct, room_then, changed, changed_by, dropped, evicts_by, full_by, makes_room_by, none_by, room_made}
@@ -259,6 +259,10 @@ module _ (cs : List Held) (cap r : ℕ) (old : CacheMap) (view : cache_map cs ca
 
         pub full_now : IsFull stay x → roomy old r stay ≡ None
         full_now is = subst (λ (o : CacheMap). roomy o r stay ≡ None) view (none_roomy cs cap r sound there stay (ap (room_made stay) (sym x_is) ∙ full_by stay x is))
+
+        pub refused_now : (reason : Refusal) → IsRefusedIn stay x now reason → IsRefusedAt r stay old new reason
+        refused_now reason (inl none) = inl (none.0, (same_now none.1).0)
+        refused_now reason (inr after) = inr (after.0, (roomy_now after.1).0)
 
         pub may_room : MayMakeRoom stay x now → MakesRoomAt r stay old new × Now
         may_room (inl is) = let same = same_now is in (inl same.0, same.1)

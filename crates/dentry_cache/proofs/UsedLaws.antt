@@ -1,6 +1,6 @@
 -- What is in each place once one of them is used, taken or given up.
 use Rattle.std.proofs.Common.{◌≡◌, ℕ, ◌+◌, ◌-◌, ◌<◌, ◌≤◌, Bool, true, false, cond, inl, inr, [], ◌∷◌, ◌++◌, length, take, Option, Some, None, refl, sym, ap, subst, ◌∙◌, arith}
-use Rattle.std.specs.Prelude.{Result, Ok, Err, IsOk, OnOk, OnErr, is_some, slice_get, ◌==◌}
+use Rattle.std.specs.Prelude.{Result, Ok, Err, IsOk, IfErr, OnOk, OnErr, is_some, slice_get, ◌==◌}
 use Rattle.std.specs.Option.{option_map_or}
 use Rattle.std.specs.Map.{lookup, lookup_entry, remove_entry}
 use Rattle.std.specs.FinMap.{len-empty}
@@ -10,13 +10,15 @@ use Rattle.std.proofs.lemmas.Map.{NonePasses, lookup-none, none_passes_from_look
 use Rattle.lru.proofs.Splits.{all_both, all_left, all_right}
 use Rattle.lru.specs.LruCache.{lru_cache, promoted, put_entries}
 use Rattle.mds_types.specs.Frag.{Fragment}
+use Rattle.mds_types.specs.declared.refusals.Refusal.{Refusal}
+use Rattle.mds_types.specs.declared.refusals.Refusal.TheVariants.{NoMemory, NothingToEvict}
 use Rattle.omap.specs.Omap.{Omap, key_cmp}
 use Rattle.commit_jobs.specs.declared.marks.Mark.{Mark}
 use Rattle.cached_frag.specs.Cached.{Cached, is_clean}
 use Rattle.dentry_cache.specs.Loading.{Loads}
 use Rattle.dentry_cache.specs.declared.cache.Place.{Place}
 use Rattle.dentry_cache.specs.Cache.{Evicts, Held, IsNewest, IsUsed, Leaf, MakesRoom, MayMakeRoom, Places, TakesPlace, cached, fragment_in, held, is_kept, leaf_is, unsaved, unsaved_in, used_as}
-use Rattle.dentry_cache.specs.Fetches.{IsFetched, IsNotFetched}
+use Rattle.dentry_cache.specs.Fetches.{IsFetched, IsNotFetched, IsRefusedIn}
 use Rattle.dentry_cache.proofs.CacheLaws.{unsaved_alike, unsaved_same}
 use Rattle.dentry_cache.proofs.LeafLaws.{flips, one_leaf}
 
@@ -203,3 +205,10 @@ filled (Ok x) leaf place old mid new same kept succeeds ok = ok ∙ ap (λ (h : 
 filled (Err e) leaf place old mid new same kept succeeds ok =
     let never = succeeds (ap (λ (h : Held). is_some (lookup (leaf_is leaf) h.entries)) same ∙ is_there (lookup (leaf_is leaf) old.entries) kept) in
     let clash : false ≡ true = never in absurd cc
+
+-- ---- what a refusal leaves
+
+-- want of memory comes after a place was free or became so
+pub refused_after : {A : Type 0} (r : Result A Refusal) (stay : Option Leaf) (old mid new : Held) → MakesRoom stay old mid → OnErr r (new ≡ mid) → IfErr r (λ reason. reason ≡ NoMemory) → IfErr r (IsRefusedIn stay old new)
+refused_after (Ok a) stay old mid new room same memory = tt
+refused_after (Err reason) stay old mid new room same memory = inr ((λ other. let clash : NoMemory ≡ NothingToEvict = sym memory ∙ other in absurd cc), subst (MakesRoom stay old) (sym same) room)

@@ -42,6 +42,11 @@ KeepsAt r leaf stay old new = (mid : CacheMap) × (roomy old r stay ≡ Some mid
 abbrev pub MayNotKeepAt : ℕ → Option Leaf → CacheMap → Refusal → Type 0
 MayNotKeepAt r stay old reason = (reason ≡ NoMemory) ⊎ ((reason ≡ NothingToEvict) × (roomy old r stay ≡ None))
 
+-- what a refusal leaves: where no place could become free, all as it was; any other comes after a place was free or became so
+abbrev pub IsRefusedAt : ℕ → Option Leaf → (old new : CacheMap) → Refusal → Type 0
+IsRefusedAt r stay old new reason =
+    ((reason ≡ NothingToEvict) × (new ≡ old)) ⊎ ((reason ≡ NothingToEvict → ⊥) × (roomy old r stay ≡ Some new))
+
 -- a leaf that had a place is the most recently used; any other is there as its object spells it, in a place that was free or became so
 abbrev pub FetchesAt : ℕ → Leaf → Option Leaf → Option Omap → Bool → (old new : CacheMap) → Type 0
 FetchesAt r leaf stay object true old new = new ≡ used_at old r leaf

@@ -9,7 +9,7 @@ use Rattle.mds_types.specs.declared.refusals.Refusal.{Refusal}
 use Rattle.mds_types.specs.declared.refusals.Refusal.TheVariants.{NoMemory, NothingToEvict}
 use Rattle.dentry_cache.specs.declared.parts.Part.{Part}
 use Rattle.dentry_cache.specs.Cache.{HasCached, Leaf, Unsaved, leaf_cmp, unsaved_in, with_unsaved}
-use Rattle.dentry_cache.specs.CacheCalls.{Edits, IsAbsent, KeepsAt, kept_at, unclean_at}
+use Rattle.dentry_cache.specs.CacheCalls.{Edits, IsAbsent, IsRefusedAt, KeepsAt, kept_at, unclean_at}
 use Rattle.dentry_cache.specs.CacheMap.{CacheMap, given_up, has_place, here, with_frag}
 use Rattle.dentry_cache.specs.Divided.{AreChildren, AreReady}
 use Rattle.dentry_cache.specs.Parting.{AreApart}
@@ -79,6 +79,19 @@ abbrev pub without_children : ℕ → Ino → Fragment → ℕ → ℕ → Cache
 without_children r dir frag bits zero c = c
 without_children r dir frag bits (suc n) c =
     given_up (without_children r dir frag bits n c) r (dir, child_of frag n bits)
+
+-- a refusal came with the place of one of the children, and those that were kept before are given up
+abbrev pub RefusesChild : ℕ → Ino → Fragment → ℕ → (old new : CacheMap) → Refusal → Type 0
+RefusesChild r dir frag bits old new reason =
+    (n : ℕ) × (n < 2 ^ bits) × (mid : CacheMap) × KeepsChildren r dir frag bits n old mid
+    × (then : CacheMap) × IsRefusedAt r (Some (dir, frag)) mid then reason
+    × (new ≡ without_children r dir frag bits (2 ^ bits) then)
+
+-- it came so, or for want of memory before; the fragment is the most recently used
+abbrev pub RefusesAt : ℕ → Ino → Fragment → ℕ → (old new : CacheMap) → Refusal → Type 0
+RefusesAt r dir frag bits old new reason =
+    (mid : CacheMap) × Edits IsButPlaces r (dir, frag) old mid
+    × (((reason ≡ NoMemory) × (new ≡ mid)) ⊎ RefusesChild r dir frag bits mid new reason)
 
 -- why no places were kept for so many children: want of memory, or each place but so many is kept, or that of a
 -- fragment that isn't clean

@@ -1,12 +1,12 @@
 -- What a fetch makes of a cache, and why it may be refused.
-use Rattle.std.specs.Prelude.{◌≡◌, ℕ, ◌<◌, Option, Some, None}
+use Rattle.std.specs.Prelude.{◌≡◌, ◌⊎◌, ℕ, ◌<◌, Option, Some, None}
 use Rattle.mds_types.specs.declared.object_names.ObjName.TheVariants.{Frag as FragOf}
 use Rattle.mds_types.specs.declared.refusals.Refusal.{Refusal}
 use Rattle.mds_types.specs.declared.refusals.Refusal.TheVariants.{NoMemory, StoreFault, NoInodes, Trimmed, NotAuthority, Frozen, Pinned, NoSuchFrag, BadSplit, TooManyFrags, StaleJob, JobOutstanding, WrongExportState, InboxEmpty, InboxFull, NothingToEvict, Damaged, NotClean}
 use Rattle.omap.specs.Omap.{Omap}
 use Rattle.cached_frag.specs.Cached.{Cached}
 use Rattle.dentry_cache.specs.Loading.{Loads}
-use Rattle.dentry_cache.specs.Cache.{Held, IsFull, Leaf, MayMakeRoom, TakesPlace, held, used_as}
+use Rattle.dentry_cache.specs.Cache.{Held, IsFull, Leaf, MakesRoom, MayMakeRoom, TakesPlace, held, used_as}
 use Rattle.dentry_cache.specs.declared.cache.Place.{Place}
 
 -- why a fetch may be refused, that has to leave one fragment where it is: no place is free and no fragment may go; or as the object or
@@ -40,3 +40,8 @@ IsFetched stay old leaf object None new = (f : Cached) × Loads leaf.1 object (S
 abbrev pub IsNotFetched : Option Leaf → Held → Option Place → Held → Type 0
 IsNotFetched stay old (Some place) new = ⊥
 IsNotFetched stay old None new = MayMakeRoom stay old new
+
+-- what a refusal leaves: where no place could become free, all as it was; any other comes after a place was free or became so
+abbrev pub IsRefusedIn : Option Leaf → (old new : Held) → Refusal → Type 0
+IsRefusedIn stay old new reason =
+    ((reason ≡ NothingToEvict) × (new ≡ old)) ⊎ ((reason ≡ NothingToEvict → ⊥) × MakesRoom stay old new)

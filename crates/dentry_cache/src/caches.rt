@@ -10,7 +10,7 @@ ghost use Rattle.cached_frag.specs.Cached.{Cached, shown};
 ghost use Rattle.cached_frag.specs.Moving.{TakesIn};
 ghost use Rattle.mds_types.specs.declared.refusals.Refusal.TheVariants.{NothingToEvict};
 ghost use Rattle.dentry_cache.specs.Cache.{HasCached, HasRoom, IsThere};
-ghost use Rattle.dentry_cache.specs.CacheCalls.{Edits, FetchesAt, IsAbsent, IsWhole, KeepsAt, MakesRoomAt, MayNotFetchAt, MayNotKeepAt};
+ghost use Rattle.dentry_cache.specs.CacheCalls.{Edits, FetchesAt, IsAbsent, IsRefusedAt, IsWhole, KeepsAt, MakesRoomAt, MayNotFetchAt, MayNotKeepAt};
 ghost use Rattle.dentry_cache.specs.CacheMap.{AreCaches, IsFreeFor, evicted, frag_of, given_up, has_place, here, leaf_of, no_caches, order, used_at, with_frag, with_mark};
 ghost use Rattle.dentry_cache.specs.CacheSplits.{IsButPlaces, IsReadyAt};
 ghost use Rattle.dentry_cache.specs.Divided.{AreNumbered};
@@ -144,6 +144,7 @@ impl Caches {
         ensures fetched { OnOk result (FetchesAt at.rank.0 (leaf_of at) stay (object_of (S.objects store.old) at.dir at.frag) (has_place self.old at.rank.0 (leaf_of at)) self.old self.new) }
         ensures absent { OnErr result (IsAbsent self.old at.rank.0 (leaf_of at)) }
         ensures left { OnErr result (MakesRoomAt at.rank.0 stay self.old self.new) }
+        ensures room { IfErr result (IsRefusedAt at.rank.0 stay self.old self.new) }
         ensures refused { IfErr result (MayNotFetchAt at.rank.0 (leaf_of at) stay (object_of (S.objects store.old) at.dir at.frag) self.old) }
         ensures same { S.objects store.new ≡ S.objects store.old }
         ensures counted { S.faults store.new ≡ S.faults store.old + faults_told (result_err result) }
@@ -167,6 +168,7 @@ impl Caches {
         requires absent { has_place self.old at.rank.0 (leaf_of at) ≡ false }
         ensures kept { OnOk result (KeepsAt at.rank.0 (leaf_of at) stay self.old self.new) }
         ensures left { OnErr result (MakesRoomAt at.rank.0 stay self.old self.new) }
+        ensures room { IfErr result (IsRefusedAt at.rank.0 stay self.old self.new) }
         ensures refused { IfErr result (MayNotKeepAt at.rank.0 stay self.old) }
         ensures valid { AreCaches self.old }
     {

@@ -9,7 +9,7 @@ ghost use Rattle.dentry_cache.specs.Loading.{object_of};
 ghost use Rattle.dentry_cache.specs.Cache.{cached, leaf_is, unsaved};
 ghost use Rattle.dentry_cache.specs.Standing.{Each, KeepsTies};
 ghost use Rattle.dentry_cache.specs.Leaving.{IsFound, LeavesBeside};
-ghost use Rattle.dentry_cache.specs.Fetches.{IsFetched, IsNotFetched, MayNotFetch};
+ghost use Rattle.dentry_cache.specs.Fetches.{IsFetched, IsNotFetched, IsRefusedIn, MayNotFetch};
 
 use crate::cache::{Cache, Place};
 use crate::laws::is_leaf;
@@ -37,6 +37,7 @@ impl Cache {
         ensures fetched { OnOk result (IsFetched stay self.old (dir, frag) (object_of (S.objects store.old) dir frag) (lookup (leaf_is (dir, frag)) self.old.entries) self.new) }
         ensures found { OnOk result (IsFound frag (object_of (S.objects store.old) dir frag) (lookup (leaf_is (dir, frag)) self.old.entries) (cached self.new.entries (dir, frag))) }
         ensures left { OnErr result (IsNotFetched stay self.old (lookup (leaf_is (dir, frag)) self.old.entries) self.new) }
+        ensures room { IfErr result (IsRefusedIn stay self.old self.new) }
         ensures refused { IfErr result (MayNotFetch stay self.old (dir, frag) (object_of (S.objects store.old) dir frag) (S.faults store.old) (S.faults store.new)) }
         ensures unsaved { unsaved self.new.entries ≡ unsaved self.old.entries }
         ensures leaves { LeavesBeside stay (dir, frag) self.old.entries self.new.entries }
@@ -63,6 +64,7 @@ impl Cache {
         ensures fetched { OnOk result (IsFetched stay self.old (dir, frag) (object_of (S.objects store.old) dir frag) None self.new) }
         ensures found { OnOk result (IsFound frag (object_of (S.objects store.old) dir frag) None (cached self.new.entries (dir, frag))) }
         ensures left { OnErr result (IsNotFetched stay self.old None self.new) }
+        ensures room { IfErr result (IsRefusedIn stay self.old self.new) }
         ensures refused { IfErr result (MayNotFetch stay self.old (dir, frag) (object_of (S.objects store.old) dir frag) (S.faults store.old) (S.faults store.new)) }
         ensures unsaved { unsaved self.new.entries ≡ unsaved self.old.entries }
         ensures leaves { LeavesBeside stay (dir, frag) self.old.entries self.new.entries }

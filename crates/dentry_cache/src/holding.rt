@@ -4,6 +4,7 @@ ghost use Rattle.std.specs.Map.{lookup};
 ghost use Rattle.mds_types.specs.declared.refusals.Refusal.TheVariants.{NoMemory, NothingToEvict};
 ghost use Rattle.dentry_cache.specs.Cache.{IsFull, MayMakeRoom, TakesPlace, cached, held, is_kept, kept_place, leaf_is, unsaved, used_as, without};
 ghost use Rattle.objstore.specs.Objects.{Objects};
+ghost use Rattle.dentry_cache.specs.Fetches.{IsRefusedIn};
 ghost use Rattle.dentry_cache.specs.Leaving.{LeavesBeside};
 ghost use Rattle.dentry_cache.specs.Standing.{Each, KeepsTies, OfOthers};
 
@@ -33,6 +34,7 @@ impl Cache {
         ensures unsaved { unsaved self.new.entries ≡ unsaved self.old.entries }
         ensures leaves { LeavesBeside stay (dir, frag) self.old.entries self.new.entries }
         ensures keeps { (objects : Objects) → KeepsTies Each objects objects self.old.entries self.new.entries }
+        ensures room { IfErr result (IsRefusedIn stay self.old self.new) }
         ensures place { OnOk result (lookup (leaf_is (dir, frag)) self.new.entries ≡ Some kept_place) }
     {
         is_leaf(dir, frag);

@@ -7,7 +7,7 @@ ghost use Rattle.mds_types.specs.Frag.{child_of};
 ghost use Rattle.cached_frag.specs.Cached.{AreEntries, Cached, shown};
 ghost use Rattle.dentry_cache.specs.Cache.{HasCached, IsThere};
 ghost use Rattle.dentry_cache.specs.CacheMap.{AreCaches, frag_of, given_up, here, leaf_of};
-ghost use Rattle.dentry_cache.specs.CacheSplits.{AreAbsent, AreFillable, AreKept, IsReadyAt, KeepsAll, MayNotKeepAll, ReadiesAt, ReadsFamily, SplitsInto, StaysAt, with_parts, without_children};
+ghost use Rattle.dentry_cache.specs.CacheSplits.{AreAbsent, AreFillable, AreKept, IsReadyAt, KeepsAll, MayNotKeepAll, ReadiesAt, ReadsFamily, RefusesAt, RefusesChild, SplitsInto, StaysAt, with_parts, without_children};
 ghost use Rattle.dentry_cache.specs.Divided.{AreNumbered};
 
 use crate::caches::Caches;
@@ -47,6 +47,7 @@ impl Caches {
         ensures kept { OnOk result (AreKept self.new at.rank.0 at.dir at.frag bits) }
         ensures readies { OnOk result (ReadiesAt at.rank.0 at.dir at.frag bits self.old self.new) }
         ensures left { OnErr result (AreAbsent self.new at.rank.0 at.dir at.frag bits) }
+        ensures refuses { IfErr result (RefusesAt at.rank.0 at.dir at.frag bits self.old self.new) }
         ensures stays { StaysAt at.rank.0 (leaf_of at) self.old self.new }
         ensures reads { ReadsFamily at.rank.0 at.dir at.frag bits self.old self.new }
         ensures refused { IfErr result (MayNotKeepAll (2 ^ bits) self.old at.rank.0) }
@@ -105,6 +106,7 @@ impl Caches {
         ensures kept { OnOk result (AreKept self.new at.now.rank.0 at.now.dir at.now.frag bits) }
         ensures keeps { OnOk result (KeepsAll at.now.rank.0 at.now.dir at.now.frag bits self.old self.new) }
         ensures left { OnErr result (AreAbsent self.new at.now.rank.0 at.now.dir at.now.frag bits) }
+        ensures refuses { IfErr result (RefusesChild at.now.rank.0 at.now.dir at.now.frag bits self.old self.new) }
         ensures stays { here self.new at.now.rank.0 (leaf_of at.now) ≡ here self.old at.now.rank.0 (leaf_of at.now) }
         ensures reads { ReadsFamily at.now.rank.0 at.now.dir at.now.frag bits self.old self.new }
         ensures refused { IfErr result (MayNotKeepAll (2 ^ bits) self.old at.now.rank.0) }

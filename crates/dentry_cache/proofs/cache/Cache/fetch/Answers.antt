@@ -1,6 +1,8 @@
 use Rattle.std.specs.Map.{lookup}
 use Rattle.dentry_cache.specs.Loading.{object_of}
-use Rattle.dentry_cache.specs.Cache.{leaf_is}
+use Rattle.std.proofs.Common.{IfErr, subst}
+use Rattle.dentry_cache.specs.Cache.{Held, leaf_is}
+use Rattle.dentry_cache.specs.Fetches.{IsRefusedIn}
 use Rattle.dentry_cache.proofs.UsedLaws.{fetched_from, left_alone, left_from, used_unsaved, was_absent}
 use Rattle.dentry_cache.proofs.LeavingLaws.{beside, found_from, found_used, leaves_from, used_leaves}
 use Rattle.dentry_cache.proofs.StandingLaws.{keeps_from, use_keeps}
@@ -44,3 +46,8 @@ pub returns-clause-keeps : goal.returns-clause-keeps
 returns-clause-keeps g c =
     keeps_from (g.S.Store.objects c.args.store.now) _ c.args.self.now _ c.fetch_absent.new.self
     (left_alone (c.args.dir, c.args.frag) c.args.self.now _ _ (lookup (leaf_is (c.args.dir, c.args.frag)) c.args.self.now.entries) c.touch.ensures c.if-touch.false) c.fetch_absent.ensures.keeps
+
+pub returns-clause-room : goal.returns-clause-room
+returns-clause-room g c =
+    subst (λ (h : Held). IfErr c.fetch_absent.result (IsRefusedIn c.args.stay h c.fetch_absent.new.self))
+    (left_alone (c.args.dir, c.args.frag) c.args.self.now _ _ (lookup (leaf_is (c.args.dir, c.args.frag)) c.args.self.now.entries) c.touch.ensures c.if-touch.false) c.fetch_absent.ensures.room

@@ -1,6 +1,6 @@
 use Rattle.dentry_cache.specs.Loading.{object_of}
 use Rattle.std.proofs.lemmas.Result.{on_ok_weaker, on_err_weaker}
-use Rattle.dentry_cache.proofs.UsedLaws.{fetched_unsaved, left_with, still_absent, takes}
+use Rattle.dentry_cache.proofs.UsedLaws.{fetched_unsaved, left_with, refused_after, still_absent, takes}
 use Rattle.dentry_cache.proofs.LeavingLaws.{found_loaded, held_leaves}
 use Rattle.dentry_cache.proofs.StandingLaws.{held_keep, keeps_over, left_keep, loaded_tied}
 use Rattle.dentry_cache.proofs.cache.Cache.fetch_absent.Goals as goal
@@ -35,3 +35,6 @@ returns-clause-keeps g c =
 
 pub returns-in_err-loaded-clause-keeps : goal.returns-in_err-loaded-clause-keeps
 returns-in_err-loaded-clause-keeps g c = keeps_over (g.S.Store.objects c.args.store.now) _ _ _ c.in_err-loaded.ensures.same (left_keep c.args.stay (g.S.Store.objects c.args.store.now) _ _ c.make_room.ensures.leaves)
+
+pub returns-clause-room : goal.returns-clause-room
+returns-clause-room g c = refused_after c.hold.result c.args.stay c.args.self.now _ _ c.in_ok-make_room.ensures.room c.hold.ensures.err c.hold.ensures.refused

@@ -1,6 +1,6 @@
 use Rattle.std.proofs.Common.{refl}
 use Rattle.std.proofs.lemmas.Result.{on_err_weaker}
-use Rattle.dentry_cache.proofs.UsedLaws.{held_unsaved, left_with, still_absent}
+use Rattle.dentry_cache.proofs.UsedLaws.{held_unsaved, left_with, refused_after, still_absent}
 use Rattle.dentry_cache.proofs.LeavingLaws.{held_leaves, kept_there}
 use Rattle.dentry_cache.proofs.StandingLaws.{held_keep, nothing_tied}
 use Rattle.dentry_cache.proofs.cache.Cache.keep.Goals as goal
@@ -25,3 +25,6 @@ returns-clause-place c = kept_there c.hold.result (c.args.dir, c.args.frag) _ _ 
 pub returns-clause-keeps : goal.returns-clause-keeps
 returns-clause-keeps c objects =
     held_keep c.hold.result c.args.stay (c.args.dir, c.args.frag) _ objects c.args.self.now _ _ c.make_room.ensures.leaves c.requires c.is_leaf.ensures (λ f found. nothing_tied f _ found) c.hold.ensures.ok c.hold.ensures.err
+
+pub returns-clause-room : goal.returns-clause-room
+returns-clause-room c = refused_after c.hold.result c.args.stay c.args.self.now _ _ c.in_default.ensures.room c.hold.ensures.err c.hold.ensures.refused

@@ -2,7 +2,7 @@ use Rattle.std.proofs.lemmas.Result.{IfErr-weaker, on_err_weaker, on_ok_weaker}
 use Rattle.std.proofs.Common.{refl}
 use Rattle.dentry_cache.specs.CacheMap.{has_place}
 use Rattle.dentry_cache.specs.Loading.{object_of}
-use Rattle.dentry_cache.proofs.MapCalls.{all_caches, fetched_there, fetch_refused, fetch_sound, fetched_now, unfetched_now}
+use Rattle.dentry_cache.proofs.MapCalls.{all_caches, fetched_there, fetch_refused, fetch_sound, fetched_now, refused_now, unfetched_now}
 use Rattle.dentry_cache.proofs.caches.Caches.fetch.Goals as goal
 
 pub returns-clause-fetched : goal.returns-clause-fetched
@@ -25,3 +25,6 @@ returns-clause-cached g c = on_ok_weaker c.fetch.result (λ is. fetched_there c.
 
 pub returns-clause-valid : goal.returns-clause-valid
 returns-clause-valid g c = all_caches c.self.inside.caches.items c.self.inside.places c.args.self.now c.self.view_is c.self.invariant
+
+pub returns-clause-room : goal.returns-clause-room
+returns-clause-room g c = IfErr-weaker c.fetch.result _ _ (λ reason is. refused_now c.self.inside.caches.items c.self.inside.places c.args.at.rank.0 c.args.self.now c.self.view_is c.self.invariant c.requires.there c.index_mut.result.now c.index_mut.ensures.value c.fetch.new.self c.args.stay reason is) c.fetch.ensures.room

@@ -1,5 +1,5 @@
 use Rattle.std.proofs.lemmas.Result.{IfErr-weaker, on_err_weaker, on_ok_weaker}
-use Rattle.dentry_cache.proofs.MapCalls.{all_caches, keep_refused, keep_sound, kept_now, may_room, no_place_is}
+use Rattle.dentry_cache.proofs.MapCalls.{all_caches, keep_refused, keep_sound, kept_now, may_room, no_place_is, refused_now}
 use Rattle.dentry_cache.proofs.caches.Caches.keep.Goals as goal
 
 pub keep-requires : goal.keep-requires
@@ -19,3 +19,6 @@ invariant_of-self c = keep_sound c.self.inside.caches.items c.self.inside.places
 
 pub returns-clause-valid : goal.returns-clause-valid
 returns-clause-valid c = all_caches c.self.inside.caches.items c.self.inside.places c.args.self.now c.self.view_is c.self.invariant
+
+pub returns-clause-room : goal.returns-clause-room
+returns-clause-room c = IfErr-weaker c.keep.result _ _ (λ reason is. refused_now c.self.inside.caches.items c.self.inside.places c.args.at.rank.0 c.args.self.now c.self.view_is c.self.invariant c.requires.there c.index_mut.result.now c.index_mut.ensures.value c.keep.new.self c.args.stay reason is) c.keep.ensures.room

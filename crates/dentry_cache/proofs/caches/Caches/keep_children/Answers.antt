@@ -1,6 +1,6 @@
 use Rattle.std.proofs.Common.{◌≡◌, Some, refl, subst, sym, arith, ◌<◌, ◌^◌, ◌+◌, suc, ℕ, ◌∙◌, ap}
 use Rattle.dentry_cache.specs.declared.dirfrag.Dirfrag.{Dirfrag}
-use Rattle.dentry_cache.specs.CacheCalls.{KeepsAt, MakesRoomAt, MayNotKeepAt}
+use Rattle.dentry_cache.specs.CacheCalls.{IsRefusedAt, KeepsAt, MakesRoomAt, MayNotKeepAt}
 use Rattle.dentry_cache.specs.CacheMap.{CacheMap, here}
 use Rattle.dentry_cache.specs.CacheSplits.{AreAbsent, IsChildAt, IsFamilyAt, KeepsChildren}
 use Rattle.dentry_cache.specs.Reads.{Reads}
@@ -43,3 +43,14 @@ loop-i-preserved c =
 
 pub returns-clause-reads : goal.returns-clause-reads
 returns-clause-reads c = kept_reads c.args.at.now.rank.0 c.args.at.now.dir c.args.at.now.frag c.args.bits c.loop-i.i c.args.self.now c.loop-i.self c.loop-i.invariant.keeping
+
+pub returns-in-Err-clause-refuses : goal.returns-in-Err-clause-refuses
+returns-in-Err-clause-refuses c = (
+  c.loop-i.i,
+  omega (arith, c.loop-i-test.true, c.child_count-i-end.ensures),
+  c.loop-i.self,
+  c.loop-i.invariant.keeps,
+  c.keep.new.self,
+  subst (λ (x : Dirfrag). IsRefusedAt x.rank.0 (Some (c.args.at.now.dir, c.args.at.now.frag)) c.loop-i.self c.keep.new.self c.in-Err.refusal) c.child_at-child.ensures c.in-Err.ensures.room,
+  c.drop_children.ensures,
+)

@@ -1,4 +1,4 @@
-use Rattle.std.proofs.Common.{refl}
+use Rattle.std.proofs.Common.{inl, inr, refl}
 use Rattle.dentry_cache.specs.CacheSplits.{IsChildAt, IsFamilyAt}
 use Rattle.dentry_cache.proofs.PartsLaws.{ready_absent, ready_reads, ready_refused, ready_stays}
 use Rattle.dentry_cache.proofs.ReadsLaws.{reads_then}
@@ -30,3 +30,9 @@ returns-in-Err-keep_children-clause-reads c objects = reads_then (IsFamilyAt c.a
 
 pub returns-in-Err-keep_children-clause-refused : goal.returns-in-Err-keep_children-clause-refused
 returns-in-Err-keep_children-clause-refused c = ready_refused c.args.at.rank.0 c.args.at.dir c.args.at.frag c.args.bits c.requires.some c.args.self.now c.ready_parts.new.self c.ready_parts.ensures.same c.ready_parts.ensures.before _ c.in-Err-keep_children.ensures.refused
+
+pub returns-in-Err-clause-refuses : goal.returns-in-Err-clause-refuses
+returns-in-Err-clause-refuses c = (c.ready_parts.new.self, c.ready_parts.ensures.same, inl (refl, refl))
+
+pub returns-in-Err-keep_children-clause-refuses : goal.returns-in-Err-keep_children-clause-refuses
+returns-in-Err-keep_children-clause-refuses c = (c.ready_parts.new.self, c.ready_parts.ensures.same, inr c.in-Err-keep_children.ensures.refuses)
