@@ -25,6 +25,7 @@ test:
 	@tests/operation_table/run
 	@tests/many_names/run
 	@tests/refused_growths/run
+	@tests/serve/run
 
 units:
 	@tests/units/run $(NAMES)

@@ -1,25 +1,25 @@
 //! The command line of `cephmeta`.
-ghost use Rattle.std.specs.Prelude.{◌≡◌, ◌≤◌, IfOk, IfSome};
+ghost use Rattle.std.specs.Prelude.{IfOk, IfSome};
+ghost use Rattle.admin_cli.specs.Settings.{AreInRange};
 
 use clap::error::ErrorKind;
 use clap::{Arg, ArgMatches, Command, Error, value_parser};
 use std::alloc::{AllocError, Global};
+use workload::Load;
 
-/// What the command line asks for: a script over a cluster of so many ranks.
+/// What the command line asks for.
 #[derive(Clone, Copy, Debug, PartialEq, Eq)]
-pub struct Options {
-    /// How many ranks the cluster has.
-    pub ranks: u8,
-    /// How many fragments a rank may cache.
-    pub cache: u32,
+pub enum Options {
+    /// A script over a cluster of so many ranks, each of which may cache so many fragments.
+    Script { ranks: u8, cache: u32 },
+    /// Clients that create files, served by rank threads.
+    Serve(Load),
 }
 
 /// Reads the words of a command line, the program's own name first. An error is a text for the user with the status to
 /// exit with: 0 where help was asked for, and otherwise 2.
 pub fn settings(alloc: Global, words: &[String]) -> Result<Options, Error>
-    ensures ranked { IfOk result (λ s. (1 ≤ s.ranks) × (s.ranks ≤ 16)) }
-    ensures least { IfOk result (λ s. 512 ≤ s.cache) }
-    ensures most { IfOk result (λ s. s.cache ≤ 65536) }
+    ensures { IfOk result AreInRange }
 {
     let mut program = program(alloc)?;
     if let Some(options) = read_words(&mut program, words)? {
@@ -30,25 +30,40 @@ pub fn settings(alloc: Global, words: &[String]) -> Result<Options, Error>
 
 // What the words ask the program for; nothing where a number is out of its range, which clap has looked at.
 fn read_words<'a>(program: &mut Command<'a>, words: &'a [String]) -> Result<Option<Options>, Error>
-    ensures ranked { IfOk result (λ asked. IfSome asked (λ s. (1 ≤ s.ranks) × (s.ranks ≤ 16))) }
-    ensures least { IfOk result (λ asked. IfSome asked (λ s. 512 ≤ s.cache)) }
-    ensures most { IfOk result (λ asked. IfSome asked (λ s. s.cache ≤ 65536)) }
+    ensures { IfOk result (λ asked. IfSome asked AreInRange) }
 {
     let matches = program.try_get_matches_from_mut(words)?;
-    Ok(of_script(&matches))
+    if let Some(script) = matches.subcommand_matches("script") {
+        return Ok(of_script(script));
+    }
+    Ok(of_serve(&matches))
 }
 
-// The options of the subcommand `script`, where it was given with numbers in their ranges.
-fn of_script(matches: &ArgMatches) -> Option<Options>
-    ensures ranked { IfSome result (λ s. (1 ≤ s.ranks) × (s.ranks ≤ 16)) }
-    ensures least { IfSome result (λ s. 512 ≤ s.cache) }
-    ensures most { IfSome result (λ s. s.cache ≤ 65536) }
+// The options of the subcommand `script`, where its numbers are in their ranges.
+fn of_script(script: &ArgMatches) -> Option<Options>
+    ensures { IfSome result AreInRange }
 {
-    let script = matches.subcommand_matches("script")?;
     let ranks = script.get_one::<u8>("ranks")?;
     let cache = script.get_one::<u32>("cache")?;
     if 1 <= ranks && ranks <= 16 && 512 <= cache && cache <= 65536 {
-        return Some(Options { ranks, cache });
+        return Some(Options::Script { ranks, cache });
+    }
+    None
+}
+
+// Those of the subcommand `serve`, where it was given with numbers in their ranges.
+fn of_serve(matches: &ArgMatches) -> Option<Options>
+    ensures { IfSome result AreInRange }
+{
+    let serve = matches.subcommand_matches("serve")?;
+    let load = Load {
+        ranks: serve.get_one::<u8>("ranks")?,
+        workers: serve.get_one::<u8>("workers")?,
+        clients: serve.get_one::<u8>("clients")?,
+        creates: serve.get_one::<u16>("creates")?,
+    };
+    if load.is_in_range() {
+        return Some(Options::Serve(load));
     }
     None
 }
@@ -89,7 +104,8 @@ fn program<'a>(alloc: Global) -> Result<Command<'a>, AllocError> {
         .about("A metadata cluster in one process")
         .version("0.1.0")
         .subcommand_required(true)
-        .subcommand(script(alloc)?)
+        .subcommand(script(alloc)?)?
+        .subcommand(serve(alloc)?)
 }
 
 // Its subcommand `script`.
@@ -99,6 +115,26 @@ fn script<'a>(alloc: Global) -> Result<Command<'a>, AllocError> {
         .after_help(LINES)
         .arg(ranks(alloc))?
         .arg(cache(alloc))
+}
+
+// What follows the options of `serve`.
+const SERVE_HELP: &str = "\
+Each client has a directory, c0 for the first. The ranks' threads create f0, f1 and so on in each and
+commit it after each tenth, while the workers encode what is committed. Then it prints how many requests
+were served, whether all replies agree with the history, and every path.
+
+Example:
+  cephmeta serve --ranks 4 --workers 4 --clients 8 --creates 50";
+
+// Its subcommand `serve`.
+fn serve<'a>(alloc: Global) -> Result<Command<'a>, AllocError> {
+    Command::new(alloc, "serve")
+        .about("Serves clients that create files by several threads, and audits the replies")
+        .after_help(SERVE_HELP)
+        .arg(ranks(alloc))?
+        .arg(workers(alloc))?
+        .arg(clients(alloc))?
+        .arg(creates(alloc))
 }
 
 fn ranks<'a>(alloc: Global) -> Arg<'a> {
@@ -117,4 +153,31 @@ fn cache<'a>(alloc: Global) -> Arg<'a> {
         .value_parser(value_parser!(u32).range(512..=65536))
         .default_value("4096")
         .help("Fragments that a rank may cache")
+}
+
+fn workers<'a>(alloc: Global) -> Arg<'a> {
+    Arg::new(alloc, "workers")
+        .long("workers")
+        .value_name("W")
+        .value_parser(value_parser!(u8).range(1..=16))
+        .default_value("1")
+        .help("Threads that encode commits")
+}
+
+fn clients<'a>(alloc: Global) -> Arg<'a> {
+    Arg::new(alloc, "clients")
+        .long("clients")
+        .value_name("C")
+        .value_parser(value_parser!(u8).range(1..=64))
+        .default_value("8")
+        .help("Clients, each with a directory")
+}
+
+fn creates<'a>(alloc: Global) -> Arg<'a> {
+    Arg::new(alloc, "creates")
+        .long("creates")
+        .value_name("K")
+        .value_parser(value_parser!(u16).range(0..=1000))
+        .default_value("50")
+        .help("Files that each client creates")
 }

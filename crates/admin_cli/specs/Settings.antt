@@ -1,0 +1,10 @@
+-- The numbers of a command line.
+use Rattle.std.specs.Prelude.{◌≤◌}
+use Rattle.workload.specs.Loads.{IsLoad}
+use Rattle.admin_cli.specs.declared.command_line.Options.{Options}
+use Rattle.admin_cli.specs.declared.command_line.Options.TheVariants.{Script, Serve}
+
+-- each number is in its range
+abbrev pub AreInRange : Options → Type 0
+AreInRange (Script ranks cache) = (1 ≤ ranks) × (ranks ≤ 16) × (512 ≤ cache) × (cache ≤ 65536)
+AreInRange (Serve load) = IsLoad load.ranks load.workers load.clients load.creates

@@ -1,0 +1,44 @@
+//! A request, answered by one thread.
+ghost use Rattle.std.specs.Prelude.{◌≡◌};
+
+use cluster_core::{Answer, Book, Event};
+use mds_types::{Rank, Refusal, Reply, Request};
+use objstore::MemStore;
+use std::alloc::Global;
+
+/// Sends a request to rank 0 and serves it there, or at the rank to which it is forwarded. Answers its reply, or nothing where
+/// it has none.
+pub(crate) fn ask(alloc: Global, book: &mut Book<MemStore>, request: Request) -> Option<Reply>
+    ensures { book.new.opening ≡ book.old.opening }
+{
+    let client = request.client;
+    let tid = request.tid;
+    let rank = Rank(0);
+    if book.step(alloc, Event::Arrive { rank, request }).is_err() {
+        return None;
+    }
+    let answer = book.step(alloc, Event::Serve { rank });
+    let answer = match answer {
+        Ok(Answer::Forwarded(master)) => book.step(alloc, Event::Serve { rank: master }),
+        other => other,
+    };
+    reply_to(client, tid, answer)
+}
+
+// The reply to this client's request, if the answer is that.
+fn reply_to(client: u64, tid: u64, answer: Result<Answer, Refusal>) -> Option<Reply> {
+    match answer {
+        Ok(
+            Answer::Reply {
+                client: told,
+                tid: number,
+                reply,
+                ..
+            },
+        ) if told == client && number == tid => Some(reply),
+        other => {
+            drop(other);
+            None
+        }
+    }
+}
