@@ -30,7 +30,7 @@ pub fn audit<S: Store + Drop>(
 }
 
 /// Whether each receipt's place holds it, and those marked first name distinct places from a place on.
-#[tactic(auto, using(crate::proofs::ReceiptLaws::marked_none, crate::proofs::ReceiptLaws::stand_end, crate::proofs::ReceiptLaws::stand_at, crate::proofs::ReceiptLaws::stand_back,))]
+#[tactic(auto, using(crate::proofs::ReceiptLaws::marked_none, crate::proofs::ReceiptLaws::stand_end))]
 pub(crate) fn stand(
     alloc: Global,
     history: &[Entry],

@@ -1,5 +1,5 @@
 //! A whole run of `cephmeta serve`.
-ghost use Rattle.std.specs.Prelude.{◌≡◌, ◌⊎◌, IfErr, IfOk};
+ghost use Rattle.std.specs.Prelude.{◌≡◌, ◌⊎◌, IfErr, IfOk, false};
 ghost use Rattle.std.specs.FinMap as map;
 ghost use Rattle.workload.specs.Loads.{IsLoad};
 ghost use Rattle.workload.specs.Reports.{IsText, ServesOut};
@@ -103,6 +103,7 @@ fn run_load<R: Threads + Wait + Sync + AllocGlobal, G: Gate>(
 fn failed(alloc: Global, book: Book<MemStore>, fault: RunFault) -> Result<Printed, u8>
     requires { book.opening ≡ map.empty }
     ensures ok { IfOk result (λ p. IsText p.agrees p.text.items) }
+    ensures strayed { IfOk result (λ p. p.agrees ≡ false) }
     ensures err { IfErr result (λ number. (number ≡ 1) ⊎ (number ≡ 2)) }
 {
     if fault == RunFault::Strayed {
@@ -116,6 +117,7 @@ fn failed(alloc: Global, book: Book<MemStore>, fault: RunFault) -> Result<Printe
 fn reported(alloc: Global, book: Book<MemStore>, agrees: bool) -> Result<Printed, u8>
     requires { book.opening ≡ map.empty }
     ensures ok { IfOk result (λ p. IsText p.agrees p.text.items) }
+    ensures agrees { IfOk result (λ p. p.agrees ≡ agrees) }
     ensures err { IfErr result (λ number. number ≡ 1) }
 {
     let mut book = book;
