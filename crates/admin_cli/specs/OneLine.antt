@@ -1,5 +1,5 @@
 -- One line of a script, from its bytes to what is written of it.
-use Rattle.std.specs.Prelude.{◌≡◌, ◌⊎◌, ℕ, List, [], Option, Some, None, Result, Ok, Err}
+use Rattle.std.specs.Prelude.{◌≡◌, ◌⊎◌, ℕ, ◌-◌, ◌^◌, Bool, true, List, [], Option, Some, None, IfErr, Result, Ok, Err}
 use Rattle.std.specs.Io.KnownBytes.{Appends, Keeps}
 use Rattle.script_text.specs.declared.lines.Line.{Line}
 use Rattle.script_text.specs.declared.lines.Line.TheVariants as line
@@ -30,6 +30,10 @@ Prints before after printed (Err ReadFault) = ⊥
 abbrev pub EndsLine : (old new : Admin) → List ℕ → (before after : Option (List ℕ)) → Result (Unit {0}) FaultKind → Type 0
 EndsLine old new bytes before after (Ok done) = (text : List ℕ) × RunsLine old new bytes text × Appends before after text
 EndsLine old new bytes before after (Err kind) = (front : List ℕ) × StopsAt old bytes kind front × Appends before after front
+
+-- a script that ended with a read fault: its reader has failed, or its lines were more than 64 bits count
+abbrev pub HasReaderFailed : Bool → Result (Unit {0}) ScriptFault → Type 0
+HasReaderFailed failed result = IfErr result (λ fault. fault.kind ≡ ReadFault → (failed ≡ true) ⊎ (fault.line ≡ 2 ^ 64 - 1))
 
 -- lines were run after all memory for reading was taken; or none was
 abbrev pub RunsOrNot : Admin → (known before after : Option (List ℕ)) → Result (Unit {0}) ScriptFault → Type 0

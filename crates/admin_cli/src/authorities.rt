@@ -19,7 +19,8 @@ impl Admin {
         self.step(alloc, Event::Grant { rank, client, tid })
     }
 
-    // Which leaves have a rank of their own? Takes memory for the list of them, which is the script's own: nothing is refused.
+    // Which leaves have a rank of their own? Takes memory for the list of them, which is the script's own: nothing is
+    // refused.
     pub(crate) fn subtrees(&self, alloc: Global) -> Result<OutputLine, AllocError>
         ensures { IfOk result (ListsSubtrees self.now.book.core.state) }
     {

@@ -36,9 +36,9 @@ impl Admin {
         }
     }
 
-    /// Does what a command asks for, and answers the line to print. So many lines were read that one more fits 64 bits. An
-    /// error is want of memory that the script itself needs: for a job that it keeps, once the step has given it; for a copy
-    /// of a job that it kept; or for a list of the subtree map. No step's answer is lost by it but such a job.
+    /// Does what a command asks for, and answers the line to print. So many lines were read that one more fits 64 bits.
+    /// An error is want of memory that the script itself needs: for a job that it keeps, once the step has given it; for
+    /// a copy of a job that it kept; or for a list of the subtree map. No step's answer is lost by it but such a job.
     pub fn execute(&mut self, alloc: Global, command: Command) -> Result<OutputLine, AllocError>
         requires { self.old.operations + 1 < 2 ^ 64 }
         ensures line { IfOk result (Executes self.old self.new command) }

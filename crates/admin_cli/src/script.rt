@@ -1,8 +1,8 @@
 //! Running a script.
-ghost use Rattle.std.specs.Prelude.{◌≡◌, ◌⊎◌, ◌+◌, ◌-◌, ◌<◌, ◌≤◌, ◌^◌, length, true, IfErr, IfSome};
+ghost use Rattle.std.specs.Prelude.{◌≡◌, ◌+◌, ◌<◌, ◌≤◌, ◌^◌, length, IfSome};
 ghost use Rattle.std.specs.FinMap as map;
 ghost use Rattle.admin_cli.specs.Scripts.{IsFormatted, RunsInput, RunsNew};
-ghost use Rattle.admin_cli.specs.OneLine.{AnswersLine, EndsLine, Prints, RunsOrNot};
+ghost use Rattle.admin_cli.specs.OneLine.{AnswersLine, EndsLine, HasReaderFailed, Prints, RunsOrNot};
 
 use crate::commands::Admin;
 use crate::faults::{FaultKind, ScriptFault};
@@ -104,7 +104,7 @@ fn run_lines<R: BufRead, W: Write>(
 ) -> Result<(), ScriptFault>
     requires { admin.old.operations ≡ 0 }
     ensures runs { RunsInput admin.old (R.remaining reader.old) (W.contents writer.old) (W.contents writer.new) result }
-    ensures failed { IfErr result (λ fault. fault.kind ≡ FaultKind.ReadFault → (buffer.new.failed ≡ true) ⊎ (fault.line ≡ 2 ^ 64 - 1)) }
+    ensures failed { HasReaderFailed buffer.new.failed result }
 {
     for line in 1..u64::MAX {
         match next_line(reader, buffer) {

@@ -38,8 +38,8 @@ impl Admin {
         }
     }
 
-    // A commit of a leaf begins, and its job is kept; its number, if there is one. An error says that a job came, and that there was no
-    // memory to keep it.
+    // A commit of a leaf begins, and its job is kept; its number, if there is one. An error says that a job came, and
+    // that there was no memory to keep it.
     fn begin(
         &mut self,
         alloc: Global,

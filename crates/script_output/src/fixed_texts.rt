@@ -1,4 +1,5 @@
-//! Lines whose text is always the same. They are printed where there is no memory for a text, so that a refusal is always told.
+//! Lines whose text is always the same. They are printed where there is no memory for a text, so that a refusal is
+//! always told.
 ghost use Rattle.std.specs.Prelude.{◌≡◌, ◌++◌, codes, IfNone, IfSome};
 ghost use Rattle.script_output.specs.Lines.{output_line};
 ghost use Rattle.script_output.specs.Texts.{refused_line};

@@ -41,8 +41,8 @@ pub enum OutputFault {
     Write,
 }
 
-/// Writes the line and its LF. Takes memory for its text, unless the text is always the same, as that of `nothing` and of a
-/// refusal.
+/// Writes the line and its LF. Takes memory for its text, unless the text is always the same, as that of `nothing` and
+/// of a refusal.
 pub fn write_line<W: Write>(
     alloc: Global,
     writer: &mut W,

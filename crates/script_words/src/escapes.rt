@@ -5,8 +5,9 @@ ghost use Rattle.script_words.specs.Escapes.{bytes_of, onto, hex_byte_of, hex_di
 use crate::numbers::digit;
 use std::alloc::{AllocError, Global};
 
-/// The bytes that a word stands for; none where a `%` is not followed by two hexadecimal digits. Takes memory for the bytes;
-/// where it is wanting, the word is read once more with nothing kept, so there is an error only for a word that stands for some.
+/// The bytes that a word stands for; none where a `%` is not followed by two hexadecimal digits. Takes memory for the
+/// bytes; where it is wanting, the word is read once more with nothing kept, so there is an error only for a word that
+/// stands for some.
 pub fn unescaped(alloc: Global, word: &[u8]) -> Result<Option<Vec<u8>>, AllocError>
     ensures bytes { IfOk result (λ bytes. option_map (λ v. v.items) bytes ≡ bytes_of word.now) }
     ensures memory { OnErr result (is_some (bytes_of word.now) ≡ true) }

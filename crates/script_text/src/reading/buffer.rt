@@ -8,7 +8,8 @@ use std::marker::Model;
 /// The most bytes that a line has, its LF not counted.
 pub const MAX_LINE_LEN: usize = 16_384;
 
-/// Room for one line, the line that was read into it last, and whether a reader of it has failed. Its memory never grows.
+/// Room for one line, the line that was read into it last, and whether a reader of it has failed. Its memory never
+/// grows.
 #[derive(Drop)]
 pub struct LineBuffer {
     bytes: Vec<u8>,
