@@ -26,7 +26,7 @@ printed old new bytes before after found output result short is does prints = at
 
     at : (result : Result (Unit {0}) FaultKind) → Prints before after output result → EndsLine old new bytes before after result
     at (Ok done) wrote = (text_of output, run, wrote)
-    at (Err OutOfMemory) (kept, takes) = ([], (short, inr (inr (record { new = new; printed = output; runs = run; takes = takes })), refl), appends_nothing before after kept)
+    at (Err OutOfMemory) (kept, takes) = ([], (short, inr (inr (record { printed = output; runs = run; takes = takes })), refl), appends_nothing before after kept)
     at (Err WriteFault) wrote = (wrote.front, record { new = new; text = text_of output; runs = run; rest = wrote.rest; left = wrote.left; whole = wrote.whole }, wrote.written)
     at (Err NotCommand) never = absurd never
     at (Err TooLong) never = absurd never
@@ -38,8 +38,8 @@ same_bytes None = tt
 same_bytes (Some bytes) = sym (append-nil bytes)
 
 -- there was no memory to read the line
-pub unread : (old new : Admin) (bytes : List ℕ) (known : Option (List ℕ)) → length bytes ≤ 16384 → TakesMemory bytes → EndsLine old new bytes known known (Err OutOfMemory)
-unread old new bytes known short takes = ([], (short, inl takes, refl), same_bytes known)
+pub unread : (old : Admin) (bytes : List ℕ) (known : Option (List ℕ)) → length bytes ≤ 16384 → TakesMemory bytes → EndsLine old old bytes known known (Err OutOfMemory)
+unread old bytes known short takes = ([], (short, inl (takes, refl), refl), same_bytes known)
 
 -- the line was not answered
 pub unanswered : (old new : Admin) (bytes : List ℕ) (known : Option (List ℕ)) (found : Line) (kind : FaultKind) → length bytes ≤ 16384 → found ≡ line_of bytes → AnswersLine old new found (Err kind)
@@ -47,4 +47,4 @@ pub unanswered : (old new : Admin) (bytes : List ℕ) (known : Option (List ℕ)
 unanswered old new bytes known found kind short is (inl (none, told)) =
     subst (λ k. EndsLine old new bytes known known (Err k)) (sym told) ([], (short, sym is ∙ none, refl), same_bytes known)
 unanswered old new bytes known found kind short is (inr (lacks, told)) =
-    subst (λ k. EndsLine old new bytes known known (Err k)) (sym told) ([], (short, inr (inl (new, subst (LacksLine old new) is lacks)), refl), same_bytes known)
+    subst (λ k. EndsLine old new bytes known known (Err k)) (sym told) ([], (short, inr (inl (subst (LacksLine old new) is lacks)), refl), same_bytes known)

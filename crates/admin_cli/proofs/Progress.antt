@@ -126,12 +126,12 @@ stop_long old now known left before after number r long =
     end old now known left before after after number r (line ∷ others) (Err (record { line = number; kind = TooLong })) [] rest (r.count, (more, refl)) (Appends-nil after)
 
 -- what stops one line stops the lines that begin with it
-stops-first : (old : Admin) (bytes : List ℕ) (others : List (List ℕ)) (kind : FaultKind) (front : List ℕ) → StopsAt old bytes kind front → StopsBefore old (bytes ∷ others) kind front
-stops-first old bytes others NotCommand front stops = stops
-stops-first old bytes others TooLong front stops = absurd stops
-stops-first old bytes others ReadFault front stops = absurd stops
-stops-first old bytes others WriteFault front stops = stops
-stops-first old bytes others OutOfMemory front stops = stops
+stops-first : (old new : Admin) (bytes : List ℕ) (others : List (List ℕ)) (kind : FaultKind) (front : List ℕ) → StopsAt old new bytes kind front → StopsBefore old (bytes ∷ others) kind front
+stops-first old new bytes others NotCommand front stops = (new, stops)
+stops-first old new bytes others TooLong front stops = absurd stops
+stops-first old new bytes others ReadFault front stops = absurd stops
+stops-first old new bytes others WriteFault front stops = (new, stops)
+stops-first old new bytes others OutOfMemory front stops = (new, stops)
 
 -- the lines that are left begin with the one that was read
 first_left : (left after : Option (List ℕ)) (line : List ℕ) → IfSome left (λ bytes. IsFirstLine bytes line after) → (others : List (List ℕ)) × IsLeft left (line ∷ others)
@@ -144,7 +144,7 @@ pub stop_line : (old now new : Admin) (known left rest before mid after : Option
     → RunsInput old known before after (Err (record { line = number; kind = kind }))
 stop_line old now new known left rest before mid after number bytes kind r next (front, stops, wrote) =
     let (others, all) = first_left left rest bytes next in
-    end old now known left before mid after number r (bytes ∷ others) (Err (record { line = number; kind = kind })) front all (r.count, stops-first now bytes others kind front stops) wrote
+    end old now known left before mid after number r (bytes ∷ others) (Err (record { line = number; kind = kind })) front all (r.count, stops-first now new bytes others kind front stops) wrote
 
 -- a line that was read is no fault of the reader's
 pub no_read_fault : (old new : Admin) (bytes : List ℕ) (before after : Option (List ℕ)) (kind : FaultKind) → EndsLine old new bytes before after (Err kind) → kind ≡ ReadFault → ⊥

@@ -29,7 +29,7 @@ Prints before after printed (Err ReadFault) = ⊥
 -- one line that was read: all its text was appended to the known bytes, or a beginning at its fault
 abbrev pub EndsLine : (old new : Admin) → List ℕ → (before after : Option (List ℕ)) → Result (Unit {0}) FaultKind → Type 0
 EndsLine old new bytes before after (Ok done) = (text : List ℕ) × RunsLine old new bytes text × Appends before after text
-EndsLine old new bytes before after (Err kind) = (front : List ℕ) × StopsAt old bytes kind front × Appends before after front
+EndsLine old new bytes before after (Err kind) = (front : List ℕ) × StopsAt old new bytes kind front × Appends before after front
 
 -- a script that ended with a read fault: its reader has failed, or its lines were more than 64 bits count
 abbrev pub HasReaderFailed : Bool → Result (Unit {0}) ScriptFault → Type 0

@@ -61,32 +61,32 @@ LacksLine old new (line.BadWord errno) = ⊥
 LacksLine old new line.NotCommand = ⊥
 
 -- a line was done, and there was no memory for the text that it prints
-pub record LacksText (old : Admin) (bytes : List ℕ) : Type 0 where
-  pub new : Admin
+pub record LacksText (old new : Admin) (bytes : List ℕ) : Type 0 where
   pub printed : OutputLine
   pub runs : RunsLine old new bytes (text_of printed)
   pub takes : TakesText printed
 
--- memory that the script itself needs for a line was refused: to read it, for what its command keeps or lists, or for its text
-abbrev pub LacksMemory : Admin → List ℕ → Type 0
-LacksMemory old bytes = TakesMemory bytes ⊎ (((new : Admin) × LacksLine old new (line_of bytes)) ⊎ LacksText old bytes)
+-- memory that the script itself needs for a line was refused: to read it, which leaves all, for what its command keeps or lists,
+-- or for its text
+abbrev pub LacksMemory : (old new : Admin) → List ℕ → Type 0
+LacksMemory old new bytes = (TakesMemory bytes × (new ≡ old)) ⊎ (LacksLine old new (line_of bytes) ⊎ LacksText old new bytes)
 
 -- why a line that was read ends a script, and the beginning of its text that was written: only a write fault leaves one. What it
 -- is never told as is a fault of the reader, or as too long
-abbrev pub StopsAt : Admin → List ℕ → FaultKind → List ℕ → Type 0
-StopsAt old bytes NotCommand front = (length bytes ≤ 16384) × (line_of bytes ≡ line.NotCommand) × (front ≡ [])
-StopsAt old bytes TooLong front = ⊥
-StopsAt old bytes ReadFault front = ⊥
-StopsAt old bytes WriteFault front = BreaksOff old bytes front
-StopsAt old bytes OutOfMemory front = (length bytes ≤ 16384) × LacksMemory old bytes × (front ≡ [])
+abbrev pub StopsAt : (old new : Admin) → List ℕ → FaultKind → List ℕ → Type 0
+StopsAt old new bytes NotCommand front = (length bytes ≤ 16384) × (line_of bytes ≡ line.NotCommand) × (front ≡ [])
+StopsAt old new bytes TooLong front = ⊥
+StopsAt old new bytes ReadFault front = ⊥
+StopsAt old new bytes WriteFault front = BreaksOff old bytes front
+StopsAt old new bytes OutOfMemory front = (length bytes ≤ 16384) × LacksMemory old new bytes × (front ≡ [])
 
 -- why a script ends before these lines: at the first of them, which is too long before all else; or the reader failed
 abbrev pub StopsBefore : Admin → List (List ℕ) → FaultKind → List ℕ → Type 0
-StopsBefore old lines NotCommand front = OfFirst (λ bytes. StopsAt old bytes NotCommand front) lines
+StopsBefore old lines NotCommand front = OfFirst (λ bytes. (new : Admin) × StopsAt old new bytes NotCommand front) lines
 StopsBefore old lines TooLong front = OfFirst (λ bytes. 16384 < length bytes) lines × (front ≡ [])
 StopsBefore old lines ReadFault front = front ≡ []
-StopsBefore old lines WriteFault front = OfFirst (λ bytes. StopsAt old bytes WriteFault front) lines
-StopsBefore old lines OutOfMemory front = OfFirst (λ bytes. StopsAt old bytes OutOfMemory front) lines
+StopsBefore old lines WriteFault front = OfFirst (λ bytes. (new : Admin) × StopsAt old new bytes WriteFault front) lines
+StopsBefore old lines OutOfMemory front = OfFirst (λ bytes. (new : Admin) × StopsAt old new bytes OutOfMemory front) lines
 
 -- how a script ended after so many lines: Ok where none is left, else a fault at the next one, all lines counted from 1
 abbrev pub Ends : Admin → ℕ → List (List ℕ) → Result (Unit {0}) ScriptFault → List ℕ → Type 0
