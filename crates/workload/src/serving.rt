@@ -1,6 +1,7 @@
 //! A whole run of `cephmeta serve`.
 ghost use Rattle.std.specs.Prelude.{◌≡◌, ◌⊎◌, IfErr, IfOk, false};
 ghost use Rattle.std.specs.FinMap as map;
+ghost use Rattle.cluster_core.specs.Sound.{IsSoundBook};
 ghost use Rattle.workload.specs.Loads.{IsLoad};
 ghost use Rattle.workload.specs.Reports.{IsText, ServesOut};
 
@@ -101,7 +102,8 @@ fn run_load<R: Threads + Wait + Sync + AllocGlobal, G: Gate>(
 
 // What a run prints that gave no outcome: at a reply that the history doesn't hold the same as at success, but for one word.
 fn failed(alloc: Global, book: Book<MemStore>, fault: RunFault) -> Result<Printed, u8>
-    requires { book.opening ≡ map.empty }
+    requires sound { IsSoundBook book }
+    requires opening { book.opening ≡ map.empty }
     ensures ok { IfOk result (λ p. IsText p.agrees p.text.items) }
     ensures strayed { IfOk result (λ p. p.agrees ≡ false) }
     ensures err { IfErr result (λ number. (number ≡ 1) ⊎ (number ≡ 2)) }
@@ -115,7 +117,8 @@ fn failed(alloc: Global, book: Book<MemStore>, fault: RunFault) -> Result<Printe
 
 // What a run prints.
 fn reported(alloc: Global, book: Book<MemStore>, agrees: bool) -> Result<Printed, u8>
-    requires { book.opening ≡ map.empty }
+    requires sound { IsSoundBook book }
+    requires opening { book.opening ≡ map.empty }
     ensures ok { IfOk result (λ p. IsText p.agrees p.text.items) }
     ensures agrees { IfOk result (λ p. p.agrees ≡ agrees) }
     ensures err { IfErr result (λ number. number ≡ 1) }
