@@ -198,7 +198,7 @@ loaded_is_clean frag object f spelt = go (is_clean f) (loaded_clean frag object 
     go false none = let clash : Some what ≡ None = none in absurd cc
 
 module _ (Uses Ends : ℕ → Leaf → Type 0) (objects : Objects) (old : CacheMap) (valid : AreCaches old) (ranks : (r : ℕ) (leaf : Leaf) → Uses r leaf → r < length old.used) where
-  there_mid : (mid : CacheMap) → Reads Uses Ends objects old mid → (r : ℕ) (leaf : Leaf) → Uses r leaf → r < length mid.used
+  pub there_mid : (mid : CacheMap) → Reads Uses Ends objects old mid → (r : ℕ) (leaf : Leaf) → Uses r leaf → r < length mid.used
   there_mid mid reads r leaf named = subst (λ (n : ℕ). r < n) (sym (came_ranks Uses Ends old mid (reads_came Uses Ends objects old mid reads))) (ranks r leaf named)
 
   -- each fragment has its place between them

@@ -5,6 +5,7 @@ pub mod ChildLaws
 pub mod CommitSteps
 pub mod CountLaws
 pub mod EditLaws
+pub mod EndedLaws
 pub mod FixedLaws
 pub mod FixedPlaces
 pub mod ForgetLaws

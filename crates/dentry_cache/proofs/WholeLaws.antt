@@ -1,18 +1,27 @@
--- A place in which its fragment is stays so: where no place is kept, each step of a read keeps none.
+-- A place in which its fragment is stays so: where no place is kept, reads keep none.
 use Rattle.std.proofs.Common.{◌≡◌, ℕ, ◌<◌, Bool, true, false, cond, ◌&&◌, ◌⊎◌, inl, inr, List, length, is_some, Option, Some, None, refl, sym, ap, subst, ◌∙◌}
 use Rattle.std.specs.Prelude.{◌==◌}
 use Rattle.std.specs.List.{IsDistinct}
 use Rattle.std.specs.FinMap as finmap
 use Rattle.sorted_map.proofs.NatKeys.{is_apart, is_same, same_or_apart}
+use Rattle.mds_types.specs.declared.ids.Ino.{Ino}
+use Rattle.mds_types.specs.Frag.{Fragment}
+use Rattle.objstore.specs.Objects.{Objects}
 use Rattle.omap.specs.Omap.{Omap}
 use Rattle.commit_jobs.specs.declared.marks.Mark.{Mark}
 use Rattle.cached_frag.specs.Cached.{Cached, marked}
 use Rattle.dentry_cache.specs.Cache.{IsThere, Leaf, leaf_is}
 use Rattle.dentry_cache.specs.CacheCalls.{Edits, FetchesAt, IsWhole, KeepsNone, MakesRoomAt}
 use Rattle.dentry_cache.specs.CacheMap.{AreCaches, At, CacheMap, IsFree, IsFreeFor, at_rank, edited_as, given_up, has_place, here, order, roomy, used_at, with_frag, with_mark}
-use Rattle.dentry_cache.proofs.LeafLaws.{one_leaf}
+use Rattle.dentry_cache.specs.CacheSplits.{AreAbsent, IsChildAt, IsFamilyAt}
+use Rattle.dentry_cache.specs.Reads.{Reads}
+use Rattle.dentry_cache.specs.Reads.Reads.{stays as it_stays, uses, grows, loads, room, frees}
+use Rattle.dentry_cache.proofs.FrameLaws.{came_ranks}
+use Rattle.dentry_cache.proofs.LacksLaws.{reads_placed, there_mid}
+use Rattle.dentry_cache.proofs.LeafLaws.{leaf_or_apart, one_leaf, same_leaf}
 use Rattle.dentry_cache.proofs.MapCalls.{free_roomy}
 use Rattle.dentry_cache.proofs.MapLaws.{here_free}
+use Rattle.dentry_cache.proofs.ReadsLaws.{reads_came}
 use Rattle.dentry_cache.proofs.StepLaws.{by_edits, by_room, has_given_up, here_given_up, here_put, here_with_frag, placed_given_up, placed_used}
 
 -- a leaf that is used, and is there
@@ -93,3 +102,67 @@ pub none_fetched : (old new : CacheMap) (r : ℕ) (leaf : Leaf) (stay : Option L
 none_fetched old new r leaf stay object true there valid none seen is = none_used old new r leaf (none r leaf seen) none is
 none_fetched old new r leaf stay object false there valid none seen f =
     none_with_frag f.3 new r leaf f.1 (free_roomy old f.3 r stay leaf f.4 (subst (IsFree r) (sym f.0) tt)) (none_roomy old f.3 r stay there valid none f.4) f.5
+
+-- ---- reads keep places for leaves alone that they name
+
+module _ (Uses Ends : ℕ → Leaf → Type 0) (objects : Objects) (old : CacheMap) (valid : AreCaches old) (ranks : (r : ℕ) (leaf : Leaf) → Uses r leaf → r < length old.used) (ended : (r : ℕ) (leaf : Leaf) → Ends r leaf → r < length old.used)
+    (whole : (s : ℕ) (q : Leaf) → IsWhole old s q ⊎ Uses s q) where
+  -- where one of the steps leaves what is whole, or names it
+  then_whole : (c new : CacheMap) (s : ℕ) (q : Leaf) → (IsWhole c s q → IsWhole new s q) → IsWhole c s q ⊎ Uses s q → IsWhole new s q ⊎ Uses s q
+  then_whole c new s q so (inl is) = inl (so is)
+  then_whole c new s q so (inr named) = inr named
+
+  pub reads_whole : (new : CacheMap) → Reads Uses Ends objects old new → (s : ℕ) (q : Leaf) → IsWhole new s q ⊎ Uses s q
+  reads_whole _ it_stays s q = whole s q
+  reads_whole _ (uses mid r leaf before named) s q = go (same_or_apart s r) (leaf_or_apart q leaf) (reads_whole mid before s q)
+    where
+      beside : ((s ≡ r) × (q ≡ leaf) → ⊥) → IsWhole mid s q → IsWhole (used_at mid r leaf) s q
+      beside apart is placed = by (placed_used mid r leaf s q placed)
+        where
+          by : (has_place mid s q ≡ true) ⊎ ((s ≡ r) × (q ≡ leaf)) → IsThere (here mid s q)
+          by (inl was) = is was
+          by (inr one) = absurd (apart one)
+
+      go : (s ≡ r) ⊎ (s ≡ r → ⊥) → (q ≡ leaf) ⊎ (leaf_is q leaf ≡ false) → IsWhole mid s q ⊎ Uses s q → IsWhole (used_at mid r leaf) s q ⊎ Uses s q
+      go (inl rank) (inl one) was = inr (subst (λ (k : ℕ). Uses k q) (sym rank) (subst (Uses r) (sym one) named))
+      go (inl rank) (inr apart) was = then_whole mid (used_at mid r leaf) s q (beside (λ both. let clash : true ≡ false = sym (same_leaf q leaf both.1) ∙ apart in absurd cc)) was
+      go (inr other) either was = then_whole mid (used_at mid r leaf) s q (beside (λ both. other both.0)) was
+  reads_whole _ (grows mid r leaf f now before named seen same) s q =
+      then_whole mid (with_frag mid r leaf now) s q (whole_with_frag mid r leaf now s q (here_free r (finmap.get mid.held leaf) (ap (λ (o : Option Cached). is_some o) seen))) (reads_whole mid before s q)
+  reads_whole _ (loads mid r leaf f before named none spelt) s q = then_whole mid (with_frag mid r leaf f) s q (whole_with_frag mid r leaf f s q (subst (IsFree r) (sym none) tt)) (reads_whole mid before s q)
+  reads_whole _ (room mid new r leaf stay before named none kept is) s q =
+      then_whole mid new s q
+      (whole_roomy mid new r stay s q (there_mid Uses Ends objects old valid ranks mid before r leaf named) ((reads_placed Uses Ends objects old valid ranks mid before).distinct r) is) (reads_whole mid before s q)
+  reads_whole _ (frees mid r leaf before named none) s q =
+      then_whole mid (given_up mid r leaf) s q
+      (whole_given_up mid r leaf s q (subst (λ (n : ℕ). r < n) (sym (came_ranks Uses Ends old mid (reads_came Uses Ends objects old mid before))) (ended r leaf named)) ((reads_placed Uses Ends objects old valid ranks mid before).distinct r))
+      (reads_whole mid before s q)
+
+-- ---- what is made ready for a split
+
+module _ (r : ℕ) (dir : Ino) (frag : Fragment) (bits : ℕ) (objects : Objects) (old new : CacheMap) (there : r < length old.used) (valid : AreCaches old) (none : KeepsNone old)
+    (reads : Reads (IsFamilyAt r dir frag bits) (IsChildAt r dir frag bits) objects old new) (stays : IsThere (here new r (dir, frag))) where
+  family_ranks : (s : ℕ) (q : Leaf) → IsFamilyAt r dir frag bits s q → s < length old.used
+  family_ranks s q (inl it) = subst (λ (k : ℕ). k < length old.used) (sym it.0) there
+  family_ranks s q (inr child) = subst (λ (k : ℕ). k < length old.used) (sym child.0) there
+
+  child_ranks : (s : ℕ) (q : Leaf) → IsChildAt r dir frag bits s q → s < length old.used
+  child_ranks s q child = subst (λ (k : ℕ). k < length old.used) (sym child.0) there
+
+  -- places are kept for the children alone
+  pub readies_whole : (s : ℕ) (q : Leaf) → IsWhole new s q ⊎ IsChildAt r dir frag bits s q
+  readies_whole s q = go (reads_whole (IsFamilyAt r dir frag bits) (IsChildAt r dir frag bits) objects old valid family_ranks child_ranks (λ s q. inl (none s q)) new reads s q)
+    where
+      go : IsWhole new s q ⊎ IsFamilyAt r dir frag bits s q → IsWhole new s q ⊎ IsChildAt r dir frag bits s q
+      go (inl is) = inl is
+      go (inr (inl it)) = inl (λ placed. subst (λ (k : ℕ). IsThere (here new k q)) (sym it.0) (subst (λ (l : Leaf). IsThere (here new r l)) (sym it.1) stays))
+      go (inr (inr child)) = inr child
+
+  -- and for none, where that was refused
+  pub refused_whole : AreAbsent new r dir frag bits → KeepsNone new
+  refused_whole absent s q placed = go (readies_whole s q)
+    where
+      go : IsWhole new s q ⊎ IsChildAt r dir frag bits s q → IsThere (here new s q)
+      go (inl is) = is placed
+      go (inr child) =
+          let clash : true ≡ false = sym placed ∙ ap (λ (k : ℕ). has_place new k q) child.0 ∙ ap (has_place new r) child.3 ∙ (absent child.1 child.2).0 in absurd cc

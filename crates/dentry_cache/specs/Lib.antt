@@ -7,6 +7,7 @@ pub mod Came
 pub mod Changes
 pub mod Commits
 pub mod Divided
+pub mod Ended
 pub mod Fetches
 pub mod Leaving
 pub mod Lending

@@ -298,6 +298,7 @@ impl Caches {
         ensures none { OnErr result (evicted self.old rank.0 None ≡ None) }
         ensures same { OnErr result (self.new ≡ self.old) }
         ensures refused { IfErr result (λ refusal. refusal ≡ NothingToEvict) }
+        ensures valid { AreCaches self.old }
     {
         self.caches[rank.0 as usize].evict()
     }

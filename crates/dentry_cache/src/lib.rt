@@ -24,6 +24,7 @@ mod splitting;
 // the caches of all ranks, each with the same number of places, as one map of fragments
 mod caches;
 mod dirfrag;
+mod ending;
 mod splits;
 
 // the same as a list of caches, which is lent cache by cache

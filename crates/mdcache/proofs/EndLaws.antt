@@ -2,6 +2,7 @@
 use Rattle.std.proofs.Common.{◌≡◌, inl, ℕ, ◌<◌, Bool, true, false, cond, not, List, Option, Some, None, refl, sym, ap, subst, ◌∙◌, arith}
 use Rattle.std.specs.Prelude.{◌==◌, is_some}
 use Rattle.std.proofs.lemmas.Bool.{eqb-true}
+use Rattle.std.proofs.lemmas.Option.{same_Some}
 use Rattle.std.specs.Ordering.{eq_by_cmp}
 use Rattle.std.specs.FinMap as map
 use Rattle.std.specs.FinMap.{empty_of_len}
@@ -21,17 +22,21 @@ use Rattle.commit_jobs.specs.Snap.{Snap, next_version}
 use Rattle.cached_frag.specs.Cached.{Cached, is_clean, is_clean_over, is_settled, shown, shown_over, unsettled}
 use Rattle.cached_frag.proofs.SettledLaws.{get-unsettled}
 use Rattle.dentry_cache.specs.Loading.{object_of}
-use Rattle.dentry_cache.specs.Cache.{Held, Leaf, Unsaved, cached, held, leaf_is, unsaved, unsaved_of, used_as, with_unsaved}
+use Rattle.dentry_cache.specs.Cache.{Leaf, Unsaved, leaf_is, unsaved_of, with_unsaved}
+use Rattle.dentry_cache.specs.CacheMap.{At, at, here as here_of, unclean, unsaved_at, with_frag}
 use Rattle.dentry_cache.specs.Commits.{IsCommitted}
 use Rattle.dentry_cache.specs.Ties.{Commits, IsRight, IsTied, Keeps, names_at, object_after}
+use Rattle.dentry_cache.proofs.CacheLaws.{unsaved_here as unsaved_here_at}
+use Rattle.dentry_cache.proofs.UncleanLaws.{get_unclean, unclean_with}
 use Rattle.dentry_cache.proofs.LeafLaws.{flips, leaf_itself, one_leaf, same_leaf}
 use Rattle.dentry_cache.proofs.TieLaws.{committed_are_tied, tied_show}
-use Rattle.mdcache.specs.Cached.{IsKept}
+use Rattle.mdcache.specs.Core.{AreCached, Core, IsCachedIn, IsSoundCore, state_of}
 use Rattle.mdcache.specs.Commits.{HasSpelled, IsEnded, committed, leaf_of, left_of, names_then}
 use Rattle.mdcache.specs.Shown.{names_of, shown_at, shown_tree}
 use Rattle.mdcache.specs.Sound.{AreYoung, IsOf, IsOwned, IsSaved, IsSound, IsStanding, IsUnsaved}
 use Rattle.mdcache.specs.State.{IsLive, State, text_of}
-use Rattle.mdcache.proofs.CachedLaws.{cached_after, get_with, is_cached, unsaved_after}
+use Rattle.dentry_cache.proofs.ReadsLaws.{here_is}
+use Rattle.dentry_cache.proofs.StepLaws.{get_with_frag}
 use Rattle.mdcache.proofs.SoundLaws.{get_ended, names_alike, stood_before}
 use Rattle.mdcache.proofs.TextLaws.{one_text}
 use Rattle.mdcache.proofs.TreeLaws.{tree_alike}
@@ -54,10 +59,21 @@ cached_shows f object tie = go (is_clean f) refl
     go true clean = clean_shows f.base refl clean ∙ sym (tied_show f object tie)
     go false dirty = sym (tied_show f object tie)
 
+-- what a fragment that isn't clean has beyond its object
+beyond_is : (f : Cached) (u : Unsaved) → unsaved_of f ≡ Some u → record { base = f.base; generation = f.generation; dirty = f.dirty } ≡ u
+beyond_is f u is = go (is_clean f) is
+  where
+    go : (b : Bool) → cond b None (Some (record { base = f.base; generation = f.generation; dirty = f.dirty })) ≡ Some u → record { base = f.base; generation = f.generation; dirty = f.dirty } ≡ u
+    go true h = let clash : None ≡ Some u = h in cc
+    go false h = same_Some (record { base = f.base; generation = f.generation; dirty = f.dirty }) u h
+
 -- ---- a commit ended
 
-module _ (s : State) (job : Job) (old : Held) (kept : IsKept s old) (view : s.unsaved ≡ unsaved old.entries) (stood : map.get s.jobs (leaf_of job) ≡ Some job)
-    (f now : Cached) (there : cached old.entries (leaf_of job) ≡ Some f) (done : IsCommitted job.snapshot f now) where
+module _ (c : Core) (r : ℕ) (job : Job) (kept : IsSoundCore c) (stood : map.get c.jobs (leaf_of job) ≡ Some job)
+    (f now : Cached) (at_rank : here_of c.caches r (leaf_of job) ≡ Some f) (done : IsCommitted job.snapshot f now) where
+  abbrev s : State
+  s = state_of c
+
   abbrev pub leaf : Leaf
   leaf = leaf_of job
 
@@ -76,17 +92,17 @@ module _ (s : State) (job : Job) (old : Held) (kept : IsKept s old) (view : s.un
   abbrev pub u : Unsaved
   u = stands.unsaved
 
-  was_there : map.get (unsaved old.entries) leaf ≡ Some u
-  was_there = ap (λ m. map.get m leaf) (sym view) ∙ stands.beside
+  held : map.get c.caches.held leaf ≡ Some (at r f)
+  held = here_is r (map.get c.caches.held leaf) f at_rank
+
+  beyond : unsaved_of f ≡ Some u
+  beyond = sym (get_unclean c.caches leaf ∙ ap unsaved_at held) ∙ stands.beside
 
   its_own : u ≡ record { base = f.base; generation = f.generation; dirty = f.dirty }
-  its_own =
-      let c = is_cached old leaf u was_there in
-      let one : c.0 ≡ f = let both : Some c.0 ≡ Some f = sym c.1 ∙ there in cc in
-      c.3 ∙ ap (λ (g : Cached). record { base = g.base; generation = g.generation; dirty = g.dirty }) one
+  its_own = sym (beyond_is f u beyond)
 
   tie : IsTied f object
-  tie = kept.tied leaf f there
+  tie = (kept.cached leaf (at r f) held).tied
 
   commits : Commits snap f object
   commits =
@@ -121,14 +137,14 @@ module _ (s : State) (job : Job) (old : Held) (kept : IsKept s old) (view : s.un
       let based = done.based in
       λ i. cond (is_clean_over (based i) (dirty i)) None (Some (record { base = based i; generation = generation i; dirty = dirty i }))
 
-  pub now_unsaved : unsaved (used_as leaf (held now) old).entries ≡ t.unsaved
-  now_unsaved = unsaved_after leaf now old ∙ (λ i. with_unsaved (sym view i) leaf (left_unsaved i))
+  pub now_unclean : unclean (with_frag c.caches r leaf now) ≡ t.unsaved
+  now_unclean = unclean_with c.caches r leaf now ∙ (λ i. with_unsaved (unclean c.caches) leaf (left_unsaved i))
 
   unsaved_here : map.get t.unsaved leaf ≡ left_of u snap
-  unsaved_here = get_with s.unsaved leaf leaf (left_of u snap) ∙ ap (λ (b : Bool). cond b (left_of u snap) (map.get s.unsaved leaf)) (leaf_itself leaf)
+  unsaved_here = unsaved_here_at s.unsaved leaf leaf (left_of u snap) ∙ ap (λ (b : Bool). cond b (left_of u snap) (map.get s.unsaved leaf)) (leaf_itself leaf)
 
   unsaved_beside : (q : Leaf) → leaf_is q leaf ≡ false → map.get t.unsaved q ≡ map.get s.unsaved q
-  unsaved_beside q apart = get_with s.unsaved leaf q (left_of u snap) ∙ ap (λ (b : Bool). cond b (left_of u snap) (map.get s.unsaved q)) apart
+  unsaved_beside q apart = unsaved_here_at s.unsaved leaf q (left_of u snap) ∙ ap (λ (b : Bool). cond b (left_of u snap) (map.get s.unsaved q)) apart
 
   -- what is shown
 
@@ -139,10 +155,7 @@ module _ (s : State) (job : Job) (old : Held) (kept : IsKept s old) (view : s.un
       ∙ (λ i. shown_at (back i) object)
     where
       back : unsaved_of f ≡ map.get s.unsaved leaf
-      back =
-          let c = is_cached old leaf u was_there in
-          let one : c.0 ≡ f = let both : Some c.0 ≡ Some f = sym c.1 ∙ there in cc in
-          ap (λ (b : Bool). cond b None (Some (record { base = f.base; generation = f.generation; dirty = f.dirty }))) (ap is_clean (sym one) ∙ c.2) ∙ ap (λ (v : Unsaved). Some v) (sym its_own) ∙ sym stands.beside
+      back = beyond ∙ sym stands.beside
 
   shows : (q : Leaf) → IsLive s.homes s.covers q → names_of t.unsaved t.objects q ≡ names_of s.unsaved s.objects q
   shows q is = go (leaf_is q leaf) refl
@@ -240,35 +253,21 @@ module _ (s : State) (job : Job) (old : Held) (kept : IsKept s old) (view : s.un
     once = λ a b i j p q same. kept.sound.once a b i j (stood_before s leaf a i p) (stood_before s leaf b j q) same;
   }
 
-  tied_stays : (q : Leaf) (g : Cached) → cached (used_as leaf (held now) old).entries q ≡ Some g → IsTied g (object_of t.objects q.0 q.1)
-  tied_stays q g is = go (leaf_is leaf q) refl (sym (cached_after leaf q now old) ∙ is)
+  pub ended_cached : AreCached t (with_frag c.caches r leaf now)
+  ended_cached q a is = go (leaf_is q leaf) refl (sym (get_with_frag c.caches r leaf now q) ∙ is)
     where
-      go : (b : Bool) → leaf_is leaf q ≡ b → cond b (Some now) (cached old.entries q) ≡ Some g → IsTied g (object_of t.objects q.0 q.1)
-      go true same h =
-          let one : now ≡ g = cc in
-          subst (λ (l : Leaf). IsTied g (object_of t.objects l.0 l.1)) (one_leaf leaf q same) (subst (IsTied g) (sym object_here) (subst (λ (k : Cached). IsTied k (Some here)) one right.tied))
-      go false apart h = subst (IsTied g) (sym (object_beside q (kept.live q g h) (flips q leaf ∙ apart))) (kept.tied q g h)
+      mine : IsCachedIn t leaf now
+      mine = record {
+        live = live;
+        tied = subst (IsTied now) (sym object_here) right.tied;
+        made = (let given = (kept.cached leaf (at r f) held).made in let generation = done.generation in omega (arith, given, generation));
+      }
 
-  live_stays : (q : Leaf) (g : Cached) → cached (used_as leaf (held now) old).entries q ≡ Some g → IsLive s.homes s.covers q
-  live_stays q g is = go (leaf_is leaf q) refl (sym (cached_after leaf q now old) ∙ is)
-    where
-      go : (b : Bool) → leaf_is leaf q ≡ b → cond b (Some now) (cached old.entries q) ≡ Some g → IsLive s.homes s.covers q
-      go true same h = subst (IsLive s.homes s.covers) (one_leaf leaf q same) live
-      go false apart h = kept.live q g h
-
-  made_stays : (q : Leaf) (g : Cached) → cached (used_as leaf (held now) old).entries q ≡ Some g → g.generation < s.next_generation
-  made_stays q g is = go (leaf_is leaf q) refl (sym (cached_after leaf q now old) ∙ is)
-    where
-      go : (b : Bool) → leaf_is leaf q ≡ b → cond b (Some now) (cached old.entries q) ≡ Some g → g.generation < s.next_generation
-      go true same h =
-          let one : now ≡ g = cc in
-          let given = kept.made.given leaf f there in
-          let generation : g.generation ≡ f.generation = ap (λ (k : Cached). k.generation) (sym one) ∙ done.generation in
-          omega (arith, given, generation)
-      go false apart h = kept.made.given q g h
-
-  pub ended_kept : IsKept t (used_as leaf (held now) old)
-  ended_kept = record { sound = ended_sound; live = live_stays; tied = tied_stays; made = record { begun = kept.made.begun; given = made_stays } }
+      go : (b : Bool) → leaf_is q leaf ≡ b → cond b (Some (at r now)) (map.get c.caches.held q) ≡ Some a → IsCachedIn t q a.frag
+      go true one h = subst (λ (l : Leaf). IsCachedIn t l a.frag) (sym (one_leaf q leaf one)) (subst (IsCachedIn t leaf) (ap (λ (x : At). x.frag) (same_Some (at r now) a h)) mine)
+      go false apart h =
+          let was = kept.cached q a h in
+          record { live = was.live; tied = subst (IsTied a.frag) (sym (object_beside q was.live apart)) was.tied; made = was.made }
 
   pub ended : IsEnded s t job
   ended = record { stood = stood; unsaved = u; beside = stands.beside; left = refl; spelled = subst (λ o. HasSpelled o (next_version snap.base) (names_then snap object)) (sym object_here) spells; tree = tree_stays }

@@ -41,34 +41,6 @@ use Rattle.mdcache.specs.Ready.{MayNotBeReady}
 use Rattle.mdcache.specs.Shown.{shown_tree}
 use Rattle.mdcache.specs.State.{State}
 
--- ---- inodes that a record allows
-
--- a new inode has the size of its kind
-pub new_recordable : (tree : Tree) (dentry : Dentry) (inode : Inode) → MayAdd tree dentry inode → IsRankNumber inode.ino.0 → inode.mode ≤ 4095 → HasTarget inode.kind → IsRecordable inode
-new_recordable tree dentry inode may number mode target = record { number = number; mode = mode; size = may.sized; target = target }
-
-no_errno : (errno : ℕ) → Some errno ≡ None → ⊥
-no_errno errno h = cc
-
--- a size that may be given is one of the kind
-size_stays : (kind : Kind) (given : Option ℕ) (size : ℕ) → size_errno kind given ≡ None → HasSize kind size → HasSize kind (unwrap_or given size)
-size_stays File given size allowed has = tt
-size_stays Dir None size allowed has = has
-size_stays Dir (Some other) size allowed has = absurd (no_errno 21 allowed)
-size_stays (Link target) None size allowed has = has
-size_stays (Link target) (Some other) size allowed has = absurd (no_errno 22 allowed)
-
--- an inode with other attributes is allowed where it was before
-pub set_recordable : (tree : Tree) (dentry : Dentry) (inode : Inode) → MaySet tree dentry inode → IfSome (map.get tree dentry) IsRecordable → inode.mode ≤ 4095 → HasTarget inode.kind → IsRecordable inode
-set_recordable tree dentry inode may recorded mode target =
-    let before : IsRecordable may.before = subst (λ (o : Option Inode). IfSome o IsRecordable) may.stands recorded in
-    record {
-      number = subst (λ (i : Inode). IsRankNumber i.ino.0) (sym may.is) before.number;
-      mode = mode;
-      size = subst (λ (i : Inode). HasSize i.kind i.size) (sym may.is) (size_stays may.before.kind may.given.size may.before.size may.allowed before.size);
-      target = target;
-    }
-
 -- ---- directories
 
 -- a number that is unused is no directory's

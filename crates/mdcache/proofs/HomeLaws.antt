@@ -141,7 +141,7 @@ module _ (s : State) (sound : HasSoundLeaves s) (dentry : Dentry) (dir : Ino) (c
   pub grown_live : (leaf : Leaf) → IsLive s.homes s.covers leaf → IsLive grown.homes s.covers leaf
   grown_live leaf live = record { known = still_known s.homes dir.0 (home_at dentry) leaf.0.0 live.known; stands = live.stands }
 
-  first_live : IsLive grown.homes s.covers first
+  pub first_live : IsLive grown.homes s.covers first
   first_live = record {
     known = known_by grown.homes dir.0 (Some (home_at dentry)) (get_home s.homes dir.0 (home_at dentry)) refl;
     stands = subst (λ (fs : List Fragment). HasLeaf fs root_fragment) (sym no_row) (zero, omega arith, refl);

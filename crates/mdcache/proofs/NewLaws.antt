@@ -1,11 +1,11 @@
 -- The state over an empty store is sound.
 use Rattle.std.proofs.Common.{◌≡◌, ℕ, zero, suc, ◌==◌, ◌||◌, Bool, true, false, cond, [], ◌∷◌, ◌++◌, Option, Some, None, refl, sym, ap, subst, ◌∙◌, arith}
-use Rattle.std.specs.Prelude.{is_some, map as each}
-use Rattle.std.specs.List.{Contains}
+use Rattle.std.specs.Prelude.{get_or, is_some, map as each, replicate}
+use Rattle.std.specs.List.{Contains, list_any}
 use Rattle.std.proofs.lemmas.Bool.{eqb-true}
 use Rattle.std.specs.Ordering.{nat_cmp}
 use Rattle.std.specs.FinMap as map
-use Rattle.std.specs.FinMap.{get-empty, get-from_entries, len-empty, same_map}
+use Rattle.std.specs.FinMap.{get-empty, get-from_entries, get-insert, len-empty, same_map}
 use Rattle.sorted_map.proofs.OverlayLaws.{none_entries}
 use Rattle.mds_types.specs.Frag.{root_fragment}
 use Rattle.mds_types.specs.Tree.{dentry_cmp}
@@ -17,22 +17,25 @@ use Rattle.dirfrag_codec.specs.FragmentObject.{Names}
 use Rattle.commit_jobs.specs.declared.marks.Mark.{Mark}
 use Rattle.cached_frag.specs.Cached.{Cached}
 use Rattle.dentry_cache.specs.Loading.{object_of}
-use Rattle.dentry_cache.specs.Cache.{Held, Leaf, Places, Unsaved, cached, fragment_in, held, leaf_is, unsaved}
-use Rattle.dentry_cache.specs.Ties.{IsTied}
-use Rattle.dentry_cache.proofs.LeafLaws.{leaf_itself, one_leaf}
-use Rattle.inode_table.specs.Dirs.{Covers, Homes, IsTable, Table, is_known, leaves_of, or_whole}
+use Rattle.dentry_cache.specs.Cache.{Leaf, Unsaved, leaf_cmp, leaf_is}
+use Rattle.dentry_cache.specs.CacheCalls.{KeepsNone}
+use Rattle.dentry_cache.specs.CacheMap.{CacheMap, IsFree, IsFreeFor, no_caches, unclean, unsaved_at}
+use Rattle.dentry_cache.proofs.LeafLaws.{leaf-exact, leaf-total, leaf_itself, one_leaf, tied_leaf}
+use Rattle.dentry_cache.proofs.UncleanLaws.{get_unclean, unclean_with}
+use Rattle.dentry_cache.proofs.WholeLaws.{none_with_frag}
+use Rattle.inode_table.specs.Dirs.{Covers, Homes, IsTable, is_known, leaves_of, or_whole}
 use Rattle.inode_table.specs.TreeTable.{IsTabled}
 use Rattle.inode_table.proofs.TableLaws.{empty_tabled}
-use Rattle.mdcache.specs.StandingJobs.{Standing, leaf_cmp}
-use Rattle.mdcache.specs.PurgeList.{Listed}
-use Rattle.mdcache.specs.declared.steps.counters.Counters.{Counters}
-use Rattle.lru.specs.LruCache.{lru_cache}
-use Rattle.mdcache.specs.Cached.{IsKept, state_of}
-use Rattle.mdcache.specs.New.{cached_root, new_root, new_state, root_leaf}
+use Rattle.omap.specs.Omap.{Keys}
+use Rattle.mdcache.specs.StandingJobs.{Jobs}
+use Rattle.mdcache.specs.Core.{AreCached, Core, IsSoundCore, Rooms, state_of}
+use Rattle.mdcache.specs.New.{cached_root, new_caches, new_root, new_state, root_leaf}
+use Rattle.mdcache.specs.declared.prepared.Prepared.{Prepared}
 use Rattle.mdcache.specs.Shown.{directories, entries_in, entries_of, entries_under, names_of, shown_at, shown_tree, tree_of}
 use Rattle.mdcache.specs.Sound.{IsSound, IsUnsaved}
-use Rattle.mdcache.specs.State.{IsLive, State, text_of}
-use Rattle.mdcache.proofs.CachedLaws.{get_with}
+use Rattle.mdcache.specs.State.{IsLive, State, UnsavedLeaves, text_of}
+use Rattle.mdcache.proofs.NoneLaws.{none_only}
+use Rattle.mdcache.proofs.PutLaws.{cached_with}
 use Rattle.mdcache.proofs.EndLaws.{nothing_patched}
 
 abbrev pub no_homes : Homes
@@ -64,8 +67,11 @@ live_root leaf live =
 pub root_live : IsLive no_homes no_covers root_leaf
 root_live = record { known = refl; stands = subst (λ fs. Contains fs root_fragment) (sym (one_leaf_each 1)) (zero, omega arith, refl) }
 
+abbrev no_leaves : UnsavedLeaves
+no_leaves = map.empty
+
 its_unsaved : (q : Leaf) → map.get new_state.unsaved q ≡ cond (leaf_is q root_leaf) (Some new_root) None
-its_unsaved q = get_with map.empty root_leaf q (Some new_root) ∙ ap (cond (leaf_is q root_leaf) (Some new_root)) (get-empty _ q)
+its_unsaved q = get-insert leaf-total no_leaves root_leaf new_root q ∙ ap (λ (b : Bool). cond b (Some new_root) (map.get no_leaves q)) (tied_leaf q root_leaf) ∙ ap (cond (leaf_is q root_leaf) (Some new_root)) (get-empty _ q)
 
 root_unsaved : map.get new_state.unsaved root_leaf ≡ Some new_root
 root_unsaved = its_unsaved root_leaf ∙ ap (λ (b : Bool). cond b (Some new_root) None) (leaf_itself root_leaf)
@@ -125,48 +131,65 @@ new_sound = record {
   once = λ a b i j p q same. let clash : None ≡ Some i = sym (get-empty leaf_cmp a) ∙ p in absurd cc;
 }
 
-abbrev new_places : Places
-new_places = (root_leaf, held cached_root) ∷ []
+-- ---- the caches
 
-only_root : (leaf : Leaf) (f : Cached) → cached new_places leaf ≡ Some f → (leaf ≡ root_leaf) × (cached_root ≡ f)
-only_root leaf f is = go (leaf_is leaf root_leaf) refl is
-  where
-    go : (b : Bool) → leaf_is leaf root_leaf ≡ b → fragment_in (cond b (Some (held cached_root)) None) ≡ Some f → (leaf ≡ root_leaf) × (cached_root ≡ f)
-    go true same h = (one_leaf leaf root_leaf same, cc)
-    go false apart h = let clash : None ≡ Some f = h in absurd cc
+none_placed : (ranks s : ℕ) (q : Leaf) → list_any (leaf_is q) (get_or (replicate ranks []) s []) ≡ true → ⊥
+none_placed zero s q placed = let clash : false ≡ true = placed in cc
+none_placed (suc n) zero q placed = let clash : false ≡ true = placed in cc
+none_placed (suc n) (suc s) q placed = none_placed n s q placed
 
-pub new_kept : (places : ℕ) → IsKept new_state (lru_cache new_places places)
-new_kept places = record {
-  sound = new_sound;
-  live = λ leaf f is. subst (IsLive no_homes no_covers) (sym (only_root leaf f is).0) root_live;
-  tied = λ leaf f is. subst (λ (g : Cached). IsTied g (object_of new_state.objects leaf.0 leaf.1)) (only_root leaf f is).1 tt;
+pub none_held : (ranks places : ℕ) (q : Leaf) → map.get (no_caches ranks places).held q ≡ None
+none_held ranks places q = get-empty leaf_cmp q
+
+module _ (ranks places : ℕ) where
+  none_kept : KeepsNone (no_caches ranks places)
+  none_kept s q placed = absurd (none_placed ranks s q placed)
+
+  free : IsFreeFor (no_caches ranks places) 0 root_leaf
+  free = subst (IsFree 0) (sym (none_held ranks places root_leaf)) tt
+
+  pub new_none : KeepsNone (new_caches ranks places)
+  new_none = none_with_frag (no_caches ranks places) (new_caches ranks places) 0 root_leaf cached_root free none_kept refl
+
+  none_unclean : unclean (no_caches ranks places) ≡ map.empty
+  none_unclean = same_map leaf-total leaf-exact (unclean (no_caches ranks places)) map.empty
+      (λ q. get_unclean (no_caches ranks places) q ∙ ap unsaved_at (none_held ranks places q) ∙ sym (get-empty leaf_cmp q))
+
+  pub new_unclean : unclean (new_caches ranks places) ≡ new_state.unsaved
+  new_unclean = unclean_with (no_caches ranks places) 0 root_leaf cached_root ∙ ap (λ (u : UnsavedLeaves). map.insert u root_leaf new_root) none_unclean
+
+  pub new_cached : AreCached new_state (new_caches ranks places)
+  new_cached = cached_with new_state (no_caches ranks places) 0 root_leaf cached_root (λ q a is. let clash : None ≡ Some a = sym (none_held ranks places q) ∙ is in absurd cc)
+      (record { live = root_live; tied = tt; made = omega arith })
+
+-- ---- the whole
+
+module _ (ranks places : ℕ) (homes : Homes) (covers : Covers) (caches : CacheMap) (objects : Objects) (faults : ℕ) (room : Rooms) (prepared : Prepared) (no_dirs : homes ≡ map.empty) (no_trees : covers ≡ map.empty) (its : caches ≡ new_caches ranks places) (none : objects ≡ map.empty)
+    (jobs : Jobs) (purge : Keys) (no_jobs : jobs ≡ map.empty) (no_purge : purge ≡ map.empty) where
+  abbrev made : Core
   made = record {
+    homes = homes;
+    covers = covers;
+    caches = caches;
+    objects = objects;
+    faults = faults;
+    jobs = jobs;
+    purge = purge;
+    next_job = 1;
+    next_generation = 2;
+    next_version = 1;
+    room = room;
+    prepared = prepared;
+    kept = None;
+  }
+
+  pub new_is : state_of made ≡ new_state
+  new_is = (λ i. record (state_of made) { homes = no_dirs i; covers = no_trees i; unsaved = unclean (its i); objects = none i; jobs = no_jobs i; purge = no_purge i }) ∙ (λ i. record new_state { unsaved = new_unclean ranks places i })
+
+  pub new_core : IsSoundCore made
+  new_core = record {
+    sound = subst IsSound (sym new_is) new_sound;
     begun = omega arith;
-    given = λ leaf f is. let generation = ap (λ (g : Cached). g.generation) (only_root leaf f is).1 in omega (arith, generation);
-  };
-}
-
--- what isn't clean of the new places
-pub new_unsaved : unsaved new_places ≡ new_state.unsaved
-unfolding unsaved
-new_unsaved = refl
-
--- the parts of a new tree are those of the new state
-module _ (dirs : Table) (cache : Held) (objects : Objects) (jobs : Standing) (purge : Listed) (next : Counters) (places : ℕ)
-    (homes : dirs.homes ≡ map.empty) (trees : dirs.trees ≡ map.empty) (is : cache ≡ lru_cache new_places places) (none : objects ≡ map.empty)
-    (no_jobs : jobs ≡ record { jobs = map.empty; room = 0 }) (no_purge : purge ≡ record { names = map.empty; room = 0 }) (first_numbers : next ≡ record { job = 1; generation = 2; version = 1 }) where
-  pub new_is : state_of dirs cache objects jobs purge next ≡ new_state
-  new_is = (λ i. record {
-    homes = homes i;
-    covers = trees i;
-    unsaved = unsaved (is i).entries;
-    objects = none i;
-    jobs = (no_jobs i).jobs;
-    purge = (no_purge i).names;
-    next_job = (first_numbers i).job;
-    next_generation = (first_numbers i).generation;
-    next_version = (first_numbers i).version;
-  }) ∙ (λ i. record new_state { unsaved = new_unsaved i })
-
-  pub new_is_kept : IsKept (state_of dirs cache objects jobs purge next) cache
-  new_is_kept = subst (λ (h : Held). IsKept (state_of dirs cache objects jobs purge next) h) (sym is) (subst (λ (s : State). IsKept s (lru_cache new_places places)) (sym new_is) (new_kept places))
+    cached = subst (λ (s : State). AreCached s caches) (sym new_is) (subst (AreCached new_state) (sym its) (new_cached ranks places));
+    kept = none_only None caches (subst KeepsNone (sym its) (new_none ranks places));
+  }

@@ -18,9 +18,10 @@ use Rattle.objstore.specs.Objects.{Objects, written}
 use Rattle.dirfrag_codec.proofs.ByteKeys.{get_beside, get_left, get_removed, key_itself, key_tied}
 use Rattle.mdcache.specs.PurgeList.{first_name}
 use Rattle.dentry_cache.specs.Loading.{object_of}
-use Rattle.dentry_cache.specs.Cache.{Held, Leaf}
+use Rattle.dentry_cache.specs.Cache.{Leaf}
+use Rattle.dentry_cache.specs.CacheMap.{CacheMap}
 use Rattle.inode_table.specs.Dirs.{is_known, leaves_of}
-use Rattle.mdcache.specs.Cached.{IsKept}
+use Rattle.mdcache.specs.Core.{AreCached}
 use Rattle.mdcache.specs.Objects.{purged, tree_object, tree_saved, with_tree_at}
 use Rattle.mdcache.specs.Shown.{shown_tree}
 use Rattle.mdcache.specs.Sound.{IsOwned, IsSound}
@@ -77,8 +78,8 @@ module _ (s : State) (name : List ℕ) (sound : IsSound s) (first : first_name s
           cc
       go q has (inr apart) = owned_beside s (map.remove s.objects name) name q apart (sound.owned q (ap (λ (o : Option Omap). is_some o) (sym (get_left s.objects name q apart)) ∙ has))
 
-  pub purged_kept : (cache : Held) → IsKept s cache → IsKept (purged s name) cache
-  purged_kept cache kept = other_objects_kept s (map.remove s.objects name) (map.remove s.purge name) sound same_objects cache kept purged_sound
+  pub purged_cached : (caches : CacheMap) → AreCached s caches → AreCached (purged s name) caches
+  purged_cached = other_objects_kept s (map.remove s.objects name) (map.remove s.purge name) sound same_objects
 
 -- ---- the object of a directory's tree is written or removed
 
@@ -110,8 +111,8 @@ module _ (s : State) (dir : Ino) (sound : IsSound s) (known : is_known s.homes d
       go q has (inl same) = inr (inl (dir, known, same))
       go q has (inr apart) = owned_beside s objects (tree_text dir) q apart (sound.owned q (ap (λ (o : Option Omap). is_some o) (sym (beside q apart)) ∙ has))
 
-  pub tree_saved_kept : (cache : Held) → IsKept s cache → IsKept (tree_saved s dir) cache
-  tree_saved_kept cache kept = other_objects_kept s objects (map.remove s.purge (tree_text dir)) sound same_beside cache kept tree_saved_sound
+  pub tree_saved_cached : (caches : CacheMap) → AreCached s caches → AreCached (tree_saved s dir) caches
+  tree_saved_cached = other_objects_kept s objects (map.remove s.purge (tree_text dir)) sound same_beside
 
 abbrev pub no_pairs : PairMap
 no_pairs = map.empty

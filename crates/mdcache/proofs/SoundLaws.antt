@@ -9,10 +9,11 @@ use Rattle.objstore.specs.Objects.{Objects}
 use Rattle.dirfrag_codec.specs.FragmentObject.{Names}
 use Rattle.commit_jobs.specs.declared.jobs.Job.{Job}
 use Rattle.dentry_cache.specs.Loading.{object_of}
-use Rattle.dentry_cache.specs.Cache.{Held, Leaf, Unsaved, leaf_is}
+use Rattle.dentry_cache.specs.Cache.{Leaf, Unsaved, leaf_is}
+use Rattle.dentry_cache.specs.CacheMap.{CacheMap}
 use Rattle.dentry_cache.specs.Ties.{IsTied}
 use Rattle.dentry_cache.proofs.LeafLaws.{leaf-total, one_leaf, tied_leaf}
-use Rattle.mdcache.specs.Cached.{IsKept}
+use Rattle.mdcache.specs.Core.{AreCached}
 use Rattle.mdcache.specs.Commits.{leaf_of, with_job}
 use Rattle.mdcache.specs.Shown.{names_of, shown_at, shown_tree}
 use Rattle.mdcache.specs.Sound.{AreYoung, IsOf, IsOwned, IsSaved, IsSound, IsStanding}
@@ -62,13 +63,10 @@ module _ (s : State) (objects : Objects) (purge : Keys) (sound : IsSound s) wher
           taken = subst (IsOf job old.unsaved) (sym (same leaf (sound.unsaved leaf old.unsaved old.beside).live)) old.taken;
         }
 
-    pub other_objects_kept : (cache : Held) → IsKept s cache → IsSound now → IsKept now cache
-    other_objects_kept cache old is = record {
-      sound = is;
-      live = old.live;
-      tied = λ leaf f there. subst (IsTied f) (sym (same leaf (old.live leaf f there))) (old.tied leaf f there);
-      made = old.made;
-    }
+    pub other_objects_kept : (caches : CacheMap) → AreCached s caches → AreCached now caches
+    other_objects_kept caches old leaf a there =
+        let was = old leaf a there in
+        record { live = was.live; tied = subst (IsTied a.frag) (sym (same leaf was.live)) was.tied; made = was.made }
 
 -- ---- jobs
 

@@ -1,28 +1,173 @@
--- What a contract sees of the tree over caches and a store.
-use Rattle.std.specs.Prelude.{ℕ, ◌+◌, ◌<◌, length}
+-- What a contract sees of the tree over caches and a store, and what small steps make of it.
+use Rattle.std.specs.Prelude.{◌≡◌, ◌⊎◌, ℕ, ◌+◌, ◌<◌, ◌≤◌, length, List, Option, Some, None}
 use Rattle.std.specs.FinMap as map
+use Rattle.mds_types.specs.declared.ids.Ino.{Ino}
 use Rattle.mds_types.specs.declared.ids.Rank.{Rank}
-use Rattle.dentry_cache.specs.Cache.{Held, unsaved}
-use Rattle.dentry_cache.specs.Caches.{Caches, cache_of}
-use Rattle.mdcache.specs.State.{State}
+use Rattle.mds_types.specs.Tree.{Tree}
+use Rattle.mds_types.specs.declared.inodes.Inode.{Inode}
+use Rattle.omap.specs.Omap.{Keys}
+use Rattle.objstore.specs.Objects.{Objects}
+use Rattle.commit_jobs.specs.declared.bases.Base.TheVariants.{Fresh}
+use Rattle.commit_jobs.specs.declared.jobs.Job.{Job}
+use Rattle.cached_frag.specs.Cached.{Cached, snapshot_of}
+use Rattle.dentry_cache.specs.Cache.{Leaf}
+use Rattle.dentry_cache.specs.CacheMap.{At, CacheMap, IsFreeFor, leaf_of, unclean, used_at, with_frag, with_mark}
+use Rattle.dentry_cache.specs.Ended.{ended_all}
+use Rattle.dentry_cache.specs.Loading.{object_of}
+use Rattle.dentry_cache.specs.Ties.{IsTied}
+use Rattle.dentry_cache.specs.declared.dirfrag.Dirfrag.{Dirfrag}
+use Rattle.inode_table.specs.declared.dirs.Home.{Home}
+use Rattle.inode_table.specs.Dirs.{Covers, Homes}
+use Rattle.inode_table.specs.TreeTable.{with_home}
+use Rattle.mdcache.specs.Changes.{with_objects, without_leaves}
+use Rattle.mdcache.specs.Going.{rows_but}
+use Rattle.dentry_cache.specs.Reads.{Reads}
+use Rattle.mdcache.specs.CacheReads.{LacksPlacesIn}
+use Rattle.mdcache.specs.Ranks.{KeepsOnlyAt}
+use Rattle.mdcache.specs.Shown.{shown_tree}
+use Rattle.mdcache.specs.Sound.{IsSaved, IsSound}
+use Rattle.mdcache.specs.State.{IsLive, State}
+use Rattle.mdcache.specs.StandingJobs.{Jobs}
 use Rattle.mdcache.specs.declared.prepared.Prepared.{Prepared}
 
--- the state, the caches of the ranks with their places in the order of use, and the places of all; how many more directories and how many
--- more names of objects to be removed fit with no growth, how many faults the store had, and what was made ready for the next change
+-- how many more directories, directories with more than one leaf, jobs, and names of objects to be removed fit with no growth
+pub record Rooms : Type 0 where
+  pub dirs : ℕ
+  pub trees : ℕ
+  pub jobs : ℕ
+  pub purge : ℕ
+
+-- the directory table; the caches of all ranks, with the order in which each used its leaves; the store's objects and its count of faults; the
+-- jobs that stand, and the names of objects to be removed; the numbers that the next job, fragment and dirty name get; what fits with no
+-- growth; and what was made ready for the next change, with the place that is kept for it
 pub record Core : Type 0 where
-  pub state : State
-  pub ranks : Caches
-  pub cache : Held
-  pub dirs_left : ℕ
-  pub purge_left : ℕ
+  pub homes : Homes
+  pub covers : Covers
+  pub caches : CacheMap
+  pub objects : Objects
   pub faults : ℕ
+  pub jobs : Jobs
+  pub purge : Keys
+  pub next_job : ℕ
+  pub next_generation : ℕ
+  pub next_version : ℕ
+  pub room : Rooms
   pub prepared : Prepared
+  pub kept : Option (Rank × Leaf)
+
+-- the state: of the caches what isn't clean
+abbrev pub state_of : Core → State
+state_of c = record {
+  homes = c.homes;
+  covers = c.covers;
+  unsaved = unclean c.caches;
+  objects = c.objects;
+  jobs = c.jobs;
+  purge = c.purge;
+  next_job = c.next_job;
+  next_generation = c.next_generation;
+  next_version = c.next_version;
+}
+
+-- the tree that is shown
+abbrev pub shown_in : Core → Tree
+shown_in c = shown_tree (state_of c)
 
 -- so it is with a rank, whatever was fetched and in whatever order fragments were used: each other place of its cache is that of a fragment
 -- that isn't clean
 abbrev pub LacksPlacesAt : ℕ → Core → Rank → Type 0
-LacksPlacesAt count core rank = core.cache.cap < map.len (unsaved (cache_of core.ranks rank).entries) + count
+LacksPlacesAt count core rank = LacksPlacesIn count core.caches rank.0
 
 -- so it is with one of the ranks
 abbrev pub LacksPlaces : ℕ → Core → Type 0
-LacksPlaces count core = (rank : Rank) × (rank.0 < length core.ranks) × LacksPlacesAt count core rank
+LacksPlaces count core = (rank : Rank) × (rank.0 < length core.caches.used) × LacksPlacesAt count core rank
+
+-- a cached fragment is a live leaf, is tied to its object, and has a generation that was given out, or 0, that of one that was fetched
+pub record IsCachedIn (s : State) (leaf : Leaf) (f : Cached) : Type 0 where
+  pub live : IsLive s.homes s.covers leaf
+  pub tied : IsTied f (object_of s.objects leaf.0 leaf.1)
+  pub made : f.generation < s.next_generation
+
+-- so it is with each
+abbrev pub AreCached : State → CacheMap → Type 0
+AreCached s caches = (leaf : Leaf) (a : At) → map.get caches.held leaf ≡ Some a → IsCachedIn s leaf a.frag
+
+-- the state is sound, and so is each cached fragment; a place that is kept is the one that is remembered
+pub record IsSoundCore (c : Core) : Type 0 where
+  pub sound : IsSound (state_of c)
+  pub begun : 0 < c.next_generation
+  pub cached : AreCached (state_of c) c.caches
+  pub kept : KeepsOnlyAt c.kept c.caches
+
+-- no less room than before
+pub record IsNoLess (old new : Rooms) : Type 0 where
+  pub dirs : old.dirs ≤ new.dirs
+  pub trees : old.trees ≤ new.trees
+  pub jobs : old.jobs ≤ new.jobs
+  pub purge : old.purge ≤ new.purge
+
+-- what reads and preparations leave: of the caches what was read for leaves that are named, the count of faults, room, and whether a place is
+-- kept
+pub record ReadsCore (Uses Ends : ℕ → Leaf → Type 0) (old new : Core) : Type 0 where
+  pub caches : Reads Uses Ends old.objects old.caches new.caches
+  pub room : IsNoLess old.room new.room
+  pub beside : new ≡ record old { caches = new.caches; faults = new.faults; room = new.room; prepared = new.prepared; kept = new.kept }
+
+-- a leaf can be fetched at the rank that holds it: there is the rank, no other has the leaf, and if it is clean its object spells it
+pub record MayFetch (p : Core) (a : Dirfrag) : Type 0 where
+  pub there : a.rank.0 < length p.caches.used
+  pub free : IsFreeFor p.caches a.rank.0 (leaf_of a)
+  pub saved : map.get (unclean p.caches) (leaf_of a) ≡ None → IsSaved a.frag (object_of p.objects a.dir a.frag)
+
+-- ---- what the small steps make of it
+
+-- a fragment just made: no object counts, and it has no names
+abbrev pub made_frag : ℕ → Cached
+made_frag generation = record { base = Fresh; generation = generation; clean = map.empty; dirty = map.empty; room = 0; places = 0 }
+
+-- a name of a leaf is dirty at the next version, and has this inode, or none
+abbrev pub named : Core → Dirfrag → List ℕ → Option Inode → Core
+named p a name inode = record p {
+  caches = with_mark p.caches a.rank.0 (leaf_of a) name (record { version = p.next_version; inode = inode });
+  next_version = p.next_version + 1;
+}
+
+-- a directory came: it has its home, and a leaf just made at a rank, whose object isn't to be removed
+abbrev pub with_dir : Core → Dirfrag → Home → List ℕ → Rooms → Core
+with_dir p a home object room = record p {
+  homes = map.insert p.homes a.dir.0 home;
+  caches = with_frag p.caches a.rank.0 (leaf_of a) (made_frag p.next_generation);
+  purge = map.remove p.purge object;
+  next_generation = p.next_generation + 1;
+  room = room;
+}
+
+-- an inode moved from one name to another, and has its home there, if it is a directory
+abbrev pub moved : Core → Dirfrag → List ℕ → Dirfrag → List ℕ → List ℕ → Inode → Core
+moved c from source to target name inode =
+    named (record (named c from source None) { homes = with_home c.homes (record { dir = to.dir; name = name }) inode }) to target (Some inode)
+
+-- these leaves of a directory ended: their places and jobs are gone, and their objects are to be removed
+abbrev pub without_frags : Core → List Leaf → List (List ℕ) → Rooms → Core
+without_frags p leaves texts room = record p {
+  caches = ended_all p.caches leaves;
+  jobs = without_leaves p.jobs leaves;
+  purge = with_objects p.purge texts;
+  room = room;
+}
+
+-- so did the directory itself
+abbrev pub without_dir : Core → Option Ino → List Leaf → List (List ℕ) → Rooms → Core
+without_dir p dir leaves texts room = record (without_frags p leaves texts room) { homes = rows_but p.homes dir; covers = rows_but p.covers dir }
+
+-- a leaf was used
+abbrev pub used_core : Core → Dirfrag → Rooms → Core
+used_core c a room = record c { caches = used_at c.caches a.rank.0 (leaf_of a); room = room }
+
+-- the job of this number that is of a fragment as it stands
+abbrev pub IsJobOf : ℕ → Leaf → Job → Cached → Type 0
+IsJobOf number leaf job f = job ≡ record { number = number; ino = leaf.0; frag = leaf.1; generation = f.generation; snapshot = snapshot_of f }
+
+-- a job stands for a leaf, which was used, and its number is taken
+abbrev pub with_job_in : Core → Dirfrag → Job → Rooms → Core
+with_job_in c a job room = record (used_core c a room) { jobs = map.insert c.jobs (leaf_of a) job; next_job = c.next_job + 1 }

@@ -1,6 +1,5 @@
 -- The tree over caches and a store as operations see it: what reads keep, why a call is refused, and what is ready for a change.
-use Rattle.std.specs.Prelude.{◌≡◌, ◌⊎◌, ℕ, ◌+◌, ◌-◌, ◌<◌, ◌≤◌, ◌^◌, true, Option, Some, None, IfSome, length, string_bytes}
-use Rattle.std.specs.Map.{lookup}
+use Rattle.std.specs.Prelude.{◌≡◌, ◌⊎◌, ℕ, ◌+◌, ◌-◌, ◌<◌, ◌≤◌, ◌^◌, true, cond, List, Option, Some, None, IfSome, length, string_bytes}
 use Rattle.std.specs.FinMap as map
 use Rattle.mds_types.specs.declared.dentries.Dentry.{Dentry}
 use Rattle.mds_types.specs.declared.ids.Ino.{Ino}
@@ -9,26 +8,27 @@ use Rattle.mds_types.specs.declared.operations.Op.{Op}
 use Rattle.mds_types.specs.declared.operations.Op.TheVariants.{Lookup, Readdir, Create, Mkdir, Readlink, Symlink, Setattr, Unlink, Rmdir, Rename}
 use Rattle.mds_types.specs.declared.refusals.Refusal.{Refusal}
 use Rattle.mds_types.specs.declared.refusals.Refusal.TheVariants.{NoInodes, NoMemory, NothingToEvict, StoreFault}
+use Rattle.mds_types.specs.declared.inodes.Inode.{Inode}
 use Rattle.mds_types.specs.Frag.{Fragment}
 use Rattle.mds_types.specs.Tree.{is_dir_kind}
 use Rattle.dirfrag_codec.specs.EntryRecord.{IsRecordable}
 use Rattle.objstore.specs.Objects.{faults_told}
 use Rattle.cached_frag.specs.Cached.{Cached}
-use Rattle.dentry_cache.specs.Cache.{HasCached, HasRoom, Leaf, cached, is_kept, leaf_is}
+use Rattle.dentry_cache.specs.Cache.{HasCached, HasRoom, Leaf}
+use Rattle.dentry_cache.specs.CacheMap.{here, unclean_of}
+use Rattle.dentry_cache.specs.CacheSplits.{IsKeptFor}
 use Rattle.inode_table.specs.Dirs.{Covers, MayMove}
 use Rattle.inode_table.specs.TreeTable.{home_at}
 use Rattle.namespace_ops.specs.Changes.{MayChange, directory_at}
 use Rattle.namespace_ops.specs.declared.plans.Change.{Change}
 use Rattle.namespace_ops.specs.declared.plans.Change.TheVariants.{Add, Set, Remove, Move}
-use Rattle.dentry_cache.specs.Caches.{cache_of}
-use Rattle.mdcache.specs.declared.steps.holders.Holders.{Holders}
+use Rattle.mdcache.specs.declared.holders.Holders.{Holders}
 use Rattle.mdcache.specs.declared.prepared.Prepared.{Prepared}
 use Rattle.mdcache.specs.declared.prepared.Prepared.TheVariants.{Nothing, Directory, Removal, Move as Moving}
-use Rattle.mdcache.specs.Core.{Core}
+use Rattle.mdcache.specs.Core.{Core, LacksPlaces, shown_in, state_of}
 use Rattle.mdcache.specs.Changes.{first_leaf}
+use Rattle.mdcache.specs.Ranks.{KeepsOnlyAt}
 use Rattle.mdcache.specs.Going.{IsGoingOrNone, count_going, dir_going}
-use Rattle.mdcache.specs.Ranks.{KeepUnsaved}
-use Rattle.mdcache.specs.Core.{LacksPlaces}
 use Rattle.mdcache.specs.Ready.{LacksNumbers}
 use Rattle.mdcache.specs.Shown.{shown_tree}
 use Rattle.mdcache.specs.State.{State, text_of}
@@ -38,10 +38,10 @@ use Rattle.mdcache.specs.State.{State, text_of}
 -- reads and refusals keep the state, what isn't clean of each rank, and the number of ranks and places; the store's count
 -- of faults rises by one where a fault is told, and not otherwise
 pub record KeepsState (old new : Core) (told : Option Refusal) : Type 0 where
-  pub state : new.state ≡ old.state
-  pub unsaved : KeepUnsaved old.ranks new.ranks
-  pub count : length new.ranks ≡ length old.ranks
-  pub cap : new.cache.cap ≡ old.cache.cap
+  pub state : state_of new ≡ state_of old
+  pub unclean : (r : ℕ) → unclean_of new.caches r ≡ unclean_of old.caches r
+  pub count : length new.caches.used ≡ length old.caches.used
+  pub cap : new.caches.cap ≡ old.caches.cap
   pub counted : new.faults ≡ old.faults + faults_told told
 
 -- the numbers that lack for an operation: a version for the name that it changes, two for a rename, and a generation for the leaf of a new
@@ -69,14 +69,14 @@ LacksToMake (Move from source to target went) s = LacksNumbers 2 s.next_version
 -- or can become so, or where a counter is at its end
 abbrev pub MayRefuse : (old new : Core) → Op → Refusal → Type 0
 MayRefuse old new op reason =
-    (reason ≡ NoMemory) ⊎ ((reason ≡ StoreFault) × (old.faults < new.faults)) ⊎ ((reason ≡ NothingToEvict) × LacksPlaces 4 old) ⊎ ((reason ≡ NoInodes) × LacksFor op old.state)
+    (reason ≡ NoMemory) ⊎ ((reason ≡ StoreFault) × (old.faults < new.faults)) ⊎ ((reason ≡ NothingToEvict) × LacksPlaces 4 old) ⊎ ((reason ≡ NoInodes) × LacksFor op (state_of old))
 
 -- ---- what is ready
 
 -- a leaf is cached at a rank and has room for a change of a name, and a version is left for it
 pub record IsNameReady (core : Core) (rank : Rank) (leaf : Leaf) : Type 0 where
-  pub room : HasRoom (cached (cache_of core.ranks rank).entries leaf)
-  pub number : core.state.next_version < 2 ^ 64 - 1
+  pub room : HasRoom (here core.caches rank.0 leaf)
+  pub number : core.next_version < 2 ^ 64 - 1
 
 -- this was prepared for a directory that comes: its name, and the name of its leaf's object
 abbrev pub IsForDirectory : Dentry → Ino → Prepared → Type 0
@@ -87,9 +87,9 @@ IsForDirectory dentry dir (Moving moving) = ⊥
 
 -- a place is kept at a rank for the leaf of a directory that comes, a generation is left for it, and there is room for the directory
 pub record IsDirectoryReady (core : Core) (rank : Rank) (dentry : Dentry) (dir : Ino) : Type 0 where
-  pub place : is_kept (lookup (leaf_is (first_leaf dir)) (cache_of core.ranks rank).entries) ≡ true
-  pub home : 0 < core.dirs_left
-  pub generation : core.state.next_generation < 2 ^ 64 - 1
+  pub place : IsKeptFor core.caches rank.0 (first_leaf dir)
+  pub home : 0 < core.room.dirs
+  pub generation : core.next_generation < 2 ^ 64 - 1
   pub prepared : IsForDirectory dentry dir core.prepared
 
 -- this was prepared for an entry that goes: the names of the objects, where it is a directory, for which the purge list has room
@@ -99,29 +99,39 @@ IsForRemoval covers room went (Directory made) = ⊥
 IsForRemoval covers room went (Removal going) = (dir_going going ≡ went) × IsGoingOrNone covers going × (count_going going ≤ room)
 IsForRemoval covers room went (Moving moving) = ⊥
 
--- this was prepared for an entry that moves: the inode, its new name, and what what it replaces takes
-abbrev pub IsForMove : State → ℕ → (from to : Dentry) → Option Ino → Prepared → Type 0
-IsForMove s room from to went Nothing = ⊥
-IsForMove s room from to went (Directory made) = ⊥
-IsForMove s room from to went (Removal going) = ⊥
-IsForMove s room from to went (Moving moving) =
-    (map.get (shown_tree s) from ≡ Some moving.inode) × IsRecordable moving.inode × (moving.name ≡ to.name)
-    × (dir_going moving.going ≡ went) × IsGoingOrNone s.covers moving.going × (count_going moving.going ≤ room)
+-- this was prepared for an entry that moves: the inode that stands there, its new name, and what what it replaces takes
+abbrev pub IsMovingIn : Option Inode → Covers → ℕ → List ℕ → Option Ino → Prepared → Type 0
+IsMovingIn stands covers room name went Nothing = ⊥
+IsMovingIn stands covers room name went (Directory made) = ⊥
+IsMovingIn stands covers room name went (Removal going) = ⊥
+IsMovingIn stands covers room name went (Moving moving) =
+    (stands ≡ Some moving.inode) × IsRecordable moving.inode × (moving.name ≡ name) × (dir_going moving.going ≡ went) × IsGoingOrNone covers moving.going × (count_going moving.going ≤ room)
 
 -- both leaves of an entry that moves are cached, each at its rank, the first with room for two changes, and two versions are left
 pub record IsMoveReady (core : Core) (at : Holders) (source target : Leaf) (from to : Dentry) (went : Option Ino) : Type 0 where
-  pub source_room : HasCached (cached (cache_of core.ranks at.first).entries source) (λ (f : Cached). 1 < f.room)
-  pub target_room : HasRoom (cached (cache_of core.ranks at.second).entries target)
-  pub number : core.state.next_version < 2 ^ 64 - 2
-  pub prepared : IsForMove core.state core.purge_left from to went core.prepared
+  pub source_room : HasCached (here core.caches at.first.0 source) (λ (f : Cached). 1 < f.room)
+  pub target_room : HasRoom (here core.caches at.second.0 target)
+  pub number : core.next_version < 2 ^ 64 - 2
+  pub prepared : IsMovingIn (map.get (shown_in core) from) core.covers core.room.purge to.name went core.prepared
+
+-- the place that is kept for a change: that of a directory that comes
+abbrev pub kept_for : Holders → Change → Option (Rank × Leaf)
+kept_for at (Add dentry leaf inode) = cond (is_dir_kind inode.kind) (Some (at.first, first_leaf inode.ino)) None
+kept_for at (Set dentry leaf inode) = None
+kept_for at (Remove dentry leaf went) = None
+kept_for at (Move from source to target went) = None
+
+abbrev pub IsReadyFor : Core → Holders → Change → Type 0
+IsReadyFor core at (Add dentry leaf inode) =
+    IsNameReady core at.first (dentry.dir, leaf) × IsRecordable inode × (is_dir_kind inode.kind ≡ true → IsDirectoryReady core at.first dentry inode.ino)
+IsReadyFor core at (Set dentry leaf inode) = IsNameReady core at.first (dentry.dir, leaf) × IsRecordable inode
+IsReadyFor core at (Remove dentry leaf went) = IsNameReady core at.first (dentry.dir, leaf) × IsForRemoval core.covers core.room.purge went core.prepared
+IsReadyFor core at (Move from source to target went) = IsMoveReady core at (from.dir, source) (to.dir, target) from to went
 
 -- a change can be made in the caches of these ranks with no growth
-abbrev pub IsReady : Core → Holders → Change → Type 0
-IsReady core at (Add dentry leaf inode) =
-    IsNameReady core at.first (dentry.dir, leaf) × IsRecordable inode × (is_dir_kind inode.kind ≡ true → IsDirectoryReady core at.first dentry inode.ino)
-IsReady core at (Set dentry leaf inode) = IsNameReady core at.first (dentry.dir, leaf) × IsRecordable inode
-IsReady core at (Remove dentry leaf went) = IsNameReady core at.first (dentry.dir, leaf) × IsForRemoval core.state.covers core.purge_left went core.prepared
-IsReady core at (Move from source to target went) = IsMoveReady core at (from.dir, source) (to.dir, target) from to went
+pub record IsReady (core : Core) (at : Holders) (change : Change) : Type 0 where
+  pub ready : IsReadyFor core at change
+  pub kept : KeepsOnlyAt (kept_for at change) core.caches
 
 -- the directory that moves, by what was prepared: what is taken along, where that is one
 abbrev pub dir_moving : Prepared → Option Ino
@@ -134,5 +144,5 @@ dir_moving (Moving moving) = directory_at (Some moving.inode)
 abbrev pub IsTakenAlong : Core → Option Ino → Type 0
 IsTakenAlong core moving =
     (at : Holders) (from to : Dentry) (source target : Fragment) (went : Option Ino) → IsReady core at (Move from source to target went)
-    → (moving ≡ directory_at (map.get (shown_tree core.state) from))
-    × (MayChange (shown_tree core.state) core.state.covers (Move from source to target went) → IfSome moving (λ (dir : Ino). MayMove core.state.homes dir.0 (home_at to)))
+    → (moving ≡ directory_at (map.get (shown_in core) from))
+    × (MayChange (shown_in core) core.covers (Move from source to target went) → IfSome moving (λ (dir : Ino). MayMove core.homes dir.0 (home_at to)))

@@ -1,16 +1,13 @@
 -- What is prepared before a directory goes: the names of its objects, as texts.
-use Rattle.std.specs.Prelude.{◌≡◌, ℕ, ◌+◌, List, [], ◌∷◌, length, map as each, cond, string_bytes, Option, Some, None}
-use Rattle.std.specs.List.{list_any}
-use Rattle.std.specs.Map.{lookup}
+use Rattle.std.specs.Prelude.{◌≡◌, ℕ, ◌+◌, List, [], ◌∷◌, length, map as each, string_bytes, Option, Some, None}
 use Rattle.std.specs.Ordering.{nat_cmp}
 use Rattle.std.specs.FinMap as map
 use Rattle.mds_types.specs.declared.ids.Ino.{Ino}
-use Rattle.dentry_cache.specs.Cache.{Held, Leaf, leaf_is}
-use Rattle.dentry_cache.specs.declared.cache.Place.{Place}
+use Rattle.dentry_cache.specs.Cache.{Leaf}
 use Rattle.inode_table.specs.Dirs.{Covers}
 use Rattle.namespace_ops.specs.Changes.{leaves}
-use Rattle.mdcache.specs.declared.steps.going.Going.{Going}
-use Rattle.mdcache.specs.declared.steps.going.GoingLeaf.{GoingLeaf}
+use Rattle.mdcache.specs.declared.going.Going.{Going}
+use Rattle.mdcache.specs.declared.going.GoingLeaf.{GoingLeaf}
 use Rattle.mdcache.specs.State.{text_of, tree_text}
 
 -- the leaves that go
@@ -57,13 +54,3 @@ count_going (Some going) = 1 + length going.leaves.items
 abbrev pub rows_but : {X : Type 0} → map.FinMap nat_cmp X → Option Ino → map.FinMap nat_cmp X
 rows_but rows None = rows
 rows_but rows (Some dir) = map.remove rows dir.0
-
--- ---- what is cached
-
--- what a leaf's place has, unless it is one of these
-abbrev pub place_but : List Leaf → Held → Leaf → Option Place
-place_but left cache leaf = cond (list_any (leaf_is leaf) left) None (lookup (leaf_is leaf) cache.entries)
-
--- these leaves have no place; each other one has what it had
-abbrev pub HasForgotten : List Leaf → Held → Held → Type 0
-HasForgotten left old new = (leaf : Leaf) → lookup (leaf_is leaf) new.entries ≡ place_but left old leaf

@@ -5,8 +5,7 @@ use Rattle.dirfrag_codec.specs.FragmentObject.{Names}
 use Rattle.commit_jobs.specs.declared.marks.Mark.{Mark}
 use Rattle.cached_frag.specs.Cached.{Cached}
 use Rattle.cached_frag.specs.Moving.{marked_as}
-use Rattle.dentry_cache.specs.Cache.{Held, Leaf, held, used_as}
-use Rattle.mdcache.specs.Going.{HasForgotten}
+use Rattle.dentry_cache.specs.Cache.{Leaf}
 
 -- what a name is once those of some leaves came in, all at this version: that of the last of them which has it
 abbrev pub name_joined : (Leaf → Names) → ℕ → List Leaf → List ℕ → Option Mark → Option Mark
@@ -18,7 +17,3 @@ pub record HasJoined (names : Leaf → Names) (version : ℕ) (leaves : List Lea
   pub base : new.base ≡ old.base
   pub generation : new.generation ≡ old.generation
   pub dirty : (name : List ℕ) → map.get new.dirty name ≡ name_joined names version leaves name (map.get old.dirty name)
-
--- these leaves have no place, the fragment is in that of another one and the most recently used, and each other place is as it was
-abbrev pub IsPutInPlace : List Leaf → Leaf → Cached → Held → Held → Type 0
-IsPutInPlace gone leaf f old new = (mid : Held) × HasForgotten gone old mid × (new ≡ used_as leaf (held f) mid)

@@ -1,4 +1,4 @@
-pub mod Cached
+pub mod CacheReads
 pub mod Changes
 pub mod Commits
 pub mod Core

@@ -1,5 +1,5 @@
 -- The state over a store that has no object.
-use Rattle.std.specs.Prelude.{◌≡◌, ◌⊎◌, ℕ, [], ◌∷◌, replicate}
+use Rattle.std.specs.Prelude.{◌≡◌, ◌⊎◌, ℕ}
 use Rattle.std.specs.FinMap as map
 use Rattle.mds_types.specs.Frag.{root_fragment}
 use Rattle.mds_types.specs.declared.refusals.Refusal.{Refusal}
@@ -7,9 +7,8 @@ use Rattle.mds_types.specs.declared.refusals.Refusal.TheVariants.{NotClean}
 use Rattle.objstore.specs.Objects.{MayRefuse, Objects}
 use Rattle.commit_jobs.specs.declared.bases.Base.TheVariants.{Fresh}
 use Rattle.cached_frag.specs.Cached.{Cached}
-use Rattle.lru.specs.LruCache.{lru_cache}
-use Rattle.dentry_cache.specs.Cache.{Leaf, Unsaved, held}
-use Rattle.dentry_cache.specs.Caches.{Caches, with_cache}
+use Rattle.dentry_cache.specs.Cache.{Leaf, Unsaved}
+use Rattle.dentry_cache.specs.CacheMap.{CacheMap, no_caches, with_frag}
 use Rattle.mdcache.specs.State.{State}
 
 -- the one leaf of the root directory
@@ -24,8 +23,8 @@ abbrev pub cached_root : Cached
 cached_root = record { base = Fresh; generation = 1; clean = map.empty; dirty = map.empty; room = 0; places = 0 }
 
 -- the caches of so many ranks, each with so many places: the root's leaf is cached at rank 0, and nothing else
-abbrev pub new_caches : ℕ → ℕ → Caches
-new_caches ranks places = with_cache (replicate ranks (lru_cache [] places)) (record { 0 = 0 }) (lru_cache ((root_leaf, held cached_root) ∷ []) places)
+abbrev pub new_caches : ℕ → ℕ → CacheMap
+new_caches ranks places = with_frag (no_caches ranks places) 0 root_leaf cached_root
 
 -- the root directory alone, and nothing begun
 abbrev pub new_state : State

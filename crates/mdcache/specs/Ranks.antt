@@ -1,67 +1,51 @@
--- The caches of all ranks beside a state, and what a call leaves of them.
-use Rattle.std.specs.Prelude.{◌≡◌, ◌<◌, ◌⊎◌, true, length, Option, Some}
-use Rattle.std.specs.Map.{lookup}
+-- The ranks that hold the leaves of a call, and the places that are kept.
+use Rattle.std.specs.Prelude.{◌≡◌, ◌<◌, ◌⊎◌, ℕ, true, length, Option, Some, None}
+use Rattle.std.specs.FinMap as map
 use Rattle.mds_types.specs.declared.ids.Rank.{Rank}
-use Rattle.dentry_cache.specs.Cache.{Leaf, is_kept, leaf_is, unsaved}
-use Rattle.inode_table.specs.Dirs.{Covers, Homes, IsLive}
+use Rattle.dentry_cache.specs.Cache.{IsThere, Leaf}
+use Rattle.dentry_cache.specs.CacheMap.{CacheMap, IsFreeFor, has_place, here}
+use Rattle.dentry_cache.specs.CacheSplits.{IsKeptFor}
+use Rattle.dentry_cache.specs.Came.{IsThat}
+use Rattle.namespace_ops.specs.ChangedFragments.{gone_with}
 use Rattle.namespace_ops.specs.declared.plans.Change.{Change}
 use Rattle.namespace_ops.specs.declared.plans.Change.TheVariants.{Add, Set, Remove, Move}
-use Rattle.dentry_cache.specs.Caches.{AreApart, Caches, HasNoneBeside, HaveEach, all_of, cache_of, has_place}
-use Rattle.mdcache.specs.declared.steps.holders.Holders.{Holders}
+use Rattle.mdcache.specs.declared.holders.Holders.{Holders}
 use Rattle.mdcache.specs.Changes.{first_leaf}
 
--- no leaf has places at two ranks, and each rank has as many places as rank 0
-pub record AreRanks (caches : Caches) : Type 0 where
-  pub apart : AreApart caches
-  pub each : HaveEach (all_of caches).cap caches
-
--- there is such a rank, and a leaf has no place at another: it may have one at this
-pub record MayHold (caches : Caches) (rank : Rank) (leaf : Leaf) : Type 0 where
-  pub there : rank.0 < length caches
-  pub alone : HasNoneBeside caches rank leaf
-
--- what a call leaves of the caches: as many ranks, with as many places each, and no leaf has places at two of them; each place was there, or
--- is one that may come
-pub record KeepsCaches (May : Rank → Leaf → Type 0) (old new : Caches) : Type 0 where
-  pub count : length new ≡ length old
-  pub ranks : AreRanks new
-  pub cap : (all_of new).cap ≡ (all_of old).cap
-  pub places : (rank : Rank) (leaf : Leaf) → has_place new rank leaf ≡ true → (has_place old rank leaf ≡ true) ⊎ May rank leaf
-
--- the place of one leaf, at one rank
-abbrev pub IsThat : Rank → Leaf → Rank → Leaf → Type 0
-IsThat rank leaf other q = (other ≡ rank) × (q ≡ leaf)
-
--- no place comes
-abbrev pub NoneComes : Rank → Leaf → Type 0
-NoneComes rank leaf = ⊥
-
--- what isn't clean of each rank is as it was
-abbrev pub KeepUnsaved : (old new : Caches) → Type 0
-KeepUnsaved old new = (rank : Rank) → unsaved (cache_of new rank).entries ≡ unsaved (cache_of old rank).entries
-
--- each place is that of a live leaf, or is kept for a fragment that will be made
-abbrev pub AreLivePlaces : Homes → Covers → Caches → Type 0
-AreLivePlaces homes covers caches =
-    (rank : Rank) (leaf : Leaf) → has_place caches rank leaf ≡ true → IsLive homes covers leaf ⊎ (is_kept (lookup (leaf_is leaf) (cache_of caches rank).entries) ≡ true)
+-- there is such a rank, and no other has the leaf's fragment
+pub record MayHold (caches : CacheMap) (rank : Rank) (leaf : Leaf) : Type 0 where
+  pub there : rank.0 < length caches.used
+  pub alone : IsFreeFor caches rank.0 leaf
 
 -- if a place is kept for a fragment that will be made, it is that of this leaf at this rank
-abbrev pub KeepsOnlyAt : Option (Rank × Leaf) → Caches → Type 0
-KeepsOnlyAt kept caches = (rank : Rank) (leaf : Leaf) → is_kept (lookup (leaf_is leaf) (cache_of caches rank).entries) ≡ true → kept ≡ Some (rank, leaf)
+abbrev pub KeepsOnlyAt : Option (Rank × Leaf) → CacheMap → Type 0
+KeepsOnlyAt kept c = (r : ℕ) (leaf : Leaf) → has_place c r leaf ≡ true → IsThere (here c r leaf) ⊎ ((map.get c.held leaf ≡ None) × (kept ≡ Some (record { 0 = r }, leaf)))
+
+-- a place that is kept was so before
+abbrev pub KeepsNoMore : (old new : CacheMap) → Type 0
+KeepsNoMore old new = (r : ℕ) (leaf : Leaf) → IsKeptFor new r leaf → IsKeptFor old r leaf
+
+-- no leaf
+abbrev pub NoneUsed : ℕ → Leaf → Type 0
+NoneUsed r leaf = ⊥
 
 -- ---- the ranks of a change
 
 -- the ranks may hold the leaves that a change names; where these are one leaf, they are one rank
-abbrev pub MayHoldEach : Caches → Holders → Change → Type 0
+abbrev pub MayHoldEach : CacheMap → Holders → Change → Type 0
 MayHoldEach caches at (Add dentry leaf inode) = MayHold caches at.first (dentry.dir, leaf)
 MayHoldEach caches at (Set dentry leaf inode) = MayHold caches at.first (dentry.dir, leaf)
 MayHoldEach caches at (Remove dentry leaf went) = MayHold caches at.first (dentry.dir, leaf)
 MayHoldEach caches at (Move from source to target went) =
     MayHold caches at.first (from.dir, source) × MayHold caches at.second (to.dir, target) × (◌≡◌ {A = Leaf} (from.dir, source) (to.dir, target) → at.first ≡ at.second)
 
--- the places that a change may take: those of the leaves that it names, each at its rank, and that of a new directory's leaf beside its name's
-abbrev pub MayComeFor : Holders → Change → Rank → Leaf → Type 0
-MayComeFor at (Add dentry leaf inode) rank q = IsThat at.first (dentry.dir, leaf) rank q ⊎ IsThat at.first (first_leaf inode.ino) rank q
-MayComeFor at (Set dentry leaf inode) rank q = IsThat at.first (dentry.dir, leaf) rank q
-MayComeFor at (Remove dentry leaf went) rank q = IsThat at.first (dentry.dir, leaf) rank q
-MayComeFor at (Move from source to target went) rank q = IsThat at.first (from.dir, source) rank q ⊎ IsThat at.second (to.dir, target) rank q
+-- the leaves that a change names, each at its rank, and that of a new directory beside its name's
+abbrev pub IsNamedIn : Holders → Change → ℕ → Leaf → Type 0
+IsNamedIn at (Add dentry leaf inode) r q = IsThat at.first.0 (dentry.dir, leaf) r q ⊎ IsThat at.first.0 (first_leaf inode.ino) r q
+IsNamedIn at (Set dentry leaf inode) r q = IsThat at.first.0 (dentry.dir, leaf) r q
+IsNamedIn at (Remove dentry leaf went) r q = IsThat at.first.0 (dentry.dir, leaf) r q
+IsNamedIn at (Move from source to target went) r q = IsThat at.first.0 (from.dir, source) r q ⊎ IsThat at.second.0 (to.dir, target) r q
+
+-- a leaf of the directory that goes with a change, whichever rank has it
+abbrev pub EndsWith : Change → ℕ → Leaf → Type 0
+EndsWith change r q = gone_with change ≡ Some q.0

@@ -1,21 +1,24 @@
 //! Commits begin: a snapshot of a fragment that isn't clean is given out as a job.
-ghost use Rattle.std.specs.Prelude.{◌≡◌, ◌-◌, ◌<◌, ◌^◌, OnOk, IfErr};
+ghost use Rattle.std.specs.Prelude.{◌≡◌, ◌+◌, ◌-◌, ◌<◌, ◌^◌, false, OnOk, OnErr, IfOk, IfErr, length};
 ghost use Rattle.std.specs.Option.{option_map};
 ghost use Rattle.std.specs.FinMap as map;
-ghost use Rattle.mds_types.specs.declared.refusals.Refusal.TheVariants.{NoInodes};
-ghost use Rattle.commit_jobs.specs.Snap.{IsBelowEnd};
-ghost use Rattle.cached_frag.specs.Cached.{is_clean};
-ghost use Rattle.dentry_cache.specs.Cache.{Unsaved, unsaved as unsaved_in};
+ghost use Rattle.mds_types.specs.declared.refusals.Refusal.TheVariants.{NoInodes, NoMemory};
+ghost use Rattle.commit_jobs.specs.Snap.{IsBelowEnd, IsSnap};
+ghost use Rattle.cached_frag.specs.Cached.{Cached, is_clean};
+ghost use Rattle.dentry_cache.specs.Cache.{HasCached, Unsaved, unsaved_in};
+ghost use Rattle.dentry_cache.specs.CacheMap.{here, leaf_of, used_at};
+ghost use Rattle.dentry_cache.specs.Came.{Came, IsThat, NoneEnds};
 ghost use Rattle.mdcache.specs.Commits.{Begins, IsAtEnd};
-ghost use Rattle.mdcache.specs.Ranks.{KeepsCaches, MayHold, NoneComes};
+ghost use Rattle.mdcache.specs.Core.{IsJobOf, IsSoundCore, state_of, used_core, with_job_in};
+ghost use Rattle.mdcache.specs.Ranks.{MayHold};
 
-use crate::leaves::is_live;
 use crate::mdcache::MdCache;
-use crate::steps::begin_at;
-use commit_jobs::{Base, Job};
-use dentry_cache::Cache;
+use crate::standing_jobs::StandingJobs;
+use commit_jobs::{Base, Job, Snapshot};
+use dentry_cache::{Caches, Dirfrag};
 use mds_types::{Frag, Ino, Rank, Refusal};
 use objstore::Store;
+use std::alloc::AllocError;
 
 impl<S: Store + Drop> MdCache<S> {
     /// Begins a commit of a leaf, which the rank holds: gives the job of its snapshot, which stands from now on; none, exactly
@@ -24,47 +27,91 @@ impl<S: Store + Drop> MdCache<S> {
     /// Refused `NoSuchFrag` where there is no such leaf, `JobOutstanding` where a job stands for it, `NoInodes` where no
     /// number is left for the job or for the version that the commit writes, and `NoMemory`.
     pub fn begin(&mut self, rank: Rank, dir: Ino, frag: Frag) -> Result<Option<Job>, Refusal>
-        requires holds { MayHold self.old.ranks rank (dir, frag) }
-        ensures begun { Begins self.old.state self.new.state (dir, frag) result }
-        ensures caches { KeepsCaches NoneComes self.old.ranks self.new.ranks }
-        ensures cap { self.new.cache.cap ≡ self.old.cache.cap }
+        requires sound { IsSoundCore self.old }
+        requires holds { MayHold self.old.caches rank (dir, frag) }
+        ensures begun { Begins (state_of self.old) (state_of self.new) (dir, frag) result }
+        ensures came { Came (IsThat rank.0 (dir, frag)) NoneEnds self.old.caches self.new.caches }
         ensures faults { self.new.faults ≡ self.old.faults }
+        ensures sound { IsSoundCore self.new }
     {
-        if !is_live(&self.dirs, dir, frag) {
+        self.begin_of(&Dirfrag { dir, frag, rank })
+    }
+
+    // As `begin`.
+    fn begin_of(&mut self, at: &Dirfrag) -> Result<Option<Job>, Refusal>
+        requires sound { IsSoundCore self.old }
+        requires holds { MayHold self.old.caches at.now.rank (leaf_of at.now) }
+        ensures begun { Begins (state_of self.old) (state_of self.new) (leaf_of at.now) result }
+        ensures came { Came (IsThat at.now.rank.0 (leaf_of at.now)) NoneEnds self.old.caches self.new.caches }
+        ensures faults { self.new.faults ≡ self.old.faults }
+        ensures sound { IsSoundCore self.new }
+    {
+        if !self.has_leaf(at.dir, at.frag) {
             return Err(Refusal::NoSuchFrag);
         }
-        if self.jobs.get(dir, frag).is_some() {
+        if self.jobs.get(at.dir, at.frag).is_some() {
             return Err(Refusal::JobOutstanding);
         }
-        let Some((base, generation)) = unsaved(self.caches.of(rank), dir, frag) else {
+        let Some((base, generation)) = unsaved(&self.caches, at) else {
             return Ok(None);
         };
         if let Err(refusal) = check_numbers(self.next.job, base) {
             return Err(refusal);
         }
-        match begin_at(
-            &mut self.caches,
-            &mut self.jobs,
-            rank,
-            self.next.job,
-            dir,
-            frag,
-            generation,
-        ) {
+        match self.begin_at(at, generation) {
+            Ok(job) => Ok(Some(job)),
             Err(refusal) => Err(refusal),
+        }
+    }
+
+    // A job of the next number stands from now on for a fragment that isn't clean, and is given back. Takes memory for the
+    // snapshot, twice; refused for want of it alone, and no more jobs stand then than before.
+    fn begin_at(&mut self, at: &Dirfrag, generation: u64) -> Result<Job, Refusal>
+        requires there { at.now.rank.0 < length self.old.caches.used }
+        requires begins { HasCached (here self.old.caches at.now.rank.0 (leaf_of at.now)) (λ (f : Cached). (is_clean f ≡ false) × IsBelowEnd f.base × (generation ≡ f.generation)) }
+        requires number { self.old.next_job < 2 ^ 64 - 1 }
+        ensures taken { IfOk result (λ job. HasCached (here self.old.caches at.now.rank.0 (leaf_of at.now)) (IsJobOf self.old.next_job (leaf_of at.now) job)) }
+        ensures stands { IfOk result (λ job. self.new ≡ with_job_in self.old at.now job self.new.room) }
+        ensures valid { IfOk result (λ job. IsSnap job.snapshot) }
+        ensures err { IfErr result (λ reason. reason ≡ NoMemory) }
+        ensures left { OnErr result (self.new ≡ used_core self.old at.now self.new.room) }
+    {
+        let Some(snapshot) = self.caches.begin_commit(*at)? else {
+            unreachable!()
+        };
+        let job = job_of(self.next.job, at, generation, snapshot);
+        match stand(&mut self.jobs, job) {
             Ok(job) => {
                 self.next.job += 1;
-                Ok(Some(job))
+                Ok(job)
             }
+            Err(refusal) => Err(refusal),
         }
     }
 }
 
-// Base and generation of a fragment that isn't clean; none for one that is.
-fn unsaved(cache: &Cache, dir: Ino, frag: Frag) -> Option<(Base, u64)>
-    ensures { result ≡ option_map (λ (u : Unsaved). (u.base, u.generation)) (map.get (unsaved_in cache.now.entries) (dir, frag)) }
+// The job of a snapshot, which is one.
+fn job_of(number: u64, at: &Dirfrag, generation: u64, snapshot: Snapshot) -> Job
+    ensures job { result ≡ record { number = number; ino = at.now.dir; frag = at.now.frag; generation = generation; snapshot = snapshot } }
+    ensures valid { IsSnap result.snapshot }
 {
-    match cache.get(dir, frag) {
+    // The contract of `base` is what says here that it is a snapshot.
+    let _ = snapshot.base();
+    Job {
+        number,
+        ino: at.dir,
+        frag: at.frag,
+        generation,
+        snapshot,
+    }
+}
+
+// Base and generation of a fragment that isn't clean; none for one that is.
+fn unsaved(caches: &Caches, at: &Dirfrag) -> Option<(Base, u64)>
+    requires { at.now.rank.0 < length caches.now.used }
+    ensures { result ≡ option_map (λ (u : Unsaved). (u.base, u.generation)) (unsaved_in (here caches.now at.now.rank.0 (leaf_of at.now))) }
+{
+    match caches.get(*at) {
         Some(fragment) if !fragment.is_clean() => Some((fragment.base(), fragment.generation())),
         _ => None,
     }
@@ -79,4 +126,33 @@ fn check_numbers(number: u64, base: Base) -> Result<(), Refusal>
         return Err(Refusal::NoInodes);
     }
     Ok(())
+}
+
+// A job stands from now on, as a copy, and is given back.
+fn stand(jobs: &mut StandingJobs, job: Job) -> Result<Job, Refusal>
+    ensures given { IfOk result (λ given. given ≡ job) }
+    ensures stands { OnOk result (jobs.new.jobs ≡ map.insert jobs.old.jobs (job.ino, job.frag) job) }
+    ensures err { IfErr result (λ reason. reason ≡ NoMemory) }
+    ensures left { OnErr result (jobs.new.jobs ≡ jobs.old.jobs) }
+{
+    match copy_with_room(jobs, &job) {
+        Ok(copy) => {
+            jobs.put(copy);
+            Ok(job)
+        }
+        Err(_) => {
+            drop(job);
+            Err(Refusal::NoMemory)
+        }
+    }
+}
+
+// A copy of a job, and room for it among those that stand.
+fn copy_with_room(jobs: &mut StandingJobs, job: &Job) -> Result<Job, AllocError>
+    ensures copy { IfOk result (λ copy. copy ≡ job.now) }
+    ensures room { OnOk result (0 < jobs.new.room) }
+    ensures same { jobs.new.jobs ≡ jobs.old.jobs }
+{
+    jobs.reserve(1)?;
+    job.try_clone()
 }

@@ -1,6 +1,7 @@
 //! Commits that are given up.
 ghost use Rattle.std.specs.Prelude.{◌≡◌};
 ghost use Rattle.mdcache.specs.Commits.{Drops};
+ghost use Rattle.mdcache.specs.Core.{IsSoundCore, state_of};
 
 use crate::mdcache::MdCache;
 use mds_types::Refusal;
@@ -12,10 +13,11 @@ impl<S: Store + Drop> MdCache<S> {
     ///
     /// Refused `StaleJob` exactly where no job of this number stands.
     pub fn drop_job(&mut self, number: u64) -> Result<(), Refusal>
-        ensures dropped { Drops self.old.state self.new.state number result }
-        ensures ranks { self.new.ranks ≡ self.old.ranks }
-        ensures cap { self.new.cache.cap ≡ self.old.cache.cap }
+        requires { IsSoundCore self.old }
+        ensures dropped { Drops (state_of self.old) (state_of self.new) number result }
+        ensures caches { self.new.caches ≡ self.old.caches }
         ensures faults { self.new.faults ≡ self.old.faults }
+        ensures sound { IsSoundCore self.new }
     {
         match self.jobs.leaf_of(number) {
             Some(leaf) => {

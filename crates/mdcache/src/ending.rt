@@ -1,14 +1,15 @@
 //! Commits end: what was encoded is written, and what it has is clean then.
 ghost use Rattle.std.specs.Prelude.{◌≡◌, ◌+◌, ◌↔◌, IsTrue, Some};
-ghost use Rattle.objstore.specs.Objects.{faults_told};
 ghost use Rattle.std.specs.Result.{result_err};
 ghost use Rattle.std.specs.FinMap as map;
+ghost use Rattle.objstore.specs.Objects.{faults_told};
+ghost use Rattle.dentry_cache.specs.Came.{Came, IsThat, NoneEnds};
 ghost use Rattle.mdcache.specs.Commits.{Ends, leaf_of};
-ghost use Rattle.mdcache.specs.Ranks.{KeepsCaches, MayHold, NoneComes};
+ghost use Rattle.mdcache.specs.Core.{IsSoundCore, state_of};
+ghost use Rattle.mdcache.specs.Ranks.{MayHold};
 
 use crate::mdcache::MdCache;
 use crate::standing_jobs::StandingJobs;
-use crate::steps::end_at;
 use commit_jobs::{Encoded, Job};
 use mds_types::{Rank, Refusal};
 use objstore::Store;
@@ -21,17 +22,18 @@ impl<S: Store + Drop> MdCache<S> {
     /// Refused `StaleJob` exactly where no job of this number, fragment, generation and snapshot stands; otherwise as the
     /// store refuses the write, and `NoMemory`: all stays dirty then, and the job stands.
     pub fn end(&mut self, alloc: Global, rank: Rank, encoded: &Encoded) -> Result<(), Refusal>
-        requires holds { MayHold self.old.ranks rank (leaf_of encoded.now.job) }
-        ensures ended { Ends self.old.state self.new.state self.old.faults self.new.faults encoded.now.job result }
-        ensures caches { KeepsCaches NoneComes self.old.ranks self.new.ranks }
-        ensures cap { self.new.cache.cap ≡ self.old.cache.cap }
+        requires sound { IsSoundCore self.old }
+        requires holds { MayHold self.old.caches rank (leaf_of encoded.now.job) }
+        ensures ended { Ends (state_of self.old) (state_of self.new) self.old.faults self.new.faults encoded.now.job result }
+        ensures came { Came (IsThat rank.0 (leaf_of encoded.now.job)) NoneEnds self.old.caches self.new.caches }
         ensures counted { self.new.faults ≡ self.old.faults + faults_told (result_err result) }
+        ensures sound { IsSoundCore self.new }
     {
         let job = encoded.job();
         if !stands(&self.jobs, job) {
             return Err(Refusal::StaleJob);
         }
-        if let Err(refusal) = end_at(alloc, &mut self.caches, &mut self.store, rank, encoded) {
+        if let Err(refusal) = self.caches.end_commit(alloc, &mut self.store, rank, encoded) {
             return Err(refusal);
         }
         self.jobs.end(job.ino, job.frag);

@@ -1,11 +1,8 @@
 //! Places of a rank's cache, made free.
-ghost use Rattle.std.specs.Prelude.{◌≡◌, ◌<◌, None, length, OnOk, OnErr, IfErr};
-ghost use Rattle.std.specs.Result.{result_err};
+ghost use Rattle.std.specs.Prelude.{◌≡◌, ◌<◌, Some, None, length, OnOk, OnErr, IfErr};
 ghost use Rattle.mds_types.specs.declared.refusals.Refusal.TheVariants.{NothingToEvict};
-ghost use Rattle.dentry_cache.specs.Cache.{Evicts, NoneGoes};
-ghost use Rattle.dentry_cache.specs.Caches.{cache_of, with_cache};
-ghost use Rattle.mdcache.specs.Frags.{KeepsState};
-ghost use Rattle.mdcache.specs.Ranks.{KeepsCaches, NoneComes};
+ghost use Rattle.dentry_cache.specs.CacheMap.{evicted};
+ghost use Rattle.mdcache.specs.Core.{IsSoundCore, state_of};
 
 use crate::mdcache::MdCache;
 use mds_types::{Rank, Refusal};
@@ -17,16 +14,16 @@ impl<S: Store + Drop> MdCache<S> {
     ///
     /// Refused `NothingToEvict` exactly where no fragment of the rank is clean.
     pub fn evict(&mut self, rank: Rank) -> Result<(), Refusal>
-        requires { rank.0 < length self.old.ranks }
-        ensures evicted { OnOk result (Evicts None (cache_of self.old.ranks rank) (cache_of self.new.ranks rank)) }
-        ensures others { self.new.ranks ≡ with_cache self.old.ranks rank (cache_of self.new.ranks rank) }
-        ensures caches { KeepsCaches NoneComes self.old.ranks self.new.ranks }
-        ensures kept { KeepsState self.old self.new (result_err result) }
-        ensures faults { self.new.faults ≡ self.old.faults }
+        requires there { rank.0 < length self.old.caches.used }
+        requires sound { IsSoundCore self.old }
+        ensures evicted { OnOk result (evicted self.old.caches rank.0 None ≡ Some self.new.caches) }
+        ensures beside { self.new ≡ record self.old { caches = self.new.caches } }
+        ensures state { state_of self.new ≡ state_of self.old }
         ensures refused { IfErr result (λ reason. reason ≡ NothingToEvict) }
-        ensures none { OnErr result (NoneGoes None (cache_of self.old.ranks rank).entries) }
+        ensures none { OnErr result (evicted self.old.caches rank.0 None ≡ None) }
         ensures left { OnErr result (self.new ≡ self.old) }
+        ensures sound { IsSoundCore self.new }
     {
-        self.caches.of_mut(rank).evict()
+        self.caches.evict(rank)
     }
 }

@@ -1,21 +1,20 @@
 //! A tree over a store that has no object.
-ghost use Rattle.std.specs.Prelude.{◌≡◌, ◌+◌, ◌<◌, ◌≤◌, ◌==◌, ◌↔◌, ◌∷◌, [], length, not, IsTrue, IfOk, OnOk, IfErr};
+ghost use Rattle.std.specs.Prelude.{◌≡◌, ◌+◌, ◌<◌, ◌≤◌, ◌==◌, ◌↔◌, [], None, length, not, IsTrue, IfOk, OnOk, IfErr};
 ghost use Rattle.std.specs.Result.{result_err};
 ghost use Rattle.std.specs.FinMap as map;
-ghost use Rattle.lru.specs.LruCache.{lru_cache};
 ghost use Rattle.mds_types.specs.declared.refusals.Refusal.TheVariants.{NoMemory};
-ghost use Rattle.dentry_cache.specs.Cache.{held};
 ghost use Rattle.objstore.specs.Objects.{MayRefuse, faults_in, faults_told};
-ghost use Rattle.dentry_cache.specs.Caches.{all_of};
+ghost use Rattle.dentry_cache.specs.CacheMap.{order, with_frag};
+ghost use Rattle.mdcache.specs.Core.{IsSoundCore, state_of};
 ghost use Rattle.mdcache.specs.New.{MayNotFormat, cached_root, new_caches, new_state, root_leaf};
 
 use crate::mdcache::MdCache;
 use crate::prepared::Prepared;
 use crate::purge_list::PurgeList;
 use crate::standing_jobs::StandingJobs;
-use crate::steps::Counters;
+use crate::counters::Counters;
 use cached_frag::CachedFrag;
-use dentry_cache::{Cache, RankCaches};
+use dentry_cache::{Caches, Dirfrag};
 use inode_table::Dirs;
 use mds_types::{Frag, Ino, Rank, Refusal};
 use objstore::{NamePage, Store};
@@ -37,9 +36,9 @@ impl<S: Store + Drop> MdCache<S> {
         requires few { 512 ≤ places }
         requires many { places ≤ 65536 }
         ensures empty { OnOk result (S.objects store ≡ map.empty) }
-        ensures state { IfOk result (λ m. m.state ≡ new_state) }
-        ensures ranks { IfOk result (λ m. m.ranks ≡ new_caches ranks places) }
-        ensures cache { IfOk result (λ m. m.cache ≡ all_of (new_caches ranks places)) }
+        ensures state { IfOk result (λ m. state_of m ≡ new_state) }
+        ensures caches { IfOk result (λ m. m.caches ≡ new_caches ranks places) }
+        ensures sound { IfOk result IsSoundCore }
         ensures refused { IfErr result (λ back. MayNotFormat (S.objects store) (S.faults store) (S.faults back.1) back.0) }
         ensures left { IfErr result (λ back. S.objects back.1 ≡ S.objects store) }
         ensures faults { IfOk result (λ m. m.faults ≡ S.faults store) }
@@ -63,9 +62,9 @@ impl<S: Store + Drop> MdCache<S> {
         requires few { 512 ≤ places }
         requires many { places ≤ 65536 }
         requires empty { S.objects store ≡ map.empty }
-        ensures state { IfOk result (λ m. m.state ≡ new_state) }
-        ensures ranks { IfOk result (λ m. m.ranks ≡ new_caches ranks places) }
-        ensures cache { IfOk result (λ m. m.cache ≡ all_of (new_caches ranks places)) }
+        ensures state { IfOk result (λ m. state_of m ≡ new_state) }
+        ensures caches { IfOk result (λ m. m.caches ≡ new_caches ranks places) }
+        ensures sound { IfOk result IsSoundCore }
         ensures left { IfErr result (λ back. back ≡ store) }
         ensures faults { IfOk result (λ m. m.faults ≡ S.faults store) }
     {
@@ -91,31 +90,38 @@ impl<S: Store + Drop> MdCache<S> {
 }
 
 // Caches of so many ranks, with the root's leaf alone, at rank 0.
-fn root_caches(alloc: Global, ranks: u8, places: usize) -> Result<RankCaches, Refusal>
+fn root_caches(alloc: Global, ranks: u8, places: usize) -> Result<Caches, Refusal>
     requires some { 0 < ranks }
     requires few { 512 ≤ places }
     requires many { places ≤ 65536 }
     ensures ok { IfOk result (λ caches. caches ≡ new_caches ranks places) }
     ensures refused { IfErr result (λ reason. reason ≡ NoMemory) }
 {
-    let mut caches = RankCaches::new(alloc, ranks, places)?;
-    match put_root(alloc, caches.of_mut(Rank(0))) {
+    let mut caches = Caches::new(alloc, ranks, places)?;
+    match put_root(alloc, &mut caches) {
         Ok(()) => Ok(caches),
         Err(refusal) => Err(refusal),
     }
 }
 
-// Puts the root's leaf into a cache that has no place taken.
-fn put_root(alloc: Global, cache: &mut Cache) -> Result<(), Refusal>
-    requires empty { cache.old.entries ≡ [] }
-    requires some { 0 < cache.old.cap }
-    ensures ok { OnOk result (cache.new ≡ lru_cache ((root_leaf, held cached_root) ∷ []) cache.old.cap) }
+// Puts the root's leaf into the cache of rank 0; no place of it is taken.
+fn put_root(alloc: Global, caches: &mut Caches) -> Result<(), Refusal>
+    requires some { 0 < length caches.old.used }
+    requires empty { order caches.old 0 ≡ [] }
+    requires none { map.get caches.old.held root_leaf ≡ None }
+    requires places { 0 < caches.old.cap }
+    ensures ok { OnOk result (caches.new ≡ with_frag caches.old 0 root_leaf cached_root) }
     ensures refused { IfErr result (λ reason. reason ≡ NoMemory) }
 {
-    if cache.keep(alloc, Ino::ROOT, Frag::ROOT, None).is_err() {
+    let root = &Dirfrag {
+        dir: Ino::ROOT,
+        frag: Frag::ROOT,
+        rank: Rank(0),
+    };
+    if caches.keep(alloc, *root, None).is_err() {
         return Err(Refusal::NoMemory);
     }
-    cache.fill(Ino::ROOT, Frag::ROOT, CachedFrag::fresh(alloc, 1));
+    caches.fill(*root, CachedFrag::fresh(alloc, 1));
     Ok(())
 }
 

@@ -13,21 +13,21 @@ use std::alloc::{AllocError, Global};
 impl<S: Store + Drop> MdCache<S> {
     /// Whether there is such a directory, and it has this leaf. Takes no memory.
     pub fn has_leaf(&self, dir: Ino, frag: Frag) -> bool
-        ensures { IsTrue result ↔ IsLive self.now.state.homes self.now.state.covers (dir, frag) }
+        ensures { IsTrue result ↔ IsLive self.now.homes self.now.covers (dir, frag) }
     {
         is_live(&self.dirs, dir, frag)
     }
 
     /// The first leaf of a directory: the one of the least value, which the hash 0 picks. Takes no memory.
     pub fn first_leaf(&self, dir: Ino) -> Frag
-        ensures { IsPick (leaves_of self.now.state.covers dir.0) 0 result }
+        ensures { IsPick (leaves_of self.now.covers dir.0) 0 result }
     {
         self.dirs.pick(dir, 0)
     }
 
     /// The leaves of a directory by value. Takes memory for them, and is refused for want of it alone.
     pub fn leaves(&self, alloc: Global, dir: Ino) -> Result<Vec<Frag>, AllocError>
-        ensures listed { IfOk result (λ list. list.items ≡ leaves_of self.now.state.covers dir.0) }
+        ensures listed { IfOk result (λ list. list.items ≡ leaves_of self.now.covers dir.0) }
         ensures cover { IfOk result (λ list. IsTree list.items) }
     {
         leaves_in(alloc, &self.dirs, dir)

@@ -2,42 +2,36 @@
 //! ranks' caches of fragments hold beyond the objects of the store, which commits were begun, and which objects are to be removed.
 //! What a leaf shows is what isn't clean of it over its object, so no fetch and no eviction changes the tree that is shown.
 //!
-//! `MdCache` keeps all that together; the steps on its parts are in `steps`.
+//! What contracts see of it (`Core`), the tree that is shown, what makes it sound and what each change makes of it is defined here,
+//! with its laws.
 #![tactic(auto)]
 
 // the type, and a new tree
 mod formatting;
 mod mdcache;
 
-// what stands beside directories and caches: the jobs, and the objects that are to be removed
+// what stands beside directories and caches: the jobs, the objects that are to be removed, the numbers that are given out
+mod counters;
 mod purge_list;
 mod standing_jobs;
 
-// the steps, each on the parts that it needs
-mod steps;
-
 // reads
 mod emptiness;
+mod fetching;
 mod leaves;
 mod listing;
+mod page;
 mod reading;
 
-// what is made ready for a change
+// changes: what is made ready for them, and what they do
+mod applying;
+mod changes;
 mod going;
-mod kept_places;
+mod holders;
 mod prepared;
 mod preparing;
-mod ready;
-mod ready_move;
-mod ready_removal;
-mod ready_set;
-
-// changes
-mod adding;
-mod applying;
-mod removing;
-mod renaming;
-mod setting;
+mod readies;
+mod readying;
 
 // commits, evictions, and the store's objects
 mod beginning;
@@ -45,16 +39,11 @@ mod dropping;
 mod ending;
 mod evicting;
 mod purging;
+mod tree_objects;
 mod trees;
 
-// splits and merges
-mod merging;
-mod regrouping;
-mod splitting;
-
+pub use going::{Going, GoingLeaf};
+pub use holders::Holders;
 pub use mdcache::MdCache;
-pub use ready::NewDirectory;
-pub use ready_move::MovingEntry;
-pub use steps::{
-    Going, GoingLeaf, Holders, Page, changes_are_right, merges_are_right, splits_are_right,
-};
+pub use page::Page;
+pub use prepared::{MovingEntry, NewDirectory};

@@ -1,25 +1,30 @@
 //! The names of a leaf, gathered into a page of its directory.
-ghost use Rattle.std.specs.Prelude.{◌≡◌, List, IfErr, OnOk};
+ghost use Rattle.std.specs.Prelude.{◌≡◌, ◌+◌, ◌<◌, List, IfErr, OnOk, length};
 ghost use Rattle.std.specs.Result.{result_err};
 ghost use Rattle.std.specs.Option.{option_copied};
 ghost use Rattle.std.specs.FinMap as map;
 ghost use Rattle.mds_types.specs.declared.refusals.Refusal.TheVariants.{NoMemory};
 ghost use Rattle.omap.specs.Omap.{key_cmp};
+ghost use Rattle.objstore.specs.Objects.{faults_told};
 ghost use Rattle.sorted_map.specs.Places.{puts};
 ghost use Rattle.cached_frag.specs.Cached.{Cached, shown};
 ghost use Rattle.cached_frag.specs.Rows.{Row, rows_after};
-ghost use Rattle.dentry_cache.specs.Cache.{HasCached, IsThere, cached};
-ghost use Rattle.mdcache.specs.Frags.{KeepsState};
+ghost use Rattle.dentry_cache.specs.Cache.{HasCached, IsThere};
+ghost use Rattle.dentry_cache.specs.CacheCalls.{KeepsNone};
+ghost use Rattle.dentry_cache.specs.CacheMap.{here, leaf_of, unclean};
+ghost use Rattle.dentry_cache.specs.CacheSplits.{IsKeptFor};
+ghost use Rattle.dentry_cache.specs.Came.{IsThat, NoneEnds};
+ghost use Rattle.mdcache.specs.CacheReads.{LacksPlacesIn};
+ghost use Rattle.mdcache.specs.Core.{IsSoundCore, LacksPlacesAt, MayFetch, ReadsCore};
 ghost use Rattle.mdcache.specs.Pages.{IsPageOf};
-ghost use Rattle.mdcache.specs.Ranks.{IsThat, KeepsCaches, MayHold};
-ghost use Rattle.mdcache.specs.Core.{LacksPlacesAt};
+ghost use Rattle.mdcache.specs.Ranks.{MayHold};
 ghost use Rattle.mdcache.specs.Reads.{MayNotFind};
 ghost use Rattle.mdcache.specs.Shown.{names_of};
 ghost use Rattle.mdcache.specs.State.{IsLive};
 
 use crate::mdcache::MdCache;
-use crate::steps::{Page, fetch_at, give_up_at};
-use dentry_cache::Cache;
+use crate::page::Page;
+use dentry_cache::{Caches, Dirfrag};
 use mds_types::{Frag, Ino, Name, Rank, Refusal};
 use objstore::Store;
 use std::alloc::Global;
@@ -39,40 +44,62 @@ impl<S: Store + Drop> MdCache<S> {
         after: Option<&Name>,
         page: &mut Page,
     ) -> Result<(), Refusal>
-        requires live { IsLive self.old.state.homes self.old.state.covers (dir, frag) }
-        requires holds { MayHold self.old.ranks rank (dir, frag) }
-        ensures page { (whole : List Row) → IsPageOf whole page.old → OnOk result (IsPageOf (puts key_cmp whole (rows_after (option_copied after.entry) (map.entries (names_of self.old.state.unsaved self.old.state.objects (dir, frag))))) page.new) }
+        requires sound { IsSoundCore self.old }
+        requires live { IsLive self.old.homes self.old.covers (dir, frag) }
+        requires holds { MayHold self.old.caches rank (dir, frag) }
+        ensures page { (whole : List Row) → IsPageOf whole page.old → OnOk result (IsPageOf (puts key_cmp whole (rows_after (option_copied after.entry) (map.entries (names_of (unclean self.old.caches) self.old.objects (dir, frag))))) page.new) }
         ensures most { page.new.most ≡ page.old.most }
-        ensures kept { KeepsState self.old self.new (result_err result) }
-        ensures caches { KeepsCaches (IsThat rank (dir, frag)) self.old.ranks self.new.ranks }
+        ensures reads { ReadsCore (IsThat rank.0 (dir, frag)) (IsKeptFor self.old.caches) self.old self.new }
+        ensures sound { IsSoundCore self.new }
+        ensures counted { self.new.faults ≡ self.old.faults + faults_told (result_err result) }
         ensures refused { IfErr result (MayNotFind (LacksPlacesAt 1 self.old rank) self.old.faults self.new.faults) }
     {
-        give_up_at(&mut self.caches, &mut self.kept, rank);
-        if let Err(refusal) = fetch_at(alloc, &mut self.caches, &mut self.store, rank, dir, frag) {
+        self.give_up();
+        self.gather_at(alloc, &Dirfrag { dir, frag, rank }, after, page)
+    }
+
+    // Takes the names of a leaf, which is fetched, into a page.
+    fn gather_at(
+        &mut self,
+        alloc: Global,
+        at: &Dirfrag,
+        after: Option<&Name>,
+        page: &mut Page,
+    ) -> Result<(), Refusal>
+        requires may { MayFetch self.old at.now }
+        requires none { KeepsNone self.old.caches }
+        ensures page { OnOk result (HasCached (here self.new.caches at.now.rank.0 (leaf_of at.now)) (λ (f : Cached). (whole : List Row) → IsPageOf whole page.old → IsPageOf (puts key_cmp whole (rows_after (option_copied after.entry) (map.entries (shown f)))) page.new)) }
+        ensures most { page.new.most ≡ page.old.most }
+        ensures reads { ReadsCore (IsThat at.now.rank.0 (leaf_of at.now)) NoneEnds self.old self.new }
+        ensures none { KeepsNone self.new.caches }
+        ensures refused { IfErr result (MayNotFind (LacksPlacesIn 1 self.old.caches at.now.rank.0) self.old.faults self.new.faults) }
+        ensures counted { self.new.faults ≡ self.old.faults + faults_told (result_err result) }
+    {
+        if let Err(refusal) = self.fetch(alloc, at) {
             return Err(refusal);
         }
-        gather_cached(self.caches.of(rank), dir, frag, after, page)
+        gather_cached(&self.caches, at, after, page)
     }
 }
 
 // Takes the names of a cached fragment greater than `after` into a page.
 fn gather_cached(
-    cache: &Cache,
-    dir: Ino,
-    frag: Frag,
+    caches: &Caches,
+    at: &Dirfrag,
     after: Option<&Name>,
     page: &mut Page,
 ) -> Result<(), Refusal>
-    requires { IsThere (cached cache.now.entries (dir, frag)) }
-    ensures page { HasCached (cached cache.now.entries (dir, frag)) (λ (f : Cached). (whole : List Row) → IsPageOf whole page.old → OnOk result (IsPageOf (puts key_cmp whole (rows_after (option_copied after.entry) (map.entries (shown f)))) page.new)) }
+    requires there { at.now.rank.0 < length caches.now.used }
+    requires cached { IsThere (here caches.now at.now.rank.0 (leaf_of at.now)) }
+    ensures page { OnOk result (HasCached (here caches.now at.now.rank.0 (leaf_of at.now)) (λ (f : Cached). (whole : List Row) → IsPageOf whole page.old → IsPageOf (puts key_cmp whole (rows_after (option_copied after.entry) (map.entries (shown f)))) page.new)) }
     ensures most { page.new.most ≡ page.old.most }
     ensures refused { IfErr result (λ reason. reason ≡ NoMemory) }
 {
-    match cache.get(dir, frag) {
+    match caches.get(*at) {
         Some(fragment) => match page.take_rows(fragment.rows_after(after)) {
             Ok(()) => Ok(()),
             Err(_) => Err(Refusal::NoMemory),
         },
-        None => Ok(()),
+        None => unreachable!(),
     }
 }

@@ -1,8 +1,7 @@
 //! What was made ready for a change, beside room: it is kept until the change is made.
 
-use crate::ready::NewDirectory;
-use crate::ready_move::MovingEntry;
-use crate::steps::Going;
+use crate::going::Going;
+use mds_types::{Inode, Name};
 
 /// What a change takes beside itself.
 #[derive(Debug, Drop)]
@@ -15,4 +14,24 @@ pub(crate) enum Prepared {
     Removal(Option<Going>),
     /// What an entry takes that moves.
     Move(MovingEntry),
+}
+
+/// What a directory takes that comes, beside its dentry and its inode.
+#[derive(Debug, Drop)]
+pub struct NewDirectory {
+    /// Its name, once more.
+    pub name: Name,
+    /// The name of the object of its leaf `*`.
+    pub object: String,
+}
+
+/// What an entry that moves takes beside its two dentries.
+#[derive(Debug, Drop)]
+pub struct MovingEntry {
+    /// The inode that moves.
+    pub inode: Inode,
+    /// The name that it gets, once more.
+    pub name: Name,
+    /// The directory that is replaced, if one is.
+    pub going: Option<Going>,
 }

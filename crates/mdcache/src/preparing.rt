@@ -1,21 +1,23 @@
 //! A change of the tree is made ready.
-ghost use Rattle.std.specs.Prelude.{◌≡◌, ◌≤◌, true, Some, OnOk, IfErr};
+ghost use Rattle.std.specs.Prelude.{◌≡◌, ◌+◌, ◌≤◌, true, Some, OnOk, IfErr};
 ghost use Rattle.std.specs.Result.{result_err};
 ghost use Rattle.std.specs.FinMap as map;
 ghost use Rattle.mds_types.specs.declared.inodes.Inode.{Inode as Node};
 ghost use Rattle.mds_types.specs.Tree.{is_directory};
+ghost use Rattle.objstore.specs.Objects.{faults_told};
 ghost use Rattle.dirfrag_codec.specs.EntryRecord.{HasTarget, IsRankNumber};
+ghost use Rattle.dentry_cache.specs.CacheSplits.{IsKeptFor};
 ghost use Rattle.namespace_ops.specs.Changes.{IsNumbered, MayChange};
 ghost use Rattle.namespace_ops.specs.declared.plans.Change.TheVariants.{Add, Move, Remove, Set};
-ghost use Rattle.mdcache.specs.Frags.{IsReady, KeepsState, LacksToMake};
-ghost use Rattle.mdcache.specs.Ranks.{KeepsCaches, MayComeFor, MayHoldEach};
-ghost use Rattle.mdcache.specs.Core.{LacksPlaces};
+ghost use Rattle.mdcache.specs.Core.{IsSoundCore, LacksPlaces, ReadsCore, shown_in, state_of};
+ghost use Rattle.mdcache.specs.Frags.{IsReady, LacksToMake};
+ghost use Rattle.mdcache.specs.Ranks.{IsNamedIn, MayHoldEach};
 ghost use Rattle.mdcache.specs.Ready.{MayNotBeReady};
-ghost use Rattle.mdcache.specs.Shown.{shown_tree};
 
+use crate::holders::Holders;
 use crate::mdcache::MdCache;
 use crate::prepared::Prepared;
-use crate::steps::Holders;
+use dentry_cache::Dirfrag;
 use mds_types::{Dentry, Frag, Ino, Inode, Kind, Refusal};
 use namespace_ops::Change;
 use objstore::Store;
@@ -29,13 +31,15 @@ impl<S: Store + Drop> MdCache<S> {
     /// directory; otherwise `NothingToEvict` where fewer than four places of a holder are free or can become so,
     /// `StoreFault`, and `NoMemory`.
     pub fn prepare(&mut self, alloc: Global, at: Holders, change: &Change) -> Result<(), Refusal>
-        requires holds { MayHoldEach self.old.ranks at change.now }
-        requires may { MayChange (shown_tree self.old.state) self.old.state.covers change.now }
+        requires sound { IsSoundCore self.old }
+        requires holds { MayHoldEach self.old.caches at change.now }
+        requires may { MayChange (shown_in self.old) self.old.covers change.now }
         requires numbered { IsNumbered IsRankNumber change.now }
         ensures ready { OnOk result (IsReady self.new at change.now) }
-        ensures kept { KeepsState self.old self.new (result_err result) }
-        ensures caches { KeepsCaches (MayComeFor at change.now) self.old.ranks self.new.ranks }
-        ensures refused { IfErr result (MayNotBeReady (LacksToMake change.now self.old.state) (LacksPlaces 4 self.old) self.old.faults self.new.faults) }
+        ensures reads { ReadsCore (IsNamedIn at change.now) (IsKeptFor self.old.caches) self.old self.new }
+        ensures sound { IsSoundCore self.new }
+        ensures counted { self.new.faults ≡ self.old.faults + faults_told (result_err result) }
+        ensures refused { IfErr result (MayNotBeReady (LacksToMake change.now (state_of self.old)) (LacksPlaces 4 self.old) self.old.faults self.new.faults) }
     {
         match change {
             Change::Add {
@@ -70,23 +74,26 @@ impl<S: Store + Drop> MdCache<S> {
         leaf: Frag,
         inode: &Inode,
     ) -> Result<(), Refusal>
-        requires holds { MayHoldEach self.old.ranks at (Add dentry.now leaf inode.now) }
-        requires may { MayChange (shown_tree self.old.state) self.old.state.covers (Add dentry.now leaf inode.now) }
+        requires sound { IsSoundCore self.old }
+        requires holds { MayHoldEach self.old.caches at (Add dentry.now leaf inode.now) }
+        requires may { MayChange (shown_in self.old) self.old.covers (Add dentry.now leaf inode.now) }
         requires number { IsRankNumber inode.now.ino.0 }
         ensures ready { OnOk result (IsReady self.new at (Add dentry.now leaf inode.now)) }
-        ensures kept { KeepsState self.old self.new (result_err result) }
-        ensures caches { KeepsCaches (MayComeFor at (Add dentry.now leaf inode.now)) self.old.ranks self.new.ranks }
-        ensures refused { IfErr result (MayNotBeReady (LacksToMake (Add dentry.now leaf inode.now) self.old.state) (LacksPlaces 4 self.old) self.old.faults self.new.faults) }
+        ensures reads { ReadsCore (IsNamedIn at (Add dentry.now leaf inode.now)) (IsKeptFor self.old.caches) self.old self.new }
+        ensures sound { IsSoundCore self.new }
+        ensures counted { self.new.faults ≡ self.old.faults + faults_told (result_err result) }
+        ensures refused { IfErr result (MayNotBeReady (LacksToMake (Add dentry.now leaf inode.now) (state_of self.old)) (LacksPlaces 4 self.old) self.old.faults self.new.faults) }
     {
         has_parts(inode);
+        let place = Dirfrag {
+            dir: dentry.dir,
+            frag: leaf,
+            rank: at.first,
+        };
         if inode.kind.is_dir() {
-            match self.ready_directory(alloc, at.first, dentry, leaf, inode.ino) {
-                Ok(made) => self.keep_prepared(Prepared::Directory(made)),
-                Err(refusal) => return Err(refusal),
-            }
-            return Ok(());
+            return self.ready_directory(alloc, &place, dentry, inode.ino);
         }
-        self.ready_put(alloc, at.first, dentry, leaf)
+        self.ready_name(alloc, &place)
     }
 
     // Makes ready that an inode gets other attributes.
@@ -98,16 +105,22 @@ impl<S: Store + Drop> MdCache<S> {
         leaf: Frag,
         inode: &Inode,
     ) -> Result<(), Refusal>
-        requires holds { MayHoldEach self.old.ranks at (Set dentry.now leaf inode.now) }
-        requires may { MayChange (shown_tree self.old.state) self.old.state.covers (Set dentry.now leaf inode.now) }
+        requires sound { IsSoundCore self.old }
+        requires holds { MayHoldEach self.old.caches at (Set dentry.now leaf inode.now) }
+        requires may { MayChange (shown_in self.old) self.old.covers (Set dentry.now leaf inode.now) }
         ensures ready { OnOk result (IsReady self.new at (Set dentry.now leaf inode.now)) }
-        ensures kept { KeepsState self.old self.new (result_err result) }
-        ensures caches { KeepsCaches (MayComeFor at (Set dentry.now leaf inode.now)) self.old.ranks self.new.ranks }
-        ensures refused { IfErr result (MayNotBeReady (LacksToMake (Set dentry.now leaf inode.now) self.old.state) (LacksPlaces 4 self.old) self.old.faults self.new.faults) }
+        ensures reads { ReadsCore (IsNamedIn at (Set dentry.now leaf inode.now)) (IsKeptFor self.old.caches) self.old self.new }
+        ensures sound { IsSoundCore self.new }
+        ensures counted { self.new.faults ≡ self.old.faults + faults_told (result_err result) }
+        ensures refused { IfErr result (MayNotBeReady (LacksToMake (Set dentry.now leaf inode.now) (state_of self.old)) (LacksPlaces 4 self.old) self.old.faults self.new.faults) }
     {
         has_parts(inode);
-        self.has_parent(dentry);
-        self.ready_set(alloc, at.first, dentry, leaf)
+        let place = Dirfrag {
+            dir: dentry.dir,
+            frag: leaf,
+            rank: at.first,
+        };
+        self.ready_set(alloc, &place, &dentry.name)
     }
 
     // Makes ready that the entry at a dentry goes.
@@ -119,19 +132,21 @@ impl<S: Store + Drop> MdCache<S> {
         leaf: Frag,
         gone: Option<Ino>,
     ) -> Result<(), Refusal>
-        requires holds { MayHoldEach self.old.ranks at (Remove dentry.now leaf gone) }
-        requires may { MayChange (shown_tree self.old.state) self.old.state.covers (Remove dentry.now leaf gone) }
+        requires sound { IsSoundCore self.old }
+        requires holds { MayHoldEach self.old.caches at (Remove dentry.now leaf gone) }
+        requires may { MayChange (shown_in self.old) self.old.covers (Remove dentry.now leaf gone) }
         ensures ready { OnOk result (IsReady self.new at (Remove dentry.now leaf gone)) }
-        ensures kept { KeepsState self.old self.new (result_err result) }
-        ensures caches { KeepsCaches (MayComeFor at (Remove dentry.now leaf gone)) self.old.ranks self.new.ranks }
-        ensures refused { IfErr result (MayNotBeReady (LacksToMake (Remove dentry.now leaf gone) self.old.state) (LacksPlaces 4 self.old) self.old.faults self.new.faults) }
+        ensures reads { ReadsCore (IsNamedIn at (Remove dentry.now leaf gone)) (IsKeptFor self.old.caches) self.old self.new }
+        ensures sound { IsSoundCore self.new }
+        ensures counted { self.new.faults ≡ self.old.faults + faults_told (result_err result) }
+        ensures refused { IfErr result (MayNotBeReady (LacksToMake (Remove dentry.now leaf gone) (state_of self.old)) (LacksPlaces 4 self.old) self.old.faults self.new.faults) }
     {
-        self.has_parent(dentry);
-        match self.ready_removal(alloc, at.first, dentry, leaf, gone) {
-            Ok(going) => self.keep_prepared(Prepared::Removal(going)),
-            Err(refusal) => return Err(refusal),
-        }
-        Ok(())
+        let place = Dirfrag {
+            dir: dentry.dir,
+            frag: leaf,
+            rank: at.first,
+        };
+        self.ready_removal(alloc, &place, gone)
     }
 
     // Makes ready that the entry at a dentry goes to another.
@@ -145,33 +160,26 @@ impl<S: Store + Drop> MdCache<S> {
         target: Frag,
         gone: Option<Ino>,
     ) -> Result<(), Refusal>
-        requires holds { MayHoldEach self.old.ranks at (Move from.now source to.now target gone) }
-        requires may { MayChange (shown_tree self.old.state) self.old.state.covers (Move from.now source to.now target gone) }
+        requires sound { IsSoundCore self.old }
+        requires holds { MayHoldEach self.old.caches at (Move from.now source to.now target gone) }
+        requires may { MayChange (shown_in self.old) self.old.covers (Move from.now source to.now target gone) }
         ensures ready { OnOk result (IsReady self.new at (Move from.now source to.now target gone)) }
-        ensures kept { KeepsState self.old self.new (result_err result) }
-        ensures caches { KeepsCaches (MayComeFor at (Move from.now source to.now target gone)) self.old.ranks self.new.ranks }
-        ensures refused { IfErr result (MayNotBeReady (LacksToMake (Move from.now source to.now target gone) self.old.state) (LacksPlaces 4 self.old) self.old.faults self.new.faults) }
+        ensures reads { ReadsCore (IsNamedIn at (Move from.now source to.now target gone)) (IsKeptFor self.old.caches) self.old self.new }
+        ensures sound { IsSoundCore self.new }
+        ensures counted { self.new.faults ≡ self.old.faults + faults_told (result_err result) }
+        ensures refused { IfErr result (MayNotBeReady (LacksToMake (Move from.now source to.now target gone) (state_of self.old)) (LacksPlaces 4 self.old) self.old.faults self.new.faults) }
     {
-        self.has_parent(from);
-        match self.ready_move(alloc, at, from, source, to, target, gone) {
-            Ok(moving) => self.keep_prepared(Prepared::Move(moving)),
-            Err(refusal) => return Err(refusal),
-        }
-        Ok(())
-    }
-
-    // A name of the tree is one of a directory.
-    fn has_parent(&self, dentry: &Dentry)
-        ensures { (inode : Node) → map.get (shown_tree self.now.state) dentry.now ≡ Some inode → is_directory (shown_tree self.now.state) dentry.now.dir.0 ≡ true }
-    {
-        let _ = &self.dirs;
-    }
-
-    // Keeps what was prepared, in place of what was so before.
-    fn keep_prepared(&mut self, prepared: Prepared)
-        ensures { self.new ≡ record self.old { prepared = prepared } }
-    {
-        self.prepared = prepared;
+        let first = Dirfrag {
+            dir: from.dir,
+            frag: source,
+            rank: at.first,
+        };
+        let second = Dirfrag {
+            dir: to.dir,
+            frag: target,
+            rank: at.second,
+        };
+        self.ready_move(alloc, &first, &from.name, &second, &to.name, gone)
     }
 }
 

@@ -3,6 +3,7 @@ ghost use Rattle.std.specs.Prelude.{◌≡◌, ◌+◌};
 ghost use Rattle.objstore.specs.Objects.{faults_told};
 ghost use Rattle.std.specs.Result.{result_err};
 ghost use Rattle.mdcache.specs.Objects.{Purges};
+ghost use Rattle.mdcache.specs.Core.{IsSoundCore, state_of};
 
 use crate::mdcache::MdCache;
 use mds_types::Refusal;
@@ -14,10 +15,11 @@ impl<S: Store + Drop> MdCache<S> {
     ///
     /// Refused as the store refuses; the name stays on the list then.
     pub fn purge(&mut self) -> Result<(), Refusal>
-        ensures purged { Purges self.old.state self.new.state self.old.faults self.new.faults result }
-        ensures ranks { self.new.ranks ≡ self.old.ranks }
-        ensures cap { self.new.cache.cap ≡ self.old.cache.cap }
+        requires { IsSoundCore self.old }
+        ensures purged { Purges (state_of self.old) (state_of self.new) self.old.faults self.new.faults result }
+        ensures caches { self.new.caches ≡ self.old.caches }
         ensures counted { self.new.faults ≡ self.old.faults + faults_told (result_err result) }
+        ensures sound { IsSoundCore self.new }
     {
         let Some(name) = self.purge.first() else {
             return Ok(());

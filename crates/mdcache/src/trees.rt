@@ -3,9 +3,10 @@ ghost use Rattle.std.specs.Prelude.{◌≡◌, ◌+◌, ◌<◌};
 ghost use Rattle.objstore.specs.Objects.{faults_told};
 ghost use Rattle.std.specs.Result.{result_err};
 ghost use Rattle.mdcache.specs.Objects.{SavesTree};
+ghost use Rattle.mdcache.specs.Core.{IsSoundCore, state_of};
 
 use crate::mdcache::MdCache;
-use crate::steps::save_tree;
+use crate::tree_objects::save_tree;
 use mds_types::{Ino, ObjName, Refusal};
 use objstore::Store;
 use std::alloc::Global;
@@ -17,10 +18,11 @@ impl<S: Store + Drop> MdCache<S> {
     ///
     /// Refused `NoSuchFrag` exactly where there is no such directory; otherwise as the store refuses, and `NoMemory`.
     pub fn commit_tree(&mut self, alloc: Global, dir: Ino) -> Result<(), Refusal>
-        ensures saved { SavesTree self.old.state self.new.state self.old.faults self.new.faults dir result }
-        ensures ranks { self.new.ranks ≡ self.old.ranks }
-        ensures cap { self.new.cache.cap ≡ self.old.cache.cap }
+        requires { IsSoundCore self.old }
+        ensures saved { SavesTree (state_of self.old) (state_of self.new) self.old.faults self.new.faults dir result }
+        ensures caches { self.new.caches ≡ self.old.caches }
         ensures counted { self.new.faults ≡ self.old.faults + faults_told (result_err result) }
+        ensures sound { IsSoundCore self.new }
     {
         if !self.dirs.contains(dir) {
             return Err(Refusal::NoSuchFrag);

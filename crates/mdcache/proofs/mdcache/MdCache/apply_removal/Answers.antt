@@ -1,17 +1,48 @@
-use Rattle.std.proofs.Common.{Some, None, sym, ap, ◌∙◌}
+use Rattle.std.proofs.Common.{rules, Option, ap, subst, sym, ◌∙◌}
+use Rattle.std.specs.Prelude.{IfSome}
+use Rattle.mds_types.specs.declared.ids.Ino.{Ino}
+use Rattle.inode_table.specs.Dirs.{MayGo}
+use Rattle.namespace_ops.specs.Changes.{MayChange}
 use Rattle.namespace_ops.specs.declared.plans.Change.TheVariants.{Remove}
-use Rattle.mdcache.specs.declared.prepared.Prepared.TheVariants.{Removal}
-use Rattle.mdcache.proofs.FragsSteps.{made_after, removal_went}
+use Rattle.mdcache.specs.Core.{Core, shown_in}
+use Rattle.mdcache.specs.Going.{dir_going}
+use Rattle.mdcache.proofs.ChangesMade.{IsChanged, entry_gone, may_go, removal_of}
 use Rattle.mdcache.proofs.mdcache.MdCache.apply_removal.Goals as goal
 
-pub returns-in-Removal-Some-clause-made : goal.returns-in-Removal-Some-clause-made
-returns-in-Removal-Some-clause-made g c =
-    made_after (Remove c.args.dentry c.args.leaf (Some c.in-Removal-Some.going.dir)) (Remove c.args.dentry c.args.leaf c.args.gone) c.args.self.now c.take_prepared.new.self _ c.take_prepared.ensures.left
-    (ap (Remove c.args.dentry c.args.leaf) (removal_went _ _ c.args.gone _ (Some c.in-Removal-Some.going) (sym c.take_prepared.ensures.taken ∙ c.in-Removal-Some.is ∙ ap Removal c.in-Removal-Some.field-0-is) c.requires.ready.1))
-    c.remove_directory.ensures.made
+pub remove_entry-requires-clause-may : goal.remove_entry-requires-clause-may
+remove_entry-requires-clause-may g c =
+    let of = removal_of c.args.self.now c.args.gone c.in-Removal.going (sym (ap (λ (k : Core). k.prepared) c.self.view_is) ∙ sym c.replace.ensures.value ∙ c.in-Removal.is) c.requires.ready.ready.1 in
+    subst (λ (k : Core). IfSome (dir_going c.in-Removal.going) (λ (dir : Ino). MayGo k.homes dir.0)) (sym c.self.view_is)
+    (subst (λ (d : Option Ino). IfSome d (λ (dir : Ino). MayGo c.args.self.now.homes dir.0)) (sym of.0) (may_go c.args.self.now c.requires.sound c.args.dentry c.args.leaf c.args.gone c.requires.may))
 
-pub returns-in-Removal-None-clause-made : goal.returns-in-Removal-None-clause-made
-returns-in-Removal-None-clause-made g c =
-    made_after (Remove c.args.dentry c.args.leaf None) (Remove c.args.dentry c.args.leaf c.args.gone) c.args.self.now c.take_prepared.new.self _ c.take_prepared.ensures.left
-    (ap (Remove c.args.dentry c.args.leaf) (removal_went _ _ c.args.gone _ None (sym c.take_prepared.ensures.taken ∙ c.in-Removal-None.is ∙ ap Removal c.in-Removal-None.field-0-is) c.requires.ready.1))
-    c.remove_file.ensures.made
+pub returns-clause-made : goal.returns-clause-made
+returns-clause-made g c =
+    let of = removal_of c.args.self.now c.args.gone c.in-Removal.going (sym (ap (λ (k : Core). k.prepared) c.self.view_is) ∙ sym c.replace.ensures.value ∙ c.in-Removal.is) c.requires.ready.ready.1 in
+    (subst (λ (d : Option Ino). IsChanged c.args.at (Remove c.args.dentry c.args.leaf d) c.args.self.now c.remove_entry.new.self) of.0
+    (entry_gone c.args.at c.args.self.now c.remove_entry.new.self c.requires.sound c.args.dentry c.args.leaf c.in-Removal.going c.requires.ready.ready.0.room c.requires.ready.kept of.1
+    (subst (λ (d : Option Ino). MayChange (shown_in c.args.self.now) c.args.self.now.covers (Remove c.args.dentry c.args.leaf d)) (sym of.0) c.requires.may) c.replace.new.dest c.remove_entry.new.self.room _ c.self.view_is
+    c.remove_entry.ensures.gone c.remove_entry.ensures.none)).made
+
+pub returns-clause-right : goal.returns-clause-right
+returns-clause-right g c =
+    let of = removal_of c.args.self.now c.args.gone c.in-Removal.going (sym (ap (λ (k : Core). k.prepared) c.self.view_is) ∙ sym c.replace.ensures.value ∙ c.in-Removal.is) c.requires.ready.ready.1 in
+    (subst (λ (d : Option Ino). IsChanged c.args.at (Remove c.args.dentry c.args.leaf d) c.args.self.now c.remove_entry.new.self) of.0
+    (entry_gone c.args.at c.args.self.now c.remove_entry.new.self c.requires.sound c.args.dentry c.args.leaf c.in-Removal.going c.requires.ready.ready.0.room c.requires.ready.kept of.1
+    (subst (λ (d : Option Ino). MayChange (shown_in c.args.self.now) c.args.self.now.covers (Remove c.args.dentry c.args.leaf d)) (sym of.0) c.requires.may) c.replace.new.dest c.remove_entry.new.self.room _ c.self.view_is
+    c.remove_entry.ensures.gone c.remove_entry.ensures.none)).right
+
+pub returns-clause-came : goal.returns-clause-came
+returns-clause-came g c =
+    let of = removal_of c.args.self.now c.args.gone c.in-Removal.going (sym (ap (λ (k : Core). k.prepared) c.self.view_is) ∙ sym c.replace.ensures.value ∙ c.in-Removal.is) c.requires.ready.ready.1 in
+    (subst (λ (d : Option Ino). IsChanged c.args.at (Remove c.args.dentry c.args.leaf d) c.args.self.now c.remove_entry.new.self) of.0
+    (entry_gone c.args.at c.args.self.now c.remove_entry.new.self c.requires.sound c.args.dentry c.args.leaf c.in-Removal.going c.requires.ready.ready.0.room c.requires.ready.kept of.1
+    (subst (λ (d : Option Ino). MayChange (shown_in c.args.self.now) c.args.self.now.covers (Remove c.args.dentry c.args.leaf d)) (sym of.0) c.requires.may) c.replace.new.dest c.remove_entry.new.self.room _ c.self.view_is
+    c.remove_entry.ensures.gone c.remove_entry.ensures.none)).came
+
+pub returns-clause-sound : goal.returns-clause-sound
+returns-clause-sound g c =
+    let of = removal_of c.args.self.now c.args.gone c.in-Removal.going (sym (ap (λ (k : Core). k.prepared) c.self.view_is) ∙ sym c.replace.ensures.value ∙ c.in-Removal.is) c.requires.ready.ready.1 in
+    (subst (λ (d : Option Ino). IsChanged c.args.at (Remove c.args.dentry c.args.leaf d) c.args.self.now c.remove_entry.new.self) of.0
+    (entry_gone c.args.at c.args.self.now c.remove_entry.new.self c.requires.sound c.args.dentry c.args.leaf c.in-Removal.going c.requires.ready.ready.0.room c.requires.ready.kept of.1
+    (subst (λ (d : Option Ino). MayChange (shown_in c.args.self.now) c.args.self.now.covers (Remove c.args.dentry c.args.leaf d)) (sym of.0) c.requires.may) c.replace.new.dest c.remove_entry.new.self.room _ c.self.view_is
+    c.remove_entry.ensures.gone c.remove_entry.ensures.none)).sound

@@ -1,25 +1,19 @@
-use Rattle.std.proofs.Common.{◌≡◌, subst, sym, ◌∙◌}
-use Rattle.std.specs.Prelude.{Ok, string_bytes}
-use Rattle.dentry_cache.specs.Caches.{all_of}
-use Rattle.mdcache.specs.Core.{Core}
-use Rattle.mdcache.specs.Cached.{state_of}
-use Rattle.mdcache.specs.Objects.{SavesTree}
-use Rattle.mdcache.specs.State.{tree_text}
-use Rattle.mdcache.proofs.StepLaws.{tree_is, tree_kept}
+use Rattle.std.proofs.Common.{rules, ◌≡◌, ℕ, List, ap, subst, sym, ◌∙◌}
+use Rattle.std.specs.FinMap as map
+use Rattle.inode_table.specs.Dirs.{leaves_of}
+use Rattle.mdcache.specs.Objects.{with_tree_at}
+use Rattle.mdcache.proofs.BesideLaws.{faults_sound, tree_is, tree_sound}
 use Rattle.mdcache.proofs.mdcache.MdCache.commit_tree.Goals as goal
 
-pub invariant_of-self-2 : goal.invariant_of-self-2
-invariant_of-self-2 g c =
-    let text : string_bytes c.in_ok-text.text ≡ tree_text c.args.dir = c.in_ok-text.ensures.ok in (
-      tree_kept c.self.inside.dirs (all_of c.self.inside.caches) (g.S.Store.objects c.self.inside.store) c.self.inside.jobs c.self.inside.purge c.self.inside.next c.self.invariant.0
-          c.args.dir (sym c.contains.ensures.known ∙ c.if-not-contains.false) (g.S.Store.objects c.save_tree.new.store) c.remove.new.self _ _ (c.as_str.ensures.value ∙ text) (c.as_str-2.ensures.value ∙ text) c.in_default.ensures.saved c.remove.ensures.removed,
-      c.self.invariant.1,
-      c.self.invariant.2,
-    )
+pub returns-in-Err-clause-sound : goal.returns-in-Err-clause-sound
+returns-in-Err-clause-sound g c = faults_sound c.args.self.now _ c.self.view_is c.requires (g.S.Store.objects c.save_tree.new.store) (g.S.Store.faults c.save_tree.new.store) c.in-Err.ensures.same
 
 pub returns-clause-saved : goal.returns-clause-saved
-returns-clause-saved g c =
-    let text : string_bytes c.in_ok-text.text ≡ tree_text c.args.dir = c.in_ok-text.ensures.ok in
-    subst (λ (v : Core). SavesTree v.state (state_of c.self.inside.dirs (all_of c.self.inside.caches) (g.S.Store.objects c.save_tree.new.store) c.self.inside.jobs c.remove.new.self c.self.inside.next) 0 0 c.args.dir (Ok tt)) c.self.view_is (
-    tree_is c.self.inside.dirs (all_of c.self.inside.caches) (g.S.Store.objects c.self.inside.store) c.self.inside.jobs c.self.inside.purge c.self.inside.next c.self.invariant.0
-    c.args.dir (sym c.contains.ensures.known ∙ c.if-not-contains.false) (g.S.Store.objects c.save_tree.new.store) c.remove.new.self _ _ (c.as_str.ensures.value ∙ text) (c.as_str-2.ensures.value ∙ text) c.in_default.ensures.saved c.remove.ensures.removed 0 0)
+returns-clause-saved g c = tree_is c.args.self.now _ c.self.view_is c.requires c.args.dir (g.S.Store.objects c.save_tree.new.store) c.remove.new.self.names (g.S.Store.faults c.save_tree.new.store) (record { dirs = c.self.inside.dirs.room; trees = c.self.inside.dirs.tree_room; jobs = c.self.inside.jobs.room; purge = c.remove.new.self.room }) (sym c.contains.ensures.known ∙ c.if-not-contains.false)
+    (subst (λ (text : List ℕ). g.S.Store.objects c.save_tree.new.store ≡ with_tree_at (g.S.Store.objects c.self.inside.store) text (leaves_of c.self.inside.dirs.trees c.args.dir.0)) (c.as_str.ensures.value ∙ c.in_ok-text.ensures.ok) c.in_default.ensures.saved)
+    (c.remove.ensures.removed ∙ ap (map.remove c.self.inside.purge.names) (c.as_str-2.ensures.value ∙ c.in_ok-text.ensures.ok))
+
+pub returns-clause-sound : goal.returns-clause-sound
+returns-clause-sound g c = tree_sound c.args.self.now _ c.self.view_is c.requires c.args.dir (g.S.Store.objects c.save_tree.new.store) c.remove.new.self.names (g.S.Store.faults c.save_tree.new.store) (record { dirs = c.self.inside.dirs.room; trees = c.self.inside.dirs.tree_room; jobs = c.self.inside.jobs.room; purge = c.remove.new.self.room }) (sym c.contains.ensures.known ∙ c.if-not-contains.false)
+    (subst (λ (text : List ℕ). g.S.Store.objects c.save_tree.new.store ≡ with_tree_at (g.S.Store.objects c.self.inside.store) text (leaves_of c.self.inside.dirs.trees c.args.dir.0)) (c.as_str.ensures.value ∙ c.in_ok-text.ensures.ok) c.in_default.ensures.saved)
+    (c.remove.ensures.removed ∙ ap (map.remove c.self.inside.purge.names) (c.as_str-2.ensures.value ∙ c.in_ok-text.ensures.ok))

@@ -1,102 +1,34 @@
-use Rattle.std.proofs.Common.{◌≡◌, ◌<◌, ◌+◌, List, Option, length, sym, ap, subst, ◌∙◌, arith}
-use Rattle.std.specs.Prelude.{OnOk, refl}
 use Rattle.std.specs.FinMap as map
-use Rattle.mds_types.specs.declared.refusals.Refusal.TheVariants.{NoMemory}
-use Rattle.dentry_cache.specs.Cache.{HasCached, Held, Leaf, cached, unsaved}
-use Rattle.dentry_cache.specs.Caches.{all_of, cache_of}
-use Rattle.mdcache.specs.Core.{Core}
-use Rattle.mdcache.specs.Ranks.{IsThat, KeepsCaches, MayHold}
-use Rattle.mdcache.specs.Core.{LacksPlacesAt}
-use Rattle.mdcache.specs.Reads.{MayNotFind}
-use Rattle.mdcache.specs.State.{IsLive}
-use Rattle.mdcache.proofs.AtRanks.{holds_after}
-use Rattle.mdcache.proofs.AtReads.{mid_saved, new_caches, new_kept, new_only, new_state, new_unsaved, words_at}
-use Rattle.cached_frag.specs.Cached.{Cached, shown}
-use Rattle.dirfrag_codec.specs.FragmentObject.{Names}
-use Rattle.mdcache.specs.Shown.{names_of}
-use Rattle.mdcache.proofs.AtRanks.{cached_here}
-use Rattle.mdcache.proofs.AtReads.{on_names}
 use Rattle.std.specs.Option.{option_copied}
 use Rattle.omap.specs.Omap.{key_cmp}
 use Rattle.sorted_map.specs.Places.{puts}
-use Rattle.cached_frag.specs.Rows.{Row, rows_after}
+use Rattle.cached_frag.specs.Rows.{rows_after}
+use Rattle.dentry_cache.specs.CacheMap.{here}
+use Rattle.dentry_cache.specs.Came.{IsThat}
+use Rattle.dentry_cache.specs.CacheSplits.{IsKeptFor}
+use Rattle.dirfrag_codec.specs.FragmentObject.{Names}
+use Rattle.mdcache.specs.Ranks.{NoneUsed}
 use Rattle.mdcache.specs.Pages.{IsPageOf}
-use Rattle.mdcache.proofs.CountLaws.{no_fault}
+use Rattle.mdcache.proofs.CoreLaws.{cached_so, given_may, given_names, given_reads, given_sound, if_err, not_found_before, on_ok, that_live}
 use Rattle.mdcache.proofs.mdcache.MdCache.gather.Goals as goal
 
-pub fetch_at-requires-clause-holds : goal.fetch_at-requires-clause-holds
-fetch_at-requires-clause-holds g c =
-    let holds : MayHold c.self.inside.caches c.args.rank (c.args.dir, c.args.frag) = subst (λ (k : Core). MayHold k.ranks c.args.rank (c.args.dir, c.args.frag)) (sym c.self.view_is) c.requires.holds in
-    (holds_after c.self.inside.caches c.give_up_at.new.caches c.args.rank (c.args.dir, c.args.frag) (c.give_up_at.ensures.at (g.S.Store.objects c.self.inside.store)).caches holds)
-
-pub fetch_at-requires-clause-ranks : goal.fetch_at-requires-clause-ranks
-fetch_at-requires-clause-ranks g c =
-    (c.give_up_at.ensures.at (g.S.Store.objects c.self.inside.store)).caches.ranks
-
-pub fetch_at-requires-clause-saved : goal.fetch_at-requires-clause-saved
-fetch_at-requires-clause-saved g c =
-    let live : IsLive c.self.inside.dirs.homes c.self.inside.dirs.trees (c.args.dir, c.args.frag) = subst (λ (k : Core). IsLive k.state.homes k.state.covers (c.args.dir, c.args.frag)) (sym c.self.view_is) c.requires.live in
-    let come : (q : Leaf) → q ≡ (c.args.dir, c.args.frag) → IsLive c.self.inside.dirs.homes c.self.inside.dirs.trees q = λ q is. subst (IsLive c.self.inside.dirs.homes c.self.inside.dirs.trees) (sym is) live in
-    mid_saved c.self.inside.dirs c.self.inside.caches (g.S.Store.objects c.self.inside.store) c.self.inside.jobs c.self.inside.purge c.self.inside.next c.self.invariant.0 c.give_up_at.new.caches c.give_up_at.ensures.none (c.give_up_at.ensures.at (g.S.Store.objects c.self.inside.store)) (c.args.dir, c.args.frag) live
-
-pub invariant_of-self : goal.invariant_of-self
-invariant_of-self g c =
-    let live : IsLive c.self.inside.dirs.homes c.self.inside.dirs.trees (c.args.dir, c.args.frag) = subst (λ (k : Core). IsLive k.state.homes k.state.covers (c.args.dir, c.args.frag)) (sym c.self.view_is) c.requires.live in
-    let come : (q : Leaf) → q ≡ (c.args.dir, c.args.frag) → IsLive c.self.inside.dirs.homes c.self.inside.dirs.trees q = λ q is. subst (IsLive c.self.inside.dirs.homes c.self.inside.dirs.trees) (sym is) live in
-    (new_kept c.self.inside.dirs c.self.inside.caches (g.S.Store.objects c.self.inside.store) c.self.inside.jobs c.self.inside.purge c.self.inside.next c.self.invariant.0 c.give_up_at.new.caches c.give_up_at.ensures.none (c.give_up_at.ensures.at (g.S.Store.objects c.self.inside.store)) (IsThat c.args.rank (c.args.dir, c.args.frag)) (λ (q : Leaf). q ≡ (c.args.dir, c.args.frag)) come c.fetch_at.new.caches (g.S.Store.objects c.fetch_at.new.store) c.in-Err.ensures.same c.in-Err.ensures.at, new_only c.self.inside.dirs c.self.inside.caches (g.S.Store.objects c.self.inside.store) c.self.inside.jobs c.self.inside.purge c.self.inside.next c.self.invariant.0 c.give_up_at.new.caches c.give_up_at.ensures.none (c.give_up_at.ensures.at (g.S.Store.objects c.self.inside.store)) (IsThat c.args.rank (c.args.dir, c.args.frag)) (λ (q : Leaf). q ≡ (c.args.dir, c.args.frag)) come c.fetch_at.new.caches (g.S.Store.objects c.fetch_at.new.store) c.in-Err.ensures.same c.in-Err.ensures.at c.give_up_at.new.kept, c.in-Err.ensures.at.caches.ranks)
-
-pub returns-in-Err-clause-kept : goal.returns-in-Err-clause-kept
-returns-in-Err-clause-kept g c =
-    let live : IsLive c.self.inside.dirs.homes c.self.inside.dirs.trees (c.args.dir, c.args.frag) = subst (λ (k : Core). IsLive k.state.homes k.state.covers (c.args.dir, c.args.frag)) (sym c.self.view_is) c.requires.live in
-    let come : (q : Leaf) → q ≡ (c.args.dir, c.args.frag) → IsLive c.self.inside.dirs.homes c.self.inside.dirs.trees q = λ q is. subst (IsLive c.self.inside.dirs.homes c.self.inside.dirs.trees) (sym is) live in
-    record {
-      state = new_state c.self.inside.dirs c.self.inside.caches (g.S.Store.objects c.self.inside.store) c.self.inside.jobs c.self.inside.purge c.self.inside.next c.self.invariant.0 c.give_up_at.new.caches c.give_up_at.ensures.none (c.give_up_at.ensures.at (g.S.Store.objects c.self.inside.store)) (IsThat c.args.rank (c.args.dir, c.args.frag)) (λ (q : Leaf). q ≡ (c.args.dir, c.args.frag)) come c.fetch_at.new.caches (g.S.Store.objects c.fetch_at.new.store) c.in-Err.ensures.same c.in-Err.ensures.at ∙ ap (λ (k : Core). k.state) c.self.view_is;
-      unsaved = λ rank. new_unsaved c.self.inside.dirs c.self.inside.caches (g.S.Store.objects c.self.inside.store) c.self.inside.jobs c.self.inside.purge c.self.inside.next c.self.invariant.0 c.give_up_at.new.caches c.give_up_at.ensures.none (c.give_up_at.ensures.at (g.S.Store.objects c.self.inside.store)) (IsThat c.args.rank (c.args.dir, c.args.frag)) (λ (q : Leaf). q ≡ (c.args.dir, c.args.frag)) come c.fetch_at.new.caches (g.S.Store.objects c.fetch_at.new.store) c.in-Err.ensures.same c.in-Err.ensures.at rank ∙ ap (λ (k : Core). unsaved (cache_of k.ranks rank).entries) c.self.view_is;
-      count = (new_caches c.self.inside.dirs c.self.inside.caches (g.S.Store.objects c.self.inside.store) c.self.inside.jobs c.self.inside.purge c.self.inside.next c.self.invariant.0 c.give_up_at.new.caches c.give_up_at.ensures.none (c.give_up_at.ensures.at (g.S.Store.objects c.self.inside.store)) (IsThat c.args.rank (c.args.dir, c.args.frag)) (λ (q : Leaf). q ≡ (c.args.dir, c.args.frag)) come c.fetch_at.new.caches (g.S.Store.objects c.fetch_at.new.store) c.in-Err.ensures.same c.in-Err.ensures.at).count ∙ ap (λ (k : Core). length k.ranks) c.self.view_is;
-      cap = (new_caches c.self.inside.dirs c.self.inside.caches (g.S.Store.objects c.self.inside.store) c.self.inside.jobs c.self.inside.purge c.self.inside.next c.self.invariant.0 c.give_up_at.new.caches c.give_up_at.ensures.none (c.give_up_at.ensures.at (g.S.Store.objects c.self.inside.store)) (IsThat c.args.rank (c.args.dir, c.args.frag)) (λ (q : Leaf). q ≡ (c.args.dir, c.args.frag)) come c.fetch_at.new.caches (g.S.Store.objects c.fetch_at.new.store) c.in-Err.ensures.same c.in-Err.ensures.at).cap ∙ ap (λ (k : Core). k.cache.cap) c.self.view_is;
-      counted = omega (arith, c.in-Err.ensures.counted, ap (λ (k : Core). k.faults) c.self.view_is);
-    }
-
-pub returns-in-Err-clause-caches : goal.returns-in-Err-clause-caches
-returns-in-Err-clause-caches g c =
-    let live : IsLive c.self.inside.dirs.homes c.self.inside.dirs.trees (c.args.dir, c.args.frag) = subst (λ (k : Core). IsLive k.state.homes k.state.covers (c.args.dir, c.args.frag)) (sym c.self.view_is) c.requires.live in
-    let come : (q : Leaf) → q ≡ (c.args.dir, c.args.frag) → IsLive c.self.inside.dirs.homes c.self.inside.dirs.trees q = λ q is. subst (IsLive c.self.inside.dirs.homes c.self.inside.dirs.trees) (sym is) live in
-    subst (λ (k : Core). KeepsCaches (IsThat c.args.rank (c.args.dir, c.args.frag)) k.ranks c.fetch_at.new.caches) c.self.view_is (new_caches c.self.inside.dirs c.self.inside.caches (g.S.Store.objects c.self.inside.store) c.self.inside.jobs c.self.inside.purge c.self.inside.next c.self.invariant.0 c.give_up_at.new.caches c.give_up_at.ensures.none (c.give_up_at.ensures.at (g.S.Store.objects c.self.inside.store)) (IsThat c.args.rank (c.args.dir, c.args.frag)) (λ (q : Leaf). q ≡ (c.args.dir, c.args.frag)) come c.fetch_at.new.caches (g.S.Store.objects c.fetch_at.new.store) c.in-Err.ensures.same c.in-Err.ensures.at)
-
-pub returns-in-Err-clause-refused : goal.returns-in-Err-clause-refused
-returns-in-Err-clause-refused g c =
-    let holds : MayHold c.self.inside.caches c.args.rank (c.args.dir, c.args.frag) = subst (λ (k : Core). MayHold k.ranks c.args.rank (c.args.dir, c.args.frag)) (sym c.self.view_is) c.requires.holds in
-    subst (λ (k : Core). MayNotFind (LacksPlacesAt 1 k c.args.rank) k.faults (g.S.Store.faults c.fetch_at.new.store) c.in-Err.refusal) c.self.view_is
-    (words_at ((all_of c.self.inside.caches).cap < map.len (unsaved (cache_of c.self.inside.caches c.args.rank).entries) + 1) 1 c.self.inside.caches c.give_up_at.new.caches c.args.rank (g.S.Store.faults c.self.inside.store) (g.S.Store.faults c.fetch_at.new.store) (c.give_up_at.ensures.at (g.S.Store.objects c.self.inside.store)).caches (holds_after c.self.inside.caches c.give_up_at.new.caches c.args.rank (c.args.dir, c.args.frag) (c.give_up_at.ensures.at (g.S.Store.objects c.self.inside.store)).caches holds).there (c.give_up_at.ensures.at (g.S.Store.objects c.self.inside.store)).unsaved c.give_up_at.ensures.fixed (λ lacks. lacks) c.in-Err.refusal c.in-Err.ensures.refused)
-
-pub invariant_of-self-2 : goal.invariant_of-self-2
-invariant_of-self-2 g c =
-    let live : IsLive c.self.inside.dirs.homes c.self.inside.dirs.trees (c.args.dir, c.args.frag) = subst (λ (k : Core). IsLive k.state.homes k.state.covers (c.args.dir, c.args.frag)) (sym c.self.view_is) c.requires.live in
-    let come : (q : Leaf) → q ≡ (c.args.dir, c.args.frag) → IsLive c.self.inside.dirs.homes c.self.inside.dirs.trees q = λ q is. subst (IsLive c.self.inside.dirs.homes c.self.inside.dirs.trees) (sym is) live in
-    (new_kept c.self.inside.dirs c.self.inside.caches (g.S.Store.objects c.self.inside.store) c.self.inside.jobs c.self.inside.purge c.self.inside.next c.self.invariant.0 c.give_up_at.new.caches c.give_up_at.ensures.none (c.give_up_at.ensures.at (g.S.Store.objects c.self.inside.store)) (IsThat c.args.rank (c.args.dir, c.args.frag)) (λ (q : Leaf). q ≡ (c.args.dir, c.args.frag)) come c.fetch_at.new.caches (g.S.Store.objects c.fetch_at.new.store) c.in_default.ensures.same c.in_default.ensures.at, new_only c.self.inside.dirs c.self.inside.caches (g.S.Store.objects c.self.inside.store) c.self.inside.jobs c.self.inside.purge c.self.inside.next c.self.invariant.0 c.give_up_at.new.caches c.give_up_at.ensures.none (c.give_up_at.ensures.at (g.S.Store.objects c.self.inside.store)) (IsThat c.args.rank (c.args.dir, c.args.frag)) (λ (q : Leaf). q ≡ (c.args.dir, c.args.frag)) come c.fetch_at.new.caches (g.S.Store.objects c.fetch_at.new.store) c.in_default.ensures.same c.in_default.ensures.at c.give_up_at.new.kept, c.in_default.ensures.at.caches.ranks)
-
-pub returns-clause-kept : goal.returns-clause-kept
-returns-clause-kept g c =
-    let live : IsLive c.self.inside.dirs.homes c.self.inside.dirs.trees (c.args.dir, c.args.frag) = subst (λ (k : Core). IsLive k.state.homes k.state.covers (c.args.dir, c.args.frag)) (sym c.self.view_is) c.requires.live in
-    let come : (q : Leaf) → q ≡ (c.args.dir, c.args.frag) → IsLive c.self.inside.dirs.homes c.self.inside.dirs.trees q = λ q is. subst (IsLive c.self.inside.dirs.homes c.self.inside.dirs.trees) (sym is) live in
-    record {
-      state = new_state c.self.inside.dirs c.self.inside.caches (g.S.Store.objects c.self.inside.store) c.self.inside.jobs c.self.inside.purge c.self.inside.next c.self.invariant.0 c.give_up_at.new.caches c.give_up_at.ensures.none (c.give_up_at.ensures.at (g.S.Store.objects c.self.inside.store)) (IsThat c.args.rank (c.args.dir, c.args.frag)) (λ (q : Leaf). q ≡ (c.args.dir, c.args.frag)) come c.fetch_at.new.caches (g.S.Store.objects c.fetch_at.new.store) c.in_default.ensures.same c.in_default.ensures.at ∙ ap (λ (k : Core). k.state) c.self.view_is;
-      unsaved = λ rank. new_unsaved c.self.inside.dirs c.self.inside.caches (g.S.Store.objects c.self.inside.store) c.self.inside.jobs c.self.inside.purge c.self.inside.next c.self.invariant.0 c.give_up_at.new.caches c.give_up_at.ensures.none (c.give_up_at.ensures.at (g.S.Store.objects c.self.inside.store)) (IsThat c.args.rank (c.args.dir, c.args.frag)) (λ (q : Leaf). q ≡ (c.args.dir, c.args.frag)) come c.fetch_at.new.caches (g.S.Store.objects c.fetch_at.new.store) c.in_default.ensures.same c.in_default.ensures.at rank ∙ ap (λ (k : Core). unsaved (cache_of k.ranks rank).entries) c.self.view_is;
-      count = (new_caches c.self.inside.dirs c.self.inside.caches (g.S.Store.objects c.self.inside.store) c.self.inside.jobs c.self.inside.purge c.self.inside.next c.self.invariant.0 c.give_up_at.new.caches c.give_up_at.ensures.none (c.give_up_at.ensures.at (g.S.Store.objects c.self.inside.store)) (IsThat c.args.rank (c.args.dir, c.args.frag)) (λ (q : Leaf). q ≡ (c.args.dir, c.args.frag)) come c.fetch_at.new.caches (g.S.Store.objects c.fetch_at.new.store) c.in_default.ensures.same c.in_default.ensures.at).count ∙ ap (λ (k : Core). length k.ranks) c.self.view_is;
-      cap = (new_caches c.self.inside.dirs c.self.inside.caches (g.S.Store.objects c.self.inside.store) c.self.inside.jobs c.self.inside.purge c.self.inside.next c.self.invariant.0 c.give_up_at.new.caches c.give_up_at.ensures.none (c.give_up_at.ensures.at (g.S.Store.objects c.self.inside.store)) (IsThat c.args.rank (c.args.dir, c.args.frag)) (λ (q : Leaf). q ≡ (c.args.dir, c.args.frag)) come c.fetch_at.new.caches (g.S.Store.objects c.fetch_at.new.store) c.in_default.ensures.same c.in_default.ensures.at).cap ∙ ap (λ (k : Core). k.cache.cap) c.self.view_is;
-      counted = omega (arith, c.in_default.ensures.counted, no_fault (Unit {0}) c.gather_cached.result NoMemory refl c.gather_cached.ensures.refused, ap (λ (k : Core). k.faults) c.self.view_is);
-    }
-
-pub returns-clause-caches : goal.returns-clause-caches
-returns-clause-caches g c =
-    let live : IsLive c.self.inside.dirs.homes c.self.inside.dirs.trees (c.args.dir, c.args.frag) = subst (λ (k : Core). IsLive k.state.homes k.state.covers (c.args.dir, c.args.frag)) (sym c.self.view_is) c.requires.live in
-    let come : (q : Leaf) → q ≡ (c.args.dir, c.args.frag) → IsLive c.self.inside.dirs.homes c.self.inside.dirs.trees q = λ q is. subst (IsLive c.self.inside.dirs.homes c.self.inside.dirs.trees) (sym is) live in
-    subst (λ (k : Core). KeepsCaches (IsThat c.args.rank (c.args.dir, c.args.frag)) k.ranks c.fetch_at.new.caches) c.self.view_is (new_caches c.self.inside.dirs c.self.inside.caches (g.S.Store.objects c.self.inside.store) c.self.inside.jobs c.self.inside.purge c.self.inside.next c.self.invariant.0 c.give_up_at.new.caches c.give_up_at.ensures.none (c.give_up_at.ensures.at (g.S.Store.objects c.self.inside.store)) (IsThat c.args.rank (c.args.dir, c.args.frag)) (λ (q : Leaf). q ≡ (c.args.dir, c.args.frag)) come c.fetch_at.new.caches (g.S.Store.objects c.fetch_at.new.store) c.in_default.ensures.same c.in_default.ensures.at)
+pub gather_at-requires-clause-may : goal.gather_at-requires-clause-may
+gather_at-requires-clause-may g c = given_may c.args.self.now c.give_up.new.self c.give_up.ensures.reads _ c.requires.sound c.requires.holds c.requires.live
 
 pub returns-clause-page : goal.returns-clause-page
-returns-clause-page g c =
-    let live : IsLive c.self.inside.dirs.homes c.self.inside.dirs.trees (c.args.dir, c.args.frag) = subst (λ (k : Core). IsLive k.state.homes k.state.covers (c.args.dir, c.args.frag)) (sym c.self.view_is) c.requires.live in
-    let come : (q : Leaf) → q ≡ (c.args.dir, c.args.frag) → IsLive c.self.inside.dirs.homes c.self.inside.dirs.trees q = λ q is. subst (IsLive c.self.inside.dirs.homes c.self.inside.dirs.trees) (sym is) live in
-    subst (λ (k : Core). (whole : List Row) → IsPageOf whole c.args.page.now → OnOk c.gather_cached.result (IsPageOf (puts key_cmp whole (rows_after (option_copied c.args.after) (map.entries (names_of k.state.unsaved k.state.objects (c.args.dir, c.args.frag))))) c.gather_cached.new.page)) c.self.view_is
-    (on_names c.self.inside.dirs c.self.inside.caches (g.S.Store.objects c.self.inside.store) c.self.inside.jobs c.self.inside.purge c.self.inside.next c.self.invariant.0 c.give_up_at.new.caches c.give_up_at.ensures.none (c.give_up_at.ensures.at (g.S.Store.objects c.self.inside.store)) (IsThat c.args.rank (c.args.dir, c.args.frag)) (λ (q : Leaf). q ≡ (c.args.dir, c.args.frag)) come c.fetch_at.new.caches (g.S.Store.objects c.fetch_at.new.store) c.in_default.ensures.same c.in_default.ensures.at (c.args.dir, c.args.frag) (λ (names : Names). (whole : List Row) → IsPageOf whole c.args.page.now → OnOk c.gather_cached.result (IsPageOf (puts key_cmp whole (rows_after (option_copied c.args.after) (map.entries names))) c.gather_cached.new.page))
-    (subst (λ (o : Option Cached). HasCached o (λ (f : Cached). (λ (names : Names). (whole : List Row) → IsPageOf whole c.args.page.now → OnOk c.gather_cached.result (IsPageOf (puts key_cmp whole (rows_after (option_copied c.args.after) (map.entries names))) c.gather_cached.new.page)) (shown f))) (sym (cached_here c.fetch_at.new.caches c.args.rank (c.args.dir, c.args.frag) c.in_default.ensures.holds.alone)) (subst (λ (h : Held). HasCached (cached h.entries (c.args.dir, c.args.frag)) (λ (f : Cached). (λ (names : Names). (whole : List Row) → IsPageOf whole c.args.page.now → OnOk c.gather_cached.result (IsPageOf (puts key_cmp whole (rows_after (option_copied c.args.after) (map.entries names))) c.gather_cached.new.page)) (shown f))) c.of.ensures c.gather_cached.ensures.page)))
+returns-clause-page g c whole is = on_ok c.gather_at.result (λ has.
+    given_names (IsThat c.args.rank.0 (c.args.dir, c.args.frag)) c.args.self.now c.give_up.new.self c.gather_at.new.self c.give_up.ensures.reads c.gather_at.ensures.reads c.requires.sound c.gather_at.ensures.none
+    (that_live c.args.self.now c.args.rank.0 (c.args.dir, c.args.frag) c.requires.live)
+    (λ (names : Names). IsPageOf (puts key_cmp whole (rows_after (option_copied c.args.after) (map.entries names))) c.gather_at.new.page) c.args.rank.0 (c.args.dir, c.args.frag) (cached_so _ _ (here c.gather_at.new.self.caches c.args.rank.0 (c.args.dir, c.args.frag)) (λ f each. each whole is) has)) c.gather_at.ensures.page
+
+pub returns-clause-reads : goal.returns-clause-reads
+returns-clause-reads g c = given_reads (IsThat c.args.rank.0 (c.args.dir, c.args.frag)) c.args.self.now c.give_up.new.self c.gather_at.new.self c.give_up.ensures.reads c.gather_at.ensures.reads
+
+pub returns-clause-sound : goal.returns-clause-sound
+returns-clause-sound g c =
+    given_sound (IsThat c.args.rank.0 (c.args.dir, c.args.frag)) c.args.self.now c.give_up.new.self c.gather_at.new.self c.give_up.ensures.reads c.gather_at.ensures.reads c.requires.sound c.gather_at.ensures.none
+    (that_live c.args.self.now c.args.rank.0 (c.args.dir, c.args.frag) c.requires.live)
+
+pub returns-clause-refused : goal.returns-clause-refused
+returns-clause-refused g c =
+    if_err _ _ c.gather_at.result (λ reason is. not_found_before NoneUsed (IsKeptFor c.args.self.now.caches) c.args.self.now c.give_up.new.self c.give_up.ensures.reads 1 c.args.rank.0 c.gather_at.new.self.faults reason c.give_up.ensures.faults is) c.gather_at.ensures.refused

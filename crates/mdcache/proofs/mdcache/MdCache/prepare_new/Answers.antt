@@ -1,5 +1,19 @@
-use Rattle.mdcache.proofs.FragsSteps.{unused_stands}
+use Rattle.std.proofs.Common.{rules, ◌⊎◌, ℕ, inl}
+use Rattle.dentry_cache.specs.Cache.{Leaf}
+use Rattle.dentry_cache.specs.CacheSplits.{IsKeptFor}
+use Rattle.dentry_cache.specs.Came.{IsThat}
+use Rattle.namespace_ops.specs.declared.plans.Change.TheVariants.{Add}
+use Rattle.mdcache.specs.Ranks.{IsNamedIn}
+use Rattle.mdcache.proofs.CoreLaws.{reads_core_wider}
+use Rattle.mdcache.proofs.PrepareLaws.{dir_live}
 use Rattle.mdcache.proofs.mdcache.MdCache.prepare_new.Goals as goal
 
-pub ready_directory-requires-clause-unused : goal.ready_directory-requires-clause-unused
-ready_directory-requires-clause-unused g c = unused_stands _ _ c.requires.may.takes.unused
+pub ready_directory-requires-clause-live : goal.ready_directory-requires-clause-live
+ready_directory-requires-clause-live g c = dir_live c.args.self.now c.requires.sound c.args.dentry.now c.args.leaf c.requires.may.takes.parent c.requires.may.carries
+
+pub ready_name-requires-clause-live : goal.ready_name-requires-clause-live
+ready_name-requires-clause-live g c = dir_live c.args.self.now c.requires.sound c.args.dentry.now c.args.leaf c.requires.may.takes.parent c.requires.may.carries
+
+pub returns-clause-reads : goal.returns-clause-reads
+returns-clause-reads g c = reads_core_wider (IsThat c.args.at.first.0 (c.args.dentry.now.dir, c.args.leaf)) (IsNamedIn c.args.at (Add c.args.dentry.now c.args.leaf c.args.inode.now)) (IsKeptFor c.args.self.now.caches) (IsKeptFor c.args.self.now.caches)
+    c.args.self.now c.ready_name.new.self (λ r q is. inl is) (λ r q is. is) c.ready_name.ensures.reads

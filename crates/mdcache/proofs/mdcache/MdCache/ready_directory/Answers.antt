@@ -1,127 +1,63 @@
-use Rattle.std.proofs.Common.{◌≡◌, ◌⊎◌, ◌<◌, ◌+◌, inr, None, length, sym, ap, subst, ◌∙◌, arith, rules}
+use Rattle.std.proofs.Common.{rules, ◌≡◌, ◌⊎◌, ◌<◌, ◌+◌, ℕ, inl, inr, None, Some, Option, arith, ap, sym, subst, ◌∙◌}
 use Rattle.std.specs.FinMap as map
-use Rattle.mds_types.specs.Tree.{is_directory}
-use Rattle.fragtree.specs.FragTree.{IsPick}
-use Rattle.namehash.specs.Rjenkins.{hash_of}
-use Rattle.dentry_cache.specs.Cache.{Leaf, cached, unsaved}
-use Rattle.inode_table.specs.Dirs.{leaves_of}
-use Rattle.dentry_cache.specs.Caches.{all_of, cache_of}
-use Rattle.mdcache.specs.Core.{Core}
-use Rattle.mdcache.specs.Ranks.{IsThat, KeepsCaches, MayHold}
-use Rattle.mdcache.specs.Ready.{LacksNumbers, MayNotBeReady}
-use Rattle.mdcache.specs.Core.{LacksPlacesAt}
-use Rattle.mdcache.specs.Shown.{shown_tree}
-use Rattle.mdcache.specs.State.{IsLive}
-use Rattle.mdcache.proofs.AtRanks.{holds_after}
-use Rattle.mdcache.proofs.AtReads.{made_caches, made_kept, made_only, made_state, made_unsaved, mid_kept, mid_saved, words_at}
-use Rattle.mdcache.proofs.ReadSteps.{pick_live}
-use Rattle.mdcache.proofs.ReadyLaws.{neither, not_cached, roomy_kept, roomy_state, unknown_dead}
+use Rattle.mds_types.specs.declared.ids.Rank.{Rank}
 use Rattle.mds_types.specs.Frag.{root_fragment}
+use Rattle.dentry_cache.specs.Cache.{Leaf}
+use Rattle.dentry_cache.specs.CacheMap.{leaf_of}
+use Rattle.dentry_cache.specs.CacheSplits.{IsKeptFor}
+use Rattle.dentry_cache.specs.Came.{IsThat}
+use Rattle.inode_table.specs.Dirs.{Table}
 use Rattle.mdcache.specs.Changes.{first_leaf}
-use Rattle.mdcache.proofs.AtRanks.{held_by_any, one_only}
-use Rattle.objstore.specs.Objects.{faults_in}
-use Rattle.mdcache.proofs.FragsLaws.{keeps_refused}
+use Rattle.mdcache.specs.Core.{Core}
+use Rattle.mdcache.specs.Ranks.{KeepsOnlyAt, NoneUsed}
+use Rattle.mdcache.proofs.CoreLaws.{dirs_grown, grown_given, grown_may, grown_reads, grows_by, may_fetch, not_found_before, not_ready, reads_itself, reads_sound_so, remembered, still_absent}
+use Rattle.mdcache.proofs.PrepareLaws.{first_apart, first_live_so, first_nowhere, two_left}
+use Rattle.mdcache.proofs.NoneLaws.{none_only}
 use Rattle.mdcache.proofs.mdcache.MdCache.ready_directory.Goals as goal
 
-pub ready_first_at-requires-clause-holds : goal.ready_first_at-requires-clause-holds
-ready_first_at-requires-clause-holds g c =
-    let holds : MayHold c.self.inside.caches c.args.rank (c.args.dentry.now.dir, c.args.leaf) = subst (λ (k : Core). MayHold k.ranks c.args.rank (c.args.dentry.now.dir, c.args.leaf)) (sym c.self.view_is) c.requires.holds in
-    (holds_after c.self.inside.caches c.give_up_at.new.caches c.args.rank (c.args.dentry.now.dir, c.args.leaf) (c.give_up_at.ensures.at (g.S.Store.objects c.self.inside.store)).caches holds)
+pub returns-in-Err-clause-reads : goal.returns-in-Err-clause-reads
+returns-in-Err-clause-reads g c = reads_itself (λ (r : ℕ) (q : Leaf). IsThat c.args.at.now.rank.0 (leaf_of c.args.at.now) r q ⊎ IsThat c.args.at.now.rank.0 (first_leaf c.args.dir) r q) (IsKeptFor c.args.self.now.caches) c.args.self.now
 
-pub ready_first_at-requires-clause-first : goal.ready_first_at-requires-clause-first
-ready_first_at-requires-clause-first g c =
-    let holds : MayHold c.self.inside.caches c.args.rank (c.args.dentry.now.dir, c.args.leaf) = subst (λ (k : Core). MayHold k.ranks c.args.rank (c.args.dentry.now.dir, c.args.leaf)) (sym c.self.view_is) c.requires.holds in
-    let unused = ap (λ (k : Core). is_directory (shown_tree k.state) c.args.dir.0) c.self.view_is ∙ c.requires.unused in
-    let absent : cached (all_of c.give_up_at.new.caches).entries (first_leaf c.args.dir) ≡ None = not_cached c.self.inside.dirs (all_of c.give_up_at.new.caches) (g.S.Store.objects c.self.inside.store) c.self.inside.jobs c.self.inside.purge c.self.inside.next (mid_kept c.self.inside.dirs c.self.inside.caches (g.S.Store.objects c.self.inside.store) c.self.inside.jobs c.self.inside.purge c.self.inside.next c.self.invariant.0 c.give_up_at.new.caches c.give_up_at.ensures.none (c.give_up_at.ensures.at (g.S.Store.objects c.self.inside.store))) (first_leaf c.args.dir) (unknown_dead c.self.inside.dirs (all_of c.self.inside.caches) (g.S.Store.objects c.self.inside.store) c.self.inside.jobs c.self.inside.purge c.self.inside.next c.self.invariant.0 c.args.dir root_fragment unused) in
-    held_by_any c.give_up_at.new.caches c.args.rank (first_leaf c.args.dir) (holds_after c.self.inside.caches c.give_up_at.new.caches c.args.rank (c.args.dentry.now.dir, c.args.leaf) (c.give_up_at.ensures.at (g.S.Store.objects c.self.inside.store)).caches holds).there (c.give_up_at.ensures.at (g.S.Store.objects c.self.inside.store)).caches.ranks.apart c.give_up_at.ensures.none absent
+pub returns-in-Err-check_left-clause-reads : goal.returns-in-Err-check_left-clause-reads
+returns-in-Err-check_left-clause-reads g c = reads_itself (λ (r : ℕ) (q : Leaf). IsThat c.args.at.now.rank.0 (leaf_of c.args.at.now) r q ⊎ IsThat c.args.at.now.rank.0 (first_leaf c.args.dir) r q) (IsKeptFor c.args.self.now.caches) c.args.self.now
 
-pub ready_first_at-requires-clause-ranks : goal.ready_first_at-requires-clause-ranks
-ready_first_at-requires-clause-ranks g c =
-    (c.give_up_at.ensures.at (g.S.Store.objects c.self.inside.store)).caches.ranks
+pub returns-in_err-made-clause-reads : goal.returns-in_err-made-clause-reads
+returns-in_err-made-clause-reads g c = reads_itself (λ (r : ℕ) (q : Leaf). IsThat c.args.at.now.rank.0 (leaf_of c.args.at.now) r q ⊎ IsThat c.args.at.now.rank.0 (first_leaf c.args.dir) r q) (IsKeptFor c.args.self.now.caches) c.args.self.now
 
-pub ready_first_at-requires-clause-saved : goal.ready_first_at-requires-clause-saved
-ready_first_at-requires-clause-saved g c =
-    let known = ap (λ (k : Core). is_directory (shown_tree k.state) c.args.dentry.now.dir.0) c.self.view_is ∙ c.requires.known in
-    let pick : IsPick (leaves_of c.self.inside.dirs.trees c.args.dentry.now.dir.0) (hash_of c.args.dentry.now.name) c.args.leaf = subst (λ (k : Core). IsPick (leaves_of k.state.covers c.args.dentry.now.dir.0) (hash_of c.args.dentry.now.name) c.args.leaf) (sym c.self.view_is) c.requires.leaf in
-    let live : IsLive c.self.inside.dirs.homes c.self.inside.dirs.trees (c.args.dentry.now.dir, c.args.leaf) = pick_live c.self.inside.dirs (all_of c.self.inside.caches) (g.S.Store.objects c.self.inside.store) c.self.inside.jobs c.self.inside.purge c.self.inside.next c.self.invariant.0 c.args.dentry.now.dir (hash_of c.args.dentry.now.name) c.args.leaf known pick in
-    let come : (q : Leaf) → q ≡ (c.args.dentry.now.dir, c.args.leaf) → IsLive c.self.inside.dirs.homes c.self.inside.dirs.trees q = λ q is. subst (IsLive c.self.inside.dirs.homes c.self.inside.dirs.trees) (sym is) live in
-    mid_saved c.self.inside.dirs c.self.inside.caches (g.S.Store.objects c.self.inside.store) c.self.inside.jobs c.self.inside.purge c.self.inside.next c.self.invariant.0 c.give_up_at.new.caches c.give_up_at.ensures.none (c.give_up_at.ensures.at (g.S.Store.objects c.self.inside.store)) (c.args.dentry.now.dir, c.args.leaf) live
+pub returns-in-Err-reserve-clause-reads : goal.returns-in-Err-reserve-clause-reads
+returns-in-Err-reserve-clause-reads g c = dirs_grown (λ (r : ℕ) (q : Leaf). IsThat c.args.at.now.rank.0 (leaf_of c.args.at.now) r q ⊎ IsThat c.args.at.now.rank.0 (first_leaf c.args.dir) r q) (IsKeptFor c.args.self.now.caches) c.args.self.now _ c.self.view_is c.reserve.new.self.homes c.reserve.new.self.trees c.reserve.new.self.room c.reserve.new.self.tree_room c.reserve.ensures.homes c.reserve.ensures.trees (grows_by c.self.inside.dirs.room c.reserve.new.self.room (λ some. ap (λ (d : Table). d.room) (c.reserve.ensures.ready some).1)) c.reserve.ensures.tree_room
 
-pub ready_first_at-requires-clause-absent : goal.ready_first_at-requires-clause-absent
-ready_first_at-requires-clause-absent g c =
-    let unused = ap (λ (k : Core). is_directory (shown_tree k.state) c.args.dir.0) c.self.view_is ∙ c.requires.unused in
-    let absent : cached (all_of c.give_up_at.new.caches).entries (first_leaf c.args.dir) ≡ None = not_cached c.self.inside.dirs (all_of c.give_up_at.new.caches) (g.S.Store.objects c.self.inside.store) c.self.inside.jobs c.self.inside.purge c.self.inside.next (mid_kept c.self.inside.dirs c.self.inside.caches (g.S.Store.objects c.self.inside.store) c.self.inside.jobs c.self.inside.purge c.self.inside.next c.self.invariant.0 c.give_up_at.new.caches c.give_up_at.ensures.none (c.give_up_at.ensures.at (g.S.Store.objects c.self.inside.store))) (first_leaf c.args.dir) (unknown_dead c.self.inside.dirs (all_of c.self.inside.caches) (g.S.Store.objects c.self.inside.store) c.self.inside.jobs c.self.inside.purge c.self.inside.next c.self.invariant.0 c.args.dir root_fragment unused) in
-    absent
+pub ready_first-requires-clause-may : goal.ready_first-requires-clause-may
+ready_first-requires-clause-may g c =
+    grown_may (λ (r : ℕ) (q : Leaf). IsThat c.args.at.now.rank.0 (leaf_of c.args.at.now) r q ⊎ IsThat c.args.at.now.rank.0 (first_leaf c.args.dir) r q) c.args.self.now _ c.give_up.new.self c.give_up.new.self (dirs_grown (λ (r : ℕ) (q : Leaf). IsThat c.args.at.now.rank.0 (leaf_of c.args.at.now) r q ⊎ IsThat c.args.at.now.rank.0 (first_leaf c.args.dir) r q) (IsKeptFor c.args.self.now.caches) c.args.self.now _ c.self.view_is c.reserve.new.self.homes c.reserve.new.self.trees c.reserve.new.self.room c.reserve.new.self.tree_room c.reserve.ensures.homes c.reserve.ensures.trees (grows_by c.self.inside.dirs.room c.reserve.new.self.room (λ some. ap (λ (d : Table). d.room) (c.reserve.ensures.ready some).1)) c.reserve.ensures.tree_room) (ap (λ (k : Core). k.caches) c.self.view_is) c.give_up.ensures.reads (reads_itself _ _ c.give_up.new.self) c.args.at.now
+    (λ r is. first_apart c.args.self.now c.args.at.now.rank.0 (leaf_of c.args.at.now) c.args.dir c.requires.live c.requires.unused r is)
+    (may_fetch c.args.self.now c.requires.sound c.args.at.now c.requires.holds c.requires.live)
 
-pub invariant_of-self-in-Err-ready_first_at : goal.invariant_of-self-in-Err-ready_first_at
-invariant_of-self-in-Err-ready_first_at g c =
-    let known = ap (λ (k : Core). is_directory (shown_tree k.state) c.args.dentry.now.dir.0) c.self.view_is ∙ c.requires.known in
-    let pick : IsPick (leaves_of c.self.inside.dirs.trees c.args.dentry.now.dir.0) (hash_of c.args.dentry.now.name) c.args.leaf = subst (λ (k : Core). IsPick (leaves_of k.state.covers c.args.dentry.now.dir.0) (hash_of c.args.dentry.now.name) c.args.leaf) (sym c.self.view_is) c.requires.leaf in
-    let live : IsLive c.self.inside.dirs.homes c.self.inside.dirs.trees (c.args.dentry.now.dir, c.args.leaf) = pick_live c.self.inside.dirs (all_of c.self.inside.caches) (g.S.Store.objects c.self.inside.store) c.self.inside.jobs c.self.inside.purge c.self.inside.next c.self.invariant.0 c.args.dentry.now.dir (hash_of c.args.dentry.now.name) c.args.leaf known pick in
-    let come : (q : Leaf) → q ≡ (c.args.dentry.now.dir, c.args.leaf) → IsLive c.self.inside.dirs.homes c.self.inside.dirs.trees q = λ q is. subst (IsLive c.self.inside.dirs.homes c.self.inside.dirs.trees) (sym is) live in
-    (roomy_kept c.self.inside.dirs (all_of c.ready_first_at.new.caches) (g.S.Store.objects c.ready_first_at.new.store) c.self.inside.jobs c.self.inside.purge c.self.inside.next (made_kept c.self.inside.dirs c.self.inside.caches (g.S.Store.objects c.self.inside.store) c.self.inside.jobs c.self.inside.purge c.self.inside.next c.self.invariant.0 c.give_up_at.new.caches c.give_up_at.ensures.none (c.give_up_at.ensures.at (g.S.Store.objects c.self.inside.store)) (λ other q. IsThat c.args.rank (c.args.dentry.now.dir, c.args.leaf) other q ⊎ IsThat c.args.rank (first_leaf c.args.dir) other q) (λ (q : Leaf). q ≡ (c.args.dentry.now.dir, c.args.leaf)) come c.ready_first_at.new.caches (g.S.Store.objects c.ready_first_at.new.store) c.in-Err-ready_first_at.ensures.same c.in-Err-ready_first_at.ensures.at) c.reserve.new.self c.in_default-reserve.ensures.homes c.in_default-reserve.ensures.trees, made_only c.self.inside.dirs c.self.inside.caches (g.S.Store.objects c.self.inside.store) c.self.inside.jobs c.self.inside.purge c.self.inside.next c.self.invariant.0 c.give_up_at.new.caches c.give_up_at.ensures.none (c.give_up_at.ensures.at (g.S.Store.objects c.self.inside.store)) (λ other q. IsThat c.args.rank (c.args.dentry.now.dir, c.args.leaf) other q ⊎ IsThat c.args.rank (first_leaf c.args.dir) other q) (λ (q : Leaf). q ≡ (c.args.dentry.now.dir, c.args.leaf)) come c.ready_first_at.new.caches (g.S.Store.objects c.ready_first_at.new.store) c.in-Err-ready_first_at.ensures.same c.in-Err-ready_first_at.ensures.at c.give_up_at.new.kept c.in-Err-ready_first_at.ensures.none, c.in-Err-ready_first_at.ensures.at.caches.ranks)
+pub ready_first-requires-clause-absent : goal.ready_first-requires-clause-absent
+ready_first-requires-clause-absent g c = still_absent NoneUsed (IsKeptFor c.args.self.now.caches) c.args.self.now c.give_up.new.self (first_leaf c.args.dir)
+    (grown_given (λ (r : ℕ) (q : Leaf). IsThat c.args.at.now.rank.0 (leaf_of c.args.at.now) r q ⊎ IsThat c.args.at.now.rank.0 (first_leaf c.args.dir) r q) c.args.self.now _ c.give_up.new.self c.give_up.new.self (dirs_grown (λ (r : ℕ) (q : Leaf). IsThat c.args.at.now.rank.0 (leaf_of c.args.at.now) r q ⊎ IsThat c.args.at.now.rank.0 (first_leaf c.args.dir) r q) (IsKeptFor c.args.self.now.caches) c.args.self.now _ c.self.view_is c.reserve.new.self.homes c.reserve.new.self.trees c.reserve.new.self.room c.reserve.new.self.tree_room c.reserve.ensures.homes c.reserve.ensures.trees (grows_by c.self.inside.dirs.room c.reserve.new.self.room (λ some. ap (λ (d : Table). d.room) (c.reserve.ensures.ready some).1)) c.reserve.ensures.tree_room) (ap (λ (k : Core). k.caches) c.self.view_is) c.give_up.ensures.reads (reads_itself _ _ c.give_up.new.self) (dirs_grown NoneUsed (IsKeptFor c.args.self.now.caches) c.args.self.now _ c.self.view_is c.reserve.new.self.homes c.reserve.new.self.trees c.reserve.new.self.room c.reserve.new.self.tree_room c.reserve.ensures.homes c.reserve.ensures.trees (grows_by c.self.inside.dirs.room c.reserve.new.self.room (λ some. ap (λ (d : Table). d.room) (c.reserve.ensures.ready some).1)) c.reserve.ensures.tree_room)) (λ r no_use. no_use)
+    (first_nowhere c.args.self.now c.requires.sound c.args.dir c.requires.unused)
 
-pub returns-in-Err-ready_first_at-clause-kept : goal.returns-in-Err-ready_first_at-clause-kept
-returns-in-Err-ready_first_at-clause-kept g c =
-    let known = ap (λ (k : Core). is_directory (shown_tree k.state) c.args.dentry.now.dir.0) c.self.view_is ∙ c.requires.known in
-    let pick : IsPick (leaves_of c.self.inside.dirs.trees c.args.dentry.now.dir.0) (hash_of c.args.dentry.now.name) c.args.leaf = subst (λ (k : Core). IsPick (leaves_of k.state.covers c.args.dentry.now.dir.0) (hash_of c.args.dentry.now.name) c.args.leaf) (sym c.self.view_is) c.requires.leaf in
-    let live : IsLive c.self.inside.dirs.homes c.self.inside.dirs.trees (c.args.dentry.now.dir, c.args.leaf) = pick_live c.self.inside.dirs (all_of c.self.inside.caches) (g.S.Store.objects c.self.inside.store) c.self.inside.jobs c.self.inside.purge c.self.inside.next c.self.invariant.0 c.args.dentry.now.dir (hash_of c.args.dentry.now.name) c.args.leaf known pick in
-    let come : (q : Leaf) → q ≡ (c.args.dentry.now.dir, c.args.leaf) → IsLive c.self.inside.dirs.homes c.self.inside.dirs.trees q = λ q is. subst (IsLive c.self.inside.dirs.homes c.self.inside.dirs.trees) (sym is) live in
-    record {
-      state = roomy_state c.self.inside.dirs (all_of c.ready_first_at.new.caches) (g.S.Store.objects c.ready_first_at.new.store) c.self.inside.jobs c.self.inside.purge c.self.inside.next (made_kept c.self.inside.dirs c.self.inside.caches (g.S.Store.objects c.self.inside.store) c.self.inside.jobs c.self.inside.purge c.self.inside.next c.self.invariant.0 c.give_up_at.new.caches c.give_up_at.ensures.none (c.give_up_at.ensures.at (g.S.Store.objects c.self.inside.store)) (λ other q. IsThat c.args.rank (c.args.dentry.now.dir, c.args.leaf) other q ⊎ IsThat c.args.rank (first_leaf c.args.dir) other q) (λ (q : Leaf). q ≡ (c.args.dentry.now.dir, c.args.leaf)) come c.ready_first_at.new.caches (g.S.Store.objects c.ready_first_at.new.store) c.in-Err-ready_first_at.ensures.same c.in-Err-ready_first_at.ensures.at) c.reserve.new.self c.in_default-reserve.ensures.homes c.in_default-reserve.ensures.trees ∙ made_state c.self.inside.dirs c.self.inside.caches (g.S.Store.objects c.self.inside.store) c.self.inside.jobs c.self.inside.purge c.self.inside.next c.self.invariant.0 c.give_up_at.new.caches c.give_up_at.ensures.none (c.give_up_at.ensures.at (g.S.Store.objects c.self.inside.store)) (λ other q. IsThat c.args.rank (c.args.dentry.now.dir, c.args.leaf) other q ⊎ IsThat c.args.rank (first_leaf c.args.dir) other q) (λ (q : Leaf). q ≡ (c.args.dentry.now.dir, c.args.leaf)) come c.ready_first_at.new.caches (g.S.Store.objects c.ready_first_at.new.store) c.in-Err-ready_first_at.ensures.same c.in-Err-ready_first_at.ensures.at ∙ ap (λ (k : Core). k.state) c.self.view_is;
-      unsaved = λ rank. made_unsaved c.self.inside.dirs c.self.inside.caches (g.S.Store.objects c.self.inside.store) c.self.inside.jobs c.self.inside.purge c.self.inside.next c.self.invariant.0 c.give_up_at.new.caches c.give_up_at.ensures.none (c.give_up_at.ensures.at (g.S.Store.objects c.self.inside.store)) (λ other q. IsThat c.args.rank (c.args.dentry.now.dir, c.args.leaf) other q ⊎ IsThat c.args.rank (first_leaf c.args.dir) other q) (λ (q : Leaf). q ≡ (c.args.dentry.now.dir, c.args.leaf)) come c.ready_first_at.new.caches (g.S.Store.objects c.ready_first_at.new.store) c.in-Err-ready_first_at.ensures.same c.in-Err-ready_first_at.ensures.at rank ∙ ap (λ (k : Core). unsaved (cache_of k.ranks rank).entries) c.self.view_is;
-      count = (made_caches c.self.inside.dirs c.self.inside.caches (g.S.Store.objects c.self.inside.store) c.self.inside.jobs c.self.inside.purge c.self.inside.next c.self.invariant.0 c.give_up_at.new.caches c.give_up_at.ensures.none (c.give_up_at.ensures.at (g.S.Store.objects c.self.inside.store)) (λ other q. IsThat c.args.rank (c.args.dentry.now.dir, c.args.leaf) other q ⊎ IsThat c.args.rank (first_leaf c.args.dir) other q) (λ (q : Leaf). q ≡ (c.args.dentry.now.dir, c.args.leaf)) come c.ready_first_at.new.caches (g.S.Store.objects c.ready_first_at.new.store) c.in-Err-ready_first_at.ensures.same c.in-Err-ready_first_at.ensures.at).count ∙ ap (λ (k : Core). length k.ranks) c.self.view_is;
-      cap = (made_caches c.self.inside.dirs c.self.inside.caches (g.S.Store.objects c.self.inside.store) c.self.inside.jobs c.self.inside.purge c.self.inside.next c.self.invariant.0 c.give_up_at.new.caches c.give_up_at.ensures.none (c.give_up_at.ensures.at (g.S.Store.objects c.self.inside.store)) (λ other q. IsThat c.args.rank (c.args.dentry.now.dir, c.args.leaf) other q ⊎ IsThat c.args.rank (first_leaf c.args.dir) other q) (λ (q : Leaf). q ≡ (c.args.dentry.now.dir, c.args.leaf)) come c.ready_first_at.new.caches (g.S.Store.objects c.ready_first_at.new.store) c.in-Err-ready_first_at.ensures.same c.in-Err-ready_first_at.ensures.at).cap ∙ ap (λ (k : Core). k.cache.cap) c.self.view_is;
-      counted = omega (arith, c.in-Err-ready_first_at.ensures.counted, ap (λ (k : Core). k.faults) c.self.view_is);
-    }
+pub returns-in-Err-ready_first-clause-reads : goal.returns-in-Err-ready_first-clause-reads
+returns-in-Err-ready_first-clause-reads g c = grown_reads (λ (r : ℕ) (q : Leaf). IsThat c.args.at.now.rank.0 (leaf_of c.args.at.now) r q ⊎ IsThat c.args.at.now.rank.0 (first_leaf c.args.dir) r q) c.args.self.now _ c.give_up.new.self c.ready_first.new.self (dirs_grown (λ (r : ℕ) (q : Leaf). IsThat c.args.at.now.rank.0 (leaf_of c.args.at.now) r q ⊎ IsThat c.args.at.now.rank.0 (first_leaf c.args.dir) r q) (IsKeptFor c.args.self.now.caches) c.args.self.now _ c.self.view_is c.reserve.new.self.homes c.reserve.new.self.trees c.reserve.new.self.room c.reserve.new.self.tree_room c.reserve.ensures.homes c.reserve.ensures.trees (grows_by c.self.inside.dirs.room c.reserve.new.self.room (λ some. ap (λ (d : Table). d.room) (c.reserve.ensures.ready some).1)) c.reserve.ensures.tree_room) (ap (λ (k : Core). k.caches) c.self.view_is) c.give_up.ensures.reads c.ready_first.ensures.reads
 
-pub returns-in-Err-ready_first_at-clause-caches : goal.returns-in-Err-ready_first_at-clause-caches
-returns-in-Err-ready_first_at-clause-caches g c =
-    let known = ap (λ (k : Core). is_directory (shown_tree k.state) c.args.dentry.now.dir.0) c.self.view_is ∙ c.requires.known in
-    let pick : IsPick (leaves_of c.self.inside.dirs.trees c.args.dentry.now.dir.0) (hash_of c.args.dentry.now.name) c.args.leaf = subst (λ (k : Core). IsPick (leaves_of k.state.covers c.args.dentry.now.dir.0) (hash_of c.args.dentry.now.name) c.args.leaf) (sym c.self.view_is) c.requires.leaf in
-    let live : IsLive c.self.inside.dirs.homes c.self.inside.dirs.trees (c.args.dentry.now.dir, c.args.leaf) = pick_live c.self.inside.dirs (all_of c.self.inside.caches) (g.S.Store.objects c.self.inside.store) c.self.inside.jobs c.self.inside.purge c.self.inside.next c.self.invariant.0 c.args.dentry.now.dir (hash_of c.args.dentry.now.name) c.args.leaf known pick in
-    let come : (q : Leaf) → q ≡ (c.args.dentry.now.dir, c.args.leaf) → IsLive c.self.inside.dirs.homes c.self.inside.dirs.trees q = λ q is. subst (IsLive c.self.inside.dirs.homes c.self.inside.dirs.trees) (sym is) live in
-    subst (λ (k : Core). KeepsCaches (λ other q. IsThat c.args.rank (c.args.dentry.now.dir, c.args.leaf) other q ⊎ IsThat c.args.rank (first_leaf c.args.dir) other q) k.ranks c.ready_first_at.new.caches) c.self.view_is (made_caches c.self.inside.dirs c.self.inside.caches (g.S.Store.objects c.self.inside.store) c.self.inside.jobs c.self.inside.purge c.self.inside.next c.self.invariant.0 c.give_up_at.new.caches c.give_up_at.ensures.none (c.give_up_at.ensures.at (g.S.Store.objects c.self.inside.store)) (λ other q. IsThat c.args.rank (c.args.dentry.now.dir, c.args.leaf) other q ⊎ IsThat c.args.rank (first_leaf c.args.dir) other q) (λ (q : Leaf). q ≡ (c.args.dentry.now.dir, c.args.leaf)) come c.ready_first_at.new.caches (g.S.Store.objects c.ready_first_at.new.store) c.in-Err-ready_first_at.ensures.same c.in-Err-ready_first_at.ensures.at)
+pub returns-in-Err-ready_first-clause-sound : goal.returns-in-Err-ready_first-clause-sound
+returns-in-Err-ready_first-clause-sound g c = reads_sound_so (λ (r : ℕ) (q : Leaf). IsThat c.args.at.now.rank.0 (leaf_of c.args.at.now) r q ⊎ IsThat c.args.at.now.rank.0 (first_leaf c.args.dir) r q) (IsKeptFor c.args.self.now.caches) c.args.self.now c.ready_first.new.self (grown_reads (λ (r : ℕ) (q : Leaf). IsThat c.args.at.now.rank.0 (leaf_of c.args.at.now) r q ⊎ IsThat c.args.at.now.rank.0 (first_leaf c.args.dir) r q) c.args.self.now _ c.give_up.new.self c.ready_first.new.self (dirs_grown (λ (r : ℕ) (q : Leaf). IsThat c.args.at.now.rank.0 (leaf_of c.args.at.now) r q ⊎ IsThat c.args.at.now.rank.0 (first_leaf c.args.dir) r q) (IsKeptFor c.args.self.now.caches) c.args.self.now _ c.self.view_is c.reserve.new.self.homes c.reserve.new.self.trees c.reserve.new.self.room c.reserve.new.self.tree_room c.reserve.ensures.homes c.reserve.ensures.trees (grows_by c.self.inside.dirs.room c.reserve.new.self.room (λ some. ap (λ (d : Table). d.room) (c.reserve.ensures.ready some).1)) c.reserve.ensures.tree_room) (ap (λ (k : Core). k.caches) c.self.view_is) c.give_up.ensures.reads c.ready_first.ensures.reads) c.requires.sound (first_live_so c.args.self.now c.args.at.now.rank.0 (leaf_of c.args.at.now) (first_leaf c.args.dir) c.ready_first.new.self.caches c.requires.live c.ready_first.ensures.absent) (none_only c.ready_first.new.self.kept c.ready_first.new.self.caches c.in-Err-ready_first.ensures.none)
 
-pub returns-in-Err-ready_first_at-clause-refused : goal.returns-in-Err-ready_first_at-clause-refused
-returns-in-Err-ready_first_at-clause-refused g c =
-    let holds : MayHold c.self.inside.caches c.args.rank (c.args.dentry.now.dir, c.args.leaf) = subst (λ (k : Core). MayHold k.ranks c.args.rank (c.args.dentry.now.dir, c.args.leaf)) (sym c.self.view_is) c.requires.holds in
-    subst (λ (k : Core). MayNotBeReady (LacksNumbers 1 k.state.next_version ⊎ LacksNumbers 1 k.state.next_generation) (LacksPlacesAt 2 k c.args.rank) k.faults (g.S.Store.faults c.ready_first_at.new.store) c.in-Err-ready_first_at.refusal) c.self.view_is
-    (inr (neither (λ lacks. omega (arith, lacks, c.in_default.ensures.ok)) (λ lacks. omega (arith, lacks, c.in_default-check_left.ensures.ok)), words_at ((all_of c.self.inside.caches).cap < map.len (unsaved (cache_of c.self.inside.caches c.args.rank).entries) + 2) 2 c.self.inside.caches c.give_up_at.new.caches c.args.rank (g.S.Store.faults c.self.inside.store) (g.S.Store.faults c.ready_first_at.new.store) (c.give_up_at.ensures.at (g.S.Store.objects c.self.inside.store)).caches (holds_after c.self.inside.caches c.give_up_at.new.caches c.args.rank (c.args.dentry.now.dir, c.args.leaf) (c.give_up_at.ensures.at (g.S.Store.objects c.self.inside.store)).caches holds).there (c.give_up_at.ensures.at (g.S.Store.objects c.self.inside.store)).unsaved c.give_up_at.ensures.fixed (λ lacks. lacks) c.in-Err-ready_first_at.refusal c.in-Err-ready_first_at.ensures.refused))
+pub returns-in-Err-ready_first-clause-refused : goal.returns-in-Err-ready_first-clause-refused
+returns-in-Err-ready_first-clause-refused g c =
+    let version : c.args.self.now.next_version < 18446744073709551615 = search rules in
+    let generation : c.args.self.now.next_generation < 18446744073709551615 = search rules in
+    let faults : c.give_up.new.self.faults ≡ c.args.self.now.faults = c.give_up.ensures.faults ∙ ap (λ (k : Core). k.faults) c.self.view_is in
+    not_ready _ _ c.args.self.now.faults c.ready_first.new.self.faults c.in-Err-ready_first.refusal (λ lacks. two_left c.args.self.now.next_version c.args.self.now.next_generation version generation lacks)
+    (not_found_before NoneUsed (IsKeptFor c.args.self.now.caches) c.args.self.now c.give_up.new.self
+    (grown_given (λ (r : ℕ) (q : Leaf). IsThat c.args.at.now.rank.0 (leaf_of c.args.at.now) r q ⊎ IsThat c.args.at.now.rank.0 (first_leaf c.args.dir) r q) c.args.self.now _ c.give_up.new.self c.ready_first.new.self (dirs_grown (λ (r : ℕ) (q : Leaf). IsThat c.args.at.now.rank.0 (leaf_of c.args.at.now) r q ⊎ IsThat c.args.at.now.rank.0 (first_leaf c.args.dir) r q) (IsKeptFor c.args.self.now.caches) c.args.self.now _ c.self.view_is c.reserve.new.self.homes c.reserve.new.self.trees c.reserve.new.self.room c.reserve.new.self.tree_room c.reserve.ensures.homes c.reserve.ensures.trees (grows_by c.self.inside.dirs.room c.reserve.new.self.room (λ some. ap (λ (d : Table). d.room) (c.reserve.ensures.ready some).1)) c.reserve.ensures.tree_room) (ap (λ (k : Core). k.caches) c.self.view_is) c.give_up.ensures.reads c.ready_first.ensures.reads (dirs_grown NoneUsed (IsKeptFor c.args.self.now.caches) c.args.self.now _ c.self.view_is c.reserve.new.self.homes c.reserve.new.self.trees c.reserve.new.self.room c.reserve.new.self.tree_room c.reserve.ensures.homes c.reserve.ensures.trees (grows_by c.self.inside.dirs.room c.reserve.new.self.room (λ some. ap (λ (d : Table). d.room) (c.reserve.ensures.ready some).1)) c.reserve.ensures.tree_room))
+    2 c.args.at.now.rank.0 c.ready_first.new.self.faults c.in-Err-ready_first.refusal faults c.in-Err-ready_first.ensures.refused)
 
-pub invariant_of-self-3 : goal.invariant_of-self-3
-invariant_of-self-3 g c =
-    let known = ap (λ (k : Core). is_directory (shown_tree k.state) c.args.dentry.now.dir.0) c.self.view_is ∙ c.requires.known in
-    let pick : IsPick (leaves_of c.self.inside.dirs.trees c.args.dentry.now.dir.0) (hash_of c.args.dentry.now.name) c.args.leaf = subst (λ (k : Core). IsPick (leaves_of k.state.covers c.args.dentry.now.dir.0) (hash_of c.args.dentry.now.name) c.args.leaf) (sym c.self.view_is) c.requires.leaf in
-    let live : IsLive c.self.inside.dirs.homes c.self.inside.dirs.trees (c.args.dentry.now.dir, c.args.leaf) = pick_live c.self.inside.dirs (all_of c.self.inside.caches) (g.S.Store.objects c.self.inside.store) c.self.inside.jobs c.self.inside.purge c.self.inside.next c.self.invariant.0 c.args.dentry.now.dir (hash_of c.args.dentry.now.name) c.args.leaf known pick in
-    let come : (q : Leaf) → q ≡ (c.args.dentry.now.dir, c.args.leaf) → IsLive c.self.inside.dirs.homes c.self.inside.dirs.trees q = λ q is. subst (IsLive c.self.inside.dirs.homes c.self.inside.dirs.trees) (sym is) live in
-    (roomy_kept c.self.inside.dirs (all_of c.ready_first_at.new.caches) (g.S.Store.objects c.ready_first_at.new.store) c.self.inside.jobs c.self.inside.purge c.self.inside.next (made_kept c.self.inside.dirs c.self.inside.caches (g.S.Store.objects c.self.inside.store) c.self.inside.jobs c.self.inside.purge c.self.inside.next c.self.invariant.0 c.give_up_at.new.caches c.give_up_at.ensures.none (c.give_up_at.ensures.at (g.S.Store.objects c.self.inside.store)) (λ other q. IsThat c.args.rank (c.args.dentry.now.dir, c.args.leaf) other q ⊎ IsThat c.args.rank (first_leaf c.args.dir) other q) (λ (q : Leaf). q ≡ (c.args.dentry.now.dir, c.args.leaf)) come c.ready_first_at.new.caches (g.S.Store.objects c.ready_first_at.new.store) c.in_default-ready_first_at.ensures.same c.in_default-ready_first_at.ensures.at) c.reserve.new.self c.in_default-reserve.ensures.homes c.in_default-reserve.ensures.trees, one_only c.args.rank (first_leaf c.args.dir) c.give_up_at.new.caches c.ready_first_at.new.caches c.in_default-ready_first_at.ensures.at.caches.ranks.apart c.give_up_at.ensures.none c.in_default-ready_first_at.ensures.one c.in_default-ready_first_at.ensures.place, c.in_default-ready_first_at.ensures.at.caches.ranks)
+pub returns-clause-reads : goal.returns-clause-reads
+returns-clause-reads g c = remembered (λ (r : ℕ) (q : Leaf). IsThat c.args.at.now.rank.0 (leaf_of c.args.at.now) r q ⊎ IsThat c.args.at.now.rank.0 (first_leaf c.args.dir) r q) (IsKeptFor c.args.self.now.caches) c.args.self.now c.ready_first.new.self _ c.self-2.view_is _ _ (grown_reads (λ (r : ℕ) (q : Leaf). IsThat c.args.at.now.rank.0 (leaf_of c.args.at.now) r q ⊎ IsThat c.args.at.now.rank.0 (first_leaf c.args.dir) r q) c.args.self.now _ c.give_up.new.self c.ready_first.new.self (dirs_grown (λ (r : ℕ) (q : Leaf). IsThat c.args.at.now.rank.0 (leaf_of c.args.at.now) r q ⊎ IsThat c.args.at.now.rank.0 (first_leaf c.args.dir) r q) (IsKeptFor c.args.self.now.caches) c.args.self.now _ c.self.view_is c.reserve.new.self.homes c.reserve.new.self.trees c.reserve.new.self.room c.reserve.new.self.tree_room c.reserve.ensures.homes c.reserve.ensures.trees (grows_by c.self.inside.dirs.room c.reserve.new.self.room (λ some. ap (λ (d : Table). d.room) (c.reserve.ensures.ready some).1)) c.reserve.ensures.tree_room) (ap (λ (k : Core). k.caches) c.self.view_is) c.give_up.ensures.reads c.ready_first.ensures.reads)
 
-pub returns-clause-kept : goal.returns-clause-kept
-returns-clause-kept g c =
-    let known = ap (λ (k : Core). is_directory (shown_tree k.state) c.args.dentry.now.dir.0) c.self.view_is ∙ c.requires.known in
-    let pick : IsPick (leaves_of c.self.inside.dirs.trees c.args.dentry.now.dir.0) (hash_of c.args.dentry.now.name) c.args.leaf = subst (λ (k : Core). IsPick (leaves_of k.state.covers c.args.dentry.now.dir.0) (hash_of c.args.dentry.now.name) c.args.leaf) (sym c.self.view_is) c.requires.leaf in
-    let live : IsLive c.self.inside.dirs.homes c.self.inside.dirs.trees (c.args.dentry.now.dir, c.args.leaf) = pick_live c.self.inside.dirs (all_of c.self.inside.caches) (g.S.Store.objects c.self.inside.store) c.self.inside.jobs c.self.inside.purge c.self.inside.next c.self.invariant.0 c.args.dentry.now.dir (hash_of c.args.dentry.now.name) c.args.leaf known pick in
-    let come : (q : Leaf) → q ≡ (c.args.dentry.now.dir, c.args.leaf) → IsLive c.self.inside.dirs.homes c.self.inside.dirs.trees q = λ q is. subst (IsLive c.self.inside.dirs.homes c.self.inside.dirs.trees) (sym is) live in
-    record {
-      state = roomy_state c.self.inside.dirs (all_of c.ready_first_at.new.caches) (g.S.Store.objects c.ready_first_at.new.store) c.self.inside.jobs c.self.inside.purge c.self.inside.next (made_kept c.self.inside.dirs c.self.inside.caches (g.S.Store.objects c.self.inside.store) c.self.inside.jobs c.self.inside.purge c.self.inside.next c.self.invariant.0 c.give_up_at.new.caches c.give_up_at.ensures.none (c.give_up_at.ensures.at (g.S.Store.objects c.self.inside.store)) (λ other q. IsThat c.args.rank (c.args.dentry.now.dir, c.args.leaf) other q ⊎ IsThat c.args.rank (first_leaf c.args.dir) other q) (λ (q : Leaf). q ≡ (c.args.dentry.now.dir, c.args.leaf)) come c.ready_first_at.new.caches (g.S.Store.objects c.ready_first_at.new.store) c.in_default-ready_first_at.ensures.same c.in_default-ready_first_at.ensures.at) c.reserve.new.self c.in_default-reserve.ensures.homes c.in_default-reserve.ensures.trees ∙ made_state c.self.inside.dirs c.self.inside.caches (g.S.Store.objects c.self.inside.store) c.self.inside.jobs c.self.inside.purge c.self.inside.next c.self.invariant.0 c.give_up_at.new.caches c.give_up_at.ensures.none (c.give_up_at.ensures.at (g.S.Store.objects c.self.inside.store)) (λ other q. IsThat c.args.rank (c.args.dentry.now.dir, c.args.leaf) other q ⊎ IsThat c.args.rank (first_leaf c.args.dir) other q) (λ (q : Leaf). q ≡ (c.args.dentry.now.dir, c.args.leaf)) come c.ready_first_at.new.caches (g.S.Store.objects c.ready_first_at.new.store) c.in_default-ready_first_at.ensures.same c.in_default-ready_first_at.ensures.at ∙ ap (λ (k : Core). k.state) c.self.view_is;
-      unsaved = λ rank. made_unsaved c.self.inside.dirs c.self.inside.caches (g.S.Store.objects c.self.inside.store) c.self.inside.jobs c.self.inside.purge c.self.inside.next c.self.invariant.0 c.give_up_at.new.caches c.give_up_at.ensures.none (c.give_up_at.ensures.at (g.S.Store.objects c.self.inside.store)) (λ other q. IsThat c.args.rank (c.args.dentry.now.dir, c.args.leaf) other q ⊎ IsThat c.args.rank (first_leaf c.args.dir) other q) (λ (q : Leaf). q ≡ (c.args.dentry.now.dir, c.args.leaf)) come c.ready_first_at.new.caches (g.S.Store.objects c.ready_first_at.new.store) c.in_default-ready_first_at.ensures.same c.in_default-ready_first_at.ensures.at rank ∙ ap (λ (k : Core). unsaved (cache_of k.ranks rank).entries) c.self.view_is;
-      count = (made_caches c.self.inside.dirs c.self.inside.caches (g.S.Store.objects c.self.inside.store) c.self.inside.jobs c.self.inside.purge c.self.inside.next c.self.invariant.0 c.give_up_at.new.caches c.give_up_at.ensures.none (c.give_up_at.ensures.at (g.S.Store.objects c.self.inside.store)) (λ other q. IsThat c.args.rank (c.args.dentry.now.dir, c.args.leaf) other q ⊎ IsThat c.args.rank (first_leaf c.args.dir) other q) (λ (q : Leaf). q ≡ (c.args.dentry.now.dir, c.args.leaf)) come c.ready_first_at.new.caches (g.S.Store.objects c.ready_first_at.new.store) c.in_default-ready_first_at.ensures.same c.in_default-ready_first_at.ensures.at).count ∙ ap (λ (k : Core). length k.ranks) c.self.view_is;
-      cap = (made_caches c.self.inside.dirs c.self.inside.caches (g.S.Store.objects c.self.inside.store) c.self.inside.jobs c.self.inside.purge c.self.inside.next c.self.invariant.0 c.give_up_at.new.caches c.give_up_at.ensures.none (c.give_up_at.ensures.at (g.S.Store.objects c.self.inside.store)) (λ other q. IsThat c.args.rank (c.args.dentry.now.dir, c.args.leaf) other q ⊎ IsThat c.args.rank (first_leaf c.args.dir) other q) (λ (q : Leaf). q ≡ (c.args.dentry.now.dir, c.args.leaf)) come c.ready_first_at.new.caches (g.S.Store.objects c.ready_first_at.new.store) c.in_default-ready_first_at.ensures.same c.in_default-ready_first_at.ensures.at).cap ∙ ap (λ (k : Core). k.cache.cap) c.self.view_is;
-      counted = omega (arith, c.in_default-ready_first_at.ensures.counted, ap (λ (k : Core). k.faults) c.self.view_is);
-    }
-
-pub returns-clause-caches : goal.returns-clause-caches
-returns-clause-caches g c =
-    let known = ap (λ (k : Core). is_directory (shown_tree k.state) c.args.dentry.now.dir.0) c.self.view_is ∙ c.requires.known in
-    let pick : IsPick (leaves_of c.self.inside.dirs.trees c.args.dentry.now.dir.0) (hash_of c.args.dentry.now.name) c.args.leaf = subst (λ (k : Core). IsPick (leaves_of k.state.covers c.args.dentry.now.dir.0) (hash_of c.args.dentry.now.name) c.args.leaf) (sym c.self.view_is) c.requires.leaf in
-    let live : IsLive c.self.inside.dirs.homes c.self.inside.dirs.trees (c.args.dentry.now.dir, c.args.leaf) = pick_live c.self.inside.dirs (all_of c.self.inside.caches) (g.S.Store.objects c.self.inside.store) c.self.inside.jobs c.self.inside.purge c.self.inside.next c.self.invariant.0 c.args.dentry.now.dir (hash_of c.args.dentry.now.name) c.args.leaf known pick in
-    let come : (q : Leaf) → q ≡ (c.args.dentry.now.dir, c.args.leaf) → IsLive c.self.inside.dirs.homes c.self.inside.dirs.trees q = λ q is. subst (IsLive c.self.inside.dirs.homes c.self.inside.dirs.trees) (sym is) live in
-    subst (λ (k : Core). KeepsCaches (λ other q. IsThat c.args.rank (c.args.dentry.now.dir, c.args.leaf) other q ⊎ IsThat c.args.rank (first_leaf c.args.dir) other q) k.ranks c.ready_first_at.new.caches) c.self.view_is (made_caches c.self.inside.dirs c.self.inside.caches (g.S.Store.objects c.self.inside.store) c.self.inside.jobs c.self.inside.purge c.self.inside.next c.self.invariant.0 c.give_up_at.new.caches c.give_up_at.ensures.none (c.give_up_at.ensures.at (g.S.Store.objects c.self.inside.store)) (λ other q. IsThat c.args.rank (c.args.dentry.now.dir, c.args.leaf) other q ⊎ IsThat c.args.rank (first_leaf c.args.dir) other q) (λ (q : Leaf). q ≡ (c.args.dentry.now.dir, c.args.leaf)) come c.ready_first_at.new.caches (g.S.Store.objects c.ready_first_at.new.store) c.in_default-ready_first_at.ensures.same c.in_default-ready_first_at.ensures.at)
-
-pub returns-in-Err-clause-kept : goal.returns-in-Err-clause-kept
-returns-in-Err-clause-kept g c = keeps_refused _ _ c.in-Err.refusal (ap faults_in c.in-Err.ensures.err.0) (search rules)
-
-pub returns-in-Err-check_left-clause-kept : goal.returns-in-Err-check_left-clause-kept
-returns-in-Err-check_left-clause-kept g c =
-    keeps_refused _ _ c.in-Err-check_left.refusal (ap faults_in c.in-Err-check_left.ensures.err.0) (search rules)
+pub returns-clause-sound : goal.returns-clause-sound
+returns-clause-sound g c = reads_sound_so (λ (r : ℕ) (q : Leaf). IsThat c.args.at.now.rank.0 (leaf_of c.args.at.now) r q ⊎ IsThat c.args.at.now.rank.0 (first_leaf c.args.dir) r q) (IsKeptFor c.args.self.now.caches) c.args.self.now _ (remembered (λ (r : ℕ) (q : Leaf). IsThat c.args.at.now.rank.0 (leaf_of c.args.at.now) r q ⊎ IsThat c.args.at.now.rank.0 (first_leaf c.args.dir) r q) (IsKeptFor c.args.self.now.caches) c.args.self.now c.ready_first.new.self _ c.self-2.view_is _ _ (grown_reads (λ (r : ℕ) (q : Leaf). IsThat c.args.at.now.rank.0 (leaf_of c.args.at.now) r q ⊎ IsThat c.args.at.now.rank.0 (first_leaf c.args.dir) r q) c.args.self.now _ c.give_up.new.self c.ready_first.new.self (dirs_grown (λ (r : ℕ) (q : Leaf). IsThat c.args.at.now.rank.0 (leaf_of c.args.at.now) r q ⊎ IsThat c.args.at.now.rank.0 (first_leaf c.args.dir) r q) (IsKeptFor c.args.self.now.caches) c.args.self.now _ c.self.view_is c.reserve.new.self.homes c.reserve.new.self.trees c.reserve.new.self.room c.reserve.new.self.tree_room c.reserve.ensures.homes c.reserve.ensures.trees (grows_by c.self.inside.dirs.room c.reserve.new.self.room (λ some. ap (λ (d : Table). d.room) (c.reserve.ensures.ready some).1)) c.reserve.ensures.tree_room) (ap (λ (k : Core). k.caches) c.self.view_is) c.give_up.ensures.reads c.ready_first.ensures.reads)) c.requires.sound
+    (first_live_so c.args.self.now c.args.at.now.rank.0 (leaf_of c.args.at.now) (first_leaf c.args.dir) c.self-2.inside.caches c.requires.live (subst (λ (k : Core). map.get k.caches.held (first_leaf c.args.dir) ≡ None) (sym c.self-2.view_is) c.ready_first.ensures.absent))
+    (subst (λ (k : Core). KeepsOnlyAt (Some (c.args.at.now.rank, first_leaf c.args.dir)) k.caches) (sym c.self-2.view_is) c.in_default-ready_first.ensures.only)

@@ -1,0 +1,136 @@
+-- What is left by calls that change no name: of jobs, objects of no live leaf, and places.
+use Rattle.std.proofs.Common.{◌≡◌, ◌⊎◌, inl, inr, ℕ, ◌<◌, Bool, true, false, length, is_some, List, Option, Some, None, Result, Ok, Err, refl, sym, ap, subst, ◌∙◌}
+use Rattle.std.specs.Prelude.{IfSome, OnOk, OnErr, not}
+use Rattle.std.specs.FinMap as map
+use Rattle.std.specs.Option.{option_map}
+use Rattle.std.proofs.lemmas.Option.{same_Some}
+use Rattle.mds_types.specs.declared.ids.Ino.{Ino}
+use Rattle.mds_types.specs.declared.ids.Rank.{Rank}
+use Rattle.mds_types.specs.declared.refusals.Refusal.{Refusal}
+use Rattle.omap.specs.Omap.{Keys}
+use Rattle.objstore.specs.Objects.{Objects}
+use Rattle.commit_jobs.specs.declared.jobs.Job.{Job}
+use Rattle.dentry_cache.specs.Cache.{IsThere, Leaf, stays}
+use Rattle.dentry_cache.specs.CacheMap.{AreCaches, At, CacheMap, evicted, given_up, goes, has_place, here, order, unclean, victim}
+use Rattle.dentry_cache.proofs.UncleanLaws.{clean_there, last_passes, unclean_gone}
+use Rattle.dentry_cache.proofs.StepLaws.{held_given_up, placed_given_up}
+use Rattle.dentry_cache.proofs.WholeLaws.{whole_given_up}
+use Rattle.inode_table.specs.Dirs.{is_known, leaves_of}
+use Rattle.mdcache.specs.Commits.{IsDropped}
+use Rattle.mdcache.specs.Core.{AreCached, Core, IsSoundCore, Rooms, state_of}
+use Rattle.mdcache.specs.Objects.{Purges, PurgesName, purged, tree_saved, with_tree_at}
+use Rattle.mdcache.specs.PurgeList.{first_name}
+use Rattle.mdcache.specs.Ranks.{KeepsOnlyAt}
+use Rattle.mdcache.specs.Shown.{shown_tree}
+use Rattle.mdcache.specs.Sound.{IsSound}
+use Rattle.mdcache.specs.StandingJobs.{Jobs}
+use Rattle.mdcache.specs.State.{State, tree_text}
+use Rattle.mdcache.proofs.ObjectLaws.{purged_cached, purged_sound, purged_tree, tree_saved_cached, tree_saved_sound, tree_saved_tree}
+use Rattle.mdcache.proofs.SoundLaws.{dropped_sound}
+
+module _ (old view : Core) (is : view ≡ old) (sound : IsSoundCore old) where
+  now : IsSoundCore view
+  now = subst IsSoundCore (sym is) sound
+
+  -- nothing that is sound is changed
+  pub faults_sound : (objects : Objects) (faults : ℕ) → objects ≡ view.objects → IsSoundCore (record view { objects = objects; faults = faults })
+  faults_sound objects faults same =
+      subst (λ (o : Objects). IsSoundCore (record view { objects = o; faults = faults })) (sym same) (record { sound = now.sound; begun = now.begun; cached = now.cached; kept = now.kept })
+
+  -- a job is given up
+  module _ (leaf : Leaf) (jobs : Jobs) (ended : jobs ≡ map.remove view.jobs leaf) where
+    pub drop_dropped : (number : ℕ) → (job : Job) × (map.get view.jobs leaf ≡ Some job) × (job.number ≡ number) → IsDropped (state_of old) (state_of (record view { jobs = jobs })) number
+    drop_dropped number found = subst (λ (k : Core). IsDropped (state_of k) (state_of (record view { jobs = jobs })) number) is
+        (record { leaf = leaf; job = found.0; stood = found.1; numbered = found.2; left = λ i. record (state_of view) { jobs = ended i } })
+
+    pub drop_sound : (room : Rooms) → IsSoundCore (record view { jobs = jobs; room = room })
+    drop_sound room = record {
+      sound = subst (λ (j : Jobs). IsSound (record (state_of view) { jobs = j })) (sym ended) (dropped_sound (state_of view) leaf now.sound);
+      begun = now.begun;
+      cached = λ q a at. let was = now.cached q a at in record { live = was.live; tied = was.tied; made = was.made };
+      kept = now.kept;
+    }
+
+  -- an object that nothing owns is removed
+  module _ (name : List ℕ) (objects : Objects) (purge : Keys) (faults : ℕ) (room : Rooms) (first : first_name view.purge ≡ Some name) (removed : objects ≡ map.remove view.objects name) (listed : purge ≡ map.remove view.purge name) where
+    abbrev less : Core
+    less = record view { objects = objects; purge = purge; faults = faults; room = room }
+
+    is_purged : state_of less ≡ purged (state_of view) name
+    is_purged = λ i. record (state_of view) { objects = removed i; purge = listed i }
+
+    pub purge_sound : IsSoundCore less
+    purge_sound = record {
+      sound = subst IsSound (sym is_purged) (purged_sound (state_of view) name now.sound first);
+      begun = now.begun;
+      cached = subst (λ (s : State). AreCached s view.caches) (sym is_purged) (purged_cached (state_of view) name now.sound first view.caches now.cached);
+      kept = now.kept;
+    }
+
+    pub purge_purged : (before after : ℕ) → Purges (state_of old) (state_of less) before after (Ok tt)
+    purge_purged before after = subst (λ (k : Core). Purges (state_of k) (state_of less) before after (Ok tt)) is
+        (subst (λ (o : Option (List ℕ)). PurgesName (state_of view) (state_of less) before after o (Ok tt)) (sym first) (is_purged, ap shown_tree is_purged ∙ purged_tree (state_of view) name now.sound first))
+
+  -- the object of a directory's tree is brought up to date
+  module _ (dir : Ino) (objects : Objects) (purge : Keys) (faults : ℕ) (room : Rooms) (known : is_known view.homes dir.0 ≡ true) (saved : objects ≡ with_tree_at view.objects (tree_text dir) (leaves_of view.covers dir.0)) (listed : purge ≡ map.remove view.purge (tree_text dir)) where
+    abbrev written : Core
+    written = record view { objects = objects; purge = purge; faults = faults; room = room }
+
+    is_written : state_of written ≡ tree_saved (state_of view) dir
+    is_written = λ i. record (state_of view) { objects = saved i; purge = listed i }
+
+    pub tree_sound : IsSoundCore written
+    tree_sound = record {
+      sound = subst IsSound (sym is_written) (tree_saved_sound (state_of view) dir now.sound known);
+      begun = now.begun;
+      cached = subst (λ (s : State). AreCached s view.caches) (sym is_written) (tree_saved_cached (state_of view) dir now.sound known view.caches now.cached);
+      kept = now.kept;
+    }
+
+    pub tree_is : (is_known old.homes dir.0 ≡ true) × (state_of written ≡ tree_saved (state_of old) dir) × (shown_tree (state_of written) ≡ shown_tree (state_of old))
+    tree_is = subst (λ (k : Core). (is_known k.homes dir.0 ≡ true) × (state_of written ≡ tree_saved (state_of k) dir) × (shown_tree (state_of written) ≡ shown_tree (state_of k))) is
+        (known, is_written, ap shown_tree is_written ∙ tree_saved_tree (state_of view) dir now.sound known)
+
+  -- the least recently used of a rank's clean fragments goes
+  module _ (r : ℕ) (caches : CacheMap) (there : r < length view.caches.used) (valid : AreCaches view.caches) where
+    by_victim : (P : CacheMap → Type 0) → ((v : Leaf) → goes view.caches r None v ≡ true → P (given_up view.caches r v)) → evicted view.caches r None ≡ Some caches → P caches
+    by_victim P went gone = go (victim view.caches r None) refl gone
+      where
+        go : (o : Option Leaf) → victim view.caches r None ≡ o → option_map (given_up view.caches r) o ≡ Some caches → P caches
+        go None at h = let clash : None ≡ Some caches = h in absurd cc
+        go (Some v) at h = subst P (same_Some (given_up view.caches r v) caches h) (went v (last_passes (goes view.caches r None) (order view.caches r) v at))
+
+    pub evicted_unclean : evicted view.caches r None ≡ Some caches → unclean caches ≡ unclean view.caches
+    evicted_unclean = by_victim (λ (k : CacheMap). unclean k ≡ unclean view.caches)
+        (λ v passes. unclean_gone view.caches r v (λ some. clean_there r (map.get view.caches.held v) (not (stays None v)) passes))
+
+    evicted_cached : evicted view.caches r None ≡ Some caches → AreCached (state_of view) caches
+    evicted_cached = by_victim (λ (k : CacheMap). AreCached (state_of view) k) (λ v passes q a at. now.cached q a (held_given_up view.caches r v q a at))
+
+    evicted_only : evicted view.caches r None ≡ Some caches → KeepsOnlyAt view.kept caches
+    evicted_only = by_victim (λ (k : CacheMap). KeepsOnlyAt view.kept k) (λ v passes s q placed. on v s q placed (now.kept s q (placed_given_up view.caches r v s q placed)))
+      where
+        still : (v : Leaf) (q : Leaf) → map.get view.caches.held q ≡ None → (o : Option At) → map.get (given_up view.caches r v).held q ≡ o → o ≡ None
+        still v q none None at = refl
+        still v q none (Some a) at = let clash : None ≡ Some a = sym none ∙ held_given_up view.caches r v q a at in absurd cc
+
+        on : (v : Leaf) (s : ℕ) (q : Leaf) → has_place (given_up view.caches r v) s q ≡ true → IsThere (here view.caches s q) ⊎ ((map.get view.caches.held q ≡ None) × (view.kept ≡ Some (record { 0 = s }, q)))
+            → IsThere (here (given_up view.caches r v) s q) ⊎ ((map.get (given_up view.caches r v).held q ≡ None) × (view.kept ≡ Some (record { 0 = s }, q)))
+        on v s q placed (inl was) = inl (whole_given_up view.caches r v s q there (valid.distinct r) (λ before. was) placed)
+        on v s q placed (inr kept) = inr (still v q kept.0 (map.get (given_up view.caches r v).held q) refl, kept.1)
+
+    went_state : evicted view.caches r None ≡ Some caches → state_of (record view { caches = caches }) ≡ state_of view
+    went_state gone = λ i. record (state_of view) { unsaved = evicted_unclean gone i }
+
+    pub evict_state : (result : Result (Unit {0}) Refusal) → OnOk result (evicted view.caches r None ≡ Some caches) → OnErr result (caches ≡ view.caches) → state_of (record view { caches = caches }) ≡ state_of old
+    evict_state (Ok done) gone left = went_state gone ∙ ap state_of is
+    evict_state (Err reason) gone left = ap (λ (k : CacheMap). state_of (record view { caches = k })) left ∙ ap state_of is
+
+    pub evict_sound : (result : Result (Unit {0}) Refusal) → OnOk result (evicted view.caches r None ≡ Some caches) → OnErr result (caches ≡ view.caches) → IsSoundCore (record view { caches = caches })
+    evict_sound (Ok done) gone left = record {
+      sound = subst IsSound (sym (went_state gone)) now.sound;
+      begun = now.begun;
+      cached = subst (λ (s : State). AreCached s caches) (sym (went_state gone)) (evicted_cached gone);
+      kept = evicted_only gone;
+    }
+    evict_sound (Err reason) gone left = subst (λ (k : CacheMap). IsSoundCore (record view { caches = k })) (sym left) now

@@ -1,0 +1,325 @@
+-- What the steps of a change leave, one after the other.
+use Rattle.std.proofs.Common.{◌≡◌, ◌⊎◌, inl, inr, ℕ, zero, suc, ◌+◌, ◌<◌, ◌≤◌, Bool, true, false, cond, is_some, length, List, [], ◌∷◌, Option, Some, None, refl, sym, ap, subst, ◌∙◌, arith}
+use Rattle.std.specs.Prelude.{◌==◌, ◌&&◌, ◌||◌, get_or}
+use Rattle.std.specs.FinMap as map
+use Rattle.std.specs.List.{list_any}
+use Rattle.std.proofs.lemmas.Option.{same_Some}
+use Rattle.sorted_map.proofs.NatKeys.{get_left as get_left_home, is_same}
+use Rattle.mds_types.specs.declared.ids.Ino.{Ino}
+use Rattle.mds_types.specs.declared.ids.Rank.{Rank}
+use Rattle.mds_types.specs.declared.inodes.Inode.{Inode}
+use Rattle.mds_types.specs.Frag.{Fragment}
+use Rattle.fragtree.specs.FragTree.{HasLeaf}
+use Rattle.commit_jobs.specs.declared.marks.Mark.{Mark}
+use Rattle.cached_frag.specs.Cached.{Cached, marked}
+use Rattle.dentry_cache.specs.Cache.{HasCached, HasRoom, IsThere, Leaf, leaf_is}
+use Rattle.dentry_cache.specs.CacheCalls.{KeepsNone}
+use Rattle.dentry_cache.specs.CacheMap.{AreCaches, At, CacheMap, IsFree, at, at_rank, edited_as, given_up, has_place, here, leaf_of, removed, unclean, unsaved_at, with_mark}
+use Rattle.dentry_cache.specs.CacheSplits.{IsKeptFor}
+use Rattle.dentry_cache.specs.Came.{Came}
+use Rattle.dentry_cache.specs.Came.Came.{ends, has, stays}
+use Rattle.dentry_cache.specs.Ended.{ended, ended_all, ended_at}
+use Rattle.dentry_cache.specs.Loading.{object_of}
+use Rattle.dentry_cache.specs.Ties.{IsTied}
+use Rattle.dentry_cache.specs.declared.dirfrag.Dirfrag.{Dirfrag}
+use Rattle.dentry_cache.proofs.EndedLaws.{holder_there}
+use Rattle.dentry_cache.proofs.LeafLaws.{one_leaf}
+use Rattle.dentry_cache.proofs.ReadsLaws.{here_is}
+use Rattle.dentry_cache.proofs.StepLaws.{get_given_up, get_with_frag, has_with_mark, here_beside, here_put, here_with_frag, placed_used}
+use Rattle.dentry_cache.proofs.UncleanLaws.{unclean_alike, unclean_given_up}
+use Rattle.dentry_cache.proofs.WholeLaws.{none_given_up}
+use Rattle.inode_table.specs.declared.dirs.Home.{Home}
+use Rattle.inode_table.specs.Dirs.{Homes, leaves_of, or_whole}
+use Rattle.namespace_ops.specs.Changes.{leaves}
+use Rattle.mdcache.specs.Changes.{IsNamed, with_objects, without, without_leaves}
+use Rattle.mdcache.specs.Core.{AreCached, Core, IsCachedIn, IsSoundCore, Rooms, made_frag, named, state_of, with_dir, without_dir}
+use Rattle.mdcache.specs.Going.{IsGoingOrNone, dir_going, leaves_going, leaves_in, texts_going}
+use Rattle.mdcache.specs.Ranks.{KeepsOnlyAt}
+use Rattle.mdcache.specs.Sound.{IsSound}
+use Rattle.mdcache.specs.State.{IsLive, State, UnsavedLeaves}
+use Rattle.mdcache.specs.declared.going.Going.{Going}
+use Rattle.mdcache.specs.declared.going.GoingLeaf.{GoingLeaf}
+use Rattle.mdcache.specs.declared.prepared.Prepared.{Prepared}
+use Rattle.mdcache.proofs.GoneLaws.{among}
+use Rattle.mdcache.proofs.NoneLaws.{none_only, only_none}
+use Rattle.mdcache.proofs.PutLaws.{cached_with, mark, marked_is, put_cached, put_named, put_only}
+
+-- the fragment that is there
+pub its : (o : Option Cached) → IsThere o → (f : Cached) × (o ≡ Some f)
+its None h = absurd h
+its (Some f) h = (f, refl)
+
+pub roomy_there : (o : Option Cached) → HasRoom o → IsThere o
+roomy_there None h = h
+roomy_there (Some f) h = tt
+
+pub cached_there : (P : Cached → Type 0) (o : Option Cached) → HasCached o P → IsThere o
+cached_there P None h = h
+cached_there P (Some f) h = tt
+
+-- cached fragments are sound in another state that has the objects, whatever was live, and gave out no fewer generations
+pub cached_on : (s t : State) (caches : CacheMap) → ((leaf : Leaf) → IsLive s.homes s.covers leaf → IsLive t.homes t.covers leaf) → t.objects ≡ s.objects → s.next_generation ≤ t.next_generation
+    → AreCached s caches → AreCached t caches
+cached_on s t caches live objects more cached leaf a is =
+    let was : IsCachedIn s leaf a.frag = cached leaf a is in
+    record {
+      live = live leaf was.live;
+      tied = subst (λ o. IsTied a.frag (object_of o leaf.0 leaf.1)) (sym objects) was.tied;
+      made = (let given = was.made in omega (arith, given, more));
+    }
+
+-- a leaf that isn't among those of a directory that goes stands still
+left_live_at : (s : State) (dir : Ino) (leaf : Leaf) → IsLive s.homes s.covers leaf → list_any (leaf_is leaf) (leaves s.covers dir.0) ≡ false → IsLive (map.remove s.homes dir.0) (map.remove s.covers dir.0) leaf
+left_live_at s dir leaf live none = record {
+  known = ap (λ (o : Option Home). (leaf.0.0 == 1) || is_some o) (get_left_home s.homes dir.0 leaf.0.0 apart) ∙ live.known;
+  stands = subst (λ (fs : List Fragment). HasLeaf fs leaf.1) (sym (ap or_whole (get_left_home s.covers dir.0 leaf.0.0 apart))) live.stands;
+}
+  where
+    apart : leaf.0.0 ≡ dir.0 → ⊥
+    apart same =
+        let clash : true ≡ false = sym (among dir.0 leaf (leaves_of s.covers dir.0) same (subst (λ (d : ℕ). HasLeaf (leaves_of s.covers d) leaf.1) same live.stands)) ∙ none in
+        cc
+
+-- the caches came from those before, their fragments are sound, and a place that is kept is this one
+pub record HasMade (Uses Ends : ℕ → Leaf → Type 0) (kept : Option (Rank × Leaf)) (old new : Core) : Type 0 where
+  pub came : Came Uses Ends old.caches new.caches
+  pub cached : AreCached (state_of new) new.caches
+  pub only : KeepsOnlyAt kept new.caches
+
+pub sound_made : (Uses Ends : ℕ → Leaf → Type 0) (kept : Option (Rank × Leaf)) (old new : Core) → HasMade Uses Ends kept old new → IsSound (state_of new) → 0 < new.next_generation
+    → (KeepsOnlyAt kept new.caches → KeepsOnlyAt new.kept new.caches) → IsSoundCore new
+sound_made Uses Ends kept old new made sound begun wider = record { sound = sound; begun = begun; cached = made.cached; kept = wider made.only }
+
+module _ (Uses Ends : ℕ → Leaf → Type 0) (kept : Option (Rank × Leaf)) (old : Core) where
+  pub made_first : IsSoundCore old → KeepsOnlyAt kept old.caches → HasMade Uses Ends kept old old
+  made_first sound only = record { came = stays; cached = sound.cached; only = only }
+
+  module _ (c : Core) (before : HasMade Uses Ends kept old c) where
+    -- a name of a leaf changed
+    module _ (a : Dirfrag) (name : List ℕ) (inode : Option Inode) (there : IsThere (here c.caches a.rank.0 (leaf_of a))) where
+      f : Cached
+      f = (its (here c.caches a.rank.0 (leaf_of a)) there).0
+
+      seen : here c.caches a.rank.0 (leaf_of a) ≡ Some f
+      unfolding f its
+      seen = (its (here c.caches a.rank.0 (leaf_of a)) there).1
+
+      pub is_named : IsNamed (state_of c) (state_of (named c a name inode)) (leaf_of a) name inode
+      is_named = put_named c a name inode f seen before.cached
+
+      pub made_named : Uses a.rank.0 (leaf_of a) → HasMade Uses Ends kept old (named c a name inode)
+      made_named uses = record {
+        came = subst (Came Uses Ends old.caches) (sym (marked_is c a name inode f seen before.cached))
+            (has c.caches a.rank.0 (leaf_of a) (marked f name (mark c a name inode f seen before.cached)) before.came uses);
+        cached = cached_on (state_of c) (state_of (named c a name inode)) (named c a name inode).caches (λ leaf live. live) refl (omega arith) (put_cached c a name inode f seen before.cached);
+        only = put_only c a name inode f seen before.cached kept before.only;
+      }
+
+    -- a directory moved, or a file
+    pub made_home : (homes : Homes) → ((leaf : Leaf) → IsLive c.homes c.covers leaf → IsLive homes c.covers leaf) → HasMade Uses Ends kept old (record c { homes = homes })
+    made_home homes live = record {
+      came = before.came;
+      cached = cached_on (state_of c) (state_of (record c { homes = homes })) c.caches live refl (omega arith) before.cached;
+      only = before.only;
+    }
+
+-- ---- a place is kept for a leaf that comes
+
+module _ (c : Core) (a : Dirfrag) (name : List ℕ) (inode : Option Inode) (there : IsThere (here c.caches a.rank.0 (leaf_of a))) (first : Leaf) (kept : IsKeptFor c.caches a.rank.0 first) (rank : a.rank.0 < length c.caches.used) where
+  g : Cached
+  g = (its (here c.caches a.rank.0 (leaf_of a)) there).0
+
+  sees : here c.caches a.rank.0 (leaf_of a) ≡ Some g
+  unfolding g its
+  sees = (its (here c.caches a.rank.0 (leaf_of a)) there).1
+
+  held : map.get c.caches.held (leaf_of a) ≡ Some (at a.rank.0 g)
+  held = here_is a.rank.0 (map.get c.caches.held (leaf_of a)) g sees
+
+  abbrev its_mark : Mark
+  its_mark = record { version = c.next_version; inode = inode }
+
+  pub kept_named : IsKeptFor (named c a name inode).caches a.rank.0 first
+  kept_named = (
+    has_with_mark c.caches a.rank.0 (leaf_of a) name its_mark g a.rank.0 first rank sees ∙ yes ((a.rank.0 == a.rank.0) && leaf_is first (leaf_of a)),
+    ap (λ (k : CacheMap). map.get k.held first) (ap (edited_as c.caches a.rank.0 (leaf_of a) (λ (f : Cached). marked f name its_mark)) sees) ∙ get_with_frag c.caches a.rank.0 (leaf_of a) (marked g name its_mark) first
+    ∙ ap (λ (b : Bool). cond b (Some (at a.rank.0 (marked g name its_mark))) (map.get c.caches.held first)) (apart (leaf_is first (leaf_of a)) refl) ∙ kept.1,
+  )
+    where
+      yes : (b : Bool) → cond b true (has_place c.caches a.rank.0 first) ≡ true
+      yes true = refl
+      yes false = kept.0
+
+      apart : (b : Bool) → leaf_is first (leaf_of a) ≡ b → leaf_is first (leaf_of a) ≡ false
+      apart true one = let clash : None ≡ Some (at a.rank.0 g) = sym kept.1 ∙ ap (map.get c.caches.held) (one_leaf first (leaf_of a) one) ∙ held in absurd cc
+      apart false two = two
+
+-- ---- a directory comes
+
+module _ (Uses Ends : ℕ → Leaf → Type 0) (old c : Core) (a : Dirfrag) (before : HasMade Uses Ends (Some (a.rank, leaf_of a)) old c) (absent : map.get c.caches.held (leaf_of a) ≡ None) (home : Home) (object : List ℕ) (room : Rooms)
+    (live : IsLive (map.insert c.homes a.dir.0 home) c.covers (leaf_of a)) (still : (leaf : Leaf) → IsLive c.homes c.covers leaf → IsLive (map.insert c.homes a.dir.0 home) c.covers leaf) where
+  abbrev grown : Core
+  grown = with_dir c a home object room
+
+  abbrev fresh : Cached
+  fresh = made_frag c.next_generation
+
+  now : IsThere (here grown.caches a.rank.0 (leaf_of a))
+  now = subst IsThere (sym (here_put c.caches a.rank.0 (leaf_of a) fresh)) tt
+
+  at_its : (s : ℕ) (q : Leaf) → s ≡ a.rank.0 → q ≡ leaf_of a → IsThere (here grown.caches s q)
+  at_its s q rank leaf = subst (λ (k : ℕ). IsThere (here grown.caches k q)) (sym rank) (subst (λ (l : Leaf). IsThere (here grown.caches a.rank.0 l)) (sym leaf) now)
+
+  -- no place is kept then
+  none : KeepsNone grown.caches
+  none s q placed = go (placed_used c.caches a.rank.0 (leaf_of a) s q placed)
+    where
+      gone_at : (o : Option At) → o ≡ None → IsThere (at_rank s o) → ⊥
+      gone_at o is h = subst IsThere (ap (at_rank s) is) h
+
+      beside : (b : Bool) → leaf_is q (leaf_of a) ≡ b → IsThere (here c.caches s q) → IsThere (here grown.caches s q)
+      beside true one h = absurd (gone_at (map.get c.caches.held q) (ap (map.get c.caches.held) (one_leaf q (leaf_of a) one) ∙ absent) h)
+      beside false apart h = subst IsThere (sym (here_beside c.caches a.rank.0 (leaf_of a) fresh s q apart)) h
+
+      on : IsThere (here c.caches s q) ⊎ ((map.get c.caches.held q ≡ None) × (◌≡◌ {A = Option (Rank × Leaf)} (Some (a.rank, leaf_of a)) (Some (record { 0 = s }, q)))) → IsThere (here grown.caches s q)
+      on (inl h) = beside (leaf_is q (leaf_of a)) refl h
+      on (inr own) =
+          let both : ◌≡◌ {A = Rank × Leaf} (a.rank, leaf_of a) (record { 0 = s }, q) = same_Some (a.rank, leaf_of a) (record { 0 = s }, q) own.1 in
+          at_its s q (sym (ap (λ (p : Rank × Leaf). p.0.0) both)) (sym (ap (λ (p : Rank × Leaf). p.1) both))
+
+      go : (has_place c.caches s q ≡ true) ⊎ ((s ≡ a.rank.0) × (q ≡ leaf_of a)) → IsThere (here grown.caches s q)
+      go (inl was) = on (before.only s q was)
+      go (inr same) = at_its s q same.0 same.1
+
+  pub made_dir : Uses a.rank.0 (leaf_of a) → HasMade Uses Ends None old grown
+  made_dir uses = record {
+    came = has c.caches a.rank.0 (leaf_of a) fresh before.came uses;
+    cached = cached_with (state_of grown) c.caches a.rank.0 (leaf_of a) fresh (cached_on (state_of c) (state_of grown) c.caches still refl (omega arith) before.cached) (record { live = live; tied = tt; made = omega arith });
+    only = none_only None grown.caches none;
+  }
+
+-- ---- leaves end
+
+-- what isn't clean of a leaf that ends is gone
+ended_unclean : (c : CacheMap) (leaf : Leaf) → unclean (ended c leaf) ≡ map.remove (unclean c) leaf
+ended_unclean c leaf = go (map.get c.held leaf) refl
+  where
+    go : (o : Option At) → map.get c.held leaf ≡ o → unclean (ended_at c leaf o) ≡ map.remove (unclean c) leaf
+    go None is = unclean_alike c (given_up c 0 leaf) (λ q. ap unsaved_at (sym (ap (λ (o : Option Cached). map.get (removed c.held leaf o) q) (ap (at_rank 0) is)))) ∙ unclean_given_up c 0 leaf (subst (IsFree 0) (sym is) tt)
+    go (Some a) is = unclean_given_up c a.rank leaf (subst (IsFree a.rank) (sym is) refl)
+
+pub unclean_ended : (c : CacheMap) (ls : List Leaf) → unclean (ended_all c ls) ≡ without_leaves (unclean c) ls
+unclean_ended c [] = refl
+unclean_ended c (leaf ∷ ls) = unclean_ended (ended c leaf) ls ∙ ap (λ (u : UnsavedLeaves). without_leaves u ls) (ended_unclean c leaf)
+
+-- what is cached still was so before, and didn't end
+ended_held : (c : CacheMap) (leaf q : Leaf) (a : At) → map.get (ended c leaf).held q ≡ Some a → (leaf_is q leaf ≡ false) × (map.get c.held q ≡ Some a)
+ended_held c leaf q a is = go (map.get c.held leaf) refl is
+  where
+    by : (o : Option At) → map.get c.held leaf ≡ o → (b : Bool) → leaf_is q leaf ≡ b → cond b None (map.get c.held q) ≡ Some a → (leaf_is q leaf ≡ false) × (map.get c.held q ≡ Some a)
+    by o at true one h = let clash : None ≡ Some a = h in absurd cc
+    by o at false apart h = (apart, h)
+
+    none : (b : Bool) → leaf_is q leaf ≡ b → map.get c.held leaf ≡ None → map.get c.held q ≡ Some a → (leaf_is q leaf ≡ false) × (map.get c.held q ≡ Some a)
+    none true one gone h = let clash : None ≡ Some a = sym gone ∙ ap (map.get c.held) (sym (one_leaf q leaf one)) ∙ h in absurd cc
+    none false apart gone h = (apart, h)
+
+    go : (o : Option At) → map.get c.held leaf ≡ o → map.get (ended_at c leaf o).held q ≡ Some a → (leaf_is q leaf ≡ false) × (map.get c.held q ≡ Some a)
+    go None at h = none (leaf_is q leaf) refl at h
+    go (Some b) at h = by (Some b) at (leaf_is q leaf) refl (sym (get_given_up c b.rank leaf q (subst (IsFree b.rank) (sym at) refl)) ∙ h)
+
+pub still_held : (c : CacheMap) (ls : List Leaf) (q : Leaf) (a : At) → map.get (ended_all c ls).held q ≡ Some a → (list_any (leaf_is q) ls ≡ false) × (map.get c.held q ≡ Some a)
+still_held c [] q a is = (refl, is)
+still_held c (leaf ∷ ls) q a is =
+    let later = still_held (ended c leaf) ls q a is in
+    let first = ended_held c leaf q a later.1 in
+    ((λ i. first.0 i || later.0 i), first.1)
+
+-- the caches came from those before by ends of leaves that are named so
+pub ends_came : (Uses Ends : ℕ → Leaf → Type 0) (old c : CacheMap) (dir : Ino) (parts : List GoingLeaf) → ((r : ℕ) (leaf : Leaf) → leaf.0 ≡ dir → Ends r leaf) → Came Uses Ends old c → Came Uses Ends old (ended_all c (leaves_in dir parts))
+ends_came Uses Ends old c dir [] named came = came
+ends_came Uses Ends old c dir (part ∷ parts) named came = ends_came Uses Ends old (ended c (dir, part.frag)) dir parts named (go (map.get c.held (dir, part.frag)))
+  where
+    go : (o : Option At) → Came Uses Ends old (ended_at c (dir, part.frag) o)
+    go None = came
+    go (Some a) = ends c a.rank (dir, part.frag) came (named a.rank (dir, part.frag) refl)
+
+-- and no place is kept then, if none was
+pub none_ended : (c : CacheMap) (leaf : Leaf) → AreCaches c → KeepsNone c → KeepsNone (ended c leaf)
+none_ended c leaf valid none = go (map.get c.held leaf) refl
+  where
+    go : (o : Option At) → map.get c.held leaf ≡ o → KeepsNone (ended_at c leaf o)
+    go None is = none
+    go (Some a) is = none_given_up c (given_up c a.rank leaf) a.rank leaf (holder_there c leaf a valid is) valid none refl
+
+-- ---- a directory goes, or none
+
+module _ (c : Core) (going : Option Going) (prepared : IsGoingOrNone c.covers going) (room : Rooms) where
+  abbrev pub left : Core
+  left = without_dir c (dir_going going) (leaves_going going) (texts_going going) room
+
+  pub is_gone : state_of left ≡ without (state_of c) (dir_going going)
+  is_gone = go going prepared
+    where
+      go : (went : Option Going) → IsGoingOrNone c.covers went → state_of (without_dir c (dir_going went) (leaves_going went) (texts_going went) room) ≡ without (state_of c) (dir_going went)
+      go None prepared = refl
+      go (Some went) prepared = λ i. record (state_of c) {
+        homes = map.remove c.homes went.dir.0;
+        covers = map.remove c.covers went.dir.0;
+        unsaved = (unclean_ended c.caches (leaves_in went.dir went.leaves.items) ∙ ap (without_leaves (unclean c.caches)) prepared.parts) i;
+        jobs = ap (without_leaves c.jobs) prepared.parts i;
+        purge = with_objects (map.insert c.purge (prepared.tree i) tt) (prepared.texts i);
+      }
+
+  module _ (Uses Ends : ℕ → Leaf → Type 0) (old : Core) (named : (r : ℕ) (leaf : Leaf) → dir_going going ≡ Some leaf.0 → Ends r leaf) (before : HasMade Uses Ends None old c) where
+    pub made_gone : (KeepsNone c.caches → KeepsNone left.caches) → HasMade Uses Ends None old left
+    made_gone stays_none = record {
+      came = comes going named;
+      cached = subst (λ (s : State). AreCached s left.caches) (sym is_gone) (stay going prepared);
+      only = none_only None left.caches (stays_none (only_none c.caches before.only));
+    }
+      where
+        comes : (went : Option Going) → ((r : ℕ) (leaf : Leaf) → dir_going went ≡ Some leaf.0 → Ends r leaf) → Came Uses Ends old.caches (ended_all c.caches (leaves_going went))
+        comes None named = before.came
+        comes (Some went) named = ends_came Uses Ends old.caches c.caches went.dir went.leaves.items (λ r leaf is. named r leaf (ap (λ (d : Ino). Some d) (sym is))) before.came
+
+        stay : (went : Option Going) → IsGoingOrNone c.covers went → AreCached (without (state_of c) (dir_going went)) (ended_all c.caches (leaves_going went))
+        stay None prepared leaf a is = before.cached leaf a is
+        stay (Some went) prepared leaf a is =
+            let was = still_held c.caches (leaves_in went.dir went.leaves.items) leaf a is in
+            let cached : IsCachedIn (state_of c) leaf a.frag = before.cached leaf a was.1 in
+            record {
+              live = left_live_at (state_of c) went.dir leaf cached.live (sym (ap (list_any (leaf_is leaf)) prepared.parts) ∙ was.0);
+              tied = cached.tied;
+              made = cached.made;
+            }
+
+-- ---- an entry moves
+
+-- where one leaf has room for two changes and another, or the same, for one, that one has room still once a name of the first changed
+pub room_left : (c : CacheMap) (r s : ℕ) (source target : Leaf) (name : List ℕ) (mark : Mark) → HasCached (here c r source) (λ (f : Cached). 1 < f.room) → HasRoom (here c s target) → HasRoom (here (with_mark c r source name mark) s target)
+room_left c r s source target name mark two one = by (here c r source) refl two
+  where
+    by : (o : Option Cached) → here c r source ≡ o → HasCached o (λ (f : Cached). 1 < f.room) → HasRoom (here (with_mark c r source name mark) s target)
+    by None seen two = absurd two
+    by (Some f) seen two =
+        subst HasRoom (sym (ap (λ (k : CacheMap). here k s target) (ap (edited_as c r source (λ (g : Cached). marked g name mark)) seen) ∙ here_with_frag c r source (marked f name mark) s target)) (on (leaf_is target source) refl)
+      where
+        room : 0 < (marked f name mark).room
+        room = omega (arith, two)
+
+        at_its : (b : Bool) → (r == s) ≡ b → HasRoom (cond b (Some f) None) → HasRoom (cond b (Some (marked f name mark)) None)
+        at_its true same h = room
+        at_its false apart h = h
+
+        on : (b : Bool) → leaf_is target source ≡ b → HasRoom (cond b (cond (r == s) (Some (marked f name mark)) None) (here c s target))
+        on true same = at_its (r == s) refl (subst HasRoom (ap (here c s) (one_leaf target source same) ∙ ap (at_rank s) (here_is r (map.get c.held source) f seen)) one)
+        on false apart = one
+
+-- so it is there
+pub there_left : (c : CacheMap) (r s : ℕ) (source target : Leaf) (name : List ℕ) (mark : Mark) → HasCached (here c r source) (λ (f : Cached). 1 < f.room) → HasRoom (here c s target) → IsThere (here (with_mark c r source name mark) s target)
+there_left c r s source target name mark two one = roomy_there (here (with_mark c r source name mark) s target) (room_left c r s source target name mark two one)
+
+-- nothing else of the fragments is seen
+pub made_beside : (Uses Ends : ℕ → Leaf → Type 0) (kept other : Option (Rank × Leaf)) (old c : Core) (prepared : Prepared) → HasMade Uses Ends kept old c → HasMade Uses Ends kept old (record c { prepared = prepared; kept = other })
+made_beside Uses Ends kept other old c prepared made = record { came = made.came; cached = made.cached; only = made.only }

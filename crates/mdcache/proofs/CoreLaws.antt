@@ -1,0 +1,391 @@
+-- What reads and preparations leave of the tree over caches and a store, and what they find.
+use Rattle.std.proofs.Common.{◌≡◌, ◌⊎◌, inl, inr, ℕ, zero, suc, ◌+◌, ◌<◌, ◌≤◌, true, length, Option, Some, None, refl, sym, ap, subst, ◌∙◌, arith}
+use Rattle.std.specs.Prelude.{IfErr, IfOk, OnOk, Result, Ok, Err}
+use Rattle.std.specs.FinMap as map
+use Rattle.std.proofs.lemmas.Option.{same_Some}
+use Rattle.mds_types.specs.declared.dentries.Dentry.{Dentry}
+use Rattle.mds_types.specs.declared.ids.Ino.{Ino}
+use Rattle.mds_types.specs.declared.ids.Rank.{Rank}
+use Rattle.mds_types.specs.declared.inodes.Inode.{Inode}
+use Rattle.mds_types.specs.declared.refusals.Refusal.{Refusal}
+use Rattle.mds_types.specs.Frag.{Fragment}
+use Rattle.mds_types.specs.Tree.{is_directory}
+use Rattle.fragtree.specs.FragTree.{IsPick}
+use Rattle.namehash.specs.Rjenkins.{hash_of}
+use Rattle.omap.specs.Omap.{Omap}
+use Rattle.objstore.specs.Objects.{Objects, faults_told}
+use Rattle.commit_jobs.specs.declared.bases.Base.{Base}
+use Rattle.commit_jobs.specs.declared.bases.Base.TheVariants.{Fresh, Stored}
+use Rattle.cached_frag.specs.Cached.{Cached, shown}
+use Rattle.dentry_cache.specs.Cache.{HasCached, Leaf, unsaved_in}
+use Rattle.dentry_cache.specs.CacheMap.{At, CacheMap, IsFree, at, at_rank, here, leaf_of, unclean, unclean_of, unsaved_at, used_at}
+use Rattle.dentry_cache.specs.CacheCalls.{Edits, KeepsNone}
+use Rattle.dentry_cache.specs.CacheSplits.{IsKeptFor}
+use Rattle.dentry_cache.specs.Came.{Came, IsThat, NoneEnds}
+use Rattle.dentry_cache.specs.Loading.{Loads, object_of}
+use Rattle.dentry_cache.specs.Reads.{IsButRoom, IsReadOf, Reads}
+use Rattle.dentry_cache.specs.Reads.Reads.{stays as it_stays}
+use Rattle.dentry_cache.specs.Ties.{IsTied, IsTiedAt}
+use Rattle.dentry_cache.specs.declared.dirfrag.Dirfrag.{Dirfrag}
+use Rattle.dentry_cache.proofs.TieLaws.{fetched_are_tied}
+use Rattle.dentry_cache.proofs.UncleanLaws.{get_unclean}
+use Rattle.inode_table.specs.Dirs.{is_known, leaves_of}
+use Rattle.inode_table.proofs.TableLaws.{known_is}
+use Rattle.mdcache.specs.Core.{Core, IsCachedIn, IsNoLess, IsSoundCore, MayFetch, ReadsCore, Rooms, shown_in, state_of}
+use Rattle.mdcache.specs.Frags.{KeepsState}
+use Rattle.dirfrag_codec.specs.FragmentObject.{Names}
+use Rattle.mdcache.specs.CacheReads.{LacksPlacesIn}
+use Rattle.mdcache.specs.Ranks.{KeepsOnlyAt, MayHold, NoneUsed}
+use Rattle.omap.specs.Omap.{Keys}
+use Rattle.inode_table.specs.Dirs.{Covers, Homes}
+use Rattle.mdcache.specs.Ready.{MayNotBeReady}
+use Rattle.mdcache.specs.declared.prepared.Prepared.{Prepared}
+use Rattle.mdcache.specs.Reads.{MayNotFind}
+use Rattle.mdcache.specs.Shown.{names_of, shown_at}
+use Rattle.mdcache.specs.Sound.{IsSaved, IsSound}
+use Rattle.mdcache.specs.State.{IsLive, State, UnsavedLeaves}
+use Rattle.mdcache.proofs.EndLaws.{cached_shows}
+use Rattle.dentry_cache.proofs.FrameLaws.{came_cap, came_ranks}
+use Rattle.dentry_cache.proofs.ReadsLaws.{edits_reads, here_is, reads_came, reads_held, reads_then, reads_unclean, reads_weaker, used_reads}
+use Rattle.mdcache.proofs.NoneLaws.{none_only}
+use Rattle.mdcache.proofs.UncleanOf.{reads_unclean_of}
+use Rattle.mdcache.proofs.TreeLookups.{at_dentry}
+
+-- ---- one fragment
+
+-- room is no part of a tie
+tied_but : (b : Base) (f : Cached) (room places : ℕ) (object : Option Omap) → IsTiedAt b f object → IsTiedAt b (record f { room = room; places = places }) object
+tied_but Fresh f room places object tie = tt
+tied_but (Stored version) f room places None tie = tie
+tied_but (Stored version) f room places (Some object) tie = tie
+
+pub cached_but : (s : State) (leaf : Leaf) (g f : Cached) → IsButRoom g f → IsCachedIn s leaf g → IsCachedIn s leaf f
+cached_but s leaf g f but was =
+    subst (IsCachedIn s leaf) (sym but) (record { live = was.live; tied = tied_but g.base g f.room f.places (object_of s.objects leaf.0 leaf.1) was.tied; made = was.made })
+
+loaded_first : (leaf : Leaf) (f : Cached) (object : Option Omap) → Loads leaf.1 object (Some f) → f.generation ≡ 0
+loaded_first leaf f None h = absurd h
+loaded_first leaf f (Some object) h = ap (λ (k : Cached). k.generation) h.3
+
+-- a fragment that was read
+loaded_cached : (s : State) (leaf : Leaf) (f : Cached) → 0 < s.next_generation → IsLive s.homes s.covers leaf → Loads leaf.1 (object_of s.objects leaf.0 leaf.1) (Some f) → IsCachedIn s leaf f
+loaded_cached s leaf f begun live loads = record {
+  live = live;
+  tied = fetched_are_tied leaf.1 (object_of s.objects leaf.0 leaf.1) f loads;
+  made = (let first = loaded_first leaf f (object_of s.objects leaf.0 leaf.1) loads in omega (arith, begun, first));
+}
+
+-- ---- what reads leave
+
+module _ (Uses Ends : ℕ → Leaf → Type 0) (old new : Core) (reads : ReadsCore Uses Ends old new) where
+  came : Came Uses Ends old.caches new.caches
+  came = reads_came Uses Ends old.objects old.caches new.caches reads.caches
+
+  pub reads_state : state_of new ≡ state_of old
+  reads_state = ap state_of reads.beside ∙ (λ i. record (state_of old) { unsaved = reads_unclean Uses Ends old.objects old.caches new.caches reads.caches i })
+
+  -- a leaf that is used is live, if it is cached then
+  abbrev pub AreLive : Type 0
+  AreLive = (r : ℕ) (q : Leaf) → Uses r q → (a : At) → map.get new.caches.held q ≡ Some a → IsLive old.homes old.covers q
+
+  reads_cached_so : IsSoundCore old → AreLive → (leaf : Leaf) (a : At) → map.get new.caches.held leaf ≡ Some a → IsCachedIn (state_of new) leaf a.frag
+  reads_cached_so sound live leaf a is = subst (λ (s : State). IsCachedIn s leaf a.frag) (sym reads_state) (go (reads_held Uses Ends old.objects old.caches new.caches reads.caches leaf a is))
+    where
+      go : IsReadOf Uses old.objects leaf (map.get old.caches.held leaf) a → IsCachedIn (state_of old) leaf a.frag
+      go (inl was) = cached_but (state_of old) leaf was.0 a.frag was.2 (sound.cached leaf (at a.rank was.0) was.1)
+      go (inr came) = cached_but (state_of old) leaf came.1 a.frag came.3 (loaded_cached (state_of old) leaf came.1 sound.begun (live a.rank leaf came.0 a is) came.2)
+
+  pub reads_cached : IsSoundCore old → ((r : ℕ) (q : Leaf) → Uses r q → IsLive old.homes old.covers q) → (leaf : Leaf) (a : At) → map.get new.caches.held leaf ≡ Some a
+      → IsCachedIn (state_of new) leaf a.frag
+  reads_cached sound live = reads_cached_so sound (λ r q uses a is. live r q uses)
+
+  pub reads_sound_so : IsSoundCore old → AreLive → KeepsOnlyAt new.kept new.caches → IsSoundCore new
+  reads_sound_so sound live kept = record {
+    sound = subst IsSound (sym reads_state) sound.sound;
+    begun = subst (λ (s : State). 0 < s.next_generation) (sym reads_state) sound.begun;
+    cached = reads_cached_so sound live;
+    kept = kept;
+  }
+
+  pub reads_sound : IsSoundCore old → ((r : ℕ) (q : Leaf) → Uses r q → IsLive old.homes old.covers q) → KeepsOnlyAt new.kept new.caches → IsSoundCore new
+  reads_sound sound live kept = record {
+    sound = subst IsSound (sym reads_state) sound.sound;
+    begun = subst (λ (s : State). 0 < s.next_generation) (sym reads_state) sound.begun;
+    cached = reads_cached sound live;
+    kept = kept;
+  }
+
+  pub reads_keeps : (told : Option Refusal) → new.faults ≡ old.faults + faults_told told → KeepsState old new told
+  reads_keeps told counted = record {
+    state = reads_state;
+    unclean = reads_unclean_of Uses Ends old.objects old.caches new.caches reads.caches;
+    count = came_ranks Uses Ends old.caches new.caches came;
+    cap = came_cap Uses Ends old.caches new.caches came;
+    counted = counted;
+  }
+
+  -- a leaf that could be fetched still can
+  pub may_fetch_on : (a : Dirfrag) → ((r : ℕ) → Uses r (leaf_of a) → r ≡ a.rank.0) → MayFetch old a → MayFetch new a
+  may_fetch_on a mine may = record {
+    there = (let count : length new.caches.used ≡ length old.caches.used = came_ranks Uses Ends old.caches new.caches came in let there = may.there in omega (arith, count, there));
+    free = free (map.get new.caches.held (leaf_of a)) refl;
+    saved = λ none. subst (λ (s : State). IsSaved a.frag (object_of s.objects a.dir a.frag)) (sym reads_state)
+        (may.saved (ap (λ (m : UnsavedLeaves). map.get m (leaf_of a)) (sym (reads_unclean Uses Ends old.objects old.caches new.caches reads.caches)) ∙ none));
+  }
+    where
+      was : (b : At) → map.get old.caches.held (leaf_of a) ≡ Some b → b.rank ≡ a.rank.0
+      was b is = subst (IsFree a.rank.0) is may.free
+
+      free : (o : Option At) → map.get new.caches.held (leaf_of a) ≡ o → IsFree a.rank.0 o
+      free None is = tt
+      free (Some b) is = by (reads_held Uses Ends old.objects old.caches new.caches reads.caches (leaf_of a) b is)
+        where
+          by : IsReadOf Uses old.objects (leaf_of a) (map.get old.caches.held (leaf_of a)) b → b.rank ≡ a.rank.0
+          by (inl stood) = was (at b.rank stood.0) stood.1
+          by (inr read) = mine b.rank read.0
+
+-- a leaf that was cached nowhere, and isn't named, is cached nowhere
+pub still_absent : (Uses Ends : ℕ → Leaf → Type 0) (old new : Core) (q : Leaf) → ReadsCore Uses Ends old new → ((r : ℕ) → Uses r q → ⊥) → map.get old.caches.held q ≡ None → map.get new.caches.held q ≡ None
+still_absent Uses Ends old new q reads unnamed none = go (map.get new.caches.held q) refl
+  where
+    go : (o : Option At) → map.get new.caches.held q ≡ o → map.get new.caches.held q ≡ None
+    go None is = is
+    go (Some a) is = by (reads_held Uses Ends old.objects old.caches new.caches reads.caches q a is)
+      where
+        by : IsReadOf Uses old.objects q (map.get old.caches.held q) a → map.get new.caches.held q ≡ None
+        by (inl was) = let clash : None ≡ Some (at a.rank was.0) = sym none ∙ was.1 in absurd cc
+        by (inr read) = absurd (unnamed a.rank read.0)
+
+-- one after the other
+no_less_on : (a b c : Rooms) → IsNoLess a b → IsNoLess b c → IsNoLess a c
+no_less_on a b c p q =
+    let d = p.dirs in let e = q.dirs in let t = p.trees in let u = q.trees in let j = p.jobs in let k = q.jobs in let x = p.purge in let y = q.purge in
+    record { dirs = omega (arith, d, e); trees = omega (arith, t, u); jobs = omega (arith, j, k); purge = omega (arith, x, y) }
+
+pub reads_core_on : (Uses Ends : ℕ → Leaf → Type 0) (old mid new : Core) → ReadsCore Uses Ends old mid → ReadsCore Uses Ends mid new → ReadsCore Uses Ends old new
+reads_core_on Uses Ends old mid new first second = record {
+  caches = reads_then Uses Ends old.objects old.caches mid.caches new.caches first.caches
+      (subst (λ (o : Objects). Reads Uses Ends o mid.caches new.caches) (ap (λ (c : Core). c.objects) first.beside) second.caches);
+  room = no_less_on old.room mid.room new.room first.room second.room;
+  beside = second.beside ∙ ap (λ (c : Core). record c { caches = new.caches; faults = new.faults; room = new.room; prepared = new.prepared; kept = new.kept }) first.beside;
+}
+
+pub no_less_itself : (a : Rooms) → IsNoLess a a
+no_less_itself a = record { dirs = omega arith; trees = omega arith; jobs = omega arith; purge = omega arith }
+
+pub reads_itself : (Uses Ends : ℕ → Leaf → Type 0) (c : Core) → ReadsCore Uses Ends c c
+reads_itself Uses Ends c = record { caches = it_stays; room = no_less_itself c.room; beside = refl }
+
+pub there_after : (Uses Ends : ℕ → Leaf → Type 0) (old new : Core) (r : ℕ) → ReadsCore Uses Ends old new → r < length old.caches.used → r < length new.caches.used
+there_after Uses Ends old new r reads there =
+    subst (λ (n : ℕ). r < n) (sym (came_ranks Uses Ends old.caches new.caches (reads_came Uses Ends old.objects old.caches new.caches reads.caches))) there
+
+-- a step of the caches, of what is seen of the parts that are there: the first one, and one after others
+module _ (Uses Ends : ℕ → Leaf → Type 0) (old view new : Core) (room : IsNoLess view.room new.room)
+    (beside : new ≡ record view { caches = new.caches; faults = new.faults; room = new.room; prepared = new.prepared; kept = new.kept }) where
+  pub first_step : view ≡ old → Reads Uses Ends view.objects view.caches new.caches → ReadsCore Uses Ends old new
+  first_step is reads = subst (λ (k : Core). ReadsCore Uses Ends k new) is (record { caches = reads; room = room; beside = beside })
+
+  pub next_step : (mid : Core) → ReadsCore Uses Ends old mid → view ≡ mid → Reads Uses Ends view.objects view.caches new.caches → ReadsCore Uses Ends old new
+  next_step mid before is reads = reads_core_on Uses Ends old mid new before (subst (λ (k : Core). ReadsCore Uses Ends k new) is (record { caches = reads; room = room; beside = beside }))
+
+-- a use after other steps, and other room of a fragment
+module _ (Uses Ends : ℕ → Leaf → Type 0) (old mid view : Core) (is : view ≡ mid) (before : ReadsCore Uses Ends old mid) (r : ℕ) (leaf : Leaf) (named : Uses r leaf) (caches' : CacheMap) where
+  pub use_step : caches' ≡ used_at view.caches r leaf → ReadsCore Uses Ends old (record view { caches = caches' })
+  use_step used = next_step Uses Ends old view (record view { caches = caches' }) (no_less_itself view.room) refl mid before is
+      (used_reads Uses Ends view.objects view.caches view.caches caches' r leaf it_stays named used)
+
+  pub room_step : (Change : Cached → Cached → Type 0) → ((f now : Cached) → Change f now → IsButRoom f now) → Edits Change r leaf view.caches caches' → ReadsCore Uses Ends old (record view { caches = caches' })
+  room_step Change but edits = next_step Uses Ends old view (record view { caches = caches' }) (no_less_itself view.room) refl mid before is
+      (edits_reads Uses Ends view.objects view.caches view.caches caches' r leaf Change but it_stays named edits)
+
+-- for more leaves
+pub reads_core_wider : (Few Many FewEnd ManyEnd : ℕ → Leaf → Type 0) (old new : Core) → ((r : ℕ) (q : Leaf) → Few r q → Many r q) → ((r : ℕ) (q : Leaf) → FewEnd r q → ManyEnd r q)
+    → ReadsCore Few FewEnd old new → ReadsCore Many ManyEnd old new
+reads_core_wider Few Many FewEnd ManyEnd old new more more_end reads =
+    record { caches = reads_weaker Few FewEnd Many ManyEnd more more_end old.objects old.caches new.caches reads.caches; room = reads.room; beside = reads.beside }
+
+-- ---- what a sound core tells
+
+module _ (c : Core) (sound : IsSoundCore c) where
+  pub dir_known : (d : ℕ) → is_directory (shown_in c) d ≡ true → is_known c.homes d ≡ true
+  dir_known d is = known_is (shown_in c) c.homes sound.sound.tabled d ∙ is
+
+  pub pick_live : (dir : Ino) (hash : ℕ) (f : Fragment) → is_directory (shown_in c) dir.0 ≡ true → IsPick (leaves_of c.covers dir.0) hash f → IsLive c.homes c.covers (dir, f)
+  pick_live dir hash f is pick = record { known = dir_known dir.0 is; stands = pick.stands }
+
+  -- a live leaf can be fetched at a rank that may hold it
+  pub may_fetch : (a : Dirfrag) → MayHold c.caches a.rank (leaf_of a) → IsLive c.homes c.covers (leaf_of a) → MayFetch c a
+  may_fetch a holds live = record { there = holds.there; free = holds.alone; saved = sound.sound.saved (leaf_of a) live }
+
+  -- a cached fragment shows the names of its leaf
+  pub shows_cached : (r : ℕ) (leaf : Leaf) (f : Cached) → here c.caches r leaf ≡ Some f → names_of (unclean c.caches) c.objects leaf ≡ shown f
+  unfolding names_of
+  shows_cached r leaf f there =
+      let held : map.get c.caches.held leaf ≡ Some (at r f) = here_is r (map.get c.caches.held leaf) f there in
+      ap (λ o. shown_at o (object_of c.objects leaf.0 leaf.1)) (get_unclean c.caches leaf ∙ ap unsaved_at held)
+      ∙ cached_shows f (object_of c.objects leaf.0 leaf.1) (sound.cached leaf (at r f) held).tied
+
+  -- what holds of the shown names of a cached fragment holds of those of its leaf
+  pub of_names : (P : Names → Type 0) (r : ℕ) (leaf : Leaf) → HasCached (here c.caches r leaf) (λ (f : Cached). P (shown f)) → P (names_of (unclean c.caches) c.objects leaf)
+  of_names P r leaf has = go (here c.caches r leaf) refl has
+    where
+      go : (o : Option Cached) → here c.caches r leaf ≡ o → HasCached o (λ (f : Cached). P (shown f)) → P (names_of (unclean c.caches) c.objects leaf)
+      go None there h = absurd h
+      go (Some f) there h = subst P (sym (shows_cached r leaf f there)) h
+
+  -- what is found in the leaf of a dentry is what stands there
+  pub found_there : (r : ℕ) (dentry : Dentry) (f : Fragment) (found : Option Inode) → is_known c.homes dentry.dir.0 ≡ true → IsPick (leaves_of c.covers dentry.dir.0) (hash_of dentry.name) f
+      → HasCached (here c.caches r (dentry.dir, f)) (λ (g : Cached). found ≡ map.get (shown g) dentry.name) → found ≡ map.get (shown_in c) dentry
+  found_there r dentry f found known pick has =
+      of_names (λ (names : Names). found ≡ map.get names dentry.name) r (dentry.dir, f) has ∙ sym (at_dentry (state_of c) sound.sound dentry.dir.0 dentry.name f known pick)
+
+-- ---- why a read is refused, said of what was before others
+
+pub if_ok : {A E : Type 0} (P Q : A → Type 0) (r : Result A E) → ((x : A) → P x → Q x) → IfOk r P → IfOk r Q
+if_ok P Q (Ok x) f h = f x h
+if_ok P Q (Err e) f h = tt
+
+pub if_err : {A E : Type 0} (P Q : E → Type 0) (r : Result A E) → ((e : E) → P e → Q e) → IfErr r P → IfErr r Q
+if_err P Q (Ok x) f h = tt
+if_err P Q (Err e) f h = f e h
+
+pub on_ok : {A E P Q : Type 0} (r : Result A E) → (P → Q) → OnOk r P → OnOk r Q
+on_ok (Ok x) f h = f h
+on_ok (Err e) f h = tt
+
+pub not_found_weaker : (P Q : Type 0) (before after : ℕ) (reason : Refusal) → (P → Q) → MayNotFind P before after reason → MayNotFind Q before after reason
+not_found_weaker P Q before after reason f (inl memory) = inl memory
+not_found_weaker P Q before after reason f (inr (inl fault)) = inr (inl fault)
+not_found_weaker P Q before after reason f (inr (inr full)) = inr (inr (full.0, f full.1))
+
+pub cached_so : (P Q : Cached → Type 0) (o : Option Cached) → ((f : Cached) → P f → Q f) → HasCached o P → HasCached o Q
+cached_so P Q None f h = h
+cached_so P Q (Some g) f h = f g h
+
+module _ (Uses Ends : ℕ → Leaf → Type 0) (old mid : Core) (reads : ReadsCore Uses Ends old mid) where
+  pub lacks_before : (count r : ℕ) → LacksPlacesIn count mid.caches r → LacksPlacesIn count old.caches r
+  lacks_before count r lacks =
+      let cap : mid.caches.cap ≡ old.caches.cap = came_cap Uses Ends old.caches mid.caches (reads_came Uses Ends old.objects old.caches mid.caches reads.caches) in
+      let few : map.len (unclean_of mid.caches r) ≡ map.len (unclean_of old.caches r) = ap (λ m. map.len m) (reads_unclean_of Uses Ends old.objects old.caches mid.caches reads.caches r) in
+      omega (arith, cap, few, lacks)
+
+  pub not_found_before : (count r after : ℕ) (reason : Refusal) → mid.faults ≡ old.faults → MayNotFind (LacksPlacesIn count mid.caches r) mid.faults after reason → MayNotFind (LacksPlacesIn count old.caches r) old.faults after reason
+  not_found_before count r after reason same (inl memory) = inl memory
+  not_found_before count r after reason same (inr (inl fault)) = inr (inl (fault.0, subst (λ (n : ℕ). n < after) same fault.1))
+  not_found_before count r after reason same (inr (inr full)) = inr (inr (full.0, lacks_before count r full.1))
+
+pub not_found_pair : (Uses Ends : ℕ → Leaf → Type 0) (old mid : Core) → ReadsCore Uses Ends old mid → (count r t after : ℕ) (reason : Refusal) → mid.faults ≡ old.faults
+    → MayNotFind (LacksPlacesIn count mid.caches r ⊎ LacksPlacesIn count mid.caches t) mid.faults after reason → MayNotFind (LacksPlacesIn count old.caches r ⊎ LacksPlacesIn count old.caches t) old.faults after reason
+not_found_pair Uses Ends old mid reads count r t after reason same is = subst (λ (n : ℕ). MayNotFind (LacksPlacesIn count old.caches r ⊎ LacksPlacesIn count old.caches t) n after reason) same
+    (not_found_weaker (LacksPlacesIn count mid.caches r ⊎ LacksPlacesIn count mid.caches t) (LacksPlacesIn count old.caches r ⊎ LacksPlacesIn count old.caches t) mid.faults after reason go is)
+  where
+    go : LacksPlacesIn count mid.caches r ⊎ LacksPlacesIn count mid.caches t → LacksPlacesIn count old.caches r ⊎ LacksPlacesIn count old.caches t
+    go (inl lacks) = inl (lacks_before Uses Ends old mid reads count r lacks)
+    go (inr lacks) = inr (lacks_before Uses Ends old mid reads count t lacks)
+
+-- ---- a read, once the place that was kept is given up
+
+module _ (Uses : ℕ → Leaf → Type 0) (old mid new : Core) (given : ReadsCore NoneUsed (IsKeptFor old.caches) old mid) (read : ReadsCore Uses NoneEnds mid new) where
+  pub given_reads : ReadsCore Uses (IsKeptFor old.caches) old new
+  given_reads = reads_core_on Uses (IsKeptFor old.caches) old mid new
+      (reads_core_wider NoneUsed Uses (IsKeptFor old.caches) (IsKeptFor old.caches) old mid (λ r q no_use. absurd no_use) (λ r q is. is) given)
+      (reads_core_wider Uses Uses NoneEnds (IsKeptFor old.caches) mid new (λ r q is. is) (λ r q no_end. absurd no_end) read)
+
+  module _ (sound : IsSoundCore old) (none : KeepsNone new.caches) (live : (r : ℕ) (q : Leaf) → Uses r q → IsLive old.homes old.covers q) where
+    pub given_sound : IsSoundCore new
+    given_sound = reads_sound Uses (IsKeptFor old.caches) old new given_reads sound live (none_only new.kept new.caches none)
+
+    given_state : state_of new ≡ state_of old
+    given_state = reads_state Uses (IsKeptFor old.caches) old new given_reads
+
+    -- what holds of the shown names of a cached fragment holds of those of its leaf
+    pub given_names : (P : Names → Type 0) (r : ℕ) (leaf : Leaf) → HasCached (here new.caches r leaf) (λ (f : Cached). P (shown f)) → P (names_of (unclean old.caches) old.objects leaf)
+    given_names P r leaf has = subst P (ap (λ (s : State). names_of s.unsaved s.objects leaf) given_state) (of_names new given_sound P r leaf has)
+
+    pub given_found : (r : ℕ) (dentry : Dentry) (f : Fragment) (found : Option Inode) → is_directory (shown_in old) dentry.dir.0 ≡ true → IsPick (leaves_of old.covers dentry.dir.0) (hash_of dentry.name) f
+        → HasCached (here new.caches r (dentry.dir, f)) (λ (g : Cached). found ≡ map.get (shown g) dentry.name) → found ≡ map.get (shown_in old) dentry
+    given_found r dentry f found known pick has =
+        given_names (λ (names : Names). found ≡ map.get names dentry.name) r (dentry.dir, f) has
+        ∙ sym (at_dentry (state_of old) sound.sound dentry.dir.0 dentry.name f (dir_known old sound dentry.dir.0 known) pick)
+
+-- a leaf can be fetched once the place that was kept is given up
+pub given_may : (old mid : Core) → ReadsCore NoneUsed (IsKeptFor old.caches) old mid → (a : Dirfrag) → IsSoundCore old → MayHold old.caches a.rank (leaf_of a) → IsLive old.homes old.covers (leaf_of a) → MayFetch mid a
+given_may old mid given a sound holds live = may_fetch_on NoneUsed (IsKeptFor old.caches) old mid given a (λ r no_use. absurd no_use) (may_fetch old sound a holds live)
+
+-- one leaf that is live
+pub that_live : (c : Core) (r : ℕ) (leaf : Leaf) → IsLive c.homes c.covers leaf → (s : ℕ) (q : Leaf) → IsThat r leaf s q → IsLive c.homes c.covers q
+that_live c r leaf live s q is = subst (IsLive c.homes c.covers) (sym is.1) live
+
+pub two_live : (c : Core) (a b : ℕ) (one two : Leaf) → IsLive c.homes c.covers one → IsLive c.homes c.covers two → (s : ℕ) (q : Leaf) → IsThat a one s q ⊎ IsThat b two s q → IsLive c.homes c.covers q
+two_live c a b one two first second s q (inl is) = that_live c a one first s q is
+two_live c a b one two first second s q (inr is) = that_live c b two second s q is
+
+-- the leaves of a pair, which are one at one rank alone, are used at their ranks
+pub two_ranks : (a b : Dirfrag) → (◌≡◌ {A = Leaf} (leaf_of a) (leaf_of b) → a.rank ≡ b.rank)
+    → ((r : ℕ) → IsThat a.rank.0 (leaf_of a) r (leaf_of a) ⊎ IsThat b.rank.0 (leaf_of b) r (leaf_of a) → r ≡ a.rank.0)
+    × ((r : ℕ) → IsThat a.rank.0 (leaf_of a) r (leaf_of b) ⊎ IsThat b.rank.0 (leaf_of b) r (leaf_of b) → r ≡ b.rank.0)
+two_ranks a b one = (first, second)
+  where
+    first : (r : ℕ) → IsThat a.rank.0 (leaf_of a) r (leaf_of a) ⊎ IsThat b.rank.0 (leaf_of b) r (leaf_of a) → r ≡ a.rank.0
+    first r (inl is) = is.0
+    first r (inr is) = is.0 ∙ ap (λ (k : Rank). k.0) (sym (one is.1))
+
+    second : (r : ℕ) → IsThat a.rank.0 (leaf_of a) r (leaf_of b) ⊎ IsThat b.rank.0 (leaf_of b) r (leaf_of b) → r ≡ b.rank.0
+    second r (inl is) = is.0 ∙ ap (λ (k : Rank). k.0) (one (sym is.1))
+    second r (inr is) = is.0
+
+-- what holds of the names of a leaf holds of what a fragment shows that is cached of it
+pub cached_of_names : (c : Core) → IsSoundCore c → (P : Names → Type 0) (Q : Cached → Type 0) (r : ℕ) (leaf : Leaf) → HasCached (here c.caches r leaf) Q → P (names_of (unclean c.caches) c.objects leaf)
+    → HasCached (here c.caches r leaf) (λ (f : Cached). P (shown f))
+cached_of_names c sound P Q r leaf has is = go (here c.caches r leaf) refl has
+  where
+    go : (o : Option Cached) → here c.caches r leaf ≡ o → HasCached o Q → HasCached o (λ (f : Cached). P (shown f))
+    go None there h = absurd h
+    go (Some f) there h = subst P (shows_cached c sound r leaf f there) is
+
+-- ---- a change is made ready
+
+-- so much room for names of objects to be removed, or for directories
+pub purge_grown : (Uses Ends : ℕ → Leaf → Type 0) (old view : Core) (is : view ≡ old) (names : Keys) (room : ℕ) → names ≡ view.purge → view.room.purge ≤ room
+    → ReadsCore Uses Ends old (record view { purge = names; room = record view.room { purge = room } })
+purge_grown Uses Ends old view is names room same more =
+    first_step Uses Ends old view (record view { purge = names; room = record view.room { purge = room } }) (record { dirs = omega arith; trees = omega arith; jobs = omega arith; purge = more })
+    (λ i. record view { purge = same i; room = record view.room { purge = room } }) is it_stays
+
+pub dirs_grown : (Uses Ends : ℕ → Leaf → Type 0) (old view : Core) (is : view ≡ old) (homes : Homes) (covers : Covers) (room trees : ℕ) → homes ≡ view.homes → covers ≡ view.covers → view.room.dirs ≤ room → trees ≡ view.room.trees
+    → ReadsCore Uses Ends old (record view { homes = homes; covers = covers; room = record view.room { dirs = room; trees = trees } })
+dirs_grown Uses Ends old view is homes covers room trees same_homes same_covers more same_trees =
+    first_step Uses Ends old view (record view { homes = homes; covers = covers; room = record view.room { dirs = room; trees = trees } })
+    (record { dirs = more; trees = omega (arith, same_trees); jobs = omega arith; purge = omega arith })
+    (λ i. record view { homes = same_homes i; covers = same_covers i; room = record view.room { dirs = room; trees = trees } }) is it_stays
+
+-- room where nothing is done if it is there
+pub grows_by : (old new : ℕ) → (0 < old → new ≡ old) → old ≤ new
+grows_by zero new ready = omega arith
+grows_by (suc n) new ready = let same = ready (omega arith) in omega (arith, same)
+
+-- what was made ready is remembered
+pub remembered : (Uses Ends : ℕ → Leaf → Type 0) (old mid view : Core) (is : view ≡ mid) (prepared : Prepared) (kept : Option (Rank × Leaf)) → ReadsCore Uses Ends old mid → ReadsCore Uses Ends old (record view { prepared = prepared; kept = kept })
+remembered Uses Ends old mid view is prepared kept before = next_step Uses Ends old view (record view { prepared = prepared; kept = kept }) (no_less_itself view.room) refl mid before is it_stays
+
+-- why it isn't, once numbers are known to be left
+pub not_ready : (Lacks P : Type 0) (before after : ℕ) (reason : Refusal) → (Lacks → ⊥) → MayNotFind P before after reason → MayNotBeReady Lacks P before after reason
+not_ready Lacks P before after reason left is = inr (left, is)
+
+-- after room was made, the place that was kept is given up, and leaves are read
+module _ (Uses : ℕ → Leaf → Type 0) (old grown mid new : Core) (room : ReadsCore Uses (IsKeptFor old.caches) old grown) (same : grown.caches ≡ old.caches) (given : ReadsCore NoneUsed (IsKeptFor grown.caches) grown mid) (read : ReadsCore Uses NoneEnds mid new) where
+  given_old : ReadsCore NoneUsed (IsKeptFor old.caches) grown mid
+  given_old = subst (λ (c : CacheMap). ReadsCore NoneUsed (IsKeptFor c) grown mid) same given
+
+  pub grown_reads : ReadsCore Uses (IsKeptFor old.caches) old new
+  grown_reads = reads_core_on Uses (IsKeptFor old.caches) old grown new room (reads_core_on Uses (IsKeptFor old.caches) grown mid new
+      (reads_core_wider NoneUsed Uses (IsKeptFor old.caches) (IsKeptFor old.caches) grown mid (λ r q no_use. absurd no_use) (λ r q is. is) given_old)
+      (reads_core_wider Uses Uses NoneEnds (IsKeptFor old.caches) mid new (λ r q is. is) (λ r q no_end. absurd no_end) read))
+
+  -- of what was before all that
+  pub grown_given : ReadsCore NoneUsed (IsKeptFor old.caches) old grown → ReadsCore NoneUsed (IsKeptFor old.caches) old mid
+  grown_given alone = reads_core_on NoneUsed (IsKeptFor old.caches) old grown mid alone given_old
+
+  pub grown_may : (a : Dirfrag) → ((r : ℕ) → Uses r (leaf_of a) → r ≡ a.rank.0) → MayFetch old a → MayFetch mid a
+  grown_may a mine may = may_fetch_on NoneUsed (IsKeptFor grown.caches) grown mid given a (λ r no_use. absurd no_use) (may_fetch_on Uses (IsKeptFor old.caches) old grown room a mine may)

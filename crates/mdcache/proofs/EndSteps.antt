@@ -1,0 +1,82 @@
+-- What the end of a commit leaves, done or refused.
+use Rattle.std.proofs.Common.{◌≡◌, ◌⊎◌, inl, inr, ℕ, Bool, true, false, cond, Option, Some, None, refl, sym, ap, subst, ◌∙◌}
+use Rattle.std.specs.Prelude.{◌==◌}
+use Rattle.std.specs.FinMap as map
+use Rattle.std.proofs.lemmas.Bool.{eqb-true}
+use Rattle.sorted_map.proofs.NatKeys.{is_same}
+use Rattle.objstore.specs.Objects.{Objects, written}
+use Rattle.commit_jobs.specs.declared.jobs.Job.{Job}
+use Rattle.commit_jobs.specs.Commit.{write_of}
+use Rattle.cached_frag.specs.Cached.{Cached}
+use Rattle.dentry_cache.specs.Cache.{IsThere, Leaf, Unsaved, unsaved_in}
+use Rattle.dentry_cache.specs.CacheCalls.{Edits}
+use Rattle.dentry_cache.specs.CacheMap.{At, CacheMap, IsFree, IsFreeFor, at_rank, here, unclean, unsaved_at, with_frag}
+use Rattle.dentry_cache.specs.Came.{Came, IsThat, NoneEnds}
+use Rattle.dentry_cache.specs.Came.Came.{has, stays}
+use Rattle.dentry_cache.specs.Commits.{IsCommitted}
+use Rattle.dentry_cache.proofs.CameLaws.{edits_unclean}
+use Rattle.dentry_cache.proofs.StepLaws.{by_edits, get_with_frag}
+use Rattle.dentry_cache.proofs.UncleanLaws.{get_unclean}
+use Rattle.mdcache.specs.Commits.{IsEnded, leaf_of}
+use Rattle.mdcache.specs.Core.{AreCached, Core, IsCachedIn, IsSoundCore, Rooms, state_of}
+use Rattle.mdcache.specs.Ranks.{KeepsOnlyAt}
+use Rattle.mdcache.specs.Sound.{IsSound}
+use Rattle.mdcache.specs.StandingJobs.{Jobs}
+use Rattle.mdcache.specs.State.{State, text_of}
+use Rattle.mdcache.proofs.CoreLaws.{cached_but}
+use Rattle.mdcache.proofs.EndLaws.{ended, ended_cached, ended_sound, now_unclean, t}
+use Rattle.mdcache.proofs.PutLaws.{cached_with, only_with}
+use Rattle.dentry_cache.proofs.ReadsLaws.{here_is}
+
+module _ (old view : Core) (is : view ≡ old) (sound : IsSoundCore old) (r : ℕ) (job : Job) (stood : map.get view.jobs (leaf_of job) ≡ Some job) (free : IsFreeFor view.caches r (leaf_of job)) where
+  abbrev leaf : Leaf
+  leaf = leaf_of job
+
+  now_sound : IsSoundCore view
+  now_sound = subst IsSoundCore (sym is) sound
+
+  -- the fragment of a job that stands is at the rank that may hold it
+  pub job_there : (f : Cached) × (here view.caches r leaf ≡ Some f)
+  job_there = go (map.get view.caches.held leaf) refl
+    where
+      standing : Unsaved
+      standing = (now_sound.sound.standing leaf job stood).unsaved
+
+      go : (o : Option At) → map.get view.caches.held leaf ≡ o → (f : Cached) × (here view.caches r leaf ≡ Some f)
+      go None at = let clash : None ≡ Some (now_sound.sound.standing leaf job stood).unsaved = sym (ap unsaved_at at) ∙ sym (get_unclean view.caches leaf) ∙ (now_sound.sound.standing leaf job stood).beside in absurd cc
+      go (Some a) at = (a.frag, ap (at_rank r) at ∙ ap (λ (b : Bool). cond b (Some a.frag) None) (is_same a.rank r (subst (IsFree r) at free)))
+
+  pub job_cached : IsThere (here view.caches r leaf)
+  job_cached = subst IsThere (sym job_there.1) tt
+
+  -- caches in which this fragment changed, as the most recently used
+  module _ (Change : Cached → Cached → Type 0) (caches : CacheMap) (edits : Edits Change r leaf view.caches caches) where
+    pub edits_came : Came (IsThat r leaf) NoneEnds view.caches caches
+    edits_came = by_edits r leaf Change view.caches caches edits (λ (k : CacheMap). Came (IsThat r leaf) NoneEnds view.caches k) (λ f then seen change. has view.caches r leaf then stays (refl, refl))
+
+    pub edits_only : KeepsOnlyAt view.kept caches
+    edits_only = by_edits r leaf Change view.caches caches edits (KeepsOnlyAt view.kept) (λ f then seen change. only_with view.kept view.caches r leaf then free (subst IsThere (sym seen) tt) now_sound.kept)
+
+  -- it was refused
+  module _ (caches : CacheMap) (objects : Objects) (faults : ℕ) (edits : Edits (λ (f then : Cached). then ≡ record f { places = then.places }) r leaf view.caches caches) (same : objects ≡ view.objects) where
+    abbrev left : Core
+    left = record view { caches = caches; objects = objects; faults = faults }
+
+    left_view : state_of left ≡ state_of view
+    left_view = λ i. record (state_of view) {
+      unsaved = edits_unclean view.caches caches r leaf (λ (f then : Cached). then ≡ record f { places = then.places }) (λ f then change. ap (λ (k : Cached). unsaved_in (Some k)) change) edits i;
+      objects = same i;
+    }
+
+    pub refused_state : state_of left ≡ state_of old
+    refused_state = left_view ∙ ap state_of is
+
+    pub refused_sound : IsSoundCore left
+    refused_sound = record {
+      sound = subst IsSound (sym left_view) now_sound.sound;
+      begun = now_sound.begun;
+      cached = subst (λ (s : State). AreCached s caches) (sym left_view) (by_edits r leaf (λ (f then : Cached). then ≡ record f { places = then.places }) view.caches caches edits (AreCached (state_of view))
+          (λ f then seen change. cached_with (state_of view) view.caches r leaf then now_sound.cached (cached_but (state_of view) leaf f then (change ∙ (λ i. record f { room = sym (ap (λ (k : Cached). k.room) change) i; places = then.places }))
+          (now_sound.cached leaf (record { rank = r; frag = f }) (here_is r (map.get view.caches.held leaf) f seen)))));
+      kept = edits_only (λ (f then : Cached). then ≡ record f { places = then.places }) caches edits;
+    }

@@ -1,0 +1,104 @@
+-- A place that is kept for a leaf that will come, beside one that stays: what it leaves, and why it is refused.
+use Rattle.std.proofs.Common.{◌≡◌, ◌⊎◌, inl, inr, ℕ, ◌+◌, ◌<◌, true, false, length, Option, Some, None, refl, sym, ap, subst, ◌∙◌}
+use Rattle.std.specs.Prelude.{OnOk, OnErr, IfErr, Result, Ok, Err}
+use Rattle.std.specs.FinMap as map
+use Rattle.mds_types.specs.declared.refusals.Refusal.{Refusal}
+use Rattle.mds_types.specs.declared.refusals.Refusal.TheVariants.{NoMemory, NothingToEvict}
+use Rattle.cached_frag.specs.Cached.{Cached}
+use Rattle.dentry_cache.specs.Cache.{Leaf}
+use Rattle.dentry_cache.specs.CacheCalls.{KeepsAt, KeepsNone, MakesRoomAt, MayNotKeepAt}
+use Rattle.dentry_cache.specs.CacheMap.{AreCaches, CacheMap, at_rank, has_place, here}
+use Rattle.dentry_cache.specs.CacheSplits.{IsKeptFor}
+use Rattle.dentry_cache.specs.Came.{NoneEnds, StaysNamed}
+use Rattle.dentry_cache.specs.Reads.{Reads}
+use Rattle.dentry_cache.specs.Reads.Reads.{stays as it_stays}
+use Rattle.dentry_cache.proofs.CameLaws.{absent_roomy}
+use Rattle.dentry_cache.proofs.CountLaws.{staying}
+use Rattle.dentry_cache.proofs.ReadsLaws.{keeps_reads, room_reads}
+use Rattle.mds_types.specs.declared.ids.Rank.{Rank}
+use Rattle.mdcache.specs.CacheReads.{LacksPlacesIn}
+use Rattle.mdcache.specs.Core.{Core, ReadsCore}
+use Rattle.mdcache.specs.Ranks.{KeepsOnlyAt}
+use Rattle.mdcache.specs.Reads.{MayNotFind}
+use Rattle.mdcache.proofs.CoreLaws.{next_step, no_less_itself, not_found_before}
+use Rattle.mdcache.proofs.NoneLaws.{kept_for, kept_stays, none_absent, none_room, only_kept}
+use Rattle.mdcache.proofs.UncleanOf.{full_lacks}
+
+module _ (Uses : ℕ → Leaf → Type 0) (old mid view : Core) (is : view ≡ mid) (before : ReadsCore Uses NoneEnds old mid) (none_mid : KeepsNone mid.caches)
+    (rank : Rank) (leaf : Leaf) (stay : Option Leaf) (there_mid : rank.0 < length mid.caches.used) (absent_mid : map.get mid.caches.held leaf ≡ None) (named : Uses rank.0 leaf) (stayed : StaysNamed Uses stay)
+    (result : Result (Unit {0}) Refusal) (caches' : CacheMap) (valid : AreCaches view.caches)
+    (kept : OnOk result (KeepsAt rank.0 leaf stay view.caches caches')) (left : OnErr result (MakesRoomAt rank.0 stay view.caches caches')) where
+  none : KeepsNone view.caches
+  none = subst (λ (k : Core). KeepsNone k.caches) (sym is) none_mid
+
+  there : rank.0 < length view.caches.used
+  there = subst (λ (k : Core). rank.0 < length k.caches.used) (sym is) there_mid
+
+  absent : map.get view.caches.held leaf ≡ None
+  absent = subst (λ (k : Core). map.get k.caches.held leaf ≡ None) (sym is) absent_mid
+
+  pub keep_absent : has_place view.caches rank.0 leaf ≡ false
+  keep_absent = none_absent view.caches rank.0 leaf none absent
+
+  -- the leaf is cached nowhere still
+  pub keep_nowhere : map.get caches'.held leaf ≡ None
+  keep_nowhere = go result kept left
+    where
+      go : (r : Result (Unit {0}) Refusal) → OnOk r (KeepsAt rank.0 leaf stay view.caches caches') → OnErr r (MakesRoomAt rank.0 stay view.caches caches') → map.get caches'.held leaf ≡ None
+      go (Ok done) kept left = ap (λ (k : CacheMap). map.get k.held leaf) kept.2 ∙ absent_roomy view.caches kept.0 rank.0 stay leaf kept.1 absent
+      go (Err reason) kept (inl same) = ap (λ (k : CacheMap). map.get k.held leaf) same ∙ absent
+      go (Err reason) kept (inr made) = absent_roomy view.caches caches' rank.0 stay leaf made absent
+
+  pub keep_reads : ReadsCore Uses NoneEnds old (record view { caches = caches' })
+  keep_reads = next_step Uses NoneEnds old view (record view { caches = caches' }) (no_less_itself view.room) refl mid before is (go result kept left)
+    where
+      go : (r : Result (Unit {0}) Refusal) → OnOk r (KeepsAt rank.0 leaf stay view.caches caches') → OnErr r (MakesRoomAt rank.0 stay view.caches caches') → Reads Uses NoneEnds view.objects view.caches caches'
+      go (Ok done) kept left = keeps_reads Uses NoneEnds view.objects view.caches view.caches caches' rank.0 leaf stay it_stays named stayed keep_absent kept
+      go (Err reason) kept left = room_reads Uses NoneEnds view.objects view.caches view.caches caches' rank.0 leaf stay it_stays named stayed keep_absent left
+
+  pub keep_place : OnOk result (IsKeptFor caches' rank.0 leaf)
+  keep_place = go result kept
+    where
+      go : (r : Result (Unit {0}) Refusal) → OnOk r (KeepsAt rank.0 leaf stay view.caches caches') → OnOk r (IsKeptFor caches' rank.0 leaf)
+      go (Ok done) k = (
+        kept_for view.caches rank.0 leaf none there valid stay caches' absent k,
+        ap (λ (c : CacheMap). map.get c.held leaf) k.2 ∙ absent_roomy view.caches k.0 rank.0 stay leaf k.1 absent,
+      )
+      go (Err reason) k = tt
+
+  pub keep_only : OnOk result (KeepsOnlyAt (Some (rank, leaf)) caches')
+  keep_only = go result kept
+    where
+      go : (r : Result (Unit {0}) Refusal) → OnOk r (KeepsAt rank.0 leaf stay view.caches caches') → OnOk r (KeepsOnlyAt (Some (rank, leaf)) caches')
+      go (Ok done) k = only_kept view.caches rank.0 leaf none there valid stay caches' rank refl absent k
+      go (Err reason) k = tt
+
+  pub keep_none : OnErr result (KeepsNone caches')
+  keep_none = go result left
+    where
+      go : (r : Result (Unit {0}) Refusal) → OnErr r (MakesRoomAt rank.0 stay view.caches caches') → OnErr r (KeepsNone caches')
+      go (Ok done) l = tt
+      go (Err reason) l = none_room view.caches rank.0 leaf none there valid stay caches' l
+
+  -- what is to stay is there as it was
+  pub keep_stays : (P : Option Cached → Type 0) (one : Leaf) (s : ℕ) → stay ≡ Some one → P (here mid.caches s one) → OnOk result (P (here caches' s one))
+  keep_stays P one s is_one has = go result kept
+    where
+      go : (r : Result (Unit {0}) Refusal) → OnOk r (KeepsAt rank.0 leaf stay view.caches caches') → OnOk r (P (here caches' s one))
+      go (Ok done) k =
+          subst P (sym (ap (at_rank s) (kept_stays view.caches caches' rank.0 leaf one there (subst (λ (o : Option Leaf). KeepsAt rank.0 leaf o view.caches caches') is_one k))))
+          (subst (λ (c : Core). P (here c.caches s one)) (sym is) has)
+      go (Err reason) k = tt
+
+  pub keep_refused : IfErr result (MayNotKeepAt rank.0 stay view.caches) → mid.faults ≡ old.faults → IfErr result (MayNotFind (LacksPlacesIn (1 + staying stay) old.caches rank.0) old.faults view.faults)
+  keep_refused refused same = go result refused
+    where
+      on : (reason : Refusal) → MayNotKeepAt rank.0 stay view.caches reason → MayNotFind (LacksPlacesIn (1 + staying stay) view.caches rank.0) view.faults view.faults reason
+      on reason (inl memory) = inl memory
+      on reason (inr full) = inr (inr (full.0, full_lacks view.caches rank.0 stay valid none full.1))
+
+      go : (r : Result (Unit {0}) Refusal) → IfErr r (MayNotKeepAt rank.0 stay view.caches) → IfErr r (MayNotFind (LacksPlacesIn (1 + staying stay) old.caches rank.0) old.faults view.faults)
+      go (Ok done) refused = tt
+      go (Err reason) refused =
+          not_found_before Uses NoneEnds old mid before (1 + staying stay) rank.0 view.faults reason same
+          (subst (λ (k : Core). MayNotFind (LacksPlacesIn (1 + staying stay) k.caches rank.0) k.faults view.faults reason) is (on reason refused))

@@ -1,0 +1,150 @@
+-- Which places are kept, after each call of the caches.
+use Rattle.std.proofs.Common.{◌≡◌, ◌⊎◌, inl, inr, ℕ, ◌<◌, ◌≤◌, [], Bool, true, false, cond, not, ◌&&◌, length, is_some, Option, Some, None, refl, sym, ap, subst, ◌∙◌}
+use Rattle.std.specs.Prelude.{◌==◌}
+use Rattle.std.proofs.lemmas.Option.{same_Some}
+use Rattle.std.specs.List.{IsDistinct, list_any}
+use Rattle.std.proofs.lemmas.List.{get_or_past}
+use Rattle.std.specs.FinMap as finmap
+use Rattle.sorted_map.proofs.NatKeys.{is_same}
+use Rattle.mds_types.specs.declared.ids.Rank.{Rank}
+use Rattle.omap.specs.Omap.{Omap}
+use Rattle.cached_frag.specs.Cached.{Cached}
+use Rattle.dentry_cache.specs.Cache.{IsThere, Leaf, leaf_is}
+use Rattle.dentry_cache.specs.CacheCalls.{Edits, FetchesAt, IsEdited, IsWhole, KeepsAt, KeepsNone, MakesRoomAt}
+use Rattle.dentry_cache.specs.CacheMap.{AreCaches, CacheMap, IsFree, IsFreeFor, at_rank, given_up, has_place, here, order, roomy, used_at, with_frag}
+use Rattle.dentry_cache.specs.CacheSplits.{IsKeptFor}
+use Rattle.dentry_cache.proofs.CameLaws.{absent_roomy}
+use Rattle.dentry_cache.proofs.KeptLaws.{roomy_stays}
+use Rattle.dentry_cache.proofs.LeafLaws.{leaf_itself}
+use Rattle.dentry_cache.proofs.MapLaws.{here_free}
+use Rattle.dentry_cache.proofs.StepLaws.{has_given_up, has_used, here_given_up, placed_used, ranks_roomy}
+use Rattle.dentry_cache.proofs.WholeLaws.{whole_roomy, whole_used, whole_with_frag}
+use Rattle.mdcache.specs.Ranks.{KeepsOnlyAt}
+
+-- what is there is some
+pub there_some : (o : Option Cached) → IsThere o → is_some o ≡ true
+there_some None h = absurd h
+there_some (Some f) h = refl
+
+module _ (c : CacheMap) (r : ℕ) (leaf : Leaf) (none : KeepsNone c) where
+  pub none_used : (new : CacheMap) → IsThere (here c r leaf) → new ≡ used_at c r leaf → KeepsNone new
+  none_used new there is = subst KeepsNone (sym is) (λ s q. whole_used c r leaf s q there (none s q))
+
+  pub none_with : (f : Cached) → IsFreeFor c r leaf → KeepsNone (with_frag c r leaf f)
+  none_with f free s q = whole_with_frag c r leaf f s q free (none s q)
+
+  pub none_edits : (Change : Cached → Cached → Type 0) (new : CacheMap) → Edits Change r leaf c new → KeepsNone new
+  none_edits Change new e = go (here c r leaf) refl e
+    where
+      go : (o : Option Cached) → here c r leaf ≡ o → IsEdited Change r leaf o c new → KeepsNone new
+      go None is e = absurd e
+      go (Some f) is e = subst KeepsNone (sym e.2) (none_with e.0 (here_free r (finmap.get c.held leaf) (ap (λ (o : Option Cached). is_some o) is)))
+
+  module _ (there : r < length c.used) (valid : AreCaches c) (stay : Option Leaf) where
+    pub none_roomy : (mid : CacheMap) → roomy c r stay ≡ Some mid → KeepsNone mid
+    none_roomy mid made s q = whole_roomy c mid r stay s q there (valid.distinct r) made (none s q)
+
+    pub none_room : (new : CacheMap) → MakesRoomAt r stay c new → KeepsNone new
+    none_room new (inl same) = subst KeepsNone (sym same) none
+    none_room new (inr made) = none_roomy new made
+
+    pub none_fetched : (object : Option Omap) (new : CacheMap) (b : Bool) → has_place c r leaf ≡ b → FetchesAt r leaf stay object b c new → KeepsNone new
+    none_fetched object new true seen is = none_used new (none r leaf seen) is
+    none_fetched object new false seen f =
+        subst KeepsNone (sym f.5)
+        (λ s q. whole_with_frag f.3 r leaf f.1 s q (subst (IsFree r) (sym (absent_roomy c f.3 r stay leaf f.4 f.0)) tt) (none_roomy f.3 f.4 s q))
+
+    -- a place that was kept is the only one
+    pub only_kept : (new : CacheMap) (rank : Rank) → rank.0 ≡ r → finmap.get c.held leaf ≡ None → KeepsAt r leaf stay c new → KeepsOnlyAt (Some (rank, leaf)) new
+    only_kept new rank same absent k = subst (KeepsOnlyAt (Some (rank, leaf))) (sym k.2) (λ s q placed. go s q (placed_used k.0 r leaf s q placed))
+      where
+        go : (s : ℕ) (q : Leaf) → (has_place k.0 s q ≡ true) ⊎ ((s ≡ r) × (q ≡ leaf))
+            → IsThere (here (used_at k.0 r leaf) s q) ⊎ ((finmap.get (used_at k.0 r leaf).held q ≡ None) × (◌≡◌ {A = Option (Rank × Leaf)} (Some (rank, leaf)) (Some (record { 0 = s }, q))))
+        go s q (inl was) = inl (none_roomy k.0 k.1 s q was)
+        go s q (inr one) = inr (
+          ap (finmap.get k.0.held) one.1 ∙ absent_roomy c k.0 r stay leaf k.1 absent,
+          λ i. Some (record { 0 = (same ∙ sym one.0) i }, sym one.1 i),
+        )
+
+    pub kept_for : (new : CacheMap) → finmap.get c.held leaf ≡ None → KeepsAt r leaf stay c new → has_place new r leaf ≡ true
+    kept_for new absent k =
+        ap (λ (d : CacheMap). has_place d r leaf) k.2
+        ∙ has_used k.0 r leaf r leaf (subst (λ (n : ℕ). r < n) (sym (ranks_roomy c k.0 r stay k.1)) there)
+        ∙ ap (λ (b : Bool). cond (b && leaf_is leaf leaf) true (has_place k.0 r leaf)) (is_same r r refl) ∙ ap (λ (b : Bool). cond b true (has_place k.0 r leaf)) (leaf_itself leaf)
+
+-- a leaf that is cached nowhere has no place where none is kept
+pub none_absent : (c : CacheMap) (r : ℕ) (q : Leaf) → KeepsNone c → finmap.get c.held q ≡ None → has_place c r q ≡ false
+none_absent c r q none absent = go (has_place c r q) refl
+  where
+    go : (b : Bool) → has_place c r q ≡ b → has_place c r q ≡ false
+    go false is = is
+    go true is = absurd (subst IsThere (ap (at_rank r) absent) (none r q is))
+
+-- a fragment that is to stay is where it was, as it was, once a place is kept for another leaf
+pub kept_stays : (c new : CacheMap) (r : ℕ) (leaf one : Leaf) → r < length c.used → KeepsAt r leaf (Some one) c new → finmap.get new.held one ≡ finmap.get c.held one
+kept_stays c new r leaf one there k = ap (λ (d : CacheMap). finmap.get d.held one) k.2 ∙ roomy_stays c k.0 r one there k.1
+
+-- none is kept where one is at most
+pub none_only : (kept : Option (Rank × Leaf)) (c : CacheMap) → KeepsNone c → KeepsOnlyAt kept c
+none_only kept c none r leaf placed = inl (none r leaf placed)
+
+pub only_none : (c : CacheMap) → KeepsOnlyAt None c → KeepsNone c
+only_none c only r leaf placed = go (only r leaf placed)
+  where
+    go : IsThere (here c r leaf) ⊎ ((finmap.get c.held leaf ≡ None) × (◌≡◌ {A = Option (Rank × Leaf)} None (Some (record { 0 = r }, leaf)))) → IsThere (here c r leaf)
+    go (inl there) = there
+    go (inr kept) = let clash = kept.1 in absurd cc
+
+-- the one that may be is given up
+module _ (c : CacheMap) (rank : Rank) (leaf : Leaf) (only : KeepsOnlyAt (Some (rank, leaf)) c) where
+  its_own : (s : ℕ) (q : Leaf) → ◌≡◌ {A = Option (Rank × Leaf)} (Some (rank, leaf)) (Some (record { 0 = s }, q)) → (rank.0 ≡ s) × (leaf ≡ q)
+  its_own s q is =
+      let both : ◌≡◌ {A = Rank × Leaf} (rank, leaf) (record { 0 = s }, q) = same_Some (rank, leaf) (record { 0 = s }, q) is in
+      (ap (λ (p : Rank × Leaf). p.0.0) both, ap (λ (p : Rank × Leaf). p.1) both)
+
+  pub none_freed : (new : CacheMap) → rank.0 < length c.used → IsDistinct leaf_is (order c rank.0) → new ≡ given_up c rank.0 leaf → KeepsNone new
+  none_freed new there distinct is = subst KeepsNone (sym is) (λ s q placed.
+      subst IsThere (sym (here_given_up c rank.0 leaf s q))
+      (go s q (rank.0 == s) (leaf_is q leaf) refl refl (sym (has_given_up c rank.0 leaf s q there distinct) ∙ placed)))
+    where
+      by : (s : ℕ) (q : Leaf) (a b : Bool) → (rank.0 == s) ≡ a → leaf_is q leaf ≡ b → (a && b) ≡ false → IsThere (here c s q) ⊎ ((finmap.get c.held q ≡ None) × (◌≡◌ {A = Option (Rank × Leaf)} (Some (rank, leaf)) (Some (record { 0 = s }, q)))) → IsThere (here c s q)
+      by s q a b same one apart (inl here_is) = here_is
+      by s q a b same one apart (inr kept) =
+          let own = its_own s q kept.1 in
+          let yes_rank : true ≡ a = sym (is_same rank.0 s own.0) ∙ same in
+          let yes_leaf : true ≡ b = sym (ap (λ (l : Leaf). leaf_is q l) own.1 ∙ leaf_itself q) ∙ one in
+          let clash : true ≡ false = (λ i. yes_rank i && yes_leaf i) ∙ apart in absurd cc
+
+      go : (s : ℕ) (q : Leaf) (a b : Bool) → (rank.0 == s) ≡ a → leaf_is q leaf ≡ b → cond (a && b) false (has_place c s q) ≡ true → IsThere (cond (b && a) None (here c s q))
+      go s q true true same one placed = let clash : false ≡ true = placed in absurd cc
+      go s q true false same one placed = by s q true false same one refl (only s q placed)
+      go s q false true same one placed = by s q false true same one refl (only s q placed)
+      go s q false false same one placed = by s q false false same one refl (only s q placed)
+
+  -- nothing is kept for it where its fragment is there
+  pub none_there : IsThere (here c rank.0 leaf) → KeepsNone c
+  none_there there s q placed = go (only s q placed)
+    where
+      go : IsThere (here c s q) ⊎ ((finmap.get c.held q ≡ None) × (◌≡◌ {A = Option (Rank × Leaf)} (Some (rank, leaf)) (Some (record { 0 = s }, q)))) → IsThere (here c s q)
+      go (inl here_is) = here_is
+      go (inr kept) = absurd (subst IsThere (ap (at_rank rank.0) (ap (finmap.get c.held) (its_own s q kept.1).1 ∙ kept.0)) there)
+
+  pub none_placed : has_place c rank.0 leaf ≡ false → KeepsNone c
+  none_placed absent s q placed = go (only s q placed)
+    where
+      go : IsThere (here c s q) ⊎ ((finmap.get c.held q ≡ None) × (◌≡◌ {A = Option (Rank × Leaf)} (Some (rank, leaf)) (Some (record { 0 = s }, q)))) → IsThere (here c s q)
+      go (inl here_is) = here_is
+      go (inr kept) =
+          let own = its_own s q kept.1 in
+          let clash : false ≡ true = sym absent ∙ ap (λ (n : ℕ). has_place c n leaf) own.0 ∙ ap (has_place c s) own.1 ∙ placed in absurd cc
+
+  pub its_place : has_place c rank.0 leaf ≡ true → here c rank.0 leaf ≡ None → IsKeptFor c rank.0 leaf
+  its_place placed empty = go (only rank.0 leaf placed)
+    where
+      go : IsThere (here c rank.0 leaf) ⊎ ((finmap.get c.held leaf ≡ None) × (◌≡◌ {A = Option (Rank × Leaf)} (Some (rank, leaf)) (Some (record { 0 = rank.0 }, leaf)))) → IsKeptFor c rank.0 leaf
+      go (inl here_is) = absurd (subst IsThere empty here_is)
+      go (inr kept) = (placed, kept.0)
+
+-- a rank that isn't there has no places
+pub past_place : (c : CacheMap) (r : ℕ) (leaf : Leaf) → length c.used ≤ r → has_place c r leaf ≡ false
+past_place c r leaf past = ap (list_any (leaf_is leaf)) (get_or_past c.used r [] past)

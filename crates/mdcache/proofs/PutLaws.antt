@@ -1,0 +1,150 @@
+-- What a change of one name leaves.
+use Rattle.std.proofs.Common.{◌≡◌, ◌⊎◌, inl, inr, ℕ, ◌+◌, ◌<◌, Bool, true, false, cond, is_some, List, Option, Some, None, refl, sym, ap, subst, ◌∙◌}
+use Rattle.std.specs.Prelude.{◌==◌}
+use Rattle.std.proofs.lemmas.Bool.{eqb-true}
+use Rattle.std.proofs.lemmas.Option.{same_Some}
+use Rattle.std.specs.FinMap as map
+use Rattle.std.specs.FinMap.{empty_of_len, get-empty}
+use Rattle.sorted_map.proofs.NatKeys.{is_same}
+use Rattle.mds_types.specs.declared.ids.Rank.{Rank}
+use Rattle.mds_types.specs.declared.inodes.Inode.{Inode}
+use Rattle.omap.specs.Omap.{Omap, key_cmp}
+use Rattle.dirfrag_codec.proofs.ByteKeys.{get_put}
+use Rattle.commit_jobs.specs.declared.bases.Base.{Base}
+use Rattle.commit_jobs.specs.declared.bases.Base.TheVariants.{Fresh, Stored}
+use Rattle.commit_jobs.specs.declared.marks.Mark.{Mark}
+use Rattle.commit_jobs.specs.Marks.{Marks}
+use Rattle.cached_frag.specs.Cached.{Cached, is_clean, is_clean_over, marked}
+use Rattle.dentry_cache.specs.Cache.{IsThere, Leaf, Unsaved, leaf_is, unsaved_in, unsaved_of, with_unsaved}
+use Rattle.dentry_cache.specs.CacheMap.{At, CacheMap, IsFree, IsFreeFor, at, at_rank, edited_as, has_place, here, leaf_of, unclean, unsaved_at, with_frag, with_mark}
+use Rattle.dentry_cache.specs.Loading.{object_of}
+use Rattle.dentry_cache.specs.Ties.{IsTied, IsTiedAt}
+use Rattle.dentry_cache.specs.declared.dirfrag.Dirfrag.{Dirfrag}
+use Rattle.dentry_cache.proofs.CameLaws.{marked_unclean as now_unclean}
+use Rattle.dentry_cache.proofs.LeafLaws.{leaf_itself, one_leaf}
+use Rattle.dentry_cache.proofs.ReadsLaws.{here_is}
+use Rattle.dentry_cache.proofs.StepLaws.{get_with_frag, here_beside, here_put, placed_used}
+use Rattle.dentry_cache.proofs.TieLaws.{changed_are_tied}
+use Rattle.dentry_cache.proofs.UncleanLaws.{get_unclean}
+use Rattle.mdcache.specs.Changes.{Counts, IsAsItStands, IsNamed, dirtied}
+use Rattle.mdcache.specs.Core.{AreCached, Core, IsCachedIn, named, state_of}
+use Rattle.mdcache.specs.Ranks.{KeepsOnlyAt}
+use Rattle.mdcache.specs.State.{State}
+
+-- ---- one fragment
+
+-- no names are dirty where their number is 0
+none_dirty : (marks : Marks) → (map.len marks == 0) ≡ true → marks ≡ map.empty
+none_dirty marks h = empty_of_len marks (eqb-true (map.len marks) 0 h)
+
+-- a fragment in which a name was marked isn't clean
+marked_unclean : (base : Base) (dirty : Marks) (name : List ℕ) (mark : Mark) → is_clean_over base (map.insert dirty name mark) ≡ false
+marked_unclean Fresh dirty name mark = refl
+marked_unclean (Stored version) dirty name mark = go (map.len (map.insert dirty name mark) == 0) refl
+  where
+    go : (b : Bool) → (map.len (map.insert dirty name mark) == 0) ≡ b → b ≡ false
+    go true none =
+        let clash : None ≡ Some mark = sym (ap (λ (m : Marks). map.get m name) (none_dirty (map.insert dirty name mark) none) ∙ get-empty key_cmp name) ∙ get_put dirty name mark in
+        absurd cc
+    go false some = refl
+
+-- of a clean fragment the object counts, and no name is dirty
+clean_counts : (base : Base) (f : Cached) (object : Option Omap) → is_clean_over base f.dirty ≡ true → IsTiedAt base f object → Counts base object × (f.dirty ≡ map.empty)
+clean_counts Fresh f object clean tie = let clash : false ≡ true = clean in cc
+clean_counts (Stored version) f None clean tie = absurd tie
+clean_counts (Stored version) f (Some object) clean tie = (tie.0, none_dirty f.dirty clean)
+
+-- what a fragment has beyond its object, be it clean or not
+abbrev pub beyond : Cached → Unsaved
+beyond f = record { base = f.base; generation = f.generation; dirty = f.dirty }
+
+as_it_stands : (f : Cached) (object : Option Omap) (next : ℕ) → IsTied f object → f.generation < next → IsAsItStands (unsaved_of f) object next (beyond f)
+as_it_stands f object next tie given = go (is_clean f) refl
+  where
+    go : (b : Bool) → is_clean f ≡ b → IsAsItStands (cond b None (Some (beyond f))) object next (beyond f)
+    go true clean = let c = clean_counts f.base f object clean tie in (c.0, c.1, given)
+    go false dirty = refl
+
+-- ---- a fragment comes to a place, or in place of another
+
+-- each cached fragment is sound once one is, which comes
+pub cached_with : (s : State) (c : CacheMap) (r : ℕ) (leaf : Leaf) (f : Cached) → AreCached s c → IsCachedIn s leaf f → AreCached s (with_frag c r leaf f)
+cached_with s c r leaf f cached mine q a is = go (leaf_is q leaf) refl (sym (get_with_frag c r leaf f q) ∙ is)
+  where
+    go : (b : Bool) → leaf_is q leaf ≡ b → cond b (Some (at r f)) (map.get c.held q) ≡ Some a → IsCachedIn s q a.frag
+    go true one h = subst (λ (l : Leaf). IsCachedIn s l a.frag) (sym (one_leaf q leaf one)) (subst (IsCachedIn s leaf) (ap (λ (x : At). x.frag) (same_Some (at r f) a h)) mine)
+    go false apart h = cached q a h
+
+-- a place that is kept stays so where another leaf's fragment comes
+pub only_with : (kept : Option (Rank × Leaf)) (c : CacheMap) (r : ℕ) (leaf : Leaf) (f : Cached) → IsFreeFor c r leaf → IsThere (here c r leaf) → KeepsOnlyAt kept c → KeepsOnlyAt kept (with_frag c r leaf f)
+only_with kept c r leaf f free there only s q placed = go (placed_used c r leaf s q placed)
+  where
+    of_rank : (o : Option At) → IsFree r o → IsThere (at_rank s o) → s ≡ r
+    of_rank None free here_is = absurd here_is
+    of_rank (Some a) free here_is = by (a.rank == s) refl here_is
+      where
+        by : (b : Bool) → (a.rank == s) ≡ b → IsThere (cond b (Some a.frag) None) → s ≡ r
+        by true same h = sym (eqb-true a.rank s same) ∙ free
+        by false apart h = absurd h
+
+    now : IsThere (here (with_frag c r leaf f) r leaf)
+    now = subst IsThere (sym (here_put c r leaf f)) tt
+
+    none_at : (o : Option At) → o ≡ None → IsThere (at_rank r o) → ⊥
+    none_at o is h = subst IsThere (ap (at_rank r) is) h
+
+    on : (b : Bool) → leaf_is q leaf ≡ b → IsThere (here c s q) ⊎ ((map.get c.held q ≡ None) × (kept ≡ Some (record { 0 = s }, q)))
+        → IsThere (here (with_frag c r leaf f) s q) ⊎ ((map.get (with_frag c r leaf f).held q ≡ None) × (kept ≡ Some (record { 0 = s }, q)))
+    on true one (inl here_is) =
+        let leaf_same = one_leaf q leaf one in
+        let rank_same = of_rank (map.get c.held leaf) free (subst (λ (l : Leaf). IsThere (here c s l)) leaf_same here_is) in
+        inl (subst (λ (k : ℕ). IsThere (here (with_frag c r leaf f) k q)) (sym rank_same) (subst (λ (l : Leaf). IsThere (here (with_frag c r leaf f) r l)) (sym leaf_same) now))
+    on true one (inr none) = absurd (none_at (map.get c.held leaf) (ap (map.get c.held) (sym (one_leaf q leaf one)) ∙ none.0) there)
+    on false apart (inl here_is) = inl (subst IsThere (sym (here_beside c r leaf f s q apart)) here_is)
+    on false apart (inr none) = inr (get_with_frag c r leaf f q ∙ ap (λ (b : Bool). cond b (Some (at r f)) (map.get c.held q)) apart ∙ none.0, none.1)
+
+    go : (has_place c s q ≡ true) ⊎ ((s ≡ r) × (q ≡ leaf)) → IsThere (here (with_frag c r leaf f) s q) ⊎ ((map.get (with_frag c r leaf f).held q ≡ None) × (kept ≡ Some (record { 0 = s }, q)))
+    go (inl was) = on (leaf_is q leaf) refl (only s q was)
+    go (inr same) = inl (subst (λ (k : ℕ). IsThere (here (with_frag c r leaf f) k q)) (sym same.0) (subst (λ (l : Leaf). IsThere (here (with_frag c r leaf f) r l)) (sym same.1) now))
+
+-- ---- one name changed
+
+module _ (c : Core) (a : Dirfrag) (name : List ℕ) (inode : Option Inode) (f : Cached) (there : here c.caches a.rank.0 (leaf_of a) ≡ Some f) (cached : AreCached (state_of c) c.caches) where
+  abbrev pub mark : Mark
+  mark = record { version = c.next_version; inode = inode }
+
+  abbrev new : Core
+  new = named c a name inode
+
+  held : map.get c.caches.held (leaf_of a) ≡ Some (at a.rank.0 f)
+  held = here_is a.rank.0 (map.get c.caches.held (leaf_of a)) f there
+
+  mine : IsCachedIn (state_of c) (leaf_of a) f
+  mine = cached (leaf_of a) (at a.rank.0 f) held
+
+  unclean_now : unclean new.caches ≡ map.insert (unclean c.caches) (leaf_of a) (dirtied (beyond f) name c.next_version inode)
+  unclean_now =
+      now_unclean c.caches new.caches a.rank.0 (leaf_of a) name mark f there refl
+      ∙ ap (λ (b : Bool). with_unsaved (unclean c.caches) (leaf_of a) (cond b None (Some (dirtied (beyond f) name c.next_version inode)))) (marked_unclean f.base f.dirty name mark)
+
+  pub put_named : IsNamed (state_of c) (state_of new) (leaf_of a) name inode
+  put_named = record {
+    before = beyond f;
+    stands = subst (λ o. IsAsItStands o (object_of c.objects a.dir a.frag) c.next_generation (beyond f)) (sym (get_unclean c.caches (leaf_of a) ∙ ap unsaved_at held))
+        (as_it_stands f (object_of c.objects a.dir a.frag) c.next_generation mine.tied mine.made);
+    left = λ i. record (state_of c) { unsaved = unclean_now i; next_version = c.next_version + 1 };
+  }
+
+  pub marked_is : new.caches ≡ with_frag c.caches a.rank.0 (leaf_of a) (marked f name mark)
+  marked_is = ap (edited_as c.caches a.rank.0 (leaf_of a) (λ (g : Cached). marked g name mark)) there
+
+  pub put_cached : AreCached (state_of c) new.caches
+  put_cached = subst (AreCached (state_of c)) (sym marked_is) (cached_with (state_of c) c.caches a.rank.0 (leaf_of a) (marked f name mark) cached (record {
+    live = mine.live;
+    tied = changed_are_tied f (object_of c.objects a.dir a.frag) name mark mine.tied;
+    made = mine.made;
+  }))
+
+  pub put_only : (kept : Option (Rank × Leaf)) → KeepsOnlyAt kept c.caches → KeepsOnlyAt kept new.caches
+  put_only kept only = subst (KeepsOnlyAt kept) (sym marked_is)
+      (only_with kept c.caches a.rank.0 (leaf_of a) (marked f name mark) (subst (IsFree a.rank.0) (sym held) refl) (subst IsThere (sym there) tt) only)

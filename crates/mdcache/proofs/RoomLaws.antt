@@ -1,0 +1,56 @@
+-- Fragments that got room.
+use Rattle.std.proofs.Common.{◌≡◌, ℕ, ◌<◌, ◌≤◌, Bool, true, false, cond, arith, Option, Some, None, refl, sym, ap, subst, ◌∙◌}
+use Rattle.std.specs.Prelude.{OnOk, Result, Ok, Err}
+use Rattle.std.specs.Prelude.{◌==◌}
+use Rattle.std.proofs.lemmas.Bool.{eqb-true}
+use Rattle.std.specs.FinMap as finmap
+use Rattle.cached_frag.specs.Cached.{Cached}
+use Rattle.dentry_cache.specs.Cache.{HasCached, HasRoom, Leaf, leaf_is}
+use Rattle.dentry_cache.specs.CacheCalls.{Edits, IsEdited}
+use Rattle.dentry_cache.specs.CacheMap.{CacheMap, at_rank, here}
+use Rattle.dentry_cache.specs.Reads.{IsButRoom}
+use Rattle.dentry_cache.proofs.ReadsLaws.{here_is, room_changed}
+use Rattle.dentry_cache.proofs.LeafLaws.{one_leaf}
+use Rattle.dentry_cache.proofs.StepLaws.{here_put, here_with_frag}
+
+-- what a call for room leaves has other room at most
+pub other_room : (f now : Cached) → (now ≡ record f { room = now.room }) × (f.room ≤ now.room) → IsButRoom f now
+other_room f now is = room_changed f now is.0
+
+-- a fragment that was changed so is there so
+pub edited_has : (Change : Cached → Cached → Type 0) (P : Cached → Type 0) (r : ℕ) (leaf : Leaf) (old new : CacheMap) → ((f now : Cached) → Change f now → P now) → Edits Change r leaf old new → HasCached (here new r leaf) P
+edited_has Change P r leaf old new so e = go (here old r leaf) e
+  where
+    go : (o : Option Cached) → IsEdited Change r leaf o old new → HasCached (here new r leaf) P
+    go None e = absurd e
+    go (Some f) e = subst (λ (o : Option Cached). HasCached o P) (sym (ap (λ (c : CacheMap). here c r leaf) e.2 ∙ here_put old r leaf e.0)) (so f e.0 e.1)
+
+pub has_rooms : (changes r : ℕ) (leaf : Leaf) (old new : CacheMap) → Edits (λ (f now : Cached). changes ≤ now.room) r leaf old new → HasCached (here new r leaf) (λ (f : Cached). changes ≤ f.room)
+has_rooms changes r leaf old new e = edited_has (λ (f now : Cached). changes ≤ now.room) (λ (f : Cached). changes ≤ f.room) r leaf old new (λ f now is. is) e
+
+-- a fragment that has room for two changes has it still where another one got room, or it itself did
+pub stays_roomy : (r s : ℕ) (leaf one : Leaf) (old new : CacheMap) → Edits (λ (f now : Cached). (now ≡ record f { room = now.room }) × (f.room ≤ now.room)) r leaf old new → HasCached (here old s one) (λ (f : Cached). 1 < f.room)
+    → HasCached (here new s one) (λ (f : Cached). 1 < f.room)
+stays_roomy r s leaf one old new e has = go (here old r leaf) refl e
+  where
+    Roomy : Option Cached → Type 0
+    Roomy o = HasCached o (λ (f : Cached). 1 < f.room)
+
+    go : (o : Option Cached) → here old r leaf ≡ o → IsEdited (λ (f now : Cached). (now ≡ record f { room = now.room }) × (f.room ≤ now.room)) r leaf o old new → Roomy (here new s one)
+    go None is e = absurd e
+    go (Some f) is e = subst Roomy (sym (ap (λ (c : CacheMap). here c s one) e.2 ∙ here_with_frag old r leaf e.0 s one)) (on (leaf_is one leaf) refl (r == s) refl)
+      where
+        on : (a : Bool) → leaf_is one leaf ≡ a → (b : Bool) → (r == s) ≡ b → Roomy (cond a (cond b (Some e.0) None) (here old s one))
+        on true same true rank =
+            let was : here old s one ≡ Some f = ap (here old s) (one_leaf one leaf same) ∙ ap (λ (n : ℕ). here old n leaf) (sym (eqb-true r s rank)) ∙ is in
+            let roomy : 1 < f.room = subst Roomy was has in
+            let more = e.1.1 in
+            omega (arith, roomy, more)
+        on true same false rank =
+            let none : here old s one ≡ None = ap (here old s) (one_leaf one leaf same) ∙ ap (at_rank s) (here_is r (finmap.get old.held leaf) f is) ∙ ap (λ (b : Bool). cond b (Some f) None) rank in
+            subst Roomy none has
+        on false apart b rank = has
+
+pub has_room : (o : Option Cached) → HasCached o (λ (f : Cached). 1 ≤ f.room) → HasRoom o
+has_room None h = absurd h
+has_room (Some f) h = omega (arith, h)

@@ -1,0 +1,9 @@
+use Rattle.std.proofs.Common.{rules, subst, sym}
+use Rattle.dentry_cache.specs.CacheCalls.{KeepsNone}
+use Rattle.mdcache.specs.Core.{Core}
+use Rattle.mdcache.proofs.ChangeSteps.{none_ended}
+use Rattle.mdcache.proofs.mdcache.MdCache.end_leaf.Goals as goal
+
+pub returns-clause-none : goal.returns-clause-none
+returns-clause-none g c none =
+    subst KeepsNone (sym c.end.ensures.ended) (none_ended c.self.inside.caches (c.args.dir, c.args.part.frag) c.end.ensures.valid (subst (λ (k : Core). KeepsNone k.caches) (sym c.self.view_is) none))

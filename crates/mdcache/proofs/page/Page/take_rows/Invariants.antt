@@ -1,0 +1,17 @@
+-- The rows that were taken in and those that are left are the whole.
+use Rattle.std.proofs.Common.{◌≡◌, T, List, length}
+use Rattle.std.specs.FinMap.{is_sorted}
+use Rattle.omap.specs.Omap.{key_cmp}
+use Rattle.sorted_map.specs.Places.{puts}
+use Rattle.cached_frag.specs.Rows.{Row, rows_left}
+use Rattle.mdcache.specs.Pages.{IsPageOf}
+use Rattle.mdcache.proofs.page.Page.take_rows.Given as goal
+
+abbrev pub invariant-loop-name : goal.invariant-loop-name
+invariant-loop-name l = record {
+  most : l.self.most ≡ l.fn.self.most;
+  page : (whole : List Row) → IsPageOf whole l.fn.self → T (is_sorted key_cmp (rows_left l.fn.rows)) → (now : List Row) × IsPageOf now l.self × (puts key_cmp now (rows_left l.rows) ≡ puts key_cmp whole (rows_left l.fn.rows)) × T (is_sorted key_cmp (rows_left l.rows));
+}
+
+abbrev pub decreases-loop-name : goal.decreases-loop-name
+decreases-loop-name l = length (rows_left l.rows)

@@ -1,0 +1,113 @@
+//! Changes of names, and directories that come, move and go.
+ghost use Rattle.std.specs.Prelude.{◌≡◌, ◌+◌, ◌-◌, ◌<◌, ◌≤◌, ◌^◌, true, None, Some, IfSome, length, string_bytes, [], ◌∷◌};
+ghost use Rattle.std.specs.FinMap as map;
+ghost use Rattle.mds_types.specs.Tree.{is_dir_kind};
+ghost use Rattle.dirfrag_codec.specs.EntryRecord.{IsRecordable};
+ghost use Rattle.dentry_cache.specs.Cache.{HasRoom};
+ghost use Rattle.dentry_cache.specs.CacheCalls.{KeepsNone};
+ghost use Rattle.dentry_cache.specs.CacheMap.{has_place, here, leaf_of};
+ghost use Rattle.inode_table.specs.Dirs.{MayCome, MayGo, MayMove};
+ghost use Rattle.inode_table.specs.TreeTable.{with_home};
+ghost use Rattle.mdcache.specs.Going.{count_going, dir_going, leaves_going, leaves_in, texts_going, texts_in};
+ghost use Rattle.mdcache.specs.Core.{named, with_dir, without_dir, without_frags};
+
+use crate::going::{Going, GoingLeaf};
+use crate::mdcache::MdCache;
+use cached_frag::CachedFrag;
+use dentry_cache::Dirfrag;
+use inode_table::Home;
+use mds_types::{Ino, Inode, Name};
+use objstore::Store;
+use std::alloc::Global;
+
+impl<S: Store + Drop> MdCache<S> {
+    /// Gives a name of a leaf an inode; the name is dirty then, at the next version. Takes no memory.
+    pub(crate) fn put(&mut self, at: Dirfrag, name: Name, inode: Inode)
+        requires there { at.rank.0 < length self.old.caches.used }
+        requires recordable { IsRecordable inode }
+        requires room { HasRoom (here self.old.caches at.rank.0 (leaf_of at)) }
+        requires number { self.old.next_version < 2 ^ 64 - 1 }
+        ensures { self.new ≡ named self.old at name (Some inode) }
+    {
+        self.caches.put(at, name, inode, self.next.version);
+        self.next.version += 1;
+    }
+
+    /// Removes a name of a leaf; the name is dirty then, at the next version. Takes no memory.
+    pub(crate) fn erase(&mut self, at: Dirfrag, name: Name)
+        requires there { at.rank.0 < length self.old.caches.used }
+        requires room { HasRoom (here self.old.caches at.rank.0 (leaf_of at)) }
+        requires number { self.old.next_version < 2 ^ 64 - 1 }
+        ensures { self.new ≡ named self.old at name None }
+    {
+        self.caches.erase(at, name, self.next.version);
+        self.next.version += 1;
+    }
+
+    /// A directory comes, with its one leaf, for which a place is kept; `object` is the name of the leaf's object, which isn't to
+    /// be removed then. Takes no memory.
+    pub(crate) fn add_dir(&mut self, alloc: Global, at: Dirfrag, home: Home, object: &str)
+        requires room { 0 < self.old.room.dirs }
+        requires may { MayCome self.old.homes at.dir.0 home }
+        requires there { at.rank.0 < length self.old.caches.used }
+        requires place { has_place self.old.caches at.rank.0 (leaf_of at) ≡ true }
+        requires absent { map.get self.old.caches.held (leaf_of at) ≡ None }
+        requires number { self.old.next_generation < 2 ^ 64 - 1 }
+        ensures { self.new ≡ with_dir self.old at home object.now self.new.room }
+    {
+        self.dirs.adopt(at.dir, home);
+        self.caches.fill(at, CachedFrag::fresh(alloc, self.next.generation));
+        self.next.generation += 1;
+        self.purge.remove(object);
+    }
+
+    /// An inode that came to a name of a directory has its home there, if it is a directory itself. Takes no memory.
+    pub(crate) fn relocate(&mut self, inode: &Inode, home: Home)
+        requires { is_dir_kind inode.now.kind ≡ true → MayMove self.old.homes inode.now.ino.0 home }
+        ensures { self.new ≡ record self.old { homes = with_home self.old.homes (record { dir = home.parent; name = home.name }) inode.now } }
+    {
+        if inode.kind.is_dir() {
+            self.dirs.relocate(inode.ino, home);
+        }
+    }
+
+    /// A directory goes that is no one's parent and not the root, or none: its home, its leaves with all that is cached of them at
+    /// any rank and the jobs that stand for them. The names of its objects, for which there is room, are on the purge list then.
+    /// Takes no memory.
+    pub(crate) fn remove_dir(&mut self, going: Option<Going>)
+        requires may { IfSome (dir_going going) (λ dir. MayGo self.old.homes dir.0) }
+        requires room { count_going going ≤ self.old.room.purge }
+        ensures gone { self.new ≡ without_dir self.old (dir_going going) (leaves_going going) (texts_going going) self.new.room }
+        ensures none { KeepsNone self.old.caches → KeepsNone self.new.caches }
+    {
+        if let Some(going) = going {
+            self.dirs.drop(going.dir);
+            self.purge.put(going.tree);
+            self.end_leaves(going.dir, going.leaves);
+        }
+    }
+
+    /// These leaves of a directory end: their places at any rank, their jobs, and the names of their objects are on the purge
+    /// list, which has room for them. Takes no memory.
+    pub(crate) fn end_leaves(&mut self, dir: Ino, leaves: Vec<GoingLeaf>)
+        requires { length leaves.items ≤ self.old.room.purge }
+        ensures ended { self.new ≡ without_frags self.old (leaves_in dir leaves.items) (texts_in leaves.items) self.new.room }
+        ensures none { KeepsNone self.old.caches → KeepsNone self.new.caches }
+    {
+        for part in leaves {
+            self.end_leaf(dir, part);
+        }
+    }
+
+    // So it is with one of them.
+    fn end_leaf(&mut self, dir: Ino, part: GoingLeaf)
+        requires { 0 < self.old.room.purge }
+        ensures ended { self.new ≡ without_frags self.old ((dir, part.frag) ∷ []) (string_bytes part.object ∷ []) self.new.room }
+        ensures room { self.old.room.purge ≤ self.new.room.purge + 1 }
+        ensures none { KeepsNone self.old.caches → KeepsNone self.new.caches }
+    {
+        self.caches.end(dir, part.frag);
+        self.jobs.end(dir, part.frag);
+        self.purge.put(part.object);
+    }
+}

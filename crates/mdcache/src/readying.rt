@@ -1,0 +1,313 @@
+//! What each kind of change needs is made ready: numbers, leaves, places and room.
+ghost use Rattle.std.specs.Prelude.{◌≡◌, ◌⊎◌, ◌+◌, ◌-◌, ◌<◌, ◌≤◌, ◌^◌, true, false, is_some, Some, None, string_bytes, length, OnOk, IfOk, IfErr, IfSome};
+ghost use Rattle.std.specs.Result.{result_err};
+ghost use Rattle.std.specs.FinMap as map;
+ghost use Rattle.mds_types.specs.declared.refusals.Refusal.TheVariants.{NoInodes, NoMemory};
+ghost use Rattle.objstore.specs.Objects.{faults_told};
+ghost use Rattle.dirfrag_codec.specs.EntryRecord.{IsRecordable};
+ghost use Rattle.cached_frag.specs.Cached.{Cached, shown};
+ghost use Rattle.dentry_cache.specs.Cache.{HasCached, HasRoom, IsThere, Leaf};
+ghost use Rattle.dentry_cache.specs.CacheCalls.{KeepsNone};
+ghost use Rattle.dentry_cache.specs.CacheMap.{here, leaf_of, unclean};
+ghost use Rattle.dentry_cache.specs.CacheSplits.{IsKeptFor};
+ghost use Rattle.dentry_cache.specs.Came.{IsThat};
+ghost use Rattle.inode_table.specs.Dirs.{is_known};
+ghost use Rattle.mdcache.specs.Changes.{first_leaf};
+ghost use Rattle.mdcache.specs.Core.{IsSoundCore, LacksPlacesAt, ReadsCore};
+ghost use Rattle.mdcache.specs.Frags.{IsDirectoryReady, IsForRemoval, IsMovingIn, IsNameReady};
+ghost use Rattle.mdcache.specs.Going.{IsGoing, IsGoingOrNone, count_going, dir_going};
+ghost use Rattle.mdcache.specs.Ranks.{KeepsOnlyAt, MayHold};
+ghost use Rattle.mdcache.specs.Ready.{LacksNumbers, MayNotBeReady};
+ghost use Rattle.mdcache.specs.Shown.{names_of};
+ghost use Rattle.mdcache.specs.State.{IsLive, text_of};
+
+use crate::going::{Going, going_of};
+use crate::mdcache::MdCache;
+use crate::prepared::{MovingEntry, NewDirectory, Prepared};
+use crate::purge_list::PurgeList;
+use dentry_cache::{Caches, Dirfrag};
+use inode_table::Dirs;
+use mds_types::{Dentry, Frag, Ino, Inode, Name, ObjName, Refusal};
+use objstore::Store;
+use std::alloc::{AllocError, Global};
+
+impl<S: Store + Drop> MdCache<S> {
+    /// Makes ready that a name of a leaf gets an inode or loses it: the leaf is fetched, where it isn't cached, and has room for a
+    /// change then. Takes memory for a leaf that is read, and for the room.
+    ///
+    /// Refused `NoInodes` exactly where no version is left for the name; otherwise `NothingToEvict` where no place of the
+    /// cache is free and no fragment can go, `StoreFault`, and `NoMemory`.
+    pub(crate) fn ready_name(&mut self, alloc: Global, at: &Dirfrag) -> Result<(), Refusal>
+        requires sound { IsSoundCore self.old }
+        requires live { IsLive self.old.homes self.old.covers (leaf_of at.now) }
+        requires holds { MayHold self.old.caches at.now.rank (leaf_of at.now) }
+        ensures ready { OnOk result (IsNameReady self.new at.now.rank (leaf_of at.now)) }
+        ensures reads { ReadsCore (IsThat at.now.rank.0 (leaf_of at.now)) (IsKeptFor self.old.caches) self.old self.new }
+        ensures sound { IsSoundCore self.new }
+        ensures none { OnOk result (KeepsNone self.new.caches) }
+        ensures counted { self.new.faults ≡ self.old.faults + faults_told (result_err result) }
+        ensures refused { IfErr result (MayNotBeReady (LacksNumbers 1 self.old.next_version) (LacksPlacesAt 1 self.old at.now.rank) self.old.faults self.new.faults) }
+    {
+        if let Err(refusal) = check_left(self.next.version) {
+            return Err(refusal);
+        }
+        self.give_up();
+        self.ready_names(alloc, at, 1)
+    }
+
+    /// Makes ready that a new directory of this number comes to a dentry: beside what its name needs a place is kept for the
+    /// directory's leaf `*`, at the rank that holds the dentry's leaf, and there is room for the directory. Takes memory for all
+    /// this.
+    ///
+    /// Refused `NoInodes` exactly where no version is left for the name, or no generation for the leaf; otherwise
+    /// `NothingToEvict` where no place of the cache is free and no fragment but the dentry's can go, `StoreFault`, and
+    /// `NoMemory`.
+    pub(crate) fn ready_directory(
+        &mut self,
+        alloc: Global,
+        at: &Dirfrag,
+        dentry: &Dentry,
+        dir: Ino,
+    ) -> Result<(), Refusal>
+        requires sound { IsSoundCore self.old }
+        requires live { IsLive self.old.homes self.old.covers (leaf_of at.now) }
+        requires holds { MayHold self.old.caches at.now.rank (leaf_of at.now) }
+        requires unused { is_known self.old.homes dir.0 ≡ false }
+        ensures ready { OnOk result (IsNameReady self.new at.now.rank (leaf_of at.now)) }
+        ensures place { OnOk result (IsDirectoryReady self.new at.now.rank dentry.now dir) }
+        ensures only { OnOk result (KeepsOnlyAt (Some (at.now.rank, first_leaf dir)) self.new.caches) }
+        ensures reads { ReadsCore (λ r q. IsThat at.now.rank.0 (leaf_of at.now) r q ⊎ IsThat at.now.rank.0 (first_leaf dir) r q) (IsKeptFor self.old.caches) self.old self.new }
+        ensures sound { IsSoundCore self.new }
+        ensures counted { self.new.faults ≡ self.old.faults + faults_told (result_err result) }
+        ensures refused { IfErr result (MayNotBeReady (LacksNumbers 1 self.old.next_version ⊎ LacksNumbers 1 self.old.next_generation) (LacksPlacesAt 2 self.old at.now.rank) self.old.faults self.new.faults) }
+    {
+        if let Err(refusal) = check_left(self.next.version) {
+            return Err(refusal);
+        }
+        if let Err(refusal) = check_left(self.next.generation) {
+            return Err(refusal);
+        }
+        let made = new_directory(alloc, dentry, dir)?;
+        if let Err(refusal) = self.dirs.reserve() {
+            return Err(refusal);
+        }
+        self.give_up();
+        let first = Dirfrag {
+            dir,
+            frag: Frag::ROOT,
+            rank: at.rank,
+        };
+        if let Err(refusal) = self.ready_first(alloc, at, &first) {
+            return Err(refusal);
+        }
+        self.kept = Some((at.rank, (dir, Frag::ROOT)));
+        self.prepared = Prepared::Directory(made);
+        Ok(())
+    }
+
+    /// Makes ready that the entry of a name gets other attributes, and tells that a record allows the inode that stands there, so
+    /// that it allows its number and kind with other attributes too. Otherwise as `ready_name`.
+    pub(crate) fn ready_set(
+        &mut self,
+        alloc: Global,
+        at: &Dirfrag,
+        name: &Name,
+    ) -> Result<(), Refusal>
+        requires sound { IsSoundCore self.old }
+        requires live { IsLive self.old.homes self.old.covers (leaf_of at.now) }
+        requires holds { MayHold self.old.caches at.now.rank (leaf_of at.now) }
+        ensures ready { OnOk result (IsNameReady self.new at.now.rank (leaf_of at.now)) }
+        ensures recorded { OnOk result (IfSome (map.get (names_of (unclean self.old.caches) self.old.objects (leaf_of at.now)) name.now) IsRecordable) }
+        ensures reads { ReadsCore (IsThat at.now.rank.0 (leaf_of at.now)) (IsKeptFor self.old.caches) self.old self.new }
+        ensures none { OnOk result (KeepsNone self.new.caches) }
+        ensures sound { IsSoundCore self.new }
+        ensures counted { self.new.faults ≡ self.old.faults + faults_told (result_err result) }
+        ensures refused { IfErr result (MayNotBeReady (LacksNumbers 1 self.old.next_version) (LacksPlacesAt 1 self.old at.now.rank) self.old.faults self.new.faults) }
+    {
+        if let Err(refusal) = self.ready_name(alloc, at) {
+            return Err(refusal);
+        }
+        is_recorded(&self.caches, at, name);
+        Ok(())
+    }
+
+    /// Makes ready that the entry of a name goes. `gone` is its number, if it is a directory: the names of that one's objects are
+    /// kept, and the purge list has room for them. Otherwise as `ready_name`.
+    pub(crate) fn ready_removal(
+        &mut self,
+        alloc: Global,
+        at: &Dirfrag,
+        gone: Option<Ino>,
+    ) -> Result<(), Refusal>
+        requires sound { IsSoundCore self.old }
+        requires live { IsLive self.old.homes self.old.covers (leaf_of at.now) }
+        requires holds { MayHold self.old.caches at.now.rank (leaf_of at.now) }
+        ensures ready { OnOk result (IsNameReady self.new at.now.rank (leaf_of at.now)) }
+        ensures going { OnOk result (IsForRemoval self.new.covers self.new.room.purge gone self.new.prepared) }
+        ensures reads { ReadsCore (IsThat at.now.rank.0 (leaf_of at.now)) (IsKeptFor self.old.caches) self.old self.new }
+        ensures none { OnOk result (KeepsNone self.new.caches) }
+        ensures sound { IsSoundCore self.new }
+        ensures counted { self.new.faults ≡ self.old.faults + faults_told (result_err result) }
+        ensures refused { IfErr result (MayNotBeReady (LacksNumbers 1 self.old.next_version) (LacksPlacesAt 1 self.old at.now.rank) self.old.faults self.new.faults) }
+    {
+        if let Err(refusal) = check_left(self.next.version) {
+            return Err(refusal);
+        }
+        let going = ready_going(alloc, &self.dirs, &mut self.purge, gone)?;
+        self.give_up();
+        if let Err(refusal) = self.ready_names(alloc, at, 1) {
+            return Err(refusal);
+        }
+        self.prepared = Prepared::Removal(going);
+        Ok(())
+    }
+
+    /// Makes ready that the inode of one name moves to another, in a leaf that may be the same: the first has room for two changes
+    /// then, and the second for one; a copy of the inode and one of its new name are kept. `gone` is the number of what is
+    /// replaced, if that is a directory: the names of its objects are kept, and the purge list has room for them. Takes memory for
+    /// leaves that are read, for the room, for the copies and for the names.
+    ///
+    /// Refused `NoInodes` exactly where no two versions are left; otherwise `NothingToEvict` where no place of the cache is
+    /// free and no fragment but the first can go, `StoreFault`, and `NoMemory`.
+    pub(crate) fn ready_move(
+        &mut self,
+        alloc: Global,
+        from: &Dirfrag,
+        old: &Name,
+        to: &Dirfrag,
+        new: &Name,
+        gone: Option<Ino>,
+    ) -> Result<(), Refusal>
+        requires sound { IsSoundCore self.old }
+        requires from_live { IsLive self.old.homes self.old.covers (leaf_of from.now) }
+        requires from_holds { MayHold self.old.caches from.now.rank (leaf_of from.now) }
+        requires to_live { IsLive self.old.homes self.old.covers (leaf_of to.now) }
+        requires to_holds { MayHold self.old.caches to.now.rank (leaf_of to.now) }
+        requires one { ◌≡◌ {A = Leaf} (leaf_of from.now) (leaf_of to.now) → from.now.rank ≡ to.now.rank }
+        requires stands { is_some (map.get (names_of (unclean self.old.caches) self.old.objects (leaf_of from.now)) old.now) ≡ true }
+        ensures source { OnOk result (HasCached (here self.new.caches from.now.rank.0 (leaf_of from.now)) (λ (f : Cached). 1 < f.room)) }
+        ensures target { OnOk result (HasRoom (here self.new.caches to.now.rank.0 (leaf_of to.now))) }
+        ensures number { OnOk result (self.new.next_version < 2 ^ 64 - 2) }
+        ensures moving { OnOk result (IsMovingIn (map.get (names_of (unclean self.old.caches) self.old.objects (leaf_of from.now)) old.now) self.new.covers self.new.room.purge new.now gone self.new.prepared) }
+        ensures reads { ReadsCore (λ r q. IsThat from.now.rank.0 (leaf_of from.now) r q ⊎ IsThat to.now.rank.0 (leaf_of to.now) r q) (IsKeptFor self.old.caches) self.old self.new }
+        ensures none { OnOk result (KeepsNone self.new.caches) }
+        ensures sound { IsSoundCore self.new }
+        ensures counted { self.new.faults ≡ self.old.faults + faults_told (result_err result) }
+        ensures refused { IfErr result (MayNotBeReady (LacksNumbers 2 self.old.next_version) (LacksPlacesAt 2 self.old from.now.rank ⊎ LacksPlacesAt 2 self.old to.now.rank) self.old.faults self.new.faults) }
+    {
+        if let Err(refusal) = check_two_left(self.next.version) {
+            return Err(refusal);
+        }
+        let name = new.try_clone()?;
+        let going = ready_going(alloc, &self.dirs, &mut self.purge, gone)?;
+        self.give_up();
+        if let Err(refusal) = self.ready_pair(alloc, from, to) {
+            return Err(refusal);
+        }
+        let inode = inode_at(&self.caches, from, old)?;
+        self.prepared = Prepared::Move(MovingEntry { inode, name, going });
+        Ok(())
+    }
+}
+
+/// Whether a number is left of a counter. Refused `NoInodes` exactly where none is.
+fn check_left(next: u64) -> Result<(), Refusal>
+    ensures ok { OnOk result (next < 2 ^ 64 - 1) }
+    ensures err { IfErr result (λ reason. (reason ≡ NoInodes) × LacksNumbers 1 next) }
+{
+    if next == u64::MAX {
+        return Err(Refusal::NoInodes);
+    }
+    Ok(())
+}
+
+// Whether two numbers are left of a counter.
+fn check_two_left(next: u64) -> Result<(), Refusal>
+    ensures ok { OnOk result (next < 2 ^ 64 - 2) }
+    ensures err { IfErr result (λ reason. (reason ≡ NoInodes) × LacksNumbers 2 next) }
+{
+    if next >= u64::MAX - 1 {
+        return Err(Refusal::NoInodes);
+    }
+    Ok(())
+}
+
+// What a directory of this number takes that comes.
+fn new_directory(alloc: Global, dentry: &Dentry, dir: Ino) -> Result<NewDirectory, Refusal>
+    ensures name { IfOk result (λ made. made.name ≡ dentry.now.name) }
+    ensures object { IfOk result (λ made. string_bytes made.object ≡ text_of (first_leaf dir)) }
+    ensures err { IfErr result (λ reason. reason ≡ NoMemory) }
+{
+    let name = dentry.name.try_clone()?;
+    let leaf = ObjName::Frag(dir, Frag::ROOT);
+    let object = format!(in alloc; "{leaf}")?;
+    Ok(NewDirectory { name, object })
+}
+
+// What a name of a cached fragment stands for, a record allows: a law of the type, so nothing is done with it.
+fn is_recorded(caches: &Caches, at: &Dirfrag, name: &Name)
+    requires there { at.now.rank.0 < length caches.now.used }
+    requires cached { IsThere (here caches.now at.now.rank.0 (leaf_of at.now)) }
+    ensures { HasCached (here caches.now at.now.rank.0 (leaf_of at.now)) (λ (f : Cached). IfSome (map.get (shown f) name.now) IsRecordable) }
+{
+    if let Some(fragment) = caches.get(*at) {
+        let _ = fragment.look(name);
+    }
+}
+
+// The inode that a name of a cached fragment stands for, copied. A record allows it, as each of a fragment's.
+fn inode_at(caches: &Caches, at: &Dirfrag, name: &Name) -> Result<Inode, Refusal>
+    requires there { at.now.rank.0 < length caches.now.used }
+    requires stands { HasCached (here caches.now at.now.rank.0 (leaf_of at.now)) (λ (f : Cached). is_some (map.get (shown f) name.now) ≡ true) }
+    ensures inode { IfOk result (λ inode. HasCached (here caches.now at.now.rank.0 (leaf_of at.now)) (λ (f : Cached). map.get (shown f) name.now ≡ Some inode)) }
+    ensures recordable { IfOk result (λ inode. IsRecordable inode) }
+    ensures refused { IfErr result (λ reason. reason ≡ NoMemory) }
+{
+    let Some(fragment) = caches.get(*at) else {
+        unreachable!()
+    };
+    let Some(inode) = fragment.look(name) else {
+        unreachable!()
+    };
+    Ok(inode.try_clone()?)
+}
+
+// Where a directory goes: the names of its objects, for which there is room on the purge list then. Takes memory for both.
+// Refused for want of memory alone.
+fn ready_going(
+    alloc: Global,
+    dirs: &Dirs,
+    purge: &mut PurgeList,
+    gone: Option<Ino>,
+) -> Result<Option<Going>, Refusal>
+    ensures going { IfOk result (λ going. (dir_going going ≡ gone) × IsGoingOrNone dirs.now.trees going) }
+    ensures room { IfOk result (λ going. count_going going ≤ purge.new.room) }
+    ensures same { purge.new.names ≡ purge.old.names }
+    ensures grows { purge.old.room ≤ purge.new.room }
+    ensures refused { IfErr result (λ reason. reason ≡ NoMemory) }
+{
+    let Some(dir) = gone else {
+        return Ok(None);
+    };
+    match going_with_room(alloc, dirs, purge, dir) {
+        Ok(going) => Ok(Some(going)),
+        Err(_) => Err(Refusal::NoMemory),
+    }
+}
+
+// The names of the objects of a directory, for which there is room on the purge list then.
+fn going_with_room(
+    alloc: Global,
+    dirs: &Dirs,
+    purge: &mut PurgeList,
+    dir: Ino,
+) -> Result<Going, AllocError>
+    ensures going { IfOk result (λ going. (going.dir ≡ dir) × IsGoing dirs.now.trees going) }
+    ensures room { IfOk result (λ going. 1 + length going.leaves.items ≤ purge.new.room) }
+    ensures same { purge.new.names ≡ purge.old.names }
+    ensures grows { purge.old.room ≤ purge.new.room }
+{
+    let going = going_of(alloc, dirs, dir)?;
+    purge.reserve(going.leaves.len() + 1)?;
+    Ok(going)
+}
