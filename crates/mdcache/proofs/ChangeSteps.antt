@@ -2,7 +2,7 @@
 use Rattle.std.proofs.Common.{◌≡◌, ◌⊎◌, inl, inr, ℕ, zero, suc, ◌+◌, ◌<◌, ◌≤◌, Bool, true, false, cond, is_some, length, List, [], ◌∷◌, Option, Some, None, refl, sym, ap, subst, ◌∙◌, arith}
 use Rattle.std.specs.Prelude.{◌==◌, ◌&&◌, ◌||◌, get_or}
 use Rattle.std.specs.FinMap as map
-use Rattle.std.specs.List.{list_any}
+use Rattle.std.specs.List.{Contains, list_any}
 use Rattle.std.proofs.lemmas.Option.{same_Some}
 use Rattle.sorted_map.proofs.NatKeys.{get_left as get_left_home, is_same}
 use Rattle.mds_types.specs.declared.ids.Ino.{Ino}
@@ -14,7 +14,7 @@ use Rattle.commit_jobs.specs.declared.marks.Mark.{Mark}
 use Rattle.cached_frag.specs.Cached.{Cached, marked}
 use Rattle.dentry_cache.specs.Cache.{HasCached, HasRoom, IsThere, Leaf, leaf_is}
 use Rattle.dentry_cache.specs.CacheCalls.{KeepsNone}
-use Rattle.dentry_cache.specs.CacheMap.{AreCaches, At, CacheMap, IsFree, at, at_rank, edited_as, given_up, has_place, here, leaf_of, removed, unclean, unsaved_at, with_mark}
+use Rattle.dentry_cache.specs.CacheMap.{AreCaches, At, CacheMap, IsFree, at, at_rank, edited_as, given_up, has_place, here, leaf_of, removed, unclean, unsaved_at, with_frag, with_mark}
 use Rattle.dentry_cache.specs.CacheSplits.{IsKeptFor}
 use Rattle.dentry_cache.specs.Came.{Came}
 use Rattle.dentry_cache.specs.Came.Came.{ends, has, stays}
@@ -154,6 +154,30 @@ module _ (c : Core) (a : Dirfrag) (name : List ℕ) (inode : Option Inode) (ther
       apart true one = let clash : None ≡ Some (at a.rank.0 g) = sym kept.1 ∙ ap (map.get c.caches.held) (one_leaf first (leaf_of a) one) ∙ held in absurd cc
       apart false two = two
 
+-- where a fragment comes into the one place that is kept, none is kept then
+pub filled_none : (c : CacheMap) (a : Dirfrag) (f : Cached) → KeepsOnlyAt (Some (a.rank, leaf_of a)) c → map.get c.held (leaf_of a) ≡ None → KeepsNone (with_frag c a.rank.0 (leaf_of a) f)
+filled_none c a f only absent s q placed = go (placed_used c a.rank.0 (leaf_of a) s q placed)
+  where
+    at_its : (s : ℕ) (q : Leaf) → s ≡ a.rank.0 → q ≡ leaf_of a → IsThere (here (with_frag c a.rank.0 (leaf_of a) f) s q)
+    at_its s q rank leaf = subst (λ (k : ℕ). IsThere (here (with_frag c a.rank.0 (leaf_of a) f) k q)) (sym rank) (subst (λ (l : Leaf). IsThere (here (with_frag c a.rank.0 (leaf_of a) f) a.rank.0 l)) (sym leaf) (subst IsThere (sym (here_put c a.rank.0 (leaf_of a) f)) tt))
+
+    gone_at : (o : Option At) → o ≡ None → IsThere (at_rank s o) → ⊥
+    gone_at o is h = subst IsThere (ap (at_rank s) is) h
+
+    beside : (b : Bool) → leaf_is q (leaf_of a) ≡ b → IsThere (here c s q) → IsThere (here (with_frag c a.rank.0 (leaf_of a) f) s q)
+    beside true one h = absurd (gone_at (map.get c.held q) (ap (map.get c.held) (one_leaf q (leaf_of a) one) ∙ absent) h)
+    beside false apart h = subst IsThere (sym (here_beside c a.rank.0 (leaf_of a) f s q apart)) h
+
+    on : IsThere (here c s q) ⊎ ((map.get c.held q ≡ None) × (◌≡◌ {A = Option (Rank × Leaf)} (Some (a.rank, leaf_of a)) (Some (record { 0 = s }, q)))) → IsThere (here (with_frag c a.rank.0 (leaf_of a) f) s q)
+    on (inl h) = beside (leaf_is q (leaf_of a)) refl h
+    on (inr own) =
+        let both : ◌≡◌ {A = Rank × Leaf} (a.rank, leaf_of a) (record { 0 = s }, q) = same_Some (a.rank, leaf_of a) (record { 0 = s }, q) own.1 in
+        at_its s q (sym (ap (λ (p : Rank × Leaf). p.0.0) both)) (sym (ap (λ (p : Rank × Leaf). p.1) both))
+
+    go : (has_place c s q ≡ true) ⊎ ((s ≡ a.rank.0) × (q ≡ leaf_of a)) → IsThere (here (with_frag c a.rank.0 (leaf_of a) f) s q)
+    go (inl was) = on (only s q was)
+    go (inr same) = at_its s q same.0 same.1
+
 -- ---- a directory comes
 
 module _ (Uses Ends : ℕ → Leaf → Type 0) (old c : Core) (a : Dirfrag) (before : HasMade Uses Ends (Some (a.rank, leaf_of a)) old c) (absent : map.get c.caches.held (leaf_of a) ≡ None) (home : Home) (object : List ℕ) (room : Rooms)
@@ -164,32 +188,9 @@ module _ (Uses Ends : ℕ → Leaf → Type 0) (old c : Core) (a : Dirfrag) (bef
   abbrev fresh : Cached
   fresh = made_frag c.next_generation
 
-  now : IsThere (here grown.caches a.rank.0 (leaf_of a))
-  now = subst IsThere (sym (here_put c.caches a.rank.0 (leaf_of a) fresh)) tt
-
-  at_its : (s : ℕ) (q : Leaf) → s ≡ a.rank.0 → q ≡ leaf_of a → IsThere (here grown.caches s q)
-  at_its s q rank leaf = subst (λ (k : ℕ). IsThere (here grown.caches k q)) (sym rank) (subst (λ (l : Leaf). IsThere (here grown.caches a.rank.0 l)) (sym leaf) now)
-
   -- no place is kept then
   none : KeepsNone grown.caches
-  none s q placed = go (placed_used c.caches a.rank.0 (leaf_of a) s q placed)
-    where
-      gone_at : (o : Option At) → o ≡ None → IsThere (at_rank s o) → ⊥
-      gone_at o is h = subst IsThere (ap (at_rank s) is) h
-
-      beside : (b : Bool) → leaf_is q (leaf_of a) ≡ b → IsThere (here c.caches s q) → IsThere (here grown.caches s q)
-      beside true one h = absurd (gone_at (map.get c.caches.held q) (ap (map.get c.caches.held) (one_leaf q (leaf_of a) one) ∙ absent) h)
-      beside false apart h = subst IsThere (sym (here_beside c.caches a.rank.0 (leaf_of a) fresh s q apart)) h
-
-      on : IsThere (here c.caches s q) ⊎ ((map.get c.caches.held q ≡ None) × (◌≡◌ {A = Option (Rank × Leaf)} (Some (a.rank, leaf_of a)) (Some (record { 0 = s }, q)))) → IsThere (here grown.caches s q)
-      on (inl h) = beside (leaf_is q (leaf_of a)) refl h
-      on (inr own) =
-          let both : ◌≡◌ {A = Rank × Leaf} (a.rank, leaf_of a) (record { 0 = s }, q) = same_Some (a.rank, leaf_of a) (record { 0 = s }, q) own.1 in
-          at_its s q (sym (ap (λ (p : Rank × Leaf). p.0.0) both)) (sym (ap (λ (p : Rank × Leaf). p.1) both))
-
-      go : (has_place c.caches s q ≡ true) ⊎ ((s ≡ a.rank.0) × (q ≡ leaf_of a)) → IsThere (here grown.caches s q)
-      go (inl was) = on (before.only s q was)
-      go (inr same) = at_its s q same.0 same.1
+  none = filled_none c.caches a fresh before.only absent
 
   pub made_dir : Uses a.rank.0 (leaf_of a) → HasMade Uses Ends None old grown
   made_dir uses = record {
@@ -236,13 +237,22 @@ still_held c (leaf ∷ ls) q a is =
     ((λ i. first.0 i || later.0 i), first.1)
 
 -- the caches came from those before by ends of leaves that are named so
-pub ends_came : (Uses Ends : ℕ → Leaf → Type 0) (old c : CacheMap) (dir : Ino) (parts : List GoingLeaf) → ((r : ℕ) (leaf : Leaf) → leaf.0 ≡ dir → Ends r leaf) → Came Uses Ends old c → Came Uses Ends old (ended_all c (leaves_in dir parts))
-ends_came Uses Ends old c dir [] named came = came
-ends_came Uses Ends old c dir (part ∷ parts) named came = ends_came Uses Ends old (ended c (dir, part.frag)) dir parts named (go (map.get c.held (dir, part.frag)))
+pub ends_came_so : (Uses Ends : ℕ → Leaf → Type 0) (old c : CacheMap) (ls : List Leaf) → ((r : ℕ) (leaf : Leaf) → Contains ls leaf → Ends r leaf) → Came Uses Ends old c → Came Uses Ends old (ended_all c ls)
+ends_came_so Uses Ends old c [] named came = came
+ends_came_so Uses Ends old c (leaf ∷ ls) named came = ends_came_so Uses Ends old (ended c leaf) ls (λ r q has. named r q (suc has.0, (let within = has.1 in omega (arith, within)), has.2)) (go (map.get c.held leaf))
   where
-    go : (o : Option At) → Came Uses Ends old (ended_at c (dir, part.frag) o)
+    go : (o : Option At) → Came Uses Ends old (ended_at c leaf o)
     go None = came
-    go (Some a) = ends c a.rank (dir, part.frag) came (named a.rank (dir, part.frag) refl)
+    go (Some a) = ends c a.rank leaf came (named a.rank leaf (zero, omega arith, refl))
+
+-- so where all leaves of a directory are
+pub ends_came : (Uses Ends : ℕ → Leaf → Type 0) (old c : CacheMap) (dir : Ino) (parts : List GoingLeaf) → ((r : ℕ) (leaf : Leaf) → leaf.0 ≡ dir → Ends r leaf) → Came Uses Ends old c → Came Uses Ends old (ended_all c (leaves_in dir parts))
+ends_came Uses Ends old c dir parts named = ends_came_so Uses Ends old c (leaves_in dir parts) (λ r leaf has. named r leaf (its_dir parts leaf has))
+  where
+    its_dir : (parts : List GoingLeaf) (leaf : Leaf) → Contains (leaves_in dir parts) leaf → leaf.0 ≡ dir
+    its_dir [] leaf (k, within, is) = absurd (omega (arith, within))
+    its_dir (part ∷ parts) leaf (zero, within, is) = ap (λ (l : Leaf). l.0) (sym is)
+    its_dir (part ∷ parts) leaf (suc k, within, is) = its_dir parts leaf (k, omega (arith, within), is)
 
 -- and no place is kept then, if none was
 pub none_ended : (c : CacheMap) (leaf : Leaf) → AreCaches c → KeepsNone c → KeepsNone (ended c leaf)

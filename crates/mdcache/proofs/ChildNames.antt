@@ -5,9 +5,9 @@ use Rattle.std.specs.List.{Contains}
 use Rattle.std.proofs.lemmas.List.Elements.{Contains-append_left, Contains-push, Contains-push_cases}
 use Rattle.mds_types.specs.declared.ids.Ino.{Ino}
 use Rattle.mds_types.specs.Frag.{Fragment, child_of}
+use Rattle.dentry_cache.proofs.SplitShows.{below_or_it}
 use Rattle.mdcache.specs.Splits.{NameChildren}
 use Rattle.mdcache.specs.State.{text_of}
-use Rattle.mdcache.proofs.FreedLaws.{below_or_it}
 
 -- these name the objects of the first children
 pub record NameFirst (dir : Ino) (frag : Fragment) (nb n : ℕ) (texts : List (List ℕ)) : Type 0 where

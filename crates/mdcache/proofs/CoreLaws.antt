@@ -31,7 +31,7 @@ use Rattle.dentry_cache.proofs.TieLaws.{fetched_are_tied}
 use Rattle.dentry_cache.proofs.UncleanLaws.{get_unclean}
 use Rattle.inode_table.specs.Dirs.{is_known, leaves_of}
 use Rattle.inode_table.proofs.TableLaws.{known_is}
-use Rattle.mdcache.specs.Core.{Core, IsCachedIn, IsNoLess, IsSoundCore, MayFetch, ReadsCore, Rooms, shown_in, state_of}
+use Rattle.mdcache.specs.Core.{AreCached, Core, IsCachedIn, IsNoLess, IsSoundCore, MayFetch, ReadsCore, Rooms, shown_in, state_of}
 use Rattle.mdcache.specs.Frags.{KeepsState}
 use Rattle.dirfrag_codec.specs.FragmentObject.{Names}
 use Rattle.mdcache.specs.CacheReads.{LacksPlacesIn}
@@ -88,7 +88,7 @@ module _ (Uses Ends : ℕ → Leaf → Type 0) (old new : Core) (reads : ReadsCo
   abbrev pub AreLive : Type 0
   AreLive = (r : ℕ) (q : Leaf) → Uses r q → (a : At) → map.get new.caches.held q ≡ Some a → IsLive old.homes old.covers q
 
-  reads_cached_so : IsSoundCore old → AreLive → (leaf : Leaf) (a : At) → map.get new.caches.held leaf ≡ Some a → IsCachedIn (state_of new) leaf a.frag
+  pub reads_cached_so : IsSoundCore old → AreLive → (leaf : Leaf) (a : At) → map.get new.caches.held leaf ≡ Some a → IsCachedIn (state_of new) leaf a.frag
   reads_cached_so sound live leaf a is = subst (λ (s : State). IsCachedIn s leaf a.frag) (sym reads_state) (go (reads_held Uses Ends old.objects old.caches new.caches reads.caches leaf a is))
     where
       go : IsReadOf Uses old.objects leaf (map.get old.caches.held leaf) a → IsCachedIn (state_of old) leaf a.frag
@@ -207,6 +207,14 @@ reads_core_wider Few Many FewEnd ManyEnd old new more more_end reads =
 
 -- ---- what a sound core tells
 
+-- a cached fragment shows the names of its leaf
+pub shows_so : (c : Core) → AreCached (state_of c) c.caches → (r : ℕ) (leaf : Leaf) (f : Cached) → here c.caches r leaf ≡ Some f → names_of (unclean c.caches) c.objects leaf ≡ shown f
+unfolding names_of
+shows_so c cached r leaf f there =
+    let held : map.get c.caches.held leaf ≡ Some (at r f) = here_is r (map.get c.caches.held leaf) f there in
+    ap (λ o. shown_at o (object_of c.objects leaf.0 leaf.1)) (get_unclean c.caches leaf ∙ ap unsaved_at held)
+    ∙ cached_shows f (object_of c.objects leaf.0 leaf.1) (cached leaf (at r f) held).tied
+
 module _ (c : Core) (sound : IsSoundCore c) where
   pub dir_known : (d : ℕ) → is_directory (shown_in c) d ≡ true → is_known c.homes d ≡ true
   dir_known d is = known_is (shown_in c) c.homes sound.sound.tabled d ∙ is
@@ -218,13 +226,8 @@ module _ (c : Core) (sound : IsSoundCore c) where
   pub may_fetch : (a : Dirfrag) → MayHold c.caches a.rank (leaf_of a) → IsLive c.homes c.covers (leaf_of a) → MayFetch c a
   may_fetch a holds live = record { there = holds.there; free = holds.alone; saved = sound.sound.saved (leaf_of a) live }
 
-  -- a cached fragment shows the names of its leaf
   pub shows_cached : (r : ℕ) (leaf : Leaf) (f : Cached) → here c.caches r leaf ≡ Some f → names_of (unclean c.caches) c.objects leaf ≡ shown f
-  unfolding names_of
-  shows_cached r leaf f there =
-      let held : map.get c.caches.held leaf ≡ Some (at r f) = here_is r (map.get c.caches.held leaf) f there in
-      ap (λ o. shown_at o (object_of c.objects leaf.0 leaf.1)) (get_unclean c.caches leaf ∙ ap unsaved_at held)
-      ∙ cached_shows f (object_of c.objects leaf.0 leaf.1) (sound.cached leaf (at r f) held).tied
+  shows_cached = shows_so c sound.cached
 
   -- what holds of the shown names of a cached fragment holds of those of its leaf
   pub of_names : (P : Names → Type 0) (r : ℕ) (leaf : Leaf) → HasCached (here c.caches r leaf) (λ (f : Cached). P (shown f)) → P (names_of (unclean c.caches) c.objects leaf)

@@ -13,7 +13,8 @@ use Rattle.dentry_cache.specs.CacheCalls.{Edits}
 use Rattle.dentry_cache.specs.CacheMap.{At, CacheMap, IsFree, IsFreeFor, at_rank, here, unclean, unsaved_at, with_frag}
 use Rattle.dentry_cache.specs.Came.{Came, IsThat, NoneEnds}
 use Rattle.dentry_cache.specs.Came.Came.{has, stays}
-use Rattle.dentry_cache.specs.Commits.{IsCommitted}
+use Rattle.omap.specs.declared.write_ops.WriteOp.{WriteOp}
+use Rattle.dentry_cache.specs.Commits.{IsCommitted, leaf_text}
 use Rattle.dentry_cache.proofs.CameLaws.{edits_unclean}
 use Rattle.dentry_cache.proofs.StepLaws.{by_edits, get_with_frag}
 use Rattle.dentry_cache.proofs.UncleanLaws.{get_unclean}
@@ -79,4 +80,32 @@ module _ (old view : Core) (is : view ≡ old) (sound : IsSoundCore old) (r : �
           (λ f then seen change. cached_with (state_of view) view.caches r leaf then now_sound.cached (cached_but (state_of view) leaf f then (change ∙ (λ i. record f { room = sym (ap (λ (k : Cached). k.room) change) i; places = then.places }))
           (now_sound.cached leaf (record { rank = r; frag = f }) (here_is r (map.get view.caches.held leaf) f seen)))));
       kept = edits_only (λ (f then : Cached). then ≡ record f { places = then.places }) caches edits;
+    }
+
+  -- it is done
+  module _ (caches : CacheMap) (objects : Objects) (faults : ℕ) (jobs : Jobs) (room : Rooms) (op : WriteOp) (is_written : objects ≡ written view.objects (leaf_text job.ino job.frag) op) (op_is : op ≡ write_of job.snapshot)
+      (settled : Edits (IsCommitted job.snapshot) r leaf view.caches caches) (over : jobs ≡ map.remove view.jobs leaf) where
+    abbrev with_caches : CacheMap → Core
+    with_caches k = record view { caches = k; objects = objects; faults = faults; jobs = jobs; room = room }
+
+    is_after : (f now : Cached) (seen : here view.caches r leaf ≡ Some f) (change : IsCommitted job.snapshot f now) → state_of (with_caches (with_frag view.caches r leaf now)) ≡ t view r job now_sound stood f now seen change
+    is_after f now seen change = λ i. record (state_of view) {
+      unsaved = now_unclean view r job now_sound stood f now seen change i;
+      objects = (is_written ∙ ap (written view.objects (leaf_text job.ino job.frag)) op_is) i;
+      jobs = over i;
+    }
+
+    pub done_ended : IsEnded (state_of old) (state_of (with_caches caches)) job
+    done_ended = subst (λ (k : Core). IsEnded (state_of k) (state_of (with_caches caches)) job) is
+        (by_edits r leaf (IsCommitted job.snapshot) view.caches caches settled (λ (k : CacheMap). IsEnded (state_of view) (state_of (with_caches k)) job)
+        (λ f now seen change. subst (λ (u : State). IsEnded (state_of view) u job) (sym (is_after f now seen change)) (ended view r job now_sound stood f now seen change)))
+
+    pub done_sound : IsSoundCore (with_caches caches)
+    done_sound = record {
+      sound = by_edits r leaf (IsCommitted job.snapshot) view.caches caches settled (λ (k : CacheMap). IsSound (state_of (with_caches k)))
+          (λ f now seen change. subst IsSound (sym (is_after f now seen change)) (ended_sound view r job now_sound stood f now seen change));
+      begun = now_sound.begun;
+      cached = by_edits r leaf (IsCommitted job.snapshot) view.caches caches settled (λ (k : CacheMap). AreCached (state_of (with_caches k)) k)
+          (λ f now seen change. subst (λ (u : State). AreCached u (with_frag view.caches r leaf now)) (sym (is_after f now seen change)) (ended_cached view r job now_sound stood f now seen change));
+      kept = edits_only (IsCommitted job.snapshot) caches settled;
     }

@@ -8,38 +8,37 @@ use Rattle.mds_types.specs.declared.refusals.Refusal.{Refusal}
 use Rattle.objstore.specs.Objects.{faults_in}
 use Rattle.dentry_cache.specs.Cache.{Leaf}
 use Rattle.namespace_ops.specs.Reasons.{IsOfFragments}
-use Rattle.mdcache.specs.Core.{Core}
 use Rattle.mdcache.specs.Frags.{KeepsState, LacksFor, MayRefuse}
 use Rattle.mdcache.specs.Made.{IsUntouched}
-use Rattle.mdcache.specs.Core.{LacksPlaces, LacksPlacesAt}
+use Rattle.mdcache.specs.Core.{Core, LacksPlaces, LacksPlacesAt, state_of}
 use Rattle.mdcache.specs.Shown.{names_of}
 use Rattle.mdcache.specs.State.{IsLive, State, UnsavedLeaves}
 
 pub keeps_itself : (a : Core) → KeepsState a a None
-keeps_itself a = record { state = refl; unsaved = λ rank. refl; count = refl; cap = refl; counted = omega arith }
+keeps_itself a = record { state = refl; unclean = λ rank. refl; count = refl; cap = refl; counted = omega arith }
 
 pub keeps_on : (a b c : Core) (told : Option Refusal) → KeepsState a b None → KeepsState b c told
     → KeepsState a c told
 keeps_on a b c told p q =
     let first = p.counted in
     let second = q.counted in
-    record { state = q.state ∙ p.state; unsaved = λ rank. q.unsaved rank ∙ p.unsaved rank; count = q.count ∙ p.count; cap = q.cap ∙ p.cap; counted = omega (arith, first, second) }
+    record { state = q.state ∙ p.state; unclean = λ rank. q.unclean rank ∙ p.unclean rank; count = q.count ∙ p.count; cap = q.cap ∙ p.cap; counted = omega (arith, first, second) }
 
 -- a refusal that is no fault counts none
 pub keeps_refused : (a b : Core) (reason : Refusal) → faults_in reason ≡ 0 → KeepsState a b None
     → KeepsState a b (Some reason)
 keeps_refused a b reason none p =
     let counted = p.counted in
-    record { state = p.state; unsaved = p.unsaved; count = p.count; cap = p.cap; counted = omega (arith, counted, none) }
+    record { state = p.state; unclean = p.unclean; count = p.count; cap = p.cap; counted = omega (arith, counted, none) }
 
 -- a state that is the same has the same leaves with the same names
-pub untouched_by : (a b : Core) (leaf : Leaf) (told : Option Refusal) → KeepsState a b told → IsUntouched a.state b.state leaf
+pub untouched_by : (a b : Core) (leaf : Leaf) (told : Option Refusal) → KeepsState a b told → IsUntouched (state_of a) (state_of b) leaf
 untouched_by a b leaf told kept live = record {
   live = subst (λ (s : State). IsLive s.homes s.covers leaf) (sym kept.state) live;
   names = ap (λ (s : State). names_of s.unsaved s.objects leaf) kept.state;
 }
 
-pub untouched_on : (a b c : Core) (leaf : Leaf) → IsUntouched a.state b.state leaf → IsUntouched b.state c.state leaf → IsUntouched a.state c.state leaf
+pub untouched_on : (a b c : Core) (leaf : Leaf) → IsUntouched (state_of a) (state_of b) leaf → IsUntouched (state_of b) (state_of c) leaf → IsUntouched (state_of a) (state_of c) leaf
 untouched_on a b c leaf p q live =
     let first = p live in
     let second = q first.live in
@@ -49,7 +48,7 @@ untouched_on a b c leaf p q live =
 pub lacked_at : (count : ℕ) (a b : Core) (rank : Rank) → KeepsState a b None → LacksPlacesAt count b rank → LacksPlacesAt count a rank
 lacked_at count a b rank kept lacks =
     let cap = kept.cap in
-    let same = ap (λ (m : UnsavedLeaves). map.len m) (kept.unsaved rank) in
+    let same = ap (λ (m : UnsavedLeaves). map.len m) (kept.unclean rank.0) in
     omega (arith, cap, same, lacks)
 
 pub lacked_before : (count : ℕ) (a b : Core) → KeepsState a b None → LacksPlaces count b → LacksPlaces count a

@@ -149,8 +149,8 @@ module _ (p : Leaf → Bool) where
       go false seen rest = rest
 
 -- the places of fragments that aren't clean are no more than those fragments
-pub unclean_few : (c : CacheMap) (r : ℕ) → AreCaches c → length (unclean_at c r) ≤ finmap.len (unclean_of c r)
-unclean_few c r valid = few_keys (unclean_of c r) (unclean_at c r) (filtered_distinct (λ (leaf : Leaf). unclean_in (here c r leaf)) (order c r) (valid.distinct r))
+pub unclean_few : (c : CacheMap) (r : ℕ) → IsDistinct leaf_is (order c r) → length (unclean_at c r) ≤ finmap.len (unclean_of c r)
+unclean_few c r distinct = few_keys (unclean_of c r) (unclean_at c r) (filtered_distinct (λ (leaf : Leaf). unclean_in (here c r leaf)) (order c r) distinct)
     (each (unclean_at c r) (filtered_pass (λ (leaf : Leaf). unclean_in (here c r leaf)) (order c r)))
   where
     some : (o : Option Cached) → unclean_in o ≡ true → is_some (unsaved_in o) ≡ true
@@ -166,7 +166,7 @@ unclean_few c r valid = few_keys (unclean_of c r) (unclean_at c r) (filtered_dis
     each (x ∷ xs) all = (ap (λ (o : Option Unsaved). is_some o) (get_unclean_of c r x) ∙ some (here c r x) all.0, each xs all.1)
 
 -- where none is kept, no place is that of one
-kept_none : (c : CacheMap) (r : ℕ) → KeepsNone c → kept_at c r ≡ []
+pub kept_none : (c : CacheMap) (r : ℕ) → KeepsNone c → kept_at c r ≡ []
 kept_none c r none = go (order c r) (λ q is. is)
   where
     there : (o : Option Cached) → IsThere o → is_some o ≡ true
@@ -189,5 +189,5 @@ pub full_lacks : (c : CacheMap) (r : ℕ) (stay : Option Leaf) → AreCaches c �
 full_lacks c r stay valid none full =
     let all : c.cap ≤ length (unclean_at c r) + length (kept_at c r) + staying stay = full_counts c r stay valid full in
     let kept : length (kept_at c r) ≡ 0 = ap (λ (xs : List Leaf). length xs) (kept_none c r none) in
-    let few : length (unclean_at c r) ≤ finmap.len (unclean_of c r) = unclean_few c r valid in
+    let few : length (unclean_at c r) ≤ finmap.len (unclean_of c r) = unclean_few c r (valid.distinct r) in
     omega (arith, all, kept, few)

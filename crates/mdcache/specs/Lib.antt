@@ -13,6 +13,7 @@ pub mod PurgeList
 pub mod Ranks
 pub mod Reads
 pub mod Ready
+pub mod Regrouping
 pub mod Regroups
 pub mod Shown
 pub mod Sound

@@ -6,7 +6,7 @@ ghost use Rattle.objstore.specs.Objects.{faults_told};
 ghost use Rattle.cached_frag.specs.Cached.{Cached, shown};
 ghost use Rattle.dentry_cache.specs.Cache.{HasCached, IsThere};
 ghost use Rattle.dentry_cache.specs.CacheCalls.{KeepsNone};
-ghost use Rattle.dentry_cache.specs.CacheMap.{here, leaf_of};
+ghost use Rattle.dentry_cache.specs.CacheMap.{AreCaches, here, leaf_of};
 ghost use Rattle.dentry_cache.specs.Came.{IsThat, NoneEnds};
 ghost use Rattle.mdcache.specs.CacheReads.{LacksPlacesIn};
 ghost use Rattle.mdcache.specs.Core.{MayFetch, ReadsCore};
@@ -31,6 +31,7 @@ impl<S: Store + Drop> MdCache<S> {
         ensures none { KeepsNone self.new.caches }
         ensures refused { IfErr result (MayNotFind (LacksPlacesIn 1 self.old.caches at.now.rank.0) self.old.faults self.new.faults) }
         ensures counted { self.new.faults ≡ self.old.faults + faults_told (result_err result) }
+        ensures valid { AreCaches self.old.caches }
     {
         self.caches.fetch(alloc, &mut self.store, *at, None)
     }

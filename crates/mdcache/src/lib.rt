@@ -28,10 +28,19 @@ mod applying;
 mod changes;
 mod going;
 mod holders;
+mod moving;
 mod prepared;
 mod preparing;
 mod readies;
 mod readying;
+
+// a directory's leaves are split and merged
+mod joining;
+mod merge_plan;
+mod merging;
+mod regrouping;
+mod split_plan;
+mod splitting;
 
 // commits, evictions, and the store's objects
 mod beginning;
@@ -42,8 +51,12 @@ mod purging;
 mod tree_objects;
 mod trees;
 
+// the laws of what changes, splits and merges are defined to do
+mod laws;
+
 pub use going::{Going, GoingLeaf};
 pub use holders::Holders;
+pub use laws::{changes_are_right, merges_are_right, splits_are_right};
 pub use mdcache::MdCache;
 pub use page::Page;
 pub use prepared::{MovingEntry, NewDirectory};

@@ -26,7 +26,7 @@ pub record AreHeld (tree : TreeState) (caches : Caches) (roots : Roots) : Type 0
 
 -- the roots are those of the tree, and each rank's places are of leaves that it holds
 abbrev pub IsOwned : Core → Roots → Type 0
-IsOwned core roots = AreRoots core.state roots × AreHeld core.state core.ranks roots
+IsOwned core roots = AreRoots (state_of core) roots × AreHeld (state_of core) core.caches roots
 
 -- the leaf of a change's dentry, of a rename that of the source; and that of the dentry where a rename goes
 abbrev pub first_named : Change → Leaf
@@ -57,8 +57,8 @@ IsMergedHere covers dir frag leaf = Contains (each (in_directory dir.0) (leaves_
 
 -- so many places lack at the rank that holds a leaf
 abbrev pub LacksPlacesFor : ℕ → Core → Roots → Leaf → Type 0
-LacksPlacesFor count core roots leaf = (rank : Rank) × Rules core.state roots leaf rank × LacksPlacesAt count core rank
+LacksPlacesFor count core roots leaf = (rank : Rank) × Rules (state_of core) roots leaf rank × LacksPlacesAt count core rank
 
 -- so many places lack at a rank that holds a leaf of a directory properly inside a fragment
 abbrev pub LacksPlacesInside : ℕ → Core → Roots → Ino → Fragment → Type 0
-LacksPlacesInside count core roots dir frag = (leaf : Leaf) × IsLive core.state.homes core.state.covers leaf × (is_inside dir.0 frag leaf ≡ true) × LacksPlacesFor count core roots leaf
+LacksPlacesInside count core roots dir frag = (leaf : Leaf) × IsLive core.homes core.covers leaf × (is_inside dir.0 frag leaf ≡ true) × LacksPlacesFor count core roots leaf

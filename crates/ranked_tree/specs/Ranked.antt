@@ -26,13 +26,13 @@ pub record KeepsRanked (old new : Ranked) (told : Option Refusal) : Type 0 where
 -- the tree is ready for a change in the caches of the ranks that hold its leaves
 pub record IsReadyHeld (core : Core) (roots : Roots) (change : Change) : Type 0 where
   pub at : Holders
-  pub holders : AreHolders core.state roots at change
+  pub holders : AreHolders (state_of core) roots at change
   pub ready : IsReadyIn core at change
 
 -- a change can be made with no growth: the tree is ready for it, and there is room for the roots that it makes
 pub record IsReady (ranked : Ranked) (change : Change) : Type 0 where
   pub tree : IsReadyHeld ranked.tree ranked.subtrees.roots change
-  pub roots : HasRoomFor change ranked.tree.state ranked.subtrees.roots ranked.subtrees.room
+  pub roots : HasRoomFor change (state_of ranked.tree) ranked.subtrees.roots ranked.subtrees.room
 
 -- the one subtree root of a new tree: the root directory's leaf is rank 0's
 abbrev pub new_roots : Roots

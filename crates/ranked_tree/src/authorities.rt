@@ -13,21 +13,21 @@ use subtree_map::Subtrees;
 impl<S: Store + Drop> RankedTree<S> {
     /// The authority of a leaf; none exactly where there is no such leaf. Takes no memory.
     pub fn authority(&self, dir: Ino, frag: Frag) -> Option<Rank>
-        ensures { MatchOption result (IsLive self.now.tree.state.homes self.now.tree.state.covers (dir, frag) → ⊥) (λ rank. IsLive self.now.tree.state.homes self.now.tree.state.covers (dir, frag) × Rules self.now.tree.state self.now.subtrees.roots (dir, frag) rank) }
+        ensures { MatchOption result (IsLive self.now.tree.homes self.now.tree.covers (dir, frag) → ⊥) (λ rank. IsLive self.now.tree.homes self.now.tree.covers (dir, frag) × Rules (state_of self.now.tree) self.now.subtrees.roots (dir, frag) rank) }
     {
         authority_of(&self.tree, &self.roots, dir, frag)
     }
 
     /// Whether a rank is the authority of a leaf. Takes no memory.
     pub fn is_authority(&self, rank: Rank, dir: Ino, frag: Frag) -> bool
-        ensures { IsTrue result ↔ Rules self.now.tree.state self.now.subtrees.roots (dir, frag) rank }
+        ensures { IsTrue result ↔ Rules (state_of self.now.tree) self.now.subtrees.roots (dir, frag) rank }
     {
         is_authority(&self.tree, &self.roots, rank, dir, frag)
     }
 
     /// Whether each leaf of a directory that lies properly inside a fragment has this rank as its authority. Takes no memory.
     pub fn is_all_of(&self, dir: Ino, frag: Frag, rank: Rank) -> bool
-        ensures { IsTrue result ↔ AllHave self.now.tree.state.homes self.now.tree.state.covers self.now.subtrees.roots dir frag rank }
+        ensures { IsTrue result ↔ AllHave self.now.tree.homes self.now.tree.covers self.now.subtrees.roots dir frag rank }
     {
         is_all_of(&self.tree, &self.roots, dir, frag, rank)
     }
@@ -40,8 +40,8 @@ fn authority_of<S: Store + Drop>(
     dir: Ino,
     frag: Frag,
 ) -> Option<Rank>
-    requires { AreRoots tree.now.state roots.now.roots }
-    ensures { MatchOption result (IsLive tree.now.state.homes tree.now.state.covers (dir, frag) → ⊥) (λ rank. IsLive tree.now.state.homes tree.now.state.covers (dir, frag) × Rules tree.now.state roots.now.roots (dir, frag) rank) }
+    requires { AreRoots (state_of tree.now) roots.now.roots }
+    ensures { MatchOption result (IsLive tree.now.homes tree.now.covers (dir, frag) → ⊥) (λ rank. IsLive tree.now.homes tree.now.covers (dir, frag) × Rules (state_of tree.now) roots.now.roots (dir, frag) rank) }
 {
     if !tree.has_leaf(dir, frag) {
         return None;
@@ -57,7 +57,7 @@ fn is_authority<S: Store + Drop>(
     dir: Ino,
     frag: Frag,
 ) -> bool
-    ensures { IsTrue result ↔ Rules tree.now.state roots.now.roots (dir, frag) rank }
+    ensures { IsTrue result ↔ Rules (state_of tree.now) roots.now.roots (dir, frag) rank }
 {
     roots.find_authority(tree.dirs(), dir, frag) == Some(rank)
 }
@@ -70,8 +70,8 @@ fn is_all_of<S: Store + Drop>(
     frag: Frag,
     rank: Rank,
 ) -> bool
-    requires valid { AreRoots tree.now.state roots.now.roots }
-    ensures { IsTrue result ↔ AllHave tree.now.state.homes tree.now.state.covers roots.now.roots dir frag rank }
+    requires valid { AreRoots (state_of tree.now) roots.now.roots }
+    ensures { IsTrue result ↔ AllHave tree.now.homes tree.now.covers roots.now.roots dir frag rank }
 {
     all_have(tree.dirs(), roots, dir, frag, rank)
 }

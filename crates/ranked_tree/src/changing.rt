@@ -30,15 +30,15 @@ impl<S: Store + Drop> RankedTree<S> {
     /// memory.
     pub fn apply(&mut self, change: Change)
         requires ready { IsReady self.old change }
-        requires may { MayChange (shown_tree self.old.tree.state) self.old.tree.state.covers change }
-        ensures made { Makes change self.old.tree.state self.new.tree.state }
-        ensures right { IsRight change self.old.tree.state self.new.tree.state }
-        ensures count { length self.new.tree.ranks ≡ length self.old.tree.ranks }
-        ensures cap { self.new.tree.cache.cap ≡ self.old.tree.cache.cap }
+        requires may { MayChange (shown_tree (state_of self.old.tree)) self.old.tree.covers change }
+        ensures made { Makes change (state_of self.old.tree) (state_of self.new.tree) }
+        ensures right { IsRight change (state_of self.old.tree) (state_of self.new.tree) }
+        ensures count { length self.new.tree.caches.used ≡ length self.old.tree.caches.used }
+        ensures cap { self.new.tree.caches.cap ≡ self.old.tree.caches.cap }
         ensures faults { self.new.tree.faults ≡ self.old.tree.faults }
-        ensures roots { FollowChange change self.old.tree.state self.old.subtrees.roots self.new.subtrees.roots }
+        ensures roots { FollowChange change (state_of self.old.tree) self.old.subtrees.roots self.new.subtrees.roots }
         ensures promises { LoseDirectory self.old.subtrees.promises self.new.subtrees.promises (gone_with change) }
-        ensures kept { KeepsRoots self.old.tree.state self.new.tree.state self.old.subtrees.roots self.new.subtrees.roots }
+        ensures kept { KeepsRoots (state_of self.old.tree) (state_of self.new.tree) self.old.subtrees.roots self.new.subtrees.roots }
     {
         change_tree(&mut self.tree, &mut self.roots, change);
     }
@@ -52,8 +52,8 @@ pub(crate) fn reserve_roots<S: Store + Drop>(
     change: &Change,
 ) -> Result<(), Refusal>
     requires ready { IsReadyHeld tree.now roots.old.roots change.now }
-    requires may { MayChange (shown_tree tree.now.state) tree.now.state.covers change.now }
-    ensures room { OnOk result (HasRoomFor change.now tree.now.state roots.new.roots roots.new.room) }
+    requires may { MayChange (shown_tree (state_of tree.now)) tree.now.covers change.now }
+    ensures room { OnOk result (HasRoomFor change.now (state_of tree.now) roots.new.roots roots.new.room) }
     ensures same { roots.new.roots ≡ roots.old.roots }
     ensures promises { roots.new.promises ≡ roots.old.promises }
     ensures refused { IfErr result (λ reason. reason ≡ NoMemory) }
@@ -70,20 +70,20 @@ pub(crate) fn reserve_roots<S: Store + Drop>(
 // left. Takes no memory.
 fn change_tree<S: Store + Drop>(tree: &mut MdCache<S>, roots: &mut Subtrees, change: Change)
     requires ready { IsReadyHeld tree.old roots.old.roots change }
-    requires may { MayChange (shown_tree tree.old.state) tree.old.state.covers change }
-    requires room { HasRoomFor change tree.old.state roots.old.roots roots.old.room }
+    requires may { MayChange (shown_tree (state_of tree.old)) tree.old.covers change }
+    requires room { HasRoomFor change (state_of tree.old) roots.old.roots roots.old.room }
     requires owned { IsOwned tree.old roots.old.roots }
-    ensures made { Makes change tree.old.state tree.new.state }
-    ensures right { IsRight change tree.old.state tree.new.state }
-    ensures count { length tree.new.ranks ≡ length tree.old.ranks }
-    ensures cap { tree.new.cache.cap ≡ tree.old.cache.cap }
+    ensures made { Makes change (state_of tree.old) (state_of tree.new) }
+    ensures right { IsRight change (state_of tree.old) (state_of tree.new) }
+    ensures count { length tree.new.caches.used ≡ length tree.old.caches.used }
+    ensures cap { tree.new.caches.cap ≡ tree.old.caches.cap }
     ensures faults { tree.new.faults ≡ tree.old.faults }
-    ensures roots { FollowChange change tree.old.state roots.old.roots roots.new.roots }
+    ensures roots { FollowChange change (state_of tree.old) roots.old.roots roots.new.roots }
     ensures promises { LoseDirectory roots.old.promises roots.new.promises (gone_with change) }
-    ensures authority { KeepsAuthorities tree.old.state tree.new.state roots.old.roots roots.new.roots }
+    ensures authority { KeepsAuthorities (state_of tree.old) (state_of tree.new) roots.old.roots roots.new.roots }
     ensures ranks { NoNewRank roots.old.roots roots.new.roots }
-    ensures valid { AreRoots tree.new.state roots.new.roots }
-    ensures held { AreHeld tree.new.state tree.new.ranks roots.new.roots }
+    ensures valid { AreRoots (state_of tree.new) roots.new.roots }
+    ensures held { AreHeld (state_of tree.new) tree.new.caches roots.new.roots }
 {
     // The contract of `store` is what says here that no leaf has places at two ranks.
     let _ = tree.store();
@@ -97,11 +97,11 @@ fn change_tree<S: Store + Drop>(tree: &mut MdCache<S>, roots: &mut Subtrees, cha
 // Before a change makes a directory move, its roots are settled.
 fn settle<S: Store + Drop>(tree: &MdCache<S>, roots: &mut Subtrees, change: &Change)
     requires ready { IsReadyHeld tree.now roots.old.roots change.now }
-    requires may { MayChange (shown_tree tree.now.state) tree.now.state.covers change.now }
-    requires room { HasRoomFor change.now tree.now.state roots.old.roots roots.old.room }
-    requires valid { AreRoots tree.now.state roots.old.roots }
-    ensures settled { SettleMoving change.now tree.now.state roots.old.roots roots.new.roots }
-    ensures sound { IsSound tree.now.state }
+    requires may { MayChange (shown_tree (state_of tree.now)) tree.now.covers change.now }
+    requires room { HasRoomFor change.now (state_of tree.now) roots.old.roots roots.old.room }
+    requires valid { AreRoots (state_of tree.now) roots.old.roots }
+    ensures settled { SettleMoving change.now (state_of tree.now) roots.old.roots roots.new.roots }
+    ensures sound { IsSound (state_of tree.now) }
     ensures promises { roots.new.promises ≡ roots.old.promises }
 {
     let dirs = tree.dirs();

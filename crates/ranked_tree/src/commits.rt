@@ -22,10 +22,10 @@ use subtree_map::Subtrees;
 impl<S: Store + Drop> RankedTree<S> {
     /// Begins a commit of a leaf, as `MdCache::begin` does and refuses.
     pub fn begin(&mut self, dir: Ino, frag: Frag) -> Result<Option<Job>, Refusal>
-        ensures begun { Begins self.old.tree.state self.new.tree.state (dir, frag) result }
+        ensures begun { Begins (state_of self.old.tree) (state_of self.new.tree) (dir, frag) result }
         ensures roots { self.new.subtrees ≡ self.old.subtrees }
-        ensures count { length self.new.tree.ranks ≡ length self.old.tree.ranks }
-        ensures cap { self.new.tree.cache.cap ≡ self.old.tree.cache.cap }
+        ensures count { length self.new.tree.caches.used ≡ length self.old.tree.caches.used }
+        ensures cap { self.new.tree.caches.cap ≡ self.old.tree.caches.cap }
         ensures faults { self.new.tree.faults ≡ self.old.tree.faults }
     {
         begin(&mut self.tree, &self.roots, dir, frag)
@@ -33,10 +33,10 @@ impl<S: Store + Drop> RankedTree<S> {
 
     /// Ends a commit, as `MdCache::end` does and refuses.
     pub fn end(&mut self, alloc: Global, encoded: &Encoded) -> Result<(), Refusal>
-        ensures ended { Ends self.old.tree.state self.new.tree.state self.old.tree.faults self.new.tree.faults encoded.now.job result }
+        ensures ended { Ends (state_of self.old.tree) (state_of self.new.tree) self.old.tree.faults self.new.tree.faults encoded.now.job result }
         ensures roots { self.new.subtrees ≡ self.old.subtrees }
-        ensures count { length self.new.tree.ranks ≡ length self.old.tree.ranks }
-        ensures cap { self.new.tree.cache.cap ≡ self.old.tree.cache.cap }
+        ensures count { length self.new.tree.caches.used ≡ length self.old.tree.caches.used }
+        ensures cap { self.new.tree.caches.cap ≡ self.old.tree.caches.cap }
         ensures counted { self.new.tree.faults ≡ self.old.tree.faults + faults_told (result_err result) }
     {
         end(alloc, &mut self.tree, &self.roots, encoded)
@@ -44,11 +44,11 @@ impl<S: Store + Drop> RankedTree<S> {
 
     /// Gives a commit up, as `MdCache::drop_job` does and refuses.
     pub fn drop_job(&mut self, number: u64) -> Result<(), Refusal>
-        ensures dropped { Drops self.old.tree.state self.new.tree.state number result }
-        ensures places { self.new.tree.ranks ≡ self.old.tree.ranks }
+        ensures dropped { Drops (state_of self.old.tree) (state_of self.new.tree) number result }
+        ensures places { self.new.tree.caches ≡ self.old.tree.caches }
         ensures roots { self.new.subtrees ≡ self.old.subtrees }
-        ensures count { length self.new.tree.ranks ≡ length self.old.tree.ranks }
-        ensures cap { self.new.tree.cache.cap ≡ self.old.tree.cache.cap }
+        ensures count { length self.new.tree.caches.used ≡ length self.old.tree.caches.used }
+        ensures cap { self.new.tree.caches.cap ≡ self.old.tree.caches.cap }
         ensures faults { self.new.tree.faults ≡ self.old.tree.faults }
     {
         self.tree.drop_job(number)
@@ -56,11 +56,11 @@ impl<S: Store + Drop> RankedTree<S> {
 
     /// Writes or removes the object of a directory's tree, as `MdCache::commit_tree` does and refuses.
     pub fn commit_tree(&mut self, alloc: Global, dir: Ino) -> Result<(), Refusal>
-        ensures saved { SavesTree self.old.tree.state self.new.tree.state self.old.tree.faults self.new.tree.faults dir result }
-        ensures places { self.new.tree.ranks ≡ self.old.tree.ranks }
+        ensures saved { SavesTree (state_of self.old.tree) (state_of self.new.tree) self.old.tree.faults self.new.tree.faults dir result }
+        ensures places { self.new.tree.caches ≡ self.old.tree.caches }
         ensures roots { self.new.subtrees ≡ self.old.subtrees }
-        ensures count { length self.new.tree.ranks ≡ length self.old.tree.ranks }
-        ensures cap { self.new.tree.cache.cap ≡ self.old.tree.cache.cap }
+        ensures count { length self.new.tree.caches.used ≡ length self.old.tree.caches.used }
+        ensures cap { self.new.tree.caches.cap ≡ self.old.tree.caches.cap }
         ensures counted { self.new.tree.faults ≡ self.old.tree.faults + faults_told (result_err result) }
     {
         self.tree.commit_tree(alloc, dir)
@@ -68,11 +68,11 @@ impl<S: Store + Drop> RankedTree<S> {
 
     /// Removes the first object of the purge list, as `MdCache::purge` does and refuses.
     pub fn purge(&mut self) -> Result<(), Refusal>
-        ensures purged { Purges self.old.tree.state self.new.tree.state self.old.tree.faults self.new.tree.faults result }
-        ensures places { self.new.tree.ranks ≡ self.old.tree.ranks }
+        ensures purged { Purges (state_of self.old.tree) (state_of self.new.tree) self.old.tree.faults self.new.tree.faults result }
+        ensures places { self.new.tree.caches ≡ self.old.tree.caches }
         ensures roots { self.new.subtrees ≡ self.old.subtrees }
-        ensures count { length self.new.tree.ranks ≡ length self.old.tree.ranks }
-        ensures cap { self.new.tree.cache.cap ≡ self.old.tree.cache.cap }
+        ensures count { length self.new.tree.caches.used ≡ length self.old.tree.caches.used }
+        ensures cap { self.new.tree.caches.cap ≡ self.old.tree.caches.cap }
         ensures counted { self.new.tree.faults ≡ self.old.tree.faults + faults_told (result_err result) }
     {
         self.tree.purge()
@@ -80,14 +80,14 @@ impl<S: Store + Drop> RankedTree<S> {
 
     /// Drops the least recently used of the clean fragments of a rank, as `MdCache::evict` does and refuses.
     pub fn evict(&mut self, rank: Rank) -> Result<(), Refusal>
-        requires there { rank.0 < length self.old.tree.ranks }
-        ensures evicted { OnOk result (Evicts None (cache_of self.old.tree.ranks rank) (cache_of self.new.tree.ranks rank)) }
-        ensures others { self.new.tree.ranks ≡ with_cache self.old.tree.ranks rank (cache_of self.new.tree.ranks rank) }
+        requires there { rank.0 < length self.old.tree.caches.used }
+        ensures evicted { OnOk result (Evicts None (cache_of self.old.tree.caches rank) (cache_of self.new.tree.caches rank)) }
+        ensures others { self.new.tree.caches ≡ with_cache self.old.tree.caches rank (cache_of self.new.tree.caches rank) }
         ensures kept { KeepsState self.old.tree self.new.tree (result_err result) }
         ensures roots { self.new.subtrees ≡ self.old.subtrees }
         ensures faults { self.new.tree.faults ≡ self.old.tree.faults }
         ensures refused { IfErr result (λ reason. reason ≡ NothingToEvict) }
-        ensures none { OnErr result (NoneGoes None (cache_of self.old.tree.ranks rank).entries) }
+        ensures none { OnErr result (NoneGoes None (cache_of self.old.tree.caches rank).entries) }
         ensures left { OnErr result (self.new.tree ≡ self.old.tree) }
     {
         self.tree.evict(rank)
@@ -102,9 +102,9 @@ fn begin<S: Store + Drop>(
     frag: Frag,
 ) -> Result<Option<Job>, Refusal>
     requires owned { IsOwned tree.old roots.now.roots }
-    ensures begun { Begins tree.old.state tree.new.state (dir, frag) result }
-    ensures count { length tree.new.ranks ≡ length tree.old.ranks }
-    ensures cap { tree.new.cache.cap ≡ tree.old.cache.cap }
+    ensures begun { Begins (state_of tree.old) (state_of tree.new) (dir, frag) result }
+    ensures count { length tree.new.caches.used ≡ length tree.old.caches.used }
+    ensures cap { tree.new.caches.cap ≡ tree.old.caches.cap }
     ensures faults { tree.new.faults ≡ tree.old.faults }
     ensures owned { IsOwned tree.new roots.now.roots }
 {
@@ -123,9 +123,9 @@ fn end<S: Store + Drop>(
     encoded: &Encoded,
 ) -> Result<(), Refusal>
     requires owned { IsOwned tree.old roots.now.roots }
-    ensures ended { Ends tree.old.state tree.new.state tree.old.faults tree.new.faults encoded.now.job result }
-    ensures count { length tree.new.ranks ≡ length tree.old.ranks }
-    ensures cap { tree.new.cache.cap ≡ tree.old.cache.cap }
+    ensures ended { Ends (state_of tree.old) (state_of tree.new) tree.old.faults tree.new.faults encoded.now.job result }
+    ensures count { length tree.new.caches.used ≡ length tree.old.caches.used }
+    ensures cap { tree.new.caches.cap ≡ tree.old.caches.cap }
     ensures counted { tree.new.faults ≡ tree.old.faults + faults_told (result_err result) }
     ensures owned { IsOwned tree.new roots.now.roots }
 {

@@ -30,9 +30,9 @@ pub(crate) fn is_dir_empty<S: Store + Drop>(
     roots: &Subtrees,
     dir: Ino,
 ) -> Result<bool, Refusal>
-    requires known { is_directory (shown_tree tree.old.state) dir.0 ≡ true }
+    requires known { is_directory (shown_tree (state_of tree.old)) dir.0 ≡ true }
     requires owned { IsOwned tree.old roots.now.roots }
-    ensures found { IfOk result (λ empty. empty ≡ not (has_entries (shown_tree tree.old.state) dir.0)) }
+    ensures found { IfOk result (λ empty. empty ≡ not (has_entries (shown_tree (state_of tree.old)) dir.0)) }
     ensures kept { KeepsState tree.old tree.new (result_err result) }
     ensures owned { IsOwned tree.new roots.now.roots }
     ensures refused { IfErr result (MayNotFind (LacksPlaces 1 tree.old) tree.old.faults tree.new.faults) }
@@ -51,9 +51,9 @@ fn are_empty<S: Store + Drop>(
     dir: Ino,
     leaves: &FragTree,
 ) -> Result<bool, Refusal>
-    requires live { (f : Fragment) → HasLeaf leaves.now f → IsLive tree.old.state.homes tree.old.state.covers (dir, f) }
+    requires live { (f : Fragment) → HasLeaf leaves.now f → IsLive tree.old.homes tree.old.covers (dir, f) }
     requires owned { IsOwned tree.old roots.now.roots }
-    ensures found { IfOk result (λ empty. empty ≡ list_all (λ f. has_none (names_of tree.old.state.unsaved tree.old.state.objects (dir, f))) leaves.now) }
+    ensures found { IfOk result (λ empty. empty ≡ list_all (λ f. has_none (names_of (unclean tree.old.caches) tree.old.objects (dir, f))) leaves.now) }
     ensures kept { KeepsState tree.old tree.new (result_err result) }
     ensures owned { IsOwned tree.new roots.now.roots }
     ensures refused { IfErr result (MayNotFind (LacksPlaces 1 tree.old) tree.old.faults tree.new.faults) }
@@ -76,9 +76,9 @@ fn is_leaf_empty<S: Store + Drop>(
     dir: Ino,
     frag: Frag,
 ) -> Result<bool, Refusal>
-    requires live { IsLive tree.old.state.homes tree.old.state.covers (dir, frag) }
+    requires live { IsLive tree.old.homes tree.old.covers (dir, frag) }
     requires owned { IsOwned tree.old roots.now.roots }
-    ensures found { IfOk result (λ empty. empty ≡ has_none (names_of tree.old.state.unsaved tree.old.state.objects (dir, frag))) }
+    ensures found { IfOk result (λ empty. empty ≡ has_none (names_of (unclean tree.old.caches) tree.old.objects (dir, frag))) }
     ensures kept { KeepsState tree.old tree.new (result_err result) }
     ensures owned { IsOwned tree.new roots.now.roots }
     ensures refused { IfErr result (MayNotFind (LacksPlacesFor 1 tree.old roots.now.roots (dir, frag)) tree.old.faults tree.new.faults) }

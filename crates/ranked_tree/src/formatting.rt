@@ -26,9 +26,9 @@ impl<S: Store + Drop> RankedTree<S> {
         requires few { 512 ≤ places }
         requires many { places ≤ 65536 }
         ensures empty { OnOk result (S.objects store ≡ map.empty) }
-        ensures state { IfOk result (λ t. t.tree.state ≡ new_state) }
+        ensures state { IfOk result (λ t. (state_of t.tree) ≡ new_state) }
         ensures roots { IfOk result (λ t. t.subtrees.roots ≡ new_roots) }
-        ensures ranks { IfOk result (λ t. t.tree.ranks ≡ new_caches ranks places) }
+        ensures ranks { IfOk result (λ t. t.tree.caches ≡ new_caches ranks places) }
         ensures cache { IfOk result (λ t. t.tree.cache ≡ all_of (new_caches ranks places)) }
         ensures refused { IfErr result (λ back. MayNotFormat (S.objects store) (S.faults store) (S.faults back.1) back.0) }
         ensures left { IfErr result (λ back. S.objects back.1 ≡ S.objects store) }

@@ -40,9 +40,9 @@ impl<S: Store + Drop> Frags for RankedTree<S> {
     ghost use Rattle.mdcache.specs.Shown.{shown_tree};
     ghost use Rattle.ranked_tree.specs.Ranked.{IsReady as IsRankedReady, KeepsRanked};
 
-    ghost content = { λ t. shown_tree t.tree.state };
+    ghost content = { λ t. shown_tree (state_of t.tree) };
 
-    ghost covers = { λ t. t.tree.state.covers };
+    ghost covers = { λ t. t.tree.covers };
 
     ghost IsNumber = { λ n. IsRankNumber n };
 
@@ -50,7 +50,7 @@ impl<S: Store + Drop> Frags for RankedTree<S> {
 
     ghost Follows = { λ a b told. KeepsRanked a b told };
 
-    ghost Unchanged = { λ a b leaf. IsUntouched a.tree.state b.tree.state leaf };
+    ghost Unchanged = { λ a b leaf. IsUntouched a.(state_of tree) b.(state_of tree) leaf };
 
     ghost MayRefuse = { λ a b op reason. MayRefuseIn a.tree b.tree op reason };
 
@@ -125,10 +125,10 @@ fn look<S: Store + Drop>(
     dentry: &Dentry,
     leaf: Frag,
 ) -> Result<Option<Inode>, Refusal>
-    requires known { is_directory (shown_tree tree.old.state) dentry.now.dir.0 ≡ true }
-    requires leaf { IsPick (leaves_of tree.old.state.covers dentry.now.dir.0) (hash_of dentry.now.name) leaf }
+    requires known { is_directory (shown_tree (state_of tree.old)) dentry.now.dir.0 ≡ true }
+    requires leaf { IsPick (leaves_of tree.old.covers dentry.now.dir.0) (hash_of dentry.now.name) leaf }
     requires owned { IsOwned tree.old roots.now.roots }
-    ensures found { IfOk result (λ found. found ≡ map.get (shown_tree tree.old.state) dentry.now) }
+    ensures found { IfOk result (λ found. found ≡ map.get (shown_tree (state_of tree.old)) dentry.now) }
     ensures kept { KeepsState tree.old tree.new (result_err result) }
     ensures owned { IsOwned tree.new roots.now.roots }
     ensures refused { IfErr result (MayNotFind (LacksPlacesFor 1 tree.old roots.now.roots (dentry.now.dir, leaf)) tree.old.faults tree.new.faults) }
@@ -146,13 +146,13 @@ fn prepare<S: Store + Drop>(
     roots: &Subtrees,
     change: &Change,
 ) -> Result<(), Refusal>
-    requires may { MayChange (shown_tree tree.old.state) tree.old.state.covers change.now }
+    requires may { MayChange (shown_tree (state_of tree.old)) tree.old.covers change.now }
     requires numbered { IsNumbered IsRankNumber change.now }
     requires owned { IsOwned tree.old roots.now.roots }
     ensures ready { OnOk result (IsReadyHeld tree.new roots.now.roots change.now) }
     ensures kept { KeepsState tree.old tree.new (result_err result) }
     ensures owned { IsOwned tree.new roots.now.roots }
-    ensures refused { IfErr result (MayNotBeReady (LacksToMake change.now tree.old.state) (LacksPlaces 4 tree.old) tree.old.faults tree.new.faults) }
+    ensures refused { IfErr result (MayNotBeReady (LacksToMake change.now (state_of tree.old)) (LacksPlaces 4 tree.old) tree.old.faults tree.new.faults) }
 {
     // The contract of `dirs` is what says here that the state is sound.
     let _ = tree.dirs();

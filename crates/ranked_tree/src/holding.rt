@@ -20,10 +20,10 @@ pub(crate) fn holder_of<S: Store + Drop>(
     dir: Ino,
     frag: Frag,
 ) -> Rank
-    requires live { IsLive tree.now.state.homes tree.now.state.covers (dir, frag) }
+    requires live { IsLive tree.now.homes tree.now.covers (dir, frag) }
     requires owned { IsOwned tree.now roots.now.roots }
-    ensures rules { Rules tree.now.state roots.now.roots (dir, frag) result }
-    ensures holds { MayHold tree.now.ranks result (dir, frag) }
+    ensures rules { Rules (state_of tree.now) roots.now.roots (dir, frag) result }
+    ensures holds { MayHold tree.now.caches result (dir, frag) }
 {
     roots.authority(tree.dirs(), dir, frag)
 }
@@ -34,10 +34,10 @@ pub(crate) fn holders_of<S: Store + Drop>(
     roots: &Subtrees,
     change: &Change,
 ) -> Holders
-    requires may { MayChange (shown_tree tree.now.state) tree.now.state.covers change.now }
+    requires may { MayChange (shown_tree (state_of tree.now)) tree.now.covers change.now }
     requires owned { IsOwned tree.now roots.now.roots }
-    ensures holders { AreHolders tree.now.state roots.now.roots result change.now }
-    ensures holds { MayHoldEach tree.now.ranks result change.now }
+    ensures holders { AreHolders (state_of tree.now) roots.now.roots result change.now }
+    ensures holds { MayHoldEach tree.now.caches result change.now }
 {
     // The contract of `dirs` is what says here that the state is sound.
     let _ = tree.dirs();

@@ -39,10 +39,10 @@ pub(crate) fn list_dir<S: Store + Drop>(
     after: Option<&Name>,
     max: PageSize,
 ) -> Result<(Listing, bool), Refusal>
-    requires known { is_directory (shown_tree tree.old.state) dir.0 ≡ true }
+    requires known { is_directory (shown_tree (state_of tree.old)) dir.0 ≡ true }
     requires owned { IsOwned tree.old roots.now.roots }
-    ensures listed { IfOk result (λ page. page.0 ≡ take max (names_after (shown_tree tree.old.state) dir.0 (option_copied after.entry))) }
-    ensures more { IfOk result (λ page. page.1 ≡ nat_lt max (length (names_after (shown_tree tree.old.state) dir.0 (option_copied after.entry)))) }
+    ensures listed { IfOk result (λ page. page.0 ≡ take max (names_after (shown_tree (state_of tree.old)) dir.0 (option_copied after.entry))) }
+    ensures more { IfOk result (λ page. page.1 ≡ nat_lt max (length (names_after (shown_tree (state_of tree.old)) dir.0 (option_copied after.entry)))) }
     ensures kept { KeepsState tree.old tree.new (result_err result) }
     ensures owned { IsOwned tree.new roots.now.roots }
     ensures refused { IfErr result (MayNotFind (LacksPlaces 1 tree.old) tree.old.faults tree.new.faults) }
@@ -63,10 +63,10 @@ fn list_leaves<S: Store + Drop>(
     after: Option<&Name>,
     max: PageSize,
 ) -> Result<(Listing, bool), Refusal>
-    requires live { (f : Fragment) → HasLeaf leaves.now f → IsLive tree.old.state.homes tree.old.state.covers (dir, f) }
+    requires live { (f : Fragment) → HasLeaf leaves.now f → IsLive tree.old.homes tree.old.covers (dir, f) }
     requires owned { IsOwned tree.old roots.now.roots }
-    ensures listed { IfOk result (λ page. page.0 ≡ take max (gathered (λ (f : Fragment). names_of tree.old.state.unsaved tree.old.state.objects (dir, f)) (option_copied after.entry) [] leaves.now)) }
-    ensures more { IfOk result (λ page. page.1 ≡ nat_lt max (length (gathered (λ (f : Fragment). names_of tree.old.state.unsaved tree.old.state.objects (dir, f)) (option_copied after.entry) [] leaves.now))) }
+    ensures listed { IfOk result (λ page. page.0 ≡ take max (gathered (λ (f : Fragment). names_of (unclean tree.old.caches) tree.old.objects (dir, f)) (option_copied after.entry) [] leaves.now)) }
+    ensures more { IfOk result (λ page. page.1 ≡ nat_lt max (length (gathered (λ (f : Fragment). names_of (unclean tree.old.caches) tree.old.objects (dir, f)) (option_copied after.entry) [] leaves.now))) }
     ensures kept { KeepsState tree.old tree.new (result_err result) }
     ensures owned { IsOwned tree.new roots.now.roots }
     ensures refused { IfErr result (MayNotFind (LacksPlaces 1 tree.old) tree.old.faults tree.new.faults) }
@@ -88,9 +88,9 @@ fn gather_leaves<S: Store + Drop>(
     after: Option<&Name>,
     page: &mut Page,
 ) -> Result<(), Refusal>
-    requires live { (f : Fragment) → HasLeaf leaves.now f → IsLive tree.old.state.homes tree.old.state.covers (dir, f) }
+    requires live { (f : Fragment) → HasLeaf leaves.now f → IsLive tree.old.homes tree.old.covers (dir, f) }
     requires owned { IsOwned tree.old roots.now.roots }
-    ensures page { (whole : List Row) → IsPageOf whole page.old → OnOk result (IsPageOf (gathered (λ (f : Fragment). names_of tree.old.state.unsaved tree.old.state.objects (dir, f)) (option_copied after.entry) whole leaves.now) page.new) }
+    ensures page { (whole : List Row) → IsPageOf whole page.old → OnOk result (IsPageOf (gathered (λ (f : Fragment). names_of (unclean tree.old.caches) tree.old.objects (dir, f)) (option_copied after.entry) whole leaves.now) page.new) }
     ensures most { page.new.most ≡ page.old.most }
     ensures kept { KeepsState tree.old tree.new (result_err result) }
     ensures owned { IsOwned tree.new roots.now.roots }
@@ -115,9 +115,9 @@ fn gather_leaf<S: Store + Drop>(
     after: Option<&Name>,
     page: &mut Page,
 ) -> Result<(), Refusal>
-    requires live { IsLive tree.old.state.homes tree.old.state.covers (dir, frag) }
+    requires live { IsLive tree.old.homes tree.old.covers (dir, frag) }
     requires owned { IsOwned tree.old roots.now.roots }
-    ensures page { (whole : List Row) → IsPageOf whole page.old → OnOk result (IsPageOf (puts key_cmp whole (rows_after (option_copied after.entry) (map.entries (names_of tree.old.state.unsaved tree.old.state.objects (dir, frag))))) page.new) }
+    ensures page { (whole : List Row) → IsPageOf whole page.old → OnOk result (IsPageOf (puts key_cmp whole (rows_after (option_copied after.entry) (map.entries (names_of (unclean tree.old.caches) tree.old.objects (dir, frag))))) page.new) }
     ensures most { page.new.most ≡ page.old.most }
     ensures kept { KeepsState tree.old tree.new (result_err result) }
     ensures owned { IsOwned tree.new roots.now.roots }

@@ -32,7 +32,7 @@ impl<S: Store + Drop> Model for RankedTree<S> {
 
     ghost view = { λ t. record { tree = t.tree; subtrees = t.roots } };
 
-    ghost invariant = { λ t. AreRoots t.tree.state t.roots.roots × AreHeld t.tree.state t.tree.ranks t.roots.roots };
+    ghost invariant = { λ t. AreRoots (state_of t.tree) t.roots.roots × AreHeld (state_of t.tree) t.tree.caches t.roots.roots };
 }
 
 impl<S: Store + Drop> RankedTree<S> {

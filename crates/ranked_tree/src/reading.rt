@@ -23,61 +23,61 @@ impl<S: Store + Drop> RankedTree<S> {
     /// The store. A caller also learns from it that the state is sound, that each cached fragment is a live leaf's, that the
     /// roots are those of the tree, and that a rank caches only leaves that it is the authority of.
     pub fn store(&self) -> &S
-        ensures objects { S.objects result.now ≡ self.now.tree.state.objects }
+        ensures objects { S.objects result.now ≡ self.now.tree.objects }
         ensures faults { S.faults result.now ≡ self.now.tree.faults }
-        ensures kept { IsKept self.now.tree.state self.now.tree.cache }
-        ensures valid { AreRoots self.now.tree.state self.now.subtrees.roots }
-        ensures held { AreHeld self.now.tree.state self.now.tree.ranks self.now.subtrees.roots }
-        ensures ranked { AreRanks self.now.tree.ranks }
-        ensures whole { self.now.tree.cache ≡ all_of self.now.tree.ranks }
-        ensures unsaved { self.now.tree.state.unsaved ≡ unsaved self.now.tree.cache.entries }
+        ensures kept { IsKept (state_of self.now.tree) self.now.tree.cache }
+        ensures valid { AreRoots (state_of self.now.tree) self.now.subtrees.roots }
+        ensures held { AreHeld (state_of self.now.tree) self.now.tree.caches self.now.subtrees.roots }
+        ensures ranked { AreRanks self.now.tree.caches }
+        ensures whole { self.now.tree.cache ≡ all_of self.now.tree.caches }
+        ensures unsaved { (unclean self.now.tree.caches) ≡ unsaved self.now.tree.cache.entries }
     {
         self.tree.store()
     }
 
     /// Which directories there are, and the leaves of each. A caller also learns from it that the state is sound.
     pub fn dirs(&self) -> &Dirs
-        ensures homes { result.now.homes ≡ self.now.tree.state.homes }
-        ensures trees { result.now.trees ≡ self.now.tree.state.covers }
-        ensures sound { IsSound self.now.tree.state }
+        ensures homes { result.now.homes ≡ self.now.tree.homes }
+        ensures trees { result.now.trees ≡ self.now.tree.covers }
+        ensures sound { IsSound (state_of self.now.tree) }
     {
         self.tree.dirs()
     }
 
     /// Whether this is the number of a directory of the tree now.
     pub fn is_dir(&self, dir: Ino) -> bool
-        ensures { result ≡ is_directory (shown_tree self.now.tree.state) dir.0 }
+        ensures { result ≡ is_directory (shown_tree (state_of self.now.tree)) dir.0 }
     {
         self.tree.is_dir(dir)
     }
 
     /// The leaf that a dentry belongs to.
     pub fn frag_of(&self, dentry: &Dentry) -> Frag
-        ensures { IsPick (leaves_of self.now.tree.state.covers dentry.now.dir.0) (hash_of dentry.now.name) result }
+        ensures { IsPick (leaves_of self.now.tree.covers dentry.now.dir.0) (hash_of dentry.now.name) result }
     {
         self.tree.frag_of(dentry)
     }
 
     /// Whether there is such a directory, and it has this leaf.
     pub fn has_leaf(&self, dir: Ino, frag: Frag) -> bool
-        ensures { IsTrue result ↔ IsLive self.now.tree.state.homes self.now.tree.state.covers (dir, frag) }
+        ensures { IsTrue result ↔ IsLive self.now.tree.homes self.now.tree.covers (dir, frag) }
     {
         self.tree.has_leaf(dir, frag)
     }
 
     /// The first leaf of a directory: the one of the least value, which the hash 0 picks.
     pub fn first_leaf(&self, dir: Ino) -> Frag
-        ensures { IsPick (leaves_of self.now.tree.state.covers dir.0) 0 result }
+        ensures { IsPick (leaves_of self.now.tree.covers dir.0) 0 result }
     {
         self.tree.first_leaf(dir)
     }
 
     /// Whether there is such a leaf, and it can be split by so many bits, as `MdCache::check_split` tells and refuses.
     pub fn check_split(&self, dir: Ino, frag: Frag, bits: u8) -> Result<(), Refusal>
-        ensures known { OnOk result (is_known self.now.tree.state.homes dir.0 ≡ true) }
-        ensures can { OnOk result (CanSplit (leaves_of self.now.tree.state.covers dir.0) frag bits) }
-        ensures refused { IfErr result (RefusesLeaves (RefusesSplit (leaves_of self.now.tree.state.covers dir.0) frag bits) self.now.tree.state.homes dir) }
-        ensures sound { IsSound self.now.tree.state }
+        ensures known { OnOk result (is_known self.now.tree.homes dir.0 ≡ true) }
+        ensures can { OnOk result (CanSplit (leaves_of self.now.tree.covers dir.0) frag bits) }
+        ensures refused { IfErr result (RefusesLeaves (RefusesSplit (leaves_of self.now.tree.covers dir.0) frag bits) self.now.tree.homes dir) }
+        ensures sound { IsSound (state_of self.now.tree) }
     {
         self.tree.check_split(dir, frag, bits)
     }
@@ -85,10 +85,10 @@ impl<S: Store + Drop> RankedTree<S> {
     /// Whether there is such a directory, and leaves of it can be merged at a fragment, as `MdCache::check_merge` tells and
     /// refuses.
     pub fn check_merge(&self, dir: Ino, frag: Frag) -> Result<(), Refusal>
-        ensures known { OnOk result (is_known self.now.tree.state.homes dir.0 ≡ true) }
-        ensures can { OnOk result (CanMerge (leaves_of self.now.tree.state.covers dir.0) frag) }
-        ensures refused { IfErr result (RefusesLeaves (RefusesMerge (leaves_of self.now.tree.state.covers dir.0) frag) self.now.tree.state.homes dir) }
-        ensures sound { IsSound self.now.tree.state }
+        ensures known { OnOk result (is_known self.now.tree.homes dir.0 ≡ true) }
+        ensures can { OnOk result (CanMerge (leaves_of self.now.tree.covers dir.0) frag) }
+        ensures refused { IfErr result (RefusesLeaves (RefusesMerge (leaves_of self.now.tree.covers dir.0) frag) self.now.tree.homes dir) }
+        ensures sound { IsSound (state_of self.now.tree) }
     {
         self.tree.check_merge(dir, frag)
     }

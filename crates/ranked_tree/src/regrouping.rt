@@ -32,11 +32,11 @@ impl<S: Store + Drop> RankedTree<S> {
         ensures roots { OnOk result (IsRootSplit self.old.subtrees.roots self.new.subtrees.roots dir.0 frag bits) }
         ensures left { OnErr result (self.new.subtrees.roots ≡ self.old.subtrees.roots) }
         ensures promises { self.new.subtrees.promises ≡ self.old.subtrees.promises }
-        ensures count { length self.new.tree.ranks ≡ length self.old.tree.ranks }
-        ensures cap { self.new.tree.cache.cap ≡ self.old.tree.cache.cap }
+        ensures count { length self.new.tree.caches.used ≡ length self.old.tree.caches.used }
+        ensures cap { self.new.tree.caches.cap ≡ self.old.tree.caches.cap }
         ensures counted { self.new.tree.faults ≡ self.old.tree.faults + faults_told (result_err result) }
-        ensures children { OnOk result (GivesToChildren self.old.tree.state self.new.tree.state self.old.subtrees.roots self.new.subtrees.roots dir frag bits) }
-        ensures kept { KeepsRoots self.old.tree.state self.new.tree.state self.old.subtrees.roots self.new.subtrees.roots }
+        ensures children { OnOk result (GivesToChildren (state_of self.old.tree) (state_of self.new.tree) self.old.subtrees.roots self.new.subtrees.roots dir frag bits) }
+        ensures kept { KeepsRoots (state_of self.old.tree) (state_of self.new.tree) self.old.subtrees.roots self.new.subtrees.roots }
     {
         split_with_roots(alloc, &mut self.tree, &mut self.roots, dir, frag, bits)
     }
@@ -44,16 +44,16 @@ impl<S: Store + Drop> RankedTree<S> {
     /// Merges the leaves of a directory properly inside a fragment, which have one authority, as `MdCache::merge` does and
     /// refuses; where one of them is a root the merged leaf is a root of that rank then. Takes memory for that root first.
     pub fn merge(&mut self, alloc: Global, dir: Ino, frag: Frag) -> Result<(), Refusal>
-        requires one { HaveOneAuthority self.old.subtrees.roots self.old.tree.state.homes self.old.tree.state.covers dir.0 frag }
+        requires one { HaveOneAuthority self.old.subtrees.roots self.old.tree.homes self.old.tree.covers dir.0 frag }
         ensures merged { MergesLeaves (LacksPlacesInside 1 self.old.tree self.old.subtrees.roots dir frag) self.old.tree self.new.tree dir frag result }
         ensures roots { OnOk result (IsRootMerge self.old.subtrees.roots self.new.subtrees.roots dir.0 frag) }
         ensures left { OnErr result (self.new.subtrees.roots ≡ self.old.subtrees.roots) }
         ensures promises { self.new.subtrees.promises ≡ self.old.subtrees.promises }
-        ensures count { length self.new.tree.ranks ≡ length self.old.tree.ranks }
-        ensures cap { self.new.tree.cache.cap ≡ self.old.tree.cache.cap }
+        ensures count { length self.new.tree.caches.used ≡ length self.old.tree.caches.used }
+        ensures cap { self.new.tree.caches.cap ≡ self.old.tree.caches.cap }
         ensures counted { self.new.tree.faults ≡ self.old.tree.faults + faults_told (result_err result) }
-        ensures one { OnOk result (TakesOver self.old.tree.state self.new.tree.state self.old.subtrees.roots self.new.subtrees.roots dir frag) }
-        ensures kept { KeepsRoots self.old.tree.state self.new.tree.state self.old.subtrees.roots self.new.subtrees.roots }
+        ensures one { OnOk result (TakesOver (state_of self.old.tree) (state_of self.new.tree) self.old.subtrees.roots self.new.subtrees.roots dir frag) }
+        ensures kept { KeepsRoots (state_of self.old.tree) (state_of self.new.tree) self.old.subtrees.roots self.new.subtrees.roots }
     {
         merge_with_roots(alloc, &mut self.tree, &mut self.roots, dir, frag)
     }
@@ -74,14 +74,14 @@ fn split_with_roots<S: Store + Drop>(
     ensures roots { OnOk result (IsRootSplit roots.old.roots roots.new.roots dir.0 frag bits) }
     ensures left { OnErr result (roots.new.roots ≡ roots.old.roots) }
     ensures promises { roots.new.promises ≡ roots.old.promises }
-    ensures count { length tree.new.ranks ≡ length tree.old.ranks }
-    ensures cap { tree.new.cache.cap ≡ tree.old.cache.cap }
+    ensures count { length tree.new.caches.used ≡ length tree.old.caches.used }
+    ensures cap { tree.new.caches.cap ≡ tree.old.caches.cap }
     ensures counted { tree.new.faults ≡ tree.old.faults + faults_told (result_err result) }
-    ensures authority { KeepsAuthorities tree.old.state tree.new.state roots.old.roots roots.new.roots }
-    ensures children { OnOk result (GivesToChildren tree.old.state tree.new.state roots.old.roots roots.new.roots dir frag bits) }
+    ensures authority { KeepsAuthorities (state_of tree.old) (state_of tree.new) roots.old.roots roots.new.roots }
+    ensures children { OnOk result (GivesToChildren (state_of tree.old) (state_of tree.new) roots.old.roots roots.new.roots dir frag bits) }
     ensures ranks { NoNewRank roots.old.roots roots.new.roots }
-    ensures valid { AreRoots tree.new.state roots.new.roots }
-    ensures held { AreHeld tree.new.state tree.new.ranks roots.new.roots }
+    ensures valid { AreRoots (state_of tree.new) roots.new.roots }
+    ensures held { AreHeld (state_of tree.new) tree.new.caches roots.new.roots }
 {
     if let Err(refusal) = reserve_split(tree, roots, dir, frag, bits) {
         return Err(refusal);
@@ -103,19 +103,19 @@ fn merge_with_roots<S: Store + Drop>(
     frag: Frag,
 ) -> Result<(), Refusal>
     requires owned { IsOwned tree.old roots.old.roots }
-    requires one { HaveOneAuthority roots.old.roots tree.old.state.homes tree.old.state.covers dir.0 frag }
+    requires one { HaveOneAuthority roots.old.roots tree.old.homes tree.old.covers dir.0 frag }
     ensures merged { MergesLeaves (LacksPlacesInside 1 tree.old roots.old.roots dir frag) tree.old tree.new dir frag result }
     ensures roots { OnOk result (IsRootMerge roots.old.roots roots.new.roots dir.0 frag) }
     ensures left { OnErr result (roots.new.roots ≡ roots.old.roots) }
     ensures promises { roots.new.promises ≡ roots.old.promises }
-    ensures count { length tree.new.ranks ≡ length tree.old.ranks }
-    ensures cap { tree.new.cache.cap ≡ tree.old.cache.cap }
+    ensures count { length tree.new.caches.used ≡ length tree.old.caches.used }
+    ensures cap { tree.new.caches.cap ≡ tree.old.caches.cap }
     ensures counted { tree.new.faults ≡ tree.old.faults + faults_told (result_err result) }
-    ensures authority { KeepsAuthorities tree.old.state tree.new.state roots.old.roots roots.new.roots }
-    ensures one { OnOk result (TakesOver tree.old.state tree.new.state roots.old.roots roots.new.roots dir frag) }
+    ensures authority { KeepsAuthorities (state_of tree.old) (state_of tree.new) roots.old.roots roots.new.roots }
+    ensures one { OnOk result (TakesOver (state_of tree.old) (state_of tree.new) roots.old.roots roots.new.roots dir frag) }
     ensures ranks { NoNewRank roots.old.roots roots.new.roots }
-    ensures valid { AreRoots tree.new.state roots.new.roots }
-    ensures held { AreHeld tree.new.state tree.new.ranks roots.new.roots }
+    ensures valid { AreRoots (state_of tree.new) roots.new.roots }
+    ensures held { AreHeld (state_of tree.new) tree.new.caches roots.new.roots }
 {
     if let Err(refusal) = reserve_merge(tree, roots, dir, frag) {
         return Err(refusal);
@@ -136,13 +136,13 @@ fn split_held<S: Store + Drop>(
     frag: Frag,
     bits: u8,
 ) -> Result<(), Refusal>
-    requires live { IsLive tree.old.state.homes tree.old.state.covers (dir, frag) }
+    requires live { IsLive tree.old.homes tree.old.covers (dir, frag) }
     requires owned { IsOwned tree.old roots.now.roots }
     ensures split { SplitsLeaf (LacksPlacesFor (2 ^ bits + 1) tree.old roots.now.roots (dir, frag)) tree.old tree.new dir frag bits result }
-    ensures count { length tree.new.ranks ≡ length tree.old.ranks }
-    ensures cap { tree.new.cache.cap ≡ tree.old.cache.cap }
+    ensures count { length tree.new.caches.used ≡ length tree.old.caches.used }
+    ensures cap { tree.new.caches.cap ≡ tree.old.caches.cap }
     ensures counted { tree.new.faults ≡ tree.old.faults + faults_told (result_err result) }
-    ensures places { PlacesCome (Rules tree.old.state roots.now.roots (dir, frag)) (IsFamily dir frag bits) tree.old.state tree.old.ranks tree.new.ranks }
+    ensures places { PlacesCome (Rules (state_of tree.old) roots.now.roots (dir, frag)) (IsFamily dir frag bits) (state_of tree.old) tree.old.caches tree.new.caches }
 {
     tree.unready();
     // The contract of `store` is what says here that each place is that of a live leaf, where none is kept.
@@ -159,15 +159,15 @@ fn merge_held<S: Store + Drop>(
     dir: Ino,
     frag: Frag,
 ) -> Result<(), Refusal>
-    requires known { is_known tree.old.state.homes dir.0 ≡ true }
-    requires can { CanMerge (leaves_of tree.old.state.covers dir.0) frag }
-    requires one { HaveOneAuthority roots.now.roots tree.old.state.homes tree.old.state.covers dir.0 frag }
+    requires known { is_known tree.old.homes dir.0 ≡ true }
+    requires can { CanMerge (leaves_of tree.old.covers dir.0) frag }
+    requires one { HaveOneAuthority roots.now.roots tree.old.homes tree.old.covers dir.0 frag }
     requires owned { IsOwned tree.old roots.now.roots }
     ensures merged { MergesLeaves (LacksPlacesInside 1 tree.old roots.now.roots dir frag) tree.old tree.new dir frag result }
-    ensures count { length tree.new.ranks ≡ length tree.old.ranks }
-    ensures cap { tree.new.cache.cap ≡ tree.old.cache.cap }
+    ensures count { length tree.new.caches.used ≡ length tree.old.caches.used }
+    ensures cap { tree.new.caches.cap ≡ tree.old.caches.cap }
     ensures counted { tree.new.faults ≡ tree.old.faults + faults_told (result_err result) }
-    ensures places { PlacesCome (AllHave tree.old.state.homes tree.old.state.covers roots.now.roots dir frag) (IsMergedHere tree.old.state.covers dir frag) tree.old.state tree.old.ranks tree.new.ranks }
+    ensures places { PlacesCome (AllHave tree.old.homes tree.old.covers roots.now.roots dir frag) (IsMergedHere tree.old.covers dir frag) (state_of tree.old) tree.old.caches tree.new.caches }
 {
     tree.unready();
     // The contract of `store` is what says here that each place is that of a live leaf, where none is kept.
@@ -178,14 +178,14 @@ fn merge_held<S: Store + Drop>(
 
 // The rank that holds the leaves of a directory properly inside a fragment, which have one authority.
 fn holder_of_all<S: Store + Drop>(tree: &MdCache<S>, roots: &Subtrees, dir: Ino, frag: Frag) -> Rank
-    requires known { is_known tree.now.state.homes dir.0 ≡ true }
-    requires can { CanMerge (leaves_of tree.now.state.covers dir.0) frag }
-    requires one { HaveOneAuthority roots.now.roots tree.now.state.homes tree.now.state.covers dir.0 frag }
+    requires known { is_known tree.now.homes dir.0 ≡ true }
+    requires can { CanMerge (leaves_of tree.now.covers dir.0) frag }
+    requires one { HaveOneAuthority roots.now.roots tree.now.homes tree.now.covers dir.0 frag }
     requires owned { IsOwned tree.now roots.now.roots }
-    ensures all { AllHave tree.now.state.homes tree.now.state.covers roots.now.roots dir frag result }
-    ensures inside { (leaf : Leaf) × IsLive tree.now.state.homes tree.now.state.covers leaf × (is_inside dir.0 frag leaf ≡ true) }
-    ensures there { result.0 < length tree.now.ranks }
-    ensures holds { (q : Leaf) → Contains (each (in_directory dir.0) (leaves_inside frag (leaves_of tree.now.state.covers dir.0))) q → MayHold tree.now.ranks result q }
+    ensures all { AllHave tree.now.homes tree.now.covers roots.now.roots dir frag result }
+    ensures inside { (leaf : Leaf) × IsLive tree.now.homes tree.now.covers leaf × (is_inside dir.0 frag leaf ≡ true) }
+    ensures there { result.0 < length tree.now.caches.used }
+    ensures holds { (q : Leaf) → Contains (each (in_directory dir.0) (leaves_inside frag (leaves_of tree.now.covers dir.0))) q → MayHold tree.now.caches result q }
 {
     match leaf_inside(tree.dirs(), dir, frag, frag.value()) {
         Some(leaf) => holder_of(tree, roots, dir, leaf),
@@ -201,13 +201,13 @@ fn reserve_split<S: Store + Drop>(
     frag: Frag,
     bits: u8,
 ) -> Result<(), Refusal>
-    ensures live { OnOk result (IsLive tree.now.state.homes tree.now.state.covers (dir, frag)) }
+    ensures live { OnOk result (IsLive tree.now.homes tree.now.covers (dir, frag)) }
     ensures fits { OnOk result (FitsSplit frag bits) }
     ensures room { OnOk result (2 ^ bits ≤ roots.new.room) }
     ensures refused { IfErr result (MayNotSplit (LacksPlacesFor (2 ^ bits + 1) tree.now roots.old.roots (dir, frag)) tree.now tree.now dir frag bits) }
     ensures same { roots.new.roots ≡ roots.old.roots }
     ensures promises { roots.new.promises ≡ roots.old.promises }
-    ensures sound { IsSound tree.now.state }
+    ensures sound { IsSound (state_of tree.now) }
 {
     if let Err(refusal) = tree.check_split(dir, frag, bits) {
         return Err(refusal);
@@ -229,13 +229,13 @@ fn reserve_merge<S: Store + Drop>(
     dir: Ino,
     frag: Frag,
 ) -> Result<(), Refusal>
-    ensures known { OnOk result (is_known tree.now.state.homes dir.0 ≡ true) }
-    ensures can { OnOk result (CanMerge (leaves_of tree.now.state.covers dir.0) frag) }
+    ensures known { OnOk result (is_known tree.now.homes dir.0 ≡ true) }
+    ensures can { OnOk result (CanMerge (leaves_of tree.now.covers dir.0) frag) }
     ensures room { OnOk result (1 ≤ roots.new.room) }
     ensures refused { IfErr result (MayNotMerge (LacksPlacesInside 1 tree.now roots.old.roots dir frag) tree.now tree.now dir frag) }
     ensures same { roots.new.roots ≡ roots.old.roots }
     ensures promises { roots.new.promises ≡ roots.old.promises }
-    ensures sound { IsSound tree.now.state }
+    ensures sound { IsSound (state_of tree.now) }
 {
     if let Err(refusal) = tree.check_merge(dir, frag) {
         return Err(refusal);

@@ -16,8 +16,8 @@ returns-then-is_some-clause-rank c =
     let ranks = ranks_are c.self.inside.caches.items c.self.inside.places c.args.self.now c.self.view_is in
     let there : c.loop-index.index < length c.args.self.now.used = (let below = c.loop-index-test.true in omega (arith, below, counted, ranks)) in
     let seen : is_some (here c.args.self.now c.loop-index.index (c.args.dir, c.args.frag)) ≡ is_some c.get.result =
-        ap (λ (o : Option Cached). is_some o) (sym (c.get.ensures ∙ cached_is c.self.inside.caches.items c.self.inside.places c.loop-index.index c.args.self.now c.self.view_is c.self.invariant there c.index.result.now c.index.ensures (c.args.dir, c.args.frag)))
-        ∙ copied_some c.get.result in
+    ap (λ (o : Option Cached). is_some o) (sym (c.get.ensures ∙ cached_is c.self.inside.caches.items c.self.inside.places c.loop-index.index c.args.self.now c.self.view_is c.self.invariant there c.index.result.now c.index.ensures (c.args.dir, c.args.frag)))
+    ∙ copied_some c.get.result in
     rank_found c.loop-index.index (map.get c.args.self.now.held (c.args.dir, c.args.frag)) (seen ∙ sym c.is_some.ensures ∙ c.if-is_some.true)
 
 pub loop-index-preserved : goal.loop-index-preserved
@@ -26,8 +26,8 @@ loop-index-preserved c =
     let ranks = ranks_are c.self.inside.caches.items c.self.inside.places c.args.self.now c.self.view_is in
     let there : c.loop-index.index < length c.args.self.now.used = (let below = c.loop-index-test.true in omega (arith, below, counted, ranks)) in
     let seen : is_some (here c.args.self.now c.loop-index.index (c.args.dir, c.args.frag)) ≡ is_some c.get.result =
-        ap (λ (o : Option Cached). is_some o) (sym (c.get.ensures ∙ cached_is c.self.inside.caches.items c.self.inside.places c.loop-index.index c.args.self.now c.self.view_is c.self.invariant there c.index.result.now c.index.ensures (c.args.dir, c.args.frag)))
-        ∙ copied_some c.get.result in
+    ap (λ (o : Option Cached). is_some o) (sym (c.get.ensures ∙ cached_is c.self.inside.caches.items c.self.inside.places c.loop-index.index c.args.self.now c.self.view_is c.self.invariant there c.index.result.now c.index.ensures (c.args.dir, c.args.frag)))
+    ∙ copied_some c.get.result in
     looked_on c.args.self.now (c.args.dir, c.args.frag) c.loop-index.index c.loop-index.invariant (seen ∙ sym c.is_some.ensures ∙ c.if-is_some.false)
 
 pub returns-clause-rank : goal.returns-clause-rank

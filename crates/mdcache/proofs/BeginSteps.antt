@@ -1,0 +1,204 @@
+-- What the beginning of a commit leaves, done or not.
+use Rattle.std.proofs.Common.{◌≡◌, ◌⊎◌, inl, inr, Bor, ℕ, ◌+◌, Bool, true, false, cond, List, Option, Some, None, refl, sym, ap, subst, ◌∙◌}
+use Rattle.std.specs.Prelude.{Ok, Err, is_some}
+use Rattle.std.specs.Option.{option_copied, option_map}
+use Rattle.std.specs.FinMap as map
+use Rattle.std.proofs.lemmas.Option.{same_Some}
+use Rattle.sorted_map.proofs.NatKeys.{is_same}
+use Rattle.mds_types.specs.declared.refusals.Refusal.TheVariants.{NoInodes, NoMemory}
+use Rattle.omap.specs.Omap.{Omap}
+use Rattle.commit_jobs.specs.declared.bases.Base.{Base}
+use Rattle.commit_jobs.specs.declared.jobs.Job.{Job}
+use Rattle.commit_jobs.specs.declared.marks.Mark.{Mark}
+use Rattle.commit_jobs.specs.Snap.{IsBelowEnd, IsSnap, counts_of}
+use Rattle.cached_frag.specs.Cached.{Cached, is_clean, shown, snapshot_of}
+use Rattle.dentry_cache.specs.Cache.{HasCached, IsThere, Leaf, Unsaved, unsaved_in}
+use Rattle.dentry_cache.specs.CacheMap.{At, CacheMap, IsFree, IsFreeFor, at, at_rank, has_place, here, leaf_of as leaf_at, unclean, unsaved_at, used_at}
+use Rattle.dentry_cache.specs.Came.{Came, IsThat, NoneEnds}
+use Rattle.dentry_cache.specs.Came.Came.{stays, uses}
+use Rattle.dentry_cache.specs.Loading.{object_of}
+use Rattle.dentry_cache.specs.Ties.{KeepsAt}
+use Rattle.dentry_cache.specs.declared.dirfrag.Dirfrag.{Dirfrag}
+use Rattle.dentry_cache.proofs.CameLaws.{used_unclean}
+use Rattle.dentry_cache.proofs.ReadsLaws.{here_is}
+use Rattle.dentry_cache.proofs.StepLaws.{placed_used}
+use Rattle.dentry_cache.proofs.TieLaws.{tied_show}
+use Rattle.dentry_cache.proofs.UncleanLaws.{get_unclean}
+use Rattle.mds_types.specs.declared.ids.Rank.{Rank}
+use Rattle.mdcache.specs.Commits.{Begins, BeginsWith, IsAtEnd, job_for, leaf_of, with_job}
+use Rattle.mdcache.specs.Core.{AreCached, Core, IsJobOf, IsSoundCore, Rooms, state_of, used_core, with_job_in}
+use Rattle.mdcache.specs.Ranks.{KeepsOnlyAt}
+use Rattle.mdcache.specs.Shown.{shown_at}
+use Rattle.mdcache.specs.Sound.{AreYoung, IsOf, IsSound}
+use Rattle.mdcache.specs.State.{IsLive, State, UnsavedLeaves}
+use Rattle.mdcache.proofs.SoundLaws.{begun_sound}
+
+-- ---- what is told of a fragment
+
+abbrev pub told : Option Unsaved → Option (Base × ℕ)
+told o = option_map (λ (u : Unsaved). (u.base, u.generation)) o
+
+pub unclean_told : (o : Option Cached) (f : Cached) (b : Bool) (base : Base) (generation : ℕ) → o ≡ Some f → b ≡ is_clean f → b ≡ false → base ≡ f.base → generation ≡ f.generation → Some (base, generation) ≡ told (unsaved_in o)
+unclean_told o f b base generation there clean apart is_base is_generation = sym (
+    ap (λ (p : Option Cached). told (unsaved_in p)) there ∙ ap (λ (t : Bool). told (cond t None (Some (record { base = f.base; generation = f.generation; dirty = f.dirty })))) (sym clean ∙ apart)
+    ∙ (λ i. Some (sym is_base i, sym is_generation i)))
+
+pub clean_told : (o : Option Cached) (f : Cached) (b : Bool) → o ≡ Some f → b ≡ is_clean f → b ≡ true → None ≡ told (unsaved_in o)
+clean_told o f b there clean is = sym (ap (λ (p : Option Cached). told (unsaved_in p)) there ∙ ap (λ (t : Bool). told (cond t None (Some (record { base = f.base; generation = f.generation; dirty = f.dirty })))) (sym clean ∙ is))
+
+pub absent_told : (o : Option Cached) → o ≡ None → None ≡ told (unsaved_in o)
+absent_told o there = sym (ap (λ (p : Option Cached). told (unsaved_in p)) there)
+
+-- a fragment of which this was told isn't clean
+pub unsaved_from : (o : Option Unsaved) (base : Base) (generation : ℕ) → Some (base, generation) ≡ told o → (u : Unsaved) × (o ≡ Some u) × (u.base ≡ base) × (u.generation ≡ generation)
+unsaved_from None base generation is = let clash : Some (base, generation) ≡ None = is in cc
+unsaved_from (Some u) base generation is =
+    let same : (base, generation) ≡ (u.base, u.generation) = cc in
+    (u, refl, sym (ap (λ (p : Base × ℕ). p.0) same), sym (ap (λ (p : Base × ℕ). p.1) same))
+
+pub none_told : (o : Option Unsaved) → None ≡ told o → o ≡ None
+none_told None is = refl
+none_told (Some u) is = let clash : None ≡ Some (u.base, u.generation) = is in absurd cc
+
+-- no job stands where none is found
+pub none_found : (o : Option (Bor Job)) (r : Option Job) (b : Bool) → option_copied o ≡ r → b ≡ is_some o → b ≡ false → r ≡ None
+none_found None r b is told apart = sym is
+none_found (Some x) r b is told apart = let clash : true ≡ false = sym told ∙ apart in cc
+
+-- and one stands where one is
+pub some_found : (o : Option (Bor Job)) (r : Option Job) (b : Bool) → option_copied o ≡ r → b ≡ is_some o → b ≡ true → is_some r ≡ true
+some_found o r b is told there = sym (ap (λ (x : Option Job). is_some x) is) ∙ go o ∙ sym told ∙ there
+  where
+    go : (o : Option (Bor Job)) → is_some (option_copied o) ≡ is_some o
+    go None = refl
+    go (Some x) = refl
+
+-- a snapshot has the dirty names that it was taken of
+keeps_itself : (m : Option Mark) → KeepsAt m m
+keeps_itself None = tt
+keeps_itself (Some mark) = λ same. refl
+
+-- what isn't clean of a leaf that is free for a rank is that of its fragment there
+pub unclean_here : (c : CacheMap) (r : ℕ) (leaf : Leaf) → IsFreeFor c r leaf → map.get (unclean c) leaf ≡ unsaved_in (here c r leaf)
+unclean_here c r leaf free = get_unclean c leaf ∙ go (map.get c.held leaf) free
+  where
+    go : (o : Option At) → IsFree r o → unsaved_at o ≡ unsaved_in (at_rank r o)
+    go None is = refl
+    go (Some a) is = ap (λ (b : Bool). unsaved_in (cond b (Some a.frag) None)) (sym (is_same a.rank r is))
+
+-- a leaf that is there is used: a place that is kept stays so
+pub only_used : (kept : Option (Rank × Leaf)) (c : CacheMap) (r : ℕ) (leaf : Leaf) → IsThere (here c r leaf) → KeepsOnlyAt kept c → KeepsOnlyAt kept (used_at c r leaf)
+only_used kept c r leaf there only s q placed = go (placed_used c r leaf s q placed)
+  where
+    go : (has_place c s q ≡ true) ⊎ ((s ≡ r) × (q ≡ leaf)) → IsThere (here c s q) ⊎ ((map.get c.held q ≡ None) × (kept ≡ Some (record { 0 = s }, q)))
+    go (inl was) = only s q was
+    go (inr one) = inl (subst (λ (n : ℕ). IsThere (here c n q)) (sym one.0) (subst (λ (l : Leaf). IsThere (here c r l)) (sym one.1) there))
+
+module _ (c : Core) (sound : IsSoundCore c) (a : Dirfrag) (free : IsFreeFor c.caches a.rank.0 (leaf_at a)) (live : IsLive c.homes c.covers (leaf_at a)) (none : map.get c.jobs (leaf_at a) ≡ None) where
+  abbrev leaf : Leaf
+  leaf = leaf_at a
+
+  abbrev r : ℕ
+  r = a.rank.0
+
+  abbrev s : State
+  s = state_of c
+
+  -- a clean fragment gives nothing
+  pub begins_none : map.get s.unsaved leaf ≡ None → Begins s s leaf (Ok None)
+  begins_none clean = (live, none, subst (λ (o : Option Unsaved). BeginsWith s s leaf o None) (sym clean) (refl, refl))
+
+  module _ (u : Unsaved) (beside : map.get s.unsaved leaf ≡ Some u) where
+    its : (f : Cached) × (here c.caches r leaf ≡ Some f) × (is_clean f ≡ false) × (u ≡ record { base = f.base; generation = f.generation; dirty = f.dirty })
+    its = go (here c.caches r leaf) (sym (unclean_here c.caches r leaf free) ∙ beside)
+      where
+        on : (f : Cached) (b : Bool) → is_clean f ≡ b → cond b None (Some (record { base = f.base; generation = f.generation; dirty = f.dirty })) ≡ Some u → (is_clean f ≡ false) × (u ≡ record { base = f.base; generation = f.generation; dirty = f.dirty })
+        on f true is h = let clash : None ≡ Some u = h in absurd cc
+        on f false is h = (is, sym (same_Some (record { base = f.base; generation = f.generation; dirty = f.dirty }) u h))
+
+        go : (o : Option Cached) → unsaved_in o ≡ Some u → (f : Cached) × (o ≡ Some f) × (is_clean f ≡ false) × (u ≡ record { base = f.base; generation = f.generation; dirty = f.dirty })
+        go None is = let clash : None ≡ Some u = is in absurd cc
+        go (Some f) is = let w = on f (is_clean f) refl is in (f, refl, w.0, w.1)
+
+    there : IsThere (here c.caches r leaf)
+    there = subst IsThere (sym its.1) tt
+
+    pub can_begin : (generation : ℕ) → u.generation ≡ generation → IsBelowEnd u.base → HasCached (here c.caches r leaf) (λ (f : Cached). (is_clean f ≡ false) × IsBelowEnd f.base × (generation ≡ f.generation))
+    can_begin generation is below =
+        subst (λ (o : Option Cached). HasCached o (λ (f : Cached). (is_clean f ≡ false) × IsBelowEnd f.base × (generation ≡ f.generation))) (sym its.1)
+        (its.2, subst (λ (v : Unsaved). IsBelowEnd v.base) its.3 below, sym is ∙ ap (λ (v : Unsaved). v.generation) its.3)
+
+    pub lacks_number : IsAtEnd s.next_job u.base → Begins s s leaf (Err NoInodes)
+    lacks_number lacks = (inr (inr (live, none, u, beside, inl (refl, lacks))), refl)
+
+    -- the leaf is used
+    module _ (room : Rooms) where
+      used_state : state_of (used_core c a room) ≡ s
+      used_state = λ i. record s { unsaved = used_unclean c.caches (used_at c.caches r leaf) r leaf refl i }
+
+      pub used_sound : IsSoundCore (used_core c a room)
+      used_sound = record {
+        sound = subst IsSound (sym used_state) sound.sound;
+        begun = sound.begun;
+        cached = subst (λ (t : State). AreCached t (used_at c.caches r leaf)) (sym used_state) sound.cached;
+        kept = only_used c.kept c.caches r leaf there sound.kept;
+      }
+
+      module _ (lacks : IsAtEnd s.next_job u.base → ⊥) where
+        pub not_begun : Begins s (state_of (used_core c a room)) leaf (Err NoMemory)
+        not_begun = (inr (inr (live, none, u, beside, inr (refl, lacks))), used_state)
+
+        -- and its job stands
+        module _ (job : Job) (valid : IsSnap job.snapshot) (taken : HasCached (here c.caches r leaf) (IsJobOf s.next_job leaf job)) where
+          abbrev f : Cached
+          f = its.0
+
+          abbrev object : Option Omap
+          object = object_of s.objects leaf.0 leaf.1
+
+          of_it : IsJobOf s.next_job leaf job f
+          of_it = subst (λ (o : Option Cached). HasCached o (IsJobOf s.next_job leaf job)) its.1 taken
+
+          shows : shown f ≡ shown_at (Some u) object
+          shows = tied_show f object (sound.cached leaf (at r f) (here_is r (map.get c.caches.held leaf) f its.1)).tied ∙ ap (λ (v : Unsaved). shown_at (Some v) object) (sym its.3)
+
+          job_is : job ≡ job_for s leaf u
+          job_is = of_it ∙ (λ i. record {
+            number = s.next_job;
+            ino = leaf.0;
+            frag = leaf.1;
+            generation = (sym its.3 i).generation;
+            snapshot = record { base = (sym its.3 i).base; names = (sym its.3 i).dirty; counts = counts_of (shows i) };
+          })
+
+          abbrev begun : Core
+          begun = with_job_in c a job room
+
+          one_leaf : leaf_of job ≡ leaf
+          one_leaf = ap leaf_of job_is
+
+          begun_state : state_of begun ≡ with_job s job
+          begun_state = λ i. record s { unsaved = used_unclean c.caches (used_at c.caches r leaf) r leaf refl i; jobs = map.insert s.jobs (sym one_leaf i) job; next_job = s.next_job + 1 }
+
+          pub begun_is : Begins s (state_of begun) leaf (Ok (Some job))
+          begun_is = (live, none, subst (λ (o : Option Unsaved). BeginsWith s (state_of begun) leaf o (Some job)) (sym beside) (job_is, lacks, begun_state))
+
+          is_of : IsOf job u object
+          is_of = record {
+            valid = valid;
+            base = ap (λ (j : Job). j.snapshot.base) job_is;
+            generation = ap (λ (j : Job). j.generation) job_is;
+            keeps = λ name. subst (λ (j : Job). KeepsAt (map.get u.dirty name) (map.get j.snapshot.names name)) (sym job_is) (keeps_itself (map.get u.dirty name));
+            counted = subst (λ (j : Job). j.snapshot.counts ≡ counts_of (shown_at (Some (record { base = j.snapshot.base; generation = j.generation; dirty = j.snapshot.names })) object)) (sym job_is) refl;
+          }
+
+          pub begun_core : IsSoundCore begun
+          begun_core = record {
+            sound = subst IsSound (sym begun_state) (begun_sound s job u sound.sound (ap (map.get s.unsaved) one_leaf ∙ beside) (ap (λ (j : Job). j.number) job_is) young (subst (λ (l : Leaf). IsOf job u (object_of s.objects l.0 l.1)) (sym one_leaf) is_of));
+            begun = sound.begun;
+            cached = λ q b is. let was = used_sound.cached q b is in record { live = was.live; tied = was.tied; made = was.made };
+            kept = used_sound.kept;
+          }
+            where
+              young : AreYoung job.snapshot.names s.next_version
+              young = subst (λ (j : Job). AreYoung j.snapshot.names s.next_version) (sym job_is) (sound.sound.unsaved leaf u beside).young

@@ -1,0 +1,54 @@
+-- What leaves leave in the fragment that joins their names.
+use Rattle.std.proofs.Common.{◌≡◌, ◌⊎◌, inl, inr, ℕ, ◌+◌, ◌<◌, length, List, [], ◌∷◌, Option, Some, None, refl, sym, ap, subst, ◌∙◌}
+use Rattle.std.specs.List.{Contains}
+use Rattle.std.specs.FinMap as map
+use Rattle.std.specs.FinMap.{get-empty}
+use Rattle.omap.specs.Omap.{key_cmp}
+use Rattle.dirfrag_codec.specs.FragmentObject.{Names}
+use Rattle.commit_jobs.specs.declared.bases.Base.TheVariants.{Fresh}
+use Rattle.commit_jobs.specs.declared.marks.Mark.{Mark}
+use Rattle.cached_frag.specs.Cached.{Cached, shown}
+use Rattle.cached_frag.specs.Moving.{TakesIn}
+use Rattle.dentry_cache.specs.Cache.{HasCached, Leaf}
+use Rattle.dentry_cache.specs.CacheMap.{CacheMap, here, leaf_of, unclean}
+use Rattle.dentry_cache.specs.Came.{IsThat, NoneEnds}
+use Rattle.dentry_cache.specs.declared.dirfrag.Dirfrag.{Dirfrag}
+use Rattle.mdcache.specs.Core.{Core, IsSoundCore, MayFetch, ReadsCore, made_frag, state_of}
+use Rattle.mdcache.specs.Joining.{HasJoined, IsAmong, name_joined}
+use Rattle.mdcache.specs.Ranks.{MayHold}
+use Rattle.mdcache.specs.Regrouping.{IsJoined}
+use Rattle.mdcache.specs.Shown.{names_of}
+use Rattle.mdcache.specs.State.{IsLive, State}
+use Rattle.mdcache.proofs.CoreLaws.{may_fetch, may_fetch_on, of_names, reads_state}
+use Rattle.mdcache.proofs.JoinLaws.{one_joined}
+
+-- the names of a leaf that was fetched
+pub join_told : (old mid view : Core) → view ≡ mid → (a : Dirfrag) → ReadsCore (IsThat a.rank.0 (leaf_of a)) NoneEnds old mid → IsSoundCore mid → (was now : Cached)
+    → HasCached (here view.caches a.rank.0 (leaf_of a)) (λ (f : Cached). TakesIn was now (shown f) view.next_version) → HasJoined (names_of (unclean old.caches) old.objects) old.next_version (leaf_of a ∷ []) was now
+join_told old mid view is a reads sound was now taken =
+    one_joined (names_of (unclean old.caches) old.objects) old.next_version (leaf_of a) was now
+    (subst (λ (s : State). TakesIn was now (names_of s.unsaved s.objects (leaf_of a)) s.next_version) (reads_state (IsThat a.rank.0 (leaf_of a)) NoneEnds old mid reads)
+    (of_names mid sound (λ (names : Names). TakesIn was now names mid.next_version) a.rank.0 (leaf_of a)
+    (subst (λ (k : Core). HasCached (here k.caches a.rank.0 (leaf_of a)) (λ (f : Cached). TakesIn was now (shown f) k.next_version)) is taken)))
+
+-- a rank may hold a leaf still once others were read
+pub hold_on : (Uses Ends : ℕ → Leaf → Type 0) (old new : Core) → ReadsCore Uses Ends old new → IsSoundCore old → (a : Dirfrag) → ((r : ℕ) → Uses r (leaf_of a) → r ≡ a.rank.0) → IsLive old.homes old.covers (leaf_of a) → MayHold old.caches a.rank (leaf_of a)
+    → MayHold new.caches a.rank (leaf_of a)
+hold_on Uses Ends old new reads sound a mine live holds = let m = may_fetch_on Uses Ends old new reads a mine (may_fetch old sound a holds live) in record { there = m.there; alone = m.free }
+
+-- and it is live still
+pub live_on : (Uses Ends : ℕ → Leaf → Type 0) (old new : Core) → ReadsCore Uses Ends old new → (q : Leaf) → IsLive old.homes old.covers q → IsLive new.homes new.covers q
+live_on Uses Ends old new reads q live = subst (λ (s : State). IsLive s.homes s.covers q) (sym (reads_state Uses Ends old new reads)) live
+
+-- a fragment that was made, and has taken the names of leaves in
+pub joined_of : (Uses Ends : ℕ → Leaf → Type 0) (old new : Core) → ReadsCore Uses Ends old new → (leaves : List Leaf) (fresh joined : Cached) → fresh ≡ made_frag old.next_generation
+    → HasJoined (names_of (unclean old.caches) old.objects) old.next_version leaves fresh joined → IsJoined new leaves joined
+joined_of Uses Ends old new reads leaves fresh joined made has = record {
+  fresh = has.base ∙ ap (λ (f : Cached). f.base) made;
+  numbered = has.generation ∙ ap (λ (f : Cached). f.generation) made ∙ ap (λ (s : State). s.next_generation) (sym same);
+  dirty = λ name. subst (λ (s : State). map.get joined.dirty name ≡ name_joined (names_of s.unsaved s.objects) s.next_version leaves name None) (sym same)
+      (has.dirty name ∙ ap (λ (o : Option Mark). name_joined (names_of (unclean old.caches) old.objects) old.next_version leaves name o) (ap (λ (f : Cached). map.get f.dirty name) made ∙ get-empty key_cmp name));
+}
+  where
+    same : state_of new ≡ state_of old
+    same = reads_state Uses Ends old new reads

@@ -1,0 +1,47 @@
+-- Names that are none, and fragments of which all pass a test, or one fails.
+use Rattle.std.proofs.Common.{◌≡◌, ℕ, zero, suc, ◌&&◌, Bool, true, false, cond, List, [], ◌∷◌, length, None, Some, refl, sym, ap, ◌∙◌, arith}
+use Rattle.std.specs.List.{list_all}
+use Rattle.std.specs.FinMap as map
+use Rattle.std.specs.FinMap.{find, get-entries, len-entries}
+use Rattle.std.proofs.lemmas.Bool.{and_parts}
+use Rattle.std.proofs.lemmas.Bool.Decides.{nat_tests}
+use Rattle.mds_types.specs.declared.inodes.Inode.{Inode}
+use Rattle.mds_types.specs.Frag.{Fragment}
+use Rattle.fragtree.specs.FragTree.{HasLeaf}
+use Rattle.fragtree.proofs.TreeLaws.{later}
+use Rattle.omap.specs.Omap.{key_cmp}
+use Rattle.dirfrag_codec.specs.FragmentObject.{Names}
+use Rattle.dirfrag_codec.proofs.ByteKeys.{key_itself}
+use Rattle.mdcache.specs.Reads.{has_none}
+
+pub some_fails : (p : Fragment → Bool) (fs : List Fragment) → list_all p fs ≡ false → (f : Fragment) × HasLeaf fs f × (p f ≡ false)
+some_fails p [] fails = let clash : true ≡ false = fails in absurd cc
+some_fails p (f ∷ fs) fails = go (λ rest. some_fails p fs rest) (p f) refl fails
+  where
+    go : (list_all p fs ≡ false → (g : Fragment) × HasLeaf fs g × (p g ≡ false)) → (b : Bool) → p f ≡ b → (b && list_all p fs) ≡ false → (g : Fragment) × HasLeaf (f ∷ fs) g × (p g ≡ false)
+    go behind true is rest = let w = behind rest in (w.0, later f w.0 fs w.1, w.2)
+    go behind false is rest = (f, (zero, omega arith, refl), is)
+
+pub all_pass : (p : Fragment → Bool) (fs : List Fragment) → list_all p fs ≡ true → (f : Fragment) → HasLeaf fs f → p f ≡ true
+all_pass p [] holds f (k, within, is) = absurd (omega (arith, within))
+all_pass p (g ∷ gs) holds f (zero, within, is) = ap p (sym is) ∙ (and_parts (p g) (list_all p gs) holds).0
+all_pass p (g ∷ gs) holds f (suc k, within, is) = all_pass p gs (and_parts (p g) (list_all p gs) holds).1 f (k, omega (arith, within), is)
+
+-- names that aren't none have a first
+pub some_name : (names : Names) → has_none names ≡ false → (name : List ℕ) × (inode : Inode) × (map.get names name ≡ Some inode)
+some_name names fails = go (map.entries names) refl
+  where
+    go : (es : List (List ℕ × Inode)) → map.entries names ≡ es → (name : List ℕ) × (inode : Inode) × (map.get names name ≡ Some inode)
+    go [] is =
+        let none : map.len names ≡ 0 = len-entries names ∙ ap length is in
+        absurd (grind (arith, nat_tests))
+    go (e ∷ es) is = (e.0, e.1, get-entries names e.0 ∙ ap (find key_cmp e.0) is ∙ ap (λ (b : Bool). cond b (Some e.1) (find key_cmp e.0 es)) (key_itself e.0))
+
+pub no_name : (names : Names) (name : List ℕ) → has_none names ≡ true → map.get names name ≡ None
+no_name names name holds = go (map.entries names) refl
+  where
+    go : (es : List (List ℕ × Inode)) → map.entries names ≡ es → map.get names name ≡ None
+    go [] is = get-entries names name ∙ ap (find key_cmp name) is
+    go (e ∷ es) is =
+        let some : map.len names ≡ length (e ∷ es) = len-entries names ∙ ap length is in
+        absurd (grind (arith, nat_tests))

@@ -1,0 +1,59 @@
+use Rattle.std.proofs.Common.{rules, ◌≡◌, ◌⊎◌, ℕ, ◌+◌, ◌<◌, ◌^◌, length, [], ◌∷◌, inl, inr, Some, None, refl, sym, ap, subst, ◌∙◌, arith}
+use Rattle.std.specs.FinMap as map
+use Rattle.std.specs.List.{Contains}
+use Rattle.dentry_cache.specs.Cache.{Leaf}
+use Rattle.dentry_cache.specs.CacheMap.{unclean}
+use Rattle.dentry_cache.specs.Came.{IsThat, NoneEnds}
+use Rattle.dirfrag_codec.specs.FragmentObject.{Names}
+use Rattle.mds_types.specs.declared.refusals.Refusal.{Refusal}
+use Rattle.mdcache.specs.CacheReads.{LacksPlacesIn}
+use Rattle.mdcache.specs.Core.{Core, state_of}
+use Rattle.mdcache.specs.Going.{leaves_in}
+use Rattle.mdcache.specs.Joining.{HasJoined, IsAmong}
+use Rattle.mdcache.specs.Shown.{names_of}
+use Rattle.mdcache.specs.State.{State}
+use Rattle.mdcache.proofs.CoreLaws.{not_found_before, reads_core_on, reads_core_wider, reads_itself, reads_state}
+use Rattle.mdcache.proofs.JoinLaws.{joined_on, part_among}
+use Rattle.mdcache.proofs.JoinSteps.{hold_on, live_on}
+use Rattle.mdcache.proofs.mdcache.MdCache.join_leaves.Goals as goal
+
+pub loop-part-init : goal.loop-part-init
+loop-part-init g c = record { reads = reads_itself (IsAmong c.args.at.now.rank.0 (leaves_in c.args.at.now.dir c.args.leaves.now)) NoneEnds c.args.self.now; sound = c.requires.sound; none = c.requires.none; faults = refl; base = refl; generation = refl; dirty = λ name. refl }
+
+pub join_leaf-requires-clause-sound : goal.join_leaf-requires-clause-sound
+join_leaf-requires-clause-sound g c = c.loop-part.invariant.sound
+
+pub join_leaf-requires-clause-none : goal.join_leaf-requires-clause-none
+join_leaf-requires-clause-none g c = c.loop-part.invariant.none
+
+pub join_leaf-requires-clause-live : goal.join_leaf-requires-clause-live
+join_leaf-requires-clause-live g c = live_on (IsAmong c.args.at.now.rank.0 (leaves_in c.args.at.now.dir c.args.leaves.now)) NoneEnds c.args.self.now c.loop-part.self c.loop-part.invariant.reads (c.args.at.now.dir, c.part-item.result.frag) (c.requires.live (c.args.at.now.dir, c.part-item.result.frag) (part_among c.args.at.now.dir c.args.leaves.now c.loop-part.part-index c.part-item.result c.loop-part-test.true c.part-item.is)).0
+
+pub join_leaf-requires-clause-holds : goal.join_leaf-requires-clause-holds
+join_leaf-requires-clause-holds g c = let m = c.requires.live (c.args.at.now.dir, c.part-item.result.frag) (part_among c.args.at.now.dir c.args.leaves.now c.loop-part.part-index c.part-item.result c.loop-part-test.true c.part-item.is) in hold_on (IsAmong c.args.at.now.rank.0 (leaves_in c.args.at.now.dir c.args.leaves.now)) NoneEnds c.args.self.now c.loop-part.self c.loop-part.invariant.reads c.requires.sound (record { dir = c.args.at.now.dir; frag = c.part-item.result.frag; rank = c.args.at.now.rank }) (λ r is. is.0) m.0 m.1
+
+pub loop-part-preserved : goal.loop-part-preserved
+loop-part-preserved g c = 
+    let inv = c.loop-part.invariant in
+    let told : names_of (unclean c.loop-part.self.caches) c.loop-part.self.objects (c.args.at.now.dir, c.part-item.result.frag) ≡ names_of (unclean c.args.self.now.caches) c.args.self.now.objects (c.args.at.now.dir, c.part-item.result.frag) = ap (λ (s : State). names_of s.unsaved s.objects (c.args.at.now.dir, c.part-item.result.frag)) (reads_state (IsAmong c.args.at.now.rank.0 (leaves_in c.args.at.now.dir c.args.leaves.now)) NoneEnds c.args.self.now c.loop-part.self inv.reads) in
+    let version : c.loop-part.self.next_version ≡ c.args.self.now.next_version = ap (λ (s : State). s.next_version) (reads_state (IsAmong c.args.at.now.rank.0 (leaves_in c.args.at.now.dir c.args.leaves.now)) NoneEnds c.args.self.now c.loop-part.self inv.reads) in
+    record {
+      reads = reads_core_on (IsAmong c.args.at.now.rank.0 (leaves_in c.args.at.now.dir c.args.leaves.now)) NoneEnds c.args.self.now c.loop-part.self c.join_leaf.new.self inv.reads
+          (reads_core_wider (IsThat c.args.at.now.rank.0 (c.args.at.now.dir, c.part-item.result.frag)) (IsAmong c.args.at.now.rank.0 (leaves_in c.args.at.now.dir c.args.leaves.now)) NoneEnds NoneEnds c.loop-part.self c.join_leaf.new.self (λ r q is. (is.0, subst (Contains (leaves_in c.args.at.now.dir c.args.leaves.now)) (sym is.1) (part_among c.args.at.now.dir c.args.leaves.now c.loop-part.part-index c.part-item.result c.loop-part-test.true c.part-item.is))) (λ r q is. is) c.join_leaf.ensures.reads);
+      sound = c.join_leaf.ensures.sound;
+      none = c.join_leaf.ensures.none;
+      faults = (let told : c.join_leaf.new.self.faults ≡ c.loop-part.self.faults = search rules in told ∙ inv.faults);
+      base = c.in_default.ensures.joined.base ∙ inv.base;
+      generation = c.in_default.ensures.joined.generation ∙ inv.generation;
+      dirty = λ name.
+          joined_on (names_of (unclean c.args.self.now.caches) c.args.self.now.objects) (names_of (unclean c.loop-part.self.caches) c.loop-part.self.objects) c.args.self.now.next_version c.args.at.now.dir c.args.leaves.now c.loop-part.part-index c.part-item.result
+          c.loop-part.joined c.join_leaf.new.joined c.loop-part-test.true c.part-item.is told (subst (λ (v : ℕ). HasJoined (names_of (unclean c.loop-part.self.caches) c.loop-part.self.objects) v ((c.args.at.now.dir, c.part-item.result.frag) ∷ []) c.loop-part.joined c.join_leaf.new.joined) version c.in_default.ensures.joined) name
+          ∙ inv.dirty name;
+    }
+
+pub returns-in-Err-clause-reads : goal.returns-in-Err-clause-reads
+returns-in-Err-clause-reads g c = reads_core_on (IsAmong c.args.at.now.rank.0 (leaves_in c.args.at.now.dir c.args.leaves.now)) NoneEnds c.args.self.now c.loop-part.self c.join_leaf.new.self c.loop-part.invariant.reads
+    (reads_core_wider (IsThat c.args.at.now.rank.0 (c.args.at.now.dir, c.part-item.result.frag)) (IsAmong c.args.at.now.rank.0 (leaves_in c.args.at.now.dir c.args.leaves.now)) NoneEnds NoneEnds c.loop-part.self c.join_leaf.new.self (λ r q is. (is.0, subst (Contains (leaves_in c.args.at.now.dir c.args.leaves.now)) (sym is.1) (part_among c.args.at.now.dir c.args.leaves.now c.loop-part.part-index c.part-item.result c.loop-part-test.true c.part-item.is))) (λ r q is. is) c.join_leaf.ensures.reads)
+
+pub returns-in-Err-clause-refused : goal.returns-in-Err-clause-refused
+returns-in-Err-clause-refused g c = not_found_before (IsAmong c.args.at.now.rank.0 (leaves_in c.args.at.now.dir c.args.leaves.now)) NoneEnds c.args.self.now c.loop-part.self c.loop-part.invariant.reads 1 c.args.at.now.rank.0 c.join_leaf.new.self.faults c.in-Err.refusal c.loop-part.invariant.faults c.in-Err.ensures.refused

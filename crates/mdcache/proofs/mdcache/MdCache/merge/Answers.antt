@@ -1,0 +1,9 @@
+use Rattle.std.proofs.Common.{rules, ◌≡◌, ◌⊎◌, ℕ, ◌+◌, ◌<◌, ◌^◌, length, inl, inr, Some, None, refl, sym, ap, subst, ◌∙◌, arith}
+use Rattle.dentry_cache.specs.Came.Came.{stays}
+use Rattle.mdcache.proofs.mdcache.MdCache.merge.Goals as goal
+
+pub returns-in-Err-clause-came : goal.returns-in-Err-clause-came
+returns-in-Err-clause-came g c = stays
+
+pub returns-in-Err-check_numbers-clause-came : goal.returns-in-Err-check_numbers-clause-came
+returns-in-Err-check_numbers-clause-came g c = stays

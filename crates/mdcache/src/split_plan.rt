@@ -1,0 +1,93 @@
+//! What a split needs beside the caches: the leaves after it, with room in the table, and the names of objects.
+ghost use Rattle.std.specs.Prelude.{◌≡◌, ◌+◌, ◌≤◌, ◌<◌, ◌^◌, map as each, string_bytes, OnOk, IfOk, IfErr};
+ghost use Rattle.mds_types.specs.declared.refusals.Refusal.TheVariants.{NoMemory};
+ghost use Rattle.fragtree.specs.FragTree.{CanSplit, IsSplit, IsTree};
+ghost use Rattle.inode_table.specs.Dirs.{leaves_of};
+ghost use Rattle.mdcache.specs.Core.{IsNoLess};
+ghost use Rattle.mdcache.specs.Regrouping.{IsSplitPlanned};
+ghost use Rattle.mdcache.specs.Splits.{NameChildren};
+
+use crate::mdcache::MdCache;
+use crate::regrouping::{child_count, object_name};
+use dentry_cache::Dirfrag;
+use fragtree::FragTree;
+use inode_table::Dirs;
+use mds_types::{Frag, Ino, Refusal};
+use objstore::Store;
+use std::alloc::{AllocError, Global};
+
+/// The leaves of a directory after a split, and the names of the objects of the leaf and of its children.
+#[derive(Drop)]
+pub struct SplitPlan {
+    pub cover: FragTree,
+    pub object: String,
+    pub children: Vec<String>,
+}
+
+impl<S: Store + Drop> MdCache<S> {
+    /// Plans a split of a leaf that can be split, and makes room for it in the table and on the purge list. Refused for want of
+    /// memory alone.
+    pub(crate) fn plan_split(
+        &mut self,
+        alloc: Global,
+        at: &Dirfrag,
+        nb: u8,
+    ) -> Result<SplitPlan, Refusal>
+        requires { CanSplit (leaves_of self.old.covers at.now.dir.0) at.now.frag nb }
+        ensures planned { IfOk result (IsSplitPlanned self.new at.now nb) }
+        ensures left { self.new ≡ record self.old { room = self.new.room } }
+        ensures room { IsNoLess self.old.room self.new.room }
+        ensures refused { IfErr result (λ reason. reason ≡ NoMemory) }
+    {
+        let cover = match split_cover(alloc, &mut self.dirs, at, nb) {
+            Ok(cover) => cover,
+            Err(refusal) => return Err(refusal),
+        };
+        self.purge.reserve(1)?;
+        let object = object_name(alloc, at.dir, at.frag)?;
+        let children = child_names(alloc, at.dir, at.frag, nb)?;
+        Ok(SplitPlan {
+            cover,
+            object,
+            children,
+        })
+    }
+}
+
+// The leaves of a directory once one of them is split, with room for them in the table.
+fn split_cover(alloc: Global, dirs: &mut Dirs, at: &Dirfrag, nb: u8) -> Result<FragTree, Refusal>
+    requires { CanSplit (leaves_of dirs.old.trees at.now.dir.0) at.now.frag nb }
+    ensures divided { IfOk result (λ cover. IsSplit (leaves_of dirs.old.trees at.now.dir.0) cover at.now.frag nb) }
+    ensures whole { IfOk result (λ cover. IsTree cover) }
+    ensures row { OnOk result (0 < dirs.new.tree_room) }
+    ensures homes { dirs.new.homes ≡ dirs.old.homes }
+    ensures trees { dirs.new.trees ≡ dirs.old.trees }
+    ensures room { dirs.new.room ≡ dirs.old.room }
+    ensures grows { dirs.old.tree_room ≤ dirs.new.tree_room }
+    ensures refused { IfErr result (λ reason. reason ≡ NoMemory) }
+{
+    if let Err(refusal) = dirs.reserve_tree() {
+        return Err(refusal);
+    }
+    let mut cover = dirs.tree(alloc, at.dir)?;
+    match cover.split(at.frag, nb) {
+        Ok(()) => Ok(cover),
+        Err(refusal) => Err(refusal),
+    }
+}
+
+// The names of the objects of the children of a fragment.
+fn child_names(alloc: Global, dir: Ino, frag: Frag, nb: u8) -> Result<Vec<String>, AllocError>
+    requires few { nb ≤ 8 }
+    requires bits { frag.bits + nb ≤ 24 }
+    ensures { IfOk result (λ names. NameChildren dir frag nb (each string_bytes names.items)) }
+{
+    let mut names = Vec::new(alloc);
+    for i in 0..child_count(nb) {
+        let Some(child) = frag.child(i, nb) else {
+            unreachable!()
+        };
+        names.push(object_name(alloc, dir, child)?)?;
+    }
+    Ok(names)
+}
