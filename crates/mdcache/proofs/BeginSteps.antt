@@ -1,5 +1,5 @@
 -- What the beginning of a commit leaves, done or not.
-use Rattle.std.proofs.Common.{◌≡◌, ◌⊎◌, inl, inr, Bor, ℕ, ◌+◌, Bool, true, false, cond, List, Option, Some, None, refl, sym, ap, subst, ◌∙◌}
+use Rattle.std.proofs.Common.{◌≡◌, ◌⊎◌, inl, inr, Bor, ℕ, ◌+◌, Bool, true, false, cond, Option, Some, None, refl, sym, ap, subst, ◌∙◌}
 use Rattle.std.specs.Prelude.{Ok, Err, is_some}
 use Rattle.std.specs.Option.{option_copied, option_map}
 use Rattle.std.specs.FinMap as map
@@ -11,11 +11,9 @@ use Rattle.commit_jobs.specs.declared.bases.Base.{Base}
 use Rattle.commit_jobs.specs.declared.jobs.Job.{Job}
 use Rattle.commit_jobs.specs.declared.marks.Mark.{Mark}
 use Rattle.commit_jobs.specs.Snap.{IsBelowEnd, IsSnap, counts_of}
-use Rattle.cached_frag.specs.Cached.{Cached, is_clean, shown, snapshot_of}
+use Rattle.cached_frag.specs.Cached.{Cached, is_clean, shown}
 use Rattle.dentry_cache.specs.Cache.{HasCached, IsThere, Leaf, Unsaved, unsaved_in}
 use Rattle.dentry_cache.specs.CacheMap.{At, CacheMap, IsFree, IsFreeFor, at, at_rank, has_place, here, leaf_of as leaf_at, unclean, unsaved_at, used_at}
-use Rattle.dentry_cache.specs.Came.{Came, IsThat, NoneEnds}
-use Rattle.dentry_cache.specs.Came.Came.{stays, uses}
 use Rattle.dentry_cache.specs.Loading.{object_of}
 use Rattle.dentry_cache.specs.Ties.{KeepsAt}
 use Rattle.dentry_cache.specs.declared.dirfrag.Dirfrag.{Dirfrag}
@@ -30,7 +28,7 @@ use Rattle.mdcache.specs.Core.{AreCached, Core, IsJobOf, IsSoundCore, Rooms, sta
 use Rattle.mdcache.specs.Ranks.{KeepsOnlyAt}
 use Rattle.mdcache.specs.Shown.{shown_at}
 use Rattle.mdcache.specs.Sound.{AreYoung, IsOf, IsSound}
-use Rattle.mdcache.specs.State.{IsLive, State, UnsavedLeaves}
+use Rattle.mdcache.specs.State.{IsLive, State}
 use Rattle.mdcache.proofs.SoundLaws.{begun_sound}
 
 -- ---- what is told of a fragment

@@ -1,10 +1,10 @@
 -- What the steps of a change leave, one after the other.
-use Rattle.std.proofs.Common.{◌≡◌, ◌⊎◌, inl, inr, ℕ, zero, suc, ◌+◌, ◌<◌, ◌≤◌, Bool, true, false, cond, is_some, length, List, [], ◌∷◌, Option, Some, None, refl, sym, ap, subst, ◌∙◌, arith}
-use Rattle.std.specs.Prelude.{◌==◌, ◌&&◌, ◌||◌, get_or}
+use Rattle.std.proofs.Common.{◌≡◌, ◌⊎◌, inl, inr, ℕ, zero, suc, ◌<◌, ◌≤◌, Bool, true, false, cond, is_some, length, List, [], ◌∷◌, Option, Some, None, refl, sym, ap, subst, ◌∙◌, arith}
+use Rattle.std.specs.Prelude.{◌==◌, ◌&&◌, ◌||◌}
 use Rattle.std.specs.FinMap as map
 use Rattle.std.specs.List.{Contains, list_any}
 use Rattle.std.proofs.lemmas.Option.{same_Some}
-use Rattle.sorted_map.proofs.NatKeys.{get_left as get_left_home, is_same}
+use Rattle.sorted_map.proofs.NatKeys.{get_left as get_left_home}
 use Rattle.mds_types.specs.declared.ids.Ino.{Ino}
 use Rattle.mds_types.specs.declared.ids.Rank.{Rank}
 use Rattle.mds_types.specs.declared.inodes.Inode.{Inode}
@@ -143,7 +143,7 @@ module _ (c : Core) (a : Dirfrag) (name : List ℕ) (inode : Option Inode) (ther
   kept_named = (
     has_with_mark c.caches a.rank.0 (leaf_of a) name its_mark g a.rank.0 first rank sees ∙ yes ((a.rank.0 == a.rank.0) && leaf_is first (leaf_of a)),
     ap (λ (k : CacheMap). map.get k.held first) (ap (edited_as c.caches a.rank.0 (leaf_of a) (λ (f : Cached). marked f name its_mark)) sees) ∙ get_with_frag c.caches a.rank.0 (leaf_of a) (marked g name its_mark) first
-    ∙ ap (λ (b : Bool). cond b (Some (at a.rank.0 (marked g name its_mark))) (map.get c.caches.held first)) (apart (leaf_is first (leaf_of a)) refl) ∙ kept.1,
+        ∙ ap (λ (b : Bool). cond b (Some (at a.rank.0 (marked g name its_mark))) (map.get c.caches.held first)) (apart (leaf_is first (leaf_of a)) refl) ∙ kept.1,
   )
     where
       yes : (b : Bool) → cond b true (has_place c.caches a.rank.0 first) ≡ true

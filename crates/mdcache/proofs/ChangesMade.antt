@@ -6,7 +6,6 @@ use Rattle.mds_types.specs.Frag.{Fragment, root_fragment}
 use Rattle.mds_types.specs.Tree.{is_dir_kind}
 use Rattle.mds_types.specs.declared.dentries.Dentry.{Dentry}
 use Rattle.mds_types.specs.declared.ids.Ino.{Ino}
-use Rattle.mds_types.specs.declared.ids.Rank.{Rank}
 use Rattle.mds_types.specs.declared.inodes.Inode.{Inode}
 use Rattle.mds_types.specs.Step.{IsMove}
 use Rattle.dirfrag_codec.specs.EntryRecord.{IsRecordable}
@@ -30,7 +29,7 @@ use Rattle.mdcache.specs.Frags.{IsForDirectory, IsForRemoval, IsMovingIn, IsRead
 use Rattle.mdcache.specs.Going.{IsGoingOrNone, count_going, dir_going, leaves_going, texts_going}
 use Rattle.mdcache.specs.Made.{HasNumber, IsRight}
 use Rattle.mdcache.specs.Ranks.{EndsWith, IsNamedIn, KeepsOnlyAt}
-use Rattle.mdcache.specs.State.{State, text_of}
+use Rattle.mdcache.specs.State.{text_of}
 use Rattle.mdcache.specs.declared.going.Going.{Going}
 use Rattle.mdcache.specs.declared.holders.Holders.{Holders}
 use Rattle.mdcache.specs.declared.prepared.MovingEntry.{MovingEntry}
@@ -104,9 +103,11 @@ module _ (at : Holders) (old new : Core) (sound : IsSoundCore old) (dentry : Den
 
       pub file_changed : is_dir_kind inode.kind ≡ false → inode.ino.0 < 2 ^ 64 → MayChange (shown_in old) old.covers (Add dentry leaf inode) → new ≡ now → IsChanged at (Add dentry leaf inode) old new
       file_changed file number may is = subst (IsChanged at (Add dentry leaf inode) old) (sym is)
-          (changed at (Add dentry leaf inode) old now sound number may
-          (state_of now, is_named AddUses AddEnds None old old (before_file file) place dentry.name (Some inode) (there ready.ready.0.room),
-          sym (ap (λ (b : Bool). cond b (with_directory (state_of now) dentry inode.ino) (state_of now)) file))
+          (changed at (Add dentry leaf inode) old now sound number may (
+            state_of now,
+            is_named AddUses AddEnds None old old (before_file file) place dentry.name (Some inode) (there ready.ready.0.room),
+            sym (ap (λ (b : Bool). cond b (with_directory (state_of now) dentry inode.ino) (state_of now)) file),
+          )
           (made_named AddUses AddEnds None old old (before_file file) place dentry.name (Some inode) (there ready.ready.0.room) (inl (refl, refl))) sound.begun)
 
       abbrev first : Dirfrag
@@ -285,9 +286,15 @@ module _ (at : Holders) (old new : Core) (sound : IsSoundCore old) (from to : De
 
     move_changed : new ≡ record all_gone { prepared = prepared; kept = old.kept } → (KeepsNone old.caches → KeepsNone new.caches) → IsChanged at change old new
     move_changed is none = subst (IsChanged at change old) (sym is)
-        (changed at change old (record all_gone { prepared = prepared; kept = old.kept }) sound tt may
-        (inode, stands, state_of left_name, is_named MoveUses MoveEnds None old old before_move first_place from.name None there_first, record (state_of came_name) { homes = old.homes }, named_twice,
-        is_gone came_name going leaves_stand rooms)
+        (changed at change old (record all_gone { prepared = prepared; kept = old.kept }) sound tt may (
+          inode,
+          stands,
+          state_of left_name,
+          is_named MoveUses MoveEnds None old old before_move first_place from.name None there_first,
+          record (state_of came_name) { homes = old.homes },
+          named_twice,
+          is_gone came_name going leaves_stand rooms,
+        )
         (made_beside MoveUses MoveEnds None old.kept old all_gone prepared (made_gone came_name going leaves_stand rooms MoveUses MoveEnds old (λ r q is. is) came_made (λ was. subst (λ (k : Core). KeepsNone k.caches) is (none (only_none old.caches only))))) sound.begun)
 
     pub entry_moved : (view : Core) → view ≡ old → (name : List ℕ) → name ≡ to.name

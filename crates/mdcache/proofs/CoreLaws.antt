@@ -2,7 +2,6 @@
 use Rattle.std.proofs.Common.{◌≡◌, ◌⊎◌, inl, inr, ℕ, zero, suc, ◌+◌, ◌<◌, ◌≤◌, true, length, Option, Some, None, refl, sym, ap, subst, ◌∙◌, arith}
 use Rattle.std.specs.Prelude.{IfErr, IfOk, OnOk, Result, Ok, Err}
 use Rattle.std.specs.FinMap as map
-use Rattle.std.proofs.lemmas.Option.{same_Some}
 use Rattle.mds_types.specs.declared.dentries.Dentry.{Dentry}
 use Rattle.mds_types.specs.declared.ids.Ino.{Ino}
 use Rattle.mds_types.specs.declared.ids.Rank.{Rank}
@@ -17,15 +16,15 @@ use Rattle.objstore.specs.Objects.{Objects, faults_told}
 use Rattle.commit_jobs.specs.declared.bases.Base.{Base}
 use Rattle.commit_jobs.specs.declared.bases.Base.TheVariants.{Fresh, Stored}
 use Rattle.cached_frag.specs.Cached.{Cached, shown}
-use Rattle.dentry_cache.specs.Cache.{HasCached, Leaf, unsaved_in}
-use Rattle.dentry_cache.specs.CacheMap.{At, CacheMap, IsFree, at, at_rank, here, leaf_of, unclean, unclean_of, unsaved_at, used_at}
+use Rattle.dentry_cache.specs.Cache.{HasCached, Leaf}
+use Rattle.dentry_cache.specs.CacheMap.{At, CacheMap, IsFree, at, here, leaf_of, unclean, unclean_of, unsaved_at, used_at}
 use Rattle.dentry_cache.specs.CacheCalls.{Edits, KeepsNone}
 use Rattle.dentry_cache.specs.CacheSplits.{IsKeptFor}
 use Rattle.dentry_cache.specs.Came.{Came, IsThat, NoneEnds}
 use Rattle.dentry_cache.specs.Loading.{Loads, object_of}
 use Rattle.dentry_cache.specs.Reads.{IsButRoom, IsReadOf, Reads}
 use Rattle.dentry_cache.specs.Reads.Reads.{stays as it_stays}
-use Rattle.dentry_cache.specs.Ties.{IsTied, IsTiedAt}
+use Rattle.dentry_cache.specs.Ties.{IsTiedAt}
 use Rattle.dentry_cache.specs.declared.dirfrag.Dirfrag.{Dirfrag}
 use Rattle.dentry_cache.proofs.TieLaws.{fetched_are_tied}
 use Rattle.dentry_cache.proofs.UncleanLaws.{get_unclean}

@@ -28,7 +28,7 @@ use Rattle.dentry_cache.specs.Commits.{IsCommitted}
 use Rattle.dentry_cache.specs.Ties.{Commits, IsRight, IsTied, Keeps, names_at, object_after}
 use Rattle.dentry_cache.proofs.CacheLaws.{unsaved_here as unsaved_here_at}
 use Rattle.dentry_cache.proofs.UncleanLaws.{get_unclean, unclean_with}
-use Rattle.dentry_cache.proofs.LeafLaws.{flips, leaf_itself, one_leaf, same_leaf}
+use Rattle.dentry_cache.proofs.LeafLaws.{leaf_itself, one_leaf, same_leaf}
 use Rattle.dentry_cache.proofs.TieLaws.{committed_are_tied, tied_show}
 use Rattle.mdcache.specs.Core.{AreCached, Core, IsCachedIn, IsSoundCore, state_of}
 use Rattle.mdcache.specs.Commits.{HasSpelled, IsEnded, committed, leaf_of, left_of, names_then}

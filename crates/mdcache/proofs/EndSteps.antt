@@ -1,8 +1,6 @@
 -- What the end of a commit leaves, done or refused.
-use Rattle.std.proofs.Common.{◌≡◌, ◌⊎◌, inl, inr, ℕ, Bool, true, false, cond, Option, Some, None, refl, sym, ap, subst, ◌∙◌}
-use Rattle.std.specs.Prelude.{◌==◌}
+use Rattle.std.proofs.Common.{◌≡◌, ℕ, Bool, cond, Option, Some, None, refl, sym, ap, subst, ◌∙◌}
 use Rattle.std.specs.FinMap as map
-use Rattle.std.proofs.lemmas.Bool.{eqb-true}
 use Rattle.sorted_map.proofs.NatKeys.{is_same}
 use Rattle.objstore.specs.Objects.{Objects, written}
 use Rattle.commit_jobs.specs.declared.jobs.Job.{Job}
@@ -10,20 +8,20 @@ use Rattle.commit_jobs.specs.Commit.{write_of}
 use Rattle.cached_frag.specs.Cached.{Cached}
 use Rattle.dentry_cache.specs.Cache.{IsThere, Leaf, Unsaved, unsaved_in}
 use Rattle.dentry_cache.specs.CacheCalls.{Edits}
-use Rattle.dentry_cache.specs.CacheMap.{At, CacheMap, IsFree, IsFreeFor, at_rank, here, unclean, unsaved_at, with_frag}
+use Rattle.dentry_cache.specs.CacheMap.{At, CacheMap, IsFree, IsFreeFor, at_rank, here, unsaved_at, with_frag}
 use Rattle.dentry_cache.specs.Came.{Came, IsThat, NoneEnds}
 use Rattle.dentry_cache.specs.Came.Came.{has, stays}
 use Rattle.omap.specs.declared.write_ops.WriteOp.{WriteOp}
 use Rattle.dentry_cache.specs.Commits.{IsCommitted, leaf_text}
 use Rattle.dentry_cache.proofs.CameLaws.{edits_unclean}
-use Rattle.dentry_cache.proofs.StepLaws.{by_edits, get_with_frag}
+use Rattle.dentry_cache.proofs.StepLaws.{by_edits}
 use Rattle.dentry_cache.proofs.UncleanLaws.{get_unclean}
 use Rattle.mdcache.specs.Commits.{IsEnded, leaf_of}
-use Rattle.mdcache.specs.Core.{AreCached, Core, IsCachedIn, IsSoundCore, Rooms, state_of}
+use Rattle.mdcache.specs.Core.{AreCached, Core, IsSoundCore, Rooms, state_of}
 use Rattle.mdcache.specs.Ranks.{KeepsOnlyAt}
 use Rattle.mdcache.specs.Sound.{IsSound}
 use Rattle.mdcache.specs.StandingJobs.{Jobs}
-use Rattle.mdcache.specs.State.{State, text_of}
+use Rattle.mdcache.specs.State.{State}
 use Rattle.mdcache.proofs.CoreLaws.{cached_but}
 use Rattle.mdcache.proofs.EndLaws.{ended, ended_cached, ended_sound, now_unclean, t}
 use Rattle.mdcache.proofs.PutLaws.{cached_with, only_with}

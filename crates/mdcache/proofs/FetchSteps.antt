@@ -1,18 +1,15 @@
 -- A fetch of a leaf: what it leaves, and why it is refused.
-use Rattle.std.proofs.Common.{◌≡◌, ◌⊎◌, inl, inr, ℕ, ◌+◌, ◌<◌, Bool, true, false, cond, length, is_some, List, Option, Some, None, refl, sym, ap, subst, ◌∙◌, arith}
+use Rattle.std.proofs.Common.{◌≡◌, inl, inr, ℕ, ◌+◌, Bool, true, false, cond, Option, Some, None, refl, sym, ap, subst, ◌∙◌, arith}
 use Rattle.std.specs.Prelude.{OnOk, OnErr, IfErr, Result, Ok, Err}
 use Rattle.std.specs.Result.{result_err}
 use Rattle.std.specs.FinMap as map
 use Rattle.mds_types.specs.declared.refusals.Refusal.{Refusal}
-use Rattle.mds_types.specs.declared.refusals.Refusal.TheVariants.{NoMemory, StoreFault, Damaged, NothingToEvict}
-use Rattle.mds_types.specs.declared.object_names.ObjName.TheVariants.{Frag as FragOf}
 use Rattle.mds_types.specs.Frag.{Fragment}
 use Rattle.omap.specs.Omap.{Omap}
 use Rattle.objstore.specs.Objects.{Objects, faults_told}
-use Rattle.cached_frag.specs.Cached.{Cached}
 use Rattle.dentry_cache.specs.Cache.{IsThere, Leaf, leaf_is}
 use Rattle.dentry_cache.specs.CacheCalls.{FetchesAt, IsAbsent, KeepsNone, MakesRoomAt, MayNotFetchAt}
-use Rattle.dentry_cache.specs.CacheMap.{AreCaches, At, CacheMap, at, at_rank, has_place, here, leaf_of, roomy, unclean, unsaved_at, used_at, with_frag}
+use Rattle.dentry_cache.specs.CacheMap.{AreCaches, CacheMap, at, at_rank, has_place, here, leaf_of, roomy, unclean, unsaved_at}
 use Rattle.dentry_cache.specs.Came.{NoneEnds, StaysNamed}
 use Rattle.dentry_cache.specs.Loading.{Loads, object_of}
 use Rattle.dentry_cache.specs.Reads.{Reads}
@@ -20,7 +17,7 @@ use Rattle.dentry_cache.specs.Reads.Reads.{stays as it_stays}
 use Rattle.dentry_cache.specs.declared.dirfrag.Dirfrag.{Dirfrag}
 use Rattle.dentry_cache.proofs.CountLaws.{staying}
 use Rattle.dentry_cache.proofs.KeptLaws.{roomy_stays}
-use Rattle.dentry_cache.proofs.LeafLaws.{leaf_itself, one_leaf}
+use Rattle.dentry_cache.proofs.LeafLaws.{one_leaf}
 use Rattle.dentry_cache.proofs.ReadsLaws.{fetched_reads, room_reads}
 use Rattle.dentry_cache.proofs.StepLaws.{get_with_frag}
 use Rattle.dentry_cache.proofs.UncleanLaws.{get_unclean}

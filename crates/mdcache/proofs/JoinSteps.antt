@@ -1,20 +1,18 @@
 -- What leaves leave in the fragment that joins their names.
-use Rattle.std.proofs.Common.{◌≡◌, ◌⊎◌, inl, inr, ℕ, ◌+◌, ◌<◌, length, List, [], ◌∷◌, Option, Some, None, refl, sym, ap, subst, ◌∙◌}
-use Rattle.std.specs.List.{Contains}
+use Rattle.std.proofs.Common.{◌≡◌, ℕ, List, [], ◌∷◌, Option, None, sym, ap, subst, ◌∙◌}
 use Rattle.std.specs.FinMap as map
 use Rattle.std.specs.FinMap.{get-empty}
 use Rattle.omap.specs.Omap.{key_cmp}
 use Rattle.dirfrag_codec.specs.FragmentObject.{Names}
-use Rattle.commit_jobs.specs.declared.bases.Base.TheVariants.{Fresh}
 use Rattle.commit_jobs.specs.declared.marks.Mark.{Mark}
 use Rattle.cached_frag.specs.Cached.{Cached, shown}
 use Rattle.cached_frag.specs.Moving.{TakesIn}
 use Rattle.dentry_cache.specs.Cache.{HasCached, Leaf}
-use Rattle.dentry_cache.specs.CacheMap.{CacheMap, here, leaf_of, unclean}
+use Rattle.dentry_cache.specs.CacheMap.{here, leaf_of, unclean}
 use Rattle.dentry_cache.specs.Came.{IsThat, NoneEnds}
 use Rattle.dentry_cache.specs.declared.dirfrag.Dirfrag.{Dirfrag}
-use Rattle.mdcache.specs.Core.{Core, IsSoundCore, MayFetch, ReadsCore, made_frag, state_of}
-use Rattle.mdcache.specs.Joining.{HasJoined, IsAmong, name_joined}
+use Rattle.mdcache.specs.Core.{Core, IsSoundCore, ReadsCore, made_frag, state_of}
+use Rattle.mdcache.specs.Joining.{HasJoined, name_joined}
 use Rattle.mdcache.specs.Ranks.{MayHold}
 use Rattle.mdcache.specs.Regrouping.{IsJoined}
 use Rattle.mdcache.specs.Shown.{names_of}

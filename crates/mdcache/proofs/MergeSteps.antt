@@ -1,11 +1,10 @@
 -- What a merge makes of the whole, once all was ready for it.
-use Rattle.std.proofs.Common.{◌≡◌, ◌⊎◌, inl, inr, ℕ, zero, suc, ◌+◌, ◌<◌, ◌||◌, Bool, true, false, cond, List, [], ◌∷◌, Option, Some, None, refl, sym, ap, subst, ◌∙◌, arith}
-use Rattle.std.specs.Prelude.{map as each, string_bytes}
+use Rattle.std.proofs.Common.{◌≡◌, ◌⊎◌, inl, inr, ℕ, ◌+◌, ◌<◌, Bool, true, false, cond, List, Option, Some, None, refl, sym, ap, subst, ◌∙◌, arith}
+use Rattle.std.specs.Prelude.{map as each}
 use Rattle.std.specs.List.{Contains, list_all, list_any}
 use Rattle.std.specs.FinMap as map
 use Rattle.std.proofs.lemmas.Option.{same_Some}
 use Rattle.mds_types.specs.declared.ids.Ino.{Ino}
-use Rattle.mds_types.specs.declared.ids.Rank.{Rank}
 use Rattle.mds_types.specs.declared.inodes.Inode.{Inode}
 use Rattle.mds_types.specs.declared.object_names.ObjName.{ObjName}
 use Rattle.mds_types.specs.declared.object_names.ObjName.TheVariants.{Frag, Tree as TreeOf}
@@ -27,10 +26,9 @@ use Rattle.dentry_cache.specs.declared.dirfrag.Dirfrag.{Dirfrag}
 use Rattle.dentry_cache.specs.Cache.{Leaf, Unsaved, leaf_is, unsaved_in}
 use Rattle.dentry_cache.specs.CacheCalls.{KeepsNone}
 use Rattle.dentry_cache.specs.CacheMap.{At, CacheMap, at, leaf_of, unclean, unsaved_at, with_frag}
-use Rattle.dentry_cache.specs.Came.{Came, NoneEnds}
+use Rattle.dentry_cache.specs.Came.{Came}
 use Rattle.dentry_cache.specs.Came.Came.{has as arrives}
-use Rattle.dentry_cache.specs.Ended.{ended_all}
-use Rattle.dentry_cache.proofs.LeafLaws.{leaf_itself, leaf_or_apart, one_leaf}
+use Rattle.dentry_cache.proofs.LeafLaws.{leaf_itself, one_leaf}
 use Rattle.dentry_cache.proofs.ReadsLaws.{reads_came}
 use Rattle.dentry_cache.proofs.SplitShows.{fresh_tied}
 use Rattle.dentry_cache.proofs.StepLaws.{get_with_frag}
@@ -38,17 +36,16 @@ use Rattle.dentry_cache.proofs.UncleanLaws.{get_unclean}
 use Rattle.inode_table.specs.Dirs.{is_known, leaves_of}
 use Rattle.inode_table.proofs.Tables.{tree_of_row}
 use Rattle.namespace_ops.specs.Changes.{in_directory}
-use Rattle.mdcache.specs.declared.going.GoingLeaf.{GoingLeaf}
 use Rattle.mdcache.specs.declared.merging.Merge.{Merge}
 use Rattle.mdcache.specs.Changes.{with_objects, without_leaves}
-use Rattle.mdcache.specs.Core.{AreCached, Core, IsCachedIn, IsSoundCore, ReadsCore, Rooms, state_of}
-use Rattle.mdcache.specs.Going.{leaves_in, texts_in}
-use Rattle.mdcache.specs.Joining.{IsAmongOr, name_joined}
+use Rattle.mdcache.specs.Core.{AreCached, Core, IsCachedIn, IsSoundCore, ReadsCore, state_of}
+use Rattle.mdcache.specs.Going.{leaves_in}
+use Rattle.mdcache.specs.Joining.{IsAmongOr}
 use Rattle.mdcache.specs.Reads.{has_none}
 use Rattle.mdcache.specs.Regrouping.{IsMergeReady, ending_at, merged_in}
 use Rattle.mdcache.specs.Shown.{names_of, shown_tree}
 use Rattle.mdcache.specs.Sound.{IsSound}
-use Rattle.mdcache.specs.Splits.{Comes, HasUnsaved, IsConcerned, IsListedAnew, IsMergedInto, IsNewLeaf, IsRegrouped, KeepsTree, are_empty, regrouped}
+use Rattle.mdcache.specs.Splits.{Comes, HasUnsaved, IsConcerned, IsListedAnew, IsMergedInto, IsNewLeaf, IsRegrouped, KeepsTree, are_empty}
 use Rattle.mdcache.specs.SplitsAndMerges.{merged_leaves}
 use Rattle.mdcache.specs.State.{IsLive, State, text_of}
 use Rattle.mdcache.proofs.ChangeSteps.{ends_came_so, still_held, unclean_ended}

@@ -15,7 +15,6 @@ use Rattle.omap.specs.Omap.{Omap, key_cmp}
 use Rattle.objstore.specs.Objects.{Objects}
 use Rattle.dirfrag_codec.specs.FragmentObject.{Names}
 use Rattle.commit_jobs.specs.declared.marks.Mark.{Mark}
-use Rattle.cached_frag.specs.Cached.{Cached}
 use Rattle.dentry_cache.specs.Loading.{object_of}
 use Rattle.dentry_cache.specs.Cache.{Leaf, Unsaved, leaf_cmp, leaf_is}
 use Rattle.dentry_cache.specs.CacheCalls.{KeepsNone}

@@ -1,6 +1,6 @@
 -- What a change that may be made tells of its leaves and inodes.
-use Rattle.std.proofs.Common.{◌≡◌, ◌⊎◌, inl, inr, ℕ, ◌+◌, ◌<◌, ◌≤◌, Bool, true, false, Option, Some, None, Result, Ok, Err, OnOk, refl, sym, ap, subst, ◌∙◌, arith}
-use Rattle.std.specs.Prelude.{IfSome, unwrap_or, is_some, List}
+use Rattle.std.proofs.Common.{◌≡◌, ◌⊎◌, inl, inr, ℕ, ◌+◌, ◌<◌, ◌≤◌, true, false, Option, Some, None, Result, Ok, Err, OnOk, refl, sym, ap, subst, ◌∙◌, arith}
+use Rattle.std.specs.Prelude.{IfSome, unwrap_or}
 use Rattle.std.specs.FinMap as map
 use Rattle.mds_types.specs.declared.dentries.Dentry.{Dentry}
 use Rattle.mds_types.specs.declared.ids.Ino.{Ino}
@@ -8,7 +8,7 @@ use Rattle.mds_types.specs.declared.inodes.Inode.{Inode}
 use Rattle.mds_types.specs.declared.inodes.Kind.{Kind}
 use Rattle.mds_types.specs.declared.inodes.Kind.TheVariants.{File, Dir, Symlink as Link}
 use Rattle.mds_types.specs.Frag.{Fragment}
-use Rattle.mds_types.specs.Step.{IsMove, size_errno}
+use Rattle.mds_types.specs.Step.{size_errno}
 use Rattle.mds_types.specs.Tree.{HasSize, Tree, is_directory}
 use Rattle.namehash.specs.Rjenkins.{hash_of}
 use Rattle.dirfrag_codec.specs.EntryRecord.{HasTarget, IsRankNumber, IsRecordable}
@@ -17,8 +17,7 @@ use Rattle.dentry_cache.specs.Cache.{Leaf}
 use Rattle.dentry_cache.specs.Came.{IsThat}
 use Rattle.inode_table.specs.Dirs.{is_known}
 use Rattle.inode_table.specs.TreeChanges.{MayAdd, MaySet}
-use Rattle.namespace_ops.specs.Changes.{IsLeafAt, MayChange}
-use Rattle.namespace_ops.specs.declared.plans.Change.TheVariants.{Add, Set, Remove, Move}
+use Rattle.namespace_ops.specs.Changes.{IsLeafAt}
 use Rattle.mdcache.specs.Changes.{first_leaf}
 use Rattle.mdcache.specs.Core.{Core, IsSoundCore, shown_in, state_of}
 use Rattle.mdcache.specs.Shown.{names_of}

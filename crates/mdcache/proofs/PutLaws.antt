@@ -1,11 +1,10 @@
 -- What a change of one name leaves.
-use Rattle.std.proofs.Common.{◌≡◌, ◌⊎◌, inl, inr, ℕ, ◌+◌, ◌<◌, Bool, true, false, cond, is_some, List, Option, Some, None, refl, sym, ap, subst, ◌∙◌}
+use Rattle.std.proofs.Common.{◌≡◌, ◌⊎◌, inl, inr, ℕ, ◌+◌, ◌<◌, Bool, true, false, cond, List, Option, Some, None, refl, sym, ap, subst, ◌∙◌}
 use Rattle.std.specs.Prelude.{◌==◌}
 use Rattle.std.proofs.lemmas.Bool.{eqb-true}
 use Rattle.std.proofs.lemmas.Option.{same_Some}
 use Rattle.std.specs.FinMap as map
 use Rattle.std.specs.FinMap.{empty_of_len, get-empty}
-use Rattle.sorted_map.proofs.NatKeys.{is_same}
 use Rattle.mds_types.specs.declared.ids.Rank.{Rank}
 use Rattle.mds_types.specs.declared.inodes.Inode.{Inode}
 use Rattle.omap.specs.Omap.{Omap, key_cmp}
@@ -15,13 +14,13 @@ use Rattle.commit_jobs.specs.declared.bases.Base.TheVariants.{Fresh, Stored}
 use Rattle.commit_jobs.specs.declared.marks.Mark.{Mark}
 use Rattle.commit_jobs.specs.Marks.{Marks}
 use Rattle.cached_frag.specs.Cached.{Cached, is_clean, is_clean_over, marked}
-use Rattle.dentry_cache.specs.Cache.{IsThere, Leaf, Unsaved, leaf_is, unsaved_in, unsaved_of, with_unsaved}
-use Rattle.dentry_cache.specs.CacheMap.{At, CacheMap, IsFree, IsFreeFor, at, at_rank, edited_as, has_place, here, leaf_of, unclean, unsaved_at, with_frag, with_mark}
+use Rattle.dentry_cache.specs.Cache.{IsThere, Leaf, Unsaved, leaf_is, unsaved_of, with_unsaved}
+use Rattle.dentry_cache.specs.CacheMap.{At, CacheMap, IsFree, IsFreeFor, at, at_rank, edited_as, has_place, here, leaf_of, unclean, unsaved_at, with_frag}
 use Rattle.dentry_cache.specs.Loading.{object_of}
 use Rattle.dentry_cache.specs.Ties.{IsTied, IsTiedAt}
 use Rattle.dentry_cache.specs.declared.dirfrag.Dirfrag.{Dirfrag}
 use Rattle.dentry_cache.proofs.CameLaws.{marked_unclean as now_unclean}
-use Rattle.dentry_cache.proofs.LeafLaws.{leaf_itself, one_leaf}
+use Rattle.dentry_cache.proofs.LeafLaws.{one_leaf}
 use Rattle.dentry_cache.proofs.ReadsLaws.{here_is}
 use Rattle.dentry_cache.proofs.StepLaws.{get_with_frag, here_beside, here_put, placed_used}
 use Rattle.dentry_cache.proofs.TieLaws.{changed_are_tied}

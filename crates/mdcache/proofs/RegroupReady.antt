@@ -1,11 +1,10 @@
 -- What is made ready for a split or a merge: first room and names are planned, then the place that was kept is given up, then leaves are read.
-use Rattle.std.proofs.Common.{◌≡◌, ◌⊎◌, inl, inr, ℕ, ◌+◌, ◌<◌, ◌≤◌, ◌^◌, Bool, true, false, length, List, Option, Some, None, refl, sym, ap, subst, ◌∙◌, arith}
+use Rattle.std.proofs.Common.{◌≡◌, ◌⊎◌, inl, inr, ℕ, ◌+◌, ◌<◌, ◌≤◌, ◌^◌, true, false, length, List, Option, Some, None, refl, sym, ap, subst, ◌∙◌, arith}
 use Rattle.std.specs.Prelude.{map as each, OnOk, OnErr, IfErr, Result, Ok, Err}
-use Rattle.std.specs.List.{Contains, IsDistinct}
+use Rattle.std.specs.List.{IsDistinct}
 use Rattle.std.specs.FinMap as map
-use Rattle.mds_types.specs.declared.ids.Ino.{Ino}
 use Rattle.mds_types.specs.declared.refusals.Refusal.{Refusal}
-use Rattle.mds_types.specs.Frag.{Fragment, child_of}
+use Rattle.mds_types.specs.Frag.{child_of}
 use Rattle.fragtree.specs.FragTree.{CanMerge, CanSplit, IsMerge, IsSplit, leaves_inside}
 use Rattle.dentry_cache.specs.declared.dirfrag.Dirfrag.{Dirfrag}
 use Rattle.cached_frag.specs.Cached.{Cached}
@@ -16,18 +15,17 @@ use Rattle.dentry_cache.specs.CacheSplits.{AreAbsent, IsButPlaces, IsChildAt, Is
 use Rattle.dentry_cache.specs.Came.{IsThat, NoneEnds}
 use Rattle.dentry_cache.specs.Reads.{Reads}
 use Rattle.dentry_cache.specs.Reads.Reads.{stays as it_stays}
-use Rattle.dentry_cache.proofs.FrameLaws.{came_ranks}
 use Rattle.dentry_cache.proofs.LacksLaws.{reads_placed}
 use Rattle.dentry_cache.proofs.NameParts.{no_child}
 use Rattle.dentry_cache.proofs.LeafLaws.{leaf_itself}
-use Rattle.dentry_cache.proofs.ReadsLaws.{reads_came, reads_then, reads_weaker}
+use Rattle.dentry_cache.proofs.ReadsLaws.{reads_then, reads_weaker}
 use Rattle.dentry_cache.proofs.WholeLaws.{readies_whole, refused_whole}
 use Rattle.inode_table.specs.Dirs.{Covers, is_known, leaves_of}
 use Rattle.namespace_ops.specs.Changes.{in_directory}
 use Rattle.mdcache.specs.declared.merge_plan.MergePlan.{MergePlan}
 use Rattle.mdcache.specs.declared.split_plan.SplitPlan.{SplitPlan}
 use Rattle.mdcache.specs.CacheReads.{LacksPlacesIn}
-use Rattle.mdcache.specs.Core.{Core, IsNoLess, IsSoundCore, MayFetch, ReadsCore, Rooms, state_of}
+use Rattle.mdcache.specs.Core.{Core, IsNoLess, IsSoundCore, MayFetch, ReadsCore, state_of}
 use Rattle.mdcache.specs.Joining.{IsAmongOr}
 use Rattle.mdcache.specs.Ranks.{KeepsNoMore, MayHold, NoneUsed}
 use Rattle.mdcache.specs.Reads.{MayNotFind}
@@ -38,7 +36,6 @@ use Rattle.mdcache.proofs.CoreLaws.{first_step, given_may, next_step, no_less_it
 use Rattle.mdcache.proofs.JoinSteps.{hold_on, live_on}
 use Rattle.mdcache.proofs.MergeSteps.{ending_live}
 use Rattle.mdcache.proofs.NoneLaws.{none_absent, none_only}
-use Rattle.mdcache.proofs.SplitSteps.{no_child_cached}
 use Rattle.mdcache.proofs.UncleanOf.{kept_none, unclean_few}
 
 -- where no place is kept, none more is

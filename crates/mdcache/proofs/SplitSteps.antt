@@ -7,7 +7,7 @@ use Rattle.std.proofs.Math.Nat.{mul-le-mul_right}
 use Rattle.std.proofs.lemmas.Option.{same_Some}
 use Rattle.mds_types.specs.declared.ids.Ino.{Ino}
 use Rattle.mds_types.specs.declared.inodes.Inode.{Inode}
-use Rattle.mds_types.specs.Frag.{Fragment, IsFragment, child_of, span}
+use Rattle.mds_types.specs.Frag.{Fragment, child_of, span}
 use Rattle.mds_types.specs.Tree.{dentry_of}
 use Rattle.mds_types.proofs.Fragments.{span-split}
 use Rattle.fragtree.specs.FragTree.{CanSplit, HasLeaf, IsChild, IsPick, IsSplit, IsTree}
@@ -17,7 +17,6 @@ use Rattle.fragtree.proofs.Spelled.{one_leaf as one_of_hash}
 use Rattle.fragtree.proofs.Tilings.{between}
 use Rattle.fragtree.proofs.TreeLaws.{pick_after_split}
 use Rattle.namehash.specs.Rjenkins.{hash_of}
-use Rattle.omap.specs.Omap.{Keys}
 use Rattle.dirfrag_codec.specs.FragmentObject.{Names}
 use Rattle.commit_jobs.specs.declared.bases.Base.TheVariants.{Fresh}
 use Rattle.cached_frag.specs.Cached.{Cached, shown}
@@ -27,13 +26,12 @@ use Rattle.dentry_cache.specs.Pairs.{holds}
 use Rattle.dentry_cache.proofs.LoadLaws.{holds_contains}
 use Rattle.dentry_cache.specs.declared.parts.Part.{Part}
 use Rattle.dentry_cache.specs.declared.dirfrag.Dirfrag.{Dirfrag}
-use Rattle.dentry_cache.specs.Cache.{HasCached, IsThere, Leaf, Unsaved, leaf_is}
+use Rattle.dentry_cache.specs.Cache.{HasCached, Leaf, Unsaved, leaf_is}
 use Rattle.dentry_cache.specs.CacheCalls.{IsWhole, KeepsNone}
-use Rattle.dentry_cache.specs.CacheMap.{At, CacheMap, IsFreeFor, at, here, leaf_of, order, unclean}
-use Rattle.dentry_cache.specs.CacheSplits.{IsChildAt, IsFamilyAt, IsKeptFor, IsReadyToSplit, SplitsAt, SplitsInto}
+use Rattle.dentry_cache.specs.CacheMap.{At, IsFreeFor, at, here, leaf_of, order, unclean}
+use Rattle.dentry_cache.specs.CacheSplits.{IsChildAt, IsFamilyAt, IsReadyToSplit, SplitsAt, SplitsInto}
 use Rattle.dentry_cache.specs.Came.{Came}
 use Rattle.dentry_cache.specs.Divided.{IsNoChild, names_in}
-use Rattle.dentry_cache.specs.Ties.{IsTied}
 use Rattle.dentry_cache.proofs.LeafLaws.{leaf_or_apart}
 use Rattle.dentry_cache.proofs.MapLaws.{here_free}
 use Rattle.dentry_cache.proofs.NameParts.{get-names_in}
@@ -44,13 +42,13 @@ use Rattle.inode_table.specs.Dirs.{is_known, leaves_of}
 use Rattle.inode_table.proofs.Tables.{tree_of_row}
 use Rattle.mdcache.specs.declared.splitting.Split.{Split}
 use Rattle.mdcache.specs.Core.{AreCached, Core, IsCachedIn, IsSoundCore, ReadsCore, state_of}
-use Rattle.mdcache.specs.Ranks.{KeepsOnlyAt, MayHold}
+use Rattle.mdcache.specs.Ranks.{MayHold}
 use Rattle.mdcache.specs.Reads.{has_none}
 use Rattle.mdcache.specs.Regrouping.{IsSplitReady, split_in}
 use Rattle.mdcache.specs.Shown.{names_of, shown_tree}
 use Rattle.mdcache.specs.Sound.{IsSound}
-use Rattle.mdcache.specs.Splits.{Comes, HasUnsaved, IsConcerned, IsListedAnew, IsNewLeaf, IsRegrouped, IsSplitInto, KeepsTree, are_empty, regrouped, without_objects}
-use Rattle.mdcache.specs.State.{IsLive, State, text_of}
+use Rattle.mdcache.specs.Splits.{Comes, HasUnsaved, IsConcerned, IsListedAnew, IsNewLeaf, IsRegrouped, IsSplitInto, KeepsTree, are_empty, without_objects}
+use Rattle.mdcache.specs.State.{IsLive, State}
 use Rattle.mdcache.proofs.ChangeSteps.{cached_there, its}
 use Rattle.mdcache.proofs.CoreLaws.{reads_cached_so, reads_state, shows_so, there_after}
 use Rattle.mdcache.proofs.ListedLaws.{listed_anew}

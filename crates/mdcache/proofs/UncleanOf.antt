@@ -1,5 +1,5 @@
 -- What isn't clean of one rank, after reads and preparations; and where places lack.
-use Rattle.std.proofs.Common.{◌≡◌, ◌⊎◌, inl, inr, ℕ, zero, suc, ◌+◌, ◌-◌, ◌<◌, ◌≤◌, ◌||◌, Bool, true, false, cond, not, List, [], ◌∷◌, length, filter, is_some, Option, Some, None, refl, sym, ap, subst, ◌∙◌, arith}
+use Rattle.std.proofs.Common.{◌≡◌, inl, inr, ℕ, zero, suc, ◌+◌, ◌-◌, ◌<◌, ◌≤◌, ◌||◌, Bool, true, false, cond, not, List, [], ◌∷◌, length, filter, is_some, Option, Some, None, refl, sym, ap, subst, ◌∙◌, arith}
 use Rattle.std.specs.Prelude.{◌==◌}
 use Rattle.std.specs.List.{AllByRecursion, IsDistinct, list_any}
 use Rattle.std.proofs.lemmas.Map.Keys.{IsDistinct-cons, IsDistinct-head, IsDistinct-tail}
@@ -8,7 +8,7 @@ use Rattle.std.specs.FinMap.{contains_key-keys, empty_of_len, get-empty, get-rem
 use Rattle.objstore.specs.Objects.{Objects}
 use Rattle.cached_frag.specs.Cached.{Cached, is_clean}
 use Rattle.dentry_cache.specs.Cache.{IsThere, Leaf, Unsaved, leaf_cmp, leaf_is, unsaved_in}
-use Rattle.dentry_cache.specs.CacheCalls.{IsWhole, KeepsNone, kept_at, unclean_at, unclean_in}
+use Rattle.dentry_cache.specs.CacheCalls.{KeepsNone, kept_at, unclean_at, unclean_in}
 use Rattle.dentry_cache.specs.CacheMap.{AreCaches, At, CacheMap, at, at_rank, has_place, here, order, removed, roomy, unclean_of, unsaved_at, with_frag}
 use Rattle.dentry_cache.specs.Loading.{object_of}
 use Rattle.dentry_cache.specs.Reads.{IsButRoom, Reads}

@@ -30,7 +30,6 @@ use Rattle.mdcache.specs.Changes.{first_leaf}
 use Rattle.mdcache.specs.Ranks.{KeepsOnlyAt}
 use Rattle.mdcache.specs.Going.{IsGoingOrNone, count_going, dir_going}
 use Rattle.mdcache.specs.Ready.{LacksNumbers}
-use Rattle.mdcache.specs.Shown.{shown_tree}
 use Rattle.mdcache.specs.State.{State, text_of}
 
 -- ---- reads and refusals

@@ -1,7 +1,6 @@
 -- What is made ready for a split and for a merge of a directory's leaves, and what they make of the whole.
-use Rattle.std.specs.Prelude.{◌≡◌, ℕ, ◌+◌, ◌<◌, ◌≤◌, ◌^◌, Bool, cond, List, [], ◌∷◌, map as each, length, Option, None, string_bytes}
+use Rattle.std.specs.Prelude.{◌≡◌, ℕ, ◌+◌, ◌<◌, ◌≤◌, ◌^◌, Bool, cond, List, map as each, length, None, string_bytes}
 use Rattle.std.specs.FinMap as map
-use Rattle.mds_types.specs.Frag.{Fragment}
 use Rattle.fragtree.specs.FragTree.{IsMerge, IsSplit, IsTree, leaves_inside}
 use Rattle.commit_jobs.specs.declared.bases.Base.TheVariants.{Fresh}
 use Rattle.cached_frag.specs.Cached.{Cached, shown}

@@ -56,7 +56,8 @@ impl<S: Store + Drop> MdCache<S> {
         ensures { self.new ≡ with_dir self.old at home object.now self.new.room }
     {
         self.dirs.adopt(at.dir, home);
-        self.caches.fill(at, CachedFrag::fresh(alloc, self.next.generation));
+        self.caches
+            .fill(at, CachedFrag::fresh(alloc, self.next.generation));
         self.next.generation += 1;
         self.purge.remove(object);
     }

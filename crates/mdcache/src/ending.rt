@@ -33,7 +33,10 @@ impl<S: Store + Drop> MdCache<S> {
         if !stands(&self.jobs, job) {
             return Err(Refusal::StaleJob);
         }
-        if let Err(refusal) = self.caches.end_commit(alloc, &mut self.store, rank, encoded) {
+        if let Err(refusal) = self
+            .caches
+            .end_commit(alloc, &mut self.store, rank, encoded)
+        {
             return Err(refusal);
         }
         self.jobs.end(job.ino, job.frag);

@@ -8,11 +8,11 @@ ghost use Rattle.dentry_cache.specs.CacheMap.{order, with_frag};
 ghost use Rattle.mdcache.specs.Core.{IsSoundCore, state_of};
 ghost use Rattle.mdcache.specs.New.{MayNotFormat, cached_root, new_caches, new_state, root_leaf};
 
+use crate::counters::Counters;
 use crate::mdcache::MdCache;
 use crate::prepared::Prepared;
 use crate::purge_list::PurgeList;
 use crate::standing_jobs::StandingJobs;
-use crate::counters::Counters;
 use cached_frag::CachedFrag;
 use dentry_cache::{Caches, Dirfrag};
 use inode_table::Dirs;

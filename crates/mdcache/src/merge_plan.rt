@@ -76,11 +76,7 @@ fn merge_cover(alloc: Global, dirs: &mut Dirs, at: &Dirfrag) -> Result<FragTree,
 }
 
 // The leaves of a directory that lie properly inside a fragment, each with the name of its object.
-fn ending_leaves_of(
-    alloc: Global,
-    dirs: &Dirs,
-    at: &Dirfrag,
-) -> Result<Vec<GoingLeaf>, AllocError>
+fn ending_leaves_of(alloc: Global, dirs: &Dirs, at: &Dirfrag) -> Result<Vec<GoingLeaf>, AllocError>
     ensures leaves { IfOk result (λ parts. leaves_in at.now.dir parts.items ≡ each (in_directory at.now.dir.0) (leaves_inside at.now.frag (leaves_of dirs.now.trees at.now.dir.0))) }
     ensures texts { IfOk result (λ parts. texts_in parts.items ≡ each text_of (each (in_directory at.now.dir.0) (leaves_inside at.now.frag (leaves_of dirs.now.trees at.now.dir.0)))) }
 {

@@ -168,7 +168,8 @@ impl<S: Store + Drop> MdCache<S> {
         if let Err(refusal) = self.fetch(alloc, at) {
             return Err(refusal);
         }
-        self.caches.ready_split(alloc, *at, nb, self.next.generation)
+        self.caches
+            .ready_split(alloc, *at, nb, self.next.generation)
     }
 
     // Splits a leaf for which all is ready: its names go to its children, its job ends, the name of its object comes on the

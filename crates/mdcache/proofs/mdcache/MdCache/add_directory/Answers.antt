@@ -1,4 +1,4 @@
-use Rattle.std.proofs.Common.{rules, ◌≡◌, true, None, subst, sym}
+use Rattle.std.proofs.Common.{◌≡◌, true, None, subst, sym}
 use Rattle.std.specs.FinMap as map
 use Rattle.dentry_cache.specs.CacheMap.{has_place}
 use Rattle.mdcache.specs.Changes.{first_leaf}

@@ -1,4 +1,4 @@
-use Rattle.std.proofs.Common.{rules, ap, subst, sym, ◌∙◌}
+use Rattle.std.proofs.Common.{ap, subst, sym, ◌∙◌}
 use Rattle.std.specs.Prelude.{List, ℕ}
 use Rattle.inode_table.specs.Dirs.{MayCome}
 use Rattle.inode_table.proofs.TableLaws.{may_come}

@@ -1,7 +1,6 @@
-use Rattle.std.proofs.Common.{rules, Option, ap, subst, sym, ◌∙◌}
-use Rattle.std.specs.Prelude.{IfSome, List, ℕ, ◌≡◌, true}
+use Rattle.std.proofs.Common.{Option, ap, subst, sym, ◌∙◌}
+use Rattle.std.specs.Prelude.{IfSome, List, ℕ}
 use Rattle.std.specs.FinMap as map
-use Rattle.mds_types.specs.Tree.{is_dir_kind}
 use Rattle.mds_types.specs.declared.ids.Ino.{Ino}
 use Rattle.inode_table.specs.Dirs.{MayGo, MayMove}
 use Rattle.inode_table.specs.TreeTable.{with_home}

@@ -1,4 +1,4 @@
-use Rattle.std.proofs.Common.{rules, Option, ap, subst, sym, ◌∙◌}
+use Rattle.std.proofs.Common.{Option, ap, subst, sym, ◌∙◌}
 use Rattle.std.specs.Prelude.{IfSome}
 use Rattle.mds_types.specs.declared.ids.Ino.{Ino}
 use Rattle.inode_table.specs.Dirs.{MayGo}

@@ -1,4 +1,3 @@
-use Rattle.std.proofs.Common.{rules}
 use Rattle.mdcache.proofs.ChangesMade.{set_changed}
 use Rattle.mdcache.proofs.mdcache.MdCache.apply_set.Goals as goal
 

@@ -1,4 +1,3 @@
-use Rattle.std.proofs.Common.{rules}
 use Rattle.mdcache.proofs.BesideLaws.{drop_dropped, drop_sound}
 use Rattle.mdcache.proofs.mdcache.MdCache.drop_job.Goals as goal
 

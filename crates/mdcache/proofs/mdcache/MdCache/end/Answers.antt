@@ -1,10 +1,10 @@
-use Rattle.std.proofs.Common.{rules, ◌≡◌, ◌⊎◌, ℕ, inr, Some, subst, sym, ap, ◌∙◌}
+use Rattle.std.proofs.Common.{◌≡◌, inr, Some, subst, sym, ap, ◌∙◌}
 use Rattle.std.specs.FinMap as map
 use Rattle.objstore.specs.Objects.{MayRefuse}
 use Rattle.commit_jobs.specs.Commit.{Carried}
 use Rattle.commit_jobs.specs.declared.jobs.Job.{Job}
 use Rattle.cached_frag.specs.Cached.{Cached}
-use Rattle.dentry_cache.specs.CacheMap.{CacheMap, IsFreeFor}
+use Rattle.dentry_cache.specs.CacheMap.{IsFreeFor}
 use Rattle.dentry_cache.specs.Came.{Came, IsThat, NoneEnds}
 use Rattle.dentry_cache.specs.Came.Came.{stays}
 use Rattle.dentry_cache.specs.Commits.{IsCommitted}

@@ -1,9 +1,8 @@
-use Rattle.std.proofs.Common.{rules, ◌≡◌, suc, ◌∷◌, List, length, sym, ap, ◌∙◌, arith}
-use Rattle.std.specs.Prelude.{string_bytes, []}
+use Rattle.std.proofs.Common.{◌≡◌, suc, ◌∷◌, List, length, sym, ap, ◌∙◌, arith}
 use Rattle.std.proofs.lemmas.List.{nil_from_length}
 use Rattle.std.specs.Vec.Iter.{into_iter_items}
 use Rattle.mdcache.specs.declared.going.GoingLeaf.{GoingLeaf}
-use Rattle.mdcache.specs.Core.{Core, Rooms, without_frags}
+use Rattle.mdcache.specs.Core.{Core, without_frags}
 use Rattle.mdcache.specs.Going.{leaves_in, texts_in}
 use Rattle.mdcache.proofs.mdcache.MdCache.end_leaves.Goals as goal
 

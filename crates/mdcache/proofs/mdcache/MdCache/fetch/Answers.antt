@@ -1,5 +1,4 @@
-use Rattle.std.proofs.Common.{None, inl, refl}
-use Rattle.dentry_cache.specs.Cache.{Leaf}
+use Rattle.std.proofs.Common.{None, refl}
 use Rattle.dentry_cache.specs.Came.{IsThat}
 use Rattle.dentry_cache.specs.CacheMap.{leaf_of}
 use Rattle.mdcache.proofs.FetchSteps.{fetch_none, fetch_reads, fetch_refused}

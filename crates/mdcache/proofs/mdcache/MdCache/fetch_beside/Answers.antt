@@ -1,5 +1,4 @@
 use Rattle.std.proofs.Common.{Some, inl, inr, refl}
-use Rattle.dentry_cache.specs.Came.{IsThat}
 use Rattle.dentry_cache.specs.CacheMap.{leaf_of}
 use Rattle.mdcache.proofs.FetchSteps.{fetch_none, fetch_reads, fetch_refused, fetch_stays}
 use Rattle.mdcache.proofs.mdcache.MdCache.fetch_beside.Goals as goal

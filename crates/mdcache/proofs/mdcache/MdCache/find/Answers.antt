@@ -1,7 +1,7 @@
-use Rattle.std.proofs.Common.{◌≡◌, ◌<◌, ℕ, length, refl, sym, subst, ap}
+use Rattle.std.proofs.Common.{◌<◌, length, refl, sym, subst}
 use Rattle.dentry_cache.specs.Cache.{IsThere}
 use Rattle.dentry_cache.specs.CacheCalls.{KeepsNone}
-use Rattle.dentry_cache.specs.CacheMap.{CacheMap, here, leaf_of, used_at}
+use Rattle.dentry_cache.specs.CacheMap.{here, leaf_of}
 use Rattle.dentry_cache.specs.Came.{IsThat, NoneEnds}
 use Rattle.mdcache.specs.Core.{Core}
 use Rattle.mdcache.proofs.CoreLaws.{there_after, use_step}

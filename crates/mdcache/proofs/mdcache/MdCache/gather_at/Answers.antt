@@ -1,4 +1,4 @@
-use Rattle.std.proofs.Common.{◌<◌, ℕ, length, sym, ap, subst}
+use Rattle.std.proofs.Common.{◌<◌, length, sym, subst}
 use Rattle.dentry_cache.specs.CacheMap.{leaf_of}
 use Rattle.dentry_cache.specs.Came.{IsThat, NoneEnds}
 use Rattle.mdcache.specs.Core.{Core}

@@ -1,5 +1,4 @@
-use Rattle.std.proofs.Common.{ap, sym, subst, ◌∙◌, ◌≡◌, ℕ, true}
-use Rattle.mds_types.specs.Tree.{is_above, is_directory}
+use Rattle.std.proofs.Common.{subst}
 use Rattle.std.specs.Prelude.{◌↔◌, IsTrue}
 use Rattle.inode_table.specs.Dirs.{IsAbove}
 use Rattle.inode_table.proofs.TableLaws.{above_is}

@@ -1,4 +1,4 @@
-use Rattle.std.proofs.Common.{◌≡◌, ◌∙◌, ap}
+use Rattle.std.proofs.Common.{◌∙◌, ap}
 use Rattle.inode_table.specs.Dirs.{is_known}
 use Rattle.inode_table.proofs.TableLaws.{known_is}
 use Rattle.mdcache.specs.Core.{Core, shown_in}

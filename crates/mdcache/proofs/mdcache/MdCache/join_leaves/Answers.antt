@@ -1,13 +1,7 @@
-use Rattle.std.proofs.Common.{rules, ◌≡◌, ◌⊎◌, ℕ, ◌+◌, ◌<◌, ◌^◌, length, [], ◌∷◌, inl, inr, Some, None, refl, sym, ap, subst, ◌∙◌, arith}
-use Rattle.std.specs.FinMap as map
+use Rattle.std.proofs.Common.{rules, ◌≡◌, ℕ, [], ◌∷◌, refl, sym, ap, subst, ◌∙◌}
 use Rattle.std.specs.List.{Contains}
-use Rattle.dentry_cache.specs.Cache.{Leaf}
 use Rattle.dentry_cache.specs.CacheMap.{unclean}
 use Rattle.dentry_cache.specs.Came.{IsThat, NoneEnds}
-use Rattle.dirfrag_codec.specs.FragmentObject.{Names}
-use Rattle.mds_types.specs.declared.refusals.Refusal.{Refusal}
-use Rattle.mdcache.specs.CacheReads.{LacksPlacesIn}
-use Rattle.mdcache.specs.Core.{Core, state_of}
 use Rattle.mdcache.specs.Going.{leaves_in}
 use Rattle.mdcache.specs.Joining.{HasJoined, IsAmong}
 use Rattle.mdcache.specs.Shown.{names_of}
@@ -33,7 +27,7 @@ pub join_leaf-requires-clause-holds : goal.join_leaf-requires-clause-holds
 join_leaf-requires-clause-holds g c = let m = c.requires.live (c.args.at.now.dir, c.part-item.result.frag) (part_among c.args.at.now.dir c.args.leaves.now c.loop-part.part-index c.part-item.result c.loop-part-test.true c.part-item.is) in hold_on (IsAmong c.args.at.now.rank.0 (leaves_in c.args.at.now.dir c.args.leaves.now)) NoneEnds c.args.self.now c.loop-part.self c.loop-part.invariant.reads c.requires.sound (record { dir = c.args.at.now.dir; frag = c.part-item.result.frag; rank = c.args.at.now.rank }) (λ r is. is.0) m.0 m.1
 
 pub loop-part-preserved : goal.loop-part-preserved
-loop-part-preserved g c = 
+loop-part-preserved g c =
     let inv = c.loop-part.invariant in
     let told : names_of (unclean c.loop-part.self.caches) c.loop-part.self.objects (c.args.at.now.dir, c.part-item.result.frag) ≡ names_of (unclean c.args.self.now.caches) c.args.self.now.objects (c.args.at.now.dir, c.part-item.result.frag) = ap (λ (s : State). names_of s.unsaved s.objects (c.args.at.now.dir, c.part-item.result.frag)) (reads_state (IsAmong c.args.at.now.rank.0 (leaves_in c.args.at.now.dir c.args.leaves.now)) NoneEnds c.args.self.now c.loop-part.self inv.reads) in
     let version : c.loop-part.self.next_version ≡ c.args.self.now.next_version = ap (λ (s : State). s.next_version) (reads_state (IsAmong c.args.at.now.rank.0 (leaves_in c.args.at.now.dir c.args.leaves.now)) NoneEnds c.args.self.now c.loop-part.self inv.reads) in

@@ -1,4 +1,4 @@
-use Rattle.std.proofs.Common.{rules, ap, subst, sym, ◌∙◌}
+use Rattle.std.proofs.Common.{ap, subst, sym}
 use Rattle.std.specs.Prelude.{None, Some}
 use Rattle.dentry_cache.specs.Cache.{HasRoom}
 use Rattle.dentry_cache.specs.CacheCalls.{KeepsNone}

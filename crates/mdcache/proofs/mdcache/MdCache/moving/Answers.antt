@@ -1,5 +1,4 @@
-use Rattle.std.proofs.Common.{Option, sym, ap, subst, ◌∙◌}
-use Rattle.mds_types.specs.declared.ids.Ino.{Ino}
+use Rattle.std.proofs.Common.{sym, ap, subst, ◌∙◌}
 use Rattle.mdcache.specs.Core.{Core}
 use Rattle.mdcache.specs.Frags.{IsTakenAlong, dir_moving}
 use Rattle.mdcache.proofs.MovingAlong.{taken_along}

@@ -1,4 +1,4 @@
-use Rattle.std.proofs.Common.{rules, ap}
+use Rattle.std.proofs.Common.{ap}
 use Rattle.mdcache.specs.PurgeList.{Listed}
 use Rattle.mdcache.specs.StandingJobs.{Standing}
 use Rattle.mdcache.specs.declared.prepared.Prepared.TheVariants.{Nothing}

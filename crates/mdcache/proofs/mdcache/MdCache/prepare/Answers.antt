@@ -1,4 +1,4 @@
-use Rattle.std.proofs.Common.{rules, subst, sym}
+use Rattle.std.proofs.Common.{subst, sym}
 use Rattle.dentry_cache.specs.CacheSplits.{IsKeptFor}
 use Rattle.namespace_ops.specs.declared.plans.Change.{Change}
 use Rattle.mdcache.specs.Core.{ReadsCore}

@@ -1,4 +1,4 @@
-use Rattle.std.proofs.Common.{rules, ◌≡◌, ◌⊎◌, ℕ, ◌+◌, ◌<◌, ◌^◌, length, inl, inr, Some, None, Ok, Err, List, refl, sym, ap, subst, ◌∙◌, arith}
+use Rattle.std.proofs.Common.{List, ap, subst, ◌∙◌}
 use Rattle.std.specs.List.{Contains}
 use Rattle.dentry_cache.specs.Cache.{Leaf}
 use Rattle.dentry_cache.specs.CacheMap.{leaf_of}
@@ -8,12 +8,12 @@ use Rattle.inode_table.specs.Dirs.{leaves_of}
 use Rattle.mdcache.specs.Core.{Core, ReadsCore}
 use Rattle.mdcache.specs.Going.{leaves_in}
 use Rattle.mdcache.specs.Joining.{IsAmongOr}
-use Rattle.mdcache.specs.Regrouping.{IsJoined, ending_at}
-use Rattle.mdcache.proofs.CoreLaws.{reads_core_on, reads_sound_so}
+use Rattle.mdcache.specs.Regrouping.{ending_at}
+use Rattle.mdcache.proofs.CoreLaws.{reads_sound_so}
 use Rattle.mdcache.proofs.JoinLaws.{itself_apart}
 use Rattle.mdcache.proofs.MergeSteps.{ending_live, merged_nowhere}
 use Rattle.mdcache.proofs.NoneLaws.{none_only}
-use Rattle.mdcache.proofs.RegroupReady.{ending_or_it, given_absent, given_all, given_holds, given_there, given_whole, last_reads, last_refused, merge_planned_on, reads_undone, room_reads, room_sound}
+use Rattle.mdcache.proofs.RegroupReady.{ending_or_it, given_absent, given_holds, given_there, given_whole, last_reads, last_refused, reads_undone, room_reads, room_sound}
 use Rattle.mdcache.proofs.mdcache.MdCache.prepare_merge.Goals as goal
 
 pub returns-in-Err-clause-reads : goal.returns-in-Err-clause-reads

@@ -1,4 +1,4 @@
-use Rattle.std.proofs.Common.{rules, ◌≡◌, ◌⊎◌, ℕ, Option, true, is_some, ap, subst, sym, ◌∙◌}
+use Rattle.std.proofs.Common.{◌⊎◌, ℕ, Option, is_some, ap, subst, sym, ◌∙◌}
 use Rattle.std.specs.Prelude.{None}
 use Rattle.mds_types.specs.declared.inodes.Inode.{Inode}
 use Rattle.std.specs.FinMap as map

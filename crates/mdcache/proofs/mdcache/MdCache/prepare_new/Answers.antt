@@ -1,5 +1,4 @@
-use Rattle.std.proofs.Common.{rules, ◌⊎◌, ℕ, inl}
-use Rattle.dentry_cache.specs.Cache.{Leaf}
+use Rattle.std.proofs.Common.{inl}
 use Rattle.dentry_cache.specs.CacheSplits.{IsKeptFor}
 use Rattle.dentry_cache.specs.Came.{IsThat}
 use Rattle.namespace_ops.specs.declared.plans.Change.TheVariants.{Add}

@@ -1,4 +1,3 @@
-use Rattle.std.proofs.Common.{rules}
 use Rattle.mdcache.proofs.PrepareLaws.{entry_live}
 use Rattle.mdcache.proofs.mdcache.MdCache.prepare_removal.Goals as goal
 

@@ -1,9 +1,7 @@
-use Rattle.std.proofs.Common.{rules, ◌≡◌, ◌⊎◌, ℕ, ◌+◌, ◌<◌, ◌^◌, length, inl, inr, Some, None, refl, sym, ap, subst, ◌∙◌, arith}
+use Rattle.std.proofs.Common.{◌⊎◌, ℕ, ◌+◌, ◌^◌, inl, inr}
 use Rattle.mds_types.specs.Frag.{child_of}
 use Rattle.dentry_cache.specs.Cache.{Leaf}
-use Rattle.dentry_cache.specs.CacheMap.{leaf_of}
 use Rattle.dentry_cache.specs.CacheSplits.{IsFamilyAt, IsKeptFor}
-use Rattle.mdcache.specs.State.{IsLive}
 use Rattle.mdcache.proofs.CoreLaws.{reads_sound_so}
 use Rattle.mdcache.proofs.NoneLaws.{none_only}
 use Rattle.mdcache.proofs.RegroupReady.{family_live, given_absent, given_fetch, last_reads, last_refused, reads_undone, room_reads, room_sound}

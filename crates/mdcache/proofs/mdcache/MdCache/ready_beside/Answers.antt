@@ -1,4 +1,4 @@
-use Rattle.std.proofs.Common.{rules, ◌≡◌, ◌⊎◌, ◌<◌, ◌≤◌, ℕ, inl, inr, length, refl, sym, ap, subst}
+use Rattle.std.proofs.Common.{rules, ◌⊎◌, ◌<◌, ◌≤◌, ℕ, inr, length, refl, sym, subst}
 use Rattle.cached_frag.specs.Cached.{Cached}
 use Rattle.dentry_cache.specs.Cache.{HasCached}
 use Rattle.dentry_cache.specs.CacheCalls.{Edits, KeepsNone}

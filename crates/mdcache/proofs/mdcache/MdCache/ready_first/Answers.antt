@@ -1,8 +1,7 @@
-use Rattle.std.proofs.Common.{rules, ◌≡◌, ◌⊎◌, ◌<◌, ◌+◌, ◌≤◌, ℕ, None, Some, inl, inr, length, refl, sym, ap, subst, ◌∙◌, arith, Option}
+use Rattle.std.proofs.Common.{rules, ◌≡◌, ◌⊎◌, ◌<◌, ℕ, None, Some, inl, inr, length, refl, sym, subst}
 use Rattle.std.specs.FinMap as map
 use Rattle.std.specs.Prelude.{IfErr}
 use Rattle.mds_types.specs.declared.ids.Rank.{Rank}
-use Rattle.cached_frag.specs.Cached.{Cached}
 use Rattle.dentry_cache.specs.Cache.{HasRoom, Leaf}
 use Rattle.dentry_cache.specs.CacheCalls.{KeepsNone}
 use Rattle.dentry_cache.specs.CacheMap.{here, leaf_of}

@@ -1,10 +1,8 @@
-use Rattle.std.proofs.Common.{rules, ◌≡◌, ◌⊎◌, ◌<◌, ◌≤◌, ℕ, inl, inr, length, refl, sym, ap, subst}
+use Rattle.std.proofs.Common.{rules, ◌<◌, ◌≤◌, length, refl, sym, subst}
 use Rattle.cached_frag.specs.Cached.{Cached}
-use Rattle.dentry_cache.specs.Cache.{HasCached}
 use Rattle.dentry_cache.specs.CacheCalls.{Edits, KeepsNone}
-use Rattle.dentry_cache.specs.CacheMap.{here, leaf_of}
+use Rattle.dentry_cache.specs.CacheMap.{leaf_of}
 use Rattle.dentry_cache.specs.Came.{IsThat, NoneEnds}
-use Rattle.dentry_cache.specs.Cache.{Leaf}
 use Rattle.mdcache.specs.Core.{Core}
 use Rattle.mdcache.proofs.CoreLaws.{room_step, there_after}
 use Rattle.mdcache.proofs.NoneLaws.{none_edits}

@@ -1,4 +1,4 @@
-use Rattle.std.proofs.Common.{rules, ◌≡◌, ◌<◌, ◌+◌, ℕ, arith, ap, sym, subst, ◌∙◌}
+use Rattle.std.proofs.Common.{rules, ◌≡◌, ◌<◌, arith, ap, sym, subst, ◌∙◌}
 use Rattle.dentry_cache.specs.CacheCalls.{KeepsNone}
 use Rattle.dentry_cache.specs.CacheMap.{leaf_of}
 use Rattle.dentry_cache.specs.CacheSplits.{IsKeptFor}

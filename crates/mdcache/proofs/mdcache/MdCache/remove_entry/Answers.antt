@@ -1,4 +1,4 @@
-use Rattle.std.proofs.Common.{rules, ap, sym}
+use Rattle.std.proofs.Common.{ap}
 use Rattle.std.specs.Prelude.{None}
 use Rattle.dentry_cache.proofs.WholeLaws.{none_with_mark}
 use Rattle.mdcache.specs.Core.{Core}

@@ -1,4 +1,3 @@
-use Rattle.std.proofs.Common.{rules, ◌≡◌, ◌⊎◌, ℕ, ◌+◌, ◌<◌, ◌^◌, length, inl, inr, Some, None, refl, sym, ap, subst, ◌∙◌, arith}
 use Rattle.dentry_cache.specs.Came.Came.{stays}
 use Rattle.mdcache.proofs.mdcache.MdCache.split.Goals as goal
 
