@@ -1,32 +1,33 @@
 -- What the ranks' caches have: a rank caches only fragments that it is the authority of (Weil et al., OSDI 2006).
-use Rattle.std.specs.Prelude.{◌≡◌, ◌<◌, ◌⊎◌, ℕ, true, length, map as each, Some}
+use Rattle.std.specs.Prelude.{◌≡◌, ◌⊎◌, ◌<◌, ◌^◌, ℕ, true, length, map as each, Some}
 use Rattle.std.specs.List.{Contains}
 use Rattle.std.specs.FinMap as map
 use Rattle.mds_types.specs.declared.ids.Ino.{Ino}
 use Rattle.mds_types.specs.declared.ids.Rank.{Rank}
-use Rattle.mds_types.specs.Frag.{Fragment}
+use Rattle.mds_types.specs.Frag.{Fragment, child_of}
 use Rattle.fragtree.specs.FragTree.{leaves_inside}
 use Rattle.inode_table.specs.Dirs.{Covers, IsLive, leaves_of}
 use Rattle.namespace_ops.specs.Changes.{in_directory}
 use Rattle.namespace_ops.specs.declared.plans.Change.{Change}
 use Rattle.namespace_ops.specs.declared.plans.Change.TheVariants.{Add, Set, Remove, Move}
-use Rattle.dentry_cache.specs.Caches.{Caches, has_place}
+use Rattle.dentry_cache.specs.CacheMap.{At, CacheMap}
 use Rattle.subtree_map.specs.Authority.{Leaf, Roots}
 use Rattle.subtree_map.specs.Changes.{is_inside}
-use Rattle.mdcache.specs.declared.steps.holders.Holders.{Holders}
-use Rattle.mdcache.specs.Core.{Core}
-use Rattle.mdcache.specs.Core.{LacksPlacesAt}
+use Rattle.mdcache.specs.declared.holders.Holders.{Holders}
+use Rattle.mdcache.specs.Core.{Core, IsSoundCore, LacksPlacesAt, state_of}
 use Rattle.mdcache.specs.State.{State as TreeState}
 use Rattle.ranked_tree.specs.Subtrees.{AreRoots, Rules}
 
--- each place of a live leaf is at the leaf's authority; each root's rank is one of those that have a cache
-pub record AreHeld (tree : TreeState) (caches : Caches) (roots : Roots) : Type 0 where
-  pub places : (rank : Rank) (leaf : Leaf) → has_place caches rank leaf ≡ true → IsLive tree.homes tree.covers leaf → Rules tree roots leaf rank
-  pub ranks : (leaf : Leaf) (rank : Rank) → map.get roots leaf ≡ Some rank → rank.0 < length caches
+-- each cached fragment is at its leaf's authority; each root's rank is one of those that have a cache
+pub record AreHeld (tree : TreeState) (caches : CacheMap) (roots : Roots) : Type 0 where
+  pub cached : (leaf : Leaf) (a : At) → map.get caches.held leaf ≡ Some a → Rules tree roots leaf (record { 0 = a.rank })
+  pub ranks : (leaf : Leaf) (rank : Rank) → map.get roots leaf ≡ Some rank → rank.0 < length caches.used
 
--- the roots are those of the tree, and each rank's places are of leaves that it holds
-abbrev pub IsOwned : Core → Roots → Type 0
-IsOwned core roots = AreRoots (state_of core) roots × AreHeld (state_of core) core.caches roots
+-- the tree is sound, the roots are its own, and each rank caches fragments of leaves that it holds
+pub record IsOwned (core : Core) (roots : Roots) : Type 0 where
+  pub sound : IsSoundCore core
+  pub valid : AreRoots (state_of core) roots
+  pub held : AreHeld (state_of core) core.caches roots
 
 -- the leaf of a change's dentry, of a rename that of the source; and that of the dentry where a rename goes
 abbrev pub first_named : Change → Leaf
@@ -46,15 +47,6 @@ pub record AreHolders (tree : TreeState) (roots : Roots) (at : Holders) (change 
   pub first : Rules tree roots (first_named change) at.first
   pub second : Rules tree roots (second_named change) at.second
 
--- where leaves of a directory are regrouped: each place was that of a live leaf, or is one that comes at a rank which holds those leaves
-abbrev pub PlacesCome : (Holds : Rank → Type 0) (Come : Leaf → Type 0) → TreeState → (old new : Caches) → Type 0
-PlacesCome Holds Come tree old new =
-    (rank : Rank) (leaf : Leaf) → has_place new rank leaf ≡ true → (IsLive tree.homes tree.covers leaf × (has_place old rank leaf ≡ true)) ⊎ (Holds rank × Come leaf)
-
--- a leaf of a directory properly inside a fragment, or the leaf that they are merged to
-abbrev pub IsMergedHere : Covers → Ino → Fragment → Leaf → Type 0
-IsMergedHere covers dir frag leaf = Contains (each (in_directory dir.0) (leaves_inside frag (leaves_of covers dir.0))) leaf ⊎ ((dir, frag) ≡ leaf)
-
 -- so many places lack at the rank that holds a leaf
 abbrev pub LacksPlacesFor : ℕ → Core → Roots → Leaf → Type 0
 LacksPlacesFor count core roots leaf = (rank : Rank) × Rules (state_of core) roots leaf rank × LacksPlacesAt count core rank
@@ -62,3 +54,18 @@ LacksPlacesFor count core roots leaf = (rank : Rank) × Rules (state_of core) ro
 -- so many places lack at a rank that holds a leaf of a directory properly inside a fragment
 abbrev pub LacksPlacesInside : ℕ → Core → Roots → Ino → Fragment → Type 0
 LacksPlacesInside count core roots dir frag = (leaf : Leaf) × IsLive core.homes core.covers leaf × (is_inside dir.0 frag leaf ≡ true) × LacksPlacesFor count core roots leaf
+
+-- ---- leaves of a directory are regrouped
+
+-- each cached fragment was cached at its rank, or is that of a leaf which comes at a rank that holds those leaves
+abbrev pub FragmentsCome : (Holds : Rank → Type 0) (Come : Leaf → Type 0) → (old new : CacheMap) → Type 0
+FragmentsCome Holds Come old new =
+    (leaf : Leaf) (a : At) → map.get new.held leaf ≡ Some a → ((b : At) × (map.get old.held leaf ≡ Some b) × (b.rank ≡ a.rank)) ⊎ (Holds (record { 0 = a.rank }) × Come leaf)
+
+-- a leaf, or one of its children by so many bits
+abbrev pub IsFamilyOf : Ino → Fragment → ℕ → Leaf → Type 0
+IsFamilyOf dir frag bits q = (q ≡ (dir, frag)) ⊎ ((i : ℕ) × (i < 2 ^ bits) × (q ≡ (dir, child_of frag i bits)))
+
+-- a leaf of a directory properly inside a fragment, or the leaf that they are merged to
+abbrev pub IsMergedHere : Covers → Ino → Fragment → Leaf → Type 0
+IsMergedHere covers dir frag leaf = Contains (each (in_directory dir.0) (leaves_inside frag (leaves_of covers dir.0))) leaf ⊎ (leaf ≡ (dir, frag))

@@ -5,8 +5,8 @@ use Rattle.mds_types.specs.declared.refusals.Refusal.{Refusal}
 use Rattle.namespace_ops.specs.declared.plans.Change.{Change}
 use Rattle.subtree_map.specs.Authority.{Roots}
 use Rattle.subtree_map.specs.Changes.{Subtrees}
-use Rattle.mdcache.specs.declared.steps.holders.Holders.{Holders}
-use Rattle.mdcache.specs.Core.{Core}
+use Rattle.mdcache.specs.declared.holders.Holders.{Holders}
+use Rattle.mdcache.specs.Core.{Core, state_of}
 use Rattle.mdcache.specs.Frags.{KeepsState, IsReady as IsReadyIn}
 use Rattle.mdcache.specs.New.{root_leaf}
 use Rattle.ranked_tree.specs.Held.{AreHolders}

@@ -1,6 +1,7 @@
 //! Whose a leaf is.
 ghost use Rattle.std.specs.Prelude.{◌≡◌, ◌↔◌, IsTrue, MatchOption};
 ghost use Rattle.inode_table.specs.Dirs.{IsLive};
+ghost use Rattle.mdcache.specs.Core.{state_of};
 ghost use Rattle.ranked_tree.specs.Subtrees.{AllHave, AreRoots, Rules};
 
 use crate::inside::all_have;

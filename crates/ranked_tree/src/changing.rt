@@ -8,12 +8,12 @@ ghost use Rattle.namespace_ops.specs.Changes.{MayChange};
 ghost use Rattle.subtree_map.specs.Authority.{IsSubtrees};
 ghost use Rattle.subtree_map.specs.Moves.{HasRoomToMove, IsSettled};
 ghost use Rattle.mdcache.specs.Changes.{Makes};
+ghost use Rattle.mdcache.specs.Core.{state_of};
 ghost use Rattle.mdcache.specs.Made.{IsRight};
 ghost use Rattle.mdcache.specs.Shown.{shown_tree};
-ghost use Rattle.mdcache.specs.Sound.{IsSound};
-ghost use Rattle.ranked_tree.specs.Held.{AreHeld, IsOwned};
+ghost use Rattle.ranked_tree.specs.Held.{IsOwned};
 ghost use Rattle.ranked_tree.specs.Ranked.{IsReady, IsReadyHeld};
-ghost use Rattle.ranked_tree.specs.Subtrees.{AreRoots, FollowChange, HasRoomFor, KeepsAuthorities, KeepsRoots, LoseDirectory, NoNewRank, SettleMoving};
+ghost use Rattle.ranked_tree.specs.Subtrees.{FollowChange, HasRoomFor, KeepsAuthorities, KeepsRoots, LoseDirectory, NoNewRank, SettleMoving};
 
 use crate::holding::holders_of;
 use crate::ranked_tree::RankedTree;
@@ -53,6 +53,7 @@ pub(crate) fn reserve_roots<S: Store + Drop>(
 ) -> Result<(), Refusal>
     requires ready { IsReadyHeld tree.now roots.old.roots change.now }
     requires may { MayChange (shown_tree (state_of tree.now)) tree.now.covers change.now }
+    requires owned { IsOwned tree.now roots.old.roots }
     ensures room { OnOk result (HasRoomFor change.now (state_of tree.now) roots.new.roots roots.new.room) }
     ensures same { roots.new.roots ≡ roots.old.roots }
     ensures promises { roots.new.promises ≡ roots.old.promises }
@@ -82,11 +83,8 @@ fn change_tree<S: Store + Drop>(tree: &mut MdCache<S>, roots: &mut Subtrees, cha
     ensures promises { LoseDirectory roots.old.promises roots.new.promises (gone_with change) }
     ensures authority { KeepsAuthorities (state_of tree.old) (state_of tree.new) roots.old.roots roots.new.roots }
     ensures ranks { NoNewRank roots.old.roots roots.new.roots }
-    ensures valid { AreRoots (state_of tree.new) roots.new.roots }
-    ensures held { AreHeld (state_of tree.new) tree.new.caches roots.new.roots }
+    ensures owned { IsOwned tree.new roots.new.roots }
 {
-    // The contract of `store` is what says here that no leaf has places at two ranks.
-    let _ = tree.store();
     let at = holders_of(tree, roots, &change);
     settle(tree, roots, &change);
     let went = went_with(&change);
@@ -99,9 +97,8 @@ fn settle<S: Store + Drop>(tree: &MdCache<S>, roots: &mut Subtrees, change: &Cha
     requires ready { IsReadyHeld tree.now roots.old.roots change.now }
     requires may { MayChange (shown_tree (state_of tree.now)) tree.now.covers change.now }
     requires room { HasRoomFor change.now (state_of tree.now) roots.old.roots roots.old.room }
-    requires valid { AreRoots (state_of tree.now) roots.old.roots }
+    requires owned { IsOwned tree.now roots.old.roots }
     ensures settled { SettleMoving change.now (state_of tree.now) roots.old.roots roots.new.roots }
-    ensures sound { IsSound (state_of tree.now) }
     ensures promises { roots.new.promises ≡ roots.old.promises }
 {
     let dirs = tree.dirs();

@@ -1,10 +1,10 @@
 //! Commits, objects and places: none of it changes what leaves there are, nor whose.
-ghost use Rattle.std.specs.Prelude.{◌≡◌, ◌+◌, ◌<◌, None, OnOk, OnErr, IfErr, length};
+ghost use Rattle.std.specs.Prelude.{◌≡◌, ◌+◌, ◌<◌, None, Some, OnOk, OnErr, IfErr, length};
 ghost use Rattle.objstore.specs.Objects.{faults_told};
 ghost use Rattle.std.specs.Result.{result_err};
 ghost use Rattle.mds_types.specs.declared.refusals.Refusal.TheVariants.{NothingToEvict};
-ghost use Rattle.dentry_cache.specs.Cache.{Evicts, NoneGoes};
-ghost use Rattle.dentry_cache.specs.Caches.{cache_of, with_cache};
+ghost use Rattle.dentry_cache.specs.CacheMap.{evicted};
+ghost use Rattle.mdcache.specs.Core.{state_of};
 ghost use Rattle.mdcache.specs.Commits.{Begins, Drops, Ends};
 ghost use Rattle.mdcache.specs.Frags.{KeepsState};
 ghost use Rattle.mdcache.specs.Objects.{Purges, SavesTree};
@@ -81,13 +81,11 @@ impl<S: Store + Drop> RankedTree<S> {
     /// Drops the least recently used of the clean fragments of a rank, as `MdCache::evict` does and refuses.
     pub fn evict(&mut self, rank: Rank) -> Result<(), Refusal>
         requires there { rank.0 < length self.old.tree.caches.used }
-        ensures evicted { OnOk result (Evicts None (cache_of self.old.tree.caches rank) (cache_of self.new.tree.caches rank)) }
-        ensures others { self.new.tree.caches ≡ with_cache self.old.tree.caches rank (cache_of self.new.tree.caches rank) }
+        ensures evicted { OnOk result (evicted self.old.tree.caches rank.0 None ≡ Some self.new.tree.caches) }
+        ensures none { OnErr result (evicted self.old.tree.caches rank.0 None ≡ None) }
         ensures kept { KeepsState self.old.tree self.new.tree (result_err result) }
         ensures roots { self.new.subtrees ≡ self.old.subtrees }
-        ensures faults { self.new.tree.faults ≡ self.old.tree.faults }
         ensures refused { IfErr result (λ reason. reason ≡ NothingToEvict) }
-        ensures none { OnErr result (NoneGoes None (cache_of self.old.tree.caches rank).entries) }
         ensures left { OnErr result (self.new.tree ≡ self.old.tree) }
     {
         self.tree.evict(rank)
@@ -129,8 +127,6 @@ fn end<S: Store + Drop>(
     ensures counted { tree.new.faults ≡ tree.old.faults + faults_told (result_err result) }
     ensures owned { IsOwned tree.new roots.now.roots }
 {
-    // The contract of `dirs` is what says here that the state is sound.
-    let _ = tree.dirs();
     let job = encoded.job();
     if !tree.has_leaf(job.ino, job.frag) {
         return Err(Refusal::StaleJob);

@@ -2,7 +2,7 @@
 ghost use Rattle.std.specs.Prelude.{◌≡◌, ◌+◌, ◌<◌, ◌≤◌, OnOk, IfOk, IfErr};
 ghost use Rattle.std.specs.FinMap as map;
 ghost use Rattle.objstore.specs.Objects.{faults_in};
-ghost use Rattle.dentry_cache.specs.Caches.{all_of};
+ghost use Rattle.mdcache.specs.Core.{state_of};
 ghost use Rattle.mdcache.specs.New.{MayNotFormat, new_caches, new_state};
 ghost use Rattle.ranked_tree.specs.Ranked.{new_roots};
 
@@ -26,10 +26,9 @@ impl<S: Store + Drop> RankedTree<S> {
         requires few { 512 ≤ places }
         requires many { places ≤ 65536 }
         ensures empty { OnOk result (S.objects store ≡ map.empty) }
-        ensures state { IfOk result (λ t. (state_of t.tree) ≡ new_state) }
+        ensures state { IfOk result (λ t. state_of t.tree ≡ new_state) }
         ensures roots { IfOk result (λ t. t.subtrees.roots ≡ new_roots) }
-        ensures ranks { IfOk result (λ t. t.tree.caches ≡ new_caches ranks places) }
-        ensures cache { IfOk result (λ t. t.tree.cache ≡ all_of (new_caches ranks places)) }
+        ensures caches { IfOk result (λ t. t.tree.caches ≡ new_caches ranks places) }
         ensures refused { IfErr result (λ back. MayNotFormat (S.objects store) (S.faults store) (S.faults back.1) back.0) }
         ensures left { IfErr result (λ back. S.objects back.1 ≡ S.objects store) }
         ensures faults { IfOk result (λ t. t.tree.faults ≡ S.faults store) }

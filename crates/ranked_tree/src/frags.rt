@@ -10,7 +10,7 @@ ghost use Rattle.dirfrag_codec.specs.EntryRecord.{IsRankNumber};
 ghost use Rattle.inode_table.specs.Dirs.{leaves_of};
 ghost use Rattle.namespace_ops.specs.Changes.{IsNumbered, MayChange};
 ghost use Rattle.mdcache.specs.Frags.{KeepsState, LacksToMake};
-ghost use Rattle.mdcache.specs.Core.{LacksPlaces};
+ghost use Rattle.mdcache.specs.Core.{LacksPlaces, state_of};
 ghost use Rattle.mdcache.specs.Reads.{MayNotFind};
 ghost use Rattle.mdcache.specs.Ready.{MayNotBeReady};
 ghost use Rattle.mdcache.specs.Shown.{shown_tree};
@@ -50,7 +50,7 @@ impl<S: Store + Drop> Frags for RankedTree<S> {
 
     ghost Follows = { λ a b told. KeepsRanked a b told };
 
-    ghost Unchanged = { λ a b leaf. IsUntouched a.(state_of tree) b.(state_of tree) leaf };
+    ghost Unchanged = { λ a b leaf. IsUntouched (state_of a.tree) (state_of b.tree) leaf };
 
     ghost MayRefuse = { λ a b op reason. MayRefuseIn a.tree b.tree op reason };
 
@@ -133,8 +133,6 @@ fn look<S: Store + Drop>(
     ensures owned { IsOwned tree.new roots.now.roots }
     ensures refused { IfErr result (MayNotFind (LacksPlacesFor 1 tree.old roots.now.roots (dentry.now.dir, leaf)) tree.old.faults tree.new.faults) }
 {
-    // The contract of `dirs` is what says here that the state is sound.
-    let _ = tree.dirs();
     let rank = holder_of(tree, roots, dentry.dir, leaf);
     tree.look(alloc, rank, dentry, leaf)
 }
@@ -154,8 +152,6 @@ fn prepare<S: Store + Drop>(
     ensures owned { IsOwned tree.new roots.now.roots }
     ensures refused { IfErr result (MayNotBeReady (LacksToMake change.now (state_of tree.old)) (LacksPlaces 4 tree.old) tree.old.faults tree.new.faults) }
 {
-    // The contract of `dirs` is what says here that the state is sound.
-    let _ = tree.dirs();
     let at = holders_of(tree, roots, change);
     tree.prepare(alloc, at, change)
 }

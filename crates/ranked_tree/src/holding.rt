@@ -2,6 +2,7 @@
 ghost use Rattle.std.specs.Prelude.{◌≡◌};
 ghost use Rattle.inode_table.specs.Dirs.{IsLive};
 ghost use Rattle.namespace_ops.specs.Changes.{MayChange};
+ghost use Rattle.mdcache.specs.Core.{state_of};
 ghost use Rattle.mdcache.specs.Ranks.{MayHold, MayHoldEach};
 ghost use Rattle.mdcache.specs.Shown.{shown_tree};
 ghost use Rattle.ranked_tree.specs.Held.{AreHolders, IsOwned, first_named, second_named};
@@ -39,8 +40,6 @@ pub(crate) fn holders_of<S: Store + Drop>(
     ensures holders { AreHolders (state_of tree.now) roots.now.roots result change.now }
     ensures holds { MayHoldEach tree.now.caches result change.now }
 {
-    // The contract of `dirs` is what says here that the state is sound.
-    let _ = tree.dirs();
     let (dir, frag) = first_named(change);
     let (other, target) = second_named(change);
     Holders {

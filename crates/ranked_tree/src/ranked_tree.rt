@@ -10,7 +10,7 @@ use subtree_map::Subtrees;
 /// A tree over caches and a store, and its subtree roots with their ranks.
 ///
 /// Of each it holds that the leaves of the root directory are subtree roots, and that only leaves are: so each leaf has one
-/// authority; and that a rank caches only leaves that it is the authority of.
+/// authority; that a rank caches only leaves that it is the authority of; and that the tree is sound.
 #[derive(Drop)]
 pub struct RankedTree<S: Store + Drop> {
     pub(crate) tree: MdCache<S>,
@@ -23,8 +23,7 @@ impl<S: Store + Drop> Model for RankedTree<S> {
     ghost use Rattle.std.specs.Coded.{codes};
     ghost use Rattle.std.specs.FinMap as map;
     ghost use Rattle.ranked_tree.specs.Ranked.{Ranked};
-    ghost use Rattle.ranked_tree.specs.Held.{AreHeld};
-    ghost use Rattle.ranked_tree.specs.Subtrees.{AreRoots};
+    ghost use Rattle.ranked_tree.specs.Held.{IsOwned};
 
     ghost Value = { Ranked };
 
@@ -32,7 +31,7 @@ impl<S: Store + Drop> Model for RankedTree<S> {
 
     ghost view = { λ t. record { tree = t.tree; subtrees = t.roots } };
 
-    ghost invariant = { λ t. AreRoots (state_of t.tree) t.roots.roots × AreHeld (state_of t.tree) t.tree.caches t.roots.roots };
+    ghost invariant = { λ t. IsOwned t.tree t.roots.roots };
 }
 
 impl<S: Store + Drop> RankedTree<S> {

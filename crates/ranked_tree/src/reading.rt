@@ -4,15 +4,11 @@ ghost use Rattle.mds_types.specs.Tree.{is_directory};
 ghost use Rattle.fragtree.specs.FragTree.{CanMerge, CanSplit, IsPick, RefusesMerge, RefusesSplit};
 ghost use Rattle.namehash.specs.Rjenkins.{hash_of};
 ghost use Rattle.inode_table.specs.Dirs.{IsLive, is_known, leaves_of};
-ghost use Rattle.dentry_cache.specs.Cache.{unsaved};
-ghost use Rattle.dentry_cache.specs.Caches.{all_of};
-ghost use Rattle.mdcache.specs.Cached.{IsKept};
-ghost use Rattle.mdcache.specs.Ranks.{AreRanks};
+ghost use Rattle.mdcache.specs.Core.{state_of};
 ghost use Rattle.mdcache.specs.Regroups.{RefusesLeaves};
 ghost use Rattle.mdcache.specs.Shown.{shown_tree};
 ghost use Rattle.mdcache.specs.Sound.{IsSound};
-ghost use Rattle.ranked_tree.specs.Held.{AreHeld};
-ghost use Rattle.ranked_tree.specs.Subtrees.{AreRoots};
+ghost use Rattle.ranked_tree.specs.Held.{IsOwned};
 
 use crate::ranked_tree::RankedTree;
 use inode_table::Dirs;
@@ -20,17 +16,12 @@ use mds_types::{Dentry, Frag, Ino, Refusal};
 use objstore::Store;
 
 impl<S: Store + Drop> RankedTree<S> {
-    /// The store. A caller also learns from it that the state is sound, that each cached fragment is a live leaf's, that the
-    /// roots are those of the tree, and that a rank caches only leaves that it is the authority of.
+    /// The store. A caller also learns from it that the tree is sound, that the roots are its own, and that a rank caches only leaves
+    /// that it is the authority of.
     pub fn store(&self) -> &S
         ensures objects { S.objects result.now ≡ self.now.tree.objects }
         ensures faults { S.faults result.now ≡ self.now.tree.faults }
-        ensures kept { IsKept (state_of self.now.tree) self.now.tree.cache }
-        ensures valid { AreRoots (state_of self.now.tree) self.now.subtrees.roots }
-        ensures held { AreHeld (state_of self.now.tree) self.now.tree.caches self.now.subtrees.roots }
-        ensures ranked { AreRanks self.now.tree.caches }
-        ensures whole { self.now.tree.cache ≡ all_of self.now.tree.caches }
-        ensures unsaved { (unclean self.now.tree.caches) ≡ unsaved self.now.tree.cache.entries }
+        ensures owned { IsOwned self.now.tree self.now.subtrees.roots }
     {
         self.tree.store()
     }

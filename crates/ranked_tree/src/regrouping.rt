@@ -8,12 +8,11 @@ ghost use Rattle.inode_table.specs.Dirs.{IsLive, is_known, leaves_of};
 ghost use Rattle.namespace_ops.specs.Changes.{in_directory};
 ghost use Rattle.subtree_map.specs.Authority.{Leaf};
 ghost use Rattle.subtree_map.specs.Changes.{HaveOneAuthority, IsRootMerge, IsRootSplit, is_inside};
+ghost use Rattle.mdcache.specs.Core.{IsSoundCore, state_of};
 ghost use Rattle.mdcache.specs.Ranks.{MayHold};
-ghost use Rattle.mdcache.specs.Regroups.{IsFamily};
 ghost use Rattle.mdcache.specs.SplitsAndMerges.{MayNotMerge, MayNotSplit, MergesLeaves, SplitsLeaf};
-ghost use Rattle.mdcache.specs.Sound.{IsSound};
-ghost use Rattle.ranked_tree.specs.Held.{AreHeld, IsMergedHere, IsOwned, LacksPlacesFor, LacksPlacesInside, PlacesCome};
-ghost use Rattle.ranked_tree.specs.Subtrees.{AllHave, AreRoots, GivesToChildren, KeepsAuthorities, KeepsRoots, NoNewRank, Rules, TakesOver};
+ghost use Rattle.ranked_tree.specs.Held.{FragmentsCome, IsFamilyOf, IsMergedHere, IsOwned, LacksPlacesFor, LacksPlacesInside};
+ghost use Rattle.ranked_tree.specs.Subtrees.{AllHave, GivesToChildren, KeepsAuthorities, KeepsRoots, NoNewRank, Rules, TakesOver};
 
 use crate::holding::holder_of;
 use crate::inside::leaf_inside;
@@ -80,8 +79,7 @@ fn split_with_roots<S: Store + Drop>(
     ensures authority { KeepsAuthorities (state_of tree.old) (state_of tree.new) roots.old.roots roots.new.roots }
     ensures children { OnOk result (GivesToChildren (state_of tree.old) (state_of tree.new) roots.old.roots roots.new.roots dir frag bits) }
     ensures ranks { NoNewRank roots.old.roots roots.new.roots }
-    ensures valid { AreRoots (state_of tree.new) roots.new.roots }
-    ensures held { AreHeld (state_of tree.new) tree.new.caches roots.new.roots }
+    ensures owned { IsOwned tree.new roots.new.roots }
 {
     if let Err(refusal) = reserve_split(tree, roots, dir, frag, bits) {
         return Err(refusal);
@@ -114,8 +112,7 @@ fn merge_with_roots<S: Store + Drop>(
     ensures authority { KeepsAuthorities (state_of tree.old) (state_of tree.new) roots.old.roots roots.new.roots }
     ensures one { OnOk result (TakesOver (state_of tree.old) (state_of tree.new) roots.old.roots roots.new.roots dir frag) }
     ensures ranks { NoNewRank roots.old.roots roots.new.roots }
-    ensures valid { AreRoots (state_of tree.new) roots.new.roots }
-    ensures held { AreHeld (state_of tree.new) tree.new.caches roots.new.roots }
+    ensures owned { IsOwned tree.new roots.new.roots }
 {
     if let Err(refusal) = reserve_merge(tree, roots, dir, frag) {
         return Err(refusal);
@@ -127,7 +124,7 @@ fn merge_with_roots<S: Store + Drop>(
     Ok(())
 }
 
-// Splits a leaf in the cache of the rank that holds it. What was made ready before is given up.
+// Splits a leaf in the cache of the rank that holds it.
 fn split_held<S: Store + Drop>(
     alloc: Global,
     tree: &mut MdCache<S>,
@@ -142,16 +139,14 @@ fn split_held<S: Store + Drop>(
     ensures count { length tree.new.caches.used ≡ length tree.old.caches.used }
     ensures cap { tree.new.caches.cap ≡ tree.old.caches.cap }
     ensures counted { tree.new.faults ≡ tree.old.faults + faults_told (result_err result) }
-    ensures places { PlacesCome (Rules (state_of tree.old) roots.now.roots (dir, frag)) (IsFamily dir frag bits) (state_of tree.old) tree.old.caches tree.new.caches }
+    ensures came { FragmentsCome (Rules (state_of tree.old) roots.now.roots (dir, frag)) (IsFamilyOf dir frag bits) tree.old.caches tree.new.caches }
+    ensures sound { IsSoundCore tree.new }
 {
-    tree.unready();
-    // The contract of `store` is what says here that each place is that of a live leaf, where none is kept.
-    let _ = tree.store();
     let rank = holder_of(tree, roots, dir, frag);
     tree.split(alloc, rank, dir, frag, bits)
 }
 
-// Merges leaves in the cache of the one rank that holds them. What was made ready before is given up.
+// Merges leaves in the cache of the one rank that holds them.
 fn merge_held<S: Store + Drop>(
     alloc: Global,
     tree: &mut MdCache<S>,
@@ -167,11 +162,9 @@ fn merge_held<S: Store + Drop>(
     ensures count { length tree.new.caches.used ≡ length tree.old.caches.used }
     ensures cap { tree.new.caches.cap ≡ tree.old.caches.cap }
     ensures counted { tree.new.faults ≡ tree.old.faults + faults_told (result_err result) }
-    ensures places { PlacesCome (AllHave tree.old.homes tree.old.covers roots.now.roots dir frag) (IsMergedHere tree.old.covers dir frag) (state_of tree.old) tree.old.caches tree.new.caches }
+    ensures came { FragmentsCome (AllHave tree.old.homes tree.old.covers roots.now.roots dir frag) (IsMergedHere tree.old.covers dir frag) tree.old.caches tree.new.caches }
+    ensures sound { IsSoundCore tree.new }
 {
-    tree.unready();
-    // The contract of `store` is what says here that each place is that of a live leaf, where none is kept.
-    let _ = tree.store();
     let rank = holder_of_all(tree, roots, dir, frag);
     tree.merge(alloc, rank, dir, frag)
 }
@@ -207,7 +200,6 @@ fn reserve_split<S: Store + Drop>(
     ensures refused { IfErr result (MayNotSplit (LacksPlacesFor (2 ^ bits + 1) tree.now roots.old.roots (dir, frag)) tree.now tree.now dir frag bits) }
     ensures same { roots.new.roots ≡ roots.old.roots }
     ensures promises { roots.new.promises ≡ roots.old.promises }
-    ensures sound { IsSound (state_of tree.now) }
 {
     if let Err(refusal) = tree.check_split(dir, frag, bits) {
         return Err(refusal);
@@ -235,7 +227,6 @@ fn reserve_merge<S: Store + Drop>(
     ensures refused { IfErr result (MayNotMerge (LacksPlacesInside 1 tree.now roots.old.roots dir frag) tree.now tree.now dir frag) }
     ensures same { roots.new.roots ≡ roots.old.roots }
     ensures promises { roots.new.promises ≡ roots.old.promises }
-    ensures sound { IsSound (state_of tree.now) }
 {
     if let Err(refusal) = tree.check_merge(dir, frag) {
         return Err(refusal);
