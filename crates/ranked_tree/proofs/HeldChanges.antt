@@ -1,7 +1,6 @@
--- What a change of the tree makes of the places: each of a live leaf is at the leaf's authority then.
-use Rattle.std.specs.Prelude.{◌≡◌, ◌==◌, ◌||◌, true, false, is_some, List, [], ◌∷◌, Option, Some, None, IsSome, IfSome}
+-- What a change of the tree leaves: each cached fragment is at its leaf's authority then.
+use Rattle.std.specs.Prelude.{◌≡◌, ◌==◌, ◌||◌, true, false, is_some, ℕ, List, [], ◌∷◌, Option, Some, None, IsSome, IfSome}
 use Rattle.std.proofs.Common.{◌⊎◌, inl, inr, Bool, refl, sym, ap, subst, ◌∙◌}
-use Rattle.std.specs.Map.{lookup}
 use Rattle.std.specs.FinMap as map
 use Rattle.mds_types.specs.declared.dentries.Dentry.{Dentry}
 use Rattle.mds_types.specs.declared.ids.Ino.{Ino}
@@ -18,28 +17,28 @@ use Rattle.inode_table.specs.Dirs.{Covers, Homes, IsLive, IsTable, MayCome, MayG
 use Rattle.inode_table.specs.TreeTable.{home_at, with_home}
 use Rattle.inode_table.proofs.Tables.{still_known}
 use Rattle.inode_table.proofs.TableLaws.{may_come}
-use Rattle.dentry_cache.specs.Cache.{is_kept, leaf_is}
-use Rattle.dentry_cache.specs.declared.cache.Place.{Place}
+use Rattle.dentry_cache.specs.CacheMap.{At}
+use Rattle.dentry_cache.specs.Came.{Came, IsThat}
+use Rattle.dentry_cache.proofs.FrameLaws.{came_held, came_ranks}
 use Rattle.namespace_ops.specs.Changes.{MayChange}
 use Rattle.namespace_ops.specs.declared.plans.Change.{Change}
 use Rattle.namespace_ops.specs.declared.plans.Change.TheVariants.{Add, Set, Remove, Move}
-use Rattle.dentry_cache.specs.Caches.{cache_of, has_place}
 use Rattle.subtree_map.specs.Authority.{Leaf, Roots, inherited}
-use Rattle.mdcache.specs.Core.{Core}
+use Rattle.mdcache.specs.Core.{Core, IsSoundCore, shown_in, state_of}
 use Rattle.mdcache.specs.Changes.{Makes, first_leaf}
 use Rattle.mdcache.specs.Going.{rows_but}
-use Rattle.mdcache.specs.Ranks.{AreRanks, KeepsCaches, NoneComes}
+use Rattle.mdcache.specs.Ranks.{EndsWith, IsNamedIn}
+use Rattle.mdcache.specs.declared.holders.Holders.{Holders}
 use Rattle.mdcache.specs.Shown.{shown_tree}
 use Rattle.mdcache.specs.Sound.{IsSound}
 use Rattle.mdcache.specs.State.{State as TreeState}
 use Rattle.mdcache.proofs.HomeLaws.{moved_known}
-use Rattle.mdcache.proofs.MoveSteps.{replaces}
-use Rattle.ranked_tree.specs.Held.{AreHeld, IsOwned}
-use Rattle.ranked_tree.specs.Ranked.{IsReadyHeld}
+use Rattle.ranked_tree.proofs.MoveLaws.{replaces}
+use Rattle.ranked_tree.specs.Held.{AreHeld, AreHolders, IsOwned}
 use Rattle.ranked_tree.specs.Subtrees.{FollowChange, KeepsAuthorities, NoNewRank, Rules}
 use Rattle.ranked_tree.proofs.ChangedTables.{TablesAre, added_tables, grown_tables, moved_tables, removed_tables, set_tables}
-use Rattle.ranked_tree.proofs.HeldLaws.{held_after}
-use Rattle.ranked_tree.proofs.HolderLaws.{named_live, was_unknown}
+use Rattle.ranked_tree.proofs.HeldLaws.{held_after, is_that}
+use Rattle.ranked_tree.proofs.HolderLaws.{named_live, new_is_not_live, was_unknown}
 use Rattle.ranked_tree.proofs.RootLaws.{is_elsewhere}
 use Rattle.ranked_tree.proofs.SubtreeLaws.{may_settle, over, removable}
 
@@ -119,34 +118,32 @@ stood (Move from source to target went) old new sound may makes leaf live =
 
 -- ---- whose it is
 
--- a kept place is one
-is_placed : (o : Option Place) → is_kept o ≡ true → is_some o ≡ true
-is_placed None kept = kept
-is_placed (Some place) kept = refl
+module _ (old new : Core) (before after : Roots) (owned : IsOwned old before) (now_sound : IsSoundCore new) (keeps : KeepsAuthorities (state_of old) (state_of new) before after) where
+  sound : IsSound (state_of old)
+  sound = owned.sound.sound
 
-module _ (old new : Core) (before after : Roots) (sound : IsSound old.state) (ranks : AreRanks old.ranks) (owned : IsOwned old before) (keeps : KeepsAuthorities old.state new.state before after) where
   -- the leaf of a directory that comes inherits from the leaf that its dentry is in
-  module _ (dentry : Dentry) (name : Fragment) (inode : Inode) (may : MayChange (shown_tree old.state) old.state.covers (Add dentry name inode)) (makes : Makes (Add dentry name inode) old.state new.state)
-      (follow : FollowChange (Add dentry name inode) old.state before after) (ready : IsReadyHeld old before (Add dentry name inode)) (kinded : is_dir_kind inode.kind ≡ true) where
+  module _ (dentry : Dentry) (name : Fragment) (inode : Inode) (may : MayChange (shown_in old) old.covers (Add dentry name inode)) (makes : Makes (Add dentry name inode) (state_of old) (state_of new))
+      (follow : FollowChange (Add dentry name inode) (state_of old) before after) (rank : Rank) (rules : Rules (state_of old) before (dentry.dir, name) rank) (kinded : is_dir_kind inode.kind ≡ true) where
     abbrev first : Leaf
     first = first_leaf inode.ino
 
     abbrev holder : Leaf
     holder = (dentry.dir, name)
 
-    tables : TablesAre new.state (map.insert old.state.homes inode.ino.0 (home_at dentry)) old.state.covers
-    tables = grown_tables old.state new.state dentry name inode kinded makes
+    tables : TablesAre (state_of new) (map.insert old.homes inode.ino.0 (home_at dentry)) old.covers
+    tables = grown_tables (state_of old) (state_of new) dentry name inode kinded makes
 
-    comes : MayCome old.state.homes inode.ino.0 (home_at dentry)
-    comes = may_come (shown_tree old.state) old.state.homes dentry inode sound.tabled may.takes
+    comes : MayCome old.homes inode.ino.0 (home_at dentry)
+    comes = may_come (shown_in old) old.homes dentry inode sound.tabled may.takes
 
-    holder_live : IsLive old.state.homes old.state.covers holder
-    holder_live = (named_live old.state sound (Add dentry name inode) may).0
+    holder_live : IsLive old.homes old.covers holder
+    holder_live = (named_live (state_of old) sound (Add dentry name inode) may).0
 
-    holder_stays : IsLive new.state.homes new.state.covers holder
+    holder_stays : IsLive new.homes new.covers holder
     holder_stays =
-        over (λ (h : Homes) (cs : Covers). IsLive h cs holder) new.state.homes (map.insert old.state.homes inode.ino.0 (home_at dentry)) new.state.covers old.state.covers tables.0 tables.1
-        (record { known = still_known old.state.homes inode.ino.0 (home_at dentry) dentry.dir.0 holder_live.known; stands = holder_live.stands })
+        over (λ (h : Homes) (cs : Covers). IsLive h cs holder) new.homes (map.insert old.homes inode.ino.0 (home_at dentry)) new.covers old.covers tables.0 tables.1
+        (record { known = still_known old.homes inode.ino.0 (home_at dentry) dentry.dir.0 holder_live.known; stands = holder_live.stands })
 
     no_root : map.get after first ≡ None
     no_root = go (map.get after first) refl
@@ -155,40 +152,46 @@ module _ (old new : Core) (before after : Roots) (sound : IsSound old.state) (ra
         go None is = is
         go (Some rank) is =
             let was : IsSome (map.get before first) = ap is_some (sym (ap (λ (r : Roots). map.get r first) (follow.2 ∙ follow.1)) ∙ is) in
-            absurd (was_unknown old.state.homes inode.ino.0 (home_at dentry) comes (owned.0.live first was).known)
+            absurd (was_unknown old.homes inode.ino.0 (home_at dentry) comes (owned.valid.live first was).known)
 
-    pub first_inherits : Rules new.state after first ready.at.first
+    pub first_inherits : Rules (state_of new) after first rank
     first_inherits =
-        let has = keeps holder ready.at.first holder_live holder_stays ready.holders.first in
+        let has = keeps holder rank holder_live holder_stays rules in
         record {
           root = has.root;
-          nearest = inherited first holder has.root (home_at dentry) no_root (ap (λ (h : Homes). map.get h inode.ino.0) tables.0 ∙ nat.get_put old.state.homes inode.ino.0 (home_at dentry))
+          nearest = inherited first holder has.root (home_at dentry) no_root (ap (λ (h : Homes). map.get h inode.ino.0) tables.0 ∙ nat.get_put old.homes inode.ino.0 (home_at dentry))
               (record { parent = refl; pick = subst (λ (cs : Covers). IsPick (leaves_of cs dentry.dir.0) (hash_of dentry.name) name) (sym tables.1) may.carries }) has.nearest;
           ranked = has.ranked;
         }
 
-    -- and its place is kept there
-    pub first_placed : (rank : Rank) → has_place old.ranks rank first ≡ true → rank ≡ ready.at.first
-    first_placed rank has = ranks.apart.one first rank ready.at.first has (is_placed (lookup (leaf_is first) (cache_of old.ranks ready.at.first).entries) (ready.ready.2 kinded).place)
-
-  coming : (change : Change) → MayChange (shown_tree old.state) old.state.covers change → Makes change old.state new.state → FollowChange change old.state before after → IsReadyHeld old before change
-      → (rank : Rank) (leaf : Leaf) → IsComing change leaf → has_place old.ranks rank leaf ≡ true → Rules new.state after leaf rank
-  coming (Set dentry name inode) may makes follow ready rank leaf comes has = absurd comes
-  coming (Add dentry name inode) may makes follow ready rank leaf (kinded, same) has =
-      let here = first_placed dentry name inode may makes follow ready kinded rank (subst (λ (l : Leaf). has_place old.ranks rank l ≡ true) same has) in
-      subst (λ (r : Rank). Rules new.state after leaf r) (sym here) (subst (λ (l : Leaf). Rules new.state after l ready.at.first) (sym same) (first_inherits dentry name inode may makes follow ready kinded))
-  coming (Remove dentry name went) may makes follow ready rank leaf comes has = absurd comes
-  coming (Move from source to target went) may makes follow ready rank leaf comes has = absurd comes
-
-  -- a change leaves each place of a live leaf at the leaf's authority
-  pub change_held : (change : Change) → MayChange (shown_tree old.state) old.state.covers change → Makes change old.state new.state → FollowChange change old.state before after → IsReadyHeld old before change → NoNewRank before after
-      → KeepsCaches NoneComes old.ranks new.ranks → AreHeld new.state new.ranks after
-  change_held change may makes follow ready none caches = held_after old.state new.state old.ranks new.ranks before after owned.1 none caches.count (λ rank leaf has live. at rank leaf live (caches.places rank leaf has))
+  -- a leaf that a change names is used at its authority
+  named : (at : Holders) (change : Change) → AreHolders (state_of old) before at change → MayChange (shown_in old) old.covers change → Makes change (state_of old) (state_of new) → FollowChange change (state_of old) before after
+      → (r : ℕ) (q : Leaf) → IsNamedIn at change r q → IsLive new.homes new.covers q → Rules (state_of new) after q (record { 0 = r })
+  named at change holders may makes follow r q is live = go change holders may makes follow is
     where
-      stays : (rank : Rank) (leaf : Leaf) → IsLive new.state.homes new.state.covers leaf → has_place old.ranks rank leaf ≡ true → IsLive old.state.homes old.state.covers leaf ⊎ IsComing change leaf → Rules new.state after leaf rank
-      stays rank leaf live was (inl lived) = keeps leaf rank lived live (owned.1.places rank leaf was lived)
-      stays rank leaf live was (inr comes) = coming change may makes follow ready rank leaf comes was
+      -- one that was live
+      old_leaf : (leaf : Leaf) (rank : Rank) → IsLive old.homes old.covers leaf → Rules (state_of old) before leaf rank → IsThat rank.0 leaf r q → Rules (state_of new) after q (record { 0 = r })
+      old_leaf leaf rank lived rules that = keeps q (record { 0 = r }) (subst (IsLive old.homes old.covers) (sym that.1) lived) live (is_that (state_of old) before leaf rank rules r q that)
 
-      at : (rank : Rank) (leaf : Leaf) → IsLive new.state.homes new.state.covers leaf → (has_place old.ranks rank leaf ≡ true) ⊎ NoneComes rank leaf → Rules new.state after leaf rank
-      at rank leaf live (inl was) = stays rank leaf live was (stood change old.state new.state sound may makes leaf live)
-      at rank leaf live (inr came) = absurd came
+      go : (change : Change) → AreHolders (state_of old) before at change → MayChange (shown_in old) old.covers change → Makes change (state_of old) (state_of new) → FollowChange change (state_of old) before after → IsNamedIn at change r q → Rules (state_of new) after q (record { 0 = r })
+      go (Add dentry leaf inode) holders may makes follow (inl that) = old_leaf (dentry.dir, leaf) at.first (named_live (state_of old) sound (Add dentry leaf inode) may).0 holders.first that
+      go (Add dentry leaf inode) holders may makes follow (inr that) = by (stood (Add dentry leaf inode) (state_of old) (state_of new) sound may makes q live)
+        where
+          by : IsLive old.homes old.covers q ⊎ IsComing (Add dentry leaf inode) q → Rules (state_of new) after q (record { 0 = r })
+          by (inl lived) = absurd (new_is_not_live (state_of old) sound dentry leaf inode may (subst (IsLive old.homes old.covers) that.1 lived))
+          by (inr comes) = is_that (state_of new) after (first_leaf inode.ino) at.first (first_inherits dentry leaf inode may makes follow at.first holders.first comes.0) r q that
+      go (Set dentry leaf inode) holders may makes follow that = old_leaf (dentry.dir, leaf) at.first (named_live (state_of old) sound (Set dentry leaf inode) may).0 holders.first that
+      go (Remove dentry leaf went) holders may makes follow that = old_leaf (dentry.dir, leaf) at.first (named_live (state_of old) sound (Remove dentry leaf went) may).0 holders.first that
+      go (Move from source to target went) holders may makes follow (inl that) = old_leaf (from.dir, source) at.first (named_live (state_of old) sound (Move from source to target went) may).0 holders.first that
+      go (Move from source to target went) holders may makes follow (inr that) = old_leaf (to.dir, target) at.second (named_live (state_of old) sound (Move from source to target went) may).1 holders.second that
+
+  -- a change leaves each cached fragment at its leaf's authority
+  pub change_held : (at : Holders) (change : Change) → AreHolders (state_of old) before at change → MayChange (shown_in old) old.covers change → Makes change (state_of old) (state_of new) → FollowChange change (state_of old) before after → NoNewRank before after
+      → Came (IsNamedIn at change) (EndsWith change) old.caches new.caches → AreHeld (state_of new) new.caches after
+  change_held at change holders may makes follow none came =
+      held_after (state_of old) (state_of new) old.caches new.caches before after owned.held none (came_ranks (IsNamedIn at change) (EndsWith change) old.caches new.caches came)
+      (λ leaf a is. go leaf a (now_sound.cached leaf a is).live (came_held (IsNamedIn at change) (EndsWith change) old.caches new.caches came leaf a is))
+    where
+      go : (leaf : Leaf) (a : At) → IsLive new.homes new.covers leaf → (map.get old.caches.held leaf ≡ Some a) ⊎ IsNamedIn at change a.rank leaf → Rules (state_of new) after leaf (record { 0 = a.rank })
+      go leaf a live (inl was) = keeps leaf (record { 0 = a.rank }) (owned.sound.cached leaf a was).live live (owned.held.cached leaf a was)
+      go leaf a live (inr is) = named at change holders may makes follow a.rank leaf is live

@@ -1,73 +1,79 @@
--- Each place of a live leaf stays at the leaf's authority.
-use Rattle.std.specs.Prelude.{◌≡◌, ◌≢◌, ◌<◌, ℕ, true, is_some, length, Option, Some, None}
+-- Each cached fragment stays at its leaf's authority.
+use Rattle.std.specs.Prelude.{◌≡◌, ◌<◌, ℕ, length, Option, Some, None}
 use Rattle.std.proofs.Common.{◌⊎◌, inl, inr, refl, sym, ap, subst}
-use Rattle.std.specs.Map.{lookup}
+use Rattle.std.specs.FinMap as map
 use Rattle.mds_types.specs.declared.ids.Rank.{Rank}
-use Rattle.mds_types.specs.declared.refusals.Refusal.{Refusal}
-use Rattle.dentry_cache.specs.Cache.{leaf_is}
-use Rattle.dentry_cache.specs.declared.cache.Place.{Place}
+use Rattle.dentry_cache.specs.CacheMap.{At, CacheMap, IsFree}
+use Rattle.dentry_cache.specs.Came.{Came, IsThat}
+use Rattle.dentry_cache.proofs.FrameLaws.{came_held, came_ranks}
+use Rattle.dentry_cache.proofs.ReadsLaws.{reads_came}
 use Rattle.inode_table.specs.Dirs.{IsLive}
-use Rattle.dentry_cache.specs.Caches.{Caches, cache_of, has_place}
 use Rattle.subtree_map.specs.Authority.{Leaf, Roots}
 use Rattle.subtree_map.proofs.Nearest.{one_authority}
-use Rattle.mdcache.specs.Core.{Core}
-use Rattle.mdcache.specs.Frags.{KeepsState}
-use Rattle.mdcache.specs.Ranks.{IsThat, KeepsCaches, MayHold, NoneComes}
+use Rattle.mdcache.specs.Core.{Core, IsSoundCore, ReadsCore, state_of}
+use Rattle.mdcache.specs.Ranks.{MayHold}
 use Rattle.mdcache.specs.State.{State as TreeState}
+use Rattle.mdcache.proofs.CoreLaws.{reads_state}
 use Rattle.ranked_tree.specs.Held.{AreHeld, IsOwned}
 use Rattle.ranked_tree.specs.Subtrees.{NoNewRank, Rules}
 
-module _ (tree : TreeState) (caches : Caches) (roots : Roots) (held : AreHeld tree caches roots) (leaf : Leaf) (rank : Rank) (rules : Rules tree roots leaf rank) where
+module _ (tree : TreeState) (caches : CacheMap) (roots : Roots) (held : AreHeld tree caches roots) (leaf : Leaf) (rank : Rank) (rules : Rules tree roots leaf rank) where
   -- there is a cache for the authority of a leaf,
-  pub is_there : rank.0 < length caches
+  is_there : rank.0 < length caches.used
   is_there = held.ranks rules.root rank rules.ranked
 
-  -- and no other rank has a place of the leaf, where that is live
-  pub may_hold : IsLive tree.homes tree.covers leaf → MayHold caches rank leaf
-  may_hold live = record { there = is_there; alone = record { none = λ other apart. none_at other apart (lookup (leaf_is leaf) (cache_of caches other).entries) refl } }
+  -- and no other rank has the leaf
+  pub may_hold : MayHold caches rank leaf
+  may_hold = record { there = is_there; alone = alone_at (map.get caches.held leaf) refl }
     where
-      none_at : (other : Rank) → other ≢ rank → (o : Option Place) → lookup (leaf_is leaf) (cache_of caches other).entries ≡ o → lookup (leaf_is leaf) (cache_of caches other).entries ≡ None
-      none_at other apart None is = is
-      none_at other apart (Some place) is = absurd (apart (one_authority roots tree.homes tree.covers leaf other rank (held.places other leaf (ap is_some is) live) rules))
+      alone_at : (o : Option At) → map.get caches.held leaf ≡ o → IsFree rank.0 o
+      alone_at None is = tt
+      alone_at (Some a) is = ap (λ (r : Rank). r.0) (one_authority roots tree.homes tree.covers leaf (record { 0 = a.rank }) rank (held.cached leaf a is) rules)
 
 -- the ranks of roots have caches still
-pub held_after : (old new : TreeState) (caches later : Caches) (before after : Roots) → AreHeld old caches before → NoNewRank before after → length later ≡ length caches
-    → ((rank : Rank) (leaf : Leaf) → has_place later rank leaf ≡ true → IsLive new.homes new.covers leaf → Rules new after leaf rank) → AreHeld new later after
-held_after old new caches later before after held ranks count places = record {
-  places = places;
+pub held_after : (old new : TreeState) (caches later : CacheMap) (before after : Roots) → AreHeld old caches before → NoNewRank before after → length later.used ≡ length caches.used
+    → ((leaf : Leaf) (a : At) → map.get later.held leaf ≡ Some a → Rules new after leaf (record { 0 = a.rank })) → AreHeld new later after
+held_after old new caches later before after held ranks count cached = record {
+  cached = cached;
   ranks = λ leaf rank is. let was = ranks leaf rank is in subst (λ (n : ℕ). rank.0 < n) (sym count) (held.ranks was.0 rank was.1);
 }
 
--- where directories, leaves and roots stay, and each place that came is at its leaf's authority
-module _ (May : Rank → Leaf → Type 0) (old new : Core) (roots : Roots) (homes : new.state.homes ≡ old.state.homes) (covers : new.state.covers ≡ old.state.covers) (caches : KeepsCaches May old.ranks new.ranks)
-    (come : (rank : Rank) (leaf : Leaf) → May rank leaf → IsLive old.state.homes old.state.covers leaf → Rules old.state roots leaf rank) (owned : IsOwned old roots) where
-  places_kept : (rank : Rank) (leaf : Leaf) → IsLive old.state.homes old.state.covers leaf → (has_place old.ranks rank leaf ≡ true) ⊎ May rank leaf → Rules old.state roots leaf rank
-  places_kept rank leaf live (inl was) = owned.1.places rank leaf was live
-  places_kept rank leaf live (inr came) = come rank leaf came live
+-- the authority of a leaf at a rank of this number
+pub is_that : (tree : TreeState) (roots : Roots) (leaf : Leaf) (rank : Rank) → Rules tree roots leaf rank → (r : ℕ) (q : Leaf) → IsThat rank.0 leaf r q → Rules tree roots q (record { 0 = r })
+is_that tree roots leaf rank rules r q that = subst (λ (n : ℕ). Rules tree roots q (record { 0 = n })) (sym that.0) (subst (λ (l : Leaf). Rules tree roots l rank) (sym that.1) rules)
 
-  pub owned_kept : IsOwned new roots
-  owned_kept = (
-    rw (homes, covers) owned.0,
-    held_after old.state new.state old.ranks new.ranks roots roots owned.1 (λ leaf rank is. (leaf, is)) caches.count (λ rank leaf has live. rw (homes, covers) (places_kept rank leaf (rw (← homes, ← covers) live) (caches.places rank leaf has))),
-  )
+-- where directories, leaves and roots stay, and each leaf that is used is so at its authority
+module _ (Uses Ends : ℕ → Leaf → Type 0) (old new : Core) (roots : Roots) (came : Came Uses Ends old.caches new.caches) (sound : IsSoundCore new) (homes : new.homes ≡ old.homes) (covers : new.covers ≡ old.covers)
+    (holds : (r : ℕ) (q : Leaf) → Uses r q → IsLive old.homes old.covers q → Rules (state_of old) roots q (record { 0 = r })) (owned : IsOwned old roots) where
+  at : (leaf : Leaf) (a : At) → map.get new.caches.held leaf ≡ Some a → (map.get old.caches.held leaf ≡ Some a) ⊎ Uses a.rank leaf → Rules (state_of old) roots leaf (record { 0 = a.rank })
+  at leaf a is (inl was) = owned.held.cached leaf a was
+  at leaf a is (inr uses) = holds a.rank leaf uses (rw (← homes, ← covers) (sound.cached leaf a is).live)
 
--- the place that came is the one of this leaf, at its authority
-pub is_that : (tree : TreeState) (roots : Roots) (leaf : Leaf) (rank : Rank) → Rules tree roots leaf rank → (other : Rank) (q : Leaf) → IsThat rank leaf other q → Rules tree roots q other
-is_that tree roots leaf rank rules other q that = subst (λ (r : Rank). Rules tree roots q r) (sym that.0) (subst (λ (l : Leaf). Rules tree roots l rank) (sym that.1) rules)
+  pub owned_came : IsOwned new roots
+  owned_came = record {
+    sound = sound;
+    valid = rw (homes, covers) owned.valid;
+    held = held_after (state_of old) (state_of new) old.caches new.caches roots roots owned.held (λ leaf rank is. (leaf, is)) (came_ranks Uses Ends old.caches new.caches came)
+        (λ leaf a is. rw (homes, covers) (at leaf a is (came_held Uses Ends old.caches new.caches came leaf a is)));
+  }
+
+-- reads of leaves at their authorities
+module _ (Uses Ends : ℕ → Leaf → Type 0) (old new : Core) (roots : Roots) (reads : ReadsCore Uses Ends old new) (sound : IsSoundCore new)
+    (holds : (r : ℕ) (q : Leaf) → Uses r q → IsLive old.homes old.covers q → Rules (state_of old) roots q (record { 0 = r })) (owned : IsOwned old roots) where
+  pub owned_reads : IsOwned new roots
+  owned_reads =
+      let same = reads_state Uses Ends old new reads in
+      owned_came Uses Ends old new roots (reads_came Uses Ends old.objects old.caches new.caches reads.caches) sound (ap (λ (s : TreeState). s.homes) same) (ap (λ (s : TreeState). s.covers) same) holds owned
 
 -- a read at the authority of a leaf
-pub owned_read : (old new : Core) (roots : Roots) (leaf : Leaf) (rank : Rank) (told : Option Refusal) → Rules old.state roots leaf rank → KeepsState old new told → KeepsCaches (IsThat rank leaf) old.ranks new.ranks → IsOwned old roots → IsOwned new roots
-owned_read old new roots leaf rank told rules kept caches owned =
-    owned_kept (IsThat rank leaf) old new roots (ap (λ (s : TreeState). s.homes) kept.state) (ap (λ (s : TreeState). s.covers) kept.state) caches (λ other q that live. is_that old.state roots leaf rank rules other q that) owned
-
--- no place came
-pub owned_still : (old new : Core) (roots : Roots) → new.state.homes ≡ old.state.homes → new.state.covers ≡ old.state.covers → KeepsCaches NoneComes old.ranks new.ranks → IsOwned old roots → IsOwned new roots
-owned_still old new roots homes covers caches owned = owned_kept NoneComes old new roots homes covers caches (λ other q none live. absurd none) owned
+pub owned_read : (Ends : ℕ → Leaf → Type 0) (old new : Core) (roots : Roots) (leaf : Leaf) (rank : Rank) → Rules (state_of old) roots leaf rank → ReadsCore (IsThat rank.0 leaf) Ends old new → IsSoundCore new → IsOwned old roots → IsOwned new roots
+owned_read Ends old new roots leaf rank rules reads sound owned = owned_reads (IsThat rank.0 leaf) Ends old new roots reads sound (λ r q that live. is_that (state_of old) roots leaf rank rules r q that) owned
 
 -- the caches stay
-pub owned_same : (old new : Core) (roots : Roots) → new.state.homes ≡ old.state.homes → new.state.covers ≡ old.state.covers → new.ranks ≡ old.ranks → IsOwned old roots → IsOwned new roots
-owned_same old new roots homes covers ranks owned = (
-  rw (homes, covers) owned.0,
-  held_after old.state new.state old.ranks new.ranks roots roots owned.1 (λ leaf rank is. (leaf, is)) (ap (λ (cs : Caches). length cs) ranks)
-      (λ rank leaf has live. rw (homes, covers) (owned.1.places rank leaf (rw (← ranks) has) (rw (← homes, ← covers) live))),
-)
+pub owned_same : (old new : Core) (roots : Roots) → new.homes ≡ old.homes → new.covers ≡ old.covers → new.caches ≡ old.caches → IsSoundCore new → IsOwned old roots → IsOwned new roots
+owned_same old new roots homes covers caches sound owned = record {
+  sound = sound;
+  valid = rw (homes, covers) owned.valid;
+  held = held_after (state_of old) (state_of new) old.caches new.caches roots roots owned.held (λ leaf rank is. (leaf, is)) (ap (λ (k : CacheMap). length k.used) caches)
+      (λ leaf a is. rw (homes, covers) (owned.held.cached leaf a (rw (← caches) is)));
+}

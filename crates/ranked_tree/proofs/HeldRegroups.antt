@@ -1,112 +1,67 @@
--- What splits and merges make of the places: each of a live leaf is at the leaf's authority then.
-use Rattle.std.specs.Prelude.{◌≡◌, ◌<◌, ◌==◌, ◌^◌, ℕ, zero, suc, true, false, map as each, length, List, [], ◌∷◌, Result, Ok, Err}
-use Rattle.std.proofs.Common.{◌⊎◌, None, inl, inr, refl, sym, subst, ◌∙◌, arith}
+-- What splits and merges leave: each cached fragment is at its leaf's authority then.
+use Rattle.std.specs.Prelude.{◌≡◌, ◌<◌, ◌==◌, ◌^◌, ℕ, true, map as each, length, List, Result, Ok, Err}
+use Rattle.std.proofs.Common.{◌⊎◌, inl, inr, Some, refl, sym, subst, arith}
 use Rattle.std.proofs.lemmas.Bool.{and_from, eq-eqb}
 use Rattle.std.specs.List.{Contains}
-use Rattle.std.specs.Map.{lookup}
+use Rattle.std.specs.FinMap as map
 use Rattle.mds_types.specs.declared.ids.Ino.{Ino}
 use Rattle.mds_types.specs.declared.ids.Rank.{Rank}
 use Rattle.mds_types.specs.declared.refusals.Refusal.{Refusal}
 use Rattle.mds_types.specs.Frag.{Fragment, IsFragment, child_of}
 use Rattle.fragtree.specs.FragTree.{CanMerge, CanSplit, FitsSplit, HasLeaf, RefusesMerge, RefusesSplit, leaves_inside, lies_inside}
 use Rattle.fragtree.proofs.Ranges.{range_from_inside}
-use Rattle.fragtree.proofs.TreeLaws.{first as first_has, later as later_has}
 use Rattle.inode_table.specs.Dirs.{IsLive, is_known, leaves_of}
 use Rattle.inode_table.proofs.Tables.{tree_of_row}
-use Rattle.dentry_cache.specs.Cache.{Held, is_kept, leaf_is}
+use Rattle.dentry_cache.specs.CacheMap.{At, CacheMap}
+use Rattle.dentry_cache.specs.CacheSplits.{IsFamilyAt}
+use Rattle.dentry_cache.specs.Came.{Came}
+use Rattle.dentry_cache.proofs.FrameLaws.{came_held}
 use Rattle.namespace_ops.specs.Changes.{in_directory}
-use Rattle.dentry_cache.specs.Caches.{all_of, cache_of, has_place}
 use Rattle.subtree_map.specs.Authority.{Leaf, Roots}
 use Rattle.subtree_map.specs.Changes.{HaveOneAuthority, is_inside}
 use Rattle.subtree_map.proofs.Covers.{child_is_new, merged_is_new, some_inside}
 use Rattle.subtree_map.proofs.Nearest.{some_authority}
-use Rattle.mdcache.specs.Core.{Core}
-use Rattle.mdcache.specs.Cached.{KeepsNone}
-use Rattle.mdcache.specs.Frags.{KeepsState}
-use Rattle.mdcache.specs.Ranks.{AreLivePlaces, AreRanks, KeepsCaches, MayHold, NoneComes}
-use Rattle.mdcache.specs.Regroups.{IsFamily, MayNotRegroup}
-use Rattle.mdcache.specs.SplitsAndMerges.{IsUndone, MergesLeaves, SplitsLeaf}
+use Rattle.mdcache.specs.Core.{Core, IsSoundCore, state_of}
+use Rattle.mdcache.specs.Joining.{IsAmongOr}
+use Rattle.mdcache.specs.Ranks.{MayHold}
+use Rattle.mdcache.specs.Regrouping.{ending_at}
+use Rattle.mdcache.specs.Regroups.{MayNotRegroup, RefusesLeaves}
+use Rattle.mdcache.specs.SplitsAndMerges.{MergesLeaves, SplitsLeaf}
 use Rattle.mdcache.specs.Sound.{IsSound}
-use Rattle.mdcache.specs.Splits.{IsMergedInto, IsSplitInto, KeepsTree}
 use Rattle.mdcache.specs.State.{State as TreeState}
-use Rattle.mdcache.proofs.AtRanks.{none_at}
+use Rattle.mdcache.proofs.JoinLaws.{from_mapped}
 use Rattle.mdcache.proofs.SplitLaws.{has_inside}
-use Rattle.ranked_tree.specs.Held.{AreHeld, IsMergedHere, IsOwned, PlacesCome}
+use Rattle.ranked_tree.specs.Held.{AreHeld, FragmentsCome, IsFamilyOf, IsMergedHere, IsOwned}
 use Rattle.ranked_tree.specs.Subtrees.{AllHave, AreRoots, GivesToChildren, KeepsAuthorities, NoNewRank, Rules, TakesOver}
 use Rattle.ranked_tree.proofs.HeldLaws.{held_after, may_hold}
 
--- ---- no place is kept
+-- ---- why it was refused, in the words of whose places lack
 
--- where no place is kept each is that of a live leaf
-pub all_live : (core : Core) → KeepsNone core.cache.entries → AreLivePlaces core.state.homes core.state.covers core.ranks → AreRanks core.ranks → core.cache ≡ all_of core.ranks
-    → (rank : Rank) (leaf : Leaf) → has_place core.ranks rank leaf ≡ true → IsLive core.state.homes core.state.covers leaf
-all_live core none live ranks whole rank leaf has = go (live rank leaf has)
-  where
-    not_kept : is_kept (lookup (leaf_is leaf) (cache_of core.ranks rank).entries) ≡ false
-    not_kept = none_at core.ranks rank ranks.apart (subst (λ (h : Held). KeepsNone h.entries) whole none) leaf
+-- what the leaves refuse is refused before anything is done
+pub not_begun : (Can : Type 0) (Refuses : Refusal → Type 0) (s : TreeState) (dir : Ino) (count : ℕ) (NoPlace : Type 0) (before after : ℕ) (reason : Refusal) → RefusesLeaves Refuses s.homes dir reason → MayNotRegroup Can Refuses s dir count NoPlace before after reason
+not_begun Can Refuses s dir count NoPlace before after reason (inl none) = inl none
+not_begun Can Refuses s dir count NoPlace before after reason (inr their) = inr (inl their)
 
-    go : IsLive core.state.homes core.state.covers leaf ⊎ (is_kept (lookup (leaf_is leaf) (cache_of core.ranks rank).entries) ≡ true) → IsLive core.state.homes core.state.covers leaf
-    go (inl lives) = lives
-    go (inr kept) = let clash : true ≡ false = sym kept ∙ not_kept in absurd cc
+regroup_on : (Can : Type 0) (Refuses : Refusal → Type 0) (s : TreeState) (dir : Ino) (count : ℕ) (NoPlace Fewer : Type 0) (before after : ℕ) (reason : Refusal) → (NoPlace → Fewer)
+    → MayNotRegroup Can Refuses s dir count NoPlace before after reason → MayNotRegroup Can Refuses s dir count Fewer before after reason
+regroup_on Can Refuses s dir count NoPlace Fewer before after reason less (inl unknown) = inl unknown
+regroup_on Can Refuses s dir count NoPlace Fewer before after reason less (inr (inl refused)) = inr (inl refused)
+regroup_on Can Refuses s dir count NoPlace Fewer before after reason less (inr (inr (known, can, inl number))) = inr (inr (known, can, inl number))
+regroup_on Can Refuses s dir count NoPlace Fewer before after reason less (inr (inr (known, can, inr (has, inl memory)))) = inr (inr (known, can, inr (has, inl memory)))
+regroup_on Can Refuses s dir count NoPlace Fewer before after reason less (inr (inr (known, can, inr (has, inr (inl fault))))) = inr (inr (known, can, inr (has, inr (inl fault))))
+regroup_on Can Refuses s dir count NoPlace Fewer before after reason less (inr (inr (known, can, inr (has, inr (inr (is, lacks)))))) = inr (inr (known, can, inr (has, inr (inr (is, less lacks)))))
 
--- the places then, where what was kept was given up first
-pub places_come : (Holds : Rank → Type 0) (Come : Leaf → Type 0) (old mid new : Core) (rank : Rank) → Holds rank → KeepsState old mid None → KeepsCaches NoneComes old.ranks mid.ranks
-    → ((r : Rank) (q : Leaf) → has_place mid.ranks r q ≡ true → IsLive mid.state.homes mid.state.covers q) → KeepsCaches (λ (other : Rank) (q : Leaf). (other ≡ rank) × Come q) mid.ranks new.ranks
-    → PlacesCome Holds Come old.state old.ranks new.ranks
-places_come Holds Come old mid new rank holds kept gave live caches r q has = go (caches.places r q has)
-  where
-    Answer : Type 0
-    Answer = (IsLive old.state.homes old.state.covers q × (has_place old.ranks r q ≡ true)) ⊎ (Holds r × Come q)
+pub split_on : (NoPlace Fewer : Type 0) (old new : Core) (dir : Ino) (frag : Fragment) (nb : ℕ) (result : Result (Unit {0}) Refusal) → (NoPlace → Fewer) → SplitsLeaf NoPlace old new dir frag nb result → SplitsLeaf Fewer old new dir frag nb result
+split_on NoPlace Fewer old new dir frag nb (Ok done) less split = split
+split_on NoPlace Fewer old new dir frag nb (Err reason) less (because, undone) =
+    (regroup_on (CanSplit (leaves_of old.covers dir.0) frag nb) (RefusesSplit (leaves_of old.covers dir.0) frag nb) (state_of old) dir (2 ^ nb) NoPlace Fewer old.faults new.faults reason less because, undone)
 
-    was_there : IsLive mid.state.homes mid.state.covers q → (has_place old.ranks r q ≡ true) ⊎ NoneComes r q → Answer
-    was_there lives (inl was) = inl (subst (λ (s : TreeState). IsLive s.homes s.covers q) kept.state lives, was)
-    was_there lives (inr came) = absurd came
-
-    go : (has_place mid.ranks r q ≡ true) ⊎ ((r ≡ rank) × Come q) → Answer
-    go (inl there) = was_there (live r q there) (gave.places r q there)
-    go (inr (same, come)) = inr (subst Holds (sym same) holds, come)
-
--- ---- what is told of what began with giving up
-
--- nothing is kept that wasn't
-undone_on : (old mid new : Core) → mid.state ≡ old.state → KeepsNone mid.cache.entries → IsUndone mid new → IsUndone old new
-undone_on old mid new same none undone = (undone.0 ∙ same, λ leaf kept. let clash : true ≡ false = sym (undone.1 leaf kept) ∙ none leaf in absurd cc)
-
-pub regroup_on : (Can : Type 0) (Refuses : Refusal → Type 0) (s : TreeState) (dir : Ino) (count : ℕ) (NoPlace Fewer : Type 0) (before was after : ℕ) (reason : Refusal) → (NoPlace → Fewer) → before ≡ was
-    → MayNotRegroup Can Refuses s dir count NoPlace before after reason → MayNotRegroup Can Refuses s dir count Fewer was after reason
-regroup_on Can Refuses s dir count NoPlace Fewer before was after reason less same (inl unknown) = inl unknown
-regroup_on Can Refuses s dir count NoPlace Fewer before was after reason less same (inr (inl refused)) = inr (inl refused)
-regroup_on Can Refuses s dir count NoPlace Fewer before was after reason less same (inr (inr (known, can, inl number))) = inr (inr (known, can, inl number))
-regroup_on Can Refuses s dir count NoPlace Fewer before was after reason less same (inr (inr (known, can, inr (has, inl memory)))) = inr (inr (known, can, inr (has, inl memory)))
-regroup_on Can Refuses s dir count NoPlace Fewer before was after reason less same (inr (inr (known, can, inr (has, inr (inl (is, rose)))))) = inr (inr (known, can, inr (has, inr (inl (is, subst (λ (n : ℕ). n < after) same rose)))))
-regroup_on Can Refuses s dir count NoPlace Fewer before was after reason less same (inr (inr (known, can, inr (has, inr (inr (is, lacks)))))) = inr (inr (known, can, inr (has, inr (inr (is, less lacks)))))
-
-pub split_on : (NoPlace Fewer : Type 0) (old mid new : Core) (dir : Ino) (frag : Fragment) (nb : ℕ) (result : Result (Unit {0}) Refusal) → (NoPlace → Fewer) → KeepsState old mid None → mid.faults ≡ old.faults → KeepsNone mid.cache.entries
-    → SplitsLeaf NoPlace mid new dir frag nb result → SplitsLeaf Fewer old new dir frag nb result
-split_on NoPlace Fewer old mid new dir frag nb (Ok done) less kept faults none split = subst (λ (s : TreeState). IsSplitInto s new.state dir frag nb × KeepsTree s new.state dir (frag ∷ [])) kept.state split
-split_on NoPlace Fewer old mid new dir frag nb (Err reason) less kept faults none (because, undone) = (
-  regroup_on (CanSplit (leaves_of old.state.covers dir.0) frag nb) (RefusesSplit (leaves_of old.state.covers dir.0) frag nb) old.state dir (2 ^ nb) NoPlace Fewer mid.faults old.faults new.faults reason less faults
-      (subst (λ (s : TreeState). MayNotRegroup (CanSplit (leaves_of s.covers dir.0) frag nb) (RefusesSplit (leaves_of s.covers dir.0) frag nb) s dir (2 ^ nb) NoPlace mid.faults new.faults reason) kept.state because),
-  undone_on old mid new kept.state none undone,
-)
-
-pub merge_on : (NoPlace Fewer : Type 0) (old mid new : Core) (dir : Ino) (frag : Fragment) (result : Result (Unit {0}) Refusal) → (NoPlace → Fewer) → KeepsState old mid None → mid.faults ≡ old.faults → KeepsNone mid.cache.entries
-    → MergesLeaves NoPlace mid new dir frag result → MergesLeaves Fewer old new dir frag result
-merge_on NoPlace Fewer old mid new dir frag (Ok done) less kept faults none merged =
-    subst (λ (s : TreeState). IsMergedInto s new.state dir frag × KeepsTree s new.state dir (leaves_inside frag (leaves_of s.covers dir.0))) kept.state merged
-merge_on NoPlace Fewer old mid new dir frag (Err reason) less kept faults none (because, undone) = (
-  regroup_on (CanMerge (leaves_of old.state.covers dir.0) frag) (RefusesMerge (leaves_of old.state.covers dir.0) frag) old.state dir 1 NoPlace Fewer mid.faults old.faults new.faults reason less faults
-      (subst (λ (s : TreeState). MayNotRegroup (CanMerge (leaves_of s.covers dir.0) frag) (RefusesMerge (leaves_of s.covers dir.0) frag) s dir 1 NoPlace mid.faults new.faults reason) kept.state because),
-  undone_on old mid new kept.state none undone,
-)
+pub merge_on : (NoPlace Fewer : Type 0) (old new : Core) (dir : Ino) (frag : Fragment) (result : Result (Unit {0}) Refusal) → (NoPlace → Fewer) → MergesLeaves NoPlace old new dir frag result → MergesLeaves Fewer old new dir frag result
+merge_on NoPlace Fewer old new dir frag (Ok done) less merged = merged
+merge_on NoPlace Fewer old new dir frag (Err reason) less (because, undone) =
+    (regroup_on (CanMerge (leaves_of old.covers dir.0) frag) (RefusesMerge (leaves_of old.covers dir.0) frag) (state_of old) dir 1 NoPlace Fewer old.faults new.faults reason less because, undone)
 
 -- ---- leaves inside a fragment
-
--- an element of a directory's leaves is a leaf of it
-from_mapped : (dir : Ino) (fs : List Fragment) (q : Leaf) → Contains (each (in_directory dir.0) fs) q → (f : Fragment) × HasLeaf fs f × (q ≡ (dir, f))
-from_mapped dir [] q (k, within, is) = absurd (omega (arith, within))
-from_mapped dir (f ∷ fs) q (zero, within, is) = (f, first_has f fs, sym is)
-from_mapped dir (f ∷ fs) q (suc k, within, is) = let w = from_mapped dir fs q (k, omega (arith, within), is) in (w.0, later_has f w.0 fs w.1, w.2)
 
 module _ (s : TreeState) (dir : Ino) (frag : Fragment) (known : is_known s.homes dir.0 ≡ true) where
   -- it is live, and lies inside
@@ -138,70 +93,102 @@ all_as_one s roots dir frag rank one sound valid alike within lives rules leaf l
     let has = some_authority roots s.homes s.covers sound.table valid leaf live in
     subst (λ (r : Rank). Rules s roots leaf r) (sym (alike one leaf rank has.0 within inside lives live rules has.1)) has.1
 
--- ---- the places afterwards
+-- ---- which fragments come
 
-module _ (old new : Core) (before after : Roots) (owned : IsOwned old before) (count : length new.ranks ≡ length old.ranks) (dir : Ino) (frag : Fragment) where
+pub family_comes : (s : TreeState) (roots : Roots) (rank : Rank) (dir : Ino) (frag : Fragment) (nb : ℕ) → Rules s roots (dir, frag) rank → (Ends : ℕ → Leaf → Type 0) (old new : CacheMap) → Came (IsFamilyAt rank.0 dir frag nb) Ends old new
+    → FragmentsCome (Rules s roots (dir, frag)) (IsFamilyOf dir frag nb) old new
+family_comes s roots rank dir frag nb rules Ends old new came leaf a is = go (came_held (IsFamilyAt rank.0 dir frag nb) Ends old new came leaf a is)
+  where
+    at : a.rank ≡ rank.0 → Rules s roots (dir, frag) (record { 0 = a.rank })
+    at same = subst (λ (n : ℕ). Rules s roots (dir, frag) (record { 0 = n })) (sym same) rules
+
+    go : (map.get old.held leaf ≡ Some a) ⊎ IsFamilyAt rank.0 dir frag nb a.rank leaf → (map.get old.held leaf ≡ Some a) ⊎ (Rules s roots (dir, frag) (record { 0 = a.rank }) × IsFamilyOf dir frag nb leaf)
+    go (inl was) = inl was
+    go (inr (inl it)) = inr (at it.0, inl it.1)
+    go (inr (inr child)) = inr (at child.0, inr (child.1, child.2, child.3))
+
+pub merged_comes : (core : Core) (roots : Roots) (rank : Rank) (dir : Ino) (frag : Fragment) → AllHave core.homes core.covers roots dir frag rank → (Ends : ℕ → Leaf → Type 0) (new : CacheMap)
+    → Came (IsAmongOr rank.0 (ending_at core (record { dir = dir; frag = frag; rank = rank })) (dir, frag)) Ends core.caches new → FragmentsCome (AllHave core.homes core.covers roots dir frag) (IsMergedHere core.covers dir frag) core.caches new
+merged_comes core roots rank dir frag all Ends new came leaf a is = go (came_held (IsAmongOr rank.0 (ending_at core (record { dir = dir; frag = frag; rank = rank })) (dir, frag)) Ends core.caches new came leaf a is)
+  where
+    at : a.rank ≡ rank.0 → AllHave core.homes core.covers roots dir frag (record { 0 = a.rank })
+    at same = subst (λ (n : ℕ). AllHave core.homes core.covers roots dir frag (record { 0 = n })) (sym same) all
+
+    go : (map.get core.caches.held leaf ≡ Some a) ⊎ IsAmongOr rank.0 (ending_at core (record { dir = dir; frag = frag; rank = rank })) (dir, frag) a.rank leaf
+        → (map.get core.caches.held leaf ≡ Some a) ⊎ (AllHave core.homes core.covers roots dir frag (record { 0 = a.rank }) × IsMergedHere core.covers dir frag leaf)
+    go (inl was) = inl was
+    go (inr (inl among)) = inr (at among.0, inl among.1)
+    go (inr (inr it)) = inr (at it.0, inr it.1)
+
+-- ---- what is cached afterwards
+
+module _ (old new : Core) (before after : Roots) (owned : IsOwned old before) (count : length new.caches.used ≡ length old.caches.used) (now_sound : IsSoundCore new) (dir : Ino) (frag : Fragment) where
+  abbrev at_rank : At → Rank
+  at_rank a = record { 0 = a.rank }
+
   -- a leaf was split
-  module _ (nb : ℕ) (live : IsLive old.state.homes old.state.covers (dir, frag)) (come : PlacesCome (Rules old.state before (dir, frag)) (IsFamily dir frag nb) old.state old.ranks new.ranks) where
-    pub split_held : KeepsAuthorities old.state new.state before after → NoNewRank before after → GivesToChildren old.state new.state before after dir frag nb → AreHeld new.state new.ranks after
-    split_held keeps none gives = held_after old.state new.state old.ranks new.ranks before after owned.1 none count (λ rank leaf has lives. at rank leaf lives (come rank leaf has))
+  module _ (nb : ℕ) (live : IsLive old.homes old.covers (dir, frag)) (come : FragmentsCome (Rules (state_of old) before (dir, frag)) (IsFamilyOf dir frag nb) old.caches new.caches) where
+    pub split_held : KeepsAuthorities (state_of old) (state_of new) before after → NoNewRank before after → GivesToChildren (state_of old) (state_of new) before after dir frag nb → AreHeld (state_of new) new.caches after
+    split_held keeps none gives = held_after (state_of old) (state_of new) old.caches new.caches before after owned.held none count (λ leaf a is. go leaf a (now_sound.cached leaf a is).live (come leaf a is))
       where
-        of_family : (rank : Rank) (leaf : Leaf) → IsLive new.state.homes new.state.covers leaf → Rules old.state before (dir, frag) rank → IsFamily dir frag nb leaf → Rules new.state after leaf rank
-        of_family rank leaf lives rules (inl same) = keeps leaf rank (subst (λ (l : Leaf). IsLive old.state.homes old.state.covers l) (sym same) live) lives (subst (λ (l : Leaf). Rules old.state before l rank) (sym same) rules)
-        of_family rank leaf lives rules (inr (i, below, same)) = subst (λ (l : Leaf). Rules new.state after l rank) (sym same) (gives (child_of frag i nb) rank (i, below, refl) rules)
+        of_family : (rank : Rank) (leaf : Leaf) → IsLive new.homes new.covers leaf → Rules (state_of old) before (dir, frag) rank → IsFamilyOf dir frag nb leaf → Rules (state_of new) after leaf rank
+        of_family rank leaf lives rules (inl same) = keeps leaf rank (subst (IsLive old.homes old.covers) (sym same) live) lives (subst (λ (l : Leaf). Rules (state_of old) before l rank) (sym same) rules)
+        of_family rank leaf lives rules (inr (i, below, same)) = subst (λ (l : Leaf). Rules (state_of new) after l rank) (sym same) (gives (child_of frag i nb) rank (i, below, refl) rules)
 
-        at : (rank : Rank) (leaf : Leaf) → IsLive new.state.homes new.state.covers leaf → (IsLive old.state.homes old.state.covers leaf × (has_place old.ranks rank leaf ≡ true)) ⊎ (Rules old.state before (dir, frag) rank × IsFamily dir frag nb leaf) → Rules new.state after leaf rank
-        at rank leaf lives (inl (lived, was)) = keeps leaf rank lived lives (owned.1.places rank leaf was lived)
-        at rank leaf lives (inr (rules, family)) = of_family rank leaf lives rules family
+        go : (leaf : Leaf) (a : At) → IsLive new.homes new.covers leaf → (map.get old.caches.held leaf ≡ Some a) ⊎ (Rules (state_of old) before (dir, frag) (at_rank a) × IsFamilyOf dir frag nb leaf) → Rules (state_of new) after leaf (at_rank a)
+        go leaf a lives (inl was) = keeps leaf (at_rank a) (owned.sound.cached leaf a was).live lives (owned.held.cached leaf a was)
+        go leaf a lives (inr (rules, family)) = of_family (at_rank a) leaf lives rules family
 
     -- or it wasn't
-    pub unsplit_held : new.state ≡ old.state → after ≡ before → FitsSplit frag nb → IsSound old.state → AreHeld new.state new.ranks after
-    unsplit_held same still fits sound =
-        subst (λ (s : TreeState). AreHeld s new.ranks after) (sym same) (subst (λ (r : Roots). AreHeld old.state new.ranks r) (sym still)
-        (held_after old.state old.state old.ranks new.ranks before before owned.1 (λ leaf rank is. (leaf, is)) count (λ rank leaf has lives. at rank leaf lives (come rank leaf has))))
+    pub unsplit_held : state_of new ≡ state_of old → after ≡ before → FitsSplit frag nb → AreHeld (state_of new) new.caches after
+    unsplit_held same still fits =
+        subst (λ (s : TreeState). AreHeld s new.caches after) (sym same) (subst (λ (r : Roots). AreHeld (state_of old) new.caches r) (sym still)
+        (held_after (state_of old) (state_of old) old.caches new.caches before before owned.held (λ leaf rank is. (leaf, is)) count
+        (λ leaf a is. go leaf a (subst (λ (s : TreeState). IsLive s.homes s.covers leaf) same (now_sound.cached leaf a is).live) (come leaf a is))))
       where
-        of_family : (rank : Rank) (leaf : Leaf) → IsLive old.state.homes old.state.covers leaf → Rules old.state before (dir, frag) rank → IsFamily dir frag nb leaf → Rules old.state before leaf rank
-        of_family rank leaf lives rules (inl here) = subst (λ (l : Leaf). Rules old.state before l rank) (sym here) rules
+        of_family : (rank : Rank) (leaf : Leaf) → IsLive old.homes old.covers leaf → Rules (state_of old) before (dir, frag) rank → IsFamilyOf dir frag nb leaf → Rules (state_of old) before leaf rank
+        of_family rank leaf lives rules (inl here) = subst (λ (l : Leaf). Rules (state_of old) before l rank) (sym here) rules
         of_family rank leaf lives rules (inr (i, below, child)) =
-            let stands : HasLeaf (leaves_of old.state.covers dir.0) (child_of frag i nb) = (subst (λ (l : Leaf). IsLive old.state.homes old.state.covers l) child lives).stands in
-            absurd (child_is_new (leaves_of old.state.covers dir.0) frag (child_of frag i nb) nb (tree_of_row old.state.homes old.state.covers sound.table dir.0) live.stands fits (i, below, refl) stands)
+            let stands : HasLeaf (leaves_of old.covers dir.0) (child_of frag i nb) = (subst (IsLive old.homes old.covers) child lives).stands in
+            absurd (child_is_new (leaves_of old.covers dir.0) frag (child_of frag i nb) nb (tree_of_row old.homes old.covers owned.sound.sound.table dir.0) live.stands fits (i, below, refl) stands)
 
-        at : (rank : Rank) (leaf : Leaf) → IsLive old.state.homes old.state.covers leaf → (IsLive old.state.homes old.state.covers leaf × (has_place old.ranks rank leaf ≡ true)) ⊎ (Rules old.state before (dir, frag) rank × IsFamily dir frag nb leaf) → Rules old.state before leaf rank
-        at rank leaf lives (inl (lived, was)) = owned.1.places rank leaf was lived
-        at rank leaf lives (inr (rules, family)) = of_family rank leaf lives rules family
+        go : (leaf : Leaf) (a : At) → IsLive old.homes old.covers leaf → (map.get old.caches.held leaf ≡ Some a) ⊎ (Rules (state_of old) before (dir, frag) (at_rank a) × IsFamilyOf dir frag nb leaf) → Rules (state_of old) before leaf (at_rank a)
+        go leaf a lives (inl was) = owned.held.cached leaf a was
+        go leaf a lives (inr (rules, family)) = of_family (at_rank a) leaf lives rules family
 
   -- leaves were merged
-  module _ (known : is_known old.state.homes dir.0 ≡ true) (can : CanMerge (leaves_of old.state.covers dir.0) frag) (come : PlacesCome (AllHave old.state.homes old.state.covers before dir frag) (IsMergedHere old.state.covers dir frag) old.state old.ranks new.ranks) where
-    pub merge_held : KeepsAuthorities old.state new.state before after → NoNewRank before after → TakesOver old.state new.state before after dir frag → AreHeld new.state new.ranks after
-    merge_held keeps none takes = held_after old.state new.state old.ranks new.ranks before after owned.1 none count (λ rank leaf has lives. at rank leaf lives (come rank leaf has))
+  module _ (known : is_known old.homes dir.0 ≡ true) (can : CanMerge (leaves_of old.covers dir.0) frag) (come : FragmentsCome (AllHave old.homes old.covers before dir frag) (IsMergedHere old.covers dir frag) old.caches new.caches) where
+    pub merge_held : KeepsAuthorities (state_of old) (state_of new) before after → NoNewRank before after → TakesOver (state_of old) (state_of new) before after dir frag → AreHeld (state_of new) new.caches after
+    merge_held keeps none takes = held_after (state_of old) (state_of new) old.caches new.caches before after owned.held none count (λ leaf a is. go leaf a (now_sound.cached leaf a is).live (come leaf a is))
       where
-        of_merged : (rank : Rank) (leaf : Leaf) → IsLive new.state.homes new.state.covers leaf → AllHave old.state.homes old.state.covers before dir frag rank → IsMergedHere old.state.covers dir frag leaf → Rules new.state after leaf rank
-        of_merged rank leaf lives all (inl contains) = let its = inside_live old.state dir frag known leaf contains in keeps leaf rank its.0 lives (all leaf its.0 its.1)
-        of_merged rank leaf lives all (inr same) = let w = one_inside old.state dir frag known can in subst (λ (l : Leaf). Rules new.state after l rank) same (takes (dir, w.0) rank w.2 w.1 (all (dir, w.0) w.1 w.2))
+        of_merged : (rank : Rank) (leaf : Leaf) → IsLive new.homes new.covers leaf → AllHave old.homes old.covers before dir frag rank → IsMergedHere old.covers dir frag leaf → Rules (state_of new) after leaf rank
+        of_merged rank leaf lives all (inl contains) = let its = inside_live (state_of old) dir frag known leaf contains in keeps leaf rank its.0 lives (all leaf its.0 its.1)
+        of_merged rank leaf lives all (inr same) = let w = one_inside (state_of old) dir frag known can in subst (λ (l : Leaf). Rules (state_of new) after l rank) (sym same) (takes (dir, w.0) rank w.2 w.1 (all (dir, w.0) w.1 w.2))
 
-        at : (rank : Rank) (leaf : Leaf) → IsLive new.state.homes new.state.covers leaf → (IsLive old.state.homes old.state.covers leaf × (has_place old.ranks rank leaf ≡ true)) ⊎ (AllHave old.state.homes old.state.covers before dir frag rank × IsMergedHere old.state.covers dir frag leaf) → Rules new.state after leaf rank
-        at rank leaf lives (inl (lived, was)) = keeps leaf rank lived lives (owned.1.places rank leaf was lived)
-        at rank leaf lives (inr (all, merged)) = of_merged rank leaf lives all merged
+        go : (leaf : Leaf) (a : At) → IsLive new.homes new.covers leaf → (map.get old.caches.held leaf ≡ Some a) ⊎ (AllHave old.homes old.covers before dir frag (at_rank a) × IsMergedHere old.covers dir frag leaf) → Rules (state_of new) after leaf (at_rank a)
+        go leaf a lives (inl was) = keeps leaf (at_rank a) (owned.sound.cached leaf a was).live lives (owned.held.cached leaf a was)
+        go leaf a lives (inr (all, merged)) = of_merged (at_rank a) leaf lives all merged
 
     -- or they weren't
-    pub unmerged_held : new.state ≡ old.state → after ≡ before → IsSound old.state → AreHeld new.state new.ranks after
-    unmerged_held same still sound =
-        subst (λ (s : TreeState). AreHeld s new.ranks after) (sym same) (subst (λ (r : Roots). AreHeld old.state new.ranks r) (sym still)
-        (held_after old.state old.state old.ranks new.ranks before before owned.1 (λ leaf rank is. (leaf, is)) count (λ rank leaf has lives. at rank leaf lives (come rank leaf has))))
+    pub unmerged_held : state_of new ≡ state_of old → after ≡ before → AreHeld (state_of new) new.caches after
+    unmerged_held same still =
+        subst (λ (s : TreeState). AreHeld s new.caches after) (sym same) (subst (λ (r : Roots). AreHeld (state_of old) new.caches r) (sym still)
+        (held_after (state_of old) (state_of old) old.caches new.caches before before owned.held (λ leaf rank is. (leaf, is)) count
+        (λ leaf a is. go leaf a (subst (λ (s : TreeState). IsLive s.homes s.covers leaf) same (now_sound.cached leaf a is).live) (come leaf a is))))
       where
-        of_merged : (rank : Rank) (leaf : Leaf) → IsLive old.state.homes old.state.covers leaf → AllHave old.state.homes old.state.covers before dir frag rank → IsMergedHere old.state.covers dir frag leaf → Rules old.state before leaf rank
-        of_merged rank leaf lives all (inl contains) = let its = inside_live old.state dir frag known leaf contains in all leaf its.0 its.1
+        of_merged : (rank : Rank) (leaf : Leaf) → IsLive old.homes old.covers leaf → AllHave old.homes old.covers before dir frag rank → IsMergedHere old.covers dir frag leaf → Rules (state_of old) before leaf rank
+        of_merged rank leaf lives all (inl contains) = let its = inside_live (state_of old) dir frag known leaf contains in all leaf its.0 its.1
         of_merged rank leaf lives all (inr here) =
-            let stands : HasLeaf (leaves_of old.state.covers dir.0) frag = (subst (λ (l : Leaf). IsLive old.state.homes old.state.covers l) (sym here) lives).stands in
-            absurd (merged_is_new (leaves_of old.state.covers dir.0) frag (tree_of_row old.state.homes old.state.covers sound.table dir.0) can stands)
+            let stands : HasLeaf (leaves_of old.covers dir.0) frag = (subst (IsLive old.homes old.covers) here lives).stands in
+            absurd (merged_is_new (leaves_of old.covers dir.0) frag (tree_of_row old.homes old.covers owned.sound.sound.table dir.0) can stands)
 
-        at : (rank : Rank) (leaf : Leaf) → IsLive old.state.homes old.state.covers leaf → (IsLive old.state.homes old.state.covers leaf × (has_place old.ranks rank leaf ≡ true)) ⊎ (AllHave old.state.homes old.state.covers before dir frag rank × IsMergedHere old.state.covers dir frag leaf) → Rules old.state before leaf rank
-        at rank leaf lives (inl (lived, was)) = owned.1.places rank leaf was lived
-        at rank leaf lives (inr (all, merged)) = of_merged rank leaf lives all merged
+        go : (leaf : Leaf) (a : At) → IsLive old.homes old.covers leaf → (map.get old.caches.held leaf ≡ Some a) ⊎ (AllHave old.homes old.covers before dir frag (at_rank a) × IsMergedHere old.covers dir frag leaf) → Rules (state_of old) before leaf (at_rank a)
+        go leaf a lives (inl was) = owned.held.cached leaf a was
+        go leaf a lives (inr (all, merged)) = of_merged (at_rank a) leaf lives all merged
 
 -- the one rank may hold each of the leaves that are merged
-pub may_hold_all : (core : Core) (roots : Roots) (dir : Ino) (frag : Fragment) (rank : Rank) → is_known core.state.homes dir.0 ≡ true → IsOwned core roots → AllHave core.state.homes core.state.covers roots dir frag rank
-    → (q : Leaf) → Contains (each (in_directory dir.0) (leaves_inside frag (leaves_of core.state.covers dir.0))) q → MayHold core.ranks rank q
+pub may_hold_all : (core : Core) (roots : Roots) (dir : Ino) (frag : Fragment) (rank : Rank) → is_known core.homes dir.0 ≡ true → IsOwned core roots → AllHave core.homes core.covers roots dir frag rank
+    → (q : Leaf) → Contains (each (in_directory dir.0) (leaves_inside frag (leaves_of core.covers dir.0))) q → MayHold core.caches rank q
 may_hold_all core roots dir frag rank known owned all q contains =
-    let its = inside_live core.state dir frag known q contains in
-    may_hold core.state core.ranks roots owned.1 q rank (all q its.0 its.1) its.0
+    let its = inside_live (state_of core) dir frag known q contains in
+    may_hold (state_of core) core.caches roots owned.held q rank (all q its.0 its.1)

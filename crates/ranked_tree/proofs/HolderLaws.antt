@@ -4,7 +4,6 @@ use Rattle.std.proofs.Common.{inl, inr, sym, subst, ◌∙◌}
 use Rattle.std.specs.FinMap as map
 use Rattle.mds_types.specs.declared.dentries.Dentry.{Dentry}
 use Rattle.mds_types.specs.declared.ids.Ino.{Ino}
-use Rattle.mds_types.specs.declared.ids.Rank.{Rank}
 use Rattle.mds_types.specs.declared.inodes.Inode.{Inode}
 use Rattle.mds_types.specs.Frag.{Fragment}
 use Rattle.mds_types.specs.Tree.{is_directory}
@@ -17,12 +16,12 @@ use Rattle.inode_table.proofs.TableLaws.{known_is, may_come}
 use Rattle.namespace_ops.specs.Changes.{MayChange}
 use Rattle.namespace_ops.specs.declared.plans.Change.{Change}
 use Rattle.namespace_ops.specs.declared.plans.Change.TheVariants.{Add, Set, Remove, Move}
-use Rattle.dentry_cache.specs.Caches.{Caches}
+use Rattle.dentry_cache.specs.CacheMap.{CacheMap}
 use Rattle.subtree_map.specs.Authority.{Leaf, Roots}
 use Rattle.subtree_map.proofs.Nearest.{one_authority}
-use Rattle.mdcache.specs.declared.steps.holders.Holders.{Holders}
+use Rattle.mdcache.specs.declared.holders.Holders.{Holders}
 use Rattle.mdcache.specs.Changes.{first_leaf}
-use Rattle.mdcache.specs.Ranks.{MayComeFor, MayHold, MayHoldEach}
+use Rattle.mdcache.specs.Ranks.{IsNamedIn, MayHold, MayHoldEach}
 use Rattle.mdcache.specs.Shown.{shown_tree}
 use Rattle.mdcache.specs.Sound.{IsSound}
 use Rattle.mdcache.specs.State.{State as TreeState}
@@ -61,21 +60,21 @@ module _ (s : TreeState) (sound : IsSound s) where
       let comes = may_come (shown_tree s) s.homes dentry inode sound.tabled may.takes in
       was_unknown s.homes inode.ino.0 _ comes live.known
 
-  -- the places that come where a change is made ready are of leaves that their ranks hold, where they are of leaves
+  -- the leaves that a change names are used by ranks that hold them, where they are leaves
   module _ (roots : Roots) (at : Holders) where
-    pub come_held : (change : Change) → MayChange (shown_tree s) s.covers change → AreHolders s roots at change → (rank : Rank) (q : Leaf) → MayComeFor at change rank q → IsLive s.homes s.covers q → Rules s roots q rank
-    come_held (Add dentry leaf inode) may holders rank q (inl that) live = is_that s roots (dentry.dir, leaf) at.first holders.first rank q that
-    come_held (Add dentry leaf inode) may holders rank q (inr that) live = absurd (new_is_not_live dentry leaf inode may (subst (λ (l : Leaf). IsLive s.homes s.covers l) that.1 live))
-    come_held (Set dentry leaf inode) may holders rank q that live = is_that s roots (dentry.dir, leaf) at.first holders.first rank q that
-    come_held (Remove dentry leaf went) may holders rank q that live = is_that s roots (dentry.dir, leaf) at.first holders.first rank q that
-    come_held (Move from source to target went) may holders rank q (inl that) live = is_that s roots (from.dir, source) at.first holders.first rank q that
-    come_held (Move from source to target went) may holders rank q (inr that) live = is_that s roots (to.dir, target) at.second holders.second rank q that
+    pub named_held : (change : Change) → MayChange (shown_tree s) s.covers change → AreHolders s roots at change → (r : ℕ) (q : Leaf) → IsNamedIn at change r q → IsLive s.homes s.covers q → Rules s roots q (record { 0 = r })
+    named_held (Add dentry leaf inode) may holders r q (inl that) live = is_that s roots (dentry.dir, leaf) at.first holders.first r q that
+    named_held (Add dentry leaf inode) may holders r q (inr that) live = absurd (new_is_not_live dentry leaf inode may (subst (λ (l : Leaf). IsLive s.homes s.covers l) that.1 live))
+    named_held (Set dentry leaf inode) may holders r q that live = is_that s roots (dentry.dir, leaf) at.first holders.first r q that
+    named_held (Remove dentry leaf went) may holders r q that live = is_that s roots (dentry.dir, leaf) at.first holders.first r q that
+    named_held (Move from source to target went) may holders r q (inl that) live = is_that s roots (from.dir, source) at.first holders.first r q that
+    named_held (Move from source to target went) may holders r q (inr that) live = is_that s roots (to.dir, target) at.second holders.second r q that
 
 -- one leaf has one holder
 pub one_holder : (s : TreeState) (roots : Roots) (at : Holders) (change : Change) → AreHolders s roots at change → first_named change ≡ second_named change → at.first ≡ at.second
 one_holder s roots at change holders same = one_authority roots s.homes s.covers (second_named change) at.first at.second (subst (λ (l : Leaf). Rules s roots l at.first) same holders.first) holders.second
 
-pub may_hold_each : (caches : Caches) (at : Holders) (change : Change) → MayHold caches at.first (first_named change) → MayHold caches at.second (second_named change) → (first_named change ≡ second_named change → at.first ≡ at.second) → MayHoldEach caches at change
+pub may_hold_each : (caches : CacheMap) (at : Holders) (change : Change) → MayHold caches at.first (first_named change) → MayHold caches at.second (second_named change) → (first_named change ≡ second_named change → at.first ≡ at.second) → MayHoldEach caches at change
 may_hold_each caches at (Add dentry leaf inode) first second one = first
 may_hold_each caches at (Set dentry leaf inode) first second one = first
 may_hold_each caches at (Remove dentry leaf went) first second one = first

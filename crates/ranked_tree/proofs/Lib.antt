@@ -1,13 +1,16 @@
 pub mod AskLaws
 pub mod AuthorityLaws
 pub mod ChangedTables
+pub mod EvictLaws
 pub mod HeldChanges
 pub mod HeldLaws
 pub mod HeldRegroups
 pub mod HolderLaws
 pub mod InsideLaws
 pub mod Kept
+pub mod MoveLaws
 pub mod NewLaws
 pub mod RootLaws
 pub mod Stays
 pub mod SubtreeLaws
+pub mod WalkLaws

@@ -24,7 +24,7 @@ use Rattle.mdcache.specs.Sound.{IsSound}
 use Rattle.mdcache.specs.Splits.{IsMergedInto, IsSplitInto}
 use Rattle.mdcache.specs.State.{State}
 use Rattle.mdcache.proofs.HomeLaws.{moved_home, moved_known}
-use Rattle.mdcache.proofs.MoveSteps.{relocates, replaces}
+use Rattle.ranked_tree.proofs.MoveLaws.{relocates, replaces}
 use Rattle.ranked_tree.specs.Subtrees.{AreRoots, FollowChange, GivesToChildren, HasRoomFor, LoseDirectory, SettleMove, SettleMoving, TakesOver}
 use Rattle.ranked_tree.proofs.ChangedTables.{TablesAre, added_tables, grown_tables, moved_tables, removed_tables, set_tables}
 use Rattle.ranked_tree.proofs.RootLaws.{IsSoundChange, child_authority, divided_soundly, grown, lost, merged_authority, merged_soundly, rehomed, sound_on, unchanged}

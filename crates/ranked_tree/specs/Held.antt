@@ -57,10 +57,9 @@ LacksPlacesInside count core roots dir frag = (leaf : Leaf) × IsLive core.homes
 
 -- ---- leaves of a directory are regrouped
 
--- each cached fragment was cached at its rank, or is that of a leaf which comes at a rank that holds those leaves
+-- each cached fragment was cached so, or is that of a leaf which comes at a rank that holds those leaves
 abbrev pub FragmentsCome : (Holds : Rank → Type 0) (Come : Leaf → Type 0) → (old new : CacheMap) → Type 0
-FragmentsCome Holds Come old new =
-    (leaf : Leaf) (a : At) → map.get new.held leaf ≡ Some a → ((b : At) × (map.get old.held leaf ≡ Some b) × (b.rank ≡ a.rank)) ⊎ (Holds (record { 0 = a.rank }) × Come leaf)
+FragmentsCome Holds Come old new = (leaf : Leaf) (a : At) → map.get new.held leaf ≡ Some a → (map.get old.held leaf ≡ Some a) ⊎ (Holds (record { 0 = a.rank }) × Come leaf)
 
 -- a leaf, or one of its children by so many bits
 abbrev pub IsFamilyOf : Ino → Fragment → ℕ → Leaf → Type 0

@@ -11,12 +11,13 @@ use Rattle.mdcache.specs.Shown.{shown_tree}
 use Rattle.ranked_tree.specs.Ranked.{IsReadyHeld}
 use Rattle.ranked_tree.specs.Subtrees.{HasRoomFor}
 use Rattle.ranked_tree.proofs.SubtreeLaws.{over, room_for}
+use Rattle.mdcache.specs.Core.{state_of}
 use Rattle.ranked_tree.proofs.changing.reserve_roots.Goals as goal
 
 pub reserve_move-requires : goal.reserve_move-requires
 reserve_move-requires g c =
     let ready = subst (λ (ch : Change). IsReadyHeld c.args.tree.now c.args.roots.now.roots ch) c.in-Move.is c.requires.ready in
-    let may = subst (λ (ch : Change). MayChange (shown_tree c.args.tree.now.state) c.args.tree.now.state.covers ch) c.in-Move.is c.requires.may in
+    let may = subst (λ (ch : Change). MayChange (shown_tree (state_of c.args.tree.now)) c.args.tree.now.covers ch) c.in-Move.is c.requires.may in
     record {
       may =
           subst (λ (h : Homes). IfSome c.moving.result (λ (dir : Ino). MayMove h dir.0 (home_at c.in-Move.to))) (sym c.dirs.ensures.homes)
@@ -26,13 +27,13 @@ reserve_move-requires g c =
 pub returns-in-Move-clause-room : goal.returns-in-Move-clause-room
 returns-in-Move-clause-room g c =
     let ready = subst (λ (ch : Change). IsReadyHeld c.args.tree.now c.args.roots.now.roots ch) c.in-Move.is c.requires.ready in
-    let may = subst (λ (ch : Change). MayChange (shown_tree c.args.tree.now.state) c.args.tree.now.state.covers ch) c.in-Move.is c.requires.may in
+    let may = subst (λ (ch : Change). MayChange (shown_tree (state_of c.args.tree.now)) c.args.tree.now.covers ch) c.in-Move.is c.requires.may in
     let along = (c.moving.ensures ready.at c.in-Move.from c.in-Move.to c.in-Move.source c.in-Move.target c.in-Move.gone ready.ready).0 in
     on_ok_weaker c.reserve_move.result
     (λ room.
     let there =
     over (λ (h : Homes) (cs : Covers). IfSome c.moving.result (λ (dir : Ino). HasRoomToMove c.reserve_move.new.roots.roots c.reserve_move.new.roots.room h cs dir.0 (home_at c.in-Move.to)))
-    c.args.tree.now.state.homes c.dirs.result.now.homes c.args.tree.now.state.covers c.dirs.result.now.trees (sym c.dirs.ensures.homes) (sym c.dirs.ensures.trees) room in
-    subst (λ (ch : Change). HasRoomFor ch c.args.tree.now.state c.reserve_move.new.roots.roots c.reserve_move.new.roots.room) (sym c.in-Move.is)
-    (room_for c.args.tree.now.state c.in-Move.from c.in-Move.to c.in-Move.source c.in-Move.target c.in-Move.gone c.moving.result may along c.reserve_move.new.roots.roots c.reserve_move.new.roots.room there))
+    c.args.tree.now.homes c.dirs.result.now.homes c.args.tree.now.covers c.dirs.result.now.trees (sym c.dirs.ensures.homes) (sym c.dirs.ensures.trees) room in
+    subst (λ (ch : Change). HasRoomFor ch (state_of c.args.tree.now) c.reserve_move.new.roots.roots c.reserve_move.new.roots.room) (sym c.in-Move.is)
+    (room_for (state_of c.args.tree.now) c.in-Move.from c.in-Move.to c.in-Move.source c.in-Move.target c.in-Move.gone c.moving.result may along c.reserve_move.new.roots.roots c.reserve_move.new.roots.room there))
     c.reserve_move.ensures.room

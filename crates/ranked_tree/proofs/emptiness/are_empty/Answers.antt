@@ -3,8 +3,9 @@ use Rattle.mdcache.specs.Reads.{has_none}
 use Rattle.mdcache.specs.Shown.{names_of}
 use Rattle.mdcache.specs.State.{State as TreeState}
 use Rattle.mdcache.proofs.FragsLaws.{keeps_on}
-use Rattle.mdcache.proofs.WalkLaws.{first_within, passed, rest_within}
+use Rattle.ranked_tree.proofs.WalkLaws.{first_within, passed, rest_within}
 use Rattle.ranked_tree.proofs.AskLaws.{live_still}
+use Rattle.dentry_cache.specs.CacheMap.{unclean}
 use Rattle.ranked_tree.proofs.emptiness.are_empty.Goals as goal
 
 pub is_leaf_empty-requires-clause-live : goal.is_leaf_empty-requires-clause-live
@@ -15,10 +16,10 @@ pub loop-leaf-preserved : goal.loop-leaf-preserved
 loop-leaf-preserved g c =
     let inv = c.loop-leaf.invariant in
     let steps = c.in-Some.ensures.steps in
-    let told : has_none (names_of c.loop-leaf.tree.state.unsaved c.loop-leaf.tree.state.objects (c.args.dir, c.in-Some.leaf)) ≡ has_none (names_of c.args.tree.now.state.unsaved c.args.tree.now.state.objects (c.args.dir, c.in-Some.leaf)) = ap (λ (s : TreeState). has_none (names_of s.unsaved s.objects (c.args.dir, c.in-Some.leaf))) inv.kept.state in
+    let told : has_none (names_of (unclean c.loop-leaf.tree.caches) c.loop-leaf.tree.objects (c.args.dir, c.in-Some.leaf)) ≡ has_none (names_of (unclean c.args.tree.now.caches) c.args.tree.now.objects (c.args.dir, c.in-Some.leaf)) = ap (λ (s : TreeState). has_none (names_of s.unsaved s.objects (c.args.dir, c.in-Some.leaf))) inv.kept.state in
     record {
       kept = keeps_on c.args.tree.now c.loop-leaf.tree c.is_leaf_empty.new.tree None inv.kept c.in-Ok-true.ensures.kept;
       owned = c.in-Ok-true.ensures.owned;
       within = rest_within c.in-Some.leaf c.next.new.self c.loop-leaf.leaf-iterator c.args.leaves.now steps inv.within;
-      left = passed (λ f. has_none (names_of c.args.tree.now.state.unsaved c.args.tree.now.state.objects (c.args.dir, f))) c.in-Some.leaf c.next.new.self c.loop-leaf.leaf-iterator c.args.leaves.now steps (sym c.in-Ok-true.field-0-test ∙ c.in-Ok-true.ensures.found ∙ told) inv.left;
+      left = passed (λ f. has_none (names_of (unclean c.args.tree.now.caches) c.args.tree.now.objects (c.args.dir, f))) c.in-Some.leaf c.next.new.self c.loop-leaf.leaf-iterator c.args.leaves.now steps (sym c.in-Ok-true.field-0-test ∙ c.in-Ok-true.ensures.found ∙ told) inv.left;
     }

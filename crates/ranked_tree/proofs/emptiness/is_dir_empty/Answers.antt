@@ -4,19 +4,20 @@ use Rattle.mds_types.specs.Frag.{Fragment}
 use Rattle.inode_table.specs.Dirs.{leaves_of}
 use Rattle.mdcache.specs.Reads.{has_none}
 use Rattle.mdcache.specs.Shown.{names_of}
-use Rattle.mdcache.proofs.WalkLaws.{told_empty}
+use Rattle.ranked_tree.proofs.WalkLaws.{told_empty}
 use Rattle.ranked_tree.proofs.AskLaws.{dir_known, leaf_live, map_if_ok}
+use Rattle.mdcache.specs.Core.{state_of}
 use Rattle.ranked_tree.proofs.emptiness.is_dir_empty.Goals as goal
 
 pub are_empty-requires-clause-live : goal.are_empty-requires-clause-live
-are_empty-requires-clause-live g c = leaf_live c.args.tree.now.state c.dirs.ensures.sound c.args.dir c.requires.known c.in-Ok.leaves (c.in-Ok.ensures.leaves ∙ ap (λ t. leaves_of t c.args.dir.0) c.dirs.ensures.trees)
+are_empty-requires-clause-live g c = leaf_live (state_of c.args.tree.now) c.requires.owned.sound.sound c.args.dir c.requires.known c.in-Ok.leaves (c.in-Ok.ensures.leaves ∙ ap (λ t. leaves_of t c.args.dir.0) c.dirs.ensures.trees)
 
 pub returns-in-Ok-clause-found : goal.returns-in-Ok-clause-found
 returns-in-Ok-clause-found g c =
-    let s = c.args.tree.now.state in
+    let s = (state_of c.args.tree.now) in
     map_if_ok c.are_empty.result
     (λ empty is.
     is
     ∙ ap (λ (fs : List Fragment). list_all (λ (f : Fragment). has_none (names_of s.unsaved s.objects (c.args.dir, f))) fs) (c.in-Ok.ensures.leaves ∙ ap (λ t. leaves_of t c.args.dir.0) c.dirs.ensures.trees)
-    ∙ told_empty s c.dirs.ensures.sound c.args.dir (dir_known s c.dirs.ensures.sound c.args.dir c.requires.known) _ refl)
+    ∙ told_empty s c.requires.owned.sound.sound c.args.dir (dir_known s c.requires.owned.sound.sound c.args.dir c.requires.known) _ refl)
     c.are_empty.ensures.found

@@ -1,23 +1,28 @@
-use Rattle.std.proofs.Common.{sym, ap, subst}
+use Rattle.std.proofs.Common.{sym, subst}
 use Rattle.std.proofs.lemmas.Result.{on_ok_weaker}
+use Rattle.std.specs.Result.{result_err}
+use Rattle.dentry_cache.specs.CacheSplits.{IsKeptFor}
+use Rattle.mdcache.specs.Core.{state_of}
+use Rattle.mdcache.specs.Ranks.{IsNamedIn}
 use Rattle.mdcache.specs.State.{State as TreeState}
-use Rattle.mdcache.specs.Ranks.{MayComeFor}
+use Rattle.mdcache.proofs.CoreLaws.{reads_keeps, reads_state}
 use Rattle.ranked_tree.specs.Held.{AreHolders}
-use Rattle.ranked_tree.proofs.HeldLaws.{owned_kept}
-use Rattle.ranked_tree.proofs.HolderLaws.{come_held}
+use Rattle.ranked_tree.proofs.HeldLaws.{owned_reads}
+use Rattle.ranked_tree.proofs.HolderLaws.{named_held}
 use Rattle.ranked_tree.proofs.frags.prepare.Goals as goal
 
 pub returns-clause-ready : goal.returns-clause-ready
-returns-clause-ready g c =
+returns-clause-ready g c = 
     on_ok_weaker c.prepare.result
     (λ ready. record {
       at = c.holders_of-at.result;
-      holders = subst (λ (s : TreeState). AreHolders s c.args.roots.now.roots c.holders_of-at.result c.args.change.now) (sym c.prepare.ensures.kept.state) c.holders_of-at.ensures.holders;
+      holders = subst (λ (s : TreeState). AreHolders s c.args.roots.now.roots c.holders_of-at.result c.args.change.now) (sym (reads_state (IsNamedIn c.holders_of-at.result c.args.change.now) (IsKeptFor c.args.tree.now.caches) c.args.tree.now c.prepare.new.self c.prepare.ensures.reads)) c.holders_of-at.ensures.holders;
       ready = ready;
     })
     c.prepare.ensures.ready
 
+pub returns-clause-kept : goal.returns-clause-kept
+returns-clause-kept g c = reads_keeps (IsNamedIn c.holders_of-at.result c.args.change.now) (IsKeptFor c.args.tree.now.caches) c.args.tree.now c.prepare.new.self c.prepare.ensures.reads (result_err c.prepare.result) c.prepare.ensures.counted
+
 pub returns-clause-owned : goal.returns-clause-owned
-returns-clause-owned g c =
-    owned_kept (MayComeFor c.holders_of-at.result c.args.change.now) c.args.tree.now c.prepare.new.self c.args.roots.now.roots (ap (λ (s : TreeState). s.homes) c.prepare.ensures.kept.state) (ap (λ (s : TreeState). s.covers) c.prepare.ensures.kept.state)
-    c.prepare.ensures.caches (come_held c.args.tree.now.state c.dirs.ensures.sound c.args.roots.now.roots c.holders_of-at.result c.args.change.now c.requires.may c.holders_of-at.ensures.holders) c.requires.owned
+returns-clause-owned g c = owned_reads (IsNamedIn c.holders_of-at.result c.args.change.now) (IsKeptFor c.args.tree.now.caches) c.args.tree.now c.prepare.new.self c.args.roots.now.roots c.prepare.ensures.reads c.prepare.ensures.sound (named_held (state_of c.args.tree.now) c.requires.owned.sound.sound c.args.roots.now.roots c.holders_of-at.result c.args.change.now c.requires.may c.holders_of-at.ensures.holders) c.requires.owned

@@ -5,8 +5,9 @@ use Rattle.mdcache.specs.Shown.{names_of}
 use Rattle.mdcache.specs.State.{State as TreeState}
 use Rattle.mdcache.proofs.FragsLaws.{keeps_on}
 use Rattle.mdcache.proofs.GatherLaws.{leaf_more}
-use Rattle.mdcache.proofs.WalkLaws.{first_within, rest_within}
-use Rattle.ranked_tree.proofs.AskLaws.{live_still}
+use Rattle.ranked_tree.proofs.WalkLaws.{first_within, rest_within}
+use Rattle.ranked_tree.proofs.AskLaws.{live_still, refused_before}
+use Rattle.dentry_cache.specs.CacheMap.{unclean}
 use Rattle.ranked_tree.proofs.listing.gather_leaves.Goals as goal
 
 pub gather_leaf-requires-clause-live : goal.gather_leaf-requires-clause-live
@@ -17,7 +18,7 @@ pub loop-leaf-preserved : goal.loop-leaf-preserved
 loop-leaf-preserved g c =
     let inv = c.loop-leaf.invariant in
     let steps = c.in-Some.ensures.steps in
-    let told : names_of c.loop-leaf.tree.state.unsaved c.loop-leaf.tree.state.objects (c.args.dir, c.in-Some.leaf) ≡ names_of c.args.tree.now.state.unsaved c.args.tree.now.state.objects (c.args.dir, c.in-Some.leaf) = ap (λ (s : TreeState). names_of s.unsaved s.objects (c.args.dir, c.in-Some.leaf)) inv.kept.state in
+    let told : names_of (unclean c.loop-leaf.tree.caches) c.loop-leaf.tree.objects (c.args.dir, c.in-Some.leaf) ≡ names_of (unclean c.args.tree.now.caches) c.args.tree.now.objects (c.args.dir, c.in-Some.leaf) = ap (λ (s : TreeState). names_of s.unsaved s.objects (c.args.dir, c.in-Some.leaf)) inv.kept.state in
     record {
       kept = keeps_on c.args.tree.now c.loop-leaf.tree c.gather_leaf.new.tree None inv.kept c.in-Ok.ensures.kept;
       owned = c.in-Ok.ensures.owned;
@@ -25,6 +26,10 @@ loop-leaf-preserved g c =
       most = c.in-Ok.ensures.most ∙ inv.most;
       page = λ whole is.
           let w = inv.page whole is in
-          leaf_more (λ (f : Fragment). names_of c.args.tree.now.state.unsaved c.args.tree.now.state.objects (c.args.dir, f)) (option_copied c.args.after) c.in-Some.leaf c.next.new.self c.loop-leaf.leaf-iterator c.args.leaves.now w.0 whole c.loop-leaf.page c.gather_leaf.new.page
-          (names_of c.loop-leaf.tree.state.unsaved c.loop-leaf.tree.state.objects (c.args.dir, c.in-Some.leaf)) told steps w.1 w.2 c.in-Ok.ensures.page;
+          leaf_more (λ (f : Fragment). names_of (unclean c.args.tree.now.caches) c.args.tree.now.objects (c.args.dir, f)) (option_copied c.args.after) c.in-Some.leaf c.next.new.self c.loop-leaf.leaf-iterator c.args.leaves.now w.0 whole c.loop-leaf.page c.gather_leaf.new.page
+          (names_of (unclean c.loop-leaf.tree.caches) c.loop-leaf.tree.objects (c.args.dir, c.in-Some.leaf)) told steps w.1 w.2 c.in-Ok.ensures.page;
     }
+
+pub returns-in-Err-clause-refused : goal.returns-in-Err-clause-refused
+returns-in-Err-clause-refused g c =
+    refused_before c.args.tree.now c.loop-leaf.tree c.args.roots.now.roots (c.args.dir, c.in-Some.leaf) c.gather_leaf.new.tree.faults c.in-Err.refusal c.loop-leaf.invariant.kept c.loop-leaf.invariant.owned c.in-Err.ensures.refused

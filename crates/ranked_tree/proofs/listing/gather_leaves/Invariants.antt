@@ -6,8 +6,9 @@ use Rattle.cached_frag.specs.Rows.{Row}
 use Rattle.mdcache.specs.Frags.{KeepsState}
 use Rattle.mdcache.specs.Pages.{IsPageOf, gathered}
 use Rattle.mdcache.specs.Shown.{names_of}
-use Rattle.mdcache.proofs.WalkLaws.{AreWithin}
+use Rattle.ranked_tree.proofs.WalkLaws.{AreWithin}
 use Rattle.ranked_tree.specs.Held.{IsOwned}
+use Rattle.dentry_cache.specs.CacheMap.{unclean}
 use Rattle.ranked_tree.proofs.listing.gather_leaves.Given as goal
 
 abbrev pub invariant-loop-leaf : goal.invariant-loop-leaf
@@ -18,6 +19,6 @@ invariant-loop-leaf g l = record {
   most : l.page.most ≡ l.fn.page.most;
   page : (whole : List Row) → IsPageOf whole l.fn.page
       → (now : List Row) × IsPageOf now l.page
-      × (gathered (λ (f : Fragment). names_of l.fn.tree.state.unsaved l.fn.tree.state.objects (l.dir, f)) (option_copied l.after) now l.leaf-iterator
-      ≡ gathered (λ (f : Fragment). names_of l.fn.tree.state.unsaved l.fn.tree.state.objects (l.dir, f)) (option_copied l.after) whole l.leaves);
+      × (gathered (λ (f : Fragment). names_of (unclean l.fn.tree.caches) l.fn.tree.objects (l.dir, f)) (option_copied l.after) now l.leaf-iterator
+      ≡ gathered (λ (f : Fragment). names_of (unclean l.fn.tree.caches) l.fn.tree.objects (l.dir, f)) (option_copied l.after) whole l.leaves);
 }

@@ -5,19 +5,20 @@ use Rattle.inode_table.specs.Dirs.{Covers, leaves_of}
 use Rattle.ranked_tree.specs.Subtrees.{IsInsideAt}
 use Rattle.ranked_tree.proofs.HeldRegroups.{all_as_one, may_hold_all, none_before}
 use Rattle.ranked_tree.proofs.InsideLaws.{is_within}
+use Rattle.mdcache.specs.Core.{state_of}
 use Rattle.ranked_tree.proofs.regrouping.holder_of_all.Goals as goal
 
 pub unreachable-requires : goal.unreachable-requires
 unreachable-requires g c =
     let told = subst (λ (o : Option Fragment). IsInsideAt (leaves_of c.dirs.result.now.trees c.args.dir.0) c.args.frag c.value.result o) c.in-None.is c.leaf_inside.ensures in
     let here = subst (λ (n : ℕ). IsInsideAt (leaves_of c.dirs.result.now.trees c.args.dir.0) c.args.frag n None) c.value.ensures.value told in
-    none_before (leaves_of c.args.tree.now.state.covers c.args.dir.0) c.args.frag c.value.ensures.valid c.requires.can
+    none_before (leaves_of c.args.tree.now.covers c.args.dir.0) c.args.frag c.value.ensures.valid c.requires.can
     (subst (λ (cs : Covers). IsInsideAt (leaves_of cs c.args.dir.0) c.args.frag c.args.frag.value None) c.dirs.ensures.trees here)
 
 pub returns-clause-all : goal.returns-clause-all
 returns-clause-all g c =
     let told = subst (λ (o : Option Fragment). IsInsideAt (leaves_of c.dirs.result.now.trees c.args.dir.0) c.args.frag c.value.result o) c.in-Some.is c.leaf_inside.ensures in
-    all_as_one c.args.tree.now.state c.args.roots.now.roots c.args.dir c.args.frag c.holder_of.result (c.args.dir, c.in-Some.leaf) c.dirs.ensures.sound c.requires.owned.0 c.requires.one (is_within c.args.dir c.args.frag c.in-Some.leaf told.1)
+    all_as_one (state_of c.args.tree.now) c.args.roots.now.roots c.args.dir c.args.frag c.holder_of.result (c.args.dir, c.in-Some.leaf) c.requires.owned.sound.sound c.requires.owned.valid c.requires.one (is_within c.args.dir c.args.frag c.in-Some.leaf told.1)
     (record { known = c.requires.known; stands = subst (λ (cs : Covers). HasLeaf (leaves_of cs c.args.dir.0) c.in-Some.leaf) c.dirs.ensures.trees told.0 }) c.holder_of.ensures.rules
 
 pub returns-clause-inside : goal.returns-clause-inside

@@ -3,10 +3,12 @@ use Rattle.mdcache.specs.State.{State}
 use Rattle.ranked_tree.specs.Subtrees.{AreRoots}
 use Rattle.ranked_tree.specs.Ranked.{new_roots}
 use Rattle.ranked_tree.proofs.NewLaws.{new_are_held, new_are_roots}
+use Rattle.mdcache.specs.Core.{state_of}
 use Rattle.ranked_tree.proofs.ranked_tree.RankedTree.format.Goals as goal
 
 pub invariant_of-result : goal.invariant_of-result
-invariant_of-result g c = (
-  subst (AreRoots c.in-Ok-format.tree.state) (sym c.in-Ok.ensures) (subst (λ (s : State). AreRoots s new_roots) (sym c.in-Ok-format.ensures.state) new_are_roots),
-  new_are_held c.in-Ok-format.tree c.in-Ok.roots.roots c.args.ranks c.args.places c.requires.some c.in-Ok-format.ensures.state c.in-Ok-format.ensures.ranks c.in-Ok.ensures,
-)
+invariant_of-result g c = record {
+  sound = c.in-Ok-format.ensures.sound;
+  valid = subst (AreRoots (state_of c.in-Ok-format.tree)) (sym c.in-Ok.ensures) (subst (λ (s : State). AreRoots s new_roots) (sym c.in-Ok-format.ensures.state) new_are_roots);
+  held = new_are_held c.in-Ok-format.tree c.in-Ok.roots.roots c.args.ranks c.args.places c.requires.some c.in-Ok-format.ensures.state c.in-Ok-format.ensures.caches c.in-Ok.ensures;
+}

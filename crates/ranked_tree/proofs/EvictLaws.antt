@@ -1,0 +1,86 @@
+-- What an eviction leaves: what isn't clean, and whose each fragment is.
+use Rattle.std.proofs.Common.{◌≡◌, length, ◌+◌, ◌==◌, ◌&&◌, ℕ, Bool, true, false, cond, Result, Ok, Err, Option, Some, None, option_map, OnOk, OnErr, IfErr, refl, sym, ap, subst, ◌∙◌, arith}
+use Rattle.std.proofs.lemmas.Option.{same_Some}
+use Rattle.std.specs.FinMap as map
+use Rattle.std.specs.FinMap.{same_map}
+use Rattle.std.specs.Result.{result_err}
+use Rattle.mds_types.specs.declared.refusals.Refusal.{Refusal}
+use Rattle.mds_types.specs.declared.refusals.Refusal.TheVariants.{NothingToEvict}
+use Rattle.objstore.specs.Objects.{faults_told}
+use Rattle.dentry_cache.specs.Cache.{Leaf, leaf_is, unsaved_in}
+use Rattle.dentry_cache.specs.CacheMap.{At, CacheMap, at_rank, evicted, given_up, goes, here, order, unclean_of, unsaved_at, victim}
+use Rattle.dentry_cache.specs.Came.{Came, NoneEnds}
+use Rattle.dentry_cache.specs.Came.Came.{stays, ends}
+use Rattle.dentry_cache.proofs.FrameLaws.{came_cap, came_ranks}
+use Rattle.dentry_cache.proofs.LeafLaws.{leaf-exact, leaf-total, one_leaf}
+use Rattle.dentry_cache.proofs.StepLaws.{here_given_up}
+use Rattle.dentry_cache.proofs.UncleanLaws.{clean_there, last_passes}
+use Rattle.mdcache.specs.Core.{Core, IsSoundCore, state_of}
+use Rattle.mdcache.specs.Frags.{KeepsState}
+use Rattle.mdcache.specs.State.{State as TreeState}
+use Rattle.mdcache.proofs.UncleanOf.{get_unclean_of}
+use Rattle.subtree_map.specs.Authority.{Roots}
+use Rattle.ranked_tree.specs.Held.{IsOwned}
+use Rattle.ranked_tree.proofs.HeldLaws.{owned_came}
+
+-- any leaf ends
+abbrev AnyEnds : ℕ → Leaf → Type 0
+AnyEnds r leaf = Unit {0}
+
+clean_beyond : (s : ℕ) (o : Option At) → unsaved_at o ≡ None → unsaved_in (at_rank s o) ≡ None
+clean_beyond s None clean = refl
+clean_beyond s (Some a) clean = go (a.rank == s)
+  where
+    go : (b : Bool) → unsaved_in (cond b (Some a.frag) None) ≡ None
+    go true = clean
+    go false = refl
+
+-- a clean fragment went
+gone_unclean : (c : CacheMap) (r : ℕ) (v : Leaf) → goes c r None v ≡ true → (s : ℕ) → unclean_of (given_up c r v) s ≡ unclean_of c s
+gone_unclean c r v passes s = same_map leaf-total leaf-exact (unclean_of (given_up c r v) s) (unclean_of c s) (λ q. get_unclean_of (given_up c r v) s q ∙ ap unsaved_in (here_given_up c r v s q) ∙ at q (leaf_is q v) refl (r == s) ∙ sym (get_unclean_of c s q))
+  where
+    none : unsaved_at (map.get c.held v) ≡ None
+    none = clean_there r (map.get c.held v) true passes
+
+    at : (q : Leaf) (b : Bool) → leaf_is q v ≡ b → (k : Bool) → unsaved_in (cond (b && k) None (here c s q)) ≡ unsaved_in (here c s q)
+    at q true one true = sym (ap (λ (l : Leaf). unsaved_in (here c s l)) (one_leaf q v one) ∙ clean_beyond s (map.get c.held v) none)
+    at q true one false = refl
+    at q false beside k = refl
+
+module _ (old new : Core) (r : ℕ) where
+  by_victim : (P : CacheMap → Type 0) → ((v : Leaf) → goes old.caches r None v ≡ true → P (given_up old.caches r v)) → evicted old.caches r None ≡ Some new.caches → P new.caches
+  by_victim P went gone = go (victim old.caches r None) refl gone
+    where
+      go : (o : Option Leaf) → victim old.caches r None ≡ o → option_map (given_up old.caches r) o ≡ Some new.caches → P new.caches
+      go None at h = let clash : None ≡ Some new.caches = h in absurd cc
+      go (Some v) at h = subst P (same_Some (given_up old.caches r v) new.caches h) (went v (last_passes (goes old.caches r None) (order old.caches r) v at))
+
+  came : evicted old.caches r None ≡ Some new.caches → Came NoneEnds AnyEnds old.caches new.caches
+  came = by_victim (Came NoneEnds AnyEnds old.caches) (λ v passes. ends old.caches r v stays tt)
+
+  module _ (result : Result (Unit {0}) Refusal) (went : OnOk result (evicted old.caches r None ≡ Some new.caches)) (left : OnErr result (new ≡ old)) (state : state_of new ≡ state_of old) where
+    pub evict_keeps : IfErr result (λ reason. reason ≡ NothingToEvict) → new.faults ≡ old.faults → KeepsState old new (result_err result)
+    evict_keeps refused faults = go result went left refused
+      where
+        go : (x : Result (Unit {0}) Refusal) → OnOk x (evicted old.caches r None ≡ Some new.caches) → OnErr x (new ≡ old) → IfErr x (λ reason. reason ≡ NothingToEvict) → KeepsState old new (result_err x)
+        go (Ok done) ok err why = record {
+          state = state;
+          unclean = by_victim (λ (k : CacheMap). (s : ℕ) → unclean_of k s ≡ unclean_of old.caches s) (λ v passes s. gone_unclean old.caches r v passes s) ok;
+          count = came_ranks NoneEnds AnyEnds old.caches new.caches (came ok);
+          cap = came_cap NoneEnds AnyEnds old.caches new.caches (came ok);
+          counted = omega (arith, faults);
+        }
+        go (Err reason) ok err why = record {
+          state = state;
+          unclean = λ s. ap (λ (k : Core). unclean_of k.caches s) err;
+          count = ap (λ (k : Core). length k.caches.used) err;
+          cap = ap (λ (k : Core). k.caches.cap) err;
+          counted = subst (λ (x : Refusal). new.faults ≡ old.faults + faults_told (Some x)) (sym why) (omega (arith, faults));
+        }
+
+    pub evict_owned : (roots : Roots) → IsSoundCore new → IsOwned old roots → IsOwned new roots
+    evict_owned roots sound owned = go result went left
+      where
+        go : (x : Result (Unit {0}) Refusal) → OnOk x (evicted old.caches r None ≡ Some new.caches) → OnErr x (new ≡ old) → IsOwned new roots
+        go (Ok done) ok err = owned_came NoneEnds AnyEnds old new roots (came ok) sound (ap (λ (s : TreeState). s.homes) state) (ap (λ (s : TreeState). s.covers) state) (λ r q never live. absurd never) owned
+        go (Err reason) ok err = subst (λ (k : Core). IsOwned k roots) (sym err) owned
