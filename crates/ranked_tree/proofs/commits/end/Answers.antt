@@ -25,5 +25,5 @@ pub returns-clause-owned : goal.returns-clause-owned
 returns-clause-owned g c =
     let stay = ended (state_of c.args.tree.now) (state_of c.end.new.self) c.args.tree.now.faults c.end.new.self.faults c.args.encoded.now.job c.end.result c.end.ensures.ended in
     let rules_here : Rules (state_of c.args.tree.now) c.args.roots.now.roots (leaf_of c.args.encoded.now.job) c.holder_of-rank.result
-        = subst (λ (job : Job). Rules (state_of c.args.tree.now) c.args.roots.now.roots (leaf_of job) c.holder_of-rank.result) c.job-job.ensures.job c.holder_of-rank.ensures.rules in
+    = subst (λ (job : Job). Rules (state_of c.args.tree.now) c.args.roots.now.roots (leaf_of job) c.holder_of-rank.result) c.job-job.ensures.job c.holder_of-rank.ensures.rules in
     owned_came (IsThat c.holder_of-rank.result.0 (leaf_of c.args.encoded.now.job)) NoneEnds c.args.tree.now c.end.new.self c.args.roots.now.roots c.end.ensures.came c.end.ensures.sound stay.0 stay.1 (λ r q that live. is_that (state_of c.args.tree.now) c.args.roots.now.roots (leaf_of c.args.encoded.now.job) c.holder_of-rank.result rules_here r q that) c.requires.owned

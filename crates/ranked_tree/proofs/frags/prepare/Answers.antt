@@ -12,7 +12,7 @@ use Rattle.ranked_tree.proofs.HolderLaws.{named_held}
 use Rattle.ranked_tree.proofs.frags.prepare.Goals as goal
 
 pub returns-clause-ready : goal.returns-clause-ready
-returns-clause-ready g c = 
+returns-clause-ready g c =
     on_ok_weaker c.prepare.result
     (λ ready. record {
       at = c.holders_of-at.result;
