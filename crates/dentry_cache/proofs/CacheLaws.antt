@@ -1,17 +1,15 @@
 -- What is cached once a place is taken, used, filled or given up.
-use Rattle.std.proofs.Common.{◌≡◌, Bool, true, false, cond, not, ◌&&◌, [], ◌∷◌, ◌++◌, Option, Some, None, refl, sym, ap, subst, ◌∙◌}
+use Rattle.std.proofs.Common.{◌≡◌, Bool, true, false, cond, [], ◌∷◌, ◌++◌, Option, Some, None, refl, sym, ap, subst, ◌∙◌}
 use Rattle.std.specs.List.{IsDistinct}
 use Rattle.std.specs.Map.{keys_of, lookup, remove_entry}
 use Rattle.std.specs.FinMap as finmap
-use Rattle.std.specs.FinMap.{get-empty, get-insert, get-remove, same_map}
+use Rattle.std.specs.FinMap.{get-empty, get-insert, get-remove}
 use Rattle.std.proofs.lemmas.Map.{NonePasses, lookup-remove_entry}
-use Rattle.std.proofs.lemmas.Bool.{and_parts}
 use Rattle.lru.proofs.Splits.{all_left, distinct_differs}
 use Rattle.lru.specs.LruCache.{lru_cache}
-use Rattle.cached_frag.specs.Cached.{is_clean}
 use Rattle.dentry_cache.specs.declared.cache.Place.{Place}
-use Rattle.dentry_cache.specs.Cache.{Evicts, Held, IsOldest, Leaf, NoneGoes, Places, Unsaved, cached, fragment_in, is_evictable, leaf_cmp, leaf_is, may_go, stays, unsaved, unsaved_in, with_unsaved}
-use Rattle.dentry_cache.proofs.LeafLaws.{flips, leaf-exact, leaf-total, leaf_equivalence, leaf_itself, one_leaf, tied_leaf}
+use Rattle.dentry_cache.specs.Cache.{Evicts, Held, IsOldest, Leaf, NoneGoes, Places, Unsaved, cached, fragment_in, leaf_cmp, leaf_is, may_go, unsaved, unsaved_in, with_unsaved}
+use Rattle.dentry_cache.proofs.LeafLaws.{flips, leaf-total, leaf_equivalence, leaf_itself, one_leaf, tied_leaf}
 
 -- ---- what isn't clean
 
@@ -30,18 +28,7 @@ get-unsaved (e ∷ places) q =
     unsaved_here (unsaved places) e.0 q (unsaved_in (fragment_in (Some e.1))) ∙ ap (cond (leaf_is q e.0) (unsaved_in (fragment_in (Some e.1)))) (get-unsaved places q)
     ∙ either (leaf_is q e.0) e.1 (lookup (leaf_is q) places)
 
-pub unsaved_alike : (new old : Places) → ((q : Leaf) → unsaved_in (cached new q) ≡ unsaved_in (cached old q)) → unsaved new ≡ unsaved old
-unsaved_alike new old alike = same_map leaf-total leaf-exact (unsaved new) (unsaved old) (λ q. get-unsaved new q ∙ alike q ∙ sym (get-unsaved old q))
-
--- where each place is as it was, so is what isn't clean
-pub unsaved_same : (new old : Places) → ((q : Leaf) → lookup (leaf_is q) new ≡ lookup (leaf_is q) old) → unsaved new ≡ unsaved old
-unsaved_same new old same = unsaved_alike new old (λ q. ap (λ (o : Option Place). unsaved_in (fragment_in o)) (same q))
-
 -- ---- a place among others
-
-lookup_cut : (leaf : Leaf) (place : Place) (later before : Places) → NonePasses (leaf_is leaf) later → lookup (leaf_is leaf) (later ++ (leaf, place) ∷ before) ≡ Some place
-lookup_cut leaf place [] before none = ap (λ (b : Bool). cond b (Some place) (lookup (leaf_is leaf) before)) (leaf_itself leaf)
-lookup_cut leaf place (e ∷ later) before none = ap (λ (b : Bool). cond b (Some e.1) (lookup (leaf_is leaf) (later ++ (leaf, place) ∷ before))) none.0 ∙ lookup_cut leaf place later before none.1
 
 pub remove_cut : (leaf : Leaf) (place : Place) (later before : Places) → NonePasses (leaf_is leaf) later → remove_entry (leaf_is leaf) (later ++ (leaf, place) ∷ before) ≡ later ++ before
 remove_cut leaf place [] before none = ap (λ (b : Bool). cond b before ((leaf, place) ∷ remove_entry (leaf_is leaf) before)) (leaf_itself leaf)
@@ -60,32 +47,12 @@ after_removal leaf q places distinct = lookup-remove_entry leaf_equivalence (lea
 
 -- ---- the oldest goes
 
-evictable_clean : (place : Place) → is_evictable place ≡ true → unsaved_in (fragment_in (Some place)) ≡ None
-evictable_clean place goes = go place.kept (is_clean place.frag) refl refl goes
-  where
-    go : (k c : Bool) → place.kept ≡ k → is_clean place.frag ≡ c → (not k && c) ≡ true → unsaved_in (fragment_in (Some place)) ≡ None
-    go true c kept clean goes = cc
-    go false true kept clean goes = ap (λ (b : Bool). unsaved_in (cond b None (Some place.frag))) kept ∙ ap (λ (b : Bool). cond b None (Some (record { base = place.frag.base; generation = place.frag.generation; dirty = place.frag.dirty }))) clean
-    go false false kept clean goes = cc
-
 module _ (stay : Option Leaf) (places : Places) (leaf : Leaf) (o : IsOldest stay places leaf) (distinct : IsDistinct leaf_is (keys_of places)) where
   none_later : NonePasses (leaf_is leaf) o.later
   none_later = apart_later leaf o.place o.later o.before (subst (λ (es : Places). IsDistinct leaf_is (keys_of es)) o.among distinct)
 
   pub oldest_removed : remove_entry (leaf_is leaf) places ≡ o.later ++ o.before
   oldest_removed = ap (remove_entry (leaf_is leaf)) o.among ∙ remove_cut leaf o.place o.later o.before none_later
-
-  pub oldest_held : lookup (leaf_is leaf) places ≡ Some o.place
-  oldest_held = ap (lookup (leaf_is leaf)) o.among ∙ lookup_cut leaf o.place o.later o.before none_later
-
-  pub oldest_unsaved : unsaved (remove_entry (leaf_is leaf) places) ≡ unsaved places
-  oldest_unsaved = unsaved_alike (remove_entry (leaf_is leaf) places) places (λ q. ap (λ (p : Option Place). unsaved_in (fragment_in p)) (after_removal leaf q places distinct) ∙ go q (leaf_is leaf q) refl)
-    where
-      go : (q : Leaf) (b : Bool) → leaf_is leaf q ≡ b → unsaved_in (fragment_in (cond b None (lookup (leaf_is q) places))) ≡ unsaved_in (cached places q)
-      go q true is =
-          sym (ap (λ (l : Leaf). unsaved_in (cached places l)) (sym (one_leaf leaf q is)) ∙ ap (λ (p : Option Place). unsaved_in (fragment_in p)) oldest_held
-          ∙ evictable_clean o.place (and_parts (is_evictable o.place) (not (stays stay leaf)) o.goes).0)
-      go q false is = refl
 
 module _ (stay : Option Leaf) (old mid new : Held) (leaf : Leaf) (same : mid ≡ old) (o : IsOldest stay old.entries leaf) (distinct : IsDistinct leaf_is (keys_of mid.entries))
     (is : new ≡ lru_cache (remove_entry (leaf_is leaf) mid.entries) mid.cap) where
@@ -97,9 +64,6 @@ module _ (stay : Option Leaf) (old mid new : Held) (leaf : Leaf) (same : mid ≡
 
   pub evicted : Evicts stay old new
   evicted = (leaf, o, removed_now ∙ ap (λ (es : Places). lru_cache es old.cap) (oldest_removed stay old.entries leaf o one_each))
-
-  pub evicted_unsaved : unsaved new.entries ≡ unsaved old.entries
-  evicted_unsaved = ap (λ (h : Held). unsaved h.entries) removed_now ∙ oldest_unsaved stay old.entries leaf o one_each
 
 -- ---- the walk from the least recently used on
 

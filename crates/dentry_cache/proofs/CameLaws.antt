@@ -13,9 +13,9 @@ use Rattle.dentry_cache.specs.CacheCalls.{Edits, FetchesAt, IsEdited, KeepsAt, M
 use Rattle.dentry_cache.specs.CacheMap.{At, CacheMap, at_rank, edited_as, given_up, has_place, here, order, removed, roomy, victim, unclean, unsaved_at, used_at, with_mark}
 use Rattle.dentry_cache.specs.Came.{Came, StaysNamed}
 use Rattle.dentry_cache.specs.Came.Came.{uses, has, room, ends}
-use Rattle.dentry_cache.proofs.LeafLaws.{leaf-total}
 use Rattle.dentry_cache.proofs.UncleanLaws.{unclean_alike, unclean_roomy, unclean_same, unclean_with}
 use Rattle.dentry_cache.proofs.UsedLaws.{loaded_clean}
+use Rattle.dentry_cache.proofs.LeafLaws.{leaf-total}
 
 -- what was absent is absent once a place is free
 pub absent_roomy : (c mid : CacheMap) (r : ℕ) (stay : Option Leaf) (leaf : Leaf) → roomy c r stay ≡ Some mid → finmap.get c.held leaf ≡ None → finmap.get mid.held leaf ≡ None

@@ -7,7 +7,6 @@ use Rattle.mds_types.specs.Frag.{Fragment, child_of}
 use Rattle.mds_types.specs.declared.refusals.Refusal.{Refusal}
 use Rattle.objstore.specs.Objects.{Objects}
 use Rattle.cached_frag.specs.Cached.{Cached}
-use Rattle.dentry_cache.specs.Cache.{Leaf, leaf_is}
 use Rattle.dentry_cache.specs.CacheCalls.{IsAbsent, MakesRoomAt, MayNotKeepAt, kept_at, unclean_at, unclean_in}
 use Rattle.dentry_cache.specs.CacheMap.{CacheMap, at_rank, given_up, has_place, here, less, order, removed, roomy, used_at}
 use Rattle.dentry_cache.specs.CacheSplits.{AreAbsent, IsChildAt, IsFamilyAt, IsKeptFor, KeepsChildren, MayNotKeepAll, without_children}
@@ -16,13 +15,14 @@ use Rattle.dentry_cache.specs.Reads.{Reads}
 use Rattle.dentry_cache.specs.Reads.Reads.{stays as it_stays, uses, room, frees}
 use Rattle.dentry_cache.proofs.CountLaws.{full_where}
 use Rattle.dentry_cache.proofs.KeptLaws.{first_distinct, just_kept, less_distinct, order_given_up, order_used, roomy_absent, roomy_counted, roomy_distinct, roomy_kept, roomy_stays, used_absent, used_counted, used_counted_one, used_kept}
-use Rattle.dentry_cache.proofs.LeafLaws.{leaf_itself}
 use Rattle.dentry_cache.proofs.NameParts.{one_child}
 use Rattle.dentry_cache.proofs.ReadsLaws.{reads_then, reads_weaker}
 use Rattle.dentry_cache.proofs.SplitShows.{below_or_it}
 use Rattle.dentry_cache.proofs.MapCalls.{below_or_past}
 use Rattle.dentry_cache.proofs.StepLaws.{cap_roomy, has_given_up, placed_given_up, ranks_given_up, ranks_roomy, ranks_used}
 use Rattle.sorted_map.proofs.NatKeys.{is_same}
+use Rattle.dentry_cache.specs.Cache.{Leaf, leaf_is}
+use Rattle.dentry_cache.proofs.LeafLaws.{leaf_itself}
 
 -- as many ranks where places are given up
 pub ranks_without : (r : ℕ) (dir : Ino) (frag : Fragment) (bits n : ℕ) (c : CacheMap) → length (without_children r dir frag bits n c).used ≡ length c.used

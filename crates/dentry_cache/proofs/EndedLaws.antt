@@ -1,5 +1,5 @@
 -- Where a leaf's fragment is, among the ranks.
-use Rattle.std.proofs.Common.{◌≡◌, ◌⊎◌, inl, inr, ℕ, zero, suc, ◌+◌, ◌<◌, Bool, true, false, cond, is_some, length, List, [], ◌∷◌, Option, Some, None, refl, sym, ap, subst, ◌∙◌, arith}
+use Rattle.std.proofs.Common.{◌≡◌, ◌⊎◌, inl, inr, ℕ, zero, suc, ◌+◌, ◌<◌, Bool, true, false, cond, is_some, length, List, [], ◌∷◌, Option, Some, None, refl, sym, ap, ◌∙◌, arith}
 use Rattle.std.specs.Borrow.{Bor}
 use Rattle.std.specs.Prelude.{◌==◌, get_or}
 use Rattle.std.specs.Option.{option_copied, option_map}
@@ -7,10 +7,9 @@ use Rattle.std.specs.FinMap as finmap
 use Rattle.std.specs.List.{list_any}
 use Rattle.std.proofs.lemmas.Bool.{eqb-true}
 use Rattle.sorted_map.proofs.NatKeys.{is_same}
-use Rattle.cached_frag.specs.Cached.{Cached}
-use Rattle.dentry_cache.specs.Cache.{Leaf, leaf_is}
 use Rattle.dentry_cache.specs.CacheMap.{AreCaches, At, CacheMap, at_rank, here}
 use Rattle.dentry_cache.proofs.SplitShows.{below_or_it}
+use Rattle.dentry_cache.specs.Cache.{Leaf, leaf_is}
 
 pub copied_some : {A : Type 0} (o : Option (Bor A)) → is_some (option_copied o) ≡ is_some o
 copied_some None = refl

@@ -8,9 +8,9 @@ use Rattle.dentry_cache.specs.Cache.{Leaf, leaf_is, stays}
 use Rattle.dentry_cache.specs.CacheMap.{At, CacheMap, at, first, given_up, goes, has_place, here, less, order, removed, roomy, unsaved_at, victim}
 use Rattle.dentry_cache.specs.Came.{Came, StaysNamed}
 use Rattle.dentry_cache.specs.Came.Came.{stays as it_stays, uses, has, room, ends}
-use Rattle.dentry_cache.proofs.LeafLaws.{leaf-total, one_leaf, tied_leaf}
 use Rattle.dentry_cache.proofs.StepLaws.{cap_roomy, get_beside, get_with_frag, held_given_up, held_roomy, placed_given_up, placed_roomy, placed_used, ranks_given_up, ranks_roomy, ranks_used, ranks_with_frag}
 use Rattle.dentry_cache.proofs.UncleanLaws.{clean_there, last_passes}
+use Rattle.dentry_cache.proofs.LeafLaws.{leaf-total, one_leaf, tied_leaf}
 
 -- it is where it was, as it was; or it was clean, and is given_up
 abbrev pub IsLeft : Option At → Option At → Type 0

@@ -10,8 +10,8 @@ use Rattle.dentry_cache.specs.CacheCalls.{IsAbsent}
 use Rattle.dentry_cache.specs.CacheMap.{At, CacheMap, at_rank, clean_in, first, given_up, goes, has_place, here, less, order, roomy, used_at, victim}
 use Rattle.dentry_cache.specs.CacheSplits.{IsKeptFor}
 use Rattle.dentry_cache.proofs.CameLaws.{absent_roomy}
-use Rattle.dentry_cache.proofs.LeafLaws.{flips, leaf_itself, one_leaf}
 use Rattle.dentry_cache.proofs.StepLaws.{any_less, by_room, get_beside}
+use Rattle.dentry_cache.proofs.LeafLaws.{flips, leaf_itself, one_leaf}
 
 -- ---- lists of leaves
 

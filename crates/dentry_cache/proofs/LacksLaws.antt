@@ -16,11 +16,11 @@ use Rattle.dentry_cache.specs.Reads.Reads.{stays as it_stays, uses, grows, loads
 use Rattle.dentry_cache.proofs.CountLaws.{full_counts, staying}
 use Rattle.dentry_cache.proofs.KeptLaws.{counted, filter_less, first_distinct, less_distinct, same_filter}
 use Rattle.dentry_cache.proofs.FrameLaws.{came_cap, came_ranks}
-use Rattle.dentry_cache.proofs.LeafLaws.{leaf_itself, one_leaf}
 use Rattle.dentry_cache.proofs.MapLaws.{at_other, here_free}
 use Rattle.dentry_cache.proofs.ReadsLaws.{reads_came}
 use Rattle.dentry_cache.proofs.StepLaws.{any_less, by_room, here_given_up, here_with_frag, set_either}
 use Rattle.dentry_cache.proofs.UsedLaws.{loaded_clean}
+use Rattle.dentry_cache.proofs.LeafLaws.{leaf_itself, one_leaf}
 
 -- ---- lists
 

@@ -20,12 +20,19 @@ use Rattle.dentry_cache.specs.CacheMap.{AreAtOneRank, AreCaches, At, CacheMap, I
 use Rattle.dentry_cache.specs.Places.{IsCache}
 use Rattle.dentry_cache.specs.CacheCalls.{Edits, FetchesAt, IsAbsent, IsEdited, IsRefusedAt, IsWhole, KeepsAt, MakesRoomAt, MayNotFetchAt, MayNotKeepAt}
 use Rattle.dentry_cache.specs.Fetches.{IsFetched, IsNotFetched, IsRefusedIn, MayNotFetch}
-use Rattle.dentry_cache.proofs.LeafLaws.{leaf-total}
 use Rattle.dentry_cache.proofs.MapLaws.{cached_placed, changed_so, each_at, evicted_so, frag_so, get_held, given_up_so, here_free, none_evicted, none_roomy, order_is, roomy_so, used_so}
 use Rattle.dentry_cache.proofs.OneCache.{HasRoomFor, none_distinct, room_then, changed, changed_by, dropped, evicts_by, full_by, makes_room_by, none_by, room_made}
-use Rattle.dentry_cache.proofs.OrderLaws.{not_removed}
 use Rattle.dentry_cache.proofs.StepLaws.{here_put}
 use Rattle.dentry_cache.proofs.UsedLaws.{same_cap, still_absent}
+use Rattle.dentry_cache.proofs.LeafLaws.{leaf-total}
+
+not_removed : (leaf : Leaf) (places : Places) → lookup (leaf_is leaf) places ≡ None → remove_entry (leaf_is leaf) places ≡ places
+not_removed leaf [] none = refl
+not_removed leaf (e ∷ es) none = go (not_removed leaf es) (leaf_is leaf e.0) none
+  where
+    go : (lookup (leaf_is leaf) es ≡ None → remove_entry (leaf_is leaf) es ≡ es) → (b : Bool) → cond b (Some e.1) (lookup (leaf_is leaf) es) ≡ None → cond b es (e ∷ remove_entry (leaf_is leaf) es) ≡ e ∷ es
+    go rest true h = let clash : Some e.1 ≡ None = h in cc
+    go rest false h = ap (λ (xs : Places). e ∷ xs) (rest h)
 
 -- a fragment that has room is there
 pub has_there : (o : Option Cached) → HasRoom o → IsThere o
@@ -151,13 +158,6 @@ module _ (cs : List Held) (cap r : ℕ) (old : CacheMap) (view : cache_map cs ca
 
     pub taken_is : length (order old r) ≡ length x.entries
     taken_is = ap (λ (o : CacheMap). length (order o r)) (sym view) ∙ ap (λ (ks : List Leaf). length ks) (order_is cs cap r sound there) ∙ length-keys_of (get_or cs r no_cache).entries ∙ ap (λ (h : Held). length h.entries) (sym x_is)
-
-    pub few_is : length (order old r) ≤ old.cap
-    few_is =
-        let fits = valid_at.fits in
-        let size : x.cap ≡ old.cap = ap (λ (h : Held). h.cap) x_is ∙ sound.each r there ∙ ap (λ (o : CacheMap). o.cap) view in
-        let taken : length (order old r) ≡ length x.entries = taken_is in
-        omega (arith, size, taken, fits)
 
     pub no_place_is : (leaf : Leaf) → has_place old r leaf ≡ false → lookup (leaf_is leaf) x.entries ≡ None
     no_place_is leaf none = no_place (lookup (leaf_is leaf) x.entries) (sym (placed_is leaf) ∙ none)

@@ -13,9 +13,9 @@ use Rattle.cached_frag.specs.Cached.{Cached, is_clean}
 use Rattle.dentry_cache.specs.declared.cache.Place.{Place}
 use Rattle.dentry_cache.specs.Cache.{Held, Leaf, Places, cached, fragment_in, held, leaf_cmp, leaf_is, may_go, stays, used_as, without}
 use Rattle.dentry_cache.specs.CacheMap.{AreAtOneRank, At, CacheMap, IsFree, IsFreeFor, at, at_rank, cache_map, clean_in, edited, edited_as, evicted, first, flat, found, frag_at, given_up, goes, held_of, here, last_by, less, no_cache, or_later, or_this, order, orders, removed, roomy, tabulate, used_at, victim, with_frag, with_some}
-use Rattle.dentry_cache.proofs.LeafLaws.{leaf-exact, leaf-total, leaf_itself, flips, one_leaf, tied_leaf}
 use Rattle.dentry_cache.proofs.OneCache.{HasRoomFor, cached_used, cached_without, changed, dropped, room_made, used_valid, without_valid}
 use Rattle.dentry_cache.specs.Places.{IsCache}
+use Rattle.dentry_cache.proofs.LeafLaws.{flips, leaf-exact, leaf-total, leaf_itself, one_leaf, tied_leaf}
 
 -- a fragment that is cached has a place
 pub cached_placed : (leaf : Leaf) (es : Places) → is_some (cached es leaf) ≡ true → is_some (lookup (leaf_is leaf) es) ≡ true

@@ -6,9 +6,9 @@ use Rattle.lru.specs.LruCache.{lru_cache}
 use Rattle.dentry_cache.specs.Cache.{Held, Leaf, leaf_cmp}
 use Rattle.dentry_cache.specs.Places.{IsCache}
 use Rattle.dentry_cache.specs.CacheMap.{AreAtOneRank, at_rank, cache_map, frag_at, found, held_of, no_cache, no_caches, orders}
-use Rattle.dentry_cache.proofs.LeafLaws.{leaf-exact, leaf-total}
 use Rattle.dentry_cache.proofs.MapLaws.{get_held}
 use Rattle.dentry_cache.proofs.OneCache.{none_distinct}
+use Rattle.dentry_cache.proofs.LeafLaws.{leaf-exact, leaf-total}
 
 -- CacheMap with no place taken.
 

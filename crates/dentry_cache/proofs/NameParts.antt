@@ -20,8 +20,8 @@ use Rattle.dirfrag_codec.specs.FragmentObject.{Names}
 use Rattle.dirfrag_codec.proofs.ByteKeys.{get_left, get_removed, one_map, same_or_apart}
 use Rattle.dentry_cache.specs.Pairs.{holds}
 use Rattle.dentry_cache.proofs.LoadLaws.{holds_contains}
-use Rattle.dentry_cache.specs.Cache.{Leaf, leaf_is}
 use Rattle.dentry_cache.specs.Divided.{ChildrenHaveTheirOwn, NamesAreDivided, names_in}
+use Rattle.dentry_cache.specs.Cache.{Leaf, leaf_is}
 use Rattle.dentry_cache.proofs.LeafLaws.{leaf_or_apart}
 
 -- ---- the names that a fragment contains

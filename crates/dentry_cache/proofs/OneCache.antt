@@ -11,9 +11,9 @@ use Rattle.dentry_cache.specs.declared.cache.Place.{Place}
 use Rattle.dentry_cache.specs.Cache.{Evicts, Held, IsChanged, IsFull, Leaf, MakesRoom, NoneGoes, Places, cached, fragment_in, held, leaf_is, may_go, used_as, without}
 use Rattle.dentry_cache.specs.CacheMap.{last_by, or_this}
 use Rattle.dentry_cache.proofs.CacheLaws.{after_removal, apart_later, remove_cut}
-use Rattle.dentry_cache.proofs.LeafLaws.{flips, leaf_itself}
 use Rattle.dentry_cache.proofs.UsedLaws.{after_use, freed}
 use Rattle.dentry_cache.specs.Places.{IsCache}
+use Rattle.dentry_cache.proofs.LeafLaws.{flips, leaf_itself}
 
 -- its fragment was changed so, and is the most recently used
 abbrev pub changed : Leaf → (Cached → Cached) → Option Cached → Held → Held

@@ -23,13 +23,13 @@ use Rattle.dentry_cache.specs.Reads.Reads.{stays as it_stays}
 use Rattle.dentry_cache.proofs.ChildLaws.{are_keeping}
 use Rattle.dentry_cache.proofs.KeptLaws.{counted}
 use Rattle.dentry_cache.proofs.LacksLaws.{IsPlaced, caches_placed, frag_counts, placed_by_frag, still_left}
-use Rattle.dentry_cache.proofs.LeafLaws.{flips, leaf_itself}
 use Rattle.dentry_cache.proofs.MapLaws.{here_free}
 use Rattle.dentry_cache.proofs.NameParts.{no_child, one_child}
 use Rattle.dentry_cache.proofs.ReadsLaws.{edits_reads, places_changed, reads_then, reads_weaker}
 use Rattle.dentry_cache.proofs.SplitShows.{apart_from}
 use Rattle.dentry_cache.proofs.StepLaws.{by_edits, get_beside, get_with_frag, has_with_frag, here_put, placed_used, ranks_with_frag}
 use Rattle.dentry_cache.proofs.UncleanLaws.{unclean_given_up, unclean_with}
+use Rattle.dentry_cache.proofs.LeafLaws.{flips, leaf_itself}
 
 -- ---- the fragment is ready
 

@@ -15,10 +15,10 @@ use Rattle.dentry_cache.specs.Reads.Reads.{stays as it_stays, uses, grows, loads
 use Rattle.dentry_cache.proofs.CameLaws.{absent_roomy}
 use Rattle.sorted_map.proofs.NatKeys.{is_apart, is_same, same_or_apart}
 use Rattle.dentry_cache.proofs.FrameLaws.{staying_named}
-use Rattle.dentry_cache.proofs.LeafLaws.{one_leaf}
 use Rattle.dentry_cache.proofs.StepLaws.{get_with_frag, held_given_up, held_roomy}
 use Rattle.dentry_cache.proofs.UncleanLaws.{get_unclean, unclean_alike, unclean_gone, unclean_roomy, unclean_same}
 use Rattle.dentry_cache.proofs.UsedLaws.{loaded_clean}
+use Rattle.dentry_cache.proofs.LeafLaws.{one_leaf}
 
 -- ---- the same but for its room
 

@@ -10,20 +10,20 @@ use Rattle.commit_jobs.specs.declared.bases.Base.{Base}
 use Rattle.commit_jobs.specs.declared.bases.Base.TheVariants.{Fresh}
 use Rattle.cached_frag.specs.Cached.{Cached, is_clean_over, shown}
 use Rattle.dentry_cache.specs.declared.parts.Part.{Part}
-use Rattle.dentry_cache.specs.Cache.{HasCached, IsThere, Leaf, Unsaved, leaf_cmp, leaf_is, unsaved_in, with_unsaved}
+use Rattle.dentry_cache.specs.Cache.{HasCached, IsThere, Leaf, Unsaved, leaf_is, unsaved_in}
 use Rattle.dentry_cache.specs.CacheCalls.{IsWhole}
 use Rattle.dentry_cache.specs.CacheMap.{At, CacheMap, IsFree, IsFreeFor, at, at_rank, given_up, has_place, here, order, unclean, unsaved_at, with_frag}
-use Rattle.dentry_cache.specs.CacheSplits.{AreKept, IsChildAt, IsFamilyAt, SplitsAt, with_parts, with_unclean}
-use Rattle.dentry_cache.specs.Came.{Came, IsThat}
-use Rattle.dentry_cache.specs.Came.Came.{stays as it_stays, has, ends}
-use Rattle.dentry_cache.specs.Divided.{AreChildren, IsChild, IsNoChild}
+use Rattle.dentry_cache.specs.CacheSplits.{AreKept, IsChildAt, SplitsAt, with_parts, with_unclean}
+use Rattle.dentry_cache.specs.Came.{Came}
+use Rattle.dentry_cache.specs.Came.Came.{has, ends}
+use Rattle.dentry_cache.specs.Divided.{IsChild, IsNoChild}
 use Rattle.dentry_cache.specs.Parting.{AreApart}
-use Rattle.dentry_cache.proofs.LeafLaws.{flips, leaf_itself, one_leaf}
 use Rattle.dentry_cache.proofs.NameParts.{no_child, one_child}
-use Rattle.dentry_cache.proofs.PartsLaws.{at_its_place, unclean_split}
+use Rattle.dentry_cache.proofs.PartsLaws.{unclean_split}
 use Rattle.dentry_cache.proofs.SplitShows.{apart_from}
 use Rattle.dentry_cache.proofs.StepLaws.{get_beside, get_given_up, get_with_frag, has_given_up, has_with_frag, placed_given_up, placed_used, ranks_given_up, ranks_with_frag}
 use Rattle.dentry_cache.proofs.UncleanLaws.{get_unclean}
+use Rattle.dentry_cache.proofs.LeafLaws.{flips, leaf_itself, one_leaf}
 
 -- ---- fragments that come in
 

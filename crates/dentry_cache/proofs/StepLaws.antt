@@ -13,8 +13,8 @@ use Rattle.cached_frag.specs.Cached.{Cached, marked}
 use Rattle.dentry_cache.specs.Cache.{HasCached, Leaf, leaf_is}
 use Rattle.dentry_cache.specs.CacheCalls.{Edits, IsEdited}
 use Rattle.dentry_cache.specs.CacheMap.{At, CacheMap, IsFree, IsFreeFor, at, at_rank, edited_as, first, given_up, goes, has_place, here, less, order, removed, roomy, used_at, victim, with_frag, with_mark}
-use Rattle.dentry_cache.proofs.LeafLaws.{leaf-total, leaf_itself, one_leaf, tied_leaf}
 use Rattle.dentry_cache.proofs.UncleanLaws.{last_passes}
+use Rattle.dentry_cache.proofs.LeafLaws.{leaf-total, leaf_itself, one_leaf, tied_leaf}
 
 -- ---- how a statement of the caches before and after is proved, where a place is free or became so
 

@@ -3,7 +3,6 @@ use Rattle.std.proofs.Common.{◌≡◌, ℕ, Bool, true, false, cond, not, ◌�
 use Rattle.std.specs.Prelude.{◌==◌}
 use Rattle.std.specs.Option.{unwrap_or}
 use Rattle.std.specs.FinMap as map
-use Rattle.std.specs.Map.{lookup}
 use Rattle.std.proofs.lemmas.Bool.{eqb-true}
 use Rattle.mds_types.specs.Frag.{Fragment}
 use Rattle.mds_types.specs.declared.inodes.Inode.{Inode}
@@ -21,12 +20,9 @@ use Rattle.commit_jobs.proofs.CommitLaws.{commit_is_right}
 use Rattle.commit_jobs.proofs.MarkLaws.{get-patched, inode_or}
 use Rattle.cached_frag.specs.Cached.{Cached, is_settled, marked, names_below, shown, shown_over}
 use Rattle.cached_frag.proofs.SettledLaws.{get-unsettled}
-use Rattle.dentry_cache.specs.Loading.{Loads, object_of}
-use Rattle.dentry_cache.specs.Cache.{Leaf, fragment_in, held, leaf_is}
+use Rattle.dentry_cache.specs.Loading.{Loads}
 use Rattle.dentry_cache.specs.Commits.{IsCommitted}
-use Rattle.dentry_cache.specs.Ties.{ChangedAreTied, Commits, CommittedAreTied, FetchedAreTied, IsRight, IsTied, IsTiedAt, KeepsAt, TiedShow, UsedAreTied, names_at, object_after}
-use Rattle.dentry_cache.proofs.LeafLaws.{one_leaf}
-use Rattle.dentry_cache.proofs.UsedLaws.{after_use}
+use Rattle.dentry_cache.specs.Ties.{ChangedAreTied, Commits, CommittedAreTied, FetchedAreTied, IsRight, IsTied, IsTiedAt, KeepsAt, TiedShow, names_at, object_after}
 
 -- ---- what is shown
 
@@ -133,14 +129,3 @@ module _ (snapshot : Snap) (f now : Cached) (object : Option Omap) (tie : IsTied
 
 pub committed_are_tied : CommittedAreTied
 committed_are_tied snapshot f now object tie c done = right_now snapshot f now object tie c done
-
--- ---- all cached fragments
-
-pub used_are_tied : UsedAreTied
-used_are_tied leaf f old objects tied tie q g is = go (leaf_is leaf q) refl (sym (ap fragment_in (after_use leaf q (held f) old)) ∙ is)
-  where
-    go : (b : Bool) → leaf_is leaf q ≡ b → fragment_in (cond b (Some (held f)) (lookup (leaf_is q) old.entries)) ≡ Some g → IsTied g (object_of objects q.0 q.1)
-    go true same found =
-        let one : f ≡ g = cc in
-        subst (λ (l : Leaf). IsTied g (object_of objects l.0 l.1)) (one_leaf leaf q same) (subst (λ (h : Cached). IsTied h (object_of objects leaf.0 leaf.1)) one tie)
-    go false same found = tied q g found

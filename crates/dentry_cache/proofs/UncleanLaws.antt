@@ -11,8 +11,8 @@ use Rattle.cached_frag.specs.Cached.{Cached, is_clean}
 use Rattle.dentry_cache.specs.Cache.{Leaf, leaf_cmp, leaf_is, stays, unsaved_in, with_unsaved}
 use Rattle.dentry_cache.specs.CacheMap.{At, CacheMap, IsFree, IsFreeFor, at, at_rank, clean_in, given_up, goes, here, last_by, or_this, order, removed, roomy, unclean, unsaved_at, victim, with_frag}
 use Rattle.dentry_cache.proofs.CacheLaws.{unsaved_here}
-use Rattle.dentry_cache.proofs.LeafLaws.{leaf-exact, leaf-total, one_leaf, tied_leaf}
 use Rattle.dentry_cache.proofs.MapLaws.{get_tabulate}
+use Rattle.dentry_cache.proofs.LeafLaws.{leaf-exact, leaf-total, one_leaf, tied_leaf}
 
 -- ---- what isn't clean
 

@@ -17,9 +17,8 @@ use Rattle.commit_jobs.specs.declared.marks.Mark.{Mark}
 use Rattle.cached_frag.specs.Cached.{Cached, is_clean}
 use Rattle.dentry_cache.specs.Loading.{Loads}
 use Rattle.dentry_cache.specs.declared.cache.Place.{Place}
-use Rattle.dentry_cache.specs.Cache.{Evicts, Held, IsNewest, IsUsed, Leaf, MakesRoom, MayMakeRoom, Places, TakesPlace, cached, fragment_in, held, is_kept, leaf_is, unsaved, unsaved_in, used_as}
+use Rattle.dentry_cache.specs.Cache.{Evicts, Held, IsNewest, IsUsed, Leaf, MakesRoom, MayMakeRoom, Places, TakesPlace, fragment_in, held, is_kept, leaf_is, unsaved_in, used_as}
 use Rattle.dentry_cache.specs.Fetches.{IsFetched, IsNotFetched, IsRefusedIn}
-use Rattle.dentry_cache.proofs.CacheLaws.{unsaved_alike, unsaved_same}
 use Rattle.dentry_cache.proofs.LeafLaws.{flips, one_leaf}
 
 -- ---- look-ups
@@ -64,13 +63,6 @@ after_use leaf q place old = go (leaf_is leaf q) refl
     go true is = ap (λ (b : Bool). cond b (Some place) (lookup (leaf_is q) (remove_entry (leaf_is leaf) old.entries))) (flips q leaf ∙ is)
     go false is = ap (λ (b : Bool). cond b (Some place) (lookup (leaf_is q) (remove_entry (leaf_is leaf) old.entries))) (flips q leaf ∙ is) ∙ beside_removal leaf q old.entries is
 
-pub used_same : (leaf q : Leaf) (place : Place) (old : Held) → lookup (leaf_is leaf) old.entries ≡ Some place → lookup (leaf_is q) (used_as leaf place old).entries ≡ lookup (leaf_is q) old.entries
-used_same leaf q place old is = after_use leaf q place old ∙ go (leaf_is leaf q) refl
-  where
-    go : (b : Bool) → leaf_is leaf q ≡ b → cond b (Some place) (lookup (leaf_is q) old.entries) ≡ lookup (leaf_is q) old.entries
-    go true same = sym is ∙ ap (λ (l : Leaf). lookup (leaf_is l) old.entries) (one_leaf leaf q same)
-    go false same = refl
-
 pub promoted_is : (leaf : Leaf) (place : Place) (places : Places) → lookup (leaf_is leaf) places ≡ Some place → promoted (leaf_is leaf) places ≡ (leaf, place) ∷ remove_entry (leaf_is leaf) places
 promoted_is leaf place places is = ap (λ (o : Option (Leaf × Place)). option_map_or (λ e. e ∷ remove_entry (leaf_is leaf) places) o places) (entry_of_lookup leaf places place is)
 
@@ -95,14 +87,6 @@ is_used leaf old mid new there same told is = go (lookup (leaf_is leaf) old.entr
 pub newest_from : (leaf one : Leaf) (place : Place) (places : Places) → leaf_is leaf one ≡ true → Some (one, place) ≡ slice_get places 0 → IsNewest leaf place places
 newest_from leaf one place [] same is = absurd cc
 newest_from leaf one place (e ∷ es) same is = (es, ap (λ (x : Leaf × Place). x ∷ es) (sym (same_Some (one, place) e is) ∙ ap (λ (l : Leaf). (l, place)) (sym (one_leaf leaf one same))))
-
--- what was used, and what was not there
-pub used_unsaved : (leaf : Leaf) (old new : Held) (there : Bool) → IsUsed (lookup (leaf_is leaf) old.entries) leaf old new there → unsaved new.entries ≡ unsaved old.entries
-used_unsaved leaf old new there h = go (lookup (leaf_is leaf) old.entries) refl h
-  where
-    go : (o : Option Place) → lookup (leaf_is leaf) old.entries ≡ o → IsUsed o leaf old new there → unsaved new.entries ≡ unsaved old.entries
-    go (Some place) found u = ap (λ (h : Held). unsaved h.entries) u.1 ∙ unsaved_same (used_as leaf place old).entries old.entries (λ q. used_same leaf q place old found)
-    go None found u = ap (λ (h : Held). unsaved h.entries) u.1
 
 pub was_absent : (leaf : Leaf) (old new : Held) (there : Bool) (o : Option Place) → IsUsed o leaf old new there → there ≡ false → o ≡ None
 was_absent leaf old new there (Some place) u is = let clash : true ≡ false = sym u.0 ∙ is in cc
@@ -161,22 +145,6 @@ loaded_clean frag (Some object) f h =
   where
     no_names : ℕ → Bool
     no_names n = n == 0
-
-pub placed_unsaved : (leaf : Leaf) (place : Place) (mid : Held) → lookup (leaf_is leaf) mid.entries ≡ None → unsaved_in (fragment_in (Some place)) ≡ None → unsaved ((leaf, place) ∷ mid.entries) ≡ unsaved mid.entries
-placed_unsaved leaf place mid none clean = unsaved_alike ((leaf, place) ∷ mid.entries) mid.entries (λ q. go q (leaf_is q leaf) refl)
-  where
-    go : (q : Leaf) (b : Bool) → leaf_is q leaf ≡ b → unsaved_in (fragment_in (cond b (Some place) (lookup (leaf_is q) mid.entries))) ≡ unsaved_in (cached mid.entries q)
-    go q true is = clean ∙ sym (ap (λ (o : Option Place). unsaved_in (fragment_in o)) (ap (λ (l : Leaf). lookup (leaf_is l) mid.entries) (one_leaf q leaf is) ∙ none))
-    go q false is = refl
-
-pub held_unsaved : {A E : Type 0} (r : Result A E) (leaf : Leaf) (place : Place) (old mid new : Held) → unsaved_in (fragment_in (Some place)) ≡ None → lookup (leaf_is leaf) mid.entries ≡ None → unsaved mid.entries ≡ unsaved old.entries
-    → OnOk r (new ≡ lru_cache ((leaf, place) ∷ mid.entries) mid.cap) → OnErr r (new ≡ mid) → unsaved new.entries ≡ unsaved old.entries
-held_unsaved (Ok x) leaf place old mid new clean none same ok err = ap (λ (h : Held). unsaved h.entries) ok ∙ placed_unsaved leaf place mid none clean ∙ same
-held_unsaved (Err e) leaf place old mid new clean none same ok err = ap (λ (h : Held). unsaved h.entries) err ∙ same
-
-pub fetched_unsaved : {A E : Type 0} (r : Result A E) (frag : Fragment) (object : Option Omap) (f : Cached) (leaf : Leaf) (old mid new : Held) → Loads frag object (Some f) → lookup (leaf_is leaf) mid.entries ≡ None
-    → unsaved mid.entries ≡ unsaved old.entries → OnOk r (new ≡ lru_cache ((leaf, held f) ∷ mid.entries) mid.cap) → OnErr r (new ≡ mid) → unsaved new.entries ≡ unsaved old.entries
-fetched_unsaved r frag object f leaf old mid new loads none same ok err = held_unsaved r leaf (held f) old mid new (loaded_clean frag object f loads) none same ok err
 
 -- ---- a fetch
 

@@ -18,11 +18,11 @@ use Rattle.dentry_cache.specs.Reads.{Reads}
 use Rattle.dentry_cache.specs.Reads.Reads.{stays as it_stays, uses, grows, loads, room, frees}
 use Rattle.dentry_cache.proofs.FrameLaws.{came_ranks}
 use Rattle.dentry_cache.proofs.LacksLaws.{reads_placed, there_mid}
-use Rattle.dentry_cache.proofs.LeafLaws.{leaf_or_apart, one_leaf, same_leaf}
 use Rattle.dentry_cache.proofs.MapCalls.{free_roomy}
 use Rattle.dentry_cache.proofs.MapLaws.{here_free}
 use Rattle.dentry_cache.proofs.ReadsLaws.{reads_came}
 use Rattle.dentry_cache.proofs.StepLaws.{by_edits, by_room, has_given_up, here_given_up, here_put, here_with_frag, placed_given_up, placed_used}
+use Rattle.dentry_cache.proofs.LeafLaws.{leaf_or_apart, one_leaf, same_leaf}
 
 -- a leaf that is used, and is there
 pub whole_used : (c : CacheMap) (r : ℕ) (leaf : Leaf) (s : ℕ) (q : Leaf) → IsThere (here c r leaf) → IsWhole c s q → IsWhole (used_at c r leaf) s q

@@ -1,8 +1,8 @@
 -- What a step does to the order in which the fragments of each rank were used.
 use Rattle.std.specs.Prelude.{◌≡◌, ℕ, false, Option, Some, None}
 use Rattle.cached_frag.specs.Cached.{Cached}
-use Rattle.dentry_cache.specs.Cache.{Leaf}
 use Rattle.dentry_cache.specs.CacheMap.{CacheMap, given_up, has_place, roomy, used_at, with_frag}
+use Rattle.dentry_cache.specs.Cache.{Leaf}
 
 -- the fragment that is to stay is one that the step names
 abbrev pub StaysNamed : (Uses : ℕ → Leaf → Type 0) → Option Leaf → Type 0

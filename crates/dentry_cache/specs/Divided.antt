@@ -1,12 +1,11 @@
 -- A fragment's names, divided over its children.
-use Rattle.std.specs.Prelude.{◌≡◌, ◌≢◌, ◌⊎◌, ℕ, ◌+◌, ◌<◌, ◌≤◌, ◌-◌, ◌^◌, false, List, [], ◌∷◌, filter, length, Option, Some, None}
+use Rattle.std.specs.Prelude.{◌≡◌, ◌≢◌, ℕ, ◌+◌, ◌<◌, ◌≤◌, ◌-◌, ◌^◌, false, List, [], ◌∷◌, filter, length, Some, None}
 use Rattle.std.specs.List.{slice_index_or}
 use Rattle.std.specs.Map.{lookup}
 use Rattle.std.specs.FinMap as map
 use Rattle.mds_types.specs.Frag.{Contains, Fragment, IsFragment, child_of}
 use Rattle.mds_types.specs.declared.ids.Ino.{Ino}
 use Rattle.mds_types.specs.declared.inodes.Inode.{Inode}
-use Rattle.omap.specs.Omap.{Omap}
 use Rattle.namehash.specs.Rjenkins.{hash_of}
 use Rattle.dirfrag_codec.specs.FragmentObject.{Names}
 use Rattle.commit_jobs.specs.declared.bases.Base.TheVariants.{Fresh}
@@ -15,9 +14,7 @@ use Rattle.cached_frag.specs.Moving.{marked_as}
 use Rattle.dentry_cache.specs.Loading.{AreWithin}
 use Rattle.dentry_cache.specs.Pairs.{holds}
 use Rattle.dentry_cache.specs.declared.parts.Part.{Part}
-use Rattle.dentry_cache.specs.declared.cache.Place.{Place}
-use Rattle.dentry_cache.specs.Cache.{HasCached, Held, Leaf, cached, fragment_in, held, is_evictable, leaf_is, used_as, without}
-use Rattle.dentry_cache.specs.Leaving.{IsFound}
+use Rattle.dentry_cache.specs.Cache.{HasCached, Held, Leaf, cached, held, is_evictable, leaf_is, used_as, without}
 
 -- the names whose hashes a fragment contains
 unfoldable pub names_in : Fragment → Names → Names
@@ -55,15 +52,6 @@ AreNumbered first parts = (i : ℕ) (d : Part) → i < length parts → (slice_i
 -- how many places are free, or become so where a clean fragment goes
 abbrev pub spare : Held → ℕ
 spare old = (old.cap - length old.entries) + length (filter (λ e. is_evictable e.1) old.entries)
-
--- the fragment that was there, or else the one that the object spells; only its room for names that become clean may be another
-abbrev pub IsFoundReady : Fragment → Option Omap → Option Place → Option Cached → Type 0
-IsFoundReady frag object place None = ⊥
-IsFoundReady frag object place (Some now) = (f : Cached) × IsFound frag object place (Some f) × (now ≡ record f { places = now.places })
-
--- what a refused call leaves of it: it had no place and has none; or it is there, as it was found
-abbrev pub IsLeftReady : Fragment → Option Omap → (was now : Option Place) → Type 0
-IsLeftReady frag object was now = ((was ≡ None) × (now ≡ None)) ⊎ IsFoundReady frag object was (fragment_in now)
 
 -- ---- what a split leaves
 

@@ -1,8 +1,8 @@
 -- What an end of leaves makes of the caches of all ranks.
 use Rattle.std.specs.Prelude.{List, [], ◌∷◌, Option, Some, None}
 use Rattle.std.specs.FinMap as finmap
-use Rattle.dentry_cache.specs.Cache.{Leaf}
 use Rattle.dentry_cache.specs.CacheMap.{At, CacheMap, given_up}
+use Rattle.dentry_cache.specs.Cache.{Leaf}
 
 abbrev pub ended_at : CacheMap → Leaf → Option At → CacheMap
 ended_at c leaf None = c

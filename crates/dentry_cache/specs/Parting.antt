@@ -1,14 +1,12 @@
 -- The children of a fragment under way. Only this crate's own contracts use these words.
 use Rattle.std.specs.Prelude.{◌≡◌, ℕ, ◌+◌, ◌<◌, ◌≤◌, ◌==◌, Bool, true, false, cond, List, [], ◌∷◌, length, Option, Some, None}
 use Rattle.std.specs.List.{slice_index_or}
-use Rattle.std.specs.Map.{lookup}
 use Rattle.mds_types.specs.Frag.{Fragment, child_of}
 use Rattle.mds_types.specs.declared.ids.Ino.{Ino}
-use Rattle.commit_jobs.specs.declared.bases.Base.TheVariants.{Fresh}
 use Rattle.commit_jobs.specs.declared.marks.Mark.{Mark}
 use Rattle.cached_frag.specs.Cached.{marked}
 use Rattle.dentry_cache.specs.declared.parts.Part.{Part}
-use Rattle.dentry_cache.specs.Cache.{Leaf, Places, is_kept, leaf_is}
+use Rattle.dentry_cache.specs.Cache.{Leaf, leaf_is}
 use Rattle.dentry_cache.specs.Divided.{bare}
 
 -- so of each child
@@ -44,7 +42,3 @@ Puts name mark false old now = now ≡ old
 abbrev pub AreApart : Leaf → Ino → List Part → Type 0
 AreApart leaf dir [] = Unit {0}
 AreApart leaf dir (part ∷ parts) = (leaf_is leaf (dir, part.frag) ≡ false) × AreApart leaf dir parts
-
-abbrev pub Fillable : Ino → List Part → Places → Type 0
-Fillable dir [] places = Unit {0}
-Fillable dir (part ∷ parts) places = (is_kept (lookup (leaf_is (dir, part.frag)) places) ≡ true) × (part.fragment.base ≡ Fresh) × AreApart (dir, part.frag) dir parts × Fillable dir parts places

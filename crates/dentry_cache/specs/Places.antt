@@ -2,7 +2,7 @@
 use Rattle.std.specs.Prelude.{ℕ, ◌+◌, ◌≤◌, cond, [], ◌∷◌, length}
 use Rattle.std.specs.List.{IsDistinct}
 use Rattle.std.specs.Map.{keys_of}
-use Rattle.dentry_cache.specs.Cache.{Held, Places, is_evictable, leaf_is}
+use Rattle.dentry_cache.specs.Cache.{Held, Places, leaf_is}
 
 -- no leaf has two places
 abbrev pub AreDistinct : Places → Type 0
@@ -12,11 +12,6 @@ AreDistinct places = IsDistinct leaf_is (keys_of places)
 pub record IsCache (cache : Held) : Type 0 where
   pub distinct : AreDistinct cache.entries
   pub fits : length cache.entries ≤ cache.cap
-
--- how many places can't become free: those kept for fragments that will be made, and those of fragments that aren't clean
-abbrev pub fixed_places : Places → ℕ
-fixed_places [] = 0
-fixed_places (e ∷ places) = cond (is_evictable e.1) 0 1 + fixed_places places
 
 -- how many places are kept for fragments that will be made
 abbrev pub kept_places : Places → ℕ

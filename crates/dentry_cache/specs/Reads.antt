@@ -3,10 +3,10 @@ use Rattle.std.specs.Prelude.{◌≡◌, ◌⊎◌, ℕ, false, Option, Some, No
 use Rattle.std.specs.FinMap as finmap
 use Rattle.objstore.specs.Objects.{Objects}
 use Rattle.cached_frag.specs.Cached.{Cached}
-use Rattle.dentry_cache.specs.Cache.{Leaf}
 use Rattle.dentry_cache.specs.CacheMap.{At, CacheMap, at, given_up, has_place, here, roomy, used_at, with_frag}
 use Rattle.dentry_cache.specs.Came.{StaysNamed}
 use Rattle.dentry_cache.specs.Loading.{Loads, object_of}
+use Rattle.dentry_cache.specs.Cache.{Leaf}
 
 -- the same fragment, but for its room
 abbrev pub IsButRoom : Cached → Cached → Type 0

@@ -5,7 +5,6 @@ use Rattle.std.specs.FinMap as map
 use Rattle.mds_types.specs.Frag.{Fragment}
 use Rattle.omap.specs.Omap.{Omap, empty_omap}
 use Rattle.omap.specs.Writes.{applied}
-use Rattle.objstore.specs.Objects.{Objects}
 use Rattle.dirfrag_codec.specs.FragmentObject.{Names, SpellsFragment, names_of}
 use Rattle.commit_jobs.specs.declared.bases.Base.{Base}
 use Rattle.commit_jobs.specs.declared.bases.Base.TheVariants.{Fresh, Stored}
@@ -14,8 +13,7 @@ use Rattle.commit_jobs.specs.Commit.{write_of}
 use Rattle.commit_jobs.specs.Marks.{Marks}
 use Rattle.commit_jobs.specs.Snap.{IsSnap, Snap, counts_of, next_version}
 use Rattle.cached_frag.specs.Cached.{Cached, marked, shown, shown_over}
-use Rattle.dentry_cache.specs.Loading.{Loads, object_of}
-use Rattle.dentry_cache.specs.Cache.{Held, Leaf, Places, cached, held, used_as}
+use Rattle.dentry_cache.specs.Loading.{Loads}
 use Rattle.dentry_cache.specs.Commits.{IsCommitted}
 
 -- the names that an object's pairs show; none, where it is absent
@@ -32,10 +30,6 @@ IsTiedAt (Stored version) f (Some object) =
 
 abbrev pub IsTied : Cached → Option Omap → Type 0
 IsTied f object = IsTiedAt f.base f object
-
--- each cached fragment is tied to its object
-abbrev pub AreTied : Places → Objects → Type 0
-AreTied places objects = (leaf : Leaf) (f : Cached) → cached places leaf ≡ Some f → IsTied f (object_of objects leaf.0 leaf.1)
 
 -- a fragment that is tied shows the names of its object, with the dirty ones replaced or gone
 abbrev pub TiedShow : Type 0
@@ -76,7 +70,3 @@ pub record IsRight (snapshot : Snap) (now : Cached) (object : Option Omap) : Typ
 
 abbrev pub CommittedAreTied : Type 0
 CommittedAreTied = (snapshot : Snap) (f now : Cached) (object : Option Omap) → IsTied f object → Commits snapshot f object → IsCommitted snapshot f now → IsRight snapshot now object
-
--- where the fragment of one leaf is another, the ties of the others stay
-abbrev pub UsedAreTied : Type 0
-UsedAreTied = (leaf : Leaf) (f : Cached) (old : Held) (objects : Objects) → AreTied old.entries objects → IsTied f (object_of objects leaf.0 leaf.1) → AreTied (used_as leaf (held f) old).entries objects

@@ -2,7 +2,7 @@
 ghost use Rattle.std.specs.Prelude.{◌≡◌, ◌≤◌, [], length, is_some, IfOk, IfSome, option_copied};
 ghost use Rattle.std.specs.Map.{lookup};
 ghost use Rattle.lru.specs.LruCache.{lru_cache};
-ghost use Rattle.dentry_cache.specs.Cache.{IsNewest, IsUsed, cached, is_kept, leaf_is};
+ghost use Rattle.dentry_cache.specs.Cache.{IsNewest, IsUsed, cached, leaf_is};
 ghost use Rattle.dentry_cache.specs.Places.{IsCache};
 
 use cached_frag::CachedFrag;
@@ -84,16 +84,6 @@ impl Cache {
         ensures { result ≡ is_some (lookup (leaf_is (dir, frag)) self.now.entries) }
     {
         self.find(dir, frag).is_some()
-    }
-
-    /// Whether a place is kept for a leaf.
-    pub fn is_kept(&self, dir: Ino, frag: Frag) -> bool
-        ensures { result ≡ is_kept (lookup (leaf_is (dir, frag)) self.now.entries) }
-    {
-        match self.find(dir, frag) {
-            Some(place) => place.kept,
-            None => false,
-        }
     }
 
     /// The cached fragment. The order of use stays.

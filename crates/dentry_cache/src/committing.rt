@@ -1,9 +1,8 @@
 //! Commits of cached fragments.
 ghost use Rattle.std.specs.Prelude.{◌≡◌, ◌+◌, ◌≤◌, ◌↔◌, IsTrue, Option, None, OnOk, OnErr, IfOk, IfErr, IfSome};
 ghost use Rattle.std.specs.FinMap as map;
-ghost use Rattle.objstore.specs.Objects.{MayRefuse, Objects, faults_told, written};
+ghost use Rattle.objstore.specs.Objects.{MayRefuse, faults_told, written};
 ghost use Rattle.std.specs.Result.{result_err};
-ghost use Rattle.dentry_cache.specs.Standing.{Each, KeepsTies, OfOthers, Stands, Ties};
 ghost use Rattle.commit_jobs.specs.Snap.{IsBelowEnd, IsSnap};
 ghost use Rattle.cached_frag.specs.Cached.{Cached};
 ghost use Rattle.dentry_cache.specs.Cache.{HasCached, IsChanged, IsThere, cached};
@@ -25,8 +24,6 @@ impl Cache {
         ensures taken { IfOk result (λ taken. HasCached (cached self.old.entries (dir, frag)) (Takes taken)) }
         ensures refused { IfErr result (λ refusal. HasCached (cached self.old.entries (dir, frag)) (MayNotBegin refusal)) }
         ensures used { IsChanged (cached self.old.entries (dir, frag)) (λ (f now : Cached). now ≡ f) (dir, frag) self.old self.new }
-        ensures keeps { (objects : Objects) → KeepsTies Each objects objects self.old.entries self.new.entries }
-        ensures stands { (objects : Objects) → IfOk result (λ taken. IfSome taken (λ snapshot. Ties self.old.entries objects → Stands (dir, frag) snapshot self.new.entries objects)) }
     {
         let _ = self.touch(dir, frag);
         match self.get(dir, frag) {
@@ -50,8 +47,6 @@ impl Cache {
         ensures settled { OnOk result (IsChanged (cached self.old.entries (encoded.now.job.ino, encoded.now.job.frag)) (IsCommitted encoded.now.job.snapshot) (encoded.now.job.ino, encoded.now.job.frag) self.old self.new) }
         ensures same { OnErr result (S.objects store.new ≡ S.objects store.old) }
         ensures kept { OnErr result (IsChanged (cached self.old.entries (encoded.now.job.ino, encoded.now.job.frag)) (λ (f now : Cached). now ≡ record f { places = now.places }) (encoded.now.job.ino, encoded.now.job.frag) self.old self.new) }
-        ensures keeps { OnOk result (Stands (encoded.now.job.ino, encoded.now.job.frag) encoded.now.job.snapshot self.old.entries (S.objects store.old) → KeepsTies (OfOthers (encoded.now.job.ino, encoded.now.job.frag)) (S.objects store.old) (S.objects store.new) self.old.entries self.new.entries) }
-        ensures stays { OnErr result (KeepsTies Each (S.objects store.old) (S.objects store.new) self.old.entries self.new.entries) }
         ensures refused { IfErr result (MayRefuse (S.faults store.old) (S.faults store.new)) }
         ensures grows { S.faults store.old ≤ S.faults store.new }
         ensures counted { S.faults store.new ≡ S.faults store.old + faults_told (result_err result) }

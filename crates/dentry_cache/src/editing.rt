@@ -1,10 +1,8 @@
-//! Names of cached fragments: read, listed and changed. Each use makes its fragment the most recently used.
+//! Names of cached fragments, changed. Each use makes its fragment the most recently used.
 ghost use Rattle.std.specs.Prelude.{◌≡◌, ◌≤◌, Some, None, OnOk, OnErr};
 ghost use Rattle.dirfrag_codec.specs.EntryRecord.{IsRecordable};
 ghost use Rattle.cached_frag.specs.Cached.{Cached, marked};
 ghost use Rattle.dentry_cache.specs.Cache.{HasRoom, IsChanged, IsThere, cached};
-ghost use Rattle.objstore.specs.Objects.{Objects};
-ghost use Rattle.dentry_cache.specs.Standing.{Each, KeepsTies};
 
 use crate::cache::Cache;
 use mds_types::{Frag, Ino, Inode, Name};
@@ -41,7 +39,6 @@ impl Cache {
     pub fn reserve(&mut self, dir: Ino, frag: Frag, changes: usize) -> Result<(), AllocError>
         requires { IsThere (cached self.old.entries (dir, frag)) }
         ensures same { IsChanged (cached self.old.entries (dir, frag)) (λ (f now : Cached). (now ≡ record f { room = now.room }) × (f.room ≤ now.room)) (dir, frag) self.old self.new }
-        ensures keeps { (objects : Objects) → KeepsTies Each objects objects self.old.entries self.new.entries }
         ensures room { OnOk result (IsChanged (cached self.old.entries (dir, frag)) (λ (f now : Cached). changes ≤ now.room) (dir, frag) self.old self.new) }
     {
         let _ = self.touch(dir, frag);

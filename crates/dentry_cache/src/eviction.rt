@@ -1,10 +1,7 @@
 //! Places for others: the least recently used of the clean fragments goes.
 ghost use Rattle.std.specs.Prelude.{◌≡◌, ◌<◌, length, MatchOption, None, OnOk, IfErr, OnErr};
 ghost use Rattle.mds_types.specs.declared.refusals.Refusal.TheVariants.{NothingToEvict};
-ghost use Rattle.dentry_cache.specs.Leaving.{Leaves};
-ghost use Rattle.objstore.specs.Objects.{Objects};
-ghost use Rattle.dentry_cache.specs.Standing.{Each, KeepsTies};
-ghost use Rattle.dentry_cache.specs.Cache.{Evicts, IsFull, IsOldest, MakesRoom, NoneGoes, is_evictable, may_go, stays, unsaved};
+ghost use Rattle.dentry_cache.specs.Cache.{Evicts, IsFull, IsOldest, MakesRoom, NoneGoes, is_evictable, may_go, stays};
 
 use crate::cache::{Cache, Place};
 use mds_types::{Frag, Ino, Refusal};
@@ -27,9 +24,6 @@ impl Cache {
         ensures refused { IfErr result (λ refusal. refusal ≡ NothingToEvict) }
         ensures none { OnErr result (NoneGoes None self.old.entries) }
         ensures same { OnErr result (self.new ≡ self.old) }
-        ensures unsaved { unsaved self.new.entries ≡ unsaved self.old.entries }
-        ensures leaves { Leaves None self.old.entries self.new.entries }
-        ensures keeps { (objects : Objects) → KeepsTies Each objects objects self.old.entries self.new.entries }
     {
         self.drop_oldest(None)
     }
@@ -41,8 +35,6 @@ impl Cache {
         ensures refused { IfErr result (λ refusal. refusal ≡ NothingToEvict) }
         ensures full { OnErr result (IsFull stay self.old) }
         ensures same { OnErr result (self.new ≡ self.old) }
-        ensures unsaved { unsaved self.new.entries ≡ unsaved self.old.entries }
-        ensures leaves { Leaves stay self.old.entries self.new.entries }
     {
         if self.len() < self.capacity() {
             return Ok(());
@@ -57,8 +49,6 @@ impl Cache {
         ensures refused { IfErr result (λ refusal. refusal ≡ NothingToEvict) }
         ensures none { OnErr result (NoneGoes stay self.old.entries) }
         ensures same { OnErr result (self.new ≡ self.old) }
-        ensures unsaved { unsaved self.new.entries ≡ unsaved self.old.entries }
-        ensures leaves { Leaves stay self.old.entries self.new.entries }
     {
         // The contract of `len` is what says here that no leaf has two places.
         let _ = self.places.len();

@@ -6,13 +6,10 @@ ghost use Rattle.std.specs.Map.{lookup};
 ghost use Rattle.lru.specs.LruCache.{lru_cache};
 ghost use Rattle.mds_types.specs.declared.refusals.Refusal.TheVariants.{NoMemory};
 ghost use Rattle.dentry_cache.specs.Loading.{object_of};
-ghost use Rattle.dentry_cache.specs.Cache.{cached, leaf_is, unsaved};
-ghost use Rattle.dentry_cache.specs.Standing.{Each, KeepsTies};
-ghost use Rattle.dentry_cache.specs.Leaving.{IsFound, LeavesBeside};
+ghost use Rattle.dentry_cache.specs.Cache.{leaf_is};
 ghost use Rattle.dentry_cache.specs.Fetches.{IsFetched, IsNotFetched, IsRefusedIn, MayNotFetch};
 
 use crate::cache::{Cache, Place};
-use crate::laws::is_leaf;
 use crate::loading::load;
 use cached_frag::CachedFrag;
 use mds_types::{Frag, Ino, Refusal};
@@ -35,13 +32,9 @@ impl Cache {
         stay: Option<(Ino, Frag)>,
     ) -> Result<(), Refusal>
         ensures fetched { OnOk result (IsFetched stay self.old (dir, frag) (object_of (S.objects store.old) dir frag) (lookup (leaf_is (dir, frag)) self.old.entries) self.new) }
-        ensures found { OnOk result (IsFound frag (object_of (S.objects store.old) dir frag) (lookup (leaf_is (dir, frag)) self.old.entries) (cached self.new.entries (dir, frag))) }
         ensures left { OnErr result (IsNotFetched stay self.old (lookup (leaf_is (dir, frag)) self.old.entries) self.new) }
         ensures room { IfErr result (IsRefusedIn stay self.old self.new) }
         ensures refused { IfErr result (MayNotFetch stay self.old (dir, frag) (object_of (S.objects store.old) dir frag) (S.faults store.old) (S.faults store.new)) }
-        ensures unsaved { unsaved self.new.entries ≡ unsaved self.old.entries }
-        ensures leaves { LeavesBeside stay (dir, frag) self.old.entries self.new.entries }
-        ensures keeps { KeepsTies Each (S.objects store.old) (S.objects store.new) self.old.entries self.new.entries }
         ensures same { S.objects store.new ≡ S.objects store.old }
         ensures counted { S.faults store.new ≡ S.faults store.old + faults_told (result_err result) }
     {
@@ -62,17 +55,12 @@ impl Cache {
     ) -> Result<(), Refusal>
         requires absent { lookup (leaf_is (dir, frag)) self.old.entries ≡ None }
         ensures fetched { OnOk result (IsFetched stay self.old (dir, frag) (object_of (S.objects store.old) dir frag) None self.new) }
-        ensures found { OnOk result (IsFound frag (object_of (S.objects store.old) dir frag) None (cached self.new.entries (dir, frag))) }
         ensures left { OnErr result (IsNotFetched stay self.old None self.new) }
         ensures room { IfErr result (IsRefusedIn stay self.old self.new) }
         ensures refused { IfErr result (MayNotFetch stay self.old (dir, frag) (object_of (S.objects store.old) dir frag) (S.faults store.old) (S.faults store.new)) }
-        ensures unsaved { unsaved self.new.entries ≡ unsaved self.old.entries }
-        ensures leaves { LeavesBeside stay (dir, frag) self.old.entries self.new.entries }
-        ensures keeps { KeepsTies Each (S.objects store.old) (S.objects store.new) self.old.entries self.new.entries }
         ensures same { S.objects store.new ≡ S.objects store.old }
         ensures counted { S.faults store.new ≡ S.faults store.old + faults_told (result_err result) }
     {
-        is_leaf(dir, frag);
         self.make_room(stay)?;
         let loaded = load(alloc, store, dir, frag)?;
         self.hold(

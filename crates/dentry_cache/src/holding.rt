@@ -2,14 +2,10 @@
 ghost use Rattle.std.specs.Prelude.{◌≡◌, ◌⊎◌, true, Some, None, OnOk, OnErr, IfErr};
 ghost use Rattle.std.specs.Map.{lookup};
 ghost use Rattle.mds_types.specs.declared.refusals.Refusal.TheVariants.{NoMemory, NothingToEvict};
-ghost use Rattle.dentry_cache.specs.Cache.{IsFull, MayMakeRoom, TakesPlace, cached, held, is_kept, kept_place, leaf_is, unsaved, used_as, without};
-ghost use Rattle.objstore.specs.Objects.{Objects};
+ghost use Rattle.dentry_cache.specs.Cache.{IsFull, MayMakeRoom, TakesPlace, cached, held, is_kept, kept_place, leaf_is, used_as, without};
 ghost use Rattle.dentry_cache.specs.Fetches.{IsRefusedIn};
-ghost use Rattle.dentry_cache.specs.Leaving.{LeavesBeside};
-ghost use Rattle.dentry_cache.specs.Standing.{Each, KeepsTies, OfOthers};
 
 use crate::cache::{Cache, Place};
-use crate::laws::is_leaf;
 use cached_frag::CachedFrag;
 use mds_types::{Frag, Ino, Refusal};
 use std::alloc::Global;
@@ -31,13 +27,8 @@ impl Cache {
         ensures kept { OnOk result (TakesPlace stay (dir, frag) kept_place self.old self.new) }
         ensures left { OnErr result (MayMakeRoom stay self.old self.new) }
         ensures refused { IfErr result (λ refusal. (refusal ≡ NoMemory) ⊎ ((refusal ≡ NothingToEvict) × IsFull stay self.old)) }
-        ensures unsaved { unsaved self.new.entries ≡ unsaved self.old.entries }
-        ensures leaves { LeavesBeside stay (dir, frag) self.old.entries self.new.entries }
-        ensures keeps { (objects : Objects) → KeepsTies Each objects objects self.old.entries self.new.entries }
         ensures room { IfErr result (IsRefusedIn stay self.old self.new) }
-        ensures place { OnOk result (lookup (leaf_is (dir, frag)) self.new.entries ≡ Some kept_place) }
     {
-        is_leaf(dir, frag);
         if let Err(refusal) = self.make_room(stay) {
             return Err(refusal);
         }
@@ -73,8 +64,6 @@ impl Cache {
     /// Gives up a leaf's place, with the fragment that is in it. A leaf that has none changes nothing. Takes no memory.
     pub fn forget(&mut self, dir: Ino, frag: Frag)
         ensures without { self.new ≡ without (dir, frag) self.old }
-        ensures gone { lookup (leaf_is (dir, frag)) self.new.entries ≡ None }
-        ensures keeps { (objects : Objects) → KeepsTies (OfOthers (dir, frag)) objects objects self.old.entries self.new.entries }
     {
         // The contract of `len` is what says here that no leaf has two places.
         let _ = self.places.len();
@@ -85,8 +74,6 @@ impl Cache {
     pub fn take(&mut self, dir: Ino, frag: Frag) -> Option<CachedFrag>
         ensures taken { result ≡ cached self.old.entries (dir, frag) }
         ensures without { self.new ≡ without (dir, frag) self.old }
-        ensures gone { lookup (leaf_is (dir, frag)) self.new.entries ≡ None }
-        ensures keeps { (objects : Objects) → KeepsTies (OfOthers (dir, frag)) objects objects self.old.entries self.new.entries }
     {
         let _ = self.places.len();
         match self.places.pop(&(dir, frag)) {

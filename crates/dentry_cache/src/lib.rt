@@ -27,12 +27,6 @@ mod dirfrag;
 mod ending;
 mod splits;
 
-// the same as a list of caches, which is lent cache by cache
-mod rank_caches;
-pub mod rank_laws;
-
-pub use cache::{Cache, Place};
 pub use caches::Caches;
 pub use dirfrag::Dirfrag;
 pub use parts::{Part, Parts};
-pub use rank_caches::RankCaches;

@@ -4,7 +4,6 @@ use Rattle.std.specs.Option.{option_copied_mut}
 use Rattle.cached_frag.specs.Cached.{Cached}
 use Rattle.dentry_cache.specs.Cache.{cached}
 use Rattle.dentry_cache.proofs.EditLaws.{changed}
-use Rattle.dentry_cache.proofs.StandingLaws.{room_keeps}
 use Rattle.dentry_cache.proofs.cache.Cache.reserve.Goals as goal
 
 pub returns-clause-same : goal.returns-clause-same
@@ -18,6 +17,3 @@ returns-clause-room c =
     on_ok_weaker c.reserve.result (λ room.
     changed (c.args.dir, c.args.frag) c.args.self.now _ _ _ c.touch.ensures c.self.view_is
     (λ (f now : Cached). c.args.changes ≤ now.room) (cached c.args.self.now.entries (c.args.dir, c.args.frag)) c.in-Some.place.now _ refl c.requires (ap option_copied_mut (sym c.in-Some.is) ∙ c.peek_mut.ensures.value) room) c.reserve.ensures.room
-
-pub returns-clause-keeps : goal.returns-clause-keeps
-returns-clause-keeps c objects = room_keeps (c.args.dir, c.args.frag) objects c.args.self.now _ (returns-clause-same c)

@@ -1,4 +1,4 @@
-use Rattle.std.proofs.Common.{rules, ◌≡◌, ◌<◌, ℕ, Option, false, is_some, length, ap, subst, sym, ◌∙◌, arith}
+use Rattle.std.proofs.Common.{rules, ◌≡◌, ◌<◌, Option, is_some, length, ap, sym, ◌∙◌, arith}
 use Rattle.cached_frag.specs.Cached.{Cached}
 use Rattle.std.specs.Option.{option_map}
 use Rattle.std.specs.FinMap as map
