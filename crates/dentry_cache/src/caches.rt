@@ -240,17 +240,6 @@ impl Caches {
         self.caches[rank.0 as usize].end_commit(alloc, store, encoded)
     }
 
-    /// Makes a fragment ready to give its names away, and tells how many it shows. Takes memory for its dirty names.
-    pub fn ready_names(&mut self, at: Dirfrag) -> Result<usize, AllocError>
-        requires there { at.rank.0 < length self.old.used }
-        requires cached { IsThere (here self.old at.rank.0 (leaf_of at)) }
-        ensures same { Edits (λ (f now : Cached). now ≡ record f { places = now.places }) at.rank.0 (leaf_of at) self.old self.new }
-        ensures ready { OnOk result (HasCached (here self.new at.rank.0 (leaf_of at)) (λ (f : Cached). map.len f.dirty ≤ f.places)) }
-        ensures count { IfOk result (λ count. HasCached (here self.old at.rank.0 (leaf_of at)) (λ (f : Cached). count ≡ map.len (shown f))) }
-    {
-        self.caches[at.rank.0 as usize].ready_names(at.dir, at.frag)
-    }
-
     /// Puts a copy of each name that a fragment shows into another one, dirty there at this version. The order of use stays.
     /// Takes memory for the copies and their room, before it changes a name.
     pub fn copy_names(

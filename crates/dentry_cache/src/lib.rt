@@ -16,7 +16,6 @@ mod fetching;
 mod gathering;
 mod holding;
 pub mod laws;
-mod moving;
 mod parts;
 mod reading;
 mod splitting;

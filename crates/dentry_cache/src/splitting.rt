@@ -1,5 +1,5 @@
 //! The children of a cached fragment, made ready for a split with room for its names.
-ghost use Rattle.std.specs.Prelude.{◌≡◌, ◌+◌, ◌≤◌, ◌^◌, IfOk};
+ghost use Rattle.std.specs.Prelude.{◌≡◌, ◌+◌, ◌≤◌, ◌^◌, IfOk, OnOk};
 ghost use Rattle.std.specs.FinMap as map;
 ghost use Rattle.cached_frag.specs.Cached.{Cached, shown};
 ghost use Rattle.dentry_cache.specs.Cache.{HasCached, IsChanged, IsThere, cached};
@@ -35,6 +35,27 @@ impl Cache {
             return Err(AllocError);
         };
         parts_of(alloc, fragment, frag, nb, generation)
+    }
+
+    // Makes a fragment ready to give its names away (`CachedFrag::into_names`). Takes memory for its dirty names.
+    fn ready_names(&mut self, dir: Ino, frag: Frag) -> Result<(), AllocError>
+        requires { IsThere (cached self.old.entries (dir, frag)) }
+        ensures same { IsChanged (cached self.old.entries (dir, frag)) (λ (f now : Cached). now ≡ record f { places = now.places }) (dir, frag) self.old self.new }
+        ensures ready { OnOk result (HasCached (cached self.new.entries (dir, frag)) (λ (f : Cached). map.len f.dirty ≤ f.places)) }
+    {
+        let dirty = self.dirty_names(dir, frag);
+        self.reserve_settled(dir, frag, dirty)
+    }
+
+    // How many names of a fragment are dirty.
+    fn dirty_names(&self, dir: Ino, frag: Frag) -> usize
+        requires { IsThere (cached self.now.entries (dir, frag)) }
+        ensures { HasCached (cached self.now.entries (dir, frag)) (λ (f : Cached). result ≡ map.len f.dirty) }
+    {
+        match self.get(dir, frag) {
+            Some(fragment) => fragment.dirty().len(),
+            None => 0,
+        }
     }
 }
 
