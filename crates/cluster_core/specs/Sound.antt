@@ -1,11 +1,14 @@
 -- What every book keeps.
-use Rattle.std.specs.Prelude.{◌≡◌, ℕ, ◌<◌, ◌≤◌, List, get_or, length}
+use Rattle.std.specs.Prelude.{◌≡◌, ℕ, ◌<◌, ◌≤◌, List, Option, get_or, length}
 use Rattle.mds_types.specs.declared.entries.Entry.{Entry}
+use Rattle.mds_types.specs.declared.ids.Rank.{Rank}
 use Rattle.mds_types.specs.Tree.{Tree}
 use Rattle.mds_types.specs.History.{after, IsLegal, IsUsed}
 use Rattle.inode_table.specs.Numbers.{Supply, IsSupply, first_number, end_number}
+use Rattle.dentry_cache.specs.Cache.{Leaf}
 use Rattle.dentry_cache.specs.CacheMap.{CacheMap, unclean}
 use Rattle.mdcache.specs.Core.{AreCached as AreCachedIn}
+use Rattle.mdcache.specs.Ranks.{KeepsOnlyAt}
 use Rattle.mdcache.specs.Sound.{IsSound as IsSoundTree}
 use Rattle.mdcache.specs.State.{State as TreeState}
 use Rattle.sessions.specs.Table.{IsTableOf}
@@ -39,9 +42,11 @@ pub record IsKept (tree : TreeState) (caches : CacheMap) : Type 0 where
   pub begun : 0 < tree.next_generation
   pub cached : AreCachedIn tree caches
 
--- what isn't clean is what the ranks' fragments have beyond their objects; and a rank caches only what it is the authority of
+-- what isn't clean is what the ranks' fragments have beyond their objects; each place is that of a fragment which the rank has, but for one
+-- that may be kept for a fragment which will be made, so no leaf has places at two ranks; and a rank caches only what it is the authority of
 pub record AreCached (core : Core) : Type 0 where
   pub unsaved : core.state.tree.unsaved ≡ unclean core.caches
+  pub places : (kept : Option (Rank × Leaf)) × KeepsOnlyAt kept core.caches
   pub held : AreHeld core.state.tree core.caches core.state.roots
 
 -- the history is legal from the opening tree, and the shown tree is the tree after it; the tree is sound, and each cached fragment is a

@@ -30,7 +30,7 @@ pub fn grant_first<S: Store + Drop>(
     tid: u64,
 ) -> Result<Answer, Refusal>
     ensures granted { (numbers : List Supply) (sessions : Table) (past : List Applied) → GrantsWaiting (state_of (tree_state tree.old.tree) tree.old.subtrees.roots numbers inboxes.now pins.old sessions) (state_of (tree_state tree.new.tree) tree.new.subtrees.roots numbers inboxes.now pins.new sessions) past past (MayRefuse tree.old.tree tree.new.tree) rank client tid result }
-    ensures same { (tree_state tree.new.tree) ≡ (tree_state tree.old.tree) }
+    ensures same { tree_state tree.new.tree ≡ tree_state tree.old.tree }
     ensures roots { tree.new.subtrees.roots ≡ tree.old.subtrees.roots }
     ensures count { length tree.new.tree.caches.used ≡ length tree.old.tree.caches.used }
     ensures cap { tree.new.tree.caches.cap ≡ tree.old.tree.caches.cap }

@@ -137,7 +137,7 @@ fn make_ready<S: Store + Drop>(
     ensures ready { IsMadeReady (tree_state tree.old.tree) tree.old.subtrees.roots pins.now supply rank request.now (IsReadyIn tree.new) (MayRefuse tree.old.tree tree.new.tree request.now.op) result }
     ensures room { IfOk result (λ made. IfSome made (λ prepared. vec_len history.new < vec_capacity history.new)) }
     ensures reserved { IfOk result (λ made. IfSome made (λ prepared. IsReady sessions.new request.now.client)) }
-    ensures same { (tree_state tree.new.tree) ≡ (tree_state tree.old.tree) }
+    ensures same { tree_state tree.new.tree ≡ tree_state tree.old.tree }
     ensures roots { tree.new.subtrees.roots ≡ tree.old.subtrees.roots }
     ensures past { history.new.items ≡ history.old.items }
     ensures known { table sessions.new ≡ table sessions.old }

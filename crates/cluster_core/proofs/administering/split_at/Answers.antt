@@ -1,9 +1,9 @@
-use Rattle.std.proofs.Common.{◌≡◌, ◌+◌, ◌^◌, true, false, rules, inr, sym, ◌∙◌, arith}
-use Rattle.fragtree.specs.FragTree.{CanSplit, RefusesSplit}
+use Rattle.std.proofs.Common.{◌≡◌, ◌+◌, ◌^◌, true, false, rules, Err, inr, sym, ◌∙◌, arith}
+use Rattle.fragtree.specs.FragTree.{RefusesSplit}
 use Rattle.inode_table.specs.Dirs.{leaves_of}
 use Rattle.mdcache.specs.Core.{LacksPlacesAt, state_of as tree_state}
 use Rattle.ranked_tree.specs.Held.{LacksPlacesFor}
-use Rattle.ranked_tree.proofs.HeldRegroups.{regroup_on}
+use Rattle.ranked_tree.proofs.HeldRegroups.{split_on}
 use Rattle.cluster_core.proofs.AdminLaws.{lacks_here}
 use Rattle.cluster_core.proofs.Worked.{left}
 use Rattle.mdcache.proofs.CountLaws.{leaves_free}
@@ -18,9 +18,8 @@ returns-in-Err-split-clause-split g c numbers inboxes sessions past =
         c.in_default.ensures.can,
         c.is_authority.ensures.0 mine,
         (λ pinned. let clash : false ≡ true = sym free ∙ c.is_pinned.ensures ∙ pinned in cc),
-        regroup_on (CanSplit (leaves_of c.args.tree.now.tree.covers c.args.ino.0) c.args.frag c.args.bits) (RefusesSplit (leaves_of c.args.tree.now.tree.covers c.args.ino.0) c.args.frag c.args.bits) (tree_state c.args.tree.now.tree) c.args.ino (2 ^ c.args.bits)
-            (LacksPlacesFor (2 ^ c.args.bits + 1) c.args.tree.now.tree c.args.tree.now.subtrees.roots (c.args.ino, c.args.frag)) (LacksPlacesAt (2 ^ c.args.bits + 1) c.args.tree.now.tree c.args.rank) c.args.tree.now.tree.faults c.split.new.self.tree.faults c.in-Err-split.refusal
-            (lacks_here (2 ^ c.args.bits + 1) c.args.tree.now.tree c.args.tree.now.subtrees.roots (c.args.ino, c.args.frag) c.args.rank (c.is_authority.ensures.0 mine)) c.in-Err-split.ensures.split.0,
+        (split_on (LacksPlacesFor (2 ^ c.args.bits + 1) c.args.tree.now.tree c.args.tree.now.subtrees.roots (c.args.ino, c.args.frag)) (LacksPlacesAt (2 ^ c.args.bits + 1) c.args.tree.now.tree c.args.rank) c.args.tree.now.tree c.split.new.self.tree c.args.ino c.args.frag c.args.bits (Err c.in-Err-split.refusal)
+            (lacks_here (2 ^ c.args.bits + 1) c.args.tree.now.tree c.args.tree.now.subtrees.roots (c.args.ino, c.args.frag) c.args.rank (c.is_authority.ensures.0 mine)) c.in-Err-split.ensures.split).0,
       )))),
       left (tree_state c.args.tree.now.tree) (tree_state c.split.new.self.tree) c.args.tree.now.subtrees.roots c.split.new.self.subtrees.roots numbers inboxes c.args.pins.now sessions past c.in-Err-split.ensures.split.1.0 c.in-Err-split.ensures.left,
     )
