@@ -4,8 +4,8 @@ use Rattle.std.proofs.Common.{◌⊎◌, inl, inr, refl, sym, ap, subst}
 use Rattle.std.specs.FinMap as map
 use Rattle.mds_types.specs.declared.ids.Rank.{Rank}
 use Rattle.dentry_cache.specs.CacheMap.{At, CacheMap, IsFree}
-use Rattle.dentry_cache.specs.Came.{Came, IsThat}
-use Rattle.dentry_cache.proofs.FrameLaws.{came_held, came_ranks}
+use Rattle.dentry_cache.specs.Came.{Came, IsThat, NoneEnds}
+use Rattle.dentry_cache.proofs.FrameLaws.{came_held, came_ranks, came_weaker}
 use Rattle.dentry_cache.proofs.ReadsLaws.{reads_came}
 use Rattle.inode_table.specs.Dirs.{IsLive}
 use Rattle.subtree_map.specs.Authority.{Leaf, Roots}
@@ -14,7 +14,7 @@ use Rattle.mdcache.specs.Core.{Core, IsSoundCore, ReadsCore, state_of}
 use Rattle.mdcache.specs.Ranks.{MayHold}
 use Rattle.mdcache.specs.State.{State as TreeState}
 use Rattle.mdcache.proofs.CoreLaws.{reads_state}
-use Rattle.ranked_tree.specs.Held.{AreHeld, IsOwned}
+use Rattle.ranked_tree.specs.Held.{AreHeld, IsOwned, UsedAt, UsesAt}
 use Rattle.ranked_tree.specs.Subtrees.{NoNewRank, Rules}
 
 module _ (tree : TreeState) (caches : CacheMap) (roots : Roots) (held : AreHeld tree caches roots) (leaf : Leaf) (rank : Rank) (rules : Rules tree roots leaf rank) where
@@ -41,6 +41,11 @@ held_after old new caches later before after held ranks count cached = record {
 -- the authority of a leaf at a rank of this number
 pub is_that : (tree : TreeState) (roots : Roots) (leaf : Leaf) (rank : Rank) → Rules tree roots leaf rank → (r : ℕ) (q : Leaf) → IsThat rank.0 leaf r q → Rules tree roots q (record { 0 = r })
 is_that tree roots leaf rank rules r q that = subst (λ (n : ℕ). Rules tree roots q (record { 0 = n })) (sym that.0) (subst (λ (l : Leaf). Rules tree roots l rank) (sym that.1) rules)
+
+-- uses of that leaf at its authority
+pub that_came : (tree : TreeState) (roots : Roots) (leaf : Leaf) (rank : Rank) → Rules tree roots leaf rank → (old new : CacheMap) → Came (IsThat rank.0 leaf) NoneEnds old new → UsesAt (Rules tree roots leaf) leaf old new
+that_came tree roots leaf rank rules old new came =
+    came_weaker (IsThat rank.0 leaf) NoneEnds (UsedAt (Rules tree roots leaf) (λ (q : Leaf). q ≡ leaf)) NoneEnds (λ r q that. (subst (λ (n : ℕ). Rules tree roots leaf (record { 0 = n })) (sym that.0) rules, that.1)) (λ r q none. none) old new came
 
 -- where directories, leaves and roots stay, and each leaf that is used is so at its authority
 module _ (Uses Ends : ℕ → Leaf → Type 0) (old new : Core) (roots : Roots) (came : Came Uses Ends old.caches new.caches) (sound : IsSoundCore new) (homes : new.homes ≡ old.homes) (covers : new.covers ≡ old.covers)

@@ -13,9 +13,9 @@ use Rattle.fragtree.proofs.Ranges.{range_from_inside}
 use Rattle.inode_table.specs.Dirs.{IsLive, is_known, leaves_of}
 use Rattle.inode_table.proofs.Tables.{tree_of_row}
 use Rattle.dentry_cache.specs.CacheMap.{At, CacheMap}
-use Rattle.dentry_cache.specs.CacheSplits.{IsFamilyAt}
+use Rattle.dentry_cache.specs.CacheSplits.{IsFamilyAt, IsKeptFor}
 use Rattle.dentry_cache.specs.Came.{Came}
-use Rattle.dentry_cache.proofs.FrameLaws.{came_held}
+use Rattle.dentry_cache.proofs.FrameLaws.{came_held, came_weaker}
 use Rattle.namespace_ops.specs.Changes.{in_directory}
 use Rattle.subtree_map.specs.Authority.{Leaf, Roots}
 use Rattle.subtree_map.specs.Changes.{HaveOneAuthority, is_inside}
@@ -31,7 +31,7 @@ use Rattle.mdcache.specs.Sound.{IsSound}
 use Rattle.mdcache.specs.State.{State as TreeState}
 use Rattle.mdcache.proofs.JoinLaws.{from_mapped}
 use Rattle.mdcache.proofs.SplitLaws.{has_inside}
-use Rattle.ranked_tree.specs.Held.{AreHeld, FragmentsCome, IsFamilyOf, IsMergedHere, IsOwned}
+use Rattle.ranked_tree.specs.Held.{AreHeld, CameAt, EndsOf, IsFamilyOf, IsMergedHere, IsOwned, UsedAt}
 use Rattle.ranked_tree.specs.Subtrees.{AllHave, AreRoots, GivesToChildren, KeepsAuthorities, NoNewRank, Rules, TakesOver}
 use Rattle.ranked_tree.proofs.HeldLaws.{held_after, may_hold}
 
@@ -95,30 +95,35 @@ all_as_one s roots dir frag rank one sound valid alike within lives rules leaf l
 
 -- ---- which fragments come
 
-pub family_comes : (s : TreeState) (roots : Roots) (rank : Rank) (dir : Ino) (frag : Fragment) (nb : ℕ) → Rules s roots (dir, frag) rank → (Ends : ℕ → Leaf → Type 0) (old new : CacheMap) → Came (IsFamilyAt rank.0 dir frag nb) Ends old new
-    → FragmentsCome (Rules s roots (dir, frag)) (IsFamilyOf dir frag nb) old new
-family_comes s roots rank dir frag nb rules Ends old new came leaf a is = go (came_held (IsFamilyAt rank.0 dir frag nb) Ends old new came leaf a is)
+pub family_came : (s : TreeState) (roots : Roots) (rank : Rank) (dir : Ino) (frag : Fragment) (nb : ℕ) → Rules s roots (dir, frag) rank → (old new : CacheMap)
+    → Came (IsFamilyAt rank.0 dir frag nb) (λ (r : ℕ) (q : Leaf). IsKeptFor old r q ⊎ IsFamilyAt rank.0 dir frag nb r q) old new → CameAt (Rules s roots (dir, frag)) (IsFamilyOf dir frag nb) old new
+family_came s roots rank dir frag nb rules old new came =
+    came_weaker (IsFamilyAt rank.0 dir frag nb) (λ (r : ℕ) (q : Leaf). IsKeptFor old r q ⊎ IsFamilyAt rank.0 dir frag nb r q) (UsedAt (Rules s roots (dir, frag)) (IsFamilyOf dir frag nb)) (EndsOf old (IsFamilyOf dir frag nb)) used ended old new came
   where
-    at : a.rank ≡ rank.0 → Rules s roots (dir, frag) (record { 0 = a.rank })
-    at same = subst (λ (n : ℕ). Rules s roots (dir, frag) (record { 0 = n })) (sym same) rules
+    used : (r : ℕ) (q : Leaf) → IsFamilyAt rank.0 dir frag nb r q → UsedAt (Rules s roots (dir, frag)) (IsFamilyOf dir frag nb) r q
+    used r q (inl it) = (subst (λ (n : ℕ). Rules s roots (dir, frag) (record { 0 = n })) (sym it.0) rules, inl it.1)
+    used r q (inr child) = (subst (λ (n : ℕ). Rules s roots (dir, frag) (record { 0 = n })) (sym child.0) rules, inr (child.1, child.2, child.3))
 
-    go : (map.get old.held leaf ≡ Some a) ⊎ IsFamilyAt rank.0 dir frag nb a.rank leaf → (map.get old.held leaf ≡ Some a) ⊎ (Rules s roots (dir, frag) (record { 0 = a.rank }) × IsFamilyOf dir frag nb leaf)
-    go (inl was) = inl was
-    go (inr (inl it)) = inr (at it.0, inl it.1)
-    go (inr (inr child)) = inr (at child.0, inr (child.1, child.2, child.3))
+    ended : (r : ℕ) (q : Leaf) → IsKeptFor old r q ⊎ IsFamilyAt rank.0 dir frag nb r q → EndsOf old (IsFamilyOf dir frag nb) r q
+    ended r q (inl kept) = inl kept
+    ended r q (inr it) = inr (used r q it).1
 
-pub merged_comes : (core : Core) (roots : Roots) (rank : Rank) (dir : Ino) (frag : Fragment) → AllHave core.homes core.covers roots dir frag rank → (Ends : ℕ → Leaf → Type 0) (new : CacheMap)
-    → Came (IsAmongOr rank.0 (ending_at core (record { dir = dir; frag = frag; rank = rank })) (dir, frag)) Ends core.caches new → FragmentsCome (AllHave core.homes core.covers roots dir frag) (IsMergedHere core.covers dir frag) core.caches new
-merged_comes core roots rank dir frag all Ends new came leaf a is = go (came_held (IsAmongOr rank.0 (ending_at core (record { dir = dir; frag = frag; rank = rank })) (dir, frag)) Ends core.caches new came leaf a is)
+pub merged_came : (core : Core) (roots : Roots) (rank : Rank) (dir : Ino) (frag : Fragment) → AllHave core.homes core.covers roots dir frag rank → (new : CacheMap)
+    → Came (IsAmongOr rank.0 (ending_at core (record { dir = dir; frag = frag; rank = rank })) (dir, frag)) (λ (r : ℕ) (q : Leaf). IsKeptFor core.caches r q ⊎ Contains (ending_at core (record { dir = dir; frag = frag; rank = rank })) q) core.caches new
+    → CameAt (AllHave core.homes core.covers roots dir frag) (IsMergedHere core.covers dir frag) core.caches new
+merged_came core roots rank dir frag all new came =
+    came_weaker (IsAmongOr rank.0 ending (dir, frag)) (λ (r : ℕ) (q : Leaf). IsKeptFor core.caches r q ⊎ Contains ending q) (UsedAt (AllHave core.homes core.covers roots dir frag) (IsMergedHere core.covers dir frag)) (EndsOf core.caches (IsMergedHere core.covers dir frag)) used ended core.caches new came
   where
-    at : a.rank ≡ rank.0 → AllHave core.homes core.covers roots dir frag (record { 0 = a.rank })
-    at same = subst (λ (n : ℕ). AllHave core.homes core.covers roots dir frag (record { 0 = n })) (sym same) all
+    ending : List Leaf
+    ending = ending_at core (record { dir = dir; frag = frag; rank = rank })
 
-    go : (map.get core.caches.held leaf ≡ Some a) ⊎ IsAmongOr rank.0 (ending_at core (record { dir = dir; frag = frag; rank = rank })) (dir, frag) a.rank leaf
-        → (map.get core.caches.held leaf ≡ Some a) ⊎ (AllHave core.homes core.covers roots dir frag (record { 0 = a.rank }) × IsMergedHere core.covers dir frag leaf)
-    go (inl was) = inl was
-    go (inr (inl among)) = inr (at among.0, inl among.1)
-    go (inr (inr it)) = inr (at it.0, inr it.1)
+    used : (r : ℕ) (q : Leaf) → IsAmongOr rank.0 ending (dir, frag) r q → UsedAt (AllHave core.homes core.covers roots dir frag) (IsMergedHere core.covers dir frag) r q
+    used r q (inl among) = (subst (λ (n : ℕ). AllHave core.homes core.covers roots dir frag (record { 0 = n })) (sym among.0) all, inl among.1)
+    used r q (inr it) = (subst (λ (n : ℕ). AllHave core.homes core.covers roots dir frag (record { 0 = n })) (sym it.0) all, inr it.1)
+
+    ended : (r : ℕ) (q : Leaf) → IsKeptFor core.caches r q ⊎ Contains ending q → EndsOf core.caches (IsMergedHere core.covers dir frag) r q
+    ended r q (inl kept) = inl kept
+    ended r q (inr contains) = inr (inl contains)
 
 -- ---- what is cached afterwards
 
@@ -127,9 +132,9 @@ module _ (old new : Core) (before after : Roots) (owned : IsOwned old before) (c
   at_rank a = record { 0 = a.rank }
 
   -- a leaf was split
-  module _ (nb : ℕ) (live : IsLive old.homes old.covers (dir, frag)) (come : FragmentsCome (Rules (state_of old) before (dir, frag)) (IsFamilyOf dir frag nb) old.caches new.caches) where
+  module _ (nb : ℕ) (live : IsLive old.homes old.covers (dir, frag)) (came : CameAt (Rules (state_of old) before (dir, frag)) (IsFamilyOf dir frag nb) old.caches new.caches) where
     pub split_held : KeepsAuthorities (state_of old) (state_of new) before after → NoNewRank before after → GivesToChildren (state_of old) (state_of new) before after dir frag nb → AreHeld (state_of new) new.caches after
-    split_held keeps none gives = held_after (state_of old) (state_of new) old.caches new.caches before after owned.held none count (λ leaf a is. go leaf a (now_sound.cached leaf a is).live (come leaf a is))
+    split_held keeps none gives = held_after (state_of old) (state_of new) old.caches new.caches before after owned.held none count (λ leaf a is. go leaf a (now_sound.cached leaf a is).live (came_held (UsedAt (Rules (state_of old) before (dir, frag)) (IsFamilyOf dir frag nb)) (EndsOf old.caches (IsFamilyOf dir frag nb)) old.caches new.caches came leaf a is))
       where
         of_family : (rank : Rank) (leaf : Leaf) → IsLive new.homes new.covers leaf → Rules (state_of old) before (dir, frag) rank → IsFamilyOf dir frag nb leaf → Rules (state_of new) after leaf rank
         of_family rank leaf lives rules (inl same) = keeps leaf rank (subst (IsLive old.homes old.covers) (sym same) live) lives (subst (λ (l : Leaf). Rules (state_of old) before l rank) (sym same) rules)
@@ -144,7 +149,7 @@ module _ (old new : Core) (before after : Roots) (owned : IsOwned old before) (c
     unsplit_held same still fits =
         subst (λ (s : TreeState). AreHeld s new.caches after) (sym same) (subst (λ (r : Roots). AreHeld (state_of old) new.caches r) (sym still)
         (held_after (state_of old) (state_of old) old.caches new.caches before before owned.held (λ leaf rank is. (leaf, is)) count
-        (λ leaf a is. go leaf a (subst (λ (s : TreeState). IsLive s.homes s.covers leaf) same (now_sound.cached leaf a is).live) (come leaf a is))))
+        (λ leaf a is. go leaf a (subst (λ (s : TreeState). IsLive s.homes s.covers leaf) same (now_sound.cached leaf a is).live) (came_held (UsedAt (Rules (state_of old) before (dir, frag)) (IsFamilyOf dir frag nb)) (EndsOf old.caches (IsFamilyOf dir frag nb)) old.caches new.caches came leaf a is))))
       where
         of_family : (rank : Rank) (leaf : Leaf) → IsLive old.homes old.covers leaf → Rules (state_of old) before (dir, frag) rank → IsFamilyOf dir frag nb leaf → Rules (state_of old) before leaf rank
         of_family rank leaf lives rules (inl here) = subst (λ (l : Leaf). Rules (state_of old) before l rank) (sym here) rules
@@ -157,9 +162,9 @@ module _ (old new : Core) (before after : Roots) (owned : IsOwned old before) (c
         go leaf a lives (inr (rules, family)) = of_family (at_rank a) leaf lives rules family
 
   -- leaves were merged
-  module _ (known : is_known old.homes dir.0 ≡ true) (can : CanMerge (leaves_of old.covers dir.0) frag) (come : FragmentsCome (AllHave old.homes old.covers before dir frag) (IsMergedHere old.covers dir frag) old.caches new.caches) where
+  module _ (known : is_known old.homes dir.0 ≡ true) (can : CanMerge (leaves_of old.covers dir.0) frag) (came : CameAt (AllHave old.homes old.covers before dir frag) (IsMergedHere old.covers dir frag) old.caches new.caches) where
     pub merge_held : KeepsAuthorities (state_of old) (state_of new) before after → NoNewRank before after → TakesOver (state_of old) (state_of new) before after dir frag → AreHeld (state_of new) new.caches after
-    merge_held keeps none takes = held_after (state_of old) (state_of new) old.caches new.caches before after owned.held none count (λ leaf a is. go leaf a (now_sound.cached leaf a is).live (come leaf a is))
+    merge_held keeps none takes = held_after (state_of old) (state_of new) old.caches new.caches before after owned.held none count (λ leaf a is. go leaf a (now_sound.cached leaf a is).live (came_held (UsedAt (AllHave old.homes old.covers before dir frag) (IsMergedHere old.covers dir frag)) (EndsOf old.caches (IsMergedHere old.covers dir frag)) old.caches new.caches came leaf a is))
       where
         of_merged : (rank : Rank) (leaf : Leaf) → IsLive new.homes new.covers leaf → AllHave old.homes old.covers before dir frag rank → IsMergedHere old.covers dir frag leaf → Rules (state_of new) after leaf rank
         of_merged rank leaf lives all (inl contains) = let its = inside_live (state_of old) dir frag known leaf contains in keeps leaf rank its.0 lives (all leaf its.0 its.1)
@@ -174,7 +179,7 @@ module _ (old new : Core) (before after : Roots) (owned : IsOwned old before) (c
     unmerged_held same still =
         subst (λ (s : TreeState). AreHeld s new.caches after) (sym same) (subst (λ (r : Roots). AreHeld (state_of old) new.caches r) (sym still)
         (held_after (state_of old) (state_of old) old.caches new.caches before before owned.held (λ leaf rank is. (leaf, is)) count
-        (λ leaf a is. go leaf a (subst (λ (s : TreeState). IsLive s.homes s.covers leaf) same (now_sound.cached leaf a is).live) (come leaf a is))))
+        (λ leaf a is. go leaf a (subst (λ (s : TreeState). IsLive s.homes s.covers leaf) same (now_sound.cached leaf a is).live) (came_held (UsedAt (AllHave old.homes old.covers before dir frag) (IsMergedHere old.covers dir frag)) (EndsOf old.caches (IsMergedHere old.covers dir frag)) old.caches new.caches came leaf a is))))
       where
         of_merged : (rank : Rank) (leaf : Leaf) → IsLive old.homes old.covers leaf → AllHave old.homes old.covers before dir frag rank → IsMergedHere old.covers dir frag leaf → Rules (state_of old) before leaf rank
         of_merged rank leaf lives all (inl contains) = let its = inside_live (state_of old) dir frag known leaf contains in all leaf its.0 its.1

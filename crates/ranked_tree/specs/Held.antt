@@ -11,6 +11,8 @@ use Rattle.namespace_ops.specs.Changes.{in_directory}
 use Rattle.namespace_ops.specs.declared.plans.Change.{Change}
 use Rattle.namespace_ops.specs.declared.plans.Change.TheVariants.{Add, Set, Remove, Move}
 use Rattle.dentry_cache.specs.CacheMap.{At, CacheMap}
+use Rattle.dentry_cache.specs.CacheSplits.{IsKeptFor}
+use Rattle.dentry_cache.specs.Came.{Came, NoneEnds}
 use Rattle.subtree_map.specs.Authority.{Leaf, Roots}
 use Rattle.subtree_map.specs.Changes.{is_inside}
 use Rattle.mdcache.specs.declared.holders.Holders.{Holders}
@@ -57,9 +59,21 @@ LacksPlacesInside count core roots dir frag = (leaf : Leaf) × IsLive core.homes
 
 -- ---- leaves of a directory are regrouped
 
--- each cached fragment was cached so, or is that of a leaf which comes at a rank that holds those leaves
-abbrev pub FragmentsCome : (Holds : Rank → Type 0) (Come : Leaf → Type 0) → (old new : CacheMap) → Type 0
-FragmentsCome Holds Come old new = (leaf : Leaf) (a : At) → map.get new.held leaf ≡ Some a → (map.get old.held leaf ≡ Some a) ⊎ (Holds (record { 0 = a.rank }) × Come leaf)
+-- a leaf of these, at a rank that holds them
+abbrev pub UsedAt : (Holds : Rank → Type 0) (Named : Leaf → Type 0) → ℕ → Leaf → Type 0
+UsedAt Holds Named rank leaf = Holds (record { 0 = rank }) × Named leaf
+
+-- one of these leaves, or a place that was kept
+abbrev pub EndsOf : CacheMap → (Named : Leaf → Type 0) → ℕ → Leaf → Type 0
+EndsOf caches Named rank leaf = IsKeptFor caches rank leaf ⊎ Named leaf
+
+-- these caches came from others by uses and ends of those leaves at the ranks that hold them, and kept places given up
+abbrev pub CameAt : (Holds : Rank → Type 0) (Named : Leaf → Type 0) → (old new : CacheMap) → Type 0
+CameAt Holds Named old new = Came (UsedAt Holds Named) (EndsOf old Named) old new
+
+-- so by uses of one leaf alone
+abbrev pub UsesAt : (Holds : Rank → Type 0) → Leaf → (old new : CacheMap) → Type 0
+UsesAt Holds leaf old new = Came (UsedAt Holds (λ q. q ≡ leaf)) NoneEnds old new
 
 -- a leaf, or one of its children by so many bits
 abbrev pub IsFamilyOf : Ino → Fragment → ℕ → Leaf → Type 0

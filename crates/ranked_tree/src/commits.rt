@@ -5,10 +5,11 @@ ghost use Rattle.std.specs.Result.{result_err};
 ghost use Rattle.mds_types.specs.declared.refusals.Refusal.TheVariants.{NothingToEvict};
 ghost use Rattle.dentry_cache.specs.CacheMap.{evicted};
 ghost use Rattle.mdcache.specs.Core.{state_of};
-ghost use Rattle.mdcache.specs.Commits.{Begins, Drops, Ends};
+ghost use Rattle.mdcache.specs.Commits.{Begins, Drops, Ends, leaf_of};
 ghost use Rattle.mdcache.specs.Frags.{KeepsState};
 ghost use Rattle.mdcache.specs.Objects.{Purges, SavesTree};
-ghost use Rattle.ranked_tree.specs.Held.{IsOwned};
+ghost use Rattle.ranked_tree.specs.Subtrees.{Rules};
+ghost use Rattle.ranked_tree.specs.Held.{IsOwned, UsesAt};
 
 use crate::holding::holder_of;
 use crate::ranked_tree::RankedTree;
@@ -23,6 +24,7 @@ impl<S: Store + Drop> RankedTree<S> {
     /// Begins a commit of a leaf, as `MdCache::begin` does and refuses.
     pub fn begin(&mut self, dir: Ino, frag: Frag) -> Result<Option<Job>, Refusal>
         ensures begun { Begins (state_of self.old.tree) (state_of self.new.tree) (dir, frag) result }
+        ensures came { UsesAt (Rules (state_of self.old.tree) self.old.subtrees.roots (dir, frag)) (dir, frag) self.old.tree.caches self.new.tree.caches }
         ensures roots { self.new.subtrees ≡ self.old.subtrees }
         ensures count { length self.new.tree.caches.used ≡ length self.old.tree.caches.used }
         ensures cap { self.new.tree.caches.cap ≡ self.old.tree.caches.cap }
@@ -34,6 +36,7 @@ impl<S: Store + Drop> RankedTree<S> {
     /// Ends a commit, as `MdCache::end` does and refuses.
     pub fn end(&mut self, alloc: Global, encoded: &Encoded) -> Result<(), Refusal>
         ensures ended { Ends (state_of self.old.tree) (state_of self.new.tree) self.old.tree.faults self.new.tree.faults encoded.now.job result }
+        ensures came { UsesAt (Rules (state_of self.old.tree) self.old.subtrees.roots (leaf_of encoded.now.job)) (leaf_of encoded.now.job) self.old.tree.caches self.new.tree.caches }
         ensures roots { self.new.subtrees ≡ self.old.subtrees }
         ensures count { length self.new.tree.caches.used ≡ length self.old.tree.caches.used }
         ensures cap { self.new.tree.caches.cap ≡ self.old.tree.caches.cap }
@@ -101,6 +104,7 @@ fn begin<S: Store + Drop>(
 ) -> Result<Option<Job>, Refusal>
     requires owned { IsOwned tree.old roots.now.roots }
     ensures begun { Begins (state_of tree.old) (state_of tree.new) (dir, frag) result }
+    ensures came { UsesAt (Rules (state_of tree.old) roots.now.roots (dir, frag)) (dir, frag) tree.old.caches tree.new.caches }
     ensures count { length tree.new.caches.used ≡ length tree.old.caches.used }
     ensures cap { tree.new.caches.cap ≡ tree.old.caches.cap }
     ensures faults { tree.new.faults ≡ tree.old.faults }
@@ -122,6 +126,7 @@ fn end<S: Store + Drop>(
 ) -> Result<(), Refusal>
     requires owned { IsOwned tree.old roots.now.roots }
     ensures ended { Ends (state_of tree.old) (state_of tree.new) tree.old.faults tree.new.faults encoded.now.job result }
+    ensures came { UsesAt (Rules (state_of tree.old) roots.now.roots (leaf_of encoded.now.job)) (leaf_of encoded.now.job) tree.old.caches tree.new.caches }
     ensures count { length tree.new.caches.used ≡ length tree.old.caches.used }
     ensures cap { tree.new.caches.cap ≡ tree.old.caches.cap }
     ensures counted { tree.new.faults ≡ tree.old.faults + faults_told (result_err result) }

@@ -11,7 +11,7 @@ ghost use Rattle.subtree_map.specs.Changes.{HaveOneAuthority, IsRootMerge, IsRoo
 ghost use Rattle.mdcache.specs.Core.{IsSoundCore, state_of};
 ghost use Rattle.mdcache.specs.Ranks.{MayHold};
 ghost use Rattle.mdcache.specs.SplitsAndMerges.{MayNotMerge, MayNotSplit, MergesLeaves, SplitsLeaf};
-ghost use Rattle.ranked_tree.specs.Held.{FragmentsCome, IsFamilyOf, IsMergedHere, IsOwned, LacksPlacesFor, LacksPlacesInside};
+ghost use Rattle.ranked_tree.specs.Held.{CameAt, IsFamilyOf, IsMergedHere, IsOwned, LacksPlacesFor, LacksPlacesInside};
 ghost use Rattle.ranked_tree.specs.Subtrees.{AllHave, GivesToChildren, KeepsAuthorities, KeepsRoots, NoNewRank, Rules, TakesOver};
 
 use crate::holding::holder_of;
@@ -25,9 +25,11 @@ use subtree_map::Subtrees;
 
 impl<S: Store + Drop> RankedTree<S> {
     /// Splits a leaf of a directory by so many bits, as `MdCache::split` does and refuses; where it is a root its children are
-    /// roots of its rank then, and where it inherits they do. Takes memory for those roots first.
+    /// roots of its rank then, and where it inherits they do. Takes memory for those roots first. Of the caches only places of
+    /// the leaf and of its children are used, at the rank that holds it.
     pub fn split(&mut self, alloc: Global, dir: Ino, frag: Frag, bits: u8) -> Result<(), Refusal>
         ensures split { SplitsLeaf (LacksPlacesFor (2 ^ bits + 1) self.old.tree self.old.subtrees.roots (dir, frag)) self.old.tree self.new.tree dir frag bits result }
+        ensures came { CameAt (Rules (state_of self.old.tree) self.old.subtrees.roots (dir, frag)) (IsFamilyOf dir frag bits) self.old.tree.caches self.new.tree.caches }
         ensures roots { OnOk result (IsRootSplit self.old.subtrees.roots self.new.subtrees.roots dir.0 frag bits) }
         ensures left { OnErr result (self.new.subtrees.roots ≡ self.old.subtrees.roots) }
         ensures promises { self.new.subtrees.promises ≡ self.old.subtrees.promises }
@@ -41,10 +43,12 @@ impl<S: Store + Drop> RankedTree<S> {
     }
 
     /// Merges the leaves of a directory properly inside a fragment, which have one authority, as `MdCache::merge` does and
-    /// refuses; where one of them is a root the merged leaf is a root of that rank then. Takes memory for that root first.
+    /// refuses; where one of them is a root the merged leaf is a root of that rank then. Takes memory for that root first. Of the
+    /// caches only places of those leaves and of the merged one are used, at the rank that holds them.
     pub fn merge(&mut self, alloc: Global, dir: Ino, frag: Frag) -> Result<(), Refusal>
         requires one { HaveOneAuthority self.old.subtrees.roots self.old.tree.homes self.old.tree.covers dir.0 frag }
         ensures merged { MergesLeaves (LacksPlacesInside 1 self.old.tree self.old.subtrees.roots dir frag) self.old.tree self.new.tree dir frag result }
+        ensures came { CameAt (AllHave self.old.tree.homes self.old.tree.covers self.old.subtrees.roots dir frag) (IsMergedHere self.old.tree.covers dir frag) self.old.tree.caches self.new.tree.caches }
         ensures roots { OnOk result (IsRootMerge self.old.subtrees.roots self.new.subtrees.roots dir.0 frag) }
         ensures left { OnErr result (self.new.subtrees.roots ≡ self.old.subtrees.roots) }
         ensures promises { self.new.subtrees.promises ≡ self.old.subtrees.promises }
@@ -70,6 +74,7 @@ fn split_with_roots<S: Store + Drop>(
 ) -> Result<(), Refusal>
     requires owned { IsOwned tree.old roots.old.roots }
     ensures split { SplitsLeaf (LacksPlacesFor (2 ^ bits + 1) tree.old roots.old.roots (dir, frag)) tree.old tree.new dir frag bits result }
+    ensures came { CameAt (Rules (state_of tree.old) roots.old.roots (dir, frag)) (IsFamilyOf dir frag bits) tree.old.caches tree.new.caches }
     ensures roots { OnOk result (IsRootSplit roots.old.roots roots.new.roots dir.0 frag bits) }
     ensures left { OnErr result (roots.new.roots ≡ roots.old.roots) }
     ensures promises { roots.new.promises ≡ roots.old.promises }
@@ -103,6 +108,7 @@ fn merge_with_roots<S: Store + Drop>(
     requires owned { IsOwned tree.old roots.old.roots }
     requires one { HaveOneAuthority roots.old.roots tree.old.homes tree.old.covers dir.0 frag }
     ensures merged { MergesLeaves (LacksPlacesInside 1 tree.old roots.old.roots dir frag) tree.old tree.new dir frag result }
+    ensures came { CameAt (AllHave tree.old.homes tree.old.covers roots.old.roots dir frag) (IsMergedHere tree.old.covers dir frag) tree.old.caches tree.new.caches }
     ensures roots { OnOk result (IsRootMerge roots.old.roots roots.new.roots dir.0 frag) }
     ensures left { OnErr result (roots.new.roots ≡ roots.old.roots) }
     ensures promises { roots.new.promises ≡ roots.old.promises }
@@ -139,7 +145,7 @@ fn split_held<S: Store + Drop>(
     ensures count { length tree.new.caches.used ≡ length tree.old.caches.used }
     ensures cap { tree.new.caches.cap ≡ tree.old.caches.cap }
     ensures counted { tree.new.faults ≡ tree.old.faults + faults_told (result_err result) }
-    ensures came { FragmentsCome (Rules (state_of tree.old) roots.now.roots (dir, frag)) (IsFamilyOf dir frag bits) tree.old.caches tree.new.caches }
+    ensures came { CameAt (Rules (state_of tree.old) roots.now.roots (dir, frag)) (IsFamilyOf dir frag bits) tree.old.caches tree.new.caches }
     ensures sound { IsSoundCore tree.new }
 {
     let rank = holder_of(tree, roots, dir, frag);
@@ -162,7 +168,7 @@ fn merge_held<S: Store + Drop>(
     ensures count { length tree.new.caches.used ≡ length tree.old.caches.used }
     ensures cap { tree.new.caches.cap ≡ tree.old.caches.cap }
     ensures counted { tree.new.faults ≡ tree.old.faults + faults_told (result_err result) }
-    ensures came { FragmentsCome (AllHave tree.old.homes tree.old.covers roots.now.roots dir frag) (IsMergedHere tree.old.covers dir frag) tree.old.caches tree.new.caches }
+    ensures came { CameAt (AllHave tree.old.homes tree.old.covers roots.now.roots dir frag) (IsMergedHere tree.old.covers dir frag) tree.old.caches tree.new.caches }
     ensures sound { IsSoundCore tree.new }
 {
     let rank = holder_of_all(tree, roots, dir, frag);

@@ -1,9 +1,10 @@
 use Rattle.std.proofs.Common.{inl, refl, rules, subst}
 use Rattle.inode_table.specs.Dirs.{IsLive}
 use Rattle.mdcache.specs.Commits.{leaf_of}
+use Rattle.dentry_cache.specs.Came.Came.{stays}
 use Rattle.dentry_cache.specs.Came.{IsThat, NoneEnds}
 use Rattle.dentry_cache.proofs.FrameLaws.{came_cap, came_ranks}
-use Rattle.ranked_tree.proofs.HeldLaws.{is_that, owned_came}
+use Rattle.ranked_tree.proofs.HeldLaws.{is_that, owned_came, that_came}
 use Rattle.ranked_tree.proofs.Stays.{ended, none_stands}
 use Rattle.commit_jobs.specs.declared.jobs.Job.{Job}
 use Rattle.mdcache.specs.Core.{state_of}
@@ -27,3 +28,12 @@ returns-clause-owned g c =
     let rules_here : Rules (state_of c.args.tree.now) c.args.roots.now.roots (leaf_of c.args.encoded.now.job) c.holder_of-rank.result
     = subst (λ (job : Job). Rules (state_of c.args.tree.now) c.args.roots.now.roots (leaf_of job) c.holder_of-rank.result) c.job-job.ensures.job c.holder_of-rank.ensures.rules in
     owned_came (IsThat c.holder_of-rank.result.0 (leaf_of c.args.encoded.now.job)) NoneEnds c.args.tree.now c.end.new.self c.args.roots.now.roots c.end.ensures.came c.end.ensures.sound stay.0 stay.1 (λ r q that live. is_that (state_of c.args.tree.now) c.args.roots.now.roots (leaf_of c.args.encoded.now.job) c.holder_of-rank.result rules_here r q that) c.requires.owned
+
+pub returns-then-not-has_leaf-clause-came : goal.returns-then-not-has_leaf-clause-came
+returns-then-not-has_leaf-clause-came g c = stays
+
+pub returns-clause-came : goal.returns-clause-came
+returns-clause-came g c =
+    let rules_here : Rules (state_of c.args.tree.now) c.args.roots.now.roots (leaf_of c.args.encoded.now.job) c.holder_of-rank.result
+        = subst (λ (job : Job). Rules (state_of c.args.tree.now) c.args.roots.now.roots (leaf_of job) c.holder_of-rank.result) c.job-job.ensures.job c.holder_of-rank.ensures.rules in
+    that_came (state_of c.args.tree.now) c.args.roots.now.roots (leaf_of c.args.encoded.now.job) c.holder_of-rank.result rules_here c.args.tree.now.caches c.end.new.self.caches c.end.ensures.came

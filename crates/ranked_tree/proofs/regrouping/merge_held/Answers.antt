@@ -7,7 +7,7 @@ use Rattle.mdcache.specs.Core.{LacksPlacesAt}
 use Rattle.mdcache.specs.Joining.{IsAmongOr}
 use Rattle.mdcache.specs.Regrouping.{ending_at}
 use Rattle.ranked_tree.specs.Held.{LacksPlacesInside}
-use Rattle.ranked_tree.proofs.HeldRegroups.{merge_on, merged_comes}
+use Rattle.ranked_tree.proofs.HeldRegroups.{merge_on, merged_came}
 use Rattle.ranked_tree.proofs.regrouping.merge_held.Goals as goal
 
 pub returns-clause-merged : goal.returns-clause-merged
@@ -20,4 +20,4 @@ pub returns-clause-cap : goal.returns-clause-cap
 returns-clause-cap g c = came_cap (IsAmongOr c.holder_of_all-rank.result.0 (ending_at c.args.tree.now (record { dir = c.args.dir; frag = c.args.frag; rank = c.holder_of_all-rank.result })) (c.args.dir, c.args.frag)) (λ (r : ℕ) (q : Leaf). IsKeptFor c.args.tree.now.caches r q ⊎ Contains (ending_at c.args.tree.now (record { dir = c.args.dir; frag = c.args.frag; rank = c.holder_of_all-rank.result })) q) c.args.tree.now.caches c.merge.new.self.caches c.merge.ensures.came
 
 pub returns-clause-came : goal.returns-clause-came
-returns-clause-came g c = merged_comes c.args.tree.now c.args.roots.now.roots c.holder_of_all-rank.result c.args.dir c.args.frag c.holder_of_all-rank.ensures.all (λ (r : ℕ) (q : Leaf). IsKeptFor c.args.tree.now.caches r q ⊎ Contains (ending_at c.args.tree.now (record { dir = c.args.dir; frag = c.args.frag; rank = c.holder_of_all-rank.result })) q) c.merge.new.self.caches c.merge.ensures.came
+returns-clause-came g c = merged_came c.args.tree.now c.args.roots.now.roots c.holder_of_all-rank.result c.args.dir c.args.frag c.holder_of_all-rank.ensures.all c.merge.new.self.caches c.merge.ensures.came

@@ -2,7 +2,8 @@ use Rattle.std.proofs.Common.{Err, refl, sym, subst, arith}
 use Rattle.subtree_map.specs.Authority.{Roots}
 use Rattle.subtree_map.specs.Changes.{HaveOneAuthority, IsRootMerge}
 use Rattle.mdcache.specs.SplitsAndMerges.{MergesLeaves}
-use Rattle.ranked_tree.specs.Held.{FragmentsCome, IsMergedHere, IsOwned, LacksPlacesInside}
+use Rattle.dentry_cache.specs.Came.Came.{stays}
+use Rattle.ranked_tree.specs.Held.{CameAt, IsMergedHere, IsOwned, LacksPlacesInside}
 use Rattle.ranked_tree.specs.Subtrees.{AllHave}
 use Rattle.ranked_tree.proofs.HeldRegroups.{merge_held, unmerged_held}
 use Rattle.ranked_tree.proofs.SubtreeLaws.{takes_over, merge_soundly, undone_soundly}
@@ -69,7 +70,7 @@ returns-in-Err-merge_held-clause-owned g c = record {
   sound = c.in-Err-merge_held.ensures.sound;
   valid = (undone_soundly (state_of c.args.tree.now) (state_of c.merge_held.new.tree) c.args.roots.now.roots c.reserve_merge.new.roots.roots c.requires.owned.sound.sound c.requires.owned.valid c.in-Err-merge_held.ensures.merged.1.0 c.reserve_merge.ensures.same).valid;
   held = unmerged_held c.args.tree.now c.merge_held.new.tree c.args.roots.now.roots c.reserve_merge.new.roots.roots c.requires.owned c.in-Err-merge_held.ensures.count c.in-Err-merge_held.ensures.sound c.args.dir c.args.frag c.in_default.ensures.known c.in_default.ensures.can
-      (subst (λ (r : Roots). FragmentsCome (AllHave c.args.tree.now.homes c.args.tree.now.covers r c.args.dir c.args.frag) (IsMergedHere c.args.tree.now.covers c.args.dir c.args.frag) c.args.tree.now.caches c.merge_held.new.tree.caches) c.reserve_merge.ensures.same c.in-Err-merge_held.ensures.came) c.in-Err-merge_held.ensures.merged.1.0 c.reserve_merge.ensures.same;
+      (subst (λ (r : Roots). CameAt (AllHave c.args.tree.now.homes c.args.tree.now.covers r c.args.dir c.args.frag) (IsMergedHere c.args.tree.now.covers c.args.dir c.args.frag) c.args.tree.now.caches c.merge_held.new.tree.caches) c.reserve_merge.ensures.same c.in-Err-merge_held.ensures.came) c.in-Err-merge_held.ensures.merged.1.0 c.reserve_merge.ensures.same;
 }
 
 pub returns-clause-owned : goal.returns-clause-owned
@@ -77,5 +78,14 @@ returns-clause-owned g c = record {
   sound = c.in_default-merge_held.ensures.sound;
   valid = (merge_soundly (state_of c.args.tree.now) (state_of c.merge_held.new.tree) c.args.roots.now.roots c.merge_roots.new.self.roots c.requires.owned.sound.sound c.requires.owned.valid c.args.dir c.args.frag c.in_default-merge_held.ensures.merged.0 (returns-clause-roots g c) c.requires.one).valid;
   held = merge_held c.args.tree.now c.merge_held.new.tree c.args.roots.now.roots c.merge_roots.new.self.roots c.requires.owned c.in_default-merge_held.ensures.count c.in_default-merge_held.ensures.sound c.args.dir c.args.frag c.in_default.ensures.known c.in_default.ensures.can
-      (subst (λ (r : Roots). FragmentsCome (AllHave c.args.tree.now.homes c.args.tree.now.covers r c.args.dir c.args.frag) (IsMergedHere c.args.tree.now.covers c.args.dir c.args.frag) c.args.tree.now.caches c.merge_held.new.tree.caches) c.reserve_merge.ensures.same c.in_default-merge_held.ensures.came) (returns-clause-authority g c) (returns-clause-ranks g c) (returns-clause-one g c);
+      (subst (λ (r : Roots). CameAt (AllHave c.args.tree.now.homes c.args.tree.now.covers r c.args.dir c.args.frag) (IsMergedHere c.args.tree.now.covers c.args.dir c.args.frag) c.args.tree.now.caches c.merge_held.new.tree.caches) c.reserve_merge.ensures.same c.in_default-merge_held.ensures.came) (returns-clause-authority g c) (returns-clause-ranks g c) (returns-clause-one g c);
 }
+
+pub returns-in-Err-clause-came : goal.returns-in-Err-clause-came
+returns-in-Err-clause-came g c = stays
+
+pub returns-in-Err-merge_held-clause-came : goal.returns-in-Err-merge_held-clause-came
+returns-in-Err-merge_held-clause-came g c = subst (λ (r : Roots). CameAt (AllHave c.args.tree.now.homes c.args.tree.now.covers r c.args.dir c.args.frag) (IsMergedHere c.args.tree.now.covers c.args.dir c.args.frag) c.args.tree.now.caches c.merge_held.new.tree.caches) c.reserve_merge.ensures.same c.in-Err-merge_held.ensures.came
+
+pub returns-clause-came : goal.returns-clause-came
+returns-clause-came g c = subst (λ (r : Roots). CameAt (AllHave c.args.tree.now.homes c.args.tree.now.covers r c.args.dir c.args.frag) (IsMergedHere c.args.tree.now.covers c.args.dir c.args.frag) c.args.tree.now.caches c.merge_held.new.tree.caches) c.reserve_merge.ensures.same c.in_default-merge_held.ensures.came

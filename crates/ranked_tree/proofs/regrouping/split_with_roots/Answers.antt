@@ -2,7 +2,8 @@ use Rattle.std.proofs.Common.{◌+◌, ◌^◌, Err, refl, sym, subst, arith}
 use Rattle.subtree_map.specs.Authority.{Roots}
 use Rattle.subtree_map.specs.Changes.{IsRootSplit}
 use Rattle.mdcache.specs.SplitsAndMerges.{SplitsLeaf}
-use Rattle.ranked_tree.specs.Held.{FragmentsCome, IsFamilyOf, IsOwned, LacksPlacesFor}
+use Rattle.dentry_cache.specs.Came.Came.{stays}
+use Rattle.ranked_tree.specs.Held.{CameAt, IsFamilyOf, IsOwned, LacksPlacesFor}
 use Rattle.ranked_tree.specs.Subtrees.{Rules}
 use Rattle.ranked_tree.proofs.HeldRegroups.{split_held, unsplit_held}
 use Rattle.ranked_tree.proofs.SubtreeLaws.{children_have, split_soundly, undone_soundly}
@@ -66,7 +67,7 @@ returns-in-Err-split_held-clause-owned g c = record {
   sound = c.in-Err-split_held.ensures.sound;
   valid = (undone_soundly (state_of c.args.tree.now) (state_of c.split_held.new.tree) c.args.roots.now.roots c.reserve_split.new.roots.roots c.requires.owned.sound.sound c.requires.owned.valid c.in-Err-split_held.ensures.split.1.0 c.reserve_split.ensures.same).valid;
   held = unsplit_held c.args.tree.now c.split_held.new.tree c.args.roots.now.roots c.reserve_split.new.roots.roots c.requires.owned c.in-Err-split_held.ensures.count c.in-Err-split_held.ensures.sound c.args.dir c.args.frag c.args.bits c.in_default.ensures.live
-      (subst (λ (r : Roots). FragmentsCome (Rules (state_of c.args.tree.now) r (c.args.dir, c.args.frag)) (IsFamilyOf c.args.dir c.args.frag c.args.bits) c.args.tree.now.caches c.split_held.new.tree.caches) c.reserve_split.ensures.same c.in-Err-split_held.ensures.came) c.in-Err-split_held.ensures.split.1.0 c.reserve_split.ensures.same c.in_default.ensures.fits;
+      (subst (λ (r : Roots). CameAt (Rules (state_of c.args.tree.now) r (c.args.dir, c.args.frag)) (IsFamilyOf c.args.dir c.args.frag c.args.bits) c.args.tree.now.caches c.split_held.new.tree.caches) c.reserve_split.ensures.same c.in-Err-split_held.ensures.came) c.in-Err-split_held.ensures.split.1.0 c.reserve_split.ensures.same c.in_default.ensures.fits;
 }
 
 pub returns-clause-owned : goal.returns-clause-owned
@@ -74,5 +75,14 @@ returns-clause-owned g c = record {
   sound = c.in_default-split_held.ensures.sound;
   valid = (split_soundly (state_of c.args.tree.now) (state_of c.split_held.new.tree) c.args.roots.now.roots c.split_root.new.self.roots c.requires.owned.sound.sound c.requires.owned.valid c.args.dir c.args.frag c.args.bits c.in_default-split_held.ensures.split.0 (returns-clause-roots g c)).valid;
   held = split_held c.args.tree.now c.split_held.new.tree c.args.roots.now.roots c.split_root.new.self.roots c.requires.owned c.in_default-split_held.ensures.count c.in_default-split_held.ensures.sound c.args.dir c.args.frag c.args.bits c.in_default.ensures.live
-      (subst (λ (r : Roots). FragmentsCome (Rules (state_of c.args.tree.now) r (c.args.dir, c.args.frag)) (IsFamilyOf c.args.dir c.args.frag c.args.bits) c.args.tree.now.caches c.split_held.new.tree.caches) c.reserve_split.ensures.same c.in_default-split_held.ensures.came) (returns-clause-authority g c) (returns-clause-ranks g c) (returns-clause-children g c);
+      (subst (λ (r : Roots). CameAt (Rules (state_of c.args.tree.now) r (c.args.dir, c.args.frag)) (IsFamilyOf c.args.dir c.args.frag c.args.bits) c.args.tree.now.caches c.split_held.new.tree.caches) c.reserve_split.ensures.same c.in_default-split_held.ensures.came) (returns-clause-authority g c) (returns-clause-ranks g c) (returns-clause-children g c);
 }
+
+pub returns-in-Err-clause-came : goal.returns-in-Err-clause-came
+returns-in-Err-clause-came g c = stays
+
+pub returns-in-Err-split_held-clause-came : goal.returns-in-Err-split_held-clause-came
+returns-in-Err-split_held-clause-came g c = subst (λ (r : Roots). CameAt (Rules (state_of c.args.tree.now) r (c.args.dir, c.args.frag)) (IsFamilyOf c.args.dir c.args.frag c.args.bits) c.args.tree.now.caches c.split_held.new.tree.caches) c.reserve_split.ensures.same c.in-Err-split_held.ensures.came
+
+pub returns-clause-came : goal.returns-clause-came
+returns-clause-came g c = subst (λ (r : Roots). CameAt (Rules (state_of c.args.tree.now) r (c.args.dir, c.args.frag)) (IsFamilyOf c.args.dir c.args.frag c.args.bits) c.args.tree.now.caches c.split_held.new.tree.caches) c.reserve_split.ensures.same c.in_default-split_held.ensures.came
