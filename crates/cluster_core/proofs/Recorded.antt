@@ -1,5 +1,5 @@
 -- What each event makes of the history.
-use Rattle.std.proofs.Common.{◌≡◌, ℕ, Bool, true, false, nat_lt, List, length, Option, Some, None, MatchBool, Result, Ok, Err}
+use Rattle.std.proofs.Common.{ap, ◌≡◌, ℕ, Bool, true, false, nat_lt, List, length, Option, Some, None, MatchBool, Result, Ok, Err}
 use Rattle.mds_types.specs.declared.entries.Entry.{Entry}
 use Rattle.mds_types.specs.declared.operations.Op.{Op}
 use Rattle.mds_types.specs.declared.requests.Request.{Request}
@@ -34,27 +34,30 @@ module _ (old new : State) (past now : List Entry) where
   administered told Did (Ok answer) h = h.3.same
   administered told Did (Err reason) h = h.1.same
 
-  at_rank : (here : Bool) (result : Result Answer Refusal) {done : Type 0} → (done → now ≡ past) → MatchBool here done ((result ≡ Err NotAuthority) × IsLeft old new past now) → now ≡ past
-  at_rank true result go h = go h
-  at_rank false result go h = h.1.same
+  at_rank : (here : Bool) (result : Result Answer Refusal) {done Same : Type 0} → (Same → new ≡ old) → (done → now ≡ past) → MatchBool here done ((result ≡ Err NotAuthority) × Same × (now ≡ past)) → now ≡ past
+  at_rank true result still go h = go h
+  at_rank false result still go h = h.2
+
+state_stays : (old new : Core) → new ≡ old → new.state ≡ old.state
+state_stays old new same = ap (λ (c : Core). c.state) same
 
 adds_at_serve : (old new : Core) (past now : List Entry) (result : Result Answer Refusal) (event : Event) → Does old new past now result event → AddsAtServe event past now
-adds_at_serve old new past now result (Arrive rank request) h = at_rank old.state new.state past now (nat_lt rank.0 (length old.state.inboxes)) result (arrived old.state new.state past now rank request result) h
+adds_at_serve old new past now result (Arrive rank request) h = at_rank old.state new.state past now (nat_lt rank.0 (length old.state.inboxes)) result (state_stays old new) (λ w. arrived old.state new.state past now rank request result w.0) h
 adds_at_serve old new past now result (Serve rank) h = tt
 adds_at_serve old new past now result (Grant rank client tid) h =
-    at_rank old.state new.state past now (nat_lt rank.0 (length old.state.inboxes)) result (granted old.state new.state past now (MayRefuse old new) rank client tid result (first_waiting client tid old.state.inboxes)) h
+    at_rank old.state new.state past now (nat_lt rank.0 (length old.state.inboxes)) result (state_stays old new) (granted old.state new.state past now (MayRefuse old new) rank client tid result (first_waiting client tid old.state.inboxes)) h
 adds_at_serve old new past now result (Split rank dir f nb) h =
-    at_rank old.state new.state past now (nat_lt rank.0 (length old.state.inboxes)) result (administered old.state new.state past now nothing (SplitsLeaf old new rank dir f nb) result) h
+    at_rank old.state new.state past now (nat_lt rank.0 (length old.state.inboxes)) result (state_stays old new) (λ w. administered old.state new.state past now nothing (SplitsLeaf old new rank dir f nb) result w.0) h
 adds_at_serve old new past now result (Merge rank dir f) h =
-    at_rank old.state new.state past now (nat_lt rank.0 (length old.state.inboxes)) result (administered old.state new.state past now nothing (MergesLeaves old new rank dir f) result) h
+    at_rank old.state new.state past now (nat_lt rank.0 (length old.state.inboxes)) result (state_stays old new) (λ w. administered old.state new.state past now nothing (MergesLeaves old new rank dir f) result w.0) h
 adds_at_serve old new past now result (CommitBegin rank dir f) h =
-    at_rank old.state new.state past now (nat_lt rank.0 (length old.state.inboxes)) result (λ w. administered old.state new.state past now told_job (BeginsAt old.state new.state rank (dir, f)) result w.0) h
-adds_at_serve old new past now result (CommitEnd encoded) h = administered old.state new.state past now nothing (Ends old.state.tree new.state.tree old.faults new.faults encoded.job) result h.0
-adds_at_serve old new past now result (CommitDrop number) h = administered old.state new.state past now nothing (Drops old.state.tree new.state.tree number) result h.0
-adds_at_serve old new past now result (CommitTree dir) h = administered old.state new.state past now nothing (SavesTree old.state.tree new.state.tree old.faults new.faults dir) result h.0
-adds_at_serve old new past now result Purge h = administered old.state new.state past now nothing (Purges old.state.tree new.state.tree old.faults new.faults) result h.0
+    at_rank old.state new.state past now (nat_lt rank.0 (length old.state.inboxes)) result (state_stays old new) (λ w. administered old.state new.state past now told_job (BeginsAt old.state new.state rank (dir, f)) result w.0.0) h
+adds_at_serve old new past now result (CommitEnd encoded) h = administered old.state new.state past now nothing (Ends old.state.tree new.state.tree old.faults new.faults encoded.job) result h.0.0
+adds_at_serve old new past now result (CommitDrop number) h = administered old.state new.state past now nothing (Drops old.state.tree new.state.tree number) result h.0.0
+adds_at_serve old new past now result (CommitTree dir) h = administered old.state new.state past now nothing (SavesTree old.state.tree new.state.tree old.faults new.faults dir) result h.0.0
+adds_at_serve old new past now result Purge h = administered old.state new.state past now nothing (Purges old.state.tree new.state.tree old.faults new.faults) result h.0.0
 adds_at_serve old new past now result (Evict rank) h =
-    at_rank old.state new.state past now (nat_lt rank.0 (length old.state.inboxes)) result (λ w. administered old.state new.state past now nothing (EvictsOne old new rank) result w.0) h
+    at_rank old.state new.state past now (nat_lt rank.0 (length old.state.inboxes)) result (state_stays old new) (λ w. administered old.state new.state past now nothing (EvictsOne old new rank) result w.0) h
 
 -- what one step makes of the history
 pub records_of : (old new : Core) (past now : List Entry) (result : Result Answer Refusal) (event : Event) → Steps old new past now result event → Records event past now result

@@ -127,26 +127,29 @@ module _ (old new : State) (past now : List Entry) where
   begun : (Did : Result (Option Begun) Refusal → Type 0) (result : Result Answer Refusal) → Administers old new past now told_job Did result → IsStepOf past now result
   begun Did result h = administered told_job Did job_is_no_reply result h
 
-  at_rank : (here : Bool) (result : Result Answer Refusal) {done : Type 0} → (done → IsStepOf past now result) → MatchBool here done ((result ≡ Err NotAuthority) × IsLeft old new past now) → IsStepOf past now result
-  at_rank true result go h = go h
-  at_rank false result go h = subst (IsStepOf past now) (sym h.0) (left NotAuthority h.1)
+  at_rank : (here : Bool) (result : Result Answer Refusal) {done Same : Type 0} → (Same → new ≡ old) → (done → IsStepOf past now result) → MatchBool here done ((result ≡ Err NotAuthority) × Same × (now ≡ past)) → IsStepOf past now result
+  at_rank true result still go h = go h
+  at_rank false result still go h = subst (IsStepOf past now) (sym h.0) (left NotAuthority (record { same = h.2; left = still h.1 }))
+
+state_stays : (old new : Core) → new ≡ old → new.state ≡ old.state
+state_stays old new same = ap (λ (c : Core). c.state) same
 
 -- one step adds to the history alone, and a reply that it hands out stands there
 pub step_of : (old new : Core) (past now : List Entry) (result : Result Answer Refusal) (event : Event) → Does old new past now result event → IsStepOf past now result
-step_of old new past now result (Arrive rank request) h = at_rank old.state new.state past now (nat_lt rank.0 (length old.state.inboxes)) result (arrived old.state new.state past now rank request result) h
+step_of old new past now result (Arrive rank request) h = at_rank old.state new.state past now (nat_lt rank.0 (length old.state.inboxes)) result (state_stays old new) (λ w. arrived old.state new.state past now rank request result w.0) h
 step_of old new past now result (Serve rank) h =
-    at_rank old.state new.state past now (nat_lt rank.0 (length old.state.inboxes)) result (served_inbox old.state new.state past now (MayRefuse old new) rank result (waiting_at old.state.inboxes rank)) h
+    at_rank old.state new.state past now (nat_lt rank.0 (length old.state.inboxes)) result (state_stays old new) (served_inbox old.state new.state past now (MayRefuse old new) rank result (waiting_at old.state.inboxes rank)) h
 step_of old new past now result (Grant rank client tid) h =
-    at_rank old.state new.state past now (nat_lt rank.0 (length old.state.inboxes)) result (granted old.state new.state past now (MayRefuse old new) rank client tid result (first_waiting client tid old.state.inboxes)) h
-step_of old new past now result (Split rank dir f nb) h = at_rank old.state new.state past now (nat_lt rank.0 (length old.state.inboxes)) result (done old.state new.state past now (SplitsLeaf old new rank dir f nb) result) h
-step_of old new past now result (Merge rank dir f) h = at_rank old.state new.state past now (nat_lt rank.0 (length old.state.inboxes)) result (done old.state new.state past now (MergesLeaves old new rank dir f) result) h
+    at_rank old.state new.state past now (nat_lt rank.0 (length old.state.inboxes)) result (state_stays old new) (granted old.state new.state past now (MayRefuse old new) rank client tid result (first_waiting client tid old.state.inboxes)) h
+step_of old new past now result (Split rank dir f nb) h = at_rank old.state new.state past now (nat_lt rank.0 (length old.state.inboxes)) result (state_stays old new) (λ w. done old.state new.state past now (SplitsLeaf old new rank dir f nb) result w.0) h
+step_of old new past now result (Merge rank dir f) h = at_rank old.state new.state past now (nat_lt rank.0 (length old.state.inboxes)) result (state_stays old new) (λ w. done old.state new.state past now (MergesLeaves old new rank dir f) result w.0) h
 step_of old new past now result (CommitBegin rank dir f) h =
-    at_rank old.state new.state past now (nat_lt rank.0 (length old.state.inboxes)) result (λ w. begun old.state new.state past now (BeginsAt old.state new.state rank (dir, f)) result w.0) h
-step_of old new past now result (CommitEnd encoded) h = done old.state new.state past now (Ends old.state.tree new.state.tree old.faults new.faults encoded.job) result h.0
-step_of old new past now result (CommitDrop number) h = done old.state new.state past now (Drops old.state.tree new.state.tree number) result h.0
-step_of old new past now result (CommitTree dir) h = done old.state new.state past now (SavesTree old.state.tree new.state.tree old.faults new.faults dir) result h.0
-step_of old new past now result Purge h = done old.state new.state past now (Purges old.state.tree new.state.tree old.faults new.faults) result h.0
-step_of old new past now result (Evict rank) h = at_rank old.state new.state past now (nat_lt rank.0 (length old.state.inboxes)) result (λ w. done old.state new.state past now (EvictsOne old new rank) result w.0) h
+    at_rank old.state new.state past now (nat_lt rank.0 (length old.state.inboxes)) result (state_stays old new) (λ w. begun old.state new.state past now (BeginsAt old.state new.state rank (dir, f)) result w.0.0) h
+step_of old new past now result (CommitEnd encoded) h = done old.state new.state past now (Ends old.state.tree new.state.tree old.faults new.faults encoded.job) result h.0.0
+step_of old new past now result (CommitDrop number) h = done old.state new.state past now (Drops old.state.tree new.state.tree number) result h.0.0
+step_of old new past now result (CommitTree dir) h = done old.state new.state past now (SavesTree old.state.tree new.state.tree old.faults new.faults dir) result h.0.0
+step_of old new past now result Purge h = done old.state new.state past now (Purges old.state.tree new.state.tree old.faults new.faults) result h.0.0
+step_of old new past now result (Evict rank) h = at_rank old.state new.state past now (nat_lt rank.0 (length old.state.inboxes)) result (state_stays old new) (λ w. done old.state new.state past now (EvictsOne old new rank) result w.0) h
 
 -- what stands in a history stands in each that begins with it
 still_stands : (past now : List Entry) (client tid place : ℕ) (reply : Replied) → BeginsWith now past → StandsAt past client tid place reply → StandsAt now client tid place reply

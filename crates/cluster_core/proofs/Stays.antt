@@ -52,7 +52,7 @@ evicted_keeps old new past now rank (Ok answer) valid h = keeps_same old.state.t
 evicted_keeps old new past now rank (Err reason) valid h = keeps_same old.state.tree new.state.tree old.state.roots new.state.roots (ap (λ (s : State). s.tree) h.0.1.left) h.1 valid
 
 -- at a rank that isn't there all is left
-pub at_rank_keeps : (old new : State) (past now : List Entry) (here : Bool) (result : Result Answer Refusal) {done : Type 0} → AreRoots old.tree old.roots → (done → KeepsRoots old.tree new.tree old.roots new.roots)
-    → MatchBool here done ((result ≡ Err NotAuthority) × IsLeft old new past now) → KeepsRoots old.tree new.tree old.roots new.roots
+pub at_rank_keeps : (old new : Core) (past now : List Entry) (here : Bool) (result : Result Answer Refusal) {done : Type 0} → AreRoots old.state.tree old.state.roots → (done → KeepsRoots old.state.tree new.state.tree old.state.roots new.state.roots)
+    → MatchBool here done ((result ≡ Err NotAuthority) × (new ≡ old) × (now ≡ past)) → KeepsRoots old.state.tree new.state.tree old.state.roots new.state.roots
 at_rank_keeps old new past now true result valid go h = go h
-at_rank_keeps old new past now false result valid go h = keeps_same old.tree new.tree old.roots new.roots (ap (λ (s : State). s.tree) h.1.left) (ap (λ (s : State). s.roots) h.1.left) valid
+at_rank_keeps old new past now false result valid go h = keeps_same old.state.tree new.state.tree old.state.roots new.state.roots (ap (λ (c : Core). c.state.tree) h.1) (ap (λ (c : Core). c.state.roots) h.1) valid

@@ -89,20 +89,20 @@ module _ (opening : Tree) (past now : List Entry) (old new : Core) (sound : IsSo
   administered told Did (Ok answer) h = unseen h.3
   administered told Did (Err reason) h = sound-left h.1
 
-  at_rank : (here : Bool) (result : Result Answer Refusal) {done : Type 0} → (here ≡ true → done → IsSound opening now new) → MatchBool here done ((result ≡ Err NotAuthority) × IsLeft old.state new.state past now) → IsSound opening now new
+  at_rank : (here : Bool) (result : Result Answer Refusal) {done : Type 0} → (here ≡ true → done → IsSound opening now new) → MatchBool here done ((result ≡ Err NotAuthority) × (new ≡ old) × (now ≡ past)) → IsSound opening now new
   at_rank true result go h = go refl h
-  at_rank false result go h = sound-left h.1
+  at_rank false result go h = sound-left (record { same = h.2; left = ap (λ (c : Core). c.state) h.1 })
 
   -- every step keeps a book sound
   pub sound-step : (result : Result Answer Refusal) (event : Event) → Does old new past now result event → IsSound opening now new
-  sound-step result (Arrive rank request) h = at_rank (nat_lt rank.0 (length old.state.inboxes)) result (λ here. arrived rank request result) h
+  sound-step result (Arrive rank request) h = at_rank (nat_lt rank.0 (length old.state.inboxes)) result (λ here w. arrived rank request result w.0) h
   sound-step result (Serve rank) h = at_rank (nat_lt rank.0 (length old.state.inboxes)) result (λ here. served_inbox (MayRefuse old new) rank (there_of old sound.ranks rank here) result (waiting_at old.state.inboxes rank)) h
   sound-step result (Grant rank client tid) h = at_rank (nat_lt rank.0 (length old.state.inboxes)) result (λ here. granted (MayRefuse old new) rank client tid result (first_waiting client tid old.state.inboxes)) h
-  sound-step result (Split rank dir f nb) h = at_rank (nat_lt rank.0 (length old.state.inboxes)) result (λ here. administered nothing (SplitsLeaf old new rank dir f nb) result) h
-  sound-step result (Merge rank dir f) h = at_rank (nat_lt rank.0 (length old.state.inboxes)) result (λ here. administered nothing (MergesLeaves old new rank dir f) result) h
-  sound-step result (CommitBegin rank dir f) h = at_rank (nat_lt rank.0 (length old.state.inboxes)) result (λ here done. administered told_job (BeginsAt old.state new.state rank (dir, f)) result done.0) h
-  sound-step result (CommitEnd encoded) h = administered nothing (Ends old.state.tree new.state.tree old.faults new.faults encoded.job) result h.0
-  sound-step result (CommitDrop number) h = administered nothing (Drops old.state.tree new.state.tree number) result h.0
-  sound-step result (CommitTree dir) h = administered nothing (SavesTree old.state.tree new.state.tree old.faults new.faults dir) result h.0
-  sound-step result Purge h = administered nothing (Purges old.state.tree new.state.tree old.faults new.faults) result h.0
+  sound-step result (Split rank dir f nb) h = at_rank (nat_lt rank.0 (length old.state.inboxes)) result (λ here w. administered nothing (SplitsLeaf old new rank dir f nb) result w.0) h
+  sound-step result (Merge rank dir f) h = at_rank (nat_lt rank.0 (length old.state.inboxes)) result (λ here w. administered nothing (MergesLeaves old new rank dir f) result w.0) h
+  sound-step result (CommitBegin rank dir f) h = at_rank (nat_lt rank.0 (length old.state.inboxes)) result (λ here done. administered told_job (BeginsAt old.state new.state rank (dir, f)) result done.0.0) h
+  sound-step result (CommitEnd encoded) h = administered nothing (Ends old.state.tree new.state.tree old.faults new.faults encoded.job) result h.0.0
+  sound-step result (CommitDrop number) h = administered nothing (Drops old.state.tree new.state.tree number) result h.0.0
+  sound-step result (CommitTree dir) h = administered nothing (SavesTree old.state.tree new.state.tree old.faults new.faults dir) result h.0.0
+  sound-step result Purge h = administered nothing (Purges old.state.tree new.state.tree old.faults new.faults) result h.0.0
   sound-step result (Evict rank) h = at_rank (nat_lt rank.0 (length old.state.inboxes)) result (λ here done. administered nothing (EvictsOne old new rank) result done.0) h

@@ -16,7 +16,7 @@ use Rattle.inboxes.specs.declared.pins.Pin.{Pin}
 use Rattle.inboxes.specs.Pins.{is_on}
 use Rattle.inode_table.specs.Dirs.{Covers, Homes, IsLive, is_known, leaves_of}
 use Rattle.subtree_map.specs.Changes.{IsRootMerge, IsRootSplit, is_inside}
-use Rattle.mdcache.specs.Commits.{Begins, Drops, Ends}
+use Rattle.mdcache.specs.Commits.{Begins, Drops, Ends, leaf_of}
 use Rattle.mdcache.specs.Objects.{Purges, SavesTree}
 use Rattle.mdcache.specs.Regroups.{MayNotRegroup}
 use Rattle.mdcache.specs.Splits.{IsMergedInto, IsSplitInto}
@@ -25,6 +25,7 @@ use Rattle.cluster_core.specs.declared.events.Answer.TheVariants.{Job, Nothing}
 use Rattle.cluster_core.specs.State.{Core, LacksPlacesAt, State, shown}
 use Rattle.cluster_core.specs.Master.{IsAuthority}
 use Rattle.cluster_core.specs.Serve.{IsLeft}
+use Rattle.ranked_tree.specs.Held.{CameAt, IsFamilyOf, IsMergedHere, UsesAt}
 use Rattle.ranked_tree.specs.Subtrees.{AllHave}
 
 -- what such a step leaves unseen: the shown tree, and all but the tree's own state and the subtree roots
@@ -45,6 +46,28 @@ AdministersTree old new past now told Did result = Administers old new past now 
 -- work that gives nothing is told so
 abbrev pub nothing : Unit {0} → Answer
 nothing done = Nothing
+
+-- the rank is the authority of each leaf of a directory that lies properly inside a fragment
+abbrev pub HoldsInside : State → Rank → Ino → Fragment → Type 0
+HoldsInside state rank dir f = AllHave state.tree.homes state.tree.covers state.roots dir f rank
+
+-- ---- what a step makes of the caches
+
+-- of the caches a leaf was used at most, at its authority
+abbrev pub UsesLeaf : (old new : Core) → Leaf → Type 0
+UsesLeaf old new leaf = UsesAt (IsAuthority old.state leaf) leaf old.caches new.caches
+
+-- a leaf and its children were used at most, and ended, at its authority, and a place that was kept was given up
+abbrev pub UsesFamily : (old new : Core) → Leaf → ℕ → Type 0
+UsesFamily old new leaf nb = CameAt (IsAuthority old.state leaf) (IsFamilyOf leaf.0 leaf.1 nb) old.caches new.caches
+
+-- so the leaves of a directory that lie properly inside a fragment, and the one that it would be, at the rank that is the authority of all
+abbrev pub UsesInside : (old new : Core) → Ino → Fragment → Type 0
+UsesInside old new dir f = CameAt (λ (rank : Rank). HoldsInside old.state rank dir f) (IsMergedHere old.state.tree.covers dir f) old.caches new.caches
+
+-- no leaf was asked for
+abbrev pub AsksNone : (old new : Core) → Type 0
+AsksNone old new = new.caches ≡ old.caches
 
 -- ---- leaves
 
@@ -77,10 +100,6 @@ SplitsLeaf old new rank dir f nb (Err reason) =
     (λ why. MayNotRegroup (CanSplit (leaves_of old.state.tree.covers dir.0) f nb) (RefusesSplit (leaves_of old.state.tree.covers dir.0) f nb) old.state.tree dir (2 ^ nb) (LacksPlacesAt (2 ^ nb + 1) old rank) old.faults new.faults why)
     reason
 
--- the rank is the authority of each leaf of a directory that lies properly inside a fragment
-abbrev pub HoldsInside : State → Rank → Ino → Fragment → Type 0
-HoldsInside state rank dir f = AllHave state.tree.homes state.tree.covers state.roots dir f rank
-
 -- one of these is pinned
 abbrev pub HasPinnedInside : State → Ino → Fragment → Type 0
 HasPinnedInside state dir f = IsAnyPinned state.tree.homes state.tree.covers state.pins dir f
@@ -96,10 +115,10 @@ MergesLeaves old new rank dir f (Err reason) =
     reason
 
 abbrev pub Splits : (old new : Core) → (past now : List Entry) → Rank → Ino → Fragment → ℕ → Result Answer Refusal → Type 0
-Splits old new past now rank dir f nb result = Administers old.state new.state past now nothing (SplitsLeaf old new rank dir f nb) result
+Splits old new past now rank dir f nb result = Administers old.state new.state past now nothing (SplitsLeaf old new rank dir f nb) result × UsesFamily old new (dir, f) nb
 
 abbrev pub Merges : (old new : Core) → (past now : List Entry) → Rank → Ino → Fragment → Result Answer Refusal → Type 0
-Merges old new past now rank dir f result = Administers old.state new.state past now nothing (MergesLeaves old new rank dir f) result
+Merges old new past now rank dir f result = Administers old.state new.state past now nothing (MergesLeaves old new rank dir f) result × UsesInside old new dir f
 
 -- the leaves of a directory by value; refused NoSuchFrag exactly where there is no such directory, and else for want of memory
 abbrev pub ListsLeaves : State → Ino → Result (List Fragment) Refusal → Type 0
@@ -126,21 +145,21 @@ BeginsAt old new rank leaf (Err reason) =
     ⊎ ((IsLive old.tree.homes old.tree.covers leaf → IsAuthority old leaf rank) × Begins old.tree new.tree leaf (Err reason))
 
 abbrev pub BeginsCommit : (old new : Core) → (past now : List Entry) → Rank → Leaf → Result Answer Refusal → Type 0
-BeginsCommit old new past now rank leaf result = AdministersTree old.state new.state past now told_job (BeginsAt old.state new.state rank leaf) result
+BeginsCommit old new past now rank leaf result = AdministersTree old.state new.state past now told_job (BeginsAt old.state new.state rank leaf) result × UsesLeaf old new leaf
 
 abbrev pub EndsCommit : (old new : Core) → (past now : List Entry) → Begun → Result Answer Refusal → Type 0
-EndsCommit old new past now job result = AdministersTree old.state new.state past now nothing (Ends old.state.tree new.state.tree old.faults new.faults job) result
+EndsCommit old new past now job result = AdministersTree old.state new.state past now nothing (Ends old.state.tree new.state.tree old.faults new.faults job) result × UsesLeaf old new (leaf_of job)
 
 abbrev pub DropsCommit : (old new : Core) → (past now : List Entry) → ℕ → Result Answer Refusal → Type 0
-DropsCommit old new past now number result = AdministersTree old.state new.state past now nothing (Drops old.state.tree new.state.tree number) result
+DropsCommit old new past now number result = AdministersTree old.state new.state past now nothing (Drops old.state.tree new.state.tree number) result × AsksNone old new
 
 -- ---- objects and places
 
 abbrev pub CommitsTree : (old new : Core) → (past now : List Entry) → Ino → Result Answer Refusal → Type 0
-CommitsTree old new past now dir result = AdministersTree old.state new.state past now nothing (SavesTree old.state.tree new.state.tree old.faults new.faults dir) result
+CommitsTree old new past now dir result = AdministersTree old.state new.state past now nothing (SavesTree old.state.tree new.state.tree old.faults new.faults dir) result × AsksNone old new
 
 abbrev pub PurgesObject : (old new : Core) → (past now : List Entry) → Result Answer Refusal → Type 0
-PurgesObject old new past now result = AdministersTree old.state new.state past now nothing (Purges old.state.tree new.state.tree old.faults new.faults) result
+PurgesObject old new past now result = AdministersTree old.state new.state past now nothing (Purges old.state.tree new.state.tree old.faults new.faults) result × AsksNone old new
 
 -- the least recently used of the clean fragments that a rank caches is no longer cached, and all else is as it was, the caches of the other
 -- ranks too; refused exactly where none is clean

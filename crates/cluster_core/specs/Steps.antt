@@ -13,7 +13,7 @@ use Rattle.cluster_core.specs.declared.events.Answer.{Answer}
 use Rattle.cluster_core.specs.declared.events.Answer.TheVariants.{Nothing}
 use Rattle.cluster_core.specs.declared.events.Event.{Event}
 use Rattle.cluster_core.specs.declared.events.Event.TheVariants.{Arrive, Grant, Serve, Split, Merge, CommitBegin, CommitEnd, CommitDrop, CommitTree, Purge, Evict}
-use Rattle.cluster_core.specs.Administers.{BeginsCommit, CommitsTree, DropsCommit, EndsCommit, EvictsFragment, Merges, PurgesObject, Splits}
+use Rattle.cluster_core.specs.Administers.{AsksNone, BeginsCommit, CommitsTree, DropsCommit, EndsCommit, EvictsFragment, Merges, PurgesObject, Splits}
 use Rattle.inboxes.specs.Inboxes.{waiting_at, with_last}
 use Rattle.cluster_core.specs.Grants.{GrantsWaiting}
 use Rattle.cluster_core.specs.State.{Core, LacksPlaces, State}
@@ -36,22 +36,22 @@ abbrev pub ServesRank : (old new : Core) → (past now : List Entry) → Rank �
 ServesRank old new past now rank result = ServesInbox old.state new.state past now (MayRefuse old new) rank result (waiting_at old.state.inboxes rank)
 
 -- an event names a rank, and a rank that isn't there is refused NotAuthority before all else
-abbrev pub AtRank : (old new : State) → (past now : List Entry) → Rank → Result Answer Refusal → Type 0 → Type 0
-AtRank old new past now rank result done = MatchBool (nat_lt rank.0 (length old.inboxes)) done ((result ≡ Err NotAuthority) × IsLeft old new past now)
+abbrev pub AtRank : (old new : Core) → (past now : List Entry) → Rank → Result Answer Refusal → Type 0 → Type 0
+AtRank old new past now rank result done = MatchBool (nat_lt rank.0 (length old.state.inboxes)) done ((result ≡ Err NotAuthority) × (new ≡ old) × (now ≡ past))
 
 -- what an event does
 abbrev pub Does : (old new : Core) → (past now : List Entry) → Result Answer Refusal → Event → Type 0
-Does old new past now result (Arrive rank request) = AtRank old.state new.state past now rank result (ArrivesAt old.state new.state past now rank request result)
-Does old new past now result (Serve rank) = AtRank old.state new.state past now rank result (ServesRank old new past now rank result)
-Does old new past now result (Grant rank client tid) = AtRank old.state new.state past now rank result (GrantsWaiting old.state new.state past now (MayRefuse old new) rank client tid result)
-Does old new past now result (Split rank dir f nb) = AtRank old.state new.state past now rank result (Splits old new past now rank dir f nb result)
-Does old new past now result (Merge rank dir f) = AtRank old.state new.state past now rank result (Merges old new past now rank dir f result)
-Does old new past now result (CommitBegin rank dir f) = AtRank old.state new.state past now rank result (BeginsCommit old new past now rank (dir, f) result)
+Does old new past now result (Arrive rank request) = AtRank old new past now rank result (ArrivesAt old.state new.state past now rank request result × AsksNone old new)
+Does old new past now result (Serve rank) = AtRank old new past now rank result (ServesRank old new past now rank result)
+Does old new past now result (Grant rank client tid) = AtRank old new past now rank result (GrantsWaiting old.state new.state past now (MayRefuse old new) rank client tid result)
+Does old new past now result (Split rank dir f nb) = AtRank old new past now rank result (Splits old new past now rank dir f nb result)
+Does old new past now result (Merge rank dir f) = AtRank old new past now rank result (Merges old new past now rank dir f result)
+Does old new past now result (CommitBegin rank dir f) = AtRank old new past now rank result (BeginsCommit old new past now rank (dir, f) result)
 Does old new past now result (CommitEnd encoded) = EndsCommit old new past now encoded.job result
 Does old new past now result (CommitDrop number) = DropsCommit old new past now number result
 Does old new past now result (CommitTree dir) = CommitsTree old new past now dir result
 Does old new past now result Purge = PurgesObject old new past now result
-Does old new past now result (Evict rank) = AtRank old.state new.state past now rank result (EvictsFragment old new past now rank result)
+Does old new past now result (Evict rank) = AtRank old new past now rank result (EvictsFragment old new past now rank result)
 
 -- one step: what its event does. Each leaf that stays keeps its authority, there are as many ranks, with as many places
 -- each, and the store's count of faults rises by one where the event is refused by a fault, and not otherwise: so no fault

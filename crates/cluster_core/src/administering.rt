@@ -34,7 +34,7 @@ impl<S: Store + Drop> Cluster<S> {
         bits: u8,
     ) -> Result<Answer, Refusal>
         requires { AreRoots self.old.state.tree self.old.state.roots }
-        ensures split { (past : List Applied) → AtRank self.old.state self.new.state past past rank result (Splits self.old self.new past past rank ino frag bits result) }
+        ensures split { (past : List Applied) → AtRank self.old self.new past past rank result (Splits self.old self.new past past rank ino frag bits result) }
         ensures kept { KeepsRoots self.old.state.tree self.new.state.tree self.old.state.roots self.new.state.roots }
         ensures count { length self.new.caches.used ≡ length self.old.caches.used }
         ensures cap { self.new.caches.cap ≡ self.old.caches.cap }
@@ -55,7 +55,7 @@ impl<S: Store + Drop> Cluster<S> {
         frag: Frag,
     ) -> Result<Answer, Refusal>
         requires { AreRoots self.old.state.tree self.old.state.roots }
-        ensures merged { (past : List Applied) → AtRank self.old.state self.new.state past past rank result (Merges self.old self.new past past rank ino frag result) }
+        ensures merged { (past : List Applied) → AtRank self.old self.new past past rank result (Merges self.old self.new past past rank ino frag result) }
         ensures kept { KeepsRoots self.old.state.tree self.new.state.tree self.old.state.roots self.new.state.roots }
         ensures count { length self.new.caches.used ≡ length self.old.caches.used }
         ensures cap { self.new.caches.cap ≡ self.old.caches.cap }
@@ -74,7 +74,7 @@ impl<S: Store + Drop> Cluster<S> {
         ino: Ino,
         frag: Frag,
     ) -> Result<Answer, Refusal>
-        ensures begun { (past : List Applied) → AtRank self.old.state self.new.state past past rank result (BeginsCommit self.old self.new past past rank (ino, frag) result) }
+        ensures begun { (past : List Applied) → AtRank self.old self.new past past rank result (BeginsCommit self.old self.new past past rank (ino, frag) result) }
         ensures count { length self.new.caches.used ≡ length self.old.caches.used }
         ensures cap { self.new.caches.cap ≡ self.old.caches.cap }
         ensures counted { self.new.faults ≡ self.old.faults + faults_told (result_err result) }
@@ -140,7 +140,7 @@ impl<S: Store + Drop> Cluster<S> {
     // The least recently used clean fragment of a rank's cache goes.
     pub(crate) fn evict(&mut self, rank: Rank) -> Result<Answer, Refusal>
         requires { length self.old.caches.used ≡ length self.old.state.inboxes }
-        ensures evicted { (past : List Applied) → AtRank self.old.state self.new.state past past rank result (EvictsFragment self.old self.new past past rank result) }
+        ensures evicted { (past : List Applied) → AtRank self.old self.new past past rank result (EvictsFragment self.old self.new past past rank result) }
         ensures count { length self.new.caches.used ≡ length self.old.caches.used }
         ensures cap { self.new.caches.cap ≡ self.old.caches.cap }
         ensures counted { self.new.faults ≡ self.old.faults + faults_told (result_err result) }

@@ -11,7 +11,7 @@ ghost use Rattle.cluster_core.specs.Steps.{ArrivesAt, AtRank, MayRefuse, ServesR
 ghost use Rattle.cluster_core.specs.Grants.{GrantsWaiting};
 ghost use Rattle.ranked_tree.specs.Subtrees.{KeepsRoots};
 ghost use Rattle.cluster_core.specs.Sound.{AreCached, IsKept, IsSound};
-ghost use Rattle.cluster_core.specs.Administers.{ListsLeaves, TellsAuthority};
+ghost use Rattle.cluster_core.specs.Administers.{AsksNone, ListsLeaves, TellsAuthority};
 
 use crate::events::{Answer, Event};
 use crate::granting::grant_first;
@@ -155,7 +155,7 @@ impl<S: Store + Drop> Cluster<S> {
 
     // A request comes in, and waits at the back of the rank's inbox.
     fn arrive(&mut self, rank: Rank, request: Request) -> Result<Answer, Refusal>
-        ensures arrived { (past : List Applied) → AtRank self.old.state self.new.state past past rank result (ArrivesAt self.old.state self.new.state past past rank request result) }
+        ensures arrived { (past : List Applied) → AtRank self.old self.new past past rank result (ArrivesAt self.old.state self.new.state past past rank request result × AsksNone self.old self.new) }
         ensures tree { self.new.state.tree ≡ self.old.state.tree }
         ensures roots { self.new.state.roots ≡ self.old.state.roots }
         ensures caches { self.new.caches ≡ self.old.caches }
@@ -180,7 +180,7 @@ impl<S: Store + Drop> Cluster<S> {
         rank: Rank,
     ) -> Result<Answer, Refusal>
         requires { (opening : Tree) × IsSound opening history.old.items self.old }
-        ensures served { AtRank self.old.state self.new.state history.old.items history.new.items rank result (ServesRank self.old self.new history.old.items history.new.items rank result) }
+        ensures served { AtRank self.old self.new history.old.items history.new.items rank result (ServesRank self.old self.new history.old.items history.new.items rank result) }
         ensures kept { KeepsRoots self.old.state.tree self.new.state.tree self.old.state.roots self.new.state.roots }
         ensures count { length self.new.caches.used ≡ length self.old.caches.used }
         ensures cap { self.new.caches.cap ≡ self.old.caches.cap }
@@ -203,7 +203,7 @@ impl<S: Store + Drop> Cluster<S> {
 
     // The rank grants a waiting request what it would change of the rank's.
     fn grant(&mut self, alloc: Global, rank: Rank, client: u64, tid: u64) -> Result<Answer, Refusal>
-        ensures granted { (past : List Applied) → AtRank self.old.state self.new.state past past rank result (GrantsWaiting self.old.state self.new.state past past (MayRefuse self.old self.new) rank client tid result) }
+        ensures granted { (past : List Applied) → AtRank self.old self.new past past rank result (GrantsWaiting self.old.state self.new.state past past (MayRefuse self.old self.new) rank client tid result) }
         ensures tree { self.new.state.tree ≡ self.old.state.tree }
         ensures roots { self.new.state.roots ≡ self.old.state.roots }
         ensures count { length self.new.caches.used ≡ length self.old.caches.used }
