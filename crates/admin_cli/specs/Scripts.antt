@@ -118,7 +118,7 @@ pub record IsFormatted (ranks cache : ℕ) (book : Kept) : Type 0 where
   pub opening : book.opening ≡ map.empty
   pub history : book.history ≡ []
   pub state : book.core.state ≡ new_state ranks
-  pub places : book.core.ranks ≡ new_caches ranks cache
+  pub places : book.core.caches ≡ new_caches ranks cache
   pub sound : IsSoundBook book
   pub faults : book.core.faults ≡ 0
 

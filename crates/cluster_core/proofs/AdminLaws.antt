@@ -4,8 +4,7 @@ use Rattle.mds_types.specs.declared.ids.Ino.{Ino}
 use Rattle.mds_types.specs.declared.ids.Rank.{Rank}
 use Rattle.mds_types.specs.Frag.{Fragment}
 use Rattle.inode_table.specs.Dirs.{Covers, Homes}
-use Rattle.mdcache.specs.Core.{Core}
-use Rattle.mdcache.specs.Core.{LacksPlacesAt}
+use Rattle.mdcache.specs.Core.{Core, LacksPlacesAt, state_of as tree_state}
 use Rattle.subtree_map.specs.Authority.{Leaf, Roots}
 use Rattle.subtree_map.specs.Changes.{HaveOneAuthority}
 use Rattle.subtree_map.proofs.Nearest.{one_authority}
@@ -18,8 +17,8 @@ one_of_all homes covers roots dir f rank all one other a b inside its live lives
     one_authority roots homes covers one a rank has (all one live inside) ∙ sym (one_authority roots homes covers other b rank rules (all other lives its))
 
 -- the rank that holds a leaf is its authority: places lack at that one
-pub lacks_here : (count : ℕ) (core : Core) (roots : Roots) (leaf : Leaf) (rank : Rank) → Rules core.state roots leaf rank → LacksPlacesFor count core roots leaf → LacksPlacesAt count core rank
-lacks_here count core roots leaf rank mine (other, its, lacks) = subst (λ (r : Rank). LacksPlacesAt count core r) (one_authority roots core.state.homes core.state.covers leaf other rank its mine) lacks
+pub lacks_here : (count : ℕ) (core : Core) (roots : Roots) (leaf : Leaf) (rank : Rank) → Rules (tree_state core) roots leaf rank → LacksPlacesFor count core roots leaf → LacksPlacesAt count core rank
+lacks_here count core roots leaf rank mine (other, its, lacks) = subst (λ (r : Rank). LacksPlacesAt count core r) (one_authority roots core.homes core.covers leaf other rank its mine) lacks
 
-pub lacks_inside : (count : ℕ) (core : Core) (roots : Roots) (dir : Ino) (f : Fragment) (rank : Rank) → AllHave core.state.homes core.state.covers roots dir f rank → LacksPlacesInside count core roots dir f → LacksPlacesAt count core rank
+pub lacks_inside : (count : ℕ) (core : Core) (roots : Roots) (dir : Ino) (f : Fragment) (rank : Rank) → AllHave core.homes core.covers roots dir f rank → LacksPlacesInside count core roots dir f → LacksPlacesAt count core rank
 lacks_inside count core roots dir f rank all (leaf, live, inside, lacks) = lacks_here count core roots leaf rank (all leaf live inside) lacks

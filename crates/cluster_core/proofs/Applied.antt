@@ -15,12 +15,11 @@ use Rattle.mds_types.proofs.HistoryLaws.{after-push, legal-push, used-push}
 use Rattle.inboxes.specs.Inboxes.{with_waiting}
 use Rattle.inode_table.specs.Numbers.{Supply, IsSupply, offer, first_number, end_number}
 use Rattle.sessions.proofs.TableLaws.{table-push}
-use Rattle.mdcache.specs.Cached.{IsKept}
 use Rattle.cluster_core.specs.State.{Core, State, no_supply, shown, supply_of}
 use Rattle.cluster_core.specs.declared.events.Answer.{Answer}
 use Rattle.cluster_core.specs.Offer.{after_taking}
 use Rattle.cluster_core.specs.Serve.{IsApplied, entry_of, number_of, outcome_of, with_entry}
-use Rattle.cluster_core.specs.Sound.{AreCached, AreSupplied, IsFresh, IsSound, IsSupplied}
+use Rattle.cluster_core.specs.Sound.{AreCached, AreSupplied, IsFresh, IsKept, IsSound, IsSupplied}
 use Rattle.ranked_tree.specs.Subtrees.{KeepsRoots}
 
 -- what an offer of a number comes to: the table took it, or it took none and the outcome is that of any number
@@ -133,7 +132,7 @@ module _ (opening : Tree) (past : List Entry) (numbers : List Supply) (rank : �
 
 -- a book stays sound where a request is applied
 pub sound-applied : (opening : Tree) (past now : List Entry) (old new : Core) (rank : Rank) (request : Request) (rest : List Request) (answer : Answer)
-    → rank.0 < length old.state.numbers → IsSound opening past old → IsKept new.state.tree new.cache → AreCached new → length new.ranks ≡ length old.ranks → KeepsRoots old.state.tree new.state.tree old.state.roots new.state.roots
+    → rank.0 < length old.state.numbers → IsSound opening past old → IsKept new.state.tree new.caches → AreCached new → length new.caches.used ≡ length old.caches.used → KeepsRoots old.state.tree new.state.tree old.state.roots new.state.roots
     → IsApplied old.state new.state past now rank request rest answer → IsSound opening now new
 sound-applied opening past now old new rank request rest answer there sound tree cached count kept done =
     let before = old.state in

@@ -1,5 +1,5 @@
 -- A request that is neither taken in nor forwarded tells no fault.
-use Rattle.std.specs.Prelude.{◌≡◌, ◌⊎◌, List, [], ◌∷◌, Result, Err}
+use Rattle.std.specs.Prelude.{◌≡◌, List, [], ◌∷◌, Result, Err}
 use Rattle.std.proofs.Common.{inl, inr, ap}
 use Rattle.std.specs.Result.{result_err}
 use Rattle.mds_types.specs.declared.ids.Rank.{Rank}

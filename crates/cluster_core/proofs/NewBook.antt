@@ -1,20 +1,18 @@
 -- A book begins sound.
-use Rattle.std.proofs.Common.{◌≡◌, ℕ, zero, suc, ◌+◌, ◌^◌, ◌<◌, ◌≤◌, inl, inr, [], ◌∷◌, replicate, map, length, get_or, refl, sym, ap, subst, ◌∙◌, arith}
+use Rattle.std.proofs.Common.{◌≡◌, ℕ, zero, suc, ◌+◌, ◌^◌, ◌<◌, ◌≤◌, inl, inr, [], replicate, map, length, get_or, refl, sym, ap, subst, ◌∙◌, arith}
 use Rattle.std.specs.FinMap as finmap
 use Rattle.std.proofs.lemmas.List.{length-replicate, length-set}
-use Rattle.lru.specs.LruCache.{lru_cache}
 use Rattle.mds_types.specs.Tree.{numbers}
 use Rattle.mds_types.proofs.TreeLaws.{entries-empty}
 use Rattle.mds_types.specs.History.{IsUsed}
 use Rattle.inode_table.specs.Numbers.{Supply, first_number}
-use Rattle.mdcache.specs.Cached.{IsKept}
-use Rattle.dentry_cache.specs.Cache.{held}
-use Rattle.mdcache.specs.New.{cached_root, new_caches, root_leaf}
+use Rattle.dentry_cache.specs.CacheMap.{first, no_caches, order}
+use Rattle.mdcache.specs.New.{new_caches, root_leaf}
 use Rattle.mdcache.proofs.NewLaws.{new_tree}
 use Rattle.ranked_tree.proofs.NewLaws.{new_are_roots}
 use Rattle.sessions.proofs.TableLaws.{table-none}
 use Rattle.cluster_core.specs.State.{Core, new_state, no_supply, shown, whole_supplies}
-use Rattle.cluster_core.specs.Sound.{AreCached, AreSupplied, IsSound, IsSupplied}
+use Rattle.cluster_core.specs.Sound.{AreCached, AreSupplied, IsKept, IsSound, IsSupplied}
 
 -- no number of a rank is used in an empty book
 unused-empty : (n : ℕ) → 2 ^ 40 ≤ n → IsUsed finmap.empty [] n → ⊥
@@ -50,7 +48,7 @@ all_supplied ranks most k below =
     })
 
 -- a new book is sound
-pub sound-empty : (core : Core) (ranks : ℕ) → 1 ≤ ranks → ranks ≤ 16 → core.state ≡ new_state ranks → IsKept core.state.tree core.cache → AreCached core → length core.ranks ≡ ranks → IsSound finmap.empty [] core
+pub sound-empty : (core : Core) (ranks : ℕ) → 1 ≤ ranks → ranks ≤ 16 → core.state ≡ new_state ranks → IsKept core.state.tree core.caches → AreCached core → length core.caches.used ≡ ranks → IsSound finmap.empty [] core
 sound-empty core ranks some most is tree cached count = record {
   legal = λ k e below. absurd (omega arith);
   replayed = ap shown is ∙ new_tree;
@@ -67,5 +65,5 @@ sound-empty core ranks some most is tree cached count = record {
 }
 
 -- the caches of a new book are as many as its ranks
-pub new_count : (ranks places : ℕ) → length (new_caches ranks places) ≡ ranks
-new_count ranks places = length-set (replicate ranks (lru_cache [] places)) 0 (lru_cache ((root_leaf, held cached_root) ∷ []) places) ∙ length-replicate ranks (lru_cache [] places)
+pub new_count : (ranks places : ℕ) → length (new_caches ranks places).used ≡ ranks
+new_count ranks places = length-set (replicate ranks []) 0 (first root_leaf (order (no_caches ranks places) 0)) ∙ length-replicate ranks []

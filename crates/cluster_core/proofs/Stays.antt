@@ -48,7 +48,7 @@ module _ (old new : State) (past now : List Entry) (valid : AreRoots old.tree ol
 -- an eviction leaves the whole state
 pub evicted_keeps : (old new : Core) (past now : List Entry) (rank : Rank) (result : Result Answer Refusal) → AreRoots old.state.tree old.state.roots → AdministersTree old.state new.state past now nothing (EvictsOne old new rank) result
     → KeepsRoots old.state.tree new.state.tree old.state.roots new.state.roots
-evicted_keeps old new past now rank (Ok answer) valid h = keeps_same old.state.tree new.state.tree old.state.roots new.state.roots (ap (λ (s : State). s.tree) h.0.2.2) h.1 valid
+evicted_keeps old new past now rank (Ok answer) valid h = keeps_same old.state.tree new.state.tree old.state.roots new.state.roots (ap (λ (s : State). s.tree) h.0.2.1) h.1 valid
 evicted_keeps old new past now rank (Err reason) valid h = keeps_same old.state.tree new.state.tree old.state.roots new.state.roots (ap (λ (s : State). s.tree) h.0.1.left) h.1 valid
 
 -- at a rank that isn't there all is left

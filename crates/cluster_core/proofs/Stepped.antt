@@ -10,7 +10,6 @@ use Rattle.mds_types.specs.declared.operations.Op.{Op}
 use Rattle.mds_types.specs.Tree.{Tree}
 use Rattle.inboxes.specs.declared.pins.Pin.{Pin}
 use Rattle.inboxes.specs.Inboxes.{Inboxes, first_waiting, waiting_at, with_waiting}
-use Rattle.mdcache.specs.Cached.{IsKept}
 use Rattle.cluster_core.specs.declared.events.Answer.{Answer}
 use Rattle.cluster_core.specs.declared.events.Event.{Event}
 use Rattle.cluster_core.specs.declared.events.Event.TheVariants.{Arrive, Grant, Serve, Split, Merge, CommitBegin, CommitEnd, CommitDrop, CommitTree, Purge, Evict}
@@ -21,12 +20,12 @@ use Rattle.cluster_core.specs.Administers.{Administers, BeginsAt, EvictsOne, IsU
 use Rattle.cluster_core.specs.State.{Core, State, shown}
 use Rattle.cluster_core.specs.Serve.{IsForwarded, IsLeft, IsTakenOut, ServesRequest, ServesInbox}
 use Rattle.cluster_core.specs.Steps.{ArrivesAt, Does, MayRefuse}
-use Rattle.cluster_core.specs.Sound.{AreCached, IsSound}
+use Rattle.cluster_core.specs.Sound.{AreCached, IsKept, IsSound}
 use Rattle.ranked_tree.specs.Subtrees.{KeepsRoots}
 use Rattle.cluster_core.proofs.Applied.{sound-applied}
 use Rattle.cluster_core.proofs.Offered.{there_of}
 
-module _ (opening : Tree) (past now : List Entry) (old new : Core) (sound : IsSound opening past old) (tree : IsKept new.state.tree new.cache) (cached : AreCached new) (count : length new.ranks ≡ length old.ranks)
+module _ (opening : Tree) (past now : List Entry) (old new : Core) (sound : IsSound opening past old) (tree : IsKept new.state.tree new.caches) (cached : AreCached new) (count : length new.caches.used ≡ length old.caches.used)
     (kept : KeepsRoots old.state.tree new.state.tree old.state.roots new.state.roots) where
   -- the same history, and the same tree, numbers and sessions: what the inboxes have has no part in it
   sound-same : now ≡ past → shown new.state ≡ shown old.state → new.state.numbers ≡ old.state.numbers → length new.state.inboxes ≡ length old.state.inboxes → new.state.sessions ≡ old.state.sessions → IsSound opening now new

@@ -10,7 +10,8 @@ use Rattle.mds_types.specs.Frag.{Fragment}
 use Rattle.mds_types.specs.Tree.{is_directory}
 use Rattle.fragtree.specs.FragTree.{CanMerge, CanSplit, RefusesMerge, RefusesSplit}
 use Rattle.commit_jobs.specs.declared.jobs.Job.{Job as Begun}
-use Rattle.dentry_cache.specs.Cache.{Evicts, Leaf, NoneGoes}
+use Rattle.dentry_cache.specs.Cache.{Leaf}
+use Rattle.dentry_cache.specs.CacheMap.{evicted}
 use Rattle.inboxes.specs.declared.pins.Pin.{Pin}
 use Rattle.inboxes.specs.Pins.{is_on}
 use Rattle.inode_table.specs.Dirs.{Covers, Homes, IsLive, is_known, leaves_of}
@@ -19,10 +20,9 @@ use Rattle.mdcache.specs.Commits.{Begins, Drops, Ends}
 use Rattle.mdcache.specs.Objects.{Purges, SavesTree}
 use Rattle.mdcache.specs.Regroups.{MayNotRegroup}
 use Rattle.mdcache.specs.Splits.{IsMergedInto, IsSplitInto}
-use Rattle.dentry_cache.specs.Caches.{with_cache}
 use Rattle.cluster_core.specs.declared.events.Answer.{Answer}
 use Rattle.cluster_core.specs.declared.events.Answer.TheVariants.{Job, Nothing}
-use Rattle.cluster_core.specs.State.{Core, LacksPlacesAt, State, cache_of, shown}
+use Rattle.cluster_core.specs.State.{Core, LacksPlacesAt, State, shown}
 use Rattle.cluster_core.specs.Master.{IsAuthority}
 use Rattle.cluster_core.specs.Serve.{IsLeft}
 use Rattle.ranked_tree.specs.Subtrees.{AllHave}
@@ -145,8 +145,8 @@ PurgesObject old new past now result = AdministersTree old.state new.state past 
 -- the least recently used of the clean fragments that a rank caches is no longer cached, and all else is as it was, the caches of the other
 -- ranks too; refused exactly where none is clean
 abbrev pub EvictsOne : (old new : Core) → Rank → Result (Unit {0}) Refusal → Type 0
-EvictsOne old new rank (Ok done) = Evicts None (cache_of old rank) (cache_of new rank) × (new.ranks ≡ with_cache old.ranks rank (cache_of new rank)) × (new.state ≡ old.state)
-EvictsOne old new rank (Err reason) = (reason ≡ NothingToEvict) × NoneGoes None (cache_of old rank).entries × (new.ranks ≡ old.ranks)
+EvictsOne old new rank (Ok done) = (evicted old.caches rank.0 None ≡ Some new.caches) × (new.state ≡ old.state)
+EvictsOne old new rank (Err reason) = (reason ≡ NothingToEvict) × (evicted old.caches rank.0 None ≡ None) × (new.caches ≡ old.caches)
 
 abbrev pub EvictsFragment : (old new : Core) → (past now : List Entry) → Rank → Result Answer Refusal → Type 0
 EvictsFragment old new past now rank result = AdministersTree old.state new.state past now nothing (EvictsOne old new rank) result

@@ -3,11 +3,12 @@ use Rattle.std.specs.Prelude.{◌≡◌, Some}
 use Rattle.std.specs.FinMap as map
 use Rattle.mds_types.specs.declared.ids.Rank.{Rank}
 use Rattle.cached_frag.specs.Cached.{Cached}
-use Rattle.dentry_cache.specs.Cache.{HasCached, Leaf, Unsaved, cached, unsaved_of}
+use Rattle.dentry_cache.specs.Cache.{HasCached, Leaf, Unsaved, unsaved_of}
+use Rattle.dentry_cache.specs.CacheMap.{here}
 use Rattle.cluster_core.specs.Master.{IsAuthority}
-use Rattle.cluster_core.specs.State.{Core, cache_of}
+use Rattle.cluster_core.specs.State.{Core}
 
 -- a rank caches only what it holds; and a fragment that isn't clean lies, as it stands, in the cache of its authority
 pub record LieAtAuthority (core : Core) : Type 0 where
-  pub held : (rank : Rank) (leaf : Leaf) (f : Cached) → cached (cache_of core rank).entries leaf ≡ Some f → IsAuthority core.state leaf rank
-  pub unclean : (leaf : Leaf) (u : Unsaved) (rank : Rank) → map.get core.state.tree.unsaved leaf ≡ Some u → IsAuthority core.state leaf rank → HasCached (cached (cache_of core rank).entries leaf) (λ (f : Cached). unsaved_of f ≡ Some u)
+  pub held : (rank : Rank) (leaf : Leaf) (f : Cached) → here core.caches rank.0 leaf ≡ Some f → IsAuthority core.state leaf rank
+  pub unclean : (leaf : Leaf) (u : Unsaved) (rank : Rank) → map.get core.state.tree.unsaved leaf ≡ Some u → IsAuthority core.state leaf rank → HasCached (here core.caches rank.0 leaf) (λ (f : Cached). unsaved_of f ≡ Some u)

@@ -1,13 +1,16 @@
 -- What every book keeps.
-use Rattle.std.specs.Prelude.{◌≡◌, ℕ, ◌<◌, ◌≤◌, List, get_or, length}
+use Rattle.std.specs.Prelude.{◌≡◌, ℕ, ◌<◌, ◌≤◌, List, Option, get_or, length}
 use Rattle.mds_types.specs.declared.entries.Entry.{Entry}
+use Rattle.mds_types.specs.declared.ids.Rank.{Rank}
 use Rattle.mds_types.specs.Tree.{Tree}
 use Rattle.mds_types.specs.History.{after, IsLegal, IsUsed}
 use Rattle.inode_table.specs.Numbers.{Supply, IsSupply, first_number, end_number}
-use Rattle.dentry_cache.specs.Cache.{unsaved}
-use Rattle.dentry_cache.specs.Caches.{all_of}
-use Rattle.mdcache.specs.Cached.{IsKept}
-use Rattle.mdcache.specs.Ranks.{AreRanks as AreCaches}
+use Rattle.dentry_cache.specs.Cache.{Leaf}
+use Rattle.dentry_cache.specs.CacheMap.{CacheMap, unclean}
+use Rattle.mdcache.specs.Core.{AreCached as AreCachedIn}
+use Rattle.mdcache.specs.Ranks.{KeepsOnlyAt}
+use Rattle.mdcache.specs.Sound.{IsSound as IsSoundTree}
+use Rattle.mdcache.specs.State.{State as TreeState}
 use Rattle.sessions.specs.Table.{IsTableOf}
 use Rattle.cluster_core.specs.State.{Core, Kept, no_supply, shown}
 use Rattle.ranked_tree.specs.Held.{AreHeld}
@@ -31,15 +34,20 @@ AreSupplied opening history numbers = (rank : ℕ) → rank < length numbers →
 pub record AreRanks (core : Core) : Type 0 where
   pub some : 0 < length core.state.numbers
   pub inboxes : length core.state.inboxes ≡ length core.state.numbers
-  pub caches : length core.ranks ≡ length core.state.numbers
+  pub caches : length core.caches.used ≡ length core.state.numbers
 
--- the places of all ranks are those of each; what isn't clean is what their fragments have beyond their objects; no leaf has places at two ranks,
--- and all have as many places; and a rank caches only what it is the authority of
+-- the tree is sound; and each cached fragment is a live leaf, is tied to its object, and has a generation that was given out
+pub record IsKept (tree : TreeState) (caches : CacheMap) : Type 0 where
+  pub sound : IsSoundTree tree
+  pub begun : 0 < tree.next_generation
+  pub cached : AreCachedIn tree caches
+
+-- what isn't clean is what the ranks' fragments have beyond their objects; each place is that of a fragment which the rank has, but for one
+-- that may be kept for a fragment which will be made, so no leaf has places at two ranks; and a rank caches only what it is the authority of
 pub record AreCached (core : Core) : Type 0 where
-  pub whole : core.cache ≡ all_of core.ranks
-  pub unsaved : core.state.tree.unsaved ≡ unsaved core.cache.entries
-  pub ranked : AreCaches core.ranks
-  pub held : AreHeld core.state.tree core.ranks core.state.roots
+  pub unsaved : core.state.tree.unsaved ≡ unclean core.caches
+  pub places : (kept : Option (Rank × Leaf)) × KeepsOnlyAt kept core.caches
+  pub held : AreHeld core.state.tree core.caches core.state.roots
 
 -- the history is legal from the opening tree, and the shown tree is the tree after it; the tree is sound, and each cached fragment is a
 -- live leaf, tied to its object; each leaf of the root directory is a subtree root, and only leaves are; each rank caches what it holds; no
@@ -47,7 +55,7 @@ pub record AreCached (core : Core) : Type 0 where
 pub record IsSound (opening : Tree) (history : List Entry) (core : Core) : Type 0 where
   pub legal : IsLegal opening history
   pub replayed : shown core.state ≡ after opening history
-  pub tree : IsKept core.state.tree core.cache
+  pub tree : IsKept core.state.tree core.caches
   pub subtrees : AreRoots core.state.tree core.state.roots
   pub cached : AreCached core
   pub ranks : AreRanks core

@@ -4,12 +4,11 @@ use Rattle.std.specs.FinMap as map
 use Rattle.mds_types.specs.declared.entries.Entry.{Entry}
 use Rattle.mds_types.specs.declared.ids.Rank.{Rank}
 use Rattle.mds_types.specs.Tree.{Tree}
-use Rattle.dentry_cache.specs.Cache.{Held, unsaved}
-use Rattle.dentry_cache.specs.Caches.{Caches, cache_of as cache_at}
+use Rattle.dentry_cache.specs.CacheMap.{CacheMap, unclean_of}
 use Rattle.inboxes.specs.Inboxes.{Inboxes}
 use Rattle.inboxes.specs.declared.pins.Pin.{Pin}
 use Rattle.inode_table.specs.Numbers.{Supply, first_number}
-use Rattle.mdcache.specs.Core.{Core as TreeCore}
+use Rattle.mdcache.specs.Core.{Core as TreeCore, state_of as tree_state}
 pub use Rattle.mdcache.specs.New.{new_caches}
 use Rattle.mdcache.specs.New.{new_state as new_tree}
 use Rattle.ranked_tree.specs.Ranked.{new_roots}
@@ -29,12 +28,11 @@ pub record State : Type 0 where
   pub pins : List Pin
   pub sessions : Table
 
--- a cluster: its state; the caches of its ranks with their places in the order of use, the places of all, and how many faults its store had,
--- which a refused step may change
+-- a cluster: its state; and the caches of its ranks, with the order in which each used its leaves, and how many faults its store had, which a
+-- refused step may change
 pub record Core : Type 0 where
   pub state : State
-  pub ranks : Caches
-  pub cache : Held
+  pub caches : CacheMap
   pub faults : ℕ
 
 -- a book: a cluster, the history of what it answered, and the tree that it opened with
@@ -47,17 +45,13 @@ pub record Kept : Type 0 where
 abbrev pub shown : State → Tree
 shown state = shown_tree state.tree
 
--- a rank's cache
-abbrev pub cache_of : Core → Rank → Held
-cache_of core rank = cache_at core.ranks rank
-
 -- fewer than so many places of a rank's cache are free or can become so: each other one is that of a fragment that isn't clean
 abbrev pub LacksPlacesAt : ℕ → Core → Rank → Type 0
-LacksPlacesAt count core rank = core.cache.cap < map.len (unsaved (cache_of core rank).entries) + count
+LacksPlacesAt count core rank = core.caches.cap < map.len (unclean_of core.caches rank.0) + count
 
 -- so it is with one of the ranks
 abbrev pub LacksPlaces : ℕ → Core → Type 0
-LacksPlaces count core = (rank : Rank) × (rank.0 < length core.ranks) × LacksPlacesAt count core rank
+LacksPlaces count core = (rank : Rank) × (rank.0 < length core.caches.used) × LacksPlacesAt count core rank
 
 -- a supply that has nothing left, of a rank that isn't there
 abbrev pub no_supply : Supply
@@ -72,7 +66,7 @@ abbrev pub state_of : TreeState → Roots → List Supply → Inboxes → List P
 state_of tree roots numbers inboxes pins sessions = record { tree = tree; roots = roots; numbers = numbers; inboxes = inboxes; pins = pins; sessions = sessions }
 
 abbrev pub core_of : TreeCore → Roots → List Supply → Inboxes → List Pin → Table → Core
-core_of tree roots numbers inboxes pins sessions = record { state = state_of tree.state roots numbers inboxes pins sessions; ranks = tree.ranks; cache = tree.cache; faults = tree.faults }
+core_of tree roots numbers inboxes pins sessions = record { state = state_of (tree_state tree) roots numbers inboxes pins sessions; caches = tree.caches; faults = tree.faults }
 
 -- the whole range of numbers for each of so many ranks, from this one on
 abbrev pub whole_supplies : ℕ → ℕ → List Supply

@@ -59,6 +59,6 @@ Does old new past now result (Evict rank) = AtRank old.state new.state past now 
 pub record Steps (old new : Core) (past now : List Entry) (result : Result Answer Refusal) (event : Event) : Type 0 where
   pub does : Does old new past now result event
   pub authorities : KeepsAuthorities old.state.tree new.state.tree old.state.roots new.state.roots
-  pub ranks : length new.ranks ≡ length old.ranks
-  pub capacity : new.cache.cap ≡ old.cache.cap
+  pub ranks : length new.caches.used ≡ length old.caches.used
+  pub capacity : new.caches.cap ≡ old.caches.cap
   pub counted : new.faults ≡ old.faults + faults_told (result_err result)

@@ -6,6 +6,7 @@ ghost use Rattle.mds_types.specs.declared.entries.Entry.{Entry as Applied};
 ghost use Rattle.inboxes.specs.Inboxes.{Inboxes as Waiting};
 ghost use Rattle.inboxes.specs.declared.pins.Pin.{Pin as Granted};
 ghost use Rattle.inode_table.specs.Numbers.{Supply};
+ghost use Rattle.mdcache.specs.Core.{state_of as tree_state};
 ghost use Rattle.sessions.specs.Table.{Table};
 ghost use Rattle.cluster_core.specs.State.{core_of};
 ghost use Rattle.ranked_tree.specs.Subtrees.{AreRoots, KeepsRoots};
@@ -35,8 +36,8 @@ impl<S: Store + Drop> Cluster<S> {
         requires { AreRoots self.old.state.tree self.old.state.roots }
         ensures split { (past : List Applied) → AtRank self.old.state self.new.state past past rank result (Splits self.old self.new past past rank ino frag bits result) }
         ensures kept { KeepsRoots self.old.state.tree self.new.state.tree self.old.state.roots self.new.state.roots }
-        ensures count { length self.new.ranks ≡ length self.old.ranks }
-        ensures cap { self.new.cache.cap ≡ self.old.cache.cap }
+        ensures count { length self.new.caches.used ≡ length self.old.caches.used }
+        ensures cap { self.new.caches.cap ≡ self.old.caches.cap }
         ensures counted { self.new.faults ≡ self.old.faults + faults_told (result_err result) }
     {
         if !self.is_rank(rank) {
@@ -56,8 +57,8 @@ impl<S: Store + Drop> Cluster<S> {
         requires { AreRoots self.old.state.tree self.old.state.roots }
         ensures merged { (past : List Applied) → AtRank self.old.state self.new.state past past rank result (Merges self.old self.new past past rank ino frag result) }
         ensures kept { KeepsRoots self.old.state.tree self.new.state.tree self.old.state.roots self.new.state.roots }
-        ensures count { length self.new.ranks ≡ length self.old.ranks }
-        ensures cap { self.new.cache.cap ≡ self.old.cache.cap }
+        ensures count { length self.new.caches.used ≡ length self.old.caches.used }
+        ensures cap { self.new.caches.cap ≡ self.old.caches.cap }
         ensures counted { self.new.faults ≡ self.old.faults + faults_told (result_err result) }
     {
         if !self.is_rank(rank) {
@@ -74,8 +75,8 @@ impl<S: Store + Drop> Cluster<S> {
         frag: Frag,
     ) -> Result<Answer, Refusal>
         ensures begun { (past : List Applied) → AtRank self.old.state self.new.state past past rank result (BeginsCommit self.old self.new past past rank (ino, frag) result) }
-        ensures count { length self.new.ranks ≡ length self.old.ranks }
-        ensures cap { self.new.cache.cap ≡ self.old.cache.cap }
+        ensures count { length self.new.caches.used ≡ length self.old.caches.used }
+        ensures cap { self.new.caches.cap ≡ self.old.caches.cap }
         ensures counted { self.new.faults ≡ self.old.faults + faults_told (result_err result) }
     {
         if !self.is_rank(rank) {
@@ -87,8 +88,8 @@ impl<S: Store + Drop> Cluster<S> {
     // A commit ends: what was encoded is written.
     pub(crate) fn end_commit(&mut self, alloc: Global, encoded: &Encoded) -> Result<Answer, Refusal>
         ensures ended { (past : List Applied) → EndsCommit self.old self.new past past encoded.now.job result }
-        ensures count { length self.new.ranks ≡ length self.old.ranks }
-        ensures cap { self.new.cache.cap ≡ self.old.cache.cap }
+        ensures count { length self.new.caches.used ≡ length self.old.caches.used }
+        ensures cap { self.new.caches.cap ≡ self.old.caches.cap }
         ensures counted { self.new.faults ≡ self.old.faults + faults_told (result_err result) }
     {
         if let Err(refusal) = self.tree.end(alloc, encoded) {
@@ -100,8 +101,8 @@ impl<S: Store + Drop> Cluster<S> {
     // A commit is given up.
     pub(crate) fn drop_commit(&mut self, job: u64) -> Result<Answer, Refusal>
         ensures dropped { (past : List Applied) → DropsCommit self.old self.new past past job result }
-        ensures count { length self.new.ranks ≡ length self.old.ranks }
-        ensures cap { self.new.cache.cap ≡ self.old.cache.cap }
+        ensures count { length self.new.caches.used ≡ length self.old.caches.used }
+        ensures cap { self.new.caches.cap ≡ self.old.caches.cap }
         ensures counted { self.new.faults ≡ self.old.faults + faults_told (result_err result) }
     {
         if let Err(refusal) = self.tree.drop_job(job) {
@@ -113,8 +114,8 @@ impl<S: Store + Drop> Cluster<S> {
     // The object of a directory's tree is written, or removed.
     pub(crate) fn commit_tree(&mut self, alloc: Global, ino: Ino) -> Result<Answer, Refusal>
         ensures saved { (past : List Applied) → CommitsTree self.old self.new past past ino result }
-        ensures count { length self.new.ranks ≡ length self.old.ranks }
-        ensures cap { self.new.cache.cap ≡ self.old.cache.cap }
+        ensures count { length self.new.caches.used ≡ length self.old.caches.used }
+        ensures cap { self.new.caches.cap ≡ self.old.caches.cap }
         ensures counted { self.new.faults ≡ self.old.faults + faults_told (result_err result) }
     {
         if let Err(refusal) = self.tree.commit_tree(alloc, ino) {
@@ -126,8 +127,8 @@ impl<S: Store + Drop> Cluster<S> {
     // The first object of the purge list is removed.
     pub(crate) fn purge(&mut self) -> Result<Answer, Refusal>
         ensures purged { (past : List Applied) → PurgesObject self.old self.new past past result }
-        ensures count { length self.new.ranks ≡ length self.old.ranks }
-        ensures cap { self.new.cache.cap ≡ self.old.cache.cap }
+        ensures count { length self.new.caches.used ≡ length self.old.caches.used }
+        ensures cap { self.new.caches.cap ≡ self.old.caches.cap }
         ensures counted { self.new.faults ≡ self.old.faults + faults_told (result_err result) }
     {
         if let Err(refusal) = self.tree.purge() {
@@ -138,10 +139,10 @@ impl<S: Store + Drop> Cluster<S> {
 
     // The least recently used clean fragment of a rank's cache goes.
     pub(crate) fn evict(&mut self, rank: Rank) -> Result<Answer, Refusal>
-        requires { length self.old.ranks ≡ length self.old.state.inboxes }
+        requires { length self.old.caches.used ≡ length self.old.state.inboxes }
         ensures evicted { (past : List Applied) → AtRank self.old.state self.new.state past past rank result (EvictsFragment self.old self.new past past rank result) }
-        ensures count { length self.new.ranks ≡ length self.old.ranks }
-        ensures cap { self.new.cache.cap ≡ self.old.cache.cap }
+        ensures count { length self.new.caches.used ≡ length self.old.caches.used }
+        ensures cap { self.new.caches.cap ≡ self.old.caches.cap }
         ensures counted { self.new.faults ≡ self.old.faults + faults_told (result_err result) }
     {
         if !self.is_rank(rank) {
@@ -164,11 +165,11 @@ fn split_at<S: Store + Drop>(
     frag: Frag,
     bits: u8,
 ) -> Result<Answer, Refusal>
-    requires { AreRoots tree.old.tree.state tree.old.subtrees.roots }
+    requires { AreRoots (tree_state tree.old.tree) tree.old.subtrees.roots }
     ensures split { (numbers : List Supply) (inboxes : Waiting) (sessions : Table) (past : List Applied) → Splits (core_of tree.old.tree tree.old.subtrees.roots numbers inboxes pins.now sessions) (core_of tree.new.tree tree.new.subtrees.roots numbers inboxes pins.now sessions) past past rank ino frag bits result }
-    ensures kept { KeepsRoots tree.old.tree.state tree.new.tree.state tree.old.subtrees.roots tree.new.subtrees.roots }
-    ensures count { length tree.new.tree.ranks ≡ length tree.old.tree.ranks }
-    ensures cap { tree.new.tree.cache.cap ≡ tree.old.tree.cache.cap }
+    ensures kept { KeepsRoots (tree_state tree.old.tree) (tree_state tree.new.tree) tree.old.subtrees.roots tree.new.subtrees.roots }
+    ensures count { length tree.new.tree.caches.used ≡ length tree.old.tree.caches.used }
+    ensures cap { tree.new.tree.caches.cap ≡ tree.old.tree.caches.cap }
     ensures counted { tree.new.tree.faults ≡ tree.old.tree.faults + faults_told (result_err result) }
 {
     if let Err(refusal) = tree.check_split(ino, frag, bits) {
@@ -195,11 +196,11 @@ fn merge_at<S: Store + Drop>(
     ino: Ino,
     frag: Frag,
 ) -> Result<Answer, Refusal>
-    requires { AreRoots tree.old.tree.state tree.old.subtrees.roots }
+    requires { AreRoots (tree_state tree.old.tree) tree.old.subtrees.roots }
     ensures merged { (numbers : List Supply) (inboxes : Waiting) (sessions : Table) (past : List Applied) → Merges (core_of tree.old.tree tree.old.subtrees.roots numbers inboxes pins.now sessions) (core_of tree.new.tree tree.new.subtrees.roots numbers inboxes pins.now sessions) past past rank ino frag result }
-    ensures kept { KeepsRoots tree.old.tree.state tree.new.tree.state tree.old.subtrees.roots tree.new.subtrees.roots }
-    ensures count { length tree.new.tree.ranks ≡ length tree.old.tree.ranks }
-    ensures cap { tree.new.tree.cache.cap ≡ tree.old.tree.cache.cap }
+    ensures kept { KeepsRoots (tree_state tree.old.tree) (tree_state tree.new.tree) tree.old.subtrees.roots tree.new.subtrees.roots }
+    ensures count { length tree.new.tree.caches.used ≡ length tree.old.tree.caches.used }
+    ensures cap { tree.new.tree.caches.cap ≡ tree.old.tree.caches.cap }
     ensures counted { tree.new.tree.faults ≡ tree.old.tree.faults + faults_told (result_err result) }
 {
     if let Err(refusal) = tree.check_merge(ino, frag) {
@@ -225,8 +226,8 @@ fn begin_at<S: Store + Drop>(
     frag: Frag,
 ) -> Result<Answer, Refusal>
     ensures begun { (numbers : List Supply) (inboxes : Waiting) (pins : List Granted) (sessions : Table) (past : List Applied) → BeginsCommit (core_of tree.old.tree tree.old.subtrees.roots numbers inboxes pins sessions) (core_of tree.new.tree tree.new.subtrees.roots numbers inboxes pins sessions) past past rank (ino, frag) result }
-    ensures count { length tree.new.tree.ranks ≡ length tree.old.tree.ranks }
-    ensures cap { tree.new.tree.cache.cap ≡ tree.old.tree.cache.cap }
+    ensures count { length tree.new.tree.caches.used ≡ length tree.old.tree.caches.used }
+    ensures cap { tree.new.tree.caches.cap ≡ tree.old.tree.caches.cap }
     ensures faults { tree.new.tree.faults ≡ tree.old.tree.faults }
     ensures counted { tree.new.tree.faults ≡ tree.old.tree.faults + faults_told (result_err result) }
 {

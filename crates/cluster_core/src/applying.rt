@@ -12,6 +12,7 @@ ghost use Rattle.namespace_ops.specs.Planned.{IsReadyToChange, after_plan};
 ghost use Rattle.namespace_ops.specs.Served.{IsRefused};
 ghost use Rattle.sessions.specs.Table.{noted, trimmed};
 ghost use Rattle.sessions.specs.Rooms.{IsReady, table};
+ghost use Rattle.mdcache.specs.Core.{state_of as tree_state};
 ghost use Rattle.mdcache.specs.Made.{IsUntouched};
 ghost use Rattle.mdcache.specs.Shown.{shown_tree};
 ghost use Rattle.cluster_core.specs.Serve.{CarryLeaves, FollowPlanned, MakesPlanned, without_gone, went_with};
@@ -132,19 +133,19 @@ pub fn commit<S: Store + Drop>(
     request: Request,
     prepared: Prepared,
 ) -> Answer
-    requires ready { IsReadyToChange (shown_tree tree.old.tree.state) tree.old.tree.state.covers (IsReadyIn tree.old) prepared.plan.change }
+    requires ready { IsReadyToChange (shown_tree (tree_state tree.old.tree)) tree.old.tree.covers (IsReadyIn tree.old) prepared.plan.change }
     requires room { vec_len history.old < vec_capacity history.old }
     requires reserved { IsReady sessions.old request.client }
     requires there { rank.0 < length numbers.old.items }
-    ensures tree { shown_tree tree.new.tree.state ≡ after_plan (shown_tree tree.old.tree.state) prepared.plan.change }
-    ensures made { MakesPlanned prepared.plan.change tree.old.tree.state tree.new.tree.state }
-    ensures leaves { CarryLeaves (shown_tree tree.old.tree.state) (shown_tree tree.new.tree.state) tree.old.tree.state.covers tree.new.tree.state.covers }
-    ensures frame { ChangesOnly (IsUntouched tree.old.tree.state tree.new.tree.state) (fragments_in tree.old.tree.state.covers prepared.plan.change) }
-    ensures count { length tree.new.tree.ranks ≡ length tree.old.tree.ranks }
-    ensures cap { tree.new.tree.cache.cap ≡ tree.old.tree.cache.cap }
+    ensures tree { shown_tree (tree_state tree.new.tree) ≡ after_plan (shown_tree (tree_state tree.old.tree)) prepared.plan.change }
+    ensures made { MakesPlanned prepared.plan.change (tree_state tree.old.tree) (tree_state tree.new.tree) }
+    ensures leaves { CarryLeaves (shown_tree (tree_state tree.old.tree)) (shown_tree (tree_state tree.new.tree)) tree.old.tree.covers tree.new.tree.covers }
+    ensures frame { ChangesOnly (IsUntouched (tree_state tree.old.tree) (tree_state tree.new.tree)) (fragments_in tree.old.tree.covers prepared.plan.change) }
+    ensures count { length tree.new.tree.caches.used ≡ length tree.old.tree.caches.used }
+    ensures cap { tree.new.tree.caches.cap ≡ tree.old.tree.caches.cap }
     ensures faults { tree.new.tree.faults ≡ tree.old.tree.faults }
-    ensures followed { FollowPlanned prepared.plan.change tree.old.tree.state tree.old.subtrees.roots tree.new.subtrees.roots }
-    ensures kept { KeepsRoots tree.old.tree.state tree.new.tree.state tree.old.subtrees.roots tree.new.subtrees.roots }
+    ensures followed { FollowPlanned prepared.plan.change (tree_state tree.old.tree) tree.old.subtrees.roots tree.new.subtrees.roots }
+    ensures kept { KeepsRoots (tree_state tree.old.tree) (tree_state tree.new.tree) tree.old.subtrees.roots tree.new.subtrees.roots }
     ensures pins { pins.new ≡ without_gone (left_without (is_for request.client request.tid) pins.old) (went_with prepared.plan.change) }
     ensures appended { history.new.items ≡ history.old.items ++ record {
       client = request.client;
@@ -194,16 +195,16 @@ pub fn commit<S: Store + Drop>(
 
 // Makes a planned change, where there is one, with the subtree roots; grants on what goes end.
 fn carry_out<S: Store + Drop>(tree: &mut RankedTree<S>, pins: &mut Pins, change: Option<Change>)
-    requires ready { IsReadyToChange (shown_tree tree.old.tree.state) tree.old.tree.state.covers (IsReadyIn tree.old) change }
-    ensures tree { shown_tree tree.new.tree.state ≡ after_plan (shown_tree tree.old.tree.state) change }
-    ensures made { MakesPlanned change tree.old.tree.state tree.new.tree.state }
-    ensures leaves { CarryLeaves (shown_tree tree.old.tree.state) (shown_tree tree.new.tree.state) tree.old.tree.state.covers tree.new.tree.state.covers }
-    ensures frame { ChangesOnly (IsUntouched tree.old.tree.state tree.new.tree.state) (fragments_in tree.old.tree.state.covers change) }
-    ensures count { length tree.new.tree.ranks ≡ length tree.old.tree.ranks }
-    ensures cap { tree.new.tree.cache.cap ≡ tree.old.tree.cache.cap }
+    requires ready { IsReadyToChange (shown_tree (tree_state tree.old.tree)) tree.old.tree.covers (IsReadyIn tree.old) change }
+    ensures tree { shown_tree (tree_state tree.new.tree) ≡ after_plan (shown_tree (tree_state tree.old.tree)) change }
+    ensures made { MakesPlanned change (tree_state tree.old.tree) (tree_state tree.new.tree) }
+    ensures leaves { CarryLeaves (shown_tree (tree_state tree.old.tree)) (shown_tree (tree_state tree.new.tree)) tree.old.tree.covers tree.new.tree.covers }
+    ensures frame { ChangesOnly (IsUntouched (tree_state tree.old.tree) (tree_state tree.new.tree)) (fragments_in tree.old.tree.covers change) }
+    ensures count { length tree.new.tree.caches.used ≡ length tree.old.tree.caches.used }
+    ensures cap { tree.new.tree.caches.cap ≡ tree.old.tree.caches.cap }
     ensures faults { tree.new.tree.faults ≡ tree.old.tree.faults }
-    ensures followed { FollowPlanned change tree.old.tree.state tree.old.subtrees.roots tree.new.subtrees.roots }
-    ensures kept { KeepsRoots tree.old.tree.state tree.new.tree.state tree.old.subtrees.roots tree.new.subtrees.roots }
+    ensures followed { FollowPlanned change (tree_state tree.old.tree) tree.old.subtrees.roots tree.new.subtrees.roots }
+    ensures kept { KeepsRoots (tree_state tree.old.tree) (tree_state tree.new.tree) tree.old.subtrees.roots tree.new.subtrees.roots }
     ensures pins { pins.new ≡ without_gone pins.old (went_with change) }
 {
     // The contract of `store` is what says here that the state is sound.

@@ -100,7 +100,7 @@ pub fn format<S: Store + Drop>(
     ensures opening { IfOk result (λ book. book.opening ≡ map.empty) }
     ensures history { IfOk result (λ book. book.history ≡ []) }
     ensures state { IfOk result (λ book. book.core.state ≡ new_state ranks) }
-    ensures ranks { IfOk result (λ book. book.core.ranks ≡ new_caches ranks cache) }
+    ensures caches { IfOk result (λ book. book.core.caches ≡ new_caches ranks cache) }
     ensures refused { IfErr result (λ back. MayNotFormat (S.objects store) (S.faults store) (S.faults back.1) back.0) }
     ensures left { IfErr result (λ back. S.objects back.1 ≡ S.objects store) }
     ensures sound { IfOk result IsSoundBook }

@@ -5,14 +5,12 @@ ghost use Rattle.std.specs.Result.{result_err};
 ghost use Rattle.std.specs.FinMap as map;
 ghost use Rattle.mds_types.specs.declared.entries.Entry.{Entry as Applied};
 ghost use Rattle.mds_types.specs.Tree.{Tree};
-ghost use Rattle.dentry_cache.specs.Caches.{all_of};
-ghost use Rattle.mdcache.specs.Cached.{IsKept};
 ghost use Rattle.mdcache.specs.New.{MayNotFormat, new_caches};
 ghost use Rattle.cluster_core.specs.State.{new_state, whole_supplies};
 ghost use Rattle.cluster_core.specs.Steps.{ArrivesAt, AtRank, MayRefuse, ServesRank, Steps};
 ghost use Rattle.cluster_core.specs.Grants.{GrantsWaiting};
 ghost use Rattle.ranked_tree.specs.Subtrees.{KeepsRoots};
-ghost use Rattle.cluster_core.specs.Sound.{AreCached, IsSound};
+ghost use Rattle.cluster_core.specs.Sound.{AreCached, IsKept, IsSound};
 ghost use Rattle.cluster_core.specs.Administers.{ListsLeaves, TellsAuthority};
 
 use crate::events::{Answer, Event};
@@ -74,9 +72,8 @@ impl<S: Store + Drop> Cluster<S> {
         requires many { places ≤ 65536 }
         ensures empty { OnOk result (S.objects store ≡ map.empty) }
         ensures state { IfOk result (λ c. c.state ≡ new_state ranks) }
-        ensures ranks { IfOk result (λ c. c.ranks ≡ new_caches ranks places) }
-        ensures cache { IfOk result (λ c. c.cache ≡ all_of (new_caches ranks places)) }
-        ensures kept { IfOk result (λ c. IsKept c.state.tree c.cache) }
+        ensures caches { IfOk result (λ c. c.caches ≡ new_caches ranks places) }
+        ensures kept { IfOk result (λ c. IsKept c.state.tree c.caches) }
         ensures cached { IfOk result AreCached }
         ensures refused { IfErr result (λ back. MayNotFormat (S.objects store) (S.faults store) (S.faults back.1) back.0) }
         ensures left { IfErr result (λ back. S.objects back.1 ≡ S.objects store) }
@@ -161,8 +158,7 @@ impl<S: Store + Drop> Cluster<S> {
         ensures arrived { (past : List Applied) → AtRank self.old.state self.new.state past past rank result (ArrivesAt self.old.state self.new.state past past rank request result) }
         ensures tree { self.new.state.tree ≡ self.old.state.tree }
         ensures roots { self.new.state.roots ≡ self.old.state.roots }
-        ensures ranks { self.new.ranks ≡ self.old.ranks }
-        ensures cache { self.new.cache ≡ self.old.cache }
+        ensures caches { self.new.caches ≡ self.old.caches }
         ensures faults { self.new.faults ≡ self.old.faults }
         ensures counted { self.new.faults ≡ self.old.faults + faults_told (result_err result) }
     {
@@ -186,8 +182,8 @@ impl<S: Store + Drop> Cluster<S> {
         requires { (opening : Tree) × IsSound opening history.old.items self.old }
         ensures served { AtRank self.old.state self.new.state history.old.items history.new.items rank result (ServesRank self.old self.new history.old.items history.new.items rank result) }
         ensures kept { KeepsRoots self.old.state.tree self.new.state.tree self.old.state.roots self.new.state.roots }
-        ensures count { length self.new.ranks ≡ length self.old.ranks }
-        ensures cap { self.new.cache.cap ≡ self.old.cache.cap }
+        ensures count { length self.new.caches.used ≡ length self.old.caches.used }
+        ensures cap { self.new.caches.cap ≡ self.old.caches.cap }
         ensures counted { self.new.faults ≡ self.old.faults + faults_told (result_err result) }
     {
         if !self.is_rank(rank) {
@@ -210,8 +206,8 @@ impl<S: Store + Drop> Cluster<S> {
         ensures granted { (past : List Applied) → AtRank self.old.state self.new.state past past rank result (GrantsWaiting self.old.state self.new.state past past (MayRefuse self.old self.new) rank client tid result) }
         ensures tree { self.new.state.tree ≡ self.old.state.tree }
         ensures roots { self.new.state.roots ≡ self.old.state.roots }
-        ensures count { length self.new.ranks ≡ length self.old.ranks }
-        ensures cap { self.new.cache.cap ≡ self.old.cache.cap }
+        ensures count { length self.new.caches.used ≡ length self.old.caches.used }
+        ensures cap { self.new.caches.cap ≡ self.old.caches.cap }
         ensures counted { self.new.faults ≡ self.old.faults + faults_told (result_err result) }
     {
         if !self.is_rank(rank) {

@@ -3,6 +3,7 @@ ghost use Rattle.std.specs.Prelude.{◌≡◌, ◌+◌, List, IfOk, OnErr, OnOk,
 ghost use Rattle.objstore.specs.Objects.{faults_told};
 ghost use Rattle.std.specs.Result.{result_err};
 ghost use Rattle.mds_types.specs.declared.entries.Entry.{Entry as Applied};
+ghost use Rattle.mdcache.specs.Core.{state_of as tree_state};
 ghost use Rattle.mdcache.specs.Frags.{MayRefuse};
 ghost use Rattle.sessions.specs.Table.{Table};
 ghost use Rattle.inode_table.specs.Numbers.{Supply};
@@ -28,11 +29,11 @@ pub fn grant_first<S: Store + Drop>(
     client: u64,
     tid: u64,
 ) -> Result<Answer, Refusal>
-    ensures granted { (numbers : List Supply) (sessions : Table) (past : List Applied) → GrantsWaiting (state_of tree.old.tree.state tree.old.subtrees.roots numbers inboxes.now pins.old sessions) (state_of tree.new.tree.state tree.new.subtrees.roots numbers inboxes.now pins.new sessions) past past (MayRefuse tree.old.tree tree.new.tree) rank client tid result }
-    ensures same { tree.new.tree.state ≡ tree.old.tree.state }
+    ensures granted { (numbers : List Supply) (sessions : Table) (past : List Applied) → GrantsWaiting (state_of (tree_state tree.old.tree) tree.old.subtrees.roots numbers inboxes.now pins.old sessions) (state_of (tree_state tree.new.tree) tree.new.subtrees.roots numbers inboxes.now pins.new sessions) past past (MayRefuse tree.old.tree tree.new.tree) rank client tid result }
+    ensures same { tree_state tree.new.tree ≡ tree_state tree.old.tree }
     ensures roots { tree.new.subtrees.roots ≡ tree.old.subtrees.roots }
-    ensures count { length tree.new.tree.ranks ≡ length tree.old.tree.ranks }
-    ensures cap { tree.new.tree.cache.cap ≡ tree.old.tree.cache.cap }
+    ensures count { length tree.new.tree.caches.used ≡ length tree.old.tree.caches.used }
+    ensures cap { tree.new.tree.caches.cap ≡ tree.old.tree.caches.cap }
     ensures counted { tree.new.tree.faults ≡ tree.old.tree.faults + faults_told (result_err result) }
 {
     let Some(request) = inboxes.find(client, tid) else {
@@ -62,7 +63,7 @@ fn held_among<S: Store + Drop>(
     rank: Rank,
     leaves: &Vec<(Ino, Frag)>,
 ) -> Result<Vec<(Ino, Frag)>, AllocError>
-    ensures { IfOk result (λ held. AreHeldAmong tree.now.tree.state tree.now.subtrees.roots rank leaves.now.items held.items) }
+    ensures { IfOk result (λ held. AreHeldAmong (tree_state tree.now.tree) tree.now.subtrees.roots rank leaves.now.items held.items) }
 {
     let mut held = Vec::new(alloc);
     for leaf in leaves {

@@ -6,6 +6,7 @@ ghost use Rattle.std.specs.Option.{option_copied};
 ghost use Rattle.std.specs.Result.{result_err};
 ghost use Rattle.fragtree.specs.FragTree.{HasLeaf};
 ghost use Rattle.inode_table.specs.Dirs.{leaves_of};
+ghost use Rattle.mdcache.specs.Core.{state_of as tree_state};
 ghost use Rattle.mdcache.specs.Frags.{MayRefuse};
 ghost use Rattle.ranked_tree.specs.Ranked.{KeepsRanked};
 ghost use Rattle.cluster_core.specs.Master.{HasForeign, IsMasterIn, LacksGrantIn, MayTouchAllIn, MayTouchEach, MayTouchIn, changes_others, main_dentry, main_leaf};
@@ -20,7 +21,7 @@ use std::alloc::Global;
 /// The master of an operation that a rank serves: the authority of its dentry's leaf, of a rename the destination's, of a
 /// readdir the directory's first. Where the directory isn't there, the rank itself. Takes no memory.
 pub fn master_of<S: Store + Drop>(tree: &RankedTree<S>, rank: Rank, op: &Op) -> Rank
-    ensures { IsMasterIn tree.now.tree.state tree.now.subtrees.roots rank op.now result }
+    ensures { IsMasterIn (tree_state tree.now.tree) tree.now.subtrees.roots rank op.now result }
 {
     // The contract of `store` is what says here that the tree is sound.
     let _ = tree.store();
@@ -33,8 +34,8 @@ pub fn master_of<S: Store + Drop>(tree: &RankedTree<S>, rank: Rank, op: &Op) -> 
 
 // The leaf that tells the master of an operation.
 fn main_leaf<S: Store + Drop>(tree: &RankedTree<S>, op: &Op) -> (Ino, Frag)
-    ensures leaf { result ≡ main_leaf tree.now.tree.state.covers op.now }
-    ensures stands { HasLeaf (leaves_of tree.now.tree.state.covers result.0.0) result.1 }
+    ensures leaf { result ≡ main_leaf tree.now.tree.covers op.now }
+    ensures stands { HasLeaf (leaves_of tree.now.tree.covers result.0.0) result.1 }
 {
     match main_dentry(op) {
         Some(dentry) => (dentry.dir, tree.frag_of(dentry)),
@@ -79,8 +80,8 @@ pub fn lacks_grant<S: Store + Drop>(
     tid: u64,
     op: &Op,
 ) -> Result<bool, Refusal>
-    requires master { IsMasterIn tree.old.tree.state tree.old.subtrees.roots rank op.now rank }
-    ensures found { IfOk result (λ lacks. MatchBool lacks (LacksGrantIn tree.old.tree.state tree.old.subtrees.roots pins.now rank client tid op.now) (MayTouchAllIn tree.old.tree.state tree.old.subtrees.roots pins.now rank client tid op.now)) }
+    requires master { IsMasterIn (tree_state tree.old.tree) tree.old.subtrees.roots rank op.now rank }
+    ensures found { IfOk result (λ lacks. MatchBool lacks (LacksGrantIn (tree_state tree.old.tree) tree.old.subtrees.roots pins.now rank client tid op.now) (MayTouchAllIn (tree_state tree.old.tree) tree.old.subtrees.roots pins.now rank client tid op.now)) }
     ensures refused { IfErr result (λ reason. (reason ≡ NoMemory) ⊎ ((reason ≢ NoInodes) × MayRefuse tree.old.tree tree.new.tree op.now reason)) }
     ensures kept { KeepsRanked tree.old tree.new (result_err result) }
 {
@@ -102,7 +103,7 @@ fn any_lacks<S: Store + Drop>(
     tid: u64,
     leaves: &Vec<(Ino, Frag)>,
 ) -> bool
-    ensures { MatchBool result (HasForeign tree.now.tree.state tree.now.subtrees.roots pins.now rank client tid leaves.now.items) (MayTouchEach tree.now.tree.state tree.now.subtrees.roots pins.now rank client tid leaves.now.items) }
+    ensures { MatchBool result (HasForeign (tree_state tree.now.tree) tree.now.subtrees.roots pins.now rank client tid leaves.now.items) (MayTouchEach (tree_state tree.now.tree) tree.now.subtrees.roots pins.now rank client tid leaves.now.items) }
 {
     for leaf in leaves {
         if !may_touch(tree, pins, rank, client, tid, leaf.0, leaf.1) {
@@ -122,7 +123,7 @@ fn may_touch<S: Store + Drop>(
     dir: Ino,
     frag: Frag,
 ) -> bool
-    ensures { IsTrue result ↔ MayTouchIn tree.now.tree.state tree.now.subtrees.roots pins.now rank client tid (dir, frag) }
+    ensures { IsTrue result ↔ MayTouchIn (tree_state tree.now.tree) tree.now.subtrees.roots pins.now rank client tid (dir, frag) }
 {
     tree.is_authority(rank, dir, frag)
         || pins.is_granted(&Pin {

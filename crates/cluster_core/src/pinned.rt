@@ -16,7 +16,7 @@ pub fn is_any_pinned<S: Store + Drop>(
     dir: Ino,
     frag: Frag,
 ) -> bool
-    ensures { IsTrue result ↔ IsAnyPinned tree.now.tree.state.homes tree.now.tree.state.covers pins.now dir frag }
+    ensures { IsTrue result ↔ IsAnyPinned tree.now.tree.homes tree.now.tree.covers pins.now dir frag }
 {
     some_pinned(tree.dirs(), pins, dir, frag)
 }

@@ -11,6 +11,7 @@ ghost use Rattle.namespace_ops.specs.Changes.{IsOffered};
 ghost use Rattle.sessions.specs.Table.{IsTableOf};
 ghost use Rattle.sessions.specs.Rooms.{IsReady, table};
 ghost use Rattle.dirfrag_codec.specs.EntryRecord.{IsRankNumber};
+ghost use Rattle.mdcache.specs.Core.{state_of as tree_state};
 ghost use Rattle.mdcache.specs.Frags.{MayRefuse};
 ghost use Rattle.mdcache.specs.Shown.{shown_tree};
 ghost use Rattle.cluster_core.specs.State.{no_supply, state_of};
@@ -44,15 +45,15 @@ pub fn serve_front<S: Store + Drop>(
     rank: Rank,
 ) -> Result<Answer, Refusal>
     requires known { IsTableOf history.old.items (table sessions.old) }
-    requires offered { IsOffered (shown_tree tree.old.tree.state) (λ n. IsRankNumber n) (offer (get_or numbers.old.items rank.0 no_supply)) }
+    requires offered { IsOffered (shown_tree (tree_state tree.old.tree)) (λ n. IsRankNumber n) (offer (get_or numbers.old.items rank.0 no_supply)) }
     requires there { rank.0 < length numbers.old.items }
-    requires masters { AreMastersThere tree.old.tree.state tree.old.subtrees.roots rank (length inboxes.old) }
-    requires valid { AreRoots tree.old.tree.state tree.old.subtrees.roots }
-    ensures served { ServesInbox (state_of tree.old.tree.state tree.old.subtrees.roots numbers.old.items inboxes.old pins.old (table sessions.old)) (state_of tree.new.tree.state tree.new.subtrees.roots numbers.new.items inboxes.new pins.new (table sessions.new))
+    requires masters { AreMastersThere (tree_state tree.old.tree) tree.old.subtrees.roots rank (length inboxes.old) }
+    requires valid { AreRoots (tree_state tree.old.tree) tree.old.subtrees.roots }
+    ensures served { ServesInbox (state_of (tree_state tree.old.tree) tree.old.subtrees.roots numbers.old.items inboxes.old pins.old (table sessions.old)) (state_of (tree_state tree.new.tree) tree.new.subtrees.roots numbers.new.items inboxes.new pins.new (table sessions.new))
         history.old.items history.new.items (MayRefuse tree.old.tree tree.new.tree) rank result (waiting_at inboxes.old rank) }
-    ensures kept { KeepsRoots tree.old.tree.state tree.new.tree.state tree.old.subtrees.roots tree.new.subtrees.roots }
-    ensures count { length tree.new.tree.ranks ≡ length tree.old.tree.ranks }
-    ensures cap { tree.new.tree.cache.cap ≡ tree.old.tree.cache.cap }
+    ensures kept { KeepsRoots (tree_state tree.old.tree) (tree_state tree.new.tree) tree.old.subtrees.roots tree.new.subtrees.roots }
+    ensures count { length tree.new.tree.caches.used ≡ length tree.old.tree.caches.used }
+    ensures cap { tree.new.tree.caches.cap ≡ tree.old.tree.caches.cap }
     ensures counted { tree.new.tree.faults ≡ tree.old.tree.faults + faults_told (result_err result) }
 {
     let Some(front) = inboxes.front(rank) else {
@@ -80,15 +81,15 @@ fn serve_new<S: Store + Drop>(
     rank: Rank,
 ) -> Result<Answer, Refusal>
     requires new { (front : Waiting) → slice_get (waiting_at inboxes.old rank) 0 ≡ Some front → IsNew history.old.items front.client front.tid front.oldest }
-    requires offered { IsOffered (shown_tree tree.old.tree.state) (λ n. IsRankNumber n) (offer (get_or numbers.old.items rank.0 no_supply)) }
+    requires offered { IsOffered (shown_tree (tree_state tree.old.tree)) (λ n. IsRankNumber n) (offer (get_or numbers.old.items rank.0 no_supply)) }
     requires there { rank.0 < length numbers.old.items }
-    requires masters { AreMastersThere tree.old.tree.state tree.old.subtrees.roots rank (length inboxes.old) }
-    requires valid { AreRoots tree.old.tree.state tree.old.subtrees.roots }
-    ensures served { ServesInbox (state_of tree.old.tree.state tree.old.subtrees.roots numbers.old.items inboxes.old pins.old (table sessions.old)) (state_of tree.new.tree.state tree.new.subtrees.roots numbers.new.items inboxes.new pins.new (table sessions.new))
+    requires masters { AreMastersThere (tree_state tree.old.tree) tree.old.subtrees.roots rank (length inboxes.old) }
+    requires valid { AreRoots (tree_state tree.old.tree) tree.old.subtrees.roots }
+    ensures served { ServesInbox (state_of (tree_state tree.old.tree) tree.old.subtrees.roots numbers.old.items inboxes.old pins.old (table sessions.old)) (state_of (tree_state tree.new.tree) tree.new.subtrees.roots numbers.new.items inboxes.new pins.new (table sessions.new))
         history.old.items history.new.items (MayRefuse tree.old.tree tree.new.tree) rank result (waiting_at inboxes.old rank) }
-    ensures kept { KeepsRoots tree.old.tree.state tree.new.tree.state tree.old.subtrees.roots tree.new.subtrees.roots }
-    ensures count { length tree.new.tree.ranks ≡ length tree.old.tree.ranks }
-    ensures cap { tree.new.tree.cache.cap ≡ tree.old.tree.cache.cap }
+    ensures kept { KeepsRoots (tree_state tree.old.tree) (tree_state tree.new.tree) tree.old.subtrees.roots tree.new.subtrees.roots }
+    ensures count { length tree.new.tree.caches.used ≡ length tree.old.tree.caches.used }
+    ensures cap { tree.new.tree.caches.cap ≡ tree.old.tree.caches.cap }
     ensures counted { tree.new.tree.faults ≡ tree.old.tree.faults + faults_told (result_err result) }
 {
     let Some(front) = inboxes.front(rank) else {
@@ -131,17 +132,17 @@ fn make_ready<S: Store + Drop>(
     rank: Rank,
     request: &Request,
 ) -> Result<Option<Prepared>, Refusal>
-    requires offered { IsOffered (shown_tree tree.old.tree.state) (λ n. IsRankNumber n) (offer supply) }
-    requires master { IsMasterIn tree.old.tree.state tree.old.subtrees.roots rank request.now.op rank }
-    ensures ready { IsMadeReady tree.old.tree.state tree.old.subtrees.roots pins.now supply rank request.now (IsReadyIn tree.new) (MayRefuse tree.old.tree tree.new.tree request.now.op) result }
+    requires offered { IsOffered (shown_tree (tree_state tree.old.tree)) (λ n. IsRankNumber n) (offer supply) }
+    requires master { IsMasterIn (tree_state tree.old.tree) tree.old.subtrees.roots rank request.now.op rank }
+    ensures ready { IsMadeReady (tree_state tree.old.tree) tree.old.subtrees.roots pins.now supply rank request.now (IsReadyIn tree.new) (MayRefuse tree.old.tree tree.new.tree request.now.op) result }
     ensures room { IfOk result (λ made. IfSome made (λ prepared. vec_len history.new < vec_capacity history.new)) }
     ensures reserved { IfOk result (λ made. IfSome made (λ prepared. IsReady sessions.new request.now.client)) }
-    ensures same { tree.new.tree.state ≡ tree.old.tree.state }
+    ensures same { tree_state tree.new.tree ≡ tree_state tree.old.tree }
     ensures roots { tree.new.subtrees.roots ≡ tree.old.subtrees.roots }
     ensures past { history.new.items ≡ history.old.items }
     ensures known { table sessions.new ≡ table sessions.old }
-    ensures count { length tree.new.tree.ranks ≡ length tree.old.tree.ranks }
-    ensures cap { tree.new.tree.cache.cap ≡ tree.old.tree.cache.cap }
+    ensures count { length tree.new.tree.caches.used ≡ length tree.old.tree.caches.used }
+    ensures cap { tree.new.tree.caches.cap ≡ tree.old.tree.caches.cap }
     ensures counted { tree.new.tree.faults ≡ tree.old.tree.faults + faults_told (result_err result) }
 {
     match lacks_grant(

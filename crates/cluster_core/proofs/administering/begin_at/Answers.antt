@@ -1,10 +1,11 @@
 use Rattle.std.proofs.Common.{Err, arith}
+use Rattle.mdcache.specs.Core.{state_of as tree_state}
 use Rattle.mdcache.proofs.CountLaws.{begun_free}
 use Rattle.cluster_core.proofs.administering.begin_at.Goals as goal
 
 pub returns-in-Err-clause-counted : goal.returns-in-Err-clause-counted
 returns-in-Err-clause-counted g c =
-    let old = c.args.tree.now.tree.state in
-    let new = c.begin.new.self.tree.state in
+    let old = tree_state c.args.tree.now.tree in
+    let new = tree_state c.begin.new.self.tree in
     let none = begun_free old new (c.args.ino, c.args.frag) (Err c.in-Err.refusal) c.in-Err.ensures.begun in
     omega (arith, c.begin.ensures.faults, none)

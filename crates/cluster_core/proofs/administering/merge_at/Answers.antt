@@ -1,9 +1,9 @@
-use Rattle.std.proofs.Common.{◌≡◌, true, false, rules, inr, refl, sym, ◌∙◌, arith}
-use Rattle.fragtree.specs.FragTree.{CanMerge, RefusesMerge}
+use Rattle.std.proofs.Common.{◌≡◌, true, false, rules, Err, inr, sym, ◌∙◌, arith}
+use Rattle.fragtree.specs.FragTree.{RefusesMerge}
 use Rattle.inode_table.specs.Dirs.{leaves_of}
-use Rattle.mdcache.specs.Core.{LacksPlacesAt}
+use Rattle.mdcache.specs.Core.{LacksPlacesAt, state_of as tree_state}
 use Rattle.ranked_tree.specs.Held.{LacksPlacesInside}
-use Rattle.ranked_tree.proofs.HeldRegroups.{regroup_on}
+use Rattle.ranked_tree.proofs.HeldRegroups.{merge_on}
 use Rattle.cluster_core.proofs.AdminLaws.{lacks_inside, one_of_all}
 use Rattle.cluster_core.proofs.Worked.{left}
 use Rattle.mdcache.proofs.CountLaws.{leaves_free}
@@ -12,7 +12,7 @@ use Rattle.cluster_core.proofs.administering.merge_at.Goals as goal
 pub merge-requires : goal.merge-requires
 merge-requires g c =
     let mine : c.is_all_of.result ≡ true = search rules in
-    record { one = one_of_all c.args.tree.now.tree.state.homes c.args.tree.now.tree.state.covers c.args.tree.now.subtrees.roots c.args.ino c.args.frag c.args.rank (c.is_all_of.ensures.0 mine) }
+    record { one = one_of_all c.args.tree.now.tree.homes c.args.tree.now.tree.covers c.args.tree.now.subtrees.roots c.args.ino c.args.frag c.args.rank (c.is_all_of.ensures.0 mine) }
 
 pub returns-in-Err-merge-clause-merged : goal.returns-in-Err-merge-clause-merged
 returns-in-Err-merge-clause-merged g c numbers inboxes sessions past =
@@ -23,15 +23,14 @@ returns-in-Err-merge-clause-merged g c numbers inboxes sessions past =
         c.in_default.ensures.can,
         c.is_all_of.ensures.0 mine,
         (λ pinned. let clash : false ≡ true = sym free ∙ c.is_any_pinned.ensures.1 pinned in cc),
-        regroup_on (CanMerge (leaves_of c.args.tree.now.tree.state.covers c.args.ino.0) c.args.frag) (RefusesMerge (leaves_of c.args.tree.now.tree.state.covers c.args.ino.0) c.args.frag) c.args.tree.now.tree.state c.args.ino 1
-            (LacksPlacesInside 1 c.args.tree.now.tree c.args.tree.now.subtrees.roots c.args.ino c.args.frag) (LacksPlacesAt 1 c.args.tree.now.tree c.args.rank) c.args.tree.now.tree.faults c.args.tree.now.tree.faults c.merge.new.self.tree.faults c.in-Err-merge.refusal
-            (lacks_inside 1 c.args.tree.now.tree c.args.tree.now.subtrees.roots c.args.ino c.args.frag c.args.rank (c.is_all_of.ensures.0 mine)) refl c.in-Err-merge.ensures.merged.0,
+        (merge_on (LacksPlacesInside 1 c.args.tree.now.tree c.args.tree.now.subtrees.roots c.args.ino c.args.frag) (LacksPlacesAt 1 c.args.tree.now.tree c.args.rank) c.args.tree.now.tree c.merge.new.self.tree c.args.ino c.args.frag (Err c.in-Err-merge.refusal)
+            (lacks_inside 1 c.args.tree.now.tree c.args.tree.now.subtrees.roots c.args.ino c.args.frag c.args.rank (c.is_all_of.ensures.0 mine)) c.in-Err-merge.ensures.merged).0,
       )))),
-      left c.args.tree.now.tree.state c.merge.new.self.tree.state c.args.tree.now.subtrees.roots c.merge.new.self.subtrees.roots numbers inboxes c.args.pins.now sessions past c.in-Err-merge.ensures.merged.1.0 c.in-Err-merge.ensures.left,
+      left (tree_state c.args.tree.now.tree) (tree_state c.merge.new.self.tree) c.args.tree.now.subtrees.roots c.merge.new.self.subtrees.roots numbers inboxes c.args.pins.now sessions past c.in-Err-merge.ensures.merged.1.0 c.in-Err-merge.ensures.left,
     )
 
 pub returns-in-Err-clause-counted : goal.returns-in-Err-clause-counted
 returns-in-Err-clause-counted g c =
-    let s = c.args.tree.now.tree.state in
+    let s = tree_state c.args.tree.now.tree in
     let Refuses = RefusesMerge (leaves_of s.covers c.args.ino.0) c.args.frag in
     omega (arith, leaves_free Refuses (λ never. never) s.homes c.args.ino c.in-Err.refusal c.in-Err.ensures.refused)

@@ -1,9 +1,9 @@
-use Rattle.std.proofs.Common.{◌≡◌, ◌+◌, ◌^◌, true, false, rules, inr, refl, sym, ◌∙◌, arith}
-use Rattle.fragtree.specs.FragTree.{CanSplit, RefusesSplit}
+use Rattle.std.proofs.Common.{◌≡◌, ◌+◌, ◌^◌, true, false, rules, Err, inr, sym, ◌∙◌, arith}
+use Rattle.fragtree.specs.FragTree.{RefusesSplit}
 use Rattle.inode_table.specs.Dirs.{leaves_of}
-use Rattle.mdcache.specs.Core.{LacksPlacesAt}
+use Rattle.mdcache.specs.Core.{LacksPlacesAt, state_of as tree_state}
 use Rattle.ranked_tree.specs.Held.{LacksPlacesFor}
-use Rattle.ranked_tree.proofs.HeldRegroups.{regroup_on}
+use Rattle.ranked_tree.proofs.HeldRegroups.{split_on}
 use Rattle.cluster_core.proofs.AdminLaws.{lacks_here}
 use Rattle.cluster_core.proofs.Worked.{left}
 use Rattle.mdcache.proofs.CountLaws.{leaves_free}
@@ -18,15 +18,14 @@ returns-in-Err-split-clause-split g c numbers inboxes sessions past =
         c.in_default.ensures.can,
         c.is_authority.ensures.0 mine,
         (λ pinned. let clash : false ≡ true = sym free ∙ c.is_pinned.ensures ∙ pinned in cc),
-        regroup_on (CanSplit (leaves_of c.args.tree.now.tree.state.covers c.args.ino.0) c.args.frag c.args.bits) (RefusesSplit (leaves_of c.args.tree.now.tree.state.covers c.args.ino.0) c.args.frag c.args.bits) c.args.tree.now.tree.state c.args.ino (2 ^ c.args.bits)
-            (LacksPlacesFor (2 ^ c.args.bits + 1) c.args.tree.now.tree c.args.tree.now.subtrees.roots (c.args.ino, c.args.frag)) (LacksPlacesAt (2 ^ c.args.bits + 1) c.args.tree.now.tree c.args.rank) c.args.tree.now.tree.faults c.args.tree.now.tree.faults c.split.new.self.tree.faults c.in-Err-split.refusal
-            (lacks_here (2 ^ c.args.bits + 1) c.args.tree.now.tree c.args.tree.now.subtrees.roots (c.args.ino, c.args.frag) c.args.rank (c.is_authority.ensures.0 mine)) refl c.in-Err-split.ensures.split.0,
+        (split_on (LacksPlacesFor (2 ^ c.args.bits + 1) c.args.tree.now.tree c.args.tree.now.subtrees.roots (c.args.ino, c.args.frag)) (LacksPlacesAt (2 ^ c.args.bits + 1) c.args.tree.now.tree c.args.rank) c.args.tree.now.tree c.split.new.self.tree c.args.ino c.args.frag c.args.bits (Err c.in-Err-split.refusal)
+            (lacks_here (2 ^ c.args.bits + 1) c.args.tree.now.tree c.args.tree.now.subtrees.roots (c.args.ino, c.args.frag) c.args.rank (c.is_authority.ensures.0 mine)) c.in-Err-split.ensures.split).0,
       )))),
-      left c.args.tree.now.tree.state c.split.new.self.tree.state c.args.tree.now.subtrees.roots c.split.new.self.subtrees.roots numbers inboxes c.args.pins.now sessions past c.in-Err-split.ensures.split.1.0 c.in-Err-split.ensures.left,
+      left (tree_state c.args.tree.now.tree) (tree_state c.split.new.self.tree) c.args.tree.now.subtrees.roots c.split.new.self.subtrees.roots numbers inboxes c.args.pins.now sessions past c.in-Err-split.ensures.split.1.0 c.in-Err-split.ensures.left,
     )
 
 pub returns-in-Err-clause-counted : goal.returns-in-Err-clause-counted
 returns-in-Err-clause-counted g c =
-    let s = c.args.tree.now.tree.state in
+    let s = tree_state c.args.tree.now.tree in
     let Refuses = RefusesSplit (leaves_of s.covers c.args.ino.0) c.args.frag c.args.bits in
     omega (arith, leaves_free Refuses (λ never. never) s.homes c.args.ino c.in-Err.refusal c.in-Err.ensures.refused)

@@ -1,6 +1,7 @@
 use Rattle.std.proofs.Common.{◌≡◌, ◌+◌, ◌∷◌, true, false, List, drop, rules, sym, ap, ◌∙◌, subst}
 use Rattle.std.proofs.lemmas.List.{drop_more}
 use Rattle.mds_types.specs.Leaf.{Leaf}
+use Rattle.mdcache.specs.Core.{state_of as tree_state}
 use Rattle.cluster_core.specs.Grants.{AreHeldAmong}
 use Rattle.cluster_core.proofs.HeldLaws.{all_held, one_less, one_more}
 use Rattle.cluster_core.proofs.granting.held_among.Goals.{then-is_authority+in_ok-push, else-is_authority}
@@ -9,16 +10,16 @@ use Rattle.cluster_core.proofs.granting.held_among.Goals as goal
 pub loop-leaf-preserved : goal.loop-leaf-preserved
 loop-leaf-preserved g c = elim c.if-is_authority.branch [
   | then-is_authority+in_ok-push w ↦
-      one_more c.args.tree.now.tree.state c.args.tree.now.subtrees.roots c.args.rank c.deref-leaf-items.result.now c.loop-leaf.leaf-index c.loop-leaf.held.items c.loop-leaf.invariant c.leaf-item.result
+      one_more (tree_state c.args.tree.now.tree) c.args.tree.now.subtrees.roots c.args.rank c.deref-leaf-items.result.now c.loop-leaf.leaf-index c.loop-leaf.held.items c.loop-leaf.invariant c.leaf-item.result
       (drop_more c.deref-leaf-items.result.now c.loop-leaf.leaf-index c.leaf-item.result c.loop-leaf-test.true ∙ ap (λ (l : Leaf). l ∷ drop (c.loop-leaf.leaf-index + 1) c.deref-leaf-items.result.now) (sym c.leaf-item.is)) c.if-is_authority.held.items
       (c.is_authority.ensures.0 (search rules)) (search rules)
   | else-is_authority w ↦
-      one_less c.args.tree.now.tree.state c.args.tree.now.subtrees.roots c.args.rank c.deref-leaf-items.result.now c.loop-leaf.leaf-index c.loop-leaf.held.items c.loop-leaf.invariant c.leaf-item.result
+      one_less (tree_state c.args.tree.now.tree) c.args.tree.now.subtrees.roots c.args.rank c.deref-leaf-items.result.now c.loop-leaf.leaf-index c.loop-leaf.held.items c.loop-leaf.invariant c.leaf-item.result
       (drop_more c.deref-leaf-items.result.now c.loop-leaf.leaf-index c.leaf-item.result c.loop-leaf-test.true ∙ ap (λ (l : Leaf). l ∷ drop (c.loop-leaf.leaf-index + 1) c.deref-leaf-items.result.now) (sym c.leaf-item.is)) c.if-is_authority.held.items
       (λ mine. let is : c.is_authority.result ≡ true = c.is_authority.ensures.1 mine in let isnt : c.is_authority.result ≡ false = search rules in let clash : true ≡ false = sym is ∙ isnt in cc) (search rules)
 ]
 
 pub returns : goal.returns
 returns g c =
-    subst (λ (ls : List Leaf). AreHeldAmong c.args.tree.now.tree.state c.args.tree.now.subtrees.roots c.args.rank ls c.loop-leaf.held.items) c.deref-leaf-items.ensures.value
-    (all_held c.args.tree.now.tree.state c.args.tree.now.subtrees.roots c.args.rank c.deref-leaf-items.result.now c.loop-leaf.leaf-index c.loop-leaf.held.items c.loop-leaf.invariant (search rules))
+    subst (λ (ls : List Leaf). AreHeldAmong (tree_state c.args.tree.now.tree) c.args.tree.now.subtrees.roots c.args.rank ls c.loop-leaf.held.items) c.deref-leaf-items.ensures.value
+    (all_held (tree_state c.args.tree.now.tree) c.args.tree.now.subtrees.roots c.args.rank c.deref-leaf-items.result.now c.loop-leaf.leaf-index c.loop-leaf.held.items c.loop-leaf.invariant (search rules))

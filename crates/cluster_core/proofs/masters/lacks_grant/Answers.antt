@@ -1,6 +1,7 @@
 use Rattle.std.specs.Prelude.{MatchBool}
 use Rattle.std.proofs.Common.{subst}
 use Rattle.subtree_map.specs.Authority.{Roots}
+use Rattle.mdcache.specs.Core.{state_of as tree_state}
 use Rattle.mdcache.specs.State.{State}
 use Rattle.cluster_core.specs.Master.{HasForeign, MayTouchEach}
 use Rattle.cluster_core.proofs.MasterLaws.{tells}
@@ -8,8 +9,8 @@ use Rattle.cluster_core.proofs.masters.lacks_grant.Goals as goal
 
 pub returns-in-Ok-clause-found : goal.returns-in-Ok-clause-found
 returns-in-Ok-clause-found g c =
-    tells c.args.tree.now.tree.state c.args.tree.now.subtrees.roots c.args.pins.now c.args.rank c.args.client c.args.tid c.args.op.now c.in-Ok.leaves.items c.any_lacks.result c.in-Ok.ensures.changed
-    (subst (λ (r : Roots). MatchBool c.any_lacks.result (HasForeign c.args.tree.now.tree.state r c.args.pins.now c.args.rank c.args.client c.args.tid c.in-Ok.leaves.items) (MayTouchEach c.args.tree.now.tree.state r c.args.pins.now c.args.rank c.args.client c.args.tid c.in-Ok.leaves.items))
+    tells (tree_state c.args.tree.now.tree) c.args.tree.now.subtrees.roots c.args.pins.now c.args.rank c.args.client c.args.tid c.args.op.now c.in-Ok.leaves.items c.any_lacks.result c.in-Ok.ensures.changed
+    (subst (λ (r : Roots). MatchBool c.any_lacks.result (HasForeign (tree_state c.args.tree.now.tree) r c.args.pins.now c.args.rank c.args.client c.args.tid c.in-Ok.leaves.items) (MayTouchEach (tree_state c.args.tree.now.tree) r c.args.pins.now c.args.rank c.args.client c.args.tid c.in-Ok.leaves.items))
     c.in-Ok.ensures.kept.follows.roots
     (subst (λ (t : State). MatchBool c.any_lacks.result (HasForeign t c.changes.new.frags.subtrees.roots c.args.pins.now c.args.rank c.args.client c.args.tid c.in-Ok.leaves.items) (MayTouchEach t c.changes.new.frags.subtrees.roots c.args.pins.now c.args.rank c.args.client c.args.tid c.in-Ok.leaves.items))
     c.in-Ok.ensures.kept.follows.tree.state c.any_lacks.ensures))

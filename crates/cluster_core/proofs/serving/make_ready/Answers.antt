@@ -1,11 +1,12 @@
 use Rattle.std.proofs.Common.{Bool, MatchBool, subst}
+use Rattle.mdcache.specs.Core.{state_of as tree_state}
 use Rattle.cluster_core.specs.Master.{LacksGrantIn, MayTouchAllIn}
 use Rattle.cluster_core.proofs.MadeReady.{still_refused}
 use Rattle.cluster_core.proofs.serving.make_ready.Goals as goal
 
 pub returns-in-Err-prepare-clause-ready : goal.returns-in-Err-prepare-clause-ready
 returns-in-Err-prepare-clause-ready g c =
-    let t = c.args.tree.now.tree.state in
+    let t = tree_state c.args.tree.now.tree in
     let r = c.args.tree.now.subtrees.roots in
     let q = c.args.request.now in
     still_refused c.args.tree.now.tree c.lacks_grant.new.tree.tree c.prepare.new.frags.tree q.op (MayTouchAllIn t r c.args.pins.now c.args.rank q.client q.tid q.op) c.args.supply c.in-Err-prepare.refusal c.in-Ok-false.ensures.kept.tree

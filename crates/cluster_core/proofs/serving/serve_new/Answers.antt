@@ -5,6 +5,7 @@ use Rattle.mds_types.specs.declared.refusals.Refusal.TheVariants.{NoInodes}
 use Rattle.inboxes.specs.Inboxes.{waiting_at}
 use Rattle.inode_table.specs.Numbers.{Supply, offer}
 use Rattle.sessions.specs.Rooms.{table}
+use Rattle.mdcache.specs.Core.{state_of as tree_state}
 use Rattle.mdcache.specs.Frags.{MayRefuse}
 use Rattle.ranked_tree.specs.Ranked.{IsReady as IsReadyIn}
 use Rattle.mdcache.specs.Shown.{shown_tree}
@@ -18,17 +19,17 @@ pub returns-in-Some-take-clause-served : goal.returns-in-Some-take-clause-served
 returns-in-Some-take-clause-served g c =
     let supply_is = c.supply_of-supply.ensures in
     let at_rank : c.master_of-master.result ≡ c.args.rank = c.is_same.ensures.0 c.if-not-is_same.false in
-    let master = subst (λ (m : Rank). IsMasterIn c.args.tree.now.tree.state c.args.tree.now.subtrees.roots c.args.rank c.in-Some.front.now.op m) at_rank c.master_of-master.ensures in
-    let f = c.args.tree.now.tree.state in
+    let master = subst (λ (m : Rank). IsMasterIn (tree_state c.args.tree.now.tree) c.args.tree.now.subtrees.roots c.args.rank c.in-Some.front.now.op m) at_rank c.master_of-master.ensures in
+    let f = tree_state c.args.tree.now.tree in
     let op = c.in-Some.front.now.op in
     let made = subst (λ (o : Option Prepared). IsMadeReady f c.args.tree.now.subtrees.roots c.args.pins.now c.supply_of-supply.result c.args.rank c.in-Some.front.now (IsReadyIn c.make_ready.new.tree) (MayRefuse c.args.tree.now.tree c.make_ready.new.tree.tree op) (Ok o))
     c.in-Ok-Some.field-0-is c.in-Ok-Some.ensures.ready in
-    served_new c.args.tree.now.tree.state c.args.tree.now.subtrees.roots c.args.numbers.now.items c.args.inboxes.now c.args.pins.now (table c.args.sessions.now) c.args.history.now.items c.args.rank (MayRefuse c.args.tree.now.tree c.commit.new.tree.tree)
-    c.make_ready.new.tree.tree.state c.make_ready.new.tree.subtrees.roots (table c.make_ready.new.sessions) c.make_ready.new.history.items c.in-Some.front.now c.make_ready.ensures.same c.make_ready.ensures.roots c.make_ready.ensures.known c.make_ready.ensures.past
+    served_new (tree_state c.args.tree.now.tree) c.args.tree.now.subtrees.roots c.args.numbers.now.items c.args.inboxes.now c.args.pins.now (table c.args.sessions.now) c.args.history.now.items c.args.rank (MayRefuse c.args.tree.now.tree c.commit.new.tree.tree)
+    (tree_state c.make_ready.new.tree.tree) c.make_ready.new.tree.subtrees.roots (table c.make_ready.new.sessions) c.make_ready.new.history.items c.in-Some.front.now c.make_ready.ensures.same c.make_ready.ensures.roots c.make_ready.ensures.known c.make_ready.ensures.past
     (c.requires.new _ (sym c.in-Some.ensures)) master
-    c.in-Some-take.request c.commit.new.tree.tree.state c.commit.new.tree.subtrees.roots c.commit.new.numbers.items c.commit.new.pins (table c.commit.new.sessions) c.commit.new.history.items (IsReadyIn c.make_ready.new.tree) c.in-Ok-Some.prepared c.commit.result
+    c.in-Some-take.request (tree_state c.commit.new.tree.tree) c.commit.new.tree.subtrees.roots c.commit.new.numbers.items c.commit.new.pins (table c.commit.new.sessions) c.commit.new.history.items (IsReadyIn c.make_ready.new.tree) c.in-Ok-Some.prepared c.commit.result
     made.0
-    (subst (λ (s : Supply). IsPrepared (shown_tree c.args.tree.now.tree.state) c.args.tree.now.tree.state.covers (IsReadyIn c.make_ready.new.tree) c.in-Some.front.now.op (outcome_with c.args.tree.now.tree.state s c.in-Some.front.now.op) s c.in-Ok-Some.prepared) supply_is made.1)
+    (subst (λ (s : Supply). IsPrepared (shown_tree (tree_state c.args.tree.now.tree)) c.args.tree.now.tree.covers (IsReadyIn c.make_ready.new.tree) c.in-Some.front.now.op (outcome_with (tree_state c.args.tree.now.tree) s c.in-Some.front.now.op) s c.in-Ok-Some.prepared) supply_is made.1)
     c.commit.ensures.tree c.commit.ensures.made c.commit.ensures.leaves c.commit.ensures.frame c.commit.ensures.followed c.commit.ensures.pins c.commit.ensures.appended c.commit.ensures.drawn c.commit.ensures.known c.commit.ensures.answer
     (waiting_at c.args.inboxes.now c.args.rank) c.take.new.self c.in-Some.ensures c.in-Some-take.ensures
 
@@ -36,11 +37,11 @@ pub returns-in-Err-NoInodes-clause-served : goal.returns-in-Err-NoInodes-clause-
 returns-in-Err-NoInodes-clause-served g c =
     let supply_is = c.supply_of-supply.ensures in
     let at_rank : c.master_of-master.result ≡ c.args.rank = c.is_same.ensures.0 c.if-not-is_same.false in
-    let master = subst (λ (m : Rank). IsMasterIn c.args.tree.now.tree.state c.args.tree.now.subtrees.roots c.args.rank c.in-Some.front.now.op m) at_rank c.master_of-master.ensures in
-    let f = c.args.tree.now.tree.state in
+    let master = subst (λ (m : Rank). IsMasterIn (tree_state c.args.tree.now.tree) c.args.tree.now.subtrees.roots c.args.rank c.in-Some.front.now.op m) at_rank c.master_of-master.ensures in
+    let f = tree_state c.args.tree.now.tree in
     let op = c.in-Some.front.now.op in
     lacks_number f c.args.tree.now.subtrees.roots c.args.numbers.now.items c.args.inboxes.now c.args.pins.now (table c.args.sessions.now) c.args.history.now.items c.args.rank (MayRefuse c.args.tree.now.tree c.make_ready.new.tree.tree)
-    c.make_ready.new.tree.tree.state c.make_ready.new.tree.subtrees.roots (table c.make_ready.new.sessions) c.make_ready.new.history.items c.in-Some.front.now c.make_ready.ensures.same c.make_ready.ensures.roots c.make_ready.ensures.known c.make_ready.ensures.past
+    (tree_state c.make_ready.new.tree.tree) c.make_ready.new.tree.subtrees.roots (table c.make_ready.new.sessions) c.make_ready.new.history.items c.in-Some.front.now c.make_ready.ensures.same c.make_ready.ensures.roots c.make_ready.ensures.known c.make_ready.ensures.past
     (c.requires.new _ (sym c.in-Some.ensures)) master
     (waiting_at c.args.inboxes.now c.args.rank) c.in-Err-NoInodes.field-0 c.end_front.new.inboxes c.end_front.new.pins c.in-Some.ensures c.in-Err-NoInodes.field-0-is
     (subst (λ (s : Supply). IsUnready (MayTouchAllIn f c.args.tree.now.subtrees.roots c.args.pins.now c.args.rank c.in-Some.front.now.client c.in-Some.front.now.tid op) (MayRefuse c.args.tree.now.tree c.make_ready.new.tree.tree op) (outcome_with f s op) (offer s) c.in-Err-NoInodes.field-0) supply_is c.in-Err-NoInodes.ensures.ready)
@@ -50,12 +51,12 @@ pub returns-in-Err-clause-served : goal.returns-in-Err-clause-served
 returns-in-Err-clause-served g c =
     let supply_is = c.supply_of-supply.ensures in
     let at_rank : c.master_of-master.result ≡ c.args.rank = c.is_same.ensures.0 c.if-not-is_same.false in
-    let master = subst (λ (m : Rank). IsMasterIn c.args.tree.now.tree.state c.args.tree.now.subtrees.roots c.args.rank c.in-Some.front.now.op m) at_rank c.master_of-master.ensures in
-    let f = c.args.tree.now.tree.state in
+    let master = subst (λ (m : Rank). IsMasterIn (tree_state c.args.tree.now.tree) c.args.tree.now.subtrees.roots c.args.rank c.in-Some.front.now.op m) at_rank c.master_of-master.ensures in
+    let f = tree_state c.args.tree.now.tree in
     let op = c.in-Some.front.now.op in
     let isnt : c.in-Err.refusal ≢ NoInodes = search rules in
     refused_there f c.args.tree.now.subtrees.roots c.args.numbers.now.items c.args.inboxes.now c.args.pins.now (table c.args.sessions.now) c.args.history.now.items c.args.rank (MayRefuse c.args.tree.now.tree c.make_ready.new.tree.tree)
-    c.make_ready.new.tree.tree.state c.make_ready.new.tree.subtrees.roots (table c.make_ready.new.sessions) c.make_ready.new.history.items c.in-Some.front.now c.make_ready.ensures.same c.make_ready.ensures.roots c.make_ready.ensures.known c.make_ready.ensures.past
+    (tree_state c.make_ready.new.tree.tree) c.make_ready.new.tree.subtrees.roots (table c.make_ready.new.sessions) c.make_ready.new.history.items c.in-Some.front.now c.make_ready.ensures.same c.make_ready.ensures.roots c.make_ready.ensures.known c.make_ready.ensures.past
     (c.requires.new _ (sym c.in-Some.ensures)) master
     (waiting_at c.args.inboxes.now c.args.rank) c.in-Err.refusal c.in-Some.ensures isnt
     (subst (λ (s : Supply). IsUnready (MayTouchAllIn f c.args.tree.now.subtrees.roots c.args.pins.now c.args.rank c.in-Some.front.now.client c.in-Some.front.now.tid op) (MayRefuse c.args.tree.now.tree c.make_ready.new.tree.tree op) (outcome_with f s op) (offer s) c.in-Err.refusal) supply_is c.in-Err.ensures.ready)

@@ -5,4 +5,4 @@ use Rattle.cluster_core.proofs.FragmentLaws.{lie_at_authority}
 use Rattle.cluster_core.proofs.books.Book.cluster.Goals as goal
 
 pub returns-clause-lie : goal.returns-clause-lie
-returns-clause-lie g c = subst (λ (k : Kept). LieAtAuthority k.core) c.self.view_is (lie_at_authority c.self.inside.cluster c.self.invariant.tree c.self.invariant.cached)
+returns-clause-lie g c = subst (λ (k : Kept). LieAtAuthority k.core) c.self.view_is (lie_at_authority c.self.inside.cluster c.self.invariant.cached)

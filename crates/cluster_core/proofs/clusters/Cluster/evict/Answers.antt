@@ -8,7 +8,7 @@ use Rattle.cluster_core.proofs.clusters.Cluster.evict.Goals as goal
 
 pub evict-requires : goal.evict-requires
 evict-requires g c =
-    let is : length c.self.inside.tree.tree.ranks ≡ length c.args.self.now.state.inboxes = ap (λ (k : Core). length k.ranks) c.self.view_is ∙ c.requires in
+    let is : length c.self.inside.tree.tree.caches.used ≡ length c.args.self.now.state.inboxes = ap (λ (k : Core). length k.caches.used) c.self.view_is ∙ c.requires in
     omega (arith, is, ltb-true c.args.rank.0 (length c.args.self.now.state.inboxes) (sym c.is_rank.ensures ∙ c.if-not-is_rank.false))
 
 pub returns-clause-evicted : goal.returns-clause-evicted
@@ -21,7 +21,6 @@ returns-clause-evicted g c past =
         refl,
         (
           e.evicted,
-          e.others,
           (λ i. state_of (e.kept.state i) (e.roots i).roots c.self.inside.numbers.items c.self.inside.inboxes c.self.inside.pins (table c.self.inside.sessions)),
         ),
         worked _ _ _ _ _ _ _ _ past (ap shown_tree e.kept.state),
