@@ -1,3 +1,4 @@
+use Rattle.dentry_cache.specs.Came.Came.{stays}
 use Rattle.std.proofs.Common.{Err, arith}
 use Rattle.mdcache.specs.Core.{state_of as tree_state}
 use Rattle.mdcache.proofs.CountLaws.{begun_free}
@@ -9,3 +10,6 @@ returns-in-Err-clause-counted g c =
     let new = tree_state c.begin.new.self.tree in
     let none = begun_free old new (c.args.ino, c.args.frag) (Err c.in-Err.refusal) c.in-Err.ensures.begun in
     omega (arith, c.begin.ensures.faults, none)
+
+pub returns-then-not-is_authority-clause-begun : goal.returns-then-not-is_authority-clause-begun
+returns-then-not-is_authority-clause-begun g c = ?

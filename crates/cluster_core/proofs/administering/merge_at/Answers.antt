@@ -1,3 +1,4 @@
+use Rattle.dentry_cache.specs.Came.Came.{stays}
 use Rattle.std.proofs.Common.{◌≡◌, true, false, rules, Err, inr, sym, ◌∙◌, arith}
 use Rattle.fragtree.specs.FragTree.{RefusesMerge}
 use Rattle.inode_table.specs.Dirs.{leaves_of}
@@ -35,3 +36,12 @@ returns-in-Err-clause-counted g c =
     let s = tree_state c.args.tree.now.tree in
     let Refuses = RefusesMerge (leaves_of s.covers c.args.ino.0) c.args.frag in
     omega (arith, leaves_free Refuses (λ never. never) s.homes c.args.ino c.in-Err.refusal c.in-Err.ensures.refused)
+
+pub returns-in-Err-clause-merged : goal.returns-in-Err-clause-merged
+returns-in-Err-clause-merged g c numbers inboxes sessions past = (search rules, stays)
+
+pub returns-then-not-is_all_of-clause-merged : goal.returns-then-not-is_all_of-clause-merged
+returns-then-not-is_all_of-clause-merged g c numbers inboxes sessions past = (search rules, stays)
+
+pub returns-then-is_any_pinned-clause-merged : goal.returns-then-is_any_pinned-clause-merged
+returns-then-is_any_pinned-clause-merged g c numbers inboxes sessions past = (search rules, stays)

@@ -1,3 +1,4 @@
+use Rattle.dentry_cache.specs.Came.Came.{stays}
 use Rattle.std.proofs.Common.{◌≡◌, ◌+◌, ◌^◌, true, false, rules, Err, inr, sym, ◌∙◌, arith}
 use Rattle.fragtree.specs.FragTree.{RefusesSplit}
 use Rattle.inode_table.specs.Dirs.{leaves_of}
@@ -30,3 +31,12 @@ returns-in-Err-clause-counted g c =
     let s = tree_state c.args.tree.now.tree in
     let Refuses = RefusesSplit (leaves_of s.covers c.args.ino.0) c.args.frag c.args.bits in
     omega (arith, leaves_free Refuses (λ never. never) s.homes c.args.ino c.in-Err.refusal c.in-Err.ensures.refused)
+
+pub returns-in-Err-clause-split : goal.returns-in-Err-clause-split
+returns-in-Err-clause-split g c numbers inboxes sessions past = (search rules, stays)
+
+pub returns-then-not-is_authority-clause-split : goal.returns-then-not-is_authority-clause-split
+returns-then-not-is_authority-clause-split g c numbers inboxes sessions past = (search rules, stays)
+
+pub returns-then-is_pinned-clause-split : goal.returns-then-is_pinned-clause-split
+returns-then-is_pinned-clause-split g c numbers inboxes sessions past = (search rules, stays)

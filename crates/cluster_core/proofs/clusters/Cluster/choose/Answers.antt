@@ -46,3 +46,6 @@ returns-in-Evict g c =
 
 pub evict-requires : goal.evict-requires
 evict-requires g c = c.requires.1.ranks.caches ∙ sym c.requires.1.ranks.inboxes
+
+pub returns-in-Arrive-clause-stepped : goal.returns-in-Arrive-clause-stepped
+returns-in-Arrive-clause-stepped g c = ?
