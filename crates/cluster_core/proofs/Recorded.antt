@@ -13,7 +13,6 @@ use Rattle.cluster_core.specs.declared.events.Answer.{Answer}
 use Rattle.cluster_core.specs.declared.events.Event.{Event}
 use Rattle.cluster_core.specs.declared.events.Event.TheVariants.{Arrive, Grant, Serve, Split, Merge, CommitBegin, CommitEnd, CommitDrop, CommitTree, Purge, Evict}
 use Rattle.cluster_core.specs.State.{Core, State}
-use Rattle.cluster_core.specs.Serve.{IsLeft}
 use Rattle.cluster_core.specs.Grants.{GrantsFirst}
 use Rattle.cluster_core.specs.Administers.{Administers, BeginsAt, EvictsOne, MergesLeaves, SplitsLeaf, nothing, told_job}
 use Rattle.cluster_core.specs.Steps.{ArrivesAt, Does, MayRefuse, Steps}

@@ -12,7 +12,6 @@ use Rattle.mdcache.specs.Commits.{Drops, Ends}
 use Rattle.mdcache.specs.Objects.{Purges, SavesTree}
 use Rattle.cluster_core.specs.declared.events.Answer.{Answer}
 use Rattle.cluster_core.specs.Administers.{AdministersTree, BeginsAt, EvictsOne, nothing, told_job}
-use Rattle.cluster_core.specs.Serve.{IsLeft}
 use Rattle.cluster_core.specs.State.{Core, State}
 use Rattle.ranked_tree.specs.Subtrees.{AreRoots, KeepsRoots}
 use Rattle.ranked_tree.proofs.Kept.{keeps_same, keeps_tables}

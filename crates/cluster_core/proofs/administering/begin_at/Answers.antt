@@ -1,5 +1,5 @@
 use Rattle.dentry_cache.specs.Came.Came.{stays}
-use Rattle.std.proofs.Common.{Err, arith}
+use Rattle.std.proofs.Common.{Err, arith, rules}
 use Rattle.mdcache.specs.Core.{state_of as tree_state}
 use Rattle.mdcache.proofs.CountLaws.{begun_free}
 use Rattle.cluster_core.proofs.administering.begin_at.Goals as goal
@@ -12,4 +12,4 @@ returns-in-Err-clause-counted g c =
     omega (arith, c.begin.ensures.faults, none)
 
 pub returns-then-not-is_authority-clause-begun : goal.returns-then-not-is_authority-clause-begun
-returns-then-not-is_authority-clause-begun g c = ?
+returns-then-not-is_authority-clause-begun g c numbers inboxes pins sessions past = (search rules, stays)

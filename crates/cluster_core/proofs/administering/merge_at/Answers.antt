@@ -19,15 +19,17 @@ pub returns-in-Err-merge-clause-merged : goal.returns-in-Err-merge-clause-merged
 returns-in-Err-merge-clause-merged g c numbers inboxes sessions past =
     let mine : c.is_all_of.result ≡ true = search rules in
     let free : c.is_any_pinned.result ≡ false = search rules in (
-      (inr (inr (inr (inr (
-        c.in_default.ensures.known,
-        c.in_default.ensures.can,
-        c.is_all_of.ensures.0 mine,
-        (λ pinned. let clash : false ≡ true = sym free ∙ c.is_any_pinned.ensures.1 pinned in cc),
-        (merge_on (LacksPlacesInside 1 c.args.tree.now.tree c.args.tree.now.subtrees.roots c.args.ino c.args.frag) (LacksPlacesAt 1 c.args.tree.now.tree c.args.rank) c.args.tree.now.tree c.merge.new.self.tree c.args.ino c.args.frag (Err c.in-Err-merge.refusal)
-            (lacks_inside 1 c.args.tree.now.tree c.args.tree.now.subtrees.roots c.args.ino c.args.frag c.args.rank (c.is_all_of.ensures.0 mine)) c.in-Err-merge.ensures.merged).0,
-      )))),
-      left (tree_state c.args.tree.now.tree) (tree_state c.merge.new.self.tree) c.args.tree.now.subtrees.roots c.merge.new.self.subtrees.roots numbers inboxes c.args.pins.now sessions past c.in-Err-merge.ensures.merged.1.0 c.in-Err-merge.ensures.left),
+      (
+        inr (inr (inr (inr (
+          c.in_default.ensures.known,
+          c.in_default.ensures.can,
+          c.is_all_of.ensures.0 mine,
+          (λ pinned. let clash : false ≡ true = sym free ∙ c.is_any_pinned.ensures.1 pinned in cc),
+          (merge_on (LacksPlacesInside 1 c.args.tree.now.tree c.args.tree.now.subtrees.roots c.args.ino c.args.frag) (LacksPlacesAt 1 c.args.tree.now.tree c.args.rank) c.args.tree.now.tree c.merge.new.self.tree c.args.ino c.args.frag (Err c.in-Err-merge.refusal)
+              (lacks_inside 1 c.args.tree.now.tree c.args.tree.now.subtrees.roots c.args.ino c.args.frag c.args.rank (c.is_all_of.ensures.0 mine)) c.in-Err-merge.ensures.merged).0,
+        )))),
+        left (tree_state c.args.tree.now.tree) (tree_state c.merge.new.self.tree) c.args.tree.now.subtrees.roots c.merge.new.self.subtrees.roots numbers inboxes c.args.pins.now sessions past c.in-Err-merge.ensures.merged.1.0 c.in-Err-merge.ensures.left,
+      ),
       c.in-Err-merge.ensures.came,
     )
 

@@ -35,5 +35,5 @@ returns-then-not-has_leaf-clause-came g c = stays
 pub returns-clause-came : goal.returns-clause-came
 returns-clause-came g c =
     let rules_here : Rules (state_of c.args.tree.now) c.args.roots.now.roots (leaf_of c.args.encoded.now.job) c.holder_of-rank.result
-        = subst (λ (job : Job). Rules (state_of c.args.tree.now) c.args.roots.now.roots (leaf_of job) c.holder_of-rank.result) c.job-job.ensures.job c.holder_of-rank.ensures.rules in
+    = subst (λ (job : Job). Rules (state_of c.args.tree.now) c.args.roots.now.roots (leaf_of job) c.holder_of-rank.result) c.job-job.ensures.job c.holder_of-rank.ensures.rules in
     that_came (state_of c.args.tree.now) c.args.roots.now.roots (leaf_of c.args.encoded.now.job) c.holder_of-rank.result rules_here c.args.tree.now.caches c.end.new.self.caches c.end.ensures.came

@@ -1,5 +1,7 @@
 -- Each event does what its function does, and leaves each leaf its authority.
-use Rattle.std.proofs.Common.{nat_lt, length, sym, ◌∙◌}
+use Rattle.std.proofs.Common.{nat_lt, length, sym, ◌∙◌, ap}
+use Rattle.dentry_cache.specs.CacheMap.{CacheMap}
+use Rattle.ranked_tree.proofs.Kept.{keeps_same}
 use Rattle.cluster_core.specs.Administers.{AdministersTree, BeginsCommit, EvictsOne, nothing}
 use Rattle.cluster_core.proofs.Stays.{at_rank_keeps, begun_keeps, dropped_keeps, ended_keeps, evicted_keeps, purged_keeps, saved_keeps}
 use Rattle.cluster_core.proofs.clusters.Cluster.choose.Goals as goal
@@ -48,4 +50,11 @@ pub evict-requires : goal.evict-requires
 evict-requires g c = c.requires.1.ranks.caches ∙ sym c.requires.1.ranks.inboxes
 
 pub returns-in-Arrive-clause-stepped : goal.returns-in-Arrive-clause-stepped
-returns-in-Arrive-clause-stepped g c = ?
+returns-in-Arrive-clause-stepped g c =
+    rw c.in-Arrive.is (record {
+      does = c.arrive.ensures.arrived c.args.history.now.items;
+      authorities = (keeps_same c.args.self.now.state.tree c.arrive.new.self.state.tree c.args.self.now.state.roots c.arrive.new.self.state.roots c.arrive.ensures.tree c.arrive.ensures.roots c.requires.1.subtrees).authorities;
+      ranks = ap (λ (k : CacheMap). length k.used) c.arrive.ensures.caches;
+      capacity = ap (λ (k : CacheMap). k.cap) c.arrive.ensures.caches;
+      counted = c.arrive.ensures.counted;
+    })
