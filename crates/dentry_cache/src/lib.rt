@@ -33,5 +33,6 @@ pub mod rank_laws;
 pub use cache::{Cache, Place};
 pub use caches::Caches;
 pub use dirfrag::Dirfrag;
+pub use loading::load;
 pub use parts::{Part, Parts};
 pub use rank_caches::RankCaches;

@@ -1,0 +1,22 @@
+use Rattle.std.proofs.Common.{◌≡◌, ◌+◌, ◌*◌, ◌^◌, ◌≤◌, ◌∙◌, ap, subst, sym, arith}
+use Rattle.sorted_map.specs.SortedMap.{contents}
+use Rattle.mds_types.specs.Tree.{dentry_cmp}
+use Rattle.inode_table.specs.Numbers.{end_number, first_number}
+use Rattle.cold_store.specs.Numbers.{IsNext, passed_all}
+use Rattle.cold_store.proofs.NumberLaws.{is_next, passes, stays_within}
+use Rattle.cold_store.proofs.walked.Walked.numbers.Goals as goal
+
+pub loop-next-init : goal.loop-next-init
+loop-next-init c =
+    let first = c.first_of-next.ensures in
+    record { from = omega (arith, first); most = omega (arith, first); end_is = omega (arith, first); whole = λ i. passed_all (first i) (end_number c.args.rank.0) (c.iter-rows.ensures i) }
+
+pub loop-next-preserved : goal.loop-next-preserved
+loop-next-preserved c = ?
+
+pub returns-clause-next : goal.returns-clause-next
+returns-clause-next c =
+    let inv = c.loop-next.invariant in
+    subst (IsNext (contents dentry_cmp c.args.self.now.entries)) (sym c.from.ensures)
+    (is_next (contents dentry_cmp c.args.self.now.entries) (record { rank = c.args.rank.0; next = c.loop-next.next })
+        (sym (ap (passed_all c.loop-next.next (end_number c.args.rank.0)) c.in_default.ensures.steps.0) ∙ inv.whole))
