@@ -1,6 +1,5 @@
 -- Where a directory is bad there is a faulty object.
-use Rattle.std.proofs.Common.{◌≡◌, ◌⊎◌, inl, inr, ℕ, ◌+◌, ◌^◌, ◌≤◌, Bool, true, false, List, [], ◌∷◌, ◌++◌, Option, Some, None, refl, sym, ap, subst, ◌∙◌, arith}
-use Rattle.std.specs.FinMap as map
+use Rattle.std.proofs.Common.{◌≡◌, ◌⊎◌, inl, inr, ℕ, ◌+◌, ◌^◌, true, List, [], ◌∷◌, ◌++◌, Option, Some, None, refl, sym, ap, subst, ◌∙◌, arith}
 use Rattle.std.specs.FinMap.{entries_sorted}
 use Rattle.mds_types.specs.Frag.{Fragment, span}
 use Rattle.mds_types.specs.Leaf.{Leaf}
@@ -15,7 +14,7 @@ use Rattle.dentry_cache.specs.Loading.{object_of}
 use Rattle.dentry_cache.specs.Ties.{names_at}
 use Rattle.inode_table.specs.Dirs.{or_whole}
 use Rattle.cold_store.specs.ColdTree.{IsColdLeaf, IsFaulty, IsReached, IsRecord, IsSamePlace, Record, tree_of}
-use Rattle.cold_store.specs.Rows.{IsBadAmong, IsBadIn, IsBadLeaf, IsBadTree, IsGoodTree, IsIn, cover_in, is_met, leaves_at, names_in, rows_at, rows_from, start, with_rows}
+use Rattle.cold_store.specs.Rows.{IsBadAmong, IsBadIn, IsBadLeaf, IsBadTree, IsIn, cover_in, is_met, leaves_at, names_in, rows_at, start, with_rows}
 use Rattle.cold_store.proofs.Members.{in_either, in_left, in_right}
 use Rattle.cold_store.proofs.ObjectLaws.{good_leaves, good_says, said_tree}
 use Rattle.cold_store.proofs.RowLaws.{IsOld, IsRowOf, first_old, met_among, met_at_start, with_rows-append}
@@ -41,8 +40,10 @@ module _ (objects : Objects) (d : Ino) (above : IsReached objects d.0) where
       where
         here : IsIn w.old (rows_at objects (d, f))
         here = subst (λ rs. IsIn w.old rs) (sym w.split) (in_right w.old w.before (w.old ∷ w.behind) (inl refl))
+
         earlier : (q : Record) → IsIn q w.before → IsIn q (rows_at objects (d, f))
         earlier q h = subst (λ rs. IsIn q rs) (sym w.split) (in_left q w.before (w.old ∷ w.behind) h)
+
         among : (q : Record) → IsIn q rows ⊎ IsIn q w.before → q.inode.ino.0 ≡ w.old.inode.ino.0 → IsFaulty objects (FragOf d f)
         among q (inl h) same =
             let b = before q h in
@@ -51,8 +52,10 @@ module _ (objects : Objects) (d : Ino) (above : IsReached objects d.0) where
         among q (inr h) same =
             pair w.old q here (reached_at q (earlier q h)) (of_leaf objects (d, f) q cold (earlier q h)) same
             (λ place. names_apart (d, f) (names_in objects (d, f)) w.before w.old w.behind q (entries_sorted (names_at (object_of objects d f))) w.split h (sym place.1))
+
         root : w.old.inode.ino.0 ≡ 1 → ⊥
         root one = let a = (allowed objects w.old (of_leaf objects (d, f) w.old cold here)).number.least in omega (arith, a, one)
+
         go : (is_met start w.old.inode.ino.0 ≡ true) ⊎ IsRowOf (rows ++ w.before) w.old.inode.ino.0 → IsFaulty objects (FragOf d f)
         go (inl met) = absurd (root (met_at_start w.old.inode.ino.0 met))
         go (inr q) = among q.row (in_either q.row rows w.before q.among) q.is

@@ -1,15 +1,14 @@
 -- What a walk has found once all directories that it found are walked.
-use Rattle.std.proofs.Common.{◌≡◌, ◌⊎◌, inl, inr, ℕ, ◌+◌, ◌<◌, ◌≤◌, ◌^◌, Bool, true, false, is_some, List, [], ◌∷◌, ◌++◌, Option, Some, None, refl, sym, ap, subst, ◌∙◌, arith}
-use Rattle.std.specs.Prelude.{◌==◌, ◌||◌}
-use Rattle.std.specs.Option.{unwrap_or}
-use Rattle.std.proofs.lemmas.Bool.{eqb-true, or_cases, or_left, or_right}
+use Rattle.std.proofs.Common.{◌≡◌, ◌⊎◌, inl, inr, ℕ, true, is_some, List, ◌∷◌, Option, Some, None, refl, sym, ap, subst, ◌∙◌}
+use Rattle.std.specs.Prelude.{◌==◌}
+use Rattle.std.proofs.lemmas.Bool.{eqb-true, or_cases, or_right}
 use Rattle.std.proofs.lemmas.Option.{same_Some}
 use Rattle.std.specs.Ordering.{nat_cmp}
 use Rattle.std.specs.FinMap as map
 use Rattle.std.specs.FinMap.{get-empty}
 use Rattle.mds_types.specs.Frag.{Contains, Fragment}
 use Rattle.mds_types.specs.Leaf.{Leaf}
-use Rattle.mds_types.specs.Tree.{Tree, dentry_cmp, dentry_of, is_dir_kind}
+use Rattle.mds_types.specs.Tree.{dentry_cmp, dentry_of, is_dir_kind}
 use Rattle.mds_types.specs.declared.dentries.Dentry.{Dentry}
 use Rattle.mds_types.specs.declared.ids.Ino.{Ino}
 use Rattle.mds_types.specs.declared.inodes.Inode.{Inode}
@@ -21,13 +20,13 @@ use Rattle.fragtree.proofs.TreeLaws.{pick_from_leaf}
 use Rattle.dentry_cache.specs.Loading.{object_of}
 use Rattle.dentry_cache.specs.Ties.{names_at}
 use Rattle.inode_table.specs.declared.dirs.Home.{Home}
-use Rattle.inode_table.specs.Dirs.{Covers, Homes, is_known, leaves_of, or_whole}
+use Rattle.inode_table.specs.Dirs.{Covers, is_known, leaves_of, or_whole}
 use Rattle.inode_table.specs.TreeTable.{HoldsHomes, home_at}
 use Rattle.cold_store.specs.ColdTree.{HasRecords, IsColdLeaf, IsReached, IsRecord, IsSamePlace, Record, SaysLeaves, tree_of}
 use Rattle.cold_store.specs.Rows.{AreGoodDirs, IsIn, Shape, cover_in, covers_from, leaves_at, rows_from, start, with_rows}
 use Rattle.cold_store.specs.Walked.{HasWhole}
-use Rattle.cold_store.proofs.ObjectLaws.{belongs, good_bare, good_leaves, good_says, said_tree}
-use Rattle.cold_store.proofs.RowLaws.{IsDirOf, IsEntryOf, IsHomeOf, dentry_at, dir_among, dirs_of, entry_among, home_among, homes_stand, in_dirs_of, is_dir, one_row, rows_stand}
+use Rattle.cold_store.proofs.ObjectLaws.{belongs, good_bare, good_says, said_tree}
+use Rattle.cold_store.proofs.RowLaws.{IsEntryOf, IsHomeOf, dentry_at, dir_among, dirs_of, entry_among, home_among, homes_stand, in_dirs_of, is_dir, one_row, rows_stand}
 use Rattle.cold_store.proofs.StoreRows.{dirs_have, held_of, in_dirs, leaves_are, of_cold_leaf}
 use Rattle.cold_store.proofs.GoodLaws.{IsGood, all_new, each_good, row_among, row_settled}
 
@@ -130,6 +129,7 @@ module _ (objects : Objects) (queue : List Ino) (good : AreGoodDirs objects star
       listed q i there dir =
           let w = entry q i there in
           ap (λ (x : Inode). map.get end.homes x.ino.0) (sym w.is) ∙ row_home w.row w.among (ap (λ (x : Inode). is_dir_kind x.kind) w.is ∙ dir) ∙ ap (λ (p : Dentry). Some (home_at p)) w.at
+
       stands : (k : ℕ) (h : Home) → map.get end.homes k ≡ Some h → (inode : Inode) × (map.get end.tree (dentry_of h.parent.0 h.name) ≡ Some inode) × (inode.ino.0 ≡ k) × (is_dir_kind inode.kind ≡ true)
       stands k h is =
           let w = home k h is in
@@ -145,6 +145,7 @@ module _ (objects : Objects) (queue : List Ino) (good : AreGoodDirs objects star
           let w = home d h is in
           let same : w.row.inode.ino ≡ record { 0 = d } = λ i. record { 0 = w.number i } in
           subst (λ q. IsIn (record { 0 = d }) q) (sym whole) (inr (subst (λ (n : Ino). IsIn n (dirs_of rows)) same (in_dirs_of w.row rows w.among w.dir)))
+
       go : ((d == 1) ≡ true) ⊎ (is_some (map.get end.homes d) ≡ true) → IsIn (record { 0 = d }) queue
       go (inl root) = subst (λ q. IsIn (record { 0 = d }) q) (sym whole) (inl (λ i. record { 0 = sym (eqb-true d 1 root) i }))
       go (inr some) = of_home (map.get end.homes d) refl some

@@ -1,5 +1,5 @@
 -- Directories in which nothing is bad, and the rows of leaves that they leave.
-use Rattle.std.proofs.Common.{◌≡◌, ◌⊎◌, inl, inr, ℕ, true, is_some, List, [], ◌∷◌, ◌++◌, Option, Some, None, refl, sym, ap, subst, ◌∙◌}
+use Rattle.std.proofs.Common.{◌≡◌, ◌⊎◌, inl, inr, ℕ, true, List, [], ◌∷◌, ◌++◌, Option, Some, None, refl, sym, subst, ◌∙◌}
 use Rattle.std.specs.FinMap as map
 use Rattle.sorted_map.proofs.NatKeys.{after_put, get_put, get_beside, same_or_apart}
 use Rattle.mds_types.specs.Frag.{Fragment}
@@ -9,8 +9,8 @@ use Rattle.fragtree.specs.FragTree.{HasLeaf}
 use Rattle.fragtree.proofs.TreeLaws.{first_or_later}
 use Rattle.dentry_cache.specs.Loading.{object_of}
 use Rattle.inode_table.specs.Dirs.{Covers}
-use Rattle.std.proofs.Common.{◌<◌, arith}
-use Rattle.cold_store.specs.ColdTree.{Record, tree_of}
+use Rattle.std.proofs.Common.{arith}
+use Rattle.cold_store.specs.ColdTree.{tree_of}
 use Rattle.cold_store.specs.Rows.{AreGoodDirs, AreGoodLeaves, IsGoodDir, IsGoodTree, IsIn, Shape, are_new, cover_in, covers_from, leaves_at, rows_at, rows_from, rows_in, rows_under, with_cover, with_rows}
 use Rattle.cold_store.specs.Walked.{HasWhole}
 use Rattle.cold_store.proofs.RowLaws.{are_new-append, with_rows-append}
@@ -69,6 +69,7 @@ module _ (objects : Objects) where
       last : (map.get covers k ≡ Some leaves) ⊎ (k ≡ d.0) → (map.get covers k ≡ Some leaves) ⊎ IsIn (record { 0 = k }) (d ∷ ds)
       last (inl before) = inl before
       last (inr same) = inr (inl (λ i. record { 0 = sym same i }))
+
       go : (map.get (with_cover covers d (cover_in objects d)) k ≡ Some leaves) ⊎ IsIn (record { 0 = k }) ds → (map.get covers k ≡ Some leaves) ⊎ IsIn (record { 0 = k }) (d ∷ ds)
       go (inl before) = last (row_from covers d (cover_in objects d) k leaves before)
       go (inr rest) = inr (inr rest)

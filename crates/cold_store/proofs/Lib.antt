@@ -11,3 +11,5 @@ pub mod Refusals
 pub mod PageLaws
 pub mod NameLaws
 pub mod NumberLaws
+pub mod ColdLaws
+pub mod TabledLaws

@@ -100,13 +100,19 @@ contains-with_keys keys (e ∷ es) name =
     ∙ ap (λ o. is_some o || is_some (find key_cmp name es)) (get-insert nat_list_cmp_total keys e.0 tt name)
     ∙ one_key (eq_by_cmp key_cmp name e.0) (map.get keys name) e.1 (find key_cmp name es)
 
-pub all_named : (objects : Objects) (keys : Keys) → keys ≡ with_keys map.empty (names_after objects None) → AreNamesOf objects keys
+all_named : (objects : Objects) (keys : Keys) → keys ≡ with_keys map.empty (names_after objects None) → AreNamesOf objects keys
 unfolding names_after
 all_named objects keys is name =
     ap (λ k. map.contains_key k name) (is ∙ ap (λ es. with_keys map.empty (each (λ e. e.0) es)) (all_kept (map.entries objects)))
     ∙ contains-with_keys map.empty (map.entries objects) name
     ∙ ap (λ o. is_some o || is_some (find key_cmp name (map.entries objects))) (get-empty key_cmp name)
     ∙ sym (ap is_some (get-entries objects name))
+
+-- so with a last page, asked for behind the names that were read
+pub all_read : (objects now : Objects) (after asked : Option (List ℕ)) (before keys : Keys) → now ≡ objects → asked ≡ after → with_keys before (names_after objects after) ≡ with_keys map.empty (names_after objects None)
+    → keys ≡ with_keys before (names_after now asked) → AreNamesOf objects keys
+all_read objects now after asked before keys same a whole read =
+    all_named objects keys (read ∙ ap (λ o. with_keys before (names_after now o)) a ∙ ap (λ (o : Objects). with_keys before (names_after o after)) same ∙ whole)
 
 -- ---- pages of names
 
@@ -186,5 +192,8 @@ module _ (objects : Objects) (after : Option (List ℕ)) where
         let total : length page.names + length (names_after objects (Some last)) ≡ length xs = sym (length-append page.names (names_after objects (Some last))) ∙ ap (length {A = List ℕ}) split in
         (ap (λ k. with_keys k (names_after objects (Some last))) put ∙ sym (with_keys-append old page.names (names_after objects (Some last))) ∙ ap (with_keys old) split, omega (arith, total, count))
 
-    pub page_ends : (old new : Keys) (last : Option (List ℕ)) (told : Bool) (names : List (List ℕ)) → told ≡ page.more → names ≡ page.names → new ≡ with_keys old page.names → IsLastOf told names last → EndsNames objects after old new last
-    page_ends old new last told names m n put h = ends old new last put (subst (λ b. IsLastOf b page.names last) m (subst (λ (ns : List (List ℕ)). IsLastOf told ns last) n h))
+-- what a page leaves, as a call read it: what it asked for, and what it made of the answer
+pub page_read : (objects : Objects) (after asked : Option (List ℕ)) (page : NameList) (old new : Keys) (last : Option (List ℕ)) (told : Bool) (names taken : List (List ℕ)) → asked ≡ after → page ≡ first_names 64 (names_after objects asked)
+    → told ≡ page.more → names ≡ page.names → taken ≡ page.names → new ≡ with_keys old taken → IsLastOf told names last → EndsNames objects after old new last
+page_read objects after asked page old new last told names taken a p m n k put h =
+    ends objects after page (p ∙ ap (λ o. first_names 64 (names_after objects o)) a) old new last (put ∙ ap (with_keys old) k) (subst (λ b. IsLastOf b page.names last) m (subst (λ (ns : List (List ℕ)). IsLastOf told ns last) n h))

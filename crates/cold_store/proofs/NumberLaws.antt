@@ -1,5 +1,5 @@
 -- The next number of a rank, from the entries one by one.
-use Rattle.std.proofs.Common.{◌≡◌, ◌⊎◌, inl, inr, ℕ, ◌+◌, ◌*◌, ◌^◌, ◌<◌, ◌≤◌, Bool, true, false, cond, ◌&&◌, List, [], ◌∷◌, Some, refl, sym, ap, subst, ◌∙◌, arith}
+use Rattle.std.proofs.Common.{◌≡◌, ◌⊎◌, inl, inr, ℕ, ◌+◌, ◌<◌, ◌≤◌, Bool, true, false, cond, ◌&&◌, List, [], ◌∷◌, refl, sym, subst, ◌∙◌, arith}
 use Rattle.std.specs.Prelude.{nat_le, nat_lt}
 use Rattle.std.proofs.lemmas.Bool.{and_parts}
 use Rattle.std.proofs.lemmas.Bool.Decides.{nat_tests}
@@ -79,6 +79,7 @@ from_entries next end (e ∷ es) = go (from_entries (passed next end e.1.ino.0) 
     head : passed_all next end (e ∷ es) ≡ passed next end e.1.ino.0 → (passed next end e.1.ino.0 ≡ next) ⊎ ((next ≤ e.1.ino.0) × (e.1.ino.0 < end) × (passed next end e.1.ino.0 ≡ e.1.ino.0 + 1)) → (passed_all next end (e ∷ es) ≡ next) ⊎ IsFrom next end (e ∷ es)
     head stays (inl none) = inl (stays ∙ none)
     head stays (inr (least, less, is)) = inr (record { entry = e; among = inl refl; from = least; before = less; is = stays ∙ is })
+
     go : (passed_all (passed next end e.1.ino.0) end es ≡ passed next end e.1.ino.0) ⊎ IsFrom (passed next end e.1.ino.0) end es → (passed_all next end (e ∷ es) ≡ next) ⊎ IsFrom next end (e ∷ es)
     go (inl stays) = head stays (from_one next end e.1.ino.0)
     go (inr w) = let least = w.from in inr (record { entry = w.entry; among = inr w.among; from = omega (arith, least, passes next end e.1.ino.0); before = w.before; is = w.is })

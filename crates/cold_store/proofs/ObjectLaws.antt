@@ -1,5 +1,5 @@
 -- What one object says: the names of a leaf's, and the leaves of a tree's.
-use Rattle.std.proofs.Common.{◌≡◌, ◌⊎◌, inl, inr, ℕ, Bool, true, false, List, [], ◌∷◌, Option, Some, None, refl, sym, ap, subst, ◌∙◌, arith}
+use Rattle.std.proofs.Common.{◌≡◌, ℕ, Bool, true, false, List, [], ◌∷◌, Option, Some, None, refl, sym, ap, subst, ◌∙◌, arith}
 use Rattle.std.proofs.lemmas.Option.{same_Some}
 use Rattle.std.specs.Option.{unwrap_or}
 use Rattle.std.specs.Prelude.{◌≤◌, cond}
@@ -20,7 +20,6 @@ use Rattle.dirfrag_codec.specs.Values.{entry_of, is_name, tree_of as leaves_spel
 use Rattle.dirfrag_codec.proofs.FragmentLaws.{shows_at_each, spells_what_it_shows}
 use Rattle.dirfrag_codec.proofs.TreeLaws.{one_tree}
 use Rattle.dirfrag_codec.proofs.ValueLaws.{read_as, reads_entry, reads_tree, spelled_as}
-use Rattle.commit_jobs.specs.declared.marks.Mark.{Mark}
 use Rattle.cached_frag.specs.Cached.{Cached, shown}
 use Rattle.cached_frag.proofs.ShownLaws.{only_below}
 use Rattle.dentry_cache.specs.Loading.{Loads}
@@ -61,7 +60,7 @@ loaded_clean f None c loads = absurd loads
 loaded_clean f (Some object) c (version, names, whole, is) = ap (λ (d : Cached). d.dirty) is
 
 pub loaded_fits : (f : Fragment) (o : Option Omap) (c : Cached) → Loads f o (Some c) → map.len c.dirty ≤ c.places
-loaded_fits f o c loads = let none : map.len c.dirty ≡ 0 = ap map.len (loaded_clean f o c loads) ∙ len-empty key_cmp Mark in omega (arith, none)
+loaded_fits f o c loads = let none : map.len c.dirty ≡ 0 = ap map.len (loaded_clean f o c loads) ∙ len-empty key_cmp _ in omega (arith, none)
 
 -- an object that is whole isn't off
 pub whole_loads : (f : Fragment) (o : Option Omap) → HasWhole f o → Loads f o None → ⊥

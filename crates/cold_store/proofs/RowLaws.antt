@@ -1,5 +1,5 @@
 -- What was found, from the records that were added.
-use Rattle.std.proofs.Common.{◌≡◌, ◌⊎◌, inl, inr, ℕ, Bool, true, false, cond, not, ◌&&◌, ◌||◌, is_some, List, [], ◌∷◌, ◌++◌, Option, Some, None, refl, sym, ap, subst, ◌∙◌}
+use Rattle.std.proofs.Common.{◌≡◌, ◌⊎◌, inl, inr, ℕ, Bool, true, false, cond, not, ◌&&◌, is_some, List, [], ◌∷◌, ◌++◌, Option, Some, None, refl, sym, ap, subst, ◌∙◌}
 use Rattle.std.specs.Prelude.{◌==◌}
 use Rattle.std.proofs.lemmas.Bool.{and_parts, and_from, or_cases, or_left, or_right, eqb-true}
 use Rattle.std.proofs.lemmas.List.{append_assoc, append-nil}
@@ -69,6 +69,7 @@ dir_among d (q ∷ rs) h = go (is_dir q) refl h (dir_among d rs)
   where
     behind : IsDirOf rs d → IsDirOf (q ∷ rs) d
     behind w = record { row = w.row; among = inr w.among; dir = w.dir; is = w.is }
+
     go : (b : Bool) → is_dir q ≡ b → IsIn d (cond b (q.inode.ino ∷ dirs_of rs) (dirs_of rs)) → (IsIn d (dirs_of rs) → IsDirOf rs d) → IsDirOf (q ∷ rs) d
     go true is (inl same) more = record { row = q; among = inl refl; dir = is; is = same }
     go true is (inr rest) more = behind (more rest)
@@ -107,6 +108,7 @@ met_among s (q ∷ rs) n met = go (met_among (with_row s q) rs n met)
     last : (is_met s n ≡ true) ⊎ (q.inode.ino.0 ≡ n) → (is_met s n ≡ true) ⊎ IsRowOf (q ∷ rs) n
     last (inl before) = inl before
     last (inr here) = inr (record { row = q; among = inl refl; is = here })
+
     go : (is_met (with_row s q) n ≡ true) ⊎ IsRowOf rs n → (is_met s n ≡ true) ⊎ IsRowOf (q ∷ rs) n
     go (inl before) = last (met_from s q n before)
     go (inr w) = inr (record { row = w.row; among = inr w.among; is = w.is })
@@ -117,6 +119,7 @@ met_at_start n met = go (same_or_apart n 1)
   where
     nothing : map.FinMap nat_cmp (Unit {0})
     nothing = map.empty
+
     go : (n ≡ 1) ⊎ (n ≡ 1 → ⊥) → n ≡ 1
     go (inl same) = same
     go (inr apart) = let clash : false ≡ true = sym (ap is_some (get_beside nothing 1 tt n apart ∙ get-empty nat_cmp n)) ∙ met in absurd cc
@@ -173,6 +176,7 @@ dirs_apart s (r ∷ rs) new = go (is_dir r) (dirs_apart (with_row s r) rs (rest_
     never h =
         let w = dir_among r.inode.ino rs h in
         new_apart (with_row s r) rs w.row (rest_new s r rs new) w.among (subst (λ (d : Ino). is_met (with_row s r) d.0 ≡ true) (sym w.is) (met_head s r))
+
     go : (b : Bool) → AreApart (dirs_of rs) → AreApart (cond b (r.inode.ino ∷ dirs_of rs) (dirs_of rs))
     go true apart = (never, apart)
     go false apart = apart
@@ -211,6 +215,7 @@ entry_among s (r ∷ rs) q i stands = go (entry_among (with_row s r) rs q i stan
     last : ((q ≡ dentry_at r) × (r.inode ≡ i)) ⊎ ((q ≡ dentry_at r → ⊥) × (map.get s.tree q ≡ Some i)) → (map.get s.tree q ≡ Some i) ⊎ IsEntryOf (r ∷ rs) q i
     last (inl here) = inr (record { row = r; among = inl refl; at = sym here.0; is = here.1 })
     last (inr before) = inl before.1
+
     go : (map.get (with_row s r).tree q ≡ Some i) ⊎ IsEntryOf rs q i → (map.get s.tree q ≡ Some i) ⊎ IsEntryOf (r ∷ rs) q i
     go (inl before) = last (stands_after_put s.tree (dentry_at r) r.inode q i before)
     go (inr w) = inr (record { row = w.row; among = inr w.among; at = w.at; is = w.is })
@@ -279,9 +284,11 @@ home_among s (r ∷ rs) k home is = go (home_among (with_row s r) rs k home is)
         at : IsIn w.row (r ∷ []) → IsIn w.row (r ∷ rs)
         at (inl same) = inl same
         at (inr none) = absurd none
+
     last : (map.get s.homes k ≡ Some home) ⊎ IsHomeOf (r ∷ []) k home → (map.get s.homes k ≡ Some home) ⊎ IsHomeOf (r ∷ rs) k home
     last (inl before) = inl before
     last (inr w) = inr (first w)
+
     go : (map.get (with_row s r).homes k ≡ Some home) ⊎ IsHomeOf rs k home → (map.get s.homes k ≡ Some home) ⊎ IsHomeOf (r ∷ rs) k home
     go (inl before) = last (home_from s r k home before)
     go (inr w) = inr (record { row = w.row; among = inr w.among; dir = w.dir; number = w.number; is = w.is })
@@ -305,9 +312,11 @@ known_from s r k known = go (or_cases (k == 1) (is_some (map.get (with_row s r).
         one : (q : Record) → IsIn q (r ∷ []) → q.inode.ino.0 ≡ k → r.inode.ino.0 ≡ k
         one q (inl same) number = ap (λ (x : Record). x.inode.ino.0) same ∙ number
         one q (inr none) number = absurd none
+
         pick : (map.get s.homes k ≡ Some home) ⊎ IsHomeOf (r ∷ []) k home → (is_known s.homes k ≡ true) ⊎ (r.inode.ino.0 ≡ k)
         pick (inl before) = inl (or_right (k == 1) _ (ap is_some before))
         pick (inr w) = inr (one w.row w.among w.number)
+
     go : ((k == 1) ≡ true) ⊎ (is_some (map.get (with_row s r).homes k) ≡ true) → (is_known s.homes k ≡ true) ⊎ (r.inode.ino.0 ≡ k)
     go (inl root) = inl (or_left (k == 1) _ root)
     go (inr some) = of_home (map.get (with_row s r).homes k) refl some
@@ -330,6 +339,7 @@ each_met_after s (r ∷ rs) met k known = each_met_after (with_row s r) rs next 
     go : (j : ℕ) → (is_known s.homes j ≡ true) ⊎ (r.inode.ino.0 ≡ j) → is_met (with_row s r) j ≡ true
     go j (inl before) = met_stays s r j (met j before)
     go j (inr here) = subst (λ i. is_met (with_row s r) i ≡ true) here (met_head s r)
+
     next : (j : ℕ) → is_known (with_row s r).homes j ≡ true → is_met (with_row s r) j ≡ true
     next j there = go j (known_from s r j there)
 
@@ -339,6 +349,7 @@ each_met_at_start k known = go (or_cases (k == 1) (is_some (map.get start.homes 
   where
     nothing : map.FinMap nat_cmp (Unit {0})
     nothing = map.empty
+
     go : ((k == 1) ≡ true) ⊎ (is_some (map.get start.homes k) ≡ true) → is_met start k ≡ true
     go (inl root) = ap (λ j. is_met start j) (eqb-true k 1 root) ∙ ap is_some (get_put nothing 1 tt)
     go (inr some) = let both : false ≡ true = sym (ap is_some (get-empty nat_cmp k)) ∙ some in absurd cc
@@ -353,6 +364,7 @@ may_come s d name inode ready new = record {
   where
     not_known : is_known s.homes inode.ino.0 ≡ true → ⊥
     not_known known = let both : true ≡ false = sym (ready.each_met inode.ino.0 known) ∙ new in absurd cc
+
     none : (o : Option Home) → map.get s.homes inode.ino.0 ≡ o → map.get s.homes inode.ino.0 ≡ None
     none None is = is
     none (Some home) is = absurd (not_known (or_right (inode.ino.0 == 1) _ (ap is_some is)))

@@ -1,6 +1,6 @@
 -- The records that a walk adds are those of the reached directories.
-use Rattle.std.proofs.Common.{◌≡◌, ◌⊎◌, inl, inr, ℕ, Bool, true, false, T, List, [], ◌∷◌, ◌++◌, Option, Some, None, refl, sym, ap, subst, ◌∙◌, arith}
-use Rattle.std.specs.Prelude.{◌+◌, ◌<◌}
+use Rattle.std.proofs.Common.{◌≡◌, ◌⊎◌, inl, inr, ℕ, T, List, [], ◌∷◌, ◌++◌, Option, Some, None, refl, sym, ap, subst, ◌∙◌, arith}
+use Rattle.std.specs.Prelude.{◌+◌}
 use Rattle.std.specs.Option.{unwrap_or}
 use Rattle.std.proofs.lemmas.List.{append_assoc, append-nil}
 use Rattle.std.proofs.lemmas.Map.Lookups.{exact_bytes}
@@ -14,7 +14,7 @@ use Rattle.mds_types.specs.declared.ids.Ino.{Ino}
 use Rattle.mds_types.specs.declared.inodes.Inode.{Inode}
 use Rattle.omap.specs.Omap.{Omap, key_cmp}
 use Rattle.objstore.specs.Objects.{Objects}
-use Rattle.fragtree.specs.FragTree.{HasLeaf, IsTree, Tiles}
+use Rattle.fragtree.specs.FragTree.{HasLeaf, Tiles}
 use Rattle.fragtree.proofs.Ranges.{span_pos}
 use Rattle.fragtree.proofs.Tilings.{between}
 use Rattle.fragtree.proofs.TreeLaws.{first, first_or_later, later}
@@ -25,7 +25,7 @@ use Rattle.mds_types.specs.Frag.{span}
 use Rattle.cold_store.specs.ColdTree.{IsColdLeaf, IsRecord, Record, SaysLeaves, tree_of}
 use Rattle.cold_store.specs.Rows.{IsIn, leaves_at, leaves_said, names_in, row_of, rows_at, rows_from, rows_in, rows_of, rows_under}
 use Rattle.cold_store.proofs.Members.{below_apart, entry_of, get_entry, in_either, in_left, in_right}
-use Rattle.cold_store.proofs.ObjectLaws.{recordable, said_by, said_tree, says_by}
+use Rattle.cold_store.proofs.ObjectLaws.{recordable, said_by, says_by}
 
 module _ (leaf : Leaf) where
   pub in_rows : (es : List (List ℕ × Inode)) (r : Record) → IsIn r (rows_of leaf es) → (e : List ℕ × Inode) × IsIn e es × (row_of leaf e ≡ r)

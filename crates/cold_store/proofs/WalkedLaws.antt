@@ -1,17 +1,16 @@
 -- What a walk found is what the definition asks.
-use Rattle.std.proofs.Common.{◌≡◌, ◌⊎◌, inl, inr, ℕ, ◌≤◌, true, is_some, List, [], ◌∷◌, ◌++◌, length, take, Option, Some, None, refl, sym, ap, subst, ◌∙◌, arith}
+use Rattle.std.proofs.Common.{◌≡◌, ◌⊎◌, inl, inr, ℕ, true, is_some, List, [], ◌∷◌, length, take, Some, None, refl, sym, ap, subst, ◌∙◌, arith}
 use Rattle.std.specs.Prelude.{◌==◌}
 use Rattle.std.proofs.lemmas.Bool.{or_right}
 use Rattle.std.proofs.lemmas.List.{take_all}
 use Rattle.std.specs.FinMap as map
 use Rattle.std.specs.FinMap.{get-empty}
 use Rattle.mds_types.specs.Frag.{Fragment}
-use Rattle.mds_types.specs.Leaf.{Leaf}
 use Rattle.mds_types.specs.ObjectText.{object_text}
 use Rattle.mds_types.specs.Tree.{Tree, dentry_of}
 use Rattle.mds_types.specs.declared.ids.Ino.{Ino}
-use Rattle.mds_types.specs.declared.object_names.ObjName.TheVariants.{Frag as FragOf, Tree as TreeOf}
-use Rattle.omap.specs.Omap.{Keys, Omap, key_cmp}
+use Rattle.mds_types.specs.declared.object_names.ObjName.TheVariants.{Frag as FragOf}
+use Rattle.omap.specs.Omap.{Keys}
 use Rattle.objstore.specs.Objects.{Objects}
 use Rattle.fragtree.specs.FragTree.{HasLeaf}
 use Rattle.fragtree.proofs.TreeLaws.{first, first_or_later, later, some_pick}
@@ -26,7 +25,7 @@ use Rattle.cold_store.proofs.Members.{in_either, in_left, in_right}
 use Rattle.cold_store.proofs.ObjectLaws.{said_tree, whole_loads}
 use Rattle.cold_store.proofs.RowLaws.{dirs_of, queue_after}
 use Rattle.cold_store.proofs.StoreRows.{leaves_are, of_cold_leaf}
-use Rattle.cold_store.proofs.Finish.{bare, found, found_known, found_says, homes_held, known_found, once, records, row_known, whole_leaf}
+use Rattle.cold_store.proofs.Finish.{bare, found, found_says, homes_held, known_found, once, records, row_known, whole_leaf}
 
 -- ---- the names of the objects of directories
 
@@ -93,6 +92,7 @@ module _ (objects : Objects) (finding : Finding) (left : Keys) (w : IsWalkedTo o
       pick : (d : Ino) → IsIn d queue → IsIn name (texts_in finding.covers d) → IsReachedObject objects name
       pick d here (inl same) = inr (d, w.reached d here, sym same)
       pick d here (inr more) = let t = text_of d (leaves_of finding.covers d.0) name more in inl ((d, t.0), w.reached d here, (leaves_of finding.covers d.0, says d here, t.1), t.2)
+
       go : (d : Ino) × IsIn d queue × IsIn name (texts_in finding.covers d) → IsReachedObject objects name
       go (d, here, at) = pick d here at
 
@@ -130,7 +130,7 @@ walked_as objects now finding left keys tree homes covers w same rest t h c k =
 -- ---- what was walked is the cold tree
 
 module _ (objects : Objects) (tree : Tree) (homes : Homes) (covers : Covers) (left : Keys) (w : IsWalked objects tree homes covers left) where
-  known_there : (d : ℕ) → IsReached objects d → is_known homes d ≡ true
+  pub known_there : (d : ℕ) → IsReached objects d → is_known homes d ≡ true
   known_there _ IsReached.root = refl
   known_there _ (IsReached.named r above rec dir) =
       or_right (r.inode.ino.0 == 1) _ (ap is_some (w.homes_held.listed (dentry_of r.leaf.0.0 r.name) r.inode (w.records.all r above rec) dir))

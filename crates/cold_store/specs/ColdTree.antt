@@ -72,3 +72,7 @@ pub record HasRecords (objects : Objects) (tree : Tree) : Type 0 where
 -- the cold tree of a store: empty where it has no objects; otherwise none of them is faulty, and the tree has all records
 abbrev pub IsColdTree : Objects → Tree → Type 0
 IsColdTree objects tree = ((objects ≡ map.empty) × (tree ≡ map.empty)) ⊎ ((objects ≡ map.empty → ⊥) × HasNoFault objects × HasRecords objects tree)
+
+-- a store has at most one cold tree
+abbrev pub HasOneColdTree : Type 0
+HasOneColdTree = (objects : Objects) (a b : Tree) → IsColdTree objects a → IsColdTree objects b → a ≡ b

@@ -14,8 +14,8 @@ use Rattle.omap.specs.Omap.{Keys, Omap}
 use Rattle.objstore.specs.Objects.{Objects}
 use Rattle.dirfrag_codec.specs.FragmentObject.{Names}
 use Rattle.dentry_cache.specs.Loading.{IsWhole, object_of}
-use Rattle.inode_table.specs.Dirs.{Covers, Homes, is_known, leaves_of}
-use Rattle.inode_table.specs.TreeTable.{HoldsHomes}
+use Rattle.inode_table.specs.Dirs.{Covers, Homes, IsTable, is_known, leaves_of}
+use Rattle.inode_table.specs.TreeTable.{HoldsHomes, IsTabled}
 use Rattle.cold_store.specs.ColdTree.{HasRecords, IsColdLeaf, IsFaulty, IsReached, IsRecord, IsSamePlace, Record, SaysLeaves, tree_of}
 
 -- a leaf's object is there, and spells a fragment of it whole
@@ -53,3 +53,7 @@ MayFail IsOff before after reason = (reason ≡ NoMemory) ⊎ ((reason ≡ Store
 -- why a walk may be refused: an object that is named is a faulty one
 abbrev pub MayNotWalk : Objects → ℕ → ℕ → Refusal → Type 0
 MayNotWalk objects before after reason = MayFail (IsFaulty objects) before after reason
+
+-- what a walk finds is a well-formed tree with the table of its directories
+abbrev pub WalkedIsTabled : Type 0
+WalkedIsTabled = (objects : Objects) (tree : Tree) (homes : Homes) (covers : Covers) (left : Keys) → IsWalked objects tree homes covers left → IsTabled tree homes × IsTable homes covers

@@ -9,9 +9,12 @@ mod found;
 mod reading;
 mod walking;
 
-// what it ends in: the entries, the directories, the names of other objects, and each rank's next number
+// what it ends in: the names of other objects beside what was found, and each rank's next number
 mod remaining;
 mod walked;
+
+// what follows from the definition
+pub mod laws;
 
 pub use walked::Walked;
 pub use walking::walk;

@@ -48,11 +48,7 @@ pub fn take_dir<S: Store>(
 }
 
 // The tree that a directory's tree object spells, if the object is there.
-fn read_tree<S: Store>(
-    alloc: Global,
-    store: &mut S,
-    dir: Ino,
-) -> Result<Option<FragTree>, Refusal>
+fn read_tree<S: Store>(alloc: Global, store: &mut S, dir: Ino) -> Result<Option<FragTree>, Refusal>
     ensures good { IfOk result (IsGoodTree (tree_of (S.objects store.old) dir)) }
     ensures refused { IfErr result (MayFail (λ name. (name ≡ TreeOf dir) × IsBadTree (tree_of (S.objects store.old) dir)) (S.faults store.old) (S.faults store.new)) }
     ensures same { S.objects store.new ≡ S.objects store.old }
