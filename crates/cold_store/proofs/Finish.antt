@@ -1,5 +1,5 @@
 -- What a walk has found once all directories that it found are walked.
-use Rattle.std.proofs.Common.{◌≡◌, ◌⊎◌, inl, inr, ℕ, true, is_some, List, ◌∷◌, Option, Some, None, refl, sym, ap, subst, ◌∙◌}
+use Rattle.std.proofs.Common.{◌≡◌, ◌⊎◌, inl, inr, ℕ, true, is_some, List, ◌∷◌, Some, refl, sym, ap, subst, ◌∙◌}
 use Rattle.std.specs.Prelude.{◌==◌}
 use Rattle.std.proofs.lemmas.Bool.{eqb-true, or_cases, or_right}
 use Rattle.std.proofs.lemmas.Option.{same_Some}
@@ -25,6 +25,7 @@ use Rattle.inode_table.specs.TreeTable.{HoldsHomes, home_at}
 use Rattle.cold_store.specs.ColdTree.{HasRecords, IsColdLeaf, IsReached, IsRecord, IsSamePlace, Record, SaysLeaves, tree_of}
 use Rattle.cold_store.specs.Rows.{AreGoodDirs, IsIn, Shape, cover_in, covers_from, leaves_at, rows_from, start, with_rows}
 use Rattle.cold_store.specs.Walked.{HasWhole}
+use Rattle.cold_store.proofs.Members.{in_empty, value_of}
 use Rattle.cold_store.proofs.ObjectLaws.{belongs, good_bare, good_says, said_tree}
 use Rattle.cold_store.proofs.RowLaws.{IsEntryOf, IsHomeOf, dentry_at, dir_among, dirs_of, entry_among, home_among, homes_stand, in_dirs_of, is_dir, one_row, rows_stand}
 use Rattle.cold_store.proofs.StoreRows.{dirs_have, held_of, in_dirs, leaves_are, of_cold_leaf}
@@ -80,18 +81,15 @@ module _ (objects : Objects) (queue : List Ino) (good : AreGoodDirs objects star
   entry q i stands = go (entry_among start rows q i stands)
     where
       go : (map.get (map.empty {R = dentry_cmp}) q ≡ Some i) ⊎ IsEntryOf rows q i → IsEntryOf rows q i
-      go (inl none) = let clash : None ≡ Some i = sym (get-empty dentry_cmp q) ∙ none in absurd cc
+      go (inl none) = in_empty dentry_cmp q i none
       go (inr w) = w
 
   row_stands : (r : Record) → IsIn r rows → map.get end.tree (dentry_at r) ≡ Some r.inode
-  row_stands r h = go (map.get end.tree (dentry_at r)) refl (rows_stand start rows r h)
-    where
-      go : (o : Option Inode) → map.get end.tree (dentry_at r) ≡ o → is_some o ≡ true → map.get end.tree (dentry_at r) ≡ Some r.inode
-      go None is some = absurd cc
-      go (Some i) is some =
-          let w = entry (dentry_at r) i is in
-          let one : w.row.inode ≡ r.inode = one_place w.row r w.among h (ap (λ (p : Dentry). p.dir) w.at) (ap (λ (p : Dentry). p.name) w.at) in
-          is ∙ ap Some (sym w.is ∙ one)
+  row_stands r h =
+      let v = value_of (map.get end.tree (dentry_at r)) (rows_stand start rows r h) in
+      let w = entry (dentry_at r) v.0 v.1 in
+      let one : w.row.inode ≡ r.inode = one_place w.row r w.among h (ap (λ (p : Dentry). p.dir) w.at) (ap (λ (p : Dentry). p.name) w.at) in
+      v.1 ∙ ap Some (sym w.is ∙ one)
 
   pub records : HasRecords objects end.tree
   records = record { only = only; all = λ r above rec. row_stands r (row_of r above rec) }
@@ -109,18 +107,15 @@ module _ (objects : Objects) (queue : List Ino) (good : AreGoodDirs objects star
   home k h is = go (home_among start rows k h is)
     where
       go : (map.get (map.empty {R = nat_cmp}) k ≡ Some h) ⊎ IsHomeOf rows k h → IsHomeOf rows k h
-      go (inl none) = let clash : None ≡ Some h = sym (get-empty nat_cmp k) ∙ none in absurd cc
+      go (inl none) = in_empty nat_cmp k h none
       go (inr w) = w
 
   row_home : (r : Record) → IsIn r rows → is_dir r ≡ true → map.get end.homes r.inode.ino.0 ≡ Some (home_at (dentry_at r))
-  row_home r h dir = go (map.get end.homes r.inode.ino.0) refl (homes_stand start rows r h dir)
-    where
-      go : (o : Option Home) → map.get end.homes r.inode.ino.0 ≡ o → is_some o ≡ true → map.get end.homes r.inode.ino.0 ≡ Some (home_at (dentry_at r))
-      go None is some = absurd cc
-      go (Some x) is some =
-          let w = home r.inode.ino.0 x is in
-          let one : w.row ≡ r = one_row start rows w.row r (all_new objects start queue good) w.among h w.number in
-          is ∙ ap Some (sym w.is ∙ ap (λ (y : Record). home_at (dentry_at y)) one)
+  row_home r h dir =
+      let v = value_of (map.get end.homes r.inode.ino.0) (homes_stand start rows r h dir) in
+      let w = home r.inode.ino.0 v.0 v.1 in
+      let one : w.row ≡ r = one_row start rows w.row r (all_new objects start queue good) w.among h w.number in
+      v.1 ∙ ap Some (sym w.is ∙ ap (λ (y : Record). home_at (dentry_at y)) one)
 
   pub homes_held : HoldsHomes end.tree end.homes
   homes_held = record { listed = listed; stands = stands }
@@ -139,16 +134,15 @@ module _ (objects : Objects) (queue : List Ino) (good : AreGoodDirs objects star
   pub known_found : (d : ℕ) → is_known end.homes d ≡ true → IsIn (record { 0 = d }) queue
   known_found d known = go (or_cases (d == 1) (is_some (map.get end.homes d)) known)
     where
-      of_home : (o : Option Home) → map.get end.homes d ≡ o → is_some o ≡ true → IsIn (record { 0 = d }) queue
-      of_home None is some = absurd cc
-      of_home (Some h) is some =
+      of_home : (h : Home) → map.get end.homes d ≡ Some h → IsIn (record { 0 = d }) queue
+      of_home h is =
           let w = home d h is in
           let same : w.row.inode.ino ≡ record { 0 = d } = λ i. record { 0 = w.number i } in
           subst (λ q. IsIn (record { 0 = d }) q) (sym whole) (inr (subst (λ (n : Ino). IsIn n (dirs_of rows)) same (in_dirs_of w.row rows w.among w.dir)))
 
       go : ((d == 1) ≡ true) ⊎ (is_some (map.get end.homes d) ≡ true) → IsIn (record { 0 = d }) queue
       go (inl root) = subst (λ q. IsIn (record { 0 = d }) q) (sym whole) (inl (λ i. record { 0 = sym (eqb-true d 1 root) i }))
-      go (inr some) = of_home (map.get end.homes d) refl some
+      go (inr some) = let h = value_of (map.get end.homes d) some in of_home h.0 h.1
 
   pub found_known : (d : Ino) → IsIn d queue → is_known end.homes d.0 ≡ true
   found_known d h = go (subst (IsIn d) whole h)
@@ -171,7 +165,7 @@ module _ (objects : Objects) (queue : List Ino) (good : AreGoodDirs objects star
   row_known d leaves is = go (row_among objects no_rows queue d leaves is)
     where
       go : (map.get no_rows d ≡ Some leaves) ⊎ IsIn (record { 0 = d }) queue → is_known end.homes d ≡ true
-      go (inl none) = let clash : None ≡ Some leaves = sym (get-empty nat_cmp d) ∙ none in absurd cc
+      go (inl none) = in_empty nat_cmp d leaves none
       go (inr h) = found_known (record { 0 = d }) h
 
   leaves_as : (d : Ino) → IsIn d queue → leaves_of covers d.0 ≡ or_whole (cover_in objects d)

@@ -1,5 +1,5 @@
 -- Members of lists, and the pairs of an ordered list by their keys.
-use Rattle.std.specs.Prelude.{◌≡◌, ◌⊎◌, Bool, true, false, cond, T, List, [], ◌∷◌, ◌++◌, Some, refl}
+use Rattle.std.specs.Prelude.{◌≡◌, ◌⊎◌, Bool, true, false, cond, T, List, [], ◌∷◌, ◌++◌, is_some, Option, Some, None, refl}
 use Rattle.std.proofs.Common.{sym, ap, ◌∙◌, inl, inr, subst}
 use Rattle.std.proofs.lemmas.Option.{same_Some}
 use Rattle.std.specs.declared.cmp.Ordering.{Ordering}
@@ -7,7 +7,7 @@ use Rattle.std.specs.declared.cmp.Ordering.TheVariants.{Less, Equal}
 use Rattle.std.specs.Ordering.{is_eq, eq_by_cmp}
 use Rattle.std.specs.Cmp.{IsTotalOrder, tied_itself}
 use Rattle.std.specs.FinMap as map
-use Rattle.std.specs.FinMap.{IsAntisymmetric, find, is_sorted, entries_sorted, get-entries}
+use Rattle.std.specs.FinMap.{IsAntisymmetric, find, is_sorted, entries_sorted, get-empty, get-entries, get-insert}
 use Rattle.std.specs.FinMap.Entries.{below_all}
 use Rattle.sorted_map.proofs.Bools.{left_of, right_of}
 use Rattle.sorted_map.proofs.MapLaws.{tie}
@@ -45,7 +45,20 @@ module _ {X : Type 0} where
   apart_split (y ∷ a) x b apart (inl same) = apart.0 (subst (λ z. IsIn z (a ++ x ∷ b)) (sym same) (in_right x a (x ∷ b) (inl refl)))
   apart_split (y ∷ a) x b apart (inr rest) = apart_split a x b apart.1 rest
 
+-- what is there
+pub value_of : {X : Type 0} (o : Option X) → is_some o ≡ true → (x : X) × (o ≡ Some x)
+value_of None some = absurd cc
+value_of (Some x) some = (x, refl)
+
 module _ {K X : Type 0} {R : K → K → Ordering} (o : IsTotalOrder R) where
+  -- a key that is there is there still once another has a value
+  pub some_stays : (m : map.FinMap R X) (k : K) (v : X) (q : K) → is_some (map.get m q) ≡ true → is_some (map.get (map.insert m k v) q) ≡ true
+  some_stays m k v q some = ap is_some (get-insert o m k v q) ∙ go (eq_by_cmp R q k)
+    where
+      go : (b : Bool) → is_some (cond b (Some v) (map.get m q)) ≡ true
+      go true = refl
+      go false = some
+
   -- a key that is below all of a list isn't among its keys
   pub below_apart : (k : K) (es : List (K × X)) (e : K × X) → T (below_all R k es) → IsIn e es → e.0 ≡ k → ⊥
   below_apart k [] e below h same = h
@@ -80,3 +93,7 @@ module _ {K X : Type 0} {R : K → K → Ordering} (exact : IsAntisymmetric R) w
 
   pub entry_of : (m : map.FinMap R X) (k : K) (v : X) → map.get m k ≡ Some v → IsIn (k, v) (map.entries m)
   entry_of m k v stands = found_pair (map.entries m) k v (sym (get-entries m k) ∙ stands)
+
+-- nothing is there in an empty map
+pub in_empty : {K X P : Type 0} (R : K → K → Ordering) (k : K) (v : X) → map.get (map.empty {X = X} {R = R}) k ≡ Some v → P
+in_empty R k v is = let clash : None ≡ Some v = sym (get-empty R k) ∙ is in absurd cc

@@ -11,15 +11,17 @@ use Rattle.mds_types.specs.Frag.{root_fragment}
 use Rattle.mds_types.specs.declared.dentries.Dentry.{Dentry}
 use Rattle.mds_types.specs.declared.ids.Ino.{Ino}
 use Rattle.mds_types.specs.declared.inodes.Inode.{Inode}
-use Rattle.mds_types.specs.Tree.{Tree, dentry_of, is_dir_kind}
-use Rattle.mds_types.proofs.EntryLaws.{get_put as get_put_entry, get_beside as get_beside_entry, same_or_apart as same_dentry_or_apart, stands_after_put}
+use Rattle.mds_types.specs.Tree.{dentry_of, is_dir_kind}
+use Rattle.std.specs.Cmp.{nat_cmp_total}
+use Rattle.mds_types.proofs.OrderLaws.{dentry-total}
+use Rattle.mds_types.proofs.EntryLaws.{get_put as get_put_entry, stands_after_put}
 use Rattle.inode_table.specs.declared.dirs.Home.{Home}
 use Rattle.inode_table.specs.Dirs.{Homes, MayCome, is_known}
 use Rattle.inode_table.specs.TreeTable.{home_at, with_home}
 use Rattle.inode_table.proofs.TableLaws.{dir_or_not, with_dir, with_file}
 use Rattle.cold_store.specs.ColdTree.{Record}
 use Rattle.cold_store.specs.Rows.{IsIn, IsReady, Shape, are_new, is_met, start, with_entry, with_row, with_rows}
-use Rattle.cold_store.proofs.Members.{AreApart}
+use Rattle.cold_store.proofs.Members.{AreApart, some_stays, value_of}
 
 pub with_rows-append : (s : Shape) (a b : List Record) → with_rows s (a ++ b) ≡ with_rows (with_rows s a) b
 with_rows-append s [] b = refl
@@ -81,11 +83,7 @@ pub met_head : (s : Shape) (r : Record) → is_met (with_row s r) r.inode.ino.0 
 met_head s r = ap is_some (get_put s.met r.inode.ino.0 tt)
 
 pub met_stays : (s : Shape) (r : Record) (n : ℕ) → is_met s n ≡ true → is_met (with_row s r) n ≡ true
-met_stays s r n met = go (same_or_apart n r.inode.ino.0)
-  where
-    go : (n ≡ r.inode.ino.0) ⊎ (n ≡ r.inode.ino.0 → ⊥) → is_met (with_row s r) n ≡ true
-    go (inl same) = subst (λ k. is_met (with_row s r) k ≡ true) (sym same) (met_head s r)
-    go (inr apart) = ap is_some (get_beside s.met r.inode.ino.0 tt n apart) ∙ met
+met_stays s r n met = some_stays nat_cmp_total s.met r.inode.ino.0 tt n met
 
 met_from : (s : Shape) (r : Record) (n : ℕ) → is_met (with_row s r) n ≡ true → (is_met s n ≡ true) ⊎ (r.inode.ino.0 ≡ n)
 met_from s r n met = go (same_or_apart n r.inode.ino.0)
@@ -183,16 +181,9 @@ dirs_apart s (r ∷ rs) new = go (is_dir r) (dirs_apart (with_row s r) rs (rest_
 
 -- ---- the entries
 
-put_stays : (t : Tree) (k : Dentry) (v : Inode) (q : Dentry) → is_some (map.get t q) ≡ true → is_some (map.get (map.insert t k v) q) ≡ true
-put_stays t k v q some = go (same_dentry_or_apart q k)
-  where
-    go : (q ≡ k) ⊎ (q ≡ k → ⊥) → is_some (map.get (map.insert t k v) q) ≡ true
-    go (inl same) = ap (λ p. is_some (map.get (map.insert t k v) p)) same ∙ ap is_some (get_put_entry t k v)
-    go (inr apart) = ap is_some (get_beside_entry t k v q apart) ∙ some
-
 rows_stay : (s : Shape) (rs : List Record) (q : Dentry) → is_some (map.get s.tree q) ≡ true → is_some (map.get (with_rows s rs).tree q) ≡ true
 rows_stay s [] q some = some
-rows_stay s (r ∷ rs) q some = rows_stay (with_row s r) rs q (put_stays s.tree (dentry_at r) r.inode q some)
+rows_stay s (r ∷ rs) q some = rows_stay (with_row s r) rs q (some_stays dentry-total s.tree (dentry_at r) r.inode q some)
 
 -- where a record is something stands
 pub rows_stand : (s : Shape) (rs : List Record) (r : Record) → IsIn r rs → is_some (map.get (with_rows s rs).tree (dentry_at r)) ≡ true
@@ -222,13 +213,6 @@ entry_among s (r ∷ rs) q i stands = go (entry_among (with_row s r) rs q i stan
 
 -- ---- the homes
 
-some_stays : (homes : Homes) (n : ℕ) (home : Home) (k : ℕ) → is_some (map.get homes k) ≡ true → is_some (map.get (map.insert homes n home) k) ≡ true
-some_stays homes n home k some = go (same_or_apart k n)
-  where
-    go : (k ≡ n) ⊎ (k ≡ n → ⊥) → is_some (map.get (map.insert homes n home) k) ≡ true
-    go (inl same) = ap (λ j. is_some (map.get (map.insert homes n home) j)) same ∙ ap is_some (get_put homes n home)
-    go (inr apart) = ap is_some (get_beside homes n home k apart) ∙ some
-
 -- the table after a record: with the home of a directory, or as it was
 homes_by : (P : Homes → Type 0) (s : Shape) (r : Record) → (is_dir r ≡ true → P (map.insert s.homes r.inode.ino.0 (home_at (dentry_at r)))) → (is_dir r ≡ false → P s.homes) → P (with_row s r).homes
 homes_by P s r of_dir of_file = go (dir_or_not r.inode)
@@ -238,7 +222,7 @@ homes_by P s r of_dir of_file = go (dir_or_not r.inode)
     go (inr file) = subst P (sym (with_file s.homes (dentry_at r) r.inode file)) (of_file file)
 
 home_stays : (s : Shape) (r : Record) (k : ℕ) → is_some (map.get s.homes k) ≡ true → is_some (map.get (with_row s r).homes k) ≡ true
-home_stays s r k some = homes_by (λ h. is_some (map.get h k) ≡ true) s r (λ dir. some_stays s.homes r.inode.ino.0 (home_at (dentry_at r)) k some) (λ file. some)
+home_stays s r k some = homes_by (λ h. is_some (map.get h k) ≡ true) s r (λ dir. some_stays nat_cmp_total s.homes r.inode.ino.0 (home_at (dentry_at r)) k some) (λ file. some)
 
 pub homes_stay : (s : Shape) (rs : List Record) (k : ℕ) → is_some (map.get s.homes k) ≡ true → is_some (map.get (with_rows s rs).homes k) ≡ true
 homes_stay s [] k some = some
@@ -305,28 +289,28 @@ known_stays s r k known = go (or_cases (k == 1) (is_some (map.get s.homes k)) kn
 known_from : (s : Shape) (r : Record) (k : ℕ) → is_known (with_row s r).homes k ≡ true → (is_known s.homes k ≡ true) ⊎ (r.inode.ino.0 ≡ k)
 known_from s r k known = go (or_cases (k == 1) (is_some (map.get (with_row s r).homes k)) known)
   where
-    of_home : (o : Option Home) → map.get (with_row s r).homes k ≡ o → is_some o ≡ true → (is_known s.homes k ≡ true) ⊎ (r.inode.ino.0 ≡ k)
-    of_home None is some = absurd cc
-    of_home (Some home) is some = pick (home_from s r k home is)
-      where
-        one : (q : Record) → IsIn q (r ∷ []) → q.inode.ino.0 ≡ k → r.inode.ino.0 ≡ k
-        one q (inl same) number = ap (λ (x : Record). x.inode.ino.0) same ∙ number
-        one q (inr none) number = absurd none
+    one : (q : Record) → IsIn q (r ∷ []) → q.inode.ino.0 ≡ k → r.inode.ino.0 ≡ k
+    one q (inl same) number = ap (λ (x : Record). x.inode.ino.0) same ∙ number
+    one q (inr none) number = absurd none
 
-        pick : (map.get s.homes k ≡ Some home) ⊎ IsHomeOf (r ∷ []) k home → (is_known s.homes k ≡ true) ⊎ (r.inode.ino.0 ≡ k)
-        pick (inl before) = inl (or_right (k == 1) _ (ap is_some before))
-        pick (inr w) = inr (one w.row w.among w.number)
+    pick : (home : Home) → (map.get s.homes k ≡ Some home) ⊎ IsHomeOf (r ∷ []) k home → (is_known s.homes k ≡ true) ⊎ (r.inode.ino.0 ≡ k)
+    pick home (inl before) = inl (or_right (k == 1) _ (ap is_some before))
+    pick home (inr w) = inr (one w.row w.among w.number)
 
     go : ((k == 1) ≡ true) ⊎ (is_some (map.get (with_row s r).homes k) ≡ true) → (is_known s.homes k ≡ true) ⊎ (r.inode.ino.0 ≡ k)
     go (inl root) = inl (or_left (k == 1) _ root)
-    go (inr some) = of_home (map.get (with_row s r).homes k) refl some
+    go (inr some) = let h = value_of (map.get (with_row s r).homes k) some in pick h.0 (home_from s r k h.0 h.1)
 
-pub ready_more : (s : Shape) (r : Record) (d : ℕ) → IsReady s d → IsReady (with_row s r) d
-ready_more s r d ready = record { each_met = λ k known. go k (known_from s r k known); known = known_stays s r d ready.known }
+-- what was found was met, once there is a record more
+met_more : (s : Shape) (r : Record) → ((k : ℕ) → is_known s.homes k ≡ true → is_met s k ≡ true) → (k : ℕ) → is_known (with_row s r).homes k ≡ true → is_met (with_row s r) k ≡ true
+met_more s r met k known = go (known_from s r k known)
   where
-    go : (k : ℕ) → (is_known s.homes k ≡ true) ⊎ (r.inode.ino.0 ≡ k) → is_met (with_row s r) k ≡ true
-    go k (inl before) = met_stays s r k (ready.each_met k before)
-    go k (inr here) = subst (λ j. is_met (with_row s r) j ≡ true) here (met_head s r)
+    go : (is_known s.homes k ≡ true) ⊎ (r.inode.ino.0 ≡ k) → is_met (with_row s r) k ≡ true
+    go (inl before) = met_stays s r k (met k before)
+    go (inr here) = subst (λ j. is_met (with_row s r) j ≡ true) here (met_head s r)
+
+ready_more : (s : Shape) (r : Record) (d : ℕ) → IsReady s d → IsReady (with_row s r) d
+ready_more s r d ready = record { each_met = met_more s r ready.each_met; known = known_stays s r d ready.known }
 
 -- what is ready is so still once an entry is there
 pub ready_with : (old new : Shape) (d : Ino) (name : List ℕ) (inode : Inode) → new ≡ with_entry old (record { dir = d; name = name }) inode → IsReady old d.0 → IsReady new d.0
@@ -334,14 +318,7 @@ ready_with old new d name inode is ready = subst (λ s. IsReady s d.0) (sym is) 
 
 pub each_met_after : (s : Shape) (rs : List Record) → ((k : ℕ) → is_known s.homes k ≡ true → is_met s k ≡ true) → (k : ℕ) → is_known (with_rows s rs).homes k ≡ true → is_met (with_rows s rs) k ≡ true
 each_met_after s [] met k known = met k known
-each_met_after s (r ∷ rs) met k known = each_met_after (with_row s r) rs next k known
-  where
-    go : (j : ℕ) → (is_known s.homes j ≡ true) ⊎ (r.inode.ino.0 ≡ j) → is_met (with_row s r) j ≡ true
-    go j (inl before) = met_stays s r j (met j before)
-    go j (inr here) = subst (λ i. is_met (with_row s r) i ≡ true) here (met_head s r)
-
-    next : (j : ℕ) → is_known (with_row s r).homes j ≡ true → is_met (with_row s r) j ≡ true
-    next j there = go j (known_from s r j there)
+each_met_after s (r ∷ rs) met k known = each_met_after (with_row s r) rs (met_more s r met) k known
 
 -- at the start the root alone is there
 pub each_met_at_start : (k : ℕ) → is_known start.homes k ≡ true → is_met start k ≡ true
