@@ -28,4 +28,5 @@ mod splits;
 
 pub use caches::Caches;
 pub use dirfrag::Dirfrag;
+pub use loading::load;
 pub use parts::{Part, Parts};

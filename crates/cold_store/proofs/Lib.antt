@@ -1,0 +1,15 @@
+pub mod Members
+pub mod RowLaws
+pub mod ObjectLaws
+pub mod StoreRows
+pub mod GoodLaws
+pub mod FaultLaws
+pub mod Finish
+pub mod Steps
+pub mod WalkedLaws
+pub mod Refusals
+pub mod PageLaws
+pub mod NameLaws
+pub mod NumberLaws
+pub mod ColdLaws
+pub mod TabledLaws

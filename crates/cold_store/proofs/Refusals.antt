@@ -1,0 +1,86 @@
+-- Why a call is refused, in the words of its caller.
+use Rattle.std.proofs.Common.{◌≡◌, inl, inr, ℕ, ◌<◌, Bool, false, Option, Some, None, Result, Ok, Err, IfErr, OnOk, refl, ap}
+use Rattle.std.specs.Result.{result_err}
+use Rattle.mds_types.specs.Frag.{Fragment}
+use Rattle.mds_types.specs.declared.ids.Ino.{Ino}
+use Rattle.mds_types.specs.declared.object_names.ObjName.{ObjName}
+use Rattle.mds_types.specs.declared.object_names.ObjName.TheVariants.{Frag as FragOf}
+use Rattle.mds_types.specs.declared.refusals.Refusal.{Refusal}
+use Rattle.mds_types.specs.declared.refusals.Refusal.TheVariants.{NoMemory, StoreFault, NoInodes, Trimmed, NotAuthority, Frozen, Pinned, NoSuchFrag, BadSplit, TooManyFrags, StaleJob, JobOutstanding, WrongExportState, InboxEmpty, InboxFull, NothingToEvict, Damaged, NotClean}
+use Rattle.omap.specs.Omap.{Omap}
+use Rattle.objstore.specs.Objects.{MayRefuse, faults_told}
+use Rattle.dentry_cache.specs.Loading.{Loads, MayNotLoad}
+use Rattle.cold_store.specs.Rows.{MayNotAdd}
+use Rattle.cold_store.specs.Walked.{MayFail}
+
+-- a fetch names its own object alone
+pub from_load : (dir : Ino) (frag : Fragment) (object : Option Omap) (a b : ℕ) (reason : Refusal) → MayNotLoad dir frag object a b reason → MayFail (λ name. (name ≡ FragOf dir frag) × Loads frag object None) a b reason
+from_load dir frag object a b NoMemory h = inl refl
+from_load dir frag object a b StoreFault h = inr (inl (refl, h))
+from_load dir frag object a b (Damaged name) h = inr (inr (name, refl, h))
+from_load dir frag object a b NoInodes h = absurd h
+from_load dir frag object a b Trimmed h = absurd h
+from_load dir frag object a b NotAuthority h = absurd h
+from_load dir frag object a b Frozen h = absurd h
+from_load dir frag object a b Pinned h = absurd h
+from_load dir frag object a b NoSuchFrag h = absurd h
+from_load dir frag object a b BadSplit h = absurd h
+from_load dir frag object a b TooManyFrags h = absurd h
+from_load dir frag object a b StaleJob h = absurd h
+from_load dir frag object a b JobOutstanding h = absurd h
+from_load dir frag object a b WrongExportState h = absurd h
+from_load dir frag object a b InboxEmpty h = absurd h
+from_load dir frag object a b InboxFull h = absurd h
+from_load dir frag object a b NothingToEvict h = absurd h
+from_load dir frag object a b NotClean h = absurd h
+
+-- a store names no object
+pub from_store : (IsOff : ObjName → Type 0) (a b : ℕ) (reason : Refusal) → MayRefuse a b reason → MayFail IsOff a b reason
+from_store IsOff a b NoMemory h = inl refl
+from_store IsOff a b StoreFault h = inr (inl (refl, h))
+from_store IsOff a b (Damaged name) h = absurd h
+from_store IsOff a b NoInodes h = absurd h
+from_store IsOff a b Trimmed h = absurd h
+from_store IsOff a b NotAuthority h = absurd h
+from_store IsOff a b Frozen h = absurd h
+from_store IsOff a b Pinned h = absurd h
+from_store IsOff a b NoSuchFrag h = absurd h
+from_store IsOff a b BadSplit h = absurd h
+from_store IsOff a b TooManyFrags h = absurd h
+from_store IsOff a b StaleJob h = absurd h
+from_store IsOff a b JobOutstanding h = absurd h
+from_store IsOff a b WrongExportState h = absurd h
+from_store IsOff a b InboxEmpty h = absurd h
+from_store IsOff a b InboxFull h = absurd h
+from_store IsOff a b NothingToEvict h = absurd h
+from_store IsOff a b NotClean h = absurd h
+
+-- what is off there is off here
+pub widened : {IsOff IsBad : ObjName → Type 0} (a b x y : ℕ) (reason : Refusal) → (a < b → x < y) → ((name : ObjName) → IsOff name → IsBad name) → MayFail IsOff a b reason → MayFail IsBad x y reason
+widened a b x y reason rose wider (inl memory) = inl memory
+widened a b x y reason rose wider (inr (inl fault)) = inr (inl (fault.0, rose fault.1))
+widened a b x y reason rose wider (inr (inr (name, is, off))) = inr (inr (name, is, wider name off))
+
+-- where names aren't added no fault is told
+pub added_refused : {A : Type 0} (result : Result A Refusal) {IsOff : ObjName → Type 0} (dir : Ino) (frag : Fragment) (new : Bool) (a b : ℕ) → ((name : ObjName) → name ≡ FragOf dir frag → new ≡ false → IsOff name) → IfErr result (MayNotAdd dir frag new) → IfErr result (MayFail IsOff a b)
+added_refused (Ok v) dir frag new a b off h = tt
+added_refused (Err reason) dir frag new a b off (inl memory) = inl memory
+added_refused (Err reason) dir frag new a b off (inr (is, old)) = inr (inr (FragOf dir frag, is, off (FragOf dir frag) refl old))
+
+pub added_counted : {A : Type 0} (result : Result A Refusal) (dir : Ino) (frag : Fragment) (new : Bool) → IfErr result (MayNotAdd dir frag new) → faults_told (result_err result) ≡ 0
+added_counted (Ok v) dir frag new h = refl
+added_counted (Err reason) dir frag new (inl memory) = ap (λ r. faults_told (Some r)) memory
+added_counted (Err reason) dir frag new (inr (is, old)) = ap (λ r. faults_told (Some r)) is
+
+-- what is said of an Ok, or of an Err, and what follows
+pub ok_then : {A E P Q : Type 0} (result : Result A E) → (P → Q) → OnOk result P → OnOk result Q
+ok_then (Ok v) so h = so h
+ok_then (Err e) so h = tt
+
+pub ok_always : {A E P : Type 0} (result : Result A E) → P → OnOk result P
+ok_always (Ok v) h = h
+ok_always (Err e) h = tt
+
+pub err_then : {A E : Type 0} (result : Result A E) {P Q : E → Type 0} → ((e : E) → P e → Q e) → IfErr result P → IfErr result Q
+err_then (Ok v) so h = tt
+err_then (Err e) so h = so e h

@@ -1,0 +1,24 @@
+use Rattle.std.proofs.Common.{◌∙◌, sym}
+use Rattle.std.specs.FinMap as map
+use Rattle.sorted_map.specs.SortedMap.{contents}
+use Rattle.omap.specs.Omap.{key_cmp}
+use Rattle.cold_store.proofs.RowLaws.{ready_with}
+use Rattle.cold_store.proofs.Steps.{new_step, row_step}
+use Rattle.cold_store.proofs.reading.add_names.Goals as goal
+
+pub loop-name-preserved : goal.loop-name-preserved
+loop-name-preserved c =
+    let inv = c.loop-name.invariant in
+    let s = c.loop-name.found.shape in
+    let t = c.add.new.self.shape in
+    let es = map.entries (contents key_cmp c.loop-name.names) in
+    let next = map.entries (contents key_cmp c.pop_first.new.self) in
+    let added = c.in_ok-add.ensures.added c.if-not-branch.false in
+    record {
+      ready = ready_with s t c.args.dir c.in-Some.name c.in-Some.inode added inv.ready;
+      covers = c.in_ok-add.ensures.covers ∙ inv.covers;
+      fresh =
+          new_step (c.args.dir, c.args.frag) es next c.in-Some.name c.in-Some.inode s t c.in-Some.ensures.value c.in-Some.ensures.rest added (sym c.in_ok-add.ensures.new ∙ c.if-not-branch.false)
+          ∙ inv.fresh;
+      whole = row_step (c.args.dir, c.args.frag) es next c.in-Some.name c.in-Some.inode s t c.in-Some.ensures.value c.in-Some.ensures.rest added ∙ inv.whole;
+    }

@@ -1,0 +1,36 @@
+use Rattle.std.proofs.Common.{ap, sym, ◌∙◌}
+use Rattle.std.proofs.Common.{inr}
+use Rattle.std.specs.FinMap as map
+use Rattle.dirfrag_codec.specs.FragmentObject.{Names}
+use Rattle.dentry_cache.specs.Loading.{object_of}
+use Rattle.cold_store.specs.Rows.{are_new, rows_of, with_rows}
+use Rattle.cold_store.proofs.ObjectLaws.{loaded_fits, loaded_shows, loaded_whole}
+use Rattle.cold_store.proofs.Refusals.{added_refused, ok_then}
+use Rattle.cold_store.proofs.reading.take_leaf.Goals as goal
+
+pub into_names-requires : goal.into_names-requires
+into_names-requires g c = loaded_fits c.args.frag (object_of (g.S.Store.objects c.args.store.now) c.args.dir c.args.frag) c.in-Ok.loaded c.in-Ok.ensures.loaded
+
+pub returns-in-Ok-clause-good : goal.returns-in-Ok-clause-good
+returns-in-Ok-clause-good g c =
+    let object = object_of (g.S.Store.objects c.args.store.now) c.args.dir c.args.frag in
+    let names = c.into_names.ensures.names ∙ loaded_shows c.args.frag object c.in-Ok.loaded c.in-Ok.ensures.loaded in
+    ok_then c.add_names.result
+    (λ new. record {
+      whole = loaded_whole c.args.frag object c.in-Ok.loaded c.in-Ok.ensures.loaded;
+      new = sym (ap (λ (n : Names). are_new c.args.found.now.shape (rows_of (c.args.dir, c.args.frag) (map.entries n))) names) ∙ new;
+    })
+    c.add_names.ensures.good
+
+pub returns-in-Ok-clause-added : goal.returns-in-Ok-clause-added
+returns-in-Ok-clause-added g c =
+    let object = object_of (g.S.Store.objects c.args.store.now) c.args.dir c.args.frag in
+    let names = c.into_names.ensures.names ∙ loaded_shows c.args.frag object c.in-Ok.loaded c.in-Ok.ensures.loaded in
+    ok_then c.add_names.result (λ is. is ∙ ap (λ (n : Names). with_rows c.args.found.now.shape (rows_of (c.args.dir, c.args.frag) (map.entries n))) names) c.add_names.ensures.added
+
+pub returns-in-Ok-clause-refused : goal.returns-in-Ok-clause-refused
+returns-in-Ok-clause-refused g c =
+    let object = object_of (g.S.Store.objects c.args.store.now) c.args.dir c.args.frag in
+    let names = c.into_names.ensures.names ∙ loaded_shows c.args.frag object c.in-Ok.loaded c.in-Ok.ensures.loaded in
+    added_refused c.add_names.result c.args.dir c.args.frag _ (g.S.Store.faults c.args.store.now) (g.S.Store.faults c.load.new.store)
+    (λ name is old. (is, inr (sym (ap (λ (n : Names). are_new c.args.found.now.shape (rows_of (c.args.dir, c.args.frag) (map.entries n))) names) ∙ old))) c.add_names.ensures.refused

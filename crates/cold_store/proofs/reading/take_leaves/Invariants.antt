@@ -1,0 +1,16 @@
+-- The leaves to come are as good or as bad as all of them, and add what all of them add.
+use Rattle.std.proofs.Common.{◌≡◌, drop}
+use Rattle.mds_types.specs.declared.object_names.ObjName.{ObjName}
+use Rattle.cold_store.specs.Rows.{AreGoodLeaves, IsBadAmong, IsReady, rows_under, with_rows}
+use Rattle.cold_store.proofs.reading.take_leaves.Given as goal
+
+abbrev pub invariant-loop-leaf : goal.invariant-loop-leaf
+invariant-loop-leaf g l = record {
+  same : g.S.Store.objects l.store ≡ g.S.Store.objects l.fn.store;
+  counted : g.S.Store.faults l.store ≡ g.S.Store.faults l.fn.store;
+  ready : IsReady l.found.shape l.dir.0;
+  covers : l.found.covers ≡ l.fn.found.covers;
+  good : AreGoodLeaves (g.S.Store.objects l.fn.store) l.found.shape l.dir (drop l.leaf-index l.leaves) → AreGoodLeaves (g.S.Store.objects l.fn.store) l.fn.found.shape l.dir l.fn.leaves;
+  bad : (name : ObjName) → IsBadAmong (g.S.Store.objects l.fn.store) l.found.shape l.dir (drop l.leaf-index l.leaves) name → IsBadAmong (g.S.Store.objects l.fn.store) l.fn.found.shape l.dir l.fn.leaves name;
+  whole : with_rows l.found.shape (rows_under (g.S.Store.objects l.fn.store) l.dir (drop l.leaf-index l.leaves)) ≡ with_rows l.fn.found.shape (rows_under (g.S.Store.objects l.fn.store) l.dir l.fn.leaves);
+}

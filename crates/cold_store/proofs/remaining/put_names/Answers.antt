@@ -1,0 +1,9 @@
+use Rattle.std.specs.Prelude.{string_bytes}
+use Rattle.sorted_map.specs.SortedMap.{contents}
+use Rattle.omap.specs.Omap.{key_cmp}
+use Rattle.cold_store.proofs.NameLaws.{keys_more}
+use Rattle.cold_store.proofs.remaining.put_names.Goals as goal
+
+pub loop-name-preserved : goal.loop-name-preserved
+loop-name-preserved c =
+    keys_more string_bytes (contents key_cmp c.args.names.now) (contents key_cmp c.loop-name.names) (contents key_cmp c.put_name.new.names) c.loop-name.yielded c.in-Some.name c.loop-name.invariant c.in_ok-put_name.ensures

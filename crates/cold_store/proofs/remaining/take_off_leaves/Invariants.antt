@@ -1,0 +1,9 @@
+-- What the leaves to come take off is what all of them take off.
+use Rattle.std.proofs.Common.{◌≡◌, drop}
+use Rattle.sorted_map.specs.SortedMap.{contents}
+use Rattle.omap.specs.Omap.{key_cmp}
+use Rattle.cold_store.specs.Left.{leaf_texts, without_keys}
+use Rattle.cold_store.proofs.remaining.take_off_leaves.Given as goal
+
+abbrev pub invariant-loop-leaf : goal.invariant-loop-leaf
+invariant-loop-leaf l = without_keys (contents key_cmp l.left) (leaf_texts l.dir (drop l.leaf-index l.leaves)) ≡ without_keys (contents key_cmp l.fn.left) (leaf_texts l.fn.dir l.fn.leaves)

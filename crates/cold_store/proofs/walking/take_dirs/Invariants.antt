@@ -1,0 +1,14 @@
+-- The directories before `next` are walked, and none of them is bad; each that is found is reached.
+use Rattle.std.proofs.Common.{◌≡◌, ◌-◌, ◌^◌}
+use Rattle.cold_store.specs.Rows.{IsWalkedTo}
+use Rattle.cold_store.proofs.walking.take_dirs.Given as goal
+
+abbrev pub invariant-loop-next : goal.invariant-loop-next
+invariant-loop-next g l = record {
+  same : g.S.Store.objects l.store ≡ g.S.Store.objects l.fn.store;
+  counted : g.S.Store.faults l.store ≡ g.S.Store.faults l.fn.store;
+  walked : IsWalkedTo (g.S.Store.objects l.fn.store) l.found l.next;
+}
+
+abbrev pub decreases-loop-next : goal.decreases-loop-next
+decreases-loop-next g l = 2 ^ 64 - l.next

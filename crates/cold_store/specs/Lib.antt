@@ -1,0 +1,5 @@
+pub mod ColdTree
+pub mod Left
+pub mod Numbers
+pub mod Rows
+pub mod Walked
