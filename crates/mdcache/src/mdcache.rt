@@ -1,5 +1,6 @@
 //! `MdCache`, and what a contract sees of it.
-ghost use Rattle.std.specs.Prelude.{◌≡◌};
+ghost use Rattle.std.specs.Prelude.{◌≡◌, length};
+ghost use Rattle.dentry_cache.specs.CacheMap.{AreCaches};
 ghost use Rattle.inode_table.specs.Dirs.{IsTable};
 
 use crate::counters::{Counters, Kept};
@@ -50,6 +51,14 @@ impl<S: Store + Drop> MdCache<S> {
         ensures faults { S.faults result.now ≡ self.now.faults }
     {
         &self.store
+    }
+
+    /// How many ranks there are. Of their caches it tells what `Caches::ranks` does.
+    pub fn ranks(&self) -> usize
+        ensures ranks { result ≡ length self.now.caches.used }
+        ensures valid { AreCaches self.now.caches }
+    {
+        self.caches.ranks()
     }
 
     /// Which directories there are, and the leaves of each, to read.

@@ -4,6 +4,7 @@ ghost use Rattle.mds_types.specs.Tree.{is_directory};
 ghost use Rattle.fragtree.specs.FragTree.{CanMerge, CanSplit, IsPick, RefusesMerge, RefusesSplit};
 ghost use Rattle.namehash.specs.Rjenkins.{hash_of};
 ghost use Rattle.inode_table.specs.Dirs.{IsLive, is_known, leaves_of};
+ghost use Rattle.dentry_cache.specs.CacheMap.{AreCaches};
 ghost use Rattle.mdcache.specs.Core.{state_of};
 ghost use Rattle.mdcache.specs.Regroups.{RefusesLeaves};
 ghost use Rattle.mdcache.specs.Shown.{shown_tree};
@@ -16,13 +17,16 @@ use mds_types::{Dentry, Frag, Ino, Refusal};
 use objstore::Store;
 
 impl<S: Store + Drop> RankedTree<S> {
-    /// The store. A caller also learns from it that the tree is sound, that the roots are its own, and that a rank caches only leaves
-    /// that it is the authority of.
+    /// The store. A caller also learns from it that the tree is sound, that the roots are its own, that a rank caches only leaves
+    /// that it is the authority of, and that each rank caches at most as many as it has places.
     pub fn store(&self) -> &S
         ensures objects { S.objects result.now ≡ self.now.tree.objects }
         ensures faults { S.faults result.now ≡ self.now.tree.faults }
         ensures owned { IsOwned self.now.tree self.now.subtrees.roots }
+        ensures caches { AreCaches self.now.tree.caches }
     {
+        // The contract of `ranks` is what says it of the caches.
+        let _ = self.tree.ranks();
         self.tree.store()
     }
 
