@@ -6,7 +6,7 @@ use Rattle.mds_types.specs.Tree.{Tree}
 use Rattle.mds_types.specs.History.{after, IsLegal, IsUsed}
 use Rattle.inode_table.specs.Numbers.{Supply, IsSupply, first_number, end_number}
 use Rattle.dentry_cache.specs.Cache.{Leaf}
-use Rattle.dentry_cache.specs.CacheMap.{CacheMap, unclean}
+use Rattle.dentry_cache.specs.CacheMap.{AreCaches, CacheMap, unclean}
 use Rattle.mdcache.specs.Core.{AreCached as AreCachedIn}
 use Rattle.mdcache.specs.Ranks.{KeepsOnlyAt}
 use Rattle.mdcache.specs.Sound.{IsSound as IsSoundTree}
@@ -43,11 +43,13 @@ pub record IsKept (tree : TreeState) (caches : CacheMap) : Type 0 where
   pub cached : AreCachedIn tree caches
 
 -- what isn't clean is what the ranks' fragments have beyond their objects; each place is that of a fragment which the rank has, but for one
--- that may be kept for a fragment which will be made, so no leaf has places at two ranks; and a rank caches only what it is the authority of
+-- that may be kept for a fragment which will be made, so no leaf has places at two ranks; a rank caches only what it is the authority of; and
+-- a fragment that a rank has stands in its order of use, where no leaf stands twice, and no more than the rank has places
 pub record AreCached (core : Core) : Type 0 where
   pub unsaved : core.state.tree.unsaved ≡ unclean core.caches
   pub places : (kept : Option (Rank × Leaf)) × KeepsOnlyAt kept core.caches
   pub held : AreHeld core.state.tree core.caches core.state.roots
+  pub orders : AreCaches core.caches
 
 -- the history is legal from the opening tree, and the shown tree is the tree after it; the tree is sound, and each cached fragment is a
 -- live leaf, tied to its object; each leaf of the root directory is a subtree root, and only leaves are; each rank caches what it holds; no

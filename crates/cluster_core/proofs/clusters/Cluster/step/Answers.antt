@@ -8,5 +8,5 @@ pub returns-clause-sound : goal.returns-clause-sound
 returns-clause-sound g c opening sound =
     let s = c.store.ensures.owned in
     let kept = subst (λ (core : Core). IsKept core.state.tree core.caches) c.self.view_is (record { sound = s.sound.sound; begun = s.sound.begun; cached = s.sound.cached }) in
-    let cached = subst AreCached c.self.view_is (record { unsaved = refl; places = (_, s.sound.kept); held = s.held }) in
+    let cached = subst AreCached c.self.view_is (record { unsaved = refl; places = (_, s.sound.kept); held = s.held; orders = c.store.ensures.caches }) in
     sound-step opening _ _ _ _ sound kept cached c.choose-answer.ensures.stepped.ranks c.choose-answer.ensures.kept c.choose-answer.result c.args.event c.choose-answer.ensures.stepped.does
