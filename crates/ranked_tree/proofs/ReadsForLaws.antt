@@ -1,17 +1,27 @@
 -- What reads of a directory's leaves make of the caches, one after the other.
-use Rattle.std.specs.Prelude.{◌≡◌, ℕ, None}
-use Rattle.std.proofs.Common.{inl, inr, ap, subst}
+use Rattle.std.specs.Prelude.{◌≡◌, ℕ, None, false}
+use Rattle.std.proofs.Common.{inl, inr, ap, subst, sym}
 use Rattle.mds_types.specs.declared.ids.Rank.{Rank}
 use Rattle.dentry_cache.specs.Came.{IsThat}
 use Rattle.dentry_cache.specs.Reads.{Reads}
 use Rattle.dentry_cache.proofs.ReadsLaws.{reads_then, reads_weaker}
+use Rattle.inode_table.specs.Dirs.{is_known}
+use Rattle.inode_table.proofs.TableLaws.{may_come}
+use Rattle.namespace_ops.specs.Changes.{MayChange}
+use Rattle.namespace_ops.specs.declared.plans.Change.{Change}
+use Rattle.namespace_ops.specs.declared.plans.Change.TheVariants.{Add, Set, Remove, Move}
 use Rattle.subtree_map.specs.Authority.{Leaf, Roots}
+use Rattle.mdcache.specs.declared.holders.Holders.{Holders}
+use Rattle.mdcache.specs.Ranks.{IsNamedIn}
+use Rattle.mdcache.specs.Shown.{shown_tree}
+use Rattle.mdcache.specs.Sound.{IsSound}
 use Rattle.mdcache.specs.Core.{Core, ReadsCore, state_of}
 use Rattle.mdcache.specs.Frags.{KeepsState}
 use Rattle.mdcache.specs.State.{State as TreeState}
-use Rattle.ranked_tree.specs.Held.{AnyPlace, AsksFor, ReadsDir, ReadsFor}
+use Rattle.ranked_tree.specs.Held.{AnyPlace, AreHolders, AsksFor, NamesDir, ReadsDir, ReadsFor}
 use Rattle.ranked_tree.specs.Subtrees.{Rules}
 use Rattle.ranked_tree.proofs.HeldLaws.{is_that}
+use Rattle.ranked_tree.proofs.HolderLaws.{is_unknown}
 
 -- a leaf at the rank that holds it
 pub reads_one : (Ends : ℕ → Leaf → Type 0) (old new : Core) (roots : Roots) (leaf : Leaf) (rank : Rank) → Rules (state_of old) roots leaf rank → ReadsCore (IsThat rank.0 leaf) Ends old new → ReadsDir roots leaf.0 old new
@@ -32,3 +42,21 @@ reads_less roots Asked More old new more reads = reads_weaker (AsksFor (state_of
     asks : (r : ℕ) (q : Leaf) → AsksFor (state_of old) roots Asked r q → AsksFor (state_of old) roots More r q
     asks r q (inl held) = inl (more q.0.0 held.0, held.1)
     asks r q (inr comes) = inr comes
+
+-- the leaves that a change names, each at its rank
+pub reads_change : (Ends : ℕ → Leaf → Type 0) (old new : Core) (roots : Roots) (at : Holders) (change : Change) → IsSound (state_of old) → MayChange (shown_tree (state_of old)) old.covers change → AreHolders (state_of old) roots at change
+    → ReadsCore (IsNamedIn at change) Ends old new → ReadsFor roots (NamesDir change) old new
+reads_change Ends old new roots at change sound may holders reads =
+    reads_weaker (IsNamedIn at change) Ends (AsksFor (state_of old) roots (NamesDir change)) AnyPlace (asks change may holders) (λ r q ends. tt) old.objects old.caches new.caches reads.caches
+  where
+    dir_is : (q leaf : Leaf) → q ≡ leaf → q.0.0 ≡ leaf.0.0
+    dir_is q leaf same = ap (λ (l : Leaf). l.0.0) same
+
+    asks : (change : Change) → MayChange (shown_tree (state_of old)) old.covers change → AreHolders (state_of old) roots at change → (r : ℕ) (q : Leaf) → IsNamedIn at change r q → AsksFor (state_of old) roots (NamesDir change) r q
+    asks (Add dentry leaf inode) may holders r q (inl that) = inl (dir_is q (dentry.dir, leaf) that.1, is_that (state_of old) roots (dentry.dir, leaf) at.first holders.first r q that)
+    asks (Add dentry leaf inode) may holders r q (inr that) =
+        inr (subst (λ (l : Leaf). is_known old.homes l.0.0 ≡ false) (sym that.1) (is_unknown old.homes inode.ino.0 _ (may_come (shown_tree (state_of old)) old.homes dentry inode sound.tabled may.takes)), ap (λ (l : Leaf). l.1) that.1)
+    asks (Set dentry leaf inode) may holders r q that = inl (dir_is q (dentry.dir, leaf) that.1, is_that (state_of old) roots (dentry.dir, leaf) at.first holders.first r q that)
+    asks (Remove dentry leaf went) may holders r q that = inl (dir_is q (dentry.dir, leaf) that.1, is_that (state_of old) roots (dentry.dir, leaf) at.first holders.first r q that)
+    asks (Move from source to target went) may holders r q (inl that) = inl (inl (dir_is q (from.dir, source) that.1), is_that (state_of old) roots (from.dir, source) at.first holders.first r q that)
+    asks (Move from source to target went) may holders r q (inr that) = inl (inr (dir_is q (to.dir, target) that.1), is_that (state_of old) roots (to.dir, target) at.second holders.second r q that)

@@ -64,6 +64,13 @@ AnyPlace rank leaf = Unit {0}
 abbrev pub ReadsFor : Roots → (Asked : ℕ → Type 0) → (old new : Core) → Type 0
 ReadsFor roots Asked old new = Reads (AsksFor (state_of old) roots Asked) AnyPlace old.objects old.caches new.caches
 
+-- the directories of the dentries that a change names
+abbrev pub NamesDir : Change → ℕ → Type 0
+NamesDir (Add dentry leaf inode) d = d ≡ dentry.dir.0
+NamesDir (Set dentry leaf inode) d = d ≡ dentry.dir.0
+NamesDir (Remove dentry leaf went) d = d ≡ dentry.dir.0
+NamesDir (Move from source to target went) d = (d ≡ from.dir.0) ⊎ (d ≡ to.dir.0)
+
 -- so of one directory
 abbrev pub ReadsDir : Roots → Ino → (old new : Core) → Type 0
 ReadsDir roots dir old new = ReadsFor roots (λ (d : ℕ). d ≡ dir.0) old new

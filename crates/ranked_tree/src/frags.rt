@@ -14,7 +14,7 @@ ghost use Rattle.mdcache.specs.Core.{LacksPlaces, state_of};
 ghost use Rattle.mdcache.specs.Reads.{MayNotFind};
 ghost use Rattle.mdcache.specs.Ready.{MayNotBeReady};
 ghost use Rattle.mdcache.specs.Shown.{shown_tree};
-ghost use Rattle.ranked_tree.specs.Held.{IsOwned, LacksPlacesFor, ReadsDir};
+ghost use Rattle.ranked_tree.specs.Held.{IsOwned, LacksPlacesFor, NamesDir, ReadsDir, ReadsFor};
 ghost use Rattle.ranked_tree.specs.Ranked.{IsReadyHeld};
 
 use crate::changing::reserve_roots;
@@ -150,6 +150,7 @@ fn prepare<S: Store + Drop>(
     requires owned { IsOwned tree.old roots.now.roots }
     ensures ready { OnOk result (IsReadyHeld tree.new roots.now.roots change.now) }
     ensures kept { KeepsState tree.old tree.new (result_err result) }
+    ensures reads { ReadsFor roots.now.roots (NamesDir change.now) tree.old tree.new }
     ensures owned { IsOwned tree.new roots.now.roots }
     ensures refused { IfErr result (MayNotBeReady (LacksToMake change.now (state_of tree.old)) (LacksPlaces 4 tree.old) tree.old.faults tree.new.faults) }
 {
