@@ -1,13 +1,21 @@
 -- What reads of a directory's leaves make of the caches, one after the other.
-use Rattle.std.specs.Prelude.{◌≡◌, ℕ, None, false}
-use Rattle.std.proofs.Common.{inl, inr, ap, subst, sym}
+use Rattle.std.specs.Prelude.{◌≡◌, ℕ, Option, None, false}
+use Rattle.std.proofs.Common.{◌⊎◌, inl, inr, refl, ap, subst, sym, ◌∙◌}
 use Rattle.mds_types.specs.declared.ids.Rank.{Rank}
+use Rattle.mds_types.specs.declared.dentries.Dentry.{Dentry}
+use Rattle.mds_types.specs.declared.operations.Op.{Op}
+use Rattle.mds_types.specs.declared.operations.Op.TheVariants.{Lookup, Readdir, Create, Mkdir, Readlink, Symlink, Setattr, Unlink, Rmdir, Rename}
+use Rattle.mds_types.specs.declared.refusals.Refusal.{Refusal}
+use Rattle.mds_types.specs.Tree.{Tree}
+use Rattle.dentry_cache.specs.Reads.Reads.{stays}
+use Rattle.mdcache.proofs.FragsLaws.{keeps_itself, keeps_on}
+use Rattle.ranked_tree.specs.Ranked.{KeepsRanked, Ranked}
 use Rattle.dentry_cache.specs.Came.{IsThat}
 use Rattle.dentry_cache.specs.Reads.{Reads}
 use Rattle.dentry_cache.proofs.ReadsLaws.{reads_then, reads_weaker}
 use Rattle.inode_table.specs.Dirs.{is_known}
 use Rattle.inode_table.proofs.TableLaws.{may_come}
-use Rattle.namespace_ops.specs.Changes.{MayChange}
+use Rattle.namespace_ops.specs.Changes.{Concerns, IsChangeOf, MayChange}
 use Rattle.namespace_ops.specs.declared.plans.Change.{Change}
 use Rattle.namespace_ops.specs.declared.plans.Change.TheVariants.{Add, Set, Remove, Move}
 use Rattle.subtree_map.specs.Authority.{Leaf, Roots}
@@ -60,3 +68,38 @@ reads_change Ends old new roots at change sound may holders reads =
     asks (Remove dentry leaf went) may holders r q that = inl (dir_is q (dentry.dir, leaf) that.1, is_that (state_of old) roots (dentry.dir, leaf) at.first holders.first r q that)
     asks (Move from source to target went) may holders r q (inl that) = inl (inl (dir_is q (from.dir, source) that.1), is_that (state_of old) roots (from.dir, source) at.first holders.first r q that)
     asks (Move from source to target went) may holders r q (inr that) = inl (inr (dir_is q (to.dir, target) that.1), is_that (state_of old) roots (to.dir, target) at.second holders.second r q that)
+
+-- the directories of a change are those that its operation concerns
+pub change_concerns : (tree : Tree) (op : Op) (change : Change) → IsChangeOf op change → (d : ℕ) → NamesDir change d → Concerns tree op d
+change_concerns tree (Lookup dentry) change of d is = absurd of
+change_concerns tree (Readdir dir after max) change of d is = absurd of
+change_concerns tree (Readlink dentry) change of d is = absurd of
+change_concerns tree (Create dentry mode mtime) (Add p leaf inode) of d is = is ∙ ap (λ (e : Dentry). e.dir.0) of.0
+change_concerns tree (Create dentry mode mtime) (Set p leaf inode) of d is = absurd of
+change_concerns tree (Create dentry mode mtime) (Remove p leaf went) of d is = absurd of
+change_concerns tree (Create dentry mode mtime) (Move here source there target went) of d is = absurd of
+change_concerns tree (Mkdir dentry mode mtime) (Add p leaf inode) of d is = is ∙ ap (λ (e : Dentry). e.dir.0) of.0
+change_concerns tree (Mkdir dentry mode mtime) (Set p leaf inode) of d is = absurd of
+change_concerns tree (Mkdir dentry mode mtime) (Remove p leaf went) of d is = absurd of
+change_concerns tree (Mkdir dentry mode mtime) (Move here source there target went) of d is = absurd of
+change_concerns tree (Symlink dentry target mtime) (Add p leaf inode) of d is = is ∙ ap (λ (e : Dentry). e.dir.0) of.0
+change_concerns tree (Symlink dentry target mtime) (Set p leaf inode) of d is = absurd of
+change_concerns tree (Symlink dentry target mtime) (Remove p leaf went) of d is = absurd of
+change_concerns tree (Symlink dentry target mtime) (Move here source there target went) of d is = absurd of
+change_concerns tree (Setattr dentry given) (Add p leaf inode) of d is = absurd of
+change_concerns tree (Setattr dentry given) (Set p leaf inode) of d is = is ∙ ap (λ (e : Dentry). e.dir.0) of
+change_concerns tree (Setattr dentry given) (Remove p leaf went) of d is = absurd of
+change_concerns tree (Setattr dentry given) (Move here source there target went) of d is = absurd of
+change_concerns tree (Unlink dentry) (Add p leaf inode) of d is = absurd of
+change_concerns tree (Unlink dentry) (Set p leaf inode) of d is = absurd of
+change_concerns tree (Unlink dentry) (Remove p leaf went) of d is = is ∙ ap (λ (e : Dentry). e.dir.0) of.0
+change_concerns tree (Unlink dentry) (Move here source there target went) of d is = absurd of
+change_concerns tree (Rmdir dentry) (Add p leaf inode) of d is = absurd of
+change_concerns tree (Rmdir dentry) (Set p leaf inode) of d is = absurd of
+change_concerns tree (Rmdir dentry) (Remove p leaf went) of d is = inl (is ∙ ap (λ (e : Dentry). e.dir.0) of)
+change_concerns tree (Rmdir dentry) (Move here source there target went) of d is = absurd of
+change_concerns tree (Rename from to) (Add p leaf inode) of d is = absurd of
+change_concerns tree (Rename from to) (Set p leaf inode) of d is = absurd of
+change_concerns tree (Rename from to) (Remove p leaf went) of d is = absurd of
+change_concerns tree (Rename from to) (Move here source there target went) of d (inl is) = inl (is ∙ ap (λ (e : Dentry). e.dir.0) of.0)
+change_concerns tree (Rename from to) (Move here source there target went) of d (inr is) = inr (inl (is ∙ ap (λ (e : Dentry). e.dir.0) of.1))
