@@ -1,7 +1,7 @@
 -- The jobs that a script has begun.
 use Rattle.std.specs.FinMap as map
 use Rattle.std.specs.Ordering.{nat_cmp}
-use Rattle.commit_jobs.specs.declared.jobs.Job.{Job}
+use Rattle.cached_frag.specs.declared.jobs.Job.{Job}
 
 -- each by its number
 abbrev pub Jobs : Type 0

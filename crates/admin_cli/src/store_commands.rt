@@ -4,8 +4,8 @@ ghost use Rattle.std.specs.Prelude.{Option, Result};
 ghost use Rattle.admin_cli.specs.StoreLines.{BeginsCommit, BeginsLine, CommitsLine, CopiesNone, EndsLine, ExecutesStore, LacksForCommit, LacksForStore, ListsObjects, LooksLine, LosesJob, begun_line as line_of};
 
 use crate::commands::Admin;
+use cached_frag::Encoded;
 use cluster_core::{Answer, Event};
-use commit_jobs::Encoded;
 use mds_types::{Frag, Ino, Rank, Refusal};
 use object_lines::{object_line, objects_line};
 use script_output::OutputLine;

@@ -13,12 +13,12 @@ use Rattle.sorted_map.proofs.Bools.{left_of, right_of}
 use Rattle.mds_types.proofs.EntrySearch.{not_found_below}
 use Rattle.mds_types.specs.Tree.{is_dir_kind}
 use Rattle.mds_types.specs.declared.inodes.Inode.{Inode}
-use Rattle.omap.specs.Omap.{key_cmp}
+use Rattle.objstore.specs.Omap.{key_cmp}
 use Rattle.dirfrag_codec.specs.FragmentObject.{Names, files_in, dirs_in}
 use Rattle.dirfrag_codec.proofs.ByteKeys.{get_beside, get_left, get_put, get_removed, one_map, same_or_apart}
-use Rattle.commit_jobs.specs.Counting.{is_dir, is_file}
-use Rattle.commit_jobs.specs.Marks.{with_mark}
-use Rattle.commit_jobs.specs.Snap.{counts_of}
+use Rattle.cached_frag.specs.Counting.{is_dir, is_file}
+use Rattle.cached_frag.specs.Marks.{with_mark}
+use Rattle.cached_frag.specs.Snap.{counts_of}
 use Rattle.cached_frag.proofs.RowLaws.{below_chain}
 
 module _ (p : Inode → Bool) where

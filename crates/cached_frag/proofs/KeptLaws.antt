@@ -3,14 +3,14 @@ use Rattle.std.proofs.Common.{◌≡◌, ℕ, ◌+◌, ◌-◌, ◌^◌, ◌<◌
 use Rattle.std.specs.FinMap as map
 use Rattle.std.specs.FinMap.{get-empty}
 use Rattle.mds_types.specs.declared.inodes.Inode.{Inode}
-use Rattle.omap.specs.Omap.{key_cmp}
+use Rattle.objstore.specs.Omap.{key_cmp}
 use Rattle.dirfrag_codec.specs.FragmentObject.{Names}
-use Rattle.commit_jobs.specs.declared.bases.Base.TheVariants.{Fresh, Stored}
-use Rattle.commit_jobs.specs.declared.bases.EntryCounts.{EntryCounts}
-use Rattle.commit_jobs.specs.declared.marks.Mark.{Mark}
-use Rattle.commit_jobs.specs.Marks.{AreDirtyNames, IsDirtyName, Marks, with_mark}
-use Rattle.commit_jobs.specs.Snap.{counts_of}
-use Rattle.commit_jobs.proofs.MarkLaws.{inode_or, none_dirty, one_dirty}
+use Rattle.cached_frag.specs.declared.bases.Base.TheVariants.{Fresh, Stored}
+use Rattle.cached_frag.specs.declared.bases.EntryCounts.{EntryCounts}
+use Rattle.cached_frag.specs.declared.marks.Mark.{Mark}
+use Rattle.cached_frag.specs.Marks.{AreDirtyNames, IsDirtyName, Marks, with_mark}
+use Rattle.cached_frag.specs.Snap.{counts_of}
+use Rattle.cached_frag.proofs.MarkLaws.{inode_or, none_dirty, one_dirty}
 use Rattle.cached_frag.specs.Cached.{AreEntries, Cached, IsBased, marked, shown, shown_over}
 use Rattle.cached_frag.specs.Counted.{counted, counted_or}
 use Rattle.cached_frag.specs.Kept.{IsKept}

@@ -1,7 +1,11 @@
+pub mod CommitLaws
 pub mod CopiedLaws
+pub mod CountLaws
 pub mod CountedLaws
 pub mod KeptLaws
+pub mod MarkLaws
 pub mod MovedLaws
 pub mod RowLaws
 pub mod SettledLaws
 pub mod ShownLaws
+pub mod WriteLaws

@@ -7,12 +7,12 @@ use Rattle.std.proofs.lemmas.Bool.{eq-eqb}
 use Rattle.sorted_map.specs.SortedMap.{first_pair}
 use Rattle.sorted_map.proofs.OverlayLaws.{popped, none_left}
 use Rattle.mds_types.specs.declared.inodes.Inode.{Inode}
-use Rattle.omap.specs.Omap.{key_cmp}
+use Rattle.objstore.specs.Omap.{key_cmp}
 use Rattle.dirfrag_codec.specs.FragmentObject.{Names}
 use Rattle.dirfrag_codec.proofs.ByteKeys.{get_beside, get_left, get_put, get_removed, key_itself, same_or_apart}
-use Rattle.commit_jobs.specs.declared.marks.Mark.{Mark}
-use Rattle.commit_jobs.specs.Marks.{Marks, patched, with_mark}
-use Rattle.commit_jobs.proofs.MarkLaws.{marked_beside, marked_here}
+use Rattle.cached_frag.specs.declared.marks.Mark.{Mark}
+use Rattle.cached_frag.specs.Marks.{Marks, patched, with_mark}
+use Rattle.cached_frag.proofs.MarkLaws.{marked_beside, marked_here}
 use Rattle.cached_frag.specs.Cached.{AreEntries, Cached, IsEntry, marked, shown}
 use Rattle.cached_frag.specs.Moving.{marked_as, shown_as}
 use Rattle.cached_frag.proofs.SettledLaws.{taken_shown}

@@ -8,13 +8,13 @@ use Rattle.std.proofs.lemmas.Map.Lookups.{exact_bytes}
 use Rattle.sorted_map.proofs.Bools.{left_of, right_of}
 use Rattle.sorted_map.proofs.MapLaws.{swapped}
 use Rattle.mds_types.specs.declared.inodes.Inode.{Inode}
-use Rattle.omap.specs.Omap.{key_cmp}
+use Rattle.objstore.specs.Omap.{key_cmp}
 use Rattle.dirfrag_codec.specs.EntryRecord.{HasRecord}
 use Rattle.dirfrag_codec.specs.FragmentObject.{Names}
 use Rattle.dirfrag_codec.proofs.ByteKeys.{get_left, get_removed, key_apart, key_same, not_found, one_map, same_or_apart}
-use Rattle.commit_jobs.specs.declared.marks.Mark.{Mark}
-use Rattle.commit_jobs.specs.Marks.{AreDirtyNames, IsDirtyName, Marks, patched, with_mark}
-use Rattle.commit_jobs.proofs.MarkLaws.{get-patched, inode_or, marked_beside, marked_here}
+use Rattle.cached_frag.specs.declared.marks.Mark.{Mark}
+use Rattle.cached_frag.specs.Marks.{AreDirtyNames, IsDirtyName, Marks, patched, with_mark}
+use Rattle.cached_frag.proofs.MarkLaws.{get-patched, inode_or, marked_beside, marked_here}
 use Rattle.cached_frag.specs.Cached.{AreEntries, IsEntry, is_settled, unsettled}
 use Rattle.cached_frag.specs.Settling.{IsTaken, is_at, settled_in, settled_one}
 

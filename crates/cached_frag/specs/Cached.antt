@@ -5,11 +5,11 @@ use Rattle.mds_types.specs.Name.{IsName}
 use Rattle.mds_types.specs.declared.inodes.Inode.{Inode}
 use Rattle.dirfrag_codec.specs.EntryRecord.{HasRecord}
 use Rattle.dirfrag_codec.specs.FragmentObject.{Names}
-use Rattle.commit_jobs.specs.declared.bases.Base.{Base}
-use Rattle.commit_jobs.specs.declared.bases.Base.TheVariants.{Fresh, Stored}
-use Rattle.commit_jobs.specs.declared.marks.Mark.{Mark}
-use Rattle.commit_jobs.specs.Marks.{Marks, patched}
-use Rattle.commit_jobs.specs.Snap.{Snap, counts_of, is_fresh}
+use Rattle.cached_frag.specs.declared.bases.Base.{Base}
+use Rattle.cached_frag.specs.declared.bases.Base.TheVariants.{Fresh, Stored}
+use Rattle.cached_frag.specs.declared.marks.Mark.{Mark}
+use Rattle.cached_frag.specs.Marks.{Marks, patched}
+use Rattle.cached_frag.specs.Snap.{Snap, counts_of, is_fresh}
 
 -- what its object is to the fragment, which of the fragments of this name it is, the names as they were fetched, those that
 -- changed since, how many changes fit with no growth, and how many names fit among the fetched ones

@@ -1,8 +1,8 @@
 -- What each cached fragment keeps. Only this crate's own contracts use these words.
 use Rattle.std.specs.Prelude.{◌≡◌, ℕ, ◌+◌, ◌^◌, ◌<◌, ◌≤◌}
-use Rattle.commit_jobs.specs.declared.bases.EntryCounts.{EntryCounts}
-use Rattle.commit_jobs.specs.Marks.{AreDirtyNames}
-use Rattle.commit_jobs.specs.Snap.{counts_of}
+use Rattle.cached_frag.specs.declared.bases.EntryCounts.{EntryCounts}
+use Rattle.cached_frag.specs.Marks.{AreDirtyNames}
+use Rattle.cached_frag.specs.Snap.{counts_of}
 use Rattle.cached_frag.specs.Cached.{Cached, AreEntries, IsBased, shown}
 
 -- a fragment with these counts, whose map of dirty names has such room

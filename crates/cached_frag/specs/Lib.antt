@@ -1,6 +1,10 @@
 pub mod Cached
+pub mod Commit
 pub mod Counted
+pub mod Counting
 pub mod Kept
+pub mod Marks
 pub mod Moving
 pub mod Rows
 pub mod Settling
+pub mod Snap

@@ -3,8 +3,8 @@ use Rattle.std.specs.Prelude.{ℕ, List, [], ◌∷◌, filter, Option, Some, No
 use Rattle.std.specs.FinMap.Entries.{by_order}
 use Rattle.mds_types.specs.Step.{is_after}
 use Rattle.mds_types.specs.declared.inodes.Inode.{Inode}
-use Rattle.omap.specs.Omap.{key_cmp}
-use Rattle.commit_jobs.specs.declared.marks.Mark.{Mark}
+use Rattle.objstore.specs.Omap.{key_cmp}
+use Rattle.cached_frag.specs.declared.marks.Mark.{Mark}
 
 -- a name with its inode, and a dirty name with what became of it
 abbrev pub Row : Type 0

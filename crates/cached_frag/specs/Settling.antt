@@ -1,8 +1,8 @@
 -- Names that become clean, one after the other. Only this crate's own contracts use these words.
 use Rattle.std.specs.Prelude.{◌≡◌, ℕ, Bool, true, false, cond, ◌==◌, List, [], ◌∷◌, Option, Some, None}
 use Rattle.std.specs.FinMap as map
-use Rattle.commit_jobs.specs.declared.marks.Mark.{Mark}
-use Rattle.commit_jobs.specs.Marks.{Marks}
+use Rattle.cached_frag.specs.declared.marks.Mark.{Mark}
+use Rattle.cached_frag.specs.Marks.{Marks}
 
 -- whether the last change of a name has this version
 abbrev pub is_at : ℕ → Option Mark → Bool

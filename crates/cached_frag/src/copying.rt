@@ -1,16 +1,16 @@
 //! Names that are copied from one fragment into another.
 ghost use Rattle.std.specs.Prelude.{◌≡◌, ◌≤◌, IfOk, OnOk, OnErr};
 ghost use Rattle.std.specs.FinMap as map;
-ghost use Rattle.omap.specs.Omap.{key_cmp};
+ghost use Rattle.objstore.specs.Omap.{key_cmp};
 ghost use Rattle.sorted_map.specs.SortedMap.{contents};
-ghost use Rattle.commit_jobs.specs.Marks.{patched};
+ghost use Rattle.cached_frag.specs.Marks.{patched};
 ghost use Rattle.cached_frag.specs.Cached.{AreEntries, shown};
 ghost use Rattle.cached_frag.specs.Moving.{TakesIn};
 
 use crate::fragments::CachedFrag;
+use crate::marks::Mark;
 use crate::moving::all_shown;
 use crate::snapshots::copy_of;
-use commit_jobs::Mark;
 use mds_types::{Inode, Name};
 use sorted_map::SortedMap;
 use std::alloc::AllocError;

@@ -2,7 +2,7 @@
 ghost use Rattle.std.specs.Prelude.{◌≡◌, ◌+◌, ◌<◌, ◌≤◌, ◌^◌, option_copied};
 ghost use Rattle.cached_frag.specs.Counted.{counted};
 
-use commit_jobs::EntryCounts;
+use crate::bases::EntryCounts;
 use mds_types::Inode;
 
 /// What an inode counts as; nothing, if there is none.

@@ -1,17 +1,18 @@
 //! Changes of one name. None of them takes memory.
 ghost use Rattle.std.specs.Prelude.{◌≡◌, ◌<◌, ◌≤◌, ◌+◌, IfSome, Some, None};
 ghost use Rattle.std.specs.FinMap as map;
-ghost use Rattle.omap.specs.Omap.{key_cmp};
+ghost use Rattle.objstore.specs.Omap.{key_cmp};
 ghost use Rattle.sorted_map.specs.SortedMap.{contents};
 ghost use Rattle.dirfrag_codec.specs.EntryRecord.{IsRecordable};
-ghost use Rattle.commit_jobs.specs.Marks.{with_mark};
+ghost use Rattle.cached_frag.specs.Marks.{with_mark};
 ghost use Rattle.cached_frag.specs.Cached.{marked, shown};
 ghost use Rattle.cached_frag.specs.Counted.{counted_or};
 
+use crate::bases::EntryCounts;
 use crate::counting::{counted, recounted};
 use crate::fragments::CachedFrag;
-use commit_jobs::laws::dirty_names_are_recorded;
-use commit_jobs::{EntryCounts, Mark};
+use crate::laws::dirty_names_are_recorded;
+use crate::marks::Mark;
 use mds_types::{Inode, Name};
 use sorted_map::SortedMap;
 

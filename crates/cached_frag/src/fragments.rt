@@ -1,14 +1,15 @@
 //! `CachedFrag`, what a contract sees of it, and the calls that read it or make room.
 ghost use Rattle.std.specs.Prelude.{◌≡◌, ◌≤◌, ◌<◌, ◌+◌, ◌^◌, IsOk, IfSome, OnOk, OnErr, option_copied};
 ghost use Rattle.std.specs.FinMap as map;
-ghost use Rattle.omap.specs.Omap.{key_cmp};
+ghost use Rattle.objstore.specs.Omap.{key_cmp};
 ghost use Rattle.sorted_map.specs.SortedMap.{contents};
 ghost use Rattle.dirfrag_codec.specs.EntryRecord.{HasRecord};
-ghost use Rattle.commit_jobs.specs.Snap.{counts_of};
-ghost use Rattle.commit_jobs.proofs.MarkLaws.{inode_or};
+ghost use Rattle.cached_frag.specs.Snap.{counts_of};
+ghost use Rattle.cached_frag.proofs.MarkLaws.{inode_or};
 ghost use Rattle.cached_frag.specs.Cached.{is_clean, shown};
 
-use commit_jobs::{Base, EntryCounts, Mark};
+use crate::bases::{Base, EntryCounts};
+use crate::marks::Mark;
 use mds_types::{Inode, Name};
 use sorted_map::SortedMap;
 use std::alloc::{AllocError, Global};
@@ -32,7 +33,7 @@ pub struct CachedFrag {
 impl Model for CachedFrag {
     ghost use Rattle.std.specs.Coded.{codes};
     ghost use Rattle.std.specs.FinMap as map;
-    ghost use Rattle.omap.specs.Omap.{key_cmp};
+    ghost use Rattle.objstore.specs.Omap.{key_cmp};
     ghost use Rattle.sorted_map.specs.SortedMap.{contents};
     ghost use Rattle.cached_frag.specs.Cached.{Cached};
     ghost use Rattle.cached_frag.specs.Kept.{IsKept};

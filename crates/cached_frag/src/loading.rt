@@ -1,13 +1,13 @@
 //! A fragment that was fetched.
 ghost use Rattle.std.specs.Prelude.{◌≡◌, ◌+◌, ◌<◌, ◌^◌};
 ghost use Rattle.std.specs.FinMap as map;
-ghost use Rattle.omap.specs.Omap.{key_cmp};
+ghost use Rattle.objstore.specs.Omap.{key_cmp};
 ghost use Rattle.sorted_map.specs.SortedMap.{contents};
-ghost use Rattle.commit_jobs.specs.Snap.{counts_of};
+ghost use Rattle.cached_frag.specs.Snap.{counts_of};
 ghost use Rattle.cached_frag.specs.Cached.{AreEntries};
 
+use crate::bases::{Base, EntryCounts};
 use crate::fragments::CachedFrag;
-use commit_jobs::{Base, EntryCounts};
 use mds_types::{Inode, Name};
 use sorted_map::SortedMap;
 use std::alloc::Global;

@@ -1,15 +1,15 @@
 //! Names that go from fragments to others, as at a split or a merge: none of their inodes is copied.
 ghost use Rattle.std.specs.Prelude.{◌≡◌, ◌≤◌, ◌+◌, None};
 ghost use Rattle.std.specs.FinMap as map;
-ghost use Rattle.omap.specs.Omap.{key_cmp};
+ghost use Rattle.objstore.specs.Omap.{key_cmp};
 ghost use Rattle.sorted_map.specs.SortedMap.{contents};
-ghost use Rattle.commit_jobs.specs.Marks.{patched};
+ghost use Rattle.cached_frag.specs.Marks.{patched};
 ghost use Rattle.cached_frag.specs.Cached.{AreEntries, shown};
 ghost use Rattle.cached_frag.specs.Moving.{Joins};
 
 use crate::fragments::CachedFrag;
+use crate::marks::Mark;
 use crate::settling::put_clean;
-use commit_jobs::Mark;
 use mds_types::{Inode, Name};
 use sorted_map::SortedMap;
 

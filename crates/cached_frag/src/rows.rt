@@ -1,14 +1,14 @@
 //! The names that a fragment shows, in order.
 ghost use Rattle.std.specs.Prelude.{◌≡◌, ◌∷◌, [], ◌<◌, ◌+◌, length, nat_lt, take, IfOk, IfSome, IsSome, List, MatchOption, option_copied, ℕ};
 ghost use Rattle.std.specs.FinMap as map;
-ghost use Rattle.omap.specs.Omap.{key_cmp};
+ghost use Rattle.objstore.specs.Omap.{key_cmp};
 ghost use Rattle.sorted_map.specs.SortedMap.{contents};
-ghost use Rattle.commit_jobs.specs.Marks.{patched};
+ghost use Rattle.cached_frag.specs.Marks.{patched};
 ghost use Rattle.cached_frag.specs.Cached.{shown};
 ghost use Rattle.cached_frag.specs.Rows.{Row, Change, first_of, rows_after, rows_left, with_change};
 
 use crate::fragments::CachedFrag;
-use commit_jobs::Mark;
+use crate::marks::Mark;
 use mds_types::{Inode, Listing, Name, PageSize};
 use sorted_map::{Iter, SortedMap};
 use std::alloc::{AllocError, Global};

@@ -1,14 +1,16 @@
 //! What a commit leaves of a fragment.
 ghost use Rattle.std.specs.Prelude.{◌≡◌, ◌≤◌, ◌<◌, ◌+◌, IsOk, MatchOption, Option, OnOk, OnErr, Some, None, is_some};
 ghost use Rattle.std.specs.FinMap as map;
-ghost use Rattle.omap.specs.Omap.{key_cmp};
+ghost use Rattle.objstore.specs.Omap.{key_cmp};
 ghost use Rattle.sorted_map.specs.SortedMap.{contents};
-ghost use Rattle.commit_jobs.specs.Marks.{AreDirtyNames, patched, with_mark};
+ghost use Rattle.cached_frag.specs.Marks.{AreDirtyNames, patched, with_mark};
 ghost use Rattle.cached_frag.specs.Cached.{AreEntries, shown, unsettled};
 ghost use Rattle.cached_frag.specs.Settling.{IsTaken, settled_one, settled_in};
 
+use crate::bases::Base;
+use crate::dirty_names::DirtyNames;
 use crate::fragments::CachedFrag;
-use commit_jobs::{Base, DirtyNames, Mark};
+use crate::marks::Mark;
 use mds_types::{Inode, Name};
 use sorted_map::SortedMap;
 use std::alloc::AllocError;

@@ -12,7 +12,7 @@ use Rattle.mds_types.specs.declared.operations.Op.{Op}
 use Rattle.mds_types.specs.declared.refusals.Refusal.{Refusal}
 use Rattle.mds_types.specs.declared.refusals.Refusal.TheVariants.{NotAuthority, InboxEmpty}
 use Rattle.cluster_core.specs.declared.events.Answer.{Answer}
-use Rattle.commit_jobs.specs.declared.jobs.Job.{Job as Begun}
+use Rattle.cached_frag.specs.declared.jobs.Job.{Job as Begun}
 use Rattle.cluster_core.specs.declared.events.Answer.TheVariants.{Deferred, Forwarded, Job, Nothing, Reply}
 use Rattle.cluster_core.specs.declared.events.Event.{Event}
 use Rattle.cluster_core.specs.declared.events.Event.TheVariants.{Arrive, Grant, Serve, Split, Merge, CommitBegin, CommitEnd, CommitDrop, CommitTree, Purge, Evict}

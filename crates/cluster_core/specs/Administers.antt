@@ -9,7 +9,7 @@ use Rattle.mds_types.specs.declared.refusals.Refusal.TheVariants.{NoMemory, NoSu
 use Rattle.mds_types.specs.Frag.{Fragment}
 use Rattle.mds_types.specs.Tree.{is_directory}
 use Rattle.fragtree.specs.FragTree.{CanMerge, CanSplit, RefusesMerge, RefusesSplit}
-use Rattle.commit_jobs.specs.declared.jobs.Job.{Job as Begun}
+use Rattle.cached_frag.specs.declared.jobs.Job.{Job as Begun}
 use Rattle.dentry_cache.specs.Cache.{Leaf}
 use Rattle.dentry_cache.specs.CacheMap.{evicted}
 use Rattle.inboxes.specs.declared.pins.Pin.{Pin}

@@ -16,7 +16,7 @@ ghost use Rattle.cluster_core.specs.Steps.{AtRank};
 use crate::clusters::Cluster;
 use crate::events::Answer;
 use crate::pinned::is_any_pinned;
-use commit_jobs::{Encoded, Job};
+use cached_frag::{Encoded, Job};
 use inboxes::Pins;
 use mds_types::{Frag, Ino, Rank, Refusal};
 use objstore::Store;

@@ -1,7 +1,7 @@
 //! What can happen to a cluster, and what a step answers.
 ghost use Rattle.std.specs.Prelude.{◌≡◌, IfOk};
 
-use commit_jobs::{Encoded, Job};
+use cached_frag::{Encoded, Job};
 use mds_types::{Frag, Ino, Rank, Reply, Request};
 use std::alloc::AllocError;
 

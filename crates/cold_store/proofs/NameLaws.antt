@@ -14,7 +14,7 @@ use Rattle.sorted_map.proofs.Filters.{all_kept}
 use Rattle.mds_types.specs.declared.ids.Ino.{Ino}
 use Rattle.mds_types.specs.Step.{is_after}
 use Rattle.mds_types.proofs.ListingLaws.{greater_than_row, less_is}
-use Rattle.omap.specs.Omap.{Keys, Omap, key_cmp}
+use Rattle.objstore.specs.Omap.{Keys, Omap, key_cmp}
 use Rattle.objstore.specs.Objects.{NameList, Objects, first_names, names_after}
 use Rattle.dirfrag_codec.proofs.ByteKeys.{get_left, get_removed, same_or_apart}
 use Rattle.inode_table.specs.Dirs.{Covers}

@@ -7,8 +7,8 @@ use Rattle.std.specs.FinMap as map
 use Rattle.std.specs.FinMap.{len-empty}
 use Rattle.mds_types.specs.Frag.{Contains, Fragment, root_fragment}
 use Rattle.mds_types.specs.declared.inodes.Inode.{Inode}
-use Rattle.omap.specs.EntryKeys.{entry_key}
-use Rattle.omap.specs.Omap.{Omap, PairMap, key_cmp}
+use Rattle.objstore.specs.EntryKeys.{entry_key}
+use Rattle.objstore.specs.Omap.{Omap, PairMap, key_cmp}
 use Rattle.namehash.specs.Rjenkins.{hash_of}
 use Rattle.fragtree.specs.FragTree.{IsTree}
 use Rattle.fragtree.proofs.Kept.{whole_tree}

@@ -6,7 +6,7 @@ use Rattle.std.proofs.lemmas.Option.{same_Some}
 use Rattle.std.specs.FinMap as map
 use Rattle.std.specs.FinMap.{empty_of_len, len-empty, len-entries}
 use Rattle.sorted_map.proofs.Filters.{all_kept}
-use Rattle.omap.specs.Omap.{Omap, PairMap, PairPage, key_cmp, page_of, pairs_after}
+use Rattle.objstore.specs.Omap.{Omap, PairMap, PairPage, key_cmp, page_of, pairs_after}
 use Rattle.cold_store.specs.Rows.{HasPairs}
 
 all_pairs : (pairs : PairMap) → pairs_after pairs None ≡ map.entries pairs

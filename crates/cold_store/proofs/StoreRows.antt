@@ -12,7 +12,7 @@ use Rattle.mds_types.specs.Frag.{Fragment}
 use Rattle.mds_types.specs.Leaf.{Leaf}
 use Rattle.mds_types.specs.declared.ids.Ino.{Ino}
 use Rattle.mds_types.specs.declared.inodes.Inode.{Inode}
-use Rattle.omap.specs.Omap.{Omap, key_cmp}
+use Rattle.objstore.specs.Omap.{Omap, key_cmp}
 use Rattle.objstore.specs.Objects.{Objects}
 use Rattle.fragtree.specs.FragTree.{HasLeaf, Tiles}
 use Rattle.fragtree.proofs.Ranges.{span_pos}

@@ -6,7 +6,7 @@ use Rattle.mds_types.specs.Leaf.{Leaf}
 use Rattle.mds_types.specs.Tree.{Tree, IsAbove, IsWellFormed, at, child, dentry_of, further, is_directory}
 use Rattle.mds_types.specs.declared.inodes.Inode.{Inode}
 use Rattle.mds_types.proofs.DirectoryLaws.{entry_stands, root_stands}
-use Rattle.omap.specs.Omap.{Keys}
+use Rattle.objstore.specs.Omap.{Keys}
 use Rattle.objstore.specs.Objects.{Objects}
 use Rattle.fragtree.specs.FragTree.{IsTree}
 use Rattle.dirfrag_codec.specs.EntryRecord.{IsRecordable}

@@ -10,7 +10,7 @@ use Rattle.mds_types.specs.ObjectText.{object_text}
 use Rattle.mds_types.specs.Tree.{Tree, dentry_of}
 use Rattle.mds_types.specs.declared.ids.Ino.{Ino}
 use Rattle.mds_types.specs.declared.object_names.ObjName.TheVariants.{Frag as FragOf}
-use Rattle.omap.specs.Omap.{Keys}
+use Rattle.objstore.specs.Omap.{Keys}
 use Rattle.objstore.specs.Objects.{Objects}
 use Rattle.fragtree.specs.FragTree.{HasLeaf}
 use Rattle.fragtree.proofs.TreeLaws.{first, first_or_later, later, some_pick}

@@ -5,7 +5,7 @@ use Rattle.mds_types.specs.Frag.{Fragment}
 use Rattle.mds_types.specs.ObjectText.{object_text}
 use Rattle.mds_types.specs.declared.ids.Ino.{Ino}
 use Rattle.mds_types.specs.declared.object_names.ObjName.TheVariants.{Frag as FragOf, Tree as TreeOf}
-use Rattle.omap.specs.Omap.{Keys}
+use Rattle.objstore.specs.Omap.{Keys}
 use Rattle.objstore.specs.Objects.{Objects, names_after}
 use Rattle.inode_table.specs.Dirs.{Covers, leaves_of}
 use Rattle.cold_store.specs.Rows.{IsIn}

@@ -10,7 +10,7 @@ use Rattle.mds_types.specs.declared.object_names.ObjName.{ObjName}
 use Rattle.mds_types.specs.declared.object_names.ObjName.TheVariants.{Frag as FragOf, Tree as TreeOf}
 use Rattle.mds_types.specs.declared.refusals.Refusal.{Refusal}
 use Rattle.mds_types.specs.declared.refusals.Refusal.TheVariants.{NoMemory, StoreFault, Damaged}
-use Rattle.omap.specs.Omap.{Keys, Omap}
+use Rattle.objstore.specs.Omap.{Keys, Omap}
 use Rattle.objstore.specs.Objects.{Objects}
 use Rattle.dirfrag_codec.specs.FragmentObject.{Names}
 use Rattle.dentry_cache.specs.Loading.{IsWhole, object_of}

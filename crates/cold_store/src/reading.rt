@@ -5,7 +5,7 @@ ghost use Rattle.std.specs.Result.{result_err};
 ghost use Rattle.sorted_map.specs.SortedMap.{contents};
 ghost use Rattle.mds_types.specs.declared.object_names.ObjName.TheVariants.{Frag as FragOf, Tree as TreeOf};
 ghost use Rattle.mds_types.specs.declared.refusals.Refusal.TheVariants.{NoMemory};
-ghost use Rattle.omap.specs.Omap.{key_cmp};
+ghost use Rattle.objstore.specs.Omap.{key_cmp};
 ghost use Rattle.objstore.specs.Objects.{MayRefuse, faults_told};
 ghost use Rattle.inode_table.specs.Dirs.{is_known, or_whole};
 ghost use Rattle.cold_store.specs.ColdTree.{tree_of};
@@ -17,8 +17,7 @@ use dentry_cache::load;
 use dirfrag_codec::decode_tree;
 use fragtree::FragTree;
 use mds_types::{Frag, Ino, Inode, Name, ObjName, Refusal};
-use objstore::Store;
-use omap::Page;
+use objstore::{Page, Store};
 use sorted_map::SortedMap;
 use std::alloc::{AllocError, Global};
 

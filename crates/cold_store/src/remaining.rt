@@ -4,14 +4,13 @@ ghost use Rattle.std.specs.FinMap as map;
 ghost use Rattle.std.specs.Result.{result_err};
 ghost use Rattle.sorted_map.specs.SortedMap.{contents};
 ghost use Rattle.mds_types.specs.ObjectText.{object_text};
-ghost use Rattle.omap.specs.Omap.{key_cmp};
+ghost use Rattle.objstore.specs.Omap.{key_cmp};
 ghost use Rattle.objstore.specs.Objects.{MayRefuse, faults_told};
 ghost use Rattle.cold_store.specs.Left.{AreLeft, AreNamesOf, EndsNames, IsLastOf, leaf_texts, texts_from, texts_in, with_keys, without_keys};
 
 use crate::found::Found;
-use byte_strings::{Text, TextRef};
 use inode_table::Dirs;
-use mds_types::{Frag, Ino, ObjName, Refusal};
+use mds_types::{Frag, Ino, ObjName, Refusal, Text, TextRef};
 use objstore::Store;
 use sorted_map::SortedMap;
 use std::alloc::{AllocError, Global};

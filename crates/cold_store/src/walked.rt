@@ -5,9 +5,8 @@ ghost use Rattle.mds_types.specs.Tree.{dentry_cmp};
 ghost use Rattle.cold_store.specs.Numbers.{IsNext, passed};
 
 use crate::found::Found;
-use byte_strings::Text;
 use inode_table::{Dirs, Numbers};
-use mds_types::{Dentry, Inode, Rank};
+use mds_types::{Dentry, Inode, Rank, Text};
 use sorted_map::SortedMap;
 
 /// What a walk found: all entries, where each directory stands and its leaves, and the names of the objects that weren't

@@ -4,7 +4,7 @@ ghost use Rattle.std.specs.FinMap as map;
 ghost use Rattle.std.specs.Result.{result_err};
 ghost use Rattle.sorted_map.specs.SortedMap.{contents};
 ghost use Rattle.mds_types.specs.Tree.{dentry_cmp};
-ghost use Rattle.omap.specs.Omap.{key_cmp};
+ghost use Rattle.objstore.specs.Omap.{key_cmp};
 ghost use Rattle.objstore.specs.Objects.{faults_told};
 ghost use Rattle.cold_store.specs.ColdTree.{IsColdTree};
 ghost use Rattle.cold_store.specs.Rows.{IsWalkedTo, start};

@@ -1,8 +1,8 @@
 -- A commit, in its two changes of the fragment.
 use Rattle.std.proofs.Common.{◌≡◌, ℕ, ap, subst, ◌∙◌}
-use Rattle.commit_jobs.specs.declared.jobs.Job.{Job}
-use Rattle.commit_jobs.specs.Marks.{Marks}
-use Rattle.commit_jobs.specs.Snap.{next_version}
+use Rattle.cached_frag.specs.declared.jobs.Job.{Job}
+use Rattle.cached_frag.specs.Marks.{Marks}
+use Rattle.cached_frag.specs.Snap.{next_version}
 use Rattle.cached_frag.specs.Cached.{Cached, shown, unsettled}
 use Rattle.dentry_cache.specs.Cache.{Held, IsChanged, cached}
 use Rattle.dentry_cache.specs.Commits.{IsCommitted, IsSettled}

@@ -4,7 +4,7 @@ use Rattle.std.specs.List.{AllByRecursion, IsDistinct, list_any}
 use Rattle.std.specs.FinMap as finmap
 use Rattle.sorted_map.proofs.NatKeys.{is_apart, is_same, same_or_apart}
 use Rattle.mds_types.specs.Frag.{Fragment}
-use Rattle.omap.specs.Omap.{Omap}
+use Rattle.objstore.specs.Omap.{Omap}
 use Rattle.objstore.specs.Objects.{Objects}
 use Rattle.cached_frag.specs.Cached.{Cached, is_clean}
 use Rattle.dentry_cache.specs.Cache.{IsThere, Leaf, Unsaved, leaf_is}

@@ -11,8 +11,8 @@ use Rattle.sorted_map.specs.SortedMap.{Shown, contents}
 use Rattle.mds_types.specs.Frag.{Contains, Fragment, span}
 use Rattle.mds_types.specs.Name.{IsName}
 use Rattle.mds_types.specs.declared.inodes.Inode.{Inode}
-use Rattle.omap.specs.EntryKeys.{entry_key}
-use Rattle.omap.specs.Omap.{Omap, PairMap, key_cmp, pairs_after}
+use Rattle.objstore.specs.EntryKeys.{entry_key}
+use Rattle.objstore.specs.Omap.{Omap, PairMap, key_cmp, pairs_after}
 use Rattle.namehash.specs.Rjenkins.{hash_of}
 use Rattle.dirfrag_codec.specs.declared.headers.FragHeader.{FragHeader}
 use Rattle.dirfrag_codec.specs.EntryRecord.{SpellsEntry}
@@ -24,8 +24,8 @@ use Rattle.dirfrag_codec.proofs.FragmentLaws.{names_shown, one_name}
 use Rattle.dirfrag_codec.proofs.HeaderLaws.{one_header}
 use Rattle.dirfrag_codec.proofs.RecordLaws.{one_entry}
 use Rattle.dirfrag_codec.proofs.ValueLaws.{one_key, read_as, reads_entry, reads_key, spelled_as}
-use Rattle.commit_jobs.specs.declared.bases.Base.TheVariants.{Stored}
-use Rattle.commit_jobs.specs.Snap.{counts_of}
+use Rattle.cached_frag.specs.declared.bases.Base.TheVariants.{Stored}
+use Rattle.cached_frag.specs.Snap.{counts_of}
 use Rattle.cached_frag.specs.Cached.{AreEntries, Cached, shown}
 use Rattle.cached_frag.proofs.ShownLaws.{only_below}
 use Rattle.dentry_cache.specs.Loading.{AreWithin, IsWhole, Loads}

@@ -15,7 +15,7 @@ use Rattle.mds_types.specs.Frag.{Contains, Fragment, IsFragment, child_of, span}
 use Rattle.mds_types.specs.declared.ids.Ino.{Ino}
 use Rattle.mds_types.specs.declared.inodes.Inode.{Inode}
 use Rattle.namehash.specs.Rjenkins.{hash_of}
-use Rattle.omap.specs.Omap.{key_cmp}
+use Rattle.objstore.specs.Omap.{key_cmp}
 use Rattle.dirfrag_codec.specs.FragmentObject.{Names}
 use Rattle.dirfrag_codec.proofs.ByteKeys.{get_left, get_removed, one_map, same_or_apart}
 use Rattle.dentry_cache.specs.Pairs.{holds}

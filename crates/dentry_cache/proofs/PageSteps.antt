@@ -6,8 +6,8 @@ use Rattle.std.proofs.lemmas.List.{length-append, length-take-le, take-append-dr
 use Rattle.std.proofs.lemmas.List.Folds.{list_all-append}
 use Rattle.std.proofs.lemmas.Bool.{and_left}
 use Rattle.mds_types.specs.Frag.{Fragment}
-use Rattle.omap.specs.Omap.{PairMap, PairPage, page_of, pairs_after}
-use Rattle.omap.proofs.PageLaws.{pages_make_up}
+use Rattle.objstore.specs.Omap.{PairMap, PairPage, page_of, pairs_after}
+use Rattle.objstore.proofs.PageLaws.{pages_make_up}
 use Rattle.dirfrag_codec.specs.FragmentObject.{Names, with_entry}
 use Rattle.dirfrag_codec.specs.Values.{entry_of, name_of}
 use Rattle.dentry_cache.specs.declared.loading.PageEnd.{PageEnd}

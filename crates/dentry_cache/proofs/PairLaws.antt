@@ -1,7 +1,7 @@
 -- Pairs read one after the other.
 use Rattle.std.proofs.Common.{◌≡◌, ℕ, List, Option, Some, None}
 use Rattle.std.specs.Prelude.{IfOk, Result, Ok, Err}
-use Rattle.omap.specs.EntryKeys.{NamesKey}
+use Rattle.objstore.specs.EntryKeys.{NamesKey}
 use Rattle.dirfrag_codec.specs.FragmentObject.{SpellsKey}
 use Rattle.dirfrag_codec.specs.Grammar.{Decodes}
 use Rattle.dirfrag_codec.specs.Values.{name_of}

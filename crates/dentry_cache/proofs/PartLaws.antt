@@ -6,11 +6,11 @@ use Rattle.std.specs.FinMap.{get-empty}
 use Rattle.mds_types.specs.Frag.{Fragment, child_of}
 use Rattle.mds_types.specs.declared.inodes.Inode.{Inode}
 use Rattle.namehash.specs.Rjenkins.{hash_of}
-use Rattle.omap.specs.Omap.{key_cmp}
+use Rattle.objstore.specs.Omap.{key_cmp}
 use Rattle.dirfrag_codec.specs.FragmentObject.{Names}
 use Rattle.dirfrag_codec.proofs.ByteKeys.{one_map}
-use Rattle.commit_jobs.specs.declared.bases.Base.TheVariants.{Fresh}
-use Rattle.commit_jobs.specs.declared.marks.Mark.{Mark}
+use Rattle.cached_frag.specs.declared.bases.Base.TheVariants.{Fresh}
+use Rattle.cached_frag.specs.declared.marks.Mark.{Mark}
 use Rattle.cached_frag.specs.Cached.{Cached, shown}
 use Rattle.cached_frag.specs.Moving.{marked_as, shown_as}
 use Rattle.cached_frag.specs.Rows.{Row}

@@ -5,9 +5,9 @@ use Rattle.std.specs.List.{slice_index_or}
 use Rattle.std.specs.FinMap as map
 use Rattle.mds_types.specs.Frag.{Fragment, child_of}
 use Rattle.mds_types.specs.declared.ids.Ino.{Ino}
-use Rattle.omap.specs.Omap.{Omap}
-use Rattle.commit_jobs.specs.declared.bases.Base.{Base}
-use Rattle.commit_jobs.specs.declared.bases.Base.TheVariants.{Fresh}
+use Rattle.objstore.specs.Omap.{Omap}
+use Rattle.cached_frag.specs.declared.bases.Base.{Base}
+use Rattle.cached_frag.specs.declared.bases.Base.TheVariants.{Fresh}
 use Rattle.dirfrag_codec.specs.FragmentObject.{Names}
 use Rattle.cached_frag.specs.Cached.{Cached, shown}
 use Rattle.dentry_cache.specs.declared.parts.Part.{Part}

@@ -4,13 +4,13 @@ use Rattle.std.specs.Prelude.{◌==◌}
 use Rattle.std.specs.FinMap as map
 use Rattle.std.specs.FinMap.{empty_of_len, get-empty, len-empty}
 use Rattle.std.proofs.lemmas.Bool.{eqb-true}
-use Rattle.omap.specs.Omap.{key_cmp}
+use Rattle.objstore.specs.Omap.{key_cmp}
 use Rattle.dirfrag_codec.proofs.ByteKeys.{get_beside, get_put, one_map, same_or_apart}
-use Rattle.commit_jobs.specs.declared.bases.Base.{Base}
-use Rattle.commit_jobs.specs.declared.bases.Base.TheVariants.{Fresh, Stored}
-use Rattle.commit_jobs.specs.declared.marks.Mark.{Mark}
-use Rattle.commit_jobs.specs.Marks.{Marks}
-use Rattle.commit_jobs.specs.Snap.{Snap, counts_of}
+use Rattle.cached_frag.specs.declared.bases.Base.{Base}
+use Rattle.cached_frag.specs.declared.bases.Base.TheVariants.{Fresh, Stored}
+use Rattle.cached_frag.specs.declared.marks.Mark.{Mark}
+use Rattle.cached_frag.specs.Marks.{Marks}
+use Rattle.cached_frag.specs.Snap.{Snap, counts_of}
 use Rattle.cached_frag.specs.Cached.{Cached, is_clean_over, marked, shown_over}
 use Rattle.dentry_cache.specs.Standing.{AreBelow, ChangedCanEnd, StandingIsUnclean, TakenCanEnd}
 use Rattle.dentry_cache.specs.Ties.{Keeps, KeepsAt, names_at}

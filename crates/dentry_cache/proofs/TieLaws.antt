@@ -6,18 +6,18 @@ use Rattle.std.specs.FinMap as map
 use Rattle.std.proofs.lemmas.Bool.{eqb-true}
 use Rattle.mds_types.specs.Frag.{Fragment}
 use Rattle.mds_types.specs.declared.inodes.Inode.{Inode}
-use Rattle.omap.specs.Omap.{Omap, empty_omap}
+use Rattle.objstore.specs.Omap.{Omap, empty_omap}
 use Rattle.dirfrag_codec.specs.FragmentObject.{Names, SpellsFragment, names_of}
 use Rattle.dirfrag_codec.proofs.ByteKeys.{get_beside, get_put, one_map, same_or_apart}
 use Rattle.dirfrag_codec.proofs.FragmentLaws.{names_shown}
-use Rattle.commit_jobs.specs.declared.bases.Base.{Base}
-use Rattle.commit_jobs.specs.declared.bases.Base.TheVariants.{Fresh, Stored}
-use Rattle.commit_jobs.specs.declared.marks.Mark.{Mark}
-use Rattle.commit_jobs.specs.Commit.{IsOver}
-use Rattle.commit_jobs.specs.Marks.{Marks, patched}
-use Rattle.commit_jobs.specs.Snap.{Snap, counts_of, next_version}
-use Rattle.commit_jobs.proofs.CommitLaws.{commit_is_right}
-use Rattle.commit_jobs.proofs.MarkLaws.{get-patched, inode_or}
+use Rattle.cached_frag.specs.declared.bases.Base.{Base}
+use Rattle.cached_frag.specs.declared.bases.Base.TheVariants.{Fresh, Stored}
+use Rattle.cached_frag.specs.declared.marks.Mark.{Mark}
+use Rattle.cached_frag.specs.Commit.{IsOver}
+use Rattle.cached_frag.specs.Marks.{Marks, patched}
+use Rattle.cached_frag.specs.Snap.{Snap, counts_of, next_version}
+use Rattle.cached_frag.proofs.CommitLaws.{commit_is_right}
+use Rattle.cached_frag.proofs.MarkLaws.{get-patched, inode_or}
 use Rattle.cached_frag.specs.Cached.{Cached, is_settled, marked, names_below, shown, shown_over}
 use Rattle.cached_frag.proofs.SettledLaws.{get-unsettled}
 use Rattle.dentry_cache.specs.Loading.{Loads}

@@ -7,8 +7,8 @@ use Rattle.sorted_map.proofs.NatKeys.{is_apart, is_same, same_or_apart}
 use Rattle.mds_types.specs.declared.ids.Ino.{Ino}
 use Rattle.mds_types.specs.Frag.{Fragment}
 use Rattle.objstore.specs.Objects.{Objects}
-use Rattle.omap.specs.Omap.{Omap}
-use Rattle.commit_jobs.specs.declared.marks.Mark.{Mark}
+use Rattle.objstore.specs.Omap.{Omap}
+use Rattle.cached_frag.specs.declared.marks.Mark.{Mark}
 use Rattle.cached_frag.specs.Cached.{Cached, marked}
 use Rattle.dentry_cache.specs.Cache.{IsThere, Leaf, leaf_is}
 use Rattle.dentry_cache.specs.CacheCalls.{Edits, FetchesAt, IsWhole, KeepsNone, MakesRoomAt}

@@ -5,9 +5,9 @@ use Rattle.std.specs.Map.{lookup, remove_entry}
 use Rattle.std.specs.FinMap as finmap
 use Rattle.lru.specs.LruCache.{LruCache, lru_cache}
 pub use Rattle.mds_types.specs.Leaf.{Leaf, leaf_cmp, leaf_is}
-use Rattle.commit_jobs.specs.declared.bases.Base.{Base}
-use Rattle.commit_jobs.specs.declared.bases.Base.TheVariants.{Fresh}
-use Rattle.commit_jobs.specs.Marks.{Marks}
+use Rattle.cached_frag.specs.declared.bases.Base.{Base}
+use Rattle.cached_frag.specs.declared.bases.Base.TheVariants.{Fresh}
+use Rattle.cached_frag.specs.Marks.{Marks}
 use Rattle.cached_frag.specs.Cached.{Cached, is_clean}
 use Rattle.dentry_cache.specs.declared.cache.Place.{Place}
 

@@ -4,11 +4,11 @@ use Rattle.mds_types.specs.Frag.{Fragment}
 use Rattle.mds_types.specs.ObjectText.{object_text}
 use Rattle.mds_types.specs.declared.ids.Ino.{Ino}
 use Rattle.mds_types.specs.declared.object_names.ObjName.TheVariants.{Frag as FragOf}
-use Rattle.commit_jobs.specs.declared.bases.Base.TheVariants.{Stored}
-use Rattle.commit_jobs.specs.Commit.{Carried}
-use Rattle.commit_jobs.specs.Marks.{Marks}
+use Rattle.cached_frag.specs.declared.bases.Base.TheVariants.{Stored}
+use Rattle.cached_frag.specs.Commit.{Carried}
+use Rattle.cached_frag.specs.Marks.{Marks}
 use Rattle.mds_types.specs.Leaf.{Leaf}
-use Rattle.commit_jobs.specs.Snap.{IsBelowEnd, Snap, next_version}
+use Rattle.cached_frag.specs.Snap.{IsBelowEnd, Snap, next_version}
 use Rattle.mds_types.specs.declared.refusals.Refusal.{Refusal}
 use Rattle.mds_types.specs.declared.refusals.Refusal.TheVariants.{NoInodes, NoMemory}
 use Rattle.cached_frag.specs.Cached.{Cached, is_clean, shown, snapshot_of, unsettled}

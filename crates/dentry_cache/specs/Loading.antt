@@ -8,11 +8,11 @@ use Rattle.mds_types.specs.declared.inodes.Inode.{Inode}
 use Rattle.mds_types.specs.declared.object_names.ObjName.TheVariants.{Frag as FragOf}
 use Rattle.mds_types.specs.declared.refusals.Refusal.{Refusal}
 use Rattle.mds_types.specs.declared.refusals.Refusal.TheVariants.{NoMemory, StoreFault, NoInodes, Trimmed, NotAuthority, Frozen, Pinned, NoSuchFrag, BadSplit, TooManyFrags, StaleJob, JobOutstanding, WrongExportState, InboxEmpty, InboxFull, NothingToEvict, Damaged, NotClean}
-use Rattle.omap.specs.Omap.{Omap}
+use Rattle.objstore.specs.Omap.{Omap}
 use Rattle.objstore.specs.Objects.{Objects}
 use Rattle.namehash.specs.Rjenkins.{hash_of}
 use Rattle.dirfrag_codec.specs.FragmentObject.{Names, SpellsFragment}
-use Rattle.commit_jobs.specs.declared.bases.Base.TheVariants.{Stored}
+use Rattle.cached_frag.specs.declared.bases.Base.TheVariants.{Stored}
 use Rattle.cached_frag.specs.Cached.{Cached}
 
 -- each name's hash is in the fragment

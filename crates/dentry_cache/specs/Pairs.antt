@@ -6,12 +6,12 @@ use Rattle.mds_types.specs.Frag.{Fragment, span}
 use Rattle.mds_types.specs.declared.inodes.Inode.{Inode}
 use Rattle.dentry_cache.specs.declared.loading.PageEnd.{PageEnd}
 use Rattle.dentry_cache.specs.declared.loading.PageEnd.TheVariants.{Off, Last, More}
-use Rattle.omap.specs.Omap.{Omap, PairMap, key_cmp, pairs_after}
+use Rattle.objstore.specs.Omap.{Omap, PairMap, key_cmp, pairs_after}
 use Rattle.sorted_map.specs.SortedMap.{Shown, contents}
 use Rattle.dirfrag_codec.specs.declared.headers.FragHeader.{FragHeader}
 use Rattle.dirfrag_codec.specs.FragHeader.{SpellsHeader}
 use Rattle.dirfrag_codec.specs.Grammar.{Decodes}
-use Rattle.commit_jobs.specs.Snap.{counts_of}
+use Rattle.cached_frag.specs.Snap.{counts_of}
 use Rattle.cached_frag.specs.Cached.{Cached, shown}
 use Rattle.namehash.specs.Rjenkins.{hash_of}
 use Rattle.dirfrag_codec.specs.FragmentObject.{Names, with_entry}

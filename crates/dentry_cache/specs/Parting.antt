@@ -3,7 +3,7 @@ use Rattle.std.specs.Prelude.{◌≡◌, ℕ, ◌+◌, ◌<◌, ◌≤◌, ◌==
 use Rattle.std.specs.List.{slice_index_or}
 use Rattle.mds_types.specs.Frag.{Fragment, child_of}
 use Rattle.mds_types.specs.declared.ids.Ino.{Ino}
-use Rattle.commit_jobs.specs.declared.marks.Mark.{Mark}
+use Rattle.cached_frag.specs.declared.marks.Mark.{Mark}
 use Rattle.cached_frag.specs.Cached.{marked}
 use Rattle.dentry_cache.specs.declared.parts.Part.{Part}
 use Rattle.dentry_cache.specs.Cache.{Leaf, leaf_is}

@@ -1,10 +1,10 @@
 -- What the calls of a cache keep: the ties of all cached fragments to their objects, and the snapshots whose commits stand.
 use Rattle.std.specs.Prelude.{◌≡◌, ℕ, ◌<◌, false, List, Option, Some}
 use Rattle.std.specs.FinMap as map
-use Rattle.omap.specs.Omap.{Omap}
-use Rattle.commit_jobs.specs.declared.marks.Mark.{Mark}
-use Rattle.commit_jobs.specs.Marks.{Marks}
-use Rattle.commit_jobs.specs.Snap.{IsSnap, Snap}
+use Rattle.objstore.specs.Omap.{Omap}
+use Rattle.cached_frag.specs.declared.marks.Mark.{Mark}
+use Rattle.cached_frag.specs.Marks.{Marks}
+use Rattle.cached_frag.specs.Snap.{IsSnap, Snap}
 use Rattle.cached_frag.specs.Cached.{Cached, is_clean, is_clean_over, marked}
 use Rattle.dentry_cache.specs.Commits.{Takes}
 use Rattle.dentry_cache.specs.Ties.{Commits, IsTied}

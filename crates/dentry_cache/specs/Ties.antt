@@ -3,15 +3,15 @@ use Rattle.std.specs.Prelude.{◌≡◌, ℕ, List, Option, Some, None}
 use Rattle.std.specs.Option.{unwrap_or}
 use Rattle.std.specs.FinMap as map
 use Rattle.mds_types.specs.Frag.{Fragment}
-use Rattle.omap.specs.Omap.{Omap, empty_omap}
-use Rattle.omap.specs.Writes.{applied}
+use Rattle.objstore.specs.Omap.{Omap, empty_omap}
+use Rattle.objstore.specs.Writes.{applied}
 use Rattle.dirfrag_codec.specs.FragmentObject.{Names, SpellsFragment, names_of}
-use Rattle.commit_jobs.specs.declared.bases.Base.{Base}
-use Rattle.commit_jobs.specs.declared.bases.Base.TheVariants.{Fresh, Stored}
-use Rattle.commit_jobs.specs.declared.marks.Mark.{Mark}
-use Rattle.commit_jobs.specs.Commit.{write_of}
-use Rattle.commit_jobs.specs.Marks.{Marks}
-use Rattle.commit_jobs.specs.Snap.{IsSnap, Snap, counts_of, next_version}
+use Rattle.cached_frag.specs.declared.bases.Base.{Base}
+use Rattle.cached_frag.specs.declared.bases.Base.TheVariants.{Fresh, Stored}
+use Rattle.cached_frag.specs.declared.marks.Mark.{Mark}
+use Rattle.cached_frag.specs.Commit.{write_of}
+use Rattle.cached_frag.specs.Marks.{Marks}
+use Rattle.cached_frag.specs.Snap.{IsSnap, Snap, counts_of, next_version}
 use Rattle.cached_frag.specs.Cached.{Cached, marked, shown, shown_over}
 use Rattle.dentry_cache.specs.Loading.{Loads}
 use Rattle.dentry_cache.specs.Commits.{IsCommitted}

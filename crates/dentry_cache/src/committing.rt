@@ -3,14 +3,13 @@ ghost use Rattle.std.specs.Prelude.{◌≡◌, ◌+◌, ◌≤◌, ◌↔◌, Is
 ghost use Rattle.std.specs.FinMap as map;
 ghost use Rattle.objstore.specs.Objects.{MayRefuse, faults_told, written};
 ghost use Rattle.std.specs.Result.{result_err};
-ghost use Rattle.commit_jobs.specs.Snap.{IsBelowEnd, IsSnap};
+ghost use Rattle.cached_frag.specs.Snap.{IsBelowEnd, IsSnap};
 ghost use Rattle.cached_frag.specs.Cached.{Cached};
 ghost use Rattle.dentry_cache.specs.Cache.{HasCached, IsChanged, IsThere, cached};
 ghost use Rattle.dentry_cache.specs.Commits.{IsSettled, IsCommitted, MayNotBegin, Takes, leaf_text};
 
 use crate::cache::Cache;
-use cached_frag::CachedFrag;
-use commit_jobs::{Base, DirtyNames, Encoded, Snapshot};
+use cached_frag::{Base, CachedFrag, DirtyNames, Encoded, Snapshot};
 use mds_types::{Frag, Ino, ObjName, Refusal};
 use objstore::Store;
 use std::alloc::{AllocError, Global};

@@ -2,7 +2,7 @@
 ghost use Rattle.std.specs.Prelude.{◌≡◌, ◌+◌, ◌≤◌, ◌<◌, ◌^◌, true, length, Some, ℕ};
 ghost use Rattle.std.specs.List.{slice_index_or};
 ghost use Rattle.std.specs.FinMap as map;
-ghost use Rattle.omap.specs.Omap.{key_cmp};
+ghost use Rattle.objstore.specs.Omap.{key_cmp};
 ghost use Rattle.sorted_map.specs.SortedMap.{contents};
 ghost use Rattle.mds_types.specs.Frag.{child_of, span};
 ghost use Rattle.namehash.specs.Rjenkins.{hash_of};

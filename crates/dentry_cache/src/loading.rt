@@ -1,6 +1,6 @@
 //! A fragment, read from its object in the store.
 ghost use Rattle.std.specs.Prelude.{◌≡◌, ◌+◌, ◌≤◌, ℕ, List, Option, Some, None, IfOk, IfErr, OnOk, option_copied};
-ghost use Rattle.omap.specs.Omap.{PairMap, key_cmp, page_of};
+ghost use Rattle.objstore.specs.Omap.{PairMap, key_cmp, page_of};
 ghost use Rattle.sorted_map.specs.SortedMap.{contents};
 ghost use Rattle.std.specs.Result.{result_err};
 ghost use Rattle.objstore.specs.Objects.{MayRefuse, faults_told};
@@ -11,9 +11,8 @@ ghost use Rattle.dentry_cache.specs.Pairs.{AreNamesOf, EndsPage, EndsPairs, IsCo
 use crate::pairs::add_pairs;
 use cached_frag::CachedFrag;
 use dirfrag_codec::{FragHeader, decode_header};
-use mds_types::{Frag, Ino, Inode, Name, ObjName, Refusal};
-use objstore::Store;
-use omap::{Bytes, Page};
+use mds_types::{Bytes, Frag, Ino, Inode, Name, ObjName, Refusal};
+use objstore::{Page, Store};
 use sorted_map::SortedMap;
 use std::alloc::{AllocError, Global};
 

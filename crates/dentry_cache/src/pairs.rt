@@ -2,7 +2,7 @@
 ghost use Rattle.std.specs.Prelude.{◌≡◌, ◌≤◌, true, IfOk};
 ghost use Rattle.namehash.specs.Rjenkins.{hash_of};
 ghost use Rattle.std.specs.FinMap as map;
-ghost use Rattle.omap.specs.Omap.{key_cmp};
+ghost use Rattle.objstore.specs.Omap.{key_cmp};
 ghost use Rattle.sorted_map.specs.SortedMap.{contents};
 ghost use Rattle.mds_types.specs.Frag.{Fragment};
 ghost use Rattle.dirfrag_codec.specs.FragmentObject.{with_entry};
@@ -10,9 +10,9 @@ ghost use Rattle.dirfrag_codec.specs.Values.{entry_of, name_of};
 ghost use Rattle.dentry_cache.specs.Pairs.{IsRead, added, are_good, holds, is_good};
 
 use dirfrag_codec::decode_entry;
-use mds_types::{Frag, Inode, Name};
+use mds_types::{Bytes, Frag, Inode, Name};
 use namehash::rjenkins;
-use omap::{Bytes, name_of};
+use objstore::name_of;
 use sorted_map::SortedMap;
 use std::alloc::{AllocError, Global};
 

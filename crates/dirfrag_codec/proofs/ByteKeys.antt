@@ -10,7 +10,7 @@ use Rattle.std.specs.FinMap as map
 use Rattle.std.specs.FinMap.{find, get-insert, get-remove, same_map}
 use Rattle.std.specs.FinMap.Entries.{below_all}
 use Rattle.mds_types.proofs.EntrySearch.{not_found_below}
-use Rattle.omap.specs.Omap.{key_cmp}
+use Rattle.objstore.specs.Omap.{key_cmp}
 use Rattle.sorted_map.proofs.MapLaws.{tie}
 
 pub key_tied : (a b : List ℕ) → eq_by_cmp key_cmp a b ≡ true → a ≡ b

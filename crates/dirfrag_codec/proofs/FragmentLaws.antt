@@ -7,8 +7,8 @@ use Rattle.std.specs.FinMap.{find, is_sorted, entries_sorted, get-empty, get-ent
 use Rattle.sorted_map.proofs.Bools.{left_of, right_of}
 use Rattle.mds_types.specs.Name.{IsName}
 use Rattle.mds_types.specs.declared.inodes.Inode.{Inode}
-use Rattle.omap.specs.EntryKeys.{entry_key}
-use Rattle.omap.specs.Omap.{PairMap, key_cmp}
+use Rattle.objstore.specs.EntryKeys.{entry_key}
+use Rattle.objstore.specs.Omap.{PairMap, key_cmp}
 use Rattle.dirfrag_codec.specs.declared.headers.FragHeader.{FragHeader}
 use Rattle.dirfrag_codec.specs.EntryRecord.{SpellsEntry}
 use Rattle.dirfrag_codec.specs.FragmentObject.{HasOneFragment, HasOneTree, Names, ShowsAtEach, SpellsKey, SpellsNames, SpellsWhatItShows, header_for, names_in, names_of, shown_at, with_entry}

@@ -19,7 +19,7 @@ use Rattle.mds_types.specs.declared.inodes.Inode.{Inode}
 use Rattle.mds_types.specs.declared.inodes.Kind.{Kind}
 use Rattle.mds_types.specs.declared.inodes.Kind.TheVariants.{File, Dir, Symlink}
 use Rattle.fragtree.specs.FragTree.{Tiles}
-use Rattle.omap.specs.EntryKeys.{entry_key}
+use Rattle.objstore.specs.EntryKeys.{entry_key}
 use Rattle.dirfrag_codec.specs.declared.headers.FragHeader.{FragHeader}
 use Rattle.dirfrag_codec.specs.EntryRecord.{HasTarget, IsRecordable, IsRecordV1, SpellsEntry, kind_byte, record_v1, target_of}
 use Rattle.dirfrag_codec.specs.FragHeader.{SpellsHeader, header_bytes}

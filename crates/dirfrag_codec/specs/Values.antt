@@ -9,7 +9,7 @@ use Rattle.mds_types.specs.Name.{fits_name, fits_target, is_dots}
 use Rattle.mds_types.specs.declared.inodes.Inode.{Inode}
 use Rattle.mds_types.specs.declared.inodes.Kind.{Kind}
 use Rattle.mds_types.specs.declared.inodes.Kind.TheVariants.{File, Dir, Symlink}
-use Rattle.omap.specs.EntryKeys.{entry_key}
+use Rattle.objstore.specs.EntryKeys.{entry_key}
 use Rattle.dirfrag_codec.specs.declared.headers.FragHeader.{FragHeader}
 use Rattle.dirfrag_codec.specs.EntryRecord.{record_v1}
 use Rattle.dirfrag_codec.specs.FragHeader.{header_bytes}

@@ -16,8 +16,8 @@ use Rattle.dirfrag_codec.proofs.Front.{number_again}
 use Rattle.dirfrag_codec.proofs.RecordLaws.{one_entry}
 use Rattle.dirfrag_codec.proofs.TreeLaws.{word_low}
 use Rattle.dirfrag_codec.proofs.ValueLaws.{fragment_again, fragment_decides, read_as, reads_entry, record_decides}
-use Rattle.commit_jobs.specs.declared.bases.Base.{Base}
-use Rattle.commit_jobs.specs.declared.bases.Base.TheVariants.{Fresh, Stored}
+use Rattle.cached_frag.specs.declared.bases.Base.{Base}
+use Rattle.cached_frag.specs.declared.bases.Base.TheVariants.{Fresh, Stored}
 use Rattle.export_bytes.specs.declared.exports.Export.{Export}
 use Rattle.export_bytes.specs.declared.exports.SentFrag.{SentFrag}
 use Rattle.export_bytes.specs.Export.{SentName, base_bytes, export_bytes, frag_bytes, has_record, inode_bytes, is_base_of, is_frag_before, is_name_before, is_sendable, is_sent_frag, is_sent_name, name_bytes, rise}

@@ -12,8 +12,8 @@ use Rattle.dirfrag_codec.specs.Reading.{◌>>=◌, after_tag, byte_at, number_at
 use Rattle.dirfrag_codec.specs.Values.{entry_of, fragment_of, is_fragment, is_name, is_record_v1}
 use Rattle.dirfrag_codec.proofs.Front.{IsBytes, IsBytes-drop, Takes, Takes-then, bind_some, byte_takes, guard_not, number_takes, tag_takes, width_2, width_4, width_8}
 use Rattle.dirfrag_codec.proofs.ValueLaws.{reads_entry, record_decides, spelled_as}
-use Rattle.commit_jobs.specs.declared.bases.Base.{Base}
-use Rattle.commit_jobs.specs.declared.bases.Base.TheVariants.{Fresh, Stored}
+use Rattle.cached_frag.specs.declared.bases.Base.{Base}
+use Rattle.cached_frag.specs.declared.bases.Base.TheVariants.{Fresh, Stored}
 use Rattle.export_bytes.specs.declared.exports.Export.{Export}
 use Rattle.export_bytes.specs.declared.exports.SentFrag.{SentFrag}
 use Rattle.export_bytes.specs.Export.{SentName, SpellsExport, base_bytes, frag_bytes, has_record, inode_bytes, is_base_of, is_frag_before, is_name_before, is_sendable, is_sent_frag, is_sent_name, name_bytes, rise}

@@ -2,7 +2,7 @@
 use Rattle.std.specs.Prelude.{ℕ, Bool, true, if◌then◌else◌, List, [], Option, Some, None}
 use Rattle.mds_types.specs.Frag.{Fragment}
 use Rattle.dirfrag_codec.specs.Reading.{◌>>=◌}
-use Rattle.commit_jobs.specs.declared.bases.Base.TheVariants.{Fresh}
+use Rattle.cached_frag.specs.declared.bases.Base.TheVariants.{Fresh}
 use Rattle.export_bytes.specs.declared.exports.SentFrag.{SentFrag}
 use Rattle.export_bytes.specs.Export.{SentName, rise}
 use Rattle.export_bytes.specs.Reading.{items_at}

@@ -5,11 +5,11 @@ use Rattle.std.specs.Ordering.{is_lt}
 use Rattle.byteorder.specs.Endian.{little_bytes}
 use Rattle.mds_types.specs.Frag.{word_of}
 use Rattle.mds_types.specs.declared.inodes.Inode.{Inode}
-use Rattle.omap.specs.Omap.{key_cmp}
+use Rattle.objstore.specs.Omap.{key_cmp}
 use Rattle.dirfrag_codec.specs.EntryRecord.{entry_bytes}
 use Rattle.dirfrag_codec.specs.Values.{is_fragment, is_name, is_record_v1}
-use Rattle.commit_jobs.specs.declared.bases.Base.{Base}
-use Rattle.commit_jobs.specs.declared.bases.Base.TheVariants.{Fresh, Stored}
+use Rattle.cached_frag.specs.declared.bases.Base.{Base}
+use Rattle.cached_frag.specs.declared.bases.Base.TheVariants.{Fresh, Stored}
 use Rattle.export_bytes.specs.declared.exports.Export.{Export}
 use Rattle.export_bytes.specs.declared.exports.SentFrag.{SentFrag}
 

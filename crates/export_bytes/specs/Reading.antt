@@ -5,8 +5,8 @@ use Rattle.mds_types.specs.Frag.{Fragment}
 use Rattle.mds_types.specs.declared.inodes.Inode.{Inode}
 use Rattle.dirfrag_codec.specs.Reading.{◌>>=◌, after_tag, byte_at, number_at}
 use Rattle.dirfrag_codec.specs.Values.{entry_of, fragment_of, is_fragment, is_name}
-use Rattle.commit_jobs.specs.declared.bases.Base.{Base}
-use Rattle.commit_jobs.specs.declared.bases.Base.TheVariants.{Fresh, Stored}
+use Rattle.cached_frag.specs.declared.bases.Base.{Base}
+use Rattle.cached_frag.specs.declared.bases.Base.TheVariants.{Fresh, Stored}
 use Rattle.export_bytes.specs.declared.exports.Export.{Export}
 use Rattle.export_bytes.specs.declared.exports.SentFrag.{SentFrag}
 use Rattle.export_bytes.specs.Export.{SentName, export_bytes, is_base_of, is_frag_before, is_name_before, is_sendable, rise}

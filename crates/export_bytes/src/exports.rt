@@ -1,7 +1,7 @@
 //! What is handed over.
 ghost use Rattle.std.specs.Prelude.{◌≡◌, length};
 
-use commit_jobs::Base;
+use cached_frag::Base;
 use mds_types::{Frag, Ino, Inode, Name, Rank};
 use std::marker::Model;
 

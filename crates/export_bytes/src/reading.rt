@@ -9,7 +9,7 @@ use crate::checking::are_parts;
 use crate::exports::{Export, SentFrag, SentFrags, SentNames};
 use crate::rising::{frags_rise, names_rise};
 use crate::writing::{FRESH, LETTER, PRESENT, REMOVED, STORED, VERSION};
-use commit_jobs::Base;
+use cached_frag::Base;
 use dirfrag_codec::decode_entry;
 use dirfrag_codec::fields::{after_tag, u8_at, u16_at, u32_at, u64_at};
 use mds_types::{Frag, Ino, Inode, Name, NameFault, Rank};

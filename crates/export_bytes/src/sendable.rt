@@ -7,7 +7,7 @@ ghost use Rattle.export_bytes.specs.Export.{has_record, is_base_of, is_sendable,
 
 use crate::exports::{Export, SentFrag};
 use crate::rising::{frags_rise, names_rise};
-use commit_jobs::Base;
+use cached_frag::Base;
 use dirfrag_codec::is_recordable;
 use mds_types::{Frag, Ino, Inode, Name, Rank};
 

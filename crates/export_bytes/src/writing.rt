@@ -5,7 +5,7 @@ ghost use Rattle.byteorder.specs.Endian.{little_bytes};
 ghost use Rattle.export_bytes.specs.Export.{SpellsExport, base_bytes, frag_bytes, inode_bytes, has_record, is_base_of, is_sendable, is_sent_frag, is_sent_name, name_bytes};
 
 use crate::exports::{Export, SentFrag};
-use commit_jobs::Base;
+use cached_frag::Base;
 use dirfrag_codec::encode_entry;
 use dirfrag_codec::fields::{put_u16, put_u32, put_u64};
 use mds_types::{Inode, Name};

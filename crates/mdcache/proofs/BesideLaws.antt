@@ -6,9 +6,9 @@ use Rattle.std.specs.Option.{option_map}
 use Rattle.std.proofs.lemmas.Option.{same_Some}
 use Rattle.mds_types.specs.declared.ids.Ino.{Ino}
 use Rattle.mds_types.specs.declared.refusals.Refusal.{Refusal}
-use Rattle.omap.specs.Omap.{Keys}
+use Rattle.objstore.specs.Omap.{Keys}
 use Rattle.objstore.specs.Objects.{Objects}
-use Rattle.commit_jobs.specs.declared.jobs.Job.{Job}
+use Rattle.cached_frag.specs.declared.jobs.Job.{Job}
 use Rattle.dentry_cache.specs.Cache.{IsThere, Leaf, stays}
 use Rattle.dentry_cache.specs.CacheMap.{AreCaches, At, CacheMap, evicted, given_up, goes, has_place, here, order, unclean, victim}
 use Rattle.dentry_cache.proofs.UncleanLaws.{clean_there, last_passes, unclean_gone}

@@ -11,10 +11,10 @@ use Rattle.mds_types.specs.Frag.{Fragment}
 use Rattle.mds_types.specs.Tree.{is_directory}
 use Rattle.fragtree.specs.FragTree.{IsPick}
 use Rattle.namehash.specs.Rjenkins.{hash_of}
-use Rattle.omap.specs.Omap.{Omap}
+use Rattle.objstore.specs.Omap.{Omap}
 use Rattle.objstore.specs.Objects.{Objects, faults_told}
-use Rattle.commit_jobs.specs.declared.bases.Base.{Base}
-use Rattle.commit_jobs.specs.declared.bases.Base.TheVariants.{Fresh, Stored}
+use Rattle.cached_frag.specs.declared.bases.Base.{Base}
+use Rattle.cached_frag.specs.declared.bases.Base.TheVariants.{Fresh, Stored}
 use Rattle.cached_frag.specs.Cached.{Cached, shown}
 use Rattle.dentry_cache.specs.Cache.{HasCached, Leaf}
 use Rattle.dentry_cache.specs.CacheMap.{At, CacheMap, IsFree, at, here, leaf_of, unclean, unclean_of, unsaved_at, used_at}
@@ -35,7 +35,7 @@ use Rattle.mdcache.specs.Frags.{KeepsState}
 use Rattle.dirfrag_codec.specs.FragmentObject.{Names}
 use Rattle.mdcache.specs.CacheReads.{LacksPlacesIn}
 use Rattle.mdcache.specs.Ranks.{KeepsOnlyAt, MayHold, NoneUsed}
-use Rattle.omap.specs.Omap.{Keys}
+use Rattle.objstore.specs.Omap.{Keys}
 use Rattle.inode_table.specs.Dirs.{Covers, Homes}
 use Rattle.mdcache.specs.Ready.{MayNotBeReady}
 use Rattle.mdcache.specs.declared.prepared.Prepared.{Prepared}

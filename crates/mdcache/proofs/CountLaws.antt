@@ -6,7 +6,7 @@ use Rattle.mds_types.specs.declared.ids.Ino.{Ino}
 use Rattle.mds_types.specs.declared.refusals.Refusal.{Refusal}
 use Rattle.mds_types.specs.declared.refusals.Refusal.TheVariants.{NoMemory, StoreFault, NoInodes, Trimmed, NotAuthority, Frozen, Pinned, NoSuchFrag, BadSplit, TooManyFrags, StaleJob, JobOutstanding, WrongExportState, InboxEmpty, InboxFull, NothingToEvict, Damaged, NotClean}
 use Rattle.objstore.specs.Objects.{faults_in, faults_told}
-use Rattle.commit_jobs.specs.declared.jobs.Job.{Job}
+use Rattle.cached_frag.specs.declared.jobs.Job.{Job}
 use Rattle.dentry_cache.specs.Cache.{Leaf}
 use Rattle.inode_table.specs.Dirs.{Homes}
 use Rattle.mdcache.specs.Commits.{Begins, Drops, MayNotBegin}

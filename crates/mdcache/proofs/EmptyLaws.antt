@@ -10,7 +10,7 @@ use Rattle.std.proofs.lemmas.Map.Lookups.{exact_bytes}
 use Rattle.std.specs.FinMap as map
 use Rattle.std.specs.FinMap.{empty_of_len, len-empty, len-entries, same_map}
 use Rattle.sorted_map.proofs.Filters.{all_kept}
-use Rattle.omap.specs.Omap.{Omap, PairMap, PairPage, key_cmp, page_of, pairs_after}
+use Rattle.objstore.specs.Omap.{Omap, PairMap, PairPage, key_cmp, page_of, pairs_after}
 use Rattle.mds_types.specs.Frag.{Fragment}
 use Rattle.objstore.specs.Objects.{Objects, NameList, first_names, header_at, names_after, page_at}
 use Rattle.dirfrag_codec.specs.TreeObject.{tree_bytes}

@@ -10,15 +10,15 @@ use Rattle.sorted_map.proofs.OverlayLaws.{none_entries}
 use Rattle.mds_types.specs.declared.inodes.Inode.{Inode}
 use Rattle.dirfrag_codec.proofs.ByteKeys.{get_beside, get_put, key_itself, key_tied}
 use Rattle.inode_table.specs.TreeTable.{IsTabled}
-use Rattle.omap.specs.Omap.{Omap, key_cmp}
+use Rattle.objstore.specs.Omap.{Omap, key_cmp}
 use Rattle.objstore.specs.Objects.{written}
 use Rattle.dirfrag_codec.specs.FragmentObject.{Names, SpellsFragment}
 use Rattle.dirfrag_codec.proofs.FragmentLaws.{spells_what_it_shows}
-use Rattle.commit_jobs.specs.declared.bases.Base.{Base}
-use Rattle.commit_jobs.specs.declared.bases.Base.TheVariants.{Fresh, Stored}
-use Rattle.commit_jobs.specs.declared.jobs.Job.{Job}
-use Rattle.commit_jobs.specs.Marks.{Marks, patched, with_marks}
-use Rattle.commit_jobs.specs.Snap.{Snap, next_version}
+use Rattle.cached_frag.specs.declared.bases.Base.{Base}
+use Rattle.cached_frag.specs.declared.bases.Base.TheVariants.{Fresh, Stored}
+use Rattle.cached_frag.specs.declared.jobs.Job.{Job}
+use Rattle.cached_frag.specs.Marks.{Marks, patched, with_marks}
+use Rattle.cached_frag.specs.Snap.{Snap, next_version}
 use Rattle.cached_frag.specs.Cached.{Cached, is_clean, is_clean_over, is_settled, shown, shown_over, unsettled}
 use Rattle.cached_frag.proofs.SettledLaws.{get-unsettled}
 use Rattle.dentry_cache.specs.Loading.{object_of}

@@ -3,15 +3,15 @@ use Rattle.std.proofs.Common.{◌≡◌, ℕ, Bool, cond, Option, Some, None, re
 use Rattle.std.specs.FinMap as map
 use Rattle.sorted_map.proofs.NatKeys.{is_same}
 use Rattle.objstore.specs.Objects.{Objects, written}
-use Rattle.commit_jobs.specs.declared.jobs.Job.{Job}
-use Rattle.commit_jobs.specs.Commit.{write_of}
+use Rattle.cached_frag.specs.declared.jobs.Job.{Job}
+use Rattle.cached_frag.specs.Commit.{write_of}
 use Rattle.cached_frag.specs.Cached.{Cached}
 use Rattle.dentry_cache.specs.Cache.{IsThere, Leaf, Unsaved, unsaved_in}
 use Rattle.dentry_cache.specs.CacheCalls.{Edits}
 use Rattle.dentry_cache.specs.CacheMap.{At, CacheMap, IsFree, IsFreeFor, at_rank, here, unsaved_at, with_frag}
 use Rattle.dentry_cache.specs.Came.{Came, IsThat, NoneEnds}
 use Rattle.dentry_cache.specs.Came.Came.{has, stays}
-use Rattle.omap.specs.declared.write_ops.WriteOp.{WriteOp}
+use Rattle.objstore.specs.declared.write_ops.WriteOp.{WriteOp}
 use Rattle.dentry_cache.specs.Commits.{IsCommitted, leaf_text}
 use Rattle.dentry_cache.proofs.CameLaws.{edits_unclean}
 use Rattle.dentry_cache.proofs.StepLaws.{by_edits}

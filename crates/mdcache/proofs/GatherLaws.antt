@@ -15,7 +15,7 @@ use Rattle.mds_types.specs.declared.inodes.Inode.{Inode}
 use Rattle.mds_types.specs.Frag.{Fragment}
 use Rattle.mds_types.specs.Step.{is_after, names_after}
 use Rattle.mds_types.proofs.ListingLaws.{names_are_listed}
-use Rattle.omap.specs.Omap.{key_cmp}
+use Rattle.objstore.specs.Omap.{key_cmp}
 use Rattle.fragtree.specs.FragTree.{IsPick}
 use Rattle.fragtree.proofs.TreeLaws.{first as first_has, some_pick, later as later_has}
 use Rattle.namehash.specs.Rjenkins.{hash_of}

@@ -16,10 +16,10 @@ use Rattle.sorted_map.proofs.NatKeys.{get_left as get_left_home, get_removed as 
 use Rattle.fragtree.specs.FragTree.{HasLeaf, IsPick}
 use Rattle.fragtree.proofs.TreeLaws.{first_or_later, later}
 use Rattle.namehash.specs.Rjenkins.{hash_of}
-use Rattle.omap.specs.Omap.{Keys}
+use Rattle.objstore.specs.Omap.{Keys}
 use Rattle.dirfrag_codec.specs.FragmentObject.{Names}
 use Rattle.dirfrag_codec.proofs.ByteKeys.{get_beside, get_put, same_or_apart as key_or_apart}
-use Rattle.commit_jobs.specs.declared.jobs.Job.{Job}
+use Rattle.cached_frag.specs.declared.jobs.Job.{Job}
 use Rattle.dentry_cache.specs.Cache.{Leaf, Unsaved, leaf_cmp, leaf_is}
 use Rattle.dentry_cache.proofs.LeafLaws.{leaf-total, leaf_itself, one_leaf, tied_leaf}
 use Rattle.inode_table.specs.declared.dirs.Home.{Home}

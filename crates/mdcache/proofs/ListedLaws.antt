@@ -10,7 +10,7 @@ use Rattle.mds_types.specs.Frag.{Fragment, IsFragment, child_of}
 use Rattle.mds_types.proofs.Fragments.{child_is_fragment}
 use Rattle.mds_types.proofs.ObjectTextLaws.{texts_differ}
 use Rattle.fragtree.specs.FragTree.{HasLeaf, IsChild}
-use Rattle.omap.specs.Omap.{Keys}
+use Rattle.objstore.specs.Omap.{Keys}
 use Rattle.dirfrag_codec.proofs.ByteKeys.{get_beside, get_left, get_put, get_removed, same_or_apart as key_or_apart}
 use Rattle.namespace_ops.specs.Changes.{in_directory}
 use Rattle.mdcache.specs.Changes.{with_objects}

@@ -13,7 +13,7 @@ use Rattle.fragtree.proofs.Tilings.{between}
 use Rattle.fragtree.proofs.TreeLaws.{first_or_later, later, merged_after_merge, pick_after_merge}
 use Rattle.namehash.specs.Rjenkins.{hash_of}
 use Rattle.dirfrag_codec.specs.FragmentObject.{Names}
-use Rattle.commit_jobs.specs.declared.marks.Mark.{Mark}
+use Rattle.cached_frag.specs.declared.marks.Mark.{Mark}
 use Rattle.cached_frag.specs.Moving.{marked_as}
 use Rattle.dentry_cache.specs.Pairs.{holds}
 use Rattle.dentry_cache.proofs.LoadLaws.{holds_contains}

@@ -13,15 +13,15 @@ use Rattle.mds_types.proofs.EntryLaws.{get_put as get_dentry, get_beside as get_
 use Rattle.fragtree.specs.FragTree.{IsPick}
 use Rattle.fragtree.proofs.TreeLaws.{some_pick}
 use Rattle.namehash.specs.Rjenkins.{hash_of}
-use Rattle.omap.specs.Omap.{Omap, key_cmp}
+use Rattle.objstore.specs.Omap.{Omap, key_cmp}
 use Rattle.dirfrag_codec.specs.FragmentObject.{Names}
 use Rattle.dirfrag_codec.proofs.ByteKeys.{get_beside, get_put}
-use Rattle.commit_jobs.specs.declared.bases.Base.{Base}
-use Rattle.commit_jobs.specs.declared.bases.Base.TheVariants.{Fresh, Stored}
-use Rattle.commit_jobs.specs.declared.jobs.Job.{Job}
-use Rattle.commit_jobs.specs.declared.marks.Mark.{Mark}
-use Rattle.commit_jobs.specs.Marks.{Marks, with_mark}
-use Rattle.commit_jobs.proofs.MarkLaws.{marked_beside, marked_here}
+use Rattle.cached_frag.specs.declared.bases.Base.{Base}
+use Rattle.cached_frag.specs.declared.bases.Base.TheVariants.{Fresh, Stored}
+use Rattle.cached_frag.specs.declared.jobs.Job.{Job}
+use Rattle.cached_frag.specs.declared.marks.Mark.{Mark}
+use Rattle.cached_frag.specs.Marks.{Marks, with_mark}
+use Rattle.cached_frag.proofs.MarkLaws.{marked_beside, marked_here}
 use Rattle.cached_frag.specs.Cached.{shown_over}
 use Rattle.cached_frag.proofs.ShownLaws.{only_below, shown_put}
 use Rattle.dentry_cache.specs.Loading.{object_of}

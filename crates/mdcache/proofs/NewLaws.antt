@@ -11,10 +11,10 @@ use Rattle.mds_types.specs.Frag.{root_fragment}
 use Rattle.mds_types.specs.Tree.{dentry_cmp}
 use Rattle.mds_types.specs.OrderLaws.{dentry-exact}
 use Rattle.mds_types.proofs.OrderLaws.{dentry-total}
-use Rattle.omap.specs.Omap.{Omap, key_cmp}
+use Rattle.objstore.specs.Omap.{Omap, key_cmp}
 use Rattle.objstore.specs.Objects.{Objects}
 use Rattle.dirfrag_codec.specs.FragmentObject.{Names}
-use Rattle.commit_jobs.specs.declared.marks.Mark.{Mark}
+use Rattle.cached_frag.specs.declared.marks.Mark.{Mark}
 use Rattle.dentry_cache.specs.Loading.{object_of}
 use Rattle.dentry_cache.specs.Cache.{Leaf, Unsaved, leaf_cmp, leaf_is}
 use Rattle.dentry_cache.specs.CacheCalls.{KeepsNone}
@@ -25,7 +25,7 @@ use Rattle.dentry_cache.proofs.WholeLaws.{none_with_frag}
 use Rattle.inode_table.specs.Dirs.{Covers, Homes, IsTable, is_known, leaves_of, or_whole}
 use Rattle.inode_table.specs.TreeTable.{IsTabled}
 use Rattle.inode_table.proofs.TableLaws.{empty_tabled}
-use Rattle.omap.specs.Omap.{Keys}
+use Rattle.objstore.specs.Omap.{Keys}
 use Rattle.mdcache.specs.StandingJobs.{Jobs}
 use Rattle.mdcache.specs.Core.{AreCached, Core, IsSoundCore, Rooms, state_of}
 use Rattle.mdcache.specs.New.{cached_root, new_caches, new_root, new_state, root_leaf}

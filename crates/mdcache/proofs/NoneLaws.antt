@@ -7,7 +7,7 @@ use Rattle.std.proofs.lemmas.List.{get_or_past}
 use Rattle.std.specs.FinMap as finmap
 use Rattle.sorted_map.proofs.NatKeys.{is_same}
 use Rattle.mds_types.specs.declared.ids.Rank.{Rank}
-use Rattle.omap.specs.Omap.{Omap}
+use Rattle.objstore.specs.Omap.{Omap}
 use Rattle.cached_frag.specs.Cached.{Cached}
 use Rattle.dentry_cache.specs.Cache.{IsThere, Leaf, leaf_is}
 use Rattle.dentry_cache.specs.CacheCalls.{Edits, FetchesAt, IsEdited, KeepsAt, KeepsNone, MakesRoomAt}

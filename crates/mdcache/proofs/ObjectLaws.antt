@@ -9,9 +9,9 @@ use Rattle.std.specs.Cmp.Lexicographic.{nat_list_cmp_total}
 use Rattle.std.proofs.lemmas.Map.Lookups.{exact_bytes}
 use Rattle.mds_types.specs.Frag.{Fragment}
 use Rattle.mds_types.specs.declared.ids.Ino.{Ino}
-use Rattle.omap.specs.declared.write_ops.WriteOp.{WriteOp}
-use Rattle.omap.specs.Omap.{Keys, Omap, PairMap, empty_omap, key_cmp}
-use Rattle.omap.proofs.WriteLaws.{applied-by-parts, overlaid-empty}
+use Rattle.objstore.specs.declared.write_ops.WriteOp.{WriteOp}
+use Rattle.objstore.specs.Omap.{Keys, Omap, PairMap, empty_omap, key_cmp}
+use Rattle.objstore.proofs.WriteLaws.{applied-by-parts, overlaid-empty}
 use Rattle.sorted_map.proofs.MapLaws.{get-without_keys}
 use Rattle.sorted_map.specs.Overlay.{without_keys}
 use Rattle.objstore.specs.Objects.{Objects, written}

@@ -11,7 +11,7 @@ use Rattle.sorted_map.specs.Places.{IsAt, IsGap, puts}
 use Rattle.sorted_map.proofs.Bools.{left_of, right_of, both_of}
 use Rattle.sorted_map.proofs.PlaceLaws.{less, put_at, put_gap, turned}
 use Rattle.mds_types.specs.declared.inodes.Inode.{Inode}
-use Rattle.omap.specs.Omap.{key_cmp}
+use Rattle.objstore.specs.Omap.{key_cmp}
 use Rattle.cached_frag.specs.Rows.{Row}
 use Rattle.mdcache.specs.Pages.{Gathered, IsBeyond, IsPageOf, Takes}
 

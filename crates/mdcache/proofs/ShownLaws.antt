@@ -15,7 +15,7 @@ use Rattle.mds_types.proofs.OrderLaws.{dentry-total}
 use Rattle.mds_types.proofs.ListingLaws.{tied_dentry}
 use Rattle.fragtree.specs.FragTree.{HasLeaf}
 use Rattle.fragtree.proofs.TreeLaws.{first_or_later, later}
-use Rattle.omap.specs.Omap.{key_cmp}
+use Rattle.objstore.specs.Omap.{key_cmp}
 use Rattle.sorted_map.proofs.NatKeys.{is_same, is_apart}
 use Rattle.dirfrag_codec.specs.FragmentObject.{Names}
 use Rattle.dentry_cache.specs.Cache.{Leaf}

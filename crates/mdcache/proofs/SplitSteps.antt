@@ -18,7 +18,7 @@ use Rattle.fragtree.proofs.Tilings.{between}
 use Rattle.fragtree.proofs.TreeLaws.{pick_after_split}
 use Rattle.namehash.specs.Rjenkins.{hash_of}
 use Rattle.dirfrag_codec.specs.FragmentObject.{Names}
-use Rattle.commit_jobs.specs.declared.bases.Base.TheVariants.{Fresh}
+use Rattle.cached_frag.specs.declared.bases.Base.TheVariants.{Fresh}
 use Rattle.cached_frag.specs.Cached.{Cached, shown}
 use Rattle.cached_frag.specs.Moving.{marked_as}
 use Rattle.dentry_cache.specs.Loading.{object_of}

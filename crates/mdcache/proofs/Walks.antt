@@ -5,7 +5,7 @@ use Rattle.std.specs.FinMap as map
 use Rattle.std.specs.FinMap.{entries_sorted, find, get-entries, is_sorted}
 use Rattle.mds_types.proofs.EntrySearch.{not_found_below}
 use Rattle.sorted_map.proofs.Bools.{left_of, right_of}
-use Rattle.commit_jobs.specs.declared.jobs.Job.{Job}
+use Rattle.cached_frag.specs.declared.jobs.Job.{Job}
 use Rattle.mds_types.specs.Leaf.{Leaf, leaf_cmp}
 use Rattle.mds_types.proofs.LeafLaws.{key_itself, leaf-exact, leaf-total}
 use Rattle.sorted_map.proofs.MapLaws.{tie}

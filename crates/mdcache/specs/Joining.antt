@@ -3,7 +3,7 @@ use Rattle.std.specs.Prelude.{◌≡◌, ◌⊎◌, ℕ, List, [], ◌∷◌, Op
 use Rattle.std.specs.FinMap as map
 use Rattle.std.specs.List.{Contains}
 use Rattle.dirfrag_codec.specs.FragmentObject.{Names}
-use Rattle.commit_jobs.specs.declared.marks.Mark.{Mark}
+use Rattle.cached_frag.specs.declared.marks.Mark.{Mark}
 use Rattle.cached_frag.specs.Cached.{Cached}
 use Rattle.cached_frag.specs.Moving.{marked_as}
 use Rattle.dentry_cache.specs.Cache.{Leaf}

@@ -5,7 +5,7 @@ use Rattle.mds_types.specs.Frag.{root_fragment}
 use Rattle.mds_types.specs.declared.refusals.Refusal.{Refusal}
 use Rattle.mds_types.specs.declared.refusals.Refusal.TheVariants.{NotClean}
 use Rattle.objstore.specs.Objects.{MayRefuse, Objects}
-use Rattle.commit_jobs.specs.declared.bases.Base.TheVariants.{Fresh}
+use Rattle.cached_frag.specs.declared.bases.Base.TheVariants.{Fresh}
 use Rattle.cached_frag.specs.Cached.{Cached}
 use Rattle.dentry_cache.specs.Cache.{Leaf, Unsaved}
 use Rattle.dentry_cache.specs.CacheMap.{CacheMap, no_caches, with_frag}

@@ -5,7 +5,7 @@ use Rattle.mds_types.specs.Frag.{Fragment}
 use Rattle.mds_types.specs.declared.ids.Ino.{Ino}
 use Rattle.mds_types.specs.declared.refusals.Refusal.{Refusal}
 use Rattle.mds_types.specs.declared.refusals.Refusal.TheVariants.{NoSuchFrag}
-use Rattle.omap.specs.Omap.{Omap}
+use Rattle.objstore.specs.Omap.{Omap}
 use Rattle.objstore.specs.Objects.{MayRefuse, Objects}
 use Rattle.dirfrag_codec.specs.TreeObject.{tree_bytes}
 use Rattle.inode_table.specs.Dirs.{is_known, leaves_of}

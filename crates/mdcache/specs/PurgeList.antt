@@ -1,7 +1,7 @@
 -- What a contract sees of a purge list.
 use Rattle.std.specs.Prelude.{ℕ, List, Option}
 use Rattle.std.specs.Option.{option_map}
-use Rattle.omap.specs.Omap.{Keys}
+use Rattle.objstore.specs.Omap.{Keys}
 use Rattle.sorted_map.specs.SortedMap.{first_pair}
 
 -- the names of objects that are to be removed, as texts in the order of their bytes, and how many more fit with no growth

@@ -2,7 +2,7 @@
 use Rattle.std.specs.Prelude.{◌≡◌, ℕ, ◌+◌, ◌<◌, ◌≤◌, ◌^◌, Bool, cond, List, map as each, length, None, string_bytes}
 use Rattle.std.specs.FinMap as map
 use Rattle.fragtree.specs.FragTree.{IsMerge, IsSplit, IsTree, leaves_inside}
-use Rattle.commit_jobs.specs.declared.bases.Base.TheVariants.{Fresh}
+use Rattle.cached_frag.specs.declared.bases.Base.TheVariants.{Fresh}
 use Rattle.cached_frag.specs.Cached.{Cached, shown}
 use Rattle.dentry_cache.specs.Cache.{Leaf}
 use Rattle.dentry_cache.specs.CacheMap.{CacheMap, leaf_of, unclean, with_frag}

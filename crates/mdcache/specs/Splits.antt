@@ -7,8 +7,8 @@ use Rattle.mds_types.specs.Frag.{Fragment, child_of}
 use Rattle.mds_types.specs.Tree.{dentry_of}
 use Rattle.fragtree.specs.FragTree.{CanMerge, CanSplit, HasLeaf, IsMerge, IsSplit, IsTree, leaves_inside}
 use Rattle.namehash.specs.Rjenkins.{hash_of}
-use Rattle.omap.specs.Omap.{Keys}
-use Rattle.commit_jobs.specs.declared.bases.Base.TheVariants.{Fresh}
+use Rattle.objstore.specs.Omap.{Keys}
+use Rattle.cached_frag.specs.declared.bases.Base.TheVariants.{Fresh}
 use Rattle.cached_frag.specs.Moving.{marked_as}
 use Rattle.dentry_cache.specs.Pairs.{holds}
 use Rattle.dentry_cache.specs.Cache.{Leaf, Unsaved}

@@ -2,7 +2,7 @@
 use Rattle.std.specs.Prelude.{◌≡◌, ℕ, Option, Some, None}
 use Rattle.std.specs.FinMap as map
 pub use Rattle.mds_types.specs.Leaf.{Leaf, leaf_cmp}
-use Rattle.commit_jobs.specs.declared.jobs.Job.{Job}
+use Rattle.cached_frag.specs.declared.jobs.Job.{Job}
 
 -- the job that stands for a leaf, if one does
 abbrev pub Jobs : Type 0

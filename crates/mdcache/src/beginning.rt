@@ -3,7 +3,7 @@ ghost use Rattle.std.specs.Prelude.{◌≡◌, ◌+◌, ◌-◌, ◌<◌, ◌^�
 ghost use Rattle.std.specs.Option.{option_map};
 ghost use Rattle.std.specs.FinMap as map;
 ghost use Rattle.mds_types.specs.declared.refusals.Refusal.TheVariants.{NoInodes, NoMemory};
-ghost use Rattle.commit_jobs.specs.Snap.{IsBelowEnd, IsSnap};
+ghost use Rattle.cached_frag.specs.Snap.{IsBelowEnd, IsSnap};
 ghost use Rattle.cached_frag.specs.Cached.{Cached, is_clean};
 ghost use Rattle.dentry_cache.specs.Cache.{HasCached, Unsaved, unsaved_in};
 ghost use Rattle.dentry_cache.specs.CacheMap.{here, leaf_of, used_at};
@@ -14,7 +14,7 @@ ghost use Rattle.mdcache.specs.Ranks.{MayHold};
 
 use crate::mdcache::MdCache;
 use crate::standing_jobs::StandingJobs;
-use commit_jobs::{Base, Job, Snapshot};
+use cached_frag::{Base, Job, Snapshot};
 use dentry_cache::{Caches, Dirfrag};
 use mds_types::{Frag, Ino, Rank, Refusal};
 use objstore::Store;

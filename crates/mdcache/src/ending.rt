@@ -10,7 +10,7 @@ ghost use Rattle.mdcache.specs.Ranks.{MayHold};
 
 use crate::mdcache::MdCache;
 use crate::standing_jobs::StandingJobs;
-use commit_jobs::{Encoded, Job};
+use cached_frag::{Encoded, Job};
 use mds_types::{Rank, Refusal};
 use objstore::Store;
 use std::alloc::Global;

@@ -2,7 +2,7 @@
 ghost use Rattle.std.specs.Prelude.{◌≡◌, ◌<◌, ◌≤◌, ◌-◌, false, ℕ, List, [], T, IfOk, OnOk, OnErr, length, nat_lt, take, insert, slice_set, slice_index_or};
 ghost use Rattle.std.specs.List.Sorted.{IsSearchInRange};
 ghost use Rattle.std.specs.FinMap.{is_sorted};
-ghost use Rattle.omap.specs.Omap.{key_cmp};
+ghost use Rattle.objstore.specs.Omap.{key_cmp};
 ghost use Rattle.sorted_map.specs.Places.{IsPlace, puts};
 ghost use Rattle.cached_frag.specs.Rows.{Row, rows_left};
 ghost use Rattle.mdcache.specs.Pages.{IsBeyond, IsPageOf, Takes};
@@ -23,7 +23,7 @@ pub struct Page {
 impl Model for Page {
     ghost use Rattle.std.specs.Prelude.{T, ◌≤◌, length};
     ghost use Rattle.std.specs.FinMap.{is_sorted};
-    ghost use Rattle.omap.specs.Omap.{key_cmp};
+    ghost use Rattle.objstore.specs.Omap.{key_cmp};
     ghost use Rattle.mdcache.specs.Pages.{Gathered};
 
     ghost Value = { Gathered };

@@ -3,7 +3,7 @@ ghost use Rattle.std.specs.Prelude.{◌≡◌, ◌≤◌, ◌<◌, ◌+◌, ℕ,
 ghost use Rattle.std.specs.FinMap as map;
 ghost use Rattle.mdcache.specs.PurgeList.{first_name};
 
-use byte_strings::{Text, TextRef};
+use mds_types::{Text, TextRef};
 use sorted_map::SortedMap;
 use std::alloc::{AllocError, Global};
 use std::marker::Model;
@@ -17,7 +17,7 @@ pub struct PurgeList {
 impl Model for PurgeList {
     ghost use Rattle.std.specs.Coded.{codes};
     ghost use Rattle.std.specs.FinMap as map;
-    ghost use Rattle.omap.specs.Omap.{key_cmp};
+    ghost use Rattle.objstore.specs.Omap.{key_cmp};
     ghost use Rattle.sorted_map.specs.SortedMap.{contents};
     ghost use Rattle.mdcache.specs.PurgeList.{Listed};
 

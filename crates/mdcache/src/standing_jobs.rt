@@ -5,7 +5,7 @@ ghost use Rattle.sorted_map.specs.SortedMap.{contents};
 ghost use Rattle.mds_types.specs.Leaf.{leaf_cmp};
 ghost use Rattle.mdcache.specs.StandingJobs.{Finds};
 
-use commit_jobs::Job;
+use cached_frag::Job;
 use mds_types::{Frag, Ino};
 use sorted_map::SortedMap;
 use std::alloc::{AllocError, Global};

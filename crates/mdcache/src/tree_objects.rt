@@ -9,9 +9,8 @@ ghost use Rattle.mdcache.specs.Objects.{with_tree_at};
 
 use dirfrag_codec::encode_tree;
 use inode_table::Dirs;
-use mds_types::{Ino, Refusal};
-use objstore::Store;
-use omap::{Bytes, WriteOp};
+use mds_types::{Bytes, Ino, Refusal};
+use objstore::{Store, WriteOp};
 use std::alloc::{AllocError, Global};
 
 /// Makes the object of this name say what leaves a directory has: it is written, if there is more than one and it isn't so

@@ -1,8 +1,10 @@
 //! The words that every layer of the metadata cluster speaks: ranks, inode numbers, directory fragments, names, inodes,
-//! requests with their replies and refusals, and the entries of a history. The definitions of the product's promises,
-//! from fragment arithmetic to the legal history, stand in `specs/`.
+//! requests with their replies and refusals, and the entries of a history; and the strings of bytes that names, targets, keys,
+//! values and the names of objects are (`Bytes`, `Text`), ordered as memory compares. The definitions of the product's
+//! promises, from fragment arithmetic to the legal history, stand in `specs/`.
 #![tactic(auto)]
 
+mod bytes;
 mod dentries;
 mod entries;
 mod errno;
@@ -20,7 +22,9 @@ mod refusals;
 mod replies;
 mod requests;
 mod targets;
+mod texts;
 
+pub use bytes::Bytes;
 pub use dentries::Dentry;
 pub use entries::Entry;
 pub use errno::{EEXIST, EINVAL, EISDIR, ENAMETOOLONG, ENOENT, ENOTDIR, ENOTEMPTY, ESTALE};
@@ -37,3 +41,4 @@ pub use refusals::Refusal;
 pub use replies::Reply;
 pub use requests::Request;
 pub use targets::{Target, TargetFault};
+pub use texts::{Text, TextRef};

@@ -4,8 +4,8 @@ ghost use Rattle.std.specs.List.{list_all};
 ghost use Rattle.mds_types.specs.Name.{IsName, is_dots, fits_name};
 ghost use Rattle.mds_types.specs.NameFault.{IsFaultOf, NameFromBytes, name_errno};
 
+use crate::bytes::Bytes;
 use crate::errno::{EINVAL, ENAMETOOLONG};
-use byte_strings::Bytes;
 use std::alloc::{AllocError, Global};
 use std::marker::Model;
 

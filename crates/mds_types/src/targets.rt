@@ -4,8 +4,8 @@ ghost use Rattle.std.specs.Prelude.{◌≡◌, IfOk};
 ghost use Rattle.mds_types.specs.Name.{IsTarget, fits_target};
 ghost use Rattle.mds_types.specs.TargetFault.{TargetFromBytes, target_errno};
 
+use crate::bytes::Bytes;
 use crate::errno::{EINVAL, ENAMETOOLONG, ENOENT};
-use byte_strings::Bytes;
 use std::alloc::{AllocError, Global};
 use std::marker::Model;
 

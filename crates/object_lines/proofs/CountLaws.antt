@@ -13,8 +13,8 @@ use Rattle.std.specs.FinMap.Entries.{by_order, put}
 use Rattle.sorted_map.proofs.Bools.{left_of, right_of}
 use Rattle.mds_types.specs.Tree.{is_dir_kind}
 use Rattle.mds_types.specs.declared.inodes.Inode.{Inode}
-use Rattle.omap.specs.EntryKeys.{entry_key}
-use Rattle.omap.specs.Omap.{key_cmp}
+use Rattle.objstore.specs.EntryKeys.{entry_key}
+use Rattle.objstore.specs.Omap.{key_cmp}
 use Rattle.dirfrag_codec.specs.declared.headers.FragHeader.{FragHeader}
 use Rattle.dirfrag_codec.specs.FragmentObject.{Names, SpellsKey, dirs_in, files_in, names_in, names_of, with_entry}
 use Rattle.dirfrag_codec.specs.Reading.{◌>>=◌}

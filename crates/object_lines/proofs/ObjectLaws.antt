@@ -11,8 +11,8 @@ use Rattle.sorted_map.proofs.Filters.{all_kept}
 use Rattle.mds_types.specs.Frag.{Fragment}
 use Rattle.mds_types.specs.Tree.{is_dir_kind}
 use Rattle.mds_types.specs.declared.inodes.Inode.{Inode}
-use Rattle.omap.specs.EntryKeys.{entry_key}
-use Rattle.omap.specs.Omap.{Omap, PairMap, PairPage, key_cmp, page_of, pairs_after}
+use Rattle.objstore.specs.EntryKeys.{entry_key}
+use Rattle.objstore.specs.Omap.{Omap, PairMap, PairPage, key_cmp, page_of, pairs_after}
 use Rattle.dirfrag_codec.specs.declared.headers.FragHeader.{FragHeader}
 use Rattle.dirfrag_codec.specs.EntryRecord.{SpellsEntry}
 use Rattle.dirfrag_codec.specs.FragHeader.{SpellsHeader}

@@ -2,7 +2,7 @@
 use Rattle.std.specs.Prelude.{◌≡◌, ◌⊎◌, ℕ, List, Option, Some, None}
 use Rattle.std.specs.FinMap as map
 use Rattle.mds_types.specs.Frag.{Fragment}
-use Rattle.omap.specs.Omap.{Omap}
+use Rattle.objstore.specs.Omap.{Omap}
 use Rattle.dirfrag_codec.specs.declared.headers.FragHeader.{FragHeader}
 use Rattle.dirfrag_codec.specs.FragHeader.{SpellsHeader}
 use Rattle.dirfrag_codec.specs.FragmentObject.{Names, SpellsFragment, SpellsTreeObject, dirs_in, files_in}

@@ -1,7 +1,7 @@
 -- What is read of an object as a fragment's, and as a fragment tree's. Only this crate's own contracts use these words.
 use Rattle.std.specs.Prelude.{List, Option, Some, None}
 use Rattle.mds_types.specs.Frag.{Fragment}
-use Rattle.omap.specs.Omap.{Omap}
+use Rattle.objstore.specs.Omap.{Omap}
 use Rattle.dirfrag_codec.specs.FragmentObject.{SpellsTreeObject}
 use Rattle.script_output.specs.declared.object_lines.ObjectLine.{ObjectLine}
 use Rattle.object_lines.specs.ObjectLines.{IsLineOf, SpellsNoFragment, SpellsNoTree}

@@ -4,8 +4,8 @@ ghost use Rattle.dirfrag_codec.specs.Values.{name_of};
 ghost use Rattle.object_lines.specs.Entries.{counted, is_dir_in};
 
 use dirfrag_codec::{FragHeader, decode_entry};
-use mds_types::Name;
-use omap::{Bytes, name_of};
+use mds_types::{Bytes, Name};
+use objstore::name_of;
 use std::alloc::{AllocError, Global};
 
 /// The header that a fragment of these pairs has at a commit version; none, where one of them is no entry's.

@@ -6,7 +6,8 @@ ghost use Rattle.object_lines.specs.Parts.{IsFragOf};
 
 use crate::entries::counted;
 use dirfrag_codec::{FragHeader, decode_header};
-use omap::{Bytes, Object};
+use mds_types::Bytes;
+use objstore::Object;
 use script_output::{ObjectLine, WordList};
 use std::alloc::{AllocError, Global};
 

@@ -8,8 +8,7 @@ ghost use Rattle.object_lines.specs.ObjectLines.{IsLineOf, MayTakeMemory};
 use crate::fragments::frag_line;
 use crate::trees::tree_leaves;
 use mds_types::Refusal;
-use objstore::MemStore;
-use omap::Object;
+use objstore::{MemStore, Object};
 use script_output::{ObjectLine, OutputLine, WordList};
 use std::alloc::{AllocError, Global};
 

@@ -5,7 +5,7 @@ ghost use Rattle.object_lines.specs.ObjectLines.{MayTakeMemory};
 ghost use Rattle.object_lines.specs.Parts.{IsTreeOf};
 
 use dirfrag_codec::decode_tree;
-use omap::Object;
+use objstore::Object;
 use script_output::FragList;
 use std::alloc::{AllocError, Global};
 

@@ -1,1 +1,4 @@
+pub mod KeyLemmas
+pub mod PageLaws
+pub mod WriteLaws
 pub mod WriteLemmas

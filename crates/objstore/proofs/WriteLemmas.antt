@@ -8,9 +8,9 @@ use Rattle.std.specs.FinMap as finmap
 use Rattle.std.specs.FinMap.{same_map, get-insert, len-entries}
 use Rattle.std.proofs.lemmas.Map.Lookups.{exact_bytes}
 use Rattle.sorted_map.proofs.MapLaws.{contents-entries, tie}
-use Rattle.omap.specs.declared.write_ops.WriteOp.{WriteOp}
-use Rattle.omap.specs.Omap.{Omap, key_cmp, empty_omap}
-use Rattle.omap.specs.Writes.{applied}
+use Rattle.objstore.specs.declared.write_ops.WriteOp.{WriteOp}
+use Rattle.objstore.specs.Omap.{Omap, key_cmp, empty_omap}
+use Rattle.objstore.specs.Writes.{applied}
 use Rattle.objstore.specs.Objects.{Objects, written}
 
 -- to write back what was there changes nothing

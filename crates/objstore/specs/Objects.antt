@@ -5,9 +5,9 @@ use Rattle.std.specs.FinMap as finmap
 use Rattle.mds_types.specs.Step.{is_after}
 use Rattle.mds_types.specs.declared.refusals.Refusal.{Refusal}
 use Rattle.mds_types.specs.declared.refusals.Refusal.TheVariants.{NoMemory, StoreFault, NoInodes, Trimmed, NotAuthority, Frozen, Pinned, NoSuchFrag, BadSplit, TooManyFrags, StaleJob, JobOutstanding, WrongExportState, InboxEmpty, InboxFull, NothingToEvict, Damaged, NotClean}
-use Rattle.omap.specs.declared.write_ops.WriteOp.{WriteOp}
-use Rattle.omap.specs.Omap.{Omap, PairPage, key_cmp, empty_omap, page_of}
-use Rattle.omap.specs.Writes.{applied}
+use Rattle.objstore.specs.declared.write_ops.WriteOp.{WriteOp}
+use Rattle.objstore.specs.Omap.{Omap, PairPage, key_cmp, empty_omap, page_of}
+use Rattle.objstore.specs.Writes.{applied}
 
 -- names and their objects; names are ordered by their bytes
 abbrev pub Objects : Type 0

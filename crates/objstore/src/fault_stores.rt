@@ -3,9 +3,10 @@ ghost use Rattle.std.specs.Prelude.{◌≡◌, ◌-◌, ◌+◌, ◌↔◌, IsTr
 ghost use Rattle.objstore.specs.Faulty.{IsPassedOn, all_faults};
 
 use crate::name_pages::NamePage;
+use crate::pages::Page;
 use crate::stores::Store;
-use mds_types::Refusal;
-use omap::{Bytes, Page, WriteOp};
+use crate::write_ops::WriteOp;
+use mds_types::{Bytes, Refusal};
 use std::alloc::Global;
 use std::marker::Model;
 

@@ -2,16 +2,17 @@
 ghost use Rattle.std.specs.Prelude.{◌≡◌, ◌≤◌, ℕ, List, None, map, IfOk, IfErr, IsOk, IsSome, OnOk, OnErr, option_copied, string_bytes};
 ghost use Rattle.std.specs.FinMap as finmap;
 ghost use Rattle.mds_types.specs.declared.refusals.Refusal.TheVariants.{NoMemory};
-ghost use Rattle.omap.specs.Omap.{Omap, empty_omap, key_cmp};
-ghost use Rattle.omap.specs.Writes.{applied};
+ghost use Rattle.objstore.specs.Omap.{Omap, empty_omap, key_cmp};
+ghost use Rattle.objstore.specs.Writes.{applied};
 ghost use Rattle.objstore.specs.Objects.{header_at, names_after, page_at, written};
 ghost use Rattle.sorted_map.specs.SortedMap.{contents};
 
 use crate::name_pages::{NamePage, first_names};
+use crate::objects::Object;
+use crate::pages::Page;
 use crate::stores::Store;
-use byte_strings::{Text, TextRef};
-use mds_types::Refusal;
-use omap::{Bytes, Object, Page, WriteOp};
+use crate::write_ops::WriteOp;
+use mds_types::{Bytes, Refusal, Text, TextRef};
 use sorted_map::{Iter, SortedMap};
 use std::alloc::{AllocError, Global};
 use std::marker::Model;
@@ -25,7 +26,7 @@ pub struct MemStore {
 impl Model for MemStore {
     ghost use Rattle.std.specs.Coded.{codes};
     ghost use Rattle.std.specs.FinMap as map;
-    ghost use Rattle.omap.specs.Omap.{key_cmp};
+    ghost use Rattle.objstore.specs.Omap.{key_cmp};
     ghost use Rattle.objstore.specs.Objects.{Objects};
     ghost use Rattle.sorted_map.specs.SortedMap.{contents};
 

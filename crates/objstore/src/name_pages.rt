@@ -1,10 +1,10 @@
 //! Pages of the names of objects.
 ghost use Rattle.std.specs.Prelude.{◌≡◌, IfOk, List, ℕ, map, string_bytes};
-ghost use Rattle.omap.specs.Omap.{Omap};
+ghost use Rattle.objstore.specs.Omap.{Omap};
 ghost use Rattle.objstore.specs.Objects.{first_names};
 
-use byte_strings::Text;
-use omap::Object;
+use crate::objects::Object;
+use mds_types::Text;
 use sorted_map::Iter;
 use std::alloc::{AllocError, Global};
 use std::marker::Model;

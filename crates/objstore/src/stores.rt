@@ -6,8 +6,9 @@ ghost use Rattle.mds_types.specs.declared.refusals.Refusal.{Refusal as Reason};
 ghost use Rattle.objstore.specs.Objects.{Objects, MayRefuse, faults_told, first_names, header_at, names_after, page_at, written};
 
 use crate::name_pages::NamePage;
-use mds_types::Refusal;
-use omap::{Bytes, Page, WriteOp};
+use crate::pages::Page;
+use crate::write_ops::WriteOp;
+use mds_types::{Bytes, Refusal};
 use std::alloc::Global;
 
 /// A map from names, which are texts, to objects.

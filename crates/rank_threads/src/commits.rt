@@ -2,7 +2,7 @@
 
 use crate::desks::{Desk, Handed};
 use crate::workers::Finished;
-use commit_jobs::Encoded;
+use cached_frag::Encoded;
 use crossbeam_channel::Receiver;
 use mds_types::Refusal;
 use objstore::Store;

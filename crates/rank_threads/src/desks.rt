@@ -7,8 +7,8 @@ ghost use Rattle.mds_types.specs.Tree.{Tree};
 ghost use Rattle.rank_threads.specs.Continued.{Continues};
 ghost use Rattle.rank_threads.specs.Turns.{first_in};
 
+use cached_frag::{Encoded, Job};
 use cluster_core::{Answer, Book, Event};
-use commit_jobs::{Encoded, Job};
 use mds_types::{Frag, Ino, Rank, Refusal};
 use objstore::Store;
 use std::alloc::Global;

@@ -7,7 +7,7 @@ use crate::desks::Handed;
 use crate::plans::Turn;
 use crate::ranks::{Answered, Plan, Working};
 use crate::workers::Finished;
-use commit_jobs::Job;
+use cached_frag::Job;
 use crossbeam_channel::{Receiver, Sender};
 use mds_types::Rank;
 use std::alloc::{AllocError, Global};

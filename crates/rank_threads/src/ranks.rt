@@ -5,8 +5,8 @@ ghost use Rattle.rank_threads.specs.Turns.{AreAnswered, FitsTurn, first_in, firs
 use crate::desks::{Desk, Handed};
 use crate::gates::Gate;
 use crate::plans::Turn;
+use cached_frag::Job;
 use cluster_core::Answer;
-use commit_jobs::Job;
 use crossbeam_channel::Sender;
 use mds_types::{Frag, Ino, Rank, Refusal};
 use objstore::Store;

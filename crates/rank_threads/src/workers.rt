@@ -2,7 +2,7 @@
 
 use crate::desks::{Desk, Handed};
 use crate::gates::Gate;
-use commit_jobs::{Encoded, Job};
+use cached_frag::{Encoded, Job};
 use crossbeam_channel::{Receiver, Sender};
 use mds_types::Refusal;
 use objstore::Store;

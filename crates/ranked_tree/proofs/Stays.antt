@@ -3,7 +3,7 @@ use Rattle.std.proofs.Common.{◌≡◌, ℕ, List, Option, Some, None, Result, 
 use Rattle.std.specs.FinMap as map
 use Rattle.mds_types.specs.declared.ids.Ino.{Ino}
 use Rattle.mds_types.specs.declared.refusals.Refusal.{Refusal}
-use Rattle.commit_jobs.specs.declared.jobs.Job.{Job as Begun}
+use Rattle.cached_frag.specs.declared.jobs.Job.{Job as Begun}
 use Rattle.dentry_cache.specs.Cache.{Leaf, Unsaved}
 use Rattle.inode_table.specs.Dirs.{IsLive}
 use Rattle.mdcache.specs.Commits.{Begins, BeginsWith, Drops, Ends}

@@ -10,7 +10,7 @@ use Rattle.mds_types.specs.Tree.{dentry_of, has_entries}
 use Rattle.mds_types.specs.Step.{names_after}
 use Rattle.mds_types.proofs.DirectoryLaws.{entries_there}
 use Rattle.mds_types.proofs.ListingLaws.{names_are_listed, no_entries_listed}
-use Rattle.omap.specs.Omap.{key_cmp}
+use Rattle.objstore.specs.Omap.{key_cmp}
 use Rattle.fragtree.specs.FragTree.{HasLeaf, IsPick}
 use Rattle.fragtree.proofs.TreeLaws.{some_pick, first as first_has, later as later_has}
 use Rattle.namehash.specs.Rjenkins.{hash_of}

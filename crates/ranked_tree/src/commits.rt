@@ -13,7 +13,7 @@ ghost use Rattle.ranked_tree.specs.Held.{IsOwned, UsesAt};
 
 use crate::holding::holder_of;
 use crate::ranked_tree::RankedTree;
-use commit_jobs::{Encoded, Job};
+use cached_frag::{Encoded, Job};
 use mdcache::MdCache;
 use mds_types::{Frag, Ino, Rank, Refusal};
 use objstore::Store;

@@ -7,7 +7,7 @@ ghost use Rattle.mds_types.specs.Frag.{Fragment};
 ghost use Rattle.mds_types.specs.Step.{names_after};
 ghost use Rattle.mds_types.specs.Tree.{is_directory};
 ghost use Rattle.fragtree.specs.FragTree.{HasLeaf};
-ghost use Rattle.omap.specs.Omap.{key_cmp};
+ghost use Rattle.objstore.specs.Omap.{key_cmp};
 ghost use Rattle.sorted_map.specs.Places.{puts};
 ghost use Rattle.cached_frag.specs.Rows.{Row, rows_after};
 ghost use Rattle.inode_table.specs.Dirs.{IsLive};

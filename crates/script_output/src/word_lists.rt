@@ -7,7 +7,7 @@ ghost use Rattle.std.specs.Prelude.{◌≡◌, ◌==◌, IfOk, Some, map, string
 ghost use Rattle.script_output.specs.Texts.{objects_text, word_text};
 
 use crate::escapes::Escaped;
-use byte_strings::Bytes;
+use mds_types::Bytes;
 use std::alloc::{AllocError, Global};
 use std::fmt;
 use std::marker::Model;

@@ -4,8 +4,7 @@ ghost use Rattle.script_words.specs.Words.{words_of};
 ghost use Rattle.script_words.specs.Reading.{Gives, Reads};
 ghost use Rattle.script_text.specs.StoreCommands.{begin_of, commit_of, drop_of, end_of, evict_of, is_store_verb, leaf_of, object_of, objects_of, purge_of, store_command_of, text_name_of, tree_of};
 
-use byte_strings::Text;
-use mds_types::{Frag, Ino, Rank};
+use mds_types::{Frag, Ino, Rank, Text};
 use script_words::{NOT_COMMAND, ReadError, decimal, frag, ino, none, one, rank, three};
 use std::alloc::Global;
 

@@ -3,9 +3,8 @@ ghost use Rattle.std.specs.Prelude.{◌≡◌, IfSome};
 ghost use Rattle.workload.specs.Reports.{AreInOrder};
 
 use crate::asking::ask;
-use byte_strings::Bytes;
 use cluster_core::Book;
-use mds_types::{Ino, Inode, Kind, Name, Op, PageSize, Reply, Request};
+use mds_types::{Bytes, Ino, Inode, Kind, Name, Op, PageSize, Reply, Request};
 use objstore::MemStore;
 use std::alloc::Global;
 

@@ -3,8 +3,8 @@ ghost use Rattle.std.specs.Prelude.{◌≡◌, ◌++◌, IfOk, IfSome, OnOk, len
 ghost use Rattle.workload.specs.Reports.{Reports, head_text, path_lines};
 
 use crate::listing::all_paths;
-use byte_strings::Bytes;
 use cluster_core::Book;
+use mds_types::Bytes;
 use objstore::MemStore;
 use std::alloc::{AllocError, Global};
 

@@ -1,7 +1,7 @@
 -- The counts so far, with those of the names to come, are those of all names.
 use Rattle.std.proofs.Common.{◌≡◌, ◌+◌, length}
 use Rattle.std.specs.FinMap as map
-use Rattle.omap.specs.Omap.{key_cmp}
+use Rattle.objstore.specs.Omap.{key_cmp}
 use Rattle.sorted_map.specs.SortedMap.{contents}
 use Rattle.dirfrag_codec.specs.FragmentObject.{files_in, dirs_in}
 use Rattle.cached_frag.proofs.CountedLaws.{dirs_among, files_among}

@@ -1,9 +1,9 @@
 -- What is left of the dirty names makes of the names what all of them would.
 use Rattle.std.proofs.Common.{◌≡◌, ◌≤◌}
 use Rattle.std.specs.FinMap as map
-use Rattle.omap.specs.Omap.{key_cmp}
+use Rattle.objstore.specs.Omap.{key_cmp}
 use Rattle.sorted_map.specs.SortedMap.{contents}
-use Rattle.commit_jobs.specs.Marks.{patched}
+use Rattle.cached_frag.specs.Marks.{patched}
 use Rattle.cached_frag.proofs.moving.all_shown.Given as goal
 
 abbrev pub invariant-loop-pair : goal.invariant-loop-pair

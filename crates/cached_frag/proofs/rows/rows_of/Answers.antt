@@ -1,6 +1,6 @@
 use Rattle.std.proofs.Common.{◌∙◌}
 use Rattle.std.specs.Prelude.{Some}
-use Rattle.omap.specs.Omap.{key_cmp}
+use Rattle.objstore.specs.Omap.{key_cmp}
 use Rattle.sorted_map.specs.SortedMap.{contents}
 use Rattle.cached_frag.specs.Rows.{merged}
 use Rattle.cached_frag.proofs.RowLaws.{all_rows_are, rows_are}

@@ -1,9 +1,9 @@
 -- What is to come of the names makes clean what all of them would; what is shown stays.
 use Rattle.std.proofs.Common.{◌≡◌, ◌≤◌, length}
 use Rattle.std.specs.FinMap as map
-use Rattle.omap.specs.Omap.{key_cmp}
+use Rattle.objstore.specs.Omap.{key_cmp}
 use Rattle.sorted_map.specs.SortedMap.{contents}
-use Rattle.commit_jobs.specs.Marks.{AreDirtyNames, patched}
+use Rattle.cached_frag.specs.Marks.{AreDirtyNames, patched}
 use Rattle.cached_frag.specs.Cached.{AreEntries}
 use Rattle.cached_frag.specs.Settling.{settled_in}
 use Rattle.cached_frag.proofs.settling.settle_all.Given as goal

@@ -2,7 +2,7 @@
 use Rattle.std.proofs.Common.{◌≡◌, length}
 use Rattle.std.specs.FinMap as map
 use Rattle.sorted_map.specs.SortedMap.{contents}
-use Rattle.omap.specs.Omap.{key_cmp}
+use Rattle.objstore.specs.Omap.{key_cmp}
 use Rattle.cold_store.specs.Rows.{IsReady, are_new, rows_of, with_rows}
 use Rattle.cold_store.proofs.reading.add_names.Given as goal
 

@@ -2,7 +2,7 @@
 use Rattle.std.proofs.Common.{◌≡◌, length, None}
 use Rattle.std.specs.FinMap as map
 use Rattle.sorted_map.specs.SortedMap.{contents}
-use Rattle.omap.specs.Omap.{key_cmp}
+use Rattle.objstore.specs.Omap.{key_cmp}
 use Rattle.objstore.specs.Objects.{names_after}
 use Rattle.cold_store.specs.Left.{with_keys}
 use Rattle.cold_store.proofs.remaining.all_names.Given as goal

@@ -2,7 +2,7 @@
 use Rattle.std.proofs.Common.{◌≡◌}
 use Rattle.std.specs.Prelude.{map as each, string_bytes}
 use Rattle.sorted_map.specs.SortedMap.{contents}
-use Rattle.omap.specs.Omap.{key_cmp}
+use Rattle.objstore.specs.Omap.{key_cmp}
 use Rattle.cold_store.specs.Left.{with_keys}
 use Rattle.cold_store.proofs.remaining.put_names.Given as goal
 

@@ -1,7 +1,7 @@
 -- What the leaves to come take off is what all of them take off.
 use Rattle.std.proofs.Common.{◌≡◌, drop}
 use Rattle.sorted_map.specs.SortedMap.{contents}
-use Rattle.omap.specs.Omap.{key_cmp}
+use Rattle.objstore.specs.Omap.{key_cmp}
 use Rattle.cold_store.specs.Left.{leaf_texts, without_keys}
 use Rattle.cold_store.proofs.remaining.take_off_leaves.Given as goal
 

@@ -1,6 +1,6 @@
 use Rattle.sorted_map.specs.SortedMap.{contents}
 use Rattle.mds_types.specs.Tree.{dentry_cmp}
-use Rattle.omap.specs.Omap.{key_cmp}
+use Rattle.objstore.specs.Omap.{key_cmp}
 use Rattle.std.proofs.Common.{ap}
 use Rattle.cold_store.proofs.WalkedLaws.{is_cold, walked_as}
 use Rattle.cold_store.proofs.walking.walk.Goals as goal

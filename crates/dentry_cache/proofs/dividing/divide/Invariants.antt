@@ -1,7 +1,7 @@
 -- Each child has those of its names which were given, and room for the others.
 use Rattle.std.proofs.Common.{◌≡◌, length}
 use Rattle.std.specs.FinMap as map
-use Rattle.omap.specs.Omap.{key_cmp}
+use Rattle.objstore.specs.Omap.{key_cmp}
 use Rattle.sorted_map.specs.SortedMap.{contents}
 use Rattle.cached_frag.specs.Cached.{AreEntries}
 use Rattle.dentry_cache.specs.Parting.{EachThen}

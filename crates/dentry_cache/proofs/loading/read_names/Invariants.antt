@@ -1,7 +1,7 @@
 -- What is to come of the pairs is as good as all of them, and adds what all of them add.
 use Rattle.std.proofs.Common.{◌≡◌, length, None}
 use Rattle.std.specs.FinMap as map
-use Rattle.omap.specs.Omap.{key_cmp}
+use Rattle.objstore.specs.Omap.{key_cmp}
 use Rattle.sorted_map.specs.SortedMap.{contents}
 use Rattle.dentry_cache.specs.Pairs.{added, are_good, pairs_left}
 use Rattle.dentry_cache.proofs.loading.read_names.Given as goal

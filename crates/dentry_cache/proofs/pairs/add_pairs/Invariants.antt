@@ -1,6 +1,6 @@
 -- The pairs to come are as good as all of them, and add what all of them add.
 use Rattle.std.proofs.Common.{◌≡◌, drop}
-use Rattle.omap.specs.Omap.{key_cmp}
+use Rattle.objstore.specs.Omap.{key_cmp}
 use Rattle.sorted_map.specs.SortedMap.{contents}
 use Rattle.dentry_cache.specs.Pairs.{added, are_good}
 use Rattle.dentry_cache.proofs.pairs.add_pairs.Given as goal

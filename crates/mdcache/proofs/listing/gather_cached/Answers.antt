@@ -1,7 +1,7 @@
 use Rattle.std.proofs.Common.{List, Option, subst}
 use Rattle.std.specs.Option.{option_copied}
 use Rattle.std.specs.FinMap as map
-use Rattle.omap.specs.Omap.{key_cmp}
+use Rattle.objstore.specs.Omap.{key_cmp}
 use Rattle.sorted_map.specs.Places.{puts}
 use Rattle.cached_frag.specs.Cached.{Cached, shown}
 use Rattle.cached_frag.specs.Rows.{Row, rows_after, rows_left}

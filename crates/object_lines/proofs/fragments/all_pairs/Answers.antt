@@ -1,5 +1,5 @@
 use Rattle.std.proofs.Common.{◌∙◌, ap, arith}
-use Rattle.omap.specs.Omap.{PairMap}
+use Rattle.objstore.specs.Omap.{PairMap}
 use Rattle.std.specs.FinMap as map
 use Rattle.object_lines.proofs.ObjectLaws.{all_of_page}
 use Rattle.object_lines.proofs.fragments.all_pairs.Goals as goal

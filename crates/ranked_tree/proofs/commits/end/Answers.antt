@@ -6,7 +6,7 @@ use Rattle.dentry_cache.specs.Came.{IsThat, NoneEnds}
 use Rattle.dentry_cache.proofs.FrameLaws.{came_cap, came_ranks}
 use Rattle.ranked_tree.proofs.HeldLaws.{is_that, owned_came, that_came}
 use Rattle.ranked_tree.proofs.Stays.{ended, none_stands}
-use Rattle.commit_jobs.specs.declared.jobs.Job.{Job}
+use Rattle.cached_frag.specs.declared.jobs.Job.{Job}
 use Rattle.mdcache.specs.Core.{state_of}
 use Rattle.ranked_tree.specs.Subtrees.{Rules}
 use Rattle.ranked_tree.proofs.commits.end.Goals as goal

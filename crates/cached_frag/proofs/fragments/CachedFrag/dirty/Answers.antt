@@ -1,5 +1,5 @@
 use Rattle.std.proofs.Common.{subst}
-use Rattle.commit_jobs.specs.Marks.{AreDirtyNames}
+use Rattle.cached_frag.specs.Marks.{AreDirtyNames}
 use Rattle.cached_frag.specs.Cached.{Cached}
 use Rattle.cached_frag.proofs.fragments.CachedFrag.dirty.Goals as goal
 

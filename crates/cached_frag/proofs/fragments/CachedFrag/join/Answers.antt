@@ -1,7 +1,7 @@
 use Rattle.std.proofs.Common.{◌≡◌, ◌+◌, ◌<◌, Option, sym, ap, ◌∙◌, arith}
 use Rattle.std.specs.FinMap as map
 use Rattle.mds_types.specs.declared.inodes.Inode.{Inode}
-use Rattle.omap.specs.Omap.{key_cmp}
+use Rattle.objstore.specs.Omap.{key_cmp}
 use Rattle.sorted_map.specs.SortedMap.{contents}
 use Rattle.cached_frag.specs.Cached.{shown}
 use Rattle.cached_frag.specs.Moving.{marked_as, shown_as}

@@ -1,7 +1,7 @@
 -- What is left to come in makes of the fragment what all names would.
 use Rattle.std.proofs.Common.{◌≡◌, ◌+◌, ◌≤◌, List, ℕ}
 use Rattle.std.specs.FinMap as map
-use Rattle.omap.specs.Omap.{key_cmp}
+use Rattle.objstore.specs.Omap.{key_cmp}
 use Rattle.sorted_map.specs.SortedMap.{contents}
 use Rattle.cached_frag.specs.Cached.{AreEntries, shown}
 use Rattle.cached_frag.specs.Moving.{marked_as, shown_as}

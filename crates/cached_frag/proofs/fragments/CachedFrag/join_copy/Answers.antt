@@ -1,4 +1,4 @@
-use Rattle.omap.specs.Omap.{key_cmp}
+use Rattle.objstore.specs.Omap.{key_cmp}
 use Rattle.sorted_map.specs.SortedMap.{contents}
 use Rattle.cached_frag.specs.Cached.{shown}
 use Rattle.cached_frag.proofs.CopiedLaws.{taken_in}

@@ -1,6 +1,6 @@
 -- The names that are shown change at the one name, and the counts with it.
 use Rattle.std.proofs.Common.{◌<◌, ◌∙◌, sym, ap, subst}
-use Rattle.omap.specs.Omap.{key_cmp}
+use Rattle.objstore.specs.Omap.{key_cmp}
 use Rattle.sorted_map.specs.SortedMap.{contents}
 use Rattle.cached_frag.specs.Cached.{Cached}
 use Rattle.cached_frag.specs.Counted.{counted}

@@ -1,5 +1,5 @@
 use Rattle.std.proofs.Common.{subst, sym}
-use Rattle.commit_jobs.specs.Marks.{AreDirtyNames}
+use Rattle.cached_frag.specs.Marks.{AreDirtyNames}
 use Rattle.cached_frag.proofs.fragments.CachedFrag.snapshot.Goals as goal
 
 pub from_map-names-requires : goal.from_map-names-requires

@@ -1,8 +1,8 @@
 use Rattle.std.proofs.Common.{◌≡◌, inr, Some, subst, sym, ap, ◌∙◌}
 use Rattle.std.specs.FinMap as map
 use Rattle.objstore.specs.Objects.{MayRefuse}
-use Rattle.commit_jobs.specs.Commit.{Carried}
-use Rattle.commit_jobs.specs.declared.jobs.Job.{Job}
+use Rattle.cached_frag.specs.Commit.{Carried}
+use Rattle.cached_frag.specs.declared.jobs.Job.{Job}
 use Rattle.cached_frag.specs.Cached.{Cached}
 use Rattle.dentry_cache.specs.CacheMap.{IsFreeFor}
 use Rattle.dentry_cache.specs.Came.{Came, IsThat, NoneEnds}

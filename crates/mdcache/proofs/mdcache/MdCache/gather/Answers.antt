@@ -1,6 +1,6 @@
 use Rattle.std.specs.FinMap as map
 use Rattle.std.specs.Option.{option_copied}
-use Rattle.omap.specs.Omap.{key_cmp}
+use Rattle.objstore.specs.Omap.{key_cmp}
 use Rattle.sorted_map.specs.Places.{puts}
 use Rattle.cached_frag.specs.Rows.{rows_after}
 use Rattle.dentry_cache.specs.CacheMap.{here}

@@ -1,7 +1,7 @@
 -- The rows that were taken in and those that are left are the whole.
 use Rattle.std.proofs.Common.{◌≡◌, T, List, length}
 use Rattle.std.specs.FinMap.{is_sorted}
-use Rattle.omap.specs.Omap.{key_cmp}
+use Rattle.objstore.specs.Omap.{key_cmp}
 use Rattle.sorted_map.specs.Places.{puts}
 use Rattle.cached_frag.specs.Rows.{Row, rows_left}
 use Rattle.mdcache.specs.Pages.{IsPageOf}

@@ -1,0 +1,6 @@
+use Rattle.std.proofs.Common.{subst}
+use Rattle.cached_frag.specs.Marks.{AreDirtyNames}
+use Rattle.cached_frag.proofs.dirty_names.DirtyNames.as_map.Goals as goal
+
+pub returns-clause-valid : goal.returns-clause-valid
+returns-clause-valid c = subst AreDirtyNames c.self.view_is c.self.invariant

@@ -1,4 +1,0 @@
-pub mod CommitLaws
-pub mod CountLaws
-pub mod MarkLaws
-pub mod WriteLaws

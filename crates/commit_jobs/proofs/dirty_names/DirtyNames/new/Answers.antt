@@ -1,7 +1,0 @@
-use Rattle.omap.specs.Omap.{key_cmp}
-use Rattle.sorted_map.specs.SortedMap.{contents}
-use Rattle.commit_jobs.proofs.MarkLaws.{none_dirty}
-use Rattle.commit_jobs.proofs.dirty_names.DirtyNames.new.Goals as goal
-
-pub invariant_of-result : goal.invariant_of-result
-invariant_of-result c = none_dirty (contents key_cmp c.new.result) c.new.ensures.empty

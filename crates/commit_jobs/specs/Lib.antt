@@ -1,4 +1,0 @@
-pub mod Commit
-pub mod Counting
-pub mod Marks
-pub mod Snap

@@ -1,3 +1,0 @@
-pub mod KeyLemmas
-pub mod PageLaws
-pub mod WriteLaws

@@ -1,6 +1,0 @@
-use Rattle.std.proofs.Common.{sym}
-use Rattle.omap.proofs.WriteLaws.{overlaid-empty}
-use Rattle.omap.proofs.objects.put_pairs.Goals as goal
-
-pub returns-then-clear-clause-ok : goal.returns-then-clear-clause-ok
-returns-then-clear-clause-ok c = rw c.if-clear.true (sym (overlaid-empty c.args.set))

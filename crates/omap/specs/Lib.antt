@@ -1,4 +1,0 @@
-pub mod EntryKeys
-pub mod Equal
-pub mod Omap
-pub mod Writes
