@@ -21,7 +21,7 @@ use std::alloc::{AllocError, Global};
 /// what goes. It is refused for want of memory, or as a read is.
 pub fn changes<F: Frags>(alloc: Global, frags: &mut F, op: &Op) -> Result<Vec<(Ino, Frag)>, Refusal>
     ensures changed { IfOk result (λ list. NamesOnce (changed_fragments (F.covers frags.old) (F.content frags.old) op.now) list.items) }
-    ensures kept { KeepsAll (F.content frags.old) (F.content frags.new) (F.covers frags.old) (F.covers frags.new) (F.Follows frags.old frags.new (result_err result)) }
+    ensures kept { KeepsAll (F.content frags.old) (F.content frags.new) (F.covers frags.old) (F.covers frags.new) (F.Follows frags.old frags.new op.now (result_err result)) }
     ensures err { IfErr result (Refuses (F.MayRefuse frags.old frags.new op.now)) }
     ensures numbers { IfErr result (λ reason. reason ≢ NoInodes) }
 {

@@ -27,7 +27,7 @@ pub fn check<F: Frags>(
     number: Ino,
 ) -> Result<Checked, Refusal>
     ensures checked { IfOk result (Checks (F.content frags.old) (F.covers frags.old) op.now number.0 (step (F.content frags.old) op.now number.0)) }
-    ensures kept { KeepsAll (F.content frags.old) (F.content frags.new) (F.covers frags.old) (F.covers frags.new) (F.Follows frags.old frags.new (result_err result)) }
+    ensures kept { KeepsAll (F.content frags.old) (F.content frags.new) (F.covers frags.old) (F.covers frags.new) (F.Follows frags.old frags.new op.now (result_err result)) }
     ensures err { IfErr result (Refuses (F.MayRefuse frags.old frags.new op.now)) }
     ensures numbers { IfErr result (λ reason. reason ≢ NoInodes) }
 {
@@ -57,7 +57,7 @@ fn check_within<F: Frags>(
     requires here { is_directory (F.content frags.old) (directory_of op.now) ≡ true }
     requires there { is_directory (F.content frags.old) (destination_of op.now) ≡ true }
     ensures checked { IfOk result (Checks (F.content frags.old) (F.covers frags.old) op.now number.0 (within (F.content frags.old) op.now number.0)) }
-    ensures kept { KeepsAll (F.content frags.old) (F.content frags.new) (F.covers frags.old) (F.covers frags.new) (F.Follows frags.old frags.new (result_err result)) }
+    ensures kept { KeepsAll (F.content frags.old) (F.content frags.new) (F.covers frags.old) (F.covers frags.new) (F.Follows frags.old frags.new op.now (result_err result)) }
     ensures err { IfErr result (Refuses (F.MayRefuse frags.old frags.new op.now)) }
     ensures numbers { IfErr result (λ reason. reason ≢ NoInodes) }
 {

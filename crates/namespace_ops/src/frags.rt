@@ -40,8 +40,9 @@ pub trait Frags {
     /// The change can be made with no further growth.
     ghost IsReady: { Self → Alteration → Type 0 };
 
-    /// What reads and refusals keep beside the tree and the leaves of each directory, by the refusal that they answer, if any.
-    ghost Follows: { Self → Self → Option Reason → Type 0 };
+    /// What reads for an operation and refusals keep beside the tree and the leaves of each directory, by the refusal that they
+    /// answer, if any.
+    ghost Follows: { Self → Self → Operation → Option Reason → Type 0 };
 
     /// A leaf shows the names that it showed.
     ghost Unchanged: { Self → Self → Leaf → Type 0 };
@@ -73,7 +74,7 @@ pub trait Frags {
         requires reads { Reads (content self.old) op.now dentry.now.dir.0 }
         requires leaf { IsLeafAt (covers self.old) dentry.now leaf }
         ensures found { IfOk result (λ found. found ≡ map.get (content self.old) dentry.now) }
-        ensures kept { KeepsAll (content self.old) (content self.new) (covers self.old) (covers self.new) (Follows self.old self.new (result_err result)) }
+        ensures kept { KeepsAll (content self.old) (content self.new) (covers self.old) (covers self.new) (Follows self.old self.new op.now (result_err result)) }
         ensures err { IfErr result (MayRefuse self.old self.new op.now) }
         ensures numbers { IfErr result (λ reason. reason ≢ NoInodes) };
 
@@ -89,7 +90,7 @@ pub trait Frags {
         requires reads { Reads (content self.old) op.now dir.0 }
         ensures listed { IfOk result (λ page. page.0 ≡ take max (names_after (content self.old) dir.0 (option_copied after.entry))) }
         ensures more { IfOk result (λ page. page.1 ≡ nat_lt max (length (names_after (content self.old) dir.0 (option_copied after.entry)))) }
-        ensures kept { KeepsAll (content self.old) (content self.new) (covers self.old) (covers self.new) (Follows self.old self.new (result_err result)) }
+        ensures kept { KeepsAll (content self.old) (content self.new) (covers self.old) (covers self.new) (Follows self.old self.new op.now (result_err result)) }
         ensures err { IfErr result (MayRefuse self.old self.new op.now) }
         ensures numbers { IfErr result (λ reason. reason ≢ NoInodes) };
 
@@ -97,7 +98,7 @@ pub trait Frags {
     fn is_empty(&mut self, op: &Op, dir: Ino) -> Result<bool, Refusal>
         requires reads { Reads (content self.old) op.now dir.0 }
         ensures found { IfOk result (λ empty. empty ≡ not (has_entries (content self.old) dir.0)) }
-        ensures kept { KeepsAll (content self.old) (content self.new) (covers self.old) (covers self.new) (Follows self.old self.new (result_err result)) }
+        ensures kept { KeepsAll (content self.old) (content self.new) (covers self.old) (covers self.new) (Follows self.old self.new op.now (result_err result)) }
         ensures err { IfErr result (MayRefuse self.old self.new op.now) }
         ensures numbers { IfErr result (λ reason. reason ≢ NoInodes) };
 
@@ -107,7 +108,7 @@ pub trait Frags {
         requires of_op { IsChangeOf op.now change.now }
         requires numbered { IsNumbered IsNumber change.now }
         ensures ready { OnOk result (IsReady self.new change.now) }
-        ensures kept { KeepsAll (content self.old) (content self.new) (covers self.old) (covers self.new) (Follows self.old self.new (result_err result)) }
+        ensures kept { KeepsAll (content self.old) (content self.new) (covers self.old) (covers self.new) (Follows self.old self.new op.now (result_err result)) }
         ensures err { IfErr result (MayRefuse self.old self.new op.now) };
 
     /// Makes a change that may be made and was made ready. Each directory that stands then has the leaves that it had; of
@@ -123,22 +124,25 @@ pub trait Frags {
     ghost refused_for: { (a b : Self) (op : Operation) (reason : Reason) → MayRefuse a b op reason → IsOfFragments reason };
 
     /// A call that did nothing keeps all.
-    ghost follows_self: { (a : Self) → Follows a a None };
+    ghost follows_self: { (a : Self) (op : Operation) → Follows a a op None };
 
     /// One call after another that wasn't refused keeps what both keep.
-    ghost follows_on: { (a b c : Self) (told : Option Reason) → Follows a b None → Follows b c told → Follows a c told };
+    ghost follows_on: { (a b c : Self) (op : Operation) (told : Option Reason) → Follows a b op None → Follows b c op told → Follows a c op told };
 
     /// Want of memory, and of a number for a new inode, that an operation finds itself is no refusal of the fragments.
-    ghost follows_memory: { (a b : Self) → Follows a b None → Follows a b (Some NoMemory) };
+    ghost follows_memory: { (a b : Self) (op : Operation) → Follows a b op None → Follows a b op (Some NoMemory) };
 
-    ghost follows_number: { (a b : Self) → Follows a b None → Follows a b (Some NoInodes) };
+    ghost follows_number: { (a b : Self) (op : Operation) → Follows a b op None → Follows a b op (Some NoInodes) };
 
     /// What reads and refusals keep are the names of every leaf among others.
-    ghost unchanged_by: { (a b : Self) (leaf : Leaf) (told : Option Reason) → Follows a b told → Unchanged a b leaf };
+    ghost unchanged_by: { (a b : Self) (op : Operation) (leaf : Leaf) (told : Option Reason) → Follows a b op told → Unchanged a b leaf };
+
+    /// What no call touched is unchanged.
+    ghost unchanged_self: { (a : Self) (leaf : Leaf) → Unchanged a a leaf };
 
     /// A leaf that one call left unchanged, and then another, is unchanged by both.
     ghost unchanged_on: { (a b c : Self) (leaf : Leaf) → Unchanged a b leaf → Unchanged b c leaf → Unchanged a c leaf };
 
     /// A reason of a call is one of all calls that it ends.
-    ghost refused_on: { (a b c : Self) (op : Operation) (reason : Reason) → Follows a b None → MayRefuse b c op reason → MayRefuse a c op reason };
+    ghost refused_on: { (a b c : Self) (op : Operation) (reason : Reason) → Follows a b op None → MayRefuse b c op reason → MayRefuse a c op reason };
 }

@@ -71,7 +71,7 @@ pub fn make<F: Frags>(
     requires makes { (leaf : Fragment) (inode : Node) → inode.kind ≡ new.kind → IsChangeOf op.now (Add dentry.now leaf inode) }
     ensures checked { let inode = new_inode number.0 new.kind new.mode new.mtime in
         IfOk result (Checks (F.content frags.old) (F.covers frags.old) op.now number.0 (made (F.content frags.old) dentry.now inode (map.get (F.content frags.old) dentry.now))) }
-    ensures kept { KeepsAll (F.content frags.old) (F.content frags.new) (F.covers frags.old) (F.covers frags.new) (F.Follows frags.old frags.new (result_err result)) }
+    ensures kept { KeepsAll (F.content frags.old) (F.content frags.new) (F.covers frags.old) (F.covers frags.new) (F.Follows frags.old frags.new op.now (result_err result)) }
     ensures err { IfErr result (Refuses (F.MayRefuse frags.old frags.new op.now)) }
     ensures numbers { IfErr result (λ reason. reason ≢ NoInodes) }
 {

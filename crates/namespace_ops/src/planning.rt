@@ -32,7 +32,7 @@ pub fn plan_op<F: Frags>(
         MatchResult result
         (IsPlanned (F.content frags.old) (F.covers frags.old) (F.IsReady frags.new) op.now outcome number)
         (IsRefused (F.content frags.old) (F.content frags.new) (F.MayRefuse frags.old frags.new op.now) outcome number) }
-    ensures kept { KeepsAll (F.content frags.old) (F.content frags.new) (F.covers frags.old) (F.covers frags.new) (F.Follows frags.old frags.new (result_err result)) }
+    ensures kept { KeepsAll (F.content frags.old) (F.content frags.new) (F.covers frags.old) (F.covers frags.new) (F.Follows frags.old frags.new op.now (result_err result)) }
 {
     match check(alloc, frags, op, number.unwrap_or(Ino(0)))? {
         Checked::Answers(reply) => Ok(Plan {
@@ -57,7 +57,7 @@ fn plan_change<F: Frags>(
         MatchResult result
         (IsPlanned (F.content frags.old) (F.covers frags.old) (F.IsReady frags.new) op.now outcome number)
         (IsRefused (F.content frags.old) (F.content frags.new) (F.MayRefuse frags.old frags.new op.now) outcome number) }
-    ensures kept { KeepsAll (F.content frags.old) (F.content frags.new) (F.covers frags.old) (F.covers frags.new) (F.Follows frags.old frags.new (result_err result)) }
+    ensures kept { KeepsAll (F.content frags.old) (F.content frags.new) (F.covers frags.old) (F.covers frags.new) (F.Follows frags.old frags.new op.now (result_err result)) }
 {
     if lacks_number(&change, number) {
         return Err(Refusal::NoInodes);
@@ -78,7 +78,7 @@ fn make_ready<F: Frags>(frags: &mut F, op: &Op, change: &Change) -> Result<Reply
     requires numbered { IsNumbered F.IsNumber change.now }
     ensures reply { IfOk result (λ reply. reply ≡ reply_of change.now) }
     ensures ready { IfOk result (λ reply. F.IsReady frags.new change.now) }
-    ensures kept { KeepsAll (F.content frags.old) (F.content frags.new) (F.covers frags.old) (F.covers frags.new) (F.Follows frags.old frags.new (result_err result)) }
+    ensures kept { KeepsAll (F.content frags.old) (F.content frags.new) (F.covers frags.old) (F.covers frags.new) (F.Follows frags.old frags.new op.now (result_err result)) }
     ensures err { IfErr result (Refuses (F.MayRefuse frags.old frags.new op.now)) }
 {
     let reply = change.reply()?;

@@ -21,7 +21,7 @@ pub fn lookup<F: Frags>(frags: &mut F, op: &Op, dentry: &Dentry) -> Result<Check
     requires reads { Reads (F.content frags.old) op.now dentry.now.dir.0 }
     requires idle { stays op.now ≡ true }
     ensures checked { (n : ℕ) → IfOk result (Checks (F.content frags.old) (F.covers frags.old) op.now n (found (F.content frags.old) (map.get (F.content frags.old) dentry.now))) }
-    ensures kept { KeepsAll (F.content frags.old) (F.content frags.new) (F.covers frags.old) (F.covers frags.new) (F.Follows frags.old frags.new (result_err result)) }
+    ensures kept { KeepsAll (F.content frags.old) (F.content frags.new) (F.covers frags.old) (F.covers frags.new) (F.Follows frags.old frags.new op.now (result_err result)) }
     ensures err { IfErr result (Refuses (F.MayRefuse frags.old frags.new op.now)) }
     ensures numbers { IfErr result (λ reason. reason ≢ NoInodes) }
 {
@@ -44,7 +44,7 @@ pub fn read_dir<F: Frags>(
     requires reads { Reads (F.content frags.old) op.now dir.0 }
     requires idle { stays op.now ≡ true }
     ensures checked { (n : ℕ) → IfOk result (Checks (F.content frags.old) (F.covers frags.old) op.now n (page (F.content frags.old) max (names_after (F.content frags.old) dir.0 (option_copied after.entry)))) }
-    ensures kept { KeepsAll (F.content frags.old) (F.content frags.new) (F.covers frags.old) (F.covers frags.new) (F.Follows frags.old frags.new (result_err result)) }
+    ensures kept { KeepsAll (F.content frags.old) (F.content frags.new) (F.covers frags.old) (F.covers frags.new) (F.Follows frags.old frags.new op.now (result_err result)) }
     ensures err { IfErr result (Refuses (F.MayRefuse frags.old frags.new op.now)) }
     ensures numbers { IfErr result (λ reason. reason ≢ NoInodes) }
 {
@@ -57,7 +57,7 @@ pub fn read_link<F: Frags>(frags: &mut F, op: &Op, dentry: &Dentry) -> Result<Ch
     requires reads { Reads (F.content frags.old) op.now dentry.now.dir.0 }
     requires idle { stays op.now ≡ true }
     ensures checked { (n : ℕ) → IfOk result (Checks (F.content frags.old) (F.covers frags.old) op.now n (link_read (F.content frags.old) (map.get (F.content frags.old) dentry.now))) }
-    ensures kept { KeepsAll (F.content frags.old) (F.content frags.new) (F.covers frags.old) (F.covers frags.new) (F.Follows frags.old frags.new (result_err result)) }
+    ensures kept { KeepsAll (F.content frags.old) (F.content frags.new) (F.covers frags.old) (F.covers frags.new) (F.Follows frags.old frags.new op.now (result_err result)) }
     ensures err { IfErr result (Refuses (F.MayRefuse frags.old frags.new op.now)) }
     ensures numbers { IfErr result (λ reason. reason ≢ NoInodes) }
 {

@@ -40,7 +40,7 @@ pub fn rename<F: Frags>(
     requires moves { (source target : Fragment) (gone : Option Number) → IsChangeOf op.now (Move from.now source to.now target gone) }
     ensures checked { (n : ℕ) → let tree = F.content frags.old in IfOk result (Checks tree (F.covers frags.old) op.now n
         (renamed tree from.now to.now (map.get tree from.now) (map.get tree to.now))) }
-    ensures kept { KeepsAll (F.content frags.old) (F.content frags.new) (F.covers frags.old) (F.covers frags.new) (F.Follows frags.old frags.new (result_err result)) }
+    ensures kept { KeepsAll (F.content frags.old) (F.content frags.new) (F.covers frags.old) (F.covers frags.new) (F.Follows frags.old frags.new op.now (result_err result)) }
     ensures err { IfErr result (Refuses (F.MayRefuse frags.old frags.new op.now)) }
     ensures numbers { IfErr result (λ reason. reason ≢ NoInodes) }
 {
@@ -76,7 +76,7 @@ fn move_onto<F: Frags>(
     requires moves { (target : Fragment) (gone : Option Number) → IsChangeOf op.now (Move from.now source to.now target gone) }
     ensures checked { (n : ℕ) → let tree = F.content frags.old in IfOk result (Checks tree (F.covers frags.old) op.now n
         (unless tree (errno_of_replacing tree inode.now (map.get tree to.now)) (answers (with_moved tree from.now to.now inode.now) Done))) }
-    ensures kept { KeepsAll (F.content frags.old) (F.content frags.new) (F.covers frags.old) (F.covers frags.new) (F.Follows frags.old frags.new (result_err result)) }
+    ensures kept { KeepsAll (F.content frags.old) (F.content frags.new) (F.covers frags.old) (F.covers frags.new) (F.Follows frags.old frags.new op.now (result_err result)) }
     ensures err { IfErr result (Refuses (F.MayRefuse frags.old frags.new op.now)) }
     ensures numbers { IfErr result (λ reason. reason ≢ NoInodes) }
 {
@@ -128,7 +128,7 @@ fn replace_errno<F: Frags>(
 ) -> Result<Option<u16>, Refusal>
     requires inside { (gone : Node) → option_copied replaced ≡ Some gone → gone.kind ≡ Dir → Reads (F.content frags.old) op.now gone.ino.0 }
     ensures found { IfOk result (λ errno. errno ≡ errno_of_replacing (F.content frags.old) inode.now (option_copied replaced.entry)) }
-    ensures kept { KeepsAll (F.content frags.old) (F.content frags.new) (F.covers frags.old) (F.covers frags.new) (F.Follows frags.old frags.new (result_err result)) }
+    ensures kept { KeepsAll (F.content frags.old) (F.content frags.new) (F.covers frags.old) (F.covers frags.new) (F.Follows frags.old frags.new op.now (result_err result)) }
     ensures err { IfErr result (F.MayRefuse frags.old frags.new op.now) }
     ensures numbers { IfErr result (λ reason. reason ≢ NoInodes) }
 {

@@ -34,7 +34,7 @@ pub fn serve_op<F: Frags>(
     ensures leaves { KeepLeaves (F.content frags.new) (F.covers frags.old) (F.covers frags.new) }
     ensures frame { ChangesOnly (F.Unchanged frags.old frags.new) (changed_fragments (F.covers frags.old) (F.content frags.old) op.now) }
     ensures others { IsWellFormed (F.content frags.old) → OthersShowTheSame (F.content frags.old) (F.content frags.new) (F.covers frags.old) (F.covers frags.new) (changed_fragments (F.covers frags.old) (F.content frags.old) op.now) }
-    ensures kept { OnErr result (KeepsAll (F.content frags.old) (F.content frags.new) (F.covers frags.old) (F.covers frags.new) (F.Follows frags.old frags.new (result_err result))) }
+    ensures kept { OnErr result (KeepsAll (F.content frags.old) (F.content frags.new) (F.covers frags.old) (F.covers frags.new) (F.Follows frags.old frags.new op.now (result_err result))) }
 {
     let plan = plan_op(alloc, frags, op, number)?;
     carry_out(frags, plan.change);

@@ -139,23 +139,25 @@ impl Frags for PlainFrags {
 
     ghost IsReady = { λ f change. IsReadyFor f change };
 
-    ghost Follows = { λ a b told. KeepsShown a b };
+    ghost Follows = { λ a b op told. KeepsShown a b };
 
     ghost MayRefuse = { λ a b op reason. reason ≡ NoMemory };
 
     ghost Unchanged = { λ a b leaf. LeafStays a b leaf };
 
-    ghost unchanged_by = { λ a b leaf told same stood. kept_shows _ _ _ _ leaf same.0 same.1 stood };
+    ghost unchanged_by = { λ a b op leaf told same stood. kept_shows _ _ _ _ leaf same.0 same.1 stood };
+
+    ghost unchanged_self = { λ a leaf stood. kept_shows _ _ _ _ leaf refl refl stood };
 
     ghost unchanged_on = { λ a b c leaf p q stood. shows_on _ _ _ _ _ leaf (p stood) (q (p stood).stands) };
 
-    ghost follows_self = { λ a. (refl, refl) };
+    ghost follows_self = { λ a op. (refl, refl) };
 
-    ghost follows_on = { λ a b c told p q. (q.0 ∙ p.0, q.1 ∙ p.1) };
+    ghost follows_on = { λ a b c op told p q. (q.0 ∙ p.0, q.1 ∙ p.1) };
 
-    ghost follows_memory = { λ a b p. p };
+    ghost follows_memory = { λ a b op p. p };
 
-    ghost follows_number = { λ a b p. p };
+    ghost follows_number = { λ a b op p. p };
 
     ghost refused_on = { λ a b c op reason p because. because };
 

@@ -1,5 +1,5 @@
 -- The leaves that a change names, and the ranks that hold them.
-use Rattle.std.specs.Prelude.{◌≡◌, ◌||◌, ◌==◌, ℕ, true, false, is_some, Some}
+use Rattle.std.specs.Prelude.{◌≡◌, ◌||◌, ℕ, true, false, is_some, Some}
 use Rattle.std.proofs.Common.{inl, inr, sym, subst, ◌∙◌}
 use Rattle.std.specs.FinMap as map
 use Rattle.mds_types.specs.declared.dentries.Dentry.{Dentry}
@@ -30,11 +30,11 @@ use Rattle.ranked_tree.specs.Subtrees.{Rules}
 use Rattle.ranked_tree.proofs.HeldLaws.{is_that}
 
 -- a directory that comes in was not known
+pub is_unknown : (homes : Homes) (d : ℕ) (home : Home) → MayCome homes d home → is_known homes d ≡ false
+is_unknown homes d home may = λ i. nat.is_apart d 1 may.other i || is_some (may.fresh i)
+
 pub was_unknown : (homes : Homes) (d : ℕ) (home : Home) → MayCome homes d home → is_known homes d ≡ true → ⊥
-was_unknown homes d home may known =
-    let none : (d == 1) || is_some (map.get homes d) ≡ false = λ i. nat.is_apart d 1 may.other i || is_some (may.fresh i) in
-    let clash : true ≡ false = sym known ∙ none in
-    cc
+was_unknown homes d home may known = let clash : true ≡ false = sym known ∙ is_unknown homes d home may in cc
 
 module _ (s : TreeState) (sound : IsSound s) where
   -- the leaf that the hash of a name picks of a directory is live

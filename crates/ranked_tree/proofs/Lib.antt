@@ -10,6 +10,7 @@ pub mod InsideLaws
 pub mod Kept
 pub mod MoveLaws
 pub mod NewLaws
+pub mod ReadsForLaws
 pub mod RootLaws
 pub mod Stays
 pub mod SubtreeLaws

@@ -1,18 +1,19 @@
 -- What the ranks' caches have: a rank caches only fragments that it is the authority of (Weil et al., OSDI 2006).
-use Rattle.std.specs.Prelude.{◌≡◌, ◌⊎◌, ◌<◌, ◌^◌, ℕ, true, length, map as each, Some}
+use Rattle.std.specs.Prelude.{◌≡◌, ◌⊎◌, ◌<◌, ◌^◌, ℕ, true, false, length, map as each, Some}
 use Rattle.std.specs.List.{Contains}
 use Rattle.std.specs.FinMap as map
 use Rattle.mds_types.specs.declared.ids.Ino.{Ino}
 use Rattle.mds_types.specs.declared.ids.Rank.{Rank}
-use Rattle.mds_types.specs.Frag.{Fragment, child_of}
+use Rattle.mds_types.specs.Frag.{Fragment, child_of, root_fragment}
 use Rattle.fragtree.specs.FragTree.{leaves_inside}
-use Rattle.inode_table.specs.Dirs.{Covers, IsLive, leaves_of}
+use Rattle.inode_table.specs.Dirs.{Covers, IsLive, is_known, leaves_of}
 use Rattle.namespace_ops.specs.Changes.{in_directory}
 use Rattle.namespace_ops.specs.declared.plans.Change.{Change}
 use Rattle.namespace_ops.specs.declared.plans.Change.TheVariants.{Add, Set, Remove, Move}
 use Rattle.dentry_cache.specs.CacheMap.{At, CacheMap}
 use Rattle.dentry_cache.specs.CacheSplits.{IsKeptFor}
 use Rattle.dentry_cache.specs.Came.{Came, NoneEnds}
+use Rattle.dentry_cache.specs.Reads.{Reads}
 use Rattle.subtree_map.specs.Authority.{Leaf, Roots}
 use Rattle.subtree_map.specs.Changes.{is_inside}
 use Rattle.mdcache.specs.declared.holders.Holders.{Holders}
@@ -48,6 +49,33 @@ second_named (Move from source to target went) = (to.dir, target)
 pub record AreHolders (tree : TreeState) (roots : Roots) (at : Holders) (change : Change) : Type 0 where
   pub first : Rules tree roots (first_named change) at.first
   pub second : Rules tree roots (second_named change) at.second
+
+-- ---- what reads make of the caches
+
+-- a leaf of a directory that is asked for, at the rank that holds it; or the first of a directory that comes
+abbrev pub AsksFor : TreeState → Roots → (Asked : ℕ → Type 0) → ℕ → Leaf → Type 0
+AsksFor tree roots Asked rank leaf = (Asked leaf.0.0 × Rules tree roots leaf (record { 0 = rank })) ⊎ ((is_known tree.homes leaf.0.0 ≡ false) × (leaf.1 ≡ root_fragment))
+
+-- any leaf, of which a kept place was given up
+abbrev pub AnyPlace : ℕ → Leaf → Type 0
+AnyPlace rank leaf = Unit {0}
+
+-- these leaves were read at most, and kept places given up
+abbrev pub ReadsFor : Roots → (Asked : ℕ → Type 0) → (old new : Core) → Type 0
+ReadsFor roots Asked old new = Reads (AsksFor (state_of old) roots Asked) AnyPlace old.objects old.caches new.caches
+
+-- the directories of the dentries that a change names
+abbrev pub NamesDir : Change → ℕ → Type 0
+NamesDir (Add dentry leaf inode) d = d ≡ dentry.dir.0
+NamesDir (Set dentry leaf inode) d = d ≡ dentry.dir.0
+NamesDir (Remove dentry leaf went) d = d ≡ dentry.dir.0
+NamesDir (Move from source to target went) d = (d ≡ from.dir.0) ⊎ (d ≡ to.dir.0)
+
+-- so of one directory
+abbrev pub ReadsDir : Roots → Ino → (old new : Core) → Type 0
+ReadsDir roots dir old new = ReadsFor roots (λ (d : ℕ). d ≡ dir.0) old new
+
+-- ---- whose places lack
 
 -- so many places lack at the rank that holds a leaf
 abbrev pub LacksPlacesFor : ℕ → Core → Roots → Leaf → Type 0

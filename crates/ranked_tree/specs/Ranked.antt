@@ -2,6 +2,8 @@
 use Rattle.std.specs.Prelude.{◌≡◌, Option}
 use Rattle.std.specs.FinMap as map
 use Rattle.mds_types.specs.declared.refusals.Refusal.{Refusal}
+use Rattle.mds_types.specs.declared.operations.Op.{Op}
+use Rattle.namespace_ops.specs.Changes.{Concerns}
 use Rattle.namespace_ops.specs.declared.plans.Change.{Change}
 use Rattle.subtree_map.specs.Authority.{Roots}
 use Rattle.subtree_map.specs.Changes.{Subtrees}
@@ -9,7 +11,8 @@ use Rattle.mdcache.specs.declared.holders.Holders.{Holders}
 use Rattle.mdcache.specs.Core.{Core, state_of}
 use Rattle.mdcache.specs.Frags.{KeepsState, IsReady as IsReadyIn}
 use Rattle.mdcache.specs.New.{root_leaf}
-use Rattle.ranked_tree.specs.Held.{AreHolders}
+use Rattle.mdcache.specs.Shown.{shown_tree}
+use Rattle.ranked_tree.specs.Held.{AreHolders, ReadsFor}
 use Rattle.ranked_tree.specs.Subtrees.{HasRoomFor}
 
 -- the tree over its caches and store, and its subtree roots
@@ -17,11 +20,13 @@ pub record Ranked : Type 0 where
   pub tree : Core
   pub subtrees : Subtrees
 
--- reads and refusals keep the state, the number of ranks and places and the roots; the store's count of faults rises by one
--- where a fault is told, and not otherwise
-pub record KeepsRanked (old new : Ranked) (told : Option Refusal) : Type 0 where
+-- reads for an operation and refusals keep the state, the number of ranks and places and the roots; the store's count of faults rises
+-- by one where a fault is told, and not otherwise; and of the caches leaves of directories that the operation concerns are used at
+-- most, at the ranks that hold them, and the first leaf of a directory that comes
+pub record KeepsRanked (old new : Ranked) (op : Op) (told : Option Refusal) : Type 0 where
   pub tree : KeepsState old.tree new.tree told
   pub roots : new.subtrees.roots ≡ old.subtrees.roots
+  pub reads : ReadsFor old.subtrees.roots (Concerns (shown_tree (state_of old.tree)) op) old.tree new.tree
 
 -- the tree is ready for a change in the caches of the ranks that hold its leaves
 pub record IsReadyHeld (core : Core) (roots : Roots) (change : Change) : Type 0 where

@@ -11,7 +11,7 @@ ghost use Rattle.mdcache.specs.Frags.{KeepsState};
 ghost use Rattle.mdcache.specs.Core.{LacksPlaces, state_of};
 ghost use Rattle.mdcache.specs.Reads.{MayNotFind, has_none};
 ghost use Rattle.mdcache.specs.Shown.{names_of, shown_tree};
-ghost use Rattle.ranked_tree.specs.Held.{IsOwned, LacksPlacesFor};
+ghost use Rattle.ranked_tree.specs.Held.{IsOwned, LacksPlacesFor, ReadsDir};
 
 use crate::holding::holder_of;
 use fragtree::FragTree;
@@ -35,6 +35,7 @@ pub(crate) fn is_dir_empty<S: Store + Drop>(
     requires owned { IsOwned tree.old roots.now.roots }
     ensures found { IfOk result (λ empty. empty ≡ not (has_entries (shown_tree (state_of tree.old)) dir.0)) }
     ensures kept { KeepsState tree.old tree.new (result_err result) }
+    ensures reads { ReadsDir roots.now.roots dir tree.old tree.new }
     ensures owned { IsOwned tree.new roots.now.roots }
     ensures refused { IfErr result (MayNotFind (LacksPlaces 1 tree.old) tree.old.faults tree.new.faults) }
 {
@@ -56,6 +57,7 @@ fn are_empty<S: Store + Drop>(
     requires owned { IsOwned tree.old roots.now.roots }
     ensures found { IfOk result (λ empty. empty ≡ list_all (λ f. has_none (names_of (unclean tree.old.caches) tree.old.objects (dir, f))) leaves.now) }
     ensures kept { KeepsState tree.old tree.new (result_err result) }
+    ensures reads { ReadsDir roots.now.roots dir tree.old tree.new }
     ensures owned { IsOwned tree.new roots.now.roots }
     ensures refused { IfErr result (MayNotFind (LacksPlaces 1 tree.old) tree.old.faults tree.new.faults) }
 {
@@ -81,6 +83,7 @@ fn is_leaf_empty<S: Store + Drop>(
     requires owned { IsOwned tree.old roots.now.roots }
     ensures found { IfOk result (λ empty. empty ≡ has_none (names_of (unclean tree.old.caches) tree.old.objects (dir, frag))) }
     ensures kept { KeepsState tree.old tree.new (result_err result) }
+    ensures reads { ReadsDir roots.now.roots dir tree.old tree.new }
     ensures owned { IsOwned tree.new roots.now.roots }
     ensures refused { IfErr result (MayNotFind (LacksPlacesFor 1 tree.old roots.now.roots (dir, frag)) tree.old.faults tree.new.faults) }
 {

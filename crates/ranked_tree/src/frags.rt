@@ -14,7 +14,7 @@ ghost use Rattle.mdcache.specs.Core.{LacksPlaces, state_of};
 ghost use Rattle.mdcache.specs.Reads.{MayNotFind};
 ghost use Rattle.mdcache.specs.Ready.{MayNotBeReady};
 ghost use Rattle.mdcache.specs.Shown.{shown_tree};
-ghost use Rattle.ranked_tree.specs.Held.{IsOwned, LacksPlacesFor};
+ghost use Rattle.ranked_tree.specs.Held.{IsOwned, LacksPlacesFor, NamesDir, ReadsDir, ReadsFor};
 ghost use Rattle.ranked_tree.specs.Ranked.{IsReadyHeld};
 
 use crate::changing::reserve_roots;
@@ -31,10 +31,18 @@ use subtree_map::Subtrees;
 
 impl<S: Store + Drop> Frags for RankedTree<S> {
     ghost use Rattle.std.specs.Prelude.{refl};
-    ghost use Rattle.std.proofs.Common.{◌∙◌};
     ghost use Rattle.dirfrag_codec.specs.EntryRecord.{IsRankNumber};
     ghost use Rattle.mdcache.specs.Frags.{MayRefuse as MayRefuseIn};
+    ghost use Rattle.std.proofs.Common.{◌∙◌, subst};
+    ghost use Rattle.dentry_cache.specs.Reads.{Reads};
+    ghost use Rattle.dentry_cache.specs.Reads.Reads.{stays};
+    ghost use Rattle.dentry_cache.proofs.ReadsLaws.{reads_then};
+    ghost use Rattle.namespace_ops.specs.Changes.{Concerns};
+    ghost use Rattle.subtree_map.specs.Authority.{Roots};
+    ghost use Rattle.mdcache.specs.State.{State as TreeState};
     ghost use Rattle.mdcache.proofs.FragsLaws.{keeps_itself, keeps_on, keeps_refused, refused_later, refused_so, untouched_by, untouched_on};
+    ghost use Rattle.ranked_tree.specs.Held.{AnyPlace, AsksFor, ReadsFor};
+    ghost use Rattle.std.specs.Prelude.{None};
     ghost use Rattle.mds_types.specs.declared.refusals.Refusal.TheVariants.{NoInodes, NoMemory};
     ghost use Rattle.mdcache.specs.Made.{IsUntouched};
     ghost use Rattle.mdcache.specs.Shown.{shown_tree};
@@ -48,21 +56,29 @@ impl<S: Store + Drop> Frags for RankedTree<S> {
 
     ghost IsReady = { λ t change. IsRankedReady t change };
 
-    ghost Follows = { λ a b told. KeepsRanked a b told };
+    ghost Follows = { λ a b op told. KeepsRanked a b op told };
 
     ghost Unchanged = { λ a b leaf. IsUntouched (state_of a.tree) (state_of b.tree) leaf };
 
     ghost MayRefuse = { λ a b op reason. MayRefuseIn a.tree b.tree op reason };
 
-    ghost follows_self = { λ a. record { tree = keeps_itself a.tree; roots = refl } };
+    ghost follows_self = { λ a op. record { tree = keeps_itself a.tree; roots = refl; reads = stays } };
 
-    ghost follows_on = { λ a b c told p q. record { tree = keeps_on a.tree b.tree c.tree told p.tree q.tree; roots = q.roots ∙ p.roots } };
+    ghost follows_on = { λ a b c op told p q. record {
+        tree = keeps_on a.tree b.tree c.tree told p.tree q.tree;
+        roots = q.roots ∙ p.roots;
+        reads = reads_then (AsksFor (state_of a.tree) a.subtrees.roots (Concerns (shown_tree (state_of a.tree)) op)) AnyPlace a.tree.objects a.tree.caches b.tree.caches c.tree.caches p.reads
+            (subst (λ (s : TreeState). Reads (AsksFor s a.subtrees.roots (Concerns (shown_tree s) op)) AnyPlace s.objects b.tree.caches c.tree.caches) p.tree.state
+            (subst (λ (r : Roots). ReadsFor r (Concerns (shown_tree (state_of b.tree)) op) b.tree c.tree) p.roots q.reads));
+    } };
 
-    ghost follows_memory = { λ a b p. record { tree = keeps_refused a.tree b.tree NoMemory refl p.tree; roots = p.roots } };
+    ghost follows_memory = { λ a b op p. record { tree = keeps_refused a.tree b.tree NoMemory refl p.tree; roots = p.roots; reads = p.reads } };
 
-    ghost follows_number = { λ a b p. record { tree = keeps_refused a.tree b.tree NoInodes refl p.tree; roots = p.roots } };
+    ghost follows_number = { λ a b op p. record { tree = keeps_refused a.tree b.tree NoInodes refl p.tree; roots = p.roots; reads = p.reads } };
 
-    ghost unchanged_by = { λ a b leaf told kept. untouched_by a.tree b.tree leaf told kept.tree };
+    ghost unchanged_by = { λ a b op leaf told kept. untouched_by a.tree b.tree leaf told kept.tree };
+
+    ghost unchanged_self = { λ a leaf. untouched_by a.tree a.tree leaf None (keeps_itself a.tree) };
 
     ghost unchanged_on = { λ a b c leaf p q. untouched_on a.tree b.tree c.tree leaf p q };
 
@@ -130,6 +146,7 @@ fn look<S: Store + Drop>(
     requires owned { IsOwned tree.old roots.now.roots }
     ensures found { IfOk result (λ found. found ≡ map.get (shown_tree (state_of tree.old)) dentry.now) }
     ensures kept { KeepsState tree.old tree.new (result_err result) }
+    ensures reads { ReadsDir roots.now.roots dentry.now.dir tree.old tree.new }
     ensures owned { IsOwned tree.new roots.now.roots }
     ensures refused { IfErr result (MayNotFind (LacksPlacesFor 1 tree.old roots.now.roots (dentry.now.dir, leaf)) tree.old.faults tree.new.faults) }
 {
@@ -149,6 +166,7 @@ fn prepare<S: Store + Drop>(
     requires owned { IsOwned tree.old roots.now.roots }
     ensures ready { OnOk result (IsReadyHeld tree.new roots.now.roots change.now) }
     ensures kept { KeepsState tree.old tree.new (result_err result) }
+    ensures reads { ReadsFor roots.now.roots (NamesDir change.now) tree.old tree.new }
     ensures owned { IsOwned tree.new roots.now.roots }
     ensures refused { IfErr result (MayNotBeReady (LacksToMake change.now (state_of tree.old)) (LacksPlaces 4 tree.old) tree.old.faults tree.new.faults) }
 {

@@ -17,7 +17,7 @@ ghost use Rattle.mdcache.specs.Pages.{IsPageOf, gathered};
 ghost use Rattle.mdcache.specs.Core.{LacksPlaces, state_of};
 ghost use Rattle.mdcache.specs.Reads.{MayNotFind};
 ghost use Rattle.mdcache.specs.Shown.{names_of, shown_tree};
-ghost use Rattle.ranked_tree.specs.Held.{IsOwned, LacksPlacesFor};
+ghost use Rattle.ranked_tree.specs.Held.{IsOwned, LacksPlacesFor, ReadsDir};
 
 use crate::holding::holder_of;
 use fragtree::FragTree;
@@ -45,6 +45,7 @@ pub(crate) fn list_dir<S: Store + Drop>(
     ensures listed { IfOk result (λ page. page.0 ≡ take max (names_after (shown_tree (state_of tree.old)) dir.0 (option_copied after.entry))) }
     ensures more { IfOk result (λ page. page.1 ≡ nat_lt max (length (names_after (shown_tree (state_of tree.old)) dir.0 (option_copied after.entry)))) }
     ensures kept { KeepsState tree.old tree.new (result_err result) }
+    ensures reads { ReadsDir roots.now.roots dir tree.old tree.new }
     ensures owned { IsOwned tree.new roots.now.roots }
     ensures refused { IfErr result (MayNotFind (LacksPlaces 1 tree.old) tree.old.faults tree.new.faults) }
 {
@@ -69,6 +70,7 @@ fn list_leaves<S: Store + Drop>(
     ensures listed { IfOk result (λ page. page.0 ≡ take max (gathered (λ (f : Fragment). names_of (unclean tree.old.caches) tree.old.objects (dir, f)) (option_copied after.entry) [] leaves.now)) }
     ensures more { IfOk result (λ page. page.1 ≡ nat_lt max (length (gathered (λ (f : Fragment). names_of (unclean tree.old.caches) tree.old.objects (dir, f)) (option_copied after.entry) [] leaves.now))) }
     ensures kept { KeepsState tree.old tree.new (result_err result) }
+    ensures reads { ReadsDir roots.now.roots dir tree.old tree.new }
     ensures owned { IsOwned tree.new roots.now.roots }
     ensures refused { IfErr result (MayNotFind (LacksPlaces 1 tree.old) tree.old.faults tree.new.faults) }
 {
@@ -94,6 +96,7 @@ fn gather_leaves<S: Store + Drop>(
     ensures page { (whole : List Row) → IsPageOf whole page.old → OnOk result (IsPageOf (gathered (λ (f : Fragment). names_of (unclean tree.old.caches) tree.old.objects (dir, f)) (option_copied after.entry) whole leaves.now) page.new) }
     ensures most { page.new.most ≡ page.old.most }
     ensures kept { KeepsState tree.old tree.new (result_err result) }
+    ensures reads { ReadsDir roots.now.roots dir tree.old tree.new }
     ensures owned { IsOwned tree.new roots.now.roots }
     ensures refused { IfErr result (MayNotFind (LacksPlaces 1 tree.old) tree.old.faults tree.new.faults) }
 {
@@ -121,6 +124,7 @@ fn gather_leaf<S: Store + Drop>(
     ensures page { (whole : List Row) → IsPageOf whole page.old → OnOk result (IsPageOf (puts key_cmp whole (rows_after (option_copied after.entry) (map.entries (names_of (unclean tree.old.caches) tree.old.objects (dir, frag))))) page.new) }
     ensures most { page.new.most ≡ page.old.most }
     ensures kept { KeepsState tree.old tree.new (result_err result) }
+    ensures reads { ReadsDir roots.now.roots dir tree.old tree.new }
     ensures owned { IsOwned tree.new roots.now.roots }
     ensures refused { IfErr result (MayNotFind (LacksPlacesFor 1 tree.old roots.now.roots (dir, frag)) tree.old.faults tree.new.faults) }
 {

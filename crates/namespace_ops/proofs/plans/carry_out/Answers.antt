@@ -1,6 +1,5 @@
 -- Where no change was planned, no leaf changes.
-use Rattle.std.proofs.Common.{None}
 use Rattle.namespace_ops.proofs.plans.carry_out.Goals as goal
 
 pub returns-in_default-clause-frame : goal.returns-in_default-clause-frame
-returns-in_default-clause-frame g c leaf others = g.met.F.Frags.unchanged_by _ _ leaf None (g.met.F.Frags.follows_self _)
+returns-in_default-clause-frame g c leaf others = g.met.F.Frags.unchanged_self _ leaf

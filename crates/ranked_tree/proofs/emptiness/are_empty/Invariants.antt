@@ -5,13 +5,14 @@ use Rattle.mdcache.specs.Frags.{KeepsState}
 use Rattle.mdcache.specs.Reads.{has_none}
 use Rattle.mdcache.specs.Shown.{names_of}
 use Rattle.ranked_tree.proofs.WalkLaws.{AreWithin}
-use Rattle.ranked_tree.specs.Held.{IsOwned}
+use Rattle.ranked_tree.specs.Held.{IsOwned, ReadsDir}
 use Rattle.dentry_cache.specs.CacheMap.{unclean}
 use Rattle.ranked_tree.proofs.emptiness.are_empty.Given as goal
 
 abbrev pub invariant-loop-leaf : goal.invariant-loop-leaf
 invariant-loop-leaf g l = record {
   kept : KeepsState l.fn.tree l.tree None;
+  reads : ReadsDir l.roots.roots l.dir l.fn.tree l.tree;
   owned : IsOwned l.tree l.roots.roots;
   within : AreWithin l.leaf-iterator l.leaves;
   left : list_all (λ f. has_none (names_of (unclean l.fn.tree.caches) l.fn.tree.objects (l.dir, f))) l.leaf-iterator ≡ list_all (λ f. has_none (names_of (unclean l.fn.tree.caches) l.fn.tree.objects (l.dir, f))) l.leaves;

@@ -7,6 +7,7 @@ use Rattle.mdcache.specs.Shown.{names_of}
 use Rattle.ranked_tree.proofs.WalkLaws.{told_empty}
 use Rattle.ranked_tree.proofs.AskLaws.{dir_known, leaf_live, map_if_ok}
 use Rattle.mdcache.specs.Core.{state_of}
+use Rattle.dentry_cache.specs.Reads.Reads.{stays}
 use Rattle.ranked_tree.proofs.emptiness.is_dir_empty.Goals as goal
 
 pub are_empty-requires-clause-live : goal.are_empty-requires-clause-live
@@ -21,3 +22,6 @@ returns-in-Ok-clause-found g c =
     ∙ ap (λ (fs : List Fragment). list_all (λ (f : Fragment). has_none (names_of s.unsaved s.objects (c.args.dir, f))) fs) (c.in-Ok.ensures.leaves ∙ ap (λ t. leaves_of t c.args.dir.0) c.dirs.ensures.trees)
     ∙ told_empty s c.requires.owned.sound.sound c.args.dir (dir_known s c.requires.owned.sound.sound c.args.dir c.requires.known) _ refl)
     c.are_empty.ensures.found
+
+pub returns-in-Err-clause-reads : goal.returns-in-Err-clause-reads
+returns-in-Err-clause-reads g c = stays

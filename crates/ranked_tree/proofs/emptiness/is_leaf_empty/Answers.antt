@@ -4,6 +4,7 @@ use Rattle.dentry_cache.specs.Came.{IsThat}
 use Rattle.ranked_tree.proofs.AskLaws.{told_for}
 use Rattle.ranked_tree.proofs.HeldLaws.{owned_read}
 use Rattle.std.specs.Result.{result_err}
+use Rattle.ranked_tree.proofs.ReadsForLaws.{reads_one}
 use Rattle.ranked_tree.proofs.emptiness.is_leaf_empty.Goals as goal
 
 pub returns-clause-kept : goal.returns-clause-kept
@@ -14,3 +15,6 @@ returns-clause-owned g c = owned_read (IsKeptFor c.args.tree.now.caches) c.args.
 
 pub returns-clause-refused : goal.returns-clause-refused
 returns-clause-refused g c = told_for _ c.is_leaf_empty.result c.args.tree.now c.args.roots.now.roots (c.args.dir, c.args.frag) c.is_leaf_empty.new.self.faults c.holder_of-rank.result c.holder_of-rank.ensures.rules c.is_leaf_empty.ensures.refused
+
+pub returns-clause-reads : goal.returns-clause-reads
+returns-clause-reads g c = reads_one (IsKeptFor c.args.tree.now.caches) c.args.tree.now c.is_leaf_empty.new.self c.args.roots.now.roots (c.args.dir, c.args.frag) c.holder_of-rank.result c.holder_of-rank.ensures.rules c.is_leaf_empty.ensures.reads

@@ -7,6 +7,7 @@ use Rattle.ranked_tree.proofs.HolderLaws.{pick_live}
 use Rattle.ranked_tree.proofs.AskLaws.{told_for}
 use Rattle.ranked_tree.proofs.HeldLaws.{owned_read}
 use Rattle.std.specs.Result.{result_err}
+use Rattle.ranked_tree.proofs.ReadsForLaws.{reads_one}
 use Rattle.ranked_tree.proofs.frags.look.Goals as goal
 
 pub returns-clause-kept : goal.returns-clause-kept
@@ -20,3 +21,6 @@ returns-clause-refused g c = told_for _ c.look.result c.args.tree.now c.args.roo
 
 pub holder_of-rank-requires-clause-live : goal.holder_of-rank-requires-clause-live
 holder_of-rank-requires-clause-live g c = pick_live (state_of c.args.tree.now) c.requires.owned.sound.sound c.args.dentry.now.dir (hash_of c.args.dentry.now.name) c.args.leaf c.requires.known c.requires.leaf
+
+pub returns-clause-reads : goal.returns-clause-reads
+returns-clause-reads g c = reads_one (IsKeptFor c.args.tree.now.caches) c.args.tree.now c.look.new.self c.args.roots.now.roots (c.args.dentry.now.dir, c.args.leaf) c.holder_of-rank.result c.holder_of-rank.ensures.rules c.look.ensures.reads

@@ -9,6 +9,7 @@ use Rattle.mdcache.proofs.CoreLaws.{reads_keeps, reads_state}
 use Rattle.ranked_tree.specs.Held.{AreHolders}
 use Rattle.ranked_tree.proofs.HeldLaws.{owned_reads}
 use Rattle.ranked_tree.proofs.HolderLaws.{named_held}
+use Rattle.ranked_tree.proofs.ReadsForLaws.{reads_change}
 use Rattle.ranked_tree.proofs.frags.prepare.Goals as goal
 
 pub returns-clause-ready : goal.returns-clause-ready
@@ -26,3 +27,6 @@ returns-clause-kept g c = reads_keeps (IsNamedIn c.holders_of-at.result c.args.c
 
 pub returns-clause-owned : goal.returns-clause-owned
 returns-clause-owned g c = owned_reads (IsNamedIn c.holders_of-at.result c.args.change.now) (IsKeptFor c.args.tree.now.caches) c.args.tree.now c.prepare.new.self c.args.roots.now.roots c.prepare.ensures.reads c.prepare.ensures.sound (named_held (state_of c.args.tree.now) c.requires.owned.sound.sound c.args.roots.now.roots c.holders_of-at.result c.args.change.now c.requires.may c.holders_of-at.ensures.holders) c.requires.owned
+
+pub returns-clause-reads : goal.returns-clause-reads
+returns-clause-reads g c = reads_change (IsKeptFor c.args.tree.now.caches) c.args.tree.now c.prepare.new.self c.args.roots.now.roots c.holders_of-at.result c.args.change.now c.requires.owned.sound.sound c.requires.may c.holders_of-at.ensures.holders c.prepare.ensures.reads

@@ -7,13 +7,14 @@ use Rattle.mdcache.specs.Frags.{KeepsState}
 use Rattle.mdcache.specs.Pages.{IsPageOf, gathered}
 use Rattle.mdcache.specs.Shown.{names_of}
 use Rattle.ranked_tree.proofs.WalkLaws.{AreWithin}
-use Rattle.ranked_tree.specs.Held.{IsOwned}
+use Rattle.ranked_tree.specs.Held.{IsOwned, ReadsDir}
 use Rattle.dentry_cache.specs.CacheMap.{unclean}
 use Rattle.ranked_tree.proofs.listing.gather_leaves.Given as goal
 
 abbrev pub invariant-loop-leaf : goal.invariant-loop-leaf
 invariant-loop-leaf g l = record {
   kept : KeepsState l.fn.tree l.tree None;
+  reads : ReadsDir l.roots.roots l.dir l.fn.tree l.tree;
   owned : IsOwned l.tree l.roots.roots;
   within : AreWithin l.leaf-iterator l.leaves;
   most : l.page.most ≡ l.fn.page.most;

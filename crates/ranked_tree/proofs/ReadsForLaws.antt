@@ -1,0 +1,105 @@
+-- What reads of a directory's leaves make of the caches, one after the other.
+use Rattle.std.specs.Prelude.{◌≡◌, ℕ, Option, None, false}
+use Rattle.std.proofs.Common.{◌⊎◌, inl, inr, refl, ap, subst, sym, ◌∙◌}
+use Rattle.mds_types.specs.declared.ids.Rank.{Rank}
+use Rattle.mds_types.specs.declared.dentries.Dentry.{Dentry}
+use Rattle.mds_types.specs.declared.operations.Op.{Op}
+use Rattle.mds_types.specs.declared.operations.Op.TheVariants.{Lookup, Readdir, Create, Mkdir, Readlink, Symlink, Setattr, Unlink, Rmdir, Rename}
+use Rattle.mds_types.specs.declared.refusals.Refusal.{Refusal}
+use Rattle.mds_types.specs.Tree.{Tree}
+use Rattle.dentry_cache.specs.Reads.Reads.{stays}
+use Rattle.mdcache.proofs.FragsLaws.{keeps_itself, keeps_on}
+use Rattle.ranked_tree.specs.Ranked.{KeepsRanked, Ranked}
+use Rattle.dentry_cache.specs.Came.{IsThat}
+use Rattle.dentry_cache.specs.Reads.{Reads}
+use Rattle.dentry_cache.proofs.ReadsLaws.{reads_then, reads_weaker}
+use Rattle.inode_table.specs.Dirs.{is_known}
+use Rattle.inode_table.proofs.TableLaws.{may_come}
+use Rattle.namespace_ops.specs.Changes.{Concerns, IsChangeOf, MayChange}
+use Rattle.namespace_ops.specs.declared.plans.Change.{Change}
+use Rattle.namespace_ops.specs.declared.plans.Change.TheVariants.{Add, Set, Remove, Move}
+use Rattle.subtree_map.specs.Authority.{Leaf, Roots}
+use Rattle.mdcache.specs.declared.holders.Holders.{Holders}
+use Rattle.mdcache.specs.Ranks.{IsNamedIn}
+use Rattle.mdcache.specs.Shown.{shown_tree}
+use Rattle.mdcache.specs.Sound.{IsSound}
+use Rattle.mdcache.specs.Core.{Core, ReadsCore, state_of}
+use Rattle.mdcache.specs.Frags.{KeepsState}
+use Rattle.mdcache.specs.State.{State as TreeState}
+use Rattle.ranked_tree.specs.Held.{AnyPlace, AreHolders, AsksFor, NamesDir, ReadsDir, ReadsFor}
+use Rattle.ranked_tree.specs.Subtrees.{Rules}
+use Rattle.ranked_tree.proofs.HeldLaws.{is_that}
+use Rattle.ranked_tree.proofs.HolderLaws.{is_unknown}
+
+-- a leaf at the rank that holds it
+pub reads_one : (Ends : ℕ → Leaf → Type 0) (old new : Core) (roots : Roots) (leaf : Leaf) (rank : Rank) → Rules (state_of old) roots leaf rank → ReadsCore (IsThat rank.0 leaf) Ends old new → ReadsDir roots leaf.0 old new
+reads_one Ends old new roots leaf rank rules reads =
+    reads_weaker (IsThat rank.0 leaf) Ends (AsksFor (state_of old) roots (λ (d : ℕ). d ≡ leaf.0.0)) AnyPlace
+    (λ r q that. inl (ap (λ (l : Leaf). l.0.0) that.1, is_that (state_of old) roots leaf rank rules r q that)) (λ r q ends. tt) old.objects old.caches new.caches reads.caches
+
+-- reads after others
+pub reads_on : (roots : Roots) (Asked : ℕ → Type 0) (a b c : Core) → KeepsState a b None → ReadsFor roots Asked a b → ReadsFor roots Asked b c → ReadsFor roots Asked a c
+reads_on roots Asked a b c kept first second =
+    reads_then (AsksFor (state_of a) roots Asked) AnyPlace a.objects a.caches b.caches c.caches first
+    (subst (λ (s : TreeState). Reads (AsksFor s roots Asked) AnyPlace s.objects b.caches c.caches) kept.state second)
+
+-- reads of no more than these
+pub reads_less : (roots : Roots) (Asked More : ℕ → Type 0) (old new : Core) → ((d : ℕ) → Asked d → More d) → ReadsFor roots Asked old new → ReadsFor roots More old new
+reads_less roots Asked More old new more reads = reads_weaker (AsksFor (state_of old) roots Asked) AnyPlace (AsksFor (state_of old) roots More) AnyPlace asks (λ r q place. place) old.objects old.caches new.caches reads
+  where
+    asks : (r : ℕ) (q : Leaf) → AsksFor (state_of old) roots Asked r q → AsksFor (state_of old) roots More r q
+    asks r q (inl held) = inl (more q.0.0 held.0, held.1)
+    asks r q (inr comes) = inr comes
+
+-- the leaves that a change names, each at its rank
+pub reads_change : (Ends : ℕ → Leaf → Type 0) (old new : Core) (roots : Roots) (at : Holders) (change : Change) → IsSound (state_of old) → MayChange (shown_tree (state_of old)) old.covers change → AreHolders (state_of old) roots at change
+    → ReadsCore (IsNamedIn at change) Ends old new → ReadsFor roots (NamesDir change) old new
+reads_change Ends old new roots at change sound may holders reads =
+    reads_weaker (IsNamedIn at change) Ends (AsksFor (state_of old) roots (NamesDir change)) AnyPlace (asks change may holders) (λ r q ends. tt) old.objects old.caches new.caches reads.caches
+  where
+    dir_is : (q leaf : Leaf) → q ≡ leaf → q.0.0 ≡ leaf.0.0
+    dir_is q leaf same = ap (λ (l : Leaf). l.0.0) same
+
+    asks : (change : Change) → MayChange (shown_tree (state_of old)) old.covers change → AreHolders (state_of old) roots at change → (r : ℕ) (q : Leaf) → IsNamedIn at change r q → AsksFor (state_of old) roots (NamesDir change) r q
+    asks (Add dentry leaf inode) may holders r q (inl that) = inl (dir_is q (dentry.dir, leaf) that.1, is_that (state_of old) roots (dentry.dir, leaf) at.first holders.first r q that)
+    asks (Add dentry leaf inode) may holders r q (inr that) =
+        inr (subst (λ (l : Leaf). is_known old.homes l.0.0 ≡ false) (sym that.1) (is_unknown old.homes inode.ino.0 _ (may_come (shown_tree (state_of old)) old.homes dentry inode sound.tabled may.takes)), ap (λ (l : Leaf). l.1) that.1)
+    asks (Set dentry leaf inode) may holders r q that = inl (dir_is q (dentry.dir, leaf) that.1, is_that (state_of old) roots (dentry.dir, leaf) at.first holders.first r q that)
+    asks (Remove dentry leaf went) may holders r q that = inl (dir_is q (dentry.dir, leaf) that.1, is_that (state_of old) roots (dentry.dir, leaf) at.first holders.first r q that)
+    asks (Move from source to target went) may holders r q (inl that) = inl (inl (dir_is q (from.dir, source) that.1), is_that (state_of old) roots (from.dir, source) at.first holders.first r q that)
+    asks (Move from source to target went) may holders r q (inr that) = inl (inr (dir_is q (to.dir, target) that.1), is_that (state_of old) roots (to.dir, target) at.second holders.second r q that)
+
+-- the directories of a change are those that its operation concerns
+pub change_concerns : (tree : Tree) (op : Op) (change : Change) → IsChangeOf op change → (d : ℕ) → NamesDir change d → Concerns tree op d
+change_concerns tree (Lookup dentry) change of d is = absurd of
+change_concerns tree (Readdir dir after max) change of d is = absurd of
+change_concerns tree (Readlink dentry) change of d is = absurd of
+change_concerns tree (Create dentry mode mtime) (Add p leaf inode) of d is = is ∙ ap (λ (e : Dentry). e.dir.0) of.0
+change_concerns tree (Create dentry mode mtime) (Set p leaf inode) of d is = absurd of
+change_concerns tree (Create dentry mode mtime) (Remove p leaf went) of d is = absurd of
+change_concerns tree (Create dentry mode mtime) (Move here source there target went) of d is = absurd of
+change_concerns tree (Mkdir dentry mode mtime) (Add p leaf inode) of d is = is ∙ ap (λ (e : Dentry). e.dir.0) of.0
+change_concerns tree (Mkdir dentry mode mtime) (Set p leaf inode) of d is = absurd of
+change_concerns tree (Mkdir dentry mode mtime) (Remove p leaf went) of d is = absurd of
+change_concerns tree (Mkdir dentry mode mtime) (Move here source there target went) of d is = absurd of
+change_concerns tree (Symlink dentry target mtime) (Add p leaf inode) of d is = is ∙ ap (λ (e : Dentry). e.dir.0) of.0
+change_concerns tree (Symlink dentry target mtime) (Set p leaf inode) of d is = absurd of
+change_concerns tree (Symlink dentry target mtime) (Remove p leaf went) of d is = absurd of
+change_concerns tree (Symlink dentry target mtime) (Move here source there target went) of d is = absurd of
+change_concerns tree (Setattr dentry given) (Add p leaf inode) of d is = absurd of
+change_concerns tree (Setattr dentry given) (Set p leaf inode) of d is = is ∙ ap (λ (e : Dentry). e.dir.0) of
+change_concerns tree (Setattr dentry given) (Remove p leaf went) of d is = absurd of
+change_concerns tree (Setattr dentry given) (Move here source there target went) of d is = absurd of
+change_concerns tree (Unlink dentry) (Add p leaf inode) of d is = absurd of
+change_concerns tree (Unlink dentry) (Set p leaf inode) of d is = absurd of
+change_concerns tree (Unlink dentry) (Remove p leaf went) of d is = is ∙ ap (λ (e : Dentry). e.dir.0) of.0
+change_concerns tree (Unlink dentry) (Move here source there target went) of d is = absurd of
+change_concerns tree (Rmdir dentry) (Add p leaf inode) of d is = absurd of
+change_concerns tree (Rmdir dentry) (Set p leaf inode) of d is = absurd of
+change_concerns tree (Rmdir dentry) (Remove p leaf went) of d is = inl (is ∙ ap (λ (e : Dentry). e.dir.0) of)
+change_concerns tree (Rmdir dentry) (Move here source there target went) of d is = absurd of
+change_concerns tree (Rename from to) (Add p leaf inode) of d is = absurd of
+change_concerns tree (Rename from to) (Set p leaf inode) of d is = absurd of
+change_concerns tree (Rename from to) (Remove p leaf went) of d is = absurd of
+change_concerns tree (Rename from to) (Move here source there target went) of d (inl is) = inl (is ∙ ap (λ (e : Dentry). e.dir.0) of.0)
+change_concerns tree (Rename from to) (Move here source there target went) of d (inr is) = inr (inl (is ∙ ap (λ (e : Dentry). e.dir.0) of.1))
