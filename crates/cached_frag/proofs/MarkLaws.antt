@@ -12,12 +12,7 @@ use Rattle.objstore.specs.Omap.{key_cmp}
 use Rattle.dirfrag_codec.specs.FragmentObject.{Names}
 use Rattle.dirfrag_codec.proofs.ByteKeys.{get_beside, get_left, get_put, get_removed, key_apart, key_same, not_found, one_map, same_or_apart}
 use Rattle.cached_frag.specs.declared.marks.Mark.{Mark}
-use Rattle.cached_frag.specs.Marks.{AreDirtyNames, IsDirtyName, Marks, patched, with_mark, with_marks}
-
--- a dirty name is what it became, any other what it was
-abbrev pub inode_or : Option Mark → Option Inode → Option Inode
-inode_or (Some mark) below = mark.inode
-inode_or None below = below
+use Rattle.cached_frag.specs.Marks.{AreDirtyNames, IsDirtyName, Marks, inode_or, patched, with_mark, with_marks}
 
 pub marked_here : (names : Names) (name : List ℕ) (inode : Option Inode) → map.get (with_mark names name inode) name ≡ inode
 marked_here names name (Some inode) = get_put names name inode

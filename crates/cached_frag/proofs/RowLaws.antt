@@ -18,8 +18,8 @@ use Rattle.objstore.specs.Omap.{key_cmp}
 use Rattle.dirfrag_codec.specs.FragmentObject.{Names}
 use Rattle.dirfrag_codec.proofs.ByteKeys.{key_apart, key_same, key_tied, not_found, same_or_apart}
 use Rattle.cached_frag.specs.declared.marks.Mark.{Mark}
-use Rattle.cached_frag.specs.Marks.{Marks, patched}
-use Rattle.cached_frag.proofs.MarkLaws.{get-patched, inode_or}
+use Rattle.cached_frag.specs.Marks.{Marks, inode_or, patched}
+use Rattle.cached_frag.proofs.MarkLaws.{get-patched}
 use Rattle.cached_frag.specs.Rows.{Change, Row, changed_rows, first_of, merged, merged_one, rows_after, with_change}
 
 is_less : (r : Ordering) → r ≡ Less → T (is_lt r)

@@ -20,6 +20,11 @@ pub record IsDirtyName (name : List ℕ) (mark : Mark) : Type 0 where
 abbrev pub AreDirtyNames : Marks → Type 0
 AreDirtyNames marks = (name : List ℕ) (mark : Mark) → map.get marks name ≡ Some mark → IsDirtyName name mark
 
+-- a dirty name is what it became, any other what it was
+abbrev pub inode_or : Option Mark → Option Inode → Option Inode
+inode_or (Some mark) below = mark.inode
+inode_or None below = below
+
 -- names once one of them was given an inode, or removed
 abbrev pub with_mark : Names → List ℕ → Option Inode → Names
 with_mark names name (Some inode) = map.insert names name inode

@@ -10,7 +10,7 @@ ghost use Rattle.cached_frag.specs.Moving.{TakesIn};
 use crate::fragments::CachedFrag;
 use crate::marks::Mark;
 use crate::moving::all_shown;
-use crate::snapshots::copy_of;
+use crate::taking::copy_of;
 use mds_types::{Inode, Name};
 use sorted_map::SortedMap;
 use std::alloc::AllocError;

@@ -5,7 +5,7 @@ ghost use Rattle.objstore.specs.Omap.{key_cmp};
 ghost use Rattle.sorted_map.specs.SortedMap.{contents};
 ghost use Rattle.dirfrag_codec.specs.EntryRecord.{HasRecord};
 ghost use Rattle.cached_frag.specs.Snap.{counts_of};
-ghost use Rattle.cached_frag.proofs.MarkLaws.{inode_or};
+ghost use Rattle.cached_frag.specs.Marks.{inode_or};
 ghost use Rattle.cached_frag.specs.Cached.{is_clean, shown};
 
 use crate::bases::{Base, EntryCounts};

@@ -24,7 +24,8 @@ use Rattle.cached_frag.specs.declared.bases.Base.{Base}
 use Rattle.cached_frag.specs.declared.bases.Base.TheVariants.{Fresh, Stored}
 use Rattle.cached_frag.specs.declared.jobs.Job.{Job}
 use Rattle.cached_frag.specs.declared.marks.Mark.{Mark}
-use Rattle.cached_frag.proofs.MarkLaws.{get-patched, inode_or}
+use Rattle.cached_frag.specs.Marks.{inode_or}
+use Rattle.cached_frag.proofs.MarkLaws.{get-patched}
 use Rattle.cached_frag.specs.Cached.{shown_over}
 use Rattle.cached_frag.specs.Moving.{marked_as}
 use Rattle.dentry_cache.specs.Loading.{object_of}
