@@ -15,3 +15,4 @@ pub mod Stays
 pub mod Stepped
 pub mod Supplies
 pub mod Worked
+pub mod UsesLaws

@@ -13,3 +13,4 @@ pub mod Serve
 pub mod Sound
 pub mod State
 pub mod Steps
+pub mod Uses

@@ -4,10 +4,12 @@ ghost use Rattle.objstore.specs.Objects.{faults_told};
 ghost use Rattle.std.specs.Result.{result_err};
 ghost use Rattle.mds_types.specs.declared.entries.Entry.{Entry as Applied};
 ghost use Rattle.mdcache.specs.Core.{state_of as tree_state};
-ghost use Rattle.mdcache.specs.Frags.{MayRefuse};
 ghost use Rattle.sessions.specs.Table.{Table};
 ghost use Rattle.inode_table.specs.Numbers.{Supply};
+ghost use Rattle.inboxes.specs.Inboxes.{first_waiting};
 ghost use Rattle.cluster_core.specs.State.{state_of};
+ghost use Rattle.cluster_core.specs.Uses.{UsesWaiting};
+ghost use Rattle.ranked_tree.specs.Ranked.{MayRefuse};
 ghost use Rattle.cluster_core.specs.Grants.{AreHeldAmong, GrantsWaiting, with_grants};
 
 use crate::events::Answer;
@@ -29,7 +31,8 @@ pub fn grant_first<S: Store + Drop>(
     client: u64,
     tid: u64,
 ) -> Result<Answer, Refusal>
-    ensures granted { (numbers : List Supply) (sessions : Table) (past : List Applied) → GrantsWaiting (state_of (tree_state tree.old.tree) tree.old.subtrees.roots numbers inboxes.now pins.old sessions) (state_of (tree_state tree.new.tree) tree.new.subtrees.roots numbers inboxes.now pins.new sessions) past past (MayRefuse tree.old.tree tree.new.tree) rank client tid result }
+    ensures granted { (numbers : List Supply) (sessions : Table) (past : List Applied) → GrantsWaiting (state_of (tree_state tree.old.tree) tree.old.subtrees.roots numbers inboxes.now pins.old sessions) (state_of (tree_state tree.new.tree) tree.new.subtrees.roots numbers inboxes.now pins.new sessions) past past (MayRefuse tree.old tree.new) rank client tid result }
+    ensures uses { UsesWaiting (tree_state tree.old.tree) tree.old.subtrees.roots tree.old.tree.caches tree.new.tree.caches (first_waiting client tid inboxes.now) }
     ensures same { tree_state tree.new.tree ≡ tree_state tree.old.tree }
     ensures roots { tree.new.subtrees.roots ≡ tree.old.subtrees.roots }
     ensures count { length tree.new.tree.caches.used ≡ length tree.old.tree.caches.used }
