@@ -79,7 +79,7 @@ impl Dirs {
     pub fn is_table(&self)
         ensures { IsTable self.now.homes self.now.trees }
     {
-        let _ = &self.below;
+        let _ = &self.root;
     }
 
     /// Where a directory stands; none for the root, and for what is no directory.
