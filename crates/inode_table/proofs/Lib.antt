@@ -1,4 +1,5 @@
 pub mod Chains
 pub mod MoveLaws
+pub mod RowLaws
 pub mod TableLaws
 pub mod Tables

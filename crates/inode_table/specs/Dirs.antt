@@ -4,7 +4,7 @@ use Rattle.std.specs.Ordering.{nat_cmp}
 use Rattle.std.specs.FinMap as map
 use Rattle.mds_types.specs.Frag.{Fragment, root_fragment}
 use Rattle.mds_types.specs.Leaf.{Leaf}
-use Rattle.fragtree.specs.FragTree.{HasLeaf, IsTree}
+use Rattle.fragtree.specs.FragTree.{HasLeaf, IsPick, IsTree}
 use Rattle.inode_table.specs.declared.dirs.Home.{Home}
 
 -- from the number of each directory but the root to its parent and name
@@ -39,6 +39,12 @@ is_known homes d = (d == 1) || is_some (map.get homes d)
 pub record IsLive (homes : Homes) (covers : Covers) (leaf : Leaf) : Type 0 where
   pub known : is_known homes leaf.0.0 ≡ true
   pub stands : HasLeaf (leaves_of covers leaf.0.0) leaf.1
+
+-- a hash falls in a directory that stands: this leaf is the one that it picks, and here the directory itself stands, nowhere if it is the root
+pub record IsLeafAt (homes : Homes) (covers : Covers) (d hash : ℕ) (leaf : Fragment) (above : Option Home) : Type 0 where
+  pub known : is_known homes d ≡ true
+  pub pick : IsPick (leaves_of covers d) hash leaf
+  pub home : above ≡ map.get homes d
 
 -- d is above x: a chain of one or more parents leads from x to d
 pub data IsAbove (homes : Homes) (d : ℕ) : ℕ → Type 0 where

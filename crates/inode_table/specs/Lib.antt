@@ -1,4 +1,5 @@
 pub mod Dirs
 pub mod Numbers
+pub mod Rows
 pub mod TreeChanges
 pub mod TreeTable

@@ -1,11 +1,11 @@
 //! The directory table.
-ghost use Rattle.std.specs.Prelude.{◌≡◌, ◌≢◌, ◌+◌, ◌-◌, ◌<◌, ◌≤◌, ◌↔◌, ◌∷◌, [], if◌then◌else◌, is_some, length, true, IsOk, IsSome, IsTrue, IfOk, OnOk, OnErr, IfErr};
+ghost use Rattle.std.specs.Prelude.{◌≡◌, ◌≢◌, ◌+◌, ◌-◌, ◌<◌, ◌≤◌, ◌↔◌, ◌∷◌, [], if◌then◌else◌, is_some, length, true, IsOk, IsSome, IsTrue, IfOk, OnOk, OnErr, IfErr, MatchOption, false};
 ghost use Rattle.std.specs.Option.{option_copied};
 ghost use Rattle.std.specs.FinMap as map;
 ghost use Rattle.mds_types.specs.declared.refusals.Refusal.TheVariants.{NoMemory};
 ghost use Rattle.mds_types.specs.Frag.{root_fragment};
 ghost use Rattle.fragtree.specs.FragTree.{CanMerge, CanSplit, IsPick, RefusesMerge, RefusesSplit};
-ghost use Rattle.inode_table.specs.Dirs.{IsAbove, IsTable, MayCome, MayGo, MayMove, is_known, leaves_of};
+ghost use Rattle.inode_table.specs.Dirs.{IsAbove, IsLeafAt, IsLive, IsTable, MayCome, MayGo, MayMove, is_known, leaves_of, or_whole};
 
 use fragtree::FragTree;
 use mds_types::{Frag, Ino, Name, Refusal};
@@ -20,6 +20,20 @@ pub struct Home {
     pub name: Name,
 }
 
+/// Where a hash falls in a directory: the leaf that it picks. `home` is where the directory itself stands, and none of the root.
+#[derive(Clone, Copy, Debug)]
+pub struct LeafAt<'a> {
+    pub frag: Frag,
+    pub home: Option<&'a Home>,
+}
+
+/// What the table keeps of a directory below the root: where it stands, and its leaves if they were ever set.
+#[derive(Debug, Drop)]
+pub(crate) struct Directory {
+    home: Home,
+    leaves: Option<FragTree>,
+}
+
 /// For each directory its parent and its name there, and its leaves. The root directory is always there, and has
 /// neither parent nor name.
 ///
@@ -28,8 +42,8 @@ pub struct Home {
 /// leaf `*`, and takes no memory for it.
 #[derive(Debug, Drop)]
 pub struct Dirs {
-    homes: SortedMap<u64, Home>,
-    trees: SortedMap<u64, FragTree>,
+    root: Option<FragTree>,
+    below: SortedMap<u64, Directory>,
 }
 
 impl Model for Dirs {
@@ -38,14 +52,15 @@ impl Model for Dirs {
     ghost use Rattle.std.specs.FinMap as map;
     ghost use Rattle.sorted_map.specs.SortedMap.{contents};
     ghost use Rattle.inode_table.specs.Dirs.{Table, IsTable};
+    ghost use Rattle.inode_table.specs.Rows.{covers_of, homes_of};
 
     ghost Value = { Table };
 
     ghost coded = { Prim.hlevel (codes, map.code) };
 
-    ghost view = { λ d. record { homes = contents nat_cmp d.homes; trees = contents nat_cmp d.trees; room = d.homes.room; tree_room = d.trees.room } };
+    ghost view = { λ d. record { homes = homes_of (contents nat_cmp d.below); trees = covers_of d.root (contents nat_cmp d.below); room = d.below.room; tree_room = 1 } };
 
-    ghost invariant = { λ d. IsTable (contents nat_cmp d.homes) (contents nat_cmp d.trees) };
+    ghost invariant = { λ d. IsTable (homes_of (contents nat_cmp d.below)) (covers_of d.root (contents nat_cmp d.below)) };
 }
 
 impl Dirs {
@@ -55,8 +70,8 @@ impl Dirs {
         ensures trees { result.trees ≡ map.empty }
     {
         Dirs {
-            homes: SortedMap::new(alloc),
-            trees: SortedMap::new(alloc),
+            root: None,
+            below: SortedMap::new(alloc),
         }
     }
 
@@ -64,14 +79,14 @@ impl Dirs {
     pub fn is_table(&self)
         ensures { IsTable self.now.homes self.now.trees }
     {
-        let _ = &self.homes;
+        let _ = &self.root;
     }
 
     /// Where a directory stands; none for the root, and for what is no directory.
     pub fn get(&self, dir: Ino) -> Option<&Home>
         ensures { option_copied result ≡ map.get self.now.homes dir.0 }
     {
-        self.homes.get(&dir.0)
+        Some(&self.below.get(&dir.0)?.home)
     }
 
     /// Whether this is the number of a directory: the root, or one that was adopted.
@@ -79,7 +94,7 @@ impl Dirs {
         ensures known { result ≡ is_known self.now.homes dir.0 }
         ensures valid { IsTable self.now.homes self.now.trees }
     {
-        dir == Ino::ROOT || self.homes.contains(&dir.0)
+        dir == Ino::ROOT || self.below.contains(&dir.0)
     }
 
     /// The leaves of a directory, as a copy that its changes don't touch. Takes memory for leaves that were set, and
@@ -88,7 +103,7 @@ impl Dirs {
         ensures leaves { IfOk result (λ tree. tree ≡ leaves_of self.now.trees dir.0) }
         ensures memory { OnErr result (IsSome (map.get self.now.trees dir.0)) }
     {
-        match self.trees.get(&dir.0) {
+        match self.leaves(dir) {
             Some(tree) => tree.try_clone(),
             None => Ok(FragTree::whole(alloc)),
         }
@@ -98,7 +113,7 @@ impl Dirs {
     pub fn leaf_count(&self, dir: Ino) -> usize
         ensures { result ≡ length (leaves_of self.now.trees dir.0) }
     {
-        match self.trees.get(&dir.0) {
+        match self.leaves(dir) {
             Some(tree) => tree.len(),
             None => 1,
         }
@@ -109,9 +124,35 @@ impl Dirs {
         ensures pick { IsPick (leaves_of self.now.trees dir.0) hash result }
         ensures valid { IsTable self.now.homes self.now.trees }
     {
-        match self.trees.get(&dir.0) {
-            Some(tree) => tree.pick(hash),
-            None => Frag::ROOT,
+        picked(self.leaves(dir), hash)
+    }
+
+    /// The leaf of a directory that a hash picks, and where the directory itself stands; none exactly where there is no such
+    /// directory. Takes no memory, and one search.
+    pub fn leaf_at(&self, dir: Ino, hash: u32) -> Option<LeafAt<'_>>
+        ensures { MatchOption result (is_known self.now.homes dir.0 ≡ false) (λ at. IsLeafAt self.now.homes self.now.trees dir.0 hash at.frag (option_copied at.home)) }
+    {
+        if dir == Ino::ROOT {
+            return Some(LeafAt {
+                frag: picked(self.root.as_ref(), hash),
+                home: None,
+            });
+        }
+        let row = self.below.get(&dir.0)?;
+        Some(LeafAt {
+            frag: picked(row.leaves.as_ref(), hash),
+            home: Some(&row.home),
+        })
+    }
+
+    /// Whether there is such a directory, and it has this leaf. Takes no memory, and one search.
+    pub fn has_leaf(&self, dir: Ino, frag: Frag) -> bool
+        ensures { IsTrue result ↔ IsLive self.now.homes self.now.trees (dir, frag) }
+    {
+        // a leaf contains the hash that its value is, and no other leaf does
+        match self.leaf_at(dir, frag.value()) {
+            Some(at) => at.frag == frag,
+            None => false,
         }
     }
 
@@ -122,7 +163,7 @@ impl Dirs {
         ensures err { IfErr result (λ reason. RefusesSplit (leaves_of self.now.trees dir.0) frag bits reason) }
         ensures memory { IfErr result (λ reason. reason ≢ NoMemory) }
     {
-        match self.trees.get(&dir.0) {
+        match self.leaves(dir) {
             Some(tree) => tree.check_split(frag, bits),
             None => check_split_of_whole(frag, bits),
         }
@@ -135,7 +176,7 @@ impl Dirs {
         ensures err { IfErr result (λ reason. RefusesMerge (leaves_of self.now.trees dir.0) frag reason) }
         ensures memory { IfErr result (λ reason. reason ≢ NoMemory) }
     {
-        match self.trees.get(&dir.0) {
+        match self.leaves(dir) {
             Some(tree) => tree.check_merge(frag),
             None => Err(Refusal::NoSuchFrag),
         }
@@ -152,12 +193,12 @@ impl Dirs {
         ensures err { IfErr result (λ reason. reason ≡ NoMemory) }
         ensures left { OnErr result (self.new ≡ self.old) }
     {
-        self.homes.reserve(1)?;
+        self.below.reserve(1)?;
         Ok(())
     }
 
-    /// Makes room for the leaves of one more directory, so that the next `set_tree` can't fail. Where the room is there
-    /// already nothing is done. Refused for want of memory alone, and then all is left as it was.
+    /// Makes room for the leaves of one more directory, so that the next `set_tree` can't fail. The room is always there:
+    /// a directory's row has a place for its leaves. So nothing is done, and never refused.
     pub fn reserve_tree(&mut self) -> Result<(), Refusal>
         ensures ok { OnOk result (0 < self.new.tree_room) }
         ensures homes { self.new.homes ≡ self.old.homes }
@@ -167,7 +208,7 @@ impl Dirs {
         ensures err { IfErr result (λ reason. reason ≡ NoMemory) }
         ensures left { OnErr result (self.new ≡ self.old) }
     {
-        self.trees.reserve(1)?;
+        let _ = &self.below;
         Ok(())
     }
 
@@ -182,7 +223,14 @@ impl Dirs {
     {
         // of a tree that is asked for its length its leaves are known to cover every hash
         let _ = tree.len();
-        let _ = self.trees.insert(dir.0, tree);
+        if dir == Ino::ROOT {
+            self.root = Some(tree);
+            return;
+        }
+        let Some(row) = self.below.get_mut(&dir.0) else {
+            unreachable!()
+        };
+        row.leaves = Some(tree);
     }
 
     /// A new directory with the one leaf `*`, for which there is room. Takes no memory.
@@ -196,7 +244,7 @@ impl Dirs {
         ensures tree_room { self.new.tree_room ≡ self.old.tree_room }
         ensures valid { IsTable self.new.homes self.new.trees }
     {
-        let _ = self.homes.insert(dir.0, home);
+        let _ = self.below.insert(dir.0, Directory { home, leaves: None });
     }
 
     /// A directory goes to another parent, or takes another name, and keeps its leaves. Takes no memory.
@@ -208,7 +256,10 @@ impl Dirs {
         ensures tree_room { self.new.tree_room ≡ self.old.tree_room }
         ensures valid { IsTable self.new.homes self.new.trees }
     {
-        let _ = self.homes.replace(&dir.0, home);
+        let Some(row) = self.below.get_mut(&dir.0) else {
+            unreachable!()
+        };
+        row.home = home;
     }
 
     /// A directory goes that is no one's parent and not the root, and its leaves with it. Takes no memory.
@@ -220,8 +271,7 @@ impl Dirs {
         ensures tree_room { self.old.tree_room ≤ self.new.tree_room }
         ensures valid { IsTable self.new.homes self.new.trees }
     {
-        let _ = self.homes.remove(&dir.0);
-        let _ = self.trees.remove(&dir.0);
+        let _ = self.below.remove(&dir.0);
     }
 
     /// Whether a directory is above another: a chain of one or more parents leads from `below` to `dir`. Takes no
@@ -229,14 +279,36 @@ impl Dirs {
     pub fn is_above(&self, dir: Ino, below: Ino) -> bool
         ensures { IsTrue result ↔ IsAbove self.now.homes dir.0 below.0 }
     {
+        self.is_table();
         let mut at = below;
-        while let Some(home) = self.homes.get(&at.0) {
+        while let Some(home) = self.get(at) {
             if home.parent == dir {
                 return true;
             }
             at = home.parent;
         }
         false
+    }
+
+    // The leaves of a directory if they were ever set. The root's take no search.
+    fn leaves(&self, dir: Ino) -> Option<&FragTree>
+        ensures set { option_copied result ≡ map.get self.now.trees dir.0 }
+        ensures valid { IsTable self.now.homes self.now.trees }
+    {
+        if dir == Ino::ROOT {
+            return self.root.as_ref();
+        }
+        self.below.get(&dir.0)?.leaves.as_ref()
+    }
+}
+
+// The leaf that a hash picks of leaves that were set, and of the one leaf `*` where none were.
+fn picked(leaves: Option<&FragTree>, hash: u32) -> Frag
+    ensures { IsPick (or_whole (option_copied leaves.entry)) hash result }
+{
+    match leaves {
+        Some(tree) => tree.pick(hash),
+        None => Frag::ROOT,
     }
 }
 

@@ -5,6 +5,6 @@ mod dirs;
 mod numbers;
 mod table_changes;
 
-pub use dirs::{Dirs, Home};
+pub use dirs::{Dirs, Home, LeafAt};
 pub use numbers::Numbers;
 pub use table_changes::{adopt_dir, drop_dir, relocate_dir};

@@ -1,15 +1,33 @@
 -- A new directory reaches the root by its parent.
-use Rattle.std.proofs.Common.{ap}
-use Rattle.inode_table.specs.Dirs.{Table}
+use Rattle.std.proofs.Common.{None, refl, sym, ap, ◌∙◌}
+use Rattle.std.specs.FinMap as map
+use Rattle.inode_table.specs.declared.dirs.Directory.{Directory}
+use Rattle.inode_table.specs.Dirs.{Table, leaves_of}
+use Rattle.inode_table.specs.Rows.{covers_of, homes_of, leaves_in}
+use Rattle.inode_table.proofs.RowLaws.{homes_put, leaves_kept, new_leaves, no_row}
 use Rattle.inode_table.proofs.Tables.{adopted_table}
 use Rattle.inode_table.proofs.dirs.Dirs.adopt.Goals as goal
 
-pub invariant_of-self : goal.invariant_of-self
-invariant_of-self c =
-    let same = ap (λ (t : Table). t.homes) c.self.view_is in
-    rw c.insert.ensures.inserted (adopted_table _ _ c.args.dir.0 c.args.home c.self.invariant (rw same c.requires.may))
+pub returns-clause-homes : goal.returns-clause-homes
+returns-clause-homes c = ap homes_of c.insert.ensures.inserted ∙ homes_put _ c.args.dir.0 _ ∙ ap (λ (t : Table). map.insert t.homes c.args.dir.0 c.args.home) c.self.view_is
+
+pub returns-clause-trees : goal.returns-clause-trees
+returns-clause-trees c =
+    let none = no_row c.self.inside.root _ c.args.dir.0 (ap (λ (t : Table). map.get t.homes c.args.dir.0) c.self.view_is ∙ c.requires.may.fresh) in
+    ap (covers_of c.self.inside.root) c.insert.ensures.inserted ∙ leaves_kept _ c.args.dir.0 c.self.inside.root _ (sym (ap leaves_in none)) ∙ ap (λ (t : Table). t.trees) c.self.view_is
+
+pub returns-clause-whole : goal.returns-clause-whole
+returns-clause-whole c =
+    ap (λ rows. leaves_of (covers_of c.self.inside.root rows) c.args.dir.0) c.insert.ensures.inserted
+    ∙ new_leaves c.self.inside.root _ c.args.dir.0 _ c.requires.may.other refl
 
 pub returns-clause-valid : goal.returns-clause-valid
 returns-clause-valid c =
     let same = ap (λ (t : Table). t.homes) c.self.view_is in
-    rw c.insert.ensures.inserted (adopted_table _ _ c.args.dir.0 c.args.home c.self.invariant (rw same c.requires.may))
+    let none = no_row c.self.inside.root _ c.args.dir.0 (ap (λ (t : Table). map.get t.homes c.args.dir.0) c.self.view_is ∙ c.requires.may.fresh) in
+    let row : Directory = record { home = c.args.home; leaves = None } in
+    rw (c.insert.ensures.inserted, homes_put _ c.args.dir.0 row, leaves_kept _ c.args.dir.0 c.self.inside.root row (sym (ap leaves_in none)))
+    (adopted_table _ _ c.args.dir.0 c.args.home c.self.invariant (rw same c.requires.may))
+
+pub invariant_of-self : goal.invariant_of-self
+invariant_of-self c = returns-clause-valid c

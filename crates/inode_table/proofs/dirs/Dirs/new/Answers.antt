@@ -1,6 +1,15 @@
 -- The table of the root alone.
+use Rattle.std.proofs.Common.{None, ap, ◌∙◌}
+use Rattle.inode_table.specs.Rows.{homes_of, covers_of}
+use Rattle.inode_table.proofs.RowLaws.{no_homes, no_leaves}
 use Rattle.inode_table.proofs.Tables.{empty_table}
 use Rattle.inode_table.proofs.dirs.Dirs.new.Goals as goal
 
 pub invariant_of-result : goal.invariant_of-result
-invariant_of-result c = rw c.new.ensures.empty (rw c.new-2.ensures.empty empty_table)
+invariant_of-result c = rw c.new.ensures.empty (rw no_homes (rw no_leaves empty_table))
+
+pub returns-clause-homes : goal.returns-clause-homes
+returns-clause-homes c = ap homes_of c.new.ensures.empty ∙ no_homes
+
+pub returns-clause-trees : goal.returns-clause-trees
+returns-clause-trees c = ap (covers_of None) c.new.ensures.empty ∙ no_leaves

@@ -1,15 +1,27 @@
 -- A directory that moved reaches the root by its new parent.
-use Rattle.std.proofs.Common.{ap}
+use Rattle.std.proofs.Common.{refl, sym, ap, ◌∙◌}
+use Rattle.std.specs.FinMap as map
+use Rattle.inode_table.specs.declared.dirs.Directory.{Directory}
 use Rattle.inode_table.specs.Dirs.{Table}
+use Rattle.inode_table.proofs.RowLaws.{has_row, homes_written, leaves_unwritten}
 use Rattle.inode_table.proofs.Tables.{moved_table}
 use Rattle.inode_table.proofs.dirs.Dirs.relocate.Goals as goal
 
-pub invariant_of-self : goal.invariant_of-self
-invariant_of-self c =
-    let same = ap (λ (t : Table). t.homes) c.self.view_is in
-    rw c.replace.ensures.inserted (moved_table _ _ c.args.dir.0 c.args.home c.self.invariant (rw same c.requires))
+pub unreachable-requires : goal.unreachable-requires
+unreachable-requires c = has_row c.self.inside.root _ c.args.dir.0 (sym c.in_default.ensures.value) (rw (ap (λ (t : Table). t.homes) c.self.view_is) c.requires.there)
+
+pub returns-clause-homes : goal.returns-clause-homes
+returns-clause-homes c = homes_written c.self.inside.root _ c.args.dir.0 _ c.self.inside.below.room ∙ ap (λ (t : Table). map.insert t.homes c.args.dir.0 c.args.home) c.self.view_is
+
+pub returns-clause-trees : goal.returns-clause-trees
+returns-clause-trees c = leaves_unwritten c.self.inside.root _ c.args.dir.0 _ c.self.inside.below.room c.in-Some.row.now c.in-Some.ensures.value refl ∙ ap (λ (t : Table). t.trees) c.self.view_is
 
 pub returns-clause-valid : goal.returns-clause-valid
 returns-clause-valid c =
     let same = ap (λ (t : Table). t.homes) c.self.view_is in
-    rw c.replace.ensures.inserted (moved_table _ _ c.args.dir.0 c.args.home c.self.invariant (rw same c.requires))
+    let row : Directory = record { home = c.args.home; leaves = c.in-Some.row.now.leaves } in
+    rw (homes_written c.self.inside.root _ c.args.dir.0 row c.self.inside.below.room, leaves_unwritten c.self.inside.root _ c.args.dir.0 row c.self.inside.below.room c.in-Some.row.now c.in-Some.ensures.value refl)
+    (moved_table _ _ c.args.dir.0 c.args.home c.self.invariant (rw same c.requires))
+
+pub invariant_of-self : goal.invariant_of-self
+invariant_of-self c = returns-clause-valid c

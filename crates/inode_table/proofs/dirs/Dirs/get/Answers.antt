@@ -1,0 +1,11 @@
+-- A directory stands where its row says.
+use Rattle.std.proofs.Common.{sym, ap, ◌∙◌}
+use Rattle.std.specs.Option.{option_copied}
+use Rattle.inode_table.proofs.RowLaws.{get_home, home_in}
+use Rattle.inode_table.proofs.dirs.Dirs.get.Goals as goal
+
+pub returns-in_err-get : goal.returns-in_err-get
+returns-in_err-get c = rw (← c.self.view_is) (ap option_copied c.from_residual.ensures ∙ sym (get_home _ _ ∙ ap home_in (sym c.get.ensures ∙ ap option_copied c.in_err-get.was)))
+
+pub returns : goal.returns
+returns c = rw (← c.self.view_is) (sym (get_home _ _ ∙ ap home_in (sym c.get.ensures ∙ ap option_copied c.in_ok-get.was)))

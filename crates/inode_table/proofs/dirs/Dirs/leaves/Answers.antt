@@ -1,0 +1,20 @@
+-- The root's leaves are kept beside the rows, those of another directory in its row.
+use Rattle.std.proofs.Common.{sym, ap, ◌∙◌}
+use Rattle.std.specs.Option.{option_copied}
+use Rattle.inode_table.specs.Rows.{leaves_in}
+use Rattle.inode_table.proofs.Chains.{are_same, are_apart}
+use Rattle.inode_table.proofs.RowLaws.{get_leaves, leaves_at_root}
+use Rattle.inode_table.proofs.dirs.Dirs.leaves.Goals as goal
+
+pub returns-then-eq-clause-set : goal.returns-then-eq-clause-set
+returns-then-eq-clause-set c = rw (← c.self.view_is) (c.as_ref.ensures.value ∙ sym (leaves_at_root c.self.inside.root _ c.args.dir.0 (are_same _ _ c.if-eq.ensures) c.self.invariant.rooted.rootless))
+
+pub returns-in_err-get-clause-set : goal.returns-in_err-get-clause-set
+returns-in_err-get-clause-set c =
+    rw (← c.self.view_is) (ap option_copied c.from_residual.ensures
+    ∙ sym (get_leaves c.self.inside.root _ c.args.dir.0 (are_apart _ _ c.if-eq.ensures) ∙ ap leaves_in (sym c.get.ensures ∙ ap option_copied c.in_err-get.was)))
+
+pub returns-clause-set : goal.returns-clause-set
+returns-clause-set c =
+    rw (← c.self.view_is) (c.as_ref-2.ensures.value
+    ∙ sym (get_leaves c.self.inside.root _ c.args.dir.0 (are_apart _ _ c.if-eq.ensures) ∙ ap leaves_in (sym c.get.ensures ∙ ap option_copied c.in_ok-get.was)))

@@ -1,0 +1,33 @@
+-- The rows in which a directory table keeps what it knows, and what contracts see of them.
+use Rattle.std.specs.Prelude.{ℕ, Bool, is_some, map, Option, Some, None, List}
+use Rattle.std.specs.Ordering.{nat_cmp}
+use Rattle.std.specs.FinMap as map
+use Rattle.mds_types.specs.Frag.{Fragment}
+use Rattle.inode_table.specs.declared.dirs.Directory.{Directory}
+use Rattle.inode_table.specs.Dirs.{Homes, Covers, or_whole}
+
+-- the directories below the root by number
+abbrev pub Rows : Type 0
+Rows = map.FinMap nat_cmp Directory
+
+-- the leaves of the row that was found, if they were set
+abbrev pub leaves_in : Option Directory → Option (List Fragment)
+leaves_in None = None
+leaves_in (Some row) = row.leaves
+
+-- whether a directory below the root has leaves that were set
+abbrev pub has_leaves : Rows → ℕ → Bool
+has_leaves rows d = is_some (leaves_in (map.get rows d))
+
+-- where each directory stands
+unfoldable pub homes_of : Rows → Homes
+homes_of rows = map.from_sorted (map (λ e. (e.0, e.1.home)) (map.entries rows))
+
+-- the leaves that were set of directories below the root
+unfoldable pub covers_below : Rows → Covers
+covers_below rows = map.from_sorted (map (λ e. (e.0, or_whole e.1.leaves)) (map.entries (map.retain_keys rows (has_leaves rows))))
+
+-- and with those of the root, if they were set
+abbrev pub covers_of : Option (List Fragment) → Rows → Covers
+covers_of None rows = covers_below rows
+covers_of (Some leaves) rows = map.insert (covers_below rows) 1 leaves
