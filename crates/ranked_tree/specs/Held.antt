@@ -18,6 +18,7 @@ use Rattle.dentry_cache.specs.Reads.{Reads}
 use Rattle.subtree_map.specs.Authority.{Leaf, Roots}
 use Rattle.subtree_map.specs.Changes.{is_inside}
 use Rattle.mdcache.specs.declared.holders.Holders.{Holders}
+use Rattle.mdcache.specs.CacheReads.{IsNewest}
 use Rattle.mdcache.specs.Core.{Core, IsSoundCore, LacksPlacesAt, state_of}
 use Rattle.mdcache.specs.Shown.{shown_tree}
 use Rattle.mdcache.specs.State.{State as TreeState}
@@ -76,6 +77,10 @@ NamesDir (Move from source to target went) d = (d ≡ from.dir.0) ⊎ (d ≡ to.
 -- so of one directory
 abbrev pub ReadsDir : Roots → Ino → (old new : Core) → Type 0
 ReadsDir roots dir old new = ReadsFor roots (λ (d : ℕ). d ≡ dir.0) old new
+
+-- a leaf is the most recently used of the rank that holds it
+abbrev pub IsNewestHeld : TreeState → Roots → CacheMap → Leaf → Type 0
+IsNewestHeld tree roots caches leaf = (rank : Rank) × Rules tree roots leaf rank × IsNewest caches rank.0 leaf
 
 -- ---- what a change makes of the caches
 

@@ -14,7 +14,7 @@ ghost use Rattle.mdcache.specs.Core.{state_of};
 ghost use Rattle.mdcache.specs.Reads.{MayNotFind};
 ghost use Rattle.mdcache.specs.Ready.{MayNotBeReady};
 ghost use Rattle.mdcache.specs.Shown.{shown_tree};
-ghost use Rattle.ranked_tree.specs.Held.{IsOwned, LacksPlacesAsked, LacksPlacesFor, NamesDir, ReadsDir, ReadsFor};
+ghost use Rattle.ranked_tree.specs.Held.{IsNewestHeld, IsOwned, LacksPlacesAsked, LacksPlacesFor, NamesDir, ReadsDir, ReadsFor};
 ghost use Rattle.ranked_tree.specs.Ranked.{IsReadyHeld};
 
 use crate::changing::reserve_roots;
@@ -153,6 +153,7 @@ fn look<S: Store + Drop>(
     requires owned { IsOwned tree.old roots.now.roots }
     ensures found { IfOk result (λ found. found ≡ map.get (shown_tree (state_of tree.old)) dentry.now) }
     ensures kept { KeepsState tree.old tree.new (result_err result) }
+    ensures newest { OnOk result (IsNewestHeld (state_of tree.old) roots.now.roots tree.new.caches (dentry.now.dir, leaf)) }
     ensures reads { ReadsDir roots.now.roots dentry.now.dir tree.old tree.new }
     ensures owned { IsOwned tree.new roots.now.roots }
     ensures refused { IfErr result (MayNotFind (LacksPlacesFor 1 tree.old roots.now.roots (dentry.now.dir, leaf)) tree.old.faults tree.new.faults) }
