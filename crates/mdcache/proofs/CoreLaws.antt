@@ -252,6 +252,10 @@ pub if_err : {A E : Type 0} (P Q : E → Type 0) (r : Result A E) → ((e : E) �
 if_err P Q (Ok x) f h = tt
 if_err P Q (Err e) f h = f e h
 
+pub ok_so : {A E P : Type 0} (r : Result A E) → P → OnOk r P
+ok_so (Ok x) p = p
+ok_so (Err e) p = tt
+
 pub on_ok : {A E P Q : Type 0} (r : Result A E) → (P → Q) → OnOk r P → OnOk r Q
 on_ok (Ok x) f h = f h
 on_ok (Err e) f h = tt

@@ -11,6 +11,7 @@ use Rattle.mds_types.specs.Tree.{is_dir_kind}
 use Rattle.mds_types.proofs.LeafLaws.{get_removed, same_or_apart}
 use Rattle.objstore.specs.Objects.{Objects, written}
 use Rattle.cached_frag.specs.declared.jobs.Job.{Job}
+use Rattle.cached_frag.specs.Commit.{write_of}
 use Rattle.dirfrag_codec.proofs.ByteKeys.{get_beside}
 use Rattle.dentry_cache.specs.Cache.{Leaf, Unsaved}
 use Rattle.dentry_cache.specs.Loading.{object_of}
@@ -77,14 +78,14 @@ module _ (old new : State) where
 
     -- another job's commit writes another object, and its own ends it
     pub ended_object : (stands : map.get new.jobs leaf ≡ Some job) (before after : ℕ) (other : Job) (result : Result (Unit {0}) Refusal) → Ends old new before after other result → object_of new.objects leaf.0 leaf.1 ≡ object_of old.objects leaf.0 leaf.1
+    unfolding written
     ended_object stands before after other (Err reason) h = ap (λ (s : State). object_of s.objects leaf.0 leaf.1) h.1
     ended_object stands before after other (Ok done) h = ap (λ (s : State). object_of s.objects leaf.0 leaf.1) h.left ∙ go (same_or_apart leaf (leaf_of other))
       where
         other_live : IsLive old.homes old.covers (leaf_of other)
         other_live = (sound.unsaved (leaf_of other) h.unsaved h.beside).live
 
-        go : (leaf ≡ leaf_of other) ⊎ (leaf ≡ leaf_of other → ⊥) → object_of (written old.objects (text_of (leaf_of other)) _) leaf.0 leaf.1 ≡ object_of old.objects leaf.0 leaf.1
-        unfolding written
+        go : (leaf ≡ leaf_of other) ⊎ (leaf ≡ leaf_of other → ⊥) → object_of (written old.objects (text_of (leaf_of other)) (write_of other.snapshot)) leaf.0 leaf.1 ≡ object_of old.objects leaf.0 leaf.1
         go (inl same) =
             let clash : None ≡ Some job = sym (get_removed old.jobs (leaf_of other)) ∙ ap (map.get (map.remove old.jobs (leaf_of other))) (sym same) ∙ sym (ap (λ (s : State). map.get s.jobs leaf) h.left) ∙ stands in
             absurd cc

@@ -5,7 +5,7 @@ use Rattle.dentry_cache.specs.CacheMap.{CacheMap, here, leaf_of}
 use Rattle.dentry_cache.specs.Came.{IsThat, NoneEnds}
 use Rattle.mdcache.specs.CacheReads.{IsNewest}
 use Rattle.mdcache.specs.Core.{Core}
-use Rattle.mdcache.proofs.CoreLaws.{there_after, use_step}
+use Rattle.mdcache.proofs.CoreLaws.{ok_so, there_after, use_step}
 use Rattle.mdcache.proofs.FetchSteps.{newest_used}
 use Rattle.mdcache.proofs.NoneLaws.{none_used}
 use Rattle.mdcache.proofs.mdcache.MdCache.find.Goals as goal
@@ -25,4 +25,4 @@ returns-clause-none g c =
 
 pub returns-clause-newest : goal.returns-clause-newest
 returns-clause-newest g c =
-    subst (λ (k : CacheMap). IsNewest k c.args.at.now.rank.0 (leaf_of c.args.at.now)) (sym c.look.ensures.used) (newest_used c.self.inside.caches c.args.at.now.rank.0 (leaf_of c.args.at.now) (look-requires-clause-there g c))
+    ok_so _ (subst (λ (k : CacheMap). IsNewest k c.args.at.now.rank.0 (leaf_of c.args.at.now)) (sym c.look.ensures.used) (newest_used c.self.inside.caches c.args.at.now.rank.0 (leaf_of c.args.at.now) (subst (λ (k : Core). c.args.at.now.rank.0 < length k.caches.used) (sym c.self.view_is) (there_after (IsThat c.args.at.now.rank.0 (leaf_of c.args.at.now)) NoneEnds c.args.self.now c.fetch.new.self c.args.at.now.rank.0 c.fetch.ensures.reads c.requires.may.there))))
