@@ -31,7 +31,7 @@ ArrivesAt old new past now rank request (Err reason) = (reason ≡ InboxFull) ×
 
 -- fewer than two places are free, or can become so, at the authority of a leaf of a directory that the operation concerns
 abbrev pub LacksPlaces : Core → Op → Type 0
-LacksPlaces core op = (leaf : Leaf) × Concerns (shown core.state) op leaf.0.0 × (rank : Rank) × IsAuthority core.state leaf rank × LacksPlacesAt 2 core rank
+LacksPlaces core op = (leaf : Leaf) × Concerns (shown core.state) op leaf.0.0 × ((rank : Rank) × IsAuthority core.state leaf rank × LacksPlacesAt 2 core rank)
 
 -- why the tree refuses an operation in a step: want of memory, a store whose count of faults rose in it, places that lack, or a counter at its
 -- end

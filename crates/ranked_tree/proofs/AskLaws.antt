@@ -1,5 +1,5 @@
 -- Why a read is refused, in the words of all ranks, and of a call that ends with the read.
-use Rattle.std.specs.Prelude.{◌≡◌, ◌<◌, ℕ, true, length, List, None, Result, Ok, Err, IfErr, IfOk}
+use Rattle.std.specs.Prelude.{◌≡◌, ℕ, true, List, None, Result, Ok, Err, IfErr, IfOk}
 use Rattle.std.proofs.Common.{inl, inr, refl, sym, subst, ◌∙◌, arith}
 use Rattle.mds_types.specs.declared.ids.Ino.{Ino}
 use Rattle.mds_types.specs.declared.ids.Rank.{Rank}
@@ -23,7 +23,7 @@ use Rattle.mdcache.specs.Ready.{MayNotBeReady}
 use Rattle.mdcache.specs.Shown.{shown_tree}
 use Rattle.mdcache.specs.Sound.{IsSound}
 use Rattle.mdcache.specs.State.{State as TreeState}
-use Rattle.mdcache.proofs.FragsLaws.{lacked_asked, lacked_at, refused_later}
+use Rattle.mdcache.proofs.FragsLaws.{lacked_at, refused_later}
 use Rattle.subtree_map.specs.Authority.{Roots}
 use Rattle.ranked_tree.specs.Held.{AreHolders, LacksPlacesAsked, LacksPlacesDir, LacksPlacesFor, NamesDir, first_named, second_named}
 use Rattle.ranked_tree.specs.Ranked.{KeepsRanked, MayRefuse, Ranked}
@@ -75,9 +75,11 @@ ranked_later a b c op reason kept because =
     refused_later (LacksPlacesAsked 2 b.tree b.subtrees.roots (Concerns (shown_tree (state_of b.tree)) op)) (LacksPlacesAsked 2 a.tree a.subtrees.roots (Concerns (shown_tree (state_of a.tree)) op)) a.tree b.tree c.tree op reason so kept.tree because
   where
     so : LacksPlacesAsked 2 b.tree b.subtrees.roots (Concerns (shown_tree (state_of b.tree)) op) → LacksPlacesAsked 2 a.tree a.subtrees.roots (Concerns (shown_tree (state_of a.tree)) op)
-    so lacks =
-        lacked_asked 2 (λ (s : TreeState) (d : ℕ). Concerns (shown_tree s) op d) (λ (s : TreeState) (leaf : Leaf) (rank : Rank). Rules s a.subtrees.roots leaf rank) a.tree b.tree kept.tree
-        (subst (λ (r : Roots). LacksPlacesAsked 2 b.tree r (Concerns (shown_tree (state_of b.tree)) op)) kept.roots lacks)
+    so (leaf, concerns, lacks) = (
+      leaf,
+      subst (λ (s : TreeState). Concerns (shown_tree s) op leaf.0.0) kept.tree.state concerns,
+      lacks_still 2 a.tree b.tree a.subtrees.roots leaf kept.tree (subst (λ (r : Roots). LacksPlacesFor 2 b.tree r leaf) kept.roots lacks),
+    )
 
 -- ---- why a change isn't made ready
 
@@ -103,8 +105,8 @@ told_change X Lacks (Err reason) old roots at change after holders h = go h
     go (inl numbers) = inl numbers
     go (inr (none, inl memory)) = inr (none, inl memory)
     go (inr (none, inr (inl fault))) = inr (none, inr (inl fault))
-    go (inr (none, inr (inr (is, inl lacks)))) = inr (none, inr (inr (is, (first_named change, first_dir change, at.first, holders.first, lacks))))
-    go (inr (none, inr (inr (is, inr lacks)))) = inr (none, inr (inr (is, (second_named change, second_dir change, at.second, holders.second, lacks))))
+    go (inr (none, inr (inr (is, inl lacks)))) = inr (none, inr (inr (is, (first_named change, first_dir change, (at.first, holders.first, lacks)))))
+    go (inr (none, inr (inr (is, inr lacks)))) = inr (none, inr (inr (is, (second_named change, second_dir change, (at.second, holders.second, lacks)))))
 
 -- ---- what is still so
 

@@ -1,9 +1,8 @@
 -- What a change makes of the caches, in the words of directories and the ranks that hold their leaves.
 use Rattle.std.specs.Prelude.{◌≡◌, ◌||◌, ℕ, false, is_some, Option, Some, None, IfSome}
-use Rattle.std.proofs.Common.{sym, subst, ap, ◌∙◌}
+use Rattle.std.proofs.Common.{sym, subst, ◌∙◌}
 use Rattle.std.proofs.lemmas.Option.{same_Some}
 use Rattle.mds_types.specs.declared.ids.Ino.{Ino}
-use Rattle.mds_types.specs.Tree.{is_directory}
 use Rattle.sorted_map.proofs.NatKeys as nat
 use Rattle.inode_table.specs.Dirs.{Homes, MayGo, is_known}
 use Rattle.inode_table.specs.TreeTable.{with_home}

@@ -1,6 +1,6 @@
 -- What reads of a directory's leaves make of the caches, one after the other.
 use Rattle.std.specs.Prelude.{◌≡◌, ℕ, Option, None, false}
-use Rattle.std.proofs.Common.{◌⊎◌, inl, inr, refl, ap, subst, sym, ◌∙◌}
+use Rattle.std.proofs.Common.{inl, inr, ap, subst, sym, ◌∙◌}
 use Rattle.mds_types.specs.declared.ids.Rank.{Rank}
 use Rattle.mds_types.specs.declared.dentries.Dentry.{Dentry}
 use Rattle.mds_types.specs.declared.operations.Op.{Op}
@@ -95,7 +95,7 @@ change_concerns tree (Mkdir dentry mode mtime) (Move here source there target we
 change_concerns tree (Symlink dentry target mtime) (Add p leaf inode) of d is = is ∙ ap (λ (e : Dentry). e.dir.0) of.0
 change_concerns tree (Symlink dentry target mtime) (Set p leaf inode) of d is = absurd of
 change_concerns tree (Symlink dentry target mtime) (Remove p leaf went) of d is = absurd of
-change_concerns tree (Symlink dentry target mtime) (Move here source there target went) of d is = absurd of
+change_concerns tree (Symlink dentry text mtime) (Move here source there target went) of d is = absurd of
 change_concerns tree (Setattr dentry given) (Add p leaf inode) of d is = absurd of
 change_concerns tree (Setattr dentry given) (Set p leaf inode) of d is = is ∙ ap (λ (e : Dentry). e.dir.0) of
 change_concerns tree (Setattr dentry given) (Remove p leaf went) of d is = absurd of

@@ -66,11 +66,11 @@ impl<S: Store + Drop> Frags for RankedTree<S> {
     ghost follows_self = { λ a op. record { tree = keeps_itself a.tree; roots = refl; reads = stays } };
 
     ghost follows_on = { λ a b c op told p q. record {
-        tree = keeps_on a.tree b.tree c.tree told p.tree q.tree;
-        roots = q.roots ∙ p.roots;
-        reads = reads_then (AsksFor (state_of a.tree) a.subtrees.roots (Concerns (shown_tree (state_of a.tree)) op)) AnyPlace a.tree.objects a.tree.caches b.tree.caches c.tree.caches p.reads
-            (subst (λ (s : TreeState). Reads (AsksFor s a.subtrees.roots (Concerns (shown_tree s) op)) AnyPlace s.objects b.tree.caches c.tree.caches) p.tree.state
-            (subst (λ (r : Roots). ReadsFor r (Concerns (shown_tree (state_of b.tree)) op) b.tree c.tree) p.roots q.reads));
+      tree = keeps_on a.tree b.tree c.tree told p.tree q.tree;
+      roots = q.roots ∙ p.roots;
+      reads = reads_then (AsksFor (state_of a.tree) a.subtrees.roots (Concerns (shown_tree (state_of a.tree)) op)) AnyPlace a.tree.objects a.tree.caches b.tree.caches c.tree.caches p.reads
+          (subst (λ (s : TreeState). Reads (AsksFor s a.subtrees.roots (Concerns (shown_tree s) op)) AnyPlace s.objects b.tree.caches c.tree.caches) p.tree.state
+          (subst (λ (r : Roots). ReadsFor r (Concerns (shown_tree (state_of b.tree)) op) b.tree c.tree) p.roots q.reads));
     } };
 
     ghost follows_memory = { λ a b op p. record { tree = keeps_refused a.tree b.tree NoMemory refl p.tree; roots = p.roots; reads = p.reads } };
@@ -87,8 +87,10 @@ impl<S: Store + Drop> Frags for RankedTree<S> {
         (LacksPlacesAsked 2 b.tree b.subtrees.roots (Concerns (shown_tree (state_of b.tree)) op))
         (LacksPlacesAsked 2 a.tree a.subtrees.roots (Concerns (shown_tree (state_of a.tree)) op))
         a.tree b.tree c.tree op reason
-        (λ lacks. lacked_asked 2 (λ (s : TreeState) (d : ℕ). Concerns (shown_tree s) op d) (λ (s : TreeState) (leaf : Leaf) (rank : RankNumber). Rules s a.subtrees.roots leaf rank) a.tree b.tree kept.tree
-            (subst (λ (r : Roots). LacksPlacesAsked 2 b.tree r (Concerns (shown_tree (state_of b.tree)) op)) kept.roots lacks))
+        (λ lacks.
+        let now = subst (λ (r : Roots). LacksPlacesAsked 2 b.tree r (Concerns (shown_tree (state_of b.tree)) op)) kept.roots lacks in
+        let before = lacked_asked 2 (λ (s : TreeState) (d : ℕ). Concerns (shown_tree s) op d) (λ (s : TreeState) (leaf : Leaf) (rank : RankNumber). Rules s a.subtrees.roots leaf rank) a.tree b.tree kept.tree (now.0, now.1, now.2.0, now.2.1, now.2.2) in
+        (before.0, before.1, (before.2, before.3, before.4)))
         kept.tree because };
 
     ghost refused_for = { λ a b op reason because. refused_so (LacksPlacesAsked 2 a.tree a.subtrees.roots (Concerns (shown_tree (state_of a.tree)) op)) a.tree b.tree op reason because };

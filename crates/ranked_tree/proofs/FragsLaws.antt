@@ -1,0 +1,131 @@
+-- What calls for an operation keep, and why they are refused, in the words of the operation.
+use Rattle.std.specs.Prelude.{◌≡◌, ℕ, true, false, Option, None, Result, Ok, Err, IfErr}
+use Rattle.std.proofs.Common.{inl, inr, refl, sym, ap, subst, ◌∙◌}
+use Rattle.std.specs.Result.{result_err}
+use Rattle.mds_types.specs.declared.ids.Ino.{Ino}
+use Rattle.mds_types.specs.declared.operations.Op.{Op}
+use Rattle.mds_types.specs.declared.operations.Op.TheVariants.{Lookup, Readdir, Create, Mkdir, Readlink, Symlink, Setattr, Unlink, Rmdir, Rename}
+use Rattle.mds_types.specs.declared.refusals.Refusal.{Refusal}
+use Rattle.mds_types.specs.declared.refusals.Refusal.TheVariants.{NoMemory}
+use Rattle.mds_types.specs.Tree.{is_dir_kind}
+use Rattle.objstore.specs.Objects.{faults_in}
+use Rattle.namespace_ops.specs.Changes.{Concerns, IsChangeOf}
+use Rattle.namespace_ops.specs.Kept.{KeepsAll}
+use Rattle.namespace_ops.specs.declared.plans.Change.{Change}
+use Rattle.namespace_ops.specs.declared.plans.Change.TheVariants.{Add, Set, Remove, Move}
+use Rattle.subtree_map.specs.Authority.{Leaf}
+use Rattle.subtree_map.specs.Changes.{Subtrees}
+use Rattle.mdcache.specs.Core.{Core, state_of}
+use Rattle.mdcache.specs.Frags.{KeepsState, LacksFor, LacksToMake}
+use Rattle.mdcache.specs.Reads.{MayNotFind}
+use Rattle.mdcache.specs.Ready.{MayNotBeReady}
+use Rattle.mdcache.specs.Shown.{shown_tree}
+use Rattle.mdcache.specs.State.{State as TreeState}
+use Rattle.mdcache.proofs.FragsLaws.{keeps_refused}
+use Rattle.ranked_tree.specs.Held.{LacksPlacesAsked, LacksPlacesDir, LacksPlacesFor, NamesDir, ReadsFor}
+use Rattle.ranked_tree.specs.Ranked.{KeepsRanked, MayRefuse, Ranked}
+use Rattle.ranked_tree.proofs.AskLaws.{asked_dir, asked_for}
+use Rattle.ranked_tree.proofs.ReadsForLaws.{change_concerns, reads_less}
+
+-- a tree with its subtrees, seen so
+abbrev pub over : Core → Subtrees → Ranked
+over tree subtrees = record { tree = tree; subtrees = subtrees }
+
+module _ (tree new : Core) (subtrees : Subtrees) (now : Ranked) (is : over tree subtrees ≡ now) (op : Op) where
+  -- reads of directories that the operation concerns
+  pub keeps_all : (Asked : ℕ → Type 0) (told : Option Refusal) → ((d : ℕ) → Asked d → Concerns (shown_tree (state_of now.tree)) op d) → KeepsState tree new told → ReadsFor subtrees.roots Asked tree new
+      → KeepsAll (shown_tree (state_of now.tree)) (shown_tree (state_of new)) now.tree.covers new.covers (KeepsRanked now (over new subtrees) op told)
+  keeps_all Asked told more kept reads = subst (λ (n : Ranked). KeepsAll (shown_tree (state_of n.tree)) (shown_tree (state_of new)) n.tree.covers new.covers (KeepsRanked n (over new subtrees) op told)) is (record {
+    tree = ap (λ (s : TreeState). shown_tree s) kept.state;
+    leaves = ap (λ (s : TreeState). s.covers) kept.state;
+    follows = record {
+      tree = kept;
+      roots = refl;
+      reads = reads_less subtrees.roots Asked (Concerns (shown_tree (state_of tree)) op) tree new (λ d asked. subst (λ (n : Ranked). Concerns (shown_tree (state_of n.tree)) op d) (sym is) (more d asked)) reads;
+    };
+  })
+
+  -- so of one directory
+  pub keeps_dir : (dir : Ino) (told : Option Refusal) → Concerns (shown_tree (state_of now.tree)) op dir.0 → KeepsState tree new told → ReadsFor subtrees.roots (λ (d : ℕ). d ≡ dir.0) tree new
+      → KeepsAll (shown_tree (state_of now.tree)) (shown_tree (state_of new)) now.tree.covers new.covers (KeepsRanked now (over new subtrees) op told)
+  keeps_dir dir told concerns kept reads = keeps_all (λ (d : ℕ). d ≡ dir.0) told (λ d same. subst (λ (x : ℕ). Concerns (shown_tree (state_of now.tree)) op x) (sym same) concerns) kept reads
+
+  -- a look at one of their leaves was refused
+  pub look_refused : {X : Type 0} (result : Result X Refusal) (leaf : Leaf) → Concerns (shown_tree (state_of now.tree)) op leaf.0.0 → IfErr result (MayNotFind (LacksPlacesFor 1 tree subtrees.roots leaf) tree.faults new.faults) → IfErr result (MayRefuse now (over new subtrees) op)
+  look_refused (Ok x) leaf concerns h = tt
+  look_refused (Err reason) leaf concerns h =
+      subst (λ (n : Ranked). MayRefuse n (over new subtrees) op reason) is
+      (asked_for (over tree subtrees) (over new subtrees) op reason leaf (subst (λ (n : Ranked). Concerns (shown_tree (state_of n.tree)) op leaf.0.0) (sym is) concerns) h)
+
+  -- or at all leaves of one
+  pub walk_refused : {X : Type 0} (result : Result X Refusal) (dir : Ino) → Concerns (shown_tree (state_of now.tree)) op dir.0 → IfErr result (MayNotFind (LacksPlacesDir 1 tree subtrees.roots dir) tree.faults new.faults) → IfErr result (MayRefuse now (over new subtrees) op)
+  walk_refused (Ok x) dir concerns h = tt
+  walk_refused (Err reason) dir concerns h =
+      subst (λ (n : Ranked). MayRefuse n (over new subtrees) op reason) is
+      (asked_dir (over tree subtrees) (over new subtrees) op reason dir (subst (λ (n : Ranked). Concerns (shown_tree (state_of n.tree)) op dir.0) (sym is) concerns) h)
+
+-- the numbers that lack for a change lack for its operation
+numbers_lack : (s : TreeState) (op : Op) (change : Change) → IsChangeOf op change → LacksToMake change s → LacksFor op s
+numbers_lack s (Lookup dentry) change of lacks = absurd of
+numbers_lack s (Readdir dir after max) change of lacks = absurd of
+numbers_lack s (Readlink dentry) change of lacks = absurd of
+numbers_lack s (Create dentry mode mtime) (Add p leaf inode) of (inl lacks) = lacks
+numbers_lack s (Create dentry mode mtime) (Add p leaf inode) of (inr (kinded, lacks)) = let clash : true ≡ false = sym kinded ∙ ap is_dir_kind of.1 in absurd cc
+numbers_lack s (Create dentry mode mtime) (Set p leaf inode) of lacks = absurd of
+numbers_lack s (Create dentry mode mtime) (Remove p leaf went) of lacks = absurd of
+numbers_lack s (Create dentry mode mtime) (Move here source there target went) of lacks = absurd of
+numbers_lack s (Mkdir dentry mode mtime) (Add p leaf inode) of (inl lacks) = inl lacks
+numbers_lack s (Mkdir dentry mode mtime) (Add p leaf inode) of (inr (kinded, lacks)) = inr lacks
+numbers_lack s (Mkdir dentry mode mtime) (Set p leaf inode) of lacks = absurd of
+numbers_lack s (Mkdir dentry mode mtime) (Remove p leaf went) of lacks = absurd of
+numbers_lack s (Mkdir dentry mode mtime) (Move here source there target went) of lacks = absurd of
+numbers_lack s (Symlink dentry text mtime) (Add p leaf inode) of (inl lacks) = lacks
+numbers_lack s (Symlink dentry text mtime) (Add p leaf inode) of (inr (kinded, lacks)) = let clash : true ≡ false = sym kinded ∙ ap is_dir_kind of.1 in absurd cc
+numbers_lack s (Symlink dentry text mtime) (Set p leaf inode) of lacks = absurd of
+numbers_lack s (Symlink dentry text mtime) (Remove p leaf went) of lacks = absurd of
+numbers_lack s (Symlink dentry text mtime) (Move here source there target went) of lacks = absurd of
+numbers_lack s (Setattr dentry given) (Add p leaf inode) of lacks = absurd of
+numbers_lack s (Setattr dentry given) (Set p leaf inode) of lacks = lacks
+numbers_lack s (Setattr dentry given) (Remove p leaf went) of lacks = absurd of
+numbers_lack s (Setattr dentry given) (Move here source there target went) of lacks = absurd of
+numbers_lack s (Unlink dentry) (Add p leaf inode) of lacks = absurd of
+numbers_lack s (Unlink dentry) (Set p leaf inode) of lacks = absurd of
+numbers_lack s (Unlink dentry) (Remove p leaf went) of lacks = lacks
+numbers_lack s (Unlink dentry) (Move here source there target went) of lacks = absurd of
+numbers_lack s (Rmdir dentry) (Add p leaf inode) of lacks = absurd of
+numbers_lack s (Rmdir dentry) (Set p leaf inode) of lacks = absurd of
+numbers_lack s (Rmdir dentry) (Remove p leaf went) of lacks = lacks
+numbers_lack s (Rmdir dentry) (Move here source there target went) of lacks = absurd of
+numbers_lack s (Rename from to) (Add p leaf inode) of lacks = absurd of
+numbers_lack s (Rename from to) (Set p leaf inode) of lacks = absurd of
+numbers_lack s (Rename from to) (Remove p leaf went) of lacks = absurd of
+numbers_lack s (Rename from to) (Move here source there target went) of lacks = lacks
+
+-- ---- a change is made ready
+
+module _ (tree new : Core) (subtrees : Subtrees) (now : Ranked) (is : over tree subtrees ≡ now) (op : Op) (change : Change) (of : IsChangeOf op change) where
+  -- it reads what the change names
+  pub keeps_named : (told : Option Refusal) → KeepsState tree new told → ReadsFor subtrees.roots (NamesDir change) tree new
+      → KeepsAll (shown_tree (state_of now.tree)) (shown_tree (state_of new)) now.tree.covers new.covers (KeepsRanked now (over new subtrees) op told)
+  keeps_named told kept reads = keeps_all tree new subtrees now is op (NamesDir change) told (λ d named. change_concerns (shown_tree (state_of now.tree)) op change of d named) kept reads
+
+  -- and why it may not be
+  pub ready_refused : (reason : Refusal) → MayNotBeReady (LacksToMake change (state_of tree)) (LacksPlacesAsked 2 tree subtrees.roots (NamesDir change)) tree.faults new.faults reason → MayRefuse now (over new subtrees) op reason
+  ready_refused reason h = subst (λ (n : Ranked). MayRefuse n (over new subtrees) op reason) is (go h)
+    where
+      go : MayNotBeReady (LacksToMake change (state_of tree)) (LacksPlacesAsked 2 tree subtrees.roots (NamesDir change)) tree.faults new.faults reason → MayRefuse (over tree subtrees) (over new subtrees) op reason
+      go (inl (told, numbers)) = inr (inr (inr (told, numbers_lack (state_of tree) op change of numbers)))
+      go (inr (none, inl memory)) = inl memory
+      go (inr (none, inr (inl fault))) = inr (inl fault)
+      go (inr (none, inr (inr (told, (leaf, named, lacks))))) = inr (inr (inl (told, (leaf, change_concerns (shown_tree (state_of tree)) op change of leaf.0.0 named, lacks))))
+
+-- roots that were made ready with it, or for want of memory were not, are the same
+pub reserved_keeps : (now : Ranked) (new : Core) (subtrees after : Subtrees) (op : Op) (result : Result (Unit {0}) Refusal) → after.roots ≡ subtrees.roots → IfErr result (λ reason. reason ≡ NoMemory)
+    → KeepsAll (shown_tree (state_of now.tree)) (shown_tree (state_of new)) now.tree.covers new.covers (KeepsRanked now (over new subtrees) op None)
+    → KeepsAll (shown_tree (state_of now.tree)) (shown_tree (state_of new)) now.tree.covers new.covers (KeepsRanked now (over new after) op (result_err result))
+reserved_keeps now new subtrees after op (Ok done) same err kept = record { tree = kept.tree; leaves = kept.leaves; follows = record { tree = kept.follows.tree; roots = same ∙ kept.follows.roots; reads = kept.follows.reads } }
+reserved_keeps now new subtrees after op (Err reason) same err kept = record {
+  tree = kept.tree;
+  leaves = kept.leaves;
+  follows = record { tree = keeps_refused now.tree new reason (ap faults_in err) kept.follows.tree; roots = same ∙ kept.follows.roots; reads = kept.follows.reads };
+}
