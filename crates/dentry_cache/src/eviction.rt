@@ -35,8 +35,8 @@ impl Cache {
         ensures lacks { result ≡ false → self.now.cap + length (filter (may_go stay) self.now.entries) < length self.now.entries + count }
     {
         let mut found = self.capacity() - self.len();
-        let mut places = self.places.iter();
-        while let Some((leaf, place)) = places.next_back() {
+        let mut rest = self.places.iter();
+        while let Some((leaf, place)) = rest.next_back() {
             if found >= count {
                 return true;
             }

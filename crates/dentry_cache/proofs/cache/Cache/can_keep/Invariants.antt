@@ -5,8 +5,8 @@ use Rattle.dentry_cache.proofs.cache.Cache.can_keep.Given as goal
 
 abbrev pub invariant-loop-leaf : goal.invariant-loop-leaf
 invariant-loop-leaf l =
-    (walked : Places) × (l.self.entries ≡ l.places ++ walked)
+    (walked : Places) × (l.self.entries ≡ l.rest ++ walked)
     × (l.found + length l.self.entries ≡ l.self.cap + length (filter (may_go l.stay) walked))
 
 abbrev pub decreases-loop-leaf : goal.decreases-loop-leaf
-decreases-loop-leaf l = length l.places
+decreases-loop-leaf l = length l.rest
