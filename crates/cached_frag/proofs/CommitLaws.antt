@@ -22,9 +22,9 @@ use Rattle.cached_frag.specs.declared.bases.Base.TheVariants.{Fresh, Stored}
 use Rattle.cached_frag.specs.declared.bases.EntryCounts.{EntryCounts}
 use Rattle.cached_frag.specs.declared.marks.Mark.{Mark}
 use Rattle.cached_frag.specs.Commit.{CommitIsRight, IsOver, gone_of, header_after, set_of, write_of}
-use Rattle.cached_frag.specs.Marks.{AreDirtyNames, Marks, patched}
+use Rattle.cached_frag.specs.Marks.{AreDirtyNames, Marks, inode_or, patched}
 use Rattle.cached_frag.specs.Snap.{IsSnap, Snap, counts_of, next_version}
-use Rattle.cached_frag.proofs.MarkLaws.{get-patched, inode_or}
+use Rattle.cached_frag.proofs.MarkLaws.{get-patched}
 use Rattle.cached_frag.proofs.WriteLaws.{IsEntryKey, bytes_or, get-gone_of, get-set_of, gone_or, key_or, no_pairs, record_or, set_keys}
 
 -- what the pairs have at a name's key after a commit

@@ -8,9 +8,9 @@ use Rattle.dirfrag_codec.specs.FragmentObject.{Names}
 use Rattle.cached_frag.specs.declared.bases.Base.TheVariants.{Fresh, Stored}
 use Rattle.cached_frag.specs.declared.bases.EntryCounts.{EntryCounts}
 use Rattle.cached_frag.specs.declared.marks.Mark.{Mark}
-use Rattle.cached_frag.specs.Marks.{AreDirtyNames, IsDirtyName, Marks, with_mark}
+use Rattle.cached_frag.specs.Marks.{AreDirtyNames, IsDirtyName, Marks, inode_or, with_mark}
 use Rattle.cached_frag.specs.Snap.{counts_of}
-use Rattle.cached_frag.proofs.MarkLaws.{inode_or, none_dirty, one_dirty}
+use Rattle.cached_frag.proofs.MarkLaws.{none_dirty, one_dirty}
 use Rattle.cached_frag.specs.Cached.{AreEntries, Cached, IsBased, marked, shown, shown_over}
 use Rattle.cached_frag.specs.Counted.{counted, counted_or}
 use Rattle.cached_frag.specs.Kept.{IsKept}

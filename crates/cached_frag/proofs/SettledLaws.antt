@@ -13,8 +13,8 @@ use Rattle.dirfrag_codec.specs.EntryRecord.{HasRecord}
 use Rattle.dirfrag_codec.specs.FragmentObject.{Names}
 use Rattle.dirfrag_codec.proofs.ByteKeys.{get_left, get_removed, key_apart, key_same, not_found, one_map, same_or_apart}
 use Rattle.cached_frag.specs.declared.marks.Mark.{Mark}
-use Rattle.cached_frag.specs.Marks.{AreDirtyNames, IsDirtyName, Marks, patched, with_mark}
-use Rattle.cached_frag.proofs.MarkLaws.{get-patched, inode_or, marked_beside, marked_here}
+use Rattle.cached_frag.specs.Marks.{AreDirtyNames, IsDirtyName, Marks, inode_or, patched, with_mark}
+use Rattle.cached_frag.proofs.MarkLaws.{get-patched, marked_beside, marked_here}
 use Rattle.cached_frag.specs.Cached.{AreEntries, IsEntry, is_settled, unsettled}
 use Rattle.cached_frag.specs.Settling.{IsTaken, is_at, settled_in, settled_one}
 

@@ -11,8 +11,8 @@ use Rattle.dirfrag_codec.proofs.ByteKeys.{get_beside, get_put, one_map, same_or_
 use Rattle.cached_frag.specs.declared.bases.Base.{Base}
 use Rattle.cached_frag.specs.declared.bases.Base.TheVariants.{Fresh, Stored}
 use Rattle.cached_frag.specs.declared.marks.Mark.{Mark}
-use Rattle.cached_frag.specs.Marks.{AreDirtyNames, Marks, patched, with_mark}
-use Rattle.cached_frag.proofs.MarkLaws.{get-patched, inode_or, marked_beside, marked_here}
+use Rattle.cached_frag.specs.Marks.{AreDirtyNames, Marks, inode_or, patched, with_mark}
+use Rattle.cached_frag.proofs.MarkLaws.{get-patched, marked_beside, marked_here}
 use Rattle.cached_frag.specs.Cached.{AreEntries, Cached, IsBased, IsEntry, marked, names_below, shown, shown_over}
 
 -- the names that were fetched are those of the base

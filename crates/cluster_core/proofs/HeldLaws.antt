@@ -7,7 +7,7 @@ use Rattle.mds_types.specs.declared.ids.Rank.{Rank}
 use Rattle.mds_types.specs.declared.operations.Op.{Op}
 use Rattle.mds_types.specs.declared.requests.Request.{Request}
 use Rattle.mds_types.specs.declared.refusals.Refusal.{Refusal}
-use Rattle.mds_types.specs.declared.refusals.Refusal.TheVariants.{NotAuthority}
+use Rattle.mds_types.specs.declared.refusals.Refusal.TheVariants.{NoMemory, NotAuthority}
 use Rattle.inboxes.specs.declared.pins.Pin.{Pin}
 use Rattle.inboxes.specs.Inboxes.{Inboxes, first_waiting}
 use Rattle.inode_table.specs.Numbers.{Supply}
@@ -17,7 +17,7 @@ use Rattle.subtree_map.specs.Authority.{Leaf, Roots}
 use Rattle.mdcache.specs.Shown.{shown_tree}
 use Rattle.mdcache.specs.State.{State as TreeState}
 use Rattle.cluster_core.specs.declared.events.Answer.TheVariants.{Nothing}
-use Rattle.cluster_core.specs.Grants.{AreHeldAmong, GrantsFirst, GrantsWaiting, IsGranted, with_grants}
+use Rattle.cluster_core.specs.Grants.{AreHeldAmong, FindsNone, GrantsFirst, GrantsWaiting, IsGranted, with_grants}
 use Rattle.cluster_core.specs.State.{State, state_of}
 use Rattle.ranked_tree.specs.Subtrees.{Rules}
 use Rattle.cluster_core.proofs.MasterLaws.{held_exactly, not_in_none}
@@ -76,3 +76,19 @@ module _ (tree now : TreeState) (roots still : Roots) (numbers : List Supply) (i
     same = refl;
     left = λ i. record { tree = same i; roots = rooted i; numbers = numbers; inboxes = inboxes; pins = pinned i; sessions = sessions };
   })
+
+-- none was found that the rank holds: there is none, or memory lacked
+module _ (tree now : TreeState) (roots still : Roots) (numbers : List Supply) (inboxes : Inboxes) (pins after : List Pin) (sessions : Table) (past : List Entry) (MayRefuse : Op → Refusal → Type 0) (rank : Rank) (client tid : ℕ)
+    (request : Request) (waits : Some request ≡ first_waiting client tid inboxes) (changed : List Leaf) (names : NamesOnce (changed_fragments tree.covers (shown_tree tree) request.op) changed) (same : now ≡ tree) (rooted : still ≡ roots) (left : after ≡ pins) where
+  abbrev Refused : Refusal → Type 0
+  Refused reason = GrantsWaiting (state_of tree roots numbers inboxes pins sessions) (state_of now still numbers inboxes after sessions) past past MayRefuse rank client tid (Err reason)
+
+  pub memory_lacked : Refused NoMemory
+  memory_lacked = subst (GrantsFirst (state_of tree roots numbers inboxes pins sessions) (state_of now still numbers inboxes after sessions) past past MayRefuse rank client tid (Err NoMemory)) waits (
+    inr (inl refl),
+    record { same = refl; left = λ i. record { tree = same i; roots = rooted i; numbers = numbers; inboxes = inboxes; pins = left i; sessions = sessions } },
+  )
+
+  pub none_found : (reason : Refusal) → FindsNone now still rank changed reason → Refused reason
+  none_found reason (inl (is, held)) = subst Refused (sym is) (none_granted tree now roots still numbers inboxes pins after sessions past MayRefuse rank client tid request waits changed [] names held same rooted refl left)
+  none_found reason (inr (is, one)) = subst Refused (sym is) memory_lacked

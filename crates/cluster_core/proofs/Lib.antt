@@ -4,6 +4,7 @@ pub mod Carried
 pub mod Counted
 pub mod FragmentLaws
 pub mod HeldLaws
+pub mod JobObjects
 pub mod MadeReady
 pub mod MasterLaws
 pub mod NewBook
@@ -15,3 +16,4 @@ pub mod Stays
 pub mod Stepped
 pub mod Supplies
 pub mod Worked
+pub mod UsesLaws

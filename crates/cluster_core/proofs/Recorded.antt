@@ -44,7 +44,7 @@ adds_at_serve : (old new : Core) (past now : List Entry) (result : Result Answer
 adds_at_serve old new past now result (Arrive rank request) h = at_rank old.state new.state past now (nat_lt rank.0 (length old.state.inboxes)) result (state_stays old new) (λ w. arrived old.state new.state past now rank request result w.0) h
 adds_at_serve old new past now result (Serve rank) h = tt
 adds_at_serve old new past now result (Grant rank client tid) h =
-    at_rank old.state new.state past now (nat_lt rank.0 (length old.state.inboxes)) result (state_stays old new) (granted old.state new.state past now (MayRefuse old new) rank client tid result (first_waiting client tid old.state.inboxes)) h
+    at_rank old.state new.state past now (nat_lt rank.0 (length old.state.inboxes)) result (state_stays old new) (λ w. granted old.state new.state past now (MayRefuse old new) rank client tid result (first_waiting client tid old.state.inboxes) w.0) h
 adds_at_serve old new past now result (Split rank dir f nb) h =
     at_rank old.state new.state past now (nat_lt rank.0 (length old.state.inboxes)) result (state_stays old new) (λ w. administered old.state new.state past now nothing (SplitsLeaf old new rank dir f nb) result w.0) h
 adds_at_serve old new past now result (Merge rank dir f) h =

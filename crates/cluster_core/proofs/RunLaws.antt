@@ -138,9 +138,9 @@ state_stays old new same = ap (λ (c : Core). c.state) same
 pub step_of : (old new : Core) (past now : List Entry) (result : Result Answer Refusal) (event : Event) → Does old new past now result event → IsStepOf past now result
 step_of old new past now result (Arrive rank request) h = at_rank old.state new.state past now (nat_lt rank.0 (length old.state.inboxes)) result (state_stays old new) (λ w. arrived old.state new.state past now rank request result w.0) h
 step_of old new past now result (Serve rank) h =
-    at_rank old.state new.state past now (nat_lt rank.0 (length old.state.inboxes)) result (state_stays old new) (served_inbox old.state new.state past now (MayRefuse old new) rank result (waiting_at old.state.inboxes rank)) h
+    at_rank old.state new.state past now (nat_lt rank.0 (length old.state.inboxes)) result (state_stays old new) (λ w. served_inbox old.state new.state past now (MayRefuse old new) rank result (waiting_at old.state.inboxes rank) w.0) h
 step_of old new past now result (Grant rank client tid) h =
-    at_rank old.state new.state past now (nat_lt rank.0 (length old.state.inboxes)) result (state_stays old new) (granted old.state new.state past now (MayRefuse old new) rank client tid result (first_waiting client tid old.state.inboxes)) h
+    at_rank old.state new.state past now (nat_lt rank.0 (length old.state.inboxes)) result (state_stays old new) (λ w. granted old.state new.state past now (MayRefuse old new) rank client tid result (first_waiting client tid old.state.inboxes) w.0) h
 step_of old new past now result (Split rank dir f nb) h = at_rank old.state new.state past now (nat_lt rank.0 (length old.state.inboxes)) result (state_stays old new) (λ w. done old.state new.state past now (SplitsLeaf old new rank dir f nb) result w.0) h
 step_of old new past now result (Merge rank dir f) h = at_rank old.state new.state past now (nat_lt rank.0 (length old.state.inboxes)) result (state_stays old new) (λ w. done old.state new.state past now (MergesLeaves old new rank dir f) result w.0) h
 step_of old new past now result (CommitBegin rank dir f) h =

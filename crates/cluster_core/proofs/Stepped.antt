@@ -96,8 +96,8 @@ module _ (opening : Tree) (past now : List Entry) (old new : Core) (sound : IsSo
   -- every step keeps a book sound
   pub sound-step : (result : Result Answer Refusal) (event : Event) → Does old new past now result event → IsSound opening now new
   sound-step result (Arrive rank request) h = at_rank (nat_lt rank.0 (length old.state.inboxes)) result (λ here w. arrived rank request result w.0) h
-  sound-step result (Serve rank) h = at_rank (nat_lt rank.0 (length old.state.inboxes)) result (λ here. served_inbox (MayRefuse old new) rank (there_of old sound.ranks rank here) result (waiting_at old.state.inboxes rank)) h
-  sound-step result (Grant rank client tid) h = at_rank (nat_lt rank.0 (length old.state.inboxes)) result (λ here. granted (MayRefuse old new) rank client tid result (first_waiting client tid old.state.inboxes)) h
+  sound-step result (Serve rank) h = at_rank (nat_lt rank.0 (length old.state.inboxes)) result (λ here w. served_inbox (MayRefuse old new) rank (there_of old sound.ranks rank here) result (waiting_at old.state.inboxes rank) w.0) h
+  sound-step result (Grant rank client tid) h = at_rank (nat_lt rank.0 (length old.state.inboxes)) result (λ here w. granted (MayRefuse old new) rank client tid result (first_waiting client tid old.state.inboxes) w.0) h
   sound-step result (Split rank dir f nb) h = at_rank (nat_lt rank.0 (length old.state.inboxes)) result (λ here w. administered nothing (SplitsLeaf old new rank dir f nb) result w.0) h
   sound-step result (Merge rank dir f) h = at_rank (nat_lt rank.0 (length old.state.inboxes)) result (λ here w. administered nothing (MergesLeaves old new rank dir f) result w.0) h
   sound-step result (CommitBegin rank dir f) h = at_rank (nat_lt rank.0 (length old.state.inboxes)) result (λ here done. administered told_job (BeginsAt old.state new.state rank (dir, f)) result done.0.0) h

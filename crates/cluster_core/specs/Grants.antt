@@ -63,3 +63,11 @@ abbrev pub AreHeldAmong : TreeState → Roots → Rank → (leaves held : List L
 AreHeldAmong tree roots rank [] held = held ≡ []
 AreHeldAmong tree roots rank (leaf ∷ leaves) held =
     (Rules tree roots leaf rank × ((rest : List Leaf) × (held ≡ leaf ∷ rest) × AreHeldAmong tree roots rank leaves rest)) ⊎ ((Rules tree roots leaf rank → ⊥) × AreHeldAmong tree roots rank leaves held)
+
+-- a rank is the authority of one of these leaves
+abbrev pub HoldsOne : TreeState → Roots → Rank → List Leaf → Type 0
+HoldsOne tree roots rank leaves = (leaf : Leaf) × Contains leaves leaf × Rules tree roots leaf rank
+
+-- why none of some leaves are found that it is the authority of: it is of none, or for want of memory, where it is of one
+abbrev pub FindsNone : TreeState → Roots → Rank → List Leaf → Refusal → Type 0
+FindsNone tree roots rank leaves reason = ((reason ≡ NotAuthority) × AreHeldAmong tree roots rank leaves []) ⊎ ((reason ≡ NoMemory) × HoldsOne tree roots rank leaves)

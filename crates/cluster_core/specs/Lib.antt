@@ -3,6 +3,7 @@ pub use Rattle.mds_types.specs.Step
 pub use Rattle.mds_types.specs.History
 pub use Rattle.inode_table.specs.Numbers
 pub mod Administers
+pub mod Commits
 pub mod Fragments
 pub mod Grants
 pub mod Master
@@ -13,3 +14,4 @@ pub mod Serve
 pub mod Sound
 pub mod State
 pub mod Steps
+pub mod Uses

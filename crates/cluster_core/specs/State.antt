@@ -49,10 +49,6 @@ shown state = shown_tree state.tree
 abbrev pub LacksPlacesAt : ℕ → Core → Rank → Type 0
 LacksPlacesAt count core rank = core.caches.cap < map.len (unclean_of core.caches rank.0) + count
 
--- so it is with one of the ranks
-abbrev pub LacksPlaces : ℕ → Core → Type 0
-LacksPlaces count core = (rank : Rank) × (rank.0 < length core.caches.used) × LacksPlacesAt count core rank
-
 -- a supply that has nothing left, of a rank that isn't there
 abbrev pub no_supply : Supply
 no_supply = record { rank = 0; next = 2 * 2 ^ 40 }

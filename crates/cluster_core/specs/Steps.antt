@@ -1,5 +1,5 @@
 -- What each event does to a cluster and its history.
-use Rattle.std.specs.Prelude.{◌≡◌, ◌⊎◌, ◌+◌, nat_lt, MatchBool, ◌<◌, List, length, Result, Ok, Err}
+use Rattle.std.specs.Prelude.{◌≡◌, ◌⊎◌, ◌+◌, ℕ, nat_lt, MatchBool, ◌<◌, List, length, Result, Ok, Err}
 use Rattle.std.specs.Result.{result_err}
 use Rattle.objstore.specs.Objects.{faults_told}
 use Rattle.mds_types.specs.declared.ids.Rank.{Rank}
@@ -8,16 +8,20 @@ use Rattle.mds_types.specs.declared.operations.Op.{Op}
 use Rattle.mds_types.specs.declared.requests.Request.{Request}
 use Rattle.mds_types.specs.declared.refusals.Refusal.{Refusal}
 use Rattle.mds_types.specs.declared.refusals.Refusal.TheVariants.{NoInodes, NoMemory, NotAuthority, NothingToEvict, InboxFull, StoreFault}
+use Rattle.namespace_ops.specs.Changes.{Concerns}
+use Rattle.subtree_map.specs.Authority.{Leaf}
 use Rattle.mdcache.specs.Frags.{LacksFor}
 use Rattle.cluster_core.specs.declared.events.Answer.{Answer}
 use Rattle.cluster_core.specs.declared.events.Answer.TheVariants.{Nothing}
 use Rattle.cluster_core.specs.declared.events.Event.{Event}
 use Rattle.cluster_core.specs.declared.events.Event.TheVariants.{Arrive, Grant, Serve, Split, Merge, CommitBegin, CommitEnd, CommitDrop, CommitTree, Purge, Evict}
 use Rattle.cluster_core.specs.Administers.{AsksNone, BeginsCommit, CommitsTree, DropsCommit, EndsCommit, EvictsFragment, Merges, PurgesObject, Splits}
-use Rattle.inboxes.specs.Inboxes.{waiting_at, with_last}
+use Rattle.inboxes.specs.Inboxes.{first_waiting, waiting_at, with_last}
 use Rattle.cluster_core.specs.Grants.{GrantsWaiting}
-use Rattle.cluster_core.specs.State.{Core, LacksPlaces, State}
+use Rattle.cluster_core.specs.Master.{IsAuthority}
+use Rattle.cluster_core.specs.State.{Core, LacksPlacesAt, State, shown}
 use Rattle.cluster_core.specs.Serve.{IsLeft, ServesInbox}
+use Rattle.cluster_core.specs.Uses.{UsesFront, UsesWaiting}
 use Rattle.ranked_tree.specs.Subtrees.{KeepsAuthorities}
 
 -- an arriving request goes to the back of the rank's inbox; refused InboxFull exactly where 1024 requests wait there
@@ -25,15 +29,27 @@ abbrev pub ArrivesAt : (old new : State) → (past now : List Entry) → Rank �
 ArrivesAt old new past now rank request (Ok answer) = (answer ≡ Nothing) × (length (waiting_at old.inboxes rank) < 1024) × (new ≡ record old { inboxes = with_last old.inboxes rank request }) × (now ≡ past)
 ArrivesAt old new past now rank request (Err reason) = (reason ≡ InboxFull) × (length (waiting_at old.inboxes rank) ≡ 1024) × IsLeft old new past now
 
--- why the tree refuses an operation in a step: want of memory, a store whose count of faults rose in it, fewer than four places of a
--- rank's cache that are free or can become so, or a counter at its end
+-- fewer than two places are free, or can become so, at the authority of a leaf of a directory that the operation concerns
+abbrev pub LacksPlaces : Core → Op → Type 0
+LacksPlaces core op = (leaf : Leaf) × Concerns (shown core.state) op leaf.0.0 × (rank : Rank) × IsAuthority core.state leaf rank × LacksPlacesAt 2 core rank
+
+-- why the tree refuses an operation in a step: want of memory, a store whose count of faults rose in it, places that lack, or a counter at its
+-- end
 abbrev pub MayRefuse : (old new : Core) → Op → Refusal → Type 0
 MayRefuse old new op reason =
-    (reason ≡ NoMemory) ⊎ ((reason ≡ StoreFault) × (old.faults < new.faults)) ⊎ ((reason ≡ NothingToEvict) × LacksPlaces 4 old) ⊎ ((reason ≡ NoInodes) × LacksFor op old.state.tree)
+    (reason ≡ NoMemory) ⊎ ((reason ≡ StoreFault) × (old.faults < new.faults)) ⊎ ((reason ≡ NothingToEvict) × LacksPlaces old op) ⊎ ((reason ≡ NoInodes) × LacksFor op old.state.tree)
 
 -- the request at the front of the rank's inbox is served
 abbrev pub ServesRank : (old new : Core) → (past now : List Entry) → Rank → Result Answer Refusal → Type 0
 ServesRank old new past now rank result = ServesInbox old.state new.state past now (MayRefuse old new) rank result (waiting_at old.state.inboxes rank)
+
+-- what serving it makes of the caches
+abbrev pub UsesInbox : (old new : Core) → Rank → Result Answer Refusal → Type 0
+UsesInbox old new rank result = UsesFront old.state.tree new.state.tree old.state.roots old.caches new.caches result (waiting_at old.state.inboxes rank)
+
+-- so it is with a grant for a request of this client and number
+abbrev pub UsesGranted : (old new : Core) → (client tid : ℕ) → Type 0
+UsesGranted old new client tid = UsesWaiting old.state.tree old.state.roots old.caches new.caches (first_waiting client tid old.state.inboxes)
 
 -- an event names a rank, and a rank that isn't there is refused NotAuthority before all else
 abbrev pub AtRank : (old new : Core) → (past now : List Entry) → Rank → Result Answer Refusal → Type 0 → Type 0
@@ -42,8 +58,8 @@ AtRank old new past now rank result done = MatchBool (nat_lt rank.0 (length old.
 -- what an event does
 abbrev pub Does : (old new : Core) → (past now : List Entry) → Result Answer Refusal → Event → Type 0
 Does old new past now result (Arrive rank request) = AtRank old new past now rank result (ArrivesAt old.state new.state past now rank request result × AsksNone old new)
-Does old new past now result (Serve rank) = AtRank old new past now rank result (ServesRank old new past now rank result)
-Does old new past now result (Grant rank client tid) = AtRank old new past now rank result (GrantsWaiting old.state new.state past now (MayRefuse old new) rank client tid result)
+Does old new past now result (Serve rank) = AtRank old new past now rank result (ServesRank old new past now rank result × UsesInbox old new rank result)
+Does old new past now result (Grant rank client tid) = AtRank old new past now rank result (GrantsWaiting old.state new.state past now (MayRefuse old new) rank client tid result × UsesGranted old new client tid)
 Does old new past now result (Split rank dir f nb) = AtRank old new past now rank result (Splits old new past now rank dir f nb result)
 Does old new past now result (Merge rank dir f) = AtRank old new past now rank result (Merges old new past now rank dir f result)
 Does old new past now result (CommitBegin rank dir f) = AtRank old new past now rank result (BeginsCommit old new past now rank (dir, f) result)

@@ -17,6 +17,7 @@ ghost use Rattle.mdcache.specs.Made.{IsUntouched};
 ghost use Rattle.mdcache.specs.Shown.{shown_tree};
 ghost use Rattle.cluster_core.specs.Serve.{CarryLeaves, FollowPlanned, MakesPlanned, without_gone, went_with};
 ghost use Rattle.cluster_core.specs.Prepared.{IsPrepared};
+ghost use Rattle.cluster_core.specs.Uses.{CamePlanned};
 ghost use Rattle.ranked_tree.specs.Ranked.{IsReady as IsReadyIn};
 ghost use Rattle.ranked_tree.specs.Subtrees.{KeepsRoots};
 
@@ -71,7 +72,7 @@ pub fn prepare<F: Frags>(
     ensures reserved { OnOk result (IsReady sessions.new client) }
     ensures past { history.new.items ≡ history.old.items }
     ensures known { table sessions.new ≡ table sessions.old }
-    ensures kept { KeepsAll (F.content frags.old) (F.content frags.new) (F.covers frags.old) (F.covers frags.new) (F.Follows frags.old frags.new (result_err result)) }
+    ensures kept { KeepsAll (F.content frags.old) (F.content frags.new) (F.covers frags.old) (F.covers frags.new) (F.Follows frags.old frags.new op.now (result_err result)) }
 {
     history.reserve(1)?;
     sessions.reserve(alloc, client)?;
@@ -144,6 +145,7 @@ pub fn commit<S: Store + Drop>(
     ensures count { length tree.new.tree.caches.used ≡ length tree.old.tree.caches.used }
     ensures cap { tree.new.tree.caches.cap ≡ tree.old.tree.caches.cap }
     ensures faults { tree.new.tree.faults ≡ tree.old.tree.faults }
+    ensures came { CamePlanned tree.old.subtrees.roots prepared.plan.change tree.old.tree tree.new.tree }
     ensures followed { FollowPlanned prepared.plan.change (tree_state tree.old.tree) tree.old.subtrees.roots tree.new.subtrees.roots }
     ensures kept { KeepsRoots (tree_state tree.old.tree) (tree_state tree.new.tree) tree.old.subtrees.roots tree.new.subtrees.roots }
     ensures pins { pins.new ≡ without_gone (left_without (is_for request.client request.tid) pins.old) (went_with prepared.plan.change) }
@@ -203,6 +205,7 @@ fn carry_out<S: Store + Drop>(tree: &mut RankedTree<S>, pins: &mut Pins, change:
     ensures count { length tree.new.tree.caches.used ≡ length tree.old.tree.caches.used }
     ensures cap { tree.new.tree.caches.cap ≡ tree.old.tree.caches.cap }
     ensures faults { tree.new.tree.faults ≡ tree.old.tree.faults }
+    ensures came { CamePlanned tree.old.subtrees.roots change tree.old.tree tree.new.tree }
     ensures followed { FollowPlanned change (tree_state tree.old.tree) tree.old.subtrees.roots tree.new.subtrees.roots }
     ensures kept { KeepsRoots (tree_state tree.old.tree) (tree_state tree.new.tree) tree.old.subtrees.roots tree.new.subtrees.roots }
     ensures pins { pins.new ≡ without_gone pins.old (went_with change) }

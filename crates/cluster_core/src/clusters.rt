@@ -7,7 +7,7 @@ ghost use Rattle.mds_types.specs.declared.entries.Entry.{Entry as Applied};
 ghost use Rattle.mds_types.specs.Tree.{Tree};
 ghost use Rattle.mdcache.specs.New.{MayNotFormat, new_caches};
 ghost use Rattle.cluster_core.specs.State.{new_state, whole_supplies};
-ghost use Rattle.cluster_core.specs.Steps.{ArrivesAt, AtRank, MayRefuse, ServesRank, Steps};
+ghost use Rattle.cluster_core.specs.Steps.{ArrivesAt, AtRank, MayRefuse, ServesRank, Steps, UsesGranted, UsesInbox};
 ghost use Rattle.cluster_core.specs.Grants.{GrantsWaiting};
 ghost use Rattle.ranked_tree.specs.Subtrees.{KeepsRoots};
 ghost use Rattle.cluster_core.specs.Sound.{AreCached, IsKept, IsSound};
@@ -180,7 +180,7 @@ impl<S: Store + Drop> Cluster<S> {
         rank: Rank,
     ) -> Result<Answer, Refusal>
         requires { (opening : Tree) × IsSound opening history.old.items self.old }
-        ensures served { AtRank self.old self.new history.old.items history.new.items rank result (ServesRank self.old self.new history.old.items history.new.items rank result) }
+        ensures served { AtRank self.old self.new history.old.items history.new.items rank result (ServesRank self.old self.new history.old.items history.new.items rank result × UsesInbox self.old self.new rank result) }
         ensures kept { KeepsRoots self.old.state.tree self.new.state.tree self.old.state.roots self.new.state.roots }
         ensures count { length self.new.caches.used ≡ length self.old.caches.used }
         ensures cap { self.new.caches.cap ≡ self.old.caches.cap }
@@ -203,7 +203,7 @@ impl<S: Store + Drop> Cluster<S> {
 
     // The rank grants a waiting request what it would change of the rank's.
     fn grant(&mut self, alloc: Global, rank: Rank, client: u64, tid: u64) -> Result<Answer, Refusal>
-        ensures granted { (past : List Applied) → AtRank self.old self.new past past rank result (GrantsWaiting self.old.state self.new.state past past (MayRefuse self.old self.new) rank client tid result) }
+        ensures granted { (past : List Applied) → AtRank self.old self.new past past rank result (GrantsWaiting self.old.state self.new.state past past (MayRefuse self.old self.new) rank client tid result × UsesGranted self.old self.new client tid) }
         ensures tree { self.new.state.tree ≡ self.old.state.tree }
         ensures roots { self.new.state.roots ≡ self.old.state.roots }
         ensures count { length self.new.caches.used ≡ length self.old.caches.used }

@@ -1,14 +1,16 @@
 //! Grants: a rank lets a request that waits somewhere change its fragments.
-ghost use Rattle.std.specs.Prelude.{◌≡◌, ◌+◌, List, IfOk, OnErr, OnOk, length};
+ghost use Rattle.std.specs.Prelude.{◌≡◌, ◌+◌, ◌<◌, List, IfErr, IfOk, OnErr, OnOk, length};
 ghost use Rattle.objstore.specs.Objects.{faults_told};
 ghost use Rattle.std.specs.Result.{result_err};
 ghost use Rattle.mds_types.specs.declared.entries.Entry.{Entry as Applied};
 ghost use Rattle.mdcache.specs.Core.{state_of as tree_state};
-ghost use Rattle.mdcache.specs.Frags.{MayRefuse};
 ghost use Rattle.sessions.specs.Table.{Table};
 ghost use Rattle.inode_table.specs.Numbers.{Supply};
+ghost use Rattle.inboxes.specs.Inboxes.{first_waiting};
 ghost use Rattle.cluster_core.specs.State.{state_of};
-ghost use Rattle.cluster_core.specs.Grants.{AreHeldAmong, GrantsWaiting, with_grants};
+ghost use Rattle.cluster_core.specs.Uses.{UsesWaiting};
+ghost use Rattle.ranked_tree.specs.Ranked.{MayRefuse};
+ghost use Rattle.cluster_core.specs.Grants.{AreHeldAmong, FindsNone, GrantsWaiting, HoldsOne, with_grants};
 
 use crate::events::Answer;
 use inboxes::{Inboxes, Pin, Pins};
@@ -29,7 +31,8 @@ pub fn grant_first<S: Store + Drop>(
     client: u64,
     tid: u64,
 ) -> Result<Answer, Refusal>
-    ensures granted { (numbers : List Supply) (sessions : Table) (past : List Applied) → GrantsWaiting (state_of (tree_state tree.old.tree) tree.old.subtrees.roots numbers inboxes.now pins.old sessions) (state_of (tree_state tree.new.tree) tree.new.subtrees.roots numbers inboxes.now pins.new sessions) past past (MayRefuse tree.old.tree tree.new.tree) rank client tid result }
+    ensures granted { (numbers : List Supply) (sessions : Table) (past : List Applied) → GrantsWaiting (state_of (tree_state tree.old.tree) tree.old.subtrees.roots numbers inboxes.now pins.old sessions) (state_of (tree_state tree.new.tree) tree.new.subtrees.roots numbers inboxes.now pins.new sessions) past past (MayRefuse tree.old tree.new) rank client tid result }
+    ensures uses { UsesWaiting (tree_state tree.old.tree) tree.old.subtrees.roots tree.old.tree.caches tree.new.tree.caches (first_waiting client tid inboxes.now) }
     ensures same { tree_state tree.new.tree ≡ tree_state tree.old.tree }
     ensures roots { tree.new.subtrees.roots ≡ tree.old.subtrees.roots }
     ensures count { length tree.new.tree.caches.used ≡ length tree.old.tree.caches.used }
@@ -43,27 +46,44 @@ pub fn grant_first<S: Store + Drop>(
         Ok(changed) => changed,
         Err(refusal) => return Err(refusal),
     };
-    let mine = match held_among(alloc, tree, rank, &changed) {
+    let mine = match some_held(alloc, tree, rank, &changed) {
         Ok(mine) => mine,
-        Err(_) => return Err(Refusal::NoMemory),
+        Err(refusal) => return Err(refusal),
     };
-    if mine.is_empty() {
-        return Err(Refusal::NotAuthority);
-    }
     match pin_all(pins, client, tid, &mine) {
         Ok(()) => Ok(Answer::Nothing),
         Err(_) => Err(Refusal::NoMemory),
     }
 }
 
-// Those of some leaves of which a rank is the authority.
+// Those of some leaves of which a rank is the authority, of which there are some. Refused `NotAuthority` exactly where there is
+// none, and `NoMemory` only where there is one.
+fn some_held<S: Store + Drop>(
+    alloc: Global,
+    tree: &RankedTree<S>,
+    rank: Rank,
+    leaves: &Vec<(Ino, Frag)>,
+) -> Result<Vec<(Ino, Frag)>, Refusal>
+    ensures held { IfOk result (λ held. AreHeldAmong (tree_state tree.now.tree) tree.now.subtrees.roots rank leaves.now.items held.items) }
+    ensures some { IfOk result (λ held. 0 < length held.items) }
+    ensures refused { IfErr result (FindsNone (tree_state tree.now.tree) tree.now.subtrees.roots rank leaves.now.items) }
+{
+    match held_among(alloc, tree, rank, leaves) {
+        Ok(held) if held.is_empty() => Err(Refusal::NotAuthority),
+        Ok(held) => Ok(held),
+        Err(_) => Err(Refusal::NoMemory),
+    }
+}
+
+// Those of some leaves of which a rank is the authority; memory can lack only where there is one.
 fn held_among<S: Store + Drop>(
     alloc: Global,
     tree: &RankedTree<S>,
     rank: Rank,
     leaves: &Vec<(Ino, Frag)>,
 ) -> Result<Vec<(Ino, Frag)>, AllocError>
-    ensures { IfOk result (λ held. AreHeldAmong (tree_state tree.now.tree) tree.now.subtrees.roots rank leaves.now.items held.items) }
+    ensures held { IfOk result (λ held. AreHeldAmong (tree_state tree.now.tree) tree.now.subtrees.roots rank leaves.now.items held.items) }
+    ensures one { OnErr result (HoldsOne (tree_state tree.now.tree) tree.now.subtrees.roots rank leaves.now.items) }
 {
     let mut held = Vec::new(alloc);
     for leaf in leaves {

@@ -7,6 +7,7 @@ mod books;
 mod clusters;
 mod events;
 mod granting;
+pub mod laws;
 mod masters;
 mod pinned;
 mod plain_trees;

@@ -7,8 +7,7 @@ ghost use Rattle.std.specs.Result.{result_err};
 ghost use Rattle.fragtree.specs.FragTree.{HasLeaf};
 ghost use Rattle.inode_table.specs.Dirs.{leaves_of};
 ghost use Rattle.mdcache.specs.Core.{state_of as tree_state};
-ghost use Rattle.mdcache.specs.Frags.{MayRefuse};
-ghost use Rattle.ranked_tree.specs.Ranked.{KeepsRanked};
+ghost use Rattle.ranked_tree.specs.Ranked.{KeepsRanked, MayRefuse};
 ghost use Rattle.cluster_core.specs.Master.{HasForeign, IsMasterIn, LacksGrantIn, MayTouchAllIn, MayTouchEach, MayTouchIn, changes_others, main_dentry, main_leaf};
 
 use inboxes::{Pin, Pins};
@@ -82,8 +81,8 @@ pub fn lacks_grant<S: Store + Drop>(
 ) -> Result<bool, Refusal>
     requires master { IsMasterIn (tree_state tree.old.tree) tree.old.subtrees.roots rank op.now rank }
     ensures found { IfOk result (λ lacks. MatchBool lacks (LacksGrantIn (tree_state tree.old.tree) tree.old.subtrees.roots pins.now rank client tid op.now) (MayTouchAllIn (tree_state tree.old.tree) tree.old.subtrees.roots pins.now rank client tid op.now)) }
-    ensures refused { IfErr result (λ reason. (reason ≡ NoMemory) ⊎ ((reason ≢ NoInodes) × MayRefuse tree.old.tree tree.new.tree op.now reason)) }
-    ensures kept { KeepsRanked tree.old tree.new (result_err result) }
+    ensures refused { IfErr result (λ reason. (reason ≡ NoMemory) ⊎ ((reason ≢ NoInodes) × MayRefuse tree.old tree.new op.now reason)) }
+    ensures kept { KeepsRanked tree.old tree.new op.now (result_err result) }
 {
     if !changes_others(op) {
         return Ok(false);

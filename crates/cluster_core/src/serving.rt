@@ -12,13 +12,13 @@ ghost use Rattle.sessions.specs.Table.{IsTableOf};
 ghost use Rattle.sessions.specs.Rooms.{IsReady, table};
 ghost use Rattle.dirfrag_codec.specs.EntryRecord.{IsRankNumber};
 ghost use Rattle.mdcache.specs.Core.{state_of as tree_state};
-ghost use Rattle.mdcache.specs.Frags.{MayRefuse};
 ghost use Rattle.mdcache.specs.Shown.{shown_tree};
 ghost use Rattle.cluster_core.specs.State.{no_supply, state_of};
 ghost use Rattle.cluster_core.specs.Serve.{EndsFront, ForwardsFront, RepeatsFront, ServesInbox};
 ghost use Rattle.cluster_core.specs.Master.{AreMastersThere, IsMasterIn};
 ghost use Rattle.cluster_core.specs.Prepared.{IsMadeReady};
-ghost use Rattle.ranked_tree.specs.Ranked.{IsReady as IsReadyIn};
+ghost use Rattle.cluster_core.specs.Uses.{ReadsOp, UsesFront};
+ghost use Rattle.ranked_tree.specs.Ranked.{IsReady as IsReadyIn, MayRefuse};
 ghost use Rattle.ranked_tree.specs.Subtrees.{AreRoots, KeepsRoots};
 
 use crate::applying::{Prepared, commit, prepare};
@@ -50,7 +50,8 @@ pub fn serve_front<S: Store + Drop>(
     requires masters { AreMastersThere (tree_state tree.old.tree) tree.old.subtrees.roots rank (length inboxes.old) }
     requires valid { AreRoots (tree_state tree.old.tree) tree.old.subtrees.roots }
     ensures served { ServesInbox (state_of (tree_state tree.old.tree) tree.old.subtrees.roots numbers.old.items inboxes.old pins.old (table sessions.old)) (state_of (tree_state tree.new.tree) tree.new.subtrees.roots numbers.new.items inboxes.new pins.new (table sessions.new))
-        history.old.items history.new.items (MayRefuse tree.old.tree tree.new.tree) rank result (waiting_at inboxes.old rank) }
+        history.old.items history.new.items (MayRefuse tree.old tree.new) rank result (waiting_at inboxes.old rank) }
+    ensures uses { UsesFront (tree_state tree.old.tree) (tree_state tree.new.tree) tree.old.subtrees.roots tree.old.tree.caches tree.new.tree.caches result (waiting_at inboxes.old rank) }
     ensures kept { KeepsRoots (tree_state tree.old.tree) (tree_state tree.new.tree) tree.old.subtrees.roots tree.new.subtrees.roots }
     ensures count { length tree.new.tree.caches.used ≡ length tree.old.tree.caches.used }
     ensures cap { tree.new.tree.caches.cap ≡ tree.old.tree.caches.cap }
@@ -86,7 +87,8 @@ fn serve_new<S: Store + Drop>(
     requires masters { AreMastersThere (tree_state tree.old.tree) tree.old.subtrees.roots rank (length inboxes.old) }
     requires valid { AreRoots (tree_state tree.old.tree) tree.old.subtrees.roots }
     ensures served { ServesInbox (state_of (tree_state tree.old.tree) tree.old.subtrees.roots numbers.old.items inboxes.old pins.old (table sessions.old)) (state_of (tree_state tree.new.tree) tree.new.subtrees.roots numbers.new.items inboxes.new pins.new (table sessions.new))
-        history.old.items history.new.items (MayRefuse tree.old.tree tree.new.tree) rank result (waiting_at inboxes.old rank) }
+        history.old.items history.new.items (MayRefuse tree.old tree.new) rank result (waiting_at inboxes.old rank) }
+    ensures uses { UsesFront (tree_state tree.old.tree) (tree_state tree.new.tree) tree.old.subtrees.roots tree.old.tree.caches tree.new.tree.caches result (waiting_at inboxes.old rank) }
     ensures kept { KeepsRoots (tree_state tree.old.tree) (tree_state tree.new.tree) tree.old.subtrees.roots tree.new.subtrees.roots }
     ensures count { length tree.new.tree.caches.used ≡ length tree.old.tree.caches.used }
     ensures cap { tree.new.tree.caches.cap ≡ tree.old.tree.caches.cap }
@@ -134,9 +136,10 @@ fn make_ready<S: Store + Drop>(
 ) -> Result<Option<Prepared>, Refusal>
     requires offered { IsOffered (shown_tree (tree_state tree.old.tree)) (λ n. IsRankNumber n) (offer supply) }
     requires master { IsMasterIn (tree_state tree.old.tree) tree.old.subtrees.roots rank request.now.op rank }
-    ensures ready { IsMadeReady (tree_state tree.old.tree) tree.old.subtrees.roots pins.now supply rank request.now (IsReadyIn tree.new) (MayRefuse tree.old.tree tree.new.tree request.now.op) result }
+    ensures ready { IsMadeReady (tree_state tree.old.tree) tree.old.subtrees.roots pins.now supply rank request.now (IsReadyIn tree.new) (MayRefuse tree.old tree.new request.now.op) result }
     ensures room { IfOk result (λ made. IfSome made (λ prepared. vec_len history.new < vec_capacity history.new)) }
     ensures reserved { IfOk result (λ made. IfSome made (λ prepared. IsReady sessions.new request.now.client)) }
+    ensures reads { ReadsOp (tree_state tree.old.tree) tree.old.subtrees.roots request.now.op tree.old.tree.caches tree.new.tree.caches }
     ensures same { tree_state tree.new.tree ≡ tree_state tree.old.tree }
     ensures roots { tree.new.subtrees.roots ≡ tree.old.subtrees.roots }
     ensures past { history.new.items ≡ history.old.items }

@@ -1,25 +1,23 @@
 -- Places of a fragment's children: kept one after the other, and given up.
-use Rattle.std.proofs.Common.{◌≡◌, ℕ, zero, suc, ◌+◌, ◌<◌, ◌≤◌, ◌^◌, Bool, true, false, cond, not, ◌&&◌, ◌⊎◌, inl, inr, length, is_some, Option, Some, None, refl, sym, ap, subst, ◌∙◌, arith}
+use Rattle.std.proofs.Common.{◌≡◌, ℕ, zero, suc, ◌<◌, ◌≤◌, ◌^◌, Bool, true, false, cond, ◌&&◌, ◌⊎◌, inl, inr, length, Option, Some, None, refl, sym, ap, subst, ◌∙◌, arith}
 use Rattle.std.specs.List.{IsDistinct}
 use Rattle.std.specs.FinMap as finmap
 use Rattle.mds_types.specs.declared.ids.Ino.{Ino}
 use Rattle.mds_types.specs.Frag.{Fragment, child_of}
-use Rattle.mds_types.specs.declared.refusals.Refusal.{Refusal}
 use Rattle.objstore.specs.Objects.{Objects}
 use Rattle.cached_frag.specs.Cached.{Cached}
-use Rattle.dentry_cache.specs.CacheCalls.{IsAbsent, MakesRoomAt, MayNotKeepAt, kept_at, unclean_at, unclean_in}
+use Rattle.dentry_cache.specs.CacheCalls.{IsAbsent, MakesRoomAt}
 use Rattle.dentry_cache.specs.CacheMap.{CacheMap, at_rank, given_up, has_place, here, less, order, removed, roomy, used_at}
-use Rattle.dentry_cache.specs.CacheSplits.{AreAbsent, IsChildAt, IsFamilyAt, IsKeptFor, KeepsChildren, MayNotKeepAll, without_children}
+use Rattle.dentry_cache.specs.CacheSplits.{AreAbsent, IsChildAt, IsFamilyAt, IsKeptFor, KeepsChildren, without_children}
 use Rattle.dentry_cache.specs.Came.{NoneEnds}
 use Rattle.dentry_cache.specs.Reads.{Reads}
 use Rattle.dentry_cache.specs.Reads.Reads.{stays as it_stays, uses, room, frees}
-use Rattle.dentry_cache.proofs.CountLaws.{full_where}
-use Rattle.dentry_cache.proofs.KeptLaws.{first_distinct, just_kept, less_distinct, order_given_up, order_used, roomy_absent, roomy_counted, roomy_distinct, roomy_kept, roomy_stays, used_absent, used_counted, used_counted_one, used_kept}
+use Rattle.dentry_cache.proofs.KeptLaws.{first_distinct, just_kept, less_distinct, order_given_up, order_used, roomy_absent, roomy_distinct, roomy_kept, roomy_stays, used_absent, used_kept}
 use Rattle.dentry_cache.proofs.NameParts.{one_child}
 use Rattle.dentry_cache.proofs.ReadsLaws.{reads_then, reads_weaker}
 use Rattle.dentry_cache.proofs.SplitShows.{below_or_it}
 use Rattle.dentry_cache.proofs.MapCalls.{below_or_past}
-use Rattle.dentry_cache.proofs.StepLaws.{cap_roomy, has_given_up, placed_given_up, ranks_given_up, ranks_roomy, ranks_used}
+use Rattle.dentry_cache.proofs.StepLaws.{has_given_up, placed_given_up, ranks_given_up, ranks_roomy, ranks_used}
 use Rattle.sorted_map.proofs.NatKeys.{is_same}
 use Rattle.dentry_cache.specs.Cache.{Leaf, leaf_is}
 use Rattle.dentry_cache.proofs.LeafLaws.{leaf_itself}
@@ -40,13 +38,10 @@ module _ (r : ℕ) (dir : Ino) (frag : Fragment) (bits : ℕ) where
   -- what holds once so many places were kept
   pub record AreKeeping (n : ℕ) (old now : CacheMap) : Type 0 where
     pub there : r < length now.used
-    pub cap : now.cap ≡ old.cap
     pub distinct : IsDistinct leaf_is (order now r)
     pub kept : (i : ℕ) → i < n → IsKeptFor now r (child i)
     pub absent : (i : ℕ) → n ≤ i → i < 2 ^ bits → IsAbsent now r (child i)
     pub stays : finmap.get now.held (dir, frag) ≡ finmap.get old.held (dir, frag)
-    pub unclean : length (unclean_at now r) ≤ length (unclean_at old r)
-    pub places : length (kept_at now r) ≤ length (kept_at old r) + n
     pub reads : (objects : Objects) → Reads (IsFamilyAt r dir frag bits) NoneEnds objects old now
 
   named : (n : ℕ) → n < 2 ^ bits → IsFamilyAt r dir frag bits r (child n)
@@ -56,13 +51,10 @@ module _ (r : ℕ) (dir : Ino) (frag : Fragment) (bits : ℕ) where
   pub none_kept : (old : CacheMap) → r < length old.used → IsDistinct leaf_is (order old r) → AreAbsent old r dir frag bits → AreKeeping 0 old old
   none_kept old there distinct absent = record {
     there = there;
-    cap = refl;
     distinct = distinct;
     kept = λ i less. absurd (omega (arith, less));
     absent = λ i from less. absent i less;
     stays = refl;
-    unclean = omega arith;
-    places = omega arith;
     reads = λ objects. it_stays;
   }
 
@@ -70,17 +62,12 @@ module _ (r : ℕ) (dir : Ino) (frag : Fragment) (bits : ℕ) where
     -- a place is free for one more, or became so
     pub room_kept : (now : CacheMap) → roomy mid r (Some (dir, frag)) ≡ Some now → AreKeeping n old now
     room_kept now made =
-        let fewer : length (unclean_at now r) ≤ length (unclean_at mid r) = roomy_counted unclean_in mid r k.there k.distinct now (Some (dir, frag)) made in
-        let less : length (kept_at now r) ≤ length (kept_at mid r) = roomy_counted (λ (o : Option Cached). not (is_some o)) mid r k.there k.distinct now (Some (dir, frag)) made in
         record {
           there = subst (λ (m : ℕ). r < m) (sym (ranks_roomy mid now r (Some (dir, frag)) made)) k.there;
-          cap = cap_roomy mid now r (Some (dir, frag)) made ∙ k.cap;
           distinct = roomy_distinct mid now r (Some (dir, frag)) k.there made k.distinct;
           kept = λ i among. roomy_kept mid now r (Some (dir, frag)) k.there made (child i) (k.kept i among);
           absent = λ i from among. roomy_absent mid now r (Some (dir, frag)) k.there made (child i) (k.absent i from among);
           stays = roomy_stays mid now r (dir, frag) k.there made ∙ k.stays;
-          unclean = omega (arith, fewer, k.unclean);
-          places = omega (arith, less, k.places);
           reads = λ objects. room mid now r (child n) (Some (dir, frag)) (k.reads objects) (named n below) (k.absent n (omega arith) below).0 (r, inl (refl, refl)) made;
         }
 
@@ -88,17 +75,12 @@ module _ (r : ℕ) (dir : Ino) (frag : Fragment) (bits : ℕ) where
     pub one_kept : (now : CacheMap) → now ≡ used_at mid r (child n) → AreKeeping (suc n) old now
     one_kept now is = subst (AreKeeping (suc n) old) (sym is) (
         let none = k.absent n (omega arith) below in
-        let fewer : length (unclean_at (used_at mid r (child n)) r) ≤ length (unclean_at mid r) = used_counted unclean_in mid r k.there k.distinct (child n) (ap (λ o. unclean_in (at_rank r o)) none.1) in
-        let more : length (kept_at (used_at mid r (child n)) r) ≤ suc (length (kept_at mid r)) = used_counted_one (λ (o : Option Cached). not (is_some o)) mid r k.there k.distinct (child n) in
         record {
           there = subst (λ (m : ℕ). r < m) (sym (ranks_used mid r (child n))) k.there;
-          cap = k.cap;
           distinct = subst (IsDistinct leaf_is) (sym (order_used mid r k.there (child n))) (first_distinct (child n) (order mid r) k.distinct);
           kept = λ i among. kept_then i (below_or_it i n (omega (arith, among)));
           absent = λ i from among. used_absent mid r (child n) (child i) k.there (one_child dir frag bits i n (λ same. omega (arith, same, from))) (k.absent i (omega (arith, from)) among);
           stays = k.stays;
-          unclean = omega (arith, fewer, k.unclean);
-          places = omega (arith, more, k.places);
           reads = λ objects. uses mid r (child n) (k.reads objects) (named n below);
         })
       where
@@ -187,10 +169,3 @@ module _ (r : ℕ) (dir : Ino) (frag : Fragment) (bits : ℕ) where
 
     pub reads_so : (objects : Objects) → Reads (IsFamilyAt r dir frag bits) (IsChildAt r dir frag bits) objects old last
     reads_so objects = reads_then (IsFamilyAt r dir frag bits) (IsChildAt r dir frag bits) objects old now last (kept_reads n old now then_keeping objects) (dropped.reads objects)
-
-  -- why it isn't
-  pub refused_so : (n : ℕ) → n < 2 ^ bits → (old mid : CacheMap) → AreKeeping n old mid → (reason : Refusal) → MayNotKeepAt r (Some (dir, frag)) mid reason → MayNotKeepAll (2 ^ bits) old r reason
-  refused_so n below old mid k reason (inl memory) = inl memory
-  refused_so n below old mid k reason (inr full) =
-      let most : mid.cap ≤ length (unclean_at mid r) + length (kept_at mid r) + 1 = full_where mid r (Some (dir, frag)) k.distinct full.1 in
-      inr (full.0, omega (arith, most, k.cap, k.unclean, k.places, below))

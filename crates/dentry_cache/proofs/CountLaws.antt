@@ -9,7 +9,7 @@ use Rattle.dentry_cache.specs.CacheCalls.{kept_at, unclean_at, unclean_in}
 use Rattle.dentry_cache.specs.CacheMap.{AreCaches, CacheMap, clean_in, given_up, goes, here, last_by, or_this, order, roomy, victim}
 use Rattle.dentry_cache.proofs.LeafLaws.{one_leaf}
 
-none_last : (p : Leaf → Bool) (xs : List Leaf) → last_by p xs ≡ None → AllByRecursion (λ (x : Leaf). p x ≡ false) xs
+pub none_last : (p : Leaf → Bool) (xs : List Leaf) → last_by p xs ≡ None → AllByRecursion (λ (x : Leaf). p x ≡ false) xs
 none_last p [] is = tt
 none_last p (x ∷ xs) is = go (λ none. none_last p xs none) (last_by p xs) refl (p x) refl is
   where
@@ -43,11 +43,11 @@ abbrev pub staying : Option Leaf → ℕ
 staying None = 0
 staying (Some one) = 1
 
-none_passes : (p : Leaf → Bool) (xs : List Leaf) → AllByRecursion (λ (x : Leaf). p x ≡ false) xs → length (filter p xs) ≡ 0
+pub none_passes : (p : Leaf → Bool) (xs : List Leaf) → AllByRecursion (λ (x : Leaf). p x ≡ false) xs → length (filter p xs) ≡ 0
 none_passes p [] none = refl
 none_passes p (x ∷ xs) none = ap (λ (b : Bool). length (cond b (x ∷ filter p xs) (filter p xs))) none.0 ∙ none_passes p xs none.1
 
-stays_once : (stay : Option Leaf) (xs : List Leaf) → IsDistinct leaf_is xs → length (filter (stays stay) xs) ≤ staying stay
+pub stays_once : (stay : Option Leaf) (xs : List Leaf) → IsDistinct leaf_is xs → length (filter (stays stay) xs) ≤ staying stay
 stays_once None xs distinct = let none : length (filter (stays None) xs) ≡ 0 = none_passes (stays None) xs (never xs) in omega (arith, none)
   where
     never : (xs : List Leaf) → AllByRecursion (λ (x : Leaf). stays None x ≡ false) xs

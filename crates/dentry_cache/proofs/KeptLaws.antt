@@ -1,13 +1,12 @@
 -- Places that are kept one after the other, and given up again.
-use Rattle.std.proofs.Common.{◌≡◌, ℕ, suc, ◌<◌, ◌≤◌, Bool, true, false, cond, not, ◌&&◌, ◌||◌, List, [], ◌∷◌, length, filter, nat_lt, option_map, Option, Some, None, refl, sym, ap, subst, ◌∙◌, arith, get_or-set_same}
+use Rattle.std.proofs.Common.{◌≡◌, ℕ, ◌<◌, ◌≤◌, Bool, true, false, cond, not, ◌&&◌, ◌||◌, List, [], ◌∷◌, length, filter, Option, Some, None, refl, sym, ap, subst, ◌∙◌, arith, get_or-set_same}
 use Rattle.std.specs.List.{AllByRecursion, IsDistinct, list_any}
 use Rattle.std.specs.FinMap as finmap
 use Rattle.std.proofs.lemmas.Map.Keys.{IsDistinct-cons, IsDistinct-head, IsDistinct-tail}
-use Rattle.std.proofs.lemmas.Option.{same_Some}
 use Rattle.cached_frag.specs.Cached.{Cached}
 use Rattle.dentry_cache.specs.Cache.{Leaf, leaf_is, stays}
 use Rattle.dentry_cache.specs.CacheCalls.{IsAbsent}
-use Rattle.dentry_cache.specs.CacheMap.{At, CacheMap, at_rank, clean_in, first, given_up, goes, has_place, here, less, order, roomy, used_at, victim}
+use Rattle.dentry_cache.specs.CacheMap.{At, CacheMap, at_rank, clean_in, first, given_up, goes, has_place, here, less, order, roomy, used_at}
 use Rattle.dentry_cache.specs.CacheSplits.{IsKeptFor}
 use Rattle.dentry_cache.proofs.CameLaws.{absent_roomy}
 use Rattle.dentry_cache.proofs.StepLaws.{any_less, by_room, get_beside}
@@ -94,45 +93,6 @@ here_given_up c r v q apart = ap (at_rank r) (get_beside c r v q (flips q v ∙ 
 
 abbrev pub counted : (Option Cached → Bool) → CacheMap → ℕ → ℕ
 counted P c r = length (filter (λ (leaf : Leaf). P (here c r leaf)) (order c r))
-
-module _ (P : Option Cached → Bool) (c : CacheMap) (r : ℕ) (there : r < length c.used) (distinct : IsDistinct leaf_is (order c r)) where
-  given_up_counted : (v : Leaf) → counted P (given_up c r v) r ≤ counted P c r
-  given_up_counted v =
-      let same : filter (λ (leaf : Leaf). P (here (given_up c r v) r leaf)) (order (given_up c r v) r) ≡ filter (λ (leaf : Leaf). P (here c r leaf)) (less v (order c r)) =
-      ap (filter (λ (leaf : Leaf). P (here (given_up c r v) r leaf))) (order_given_up c r there v)
-      ∙ same_filter (λ (leaf : Leaf). P (here (given_up c r v) r leaf)) (λ (leaf : Leaf). P (here c r leaf)) (less v (order c r)) (each (less v (order c r)) (less_apart v (order c r) distinct)) in
-      let fewer = filter_less (λ (leaf : Leaf). P (here c r leaf)) v (order c r) in
-      subst (λ (xs : List Leaf). length xs ≤ counted P c r) (sym same) fewer
-    where
-      each : (xs : List Leaf) → AllByRecursion (λ (x : Leaf). leaf_is v x ≡ false) xs → AllByRecursion (λ (x : Leaf). P (here (given_up c r v) r x) ≡ P (here c r x)) xs
-      each [] apart = tt
-      each (x ∷ xs) apart = (ap P (here_given_up c r v x apart.0), each xs apart.1)
-
-  pub roomy_counted : (mid : CacheMap) (stay : Option Leaf) → roomy c r stay ≡ Some mid → counted P mid r ≤ counted P c r
-  roomy_counted mid stay is = go (nat_lt (length (order c r)) c.cap) (victim c r stay) is
-    where
-      go : (b : Bool) (v : Option Leaf) → cond b (Some c) (option_map (given_up c r) v) ≡ Some mid → counted P mid r ≤ counted P c r
-      go true v is = subst (λ (k : CacheMap). counted P k r ≤ counted P c r) (same_Some c mid is) (omega arith)
-      go false None is = let clash : None ≡ Some mid = is in absurd cc
-      go false (Some v) is = subst (λ (k : CacheMap). counted P k r ≤ counted P c r) (same_Some (given_up c r v) mid is) (given_up_counted v)
-
-  pub used_counted : (leaf : Leaf) → P (here c r leaf) ≡ false → counted P (used_at c r leaf) r ≤ counted P c r
-  used_counted leaf none =
-      let fewer = filter_less (λ (x : Leaf). P (here c r x)) leaf (order c r) in
-      subst (λ (xs : List Leaf). length (filter (λ (x : Leaf). P (here c r x)) xs) ≤ counted P c r) (sym (order_used c r there leaf))
-      (subst (λ (b : Bool). length (cond b (leaf ∷ filter (λ (x : Leaf). P (here c r x)) (less leaf (order c r))) (filter (λ (x : Leaf). P (here c r x)) (less leaf (order c r)))) ≤ counted P c r) (sym none) fewer)
-
-  pub used_counted_one : (leaf : Leaf) → counted P (used_at c r leaf) r ≤ suc (counted P c r)
-  used_counted_one leaf =
-      let fewer = filter_less (λ (x : Leaf). P (here c r x)) leaf (order c r) in
-      subst (λ (xs : List Leaf). length (filter (λ (x : Leaf). P (here c r x)) xs) ≤ suc (counted P c r)) (sym (order_used c r there leaf)) (go (P (here c r leaf)) fewer)
-    where
-      rest : List Leaf
-      rest = filter (λ (x : Leaf). P (here c r x)) (less leaf (order c r))
-
-      go : (b : Bool) → length rest ≤ counted P c r → length (cond b (leaf ∷ rest) rest) ≤ suc (counted P c r)
-      go true fewer = omega (arith, fewer)
-      go false fewer = omega (arith, fewer)
 
 -- ---- what a free place leaves
 

@@ -20,6 +20,7 @@ pub mod PairLaws
 pub mod PartLaws
 pub mod PartsLaws
 pub mod ReadsLaws
+pub mod RoomLaws
 pub mod SplitLaws
 pub mod SplitShows
 pub mod StepLaws

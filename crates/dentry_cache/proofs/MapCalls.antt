@@ -1,5 +1,5 @@
 -- What a call at one rank makes of the caches of all.
-use Rattle.std.proofs.Common.{◌≡◌, ℕ, zero, suc, ◌<◌, ◌≤◌, ◌⊎◌, inl, inr, Bool, true, false, cond, ◌||◌, List, [], ◌∷◌, set, get_or, length, nat_lt, is_some, option_map, Option, Some, None, Result, Ok, Err, OnOk, OnErr, refl, sym, ap, subst, ◌∙◌, set-set, get_or-set_same, length-set, arith}
+use Rattle.std.proofs.Common.{◌≡◌, ℕ, zero, suc, ◌<◌, ◌≤◌, ◌⊎◌, inl, inr, Bool, true, false, cond, ◌||◌, List, [], ◌∷◌, set, get_or, length, nat_lt, is_some, option_map, Option, Some, None, Result, Ok, Err, OnOk, OnErr, refl, sym, ap, subst, ◌∙◌, set-set, get_or-set_same, length-set, arith, filter, ◌+◌}
 use Rattle.std.specs.List.{IsDistinct, list_any}
 use Rattle.std.specs.Map.{keys_of, lookup, remove_entry}
 use Rattle.lru.specs.LruCache.{lru_cache}
@@ -15,12 +15,12 @@ use Rattle.mds_types.specs.declared.refusals.Refusal.TheVariants.{NoMemory, Stor
 use Rattle.objstore.specs.Omap.{Omap}
 use Rattle.cached_frag.specs.Cached.{Cached}
 use Rattle.dentry_cache.specs.declared.cache.Place.{Place}
-use Rattle.dentry_cache.specs.Cache.{Evicts, HasRoom, Held, IsChanged, IsFull, IsThere, Leaf, MakesRoom, MayMakeRoom, NoneGoes, Places, TakesPlace, cached, fragment_in, held, is_kept, kept_place, leaf_cmp, leaf_is, used_as, without}
+use Rattle.dentry_cache.specs.Cache.{Evicts, HasRoom, Held, IsChanged, IsFull, IsThere, Leaf, MakesRoom, MayMakeRoom, NoneGoes, Places, TakesPlace, cached, fragment_in, held, is_kept, kept_place, leaf_cmp, leaf_is, may_go, used_as, without}
 use Rattle.dentry_cache.specs.CacheMap.{AreAtOneRank, AreCaches, At, CacheMap, IsFree, IsFreeFor, at_rank, cache_map, edited, evicted, given_up, has_place, here, no_cache, order, orders, removed, roomy, used_at, victim, with_frag}
 use Rattle.dentry_cache.specs.Places.{IsCache}
-use Rattle.dentry_cache.specs.CacheCalls.{Edits, FetchesAt, IsAbsent, IsEdited, IsRefusedAt, IsWhole, KeepsAt, MakesRoomAt, MayNotFetchAt, MayNotKeepAt}
+use Rattle.dentry_cache.specs.CacheCalls.{CanKeep, CanNotKeep, Edits, FetchesAt, IsAbsent, IsEdited, IsRefusedAt, IsWhole, KeepsAt, MakesRoomAt, MayNotFetchAt, MayNotKeepAt, going_at}
 use Rattle.dentry_cache.specs.Fetches.{IsFetched, IsNotFetched, IsRefusedIn, MayNotFetch}
-use Rattle.dentry_cache.proofs.MapLaws.{cached_placed, changed_so, each_at, evicted_so, frag_so, get_held, given_up_so, here_free, none_evicted, none_roomy, order_is, roomy_so, used_so}
+use Rattle.dentry_cache.proofs.MapLaws.{cached_placed, changed_so, each_at, evicted_so, frag_so, get_held, given_up_so, going_so, here_free, none_evicted, none_roomy, order_is, roomy_so, used_so}
 use Rattle.dentry_cache.proofs.OneCache.{HasRoomFor, none_distinct, room_then, changed, changed_by, dropped, evicts_by, full_by, makes_room_by, none_by, room_made}
 use Rattle.dentry_cache.proofs.StepLaws.{here_put}
 use Rattle.dentry_cache.proofs.UsedLaws.{same_cap, still_absent}
@@ -158,6 +158,22 @@ module _ (cs : List Held) (cap r : ℕ) (old : CacheMap) (view : cache_map cs ca
 
     pub taken_is : length (order old r) ≡ length x.entries
     taken_is = ap (λ (o : CacheMap). length (order o r)) (sym view) ∙ ap (λ (ks : List Leaf). length ks) (order_is cs cap r sound there) ∙ length-keys_of (get_or cs r no_cache).entries ∙ ap (λ (h : Held). length h.entries) (sym x_is)
+
+    -- how many of its places are free or can become so
+    pub cap_is : x.cap ≡ old.cap
+    cap_is = ap (λ (h : Held). h.cap) x_is ∙ sound.each r there ∙ ap (λ (o : CacheMap). o.cap) view
+
+    pub going_is : (stay : Option Leaf) → length (going_at old r stay) ≡ length (filter (may_go stay) x.entries)
+    going_is stay =
+        ap (λ (o : CacheMap). length (going_at o r stay)) (sym view) ∙ going_so cs cap r sound there stay
+        ∙ ap (λ (h : Held). length (filter (may_go stay) h.entries)) (sym x_is)
+
+    module _ (stay : Option Leaf) (places count : ℕ) (same : places ≡ count) where
+      pub can_keep_is : length x.entries + places ≤ x.cap + length (filter (may_go stay) x.entries) → CanKeep count old r stay
+      can_keep_is can = let cap = cap_is in let taken = taken_is in let going = going_is stay in omega (arith, can, cap, taken, going, same)
+
+      pub can_not_keep_is : x.cap + length (filter (may_go stay) x.entries) < length x.entries + places → CanNotKeep count old r stay
+      can_not_keep_is lacks = let cap = cap_is in let taken = taken_is in let going = going_is stay in omega (arith, lacks, cap, taken, going, same)
 
     pub no_place_is : (leaf : Leaf) → has_place old r leaf ≡ false → lookup (leaf_is leaf) x.entries ≡ None
     no_place_is leaf none = no_place (lookup (leaf_is leaf) x.entries) (sym (placed_is leaf) ∙ none)

@@ -1,5 +1,5 @@
 -- What is seen of the caches of all ranks once one rank has another cache.
-use Rattle.std.proofs.Common.{◌≡◌, ◌≢◌, ℕ, zero, suc, ◌+◌, ◌<◌, Bool, true, false, cond, not, ◌&&◌, ◌||◌, ◌⊎◌, inl, inr, List, [], ◌∷◌, set, get_or, length, nat_lt, is_some, option_map, Option, Some, None, refl, sym, ap, subst, ◌∙◌, arith, get_or-set_same, get_or-set_other, length-set}
+use Rattle.std.proofs.Common.{◌≡◌, ◌≢◌, ℕ, zero, suc, ◌+◌, ◌<◌, Bool, true, false, cond, not, ◌&&◌, ◌||◌, ◌⊎◌, inl, inr, List, [], ◌∷◌, set, get_or, length, nat_lt, is_some, option_map, Option, Some, None, refl, sym, ap, subst, ◌∙◌, arith, get_or-set_same, get_or-set_other, length-set, filter}
 use Rattle.std.specs.List.{AllByRecursion, IsDistinct, list_any}
 use Rattle.std.specs.Map.{keys_of, lookup, remove_entry}
 use Rattle.std.specs.FinMap as finmap
@@ -12,6 +12,7 @@ use Rattle.sorted_map.proofs.NatKeys.{is_apart, is_same, same_or_apart}
 use Rattle.cached_frag.specs.Cached.{Cached, is_clean}
 use Rattle.dentry_cache.specs.declared.cache.Place.{Place}
 use Rattle.dentry_cache.specs.Cache.{Held, Leaf, Places, cached, fragment_in, held, leaf_cmp, leaf_is, may_go, stays, used_as, without}
+use Rattle.dentry_cache.specs.CacheCalls.{going_at}
 use Rattle.dentry_cache.specs.CacheMap.{AreAtOneRank, At, CacheMap, IsFree, IsFreeFor, at, at_rank, cache_map, clean_in, edited, edited_as, evicted, first, flat, found, frag_at, given_up, goes, held_of, here, last_by, less, no_cache, or_later, or_this, order, orders, removed, roomy, tabulate, used_at, victim, with_frag, with_some}
 use Rattle.dentry_cache.proofs.OneCache.{HasRoomFor, cached_used, cached_without, changed, dropped, room_made, used_valid, without_valid}
 use Rattle.dentry_cache.specs.Places.{IsCache}
@@ -289,6 +290,15 @@ all_so : {P Q : Leaf × Place → Type 0} → ((x : Leaf × Place) → P x → Q
 all_so so [] all = tt
 all_so so (x ∷ xs) all = (so x all.0, all_so so xs all.1)
 
+-- as many leaves pass a test as places
+filter_keys : (p : Leaf × Place → Bool) (t : Leaf → Bool) (es : Places) → AllByRecursion (λ (e : Leaf × Place). t e.0 ≡ p e) es → length (filter t (keys_of es)) ≡ length (filter p es)
+filter_keys p t [] all = refl
+filter_keys p t (e ∷ es) all = ap (λ b. length (cond b (e.0 ∷ filter t (keys_of es)) (filter t (keys_of es)))) all.0 ∙ go (p e) (filter_keys p t es all.1)
+  where
+    go : (b : Bool) → length (filter t (keys_of es)) ≡ length (filter p es) → length (cond b (e.0 ∷ filter t (keys_of es)) (filter t (keys_of es))) ≡ length (cond b (e ∷ filter p es) (filter p es))
+    go true rest = ap suc rest
+    go false rest = rest
+
 module _ (cs : List Held) (cap r : ℕ) (sound : AreAtOneRank cap cs) (there : r < length cs) (stay : Option Leaf) where
   distinct : IsDistinct leaf_is (keys_of (get_or cs r no_cache).entries)
   distinct = (sound.valid r there).distinct
@@ -308,6 +318,11 @@ module _ (cs : List Held) (cap r : ℕ) (sound : AreAtOneRank cap cs) (there : r
 
   victim_is : victim saw r stay ≡ option_map (λ (e : Leaf × Place). e.0) (last_by (may_go stay) had.entries)
   victim_is = ap (last_by (goes saw r stay)) (order_is cs cap r sound there) ∙ last_keys (may_go stay) (goes saw r stay) had.entries (all_so goes_so had.entries (own had.entries distinct))
+
+  pub going_so : length (going_at saw r stay) ≡ length (filter (may_go stay) had.entries)
+  going_so =
+      ap (λ (xs : List Leaf). length (filter (goes saw r stay) xs)) (order_is cs cap r sound there)
+      ∙ filter_keys (may_go stay) (goes saw r stay) had.entries (all_so goes_so had.entries (own had.entries distinct))
 
   pub evicted_so : (now : Held) → dropped stay had ≡ Some now → (evicted saw r stay ≡ Some (cache_map (set cs r now) cap)) × AreAtOneRank cap (set cs r now)
   evicted_so now is = go (last_by (may_go stay) had.entries) refl is

@@ -1,29 +1,26 @@
 -- A split at a rank: what is made ready for it, and what it leaves.
-use Rattle.std.proofs.Common.{◌≡◌, ℕ, suc, ◌+◌, ◌<◌, ◌≤◌, ◌^◌, Bool, true, false, cond, not, ◌&&◌, ◌⊎◌, inl, inr, List, [], ◌∷◌, length, is_some, Option, Some, None, refl, sym, ap, subst, ◌∙◌, arith}
+use Rattle.std.proofs.Common.{◌≡◌, ℕ, suc, ◌+◌, ◌<◌, ◌≤◌, ◌^◌, Bool, true, false, cond, ◌&&◌, ◌⊎◌, inl, inr, List, [], ◌∷◌, length, Option, Some, None, refl, sym, ap, subst, ◌∙◌, arith}
 use Rattle.std.specs.Prelude.{◌==◌}
 use Rattle.std.specs.List.{slice_index_or}
 use Rattle.sorted_map.proofs.NatKeys.{is_same}
 use Rattle.std.specs.FinMap as finmap
 use Rattle.mds_types.specs.declared.ids.Ino.{Ino}
 use Rattle.mds_types.specs.Frag.{Fragment, child_of}
-use Rattle.mds_types.specs.declared.refusals.Refusal.{Refusal}
 use Rattle.objstore.specs.Objects.{Objects}
 use Rattle.dirfrag_codec.specs.FragmentObject.{Names}
 use Rattle.cached_frag.specs.Cached.{Cached, shown}
 use Rattle.dentry_cache.specs.declared.parts.Part.{Part}
 use Rattle.dentry_cache.specs.Cache.{HasCached, Leaf, leaf_is}
-use Rattle.dentry_cache.specs.CacheCalls.{Edits, IsEdited, kept_at, unclean_at, unclean_in}
+use Rattle.dentry_cache.specs.CacheCalls.{Edits, IsEdited}
 use Rattle.dentry_cache.specs.CacheMap.{AreCaches, CacheMap, IsFreeFor, given_up, has_place, here, unclean, with_frag}
-use Rattle.dentry_cache.specs.CacheSplits.{AreAbsent, AreFillable, AreKept, IsButPlaces, IsChildAt, IsFamilyAt, IsKeptFor, MayNotKeepAll, ReadiesAt, SplitsAt, with_parts, with_unclean}
+use Rattle.dentry_cache.specs.CacheSplits.{AreAbsent, AreFillable, AreKept, IsButPlaces, IsChildAt, IsFamilyAt, IsKeptFor, ReadiesAt, SplitsAt, with_parts, with_unclean}
 use Rattle.dentry_cache.specs.Came.{NoneEnds}
 use Rattle.dentry_cache.specs.Divided.{AreChildren}
 use Rattle.dentry_cache.specs.Parting.{AreApart}
 use Rattle.dentry_cache.specs.Reads.{Reads}
 use Rattle.dentry_cache.specs.Reads.Reads.{stays as it_stays}
 use Rattle.dentry_cache.proofs.ChildLaws.{are_keeping}
-use Rattle.dentry_cache.proofs.KeptLaws.{counted}
-use Rattle.dentry_cache.proofs.LacksLaws.{IsPlaced, caches_placed, frag_counts, placed_by_frag, still_left}
-use Rattle.dentry_cache.proofs.MapLaws.{here_free}
+use Rattle.dentry_cache.proofs.LacksLaws.{IsPlaced, caches_placed, placed_by_frag, still_left}
 use Rattle.dentry_cache.proofs.NameParts.{no_child, one_child}
 use Rattle.dentry_cache.proofs.ReadsLaws.{edits_reads, places_changed, reads_then, reads_weaker}
 use Rattle.dentry_cache.proofs.SplitShows.{apart_from}
@@ -74,19 +71,6 @@ module _ (r : ℕ) (dir : Ino) (frag : Fragment) (bits : ℕ) (some : 1 ≤ bits
 
   pub ready_reads : (objects : Objects) → Reads (IsFamilyAt r dir frag bits) (IsChildAt r dir frag bits) objects old mid
   ready_reads objects = edits_reads (IsFamilyAt r dir frag bits) (IsChildAt r dir frag bits) objects old old mid r (dir, frag) IsButPlaces places_changed it_stays (inl (refl, refl)) e
-
-  -- no more places can't become free
-  pub ready_refused : AreCaches old → (reason : Refusal) → MayNotKeepAll (2 ^ bits) mid r reason → MayNotKeepAll (2 ^ bits) old r reason
-  ready_refused valid reason (inl memory) = inl memory
-  ready_refused valid reason (inr full) =
-      let cap : mid.cap ≡ old.cap = by_edit (λ (k : CacheMap). k.cap ≡ old.cap) (λ f now seen same. refl) in
-      let fewer : length (unclean_at mid r) ≤ length (unclean_at old r) = counts unclean_in (λ f now seen same. ap (λ (k : Cached). unclean_in (Some k)) same) in
-      let kept : length (kept_at mid r) ≤ length (kept_at old r) = counts (λ (o : Option Cached). not (is_some o)) (λ f now seen same. refl) in
-      inr (full.0, omega (arith, full.1, cap, fewer, kept))
-    where
-      counts : (P : Option Cached → Bool) → ((f now : Cached) → here old r (dir, frag) ≡ Some f → IsButPlaces f now → P (Some now) ≡ P (Some f)) → counted P mid r ≤ counted P old r
-      counts P alike = by_edit (λ (k : CacheMap). counted P k r ≤ counted P old r) (λ f now seen same.
-          frag_counts P old r (dir, frag) now r (inl (valid.placed r (dir, frag) (ap (λ (o : Option Cached). is_some o) seen))) (here_free r (finmap.get old.held (dir, frag)) (ap (λ (o : Option Cached). is_some o) seen)) (alike f now seen same ∙ sym (ap P seen)))
 
 -- what is made ready changes no name, and ends no fragment
 pub readies_reads : (r : ℕ) (dir : Ino) (frag : Fragment) (bits : ℕ) → 1 ≤ bits → (old new : CacheMap) → r < length old.used → AreCaches old → AreAbsent old r dir frag bits → ReadiesAt r dir frag bits old new

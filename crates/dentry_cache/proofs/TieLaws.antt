@@ -14,10 +14,10 @@ use Rattle.cached_frag.specs.declared.bases.Base.{Base}
 use Rattle.cached_frag.specs.declared.bases.Base.TheVariants.{Fresh, Stored}
 use Rattle.cached_frag.specs.declared.marks.Mark.{Mark}
 use Rattle.cached_frag.specs.Commit.{IsOver}
-use Rattle.cached_frag.specs.Marks.{Marks, patched}
+use Rattle.cached_frag.specs.Marks.{Marks, inode_or, patched}
 use Rattle.cached_frag.specs.Snap.{Snap, counts_of, next_version}
 use Rattle.cached_frag.proofs.CommitLaws.{commit_is_right}
-use Rattle.cached_frag.proofs.MarkLaws.{get-patched, inode_or}
+use Rattle.cached_frag.proofs.MarkLaws.{get-patched}
 use Rattle.cached_frag.specs.Cached.{Cached, is_settled, marked, names_below, shown, shown_over}
 use Rattle.cached_frag.proofs.SettledLaws.{get-unsettled}
 use Rattle.dentry_cache.specs.Loading.{Loads}

@@ -1,5 +1,5 @@
 -- What calls at a rank make of the caches of all ranks, and why they may be refused.
-use Rattle.std.specs.Prelude.{◌≡◌, ◌⊎◌, ℕ, ◌+◌, ◌<◌, Bool, true, false, not, List, filter, length, is_some, Option, Some, None}
+use Rattle.std.specs.Prelude.{◌≡◌, ◌⊎◌, ℕ, ◌+◌, ◌<◌, ◌≤◌, Bool, true, false, not, List, filter, length, is_some, Option, Some, None}
 use Rattle.mds_types.specs.declared.object_names.ObjName.TheVariants.{Frag as FragOf}
 use Rattle.mds_types.specs.declared.refusals.Refusal.{Refusal}
 use Rattle.mds_types.specs.declared.refusals.Refusal.TheVariants.{NoMemory, StoreFault, Damaged, NothingToEvict}
@@ -7,7 +7,7 @@ use Rattle.objstore.specs.Omap.{Omap}
 use Rattle.cached_frag.specs.Cached.{Cached, is_clean}
 use Rattle.std.specs.FinMap as finmap
 use Rattle.dentry_cache.specs.Cache.{IsThere, Leaf}
-use Rattle.dentry_cache.specs.CacheMap.{CacheMap, has_place, here, order, roomy, used_at, with_frag}
+use Rattle.dentry_cache.specs.CacheMap.{CacheMap, goes, has_place, here, order, roomy, used_at, with_frag}
 use Rattle.dentry_cache.specs.Loading.{Loads}
 
 -- the fragment of a leaf at a rank is another, which this relates to it, and is the most recently used
@@ -76,3 +76,17 @@ kept_at c r = filter (λ (leaf : Leaf). not (is_some (here c r leaf))) (order c 
 -- fewer than so many places of a rank are free or can become so: each other one is that of a fragment that isn't clean
 abbrev pub LacksAt : ℕ → CacheMap → ℕ → Type 0
 LacksAt count c r = c.cap < length (unclean_at c r) + count
+
+-- ---- places for several fragments
+
+-- the leaves of a rank whose fragments may go, while one is to stay
+abbrev pub going_at : CacheMap → ℕ → Option Leaf → List Leaf
+going_at c r stay = filter (goes c r stay) (order c r)
+
+-- so many places of a rank are free, or become so where such fragments go
+abbrev pub CanKeep : ℕ → CacheMap → ℕ → Option Leaf → Type 0
+CanKeep count c r stay = length (order c r) + count ≤ c.cap + length (going_at c r stay)
+
+-- fewer are
+abbrev pub CanNotKeep : ℕ → CacheMap → ℕ → Option Leaf → Type 0
+CanNotKeep count c r stay = c.cap + length (going_at c r stay) < length (order c r) + count

@@ -9,8 +9,8 @@ use Rattle.mds_types.specs.declared.refusals.Refusal.{Refusal}
 use Rattle.mds_types.specs.declared.refusals.Refusal.TheVariants.{NoMemory, NothingToEvict}
 use Rattle.dentry_cache.specs.declared.parts.Part.{Part}
 use Rattle.dentry_cache.specs.Cache.{HasCached, Leaf, Unsaved, leaf_cmp, unsaved_in, with_unsaved}
-use Rattle.dentry_cache.specs.CacheCalls.{Edits, IsAbsent, IsRefusedAt, KeepsAt, kept_at, unclean_at}
-use Rattle.dentry_cache.specs.CacheMap.{CacheMap, given_up, has_place, here, with_frag}
+use Rattle.dentry_cache.specs.CacheCalls.{CanKeep, CanNotKeep, Edits, IsAbsent, KeepsAt, kept_at, unclean_at}
+use Rattle.dentry_cache.specs.CacheMap.{CacheMap, given_up, has_place, here, roomy, with_frag}
 use Rattle.dentry_cache.specs.Divided.{AreChildren, AreReady}
 use Rattle.dentry_cache.specs.Parting.{AreApart}
 use Rattle.dentry_cache.specs.Reads.{Reads}
@@ -80,18 +80,25 @@ without_children r dir frag bits zero c = c
 without_children r dir frag bits (suc n) c =
     given_up (without_children r dir frag bits n c) r (dir, child_of frag n bits)
 
--- a refusal came with the place of one of the children, and those that were kept before are given up
-abbrev pub RefusesChild : ℕ → Ino → Fragment → ℕ → (old new : CacheMap) → Refusal → Type 0
-RefusesChild r dir frag bits old new reason =
+-- want of memory came with the place of one of the children, once it was free, and those that were kept before are given
+-- up
+abbrev pub WantsChild : ℕ → Ino → Fragment → ℕ → (old new : CacheMap) → Type 0
+WantsChild r dir frag bits old new =
     (n : ℕ) × (n < 2 ^ bits) × (mid : CacheMap) × KeepsChildren r dir frag bits n old mid
-    × (then : CacheMap) × IsRefusedAt r (Some (dir, frag)) mid then reason
+    × (then : CacheMap) × (roomy mid r (Some (dir, frag)) ≡ Some then)
     × (new ≡ without_children r dir frag bits (2 ^ bits) then)
 
--- it came so, or for want of memory before; the fragment is the most recently used
+-- it came so, or before any place was taken; the fragment is the most recently used
+abbrev pub WantsAt : ℕ → Ino → Fragment → ℕ → (old new : CacheMap) → Type 0
+WantsAt r dir frag bits old new =
+    (mid : CacheMap) × Edits IsButPlaces r (dir, frag) old mid × ((new ≡ mid) ⊎ WantsChild r dir frag bits mid new)
+
+-- why nothing was made ready, and what that leaves: where fewer places of the rank are free or can become so than there
+-- will be children, beside that of the fragment, all as it was; where as many are it was want of memory
 abbrev pub RefusesAt : ℕ → Ino → Fragment → ℕ → (old new : CacheMap) → Refusal → Type 0
 RefusesAt r dir frag bits old new reason =
-    (mid : CacheMap) × Edits IsButPlaces r (dir, frag) old mid
-    × (((reason ≡ NoMemory) × (new ≡ mid)) ⊎ RefusesChild r dir frag bits mid new reason)
+    ((reason ≡ NothingToEvict) × CanNotKeep (2 ^ bits) old r (Some (dir, frag)) × (new ≡ old))
+    ⊎ ((reason ≡ NoMemory) × CanKeep (2 ^ bits) old r (Some (dir, frag)) × WantsAt r dir frag bits old new)
 
 -- why no places were kept for so many children: want of memory, or each place but so many is kept, or that of a
 -- fragment that isn't clean

@@ -1,5 +1,5 @@
 //! Places for others: the least recently used of the clean fragments goes.
-ghost use Rattle.std.specs.Prelude.{◌≡◌, ◌<◌, length, MatchOption, None, OnOk, IfErr, OnErr};
+ghost use Rattle.std.specs.Prelude.{◌≡◌, ◌+◌, ◌<◌, ◌≤◌, true, false, filter, length, MatchOption, None, OnOk, IfErr, OnErr};
 ghost use Rattle.mds_types.specs.declared.refusals.Refusal.TheVariants.{NothingToEvict};
 ghost use Rattle.dentry_cache.specs.Cache.{Evicts, IsFull, IsOldest, MakesRoom, NoneGoes, is_evictable, may_go, stays};
 
@@ -26,6 +26,23 @@ impl Cache {
         ensures same { OnErr result (self.new ≡ self.old) }
     {
         self.drop_oldest(None)
+    }
+
+    // Whether so many places are free, or can become so while a fragment is to stay. From the least recently used on, no
+    // more places are looked at than that takes.
+    pub(crate) fn can_keep(&self, count: usize, stay: Option<(Ino, Frag)>) -> bool
+        ensures can { result ≡ true → length self.now.entries + count ≤ self.now.cap + length (filter (may_go stay) self.now.entries) }
+        ensures lacks { result ≡ false → self.now.cap + length (filter (may_go stay) self.now.entries) < length self.now.entries + count }
+    {
+        let mut found = self.capacity() - self.len();
+        let mut places = self.places.iter();
+        while let Some((leaf, place)) = places.next_back() {
+            if found >= count {
+                return true;
+            }
+            found += usize::from(may_go(&stay, leaf, place));
+        }
+        found >= count
     }
 
     // Makes a place free, if none is.

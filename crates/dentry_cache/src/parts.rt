@@ -1,5 +1,5 @@
 //! The children that a fragment will be split into: made with room for their names.
-ghost use Rattle.std.specs.Prelude.{◌≡◌, ◌+◌, ◌≤◌, ◌<◌, ◌^◌, length, IfOk, OnOk};
+ghost use Rattle.std.specs.Prelude.{◌≡◌, ◌+◌, ◌≤◌, ◌<◌, ◌^◌, length, IfOk, OnErr, OnOk};
 ghost use Rattle.mds_types.specs.Frag.{Fragment};
 ghost use Rattle.cached_frag.specs.Cached.{shown};
 ghost use Rattle.dentry_cache.specs.Divided.{AreNumbered, AreReady};
@@ -72,7 +72,7 @@ fn bare_parts(alloc: Global, frag: Frag, nb: u8, generation: u64) -> Result<Vec<
     let mut parts = Vec::new(alloc);
     for i in 0..count {
         let Some(child) = frag.child(i, nb) else {
-            return Err(AllocError);
+            unreachable!()
         };
         parts.push(Part {
             frag: child,
@@ -93,8 +93,14 @@ fn grow(parts: &mut Vec<Part>, at: Option<usize>) -> Result<(), AllocError>
     if at >= parts.len() {
         return Ok(());
     }
-    let Some(room) = parts[at].fragment.room().checked_add(1) else {
-        return Err(AllocError);
-    };
+    let room = one_more(parts[at].fragment.room())?;
     parts[at].fragment.reserve(room)
+}
+
+// Room for one name more. An error says that the names are more than can be counted.
+fn one_more(room: usize) -> Result<usize, AllocError>
+    ensures ok { IfOk result (λ more. more ≡ room + 1) }
+    ensures err { OnErr result (2 ^ 64 ≤ room + 1) }
+{
+    room.checked_add(1).ok_or(AllocError)
 }

@@ -1,13 +1,15 @@
 //! Fragments split into their children at their rank, in one call that can't be refused once all is ready.
-ghost use Rattle.std.specs.Prelude.{◌≡◌, ◌+◌, ◌≤◌, ◌<◌, ◌^◌, Some, length, IfOk, IfErr, OnOk, OnErr};
+ghost use Rattle.std.specs.Prelude.{◌≡◌, ◌+◌, ◌≤◌, ◌<◌, ◌^◌, true, false, Some, length, IfOk, IfErr, OnOk, OnErr};
 ghost use Rattle.std.specs.FinMap as map;
 ghost use Rattle.sorted_map.specs.SortedMap.{contents};
 ghost use Rattle.objstore.specs.Omap.{key_cmp};
 ghost use Rattle.mds_types.specs.Frag.{child_of};
+ghost use Rattle.mds_types.specs.declared.refusals.Refusal.TheVariants.{NoMemory};
 ghost use Rattle.cached_frag.specs.Cached.{AreEntries, Cached, shown};
 ghost use Rattle.dentry_cache.specs.Cache.{HasCached, IsThere};
+ghost use Rattle.dentry_cache.specs.CacheCalls.{CanKeep, CanNotKeep};
 ghost use Rattle.dentry_cache.specs.CacheMap.{AreCaches, frag_of, given_up, here, leaf_of};
-ghost use Rattle.dentry_cache.specs.CacheSplits.{AreAbsent, AreFillable, AreKept, IsReadyAt, KeepsAll, MayNotKeepAll, ReadiesAt, ReadsFamily, RefusesAt, RefusesChild, SplitsInto, StaysAt, with_parts, without_children};
+ghost use Rattle.dentry_cache.specs.CacheSplits.{AreAbsent, AreFillable, AreKept, IsReadyAt, KeepsAll, MayNotKeepAll, ReadiesAt, ReadsFamily, RefusesAt, SplitsInto, StaysAt, WantsChild, with_parts, without_children};
 ghost use Rattle.dentry_cache.specs.Divided.{AreNumbered};
 
 use crate::caches::Caches;
@@ -26,8 +28,8 @@ impl Caches {
     /// but for the fragment itself, which stays. Takes memory for the children and their places.
     ///
     /// Refused `NothingToEvict` where fewer places of the rank are free or can become so than there will be children,
-    /// beside that of the fragment, and `NoMemory`. No place is kept then; clean fragments may have gone, but for the
-    /// fragment itself.
+    /// beside that of the fragment; all is as it was then. Where as many are, refused `NoMemory` alone. No place is kept
+    /// then; clean fragments may have gone, but for the fragment itself.
     pub fn ready_split(
         &mut self,
         alloc: Global,
@@ -52,6 +54,9 @@ impl Caches {
         ensures reads { ReadsFamily at.rank.0 at.dir at.frag bits self.old self.new }
         ensures refused { IfErr result (MayNotKeepAll (2 ^ bits) self.old at.rank.0) }
     {
+        if !self.can_keep(&at, bits) {
+            return Err(Refusal::NothingToEvict);
+        }
         let parts = match self.ready_parts(alloc, &at, bits, generation) {
             Ok(parts) => parts,
             Err(_) => return Err(Refusal::NoMemory),
@@ -95,7 +100,20 @@ impl Caches {
         self.fill_all(&at, items);
     }
 
-    // Keeps a place for each child.
+    // Whether there will be a place for each child: one that is free, or becomes so where a clean fragment goes, but for
+    // the one that splits.
+    fn can_keep(&self, at: &Dirfrag, bits: u8) -> bool
+        requires there { at.now.rank.0 < length self.now.used }
+        requires few { bits ≤ 8 }
+        ensures can { result ≡ true → CanKeep (2 ^ bits) self.now at.now.rank.0 (Some (leaf_of at.now)) }
+        ensures lacks { result ≡ false → CanNotKeep (2 ^ bits) self.now at.now.rank.0 (Some (leaf_of at.now)) }
+        ensures valid { AreCaches self.now }
+    {
+        let cache = &self.caches[at.rank.0 as usize];
+        cache.can_keep(child_count(bits) as usize, Some((at.dir, at.frag)))
+    }
+
+    // Keeps a place for each child. There are as many that are free or can become so.
     fn keep_children(&mut self, alloc: Global, at: &Dirfrag, bits: u8) -> Result<(), Refusal>
         requires there { at.now.rank.0 < length self.old.used }
         requires some { 1 ≤ bits }
@@ -103,13 +121,14 @@ impl Caches {
         requires deep { at.now.frag.bits + bits ≤ 24 }
         requires absent { AreAbsent self.old at.now.rank.0 at.now.dir at.now.frag bits }
         requires valid { AreCaches self.old }
+        requires can { CanKeep (2 ^ bits) self.old at.now.rank.0 (Some (leaf_of at.now)) }
         ensures kept { OnOk result (AreKept self.new at.now.rank.0 at.now.dir at.now.frag bits) }
         ensures keeps { OnOk result (KeepsAll at.now.rank.0 at.now.dir at.now.frag bits self.old self.new) }
         ensures left { OnErr result (AreAbsent self.new at.now.rank.0 at.now.dir at.now.frag bits) }
-        ensures refuses { IfErr result (RefusesChild at.now.rank.0 at.now.dir at.now.frag bits self.old self.new) }
+        ensures refuses { OnErr result (WantsChild at.now.rank.0 at.now.dir at.now.frag bits self.old self.new) }
         ensures stays { here self.new at.now.rank.0 (leaf_of at.now) ≡ here self.old at.now.rank.0 (leaf_of at.now) }
         ensures reads { ReadsFamily at.now.rank.0 at.now.dir at.now.frag bits self.old self.new }
-        ensures refused { IfErr result (MayNotKeepAll (2 ^ bits) self.old at.now.rank.0) }
+        ensures refused { IfErr result (λ reason. reason ≡ NoMemory) }
     {
         for i in 0..child_count(bits) {
             let child = child_at(at, i, bits);

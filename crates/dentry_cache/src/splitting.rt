@@ -28,13 +28,11 @@ impl Cache {
         ensures ready { IfOk result (λ parts. HasCached (cached self.new.entries (dir, frag)) (λ (f : Cached). (map.len f.dirty ≤ f.places) × AreReady frag nb (shown f) parts)) }
         ensures numbered { IfOk result (λ parts. AreNumbered generation parts) }
     {
-        if self.ready_names(dir, frag).is_err() {
-            return Err(AllocError);
+        self.ready_names(dir, frag)?;
+        match self.get(dir, frag) {
+            Some(fragment) => parts_of(alloc, fragment, frag, nb, generation),
+            None => unreachable!(),
         }
-        let Some(fragment) = self.get(dir, frag) else {
-            return Err(AllocError);
-        };
-        parts_of(alloc, fragment, frag, nb, generation)
     }
 
     // Makes a fragment ready to give its names away (`CachedFrag::into_names`). Takes memory for its dirty names.

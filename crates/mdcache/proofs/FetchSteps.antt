@@ -1,6 +1,6 @@
 -- A fetch of a leaf: what it leaves, and why it is refused.
-use Rattle.std.proofs.Common.{◌≡◌, inl, inr, ℕ, ◌+◌, Bool, true, false, cond, Option, Some, None, refl, sym, ap, subst, ◌∙◌, arith}
-use Rattle.std.specs.Prelude.{OnOk, OnErr, IfErr, Result, Ok, Err}
+use Rattle.std.proofs.Common.{◌≡◌, inl, inr, ℕ, ◌+◌, ◌<◌, List, [], length, get_or-set_same, Bool, true, false, cond, Option, Some, None, refl, sym, ap, subst, ◌∙◌, arith}
+use Rattle.std.specs.Prelude.{slice_get, OnOk, OnErr, IfErr, Result, Ok, Err}
 use Rattle.std.specs.Result.{result_err}
 use Rattle.std.specs.FinMap as map
 use Rattle.mds_types.specs.declared.refusals.Refusal.{Refusal}
@@ -9,7 +9,7 @@ use Rattle.objstore.specs.Omap.{Omap}
 use Rattle.objstore.specs.Objects.{Objects, faults_told}
 use Rattle.dentry_cache.specs.Cache.{IsThere, Leaf, leaf_is}
 use Rattle.dentry_cache.specs.CacheCalls.{FetchesAt, IsAbsent, KeepsNone, MakesRoomAt, MayNotFetchAt}
-use Rattle.dentry_cache.specs.CacheMap.{AreCaches, CacheMap, at, at_rank, has_place, here, leaf_of, roomy, unclean, unsaved_at}
+use Rattle.dentry_cache.specs.CacheMap.{AreCaches, CacheMap, at, at_rank, first, has_place, here, leaf_of, order, roomy, unclean, unsaved_at, used_at}
 use Rattle.dentry_cache.specs.Came.{NoneEnds, StaysNamed}
 use Rattle.dentry_cache.specs.Loading.{Loads, object_of}
 use Rattle.dentry_cache.specs.Reads.{Reads}
@@ -19,9 +19,9 @@ use Rattle.dentry_cache.proofs.CountLaws.{staying}
 use Rattle.dentry_cache.proofs.KeptLaws.{roomy_stays}
 use Rattle.dentry_cache.proofs.LeafLaws.{one_leaf}
 use Rattle.dentry_cache.proofs.ReadsLaws.{fetched_reads, room_reads}
-use Rattle.dentry_cache.proofs.StepLaws.{get_with_frag}
+use Rattle.dentry_cache.proofs.StepLaws.{get_with_frag, ranks_roomy}
 use Rattle.dentry_cache.proofs.UncleanLaws.{get_unclean}
-use Rattle.mdcache.specs.CacheReads.{LacksPlacesIn}
+use Rattle.mdcache.specs.CacheReads.{IsNewest, LacksPlacesIn}
 use Rattle.mdcache.specs.Core.{Core, MayFetch, ReadsCore}
 use Rattle.mdcache.specs.Reads.{MayNotFind}
 use Rattle.mdcache.specs.Sound.{IsSaved}
@@ -33,6 +33,15 @@ use Rattle.mdcache.proofs.UncleanOf.{full_lacks}
 not_damaged : (f : Fragment) (o : Option Omap) → IsSaved f o → Loads f o None → ⊥
 not_damaged f None saved loads = saved
 not_damaged f (Some object) saved loads = loads saved.0 saved.1 saved.2
+
+-- what is used comes to the front of its rank's order
+pub newest_used : (c : CacheMap) (r : ℕ) (leaf : Leaf) → r < length c.used → IsNewest (used_at c r leaf) r leaf
+newest_used c r leaf there = ap (λ (ls : List Leaf). slice_get ls 0) (get_or-set_same c.used r (first leaf (order c r)) [] there)
+
+newest_fetched : (c new : CacheMap) (r : ℕ) (leaf : Leaf) (stay : Option Leaf) (object : Option Omap) (b : Bool) → r < length c.used → FetchesAt r leaf stay object b c new → IsNewest new r leaf
+newest_fetched c new r leaf stay object true there is = subst (λ (k : CacheMap). IsNewest k r leaf) (sym is) (newest_used c r leaf there)
+newest_fetched c new r leaf stay object false there f =
+    subst (λ (k : CacheMap). IsNewest k r leaf) (sym f.5) (newest_used f.3 r leaf (subst (λ (n : ℕ). r < n) (sym (ranks_roomy c f.3 r stay f.4)) there))
 
 module _ (old view : Core) (is : view ≡ old) (a : Dirfrag) (may : MayFetch old a) (none : KeepsNone old.caches) (stay : Option Leaf) (result : Result (Unit {0}) Refusal)
     (caches' : CacheMap) (objects' : Objects) (faults' : ℕ) (valid : AreCaches view.caches)
@@ -55,6 +64,13 @@ module _ (old view : Core) (is : view ≡ old) (a : Dirfrag) (may : MayFetch old
       go (Ok done) fetched absent left =
           fetched_reads Uses NoneEnds view.objects view.caches view.caches caches' a.rank.0 (leaf_of a) stay it_stays named stayed (has_place view.caches a.rank.0 (leaf_of a)) refl fetched
       go (Err reason) fetched absent left = room_reads Uses NoneEnds view.objects view.caches view.caches caches' a.rank.0 (leaf_of a) stay it_stays named stayed absent.0 left
+
+  pub fetch_newest : OnOk result (IsNewest caches' a.rank.0 (leaf_of a))
+  fetch_newest = go result fetched
+    where
+      go : (r : Result (Unit {0}) Refusal) → OnOk r (FetchesAt a.rank.0 (leaf_of a) stay (object_of view.objects a.dir a.frag) (has_place view.caches a.rank.0 (leaf_of a)) view.caches caches') → OnOk r (IsNewest caches' a.rank.0 (leaf_of a))
+      go (Ok done) fetched = newest_fetched view.caches caches' a.rank.0 (leaf_of a) stay (object_of view.objects a.dir a.frag) (has_place view.caches a.rank.0 (leaf_of a)) may_now.there fetched
+      go (Err reason) fetched = tt
 
   pub fetch_none : KeepsNone caches'
   fetch_none = go result fetched left

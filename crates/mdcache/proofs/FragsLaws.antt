@@ -10,7 +10,7 @@ use Rattle.dentry_cache.specs.Cache.{Leaf}
 use Rattle.namespace_ops.specs.Reasons.{IsOfFragments}
 use Rattle.mdcache.specs.Frags.{KeepsState, LacksFor, MayRefuse}
 use Rattle.mdcache.specs.Made.{IsUntouched}
-use Rattle.mdcache.specs.Core.{Core, LacksPlaces, LacksPlacesAt, state_of}
+use Rattle.mdcache.specs.Core.{Core, LacksPlacesAt, state_of}
 use Rattle.mdcache.specs.Shown.{names_of}
 use Rattle.mdcache.specs.State.{IsLive, State, UnsavedLeaves}
 
@@ -51,20 +51,29 @@ lacked_at count a b rank kept lacks =
     let same = ap (λ (m : UnsavedLeaves). map.len m) (kept.unclean rank.0) in
     omega (arith, cap, same, lacks)
 
-pub lacked_before : (count : ℕ) (a b : Core) → KeepsState a b None → LacksPlaces count b → LacksPlaces count a
-lacked_before count a b kept (rank, there, lacks) = (rank, subst (λ (n : ℕ). rank.0 < n) kept.count there, lacked_at count a b rank kept lacks)
+-- so it is with a rank that holds a leaf of a directory that is asked for, where these are told by the state
+pub lacked_asked : (count : ℕ) (Asked : State → ℕ → Type 0) (Holds : State → Leaf → Rank → Type 0) (a b : Core) → KeepsState a b None
+    → (leaf : Leaf) × Asked (state_of b) leaf.0.0 × (rank : Rank) × Holds (state_of b) leaf rank × LacksPlacesAt count b rank
+    → (leaf : Leaf) × Asked (state_of a) leaf.0.0 × (rank : Rank) × Holds (state_of a) leaf rank × LacksPlacesAt count a rank
+lacked_asked count Asked Holds a b kept (leaf, asked, rank, holds, lacks) = (
+  leaf,
+  subst (λ (s : State). Asked s leaf.0.0) kept.state asked,
+  rank,
+  subst (λ (s : State). Holds s leaf rank) kept.state holds,
+  lacked_at count a b rank kept lacks,
+)
 
-pub refused_later : (a b c : Core) (op : Op) (reason : Refusal) → KeepsState a b None → MayRefuse b c op reason → MayRefuse a c op reason
-refused_later a b c op reason kept (inl memory) = inl memory
-refused_later a b c op reason kept (inr (inl (is, rose))) =
+-- why a call is refused after others that were not, where places that lack now lacked before
+pub refused_later : (Now Before : Type 0) (a b c : Core) (op : Op) (reason : Refusal) → (Now → Before) → KeepsState a b None → MayRefuse Now b c op reason → MayRefuse Before a c op reason
+refused_later Now Before a b c op reason so kept (inl memory) = inl memory
+refused_later Now Before a b c op reason so kept (inr (inl (is, rose))) =
     let counted = kept.counted in
     inr (inl (is, omega (arith, counted, rose)))
-refused_later a b c op reason kept (inr (inr (inl (is, lacks)))) =
-    inr (inr (inl (is, lacked_before 4 a b kept lacks)))
-refused_later a b c op reason kept (inr (inr (inr (is, lacks)))) = inr (inr (inr (is, subst (λ (s : State). LacksFor op s) kept.state lacks)))
+refused_later Now Before a b c op reason so kept (inr (inr (inl (is, lacks)))) = inr (inr (inl (is, so lacks)))
+refused_later Now Before a b c op reason so kept (inr (inr (inr (is, lacks)))) = inr (inr (inr (is, subst (λ (s : State). LacksFor op s) kept.state lacks)))
 
-pub refused_so : (a b : Core) (op : Op) (reason : Refusal) → MayRefuse a b op reason → IsOfFragments reason
-refused_so a b op reason (inl is) = subst IsOfFragments (sym is) tt
-refused_so a b op reason (inr (inl (is, rose))) = subst IsOfFragments (sym is) tt
-refused_so a b op reason (inr (inr (inl (is, lacks)))) = subst IsOfFragments (sym is) tt
-refused_so a b op reason (inr (inr (inr (is, lacks)))) = subst IsOfFragments (sym is) tt
+pub refused_so : (NoPlace : Type 0) (a b : Core) (op : Op) (reason : Refusal) → MayRefuse NoPlace a b op reason → IsOfFragments reason
+refused_so NoPlace a b op reason (inl is) = subst IsOfFragments (sym is) tt
+refused_so NoPlace a b op reason (inr (inl (is, rose))) = subst IsOfFragments (sym is) tt
+refused_so NoPlace a b op reason (inr (inr (inl (is, lacks)))) = subst IsOfFragments (sym is) tt
+refused_so NoPlace a b op reason (inr (inr (inr (is, lacks)))) = subst IsOfFragments (sym is) tt

@@ -37,6 +37,7 @@ pub mod ShownLaws
 pub mod SoundLaws
 pub mod SplitLaws
 pub mod SplitSteps
+pub mod StandingObjects
 pub mod TextLaws
 pub mod TreeLaws
 pub mod TreeLookups

@@ -62,14 +62,14 @@ module _ (s : State) (name : List ℕ) (sound : IsSound s) (first : first_name s
       let clash : true ≡ false = sym (first_stands s.purge name first) ∙ ap (λ (k : List ℕ). is_some (map.get s.purge k)) (sym same) ∙ ap (λ (o : Option (Unit {0})). is_some o) (sound.listed leaf live) in
       cc
 
-  same_objects : (leaf : Leaf) → IsLive s.homes s.covers leaf → object_of (map.remove s.objects name) leaf.0 leaf.1 ≡ object_of s.objects leaf.0 leaf.1
-  same_objects leaf live = get_left s.objects name (text_of leaf) (not_live leaf live)
+  pub purged_objects : (leaf : Leaf) → IsLive s.homes s.covers leaf → object_of (map.remove s.objects name) leaf.0 leaf.1 ≡ object_of s.objects leaf.0 leaf.1
+  purged_objects leaf live = get_left s.objects name (text_of leaf) (not_live leaf live)
 
   pub purged_tree : shown_tree (purged s name) ≡ shown_tree s
-  purged_tree = other_objects_tree s (map.remove s.objects name) (map.remove s.purge name) sound same_objects
+  purged_tree = other_objects_tree s (map.remove s.objects name) (map.remove s.purge name) sound purged_objects
 
   pub purged_sound : IsSound (purged s name)
-  purged_sound = other_objects s (map.remove s.objects name) (map.remove s.purge name) sound same_objects
+  purged_sound = other_objects s (map.remove s.objects name) (map.remove s.purge name) sound purged_objects
       (λ q has. go q has (name_or_other name q)) (λ leaf live. get_left s.purge name (text_of leaf) (not_live leaf live) ∙ sound.listed leaf live)
     where
       go : (q : List ℕ) → is_some (map.get (map.remove s.objects name) q) ≡ true → (q ≡ name) ⊎ (q ≡ name → ⊥) → IsOwned (purged s name) q
@@ -79,7 +79,7 @@ module _ (s : State) (name : List ℕ) (sound : IsSound s) (first : first_name s
       go q has (inr apart) = owned_beside s (map.remove s.objects name) name q apart (sound.owned q (ap (λ (o : Option Omap). is_some o) (sym (get_left s.objects name q apart)) ∙ has))
 
   pub purged_cached : (caches : CacheMap) → AreCached s caches → AreCached (purged s name) caches
-  purged_cached = other_objects_kept s (map.remove s.objects name) (map.remove s.purge name) sound same_objects
+  purged_cached = other_objects_kept s (map.remove s.objects name) (map.remove s.purge name) sound purged_objects
 
 -- ---- the object of a directory's tree is written or removed
 
@@ -97,14 +97,14 @@ module _ (s : State) (dir : Ino) (sound : IsSound s) (known : is_known s.homes d
       go true = get_beside s.objects (tree_text dir) (tree_object leaves) q apart
       go false = get_left s.objects (tree_text dir) q apart
 
-  same_beside : (leaf : Leaf) → IsLive s.homes s.covers leaf → object_of objects leaf.0 leaf.1 ≡ object_of s.objects leaf.0 leaf.1
-  same_beside leaf live = beside (text_of leaf) (no_tree_text s.homes s.covers sound.table sound.numbered leaf dir live known)
+  pub tree_saved_objects : (leaf : Leaf) → IsLive s.homes s.covers leaf → object_of objects leaf.0 leaf.1 ≡ object_of s.objects leaf.0 leaf.1
+  tree_saved_objects leaf live = beside (text_of leaf) (no_tree_text s.homes s.covers sound.table sound.numbered leaf dir live known)
 
   pub tree_saved_tree : shown_tree (tree_saved s dir) ≡ shown_tree s
-  tree_saved_tree = other_objects_tree s objects (map.remove s.purge (tree_text dir)) sound same_beside
+  tree_saved_tree = other_objects_tree s objects (map.remove s.purge (tree_text dir)) sound tree_saved_objects
 
   pub tree_saved_sound : IsSound (tree_saved s dir)
-  tree_saved_sound = other_objects s objects (map.remove s.purge (tree_text dir)) sound same_beside
+  tree_saved_sound = other_objects s objects (map.remove s.purge (tree_text dir)) sound tree_saved_objects
       (λ q has. go q has (name_or_other (tree_text dir) q)) (λ leaf live. get_left s.purge (tree_text dir) (text_of leaf) (no_tree_text s.homes s.covers sound.table sound.numbered leaf dir live known) ∙ sound.listed leaf live)
     where
       go : (q : List ℕ) → is_some (map.get objects q) ≡ true → (q ≡ tree_text dir) ⊎ (q ≡ tree_text dir → ⊥) → IsOwned (tree_saved s dir) q
@@ -112,7 +112,7 @@ module _ (s : State) (dir : Ino) (sound : IsSound s) (known : is_known s.homes d
       go q has (inr apart) = owned_beside s objects (tree_text dir) q apart (sound.owned q (ap (λ (o : Option Omap). is_some o) (sym (beside q apart)) ∙ has))
 
   pub tree_saved_cached : (caches : CacheMap) → AreCached s caches → AreCached (tree_saved s dir) caches
-  tree_saved_cached = other_objects_kept s objects (map.remove s.purge (tree_text dir)) sound same_beside
+  tree_saved_cached = other_objects_kept s objects (map.remove s.purge (tree_text dir)) sound tree_saved_objects
 
 abbrev pub no_pairs : PairMap
 no_pairs = map.empty

@@ -78,10 +78,6 @@ shown_in c = shown_tree (state_of c)
 abbrev pub LacksPlacesAt : ℕ → Core → Rank → Type 0
 LacksPlacesAt count core rank = LacksPlacesIn count core.caches rank.0
 
--- so it is with one of the ranks
-abbrev pub LacksPlaces : ℕ → Core → Type 0
-LacksPlaces count core = (rank : Rank) × (rank.0 < length core.caches.used) × LacksPlacesAt count core rank
-
 -- a cached fragment is a live leaf, is tied to its object, and has a generation that was given out, or 0, that of one that was fetched
 pub record IsCachedIn (s : State) (leaf : Leaf) (f : Cached) : Type 0 where
   pub live : IsLive s.homes s.covers leaf

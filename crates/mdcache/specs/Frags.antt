@@ -25,7 +25,7 @@ use Rattle.namespace_ops.specs.declared.plans.Change.TheVariants.{Add, Set, Remo
 use Rattle.mdcache.specs.declared.holders.Holders.{Holders}
 use Rattle.mdcache.specs.declared.prepared.Prepared.{Prepared}
 use Rattle.mdcache.specs.declared.prepared.Prepared.TheVariants.{Nothing, Directory, Removal, Move as Moving}
-use Rattle.mdcache.specs.Core.{Core, LacksPlaces, shown_in, state_of}
+use Rattle.mdcache.specs.Core.{Core, LacksPlacesAt, shown_in, state_of}
 use Rattle.mdcache.specs.Changes.{first_leaf}
 use Rattle.mdcache.specs.Ranks.{KeepsOnlyAt}
 use Rattle.mdcache.specs.Going.{IsGoingOrNone, count_going, dir_going}
@@ -64,11 +64,15 @@ LacksToMake (Set dentry leaf inode) s = LacksNumbers 1 s.next_version
 LacksToMake (Remove dentry leaf went) s = LacksNumbers 1 s.next_version
 LacksToMake (Move from source to target went) s = LacksNumbers 2 s.next_version
 
--- a call for an operation is refused for want of memory, by a store whose count of faults rose, where fewer than four places of a rank are free
--- or can become so, or where a counter is at its end
-abbrev pub MayRefuse : (old new : Core) → Op → Refusal → Type 0
-MayRefuse old new op reason =
-    (reason ≡ NoMemory) ⊎ ((reason ≡ StoreFault) × (old.faults < new.faults)) ⊎ ((reason ≡ NothingToEvict) × LacksPlaces 4 old) ⊎ ((reason ≡ NoInodes) × LacksFor op (state_of old))
+-- a call for an operation is refused for want of memory, by a store whose count of faults rose, for places that lack, or where a counter is at
+-- its end
+abbrev pub MayRefuse : (NoPlace : Type 0) → (old new : Core) → Op → Refusal → Type 0
+MayRefuse NoPlace old new op reason =
+    (reason ≡ NoMemory) ⊎ ((reason ≡ StoreFault) × (old.faults < new.faults)) ⊎ ((reason ≡ NothingToEvict) × NoPlace) ⊎ ((reason ≡ NoInodes) × LacksFor op (state_of old))
+
+-- fewer than two places are free, or can become so, at one of the ranks that hold the leaves of a change
+abbrev pub LacksPlacesOf : Core → Holders → Type 0
+LacksPlacesOf core at = LacksPlacesAt 2 core at.first ⊎ LacksPlacesAt 2 core at.second
 
 -- ---- what is ready
 

@@ -9,8 +9,8 @@ ghost use Rattle.dirfrag_codec.specs.EntryRecord.{HasTarget, IsRankNumber};
 ghost use Rattle.dentry_cache.specs.CacheSplits.{IsKeptFor};
 ghost use Rattle.namespace_ops.specs.Changes.{IsNumbered, MayChange};
 ghost use Rattle.namespace_ops.specs.declared.plans.Change.TheVariants.{Add, Move, Remove, Set};
-ghost use Rattle.mdcache.specs.Core.{IsSoundCore, LacksPlaces, ReadsCore, shown_in, state_of};
-ghost use Rattle.mdcache.specs.Frags.{IsReady, LacksToMake};
+ghost use Rattle.mdcache.specs.Core.{IsSoundCore, ReadsCore, shown_in, state_of};
+ghost use Rattle.mdcache.specs.Frags.{IsReady, LacksPlacesOf, LacksToMake};
 ghost use Rattle.mdcache.specs.Ranks.{IsNamedIn, MayHoldEach};
 ghost use Rattle.mdcache.specs.Ready.{MayNotBeReady};
 
@@ -39,7 +39,7 @@ impl<S: Store + Drop> MdCache<S> {
         ensures reads { ReadsCore (IsNamedIn at change.now) (IsKeptFor self.old.caches) self.old self.new }
         ensures sound { IsSoundCore self.new }
         ensures counted { self.new.faults ≡ self.old.faults + faults_told (result_err result) }
-        ensures refused { IfErr result (MayNotBeReady (LacksToMake change.now (state_of self.old)) (LacksPlaces 4 self.old) self.old.faults self.new.faults) }
+        ensures refused { IfErr result (MayNotBeReady (LacksToMake change.now (state_of self.old)) (LacksPlacesOf self.old at) self.old.faults self.new.faults) }
     {
         match change {
             Change::Add {
@@ -82,7 +82,7 @@ impl<S: Store + Drop> MdCache<S> {
         ensures reads { ReadsCore (IsNamedIn at (Add dentry.now leaf inode.now)) (IsKeptFor self.old.caches) self.old self.new }
         ensures sound { IsSoundCore self.new }
         ensures counted { self.new.faults ≡ self.old.faults + faults_told (result_err result) }
-        ensures refused { IfErr result (MayNotBeReady (LacksToMake (Add dentry.now leaf inode.now) (state_of self.old)) (LacksPlaces 4 self.old) self.old.faults self.new.faults) }
+        ensures refused { IfErr result (MayNotBeReady (LacksToMake (Add dentry.now leaf inode.now) (state_of self.old)) (LacksPlacesOf self.old at) self.old.faults self.new.faults) }
     {
         has_parts(inode);
         let place = Dirfrag {
@@ -112,7 +112,7 @@ impl<S: Store + Drop> MdCache<S> {
         ensures reads { ReadsCore (IsNamedIn at (Set dentry.now leaf inode.now)) (IsKeptFor self.old.caches) self.old self.new }
         ensures sound { IsSoundCore self.new }
         ensures counted { self.new.faults ≡ self.old.faults + faults_told (result_err result) }
-        ensures refused { IfErr result (MayNotBeReady (LacksToMake (Set dentry.now leaf inode.now) (state_of self.old)) (LacksPlaces 4 self.old) self.old.faults self.new.faults) }
+        ensures refused { IfErr result (MayNotBeReady (LacksToMake (Set dentry.now leaf inode.now) (state_of self.old)) (LacksPlacesOf self.old at) self.old.faults self.new.faults) }
     {
         has_parts(inode);
         let place = Dirfrag {
@@ -139,7 +139,7 @@ impl<S: Store + Drop> MdCache<S> {
         ensures reads { ReadsCore (IsNamedIn at (Remove dentry.now leaf gone)) (IsKeptFor self.old.caches) self.old self.new }
         ensures sound { IsSoundCore self.new }
         ensures counted { self.new.faults ≡ self.old.faults + faults_told (result_err result) }
-        ensures refused { IfErr result (MayNotBeReady (LacksToMake (Remove dentry.now leaf gone) (state_of self.old)) (LacksPlaces 4 self.old) self.old.faults self.new.faults) }
+        ensures refused { IfErr result (MayNotBeReady (LacksToMake (Remove dentry.now leaf gone) (state_of self.old)) (LacksPlacesOf self.old at) self.old.faults self.new.faults) }
     {
         let place = Dirfrag {
             dir: dentry.dir,
@@ -167,7 +167,7 @@ impl<S: Store + Drop> MdCache<S> {
         ensures reads { ReadsCore (IsNamedIn at (Move from.now source to.now target gone)) (IsKeptFor self.old.caches) self.old self.new }
         ensures sound { IsSoundCore self.new }
         ensures counted { self.new.faults ≡ self.old.faults + faults_told (result_err result) }
-        ensures refused { IfErr result (MayNotBeReady (LacksToMake (Move from.now source to.now target gone) (state_of self.old)) (LacksPlaces 4 self.old) self.old.faults self.new.faults) }
+        ensures refused { IfErr result (MayNotBeReady (LacksToMake (Move from.now source to.now target gone) (state_of self.old)) (LacksPlacesOf self.old at) self.old.faults self.new.faults) }
     {
         let first = Dirfrag {
             dir: from.dir,

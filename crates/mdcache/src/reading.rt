@@ -1,5 +1,5 @@
 //! Reads of the tree that is shown.
-ghost use Rattle.std.specs.Prelude.{◌≡◌, ◌+◌, true, IfOk, IfErr};
+ghost use Rattle.std.specs.Prelude.{◌≡◌, ◌+◌, true, IfOk, IfErr, OnOk};
 ghost use Rattle.std.specs.Result.{result_err};
 ghost use Rattle.std.specs.FinMap as map;
 ghost use Rattle.mds_types.specs.Tree.{is_above, is_directory};
@@ -10,6 +10,7 @@ ghost use Rattle.dentry_cache.specs.CacheMap.{leaf_of};
 ghost use Rattle.dentry_cache.specs.CacheSplits.{IsKeptFor};
 ghost use Rattle.dentry_cache.specs.Came.{IsThat};
 ghost use Rattle.inode_table.specs.Dirs.{leaves_of};
+ghost use Rattle.mdcache.specs.CacheReads.{IsNewest};
 ghost use Rattle.mdcache.specs.Core.{IsSoundCore, LacksPlacesAt, ReadsCore, shown_in};
 ghost use Rattle.mdcache.specs.Ranks.{MayHold};
 ghost use Rattle.mdcache.specs.Reads.{MayNotFind};
@@ -62,6 +63,7 @@ impl<S: Store + Drop> MdCache<S> {
         requires known { is_directory (shown_in self.old) dentry.now.dir.0 ≡ true }
         requires leaf { IsPick (leaves_of self.old.covers dentry.now.dir.0) (hash_of dentry.now.name) leaf }
         ensures found { IfOk result (λ found. found ≡ map.get (shown_in self.old) dentry.now) }
+        ensures newest { OnOk result (IsNewest self.new.caches rank.0 (dentry.now.dir, leaf)) }
         ensures reads { ReadsCore (IsThat rank.0 (dentry.now.dir, leaf)) (IsKeptFor self.old.caches) self.old self.new }
         ensures sound { IsSoundCore self.new }
         ensures counted { self.new.faults ≡ self.old.faults + faults_told (result_err result) }

@@ -1,8 +1,9 @@
 -- Why a read is refused, in the words of all ranks, and of a call that ends with the read.
 use Rattle.std.specs.Prelude.{◌≡◌, ◌<◌, ℕ, true, length, List, None, Result, Ok, Err, IfErr, IfOk}
-use Rattle.std.proofs.Common.{inl, inr, sym, subst, ◌∙◌, arith}
+use Rattle.std.proofs.Common.{inl, inr, refl, sym, subst, ◌∙◌, arith}
 use Rattle.mds_types.specs.declared.ids.Ino.{Ino}
 use Rattle.mds_types.specs.declared.ids.Rank.{Rank}
+use Rattle.mds_types.specs.declared.operations.Op.{Op}
 use Rattle.mds_types.specs.declared.refusals.Refusal.{Refusal}
 use Rattle.mds_types.specs.Frag.{Fragment}
 use Rattle.mds_types.specs.Leaf.{Leaf}
@@ -10,27 +11,23 @@ use Rattle.mds_types.specs.Tree.{is_directory}
 use Rattle.fragtree.specs.FragTree.{HasLeaf}
 use Rattle.inode_table.specs.Dirs.{IsLive, is_known, leaves_of}
 use Rattle.inode_table.proofs.TableLaws.{known_is}
+use Rattle.namespace_ops.specs.Changes.{Concerns}
+use Rattle.namespace_ops.specs.declared.plans.Change.{Change}
+use Rattle.namespace_ops.specs.declared.plans.Change.TheVariants.{Add, Set, Remove, Move}
 use Rattle.mdcache.specs.Core.{Core, state_of}
-use Rattle.mdcache.specs.Frags.{KeepsState}
-use Rattle.mdcache.specs.Core.{LacksPlaces, LacksPlacesAt}
+use Rattle.mdcache.specs.declared.holders.Holders.{Holders}
+use Rattle.mdcache.specs.Frags.{KeepsState, LacksPlacesOf}
+use Rattle.mdcache.specs.Core.{LacksPlacesAt}
 use Rattle.mdcache.specs.Reads.{MayNotFind}
+use Rattle.mdcache.specs.Ready.{MayNotBeReady}
 use Rattle.mdcache.specs.Shown.{shown_tree}
 use Rattle.mdcache.specs.Sound.{IsSound}
 use Rattle.mdcache.specs.State.{State as TreeState}
-use Rattle.mdcache.proofs.FragsLaws.{lacked_before}
+use Rattle.mdcache.proofs.FragsLaws.{lacked_asked, lacked_at, refused_later}
 use Rattle.subtree_map.specs.Authority.{Roots}
-use Rattle.ranked_tree.specs.Held.{IsOwned, LacksPlacesFor}
+use Rattle.ranked_tree.specs.Held.{AreHolders, LacksPlacesAsked, LacksPlacesDir, LacksPlacesFor, NamesDir, first_named, second_named}
+use Rattle.ranked_tree.specs.Ranked.{KeepsRanked, MayRefuse, Ranked}
 use Rattle.ranked_tree.specs.Subtrees.{Rules}
-
--- what lacks at a rank lacks at some
-pub told_at : (X : Type 0) (result : Result X Refusal) (old : Core) (after : ℕ) (rank : Rank) → rank.0 < length old.caches.used → IfErr result (MayNotFind (LacksPlacesAt 1 old rank) old.faults after) → IfErr result (MayNotFind (LacksPlaces 1 old) old.faults after)
-told_at X (Ok x) old after rank there h = tt
-told_at X (Err reason) old after rank there h = go h
-  where
-    go : MayNotFind (LacksPlacesAt 1 old rank) old.faults after reason → MayNotFind (LacksPlaces 1 old) old.faults after reason
-    go (inl memory) = inl memory
-    go (inr (inl fault)) = inr (inl fault)
-    go (inr (inr (is, lacks))) = inr (inr (is, (rank, there, lacks)))
 
 -- what lacks at the rank that holds a leaf
 pub told_for : (X : Type 0) (result : Result X Refusal) (old : Core) (roots : Roots) (leaf : Leaf) (after : ℕ) (rank : Rank) → Rules (state_of old) roots leaf rank
@@ -43,23 +40,73 @@ told_for X (Err reason) old roots leaf after rank rules h = go h
     go (inr (inl fault)) = inr (inl fault)
     go (inr (inr (is, lacks))) = inr (inr (is, (rank, rules, lacks)))
 
--- reads before it change nothing of that
-pub told_later : (X : Type 0) (result : Result X Refusal) (a b : Core) (after : ℕ) → KeepsState a b None → IfErr result (MayNotFind (LacksPlaces 1 b) b.faults after) → IfErr result (MayNotFind (LacksPlaces 1 a) a.faults after)
-told_later X (Ok x) a b after kept h = tt
-told_later X (Err reason) a b after kept h = go h
-  where
-    go : MayNotFind (LacksPlaces 1 b) b.faults after reason → MayNotFind (LacksPlaces 1 a) a.faults after reason
-    go (inl memory) = inl memory
-    go (inr (inl (is, rose))) = let counted = kept.counted in inr (inl (is, omega (arith, counted, rose)))
-    go (inr (inr (is, lacks))) = inr (inr (is, lacked_before 1 a b kept lacks))
+-- reads before it change nothing of what lacks at the rank that holds a leaf
+pub lacks_still : (count : ℕ) (a b : Core) (roots : Roots) (leaf : Leaf) → KeepsState a b None → LacksPlacesFor count b roots leaf → LacksPlacesFor count a roots leaf
+lacks_still count a b roots leaf kept (rank, rules, lacks) = (rank, subst (λ (s : TreeState). Rules s roots leaf rank) kept.state rules, lacked_at count a b rank kept lacks)
 
--- what lacks at the rank that holds a leaf lacks at some, and reads before it change nothing of that
-pub refused_before : (a b : Core) (roots : Roots) (leaf : Leaf) (after : ℕ) (reason : Refusal) → KeepsState a b None → IsOwned b roots → MayNotFind (LacksPlacesFor 1 b roots leaf) b.faults after reason
-    → MayNotFind (LacksPlaces 1 a) a.faults after reason
-refused_before a b roots leaf after reason kept owned (inl memory) = inl memory
-refused_before a b roots leaf after reason kept owned (inr (inl (is, rose))) = let counted = kept.counted in inr (inl (is, omega (arith, counted, rose)))
-refused_before a b roots leaf after reason kept owned (inr (inr (is, (rank, rules, lacks)))) =
-    inr (inr (is, lacked_before 1 a b kept (rank, owned.held.ranks rules.root rank rules.ranked, lacks)))
+-- so it is with a read of one leaf of a directory, after reads of others
+pub refused_before : (a b : Core) (roots : Roots) (leaf : Leaf) (after : ℕ) (reason : Refusal) → KeepsState a b None → MayNotFind (LacksPlacesFor 1 b roots leaf) b.faults after reason
+    → MayNotFind (LacksPlacesDir 1 a roots leaf.0) a.faults after reason
+refused_before a b roots leaf after reason kept (inl memory) = inl memory
+refused_before a b roots leaf after reason kept (inr (inl (is, rose))) = let counted = kept.counted in inr (inl (is, omega (arith, counted, rose)))
+refused_before a b roots leaf after reason kept (inr (inr (is, lacks))) = inr (inr (is, (leaf, refl, lacks_still 1 a b roots leaf kept lacks)))
+
+-- ---- why an operation is refused
+
+-- fewer places than two, where there is none
+lacks_more : (core : Core) (rank : Rank) → LacksPlacesAt 1 core rank → LacksPlacesAt 2 core rank
+lacks_more core rank lacks = omega (arith, lacks)
+
+module _ (old new : Ranked) (op : Op) where
+  pub asked_for : (reason : Refusal) (leaf : Leaf) → Concerns (shown_tree (state_of old.tree)) op leaf.0.0 → MayNotFind (LacksPlacesFor 1 old.tree old.subtrees.roots leaf) old.tree.faults new.tree.faults reason → MayRefuse old new op reason
+  asked_for reason leaf concerns (inl memory) = inl memory
+  asked_for reason leaf concerns (inr (inl fault)) = inr (inl fault)
+  asked_for reason leaf concerns (inr (inr (is, (rank, rules, lacks)))) = inr (inr (inl (is, (leaf, concerns, (rank, rules, lacks_more old.tree rank lacks)))))
+
+  pub asked_dir : (reason : Refusal) (dir : Ino) → Concerns (shown_tree (state_of old.tree)) op dir.0 → MayNotFind (LacksPlacesDir 1 old.tree old.subtrees.roots dir) old.tree.faults new.tree.faults reason → MayRefuse old new op reason
+  asked_dir reason dir concerns (inl memory) = inl memory
+  asked_dir reason dir concerns (inr (inl fault)) = inr (inl fault)
+  asked_dir reason dir concerns (inr (inr (is, (leaf, here, (rank, rules, lacks))))) =
+      inr (inr (inl (is, (leaf, subst (λ (d : ℕ). Concerns (shown_tree (state_of old.tree)) op d) (sym here) concerns, (rank, rules, lacks_more old.tree rank lacks)))))
+
+-- after reads for it that were not refused
+pub ranked_later : (a b c : Ranked) (op : Op) (reason : Refusal) → KeepsRanked a b op None → MayRefuse b c op reason → MayRefuse a c op reason
+ranked_later a b c op reason kept because =
+    refused_later (LacksPlacesAsked 2 b.tree b.subtrees.roots (Concerns (shown_tree (state_of b.tree)) op)) (LacksPlacesAsked 2 a.tree a.subtrees.roots (Concerns (shown_tree (state_of a.tree)) op)) a.tree b.tree c.tree op reason so kept.tree because
+  where
+    so : LacksPlacesAsked 2 b.tree b.subtrees.roots (Concerns (shown_tree (state_of b.tree)) op) → LacksPlacesAsked 2 a.tree a.subtrees.roots (Concerns (shown_tree (state_of a.tree)) op)
+    so lacks =
+        lacked_asked 2 (λ (s : TreeState) (d : ℕ). Concerns (shown_tree s) op d) (λ (s : TreeState) (leaf : Leaf) (rank : Rank). Rules s a.subtrees.roots leaf rank) a.tree b.tree kept.tree
+        (subst (λ (r : Roots). LacksPlacesAsked 2 b.tree r (Concerns (shown_tree (state_of b.tree)) op)) kept.roots lacks)
+
+-- ---- why a change isn't made ready
+
+first_dir : (change : Change) → NamesDir change (first_named change).0.0
+first_dir (Add dentry leaf inode) = refl
+first_dir (Set dentry leaf inode) = refl
+first_dir (Remove dentry leaf went) = refl
+first_dir (Move from source to target went) = inl refl
+
+second_dir : (change : Change) → NamesDir change (second_named change).0.0
+second_dir (Add dentry leaf inode) = refl
+second_dir (Set dentry leaf inode) = refl
+second_dir (Remove dentry leaf went) = refl
+second_dir (Move from source to target went) = inr refl
+
+-- what lacks at the ranks that hold the leaves of a change
+pub told_change : (X Lacks : Type 0) (result : Result X Refusal) (old : Core) (roots : Roots) (at : Holders) (change : Change) (after : ℕ) → AreHolders (state_of old) roots at change
+    → IfErr result (MayNotBeReady Lacks (LacksPlacesOf old at) old.faults after) → IfErr result (MayNotBeReady Lacks (LacksPlacesAsked 2 old roots (NamesDir change)) old.faults after)
+told_change X Lacks (Ok x) old roots at change after holders h = tt
+told_change X Lacks (Err reason) old roots at change after holders h = go h
+  where
+    go : MayNotBeReady Lacks (LacksPlacesOf old at) old.faults after reason → MayNotBeReady Lacks (LacksPlacesAsked 2 old roots (NamesDir change)) old.faults after reason
+    go (inl numbers) = inl numbers
+    go (inr (none, inl memory)) = inr (none, inl memory)
+    go (inr (none, inr (inl fault))) = inr (none, inr (inl fault))
+    go (inr (none, inr (inr (is, inl lacks)))) = inr (none, inr (inr (is, (first_named change, first_dir change, at.first, holders.first, lacks))))
+    go (inr (none, inr (inr (is, inr lacks)))) = inr (none, inr (inr (is, (second_named change, second_dir change, at.second, holders.second, lacks))))
+
+-- ---- what is still so
 
 -- a leaf is live still
 pub live_still : (a b : Core) (leaf : Leaf) → KeepsState a b None → IsLive a.homes a.covers leaf → IsLive b.homes b.covers leaf

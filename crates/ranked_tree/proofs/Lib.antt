@@ -1,5 +1,6 @@
 pub mod AskLaws
 pub mod AuthorityLaws
+pub mod CameForLaws
 pub mod ChangedTables
 pub mod EvictLaws
 pub mod HeldChanges

@@ -7,9 +7,6 @@ use Rattle.mds_types.specs.declared.operations.Op.{Op}
 use Rattle.mds_types.specs.declared.operations.Op.TheVariants.{Lookup, Readdir, Create, Mkdir, Readlink, Symlink, Setattr, Unlink, Rmdir, Rename}
 use Rattle.mds_types.specs.declared.refusals.Refusal.{Refusal}
 use Rattle.mds_types.specs.Tree.{Tree}
-use Rattle.dentry_cache.specs.Reads.Reads.{stays}
-use Rattle.mdcache.proofs.FragsLaws.{keeps_itself, keeps_on}
-use Rattle.ranked_tree.specs.Ranked.{KeepsRanked, Ranked}
 use Rattle.dentry_cache.specs.Came.{IsThat}
 use Rattle.dentry_cache.specs.Reads.{Reads}
 use Rattle.dentry_cache.proofs.ReadsLaws.{reads_then, reads_weaker}
@@ -27,6 +24,8 @@ use Rattle.mdcache.specs.Core.{Core, ReadsCore, state_of}
 use Rattle.mdcache.specs.Frags.{KeepsState}
 use Rattle.mdcache.specs.State.{State as TreeState}
 use Rattle.ranked_tree.specs.Held.{AnyPlace, AreHolders, AsksFor, NamesDir, ReadsDir, ReadsFor}
+use Rattle.mdcache.proofs.FragsLaws.{keeps_on}
+use Rattle.ranked_tree.specs.Ranked.{KeepsRanked, Ranked}
 use Rattle.ranked_tree.specs.Subtrees.{Rules}
 use Rattle.ranked_tree.proofs.HeldLaws.{is_that}
 use Rattle.ranked_tree.proofs.HolderLaws.{is_unknown}
@@ -51,23 +50,34 @@ reads_less roots Asked More old new more reads = reads_weaker (AsksFor (state_of
     asks r q (inl held) = inl (more q.0.0 held.0, held.1)
     asks r q (inr comes) = inr comes
 
--- the leaves that a change names, each at its rank
+-- reads for an operation
+pub keeps_ranked_on : (a b c : Ranked) (op : Op) (told : Option Refusal) → KeepsRanked a b op None → KeepsRanked b c op told → KeepsRanked a c op told
+keeps_ranked_on a b c op told first second = record {
+  tree = keeps_on a.tree b.tree c.tree told first.tree second.tree;
+  roots = second.roots ∙ first.roots;
+  reads = reads_on a.subtrees.roots (Concerns (shown_tree (state_of a.tree)) op) a.tree b.tree c.tree first.tree first.reads
+      (subst (λ (s : TreeState). ReadsFor a.subtrees.roots (Concerns (shown_tree s) op) b.tree c.tree) first.tree.state (subst (λ (r : Roots). ReadsFor r (Concerns (shown_tree (state_of b.tree)) op) b.tree c.tree) first.roots second.reads));
+}
+
+-- the leaves that a change names lie in directories that it names, each at its rank, or it is that of a directory that comes
+module _ (old : Core) (roots : Roots) (at : Holders) where
+  dir_is : (q leaf : Leaf) → q ≡ leaf → q.0.0 ≡ leaf.0.0
+  dir_is q leaf same = ap (λ (l : Leaf). l.0.0) same
+
+  pub asks_change : (change : Change) → IsSound (state_of old) → MayChange (shown_tree (state_of old)) old.covers change → AreHolders (state_of old) roots at change → (r : ℕ) (q : Leaf) → IsNamedIn at change r q → AsksFor (state_of old) roots (NamesDir change) r q
+  asks_change (Add dentry leaf inode) sound may holders r q (inl that) = inl (dir_is q (dentry.dir, leaf) that.1, is_that (state_of old) roots (dentry.dir, leaf) at.first holders.first r q that)
+  asks_change (Add dentry leaf inode) sound may holders r q (inr that) =
+      inr (subst (λ (l : Leaf). is_known old.homes l.0.0 ≡ false) (sym that.1) (is_unknown old.homes inode.ino.0 _ (may_come (shown_tree (state_of old)) old.homes dentry inode sound.tabled may.takes)), ap (λ (l : Leaf). l.1) that.1)
+  asks_change (Set dentry leaf inode) sound may holders r q that = inl (dir_is q (dentry.dir, leaf) that.1, is_that (state_of old) roots (dentry.dir, leaf) at.first holders.first r q that)
+  asks_change (Remove dentry leaf went) sound may holders r q that = inl (dir_is q (dentry.dir, leaf) that.1, is_that (state_of old) roots (dentry.dir, leaf) at.first holders.first r q that)
+  asks_change (Move from source to target went) sound may holders r q (inl that) = inl (inl (dir_is q (from.dir, source) that.1), is_that (state_of old) roots (from.dir, source) at.first holders.first r q that)
+  asks_change (Move from source to target went) sound may holders r q (inr that) = inl (inr (dir_is q (to.dir, target) that.1), is_that (state_of old) roots (to.dir, target) at.second holders.second r q that)
+
+-- reads of them
 pub reads_change : (Ends : ℕ → Leaf → Type 0) (old new : Core) (roots : Roots) (at : Holders) (change : Change) → IsSound (state_of old) → MayChange (shown_tree (state_of old)) old.covers change → AreHolders (state_of old) roots at change
     → ReadsCore (IsNamedIn at change) Ends old new → ReadsFor roots (NamesDir change) old new
 reads_change Ends old new roots at change sound may holders reads =
-    reads_weaker (IsNamedIn at change) Ends (AsksFor (state_of old) roots (NamesDir change)) AnyPlace (asks change may holders) (λ r q ends. tt) old.objects old.caches new.caches reads.caches
-  where
-    dir_is : (q leaf : Leaf) → q ≡ leaf → q.0.0 ≡ leaf.0.0
-    dir_is q leaf same = ap (λ (l : Leaf). l.0.0) same
-
-    asks : (change : Change) → MayChange (shown_tree (state_of old)) old.covers change → AreHolders (state_of old) roots at change → (r : ℕ) (q : Leaf) → IsNamedIn at change r q → AsksFor (state_of old) roots (NamesDir change) r q
-    asks (Add dentry leaf inode) may holders r q (inl that) = inl (dir_is q (dentry.dir, leaf) that.1, is_that (state_of old) roots (dentry.dir, leaf) at.first holders.first r q that)
-    asks (Add dentry leaf inode) may holders r q (inr that) =
-        inr (subst (λ (l : Leaf). is_known old.homes l.0.0 ≡ false) (sym that.1) (is_unknown old.homes inode.ino.0 _ (may_come (shown_tree (state_of old)) old.homes dentry inode sound.tabled may.takes)), ap (λ (l : Leaf). l.1) that.1)
-    asks (Set dentry leaf inode) may holders r q that = inl (dir_is q (dentry.dir, leaf) that.1, is_that (state_of old) roots (dentry.dir, leaf) at.first holders.first r q that)
-    asks (Remove dentry leaf went) may holders r q that = inl (dir_is q (dentry.dir, leaf) that.1, is_that (state_of old) roots (dentry.dir, leaf) at.first holders.first r q that)
-    asks (Move from source to target went) may holders r q (inl that) = inl (inl (dir_is q (from.dir, source) that.1), is_that (state_of old) roots (from.dir, source) at.first holders.first r q that)
-    asks (Move from source to target went) may holders r q (inr that) = inl (inr (dir_is q (to.dir, target) that.1), is_that (state_of old) roots (to.dir, target) at.second holders.second r q that)
+    reads_weaker (IsNamedIn at change) Ends (AsksFor (state_of old) roots (NamesDir change)) AnyPlace (asks_change old roots at change sound may holders) (λ r q ends. tt) old.objects old.caches new.caches reads.caches
 
 -- the directories of a change are those that its operation concerns
 pub change_concerns : (tree : Tree) (op : Op) (change : Change) → IsChangeOf op change → (d : ℕ) → NamesDir change d → Concerns tree op d

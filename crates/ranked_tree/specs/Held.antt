@@ -5,6 +5,7 @@ use Rattle.std.specs.FinMap as map
 use Rattle.mds_types.specs.declared.ids.Ino.{Ino}
 use Rattle.mds_types.specs.declared.ids.Rank.{Rank}
 use Rattle.mds_types.specs.Frag.{Fragment, child_of, root_fragment}
+use Rattle.mds_types.specs.Tree.{Tree, is_directory}
 use Rattle.fragtree.specs.FragTree.{leaves_inside}
 use Rattle.inode_table.specs.Dirs.{Covers, IsLive, is_known, leaves_of}
 use Rattle.namespace_ops.specs.Changes.{in_directory}
@@ -17,7 +18,9 @@ use Rattle.dentry_cache.specs.Reads.{Reads}
 use Rattle.subtree_map.specs.Authority.{Leaf, Roots}
 use Rattle.subtree_map.specs.Changes.{is_inside}
 use Rattle.mdcache.specs.declared.holders.Holders.{Holders}
+use Rattle.mdcache.specs.CacheReads.{IsNewest}
 use Rattle.mdcache.specs.Core.{Core, IsSoundCore, LacksPlacesAt, state_of}
+use Rattle.mdcache.specs.Shown.{shown_tree}
 use Rattle.mdcache.specs.State.{State as TreeState}
 use Rattle.ranked_tree.specs.Subtrees.{AreRoots, Rules}
 
@@ -75,11 +78,34 @@ NamesDir (Move from source to target went) d = (d ≡ from.dir.0) ⊎ (d ≡ to.
 abbrev pub ReadsDir : Roots → Ino → (old new : Core) → Type 0
 ReadsDir roots dir old new = ReadsFor roots (λ (d : ℕ). d ≡ dir.0) old new
 
+-- a leaf is the most recently used of the rank that holds it
+abbrev pub IsNewestHeld : TreeState → Roots → CacheMap → Leaf → Type 0
+IsNewestHeld tree roots caches leaf = (rank : Rank) × Rules tree roots leaf rank × IsNewest caches rank.0 leaf
+
+-- ---- what a change makes of the caches
+
+-- a leaf of a directory that isn't there
+abbrev pub IsGone : Tree → ℕ → Leaf → Type 0
+IsGone tree rank leaf = is_directory tree leaf.0.0 ≡ false
+
+-- leaves of the directories that a change names were used and changed at most, each at the rank that holds it, and the first leaf of a
+-- directory that comes; those of a directory that went ended
+abbrev pub CameFor : Roots → Change → (old new : Core) → Type 0
+CameFor roots change old new = Came (AsksFor (state_of old) roots (NamesDir change)) (IsGone (shown_tree (state_of new))) old.caches new.caches
+
 -- ---- whose places lack
 
 -- so many places lack at the rank that holds a leaf
 abbrev pub LacksPlacesFor : ℕ → Core → Roots → Leaf → Type 0
 LacksPlacesFor count core roots leaf = (rank : Rank) × Rules (state_of core) roots leaf rank × LacksPlacesAt count core rank
+
+-- so it is with a leaf of a directory that is asked for
+abbrev pub LacksPlacesAsked : ℕ → Core → Roots → (Asked : ℕ → Type 0) → Type 0
+LacksPlacesAsked count core roots Asked = (leaf : Leaf) × Asked leaf.0.0 × LacksPlacesFor count core roots leaf
+
+-- so of one directory
+abbrev pub LacksPlacesDir : ℕ → Core → Roots → Ino → Type 0
+LacksPlacesDir count core roots dir = LacksPlacesAsked count core roots (λ (d : ℕ). d ≡ dir.0)
 
 -- so many places lack at a rank that holds a leaf of a directory properly inside a fragment
 abbrev pub LacksPlacesInside : ℕ → Core → Roots → Ino → Fragment → Type 0

@@ -9,10 +9,10 @@ use Rattle.subtree_map.specs.Authority.{Roots}
 use Rattle.subtree_map.specs.Changes.{Subtrees}
 use Rattle.mdcache.specs.declared.holders.Holders.{Holders}
 use Rattle.mdcache.specs.Core.{Core, state_of}
-use Rattle.mdcache.specs.Frags.{KeepsState, IsReady as IsReadyIn}
+use Rattle.mdcache.specs.Frags.{KeepsState, IsReady as IsReadyIn, MayRefuse as MayRefuseIn}
 use Rattle.mdcache.specs.New.{root_leaf}
 use Rattle.mdcache.specs.Shown.{shown_tree}
-use Rattle.ranked_tree.specs.Held.{AreHolders, ReadsFor}
+use Rattle.ranked_tree.specs.Held.{AreHolders, LacksPlacesAsked, ReadsFor}
 use Rattle.ranked_tree.specs.Subtrees.{HasRoomFor}
 
 -- the tree over its caches and store, and its subtree roots
@@ -27,6 +27,11 @@ pub record KeepsRanked (old new : Ranked) (op : Op) (told : Option Refusal) : Ty
   pub tree : KeepsState old.tree new.tree told
   pub roots : new.subtrees.roots ≡ old.subtrees.roots
   pub reads : ReadsFor old.subtrees.roots (Concerns (shown_tree (state_of old.tree)) op) old.tree new.tree
+
+-- a call for an operation is refused for want of memory, by a store whose count of faults rose, where fewer than two places are free, or can
+-- become so, at a rank that holds a leaf of a directory which the operation concerns, or where a counter is at its end
+abbrev pub MayRefuse : (old new : Ranked) → Op → Refusal → Type 0
+MayRefuse old new op reason = MayRefuseIn (LacksPlacesAsked 2 old.tree old.subtrees.roots (Concerns (shown_tree (state_of old.tree)) op)) old.tree new.tree op reason
 
 -- the tree is ready for a change in the caches of the ranks that hold its leaves
 pub record IsReadyHeld (core : Core) (roots : Roots) (change : Change) : Type 0 where

@@ -11,7 +11,7 @@ ghost use Rattle.mdcache.specs.Changes.{Makes};
 ghost use Rattle.mdcache.specs.Core.{state_of};
 ghost use Rattle.mdcache.specs.Made.{IsRight};
 ghost use Rattle.mdcache.specs.Shown.{shown_tree};
-ghost use Rattle.ranked_tree.specs.Held.{IsOwned};
+ghost use Rattle.ranked_tree.specs.Held.{CameFor, IsOwned};
 ghost use Rattle.ranked_tree.specs.Ranked.{IsReady, IsReadyHeld};
 ghost use Rattle.ranked_tree.specs.Subtrees.{FollowChange, HasRoomFor, KeepsAuthorities, KeepsRoots, LoseDirectory, NoNewRank, SettleMoving};
 
@@ -36,6 +36,7 @@ impl<S: Store + Drop> RankedTree<S> {
         ensures count { length self.new.tree.caches.used ≡ length self.old.tree.caches.used }
         ensures cap { self.new.tree.caches.cap ≡ self.old.tree.caches.cap }
         ensures faults { self.new.tree.faults ≡ self.old.tree.faults }
+        ensures came { CameFor self.old.subtrees.roots change self.old.tree self.new.tree }
         ensures roots { FollowChange change (state_of self.old.tree) self.old.subtrees.roots self.new.subtrees.roots }
         ensures promises { LoseDirectory self.old.subtrees.promises self.new.subtrees.promises (gone_with change) }
         ensures kept { KeepsRoots (state_of self.old.tree) (state_of self.new.tree) self.old.subtrees.roots self.new.subtrees.roots }
@@ -79,6 +80,7 @@ fn change_tree<S: Store + Drop>(tree: &mut MdCache<S>, roots: &mut Subtrees, cha
     ensures count { length tree.new.caches.used ≡ length tree.old.caches.used }
     ensures cap { tree.new.caches.cap ≡ tree.old.caches.cap }
     ensures faults { tree.new.faults ≡ tree.old.faults }
+    ensures came { CameFor roots.old.roots change tree.old tree.new }
     ensures roots { FollowChange change (state_of tree.old) roots.old.roots roots.new.roots }
     ensures promises { LoseDirectory roots.old.promises roots.new.promises (gone_with change) }
     ensures authority { KeepsAuthorities (state_of tree.old) (state_of tree.new) roots.old.roots roots.new.roots }

@@ -8,10 +8,10 @@ ghost use Rattle.fragtree.specs.FragTree.{HasLeaf};
 ghost use Rattle.inode_table.specs.Dirs.{IsLive};
 ghost use Rattle.dentry_cache.specs.CacheMap.{unclean};
 ghost use Rattle.mdcache.specs.Frags.{KeepsState};
-ghost use Rattle.mdcache.specs.Core.{LacksPlaces, state_of};
+ghost use Rattle.mdcache.specs.Core.{state_of};
 ghost use Rattle.mdcache.specs.Reads.{MayNotFind, has_none};
 ghost use Rattle.mdcache.specs.Shown.{names_of, shown_tree};
-ghost use Rattle.ranked_tree.specs.Held.{IsOwned, LacksPlacesFor, ReadsDir};
+ghost use Rattle.ranked_tree.specs.Held.{IsOwned, LacksPlacesDir, LacksPlacesFor, ReadsDir};
 
 use crate::holding::holder_of;
 use fragtree::FragTree;
@@ -37,7 +37,7 @@ pub(crate) fn is_dir_empty<S: Store + Drop>(
     ensures kept { KeepsState tree.old tree.new (result_err result) }
     ensures reads { ReadsDir roots.now.roots dir tree.old tree.new }
     ensures owned { IsOwned tree.new roots.now.roots }
-    ensures refused { IfErr result (MayNotFind (LacksPlaces 1 tree.old) tree.old.faults tree.new.faults) }
+    ensures refused { IfErr result (MayNotFind (LacksPlacesDir 1 tree.old roots.now.roots dir) tree.old.faults tree.new.faults) }
 {
     match tree.dirs().tree(alloc, dir) {
         Ok(leaves) => are_empty(alloc, tree, roots, dir, &leaves),
@@ -59,7 +59,7 @@ fn are_empty<S: Store + Drop>(
     ensures kept { KeepsState tree.old tree.new (result_err result) }
     ensures reads { ReadsDir roots.now.roots dir tree.old tree.new }
     ensures owned { IsOwned tree.new roots.now.roots }
-    ensures refused { IfErr result (MayNotFind (LacksPlaces 1 tree.old) tree.old.faults tree.new.faults) }
+    ensures refused { IfErr result (MayNotFind (LacksPlacesDir 1 tree.old roots.now.roots dir) tree.old.faults tree.new.faults) }
 {
     for leaf in leaves {
         match is_leaf_empty(alloc, tree, roots, dir, leaf) {

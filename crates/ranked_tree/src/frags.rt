@@ -10,11 +10,11 @@ ghost use Rattle.dirfrag_codec.specs.EntryRecord.{IsRankNumber};
 ghost use Rattle.inode_table.specs.Dirs.{leaves_of};
 ghost use Rattle.namespace_ops.specs.Changes.{IsNumbered, MayChange};
 ghost use Rattle.mdcache.specs.Frags.{KeepsState, LacksToMake};
-ghost use Rattle.mdcache.specs.Core.{LacksPlaces, state_of};
+ghost use Rattle.mdcache.specs.Core.{state_of};
 ghost use Rattle.mdcache.specs.Reads.{MayNotFind};
 ghost use Rattle.mdcache.specs.Ready.{MayNotBeReady};
 ghost use Rattle.mdcache.specs.Shown.{shown_tree};
-ghost use Rattle.ranked_tree.specs.Held.{IsOwned, LacksPlacesFor, NamesDir, ReadsDir, ReadsFor};
+ghost use Rattle.ranked_tree.specs.Held.{IsNewestHeld, IsOwned, LacksPlacesAsked, LacksPlacesFor, NamesDir, ReadsDir, ReadsFor};
 ghost use Rattle.ranked_tree.specs.Ranked.{IsReadyHeld};
 
 use crate::changing::reserve_roots;
@@ -32,21 +32,22 @@ use subtree_map::Subtrees;
 impl<S: Store + Drop> Frags for RankedTree<S> {
     ghost use Rattle.std.specs.Prelude.{refl};
     ghost use Rattle.dirfrag_codec.specs.EntryRecord.{IsRankNumber};
-    ghost use Rattle.mdcache.specs.Frags.{MayRefuse as MayRefuseIn};
     ghost use Rattle.std.proofs.Common.{◌∙◌, subst};
     ghost use Rattle.dentry_cache.specs.Reads.{Reads};
     ghost use Rattle.dentry_cache.specs.Reads.Reads.{stays};
     ghost use Rattle.dentry_cache.proofs.ReadsLaws.{reads_then};
     ghost use Rattle.namespace_ops.specs.Changes.{Concerns};
-    ghost use Rattle.subtree_map.specs.Authority.{Roots};
+    ghost use Rattle.subtree_map.specs.Authority.{Leaf, Roots};
     ghost use Rattle.mdcache.specs.State.{State as TreeState};
-    ghost use Rattle.mdcache.proofs.FragsLaws.{keeps_itself, keeps_on, keeps_refused, refused_later, refused_so, untouched_by, untouched_on};
-    ghost use Rattle.ranked_tree.specs.Held.{AnyPlace, AsksFor, ReadsFor};
-    ghost use Rattle.std.specs.Prelude.{None};
+    ghost use Rattle.mdcache.proofs.FragsLaws.{keeps_itself, keeps_on, keeps_refused, lacked_asked, refused_later, refused_so, untouched_by, untouched_on};
+    ghost use Rattle.ranked_tree.specs.Held.{AnyPlace, AsksFor, LacksPlacesAsked, ReadsFor};
+    ghost use Rattle.ranked_tree.specs.Subtrees.{Rules};
+    ghost use Rattle.mds_types.specs.declared.ids.Rank.{Rank as RankNumber};
+    ghost use Rattle.std.specs.Prelude.{None, ℕ};
     ghost use Rattle.mds_types.specs.declared.refusals.Refusal.TheVariants.{NoInodes, NoMemory};
     ghost use Rattle.mdcache.specs.Made.{IsUntouched};
     ghost use Rattle.mdcache.specs.Shown.{shown_tree};
-    ghost use Rattle.ranked_tree.specs.Ranked.{IsReady as IsRankedReady, KeepsRanked};
+    ghost use Rattle.ranked_tree.specs.Ranked.{IsReady as IsRankedReady, KeepsRanked, MayRefuse};
 
     ghost content = { λ t. shown_tree (state_of t.tree) };
 
@@ -60,7 +61,7 @@ impl<S: Store + Drop> Frags for RankedTree<S> {
 
     ghost Unchanged = { λ a b leaf. IsUntouched (state_of a.tree) (state_of b.tree) leaf };
 
-    ghost MayRefuse = { λ a b op reason. MayRefuseIn a.tree b.tree op reason };
+    ghost MayRefuse = { λ a b op reason. MayRefuse a b op reason };
 
     ghost follows_self = { λ a op. record { tree = keeps_itself a.tree; roots = refl; reads = stays } };
 
@@ -82,9 +83,15 @@ impl<S: Store + Drop> Frags for RankedTree<S> {
 
     ghost unchanged_on = { λ a b c leaf p q. untouched_on a.tree b.tree c.tree leaf p q };
 
-    ghost refused_on = { λ a b c op reason kept because. refused_later a.tree b.tree c.tree op reason kept.tree because };
+    ghost refused_on = { λ a b c op reason kept because. refused_later
+        (LacksPlacesAsked 2 b.tree b.subtrees.roots (Concerns (shown_tree (state_of b.tree)) op))
+        (LacksPlacesAsked 2 a.tree a.subtrees.roots (Concerns (shown_tree (state_of a.tree)) op))
+        a.tree b.tree c.tree op reason
+        (λ lacks. lacked_asked 2 (λ (s : TreeState) (d : ℕ). Concerns (shown_tree s) op d) (λ (s : TreeState) (leaf : Leaf) (rank : RankNumber). Rules s a.subtrees.roots leaf rank) a.tree b.tree kept.tree
+            (subst (λ (r : Roots). LacksPlacesAsked 2 b.tree r (Concerns (shown_tree (state_of b.tree)) op)) kept.roots lacks))
+        kept.tree because };
 
-    ghost refused_for = { λ a b op reason because. refused_so a.tree b.tree op reason because };
+    ghost refused_for = { λ a b op reason because. refused_so (LacksPlacesAsked 2 a.tree a.subtrees.roots (Concerns (shown_tree (state_of a.tree)) op)) a.tree b.tree op reason because };
 
     fn is_dir(&self, dir: Ino) -> bool {
         self.tree.is_dir(dir)
@@ -146,6 +153,7 @@ fn look<S: Store + Drop>(
     requires owned { IsOwned tree.old roots.now.roots }
     ensures found { IfOk result (λ found. found ≡ map.get (shown_tree (state_of tree.old)) dentry.now) }
     ensures kept { KeepsState tree.old tree.new (result_err result) }
+    ensures newest { OnOk result (IsNewestHeld (state_of tree.old) roots.now.roots tree.new.caches (dentry.now.dir, leaf)) }
     ensures reads { ReadsDir roots.now.roots dentry.now.dir tree.old tree.new }
     ensures owned { IsOwned tree.new roots.now.roots }
     ensures refused { IfErr result (MayNotFind (LacksPlacesFor 1 tree.old roots.now.roots (dentry.now.dir, leaf)) tree.old.faults tree.new.faults) }
@@ -168,7 +176,7 @@ fn prepare<S: Store + Drop>(
     ensures kept { KeepsState tree.old tree.new (result_err result) }
     ensures reads { ReadsFor roots.now.roots (NamesDir change.now) tree.old tree.new }
     ensures owned { IsOwned tree.new roots.now.roots }
-    ensures refused { IfErr result (MayNotBeReady (LacksToMake change.now (state_of tree.old)) (LacksPlaces 4 tree.old) tree.old.faults tree.new.faults) }
+    ensures refused { IfErr result (MayNotBeReady (LacksToMake change.now (state_of tree.old)) (LacksPlacesAsked 2 tree.old roots.now.roots (NamesDir change.now)) tree.old.faults tree.new.faults) }
 {
     let at = holders_of(tree, roots, change);
     tree.prepare(alloc, at, change)

@@ -14,10 +14,10 @@ ghost use Rattle.inode_table.specs.Dirs.{IsLive};
 ghost use Rattle.dentry_cache.specs.CacheMap.{unclean};
 ghost use Rattle.mdcache.specs.Frags.{KeepsState};
 ghost use Rattle.mdcache.specs.Pages.{IsPageOf, gathered};
-ghost use Rattle.mdcache.specs.Core.{LacksPlaces, state_of};
+ghost use Rattle.mdcache.specs.Core.{state_of};
 ghost use Rattle.mdcache.specs.Reads.{MayNotFind};
 ghost use Rattle.mdcache.specs.Shown.{names_of, shown_tree};
-ghost use Rattle.ranked_tree.specs.Held.{IsOwned, LacksPlacesFor, ReadsDir};
+ghost use Rattle.ranked_tree.specs.Held.{IsOwned, LacksPlacesDir, LacksPlacesFor, ReadsDir};
 
 use crate::holding::holder_of;
 use fragtree::FragTree;
@@ -47,7 +47,7 @@ pub(crate) fn list_dir<S: Store + Drop>(
     ensures kept { KeepsState tree.old tree.new (result_err result) }
     ensures reads { ReadsDir roots.now.roots dir tree.old tree.new }
     ensures owned { IsOwned tree.new roots.now.roots }
-    ensures refused { IfErr result (MayNotFind (LacksPlaces 1 tree.old) tree.old.faults tree.new.faults) }
+    ensures refused { IfErr result (MayNotFind (LacksPlacesDir 1 tree.old roots.now.roots dir) tree.old.faults tree.new.faults) }
 {
     match tree.dirs().tree(alloc, dir) {
         Ok(leaves) => list_leaves(alloc, tree, roots, dir, &leaves, after, max),
@@ -72,7 +72,7 @@ fn list_leaves<S: Store + Drop>(
     ensures kept { KeepsState tree.old tree.new (result_err result) }
     ensures reads { ReadsDir roots.now.roots dir tree.old tree.new }
     ensures owned { IsOwned tree.new roots.now.roots }
-    ensures refused { IfErr result (MayNotFind (LacksPlaces 1 tree.old) tree.old.faults tree.new.faults) }
+    ensures refused { IfErr result (MayNotFind (LacksPlacesDir 1 tree.old roots.now.roots dir) tree.old.faults tree.new.faults) }
 {
     let mut page = Page::new(alloc, max);
     if let Err(refusal) = gather_leaves(alloc, tree, roots, dir, leaves, after, &mut page) {
@@ -98,7 +98,7 @@ fn gather_leaves<S: Store + Drop>(
     ensures kept { KeepsState tree.old tree.new (result_err result) }
     ensures reads { ReadsDir roots.now.roots dir tree.old tree.new }
     ensures owned { IsOwned tree.new roots.now.roots }
-    ensures refused { IfErr result (MayNotFind (LacksPlaces 1 tree.old) tree.old.faults tree.new.faults) }
+    ensures refused { IfErr result (MayNotFind (LacksPlacesDir 1 tree.old roots.now.roots dir) tree.old.faults tree.new.faults) }
 {
     for leaf in leaves {
         match gather_leaf(alloc, tree, roots, dir, leaf, after, page) {

@@ -9,6 +9,6 @@ returns-in-Err-prepare-clause-ready g c =
     let t = tree_state c.args.tree.now.tree in
     let r = c.args.tree.now.subtrees.roots in
     let q = c.args.request.now in
-    still_refused c.args.tree.now.tree c.lacks_grant.new.tree.tree c.prepare.new.frags.tree q.op (MayTouchAllIn t r c.args.pins.now c.args.rank q.client q.tid q.op) c.args.supply c.in-Err-prepare.refusal c.in-Ok-false.ensures.kept.tree
+    still_refused c.args.tree.now c.lacks_grant.new.tree c.prepare.new.frags q.op (MayTouchAllIn t r c.args.pins.now c.args.rank q.client q.tid q.op) c.args.supply c.in-Err-prepare.refusal c.in-Ok-false.ensures.kept
     (subst (λ (b : Bool). MatchBool b (LacksGrantIn t r c.args.pins.now c.args.rank q.client q.tid q.op) (MayTouchAllIn t r c.args.pins.now c.args.rank q.client q.tid q.op)) c.in-Ok-false.field-0-test c.in-Ok-false.ensures.found)
     c.in-Err-prepare.ensures.prepared

@@ -5,6 +5,7 @@ use Rattle.dentry_cache.proofs.FrameLaws.{came_cap, came_ranks}
 use Rattle.mdcache.specs.Frags.{IsReady}
 use Rattle.mdcache.specs.Ranks.{EndsWith, IsNamedIn}
 use Rattle.ranked_tree.specs.Subtrees.{LoseDirectory}
+use Rattle.ranked_tree.proofs.CameForLaws.{came_for}
 use Rattle.ranked_tree.proofs.HeldChanges.{change_held}
 use Rattle.ranked_tree.proofs.HolderLaws.{same_holders}
 use Rattle.ranked_tree.proofs.SubtreeLaws.{changes_soundly}
@@ -44,3 +45,6 @@ returns-clause-count g c = came_ranks (IsNamedIn c.holders_of-at.result c.args.c
 
 pub returns-clause-cap : goal.returns-clause-cap
 returns-clause-cap g c = came_cap (IsNamedIn c.holders_of-at.result c.args.change) (EndsWith c.args.change) c.args.tree.now.caches c.apply.new.self.caches c.apply.ensures.came
+
+pub returns-clause-came : goal.returns-clause-came
+returns-clause-came g c = came_for c.args.tree.now c.apply.new.self c.args.roots.now.roots c.holders_of-at.result c.args.change c.requires.owned.sound.sound c.apply.ensures.sound.sound c.requires.may c.holders_of-at.ensures.holders c.apply.ensures.made c.apply.ensures.came

@@ -1,3 +1,4 @@
+use Rattle.std.proofs.lemmas.Result.{on_ok_weaker}
 use Rattle.mdcache.proofs.CoreLaws.{reads_keeps}
 use Rattle.dentry_cache.specs.CacheSplits.{IsKeptFor}
 use Rattle.dentry_cache.specs.Came.{IsThat}
@@ -24,3 +25,6 @@ holder_of-rank-requires-clause-live g c = pick_live (state_of c.args.tree.now) c
 
 pub returns-clause-reads : goal.returns-clause-reads
 returns-clause-reads g c = reads_one (IsKeptFor c.args.tree.now.caches) c.args.tree.now c.look.new.self c.args.roots.now.roots (c.args.dentry.now.dir, c.args.leaf) c.holder_of-rank.result c.holder_of-rank.ensures.rules c.look.ensures.reads
+
+pub returns-clause-newest : goal.returns-clause-newest
+returns-clause-newest g c = on_ok_weaker c.look.result (λ newest. (c.holder_of-rank.result, c.holder_of-rank.ensures.rules, newest)) c.look.ensures.newest

@@ -7,6 +7,7 @@ use Rattle.mdcache.specs.Ranks.{IsNamedIn}
 use Rattle.mdcache.specs.State.{State as TreeState}
 use Rattle.mdcache.proofs.CoreLaws.{reads_keeps, reads_state}
 use Rattle.ranked_tree.specs.Held.{AreHolders}
+use Rattle.ranked_tree.proofs.AskLaws.{told_change}
 use Rattle.ranked_tree.proofs.HeldLaws.{owned_reads}
 use Rattle.ranked_tree.proofs.HolderLaws.{named_held}
 use Rattle.ranked_tree.proofs.ReadsForLaws.{reads_change}
@@ -30,3 +31,7 @@ returns-clause-owned g c = owned_reads (IsNamedIn c.holders_of-at.result c.args.
 
 pub returns-clause-reads : goal.returns-clause-reads
 returns-clause-reads g c = reads_change (IsKeptFor c.args.tree.now.caches) c.args.tree.now c.prepare.new.self c.args.roots.now.roots c.holders_of-at.result c.args.change.now c.requires.owned.sound.sound c.requires.may c.holders_of-at.ensures.holders c.prepare.ensures.reads
+
+pub returns-clause-refused : goal.returns-clause-refused
+returns-clause-refused g c =
+    told_change _ _ c.prepare.result c.args.tree.now c.args.roots.now.roots c.holders_of-at.result c.args.change.now c.prepare.new.self.faults c.holders_of-at.ensures.holders c.prepare.ensures.refused

@@ -35,7 +35,7 @@ loop-leaf-preserved g c =
 
 pub returns-in-Err-clause-refused : goal.returns-in-Err-clause-refused
 returns-in-Err-clause-refused g c =
-    refused_before c.args.tree.now c.loop-leaf.tree c.args.roots.now.roots (c.args.dir, c.in-Some.leaf) c.gather_leaf.new.tree.faults c.in-Err.refusal c.loop-leaf.invariant.kept c.loop-leaf.invariant.owned c.in-Err.ensures.refused
+    refused_before c.args.tree.now c.loop-leaf.tree c.args.roots.now.roots (c.args.dir, c.in-Some.leaf) c.gather_leaf.new.tree.faults c.in-Err.refusal c.loop-leaf.invariant.kept c.in-Err.ensures.refused
 
 pub returns-in-Err-clause-reads : goal.returns-in-Err-clause-reads
 returns-in-Err-clause-reads g c = reads_on c.args.roots.now.roots (λ (d : ℕ). d ≡ c.args.dir.0) c.args.tree.now c.loop-leaf.tree c.gather_leaf.new.tree c.loop-leaf.invariant.kept c.loop-leaf.invariant.reads c.gather_leaf.ensures.reads

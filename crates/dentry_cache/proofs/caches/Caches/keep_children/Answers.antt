@@ -1,14 +1,17 @@
-use Rattle.std.proofs.Common.{◌≡◌, Some, refl, subst, sym, arith, ◌<◌, ◌^◌, ◌+◌, suc, ℕ, ◌∙◌, ap}
+use Rattle.std.proofs.Common.{◌≡◌, Option, Some, refl, subst, sym, arith, ◌<◌, ◌^◌, ◌+◌, suc, ℕ, ◌∙◌, ap}
+use Rattle.mds_types.specs.Frag.{child_of}
 use Rattle.dentry_cache.specs.declared.dirfrag.Dirfrag.{Dirfrag}
+use Rattle.dentry_cache.specs.Cache.{Leaf}
 use Rattle.dentry_cache.specs.CacheCalls.{IsRefusedAt, KeepsAt, MakesRoomAt, MayNotKeepAt}
 use Rattle.dentry_cache.specs.CacheMap.{CacheMap, here}
 use Rattle.dentry_cache.specs.CacheSplits.{AreAbsent, IsChildAt, IsFamilyAt, KeepsChildren}
 use Rattle.dentry_cache.specs.Reads.{Reads}
-use Rattle.dentry_cache.proofs.ChildLaws.{AreKeeping, kept_reads, none_kept, none_then, one_kept, reads_so, refused_so, room_kept, stays_then}
+use Rattle.dentry_cache.proofs.ChildLaws.{AreKeeping, kept_reads, none_kept, none_then, one_kept, reads_so, room_kept, stays_then}
+use Rattle.dentry_cache.proofs.RoomLaws.{CanKeepOn, first_can, kept_left, only_memory, refused_room, room_left}
 use Rattle.dentry_cache.proofs.caches.Caches.keep_children.Goals as goal
 
 pub loop-i-init : goal.loop-i-init
-loop-i-init c = record { keeping = none_kept c.args.at.now.rank.0 c.args.at.now.dir c.args.at.now.frag c.args.bits c.args.self.now c.requires.there (c.requires.valid.distinct c.args.at.now.rank.0) c.requires.absent; keeps = refl }
+loop-i-init c = record { keeping = none_kept c.args.at.now.rank.0 c.args.at.now.dir c.args.at.now.frag c.args.bits c.args.self.now c.requires.there (c.requires.valid.distinct c.args.at.now.rank.0) c.requires.absent; keeps = refl; can = first_can (2 ^ c.args.bits) c.args.self.now c.args.at.now.rank.0 (Some (c.args.at.now.dir, c.args.at.now.frag)) c.requires.can }
 
 pub returns-in-Err-clause-left : goal.returns-in-Err-clause-left
 returns-in-Err-clause-left c =
@@ -27,7 +30,7 @@ returns-in-Err-clause-reads c objects =
 
 pub returns-in-Err-clause-refused : goal.returns-in-Err-clause-refused
 returns-in-Err-clause-refused c =
-    refused_so c.args.at.now.rank.0 c.args.at.now.dir c.args.at.now.frag c.args.bits c.loop-i.i (omega (arith, c.loop-i-test.true, c.child_count-i-end.ensures)) c.args.self.now c.loop-i.self c.loop-i.invariant.keeping c.in-Err.refusal
+    only_memory c.loop-i.self c.args.at.now.rank.0 (Some (c.args.at.now.dir, c.args.at.now.frag)) c.loop-i.invariant.keeping.there c.loop-i.i (2 ^ c.args.bits) c.loop-i.invariant.can (omega (arith, c.loop-i-test.true, c.child_count-i-end.ensures)) c.in-Err.refusal
     (subst (λ (x : Dirfrag). MayNotKeepAt x.rank.0 (Some (c.args.at.now.dir, c.args.at.now.frag)) c.loop-i.self c.in-Err.refusal) c.child_at-child.ensures c.in-Err.ensures.refused)
 
 pub loop-i-preserved : goal.loop-i-preserved
@@ -35,10 +38,14 @@ loop-i-preserved c =
     let kept = subst (λ (x : Dirfrag). KeepsAt x.rank.0 (x.dir, x.frag) (Some (c.args.at.now.dir, c.args.at.now.frag)) c.loop-i.self c.keep.new.self) c.child_at-child.ensures c.in_default.ensures.kept in
     let below : c.loop-i.i < 2 ^ c.args.bits = omega (arith, c.loop-i-test.true, c.child_count-i-end.ensures) in
     let more : suc c.loop-i.i ≡ c.loop-i.i + 1 = omega arith in
+    let stay : Option Leaf = Some (c.args.at.now.dir, c.args.at.now.frag) in
+    let roomed = room_kept c.args.at.now.rank.0 c.args.at.now.dir c.args.at.now.frag c.args.bits c.loop-i.i below c.args.self.now c.loop-i.self c.loop-i.invariant.keeping kept.0 kept.1 in
     record {
-      keeping = subst (λ (n : ℕ). AreKeeping c.args.at.now.rank.0 c.args.at.now.dir c.args.at.now.frag c.args.bits n c.args.self.now c.keep.new.self) more (one_kept c.args.at.now.rank.0 c.args.at.now.dir c.args.at.now.frag c.args.bits c.loop-i.i below c.args.self.now kept.0
-          (room_kept c.args.at.now.rank.0 c.args.at.now.dir c.args.at.now.frag c.args.bits c.loop-i.i below c.args.self.now c.loop-i.self c.loop-i.invariant.keeping kept.0 kept.1) c.keep.new.self kept.2);
+      keeping = subst (λ (n : ℕ). AreKeeping c.args.at.now.rank.0 c.args.at.now.dir c.args.at.now.frag c.args.bits n c.args.self.now c.keep.new.self) more (one_kept c.args.at.now.rank.0 c.args.at.now.dir c.args.at.now.frag c.args.bits c.loop-i.i below c.args.self.now kept.0 roomed c.keep.new.self kept.2);
       keeps = subst (λ (n : ℕ). KeepsChildren c.args.at.now.rank.0 c.args.at.now.dir c.args.at.now.frag c.args.bits n c.args.self.now c.keep.new.self) more (c.loop-i.self, c.loop-i.invariant.keeps, kept);
+      can = subst (λ (n : ℕ). CanKeepOn n (2 ^ c.args.bits) c.keep.new.self c.args.at.now.rank.0 stay) more
+          (subst (λ (k : CacheMap). CanKeepOn (suc c.loop-i.i) (2 ^ c.args.bits) k c.args.at.now.rank.0 stay) (sym kept.2) (kept_left kept.0 c.args.at.now.rank.0 stay roomed.there c.loop-i.i (2 ^ c.args.bits)
+          (room_left c.loop-i.self c.args.at.now.rank.0 stay c.loop-i.invariant.keeping.there c.loop-i.i (2 ^ c.args.bits) c.loop-i.invariant.can c.loop-i.invariant.keeping.distinct kept.0 kept.1) (c.args.at.now.dir, child_of c.args.at.now.frag c.loop-i.i c.args.bits) (roomed.absent c.loop-i.i (omega arith) below).1));
     }
 
 pub returns-clause-reads : goal.returns-clause-reads
@@ -51,6 +58,7 @@ returns-in-Err-clause-refuses c = (
   c.loop-i.self,
   c.loop-i.invariant.keeps,
   c.keep.new.self,
-  subst (λ (x : Dirfrag). IsRefusedAt x.rank.0 (Some (c.args.at.now.dir, c.args.at.now.frag)) c.loop-i.self c.keep.new.self c.in-Err.refusal) c.child_at-child.ensures c.in-Err.ensures.room,
+  refused_room c.args.at.now.rank.0 (Some (c.args.at.now.dir, c.args.at.now.frag)) c.loop-i.self c.keep.new.self c.in-Err.refusal (returns-in-Err-clause-refused c)
+      (subst (λ (x : Dirfrag). IsRefusedAt x.rank.0 (Some (c.args.at.now.dir, c.args.at.now.frag)) c.loop-i.self c.keep.new.self c.in-Err.refusal) c.child_at-child.ensures c.in-Err.ensures.room),
   c.drop_children.ensures,
 )

@@ -1,10 +1,12 @@
 use Rattle.std.proofs.Common.{◌<◌, length, refl, sym, subst}
 use Rattle.dentry_cache.specs.Cache.{IsThere}
 use Rattle.dentry_cache.specs.CacheCalls.{KeepsNone}
-use Rattle.dentry_cache.specs.CacheMap.{here, leaf_of}
+use Rattle.dentry_cache.specs.CacheMap.{CacheMap, here, leaf_of}
 use Rattle.dentry_cache.specs.Came.{IsThat, NoneEnds}
+use Rattle.mdcache.specs.CacheReads.{IsNewest}
 use Rattle.mdcache.specs.Core.{Core}
 use Rattle.mdcache.proofs.CoreLaws.{there_after, use_step}
+use Rattle.mdcache.proofs.FetchSteps.{newest_used}
 use Rattle.mdcache.proofs.NoneLaws.{none_used}
 use Rattle.mdcache.proofs.mdcache.MdCache.find.Goals as goal
 
@@ -20,3 +22,7 @@ pub returns-clause-none : goal.returns-clause-none
 returns-clause-none g c =
     none_used c.self.inside.caches c.args.at.now.rank.0 (leaf_of c.args.at.now) (subst (λ (k : Core). KeepsNone k.caches) (sym c.self.view_is) c.fetch.ensures.none) c.look.new.self
     (subst (λ (k : Core). IsThere (here k.caches c.args.at.now.rank.0 (leaf_of c.args.at.now))) (sym c.self.view_is) c.in_default.ensures.there) c.look.ensures.used
+
+pub returns-clause-newest : goal.returns-clause-newest
+returns-clause-newest g c =
+    subst (λ (k : CacheMap). IsNewest k c.args.at.now.rank.0 (leaf_of c.args.at.now)) (sym c.look.ensures.used) (newest_used c.self.inside.caches c.args.at.now.rank.0 (leaf_of c.args.at.now) (look-requires-clause-there g c))

@@ -1,0 +1,113 @@
+-- A step leaves the object of each fragment for which a job stands before and after it.
+use Rattle.std.proofs.Common.{◌≡◌, ℕ, Bool, true, false, nat_lt, inl, inr, MatchBool, List, [], ◌∷◌, length, Option, Some, None, Result, Ok, Err, refl, sym, ap, ◌∙◌}
+use Rattle.std.specs.FinMap as map
+use Rattle.mds_types.specs.declared.entries.Entry.{Entry}
+use Rattle.mds_types.specs.declared.operations.Op.{Op}
+use Rattle.mds_types.specs.declared.ids.Rank.{Rank}
+use Rattle.mds_types.specs.declared.requests.Request.{Request}
+use Rattle.mds_types.specs.declared.refusals.Refusal.{Refusal}
+use Rattle.mds_types.specs.declared.refusals.Refusal.TheVariants.{NotAuthority}
+use Rattle.mds_types.specs.Tree.{Tree}
+use Rattle.objstore.specs.Objects.{Objects}
+use Rattle.inboxes.specs.Inboxes.{first_waiting, waiting_at}
+use Rattle.cached_frag.specs.declared.jobs.Job.{Job}
+use Rattle.dentry_cache.specs.Cache.{Leaf, Unsaved}
+use Rattle.dentry_cache.specs.Loading.{object_of}
+use Rattle.namespace_ops.specs.declared.plans.Change.{Change}
+use Rattle.mdcache.specs.Commits.{Drops, Ends}
+use Rattle.mdcache.specs.Objects.{Purges, SavesTree}
+use Rattle.mdcache.specs.PurgeList.{first_name}
+use Rattle.mdcache.specs.Shown.{names_of, shown_at}
+use Rattle.mdcache.specs.State.{State as TreeState}
+use Rattle.mdcache.proofs.StandingObjects.{ObjectsStay, begun_objects, dropped_objects, ended_object, made_objects, purged_object, regrouped_objects, same_state, saved_object}
+use Rattle.cluster_core.specs.declared.events.Answer.{Answer}
+use Rattle.cluster_core.specs.declared.events.Event.{Event}
+use Rattle.cluster_core.specs.declared.events.Event.TheVariants.{Arrive, Grant, Serve, Split, Merge, CommitBegin, CommitEnd, CommitDrop, CommitTree, Purge, Evict}
+use Rattle.cluster_core.specs.Administers.{Administers, BeginsAt, EvictsOne, MergesLeaves, SplitsLeaf, nothing, told_job}
+use Rattle.cluster_core.specs.Commits.{JobsKeepObjects, JobsTakeWhatIsShown}
+use Rattle.cluster_core.specs.Grants.{GrantsFirst}
+use Rattle.cluster_core.specs.Serve.{MakesPlanned, ServesInbox, ServesRequest}
+use Rattle.cluster_core.specs.Sound.{IsSound}
+use Rattle.cluster_core.specs.State.{Core, State}
+use Rattle.cluster_core.specs.Steps.{ArrivesAt, Does, MayRefuse}
+
+-- a step that leaves all leaves the objects
+left : (old new : State) → new ≡ old → ObjectsStay old.tree new.tree
+left old new same = ap (λ (s : State). s.tree.objects) same
+
+planned : (change : Option Change) (old new : TreeState) → MakesPlanned change old new → ObjectsStay old new
+planned None old new made = same_state old new made
+planned (Some change) old new made = made_objects change old new made
+
+module _ (old new : State) (past now : List Entry) where
+  arrived : (rank : Rank) (request : Request) (result : Result Answer Refusal) → ArrivesAt old new past now rank request result → ObjectsStay old.tree new.tree
+  arrived rank request (Ok answer) h = ap (λ (s : State). s.tree.objects) h.2
+  arrived rank request (Err reason) h = left old new h.2.left
+
+  served : (MayRefuse : Op → Refusal → Type 0) (rank : Rank) (request : Request) (rest : List Request) (result : Result Answer Refusal) → ServesRequest old new past now MayRefuse rank request rest result → ObjectsStay old.tree new.tree
+  served MayRefuse rank request rest (Ok answer) (inl h) = planned h.made.change old.tree new.tree h.made.made
+  served MayRefuse rank request rest (Ok answer) (inr (inl h)) = ap (λ (s : State). s.tree.objects) h.out.left
+  served MayRefuse rank request rest (Ok answer) (inr (inr (inl h))) = ap (λ (s : State). s.tree.objects) h.left
+  served MayRefuse rank request rest (Ok answer) (inr (inr (inr h))) = ap (λ (s : State). s.tree.objects) h.left
+  served MayRefuse rank request rest (Err reason) (inl h) = ap (λ (s : State). s.tree.objects) h.2.left
+  served MayRefuse rank request rest (Err reason) (inr (inl h)) = ap (λ (s : State). s.tree.objects) h.3.left
+  served MayRefuse rank request rest (Err reason) (inr (inr (inl h))) = left old new h.2.left
+  served MayRefuse rank request rest (Err reason) (inr (inr (inr (inl h)))) = left old new h.2.left
+  served MayRefuse rank request rest (Err reason) (inr (inr (inr (inr h)))) = left old new h.3.left
+
+  served_inbox : (MayRefuse : Op → Refusal → Type 0) (rank : Rank) (result : Result Answer Refusal) (inbox : List Request) → ServesInbox old new past now MayRefuse rank result inbox → ObjectsStay old.tree new.tree
+  served_inbox MayRefuse rank result [] h = left old new h.1.left
+  served_inbox MayRefuse rank result (request ∷ rest) h = served MayRefuse rank request rest result h
+
+  granted : (MayRefuse : Op → Refusal → Type 0) (rank : Rank) (client tid : ℕ) (result : Result Answer Refusal) (found : Option Request) → GrantsFirst old new past now MayRefuse rank client tid result found → ObjectsStay old.tree new.tree
+  granted MayRefuse rank client tid result None h = left old new h.1.left
+  granted MayRefuse rank client tid (Ok answer) (Some request) h = ap (λ (s : State). s.tree.objects) h.left
+  granted MayRefuse rank client tid (Err reason) (Some request) h = left old new h.1.left
+
+-- ---- a fragment for which a job stands before and after
+
+module _ (opening : Tree) (past now : List Entry) (old new : Core) (sound : IsSound opening past old) (leaf : Leaf) (job : Job) (stood : map.get old.state.tree.jobs leaf ≡ Some job) (stands : map.get new.state.tree.jobs leaf ≡ Some job) where
+  Kept : Type 0
+  Kept = object_of new.state.tree.objects leaf.0 leaf.1 ≡ object_of old.state.tree.objects leaf.0 leaf.1
+
+  kept : ObjectsStay old.state.tree new.state.tree → Kept
+  kept same = ap (λ (o : Objects). object_of o leaf.0 leaf.1) same
+
+  -- a rank that isn't there leaves all
+  at_rank : {Done Same : Type 0} (here : Bool) (result : Result Answer Refusal) → (Done → Kept) → MatchBool here Done ((result ≡ Err NotAuthority) × (new ≡ old) × Same) → Kept
+  at_rank true result so h = so h
+  at_rank false result so h = kept (ap (λ (c : Core). c.state.tree.objects) h.1)
+
+  -- so does an administrator's step that is refused
+  worked : {X : Type 0} (told : X → Answer) (Did : Result X Refusal → Type 0) → ((given : X) → Did (Ok given) → Kept) → (result : Result Answer Refusal) → Administers old.state new.state past now told Did result → Kept
+  worked told Did so (Ok answer) h = so h.0 h.2
+  worked told Did so (Err reason) h = kept (left old.state new.state h.1.left)
+
+  step : (result : Result Answer Refusal) (event : Event) → Does old new past now result event → Kept
+  step result (Arrive rank request) h = at_rank (nat_lt rank.0 (length old.state.inboxes)) result (λ w. kept (arrived old.state new.state past now rank request result w.0)) h
+  step result (Serve rank) h = at_rank (nat_lt rank.0 (length old.state.inboxes)) result (λ w. kept (served_inbox old.state new.state past now (MayRefuse old new) rank result (waiting_at old.state.inboxes rank) w.0)) h
+  step result (Grant rank client tid) h = at_rank (nat_lt rank.0 (length old.state.inboxes)) result (λ w. kept (granted old.state new.state past now (MayRefuse old new) rank client tid result (first_waiting client tid old.state.inboxes) w.0)) h
+  step result (Split rank dir f nb) h =
+      at_rank (nat_lt rank.0 (length old.state.inboxes)) result (λ w. worked nothing (SplitsLeaf old new rank dir f nb) (λ done did. kept (regrouped_objects old.state.tree new.state.tree dir _ _ _ did.2.regrouped)) result w.0) h
+  step result (Merge rank dir f) h =
+      at_rank (nat_lt rank.0 (length old.state.inboxes)) result (λ w. worked nothing (MergesLeaves old new rank dir f) (λ done did. kept (regrouped_objects old.state.tree new.state.tree dir _ _ _ did.2.regrouped)) result w.0) h
+  step result (CommitBegin rank dir f) h =
+      at_rank (nat_lt rank.0 (length old.state.inboxes)) result (λ w. worked told_job (BeginsAt old.state new.state rank (dir, f)) (λ given did. kept (begun_objects old.state.tree new.state.tree _ (dir, f) given did.1.2)) result w.0.0) h
+  step result (CommitEnd encoded) h =
+      worked nothing (Ends old.state.tree new.state.tree old.faults new.faults encoded.job) (λ done did. ended_object old.state.tree new.state.tree sound.tree.sound leaf job stood stands old.faults new.faults encoded.job (Ok done) did) result h.0.0
+  step result (CommitDrop number) h = worked nothing (Drops old.state.tree new.state.tree number) (λ done did. kept (dropped_objects old.state.tree new.state.tree number (Ok done) did)) result h.0.0
+  step result (CommitTree dir) h =
+      worked nothing (SavesTree old.state.tree new.state.tree old.faults new.faults dir) (λ done did. saved_object old.state.tree new.state.tree sound.tree.sound leaf job stood old.faults new.faults dir (Ok done) did) result h.0.0
+  step result Purge h =
+      worked nothing (Purges old.state.tree new.state.tree old.faults new.faults)
+      (λ done did. purged_object old.state.tree new.state.tree sound.tree.sound leaf job stood old.faults new.faults (first_name old.state.tree.purge) refl (Ok done) did) result h.0.0
+  step result (Evict rank) h =
+      at_rank (nat_lt rank.0 (length old.state.inboxes)) result (λ w. worked nothing (EvictsOne old new rank) (λ done did. kept (ap (λ (s : State). s.tree.objects) did.1)) result w.0) h
+
+pub jobs_keep : JobsKeepObjects
+jobs_keep opening past now old new result event sound stepped leaf job stood stands = step opening past now old new sound leaf job stood stands result event stepped.does
+
+-- what a job is given out with
+pub jobs_take : JobsTakeWhatIsShown
+unfolding names_of
+jobs_take state leaf u is = ap (λ (o : Option Unsaved). shown_at o (object_of state.tree.objects leaf.0 leaf.1)) (sym is)

@@ -1,0 +1,84 @@
+-- What serving and granting make of the caches, from what their parts did.
+use Rattle.std.proofs.Common.{◌≡◌, ◌⊎◌, inl, inr, ℕ, true, false, List, [], ◌∷◌, Option, Some, None, Result, Ok, Err, refl, sym, ap, subst, ◌∙◌}
+use Rattle.std.specs.Prelude.{slice_get}
+use Rattle.std.proofs.lemmas.Option.{same_Some}
+use Rattle.mds_types.specs.declared.ids.Ino.{Ino}
+use Rattle.mds_types.specs.declared.operations.Op.{Op}
+use Rattle.mds_types.specs.declared.replies.Reply.{Reply as Replied}
+use Rattle.mds_types.specs.declared.requests.Request.{Request}
+use Rattle.mds_types.specs.declared.refusals.Refusal.{Refusal}
+use Rattle.mds_types.specs.declared.refusals.Refusal.TheVariants.{InboxFull, NoInodes, NoMemory, Trimmed}
+use Rattle.mds_types.specs.Step.{Outcome}
+use Rattle.dentry_cache.specs.Cache.{Leaf}
+use Rattle.dentry_cache.specs.CacheMap.{CacheMap}
+use Rattle.dentry_cache.specs.Came.{Came}
+use Rattle.dentry_cache.specs.Came.Came.{stays as nothing_came}
+use Rattle.dentry_cache.specs.Reads.Reads.{stays as nothing_read}
+use Rattle.dentry_cache.proofs.FrameLaws.{came_weaker}
+use Rattle.namespace_ops.specs.Changes.{Concerns}
+use Rattle.namespace_ops.specs.Planned.{IsOneOf}
+use Rattle.namespace_ops.specs.Reasons.{IsOfFragments}
+use Rattle.namespace_ops.specs.Served.{LacksNumber}
+use Rattle.namespace_ops.specs.declared.plans.Change.{Change}
+use Rattle.subtree_map.specs.Authority.{Roots}
+use Rattle.mdcache.specs.Core.{Core as TreeCore, state_of as tree_state}
+use Rattle.mdcache.specs.Shown.{shown_tree}
+use Rattle.mdcache.specs.State.{State as TreeState}
+use Rattle.ranked_tree.specs.Held.{AsksFor, IsGone, NamesDir}
+use Rattle.ranked_tree.proofs.ReadsForLaws.{change_concerns}
+use Rattle.cluster_core.specs.declared.events.Answer.{Answer}
+use Rattle.cluster_core.specs.declared.events.Answer.TheVariants.{Deferred, Forwarded, Job, Nothing, Reply}
+use Rattle.cluster_core.specs.Prepared.{IsUnready}
+use Rattle.cluster_core.specs.Uses.{Asks, CamePlanned, ChangesOp, ReadsOp, UsesFront, UsesRequest}
+
+module _ (tree new : TreeState) (roots : Roots) where
+  -- nothing was read
+  same_request : (op : Op) (caches : CacheMap) (result : Result Answer Refusal) → UsesRequest tree new roots op caches caches result
+  same_request op caches (Ok (Reply client tid place true reply)) = (caches, nothing_read, nothing_came)
+  same_request op caches (Ok (Reply client tid place false reply)) = refl
+  same_request op caches (Ok Deferred) = nothing_read
+  same_request op caches (Ok (Forwarded master)) = refl
+  same_request op caches (Ok Nothing) = refl
+  same_request op caches (Ok (Job job)) = refl
+  same_request op caches (Err reason) = (nothing_read, λ late. refl)
+
+  pub same_caches : (caches : CacheMap) (result : Result Answer Refusal) (waiting : List Request) → UsesFront tree new roots caches caches result waiting
+  same_caches caches result [] = refl
+  same_caches caches result (request ∷ rest) = same_request request.op caches result
+
+  -- what holds of the request at the front
+  pub at_front : (before after : CacheMap) (result : Result Answer Refusal) (front : Request) (waiting : List Request) → Some front ≡ slice_get waiting 0 → UsesRequest tree new roots front.op before after result → UsesFront tree new roots before after result waiting
+  at_front before after result front [] is uses = let clash : Some front ≡ None = is in absurd cc
+  at_front before after result front (request ∷ rest) is uses = subst (λ (r : Request). UsesRequest tree new roots r.op before after result) (same_Some front request is) uses
+
+  -- a request that was applied
+  pub applied_uses : (op : Op) (before after : CacheMap) (answer : Answer) (client tid place : ℕ) (reply : Replied) → answer ≡ Reply client tid place true reply → ChangesOp tree new roots op before after → UsesRequest tree new roots op before after (Ok answer)
+  applied_uses op before after answer client tid place reply is changes = subst (λ (a : Answer). UsesRequest tree new roots op before after (Ok a)) (sym is) changes
+
+  -- a request that wasn't made ready
+  pub unready_uses : (op : Op) (before after : CacheMap) (reason : Refusal) → IsOfFragments reason → ReadsOp tree roots op before after → UsesRequest tree new roots op before after (Err reason)
+  unready_uses op before after reason of reads = (reads, late)
+    where
+      late : (reason ≡ Trimmed) ⊎ (reason ≡ InboxFull) → after ≡ before
+      late (inl is) = absurd (subst IsOfFragments is of)
+      late (inr is) = absurd (subst IsOfFragments is of)
+
+-- a request isn't made ready for a reason of the tree
+pub unready_of : (Touch : Type 0) (MayRefuse : Refusal → Type 0) → ((reason : Refusal) → MayRefuse reason → IsOfFragments reason) → (outcome : Outcome) (offered : Option Ino) (reason : Refusal) → IsUnready Touch MayRefuse outcome offered reason → IsOfFragments reason
+unready_of Touch MayRefuse so outcome offered reason (inl memory) = subst IsOfFragments (sym memory) tt
+unready_of Touch MayRefuse so outcome offered reason (inr (inl may)) = so reason may.1
+unready_of Touch MayRefuse so outcome offered reason (inr (inr (touch, inl lacks))) = subst IsOfFragments (sym lacks.named) tt
+unready_of Touch MayRefuse so outcome offered reason (inr (inr (touch, inr may))) = so reason may
+
+-- a planned change of an operation uses what that asks for
+pub planned_came : (old mid new : TreeCore) (roots between : Roots) (op : Op) (change : Option Change) → tree_state mid ≡ tree_state old → between ≡ roots → IsOneOf op change → CamePlanned between change mid new
+    → Came (Asks (tree_state old) roots op) (IsGone (shown_tree (tree_state new))) mid.caches new.caches
+planned_came old mid new roots between op None same rooted one came = subst (λ (c : CacheMap). Came (Asks (tree_state old) roots op) (IsGone (shown_tree (tree_state new))) mid.caches c) (sym came) nothing_came
+planned_came old mid new roots between op (Some change) same rooted one came =
+    subst (λ (s : TreeState). Came (Asks s roots op) (IsGone (shown_tree (tree_state new))) mid.caches new.caches) same
+    (subst (λ (r : Roots). Came (Asks (tree_state mid) r op) (IsGone (shown_tree (tree_state new))) mid.caches new.caches) rooted
+    (came_weaker (AsksFor (tree_state mid) between (NamesDir change)) (IsGone (shown_tree (tree_state new))) (Asks (tree_state mid) between op) (IsGone (shown_tree (tree_state new))) asks (λ r q gone. gone) mid.caches new.caches came))
+  where
+    asks : (r : ℕ) (q : Leaf) → AsksFor (tree_state mid) between (NamesDir change) r q → Asks (tree_state mid) between op r q
+    asks r q (inl held) = inl (change_concerns (shown_tree (tree_state mid)) op change one q.0.0 held.0, held.1)
+    asks r q (inr comes) = inr comes

@@ -1,0 +1,100 @@
+-- No call touches the object of a fragment while a job stands for it.
+use Rattle.std.specs.Prelude.{◌≡◌, ℕ, Bool, true, false, cond, List, Option, Some, None, Result, Ok, Err}
+use Rattle.std.proofs.Common.{◌⊎◌, inl, inr, refl, sym, ap, subst, ◌∙◌}
+use Rattle.std.specs.FinMap as map
+use Rattle.mds_types.specs.declared.dentries.Dentry.{Dentry}
+use Rattle.mds_types.specs.declared.ids.Ino.{Ino}
+use Rattle.mds_types.specs.declared.inodes.Inode.{Inode}
+use Rattle.mds_types.specs.declared.refusals.Refusal.{Refusal}
+use Rattle.mds_types.specs.Frag.{Fragment}
+use Rattle.mds_types.specs.Tree.{is_dir_kind}
+use Rattle.mds_types.proofs.LeafLaws.{get_removed, same_or_apart}
+use Rattle.objstore.specs.Objects.{Objects, written}
+use Rattle.cached_frag.specs.declared.jobs.Job.{Job}
+use Rattle.dirfrag_codec.proofs.ByteKeys.{get_beside}
+use Rattle.dentry_cache.specs.Cache.{Leaf, Unsaved}
+use Rattle.dentry_cache.specs.Loading.{object_of}
+use Rattle.inode_table.specs.Dirs.{IsLive}
+use Rattle.namespace_ops.specs.declared.plans.Change.{Change}
+use Rattle.namespace_ops.specs.declared.plans.Change.TheVariants.{Add, Set, Remove, Move}
+use Rattle.mdcache.specs.Changes.{Makes, with_directory, with_home_at, with_new, without}
+use Rattle.mdcache.specs.Commits.{BeginsWith, Drops, Ends, leaf_of}
+use Rattle.mdcache.specs.Objects.{PurgesName, SavesTree}
+use Rattle.mdcache.specs.PurgeList.{first_name}
+use Rattle.mdcache.specs.Sound.{IsSound}
+use Rattle.mdcache.specs.Splits.{IsRegrouped}
+use Rattle.mdcache.specs.State.{State, text_of}
+use Rattle.mdcache.proofs.ObjectLaws.{purged_objects, tree_saved_objects}
+use Rattle.mdcache.proofs.TextLaws.{one_text}
+
+-- the objects are those that were there
+abbrev pub ObjectsStay : (old new : State) → Type 0
+ObjectsStay old new = new.objects ≡ old.objects
+
+pub same_state : (old new : State) → new ≡ old → ObjectsStay old new
+same_state old new same = ap (λ (s : State). s.objects) same
+
+-- ---- a change of the tree touches no object
+
+new_objects : (s : State) (dentry : Dentry) (inode : Inode) → (with_new s dentry inode).objects ≡ s.objects
+new_objects s dentry inode = go (is_dir_kind inode.kind)
+  where
+    go : (b : Bool) → (cond b (with_directory s dentry inode.ino) s).objects ≡ s.objects
+    go true = refl
+    go false = refl
+
+without_objects : (s : State) (went : Option Ino) → (without s went).objects ≡ s.objects
+without_objects s None = refl
+without_objects s (Some dir) = refl
+
+pub made_objects : (change : Change) (old new : State) → Makes change old new → ObjectsStay old new
+made_objects (Set dentry leaf inode) old new makes = ap (λ (s : State). s.objects) makes.left
+made_objects (Add dentry leaf inode) old new makes = ap (λ (s : State). s.objects) makes.2 ∙ new_objects makes.0 dentry inode ∙ ap (λ (s : State). s.objects) makes.1.left
+made_objects (Remove dentry leaf went) old new makes = ap (λ (s : State). s.objects) makes.2 ∙ without_objects makes.0 went ∙ ap (λ (s : State). s.objects) makes.1.left
+made_objects (Move from source to target went) old new makes =
+    ap (λ (s : State). s.objects) makes.6 ∙ without_objects (with_home_at makes.4 to makes.0) went ∙ ap (λ (s : State). s.objects) makes.5.left ∙ ap (λ (s : State). s.objects) makes.3.left
+
+-- nor do a split and a merge
+pub regrouped_objects : (old new : State) (dir : Ino) (gone cover : List Fragment) (count : ℕ) → IsRegrouped old new dir gone cover count → ObjectsStay old new
+regrouped_objects old new dir gone cover count did = ap (λ (s : State). s.objects) did.left
+
+-- ---- commits, tree objects and the purge list
+
+module _ (old new : State) where
+  pub begun_objects : (unsaved : Option Unsaved) (leaf : Leaf) (job : Option Job) → BeginsWith old new leaf unsaved job → ObjectsStay old new
+  begun_objects None leaf job h = same_state old new h.1
+  begun_objects (Some u) leaf None h = absurd h
+  begun_objects (Some u) leaf (Some job) h = ap (λ (s : State). s.objects) h.2
+
+  pub dropped_objects : (number : ℕ) (result : Result (Unit {0}) Refusal) → Drops old new number result → ObjectsStay old new
+  dropped_objects number (Ok done) h = ap (λ (s : State). s.objects) h.left
+  dropped_objects number (Err reason) h = same_state old new h.2
+
+  -- a job stands for a leaf before and after
+  module _ (sound : IsSound old) (leaf : Leaf) (job : Job) (stood : map.get old.jobs leaf ≡ Some job) where
+    live : IsLive old.homes old.covers leaf
+    live = let standing = sound.standing leaf job stood in (sound.unsaved leaf standing.unsaved standing.beside).live
+
+    -- another job's commit writes another object, and its own ends it
+    pub ended_object : (stands : map.get new.jobs leaf ≡ Some job) (before after : ℕ) (other : Job) (result : Result (Unit {0}) Refusal) → Ends old new before after other result → object_of new.objects leaf.0 leaf.1 ≡ object_of old.objects leaf.0 leaf.1
+    ended_object stands before after other (Err reason) h = ap (λ (s : State). object_of s.objects leaf.0 leaf.1) h.1
+    ended_object stands before after other (Ok done) h = ap (λ (s : State). object_of s.objects leaf.0 leaf.1) h.left ∙ go (same_or_apart leaf (leaf_of other))
+      where
+        other_live : IsLive old.homes old.covers (leaf_of other)
+        other_live = (sound.unsaved (leaf_of other) h.unsaved h.beside).live
+
+        go : (leaf ≡ leaf_of other) ⊎ (leaf ≡ leaf_of other → ⊥) → object_of (written old.objects (text_of (leaf_of other)) _) leaf.0 leaf.1 ≡ object_of old.objects leaf.0 leaf.1
+        unfolding written
+        go (inl same) =
+            let clash : None ≡ Some job = sym (get_removed old.jobs (leaf_of other)) ∙ ap (map.get (map.remove old.jobs (leaf_of other))) (sym same) ∙ sym (ap (λ (s : State). map.get s.jobs leaf) h.left) ∙ stands in
+            absurd cc
+        go (inr apart) = get_beside old.objects (text_of (leaf_of other)) _ (text_of leaf) (λ same. apart (one_text old.homes old.covers sound.table sound.numbered leaf (leaf_of other) live other_live same))
+
+    pub saved_object : (before after : ℕ) (dir : Ino) (result : Result (Unit {0}) Refusal) → SavesTree old new before after dir result → object_of new.objects leaf.0 leaf.1 ≡ object_of old.objects leaf.0 leaf.1
+    saved_object before after dir (Err reason) h = ap (λ (s : State). object_of s.objects leaf.0 leaf.1) h.1
+    saved_object before after dir (Ok done) h = ap (λ (s : State). object_of s.objects leaf.0 leaf.1) h.1 ∙ tree_saved_objects old dir sound h.0 leaf live
+
+    pub purged_object : (before after : ℕ) (name : Option (List ℕ)) → first_name old.purge ≡ name → (result : Result (Unit {0}) Refusal) → PurgesName old new before after name result → object_of new.objects leaf.0 leaf.1 ≡ object_of old.objects leaf.0 leaf.1
+    purged_object before after None is result h = ap (λ (s : State). object_of s.objects leaf.0 leaf.1) h.1
+    purged_object before after (Some name) is (Err reason) h = ap (λ (s : State). object_of s.objects leaf.0 leaf.1) h.1
+    purged_object before after (Some name) is (Ok done) h = ap (λ (s : State). object_of s.objects leaf.0 leaf.1) h.0 ∙ purged_objects old name sound is leaf live
