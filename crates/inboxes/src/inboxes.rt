@@ -58,20 +58,14 @@ impl Inboxes {
     pub fn front(&self, rank: Rank) -> Option<&Request>
         ensures { option_copied result ≡ slice_get (waiting_at self.now rank) 0 }
     {
-        match self.inboxes.get(usize::from(rank.0)) {
-            Some(inbox) => inbox.front(),
-            None => None,
-        }
+        self.inboxes.get(usize::from(rank.0))?.front()
     }
 
     /// Takes the request at the front of a rank's inbox out.
     pub fn take(&mut self, rank: Rank) -> Option<Request>
         ensures { TakesAt self.old self.new rank result (waiting_at self.old rank) }
     {
-        match self.inboxes.get_mut(usize::from(rank.0)) {
-            Some(inbox) => inbox.take(),
-            None => None,
-        }
+        self.inboxes.get_mut(usize::from(rank.0))?.take()
     }
 
     /// Puts the request at the front of a rank's inbox behind all others there.

@@ -82,10 +82,14 @@ impl Dirs {
         let _ = &self.root;
     }
 
-    /// Where a directory stands; none for the root, and for what is no directory.
+    /// Where a directory stands; none for the root, which takes no search, and for what is no directory.
     pub fn get(&self, dir: Ino) -> Option<&Home>
         ensures { option_copied result ≡ map.get self.now.homes dir.0 }
     {
+        self.is_table();
+        if dir == Ino::ROOT {
+            return None;
+        }
         Some(&self.below.get(&dir.0)?.home)
     }
 

@@ -1,6 +1,7 @@
 pub mod Adopted
 pub mod Carried
 pub mod ChildRows
+pub mod Climbs
 pub mod Covers
 pub mod CutOff
 pub mod Divided

@@ -1,5 +1,5 @@
 -- The nearest root of a leaf: there is one, and one alone.
-use Rattle.std.specs.Prelude.{◌≡◌, ℕ, zero, suc, ◌==◌, true, IsSome, Option, Some, None, MatchOption, refl}
+use Rattle.std.specs.Prelude.{◌≡◌, ℕ, zero, suc, ◌==◌, true, IsSome, Option, Some, None, refl}
 use Rattle.std.proofs.Common.{sym, ap, subst, ◌∙◌}
 use Rattle.std.proofs.lemmas.Bool.{or_left}
 use Rattle.std.specs.FinMap as map
@@ -104,17 +104,3 @@ module _ (roots : Roots) (homes : Homes) (covers : Covers) where
   pub none_from_top : (leaf root : Leaf) → map.get roots leaf ≡ None → map.get homes leaf.0.0 ≡ None → NearestRoot roots homes covers leaf root → ⊥
   none_from_top _ _ none nowhere (itself root r has) = not_none _ r none has
   none_from_top _ _ none nowhere (inherited leaf holder root home gone stands holds rest) = let clash : None ≡ Some home = sym nowhere ∙ stands in cc
-
-  -- the rank of the nearest root
-  pub told_authority : (leaf root : Leaf) (told : Option Rank) → NearestRoot roots homes covers leaf root → told ≡ map.get roots root → MatchOption told ((rank : Rank) → HasAuthority roots homes covers leaf rank → ⊥) (HasAuthority roots homes covers leaf)
-  told_authority leaf root None near is = λ rank has. let ranked = is_ranked leaf root near in not_none _ ranked.0 (sym is) ranked.1
-  told_authority leaf root (Some rank) near is = record { root = root; nearest = near; ranked = sym is }
-
-  -- a search for the nearest root that found one, and one that had one to find
-  pub nearest_of : (leaf root : Leaf) (found : Option Leaf) → MatchOption found ((other : Leaf) → NearestRoot roots homes covers leaf other → ⊥) (NearestRoot roots homes covers leaf) → found ≡ Some root → NearestRoot roots homes covers leaf root
-  nearest_of leaf root None none is = let clash : None ≡ Some root = is in cc
-  nearest_of leaf root (Some other) near is = let same : other ≡ root = one_value (Some other) other root refl is in subst (NearestRoot roots homes covers leaf) same near
-
-  pub found_at : (leaf root : Leaf) (found : Option Leaf) → MatchOption found ((other : Leaf) → NearestRoot roots homes covers leaf other → ⊥) (NearestRoot roots homes covers leaf) → NearestRoot roots homes covers leaf root → found ≡ Some root
-  found_at leaf root None none near = absurd (none root near)
-  found_at leaf root (Some other) its near = ap (λ k. Some k) (one_root leaf other root its near)

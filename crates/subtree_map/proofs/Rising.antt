@@ -1,6 +1,6 @@
 -- The bounds of a region, listed in the order of the roots.
 use Rattle.std.specs.Prelude.{◌≡◌, T, List, [], ◌∷◌, ◌++◌, map as list_map}
-use Rattle.std.proofs.Common.{sym, subst, append_assoc, append-nil, ◌∙◌}
+use Rattle.std.proofs.Common.{sym, subst, append_assoc, append-nil}
 use Rattle.std.specs.declared.cmp.Ordering.{Ordering}
 use Rattle.std.specs.declared.cmp.Ordering.TheVariants.{Less, Equal, Greater}
 use Rattle.std.specs.Ordering.{is_lt}

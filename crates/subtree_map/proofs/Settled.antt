@@ -20,12 +20,6 @@ pub one_inherited : (roots : Roots) (homes : Homes) (covers : Covers) (home : Ho
 one_inherited roots homes covers home a b p q =
     one_authority roots homes covers q.holder a b (subst (λ k. HasAuthority roots homes covers k a) (one_holder covers home p.holder q.holder p.holds q.holds) p.has) q.has
 
--- where the leaf that holds a dentry has no authority, none is inherited
-pub none_inherited : (roots : Roots) (homes : Homes) (covers : Covers) (home : Home) (holder : Leaf) → HoldsDentry covers home holder → ((rank : Rank) → HasAuthority roots homes covers holder rank → ⊥) → (rank : Rank)
-    → IsInheritedAt roots homes covers home rank → ⊥
-none_inherited roots homes covers home holder held none rank is =
-    none rank (subst (λ k. HasAuthority roots homes covers k rank) (one_holder covers home is.holder holder is.holds held) is.has)
-
 -- a leaf that inherits has the rank that is inherited where its directory stands
 pub inherits : (roots : Roots) (homes : Homes) (covers : Covers) (leaf : Leaf) (was : Home) (rank : Rank) → map.get roots leaf ≡ None → map.get homes leaf.0.0 ≡ Some was → HasAuthority roots homes covers leaf rank → IsInheritedAt roots homes covers was rank
 inherits roots homes covers leaf was rank none stands has = go leaf has.root none stands has.nearest has.ranked

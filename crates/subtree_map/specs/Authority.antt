@@ -1,13 +1,14 @@
 -- Whose fragment it is: that of the nearest subtree root (Weil et al., OSDI 2006; CephFS's subtree map).
-use Rattle.std.specs.Prelude.{◌≡◌, Some, None, IsSome}
+use Rattle.std.specs.Prelude.{◌≡◌, ℕ, true, Some, None, IsSome}
 use Rattle.std.specs.FinMap as map
+use Rattle.mds_types.specs.declared.ids.Ino.{Ino}
 use Rattle.mds_types.specs.declared.ids.Rank.{Rank}
 use Rattle.mds_types.specs.Frag.{Fragment}
 pub use Rattle.mds_types.specs.Leaf.{Leaf, leaf_cmp}
 use Rattle.fragtree.specs.FragTree.{HasLeaf, IsPick}
 use Rattle.namehash.specs.Rjenkins.{hash_of}
 use Rattle.inode_table.specs.declared.dirs.Home.{Home}
-use Rattle.inode_table.specs.Dirs.{Homes, Covers, IsLive, leaves_of}
+use Rattle.inode_table.specs.Dirs.{Homes, Covers, IsLive, is_known, leaves_of}
 
 -- the subtree roots, each with its rank
 abbrev pub Roots : Type 0
@@ -29,6 +30,12 @@ pub record HasAuthority (roots : Roots) (homes : Homes) (covers : Covers) (leaf 
   pub root : Leaf
   pub nearest : NearestRoot roots homes covers leaf root
   pub ranked : map.get roots root ≡ Some rank
+
+-- a hash falls in a directory that stands: this leaf is the one that it picks, and this rank the leaf's authority
+pub record IsLocated (roots : Roots) (homes : Homes) (covers : Covers) (dir : Ino) (hash : ℕ) (frag : Fragment) (rank : Rank) : Type 0 where
+  pub known : is_known homes dir.0 ≡ true
+  pub pick : IsPick (leaves_of covers dir.0) hash frag
+  pub has : HasAuthority roots homes covers (dir, frag) rank
 
 -- the region of a root: every leaf whose nearest root it is
 pub record IsInRegion (roots : Roots) (homes : Homes) (covers : Covers) (root leaf : Leaf) : Type 0 where

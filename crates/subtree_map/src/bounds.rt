@@ -1,16 +1,16 @@
 //! The bounds of a region.
-ghost use Rattle.std.specs.Prelude.{◌≡◌, ◌↔◌, IfOk, IsTrue, Some};
+ghost use Rattle.std.specs.Prelude.{◌≡◌, ◌↔◌, IfOk, IsTrue, Some, option_map};
 ghost use Rattle.std.specs.List as list;
 ghost use Rattle.std.specs.List.Sorted.{IsStrictlySortedBy};
 ghost use Rattle.std.specs.FinMap as map;
+ghost use Rattle.mds_types.specs.declared.ids.Rank.{Rank as RankNumber};
 ghost use Rattle.mds_types.specs.Leaf.{Leaf, leaf_cmp};
 ghost use Rattle.subtree_map.specs.Authority.{IsBound};
 ghost use Rattle.subtree_map.specs.Climb.{IsNextBelow};
 
-use crate::climb::holder_of;
 use crate::subtrees::Subtrees;
 use inode_table::Dirs;
-use mds_types::{Frag, Ino};
+use mds_types::{Frag, Ino, Rank};
 use std::alloc::{AllocError, Global};
 
 impl Subtrees {
@@ -39,22 +39,20 @@ impl Subtrees {
     fn is_next_below(&self, dirs: &Dirs, root: &(Ino, Frag), bound: &(Ino, Frag)) -> bool
         ensures { IsTrue result ↔ IsNextBelow self.now.roots dirs.now.homes dirs.now.trees root.now bound.now }
     {
+        dirs.is_table();
         match dirs.get(bound.0) {
-            Some(home) => {
-                let holder = holder_of(dirs, home);
-                is_at(self.find_root(dirs, holder.0, holder.1), root)
-            }
+            Some(home) => is_at(self.root_above(dirs, home.parent, &home.name), root),
             None => false,
         }
     }
 }
 
-// Whether a leaf was found, and it is this one.
-fn is_at(found: Option<(Ino, Frag)>, leaf: &(Ino, Frag)) -> bool
-    ensures { IsTrue result ↔ (found ≡ Some leaf.now) }
+// Whether the row of a root was found, and the root is this one.
+fn is_at(found: Option<((Ino, Frag), Rank)>, root: &(Ino, Frag)) -> bool
+    ensures { IsTrue result ↔ (option_map (λ (row : Leaf × RankNumber). row.0) found ≡ Some root.now) }
 {
     match found {
-        Some(other) => other.0 == leaf.0 && other.1 == leaf.1,
+        Some((leaf, _)) => leaf.0 == root.0 && leaf.1 == root.1,
         None => false,
     }
 }

@@ -1,15 +1,16 @@
 //! The way up from a leaf: along the dentries of directories to the nearest root.
-ghost use Rattle.std.specs.Prelude.{◌≡◌, Some, None, MatchOption};
+ghost use Rattle.std.specs.Prelude.{◌≡◌, true, false, MatchOption};
+ghost use Rattle.std.specs.Option.{option_copied};
 ghost use Rattle.std.specs.FinMap as map;
 ghost use Rattle.mds_types.specs.Leaf.{Leaf};
-ghost use Rattle.inode_table.specs.Dirs.{IsLive};
-ghost use Rattle.subtree_map.specs.Authority.{HasAuthority, HoldsDentry, IsSubtrees, NearestRoot};
+ghost use Rattle.inode_table.specs.Dirs.{IsLive, is_known};
+ghost use Rattle.subtree_map.specs.Authority.{HasAuthority, IsLocated, IsSubtrees, NearestRoot};
 ghost use Rattle.mds_types.specs.declared.ids.Rank.{Rank as RankNumber};
-ghost use Rattle.subtree_map.specs.Climb.{IsTop};
+ghost use Rattle.subtree_map.specs.Climb.{FindsAbove, FindsRow};
 
 use crate::subtrees::Subtrees;
 use inode_table::{Dirs, Home};
-use mds_types::{Frag, Ino, Rank};
+use mds_types::{Frag, Ino, Name, Rank};
 use namehash::rjenkins;
 
 impl Subtrees {
@@ -45,45 +46,75 @@ impl Subtrees {
     pub fn find_authority(&self, dirs: &Dirs, dir: Ino, frag: Frag) -> Option<Rank>
         ensures { MatchOption result ((rank : RankNumber) → HasAuthority self.now.roots dirs.now.homes dirs.now.trees (dir, frag) rank → ⊥) (HasAuthority self.now.roots dirs.now.homes dirs.now.trees (dir, frag)) }
     {
-        let Some(root) = self.find_root(dirs, dir, frag) else {
-            return None;
-        };
-        self.get(root.0, root.1)
+        let (_, rank) = self.climb(dirs, (dir, frag), dirs.get(dir))?;
+        Some(rank)
     }
 
     /// The nearest root of a leaf, of whatever map and fragment: none where no root is on the way up. Takes no memory.
     pub fn find_root(&self, dirs: &Dirs, dir: Ino, frag: Frag) -> Option<(Ino, Frag)>
         ensures { MatchOption result ((root : Leaf) → NearestRoot self.now.roots dirs.now.homes dirs.now.trees (dir, frag) root → ⊥) (NearestRoot self.now.roots dirs.now.homes dirs.now.trees (dir, frag)) }
     {
-        dirs.is_table();
-        let mut leaf = (dir, frag);
-        while let Some(home) = self.above(dirs, &leaf) {
-            leaf = holder_of(dirs, home);
-        }
-        if !self.is_root(leaf.0, leaf.1) {
-            return None;
-        }
-        Some(leaf)
+        let (root, _) = self.climb(dirs, (dir, frag), dirs.get(dir))?;
+        Some(root)
     }
 
-    // Where the directory of a leaf that is no root stands.
-    fn above<'a>(&self, dirs: &'a Dirs, leaf: &(Ino, Frag)) -> Option<&'a Home>
-        ensures { MatchOption result (IsTop self.now.roots dirs.entry.now.homes leaf.now) (λ home. (map.get self.now.roots leaf.now ≡ None) × (map.get dirs.entry.now.homes leaf.now.0.0 ≡ Some home.now)) }
+    /// The leaf of a directory that a hash picks, and the leaf's authority; none exactly where there is no such directory.
+    /// Takes no memory, and a look-up and a hash for each directory on the way to the leaf's nearest root.
+    pub fn locate(&self, dirs: &Dirs, dir: Ino, hash: u32) -> Option<(Frag, Rank)>
+        requires valid { IsSubtrees self.now.roots dirs.now.homes dirs.now.trees }
+        ensures { MatchOption result (is_known dirs.now.homes dir.0 ≡ false) (λ at. IsLocated self.now.roots dirs.now.homes dirs.now.trees dir hash at.0 at.1) }
     {
-        if self.roots.contains(leaf) {
+        dirs.is_table();
+        let Some(at) = dirs.leaf_at(dir, hash) else {
             return None;
-        }
-        dirs.get(leaf.0)
+        };
+        let Some((_, rank)) = self.climb(dirs, (dir, at.frag), at.home) else {
+            unreachable!()
+        };
+        Some((at.frag, rank))
     }
-}
 
-/// The leaf that holds the dentry of a directory that stands there: the one of its parent's leaves that the hash of its name
-/// picks. Takes no memory.
-pub fn holder_of(dirs: &Dirs, home: &Home) -> (Ino, Frag)
-    ensures { HoldsDentry dirs.now.trees home.now result }
-{
-    (
-        home.parent,
-        dirs.pick(home.parent, rjenkins(home.name.as_bytes())),
-    )
+    /// The nearest root of the leaf that holds a dentry, and its rank: none where no root is on the way up. The dentry's
+    /// directory stands.
+    pub(crate) fn root_above(
+        &self,
+        dirs: &Dirs,
+        parent: Ino,
+        name: &Name,
+    ) -> Option<((Ino, Frag), Rank)>
+        requires known { is_known dirs.now.homes parent.0 ≡ true }
+        ensures { FindsAbove self.now.roots dirs.now.homes dirs.now.trees (record { parent = parent; name = name.now }) result }
+    {
+        let Some(at) = dirs.leaf_at(parent, rjenkins(name.as_bytes())) else {
+            unreachable!()
+        };
+        self.climb(dirs, (parent, at.frag), at.home)
+    }
+
+    // The nearest root of a leaf whose directory stands there, and its rank: one search of the table and one of the roots
+    // for each directory on the way.
+    fn climb<'a>(
+        &self,
+        dirs: &'a Dirs,
+        leaf: (Ino, Frag),
+        home: Option<&'a Home>,
+    ) -> Option<((Ino, Frag), Rank)>
+        requires home { option_copied home ≡ map.get dirs.now.homes leaf.0.0 }
+        ensures { FindsRow self.now.roots dirs.entry.now.homes dirs.entry.now.trees leaf result }
+    {
+        dirs.is_table();
+        let mut leaf = leaf;
+        let mut home = home;
+        loop {
+            if let Some(rank) = self.get(leaf.0, leaf.1) {
+                return Some((leaf, rank));
+            }
+            let above = home?;
+            let Some(at) = dirs.leaf_at(above.parent, rjenkins(above.name.as_bytes())) else {
+                return None;
+            };
+            leaf = (above.parent, at.frag);
+            home = at.home;
+        }
+    }
 }

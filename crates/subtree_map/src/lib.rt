@@ -13,6 +13,5 @@ mod rows;
 mod splits;
 mod subtrees;
 
-pub use climb::holder_of;
 pub use moves::end_of;
 pub use subtrees::Subtrees;

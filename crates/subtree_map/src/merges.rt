@@ -55,9 +55,7 @@ fn root_inside(roots: &SortedMap<(Ino, Frag), Rank>, dir: Ino, frag: Frag) -> Op
     ensures { MatchOption result ((leaf : Leaf) → is_inside dir.0 frag leaf ≡ true → map.get (contents leaf_cmp roots.now) leaf ≡ None) (λ root. (is_inside dir.0 frag root ≡ true) × IsSome (map.get (contents leaf_cmp roots.now) root)) }
 {
     let _ = frag.bits();
-    let Some(root) = first_after(roots, dir, frag) else {
-        return None;
-    };
+    let root = first_after(roots, dir, frag)?;
     if !is_inside(dir, frag, root.0, root.1) {
         return None;
     }

@@ -11,11 +11,9 @@ ghost use Rattle.subtree_map.specs.Authority.{IsSubtrees};
 ghost use Rattle.subtree_map.specs.Moves.{HasRoomToMove, IsLostRank, IsSettled, MovesSoundly};
 ghost use Rattle.subtree_map.specs.Rows.{AreFilled, IsFilled};
 
-use crate::climb::holder_of;
 use crate::subtrees::Subtrees;
 use inode_table::Dirs;
 use mds_types::{Frag, Ino, Name, Rank, Refusal};
-use namehash::rjenkins;
 use sorted_map::SortedMap;
 
 impl Subtrees {
@@ -38,10 +36,10 @@ impl Subtrees {
         ensures err { IfErr result (λ reason. reason ≡ NoMemory) }
         ensures left { OnErr result (self.new ≡ self.old) }
     {
-        let Some(_) = self.lost_rank(dirs, dir, parent, name) else {
-            return Ok(());
-        };
-        self.reserve(dirs.leaf_count(dir))
+        match self.lost_rank(dirs, dir, parent, name) {
+            Some(_) => self.reserve(dirs.leaf_count(dir)),
+            None => Ok(()),
+        }
     }
 
     /// A directory is about to move to another place: those of its leaves that inherit their rank, and would inherit
@@ -74,14 +72,8 @@ impl Subtrees {
         let Some(home) = dirs.get(dir) else {
             unreachable!();
         };
-        let holder = holder_of(dirs, home);
-        let leaf = dirs.pick(parent, rjenkins(name.as_bytes()));
-        let Some(rank) = self.find_authority(dirs, holder.0, holder.1) else {
-            return None;
-        };
-        let Some(other) = self.find_authority(dirs, parent, leaf) else {
-            return None;
-        };
+        let (_, rank) = self.root_above(dirs, home.parent, &home.name)?;
+        let (_, other) = self.root_above(dirs, parent, name)?;
         if other == rank {
             return None;
         }

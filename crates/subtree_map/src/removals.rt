@@ -37,9 +37,7 @@ fn drop_rows(rows: &mut SortedMap<(Ino, Frag), Rank>, dir: Ino)
 fn first_row(rows: &SortedMap<(Ino, Frag), Rank>, dir: Ino) -> Option<(Ino, Frag)>
     ensures { MatchOption result ((leaf : Leaf) → leaf.0.0 ≡ dir.0 → map.get (contents leaf_cmp rows.now) leaf ≡ None) (λ leaf. (leaf.0.0 ≡ dir.0) × IsSome (map.get (contents leaf_cmp rows.now) leaf)) }
 {
-    let Some(leaf) = first_from(rows, dir, Frag::ROOT) else {
-        return None;
-    };
+    let leaf = first_from(rows, dir, Frag::ROOT)?;
     if leaf.0 != dir {
         return None;
     }

@@ -13,20 +13,14 @@ use sorted_map::SortedMap;
 pub fn first_from(rows: &SortedMap<(Ino, Frag), Rank>, dir: Ino, frag: Frag) -> Option<(Ino, Frag)>
     ensures { IsFirst (contents leaf_cmp rows.now) (is_from leaf_cmp (dir, frag)) result }
 {
-    match rows.iter_from(&(dir, frag)).next() {
-        Some(row) => Some(row.0),
-        None => None,
-    }
+    Some(rows.iter_from(&(dir, frag)).next()?.0)
 }
 
 /// The first leaf of the rows behind a leaf.
 pub fn first_after(rows: &SortedMap<(Ino, Frag), Rank>, dir: Ino, frag: Frag) -> Option<(Ino, Frag)>
     ensures { IsFirst (contents leaf_cmp rows.now) (λ leaf. is_lt (leaf_cmp (dir, frag) leaf)) result }
 {
-    match rows.iter_after(&(dir, frag)).next() {
-        Some(row) => Some(row.0),
-        None => None,
-    }
+    Some(rows.iter_after(&(dir, frag)).next()?.0)
 }
 
 /// Takes out the row of a leaf, and returns its rank.

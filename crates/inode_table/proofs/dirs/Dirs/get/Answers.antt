@@ -1,8 +1,12 @@
--- A directory stands where its row says.
+-- A directory stands where its row says, and the root nowhere.
 use Rattle.std.proofs.Common.{sym, ap, ◌∙◌}
 use Rattle.std.specs.Option.{option_copied}
+use Rattle.inode_table.proofs.Chains.{are_same}
 use Rattle.inode_table.proofs.RowLaws.{get_home, home_in}
 use Rattle.inode_table.proofs.dirs.Dirs.get.Goals as goal
+
+pub returns-then-eq : goal.returns-then-eq
+returns-then-eq c = rw (are_same _ _ c.if-eq.ensures) (sym c.is_table.ensures.rooted.rootless)
 
 pub returns-in_err-get : goal.returns-in_err-get
 returns-in_err-get c = rw (← c.self.view_is) (ap option_copied c.from_residual.ensures ∙ sym (get_home _ _ ∙ ap home_in (sym c.get.ensures ∙ ap option_copied c.in_err-get.was)))
