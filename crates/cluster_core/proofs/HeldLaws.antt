@@ -1,7 +1,9 @@
 -- The list of the leaves that a rank holds, and what a grant makes of it.
 use Rattle.std.proofs.Common.{◌≡◌, ◌↔◌, inl, inr, ℕ, ◌+◌, ◌<◌, ◌≤◌, List, [], ◌∷◌, ◌++◌, drop, length, Some, Err, Ok, refl, sym, ap, ◌∙◌, subst}
 use Rattle.std.specs.List.{Contains}
+use Rattle.std.specs.Prelude.{OnErr, Result, get_or}
 use Rattle.std.proofs.lemmas.List.{append-nil, append_assoc, drop_all}
+use Rattle.std.proofs.lemmas.List.Elements.{Contains-get_or}
 use Rattle.mds_types.specs.declared.entries.Entry.{Entry}
 use Rattle.mds_types.specs.declared.ids.Rank.{Rank}
 use Rattle.mds_types.specs.declared.operations.Op.{Op}
@@ -17,7 +19,7 @@ use Rattle.subtree_map.specs.Authority.{Leaf, Roots}
 use Rattle.mdcache.specs.Shown.{shown_tree}
 use Rattle.mdcache.specs.State.{State as TreeState}
 use Rattle.cluster_core.specs.declared.events.Answer.TheVariants.{Nothing}
-use Rattle.cluster_core.specs.Grants.{AreHeldAmong, FindsNone, GrantsFirst, GrantsWaiting, IsGranted, with_grants}
+use Rattle.cluster_core.specs.Grants.{AreHeldAmong, FindsNone, GrantsFirst, GrantsWaiting, HoldsOne, IsGranted, with_grants}
 use Rattle.cluster_core.specs.State.{State, state_of}
 use Rattle.ranked_tree.specs.Subtrees.{Rules}
 use Rattle.cluster_core.proofs.MasterLaws.{held_exactly, not_in_none}
@@ -41,6 +43,12 @@ module _ (tree : TreeState) (roots : Roots) (rank : Rank) (all : List Leaf) (at 
   pub all_held : length all ≤ at → AreHeldAmong tree roots rank all held
   all_held ends =
       subst (AreHeldAmong tree roots rank all) (append-nil held) (so_far [] (subst (λ (ls : List Leaf). AreHeldAmong tree roots rank ls []) (sym (drop_all at all ends)) refl))
+
+-- one that is held, at its place in the list
+pub holds_one : {X E : Type 0} (result : Result X E) (tree : TreeState) (roots : Roots) (rank : Rank) (all leaves : List Leaf) (at : ℕ) (leaf : Leaf) → all ≡ leaves → at < length all → leaf ≡ get_or all at leaf → Rules tree roots leaf rank
+    → OnErr result (HoldsOne tree roots rank leaves)
+holds_one (Ok x) tree roots rank all leaves at leaf same there is rules = tt
+holds_one (Err e) tree roots rank all leaves at leaf same there is rules = (leaf, subst (λ (ls : List Leaf). Contains ls leaf) same (subst (Contains all) (sym is) (Contains-get_or all at leaf there)), rules)
 
 -- ---- a grant
 

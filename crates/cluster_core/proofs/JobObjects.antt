@@ -1,5 +1,5 @@
 -- A step leaves the object of each fragment for which a job stands before and after it.
-use Rattle.std.proofs.Common.{◌≡◌, ℕ, Bool, true, false, nat_lt, inl, inr, MatchBool, List, [], ◌∷◌, length, Option, Some, None, Result, Ok, Err, refl, sym, ap, ◌∙◌}
+use Rattle.std.proofs.Common.{◌≡◌, ℕ, Bool, true, false, nat_lt, inl, inr, MatchBool, List, [], ◌∷◌, length, Option, Some, None, Result, Ok, Err, refl, sym, ap}
 use Rattle.std.specs.FinMap as map
 use Rattle.mds_types.specs.declared.entries.Entry.{Entry}
 use Rattle.mds_types.specs.declared.operations.Op.{Op}
@@ -67,14 +67,14 @@ module _ (old new : State) (past now : List Entry) where
 -- ---- a fragment for which a job stands before and after
 
 module _ (opening : Tree) (past now : List Entry) (old new : Core) (sound : IsSound opening past old) (leaf : Leaf) (job : Job) (stood : map.get old.state.tree.jobs leaf ≡ Some job) (stands : map.get new.state.tree.jobs leaf ≡ Some job) where
-  Kept : Type 0
+  abbrev Kept : Type 0
   Kept = object_of new.state.tree.objects leaf.0 leaf.1 ≡ object_of old.state.tree.objects leaf.0 leaf.1
 
   kept : ObjectsStay old.state.tree new.state.tree → Kept
   kept same = ap (λ (o : Objects). object_of o leaf.0 leaf.1) same
 
   -- a rank that isn't there leaves all
-  at_rank : {Done Same : Type 0} (here : Bool) (result : Result Answer Refusal) → (Done → Kept) → MatchBool here Done ((result ≡ Err NotAuthority) × (new ≡ old) × Same) → Kept
+  at_rank : {Done : Type 0} (here : Bool) (result : Result Answer Refusal) → (Done → Kept) → MatchBool here Done ((result ≡ Err NotAuthority) × (new ≡ old) × (now ≡ past)) → Kept
   at_rank true result so h = so h
   at_rank false result so h = kept (ap (λ (c : Core). c.state.tree.objects) h.1)
 

@@ -1,5 +1,5 @@
 -- What serving and granting make of the caches, from what their parts did.
-use Rattle.std.proofs.Common.{◌≡◌, ◌⊎◌, inl, inr, ℕ, true, false, List, [], ◌∷◌, Option, Some, None, Result, Ok, Err, refl, sym, ap, subst, ◌∙◌}
+use Rattle.std.proofs.Common.{◌≡◌, ◌⊎◌, inl, inr, ℕ, true, false, List, [], ◌∷◌, Option, Some, None, Result, Ok, Err, refl, sym, subst}
 use Rattle.std.specs.Prelude.{slice_get}
 use Rattle.std.proofs.lemmas.Option.{same_Some}
 use Rattle.mds_types.specs.declared.ids.Ino.{Ino}
@@ -7,7 +7,7 @@ use Rattle.mds_types.specs.declared.operations.Op.{Op}
 use Rattle.mds_types.specs.declared.replies.Reply.{Reply as Replied}
 use Rattle.mds_types.specs.declared.requests.Request.{Request}
 use Rattle.mds_types.specs.declared.refusals.Refusal.{Refusal}
-use Rattle.mds_types.specs.declared.refusals.Refusal.TheVariants.{InboxFull, NoInodes, NoMemory, Trimmed}
+use Rattle.mds_types.specs.declared.refusals.Refusal.TheVariants.{InboxFull, Trimmed}
 use Rattle.mds_types.specs.Step.{Outcome}
 use Rattle.dentry_cache.specs.Cache.{Leaf}
 use Rattle.dentry_cache.specs.CacheMap.{CacheMap}
@@ -15,10 +15,8 @@ use Rattle.dentry_cache.specs.Came.{Came}
 use Rattle.dentry_cache.specs.Came.Came.{stays as nothing_came}
 use Rattle.dentry_cache.specs.Reads.Reads.{stays as nothing_read}
 use Rattle.dentry_cache.proofs.FrameLaws.{came_weaker}
-use Rattle.namespace_ops.specs.Changes.{Concerns}
 use Rattle.namespace_ops.specs.Planned.{IsOneOf}
 use Rattle.namespace_ops.specs.Reasons.{IsOfFragments}
-use Rattle.namespace_ops.specs.Served.{LacksNumber}
 use Rattle.namespace_ops.specs.declared.plans.Change.{Change}
 use Rattle.subtree_map.specs.Authority.{Roots}
 use Rattle.mdcache.specs.Core.{Core as TreeCore, state_of as tree_state}

@@ -3,7 +3,7 @@ use Rattle.std.proofs.lemmas.List.{drop_more}
 use Rattle.mds_types.specs.Leaf.{Leaf}
 use Rattle.mdcache.specs.Core.{state_of as tree_state}
 use Rattle.cluster_core.specs.Grants.{AreHeldAmong}
-use Rattle.cluster_core.proofs.HeldLaws.{all_held, one_less, one_more}
+use Rattle.cluster_core.proofs.HeldLaws.{all_held, holds_one, one_less, one_more}
 use Rattle.cluster_core.proofs.granting.held_among.Goals.{then-is_authority+in_ok-push, else-is_authority}
 use Rattle.cluster_core.proofs.granting.held_among.Goals as goal
 
@@ -19,7 +19,12 @@ loop-leaf-preserved g c = elim c.if-is_authority.branch [
       (λ mine. let is : c.is_authority.result ≡ true = c.is_authority.ensures.1 mine in let isnt : c.is_authority.result ≡ false = search rules in let clash : true ≡ false = sym is ∙ isnt in cc) (search rules)
 ]
 
-pub returns : goal.returns
-returns g c =
+pub returns-clause-held : goal.returns-clause-held
+returns-clause-held g c =
     subst (λ (ls : List Leaf). AreHeldAmong (tree_state c.args.tree.now.tree) c.args.tree.now.subtrees.roots c.args.rank ls c.loop-leaf.held.items) c.deref-leaf-items.ensures.value
     (all_held (tree_state c.args.tree.now.tree) c.args.tree.now.subtrees.roots c.args.rank c.deref-leaf-items.result.now c.loop-leaf.leaf-index c.loop-leaf.held.items c.loop-leaf.invariant (search rules))
+
+pub returns-in_err-push-clause-one : goal.returns-in_err-push-clause-one
+returns-in_err-push-clause-one g c =
+    holds_one c.from_residual.result (tree_state c.args.tree.now.tree) c.args.tree.now.subtrees.roots c.args.rank c.deref-leaf-items.result.now c.args.leaves.now.items c.loop-leaf.leaf-index c.leaf-item.result
+    c.deref-leaf-items.ensures.value (search rules) c.leaf-item.is (c.is_authority.ensures.0 (search rules))

@@ -7,13 +7,16 @@ use Rattle.inode_table.specs.Numbers.{Supply, offer}
 use Rattle.sessions.specs.Rooms.{table}
 use Rattle.mdcache.specs.Core.{state_of as tree_state}
 use Rattle.ranked_tree.specs.Ranked.{IsReady as IsReadyIn, MayRefuse}
+use Rattle.namespace_ops.specs.Changes.{Concerns}
+use Rattle.ranked_tree.specs.Held.{LacksPlacesAsked}
+use Rattle.cluster_core.specs.declared.events.Answer.TheVariants.{Deferred}
 use Rattle.mdcache.specs.Shown.{shown_tree}
 use Rattle.cluster_core.specs.Master.{IsMasterIn, MayTouchAllIn}
 use Rattle.cluster_core.specs.declared.applying.Prepared.{Prepared}
 use Rattle.cluster_core.specs.Prepared.{IsMadeReady, IsPrepared, IsUnready, outcome_with}
 use Rattle.mdcache.proofs.FragsLaws.{refused_so}
 use Rattle.cluster_core.proofs.Served.{lacks_number, refused_there, served_new}
-use Rattle.cluster_core.proofs.UsesLaws.{applied_uses, at_front, planned_came, unready_of, unready_uses}
+use Rattle.cluster_core.proofs.UsesLaws.{applied_uses, at_front, planned_came, same_caches, unready_of, unready_uses}
 use Rattle.cluster_core.proofs.serving.serve_new.Goals as goal
 
 pub returns-in-Some-take-clause-served : goal.returns-in-Some-take-clause-served
@@ -87,4 +90,14 @@ returns-in-Err-clause-uses g c =
     let op = c.in-Some.front.now.op in
     at_front f (tree_state c.make_ready.new.tree.tree) c.args.tree.now.subtrees.roots c.args.tree.now.tree.caches c.make_ready.new.tree.tree.caches (Err c.in-Err.refusal) c.in-Some.front.now (waiting_at c.args.inboxes.now c.args.rank) c.in-Some.ensures
     (unready_uses f (tree_state c.make_ready.new.tree.tree) c.args.tree.now.subtrees.roots op c.args.tree.now.tree.caches c.make_ready.new.tree.tree.caches c.in-Err.refusal
-    (unready_of _ _ (λ reason may. refused_so _ c.args.tree.now.tree c.make_ready.new.tree.tree op reason may) _ _ c.in-Err.refusal c.in-Err.ensures.ready) c.make_ready.ensures.reads)
+    (unready_of (MayTouchAllIn f c.args.tree.now.subtrees.roots c.args.pins.now c.args.rank c.in-Some.front.now.client c.in-Some.front.now.tid op) (MayRefuse c.args.tree.now c.make_ready.new.tree op)
+    (λ reason may. refused_so (LacksPlacesAsked 2 c.args.tree.now.tree c.args.tree.now.subtrees.roots (Concerns (shown_tree f) op)) c.args.tree.now.tree c.make_ready.new.tree.tree op reason may)
+    (outcome_with f c.supply_of-supply.result op) (offer c.supply_of-supply.result) c.in-Err.refusal c.in-Err.ensures.ready) c.make_ready.ensures.reads)
+
+pub returns-in-Ok-None-clause-uses : goal.returns-in-Ok-None-clause-uses
+returns-in-Ok-None-clause-uses g c =
+    at_front (tree_state c.args.tree.now.tree) (tree_state c.make_ready.new.tree.tree) c.args.tree.now.subtrees.roots c.args.tree.now.tree.caches c.make_ready.new.tree.tree.caches (Ok Deferred) c.in-Some.front.now (waiting_at c.args.inboxes.now c.args.rank) c.in-Some.ensures c.make_ready.ensures.reads
+
+pub returns-then-not-is_same-clause-uses : goal.returns-then-not-is_same-clause-uses
+returns-then-not-is_same-clause-uses g c =
+    same_caches (tree_state c.args.tree.now.tree) (tree_state c.args.tree.now.tree) c.args.tree.now.subtrees.roots c.args.tree.now.tree.caches c.forward.result (waiting_at c.args.inboxes.now c.args.rank)
