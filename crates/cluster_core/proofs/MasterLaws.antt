@@ -1,8 +1,7 @@
 -- Which leaves an operation changes, and which of them a rank may change.
-use Rattle.std.proofs.Common.{◌≡◌, ◌↔◌, ◌&&◌, inl, inr, ℕ, Bool, true, false, cond, List, [], ◌∷◌, Some, None, refl, sym, ap, ◌∙◌, subst, MatchBool, arith}
+use Rattle.std.proofs.Common.{◌≡◌, ◌↔◌, ◌&&◌, inl, inr, ℕ, Bool, true, false, cond, List, [], ◌∷◌, Option, MatchOption, Some, None, refl, sym, ap, ◌∙◌, subst, MatchBool, arith}
 use Rattle.std.specs.List.{Contains}
 use Rattle.std.proofs.lemmas.Bool.{and_parts, true≢false}
-use Rattle.mds_types.specs.declared.dentries.Dentry.{Dentry}
 use Rattle.mds_types.specs.declared.ids.Ino.{Ino}
 use Rattle.mds_types.specs.declared.ids.Rank.{Rank}
 use Rattle.mds_types.specs.Frag.{Fragment}
@@ -13,17 +12,20 @@ use Rattle.mds_types.specs.Outcomes.{is_errno}
 use Rattle.mds_types.specs.Step.{answers, destination_of, directory_of, within}
 use Rattle.mds_types.specs.Tree.{Tree, is_directory}
 use Rattle.inboxes.specs.declared.pins.Pin.{Pin}
-use Rattle.namehash.specs.Rjenkins.{hash_of}
 use Rattle.fragtree.specs.FragTree.{IsPick}
 use Rattle.inode_table.specs.Dirs.{Covers, leaves_of}
+use Rattle.inode_table.specs.TreeTable.{IsTabled}
+use Rattle.inode_table.proofs.TableLaws.{known_is}
+use Rattle.namespace_ops.specs.Changes.{in_directory}
+use Rattle.namespace_ops.specs.Picks.{pick_of}
 use Rattle.namespace_ops.specs.ChangedFragments.{NamesOnce, changed_fragments, touched, unless_errno}
 use Rattle.namespace_ops.proofs.PickLaws.{picked}
 use Rattle.namespace_ops.proofs.Members.{first, first_or_later, later}
-use Rattle.subtree_map.specs.Authority.{Leaf, Roots}
+use Rattle.subtree_map.specs.Authority.{IsLocated, Leaf, Roots}
 use Rattle.mdcache.specs.Shown.{shown_tree}
 use Rattle.mdcache.specs.State.{State as TreeState}
 use Rattle.cluster_core.specs.Grants.{AreHeldAmong}
-use Rattle.cluster_core.specs.Master.{HasForeign, IsMasterIn, LacksGrantIn, MayTouchAllIn, MayTouchEach, MayTouchIn, changes_others, leaf_at, main_dentry, main_leaf}
+use Rattle.cluster_core.specs.Master.{HasForeign, IsMasterIn, LacksGrantIn, MayTouchAllIn, MayTouchEach, MayTouchIn, changes_others, main_hash, main_leaf}
 use Rattle.ranked_tree.specs.Subtrees.{Rules}
 
 -- nothing is in an empty list
@@ -36,27 +38,38 @@ only_one x y has = elim (first_or_later x y [] has) [
   | inr more ↦ absurd (not_in_none y more)
 ]
 
--- the main leaf of an operation is of the directory that it leads to
-pub main_directory : (covers : Covers) (op : Op) → (main_leaf covers op).0.0 ≡ destination_of op
-main_directory covers (Lookup dentry) = refl
-main_directory covers (Readdir dir after max) = refl
-main_directory covers (Readlink dentry) = refl
-main_directory covers (Create dentry mode mtime) = refl
-main_directory covers (Mkdir dentry mode mtime) = refl
-main_directory covers (Symlink dentry target mtime) = refl
-main_directory covers (Setattr dentry given) = refl
-main_directory covers (Unlink dentry) = refl
-main_directory covers (Rmdir dentry) = refl
-main_directory covers (Rename from to) = refl
+-- the rank that was found, or the one that serves
+abbrev pub master_of : Rank → Option (Fragment × Rank) → Rank
+master_of rank None = rank
+master_of rank (Some at) = at.1
 
--- it is the leaf of its dentry, or the directory's first one
-pub main_at : (covers : Covers) (op : Op) (dentry : Dentry) (f : Fragment) → Some dentry ≡ main_dentry op → IsPick (leaves_of covers dentry.dir.0) (hash_of dentry.name) f → (dentry.dir, f) ≡ main_leaf covers op
-main_at covers op dentry f is pick =
-    ap (λ (g : Fragment). (dentry.dir, g)) (sym (picked (leaves_of covers dentry.dir.0) (hash_of dentry.name) f pick)) ∙ ap (leaf_at covers (destination_of op)) is
+-- it is the leaf of that directory which the operation's hash picks
+main_picked : (covers : Covers) (op : Op) → main_leaf covers op ≡ in_directory (destination_of op) (pick_of (leaves_of covers (destination_of op)) (main_hash op))
+main_picked covers (Lookup dentry) = refl
+main_picked covers (Readdir dir after max) = refl
+main_picked covers (Readlink dentry) = refl
+main_picked covers (Create dentry mode mtime) = refl
+main_picked covers (Mkdir dentry mode mtime) = refl
+main_picked covers (Symlink dentry target mtime) = refl
+main_picked covers (Setattr dentry given) = refl
+main_picked covers (Unlink dentry) = refl
+main_picked covers (Rmdir dentry) = refl
+main_picked covers (Rename from to) = refl
 
-pub main_first : (covers : Covers) (op : Op) (dir : Ino) (f : Fragment) → dir.0 ≡ destination_of op → None ≡ main_dentry op → IsPick (leaves_of covers dir.0) 0 f → (dir, f) ≡ main_leaf covers op
-main_first covers op dir f there is pick =
-    ap (λ (g : Fragment). (dir, g)) (sym (picked (leaves_of covers dir.0) 0 f pick)) ∙ ap (λ (d : ℕ). leaf_at covers d None) there ∙ ap (leaf_at covers (destination_of op)) is
+pub main_located : (covers : Covers) (op : Op) (dir : Ino) (f : Fragment) → dir.0 ≡ destination_of op → IsPick (leaves_of covers dir.0) (main_hash op) f → (dir, f) ≡ main_leaf covers op
+main_located covers op dir f there pick =
+    ap (λ (g : Fragment). (dir, g)) (sym (picked (leaves_of covers dir.0) (main_hash op) f pick)) ∙ ap (λ (d : ℕ). in_directory d (pick_of (leaves_of covers d) (main_hash op))) there ∙ sym (main_picked covers op)
+
+-- the authority of the leaf in which that hash falls is the master; where there is no such directory the rank itself is
+pub master_located : (tree : TreeState) (roots : Roots) → IsTabled (shown_tree tree) tree.homes → (rank : Rank) (op : Op) (dir : Ino) (hash : ℕ) → dir.0 ≡ destination_of op → hash ≡ main_hash op
+    → (found : Option (Fragment × Rank)) → MatchOption found (is_directory (shown_tree tree) dir.0 ≡ false) (λ at. IsLocated roots tree.homes tree.covers dir hash at.0 at.1)
+    → IsMasterIn tree roots rank op (master_of rank found)
+master_located tree roots tabled rank op dir hash there hashed None h =
+    subst (λ (b : Bool). MatchBool b (Rules tree roots (main_leaf tree.covers op) rank) (rank ≡ rank)) (sym (ap (is_directory (shown_tree tree)) (sym there) ∙ h)) refl
+master_located tree roots tabled rank op dir hash there hashed (Some at) h =
+    let is : is_directory (shown_tree tree) (destination_of op) ≡ true = ap (is_directory (shown_tree tree)) (sym there) ∙ sym (known_is (shown_tree tree) tree.homes tabled dir.0) ∙ h.known in
+    subst (λ (b : Bool). MatchBool b (Rules tree roots (main_leaf tree.covers op) at.1) (at.1 ≡ rank)) (sym is)
+    (subst (λ (l : Leaf). Rules tree roots l at.1) (main_located tree.covers op dir at.0 there (subst (λ (n : ℕ). IsPick (leaves_of tree.covers dir.0) n at.0) hashed h.pick)) h.has)
 
 -- an operation that changes no other leaf changes at most its main one
 one_leaf : (covers : Covers) (tree : Tree) (op : Op) → changes_others op ≡ false → (leaf : Leaf) → Contains (touched covers tree op) leaf → leaf ≡ main_leaf covers op

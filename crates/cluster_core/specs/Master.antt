@@ -11,6 +11,7 @@ use Rattle.mds_types.specs.Tree.{is_directory}
 use Rattle.inboxes.specs.declared.pins.Pin.{Pin}
 use Rattle.inboxes.specs.Pins.{is_pin}
 use Rattle.inode_table.specs.Dirs.{Covers, leaves_of}
+use Rattle.namehash.specs.Rjenkins.{hash_of}
 use Rattle.namespace_ops.specs.Picks.{pick_of}
 use Rattle.namespace_ops.specs.ChangedFragments.{changed_fragments, fragment_of}
 use Rattle.namespace_ops.specs.Changes.{in_directory}
@@ -86,6 +87,15 @@ abbrev pub LacksGrant : State → Rank → Request → Type 0
 LacksGrant state rank request = LacksGrantIn state.tree state.roots state.pins rank request.client request.tid request.op
 
 -- ---- words of this crate's own contracts
+
+-- the hash of a dentry's name; where there is none, the first one
+abbrev pub hash_at : Option Dentry → ℕ
+hash_at None = 0
+hash_at (Some dentry) = hash_of dentry.name
+
+-- a hash that falls in the main leaf of an operation
+abbrev pub main_hash : Op → ℕ
+main_hash op = hash_at (main_dentry op)
 
 -- whether an operation may change other leaves than its main one: those of a directory that goes, the source of a rename
 abbrev pub changes_others : Op → Bool

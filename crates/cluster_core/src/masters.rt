@@ -4,14 +4,13 @@ ghost use Rattle.mds_types.specs.declared.refusals.Refusal.TheVariants.{NoInodes
 ghost use Rattle.mds_types.specs.declared.ids.Rank.{Rank as RankNumber};
 ghost use Rattle.std.specs.Option.{option_copied};
 ghost use Rattle.std.specs.Result.{result_err};
-ghost use Rattle.fragtree.specs.FragTree.{HasLeaf};
-ghost use Rattle.inode_table.specs.Dirs.{leaves_of};
 ghost use Rattle.mdcache.specs.Core.{state_of as tree_state};
 ghost use Rattle.ranked_tree.specs.Ranked.{KeepsRanked, MayRefuse};
-ghost use Rattle.cluster_core.specs.Master.{HasForeign, IsMasterIn, LacksGrantIn, MayTouchAllIn, MayTouchEach, MayTouchIn, changes_others, main_dentry, main_leaf};
+ghost use Rattle.cluster_core.specs.Master.{HasForeign, IsMasterIn, LacksGrantIn, MayTouchAllIn, MayTouchEach, MayTouchIn, changes_others, main_dentry, main_hash};
 
 use inboxes::{Pin, Pins};
 use mds_types::{Dentry, Frag, Ino, Op, Rank, Refusal};
+use namehash::rjenkins;
 use namespace_ops::changes;
 use objstore::Store;
 use ranked_tree::RankedTree;
@@ -24,21 +23,20 @@ pub fn master_of<S: Store + Drop>(tree: &RankedTree<S>, rank: Rank, op: &Op) -> 
 {
     // The contract of `store` is what says here that the tree is sound.
     let _ = tree.store();
-    if !tree.is_dir(op.destination()) {
-        return rank;
+    match tree.locate(op.destination(), main_hash(op)) {
+        Some((_, master)) => master,
+        None => rank,
     }
-    let leaf = main_leaf(tree, op);
-    tree.roots().authority(tree.dirs(), leaf.0, leaf.1)
 }
 
-// The leaf that tells the master of an operation.
-fn main_leaf<S: Store + Drop>(tree: &RankedTree<S>, op: &Op) -> (Ino, Frag)
-    ensures leaf { result ≡ main_leaf tree.now.tree.covers op.now }
-    ensures stands { HasLeaf (leaves_of tree.now.tree.covers result.0.0) result.1 }
+// A hash that falls in the leaf which tells the master of an operation: that of its dentry's name, and the first one of a
+// readdir's directory.
+fn main_hash(op: &Op) -> u32
+    ensures { result ≡ main_hash op.now }
 {
     match main_dentry(op) {
-        Some(dentry) => (dentry.dir, tree.frag_of(dentry)),
-        None => (op.destination(), tree.first_leaf(op.destination())),
+        Some(dentry) => rjenkins(dentry.name.as_bytes()),
+        None => 0,
     }
 }
 

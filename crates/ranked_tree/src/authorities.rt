@@ -1,7 +1,11 @@
 //! Whose a leaf is.
-ghost use Rattle.std.specs.Prelude.{◌≡◌, ◌↔◌, IsTrue, MatchOption};
+ghost use Rattle.std.specs.Prelude.{◌≡◌, ◌↔◌, false, IsTrue, MatchOption};
+ghost use Rattle.mds_types.specs.Tree.{is_directory};
 ghost use Rattle.inode_table.specs.Dirs.{IsLive};
+ghost use Rattle.subtree_map.specs.Authority.{IsLocated};
 ghost use Rattle.mdcache.specs.Core.{state_of};
+ghost use Rattle.mdcache.specs.Shown.{shown_tree};
+ghost use Rattle.ranked_tree.specs.Held.{IsOwned};
 ghost use Rattle.ranked_tree.specs.Subtrees.{AllHave, AreRoots, Rules};
 
 use crate::inside::all_have;
@@ -17,6 +21,14 @@ impl<S: Store + Drop> RankedTree<S> {
         ensures { MatchOption result (IsLive self.now.tree.homes self.now.tree.covers (dir, frag) → ⊥) (λ rank. IsLive self.now.tree.homes self.now.tree.covers (dir, frag) × Rules (state_of self.now.tree) self.now.subtrees.roots (dir, frag) rank) }
     {
         authority_of(&self.tree, &self.roots, dir, frag)
+    }
+
+    /// The leaf of a directory that a hash picks, and the leaf's authority; none exactly where there is no such directory. Takes
+    /// no memory, one search of the directory table for the leaf, and one for each directory up to the nearest root.
+    pub fn locate(&self, dir: Ino, hash: u32) -> Option<(Frag, Rank)>
+        ensures { MatchOption result (is_directory (shown_tree (state_of self.now.tree)) dir.0 ≡ false) (λ at. IsLocated self.now.subtrees.roots self.now.tree.homes self.now.tree.covers dir hash at.0 at.1) }
+    {
+        locate(&self.tree, &self.roots, dir, hash)
     }
 
     /// Whether a rank is the authority of a leaf. Takes no memory.
@@ -48,6 +60,19 @@ fn authority_of<S: Store + Drop>(
         return None;
     }
     Some(roots.authority(tree.dirs(), dir, frag))
+}
+
+// The leaf of a directory that a hash picks, and the leaf's authority.
+fn locate<S: Store + Drop>(
+    tree: &MdCache<S>,
+    roots: &Subtrees,
+    dir: Ino,
+    hash: u32,
+) -> Option<(Frag, Rank)>
+    requires { IsOwned tree.now roots.now.roots }
+    ensures { MatchOption result (is_directory (shown_tree (state_of tree.now)) dir.0 ≡ false) (λ at. IsLocated roots.now.roots tree.now.homes tree.now.covers dir hash at.0 at.1) }
+{
+    roots.locate(tree.dirs(), dir, hash)
 }
 
 // Whether a rank is the authority of a leaf.
