@@ -74,9 +74,12 @@ returns-in-Some-take-clause-uses g c =
     let made = subst (λ (o : Option Prepared). IsMadeReady f c.args.tree.now.subtrees.roots c.args.pins.now c.supply_of-supply.result c.args.rank c.in-Some.front.now (IsReadyIn c.make_ready.new.tree) (MayRefuse c.args.tree.now c.make_ready.new.tree op) (Ok o))
     c.in-Ok-Some.field-0-is c.in-Ok-Some.ensures.ready in
     at_front f (tree_state c.commit.new.tree.tree) c.args.tree.now.subtrees.roots c.args.tree.now.tree.caches c.commit.new.tree.tree.caches (Ok c.commit.result) c.in-Some.front.now (waiting_at c.args.inboxes.now c.args.rank) c.in-Some.ensures
-    (applied_uses f (tree_state c.commit.new.tree.tree) c.args.tree.now.subtrees.roots op c.args.tree.now.tree.caches c.commit.new.tree.tree.caches c.commit.result _ _ _ _ c.commit.ensures.answer
-    (c.make_ready.new.tree.tree.caches, c.make_ready.ensures.reads, planned_came c.args.tree.now.tree c.make_ready.new.tree.tree c.commit.new.tree.tree c.args.tree.now.subtrees.roots c.make_ready.new.tree.subtrees.roots op c.in-Ok-Some.prepared.plan.change
-    c.make_ready.ensures.same c.make_ready.ensures.roots made.1.planned.one_of c.commit.ensures.came))
+    (applied_uses f (tree_state c.commit.new.tree.tree) c.args.tree.now.subtrees.roots op c.args.tree.now.tree.caches c.commit.new.tree.tree.caches c.commit.result _ _ _ _ c.commit.ensures.answer (
+      c.make_ready.new.tree.tree.caches,
+      c.make_ready.ensures.reads,
+      planned_came c.args.tree.now.tree c.make_ready.new.tree.tree c.commit.new.tree.tree c.args.tree.now.subtrees.roots c.make_ready.new.tree.subtrees.roots op c.in-Ok-Some.prepared.plan.change
+          c.make_ready.ensures.same c.make_ready.ensures.roots made.1.planned.one_of c.commit.ensures.came,
+    ))
 
 pub returns-in-Err-NoInodes-clause-uses : goal.returns-in-Err-NoInodes-clause-uses
 returns-in-Err-NoInodes-clause-uses g c =
