@@ -24,6 +24,7 @@ test:
 	@tests/rows/run
 	@tests/operation_table/run
 	@tests/many_names/run
+	@tests/random_runs/run
 	@tests/refused_growths/run
 	@tests/serve/run
 
