@@ -100,7 +100,7 @@ pub record KeepsPlace (homes : Homes) (kept : Option (Rank × Leaf)) (c : CacheM
 pub none_places : {homes : Homes} → (kept : Option (Rank × Leaf)) (c : CacheMap) → KeepsNone c → KeepsPlace homes kept c
 none_places {homes} kept c none = record { only = none_only kept c none; coming = none_coming homes c none }
 
--- a place that was kept at most is kept where a leaf that is there is used,
+-- no more places are kept where a leaf that is there is used,
 pub used_more : (c : CacheMap) (r : ℕ) (leaf : Leaf) → IsThere (here c r leaf) → KeepsNoMore c (used_at c r leaf)
 used_more c r leaf there s q kept = go (placed_used c r leaf s q kept.0)
   where
