@@ -43,8 +43,9 @@ pub record IsKept (tree : TreeState) (caches : CacheMap) : Type 0 where
   pub cached : AreCachedIn tree caches
 
 -- what isn't clean is what the ranks' fragments have beyond their objects; each place is that of a fragment which the rank has, but for one
--- that may be kept for a fragment which will be made, so no leaf has places at two ranks; a rank caches only what it is the authority of; and
--- a fragment that a rank has stands in its order of use, where no leaf stands twice, and no more than the rank has places
+-- that may be kept for a fragment which will be made, so no leaf has places at two ranks; a rank caches only what it is the authority of, and
+-- has a place of no other live leaf; and a fragment that a rank has stands in its order of use, where no leaf stands twice, and no more than
+-- the rank has places
 pub record AreCached (core : Core) : Type 0 where
   pub unsaved : core.state.tree.unsaved ≡ unclean core.caches
   pub places : (kept : Option (Rank × Leaf)) × KeepsOnlyAt kept core.caches

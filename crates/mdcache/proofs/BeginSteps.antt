@@ -30,6 +30,7 @@ use Rattle.mdcache.specs.Shown.{shown_at}
 use Rattle.mdcache.specs.Sound.{AreYoung, IsOf, IsSound}
 use Rattle.mdcache.specs.State.{IsLive, State}
 use Rattle.mdcache.proofs.SoundLaws.{begun_sound}
+use Rattle.mdcache.proofs.NoneLaws.{used_more}
 
 -- ---- what is told of a fragment
 
@@ -140,6 +141,7 @@ module _ (c : Core) (sound : IsSoundCore c) (a : Dirfrag) (free : IsFreeFor c.ca
         begun = sound.begun;
         cached = subst (λ (t : State). AreCached t (used_at c.caches r leaf)) (sym used_state) sound.cached;
         kept = only_used c.kept c.caches r leaf there sound.kept;
+        coming = λ s q kept. sound.coming s q (used_more c.caches r leaf there s q kept);
       }
 
       module _ (lacks : IsAtEnd s.next_job u.base → ⊥) where
@@ -196,6 +198,7 @@ module _ (c : Core) (sound : IsSoundCore c) (a : Dirfrag) (free : IsFreeFor c.ca
             begun = sound.begun;
             cached = λ q b is. let was = used_sound.cached q b is in record { live = was.live; tied = was.tied; made = was.made };
             kept = used_sound.kept;
+            coming = used_sound.coming;
           }
             where
               young : AreYoung job.snapshot.names s.next_version

@@ -10,7 +10,8 @@ use Rattle.objstore.specs.Omap.{Keys}
 use Rattle.objstore.specs.Objects.{Objects}
 use Rattle.cached_frag.specs.declared.jobs.Job.{Job}
 use Rattle.dentry_cache.specs.Cache.{IsThere, Leaf, stays}
-use Rattle.dentry_cache.specs.CacheMap.{AreCaches, At, CacheMap, evicted, given_up, goes, has_place, here, order, unclean, victim}
+use Rattle.dentry_cache.specs.CacheMap.{AreCaches, At, CacheMap, at_rank, evicted, given_up, goes, has_place, here, order, unclean, victim}
+use Rattle.dentry_cache.specs.CacheSplits.{IsKeptFor}
 use Rattle.dentry_cache.proofs.UncleanLaws.{clean_there, last_passes, unclean_gone}
 use Rattle.dentry_cache.proofs.StepLaws.{held_given_up, placed_given_up}
 use Rattle.dentry_cache.proofs.WholeLaws.{whole_given_up}
@@ -19,7 +20,7 @@ use Rattle.mdcache.specs.Commits.{IsDropped}
 use Rattle.mdcache.specs.Core.{AreCached, Core, IsSoundCore, Rooms, state_of}
 use Rattle.mdcache.specs.Objects.{Purges, PurgesName, purged, tree_saved, with_tree_at}
 use Rattle.mdcache.specs.PurgeList.{first_name}
-use Rattle.mdcache.specs.Ranks.{KeepsOnlyAt}
+use Rattle.mdcache.specs.Ranks.{KeepsComing, KeepsOnlyAt}
 use Rattle.mdcache.specs.Shown.{shown_tree}
 use Rattle.mdcache.specs.Sound.{IsSound}
 use Rattle.mdcache.specs.StandingJobs.{Jobs}
@@ -34,7 +35,7 @@ module _ (old view : Core) (is : view ≡ old) (sound : IsSoundCore old) where
   -- nothing that is sound is changed
   pub faults_sound : (objects : Objects) (faults : ℕ) → objects ≡ view.objects → IsSoundCore (record view { objects = objects; faults = faults })
   faults_sound objects faults same =
-      subst (λ (o : Objects). IsSoundCore (record view { objects = o; faults = faults })) (sym same) (record { sound = now.sound; begun = now.begun; cached = now.cached; kept = now.kept })
+      subst (λ (o : Objects). IsSoundCore (record view { objects = o; faults = faults })) (sym same) (record { sound = now.sound; begun = now.begun; cached = now.cached; kept = now.kept; coming = now.coming })
 
   -- a job is given up
   module _ (leaf : Leaf) (jobs : Jobs) (ended : jobs ≡ map.remove view.jobs leaf) where
@@ -48,6 +49,7 @@ module _ (old view : Core) (is : view ≡ old) (sound : IsSoundCore old) where
       begun = now.begun;
       cached = λ q a at. let was = now.cached q a at in record { live = was.live; tied = was.tied; made = was.made };
       kept = now.kept;
+      coming = now.coming;
     }
 
   -- an object that nothing owns is removed
@@ -64,6 +66,7 @@ module _ (old view : Core) (is : view ≡ old) (sound : IsSoundCore old) where
       begun = now.begun;
       cached = subst (λ (s : State). AreCached s view.caches) (sym is_purged) (purged_cached (state_of view) name now.sound first view.caches now.cached);
       kept = now.kept;
+      coming = now.coming;
     }
 
     pub purge_purged : (before after : ℕ) → Purges (state_of old) (state_of less) before after (Ok tt)
@@ -84,6 +87,7 @@ module _ (old view : Core) (is : view ≡ old) (sound : IsSoundCore old) where
       begun = now.begun;
       cached = subst (λ (s : State). AreCached s view.caches) (sym is_written) (tree_saved_cached (state_of view) dir now.sound known view.caches now.cached);
       kept = now.kept;
+      coming = now.coming;
     }
 
     pub tree_is : (is_known old.homes dir.0 ≡ true) × (state_of written ≡ tree_saved (state_of old) dir) × (shown_tree (state_of written) ≡ shown_tree (state_of old))
@@ -118,6 +122,13 @@ module _ (old view : Core) (is : view ≡ old) (sound : IsSoundCore old) where
         on v s q placed (inl was) = inl (whole_given_up view.caches r v s q there (valid.distinct r) (λ before. was) placed)
         on v s q placed (inr kept) = inr (still v q kept.0 (map.get (given_up view.caches r v).held q) refl, kept.1)
 
+    evicted_coming : evicted view.caches r None ≡ Some caches → KeepsComing view.homes caches
+    evicted_coming = by_victim (KeepsComing view.homes) (λ v passes s q kept. now.coming s q (was v s q kept (now.kept s q (placed_given_up view.caches r v s q kept.0))))
+      where
+        was : (v : Leaf) (s : ℕ) (q : Leaf) → IsKeptFor (given_up view.caches r v) s q → IsThere (here view.caches s q) ⊎ ((map.get view.caches.held q ≡ None) × (view.kept ≡ Some (record { 0 = s }, q))) → IsKeptFor view.caches s q
+        was v s q kept (inl there_is) = absurd (subst IsThere (ap (at_rank s) kept.1) (whole_given_up view.caches r v s q there (valid.distinct r) (λ before. there_is) kept.0))
+        was v s q kept (inr none) = (placed_given_up view.caches r v s q kept.0, none.0)
+
     went_state : evicted view.caches r None ≡ Some caches → state_of (record view { caches = caches }) ≡ state_of view
     went_state gone = λ i. record (state_of view) { unsaved = evicted_unclean gone i }
 
@@ -131,5 +142,6 @@ module _ (old view : Core) (is : view ≡ old) (sound : IsSoundCore old) where
       begun = now.begun;
       cached = subst (λ (s : State). AreCached s caches) (sym (went_state gone)) (evicted_cached gone);
       kept = evicted_only gone;
+      coming = evicted_coming gone;
     }
     evict_sound (Err reason) gone left = subst (λ (k : CacheMap). IsSoundCore (record view { caches = k })) (sym left) now

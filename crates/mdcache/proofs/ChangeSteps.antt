@@ -41,7 +41,7 @@ use Rattle.mdcache.specs.declared.going.Going.{Going}
 use Rattle.mdcache.specs.declared.going.GoingLeaf.{GoingLeaf}
 use Rattle.mdcache.specs.declared.prepared.Prepared.{Prepared}
 use Rattle.mdcache.proofs.GoneLaws.{among}
-use Rattle.mdcache.proofs.NoneLaws.{none_only, only_none}
+use Rattle.mdcache.proofs.NoneLaws.{none_coming, none_only, only_none}
 use Rattle.mdcache.proofs.PutLaws.{cached_with, mark, marked_is, put_cached, put_named, put_only}
 
 -- the fragment that is there
@@ -86,9 +86,11 @@ pub record HasMade (Uses Ends : ℕ → Leaf → Type 0) (kept : Option (Rank ×
   pub cached : AreCached (state_of new) new.caches
   pub only : KeepsOnlyAt kept new.caches
 
-pub sound_made : (Uses Ends : ℕ → Leaf → Type 0) (kept : Option (Rank × Leaf)) (old new : Core) → HasMade Uses Ends kept old new → IsSound (state_of new) → 0 < new.next_generation
-    → (KeepsOnlyAt kept new.caches → KeepsOnlyAt new.kept new.caches) → IsSoundCore new
-sound_made Uses Ends kept old new made sound begun wider = record { sound = sound; begun = begun; cached = made.cached; kept = wider made.only }
+-- so all is sound where none is kept
+pub sound_made : (Uses Ends : ℕ → Leaf → Type 0) (old new : Core) → HasMade Uses Ends None old new → IsSound (state_of new) → 0 < new.next_generation → IsSoundCore new
+sound_made Uses Ends old new made sound begun =
+    let none : KeepsNone new.caches = only_none new.caches made.only in
+    record { sound = sound; begun = begun; cached = made.cached; kept = none_only new.kept new.caches none; coming = none_coming new.homes new.caches none }
 
 module _ (Uses Ends : ℕ → Leaf → Type 0) (kept : Option (Rank × Leaf)) (old : Core) where
   pub made_first : IsSoundCore old → KeepsOnlyAt kept old.caches → HasMade Uses Ends kept old old

@@ -40,7 +40,7 @@ use Rattle.mdcache.proofs.ChangeLaws.{changes_are_right, moving}
 use Rattle.mdcache.proofs.ChangeSteps.{HasMade, cached_there, is_gone, is_named, kept_named, left, made_beside, made_dir, made_first, made_gone, made_home, made_named, roomy_there, sound_made, there_left}
 use Rattle.mdcache.proofs.HomeLaws.{first_live, grown_live, moved_known}
 use Rattle.mdcache.proofs.NamedLaws.{sound_leaves}
-use Rattle.mdcache.proofs.NoneLaws.{none_only, only_none}
+use Rattle.mdcache.proofs.NoneLaws.{only_none}
 
 -- all that a change leaves
 pub record IsChanged (at : Holders) (change : Change) (old new : Core) : Type 0 where
@@ -57,7 +57,7 @@ changed at change old new sound number may made has begun =
       made = made;
       right = right;
       came = has.came;
-      sound = sound_made (IsNamedIn at change) (EndsWith change) None old new has right.sound begun (λ only. none_only new.kept new.caches (only_none new.caches only));
+      sound = sound_made (IsNamedIn at change) (EndsWith change) old new has right.sound begun;
     }
 
 -- what a directory was made ready with

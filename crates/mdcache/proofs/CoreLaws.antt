@@ -34,7 +34,7 @@ use Rattle.mdcache.specs.Core.{AreCached, Core, IsCachedIn, IsNoLess, IsSoundCor
 use Rattle.mdcache.specs.Frags.{KeepsState}
 use Rattle.dirfrag_codec.specs.FragmentObject.{Names}
 use Rattle.mdcache.specs.CacheReads.{LacksPlacesIn}
-use Rattle.mdcache.specs.Ranks.{KeepsOnlyAt, MayHold, NoneUsed}
+use Rattle.mdcache.specs.Ranks.{KeepsComing, MayHold, NoneUsed}
 use Rattle.objstore.specs.Omap.{Keys}
 use Rattle.inode_table.specs.Dirs.{Covers, Homes}
 use Rattle.mdcache.specs.Ready.{MayNotBeReady}
@@ -46,7 +46,7 @@ use Rattle.mdcache.specs.State.{IsLive, State, UnsavedLeaves}
 use Rattle.mdcache.proofs.EndLaws.{cached_shows}
 use Rattle.dentry_cache.proofs.FrameLaws.{came_cap, came_ranks}
 use Rattle.dentry_cache.proofs.ReadsLaws.{edits_reads, here_is, reads_came, reads_held, reads_then, reads_unclean, reads_weaker, used_reads}
-use Rattle.mdcache.proofs.NoneLaws.{none_only}
+use Rattle.mdcache.proofs.NoneLaws.{KeepsPlace, none_places}
 use Rattle.mdcache.proofs.UncleanOf.{reads_unclean_of}
 use Rattle.mdcache.proofs.TreeLookups.{at_dentry}
 
@@ -98,21 +98,17 @@ module _ (Uses Ends : ℕ → Leaf → Type 0) (old new : Core) (reads : ReadsCo
       → IsCachedIn (state_of new) leaf a.frag
   reads_cached sound live = reads_cached_so sound (λ r q uses a is. live r q uses)
 
-  pub reads_sound_so : IsSoundCore old → AreLive → KeepsOnlyAt new.kept new.caches → IsSoundCore new
-  reads_sound_so sound live kept = record {
+  pub reads_sound_so : IsSoundCore old → AreLive → KeepsPlace old.homes new.kept new.caches → IsSoundCore new
+  reads_sound_so sound live places = record {
     sound = subst IsSound (sym reads_state) sound.sound;
     begun = subst (λ (s : State). 0 < s.next_generation) (sym reads_state) sound.begun;
     cached = reads_cached_so sound live;
-    kept = kept;
+    kept = places.only;
+    coming = subst (λ (s : State). KeepsComing s.homes new.caches) (sym reads_state) places.coming;
   }
 
-  pub reads_sound : IsSoundCore old → ((r : ℕ) (q : Leaf) → Uses r q → IsLive old.homes old.covers q) → KeepsOnlyAt new.kept new.caches → IsSoundCore new
-  reads_sound sound live kept = record {
-    sound = subst IsSound (sym reads_state) sound.sound;
-    begun = subst (λ (s : State). 0 < s.next_generation) (sym reads_state) sound.begun;
-    cached = reads_cached sound live;
-    kept = kept;
-  }
+  pub reads_sound : IsSoundCore old → ((r : ℕ) (q : Leaf) → Uses r q → IsLive old.homes old.covers q) → KeepsPlace old.homes new.kept new.caches → IsSoundCore new
+  reads_sound sound live = reads_sound_so sound (λ r q uses a is. live r q uses)
 
   pub reads_keeps : (told : Option Refusal) → new.faults ≡ old.faults + faults_told told → KeepsState old new told
   reads_keeps told counted = record {
@@ -205,6 +201,10 @@ reads_core_wider Few Many FewEnd ManyEnd old new more more_end reads =
     record { caches = reads_weaker Few FewEnd Many ManyEnd more more_end old.objects old.caches new.caches reads.caches; room = reads.room; beside = reads.beside }
 
 -- ---- what a sound core tells
+
+-- of the place that is kept
+pub keeps_place : (c : Core) → IsSoundCore c → KeepsPlace c.homes c.kept c.caches
+keeps_place c sound = record { only = sound.kept; coming = sound.coming }
 
 -- a cached fragment shows the names of its leaf
 pub shows_so : (c : Core) → AreCached (state_of c) c.caches → (r : ℕ) (leaf : Leaf) (f : Cached) → here c.caches r leaf ≡ Some f → names_of (unclean c.caches) c.objects leaf ≡ shown f
@@ -300,7 +300,7 @@ module _ (Uses : ℕ → Leaf → Type 0) (old mid new : Core) (given : ReadsCor
 
   module _ (sound : IsSoundCore old) (none : KeepsNone new.caches) (live : (r : ℕ) (q : Leaf) → Uses r q → IsLive old.homes old.covers q) where
     pub given_sound : IsSoundCore new
-    given_sound = reads_sound Uses (IsKeptFor old.caches) old new given_reads sound live (none_only new.kept new.caches none)
+    given_sound = reads_sound Uses (IsKeptFor old.caches) old new given_reads sound live (none_places new.kept new.caches none)
 
     given_state : state_of new ≡ state_of old
     given_state = reads_state Uses (IsKeptFor old.caches) old new given_reads

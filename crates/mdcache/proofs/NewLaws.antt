@@ -33,7 +33,7 @@ use Rattle.mdcache.specs.declared.prepared.Prepared.{Prepared}
 use Rattle.mdcache.specs.Shown.{directories, entries_in, entries_of, entries_under, names_of, shown_at, shown_tree, tree_of}
 use Rattle.mdcache.specs.Sound.{IsSound, IsUnsaved}
 use Rattle.mdcache.specs.State.{IsLive, State, UnsavedLeaves, text_of}
-use Rattle.mdcache.proofs.NoneLaws.{none_only}
+use Rattle.mdcache.proofs.NoneLaws.{none_coming, none_only}
 use Rattle.mdcache.proofs.PutLaws.{cached_with}
 use Rattle.mdcache.proofs.EndLaws.{nothing_patched}
 
@@ -190,5 +190,9 @@ module _ (ranks places : ℕ) (homes : Homes) (covers : Covers) (caches : CacheM
     sound = subst IsSound (sym new_is) new_sound;
     begun = omega arith;
     cached = subst (λ (s : State). AreCached s caches) (sym new_is) (subst (AreCached new_state) (sym its) (new_cached ranks places));
-    kept = none_only None caches (subst KeepsNone (sym its) (new_none ranks places));
+    kept = none_only None caches now_none;
+    coming = none_coming homes caches now_none;
   }
+    where
+      now_none : KeepsNone caches
+      now_none = subst KeepsNone (sym its) (new_none ranks places)

@@ -11,15 +11,16 @@ use Rattle.objstore.specs.Omap.{Omap}
 use Rattle.cached_frag.specs.Cached.{Cached}
 use Rattle.dentry_cache.specs.Cache.{IsThere, Leaf, leaf_is}
 use Rattle.dentry_cache.specs.CacheCalls.{Edits, FetchesAt, IsEdited, KeepsAt, KeepsNone, MakesRoomAt}
-use Rattle.dentry_cache.specs.CacheMap.{AreCaches, CacheMap, IsFree, IsFreeFor, at_rank, given_up, has_place, here, order, roomy, used_at, with_frag}
+use Rattle.dentry_cache.specs.CacheMap.{AreCaches, CacheMap, IsFree, IsFreeFor, at, at_rank, given_up, has_place, here, order, roomy, used_at, with_frag}
 use Rattle.dentry_cache.specs.CacheSplits.{IsKeptFor}
 use Rattle.dentry_cache.proofs.CameLaws.{absent_roomy}
 use Rattle.dentry_cache.proofs.KeptLaws.{roomy_stays}
 use Rattle.dentry_cache.proofs.LeafLaws.{leaf_itself}
 use Rattle.dentry_cache.proofs.MapLaws.{here_free}
-use Rattle.dentry_cache.proofs.StepLaws.{has_given_up, has_used, here_given_up, placed_used, ranks_roomy}
+use Rattle.dentry_cache.proofs.StepLaws.{get_with_frag, has_given_up, has_used, here_given_up, placed_used, ranks_roomy}
 use Rattle.dentry_cache.proofs.WholeLaws.{whole_roomy, whole_used, whole_with_frag}
-use Rattle.mdcache.specs.Ranks.{KeepsOnlyAt}
+use Rattle.inode_table.specs.Dirs.{Homes, is_known}
+use Rattle.mdcache.specs.Ranks.{KeepsComing, KeepsNoMore, KeepsOnlyAt}
 
 -- what is there is some
 pub there_some : (o : Option Cached) → IsThere o → is_some o ≡ true
@@ -88,6 +89,37 @@ kept_stays c new r leaf one there k = ap (λ (d : CacheMap). finmap.get d.held o
 pub none_only : (kept : Option (Rank × Leaf)) (c : CacheMap) → KeepsNone c → KeepsOnlyAt kept c
 none_only kept c none r leaf placed = inl (none r leaf placed)
 
+pub none_coming : (homes : Homes) (c : CacheMap) → KeepsNone c → KeepsComing homes c
+none_coming homes c none r leaf kept = absurd (subst IsThere (ap (at_rank r) kept.1) (none r leaf kept.0))
+
+-- the place that is kept is the one that is remembered, for a leaf of a directory that isn't there
+pub record KeepsPlace (homes : Homes) (kept : Option (Rank × Leaf)) (c : CacheMap) : Type 0 where
+  pub only : KeepsOnlyAt kept c
+  pub coming : KeepsComing homes c
+
+pub none_places : {homes : Homes} → (kept : Option (Rank × Leaf)) (c : CacheMap) → KeepsNone c → KeepsPlace homes kept c
+none_places {homes} kept c none = record { only = none_only kept c none; coming = none_coming homes c none }
+
+-- no more places are kept where a leaf that is there is used,
+pub used_more : (c : CacheMap) (r : ℕ) (leaf : Leaf) → IsThere (here c r leaf) → KeepsNoMore c (used_at c r leaf)
+used_more c r leaf there s q kept = go (placed_used c r leaf s q kept.0)
+  where
+    go : (has_place c s q ≡ true) ⊎ ((s ≡ r) × (q ≡ leaf)) → IsKeptFor c s q
+    go (inl was) = (was, kept.1)
+    go (inr one) = absurd (subst IsThere (ap (at_rank r) (ap (finmap.get c.held) (sym one.1) ∙ kept.1)) there)
+
+-- or its fragment comes
+pub with_more : (c : CacheMap) (r : ℕ) (leaf : Leaf) (f : Cached) → KeepsNoMore c (with_frag c r leaf f)
+with_more c r leaf f s q kept = on (leaf_is q leaf) refl (sym (get_with_frag c r leaf f q) ∙ kept.1)
+  where
+    on : (b : Bool) → leaf_is q leaf ≡ b → cond b (Some (at r f)) (finmap.get c.held q) ≡ None → IsKeptFor c s q
+    on true one is = let clash : Some (at r f) ≡ None = is in absurd cc
+    on false apart is = go (placed_used c r leaf s q kept.0)
+      where
+        go : (has_place c s q ≡ true) ⊎ ((s ≡ r) × (q ≡ leaf)) → IsKeptFor c s q
+        go (inl was) = (was, is)
+        go (inr one) = let clash : false ≡ true = sym apart ∙ ap (λ (l : Leaf). leaf_is l leaf) one.1 ∙ leaf_itself leaf in absurd cc
+
 pub only_none : (c : CacheMap) → KeepsOnlyAt None c → KeepsNone c
 only_none c only r leaf placed = go (only r leaf placed)
   where
@@ -95,13 +127,22 @@ only_none c only r leaf placed = go (only r leaf placed)
     go (inl there) = there
     go (inr kept) = let clash = kept.1 in absurd cc
 
--- the one that may be is given up
+-- one may be
 module _ (c : CacheMap) (rank : Rank) (leaf : Leaf) (only : KeepsOnlyAt (Some (rank, leaf)) c) where
   its_own : (s : ℕ) (q : Leaf) → ◌≡◌ {A = Option (Rank × Leaf)} (Some (rank, leaf)) (Some (record { 0 = s }, q)) → (rank.0 ≡ s) × (leaf ≡ q)
   its_own s q is =
       let both : ◌≡◌ {A = Rank × Leaf} (rank, leaf) (record { 0 = s }, q) = same_Some (rank, leaf) (record { 0 = s }, q) is in
       (ap (λ (p : Rank × Leaf). p.0.0) both, ap (λ (p : Rank × Leaf). p.1) both)
 
+  -- for a leaf of a directory that isn't there
+  pub one_place : (homes : Homes) → is_known homes leaf.0.0 ≡ false → KeepsPlace homes (Some (rank, leaf)) c
+  one_place homes unknown = record { only = only; coming = λ s q kept. go s q kept.1 (only s q kept.0) }
+    where
+      go : (s : ℕ) (q : Leaf) → finmap.get c.held q ≡ None → IsThere (here c s q) ⊎ ((finmap.get c.held q ≡ None) × (◌≡◌ {A = Option (Rank × Leaf)} (Some (rank, leaf)) (Some (record { 0 = s }, q)))) → is_known homes q.0.0 ≡ false
+      go s q absent (inl here_is) = absurd (subst IsThere (ap (at_rank s) absent) here_is)
+      go s q absent (inr kept) = subst (λ (l : Leaf). is_known homes l.0.0 ≡ false) (its_own s q kept.1).1 unknown
+
+  -- which is given up
   pub none_freed : (new : CacheMap) → rank.0 < length c.used → IsDistinct leaf_is (order c rank.0) → new ≡ given_up c rank.0 leaf → KeepsNone new
   none_freed new there distinct is = subst KeepsNone (sym is) (λ s q placed.
       subst IsThere (sym (here_given_up c rank.0 leaf s q))

@@ -35,7 +35,7 @@ use Rattle.mdcache.specs.State.{IsLive, text_of}
 use Rattle.mdcache.proofs.CoreLaws.{first_step, given_may, next_step, no_less_itself, not_found_before, reads_core_on, reads_core_wider, reads_sound, reads_state, still_absent, there_after}
 use Rattle.mdcache.proofs.JoinSteps.{hold_on, live_on}
 use Rattle.mdcache.proofs.MergeSteps.{ending_live}
-use Rattle.mdcache.proofs.NoneLaws.{none_absent, none_only}
+use Rattle.mdcache.proofs.NoneLaws.{none_absent, none_places}
 use Rattle.mdcache.proofs.UncleanOf.{kept_none, unclean_few}
 
 -- where no place is kept, none more is
@@ -59,7 +59,7 @@ module _ (old new : Core) (left : new ≡ record old { room = new.room }) (less 
   room_reads Uses Ends = subst (ReadsCore Uses Ends old) (sym left) (first_step Uses Ends old old (record old { room = new.room }) less refl refl it_stays)
 
   pub room_sound : IsSoundCore old → IsSoundCore new
-  room_sound sound = subst IsSoundCore (sym left) (record { sound = sound.sound; begun = sound.begun; cached = sound.cached; kept = sound.kept })
+  room_sound sound = subst IsSoundCore (sym left) (record { sound = sound.sound; begun = sound.begun; cached = sound.cached; kept = sound.kept; coming = sound.coming })
 
   pub room_undone : IsUndone old new
   room_undone = (ap state_of left, λ r leaf kept. subst (λ (c : Core). IsKeptFor c.caches r leaf) left kept)
@@ -74,7 +74,7 @@ module _ (old new : Core) (left : new ≡ record old { room = new.room }) (less 
         (reads_core_wider NoneUsed Uses (IsKeptFor new.caches) Ends new mid (λ r q no_use. absurd no_use) (λ r q kept. wider r q (subst (λ (c : CacheMap). IsKeptFor c r q) room_caches kept)) given)
 
     pub given_whole : IsSoundCore old → KeepsNone mid.caches → IsSoundCore mid
-    given_whole sound none = reads_sound NoneUsed (IsKeptFor old.caches) old mid (given_all NoneUsed (IsKeptFor old.caches) (λ r q is. is)) sound (λ r q no_use. absurd no_use) (none_only mid.kept mid.caches none)
+    given_whole sound none = reads_sound NoneUsed (IsKeptFor old.caches) old mid (given_all NoneUsed (IsKeptFor old.caches) (λ r q is. is)) sound (λ r q no_use. absurd no_use) (none_places mid.kept mid.caches none)
 
     pub given_fetch : (a : Dirfrag) → IsSoundCore old → MayHold old.caches a.rank (leaf_of a) → IsLive old.homes old.covers (leaf_of a) → MayFetch mid a
     given_fetch a sound holds live = given_may old mid (given_all NoneUsed (IsKeptFor old.caches) (λ r q is. is)) a sound holds live

@@ -23,7 +23,7 @@ use Rattle.mdcache.specs.Changes.{with_objects, without_leaves}
 use Rattle.mdcache.specs.Going.{rows_but}
 use Rattle.dentry_cache.specs.Reads.{Reads}
 use Rattle.mdcache.specs.CacheReads.{LacksPlacesIn}
-use Rattle.mdcache.specs.Ranks.{KeepsOnlyAt}
+use Rattle.mdcache.specs.Ranks.{KeepsComing, KeepsOnlyAt}
 use Rattle.mdcache.specs.Shown.{shown_tree}
 use Rattle.mdcache.specs.Sound.{IsSaved, IsSound}
 use Rattle.mdcache.specs.State.{IsLive, State}
@@ -88,12 +88,14 @@ pub record IsCachedIn (s : State) (leaf : Leaf) (f : Cached) : Type 0 where
 abbrev pub AreCached : State → CacheMap → Type 0
 AreCached s caches = (leaf : Leaf) (a : At) → map.get caches.held leaf ≡ Some a → IsCachedIn s leaf a.frag
 
--- the state is sound, and so is each cached fragment; a place that is kept is the one that is remembered
+-- the state is sound, and so is each cached fragment; a place that is kept is the one that is remembered, for a leaf of a directory that isn't
+-- there yet
 pub record IsSoundCore (c : Core) : Type 0 where
   pub sound : IsSound (state_of c)
   pub begun : 0 < c.next_generation
   pub cached : AreCached (state_of c) c.caches
   pub kept : KeepsOnlyAt c.kept c.caches
+  pub coming : KeepsComing c.homes c.caches
 
 -- no less room than before
 pub record IsNoLess (old new : Rooms) : Type 0 where

@@ -1,11 +1,12 @@
 -- The ranks that hold the leaves of a call, and the places that are kept.
-use Rattle.std.specs.Prelude.{◌≡◌, ◌<◌, ◌⊎◌, ℕ, true, length, Option, Some, None}
+use Rattle.std.specs.Prelude.{◌≡◌, ◌<◌, ◌⊎◌, ℕ, true, false, length, Option, Some, None}
 use Rattle.std.specs.FinMap as map
 use Rattle.mds_types.specs.declared.ids.Rank.{Rank}
 use Rattle.dentry_cache.specs.Cache.{IsThere, Leaf}
 use Rattle.dentry_cache.specs.CacheMap.{CacheMap, IsFreeFor, has_place, here}
 use Rattle.dentry_cache.specs.CacheSplits.{IsKeptFor}
 use Rattle.dentry_cache.specs.Came.{IsThat}
+use Rattle.inode_table.specs.Dirs.{Homes, is_known}
 use Rattle.namespace_ops.specs.ChangedFragments.{gone_with}
 use Rattle.namespace_ops.specs.declared.plans.Change.{Change}
 use Rattle.namespace_ops.specs.declared.plans.Change.TheVariants.{Add, Set, Remove, Move}
@@ -20,6 +21,10 @@ pub record MayHold (caches : CacheMap) (rank : Rank) (leaf : Leaf) : Type 0 wher
 -- if a place is kept for a fragment that will be made, it is that of this leaf at this rank
 abbrev pub KeepsOnlyAt : Option (Rank × Leaf) → CacheMap → Type 0
 KeepsOnlyAt kept c = (r : ℕ) (leaf : Leaf) → has_place c r leaf ≡ true → IsThere (here c r leaf) ⊎ ((map.get c.held leaf ≡ None) × (kept ≡ Some (record { 0 = r }, leaf)))
+
+-- the leaf of a place that is kept is one of a directory that isn't there
+abbrev pub KeepsComing : Homes → CacheMap → Type 0
+KeepsComing homes c = (r : ℕ) (leaf : Leaf) → IsKeptFor c r leaf → is_known homes leaf.0.0 ≡ false
 
 -- a place that is kept was so before
 abbrev pub KeepsNoMore : (old new : CacheMap) → Type 0

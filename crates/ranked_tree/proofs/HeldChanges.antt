@@ -32,6 +32,7 @@ use Rattle.mdcache.specs.declared.holders.Holders.{Holders}
 use Rattle.mdcache.specs.Shown.{shown_tree}
 use Rattle.mdcache.specs.Sound.{IsSound}
 use Rattle.mdcache.specs.State.{State as TreeState}
+use Rattle.mdcache.proofs.CoreLaws.{keeps_place}
 use Rattle.mdcache.proofs.HomeLaws.{moved_known}
 use Rattle.ranked_tree.proofs.MoveLaws.{replaces}
 use Rattle.ranked_tree.specs.Held.{AreHeld, AreHolders, IsOwned}
@@ -189,7 +190,7 @@ module _ (old new : Core) (before after : Roots) (owned : IsOwned old before) (n
   pub change_held : (at : Holders) (change : Change) → AreHolders (state_of old) before at change → MayChange (shown_in old) old.covers change → Makes change (state_of old) (state_of new) → FollowChange change (state_of old) before after → NoNewRank before after
       → Came (IsNamedIn at change) (EndsWith change) old.caches new.caches → AreHeld (state_of new) new.caches after
   change_held at change holders may makes follow none came =
-      held_after (state_of old) (state_of new) old.caches new.caches before after owned.held none (came_ranks (IsNamedIn at change) (EndsWith change) old.caches new.caches came)
+      held_after (state_of old) (state_of new) old.caches new.caches before after owned.held none (came_ranks (IsNamedIn at change) (EndsWith change) old.caches new.caches came) (keeps_place new now_sound)
       (λ leaf a is. go leaf a (now_sound.cached leaf a is).live (came_held (IsNamedIn at change) (EndsWith change) old.caches new.caches came leaf a is))
     where
       go : (leaf : Leaf) (a : At) → IsLive new.homes new.covers leaf → (map.get old.caches.held leaf ≡ Some a) ⊎ IsNamedIn at change a.rank leaf → Rules (state_of new) after leaf (record { 0 = a.rank })

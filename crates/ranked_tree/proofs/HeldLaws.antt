@@ -1,19 +1,22 @@
 -- Each cached fragment stays at its leaf's authority.
-use Rattle.std.specs.Prelude.{◌≡◌, ◌<◌, ℕ, length, Option, Some, None}
-use Rattle.std.proofs.Common.{◌⊎◌, inl, inr, refl, sym, ap, subst}
+use Rattle.std.specs.Prelude.{◌≡◌, ◌<◌, ℕ, true, false, length, Option, Some, None}
+use Rattle.std.proofs.Common.{◌⊎◌, inl, inr, refl, sym, ap, subst, ◌∙◌}
 use Rattle.std.specs.FinMap as map
 use Rattle.mds_types.specs.declared.ids.Rank.{Rank}
-use Rattle.dentry_cache.specs.CacheMap.{At, CacheMap, IsFree}
+use Rattle.cached_frag.specs.Cached.{Cached}
+use Rattle.dentry_cache.specs.Cache.{IsThere}
+use Rattle.dentry_cache.specs.CacheMap.{At, CacheMap, IsFree, has_place, here}
 use Rattle.dentry_cache.specs.Came.{Came, IsThat, NoneEnds}
 use Rattle.dentry_cache.proofs.FrameLaws.{came_held, came_ranks, came_weaker}
-use Rattle.dentry_cache.proofs.ReadsLaws.{reads_came}
+use Rattle.dentry_cache.proofs.ReadsLaws.{here_is, reads_came}
 use Rattle.inode_table.specs.Dirs.{IsLive}
 use Rattle.subtree_map.specs.Authority.{Leaf, Roots}
 use Rattle.subtree_map.proofs.Nearest.{one_authority}
 use Rattle.mdcache.specs.Core.{Core, IsSoundCore, ReadsCore, state_of}
 use Rattle.mdcache.specs.Ranks.{MayHold}
 use Rattle.mdcache.specs.State.{State as TreeState}
-use Rattle.mdcache.proofs.CoreLaws.{reads_state}
+use Rattle.mdcache.proofs.CoreLaws.{keeps_place, reads_state}
+use Rattle.mdcache.proofs.NoneLaws.{KeepsPlace}
 use Rattle.ranked_tree.specs.Held.{AreHeld, IsOwned, UsedAt, UsesAt}
 use Rattle.ranked_tree.specs.Subtrees.{NoNewRank, Rules}
 
@@ -30,11 +33,25 @@ module _ (tree : TreeState) (caches : CacheMap) (roots : Roots) (held : AreHeld 
       alone_at None is = tt
       alone_at (Some a) is = ap (λ (r : Rank). r.0) (one_authority roots tree.homes tree.covers leaf (record { 0 = a.rank }) rank (held.cached leaf a is) rules)
 
+-- the directory of a place that is kept isn't there, so each place of a live leaf is that of its fragment
+pub placed_at : (tree : TreeState) (caches : CacheMap) (roots : Roots) (kept : Option (Rank × Leaf)) → KeepsPlace tree.homes kept caches → ((leaf : Leaf) (a : At) → map.get caches.held leaf ≡ Some a → Rules tree roots leaf (record { 0 = a.rank }))
+    → (r : ℕ) (leaf : Leaf) → has_place caches r leaf ≡ true → IsLive tree.homes tree.covers leaf → Rules tree roots leaf (record { 0 = r })
+placed_at tree caches roots kept places cached r leaf placed live = go (places.only r leaf placed)
+  where
+    of_frag : (o : Option Cached) → here caches r leaf ≡ o → IsThere o → Rules tree roots leaf (record { 0 = r })
+    of_frag None is h = absurd h
+    of_frag (Some f) is h = cached leaf (record { rank = r; frag = f }) (here_is r (map.get caches.held leaf) f is)
+
+    go : IsThere (here caches r leaf) ⊎ ((map.get caches.held leaf ≡ None) × (kept ≡ Some (record { 0 = r }, leaf))) → Rules tree roots leaf (record { 0 = r })
+    go (inl there) = of_frag (here caches r leaf) refl there
+    go (inr none) = let clash : true ≡ false = sym live.known ∙ places.coming r leaf (placed, none.0) in absurd cc
+
 -- the ranks of roots have caches still
-pub held_after : (old new : TreeState) (caches later : CacheMap) (before after : Roots) → AreHeld old caches before → NoNewRank before after → length later.used ≡ length caches.used
+pub held_after : (old new : TreeState) (caches later : CacheMap) (before after : Roots) → AreHeld old caches before → NoNewRank before after → length later.used ≡ length caches.used → {kept : Option (Rank × Leaf)} → KeepsPlace new.homes kept later
     → ((leaf : Leaf) (a : At) → map.get later.held leaf ≡ Some a → Rules new after leaf (record { 0 = a.rank })) → AreHeld new later after
-held_after old new caches later before after held ranks count cached = record {
+held_after old new caches later before after held ranks count {kept} places cached = record {
   cached = cached;
+  placed = placed_at new later after kept places cached;
   ranks = λ leaf rank is. let was = ranks leaf rank is in subst (λ (n : ℕ). rank.0 < n) (sym count) (held.ranks was.0 rank was.1);
 }
 
@@ -58,7 +75,7 @@ module _ (Uses Ends : ℕ → Leaf → Type 0) (old new : Core) (roots : Roots) 
   owned_came = record {
     sound = sound;
     valid = rw (homes, covers) owned.valid;
-    held = held_after (state_of old) (state_of new) old.caches new.caches roots roots owned.held (λ leaf rank is. (leaf, is)) (came_ranks Uses Ends old.caches new.caches came)
+    held = held_after (state_of old) (state_of new) old.caches new.caches roots roots owned.held (λ leaf rank is. (leaf, is)) (came_ranks Uses Ends old.caches new.caches came) (keeps_place new sound)
         (λ leaf a is. rw (homes, covers) (at leaf a is (came_held Uses Ends old.caches new.caches came leaf a is)));
   }
 
@@ -79,6 +96,6 @@ pub owned_same : (old new : Core) (roots : Roots) → new.homes ≡ old.homes �
 owned_same old new roots homes covers caches sound owned = record {
   sound = sound;
   valid = rw (homes, covers) owned.valid;
-  held = held_after (state_of old) (state_of new) old.caches new.caches roots roots owned.held (λ leaf rank is. (leaf, is)) (ap (λ (k : CacheMap). length k.used) caches)
+  held = held_after (state_of old) (state_of new) old.caches new.caches roots roots owned.held (λ leaf rank is. (leaf, is)) (ap (λ (k : CacheMap). length k.used) caches) (keeps_place new sound)
       (λ leaf a is. rw (homes, covers) (owned.held.cached leaf a (rw (← caches) is)));
 }

@@ -17,7 +17,9 @@ use Rattle.subtree_map.proofs.Options.{one_value}
 use Rattle.mdcache.specs.Core.{Core, state_of}
 use Rattle.mdcache.specs.New.{cached_root, new_caches, new_state, root_leaf}
 use Rattle.mdcache.specs.State.{State}
-use Rattle.mdcache.proofs.NewLaws.{live_root, no_covers, no_homes, root_live}
+use Rattle.mdcache.proofs.NewLaws.{live_root, new_none, no_covers, no_homes, root_live}
+use Rattle.mdcache.proofs.NoneLaws.{none_places}
+use Rattle.ranked_tree.proofs.HeldLaws.{placed_at}
 use Rattle.ranked_tree.specs.Held.{AreHeld}
 use Rattle.ranked_tree.specs.Ranked.{new_roots}
 use Rattle.ranked_tree.specs.Subtrees.{AreRoots, Rules}
@@ -63,8 +65,12 @@ new_are_held core roots ranks places some state caches is =
     only : (leaf : Leaf) (rank : Rank) → map.get new_roots leaf ≡ Some rank → rank ≡ first_rank
     only leaf rank has = one_value (map.get new_roots root_leaf) rank first_rank (ap (map.get new_roots) (sym (one_root leaf (ap is_some has))) ∙ has) root_is
 
+    its : (leaf : Leaf) (a : At) → map.get (new_caches ranks places).held leaf ≡ Some a → Rules new_state new_roots leaf (record { 0 = a.rank })
+    its leaf a has = let w = only_cached ranks places leaf a has in subst (λ (n : ℕ). Rules new_state new_roots leaf (record { 0 = n })) (sym w.1) (subst (λ (l : Leaf). Rules new_state new_roots l first_rank) (sym w.0) root_rules)
+
     here : AreHeld new_state (new_caches ranks places) new_roots
     here = record {
-      cached = λ leaf a has. let w = only_cached ranks places leaf a has in subst (λ (n : ℕ). Rules new_state new_roots leaf (record { 0 = n })) (sym w.1) (subst (λ (l : Leaf). Rules new_state new_roots l first_rank) (sym w.0) root_rules);
+      cached = its;
+      placed = placed_at new_state (new_caches ranks places) new_roots None (none_places None (new_caches ranks places) (new_none ranks places)) its;
       ranks = λ leaf rank has. subst (λ (r : Rank). r.0 < length (new_caches ranks places).used) (sym (only leaf rank has)) (subst (λ (n : ℕ). 0 < n) (sym many) some);
     }

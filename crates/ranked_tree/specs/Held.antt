@@ -1,4 +1,5 @@
--- What the ranks' caches have: a rank caches only fragments that it is the authority of (Weil et al., OSDI 2006).
+-- What the ranks' caches have: a rank caches only fragments that it is the authority of, and has places of no other live leaf (Weil et al.,
+-- OSDI 2006).
 use Rattle.std.specs.Prelude.{◌≡◌, ◌⊎◌, ◌<◌, ◌^◌, ℕ, true, false, length, map as each, Some}
 use Rattle.std.specs.List.{Contains}
 use Rattle.std.specs.FinMap as map
@@ -11,7 +12,7 @@ use Rattle.inode_table.specs.Dirs.{Covers, IsLive, is_known, leaves_of}
 use Rattle.namespace_ops.specs.Changes.{in_directory}
 use Rattle.namespace_ops.specs.declared.plans.Change.{Change}
 use Rattle.namespace_ops.specs.declared.plans.Change.TheVariants.{Add, Set, Remove, Move}
-use Rattle.dentry_cache.specs.CacheMap.{At, CacheMap}
+use Rattle.dentry_cache.specs.CacheMap.{At, CacheMap, has_place}
 use Rattle.dentry_cache.specs.CacheSplits.{IsKeptFor}
 use Rattle.dentry_cache.specs.Came.{Came, NoneEnds}
 use Rattle.dentry_cache.specs.Reads.{Reads}
@@ -24,12 +25,14 @@ use Rattle.mdcache.specs.Shown.{shown_tree}
 use Rattle.mdcache.specs.State.{State as TreeState}
 use Rattle.ranked_tree.specs.Subtrees.{AreRoots, Rules}
 
--- each cached fragment is at its leaf's authority; each root's rank is one of those that have a cache
+-- each cached fragment is at its leaf's authority, and so is each place of a live leaf, kept or not; each root's rank is one of those that
+-- have a cache
 pub record AreHeld (tree : TreeState) (caches : CacheMap) (roots : Roots) : Type 0 where
   pub cached : (leaf : Leaf) (a : At) → map.get caches.held leaf ≡ Some a → Rules tree roots leaf (record { 0 = a.rank })
+  pub placed : (r : ℕ) (leaf : Leaf) → has_place caches r leaf ≡ true → IsLive tree.homes tree.covers leaf → Rules tree roots leaf (record { 0 = r })
   pub ranks : (leaf : Leaf) (rank : Rank) → map.get roots leaf ≡ Some rank → rank.0 < length caches.used
 
--- the tree is sound, the roots are its own, and each rank caches fragments of leaves that it holds
+-- the tree is sound, the roots are its own, and each rank caches fragments of leaves that it holds, and has places of no other live leaf
 pub record IsOwned (core : Core) (roots : Roots) : Type 0 where
   pub sound : IsSoundCore core
   pub valid : AreRoots (state_of core) roots

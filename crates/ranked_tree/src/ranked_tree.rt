@@ -10,7 +10,8 @@ use subtree_map::Subtrees;
 /// A tree over caches and a store, and its subtree roots with their ranks.
 ///
 /// Of each it holds that the leaves of the root directory are subtree roots, and that only leaves are: so each leaf has one
-/// authority; that a rank caches only leaves that it is the authority of; and that the tree is sound.
+/// authority; that a rank caches only leaves that it is the authority of, and has places of no other live leaf; and that the
+/// tree is sound.
 #[derive(Drop)]
 pub struct RankedTree<S: Store + Drop> {
     pub(crate) tree: MdCache<S>,

@@ -18,7 +18,8 @@ use objstore::Store;
 
 impl<S: Store + Drop> RankedTree<S> {
     /// The store. A caller also learns from it that the tree is sound, that the roots are its own, that a rank caches only leaves
-    /// that it is the authority of, and that each rank caches at most as many as it has places.
+    /// that it is the authority of and has places of no other live leaf, and that each rank caches at most as many as it has
+    /// places.
     pub fn store(&self) -> &S
         ensures objects { S.objects result.now ≡ self.now.tree.objects }
         ensures faults { S.faults result.now ≡ self.now.tree.faults }

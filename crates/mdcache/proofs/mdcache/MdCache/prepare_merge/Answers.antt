@@ -12,7 +12,7 @@ use Rattle.mdcache.specs.Regrouping.{ending_at}
 use Rattle.mdcache.proofs.CoreLaws.{reads_sound_so}
 use Rattle.mdcache.proofs.JoinLaws.{itself_apart}
 use Rattle.mdcache.proofs.MergeSteps.{ending_live, merged_nowhere}
-use Rattle.mdcache.proofs.NoneLaws.{none_only}
+use Rattle.mdcache.proofs.NoneLaws.{none_places}
 use Rattle.mdcache.proofs.RegroupReady.{ending_or_it, given_absent, given_holds, given_there, given_whole, last_reads, last_refused, reads_undone, room_reads, room_sound}
 use Rattle.mdcache.proofs.mdcache.MdCache.prepare_merge.Goals as goal
 
@@ -44,7 +44,7 @@ pub returns-in-Err-join_names-clause-reads : goal.returns-in-Err-join_names-clau
 returns-in-Err-join_names-clause-reads g c = last_reads c.args.self.now c.plan_merge.new.self c.plan_merge.ensures.left c.plan_merge.ensures.room c.give_up.new.self c.give_up.ensures.reads (IsAmongOr c.args.at.now.rank.0 (ending_at c.args.self.now c.args.at.now) (leaf_of c.args.at.now)) NoneEnds (IsKeptFor c.args.self.now.caches) c.join_names.new.self (subst (λ (ls : List Leaf). ReadsCore (IsAmongOr c.args.at.now.rank.0 ls (leaf_of c.args.at.now)) NoneEnds c.give_up.new.self c.join_names.new.self) (ap (leaves_in c.args.at.now.dir) c.deref.ensures.value ∙ c.in-Ok.ensures.planned.leaves ∙ ap (λ (k : Core). ending_at k c.args.at.now) c.plan_merge.ensures.left) c.join_names.ensures.reads) (λ r q is. is) (λ r q no_end. absurd no_end)
 
 pub returns-in-Err-join_names-clause-sound : goal.returns-in-Err-join_names-clause-sound
-returns-in-Err-join_names-clause-sound g c = reads_sound_so (IsAmongOr c.args.at.now.rank.0 (ending_at c.args.self.now c.args.at.now) (leaf_of c.args.at.now)) (IsKeptFor c.args.self.now.caches) c.args.self.now c.join_names.new.self (last_reads c.args.self.now c.plan_merge.new.self c.plan_merge.ensures.left c.plan_merge.ensures.room c.give_up.new.self c.give_up.ensures.reads (IsAmongOr c.args.at.now.rank.0 (ending_at c.args.self.now c.args.at.now) (leaf_of c.args.at.now)) NoneEnds (IsKeptFor c.args.self.now.caches) c.join_names.new.self (subst (λ (ls : List Leaf). ReadsCore (IsAmongOr c.args.at.now.rank.0 ls (leaf_of c.args.at.now)) NoneEnds c.give_up.new.self c.join_names.new.self) (ap (leaves_in c.args.at.now.dir) c.deref.ensures.value ∙ c.in-Ok.ensures.planned.leaves ∙ ap (λ (k : Core). ending_at k c.args.at.now) c.plan_merge.ensures.left) c.join_names.ensures.reads) (λ r q is. is) (λ r q no_end. absurd no_end)) c.requires.sound (ending_or_it c.args.self.now c.requires.sound c.args.at.now c.requires.known c.requires.can c.join_names.new.self.caches c.join_names.ensures.absent) (none_only c.join_names.new.self.kept c.join_names.new.self.caches c.in-Err-join_names.ensures.none)
+returns-in-Err-join_names-clause-sound g c = reads_sound_so (IsAmongOr c.args.at.now.rank.0 (ending_at c.args.self.now c.args.at.now) (leaf_of c.args.at.now)) (IsKeptFor c.args.self.now.caches) c.args.self.now c.join_names.new.self (last_reads c.args.self.now c.plan_merge.new.self c.plan_merge.ensures.left c.plan_merge.ensures.room c.give_up.new.self c.give_up.ensures.reads (IsAmongOr c.args.at.now.rank.0 (ending_at c.args.self.now c.args.at.now) (leaf_of c.args.at.now)) NoneEnds (IsKeptFor c.args.self.now.caches) c.join_names.new.self (subst (λ (ls : List Leaf). ReadsCore (IsAmongOr c.args.at.now.rank.0 ls (leaf_of c.args.at.now)) NoneEnds c.give_up.new.self c.join_names.new.self) (ap (leaves_in c.args.at.now.dir) c.deref.ensures.value ∙ c.in-Ok.ensures.planned.leaves ∙ ap (λ (k : Core). ending_at k c.args.at.now) c.plan_merge.ensures.left) c.join_names.ensures.reads) (λ r q is. is) (λ r q no_end. absurd no_end)) c.requires.sound (ending_or_it c.args.self.now c.requires.sound c.args.at.now c.requires.known c.requires.can c.join_names.new.self.caches c.join_names.ensures.absent) (none_places c.join_names.new.self.kept c.join_names.new.self.caches c.in-Err-join_names.ensures.none)
 
 pub returns-in-Err-join_names-clause-undone : goal.returns-in-Err-join_names-clause-undone
 returns-in-Err-join_names-clause-undone g c = reads_undone (IsAmongOr c.args.at.now.rank.0 (ending_at c.args.self.now c.args.at.now) (leaf_of c.args.at.now)) (IsKeptFor c.args.self.now.caches) c.args.self.now c.join_names.new.self (last_reads c.args.self.now c.plan_merge.new.self c.plan_merge.ensures.left c.plan_merge.ensures.room c.give_up.new.self c.give_up.ensures.reads (IsAmongOr c.args.at.now.rank.0 (ending_at c.args.self.now c.args.at.now) (leaf_of c.args.at.now)) NoneEnds (IsKeptFor c.args.self.now.caches) c.join_names.new.self (subst (λ (ls : List Leaf). ReadsCore (IsAmongOr c.args.at.now.rank.0 ls (leaf_of c.args.at.now)) NoneEnds c.give_up.new.self c.join_names.new.self) (ap (leaves_in c.args.at.now.dir) c.deref.ensures.value ∙ c.in-Ok.ensures.planned.leaves ∙ ap (λ (k : Core). ending_at k c.args.at.now) c.plan_merge.ensures.left) c.join_names.ensures.reads) (λ r q is. is) (λ r q no_end. absurd no_end)) c.in-Err-join_names.ensures.none

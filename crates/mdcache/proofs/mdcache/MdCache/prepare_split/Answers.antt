@@ -3,7 +3,7 @@ use Rattle.mds_types.specs.Frag.{child_of}
 use Rattle.dentry_cache.specs.Cache.{Leaf}
 use Rattle.dentry_cache.specs.CacheSplits.{IsFamilyAt, IsKeptFor}
 use Rattle.mdcache.proofs.CoreLaws.{reads_sound_so}
-use Rattle.mdcache.proofs.NoneLaws.{none_only}
+use Rattle.mdcache.proofs.NoneLaws.{none_places}
 use Rattle.mdcache.proofs.RegroupReady.{family_live, given_absent, given_fetch, last_reads, last_refused, reads_undone, room_reads, room_sound}
 use Rattle.mdcache.proofs.SplitSteps.{no_child_cached}
 use Rattle.mdcache.proofs.mdcache.MdCache.prepare_split.Goals as goal
@@ -27,7 +27,7 @@ pub returns-in-Err-ready_children-clause-reads : goal.returns-in-Err-ready_child
 returns-in-Err-ready_children-clause-reads g c = last_reads c.args.self.now c.plan_split.new.self c.plan_split.ensures.left c.plan_split.ensures.room c.give_up.new.self c.give_up.ensures.reads (IsFamilyAt c.args.at.now.rank.0 c.args.at.now.dir c.args.at.now.frag c.args.nb) (IsFamilyAt c.args.at.now.rank.0 c.args.at.now.dir c.args.at.now.frag c.args.nb) (λ (r : ℕ) (q : Leaf). IsKeptFor c.args.self.now.caches r q ⊎ IsFamilyAt c.args.at.now.rank.0 c.args.at.now.dir c.args.at.now.frag c.args.nb r q) c.ready_children.new.self c.ready_children.ensures.reads (λ r q is. inl is) (λ r q is. inr is)
 
 pub returns-in-Err-ready_children-clause-sound : goal.returns-in-Err-ready_children-clause-sound
-returns-in-Err-ready_children-clause-sound g c = reads_sound_so (IsFamilyAt c.args.at.now.rank.0 c.args.at.now.dir c.args.at.now.frag c.args.nb) (λ (r : ℕ) (q : Leaf). IsKeptFor c.args.self.now.caches r q ⊎ IsFamilyAt c.args.at.now.rank.0 c.args.at.now.dir c.args.at.now.frag c.args.nb r q) c.args.self.now c.ready_children.new.self (last_reads c.args.self.now c.plan_split.new.self c.plan_split.ensures.left c.plan_split.ensures.room c.give_up.new.self c.give_up.ensures.reads (IsFamilyAt c.args.at.now.rank.0 c.args.at.now.dir c.args.at.now.frag c.args.nb) (IsFamilyAt c.args.at.now.rank.0 c.args.at.now.dir c.args.at.now.frag c.args.nb) (λ (r : ℕ) (q : Leaf). IsKeptFor c.args.self.now.caches r q ⊎ IsFamilyAt c.args.at.now.rank.0 c.args.at.now.dir c.args.at.now.frag c.args.nb r q) c.ready_children.new.self c.ready_children.ensures.reads (λ r q is. inl is) (λ r q is. inr is)) c.requires.sound (family_live c.args.self.now c.args.at.now c.args.nb c.requires.known c.requires.can c.ready_children.new.self.caches c.in-Err-ready_children.ensures.absent) (none_only c.ready_children.new.self.kept c.ready_children.new.self.caches c.in-Err-ready_children.ensures.none)
+returns-in-Err-ready_children-clause-sound g c = reads_sound_so (IsFamilyAt c.args.at.now.rank.0 c.args.at.now.dir c.args.at.now.frag c.args.nb) (λ (r : ℕ) (q : Leaf). IsKeptFor c.args.self.now.caches r q ⊎ IsFamilyAt c.args.at.now.rank.0 c.args.at.now.dir c.args.at.now.frag c.args.nb r q) c.args.self.now c.ready_children.new.self (last_reads c.args.self.now c.plan_split.new.self c.plan_split.ensures.left c.plan_split.ensures.room c.give_up.new.self c.give_up.ensures.reads (IsFamilyAt c.args.at.now.rank.0 c.args.at.now.dir c.args.at.now.frag c.args.nb) (IsFamilyAt c.args.at.now.rank.0 c.args.at.now.dir c.args.at.now.frag c.args.nb) (λ (r : ℕ) (q : Leaf). IsKeptFor c.args.self.now.caches r q ⊎ IsFamilyAt c.args.at.now.rank.0 c.args.at.now.dir c.args.at.now.frag c.args.nb r q) c.ready_children.new.self c.ready_children.ensures.reads (λ r q is. inl is) (λ r q is. inr is)) c.requires.sound (family_live c.args.self.now c.args.at.now c.args.nb c.requires.known c.requires.can c.ready_children.new.self.caches c.in-Err-ready_children.ensures.absent) (none_places c.ready_children.new.self.kept c.ready_children.new.self.caches c.in-Err-ready_children.ensures.none)
 
 pub returns-in-Err-ready_children-clause-undone : goal.returns-in-Err-ready_children-clause-undone
 returns-in-Err-ready_children-clause-undone g c = reads_undone (IsFamilyAt c.args.at.now.rank.0 c.args.at.now.dir c.args.at.now.frag c.args.nb) (λ (r : ℕ) (q : Leaf). IsKeptFor c.args.self.now.caches r q ⊎ IsFamilyAt c.args.at.now.rank.0 c.args.at.now.dir c.args.at.now.frag c.args.nb r q) c.args.self.now c.ready_children.new.self (last_reads c.args.self.now c.plan_split.new.self c.plan_split.ensures.left c.plan_split.ensures.room c.give_up.new.self c.give_up.ensures.reads (IsFamilyAt c.args.at.now.rank.0 c.args.at.now.dir c.args.at.now.frag c.args.nb) (IsFamilyAt c.args.at.now.rank.0 c.args.at.now.dir c.args.at.now.frag c.args.nb) (λ (r : ℕ) (q : Leaf). IsKeptFor c.args.self.now.caches r q ⊎ IsFamilyAt c.args.at.now.rank.0 c.args.at.now.dir c.args.at.now.frag c.args.nb r q) c.ready_children.new.self c.ready_children.ensures.reads (λ r q is. inl is) (λ r q is. inr is)) c.in-Err-ready_children.ensures.none

@@ -10,7 +10,7 @@ use Rattle.mdcache.specs.Core.{Core}
 use Rattle.mdcache.specs.Ranks.{KeepsOnlyAt, NoneUsed}
 use Rattle.mdcache.proofs.CoreLaws.{dirs_grown, grown_given, grown_may, grown_reads, grows_by, may_fetch, not_found_before, not_ready, reads_itself, reads_sound_so, remembered, still_absent}
 use Rattle.mdcache.proofs.PrepareLaws.{first_apart, first_live_so, first_nowhere, two_left}
-use Rattle.mdcache.proofs.NoneLaws.{none_only}
+use Rattle.mdcache.proofs.NoneLaws.{none_places, one_place}
 use Rattle.mdcache.proofs.mdcache.MdCache.ready_directory.Goals as goal
 
 pub returns-in-Err-clause-reads : goal.returns-in-Err-clause-reads
@@ -40,7 +40,7 @@ pub returns-in-Err-ready_first-clause-reads : goal.returns-in-Err-ready_first-cl
 returns-in-Err-ready_first-clause-reads g c = grown_reads (λ (r : ℕ) (q : Leaf). IsThat c.args.at.now.rank.0 (leaf_of c.args.at.now) r q ⊎ IsThat c.args.at.now.rank.0 (first_leaf c.args.dir) r q) c.args.self.now _ c.give_up.new.self c.ready_first.new.self (dirs_grown (λ (r : ℕ) (q : Leaf). IsThat c.args.at.now.rank.0 (leaf_of c.args.at.now) r q ⊎ IsThat c.args.at.now.rank.0 (first_leaf c.args.dir) r q) (IsKeptFor c.args.self.now.caches) c.args.self.now _ c.self.view_is c.reserve.new.self.homes c.reserve.new.self.trees c.reserve.new.self.room c.reserve.new.self.tree_room c.reserve.ensures.homes c.reserve.ensures.trees (grows_by c.self.inside.dirs.room c.reserve.new.self.room (λ some. ap (λ (d : Table). d.room) (c.reserve.ensures.ready some).1)) c.reserve.ensures.tree_room) (ap (λ (k : Core). k.caches) c.self.view_is) c.give_up.ensures.reads c.ready_first.ensures.reads
 
 pub returns-in-Err-ready_first-clause-sound : goal.returns-in-Err-ready_first-clause-sound
-returns-in-Err-ready_first-clause-sound g c = reads_sound_so (λ (r : ℕ) (q : Leaf). IsThat c.args.at.now.rank.0 (leaf_of c.args.at.now) r q ⊎ IsThat c.args.at.now.rank.0 (first_leaf c.args.dir) r q) (IsKeptFor c.args.self.now.caches) c.args.self.now c.ready_first.new.self (grown_reads (λ (r : ℕ) (q : Leaf). IsThat c.args.at.now.rank.0 (leaf_of c.args.at.now) r q ⊎ IsThat c.args.at.now.rank.0 (first_leaf c.args.dir) r q) c.args.self.now _ c.give_up.new.self c.ready_first.new.self (dirs_grown (λ (r : ℕ) (q : Leaf). IsThat c.args.at.now.rank.0 (leaf_of c.args.at.now) r q ⊎ IsThat c.args.at.now.rank.0 (first_leaf c.args.dir) r q) (IsKeptFor c.args.self.now.caches) c.args.self.now _ c.self.view_is c.reserve.new.self.homes c.reserve.new.self.trees c.reserve.new.self.room c.reserve.new.self.tree_room c.reserve.ensures.homes c.reserve.ensures.trees (grows_by c.self.inside.dirs.room c.reserve.new.self.room (λ some. ap (λ (d : Table). d.room) (c.reserve.ensures.ready some).1)) c.reserve.ensures.tree_room) (ap (λ (k : Core). k.caches) c.self.view_is) c.give_up.ensures.reads c.ready_first.ensures.reads) c.requires.sound (first_live_so c.args.self.now c.args.at.now.rank.0 (leaf_of c.args.at.now) (first_leaf c.args.dir) c.ready_first.new.self.caches c.requires.live c.ready_first.ensures.absent) (none_only c.ready_first.new.self.kept c.ready_first.new.self.caches c.in-Err-ready_first.ensures.none)
+returns-in-Err-ready_first-clause-sound g c = reads_sound_so (λ (r : ℕ) (q : Leaf). IsThat c.args.at.now.rank.0 (leaf_of c.args.at.now) r q ⊎ IsThat c.args.at.now.rank.0 (first_leaf c.args.dir) r q) (IsKeptFor c.args.self.now.caches) c.args.self.now c.ready_first.new.self (grown_reads (λ (r : ℕ) (q : Leaf). IsThat c.args.at.now.rank.0 (leaf_of c.args.at.now) r q ⊎ IsThat c.args.at.now.rank.0 (first_leaf c.args.dir) r q) c.args.self.now _ c.give_up.new.self c.ready_first.new.self (dirs_grown (λ (r : ℕ) (q : Leaf). IsThat c.args.at.now.rank.0 (leaf_of c.args.at.now) r q ⊎ IsThat c.args.at.now.rank.0 (first_leaf c.args.dir) r q) (IsKeptFor c.args.self.now.caches) c.args.self.now _ c.self.view_is c.reserve.new.self.homes c.reserve.new.self.trees c.reserve.new.self.room c.reserve.new.self.tree_room c.reserve.ensures.homes c.reserve.ensures.trees (grows_by c.self.inside.dirs.room c.reserve.new.self.room (λ some. ap (λ (d : Table). d.room) (c.reserve.ensures.ready some).1)) c.reserve.ensures.tree_room) (ap (λ (k : Core). k.caches) c.self.view_is) c.give_up.ensures.reads c.ready_first.ensures.reads) c.requires.sound (first_live_so c.args.self.now c.args.at.now.rank.0 (leaf_of c.args.at.now) (first_leaf c.args.dir) c.ready_first.new.self.caches c.requires.live c.ready_first.ensures.absent) (none_places c.ready_first.new.self.kept c.ready_first.new.self.caches c.in-Err-ready_first.ensures.none)
 
 pub returns-in-Err-ready_first-clause-refused : goal.returns-in-Err-ready_first-clause-refused
 returns-in-Err-ready_first-clause-refused g c =
@@ -58,4 +58,4 @@ returns-clause-reads g c = remembered (λ (r : ℕ) (q : Leaf). IsThat c.args.at
 pub returns-clause-sound : goal.returns-clause-sound
 returns-clause-sound g c = reads_sound_so (λ (r : ℕ) (q : Leaf). IsThat c.args.at.now.rank.0 (leaf_of c.args.at.now) r q ⊎ IsThat c.args.at.now.rank.0 (first_leaf c.args.dir) r q) (IsKeptFor c.args.self.now.caches) c.args.self.now _ (remembered (λ (r : ℕ) (q : Leaf). IsThat c.args.at.now.rank.0 (leaf_of c.args.at.now) r q ⊎ IsThat c.args.at.now.rank.0 (first_leaf c.args.dir) r q) (IsKeptFor c.args.self.now.caches) c.args.self.now c.ready_first.new.self _ c.self-2.view_is _ _ (grown_reads (λ (r : ℕ) (q : Leaf). IsThat c.args.at.now.rank.0 (leaf_of c.args.at.now) r q ⊎ IsThat c.args.at.now.rank.0 (first_leaf c.args.dir) r q) c.args.self.now _ c.give_up.new.self c.ready_first.new.self (dirs_grown (λ (r : ℕ) (q : Leaf). IsThat c.args.at.now.rank.0 (leaf_of c.args.at.now) r q ⊎ IsThat c.args.at.now.rank.0 (first_leaf c.args.dir) r q) (IsKeptFor c.args.self.now.caches) c.args.self.now _ c.self.view_is c.reserve.new.self.homes c.reserve.new.self.trees c.reserve.new.self.room c.reserve.new.self.tree_room c.reserve.ensures.homes c.reserve.ensures.trees (grows_by c.self.inside.dirs.room c.reserve.new.self.room (λ some. ap (λ (d : Table). d.room) (c.reserve.ensures.ready some).1)) c.reserve.ensures.tree_room) (ap (λ (k : Core). k.caches) c.self.view_is) c.give_up.ensures.reads c.ready_first.ensures.reads)) c.requires.sound
     (first_live_so c.args.self.now c.args.at.now.rank.0 (leaf_of c.args.at.now) (first_leaf c.args.dir) c.self-2.inside.caches c.requires.live (subst (λ (k : Core). map.get k.caches.held (first_leaf c.args.dir) ≡ None) (sym c.self-2.view_is) c.ready_first.ensures.absent))
-    (subst (λ (k : Core). KeepsOnlyAt (Some (c.args.at.now.rank, first_leaf c.args.dir)) k.caches) (sym c.self-2.view_is) c.in_default-ready_first.ensures.only)
+    (one_place c.self-2.inside.caches c.args.at.now.rank (first_leaf c.args.dir) (subst (λ (k : Core). KeepsOnlyAt (Some (c.args.at.now.rank, first_leaf c.args.dir)) k.caches) (sym c.self-2.view_is) c.in_default-ready_first.ensures.only) c.args.self.now.homes c.requires.unused)

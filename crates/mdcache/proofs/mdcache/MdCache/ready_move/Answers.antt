@@ -10,11 +10,11 @@ use Rattle.dentry_cache.specs.Came.{IsThat}
 use Rattle.inode_table.specs.Dirs.{Covers}
 use Rattle.mdcache.specs.Core.{Core}
 use Rattle.mdcache.specs.Going.{IsGoingOrNone}
-use Rattle.mdcache.specs.Ranks.{KeepsOnlyAt, NoneUsed}
+use Rattle.mdcache.specs.Ranks.{NoneUsed}
 use Rattle.mdcache.specs.Shown.{names_of}
 use Rattle.mdcache.specs.State.{State}
-use Rattle.mdcache.proofs.CoreLaws.{cached_of_names, of_names, reads_state, grown_given, grown_may, grown_reads, may_fetch, not_found_pair, not_ready, purge_grown, reads_itself, reads_sound, remembered, there_after, two_live, two_ranks}
-use Rattle.mdcache.proofs.NoneLaws.{none_only}
+use Rattle.mdcache.proofs.CoreLaws.{cached_of_names, of_names, reads_state, grown_given, grown_may, grown_reads, keeps_place, may_fetch, not_found_pair, not_ready, purge_grown, reads_itself, reads_sound, remembered, there_after, two_live, two_ranks}
+use Rattle.mdcache.proofs.NoneLaws.{KeepsPlace, none_places}
 use Rattle.mdcache.proofs.mdcache.MdCache.ready_move.Goals as goal
 
 pub returns-in-Err-clause-reads : goal.returns-in-Err-clause-reads
@@ -28,7 +28,7 @@ returns-in_err-going-clause-reads g c = purge_grown (λ (r : ℕ) (q : Leaf). Is
 
 pub returns-in_err-going-clause-sound : goal.returns-in_err-going-clause-sound
 returns-in_err-going-clause-sound g c =
-    reads_sound (λ (r : ℕ) (q : Leaf). IsThat c.args.from.now.rank.0 (leaf_of c.args.from.now) r q ⊎ IsThat c.args.to.now.rank.0 (leaf_of c.args.to.now) r q) (IsKeptFor c.args.self.now.caches) c.args.self.now _ (purge_grown (λ (r : ℕ) (q : Leaf). IsThat c.args.from.now.rank.0 (leaf_of c.args.from.now) r q ⊎ IsThat c.args.to.now.rank.0 (leaf_of c.args.to.now) r q) (IsKeptFor c.args.self.now.caches) c.args.self.now _ c.self.view_is c.ready_going.new.purge.names c.ready_going.new.purge.room c.ready_going.ensures.same c.ready_going.ensures.grows) c.requires.sound (two_live c.args.self.now c.args.from.now.rank.0 c.args.to.now.rank.0 (leaf_of c.args.from.now) (leaf_of c.args.to.now) c.requires.from_live c.requires.to_live) (subst (λ (k : Core). KeepsOnlyAt k.kept k.caches) (sym c.self.view_is) c.requires.sound.kept)
+    reads_sound (λ (r : ℕ) (q : Leaf). IsThat c.args.from.now.rank.0 (leaf_of c.args.from.now) r q ⊎ IsThat c.args.to.now.rank.0 (leaf_of c.args.to.now) r q) (IsKeptFor c.args.self.now.caches) c.args.self.now _ (purge_grown (λ (r : ℕ) (q : Leaf). IsThat c.args.from.now.rank.0 (leaf_of c.args.from.now) r q ⊎ IsThat c.args.to.now.rank.0 (leaf_of c.args.to.now) r q) (IsKeptFor c.args.self.now.caches) c.args.self.now _ c.self.view_is c.ready_going.new.purge.names c.ready_going.new.purge.room c.ready_going.ensures.same c.ready_going.ensures.grows) c.requires.sound (two_live c.args.self.now c.args.from.now.rank.0 c.args.to.now.rank.0 (leaf_of c.args.from.now) (leaf_of c.args.to.now) c.requires.from_live c.requires.to_live) (subst (λ (k : Core). KeepsPlace c.args.self.now.homes k.kept k.caches) (sym c.self.view_is) (keeps_place c.args.self.now c.requires.sound))
 
 pub ready_pair-requires-clause-from : goal.ready_pair-requires-clause-from
 ready_pair-requires-clause-from g c =
@@ -45,7 +45,7 @@ returns-in-Err-ready_pair-clause-reads g c = grown_reads (λ (r : ℕ) (q : Leaf
 
 pub returns-in-Err-ready_pair-clause-sound : goal.returns-in-Err-ready_pair-clause-sound
 returns-in-Err-ready_pair-clause-sound g c =
-    reads_sound (λ (r : ℕ) (q : Leaf). IsThat c.args.from.now.rank.0 (leaf_of c.args.from.now) r q ⊎ IsThat c.args.to.now.rank.0 (leaf_of c.args.to.now) r q) (IsKeptFor c.args.self.now.caches) c.args.self.now c.ready_pair.new.self (grown_reads (λ (r : ℕ) (q : Leaf). IsThat c.args.from.now.rank.0 (leaf_of c.args.from.now) r q ⊎ IsThat c.args.to.now.rank.0 (leaf_of c.args.to.now) r q) c.args.self.now _ c.give_up.new.self c.ready_pair.new.self (purge_grown (λ (r : ℕ) (q : Leaf). IsThat c.args.from.now.rank.0 (leaf_of c.args.from.now) r q ⊎ IsThat c.args.to.now.rank.0 (leaf_of c.args.to.now) r q) (IsKeptFor c.args.self.now.caches) c.args.self.now _ c.self.view_is c.ready_going.new.purge.names c.ready_going.new.purge.room c.ready_going.ensures.same c.ready_going.ensures.grows) (ap (λ (k : Core). k.caches) c.self.view_is) c.give_up.ensures.reads c.ready_pair.ensures.reads) c.requires.sound (two_live c.args.self.now c.args.from.now.rank.0 c.args.to.now.rank.0 (leaf_of c.args.from.now) (leaf_of c.args.to.now) c.requires.from_live c.requires.to_live) (none_only c.ready_pair.new.self.kept c.ready_pair.new.self.caches c.ready_pair.ensures.none)
+    reads_sound (λ (r : ℕ) (q : Leaf). IsThat c.args.from.now.rank.0 (leaf_of c.args.from.now) r q ⊎ IsThat c.args.to.now.rank.0 (leaf_of c.args.to.now) r q) (IsKeptFor c.args.self.now.caches) c.args.self.now c.ready_pair.new.self (grown_reads (λ (r : ℕ) (q : Leaf). IsThat c.args.from.now.rank.0 (leaf_of c.args.from.now) r q ⊎ IsThat c.args.to.now.rank.0 (leaf_of c.args.to.now) r q) c.args.self.now _ c.give_up.new.self c.ready_pair.new.self (purge_grown (λ (r : ℕ) (q : Leaf). IsThat c.args.from.now.rank.0 (leaf_of c.args.from.now) r q ⊎ IsThat c.args.to.now.rank.0 (leaf_of c.args.to.now) r q) (IsKeptFor c.args.self.now.caches) c.args.self.now _ c.self.view_is c.ready_going.new.purge.names c.ready_going.new.purge.room c.ready_going.ensures.same c.ready_going.ensures.grows) (ap (λ (k : Core). k.caches) c.self.view_is) c.give_up.ensures.reads c.ready_pair.ensures.reads) c.requires.sound (two_live c.args.self.now c.args.from.now.rank.0 c.args.to.now.rank.0 (leaf_of c.args.from.now) (leaf_of c.args.to.now) c.requires.from_live c.requires.to_live) (none_places c.ready_pair.new.self.kept c.ready_pair.new.self.caches c.ready_pair.ensures.none)
 
 pub returns-in-Err-ready_pair-clause-refused : goal.returns-in-Err-ready_pair-clause-refused
 returns-in-Err-ready_pair-clause-refused g c =
@@ -63,7 +63,7 @@ inode_at-requires-clause-there g c =
 pub inode_at-requires-clause-stands : goal.inode_at-requires-clause-stands
 inode_at-requires-clause-stands g c =
     subst (λ (k : Core). HasCached (here k.caches c.args.from.now.rank.0 (leaf_of c.args.from.now)) (λ (f : Cached). is_some (map.get (shown f) c.args.old.now) ≡ true)) (sym c.self-2.view_is)
-    (cached_of_names c.ready_pair.new.self (reads_sound (λ (r : ℕ) (q : Leaf). IsThat c.args.from.now.rank.0 (leaf_of c.args.from.now) r q ⊎ IsThat c.args.to.now.rank.0 (leaf_of c.args.to.now) r q) (IsKeptFor c.args.self.now.caches) c.args.self.now c.ready_pair.new.self (grown_reads (λ (r : ℕ) (q : Leaf). IsThat c.args.from.now.rank.0 (leaf_of c.args.from.now) r q ⊎ IsThat c.args.to.now.rank.0 (leaf_of c.args.to.now) r q) c.args.self.now _ c.give_up.new.self c.ready_pair.new.self (purge_grown (λ (r : ℕ) (q : Leaf). IsThat c.args.from.now.rank.0 (leaf_of c.args.from.now) r q ⊎ IsThat c.args.to.now.rank.0 (leaf_of c.args.to.now) r q) (IsKeptFor c.args.self.now.caches) c.args.self.now _ c.self.view_is c.ready_going.new.purge.names c.ready_going.new.purge.room c.ready_going.ensures.same c.ready_going.ensures.grows) (ap (λ (k : Core). k.caches) c.self.view_is) c.give_up.ensures.reads c.ready_pair.ensures.reads) c.requires.sound (two_live c.args.self.now c.args.from.now.rank.0 c.args.to.now.rank.0 (leaf_of c.args.from.now) (leaf_of c.args.to.now) c.requires.from_live c.requires.to_live) (none_only c.ready_pair.new.self.kept c.ready_pair.new.self.caches c.ready_pair.ensures.none))
+    (cached_of_names c.ready_pair.new.self (reads_sound (λ (r : ℕ) (q : Leaf). IsThat c.args.from.now.rank.0 (leaf_of c.args.from.now) r q ⊎ IsThat c.args.to.now.rank.0 (leaf_of c.args.to.now) r q) (IsKeptFor c.args.self.now.caches) c.args.self.now c.ready_pair.new.self (grown_reads (λ (r : ℕ) (q : Leaf). IsThat c.args.from.now.rank.0 (leaf_of c.args.from.now) r q ⊎ IsThat c.args.to.now.rank.0 (leaf_of c.args.to.now) r q) c.args.self.now _ c.give_up.new.self c.ready_pair.new.self (purge_grown (λ (r : ℕ) (q : Leaf). IsThat c.args.from.now.rank.0 (leaf_of c.args.from.now) r q ⊎ IsThat c.args.to.now.rank.0 (leaf_of c.args.to.now) r q) (IsKeptFor c.args.self.now.caches) c.args.self.now _ c.self.view_is c.ready_going.new.purge.names c.ready_going.new.purge.room c.ready_going.ensures.same c.ready_going.ensures.grows) (ap (λ (k : Core). k.caches) c.self.view_is) c.give_up.ensures.reads c.ready_pair.ensures.reads) c.requires.sound (two_live c.args.self.now c.args.from.now.rank.0 c.args.to.now.rank.0 (leaf_of c.args.from.now) (leaf_of c.args.to.now) c.requires.from_live c.requires.to_live) (none_places c.ready_pair.new.self.kept c.ready_pair.new.self.caches c.ready_pair.ensures.none))
     (λ (names : Names). is_some (map.get names c.args.old.now) ≡ true) (λ (f : Cached). 1 < f.room) c.args.from.now.rank.0 (leaf_of c.args.from.now) (c.in_default-ready_pair.ensures).source
     (subst (λ (s : State). is_some (map.get (names_of s.unsaved s.objects (leaf_of c.args.from.now)) c.args.old.now) ≡ true) (sym (reads_state (λ (r : ℕ) (q : Leaf). IsThat c.args.from.now.rank.0 (leaf_of c.args.from.now) r q ⊎ IsThat c.args.to.now.rank.0 (leaf_of c.args.to.now) r q) (IsKeptFor c.args.self.now.caches) c.args.self.now c.ready_pair.new.self (grown_reads (λ (r : ℕ) (q : Leaf). IsThat c.args.from.now.rank.0 (leaf_of c.args.from.now) r q ⊎ IsThat c.args.to.now.rank.0 (leaf_of c.args.to.now) r q) c.args.self.now _ c.give_up.new.self c.ready_pair.new.self (purge_grown (λ (r : ℕ) (q : Leaf). IsThat c.args.from.now.rank.0 (leaf_of c.args.from.now) r q ⊎ IsThat c.args.to.now.rank.0 (leaf_of c.args.to.now) r q) (IsKeptFor c.args.self.now.caches) c.args.self.now _ c.self.view_is c.ready_going.new.purge.names c.ready_going.new.purge.room c.ready_going.ensures.same c.ready_going.ensures.grows) (ap (λ (k : Core). k.caches) c.self.view_is) c.give_up.ensures.reads c.ready_pair.ensures.reads))) c.requires.stands))
 
@@ -71,12 +71,12 @@ pub returns-in_err-inode-clause-reads : goal.returns-in_err-inode-clause-reads
 returns-in_err-inode-clause-reads g c = grown_reads (λ (r : ℕ) (q : Leaf). IsThat c.args.from.now.rank.0 (leaf_of c.args.from.now) r q ⊎ IsThat c.args.to.now.rank.0 (leaf_of c.args.to.now) r q) c.args.self.now _ c.give_up.new.self c.ready_pair.new.self (purge_grown (λ (r : ℕ) (q : Leaf). IsThat c.args.from.now.rank.0 (leaf_of c.args.from.now) r q ⊎ IsThat c.args.to.now.rank.0 (leaf_of c.args.to.now) r q) (IsKeptFor c.args.self.now.caches) c.args.self.now _ c.self.view_is c.ready_going.new.purge.names c.ready_going.new.purge.room c.ready_going.ensures.same c.ready_going.ensures.grows) (ap (λ (k : Core). k.caches) c.self.view_is) c.give_up.ensures.reads c.ready_pair.ensures.reads
 
 pub returns-in_err-inode-clause-sound : goal.returns-in_err-inode-clause-sound
-returns-in_err-inode-clause-sound g c = reads_sound (λ (r : ℕ) (q : Leaf). IsThat c.args.from.now.rank.0 (leaf_of c.args.from.now) r q ⊎ IsThat c.args.to.now.rank.0 (leaf_of c.args.to.now) r q) (IsKeptFor c.args.self.now.caches) c.args.self.now c.ready_pair.new.self (grown_reads (λ (r : ℕ) (q : Leaf). IsThat c.args.from.now.rank.0 (leaf_of c.args.from.now) r q ⊎ IsThat c.args.to.now.rank.0 (leaf_of c.args.to.now) r q) c.args.self.now _ c.give_up.new.self c.ready_pair.new.self (purge_grown (λ (r : ℕ) (q : Leaf). IsThat c.args.from.now.rank.0 (leaf_of c.args.from.now) r q ⊎ IsThat c.args.to.now.rank.0 (leaf_of c.args.to.now) r q) (IsKeptFor c.args.self.now.caches) c.args.self.now _ c.self.view_is c.ready_going.new.purge.names c.ready_going.new.purge.room c.ready_going.ensures.same c.ready_going.ensures.grows) (ap (λ (k : Core). k.caches) c.self.view_is) c.give_up.ensures.reads c.ready_pair.ensures.reads) c.requires.sound (two_live c.args.self.now c.args.from.now.rank.0 c.args.to.now.rank.0 (leaf_of c.args.from.now) (leaf_of c.args.to.now) c.requires.from_live c.requires.to_live) (none_only c.ready_pair.new.self.kept c.ready_pair.new.self.caches c.ready_pair.ensures.none)
+returns-in_err-inode-clause-sound g c = reads_sound (λ (r : ℕ) (q : Leaf). IsThat c.args.from.now.rank.0 (leaf_of c.args.from.now) r q ⊎ IsThat c.args.to.now.rank.0 (leaf_of c.args.to.now) r q) (IsKeptFor c.args.self.now.caches) c.args.self.now c.ready_pair.new.self (grown_reads (λ (r : ℕ) (q : Leaf). IsThat c.args.from.now.rank.0 (leaf_of c.args.from.now) r q ⊎ IsThat c.args.to.now.rank.0 (leaf_of c.args.to.now) r q) c.args.self.now _ c.give_up.new.self c.ready_pair.new.self (purge_grown (λ (r : ℕ) (q : Leaf). IsThat c.args.from.now.rank.0 (leaf_of c.args.from.now) r q ⊎ IsThat c.args.to.now.rank.0 (leaf_of c.args.to.now) r q) (IsKeptFor c.args.self.now.caches) c.args.self.now _ c.self.view_is c.ready_going.new.purge.names c.ready_going.new.purge.room c.ready_going.ensures.same c.ready_going.ensures.grows) (ap (λ (k : Core). k.caches) c.self.view_is) c.give_up.ensures.reads c.ready_pair.ensures.reads) c.requires.sound (two_live c.args.self.now c.args.from.now.rank.0 c.args.to.now.rank.0 (leaf_of c.args.from.now) (leaf_of c.args.to.now) c.requires.from_live c.requires.to_live) (none_places c.ready_pair.new.self.kept c.ready_pair.new.self.caches c.ready_pair.ensures.none)
 
 pub returns-clause-moving : goal.returns-clause-moving
 returns-clause-moving g c = (
   subst (λ (s : State). map.get (names_of s.unsaved s.objects (leaf_of c.args.from.now)) c.args.old.now ≡ Some c.in_ok-inode.inode) (reads_state (λ (r : ℕ) (q : Leaf). IsThat c.args.from.now.rank.0 (leaf_of c.args.from.now) r q ⊎ IsThat c.args.to.now.rank.0 (leaf_of c.args.to.now) r q) (IsKeptFor c.args.self.now.caches) c.args.self.now c.ready_pair.new.self (grown_reads (λ (r : ℕ) (q : Leaf). IsThat c.args.from.now.rank.0 (leaf_of c.args.from.now) r q ⊎ IsThat c.args.to.now.rank.0 (leaf_of c.args.to.now) r q) c.args.self.now _ c.give_up.new.self c.ready_pair.new.self (purge_grown (λ (r : ℕ) (q : Leaf). IsThat c.args.from.now.rank.0 (leaf_of c.args.from.now) r q ⊎ IsThat c.args.to.now.rank.0 (leaf_of c.args.to.now) r q) (IsKeptFor c.args.self.now.caches) c.args.self.now _ c.self.view_is c.ready_going.new.purge.names c.ready_going.new.purge.room c.ready_going.ensures.same c.ready_going.ensures.grows) (ap (λ (k : Core). k.caches) c.self.view_is) c.give_up.ensures.reads c.ready_pair.ensures.reads))
-      (of_names c.ready_pair.new.self (reads_sound (λ (r : ℕ) (q : Leaf). IsThat c.args.from.now.rank.0 (leaf_of c.args.from.now) r q ⊎ IsThat c.args.to.now.rank.0 (leaf_of c.args.to.now) r q) (IsKeptFor c.args.self.now.caches) c.args.self.now c.ready_pair.new.self (grown_reads (λ (r : ℕ) (q : Leaf). IsThat c.args.from.now.rank.0 (leaf_of c.args.from.now) r q ⊎ IsThat c.args.to.now.rank.0 (leaf_of c.args.to.now) r q) c.args.self.now _ c.give_up.new.self c.ready_pair.new.self (purge_grown (λ (r : ℕ) (q : Leaf). IsThat c.args.from.now.rank.0 (leaf_of c.args.from.now) r q ⊎ IsThat c.args.to.now.rank.0 (leaf_of c.args.to.now) r q) (IsKeptFor c.args.self.now.caches) c.args.self.now _ c.self.view_is c.ready_going.new.purge.names c.ready_going.new.purge.room c.ready_going.ensures.same c.ready_going.ensures.grows) (ap (λ (k : Core). k.caches) c.self.view_is) c.give_up.ensures.reads c.ready_pair.ensures.reads) c.requires.sound (two_live c.args.self.now c.args.from.now.rank.0 c.args.to.now.rank.0 (leaf_of c.args.from.now) (leaf_of c.args.to.now) c.requires.from_live c.requires.to_live) (none_only c.ready_pair.new.self.kept c.ready_pair.new.self.caches c.ready_pair.ensures.none)) (λ (names : Names). map.get names c.args.old.now ≡ Some c.in_ok-inode.inode) c.args.from.now.rank.0 (leaf_of c.args.from.now)
+      (of_names c.ready_pair.new.self (reads_sound (λ (r : ℕ) (q : Leaf). IsThat c.args.from.now.rank.0 (leaf_of c.args.from.now) r q ⊎ IsThat c.args.to.now.rank.0 (leaf_of c.args.to.now) r q) (IsKeptFor c.args.self.now.caches) c.args.self.now c.ready_pair.new.self (grown_reads (λ (r : ℕ) (q : Leaf). IsThat c.args.from.now.rank.0 (leaf_of c.args.from.now) r q ⊎ IsThat c.args.to.now.rank.0 (leaf_of c.args.to.now) r q) c.args.self.now _ c.give_up.new.self c.ready_pair.new.self (purge_grown (λ (r : ℕ) (q : Leaf). IsThat c.args.from.now.rank.0 (leaf_of c.args.from.now) r q ⊎ IsThat c.args.to.now.rank.0 (leaf_of c.args.to.now) r q) (IsKeptFor c.args.self.now.caches) c.args.self.now _ c.self.view_is c.ready_going.new.purge.names c.ready_going.new.purge.room c.ready_going.ensures.same c.ready_going.ensures.grows) (ap (λ (k : Core). k.caches) c.self.view_is) c.give_up.ensures.reads c.ready_pair.ensures.reads) c.requires.sound (two_live c.args.self.now c.args.from.now.rank.0 c.args.to.now.rank.0 (leaf_of c.args.from.now) (leaf_of c.args.to.now) c.requires.from_live c.requires.to_live) (none_places c.ready_pair.new.self.kept c.ready_pair.new.self.caches c.ready_pair.ensures.none)) (λ (names : Names). map.get names c.args.old.now ≡ Some c.in_ok-inode.inode) c.args.from.now.rank.0 (leaf_of c.args.from.now)
       (subst (λ (k : Core). HasCached (here k.caches c.args.from.now.rank.0 (leaf_of c.args.from.now)) (λ (f : Cached). map.get (shown f) c.args.old.now ≡ Some c.in_ok-inode.inode)) c.self-2.view_is c.in_ok-inode.ensures.inode)),
   c.in_ok-inode.ensures.recordable,
   c.in_ok-name.ensures,
@@ -91,4 +91,4 @@ returns-clause-reads g c = remembered (λ (r : ℕ) (q : Leaf). IsThat c.args.fr
 pub returns-clause-sound : goal.returns-clause-sound
 returns-clause-sound g c =
     reads_sound (λ (r : ℕ) (q : Leaf). IsThat c.args.from.now.rank.0 (leaf_of c.args.from.now) r q ⊎ IsThat c.args.to.now.rank.0 (leaf_of c.args.to.now) r q) (IsKeptFor c.args.self.now.caches) c.args.self.now _ (remembered (λ (r : ℕ) (q : Leaf). IsThat c.args.from.now.rank.0 (leaf_of c.args.from.now) r q ⊎ IsThat c.args.to.now.rank.0 (leaf_of c.args.to.now) r q) (IsKeptFor c.args.self.now.caches) c.args.self.now c.ready_pair.new.self _ c.self-2.view_is _ _ (grown_reads (λ (r : ℕ) (q : Leaf). IsThat c.args.from.now.rank.0 (leaf_of c.args.from.now) r q ⊎ IsThat c.args.to.now.rank.0 (leaf_of c.args.to.now) r q) c.args.self.now _ c.give_up.new.self c.ready_pair.new.self (purge_grown (λ (r : ℕ) (q : Leaf). IsThat c.args.from.now.rank.0 (leaf_of c.args.from.now) r q ⊎ IsThat c.args.to.now.rank.0 (leaf_of c.args.to.now) r q) (IsKeptFor c.args.self.now.caches) c.args.self.now _ c.self.view_is c.ready_going.new.purge.names c.ready_going.new.purge.room c.ready_going.ensures.same c.ready_going.ensures.grows) (ap (λ (k : Core). k.caches) c.self.view_is) c.give_up.ensures.reads c.ready_pair.ensures.reads)) c.requires.sound (two_live c.args.self.now c.args.from.now.rank.0 c.args.to.now.rank.0 (leaf_of c.args.from.now) (leaf_of c.args.to.now) c.requires.from_live c.requires.to_live)
-    (none_only _ c.self-2.inside.caches (subst (λ (k : Core). KeepsNone k.caches) (sym c.self-2.view_is) c.ready_pair.ensures.none))
+    (none_places _ c.self-2.inside.caches (subst (λ (k : Core). KeepsNone k.caches) (sym c.self-2.view_is) c.ready_pair.ensures.none))

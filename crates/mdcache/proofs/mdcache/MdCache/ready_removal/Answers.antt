@@ -4,9 +4,9 @@ use Rattle.dentry_cache.specs.CacheMap.{leaf_of}
 use Rattle.dentry_cache.specs.CacheSplits.{IsKeptFor}
 use Rattle.dentry_cache.specs.Came.{IsThat}
 use Rattle.mdcache.specs.Core.{Core}
-use Rattle.mdcache.specs.Ranks.{KeepsOnlyAt, NoneUsed}
-use Rattle.mdcache.proofs.CoreLaws.{grown_given, grown_may, grown_reads, may_fetch, not_found_before, not_ready, purge_grown, reads_itself, reads_sound, remembered, that_live}
-use Rattle.mdcache.proofs.NoneLaws.{none_only}
+use Rattle.mdcache.specs.Ranks.{NoneUsed}
+use Rattle.mdcache.proofs.CoreLaws.{grown_given, grown_may, grown_reads, keeps_place, may_fetch, not_found_before, not_ready, purge_grown, reads_itself, reads_sound, remembered, that_live}
+use Rattle.mdcache.proofs.NoneLaws.{KeepsPlace, none_places}
 use Rattle.mdcache.proofs.mdcache.MdCache.ready_removal.Goals as goal
 
 pub returns-in-Err-clause-reads : goal.returns-in-Err-clause-reads
@@ -17,7 +17,7 @@ returns-in_err-going-clause-reads g c = purge_grown (IsThat c.args.at.now.rank.0
 
 pub returns-in_err-going-clause-sound : goal.returns-in_err-going-clause-sound
 returns-in_err-going-clause-sound g c =
-    reads_sound (IsThat c.args.at.now.rank.0 (leaf_of c.args.at.now)) (IsKeptFor c.args.self.now.caches) c.args.self.now _ (purge_grown (IsThat c.args.at.now.rank.0 (leaf_of c.args.at.now)) (IsKeptFor c.args.self.now.caches) c.args.self.now _ c.self.view_is c.ready_going.new.purge.names c.ready_going.new.purge.room c.ready_going.ensures.same c.ready_going.ensures.grows) c.requires.sound (that_live c.args.self.now c.args.at.now.rank.0 (leaf_of c.args.at.now) c.requires.live) (subst (λ (k : Core). KeepsOnlyAt k.kept k.caches) (sym c.self.view_is) c.requires.sound.kept)
+    reads_sound (IsThat c.args.at.now.rank.0 (leaf_of c.args.at.now)) (IsKeptFor c.args.self.now.caches) c.args.self.now _ (purge_grown (IsThat c.args.at.now.rank.0 (leaf_of c.args.at.now)) (IsKeptFor c.args.self.now.caches) c.args.self.now _ c.self.view_is c.ready_going.new.purge.names c.ready_going.new.purge.room c.ready_going.ensures.same c.ready_going.ensures.grows) c.requires.sound (that_live c.args.self.now c.args.at.now.rank.0 (leaf_of c.args.at.now) c.requires.live) (subst (λ (k : Core). KeepsPlace c.args.self.now.homes k.kept k.caches) (sym c.self.view_is) (keeps_place c.args.self.now c.requires.sound))
 
 pub ready_names-requires-clause-may : goal.ready_names-requires-clause-may
 ready_names-requires-clause-may g c =
@@ -29,7 +29,7 @@ returns-in-Err-ready_names-clause-reads g c = grown_reads (IsThat c.args.at.now.
 
 pub returns-in-Err-ready_names-clause-sound : goal.returns-in-Err-ready_names-clause-sound
 returns-in-Err-ready_names-clause-sound g c =
-    reads_sound (IsThat c.args.at.now.rank.0 (leaf_of c.args.at.now)) (IsKeptFor c.args.self.now.caches) c.args.self.now c.ready_names.new.self (grown_reads (IsThat c.args.at.now.rank.0 (leaf_of c.args.at.now)) c.args.self.now _ c.give_up.new.self c.ready_names.new.self (purge_grown (IsThat c.args.at.now.rank.0 (leaf_of c.args.at.now)) (IsKeptFor c.args.self.now.caches) c.args.self.now _ c.self.view_is c.ready_going.new.purge.names c.ready_going.new.purge.room c.ready_going.ensures.same c.ready_going.ensures.grows) (ap (λ (k : Core). k.caches) c.self.view_is) c.give_up.ensures.reads c.ready_names.ensures.reads) c.requires.sound (that_live c.args.self.now c.args.at.now.rank.0 (leaf_of c.args.at.now) c.requires.live) (none_only c.ready_names.new.self.kept c.ready_names.new.self.caches c.ready_names.ensures.none)
+    reads_sound (IsThat c.args.at.now.rank.0 (leaf_of c.args.at.now)) (IsKeptFor c.args.self.now.caches) c.args.self.now c.ready_names.new.self (grown_reads (IsThat c.args.at.now.rank.0 (leaf_of c.args.at.now)) c.args.self.now _ c.give_up.new.self c.ready_names.new.self (purge_grown (IsThat c.args.at.now.rank.0 (leaf_of c.args.at.now)) (IsKeptFor c.args.self.now.caches) c.args.self.now _ c.self.view_is c.ready_going.new.purge.names c.ready_going.new.purge.room c.ready_going.ensures.same c.ready_going.ensures.grows) (ap (λ (k : Core). k.caches) c.self.view_is) c.give_up.ensures.reads c.ready_names.ensures.reads) c.requires.sound (that_live c.args.self.now c.args.at.now.rank.0 (leaf_of c.args.at.now) c.requires.live) (none_places c.ready_names.new.self.kept c.ready_names.new.self.caches c.ready_names.ensures.none)
 
 pub returns-in-Err-ready_names-clause-refused : goal.returns-in-Err-ready_names-clause-refused
 returns-in-Err-ready_names-clause-refused g c =
@@ -46,4 +46,4 @@ returns-clause-reads g c = remembered (IsThat c.args.at.now.rank.0 (leaf_of c.ar
 pub returns-clause-sound : goal.returns-clause-sound
 returns-clause-sound g c =
     reads_sound (IsThat c.args.at.now.rank.0 (leaf_of c.args.at.now)) (IsKeptFor c.args.self.now.caches) c.args.self.now _ (remembered (IsThat c.args.at.now.rank.0 (leaf_of c.args.at.now)) (IsKeptFor c.args.self.now.caches) c.args.self.now c.ready_names.new.self _ c.self-2.view_is _ _ (grown_reads (IsThat c.args.at.now.rank.0 (leaf_of c.args.at.now)) c.args.self.now _ c.give_up.new.self c.ready_names.new.self (purge_grown (IsThat c.args.at.now.rank.0 (leaf_of c.args.at.now)) (IsKeptFor c.args.self.now.caches) c.args.self.now _ c.self.view_is c.ready_going.new.purge.names c.ready_going.new.purge.room c.ready_going.ensures.same c.ready_going.ensures.grows) (ap (λ (k : Core). k.caches) c.self.view_is) c.give_up.ensures.reads c.ready_names.ensures.reads)) c.requires.sound (that_live c.args.self.now c.args.at.now.rank.0 (leaf_of c.args.at.now) c.requires.live)
-    (none_only _ c.self-2.inside.caches (subst (λ (k : Core). KeepsNone k.caches) (sym c.self-2.view_is) c.ready_names.ensures.none))
+    (none_places _ c.self-2.inside.caches (subst (λ (k : Core). KeepsNone k.caches) (sym c.self-2.view_is) c.ready_names.ensures.none))
