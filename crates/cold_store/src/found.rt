@@ -91,17 +91,12 @@ impl Found {
     }
 
     /// Gives a directory that was found these leaves.
-    pub fn set_tree(&mut self, dir: Ino, tree: FragTree) -> Result<(), Refusal>
+    pub fn set_tree(&mut self, dir: Ino, tree: FragTree)
         requires { is_known self.old.shape.homes dir.0 ≡ true }
         ensures shape { self.new.shape ≡ self.old.shape }
-        ensures covers { OnOk result (self.new.covers ≡ map.insert self.old.covers dir.0 tree) }
-        ensures refused { IfErr result (λ reason. reason ≡ NoMemory) }
+        ensures covers { self.new.covers ≡ map.insert self.old.covers dir.0 tree }
     {
-        if let Err(refusal) = self.dirs.reserve_tree() {
-            return Err(refusal);
-        }
         self.dirs.set_tree(dir, tree);
-        Ok(())
     }
 
     /// Adds the entry of a name in a directory, unless the inode's number was met; tells whether it wasn't.

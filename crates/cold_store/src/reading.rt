@@ -42,7 +42,7 @@ pub fn take_dir<S: Store>(
 {
     let tree = read_tree(alloc, store, dir)?;
     let leaves = leaves_of(alloc, &tree)?;
-    keep_tree(found, dir, tree)?;
+    keep_tree(found, dir, tree);
     take_leaves(alloc, store, found, dir, &leaves)
 }
 
@@ -98,15 +98,13 @@ fn leaves_of(alloc: Global, tree: &Option<FragTree>) -> Result<Vec<Frag>, AllocE
 }
 
 // Gives a directory the leaves of its tree object, if that is there.
-fn keep_tree(found: &mut Found, dir: Ino, tree: Option<FragTree>) -> Result<(), Refusal>
+fn keep_tree(found: &mut Found, dir: Ino, tree: Option<FragTree>)
     requires { is_known found.old.shape.homes dir.0 ≡ true }
     ensures shape { found.new.shape ≡ found.old.shape }
-    ensures covers { OnOk result (found.new.covers ≡ with_cover found.old.covers dir tree) }
-    ensures refused { IfErr result (λ reason. reason ≡ NoMemory) }
+    ensures covers { found.new.covers ≡ with_cover found.old.covers dir tree }
 {
-    match tree {
-        Some(tree) => found.set_tree(dir, tree),
-        None => Ok(()),
+    if let Some(tree) = tree {
+        found.set_tree(dir, tree);
     }
 }
 

@@ -15,12 +15,11 @@ Homes = map.FinMap nat_cmp Home
 abbrev pub Covers : Type 0
 Covers = map.FinMap nat_cmp (List Fragment)
 
--- what contracts see of a table: the homes and the leaves, and how many more of each still fit with no growth
+-- what contracts see of a table: the homes and the leaves, and how many more directories still fit with no growth
 pub record Table : Type 0 where
   pub homes : Homes
   pub trees : Covers
   pub room : ℕ
-  pub tree_room : ℕ
 
 -- the leaves of a row, `*` alone where there is no row
 abbrev pub or_whole : Option (List Fragment) → List Fragment

@@ -1,5 +1,5 @@
 //! The directory table.
-ghost use Rattle.std.specs.Prelude.{◌≡◌, ◌≢◌, ◌+◌, ◌-◌, ◌<◌, ◌≤◌, ◌↔◌, ◌∷◌, [], if◌then◌else◌, is_some, length, true, IsOk, IsSome, IsTrue, IfOk, OnOk, OnErr, IfErr, MatchOption, false};
+ghost use Rattle.std.specs.Prelude.{◌≡◌, ◌≢◌, ◌+◌, ◌-◌, ◌<◌, ◌≤◌, ◌↔◌, ◌∷◌, [], length, true, IsOk, IsSome, IsTrue, IfOk, OnOk, OnErr, IfErr, MatchOption, false};
 ghost use Rattle.std.specs.Option.{option_copied};
 ghost use Rattle.std.specs.FinMap as map;
 ghost use Rattle.mds_types.specs.declared.refusals.Refusal.TheVariants.{NoMemory};
@@ -58,7 +58,7 @@ impl Model for Dirs {
 
     ghost coded = { Prim.hlevel (codes, map.code) };
 
-    ghost view = { λ d. record { homes = homes_of (contents nat_cmp d.below); trees = covers_of d.root (contents nat_cmp d.below); room = d.below.room; tree_room = 1 } };
+    ghost view = { λ d. record { homes = homes_of (contents nat_cmp d.below); trees = covers_of d.root (contents nat_cmp d.below); room = d.below.room } };
 
     ghost invariant = { λ d. IsTable (homes_of (contents nat_cmp d.below)) (covers_of d.root (contents nat_cmp d.below)) };
 }
@@ -192,7 +192,6 @@ impl Dirs {
         ensures ok { OnOk result (0 < self.new.room) }
         ensures homes { self.new.homes ≡ self.old.homes }
         ensures trees { self.new.trees ≡ self.old.trees }
-        ensures tree_room { self.new.tree_room ≡ self.old.tree_room }
         ensures ready { 0 < self.old.room → IsOk result × (self.new ≡ self.old) }
         ensures err { IfErr result (λ reason. reason ≡ NoMemory) }
         ensures left { OnErr result (self.new ≡ self.old) }
@@ -201,29 +200,12 @@ impl Dirs {
         Ok(())
     }
 
-    /// Makes room for the leaves of one more directory, so that the next `set_tree` can't fail. The room is always there:
-    /// a directory's row has a place for its leaves. So nothing is done, and never refused.
-    pub fn reserve_tree(&mut self) -> Result<(), Refusal>
-        ensures ok { OnOk result (0 < self.new.tree_room) }
-        ensures homes { self.new.homes ≡ self.old.homes }
-        ensures trees { self.new.trees ≡ self.old.trees }
-        ensures room { self.new.room ≡ self.old.room }
-        ensures ready { 0 < self.old.tree_room → IsOk result × (self.new ≡ self.old) }
-        ensures err { IfErr result (λ reason. reason ≡ NoMemory) }
-        ensures left { OnErr result (self.new ≡ self.old) }
-    {
-        let _ = &self.below;
-        Ok(())
-    }
-
-    /// Gives a directory these leaves, for which there is room. Takes no memory.
+    /// Gives a directory these leaves. Takes no memory.
     pub fn set_tree(&mut self, dir: Ino, tree: FragTree)
-        requires room { 0 < self.old.tree_room }
         requires known { is_known self.old.homes dir.0 ≡ true }
         ensures trees { self.new.trees ≡ map.insert self.old.trees dir.0 tree }
         ensures homes { self.new.homes ≡ self.old.homes }
         ensures room { self.new.room ≡ self.old.room }
-        ensures tree_room { (if is_some (map.get self.old.trees dir.0) then self.old.tree_room else self.old.tree_room - 1) ≤ self.new.tree_room }
     {
         // of a tree that is asked for its length its leaves are known to cover every hash
         let _ = tree.len();
@@ -245,7 +227,6 @@ impl Dirs {
         ensures trees { self.new.trees ≡ self.old.trees }
         ensures whole { leaves_of self.new.trees dir.0 ≡ root_fragment ∷ [] }
         ensures room { self.old.room ≤ self.new.room + 1 }
-        ensures tree_room { self.new.tree_room ≡ self.old.tree_room }
         ensures valid { IsTable self.new.homes self.new.trees }
     {
         let _ = self.below.insert(dir.0, Directory { home, leaves: None });
@@ -257,7 +238,6 @@ impl Dirs {
         ensures homes { self.new.homes ≡ map.insert self.old.homes dir.0 home }
         ensures trees { self.new.trees ≡ self.old.trees }
         ensures room { self.new.room ≡ self.old.room }
-        ensures tree_room { self.new.tree_room ≡ self.old.tree_room }
         ensures valid { IsTable self.new.homes self.new.trees }
     {
         let Some(row) = self.below.get_mut(&dir.0) else {
@@ -272,7 +252,6 @@ impl Dirs {
         ensures homes { self.new.homes ≡ map.remove self.old.homes dir.0 }
         ensures trees { self.new.trees ≡ map.remove self.old.trees dir.0 }
         ensures room { self.old.room ≤ self.new.room }
-        ensures tree_room { self.old.tree_room ≤ self.new.tree_room }
         ensures valid { IsTable self.new.homes self.new.trees }
     {
         let _ = self.below.remove(&dir.0);

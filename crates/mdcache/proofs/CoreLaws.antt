@@ -154,8 +154,8 @@ still_absent Uses Ends old new q reads unnamed none = go (map.get new.caches.hel
 -- one after the other
 no_less_on : (a b c : Rooms) → IsNoLess a b → IsNoLess b c → IsNoLess a c
 no_less_on a b c p q =
-    let d = p.dirs in let e = q.dirs in let t = p.trees in let u = q.trees in let j = p.jobs in let k = q.jobs in let x = p.purge in let y = q.purge in
-    record { dirs = omega (arith, d, e); trees = omega (arith, t, u); jobs = omega (arith, j, k); purge = omega (arith, x, y) }
+    let d = p.dirs in let e = q.dirs in let j = p.jobs in let k = q.jobs in let x = p.purge in let y = q.purge in
+    record { dirs = omega (arith, d, e); jobs = omega (arith, j, k); purge = omega (arith, x, y) }
 
 pub reads_core_on : (Uses Ends : ℕ → Leaf → Type 0) (old mid new : Core) → ReadsCore Uses Ends old mid → ReadsCore Uses Ends mid new → ReadsCore Uses Ends old new
 reads_core_on Uses Ends old mid new first second = record {
@@ -166,7 +166,7 @@ reads_core_on Uses Ends old mid new first second = record {
 }
 
 pub no_less_itself : (a : Rooms) → IsNoLess a a
-no_less_itself a = record { dirs = omega arith; trees = omega arith; jobs = omega arith; purge = omega arith }
+no_less_itself a = record { dirs = omega arith; jobs = omega arith; purge = omega arith }
 
 pub reads_itself : (Uses Ends : ℕ → Leaf → Type 0) (c : Core) → ReadsCore Uses Ends c c
 reads_itself Uses Ends c = record { caches = it_stays; room = no_less_itself c.room; beside = refl }
@@ -356,15 +356,15 @@ cached_of_names c sound P Q r leaf has is = go (here c.caches r leaf) refl has
 pub purge_grown : (Uses Ends : ℕ → Leaf → Type 0) (old view : Core) (is : view ≡ old) (names : Keys) (room : ℕ) → names ≡ view.purge → view.room.purge ≤ room
     → ReadsCore Uses Ends old (record view { purge = names; room = record view.room { purge = room } })
 purge_grown Uses Ends old view is names room same more =
-    first_step Uses Ends old view (record view { purge = names; room = record view.room { purge = room } }) (record { dirs = omega arith; trees = omega arith; jobs = omega arith; purge = more })
+    first_step Uses Ends old view (record view { purge = names; room = record view.room { purge = room } }) (record { dirs = omega arith; jobs = omega arith; purge = more })
     (λ i. record view { purge = same i; room = record view.room { purge = room } }) is it_stays
 
-pub dirs_grown : (Uses Ends : ℕ → Leaf → Type 0) (old view : Core) (is : view ≡ old) (homes : Homes) (covers : Covers) (room trees : ℕ) → homes ≡ view.homes → covers ≡ view.covers → view.room.dirs ≤ room → trees ≡ view.room.trees
-    → ReadsCore Uses Ends old (record view { homes = homes; covers = covers; room = record view.room { dirs = room; trees = trees } })
-dirs_grown Uses Ends old view is homes covers room trees same_homes same_covers more same_trees =
-    first_step Uses Ends old view (record view { homes = homes; covers = covers; room = record view.room { dirs = room; trees = trees } })
-    (record { dirs = more; trees = omega (arith, same_trees); jobs = omega arith; purge = omega arith })
-    (λ i. record view { homes = same_homes i; covers = same_covers i; room = record view.room { dirs = room; trees = trees } }) is it_stays
+pub dirs_grown : (Uses Ends : ℕ → Leaf → Type 0) (old view : Core) (is : view ≡ old) (homes : Homes) (covers : Covers) (room : ℕ) → homes ≡ view.homes → covers ≡ view.covers → view.room.dirs ≤ room
+    → ReadsCore Uses Ends old (record view { homes = homes; covers = covers; room = record view.room { dirs = room } })
+dirs_grown Uses Ends old view is homes covers room same_homes same_covers more =
+    first_step Uses Ends old view (record view { homes = homes; covers = covers; room = record view.room { dirs = room } })
+    (record { dirs = more; jobs = omega arith; purge = omega arith })
+    (λ i. record view { homes = same_homes i; covers = same_covers i; room = record view.room { dirs = room } }) is it_stays
 
 -- room where nothing is done if it is there
 pub grows_by : (old new : ℕ) → (0 < old → new ≡ old) → old ≤ new

@@ -108,11 +108,10 @@ module _ (Uses Ends : ℕ → Leaf → Type 0) (p q : Core) (reads : ReadsCore U
 
   pub split_planned_on : (a : Dirfrag) (nb : ℕ) (plan : SplitPlan) → IsSplitPlanned p a nb plan → IsSplitPlanned q a nb plan
   split_planned_on a nb plan was =
-      let rows = was.row in let list = was.list in let trees = reads.room.trees in let purge = reads.room.purge in
+      let list = was.list in let purge = reads.room.purge in
       record {
         cover = subst (λ (c : Covers). IsSplit (leaves_of c a.dir.0) plan.cover a.frag nb) (sym covers_on) was.cover;
         whole = was.whole;
-        row = omega (arith, rows, trees);
         object = was.object;
         children = was.children;
         list = omega (arith, list, purge);
@@ -120,7 +119,7 @@ module _ (Uses Ends : ℕ → Leaf → Type 0) (p q : Core) (reads : ReadsCore U
 
   pub merge_planned_on : (a : Dirfrag) (plan : MergePlan) → IsMergePlanned p a plan → IsMergePlanned q a plan
   merge_planned_on a plan was =
-      let rows = was.row in let list = was.list in let trees = reads.room.trees in let purge = reads.room.purge in
+      let list = was.list in let purge = reads.room.purge in
       let ending : ending_at p a ≡ ending_at q a = ap (λ (c : Covers). each (in_directory a.dir.0) (leaves_inside a.frag (leaves_of c a.dir.0))) (sym covers_on) in
       record {
         leaves = was.leaves ∙ ending;
@@ -128,7 +127,6 @@ module _ (Uses Ends : ℕ → Leaf → Type 0) (p q : Core) (reads : ReadsCore U
         list = omega (arith, list, purge);
         cover = subst (λ (c : Covers). IsMerge (leaves_of c a.dir.0) plan.cover a.frag) (sym covers_on) was.cover;
         whole = was.whole;
-        row = omega (arith, rows, trees);
         object = was.object;
       }
 

@@ -30,10 +30,9 @@ use Rattle.mdcache.specs.State.{IsLive, State}
 use Rattle.mdcache.specs.StandingJobs.{Jobs}
 use Rattle.mdcache.specs.declared.prepared.Prepared.{Prepared}
 
--- how many more directories, directories with more than one leaf, jobs, and names of objects to be removed fit with no growth
+-- how many more directories, jobs, and names of objects to be removed fit with no growth
 pub record Rooms : Type 0 where
   pub dirs : ℕ
-  pub trees : ℕ
   pub jobs : ℕ
   pub purge : ℕ
 
@@ -100,7 +99,6 @@ pub record IsSoundCore (c : Core) : Type 0 where
 -- no less room than before
 pub record IsNoLess (old new : Rooms) : Type 0 where
   pub dirs : old.dirs ≤ new.dirs
-  pub trees : old.trees ≤ new.trees
   pub jobs : old.jobs ≤ new.jobs
   pub purge : old.purge ≤ new.purge
 

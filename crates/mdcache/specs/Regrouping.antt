@@ -25,12 +25,11 @@ use Rattle.mdcache.specs.State.{text_of}
 
 -- ---- a split
 
--- the directory's leaves after a split, with room in the table; the name of the leaf's object, with room on the purge list; and those of its
+-- the directory's leaves after a split; the name of the leaf's object, with room on the purge list; and those of its
 -- children's objects
 pub record IsSplitPlanned (p : Core) (a : Dirfrag) (nb : ℕ) (plan : SplitPlan) : Type 0 where
   pub cover : IsSplit (leaves_of p.covers a.dir.0) plan.cover a.frag nb
   pub whole : IsTree plan.cover
-  pub row : 0 < p.room.trees
   pub object : string_bytes plan.object ≡ text_of (leaf_of a)
   pub children : NameChildren a.dir a.frag nb (each string_bytes plan.children.items)
   pub list : 0 < p.room.purge
@@ -61,15 +60,14 @@ split_in p a nb plan empty caches room = record p {
 abbrev pub ending_at : Core → Dirfrag → List Leaf
 ending_at p a = each (in_directory a.dir.0) (leaves_inside a.frag (leaves_of p.covers a.dir.0))
 
--- the leaves that end, with the names of their objects and room for these on the purge list; the directory's leaves after the merge, with
--- room in the table; and the name of the object of the fragment that comes
+-- the leaves that end, with the names of their objects and room for these on the purge list; the directory's leaves after the merge;
+-- and the name of the object of the fragment that comes
 pub record IsMergePlanned (p : Core) (a : Dirfrag) (plan : MergePlan) : Type 0 where
   pub leaves : leaves_in a.dir plan.leaves.items ≡ ending_at p a
   pub texts : texts_in plan.leaves.items ≡ each text_of (ending_at p a)
   pub list : length plan.leaves.items ≤ p.room.purge
   pub cover : IsMerge (leaves_of p.covers a.dir.0) plan.cover a.frag
   pub whole : IsTree plan.cover
-  pub row : 0 < p.room.trees
   pub object : string_bytes plan.object ≡ text_of (leaf_of a)
 
 -- a fragment of the next generation, for which no object counts, has the names of these leaves, dirty at the next version

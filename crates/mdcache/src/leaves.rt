@@ -1,6 +1,6 @@
 //! Which leaves there are.
 ghost use Rattle.std.specs.Prelude.{◌≡◌, IfOk, IsTrue, ◌↔◌};
-ghost use Rattle.fragtree.specs.FragTree.{IsPick, IsTree};
+ghost use Rattle.fragtree.specs.FragTree.{IsTree};
 ghost use Rattle.inode_table.specs.Dirs.{leaves_of};
 ghost use Rattle.mdcache.specs.State.{IsLive};
 
@@ -15,14 +15,7 @@ impl<S: Store + Drop> MdCache<S> {
     pub fn has_leaf(&self, dir: Ino, frag: Frag) -> bool
         ensures { IsTrue result ↔ IsLive self.now.homes self.now.covers (dir, frag) }
     {
-        is_live(&self.dirs, dir, frag)
-    }
-
-    /// The first leaf of a directory: the one of the least value, which the hash 0 picks. Takes no memory.
-    pub fn first_leaf(&self, dir: Ino) -> Frag
-        ensures { IsPick (leaves_of self.now.covers dir.0) 0 result }
-    {
-        self.dirs.pick(dir, 0)
+        self.dirs.has_leaf(dir, frag)
     }
 
     /// The leaves of a directory by value. Takes memory for them, and is refused for want of it alone.
@@ -43,12 +36,4 @@ fn leaves_in(alloc: Global, dirs: &Dirs, dir: Ino) -> Result<Vec<Frag>, AllocErr
     // of a tree that is asked for its length its leaves are known to cover every hash
     let _ = tree.len();
     tree.leaves(alloc)
-}
-
-/// Whether a directory is in the table and has this leaf. Takes no memory.
-pub(crate) fn is_live(dirs: &Dirs, dir: Ino, frag: Frag) -> bool
-    ensures { IsTrue result ↔ IsLive dirs.now.homes dirs.now.trees (dir, frag) }
-{
-    // a leaf contains the hash that its value is, and no other leaf does
-    dirs.contains(dir) && dirs.pick(dir, frag.value()) == frag
 }

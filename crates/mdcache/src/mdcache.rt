@@ -41,7 +41,7 @@ impl<S: Store + Drop> Model for MdCache<S> {
 
     ghost coded = { Prim.hlevel (codes, map.code) };
 
-    ghost view = { λ m. record { homes = m.dirs.homes; covers = m.dirs.trees; caches = m.caches; objects = S.objects m.store; faults = S.faults m.store; jobs = m.jobs.jobs; purge = m.purge.names; next_job = m.next.job; next_generation = m.next.generation; next_version = m.next.version; room = record { dirs = m.dirs.room; trees = m.dirs.tree_room; jobs = m.jobs.room; purge = m.purge.room }; prepared = m.prepared; kept = m.kept } };
+    ghost view = { λ m. record { homes = m.dirs.homes; covers = m.dirs.trees; caches = m.caches; objects = S.objects m.store; faults = S.faults m.store; jobs = m.jobs.jobs; purge = m.purge.names; next_job = m.next.job; next_generation = m.next.generation; next_version = m.next.version; room = record { dirs = m.dirs.room; jobs = m.jobs.room; purge = m.purge.room }; prepared = m.prepared; kept = m.kept } };
 }
 
 impl<S: Store + Drop> MdCache<S> {

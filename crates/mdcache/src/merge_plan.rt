@@ -1,4 +1,4 @@
-//! What a merge needs beside the caches: the leaves that end, the leaves after it with room in the table, and the names of objects.
+//! What a merge needs beside the caches: the leaves that end, the leaves after it, and the names of objects.
 ghost use Rattle.std.specs.Prelude.{◌≡◌, ◌≤◌, ◌<◌, ◌++◌, ◌∷◌, [], map as each, string_bytes, length, OnOk, IfOk, IfErr};
 ghost use Rattle.mds_types.specs.declared.refusals.Refusal.TheVariants.{NoMemory};
 ghost use Rattle.fragtree.specs.FragTree.{CanMerge, IsMerge, IsTree, leaves_inside, lies_inside};
@@ -29,7 +29,7 @@ pub struct MergePlan {
 }
 
 impl<S: Store + Drop> MdCache<S> {
-    /// Plans a merge of leaves that can be merged, and makes room for it in the table and on the purge list. Refused for want of
+    /// Plans a merge of leaves that can be merged, and makes room for it on the purge list. Refused for want of
     /// memory alone.
     pub(crate) fn plan_merge(&mut self, alloc: Global, at: &Dirfrag) -> Result<MergePlan, Refusal>
         requires { CanMerge (leaves_of self.old.covers at.now.dir.0) at.now.frag }
@@ -38,7 +38,7 @@ impl<S: Store + Drop> MdCache<S> {
         ensures room { IsNoLess self.old.room self.new.room }
         ensures refused { IfErr result (λ reason. reason ≡ NoMemory) }
     {
-        let cover = match merge_cover(alloc, &mut self.dirs, at) {
+        let cover = match merge_cover(alloc, &self.dirs, at) {
             Ok(cover) => cover,
             Err(refusal) => return Err(refusal),
         };
@@ -53,21 +53,13 @@ impl<S: Store + Drop> MdCache<S> {
     }
 }
 
-// The leaves of a directory once some of them are merged, with room for them in the table.
-fn merge_cover(alloc: Global, dirs: &mut Dirs, at: &Dirfrag) -> Result<FragTree, Refusal>
-    requires { CanMerge (leaves_of dirs.old.trees at.now.dir.0) at.now.frag }
-    ensures merged { IfOk result (λ cover. IsMerge (leaves_of dirs.old.trees at.now.dir.0) cover at.now.frag) }
+// The leaves of a directory once some of them are merged.
+fn merge_cover(alloc: Global, dirs: &Dirs, at: &Dirfrag) -> Result<FragTree, Refusal>
+    requires { CanMerge (leaves_of dirs.now.trees at.now.dir.0) at.now.frag }
+    ensures merged { IfOk result (λ cover. IsMerge (leaves_of dirs.now.trees at.now.dir.0) cover at.now.frag) }
     ensures whole { IfOk result (λ cover. IsTree cover) }
-    ensures row { OnOk result (0 < dirs.new.tree_room) }
-    ensures homes { dirs.new.homes ≡ dirs.old.homes }
-    ensures trees { dirs.new.trees ≡ dirs.old.trees }
-    ensures room { dirs.new.room ≡ dirs.old.room }
-    ensures grows { dirs.old.tree_room ≤ dirs.new.tree_room }
     ensures refused { IfErr result (λ reason. reason ≡ NoMemory) }
 {
-    if let Err(refusal) = dirs.reserve_tree() {
-        return Err(refusal);
-    }
     let mut cover = dirs.tree(alloc, at.dir)?;
     match cover.merge(at.frag) {
         Ok(()) => Ok(cover),

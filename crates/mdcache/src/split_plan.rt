@@ -1,4 +1,4 @@
-//! What a split needs beside the caches: the leaves after it, with room in the table, and the names of objects.
+//! What a split needs beside the caches: the leaves after it, and the names of objects.
 ghost use Rattle.std.specs.Prelude.{◌≡◌, ◌+◌, ◌≤◌, ◌<◌, ◌^◌, map as each, string_bytes, OnOk, IfOk, IfErr};
 ghost use Rattle.mds_types.specs.declared.refusals.Refusal.TheVariants.{NoMemory};
 ghost use Rattle.fragtree.specs.FragTree.{CanSplit, IsSplit, IsTree};
@@ -25,7 +25,7 @@ pub struct SplitPlan {
 }
 
 impl<S: Store + Drop> MdCache<S> {
-    /// Plans a split of a leaf that can be split, and makes room for it in the table and on the purge list. Refused for want of
+    /// Plans a split of a leaf that can be split, and makes room for it on the purge list. Refused for want of
     /// memory alone.
     pub(crate) fn plan_split(
         &mut self,
@@ -39,7 +39,7 @@ impl<S: Store + Drop> MdCache<S> {
         ensures room { IsNoLess self.old.room self.new.room }
         ensures refused { IfErr result (λ reason. reason ≡ NoMemory) }
     {
-        let cover = match split_cover(alloc, &mut self.dirs, at, nb) {
+        let cover = match split_cover(alloc, &self.dirs, at, nb) {
             Ok(cover) => cover,
             Err(refusal) => return Err(refusal),
         };
@@ -54,21 +54,13 @@ impl<S: Store + Drop> MdCache<S> {
     }
 }
 
-// The leaves of a directory once one of them is split, with room for them in the table.
-fn split_cover(alloc: Global, dirs: &mut Dirs, at: &Dirfrag, nb: u8) -> Result<FragTree, Refusal>
-    requires { CanSplit (leaves_of dirs.old.trees at.now.dir.0) at.now.frag nb }
-    ensures divided { IfOk result (λ cover. IsSplit (leaves_of dirs.old.trees at.now.dir.0) cover at.now.frag nb) }
+// The leaves of a directory once one of them is split.
+fn split_cover(alloc: Global, dirs: &Dirs, at: &Dirfrag, nb: u8) -> Result<FragTree, Refusal>
+    requires { CanSplit (leaves_of dirs.now.trees at.now.dir.0) at.now.frag nb }
+    ensures divided { IfOk result (λ cover. IsSplit (leaves_of dirs.now.trees at.now.dir.0) cover at.now.frag nb) }
     ensures whole { IfOk result (λ cover. IsTree cover) }
-    ensures row { OnOk result (0 < dirs.new.tree_room) }
-    ensures homes { dirs.new.homes ≡ dirs.old.homes }
-    ensures trees { dirs.new.trees ≡ dirs.old.trees }
-    ensures room { dirs.new.room ≡ dirs.old.room }
-    ensures grows { dirs.old.tree_room ≤ dirs.new.tree_room }
     ensures refused { IfErr result (λ reason. reason ≡ NoMemory) }
 {
-    if let Err(refusal) = dirs.reserve_tree() {
-        return Err(refusal);
-    }
     let mut cover = dirs.tree(alloc, at.dir)?;
     match cover.split(at.frag, nb) {
         Ok(()) => Ok(cover),

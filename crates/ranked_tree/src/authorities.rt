@@ -56,10 +56,11 @@ fn authority_of<S: Store + Drop>(
     requires { AreRoots (state_of tree.now) roots.now.roots }
     ensures { MatchOption result (IsLive tree.now.homes tree.now.covers (dir, frag) → ⊥) (λ rank. IsLive tree.now.homes tree.now.covers (dir, frag) × Rules (state_of tree.now) roots.now.roots (dir, frag) rank) }
 {
-    if !tree.has_leaf(dir, frag) {
-        return None;
+    // a leaf contains the hash that its value is, and no other leaf does
+    match roots.locate(tree.dirs(), dir, frag.value()) {
+        Some((leaf, rank)) if leaf == frag => Some(rank),
+        _ => None,
     }
-    Some(roots.authority(tree.dirs(), dir, frag))
 }
 
 // The leaf of a directory that a hash picks, and the leaf's authority.

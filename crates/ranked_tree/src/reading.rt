@@ -61,13 +61,6 @@ impl<S: Store + Drop> RankedTree<S> {
         self.tree.has_leaf(dir, frag)
     }
 
-    /// The first leaf of a directory: the one of the least value, which the hash 0 picks.
-    pub fn first_leaf(&self, dir: Ino) -> Frag
-        ensures { IsPick (leaves_of self.now.tree.covers dir.0) 0 result }
-    {
-        self.tree.first_leaf(dir)
-    }
-
     /// Whether there is such a leaf, and it can be split by so many bits, as `MdCache::check_split` tells and refuses.
     pub fn check_split(&self, dir: Ino, frag: Frag, bits: u8) -> Result<(), Refusal>
         ensures known { OnOk result (is_known self.now.tree.homes dir.0 ≡ true) }

@@ -17,7 +17,7 @@ returns-clause-good g c =
     (λ good. record {
       tree = subst (IsGoodTree (tree_of objects c.args.dir)) (good_cover (tree_of objects c.args.dir) c.in_ok-tree.tree tree) tree;
       leaves = subst (λ (ls : List Fragment). AreGoodLeaves objects c.args.found.now.shape c.args.dir ls) leaves
-          (subst (λ (s : Shape). AreGoodLeaves objects s c.args.dir c.deref.result.now) c.in_ok-keep_tree.ensures.shape
+          (subst (λ (s : Shape). AreGoodLeaves objects s c.args.dir c.deref.result.now) c.keep_tree.ensures.shape
           (subst (λ (o : Objects). AreGoodLeaves o c.keep_tree.new.found.shape c.args.dir c.deref.result.now) c.in_ok-tree.ensures.same good));
     })
     c.take_leaves.ensures.good
@@ -28,7 +28,7 @@ returns-clause-added g c =
     let leaves = c.deref.ensures.value ∙ c.in_ok-leaves.ensures ∙ good_leaves (tree_of objects c.args.dir) c.in_ok-tree.tree c.in_ok-tree.ensures.good in
     ok_then c.take_leaves.result
     (λ is. is ∙ ap (λ (o : Objects). with_rows c.keep_tree.new.found.shape (rows_under o c.args.dir c.deref.result.now)) c.in_ok-tree.ensures.same
-    ∙ ap (λ (s : Shape). with_rows s (rows_under objects c.args.dir c.deref.result.now)) c.in_ok-keep_tree.ensures.shape
+    ∙ ap (λ (s : Shape). with_rows s (rows_under objects c.args.dir c.deref.result.now)) c.keep_tree.ensures.shape
     ∙ ap (λ (ls : List Fragment). with_rows c.args.found.now.shape (rows_under objects c.args.dir ls)) leaves)
     c.take_leaves.ensures.added
 
@@ -36,7 +36,7 @@ pub returns-clause-covers : goal.returns-clause-covers
 returns-clause-covers g c =
     let objects = g.S.Store.objects c.args.store.now in
     ok_always c.take_leaves.result
-    (c.take_leaves.ensures.covers ∙ c.in_ok-keep_tree.ensures.covers ∙ ap (with_cover c.args.found.now.covers c.args.dir) (good_cover (tree_of objects c.args.dir) c.in_ok-tree.tree c.in_ok-tree.ensures.good))
+    (c.take_leaves.ensures.covers ∙ c.keep_tree.ensures.covers ∙ ap (with_cover c.args.found.now.covers c.args.dir) (good_cover (tree_of objects c.args.dir) c.in_ok-tree.tree c.in_ok-tree.ensures.good))
 
 pub returns-clause-refused : goal.returns-clause-refused
 returns-clause-refused g c =
@@ -50,7 +50,7 @@ returns-clause-refused g c =
     (λ name bad. inr (
       subst (IsGoodTree (tree_of objects c.args.dir)) (good_cover (tree_of objects c.args.dir) c.in_ok-tree.tree tree) tree,
       subst (λ (ls : List Fragment). IsBadAmong objects c.args.found.now.shape c.args.dir ls name) leaves
-          (subst (λ (s : Shape). IsBadAmong objects s c.args.dir c.deref.result.now name) c.in_ok-keep_tree.ensures.shape
+          (subst (λ (s : Shape). IsBadAmong objects s c.args.dir c.deref.result.now name) c.keep_tree.ensures.shape
           (subst (λ (o : Objects). IsBadAmong o c.keep_tree.new.found.shape c.args.dir c.deref.result.now name) c.in_ok-tree.ensures.same bad)),
     )))
     c.take_leaves.ensures.refused

@@ -37,7 +37,7 @@ pub returns-in-Err-clause-sound : goal.returns-in-Err-clause-sound
 returns-in-Err-clause-sound g c = refused_sound c.args.self.now _ c.self.view_is c.requires.sound c.args.rank.0 c.args.encoded.now.job (subst (λ (j : Job). map.get c.self.inside.jobs.jobs (leaf_of j) ≡ Some j) c.job-job.ensures.job (c.stands.ensures.0 c.if-not-stands.false)) (subst (λ (k : Core). IsFreeFor k.caches c.args.rank.0 (leaf_of c.args.encoded.now.job)) (sym c.self.view_is) c.requires.holds.alone) c.end_commit.new.self (g.S.Store.objects c.end_commit.new.store) (g.S.Store.faults c.end_commit.new.store) c.in-Err.ensures.kept c.in-Err.ensures.same
 
 pub returns-clause-ended : goal.returns-clause-ended
-returns-clause-ended g c = done_ended c.args.self.now _ c.self.view_is c.requires.sound c.args.rank.0 c.args.encoded.now.job (subst (λ (j : Job). map.get c.self.inside.jobs.jobs (leaf_of j) ≡ Some j) c.job-job.ensures.job (c.stands.ensures.0 c.if-not-stands.false)) (subst (λ (k : Core). IsFreeFor k.caches c.args.rank.0 (leaf_of c.args.encoded.now.job)) (sym c.self.view_is) c.requires.holds.alone) c.end_commit.new.self (g.S.Store.objects c.end_commit.new.store) (g.S.Store.faults c.end_commit.new.store) c.end.new.self.jobs (record { dirs = c.self.inside.dirs.room; trees = c.self.inside.dirs.tree_room; jobs = c.end.new.self.room; purge = c.self.inside.purge.room }) c.args.encoded.now.op c.in_default.ensures.written (ap (λ (e : Carried). e.op) c.job-job.ensures.valid) c.in_default.ensures.settled (c.end.ensures.ended ∙ ap (λ (j : Job). map.remove c.self.inside.jobs.jobs (leaf_of j)) c.job-job.ensures.job)
+returns-clause-ended g c = done_ended c.args.self.now _ c.self.view_is c.requires.sound c.args.rank.0 c.args.encoded.now.job (subst (λ (j : Job). map.get c.self.inside.jobs.jobs (leaf_of j) ≡ Some j) c.job-job.ensures.job (c.stands.ensures.0 c.if-not-stands.false)) (subst (λ (k : Core). IsFreeFor k.caches c.args.rank.0 (leaf_of c.args.encoded.now.job)) (sym c.self.view_is) c.requires.holds.alone) c.end_commit.new.self (g.S.Store.objects c.end_commit.new.store) (g.S.Store.faults c.end_commit.new.store) c.end.new.self.jobs (record { dirs = c.self.inside.dirs.room; jobs = c.end.new.self.room; purge = c.self.inside.purge.room }) c.args.encoded.now.op c.in_default.ensures.written (ap (λ (e : Carried). e.op) c.job-job.ensures.valid) c.in_default.ensures.settled (c.end.ensures.ended ∙ ap (λ (j : Job). map.remove c.self.inside.jobs.jobs (leaf_of j)) c.job-job.ensures.job)
 
 pub returns-clause-came : goal.returns-clause-came
 returns-clause-came g c =
@@ -45,4 +45,4 @@ returns-clause-came g c =
     (edits_came c.args.self.now _ c.self.view_is c.requires.sound c.args.rank.0 c.args.encoded.now.job (subst (λ (j : Job). map.get c.self.inside.jobs.jobs (leaf_of j) ≡ Some j) c.job-job.ensures.job (c.stands.ensures.0 c.if-not-stands.false)) (subst (λ (k : Core). IsFreeFor k.caches c.args.rank.0 (leaf_of c.args.encoded.now.job)) (sym c.self.view_is) c.requires.holds.alone) (IsCommitted c.args.encoded.now.job.snapshot) c.end_commit.new.self c.in_default.ensures.settled)
 
 pub returns-clause-sound : goal.returns-clause-sound
-returns-clause-sound g c = done_sound c.args.self.now _ c.self.view_is c.requires.sound c.args.rank.0 c.args.encoded.now.job (subst (λ (j : Job). map.get c.self.inside.jobs.jobs (leaf_of j) ≡ Some j) c.job-job.ensures.job (c.stands.ensures.0 c.if-not-stands.false)) (subst (λ (k : Core). IsFreeFor k.caches c.args.rank.0 (leaf_of c.args.encoded.now.job)) (sym c.self.view_is) c.requires.holds.alone) c.end_commit.new.self (g.S.Store.objects c.end_commit.new.store) (g.S.Store.faults c.end_commit.new.store) c.end.new.self.jobs (record { dirs = c.self.inside.dirs.room; trees = c.self.inside.dirs.tree_room; jobs = c.end.new.self.room; purge = c.self.inside.purge.room }) c.args.encoded.now.op c.in_default.ensures.written (ap (λ (e : Carried). e.op) c.job-job.ensures.valid) c.in_default.ensures.settled (c.end.ensures.ended ∙ ap (λ (j : Job). map.remove c.self.inside.jobs.jobs (leaf_of j)) c.job-job.ensures.job)
+returns-clause-sound g c = done_sound c.args.self.now _ c.self.view_is c.requires.sound c.args.rank.0 c.args.encoded.now.job (subst (λ (j : Job). map.get c.self.inside.jobs.jobs (leaf_of j) ≡ Some j) c.job-job.ensures.job (c.stands.ensures.0 c.if-not-stands.false)) (subst (λ (k : Core). IsFreeFor k.caches c.args.rank.0 (leaf_of c.args.encoded.now.job)) (sym c.self.view_is) c.requires.holds.alone) c.end_commit.new.self (g.S.Store.objects c.end_commit.new.store) (g.S.Store.faults c.end_commit.new.store) c.end.new.self.jobs (record { dirs = c.self.inside.dirs.room; jobs = c.end.new.self.room; purge = c.self.inside.purge.room }) c.args.encoded.now.op c.in_default.ensures.written (ap (λ (e : Carried). e.op) c.job-job.ensures.valid) c.in_default.ensures.settled (c.end.ensures.ended ∙ ap (λ (j : Job). map.remove c.self.inside.jobs.jobs (leaf_of j)) c.job-job.ensures.job)
