@@ -21,11 +21,13 @@ pub mod KeepSteps
 pub mod ListedLaws
 pub mod MergeNames
 pub mod MergeSteps
+pub mod MountLaws
 pub mod MovingAlong
 pub mod NamedLaws
 pub mod NewLaws
 pub mod NoNames
 pub mod NoneLaws
+pub mod NumbersMade
 pub mod ObjectLaws
 pub mod PageLaws
 pub mod PrepareLaws

@@ -6,6 +6,7 @@ pub mod Frags
 pub mod Going
 pub mod Joining
 pub mod Made
+pub mod Mounted
 pub mod New
 pub mod Objects
 pub mod Pages

@@ -125,8 +125,8 @@ fn put_root(alloc: Global, caches: &mut Caches) -> Result<(), Refusal>
     Ok(())
 }
 
-// Whether a store has objects.
-fn has_objects<S: Store>(alloc: Global, store: &mut S) -> Result<bool, Refusal>
+/// Whether a store has objects.
+pub(crate) fn has_objects<S: Store>(alloc: Global, store: &mut S) -> Result<bool, Refusal>
     ensures found { IfOk result (λ some. IsTrue some ↔ (S.objects store.old ≡ map.empty → ⊥)) }
     ensures same { S.objects store.new ≡ S.objects store.old }
     ensures refused { IfErr result (MayRefuse (S.faults store.old) (S.faults store.new)) }

@@ -6,9 +6,10 @@
 //! with its laws.
 #![tactic(auto)]
 
-// the type, and a new tree
+// the type, a new tree, and one over a store as it is found
 mod formatting;
 mod mdcache;
+mod mounting;
 
 // what stands beside directories and caches: the jobs, the objects that are to be removed, the numbers that are given out
 mod counters;
@@ -58,5 +59,6 @@ pub use going::{Going, GoingLeaf};
 pub use holders::Holders;
 pub use laws::{changes_are_right, merges_are_right, splits_are_right};
 pub use mdcache::MdCache;
+pub use mounting::Opening;
 pub use page::Page;
 pub use prepared::{MovingEntry, NewDirectory};

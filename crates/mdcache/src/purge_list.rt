@@ -1,6 +1,8 @@
 //! `PurgeList`, what a contract sees of it, and its calls.
 ghost use Rattle.std.specs.Prelude.{◌≡◌, ◌≤◌, ◌<◌, ◌+◌, ℕ, List, string_bytes, IsOk, OnOk, OnErr, IfSome, IfNone, option_copied};
 ghost use Rattle.std.specs.FinMap as map;
+ghost use Rattle.sorted_map.specs.SortedMap.{contents};
+ghost use Rattle.objstore.specs.Omap.{key_cmp};
 ghost use Rattle.mdcache.specs.PurgeList.{first_name};
 
 use mds_types::{Text, TextRef};
@@ -36,6 +38,13 @@ impl PurgeList {
         PurgeList {
             names: SortedMap::new(alloc),
         }
+    }
+
+    /// The list of these names. Takes no memory.
+    pub fn of(names: SortedMap<Text, ()>) -> PurgeList
+        ensures { result.names ≡ contents key_cmp names }
+    {
+        PurgeList { names }
     }
 
     /// How many names wait.
