@@ -70,6 +70,30 @@ impl<S: Store + Drop> MdCache<S> {
         }
     }
 
+    /// The store, handed back; all else is dropped.
+    pub fn into_store(self) -> S
+        ensures objects { S.objects result ≡ self.objects }
+        ensures faults { S.faults result ≡ self.faults }
+    {
+        let MdCache {
+            dirs,
+            caches,
+            store,
+            jobs,
+            purge,
+            next: _,
+            prepared,
+            alloc: _,
+            kept: _,
+        } = self;
+        drop(dirs);
+        drop(caches);
+        drop(jobs);
+        drop(purge);
+        drop(prepared);
+        store
+    }
+
     // The tree over a store that has no object.
     fn mount_new(
         alloc: Global,
