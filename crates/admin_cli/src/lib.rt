@@ -1,4 +1,4 @@
-//! The engine of the `cephmeta` program: its command line, and the script that it runs over a cluster.
+//! The engine of the `cephmeta` program: its command line, the script that it runs over a cluster, and the load that it serves.
 #![tactic(auto)]
 
 mod authorities;
@@ -7,8 +7,11 @@ mod commands;
 mod faults;
 mod kept_jobs;
 mod script;
+mod serving;
 mod store_commands;
 
 pub use command_line::{Options, settings};
 pub use faults::{FaultKind, ScriptFault};
 pub use script::run_script;
+pub use serving::serve;
+pub use workload::{Load, ServeFault};

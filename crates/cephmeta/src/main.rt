@@ -2,16 +2,11 @@
 #![tactic(auto)]
 
 ghost use Rattle.std.specs.Prelude.{◌≤◌};
-ghost use Rattle.workload.specs.Loads.{IsLoad};
 
-use admin_cli::{Options, run_script, settings};
-use rank_threads::OpenGate;
+use admin_cli::{Options, ServeFault, run_script, serve, settings};
 use std::io::{IsTerminal, Read};
 use std::process::ExitCode;
-use std::sync::Wait;
-use std::thread::Threads;
 use std::{env, io};
-use workload::{Load, Progress, ServeFault, run_watched};
 
 /// The status of a command line that can't be read, for want of memory too.
 const BAD_COMMAND_LINE: u8 = 2;
@@ -29,7 +24,10 @@ fn main(rt: HostRuntime) -> io::Result<ExitCode> {
     };
     match settings(rt.alloc(), words.as_slice()) {
         Ok(Options::Script { ranks, cache }) => script(&rt, rt.reader(), ranks, cache),
-        Ok(Options::Serve(load)) => serve(&rt, load, rt.stderr().is_terminal()),
+        Ok(Options::Serve(load)) => {
+            let is_watched = rt.stderr().is_terminal();
+            served(&rt, serve(&rt, &mut io::writer(&rt), load, is_watched))
+        }
         Err(error) => {
             error.print(&rt)?;
             Ok(ExitCode::from(if error.use_stderr() {
@@ -68,19 +66,8 @@ fn script<H: AllocGlobal + Print + Eprint, I: Read + Drop>(
     }
 }
 
-// Serves a load, and tells how far it has come where somebody looks on.
-fn serve<H: Threads + Wait + Sync + AllocGlobal + Print + Eprint>(
-    rt: &H,
-    load: Load,
-    is_watched: bool,
-) -> io::Result<ExitCode>
-    requires { IsLoad load.ranks load.workers load.clients load.creates }
-{
-    let ended = if is_watched {
-        run_watched(rt, &mut io::writer(rt), load, &Progress::new(rt, load))
-    } else {
-        run_watched(rt, &mut io::writer(rt), load, &OpenGate)
-    };
+// The status of a run, whose fault is told on standard error.
+fn served(rt: &impl Eprint, ended: Result<(), ServeFault>) -> io::Result<ExitCode> {
     match ended {
         Ok(()) => return Ok(ExitCode::SUCCESS),
         Err(ServeFault::Fault(number)) => eprintln!(rt; "cephmeta: fault {number}")?,

@@ -17,14 +17,13 @@ use Rattle.objstore.specs.Objects.{Objects}
 use Rattle.namehash.specs.Rjenkins.{hash_of}
 use Rattle.fragtree.specs.FragTree.{HasLeaf, IsTree}
 use Rattle.fragtree.proofs.TreeLaws.{pick_from_leaf}
-use Rattle.dentry_cache.specs.Loading.{object_of}
+use Rattle.dentry_cache.specs.Loading.{IsSaved, object_of}
 use Rattle.dentry_cache.specs.Ties.{names_at}
 use Rattle.inode_table.specs.declared.dirs.Home.{Home}
 use Rattle.inode_table.specs.Dirs.{Covers, is_known, leaves_of, or_whole}
 use Rattle.inode_table.specs.TreeTable.{HoldsHomes, home_at}
 use Rattle.cold_store.specs.ColdTree.{HasRecords, IsColdLeaf, IsReached, IsRecord, IsSamePlace, Record, SaysLeaves, tree_of}
 use Rattle.cold_store.specs.Rows.{AreGoodDirs, IsIn, Shape, cover_in, covers_from, leaves_at, rows_from, start, with_rows}
-use Rattle.cold_store.specs.Walked.{HasWhole}
 use Rattle.cold_store.proofs.Members.{in_empty, value_of}
 use Rattle.cold_store.proofs.ObjectLaws.{belongs, good_bare, good_says, said_tree}
 use Rattle.cold_store.proofs.RowLaws.{IsEntryOf, IsHomeOf, dentry_at, dir_among, dirs_of, entry_among, home_among, homes_stand, in_dirs_of, is_dir, one_row, rows_stand}
@@ -51,7 +50,7 @@ module _ (objects : Objects) (queue : List Ino) (good : AreGoodDirs objects star
   good_at : (d : Ino) → IsReached objects d.0 → IsGood objects d
   good_at d above = each_good objects start queue d good (found d.0 above)
 
-  pub whole_leaf : (leaf : Leaf) → IsReached objects leaf.0.0 → IsColdLeaf objects leaf → HasWhole leaf.1 (object_of objects leaf.0 leaf.1)
+  pub whole_leaf : (leaf : Leaf) → IsReached objects leaf.0.0 → IsColdLeaf objects leaf → IsSaved leaf.1 (object_of objects leaf.0 leaf.1)
   whole_leaf leaf above cold = (good_at leaf.0 above).whole leaf.1 (of_cold_leaf objects leaf cold)
 
   pub once : (r q : Record) → IsReached objects r.leaf.0.0 → IsRecord objects r → IsReached objects q.leaf.0.0 → IsRecord objects q → r.inode.ino ≡ q.inode.ino → IsSamePlace r q

@@ -7,12 +7,11 @@ use Rattle.mds_types.specs.declared.ids.Ino.{Ino}
 use Rattle.objstore.specs.Objects.{Objects}
 use Rattle.fragtree.specs.FragTree.{HasLeaf}
 use Rattle.fragtree.proofs.TreeLaws.{first_or_later}
-use Rattle.dentry_cache.specs.Loading.{object_of}
+use Rattle.dentry_cache.specs.Loading.{IsSaved, object_of}
 use Rattle.inode_table.specs.Dirs.{Covers}
 use Rattle.std.proofs.Common.{arith}
 use Rattle.cold_store.specs.ColdTree.{tree_of}
 use Rattle.cold_store.specs.Rows.{AreGoodDirs, AreGoodLeaves, IsGoodDir, IsGoodTree, IsIn, Shape, are_new, cover_in, covers_from, leaves_at, rows_at, rows_from, rows_in, rows_under, with_cover, with_rows}
-use Rattle.cold_store.specs.Walked.{HasWhole}
 use Rattle.cold_store.proofs.RowLaws.{are_new-append, with_rows-append}
 
 module _ (objects : Objects) where
@@ -20,12 +19,12 @@ module _ (objects : Objects) where
   leaves_new s d [] good = refl
   leaves_new s d (f ∷ fs) good = are_new-append s (rows_at objects (d, f)) (rows_under objects d fs) good.0.new (leaves_new (with_rows s (rows_at objects (d, f))) d fs good.1)
 
-  pub leaves_whole : (s : Shape) (d : Ino) (fs : List Fragment) (f : Fragment) → AreGoodLeaves objects s d fs → HasLeaf fs f → HasWhole f (object_of objects d f)
+  pub leaves_whole : (s : Shape) (d : Ino) (fs : List Fragment) (f : Fragment) → AreGoodLeaves objects s d fs → HasLeaf fs f → IsSaved f (object_of objects d f)
   leaves_whole s d [] f good (k, less, is) = absurd (omega (arith, less))
   leaves_whole s d (g ∷ fs) f good has = go (leaves_whole (with_rows s (rows_at objects (d, g))) d fs f good.1) (first_or_later g f fs has)
     where
-      go : (HasLeaf fs f → HasWhole f (object_of objects d f)) → (g ≡ f) ⊎ HasLeaf fs f → HasWhole f (object_of objects d f)
-      go more (inl same) = subst (λ k. HasWhole k (object_of objects d k)) same good.0.whole
+      go : (HasLeaf fs f → IsSaved f (object_of objects d f)) → (g ≡ f) ⊎ HasLeaf fs f → IsSaved f (object_of objects d f)
+      go more (inl same) = subst (λ k. IsSaved k (object_of objects d k)) same good.0.whole
       go more (inr rest) = more rest
 
   pub good-snoc : (s : Shape) (ds : List Ino) (d : Ino) → AreGoodDirs objects s ds → IsGoodDir objects (with_rows s (rows_from objects ds)) d → AreGoodDirs objects s (ds ++ d ∷ [])
@@ -40,7 +39,7 @@ module _ (objects : Objects) where
   -- what stands whatever was found before
   pub record IsGood (d : Ino) : Type 0 where
     pub tree : IsGoodTree (tree_of objects d) (cover_in objects d)
-    pub whole : (f : Fragment) → HasLeaf (leaves_at objects d) f → HasWhole f (object_of objects d f)
+    pub whole : (f : Fragment) → HasLeaf (leaves_at objects d) f → IsSaved f (object_of objects d f)
 
   pub each_good : (s : Shape) (ds : List Ino) (d : Ino) → AreGoodDirs objects s ds → IsIn d ds → IsGood d
   each_good s [] d good h = absurd h

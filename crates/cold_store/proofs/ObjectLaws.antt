@@ -1,14 +1,13 @@
 -- What one object says: the names of a leaf's, and the leaves of a tree's.
-use Rattle.std.proofs.Common.{◌≡◌, ℕ, Bool, true, false, List, [], ◌∷◌, Option, Some, None, refl, sym, ap, subst, ◌∙◌, arith}
+use Rattle.std.proofs.Common.{◌≡◌, ℕ, Bool, true, false, List, [], ◌∷◌, Option, Some, None, sym, ap, subst, ◌∙◌}
 use Rattle.std.proofs.lemmas.Option.{same_Some}
 use Rattle.std.specs.Option.{unwrap_or}
-use Rattle.std.specs.Prelude.{◌≤◌, cond}
+use Rattle.std.specs.Prelude.{cond}
 use Rattle.std.specs.FinMap as map
-use Rattle.std.specs.FinMap.{len-empty}
 use Rattle.mds_types.specs.Frag.{Contains, Fragment, root_fragment}
 use Rattle.mds_types.specs.declared.inodes.Inode.{Inode}
 use Rattle.objstore.specs.EntryKeys.{entry_key}
-use Rattle.objstore.specs.Omap.{Omap, PairMap, key_cmp}
+use Rattle.objstore.specs.Omap.{Omap, PairMap}
 use Rattle.namehash.specs.Rjenkins.{hash_of}
 use Rattle.fragtree.specs.FragTree.{IsTree}
 use Rattle.fragtree.proofs.Kept.{whole_tree}
@@ -20,14 +19,11 @@ use Rattle.dirfrag_codec.specs.Values.{entry_of, is_name, tree_of as leaves_spel
 use Rattle.dirfrag_codec.proofs.FragmentLaws.{shows_at_each, spells_what_it_shows}
 use Rattle.dirfrag_codec.proofs.TreeLaws.{one_tree}
 use Rattle.dirfrag_codec.proofs.ValueLaws.{read_as, reads_entry, reads_tree, spelled_as}
-use Rattle.cached_frag.specs.Cached.{Cached, shown}
-use Rattle.cached_frag.proofs.ShownLaws.{only_below}
-use Rattle.dentry_cache.specs.Loading.{Loads}
+use Rattle.dentry_cache.specs.Loading.{IsSaved, Loads}
 use Rattle.dentry_cache.specs.Ties.{names_at}
 use Rattle.inode_table.specs.Dirs.{or_whole}
 use Rattle.cold_store.specs.ColdTree.{SaysLeaves}
 use Rattle.cold_store.specs.Rows.{IsGoodTree, leaves_said}
-use Rattle.cold_store.specs.Walked.{HasWhole}
 
 -- ---- names
 
@@ -41,29 +37,12 @@ recordable pairs name inode is = go (is_name name) (map.get pairs (entry_key nam
     go false r e = absurd cc
 
 -- each name of a leaf that is whole belongs to it
-pub belongs : (f : Fragment) (o : Option Omap) (name : List ℕ) (inode : Inode) → HasWhole f o → map.get (names_at o) name ≡ Some inode → Contains f (hash_of name)
+pub belongs : (f : Fragment) (o : Option Omap) (name : List ℕ) (inode : Inode) → IsSaved f o → map.get (names_at o) name ≡ Some inode → Contains f (hash_of name)
 belongs f None name inode has stands = absurd has
 belongs f (Some object) name inode (version, names, whole) stands = whole.1 name inode (ap (λ (n : Names). map.get n name) (spells_what_it_shows object version names whole.0) ∙ stands)
 
--- what was loaded of an object shows its names, and the object is whole
-pub loaded_whole : (f : Fragment) (o : Option Omap) (c : Cached) → Loads f o (Some c) → HasWhole f o
-loaded_whole f None c loads = loads
-loaded_whole f (Some object) c (version, names, whole, is) = (version, names, whole)
-
-pub loaded_shows : (f : Fragment) (o : Option Omap) (c : Cached) → Loads f o (Some c) → shown c ≡ names_at o
-loaded_shows f None c loads = absurd loads
-loaded_shows f (Some object) c (version, names, whole, is) = ap shown is ∙ only_below names map.empty refl ∙ spells_what_it_shows object version names whole.0
-
--- nothing of it is dirty
-pub loaded_clean : (f : Fragment) (o : Option Omap) (c : Cached) → Loads f o (Some c) → c.dirty ≡ map.empty
-loaded_clean f None c loads = absurd loads
-loaded_clean f (Some object) c (version, names, whole, is) = ap (λ (d : Cached). d.dirty) is
-
-pub loaded_fits : (f : Fragment) (o : Option Omap) (c : Cached) → Loads f o (Some c) → map.len c.dirty ≤ c.places
-loaded_fits f o c loads = let none : map.len c.dirty ≡ 0 = ap map.len (loaded_clean f o c loads) ∙ len-empty key_cmp _ in omega (arith, none)
-
 -- an object that is whole isn't off
-pub whole_loads : (f : Fragment) (o : Option Omap) → HasWhole f o → Loads f o None → ⊥
+pub whole_loads : (f : Fragment) (o : Option Omap) → IsSaved f o → Loads f o None → ⊥
 whole_loads f None has off = has
 whole_loads f (Some object) (version, names, whole) off = off version names whole
 

@@ -18,12 +18,11 @@ use Rattle.objstore.specs.Objects.{Objects}
 use Rattle.dirfrag_codec.specs.FragmentObject.{SpellsTreeObject}
 use Rattle.dirfrag_codec.specs.Reading.{◌>>=◌}
 use Rattle.dirfrag_codec.specs.Values.{tree_of as leaves_spelled}
-use Rattle.dentry_cache.specs.Loading.{Loads, object_of}
+use Rattle.dentry_cache.specs.Loading.{IsSaved, Loads, object_of}
 use Rattle.dentry_cache.specs.Ties.{names_at}
 use Rattle.inode_table.specs.Dirs.{Covers, Homes, is_known}
 use Rattle.inode_table.specs.TreeTable.{with_home}
 use Rattle.cold_store.specs.ColdTree.{IsReached, Record, tree_of}
-use Rattle.cold_store.specs.Walked.{HasWhole}
 
 -- an element of a list
 abbrev pub IsIn : {X : Type 0} → X → List X → Type 0
@@ -126,7 +125,7 @@ covers_from objects covers (d ∷ ds) = covers_from objects (with_cover covers d
 
 -- a leaf's object is whole, and no number in it was met; or it isn't, or one was
 pub record IsGoodLeaf (objects : Objects) (s : Shape) (leaf : Leaf) : Type 0 where
-  pub whole : HasWhole leaf.1 (object_of objects leaf.0 leaf.1)
+  pub whole : IsSaved leaf.1 (object_of objects leaf.0 leaf.1)
   pub new : are_new s (rows_at objects leaf) ≡ true
 
 abbrev pub IsBadLeaf : Objects → Shape → Leaf → Type 0

@@ -13,15 +13,10 @@ use Rattle.mds_types.specs.declared.refusals.Refusal.TheVariants.{NoMemory, Stor
 use Rattle.objstore.specs.Omap.{Keys, Omap}
 use Rattle.objstore.specs.Objects.{Objects}
 use Rattle.dirfrag_codec.specs.FragmentObject.{Names}
-use Rattle.dentry_cache.specs.Loading.{IsWhole, object_of}
+use Rattle.dentry_cache.specs.Loading.{IsSaved, object_of}
 use Rattle.inode_table.specs.Dirs.{Covers, Homes, IsTable, is_known, leaves_of}
 use Rattle.inode_table.specs.TreeTable.{HoldsHomes, IsTabled}
 use Rattle.cold_store.specs.ColdTree.{HasRecords, IsColdLeaf, IsFaulty, IsReached, IsRecord, IsSamePlace, Record, SaysLeaves, tree_of}
-
--- a leaf's object is there, and spells a fragment of it whole
-abbrev pub HasWhole : Fragment → Option Omap → Type 0
-HasWhole frag None = ⊥
-HasWhole frag (Some object) = (version : ℕ) × (names : Names) × IsWhole frag object version names
 
 -- an object is that of a reached leaf, or the tree object of a reached directory
 abbrev pub IsReachedObject : Objects → List ℕ → Type 0
@@ -32,7 +27,7 @@ IsReachedObject objects name =
 -- the names of the objects that weren't reached
 pub record IsWalked (objects : Objects) (tree : Tree) (homes : Homes) (covers : Covers) (left : Keys) : Type 0 where
   -- each leaf's object spells it whole
-  pub whole : (leaf : Leaf) → IsReached objects leaf.0.0 → IsColdLeaf objects leaf → HasWhole leaf.1 (object_of objects leaf.0 leaf.1)
+  pub whole : (leaf : Leaf) → IsReached objects leaf.0.0 → IsColdLeaf objects leaf → IsSaved leaf.1 (object_of objects leaf.0 leaf.1)
   -- no inode number stands in two records
   pub once : (r q : Record) → IsReached objects r.leaf.0.0 → IsRecord objects r → IsReached objects q.leaf.0.0 → IsRecord objects q → r.inode.ino ≡ q.inode.ino → IsSamePlace r q
   pub records : HasRecords objects tree

@@ -1,10 +1,10 @@
 -- An object read pair by pair, and the fragment that it spells.
-use Rattle.std.proofs.Common.{◌≡◌, ℕ, ◌^◌, ◌/◌, ◌%◌, Bool, true, false, cond, ◌⊎◌, inl, inr, List, [], ◌∷◌, Option, Some, None, refl, sym, ap, subst, ◌∙◌}
-use Rattle.std.specs.Prelude.{T}
+use Rattle.std.proofs.Common.{◌≡◌, ℕ, ◌^◌, ◌/◌, ◌%◌, Bool, true, false, cond, ◌⊎◌, inl, inr, List, [], ◌∷◌, Option, Some, None, refl, sym, ap, subst, ◌∙◌, arith}
+use Rattle.std.specs.Prelude.{◌≤◌, T}
 use Rattle.std.specs.Ordering.{eq_by_cmp}
 use Rattle.std.proofs.lemmas.Bool.{and_from, and_parts, eqb-true, eq-eqb}
 use Rattle.std.specs.FinMap as map
-use Rattle.std.specs.FinMap.{find, is_sorted, entries_sorted, get-empty, get-entries}
+use Rattle.std.specs.FinMap.{find, is_sorted, entries_sorted, get-empty, get-entries, len-empty}
 use Rattle.sorted_map.proofs.Bools.{left_of, right_of}
 use Rattle.sorted_map.proofs.Filters.{all_kept}
 use Rattle.sorted_map.specs.SortedMap.{Shown, contents}
@@ -20,7 +20,7 @@ use Rattle.dirfrag_codec.specs.FragHeader.{SpellsHeader}
 use Rattle.dirfrag_codec.specs.FragmentObject.{HasPair, IsPairOf, Names, SpellsKey, SpellsNames, header_for, with_entry}
 use Rattle.dirfrag_codec.specs.Values.{entry_of, name_of}
 use Rattle.dirfrag_codec.proofs.ByteKeys.{get_beside, get_put, key_apart, key_same, not_found, same_or_apart}
-use Rattle.dirfrag_codec.proofs.FragmentLaws.{names_shown, one_name}
+use Rattle.dirfrag_codec.proofs.FragmentLaws.{names_shown, one_name, spells_what_it_shows}
 use Rattle.dirfrag_codec.proofs.HeaderLaws.{one_header}
 use Rattle.dirfrag_codec.proofs.RecordLaws.{one_entry}
 use Rattle.dirfrag_codec.proofs.ValueLaws.{one_key, read_as, reads_entry, reads_key, spelled_as}
@@ -28,8 +28,9 @@ use Rattle.cached_frag.specs.declared.bases.Base.TheVariants.{Stored}
 use Rattle.cached_frag.specs.Snap.{counts_of}
 use Rattle.cached_frag.specs.Cached.{AreEntries, Cached, shown}
 use Rattle.cached_frag.proofs.ShownLaws.{only_below}
-use Rattle.dentry_cache.specs.Loading.{AreWithin, IsWhole, Loads}
+use Rattle.dentry_cache.specs.Loading.{AreWithin, IsSaved, IsWhole, Loads}
 use Rattle.dentry_cache.specs.Pairs.{AreNamesOf, IsCounted, IsHeaderOf, added, are_good, holds, is_good, is_good_as}
+use Rattle.dentry_cache.specs.Ties.{names_at}
 
 -- ---- good pairs
 
@@ -243,3 +244,23 @@ loaded_is frag None now names header f loaded same h n is counted = absurd h
 loaded_is frag (Some object) now names header f loaded same h n is counted =
     let m = subst (λ (o : Option Omap). AreNamesOf frag o (Some names)) same n in
     counted_whole frag object (contents key_cmp names) header f h m.1 m.2 names.room is loaded counted
+
+-- ---- what was read of it
+
+-- the object is there, whole
+pub loaded_is_saved : (frag : Fragment) (object : Option Omap) (f : Cached) → Loads frag object (Some f) → IsSaved frag object
+loaded_is_saved frag None f loads = loads
+loaded_is_saved frag (Some object) f (version, names, whole, is) = (version, names, whole)
+
+-- its names are those that the fragment shows
+pub loaded_shows : (frag : Fragment) (object : Option Omap) (f : Cached) → Loads frag object (Some f) → shown f ≡ names_at object
+loaded_shows frag None f loads = absurd loads
+loaded_shows frag (Some object) f (version, names, whole, is) = ap shown is ∙ only_below names map.empty refl ∙ spells_what_it_shows object version names whole.0
+
+-- and none of them is dirty
+none_dirty : (frag : Fragment) (object : Option Omap) (f : Cached) → Loads frag object (Some f) → f.dirty ≡ map.empty
+none_dirty frag None f loads = absurd loads
+none_dirty frag (Some object) f (version, names, whole, is) = ap (λ (d : Cached). d.dirty) is
+
+pub loaded_fits : (frag : Fragment) (object : Option Omap) (f : Cached) → Loads frag object (Some f) → map.len f.dirty ≤ f.places
+loaded_fits frag object f loads = let none : map.len f.dirty ≡ 0 = ap map.len (none_dirty frag object f loads) ∙ len-empty key_cmp _ in omega (arith, none)

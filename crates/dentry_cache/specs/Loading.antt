@@ -23,6 +23,11 @@ AreWithin frag names = (name : List ℕ) (inode : Inode) → map.get names name 
 abbrev pub IsWhole : Fragment → Omap → ℕ → Names → Type 0
 IsWhole frag object version names = SpellsFragment object version names × AreWithin frag names
 
+-- the object of a leaf is there, and spells a fragment of it whole
+abbrev pub IsSaved : Fragment → Option Omap → Type 0
+IsSaved frag None = ⊥
+IsSaved frag (Some object) = (version : ℕ) × (names : Names) × IsWhole frag object version names
+
 -- what is read of the object: the fragment that it spells; none exactly where it is absent or spells none
 abbrev pub Loads : Fragment → Option Omap → Option Cached → Type 0
 Loads frag None (Some f) = ⊥

@@ -21,7 +21,7 @@ use Rattle.dentry_cache.specs.CacheMap.{At, CacheMap, IsFree, at, here, leaf_of,
 use Rattle.dentry_cache.specs.CacheCalls.{Edits, KeepsNone}
 use Rattle.dentry_cache.specs.CacheSplits.{IsKeptFor}
 use Rattle.dentry_cache.specs.Came.{Came, IsThat, NoneEnds}
-use Rattle.dentry_cache.specs.Loading.{Loads, object_of}
+use Rattle.dentry_cache.specs.Loading.{IsSaved, Loads, object_of}
 use Rattle.dentry_cache.specs.Reads.{IsButRoom, IsReadOf, Reads}
 use Rattle.dentry_cache.specs.Reads.Reads.{stays as it_stays}
 use Rattle.dentry_cache.specs.Ties.{IsTiedAt}
@@ -41,7 +41,7 @@ use Rattle.mdcache.specs.Ready.{MayNotBeReady}
 use Rattle.mdcache.specs.declared.prepared.Prepared.{Prepared}
 use Rattle.mdcache.specs.Reads.{MayNotFind}
 use Rattle.mdcache.specs.Shown.{names_of, shown_at}
-use Rattle.mdcache.specs.Sound.{IsSaved, IsSound}
+use Rattle.mdcache.specs.Sound.{IsSound}
 use Rattle.mdcache.specs.State.{IsLive, State, UnsavedLeaves}
 use Rattle.mdcache.proofs.EndLaws.{cached_shows}
 use Rattle.dentry_cache.proofs.FrameLaws.{came_cap, came_ranks}

@@ -21,7 +21,7 @@ use Rattle.cached_frag.specs.Marks.{Marks, patched, with_marks}
 use Rattle.cached_frag.specs.Snap.{Snap, next_version}
 use Rattle.cached_frag.specs.Cached.{Cached, is_clean, is_clean_over, is_settled, shown, shown_over, unsettled}
 use Rattle.cached_frag.proofs.SettledLaws.{get-unsettled}
-use Rattle.dentry_cache.specs.Loading.{object_of}
+use Rattle.dentry_cache.specs.Loading.{IsSaved, object_of}
 use Rattle.dentry_cache.specs.Cache.{Leaf, Unsaved, leaf_is, unsaved_of, with_unsaved}
 use Rattle.dentry_cache.specs.CacheMap.{At, at, here as here_of, unclean, unsaved_at, with_frag}
 use Rattle.dentry_cache.specs.Commits.{IsCommitted}
@@ -33,7 +33,7 @@ use Rattle.dentry_cache.proofs.TieLaws.{committed_are_tied, tied_show}
 use Rattle.mdcache.specs.Core.{AreCached, Core, IsCachedIn, IsSoundCore, state_of}
 use Rattle.mdcache.specs.Commits.{HasSpelled, IsEnded, committed, leaf_of, left_of, names_then}
 use Rattle.mdcache.specs.Shown.{names_of, shown_at, shown_tree}
-use Rattle.mdcache.specs.Sound.{AreYoung, IsOf, IsOwned, IsSaved, IsSound, IsStanding, IsUnsaved}
+use Rattle.mdcache.specs.Sound.{AreYoung, IsOf, IsOwned, IsSound, IsStanding, IsUnsaved}
 use Rattle.mdcache.specs.State.{IsLive, State, text_of}
 use Rattle.dentry_cache.proofs.ReadsLaws.{here_is}
 use Rattle.dentry_cache.proofs.StepLaws.{get_with_frag}

@@ -11,7 +11,7 @@ use Rattle.dentry_cache.specs.Cache.{IsThere, Leaf, leaf_is}
 use Rattle.dentry_cache.specs.CacheCalls.{FetchesAt, IsAbsent, KeepsNone, MakesRoomAt, MayNotFetchAt}
 use Rattle.dentry_cache.specs.CacheMap.{AreCaches, CacheMap, at, at_rank, first, has_place, here, leaf_of, order, roomy, unclean, unsaved_at, used_at}
 use Rattle.dentry_cache.specs.Came.{NoneEnds, StaysNamed}
-use Rattle.dentry_cache.specs.Loading.{Loads, object_of}
+use Rattle.dentry_cache.specs.Loading.{IsSaved, Loads, object_of}
 use Rattle.dentry_cache.specs.Reads.{Reads}
 use Rattle.dentry_cache.specs.Reads.Reads.{stays as it_stays}
 use Rattle.dentry_cache.specs.declared.dirfrag.Dirfrag.{Dirfrag}
@@ -24,7 +24,6 @@ use Rattle.dentry_cache.proofs.UncleanLaws.{get_unclean}
 use Rattle.mdcache.specs.CacheReads.{IsNewest, LacksPlacesIn}
 use Rattle.mdcache.specs.Core.{Core, MayFetch, ReadsCore}
 use Rattle.mdcache.specs.Reads.{MayNotFind}
-use Rattle.mdcache.specs.Sound.{IsSaved}
 use Rattle.mdcache.proofs.CoreLaws.{first_step, no_less_itself}
 use Rattle.mdcache.proofs.NoneLaws.{none_fetched, none_room}
 use Rattle.mdcache.proofs.UncleanOf.{full_lacks}

@@ -21,7 +21,7 @@ use Rattle.dirfrag_codec.specs.FragmentObject.{Names}
 use Rattle.dirfrag_codec.proofs.ByteKeys.{get_left, get_removed, same_or_apart as key_or_apart}
 use Rattle.cached_frag.specs.declared.jobs.Job.{Job}
 use Rattle.cached_frag.proofs.ShownLaws.{only_below}
-use Rattle.dentry_cache.specs.Loading.{object_of}
+use Rattle.dentry_cache.specs.Loading.{IsSaved, object_of}
 use Rattle.dentry_cache.specs.Cache.{Leaf, Unsaved, leaf_is}
 use Rattle.dentry_cache.proofs.LeafLaws.{leaf-total, leaf_itself, leaf_or_apart, tied_leaf}
 use Rattle.inode_table.specs.declared.dirs.Home.{Home}
@@ -31,7 +31,7 @@ use Rattle.inode_table.proofs.Tables.{adopted_table, known_by, moved_table, stil
 use Rattle.inode_table.proofs.TableLaws.{dir_or_not, with_dir, with_file}
 use Rattle.mdcache.specs.Changes.{first_leaf, just_made, with_directory}
 use Rattle.mdcache.specs.Shown.{names_of, shown_at, shown_tree}
-use Rattle.mdcache.specs.Sound.{IsOwned, IsSaved, IsStanding, IsUnsaved}
+use Rattle.mdcache.specs.Sound.{IsOwned, IsStanding, IsUnsaved}
 use Rattle.mdcache.specs.State.{IsLive, State, text_of}
 use Rattle.mdcache.proofs.NamedLaws.{HasSoundLeaves, known_or_not, pick_at, stands_at, stands_nowhere}
 use Rattle.mdcache.proofs.SoundLaws.{names_alike}

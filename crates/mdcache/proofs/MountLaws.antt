@@ -24,7 +24,7 @@ use Rattle.dirfrag_codec.proofs.TreeLaws.{one_tree}
 use Rattle.dentry_cache.specs.Cache.{leaf_is}
 use Rattle.dentry_cache.specs.CacheCalls.{KeepsNone}
 use Rattle.dentry_cache.specs.CacheMap.{CacheMap, no_caches, unclean, unsaved_at}
-use Rattle.dentry_cache.specs.Loading.{object_of}
+use Rattle.dentry_cache.specs.Loading.{IsSaved, object_of}
 use Rattle.dentry_cache.specs.Ties.{names_at}
 use Rattle.dentry_cache.proofs.LeafLaws.{leaf-exact, leaf-total}
 use Rattle.dentry_cache.proofs.UncleanLaws.{get_unclean}
@@ -32,7 +32,7 @@ use Rattle.inode_table.specs.declared.dirs.Home.{Home}
 use Rattle.inode_table.specs.Dirs.{Covers, Homes, is_known, leaves_of}
 use Rattle.inode_table.specs.TreeTable.{IsTabled}
 use Rattle.cold_store.specs.ColdTree.{IsColdLeaf, IsColdTree, IsReached, IsRecord, SaysLeaves, tree_of}
-use Rattle.cold_store.specs.Walked.{HasWhole, IsReachedObject, IsWalked}
+use Rattle.cold_store.specs.Walked.{IsReachedObject, IsWalked}
 use Rattle.cold_store.proofs.ObjectLaws.{said_tree}
 use Rattle.cold_store.proofs.StoreRows.{allowed}
 use Rattle.cold_store.proofs.TabledLaws.{walked_is_tabled}
@@ -40,7 +40,7 @@ use Rattle.cold_store.proofs.WalkedLaws.{is_cold, known_there as known_by}
 use Rattle.mdcache.specs.Core.{AreCached, Core, IsSoundCore, shown_in, state_of}
 use Rattle.mdcache.specs.Mounted.{IsMounted, IsNew, mounted}
 use Rattle.mdcache.specs.Shown.{names_of as shown_names, shown_at, shown_tree}
-use Rattle.mdcache.specs.Sound.{IsOwned, IsSaved, IsSound}
+use Rattle.mdcache.specs.Sound.{IsOwned, IsSound}
 use Rattle.mdcache.specs.State.{IsLive, State, text_of}
 use Rattle.mdcache.proofs.NewLaws.{new_tree}
 use Rattle.mdcache.proofs.NoneLaws.{none_only}
@@ -107,12 +107,8 @@ module _ (objects : Objects) (tree : Tree) (homes : Homes) (covers : Covers) (pu
 
   -- ---- what is whole
 
-  saved_of : (f : Fragment) (o : Option Omap) → HasWhole f o → IsSaved f o
-  saved_of f None has = has
-  saved_of f (Some object) has = has
-
   saved : (leaf : Leaf) → IsLive homes covers leaf → IsSaved leaf.1 (object_of objects leaf.0 leaf.1)
-  saved leaf live = saved_of leaf.1 (object_of objects leaf.0 leaf.1) (w.whole leaf (reached_there leaf.0.0 live.known) (cold_leaf leaf live))
+  saved leaf live = w.whole leaf (reached_there leaf.0.0 live.known) (cold_leaf leaf live)
 
   belongs : (f : Fragment) (o : Option Omap) (name : List ℕ) (inode : Inode) → IsSaved f o → map.get (names_at o) name ≡ Some inode → Contains f (hash_of name)
   belongs f None name inode has stands = absurd has

@@ -24,7 +24,7 @@ use Rattle.cached_frag.specs.Marks.{Marks, with_mark}
 use Rattle.cached_frag.proofs.MarkLaws.{marked_beside, marked_here}
 use Rattle.cached_frag.specs.Cached.{shown_over}
 use Rattle.cached_frag.proofs.ShownLaws.{only_below, shown_put}
-use Rattle.dentry_cache.specs.Loading.{object_of}
+use Rattle.dentry_cache.specs.Loading.{IsSaved, object_of}
 use Rattle.dentry_cache.specs.Cache.{Leaf, Unsaved, leaf_is}
 use Rattle.dentry_cache.specs.Ties.{Keeps, KeepsAt, names_at}
 use Rattle.dentry_cache.proofs.LeafLaws.{leaf-total, leaf_itself, leaf_or_apart, tied_leaf}
@@ -34,7 +34,7 @@ use Rattle.inode_table.proofs.Tables.{tree_of_row}
 use Rattle.namespace_ops.specs.Changes.{IsLeafAt}
 use Rattle.mdcache.specs.Changes.{Counts, IsAsItStands, dirtied, with_name}
 use Rattle.mdcache.specs.Shown.{names_of, shown_at, shown_tree}
-use Rattle.mdcache.specs.Sound.{AreYoung, IsOwned, IsSaved, IsSound, IsStanding, IsUnsaved}
+use Rattle.mdcache.specs.Sound.{AreYoung, IsOwned, IsSound, IsStanding, IsUnsaved}
 use Rattle.mdcache.specs.State.{IsLive, State, text_of}
 use Rattle.mdcache.proofs.ShownLaws.{found_at, found_nowhere}
 use Rattle.mdcache.proofs.SoundLaws.{names_alike}

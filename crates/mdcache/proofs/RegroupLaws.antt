@@ -28,7 +28,7 @@ use Rattle.cached_frag.specs.Marks.{inode_or}
 use Rattle.cached_frag.proofs.MarkLaws.{get-patched}
 use Rattle.cached_frag.specs.Cached.{shown_over}
 use Rattle.cached_frag.specs.Moving.{marked_as}
-use Rattle.dentry_cache.specs.Loading.{object_of}
+use Rattle.dentry_cache.specs.Loading.{IsSaved, object_of}
 use Rattle.dentry_cache.specs.Pairs.{holds}
 use Rattle.dentry_cache.proofs.LoadLaws.{holds_contains}
 use Rattle.dentry_cache.specs.Cache.{Leaf, Unsaved, leaf_is}
@@ -41,7 +41,7 @@ use Rattle.namespace_ops.specs.Changes.{in_directory}
 use Rattle.mdcache.specs.Made.{StaysAsItIs}
 use Rattle.mdcache.specs.Reads.{has_none}
 use Rattle.mdcache.specs.Shown.{names_of, shown_at, shown_tree}
-use Rattle.mdcache.specs.Sound.{AreYoung, IsOwned, IsSaved, IsSound, IsStanding, IsUnsaved}
+use Rattle.mdcache.specs.Sound.{AreYoung, IsOwned, IsSound, IsStanding, IsUnsaved}
 use Rattle.mdcache.specs.Splits.{Comes, HasUnsaved, IsConcerned, IsNewLeaf, IsRegrouped, KeepsTree, are_empty, regrouped}
 use Rattle.mdcache.specs.State.{IsLive, State, text_of}
 use Rattle.mdcache.proofs.GoneLaws.{get_without, among}

@@ -8,7 +8,7 @@ use Rattle.objstore.specs.Omap.{Keys}
 use Rattle.objstore.specs.Objects.{Objects}
 use Rattle.dirfrag_codec.specs.FragmentObject.{Names}
 use Rattle.cached_frag.specs.declared.jobs.Job.{Job}
-use Rattle.dentry_cache.specs.Loading.{object_of}
+use Rattle.dentry_cache.specs.Loading.{IsSaved, object_of}
 use Rattle.dentry_cache.specs.Cache.{Leaf, Unsaved, leaf_is}
 use Rattle.dentry_cache.specs.CacheMap.{CacheMap}
 use Rattle.dentry_cache.specs.Ties.{IsTied}
@@ -16,7 +16,7 @@ use Rattle.dentry_cache.proofs.LeafLaws.{leaf-total, one_leaf, tied_leaf}
 use Rattle.mdcache.specs.Core.{AreCached}
 use Rattle.mdcache.specs.Commits.{leaf_of, with_job}
 use Rattle.mdcache.specs.Shown.{names_of, shown_at, shown_tree}
-use Rattle.mdcache.specs.Sound.{AreYoung, IsOf, IsOwned, IsSaved, IsSound, IsStanding}
+use Rattle.mdcache.specs.Sound.{AreYoung, IsOf, IsOwned, IsSound, IsStanding}
 use Rattle.mdcache.specs.State.{IsLive, State, text_of}
 use Rattle.mdcache.proofs.TreeLaws.{tree_alike}
 

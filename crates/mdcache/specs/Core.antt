@@ -13,7 +13,7 @@ use Rattle.cached_frag.specs.Cached.{Cached, snapshot_of}
 use Rattle.dentry_cache.specs.Cache.{Leaf}
 use Rattle.dentry_cache.specs.CacheMap.{At, CacheMap, IsFreeFor, leaf_of, unclean, used_at, with_frag, with_mark}
 use Rattle.dentry_cache.specs.Ended.{ended_all}
-use Rattle.dentry_cache.specs.Loading.{object_of}
+use Rattle.dentry_cache.specs.Loading.{IsSaved, object_of}
 use Rattle.dentry_cache.specs.Ties.{IsTied}
 use Rattle.dentry_cache.specs.declared.dirfrag.Dirfrag.{Dirfrag}
 use Rattle.inode_table.specs.declared.dirs.Home.{Home}
@@ -25,7 +25,7 @@ use Rattle.dentry_cache.specs.Reads.{Reads}
 use Rattle.mdcache.specs.CacheReads.{LacksPlacesIn}
 use Rattle.mdcache.specs.Ranks.{KeepsComing, KeepsOnlyAt}
 use Rattle.mdcache.specs.Shown.{shown_tree}
-use Rattle.mdcache.specs.Sound.{IsSaved, IsSound}
+use Rattle.mdcache.specs.Sound.{IsSound}
 use Rattle.mdcache.specs.State.{IsLive, State}
 use Rattle.mdcache.specs.StandingJobs.{Jobs}
 use Rattle.mdcache.specs.declared.prepared.Prepared.{Prepared}

@@ -1,19 +1,17 @@
 -- What every state keeps.
 use Rattle.std.specs.Prelude.{◌≡◌, ◌⊎◌, ℕ, ◌<◌, ◌^◌, true, is_some, List, Option, Some, None}
 use Rattle.std.specs.FinMap as map
-use Rattle.mds_types.specs.Frag.{Fragment}
 use Rattle.mds_types.specs.declared.ids.Ino.{Ino}
 use Rattle.mds_types.specs.declared.inodes.Inode.{Inode}
 use Rattle.objstore.specs.Omap.{Omap}
 use Rattle.namehash.specs.Rjenkins.{hash_of}
 use Rattle.fragtree.specs.FragTree.{IsPick}
-use Rattle.dirfrag_codec.specs.FragmentObject.{Names}
 use Rattle.cached_frag.specs.declared.jobs.Job.{Job}
 use Rattle.cached_frag.specs.declared.marks.Mark.{Mark}
 use Rattle.cached_frag.specs.Marks.{Marks}
 use Rattle.cached_frag.specs.Snap.{IsSnap, counts_of}
 use Rattle.cached_frag.specs.Cached.{shown_over}
-use Rattle.dentry_cache.specs.Loading.{IsWhole, object_of}
+use Rattle.dentry_cache.specs.Loading.{IsSaved, object_of}
 use Rattle.dentry_cache.specs.Cache.{Leaf, Unsaved}
 use Rattle.dentry_cache.specs.Ties.{Keeps, names_at}
 use Rattle.inode_table.specs.Dirs.{IsTable, is_known, leaves_of}
@@ -30,11 +28,6 @@ pub record IsUnsaved (s : State) (leaf : Leaf) (u : Unsaved) : Type 0 where
   pub live : IsLive s.homes s.covers leaf
   pub made : u.generation < s.next_generation
   pub young : AreYoung u.dirty s.next_version
-
--- the object of a clean fragment is there, and spells it whole
-abbrev pub IsSaved : Fragment → Option Omap → Type 0
-IsSaved f None = ⊥
-IsSaved f (Some object) = (version : ℕ) × (names : Names) × IsWhole f object version names
 
 -- a job's snapshot is of this fragment: base and generation are its own, each name of the snapshot is dirty still, and where its version
 -- is that of the snapshot so is its inode

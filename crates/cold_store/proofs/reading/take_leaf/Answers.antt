@@ -3,8 +3,8 @@ use Rattle.std.proofs.Common.{inr}
 use Rattle.std.specs.FinMap as map
 use Rattle.dirfrag_codec.specs.FragmentObject.{Names}
 use Rattle.dentry_cache.specs.Loading.{object_of}
+use Rattle.dentry_cache.proofs.LoadLaws.{loaded_fits, loaded_is_saved, loaded_shows}
 use Rattle.cold_store.specs.Rows.{are_new, rows_of, with_rows}
-use Rattle.cold_store.proofs.ObjectLaws.{loaded_fits, loaded_shows, loaded_whole}
 use Rattle.cold_store.proofs.Refusals.{added_refused, ok_then}
 use Rattle.cold_store.proofs.reading.take_leaf.Goals as goal
 
@@ -17,7 +17,7 @@ returns-in-Ok-clause-good g c =
     let names = c.into_names.ensures.names ∙ loaded_shows c.args.frag object c.in-Ok.loaded c.in-Ok.ensures.loaded in
     ok_then c.add_names.result
     (λ new. record {
-      whole = loaded_whole c.args.frag object c.in-Ok.loaded c.in-Ok.ensures.loaded;
+      whole = loaded_is_saved c.args.frag object c.in-Ok.loaded c.in-Ok.ensures.loaded;
       new = sym (ap (λ (n : Names). are_new c.args.found.now.shape (rows_of (c.args.dir, c.args.frag) (map.entries n))) names) ∙ new;
     })
     c.add_names.ensures.good
