@@ -20,5 +20,12 @@ pub fn serve<W: Write, H: Threads + Wait + Sync + AllocGlobal + Eprint>(
     if is_watched {
         return run_watched(rt, writer, load, &Progress::new(rt, load));
     }
-    run_serve(rt, writer, load.ranks, load.workers, load.clients, load.creates)
+    run_serve(
+        rt,
+        writer,
+        load.ranks,
+        load.workers,
+        load.clients,
+        load.creates,
+    )
 }

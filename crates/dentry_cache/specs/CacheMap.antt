@@ -5,16 +5,13 @@ use Rattle.std.specs.Option.{option_map}
 use Rattle.std.specs.List.{IsDistinct, list_any}
 use Rattle.std.specs.Map.{keys_of}
 use Rattle.std.specs.FinMap as finmap
+use Rattle.mds_types.specs.Leaf.{leaf_of}
 use Rattle.lru.specs.LruCache.{lru_cache}
 use Rattle.cached_frag.specs.declared.marks.Mark.{Mark}
 use Rattle.cached_frag.specs.Cached.{Cached, is_clean, marked}
-use Rattle.dentry_cache.specs.declared.dirfrag.Dirfrag.{Dirfrag}
+use Rattle.mds_types.specs.declared.dirfrags.Dirfrag.{Dirfrag}
 use Rattle.dentry_cache.specs.Places.{IsCache}
 use Rattle.dentry_cache.specs.Cache.{Held, Leaf, Unsaved, cached, leaf_cmp, leaf_is, stays, unsaved_in}
-
--- the leaf that lies somewhere
-abbrev pub leaf_of : Dirfrag → Leaf
-leaf_of at = (at.dir, at.frag)
 
 -- a fragment, and the rank that has it
 pub record At : Type 0 where

@@ -9,18 +9,18 @@ ghost use Rattle.dentry_cache.specs.Commits.{IsCommitted, MayNotBegin, Takes, jo
 ghost use Rattle.cached_frag.specs.Cached.{Cached, shown};
 ghost use Rattle.cached_frag.specs.Moving.{TakesIn};
 ghost use Rattle.mds_types.specs.declared.refusals.Refusal.TheVariants.{NothingToEvict};
+ghost use Rattle.mds_types.specs.Leaf.{leaf_of};
 ghost use Rattle.dentry_cache.specs.Cache.{HasCached, HasRoom, IsThere};
 ghost use Rattle.dentry_cache.specs.CacheCalls.{Edits, FetchesAt, IsAbsent, IsRefusedAt, IsWhole, KeepsAt, MakesRoomAt, MayNotFetchAt, MayNotKeepAt};
-ghost use Rattle.dentry_cache.specs.CacheMap.{AreCaches, IsFreeFor, evicted, frag_of, given_up, has_place, here, leaf_of, no_caches, order, used_at, with_frag, with_mark};
+ghost use Rattle.dentry_cache.specs.CacheMap.{AreCaches, IsFreeFor, evicted, frag_of, given_up, has_place, here, no_caches, order, used_at, with_frag, with_mark};
 ghost use Rattle.dentry_cache.specs.CacheSplits.{IsButPlaces, IsReadyAt};
 ghost use Rattle.dentry_cache.specs.Divided.{AreNumbered};
 ghost use Rattle.dentry_cache.specs.Loading.{object_of};
 
 use crate::cache::Cache;
-use crate::dirfrag::Dirfrag;
 use crate::parts::Parts;
 use cached_frag::{CachedFrag, Encoded, Snapshot};
-use mds_types::{Frag, Ino, Inode, Name, Rank, Refusal};
+use mds_types::{Dirfrag, Frag, Ino, Inode, Name, Rank, Refusal};
 use objstore::Store;
 use std::alloc::{AllocError, Global};
 use std::marker::Model;

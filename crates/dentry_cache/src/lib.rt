@@ -22,11 +22,9 @@ mod splitting;
 
 // the caches of all ranks, each with the same number of places, as one map of fragments
 mod caches;
-mod dirfrag;
 mod ending;
 mod splits;
 
 pub use caches::Caches;
-pub use dirfrag::Dirfrag;
 pub use loading::load;
 pub use parts::{Part, Parts};

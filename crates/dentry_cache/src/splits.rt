@@ -5,19 +5,19 @@ ghost use Rattle.sorted_map.specs.SortedMap.{contents};
 ghost use Rattle.objstore.specs.Omap.{key_cmp};
 ghost use Rattle.mds_types.specs.Frag.{child_of};
 ghost use Rattle.mds_types.specs.declared.refusals.Refusal.TheVariants.{NoMemory};
+ghost use Rattle.mds_types.specs.Leaf.{leaf_of};
 ghost use Rattle.cached_frag.specs.Cached.{AreEntries, Cached, shown};
 ghost use Rattle.dentry_cache.specs.Cache.{HasCached, IsThere};
 ghost use Rattle.dentry_cache.specs.CacheCalls.{CanKeep, CanNotKeep};
-ghost use Rattle.dentry_cache.specs.CacheMap.{AreCaches, frag_of, given_up, here, leaf_of};
+ghost use Rattle.dentry_cache.specs.CacheMap.{AreCaches, frag_of, given_up, here};
 ghost use Rattle.dentry_cache.specs.CacheSplits.{AreAbsent, AreFillable, AreKept, IsReadyAt, KeepsAll, MayNotKeepAll, ReadiesAt, ReadsFamily, RefusesAt, SplitsInto, StaysAt, WantsChild, with_parts, without_children};
 ghost use Rattle.dentry_cache.specs.Divided.{AreNumbered};
 
 use crate::caches::Caches;
-use crate::dirfrag::Dirfrag;
 use crate::dividing::divide;
 use crate::parts::{Part, Parts};
 use crate::splitting::child_count;
-use mds_types::{Inode, Name, Refusal};
+use mds_types::{Dirfrag, Inode, Name, Refusal};
 use sorted_map::SortedMap;
 use std::alloc::Global;
 

@@ -16,7 +16,7 @@ use Rattle.dentry_cache.specs.Cache.{HasCached, IsThere, Leaf, Unsaved, unsaved_
 use Rattle.dentry_cache.specs.CacheMap.{At, CacheMap, IsFree, IsFreeFor, at, at_rank, has_place, here, leaf_of as leaf_at, unclean, unsaved_at, used_at}
 use Rattle.dentry_cache.specs.Loading.{object_of}
 use Rattle.dentry_cache.specs.Ties.{KeepsAt}
-use Rattle.dentry_cache.specs.declared.dirfrag.Dirfrag.{Dirfrag}
+use Rattle.mds_types.specs.declared.dirfrags.Dirfrag.{Dirfrag}
 use Rattle.dentry_cache.proofs.CameLaws.{used_unclean}
 use Rattle.dentry_cache.proofs.ReadsLaws.{here_is}
 use Rattle.dentry_cache.proofs.StepLaws.{placed_used}

@@ -9,19 +9,20 @@ use Rattle.mds_types.specs.declared.ids.Ino.{Ino}
 use Rattle.mds_types.specs.declared.ids.Rank.{Rank}
 use Rattle.mds_types.specs.declared.inodes.Inode.{Inode}
 use Rattle.mds_types.specs.Frag.{Fragment}
+use Rattle.mds_types.specs.Leaf.{leaf_of}
 use Rattle.fragtree.specs.FragTree.{HasLeaf}
 use Rattle.cached_frag.specs.declared.marks.Mark.{Mark}
 use Rattle.cached_frag.specs.Cached.{Cached, marked}
 use Rattle.dentry_cache.specs.Cache.{HasCached, HasRoom, IsThere, Leaf, leaf_is}
 use Rattle.dentry_cache.specs.CacheCalls.{KeepsNone}
-use Rattle.dentry_cache.specs.CacheMap.{AreCaches, At, CacheMap, IsFree, at, at_rank, edited_as, given_up, has_place, here, leaf_of, removed, unclean, unsaved_at, with_frag, with_mark}
+use Rattle.dentry_cache.specs.CacheMap.{AreCaches, At, CacheMap, IsFree, at, at_rank, edited_as, given_up, has_place, here, removed, unclean, unsaved_at, with_frag, with_mark}
 use Rattle.dentry_cache.specs.CacheSplits.{IsKeptFor}
 use Rattle.dentry_cache.specs.Came.{Came}
 use Rattle.dentry_cache.specs.Came.Came.{ends, has, stays}
 use Rattle.dentry_cache.specs.Ended.{ended, ended_all, ended_at}
 use Rattle.dentry_cache.specs.Loading.{object_of}
 use Rattle.dentry_cache.specs.Ties.{IsTied}
-use Rattle.dentry_cache.specs.declared.dirfrag.Dirfrag.{Dirfrag}
+use Rattle.mds_types.specs.declared.dirfrags.Dirfrag.{Dirfrag}
 use Rattle.dentry_cache.proofs.EndedLaws.{holder_there}
 use Rattle.dentry_cache.proofs.LeafLaws.{one_leaf}
 use Rattle.dentry_cache.proofs.ReadsLaws.{here_is}

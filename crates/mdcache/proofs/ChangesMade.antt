@@ -8,13 +8,14 @@ use Rattle.mds_types.specs.declared.dentries.Dentry.{Dentry}
 use Rattle.mds_types.specs.declared.ids.Ino.{Ino}
 use Rattle.mds_types.specs.declared.inodes.Inode.{Inode}
 use Rattle.mds_types.specs.Step.{IsMove}
+use Rattle.mds_types.specs.Leaf.{leaf_of}
 use Rattle.dirfrag_codec.specs.EntryRecord.{IsRecordable}
 use Rattle.cached_frag.specs.Cached.{Cached}
 use Rattle.dentry_cache.specs.Cache.{HasCached, HasRoom, IsThere, Leaf}
 use Rattle.dentry_cache.specs.CacheCalls.{KeepsNone}
-use Rattle.dentry_cache.specs.CacheMap.{here, leaf_of}
+use Rattle.dentry_cache.specs.CacheMap.{here}
 use Rattle.dentry_cache.specs.Came.{Came}
-use Rattle.dentry_cache.specs.declared.dirfrag.Dirfrag.{Dirfrag}
+use Rattle.mds_types.specs.declared.dirfrags.Dirfrag.{Dirfrag}
 use Rattle.dentry_cache.proofs.UncleanLaws.{unclean_with}
 use Rattle.inode_table.specs.Dirs.{MayCome, MayGo, MayMove}
 use Rattle.inode_table.specs.TreeTable.{home_at, with_home}

@@ -9,6 +9,7 @@ use Rattle.mds_types.specs.declared.inodes.Inode.{Inode}
 use Rattle.mds_types.specs.declared.refusals.Refusal.{Refusal}
 use Rattle.mds_types.specs.Frag.{Fragment}
 use Rattle.mds_types.specs.Tree.{is_directory}
+use Rattle.mds_types.specs.Leaf.{leaf_of}
 use Rattle.fragtree.specs.FragTree.{IsPick}
 use Rattle.namehash.specs.Rjenkins.{hash_of}
 use Rattle.objstore.specs.Omap.{Omap}
@@ -17,7 +18,7 @@ use Rattle.cached_frag.specs.declared.bases.Base.{Base}
 use Rattle.cached_frag.specs.declared.bases.Base.TheVariants.{Fresh, Stored}
 use Rattle.cached_frag.specs.Cached.{Cached, shown}
 use Rattle.dentry_cache.specs.Cache.{HasCached, Leaf}
-use Rattle.dentry_cache.specs.CacheMap.{At, CacheMap, IsFree, at, here, leaf_of, unclean, unclean_of, unsaved_at, used_at}
+use Rattle.dentry_cache.specs.CacheMap.{At, CacheMap, IsFree, at, here, unclean, unclean_of, unsaved_at, used_at}
 use Rattle.dentry_cache.specs.CacheCalls.{Edits, KeepsNone}
 use Rattle.dentry_cache.specs.CacheSplits.{IsKeptFor}
 use Rattle.dentry_cache.specs.Came.{Came, IsThat, NoneEnds}
@@ -25,7 +26,7 @@ use Rattle.dentry_cache.specs.Loading.{IsSaved, Loads, object_of}
 use Rattle.dentry_cache.specs.Reads.{IsButRoom, IsReadOf, Reads}
 use Rattle.dentry_cache.specs.Reads.Reads.{stays as it_stays}
 use Rattle.dentry_cache.specs.Ties.{IsTiedAt}
-use Rattle.dentry_cache.specs.declared.dirfrag.Dirfrag.{Dirfrag}
+use Rattle.mds_types.specs.declared.dirfrags.Dirfrag.{Dirfrag}
 use Rattle.dentry_cache.proofs.TieLaws.{fetched_are_tied}
 use Rattle.dentry_cache.proofs.UncleanLaws.{get_unclean}
 use Rattle.inode_table.specs.Dirs.{is_known, leaves_of}

@@ -5,16 +5,17 @@ use Rattle.std.specs.Result.{result_err}
 use Rattle.std.specs.FinMap as map
 use Rattle.mds_types.specs.declared.refusals.Refusal.{Refusal}
 use Rattle.mds_types.specs.Frag.{Fragment}
+use Rattle.mds_types.specs.Leaf.{leaf_of}
 use Rattle.objstore.specs.Omap.{Omap}
 use Rattle.objstore.specs.Objects.{Objects, faults_told}
 use Rattle.dentry_cache.specs.Cache.{IsThere, Leaf, leaf_is}
 use Rattle.dentry_cache.specs.CacheCalls.{FetchesAt, IsAbsent, KeepsNone, MakesRoomAt, MayNotFetchAt}
-use Rattle.dentry_cache.specs.CacheMap.{AreCaches, CacheMap, at, at_rank, first, has_place, here, leaf_of, order, roomy, unclean, unsaved_at, used_at}
+use Rattle.dentry_cache.specs.CacheMap.{AreCaches, CacheMap, at, at_rank, first, has_place, here, order, roomy, unclean, unsaved_at, used_at}
 use Rattle.dentry_cache.specs.Came.{NoneEnds, StaysNamed}
 use Rattle.dentry_cache.specs.Loading.{IsSaved, Loads, object_of}
 use Rattle.dentry_cache.specs.Reads.{Reads}
 use Rattle.dentry_cache.specs.Reads.Reads.{stays as it_stays}
-use Rattle.dentry_cache.specs.declared.dirfrag.Dirfrag.{Dirfrag}
+use Rattle.mds_types.specs.declared.dirfrags.Dirfrag.{Dirfrag}
 use Rattle.dentry_cache.proofs.CountLaws.{staying}
 use Rattle.dentry_cache.proofs.KeptLaws.{roomy_stays}
 use Rattle.dentry_cache.proofs.LeafLaws.{one_leaf}

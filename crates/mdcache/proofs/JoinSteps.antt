@@ -2,15 +2,16 @@
 use Rattle.std.proofs.Common.{◌≡◌, ℕ, List, [], ◌∷◌, Option, None, sym, ap, subst, ◌∙◌}
 use Rattle.std.specs.FinMap as map
 use Rattle.std.specs.FinMap.{get-empty}
+use Rattle.mds_types.specs.Leaf.{leaf_of}
 use Rattle.objstore.specs.Omap.{key_cmp}
 use Rattle.dirfrag_codec.specs.FragmentObject.{Names}
 use Rattle.cached_frag.specs.declared.marks.Mark.{Mark}
 use Rattle.cached_frag.specs.Cached.{Cached, shown}
 use Rattle.cached_frag.specs.Moving.{TakesIn}
 use Rattle.dentry_cache.specs.Cache.{HasCached, Leaf}
-use Rattle.dentry_cache.specs.CacheMap.{here, leaf_of, unclean}
+use Rattle.dentry_cache.specs.CacheMap.{here, unclean}
 use Rattle.dentry_cache.specs.Came.{IsThat, NoneEnds}
-use Rattle.dentry_cache.specs.declared.dirfrag.Dirfrag.{Dirfrag}
+use Rattle.mds_types.specs.declared.dirfrags.Dirfrag.{Dirfrag}
 use Rattle.mdcache.specs.Core.{Core, IsSoundCore, ReadsCore, made_frag, state_of}
 use Rattle.mdcache.specs.Joining.{HasJoined, name_joined}
 use Rattle.mdcache.specs.Ranks.{MayHold}

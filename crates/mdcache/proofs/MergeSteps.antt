@@ -11,6 +11,7 @@ use Rattle.mds_types.specs.declared.object_names.ObjName.TheVariants.{Frag, Tree
 use Rattle.mds_types.specs.Frag.{Fragment, IsFragment, root_fragment}
 use Rattle.mds_types.specs.Tree.{dentry_of}
 use Rattle.mds_types.proofs.ObjectTextLaws.{texts_differ}
+use Rattle.mds_types.specs.Leaf.{leaf_of}
 use Rattle.fragtree.specs.FragTree.{CanMerge, HasLeaf, IsMerge, IsPick, IsTree, leaves_inside, lies_inside}
 use Rattle.fragtree.proofs.Tilings.{between}
 use Rattle.namehash.specs.Rjenkins.{hash_of}
@@ -22,10 +23,10 @@ use Rattle.cached_frag.specs.Cached.{Cached, is_clean_over, shown}
 use Rattle.cached_frag.specs.Moving.{marked_as}
 use Rattle.dentry_cache.specs.Loading.{object_of}
 use Rattle.dentry_cache.specs.Pairs.{holds}
-use Rattle.dentry_cache.specs.declared.dirfrag.Dirfrag.{Dirfrag}
+use Rattle.mds_types.specs.declared.dirfrags.Dirfrag.{Dirfrag}
 use Rattle.dentry_cache.specs.Cache.{Leaf, Unsaved, leaf_is, unsaved_in}
 use Rattle.dentry_cache.specs.CacheCalls.{KeepsNone}
-use Rattle.dentry_cache.specs.CacheMap.{At, CacheMap, at, leaf_of, unclean, unsaved_at, with_frag}
+use Rattle.dentry_cache.specs.CacheMap.{At, CacheMap, at, unclean, unsaved_at, with_frag}
 use Rattle.dentry_cache.specs.Came.{Came}
 use Rattle.dentry_cache.specs.Came.Came.{has as arrives}
 use Rattle.dentry_cache.proofs.LeafLaws.{leaf_itself, one_leaf}

@@ -7,6 +7,7 @@ use Rattle.std.specs.FinMap as map
 use Rattle.std.specs.FinMap.{empty_of_len, get-empty}
 use Rattle.mds_types.specs.declared.ids.Rank.{Rank}
 use Rattle.mds_types.specs.declared.inodes.Inode.{Inode}
+use Rattle.mds_types.specs.Leaf.{leaf_of}
 use Rattle.objstore.specs.Omap.{Omap, key_cmp}
 use Rattle.dirfrag_codec.proofs.ByteKeys.{get_put}
 use Rattle.cached_frag.specs.declared.bases.Base.{Base}
@@ -15,10 +16,10 @@ use Rattle.cached_frag.specs.declared.marks.Mark.{Mark}
 use Rattle.cached_frag.specs.Marks.{Marks}
 use Rattle.cached_frag.specs.Cached.{Cached, is_clean, is_clean_over, marked}
 use Rattle.dentry_cache.specs.Cache.{IsThere, Leaf, Unsaved, leaf_is, unsaved_of, with_unsaved}
-use Rattle.dentry_cache.specs.CacheMap.{At, CacheMap, IsFree, IsFreeFor, at, at_rank, edited_as, has_place, here, leaf_of, unclean, unsaved_at, with_frag}
+use Rattle.dentry_cache.specs.CacheMap.{At, CacheMap, IsFree, IsFreeFor, at, at_rank, edited_as, has_place, here, unclean, unsaved_at, with_frag}
 use Rattle.dentry_cache.specs.Loading.{object_of}
 use Rattle.dentry_cache.specs.Ties.{IsTied, IsTiedAt}
-use Rattle.dentry_cache.specs.declared.dirfrag.Dirfrag.{Dirfrag}
+use Rattle.mds_types.specs.declared.dirfrags.Dirfrag.{Dirfrag}
 use Rattle.dentry_cache.proofs.CameLaws.{marked_unclean as now_unclean}
 use Rattle.dentry_cache.proofs.LeafLaws.{one_leaf}
 use Rattle.dentry_cache.proofs.ReadsLaws.{here_is}

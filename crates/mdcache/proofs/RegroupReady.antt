@@ -5,12 +5,13 @@ use Rattle.std.specs.List.{IsDistinct}
 use Rattle.std.specs.FinMap as map
 use Rattle.mds_types.specs.declared.refusals.Refusal.{Refusal}
 use Rattle.mds_types.specs.Frag.{child_of}
+use Rattle.mds_types.specs.Leaf.{leaf_of}
 use Rattle.fragtree.specs.FragTree.{CanMerge, CanSplit, IsMerge, IsSplit, leaves_inside}
-use Rattle.dentry_cache.specs.declared.dirfrag.Dirfrag.{Dirfrag}
+use Rattle.mds_types.specs.declared.dirfrags.Dirfrag.{Dirfrag}
 use Rattle.cached_frag.specs.Cached.{Cached}
 use Rattle.dentry_cache.specs.Cache.{HasCached, IsThere, Leaf, leaf_is}
 use Rattle.dentry_cache.specs.CacheCalls.{IsWhole, KeepsNone, kept_at, unclean_at}
-use Rattle.dentry_cache.specs.CacheMap.{AreCaches, At, CacheMap, at_rank, here, leaf_of, order, unclean_of}
+use Rattle.dentry_cache.specs.CacheMap.{AreCaches, At, CacheMap, at_rank, here, order, unclean_of}
 use Rattle.dentry_cache.specs.CacheSplits.{AreAbsent, IsButPlaces, IsChildAt, IsFamilyAt, IsKeptFor, MayNotKeepAll, ReadsFamily, StaysAt}
 use Rattle.dentry_cache.specs.Came.{IsThat, NoneEnds}
 use Rattle.dentry_cache.specs.Reads.{Reads}

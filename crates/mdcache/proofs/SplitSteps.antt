@@ -10,6 +10,7 @@ use Rattle.mds_types.specs.declared.inodes.Inode.{Inode}
 use Rattle.mds_types.specs.Frag.{Fragment, child_of, span}
 use Rattle.mds_types.specs.Tree.{dentry_of}
 use Rattle.mds_types.proofs.Fragments.{span-split}
+use Rattle.mds_types.specs.Leaf.{leaf_of}
 use Rattle.fragtree.specs.FragTree.{CanSplit, HasLeaf, IsChild, IsPick, IsSplit, IsTree}
 use Rattle.fragtree.proofs.Entries.{one_or_other}
 use Rattle.fragtree.proofs.Ranges.{span_pos}
@@ -25,10 +26,10 @@ use Rattle.dentry_cache.specs.Loading.{object_of}
 use Rattle.dentry_cache.specs.Pairs.{holds}
 use Rattle.dentry_cache.proofs.LoadLaws.{holds_contains}
 use Rattle.dentry_cache.specs.declared.parts.Part.{Part}
-use Rattle.dentry_cache.specs.declared.dirfrag.Dirfrag.{Dirfrag}
+use Rattle.mds_types.specs.declared.dirfrags.Dirfrag.{Dirfrag}
 use Rattle.dentry_cache.specs.Cache.{HasCached, Leaf, Unsaved, leaf_is}
 use Rattle.dentry_cache.specs.CacheCalls.{IsWhole, KeepsNone}
-use Rattle.dentry_cache.specs.CacheMap.{At, IsFreeFor, at, here, leaf_of, order, unclean}
+use Rattle.dentry_cache.specs.CacheMap.{At, IsFreeFor, at, here, order, unclean}
 use Rattle.dentry_cache.specs.CacheSplits.{IsChildAt, IsFamilyAt, IsReadyToSplit, SplitsAt, SplitsInto}
 use Rattle.dentry_cache.specs.Came.{Came}
 use Rattle.dentry_cache.specs.Divided.{IsNoChild, names_in}

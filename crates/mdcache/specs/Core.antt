@@ -5,17 +5,18 @@ use Rattle.mds_types.specs.declared.ids.Ino.{Ino}
 use Rattle.mds_types.specs.declared.ids.Rank.{Rank}
 use Rattle.mds_types.specs.Tree.{Tree}
 use Rattle.mds_types.specs.declared.inodes.Inode.{Inode}
+use Rattle.mds_types.specs.Leaf.{leaf_of}
 use Rattle.objstore.specs.Omap.{Keys}
 use Rattle.objstore.specs.Objects.{Objects}
 use Rattle.cached_frag.specs.declared.bases.Base.TheVariants.{Fresh}
 use Rattle.cached_frag.specs.declared.jobs.Job.{Job}
 use Rattle.cached_frag.specs.Cached.{Cached, snapshot_of}
 use Rattle.dentry_cache.specs.Cache.{Leaf}
-use Rattle.dentry_cache.specs.CacheMap.{At, CacheMap, IsFreeFor, leaf_of, unclean, used_at, with_frag, with_mark}
+use Rattle.dentry_cache.specs.CacheMap.{At, CacheMap, IsFreeFor, unclean, used_at, with_frag, with_mark}
 use Rattle.dentry_cache.specs.Ended.{ended_all}
 use Rattle.dentry_cache.specs.Loading.{IsSaved, object_of}
 use Rattle.dentry_cache.specs.Ties.{IsTied}
-use Rattle.dentry_cache.specs.declared.dirfrag.Dirfrag.{Dirfrag}
+use Rattle.mds_types.specs.declared.dirfrags.Dirfrag.{Dirfrag}
 use Rattle.inode_table.specs.declared.dirs.Home.{Home}
 use Rattle.inode_table.specs.Dirs.{Covers, Homes}
 use Rattle.inode_table.specs.TreeTable.{with_home}

@@ -1,14 +1,15 @@
 -- What is made ready for a split and for a merge of a directory's leaves, and what they make of the whole.
 use Rattle.std.specs.Prelude.{◌≡◌, ℕ, ◌+◌, ◌<◌, ◌≤◌, ◌^◌, Bool, cond, List, map as each, length, None, string_bytes}
 use Rattle.std.specs.FinMap as map
+use Rattle.mds_types.specs.Leaf.{leaf_of}
 use Rattle.fragtree.specs.FragTree.{IsMerge, IsSplit, IsTree, leaves_inside}
 use Rattle.cached_frag.specs.declared.bases.Base.TheVariants.{Fresh}
 use Rattle.cached_frag.specs.Cached.{Cached, shown}
 use Rattle.dentry_cache.specs.Cache.{Leaf}
-use Rattle.dentry_cache.specs.CacheMap.{CacheMap, leaf_of, unclean, with_frag}
+use Rattle.dentry_cache.specs.CacheMap.{CacheMap, unclean, with_frag}
 use Rattle.dentry_cache.specs.CacheSplits.{AreKept, IsKeptFor, IsReadyAt}
 use Rattle.dentry_cache.specs.Divided.{AreNumbered}
-use Rattle.dentry_cache.specs.declared.dirfrag.Dirfrag.{Dirfrag}
+use Rattle.mds_types.specs.declared.dirfrags.Dirfrag.{Dirfrag}
 use Rattle.inode_table.specs.Dirs.{leaves_of}
 use Rattle.namespace_ops.specs.Changes.{in_directory}
 use Rattle.mdcache.specs.declared.merging.Merge.{Merge}

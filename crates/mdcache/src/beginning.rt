@@ -3,10 +3,11 @@ ghost use Rattle.std.specs.Prelude.{◌≡◌, ◌+◌, ◌-◌, ◌<◌, ◌^�
 ghost use Rattle.std.specs.Option.{option_map};
 ghost use Rattle.std.specs.FinMap as map;
 ghost use Rattle.mds_types.specs.declared.refusals.Refusal.TheVariants.{NoInodes, NoMemory};
+ghost use Rattle.mds_types.specs.Leaf.{leaf_of};
 ghost use Rattle.cached_frag.specs.Snap.{IsBelowEnd, IsSnap};
 ghost use Rattle.cached_frag.specs.Cached.{Cached, is_clean};
 ghost use Rattle.dentry_cache.specs.Cache.{HasCached, Unsaved, unsaved_in};
-ghost use Rattle.dentry_cache.specs.CacheMap.{here, leaf_of, used_at};
+ghost use Rattle.dentry_cache.specs.CacheMap.{here, used_at};
 ghost use Rattle.dentry_cache.specs.Came.{Came, IsThat, NoneEnds};
 ghost use Rattle.mdcache.specs.Commits.{Begins, IsAtEnd};
 ghost use Rattle.mdcache.specs.Core.{IsJobOf, IsSoundCore, state_of, used_core, with_job_in};
@@ -15,8 +16,8 @@ ghost use Rattle.mdcache.specs.Ranks.{MayHold};
 use crate::mdcache::MdCache;
 use crate::standing_jobs::StandingJobs;
 use cached_frag::{Base, Job, Snapshot};
-use dentry_cache::{Caches, Dirfrag};
-use mds_types::{Frag, Ino, Rank, Refusal};
+use dentry_cache::Caches;
+use mds_types::{Dirfrag, Frag, Ino, Rank, Refusal};
 use objstore::Store;
 use std::alloc::AllocError;
 

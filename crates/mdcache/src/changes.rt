@@ -2,10 +2,11 @@
 ghost use Rattle.std.specs.Prelude.{◌≡◌, ◌+◌, ◌-◌, ◌<◌, ◌≤◌, ◌^◌, true, None, Some, IfSome, length, string_bytes, [], ◌∷◌};
 ghost use Rattle.std.specs.FinMap as map;
 ghost use Rattle.mds_types.specs.Tree.{is_dir_kind};
+ghost use Rattle.mds_types.specs.Leaf.{leaf_of};
 ghost use Rattle.dirfrag_codec.specs.EntryRecord.{IsRecordable};
 ghost use Rattle.dentry_cache.specs.Cache.{HasRoom};
 ghost use Rattle.dentry_cache.specs.CacheCalls.{KeepsNone};
-ghost use Rattle.dentry_cache.specs.CacheMap.{has_place, here, leaf_of};
+ghost use Rattle.dentry_cache.specs.CacheMap.{has_place, here};
 ghost use Rattle.inode_table.specs.Dirs.{MayCome, MayGo, MayMove};
 ghost use Rattle.inode_table.specs.TreeTable.{with_home};
 ghost use Rattle.mdcache.specs.Going.{count_going, dir_going, leaves_going, leaves_in, texts_going, texts_in};
@@ -14,9 +15,8 @@ ghost use Rattle.mdcache.specs.Core.{named, with_dir, without_dir, without_frags
 use crate::going::{Going, GoingLeaf};
 use crate::mdcache::MdCache;
 use cached_frag::CachedFrag;
-use dentry_cache::Dirfrag;
 use inode_table::Home;
-use mds_types::{Ino, Inode, Name};
+use mds_types::{Dirfrag, Ino, Inode, Name};
 use objstore::Store;
 use std::alloc::Global;
 

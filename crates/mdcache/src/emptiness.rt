@@ -1,11 +1,12 @@
 //! Whether a leaf shows a name.
 ghost use Rattle.std.specs.Prelude.{◌≡◌, ◌+◌, IfOk, IfErr, ◌<◌, length};
 ghost use Rattle.std.specs.Result.{result_err};
+ghost use Rattle.mds_types.specs.Leaf.{leaf_of};
 ghost use Rattle.objstore.specs.Objects.{faults_told};
 ghost use Rattle.cached_frag.specs.Cached.{Cached, shown};
 ghost use Rattle.dentry_cache.specs.Cache.{HasCached, IsThere};
 ghost use Rattle.dentry_cache.specs.CacheCalls.{KeepsNone};
-ghost use Rattle.dentry_cache.specs.CacheMap.{here, leaf_of, unclean};
+ghost use Rattle.dentry_cache.specs.CacheMap.{here, unclean};
 ghost use Rattle.dentry_cache.specs.CacheSplits.{IsKeptFor};
 ghost use Rattle.dentry_cache.specs.Came.{IsThat, NoneEnds};
 ghost use Rattle.mdcache.specs.CacheReads.{LacksPlacesIn};
@@ -16,8 +17,8 @@ ghost use Rattle.mdcache.specs.Shown.{names_of};
 ghost use Rattle.mdcache.specs.State.{IsLive};
 
 use crate::mdcache::MdCache;
-use dentry_cache::{Caches, Dirfrag};
-use mds_types::{Frag, Ino, Rank, Refusal};
+use dentry_cache::Caches;
+use mds_types::{Dirfrag, Frag, Ino, Rank, Refusal};
 use objstore::Store;
 use std::alloc::Global;
 

@@ -2,19 +2,19 @@
 ghost use Rattle.std.specs.Prelude.{◌≡◌, ◌+◌, ◌⊎◌, OnOk, IfOk, IfErr, OnErr};
 ghost use Rattle.std.specs.Result.{result_err};
 ghost use Rattle.std.specs.FinMap as map;
+ghost use Rattle.mds_types.specs.Leaf.{leaf_of};
 ghost use Rattle.objstore.specs.Objects.{faults_told};
 ghost use Rattle.cached_frag.specs.Cached.{Cached, shown};
 ghost use Rattle.dentry_cache.specs.Cache.{HasCached, IsThere};
 ghost use Rattle.dentry_cache.specs.CacheCalls.{KeepsNone};
-ghost use Rattle.dentry_cache.specs.CacheMap.{AreCaches, here, leaf_of};
+ghost use Rattle.dentry_cache.specs.CacheMap.{AreCaches, here};
 ghost use Rattle.dentry_cache.specs.Came.{IsThat, NoneEnds};
 ghost use Rattle.mdcache.specs.CacheReads.{IsNewest, LacksPlacesIn};
 ghost use Rattle.mdcache.specs.Core.{MayFetch, ReadsCore};
 ghost use Rattle.mdcache.specs.Reads.{MayNotFind};
 
 use crate::mdcache::MdCache;
-use dentry_cache::Dirfrag;
-use mds_types::{Inode, Name, Refusal};
+use mds_types::{Dirfrag, Inode, Name, Refusal};
 use objstore::Store;
 use std::alloc::Global;
 

@@ -14,9 +14,9 @@ use crate::prepared::Prepared;
 use crate::purge_list::PurgeList;
 use crate::standing_jobs::StandingJobs;
 use cached_frag::CachedFrag;
-use dentry_cache::{Caches, Dirfrag};
+use dentry_cache::Caches;
 use inode_table::Dirs;
-use mds_types::{Frag, Ino, Rank, Refusal};
+use mds_types::{Dirfrag, Frag, Ino, Rank, Refusal};
 use objstore::{NamePage, Store};
 use std::alloc::Global;
 

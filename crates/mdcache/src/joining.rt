@@ -3,10 +3,11 @@ ghost use Rattle.std.specs.Prelude.{◌≡◌, ◌⊎◌, ◌+◌, ◌<◌, ◌�
 ghost use Rattle.std.specs.Result.{result_err};
 ghost use Rattle.std.specs.FinMap as map;
 ghost use Rattle.std.specs.List.{Contains};
+ghost use Rattle.mds_types.specs.Leaf.{leaf_of};
 ghost use Rattle.objstore.specs.Objects.{faults_told};
 ghost use Rattle.dentry_cache.specs.Cache.{Leaf};
 ghost use Rattle.dentry_cache.specs.CacheCalls.{KeepsNone};
-ghost use Rattle.dentry_cache.specs.CacheMap.{leaf_of, unclean};
+ghost use Rattle.dentry_cache.specs.CacheMap.{unclean};
 ghost use Rattle.dentry_cache.specs.CacheSplits.{IsKeptFor};
 ghost use Rattle.dentry_cache.specs.Came.{IsThat, NoneEnds};
 ghost use Rattle.mdcache.specs.CacheReads.{LacksPlacesIn};
@@ -22,8 +23,7 @@ ghost use Rattle.mdcache.specs.State.{IsLive};
 use crate::going::GoingLeaf;
 use crate::mdcache::MdCache;
 use cached_frag::CachedFrag;
-use dentry_cache::Dirfrag;
-use mds_types::Refusal;
+use mds_types::{Dirfrag, Refusal};
 use objstore::Store;
 use std::alloc::Global;
 

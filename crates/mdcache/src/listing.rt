@@ -7,11 +7,12 @@ ghost use Rattle.mds_types.specs.declared.refusals.Refusal.TheVariants.{NoMemory
 ghost use Rattle.objstore.specs.Omap.{key_cmp};
 ghost use Rattle.objstore.specs.Objects.{faults_told};
 ghost use Rattle.sorted_map.specs.Places.{puts};
+ghost use Rattle.mds_types.specs.Leaf.{leaf_of};
 ghost use Rattle.cached_frag.specs.Cached.{Cached, shown};
 ghost use Rattle.cached_frag.specs.Rows.{Row, rows_after};
 ghost use Rattle.dentry_cache.specs.Cache.{HasCached, IsThere};
 ghost use Rattle.dentry_cache.specs.CacheCalls.{KeepsNone};
-ghost use Rattle.dentry_cache.specs.CacheMap.{here, leaf_of, unclean};
+ghost use Rattle.dentry_cache.specs.CacheMap.{here, unclean};
 ghost use Rattle.dentry_cache.specs.CacheSplits.{IsKeptFor};
 ghost use Rattle.dentry_cache.specs.Came.{IsThat, NoneEnds};
 ghost use Rattle.mdcache.specs.CacheReads.{LacksPlacesIn};
@@ -24,8 +25,8 @@ ghost use Rattle.mdcache.specs.State.{IsLive};
 
 use crate::mdcache::MdCache;
 use crate::page::Page;
-use dentry_cache::{Caches, Dirfrag};
-use mds_types::{Frag, Ino, Name, Rank, Refusal};
+use dentry_cache::Caches;
+use mds_types::{Dirfrag, Frag, Ino, Name, Rank, Refusal};
 use objstore::Store;
 use std::alloc::Global;
 

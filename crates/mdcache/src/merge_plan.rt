@@ -12,10 +12,9 @@ ghost use Rattle.mdcache.specs.State.{text_of};
 use crate::going::{GoingLeaf, part_of};
 use crate::mdcache::MdCache;
 use crate::regrouping::object_name;
-use dentry_cache::Dirfrag;
 use fragtree::FragTree;
 use inode_table::Dirs;
-use mds_types::{Frag, Ino, Refusal};
+use mds_types::{Dirfrag, Frag, Ino, Refusal};
 use objstore::Store;
 use std::alloc::{AllocError, Global};
 

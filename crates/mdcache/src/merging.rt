@@ -3,11 +3,11 @@ ghost use Rattle.std.specs.Prelude.{◌≡◌, ◌⊎◌, ◌+◌, ◌-◌, ◌<
 ghost use Rattle.std.specs.Result.{result_err};
 ghost use Rattle.std.specs.FinMap as map;
 ghost use Rattle.std.specs.List.{Contains};
+ghost use Rattle.mds_types.specs.Leaf.{leaf_of};
 ghost use Rattle.objstore.specs.Objects.{faults_told};
 ghost use Rattle.fragtree.specs.FragTree.{CanMerge, RefusesMerge};
 ghost use Rattle.dentry_cache.specs.Cache.{Leaf};
 ghost use Rattle.dentry_cache.specs.CacheCalls.{KeepsNone};
-ghost use Rattle.dentry_cache.specs.CacheMap.{leaf_of};
 ghost use Rattle.dentry_cache.specs.CacheSplits.{IsKeptFor};
 ghost use Rattle.dentry_cache.specs.Came.{Came};
 ghost use Rattle.inode_table.specs.Dirs.{is_known, leaves_of};
@@ -24,9 +24,8 @@ use crate::mdcache::MdCache;
 use crate::merge_plan::MergePlan;
 use crate::regrouping::take_counts;
 use cached_frag::CachedFrag;
-use dentry_cache::Dirfrag;
 use inode_table::Dirs;
-use mds_types::{Frag, Ino, Rank, Refusal};
+use mds_types::{Dirfrag, Frag, Ino, Rank, Refusal};
 use objstore::Store;
 use std::alloc::Global;
 

@@ -2,11 +2,12 @@
 ghost use Rattle.std.specs.Prelude.{◌≡◌, ◌+◌, ◌⊎◌, ◌<◌, ◌≤◌, None, Some, OnOk, OnErr, IfErr};
 ghost use Rattle.std.specs.Result.{result_err};
 ghost use Rattle.std.specs.FinMap as map;
+ghost use Rattle.mds_types.specs.Leaf.{leaf_of};
 ghost use Rattle.objstore.specs.Objects.{Objects, faults_told};
 ghost use Rattle.cached_frag.specs.Cached.{Cached};
 ghost use Rattle.dentry_cache.specs.Cache.{HasCached, HasRoom, IsThere, Leaf};
 ghost use Rattle.dentry_cache.specs.CacheCalls.{KeepsNone};
-ghost use Rattle.dentry_cache.specs.CacheMap.{here, leaf_of};
+ghost use Rattle.dentry_cache.specs.CacheMap.{here};
 ghost use Rattle.dentry_cache.specs.CacheSplits.{IsKeptFor};
 ghost use Rattle.dentry_cache.specs.Came.{IsThat, NoneEnds};
 ghost use Rattle.dentry_cache.specs.Reads.{Reads};
@@ -16,8 +17,8 @@ ghost use Rattle.mdcache.specs.Ranks.{KeepsOnlyAt, NoneUsed};
 ghost use Rattle.mdcache.specs.Reads.{MayNotFind};
 
 use crate::mdcache::MdCache;
-use dentry_cache::{Caches, Dirfrag};
-use mds_types::Refusal;
+use dentry_cache::Caches;
+use mds_types::{Dirfrag, Refusal};
 use objstore::Store;
 use std::alloc::Global;
 

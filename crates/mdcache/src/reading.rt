@@ -3,10 +3,10 @@ ghost use Rattle.std.specs.Prelude.{◌≡◌, ◌+◌, true, IfOk, IfErr, OnOk}
 ghost use Rattle.std.specs.Result.{result_err};
 ghost use Rattle.std.specs.FinMap as map;
 ghost use Rattle.mds_types.specs.Tree.{is_above, is_directory};
+ghost use Rattle.mds_types.specs.Leaf.{leaf_of};
 ghost use Rattle.fragtree.specs.FragTree.{IsPick};
 ghost use Rattle.namehash.specs.Rjenkins.{hash_of};
 ghost use Rattle.objstore.specs.Objects.{faults_told};
-ghost use Rattle.dentry_cache.specs.CacheMap.{leaf_of};
 ghost use Rattle.dentry_cache.specs.CacheSplits.{IsKeptFor};
 ghost use Rattle.dentry_cache.specs.Came.{IsThat};
 ghost use Rattle.inode_table.specs.Dirs.{leaves_of};
@@ -16,8 +16,7 @@ ghost use Rattle.mdcache.specs.Ranks.{MayHold};
 ghost use Rattle.mdcache.specs.Reads.{MayNotFind};
 
 use crate::mdcache::MdCache;
-use dentry_cache::Dirfrag;
-use mds_types::{Dentry, Frag, Ino, Inode, Rank, Refusal};
+use mds_types::{Dentry, Dirfrag, Frag, Ino, Inode, Rank, Refusal};
 use namehash::rjenkins;
 use objstore::Store;
 use std::alloc::Global;

@@ -3,12 +3,13 @@ ghost use Rattle.std.specs.Prelude.{◌≡◌, ◌⊎◌, ◌+◌, ◌-◌, ◌<
 ghost use Rattle.std.specs.Result.{result_err};
 ghost use Rattle.std.specs.FinMap as map;
 ghost use Rattle.mds_types.specs.declared.refusals.Refusal.TheVariants.{NoInodes, NoMemory};
+ghost use Rattle.mds_types.specs.Leaf.{leaf_of};
 ghost use Rattle.objstore.specs.Objects.{faults_told};
 ghost use Rattle.dirfrag_codec.specs.EntryRecord.{IsRecordable};
 ghost use Rattle.cached_frag.specs.Cached.{Cached, shown};
 ghost use Rattle.dentry_cache.specs.Cache.{HasCached, HasRoom, IsThere, Leaf};
 ghost use Rattle.dentry_cache.specs.CacheCalls.{KeepsNone};
-ghost use Rattle.dentry_cache.specs.CacheMap.{here, leaf_of, unclean};
+ghost use Rattle.dentry_cache.specs.CacheMap.{here, unclean};
 ghost use Rattle.dentry_cache.specs.CacheSplits.{IsKeptFor};
 ghost use Rattle.dentry_cache.specs.Came.{IsThat};
 ghost use Rattle.inode_table.specs.Dirs.{is_known};
@@ -25,9 +26,9 @@ use crate::going::{Going, going_of};
 use crate::mdcache::MdCache;
 use crate::prepared::{MovingEntry, NewDirectory, Prepared};
 use crate::purge_list::PurgeList;
-use dentry_cache::{Caches, Dirfrag};
+use dentry_cache::Caches;
 use inode_table::Dirs;
-use mds_types::{Dentry, Frag, Ino, Inode, Name, ObjName, Refusal};
+use mds_types::{Dentry, Dirfrag, Frag, Ino, Inode, Name, ObjName, Refusal};
 use objstore::Store;
 use std::alloc::{AllocError, Global};
 

@@ -9,10 +9,9 @@ ghost use Rattle.mdcache.specs.Splits.{NameChildren};
 
 use crate::mdcache::MdCache;
 use crate::regrouping::{child_count, object_name};
-use dentry_cache::Dirfrag;
 use fragtree::FragTree;
 use inode_table::Dirs;
-use mds_types::{Frag, Ino, Refusal};
+use mds_types::{Dirfrag, Frag, Ino, Refusal};
 use objstore::Store;
 use std::alloc::{AllocError, Global};
 

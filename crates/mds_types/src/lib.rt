@@ -6,6 +6,7 @@
 
 mod bytes;
 mod dentries;
+mod dirfrags;
 mod entries;
 mod errno;
 mod frags;
@@ -26,6 +27,7 @@ mod texts;
 
 pub use bytes::Bytes;
 pub use dentries::Dentry;
+pub use dirfrags::Dirfrag;
 pub use entries::Entry;
 pub use errno::{EEXIST, EINVAL, EISDIR, ENAMETOOLONG, ENOENT, ENOTDIR, ENOTEMPTY, ESTALE};
 pub use frags::Frag;

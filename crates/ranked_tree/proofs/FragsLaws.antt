@@ -50,9 +50,9 @@ pub refused_then : (a b c : Ranked) (op : Op) (reason : Refusal) → KeepsRanked
 refused_then a b c op reason kept because =
     refused_later (LacksPlacesAsked 2 b.tree b.subtrees.roots (Concerns (shown_tree (state_of b.tree)) op)) (LacksPlacesAsked 2 a.tree a.subtrees.roots (Concerns (shown_tree (state_of a.tree)) op)) a.tree b.tree c.tree op reason
     (λ lacks.
-      let now = subst (λ (r : Roots). LacksPlacesAsked 2 b.tree r (Concerns (shown_tree (state_of b.tree)) op)) kept.roots lacks in
-      let before = lacked_asked 2 (λ (s : TreeState) (d : ℕ). Concerns (shown_tree s) op d) (λ (s : TreeState) (leaf : Leaf) (rank : Rank). Rules s a.subtrees.roots leaf rank) a.tree b.tree kept.tree (now.0, now.1, now.2.0, now.2.1, now.2.2) in
-      (before.0, before.1, (before.2, before.3, before.4)))
+    let now = subst (λ (r : Roots). LacksPlacesAsked 2 b.tree r (Concerns (shown_tree (state_of b.tree)) op)) kept.roots lacks in
+    let before = lacked_asked 2 (λ (s : TreeState) (d : ℕ). Concerns (shown_tree s) op d) (λ (s : TreeState) (leaf : Leaf) (rank : Rank). Rules s a.subtrees.roots leaf rank) a.tree b.tree kept.tree (now.0, now.1, now.2.0, now.2.1, now.2.2) in
+    (before.0, before.1, (before.2, before.3, before.4)))
     kept.tree because
 
 module _ (tree new : Core) (subtrees : Subtrees) (now : Ranked) (is : over tree subtrees ≡ now) (op : Op) where

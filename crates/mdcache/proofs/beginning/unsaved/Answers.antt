@@ -1,6 +1,7 @@
 use Rattle.std.proofs.Common.{◌∙◌, sym, ap}
 use Rattle.std.specs.Option.{option_copied}
-use Rattle.dentry_cache.specs.CacheMap.{here, leaf_of}
+use Rattle.mds_types.specs.Leaf.{leaf_of}
+use Rattle.dentry_cache.specs.CacheMap.{here}
 use Rattle.mdcache.proofs.BeginSteps.{absent_told, clean_told, unclean_told}
 use Rattle.mdcache.proofs.beginning.unsaved.Goals as goal
 

@@ -1,5 +1,6 @@
 use Rattle.std.proofs.Common.{rules, ◌≡◌, ◌∙◌, ◌<◌, length, None, sym}
-use Rattle.dentry_cache.specs.CacheMap.{here, leaf_of}
+use Rattle.mds_types.specs.Leaf.{leaf_of}
+use Rattle.dentry_cache.specs.CacheMap.{here}
 use Rattle.dentry_cache.specs.CacheSplits.{IsKeptFor}
 use Rattle.dentry_cache.specs.Reads.Reads.{stays as it_stays}
 use Rattle.dentry_cache.proofs.ReadsLaws.{freed_reads}

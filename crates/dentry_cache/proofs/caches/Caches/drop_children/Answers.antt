@@ -1,5 +1,5 @@
 use Rattle.std.proofs.Common.{ℕ, ◌<◌, length, ap, subst, sym, ◌∙◌}
-use Rattle.dentry_cache.specs.declared.dirfrag.Dirfrag.{Dirfrag}
+use Rattle.mds_types.specs.declared.dirfrags.Dirfrag.{Dirfrag}
 use Rattle.dentry_cache.specs.CacheMap.{CacheMap}
 use Rattle.dentry_cache.proofs.ChildLaws.{ranks_without}
 use Rattle.dentry_cache.proofs.caches.Caches.drop_children.Goals as goal

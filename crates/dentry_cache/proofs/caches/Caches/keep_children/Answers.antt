@@ -1,6 +1,6 @@
 use Rattle.std.proofs.Common.{◌≡◌, Option, Some, refl, subst, sym, arith, ◌<◌, ◌^◌, ◌+◌, suc, ℕ, ◌∙◌, ap}
 use Rattle.mds_types.specs.Frag.{child_of}
-use Rattle.dentry_cache.specs.declared.dirfrag.Dirfrag.{Dirfrag}
+use Rattle.mds_types.specs.declared.dirfrags.Dirfrag.{Dirfrag}
 use Rattle.dentry_cache.specs.Cache.{Leaf}
 use Rattle.dentry_cache.specs.CacheCalls.{IsRefusedAt, KeepsAt, MakesRoomAt, MayNotKeepAt}
 use Rattle.dentry_cache.specs.CacheMap.{CacheMap, here}

@@ -2,9 +2,10 @@ use Rattle.std.proofs.Common.{◌≡◌, None, Some, Ok, Err, refl, sym, ap, sub
 use Rattle.std.specs.FinMap as map
 use Rattle.mds_types.specs.declared.refusals.Refusal.{Refusal}
 use Rattle.mds_types.specs.declared.refusals.Refusal.TheVariants.{NoMemory}
+use Rattle.mds_types.specs.Leaf.{leaf_of}
 use Rattle.cached_frag.specs.Snap.{IsBelowEnd}
 use Rattle.dentry_cache.specs.Cache.{unsaved_in}
-use Rattle.dentry_cache.specs.CacheMap.{here, leaf_of, unclean}
+use Rattle.dentry_cache.specs.CacheMap.{here, unclean}
 use Rattle.dentry_cache.specs.Came.{Came, IsThat, NoneEnds}
 use Rattle.dentry_cache.specs.Came.Came.{stays, uses}
 use Rattle.mdcache.specs.Commits.{Begins, IsAtEnd}

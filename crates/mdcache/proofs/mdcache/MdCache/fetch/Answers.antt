@@ -1,6 +1,6 @@
 use Rattle.std.proofs.Common.{None, refl}
+use Rattle.mds_types.specs.Leaf.{leaf_of}
 use Rattle.dentry_cache.specs.Came.{IsThat}
-use Rattle.dentry_cache.specs.CacheMap.{leaf_of}
 use Rattle.mdcache.proofs.FetchSteps.{fetch_newest, fetch_none, fetch_reads, fetch_refused}
 use Rattle.mdcache.proofs.mdcache.MdCache.fetch.Goals as goal
 

@@ -1,5 +1,5 @@
 use Rattle.std.proofs.Common.{◌<◌, length, sym, subst}
-use Rattle.dentry_cache.specs.CacheMap.{leaf_of}
+use Rattle.mds_types.specs.Leaf.{leaf_of}
 use Rattle.dentry_cache.specs.Came.{IsThat, NoneEnds}
 use Rattle.mdcache.specs.Core.{Core}
 use Rattle.mdcache.proofs.CoreLaws.{reads_sound, that_live, there_after}

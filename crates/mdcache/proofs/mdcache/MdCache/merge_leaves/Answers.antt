@@ -1,7 +1,7 @@
 use Rattle.std.proofs.Common.{◌⊎◌, ℕ, inl, inr}
 use Rattle.std.specs.List.{Contains}
+use Rattle.mds_types.specs.Leaf.{leaf_of}
 use Rattle.dentry_cache.specs.Cache.{Leaf}
-use Rattle.dentry_cache.specs.CacheMap.{leaf_of}
 use Rattle.dentry_cache.specs.CacheSplits.{IsKeptFor}
 use Rattle.dentry_cache.proofs.ReadsLaws.{reads_came}
 use Rattle.mdcache.specs.Joining.{IsAmongOr}

@@ -1,8 +1,9 @@
 use Rattle.std.proofs.Common.{rules, ◌⊎◌, ◌<◌, ◌≤◌, ℕ, inr, length, refl, sym, subst}
+use Rattle.mds_types.specs.Leaf.{leaf_of}
 use Rattle.cached_frag.specs.Cached.{Cached}
 use Rattle.dentry_cache.specs.Cache.{HasCached}
 use Rattle.dentry_cache.specs.CacheCalls.{Edits, KeepsNone}
-use Rattle.dentry_cache.specs.CacheMap.{here, leaf_of}
+use Rattle.dentry_cache.specs.CacheMap.{here}
 use Rattle.dentry_cache.specs.Came.{IsThat, NoneEnds}
 use Rattle.dentry_cache.specs.Cache.{Leaf}
 use Rattle.mdcache.specs.Core.{Core}

@@ -1,7 +1,7 @@
 use Rattle.std.proofs.Common.{rules, ◌≡◌, ◌⊎◌, ◌<◌, ℕ, None, Some, ap, sym, subst, ◌∙◌}
 use Rattle.std.specs.FinMap as map
+use Rattle.mds_types.specs.Leaf.{leaf_of}
 use Rattle.dentry_cache.specs.Cache.{Leaf}
-use Rattle.dentry_cache.specs.CacheMap.{leaf_of}
 use Rattle.dentry_cache.specs.CacheSplits.{IsKeptFor}
 use Rattle.dentry_cache.specs.Came.{IsThat}
 use Rattle.inode_table.specs.Dirs.{Table}

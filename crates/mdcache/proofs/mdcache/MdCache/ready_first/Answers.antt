@@ -2,9 +2,10 @@ use Rattle.std.proofs.Common.{rules, ◌≡◌, ◌⊎◌, ◌<◌, ℕ, None, S
 use Rattle.std.specs.FinMap as map
 use Rattle.std.specs.Prelude.{IfErr}
 use Rattle.mds_types.specs.declared.ids.Rank.{Rank}
+use Rattle.mds_types.specs.Leaf.{leaf_of}
 use Rattle.dentry_cache.specs.Cache.{HasRoom, Leaf}
 use Rattle.dentry_cache.specs.CacheCalls.{KeepsNone}
-use Rattle.dentry_cache.specs.CacheMap.{here, leaf_of}
+use Rattle.dentry_cache.specs.CacheMap.{here}
 use Rattle.dentry_cache.specs.Came.{IsThat, NoneEnds}
 use Rattle.mdcache.specs.CacheReads.{LacksPlacesIn}
 use Rattle.mdcache.specs.Core.{Core}

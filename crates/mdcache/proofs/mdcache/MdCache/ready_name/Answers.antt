@@ -1,5 +1,5 @@
 use Rattle.std.proofs.Common.{rules, ◌<◌, arith}
-use Rattle.dentry_cache.specs.CacheMap.{leaf_of}
+use Rattle.mds_types.specs.Leaf.{leaf_of}
 use Rattle.dentry_cache.specs.CacheSplits.{IsKeptFor}
 use Rattle.dentry_cache.specs.Came.{IsThat}
 use Rattle.mdcache.specs.Ranks.{NoneUsed}

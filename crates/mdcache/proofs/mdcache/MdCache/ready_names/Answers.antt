@@ -1,7 +1,7 @@
 use Rattle.std.proofs.Common.{rules, ◌<◌, ◌≤◌, length, refl, sym, subst}
+use Rattle.mds_types.specs.Leaf.{leaf_of}
 use Rattle.cached_frag.specs.Cached.{Cached}
 use Rattle.dentry_cache.specs.CacheCalls.{Edits, KeepsNone}
-use Rattle.dentry_cache.specs.CacheMap.{leaf_of}
 use Rattle.dentry_cache.specs.Came.{IsThat, NoneEnds}
 use Rattle.mdcache.specs.Core.{Core}
 use Rattle.mdcache.proofs.CoreLaws.{room_step, there_after}

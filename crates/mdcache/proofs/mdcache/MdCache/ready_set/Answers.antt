@@ -1,11 +1,12 @@
 use Rattle.std.proofs.Common.{◌<◌, length, sym, subst}
 use Rattle.std.specs.Prelude.{IfSome}
 use Rattle.std.specs.FinMap as map
+use Rattle.mds_types.specs.Leaf.{leaf_of}
 use Rattle.dirfrag_codec.specs.EntryRecord.{IsRecordable}
 use Rattle.dirfrag_codec.specs.FragmentObject.{Names}
 use Rattle.cached_frag.specs.Cached.{Cached, shown}
 use Rattle.dentry_cache.specs.Cache.{HasCached}
-use Rattle.dentry_cache.specs.CacheMap.{here, leaf_of}
+use Rattle.dentry_cache.specs.CacheMap.{here}
 use Rattle.dentry_cache.specs.CacheSplits.{IsKeptFor}
 use Rattle.dentry_cache.specs.Came.{IsThat}
 use Rattle.mdcache.specs.Core.{Core}
