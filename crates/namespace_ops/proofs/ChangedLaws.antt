@@ -5,6 +5,7 @@ use Rattle.std.specs.Ordering.{eq_by_cmp}
 use Rattle.std.specs.FinMap as map
 use Rattle.mds_types.specs.declared.ids.Ino.{Ino}
 use Rattle.mds_types.specs.declared.dentries.Dentry.{Dentry}
+use Rattle.mds_types.specs.declared.dirfrags.Dirfrag.{Dirfrag}
 use Rattle.mds_types.specs.declared.inodes.Inode.{Inode}
 use Rattle.mds_types.specs.declared.inodes.Kind.{Kind}
 use Rattle.mds_types.specs.declared.operations.Op.{Op}
@@ -16,10 +17,11 @@ use Rattle.mds_types.specs.Outcomes.{is_errno}
 use Rattle.mds_types.proofs.StepLaws.{errno_of_any_number}
 use Rattle.mds_types.proofs.DirectoryLaws.{entries_there}
 use Rattle.inode_table.specs.Dirs.{Covers, leaves_of}
+use Rattle.namespace_ops.specs.declared.plans.Spot.{Spot}
 use Rattle.namespace_ops.specs.declared.plans.Change.{Change}
 use Rattle.namespace_ops.specs.declared.plans.Change.TheVariants.{Add, Set, Remove, Move}
-use Rattle.mds_types.specs.Leaf.{Leaf}
-use Rattle.namespace_ops.specs.Changes.{Carries, IsAddAt, IsChangeOf, IsLeafAt, IsMoveTo, IsRemovalAt, IsSetAt, IsUnlinkAt, Takes, directory_at, fragments_of, in_directory, is_idle, is_new, leaves, leaves_gone, named_once, reply_of, same_leaf, stays, unless_same}
+use Rattle.mds_types.specs.Leaf.{Leaf, leaf_of}
+use Rattle.namespace_ops.specs.Changes.{Carries, IsAddAt, IsChangeOf, IsLeafAt, IsMoveTo, IsRemovalAt, IsSetAt, IsSpot, IsUnlinkAt, Takes, dentry_at, directory_at, fragments_of, in_directory, is_idle, is_new, leaves, leaves_gone, named_once, reply_of, same_leaf, stays, unless_same}
 use Rattle.namespace_ops.specs.ChangedFragments.{AreApart, IsCovered, NamesOnce, changed_fragments, fragment_of, gone_with, leaves_at, touched}
 use Rattle.mds_types.specs.declared.refusals.Refusal.{Refusal}
 use Rattle.namespace_ops.specs.declared.plans.Checked.{Checked}
@@ -31,8 +33,8 @@ use Rattle.namespace_ops.proofs.Members.{first_or_later, in_dir, later, leaves_a
 leaf_is : (covers : Covers) (dentry : Dentry) (leaf : Fragment) → IsLeafAt covers dentry leaf → (dentry.dir, leaf) ≡ fragment_of covers dentry
 leaf_is covers dentry leaf pick = ap (in_directory dentry.dir.0) (sym (picked _ _ _ pick))
 
-leaf_at : (covers : Covers) (dentry p : Dentry) (leaf : Fragment) → p ≡ dentry → IsLeafAt covers p leaf → (p.dir, leaf) ≡ fragment_of covers dentry
-leaf_at covers dentry p leaf same pick = leaf_is covers p leaf pick ∙ ap (fragment_of covers) same
+leaf_at : (covers : Covers) (dentry : Dentry) (spot : Spot) → dentry_at spot ≡ dentry → IsSpot covers spot → leaf_of spot.at ≡ fragment_of covers dentry
+leaf_at covers dentry spot same pick = leaf_is covers (dentry_at spot) spot.at.frag pick ∙ ap (fragment_of covers) same
 
 gone_leaves : (covers : Covers) (found : Option Inode) (gone : Option Ino) → gone ≡ directory_at found → leaves_gone covers gone ≡ leaves_at covers found
 gone_leaves covers None gone is = ap (leaves_gone covers) is
@@ -44,39 +46,39 @@ gone_leaves covers (Some inode) gone is = ap (leaves_gone covers) is ∙ go (is_
 
 module _ (tree : Tree) (covers : Covers) where
   of_add : (dentry : Dentry) (kind : Kind) (change : Change) → IsAddAt dentry kind change → Carries tree covers change → fragments_of covers change ≡ fragment_of covers dentry ∷ []
-  of_add dentry kind (Add p leaf inode) at_dentry carries = ap (λ l. l ∷ []) (leaf_at covers dentry p leaf at_dentry.0 carries)
-  of_add dentry kind (Set p leaf inode) at_dentry carries = absurd at_dentry
-  of_add dentry kind (Remove p leaf gone) at_dentry carries = absurd at_dentry
-  of_add dentry kind (Move from source to target gone) at_dentry carries = absurd at_dentry
+  of_add dentry kind (Add spot inode) at_dentry carries = ap (λ l. l ∷ []) (leaf_at covers dentry spot at_dentry.0 carries)
+  of_add dentry kind (Set spot inode) at_dentry carries = absurd at_dentry
+  of_add dentry kind (Remove spot gone) at_dentry carries = absurd at_dentry
+  of_add dentry kind (Move from to gone) at_dentry carries = absurd at_dentry
 
   of_set : (dentry : Dentry) (change : Change) → IsSetAt dentry change → Carries tree covers change → fragments_of covers change ≡ fragment_of covers dentry ∷ []
-  of_set dentry (Add p leaf inode) at_dentry carries = absurd at_dentry
-  of_set dentry (Set p leaf inode) at_dentry carries = ap (λ l. l ∷ []) (leaf_at covers dentry p leaf at_dentry carries)
-  of_set dentry (Remove p leaf gone) at_dentry carries = absurd at_dentry
-  of_set dentry (Move from source to target gone) at_dentry carries = absurd at_dentry
+  of_set dentry (Add spot inode) at_dentry carries = absurd at_dentry
+  of_set dentry (Set spot inode) at_dentry carries = ap (λ l. l ∷ []) (leaf_at covers dentry spot at_dentry carries)
+  of_set dentry (Remove spot gone) at_dentry carries = absurd at_dentry
+  of_set dentry (Move from to gone) at_dentry carries = absurd at_dentry
 
   of_unlink : (dentry : Dentry) (change : Change) → IsUnlinkAt dentry change → Carries tree covers change → fragments_of covers change ≡ fragment_of covers dentry ∷ []
-  of_unlink dentry (Add p leaf inode) at_dentry carries = absurd at_dentry
-  of_unlink dentry (Set p leaf inode) at_dentry carries = absurd at_dentry
-  of_unlink dentry (Remove p leaf gone) at_dentry carries = λ i. leaf_at covers dentry p leaf at_dentry.0 carries.0 i ∷ leaves_gone covers (at_dentry.1 i)
-  of_unlink dentry (Move from source to target gone) at_dentry carries = absurd at_dentry
+  of_unlink dentry (Add spot inode) at_dentry carries = absurd at_dentry
+  of_unlink dentry (Set spot inode) at_dentry carries = absurd at_dentry
+  of_unlink dentry (Remove spot gone) at_dentry carries = λ i. leaf_at covers dentry spot at_dentry.0 carries.0 i ∷ leaves_gone covers (at_dentry.1 i)
+  of_unlink dentry (Move from to gone) at_dentry carries = absurd at_dentry
 
   of_removal : (dentry : Dentry) (change : Change) → IsRemovalAt dentry change → Carries tree covers change → fragments_of covers change ≡ fragment_of covers dentry ∷ leaves_at covers (map.get tree dentry)
-  of_removal dentry (Add p leaf inode) at_dentry carries = absurd at_dentry
-  of_removal dentry (Set p leaf inode) at_dentry carries = absurd at_dentry
-  of_removal dentry (Remove p leaf gone) at_dentry carries =
+  of_removal dentry (Add spot inode) at_dentry carries = absurd at_dentry
+  of_removal dentry (Set spot inode) at_dentry carries = absurd at_dentry
+  of_removal dentry (Remove spot gone) at_dentry carries =
       let there = gone_leaves covers (map.get tree dentry) gone (carries.1 ∙ ap (λ q. directory_at (map.get tree q)) at_dentry) in
-      λ i. leaf_at covers dentry p leaf at_dentry carries.0 i ∷ there i
-  of_removal dentry (Move from source to target gone) at_dentry carries = absurd at_dentry
+      λ i. leaf_at covers dentry spot at_dentry carries.0 i ∷ there i
+  of_removal dentry (Move from to gone) at_dentry carries = absurd at_dentry
 
   of_move : (here there : Dentry) (change : Change) → IsMoveTo here there change → Carries tree covers change
       → fragments_of covers change ≡ fragment_of covers here ∷ fragment_of covers there ∷ leaves_at covers (map.get tree there)
-  of_move here there (Add p leaf inode) at_dentry carries = absurd at_dentry
-  of_move here there (Set p leaf inode) at_dentry carries = absurd at_dentry
-  of_move here there (Remove p leaf gone) at_dentry carries = absurd at_dentry
-  of_move here there (Move from source to target gone) at_dentry carries =
+  of_move here there (Add spot inode) at_dentry carries = absurd at_dentry
+  of_move here there (Set spot inode) at_dentry carries = absurd at_dentry
+  of_move here there (Remove spot gone) at_dentry carries = absurd at_dentry
+  of_move here there (Move from to gone) at_dentry carries =
       let rest = gone_leaves covers (map.get tree there) gone (carries.2 ∙ ap (λ q. directory_at (map.get tree q)) at_dentry.1) in
-      λ i. leaf_at covers here from source at_dentry.0 carries.0 i ∷ leaf_at covers there to target at_dentry.1 carries.1 i ∷ rest i
+      λ i. leaf_at covers here from at_dentry.0 carries.0 i ∷ leaf_at covers there to at_dentry.1 carries.1 i ∷ rest i
 
   -- the fragments of a change are those that its operation touches
   touched_by : (op : Op) (change : Change) → IsChangeOf op change → Carries tree covers change → stays op ≡ false → fragments_of covers change ≡ touched covers tree op
@@ -94,16 +96,16 @@ module _ (tree : Tree) (covers : Covers) where
       ∙ sym (ap (λ b. cond b [] (fragment_of covers from ∷ fragment_of covers to ∷ leaves_at covers (map.get tree to))) moves)
 
   move_apart : (here there : Dentry) (change : Change) → IsMoveTo here there change → Takes tree change → eq_by_cmp dentry_cmp here there ≡ false
-  move_apart here there (Add p leaf inode) at_dentry takes = absurd at_dentry
-  move_apart here there (Set p leaf inode) at_dentry takes = absurd at_dentry
-  move_apart here there (Remove p leaf gone) at_dentry takes = absurd at_dentry
-  move_apart here there (Move from source to target gone) at_dentry takes = (λ i. eq_by_cmp dentry_cmp (sym at_dentry.0 i) (sym at_dentry.1 i)) ∙ takes.1.apart
+  move_apart here there (Add spot inode) at_dentry takes = absurd at_dentry
+  move_apart here there (Set spot inode) at_dentry takes = absurd at_dentry
+  move_apart here there (Remove spot gone) at_dentry takes = absurd at_dentry
+  move_apart here there (Move from to gone) at_dentry takes = (λ i. eq_by_cmp dentry_cmp (sym at_dentry.0 i) (sym at_dentry.1 i)) ∙ takes.1.apart
 
   new_or_not : (change : Change) → ((is_new change ≡ false) → Takes tree change) → (here there : Dentry) → IsMoveTo here there change → Takes tree change
-  new_or_not (Add p leaf inode) takes here there at_dentry = absurd at_dentry
-  new_or_not (Set p leaf inode) takes here there at_dentry = absurd at_dentry
-  new_or_not (Remove p leaf gone) takes here there at_dentry = absurd at_dentry
-  new_or_not (Move from source to target gone) takes here there at_dentry = takes refl
+  new_or_not (Add spot inode) takes here there at_dentry = absurd at_dentry
+  new_or_not (Set spot inode) takes here there at_dentry = absurd at_dentry
+  new_or_not (Remove spot gone) takes here there at_dentry = absurd at_dentry
+  new_or_not (Move from to gone) takes here there at_dentry = takes refl
 
   -- an operation that makes a change doesn't stay
   moves_by : (op : Op) (change : Change) → IsChangeOf op change → ((is_new change ≡ false) → Takes tree change) → stays op ≡ false
@@ -120,12 +122,12 @@ module _ (tree : Tree) (covers : Covers) where
       move_apart from to change one_of (new_or_not change takes from to one_of)
 
 no_errno : (change : Change) → is_errno (reply_of change) ≡ false
-no_errno (Add p leaf inode) = refl
-no_errno (Set p leaf inode) = refl
-no_errno (Remove p leaf gone) = refl
-no_errno (Move from source to target gone) = refl
+no_errno (Add spot inode) = refl
+no_errno (Set spot inode) = refl
+no_errno (Remove spot gone) = refl
+no_errno (Move from to gone) = refl
 
-module _ (tree : Tree) (covers : Covers) (op : Op) (n : ℕ) (change : Change) (checked : IsChecked tree covers op n (step tree op n) change) where
+module _ (tree : Tree) (covers : Covers) (Holds : Dirfrag → Type 0) (op : Op) (n : ℕ) (change : Change) (checked : IsChecked tree covers Holds op n (step tree op n) change) where
   pub takes_old : is_new change ≡ false → Takes tree change
   takes_old old = checked.takes (λ taken. let clash : true ≡ false = sym taken ∙ checked.number ∙ old in absurd cc)
 
@@ -211,32 +213,32 @@ module _ (tree : Tree) (covers : Covers) where
       go false is = itself (a ∷ b ∷ rest) (λ has. ⊎_elim (λ e. two_leaves a b is (sym e)) a_not (first_or_later b a rest has), (b_not, apart))
 
   pub named_apart : (change : Change) → Carries tree covers change → (is_new change ≡ false → Takes tree change) → IsCovered covers (gone_with change) → NamesOnce (fragments_of covers change) (named_once covers change)
-  named_apart (Add dentry leaf inode) carries takes covered = itself _ (none_in _, tt)
-  named_apart (Set dentry leaf inode) carries takes covered = itself _ (none_in _, tt)
-  named_apart (Remove dentry leaf gone) carries takes covered =
+  named_apart (Add spot inode) carries takes covered = itself _ (none_in _, tt)
+  named_apart (Set spot inode) carries takes covered = itself _ (none_in _, tt)
+  named_apart (Remove spot gone) carries takes covered =
       let may = takes refl in
-      itself _ (beside_gone dentry may.inode leaf gone may.stands (bare_by (map.get tree dentry) gone carries.1 (λ inode is kinded. removed_bare may.inode inode (sym may.stands ∙ is) may.empty kinded)), gone_apart gone covered)
+      itself _ (beside_gone (dentry_at spot) may.inode spot.at.frag gone may.stands (bare_by (map.get tree (dentry_at spot)) gone carries.1 (λ inode is kinded. removed_bare may.inode inode (sym may.stands ∙ is) may.empty kinded)), gone_apart gone covered)
     where
       removed_bare : (there inode : Inode) → ◌≡◌ {A = Option Inode} (Some there) (Some inode) → (is_dir_kind there.kind && has_entries tree there.ino.0) ≡ false → is_dir_kind inode.kind ≡ true → has_entries tree inode.ino.0 ≡ false
       removed_bare there inode is none kinded =
           let alike : there ≡ inode = cc in
           sym (ap (λ b. b && has_entries tree inode.ino.0) kinded) ∙ ap (λ (i : Inode). is_dir_kind i.kind && has_entries tree i.ino.0) (sym alike) ∙ none
-  named_apart (Move from source to target gone) carries takes covered =
+  named_apart (Move from to gone) carries takes covered =
       let move = takes refl in
-      let bare : IsBare tree gone = bare_by (map.get tree to) gone carries.2 (replaced_bare move.0 (map.get tree to) move.1.replaces) in
-      of_two (from.dir, source) (to.dir, target) (leaves_gone covers gone) (beside_gone from move.0 source gone move.1.stands bare) (beside_to (map.get tree to) refl gone carries.2 bare) (gone_apart gone covered)
+      let bare : IsBare tree gone = bare_by (map.get tree (dentry_at to)) gone carries.2 (replaced_bare move.0 (map.get tree (dentry_at to)) move.1.replaces) in
+      of_two (leaf_of from.at) (leaf_of to.at) (leaves_gone covers gone) (beside_gone (dentry_at from) move.0 from.at.frag gone move.1.stands bare) (beside_to (map.get tree (dentry_at to)) refl gone carries.2 bare) (gone_apart gone covered)
     where
-      beside_to : (found : Option Inode) → map.get tree to ≡ found → (g : Option Ino) → g ≡ directory_at (map.get tree to) → IsBare tree g → Contains (leaves_gone covers g) (to.dir, target) → ⊥
+      beside_to : (found : Option Inode) → map.get tree (dentry_at to) ≡ found → (g : Option Ino) → g ≡ directory_at (map.get tree (dentry_at to)) → IsBare tree g → Contains (leaves_gone covers g) (leaf_of to.at) → ⊥
       beside_to None at_to None is bare has = none_in _ has
       beside_to None at_to (Some dir) is bare has = let clash : Some dir ≡ None = is ∙ ap directory_at at_to in cc
-      beside_to (Some inode) at_to g is bare has = beside_gone to inode target g at_to bare has
+      beside_to (Some inode) at_to g is bare has = beside_gone (dentry_at to) inode to.at.frag g at_to bare has
 
 -- the list of the fragments of the change that the checks found names the changed fragments, each once
-pub named_result : {V : Type 0} (tree : Tree) (covers later : Covers) (op : Op) (n : ℕ) (change : Change) (found : Checked) (result : Result V Refusal) (items : V → List Leaf) → later ≡ covers → found ≡ Changes change → Checks tree covers op n (step tree op n) found
+pub named_result : {V : Type 0} (tree : Tree) (covers later : Covers) (Holds : Dirfrag → Type 0) (op : Op) (n : ℕ) (change : Change) (found : Checked) (result : Result V Refusal) (items : V → List Leaf) → later ≡ covers → found ≡ Changes change → Checks tree covers Holds op n (step tree op n) found
     → IfOk result (λ list. items list ≡ named_once later change) → IfOk result (λ list. IsCovered later (gone_with change)) → IfOk result (λ list. NamesOnce (changed_fragments covers tree op) (items list))
-named_result tree covers later op n change found (Ok list) items same is checks listed covered =
-    let checked : IsChecked tree covers op n (step tree op n) change = subst (Checks tree covers op n (step tree op n)) is checks in
-    subst (λ k. NamesOnce k (items list)) (fragments_are tree covers op n change checked)
+named_result tree covers later Holds op n change found (Ok list) items same is checks listed covered =
+    let checked : IsChecked tree covers Holds op n (step tree op n) change = subst (Checks tree covers Holds op n (step tree op n)) is checks in
+    subst (λ k. NamesOnce k (items list)) (fragments_are tree covers Holds op n change checked)
     (subst (NamesOnce (fragments_of covers change)) (sym (listed ∙ ap (λ k. named_once k change) same))
-    (named_apart tree covers change checked.carries (takes_old tree covers op n change checked) (subst (λ k. IsCovered k (gone_with change)) same covered)))
-named_result tree covers later op n change found (Err reason) items same is checks listed covered = tt
+    (named_apart tree covers change checked.carries (takes_old tree covers Holds op n change checked) (subst (λ k. IsCovered k (gone_with change)) same covered)))
+named_result tree covers later Holds op n change found (Err reason) items same is checks listed covered = tt

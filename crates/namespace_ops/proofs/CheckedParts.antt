@@ -1,26 +1,34 @@
 -- What the checks of each kind of operation find.
-use Rattle.std.proofs.Common.{◌≡◌, ℕ, Bool, true, false, not, cond, ◌&&◌, is_some, IfOk, Option, Some, None, Result, refl, sym, ap, subst, ◌∙◌}
+use Rattle.std.proofs.Common.{◌≡◌, ℕ, Bool, true, false, not, cond, ◌&&◌, is_some, IfOk, Option, Some, None, Result, Ok, Err, refl, sym, ap, subst, ◌∙◌}
 use Rattle.std.specs.Ordering.{eq_by_cmp}
 use Rattle.std.specs.FinMap as map
 use Rattle.mds_types.specs.declared.ids.Ino.{Ino}
 use Rattle.mds_types.specs.declared.dentries.Dentry.{Dentry}
+use Rattle.mds_types.specs.declared.dirfrags.Dirfrag.{Dirfrag}
 use Rattle.mds_types.specs.declared.inodes.Attributes.{Attributes}
 use Rattle.mds_types.specs.declared.inodes.Inode.{Inode}
 use Rattle.mds_types.specs.declared.inodes.Kind.{Kind}
 use Rattle.mds_types.specs.declared.inodes.Kind.TheVariants.{File, Dir, Symlink as Link}
 use Rattle.mds_types.specs.declared.operations.Op.{Op}
+use Rattle.mds_types.specs.declared.operations.Op.TheVariants.{Rename}
 use Rattle.mds_types.specs.declared.refusals.Refusal.{Refusal}
 use Rattle.mds_types.specs.declared.replies.Reply.TheVariants.{Done, Entry, Errno}
-use Rattle.mds_types.specs.Frag.{Fragment}
 use Rattle.mds_types.specs.Tree.{Tree, dentry_cmp, is_directory, is_dir_kind, has_entries}
-use Rattle.mds_types.specs.Step.{Outcome, answers, attributes_set, dir_removed, removal_errno, leads_to, made, new_inode, renamed, replace_errno, size_errno, unless, unlinked, with_attributes, with_moved, within}
+use Rattle.mds_types.specs.Step.{IsMove, Outcome, answers, attributes_set, destination_of, dir_removed, directory_of, removal_errno, leads_to, made, new_inode, renamed, replace_errno, size_errno, step, unless, unlinked, with_attributes, with_moved, within}
 use Rattle.mds_types.proofs.DirectoryLaws.{entry_stands}
 use Rattle.mds_types.proofs.WellFormedLaws.{new_sized, may_go}
+use Rattle.namehash.specs.Rjenkins.{hash_of}
 use Rattle.inode_table.specs.Dirs.{Covers}
-use Rattle.namespace_ops.specs.declared.plans.Checked.{Checked}
+use Rattle.inode_table.specs.TreeChanges.{MayAdd, MayRemove, MaySet}
+use Rattle.namespace_ops.specs.declared.locating.Places.{Places}
+use Rattle.namespace_ops.specs.declared.plans.Spot.{Spot}
+use Rattle.namespace_ops.specs.declared.plans.Change.{Change}
 use Rattle.namespace_ops.specs.declared.plans.Change.TheVariants.{Add, Set, Remove, Move}
-use Rattle.namespace_ops.specs.Changes.{Concerns, IsChangeOf, IsLeafAt, Reads, directory_at, moved}
+use Rattle.namespace_ops.specs.declared.plans.Checked.{Checked}
+use Rattle.namespace_ops.specs.declared.plans.Checked.TheVariants.{Answers, Changes}
+use Rattle.namespace_ops.specs.Changes.{AreHeld, Concerns, IsChangeOf, IsLeafAt, IsSpot, Reads, dentry_at, directory_at, moved}
 use Rattle.namespace_ops.specs.Checked.{Checks, IsChecked}
+use Rattle.namespace_ops.specs.Places.{AreLocated, IsAt, LiesAt, Locates, LocatesAt, main_hash, source_of}
 
 -- what the test of a kind told
 pub no_dir : (kind : Kind) (told : Bool) → (kind ≡ Dir → told ≡ true) → told ≡ false → is_dir_kind kind ≡ false
@@ -36,89 +44,106 @@ none_given false number given none = refl
 pub none_clash : (b : Bool) → b ≡ true → b ≡ false → ⊥
 none_clash b held failed = let clash : true ≡ false = sym held ∙ failed in cc
 
-module _ (tree : Tree) (covers : Covers) (op : Op) (n : ℕ) where
-  pub made_checked : (dentry p : Dentry) (leaf : Fragment) (kind : Kind) (mode mtime : ℕ) (inode : Inode) → p ≡ dentry → inode ≡ new_inode n kind mode mtime → map.get tree dentry ≡ None → is_directory tree dentry.dir.0 ≡ true → IsLeafAt covers dentry leaf
-      → ((l : Fragment) (i : Inode) → i.kind ≡ kind → IsChangeOf op (Add dentry l i)) → IsChecked tree covers op n (made tree dentry (new_inode n kind mode mtime) (map.get tree dentry)) (Add p leaf inode)
-  made_checked dentry p leaf kind mode mtime inode same is free here pick makes =
-      subst (λ q. IsChecked tree covers op n (made tree dentry new (map.get tree dentry)) (Add q leaf inode)) (sym same)
-      (subst (λ i. IsChecked tree covers op n (made tree dentry new (map.get tree dentry)) (Add dentry leaf i)) (sym is)
-      (subst (λ o. IsChecked tree covers op n (made tree dentry new o) (Add dentry leaf new)) (sym free) (record {
-        one_of = makes leaf new refl;
+-- the spot of a dentry that lies there
+spot_is : (dentry : Dentry) (at : Dirfrag) → at.dir.0 ≡ dentry.dir.0 → (spot : Spot) → spot ≡ record { at = at; name = dentry.name } → dentry_at spot ≡ dentry
+spot_is dentry at same spot is = ap dentry_at is ∙ (λ i. record { dir = record { 0 = same i }; name = dentry.name })
+
+module _ (tree : Tree) (covers : Covers) (Holds : Dirfrag → Type 0) where
+  -- where a dentry lies its spot is
+  pub spot_of : (dentry : Dentry) (at : Dirfrag) → LiesAt tree covers Holds dentry at → (spot : Spot) → spot ≡ record { at = at; name = dentry.name } → (dentry_at spot ≡ dentry) × IsSpot covers spot × Holds spot.at
+  spot_of dentry at lies spot is =
+      let same = spot_is dentry at lies.dir spot is in
+      (same, subst (λ (d : Dentry). IsLeafAt covers d spot.at.frag) (sym same) (subst (λ (s : Spot). IsLeafAt covers dentry s.at.frag) (sym is) lies.leaf), subst (λ (s : Spot). Holds s.at) (sym is) lies.held)
+
+module _ (tree : Tree) (covers : Covers) (Holds : Dirfrag → Type 0) (op : Op) (n : ℕ) where
+  pub made_checked : (dentry : Dentry) (at : Dirfrag) (spot : Spot) (kind : Kind) (mode mtime : ℕ) (inode : Inode) → LiesAt tree covers Holds dentry at → spot ≡ record { at = at; name = dentry.name } → inode ≡ new_inode n kind mode mtime → map.get tree dentry ≡ None
+      → ((s : Spot) (i : Inode) → dentry_at s ≡ dentry → i.kind ≡ kind → IsChangeOf op (Add s i)) → IsChecked tree covers Holds op n (made tree dentry (new_inode n kind mode mtime) (map.get tree dentry)) (Add spot inode)
+  made_checked dentry at spot kind mode mtime inode lies same is free makes =
+      let there = spot_of tree covers Holds dentry at lies spot same in
+      subst (λ (i : Inode). IsChecked tree covers Holds op n (made tree dentry new (map.get tree dentry)) (Add spot i)) (sym is)
+      (subst (λ o. IsChecked tree covers Holds op n (made tree dentry new o) (Add spot new)) (sym free) (record {
+        one_of = makes spot new there.0 refl;
         replied = refl;
-        leads = refl;
+        leads = ap (λ (d : Dentry). map.insert tree d new) (sym there.0);
         number = refl;
         numbered = refl;
-        carries = pick;
-        takes = λ unused. record { free = free; parent = here; unused = unused refl; sized = new_sized kind };
-      })))
+        carries = there.1;
+        held = there.2;
+        takes = λ unused. subst (λ (d : Dentry). MayAdd tree d new) (sym there.0) (record { free = free; parent = lies.stands; unused = unused refl; sized = new_sized kind });
+      }))
     where
       new : Inode
       new = new_inode n kind mode mtime
 
-  pub set_checked : (dentry p : Dentry) (leaf : Fragment) (given : Attributes) (before inode : Inode) → p ≡ dentry → inode ≡ with_attributes given before → map.get tree dentry ≡ Some before → size_errno before.kind given.size ≡ None → IsLeafAt covers dentry leaf
-      → ((l : Fragment) (i : Inode) → IsChangeOf op (Set dentry l i)) → IsChecked tree covers op n (attributes_set tree dentry given (map.get tree dentry)) (Set p leaf inode)
-  set_checked dentry p leaf given before inode same is stands allowed pick sets =
-      subst (λ q. IsChecked tree covers op n (attributes_set tree dentry given (map.get tree dentry)) (Set q leaf inode)) (sym same)
-      (subst (λ i. IsChecked tree covers op n (attributes_set tree dentry given (map.get tree dentry)) (Set dentry leaf i)) (sym is)
-      (subst (λ o. IsChecked tree covers op n (attributes_set tree dentry given o) (Set dentry leaf later)) (sym stands)
-      (subst (λ e. IsChecked tree covers op n (unless tree e (answers (map.insert tree dentry later) (Entry later))) (Set dentry leaf later)) (sym allowed) (record {
-        one_of = sets leaf later;
+  pub set_checked : (dentry : Dentry) (at : Dirfrag) (spot : Spot) (given : Attributes) (before inode : Inode) → LiesAt tree covers Holds dentry at → spot ≡ record { at = at; name = dentry.name } → inode ≡ with_attributes given before → map.get tree dentry ≡ Some before → size_errno before.kind given.size ≡ None
+      → ((s : Spot) (i : Inode) → dentry_at s ≡ dentry → IsChangeOf op (Set s i)) → IsChecked tree covers Holds op n (attributes_set tree dentry given (map.get tree dentry)) (Set spot inode)
+  set_checked dentry at spot given before inode lies same is stands allowed sets =
+      let there = spot_of tree covers Holds dentry at lies spot same in
+      subst (λ (i : Inode). IsChecked tree covers Holds op n (attributes_set tree dentry given (map.get tree dentry)) (Set spot i)) (sym is)
+      (subst (λ o. IsChecked tree covers Holds op n (attributes_set tree dentry given o) (Set spot later)) (sym stands)
+      (subst (λ e. IsChecked tree covers Holds op n (unless tree e (answers (map.insert tree dentry later) (Entry later))) (Set spot later)) (sym allowed) (record {
+        one_of = sets spot later there.0;
         replied = refl;
-        leads = refl;
+        leads = ap (λ (d : Dentry). map.insert tree d later) (sym there.0);
         number = refl;
         numbered = tt;
-        carries = pick;
-        takes = λ unused. record { before = before; given = given; stands = stands; allowed = allowed; is = refl };
-      }))))
+        carries = there.1;
+        held = there.2;
+        takes = λ unused. subst (λ (d : Dentry). MaySet tree d later) (sym there.0) (record { before = before; given = given; stands = stands; allowed = allowed; is = refl });
+      })))
     where
       later : Inode
       later = with_attributes given before
 
-  removed : (dentry p : Dentry) (leaf : Fragment) (inode : Inode) (gone : Option Ino) (outcome : Outcome) → p ≡ dentry → map.get tree dentry ≡ Some inode → (is_dir_kind inode.kind && has_entries tree inode.ino.0) ≡ false → gone ≡ directory_at (Some inode)
-      → IsLeafAt covers dentry leaf → IsChangeOf op (Remove dentry leaf gone) → outcome ≡ answers (map.remove tree dentry) Done → IsChecked tree covers op n outcome (Remove p leaf gone)
-  removed dentry p leaf inode gone outcome same stands empty is pick removes comes =
-      subst (λ q. IsChecked tree covers op n outcome (Remove q leaf gone)) (sym same)
-      (subst (λ o. IsChecked tree covers op n o (Remove dentry leaf gone)) (sym comes) (record {
-        one_of = removes;
+  removed : (dentry : Dentry) (at : Dirfrag) (spot : Spot) (inode : Inode) (gone : Option Ino) (outcome : Outcome) → LiesAt tree covers Holds dentry at → spot ≡ record { at = at; name = dentry.name } → map.get tree dentry ≡ Some inode → (is_dir_kind inode.kind && has_entries tree inode.ino.0) ≡ false
+      → gone ≡ directory_at (Some inode) → ((s : Spot) → dentry_at s ≡ dentry → IsChangeOf op (Remove s gone)) → outcome ≡ answers (map.remove tree dentry) Done → IsChecked tree covers Holds op n outcome (Remove spot gone)
+  removed dentry at spot inode gone outcome lies same stands empty is removes comes =
+      let there = spot_of tree covers Holds dentry at lies spot same in
+      subst (λ o. IsChecked tree covers Holds op n o (Remove spot gone)) (sym comes) (record {
+        one_of = removes spot there.0;
         replied = refl;
-        leads = refl;
+        leads = ap (map.remove tree) (sym there.0);
         number = refl;
         numbered = tt;
-        carries = (pick, is ∙ ap directory_at (sym stands));
-        takes = λ unused. record { inode = inode; stands = stands; empty = empty };
-      }))
+        carries = (there.1, is ∙ ap directory_at (sym stands) ∙ ap (λ (d : Dentry). directory_at (map.get tree d)) (sym there.0));
+        held = there.2;
+        takes = λ unused. subst (MayRemove tree) (sym there.0) (record { inode = inode; stands = stands; empty = empty });
+      })
 
-  pub unlinked_checked : (dentry p : Dentry) (leaf : Fragment) (inode : Inode) → p ≡ dentry → map.get tree dentry ≡ Some inode → is_dir_kind inode.kind ≡ false → IsLeafAt covers dentry leaf → ((l : Fragment) → IsChangeOf op (Remove dentry l None))
-      → IsChecked tree covers op n (unlinked tree dentry (map.get tree dentry)) (Remove p leaf None)
-  unlinked_checked dentry p leaf inode same stands file pick removes =
-      removed dentry p leaf inode None _ same stands (ap (λ b. b && has_entries tree inode.ino.0) file) (sym (ap (λ b. cond b (Some inode.ino) None) file)) pick (removes leaf)
+  pub unlinked_checked : (dentry : Dentry) (at : Dirfrag) (spot : Spot) (inode : Inode) → LiesAt tree covers Holds dentry at → spot ≡ record { at = at; name = dentry.name } → map.get tree dentry ≡ Some inode → is_dir_kind inode.kind ≡ false
+      → ((s : Spot) → dentry_at s ≡ dentry → IsChangeOf op (Remove s None)) → IsChecked tree covers Holds op n (unlinked tree dentry (map.get tree dentry)) (Remove spot None)
+  unlinked_checked dentry at spot inode lies same stands file removes =
+      removed dentry at spot inode None _ lies same stands (ap (λ b. b && has_entries tree inode.ino.0) file) (sym (ap (λ b. cond b (Some inode.ino) None) file)) removes
       (ap (unlinked tree dentry) stands ∙ ap (λ b. cond b (answers tree (Errno 21)) (answers (map.remove tree dentry) Done)) file)
 
-  pub dir_checked : (dentry p : Dentry) (leaf : Fragment) (inode : Inode) → p ≡ dentry → map.get tree dentry ≡ Some inode → removal_errno tree inode ≡ None → IsLeafAt covers dentry leaf
-      → ((l : Fragment) (g : Option Ino) → IsChangeOf op (Remove dentry l g)) → IsChecked tree covers op n (dir_removed tree dentry (map.get tree dentry)) (Remove p leaf (Some inode.ino))
-  dir_checked dentry p leaf inode same stands may pick removes =
+  pub dir_checked : (dentry : Dentry) (at : Dirfrag) (spot : Spot) (inode : Inode) → LiesAt tree covers Holds dentry at → spot ≡ record { at = at; name = dentry.name } → map.get tree dentry ≡ Some inode → removal_errno tree inode ≡ None
+      → ((s : Spot) (g : Option Ino) → dentry_at s ≡ dentry → IsChangeOf op (Remove s g)) → IsChecked tree covers Holds op n (dir_removed tree dentry (map.get tree dentry)) (Remove spot (Some inode.ino))
+  dir_checked dentry at spot inode lies same stands may removes =
       let free = may_go (is_dir_kind inode.kind) (has_entries tree inode.ino.0) may in
-      removed dentry p leaf inode (Some inode.ino) _ same stands (ap (λ b. b && has_entries tree inode.ino.0) free.0 ∙ free.1) (sym (ap (λ b. cond b (Some inode.ino) None) free.0)) pick (removes leaf (Some inode.ino))
+      removed dentry at spot inode (Some inode.ino) _ lies same stands (ap (λ b. b && has_entries tree inode.ino.0) free.0 ∙ free.1) (sym (ap (λ b. cond b (Some inode.ino) None) free.0)) (λ s is. removes s (Some inode.ino) is)
       (ap (dir_removed tree dentry) stands ∙ ap (λ e. unless tree e (answers (map.remove tree dentry) Done)) may)
 
-  pub moved_checked : (from to p q : Dentry) (source target : Fragment) (gone : Option Ino) (inode : Inode) → p ≡ from → q ≡ to → map.get tree from ≡ Some inode → IsLeafAt covers from source → IsLeafAt covers to target → eq_by_cmp dentry_cmp from to ≡ false
-      → is_directory tree to.dir.0 ≡ true → leads_to tree inode to.dir.0 ≡ false → replace_errno tree inode (map.get tree to) ≡ None → gone ≡ directory_at (map.get tree to) → IsChangeOf op (Move from source to target gone)
-      → IsChecked tree covers op n (unless tree (replace_errno tree inode (map.get tree to)) (answers (with_moved tree from to inode) Done)) (Move p source q target gone)
-  moved_checked from to p q source target gone inode begins ends stands here there apart parent outside replaces is moves =
-      subst (λ a. IsChecked tree covers op n comes (Move a source q target gone)) (sym begins)
-      (subst (λ b. IsChecked tree covers op n comes (Move from source b target gone)) (sym ends)
-      (subst (λ e. IsChecked tree covers op n (unless tree e (answers (with_moved tree from to inode) Done)) (Move from source to target gone)) (sym replaces) (record {
-        one_of = moves;
+  pub moved_checked : (from to : Dentry) (at : Dirfrag × Dirfrag) (source target : Spot) (gone : Option Ino) (inode : Inode) → LiesAt tree covers Holds from at.0 → LiesAt tree covers Holds to at.1 → source ≡ record { at = at.0; name = from.name } → target ≡ record { at = at.1; name = to.name }
+      → map.get tree from ≡ Some inode → eq_by_cmp dentry_cmp from to ≡ false → leads_to tree inode to.dir.0 ≡ false → replace_errno tree inode (map.get tree to) ≡ None → gone ≡ directory_at (map.get tree to)
+      → ((s t : Spot) (g : Option Ino) → dentry_at s ≡ from → dentry_at t ≡ to → IsChangeOf op (Move s t g))
+      → IsChecked tree covers Holds op n (unless tree (replace_errno tree inode (map.get tree to)) (answers (with_moved tree from to inode) Done)) (Move source target gone)
+  moved_checked from to at source target gone inode here there begins ends stands apart outside replaces is moves =
+      let a = spot_of tree covers Holds from at.0 here source begins in
+      let b = spot_of tree covers Holds to at.1 there target ends in
+      subst (λ e. IsChecked tree covers Holds op n (unless tree e (answers (with_moved tree from to inode) Done)) (Move source target gone)) (sym replaces) (record {
+        one_of = moves source target gone a.0 b.0;
         replied = refl;
-        leads = ap (moved tree from to) (sym stands);
+        leads = ap (moved tree from to) (sym stands) ∙ (λ i. moved tree (sym a.0 i) (sym b.0 i) (map.get tree (sym a.0 i)));
         number = refl;
         numbered = tt;
-        carries = (here, there, is);
-        takes = λ unused. (inode, record { stands = stands; apart = apart; parent = parent; outside = outside; replaces = replaces });
-      })))
-    where
-      comes : Outcome
-      comes = unless tree (replace_errno tree inode (map.get tree to)) (answers (with_moved tree from to inode) Done)
+        carries = (a.1, b.1, is ∙ ap (λ (d : Dentry). directory_at (map.get tree d)) (sym b.0));
+        held = (a.2, b.2);
+        takes = λ unused. (
+          inode,
+          subst (λ (d : Dentry). IsMove tree d (dentry_at target) inode) (sym a.0) (subst (λ (d : Dentry). IsMove tree from d inode) (sym b.0)
+              (record { stands = stands; apart = apart; parent = there.stands; outside = outside; replaces = replaces })),
+        );
+      })
 
 -- the errno of what stands at the target, asked of a later state at which the tree was the same
 pub replaced_told : (tree mid : Tree) (inode : Inode) (to : Dentry) (copied found : Option Inode) (told : Option ℕ) → mid ≡ tree → copied ≡ found → found ≡ map.get tree to → told ≡ replace_errno mid inode copied → told ≡ replace_errno tree inode (map.get tree to)
@@ -133,14 +158,51 @@ renamed_on tree from to source target inode stands apart outside =
     ∙ ap (λ b. cond b (answers tree (Errno 22)) (unless tree (replace_errno tree inode target) (answers (with_moved tree from to inode) Done))) outside)
 
 -- what was found from a later state, at which the tree and the leaves were the same, was found from the earlier
-pub checks_from : (tree mid : Tree) (covers later : Covers) (op : Op) (n : ℕ) (outcome here : Outcome) (result : Result Checked Refusal) → mid ≡ tree → later ≡ covers → outcome ≡ here → IfOk result (Checks mid later op n outcome) → IfOk result (Checks tree covers op n here)
-checks_from tree mid covers later op n outcome here result same leaves is found =
-    subst (λ t. IfOk result (Checks t covers op n here)) same (subst (λ k. IfOk result (Checks mid k op n here)) leaves (subst (λ o. IfOk result (Checks mid later op n o)) is found))
+pub checks_from : (tree mid : Tree) (covers later : Covers) (Holds Held : Dirfrag → Type 0) (op : Op) (n : ℕ) (outcome here : Outcome) (result : Result Checked Refusal) → mid ≡ tree → later ≡ covers → ((at : Dirfrag) → Held at → Holds at) → outcome ≡ here
+    → IfOk result (Checks mid later Held op n outcome) → IfOk result (Checks tree covers Holds op n here)
+checks_from tree mid covers later Holds Held op n outcome here result same leaves holds is found =
+    held_so (subst (λ t. IfOk result (Checks t covers Held op n here)) same (subst (λ k. IfOk result (Checks mid k Held op n here)) leaves (subst (λ o. IfOk result (Checks mid later Held op n o)) is found)))
+  where
+    held_of : (change : Change) → AreHeld Held change → AreHeld Holds change
+    held_of (Add spot inode) h = holds spot.at h
+    held_of (Set spot inode) h = holds spot.at h
+    held_of (Remove spot went) h = holds spot.at h
+    held_of (Move from to went) h = (holds from.at h.0, holds to.at h.1)
+
+    held_so : IfOk result (Checks tree covers Held op n here) → IfOk result (Checks tree covers Holds op n here)
+    held_so = go result
+      where
+        go : (r : Result Checked Refusal) → IfOk r (Checks tree covers Held op n here) → IfOk r (Checks tree covers Holds op n here)
+        go (Err reason) h = tt
+        go (Ok (Answers reply)) h = h
+        go (Ok (Changes change)) h = record { one_of = h.one_of; replied = h.replied; leads = h.leads; number = h.number; numbered = h.numbered; carries = h.carries; held = held_of change h.held; takes = h.takes }
 
 -- a directory that an operation concerns by what stands at a dentry is read
 pub reads_inside : (tree : Tree) (op is : Op) (dentry : Dentry) (inode : Inode) → op ≡ is → Concerns tree is inode.ino.0 → map.get tree dentry ≡ Some inode → inode.kind ≡ Dir → Reads tree op inode.ino.0
 reads_inside tree op is dentry inode same concerns stands kind = (subst (λ (o : Op). Concerns tree o inode.ino.0) (sym same) concerns, entry_stands tree dentry inode stands (ap is_dir_kind kind))
 
--- what was found of an operation, by which it is
-pub within_from : (tree : Tree) (covers : Covers) (op is : Op) (n : ℕ) (result : Result Checked Refusal) → op ≡ is → IfOk result (Checks tree covers op n (within tree is n)) → IfOk result (Checks tree covers op n (within tree op n))
-within_from tree covers op is n result same found = subst (λ o. IfOk result (Checks tree covers op n (within tree o n))) (sym same) found
+module _ (tree : Tree) (covers : Covers) (Holds : Dirfrag → Type 0) (op is : Op) (same : op ≡ is) where
+  -- what was found of an operation whose directories stand, by which it is
+  pub step_from : (n : ℕ) (result : Result Checked Refusal) → is_directory tree (directory_of is) ≡ true → is_directory tree (destination_of is) ≡ true → IfOk result (Checks tree covers Holds op n (within tree is n)) → IfOk result (Checks tree covers Holds op n (step tree op n))
+  step_from n result here there found =
+      subst (λ (o : Op). IfOk result (Checks tree covers Holds op n (step tree o n))) (sym same)
+      (subst (λ b. IfOk result (Checks tree covers Holds op n (cond b (within tree is n) (answers tree (Errno 116))))) (sym ((λ i. here i && there i))) found)
+
+  -- where its main name lies
+  pub main_at : (places : Places) (at : Dirfrag) → AreLocated tree covers Holds op places → places.main ≡ Some at → IsAt tree covers Holds (destination_of is) (main_hash is) at
+  main_at places at located stands = subst (λ (o : Op). IsAt tree covers Holds (destination_of o) (main_hash o) at) same (subst (Locates tree covers Holds (destination_of op) (main_hash op)) stands located.main)
+
+  pub step_at : (n : ℕ) (result : Result Checked Refusal) (places : Places) (at : Dirfrag) → AreLocated tree covers Holds op places → places.main ≡ Some at → directory_of is ≡ destination_of is → IfOk result (Checks tree covers Holds op n (within tree is n)) → IfOk result (Checks tree covers Holds op n (step tree op n))
+  step_at n result places at located stands one found = let there = main_at places at located stands in step_from n result (ap (is_directory tree) one ∙ there.stands) there.stands found
+
+-- where the source of a rename lies
+pub source_at : (tree : Tree) (covers : Covers) (Holds : Dirfrag → Type 0) (op : Op) (from to : Dentry) (places : Places) (at : Dirfrag) → op ≡ Rename from to → AreLocated tree covers Holds op places → places.source ≡ Some at → LiesAt tree covers Holds from at
+source_at tree covers Holds op from to places at same located stands =
+    subst (Locates tree covers Holds from.dir.0 (hash_of from.name)) stands (subst (λ (o : Op). LocatesAt tree covers Holds (source_of o) places.source) same located.source)
+
+-- what was found of an operation is so after reads
+pub checked_on : (tree mid : Tree) (covers later : Covers) (Holds Held : Dirfrag → Type 0) (op : Op) (n m : ℕ) (change : Change) (found : Checked) → mid ≡ tree → later ≡ covers → ((at : Dirfrag) → Holds at → Held at) → n ≡ m → found ≡ Changes change → Checks tree covers Holds op n (step tree op n) found
+    → IsChecked mid later Held op m (step mid op m) change
+checked_on tree mid covers later Holds Held op n m change found same leaves holds number is checks =
+    subst (λ k. IsChecked mid later Held op k (step mid op k) change) number
+    (checks_from mid tree later covers Held Holds op n (step tree op n) (step mid op n) (Ok (Changes change)) (sym same) (sym leaves) holds (λ i. step (sym same i) op n) (subst (Checks tree covers Holds op n (step tree op n)) is checks))

@@ -18,9 +18,9 @@ use Rattle.inode_table.specs.Dirs.{Covers, leaves_of}
 use Rattle.inode_table.specs.TreeChanges.{KeepLeaves, MayAdd, MaySet, MayRemove}
 use Rattle.namespace_ops.specs.declared.plans.Change.{Change}
 use Rattle.namespace_ops.specs.declared.plans.Change.TheVariants.{Add, Set, Remove, Move}
-use Rattle.mds_types.specs.Leaf.{Leaf}
+use Rattle.mds_types.specs.Leaf.{Leaf, leaf_of}
 use Rattle.namespace_ops.specs.Kept.{IsStanding, ShowsTheSame, OthersShowTheSame}
-use Rattle.namespace_ops.specs.Changes.{IsLeafAt, MayChange, changed, directory_at, fragments_in, fragments_of, in_directory, leaves, leaves_gone, moved}
+use Rattle.namespace_ops.specs.Changes.{IsLeafAt, MayChange, changed, dentry_at, directory_at, fragments_in, fragments_of, in_directory, leaves, leaves_gone, moved}
 use Rattle.namespace_ops.specs.Planned.{IsReadyToChange, after_plan}
 use Rattle.namespace_ops.proofs.Members.{first, first_or_later, later}
 
@@ -58,46 +58,46 @@ module _ (tree : Tree) (covers : Covers) (whole : IsWellFormed tree) (leaf : Lea
   stands_as new w same = ap (is_directory new) (sym w.numbered) ∙ entry_stands new w.dentry w.inode (same ∙ w.stands) w.kinded
 
   directory_after : (change : Change) → MayChange tree covers change → (Among (fragments_of covers change) leaf → ⊥) → is_directory (changed tree change) leaf.0.0 ≡ true
-  directory_after (Add p at_leaf inode) may elsewhere =
-      still (map.insert tree p inode) (λ w. stands_as (map.insert tree p inode) w (get_beside tree p inode w.dentry
+  directory_after (Add spot inode) may elsewhere =
+      still (map.insert tree (dentry_at spot) inode) (λ w. stands_as (map.insert tree (dentry_at spot) inode) w (get_beside tree (dentry_at spot) inode w.dentry
       (λ same. let clash : None ≡ Some w.inode = sym may.takes.free ∙ ap (map.get tree) (sym same) ∙ w.stands in cc)))
-  directory_after (Set p at_leaf inode) may elsewhere = still (map.insert tree p inode) (λ w. go w (same_or_apart w.dentry p))
+  directory_after (Set spot inode) may elsewhere = still (map.insert tree (dentry_at spot) inode) (λ w. go w (same_or_apart w.dentry (dentry_at spot)))
     where
-      go : (w : StandsAs tree leaf.0.0) → (w.dentry ≡ p) ⊎ (w.dentry ≡ p → ⊥) → is_directory (map.insert tree p inode) leaf.0.0 ≡ true
-      go w (inr not_there) = stands_as _ w (get_beside tree p inode w.dentry not_there)
+      go : (w : StandsAs tree leaf.0.0) → (w.dentry ≡ (dentry_at spot)) ⊎ (w.dentry ≡ (dentry_at spot) → ⊥) → is_directory (map.insert tree (dentry_at spot) inode) leaf.0.0 ≡ true
+      go w (inr not_there) = stands_as _ w (get_beside tree (dentry_at spot) inode w.dentry not_there)
       go w (inl same) =
           let both : Some may.takes.before ≡ Some w.inode = sym may.takes.stands ∙ ap (map.get tree) (sym same) ∙ w.stands in
           let alike : may.takes.before ≡ w.inode = cc in
-          ap (is_directory (map.insert tree p inode)) (sym w.numbered ∙ ap (λ (i : Inode). i.ino.0) (sym alike) ∙ ap (λ (i : Inode). i.ino.0) (sym may.takes.is))
-          ∙ entry_stands (map.insert tree p inode) p inode (get_put tree p inode) (ap (λ (i : Inode). is_dir_kind i.kind) may.takes.is ∙ ap (λ (i : Inode). is_dir_kind i.kind) alike ∙ w.kinded)
-  directory_after (Remove p at_leaf went) may elsewhere =
-      still (map.remove tree p) (λ w. stands_as (map.remove tree p) w (get_left tree p w.dentry
-      (λ same. not_gone went (map.get tree p) may.carries.1 (λ gone_one. elsewhere (later _ _ _ gone_one)) w.inode (ap (map.get tree) (sym same) ∙ w.stands) w.kinded w.numbered)))
-  directory_after (Move from source to target went) may elsewhere =
-      ap (λ found. is_directory (moved tree from to found) leaf.0.0) may.takes.1.stands
-      ∙ still_moved tree from to may.takes.0 whole (may_move tree from to may.takes.0 whole may.takes.1) leaf.0.0
+          ap (is_directory (map.insert tree (dentry_at spot) inode)) (sym w.numbered ∙ ap (λ (i : Inode). i.ino.0) (sym alike) ∙ ap (λ (i : Inode). i.ino.0) (sym may.takes.is))
+          ∙ entry_stands (map.insert tree (dentry_at spot) inode) (dentry_at spot) inode (get_put tree (dentry_at spot) inode) (ap (λ (i : Inode). is_dir_kind i.kind) may.takes.is ∙ ap (λ (i : Inode). is_dir_kind i.kind) alike ∙ w.kinded)
+  directory_after (Remove spot went) may elsewhere =
+      still (map.remove tree (dentry_at spot)) (λ w. stands_as (map.remove tree (dentry_at spot)) w (get_left tree (dentry_at spot) w.dentry
+      (λ same. not_gone went (map.get tree (dentry_at spot)) may.carries.1 (λ gone_one. elsewhere (later _ _ _ gone_one)) w.inode (ap (map.get tree) (sym same) ∙ w.stands) w.kinded w.numbered)))
+  directory_after (Move source target went) may elsewhere =
+      ap (λ found. is_directory (moved tree (dentry_at source) (dentry_at target) found) leaf.0.0) may.takes.1.stands
+      ∙ still_moved tree (dentry_at source) (dentry_at target) may.takes.0 whole (may_move tree (dentry_at source) (dentry_at target) may.takes.0 whole may.takes.1) leaf.0.0
       (λ t there same. still_there t there same (directory_stands tree leaf.0.0 stood.directory)) stood.directory
     where
-      still_there : (t : Inode) → map.get tree to ≡ Some t → t.ino.0 ≡ leaf.0.0 → (leaf.0.0 ≡ 1) ⊎ StandsAs tree leaf.0.0 → ⊥
-      still_there t there same (inl root) = whole.rootless to.dir.0 to.name t there (same ∙ root)
+      still_there : (t : Inode) → map.get tree (dentry_at target) ≡ Some t → t.ino.0 ≡ leaf.0.0 → (leaf.0.0 ≡ 1) ⊎ StandsAs tree leaf.0.0 → ⊥
+      still_there t there same (inl root) = whole.rootless (dentry_at target).dir.0 (dentry_at target).name t there (same ∙ root)
       still_there t there same (inr w) =
-          let dentries : w.dentry ≡ to = one_dentry tree whole w.dentry to w.inode t w.stands there (w.numbered ∙ sym same) in
+          let dentries : w.dentry ≡ (dentry_at target) = one_dentry tree whole w.dentry (dentry_at target) w.inode t w.stands there (w.numbered ∙ sym same) in
           let both : Some w.inode ≡ Some t = sym w.stands ∙ ap (map.get tree) dentries ∙ there in
           let alike : w.inode ≡ t = cc in
-          not_gone went (map.get tree to) may.carries.2 (λ gone_one. elsewhere (later (from.dir, source) leaf ((to.dir, target) ∷ leaves_gone covers went) (later (to.dir, target) leaf (leaves_gone covers went) gone_one))) t there (ap (λ (i : Inode). is_dir_kind i.kind) (sym alike) ∙ w.kinded) same
+          not_gone went (map.get tree (dentry_at target)) may.carries.2 (λ gone_one. elsewhere (later (leaf_of source.at) leaf (leaf_of target.at ∷ leaves_gone covers went) (later (leaf_of target.at) leaf (leaves_gone covers went) gone_one))) t there (ap (λ (i : Inode). is_dir_kind i.kind) (sym alike) ∙ w.kinded) same
 
   names_after : (change : Change) → MayChange tree covers change → (Among (fragments_of covers change) leaf → ⊥) → (name : List ℕ) → Contains leaf.1 (hash_of name)
       → map.get (changed tree change) (dentry_of leaf.0.0 name) ≡ map.get tree (dentry_of leaf.0.0 name)
-  names_after (Add p at_leaf inode) may elsewhere name inside =
-      get_beside tree p inode _ (apart p at_leaf may.carries (λ same. elsewhere (first_is _ _ [] same)) name inside)
-  names_after (Set p at_leaf inode) may elsewhere name inside =
-      get_beside tree p inode _ (apart p at_leaf may.carries (λ same. elsewhere (first_is _ _ [] same)) name inside)
-  names_after (Remove p at_leaf went) may elsewhere name inside =
-      get_left tree p _ (apart p at_leaf may.carries.0 (λ same. elsewhere (first_is _ _ (leaves_gone covers went) same)) name inside)
-  names_after (Move from source to target went) may elsewhere name inside =
-      ap (λ found. map.get (moved tree from to found) (dentry_of leaf.0.0 name)) may.takes.1.stands
-      ∙ get_beside (map.remove tree from) to may.takes.0 _ (apart to target may.carries.1 (λ same. elsewhere (later (from.dir, source) leaf ((to.dir, target) ∷ leaves_gone covers went) (first_is _ _ (leaves_gone covers went) same))) name inside)
-      ∙ get_left tree from _ (apart from source may.carries.0 (λ same. elsewhere (first_is _ _ ((to.dir, target) ∷ leaves_gone covers went) same)) name inside)
+  names_after (Add spot inode) may elsewhere name inside =
+      get_beside tree (dentry_at spot) inode _ (apart (dentry_at spot) spot.at.frag may.carries (λ same. elsewhere (first_is _ _ [] same)) name inside)
+  names_after (Set spot inode) may elsewhere name inside =
+      get_beside tree (dentry_at spot) inode _ (apart (dentry_at spot) spot.at.frag may.carries (λ same. elsewhere (first_is _ _ [] same)) name inside)
+  names_after (Remove spot went) may elsewhere name inside =
+      get_left tree (dentry_at spot) _ (apart (dentry_at spot) spot.at.frag may.carries.0 (λ same. elsewhere (first_is _ _ (leaves_gone covers went) same)) name inside)
+  names_after (Move source target went) may elsewhere name inside =
+      ap (λ found. map.get (moved tree (dentry_at source) (dentry_at target) found) (dentry_of leaf.0.0 name)) may.takes.1.stands
+      ∙ get_beside (map.remove tree (dentry_at source)) (dentry_at target) may.takes.0 _ (apart (dentry_at target) target.at.frag may.carries.1 (λ same. elsewhere (later (leaf_of source.at) leaf (leaf_of target.at ∷ leaves_gone covers went) (first_is _ _ (leaves_gone covers went) same))) name inside)
+      ∙ get_left tree (dentry_at source) _ (apart (dentry_at source) source.at.frag may.carries.0 (λ same. elsewhere (first_is _ _ (leaf_of target.at ∷ leaves_gone covers went) same)) name inside)
 
 pub others_show_the_same : (tree : Tree) (covers now : Covers) (change : Change) → IsWellFormed tree → MayChange tree covers change → KeepLeaves (changed tree change) covers now
     → OthersShowTheSame tree (changed tree change) covers now (fragments_of covers change)

@@ -1,6 +1,7 @@
 -- A plan, part by part.
 use Rattle.std.proofs.Common.{◌≡◌, ℕ, true, false, cond, Option, Some, None, refl, sym, ap, subst, ◌∙◌}
 use Rattle.mds_types.specs.declared.ids.Ino.{Ino}
+use Rattle.mds_types.specs.declared.dirfrags.Dirfrag.{Dirfrag}
 use Rattle.mds_types.specs.declared.operations.Op.{Op}
 use Rattle.mds_types.specs.declared.replies.Reply.{Reply}
 use Rattle.mds_types.specs.Tree.{Tree, IsUnused}
@@ -23,7 +24,7 @@ offered_number : (tree : Tree) (IsNumber : ℕ → Type 0) (number : Option Ino)
 offered_number tree IsNumber None offered some = absurd (some refl)
 offered_number tree IsNumber (Some ino) offered some = offered.1
 
-module _ (tree : Tree) (covers : Covers) (op : Op) (number : Option Ino) (change : Change) (checked : IsChecked tree covers op (number_or number) (step tree op (number_or number)) change) where
+module _ (tree : Tree) (covers : Covers) (Holds : Dirfrag → Type 0) (op : Op) (number : Option Ino) (change : Change) (checked : IsChecked tree covers Holds op (number_or number) (step tree op (number_or number)) change) where
   pub may_change : (IsNumber : ℕ → Type 0) → IsOffered tree IsNumber number → (is_new change ≡ true → number ≡ None → ⊥) → MayChange tree covers change
   may_change IsNumber offered given = record {
     carries = checked.carries;
@@ -34,10 +35,10 @@ module _ (tree : Tree) (covers : Covers) (op : Op) (number : Option Ino) (change
   numbered_so IsNumber offered given = go change checked.numbered given
     where
       go : (made : Change) → IsNumbered (λ m. m ≡ number_or number) made → (is_new made ≡ true → number ≡ None → ⊥) → IsNumbered IsNumber made
-      go (Add dentry leaf inode) is some = subst IsNumber (sym is) (offered_number tree IsNumber number offered (some refl))
-      go (Set dentry leaf inode) is some = tt
-      go (Remove dentry leaf went) is some = tt
-      go (Move from source to target went) is some = tt
+      go (Add spot inode) is some = subst IsNumber (sym is) (offered_number tree IsNumber number offered (some refl))
+      go (Set spot inode) is some = tt
+      go (Remove spot went) is some = tt
+      go (Move from to went) is some = tt
 
   pub planned_change : (IsReady : Change → Type 0) (reply : Reply) (taken : Option Ino) → reply ≡ reply_of change → taken ≡ cond (is_new change) number None → (number ≡ None → is_new change ≡ false) → IsReady change → MayChange tree covers change
       → IsPlanned tree covers IsReady op (step tree op (number_or number)) number (record { reply = reply; change = Some change; number = taken })
@@ -48,6 +49,6 @@ module _ (tree : Tree) (covers : Covers) (op : Op) (number : Option Ino) (change
     took = took ∙ ap (λ b. cond b number None) (sym checked.number);
     numbered = λ none. checked.number ∙ numbered none;
     one_of = checked.one_of;
-    idle = λ still. let clash : true ≡ false = sym still ∙ busy tree covers op (number_or number) change checked in absurd cc;
-    fragments = fragments_are tree covers op (number_or number) change checked;
+    idle = λ still. let clash : true ≡ false = sym still ∙ busy tree covers Holds op (number_or number) change checked in absurd cc;
+    fragments = fragments_are tree covers Holds op (number_or number) change checked;
   }

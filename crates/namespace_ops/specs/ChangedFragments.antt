@@ -68,10 +68,10 @@ pub record NamesOnce (leaves list : List Leaf) : Type 0 where
 
 -- the number of the directory that goes with a change, if one does
 abbrev pub gone_with : Change → Option Ino
-gone_with (Add dentry leaf inode) = None
-gone_with (Set dentry leaf inode) = None
-gone_with (Remove dentry leaf went) = went
-gone_with (Move from source to target went) = went
+gone_with (Add spot inode) = None
+gone_with (Set spot inode) = None
+gone_with (Remove spot went) = went
+gone_with (Move from to went) = went
 
 -- the leaves of a directory that goes, if one does, cover every hash once
 abbrev pub IsCovered : Covers → Option Ino → Type 0

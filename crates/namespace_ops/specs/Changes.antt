@@ -4,6 +4,7 @@ use Rattle.std.specs.Ordering.{eq_by_cmp}
 use Rattle.std.specs.FinMap as map
 use Rattle.mds_types.specs.declared.ids.Ino.{Ino}
 use Rattle.mds_types.specs.declared.dentries.Dentry.{Dentry}
+use Rattle.mds_types.specs.declared.dirfrags.Dirfrag.{Dirfrag}
 use Rattle.mds_types.specs.declared.inodes.Inode.{Inode}
 use Rattle.mds_types.specs.declared.inodes.Kind.{Kind}
 use Rattle.mds_types.specs.declared.inodes.Kind.TheVariants.{File, Dir, Symlink as Link}
@@ -19,44 +20,49 @@ use Rattle.fragtree.specs.FragTree.{IsPick}
 use Rattle.namehash.specs.Rjenkins.{hash_of}
 use Rattle.inode_table.specs.Dirs.{Covers, leaves_of}
 use Rattle.inode_table.specs.TreeChanges.{MayAdd, MaySet, MayRemove}
-use Rattle.mds_types.specs.Leaf.{Leaf}
+use Rattle.mds_types.specs.Leaf.{Leaf, leaf_of}
+use Rattle.namespace_ops.specs.declared.plans.Spot.{Spot}
 use Rattle.namespace_ops.specs.declared.plans.Change.{Change}
 use Rattle.namespace_ops.specs.declared.plans.Change.TheVariants.{Add, Set, Remove, Move}
 
+-- the dentry that lies at a spot
+abbrev pub dentry_at : Spot → Dentry
+dentry_at spot = record { dir = spot.at.dir; name = spot.name }
+
 -- a new inode of this kind at this dentry
 abbrev pub IsAddAt : Dentry → Kind → Change → Type 0
-IsAddAt dentry kind (Add p leaf inode) = (p ≡ dentry) × (inode.kind ≡ kind)
-IsAddAt dentry kind (Set p leaf inode) = ⊥
-IsAddAt dentry kind (Remove p leaf went) = ⊥
-IsAddAt dentry kind (Move from source to target went) = ⊥
+IsAddAt dentry kind (Add spot inode) = (dentry_at spot ≡ dentry) × (inode.kind ≡ kind)
+IsAddAt dentry kind (Set spot inode) = ⊥
+IsAddAt dentry kind (Remove spot went) = ⊥
+IsAddAt dentry kind (Move from to went) = ⊥
 
 -- other attributes for the inode at this dentry
 abbrev pub IsSetAt : Dentry → Change → Type 0
-IsSetAt dentry (Add p leaf inode) = ⊥
-IsSetAt dentry (Set p leaf inode) = p ≡ dentry
-IsSetAt dentry (Remove p leaf went) = ⊥
-IsSetAt dentry (Move from source to target went) = ⊥
+IsSetAt dentry (Add spot inode) = ⊥
+IsSetAt dentry (Set spot inode) = dentry_at spot ≡ dentry
+IsSetAt dentry (Remove spot went) = ⊥
+IsSetAt dentry (Move from to went) = ⊥
 
 -- the entry at this dentry goes
 abbrev pub IsRemovalAt : Dentry → Change → Type 0
-IsRemovalAt dentry (Add p leaf inode) = ⊥
-IsRemovalAt dentry (Set p leaf inode) = ⊥
-IsRemovalAt dentry (Remove p leaf went) = p ≡ dentry
-IsRemovalAt dentry (Move from source to target went) = ⊥
+IsRemovalAt dentry (Add spot inode) = ⊥
+IsRemovalAt dentry (Set spot inode) = ⊥
+IsRemovalAt dentry (Remove spot went) = dentry_at spot ≡ dentry
+IsRemovalAt dentry (Move from to went) = ⊥
 
 -- the entry at this dentry goes, and it is no directory
 abbrev pub IsUnlinkAt : Dentry → Change → Type 0
-IsUnlinkAt dentry (Add p leaf inode) = ⊥
-IsUnlinkAt dentry (Set p leaf inode) = ⊥
-IsUnlinkAt dentry (Remove p leaf went) = (p ≡ dentry) × (went ≡ None)
-IsUnlinkAt dentry (Move from source to target went) = ⊥
+IsUnlinkAt dentry (Add spot inode) = ⊥
+IsUnlinkAt dentry (Set spot inode) = ⊥
+IsUnlinkAt dentry (Remove spot went) = (dentry_at spot ≡ dentry) × (went ≡ None)
+IsUnlinkAt dentry (Move from to went) = ⊥
 
 -- the entry at one dentry moves to the other
 abbrev pub IsMoveTo : Dentry → Dentry → Change → Type 0
-IsMoveTo here there (Add p leaf inode) = ⊥
-IsMoveTo here there (Set p leaf inode) = ⊥
-IsMoveTo here there (Remove p leaf went) = ⊥
-IsMoveTo here there (Move from source to target went) = (from ≡ here) × (to ≡ there)
+IsMoveTo here there (Add spot inode) = ⊥
+IsMoveTo here there (Set spot inode) = ⊥
+IsMoveTo here there (Remove spot went) = ⊥
+IsMoveTo here there (Move from to went) = (dentry_at from ≡ here) × (dentry_at to ≡ there)
 
 -- the operation makes this change, where it makes one
 abbrev pub IsChangeOf : Op → Change → Type 0
@@ -107,17 +113,17 @@ Reads tree op d = Concerns tree op d × (is_directory tree d ≡ true)
 
 -- a new inode comes
 abbrev pub is_new : Change → Bool
-is_new (Add dentry leaf inode) = true
-is_new (Set dentry leaf inode) = false
-is_new (Remove dentry leaf went) = false
-is_new (Move from source to target went) = false
+is_new (Add spot inode) = true
+is_new (Set spot inode) = false
+is_new (Remove spot went) = false
+is_new (Move from to went) = false
 
 -- what an operation answers that makes a change
 abbrev pub reply_of : Change → Reply
-reply_of (Add dentry leaf inode) = Entry inode
-reply_of (Set dentry leaf inode) = Entry inode
-reply_of (Remove dentry leaf went) = Done
-reply_of (Move from source to target went) = Done
+reply_of (Add spot inode) = Entry inode
+reply_of (Set spot inode) = Entry inode
+reply_of (Remove spot went) = Done
+reply_of (Move from to went) = Done
 
 -- the tree once what stands at a dentry went to another
 abbrev pub moved : Tree → Dentry → Dentry → Option Inode → Tree
@@ -126,38 +132,49 @@ moved tree from to (Some inode) = with_moved tree from to inode
 
 -- the tree after a change
 abbrev pub changed : Tree → Change → Tree
-changed tree (Add dentry leaf inode) = map.insert tree dentry inode
-changed tree (Set dentry leaf inode) = map.insert tree dentry inode
-changed tree (Remove dentry leaf went) = map.remove tree dentry
-changed tree (Move from source to target went) = moved tree from to (map.get tree from)
+changed tree (Add spot inode) = map.insert tree (dentry_at spot) inode
+changed tree (Set spot inode) = map.insert tree (dentry_at spot) inode
+changed tree (Remove spot went) = map.remove tree (dentry_at spot)
+changed tree (Move from to went) = moved tree (dentry_at from) (dentry_at to) (map.get tree (dentry_at from))
 
 -- the leaf of a dentry: the one that its name's hash picks
 abbrev pub IsLeafAt : Covers → Dentry → Fragment → Type 0
 IsLeafAt covers dentry leaf = IsPick (leaves_of covers dentry.dir.0) (hash_of dentry.name) leaf
+
+-- a spot is the one of its dentry: its fragment is the leaf that the name's hash picks
+abbrev pub IsSpot : Covers → Spot → Type 0
+IsSpot covers spot = IsLeafAt covers (dentry_at spot) spot.at.frag
 
 -- the number of what stands at a dentry, if that is a directory
 abbrev pub directory_at : Option Inode → Option Ino
 directory_at None = None
 directory_at (Some inode) = cond (is_dir_kind inode.kind) (Some inode.ino) None
 
--- a change has the leaf of each of its names, and the number of the directory that goes
+-- a change has the spot of each of its names, and the number of the directory that goes
 abbrev pub Carries : Tree → Covers → Change → Type 0
-Carries tree covers (Add dentry leaf inode) = IsLeafAt covers dentry leaf
-Carries tree covers (Set dentry leaf inode) = IsLeafAt covers dentry leaf
-Carries tree covers (Remove dentry leaf went) = IsLeafAt covers dentry leaf × (went ≡ directory_at (map.get tree dentry))
-Carries tree covers (Move from source to target went) = IsLeafAt covers from source × IsLeafAt covers to target × (went ≡ directory_at (map.get tree to))
+Carries tree covers (Add spot inode) = IsSpot covers spot
+Carries tree covers (Set spot inode) = IsSpot covers spot
+Carries tree covers (Remove spot went) = IsSpot covers spot × (went ≡ directory_at (map.get tree (dentry_at spot)))
+Carries tree covers (Move from to went) = IsSpot covers from × IsSpot covers to × (went ≡ directory_at (map.get tree (dentry_at to)))
 
 -- the tree can take a change
 abbrev pub Takes : Tree → Change → Type 0
-Takes tree (Add dentry leaf inode) = MayAdd tree dentry inode
-Takes tree (Set dentry leaf inode) = MaySet tree dentry inode
-Takes tree (Remove dentry leaf went) = MayRemove tree dentry
-Takes tree (Move from source to target went) = (inode : Inode) × IsMove tree from to inode
+Takes tree (Add spot inode) = MayAdd tree (dentry_at spot) inode
+Takes tree (Set spot inode) = MaySet tree (dentry_at spot) inode
+Takes tree (Remove spot went) = MayRemove tree (dentry_at spot)
+Takes tree (Move from to went) = (inode : Inode) × IsMove tree (dentry_at from) (dentry_at to) inode
 
 -- a change may be made
 pub record MayChange (tree : Tree) (covers : Covers) (change : Change) : Type 0 where
   pub carries : Carries tree covers change
   pub takes : Takes tree change
+
+-- each name of a change lies where its rank holds the leaf
+abbrev pub AreHeld : (Dirfrag → Type 0) → Change → Type 0
+AreHeld Holds (Add spot inode) = Holds spot.at
+AreHeld Holds (Set spot inode) = Holds spot.at
+AreHeld Holds (Remove spot went) = Holds spot.at
+AreHeld Holds (Move from to went) = Holds from.at × Holds to.at
 
 -- a fragment with its directory
 abbrev pub in_directory : ℕ → Fragment → Leaf
@@ -174,10 +191,10 @@ leaves_gone covers (Some dir) = leaves covers dir.0
 
 -- the fragments of a change: those of its names, and all of a directory that goes
 abbrev pub fragments_of : Covers → Change → List Leaf
-fragments_of covers (Add dentry leaf inode) = (dentry.dir, leaf) ∷ []
-fragments_of covers (Set dentry leaf inode) = (dentry.dir, leaf) ∷ []
-fragments_of covers (Remove dentry leaf went) = (dentry.dir, leaf) ∷ leaves_gone covers went
-fragments_of covers (Move from source to target went) = (from.dir, source) ∷ (to.dir, target) ∷ leaves_gone covers went
+fragments_of covers (Add spot inode) = leaf_of spot.at ∷ []
+fragments_of covers (Set spot inode) = leaf_of spot.at ∷ []
+fragments_of covers (Remove spot went) = leaf_of spot.at ∷ leaves_gone covers went
+fragments_of covers (Move from to went) = leaf_of from.at ∷ leaf_of to.at ∷ leaves_gone covers went
 
 -- those of a planned change, if there is one
 abbrev pub fragments_in : Covers → Option Change → List Leaf
@@ -194,17 +211,17 @@ unless_same first other = cond (same_leaf first other) [] (other ∷ [])
 
 -- the fragments of a change, each once
 abbrev pub named_once : Covers → Change → List Leaf
-named_once covers (Add dentry leaf inode) = (dentry.dir, leaf) ∷ []
-named_once covers (Set dentry leaf inode) = (dentry.dir, leaf) ∷ []
-named_once covers (Remove dentry leaf went) = (dentry.dir, leaf) ∷ leaves_gone covers went
-named_once covers (Move from source to target went) = (from.dir, source) ∷ (unless_same (from.dir, source) (to.dir, target) ++ leaves_gone covers went)
+named_once covers (Add spot inode) = leaf_of spot.at ∷ []
+named_once covers (Set spot inode) = leaf_of spot.at ∷ []
+named_once covers (Remove spot went) = leaf_of spot.at ∷ leaves_gone covers went
+named_once covers (Move from to went) = leaf_of from.at ∷ (unless_same (leaf_of from.at) (leaf_of to.at) ++ leaves_gone covers went)
 
 -- a new inode, where one comes, has such a number
 abbrev pub IsNumbered : (ℕ → Type 0) → Change → Type 0
-IsNumbered IsNumber (Add dentry leaf inode) = IsNumber inode.ino.0
-IsNumbered IsNumber (Set dentry leaf inode) = Unit {0}
-IsNumbered IsNumber (Remove dentry leaf went) = Unit {0}
-IsNumbered IsNumber (Move from source to target went) = Unit {0}
+IsNumbered IsNumber (Add spot inode) = IsNumber inode.ino.0
+IsNumbered IsNumber (Set spot inode) = Unit {0}
+IsNumbered IsNumber (Remove spot went) = Unit {0}
+IsNumbered IsNumber (Move from to went) = Unit {0}
 
 -- a number that is offered for a new inode is unused, and one that a new inode may have
 abbrev pub IsOffered : Tree → (ℕ → Type 0) → Option Ino → Type 0

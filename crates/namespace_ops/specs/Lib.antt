@@ -6,6 +6,7 @@ pub mod Checked
 pub mod Kept
 pub mod Laws
 pub mod Picks
+pub mod Places
 pub mod Planned
 pub mod Reasons
 pub mod Served

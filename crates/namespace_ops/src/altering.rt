@@ -3,49 +3,49 @@ ghost use Rattle.std.specs.Prelude.{◌≡◌, ◌≢◌, ℕ, IfOk, IfErr};
 ghost use Rattle.std.specs.Result.{result_err};
 ghost use Rattle.mds_types.specs.declared.refusals.Refusal.TheVariants.{NoInodes};
 ghost use Rattle.mds_types.specs.declared.inodes.Inode.{Inode as Node};
-ghost use Rattle.mds_types.specs.Frag.{Fragment};
 ghost use Rattle.std.specs.FinMap as map;
 ghost use Rattle.mds_types.specs.Step.{attributes_set, with_attributes};
 ghost use Rattle.mds_types.specs.Step.{size_errno as errno_of_size};
 ghost use Rattle.namespace_ops.specs.declared.plans.Change.TheVariants.{Set};
+ghost use Rattle.namespace_ops.specs.declared.plans.Spot.{Spot as Place};
 ghost use Rattle.namespace_ops.specs.Kept.{KeepsAll};
-ghost use Rattle.namespace_ops.specs.Changes.{IsChangeOf, Reads};
+ghost use Rattle.namespace_ops.specs.Changes.{IsChangeOf, Reads, dentry_at};
 ghost use Rattle.namespace_ops.specs.Checked.{Checks};
+ghost use Rattle.namespace_ops.specs.Places.{LiesAt};
 ghost use Rattle.namespace_ops.specs.Reasons.{Refuses};
 
 use crate::frags::Frags;
-use crate::plans::{Change, Checked};
-use mds_types::{Attributes, Dentry, EINVAL, EISDIR, ENOENT, Inode, Kind, Op, Refusal, Reply};
+use crate::plans::{Change, Checked, Spot};
+use mds_types::{
+    Attributes, Dentry, Dirfrag, EINVAL, EISDIR, ENOENT, Inode, Kind, Op, Refusal, Reply,
+};
 
 /// Other attributes for the inode at a dentry.
 pub fn set_attributes<F: Frags>(
     frags: &mut F,
     op: &Op,
     dentry: &Dentry,
+    at: &Dirfrag,
     attributes: Attributes,
 ) -> Result<Checked, Refusal>
     requires reads { Reads (F.content frags.old) op.now dentry.now.dir.0 }
-    requires sets { (leaf : Fragment) (inode : Node) → IsChangeOf op.now (Set dentry.now leaf inode) }
-    ensures checked { (n : ℕ) → IfOk result (Checks (F.content frags.old) (F.covers frags.old) op.now n
+    requires at { LiesAt (F.content frags.old) (F.covers frags.old) (F.Holds frags.old) dentry.now at.now }
+    requires sets { (spot : Place) (inode : Node) → dentry_at spot ≡ dentry.now → IsChangeOf op.now (Set spot inode) }
+    ensures checked { (n : ℕ) → IfOk result (Checks (F.content frags.old) (F.covers frags.old) (F.Holds frags.old) op.now n
         (attributes_set (F.content frags.old) dentry.now attributes (map.get (F.content frags.old) dentry.now))) }
     ensures kept { KeepsAll (F.content frags.old) (F.content frags.new) (F.covers frags.old) (F.covers frags.new) (F.Follows frags.old frags.new op.now (result_err result)) }
     ensures err { IfErr result (Refuses (F.MayRefuse frags.old frags.new op.now)) }
     ensures numbers { IfErr result (λ reason. reason ≢ NoInodes) }
 {
-    let leaf = frags.frag_of(dentry);
-    let Some(before) = frags.look(op, dentry, leaf)? else {
+    let Some(before) = frags.look(op, dentry, at)? else {
         return Ok(Checked::Answers(Reply::Errno(ENOENT)))
     };
     if let Some(errno) = size_errno(&before.kind, attributes.size) {
         return Ok(Checked::Answers(Reply::Errno(errno)));
     }
-    let dentry = dentry.try_clone()?;
+    let spot = Spot::of(dentry, *at)?;
     let inode = altered(before, attributes);
-    Ok(Checked::Changes(Change::Set {
-        dentry,
-        leaf,
-        inode,
-    }))
+    Ok(Checked::Changes(Change::Set { spot, inode }))
 }
 
 // The errno for a size that is given to what is no file.

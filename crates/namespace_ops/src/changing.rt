@@ -5,28 +5,36 @@ ghost use Rattle.mds_types.specs.declared.refusals.Refusal.TheVariants.{NoInodes
 ghost use Rattle.namespace_ops.specs.Kept.{KeepsAll};
 ghost use Rattle.namespace_ops.specs.Changes.{in_directory, leaves_gone, named_once, unless_same};
 ghost use Rattle.namespace_ops.specs.ChangedFragments.{IsCovered, NamesOnce, changed_fragments, gone_with};
+ghost use Rattle.namespace_ops.specs.Places.{AreLocated};
 ghost use Rattle.namespace_ops.specs.Reasons.{Refuses};
 
 use crate::checking::check;
 use crate::frags::Frags;
+use crate::locating::Places;
 use crate::plans::{Change, Checked};
 use mds_types::{Frag, Ino, Op, Refusal};
 use std::alloc::{AllocError, Global};
 
-/// The fragments that an operation would change now, each once and with its directory: those of its dentries, and all
+/// The fragments that an operation whose names lie there would change now, each once and with its directory: those of its dentries, and all
 /// leaves of a directory that it removes or replaces. There are none where the operation answers an errno, only reads, or
 /// renames onto itself.
 ///
 /// It reads, and of its own takes memory for its list, for the change that the checks find, and for a copy of the leaves of
 /// what goes. It is refused for want of memory, or as a read is.
-pub fn changes<F: Frags>(alloc: Global, frags: &mut F, op: &Op) -> Result<Vec<(Ino, Frag)>, Refusal>
+pub fn changes<F: Frags>(
+    alloc: Global,
+    frags: &mut F,
+    op: &Op,
+    places: Places,
+) -> Result<Vec<(Ino, Frag)>, Refusal>
+    requires { AreLocated (F.content frags.old) (F.covers frags.old) (F.Holds frags.old) op.now places }
     ensures changed { IfOk result (λ list. NamesOnce (changed_fragments (F.covers frags.old) (F.content frags.old) op.now) list.items) }
     ensures kept { KeepsAll (F.content frags.old) (F.content frags.new) (F.covers frags.old) (F.covers frags.new) (F.Follows frags.old frags.new op.now (result_err result)) }
     ensures err { IfErr result (Refuses (F.MayRefuse frags.old frags.new op.now)) }
     ensures numbers { IfErr result (λ reason. reason ≢ NoInodes) }
 {
     // which leaves change doesn't depend on the number of a new inode
-    match check(alloc, frags, op, Ino(0))? {
+    match check(alloc, frags, op, places, Ino(0))? {
         Checked::Answers(_) => Ok(Vec::new(alloc)),
         Checked::Changes(change) => changed_by(alloc, frags, &change),
     }
@@ -44,22 +52,21 @@ fn changed_by<F: Frags>(
 {
     let mut list = Vec::new(alloc);
     match change {
-        Change::Add { dentry, leaf, .. } | Change::Set { dentry, leaf, .. } => {
-            note(&mut list, (dentry.dir, *leaf))?;
+        Change::Add { spot, .. } | Change::Set { spot, .. } => {
+            note(&mut list, (spot.at.dir, spot.at.frag))?;
         }
-        Change::Remove { dentry, leaf, gone } => {
-            note(&mut list, (dentry.dir, *leaf))?;
+        Change::Remove { spot, gone } => {
+            note(&mut list, (spot.at.dir, spot.at.frag))?;
             note_gone(alloc, frags, &mut list, *gone)?;
         }
-        Change::Move {
-            from,
-            source,
-            to,
-            target,
-            gone,
-        } => {
-            note(&mut list, (from.dir, *source))?;
-            note_other(&mut list, (from.dir, *source), to.dir, *target)?;
+        Change::Move { from, to, gone } => {
+            note(&mut list, (from.at.dir, from.at.frag))?;
+            note_other(
+                &mut list,
+                (from.at.dir, from.at.frag),
+                to.at.dir,
+                to.at.frag,
+            )?;
             note_gone(alloc, frags, &mut list, *gone)?;
         }
     }

@@ -1,9 +1,10 @@
 //! What operations need of a directory's fragments.
-ghost use Rattle.std.specs.Prelude.{◌≡◌, ◌≢◌, ℕ, Option, None, Some, true, not, IfOk, IfErr, OnOk, take, length, nat_lt};
+ghost use Rattle.std.specs.Prelude.{◌≡◌, ◌≢◌, ◌↔◌, ℕ, Option, None, Some, true, not, IfOk, IfErr, OnOk, take, length, nat_lt};
 ghost use Rattle.std.specs.Result.{result_err};
 ghost use Rattle.std.specs.Option.{option_copied};
 ghost use Rattle.mds_types.specs.declared.refusals.Refusal.{Refusal as Reason};
 ghost use Rattle.mds_types.specs.declared.refusals.Refusal.TheVariants.{NoInodes, NoMemory};
+ghost use Rattle.mds_types.specs.declared.dirfrags.Dirfrag.{Dirfrag as At};
 ghost use Rattle.mds_types.specs.declared.operations.Op.{Op as Operation};
 ghost use Rattle.std.specs.FinMap as map;
 ghost use Rattle.fragtree.specs.FragTree.{IsTree};
@@ -14,17 +15,18 @@ ghost use Rattle.inode_table.specs.TreeChanges.{KeepLeaves};
 ghost use Rattle.namespace_ops.specs.declared.plans.Change.{Change as Alteration};
 ghost use Rattle.mds_types.specs.Leaf.{Leaf};
 ghost use Rattle.namespace_ops.specs.Kept.{KeepsAll, ChangesOnly};
-ghost use Rattle.namespace_ops.specs.Changes.{IsChangeOf, IsLeafAt, IsNumbered, MayChange, Reads, changed, fragments_of};
+ghost use Rattle.namespace_ops.specs.Changes.{AreHeld, IsChangeOf, IsNumbered, MayChange, Reads, changed, fragments_of};
+ghost use Rattle.namespace_ops.specs.Places.{LiesAt, Locates};
 ghost use Rattle.namespace_ops.specs.Reasons.{IsOfFragments};
 
 use crate::plans::Change;
-use mds_types::{Dentry, Frag, Ino, Inode, Listing, Name, Op, PageSize, Refusal};
+use mds_types::{Dentry, Dirfrag, Frag, Ino, Inode, Listing, Name, Op, PageSize, Rank, Refusal};
 use std::alloc::Global;
 
 /// The fragments that operations read and change. Together they show one plain tree, whatever they are kept in.
 ///
 /// A read may have to fetch what it reads, and can then be refused; it keeps all, and so does a refusal. Which leaves a
-/// directory has is told with no fetch. A read is told for which operation it is asked, and asks of a directory of that. It takes
+/// directory has, and where they lie, is told with no fetch. A read is told for which operation it is asked, and asks of a directory of that. It takes
 /// no number, and is never refused for want of one.
 /// All growth that a change needs is made by `ready`; the change that follows can't fail.
 pub trait Frags {
@@ -36,6 +38,9 @@ pub trait Frags {
 
     /// A new inode may have this number.
     ghost IsNumber: { ℕ → Type 0 };
+
+    /// A leaf lies at the rank that holds it: that rank is asked for it, and changes it.
+    ghost Holds: { Self → At → Type 0 };
 
     /// The change can be made with no further growth.
     ghost IsReady: { Self → Alteration → Type 0 };
@@ -59,9 +64,10 @@ pub trait Frags {
         requires { is_directory (content self.now) below.0 ≡ true }
         ensures { result ≡ is_above (content self.now) dir.0 below.0 };
 
-    /// The leaf that a dentry belongs to: the one of its directory that the hash of its name picks.
-    fn frag_of(&self, dentry: &Dentry) -> Frag
-        ensures { IsLeafAt (covers self.now) dentry.now result };
+    /// Where a hash falls in a directory: the leaf that it picks, and the rank that holds it; nowhere exactly where there is no
+    /// such directory. `rank` is asked first whether it holds the leaf. Takes no memory.
+    fn locate(&self, rank: Rank, dir: Ino, hash: u32) -> Option<Dirfrag>
+        ensures { Locates (content self.now) (covers self.now) (Holds self.now) dir.0 hash result };
 
     /// The leaves of a directory by value, which cover every hash once.
     fn leaves(&self, alloc: Global, dir: Ino) -> Result<Vec<Frag>, Refusal>
@@ -69,10 +75,10 @@ pub trait Frags {
         ensures cover { IfOk result (λ list. IsTree list.items) }
         ensures err { IfErr result (λ reason. reason ≡ NoMemory) };
 
-    /// The inode at a dentry, copied. `leaf` is the one that the dentry belongs to.
-    fn look(&mut self, op: &Op, dentry: &Dentry, leaf: Frag) -> Result<Option<Inode>, Refusal>
+    /// The inode at a dentry, copied. `at` is where the dentry lies.
+    fn look(&mut self, op: &Op, dentry: &Dentry, at: &Dirfrag) -> Result<Option<Inode>, Refusal>
         requires reads { Reads (content self.old) op.now dentry.now.dir.0 }
-        requires leaf { IsLeafAt (covers self.old) dentry.now leaf }
+        requires at { LiesAt (content self.old) (covers self.old) (Holds self.old) dentry.now at.now }
         ensures found { IfOk result (λ found. found ≡ map.get (content self.old) dentry.now) }
         ensures kept { KeepsAll (content self.old) (content self.new) (covers self.old) (covers self.new) (Follows self.old self.new op.now (result_err result)) }
         ensures err { IfErr result (MayRefuse self.old self.new op.now) }
@@ -106,6 +112,7 @@ pub trait Frags {
     fn ready(&mut self, op: &Op, change: &Change) -> Result<(), Refusal>
         requires may { MayChange (content self.old) (covers self.old) change.now }
         requires of_op { IsChangeOf op.now change.now }
+        requires held { AreHeld (Holds self.old) change.now }
         requires numbered { IsNumbered IsNumber change.now }
         ensures ready { OnOk result (IsReady self.new change.now) }
         ensures kept { KeepsAll (content self.old) (content self.new) (covers self.old) (covers self.new) (Follows self.old self.new op.now (result_err result)) }
@@ -128,6 +135,9 @@ pub trait Frags {
 
     /// One call after another that wasn't refused keeps what both keep.
     ghost follows_on: { (a b c : Self) (op : Operation) (told : Option Reason) → Follows a b op None → Follows b c op told → Follows a c op told };
+
+    /// Reads and refusals leave each leaf to the rank that holds it.
+    ghost held_on: { (a b : Self) (op : Operation) (told : Option Reason) (at : At) → Follows a b op told → Holds a at ↔ Holds b at };
 
     /// Want of memory, and of a number for a new inode, that an operation finds itself is no refusal of the fragments.
     ghost follows_memory: { (a b : Self) (op : Operation) → Follows a b op None → Follows a b op (Some NoMemory) };

@@ -7,6 +7,7 @@ mod changing;
 mod checking;
 mod frags;
 mod laws;
+mod locating;
 mod making;
 mod planning;
 mod plans;
@@ -21,6 +22,7 @@ pub use laws::{
     above_is_a_chain, errno_leaves_tree, making_takes_number, names_are_listed,
     number_leaves_errno, numbers_stay, pages_make_up_listing, step_keeps_well_formed,
 };
+pub use locating::{Places, locate};
 pub use planning::plan_op;
-pub use plans::{Change, Plan, carry_out};
+pub use plans::{Change, Plan, Spot, carry_out};
 pub use serving::serve_op;

@@ -1,22 +1,22 @@
 //! The checks of the operations that make an inode.
-ghost use Rattle.std.specs.Prelude.{◌≡◌, ◌≢◌, true, IfOk, IfErr};
+ghost use Rattle.std.specs.Prelude.{◌≡◌, ◌≢◌, IfOk, IfErr};
 ghost use Rattle.std.specs.Result.{result_err};
 ghost use Rattle.mds_types.specs.declared.refusals.Refusal.TheVariants.{NoInodes};
 ghost use Rattle.mds_types.specs.declared.inodes.Inode.{Inode as Node};
 ghost use Rattle.mds_types.specs.declared.inodes.Kind.TheVariants.{File, Dir, Symlink as Link};
-ghost use Rattle.mds_types.specs.Frag.{Fragment};
 ghost use Rattle.std.specs.FinMap as map;
-ghost use Rattle.mds_types.specs.Tree.{is_directory};
 ghost use Rattle.mds_types.specs.Step.{made, new_inode, new_size, link_mode};
 ghost use Rattle.namespace_ops.specs.declared.plans.Change.TheVariants.{Add};
+ghost use Rattle.namespace_ops.specs.declared.plans.Spot.{Spot as Place};
 ghost use Rattle.namespace_ops.specs.Kept.{KeepsAll};
-ghost use Rattle.namespace_ops.specs.Changes.{IsChangeOf, Reads};
+ghost use Rattle.namespace_ops.specs.Changes.{IsChangeOf, Reads, dentry_at};
 ghost use Rattle.namespace_ops.specs.Checked.{Checks};
+ghost use Rattle.namespace_ops.specs.Places.{LiesAt};
 ghost use Rattle.namespace_ops.specs.Reasons.{Refuses};
 
 use crate::frags::Frags;
-use crate::plans::{Change, Checked};
-use mds_types::{Dentry, EEXIST, Ino, Inode, Kind, Mode, Op, Refusal, Reply, Target};
+use crate::plans::{Change, Checked, Spot};
+use mds_types::{Dentry, Dirfrag, EEXIST, Ino, Inode, Kind, Mode, Op, Refusal, Reply, Target};
 
 /// What a new inode is, beside its number and size.
 #[derive(Drop)]
@@ -63,29 +63,25 @@ pub fn make<F: Frags>(
     frags: &mut F,
     op: &Op,
     dentry: &Dentry,
+    at: &Dirfrag,
     new: New,
     number: Ino,
 ) -> Result<Checked, Refusal>
     requires reads { Reads (F.content frags.old) op.now dentry.now.dir.0 }
-    requires here { is_directory (F.content frags.old) dentry.now.dir.0 ≡ true }
-    requires makes { (leaf : Fragment) (inode : Node) → inode.kind ≡ new.kind → IsChangeOf op.now (Add dentry.now leaf inode) }
+    requires at { LiesAt (F.content frags.old) (F.covers frags.old) (F.Holds frags.old) dentry.now at.now }
+    requires makes { (spot : Place) (inode : Node) → dentry_at spot ≡ dentry.now → inode.kind ≡ new.kind → IsChangeOf op.now (Add spot inode) }
     ensures checked { let inode = new_inode number.0 new.kind new.mode new.mtime in
-        IfOk result (Checks (F.content frags.old) (F.covers frags.old) op.now number.0 (made (F.content frags.old) dentry.now inode (map.get (F.content frags.old) dentry.now))) }
+        IfOk result (Checks (F.content frags.old) (F.covers frags.old) (F.Holds frags.old) op.now number.0 (made (F.content frags.old) dentry.now inode (map.get (F.content frags.old) dentry.now))) }
     ensures kept { KeepsAll (F.content frags.old) (F.content frags.new) (F.covers frags.old) (F.covers frags.new) (F.Follows frags.old frags.new op.now (result_err result)) }
     ensures err { IfErr result (Refuses (F.MayRefuse frags.old frags.new op.now)) }
     ensures numbers { IfErr result (λ reason. reason ≢ NoInodes) }
 {
-    let leaf = frags.frag_of(dentry);
-    if frags.look(op, dentry, leaf)?.is_some() {
+    if frags.look(op, dentry, at)?.is_some() {
         return Ok(Checked::Answers(Reply::Errno(EEXIST)));
     }
-    let dentry = dentry.try_clone()?;
+    let spot = Spot::of(dentry, *at)?;
     let inode = new.numbered(number);
-    Ok(Checked::Changes(Change::Add {
-        dentry,
-        leaf,
-        inode,
-    }))
+    Ok(Checked::Changes(Change::Add { spot, inode }))
 }
 
 impl New {

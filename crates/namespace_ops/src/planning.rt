@@ -3,19 +3,21 @@ ghost use Rattle.std.specs.Prelude.{◌≡◌, ◌&&◌, not, cond, is_some, Non
 ghost use Rattle.std.specs.Result.{result_err};
 ghost use Rattle.mds_types.specs.Step.{step, number_or};
 ghost use Rattle.namespace_ops.specs.Kept.{KeepsAll};
-ghost use Rattle.namespace_ops.specs.Changes.{IsChangeOf, IsNumbered, IsOffered, MayChange, is_new, reply_of};
+ghost use Rattle.namespace_ops.specs.Changes.{AreHeld, IsChangeOf, IsNumbered, IsOffered, MayChange, is_new, reply_of};
 ghost use Rattle.namespace_ops.specs.Checked.{IsChecked};
+ghost use Rattle.namespace_ops.specs.Places.{AreLocated};
 ghost use Rattle.namespace_ops.specs.Planned.{IsPlanned};
 ghost use Rattle.namespace_ops.specs.Reasons.{Refuses};
 ghost use Rattle.namespace_ops.specs.Served.{IsRefused};
 
 use crate::checking::check;
 use crate::frags::Frags;
+use crate::locating::Places;
 use crate::plans::{Change, Checked, Plan};
 use mds_types::{Ino, Op, Refusal, Reply};
 use std::alloc::Global;
 
-/// Plans an operation: answers the reply of the operation table, and the change that leads to the table's tree, for which
+/// Plans an operation whose names lie there: answers the reply of the operation table, and the change that leads to the table's tree, for which
 /// all growth has been made. There is no change where the operation reads, answers an errno, or leads to where it is.
 /// The fragments show what they showed. A new inode takes the number given, which has to be unused and one
 /// that a new inode may have; where the table takes
@@ -25,16 +27,18 @@ pub fn plan_op<F: Frags>(
     alloc: Global,
     frags: &mut F,
     op: &Op,
+    places: Places,
     number: Option<Ino>,
 ) -> Result<Plan, Refusal>
-    requires { IsOffered (F.content frags.old) F.IsNumber number }
+    requires located { AreLocated (F.content frags.old) (F.covers frags.old) (F.Holds frags.old) op.now places }
+    requires offered { IsOffered (F.content frags.old) F.IsNumber number }
     ensures planned { let outcome = step (F.content frags.old) op.now (number_or number) in
         MatchResult result
         (IsPlanned (F.content frags.old) (F.covers frags.old) (F.IsReady frags.new) op.now outcome number)
         (IsRefused (F.content frags.old) (F.content frags.new) (F.MayRefuse frags.old frags.new op.now) outcome number) }
     ensures kept { KeepsAll (F.content frags.old) (F.content frags.new) (F.covers frags.old) (F.covers frags.new) (F.Follows frags.old frags.new op.now (result_err result)) }
 {
-    match check(alloc, frags, op, number.unwrap_or(Ino(0)))? {
+    match check(alloc, frags, op, places, number.unwrap_or(Ino(0)))? {
         Checked::Answers(reply) => Ok(Plan {
             reply,
             change: None,
@@ -52,7 +56,7 @@ fn plan_change<F: Frags>(
     number: Option<Ino>,
 ) -> Result<Plan, Refusal>
     requires offered { IsOffered (F.content frags.old) F.IsNumber number }
-    requires checked { IsChecked (F.content frags.old) (F.covers frags.old) op.now (number_or number) (step (F.content frags.old) op.now (number_or number)) change }
+    requires checked { IsChecked (F.content frags.old) (F.covers frags.old) (F.Holds frags.old) op.now (number_or number) (step (F.content frags.old) op.now (number_or number)) change }
     ensures planned { let outcome = step (F.content frags.old) op.now (number_or number) in
         MatchResult result
         (IsPlanned (F.content frags.old) (F.covers frags.old) (F.IsReady frags.new) op.now outcome number)
@@ -75,6 +79,7 @@ fn plan_change<F: Frags>(
 fn make_ready<F: Frags>(frags: &mut F, op: &Op, change: &Change) -> Result<Reply, Refusal>
     requires may { MayChange (F.content frags.old) (F.covers frags.old) change.now }
     requires of_op { IsChangeOf op.now change.now }
+    requires held { AreHeld (F.Holds frags.old) change.now }
     requires numbered { IsNumbered F.IsNumber change.now }
     ensures reply { IfOk result (λ reply. reply ≡ reply_of change.now) }
     ensures ready { IfOk result (λ reply. F.IsReady frags.new change.now) }

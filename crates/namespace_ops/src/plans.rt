@@ -2,42 +2,64 @@
 ghost use Rattle.std.specs.Prelude.{◌≡◌, None, IfOk};
 ghost use Rattle.inode_table.specs.TreeChanges.{KeepLeaves};
 ghost use Rattle.namespace_ops.specs.Kept.{ChangesOnly};
-ghost use Rattle.namespace_ops.specs.Changes.{fragments_in, is_new, reply_of};
+ghost use Rattle.namespace_ops.specs.Changes.{dentry_at, fragments_in, is_new, reply_of};
 ghost use Rattle.namespace_ops.specs.Planned.{after_plan, IsReadyToChange};
 
 use crate::frags::Frags;
-use mds_types::{Dentry, Frag, Ino, Inode, Reply};
+use mds_types::{Dentry, Dirfrag, Ino, Inode, Name, Reply};
 use std::alloc::AllocError;
 
-/// A change of the tree. It has the leaf of each of its names, and the number of the directory that goes with it, so that
-/// no step has to find them again.
+/// A dentry where it lies: its name, in a leaf of its directory at the rank that holds the leaf.
+#[derive(Debug, Drop)]
+pub struct Spot {
+    pub at: Dirfrag,
+    pub name: Name,
+}
+
+impl Spot {
+    /// The spot of a dentry that lies there. Takes memory for a copy of its name.
+    pub fn of(dentry: &Dentry, at: Dirfrag) -> Result<Spot, AllocError>
+        ensures { IfOk result (λ spot. spot ≡ record { at = at; name = dentry.now.name }) }
+    {
+        let name = dentry.name.try_clone()?;
+        Ok(Spot { at, name })
+    }
+
+    /// The dentry, as it is kept where leaves and ranks don't matter.
+    pub fn into_dentry(self) -> Dentry
+        ensures { result ≡ dentry_at self }
+    {
+        Dentry {
+            dir: self.at.dir,
+            name: self.name,
+        }
+    }
+}
+
+/// A change of the tree. It has the spot of each of its names, and the number of the directory that goes with it, so that no
+/// step has to find them again.
 #[derive(Debug, Drop)]
 pub enum Change {
     /// A new inode, at a dentry that is free.
     Add {
-        dentry: Dentry,
-        leaf: Frag,
+        spot: Spot,
         inode: Inode,
     },
     /// Other attributes for the inode at a dentry.
     Set {
-        dentry: Dentry,
-        leaf: Frag,
+        spot: Spot,
         inode: Inode,
     },
     /// The entry at a dentry goes; `gone` is its number, if it is a directory.
     Remove {
-        dentry: Dentry,
-        leaf: Frag,
+        spot: Spot,
         gone: Option<Ino>,
     },
     /// The entry at one dentry moves to another; what stands there is replaced. `gone` is the number of that, if it is a
     /// directory.
     Move {
-        from: Dentry,
-        source: Frag,
-        to: Dentry,
-        target: Frag,
+        from: Spot,
+        to: Spot,
         gone: Option<Ino>,
     },
 }

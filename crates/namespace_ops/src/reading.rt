@@ -9,24 +9,30 @@ ghost use Rattle.mds_types.specs.Step.{read_link as link_read};
 ghost use Rattle.namespace_ops.specs.Kept.{KeepsAll};
 ghost use Rattle.namespace_ops.specs.Changes.{Reads, stays};
 ghost use Rattle.namespace_ops.specs.Checked.{Checks};
+ghost use Rattle.namespace_ops.specs.Places.{LiesAt};
 ghost use Rattle.namespace_ops.specs.Reasons.{Refuses};
 
 use crate::frags::Frags;
 use crate::plans::Checked;
-use mds_types::{Dentry, EINVAL, ENOENT, Ino, Kind, Name, Op, PageSize, Refusal, Reply};
+use mds_types::{Dentry, Dirfrag, EINVAL, ENOENT, Ino, Kind, Name, Op, PageSize, Refusal, Reply};
 use std::alloc::Global;
 
 /// The inode at a dentry.
-pub fn lookup<F: Frags>(frags: &mut F, op: &Op, dentry: &Dentry) -> Result<Checked, Refusal>
+pub fn lookup<F: Frags>(
+    frags: &mut F,
+    op: &Op,
+    dentry: &Dentry,
+    at: &Dirfrag,
+) -> Result<Checked, Refusal>
     requires reads { Reads (F.content frags.old) op.now dentry.now.dir.0 }
+    requires at { LiesAt (F.content frags.old) (F.covers frags.old) (F.Holds frags.old) dentry.now at.now }
     requires idle { stays op.now ≡ true }
-    ensures checked { (n : ℕ) → IfOk result (Checks (F.content frags.old) (F.covers frags.old) op.now n (found (F.content frags.old) (map.get (F.content frags.old) dentry.now))) }
+    ensures checked { (n : ℕ) → IfOk result (Checks (F.content frags.old) (F.covers frags.old) (F.Holds frags.old) op.now n (found (F.content frags.old) (map.get (F.content frags.old) dentry.now))) }
     ensures kept { KeepsAll (F.content frags.old) (F.content frags.new) (F.covers frags.old) (F.covers frags.new) (F.Follows frags.old frags.new op.now (result_err result)) }
     ensures err { IfErr result (Refuses (F.MayRefuse frags.old frags.new op.now)) }
     ensures numbers { IfErr result (λ reason. reason ≢ NoInodes) }
 {
-    let leaf = frags.frag_of(dentry);
-    match frags.look(op, dentry, leaf)? {
+    match frags.look(op, dentry, at)? {
         Some(inode) => Ok(Checked::Answers(Reply::Entry(inode))),
         None => Ok(Checked::Answers(Reply::Errno(ENOENT))),
     }
@@ -43,7 +49,7 @@ pub fn read_dir<F: Frags>(
 ) -> Result<Checked, Refusal>
     requires reads { Reads (F.content frags.old) op.now dir.0 }
     requires idle { stays op.now ≡ true }
-    ensures checked { (n : ℕ) → IfOk result (Checks (F.content frags.old) (F.covers frags.old) op.now n (page (F.content frags.old) max (names_after (F.content frags.old) dir.0 (option_copied after.entry)))) }
+    ensures checked { (n : ℕ) → IfOk result (Checks (F.content frags.old) (F.covers frags.old) (F.Holds frags.old) op.now n (page (F.content frags.old) max (names_after (F.content frags.old) dir.0 (option_copied after.entry)))) }
     ensures kept { KeepsAll (F.content frags.old) (F.content frags.new) (F.covers frags.old) (F.covers frags.new) (F.Follows frags.old frags.new op.now (result_err result)) }
     ensures err { IfErr result (Refuses (F.MayRefuse frags.old frags.new op.now)) }
     ensures numbers { IfErr result (λ reason. reason ≢ NoInodes) }
@@ -53,16 +59,21 @@ pub fn read_dir<F: Frags>(
 }
 
 /// What the link at a dentry points to.
-pub fn read_link<F: Frags>(frags: &mut F, op: &Op, dentry: &Dentry) -> Result<Checked, Refusal>
+pub fn read_link<F: Frags>(
+    frags: &mut F,
+    op: &Op,
+    dentry: &Dentry,
+    at: &Dirfrag,
+) -> Result<Checked, Refusal>
     requires reads { Reads (F.content frags.old) op.now dentry.now.dir.0 }
+    requires at { LiesAt (F.content frags.old) (F.covers frags.old) (F.Holds frags.old) dentry.now at.now }
     requires idle { stays op.now ≡ true }
-    ensures checked { (n : ℕ) → IfOk result (Checks (F.content frags.old) (F.covers frags.old) op.now n (link_read (F.content frags.old) (map.get (F.content frags.old) dentry.now))) }
+    ensures checked { (n : ℕ) → IfOk result (Checks (F.content frags.old) (F.covers frags.old) (F.Holds frags.old) op.now n (link_read (F.content frags.old) (map.get (F.content frags.old) dentry.now))) }
     ensures kept { KeepsAll (F.content frags.old) (F.content frags.new) (F.covers frags.old) (F.covers frags.new) (F.Follows frags.old frags.new op.now (result_err result)) }
     ensures err { IfErr result (Refuses (F.MayRefuse frags.old frags.new op.now)) }
     ensures numbers { IfErr result (λ reason. reason ≢ NoInodes) }
 {
-    let leaf = frags.frag_of(dentry);
-    match frags.look(op, dentry, leaf)? {
+    match frags.look(op, dentry, at)? {
         Some(inode) => Ok(Checked::Answers(reply_of_link(inode.kind))),
         None => Ok(Checked::Answers(Reply::Errno(ENOENT))),
     }

@@ -5,69 +5,73 @@ ghost use Rattle.mds_types.specs.declared.refusals.Refusal.TheVariants.{NoInodes
 ghost use Rattle.mds_types.specs.declared.ids.Ino.{Ino as Number};
 ghost use Rattle.mds_types.specs.declared.inodes.Inode.{Inode as Node};
 ghost use Rattle.mds_types.specs.declared.inodes.Kind.TheVariants.{Dir};
-ghost use Rattle.mds_types.specs.Frag.{Fragment};
 ghost use Rattle.std.specs.FinMap as map;
 ghost use Rattle.mds_types.specs.Step.{unlinked, dir_removed};
 ghost use Rattle.mds_types.specs.Step.{removal_errno as errno_of_removal};
 ghost use Rattle.namespace_ops.specs.declared.plans.Change.TheVariants.{Remove};
+ghost use Rattle.namespace_ops.specs.declared.plans.Spot.{Spot as Place};
 ghost use Rattle.namespace_ops.specs.Kept.{KeepsAll};
-ghost use Rattle.namespace_ops.specs.Changes.{IsChangeOf, Reads};
+ghost use Rattle.namespace_ops.specs.Changes.{IsChangeOf, Reads, dentry_at};
 ghost use Rattle.namespace_ops.specs.Checked.{Checks};
+ghost use Rattle.namespace_ops.specs.Places.{LiesAt};
 ghost use Rattle.namespace_ops.specs.Reasons.{Refuses};
 
 use crate::frags::Frags;
-use crate::plans::{Change, Checked};
-use mds_types::{Dentry, EISDIR, ENOENT, ENOTDIR, ENOTEMPTY, Inode, Op, Refusal, Reply};
+use crate::plans::{Change, Checked, Spot};
+use mds_types::{Dentry, Dirfrag, EISDIR, ENOENT, ENOTDIR, ENOTEMPTY, Inode, Op, Refusal, Reply};
 
 /// Takes away an entry that has to be no directory.
-pub fn unlink<F: Frags>(frags: &mut F, op: &Op, dentry: &Dentry) -> Result<Checked, Refusal>
+pub fn unlink<F: Frags>(
+    frags: &mut F,
+    op: &Op,
+    dentry: &Dentry,
+    at: &Dirfrag,
+) -> Result<Checked, Refusal>
     requires reads { Reads (F.content frags.old) op.now dentry.now.dir.0 }
-    requires removes { (leaf : Fragment) → IsChangeOf op.now (Remove dentry.now leaf None) }
-    ensures checked { (n : ℕ) → IfOk result (Checks (F.content frags.old) (F.covers frags.old) op.now n
+    requires at { LiesAt (F.content frags.old) (F.covers frags.old) (F.Holds frags.old) dentry.now at.now }
+    requires removes { (spot : Place) → dentry_at spot ≡ dentry.now → IsChangeOf op.now (Remove spot None) }
+    ensures checked { (n : ℕ) → IfOk result (Checks (F.content frags.old) (F.covers frags.old) (F.Holds frags.old) op.now n
         (unlinked (F.content frags.old) dentry.now (map.get (F.content frags.old) dentry.now))) }
     ensures kept { KeepsAll (F.content frags.old) (F.content frags.new) (F.covers frags.old) (F.covers frags.new) (F.Follows frags.old frags.new op.now (result_err result)) }
     ensures err { IfErr result (Refuses (F.MayRefuse frags.old frags.new op.now)) }
     ensures numbers { IfErr result (λ reason. reason ≢ NoInodes) }
 {
-    let leaf = frags.frag_of(dentry);
-    let Some(inode) = frags.look(op, dentry, leaf)? else {
+    let Some(inode) = frags.look(op, dentry, at)? else {
         return Ok(Checked::Answers(Reply::Errno(ENOENT)))
     };
     if inode.kind.is_dir() {
         return Ok(Checked::Answers(Reply::Errno(EISDIR)));
     }
-    let dentry = dentry.try_clone()?;
-    Ok(Checked::Changes(Change::Remove {
-        dentry,
-        leaf,
-        gone: None,
-    }))
+    let spot = Spot::of(dentry, *at)?;
+    Ok(Checked::Changes(Change::Remove { spot, gone: None }))
 }
 
 /// Takes away a directory that has to be empty.
-pub fn remove_dir<F: Frags>(frags: &mut F, op: &Op, dentry: &Dentry) -> Result<Checked, Refusal>
+pub fn remove_dir<F: Frags>(
+    frags: &mut F,
+    op: &Op,
+    dentry: &Dentry,
+    at: &Dirfrag,
+) -> Result<Checked, Refusal>
     requires reads { Reads (F.content frags.old) op.now dentry.now.dir.0 }
     requires inside { (inode : Node) → map.get (F.content frags.old) dentry.now ≡ Some inode → inode.kind ≡ Dir → Reads (F.content frags.old) op.now inode.ino.0 }
-    requires removes { (leaf : Fragment) (gone : Option Number) → IsChangeOf op.now (Remove dentry.now leaf gone) }
-    ensures checked { (n : ℕ) → IfOk result (Checks (F.content frags.old) (F.covers frags.old) op.now n
+    requires at { LiesAt (F.content frags.old) (F.covers frags.old) (F.Holds frags.old) dentry.now at.now }
+    requires removes { (spot : Place) (gone : Option Number) → dentry_at spot ≡ dentry.now → IsChangeOf op.now (Remove spot gone) }
+    ensures checked { (n : ℕ) → IfOk result (Checks (F.content frags.old) (F.covers frags.old) (F.Holds frags.old) op.now n
         (dir_removed (F.content frags.old) dentry.now (map.get (F.content frags.old) dentry.now))) }
     ensures kept { KeepsAll (F.content frags.old) (F.content frags.new) (F.covers frags.old) (F.covers frags.new) (F.Follows frags.old frags.new op.now (result_err result)) }
     ensures err { IfErr result (Refuses (F.MayRefuse frags.old frags.new op.now)) }
     ensures numbers { IfErr result (λ reason. reason ≢ NoInodes) }
 {
-    let leaf = frags.frag_of(dentry);
-    let Some(inode) = frags.look(op, dentry, leaf)? else {
+    let Some(inode) = frags.look(op, dentry, at)? else {
         return Ok(Checked::Answers(Reply::Errno(ENOENT)))
     };
     if let Some(errno) = removal_errno(frags, op, &inode)? {
         return Ok(Checked::Answers(Reply::Errno(errno)));
     }
-    let dentry = dentry.try_clone()?;
-    Ok(Checked::Changes(Change::Remove {
-        dentry,
-        leaf,
-        gone: Some(inode.ino),
-    }))
+    let spot = Spot::of(dentry, *at)?;
+    let gone = Some(inode.ino);
+    Ok(Checked::Changes(Change::Remove { spot, gone }))
 }
 
 // The errno for an inode that is no directory, or a full one.

@@ -7,22 +7,23 @@ ghost use Rattle.mds_types.specs.declared.replies.Reply.TheVariants.{Done};
 ghost use Rattle.mds_types.specs.declared.ids.Ino.{Ino as Number};
 ghost use Rattle.mds_types.specs.declared.inodes.Inode.{Inode as Node};
 ghost use Rattle.mds_types.specs.declared.inodes.Kind.TheVariants.{Dir};
-ghost use Rattle.mds_types.specs.Frag.{Fragment};
 ghost use Rattle.std.specs.Option.{option_copied};
 ghost use Rattle.std.specs.Ordering.{eq_by_cmp};
 ghost use Rattle.mds_types.specs.Tree.{dentry_cmp, is_directory};
 ghost use Rattle.mds_types.specs.Step.{renamed, unless, answers, with_moved};
 ghost use Rattle.mds_types.specs.Step.{leads_to as leads_below, replace_errno as errno_of_replacing};
 ghost use Rattle.namespace_ops.specs.declared.plans.Change.TheVariants.{Move};
+ghost use Rattle.namespace_ops.specs.declared.plans.Spot.{Spot as Place};
 ghost use Rattle.namespace_ops.specs.Kept.{KeepsAll};
-ghost use Rattle.namespace_ops.specs.Changes.{IsChangeOf, IsLeafAt, Reads, directory_at, stays};
+ghost use Rattle.namespace_ops.specs.Changes.{IsChangeOf, Reads, dentry_at, directory_at, stays};
 ghost use Rattle.namespace_ops.specs.Checked.{Checks};
+ghost use Rattle.namespace_ops.specs.Places.{LiesAt};
 ghost use Rattle.namespace_ops.specs.Reasons.{Refuses};
 
 use crate::frags::Frags;
-use crate::plans::{Change, Checked};
+use crate::plans::{Change, Checked, Spot};
 use mds_types::{
-    Dentry, EINVAL, EISDIR, ENOENT, ENOTDIR, ENOTEMPTY, Frag, Ino, Inode, Op, Refusal, Reply,
+    Dentry, Dirfrag, EINVAL, EISDIR, ENOENT, ENOTDIR, ENOTEMPTY, Ino, Inode, Op, Refusal, Reply,
 };
 
 /// Moves the entry at one dentry to another.
@@ -31,21 +32,22 @@ pub fn rename<F: Frags>(
     op: &Op,
     from: &Dentry,
     to: &Dentry,
+    at: &(Dirfrag, Dirfrag),
 ) -> Result<Checked, Refusal>
-    requires there { is_directory (F.content frags.old) to.now.dir.0 ≡ true }
+    requires from { LiesAt (F.content frags.old) (F.covers frags.old) (F.Holds frags.old) from.now at.now.0 }
+    requires to { LiesAt (F.content frags.old) (F.covers frags.old) (F.Holds frags.old) to.now at.now.1 }
     requires reads { Reads (F.content frags.old) op.now from.now.dir.0 }
     requires leads { Reads (F.content frags.old) op.now to.now.dir.0 }
     requires inside { (inode : Node) → map.get (F.content frags.old) to.now ≡ Some inode → inode.kind ≡ Dir → Reads (F.content frags.old) op.now inode.ino.0 }
     requires idle { stays op.now ≡ eq_by_cmp dentry_cmp from.now to.now }
-    requires moves { (source target : Fragment) (gone : Option Number) → IsChangeOf op.now (Move from.now source to.now target gone) }
-    ensures checked { (n : ℕ) → let tree = F.content frags.old in IfOk result (Checks tree (F.covers frags.old) op.now n
+    requires moves { (source target : Place) (gone : Option Number) → dentry_at source ≡ from.now → dentry_at target ≡ to.now → IsChangeOf op.now (Move source target gone) }
+    ensures checked { (n : ℕ) → let tree = F.content frags.old in IfOk result (Checks tree (F.covers frags.old) (F.Holds frags.old) op.now n
         (renamed tree from.now to.now (map.get tree from.now) (map.get tree to.now))) }
     ensures kept { KeepsAll (F.content frags.old) (F.content frags.new) (F.covers frags.old) (F.covers frags.new) (F.Follows frags.old frags.new op.now (result_err result)) }
     ensures err { IfErr result (Refuses (F.MayRefuse frags.old frags.new op.now)) }
     ensures numbers { IfErr result (λ reason. reason ≢ NoInodes) }
 {
-    let source = frags.frag_of(from);
-    let Some(inode) = frags.look(op, from, source)? else {
+    let Some(inode) = frags.look(op, from, &at.0)? else {
         return Ok(Checked::Answers(Reply::Errno(ENOENT)))
     };
     if from.cmp(to).is_eq() {
@@ -54,7 +56,7 @@ pub fn rename<F: Frags>(
     if leads_to(frags, &inode, to.dir) {
         return Ok(Checked::Answers(Reply::Errno(EINVAL)));
     }
-    move_onto(frags, op, &inode, from, source, to)
+    move_onto(frags, op, &inode, from, to, at)
 }
 
 // The move of an inode to a dentry that isn't below it, unless what stands there can't be replaced.
@@ -63,34 +65,31 @@ fn move_onto<F: Frags>(
     op: &Op,
     inode: &Inode,
     from: &Dentry,
-    source: Frag,
     to: &Dentry,
+    at: &(Dirfrag, Dirfrag),
 ) -> Result<Checked, Refusal>
     requires stands { map.get (F.content frags.old) from.now ≡ Some inode.now }
-    requires leaf { IsLeafAt (F.covers frags.old) from.now source }
+    requires from { LiesAt (F.content frags.old) (F.covers frags.old) (F.Holds frags.old) from.now at.now.0 }
+    requires to { LiesAt (F.content frags.old) (F.covers frags.old) (F.Holds frags.old) to.now at.now.1 }
     requires apart { eq_by_cmp dentry_cmp from.now to.now ≡ false }
-    requires there { is_directory (F.content frags.old) to.now.dir.0 ≡ true }
     requires outside { leads_below (F.content frags.old) inode.now to.now.dir.0 ≡ false }
     requires leads { Reads (F.content frags.old) op.now to.now.dir.0 }
     requires inside { (gone : Node) → map.get (F.content frags.old) to.now ≡ Some gone → gone.kind ≡ Dir → Reads (F.content frags.old) op.now gone.ino.0 }
-    requires moves { (target : Fragment) (gone : Option Number) → IsChangeOf op.now (Move from.now source to.now target gone) }
-    ensures checked { (n : ℕ) → let tree = F.content frags.old in IfOk result (Checks tree (F.covers frags.old) op.now n
+    requires moves { (source target : Place) (gone : Option Number) → dentry_at source ≡ from.now → dentry_at target ≡ to.now → IsChangeOf op.now (Move source target gone) }
+    ensures checked { (n : ℕ) → let tree = F.content frags.old in IfOk result (Checks tree (F.covers frags.old) (F.Holds frags.old) op.now n
         (unless tree (errno_of_replacing tree inode.now (map.get tree to.now)) (answers (with_moved tree from.now to.now inode.now) Done))) }
     ensures kept { KeepsAll (F.content frags.old) (F.content frags.new) (F.covers frags.old) (F.covers frags.new) (F.Follows frags.old frags.new op.now (result_err result)) }
     ensures err { IfErr result (Refuses (F.MayRefuse frags.old frags.new op.now)) }
     ensures numbers { IfErr result (λ reason. reason ≢ NoInodes) }
 {
-    let target = frags.frag_of(to);
-    let replaced = frags.look(op, to, target)?;
+    let replaced = frags.look(op, to, &at.1)?;
     if let Some(errno) = replace_errno(frags, op, inode, replaced.as_ref())? {
         return Ok(Checked::Answers(Reply::Errno(errno)));
     }
     let gone = directory_of(replaced.as_ref());
     Ok(Checked::Changes(Change::Move {
-        from: from.try_clone()?,
-        source,
-        to: to.try_clone()?,
-        target,
+        from: Spot::of(from, at.0)?,
+        to: Spot::of(to, at.1)?,
         gone,
     }))
 }

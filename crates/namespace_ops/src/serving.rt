@@ -10,9 +10,10 @@ ghost use Rattle.namespace_ops.specs.Changes.{IsOffered};
 ghost use Rattle.namespace_ops.specs.Served.{IsServed, IsRefused};
 
 use crate::frags::Frags;
+use crate::locating::locate;
 use crate::planning::plan_op;
 use crate::plans::carry_out;
-use mds_types::{Ino, Op, Refusal, Reply};
+use mds_types::{Ino, Op, Rank, Refusal, Reply};
 use std::alloc::Global;
 
 /// Serves an operation: answers the reply of the operation table, and leaves the tree that the table leaves. Of the leaves
@@ -36,7 +37,8 @@ pub fn serve_op<F: Frags>(
     ensures others { IsWellFormed (F.content frags.old) → OthersShowTheSame (F.content frags.old) (F.content frags.new) (F.covers frags.old) (F.covers frags.new) (changed_fragments (F.covers frags.old) (F.content frags.old) op.now) }
     ensures kept { OnErr result (KeepsAll (F.content frags.old) (F.content frags.new) (F.covers frags.old) (F.covers frags.new) (F.Follows frags.old frags.new op.now (result_err result))) }
 {
-    let plan = plan_op(alloc, frags, op, number)?;
+    let places = locate(frags, Rank(0), op);
+    let plan = plan_op(alloc, frags, op, places, number)?;
     carry_out(frags, plan.change);
     Ok(plan.reply)
 }

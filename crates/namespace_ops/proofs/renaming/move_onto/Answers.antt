@@ -1,4 +1,4 @@
-use Rattle.std.proofs.Common.{refl, sym, ap, ◌∙◌}
+use Rattle.std.proofs.Common.{None, refl, sym, ap, ◌∙◌}
 use Rattle.mds_types.specs.declared.replies.Reply.TheVariants.{Done}
 use Rattle.mds_types.specs.Step.{answers, unless, with_moved}
 use Rattle.namespace_ops.specs.Changes.{directory_at}
@@ -14,6 +14,13 @@ returns-in-Some-clause-checked g c n = (
 
 pub returns-clause-checked : goal.returns-clause-checked
 returns-clause-checked g c n =
-    moved_checked (g.F.Frags.content c.args.frags.now) _ _ n c.args.from.now c.args.to.now _ _ c.args.source _ _ c.args.inode.now c.in_ok-try_clone.ensures c.in_ok-try_clone-2.ensures c.requires.stands c.requires.leaf c.frag_of-target.ensures c.requires.apart c.requires.there c.requires.outside
+    moved_checked (g.F.Frags.content c.args.frags.now) _ _ _ n c.args.from.now c.args.to.now c.args.at.now _ _ _ c.args.inode.now c.requires.from c.requires.to c.in_ok-of.ensures c.in_ok-of-2.ensures c.requires.stands c.requires.apart c.requires.outside
     (sym (replaced_told (g.F.Frags.content c.args.frags.now) _ c.args.inode.now c.args.to.now _ _ _ c.in_ok-replaced.ensures.kept.tree c.as_ref.ensures.value c.in_ok-replaced.ensures.found c.in_ok-errno.ensures.found) ∙ c.in_default.is)
-    (c.directory_of-gone.ensures ∙ ap directory_at (c.as_ref-2.ensures.value ∙ c.in_ok-replaced.ensures.found)) (c.requires.moves _ _)
+    (c.directory_of-gone.ensures ∙ ap directory_at (c.as_ref-2.ensures.value ∙ c.in_ok-replaced.ensures.found)) c.requires.moves
+
+pub returns-clause-kept : goal.returns-clause-kept
+returns-clause-kept g c = record {
+  tree = c.in_ok-errno.ensures.kept.tree ∙ c.in_ok-replaced.ensures.kept.tree;
+  leaves = c.in_ok-errno.ensures.kept.leaves ∙ c.in_ok-replaced.ensures.kept.leaves;
+  follows = g.met.F.Frags.follows_on _ _ _ c.args.op.now None c.in_ok-replaced.ensures.kept.follows c.in_ok-errno.ensures.kept.follows;
+}
