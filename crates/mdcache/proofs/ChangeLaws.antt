@@ -7,6 +7,7 @@ use Rattle.mds_types.specs.declared.ids.Ino.{Ino}
 use Rattle.mds_types.specs.declared.dentries.Dentry.{Dentry}
 use Rattle.mds_types.specs.declared.inodes.Inode.{Inode}
 use Rattle.mds_types.specs.Frag.{Fragment}
+use Rattle.mds_types.specs.Leaf.{leaf_of}
 use Rattle.mds_types.specs.Tree.{IsWellFormed, NothingIn, Tree, is_dir_kind, is_directory}
 use Rattle.mds_types.specs.Step.{IsMove, with_moved}
 use Rattle.mds_types.proofs.DirectoryLaws.{entry_stands}
@@ -20,7 +21,8 @@ use Rattle.inode_table.proofs.TableLaws.{added_tabled, dir_or_not, known_is, lea
 use Rattle.inode_table.proofs.MoveLaws.{may_relocate, may_replace, moved_tabled, replaced_empty}
 use Rattle.fragtree.specs.FragTree.{HasLeaf}
 use Rattle.fragtree.proofs.TreeLaws.{first_or_later}
-use Rattle.namespace_ops.specs.Changes.{IsLeafAt, MayChange, directory_at, fragments_of, in_directory, leaves, leaves_gone, moved}
+use Rattle.namespace_ops.specs.Changes.{IsLeafAt, MayChange, dentry_at, directory_at, fragments_of, in_directory, leaves, leaves_gone, moved}
+use Rattle.namespace_ops.specs.declared.plans.Spot.{Spot}
 use Rattle.namespace_ops.specs.declared.plans.Change.TheVariants.{Add, Set, Remove, Move}
 use Rattle.mdcache.specs.Changes.{IsNamed, Makes, with_directory, with_home_at, without, without_directory}
 use Rattle.mdcache.specs.Made.{ChangesAreRight, IsRight, StaysAsItIs}
@@ -84,66 +86,66 @@ tabled_as old new homes now tree same tabled = subst (λ (h : Homes). IsTabled n
 
 -- ---- other attributes
 
-set_right : (dentry : Dentry) (f : Fragment) (inode : Inode) (old new : State) → IsSound old → MayChange (shown_tree old) old.covers (Set dentry f inode) → Makes (Set dentry f inode) old new → IsRight (Set dentry f inode) old new
-set_right dentry f inode old new sound may makes =
-    let so = named_so old new dentry f (Some inode) (sound_leaves old sound) (entry_known old dentry may.takes.before sound may.takes.stands) may.carries makes in
+set_right : (spot : Spot) (inode : Inode) (old new : State) → IsSound old → MayChange (shown_tree old) old.covers (Set spot inode) → Makes (Set spot inode) old new → IsRight (Set spot inode) old new
+set_right spot inode old new sound may makes =
+    let so = named_so old new (dentry_at spot) spot.at.frag (Some inode) (sound_leaves old sound) (entry_known old (dentry_at spot) may.takes.before sound may.takes.stands) may.carries makes in
     record {
-      sound = sound_again new so.leaves (tabled_as (map.insert (shown_tree old) dentry inode) (shown_tree new) old.homes new.homes so.tree so.homes (set_tabled (shown_tree old) old.homes dentry inode sound.tabled may.takes));
+      sound = sound_again new so.leaves (tabled_as (map.insert (shown_tree old) (dentry_at spot) inode) (shown_tree new) old.homes new.homes so.tree so.homes (set_tabled (shown_tree old) old.homes (dentry_at spot) inode sound.tabled may.takes));
       tree = so.tree;
       leaves = λ d is. ap (λ (c : Covers). leaves_of c d) so.covers;
-      frame = λ leaf none live. so.stays leaf (not_first leaf (dentry.dir, f) [] none) live;
+      frame = λ leaf none live. so.stays leaf (not_first leaf (leaf_of spot.at) [] none) live;
     }
 
 -- ---- a new inode
 
-module _ (dentry : Dentry) (f : Fragment) (inode : Inode) (old named : State) (sound : IsSound old) (fits : inode.ino.0 < 2 ^ 64) (may : MayChange (shown_tree old) old.covers (Add dentry f inode))
-    (so : IsNamedSo old named dentry f (Some inode)) where
-  grown_tabled : IsTabled (map.insert (shown_tree old) dentry inode) (with_home old.homes dentry inode)
-  grown_tabled = added_tabled (shown_tree old) old.homes dentry inode sound.tabled may.takes
+module _ (spot : Spot) (inode : Inode) (old named : State) (sound : IsSound old) (fits : inode.ino.0 < 2 ^ 64) (may : MayChange (shown_tree old) old.covers (Add spot inode))
+    (so : IsNamedSo old named (dentry_at spot) spot.at.frag (Some inode)) where
+  grown_tabled : IsTabled (map.insert (shown_tree old) (dentry_at spot) inode) (with_home old.homes (dentry_at spot) inode)
+  grown_tabled = added_tabled (shown_tree old) old.homes (dentry_at spot) inode sound.tabled may.takes
 
-  added_file : is_dir_kind inode.kind ≡ false → IsRight (Add dentry f inode) old named
+  added_file : is_dir_kind inode.kind ≡ false → IsRight (Add spot inode) old named
   added_file kinded = record {
-    sound = sound_again named so.leaves (tabled_as (map.insert (shown_tree old) dentry inode) (shown_tree named) (with_home old.homes dentry inode) named.homes so.tree (so.homes ∙ sym (with_file old.homes dentry inode kinded)) grown_tabled);
+    sound = sound_again named so.leaves (tabled_as (map.insert (shown_tree old) (dentry_at spot) inode) (shown_tree named) (with_home old.homes (dentry_at spot) inode) named.homes so.tree (so.homes ∙ sym (with_file old.homes (dentry_at spot) inode kinded)) grown_tabled);
     tree = so.tree;
     leaves = λ d is. ap (λ (c : Covers). leaves_of c d) so.covers;
-    frame = λ leaf none live. so.stays leaf (not_first leaf (dentry.dir, f) [] none) live;
+    frame = λ leaf none live. so.stays leaf (not_first leaf (leaf_of spot.at) [] none) live;
   }
 
-  added_dir : is_dir_kind inode.kind ≡ true → IsRight (Add dentry f inode) old (with_directory named dentry inode.ino)
+  added_dir : is_dir_kind inode.kind ≡ true → IsRight (Add spot inode) old (with_directory named (dentry_at spot) inode.ino)
   added_dir kinded = record {
-    sound = sound_again grown (grown_leaves named so.leaves dentry inode.ino come fits) (tabled_as (map.insert (shown_tree old) dentry inode) (shown_tree grown) (with_home old.homes dentry inode) grown.homes tree homes grown_tabled);
+    sound = sound_again grown (grown_leaves named so.leaves (dentry_at spot) inode.ino come fits) (tabled_as (map.insert (shown_tree old) (dentry_at spot) inode) (shown_tree grown) (with_home old.homes (dentry_at spot) inode) grown.homes tree homes grown_tabled);
     tree = tree;
     leaves = λ d is. ap (λ (c : Covers). leaves_of c d) so.covers;
     frame = λ leaf none live.
-        let first = so.stays leaf (not_first leaf (dentry.dir, f) [] none) live in
-        stays_on old named grown leaf first (record { live = grown_live named so.leaves dentry inode.ino come fits leaf first.live; names = grown_names named so.leaves dentry inode.ino come fits leaf first.live });
+        let first = so.stays leaf (not_first leaf (leaf_of spot.at) [] none) live in
+        stays_on old named grown leaf first (record { live = grown_live named so.leaves (dentry_at spot) inode.ino come fits leaf first.live; names = grown_names named so.leaves (dentry_at spot) inode.ino come fits leaf first.live });
   }
     where
       grown : State
-      grown = with_directory named dentry inode.ino
+      grown = with_directory named (dentry_at spot) inode.ino
 
-      come : MayCome named.homes inode.ino.0 (home_at dentry)
-      come = subst (λ (h : Homes). MayCome h inode.ino.0 (home_at dentry)) (sym so.homes) (may_come (shown_tree old) old.homes dentry inode sound.tabled may.takes)
+      come : MayCome named.homes inode.ino.0 (home_at (dentry_at spot))
+      come = subst (λ (h : Homes). MayCome h inode.ino.0 (home_at (dentry_at spot))) (sym so.homes) (may_come (shown_tree old) old.homes (dentry_at spot) inode sound.tabled may.takes)
 
-      tree : shown_tree grown ≡ map.insert (shown_tree old) dentry inode
-      tree = grown_tree named so.leaves dentry inode.ino come fits ∙ so.tree
+      tree : shown_tree grown ≡ map.insert (shown_tree old) (dentry_at spot) inode
+      tree = grown_tree named so.leaves (dentry_at spot) inode.ino come fits ∙ so.tree
 
-      homes : grown.homes ≡ with_home old.homes dentry inode
-      homes = ap (λ (h : Homes). map.insert h inode.ino.0 (home_at dentry)) so.homes ∙ sym (with_dir old.homes dentry inode kinded)
+      homes : grown.homes ≡ with_home old.homes (dentry_at spot) inode
+      homes = ap (λ (h : Homes). map.insert h inode.ino.0 (home_at (dentry_at spot))) so.homes ∙ sym (with_dir old.homes (dentry_at spot) inode kinded)
 
-add_right : (dentry : Dentry) (f : Fragment) (inode : Inode) (old new : State) → IsSound old → inode.ino.0 < 2 ^ 64 → MayChange (shown_tree old) old.covers (Add dentry f inode) → Makes (Add dentry f inode) old new
-    → IsRight (Add dentry f inode) old new
-add_right dentry f inode old new sound fits may makes = go (dir_or_not inode)
+add_right : (spot : Spot) (inode : Inode) (old new : State) → IsSound old → inode.ino.0 < 2 ^ 64 → MayChange (shown_tree old) old.covers (Add spot inode) → Makes (Add spot inode) old new
+    → IsRight (Add spot inode) old new
+add_right spot inode old new sound fits may makes = go (dir_or_not inode)
   where
-    so : IsNamedSo old makes.0 dentry f (Some inode)
-    so = named_so old makes.0 dentry f (Some inode) (sound_leaves old sound) (dir_known old dentry sound may.takes.parent) may.carries makes.1
+    so : IsNamedSo old makes.0 (dentry_at spot) spot.at.frag (Some inode)
+    so = named_so old makes.0 (dentry_at spot) spot.at.frag (Some inode) (sound_leaves old sound) (dir_known old (dentry_at spot) sound may.takes.parent) may.carries makes.1
 
-    is_with : (b : Bool) → is_dir_kind inode.kind ≡ b → new ≡ cond b (with_directory makes.0 dentry inode.ino) makes.0
-    is_with b is = makes.2 ∙ ap (λ (c : Bool). cond c (with_directory makes.0 dentry inode.ino) makes.0) is
+    is_with : (b : Bool) → is_dir_kind inode.kind ≡ b → new ≡ cond b (with_directory makes.0 (dentry_at spot) inode.ino) makes.0
+    is_with b is = makes.2 ∙ ap (λ (c : Bool). cond c (with_directory makes.0 (dentry_at spot) inode.ino) makes.0) is
 
-    go : (is_dir_kind inode.kind ≡ true) ⊎ (is_dir_kind inode.kind ≡ false) → IsRight (Add dentry f inode) old new
-    go (inl kinded) = subst (IsRight (Add dentry f inode) old) (sym (is_with true kinded)) (added_dir dentry f inode old makes.0 sound fits may so kinded)
-    go (inr kinded) = subst (IsRight (Add dentry f inode) old) (sym (is_with false kinded)) (added_file dentry f inode old makes.0 sound fits may so kinded)
+    go : (is_dir_kind inode.kind ≡ true) ⊎ (is_dir_kind inode.kind ≡ false) → IsRight (Add spot inode) old new
+    go (inl kinded) = subst (IsRight (Add spot inode) old) (sym (is_with true kinded)) (added_dir spot inode old makes.0 sound fits may so kinded)
+    go (inr kinded) = subst (IsRight (Add spot inode) old) (sym (is_with false kinded)) (added_file spot inode old makes.0 sound fits may so kinded)
 
 -- ---- what goes
 
@@ -216,25 +218,25 @@ stands_known s dentry inode sound stands kinded = known_is (shown_tree s) s.home
 removed_empty : (tree : Tree) (dentry : Dentry) → IsWellFormed tree → (may : MayRemove tree dentry) → NothingIn (map.remove tree dentry) may.inode.ino.0
 removed_empty tree dentry whole may q x stands same = nothing_in tree dentry may.inode whole may.stands may.empty q x (stands_after_removal tree dentry q x stands).1 same
 
-remove_right : (dentry : Dentry) (f : Fragment) (gone : Option Ino) (old new : State) → IsSound old → MayChange (shown_tree old) old.covers (Remove dentry f gone) → Makes (Remove dentry f gone) old new → IsRight (Remove dentry f gone) old new
-remove_right dentry f gone old new sound may makes = record {
-  sound = sound_again new its.leaves (tabled_as (map.remove (shown_tree old) dentry) (shown_tree new) (without_home old.homes found) new.homes tree homes tabled);
+remove_right : (spot : Spot) (gone : Option Ino) (old new : State) → IsSound old → MayChange (shown_tree old) old.covers (Remove spot gone) → Makes (Remove spot gone) old new → IsRight (Remove spot gone) old new
+remove_right spot gone old new sound may makes = record {
+  sound = sound_again new its.leaves (tabled_as (map.remove (shown_tree old) (dentry_at spot)) (shown_tree new) (without_home old.homes found) new.homes tree homes tabled);
   tree = tree;
-  leaves = leaves_kept (shown_tree old) (shown_tree new) new.homes old.homes old.covers new.covers dentry found (tabled_as (map.remove (shown_tree old) dentry) (shown_tree new) (without_home old.homes found) new.homes tree homes tabled)
+  leaves = leaves_kept (shown_tree old) (shown_tree new) new.homes old.homes old.covers new.covers (dentry_at spot) found (tabled_as (map.remove (shown_tree old) (dentry_at spot)) (shown_tree new) (without_home old.homes found) new.homes tree homes tabled)
       sound.tabled.whole refl homes covers;
   frame = λ leaf none live.
-      let first = so.stays leaf (not_first leaf (dentry.dir, f) (leaves_gone old.covers gone) none) live in
-      stays_on old named new leaf first (its.stays leaf (λ has. not_later leaf (dentry.dir, f) (leaves_gone old.covers gone) none (subst (λ (c : Covers). Contains (leaves_gone c gone) leaf) so.covers has)) first.live);
+      let first = so.stays leaf (not_first leaf (leaf_of spot.at) (leaves_gone old.covers gone) none) live in
+      stays_on old named new leaf first (its.stays leaf (λ has. not_later leaf (leaf_of spot.at) (leaves_gone old.covers gone) none (subst (λ (c : Covers). Contains (leaves_gone c gone) leaf) so.covers has)) first.live);
 }
   where
     named : State
     named = makes.0
 
     found : Option Inode
-    found = map.get (shown_tree old) dentry
+    found = map.get (shown_tree old) (dentry_at spot)
 
-    so : IsNamedSo old named dentry f None
-    so = named_so old named dentry f None (sound_leaves old sound) (entry_known old dentry may.takes.inode sound may.takes.stands) may.carries.0 makes.1
+    so : IsNamedSo old named (dentry_at spot) spot.at.frag None
+    so = named_so old named (dentry_at spot) spot.at.frag None (sound_leaves old sound) (entry_known old (dentry_at spot) may.takes.inode sound may.takes.stands) may.carries.0 makes.1
 
     is : new ≡ without named (directory_at found)
     is = makes.2 ∙ ap (without named) may.carries.1
@@ -243,15 +245,15 @@ remove_right dentry f gone old new sound may makes = record {
     may_leave inode there kinded =
         let inodes : Some may.takes.inode ≡ Some inode = sym may.takes.stands ∙ there in
         let alike : may.takes.inode ≡ inode = cc in (
-          subst (λ (h : Homes). MayGo h inode.ino.0) (sym so.homes) (may_drop (shown_tree old) old.homes dentry found refl sound.tabled may.takes inode there kinded),
-          ap (λ (h : Homes). is_known h inode.ino.0) so.homes ∙ stands_known old dentry inode sound there kinded,
-          subst (λ (t : Tree). NothingIn t inode.ino.0) (sym so.tree) (subst (λ (i : Inode). NothingIn (map.remove (shown_tree old) dentry) i.ino.0) alike (removed_empty (shown_tree old) dentry sound.tabled.whole may.takes)),
+          subst (λ (h : Homes). MayGo h inode.ino.0) (sym so.homes) (may_drop (shown_tree old) old.homes (dentry_at spot) found refl sound.tabled may.takes inode there kinded),
+          ap (λ (h : Homes). is_known h inode.ino.0) so.homes ∙ stands_known old (dentry_at spot) inode sound there kinded,
+          subst (λ (t : Tree). NothingIn t inode.ino.0) (sym so.tree) (subst (λ (i : Inode). NothingIn (map.remove (shown_tree old) (dentry_at spot)) i.ino.0) alike (removed_empty (shown_tree old) (dentry_at spot) sound.tabled.whole may.takes)),
         )
 
     its : IsLeftSo named new gone
     its = subst (λ (g : Option Ino). IsLeftSo named new g) (sym may.carries.1) (subst (λ (t : State). IsLeftSo named t (directory_at found)) (sym is) (left_so named found so.leaves may_leave))
 
-    tree : shown_tree new ≡ map.remove (shown_tree old) dentry
+    tree : shown_tree new ≡ map.remove (shown_tree old) (dentry_at spot)
     tree = its.tree ∙ so.tree
 
     homes : new.homes ≡ without_home old.homes found
@@ -260,8 +262,8 @@ remove_right dentry f gone old new sound may makes = record {
     covers : new.covers ≡ without_cover old.covers found
     covers = ap (λ (t : State). t.covers) is ∙ covers_without named found ∙ ap (λ (c : Covers). without_cover c found) so.covers
 
-    tabled : IsTabled (map.remove (shown_tree old) dentry) (without_home old.homes found)
-    tabled = removed_tabled (shown_tree old) old.homes dentry found refl sound.tabled may.takes
+    tabled : IsTabled (map.remove (shown_tree old) (dentry_at spot)) (without_home old.homes found)
+    tabled = removed_tabled (shown_tree old) old.homes (dentry_at spot) found refl sound.tabled may.takes
 
 -- ---- a move
 
@@ -272,8 +274,8 @@ moving tree from to inode stands may =
     let alike : may.0 ≡ inode = cc in
     subst (λ (i : Inode). IsMove tree from to i) alike may.1
 
-module _ (from to : Dentry) (source target : Fragment) (gone : Option Ino) (old new : State) (sound : IsSound old) (may : MayChange (shown_tree old) old.covers (Move from source to target gone))
-    (makes : Makes (Move from source to target gone) old new) where
+module _ (source target : Spot) (gone : Option Ino) (old new : State) (sound : IsSound old) (may : MayChange (shown_tree old) old.covers (Move source target gone))
+    (makes : Makes (Move source target gone) old new) where
   abbrev inode : Inode
   inode = makes.0
 
@@ -284,21 +286,21 @@ module _ (from to : Dentry) (source target : Fragment) (gone : Option Ino) (old 
   in_place = makes.4
 
   abbrev housed : State
-  housed = with_home_at in_place to inode
+  housed = with_home_at in_place (dentry_at target) inode
 
   abbrev found : Option Inode
-  found = map.get (shown_tree old) to
+  found = map.get (shown_tree old) (dentry_at target)
 
-  move : IsMove (shown_tree old) from to inode
-  move = moving (shown_tree old) from to inode makes.1 may.takes
+  move : IsMove (shown_tree old) (dentry_at source) (dentry_at target) inode
+  move = moving (shown_tree old) (dentry_at source) (dentry_at target) inode makes.1 may.takes
 
-  first : IsNamedSo old out from source None
-  first = named_so old out from source None (sound_leaves old sound) (entry_known old from inode sound makes.1) may.carries.0 makes.3
+  first : IsNamedSo old out (dentry_at source) source.at.frag None
+  first = named_so old out (dentry_at source) source.at.frag None (sound_leaves old sound) (entry_known old (dentry_at source) inode sound makes.1) may.carries.0 makes.3
 
-  second : IsNamedSo out in_place to target (Some inode)
+  second : IsNamedSo out in_place (dentry_at target) target.at.frag (Some inode)
   second =
-      named_so out in_place to target (Some inode) first.leaves (ap (λ (h : Homes). is_known h to.dir.0) first.homes ∙ dir_known old to sound move.parent)
-      (subst (λ (c : Covers). IsLeafAt c to target) (sym first.covers) may.carries.1) makes.5
+      named_so out in_place (dentry_at target) target.at.frag (Some inode) first.leaves (ap (λ (h : Homes). is_known h (dentry_at target).dir.0) first.homes ∙ dir_known old (dentry_at target) sound move.parent)
+      (subst (λ (c : Covers). IsLeafAt c (dentry_at target) target.at.frag) (sym first.covers) may.carries.1) makes.5
 
   same_homes : in_place.homes ≡ old.homes
   same_homes = second.homes ∙ first.homes
@@ -306,85 +308,85 @@ module _ (from to : Dentry) (source target : Fragment) (gone : Option Ino) (old 
   same_covers : in_place.covers ≡ old.covers
   same_covers = second.covers ∙ first.covers
 
-  named_tree_is : shown_tree in_place ≡ with_moved (shown_tree old) from to inode
-  named_tree_is = second.tree ∙ ap (λ (t : Tree). map.insert t to inode) first.tree
+  named_tree_is : shown_tree in_place ≡ with_moved (shown_tree old) (dentry_at source) (dentry_at target) inode
+  named_tree_is = second.tree ∙ ap (λ (t : Tree). map.insert t (dentry_at target) inode) first.tree
 
-  relocates : is_dir_kind inode.kind ≡ true → MayRelocate in_place.homes inode.ino.0 (home_at to)
-  relocates kinded = subst (λ (h : Homes). MayRelocate h inode.ino.0 (home_at to)) (sym same_homes) (may_relocate (shown_tree old) old.homes from to inode sound.tabled move kinded)
+  relocates : is_dir_kind inode.kind ≡ true → MayRelocate in_place.homes inode.ino.0 (home_at (dentry_at target))
+  relocates kinded = subst (λ (h : Homes). MayRelocate h inode.ino.0 (home_at (dentry_at target))) (sym same_homes) (may_relocate (shown_tree old) old.homes (dentry_at source) (dentry_at target) inode sound.tabled move kinded)
 
   known_still : (d : ℕ) → is_known housed.homes d ≡ is_known in_place.homes d
-  known_still = moved_known in_place.homes in_place.covers second.leaves.table to inode relocates
+  known_still = moved_known in_place.homes in_place.covers second.leaves.table (dentry_at target) inode relocates
 
   table_still : IsTable housed.homes in_place.covers
-  table_still = moved_home in_place.homes in_place.covers second.leaves.table to inode relocates
+  table_still = moved_home in_place.homes in_place.covers second.leaves.table (dentry_at target) inode relocates
 
   housed_leaves : HasSoundLeaves housed
   housed_leaves = rehomed_leaves in_place housed.homes second.leaves table_still known_still
 
-  housed_tree : shown_tree housed ≡ with_moved (shown_tree old) from to inode
+  housed_tree : shown_tree housed ≡ with_moved (shown_tree old) (dentry_at source) (dentry_at target) inode
   housed_tree = rehomed_tree in_place housed.homes second.leaves table_still known_still ∙ named_tree_is
 
-  housed_homes : housed.homes ≡ with_home old.homes to inode
-  housed_homes = ap (λ (h : Homes). with_home h to inode) same_homes
+  housed_homes : housed.homes ≡ with_home old.homes (dentry_at target) inode
+  housed_homes = ap (λ (h : Homes). with_home h (dentry_at target) inode) same_homes
 
   is : new ≡ without housed (directory_at found)
   is = makes.6 ∙ ap (without housed) may.carries.2
 
   may_leave : (i : Inode) → found ≡ Some i → is_dir_kind i.kind ≡ true → MayGo housed.homes i.ino.0 × (is_known housed.homes i.ino.0 ≡ true) × NothingIn (shown_tree housed) i.ino.0
   may_leave i there kinded = (
-    subst (λ (h : Homes). MayGo h i.ino.0) (sym housed_homes) (may_replace (shown_tree old) old.homes from to inode sound.tabled move i there),
-    known_still i.ino.0 ∙ ap (λ (h : Homes). is_known h i.ino.0) same_homes ∙ stands_known old to i sound there kinded,
-    subst (λ (t : Tree). NothingIn t i.ino.0) (sym housed_tree) (replaced_empty (shown_tree old) from to inode sound.tabled.whole move i there),
+    subst (λ (h : Homes). MayGo h i.ino.0) (sym housed_homes) (may_replace (shown_tree old) old.homes (dentry_at source) (dentry_at target) inode sound.tabled move i there),
+    known_still i.ino.0 ∙ ap (λ (h : Homes). is_known h i.ino.0) same_homes ∙ stands_known old (dentry_at target) i sound there kinded,
+    subst (λ (t : Tree). NothingIn t i.ino.0) (sym housed_tree) (replaced_empty (shown_tree old) (dentry_at source) (dentry_at target) inode sound.tabled.whole move i there),
   )
 
   its : IsLeftSo housed new gone
   its = subst (λ (g : Option Ino). IsLeftSo housed new g) (sym may.carries.2) (subst (λ (t : State). IsLeftSo housed t (directory_at found)) (sym is) (left_so housed found housed_leaves may_leave))
 
-  tree_is : shown_tree new ≡ with_moved (shown_tree old) from to inode
+  tree_is : shown_tree new ≡ with_moved (shown_tree old) (dentry_at source) (dentry_at target) inode
   tree_is = its.tree ∙ housed_tree
 
-  homes_are : new.homes ≡ without_home (with_home old.homes to inode) found
+  homes_are : new.homes ≡ without_home (with_home old.homes (dentry_at target) inode) found
   homes_are = ap (λ (t : State). t.homes) is ∙ homes_without housed found ∙ ap (λ (h : Homes). without_home h found) housed_homes
 
   covers_are : new.covers ≡ without_cover old.covers found
   covers_are = ap (λ (t : State). t.covers) is ∙ covers_without housed found ∙ ap (λ (c : Covers). without_cover c found) same_covers
 
   tabled_now : IsTabled (shown_tree new) new.homes
-  tabled_now = tabled_as (with_moved (shown_tree old) from to inode) (shown_tree new) (without_home (with_home old.homes to inode) found) new.homes tree_is homes_are (moved_tabled (shown_tree old) old.homes from to inode sound.tabled move)
+  tabled_now = tabled_as (with_moved (shown_tree old) (dentry_at source) (dentry_at target) inode) (shown_tree new) (without_home (with_home old.homes (dentry_at target) inode) found) new.homes tree_is homes_are (moved_tabled (shown_tree old) old.homes (dentry_at source) (dentry_at target) inode sound.tabled move)
 
-  untouched : (leaf : Leaf) → (Contains (fragments_of old.covers (Move from source to target gone)) leaf → ⊥) → IsLive old.homes old.covers leaf → StaysAsItIs old new leaf
+  untouched : (leaf : Leaf) → (Contains (fragments_of old.covers (Move source target gone)) leaf → ⊥) → IsLive old.homes old.covers leaf → StaysAsItIs old new leaf
   untouched leaf none live = stays_on old in_place new leaf at_second (stays_on in_place housed new leaf at_third (its.stays leaf others at_third.live))
     where
       rest : List Leaf
       rest = leaves_gone old.covers gone
 
-      not_from : Contains ((to.dir, target) ∷ rest) leaf → ⊥
-      not_from = not_later leaf (from.dir, source) ((to.dir, target) ∷ rest) none
+      not_from : Contains (leaf_of target.at ∷ rest) leaf → ⊥
+      not_from = not_later leaf (leaf_of source.at) (leaf_of target.at ∷ rest) none
 
       at_first : StaysAsItIs old out leaf
-      at_first = first.stays leaf (not_first leaf (from.dir, source) ((to.dir, target) ∷ rest) none) live
+      at_first = first.stays leaf (not_first leaf (leaf_of source.at) (leaf_of target.at ∷ rest) none) live
 
       at_second : StaysAsItIs old in_place leaf
-      at_second = stays_on old out in_place leaf at_first (second.stays leaf (not_first leaf (to.dir, target) rest not_from) at_first.live)
+      at_second = stays_on old out in_place leaf at_first (second.stays leaf (not_first leaf (leaf_of target.at) rest not_from) at_first.live)
 
       at_third : StaysAsItIs in_place housed leaf
       at_third = record { live = rehomed_live in_place housed.homes second.leaves table_still known_still leaf at_second.live; names = refl }
 
       others : Contains (leaves_gone housed.covers gone) leaf → ⊥
-      others has = not_later leaf (to.dir, target) rest not_from (subst (λ (c : Covers). Contains (leaves_gone c gone) leaf) same_covers has)
+      others has = not_later leaf (leaf_of target.at) rest not_from (subst (λ (c : Covers). Contains (leaves_gone c gone) leaf) same_covers has)
 
-  move_right : IsRight (Move from source to target gone) old new
+  move_right : IsRight (Move source target gone) old new
   move_right = record {
     sound = sound_again new its.leaves tabled_now;
-    tree = tree_is ∙ sym (ap (moved (shown_tree old) from to) makes.1);
-    leaves = leaves_kept (shown_tree old) (shown_tree new) new.homes (with_home old.homes to inode) old.covers new.covers to found tabled_now sound.tabled.whole refl homes_are covers_are;
+    tree = tree_is ∙ sym (ap (moved (shown_tree old) (dentry_at source) (dentry_at target)) makes.1);
+    leaves = leaves_kept (shown_tree old) (shown_tree new) new.homes (with_home old.homes (dentry_at target) inode) old.covers new.covers (dentry_at target) found tabled_now sound.tabled.whole refl homes_are covers_are;
     frame = untouched;
   }
 
 -- ---- every change
 
 pub changes_are_right : ChangesAreRight
-changes_are_right (Add dentry leaf inode) old new sound fits may makes = add_right dentry leaf inode old new sound fits may makes
-changes_are_right (Set dentry leaf inode) old new sound fits may makes = set_right dentry leaf inode old new sound may makes
-changes_are_right (Remove dentry leaf gone) old new sound fits may makes = remove_right dentry leaf gone old new sound may makes
-changes_are_right (Move from source to target gone) old new sound fits may makes = move_right from to source target gone old new sound may makes
+changes_are_right (Add spot inode) old new sound fits may makes = add_right spot inode old new sound fits may makes
+changes_are_right (Set spot inode) old new sound fits may makes = set_right spot inode old new sound may makes
+changes_are_right (Remove spot gone) old new sound fits may makes = remove_right spot gone old new sound may makes
+changes_are_right (Move from to gone) old new sound fits may makes = move_right from to gone old new sound may makes

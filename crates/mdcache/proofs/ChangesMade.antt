@@ -21,7 +21,8 @@ use Rattle.inode_table.specs.Dirs.{MayCome, MayGo, MayMove}
 use Rattle.inode_table.specs.TreeTable.{home_at, with_home}
 use Rattle.inode_table.proofs.MoveLaws.{may_relocate, may_replace}
 use Rattle.inode_table.proofs.TableLaws.{may_come, may_drop}
-use Rattle.namespace_ops.specs.Changes.{MayChange, directory_at}
+use Rattle.namespace_ops.specs.Changes.{MayChange, dentry_at, directory_at}
+use Rattle.namespace_ops.specs.declared.plans.Spot.{Spot}
 use Rattle.namespace_ops.specs.declared.plans.Change.{Change}
 use Rattle.namespace_ops.specs.declared.plans.Change.TheVariants.{Add, Move, Remove, Set}
 use Rattle.mdcache.specs.Changes.{IsNamed, Makes, first_leaf, with_directory, with_new}
@@ -32,7 +33,6 @@ use Rattle.mdcache.specs.Made.{HasNumber, IsRight}
 use Rattle.mdcache.specs.Ranks.{EndsWith, IsNamedIn, KeepsOnlyAt}
 use Rattle.mdcache.specs.State.{text_of}
 use Rattle.mdcache.specs.declared.going.Going.{Going}
-use Rattle.mdcache.specs.declared.holders.Holders.{Holders}
 use Rattle.mdcache.specs.declared.prepared.MovingEntry.{MovingEntry}
 use Rattle.mdcache.specs.declared.prepared.NewDirectory.{NewDirectory}
 use Rattle.mdcache.specs.declared.prepared.Prepared.{Prepared}
@@ -44,127 +44,127 @@ use Rattle.mdcache.proofs.NamedLaws.{sound_leaves}
 use Rattle.mdcache.proofs.NoneLaws.{only_none}
 
 -- all that a change leaves
-pub record IsChanged (at : Holders) (change : Change) (old new : Core) : Type 0 where
+pub record IsChanged (change : Change) (old new : Core) : Type 0 where
   pub made : Makes change (state_of old) (state_of new)
   pub right : IsRight change (state_of old) (state_of new)
-  pub came : Came (IsNamedIn at change) (EndsWith change) old.caches new.caches
+  pub came : Came (IsNamedIn change) (EndsWith change) old.caches new.caches
   pub sound : IsSoundCore new
 
-changed : (at : Holders) (change : Change) (old new : Core) → IsSoundCore old → HasNumber change → MayChange (shown_in old) old.covers change → Makes change (state_of old) (state_of new)
-    → HasMade (IsNamedIn at change) (EndsWith change) None old new → 0 < new.next_generation → IsChanged at change old new
-changed at change old new sound number may made has begun =
+changed : (change : Change) (old new : Core) → IsSoundCore old → HasNumber change → MayChange (shown_in old) old.covers change → Makes change (state_of old) (state_of new)
+    → HasMade (IsNamedIn change) (EndsWith change) None old new → 0 < new.next_generation → IsChanged change old new
+changed change old new sound number may made has begun =
     let right : IsRight change (state_of old) (state_of new) = changes_are_right change (state_of old) (state_of new) sound.sound number may made in
     record {
       made = made;
       right = right;
       came = has.came;
-      sound = sound_made (IsNamedIn at change) (EndsWith change) old new has right.sound begun;
+      sound = sound_made (IsNamedIn change) (EndsWith change) old new has right.sound begun;
     }
 
 -- what a directory was made ready with
 pub for_directory : (dentry : Dentry) (dir : Ino) (prepared : Prepared) (made : NewDirectory) → prepared ≡ Directory made → IsForDirectory dentry dir prepared → (made.name ≡ dentry.name) × (string_bytes made.object ≡ text_of (first_leaf dir))
 for_directory dentry dir prepared made was ready = subst (IsForDirectory dentry dir) was ready
 
-module _ (at : Holders) (old new : Core) (sound : IsSoundCore old) (dentry : Dentry) (leaf : Fragment) where
+module _ (old new : Core) (sound : IsSoundCore old) (spot : Spot) where
   abbrev place : Dirfrag
-  place = record { dir = dentry.dir; frag = leaf; rank = at.first }
+  place = spot.at
 
   -- a name got an inode
   module _ (inode : Inode) where
     abbrev now : Core
-    now = named old place dentry.name (Some inode)
+    now = named old place spot.name (Some inode)
 
     there : HasRoom (here old.caches place.rank.0 (leaf_of place)) → IsThere (here old.caches place.rank.0 (leaf_of place))
     there = roomy_there (here old.caches place.rank.0 (leaf_of place))
 
-    module _ (ready : IsReady old at (Set dentry leaf inode)) where
+    module _ (ready : IsReady old (Set spot inode)) where
       abbrev SetUses : ℕ → Leaf → Type 0
-      SetUses = IsNamedIn at (Set dentry leaf inode)
+      SetUses = IsNamedIn (Set spot inode)
 
       abbrev SetEnds : ℕ → Leaf → Type 0
-      SetEnds = EndsWith (Set dentry leaf inode)
+      SetEnds = EndsWith (Set spot inode)
 
       before_set : HasMade SetUses SetEnds None old old
       before_set = made_first SetUses SetEnds None old sound ready.kept
 
-      pub set_changed : MayChange (shown_in old) old.covers (Set dentry leaf inode) → new ≡ now → IsChanged at (Set dentry leaf inode) old new
-      set_changed may is = subst (IsChanged at (Set dentry leaf inode) old) (sym is)
-          (changed at (Set dentry leaf inode) old now sound tt may (is_named SetUses SetEnds None old old before_set place dentry.name (Some inode) (there ready.ready.0.room))
-          (made_named SetUses SetEnds None old old before_set place dentry.name (Some inode) (there ready.ready.0.room) (refl, refl)) sound.begun)
+      pub set_changed : MayChange (shown_in old) old.covers (Set spot inode) → new ≡ now → IsChanged (Set spot inode) old new
+      set_changed may is = subst (IsChanged (Set spot inode) old) (sym is)
+          (changed (Set spot inode) old now sound tt may (is_named SetUses SetEnds None old old before_set place spot.name (Some inode) (there ready.ready.0.room))
+          (made_named SetUses SetEnds None old old before_set place spot.name (Some inode) (there ready.ready.0.room) (refl, refl)) sound.begun)
 
-    module _ (ready : IsReady old at (Add dentry leaf inode)) where
+    module _ (ready : IsReady old (Add spot inode)) where
       abbrev AddUses : ℕ → Leaf → Type 0
-      AddUses = IsNamedIn at (Add dentry leaf inode)
+      AddUses = IsNamedIn (Add spot inode)
 
       abbrev AddEnds : ℕ → Leaf → Type 0
-      AddEnds = EndsWith (Add dentry leaf inode)
+      AddEnds = EndsWith (Add spot inode)
 
       before_file : is_dir_kind inode.kind ≡ false → HasMade AddUses AddEnds None old old
-      before_file file = made_first AddUses AddEnds None old sound (subst (λ (b : Bool). KeepsOnlyAt (cond b (Some (at.first, first_leaf inode.ino)) None) old.caches) file ready.kept)
+      before_file file = made_first AddUses AddEnds None old sound (subst (λ (b : Bool). KeepsOnlyAt (cond b (Some (spot.at.rank, first_leaf inode.ino)) None) old.caches) file ready.kept)
 
-      pub file_changed : is_dir_kind inode.kind ≡ false → inode.ino.0 < 2 ^ 64 → MayChange (shown_in old) old.covers (Add dentry leaf inode) → new ≡ now → IsChanged at (Add dentry leaf inode) old new
-      file_changed file number may is = subst (IsChanged at (Add dentry leaf inode) old) (sym is)
-          (changed at (Add dentry leaf inode) old now sound number may (
+      pub file_changed : is_dir_kind inode.kind ≡ false → inode.ino.0 < 2 ^ 64 → MayChange (shown_in old) old.covers (Add spot inode) → new ≡ now → IsChanged (Add spot inode) old new
+      file_changed file number may is = subst (IsChanged (Add spot inode) old) (sym is)
+          (changed (Add spot inode) old now sound number may (
             state_of now,
-            is_named AddUses AddEnds None old old (before_file file) place dentry.name (Some inode) (there ready.ready.0.room),
-            sym (ap (λ (b : Bool). cond b (with_directory (state_of now) dentry inode.ino) (state_of now)) file),
+            is_named AddUses AddEnds None old old (before_file file) place spot.name (Some inode) (there ready.ready.0.room),
+            sym (ap (λ (b : Bool). cond b (with_directory (state_of now) (dentry_at spot) inode.ino) (state_of now)) file),
           )
-          (made_named AddUses AddEnds None old old (before_file file) place dentry.name (Some inode) (there ready.ready.0.room) (inl (refl, refl))) sound.begun)
+          (made_named AddUses AddEnds None old old (before_file file) place spot.name (Some inode) (there ready.ready.0.room) (inl (refl, refl))) sound.begun)
 
       abbrev first : Dirfrag
-      first = record { dir = inode.ino; frag = root_fragment; rank = at.first }
+      first = record { dir = inode.ino; frag = root_fragment; rank = spot.at.rank }
 
       -- a directory has its home, and its leaf
-      module _ (kinded : is_dir_kind inode.kind ≡ true) (fits : inode.ino.0 < 2 ^ 64) (rank : at.first.0 < length old.caches.used) (may : MayChange (shown_in old) old.covers (Add dentry leaf inode)) (prepared : Prepared) (room : Rooms) where
+      module _ (kinded : is_dir_kind inode.kind ≡ true) (fits : inode.ino.0 < 2 ^ 64) (rank : spot.at.rank.0 < length old.caches.used) (may : MayChange (shown_in old) old.covers (Add spot inode)) (prepared : Prepared) (room : Rooms) where
         abbrev grown : Core
-        grown = with_dir now first (home_at dentry) (text_of (first_leaf inode.ino)) room
+        grown = with_dir now first (home_at (dentry_at spot)) (text_of (first_leaf inode.ino)) room
 
-        pub dir_may_come : MayCome old.homes inode.ino.0 (home_at dentry)
-        dir_may_come = may_come (shown_in old) old.homes dentry inode sound.sound.tabled may.takes
+        pub dir_may_come : MayCome old.homes inode.ino.0 (home_at (dentry_at spot))
+        dir_may_come = may_come (shown_in old) old.homes (dentry_at spot) inode sound.sound.tabled may.takes
 
-        before_dir : HasMade AddUses AddEnds (Some (at.first, first_leaf inode.ino)) old old
-        before_dir = made_first AddUses AddEnds (Some (at.first, first_leaf inode.ino)) old sound (subst (λ (b : Bool). KeepsOnlyAt (cond b (Some (at.first, first_leaf inode.ino)) None) old.caches) kinded ready.kept)
+        before_dir : HasMade AddUses AddEnds (Some (spot.at.rank, first_leaf inode.ino)) old old
+        before_dir = made_first AddUses AddEnds (Some (spot.at.rank, first_leaf inode.ino)) old sound (subst (λ (b : Bool). KeepsOnlyAt (cond b (Some (spot.at.rank, first_leaf inode.ino)) None) old.caches) kinded ready.kept)
 
-        dir_named : HasMade AddUses AddEnds (Some (at.first, first_leaf inode.ino)) old now
-        dir_named = made_named AddUses AddEnds (Some (at.first, first_leaf inode.ino)) old old before_dir place dentry.name (Some inode) (there ready.ready.0.room) (inl (refl, refl))
+        dir_named : HasMade AddUses AddEnds (Some (spot.at.rank, first_leaf inode.ino)) old now
+        dir_named = made_named AddUses AddEnds (Some (spot.at.rank, first_leaf inode.ino)) old old before_dir place spot.name (Some inode) (there ready.ready.0.room) (inl (refl, refl))
 
         dir_grown : HasMade AddUses AddEnds None old grown
         dir_grown = made_dir AddUses AddEnds old now first dir_named
-            (kept_named old place dentry.name (Some inode) (there ready.ready.0.room) (first_leaf inode.ino) (ready.ready.2 kinded).place rank).1 (home_at dentry) (text_of (first_leaf inode.ino)) room
-            (first_live (state_of old) (sound_leaves (state_of old) sound.sound) dentry inode.ino dir_may_come fits)
-            (grown_live (state_of old) (sound_leaves (state_of old) sound.sound) dentry inode.ino dir_may_come fits) (inr (refl, refl))
+            (kept_named old place spot.name (Some inode) (there ready.ready.0.room) (first_leaf inode.ino) (ready.ready.2 kinded).place rank).1 (home_at (dentry_at spot)) (text_of (first_leaf inode.ino)) room
+            (first_live (state_of old) (sound_leaves (state_of old) sound.sound) (dentry_at spot) inode.ino dir_may_come fits)
+            (grown_live (state_of old) (sound_leaves (state_of old) sound.sound) (dentry_at spot) inode.ino dir_may_come fits) (inr (refl, refl))
 
-        is_grown : state_of grown ≡ with_new (state_of now) dentry inode
+        is_grown : state_of grown ≡ with_new (state_of now) (dentry_at spot) inode
         is_grown =
-            (λ i. record (with_directory (state_of now) dentry inode.ino) { unsaved = unclean_with now.caches at.first.0 (first_leaf inode.ino) (made_frag now.next_generation) i })
-            ∙ sym (ap (λ (b : Bool). cond b (with_directory (state_of now) dentry inode.ino) (state_of now)) kinded)
+            (λ i. record (with_directory (state_of now) (dentry_at spot) inode.ino) { unsaved = unclean_with now.caches spot.at.rank.0 (first_leaf inode.ino) (made_frag now.next_generation) i })
+            ∙ sym (ap (λ (b : Bool). cond b (with_directory (state_of now) (dentry_at spot) inode.ino) (state_of now)) kinded)
 
-        dir_changed : new ≡ record grown { prepared = prepared; kept = None } → IsChanged at (Add dentry leaf inode) old new
-        dir_changed is = subst (IsChanged at (Add dentry leaf inode) old) (sym is)
-            (changed at (Add dentry leaf inode) old (record grown { prepared = prepared; kept = None }) sound fits may
-            (state_of now, is_named AddUses AddEnds (Some (at.first, first_leaf inode.ino)) old old before_dir place dentry.name (Some inode) (there ready.ready.0.room), is_grown)
+        dir_changed : new ≡ record grown { prepared = prepared; kept = None } → IsChanged (Add spot inode) old new
+        dir_changed is = subst (IsChanged (Add spot inode) old) (sym is)
+            (changed (Add spot inode) old (record grown { prepared = prepared; kept = None }) sound fits may
+            (state_of now, is_named AddUses AddEnds (Some (spot.at.rank, first_leaf inode.ino)) old old before_dir place spot.name (Some inode) (there ready.ready.0.room), is_grown)
             (made_beside AddUses AddEnds None None old grown prepared dir_grown) (let begun = sound.begun in omega (arith, begun)))
 
         pub directory_changed : (view : Core) → view ≡ old → (made : NewDirectory) → old.prepared ≡ Directory made
-            → new ≡ record (with_dir (named (record view { prepared = prepared }) place dentry.name (Some inode)) first (record { parent = dentry.dir; name = made.name }) (string_bytes made.object) room) { kept = None }
-            → IsChanged at (Add dentry leaf inode) old new
+            → new ≡ record (with_dir (named (record view { prepared = prepared }) place spot.name (Some inode)) first (record { parent = spot.at.dir; name = made.name }) (string_bytes made.object) room) { kept = None }
+            → IsChanged (Add spot inode) old new
         directory_changed view same made was is =
-            let for = for_directory dentry inode.ino old.prepared made was (ready.ready.2 kinded).prepared in
+            let for = for_directory (dentry_at spot) inode.ino old.prepared made was (ready.ready.2 kinded).prepared in
             dir_changed (is
-            ∙ ap (λ (k : Core). record (with_dir (named (record k { prepared = prepared }) place dentry.name (Some inode)) first (record { parent = dentry.dir; name = made.name }) (string_bytes made.object) room) { kept = None }) same
-            ∙ (λ i. record (with_dir (named (record old { prepared = prepared }) place dentry.name (Some inode)) first (record { parent = dentry.dir; name = for.0 i }) (for.1 i) room) { kept = None }))
+            ∙ ap (λ (k : Core). record (with_dir (named (record k { prepared = prepared }) place spot.name (Some inode)) first (record { parent = spot.at.dir; name = made.name }) (string_bytes made.object) room) { kept = None }) same
+            ∙ (λ i. record (with_dir (named (record old { prepared = prepared }) place spot.name (Some inode)) first (record { parent = spot.at.dir; name = for.0 i }) (for.1 i) room) { kept = None }))
 
   -- a name went, and the directory that stood there, if one did
-  module _ (going : Option Going) (room : HasRoom (here old.caches at.first.0 (leaf_of place))) (only : KeepsOnlyAt None old.caches) (stands : IsGoingOrNone old.covers going)
-      (may : MayChange (shown_in old) old.covers (Remove dentry leaf (dir_going going))) (prepared : Prepared) (rooms : Rooms) where
+  module _ (going : Option Going) (room : HasRoom (here old.caches spot.at.rank.0 (leaf_of place))) (only : KeepsOnlyAt None old.caches) (stands : IsGoingOrNone old.covers going)
+      (may : MayChange (shown_in old) old.covers (Remove spot (dir_going going))) (prepared : Prepared) (rooms : Rooms) where
     abbrev RemoveUses : ℕ → Leaf → Type 0
-    RemoveUses = IsNamedIn at (Remove dentry leaf (dir_going going))
+    RemoveUses = IsNamedIn (Remove spot (dir_going going))
 
     abbrev RemoveEnds : ℕ → Leaf → Type 0
-    RemoveEnds = EndsWith (Remove dentry leaf (dir_going going))
+    RemoveEnds = EndsWith (Remove spot (dir_going going))
 
     abbrev erased : Core
-    erased = named old place dentry.name None
+    erased = named old place spot.name None
 
     abbrev gone : Core
     gone = left erased going stands rooms
@@ -175,28 +175,28 @@ module _ (at : Holders) (old new : Core) (sound : IsSoundCore old) (dentry : Den
     is_there : IsThere (here old.caches place.rank.0 (leaf_of place))
     is_there = roomy_there (here old.caches place.rank.0 (leaf_of place)) room
 
-    removal_changed : new ≡ record gone { prepared = prepared; kept = old.kept } → (KeepsNone old.caches → KeepsNone new.caches) → IsChanged at (Remove dentry leaf (dir_going going)) old new
-    removal_changed is none = subst (IsChanged at (Remove dentry leaf (dir_going going)) old) (sym is)
-        (changed at (Remove dentry leaf (dir_going going)) old (record gone { prepared = prepared; kept = old.kept }) sound tt may
-        (state_of erased, is_named RemoveUses RemoveEnds None old old before_removal place dentry.name None is_there, is_gone erased going stands rooms)
+    removal_changed : new ≡ record gone { prepared = prepared; kept = old.kept } → (KeepsNone old.caches → KeepsNone new.caches) → IsChanged (Remove spot (dir_going going)) old new
+    removal_changed is none = subst (IsChanged (Remove spot (dir_going going)) old) (sym is)
+        (changed (Remove spot (dir_going going)) old (record gone { prepared = prepared; kept = old.kept }) sound tt may
+        (state_of erased, is_named RemoveUses RemoveEnds None old old before_removal place spot.name None is_there, is_gone erased going stands rooms)
         (made_beside RemoveUses RemoveEnds None old.kept old gone prepared (made_gone erased going stands rooms RemoveUses RemoveEnds old (λ r q is. is)
-        (made_named RemoveUses RemoveEnds None old old before_removal place dentry.name None is_there (refl, refl)) (λ was. subst (λ (k : Core). KeepsNone k.caches) is (none (only_none old.caches only))))) sound.begun)
+        (made_named RemoveUses RemoveEnds None old old before_removal place spot.name None is_there (refl, refl)) (λ was. subst (λ (k : Core). KeepsNone k.caches) is (none (only_none old.caches only))))) sound.begun)
 
-    pub entry_gone : (view : Core) → view ≡ old → new ≡ without_dir (named (record view { prepared = prepared }) place dentry.name None) (dir_going going) (leaves_going going) (texts_going going) rooms → (KeepsNone view.caches → KeepsNone new.caches)
-        → IsChanged at (Remove dentry leaf (dir_going going)) old new
+    pub entry_gone : (view : Core) → view ≡ old → new ≡ without_dir (named (record view { prepared = prepared }) place spot.name None) (dir_going going) (leaves_going going) (texts_going going) rooms → (KeepsNone view.caches → KeepsNone new.caches)
+        → IsChanged (Remove spot (dir_going going)) old new
     entry_gone view same is none =
-        removal_changed (is ∙ ap (λ (k : Core). without_dir (named (record k { prepared = prepared }) place dentry.name None) (dir_going going) (leaves_going going) (texts_going going) rooms) same)
+        removal_changed (is ∙ ap (λ (k : Core). without_dir (named (record k { prepared = prepared }) place spot.name None) (dir_going going) (leaves_going going) (texts_going going) rooms) same)
         (subst (λ (k : Core). KeepsNone k.caches → KeepsNone new.caches) same none)
 
 -- a directory that goes with an entry may go
-pub may_go : (c : Core) → IsSoundCore c → (dentry : Dentry) (leaf : Fragment) (went : Option Ino) → MayChange (shown_in c) c.covers (Remove dentry leaf went) → IfSome went (λ (dir : Ino). MayGo c.homes dir.0)
-may_go c sound dentry leaf went may = subst (λ (d : Option Ino). IfSome d (λ (dir : Ino). MayGo c.homes dir.0)) (sym may.carries.1) (go (map.get (shown_in c) dentry) refl)
+pub may_go : (c : Core) → IsSoundCore c → (spot : Spot) (went : Option Ino) → MayChange (shown_in c) c.covers (Remove spot went) → IfSome went (λ (dir : Ino). MayGo c.homes dir.0)
+may_go c sound spot went may = subst (λ (d : Option Ino). IfSome d (λ (dir : Ino). MayGo c.homes dir.0)) (sym may.carries.1) (go (map.get (shown_in c) (dentry_at spot)) refl)
   where
-    by : (inode : Inode) (b : Bool) → map.get (shown_in c) dentry ≡ Some inode → is_dir_kind inode.kind ≡ b → IfSome (cond b (Some inode.ino) None) (λ (dir : Ino). MayGo c.homes dir.0)
-    by inode true is kinded = may_drop (shown_in c) c.homes dentry (Some inode) is sound.sound.tabled may.takes inode refl kinded
+    by : (inode : Inode) (b : Bool) → map.get (shown_in c) (dentry_at spot) ≡ Some inode → is_dir_kind inode.kind ≡ b → IfSome (cond b (Some inode.ino) None) (λ (dir : Ino). MayGo c.homes dir.0)
+    by inode true is kinded = may_drop (shown_in c) c.homes (dentry_at spot) (Some inode) is sound.sound.tabled may.takes inode refl kinded
     by inode false is kinded = tt
 
-    go : (o : Option Inode) → map.get (shown_in c) dentry ≡ o → IfSome (directory_at o) (λ (dir : Ino). MayGo c.homes dir.0)
+    go : (o : Option Inode) → map.get (shown_in c) (dentry_at spot) ≡ o → IfSome (directory_at o) (λ (dir : Ino). MayGo c.homes dir.0)
     go None is = tt
     go (Some inode) is = by inode (is_dir_kind inode.kind) is refl
 
@@ -212,51 +212,51 @@ move_of old stands name went moving was ready = subst (IsMovingIn stands old.cov
 
 -- ---- an entry moves
 
-module _ (at : Holders) (old new : Core) (sound : IsSoundCore old) (from to : Dentry) (source target : Fragment) (inode : Inode) (going : Option Going) (may : MayChange (shown_in old) old.covers (Move from source to target (dir_going going)))
-    (stands : map.get (shown_in old) from ≡ Some inode) where
+module _ (old new : Core) (sound : IsSoundCore old) (source target : Spot) (inode : Inode) (going : Option Going) (may : MayChange (shown_in old) old.covers (Move source target (dir_going going)))
+    (stands : map.get (shown_in old) (dentry_at source) ≡ Some inode) where
   abbrev change : Change
-  change = Move from source to target (dir_going going)
+  change = Move source target (dir_going going)
 
-  is_move : IsMove (shown_in old) from to inode
-  is_move = moving (shown_in old) from to inode stands may.takes
+  is_move : IsMove (shown_in old) (dentry_at source) (dentry_at target) inode
+  is_move = moving (shown_in old) (dentry_at source) (dentry_at target) inode stands may.takes
 
   -- a directory may have its home there,
-  pub relocates : is_dir_kind inode.kind ≡ true → MayMove old.homes inode.ino.0 (home_at to)
-  relocates kinded = may_relocate (shown_in old) old.homes from to inode sound.sound.tabled is_move kinded
+  pub relocates : is_dir_kind inode.kind ≡ true → MayMove old.homes inode.ino.0 (home_at (dentry_at target))
+  relocates kinded = may_relocate (shown_in old) old.homes (dentry_at source) (dentry_at target) inode sound.sound.tabled is_move kinded
 
   -- and one that is replaced may go then
-  pub replaces : IfSome (dir_going going) (λ (dir : Ino). MayGo (with_home old.homes to inode) dir.0)
-  replaces = subst (λ (d : Option Ino). IfSome d (λ (dir : Ino). MayGo (with_home old.homes to inode) dir.0)) (sym may.carries.2) (go (map.get (shown_in old) to) refl)
+  pub replaces : IfSome (dir_going going) (λ (dir : Ino). MayGo (with_home old.homes (dentry_at target) inode) dir.0)
+  replaces = subst (λ (d : Option Ino). IfSome d (λ (dir : Ino). MayGo (with_home old.homes (dentry_at target) inode) dir.0)) (sym may.carries.2) (go (map.get (shown_in old) (dentry_at target)) refl)
     where
-      by : (i : Inode) (b : Bool) → map.get (shown_in old) to ≡ Some i → IfSome (cond b (Some i.ino) None) (λ (dir : Ino). MayGo (with_home old.homes to inode) dir.0)
-      by i true is = may_replace (shown_in old) old.homes from to inode sound.sound.tabled is_move i is
+      by : (i : Inode) (b : Bool) → map.get (shown_in old) (dentry_at target) ≡ Some i → IfSome (cond b (Some i.ino) None) (λ (dir : Ino). MayGo (with_home old.homes (dentry_at target) inode) dir.0)
+      by i true is = may_replace (shown_in old) old.homes (dentry_at source) (dentry_at target) inode sound.sound.tabled is_move i is
       by i false is = tt
 
-      go : (o : Option Inode) → map.get (shown_in old) to ≡ o → IfSome (directory_at o) (λ (dir : Ino). MayGo (with_home old.homes to inode) dir.0)
+      go : (o : Option Inode) → map.get (shown_in old) (dentry_at target) ≡ o → IfSome (directory_at o) (λ (dir : Ino). MayGo (with_home old.homes (dentry_at target) inode) dir.0)
       go None is = tt
       go (Some i) is = by i (is_dir_kind i.kind) is
 
-  module _ (two : HasCached (here old.caches at.first.0 (from.dir, source)) (λ (f : Cached). 1 < f.room)) (one : HasRoom (here old.caches at.second.0 (to.dir, target))) (only : KeepsOnlyAt None old.caches) (leaves_stand : IsGoingOrNone old.covers going) (prepared : Prepared) (rooms : Rooms) where
+  module _ (two : HasCached (here old.caches source.at.rank.0 (leaf_of source.at)) (λ (f : Cached). 1 < f.room)) (one : HasRoom (here old.caches target.at.rank.0 (leaf_of target.at))) (only : KeepsOnlyAt None old.caches) (leaves_stand : IsGoingOrNone old.covers going) (prepared : Prepared) (rooms : Rooms) where
     abbrev MoveUses : ℕ → Leaf → Type 0
-    MoveUses = IsNamedIn at change
+    MoveUses = IsNamedIn change
 
     abbrev MoveEnds : ℕ → Leaf → Type 0
     MoveEnds = EndsWith change
 
     abbrev first_place : Dirfrag
-    first_place = record { dir = from.dir; frag = source; rank = at.first }
+    first_place = source.at
 
     abbrev second_place : Dirfrag
-    second_place = record { dir = to.dir; frag = target; rank = at.second }
+    second_place = target.at
 
     abbrev left_name : Core
-    left_name = named old first_place from.name None
+    left_name = named old first_place source.name None
 
     abbrev housed : Core
-    housed = record left_name { homes = with_home old.homes to inode }
+    housed = record left_name { homes = with_home old.homes (dentry_at target) inode }
 
     abbrev came_name : Core
-    came_name = named housed second_place to.name (Some inode)
+    came_name = named housed second_place target.name (Some inode)
 
     abbrev all_gone : Core
     all_gone = left came_name going leaves_stand rooms
@@ -268,41 +268,41 @@ module _ (at : Holders) (old new : Core) (sound : IsSoundCore old) (from to : De
     there_first = cached_there (λ (f : Cached). 1 < f.room) (here old.caches first_place.rank.0 (leaf_of first_place)) two
 
     left_made : HasMade MoveUses MoveEnds None old left_name
-    left_made = made_named MoveUses MoveEnds None old old before_move first_place from.name None there_first (inl (refl, refl))
+    left_made = made_named MoveUses MoveEnds None old old before_move first_place source.name None there_first (inl (refl, refl))
 
     housed_made : HasMade MoveUses MoveEnds None old housed
-    housed_made = made_home MoveUses MoveEnds None old left_name left_made (with_home old.homes to inode)
-        (λ leaf live. record { known = moved_known old.homes old.covers sound.sound.table to inode relocates leaf.0.0 ∙ live.known; stands = live.stands })
+    housed_made = made_home MoveUses MoveEnds None old left_name left_made (with_home old.homes (dentry_at target) inode)
+        (λ leaf live. record { known = moved_known old.homes old.covers sound.sound.table (dentry_at target) inode relocates leaf.0.0 ∙ live.known; stands = live.stands })
 
     there_second : IsThere (here housed.caches second_place.rank.0 (leaf_of second_place))
-    there_second = there_left old.caches at.first.0 at.second.0 (from.dir, source) (to.dir, target) from.name (record { version = old.next_version; inode = None }) two one
+    there_second = there_left old.caches source.at.rank.0 target.at.rank.0 (leaf_of source.at) (leaf_of target.at) source.name (record { version = old.next_version; inode = None }) two one
 
     came_made : HasMade MoveUses MoveEnds None old came_name
-    came_made = made_named MoveUses MoveEnds None old housed housed_made second_place to.name (Some inode) there_second (inr (refl, refl))
+    came_made = made_named MoveUses MoveEnds None old housed housed_made second_place target.name (Some inode) there_second (inr (refl, refl))
 
-    named_twice : IsNamed (state_of left_name) (record (state_of came_name) { homes = old.homes }) (to.dir, target) to.name (Some inode)
+    named_twice : IsNamed (state_of left_name) (record (state_of came_name) { homes = old.homes }) (leaf_of target.at) target.name (Some inode)
     named_twice =
-        let named = is_named MoveUses MoveEnds None old housed housed_made second_place to.name (Some inode) there_second in
+        let named = is_named MoveUses MoveEnds None old housed housed_made second_place target.name (Some inode) there_second in
         record { before = named.before; stands = named.stands; left = λ i. record (named.left i) { homes = old.homes } }
 
-    move_changed : new ≡ record all_gone { prepared = prepared; kept = old.kept } → (KeepsNone old.caches → KeepsNone new.caches) → IsChanged at change old new
-    move_changed is none = subst (IsChanged at change old) (sym is)
-        (changed at change old (record all_gone { prepared = prepared; kept = old.kept }) sound tt may (
+    move_changed : new ≡ record all_gone { prepared = prepared; kept = old.kept } → (KeepsNone old.caches → KeepsNone new.caches) → IsChanged change old new
+    move_changed is none = subst (IsChanged change old) (sym is)
+        (changed change old (record all_gone { prepared = prepared; kept = old.kept }) sound tt may (
           inode,
           stands,
           state_of left_name,
-          is_named MoveUses MoveEnds None old old before_move first_place from.name None there_first,
+          is_named MoveUses MoveEnds None old old before_move first_place source.name None there_first,
           record (state_of came_name) { homes = old.homes },
           named_twice,
           is_gone came_name going leaves_stand rooms,
         )
         (made_beside MoveUses MoveEnds None old.kept old all_gone prepared (made_gone came_name going leaves_stand rooms MoveUses MoveEnds old (λ r q is. is) came_made (λ was. subst (λ (k : Core). KeepsNone k.caches) is (none (only_none old.caches only))))) sound.begun)
 
-    pub entry_moved : (view : Core) → view ≡ old → (name : List ℕ) → name ≡ to.name
-        → new ≡ without_dir (moved (record view { prepared = prepared }) first_place from.name second_place to.name name inode) (dir_going going) (leaves_going going) (texts_going going) rooms → (KeepsNone view.caches → KeepsNone new.caches)
-        → IsChanged at change old new
+    pub entry_moved : (view : Core) → view ≡ old → (name : List ℕ) → name ≡ target.name
+        → new ≡ without_dir (moved (record view { prepared = prepared }) first_place source.name second_place target.name name inode) (dir_going going) (leaves_going going) (texts_going going) rooms → (KeepsNone view.caches → KeepsNone new.caches)
+        → IsChanged change old new
     entry_moved view same name its is none =
         move_changed (is
-        ∙ ap (λ (k : Core). without_dir (moved (record k { prepared = prepared }) first_place from.name second_place to.name name inode) (dir_going going) (leaves_going going) (texts_going going) rooms) same
-        ∙ ap (λ (n : List ℕ). without_dir (moved (record old { prepared = prepared }) first_place from.name second_place to.name n inode) (dir_going going) (leaves_going going) (texts_going going) rooms) its)
+        ∙ ap (λ (k : Core). without_dir (moved (record k { prepared = prepared }) first_place source.name second_place target.name name inode) (dir_going going) (leaves_going going) (texts_going going) rooms) same
+        ∙ ap (λ (n : List ℕ). without_dir (moved (record old { prepared = prepared }) first_place source.name second_place target.name n inode) (dir_going going) (leaves_going going) (texts_going going) rooms) its)
         (subst (λ (k : Core). KeepsNone k.caches → KeepsNone new.caches) same none)

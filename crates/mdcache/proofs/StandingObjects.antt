@@ -16,6 +16,7 @@ use Rattle.dirfrag_codec.proofs.ByteKeys.{get_beside}
 use Rattle.dentry_cache.specs.Cache.{Leaf, Unsaved}
 use Rattle.dentry_cache.specs.Loading.{object_of}
 use Rattle.inode_table.specs.Dirs.{IsLive}
+use Rattle.namespace_ops.specs.Changes.{dentry_at}
 use Rattle.namespace_ops.specs.declared.plans.Change.{Change}
 use Rattle.namespace_ops.specs.declared.plans.Change.TheVariants.{Add, Set, Remove, Move}
 use Rattle.mdcache.specs.Changes.{Makes, with_directory, with_home_at, with_new, without}
@@ -49,11 +50,11 @@ without_objects s None = refl
 without_objects s (Some dir) = refl
 
 pub made_objects : (change : Change) (old new : State) → Makes change old new → ObjectsStay old new
-made_objects (Set dentry leaf inode) old new makes = ap (λ (s : State). s.objects) makes.left
-made_objects (Add dentry leaf inode) old new makes = ap (λ (s : State). s.objects) makes.2 ∙ new_objects makes.0 dentry inode ∙ ap (λ (s : State). s.objects) makes.1.left
-made_objects (Remove dentry leaf went) old new makes = ap (λ (s : State). s.objects) makes.2 ∙ without_objects makes.0 went ∙ ap (λ (s : State). s.objects) makes.1.left
-made_objects (Move from source to target went) old new makes =
-    ap (λ (s : State). s.objects) makes.6 ∙ without_objects (with_home_at makes.4 to makes.0) went ∙ ap (λ (s : State). s.objects) makes.5.left ∙ ap (λ (s : State). s.objects) makes.3.left
+made_objects (Set spot inode) old new makes = ap (λ (s : State). s.objects) makes.left
+made_objects (Add spot inode) old new makes = ap (λ (s : State). s.objects) makes.2 ∙ new_objects makes.0 (dentry_at spot) inode ∙ ap (λ (s : State). s.objects) makes.1.left
+made_objects (Remove spot went) old new makes = ap (λ (s : State). s.objects) makes.2 ∙ without_objects makes.0 went ∙ ap (λ (s : State). s.objects) makes.1.left
+made_objects (Move from to went) old new makes =
+    ap (λ (s : State). s.objects) makes.6 ∙ without_objects (with_home_at makes.4 (dentry_at to) makes.0) went ∙ ap (λ (s : State). s.objects) makes.5.left ∙ ap (λ (s : State). s.objects) makes.3.left
 
 -- nor do a split and a merge
 pub regrouped_objects : (old new : State) (dir : Ino) (gone cover : List Fragment) (count : ℕ) → IsRegrouped old new dir gone cover count → ObjectsStay old new

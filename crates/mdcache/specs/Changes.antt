@@ -2,6 +2,7 @@
 use Rattle.std.specs.Prelude.{◌≡◌, ℕ, ◌<◌, ◌+◌, cond, List, [], ◌∷◌, map as each, Option, Some, None}
 use Rattle.std.specs.FinMap as map
 use Rattle.mds_types.specs.Frag.{root_fragment}
+use Rattle.mds_types.specs.Leaf.{leaf_of}
 use Rattle.mds_types.specs.Tree.{is_dir_kind}
 use Rattle.mds_types.specs.declared.ids.Ino.{Ino}
 use Rattle.mds_types.specs.declared.dentries.Dentry.{Dentry}
@@ -13,7 +14,7 @@ use Rattle.dentry_cache.specs.Loading.{object_of}
 use Rattle.dentry_cache.specs.Cache.{Leaf, Unsaved, leaf_cmp}
 use Rattle.dentry_cache.specs.Ties.{names_at}
 use Rattle.inode_table.specs.TreeTable.{home_at, with_home}
-use Rattle.namespace_ops.specs.Changes.{leaves}
+use Rattle.namespace_ops.specs.Changes.{dentry_at, leaves}
 use Rattle.namespace_ops.specs.declared.plans.Change.{Change}
 use Rattle.namespace_ops.specs.declared.plans.Change.TheVariants.{Add, Set, Remove, Move}
 use Rattle.mdcache.specs.Commits.{HasSpelled}
@@ -108,9 +109,9 @@ with_home_at s to inode = record s { homes = with_home s.homes to inode }
 -- other attributes: the name is dirty, whatever it had before. A new inode: its name is, and a directory has its leaf. A removal: the name
 -- is dirty, and of a directory all goes. A rename: first the name that is left is dirty, then the other one; what was replaced goes
 abbrev pub Makes : Change → State → State → Type 0
-Makes (Set dentry leaf inode) old new = IsNamed old new (dentry.dir, leaf) dentry.name (Some inode)
-Makes (Add dentry leaf inode) old new = (named : State) × IsNamed old named (dentry.dir, leaf) dentry.name (Some inode) × (new ≡ with_new named dentry inode)
-Makes (Remove dentry leaf went) old new = (named : State) × IsNamed old named (dentry.dir, leaf) dentry.name None × (new ≡ without named went)
-Makes (Move from source to target went) old new =
-    (inode : Inode) × (map.get (shown_tree old) from ≡ Some inode) × (left : State) × IsNamed old left (from.dir, source) from.name None × (named : State)
-    × IsNamed left named (to.dir, target) to.name (Some inode) × (new ≡ without (with_home_at named to inode) went)
+Makes (Set spot inode) old new = IsNamed old new (leaf_of spot.at) spot.name (Some inode)
+Makes (Add spot inode) old new = (named : State) × IsNamed old named (leaf_of spot.at) spot.name (Some inode) × (new ≡ with_new named (dentry_at spot) inode)
+Makes (Remove spot went) old new = (named : State) × IsNamed old named (leaf_of spot.at) spot.name None × (new ≡ without named went)
+Makes (Move from to went) old new =
+    (inode : Inode) × (map.get (shown_tree old) (dentry_at from) ≡ Some inode) × (left : State) × IsNamed old left (leaf_of from.at) from.name None × (named : State)
+    × IsNamed left named (leaf_of to.at) to.name (Some inode) × (new ≡ without (with_home_at named (dentry_at to) inode) went)

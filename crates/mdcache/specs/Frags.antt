@@ -9,7 +9,7 @@ use Rattle.mds_types.specs.declared.operations.Op.TheVariants.{Lookup, Readdir, 
 use Rattle.mds_types.specs.declared.refusals.Refusal.{Refusal}
 use Rattle.mds_types.specs.declared.refusals.Refusal.TheVariants.{NoInodes, NoMemory, NothingToEvict, StoreFault}
 use Rattle.mds_types.specs.declared.inodes.Inode.{Inode}
-use Rattle.mds_types.specs.Frag.{Fragment}
+use Rattle.mds_types.specs.Leaf.{leaf_of}
 use Rattle.mds_types.specs.Tree.{is_dir_kind}
 use Rattle.dirfrag_codec.specs.EntryRecord.{IsRecordable}
 use Rattle.objstore.specs.Objects.{faults_told}
@@ -19,10 +19,10 @@ use Rattle.dentry_cache.specs.CacheMap.{here, unclean_of}
 use Rattle.dentry_cache.specs.CacheSplits.{IsKeptFor}
 use Rattle.inode_table.specs.Dirs.{Covers, MayMove}
 use Rattle.inode_table.specs.TreeTable.{home_at}
-use Rattle.namespace_ops.specs.Changes.{MayChange, directory_at}
+use Rattle.namespace_ops.specs.Changes.{MayChange, dentry_at, directory_at}
+use Rattle.namespace_ops.specs.declared.plans.Spot.{Spot}
 use Rattle.namespace_ops.specs.declared.plans.Change.{Change}
 use Rattle.namespace_ops.specs.declared.plans.Change.TheVariants.{Add, Set, Remove, Move}
-use Rattle.mdcache.specs.declared.holders.Holders.{Holders}
 use Rattle.mdcache.specs.declared.prepared.Prepared.{Prepared}
 use Rattle.mdcache.specs.declared.prepared.Prepared.TheVariants.{Nothing, Directory, Removal, Move as Moving}
 use Rattle.mdcache.specs.Core.{Core, LacksPlacesAt, shown_in, state_of}
@@ -59,10 +59,10 @@ LacksFor (Rename from to) s = LacksNumbers 2 s.next_version
 
 -- the numbers that lack for a change
 abbrev pub LacksToMake : Change → State → Type 0
-LacksToMake (Add dentry leaf inode) s = LacksNumbers 1 s.next_version ⊎ ((is_dir_kind inode.kind ≡ true) × LacksNumbers 1 s.next_generation)
-LacksToMake (Set dentry leaf inode) s = LacksNumbers 1 s.next_version
-LacksToMake (Remove dentry leaf went) s = LacksNumbers 1 s.next_version
-LacksToMake (Move from source to target went) s = LacksNumbers 2 s.next_version
+LacksToMake (Add spot inode) s = LacksNumbers 1 s.next_version ⊎ ((is_dir_kind inode.kind ≡ true) × LacksNumbers 1 s.next_generation)
+LacksToMake (Set spot inode) s = LacksNumbers 1 s.next_version
+LacksToMake (Remove spot went) s = LacksNumbers 1 s.next_version
+LacksToMake (Move from to went) s = LacksNumbers 2 s.next_version
 
 -- a call for an operation is refused for want of memory, by a store whose count of faults rose, for places that lack, or where a counter is at
 -- its end
@@ -70,9 +70,12 @@ abbrev pub MayRefuse : (NoPlace : Type 0) → (old new : Core) → Op → Refusa
 MayRefuse NoPlace old new op reason =
     (reason ≡ NoMemory) ⊎ ((reason ≡ StoreFault) × (old.faults < new.faults)) ⊎ ((reason ≡ NothingToEvict) × NoPlace) ⊎ ((reason ≡ NoInodes) × LacksFor op (state_of old))
 
--- fewer than two places are free, or can become so, at one of the ranks that hold the leaves of a change
-abbrev pub LacksPlacesOf : Core → Holders → Type 0
-LacksPlacesOf core at = LacksPlacesAt 2 core at.first ⊎ LacksPlacesAt 2 core at.second
+-- fewer than two places are free, or can become so, at one of the ranks that hold the leaves which a change names
+abbrev pub LacksPlacesOf : Core → Change → Type 0
+LacksPlacesOf core (Add spot inode) = LacksPlacesAt 2 core spot.at.rank
+LacksPlacesOf core (Set spot inode) = LacksPlacesAt 2 core spot.at.rank
+LacksPlacesOf core (Remove spot went) = LacksPlacesAt 2 core spot.at.rank
+LacksPlacesOf core (Move from to went) = LacksPlacesAt 2 core from.at.rank ⊎ LacksPlacesAt 2 core to.at.rank
 
 -- ---- what is ready
 
@@ -111,30 +114,30 @@ IsMovingIn stands covers room name went (Moving moving) =
     (stands ≡ Some moving.inode) × IsRecordable moving.inode × (moving.name ≡ name) × (dir_going moving.going ≡ went) × IsGoingOrNone covers moving.going × (count_going moving.going ≤ room)
 
 -- both leaves of an entry that moves are cached, each at its rank, the first with room for two changes, and two versions are left
-pub record IsMoveReady (core : Core) (at : Holders) (source target : Leaf) (from to : Dentry) (went : Option Ino) : Type 0 where
-  pub source_room : HasCached (here core.caches at.first.0 source) (λ (f : Cached). 1 < f.room)
-  pub target_room : HasRoom (here core.caches at.second.0 target)
+pub record IsMoveReady (core : Core) (from to : Spot) (went : Option Ino) : Type 0 where
+  pub source_room : HasCached (here core.caches from.at.rank.0 (leaf_of from.at)) (λ (f : Cached). 1 < f.room)
+  pub target_room : HasRoom (here core.caches to.at.rank.0 (leaf_of to.at))
   pub number : core.next_version < 2 ^ 64 - 2
-  pub prepared : IsMovingIn (map.get (shown_in core) from) core.covers core.room.purge to.name went core.prepared
+  pub prepared : IsMovingIn (map.get (shown_in core) (dentry_at from)) core.covers core.room.purge to.name went core.prepared
 
 -- the place that is kept for a change: that of a directory that comes
-abbrev pub kept_for : Holders → Change → Option (Rank × Leaf)
-kept_for at (Add dentry leaf inode) = cond (is_dir_kind inode.kind) (Some (at.first, first_leaf inode.ino)) None
-kept_for at (Set dentry leaf inode) = None
-kept_for at (Remove dentry leaf went) = None
-kept_for at (Move from source to target went) = None
+abbrev pub kept_for : Change → Option (Rank × Leaf)
+kept_for (Add spot inode) = cond (is_dir_kind inode.kind) (Some (spot.at.rank, first_leaf inode.ino)) None
+kept_for (Set spot inode) = None
+kept_for (Remove spot went) = None
+kept_for (Move from to went) = None
 
-abbrev pub IsReadyFor : Core → Holders → Change → Type 0
-IsReadyFor core at (Add dentry leaf inode) =
-    IsNameReady core at.first (dentry.dir, leaf) × IsRecordable inode × (is_dir_kind inode.kind ≡ true → IsDirectoryReady core at.first dentry inode.ino)
-IsReadyFor core at (Set dentry leaf inode) = IsNameReady core at.first (dentry.dir, leaf) × IsRecordable inode
-IsReadyFor core at (Remove dentry leaf went) = IsNameReady core at.first (dentry.dir, leaf) × IsForRemoval core.covers core.room.purge went core.prepared
-IsReadyFor core at (Move from source to target went) = IsMoveReady core at (from.dir, source) (to.dir, target) from to went
+abbrev pub IsReadyFor : Core → Change → Type 0
+IsReadyFor core (Add spot inode) =
+    IsNameReady core spot.at.rank (leaf_of spot.at) × IsRecordable inode × (is_dir_kind inode.kind ≡ true → IsDirectoryReady core spot.at.rank (dentry_at spot) inode.ino)
+IsReadyFor core (Set spot inode) = IsNameReady core spot.at.rank (leaf_of spot.at) × IsRecordable inode
+IsReadyFor core (Remove spot went) = IsNameReady core spot.at.rank (leaf_of spot.at) × IsForRemoval core.covers core.room.purge went core.prepared
+IsReadyFor core (Move from to went) = IsMoveReady core from to went
 
--- a change can be made in the caches of these ranks with no growth
-pub record IsReady (core : Core) (at : Holders) (change : Change) : Type 0 where
-  pub ready : IsReadyFor core at change
-  pub kept : KeepsOnlyAt (kept_for at change) core.caches
+-- a change can be made in the caches of its ranks with no growth
+pub record IsReady (core : Core) (change : Change) : Type 0 where
+  pub ready : IsReadyFor core change
+  pub kept : KeepsOnlyAt (kept_for change) core.caches
 
 -- the directory that moves, by what was prepared: what is taken along, where that is one
 abbrev pub dir_moving : Prepared → Option Ino
@@ -146,6 +149,6 @@ dir_moving (Moving moving) = directory_at (Some moving.inode)
 -- of a rename that was made ready this is the directory that moves, where it is one; it may move there, where the rename may be made
 abbrev pub IsTakenAlong : Core → Option Ino → Type 0
 IsTakenAlong core moving =
-    (at : Holders) (from to : Dentry) (source target : Fragment) (went : Option Ino) → IsReady core at (Move from source to target went)
-    → (moving ≡ directory_at (map.get (shown_in core) from))
-    × (MayChange (shown_in core) core.covers (Move from source to target went) → IfSome moving (λ (dir : Ino). MayMove core.homes dir.0 (home_at to)))
+    (from to : Spot) (went : Option Ino) → IsReady core (Move from to went)
+    → (moving ≡ directory_at (map.get (shown_in core) (dentry_at from)))
+    × (MayChange (shown_in core) core.covers (Move from to went) → IfSome moving (λ (dir : Ino). MayMove core.homes dir.0 (home_at (dentry_at to))))

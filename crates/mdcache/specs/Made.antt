@@ -29,10 +29,10 @@ pub record IsRight (change : Change) (old new : State) : Type 0 where
 
 -- the number of a new inode has 64 bits
 abbrev pub HasNumber : Change → Type 0
-HasNumber (Add dentry leaf inode) = inode.ino.0 < 2 ^ 64
-HasNumber (Set dentry leaf inode) = Unit {0}
-HasNumber (Remove dentry leaf went) = Unit {0}
-HasNumber (Move from source to target went) = Unit {0}
+HasNumber (Add spot inode) = inode.ino.0 < 2 ^ 64
+HasNumber (Set spot inode) = Unit {0}
+HasNumber (Remove spot went) = Unit {0}
+HasNumber (Move from to went) = Unit {0}
 
 -- every change that may be made is right
 abbrev pub ChangesAreRight : Type 0

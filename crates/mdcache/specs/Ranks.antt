@@ -2,6 +2,7 @@
 use Rattle.std.specs.Prelude.{◌≡◌, ◌<◌, ◌⊎◌, ℕ, true, false, length, Option, Some, None}
 use Rattle.std.specs.FinMap as map
 use Rattle.mds_types.specs.declared.ids.Rank.{Rank}
+use Rattle.mds_types.specs.Leaf.{leaf_of}
 use Rattle.dentry_cache.specs.Cache.{IsThere, Leaf}
 use Rattle.dentry_cache.specs.CacheMap.{CacheMap, IsFreeFor, has_place, here}
 use Rattle.dentry_cache.specs.CacheSplits.{IsKeptFor}
@@ -10,7 +11,6 @@ use Rattle.inode_table.specs.Dirs.{Homes, is_known}
 use Rattle.namespace_ops.specs.ChangedFragments.{gone_with}
 use Rattle.namespace_ops.specs.declared.plans.Change.{Change}
 use Rattle.namespace_ops.specs.declared.plans.Change.TheVariants.{Add, Set, Remove, Move}
-use Rattle.mdcache.specs.declared.holders.Holders.{Holders}
 use Rattle.mdcache.specs.Changes.{first_leaf}
 
 -- there is such a rank, and no other has the leaf's fragment
@@ -37,19 +37,19 @@ NoneUsed r leaf = ⊥
 -- ---- the ranks of a change
 
 -- the ranks may hold the leaves that a change names; where these are one leaf, they are one rank
-abbrev pub MayHoldEach : CacheMap → Holders → Change → Type 0
-MayHoldEach caches at (Add dentry leaf inode) = MayHold caches at.first (dentry.dir, leaf)
-MayHoldEach caches at (Set dentry leaf inode) = MayHold caches at.first (dentry.dir, leaf)
-MayHoldEach caches at (Remove dentry leaf went) = MayHold caches at.first (dentry.dir, leaf)
-MayHoldEach caches at (Move from source to target went) =
-    MayHold caches at.first (from.dir, source) × MayHold caches at.second (to.dir, target) × (◌≡◌ {A = Leaf} (from.dir, source) (to.dir, target) → at.first ≡ at.second)
+abbrev pub MayHoldEach : CacheMap → Change → Type 0
+MayHoldEach caches (Add spot inode) = MayHold caches spot.at.rank (leaf_of spot.at)
+MayHoldEach caches (Set spot inode) = MayHold caches spot.at.rank (leaf_of spot.at)
+MayHoldEach caches (Remove spot went) = MayHold caches spot.at.rank (leaf_of spot.at)
+MayHoldEach caches (Move from to went) =
+    MayHold caches from.at.rank (leaf_of from.at) × MayHold caches to.at.rank (leaf_of to.at) × (◌≡◌ {A = Leaf} (leaf_of from.at) (leaf_of to.at) → from.at.rank ≡ to.at.rank)
 
 -- the leaves that a change names, each at its rank, and that of a new directory beside its name's
-abbrev pub IsNamedIn : Holders → Change → ℕ → Leaf → Type 0
-IsNamedIn at (Add dentry leaf inode) r q = IsThat at.first.0 (dentry.dir, leaf) r q ⊎ IsThat at.first.0 (first_leaf inode.ino) r q
-IsNamedIn at (Set dentry leaf inode) r q = IsThat at.first.0 (dentry.dir, leaf) r q
-IsNamedIn at (Remove dentry leaf went) r q = IsThat at.first.0 (dentry.dir, leaf) r q
-IsNamedIn at (Move from source to target went) r q = IsThat at.first.0 (from.dir, source) r q ⊎ IsThat at.second.0 (to.dir, target) r q
+abbrev pub IsNamedIn : Change → ℕ → Leaf → Type 0
+IsNamedIn (Add spot inode) r q = IsThat spot.at.rank.0 (leaf_of spot.at) r q ⊎ IsThat spot.at.rank.0 (first_leaf inode.ino) r q
+IsNamedIn (Set spot inode) r q = IsThat spot.at.rank.0 (leaf_of spot.at) r q
+IsNamedIn (Remove spot went) r q = IsThat spot.at.rank.0 (leaf_of spot.at) r q
+IsNamedIn (Move from to went) r q = IsThat from.at.rank.0 (leaf_of from.at) r q ⊎ IsThat to.at.rank.0 (leaf_of to.at) r q
 
 -- a leaf of the directory that goes with a change, whichever rank has it
 abbrev pub EndsWith : Change → ℕ → Leaf → Type 0

@@ -28,7 +28,6 @@ mod reading;
 mod applying;
 mod changes;
 mod going;
-mod holders;
 mod moving;
 mod prepared;
 mod preparing;
@@ -56,7 +55,6 @@ mod trees;
 mod laws;
 
 pub use going::{Going, GoingLeaf};
-pub use holders::Holders;
 pub use laws::{changes_are_right, merges_are_right, splits_are_right};
 pub use mdcache::MdCache;
 pub use mounting::Opening;

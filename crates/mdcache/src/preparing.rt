@@ -14,11 +14,10 @@ ghost use Rattle.mdcache.specs.Frags.{IsReady, LacksPlacesOf, LacksToMake};
 ghost use Rattle.mdcache.specs.Ranks.{IsNamedIn, MayHoldEach};
 ghost use Rattle.mdcache.specs.Ready.{MayNotBeReady};
 
-use crate::holders::Holders;
 use crate::mdcache::MdCache;
 use crate::prepared::Prepared;
-use mds_types::{Dentry, Dirfrag, Frag, Ino, Inode, Kind, Refusal};
-use namespace_ops::Change;
+use mds_types::{Ino, Inode, Kind, Refusal};
+use namespace_ops::{Change, Spot};
 use objstore::Store;
 use std::alloc::Global;
 
@@ -29,156 +28,96 @@ impl<S: Store + Drop> MdCache<S> {
     /// Refused `NoInodes` exactly where versions lack for the names that change, or a generation for the leaf of a new
     /// directory; otherwise `NothingToEvict` where fewer than four places of a holder are free or can become so,
     /// `StoreFault`, and `NoMemory`.
-    pub fn prepare(&mut self, alloc: Global, at: Holders, change: &Change) -> Result<(), Refusal>
+    pub fn prepare(&mut self, alloc: Global, change: &Change) -> Result<(), Refusal>
         requires sound { IsSoundCore self.old }
-        requires holds { MayHoldEach self.old.caches at change.now }
+        requires holds { MayHoldEach self.old.caches change.now }
         requires may { MayChange (shown_in self.old) self.old.covers change.now }
         requires numbered { IsNumbered IsRankNumber change.now }
-        ensures ready { OnOk result (IsReady self.new at change.now) }
-        ensures reads { ReadsCore (IsNamedIn at change.now) (IsKeptFor self.old.caches) self.old self.new }
+        ensures ready { OnOk result (IsReady self.new change.now) }
+        ensures reads { ReadsCore (IsNamedIn change.now) (IsKeptFor self.old.caches) self.old self.new }
         ensures sound { IsSoundCore self.new }
         ensures counted { self.new.faults ≡ self.old.faults + faults_told (result_err result) }
-        ensures refused { IfErr result (MayNotBeReady (LacksToMake change.now (state_of self.old)) (LacksPlacesOf self.old at) self.old.faults self.new.faults) }
+        ensures refused { IfErr result (MayNotBeReady (LacksToMake change.now (state_of self.old)) (LacksPlacesOf self.old change.now) self.old.faults self.new.faults) }
     {
         match change {
-            Change::Add {
-                dentry,
-                leaf,
-                inode,
-            } => self.prepare_new(alloc, at, dentry, *leaf, inode),
-            Change::Set {
-                dentry,
-                leaf,
-                inode,
-            } => self.prepare_set(alloc, at, dentry, *leaf, inode),
-            Change::Remove { dentry, leaf, gone } => {
-                self.prepare_removal(alloc, at, dentry, *leaf, *gone)
-            }
-            Change::Move {
-                from,
-                source,
-                to,
-                target,
-                gone,
-            } => self.prepare_move(alloc, at, from, *source, to, *target, *gone),
+            Change::Add { spot, inode } => self.prepare_new(alloc, spot, inode),
+            Change::Set { spot, inode } => self.prepare_set(alloc, spot, inode),
+            Change::Remove { spot, gone } => self.prepare_removal(alloc, spot, *gone),
+            Change::Move { from, to, gone } => self.prepare_move(alloc, from, to, *gone),
         }
     }
 
     // Makes ready that a new inode comes to a dentry.
-    fn prepare_new(
-        &mut self,
-        alloc: Global,
-        at: Holders,
-        dentry: &Dentry,
-        leaf: Frag,
-        inode: &Inode,
-    ) -> Result<(), Refusal>
+    fn prepare_new(&mut self, alloc: Global, spot: &Spot, inode: &Inode) -> Result<(), Refusal>
         requires sound { IsSoundCore self.old }
-        requires holds { MayHoldEach self.old.caches at (Add dentry.now leaf inode.now) }
-        requires may { MayChange (shown_in self.old) self.old.covers (Add dentry.now leaf inode.now) }
+        requires holds { MayHoldEach self.old.caches (Add spot.now inode.now) }
+        requires may { MayChange (shown_in self.old) self.old.covers (Add spot.now inode.now) }
         requires number { IsRankNumber inode.now.ino.0 }
-        ensures ready { OnOk result (IsReady self.new at (Add dentry.now leaf inode.now)) }
-        ensures reads { ReadsCore (IsNamedIn at (Add dentry.now leaf inode.now)) (IsKeptFor self.old.caches) self.old self.new }
+        ensures ready { OnOk result (IsReady self.new (Add spot.now inode.now)) }
+        ensures reads { ReadsCore (IsNamedIn (Add spot.now inode.now)) (IsKeptFor self.old.caches) self.old self.new }
         ensures sound { IsSoundCore self.new }
         ensures counted { self.new.faults ≡ self.old.faults + faults_told (result_err result) }
-        ensures refused { IfErr result (MayNotBeReady (LacksToMake (Add dentry.now leaf inode.now) (state_of self.old)) (LacksPlacesOf self.old at) self.old.faults self.new.faults) }
+        ensures refused { IfErr result (MayNotBeReady (LacksToMake (Add spot.now inode.now) (state_of self.old)) (LacksPlacesOf self.old change.now) self.old.faults self.new.faults) }
     {
         has_parts(inode);
-        let place = Dirfrag {
-            dir: dentry.dir,
-            frag: leaf,
-            rank: at.first,
-        };
         if inode.kind.is_dir() {
-            return self.ready_directory(alloc, &place, dentry, inode.ino);
+            return self.ready_directory(alloc, spot, inode.ino);
         }
-        self.ready_name(alloc, &place)
+        self.ready_name(alloc, &spot.at)
     }
 
     // Makes ready that an inode gets other attributes.
-    fn prepare_set(
-        &mut self,
-        alloc: Global,
-        at: Holders,
-        dentry: &Dentry,
-        leaf: Frag,
-        inode: &Inode,
-    ) -> Result<(), Refusal>
+    fn prepare_set(&mut self, alloc: Global, spot: &Spot, inode: &Inode) -> Result<(), Refusal>
         requires sound { IsSoundCore self.old }
-        requires holds { MayHoldEach self.old.caches at (Set dentry.now leaf inode.now) }
-        requires may { MayChange (shown_in self.old) self.old.covers (Set dentry.now leaf inode.now) }
-        ensures ready { OnOk result (IsReady self.new at (Set dentry.now leaf inode.now)) }
-        ensures reads { ReadsCore (IsNamedIn at (Set dentry.now leaf inode.now)) (IsKeptFor self.old.caches) self.old self.new }
+        requires holds { MayHoldEach self.old.caches (Set spot.now inode.now) }
+        requires may { MayChange (shown_in self.old) self.old.covers (Set spot.now inode.now) }
+        ensures ready { OnOk result (IsReady self.new (Set spot.now inode.now)) }
+        ensures reads { ReadsCore (IsNamedIn (Set spot.now inode.now)) (IsKeptFor self.old.caches) self.old self.new }
         ensures sound { IsSoundCore self.new }
         ensures counted { self.new.faults ≡ self.old.faults + faults_told (result_err result) }
-        ensures refused { IfErr result (MayNotBeReady (LacksToMake (Set dentry.now leaf inode.now) (state_of self.old)) (LacksPlacesOf self.old at) self.old.faults self.new.faults) }
+        ensures refused { IfErr result (MayNotBeReady (LacksToMake (Set spot.now inode.now) (state_of self.old)) (LacksPlacesOf self.old change.now) self.old.faults self.new.faults) }
     {
         has_parts(inode);
-        let place = Dirfrag {
-            dir: dentry.dir,
-            frag: leaf,
-            rank: at.first,
-        };
-        self.ready_set(alloc, &place, &dentry.name)
+        self.ready_set(alloc, spot)
     }
 
     // Makes ready that the entry at a dentry goes.
     fn prepare_removal(
         &mut self,
         alloc: Global,
-        at: Holders,
-        dentry: &Dentry,
-        leaf: Frag,
+        spot: &Spot,
         gone: Option<Ino>,
     ) -> Result<(), Refusal>
         requires sound { IsSoundCore self.old }
-        requires holds { MayHoldEach self.old.caches at (Remove dentry.now leaf gone) }
-        requires may { MayChange (shown_in self.old) self.old.covers (Remove dentry.now leaf gone) }
-        ensures ready { OnOk result (IsReady self.new at (Remove dentry.now leaf gone)) }
-        ensures reads { ReadsCore (IsNamedIn at (Remove dentry.now leaf gone)) (IsKeptFor self.old.caches) self.old self.new }
+        requires holds { MayHoldEach self.old.caches (Remove spot.now gone) }
+        requires may { MayChange (shown_in self.old) self.old.covers (Remove spot.now gone) }
+        ensures ready { OnOk result (IsReady self.new (Remove spot.now gone)) }
+        ensures reads { ReadsCore (IsNamedIn (Remove spot.now gone)) (IsKeptFor self.old.caches) self.old self.new }
         ensures sound { IsSoundCore self.new }
         ensures counted { self.new.faults ≡ self.old.faults + faults_told (result_err result) }
-        ensures refused { IfErr result (MayNotBeReady (LacksToMake (Remove dentry.now leaf gone) (state_of self.old)) (LacksPlacesOf self.old at) self.old.faults self.new.faults) }
+        ensures refused { IfErr result (MayNotBeReady (LacksToMake (Remove spot.now gone) (state_of self.old)) (LacksPlacesOf self.old change.now) self.old.faults self.new.faults) }
     {
-        let place = Dirfrag {
-            dir: dentry.dir,
-            frag: leaf,
-            rank: at.first,
-        };
-        self.ready_removal(alloc, &place, gone)
+        self.ready_removal(alloc, &spot.at, gone)
     }
 
     // Makes ready that the entry at a dentry goes to another.
     fn prepare_move(
         &mut self,
         alloc: Global,
-        at: Holders,
-        from: &Dentry,
-        source: Frag,
-        to: &Dentry,
-        target: Frag,
+        from: &Spot,
+        to: &Spot,
         gone: Option<Ino>,
     ) -> Result<(), Refusal>
         requires sound { IsSoundCore self.old }
-        requires holds { MayHoldEach self.old.caches at (Move from.now source to.now target gone) }
-        requires may { MayChange (shown_in self.old) self.old.covers (Move from.now source to.now target gone) }
-        ensures ready { OnOk result (IsReady self.new at (Move from.now source to.now target gone)) }
-        ensures reads { ReadsCore (IsNamedIn at (Move from.now source to.now target gone)) (IsKeptFor self.old.caches) self.old self.new }
+        requires holds { MayHoldEach self.old.caches (Move from.now to.now gone) }
+        requires may { MayChange (shown_in self.old) self.old.covers (Move from.now to.now gone) }
+        ensures ready { OnOk result (IsReady self.new (Move from.now to.now gone)) }
+        ensures reads { ReadsCore (IsNamedIn (Move from.now to.now gone)) (IsKeptFor self.old.caches) self.old self.new }
         ensures sound { IsSoundCore self.new }
         ensures counted { self.new.faults ≡ self.old.faults + faults_told (result_err result) }
-        ensures refused { IfErr result (MayNotBeReady (LacksToMake (Move from.now source to.now target gone) (state_of self.old)) (LacksPlacesOf self.old at) self.old.faults self.new.faults) }
+        ensures refused { IfErr result (MayNotBeReady (LacksToMake (Move from.now to.now gone) (state_of self.old)) (LacksPlacesOf self.old change.now) self.old.faults self.new.faults) }
     {
-        let first = Dirfrag {
-            dir: from.dir,
-            frag: source,
-            rank: at.first,
-        };
-        let second = Dirfrag {
-            dir: to.dir,
-            frag: target,
-            rank: at.second,
-        };
-        self.ready_move(alloc, &first, &from.name, &second, &to.name, gone)
+        self.ready_move(alloc, from, to, gone)
     }
 }
 

@@ -16,8 +16,7 @@ ghost use Rattle.mdcache.specs.Ranks.{MayHold};
 ghost use Rattle.mdcache.specs.Reads.{MayNotFind};
 
 use crate::mdcache::MdCache;
-use mds_types::{Dentry, Dirfrag, Frag, Ino, Inode, Rank, Refusal};
-use namehash::rjenkins;
+use mds_types::{Dirfrag, Ino, Inode, Name, Refusal};
 use objstore::Store;
 use std::alloc::Global;
 
@@ -39,41 +38,28 @@ impl<S: Store + Drop> MdCache<S> {
         self.dirs.is_above(dir, below)
     }
 
-    /// The leaf that a dentry belongs to: the one of its directory that the hash of its name picks. Takes no memory.
-    pub fn frag_of(&self, dentry: &Dentry) -> Frag
-        ensures { IsPick (leaves_of self.now.covers dentry.now.dir.0) (hash_of dentry.now.name) result }
-    {
-        self.dirs.pick(dentry.dir, rjenkins(dentry.name.as_bytes()))
-    }
-
-    /// The inode at a dentry, copied. `leaf` is the one that the dentry belongs to; it is fetched into the cache of the rank that
-    /// holds it, where it isn't cached. Takes memory for a leaf that is read, and for a link's target.
+    /// The inode that a name stands for in a leaf to which its hash belongs, copied. The leaf is fetched into the cache of the
+    /// rank that holds it, where it isn't cached. Takes memory for a leaf that is read, and for a link's target.
     ///
     /// Refused `NothingToEvict` where no place of the cache is free and no fragment can go, `StoreFault`, and `NoMemory`.
     pub fn look(
         &mut self,
         alloc: Global,
-        rank: Rank,
-        dentry: &Dentry,
-        leaf: Frag,
+        at: &Dirfrag,
+        name: &Name,
     ) -> Result<Option<Inode>, Refusal>
         requires sound { IsSoundCore self.old }
-        requires holds { MayHold self.old.caches rank (dentry.now.dir, leaf) }
-        requires known { is_directory (shown_in self.old) dentry.now.dir.0 ≡ true }
-        requires leaf { IsPick (leaves_of self.old.covers dentry.now.dir.0) (hash_of dentry.now.name) leaf }
-        ensures found { IfOk result (λ found. found ≡ map.get (shown_in self.old) dentry.now) }
-        ensures newest { OnOk result (IsNewest self.new.caches rank.0 (dentry.now.dir, leaf)) }
-        ensures reads { ReadsCore (IsThat rank.0 (dentry.now.dir, leaf)) (IsKeptFor self.old.caches) self.old self.new }
+        requires holds { MayHold self.old.caches at.now.rank (leaf_of at.now) }
+        requires known { is_directory (shown_in self.old) at.now.dir.0 ≡ true }
+        requires leaf { IsPick (leaves_of self.old.covers at.now.dir.0) (hash_of name.now) at.now.frag }
+        ensures found { IfOk result (λ found. found ≡ map.get (shown_in self.old) (record { dir = at.now.dir; name = name.now })) }
+        ensures newest { OnOk result (IsNewest self.new.caches at.now.rank.0 (leaf_of at.now)) }
+        ensures reads { ReadsCore (IsThat at.now.rank.0 (leaf_of at.now)) (IsKeptFor self.old.caches) self.old self.new }
         ensures sound { IsSoundCore self.new }
         ensures counted { self.new.faults ≡ self.old.faults + faults_told (result_err result) }
-        ensures refused { IfErr result (MayNotFind (LacksPlacesAt 1 self.old rank) self.old.faults self.new.faults) }
+        ensures refused { IfErr result (MayNotFind (LacksPlacesAt 1 self.old at.now.rank) self.old.faults self.new.faults) }
     {
         self.give_up();
-        let at = Dirfrag {
-            dir: dentry.dir,
-            frag: leaf,
-            rank,
-        };
-        self.find(alloc, &at, &dentry.name)
+        self.find(alloc, at, name)
     }
 }

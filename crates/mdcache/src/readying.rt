@@ -13,6 +13,7 @@ ghost use Rattle.dentry_cache.specs.CacheMap.{here, unclean};
 ghost use Rattle.dentry_cache.specs.CacheSplits.{IsKeptFor};
 ghost use Rattle.dentry_cache.specs.Came.{IsThat};
 ghost use Rattle.inode_table.specs.Dirs.{is_known};
+ghost use Rattle.namespace_ops.specs.Changes.{dentry_at};
 ghost use Rattle.mdcache.specs.Changes.{first_leaf};
 ghost use Rattle.mdcache.specs.Core.{IsSoundCore, LacksPlacesAt, ReadsCore};
 ghost use Rattle.mdcache.specs.Frags.{IsDirectoryReady, IsForRemoval, IsMovingIn, IsNameReady};
@@ -28,7 +29,8 @@ use crate::prepared::{MovingEntry, NewDirectory, Prepared};
 use crate::purge_list::PurgeList;
 use dentry_cache::Caches;
 use inode_table::Dirs;
-use mds_types::{Dentry, Dirfrag, Frag, Ino, Inode, Name, ObjName, Refusal};
+use mds_types::{Dirfrag, Frag, Ino, Inode, Name, ObjName, Refusal};
+use namespace_ops::Spot;
 use objstore::Store;
 use std::alloc::{AllocError, Global};
 
@@ -66,21 +68,20 @@ impl<S: Store + Drop> MdCache<S> {
     pub(crate) fn ready_directory(
         &mut self,
         alloc: Global,
-        at: &Dirfrag,
-        dentry: &Dentry,
+        spot: &Spot,
         dir: Ino,
     ) -> Result<(), Refusal>
         requires sound { IsSoundCore self.old }
-        requires live { IsLive self.old.homes self.old.covers (leaf_of at.now) }
-        requires holds { MayHold self.old.caches at.now.rank (leaf_of at.now) }
+        requires live { IsLive self.old.homes self.old.covers (leaf_of spot.now.at) }
+        requires holds { MayHold self.old.caches spot.now.at.rank (leaf_of spot.now.at) }
         requires unused { is_known self.old.homes dir.0 ≡ false }
-        ensures ready { OnOk result (IsNameReady self.new at.now.rank (leaf_of at.now)) }
-        ensures place { OnOk result (IsDirectoryReady self.new at.now.rank dentry.now dir) }
-        ensures only { OnOk result (KeepsOnlyAt (Some (at.now.rank, first_leaf dir)) self.new.caches) }
-        ensures reads { ReadsCore (λ r q. IsThat at.now.rank.0 (leaf_of at.now) r q ⊎ IsThat at.now.rank.0 (first_leaf dir) r q) (IsKeptFor self.old.caches) self.old self.new }
+        ensures ready { OnOk result (IsNameReady self.new spot.now.at.rank (leaf_of spot.now.at)) }
+        ensures place { OnOk result (IsDirectoryReady self.new spot.now.at.rank (dentry_at spot.now) dir) }
+        ensures only { OnOk result (KeepsOnlyAt (Some (spot.now.at.rank, first_leaf dir)) self.new.caches) }
+        ensures reads { ReadsCore (λ r q. IsThat spot.now.at.rank.0 (leaf_of spot.now.at) r q ⊎ IsThat spot.now.at.rank.0 (first_leaf dir) r q) (IsKeptFor self.old.caches) self.old self.new }
         ensures sound { IsSoundCore self.new }
         ensures counted { self.new.faults ≡ self.old.faults + faults_told (result_err result) }
-        ensures refused { IfErr result (MayNotBeReady (LacksNumbers 1 self.old.next_version ⊎ LacksNumbers 1 self.old.next_generation) (LacksPlacesAt 2 self.old at.now.rank) self.old.faults self.new.faults) }
+        ensures refused { IfErr result (MayNotBeReady (LacksNumbers 1 self.old.next_version ⊎ LacksNumbers 1 self.old.next_generation) (LacksPlacesAt 2 self.old spot.now.at.rank) self.old.faults self.new.faults) }
     {
         if let Err(refusal) = check_left(self.next.version) {
             return Err(refusal);
@@ -88,7 +89,7 @@ impl<S: Store + Drop> MdCache<S> {
         if let Err(refusal) = check_left(self.next.generation) {
             return Err(refusal);
         }
-        let made = new_directory(alloc, dentry, dir)?;
+        let made = new_directory(alloc, &spot.name, dir)?;
         if let Err(refusal) = self.dirs.reserve() {
             return Err(refusal);
         }
@@ -96,39 +97,34 @@ impl<S: Store + Drop> MdCache<S> {
         let first = Dirfrag {
             dir,
             frag: Frag::ROOT,
-            rank: at.rank,
+            rank: spot.at.rank,
         };
-        if let Err(refusal) = self.ready_first(alloc, at, &first) {
+        if let Err(refusal) = self.ready_first(alloc, &spot.at, &first) {
             return Err(refusal);
         }
-        self.kept = Some((at.rank, (dir, Frag::ROOT)));
+        self.kept = Some((spot.at.rank, (dir, Frag::ROOT)));
         self.prepared = Prepared::Directory(made);
         Ok(())
     }
 
     /// Makes ready that the entry of a name gets other attributes, and tells that a record allows the inode that stands there, so
     /// that it allows its number and kind with other attributes too. Otherwise as `ready_name`.
-    pub(crate) fn ready_set(
-        &mut self,
-        alloc: Global,
-        at: &Dirfrag,
-        name: &Name,
-    ) -> Result<(), Refusal>
+    pub(crate) fn ready_set(&mut self, alloc: Global, spot: &Spot) -> Result<(), Refusal>
         requires sound { IsSoundCore self.old }
-        requires live { IsLive self.old.homes self.old.covers (leaf_of at.now) }
-        requires holds { MayHold self.old.caches at.now.rank (leaf_of at.now) }
-        ensures ready { OnOk result (IsNameReady self.new at.now.rank (leaf_of at.now)) }
-        ensures recorded { OnOk result (IfSome (map.get (names_of (unclean self.old.caches) self.old.objects (leaf_of at.now)) name.now) IsRecordable) }
-        ensures reads { ReadsCore (IsThat at.now.rank.0 (leaf_of at.now)) (IsKeptFor self.old.caches) self.old self.new }
+        requires live { IsLive self.old.homes self.old.covers (leaf_of spot.now.at) }
+        requires holds { MayHold self.old.caches spot.now.at.rank (leaf_of spot.now.at) }
+        ensures ready { OnOk result (IsNameReady self.new spot.now.at.rank (leaf_of spot.now.at)) }
+        ensures recorded { OnOk result (IfSome (map.get (names_of (unclean self.old.caches) self.old.objects (leaf_of spot.now.at)) spot.now.name) IsRecordable) }
+        ensures reads { ReadsCore (IsThat spot.now.at.rank.0 (leaf_of spot.now.at)) (IsKeptFor self.old.caches) self.old self.new }
         ensures none { OnOk result (KeepsNone self.new.caches) }
         ensures sound { IsSoundCore self.new }
         ensures counted { self.new.faults ≡ self.old.faults + faults_told (result_err result) }
-        ensures refused { IfErr result (MayNotBeReady (LacksNumbers 1 self.old.next_version) (LacksPlacesAt 1 self.old at.now.rank) self.old.faults self.new.faults) }
+        ensures refused { IfErr result (MayNotBeReady (LacksNumbers 1 self.old.next_version) (LacksPlacesAt 1 self.old spot.now.at.rank) self.old.faults self.new.faults) }
     {
-        if let Err(refusal) = self.ready_name(alloc, at) {
+        if let Err(refusal) = self.ready_name(alloc, &spot.at) {
             return Err(refusal);
         }
-        is_recorded(&self.caches, at, name);
+        is_recorded(&self.caches, &spot.at, &spot.name);
         Ok(())
     }
 
@@ -173,39 +169,37 @@ impl<S: Store + Drop> MdCache<S> {
     pub(crate) fn ready_move(
         &mut self,
         alloc: Global,
-        from: &Dirfrag,
-        old: &Name,
-        to: &Dirfrag,
-        new: &Name,
+        from: &Spot,
+        to: &Spot,
         gone: Option<Ino>,
     ) -> Result<(), Refusal>
         requires sound { IsSoundCore self.old }
-        requires from_live { IsLive self.old.homes self.old.covers (leaf_of from.now) }
-        requires from_holds { MayHold self.old.caches from.now.rank (leaf_of from.now) }
-        requires to_live { IsLive self.old.homes self.old.covers (leaf_of to.now) }
-        requires to_holds { MayHold self.old.caches to.now.rank (leaf_of to.now) }
-        requires one { ◌≡◌ {A = Leaf} (leaf_of from.now) (leaf_of to.now) → from.now.rank ≡ to.now.rank }
-        requires stands { is_some (map.get (names_of (unclean self.old.caches) self.old.objects (leaf_of from.now)) old.now) ≡ true }
-        ensures source { OnOk result (HasCached (here self.new.caches from.now.rank.0 (leaf_of from.now)) (λ (f : Cached). 1 < f.room)) }
-        ensures target { OnOk result (HasRoom (here self.new.caches to.now.rank.0 (leaf_of to.now))) }
+        requires from_live { IsLive self.old.homes self.old.covers (leaf_of from.now.at) }
+        requires from_holds { MayHold self.old.caches from.now.at.rank (leaf_of from.now.at) }
+        requires to_live { IsLive self.old.homes self.old.covers (leaf_of to.now.at) }
+        requires to_holds { MayHold self.old.caches to.now.at.rank (leaf_of to.now.at) }
+        requires one { ◌≡◌ {A = Leaf} (leaf_of from.now.at) (leaf_of to.now.at) → from.now.at.rank ≡ to.now.at.rank }
+        requires stands { is_some (map.get (names_of (unclean self.old.caches) self.old.objects (leaf_of from.now.at)) from.now.name) ≡ true }
+        ensures source { OnOk result (HasCached (here self.new.caches from.now.at.rank.0 (leaf_of from.now.at)) (λ (f : Cached). 1 < f.room)) }
+        ensures target { OnOk result (HasRoom (here self.new.caches to.now.at.rank.0 (leaf_of to.now.at))) }
         ensures number { OnOk result (self.new.next_version < 2 ^ 64 - 2) }
-        ensures moving { OnOk result (IsMovingIn (map.get (names_of (unclean self.old.caches) self.old.objects (leaf_of from.now)) old.now) self.new.covers self.new.room.purge new.now gone self.new.prepared) }
-        ensures reads { ReadsCore (λ r q. IsThat from.now.rank.0 (leaf_of from.now) r q ⊎ IsThat to.now.rank.0 (leaf_of to.now) r q) (IsKeptFor self.old.caches) self.old self.new }
+        ensures moving { OnOk result (IsMovingIn (map.get (names_of (unclean self.old.caches) self.old.objects (leaf_of from.now.at)) from.now.name) self.new.covers self.new.room.purge to.now.name gone self.new.prepared) }
+        ensures reads { ReadsCore (λ r q. IsThat from.now.at.rank.0 (leaf_of from.now.at) r q ⊎ IsThat to.now.at.rank.0 (leaf_of to.now.at) r q) (IsKeptFor self.old.caches) self.old self.new }
         ensures none { OnOk result (KeepsNone self.new.caches) }
         ensures sound { IsSoundCore self.new }
         ensures counted { self.new.faults ≡ self.old.faults + faults_told (result_err result) }
-        ensures refused { IfErr result (MayNotBeReady (LacksNumbers 2 self.old.next_version) (LacksPlacesAt 2 self.old from.now.rank ⊎ LacksPlacesAt 2 self.old to.now.rank) self.old.faults self.new.faults) }
+        ensures refused { IfErr result (MayNotBeReady (LacksNumbers 2 self.old.next_version) (LacksPlacesAt 2 self.old from.now.at.rank ⊎ LacksPlacesAt 2 self.old to.now.at.rank) self.old.faults self.new.faults) }
     {
         if let Err(refusal) = check_two_left(self.next.version) {
             return Err(refusal);
         }
-        let name = new.try_clone()?;
+        let name = to.name.try_clone()?;
         let going = ready_going(alloc, &self.dirs, &mut self.purge, gone)?;
         self.give_up();
-        if let Err(refusal) = self.ready_pair(alloc, from, to) {
+        if let Err(refusal) = self.ready_pair(alloc, &from.at, &to.at) {
             return Err(refusal);
         }
-        let inode = inode_at(&self.caches, from, old)?;
+        let inode = inode_at(&self.caches, &from.at, &from.name)?;
         self.prepared = Prepared::Move(MovingEntry { inode, name, going });
         Ok(())
     }
@@ -234,12 +228,12 @@ fn check_two_left(next: u64) -> Result<(), Refusal>
 }
 
 // What a directory of this number takes that comes.
-fn new_directory(alloc: Global, dentry: &Dentry, dir: Ino) -> Result<NewDirectory, Refusal>
-    ensures name { IfOk result (λ made. made.name ≡ dentry.now.name) }
+fn new_directory(alloc: Global, name: &Name, dir: Ino) -> Result<NewDirectory, Refusal>
+    ensures name { IfOk result (λ made. made.name ≡ name.now) }
     ensures object { IfOk result (λ made. string_bytes made.object ≡ text_of (first_leaf dir)) }
     ensures err { IfErr result (λ reason. reason ≡ NoMemory) }
 {
-    let name = dentry.name.try_clone()?;
+    let name = name.try_clone()?;
     let leaf = ObjName::Frag(dir, Frag::ROOT);
     let object = format!(in alloc; "{leaf}")?;
     Ok(NewDirectory { name, object })

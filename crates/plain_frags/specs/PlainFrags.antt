@@ -25,10 +25,10 @@ is_numbered n entry = entry.1.ino.0 == n
 
 -- the change can be made with no growth: there is room for a new entry, and for a new home with its name
 abbrev pub IsReady : Kept → Change → Type 0
-IsReady f (Add dentry leaf inode) = (0 < f.entries_left) × (is_dir_kind inode.kind ≡ true → (0 < f.dirs_left) × (f.spare ≡ Some dentry.name))
-IsReady f (Set dentry leaf inode) = Unit {0}
-IsReady f (Remove dentry leaf went) = Unit {0}
-IsReady f (Move from source to target went) = (0 < f.entries_left) × (f.spare ≡ Some to.name)
+IsReady f (Add spot inode) = (0 < f.entries_left) × (is_dir_kind inode.kind ≡ true → (0 < f.dirs_left) × (f.spare ≡ Some spot.name))
+IsReady f (Set spot inode) = Unit {0}
+IsReady f (Remove spot went) = Unit {0}
+IsReady f (Move from to went) = (0 < f.entries_left) × (f.spare ≡ Some to.name)
 
 -- reads and refusals keep the tree and the leaves of each directory, whatever room they leave
 abbrev pub KeepsShown : Kept → Kept → Type 0

@@ -12,8 +12,7 @@ ghost use Rattle.plain_frags.specs.PlainFrags.{Kept, is_numbered};
 use super::changes::{add_entry, move_entry, remove_entry, set_entry};
 use super::listing::{first_rows, next_in};
 use inode_table::Dirs;
-use mds_types::{Dentry, Frag, Ino, Inode, Listing, Name, Op, PageSize, Refusal};
-use namehash::rjenkins;
+use mds_types::{Dentry, Dirfrag, Frag, Ino, Inode, Listing, Name, Op, PageSize, Rank, Refusal};
 use namespace_ops::{Change, Frags};
 use sorted_map::{Iter, Probe, SortedMap};
 use std::alloc::{AllocError, Global};
@@ -137,6 +136,8 @@ impl Frags for PlainFrags {
 
     ghost IsNumber = { λ n. Unit {0} };
 
+    ghost Holds = { λ f at. Unit {0} };
+
     ghost IsReady = { λ f change. IsReadyFor f change };
 
     ghost Follows = { λ a b op told. KeepsShown a b };
@@ -155,6 +156,8 @@ impl Frags for PlainFrags {
 
     ghost follows_on = { λ a b c op told p q. (q.0 ∙ p.0, q.1 ∙ p.1) };
 
+    ghost held_on = { λ a b op told at p. (λ h. h, λ h. h) };
+
     ghost follows_memory = { λ a b op p. p };
 
     ghost follows_number = { λ a b op p. p };
@@ -171,8 +174,15 @@ impl Frags for PlainFrags {
         self.dirs.is_above(dir, below)
     }
 
-    fn frag_of(&self, dentry: &Dentry) -> Frag {
-        self.dirs.pick(dentry.dir, rjenkins(dentry.name.as_bytes()))
+    fn locate(&self, _rank: Rank, dir: Ino, hash: u32) -> Option<Dirfrag> {
+        let Some(at) = self.dirs.leaf_at(dir, hash) else {
+            return None;
+        };
+        Some(Dirfrag {
+            dir,
+            frag: at.frag,
+            rank: Rank(0),
+        })
     }
 
     fn leaves(&self, alloc: Global, dir: Ino) -> Result<Vec<Frag>, Refusal> {
@@ -184,7 +194,7 @@ impl Frags for PlainFrags {
         Ok(leaves?)
     }
 
-    fn look(&mut self, _op: &Op, dentry: &Dentry, _leaf: Frag) -> Result<Option<Inode>, Refusal> {
+    fn look(&mut self, _op: &Op, dentry: &Dentry, _at: &Dirfrag) -> Result<Option<Inode>, Refusal> {
         Ok(inode_at(&self.entries, dentry)?)
     }
 
@@ -205,10 +215,10 @@ impl Frags for PlainFrags {
 
     fn ready(&mut self, _op: &Op, change: &Change) -> Result<(), Refusal> {
         match change {
-            Change::Add { dentry, inode, .. } => {
+            Change::Add { spot, inode } => {
                 self.entries.reserve(1)?;
                 if inode.kind.is_dir() {
-                    self.spare = Some(dentry.name.try_clone()?);
+                    self.spare = Some(spot.name.try_clone()?);
                     return self.dirs.reserve();
                 }
             }
@@ -228,10 +238,14 @@ impl Frags for PlainFrags {
             spare,
         } = self;
         match change {
-            Change::Add { dentry, inode, .. } => add_entry(entries, dirs, spare, dentry, inode),
-            Change::Set { dentry, inode, .. } => set_entry(entries, dirs, &dentry, inode),
-            Change::Remove { dentry, .. } => remove_entry(entries, dirs, &dentry),
-            Change::Move { from, to, .. } => move_entry(entries, dirs, spare, &from, to),
+            Change::Add { spot, inode } => {
+                add_entry(entries, dirs, spare, spot.into_dentry(), inode);
+            }
+            Change::Set { spot, inode } => set_entry(entries, dirs, &spot.into_dentry(), inode),
+            Change::Remove { spot, .. } => remove_entry(entries, dirs, &spot.into_dentry()),
+            Change::Move { from, to, .. } => {
+                move_entry(entries, dirs, spare, &from.into_dentry(), to.into_dentry());
+            }
         }
     }
 }

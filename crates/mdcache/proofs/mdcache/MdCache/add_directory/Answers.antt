@@ -1,6 +1,7 @@
 use Rattle.std.proofs.Common.{◌≡◌, true, None, subst, sym}
 use Rattle.std.specs.FinMap as map
 use Rattle.dentry_cache.specs.CacheMap.{has_place}
+use Rattle.mds_types.specs.Leaf.{leaf_of}
 use Rattle.mdcache.specs.Changes.{first_leaf}
 use Rattle.mdcache.specs.Core.{Core}
 use Rattle.mdcache.proofs.ChangeSteps.{kept_named, roomy_there}
@@ -9,11 +10,11 @@ use Rattle.std.specs.Prelude.{Some}
 use Rattle.mdcache.proofs.mdcache.MdCache.add_directory.Goals as goal
 
 pub add_dir-requires-clause-place : goal.add_dir-requires-clause-place
-add_dir-requires-clause-place g c = subst (λ (k : Core). has_place k.caches c.args.rank.0 (first_leaf c.args.inode.ino) ≡ true) (sym c.put.ensures)
-    (kept_named c.args.self.now (record { dir = c.args.dentry.dir; frag = c.args.leaf; rank = c.args.rank }) c.args.dentry.name (Some c.args.inode)
-    (roomy_there (here c.args.self.now.caches c.args.rank.0 (c.args.dentry.dir, c.args.leaf)) c.requires.room) (first_leaf c.args.inode.ino) c.requires.place c.requires.there).0
+add_dir-requires-clause-place g c = subst (λ (k : Core). has_place k.caches c.args.spot.at.rank.0 (first_leaf c.args.inode.ino) ≡ true) (sym c.put.ensures)
+    (kept_named c.args.self.now c.args.spot.at c.args.spot.name (Some c.args.inode)
+    (roomy_there (here c.args.self.now.caches c.args.spot.at.rank.0 (leaf_of c.args.spot.at)) c.requires.room) (first_leaf c.args.inode.ino) c.requires.place c.requires.there).0
 
 pub add_dir-requires-clause-absent : goal.add_dir-requires-clause-absent
 add_dir-requires-clause-absent g c = subst (λ (k : Core). map.get k.caches.held (first_leaf c.args.inode.ino) ≡ None) (sym c.put.ensures)
-    (kept_named c.args.self.now (record { dir = c.args.dentry.dir; frag = c.args.leaf; rank = c.args.rank }) c.args.dentry.name (Some c.args.inode)
-    (roomy_there (here c.args.self.now.caches c.args.rank.0 (c.args.dentry.dir, c.args.leaf)) c.requires.room) (first_leaf c.args.inode.ino) c.requires.place c.requires.there).1
+    (kept_named c.args.self.now c.args.spot.at c.args.spot.name (Some c.args.inode)
+    (roomy_there (here c.args.self.now.caches c.args.spot.at.rank.0 (leaf_of c.args.spot.at)) c.requires.room) (first_leaf c.args.inode.ino) c.requires.place c.requires.there).1
