@@ -1,7 +1,8 @@
 -- Which leaves an operation changes, and which of them a rank may change.
-use Rattle.std.proofs.Common.{◌≡◌, ◌↔◌, ◌&&◌, inl, inr, ℕ, Bool, true, false, cond, List, [], ◌∷◌, Option, MatchOption, Some, None, refl, sym, ap, ◌∙◌, subst, MatchBool, arith}
+use Rattle.std.proofs.Common.{◌≡◌, ◌↔◌, ◌&&◌, inl, inr, ℕ, Bool, true, false, cond, List, [], ◌∷◌, Option, Some, None, refl, sym, ap, ◌∙◌, subst, MatchBool, arith}
 use Rattle.std.specs.List.{Contains}
 use Rattle.std.proofs.lemmas.Bool.{and_parts, true≢false}
+use Rattle.mds_types.specs.declared.dirfrags.Dirfrag.{Dirfrag}
 use Rattle.mds_types.specs.declared.ids.Ino.{Ino}
 use Rattle.mds_types.specs.declared.ids.Rank.{Rank}
 use Rattle.mds_types.specs.Frag.{Fragment}
@@ -14,19 +15,18 @@ use Rattle.mds_types.specs.Tree.{Tree, is_directory}
 use Rattle.inboxes.specs.declared.pins.Pin.{Pin}
 use Rattle.fragtree.specs.FragTree.{IsPick}
 use Rattle.inode_table.specs.Dirs.{Covers, leaves_of}
-use Rattle.inode_table.specs.TreeTable.{IsTabled}
-use Rattle.inode_table.proofs.TableLaws.{known_is}
 use Rattle.namespace_ops.specs.Changes.{in_directory}
 use Rattle.namespace_ops.specs.Picks.{pick_of}
+use Rattle.namespace_ops.specs.Places.{Locates, main_hash}
 use Rattle.namespace_ops.specs.ChangedFragments.{NamesOnce, changed_fragments, touched, unless_errno}
 use Rattle.namespace_ops.proofs.PickLaws.{picked}
 use Rattle.namespace_ops.proofs.Members.{first, first_or_later, later}
-use Rattle.subtree_map.specs.Authority.{IsLocated, Leaf, Roots}
+use Rattle.subtree_map.specs.Authority.{Leaf, Roots}
 use Rattle.mdcache.specs.Shown.{shown_tree}
 use Rattle.mdcache.specs.State.{State as TreeState}
 use Rattle.cluster_core.specs.Grants.{AreHeldAmong}
-use Rattle.cluster_core.specs.Master.{HasForeign, IsMasterIn, LacksGrantIn, MayTouchAllIn, MayTouchEach, MayTouchIn, changes_others, main_hash, main_leaf}
-use Rattle.ranked_tree.specs.Subtrees.{Rules}
+use Rattle.cluster_core.specs.Master.{HasForeign, IsMasterIn, LacksGrantIn, MayTouchAllIn, MayTouchEach, MayTouchIn, changes_others, main_leaf, master_at}
+use Rattle.ranked_tree.specs.Subtrees.{HoldsAt, Rules}
 
 -- nothing is in an empty list
 pub not_in_none : {A : Type 0} (x : A) → Contains {X = A} [] x → ⊥
@@ -37,11 +37,6 @@ only_one x y has = elim (first_or_later x y [] has) [
   | inl same ↦ sym same
   | inr more ↦ absurd (not_in_none y more)
 ]
-
--- the rank that was found, or the one that serves
-abbrev pub master_of : Rank → Option (Fragment × Rank) → Rank
-master_of rank None = rank
-master_of rank (Some at) = at.1
 
 -- it is the leaf of that directory which the operation's hash picks
 main_picked : (covers : Covers) (op : Op) → main_leaf covers op ≡ in_directory (destination_of op) (pick_of (leaves_of covers (destination_of op)) (main_hash op))
@@ -60,16 +55,12 @@ pub main_located : (covers : Covers) (op : Op) (dir : Ino) (f : Fragment) → di
 main_located covers op dir f there pick =
     ap (λ (g : Fragment). (dir, g)) (sym (picked (leaves_of covers dir.0) (main_hash op) f pick)) ∙ ap (λ (d : ℕ). in_directory d (pick_of (leaves_of covers d) (main_hash op))) there ∙ sym (main_picked covers op)
 
--- the authority of the leaf in which that hash falls is the master; where there is no such directory the rank itself is
-pub master_located : (tree : TreeState) (roots : Roots) → IsTabled (shown_tree tree) tree.homes → (rank : Rank) (op : Op) (dir : Ino) (hash : ℕ) → dir.0 ≡ destination_of op → hash ≡ main_hash op
-    → (found : Option (Fragment × Rank)) → MatchOption found (is_directory (shown_tree tree) dir.0 ≡ false) (λ at. IsLocated roots tree.homes tree.covers dir hash at.0 at.1)
-    → IsMasterIn tree roots rank op (master_of rank found)
-master_located tree roots tabled rank op dir hash there hashed None h =
-    subst (λ (b : Bool). MatchBool b (Rules tree roots (main_leaf tree.covers op) rank) (rank ≡ rank)) (sym (ap (is_directory (shown_tree tree)) (sym there) ∙ h)) refl
-master_located tree roots tabled rank op dir hash there hashed (Some at) h =
-    let is : is_directory (shown_tree tree) (destination_of op) ≡ true = ap (is_directory (shown_tree tree)) (sym there) ∙ sym (known_is (shown_tree tree) tree.homes tabled dir.0) ∙ h.known in
-    subst (λ (b : Bool). MatchBool b (Rules tree roots (main_leaf tree.covers op) at.1) (at.1 ≡ rank)) (sym is)
-    (subst (λ (l : Leaf). Rules tree roots l at.1) (main_located tree.covers op dir at.0 there (subst (λ (n : ℕ). IsPick (leaves_of tree.covers dir.0) n at.0) hashed h.pick)) h.has)
+-- the rank that holds the leaf in which that hash falls is the master; where there is no such directory the rank itself is
+pub master_located : (tree : TreeState) (roots : Roots) (rank : Rank) (op : Op) (found : Option Dirfrag) → Locates (shown_tree tree) tree.covers (HoldsAt tree roots) (destination_of op) (main_hash op) found → IsMasterIn tree roots rank op (master_at rank found)
+master_located tree roots rank op None h = subst (λ (b : Bool). MatchBool b (Rules tree roots (main_leaf tree.covers op) rank) (rank ≡ rank)) (sym h) refl
+master_located tree roots rank op (Some at) h =
+    subst (λ (b : Bool). MatchBool b (Rules tree roots (main_leaf tree.covers op) at.rank) (at.rank ≡ rank)) (sym h.stands)
+    (subst (λ (l : Leaf). Rules tree roots l at.rank) (main_located tree.covers op at.dir at.frag h.dir (subst (λ (d : ℕ). IsPick (leaves_of tree.covers d) (main_hash op) at.frag) (sym h.dir) h.leaf)) h.held)
 
 -- an operation that changes no other leaf changes at most its main one
 one_leaf : (covers : Covers) (tree : Tree) (op : Op) → changes_others op ≡ false → (leaf : Leaf) → Contains (touched covers tree op) leaf → leaf ≡ main_leaf covers op

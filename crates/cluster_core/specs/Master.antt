@@ -2,6 +2,7 @@
 use Rattle.std.specs.Prelude.{◌≡◌, ◌⊎◌, ℕ, ◌<◌, Bool, true, false, MatchBool, List, [], ◌∷◌, Option, Some, None}
 use Rattle.std.specs.List.{Contains, list_any}
 use Rattle.mds_types.specs.declared.dentries.Dentry.{Dentry}
+use Rattle.mds_types.specs.declared.dirfrags.Dirfrag.{Dirfrag}
 use Rattle.mds_types.specs.declared.ids.Rank.{Rank}
 use Rattle.mds_types.specs.declared.operations.Op.{Op}
 use Rattle.mds_types.specs.declared.operations.Op.TheVariants.{Lookup, Readdir, Readlink, Create, Mkdir, Symlink, Setattr, Unlink, Rmdir, Rename}
@@ -11,28 +12,15 @@ use Rattle.mds_types.specs.Tree.{is_directory}
 use Rattle.inboxes.specs.declared.pins.Pin.{Pin}
 use Rattle.inboxes.specs.Pins.{is_pin}
 use Rattle.inode_table.specs.Dirs.{Covers, leaves_of}
-use Rattle.namehash.specs.Rjenkins.{hash_of}
 use Rattle.namespace_ops.specs.Picks.{pick_of}
 use Rattle.namespace_ops.specs.ChangedFragments.{changed_fragments, fragment_of}
 use Rattle.namespace_ops.specs.Changes.{in_directory}
+use Rattle.namespace_ops.specs.Places.{main_dentry}
 use Rattle.subtree_map.specs.Authority.{Leaf, Roots}
 use Rattle.mdcache.specs.Shown.{shown_tree}
 use Rattle.mdcache.specs.State.{State as TreeState}
 use Rattle.cluster_core.specs.State.{State}
 use Rattle.ranked_tree.specs.Subtrees.{Rules}
-
--- the dentry whose leaf tells the master of an operation: its own, of a rename the destination; a readdir has none
-abbrev pub main_dentry : Op → Option Dentry
-main_dentry (Lookup dentry) = Some dentry
-main_dentry (Readdir dir after max) = None
-main_dentry (Readlink dentry) = Some dentry
-main_dentry (Create dentry mode mtime) = Some dentry
-main_dentry (Mkdir dentry mode mtime) = Some dentry
-main_dentry (Symlink dentry target mtime) = Some dentry
-main_dentry (Setattr dentry given) = Some dentry
-main_dentry (Unlink dentry) = Some dentry
-main_dentry (Rmdir dentry) = Some dentry
-main_dentry (Rename from to) = Some to
 
 -- the leaf of a dentry; where there is none, the first leaf of a directory, that of the hash 0
 abbrev pub leaf_at : Covers → ℕ → Option Dentry → Leaf
@@ -88,14 +76,10 @@ LacksGrant state rank request = LacksGrantIn state.tree state.roots state.pins r
 
 -- ---- words of this crate's own contracts
 
--- the hash of a dentry's name; where there is none, the first one
-abbrev pub hash_at : Option Dentry → ℕ
-hash_at None = 0
-hash_at (Some dentry) = hash_of dentry.name
-
--- a hash that falls in the main leaf of an operation
-abbrev pub main_hash : Op → ℕ
-main_hash op = hash_at (main_dentry op)
+-- the rank that holds the leaf which was found, or the one that serves
+abbrev pub master_at : Rank → Option Dirfrag → Rank
+master_at rank None = rank
+master_at rank (Some at) = at.rank
 
 -- whether an operation may change other leaves than its main one: those of a directory that goes, the source of a rename
 abbrev pub changes_others : Op → Bool

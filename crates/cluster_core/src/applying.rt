@@ -8,6 +8,7 @@ ghost use Rattle.cluster_core.specs.Offer.{after_taking};
 ghost use Rattle.inboxes.specs.Pins.{is_for, left_without};
 ghost use Rattle.namespace_ops.specs.Changes.{IsOffered, fragments_in};
 ghost use Rattle.namespace_ops.specs.Kept.{ChangesOnly, KeepsAll};
+ghost use Rattle.namespace_ops.specs.Places.{AreLocated};
 ghost use Rattle.namespace_ops.specs.Planned.{IsReadyToChange, after_plan};
 ghost use Rattle.namespace_ops.specs.Served.{IsRefused};
 ghost use Rattle.sessions.specs.Table.{noted, trimmed};
@@ -24,8 +25,8 @@ ghost use Rattle.ranked_tree.specs.Subtrees.{KeepsRoots};
 use crate::events::Answer;
 use inboxes::Pins;
 use inode_table::Numbers;
-use mds_types::{Entry, Ino, Op, Rank, Refusal, Reply, Request};
-use namespace_ops::{Change, Frags, Plan, plan_op};
+use mds_types::{Entry, Ino, Rank, Refusal, Reply, Request};
+use namespace_ops::{Change, Frags, Places, Plan, plan_op};
 use objstore::Store;
 use ranked_tree::{RankedTree, went_with};
 use sessions::Sessions;
@@ -52,31 +53,32 @@ impl Prepared {
     }
 }
 
-/// Makes everything that applying an operation of a client needs: room for its entry in the history and for its reply in the
-/// sessions, its plan, the copies of its reply.
+/// Makes everything that applying a request needs, whose names lie there: room for its entry in the history and for its reply in
+/// the sessions, its plan, the copies of its reply.
 pub fn prepare<F: Frags>(
     alloc: Global,
     frags: &mut F,
     numbers: Numbers,
     sessions: &mut Sessions,
     history: &mut Vec<Entry>,
-    client: u64,
-    op: &Op,
+    request: &Request,
+    places: &Places,
 ) -> Result<Prepared, Refusal>
-    requires { IsOffered (F.content frags.old) F.IsNumber (offer numbers) }
-    ensures prepared { let outcome = step (F.content frags.old) op.now (number_or (offer numbers)) in
+    requires offered { IsOffered (F.content frags.old) F.IsNumber (offer numbers) }
+    requires located { AreLocated (F.content frags.old) (F.covers frags.old) (F.Holds frags.old) request.now.op places.now }
+    ensures prepared { let outcome = step (F.content frags.old) request.now.op (number_or (offer numbers)) in
         MatchResult result
-        (IsPrepared (F.content frags.old) (F.covers frags.old) (F.IsReady frags.new) op.now outcome numbers)
-        (IsRefused (F.content frags.old) (F.content frags.new) (F.MayRefuse frags.old frags.new op.now) outcome (offer numbers)) }
+        (IsPrepared (F.content frags.old) (F.covers frags.old) (F.IsReady frags.new) request.now.op outcome numbers)
+        (IsRefused (F.content frags.old) (F.content frags.new) (F.MayRefuse frags.old frags.new request.now.op) outcome (offer numbers)) }
     ensures room { OnOk result (vec_len history.new < vec_capacity history.new) }
-    ensures reserved { OnOk result (IsReady sessions.new client) }
+    ensures reserved { OnOk result (IsReady sessions.new request.now.client) }
     ensures past { history.new.items ≡ history.old.items }
     ensures known { table sessions.new ≡ table sessions.old }
-    ensures kept { KeepsAll (F.content frags.old) (F.content frags.new) (F.covers frags.old) (F.covers frags.new) (F.Follows frags.old frags.new op.now (result_err result)) }
+    ensures kept { KeepsAll (F.content frags.old) (F.content frags.new) (F.covers frags.old) (F.covers frags.new) (F.Follows frags.old frags.new request.now.op (result_err result)) }
 {
     history.reserve(1)?;
-    sessions.reserve(alloc, client)?;
-    let plan = plan_op(alloc, frags, op, numbers.peek())?;
+    sessions.reserve(alloc, request.client)?;
+    let plan = plan_op(alloc, frags, &request.op, *places, numbers.peek())?;
     match with_copies(plan, numbers) {
         Ok(prepared) => Ok(prepared),
         Err(_) => Err(Refusal::NoMemory),

@@ -15,7 +15,7 @@ ghost use Rattle.cluster_core.specs.Grants.{AreHeldAmong, FindsNone, GrantsWaiti
 use crate::events::Answer;
 use inboxes::{Inboxes, Pin, Pins};
 use mds_types::{Frag, Ino, Rank, Refusal};
-use namespace_ops::changes;
+use namespace_ops::{changes, locate};
 use objstore::Store;
 use ranked_tree::RankedTree;
 use std::alloc::{AllocError, Global};
@@ -42,7 +42,8 @@ pub fn grant_first<S: Store + Drop>(
     let Some(request) = inboxes.find(client, tid) else {
         return Err(Refusal::InboxEmpty)
     };
-    let changed = match changes(alloc, tree, &request.op) {
+    let places = locate(tree, rank, &request.op);
+    let changed = match changes(alloc, tree, &request.op, places) {
         Ok(changed) => changed,
         Err(refusal) => return Err(refusal),
     };

@@ -2,59 +2,38 @@
 ghost use Rattle.std.specs.Prelude.{◌≡◌, ◌≢◌, ◌↔◌, ◌⊎◌, Some, None, IsTrue, MatchBool, IfOk, IfErr};
 ghost use Rattle.mds_types.specs.declared.refusals.Refusal.TheVariants.{NoInodes, NoMemory};
 ghost use Rattle.mds_types.specs.declared.ids.Rank.{Rank as RankNumber};
-ghost use Rattle.std.specs.Option.{option_copied};
 ghost use Rattle.std.specs.Result.{result_err};
+ghost use Rattle.namespace_ops.specs.Places.{AreLocated};
 ghost use Rattle.mdcache.specs.Core.{state_of as tree_state};
+ghost use Rattle.mdcache.specs.Shown.{shown_tree};
 ghost use Rattle.ranked_tree.specs.Ranked.{KeepsRanked, MayRefuse};
-ghost use Rattle.cluster_core.specs.Master.{HasForeign, IsMasterIn, LacksGrantIn, MayTouchAllIn, MayTouchEach, MayTouchIn, changes_others, main_dentry, main_hash};
+ghost use Rattle.ranked_tree.specs.Subtrees.{HoldsAt};
+ghost use Rattle.cluster_core.specs.Master.{HasForeign, IsMasterIn, LacksGrantIn, MayTouchAllIn, MayTouchEach, MayTouchIn, changes_others, master_at};
 
 use inboxes::{Pin, Pins};
-use mds_types::{Dentry, Frag, Ino, Op, Rank, Refusal};
-use namehash::rjenkins;
-use namespace_ops::changes;
+use mds_types::{Dirfrag, Frag, Ino, Op, Rank, Refusal, Request};
+use namespace_ops::{Places, changes, locate};
 use objstore::Store;
 use ranked_tree::RankedTree;
 use std::alloc::Global;
 
-/// The master of an operation that a rank serves: the authority of its dentry's leaf, of a rename the destination's, of a
-/// readdir the directory's first. Where the directory isn't there, the rank itself. Takes no memory.
-pub fn master_of<S: Store + Drop>(tree: &RankedTree<S>, rank: Rank, op: &Op) -> Rank
-    ensures { IsMasterIn (tree_state tree.now.tree) tree.now.subtrees.roots rank op.now result }
+/// Where the names of an operation lie that a rank serves, and its master: the rank that holds its dentry's leaf, of a rename the
+/// destination's, of a readdir the directory's first. Where the directory isn't there, the rank itself. Takes no memory.
+pub fn locate_master<S: Store + Drop>(tree: &RankedTree<S>, rank: Rank, op: &Op) -> (Places, Rank)
+    ensures located { AreLocated (shown_tree (tree_state tree.now.tree)) tree.now.tree.covers (HoldsAt (tree_state tree.now.tree) tree.now.subtrees.roots) op.now result.0 }
+    ensures master { IsMasterIn (tree_state tree.now.tree) tree.now.subtrees.roots rank op.now result.1 }
 {
-    // The contract of `store` is what says here that the tree is sound.
-    let _ = tree.store();
-    match tree.locate(op.destination(), main_hash(op)) {
-        Some((_, master)) => master,
+    let places = locate(tree, rank, op);
+    (places, master_at(rank, places.main))
+}
+
+// The rank that holds the leaf which was found, or the one that serves.
+fn master_at(rank: Rank, found: Option<Dirfrag>) -> Rank
+    ensures { result ≡ master_at rank found }
+{
+    match found {
+        Some(at) => at.rank,
         None => rank,
-    }
-}
-
-// A hash that falls in the leaf which tells the master of an operation: that of its dentry's name, and the first one of a
-// readdir's directory.
-fn main_hash(op: &Op) -> u32
-    ensures { result ≡ main_hash op.now }
-{
-    match main_dentry(op) {
-        Some(dentry) => rjenkins(dentry.name.as_bytes()),
-        None => 0,
-    }
-}
-
-// The dentry whose leaf tells the master of an operation; a readdir has none.
-fn main_dentry(op: &Op) -> Option<&Dentry>
-    ensures { option_copied result ≡ main_dentry op.now }
-{
-    match op {
-        Op::Readdir { .. } => None,
-        Op::Lookup(dentry)
-        | Op::Readlink(dentry)
-        | Op::Create { dentry, .. }
-        | Op::Mkdir { dentry, .. }
-        | Op::Symlink { dentry, .. }
-        | Op::Setattr { dentry, .. }
-        | Op::Unlink(dentry)
-        | Op::Rmdir(dentry)
-        | Op::Rename { to: dentry, .. } => Some(dentry),
     }
 }
 
@@ -65,28 +44,28 @@ fn changes_others(op: &Op) -> bool
     matches!(op, Op::Rmdir(_) | Op::Rename { .. })
 }
 
-/// Whether a rank that is the master of an operation lacks a grant for it: it would change a leaf of another authority that
-/// isn't granted for this client and transaction number. Takes memory for the list of what would change, where that may be
-/// another leaf than its main one. Refused as a read is, and for want of memory; nothing changes either way.
+/// Whether a rank that is the master of a request lacks a grant for it: it would change a leaf of another authority that isn't
+/// granted for this request. `places` is where the names of its operation lie. Takes memory for the list of what would change,
+/// where that may be another leaf than its main one. Refused as a read is, and for want of memory; nothing changes either way.
 pub fn lacks_grant<S: Store + Drop>(
     alloc: Global,
     tree: &mut RankedTree<S>,
     pins: &Pins,
     rank: Rank,
-    client: u64,
-    tid: u64,
-    op: &Op,
+    request: &Request,
+    places: &Places,
 ) -> Result<bool, Refusal>
-    requires master { IsMasterIn (tree_state tree.old.tree) tree.old.subtrees.roots rank op.now rank }
-    ensures found { IfOk result (λ lacks. MatchBool lacks (LacksGrantIn (tree_state tree.old.tree) tree.old.subtrees.roots pins.now rank client tid op.now) (MayTouchAllIn (tree_state tree.old.tree) tree.old.subtrees.roots pins.now rank client tid op.now)) }
-    ensures refused { IfErr result (λ reason. (reason ≡ NoMemory) ⊎ ((reason ≢ NoInodes) × MayRefuse tree.old tree.new op.now reason)) }
-    ensures kept { KeepsRanked tree.old tree.new op.now (result_err result) }
+    requires master { IsMasterIn (tree_state tree.old.tree) tree.old.subtrees.roots rank request.now.op rank }
+    requires located { AreLocated (shown_tree (tree_state tree.old.tree)) tree.old.tree.covers (HoldsAt (tree_state tree.old.tree) tree.old.subtrees.roots) request.now.op places.now }
+    ensures found { IfOk result (λ lacks. MatchBool lacks (LacksGrantIn (tree_state tree.old.tree) tree.old.subtrees.roots pins.now rank request.now.client request.now.tid request.now.op) (MayTouchAllIn (tree_state tree.old.tree) tree.old.subtrees.roots pins.now rank request.now.client request.now.tid request.now.op)) }
+    ensures refused { IfErr result (λ reason. (reason ≡ NoMemory) ⊎ ((reason ≢ NoInodes) × MayRefuse tree.old tree.new request.now.op reason)) }
+    ensures kept { KeepsRanked tree.old tree.new request.now.op (result_err result) }
 {
-    if !changes_others(op) {
+    if !changes_others(&request.op) {
         return Ok(false);
     }
-    match changes(alloc, tree, op) {
-        Ok(leaves) => Ok(any_lacks(tree, pins, rank, client, tid, &leaves)),
+    match changes(alloc, tree, &request.op, *places) {
+        Ok(leaves) => Ok(any_lacks(tree, pins, rank, request.client, request.tid, &leaves)),
         Err(refusal) => Err(refusal),
     }
 }

@@ -8,6 +8,7 @@ ghost use Rattle.mds_types.specs.declared.requests.Request.{Request as Waiting};
 ghost use Rattle.inboxes.specs.Inboxes.{waiting_at};
 ghost use Rattle.inode_table.specs.Numbers.{offer};
 ghost use Rattle.namespace_ops.specs.Changes.{IsOffered};
+ghost use Rattle.namespace_ops.specs.Places.{AreLocated};
 ghost use Rattle.sessions.specs.Table.{IsTableOf};
 ghost use Rattle.sessions.specs.Rooms.{IsReady, table};
 ghost use Rattle.dirfrag_codec.specs.EntryRecord.{IsRankNumber};
@@ -19,14 +20,15 @@ ghost use Rattle.cluster_core.specs.Master.{AreMastersThere, IsMasterIn};
 ghost use Rattle.cluster_core.specs.Prepared.{IsMadeReady};
 ghost use Rattle.cluster_core.specs.Uses.{ReadsOp, UsesFront};
 ghost use Rattle.ranked_tree.specs.Ranked.{IsReady as IsReadyIn, MayRefuse};
-ghost use Rattle.ranked_tree.specs.Subtrees.{AreRoots, KeepsRoots};
+ghost use Rattle.ranked_tree.specs.Subtrees.{AreRoots, HoldsAt, KeepsRoots};
 
 use crate::applying::{Prepared, commit, prepare};
 use crate::events::Answer;
-use crate::masters::{lacks_grant, master_of};
+use crate::masters::{lacks_grant, locate_master};
 use inboxes::{Inboxes, Pins};
 use inode_table::Numbers;
 use mds_types::{Entry, Rank, Refusal, Reply, Request};
+use namespace_ops::Places;
 use objstore::Store;
 use ranked_tree::RankedTree;
 use sessions::{Seen, Sessions};
@@ -97,12 +99,14 @@ fn serve_new<S: Store + Drop>(
     let Some(front) = inboxes.front(rank) else {
         return Err(Refusal::InboxEmpty)
     };
-    let master = master_of(tree, rank, &front.op);
+    let (places, master) = locate_master(tree, rank, &front.op);
     if !is_same(master, rank) {
         return forward(inboxes, rank, master);
     }
     let supply = supply_of(numbers, rank);
-    match make_ready(alloc, tree, pins, supply, sessions, history, rank, front) {
+    match make_ready(
+        alloc, tree, pins, supply, sessions, history, rank, front, &places,
+    ) {
         Ok(Some(prepared)) => {
             let Some(request) = inboxes.take(rank) else {
                 unreachable!()
@@ -133,9 +137,11 @@ fn make_ready<S: Store + Drop>(
     history: &mut Vec<Entry>,
     rank: Rank,
     request: &Request,
+    places: &Places,
 ) -> Result<Option<Prepared>, Refusal>
     requires offered { IsOffered (shown_tree (tree_state tree.old.tree)) (λ n. IsRankNumber n) (offer supply) }
     requires master { IsMasterIn (tree_state tree.old.tree) tree.old.subtrees.roots rank request.now.op rank }
+    requires located { AreLocated (shown_tree (tree_state tree.old.tree)) tree.old.tree.covers (HoldsAt (tree_state tree.old.tree) tree.old.subtrees.roots) request.now.op places.now }
     ensures ready { IsMadeReady (tree_state tree.old.tree) tree.old.subtrees.roots pins.now supply rank request.now (IsReadyIn tree.new) (MayRefuse tree.old tree.new request.now.op) result }
     ensures room { IfOk result (λ made. IfSome made (λ prepared. vec_len history.new < vec_capacity history.new)) }
     ensures reserved { IfOk result (λ made. IfSome made (λ prepared. IsReady sessions.new request.now.client)) }
@@ -148,28 +154,12 @@ fn make_ready<S: Store + Drop>(
     ensures cap { tree.new.tree.caches.cap ≡ tree.old.tree.caches.cap }
     ensures counted { tree.new.tree.faults ≡ tree.old.tree.faults + faults_told (result_err result) }
 {
-    match lacks_grant(
-        alloc,
-        tree,
-        pins,
-        rank,
-        request.client,
-        request.tid,
-        &request.op,
-    ) {
+    match lacks_grant(alloc, tree, pins, rank, request, places) {
         Err(refusal) => return Err(refusal),
         Ok(true) => return Ok(None),
         Ok(false) => {}
     }
-    match prepare(
-        alloc,
-        tree,
-        supply,
-        sessions,
-        history,
-        request.client,
-        &request.op,
-    ) {
+    match prepare(alloc, tree, supply, sessions, history, request, places) {
         Err(refusal) => Err(refusal),
         Ok(prepared) => Ok(Some(prepared)),
     }

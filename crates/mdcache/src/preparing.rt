@@ -57,7 +57,7 @@ impl<S: Store + Drop> MdCache<S> {
         ensures reads { ReadsCore (IsNamedIn (Add spot.now inode.now)) (IsKeptFor self.old.caches) self.old self.new }
         ensures sound { IsSoundCore self.new }
         ensures counted { self.new.faults ≡ self.old.faults + faults_told (result_err result) }
-        ensures refused { IfErr result (MayNotBeReady (LacksToMake (Add spot.now inode.now) (state_of self.old)) (LacksPlacesOf self.old change.now) self.old.faults self.new.faults) }
+        ensures refused { IfErr result (MayNotBeReady (LacksToMake (Add spot.now inode.now) (state_of self.old)) (LacksPlacesOf self.old (Add spot.now inode.now)) self.old.faults self.new.faults) }
     {
         has_parts(inode);
         if inode.kind.is_dir() {
@@ -75,7 +75,7 @@ impl<S: Store + Drop> MdCache<S> {
         ensures reads { ReadsCore (IsNamedIn (Set spot.now inode.now)) (IsKeptFor self.old.caches) self.old self.new }
         ensures sound { IsSoundCore self.new }
         ensures counted { self.new.faults ≡ self.old.faults + faults_told (result_err result) }
-        ensures refused { IfErr result (MayNotBeReady (LacksToMake (Set spot.now inode.now) (state_of self.old)) (LacksPlacesOf self.old change.now) self.old.faults self.new.faults) }
+        ensures refused { IfErr result (MayNotBeReady (LacksToMake (Set spot.now inode.now) (state_of self.old)) (LacksPlacesOf self.old (Set spot.now inode.now)) self.old.faults self.new.faults) }
     {
         has_parts(inode);
         self.ready_set(alloc, spot)
@@ -95,7 +95,7 @@ impl<S: Store + Drop> MdCache<S> {
         ensures reads { ReadsCore (IsNamedIn (Remove spot.now gone)) (IsKeptFor self.old.caches) self.old self.new }
         ensures sound { IsSoundCore self.new }
         ensures counted { self.new.faults ≡ self.old.faults + faults_told (result_err result) }
-        ensures refused { IfErr result (MayNotBeReady (LacksToMake (Remove spot.now gone) (state_of self.old)) (LacksPlacesOf self.old change.now) self.old.faults self.new.faults) }
+        ensures refused { IfErr result (MayNotBeReady (LacksToMake (Remove spot.now gone) (state_of self.old)) (LacksPlacesOf self.old (Remove spot.now gone)) self.old.faults self.new.faults) }
     {
         self.ready_removal(alloc, &spot.at, gone)
     }
@@ -115,7 +115,7 @@ impl<S: Store + Drop> MdCache<S> {
         ensures reads { ReadsCore (IsNamedIn (Move from.now to.now gone)) (IsKeptFor self.old.caches) self.old self.new }
         ensures sound { IsSoundCore self.new }
         ensures counted { self.new.faults ≡ self.old.faults + faults_told (result_err result) }
-        ensures refused { IfErr result (MayNotBeReady (LacksToMake (Move from.now to.now gone) (state_of self.old)) (LacksPlacesOf self.old change.now) self.old.faults self.new.faults) }
+        ensures refused { IfErr result (MayNotBeReady (LacksToMake (Move from.now to.now gone) (state_of self.old)) (LacksPlacesOf self.old (Move from.now to.now gone)) self.old.faults self.new.faults) }
     {
         self.ready_move(alloc, from, to, gone)
     }

@@ -6,7 +6,7 @@ use Rattle.mds_types.specs.declared.ids.Rank.{Rank}
 use Rattle.mds_types.specs.declared.operations.Op.{Op}
 use Rattle.mds_types.specs.declared.refusals.Refusal.{Refusal}
 use Rattle.mds_types.specs.Frag.{Fragment}
-use Rattle.mds_types.specs.Leaf.{Leaf}
+use Rattle.mds_types.specs.Leaf.{Leaf, leaf_of}
 use Rattle.mds_types.specs.Tree.{is_directory}
 use Rattle.fragtree.specs.FragTree.{HasLeaf}
 use Rattle.inode_table.specs.Dirs.{IsLive, is_known, leaves_of}
@@ -15,7 +15,6 @@ use Rattle.namespace_ops.specs.Changes.{Concerns}
 use Rattle.namespace_ops.specs.declared.plans.Change.{Change}
 use Rattle.namespace_ops.specs.declared.plans.Change.TheVariants.{Add, Set, Remove, Move}
 use Rattle.mdcache.specs.Core.{Core, state_of}
-use Rattle.mdcache.specs.declared.holders.Holders.{Holders}
 use Rattle.mdcache.specs.Frags.{KeepsState, LacksPlacesOf}
 use Rattle.mdcache.specs.Core.{LacksPlacesAt}
 use Rattle.mdcache.specs.Reads.{MayNotFind}
@@ -25,7 +24,7 @@ use Rattle.mdcache.specs.Sound.{IsSound}
 use Rattle.mdcache.specs.State.{State as TreeState}
 use Rattle.mdcache.proofs.FragsLaws.{lacked_at, refused_later}
 use Rattle.subtree_map.specs.Authority.{Roots}
-use Rattle.ranked_tree.specs.Held.{AreHolders, LacksPlacesAsked, LacksPlacesDir, LacksPlacesFor, NamesDir, first_named, second_named}
+use Rattle.ranked_tree.specs.Held.{AreHeldAt, LacksPlacesAsked, LacksPlacesDir, LacksPlacesFor, NamesDir}
 use Rattle.ranked_tree.specs.Ranked.{KeepsRanked, MayRefuse, Ranked}
 use Rattle.ranked_tree.specs.Subtrees.{Rules}
 
@@ -83,30 +82,24 @@ ranked_later a b c op reason kept because =
 
 -- ---- why a change isn't made ready
 
-first_dir : (change : Change) → NamesDir change (first_named change).0.0
-first_dir (Add dentry leaf inode) = refl
-first_dir (Set dentry leaf inode) = refl
-first_dir (Remove dentry leaf went) = refl
-first_dir (Move from source to target went) = inl refl
-
-second_dir : (change : Change) → NamesDir change (second_named change).0.0
-second_dir (Add dentry leaf inode) = refl
-second_dir (Set dentry leaf inode) = refl
-second_dir (Remove dentry leaf went) = refl
-second_dir (Move from source to target went) = inr refl
-
 -- what lacks at the ranks that hold the leaves of a change
-pub told_change : (X Lacks : Type 0) (result : Result X Refusal) (old : Core) (roots : Roots) (at : Holders) (change : Change) (after : ℕ) → AreHolders (state_of old) roots at change
-    → IfErr result (MayNotBeReady Lacks (LacksPlacesOf old at) old.faults after) → IfErr result (MayNotBeReady Lacks (LacksPlacesAsked 2 old roots (NamesDir change)) old.faults after)
-told_change X Lacks (Ok x) old roots at change after holders h = tt
-told_change X Lacks (Err reason) old roots at change after holders h = go h
+lacks_asked : (old : Core) (roots : Roots) (change : Change) → AreHeldAt (state_of old) roots change → LacksPlacesOf old change → LacksPlacesAsked 2 old roots (NamesDir change)
+lacks_asked old roots (Add spot inode) held lacks = (leaf_of spot.at, refl, (spot.at.rank, held, lacks))
+lacks_asked old roots (Set spot inode) held lacks = (leaf_of spot.at, refl, (spot.at.rank, held, lacks))
+lacks_asked old roots (Remove spot went) held lacks = (leaf_of spot.at, refl, (spot.at.rank, held, lacks))
+lacks_asked old roots (Move source target went) held (inl lacks) = (leaf_of source.at, inl refl, (source.at.rank, held.0, lacks))
+lacks_asked old roots (Move source target went) held (inr lacks) = (leaf_of target.at, inr refl, (target.at.rank, held.1, lacks))
+
+pub told_change : (X Lacks : Type 0) (result : Result X Refusal) (old : Core) (roots : Roots) (change : Change) (after : ℕ) → AreHeldAt (state_of old) roots change → IfErr result (MayNotBeReady Lacks (LacksPlacesOf old change) old.faults after)
+    → IfErr result (MayNotBeReady Lacks (LacksPlacesAsked 2 old roots (NamesDir change)) old.faults after)
+told_change X Lacks (Ok x) old roots change after held h = tt
+told_change X Lacks (Err reason) old roots change after held h = go h
   where
-    go : MayNotBeReady Lacks (LacksPlacesOf old at) old.faults after reason → MayNotBeReady Lacks (LacksPlacesAsked 2 old roots (NamesDir change)) old.faults after reason
+    go : MayNotBeReady Lacks (LacksPlacesOf old change) old.faults after reason → MayNotBeReady Lacks (LacksPlacesAsked 2 old roots (NamesDir change)) old.faults after reason
     go (inl numbers) = inl numbers
     go (inr (none, inl memory)) = inr (none, inl memory)
     go (inr (none, inr (inl fault))) = inr (none, inr (inl fault))
-    go (inr (none, inr (inr (is, inl lacks)))) = inr (none, inr (inr (is, (first_named change, first_dir change, (at.first, holders.first, lacks)))))
-    go (inr (none, inr (inr (is, inr lacks)))) = inr (none, inr (inr (is, (second_named change, second_dir change, (at.second, holders.second, lacks)))))
+    go (inr (none, inr (inr (is, lacks)))) = inr (none, inr (inr (is, lacks_asked old roots change held lacks)))
 
 -- ---- what is still so
 

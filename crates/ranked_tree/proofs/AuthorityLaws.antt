@@ -1,15 +1,18 @@
 -- Whose a leaf is that was found.
-use Rattle.std.proofs.Common.{◌≡◌, ◌↔◌, ◌∙◌, ℕ, sym, Bool, true, false, Option, Some, None, IsTrue, MatchOption, ap, subst}
+use Rattle.std.proofs.Common.{◌≡◌, ◌↔◌, ◌∙◌, ℕ, refl, sym, Bool, true, false, Option, Some, None, IsTrue, MatchOption, ap, subst}
 use Rattle.std.proofs.lemmas.Option.{none-some, same_Some}
 use Rattle.mds_types.specs.declared.ids.Rank.{Rank}
 use Rattle.mds_types.specs.declared.ids.Ino.{Ino}
 use Rattle.mds_types.specs.Frag.{Fragment}
 use Rattle.mds_types.specs.Tree.{is_directory}
-use Rattle.inode_table.specs.Dirs.{Covers, Homes, is_known}
+use Rattle.fragtree.specs.FragTree.{HasLeaf}
+use Rattle.inode_table.specs.Dirs.{Covers, Homes, IsLive, is_known, leaves_of}
 use Rattle.inode_table.proofs.TableLaws.{known_is}
 use Rattle.mdcache.specs.Core.{Core, state_of}
 use Rattle.mdcache.specs.Shown.{shown_tree}
 use Rattle.ranked_tree.specs.Held.{IsOwned}
+use Rattle.ranked_tree.specs.Subtrees.{HoldsAt}
+use Rattle.namespace_ops.specs.Places.{IsAt}
 use Rattle.subtree_map.specs.Authority.{HasAuthority, IsLocated, Leaf, Roots}
 use Rattle.subtree_map.proofs.Nearest.{one_authority}
 
@@ -23,9 +26,18 @@ authority_is roots homes covers leaf rank (Some its) same there back tells = (
 )
 
 -- where a hash falls, told of the directory table, is told of the tree
-pub located : (core : Core) (roots : Roots) → IsOwned core roots → (dir : Ino) (hash : ℕ) (found : Option (Fragment × Rank)) (homes : Homes) (covers : Covers) → homes ≡ core.homes → covers ≡ core.covers
-    → MatchOption found (is_known homes dir.0 ≡ false) (λ at. IsLocated roots homes covers dir hash at.0 at.1)
-    → MatchOption found (is_directory (shown_tree (state_of core)) dir.0 ≡ false) (λ at. IsLocated roots core.homes core.covers dir hash at.0 at.1)
-located core roots owned dir hash None homes covers same alike h = sym (known_is (shown_tree (state_of core)) core.homes owned.sound.sound.tabled dir.0) ∙ subst (λ (hs : Homes). is_known hs dir.0 ≡ false) same h
-located core roots owned dir hash (Some at) homes covers same alike h =
-    subst (λ (cs : Covers). IsLocated roots core.homes cs dir hash at.0 at.1) alike (subst (λ (hs : Homes). IsLocated roots hs covers dir hash at.0 at.1) same h)
+module _ (core : Core) (roots : Roots) (owned : IsOwned core roots) (dir : Ino) (hash : ℕ) (homes : Homes) (covers : Covers) (same : homes ≡ core.homes) (alike : covers ≡ core.covers) where
+  pub nowhere : is_known homes dir.0 ≡ false → is_directory (shown_tree (state_of core)) dir.0 ≡ false
+  nowhere none = sym (known_is (shown_tree (state_of core)) core.homes owned.sound.sound.tabled dir.0) ∙ subst (λ (hs : Homes). is_known hs dir.0 ≡ false) same none
+
+  pub there : (frag : Fragment) (rank : Rank) → IsLocated roots homes covers dir hash frag rank → IsAt (shown_tree (state_of core)) core.covers (HoldsAt (state_of core) roots) dir.0 hash (record { dir = dir; frag = frag; rank = rank })
+  there frag rank is =
+      let now = subst (λ (cs : Covers). IsLocated roots core.homes cs dir hash frag rank) alike (subst (λ (hs : Homes). IsLocated roots hs covers dir hash frag rank) same is) in
+      record { dir = refl; stands = sym (known_is (shown_tree (state_of core)) core.homes owned.sound.sound.tabled dir.0) ∙ now.known; leaf = now.pick; held = now.has }
+
+-- the authority of a leaf, found by the hash that its value is
+pub leaf_authority : (roots : Roots) (homes : Homes) (covers : Covers) (dir : Ino) (frag found : Fragment) (rank : Rank) → found ≡ frag → IsLocated roots homes covers dir frag.value found rank → IsLive homes covers (dir, frag) × HasAuthority roots homes covers (dir, frag) rank
+leaf_authority roots homes covers dir frag found rank same is = (
+  record { known = is.known; stands = subst (HasLeaf (leaves_of covers dir.0)) same is.pick.stands },
+  subst (λ (f : Fragment). HasAuthority roots homes covers (dir, f) rank) same is.has,
+)

@@ -10,19 +10,18 @@ use Rattle.inode_table.proofs.TableLaws.{known_is}
 use Rattle.dentry_cache.specs.Came.{Came}
 use Rattle.dentry_cache.proofs.FrameLaws.{came_weaker}
 use Rattle.namespace_ops.specs.ChangedFragments.{gone_with}
-use Rattle.namespace_ops.specs.Changes.{MayChange}
+use Rattle.namespace_ops.specs.Changes.{MayChange, dentry_at}
 use Rattle.namespace_ops.specs.declared.plans.Change.{Change}
 use Rattle.namespace_ops.specs.declared.plans.Change.TheVariants.{Add, Set, Remove, Move}
 use Rattle.subtree_map.specs.Authority.{Leaf, Roots}
 use Rattle.mdcache.specs.Changes.{Makes}
 use Rattle.mdcache.specs.Core.{Core, state_of}
-use Rattle.mdcache.specs.declared.holders.Holders.{Holders}
 use Rattle.mdcache.specs.Going.{rows_but}
 use Rattle.mdcache.specs.Ranks.{EndsWith, IsNamedIn}
 use Rattle.mdcache.specs.Shown.{shown_tree}
 use Rattle.mdcache.specs.Sound.{IsSound}
 use Rattle.mdcache.specs.State.{State as TreeState}
-use Rattle.ranked_tree.specs.Held.{AreHolders, AsksFor, CameFor, IsGone, NamesDir}
+use Rattle.ranked_tree.specs.Held.{AreHeldAt, AsksFor, CameFor, IsGone, NamesDir}
 use Rattle.ranked_tree.proofs.ChangedTables.{moved_tables, removed_tables}
 use Rattle.ranked_tree.proofs.MoveLaws.{replaces}
 use Rattle.ranked_tree.proofs.ReadsForLaws.{asks_change}
@@ -39,20 +38,20 @@ row_gone homes (Some d) dir may is =
 
 -- the directory that went with a change isn't known then
 gone_unknown : (change : Change) (old new : TreeState) → IsSound old → MayChange (shown_tree old) old.covers change → Makes change old new → (dir : Ino) → gone_with change ≡ Some dir → is_known new.homes dir.0 ≡ false
-gone_unknown (Add dentry leaf inode) old new sound may makes dir is = let clash : None ≡ Some dir = is in absurd cc
-gone_unknown (Set dentry leaf inode) old new sound may makes dir is = let clash : None ≡ Some dir = is in absurd cc
-gone_unknown (Remove dentry leaf went) old new sound may makes dir is =
-    let tables = removed_tables old new dentry leaf went makes in
-    subst (λ (h : Homes). is_known h dir.0 ≡ false) (sym tables.0) (row_gone old.homes went dir (removable old dentry leaf went sound may) is)
-gone_unknown (Move from source to target went) old new sound may makes dir is =
-    let tables = moved_tables old new from to source target went makes in
-    subst (λ (h : Homes). is_known h dir.0 ≡ false) (sym tables.0) (row_gone (with_home old.homes to makes.0) went dir (replaces old sound from to source target makes.0 went may makes.1) is)
+gone_unknown (Add spot inode) old new sound may makes dir is = let clash : None ≡ Some dir = is in absurd cc
+gone_unknown (Set spot inode) old new sound may makes dir is = let clash : None ≡ Some dir = is in absurd cc
+gone_unknown (Remove spot went) old new sound may makes dir is =
+    let tables = removed_tables old new spot went makes in
+    subst (λ (h : Homes). is_known h dir.0 ≡ false) (sym tables.0) (row_gone old.homes went dir (removable old spot went sound may) is)
+gone_unknown (Move source target went) old new sound may makes dir is =
+    let tables = moved_tables old new source target went makes in
+    subst (λ (h : Homes). is_known h dir.0 ≡ false) (sym tables.0) (row_gone (with_home old.homes (dentry_at target) makes.0) went dir (replaces old sound source target makes.0 went may makes.1) is)
 
 -- the leaves that a change names, each at its rank, and those of the directory that went
-pub came_for : (old new : Core) (roots : Roots) (at : Holders) (change : Change) → IsSound (state_of old) → IsSound (state_of new) → MayChange (shown_tree (state_of old)) old.covers change → AreHolders (state_of old) roots at change
-    → Makes change (state_of old) (state_of new) → Came (IsNamedIn at change) (EndsWith change) old.caches new.caches → CameFor roots change old new
-came_for old new roots at change sound now may holders makes came =
-    came_weaker (IsNamedIn at change) (EndsWith change) (AsksFor (state_of old) roots (NamesDir change)) (IsGone (shown_tree (state_of new))) (asks_change old roots at change sound may holders) gone old.caches new.caches came
+pub came_for : (old new : Core) (roots : Roots) (change : Change) → IsSound (state_of old) → IsSound (state_of new) → MayChange (shown_tree (state_of old)) old.covers change → AreHeldAt (state_of old) roots change
+    → Makes change (state_of old) (state_of new) → Came (IsNamedIn change) (EndsWith change) old.caches new.caches → CameFor roots change old new
+came_for old new roots change sound now may holders makes came =
+    came_weaker (IsNamedIn change) (EndsWith change) (AsksFor (state_of old) roots (NamesDir change)) (IsGone (shown_tree (state_of new))) (asks_change old roots change sound may holders) gone old.caches new.caches came
   where
     gone : (r : ℕ) (q : Leaf) → EndsWith change r q → IsGone (shown_tree (state_of new)) r q
     gone r q ends = sym (known_is (shown_tree (state_of new)) new.homes now.tabled q.0.0) ∙ gone_unknown change (state_of old) (state_of new) sound may makes q.0 ends

@@ -1,7 +1,8 @@
 -- What calls for an operation keep, and why they are refused, in the words of the operation.
-use Rattle.std.specs.Prelude.{◌≡◌, ℕ, true, false, Option, None, Result, Ok, Err, IfErr}
+use Rattle.std.specs.Prelude.{◌≡◌, ◌↔◌, ℕ, true, false, Option, None, Result, Ok, Err, IfErr}
 use Rattle.std.proofs.Common.{inl, inr, refl, sym, ap, subst, ◌∙◌}
 use Rattle.std.specs.Result.{result_err}
+use Rattle.mds_types.specs.declared.dirfrags.Dirfrag.{Dirfrag}
 use Rattle.mds_types.specs.declared.ids.Ino.{Ino}
 use Rattle.mds_types.specs.declared.ids.Rank.{Rank}
 use Rattle.mds_types.specs.declared.operations.Op.{Op}
@@ -26,7 +27,7 @@ use Rattle.mdcache.specs.Shown.{shown_tree}
 use Rattle.mdcache.specs.State.{State as TreeState}
 use Rattle.mdcache.proofs.FragsLaws.{keeps_on, keeps_refused, lacked_asked, refused_later}
 use Rattle.ranked_tree.specs.Held.{AnyPlace, AsksFor, LacksPlacesAsked, LacksPlacesDir, LacksPlacesFor, NamesDir, ReadsFor}
-use Rattle.ranked_tree.specs.Subtrees.{Rules}
+use Rattle.ranked_tree.specs.Subtrees.{HoldsAt, Rules}
 use Rattle.ranked_tree.specs.Ranked.{KeepsRanked, MayRefuse, Ranked}
 use Rattle.ranked_tree.proofs.AskLaws.{asked_dir, asked_for}
 use Rattle.ranked_tree.proofs.ReadsForLaws.{change_concerns, reads_less}
@@ -44,6 +45,13 @@ kept_on a b c op told p q = record {
       (subst (λ (s : TreeState). Reads (AsksFor s a.subtrees.roots (Concerns (shown_tree s) op)) AnyPlace s.objects b.tree.caches c.tree.caches) p.tree.state
       (subst (λ (r : Roots). ReadsFor r (Concerns (shown_tree (state_of b.tree)) op) b.tree c.tree) p.roots q.reads));
 }
+
+-- calls leave each leaf to the rank that holds it
+pub held_both : (a b : Ranked) (op : Op) (told : Option Refusal) (at : Dirfrag) → KeepsRanked a b op told → HoldsAt (state_of a.tree) a.subtrees.roots at ↔ HoldsAt (state_of b.tree) b.subtrees.roots at
+held_both a b op told at kept = (
+  λ holds. subst (λ (r : Roots). HoldsAt (state_of b.tree) r at) (sym kept.roots) (subst (λ (s : TreeState). HoldsAt s a.subtrees.roots at) (sym kept.tree.state) holds),
+  λ holds. subst (λ (r : Roots). HoldsAt (state_of a.tree) r at) kept.roots (subst (λ (s : TreeState). HoldsAt s b.subtrees.roots at) kept.tree.state holds),
+)
 
 -- a refusal after another call is one before it: its places lacked there too
 pub refused_then : (a b c : Ranked) (op : Op) (reason : Refusal) → KeepsRanked a b op None → MayRefuse b c op reason → MayRefuse a c op reason
@@ -93,37 +101,37 @@ numbers_lack : (s : TreeState) (op : Op) (change : Change) → IsChangeOf op cha
 numbers_lack s (Lookup dentry) change of lacks = absurd of
 numbers_lack s (Readdir dir after max) change of lacks = absurd of
 numbers_lack s (Readlink dentry) change of lacks = absurd of
-numbers_lack s (Create dentry mode mtime) (Add p leaf inode) of (inl lacks) = lacks
-numbers_lack s (Create dentry mode mtime) (Add p leaf inode) of (inr (kinded, lacks)) = let clash : true ≡ false = sym kinded ∙ ap is_dir_kind of.1 in absurd cc
-numbers_lack s (Create dentry mode mtime) (Set p leaf inode) of lacks = absurd of
-numbers_lack s (Create dentry mode mtime) (Remove p leaf went) of lacks = absurd of
-numbers_lack s (Create dentry mode mtime) (Move here source there target went) of lacks = absurd of
-numbers_lack s (Mkdir dentry mode mtime) (Add p leaf inode) of (inl lacks) = inl lacks
-numbers_lack s (Mkdir dentry mode mtime) (Add p leaf inode) of (inr (kinded, lacks)) = inr lacks
-numbers_lack s (Mkdir dentry mode mtime) (Set p leaf inode) of lacks = absurd of
-numbers_lack s (Mkdir dentry mode mtime) (Remove p leaf went) of lacks = absurd of
-numbers_lack s (Mkdir dentry mode mtime) (Move here source there target went) of lacks = absurd of
-numbers_lack s (Symlink dentry text mtime) (Add p leaf inode) of (inl lacks) = lacks
-numbers_lack s (Symlink dentry text mtime) (Add p leaf inode) of (inr (kinded, lacks)) = let clash : true ≡ false = sym kinded ∙ ap is_dir_kind of.1 in absurd cc
-numbers_lack s (Symlink dentry text mtime) (Set p leaf inode) of lacks = absurd of
-numbers_lack s (Symlink dentry text mtime) (Remove p leaf went) of lacks = absurd of
-numbers_lack s (Symlink dentry text mtime) (Move here source there target went) of lacks = absurd of
-numbers_lack s (Setattr dentry given) (Add p leaf inode) of lacks = absurd of
-numbers_lack s (Setattr dentry given) (Set p leaf inode) of lacks = lacks
-numbers_lack s (Setattr dentry given) (Remove p leaf went) of lacks = absurd of
-numbers_lack s (Setattr dentry given) (Move here source there target went) of lacks = absurd of
-numbers_lack s (Unlink dentry) (Add p leaf inode) of lacks = absurd of
-numbers_lack s (Unlink dentry) (Set p leaf inode) of lacks = absurd of
-numbers_lack s (Unlink dentry) (Remove p leaf went) of lacks = lacks
-numbers_lack s (Unlink dentry) (Move here source there target went) of lacks = absurd of
-numbers_lack s (Rmdir dentry) (Add p leaf inode) of lacks = absurd of
-numbers_lack s (Rmdir dentry) (Set p leaf inode) of lacks = absurd of
-numbers_lack s (Rmdir dentry) (Remove p leaf went) of lacks = lacks
-numbers_lack s (Rmdir dentry) (Move here source there target went) of lacks = absurd of
-numbers_lack s (Rename from to) (Add p leaf inode) of lacks = absurd of
-numbers_lack s (Rename from to) (Set p leaf inode) of lacks = absurd of
-numbers_lack s (Rename from to) (Remove p leaf went) of lacks = absurd of
-numbers_lack s (Rename from to) (Move here source there target went) of lacks = lacks
+numbers_lack s (Create dentry mode mtime) (Add spot inode) of (inl lacks) = lacks
+numbers_lack s (Create dentry mode mtime) (Add spot inode) of (inr (kinded, lacks)) = let clash : true ≡ false = sym kinded ∙ ap is_dir_kind of.1 in absurd cc
+numbers_lack s (Create dentry mode mtime) (Set spot inode) of lacks = absurd of
+numbers_lack s (Create dentry mode mtime) (Remove spot went) of lacks = absurd of
+numbers_lack s (Create dentry mode mtime) (Move here there went) of lacks = absurd of
+numbers_lack s (Mkdir dentry mode mtime) (Add spot inode) of (inl lacks) = inl lacks
+numbers_lack s (Mkdir dentry mode mtime) (Add spot inode) of (inr (kinded, lacks)) = inr lacks
+numbers_lack s (Mkdir dentry mode mtime) (Set spot inode) of lacks = absurd of
+numbers_lack s (Mkdir dentry mode mtime) (Remove spot went) of lacks = absurd of
+numbers_lack s (Mkdir dentry mode mtime) (Move here there went) of lacks = absurd of
+numbers_lack s (Symlink dentry text mtime) (Add spot inode) of (inl lacks) = lacks
+numbers_lack s (Symlink dentry text mtime) (Add spot inode) of (inr (kinded, lacks)) = let clash : true ≡ false = sym kinded ∙ ap is_dir_kind of.1 in absurd cc
+numbers_lack s (Symlink dentry text mtime) (Set spot inode) of lacks = absurd of
+numbers_lack s (Symlink dentry text mtime) (Remove spot went) of lacks = absurd of
+numbers_lack s (Symlink dentry text mtime) (Move here there went) of lacks = absurd of
+numbers_lack s (Setattr dentry given) (Add spot inode) of lacks = absurd of
+numbers_lack s (Setattr dentry given) (Set spot inode) of lacks = lacks
+numbers_lack s (Setattr dentry given) (Remove spot went) of lacks = absurd of
+numbers_lack s (Setattr dentry given) (Move here there went) of lacks = absurd of
+numbers_lack s (Unlink dentry) (Add spot inode) of lacks = absurd of
+numbers_lack s (Unlink dentry) (Set spot inode) of lacks = absurd of
+numbers_lack s (Unlink dentry) (Remove spot went) of lacks = lacks
+numbers_lack s (Unlink dentry) (Move here there went) of lacks = absurd of
+numbers_lack s (Rmdir dentry) (Add spot inode) of lacks = absurd of
+numbers_lack s (Rmdir dentry) (Set spot inode) of lacks = absurd of
+numbers_lack s (Rmdir dentry) (Remove spot went) of lacks = lacks
+numbers_lack s (Rmdir dentry) (Move here there went) of lacks = absurd of
+numbers_lack s (Rename from to) (Add spot inode) of lacks = absurd of
+numbers_lack s (Rename from to) (Set spot inode) of lacks = absurd of
+numbers_lack s (Rename from to) (Remove spot went) of lacks = absurd of
+numbers_lack s (Rename from to) (Move here there went) of lacks = lacks
 
 -- ---- a change is made ready
 

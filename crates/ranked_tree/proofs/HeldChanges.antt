@@ -12,6 +12,8 @@ use Rattle.fragtree.specs.FragTree.{HasLeaf, IsPick}
 use Rattle.fragtree.proofs.TreeLaws.{only_leaf}
 use Rattle.namehash.specs.Rjenkins.{hash_of}
 use Rattle.sorted_map.proofs.NatKeys as nat
+use Rattle.mds_types.specs.Leaf.{leaf_of}
+use Rattle.mds_types.specs.declared.dirfrags.Dirfrag.{Dirfrag}
 use Rattle.inode_table.specs.declared.dirs.Home.{Home}
 use Rattle.inode_table.specs.Dirs.{Covers, Homes, IsLive, IsTable, MayCome, MayGo, is_known, leaves_of, or_whole}
 use Rattle.inode_table.specs.TreeTable.{home_at, with_home}
@@ -20,26 +22,26 @@ use Rattle.inode_table.proofs.TableLaws.{may_come}
 use Rattle.dentry_cache.specs.CacheMap.{At}
 use Rattle.dentry_cache.specs.Came.{Came, IsThat}
 use Rattle.dentry_cache.proofs.FrameLaws.{came_held, came_ranks}
-use Rattle.namespace_ops.specs.Changes.{MayChange}
+use Rattle.namespace_ops.specs.Changes.{MayChange, dentry_at}
 use Rattle.namespace_ops.specs.declared.plans.Change.{Change}
 use Rattle.namespace_ops.specs.declared.plans.Change.TheVariants.{Add, Set, Remove, Move}
+use Rattle.namespace_ops.specs.declared.plans.Spot.{Spot}
 use Rattle.subtree_map.specs.Authority.{Leaf, Roots, inherited}
 use Rattle.mdcache.specs.Core.{Core, IsSoundCore, shown_in, state_of}
 use Rattle.mdcache.specs.Changes.{Makes, first_leaf}
 use Rattle.mdcache.specs.Going.{rows_but}
 use Rattle.mdcache.specs.Ranks.{EndsWith, IsNamedIn}
-use Rattle.mdcache.specs.declared.holders.Holders.{Holders}
 use Rattle.mdcache.specs.Shown.{shown_tree}
 use Rattle.mdcache.specs.Sound.{IsSound}
 use Rattle.mdcache.specs.State.{State as TreeState}
 use Rattle.mdcache.proofs.CoreLaws.{keeps_place}
 use Rattle.mdcache.proofs.HomeLaws.{moved_known}
 use Rattle.ranked_tree.proofs.MoveLaws.{replaces}
-use Rattle.ranked_tree.specs.Held.{AreHeld, AreHolders, IsOwned}
-use Rattle.ranked_tree.specs.Subtrees.{FollowChange, KeepsAuthorities, NoNewRank, Rules}
+use Rattle.ranked_tree.specs.Held.{AreHeld, AreHeldAt, IsOwned}
+use Rattle.ranked_tree.specs.Subtrees.{FollowChange, HoldsAt, KeepsAuthorities, NoNewRank, Rules}
 use Rattle.ranked_tree.proofs.ChangedTables.{TablesAre, added_tables, grown_tables, moved_tables, removed_tables, set_tables}
 use Rattle.ranked_tree.proofs.HeldLaws.{held_after, is_that}
-use Rattle.ranked_tree.proofs.HolderLaws.{named_live, new_is_not_live, was_unknown}
+use Rattle.ranked_tree.proofs.HolderLaws.{added_live, new_is_not_live, removed_live, set_live, source_live, target_live, was_unknown}
 use Rattle.ranked_tree.proofs.RootLaws.{is_elsewhere}
 use Rattle.ranked_tree.proofs.SubtreeLaws.{may_settle, over, removable}
 
@@ -47,10 +49,10 @@ use Rattle.ranked_tree.proofs.SubtreeLaws.{may_settle, over, removable}
 
 -- the leaf of a directory that comes
 abbrev pub IsComing : Change → Leaf → Type 0
-IsComing (Add dentry leaf inode) q = (is_dir_kind inode.kind ≡ true) × (q ≡ first_leaf inode.ino)
-IsComing (Set dentry leaf inode) q = ⊥
-IsComing (Remove dentry leaf went) q = ⊥
-IsComing (Move from source to target went) q = ⊥
+IsComing (Add spot inode) q = (is_dir_kind inode.kind ≡ true) × (q ≡ first_leaf inode.ino)
+IsComing (Set spot inode) q = ⊥
+IsComing (Remove spot went) q = ⊥
+IsComing (Move source target went) q = ⊥
 
 -- a leaf of tables in which a directory came
 module _ (homes : Homes) (covers : Covers) (table : IsTable homes covers) (dir : Ino) (home : Home) (come : MayCome homes dir.0 home) where
@@ -90,32 +92,32 @@ live_before homes covers (Some dir) leaf may live =
 
 -- a leaf that stands after a change stood before, or is that of the directory that came
 pub stood : (change : Change) (old new : TreeState) → IsSound old → MayChange (shown_tree old) old.covers change → Makes change old new → (leaf : Leaf) → IsLive new.homes new.covers leaf → IsLive old.homes old.covers leaf ⊎ IsComing change leaf
-stood (Set dentry name inode) old new sound may makes leaf live =
-    let tables = set_tables old new dentry name inode makes in
+stood (Set spot inode) old new sound may makes leaf live =
+    let tables = set_tables old new spot inode makes in
     inl (over (λ (h : Homes) (cs : Covers). IsLive h cs leaf) old.homes new.homes old.covers new.covers (sym tables.0) (sym tables.1) live)
-stood (Add dentry name inode) old new sound may makes leaf live = go (is_dir_kind inode.kind) refl
+stood (Add spot inode) old new sound may makes leaf live = go (is_dir_kind inode.kind) refl
   where
-    first_or : is_dir_kind inode.kind ≡ true → IsLive old.homes old.covers leaf ⊎ (leaf ≡ first_leaf inode.ino) → IsLive old.homes old.covers leaf ⊎ IsComing (Add dentry name inode) leaf
+    first_or : is_dir_kind inode.kind ≡ true → IsLive old.homes old.covers leaf ⊎ (leaf ≡ first_leaf inode.ino) → IsLive old.homes old.covers leaf ⊎ IsComing (Add spot inode) leaf
     first_or kinded (inl was) = inl was
     first_or kinded (inr same) = inr (kinded, same)
 
-    go : (b : Bool) → is_dir_kind inode.kind ≡ b → IsLive old.homes old.covers leaf ⊎ IsComing (Add dentry name inode) leaf
+    go : (b : Bool) → is_dir_kind inode.kind ≡ b → IsLive old.homes old.covers leaf ⊎ IsComing (Add spot inode) leaf
     go true kinded =
-        let tables = grown_tables old new dentry name inode kinded makes in
-        first_or kinded (live_or_first old.homes old.covers sound.table inode.ino (home_at dentry) (may_come (shown_tree old) old.homes dentry inode sound.tabled may.takes) leaf
-        (over (λ (h : Homes) (cs : Covers). IsLive h cs leaf) (map.insert old.homes inode.ino.0 (home_at dentry)) new.homes old.covers new.covers (sym tables.0) (sym tables.1) live))
+        let tables = grown_tables old new spot inode kinded makes in
+        first_or kinded (live_or_first old.homes old.covers sound.table inode.ino (home_at (dentry_at spot)) (may_come (shown_tree old) old.homes (dentry_at spot) inode sound.tabled may.takes) leaf
+        (over (λ (h : Homes) (cs : Covers). IsLive h cs leaf) (map.insert old.homes inode.ino.0 (home_at (dentry_at spot))) new.homes old.covers new.covers (sym tables.0) (sym tables.1) live))
     go false kinded =
-        let tables = added_tables old new dentry name inode kinded makes in
+        let tables = added_tables old new spot inode kinded makes in
         inl (over (λ (h : Homes) (cs : Covers). IsLive h cs leaf) old.homes new.homes old.covers new.covers (sym tables.0) (sym tables.1) live)
-stood (Remove dentry name went) old new sound may makes leaf live =
-    let tables = removed_tables old new dentry name went makes in
-    inl (live_before old.homes old.covers went leaf (removable old dentry name went sound may)
+stood (Remove spot went) old new sound may makes leaf live =
+    let tables = removed_tables old new spot went makes in
+    inl (live_before old.homes old.covers went leaf (removable old spot went sound may)
     (over (λ (h : Homes) (cs : Covers). IsLive h cs leaf) (rows_but old.homes went) new.homes (rows_but old.covers went) new.covers (sym tables.0) (sym tables.1) live))
-stood (Move from source to target went) old new sound may makes leaf live =
-    let tables = moved_tables old new from to source target went makes in
-    let moved = live_before (with_home old.homes to makes.0) old.covers went leaf (replaces old sound from to source target makes.0 went may makes.1)
-    (over (λ (h : Homes) (cs : Covers). IsLive h cs leaf) (rows_but (with_home old.homes to makes.0) went) new.homes (rows_but old.covers went) new.covers (sym tables.0) (sym tables.1) live) in
-    inl (record { known = sym (moved_known old.homes old.covers sound.table to makes.0 (may_settle old from to source target went sound may makes.0 makes.1) leaf.0.0) ∙ moved.known; stands = moved.stands })
+stood (Move source target went) old new sound may makes leaf live =
+    let tables = moved_tables old new source target went makes in
+    let moved = live_before (with_home old.homes (dentry_at target) makes.0) old.covers went leaf (replaces old sound source target makes.0 went may makes.1)
+    (over (λ (h : Homes) (cs : Covers). IsLive h cs leaf) (rows_but (with_home old.homes (dentry_at target) makes.0) went) new.homes (rows_but old.covers went) new.covers (sym tables.0) (sym tables.1) live) in
+    inl (record { known = sym (moved_known old.homes old.covers sound.table (dentry_at target) makes.0 (may_settle old source target went sound may makes.0 makes.1) leaf.0.0) ∙ moved.known; stands = moved.stands })
 
 -- ---- whose it is
 
@@ -124,27 +126,27 @@ module _ (old new : Core) (before after : Roots) (owned : IsOwned old before) (n
   sound = owned.sound.sound
 
   -- the leaf of a directory that comes inherits from the leaf that its dentry is in
-  module _ (dentry : Dentry) (name : Fragment) (inode : Inode) (may : MayChange (shown_in old) old.covers (Add dentry name inode)) (makes : Makes (Add dentry name inode) (state_of old) (state_of new))
-      (follow : FollowChange (Add dentry name inode) (state_of old) before after) (rank : Rank) (rules : Rules (state_of old) before (dentry.dir, name) rank) (kinded : is_dir_kind inode.kind ≡ true) where
+  module _ (spot : Spot) (inode : Inode) (may : MayChange (shown_in old) old.covers (Add spot inode)) (makes : Makes (Add spot inode) (state_of old) (state_of new))
+      (follow : FollowChange (Add spot inode) (state_of old) before after) (rank : Rank) (rules : Rules (state_of old) before (leaf_of spot.at) rank) (kinded : is_dir_kind inode.kind ≡ true) where
     abbrev first : Leaf
     first = first_leaf inode.ino
 
     abbrev holder : Leaf
-    holder = (dentry.dir, name)
+    holder = leaf_of spot.at
 
-    tables : TablesAre (state_of new) (map.insert old.homes inode.ino.0 (home_at dentry)) old.covers
-    tables = grown_tables (state_of old) (state_of new) dentry name inode kinded makes
+    tables : TablesAre (state_of new) (map.insert old.homes inode.ino.0 (home_at (dentry_at spot))) old.covers
+    tables = grown_tables (state_of old) (state_of new) spot inode kinded makes
 
-    comes : MayCome old.homes inode.ino.0 (home_at dentry)
-    comes = may_come (shown_in old) old.homes dentry inode sound.tabled may.takes
+    comes : MayCome old.homes inode.ino.0 (home_at (dentry_at spot))
+    comes = may_come (shown_in old) old.homes (dentry_at spot) inode sound.tabled may.takes
 
     holder_live : IsLive old.homes old.covers holder
-    holder_live = (named_live (state_of old) sound (Add dentry name inode) may).0
+    holder_live = added_live (state_of old) sound spot inode may
 
     holder_stays : IsLive new.homes new.covers holder
     holder_stays =
-        over (λ (h : Homes) (cs : Covers). IsLive h cs holder) new.homes (map.insert old.homes inode.ino.0 (home_at dentry)) new.covers old.covers tables.0 tables.1
-        (record { known = still_known old.homes inode.ino.0 (home_at dentry) dentry.dir.0 holder_live.known; stands = holder_live.stands })
+        over (λ (h : Homes) (cs : Covers). IsLive h cs holder) new.homes (map.insert old.homes inode.ino.0 (home_at (dentry_at spot))) new.covers old.covers tables.0 tables.1
+        (record { known = still_known old.homes inode.ino.0 (home_at (dentry_at spot)) spot.at.dir.0 holder_live.known; stands = holder_live.stands })
 
     no_root : map.get after first ≡ None
     no_root = go (map.get after first) refl
@@ -153,46 +155,46 @@ module _ (old new : Core) (before after : Roots) (owned : IsOwned old before) (n
         go None is = is
         go (Some rank) is =
             let was : IsSome (map.get before first) = ap is_some (sym (ap (λ (r : Roots). map.get r first) (follow.2 ∙ follow.1)) ∙ is) in
-            absurd (was_unknown old.homes inode.ino.0 (home_at dentry) comes (owned.valid.live first was).known)
+            absurd (was_unknown old.homes inode.ino.0 (home_at (dentry_at spot)) comes (owned.valid.live first was).known)
 
     pub first_inherits : Rules (state_of new) after first rank
     first_inherits =
         let has = keeps holder rank holder_live holder_stays rules in
         record {
           root = has.root;
-          nearest = inherited first holder has.root (home_at dentry) no_root (ap (λ (h : Homes). map.get h inode.ino.0) tables.0 ∙ nat.get_put old.homes inode.ino.0 (home_at dentry))
-              (record { parent = refl; pick = subst (λ (cs : Covers). IsPick (leaves_of cs dentry.dir.0) (hash_of dentry.name) name) (sym tables.1) may.carries }) has.nearest;
+          nearest = inherited first holder has.root (home_at (dentry_at spot)) no_root (ap (λ (h : Homes). map.get h inode.ino.0) tables.0 ∙ nat.get_put old.homes inode.ino.0 (home_at (dentry_at spot)))
+              (record { parent = refl; pick = subst (λ (cs : Covers). IsPick (leaves_of cs spot.at.dir.0) (hash_of spot.name) spot.at.frag) (sym tables.1) may.carries }) has.nearest;
           ranked = has.ranked;
         }
 
   -- a leaf that a change names is used at its authority
-  named : (at : Holders) (change : Change) → AreHolders (state_of old) before at change → MayChange (shown_in old) old.covers change → Makes change (state_of old) (state_of new) → FollowChange change (state_of old) before after
-      → (r : ℕ) (q : Leaf) → IsNamedIn at change r q → IsLive new.homes new.covers q → Rules (state_of new) after q (record { 0 = r })
-  named at change holders may makes follow r q is live = go change holders may makes follow is
+  named : (change : Change) → AreHeldAt (state_of old) before change → MayChange (shown_in old) old.covers change → Makes change (state_of old) (state_of new) → FollowChange change (state_of old) before after → (r : ℕ) (q : Leaf) → IsNamedIn change r q → IsLive new.homes new.covers q
+      → Rules (state_of new) after q (record { 0 = r })
+  named change held may makes follow r q is live = go change held may makes follow is
     where
       -- one that was live
-      old_leaf : (leaf : Leaf) (rank : Rank) → IsLive old.homes old.covers leaf → Rules (state_of old) before leaf rank → IsThat rank.0 leaf r q → Rules (state_of new) after q (record { 0 = r })
-      old_leaf leaf rank lived rules that = keeps q (record { 0 = r }) (subst (IsLive old.homes old.covers) (sym that.1) lived) live (is_that (state_of old) before leaf rank rules r q that)
+      old_leaf : (at : Dirfrag) → IsLive old.homes old.covers (leaf_of at) → HoldsAt (state_of old) before at → IsThat at.rank.0 (leaf_of at) r q → Rules (state_of new) after q (record { 0 = r })
+      old_leaf at lived holds that = keeps q (record { 0 = r }) (subst (IsLive old.homes old.covers) (sym that.1) lived) live (is_that (state_of old) before (leaf_of at) at.rank holds r q that)
 
-      go : (change : Change) → AreHolders (state_of old) before at change → MayChange (shown_in old) old.covers change → Makes change (state_of old) (state_of new) → FollowChange change (state_of old) before after → IsNamedIn at change r q → Rules (state_of new) after q (record { 0 = r })
-      go (Add dentry leaf inode) holders may makes follow (inl that) = old_leaf (dentry.dir, leaf) at.first (named_live (state_of old) sound (Add dentry leaf inode) may).0 holders.first that
-      go (Add dentry leaf inode) holders may makes follow (inr that) = by (stood (Add dentry leaf inode) (state_of old) (state_of new) sound may makes q live)
+      go : (change : Change) → AreHeldAt (state_of old) before change → MayChange (shown_in old) old.covers change → Makes change (state_of old) (state_of new) → FollowChange change (state_of old) before after → IsNamedIn change r q → Rules (state_of new) after q (record { 0 = r })
+      go (Add spot inode) held may makes follow (inl that) = old_leaf spot.at (added_live (state_of old) sound spot inode may) held that
+      go (Add spot inode) held may makes follow (inr that) = by (stood (Add spot inode) (state_of old) (state_of new) sound may makes q live)
         where
-          by : IsLive old.homes old.covers q ⊎ IsComing (Add dentry leaf inode) q → Rules (state_of new) after q (record { 0 = r })
-          by (inl lived) = absurd (new_is_not_live (state_of old) sound dentry leaf inode may (subst (IsLive old.homes old.covers) that.1 lived))
-          by (inr comes) = is_that (state_of new) after (first_leaf inode.ino) at.first (first_inherits dentry leaf inode may makes follow at.first holders.first comes.0) r q that
-      go (Set dentry leaf inode) holders may makes follow that = old_leaf (dentry.dir, leaf) at.first (named_live (state_of old) sound (Set dentry leaf inode) may).0 holders.first that
-      go (Remove dentry leaf went) holders may makes follow that = old_leaf (dentry.dir, leaf) at.first (named_live (state_of old) sound (Remove dentry leaf went) may).0 holders.first that
-      go (Move from source to target went) holders may makes follow (inl that) = old_leaf (from.dir, source) at.first (named_live (state_of old) sound (Move from source to target went) may).0 holders.first that
-      go (Move from source to target went) holders may makes follow (inr that) = old_leaf (to.dir, target) at.second (named_live (state_of old) sound (Move from source to target went) may).1 holders.second that
+          by : IsLive old.homes old.covers q ⊎ IsComing (Add spot inode) q → Rules (state_of new) after q (record { 0 = r })
+          by (inl lived) = absurd (new_is_not_live (state_of old) sound spot inode may (subst (IsLive old.homes old.covers) that.1 lived))
+          by (inr comes) = is_that (state_of new) after (first_leaf inode.ino) spot.at.rank (first_inherits spot inode may makes follow spot.at.rank held comes.0) r q that
+      go (Set spot inode) held may makes follow that = old_leaf spot.at (set_live (state_of old) sound spot inode may) held that
+      go (Remove spot went) held may makes follow that = old_leaf spot.at (removed_live (state_of old) sound spot went may) held that
+      go (Move source target went) held may makes follow (inl that) = old_leaf source.at (source_live (state_of old) sound source target went may) held.0 that
+      go (Move source target went) held may makes follow (inr that) = old_leaf target.at (target_live (state_of old) sound source target went may) held.1 that
 
   -- a change leaves each cached fragment at its leaf's authority
-  pub change_held : (at : Holders) (change : Change) → AreHolders (state_of old) before at change → MayChange (shown_in old) old.covers change → Makes change (state_of old) (state_of new) → FollowChange change (state_of old) before after → NoNewRank before after
-      → Came (IsNamedIn at change) (EndsWith change) old.caches new.caches → AreHeld (state_of new) new.caches after
-  change_held at change holders may makes follow none came =
-      held_after (state_of old) (state_of new) old.caches new.caches before after owned.held none (came_ranks (IsNamedIn at change) (EndsWith change) old.caches new.caches came) (keeps_place new now_sound)
-      (λ leaf a is. go leaf a (now_sound.cached leaf a is).live (came_held (IsNamedIn at change) (EndsWith change) old.caches new.caches came leaf a is))
+  pub change_held : (change : Change) → AreHeldAt (state_of old) before change → MayChange (shown_in old) old.covers change → Makes change (state_of old) (state_of new) → FollowChange change (state_of old) before after → NoNewRank before after
+      → Came (IsNamedIn change) (EndsWith change) old.caches new.caches → AreHeld (state_of new) new.caches after
+  change_held change holders may makes follow none came =
+      held_after (state_of old) (state_of new) old.caches new.caches before after owned.held none (came_ranks (IsNamedIn change) (EndsWith change) old.caches new.caches came) (keeps_place new now_sound)
+      (λ leaf a is. go leaf a (now_sound.cached leaf a is).live (came_held (IsNamedIn change) (EndsWith change) old.caches new.caches came leaf a is))
     where
-      go : (leaf : Leaf) (a : At) → IsLive new.homes new.covers leaf → (map.get old.caches.held leaf ≡ Some a) ⊎ IsNamedIn at change a.rank leaf → Rules (state_of new) after leaf (record { 0 = a.rank })
+      go : (leaf : Leaf) (a : At) → IsLive new.homes new.covers leaf → (map.get old.caches.held leaf ≡ Some a) ⊎ IsNamedIn change a.rank leaf → Rules (state_of new) after leaf (record { 0 = a.rank })
       go leaf a live (inl was) = keeps leaf (record { 0 = a.rank }) (owned.sound.cached leaf a was).live live (owned.held.cached leaf a was)
-      go leaf a live (inr is) = named at change holders may makes follow a.rank leaf is live
+      go leaf a live (inr is) = named change holders may makes follow a.rank leaf is live

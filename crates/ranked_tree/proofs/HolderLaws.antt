@@ -1,5 +1,5 @@
 -- The leaves that a change names, and the ranks that hold them.
-use Rattle.std.specs.Prelude.{◌≡◌, ◌||◌, ℕ, true, false, is_some, Some}
+use Rattle.std.specs.Prelude.{◌≡◌, ◌||◌, ℕ, true, false, is_some, Option, Some}
 use Rattle.std.proofs.Common.{inl, inr, sym, subst, ◌∙◌}
 use Rattle.std.specs.FinMap as map
 use Rattle.mds_types.specs.declared.dentries.Dentry.{Dentry}
@@ -10,24 +10,26 @@ use Rattle.mds_types.specs.Tree.{is_directory}
 use Rattle.fragtree.specs.FragTree.{IsPick}
 use Rattle.namehash.specs.Rjenkins.{hash_of}
 use Rattle.sorted_map.proofs.NatKeys as nat
+use Rattle.mds_types.specs.Leaf.{leaf_of}
 use Rattle.inode_table.specs.declared.dirs.Home.{Home}
 use Rattle.inode_table.specs.Dirs.{Homes, IsLive, MayCome, is_known, leaves_of}
 use Rattle.inode_table.proofs.TableLaws.{known_is, may_come}
-use Rattle.namespace_ops.specs.Changes.{MayChange}
+use Rattle.namespace_ops.specs.Changes.{IsSpot, MayChange, dentry_at}
 use Rattle.namespace_ops.specs.declared.plans.Change.{Change}
 use Rattle.namespace_ops.specs.declared.plans.Change.TheVariants.{Add, Set, Remove, Move}
 use Rattle.dentry_cache.specs.CacheMap.{CacheMap}
+use Rattle.dentry_cache.specs.Came.{IsThat}
+use Rattle.namespace_ops.specs.declared.plans.Spot.{Spot}
 use Rattle.subtree_map.specs.Authority.{Leaf, Roots}
 use Rattle.subtree_map.proofs.Nearest.{one_authority}
-use Rattle.mdcache.specs.declared.holders.Holders.{Holders}
 use Rattle.mdcache.specs.Changes.{first_leaf}
-use Rattle.mdcache.specs.Ranks.{IsNamedIn, MayHold, MayHoldEach}
+use Rattle.mdcache.specs.Ranks.{IsNamedIn, MayHoldEach}
 use Rattle.mdcache.specs.Shown.{shown_tree}
 use Rattle.mdcache.specs.Sound.{IsSound}
 use Rattle.mdcache.specs.State.{State as TreeState}
-use Rattle.ranked_tree.specs.Held.{AreHolders, first_named, second_named}
-use Rattle.ranked_tree.specs.Subtrees.{Rules}
-use Rattle.ranked_tree.proofs.HeldLaws.{is_that}
+use Rattle.ranked_tree.specs.Held.{AreHeld, AreHeldAt}
+use Rattle.ranked_tree.specs.Subtrees.{HoldsAt, Rules}
+use Rattle.ranked_tree.proofs.HeldLaws.{is_that, may_hold}
 
 -- a directory that comes in was not known
 pub is_unknown : (homes : Homes) (d : ℕ) (home : Home) → MayCome homes d home → is_known homes d ≡ false
@@ -44,45 +46,52 @@ module _ (s : TreeState) (sound : IsSound s) where
   parent : (dentry : Dentry) (inode : Inode) → map.get (shown_tree s) dentry ≡ Some inode → is_directory (shown_tree s) dentry.dir.0 ≡ true
   parent dentry inode stands = sound.tabled.whole.parents dentry.dir.0 dentry.name inode stands
 
+  -- the leaf of a spot in a directory that is there is live
+  spot_live : (spot : Spot) → is_directory (shown_tree s) spot.at.dir.0 ≡ true → IsSpot s.covers spot → IsLive s.homes s.covers (leaf_of spot.at)
+  spot_live spot is pick = pick_live spot.at.dir (hash_of spot.name) spot.at.frag is pick
+
   -- the leaves that a change names are live
-  pub named_live : (change : Change) → MayChange (shown_tree s) s.covers change → IsLive s.homes s.covers (first_named change) × IsLive s.homes s.covers (second_named change)
-  named_live (Add dentry leaf inode) may = let live = pick_live dentry.dir (hash_of dentry.name) leaf may.takes.parent may.carries in (live, live)
-  named_live (Set dentry leaf inode) may = let live = pick_live dentry.dir (hash_of dentry.name) leaf (parent dentry may.takes.before may.takes.stands) may.carries in (live, live)
-  named_live (Remove dentry leaf went) may = let live = pick_live dentry.dir (hash_of dentry.name) leaf (parent dentry may.takes.inode may.takes.stands) may.carries.0 in (live, live)
-  named_live (Move from source to target went) may = (
-    pick_live from.dir (hash_of from.name) source (parent from may.takes.0 may.takes.1.stands) may.carries.0,
-    pick_live to.dir (hash_of to.name) target may.takes.1.parent may.carries.1,
-  )
+  pub added_live : (spot : Spot) (inode : Inode) → MayChange (shown_tree s) s.covers (Add spot inode) → IsLive s.homes s.covers (leaf_of spot.at)
+  added_live spot inode may = spot_live spot may.takes.parent may.carries
+
+  pub set_live : (spot : Spot) (inode : Inode) → MayChange (shown_tree s) s.covers (Set spot inode) → IsLive s.homes s.covers (leaf_of spot.at)
+  set_live spot inode may = spot_live spot (parent (dentry_at spot) may.takes.before may.takes.stands) may.carries
+
+  pub removed_live : (spot : Spot) (went : Option Ino) → MayChange (shown_tree s) s.covers (Remove spot went) → IsLive s.homes s.covers (leaf_of spot.at)
+  removed_live spot went may = spot_live spot (parent (dentry_at spot) may.takes.inode may.takes.stands) may.carries.0
+
+  pub source_live : (source target : Spot) (went : Option Ino) → MayChange (shown_tree s) s.covers (Move source target went) → IsLive s.homes s.covers (leaf_of source.at)
+  source_live source target went may = spot_live source (parent (dentry_at source) may.takes.0 may.takes.1.stands) may.carries.0
+
+  pub target_live : (source target : Spot) (went : Option Ino) → MayChange (shown_tree s) s.covers (Move source target went) → IsLive s.homes s.covers (leaf_of target.at)
+  target_live source target went may = spot_live target may.takes.1.parent may.carries.1
 
   -- the leaf of a directory that comes isn't live
-  pub new_is_not_live : (dentry : Dentry) (leaf : Fragment) (inode : Inode) → MayChange (shown_tree s) s.covers (Add dentry leaf inode) → IsLive s.homes s.covers (first_leaf inode.ino) → ⊥
-  new_is_not_live dentry leaf inode may live =
-      let comes = may_come (shown_tree s) s.homes dentry inode sound.tabled may.takes in
+  pub new_is_not_live : (spot : Spot) (inode : Inode) → MayChange (shown_tree s) s.covers (Add spot inode) → IsLive s.homes s.covers (first_leaf inode.ino) → ⊥
+  new_is_not_live spot inode may live =
+      let comes = may_come (shown_tree s) s.homes (dentry_at spot) inode sound.tabled may.takes in
       was_unknown s.homes inode.ino.0 _ comes live.known
 
   -- the leaves that a change names are used by ranks that hold them, where they are leaves
-  module _ (roots : Roots) (at : Holders) where
-    pub named_held : (change : Change) → MayChange (shown_tree s) s.covers change → AreHolders s roots at change → (r : ℕ) (q : Leaf) → IsNamedIn at change r q → IsLive s.homes s.covers q → Rules s roots q (record { 0 = r })
-    named_held (Add dentry leaf inode) may holders r q (inl that) live = is_that s roots (dentry.dir, leaf) at.first holders.first r q that
-    named_held (Add dentry leaf inode) may holders r q (inr that) live = absurd (new_is_not_live dentry leaf inode may (subst (λ (l : Leaf). IsLive s.homes s.covers l) that.1 live))
-    named_held (Set dentry leaf inode) may holders r q that live = is_that s roots (dentry.dir, leaf) at.first holders.first r q that
-    named_held (Remove dentry leaf went) may holders r q that live = is_that s roots (dentry.dir, leaf) at.first holders.first r q that
-    named_held (Move from source to target went) may holders r q (inl that) live = is_that s roots (from.dir, source) at.first holders.first r q that
-    named_held (Move from source to target went) may holders r q (inr that) live = is_that s roots (to.dir, target) at.second holders.second r q that
+  module _ (roots : Roots) where
+    at_spot : (spot : Spot) → HoldsAt s roots spot.at → (r : ℕ) (q : Leaf) → IsThat spot.at.rank.0 (leaf_of spot.at) r q → Rules s roots q (record { 0 = r })
+    at_spot spot holds r q that = is_that s roots (leaf_of spot.at) spot.at.rank holds r q that
 
--- one leaf has one holder
-pub one_holder : (s : TreeState) (roots : Roots) (at : Holders) (change : Change) → AreHolders s roots at change → first_named change ≡ second_named change → at.first ≡ at.second
-one_holder s roots at change holders same = one_authority roots s.homes s.covers (second_named change) at.first at.second (subst (λ (l : Leaf). Rules s roots l at.first) same holders.first) holders.second
+    pub named_held : (change : Change) → MayChange (shown_tree s) s.covers change → AreHeldAt s roots change → (r : ℕ) (q : Leaf) → IsNamedIn change r q → IsLive s.homes s.covers q → Rules s roots q (record { 0 = r })
+    named_held (Add spot inode) may held r q (inl that) live = at_spot spot held r q that
+    named_held (Add spot inode) may held r q (inr that) live = absurd (new_is_not_live spot inode may (subst (λ (l : Leaf). IsLive s.homes s.covers l) that.1 live))
+    named_held (Set spot inode) may held r q that live = at_spot spot held r q that
+    named_held (Remove spot went) may held r q that live = at_spot spot held r q that
+    named_held (Move source target went) may held r q (inl that) live = at_spot source held.0 r q that
+    named_held (Move source target went) may held r q (inr that) live = at_spot target held.1 r q that
 
-pub may_hold_each : (caches : CacheMap) (at : Holders) (change : Change) → MayHold caches at.first (first_named change) → MayHold caches at.second (second_named change) → (first_named change ≡ second_named change → at.first ≡ at.second) → MayHoldEach caches at change
-may_hold_each caches at (Add dentry leaf inode) first second one = first
-may_hold_each caches at (Set dentry leaf inode) first second one = first
-may_hold_each caches at (Remove dentry leaf went) first second one = first
-may_hold_each caches at (Move from source to target went) first second one = (first, second, one)
-
--- a change has one pair of holders
-pub same_holders : (s : TreeState) (roots : Roots) (a b : Holders) (change : Change) → AreHolders s roots a change → AreHolders s roots b change → a ≡ b
-same_holders s roots a b change mine other = λ i. record {
-  first = one_authority roots s.homes s.covers (first_named change) a.first b.first mine.first other.first i;
-  second = one_authority roots s.homes s.covers (second_named change) a.second b.second mine.second other.second i;
-}
+    -- the ranks may hold the leaves; one leaf has one holder
+    pub hold_each : (caches : CacheMap) → AreHeld s caches roots → (change : Change) → AreHeldAt s roots change → MayHoldEach caches change
+    hold_each caches held (Add spot inode) at = may_hold s caches roots held (leaf_of spot.at) spot.at.rank at
+    hold_each caches held (Set spot inode) at = may_hold s caches roots held (leaf_of spot.at) spot.at.rank at
+    hold_each caches held (Remove spot went) at = may_hold s caches roots held (leaf_of spot.at) spot.at.rank at
+    hold_each caches held (Move source target went) at = (
+      may_hold s caches roots held (leaf_of source.at) source.at.rank at.0,
+      may_hold s caches roots held (leaf_of target.at) target.at.rank at.1,
+      λ same. one_authority roots s.homes s.covers (leaf_of target.at) source.at.rank target.at.rank (subst (λ (l : Leaf). Rules s roots l source.at.rank) same at.0) at.1,
+    )

@@ -7,26 +7,27 @@ use Rattle.mds_types.specs.declared.operations.Op.{Op}
 use Rattle.mds_types.specs.declared.operations.Op.TheVariants.{Lookup, Readdir, Create, Mkdir, Readlink, Symlink, Setattr, Unlink, Rmdir, Rename}
 use Rattle.mds_types.specs.declared.refusals.Refusal.{Refusal}
 use Rattle.mds_types.specs.Tree.{Tree}
+use Rattle.mds_types.specs.Leaf.{leaf_of}
 use Rattle.dentry_cache.specs.Came.{IsThat}
 use Rattle.dentry_cache.specs.Reads.{Reads}
 use Rattle.dentry_cache.proofs.ReadsLaws.{reads_then, reads_weaker}
 use Rattle.inode_table.specs.Dirs.{is_known}
 use Rattle.inode_table.proofs.TableLaws.{may_come}
-use Rattle.namespace_ops.specs.Changes.{Concerns, IsChangeOf, MayChange}
+use Rattle.namespace_ops.specs.Changes.{Concerns, IsChangeOf, MayChange, dentry_at}
 use Rattle.namespace_ops.specs.declared.plans.Change.{Change}
 use Rattle.namespace_ops.specs.declared.plans.Change.TheVariants.{Add, Set, Remove, Move}
+use Rattle.namespace_ops.specs.declared.plans.Spot.{Spot}
 use Rattle.subtree_map.specs.Authority.{Leaf, Roots}
-use Rattle.mdcache.specs.declared.holders.Holders.{Holders}
 use Rattle.mdcache.specs.Ranks.{IsNamedIn}
 use Rattle.mdcache.specs.Shown.{shown_tree}
 use Rattle.mdcache.specs.Sound.{IsSound}
 use Rattle.mdcache.specs.Core.{Core, ReadsCore, state_of}
 use Rattle.mdcache.specs.Frags.{KeepsState}
 use Rattle.mdcache.specs.State.{State as TreeState}
-use Rattle.ranked_tree.specs.Held.{AnyPlace, AreHolders, AsksFor, NamesDir, ReadsDir, ReadsFor}
+use Rattle.ranked_tree.specs.Held.{AnyPlace, AreHeldAt, AsksFor, NamesDir, ReadsDir, ReadsFor}
 use Rattle.mdcache.proofs.FragsLaws.{keeps_on}
 use Rattle.ranked_tree.specs.Ranked.{KeepsRanked, Ranked}
-use Rattle.ranked_tree.specs.Subtrees.{Rules}
+use Rattle.ranked_tree.specs.Subtrees.{HoldsAt, Rules}
 use Rattle.ranked_tree.proofs.HeldLaws.{is_that}
 use Rattle.ranked_tree.proofs.HolderLaws.{is_unknown}
 
@@ -60,56 +61,56 @@ keeps_ranked_on a b c op told first second = record {
 }
 
 -- the leaves that a change names lie in directories that it names, each at its rank, or it is that of a directory that comes
-module _ (old : Core) (roots : Roots) (at : Holders) where
-  dir_is : (q leaf : Leaf) → q ≡ leaf → q.0.0 ≡ leaf.0.0
-  dir_is q leaf same = ap (λ (l : Leaf). l.0.0) same
+module _ (old : Core) (roots : Roots) where
+  at_spot : (spot : Spot) → HoldsAt (state_of old) roots spot.at → (r : ℕ) (q : Leaf) → IsThat spot.at.rank.0 (leaf_of spot.at) r q → (q.0.0 ≡ spot.at.dir.0) × Rules (state_of old) roots q (record { 0 = r })
+  at_spot spot holds r q that = (ap (λ (l : Leaf). l.0.0) that.1, is_that (state_of old) roots (leaf_of spot.at) spot.at.rank holds r q that)
 
-  pub asks_change : (change : Change) → IsSound (state_of old) → MayChange (shown_tree (state_of old)) old.covers change → AreHolders (state_of old) roots at change → (r : ℕ) (q : Leaf) → IsNamedIn at change r q → AsksFor (state_of old) roots (NamesDir change) r q
-  asks_change (Add dentry leaf inode) sound may holders r q (inl that) = inl (dir_is q (dentry.dir, leaf) that.1, is_that (state_of old) roots (dentry.dir, leaf) at.first holders.first r q that)
-  asks_change (Add dentry leaf inode) sound may holders r q (inr that) =
-      inr (subst (λ (l : Leaf). is_known old.homes l.0.0 ≡ false) (sym that.1) (is_unknown old.homes inode.ino.0 _ (may_come (shown_tree (state_of old)) old.homes dentry inode sound.tabled may.takes)), ap (λ (l : Leaf). l.1) that.1)
-  asks_change (Set dentry leaf inode) sound may holders r q that = inl (dir_is q (dentry.dir, leaf) that.1, is_that (state_of old) roots (dentry.dir, leaf) at.first holders.first r q that)
-  asks_change (Remove dentry leaf went) sound may holders r q that = inl (dir_is q (dentry.dir, leaf) that.1, is_that (state_of old) roots (dentry.dir, leaf) at.first holders.first r q that)
-  asks_change (Move from source to target went) sound may holders r q (inl that) = inl (inl (dir_is q (from.dir, source) that.1), is_that (state_of old) roots (from.dir, source) at.first holders.first r q that)
-  asks_change (Move from source to target went) sound may holders r q (inr that) = inl (inr (dir_is q (to.dir, target) that.1), is_that (state_of old) roots (to.dir, target) at.second holders.second r q that)
+  pub asks_change : (change : Change) → IsSound (state_of old) → MayChange (shown_tree (state_of old)) old.covers change → AreHeldAt (state_of old) roots change → (r : ℕ) (q : Leaf) → IsNamedIn change r q → AsksFor (state_of old) roots (NamesDir change) r q
+  asks_change (Add spot inode) sound may held r q (inl that) = inl (at_spot spot held r q that)
+  asks_change (Add spot inode) sound may held r q (inr that) =
+      inr (subst (λ (l : Leaf). is_known old.homes l.0.0 ≡ false) (sym that.1) (is_unknown old.homes inode.ino.0 _ (may_come (shown_tree (state_of old)) old.homes (dentry_at spot) inode sound.tabled may.takes)), ap (λ (l : Leaf). l.1) that.1)
+  asks_change (Set spot inode) sound may held r q that = inl (at_spot spot held r q that)
+  asks_change (Remove spot went) sound may held r q that = inl (at_spot spot held r q that)
+  asks_change (Move source target went) sound may held r q (inl that) = let here = at_spot source held.0 r q that in inl (inl here.0, here.1)
+  asks_change (Move source target went) sound may held r q (inr that) = let there = at_spot target held.1 r q that in inl (inr there.0, there.1)
 
 -- reads of them
-pub reads_change : (Ends : ℕ → Leaf → Type 0) (old new : Core) (roots : Roots) (at : Holders) (change : Change) → IsSound (state_of old) → MayChange (shown_tree (state_of old)) old.covers change → AreHolders (state_of old) roots at change
-    → ReadsCore (IsNamedIn at change) Ends old new → ReadsFor roots (NamesDir change) old new
-reads_change Ends old new roots at change sound may holders reads =
-    reads_weaker (IsNamedIn at change) Ends (AsksFor (state_of old) roots (NamesDir change)) AnyPlace (asks_change old roots at change sound may holders) (λ r q ends. tt) old.objects old.caches new.caches reads.caches
+pub reads_change : (Ends : ℕ → Leaf → Type 0) (old new : Core) (roots : Roots) (change : Change) → IsSound (state_of old) → MayChange (shown_tree (state_of old)) old.covers change → AreHeldAt (state_of old) roots change → ReadsCore (IsNamedIn change) Ends old new
+    → ReadsFor roots (NamesDir change) old new
+reads_change Ends old new roots change sound may held reads =
+    reads_weaker (IsNamedIn change) Ends (AsksFor (state_of old) roots (NamesDir change)) AnyPlace (asks_change old roots change sound may held) (λ r q ends. tt) old.objects old.caches new.caches reads.caches
 
 -- the directories of a change are those that its operation concerns
 pub change_concerns : (tree : Tree) (op : Op) (change : Change) → IsChangeOf op change → (d : ℕ) → NamesDir change d → Concerns tree op d
 change_concerns tree (Lookup dentry) change of d is = absurd of
 change_concerns tree (Readdir dir after max) change of d is = absurd of
 change_concerns tree (Readlink dentry) change of d is = absurd of
-change_concerns tree (Create dentry mode mtime) (Add p leaf inode) of d is = is ∙ ap (λ (e : Dentry). e.dir.0) of.0
-change_concerns tree (Create dentry mode mtime) (Set p leaf inode) of d is = absurd of
-change_concerns tree (Create dentry mode mtime) (Remove p leaf went) of d is = absurd of
-change_concerns tree (Create dentry mode mtime) (Move here source there target went) of d is = absurd of
-change_concerns tree (Mkdir dentry mode mtime) (Add p leaf inode) of d is = is ∙ ap (λ (e : Dentry). e.dir.0) of.0
-change_concerns tree (Mkdir dentry mode mtime) (Set p leaf inode) of d is = absurd of
-change_concerns tree (Mkdir dentry mode mtime) (Remove p leaf went) of d is = absurd of
-change_concerns tree (Mkdir dentry mode mtime) (Move here source there target went) of d is = absurd of
-change_concerns tree (Symlink dentry target mtime) (Add p leaf inode) of d is = is ∙ ap (λ (e : Dentry). e.dir.0) of.0
-change_concerns tree (Symlink dentry target mtime) (Set p leaf inode) of d is = absurd of
-change_concerns tree (Symlink dentry target mtime) (Remove p leaf went) of d is = absurd of
-change_concerns tree (Symlink dentry text mtime) (Move here source there target went) of d is = absurd of
-change_concerns tree (Setattr dentry given) (Add p leaf inode) of d is = absurd of
-change_concerns tree (Setattr dentry given) (Set p leaf inode) of d is = is ∙ ap (λ (e : Dentry). e.dir.0) of
-change_concerns tree (Setattr dentry given) (Remove p leaf went) of d is = absurd of
-change_concerns tree (Setattr dentry given) (Move here source there target went) of d is = absurd of
-change_concerns tree (Unlink dentry) (Add p leaf inode) of d is = absurd of
-change_concerns tree (Unlink dentry) (Set p leaf inode) of d is = absurd of
-change_concerns tree (Unlink dentry) (Remove p leaf went) of d is = is ∙ ap (λ (e : Dentry). e.dir.0) of.0
-change_concerns tree (Unlink dentry) (Move here source there target went) of d is = absurd of
-change_concerns tree (Rmdir dentry) (Add p leaf inode) of d is = absurd of
-change_concerns tree (Rmdir dentry) (Set p leaf inode) of d is = absurd of
-change_concerns tree (Rmdir dentry) (Remove p leaf went) of d is = inl (is ∙ ap (λ (e : Dentry). e.dir.0) of)
-change_concerns tree (Rmdir dentry) (Move here source there target went) of d is = absurd of
-change_concerns tree (Rename from to) (Add p leaf inode) of d is = absurd of
-change_concerns tree (Rename from to) (Set p leaf inode) of d is = absurd of
-change_concerns tree (Rename from to) (Remove p leaf went) of d is = absurd of
-change_concerns tree (Rename from to) (Move here source there target went) of d (inl is) = inl (is ∙ ap (λ (e : Dentry). e.dir.0) of.0)
-change_concerns tree (Rename from to) (Move here source there target went) of d (inr is) = inr (inl (is ∙ ap (λ (e : Dentry). e.dir.0) of.1))
+change_concerns tree (Create dentry mode mtime) (Add spot inode) of d is = is ∙ ap (λ (e : Dentry). e.dir.0) of.0
+change_concerns tree (Create dentry mode mtime) (Set spot inode) of d is = absurd of
+change_concerns tree (Create dentry mode mtime) (Remove spot went) of d is = absurd of
+change_concerns tree (Create dentry mode mtime) (Move here there went) of d is = absurd of
+change_concerns tree (Mkdir dentry mode mtime) (Add spot inode) of d is = is ∙ ap (λ (e : Dentry). e.dir.0) of.0
+change_concerns tree (Mkdir dentry mode mtime) (Set spot inode) of d is = absurd of
+change_concerns tree (Mkdir dentry mode mtime) (Remove spot went) of d is = absurd of
+change_concerns tree (Mkdir dentry mode mtime) (Move here there went) of d is = absurd of
+change_concerns tree (Symlink dentry target mtime) (Add spot inode) of d is = is ∙ ap (λ (e : Dentry). e.dir.0) of.0
+change_concerns tree (Symlink dentry target mtime) (Set spot inode) of d is = absurd of
+change_concerns tree (Symlink dentry target mtime) (Remove spot went) of d is = absurd of
+change_concerns tree (Symlink dentry text mtime) (Move here there went) of d is = absurd of
+change_concerns tree (Setattr dentry given) (Add spot inode) of d is = absurd of
+change_concerns tree (Setattr dentry given) (Set spot inode) of d is = is ∙ ap (λ (e : Dentry). e.dir.0) of
+change_concerns tree (Setattr dentry given) (Remove spot went) of d is = absurd of
+change_concerns tree (Setattr dentry given) (Move here there went) of d is = absurd of
+change_concerns tree (Unlink dentry) (Add spot inode) of d is = absurd of
+change_concerns tree (Unlink dentry) (Set spot inode) of d is = absurd of
+change_concerns tree (Unlink dentry) (Remove spot went) of d is = is ∙ ap (λ (e : Dentry). e.dir.0) of.0
+change_concerns tree (Unlink dentry) (Move here there went) of d is = absurd of
+change_concerns tree (Rmdir dentry) (Add spot inode) of d is = absurd of
+change_concerns tree (Rmdir dentry) (Set spot inode) of d is = absurd of
+change_concerns tree (Rmdir dentry) (Remove spot went) of d is = inl (is ∙ ap (λ (e : Dentry). e.dir.0) of)
+change_concerns tree (Rmdir dentry) (Move here there went) of d is = absurd of
+change_concerns tree (Rename from to) (Add spot inode) of d is = absurd of
+change_concerns tree (Rename from to) (Set spot inode) of d is = absurd of
+change_concerns tree (Rename from to) (Remove spot went) of d is = absurd of
+change_concerns tree (Rename from to) (Move here there went) of d (inl is) = inl (is ∙ ap (λ (e : Dentry). e.dir.0) of.0)
+change_concerns tree (Rename from to) (Move here there went) of d (inr is) = inr (inl (is ∙ ap (λ (e : Dentry). e.dir.0) of.1))

@@ -10,9 +10,10 @@ use Rattle.mds_types.specs.Tree.{is_dir_kind}
 use Rattle.inode_table.specs.Dirs.{Covers, Homes, IsTable, MayGo, MayMove}
 use Rattle.inode_table.specs.TreeTable.{home_at, with_home}
 use Rattle.inode_table.proofs.TableLaws.{may_come, may_drop, with_dir, with_file}
-use Rattle.namespace_ops.specs.Changes.{MayChange, directory_at}
+use Rattle.namespace_ops.specs.Changes.{MayChange, dentry_at, directory_at}
 use Rattle.namespace_ops.specs.declared.plans.Change.{Change}
 use Rattle.namespace_ops.specs.declared.plans.Change.TheVariants.{Add, Set, Remove, Move}
+use Rattle.namespace_ops.specs.declared.plans.Spot.{Spot}
 use Rattle.subtree_map.specs.Authority.{HasAuthority, IsSubtrees, Roots}
 use Rattle.subtree_map.specs.Changes.{HaveOneAuthority, IsRootMerge, IsRootSplit}
 use Rattle.subtree_map.specs.Moves.{HasRoomToMove, IsSettled}
@@ -41,14 +42,14 @@ lose before after homes covers None table valid same may = unchanged before afte
 lose before after homes covers (Some dir) table valid gone may = lost before after homes covers table valid dir.0 gone may
 
 -- a directory that a removal takes away may go
-pub removable : (old : State) (dentry : Dentry) (leaf : Fragment) (went : Option Ino) → IsSound old → MayChange (shown_tree old) old.covers (Remove dentry leaf went) → IfSome went (λ (dir : Ino). MayGo old.homes dir.0)
-removable old dentry leaf went sound may = subst (λ (d : Option Ino). IfSome d (λ (dir : Ino). MayGo old.homes dir.0)) (sym may.carries.1) (go (map.get (shown_tree old) dentry) refl)
+pub removable : (old : State) (spot : Spot) (went : Option Ino) → IsSound old → MayChange (shown_tree old) old.covers (Remove spot went) → IfSome went (λ (dir : Ino). MayGo old.homes dir.0)
+removable old spot went sound may = subst (λ (d : Option Ino). IfSome d (λ (dir : Ino). MayGo old.homes dir.0)) (sym may.carries.1) (go (map.get (shown_tree old) (dentry_at spot)) refl)
   where
-    at : (i : Inode) (b : Bool) → is_dir_kind i.kind ≡ b → map.get (shown_tree old) dentry ≡ Some i → IfSome (cond b (Some i.ino) None) (λ (dir : Ino). MayGo old.homes dir.0)
-    at i true kinded is = may_drop (shown_tree old) old.homes dentry (Some i) is sound.tabled may.takes i refl kinded
+    at : (i : Inode) (b : Bool) → is_dir_kind i.kind ≡ b → map.get (shown_tree old) (dentry_at spot) ≡ Some i → IfSome (cond b (Some i.ino) None) (λ (dir : Ino). MayGo old.homes dir.0)
+    at i true kinded is = may_drop (shown_tree old) old.homes (dentry_at spot) (Some i) is sound.tabled may.takes i refl kinded
     at i false kinded is = tt
 
-    go : (found : Option Inode) → map.get (shown_tree old) dentry ≡ found → IfSome (directory_at found) (λ (dir : Ino). MayGo old.homes dir.0)
+    go : (found : Option Inode) → map.get (shown_tree old) (dentry_at spot) ≡ found → IfSome (directory_at found) (λ (dir : Ino). MayGo old.homes dir.0)
     go None is = tt
     go (Some i) is = at i (is_dir_kind i.kind) refl is
 
@@ -66,35 +67,35 @@ module _ (old : State) (before settled : Roots) (to : Dentry) (inode : Inode) (s
           (unchanged before settled old.homes old.covers sound.table valid same)
 
 -- what moves may, where it is a directory
-pub may_settle : (old : State) (from to : Dentry) (source target : Fragment) (went : Option Ino) → IsSound old → (may : MayChange (shown_tree old) old.covers (Move from source to target went)) → (inode : Inode) → map.get (shown_tree old) from ≡ Some inode
-    → is_dir_kind inode.kind ≡ true → MayMove old.homes inode.ino.0 (home_at to)
-may_settle old from to source target went sound may inode stands kinded = relocates old sound from to source target inode went may stands kinded
+pub may_settle : (old : State) (source target : Spot) (went : Option Ino) → IsSound old → (may : MayChange (shown_tree old) old.covers (Move source target went)) → (inode : Inode) → map.get (shown_tree old) (dentry_at source) ≡ Some inode
+    → is_dir_kind inode.kind ≡ true → MayMove old.homes inode.ino.0 (home_at (dentry_at target))
+may_settle old source target went sound may inode stands kinded = relocates old sound source target inode went may stands kinded
 
 -- every change keeps the authority of every leaf that stays
 pub changes_soundly : (change : Change) (old new : State) (before after : Roots) → IsSound old → MayChange (shown_tree old) old.covers change → Makes change old new → FollowChange change old before after → AreRoots old before
     → IsSoundChange before after old.homes new.homes old.covers new.covers
-changes_soundly (Set dentry leaf inode) old new before after sound may makes follow valid =
-    let tables = set_tables old new dentry leaf inode makes in
+changes_soundly (Set spot inode) old new before after sound may makes follow valid =
+    let tables = set_tables old new spot inode makes in
     at_table before after old.homes new.homes old.homes old.covers new.covers old.covers tables.0 tables.1 (unchanged before after old.homes old.covers sound.table valid (follow.2 ∙ follow.1))
-changes_soundly (Add dentry leaf inode) old new before after sound may makes follow valid = go (is_dir_kind inode.kind) refl
+changes_soundly (Add spot inode) old new before after sound may makes follow valid = go (is_dir_kind inode.kind) refl
   where
     go : (b : Bool) → is_dir_kind inode.kind ≡ b → IsSoundChange before after old.homes new.homes old.covers new.covers
     go true kinded =
-        let tables = grown_tables old new dentry leaf inode kinded makes in
-        at_table before after old.homes new.homes (map.insert old.homes inode.ino.0 (home_at dentry)) old.covers new.covers old.covers tables.0 tables.1
-        (grown before after old.homes old.covers sound.table valid inode.ino.0 (home_at dentry) (may_come (shown_tree old) old.homes dentry inode sound.tabled may.takes) (follow.2 ∙ follow.1))
+        let tables = grown_tables old new spot inode kinded makes in
+        at_table before after old.homes new.homes (map.insert old.homes inode.ino.0 (home_at (dentry_at spot))) old.covers new.covers old.covers tables.0 tables.1
+        (grown before after old.homes old.covers sound.table valid inode.ino.0 (home_at (dentry_at spot)) (may_come (shown_tree old) old.homes (dentry_at spot) inode sound.tabled may.takes) (follow.2 ∙ follow.1))
     go false kinded =
-        let tables = added_tables old new dentry leaf inode kinded makes in
+        let tables = added_tables old new spot inode kinded makes in
         at_table before after old.homes new.homes old.homes old.covers new.covers old.covers tables.0 tables.1 (unchanged before after old.homes old.covers sound.table valid (follow.2 ∙ follow.1))
-changes_soundly (Remove dentry leaf went) old new before after sound may makes follow valid =
-    let tables = removed_tables old new dentry leaf went makes in
+changes_soundly (Remove spot went) old new before after sound may makes follow valid =
+    let tables = removed_tables old new spot went makes in
     at_table before after old.homes new.homes (rows_but old.homes went) old.covers new.covers (rows_but old.covers went) tables.0 tables.1
-    (lose before after old.homes old.covers went sound.table valid (subst (λ (r : Roots). LoseDirectory r after went) follow.1 follow.2) (removable old dentry leaf went sound may))
-changes_soundly (Move from source to target went) old new before after sound may makes follow valid =
+    (lose before after old.homes old.covers went sound.table valid (subst (λ (r : Roots). LoseDirectory r after went) follow.1 follow.2) (removable old spot went sound may))
+changes_soundly (Move source target went) old new before after sound may makes follow valid =
     at_table before after old.homes new.homes (rows_but moved_homes went) old.covers new.covers (rows_but old.covers went) tables.0 tables.1 (
     sound_on before settled after old.homes moved_homes (rows_but moved_homes went) old.covers old.covers (rows_but old.covers went) first
-    (lose settled after moved_homes old.covers went table first.valid follow.2 (replaces old sound from to source target inode went may makes.1))
-    (λ leaf was is. record { known = moved_known old.homes old.covers sound.table to inode settles_may leaf.0.0 ∙ was.known; stands = was.stands })
+    (lose settled after moved_homes old.covers went table first.valid follow.2 (replaces old sound source target inode went may makes.1))
+    (λ leaf was is. record { known = moved_known old.homes old.covers sound.table (dentry_at target) inode settles_may leaf.0.0 ∙ was.known; stands = was.stands })
     )
   where
     inode : Inode
@@ -104,27 +105,27 @@ changes_soundly (Move from source to target went) old new before after sound may
     settled = follow.0
 
     moved_homes : Homes
-    moved_homes = with_home old.homes to inode
+    moved_homes = with_home old.homes (dentry_at target) inode
 
-    settles_may : is_dir_kind inode.kind ≡ true → MayMove old.homes inode.ino.0 (home_at to)
-    settles_may = may_settle old from to source target went sound may inode makes.1
+    settles_may : is_dir_kind inode.kind ≡ true → MayMove old.homes inode.ino.0 (home_at (dentry_at target))
+    settles_may = may_settle old source target went sound may inode makes.1
 
-    settles : SettleMove old before settled to inode
-    settles = subst (λ (i : Inode). SettleMove old before settled to i) (one_value _ follow.1.0 inode follow.1.1 makes.1) follow.1.2
+    settles : SettleMove old before settled (dentry_at target) inode
+    settles = subst (λ (i : Inode). SettleMove old before settled (dentry_at target) i) (one_value _ follow.1.0 inode follow.1.1 makes.1) follow.1.2
 
     first : IsSoundChange before settled old.homes moved_homes old.covers old.covers
-    first = moves old before settled to inode sound valid settles_may settles
+    first = moves old before settled (dentry_at target) inode sound valid settles_may settles
 
     table : IsTable moved_homes old.covers
-    table = moved_home old.homes old.covers sound.table to inode settles_may
+    table = moved_home old.homes old.covers sound.table (dentry_at target) inode settles_may
 
     tables : TablesAre new (rows_but moved_homes went) (rows_but old.covers went)
-    tables = moved_tables old new from to source target went makes
+    tables = moved_tables old new source target went makes
 
 -- ---- what is about to move, as it was made ready
 
-module _ (tree : State) (from to : Dentry) (source target : Fragment) (went moving : Option Ino) (may : MayChange (shown_tree tree) tree.covers (Move from source to target went))
-    (along : moving ≡ directory_at (map.get (shown_tree tree) from)) where
+module _ (tree : State) (source target : Spot) (went moving : Option Ino) (may : MayChange (shown_tree tree) tree.covers (Move source target went))
+    (along : moving ≡ directory_at (map.get (shown_tree tree) (dentry_at source))) where
   abbrev inode_at : Inode
   inode_at = may.takes.0
 
@@ -132,28 +133,28 @@ module _ (tree : State) (from to : Dentry) (source target : Fragment) (went movi
   is_it = along ∙ ap directory_at may.takes.1.stands
 
   -- there is room for it, where there is for the change
-  pub room_at : (roots : Roots) (room : ℕ) → HasRoomFor (Move from source to target went) tree roots room → IfSome moving (λ (dir : Ino). HasRoomToMove roots room tree.homes tree.covers dir.0 (home_at to))
-  room_at roots room has = subst (λ (d : Option Ino). IfSome d (λ (dir : Ino). HasRoomToMove roots room tree.homes tree.covers dir.0 (home_at to))) (sym is_it) (go (is_dir_kind inode_at.kind) refl)
+  pub room_at : (roots : Roots) (room : ℕ) → HasRoomFor (Move source target went) tree roots room → IfSome moving (λ (dir : Ino). HasRoomToMove roots room tree.homes tree.covers dir.0 (home_at (dentry_at target)))
+  room_at roots room has = subst (λ (d : Option Ino). IfSome d (λ (dir : Ino). HasRoomToMove roots room tree.homes tree.covers dir.0 (home_at (dentry_at target)))) (sym is_it) (go (is_dir_kind inode_at.kind) refl)
     where
-      go : (b : Bool) → is_dir_kind inode_at.kind ≡ b → IfSome (cond b (Some inode_at.ino) None) (λ (dir : Ino). HasRoomToMove roots room tree.homes tree.covers dir.0 (home_at to))
+      go : (b : Bool) → is_dir_kind inode_at.kind ≡ b → IfSome (cond b (Some inode_at.ino) None) (λ (dir : Ino). HasRoomToMove roots room tree.homes tree.covers dir.0 (home_at (dentry_at target)))
       go true kinded = has inode_at may.takes.1.stands kinded
       go false kinded = tt
 
   -- and there is for the change, where there is for it
-  pub room_for : (roots : Roots) (room : ℕ) → IfSome moving (λ (dir : Ino). HasRoomToMove roots room tree.homes tree.covers dir.0 (home_at to)) → HasRoomFor (Move from source to target went) tree roots room
-  room_for roots room has inode stands kinded = subst (λ (d : Option Ino). IfSome d (λ (dir : Ino). HasRoomToMove roots room tree.homes tree.covers dir.0 (home_at to))) number has
+  pub room_for : (roots : Roots) (room : ℕ) → IfSome moving (λ (dir : Ino). HasRoomToMove roots room tree.homes tree.covers dir.0 (home_at (dentry_at target))) → HasRoomFor (Move source target went) tree roots room
+  room_for roots room has inode stands kinded = subst (λ (d : Option Ino). IfSome d (λ (dir : Ino). HasRoomToMove roots room tree.homes tree.covers dir.0 (home_at (dentry_at target)))) number has
     where
       number : moving ≡ Some inode.ino
       number = along ∙ ap directory_at stands ∙ ap (λ (b : Bool). cond {A = Option Ino} b (Some inode.ino) None) kinded
 
   -- it is settled, where it is a directory
-  pub settled_at : (before after : Roots) → MatchOption moving (after ≡ before) (λ (dir : Ino). IsSettled before after tree.homes tree.covers dir.0 (home_at to)) → SettleMoving (Move from source to target went) tree before after
+  pub settled_at : (before after : Roots) → MatchOption moving (after ≡ before) (λ (dir : Ino). IsSettled before after tree.homes tree.covers dir.0 (home_at (dentry_at target))) → SettleMoving (Move source target went) tree before after
   settled_at before after settled = (inode_at, may.takes.1.stands, go (is_dir_kind inode_at.kind) (subst Told is_it settled))
     where
       Told : Option Ino → Type 0
-      Told d = MatchOption d (after ≡ before) (λ (dir : Ino). IsSettled before after tree.homes tree.covers dir.0 (home_at to))
+      Told d = MatchOption d (after ≡ before) (λ (dir : Ino). IsSettled before after tree.homes tree.covers dir.0 (home_at (dentry_at target)))
 
-      go : (b : Bool) → Told (cond b (Some inode_at.ino) None) → MatchBool b (IsSettled before after tree.homes tree.covers inode_at.ino.0 (home_at to)) (after ≡ before)
+      go : (b : Bool) → Told (cond b (Some inode_at.ino) None) → MatchBool b (IsSettled before after tree.homes tree.covers inode_at.ino.0 (home_at (dentry_at target))) (after ≡ before)
       go true its = its
       go false same = same
 

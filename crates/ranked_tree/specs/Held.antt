@@ -9,7 +9,7 @@ use Rattle.mds_types.specs.Frag.{Fragment, child_of, root_fragment}
 use Rattle.mds_types.specs.Tree.{Tree, is_directory}
 use Rattle.fragtree.specs.FragTree.{leaves_inside}
 use Rattle.inode_table.specs.Dirs.{Covers, IsLive, is_known, leaves_of}
-use Rattle.namespace_ops.specs.Changes.{in_directory}
+use Rattle.namespace_ops.specs.Changes.{AreHeld as AreHeldBy, in_directory}
 use Rattle.namespace_ops.specs.declared.plans.Change.{Change}
 use Rattle.namespace_ops.specs.declared.plans.Change.TheVariants.{Add, Set, Remove, Move}
 use Rattle.dentry_cache.specs.CacheMap.{At, CacheMap, has_place}
@@ -18,12 +18,11 @@ use Rattle.dentry_cache.specs.Came.{Came, NoneEnds}
 use Rattle.dentry_cache.specs.Reads.{Reads}
 use Rattle.subtree_map.specs.Authority.{Leaf, Roots}
 use Rattle.subtree_map.specs.Changes.{is_inside}
-use Rattle.mdcache.specs.declared.holders.Holders.{Holders}
 use Rattle.mdcache.specs.CacheReads.{IsNewest}
 use Rattle.mdcache.specs.Core.{Core, IsSoundCore, LacksPlacesAt, state_of}
 use Rattle.mdcache.specs.Shown.{shown_tree}
 use Rattle.mdcache.specs.State.{State as TreeState}
-use Rattle.ranked_tree.specs.Subtrees.{AreRoots, Rules}
+use Rattle.ranked_tree.specs.Subtrees.{AreRoots, HoldsAt, Rules}
 
 -- each cached fragment is at its leaf's authority, and so is each place of a live leaf, kept or not; each root's rank is one of those that
 -- have a cache
@@ -38,23 +37,9 @@ pub record IsOwned (core : Core) (roots : Roots) : Type 0 where
   pub valid : AreRoots (state_of core) roots
   pub held : AreHeld (state_of core) core.caches roots
 
--- the leaf of a change's dentry, of a rename that of the source; and that of the dentry where a rename goes
-abbrev pub first_named : Change → Leaf
-first_named (Add dentry leaf inode) = (dentry.dir, leaf)
-first_named (Set dentry leaf inode) = (dentry.dir, leaf)
-first_named (Remove dentry leaf went) = (dentry.dir, leaf)
-first_named (Move from source to target went) = (from.dir, source)
-
-abbrev pub second_named : Change → Leaf
-second_named (Add dentry leaf inode) = (dentry.dir, leaf)
-second_named (Set dentry leaf inode) = (dentry.dir, leaf)
-second_named (Remove dentry leaf went) = (dentry.dir, leaf)
-second_named (Move from source to target went) = (to.dir, target)
-
--- these are the authorities of the leaves that a change names
-pub record AreHolders (tree : TreeState) (roots : Roots) (at : Holders) (change : Change) : Type 0 where
-  pub first : Rules tree roots (first_named change) at.first
-  pub second : Rules tree roots (second_named change) at.second
+-- each name of a change lies at its leaf's authority
+abbrev pub AreHeldAt : TreeState → Roots → Change → Type 0
+AreHeldAt tree roots change = AreHeldBy (HoldsAt tree roots) change
 
 -- ---- what reads make of the caches
 
@@ -72,10 +57,10 @@ ReadsFor roots Asked old new = Reads (AsksFor (state_of old) roots Asked) AnyPla
 
 -- the directories of the dentries that a change names
 abbrev pub NamesDir : Change → ℕ → Type 0
-NamesDir (Add dentry leaf inode) d = d ≡ dentry.dir.0
-NamesDir (Set dentry leaf inode) d = d ≡ dentry.dir.0
-NamesDir (Remove dentry leaf went) d = d ≡ dentry.dir.0
-NamesDir (Move from source to target went) d = (d ≡ from.dir.0) ⊎ (d ≡ to.dir.0)
+NamesDir (Add spot inode) d = d ≡ spot.at.dir.0
+NamesDir (Set spot inode) d = d ≡ spot.at.dir.0
+NamesDir (Remove spot went) d = d ≡ spot.at.dir.0
+NamesDir (Move from to went) d = (d ≡ from.at.dir.0) ⊎ (d ≡ to.at.dir.0)
 
 -- so of one directory
 abbrev pub ReadsDir : Roots → Ino → (old new : Core) → Type 0

@@ -7,12 +7,11 @@ use Rattle.namespace_ops.specs.Changes.{Concerns}
 use Rattle.namespace_ops.specs.declared.plans.Change.{Change}
 use Rattle.subtree_map.specs.Authority.{Roots}
 use Rattle.subtree_map.specs.Changes.{Subtrees}
-use Rattle.mdcache.specs.declared.holders.Holders.{Holders}
 use Rattle.mdcache.specs.Core.{Core, state_of}
 use Rattle.mdcache.specs.Frags.{KeepsState, IsReady as IsReadyIn, MayRefuse as MayRefuseIn}
 use Rattle.mdcache.specs.New.{root_leaf}
 use Rattle.mdcache.specs.Shown.{shown_tree}
-use Rattle.ranked_tree.specs.Held.{AreHolders, LacksPlacesAsked, ReadsFor}
+use Rattle.ranked_tree.specs.Held.{AreHeldAt, LacksPlacesAsked, ReadsFor}
 use Rattle.ranked_tree.specs.Subtrees.{HasRoomFor}
 
 -- the tree over its caches and store, and its subtree roots
@@ -35,9 +34,8 @@ MayRefuse old new op reason = MayRefuseIn (LacksPlacesAsked 2 old.tree old.subtr
 
 -- the tree is ready for a change in the caches of the ranks that hold its leaves
 pub record IsReadyHeld (core : Core) (roots : Roots) (change : Change) : Type 0 where
-  pub at : Holders
-  pub holders : AreHolders (state_of core) roots at change
-  pub ready : IsReadyIn core at change
+  pub held : AreHeldAt (state_of core) roots change
+  pub ready : IsReadyIn core change
 
 -- a change can be made with no growth: the tree is ready for it, and there is room for the roots that it makes
 pub record IsReady (ranked : Ranked) (change : Change) : Type 0 where

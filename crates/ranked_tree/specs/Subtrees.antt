@@ -7,12 +7,15 @@ use Rattle.mds_types.specs.declared.ids.Rank.{Rank}
 use Rattle.mds_types.specs.declared.inodes.Inode.{Inode}
 use Rattle.mds_types.specs.Frag.{Fragment, span}
 use Rattle.mds_types.specs.Tree.{is_dir_kind}
+use Rattle.mds_types.specs.declared.dirfrags.Dirfrag.{Dirfrag}
+use Rattle.mds_types.specs.Leaf.{leaf_of}
 use Rattle.fragtree.specs.FragTree.{HasLeaf, IsChild, lies_inside}
 use Rattle.inode_table.specs.Dirs.{Covers, Homes, IsLive}
 use Rattle.inode_table.specs.TreeTable.{home_at}
 use Rattle.namespace_ops.specs.ChangedFragments.{gone_with}
 use Rattle.namespace_ops.specs.declared.plans.Change.{Change}
 use Rattle.namespace_ops.specs.declared.plans.Change.TheVariants.{Add, Set, Remove, Move}
+use Rattle.namespace_ops.specs.Changes.{dentry_at}
 use Rattle.subtree_map.specs.Authority.{HasAuthority, IsSubtrees, Leaf, Roots}
 use Rattle.subtree_map.specs.Changes.{AreGone, is_inside}
 use Rattle.subtree_map.specs.Moves.{HasRoomToMove, IsSettled}
@@ -22,6 +25,10 @@ use Rattle.mdcache.specs.State.{State as TreeState}
 -- the authority of a leaf in a tree with these roots
 abbrev pub Rules : TreeState → Roots → Leaf → Rank → Type 0
 Rules tree roots leaf rank = HasAuthority roots tree.homes tree.covers leaf rank
+
+-- a rank holds a leaf: it is its authority
+abbrev pub HoldsAt : TreeState → Roots → Dirfrag → Type 0
+HoldsAt tree roots at = Rules tree roots (leaf_of at) at.rank
 
 -- each leaf of the root directory is a root, and only leaves are
 abbrev pub AreRoots : TreeState → Roots → Type 0
@@ -46,10 +53,10 @@ SettleMove tree before after to inode = MatchBool (is_dir_kind inode.kind) (IsSe
 
 -- before a change the roots of a directory that it moves are settled
 abbrev pub SettleMoving : Change → TreeState → (before after : Roots) → Type 0
-SettleMoving (Add dentry leaf inode) tree before after = after ≡ before
-SettleMoving (Set dentry leaf inode) tree before after = after ≡ before
-SettleMoving (Remove dentry leaf went) tree before after = after ≡ before
-SettleMoving (Move from source to target went) tree before after = (inode : Inode) × (map.get (shown_tree tree) from ≡ Some inode) × SettleMove tree before after to inode
+SettleMoving (Add spot inode) tree before after = after ≡ before
+SettleMoving (Set spot inode) tree before after = after ≡ before
+SettleMoving (Remove spot went) tree before after = after ≡ before
+SettleMoving (Move from to went) tree before after = (inode : Inode) × (map.get (shown_tree tree) (dentry_at from) ≡ Some inode) × SettleMove tree before after (dentry_at to) inode
 
 -- what a change makes of the roots: those of a directory that moves are settled first, and a directory that goes loses its own
 abbrev pub FollowChange : Change → TreeState → (before after : Roots) → Type 0
@@ -57,11 +64,11 @@ FollowChange change tree before after = (settled : Roots) × SettleMoving change
 
 -- there is room for the roots that a change makes: for those of a directory that moves
 abbrev pub HasRoomFor : Change → TreeState → Roots → ℕ → Type 0
-HasRoomFor (Add dentry leaf inode) tree roots room = Unit {0}
-HasRoomFor (Set dentry leaf inode) tree roots room = Unit {0}
-HasRoomFor (Remove dentry leaf went) tree roots room = Unit {0}
-HasRoomFor (Move from source to target went) tree roots room =
-    (inode : Inode) → map.get (shown_tree tree) from ≡ Some inode → is_dir_kind inode.kind ≡ true → HasRoomToMove roots room tree.homes tree.covers inode.ino.0 (home_at to)
+HasRoomFor (Add spot inode) tree roots room = Unit {0}
+HasRoomFor (Set spot inode) tree roots room = Unit {0}
+HasRoomFor (Remove spot went) tree roots room = Unit {0}
+HasRoomFor (Move from to went) tree roots room =
+    (inode : Inode) → map.get (shown_tree tree) (dentry_at from) ≡ Some inode → is_dir_kind inode.kind ≡ true → HasRoomToMove roots room tree.homes tree.covers inode.ino.0 (home_at (dentry_at to))
 
 -- ---- splits and merges
 

@@ -1,17 +1,16 @@
 //! Whose a leaf is.
 ghost use Rattle.std.specs.Prelude.{◌≡◌, ◌↔◌, false, IsTrue, MatchOption};
-ghost use Rattle.mds_types.specs.Tree.{is_directory};
 ghost use Rattle.inode_table.specs.Dirs.{IsLive};
-ghost use Rattle.subtree_map.specs.Authority.{IsLocated};
+ghost use Rattle.namespace_ops.specs.Places.{Locates};
 ghost use Rattle.mdcache.specs.Core.{state_of};
 ghost use Rattle.mdcache.specs.Shown.{shown_tree};
 ghost use Rattle.ranked_tree.specs.Held.{IsOwned};
-ghost use Rattle.ranked_tree.specs.Subtrees.{AllHave, AreRoots, Rules};
+ghost use Rattle.ranked_tree.specs.Subtrees.{AllHave, AreRoots, HoldsAt, Rules};
 
 use crate::inside::all_have;
 use crate::ranked_tree::RankedTree;
 use mdcache::MdCache;
-use mds_types::{Frag, Ino, Rank};
+use mds_types::{Dirfrag, Frag, Ino, Rank};
 use objstore::Store;
 use subtree_map::Subtrees;
 
@@ -23,15 +22,55 @@ impl<S: Store + Drop> RankedTree<S> {
         authority_of(&self.tree, &self.roots, dir, frag)
     }
 
-    /// The leaf of a directory that a hash picks, and the leaf's authority; none exactly where there is no such directory. Takes
-    /// no memory, one search of the directory table for the leaf, and one for each directory up to the nearest root.
-    pub fn locate(&self, dir: Ino, hash: u32) -> Option<(Frag, Rank)>
-        ensures { MatchOption result (is_directory (shown_tree (state_of self.now.tree)) dir.0 ≡ false) (λ at. IsLocated self.now.subtrees.roots self.now.tree.homes self.now.tree.covers dir hash at.0 at.1) }
+    /// Whether a rank is the authority of a leaf. Takes no memory.
+    pub fn is_authority(&self, rank: Rank, dir: Ino, frag: Frag) -> bool
+        ensures { IsTrue result ↔ Rules (state_of self.now.tree) self.now.subtrees.roots (dir, frag) rank }
     {
-        locate(&self.tree, &self.roots, dir, hash)
+        is_authority(&self.tree, &self.roots, rank, dir, frag)
     }
 
-    /// Whether a rank is the authority of a leaf. Takes no memory.
+    /// Whether each leaf of a directory that lies properly inside a fragment has this rank as its authority. Takes no memory.
+    pub fn is_all_of(&self, dir: Ino, frag: Frag, rank: Rank) -> bool
+        ensures { IsTrue result ↔ AllHave self.now.tree.homes self.now.tree.covers self.now.subtrees.roots dir frag rank }
+    {
+        is_all_of(&self.tree, &self.roots, dir, frag, rank)
+    }
+}
+
+// The authority of a leaf; none exactly where there is no such leaf.
+fn authority_of<S: Store + Drop>(
+    tree: &MdCache<S>,
+    roots: &Subtrees,
+    dir: Ino,
+    frag: Frag,
+) -> Option<Rank>
+    requires { AreRoots (state_of tree.now) roots.now.roots }
+    ensures { MatchOption result (IsLive tree.now.homes tree.now.covers (dir, frag) → ⊥) (λ rank. IsLive tree.now.homes tree.now.covers (dir, frag) × Rules (state_of tree.now) roots.now.roots (dir, frag) rank) }
+{
+    // a leaf contains the hash that its value is, and no other leaf does
+    match roots.locate(tree.dirs(), dir, frag.value()) {
+        Some((leaf, rank)) if leaf == frag => Some(rank),
+        _ => None,
+    }
+}
+
+/// Where a hash falls in a directory: the leaf that it picks, and the rank that holds it; nowhere exactly where there is no such
+/// directory. Takes no memory, one search of the directory table for the leaf, and one for each directory up to the nearest
+/// root.
+pub(crate) fn locate<S: Store + Drop>(
+    tree: &MdCache<S>,
+    roots: &Subtrees,
+    dir: Ino,
+    hash: u32,
+) -> Option<Dirfrag>
+    requires { IsOwned tree.now roots.now.roots }
+    ensures { Locates (shown_tree (state_of tree.now)) tree.now.covers (HoldsAt (state_of tree.now) roots.now.roots) dir.0 hash result }
+{
+    let (frag, rank) = roots.locate(tree.dirs(), dir, hash)?;
+    Some(Dirfrag { dir, frag, rank })
+}
+
+// Whether a rank is the authority of a leaf. Takes no memory.
     pub fn is_authority(&self, rank: Rank, dir: Ino, frag: Frag) -> bool
         ensures { IsTrue result ↔ Rules (state_of self.now.tree) self.now.subtrees.roots (dir, frag) rank }
     {

@@ -4,7 +4,7 @@ ghost use Rattle.mds_types.specs.declared.refusals.Refusal.TheVariants.{NoMemory
 ghost use Rattle.inode_table.specs.Dirs.{MayMove};
 ghost use Rattle.inode_table.specs.TreeTable.{home_at};
 ghost use Rattle.namespace_ops.specs.ChangedFragments.{gone_with};
-ghost use Rattle.namespace_ops.specs.Changes.{MayChange};
+ghost use Rattle.namespace_ops.specs.Changes.{MayChange, dentry_at};
 ghost use Rattle.subtree_map.specs.Authority.{IsSubtrees};
 ghost use Rattle.subtree_map.specs.Moves.{HasRoomToMove, IsSettled};
 ghost use Rattle.mdcache.specs.Changes.{Makes};
@@ -15,12 +15,11 @@ ghost use Rattle.ranked_tree.specs.Held.{CameFor, IsOwned};
 ghost use Rattle.ranked_tree.specs.Ranked.{IsReady, IsReadyHeld};
 ghost use Rattle.ranked_tree.specs.Subtrees.{FollowChange, HasRoomFor, KeepsAuthorities, KeepsRoots, LoseDirectory, NoNewRank, SettleMoving};
 
-use crate::holding::holders_of;
 use crate::ranked_tree::RankedTree;
 use inode_table::Dirs;
 use mdcache::MdCache;
-use mds_types::{Dentry, Ino, Refusal};
-use namespace_ops::Change;
+use mds_types::{Ino, Refusal};
+use namespace_ops::{Change, Spot};
 use objstore::Store;
 use subtree_map::Subtrees;
 
@@ -87,10 +86,9 @@ fn change_tree<S: Store + Drop>(tree: &mut MdCache<S>, roots: &mut Subtrees, cha
     ensures ranks { NoNewRank roots.old.roots roots.new.roots }
     ensures owned { IsOwned tree.new roots.new.roots }
 {
-    let at = holders_of(tree, roots, &change);
     settle(tree, roots, &change);
     let went = went_with(&change);
-    tree.apply(at, change);
+    tree.apply(change);
     lose(roots, went);
 }
 
@@ -125,10 +123,10 @@ fn reserve_move(
     dirs: &Dirs,
     roots: &mut Subtrees,
     moving: Option<Ino>,
-    to: &Dentry,
+    to: &Spot,
 ) -> Result<(), Refusal>
-    requires may { IfSome moving (λ dir. MayMove dirs.now.homes dir.0 (home_at to.now)) }
-    ensures room { OnOk result (IfSome moving (λ dir. HasRoomToMove roots.new.roots roots.new.room dirs.now.homes dirs.now.trees dir.0 (home_at to.now))) }
+    requires may { IfSome moving (λ dir. MayMove dirs.now.homes dir.0 (home_at (dentry_at to.now))) }
+    ensures room { OnOk result (IfSome moving (λ dir. HasRoomToMove roots.new.roots roots.new.room dirs.now.homes dirs.now.trees dir.0 (home_at (dentry_at to.now)))) }
     ensures same { roots.new.roots ≡ roots.old.roots }
     ensures promises { roots.new.promises ≡ roots.old.promises }
     ensures refused { IfErr result (λ reason. reason ≡ NoMemory) }
@@ -137,19 +135,19 @@ fn reserve_move(
     let Some(dir) = moving else {
         return Ok(());
     };
-    roots.reserve_rename(dirs, dir, to.dir, &to.name)
+    roots.reserve_rename(dirs, dir, to.at.dir, &to.name)
 }
 
 // Settles the roots of a directory that is about to move to a dentry, if one is.
-fn settle_move(dirs: &Dirs, roots: &mut Subtrees, moving: Option<Ino>, to: &Dentry)
-    requires may { IfSome moving (λ dir. MayMove dirs.now.homes dir.0 (home_at to.now)) }
-    requires room { IfSome moving (λ dir. HasRoomToMove roots.old.roots roots.old.room dirs.now.homes dirs.now.trees dir.0 (home_at to.now)) }
+fn settle_move(dirs: &Dirs, roots: &mut Subtrees, moving: Option<Ino>, to: &Spot)
+    requires may { IfSome moving (λ dir. MayMove dirs.now.homes dir.0 (home_at (dentry_at to.now))) }
+    requires room { IfSome moving (λ dir. HasRoomToMove roots.old.roots roots.old.room dirs.now.homes dirs.now.trees dir.0 (home_at (dentry_at to.now))) }
     requires valid { IsSubtrees roots.old.roots dirs.now.homes dirs.now.trees }
-    ensures settled { MatchOption moving (roots.new.roots ≡ roots.old.roots) (λ dir. IsSettled roots.old.roots roots.new.roots dirs.now.homes dirs.now.trees dir.0 (home_at to.now)) }
+    ensures settled { MatchOption moving (roots.new.roots ≡ roots.old.roots) (λ dir. IsSettled roots.old.roots roots.new.roots dirs.now.homes dirs.now.trees dir.0 (home_at (dentry_at to.now))) }
     ensures promises { roots.new.promises ≡ roots.old.promises }
 {
     if let Some(dir) = moving {
-        roots.after_rename(dirs, dir, to.dir, &to.name);
+        roots.after_rename(dirs, dir, to.at.dir, &to.name);
     }
 }
 

@@ -3,27 +3,28 @@
 ghost use Rattle.std.specs.Prelude.{◌≡◌, true, IfOk, IfErr, OnOk};
 ghost use Rattle.std.specs.Result.{result_err};
 ghost use Rattle.std.specs.FinMap as map;
-ghost use Rattle.mds_types.specs.Tree.{is_directory};
-ghost use Rattle.fragtree.specs.FragTree.{IsPick};
-ghost use Rattle.namehash.specs.Rjenkins.{hash_of};
+ghost use Rattle.mds_types.specs.Leaf.{leaf_of};
 ghost use Rattle.dirfrag_codec.specs.EntryRecord.{IsRankNumber};
-ghost use Rattle.inode_table.specs.Dirs.{leaves_of};
 ghost use Rattle.namespace_ops.specs.Changes.{IsNumbered, MayChange};
+ghost use Rattle.namespace_ops.specs.Places.{LiesAt};
 ghost use Rattle.mdcache.specs.Frags.{KeepsState, LacksToMake};
 ghost use Rattle.mdcache.specs.Core.{state_of};
 ghost use Rattle.mdcache.specs.Reads.{MayNotFind};
 ghost use Rattle.mdcache.specs.Ready.{MayNotBeReady};
 ghost use Rattle.mdcache.specs.Shown.{shown_tree};
-ghost use Rattle.ranked_tree.specs.Held.{IsNewestHeld, IsOwned, LacksPlacesAsked, LacksPlacesFor, NamesDir, ReadsDir, ReadsFor};
+ghost use Rattle.ranked_tree.specs.Held.{AreHeldAt, IsNewestHeld, IsOwned, LacksPlacesAsked, LacksPlacesFor, NamesDir, ReadsDir, ReadsFor};
 ghost use Rattle.ranked_tree.specs.Ranked.{IsReadyHeld};
+ghost use Rattle.ranked_tree.specs.Subtrees.{HoldsAt};
 
 use crate::changing::reserve_roots;
 use crate::emptiness::is_dir_empty;
-use crate::holding::{holder_of, holders_of};
+use crate::authorities::locate;
 use crate::listing::list_dir;
 use crate::ranked_tree::RankedTree;
 use mdcache::MdCache;
-use mds_types::{Dentry, Frag, Ino, Inode, Listing, Name, Op, PageSize, Refusal};
+use mds_types::{
+    Dentry, Dirfrag, Frag, Ino, Inode, Listing, Name, Op, PageSize, Rank, Refusal,
+};
 use namespace_ops::{Change, Frags};
 use objstore::Store;
 use std::alloc::Global;
@@ -36,7 +37,8 @@ impl<S: Store + Drop> Frags for RankedTree<S> {
     ghost use Rattle.namespace_ops.specs.Changes.{Concerns};
     ghost use Rattle.mdcache.proofs.FragsLaws.{keeps_itself, keeps_refused, refused_so, untouched_by, untouched_on};
     ghost use Rattle.ranked_tree.specs.Held.{LacksPlacesAsked};
-    ghost use Rattle.ranked_tree.proofs.FragsLaws.{kept_on, refused_then};
+    ghost use Rattle.ranked_tree.proofs.FragsLaws.{held_both, kept_on, refused_then};
+    ghost use Rattle.ranked_tree.specs.Subtrees.{HoldsAt};
     ghost use Rattle.std.specs.Prelude.{None};
     ghost use Rattle.mds_types.specs.declared.refusals.Refusal.TheVariants.{NoInodes, NoMemory};
     ghost use Rattle.mdcache.specs.Made.{IsUntouched};
@@ -49,6 +51,8 @@ impl<S: Store + Drop> Frags for RankedTree<S> {
 
     ghost IsNumber = { λ n. IsRankNumber n };
 
+    ghost Holds = { λ t at. HoldsAt (state_of t.tree) t.subtrees.roots at };
+
     ghost IsReady = { λ t change. IsRankedReady t change };
 
     ghost Follows = { λ a b op told. KeepsRanked a b op told };
@@ -60,6 +64,8 @@ impl<S: Store + Drop> Frags for RankedTree<S> {
     ghost follows_self = { λ a op. record { tree = keeps_itself a.tree; roots = refl; reads = stays } };
 
     ghost follows_on = { λ a b c op told p q. kept_on a b c op told p q };
+
+    ghost held_on = { λ a b op told at kept. held_both a b op told at kept };
 
     ghost follows_memory = { λ a b op p. record { tree = keeps_refused a.tree b.tree NoMemory refl p.tree; roots = p.roots; reads = p.reads } };
 
@@ -83,16 +89,21 @@ impl<S: Store + Drop> Frags for RankedTree<S> {
         self.tree.is_above(dir, below)
     }
 
-    fn frag_of(&self, dentry: &Dentry) -> Frag {
-        self.tree.frag_of(dentry)
+    fn locate(&self, _rank: Rank, dir: Ino, hash: u32) -> Option<Dirfrag> {
+        locate(&self.tree, &self.roots, dir, hash)
     }
 
     fn leaves(&self, alloc: Global, dir: Ino) -> Result<Vec<Frag>, Refusal> {
         Ok(self.tree.leaves(alloc, dir)?)
     }
 
-    fn look(&mut self, _op: &Op, dentry: &Dentry, leaf: Frag) -> Result<Option<Inode>, Refusal> {
-        look(self.alloc, &mut self.tree, &self.roots, dentry, leaf)
+    fn look(
+        &mut self,
+        _op: &Op,
+        dentry: &Dentry,
+        at: &Dirfrag,
+    ) -> Result<Option<Inode>, Refusal> {
+        look(self.alloc, &mut self.tree, &self.roots, dentry, at)
     }
 
     fn list_after(
@@ -128,20 +139,18 @@ fn look<S: Store + Drop>(
     tree: &mut MdCache<S>,
     roots: &Subtrees,
     dentry: &Dentry,
-    leaf: Frag,
+    at: &Dirfrag,
 ) -> Result<Option<Inode>, Refusal>
-    requires known { is_directory (shown_tree (state_of tree.old)) dentry.now.dir.0 ≡ true }
-    requires leaf { IsPick (leaves_of tree.old.covers dentry.now.dir.0) (hash_of dentry.now.name) leaf }
+    requires at { LiesAt (shown_tree (state_of tree.old)) tree.old.covers (HoldsAt (state_of tree.old) roots.now.roots) dentry.now at.now }
     requires owned { IsOwned tree.old roots.now.roots }
     ensures found { IfOk result (λ found. found ≡ map.get (shown_tree (state_of tree.old)) dentry.now) }
     ensures kept { KeepsState tree.old tree.new (result_err result) }
-    ensures newest { OnOk result (IsNewestHeld (state_of tree.old) roots.now.roots tree.new.caches (dentry.now.dir, leaf)) }
+    ensures newest { OnOk result (IsNewestHeld (state_of tree.old) roots.now.roots tree.new.caches (leaf_of at.now)) }
     ensures reads { ReadsDir roots.now.roots dentry.now.dir tree.old tree.new }
     ensures owned { IsOwned tree.new roots.now.roots }
-    ensures refused { IfErr result (MayNotFind (LacksPlacesFor 1 tree.old roots.now.roots (dentry.now.dir, leaf)) tree.old.faults tree.new.faults) }
+    ensures refused { IfErr result (MayNotFind (LacksPlacesFor 1 tree.old roots.now.roots (leaf_of at.now)) tree.old.faults tree.new.faults) }
 {
-    let rank = holder_of(tree, roots, dentry.dir, leaf);
-    tree.look(alloc, rank, dentry, leaf)
+    tree.look(alloc, at, &dentry.name)
 }
 
 // Makes a change ready in the caches of the ranks that hold its leaves.
@@ -152,6 +161,7 @@ fn prepare<S: Store + Drop>(
     change: &Change,
 ) -> Result<(), Refusal>
     requires may { MayChange (shown_tree (state_of tree.old)) tree.old.covers change.now }
+    requires held { AreHeldAt (state_of tree.old) roots.now.roots change.now }
     requires numbered { IsNumbered IsRankNumber change.now }
     requires owned { IsOwned tree.old roots.now.roots }
     ensures ready { OnOk result (IsReadyHeld tree.new roots.now.roots change.now) }
@@ -160,6 +170,5 @@ fn prepare<S: Store + Drop>(
     ensures owned { IsOwned tree.new roots.now.roots }
     ensures refused { IfErr result (MayNotBeReady (LacksToMake change.now (state_of tree.old)) (LacksPlacesAsked 2 tree.old roots.now.roots (NamesDir change.now)) tree.old.faults tree.new.faults) }
 {
-    let at = holders_of(tree, roots, change);
-    tree.prepare(alloc, at, change)
+    tree.prepare(alloc, change)
 }

@@ -1,8 +1,7 @@
 //! Reads that ask the tree alone, and no fragment. None takes memory.
 ghost use Rattle.std.specs.Prelude.{◌≡◌, true, IsTrue, ◌↔◌, OnOk, IfErr};
 ghost use Rattle.mds_types.specs.Tree.{is_directory};
-ghost use Rattle.fragtree.specs.FragTree.{CanMerge, CanSplit, IsPick, RefusesMerge, RefusesSplit};
-ghost use Rattle.namehash.specs.Rjenkins.{hash_of};
+ghost use Rattle.fragtree.specs.FragTree.{CanMerge, CanSplit, RefusesMerge, RefusesSplit};
 ghost use Rattle.inode_table.specs.Dirs.{IsLive, is_known, leaves_of};
 ghost use Rattle.dentry_cache.specs.CacheMap.{AreCaches};
 ghost use Rattle.mdcache.specs.Core.{state_of};
@@ -13,7 +12,7 @@ ghost use Rattle.ranked_tree.specs.Held.{IsOwned};
 
 use crate::ranked_tree::RankedTree;
 use inode_table::Dirs;
-use mds_types::{Dentry, Frag, Ino, Refusal};
+use mds_types::{Frag, Ino, Refusal};
 use objstore::Store;
 
 impl<S: Store + Drop> RankedTree<S> {
@@ -45,13 +44,6 @@ impl<S: Store + Drop> RankedTree<S> {
         ensures { result ≡ is_directory (shown_tree (state_of self.now.tree)) dir.0 }
     {
         self.tree.is_dir(dir)
-    }
-
-    /// The leaf that a dentry belongs to.
-    pub fn frag_of(&self, dentry: &Dentry) -> Frag
-        ensures { IsPick (leaves_of self.now.tree.covers dentry.now.dir.0) (hash_of dentry.now.name) result }
-    {
-        self.tree.frag_of(dentry)
     }
 
     /// Whether there is such a directory, and it has this leaf.

@@ -22,8 +22,8 @@ use Rattle.cluster_core.proofs.serving.serve_new.Goals as goal
 pub returns-in-Some-take-clause-served : goal.returns-in-Some-take-clause-served
 returns-in-Some-take-clause-served g c =
     let supply_is = c.supply_of-supply.ensures in
-    let at_rank : c.master_of-master.result ≡ c.args.rank = c.is_same.ensures.0 c.if-not-is_same.false in
-    let master = subst (λ (m : Rank). IsMasterIn (tree_state c.args.tree.now.tree) c.args.tree.now.subtrees.roots c.args.rank c.in-Some.front.now.op m) at_rank c.master_of-master.ensures in
+    let at_rank : c.locate_master-master.result.1 ≡ c.args.rank = c.is_same.ensures.0 c.if-not-is_same.false in
+    let master = subst (λ (m : Rank). IsMasterIn (tree_state c.args.tree.now.tree) c.args.tree.now.subtrees.roots c.args.rank c.in-Some.front.now.op m) at_rank c.locate_master-master.ensures.master in
     let f = tree_state c.args.tree.now.tree in
     let op = c.in-Some.front.now.op in
     let made = subst (λ (o : Option Prepared). IsMadeReady f c.args.tree.now.subtrees.roots c.args.pins.now c.supply_of-supply.result c.args.rank c.in-Some.front.now (IsReadyIn c.make_ready.new.tree) (MayRefuse c.args.tree.now c.make_ready.new.tree op) (Ok o))
@@ -40,8 +40,8 @@ returns-in-Some-take-clause-served g c =
 pub returns-in-Err-NoInodes-clause-served : goal.returns-in-Err-NoInodes-clause-served
 returns-in-Err-NoInodes-clause-served g c =
     let supply_is = c.supply_of-supply.ensures in
-    let at_rank : c.master_of-master.result ≡ c.args.rank = c.is_same.ensures.0 c.if-not-is_same.false in
-    let master = subst (λ (m : Rank). IsMasterIn (tree_state c.args.tree.now.tree) c.args.tree.now.subtrees.roots c.args.rank c.in-Some.front.now.op m) at_rank c.master_of-master.ensures in
+    let at_rank : c.locate_master-master.result.1 ≡ c.args.rank = c.is_same.ensures.0 c.if-not-is_same.false in
+    let master = subst (λ (m : Rank). IsMasterIn (tree_state c.args.tree.now.tree) c.args.tree.now.subtrees.roots c.args.rank c.in-Some.front.now.op m) at_rank c.locate_master-master.ensures.master in
     let f = tree_state c.args.tree.now.tree in
     let op = c.in-Some.front.now.op in
     lacks_number f c.args.tree.now.subtrees.roots c.args.numbers.now.items c.args.inboxes.now c.args.pins.now (table c.args.sessions.now) c.args.history.now.items c.args.rank (MayRefuse c.args.tree.now c.make_ready.new.tree)
@@ -54,8 +54,8 @@ returns-in-Err-NoInodes-clause-served g c =
 pub returns-in-Err-clause-served : goal.returns-in-Err-clause-served
 returns-in-Err-clause-served g c =
     let supply_is = c.supply_of-supply.ensures in
-    let at_rank : c.master_of-master.result ≡ c.args.rank = c.is_same.ensures.0 c.if-not-is_same.false in
-    let master = subst (λ (m : Rank). IsMasterIn (tree_state c.args.tree.now.tree) c.args.tree.now.subtrees.roots c.args.rank c.in-Some.front.now.op m) at_rank c.master_of-master.ensures in
+    let at_rank : c.locate_master-master.result.1 ≡ c.args.rank = c.is_same.ensures.0 c.if-not-is_same.false in
+    let master = subst (λ (m : Rank). IsMasterIn (tree_state c.args.tree.now.tree) c.args.tree.now.subtrees.roots c.args.rank c.in-Some.front.now.op m) at_rank c.locate_master-master.ensures.master in
     let f = tree_state c.args.tree.now.tree in
     let op = c.in-Some.front.now.op in
     let isnt : c.in-Err.refusal ≢ NoInodes = search rules in

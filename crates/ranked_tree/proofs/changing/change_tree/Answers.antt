@@ -1,21 +1,17 @@
 use Rattle.std.proofs.Common.{Option, subst}
 use Rattle.mds_types.specs.declared.ids.Ino.{Ino}
-use Rattle.mdcache.specs.declared.holders.Holders.{Holders}
 use Rattle.dentry_cache.proofs.FrameLaws.{came_cap, came_ranks}
-use Rattle.mdcache.specs.Frags.{IsReady}
 use Rattle.mdcache.specs.Ranks.{EndsWith, IsNamedIn}
 use Rattle.ranked_tree.specs.Subtrees.{LoseDirectory}
 use Rattle.ranked_tree.proofs.CameForLaws.{came_for}
 use Rattle.ranked_tree.proofs.HeldChanges.{change_held}
-use Rattle.ranked_tree.proofs.HolderLaws.{same_holders}
+use Rattle.ranked_tree.proofs.HolderLaws.{hold_each}
 use Rattle.ranked_tree.proofs.SubtreeLaws.{changes_soundly}
 use Rattle.mdcache.specs.Core.{state_of}
 use Rattle.ranked_tree.proofs.changing.change_tree.Goals as goal
 
-pub apply-requires-clause-ready : goal.apply-requires-clause-ready
-apply-requires-clause-ready g c =
-    subst (λ (at : Holders). IsReady c.args.tree.now at c.args.change)
-    (same_holders (state_of c.args.tree.now) c.args.roots.now.roots c.requires.ready.at c.holders_of-at.result c.args.change c.requires.ready.holders c.holders_of-at.ensures.holders) c.requires.ready.ready
+pub apply-requires-clause-holds : goal.apply-requires-clause-holds
+apply-requires-clause-holds g c = hold_each (state_of c.args.tree.now) c.args.roots.now.roots c.args.tree.now.caches c.requires.owned.held c.args.change c.requires.ready.held
 
 pub returns-clause-roots : goal.returns-clause-roots
 returns-clause-roots g c = (
@@ -36,15 +32,15 @@ pub returns-clause-owned : goal.returns-clause-owned
 returns-clause-owned g c = record {
   sound = c.apply.ensures.sound;
   valid = (changes_soundly c.args.change (state_of c.args.tree.now) (state_of c.apply.new.self) c.args.roots.now.roots c.lose.new.roots.roots c.requires.owned.sound.sound c.requires.may c.apply.ensures.made (returns-clause-roots g c) c.requires.owned.valid).valid;
-  held = change_held c.args.tree.now c.apply.new.self c.args.roots.now.roots c.lose.new.roots.roots c.requires.owned c.apply.ensures.sound (returns-clause-authority g c) c.holders_of-at.result c.args.change c.holders_of-at.ensures.holders c.requires.may c.apply.ensures.made
+  held = change_held c.args.tree.now c.apply.new.self c.args.roots.now.roots c.lose.new.roots.roots c.requires.owned c.apply.ensures.sound (returns-clause-authority g c) c.args.change c.requires.ready.held c.requires.may c.apply.ensures.made
       (returns-clause-roots g c) (returns-clause-ranks g c) c.apply.ensures.came;
 }
 
 pub returns-clause-count : goal.returns-clause-count
-returns-clause-count g c = came_ranks (IsNamedIn c.holders_of-at.result c.args.change) (EndsWith c.args.change) c.args.tree.now.caches c.apply.new.self.caches c.apply.ensures.came
+returns-clause-count g c = came_ranks (IsNamedIn c.args.change) (EndsWith c.args.change) c.args.tree.now.caches c.apply.new.self.caches c.apply.ensures.came
 
 pub returns-clause-cap : goal.returns-clause-cap
-returns-clause-cap g c = came_cap (IsNamedIn c.holders_of-at.result c.args.change) (EndsWith c.args.change) c.args.tree.now.caches c.apply.new.self.caches c.apply.ensures.came
+returns-clause-cap g c = came_cap (IsNamedIn c.args.change) (EndsWith c.args.change) c.args.tree.now.caches c.apply.new.self.caches c.apply.ensures.came
 
 pub returns-clause-came : goal.returns-clause-came
-returns-clause-came g c = came_for c.args.tree.now c.apply.new.self c.args.roots.now.roots c.holders_of-at.result c.args.change c.requires.owned.sound.sound c.apply.ensures.sound.sound c.requires.may c.holders_of-at.ensures.holders c.apply.ensures.made c.apply.ensures.came
+returns-clause-came g c = came_for c.args.tree.now c.apply.new.self c.args.roots.now.roots c.args.change c.requires.owned.sound.sound c.apply.ensures.sound.sound c.requires.may c.requires.ready.held c.apply.ensures.made c.apply.ensures.came

@@ -1,30 +1,52 @@
+use Rattle.std.proofs.Common.{ap, subst, sym, ◌∙◌}
 use Rattle.std.proofs.lemmas.Result.{on_ok_weaker}
-use Rattle.mdcache.proofs.CoreLaws.{reads_keeps}
+use Rattle.std.specs.Prelude.{IfOk, ◌≡◌}
+use Rattle.std.specs.Result.{result_err}
+use Rattle.std.specs.FinMap as map
+use Rattle.mds_types.specs.declared.dentries.Dentry.{Dentry}
+use Rattle.mds_types.specs.declared.ids.Ino.{Ino}
+use Rattle.mds_types.specs.Leaf.{leaf_of}
+use Rattle.mds_types.specs.Tree.{is_directory}
+use Rattle.fragtree.specs.FragTree.{IsPick}
+use Rattle.namehash.specs.Rjenkins.{hash_of}
 use Rattle.dentry_cache.specs.CacheSplits.{IsKeptFor}
 use Rattle.dentry_cache.specs.Came.{IsThat}
-use Rattle.namehash.specs.Rjenkins.{hash_of}
+use Rattle.inode_table.specs.Dirs.{leaves_of}
 use Rattle.mdcache.specs.Core.{state_of}
-use Rattle.ranked_tree.proofs.HolderLaws.{pick_live}
+use Rattle.mdcache.specs.Shown.{shown_tree}
+use Rattle.mdcache.proofs.CoreLaws.{reads_keeps}
+use Rattle.ranked_tree.specs.Held.{ReadsDir}
 use Rattle.ranked_tree.proofs.AskLaws.{told_for}
-use Rattle.ranked_tree.proofs.HeldLaws.{owned_read}
-use Rattle.std.specs.Result.{result_err}
+use Rattle.ranked_tree.proofs.HeldLaws.{may_hold, owned_read}
 use Rattle.ranked_tree.proofs.ReadsForLaws.{reads_one}
 use Rattle.ranked_tree.proofs.frags.look.Goals as goal
 
+pub look-requires-clause-holds : goal.look-requires-clause-holds
+look-requires-clause-holds g c = may_hold (state_of c.args.tree.now) c.args.tree.now.caches c.args.roots.now.roots c.requires.owned.held (leaf_of c.args.at.now) c.args.at.now.rank c.requires.at.held
+
+pub look-requires-clause-known : goal.look-requires-clause-known
+look-requires-clause-known g c = ap (is_directory (shown_tree (state_of c.args.tree.now))) c.requires.at.dir ∙ c.requires.at.stands
+
+pub look-requires-clause-leaf : goal.look-requires-clause-leaf
+look-requires-clause-leaf g c = subst (λ d. IsPick (leaves_of c.args.tree.now.covers d) (hash_of c.args.dentry.now.name) c.args.at.now.frag) (sym c.requires.at.dir) c.requires.at.leaf
+
+pub returns-clause-found : goal.returns-clause-found
+returns-clause-found g c =
+    subst (λ (d : Dentry). IfOk c.look.result (λ found. found ≡ map.get (shown_tree (state_of c.args.tree.now)) d)) (λ i. record { dir = record { 0 = c.requires.at.dir i }; name = c.args.dentry.now.name }) c.look.ensures.found
+
 pub returns-clause-kept : goal.returns-clause-kept
-returns-clause-kept g c = reads_keeps (IsThat c.holder_of-rank.result.0 (c.args.dentry.now.dir, c.args.leaf)) (IsKeptFor c.args.tree.now.caches) c.args.tree.now c.look.new.self c.look.ensures.reads (result_err c.look.result) c.look.ensures.counted
+returns-clause-kept g c = reads_keeps (IsThat c.args.at.now.rank.0 (leaf_of c.args.at.now)) (IsKeptFor c.args.tree.now.caches) c.args.tree.now c.look.new.self c.look.ensures.reads (result_err c.look.result) c.look.ensures.counted
 
 pub returns-clause-owned : goal.returns-clause-owned
-returns-clause-owned g c = owned_read (IsKeptFor c.args.tree.now.caches) c.args.tree.now c.look.new.self c.args.roots.now.roots (c.args.dentry.now.dir, c.args.leaf) c.holder_of-rank.result c.holder_of-rank.ensures.rules c.look.ensures.reads c.look.ensures.sound c.requires.owned
+returns-clause-owned g c = owned_read (IsKeptFor c.args.tree.now.caches) c.args.tree.now c.look.new.self c.args.roots.now.roots (leaf_of c.args.at.now) c.args.at.now.rank c.requires.at.held c.look.ensures.reads c.look.ensures.sound c.requires.owned
 
 pub returns-clause-refused : goal.returns-clause-refused
-returns-clause-refused g c = told_for _ c.look.result c.args.tree.now c.args.roots.now.roots (c.args.dentry.now.dir, c.args.leaf) c.look.new.self.faults c.holder_of-rank.result c.holder_of-rank.ensures.rules c.look.ensures.refused
-
-pub holder_of-rank-requires-clause-live : goal.holder_of-rank-requires-clause-live
-holder_of-rank-requires-clause-live g c = pick_live (state_of c.args.tree.now) c.requires.owned.sound.sound c.args.dentry.now.dir (hash_of c.args.dentry.now.name) c.args.leaf c.requires.known c.requires.leaf
+returns-clause-refused g c = told_for _ c.look.result c.args.tree.now c.args.roots.now.roots (leaf_of c.args.at.now) c.look.new.self.faults c.args.at.now.rank c.requires.at.held c.look.ensures.refused
 
 pub returns-clause-reads : goal.returns-clause-reads
-returns-clause-reads g c = reads_one (IsKeptFor c.args.tree.now.caches) c.args.tree.now c.look.new.self c.args.roots.now.roots (c.args.dentry.now.dir, c.args.leaf) c.holder_of-rank.result c.holder_of-rank.ensures.rules c.look.ensures.reads
+returns-clause-reads g c =
+    subst (λ (d : Ino). ReadsDir c.args.roots.now.roots d c.args.tree.now c.look.new.self) (λ i. record { 0 = c.requires.at.dir i })
+    (reads_one (IsKeptFor c.args.tree.now.caches) c.args.tree.now c.look.new.self c.args.roots.now.roots (leaf_of c.args.at.now) c.args.at.now.rank c.requires.at.held c.look.ensures.reads)
 
 pub returns-clause-newest : goal.returns-clause-newest
-returns-clause-newest g c = on_ok_weaker c.look.result (λ newest. (c.holder_of-rank.result, c.holder_of-rank.ensures.rules, newest)) c.look.ensures.newest
+returns-clause-newest g c = on_ok_weaker c.look.result (λ newest. (c.args.at.now.rank, c.requires.at.held, newest)) c.look.ensures.newest
