@@ -70,51 +70,6 @@ pub(crate) fn locate<S: Store + Drop>(
     Some(Dirfrag { dir, frag, rank })
 }
 
-// Whether a rank is the authority of a leaf. Takes no memory.
-    pub fn is_authority(&self, rank: Rank, dir: Ino, frag: Frag) -> bool
-        ensures { IsTrue result ↔ Rules (state_of self.now.tree) self.now.subtrees.roots (dir, frag) rank }
-    {
-        is_authority(&self.tree, &self.roots, rank, dir, frag)
-    }
-
-    /// Whether each leaf of a directory that lies properly inside a fragment has this rank as its authority. Takes no memory.
-    pub fn is_all_of(&self, dir: Ino, frag: Frag, rank: Rank) -> bool
-        ensures { IsTrue result ↔ AllHave self.now.tree.homes self.now.tree.covers self.now.subtrees.roots dir frag rank }
-    {
-        is_all_of(&self.tree, &self.roots, dir, frag, rank)
-    }
-}
-
-// The authority of a leaf; none exactly where there is no such leaf.
-fn authority_of<S: Store + Drop>(
-    tree: &MdCache<S>,
-    roots: &Subtrees,
-    dir: Ino,
-    frag: Frag,
-) -> Option<Rank>
-    requires { AreRoots (state_of tree.now) roots.now.roots }
-    ensures { MatchOption result (IsLive tree.now.homes tree.now.covers (dir, frag) → ⊥) (λ rank. IsLive tree.now.homes tree.now.covers (dir, frag) × Rules (state_of tree.now) roots.now.roots (dir, frag) rank) }
-{
-    // a leaf contains the hash that its value is, and no other leaf does
-    match roots.locate(tree.dirs(), dir, frag.value()) {
-        Some((leaf, rank)) if leaf == frag => Some(rank),
-        _ => None,
-    }
-}
-
-// The leaf of a directory that a hash picks, and the leaf's authority.
-fn locate<S: Store + Drop>(
-    tree: &MdCache<S>,
-    roots: &Subtrees,
-    dir: Ino,
-    hash: u32,
-) -> Option<(Frag, Rank)>
-    requires { IsOwned tree.now roots.now.roots }
-    ensures { MatchOption result (is_directory (shown_tree (state_of tree.now)) dir.0 ≡ false) (λ at. IsLocated roots.now.roots tree.now.homes tree.now.covers dir hash at.0 at.1) }
-{
-    roots.locate(tree.dirs(), dir, hash)
-}
-
 // Whether a rank is the authority of a leaf.
 fn is_authority<S: Store + Drop>(
     tree: &MdCache<S>,

@@ -11,7 +11,7 @@ use Rattle.mdcache.specs.Core.{state_of}
 use Rattle.ranked_tree.proofs.changing.change_tree.Goals as goal
 
 pub apply-requires-clause-holds : goal.apply-requires-clause-holds
-apply-requires-clause-holds g c = hold_each (state_of c.args.tree.now) c.args.roots.now.roots c.args.tree.now.caches c.requires.owned.held c.args.change c.requires.ready.held
+apply-requires-clause-holds g c = hold_each (state_of c.args.tree.now) c.requires.owned.sound.sound c.args.roots.now.roots c.args.tree.now.caches c.requires.owned.held c.args.change c.requires.ready.held
 
 pub returns-clause-roots : goal.returns-clause-roots
 returns-clause-roots g c = (

@@ -14,7 +14,7 @@ use Rattle.ranked_tree.proofs.ReadsForLaws.{reads_change}
 use Rattle.ranked_tree.proofs.frags.prepare.Goals as goal
 
 pub prepare-requires-clause-holds : goal.prepare-requires-clause-holds
-prepare-requires-clause-holds g c = hold_each (state_of c.args.tree.now) c.args.roots.now.roots c.args.tree.now.caches c.requires.owned.held c.args.change.now c.requires.held
+prepare-requires-clause-holds g c = hold_each (state_of c.args.tree.now) c.requires.owned.sound.sound c.args.roots.now.roots c.args.tree.now.caches c.requires.owned.held c.args.change.now c.requires.held
 
 pub returns-clause-ready : goal.returns-clause-ready
 returns-clause-ready g c =

@@ -1,4 +1,9 @@
+use Rattle.std.proofs.Common.{subst, sym}
 use Rattle.std.specs.Result.{result_err}
+use Rattle.mds_types.specs.Leaf.{leaf_of}
+use Rattle.namespace_ops.specs.Changes.{Concerns}
+use Rattle.mdcache.specs.Core.{state_of}
+use Rattle.mdcache.specs.Shown.{shown_tree}
 use Rattle.ranked_tree.proofs.FragsLaws.{keeps_dir, look_refused}
 use Rattle.ranked_tree.proofs.frags.RankedTreeFrags.look.Goals as goal
 
@@ -6,4 +11,4 @@ pub returns-clause-kept : goal.returns-clause-kept
 returns-clause-kept g c = keeps_dir c.self.inside.tree c.look.new.tree _ c.args.self.now c.self.view_is c.args._op.now c.args.dentry.now.dir (result_err c.look.result) c.requires.reads.0 c.look.ensures.kept c.look.ensures.reads
 
 pub returns-clause-err : goal.returns-clause-err
-returns-clause-err g c = look_refused c.self.inside.tree c.look.new.tree _ c.args.self.now c.self.view_is c.args._op.now c.look.result (c.args.dentry.now.dir, c.args.leaf) c.requires.reads.0 c.look.ensures.refused
+returns-clause-err g c = look_refused c.self.inside.tree c.look.new.tree _ c.args.self.now c.self.view_is c.args._op.now c.look.result (leaf_of c.args.at.now) (subst (λ d. Concerns (shown_tree (state_of c.args.self.now.tree)) c.args._op.now d) (sym c.requires.at.dir) c.requires.reads.0) c.look.ensures.refused
