@@ -5,13 +5,14 @@ use Rattle.mds_types.specs.declared.ids.Rank.{Rank}
 use Rattle.mds_types.specs.declared.ids.Ino.{Ino}
 use Rattle.mds_types.specs.Frag.{Fragment}
 use Rattle.mds_types.specs.Tree.{is_directory}
-use Rattle.fragtree.specs.FragTree.{HasLeaf}
-use Rattle.inode_table.specs.Dirs.{Covers, Homes, IsLive, is_known, leaves_of}
+use Rattle.fragtree.specs.FragTree.{HasLeaf, IsPick}
+use Rattle.inode_table.specs.declared.dirs.Home.{Home}
+use Rattle.inode_table.specs.Dirs.{Covers, Homes, IsLeafAt, IsLive, is_known, leaves_of}
 use Rattle.inode_table.proofs.TableLaws.{known_is}
 use Rattle.mdcache.specs.Core.{Core, state_of}
 use Rattle.mdcache.specs.Shown.{shown_tree}
 use Rattle.ranked_tree.specs.Held.{IsOwned}
-use Rattle.ranked_tree.specs.Subtrees.{HoldsAt}
+use Rattle.ranked_tree.specs.Subtrees.{HoldsAt, Rules}
 use Rattle.namespace_ops.specs.Places.{IsAt}
 use Rattle.subtree_map.specs.Authority.{HasAuthority, IsLocated, Leaf, Roots}
 use Rattle.subtree_map.proofs.Nearest.{one_authority}
@@ -30,10 +31,13 @@ module _ (core : Core) (roots : Roots) (owned : IsOwned core roots) (dir : Ino) 
   pub nowhere : is_known homes dir.0 ≡ false → is_directory (shown_tree (state_of core)) dir.0 ≡ false
   nowhere none = sym (known_is (shown_tree (state_of core)) core.homes owned.sound.sound.tabled dir.0) ∙ subst (λ (hs : Homes). is_known hs dir.0 ≡ false) same none
 
-  pub there : (frag : Fragment) (rank : Rank) → IsLocated roots homes covers dir hash frag rank → IsAt (shown_tree (state_of core)) core.covers (HoldsAt (state_of core) roots) dir.0 hash (record { dir = dir; frag = frag; rank = rank })
-  there frag rank is =
-      let now = subst (λ (cs : Covers). IsLocated roots core.homes cs dir hash frag rank) alike (subst (λ (hs : Homes). IsLocated roots hs covers dir hash frag rank) same is) in
-      record { dir = refl; stands = sym (known_is (shown_tree (state_of core)) core.homes owned.sound.sound.tabled dir.0) ∙ now.known; leaf = now.pick; held = now.has }
+  -- it lies at a rank that is the authority of the leaf, as that is live
+  pub located : (frag : Fragment) (rank : Rank) (above : Option Home) → IsLeafAt homes covers dir.0 hash frag above → (IsLive core.homes core.covers (dir, frag) → Rules (state_of core) roots (dir, frag) rank)
+      → IsAt (shown_tree (state_of core)) core.covers (HoldsAt (state_of core) roots) dir.0 hash (record { dir = dir; frag = frag; rank = rank })
+  located frag rank above is held =
+      let known : is_known core.homes dir.0 ≡ true = subst (λ (hs : Homes). is_known hs dir.0 ≡ true) same is.known in
+      let pick : IsPick (leaves_of core.covers dir.0) hash frag = subst (λ (cs : Covers). IsPick (leaves_of cs dir.0) hash frag) alike is.pick in
+      record { dir = refl; stands = sym (known_is (shown_tree (state_of core)) core.homes owned.sound.sound.tabled dir.0) ∙ known; leaf = pick; held = held (record { known = known; stands = pick.stands }) }
 
 -- the authority of a leaf, found by the hash that its value is
 pub leaf_authority : (roots : Roots) (homes : Homes) (covers : Covers) (dir : Ino) (frag found : Fragment) (rank : Rank) → found ≡ frag → IsLocated roots homes covers dir frag.value found rank → IsLive homes covers (dir, frag) × HasAuthority roots homes covers (dir, frag) rank

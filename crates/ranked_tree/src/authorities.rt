@@ -55,18 +55,28 @@ fn authority_of<S: Store + Drop>(
 }
 
 /// Where a hash falls in a directory: the leaf that it picks, and the rank that holds it; nowhere exactly where there is no such
-/// directory. Takes no memory, one search of the directory table for the leaf, and one for each directory up to the nearest
-/// root.
+/// directory. `rank` is asked first: it holds a leaf of which it has a place. Takes no memory, one search of the directory table,
+/// and for a leaf that the rank doesn't cache one more for each directory up to the nearest root.
 pub(crate) fn locate<S: Store + Drop>(
     tree: &MdCache<S>,
     roots: &Subtrees,
+    rank: Rank,
     dir: Ino,
     hash: u32,
 ) -> Option<Dirfrag>
     requires { IsOwned tree.now roots.now.roots }
     ensures { Locates (shown_tree (state_of tree.now)) tree.now.covers (HoldsAt (state_of tree.now) roots.now.roots) dir.0 hash result }
 {
-    let (frag, rank) = roots.locate(tree.dirs(), dir, hash)?;
+    let dirs = tree.dirs();
+    let Some(at) = dirs.leaf_at(dir, hash) else {
+        return None;
+    };
+    let frag = at.frag;
+    let here = Dirfrag { dir, frag, rank };
+    if tree.has_place(&here) {
+        return Some(here);
+    }
+    let rank = roots.authority_from(dirs, (dir, frag), at.home);
     Some(Dirfrag { dir, frag, rank })
 }
 

@@ -109,8 +109,8 @@ impl<S: Store + Drop> Frags for RankedTree<S> {
         self.tree.is_above(dir, below)
     }
 
-    fn locate(&self, _rank: Rank, dir: Ino, hash: u32) -> Option<Dirfrag> {
-        locate(&self.tree, &self.roots, dir, hash)
+    fn locate(&self, rank: Rank, dir: Ino, hash: u32) -> Option<Dirfrag> {
+        locate(&self.tree, &self.roots, rank, dir, hash)
     }
 
     fn leaves(&self, alloc: Global, dir: Ino) -> Result<Vec<Frag>, Refusal> {

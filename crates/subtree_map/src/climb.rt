@@ -64,14 +64,30 @@ impl Subtrees {
         requires valid { IsSubtrees self.now.roots dirs.now.homes dirs.now.trees }
         ensures { MatchOption result (is_known dirs.now.homes dir.0 ≡ false) (λ at. IsLocated self.now.roots dirs.now.homes dirs.now.trees dir hash at.0 at.1) }
     {
-        dirs.is_table();
         let Some(at) = dirs.leaf_at(dir, hash) else {
             return None;
         };
-        let Some((_, rank)) = self.climb(dirs, (dir, at.frag), at.home) else {
-            unreachable!()
-        };
-        Some((at.frag, rank))
+        Some((at.frag, self.authority_from(dirs, (dir, at.frag), at.home)))
+    }
+
+    /// The authority of a leaf whose directory stands there. Takes no memory, and a look-up and a hash for each directory on the
+    /// way to the leaf's nearest root.
+    pub fn authority_from<'a>(
+        &self,
+        dirs: &'a Dirs,
+        leaf: (Ino, Frag),
+        home: Option<&'a Home>,
+    ) -> Rank
+        requires leaf { IsLive dirs.now.homes dirs.now.trees leaf }
+        requires home { option_copied home ≡ map.get dirs.now.homes leaf.0.0 }
+        requires valid { IsSubtrees self.now.roots dirs.now.homes dirs.now.trees }
+        ensures { HasAuthority self.now.roots dirs.entry.now.homes dirs.entry.now.trees leaf result }
+    {
+        dirs.is_table();
+        match self.climb(dirs, leaf, home) {
+            Some((_, rank)) => rank,
+            None => unreachable!(),
+        }
     }
 
     /// The nearest root of the leaf that holds a dentry, and its rank: none where no root is on the way up. The dentry's

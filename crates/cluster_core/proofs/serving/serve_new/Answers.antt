@@ -15,15 +15,15 @@ use Rattle.cluster_core.specs.Master.{IsMasterIn, MayTouchAllIn}
 use Rattle.cluster_core.specs.declared.applying.Prepared.{Prepared}
 use Rattle.cluster_core.specs.Prepared.{IsMadeReady, IsPrepared, IsUnready, outcome_with}
 use Rattle.mdcache.proofs.FragsLaws.{refused_so}
-use Rattle.cluster_core.proofs.Served.{lacks_number, refused_there, served_new}
+use Rattle.cluster_core.proofs.Served.{deferred, lacks_number, refused_there, served_new}
 use Rattle.cluster_core.proofs.UsesLaws.{applied_uses, at_front, planned_came, same_caches, unready_of, unready_uses}
 use Rattle.cluster_core.proofs.serving.serve_new.Goals as goal
 
 pub returns-in-Some-take-clause-served : goal.returns-in-Some-take-clause-served
 returns-in-Some-take-clause-served g c =
     let supply_is = c.supply_of-supply.ensures in
-    let at_rank : c.locate_master-master.result.1 ≡ c.args.rank = c.is_same.ensures.0 c.if-not-is_same.false in
-    let master = subst (λ (m : Rank). IsMasterIn (tree_state c.args.tree.now.tree) c.args.tree.now.subtrees.roots c.args.rank c.in-Some.front.now.op m) at_rank c.locate_master-master.ensures.master in
+    let at_rank : c.locate_master-places.result.1 ≡ c.args.rank = c.is_same.ensures.0 c.if-not-is_same.false in
+    let master = subst (λ (m : Rank). IsMasterIn (tree_state c.args.tree.now.tree) c.args.tree.now.subtrees.roots c.args.rank c.in-Some.front.now.op m) at_rank c.locate_master-places.ensures.master in
     let f = tree_state c.args.tree.now.tree in
     let op = c.in-Some.front.now.op in
     let made = subst (λ (o : Option Prepared). IsMadeReady f c.args.tree.now.subtrees.roots c.args.pins.now c.supply_of-supply.result c.args.rank c.in-Some.front.now (IsReadyIn c.make_ready.new.tree) (MayRefuse c.args.tree.now c.make_ready.new.tree op) (Ok o))
@@ -40,8 +40,8 @@ returns-in-Some-take-clause-served g c =
 pub returns-in-Err-NoInodes-clause-served : goal.returns-in-Err-NoInodes-clause-served
 returns-in-Err-NoInodes-clause-served g c =
     let supply_is = c.supply_of-supply.ensures in
-    let at_rank : c.locate_master-master.result.1 ≡ c.args.rank = c.is_same.ensures.0 c.if-not-is_same.false in
-    let master = subst (λ (m : Rank). IsMasterIn (tree_state c.args.tree.now.tree) c.args.tree.now.subtrees.roots c.args.rank c.in-Some.front.now.op m) at_rank c.locate_master-master.ensures.master in
+    let at_rank : c.locate_master-places.result.1 ≡ c.args.rank = c.is_same.ensures.0 c.if-not-is_same.false in
+    let master = subst (λ (m : Rank). IsMasterIn (tree_state c.args.tree.now.tree) c.args.tree.now.subtrees.roots c.args.rank c.in-Some.front.now.op m) at_rank c.locate_master-places.ensures.master in
     let f = tree_state c.args.tree.now.tree in
     let op = c.in-Some.front.now.op in
     lacks_number f c.args.tree.now.subtrees.roots c.args.numbers.now.items c.args.inboxes.now c.args.pins.now (table c.args.sessions.now) c.args.history.now.items c.args.rank (MayRefuse c.args.tree.now c.make_ready.new.tree)
@@ -54,8 +54,8 @@ returns-in-Err-NoInodes-clause-served g c =
 pub returns-in-Err-clause-served : goal.returns-in-Err-clause-served
 returns-in-Err-clause-served g c =
     let supply_is = c.supply_of-supply.ensures in
-    let at_rank : c.locate_master-master.result.1 ≡ c.args.rank = c.is_same.ensures.0 c.if-not-is_same.false in
-    let master = subst (λ (m : Rank). IsMasterIn (tree_state c.args.tree.now.tree) c.args.tree.now.subtrees.roots c.args.rank c.in-Some.front.now.op m) at_rank c.locate_master-master.ensures.master in
+    let at_rank : c.locate_master-places.result.1 ≡ c.args.rank = c.is_same.ensures.0 c.if-not-is_same.false in
+    let master = subst (λ (m : Rank). IsMasterIn (tree_state c.args.tree.now.tree) c.args.tree.now.subtrees.roots c.args.rank c.in-Some.front.now.op m) at_rank c.locate_master-places.ensures.master in
     let f = tree_state c.args.tree.now.tree in
     let op = c.in-Some.front.now.op in
     let isnt : c.in-Err.refusal ≢ NoInodes = search rules in
@@ -64,6 +64,18 @@ returns-in-Err-clause-served g c =
     (c.requires.new _ (sym c.in-Some.ensures)) master
     (waiting_at c.args.inboxes.now c.args.rank) c.in-Err.refusal c.in-Some.ensures isnt
     (subst (λ (s : Supply). IsUnready (MayTouchAllIn f c.args.tree.now.subtrees.roots c.args.pins.now c.args.rank c.in-Some.front.now.client c.in-Some.front.now.tid op) (MayRefuse c.args.tree.now c.make_ready.new.tree op) (outcome_with f s op) (offer s) c.in-Err.refusal) supply_is c.in-Err.ensures.ready)
+
+pub returns-in-Ok-None-clause-served : goal.returns-in-Ok-None-clause-served
+returns-in-Ok-None-clause-served g c =
+    let at_rank : c.locate_master-places.result.1 ≡ c.args.rank = c.is_same.ensures.0 c.if-not-is_same.false in
+    let master = subst (λ (m : Rank). IsMasterIn (tree_state c.args.tree.now.tree) c.args.tree.now.subtrees.roots c.args.rank c.in-Some.front.now.op m) at_rank c.locate_master-places.ensures.master in
+    let f = tree_state c.args.tree.now.tree in
+    let lacks = subst (λ (o : Option Prepared). IsMadeReady f c.args.tree.now.subtrees.roots c.args.pins.now c.supply_of-supply.result c.args.rank c.in-Some.front.now (IsReadyIn c.make_ready.new.tree) (MayRefuse c.args.tree.now c.make_ready.new.tree c.in-Some.front.now.op) (Ok o))
+    c.in-Ok-None.field-0-is c.in-Ok-None.ensures.ready in
+    deferred f c.args.tree.now.subtrees.roots c.args.numbers.now.items c.args.inboxes.now c.args.pins.now (table c.args.sessions.now) c.args.history.now.items c.args.rank (MayRefuse c.args.tree.now c.make_ready.new.tree)
+    (tree_state c.make_ready.new.tree.tree) c.make_ready.new.tree.subtrees.roots (table c.make_ready.new.sessions) c.make_ready.new.history.items c.in-Some.front.now c.make_ready.ensures.same c.make_ready.ensures.roots c.make_ready.ensures.known c.make_ready.ensures.past
+    (c.requires.new _ (sym c.in-Some.ensures)) master
+    (waiting_at c.args.inboxes.now c.args.rank) c.rotate.new.self c.in-Some.ensures lacks c.rotate.ensures
 
 -- ---- what it makes of the caches
 

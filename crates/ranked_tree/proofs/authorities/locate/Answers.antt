@@ -1,27 +1,29 @@
-use Rattle.std.proofs.Common.{Option, sym, subst}
-use Rattle.mds_types.specs.declared.dirfrags.Dirfrag.{Dirfrag}
+use Rattle.std.proofs.Common.{sym}
 use Rattle.inode_table.specs.Dirs.{Covers, Homes}
-use Rattle.namespace_ops.specs.Places.{Locates}
-use Rattle.subtree_map.specs.Authority.{IsSubtrees}
-use Rattle.mdcache.specs.Core.{state_of}
-use Rattle.mdcache.specs.Shown.{shown_tree}
-use Rattle.ranked_tree.specs.Subtrees.{HoldsAt}
-use Rattle.ranked_tree.proofs.AuthorityLaws.{nowhere, there}
+use Rattle.subtree_map.specs.Authority.{HasAuthority, IsSubtrees}
+use Rattle.ranked_tree.proofs.AuthorityLaws.{located, nowhere}
 use Rattle.ranked_tree.proofs.SubtreeLaws.{over}
 use Rattle.ranked_tree.proofs.authorities.locate.Goals as goal
 
-pub locate-requires : goal.locate-requires
-locate-requires g c = record {
-  valid =
-      over (λ (h : Homes) (cs : Covers). IsSubtrees c.args.roots.now.roots h cs)
-      c.dirs.result.now.homes c.args.tree.now.homes c.dirs.result.now.trees c.args.tree.now.covers c.dirs.ensures.homes c.dirs.ensures.trees c.requires.valid;
-}
+pub authority_from-rank-requires-clause-leaf : goal.authority_from-rank-requires-clause-leaf
+authority_from-rank-requires-clause-leaf g c = record { known = c.in-Some.ensures.known; stands = c.in-Some.ensures.pick.stands }
 
-pub returns-in_err-frag : goal.returns-in_err-frag
-returns-in_err-frag g c =
-    subst (λ (found : Option Dirfrag). Locates (shown_tree (state_of c.args.tree.now)) c.args.tree.now.covers (HoldsAt (state_of c.args.tree.now) c.args.roots.now.roots) c.args.dir.0 c.args.hash found) (sym c.from_residual.ensures)
-    (nowhere c.args.tree.now c.args.roots.now.roots c.requires c.args.dir c.args.hash c.dirs.result.now.homes c.dirs.result.now.trees c.dirs.ensures.homes c.dirs.ensures.trees c.in_err-frag.ensures)
+pub authority_from-rank-requires-clause-valid : goal.authority_from-rank-requires-clause-valid
+authority_from-rank-requires-clause-valid g c =
+    over (λ (h : Homes) (cs : Covers). IsSubtrees c.args.roots.now.roots h cs)
+    c.dirs-dirs.result.now.homes c.args.tree.now.homes c.dirs-dirs.result.now.trees c.args.tree.now.covers c.dirs-dirs.ensures.homes c.dirs-dirs.ensures.trees c.requires.valid
+
+pub returns-in_default : goal.returns-in_default
+returns-in_default g c = nowhere c.args.tree.now c.args.roots.now.roots c.requires c.args.dir c.args.hash c.dirs-dirs.result.now.homes c.dirs-dirs.result.now.trees c.dirs-dirs.ensures.homes c.dirs-dirs.ensures.trees c.in_default.ensures
+
+pub returns-then-has_place : goal.returns-then-has_place
+returns-then-has_place g c =
+    located c.args.tree.now c.args.roots.now.roots c.requires c.args.dir c.args.hash c.dirs-dirs.result.now.homes c.dirs-dirs.result.now.trees c.dirs-dirs.ensures.homes c.dirs-dirs.ensures.trees c.in-Some.at.frag c.args.rank _ c.in-Some.ensures
+    (λ live. c.requires.held.placed c.args.rank.0 (c.args.dir, c.in-Some.at.frag) (c.has_place.ensures.0 c.if-has_place.true) live)
 
 pub returns : goal.returns
 returns g c =
-    there c.args.tree.now c.args.roots.now.roots c.requires c.args.dir c.args.hash c.dirs.result.now.homes c.dirs.result.now.trees c.dirs.ensures.homes c.dirs.ensures.trees c.in_ok-frag.frag c.in_ok-frag.rank c.in_ok-frag.ensures
+    located c.args.tree.now c.args.roots.now.roots c.requires c.args.dir c.args.hash c.dirs-dirs.result.now.homes c.dirs-dirs.result.now.trees c.dirs-dirs.ensures.homes c.dirs-dirs.ensures.trees c.in-Some.at.frag c.authority_from-rank.result _ c.in-Some.ensures
+    (λ live.
+    over (λ (h : Homes) (cs : Covers). HasAuthority c.args.roots.now.roots h cs (c.args.dir, c.in-Some.at.frag) c.authority_from-rank.result)
+    c.args.tree.now.homes c.dirs-dirs.result.now.homes c.args.tree.now.covers c.dirs-dirs.result.now.trees (sym c.dirs-dirs.ensures.homes) (sym c.dirs-dirs.ensures.trees) c.authority_from-rank.ensures)
