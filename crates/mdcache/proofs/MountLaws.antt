@@ -1,12 +1,11 @@
 -- What a walk finds that meets no faulty object is a sound tree, and the one that is shown.
-use Rattle.std.proofs.Common.{◌≡◌, ◌⊎◌, inl, inr, ℕ, zero, suc, ◌<◌, ◌^◌, Bool, true, false, List, [], Option, Some, None, Result, Ok, Err, IfOk, refl, sym, ap, subst, ◌∙◌, arith}
-use Rattle.std.specs.Prelude.{◌==◌, is_some, get_or, replicate}
-use Rattle.std.specs.List.{list_any}
+use Rattle.std.proofs.Common.{◌≡◌, ◌⊎◌, inl, inr, ℕ, ◌<◌, ◌^◌, Bool, true, false, List, [], Option, Some, None, Result, Ok, Err, IfOk, refl, sym, ap, subst, ◌∙◌, arith}
+use Rattle.std.specs.Prelude.{◌==◌, is_some}
 use Rattle.std.specs.FinMap as map
 use Rattle.std.specs.FinMap.{get-empty, same_map}
 use Rattle.std.proofs.lemmas.Bool.{eqb-true, or_cases}
 use Rattle.mds_types.specs.Frag.{Fragment, Contains}
-use Rattle.mds_types.specs.Leaf.{Leaf, leaf_cmp}
+use Rattle.mds_types.specs.Leaf.{Leaf}
 use Rattle.mds_types.specs.Tree.{Tree, dentry_of}
 use Rattle.mds_types.specs.OrderLaws.{dentry-exact}
 use Rattle.mds_types.proofs.OrderLaws.{dentry-total}
@@ -21,13 +20,10 @@ use Rattle.fragtree.proofs.TreeLaws.{pick_from_leaf, some_pick}
 use Rattle.dirfrag_codec.specs.FragmentObject.{Names}
 use Rattle.dirfrag_codec.proofs.FragmentLaws.{spells_what_it_shows}
 use Rattle.dirfrag_codec.proofs.TreeLaws.{one_tree}
-use Rattle.dentry_cache.specs.Cache.{leaf_is}
 use Rattle.dentry_cache.specs.CacheCalls.{KeepsNone}
-use Rattle.dentry_cache.specs.CacheMap.{CacheMap, no_caches, unclean, unsaved_at}
+use Rattle.dentry_cache.specs.CacheMap.{CacheMap, no_caches, unclean}
 use Rattle.dentry_cache.specs.Loading.{IsSaved, object_of}
 use Rattle.dentry_cache.specs.Ties.{names_at}
-use Rattle.dentry_cache.proofs.LeafLaws.{leaf-exact, leaf-total}
-use Rattle.dentry_cache.proofs.UncleanLaws.{get_unclean}
 use Rattle.inode_table.specs.declared.dirs.Home.{Home}
 use Rattle.inode_table.specs.Dirs.{Covers, Homes, is_known, leaves_of}
 use Rattle.inode_table.specs.TreeTable.{IsTabled}
@@ -42,8 +38,8 @@ use Rattle.mdcache.specs.Mounted.{IsMounted, IsNew, mounted}
 use Rattle.mdcache.specs.Shown.{names_of as shown_names, shown_at, shown_tree}
 use Rattle.mdcache.specs.Sound.{IsOwned, IsSound}
 use Rattle.mdcache.specs.State.{IsLive, State, text_of}
-use Rattle.mdcache.proofs.NewLaws.{new_tree}
-use Rattle.mdcache.proofs.NoneLaws.{none_only}
+use Rattle.mdcache.proofs.NewLaws.{new_tree, none_held, none_kept, none_unclean}
+use Rattle.mdcache.proofs.NoneLaws.{none_coming, none_only}
 use Rattle.mdcache.proofs.ShownLaws.{found_at, found_nowhere}
 
 module _ (objects : Objects) (tree : Tree) (homes : Homes) (covers : Covers) (purge : Keys) (w : IsWalked objects tree homes covers purge) where
@@ -204,21 +200,8 @@ module _ (objects : Objects) (tree : Tree) (homes : Homes) (covers : Covers) (pu
 
 -- ---- empty caches
 
-none_placed : (ranks s : ℕ) (q : Leaf) → list_any (leaf_is q) (get_or (replicate ranks []) s []) ≡ true → ⊥
-none_placed zero s q placed = let clash : false ≡ true = placed in cc
-none_placed (suc n) zero q placed = let clash : false ≡ true = placed in cc
-none_placed (suc n) (suc s) q placed = none_placed n s q placed
-
-module _ (ranks places : ℕ) where
-  none_kept : KeepsNone (no_caches ranks places)
-  none_kept s q placed = absurd (none_placed ranks s q placed)
-
-  none_cached : (s : State) → AreCached s (no_caches ranks places)
-  none_cached s leaf a is = let clash : None ≡ Some a = sym (get-empty leaf_cmp leaf) ∙ is in absurd cc
-
-  pub none_unclean : unclean (no_caches ranks places) ≡ map.empty
-  none_unclean = same_map leaf-total leaf-exact (unclean (no_caches ranks places)) map.empty
-      (λ q. get_unclean (no_caches ranks places) q ∙ ap unsaved_at (get-empty leaf_cmp q) ∙ sym (get-empty leaf_cmp q))
+none_cached : (ranks places : ℕ) (s : State) → AreCached s (no_caches ranks places)
+none_cached ranks places s leaf a is = let clash : None ≡ Some a = sym (none_held ranks places leaf) ∙ is in absurd cc
 
 -- ---- the tree over the store
 
@@ -229,6 +212,7 @@ module _ (objects : Objects) (ranks places : ℕ) (tree : Tree) (c : Core) (m : 
     begun = let first : c.next_generation ≡ 1 = ap (λ (s : State). s.next_generation) m.state in omega (arith, first);
     cached = subst (AreCached (state_of c)) (sym m.caches) (none_cached ranks places (state_of c));
     kept = none_only c.kept c.caches (subst KeepsNone (sym m.caches) (none_kept ranks places));
+    coming = none_coming c.homes c.caches (subst KeepsNone (sym m.caches) (none_kept ranks places));
   }
 
   pub mounted_shows : shown_in c ≡ tree

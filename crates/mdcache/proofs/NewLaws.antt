@@ -141,7 +141,7 @@ pub none_held : (ranks places : ℕ) (q : Leaf) → map.get (no_caches ranks pla
 none_held ranks places q = get-empty leaf_cmp q
 
 module _ (ranks places : ℕ) where
-  none_kept : KeepsNone (no_caches ranks places)
+  pub none_kept : KeepsNone (no_caches ranks places)
   none_kept s q placed = absurd (none_placed ranks s q placed)
 
   free : IsFreeFor (no_caches ranks places) 0 root_leaf
@@ -150,7 +150,7 @@ module _ (ranks places : ℕ) where
   pub new_none : KeepsNone (new_caches ranks places)
   new_none = none_with_frag (no_caches ranks places) (new_caches ranks places) 0 root_leaf cached_root free none_kept refl
 
-  none_unclean : unclean (no_caches ranks places) ≡ map.empty
+  pub none_unclean : unclean (no_caches ranks places) ≡ map.empty
   none_unclean = same_map leaf-total leaf-exact (unclean (no_caches ranks places)) map.empty
       (λ q. get_unclean (no_caches ranks places) q ∙ ap unsaved_at (none_held ranks places q) ∙ sym (get-empty leaf_cmp q))
 
