@@ -5,6 +5,7 @@ use Rattle.std.specs.Option.{option_copied, option_map}
 use Rattle.std.specs.FinMap as map
 use Rattle.std.proofs.lemmas.Option.{same_Some}
 use Rattle.sorted_map.proofs.NatKeys.{is_same}
+use Rattle.mds_types.specs.Leaf.{leaf_of as leaf_at}
 use Rattle.mds_types.specs.declared.refusals.Refusal.TheVariants.{NoInodes, NoMemory}
 use Rattle.objstore.specs.Omap.{Omap}
 use Rattle.cached_frag.specs.declared.bases.Base.{Base}
@@ -13,7 +14,7 @@ use Rattle.cached_frag.specs.declared.marks.Mark.{Mark}
 use Rattle.cached_frag.specs.Snap.{IsBelowEnd, IsSnap, counts_of}
 use Rattle.cached_frag.specs.Cached.{Cached, is_clean, shown}
 use Rattle.dentry_cache.specs.Cache.{HasCached, IsThere, Leaf, Unsaved, unsaved_in}
-use Rattle.dentry_cache.specs.CacheMap.{At, CacheMap, IsFree, IsFreeFor, at, at_rank, has_place, here, leaf_of as leaf_at, unclean, unsaved_at, used_at}
+use Rattle.dentry_cache.specs.CacheMap.{At, CacheMap, IsFree, IsFreeFor, at, at_rank, has_place, here, unclean, unsaved_at, used_at}
 use Rattle.dentry_cache.specs.Loading.{object_of}
 use Rattle.dentry_cache.specs.Ties.{KeepsAt}
 use Rattle.mds_types.specs.declared.dirfrags.Dirfrag.{Dirfrag}
