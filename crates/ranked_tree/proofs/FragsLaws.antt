@@ -3,20 +3,17 @@ use Rattle.std.specs.Prelude.{◌≡◌, ℕ, true, false, Option, None, Result,
 use Rattle.std.proofs.Common.{inl, inr, refl, sym, ap, subst, ◌∙◌}
 use Rattle.std.specs.Result.{result_err}
 use Rattle.mds_types.specs.declared.ids.Ino.{Ino}
-use Rattle.mds_types.specs.declared.ids.Rank.{Rank}
 use Rattle.mds_types.specs.declared.operations.Op.{Op}
 use Rattle.mds_types.specs.declared.operations.Op.TheVariants.{Lookup, Readdir, Create, Mkdir, Readlink, Symlink, Setattr, Unlink, Rmdir, Rename}
 use Rattle.mds_types.specs.declared.refusals.Refusal.{Refusal}
 use Rattle.mds_types.specs.declared.refusals.Refusal.TheVariants.{NoMemory}
 use Rattle.mds_types.specs.Tree.{is_dir_kind}
 use Rattle.objstore.specs.Objects.{faults_in}
-use Rattle.dentry_cache.specs.Reads.{Reads}
-use Rattle.dentry_cache.proofs.ReadsLaws.{reads_then}
 use Rattle.namespace_ops.specs.Changes.{Concerns, IsChangeOf}
 use Rattle.namespace_ops.specs.Kept.{KeepsAll}
 use Rattle.namespace_ops.specs.declared.plans.Change.{Change}
 use Rattle.namespace_ops.specs.declared.plans.Change.TheVariants.{Add, Set, Remove, Move}
-use Rattle.subtree_map.specs.Authority.{Leaf, Roots}
+use Rattle.subtree_map.specs.Authority.{Leaf}
 use Rattle.subtree_map.specs.Changes.{Subtrees}
 use Rattle.mdcache.specs.Core.{Core, state_of}
 use Rattle.mdcache.specs.Frags.{KeepsState, LacksFor, LacksToMake}
@@ -24,9 +21,8 @@ use Rattle.mdcache.specs.Reads.{MayNotFind}
 use Rattle.mdcache.specs.Ready.{MayNotBeReady}
 use Rattle.mdcache.specs.Shown.{shown_tree}
 use Rattle.mdcache.specs.State.{State as TreeState}
-use Rattle.mdcache.proofs.FragsLaws.{keeps_on, keeps_refused, lacked_asked, refused_later}
-use Rattle.ranked_tree.specs.Held.{AnyPlace, AsksFor, LacksPlacesAsked, LacksPlacesDir, LacksPlacesFor, NamesDir, ReadsFor}
-use Rattle.ranked_tree.specs.Subtrees.{Rules}
+use Rattle.mdcache.proofs.FragsLaws.{keeps_refused}
+use Rattle.ranked_tree.specs.Held.{LacksPlacesAsked, LacksPlacesDir, LacksPlacesFor, NamesDir, ReadsFor}
 use Rattle.ranked_tree.specs.Ranked.{KeepsRanked, MayRefuse, Ranked}
 use Rattle.ranked_tree.proofs.AskLaws.{asked_dir, asked_for}
 use Rattle.ranked_tree.proofs.ReadsForLaws.{change_concerns, reads_less}
@@ -34,26 +30,6 @@ use Rattle.ranked_tree.proofs.ReadsForLaws.{change_concerns, reads_less}
 -- a tree with its subtrees, seen so
 abbrev pub over : Core → Subtrees → Ranked
 over tree subtrees = record { tree = tree; subtrees = subtrees }
-
--- what a call keeps after another
-pub kept_on : (a b c : Ranked) (op : Op) (told : Option Refusal) → KeepsRanked a b op None → KeepsRanked b c op told → KeepsRanked a c op told
-kept_on a b c op told p q = record {
-  tree = keeps_on a.tree b.tree c.tree told p.tree q.tree;
-  roots = q.roots ∙ p.roots;
-  reads = reads_then (AsksFor (state_of a.tree) a.subtrees.roots (Concerns (shown_tree (state_of a.tree)) op)) AnyPlace a.tree.objects a.tree.caches b.tree.caches c.tree.caches p.reads
-      (subst (λ (s : TreeState). Reads (AsksFor s a.subtrees.roots (Concerns (shown_tree s) op)) AnyPlace s.objects b.tree.caches c.tree.caches) p.tree.state
-      (subst (λ (r : Roots). ReadsFor r (Concerns (shown_tree (state_of b.tree)) op) b.tree c.tree) p.roots q.reads));
-}
-
--- a refusal after another call is one before it: its places lacked there too
-pub refused_then : (a b c : Ranked) (op : Op) (reason : Refusal) → KeepsRanked a b op None → MayRefuse b c op reason → MayRefuse a c op reason
-refused_then a b c op reason kept because =
-    refused_later (LacksPlacesAsked 2 b.tree b.subtrees.roots (Concerns (shown_tree (state_of b.tree)) op)) (LacksPlacesAsked 2 a.tree a.subtrees.roots (Concerns (shown_tree (state_of a.tree)) op)) a.tree b.tree c.tree op reason
-    (λ lacks.
-    let now = subst (λ (r : Roots). LacksPlacesAsked 2 b.tree r (Concerns (shown_tree (state_of b.tree)) op)) kept.roots lacks in
-    let before = lacked_asked 2 (λ (s : TreeState) (d : ℕ). Concerns (shown_tree s) op d) (λ (s : TreeState) (leaf : Leaf) (rank : Rank). Rules s a.subtrees.roots leaf rank) a.tree b.tree kept.tree (now.0, now.1, now.2.0, now.2.1, now.2.2) in
-    (before.0, before.1, (before.2, before.3, before.4)))
-    kept.tree because
 
 module _ (tree new : Core) (subtrees : Subtrees) (now : Ranked) (is : over tree subtrees ≡ now) (op : Op) where
   -- reads of directories that the operation concerns

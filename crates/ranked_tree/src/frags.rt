@@ -32,12 +32,18 @@ use subtree_map::Subtrees;
 impl<S: Store + Drop> Frags for RankedTree<S> {
     ghost use Rattle.std.specs.Prelude.{refl};
     ghost use Rattle.dirfrag_codec.specs.EntryRecord.{IsRankNumber};
+    ghost use Rattle.std.proofs.Common.{◌∙◌, subst};
+    ghost use Rattle.dentry_cache.specs.Reads.{Reads};
     ghost use Rattle.dentry_cache.specs.Reads.Reads.{stays};
+    ghost use Rattle.dentry_cache.proofs.ReadsLaws.{reads_then};
     ghost use Rattle.namespace_ops.specs.Changes.{Concerns};
-    ghost use Rattle.mdcache.proofs.FragsLaws.{keeps_itself, keeps_refused, refused_so, untouched_by, untouched_on};
-    ghost use Rattle.ranked_tree.specs.Held.{LacksPlacesAsked};
-    ghost use Rattle.ranked_tree.proofs.FragsLaws.{kept_on, refused_then};
-    ghost use Rattle.std.specs.Prelude.{None};
+    ghost use Rattle.subtree_map.specs.Authority.{Leaf, Roots};
+    ghost use Rattle.mdcache.specs.State.{State as TreeState};
+    ghost use Rattle.mdcache.proofs.FragsLaws.{keeps_itself, keeps_on, keeps_refused, lacked_asked, refused_later, refused_so, untouched_by, untouched_on};
+    ghost use Rattle.ranked_tree.specs.Held.{AnyPlace, AsksFor, LacksPlacesAsked, ReadsFor};
+    ghost use Rattle.ranked_tree.specs.Subtrees.{Rules};
+    ghost use Rattle.mds_types.specs.declared.ids.Rank.{Rank as RankNumber};
+    ghost use Rattle.std.specs.Prelude.{None, ℕ};
     ghost use Rattle.mds_types.specs.declared.refusals.Refusal.TheVariants.{NoInodes, NoMemory};
     ghost use Rattle.mdcache.specs.Made.{IsUntouched};
     ghost use Rattle.mdcache.specs.Shown.{shown_tree};
@@ -59,7 +65,13 @@ impl<S: Store + Drop> Frags for RankedTree<S> {
 
     ghost follows_self = { λ a op. record { tree = keeps_itself a.tree; roots = refl; reads = stays } };
 
-    ghost follows_on = { λ a b c op told p q. kept_on a b c op told p q };
+    ghost follows_on = { λ a b c op told p q. record {
+      tree = keeps_on a.tree b.tree c.tree told p.tree q.tree;
+      roots = q.roots ∙ p.roots;
+      reads = reads_then (AsksFor (state_of a.tree) a.subtrees.roots (Concerns (shown_tree (state_of a.tree)) op)) AnyPlace a.tree.objects a.tree.caches b.tree.caches c.tree.caches p.reads
+          (subst (λ (s : TreeState). Reads (AsksFor s a.subtrees.roots (Concerns (shown_tree s) op)) AnyPlace s.objects b.tree.caches c.tree.caches) p.tree.state
+          (subst (λ (r : Roots). ReadsFor r (Concerns (shown_tree (state_of b.tree)) op) b.tree c.tree) p.roots q.reads));
+    } };
 
     ghost follows_memory = { λ a b op p. record { tree = keeps_refused a.tree b.tree NoMemory refl p.tree; roots = p.roots; reads = p.reads } };
 
@@ -71,7 +83,15 @@ impl<S: Store + Drop> Frags for RankedTree<S> {
 
     ghost unchanged_on = { λ a b c leaf p q. untouched_on a.tree b.tree c.tree leaf p q };
 
-    ghost refused_on = { λ a b c op reason kept because. refused_then a b c op reason kept because };
+    ghost refused_on = { λ a b c op reason kept because. refused_later
+        (LacksPlacesAsked 2 b.tree b.subtrees.roots (Concerns (shown_tree (state_of b.tree)) op))
+        (LacksPlacesAsked 2 a.tree a.subtrees.roots (Concerns (shown_tree (state_of a.tree)) op))
+        a.tree b.tree c.tree op reason
+        (λ lacks.
+        let now = subst (λ (r : Roots). LacksPlacesAsked 2 b.tree r (Concerns (shown_tree (state_of b.tree)) op)) kept.roots lacks in
+        let before = lacked_asked 2 (λ (s : TreeState) (d : ℕ). Concerns (shown_tree s) op d) (λ (s : TreeState) (leaf : Leaf) (rank : RankNumber). Rules s a.subtrees.roots leaf rank) a.tree b.tree kept.tree (now.0, now.1, now.2.0, now.2.1, now.2.2) in
+        (before.0, before.1, (before.2, before.3, before.4)))
+        kept.tree because };
 
     ghost refused_for = { λ a b op reason because. refused_so (LacksPlacesAsked 2 a.tree a.subtrees.roots (Concerns (shown_tree (state_of a.tree)) op)) a.tree b.tree op reason because };
 
