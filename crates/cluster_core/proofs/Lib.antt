@@ -7,6 +7,7 @@ pub mod HeldLaws
 pub mod JobObjects
 pub mod MadeReady
 pub mod MasterLaws
+pub mod MountedBook
 pub mod NewBook
 pub mod Offered
 pub mod Recorded

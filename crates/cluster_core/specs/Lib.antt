@@ -7,6 +7,7 @@ pub mod Commits
 pub mod Fragments
 pub mod Grants
 pub mod Master
+pub mod Mounted
 pub mod Offer
 pub mod Prepared
 pub mod Runs

@@ -22,9 +22,9 @@ use std::marker::Model;
 /// objects of its store, overlaid with what isn't clean.
 #[derive(Drop)]
 pub struct Book<S: Store + Drop> {
-    cluster: Cluster<S>,
-    history: Vec<Entry>,
-    opening: PlainTree,
+    pub(crate) cluster: Cluster<S>,
+    pub(crate) history: Vec<Entry>,
+    pub(crate) opening: PlainTree,
 }
 
 impl<S: Store + Drop> Model for Book<S> {

@@ -7,7 +7,8 @@ ghost use Rattle.std.proofs.Common.{rules};
 ghost use Rattle.sorted_map.proofs.Decided.{pair_decides};
 ghost use Rattle.mds_types.specs.declared.dentries.Dentry as DentryValue;
 ghost use Rattle.mds_types.specs.declared.inodes.Inode as InodeValue;
-ghost use Rattle.sorted_map.specs.SortedMap.{pairs_eq};
+ghost use Rattle.sorted_map.specs.SortedMap.{contents, pairs_eq};
+ghost use Rattle.mds_types.specs.Tree.{dentry_cmp};
 
 use mds_types::{Dentry, Inode};
 use sorted_map::SortedMap;
@@ -41,6 +42,13 @@ impl PlainTree {
         PlainTree {
             entries: SortedMap::new(alloc),
         }
+    }
+
+    /// The tree that has these entries. Takes no memory.
+    pub fn of(entries: SortedMap<Dentry, Inode>) -> PlainTree
+        ensures { result ≡ contents dentry_cmp entries }
+    {
+        PlainTree { entries }
     }
 
     /// A copy. Takes memory for the entries.

@@ -1,3 +1,4 @@
+pub mod AtHandLaws
 pub mod BeginSteps
 pub mod BesideLaws
 pub mod ChangeLaws
@@ -10,6 +11,7 @@ pub mod EmptyLaws
 pub mod EndLaws
 pub mod EndSteps
 pub mod FetchSteps
+pub mod FlushedLaws
 pub mod FragsLaws
 pub mod GatherLaws
 pub mod GoingLaws
@@ -31,6 +33,7 @@ pub mod NumbersMade
 pub mod ObjectLaws
 pub mod PageLaws
 pub mod PrepareLaws
+pub mod PurgedLaws
 pub mod PutLaws
 pub mod RegroupLaws
 pub mod RegroupReady

@@ -2,6 +2,7 @@ pub mod CacheReads
 pub mod Changes
 pub mod Commits
 pub mod Core
+pub mod Flushed
 pub mod Frags
 pub mod Going
 pub mod Joining

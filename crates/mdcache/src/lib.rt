@@ -47,13 +47,16 @@ mod beginning;
 mod dropping;
 mod ending;
 mod evicting;
+mod flushing;
 mod purging;
 mod tree_objects;
 mod trees;
 
-// the laws of what changes, splits and merges are defined to do
+// the laws of what changes, splits and merges are defined to do, and of what a flush ends in
+mod flush_laws;
 mod laws;
 
+pub use flush_laws::{flushed_is_cold, whole_commits_leave_nothing};
 pub use going::{Going, GoingLeaf};
 pub use laws::{changes_are_right, merges_are_right, splits_are_right};
 pub use mdcache::MdCache;

@@ -10,6 +10,7 @@ pub mod HeldRegroups
 pub mod HolderLaws
 pub mod InsideLaws
 pub mod Kept
+pub mod MountedRoots
 pub mod MoveLaws
 pub mod NewLaws
 pub mod ReadsForLaws

@@ -11,6 +11,7 @@ mod frags;
 mod holding;
 mod inside;
 mod listing;
+mod mounting;
 mod ranked_tree;
 mod reading;
 mod regrouping;

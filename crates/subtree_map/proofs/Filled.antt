@@ -10,8 +10,8 @@ use Rattle.fragtree.specs.FragTree.{HasLeaf, IsPick, IsTree, Tiles}
 use Rattle.fragtree.proofs.Ranges.{span_pos}
 use Rattle.mds_types.specs.Leaf.{Leaf}
 use Rattle.subtree_map.specs.Authority.{Roots}
-use Rattle.subtree_map.specs.Changes.{leaf_of}
-use Rattle.subtree_map.specs.Rows.{AreFilled, IsFilled}
+use Rattle.subtree_map.specs.Changes.{AreFilled, leaf_of}
+use Rattle.subtree_map.specs.Rows.{IsFilled}
 use Rattle.subtree_map.proofs.Covers.{contains_start}
 use Rattle.mds_types.proofs.LeafLaws.{get_put, get_beside, same_or_apart}
 use Rattle.subtree_map.proofs.Options.{not_none, value_of}

@@ -9,9 +9,8 @@ use Rattle.inode_table.proofs.Tables.{known_by}
 use Rattle.fragtree.specs.FragTree.{HasLeaf}
 use Rattle.mds_types.specs.Leaf.{Leaf}
 use Rattle.subtree_map.specs.Authority.{Roots, HoldsDentry, NearestRoot, itself, inherited, HasAuthority}
-use Rattle.subtree_map.specs.Changes.{leaf_of}
+use Rattle.subtree_map.specs.Changes.{AreFilled, leaf_of}
 use Rattle.subtree_map.specs.Moves.{IsInheritedAt, IsLostRank, IsSettled}
-use Rattle.subtree_map.specs.Rows.{AreFilled}
 use Rattle.subtree_map.proofs.Options.{not_none, one_value}
 use Rattle.subtree_map.proofs.Nearest.{one_authority, one_holder}
 

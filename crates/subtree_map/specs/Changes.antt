@@ -28,6 +28,13 @@ pub record IsHanded (old new : Roots) (root : Leaf) (rank : Rank) : Type 0 where
   pub others : (leaf : Leaf) → leaf ≢ root → map.get new leaf ≡ map.get old leaf
   pub nearest : (homes : Homes) (covers : Covers) (leaf was : Leaf) → NearestRoot old homes covers leaf was → NearestRoot new homes covers leaf was
 
+-- those of the leaves of d without a rank got this one, and nothing else changed
+pub record AreFilled (old new : Roots) (d : ℕ) (leaves : List Fragment) (rank : Rank) : Type 0 where
+  pub absent : (f : Fragment) → HasLeaf leaves f → map.get old (leaf_of d f) ≡ None → map.get new (leaf_of d f) ≡ Some rank
+  pub there : (leaf : Leaf) → IsSome (map.get old leaf) → map.get new leaf ≡ map.get old leaf
+  pub elsewhere : (leaf : Leaf) → leaf.0.0 ≢ d → map.get new leaf ≡ map.get old leaf
+  pub made : (leaf : Leaf) → map.get old leaf ≡ None → IsSome (map.get new leaf) → (leaf.0.0 ≡ d) × HasLeaf leaves leaf.1
+
 -- what each leaf became has the authority that the leaf had
 abbrev pub KeepAuthority : Roots → Roots → Homes → Homes → Covers → Covers → (Leaf → Leaf → Type 0) → Type 0
 KeepAuthority old new homes now covers later Becomes = (leaf after : Leaf) (rank : Rank) → IsLive homes covers leaf → Becomes leaf after → HasAuthority old homes covers leaf rank → HasAuthority new now later after rank

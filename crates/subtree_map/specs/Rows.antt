@@ -1,10 +1,9 @@
 -- Changes of the rows that a map of subtrees keeps. Only this crate's own contracts use these words.
-use Rattle.std.specs.Prelude.{◌≡◌, ◌≢◌, ◌⊎◌, ℕ, ◌<◌, Bool, true, false, Option, Some, None, IsSome, List}
+use Rattle.std.specs.Prelude.{◌≡◌, ◌≢◌, ◌⊎◌, ℕ, ◌<◌, Bool, true, false, Option, Some, None, IsSome}
 use Rattle.std.specs.declared.cmp.Ordering.TheVariants.{Less}
 use Rattle.std.specs.FinMap as map
 use Rattle.mds_types.specs.declared.ids.Rank.{Rank}
 use Rattle.mds_types.specs.Frag.{Fragment, child_of}
-use Rattle.fragtree.specs.FragTree.{HasLeaf}
 use Rattle.mds_types.specs.Leaf.{Leaf, leaf_cmp}
 use Rattle.subtree_map.specs.Authority.{Roots}
 use Rattle.subtree_map.specs.Changes.{leaf_of, is_inside}
@@ -33,10 +32,3 @@ pub record IsFilled (old new : Roots) (leaf : Leaf) (rank : Rank) : Type 0 where
   pub absent : map.get old leaf ≡ None → map.get new leaf ≡ Some rank
   pub there : IsSome (map.get old leaf) → map.get new leaf ≡ map.get old leaf
   pub others : (other : Leaf) → other ≢ leaf → map.get new other ≡ map.get old other
-
--- those of the leaves of d without a rank got this one, and nothing else changed
-pub record AreFilled (old new : Roots) (d : ℕ) (leaves : List Fragment) (rank : Rank) : Type 0 where
-  pub absent : (f : Fragment) → HasLeaf leaves f → map.get old (leaf_of d f) ≡ None → map.get new (leaf_of d f) ≡ Some rank
-  pub there : (leaf : Leaf) → IsSome (map.get old leaf) → map.get new leaf ≡ map.get old leaf
-  pub elsewhere : (leaf : Leaf) → leaf.0.0 ≢ d → map.get new leaf ≡ map.get old leaf
-  pub made : (leaf : Leaf) → map.get old leaf ≡ None → IsSome (map.get new leaf) → (leaf.0.0 ≡ d) × HasLeaf leaves leaf.1

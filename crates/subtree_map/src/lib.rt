@@ -4,6 +4,7 @@
 
 mod bounds;
 mod climb;
+mod filling;
 pub mod laws;
 mod merges;
 mod moves;

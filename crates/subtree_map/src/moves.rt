@@ -8,8 +8,9 @@ ghost use Rattle.mds_types.specs.Frag.{IsFragment, span};
 ghost use Rattle.inode_table.specs.Dirs.{MayMove, leaves_of};
 ghost use Rattle.mds_types.specs.Leaf.{leaf_cmp};
 ghost use Rattle.subtree_map.specs.Authority.{IsSubtrees};
+ghost use Rattle.subtree_map.specs.Changes.{AreFilled};
 ghost use Rattle.subtree_map.specs.Moves.{HasRoomToMove, IsLostRank, IsSettled, MovesSoundly};
-ghost use Rattle.subtree_map.specs.Rows.{AreFilled, IsFilled};
+ghost use Rattle.subtree_map.specs.Rows.{IsFilled};
 
 use crate::subtrees::Subtrees;
 use inode_table::Dirs;
@@ -82,7 +83,7 @@ impl Subtrees {
 }
 
 // Makes each leaf of a directory that is no root one of this rank.
-fn fill(roots: &mut SortedMap<(Ino, Frag), Rank>, dirs: &Dirs, dir: Ino, rank: Rank)
+pub(crate) fn fill(roots: &mut SortedMap<(Ino, Frag), Rank>, dirs: &Dirs, dir: Ino, rank: Rank)
     requires room { length (leaves_of dirs.now.trees dir.0) ≤ roots.old.room }
     ensures filled { AreFilled (contents leaf_cmp roots.old) (contents leaf_cmp roots.new) dir.0 (leaves_of dirs.now.trees dir.0) rank }
     ensures room { roots.old.room ≤ roots.new.room + length (leaves_of dirs.now.trees dir.0) }

@@ -2,8 +2,7 @@ use Rattle.std.proofs.Common.{◌≤◌, length, refl, sym, subst}
 use Rattle.sorted_map.specs.SortedMap.{contents}
 use Rattle.inode_table.specs.Dirs.{leaves_of}
 use Rattle.mds_types.specs.Leaf.{leaf_cmp}
-use Rattle.subtree_map.specs.Changes.{Subtrees}
-use Rattle.subtree_map.specs.Rows.{AreFilled}
+use Rattle.subtree_map.specs.Changes.{AreFilled, Subtrees}
 use Rattle.subtree_map.proofs.Moved.{moves_soundly}
 use Rattle.subtree_map.proofs.Settled.{settled_filled, settled_none}
 use Rattle.subtree_map.proofs.subtrees.Subtrees.after_rename.Goals as goal

@@ -1,0 +1,34 @@
+-- The cluster over a store as it is found.
+use Rattle.std.specs.Prelude.{◌≡◌, ◌⊎◌, ℕ, [], replicate}
+use Rattle.std.specs.FinMap as map
+use Rattle.mds_types.specs.Tree.{Tree}
+use Rattle.objstore.specs.Objects.{Objects}
+use Rattle.dentry_cache.specs.CacheMap.{no_caches}
+use Rattle.cold_store.specs.Walked.{IsWalked}
+use Rattle.mdcache.specs.Mounted.{AreNumbers, mounted}
+use Rattle.mdcache.specs.New.{new_caches}
+use Rattle.ranked_tree.specs.Mounted.{AreTopRoots}
+use Rattle.cluster_core.specs.State.{Core, new_state}
+
+-- the cluster over a store that has no object, as `format` makes it: nothing but the root's leaf is cached
+pub record IsNewCore (ranks places : ℕ) (core : Core) : Type 0 where
+  pub state : core.state ≡ new_state ranks
+  pub caches : core.caches ≡ new_caches ranks places
+
+-- the cluster over a store that was walked: the tree has what the walk found, and the objects that weren't reached are to be removed; the leaves
+-- of the root directory are rank 0's; each rank has the numbers after the greatest of its range; nothing waits, is granted or is kept; and
+-- nothing is cached
+pub record IsMountedCore (objects : Objects) (ranks places : ℕ) (opening : Tree) (core : Core) : Type 0 where
+  pub walked : IsWalked objects opening core.state.tree.homes core.state.tree.covers core.state.tree.purge
+  pub tree : core.state.tree ≡ mounted objects core.state.tree.homes core.state.tree.covers core.state.tree.purge
+  pub roots : AreTopRoots core.state.tree.covers core.state.roots
+  pub numbers : AreNumbers opening ranks core.state.numbers
+  pub inboxes : core.state.inboxes ≡ replicate ranks []
+  pub pins : core.state.pins ≡ []
+  pub sessions : core.state.sessions ≡ map.empty
+  pub caches : core.caches ≡ no_caches ranks places
+
+-- a store with no object is mounted as a new one, any other as a walk finds it
+abbrev pub MountsCore : Objects → (ranks places : ℕ) → Tree → Core → Type 0
+MountsCore objects ranks places opening core =
+    ((objects ≡ map.empty) × (opening ≡ map.empty) × IsNewCore ranks places core) ⊎ ((objects ≡ map.empty → ⊥) × IsMountedCore objects ranks places opening core)

@@ -1,0 +1,126 @@
+//! A cluster and a book over a store as it is found.
+ghost use Rattle.std.specs.Prelude.{◌≡◌, ◌+◌, ◌≤◌, [], IfOk, IfErr};
+ghost use Rattle.std.specs.FinMap as map;
+ghost use Rattle.sorted_map.specs.SortedMap.{contents};
+ghost use Rattle.mds_types.specs.Tree.{dentry_cmp};
+ghost use Rattle.objstore.specs.Objects.{faults_in};
+ghost use Rattle.dentry_cache.specs.CacheMap.{AreCaches};
+ghost use Rattle.cold_store.specs.ColdTree.{IsColdTree};
+ghost use Rattle.mdcache.specs.Mounted.{MayNotMount};
+ghost use Rattle.ranked_tree.specs.Held.{IsOwned};
+ghost use Rattle.cluster_core.specs.Mounted.{MountsCore};
+ghost use Rattle.cluster_core.specs.Sound.{IsSound, IsSoundBook};
+ghost use Rattle.cluster_core.specs.State.{core_of, shown};
+
+use crate::books::Book;
+use crate::clusters::Cluster;
+use crate::plain_trees::PlainTree;
+use inboxes::{Inboxes, Pins};
+use mdcache::Opening;
+use mds_types::Refusal;
+use objstore::Store;
+use ranked_tree::RankedTree;
+use sessions::Sessions;
+use std::alloc::Global;
+
+impl<S: Store + Drop> Cluster<S> {
+    /// A cluster of so many ranks over a store as it is found, with a cache of so many places each, and the tree that it opens
+    /// with. `RankedTree::mount` makes and refuses the tree; each rank has the numbers that it tells, and nothing waits.
+    pub(crate) fn mount(
+        alloc: Global,
+        store: S,
+        ranks: u8,
+        places: usize,
+    ) -> Result<(Cluster<S>, PlainTree), (Refusal, S)>
+        requires some { 1 ≤ ranks }
+        requires ranked { ranks ≤ 16 }
+        requires few { 512 ≤ places }
+        requires many { places ≤ 65536 }
+        ensures mounted { IfOk result (λ m. MountsCore (S.objects store) ranks places m.1 m.0) }
+        ensures cold { IfOk result (λ m. IsColdTree (S.objects store) (shown m.0.state)) }
+        ensures opening { IfOk result (λ m. m.1 ≡ shown m.0.state) }
+        ensures objects { IfOk result (λ m. m.0.state.tree.objects ≡ S.objects store) }
+        ensures sound { IfOk result (λ m. IsSound m.1 [] m.0) }
+        ensures faults { IfOk result (λ m. m.0.faults ≡ S.faults store) }
+        ensures refused { IfErr result (λ back. MayNotMount (S.objects store) (S.faults store) (S.faults back.1) back.0) }
+        ensures left { IfErr result (λ back. S.objects back.1 ≡ S.objects store) }
+        ensures counted { IfErr result (λ back. S.faults back.1 ≡ S.faults store + faults_in back.0) }
+    {
+        match Inboxes::new(alloc, ranks) {
+            Err(_) => Err((Refusal::NoMemory, store)),
+            Ok(inboxes) => match RankedTree::mount(alloc, store, ranks, places) {
+                Ok((tree, opening)) => Ok(Cluster::of_mounted(alloc, tree, opening, inboxes)),
+                Err(back) => {
+                    drop(inboxes);
+                    Err(back)
+                }
+            },
+        }
+    }
+
+    // A cluster over a tree that was mounted, with these inboxes; and the tree that it opens with.
+    fn of_mounted(
+        alloc: Global,
+        tree: RankedTree<S>,
+        opening: Opening,
+        inboxes: Inboxes,
+    ) -> (Cluster<S>, PlainTree)
+        ensures core { result.0 ≡ core_of tree.tree tree.subtrees.roots opening.numbers.items inboxes [] map.empty }
+        ensures opening { result.1 ≡ contents dentry_cmp opening.entries }
+        ensures owned { IsOwned tree.tree tree.subtrees.roots }
+        ensures caches { AreCaches tree.tree.caches }
+    {
+        // The contract of `store` is what says here that the tree is sound.
+        let _ = tree.store();
+        let Opening { entries, numbers } = opening;
+        let cluster = Cluster {
+            tree,
+            inboxes,
+            pins: Pins::new(alloc),
+            numbers,
+            sessions: Sessions::new(alloc),
+        };
+        (cluster, PlainTree::of(entries))
+    }
+}
+
+/// A book of so many ranks over a store as it is found: it opens with the store's cold tree, with an empty history, and nothing
+/// that waits. `cache` is the number of fragments that a rank may cache. Nothing is written. Takes memory for all entries and for
+/// the names of all objects.
+///
+/// A store that has no object gives the book of `format`. Otherwise nothing is cached and all is clean; the leaves of the root
+/// directory are rank 0's; each rank's next number follows the greatest of its range in the tree, so a number that was freed before
+/// may come again; and the objects that no directory reaches are to be removed.
+///
+/// Refused `Damaged`, with the name of a faulty object, where the store has objects; otherwise `StoreFault` as the store refuses a
+/// call, and `NoMemory`; the store is handed back then, with its objects as they were.
+pub fn mount<S: Store + Drop>(
+    alloc: Global,
+    store: S,
+    ranks: u8,
+    cache: u32,
+) -> Result<Book<S>, (Refusal, S)>
+    requires some { 1 ≤ ranks }
+    requires ranked { ranks ≤ 16 }
+    requires least { 512 ≤ cache }
+    requires most { cache ≤ 65536 }
+    ensures mounted { IfOk result (λ book. MountsCore (S.objects store) ranks cache book.opening book.core) }
+    ensures cold { IfOk result (λ book. IsColdTree (S.objects store) (shown book.core.state)) }
+    ensures opening { IfOk result (λ book. book.opening ≡ shown book.core.state) }
+    ensures history { IfOk result (λ book. book.history ≡ []) }
+    ensures objects { IfOk result (λ book. book.core.state.tree.objects ≡ S.objects store) }
+    ensures sound { IfOk result IsSoundBook }
+    ensures faults { IfOk result (λ book. book.core.faults ≡ S.faults store) }
+    ensures refused { IfErr result (λ back. MayNotMount (S.objects store) (S.faults store) (S.faults back.1) back.0) }
+    ensures left { IfErr result (λ back. S.objects back.1 ≡ S.objects store) }
+    ensures counted { IfErr result (λ back. S.faults back.1 ≡ S.faults store + faults_in back.0) }
+{
+    match Cluster::mount(alloc, store, ranks, cache as usize) {
+        Ok((cluster, opening)) => Ok(Book {
+            cluster,
+            history: Vec::new(alloc),
+            opening,
+        }),
+        Err(back) => Err(back),
+    }
+}

@@ -1,0 +1,5 @@
+use Rattle.mdcache.proofs.FlushedLaws.{flushed_is_cold, purged_are_exact}
+use Rattle.mdcache.proofs.flush_laws.flushed_is_cold.Goals as goal
+
+pub returns : goal.returns
+returns c = record { cold = flushed_is_cold; exact = purged_are_exact }

@@ -1,0 +1,95 @@
+-- The roots of a tree that was mounted are its own, and each rank caches what it holds: rank 0 the one leaf of a new tree, and no rank anything else.
+use Rattle.std.proofs.Common.{◌≡◌, inl, inr, ℕ, ◌<◌, [], Option, None, Some, refl, sym, ap, subst, ◌∙◌, arith}
+use Rattle.std.specs.Prelude.{is_some, length}
+use Rattle.std.proofs.lemmas.List.{length-replicate}
+use Rattle.std.specs.FinMap as map
+use Rattle.std.specs.FinMap.{get-empty, same_map}
+use Rattle.mds_types.specs.declared.ids.Rank.{Rank}
+use Rattle.mds_types.specs.Frag.{root_fragment}
+use Rattle.mds_types.specs.Leaf.{Leaf, leaf_cmp}
+use Rattle.mds_types.specs.Tree.{Tree}
+use Rattle.mds_types.proofs.LeafLaws.{get_beside, leaf-exact, leaf-total, same_or_apart}
+use Rattle.objstore.specs.Objects.{Objects}
+use Rattle.fragtree.specs.FragTree.{HasLeaf}
+use Rattle.inode_table.specs.Dirs.{Covers, is_known, leaves_of}
+use Rattle.dentry_cache.specs.CacheMap.{At, CacheMap}
+use Rattle.subtree_map.specs.Authority.{Roots}
+use Rattle.subtree_map.specs.Changes.{AreFilled, leaf_of}
+use Rattle.subtree_map.proofs.Options.{one_value}
+use Rattle.mdcache.specs.Core.{Core, IsSoundCore, state_of}
+use Rattle.mdcache.specs.Mounted.{IsMounted, IsNew, Mounts}
+use Rattle.mdcache.specs.New.{root_leaf}
+use Rattle.mdcache.specs.State.{State}
+use Rattle.mdcache.proofs.NewLaws.{live_root, no_covers, no_homes, root_live}
+use Rattle.ranked_tree.specs.Held.{AreHeld, IsOwned}
+use Rattle.ranked_tree.specs.Mounted.{AreTopRoots}
+use Rattle.ranked_tree.specs.Ranked.{new_roots}
+use Rattle.ranked_tree.specs.Subtrees.{AreRoots, Rules}
+use Rattle.ranked_tree.proofs.HeldLaws.{placed_at}
+use Rattle.ranked_tree.proofs.NewLaws.{new_are_held, root_is}
+
+-- the leaves of the root directory where there was no root
+pub are_top : (covers : Covers) (none roots : Roots) → none ≡ map.empty → AreFilled none roots 1 (leaves_of covers 1) (record { 0 = 0 }) → AreTopRoots covers roots
+are_top covers none roots is filled = record {
+  ranked = λ f has. filled.absent f has (nowhere (leaf_of 1 f));
+  alone = λ leaf some. filled.made leaf (nowhere leaf) some;
+}
+  where
+    nowhere : (leaf : Leaf) → map.get none leaf ≡ None
+    nowhere leaf = ap (λ (m : Roots). map.get m leaf) is ∙ get-empty leaf_cmp leaf
+
+pub top_are_roots : (s : State) (roots : Roots) → AreTopRoots s.covers roots → AreRoots s roots
+top_are_roots s roots top = record {
+  top = λ f has. ap is_some (top.ranked f has);
+  live = λ leaf some.
+      let at = top.alone leaf some in
+      record { known = ap (is_known s.homes) at.0; stands = subst (λ d. HasLeaf (leaves_of s.covers d) leaf.1) (sym at.0) at.1 };
+}
+
+-- each root is rank 0's
+first_ranked : (covers : Covers) (roots : Roots) → AreTopRoots covers roots → (leaf : Leaf) (rank : Rank) → map.get roots leaf ≡ Some rank → rank.0 ≡ 0
+first_ranked covers roots top leaf rank has =
+    let at = top.alone leaf (ap is_some has) in
+    let here : leaf ≡ leaf_of 1 leaf.1 = λ i. (record { 0 = at.0 i }, leaf.1) in
+    ap (λ (r : Rank). r.0) (one_value (map.get roots leaf) rank (record { 0 = 0 }) has (ap (map.get roots) here ∙ top.ranked leaf.1 at.1))
+
+-- those of a new tree
+pub top_of_none : (roots : Roots) → AreTopRoots no_covers roots → roots ≡ new_roots
+top_of_none roots top = same_map leaf-total leaf-exact roots new_roots at
+  where
+    other : (leaf : Leaf) → (leaf ≡ root_leaf → ⊥) → (o : Option Rank) → map.get roots leaf ≡ o → map.get roots leaf ≡ None
+    other leaf apart None is = is
+    other leaf apart (Some rank) is =
+        let at = top.alone leaf (ap is_some is) in
+        absurd (apart (live_root leaf (record { known = ap (is_known no_homes) at.0; stands = subst (λ d. HasLeaf (leaves_of no_covers d) leaf.1) (sym at.0) at.1 })))
+
+    at : (leaf : Leaf) → map.get roots leaf ≡ map.get new_roots leaf
+    at leaf = elim (same_or_apart leaf root_leaf) [
+      | inl same ↦ ap (map.get roots) same ∙ top.ranked root_fragment root_live.stands ∙ sym root_is ∙ ap (map.get new_roots) (sym same)
+      | inr apart ↦ other leaf apart (map.get roots leaf) refl ∙ sym (get_beside map.empty root_leaf (record { 0 = 0 }) leaf apart ∙ get-empty leaf_cmp leaf)
+    ]
+
+module _ (objects : Objects) (ranks places : ℕ) (some : 0 < ranks) (tree : Tree) (c : Core) (roots : Roots) (sound : IsSoundCore c) (top : AreTopRoots c.covers roots) where
+  walked_held : IsMounted objects ranks places tree c → AreHeld (state_of c) c.caches roots
+  walked_held m = record {
+    cached = none;
+    placed = placed_at (state_of c) c.caches roots c.kept (record { only = sound.kept; coming = sound.coming }) none;
+    ranks = λ leaf rank has.
+        let zeroth = first_ranked c.covers roots top leaf rank has in
+        let many : length c.caches.used ≡ ranks = ap (λ (cs : CacheMap). length cs.used) m.caches ∙ length-replicate ranks [] in
+        omega (arith, zeroth, many, some);
+  }
+    where
+      none : (leaf : Leaf) (a : At) → map.get c.caches.held leaf ≡ Some a → Rules (state_of c) roots leaf (record { 0 = a.rank })
+      none leaf a is = let clash : None ≡ Some a = sym (ap (λ (cs : CacheMap). map.get cs.held leaf) m.caches ∙ get-empty leaf_cmp leaf) ∙ is in absurd cc
+
+  made_held : IsNew ranks places tree c → AreHeld (state_of c) c.caches roots
+  made_held new = new_are_held c roots ranks places some new.state new.caches (top_of_none roots (subst (λ (cs : Covers). AreTopRoots cs roots) (ap (λ (s : State). s.covers) new.state) top))
+
+  -- a mounted tree with its roots
+  pub mounted_owned : Mounts objects ranks places tree c → IsOwned c roots
+  mounted_owned m = record { sound = sound; valid = top_are_roots (state_of c) roots top; held = held m }
+    where
+      held : Mounts objects ranks places tree c → AreHeld (state_of c) c.caches roots
+      held (inl new) = made_held new.1
+      held (inr walked) = walked_held walked.1
