@@ -3,6 +3,7 @@
 //! prints of a name, a number or a fragment is read back.
 #![tactic(auto)]
 
+mod digits;
 mod escapes;
 mod fixed_texts;
 mod frag_lists;
@@ -11,6 +12,7 @@ mod lines;
 mod object_lines;
 mod replies;
 mod root_lists;
+mod text_ends;
 mod word_lists;
 mod writing;
 

@@ -32,6 +32,9 @@ pub fn write_all_of<W: Write>(writer: &mut W, bytes: &[u8]) -> Result<(), WriteF
     Ok(())
 }
 
+// Room for the text of a usual reply, so that it is not moved as it grows.
+const USUAL_LEN: usize = 80;
+
 /// Why a line was not written.
 #[derive(Clone, Copy, Debug, PartialEq, Eq)]
 pub enum OutputFault {
@@ -52,20 +55,23 @@ pub fn write_line<W: Write>(
     ensures memory { IfErr result (λ fault. fault ≡ OutputFault.NoMemory → TakesText line.now) }
 {
     if let Some(text) = fixed_text(line) {
-        return write_text(writer, text);
+        return write_text(writer, text.as_bytes());
     }
-    let Ok(text) = line.to_text(alloc) else {
+    let Ok(mut text) = Vec::with_capacity(alloc, USUAL_LEN) else {
         return Err(OutputFault::NoMemory);
     };
-    write_text(writer, text.as_str())
+    if line.push_to(alloc, &mut text).is_err() {
+        return Err(OutputFault::NoMemory);
+    }
+    write_text(writer, text.as_slice())
 }
 
 // Writes a line's text.
-fn write_text<W: Write>(writer: &mut W, text: &str) -> Result<(), OutputFault>
+fn write_text<W: Write>(writer: &mut W, text: &[u8]) -> Result<(), OutputFault>
     ensures written { WritesLine (W.contents writer.old) (W.contents writer.new) text.now result }
     ensures fault { IfErr result (λ fault. fault ≡ OutputFault.Write) }
 {
-    match write_all_of(writer, text.as_bytes()) {
+    match write_all_of(writer, text) {
         Ok(()) => Ok(()),
         Err(WriteFault) => Err(OutputFault::Write),
     }
