@@ -22,4 +22,4 @@ pub use lines::OutputLine;
 pub use object_lines::ObjectLine;
 pub use root_lists::{Root, RootList};
 pub use word_lists::WordList;
-pub use writing::{OutputFault, WriteFault, write_all_of, write_line};
+pub use writing::{OutputFault, WriteFault, write_all_of, write_line, write_most_of};

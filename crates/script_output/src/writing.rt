@@ -1,5 +1,5 @@
 //! Texts and lines to a writer.
-ghost use Rattle.std.specs.Prelude.{◌≡◌, OnOk, OnErr, IfErr, ◌++◌, codes};
+ghost use Rattle.std.specs.Prelude.{◌≡◌, ◌≤◌, OnOk, OnErr, IfErr, ◌++◌, codes, length, take};
 ghost use Rattle.std.specs.Io.KnownBytes.{Appends};
 ghost use Rattle.script_output.specs.Lines.{output_line};
 ghost use Rattle.script_output.specs.Writing.{AppendsBeginning, TakesText, WritesLine};
@@ -18,18 +18,30 @@ pub fn write_all_of<W: Write>(writer: &mut W, bytes: &[u8]) -> Result<(), WriteF
     ensures ok { OnOk result (Appends (W.contents writer.old) (W.contents writer.new) bytes.now) }
     ensures err { OnErr result (AppendsBeginning (W.contents writer.old) (W.contents writer.new) bytes.now) }
 {
+    if write_most_of(writer, bytes) == bytes.len() {
+        Ok(())
+    } else {
+        Err(WriteFault)
+    }
+}
+
+/// Writes the bytes until the writer fails or takes no byte, and answers how many of them are written.
+pub fn write_most_of<W: Write>(writer: &mut W, bytes: &[u8]) -> usize
+    ensures bound { result ≤ length bytes.now }
+    ensures written { Appends (W.contents writer.old) (W.contents writer.new) (take result bytes.now) }
+{
     let mut done = 0;
     while done < bytes.len() {
         let (_, rest) = bytes.split_at(done);
         let Ok(taken) = writer.write(rest) else {
-            return Err(WriteFault);
+            return done;
         };
         if taken == 0 {
-            return Err(WriteFault);
+            return done;
         }
         done += taken;
     }
-    Ok(())
+    done
 }
 
 // Room for the text of a usual reply, so that it is not moved as it grows.
