@@ -2,13 +2,14 @@
 use Rattle.std.specs.Prelude.{◌≡◌, ◌⊎◌, ℕ, ◌<◌, nat_lt, if◌then◌else◌, List, [], ◌∷◌, ◌++◌, length, take, Option, Some, None, Result, Ok, Err}
 use Rattle.std.specs.Io.KnownBytes.{Appends}
 use Rattle.script_output.specs.declared.lines.OutputLine.{OutputLine}
+use Rattle.admin_cli.specs.declared.commands.Admin.{Admin}
 use Rattle.admin_cli.specs.declared.faults.ScriptFault.{ScriptFault}
 use Rattle.admin_cli.specs.declared.faults.FaultKind.{FaultKind}
 use Rattle.admin_cli.specs.declared.faults.FaultKind.TheVariants.{WriteFault}
 use Rattle.admin_cli.specs.declared.waiting.Mark.{Mark}
 use Rattle.admin_cli.specs.declared.waiting.Waiting.{Waiting}
 use Rattle.admin_cli.specs.OneLine.{Prints}
-use Rattle.admin_cli.specs.Scripts.{text_of}
+use Rattle.admin_cli.specs.Scripts.{RunsInput, text_of}
 
 -- the script's line whose text has the byte at a place, by where the text of each line ends; 0, if none has it
 abbrev pub line_at : List Mark → ℕ → ℕ
@@ -58,3 +59,8 @@ PrintsOutput old new line printed before after (Err fault) = IsEmpty new × (Bre
 abbrev pub PrintsAny : (old new : Waiting) → (line : ℕ) → Option OutputLine → (before after : Option (List ℕ)) → Result (Unit {0}) ScriptFault → Type 0
 PrintsAny old new line None before after result = (new ≡ old) × (after ≡ before) × (result ≡ Ok tt)
 PrintsAny old new line (Some printed) before after result = PrintsOutput old new line printed before after result
+
+-- a script ended so; what waits is to be written, or a beginning of it, and then it is the whole script that did
+pub record RunsWaiting (old : Admin) (waiting : Waiting) (known before middle : Option (List ℕ)) (result : Result (Unit {0}) ScriptFault) : Type 0 where
+  pub whole : (after : Option (List ℕ)) → Appends middle after waiting.bytes.items → RunsInput old known before after result
+  pub broken : (after : Option (List ℕ)) (fault : ScriptFault) → Breaks waiting middle after fault → RunsInput old known before after (Err fault)

@@ -54,7 +54,11 @@ impl Waiting {
     }
 
     /// Writes what waits, unless further lines are at hand and it isn't enough yet.
-    pub fn settle<W: Write>(&mut self, is_more_at_hand: bool, writer: &mut W) -> Result<(), ScriptFault>
+    pub fn settle<W: Write>(
+        &mut self,
+        is_more_at_hand: bool,
+        writer: &mut W,
+    ) -> Result<(), ScriptFault>
         ensures { MayFlush self.old self.new (W.contents writer.old) (W.contents writer.new) result }
     {
         if is_more_at_hand && self.bytes.len() < ENOUGH && self.marks.len() < MANY {
