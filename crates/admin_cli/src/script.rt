@@ -165,10 +165,10 @@ fn run_line(alloc: Global, bytes: &[u8], admin: &mut Admin) -> Result<Option<Out
     ensures count { admin.new.operations ≤ admin.old.operations + 1 }
     ensures does { DoesBytes admin.old admin.new bytes.now result }
 {
-    match read_line(alloc, bytes) {
-        Ok(line) => do_line(alloc, line, admin),
-        Err(_) => Err(FaultKind::OutOfMemory),
-    }
+    let Ok(line) = read_line(alloc, bytes) else {
+        return Err(FaultKind::OutOfMemory);
+    };
+    do_line(alloc, line, admin)
 }
 
 // Does what one line asks for, and answers the line to print, if it prints one.
