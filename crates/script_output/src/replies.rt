@@ -1,9 +1,8 @@
 //! The line of a reply. Most of what a script prints are such lines, so they are put together by hand.
 ghost use Rattle.std.specs.Prelude.{◌≡◌, ◌+◌, ◌≤◌, ◌++◌, codes, length};
-ghost use Rattle.std.specs.Fmt.{decimal};
 ghost use Rattle.std.specs.List.{flat_map};
 ghost use Rattle.script_output.specs.Texts.{entry_text, kind_text, listed_text, more_text};
-ghost use Rattle.script_output.specs.ReplyLines.{PushesHeaded, PushesReply};
+ghost use Rattle.script_output.specs.ReplyLines.{PushesHeaded, PushesReply, entries_front};
 ghost use Rattle.script_output.specs.Writing.{Pushes};
 
 use crate::escapes::push_escaped;
@@ -95,7 +94,7 @@ fn push_entries_heading(
     count: usize,
     more: bool,
 ) -> Result<(), AllocError>
-    ensures { PushesHeaded out.old.items out.new.items heading (codes "entries " ++ (decimal count ++ (codes " " ++ more_text more))) result }
+    ensures { PushesHeaded out.old.items out.new.items heading (entries_front count more) result }
 {
     let mut end = TextEnd::new();
     put_more(&mut end, more);
