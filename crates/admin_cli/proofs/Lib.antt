@@ -1,4 +1,3 @@
 pub mod Committed
-pub mod LineLemmas
 pub mod Operated
 pub mod Progress

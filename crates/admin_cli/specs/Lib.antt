@@ -7,3 +7,4 @@ pub mod Scripts
 pub mod Settings
 pub mod StepLines
 pub mod StoreLines
+pub mod Waiting

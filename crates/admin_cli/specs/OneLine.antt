@@ -26,10 +26,11 @@ Prints before after printed (Err NotCommand) = ⊥
 Prints before after printed (Err TooLong) = ⊥
 Prints before after printed (Err ReadFault) = ⊥
 
--- one line that was read: all its text was appended to the known bytes, or a beginning at its fault
-abbrev pub EndsLine : (old new : Admin) → List ℕ → (before after : Option (List ℕ)) → Result (Unit {0}) FaultKind → Type 0
-EndsLine old new bytes before after (Ok done) = (text : List ℕ) × RunsLine old new bytes text × Appends before after text
-EndsLine old new bytes before after (Err kind) = (front : List ℕ) × StopsAt old new bytes kind front × Appends before after front
+-- one line that was read: its text is that of what it prints; or why it ends the script
+abbrev pub DoesBytes : (old new : Admin) → List ℕ → Result (Option OutputLine) FaultKind → Type 0
+DoesBytes old new bytes (Ok None) = RunsLine old new bytes []
+DoesBytes old new bytes (Ok (Some printed)) = RunsLine old new bytes (text_of printed)
+DoesBytes old new bytes (Err kind) = StopsAt old new bytes kind []
 
 -- a script that ended with a read fault: its reader has failed, or its lines were more than 64 bits count
 abbrev pub HasReaderFailed : Bool → Result (Unit {0}) ScriptFault → Type 0

@@ -9,6 +9,7 @@ mod kept_jobs;
 mod script;
 mod serving;
 mod store_commands;
+mod waiting;
 
 pub use command_line::{Options, settings};
 pub use faults::{FaultKind, ScriptFault};

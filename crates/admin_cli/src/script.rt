@@ -2,10 +2,12 @@
 ghost use Rattle.std.specs.Prelude.{◌≡◌, ◌+◌, ◌<◌, ◌≤◌, ◌^◌, length, IfSome};
 ghost use Rattle.std.specs.FinMap as map;
 ghost use Rattle.admin_cli.specs.Scripts.{IsFormatted, RunsInput, RunsNew};
-ghost use Rattle.admin_cli.specs.OneLine.{AnswersLine, EndsLine, HasReaderFailed, Prints, RunsOrNot};
+ghost use Rattle.admin_cli.specs.OneLine.{AnswersLine, DoesBytes, HasReaderFailed, Prints, RunsOrNot};
+ghost use Rattle.admin_cli.specs.Waiting.{IsEmpty, PrintsAny, PrintsOutput, RunsWaiting};
 
 use crate::commands::Admin;
 use crate::faults::{FaultKind, ScriptFault};
+use crate::waiting::Waiting;
 use cluster_core::{Book, format};
 use objstore::MemStore;
 use script_output::{OutputFault, OutputLine, write_line};
@@ -82,10 +84,15 @@ fn run_input<R: Read + Drop, W: Write>(
     let Ok(mut buffer) = LineBuffer::new(alloc) else {
         return Err(NO_MEMORY_AT_START);
     };
+    let Ok(mut waiting) = Waiting::new(alloc) else {
+        return Err(NO_MEMORY_AT_START);
+    };
     let Ok(mut reader) = BufReader::new(alloc, reader) else {
         return Err(NO_MEMORY_AT_START);
     };
-    run_lines(alloc, &mut reader, &mut buffer, writer, admin)
+    let ended = run_lines(alloc, &mut reader, &mut buffer, &mut waiting, writer, admin);
+    waiting.flush(writer)?;
+    ended
 }
 
 // The memory that reading needs was refused before the first line.
@@ -94,19 +101,37 @@ const NO_MEMORY_AT_START: ScriptFault = ScriptFault {
     kind: FaultKind::OutOfMemory,
 };
 
-// Runs the lines of a reader, one after the other. More lines than 64 bits count are a read fault.
-fn run_lines<R: BufRead, W: Write>(
+/// A reader that tells what it has read ahead.
+trait ReadAhead: BufRead {
+    /// Whether the next line is at hand, so that no call for it waits for more bytes.
+    fn has_line(&self) -> bool;
+}
+
+impl<R: Read> ReadAhead for BufReader<R> {
+    fn has_line(&self) -> bool {
+        self.buffer().contains(&b'\n')
+    }
+}
+
+// Runs the lines of a reader, one after the other. What they print waits to be written together, but not while the reader
+// waits for more. More lines than 64 bits count are a read fault.
+fn run_lines<R: ReadAhead, W: Write>(
     alloc: Global,
     reader: &mut R,
     buffer: &mut LineBuffer,
+    waiting: &mut Waiting,
     writer: &mut W,
     admin: &mut Admin,
 ) -> Result<(), ScriptFault>
-    requires { admin.old.operations ≡ 0 }
-    ensures runs { RunsInput admin.old (R.remaining reader.old) (W.contents writer.old) (W.contents writer.new) result }
+    requires first { admin.old.operations ≡ 0 }
+    requires empty { IsEmpty waiting.old }
+    ensures runs { RunsWaiting admin.old waiting.new (R.remaining reader.old) (W.contents writer.old) (W.contents writer.new) result }
     ensures failed { HasReaderFailed buffer.new.failed result }
 {
     for line in 1..u64::MAX {
+        if let Err(fault) = waiting.settle(reader.has_line(), writer) {
+            return Err(fault);
+        }
         match next_line(reader, buffer) {
             Ok(NextLine::Read) => {}
             Ok(NextLine::End) => return Ok(()),
@@ -119,8 +144,12 @@ fn run_lines<R: BufRead, W: Write>(
                 kind: FaultKind::ReadFault,
             }),
         }
-        if let Err(kind) = run_line(alloc, buffer.as_bytes(), writer, admin) {
-            return Err(ScriptFault { line, kind });
+        let printed = match run_line(alloc, buffer.as_bytes(), admin) {
+            Ok(printed) => printed,
+            Err(kind) => return Err(ScriptFault { line, kind }),
+        };
+        if let Err(fault) = print_any(alloc, line, printed, waiting, writer) {
+            return Err(fault);
         }
     }
     Err(ScriptFault {
@@ -129,27 +158,17 @@ fn run_lines<R: BufRead, W: Write>(
     })
 }
 
-// Runs one line, and writes what it prints.
-#[tactic(auto, using(crate::proofs::LineLemmas::printed))]
-fn run_line<W: Write>(
-    alloc: Global,
-    bytes: &[u8],
-    writer: &mut W,
-    admin: &mut Admin,
-) -> Result<(), FaultKind>
+// Runs one line, and answers the line to print, if it prints one.
+fn run_line(alloc: Global, bytes: &[u8], admin: &mut Admin) -> Result<Option<OutputLine>, FaultKind>
     requires room { admin.old.operations + 1 < 2 ^ 64 }
     requires short { length bytes.now ≤ 16384 }
     ensures count { admin.new.operations ≤ admin.old.operations + 1 }
-    ensures ends { EndsLine admin.old admin.new bytes.now (W.contents writer.old) (W.contents writer.new) result }
+    ensures does { DoesBytes admin.old admin.new bytes.now result }
 {
     let Ok(line) = read_line(alloc, bytes) else {
         return Err(FaultKind::OutOfMemory);
     };
-    match do_line(alloc, line, admin) {
-        Ok(Some(output)) => print(alloc, writer, &output),
-        Ok(None) => Ok(()),
-        Err(kind) => Err(kind),
-    }
+    do_line(alloc, line, admin)
 }
 
 // Does what one line asks for, and answers the line to print, if it prints one.
@@ -169,8 +188,45 @@ fn do_line(alloc: Global, line: Line, admin: &mut Admin) -> Result<Option<Output
     }
 }
 
+// Puts what a line prints behind what waits, if it prints anything.
+fn print_any<W: Write>(
+    alloc: Global,
+    line: u64,
+    printed: Option<OutputLine>,
+    waiting: &mut Waiting,
+    writer: &mut W,
+) -> Result<(), ScriptFault>
+    ensures { PrintsAny waiting.old waiting.new line printed (W.contents writer.old) (W.contents writer.new) result }
+{
+    match printed {
+        Some(printed) => print(alloc, line, &printed, waiting, writer),
+        None => Ok(()),
+    }
+}
+
+// Puts what a line prints behind what waits. Where there is no memory for that, all is written, and then the line, whose text
+// may take none.
+fn print<W: Write>(
+    alloc: Global,
+    line: u64,
+    printed: &OutputLine,
+    waiting: &mut Waiting,
+    writer: &mut W,
+) -> Result<(), ScriptFault>
+    ensures { PrintsOutput waiting.old waiting.new line printed.now (W.contents writer.old) (W.contents writer.new) result }
+{
+    if waiting.put(alloc, line, printed).is_ok() {
+        return Ok(());
+    }
+    waiting.flush(writer)?;
+    match write_own(alloc, writer, printed) {
+        Ok(()) => Ok(()),
+        Err(kind) => Err(ScriptFault { line, kind }),
+    }
+}
+
 // Writes a line with its LF.
-fn print<W: Write>(alloc: Global, writer: &mut W, line: &OutputLine) -> Result<(), FaultKind>
+fn write_own<W: Write>(alloc: Global, writer: &mut W, line: &OutputLine) -> Result<(), FaultKind>
     ensures { Prints (W.contents writer.old) (W.contents writer.new) line.now result }
 {
     match write_line(alloc, writer, line) {

@@ -19,11 +19,11 @@ record Spells (base n : ℕ) (text : List ℕ) : Type 0 where
   short : (j : ℕ) → n < base ^ suc j → length text ≤ suc j
 
 -- a first power
-pow_once : (base : ℕ) → base ^ 1 ≡ base
+pub pow_once : (base : ℕ) → base ^ 1 ≡ base
 pow_once base = pow-suc base 0 ∙ ap (λ m. m * base) (pow-zero base) ∙ one-mul base
 
 -- what is below one power more is below that power after a division
-shorter : (base n j : ℕ) → 2 ≤ base → n < base ^ suc (suc j) → n / base < base ^ suc j
+pub shorter : (base n j : ℕ) → 2 ≤ base → n < base ^ suc (suc j) → n / base < base ^ suc j
 shorter base n j low fits = (div-lt_iff_lt-mul (omega arith)).1 (subst (λ m. n < m) (pow-suc base (suc j)) fits)
 
 -- a digit's byte is that digit, and is 0 only for 0
@@ -131,7 +131,7 @@ spelled_shortest base n text h = ap is_shortest h.parts ∙ at h.others h.none
         ap not (ne_eqb h.first 48 (h.some (omega arith)))
 
 -- a number of 64 bits is below the most that can be written
-below_most : (base n : ℕ) → 2 ≤ base → n < 2 ^ 64 → n < base ^ 64
+pub below_most : (base n : ℕ) → 2 ≤ base → n < 2 ^ 64 → n < base ^ 64
 below_most base n low fits =
     let most : 2 ^ 64 ≤ base ^ 64 = pow-le-pow_left low 64 in
     omega arith
@@ -150,3 +150,7 @@ octal_mode_of-digits n fits =
     let few : length text ≤ 4 = h.short 3 (omega arith) in
     let some : 0 < length text = omega (arith, ap length h.parts) in
     rw (lt-ltb 0 (length text) some, le-leb (length text) 4 few, h.digits) (rw h.value refl)
+
+-- a number below a power of the base has no more digits than that
+pub few_digits : (base n most : ℕ) → 2 ≤ base → base ≤ 16 → n < 2 ^ 64 → n < base ^ suc most → length (digits base false n) ≤ suc most
+few_digits base n most low high fits less = let h = digits_of base n low high (below_most base n low fits) in h.short most less

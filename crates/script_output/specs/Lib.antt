@@ -3,4 +3,5 @@ pub mod Texts
 pub mod ObjectLines
 pub mod Lines
 pub mod Writing
+pub mod ReplyLines
 pub mod Laws

@@ -62,9 +62,13 @@ abbrev pub first_text : Bool → List ℕ
 first_text true = codes "new"
 first_text false = codes "again"
 
+-- `reply CLIENT TID PLACE new` or `reply CLIENT TID PLACE again`, and then a text
+abbrev pub headed : ℕ → ℕ → ℕ → Bool → List ℕ → List ℕ
+headed client tid place first text = codes "reply " ++ (decimal client ++ (codes " " ++ (decimal tid ++ (codes " " ++ (decimal place ++ (codes " " ++ (first_text first ++ (codes " " ++ text))))))))
+
 -- `reply CLIENT TID PLACE new R` or `reply CLIENT TID PLACE again R`
 abbrev pub reply_line : ℕ → ℕ → ℕ → Bool → Reply → List ℕ
-reply_line client tid place first reply = codes "reply " ++ (decimal client ++ (codes " " ++ (decimal tid ++ (codes " " ++ (decimal place ++ (codes " " ++ (first_text first ++ (codes " " ++ reply_text reply))))))))
+reply_line client tid place first reply = headed client tid place first (reply_text reply)
 
 -- a space and a fragment, as it prints
 abbrev pub leaf_text : Fragment → List ℕ

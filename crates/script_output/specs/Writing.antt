@@ -17,6 +17,17 @@ pub record AppendsBeginning (old new : Option (List ℕ)) (text : List ℕ) : Ty
   pub left : 0 < length rest
   pub written : Appends old new front
 
+-- a text in memory grew by bytes; where there was no memory for them, it begins as it was
+abbrev pub Pushes : {E : Type 0} → List ℕ → List ℕ → List ℕ → Result (Unit {0}) E → Type 0
+Pushes old new bytes (Ok done) = new ≡ old ++ bytes
+Pushes old new bytes (Err none) = (rest : List ℕ) × (new ≡ old ++ rest)
+
+-- a text in memory grew by one that was made, if there was memory to make it
+abbrev pub PushesMade : {S E F : Type 0} → (S → List ℕ) → List ℕ → List ℕ → Result S E → Result (Unit {0}) F → Type 0
+PushesMade bytes_of old new (Ok text) result = Pushes old new (bytes_of text) result
+PushesMade bytes_of old new (Err none) (Ok done) = ⊥
+PushesMade bytes_of old new (Err none) (Err other) = (rest : List ℕ) × (new ≡ old ++ rest)
+
 -- a line's text: all of it is appended to the known bytes; for want of memory nothing; at the writer's fault a beginning
 abbrev pub WritesLine : Option (List ℕ) → Option (List ℕ) → List ℕ → Result (Unit {0}) OutputFault → Type 0
 WritesLine old new text (Ok done) = Appends old new text

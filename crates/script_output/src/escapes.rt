@@ -1,7 +1,10 @@
 //! Names, targets and keys as they are printed.
-ghost use Rattle.std.specs.Prelude.{◌≡◌, Some};
+ghost use Rattle.std.specs.Prelude.{◌≡◌, Some, IsTrue};
 ghost use Rattle.script_output.specs.Escapes.{escaped, escaped_byte, prints_plain};
+ghost use Rattle.script_output.specs.Writing.{Pushes};
 
+use crate::digits::glyph;
+use std::alloc::AllocError;
 use std::fmt;
 
 /// One byte of a name, a target or a key as it is printed.
@@ -43,5 +46,41 @@ impl fmt::Display for Escaped<'_> {
             write!(f, "{printed}")?;
         }
         Ok(())
+    }
+}
+
+/// Puts a name, a target or a key, as it is printed, at the end of a text.
+pub fn push_escaped(out: &mut Vec<u8>, bytes: &[u8]) -> Result<(), AllocError>
+    ensures { Pushes out.old.items out.new.items (escaped bytes.now) result }
+{
+    if all_plain(bytes) {
+        return out.extend_from_slice(bytes);
+    }
+    for byte in bytes {
+        push_escaped_byte(out, *byte)?;
+    }
+    Ok(())
+}
+
+// Whether all of these bytes print as they are.
+fn all_plain(bytes: &[u8]) -> bool
+    ensures { IsTrue result → escaped bytes.now ≡ bytes.now }
+{
+    for byte in bytes {
+        if !prints_plain(*byte) {
+            return false;
+        }
+    }
+    true
+}
+
+// Puts one byte, as it is printed, at the end of a text.
+fn push_escaped_byte(out: &mut Vec<u8>, byte: u8) -> Result<(), AllocError>
+    ensures { Pushes out.old.items out.new.items (escaped_byte byte) result }
+{
+    if prints_plain(byte) {
+        out.extend_from_slice(&[byte])
+    } else {
+        out.extend_from_slice(&[b'%', glyph(byte / 16), glyph(byte % 16)])
     }
 }

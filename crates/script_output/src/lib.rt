@@ -3,6 +3,7 @@
 //! prints of a name, a number or a fragment is read back.
 #![tactic(auto)]
 
+mod digits;
 mod escapes;
 mod fixed_texts;
 mod frag_lists;
@@ -11,6 +12,7 @@ mod lines;
 mod object_lines;
 mod replies;
 mod root_lists;
+mod text_ends;
 mod word_lists;
 mod writing;
 
@@ -20,4 +22,4 @@ pub use lines::OutputLine;
 pub use object_lines::ObjectLine;
 pub use root_lists::{Root, RootList};
 pub use word_lists::WordList;
-pub use writing::{OutputFault, WriteFault, write_all_of, write_line};
+pub use writing::{OutputFault, WriteFault, write_all_of, write_line, write_most_of};

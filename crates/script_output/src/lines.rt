@@ -1,18 +1,20 @@
 //! The lines that are printed.
-ghost use Rattle.std.specs.Prelude.{◌≡◌, ◌++◌, codes, Some, IfOk, string_bytes};
-ghost use Rattle.script_output.specs.Texts.{damaged_text, first_text};
+ghost use Rattle.std.specs.Prelude.{◌≡◌, ◌++◌, codes, Some, OnErr, OnOk, string_bytes};
+ghost use Rattle.script_output.specs.Texts.{damaged_text};
 ghost use Rattle.script_output.specs.Lines.{output_line};
+ghost use Rattle.script_output.specs.Writing.{Pushes, PushesMade};
 
+use crate::fixed_texts::fixed_text;
 use crate::frag_lists::FragList;
 use crate::object_lines::ObjectLine;
-use crate::replies::ReplyText;
+use crate::replies::{Heading, push_reply};
 use crate::root_lists::RootList;
 use crate::word_lists::{ObjectsText, WordList};
 use mds_types::{Rank, Refusal, Reply};
 use std::alloc::{AllocError, Global};
 use std::fmt;
 
-/// A line that is printed for a command. It prints without its LF.
+/// A line that is printed for a command.
 #[derive(Debug, Drop, PartialEq, Eq)]
 pub enum OutputLine {
     /// `reply CLIENT TID PLACE new R`, or `again` for a reply that was kept.
@@ -53,27 +55,28 @@ pub enum OutputLine {
     Errno(u16),
 }
 
-// Room for the text of a usual reply, so that it is not moved as it grows.
-const USUAL_LEN: usize = 80;
-
 impl OutputLine {
-    /// The line with its LF. Takes memory for it.
-    pub fn to_text(&self, alloc: Global) -> Result<String, AllocError>
-        ensures { IfOk result (λ text. string_bytes text ≡ output_line self.now ++ codes "\n") }
+    /// Puts the line with its LF at the end of a text. Where there is no memory for it, the text stays as it was.
+    pub fn push_to(&self, alloc: Global, out: &mut Vec<u8>) -> Result<(), AllocError>
+        ensures ok { OnOk result (out.new.items ≡ out.old.items ++ (output_line self.now ++ codes "\n")) }
+        ensures err { OnErr result (out.new.items ≡ out.old.items) }
     {
-        let mut text = String::with_capacity(alloc, USUAL_LEN)?;
-        match write!(text, "{self}\n") {
-            Ok(()) => Ok(text),
-            Err(_) => Err(AllocError),
+        let len = out.len();
+        let pushed = self.push_some(alloc, out);
+        if pushed.is_err() {
+            out.truncate(len);
         }
+        pushed
     }
-}
 
-impl fmt::Display for OutputLine {
-    ghost output = { λ line. Some (output_line line) };
-
-    #[tactic(auto, unfolding(crate::specs::Lines::output_line))]
-    fn fmt<W: fmt::Write>(&self, f: &mut fmt::Formatter<W>) -> fmt::Result {
+    // Puts the line with its LF at the end of a text, or some of it where there is no memory for all.
+    #[tactic(auto, using(crate::proofs::PushLemmas::made), unfolding(crate::specs::Lines::output_line))]
+    fn push_some(&self, alloc: Global, out: &mut Vec<u8>) -> Result<(), AllocError>
+        ensures { Pushes out.old.items out.new.items (output_line self.now ++ codes "\n") result }
+    {
+        if let Some(text) = fixed_text(self) {
+            return out.extend_from_slice(text.as_bytes());
+        }
         match self {
             OutputLine::Reply {
                 client,
@@ -82,32 +85,44 @@ impl fmt::Display for OutputLine {
                 first,
                 reply,
             } => {
-                let first = FirstText(*first);
-                let reply = ReplyText(reply);
-                write!(f, "reply {client} {tid} {place} {first} {reply}")
+                let heading = Heading {
+                    client: *client,
+                    tid: *tid,
+                    place: *place,
+                    first: *first,
+                };
+                push_reply(out, heading, reply)
             }
-            OutputLine::Forwarded(Rank(rank)) => write!(f, "forwarded {rank}"),
-            OutputLine::Deferred => write!(f, "deferred"),
-            OutputLine::Queued => write!(f, "queued"),
-            OutputLine::Nothing => write!(f, "nothing"),
-            OutputLine::Frags(leaves) => write!(f, "{leaves}"),
-            OutputLine::Subtrees(roots) => write!(f, "{roots}"),
-            OutputLine::Authority(Rank(rank)) => write!(f, "rank {rank}"),
-            OutputLine::Job(number) => write!(f, "job {number}"),
-            OutputLine::Object(object) => write!(f, "{object}"),
+            OutputLine::Forwarded(Rank(rank)) => push_text(
+                out,
+                format!(in alloc; "forwarded {rank}\n"),
+            ),
+            OutputLine::Deferred | OutputLine::Queued | OutputLine::Nothing => unreachable!(),
+            OutputLine::Frags(leaves) => push_text(out, format!(in alloc; "{leaves}\n")),
+            OutputLine::Subtrees(roots) => push_text(out, format!(in alloc; "{roots}\n")),
+            OutputLine::Authority(Rank(rank)) => push_text(out, format!(in alloc; "rank {rank}\n")),
+            OutputLine::Job(number) => push_text(out, format!(in alloc; "job {number}\n")),
+            OutputLine::Object(object) => push_text(out, format!(in alloc; "{object}\n")),
             OutputLine::Objects(names) => {
                 let names = ObjectsText(names);
-                write!(f, "{names}")
+                push_text(out, format!(in alloc; "{names}\n"))
             }
-            OutputLine::History(length) => write!(f, "history {length}"),
+            OutputLine::History(length) => push_text(out, format!(in alloc; "history {length}\n")),
             OutputLine::Refused(refusal) => {
                 let number = refusal.number();
                 let object = DamagedText(*refusal);
-                write!(f, "refused {number}{object}")
+                push_text(out, format!(in alloc; "refused {number}{object}\n"))
             }
-            OutputLine::Errno(errno) => write!(f, "errno {errno}"),
+            OutputLine::Errno(errno) => push_text(out, format!(in alloc; "errno {errno}\n")),
         }
     }
+}
+
+// Puts a text at the end of another, if there was memory to make it.
+fn push_text(out: &mut Vec<u8>, text: Result<String, AllocError>) -> Result<(), AllocError>
+    ensures { PushesMade string_bytes out.old.items out.new.items text result }
+{
+    out.extend_from_slice(text?.as_bytes())
 }
 
 /// A space and the name of the object that is damaged; of another refusal nothing.
@@ -121,22 +136,6 @@ impl fmt::Display for DamagedText {
         match self.0 {
             Refusal::Damaged(object) => write!(f, " {object}"),
             _ => Ok(()),
-        }
-    }
-}
-
-/// `new` or `again`.
-#[derive(Clone, Copy)]
-pub struct FirstText(pub bool);
-
-impl fmt::Display for FirstText {
-    ghost output = { λ text. Some (first_text text.0) };
-
-    fn fmt<W: fmt::Write>(&self, f: &mut fmt::Formatter<W>) -> fmt::Result {
-        if self.0 {
-            write!(f, "new")
-        } else {
-            write!(f, "again")
         }
     }
 }

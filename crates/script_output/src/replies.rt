@@ -1,132 +1,190 @@
-//! The text of a reply.
-ghost use Rattle.std.specs.Prelude.{Some};
+//! The line of a reply. Most of what a script prints are such lines, so they are put together by hand.
+ghost use Rattle.std.specs.Prelude.{◌≡◌, ◌+◌, ◌≤◌, ◌++◌, codes, length};
 ghost use Rattle.std.specs.List.{flat_map};
-ghost use Rattle.script_output.specs.Texts.{kind_text, entry_text, listed_text, entries_text, more_text, reply_text};
+ghost use Rattle.script_output.specs.Texts.{entry_text, kind_text, listed_text, more_text};
+ghost use Rattle.script_output.specs.ReplyLines.{PushesHeaded, PushesReply, entries_front};
+ghost use Rattle.script_output.specs.Writing.{Pushes};
 
-use crate::escapes::Escaped;
-use mds_types::{Inode, Kind, Listing, Name, Reply};
-use std::fmt;
+use crate::escapes::push_escaped;
+use crate::text_ends::TextEnd;
+use mds_types::{Inode, Kind, Listing, Name, Reply, Target};
+use std::alloc::AllocError;
 
-/// `file`, `dir` or `link`.
+/// What stands before a reply on its line.
 #[derive(Clone, Copy)]
-pub struct KindText<'a>(pub &'a Kind);
+pub struct Heading {
+    pub client: u64,
+    pub tid: u64,
+    pub place: u64,
+    pub first: bool,
+}
 
-impl fmt::Display for KindText<'_> {
-    ghost output = { λ text. Some (kind_text text.0.now) };
-
-    fn fmt<W: fmt::Write>(&self, f: &mut fmt::Formatter<W>) -> fmt::Result {
-        match self.0 {
-            Kind::File => write!(f, "file"),
-            Kind::Dir => write!(f, "dir"),
-            Kind::Symlink(_) => write!(f, "link"),
-        }
+/// Puts the line of a reply at the end of a text, with its LF.
+pub fn push_reply(out: &mut Vec<u8>, heading: Heading, reply: &Reply) -> Result<(), AllocError>
+    ensures { PushesReply out.old.items out.new.items heading reply.now result }
+{
+    match reply {
+        Reply::Entry(inode) => push_entry(out, heading, inode),
+        Reply::Entries { list, more } => push_entries(out, heading, list, *more),
+        Reply::Target(target) => push_target(out, heading, target),
+        Reply::Done => push_done(out, heading),
+        Reply::Errno(errno) => push_errno(out, heading, *errno),
     }
 }
 
-/// `entry INO KIND MODE SIZE MTIME`
-#[derive(Clone, Copy)]
-pub struct EntryText<'a>(pub &'a Inode);
+// `entry INO KIND MODE SIZE MTIME`
+fn push_entry(out: &mut Vec<u8>, heading: Heading, inode: &Inode) -> Result<(), AllocError>
+    ensures { PushesReply out.old.items out.new.items heading (Reply.Entry inode.now) result }
+{
+    let mut end = TextEnd::new();
+    end.put(b"\n");
+    put_inode(&mut end, inode);
+    push_headed(out, heading, &mut end)
+}
 
-impl fmt::Display for EntryText<'_> {
-    ghost output = { λ text. Some (entry_text text.0.now) };
+// Puts `entry INO KIND MODE SIZE MTIME` before a text.
+fn put_inode(end: &mut TextEnd, inode: &Inode)
+    requires { 74 + length end.old ≤ 160 }
+    ensures text { end.new ≡ entry_text inode.now ++ end.old }
+    ensures long { length end.new ≤ 74 + length end.old }
+{
+    end.put_decimal(inode.mtime);
+    end.put(b" ");
+    end.put_decimal(inode.size);
+    end.put(b" ");
+    end.put_mode(inode.mode);
+    end.put(b" ");
+    put_kind(end, &inode.kind);
+    end.put(b" ");
+    end.put_hexadecimal(inode.ino.0);
+    end.put(b"entry ");
+}
 
-    fn fmt<W: fmt::Write>(&self, f: &mut fmt::Formatter<W>) -> fmt::Result {
-        let ino = self.0.ino.0;
-        let kind = KindText(&self.0.kind);
-        let mode = self.0.mode.bits();
-        let size = self.0.size;
-        let mtime = self.0.mtime;
-        write!(f, "entry {ino:x} {kind} {mode:o} {size} {mtime}")
+// Puts `file`, `dir` or `link` before a text.
+fn put_kind(end: &mut TextEnd, kind: &Kind)
+    requires { 4 + length end.old ≤ 160 }
+    ensures text { end.new ≡ kind_text kind.now ++ end.old }
+    ensures long { length end.new ≤ 4 + length end.old }
+{
+    match kind {
+        Kind::File => end.put(b"file"),
+        Kind::Dir => end.put(b"dir"),
+        Kind::Symlink(_) => end.put(b"link"),
     }
 }
 
-/// A space and `NAME:INO`.
-#[derive(Clone, Copy)]
-pub struct ListedText<'a>(pub &'a (Name, Inode));
+// `entries K more` or `entries K end`, and then each entry
+fn push_entries(
+    out: &mut Vec<u8>,
+    heading: Heading,
+    list: &Listing,
+    more: bool,
+) -> Result<(), AllocError>
+    ensures { PushesReply out.old.items out.new.items heading (Reply.Entries list.now more) result }
+{
+    push_entries_heading(out, heading, list.as_slice().len(), more)?;
+    push_listing(out, list)?;
+    out.extend_from_slice(b"\n")
+}
 
-impl fmt::Display for ListedText<'_> {
-    ghost output = { λ text. Some (listed_text text.0.now) };
+// `entries K more` or `entries K end`, and what stands before it.
+fn push_entries_heading(
+    out: &mut Vec<u8>,
+    heading: Heading,
+    count: usize,
+    more: bool,
+) -> Result<(), AllocError>
+    ensures { PushesHeaded out.old.items out.new.items heading (entries_front count more) result }
+{
+    let mut end = TextEnd::new();
+    put_more(&mut end, more);
+    end.put(b" ");
+    end.put_decimal(count as u64);
+    end.put(b"entries ");
+    push_headed(out, heading, &mut end)
+}
 
-    fn fmt<W: fmt::Write>(&self, f: &mut fmt::Formatter<W>) -> fmt::Result {
-        let name = Escaped(self.0.0.as_bytes());
-        let ino = self.0.1.ino.0;
-        write!(f, " {name}:{ino:x}")
+// Puts `more` or `end` before a text.
+fn put_more(end: &mut TextEnd, more: bool)
+    requires { 4 + length end.old ≤ 160 }
+    ensures text { end.new ≡ more_text more ++ end.old }
+    ensures long { length end.new ≤ 4 + length end.old }
+{
+    if more {
+        end.put(b"more");
+    } else {
+        end.put(b"end");
     }
 }
 
-/// `more` or `end`.
-#[derive(Clone, Copy)]
-pub struct MoreText(pub bool);
-
-impl fmt::Display for MoreText {
-    ghost output = { λ text. Some (more_text text.0) };
-
-    fn fmt<W: fmt::Write>(&self, f: &mut fmt::Formatter<W>) -> fmt::Result {
-        if self.0 {
-            write!(f, "more")
-        } else {
-            write!(f, "end")
-        }
+// Each entry of a listing.
+fn push_listing(out: &mut Vec<u8>, list: &Listing) -> Result<(), AllocError>
+    ensures { Pushes out.old.items out.new.items (flat_map listed_text list.now) result }
+{
+    for entry in list.as_slice() {
+        push_listed(out, entry)?;
     }
+    Ok(())
 }
 
-/// Each entry of a listing.
-#[derive(Clone, Copy)]
-pub struct ListedTexts<'a>(pub &'a Listing);
-
-impl fmt::Display for ListedTexts<'_> {
-    ghost output = { λ text. Some (flat_map listed_text text.0.now) };
-
-    fn fmt<W: fmt::Write>(&self, f: &mut fmt::Formatter<W>) -> fmt::Result {
-        for entry in self.0.as_slice() {
-            let text = ListedText(entry);
-            write!(f, "{text}")?;
-        }
-        Ok(())
-    }
+// A space and `NAME:INO`.
+fn push_listed(out: &mut Vec<u8>, entry: &(Name, Inode)) -> Result<(), AllocError>
+    ensures { Pushes out.old.items out.new.items (listed_text entry.now) result }
+{
+    let mut end = TextEnd::new();
+    end.put_hexadecimal(entry.1.ino.0);
+    end.put(b":");
+    out.extend_from_slice(b" ")?;
+    push_escaped(out, entry.0.as_bytes())?;
+    out.extend_from_slice(end.as_bytes())
 }
 
-/// `entries K more` or `entries K end`, and then each entry.
-#[derive(Clone, Copy)]
-pub struct EntriesText<'a> {
-    pub list: &'a Listing,
-    pub more: bool,
+// `target TARGET`
+fn push_target(out: &mut Vec<u8>, heading: Heading, target: &Target) -> Result<(), AllocError>
+    ensures { PushesReply out.old.items out.new.items heading (Reply.Target target.now) result }
+{
+    let mut end = TextEnd::new();
+    end.put(b"target ");
+    push_headed(out, heading, &mut end)?;
+    push_escaped(out, target.as_bytes())?;
+    out.extend_from_slice(b"\n")
 }
 
-impl fmt::Display for EntriesText<'_> {
-    ghost output = { λ text. Some (entries_text text.list.now text.more) };
-
-    fn fmt<W: fmt::Write>(&self, f: &mut fmt::Formatter<W>) -> fmt::Result {
-        let count = self.list.as_slice().len();
-        let more = MoreText(self.more);
-        let listed = ListedTexts(self.list);
-        write!(f, "entries {count} {more}{listed}")
-    }
+// `done`
+fn push_done(out: &mut Vec<u8>, heading: Heading) -> Result<(), AllocError>
+    ensures { PushesReply out.old.items out.new.items heading Reply.Done result }
+{
+    let mut end = TextEnd::new();
+    end.put(b"done\n");
+    push_headed(out, heading, &mut end)
 }
 
-/// What follows `new` or `again` on a reply's line.
-#[derive(Clone, Copy)]
-pub struct ReplyText<'a>(pub &'a Reply);
+// `errno N`
+fn push_errno(out: &mut Vec<u8>, heading: Heading, errno: u16) -> Result<(), AllocError>
+    ensures { PushesReply out.old.items out.new.items heading (Reply.Errno errno) result }
+{
+    let mut end = TextEnd::new();
+    end.put(b"\n");
+    end.put_decimal(u64::from(errno));
+    end.put(b"errno ");
+    push_headed(out, heading, &mut end)
+}
 
-impl fmt::Display for ReplyText<'_> {
-    ghost output = { λ text. Some (reply_text text.0.now) };
-
-    fn fmt<W: fmt::Write>(&self, f: &mut fmt::Formatter<W>) -> fmt::Result {
-        match self.0 {
-            Reply::Entry(inode) => {
-                let text = EntryText(inode);
-                write!(f, "{text}")
-            }
-            Reply::Entries { list, more } => {
-                let text = EntriesText { list, more: *more };
-                write!(f, "{text}")
-            }
-            Reply::Target(target) => {
-                let text = Escaped(target.as_bytes());
-                write!(f, "target {text}")
-            }
-            Reply::Done => write!(f, "done"),
-            Reply::Errno(errno) => write!(f, "errno {errno}"),
-        }
+// Puts what stands before a reply, and then the end of its line, at the end of a text.
+fn push_headed(out: &mut Vec<u8>, heading: Heading, end: &mut TextEnd) -> Result<(), AllocError>
+    requires { 75 + length end.old ≤ 160 }
+    ensures { PushesHeaded out.old.items out.new.items heading end.old result }
+{
+    if heading.first {
+        end.put(b" new ");
+    } else {
+        end.put(b" again ");
     }
+    end.put_decimal(heading.place);
+    end.put(b" ");
+    end.put_decimal(heading.tid);
+    end.put(b" ");
+    end.put_decimal(heading.client);
+    end.put(b"reply ");
+    out.extend_from_slice(end.as_bytes())
 }

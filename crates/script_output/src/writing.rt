@@ -1,5 +1,5 @@
 //! Texts and lines to a writer.
-ghost use Rattle.std.specs.Prelude.{◌≡◌, OnOk, OnErr, IfErr, ◌++◌, codes};
+ghost use Rattle.std.specs.Prelude.{◌≡◌, ◌≤◌, OnOk, OnErr, IfErr, ◌++◌, codes, length, take};
 ghost use Rattle.std.specs.Io.KnownBytes.{Appends};
 ghost use Rattle.script_output.specs.Lines.{output_line};
 ghost use Rattle.script_output.specs.Writing.{AppendsBeginning, TakesText, WritesLine};
@@ -18,19 +18,34 @@ pub fn write_all_of<W: Write>(writer: &mut W, bytes: &[u8]) -> Result<(), WriteF
     ensures ok { OnOk result (Appends (W.contents writer.old) (W.contents writer.new) bytes.now) }
     ensures err { OnErr result (AppendsBeginning (W.contents writer.old) (W.contents writer.new) bytes.now) }
 {
+    if write_most_of(writer, bytes) == bytes.len() {
+        Ok(())
+    } else {
+        Err(WriteFault)
+    }
+}
+
+/// Writes the bytes until the writer fails or takes no byte, and answers how many of them are written.
+pub fn write_most_of<W: Write>(writer: &mut W, bytes: &[u8]) -> usize
+    ensures bound { result ≤ length bytes.now }
+    ensures written { Appends (W.contents writer.old) (W.contents writer.new) (take result bytes.now) }
+{
     let mut done = 0;
     while done < bytes.len() {
         let (_, rest) = bytes.split_at(done);
         let Ok(taken) = writer.write(rest) else {
-            return Err(WriteFault);
+            return done;
         };
         if taken == 0 {
-            return Err(WriteFault);
+            return done;
         }
         done += taken;
     }
-    Ok(())
+    done
 }
+
+// Room for the text of a usual reply, so that it is not moved as it grows.
+const USUAL_LEN: usize = 80;
 
 /// Why a line was not written.
 #[derive(Clone, Copy, Debug, PartialEq, Eq)]
@@ -52,20 +67,23 @@ pub fn write_line<W: Write>(
     ensures memory { IfErr result (λ fault. fault ≡ OutputFault.NoMemory → TakesText line.now) }
 {
     if let Some(text) = fixed_text(line) {
-        return write_text(writer, text);
+        return write_text(writer, text.as_bytes());
     }
-    let Ok(text) = line.to_text(alloc) else {
+    let Ok(mut text) = Vec::with_capacity(alloc, USUAL_LEN) else {
         return Err(OutputFault::NoMemory);
     };
-    write_text(writer, text.as_str())
+    if line.push_to(alloc, &mut text).is_err() {
+        return Err(OutputFault::NoMemory);
+    }
+    write_text(writer, text.as_slice())
 }
 
 // Writes a line's text.
-fn write_text<W: Write>(writer: &mut W, text: &str) -> Result<(), OutputFault>
+fn write_text<W: Write>(writer: &mut W, text: &[u8]) -> Result<(), OutputFault>
     ensures written { WritesLine (W.contents writer.old) (W.contents writer.new) text.now result }
     ensures fault { IfErr result (λ fault. fault ≡ OutputFault.Write) }
 {
-    match write_all_of(writer, text.as_bytes()) {
+    match write_all_of(writer, text) {
         Ok(()) => Ok(()),
         Err(WriteFault) => Err(OutputFault::Write),
     }

@@ -6,5 +6,5 @@ use Rattle.admin_cli.proofs.script.run_lines.Given as goal
 abbrev pub invariant-loop-line : goal.invariant-loop-line
 invariant-loop-line g l = record {
   few : l.admin.operations < l.line;
-  reached : IsReached l.initial.admin l.admin (g.R.Read.remaining l.initial.reader) (g.R.Read.remaining l.reader) (g.W.Write.contents l.initial.writer) (g.W.Write.contents l.writer) l.line;
+  reached : IsReached l.initial.admin l.admin (g.R.Read.remaining l.initial.reader) (g.R.Read.remaining l.reader) (g.W.Write.contents l.initial.writer) (g.W.Write.contents l.writer) l.waiting.bytes.items l.waiting.marks.items l.line;
 }

@@ -1,7 +1,14 @@
-use Rattle.script_output.proofs.WriteLemmas.{appends_more}
+use Rattle.std.proofs.Common.{drop, take, sym, arith, length-drop, take-append-drop}
 use Rattle.script_output.proofs.writing.write_all_of.Goals as goal
 
-pub loop-done-preserved : goal.loop-done-preserved
-loop-done-preserved g c =
-    appends_more _ _ _ c.args.bytes.now c.split_at.result.1.now c.loop-done.done c.in-Ok.taken c.loop-done.invariant.within c.split_at.ensures.back c.in-Ok.ensures.bound
-    c.loop-done.invariant.written c.in-Ok.ensures.bytes
+pub returns-else-write_most_of-bytes-clause-err : goal.returns-else-write_most_of-bytes-clause-err
+returns-else-write_most_of-bytes-clause-err g c =
+    let n = c.write_most_of.result in
+    let bytes = c.args.bytes.now in
+    record {
+      front = take n bytes;
+      rest = drop n bytes;
+      whole = sym (take-append-drop n bytes);
+      left = omega (arith, c.if-write_most_of-bytes.false, c.write_most_of.ensures.bound, length-drop n bytes);
+      written = c.write_most_of.ensures.written;
+    }

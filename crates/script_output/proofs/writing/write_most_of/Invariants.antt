@@ -1,6 +1,6 @@
 use Rattle.std.proofs.Common.{◌-◌, ◌≤◌, length, take}
 use Rattle.std.specs.Io.KnownBytes.{Appends}
-use Rattle.script_output.proofs.writing.write_all_of.Given as goal
+use Rattle.script_output.proofs.writing.write_most_of.Given as goal
 
 -- the bytes so far are written
 abbrev pub invariant-loop-done : goal.invariant-loop-done

@@ -1,0 +1,66 @@
+-- Printed text that waits to be written, and what is left of it by a writer's fault.
+use Rattle.std.specs.Prelude.{◌≡◌, ◌⊎◌, ℕ, ◌<◌, nat_lt, if◌then◌else◌, List, [], ◌∷◌, ◌++◌, length, take, Option, Some, None, Result, Ok, Err}
+use Rattle.std.specs.Io.KnownBytes.{Appends}
+use Rattle.script_output.specs.declared.lines.OutputLine.{OutputLine}
+use Rattle.admin_cli.specs.declared.commands.Admin.{Admin}
+use Rattle.admin_cli.specs.declared.faults.ScriptFault.{ScriptFault}
+use Rattle.admin_cli.specs.declared.faults.FaultKind.{FaultKind}
+use Rattle.admin_cli.specs.declared.faults.FaultKind.TheVariants.{WriteFault}
+use Rattle.admin_cli.specs.declared.waiting.Mark.{Mark}
+use Rattle.admin_cli.specs.declared.waiting.Waiting.{Waiting}
+use Rattle.admin_cli.specs.OneLine.{Prints}
+use Rattle.admin_cli.specs.Scripts.{RunsInput, text_of}
+
+-- the script's line whose text has the byte at a place, by where the text of each line ends; 0, if none has it
+abbrev pub line_at : List Mark → ℕ → ℕ
+line_at [] place = 0
+line_at (mark ∷ marks) place = if nat_lt place mark.end then mark.line else line_at marks place
+
+-- nothing waits
+abbrev pub IsEmpty : Waiting → Type 0
+IsEmpty waiting = (waiting.bytes.items ≡ []) × (waiting.marks.items ≡ [])
+
+-- what a line of the script prints stands behind what waits
+pub record Puts (old new : Waiting) (line : ℕ) (printed : OutputLine) : Type 0 where
+  pub bytes : new.bytes.items ≡ old.bytes.items ++ text_of printed
+  pub marks : new.marks.items ≡ old.marks.items ++ record { line = line; end = length (old.bytes.items ++ text_of printed) } ∷ []
+
+-- a part of what waits was written, and the fault tells the line whose text broke off
+pub record Breaks (waiting : Waiting) (before after : Option (List ℕ)) (fault : ScriptFault) : Type 0 where
+  pub place : ℕ
+  pub short : place < length waiting.bytes.items
+  pub written : Appends before after (take place waiting.bytes.items)
+  pub told : fault ≡ record { line = line_at waiting.marks.items place; kind = WriteFault }
+
+-- what waited was written, all of it or up to a fault
+abbrev pub Flushes : (old new : Waiting) → (before after : Option (List ℕ)) → Result (Unit {0}) ScriptFault → Type 0
+Flushes old new before after (Ok done) = IsEmpty new × Appends before after old.bytes.items
+Flushes old new before after (Err fault) = IsEmpty new × Breaks old before after fault
+
+-- so, or it waits on
+abbrev pub MayFlush : (old new : Waiting) → (before after : Option (List ℕ)) → Result (Unit {0}) ScriptFault → Type 0
+MayFlush old new before after (Ok done) = ((new ≡ old) × (after ≡ before)) ⊎ (IsEmpty new × Appends before after old.bytes.items)
+MayFlush old new before after (Err fault) = IsEmpty new × Breaks old before after fault
+
+-- what waited was written, and then a line that was printed, up to a fault of its own
+pub record PrintsOwn (waiting : Waiting) (line : ℕ) (printed : OutputLine) (before after : Option (List ℕ)) (fault : ScriptFault) : Type 0 where
+  pub kind : FaultKind
+  pub told : fault ≡ record { line = line; kind = kind }
+  pub middle : Option (List ℕ)
+  pub flushed : Appends before middle waiting.bytes.items
+  pub prints : Prints middle after printed (Err kind)
+
+-- a line's text was put behind what waits; or all was written, where there was no memory to let it wait
+abbrev pub PrintsOutput : (old new : Waiting) → (line : ℕ) → OutputLine → (before after : Option (List ℕ)) → Result (Unit {0}) ScriptFault → Type 0
+PrintsOutput old new line printed before after (Ok done) = (Puts old new line printed × (after ≡ before)) ⊎ (IsEmpty new × Appends before after (old.bytes.items ++ text_of printed))
+PrintsOutput old new line printed before after (Err fault) = IsEmpty new × (Breaks old before after fault ⊎ PrintsOwn old line printed before after fault)
+
+-- what a line of the script prints, if it prints anything
+abbrev pub PrintsAny : (old new : Waiting) → (line : ℕ) → Option OutputLine → (before after : Option (List ℕ)) → Result (Unit {0}) ScriptFault → Type 0
+PrintsAny old new line None before after result = (new ≡ old) × (after ≡ before) × (result ≡ Ok tt)
+PrintsAny old new line (Some printed) before after result = PrintsOutput old new line printed before after result
+
+-- a script ended so; what waits is to be written, or a beginning of it, and then it is the whole script that did
+pub record RunsWaiting (old : Admin) (waiting : Waiting) (known before middle : Option (List ℕ)) (result : Result (Unit {0}) ScriptFault) : Type 0 where
+  pub whole : (after : Option (List ℕ)) → Appends middle after waiting.bytes.items → RunsInput old known before after result
+  pub broken : (after : Option (List ℕ)) (fault : ScriptFault) → Breaks waiting middle after fault → RunsInput old known before after (Err fault)

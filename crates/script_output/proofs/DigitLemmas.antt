@@ -1,0 +1,96 @@
+-- Digits that are written from the last to the first.
+use Rattle.std.proofs.Common.{◌≡◌, ℕ, zero, suc, ◌+◌, ◌-◌, ◌*◌, ◌/◌, ◌%◌, ◌^◌, ◌<◌, ◌≤◌, Bool, true, false, cond, eqb, List, [], ◌∷◌, ◌++◌, length, refl, sym, ap, subst, ◌∙◌, arith, append_assoc, drop, set, length-append, length-drop, length-set}
+use Rattle.std.proofs.Math.Nat.{div-add-mod, div-eq_of_lt, mod-eq_of_lt, mod-lt, mul-zero}
+use Rattle.std.proofs.lemmas.List.{drop-set}
+use Rattle.std.specs.Fmt.{digits, digits_onto, digit_glyph}
+use Rattle.core.proofs.fmt.DigitsParse.{digits_onto_last, digits_onto_step}
+use Rattle.script_output.proofs.PrintedNumbers.{below_most, pow_once, shorter}
+
+-- digits that are put before others are those put before none, and then the others
+onto_append : (k base n : ℕ) (acc : List ℕ) → digits_onto k base false n acc ≡ digits_onto k base false n [] ++ acc
+onto_append zero base n acc = refl
+onto_append (suc k) base n acc =
+    let g = digit_glyph false (n % base) in
+    at (eqb (n / base) 0) (onto_append k base (n / base) (g ∷ acc) ∙ sym (ap (λ l. l ++ acc) (onto_append k base (n / base) (g ∷ [])) ∙ append_assoc (digits_onto k base false (n / base) []) (g ∷ []) acc))
+  where
+    at : (b : Bool) → digits_onto k base false (n / base) (digit_glyph false (n % base) ∷ acc) ≡ digits_onto k base false (n / base) (digit_glyph false (n % base) ∷ []) ++ acc
+        → cond b (digit_glyph false (n % base) ∷ acc) (digits_onto k base false (n / base) (digit_glyph false (n % base) ∷ acc))
+        ≡ cond b (digit_glyph false (n % base) ∷ []) (digits_onto k base false (n / base) (digit_glyph false (n % base) ∷ [])) ++ acc
+    at true e = refl
+    at false e = e
+
+-- something is put before them
+onto_longer : (k base n : ℕ) (acc : List ℕ) → length acc < length (digits_onto (suc k) base false n acc)
+onto_longer zero base n acc = at (eqb (n / base) 0)
+  where
+    at : (b : Bool) → length acc < length (cond b (digit_glyph false (n % base) ∷ acc) (digit_glyph false (n % base) ∷ acc))
+    at true = omega arith
+    at false = omega arith
+onto_longer (suc k) base n acc =
+    let more = onto_longer k base (n / base) (digit_glyph false (n % base) ∷ acc) in
+    at (eqb (n / base) 0) (omega (arith, more))
+  where
+    at : (b : Bool) → length acc < length (digits_onto (suc k) base false (n / base) (digit_glyph false (n % base) ∷ acc))
+        → length acc < length (cond b (digit_glyph false (n % base) ∷ acc) (digits_onto (suc k) base false (n / base) (digit_glyph false (n % base) ∷ acc)))
+    at true more = omega arith
+    at false more = more
+
+-- all is what stands so far, with the digits of what is left before it
+pub record IsWriting (base : ℕ) (all : List ℕ) (left : ℕ) (text : List ℕ) : Type 0 where
+  pub more : ℕ
+  pub fits : left < base ^ suc more
+  pub same : digits_onto (suc more) base false left text ≡ all
+
+-- nothing of a number is written
+pub begin : (base n : ℕ) (rest : List ℕ) → 2 ≤ base → n < 2 ^ 64 → IsWriting base (digits base false n ++ rest) n rest
+unfolding digits
+begin base n rest low fits = record { more = 63; fits = below_most base n low fits; same = onto_append 64 base n rest }
+
+-- there is room for one digit more
+pub room : (base left : ℕ) (all text : List ℕ) → IsWriting base all left text → length text < length all
+room base left all text w = subst (λ l. length text < length l) w.same (onto_longer w.more base left text)
+
+-- the last digit of what is left is written
+pub go_on : (base left : ℕ) (all text : List ℕ) → 2 ≤ base → base ≤ left → IsWriting base all left text → IsWriting base all (left / base) (digit_glyph false (left % base) ∷ text)
+go_on base left all text low more w = at w.more w.fits w.same
+  where
+    not_zero : left / base ≡ 0 → ⊥
+    not_zero e =
+        let whole : base * (left / base) + left % base ≡ left = div-add-mod left base in
+        let none : base * (left / base) ≡ 0 = ap (λ q. base * q) e ∙ mul-zero base in
+        let small : left % base < base = mod-lt left (omega arith) in
+        omega arith
+
+    at : (k : ℕ) → left < base ^ suc k → digits_onto (suc k) base false left text ≡ all → IsWriting base all (left / base) (digit_glyph false (left % base) ∷ text)
+    at zero fits same = let few : left < base = subst (λ m. left < m) (pow_once base) fits in absurd (omega arith)
+    at (suc k) fits same = record {
+      more = k;
+      fits = shorter base left k low fits;
+      same = ap (λ (j : ℕ). digits_onto j base false (left / base) (digit_glyph false (left % base) ∷ text)) {x = suc k} {y = suc (suc k) - 1} (omega arith)
+          ∙ sym (digits_onto_step base false left text (suc (suc k)) (omega arith) not_zero) ∙ same;
+    }
+
+-- one digit is left
+pub finish : (base left : ℕ) (all text : List ℕ) → left < base → IsWriting base all left text → digit_glyph false left ∷ text ≡ all
+finish base left all text few w =
+    ap (λ d. digit_glyph false d ∷ text) (sym (mod-eq_of_lt few)) ∙ sym (digits_onto_last base false left text (suc w.more) (omega arith) (div-eq_of_lt few)) ∙ w.same
+
+-- one byte is put before those that stand from a place on
+pub put_before : (bytes : List ℕ) (at byte : ℕ) → 1 ≤ at → at ≤ length bytes → drop (at - 1) (set bytes (at - 1) byte) ≡ byte ∷ drop at bytes
+put_before bytes at byte some within = drop-set bytes (at - 1) byte (omega arith) ∙ ap (λ i. byte ∷ drop i bytes) (let e : at - 1 + 1 ≡ at = omega arith in e)
+
+module _ (base left at end : ℕ) (text old now : List ℕ) (fits : length text ≤ end) (within : end ≤ length old) (before : at ≤ end) (len : length now ≡ length old) (w : IsWriting base (text ++ drop end old) left (drop at now)) where
+  -- the place isn't the first
+  pub has_room : 1 ≤ at
+  has_room = omega (arith, room base left (text ++ drop end old) (drop at now) w, length-drop at now, length-append text (drop end old), length-drop end old)
+
+  -- the last digit stands there
+  pub ended : (byte : ℕ) → left < base → byte ≡ digit_glyph false left → drop (at - 1) (set now (at - 1) byte) ≡ text ++ drop end old
+  ended byte few is =
+      put_before now at byte has_room (omega (arith, before, within, len))
+      ∙ ap (λ b. b ∷ drop at now) is ∙ finish base left (text ++ drop end old) (drop at now) few w
+
+  -- the digits begin where the last was put
+  pub begins : (byte : ℕ) → left < base → byte ≡ digit_glyph false left → at - 1 + length text ≡ end
+  begins byte few is =
+      omega (arith, has_room, ap length (ended byte few is), length-drop (at - 1) (set now (at - 1) byte), length-set now (at - 1) byte, length-append text (drop end old), length-drop end old)
