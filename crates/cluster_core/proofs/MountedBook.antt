@@ -12,12 +12,10 @@ use Rattle.objstore.specs.Objects.{Objects}
 use Rattle.inode_table.specs.Dirs.{Covers}
 use Rattle.inode_table.specs.Numbers.{IsSupply, Supply, first_number}
 use Rattle.dentry_cache.specs.CacheMap.{AreCaches, CacheMap}
-use Rattle.cold_store.specs.Numbers.{IsNext, IsOfRank}
-use Rattle.cold_store.specs.Rows.{IsIn}
-use Rattle.cold_store.proofs.Members.{get_entry}
 use Rattle.mdcache.specs.Core.{Core as TreeCore, shown_in}
-use Rattle.mdcache.specs.Mounted.{AreNumbers, Mounts}
+use Rattle.mdcache.specs.Mounted.{AreNumbers, IsNext, IsOfRank, Mounts}
 use Rattle.mdcache.specs.State.{State as TreeState}
+use Rattle.mdcache.proofs.MountLaws.{IsIn, get_entry}
 use Rattle.sessions.proofs.TableLaws.{table-none}
 use Rattle.subtree_map.specs.Authority.{Roots}
 use Rattle.ranked_tree.specs.Held.{IsOwned}

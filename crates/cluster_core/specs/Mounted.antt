@@ -4,8 +4,7 @@ use Rattle.std.specs.FinMap as map
 use Rattle.mds_types.specs.Tree.{Tree}
 use Rattle.objstore.specs.Objects.{Objects}
 use Rattle.dentry_cache.specs.CacheMap.{no_caches}
-use Rattle.cold_store.specs.Walked.{IsWalked}
-use Rattle.mdcache.specs.Mounted.{AreNumbers, mounted}
+use Rattle.mdcache.specs.Mounted.{AreNumbers, IsWalked, mounted}
 use Rattle.mdcache.specs.New.{new_caches}
 use Rattle.ranked_tree.specs.Mounted.{AreTopRoots}
 use Rattle.cluster_core.specs.State.{Core, new_state}

@@ -29,6 +29,8 @@ use Rattle.inode_table.specs.Dirs.{Covers, Homes, is_known, leaves_of}
 use Rattle.inode_table.specs.TreeTable.{IsTabled}
 use Rattle.cold_store.specs.ColdTree.{IsColdLeaf, IsColdTree, IsReached, IsRecord, SaysLeaves, tree_of}
 use Rattle.cold_store.specs.Walked.{IsReachedObject, IsWalked}
+pub use Rattle.cold_store.specs.Rows.{IsIn}
+pub use Rattle.cold_store.proofs.Members.{get_entry}
 use Rattle.cold_store.proofs.ObjectLaws.{said_tree}
 use Rattle.cold_store.proofs.StoreRows.{allowed}
 use Rattle.cold_store.proofs.TabledLaws.{walked_is_tabled}

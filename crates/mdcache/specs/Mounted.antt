@@ -8,9 +8,9 @@ use Rattle.objstore.specs.Objects.{Objects}
 use Rattle.dentry_cache.specs.CacheMap.{no_caches}
 use Rattle.inode_table.specs.Dirs.{Covers, Homes}
 use Rattle.inode_table.specs.Numbers.{Supply}
-use Rattle.cold_store.specs.ColdTree.{IsFaulty}
-use Rattle.cold_store.specs.Numbers.{IsNext}
-use Rattle.cold_store.specs.Walked.{IsWalked, MayFail}
+pub use Rattle.cold_store.specs.ColdTree.{IsColdTree, IsFaulty}
+pub use Rattle.cold_store.specs.Numbers.{IsNext, IsOfRank}
+pub use Rattle.cold_store.specs.Walked.{IsWalked, MayFail}
 use Rattle.mdcache.specs.Core.{Core, state_of}
 use Rattle.mdcache.specs.New.{new_caches, new_state}
 use Rattle.mdcache.specs.State.{State}

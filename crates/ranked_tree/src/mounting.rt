@@ -3,9 +3,8 @@ ghost use Rattle.std.specs.Prelude.{◌≡◌, ◌+◌, ◌<◌, ◌≤◌, IfOk
 ghost use Rattle.sorted_map.specs.SortedMap.{contents};
 ghost use Rattle.mds_types.specs.Tree.{dentry_cmp};
 ghost use Rattle.objstore.specs.Objects.{faults_in};
-ghost use Rattle.cold_store.specs.ColdTree.{IsColdTree};
 ghost use Rattle.mdcache.specs.Core.{shown_in};
-ghost use Rattle.mdcache.specs.Mounted.{AreNumbers, MayNotMount, Mounts};
+ghost use Rattle.mdcache.specs.Mounted.{AreNumbers, IsColdTree, MayNotMount, Mounts};
 ghost use Rattle.ranked_tree.specs.Mounted.{AreTopRoots};
 
 use crate::ranked_tree::RankedTree;
