@@ -7,7 +7,7 @@ use Rattle.mds_types.specs.declared.ids.Rank.{Rank}
 use Rattle.mds_types.specs.declared.operations.Op.{Op}
 use Rattle.mds_types.specs.declared.operations.Op.TheVariants.{Lookup, Readdir, Readlink, Create, Mkdir, Symlink, Setattr, Unlink, Rmdir, Rename}
 use Rattle.mds_types.specs.declared.requests.Request.{Request}
-use Rattle.mds_types.specs.Step.{destination_of}
+use Rattle.mds_types.specs.Step.{destination_of, step}
 use Rattle.mds_types.specs.Tree.{is_directory}
 use Rattle.inboxes.specs.declared.pins.Pin.{Pin}
 use Rattle.inboxes.specs.Pins.{is_pin}
@@ -15,12 +15,14 @@ use Rattle.inode_table.specs.Dirs.{Covers, leaves_of}
 use Rattle.namespace_ops.specs.Picks.{pick_of}
 use Rattle.namespace_ops.specs.ChangedFragments.{changed_fragments, fragment_of}
 use Rattle.namespace_ops.specs.Changes.{in_directory}
+use Rattle.namespace_ops.specs.Checked.{Checks}
 use Rattle.namespace_ops.specs.Places.{main_dentry}
+use Rattle.namespace_ops.specs.declared.plans.Checked.{Checked}
 use Rattle.subtree_map.specs.Authority.{Leaf, Roots}
 use Rattle.mdcache.specs.Shown.{shown_tree}
 use Rattle.mdcache.specs.State.{State as TreeState}
 use Rattle.cluster_core.specs.State.{State}
-use Rattle.ranked_tree.specs.Subtrees.{Rules}
+use Rattle.ranked_tree.specs.Subtrees.{HoldsAt, Rules}
 
 -- the leaf of a dentry; where there is none, the first leaf of a directory, that of the hash 0
 abbrev pub leaf_at : Covers → ℕ → Option Dentry → Leaf
@@ -107,3 +109,7 @@ HasForeign tree roots pins rank client tid (leaf ∷ leaves) = (MayTouchIn tree 
 -- each master of an operation at a rank is one of so many ranks
 abbrev pub AreMastersThere : TreeState → Roots → Rank → ℕ → Type 0
 AreMastersThere tree roots rank count = (op : Op) (master : Rank) → IsMasterIn tree roots rank op master → master.0 < count
+
+-- the checks of an operation found this, offered some number
+abbrev pub IsCheckedIn : TreeState → Roots → Op → Checked → Type 0
+IsCheckedIn tree roots op checked = (n : ℕ) × Checks (shown_tree tree) tree.covers (HoldsAt tree roots) op n (step (shown_tree tree) op n) checked

@@ -8,7 +8,7 @@ ghost use Rattle.cluster_core.specs.Offer.{after_taking};
 ghost use Rattle.inboxes.specs.Pins.{is_for, left_without};
 ghost use Rattle.namespace_ops.specs.Changes.{IsOffered, fragments_in};
 ghost use Rattle.namespace_ops.specs.Kept.{ChangesOnly, KeepsAll};
-ghost use Rattle.namespace_ops.specs.Places.{AreLocated};
+ghost use Rattle.namespace_ops.specs.Checked.{Checks};
 ghost use Rattle.namespace_ops.specs.Planned.{IsReadyToChange, after_plan};
 ghost use Rattle.namespace_ops.specs.Served.{IsRefused};
 ghost use Rattle.sessions.specs.Table.{noted, trimmed};
@@ -26,7 +26,7 @@ use crate::events::Answer;
 use inboxes::Pins;
 use inode_table::Numbers;
 use mds_types::{Entry, Ino, Rank, Refusal, Reply, Request};
-use namespace_ops::{Change, Frags, Places, Plan, plan_op};
+use namespace_ops::{Change, Checked, Frags, Plan, plan_checked};
 use objstore::Store;
 use ranked_tree::{RankedTree, went_with};
 use sessions::Sessions;
@@ -53,7 +53,7 @@ impl Prepared {
     }
 }
 
-/// Makes everything that applying a request needs, whose names lie there: room for its entry in the history and for its reply in
+/// Makes everything that applying a request needs of which this was found: room for its entry in the history and for its reply in
 /// the sessions, its plan, the copies of its reply.
 pub fn prepare<F: Frags>(
     alloc: Global,
@@ -62,10 +62,10 @@ pub fn prepare<F: Frags>(
     sessions: &mut Sessions,
     history: &mut Vec<Entry>,
     request: &Request,
-    places: &Places,
+    checked: Checked,
 ) -> Result<Prepared, Refusal>
     requires offered { IsOffered (F.content frags.old) F.IsNumber (offer numbers) }
-    requires located { AreLocated (F.content frags.old) (F.covers frags.old) (F.Holds frags.old) request.now.op places.now }
+    requires checked { Checks (F.content frags.old) (F.covers frags.old) (F.Holds frags.old) request.now.op (number_or (offer numbers)) (step (F.content frags.old) request.now.op (number_or (offer numbers))) checked }
     ensures prepared { let outcome = step (F.content frags.old) request.now.op (number_or (offer numbers)) in
         MatchResult result
         (IsPrepared (F.content frags.old) (F.covers frags.old) (F.IsReady frags.new) request.now.op outcome numbers)
@@ -78,7 +78,7 @@ pub fn prepare<F: Frags>(
 {
     history.reserve(1)?;
     sessions.reserve(alloc, request.client)?;
-    let plan = plan_op(alloc, frags, &request.op, *places, numbers.peek())?;
+    let plan = plan_checked(frags, &request.op, checked, numbers.peek())?;
     match with_copies(plan, numbers) {
         Ok(prepared) => Ok(prepared),
         Err(_) => Err(Refusal::NoMemory),

@@ -8,11 +8,11 @@ ghost use Rattle.mdcache.specs.Core.{state_of as tree_state};
 ghost use Rattle.mdcache.specs.Shown.{shown_tree};
 ghost use Rattle.ranked_tree.specs.Ranked.{KeepsRanked, MayRefuse};
 ghost use Rattle.ranked_tree.specs.Subtrees.{HoldsAt};
-ghost use Rattle.cluster_core.specs.Master.{HasForeign, IsMasterIn, LacksGrantIn, MayTouchAllIn, MayTouchEach, MayTouchIn, changes_others, master_at};
+ghost use Rattle.cluster_core.specs.Master.{HasForeign, IsMasterIn, LacksGrantIn, MayTouchAllIn, MayTouchEach, MayTouchIn, IsCheckedIn, changes_others, master_at};
 
 use inboxes::{Pin, Pins};
 use mds_types::{Dirfrag, Frag, Ino, Op, Rank, Refusal, Request};
-use namespace_ops::{Places, changes, locate};
+use namespace_ops::{Checked, Places, changed_by, locate};
 use objstore::Store;
 use ranked_tree::RankedTree;
 use std::alloc::Global;
@@ -45,29 +45,33 @@ fn changes_others(op: &Op) -> bool
 }
 
 /// Whether a rank that is the master of a request lacks a grant for it: it would change a leaf of another authority that isn't
-/// granted for this request. `places` is where the names of its operation lie. Takes memory for the list of what would change,
-/// where that may be another leaf than its main one. Refused as a read is, and for want of memory; nothing changes either way.
+/// granted for this request. `checked` is what the checks of its operation found. Takes memory for the list of what would change,
+/// where that may be another leaf than its main one, and is refused for want of it alone.
 pub fn lacks_grant<S: Store + Drop>(
     alloc: Global,
-    tree: &mut RankedTree<S>,
+    tree: &RankedTree<S>,
     pins: &Pins,
     rank: Rank,
     request: &Request,
-    places: &Places,
+    checked: &Checked,
 ) -> Result<bool, Refusal>
-    requires master { IsMasterIn (tree_state tree.old.tree) tree.old.subtrees.roots rank request.now.op rank }
-    requires located { AreLocated (shown_tree (tree_state tree.old.tree)) tree.old.tree.covers (HoldsAt (tree_state tree.old.tree) tree.old.subtrees.roots) request.now.op places.now }
-    ensures found { IfOk result (λ lacks. MatchBool lacks (LacksGrantIn (tree_state tree.old.tree) tree.old.subtrees.roots pins.now rank request.now.client request.now.tid request.now.op) (MayTouchAllIn (tree_state tree.old.tree) tree.old.subtrees.roots pins.now rank request.now.client request.now.tid request.now.op)) }
-    ensures refused { IfErr result (λ reason. (reason ≡ NoMemory) ⊎ ((reason ≢ NoInodes) × MayRefuse tree.old tree.new request.now.op reason)) }
-    ensures kept { KeepsRanked tree.old tree.new request.now.op (result_err result) }
+    requires master { IsMasterIn (tree_state tree.now.tree) tree.now.subtrees.roots rank request.now.op rank }
+    requires checked { IsCheckedIn (tree_state tree.now.tree) tree.now.subtrees.roots request.now.op checked.now }
+    ensures found { IfOk result (λ lacks. MatchBool lacks (LacksGrantIn (tree_state tree.now.tree) tree.now.subtrees.roots pins.now rank request.now.client request.now.tid request.now.op) (MayTouchAllIn (tree_state tree.now.tree) tree.now.subtrees.roots pins.now rank request.now.client request.now.tid request.now.op)) }
+    ensures refused { IfErr result (λ reason. reason ≡ NoMemory) }
 {
     if !changes_others(&request.op) {
         return Ok(false);
     }
-    match changes(alloc, tree, &request.op, *places) {
-        Ok(leaves) => Ok(any_lacks(tree, pins, rank, request.client, request.tid, &leaves)),
-        Err(refusal) => Err(refusal),
-    }
+    let leaves = changed_by(alloc, tree, checked)?;
+    Ok(any_lacks(
+        tree,
+        pins,
+        rank,
+        request.client,
+        request.tid,
+        &leaves,
+    ))
 }
 
 // Whether one of these leaves may not be changed.

@@ -27,8 +27,8 @@ use crate::events::Answer;
 use crate::masters::{lacks_grant, locate_master};
 use inboxes::{Inboxes, Pins};
 use inode_table::Numbers;
-use mds_types::{Entry, Rank, Refusal, Reply, Request};
-use namespace_ops::Places;
+use mds_types::{Entry, Ino, Rank, Refusal, Reply, Request};
+use namespace_ops::{Places, check};
 use objstore::Store;
 use ranked_tree::RankedTree;
 use sessions::{Seen, Sessions};
@@ -154,12 +154,17 @@ fn make_ready<S: Store + Drop>(
     ensures cap { tree.new.tree.caches.cap ≡ tree.old.tree.caches.cap }
     ensures counted { tree.new.tree.faults ≡ tree.old.tree.faults + faults_told (result_err result) }
 {
-    match lacks_grant(alloc, tree, pins, rank, request, places) {
+    let number = supply.peek().unwrap_or(Ino(0));
+    let checked = match check(alloc, tree, &request.op, *places, number) {
+        Ok(checked) => checked,
+        Err(refusal) => return Err(refusal),
+    };
+    match lacks_grant(alloc, tree, pins, rank, request, &checked) {
         Err(refusal) => return Err(refusal),
         Ok(true) => return Ok(None),
         Ok(false) => {}
     }
-    match prepare(alloc, tree, supply, sessions, history, request, places) {
+    match prepare(alloc, tree, supply, sessions, history, request, checked) {
         Err(refusal) => Err(refusal),
         Ok(prepared) => Ok(Some(prepared)),
     }

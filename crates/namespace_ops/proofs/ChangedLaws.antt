@@ -27,6 +27,7 @@ use Rattle.mds_types.specs.declared.refusals.Refusal.{Refusal}
 use Rattle.namespace_ops.specs.declared.plans.Checked.{Checked}
 use Rattle.namespace_ops.specs.declared.plans.Checked.TheVariants.{Changes}
 use Rattle.namespace_ops.specs.Checked.{Checks, IsChecked}
+use Rattle.namespace_ops.proofs.CheckedParts.{checks_on}
 use Rattle.namespace_ops.proofs.PickLaws.{picked}
 use Rattle.namespace_ops.proofs.Members.{first_or_later, in_dir, later, leaves_apart, none_in, one_leaf, two_leaves}
 
@@ -233,12 +234,21 @@ module _ (tree : Tree) (covers : Covers) where
       beside_to None at_to (Some dir) is bare has = let clash : Some dir ≡ None = is ∙ ap directory_at at_to in cc
       beside_to (Some inode) at_to g is bare has = beside_gone (dentry_at to) inode to.at.frag g at_to bare has
 
--- the list of the fragments of the change that the checks found names the changed fragments, each once
-pub named_result : {V : Type 0} (tree : Tree) (covers later : Covers) (Holds : Dirfrag → Type 0) (op : Op) (n : ℕ) (change : Change) (found : Checked) (result : Result V Refusal) (items : V → List Leaf) → later ≡ covers → found ≡ Changes change → Checks tree covers Holds op n (step tree op n) found
-    → IfOk result (λ list. items list ≡ named_once later change) → IfOk result (λ list. IsCovered later (gone_with change)) → IfOk result (λ list. NamesOnce (changed_fragments covers tree op) (items list))
-named_result tree covers later Holds op n change found (Ok list) items same is checks listed covered =
+-- the list of the fragments of the change that the checks found names the changed fragments of its operation, each once
+pub named_by : {V : Type 0} (tree : Tree) (covers : Covers) (Holds : Dirfrag → Type 0) (change : Change) (found : Checked) (result : Result V Refusal) (items : V → List Leaf) → found ≡ Changes change
+    → IfOk result (λ list. items list ≡ named_once covers change) → IfOk result (λ list. IsCovered covers (gone_with change))
+    → IfOk result (λ list. (op : Op) (n : ℕ) → Checks tree covers Holds op n (step tree op n) found → NamesOnce (changed_fragments covers tree op) (items list))
+named_by tree covers Holds change found (Err reason) items is listed covered = tt
+named_by tree covers Holds change found (Ok list) items is listed covered = λ op n checks.
     let checked : IsChecked tree covers Holds op n (step tree op n) change = subst (Checks tree covers Holds op n (step tree op n)) is checks in
     subst (λ k. NamesOnce k (items list)) (fragments_are tree covers Holds op n change checked)
-    (subst (NamesOnce (fragments_of covers change)) (sym (listed ∙ ap (λ k. named_once k change) same))
-    (named_apart tree covers change checked.carries (takes_old tree covers Holds op n change checked) (subst (λ k. IsCovered k (gone_with change)) same covered)))
-named_result tree covers later Holds op n change found (Err reason) items same is checks listed covered = tt
+    (subst (NamesOnce (fragments_of covers change)) (sym listed) (named_apart tree covers change checked.carries (takes_old tree covers Holds op n change checked) covered))
+
+-- so does one that was made after the checks
+pub named_from : {V : Type 0} (tree mid : Tree) (covers later : Covers) (Holds Held : Dirfrag → Type 0) (op : Op) (n : ℕ) (found : Checked) (result : Result V Refusal) (items : V → List Leaf) → mid ≡ tree → later ≡ covers → ((at : Dirfrag) → Holds at → Held at)
+    → Checks tree covers Holds op n (step tree op n) found → IfOk result (λ list. (o : Op) (m : ℕ) → Checks mid later Held o m (step mid o m) found → NamesOnce (changed_fragments later mid o) (items list))
+    → IfOk result (λ list. NamesOnce (changed_fragments covers tree op) (items list))
+named_from tree mid covers later Holds Held op n found (Err reason) items same leaves holds checks named = tt
+named_from tree mid covers later Holds Held op n found (Ok list) items same leaves holds checks named =
+    subst (λ t. NamesOnce (changed_fragments covers t op) (items list)) same
+    (subst (λ k. NamesOnce (changed_fragments k mid op) (items list)) leaves (named op n (checks_on tree mid covers later Holds Held op n n found same leaves holds refl checks)))

@@ -201,8 +201,8 @@ source_at tree covers Holds op from to places at same located stands =
     subst (Locates tree covers Holds from.dir.0 (hash_of from.name)) stands (subst (λ (o : Op). LocatesAt tree covers Holds (source_of o) places.source) same located.source)
 
 -- what was found of an operation is so after reads
-pub checked_on : (tree mid : Tree) (covers later : Covers) (Holds Held : Dirfrag → Type 0) (op : Op) (n m : ℕ) (change : Change) (found : Checked) → mid ≡ tree → later ≡ covers → ((at : Dirfrag) → Holds at → Held at) → n ≡ m → found ≡ Changes change → Checks tree covers Holds op n (step tree op n) found
-    → IsChecked mid later Held op m (step mid op m) change
-checked_on tree mid covers later Holds Held op n m change found same leaves holds number is checks =
-    subst (λ k. IsChecked mid later Held op k (step mid op k) change) number
-    (checks_from mid tree later covers Held Holds op n (step tree op n) (step mid op n) (Ok (Changes change)) (sym same) (sym leaves) holds (λ i. step (sym same i) op n) (subst (Checks tree covers Holds op n (step tree op n)) is checks))
+pub checks_on : (tree mid : Tree) (covers later : Covers) (Holds Held : Dirfrag → Type 0) (op : Op) (n m : ℕ) (found : Checked) → mid ≡ tree → later ≡ covers → ((at : Dirfrag) → Holds at → Held at) → n ≡ m → Checks tree covers Holds op n (step tree op n) found
+    → Checks mid later Held op m (step mid op m) found
+checks_on tree mid covers later Holds Held op n m found same leaves holds number checks =
+    subst (λ k. Checks mid later Held op k (step mid op k) found) number
+    (checks_from mid tree later covers Held Holds op n (step tree op n) (step mid op n) (Ok found) (sym same) (sym leaves) holds (λ i. step (sym same i) op n) checks)

@@ -1,10 +1,13 @@
 //! The fragments that an operation would change, found by its checks alone.
-ghost use Rattle.std.specs.Prelude.{◌≡◌, ◌≢◌, ◌++◌, ◌∷◌, [], map, IfOk, IfErr, OnOk};
+ghost use Rattle.std.specs.Prelude.{◌≡◌, ◌≢◌, ℕ, ◌++◌, ◌∷◌, [], map, IfOk, IfErr, OnOk};
 ghost use Rattle.std.specs.Result.{result_err};
+ghost use Rattle.mds_types.specs.declared.operations.Op.{Op as Operation};
 ghost use Rattle.mds_types.specs.declared.refusals.Refusal.TheVariants.{NoInodes, NoMemory};
+ghost use Rattle.mds_types.specs.Step.{step};
 ghost use Rattle.namespace_ops.specs.Kept.{KeepsAll};
 ghost use Rattle.namespace_ops.specs.Changes.{in_directory, leaves_gone, named_once, unless_same};
 ghost use Rattle.namespace_ops.specs.ChangedFragments.{IsCovered, NamesOnce, changed_fragments, gone_with};
+ghost use Rattle.namespace_ops.specs.Checked.{Checks};
 ghost use Rattle.namespace_ops.specs.Places.{AreLocated};
 ghost use Rattle.namespace_ops.specs.Reasons.{Refuses};
 
@@ -34,14 +37,28 @@ pub fn changes<F: Frags>(
     ensures numbers { IfErr result (λ reason. reason ≢ NoInodes) }
 {
     // which leaves change doesn't depend on the number of a new inode
-    match check(alloc, frags, op, places, Ino(0))? {
+    let checked = check(alloc, frags, op, places, Ino(0))?;
+    changed_by(alloc, frags, &checked)
+}
+
+/// The fragments that an operation would change of which this was found, each once and with its directory. Takes memory for the
+/// list, and for a copy of the leaves of what goes, and is refused for want of it alone.
+pub fn changed_by<F: Frags>(
+    alloc: Global,
+    frags: &F,
+    checked: &Checked,
+) -> Result<Vec<(Ino, Frag)>, Refusal>
+    ensures changed { IfOk result (λ list. (op : Operation) (n : ℕ) → Checks (F.content frags.now) (F.covers frags.now) (F.Holds frags.now) op n (step (F.content frags.now) op n) checked.now → NamesOnce (changed_fragments (F.covers frags.now) (F.content frags.now) op) list.items) }
+    ensures err { IfErr result (λ reason. reason ≡ NoMemory) }
+{
+    match checked {
         Checked::Answers(_) => Ok(Vec::new(alloc)),
-        Checked::Changes(change) => changed_by(alloc, frags, &change),
+        Checked::Changes(change) => fragments_of(alloc, frags, change),
     }
 }
 
 // The fragments of a change.
-fn changed_by<F: Frags>(
+fn fragments_of<F: Frags>(
     alloc: Global,
     frags: &F,
     change: &Change,

@@ -16,13 +16,14 @@ mod removing;
 mod renaming;
 mod serving;
 
-pub use changing::changes;
+pub use changing::{changed_by, changes};
+pub use checking::check;
 pub use frags::Frags;
 pub use laws::{
     above_is_a_chain, errno_leaves_tree, making_takes_number, names_are_listed,
     number_leaves_errno, numbers_stay, pages_make_up_listing, step_keeps_well_formed,
 };
 pub use locating::{Places, locate};
-pub use planning::plan_op;
-pub use plans::{Change, Plan, Spot, carry_out};
+pub use planning::{plan_checked, plan_op};
+pub use plans::{Change, Checked, Plan, Spot, carry_out};
 pub use serving::serve_op;

@@ -4,7 +4,7 @@ ghost use Rattle.std.specs.Result.{result_err};
 ghost use Rattle.mds_types.specs.Step.{step, number_or};
 ghost use Rattle.namespace_ops.specs.Kept.{KeepsAll};
 ghost use Rattle.namespace_ops.specs.Changes.{AreHeld, IsChangeOf, IsNumbered, IsOffered, MayChange, is_new, reply_of};
-ghost use Rattle.namespace_ops.specs.Checked.{IsChecked};
+ghost use Rattle.namespace_ops.specs.Checked.{Checks, IsChecked};
 ghost use Rattle.namespace_ops.specs.Places.{AreLocated};
 ghost use Rattle.namespace_ops.specs.Planned.{IsPlanned};
 ghost use Rattle.namespace_ops.specs.Reasons.{Refuses};
@@ -38,7 +38,27 @@ pub fn plan_op<F: Frags>(
         (IsRefused (F.content frags.old) (F.content frags.new) (F.MayRefuse frags.old frags.new op.now) outcome number) }
     ensures kept { KeepsAll (F.content frags.old) (F.content frags.new) (F.covers frags.old) (F.covers frags.new) (F.Follows frags.old frags.new op.now (result_err result)) }
 {
-    match check(alloc, frags, op, places, number.unwrap_or(Ino(0)))? {
+    let checked = check(alloc, frags, op, places, number.unwrap_or(Ino(0)))?;
+    plan_checked(frags, op, checked, number)
+}
+
+/// Plans what the checks of an operation found, which were offered the same number: so it is where something has to be decided
+/// between them. Otherwise as `plan_op`.
+pub fn plan_checked<F: Frags>(
+    frags: &mut F,
+    op: &Op,
+    checked: Checked,
+    number: Option<Ino>,
+) -> Result<Plan, Refusal>
+    requires offered { IsOffered (F.content frags.old) F.IsNumber number }
+    requires checked { Checks (F.content frags.old) (F.covers frags.old) (F.Holds frags.old) op.now (number_or number) (step (F.content frags.old) op.now (number_or number)) checked }
+    ensures planned { let outcome = step (F.content frags.old) op.now (number_or number) in
+        MatchResult result
+        (IsPlanned (F.content frags.old) (F.covers frags.old) (F.IsReady frags.new) op.now outcome number)
+        (IsRefused (F.content frags.old) (F.content frags.new) (F.MayRefuse frags.old frags.new op.now) outcome number) }
+    ensures kept { KeepsAll (F.content frags.old) (F.content frags.new) (F.covers frags.old) (F.covers frags.new) (F.Follows frags.old frags.new op.now (result_err result)) }
+{
+    match checked {
         Checked::Answers(reply) => Ok(Plan {
             reply,
             change: None,

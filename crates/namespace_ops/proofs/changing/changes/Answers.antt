@@ -1,7 +1,8 @@
-use Rattle.namespace_ops.proofs.ChangedLaws.{named_result}
+use Rattle.std.proofs.Common.{None}
+use Rattle.namespace_ops.proofs.ChangedLaws.{named_from}
 use Rattle.namespace_ops.proofs.changing.changes.Goals as goal
 
 pub returns-clause-changed : goal.returns-clause-changed
 returns-clause-changed g c =
-    named_result (g.F.Frags.content c.args.frags.now) (g.F.Frags.covers c.args.frags.now) _ _ c.args.op.now 0 c.in-Changes.change c.in_ok-check.field-0 c.changed_by.result (λ list. list.items) c.in_ok-check.ensures.kept.leaves c.in-Changes.is c.in_ok-check.ensures.checked
-    c.changed_by.ensures.listed c.changed_by.ensures.cover
+    named_from (g.F.Frags.content c.args.frags.now) _ (g.F.Frags.covers c.args.frags.now) _ (g.F.Frags.Holds c.args.frags.now) _ c.args.op.now 0 _ c.changed_by.result (λ list. list.items) c.in_ok-checked.ensures.kept.tree c.in_ok-checked.ensures.kept.leaves
+    (λ at. (g.met.F.Frags.held_on _ _ c.args.op.now None at c.in_ok-checked.ensures.kept.follows).0) c.in_ok-checked.ensures.checked c.changed_by.ensures.changed
