@@ -1,10 +1,14 @@
 -- Digits that are written from the last to the first.
-use Rattle.std.proofs.Common.{◌≡◌, ℕ, zero, suc, ◌+◌, ◌-◌, ◌*◌, ◌/◌, ◌%◌, ◌^◌, ◌<◌, ◌≤◌, Bool, true, false, cond, eqb, List, [], ◌∷◌, ◌++◌, length, refl, sym, ap, subst, ◌∙◌, arith, append_assoc, drop, set, length-append, length-drop, length-set}
+use Rattle.std.proofs.Common.{◌≡◌, ℕ, zero, suc, ◌+◌, ◌-◌, ◌*◌, ◌/◌, ◌%◌, ◌^◌, ◌<◌, ◌≤◌, Bool, true, false, cond, eqb, List, [], ◌∷◌, ◌++◌, length, refl, sym, ap, subst, ◌∙◌, arith, append_assoc, eq-eqb, ne_eqb, drop, set, length-append, length-drop, length-set}
 use Rattle.std.proofs.Math.Nat.{div-add-mod, div-eq_of_lt, mod-eq_of_lt, mod-lt, mul-zero}
 use Rattle.std.proofs.lemmas.List.{drop-set}
 use Rattle.std.specs.Fmt.{digits, digits_onto, digit_glyph}
-use Rattle.core.proofs.fmt.DigitsParse.{digits_onto_last, digits_onto_step}
 use Rattle.script_output.proofs.PrintedNumbers.{below_most, pow_once, shorter}
+
+-- digits by one step: what ends them is that none is left
+by_step : (base n : ℕ) (text : List ℕ) (k : ℕ) (t : Bool) → eqb (n / base) 0 ≡ t
+    → digits_onto (suc k) base false n text ≡ cond t (digit_glyph false (n % base) ∷ text) (digits_onto k base false (n / base) (digit_glyph false (n % base) ∷ text))
+by_step base n text k t = ap (λ b. cond b (digit_glyph false (n % base) ∷ text) (digits_onto k base false (n / base) (digit_glyph false (n % base) ∷ text)))
 
 -- digits that are put before others are those put before none, and then the others
 onto_append : (k base n : ℕ) (acc : List ℕ) → digits_onto k base false n acc ≡ digits_onto k base false n [] ++ acc
@@ -66,14 +70,13 @@ go_on base left all text low more w = at w.more w.fits w.same
     at (suc k) fits same = record {
       more = k;
       fits = shorter base left k low fits;
-      same = ap (λ (j : ℕ). digits_onto j base false (left / base) (digit_glyph false (left % base) ∷ text)) {x = suc k} {y = suc (suc k) - 1} (omega arith)
-          ∙ sym (digits_onto_step base false left text (suc (suc k)) (omega arith) not_zero) ∙ same;
+      same = sym (by_step base left text (suc k) false (ne_eqb _ 0 not_zero)) ∙ same;
     }
 
 -- one digit is left
 pub finish : (base left : ℕ) (all text : List ℕ) → left < base → IsWriting base all left text → digit_glyph false left ∷ text ≡ all
 finish base left all text few w =
-    ap (λ d. digit_glyph false d ∷ text) (sym (mod-eq_of_lt few)) ∙ sym (digits_onto_last base false left text (suc w.more) (omega arith) (div-eq_of_lt few)) ∙ w.same
+    ap (λ d. digit_glyph false d ∷ text) (sym (mod-eq_of_lt few)) ∙ sym (by_step base left text w.more true (eq-eqb _ 0 (div-eq_of_lt few))) ∙ w.same
 
 -- one byte is put before those that stand from a place on
 pub put_before : (bytes : List ℕ) (at byte : ℕ) → 1 ≤ at → at ≤ length bytes → drop (at - 1) (set bytes (at - 1) byte) ≡ byte ∷ drop at bytes
