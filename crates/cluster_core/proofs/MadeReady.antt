@@ -1,16 +1,23 @@
--- Why a request isn't made ready, said of the tree before it was asked for grants.
-use Rattle.std.proofs.Common.{◌≡◌, ◌⊎◌, None, inl, inr, subst}
+-- What was found and why a request isn't made ready, said of the tree before its checks or after them.
+use Rattle.std.proofs.Common.{◌≡◌, ◌⊎◌, ℕ, Bool, MatchBool, List, None, inl, inr, sym, subst}
+use Rattle.mds_types.specs.declared.ids.Rank.{Rank}
 use Rattle.mds_types.specs.declared.operations.Op.{Op}
 use Rattle.mds_types.specs.declared.refusals.Refusal.{Refusal}
 use Rattle.mds_types.specs.declared.refusals.Refusal.TheVariants.{NoMemory}
 use Rattle.mds_types.specs.Step.{number_or, step}
+use Rattle.inboxes.specs.declared.pins.Pin.{Pin}
 use Rattle.inode_table.specs.Numbers.{Supply, offer}
+use Rattle.namespace_ops.specs.Checked.{Checks}
+use Rattle.namespace_ops.specs.declared.plans.Checked.{Checked}
 use Rattle.namespace_ops.specs.Served.{IsRefused, LacksNumber}
+use Rattle.subtree_map.specs.Authority.{Roots}
 use Rattle.mdcache.specs.Core.{state_of as tree_state}
 use Rattle.mdcache.specs.Shown.{shown_tree}
 use Rattle.mdcache.specs.State.{State}
+use Rattle.ranked_tree.specs.Subtrees.{HoldsAt}
 use Rattle.ranked_tree.specs.Ranked.{KeepsRanked, MayRefuse, Ranked}
 use Rattle.ranked_tree.proofs.AskLaws.{ranked_later}
+use Rattle.cluster_core.specs.Master.{LacksGrantIn, MayTouchAllIn}
 use Rattle.cluster_core.specs.Prepared.{IsUnready}
 
 pub still_refused : (old mid new : Ranked) (op : Op) (Touch : Type 0) (supply : Supply) (reason : Refusal) → KeepsRanked old mid op None → Touch
@@ -23,3 +30,20 @@ still_refused old mid new op Touch supply reason kept touch refused = go refused
     go (inl lacks) = inr (inr (touch, inl (subst (λ (s : State). LacksNumber (step (shown_tree s) op (number_or (offer supply))) (offer supply) reason) kept.tree.state lacks)))
     go (inr (inl memory)) = inl memory
     go (inr (inr may)) = inr (inr (touch, inr (ranked_later old mid new op reason kept may)))
+
+-- the checks find the same after reads
+pub checked_later : (old mid : Ranked) (op : Op) (n m : ℕ) (found : Checked) → KeepsRanked old mid op None → n ≡ m
+    → Checks (shown_tree (tree_state old.tree)) old.tree.covers (HoldsAt (tree_state old.tree) old.subtrees.roots) op n (step (shown_tree (tree_state old.tree)) op n) found
+    → Checks (shown_tree (tree_state mid.tree)) mid.tree.covers (HoldsAt (tree_state mid.tree) mid.subtrees.roots) op m (step (shown_tree (tree_state mid.tree)) op m) found
+checked_later old mid op n m found kept number checks =
+    subst (λ (r : Roots). Checks (shown_tree (tree_state mid.tree)) mid.tree.covers (HoldsAt (tree_state mid.tree) r) op m (step (shown_tree (tree_state mid.tree)) op m) found) (sym kept.roots)
+    (subst (λ (s : State). Checks (shown_tree s) s.covers (HoldsAt s old.subtrees.roots) op m (step (shown_tree s) op m) found) (sym kept.tree.state)
+    (subst (λ k. Checks (shown_tree (tree_state old.tree)) old.tree.covers (HoldsAt (tree_state old.tree) old.subtrees.roots) op k (step (shown_tree (tree_state old.tree)) op k) found) number checks))
+
+-- a rank lacks a grant after reads exactly where it did before
+pub lacks_before : (old mid : Ranked) (pins : List Pin) (rank : Rank) (client tid : ℕ) (op : Op) (lacks : Bool) → KeepsRanked old mid op None
+    → MatchBool lacks (LacksGrantIn (tree_state mid.tree) mid.subtrees.roots pins rank client tid op) (MayTouchAllIn (tree_state mid.tree) mid.subtrees.roots pins rank client tid op)
+    → MatchBool lacks (LacksGrantIn (tree_state old.tree) old.subtrees.roots pins rank client tid op) (MayTouchAllIn (tree_state old.tree) old.subtrees.roots pins rank client tid op)
+lacks_before old mid pins rank client tid op lacks kept found =
+    subst (λ (r : Roots). MatchBool lacks (LacksGrantIn (tree_state old.tree) r pins rank client tid op) (MayTouchAllIn (tree_state old.tree) r pins rank client tid op)) kept.roots
+    (subst (λ (s : State). MatchBool lacks (LacksGrantIn s mid.subtrees.roots pins rank client tid op) (MayTouchAllIn s mid.subtrees.roots pins rank client tid op)) kept.tree.state found)

@@ -6,7 +6,7 @@ use Rattle.std.specs.FinMap.{get-empty}
 use Rattle.std.proofs.lemmas.List.{length-replicate}
 use Rattle.mds_types.specs.declared.dentries.Dentry.{Dentry}
 use Rattle.mds_types.specs.declared.inodes.Inode.{Inode}
-use Rattle.mds_types.specs.Tree.{Tree, dentry_cmp, numbers}
+use Rattle.mds_types.specs.Tree.{Tree, dentry_cmp}
 use Rattle.mds_types.proofs.OrderLaws.{dentry-total}
 use Rattle.objstore.specs.Objects.{Objects}
 use Rattle.inode_table.specs.Dirs.{Covers}

@@ -1,12 +1,9 @@
 //! Which rank answers a request, and whether it may change what the request changes.
-ghost use Rattle.std.specs.Prelude.{◌≡◌, ◌≢◌, ◌↔◌, ◌⊎◌, Some, None, IsTrue, MatchBool, IfOk, IfErr};
-ghost use Rattle.mds_types.specs.declared.refusals.Refusal.TheVariants.{NoInodes, NoMemory};
-ghost use Rattle.mds_types.specs.declared.ids.Rank.{Rank as RankNumber};
-ghost use Rattle.std.specs.Result.{result_err};
+ghost use Rattle.std.specs.Prelude.{◌≡◌, ◌↔◌, Some, None, IsTrue, MatchBool, IfOk, IfErr};
+ghost use Rattle.mds_types.specs.declared.refusals.Refusal.TheVariants.{NoMemory};
 ghost use Rattle.namespace_ops.specs.Places.{AreLocated};
 ghost use Rattle.mdcache.specs.Core.{state_of as tree_state};
 ghost use Rattle.mdcache.specs.Shown.{shown_tree};
-ghost use Rattle.ranked_tree.specs.Ranked.{KeepsRanked, MayRefuse};
 ghost use Rattle.ranked_tree.specs.Subtrees.{HoldsAt};
 ghost use Rattle.cluster_core.specs.Master.{HasForeign, IsMasterIn, LacksGrantIn, MayTouchAllIn, MayTouchEach, MayTouchIn, IsCheckedIn, changes_others, master_at};
 
@@ -64,14 +61,7 @@ pub fn lacks_grant<S: Store + Drop>(
         return Ok(false);
     }
     let leaves = changed_by(alloc, tree, checked)?;
-    Ok(any_lacks(
-        tree,
-        pins,
-        rank,
-        request.client,
-        request.tid,
-        &leaves,
-    ))
+    Ok(any_lacks(tree, pins, rank, request.client, request.tid, &leaves))
 }
 
 // Whether one of these leaves may not be changed.

@@ -1,9 +1,8 @@
 //! Serving the request at the front of a rank's inbox.
-ghost use Rattle.std.specs.Prelude.{◌≡◌, ◌+◌, ◌↔◌, ◌<◌, ◌∷◌, [], IsTrue, length, get_or, slice_get, vec_capacity, vec_len, IfErr, IfOk, IfSome, OnOk, Some};
+ghost use Rattle.std.specs.Prelude.{◌≡◌, ◌+◌, ◌↔◌, ◌<◌, IsTrue, length, get_or, slice_get, vec_capacity, vec_len, IfOk, IfSome, Some};
 ghost use Rattle.objstore.specs.Objects.{faults_told};
 ghost use Rattle.std.specs.Result.{result_err};
 ghost use Rattle.mds_types.specs.History.{IsNew};
-ghost use Rattle.mds_types.specs.declared.refusals.Refusal.TheVariants.{NoMemory};
 ghost use Rattle.mds_types.specs.declared.requests.Request.{Request as Waiting};
 ghost use Rattle.inboxes.specs.Inboxes.{waiting_at};
 ghost use Rattle.inode_table.specs.Numbers.{offer};

@@ -24,6 +24,6 @@ pub use laws::{
     number_leaves_errno, numbers_stay, pages_make_up_listing, step_keeps_well_formed,
 };
 pub use locating::{Places, locate};
-pub use planning::{plan_checked, plan_op};
+pub use planning::plan_checked;
 pub use plans::{Change, Checked, Plan, Spot, carry_out};
 pub use serving::serve_op;
