@@ -3,6 +3,7 @@ pub mod Applied
 pub mod Carried
 pub mod Counted
 pub mod FragmentLaws
+pub mod GrantLaws
 pub mod HeldLaws
 pub mod JobObjects
 pub mod MadeReady

@@ -1,11 +1,10 @@
 -- Which rank answers a request, and which fragments it may change (Weil et al., OSDI 2006; this project's own profile).
-use Rattle.std.specs.Prelude.{◌≡◌, ◌⊎◌, ℕ, ◌<◌, Bool, true, false, MatchBool, List, [], ◌∷◌, Option, Some, None}
+use Rattle.std.specs.Prelude.{◌≡◌, ◌⊎◌, ℕ, ◌<◌, true, MatchBool, List, Option, Some, None}
 use Rattle.std.specs.List.{Contains, list_any}
 use Rattle.mds_types.specs.declared.dentries.Dentry.{Dentry}
 use Rattle.mds_types.specs.declared.dirfrags.Dirfrag.{Dirfrag}
 use Rattle.mds_types.specs.declared.ids.Rank.{Rank}
 use Rattle.mds_types.specs.declared.operations.Op.{Op}
-use Rattle.mds_types.specs.declared.operations.Op.TheVariants.{Lookup, Readdir, Readlink, Create, Mkdir, Symlink, Setattr, Unlink, Rmdir, Rename}
 use Rattle.mds_types.specs.declared.requests.Request.{Request}
 use Rattle.mds_types.specs.Step.{destination_of, step}
 use Rattle.mds_types.specs.Tree.{is_directory}
@@ -60,18 +59,26 @@ would_change_in tree op = changed_fragments tree.covers (shown_tree tree) op
 abbrev pub would_change : State → Op → List Leaf
 would_change state op = would_change_in state.tree op
 
+-- a rank may change each of these leaves for a request
+abbrev pub MayTouchEach : TreeState → Roots → List Pin → Rank → (client tid : ℕ) → List Leaf → Type 0
+MayTouchEach tree roots pins rank client tid leaves = (leaf : Leaf) → Contains leaves leaf → MayTouchIn tree roots pins rank client tid leaf
+
 -- a rank may change all that a request would change
 abbrev pub MayTouchAllIn : TreeState → Roots → List Pin → Rank → (client tid : ℕ) → Op → Type 0
-MayTouchAllIn tree roots pins rank client tid op = (leaf : Leaf) → Contains (would_change_in tree op) leaf → MayTouchIn tree roots pins rank client tid leaf
+MayTouchAllIn tree roots pins rank client tid op = MayTouchEach tree roots pins rank client tid (would_change_in tree op)
 
 abbrev pub MayTouchAll : State → Rank → Request → Type 0
 MayTouchAll state rank request = MayTouchAllIn state.tree state.roots state.pins rank request.client request.tid request.op
 
--- an operation would change a leaf of another authority, which hasn't granted it
-pub record LacksGrantIn (tree : TreeState) (roots : Roots) (pins : List Pin) (rank : Rank) (client tid : ℕ) (op : Op) : Type 0 where
+-- a rank may not change one of these leaves for a request
+pub record LacksOneOf (tree : TreeState) (roots : Roots) (pins : List Pin) (rank : Rank) (client tid : ℕ) (leaves : List Leaf) : Type 0 where
   pub leaf : Leaf
-  pub changes : Contains (would_change_in tree op) leaf
+  pub changes : Contains leaves leaf
   pub foreign : MayTouchIn tree roots pins rank client tid leaf → ⊥
+
+-- an operation would change a leaf of another authority, which hasn't granted it
+abbrev pub LacksGrantIn : TreeState → Roots → List Pin → Rank → (client tid : ℕ) → Op → Type 0
+LacksGrantIn tree roots pins rank client tid op = LacksOneOf tree roots pins rank client tid (would_change_in tree op)
 
 abbrev pub LacksGrant : State → Rank → Request → Type 0
 LacksGrant state rank request = LacksGrantIn state.tree state.roots state.pins rank request.client request.tid request.op
@@ -82,29 +89,6 @@ LacksGrant state rank request = LacksGrantIn state.tree state.roots state.pins r
 abbrev pub master_at : Rank → Option Dirfrag → Rank
 master_at rank None = rank
 master_at rank (Some at) = at.rank
-
--- whether an operation may change other leaves than its main one: those of a directory that goes, the source of a rename
-abbrev pub changes_others : Op → Bool
-changes_others (Lookup dentry) = false
-changes_others (Readdir dir after max) = false
-changes_others (Readlink dentry) = false
-changes_others (Create dentry mode mtime) = false
-changes_others (Mkdir dentry mode mtime) = false
-changes_others (Symlink dentry target mtime) = false
-changes_others (Setattr dentry given) = false
-changes_others (Unlink dentry) = false
-changes_others (Rmdir dentry) = true
-changes_others (Rename from to) = true
-
--- a rank may change each of these leaves
-abbrev pub MayTouchEach : TreeState → Roots → List Pin → Rank → (client tid : ℕ) → List Leaf → Type 0
-MayTouchEach tree roots pins rank client tid [] = Unit {0}
-MayTouchEach tree roots pins rank client tid (leaf ∷ leaves) = MayTouchIn tree roots pins rank client tid leaf × MayTouchEach tree roots pins rank client tid leaves
-
--- it may not change one of them
-abbrev pub HasForeign : TreeState → Roots → List Pin → Rank → (client tid : ℕ) → List Leaf → Type 0
-HasForeign tree roots pins rank client tid [] = ⊥
-HasForeign tree roots pins rank client tid (leaf ∷ leaves) = (MayTouchIn tree roots pins rank client tid leaf → ⊥) ⊎ HasForeign tree roots pins rank client tid leaves
 
 -- each master of an operation at a rank is one of so many ranks
 abbrev pub AreMastersThere : TreeState → Roots → Rank → ℕ → Type 0

@@ -9,6 +9,7 @@ mod events;
 mod granting;
 pub mod laws;
 mod masters;
+mod missing_grants;
 mod mounting;
 mod pinned;
 mod plain_trees;

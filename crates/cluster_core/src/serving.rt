@@ -23,7 +23,8 @@ ghost use Rattle.ranked_tree.specs.Subtrees.{AreRoots, HoldsAt, KeepsRoots};
 
 use crate::applying::{Prepared, commit, prepare};
 use crate::events::Answer;
-use crate::masters::{lacks_grant, locate_master};
+use crate::masters::locate_master;
+use crate::missing_grants::lacks_grant;
 use inboxes::{Inboxes, Pins};
 use inode_table::Numbers;
 use mds_types::{Entry, Ino, Rank, Refusal, Reply, Request};
@@ -158,10 +159,8 @@ fn make_ready<S: Store + Drop>(
         Ok(checked) => checked,
         Err(refusal) => return Err(refusal),
     };
-    match lacks_grant(alloc, tree, pins, rank, request, &checked) {
-        Err(refusal) => return Err(refusal),
-        Ok(true) => return Ok(None),
-        Ok(false) => {}
+    if lacks_grant(tree, pins, rank, request, &checked) {
+        return Ok(None);
     }
     match prepare(alloc, tree, supply, sessions, history, request, checked) {
         Err(refusal) => Err(refusal),

@@ -8,8 +8,8 @@ use Rattle.ranked_tree.proofs.ReadsForLaws.{keeps_ranked_on}
 use Rattle.cluster_core.proofs.MadeReady.{checked_later, lacks_before, still_refused}
 use Rattle.cluster_core.proofs.serving.make_ready.Goals as goal
 
-pub lacks_grant-requires-clause-checked : goal.lacks_grant-requires-clause-checked
-lacks_grant-requires-clause-checked g c =
+pub lacks_grant-requires : goal.lacks_grant-requires
+lacks_grant-requires g c =
     (number_or (offer c.args.supply), checked_later c.args.tree.now c.check.new.frags c.args.request.now.op _ _ c.in-Ok.checked c.in-Ok.ensures.kept.follows (search rules) c.in-Ok.ensures.checked)
 
 pub prepare-requires-clause-checked : goal.prepare-requires-clause-checked
@@ -22,8 +22,8 @@ returns-in-Err-prepare-clause-ready g c =
     let r = c.args.tree.now.subtrees.roots in
     let q = c.args.request.now in
     still_refused c.args.tree.now c.check.new.frags c.prepare.new.frags q.op (MayTouchAllIn t r c.args.pins.now c.args.rank q.client q.tid q.op) c.args.supply c.in-Err-prepare.refusal c.in-Ok.ensures.kept.follows
-    (subst (λ (b : Bool). MatchBool b (LacksGrantIn t r c.args.pins.now c.args.rank q.client q.tid q.op) (MayTouchAllIn t r c.args.pins.now c.args.rank q.client q.tid q.op)) c.in-Ok-false.field-0-test
-    (lacks_before c.args.tree.now c.check.new.frags c.args.pins.now c.args.rank q.client q.tid q.op _ c.in-Ok.ensures.kept.follows c.in-Ok-false.ensures.found))
+    (subst (λ (b : Bool). MatchBool b (LacksGrantIn t r c.args.pins.now c.args.rank q.client q.tid q.op) (MayTouchAllIn t r c.args.pins.now c.args.rank q.client q.tid q.op)) c.if-lacks_grant.false
+    (lacks_before c.args.tree.now c.check.new.frags c.args.pins.now c.args.rank q.client q.tid q.op _ c.in-Ok.ensures.kept.follows c.lacks_grant.ensures))
     c.in-Err-prepare.ensures.prepared
 
 pub returns-in-Ok-prepare-clause-ready : goal.returns-in-Ok-prepare-clause-ready
@@ -31,8 +31,8 @@ returns-in-Ok-prepare-clause-ready g c =
     let t = tree_state c.args.tree.now.tree in
     let r = c.args.tree.now.subtrees.roots in
     let q = c.args.request.now in (
-      subst (λ (b : Bool). MatchBool b (LacksGrantIn t r c.args.pins.now c.args.rank q.client q.tid q.op) (MayTouchAllIn t r c.args.pins.now c.args.rank q.client q.tid q.op)) c.in-Ok-false.field-0-test
-          (lacks_before c.args.tree.now c.check.new.frags c.args.pins.now c.args.rank q.client q.tid q.op _ c.in-Ok.ensures.kept.follows c.in-Ok-false.ensures.found),
+      subst (λ (b : Bool). MatchBool b (LacksGrantIn t r c.args.pins.now c.args.rank q.client q.tid q.op) (MayTouchAllIn t r c.args.pins.now c.args.rank q.client q.tid q.op)) c.if-lacks_grant.false
+          (lacks_before c.args.tree.now c.check.new.frags c.args.pins.now c.args.rank q.client q.tid q.op _ c.in-Ok.ensures.kept.follows c.lacks_grant.ensures),
       search rules,
     )
 

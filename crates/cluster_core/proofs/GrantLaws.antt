@@ -1,0 +1,138 @@
+-- Whether a rank lacks a grant for the leaves of a change, from leaf to leaf.
+use Rattle.std.proofs.Common.{◌≡◌, ◌↔◌, ◌⊎◌, inl, inr, ℕ, ◌+◌, ◌%◌, ◌^◌, ◌<◌, ◌≤◌, Bool, true, false, cond, not, List, [], ◌∷◌, map, Option, Some, None, IfSome, IsTrue, MatchBool, refl, sym, ◌∙◌, subst, arith}
+use Rattle.std.specs.List.{Contains, list_any}
+use Rattle.std.specs.FinMap as map_of
+use Rattle.std.proofs.lemmas.Bool.{cases_lt}
+use Rattle.mds_types.specs.declared.dirfrags.Dirfrag.{Dirfrag}
+use Rattle.mds_types.specs.declared.ids.Ino.{Ino}
+use Rattle.mds_types.specs.declared.ids.Rank.{Rank}
+use Rattle.mds_types.specs.declared.inodes.Inode.{Inode}
+use Rattle.mds_types.specs.Frag.{Contains as ContainsHash, Fragment, IsFragment, span}
+use Rattle.mds_types.specs.Leaf.{leaf_of}
+use Rattle.mds_types.specs.Tree.{Tree, is_dir_kind, is_directory}
+use Rattle.mds_types.specs.declared.dentries.Dentry.{Dentry}
+use Rattle.mds_types.proofs.DirectoryLaws.{entry_stands}
+use Rattle.inboxes.specs.declared.pins.Pin.{Pin}
+use Rattle.inboxes.specs.Pins.{is_pin}
+use Rattle.fragtree.specs.FragTree.{HasLeaf, IsPick, IsTree}
+use Rattle.fragtree.proofs.Ranges.{Contains-from_range, ends_low, range_from_Contains}
+use Rattle.inode_table.specs.Dirs.{Covers}
+use Rattle.namespace_ops.specs.Changes.{Carries, dentry_at, directory_at, in_directory}
+use Rattle.namespace_ops.specs.ChangedFragments.{gone_with}
+use Rattle.namespace_ops.specs.declared.plans.Change.{Change}
+use Rattle.namespace_ops.specs.declared.plans.Change.TheVariants.{Add, Set, Remove, Move}
+use Rattle.namespace_ops.proofs.Members.{first, first_or_later, later, none_in}
+use Rattle.subtree_map.specs.Authority.{Leaf, Roots}
+use Rattle.subtree_map.proofs.Covers.{contains_start, is_fragment, one_leaf}
+use Rattle.subtree_map.proofs.Nearest.{one_authority}
+use Rattle.mdcache.specs.State.{State as TreeState}
+use Rattle.ranked_tree.specs.Subtrees.{HoldsAt}
+use Rattle.cluster_core.specs.Master.{LacksOneOf, MayTouchEach, MayTouchIn, grant_of}
+
+-- the directory that goes with a change stands
+pub gone_stands : (tree : Tree) (covers : Covers) (change : Change) → Carries tree covers change → IfSome (gone_with change) (λ dir. is_directory tree dir.0 ≡ true)
+gone_stands tree covers change carries = go change carries
+  where
+    at : (dentry : Dentry) (found : Option Inode) → map_of.get tree dentry ≡ found → IfSome (directory_at found) (λ dir. is_directory tree dir.0 ≡ true)
+    at dentry None is = tt
+    at dentry (Some inode) is = kinded (is_dir_kind inode.kind) refl
+      where
+        kinded : (b : Bool) → is_dir_kind inode.kind ≡ b → IfSome (cond b (Some inode.ino) None) (λ dir. is_directory tree dir.0 ≡ true)
+        kinded true dir = entry_stands tree dentry inode is dir
+        kinded false dir = tt
+
+    go : (c : Change) → Carries tree covers c → IfSome (gone_with c) (λ dir. is_directory tree dir.0 ≡ true)
+    go (Add spot inode) h = tt
+    go (Set spot inode) h = tt
+    go (Remove spot went) h = subst (λ (g : Option Ino). IfSome g (λ dir. is_directory tree dir.0 ≡ true)) (sym h.1) (at (dentry_at spot) (map_of.get tree (dentry_at spot)) refl)
+    go (Move from to went) h = subst (λ (g : Option Ino). IfSome g (λ dir. is_directory tree dir.0 ≡ true)) (sym h.2) (at (dentry_at to) (map_of.get tree (dentry_at to)) refl)
+
+module _ (tree : TreeState) (roots : Roots) (pins : List Pin) (rank : Rank) (client tid : ℕ) where
+  -- a rank may change a leaf that it holds,
+  pub by_holding : (at : Dirfrag) → HoldsAt tree roots at → at.rank ≡ rank → MayTouchIn tree roots pins rank client tid (leaf_of at)
+  by_holding at held same = inl (subst (λ (r : Rank). HoldsAt tree roots (record { dir = at.dir; frag = at.frag; rank = r })) same held)
+
+  -- and otherwise one that is granted
+  pub by_grant : (at : Dirfrag) (granted : Bool) → HoldsAt tree roots at → (at.rank ≡ rank → ⊥) → granted ≡ list_any (is_pin (grant_of (leaf_of at) client tid)) pins → IsTrue granted ↔ MayTouchIn tree roots pins rank client tid (leaf_of at)
+  by_grant at granted held other is = (λ told. inr (sym is ∙ told), λ may. go may)
+    where
+      go : MayTouchIn tree roots pins rank client tid (leaf_of at) → IsTrue granted
+      go (inl rules) = absurd (other (one_authority roots tree.homes tree.covers (leaf_of at) at.rank rank held rules))
+      go (inr pinned) = is ∙ pinned
+
+  -- the first of some leaves decides where it may not be changed, and the others where it may
+  pub first_lacks : (leaf : Leaf) (leaves : List Leaf) → (MayTouchIn tree roots pins rank client tid leaf → ⊥) → LacksOneOf tree roots pins rank client tid (leaf ∷ leaves)
+  first_lacks leaf leaves foreign = record { leaf = leaf; changes = first leaf leaves; foreign = foreign }
+
+  pub others_decide : (leaf : Leaf) (leaves : List Leaf) (lacks : Bool) → MayTouchIn tree roots pins rank client tid leaf
+      → MatchBool lacks (LacksOneOf tree roots pins rank client tid leaves) (MayTouchEach tree roots pins rank client tid leaves)
+      → MatchBool lacks (LacksOneOf tree roots pins rank client tid (leaf ∷ leaves)) (MayTouchEach tree roots pins rank client tid (leaf ∷ leaves))
+  others_decide leaf leaves true may one = record { leaf = one.leaf; changes = later leaf one.leaf leaves one.changes; foreign = one.foreign }
+  others_decide leaf leaves false may each = λ other has. elim (first_or_later leaf other leaves has) [
+    | inl same ↦ subst (MayTouchIn tree roots pins rank client tid) same may
+    | inr more ↦ each other more
+  ]
+
+  pub none_lacks : MayTouchEach tree roots pins rank client tid []
+  none_lacks leaf has = absurd (none_in leaf has)
+
+  pub only_one : (leaf : Leaf) (may : Bool) → (IsTrue may ↔ MayTouchIn tree roots pins rank client tid leaf)
+      → MatchBool (not may) (LacksOneOf tree roots pins rank client tid (leaf ∷ [])) (MayTouchEach tree roots pins rank client tid (leaf ∷ []))
+  only_one leaf true told = others_decide leaf [] false (told.0 refl) none_lacks
+  only_one leaf false told = first_lacks leaf [] (λ may. let clash : false ≡ true = told.1 may in cc)
+
+-- what may not be changed, as was told
+pub denied : {P : Type 0} (may : Bool) → (IsTrue may ↔ P) → may ≡ false → P → ⊥
+denied may told is has = let clash : false ≡ true = sym is ∙ told.1 has in cc
+
+-- a leaf that contains a hash has it in its range
+in_range : (leaf : Fragment) (hash : ℕ) → IsFragment leaf → hash < 2 ^ 24 → ContainsHash leaf hash → (leaf.value ≤ hash) × (hash < leaf.value + span leaf.bits)
+in_range leaf hash valid low holds =
+    let range = range_from_Contains leaf hash valid holds in
+    let same : hash % 2 ^ 24 ≡ hash = omega (arith, low) in
+    (omega (arith, range.0, same), omega (arith, range.1, same))
+
+-- a walk over all leaves of a directory: of each that begins before a hash this holds
+abbrev pub Done : List Fragment → (Fragment → Type 0) → ℕ → Type 0
+Done leaves P hash = (g : Fragment) → HasLeaf leaves g → g.value < hash → P g
+
+module _ (leaves : List Fragment) (cover : IsTree leaves) (P : Fragment → Type 0) where
+  pub nearer : (hash : ℕ) (leaf : Fragment) (end : ℕ) → hash < 2 ^ 24 → IsPick leaves hash leaf → end ≡ leaf.value + span leaf.bits → (hash < end) × (end ≤ 2 ^ 24)
+  nearer hash leaf end low pick ends =
+      let its = is_fragment leaves leaf cover pick.stands in
+      let range = in_range leaf hash its low pick.contains in
+      (omega (arith, range.1, ends), omega (arith, ends, ends_low leaf its))
+
+  pub goes_on : (hash : ℕ) (leaf : Fragment) (end : ℕ) → hash < 2 ^ 24 → Done leaves P hash → IsPick leaves hash leaf → P leaf → end ≡ leaf.value + span leaf.bits → Done leaves P end
+  goes_on hash leaf end low done pick holds ends g has before = go (cases_lt g.value hash)
+    where
+      own : hash ≤ g.value → P g
+      own behind =
+          let its = is_fragment leaves leaf cover pick.stands in
+          let of_g = is_fragment leaves g cover has in
+          let range = in_range leaf hash its low pick.contains in
+          let same : g.value % 2 ^ 24 ≡ g.value = omega (arith, of_g.in_range) in
+          let contains = Contains-from_range leaf g.value its (omega (arith, same, range.0, behind)) (omega (arith, same, ends, before)) in
+          subst P (one_leaf leaves leaf g g.value cover pick.stands has contains (contains_start g of_g)) holds
+
+      go : (g.value < hash) ⊎ (hash ≤ g.value) → P g
+      go (inl earlier) = done g has earlier
+      go (inr behind) = own behind
+
+  pub ends_all : (hash : ℕ) → 2 ^ 24 ≤ hash → Done leaves P hash → (g : Fragment) → HasLeaf leaves g → P g
+  ends_all hash beyond done g has = let of_g = is_fragment leaves g cover has in done g has (omega (arith, of_g.in_range, beyond))
+
+-- what holds of the leaves of a directory holds of each of them as a leaf of the tree
+pub of_each : (dir : ℕ) (Q : Leaf → Type 0) (fs : List Fragment) → ((g : Fragment) → HasLeaf fs g → Q (in_directory dir g)) → (leaf : Leaf) → Contains (map (in_directory dir) fs) leaf → Q leaf
+of_each dir Q [] all leaf has = absurd (none_in leaf has)
+of_each dir Q (f ∷ fs) all leaf has = elim (first_or_later (in_directory dir f) leaf (map (in_directory dir) fs) has) [
+  | inl same ↦ subst Q same (all f (first f fs))
+  | inr more ↦ of_each dir Q fs (λ g in_it. all g (later f g fs in_it)) leaf more
+]
+
+pub is_among : (dir : ℕ) (fs : List Fragment) (f : Fragment) → HasLeaf fs f → Contains (map (in_directory dir) fs) (in_directory dir f)
+is_among dir [] f has = absurd (none_in f has)
+is_among dir (g ∷ gs) f has = elim (first_or_later g f gs has) [
+  | inl same ↦ subst (λ (h : Fragment). Contains (map (in_directory dir) (g ∷ gs)) (in_directory dir h)) same (first (in_directory dir g) (map (in_directory dir) gs))
+  | inr more ↦ later (in_directory dir g) (in_directory dir f) (map (in_directory dir) gs) (is_among dir gs f more)
+]

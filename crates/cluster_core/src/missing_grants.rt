@@ -1,0 +1,135 @@
+//! Whether a rank that serves a request lacks a grant for it.
+ghost use Rattle.std.specs.Prelude.{◌≡◌, ◌↔◌, ◌⊎◌, true, IsTrue, MatchBool, IfSome};
+ghost use Rattle.std.specs.List.{list_any};
+ghost use Rattle.mds_types.specs.Leaf.{leaf_of};
+ghost use Rattle.mds_types.specs.Tree.{is_directory};
+ghost use Rattle.inboxes.specs.Pins.{is_pin};
+ghost use Rattle.subtree_map.specs.Authority.{Roots};
+ghost use Rattle.namespace_ops.specs.Changes.{AreHeld, fragments_of, leaves, leaves_gone};
+ghost use Rattle.namespace_ops.specs.ChangedFragments.{gone_with};
+ghost use Rattle.mdcache.specs.Core.{state_of as tree_state};
+ghost use Rattle.mdcache.specs.Shown.{shown_tree};
+ghost use Rattle.mdcache.specs.State.{State as TreeState};
+ghost use Rattle.ranked_tree.specs.Subtrees.{HoldsAt};
+ghost use Rattle.cluster_core.specs.Master.{IsCheckedIn, LacksGrantIn, LacksOneOf, MayTouchAllIn, MayTouchEach, MayTouchIn, grant_of};
+
+use inboxes::{Pin, Pins};
+use mds_types::{Dirfrag, Ino, Rank, Request};
+use namespace_ops::{Change, Checked, Frags};
+use objstore::Store;
+use ranked_tree::RankedTree;
+use subtree_map::end_of;
+
+/// Whether a rank lacks a grant for a request: its operation would change a leaf of another authority, which isn't granted for this
+/// request. `checked` is what the checks of the operation found. Takes no memory.
+pub fn lacks_grant<S: Store + Drop>(
+    tree: &RankedTree<S>,
+    pins: &Pins,
+    rank: Rank,
+    request: &Request,
+    checked: &Checked,
+) -> bool
+    requires { IsCheckedIn (tree_state tree.now.tree) tree.now.subtrees.roots request.now.op checked.now }
+    ensures { MatchBool result (LacksGrantIn (tree_state tree.now.tree) tree.now.subtrees.roots pins.now rank request.now.client request.now.tid request.now.op) (MayTouchAllIn (tree_state tree.now.tree) tree.now.subtrees.roots pins.now rank request.now.client request.now.tid request.now.op) }
+{
+    match checked {
+        Checked::Answers(_) => false,
+        Checked::Changes(change) => lacks_one(tree, pins, rank, request, change),
+    }
+}
+
+// Whether one of the leaves of a change may not be changed: those of its names, and all of a directory that goes.
+fn lacks_one<S: Store + Drop>(
+    tree: &RankedTree<S>,
+    pins: &Pins,
+    rank: Rank,
+    request: &Request,
+    change: &Change,
+) -> bool
+    requires held { AreHeld (HoldsAt (tree_state tree.now.tree) tree.now.subtrees.roots) change.now }
+    requires gone { IfSome (gone_with change.now) (λ dir. is_directory (shown_tree (tree_state tree.now.tree)) dir.0 ≡ true) }
+    ensures { MatchBool result
+        (LacksOneOf (tree_state tree.now.tree) tree.now.subtrees.roots pins.now rank request.now.client request.now.tid (fragments_of tree.now.tree.covers change.now))
+        (MayTouchEach (tree_state tree.now.tree) tree.now.subtrees.roots pins.now rank request.now.client request.now.tid (fragments_of tree.now.tree.covers change.now)) }
+{
+    match change {
+        Change::Add { spot, .. } | Change::Set { spot, .. } => {
+            !may_touch(pins, rank, request, &spot.at)
+        }
+        Change::Remove { spot, gone } => {
+            if !may_touch(pins, rank, request, &spot.at) {
+                return true;
+            }
+            lacks_gone(tree, pins, rank, request, *gone)
+        }
+        Change::Move { from, to, gone } => {
+            if !may_touch(pins, rank, request, &from.at) {
+                return true;
+            }
+            if !may_touch(pins, rank, request, &to.at) {
+                return true;
+            }
+            lacks_gone(tree, pins, rank, request, *gone)
+        }
+    }
+}
+
+// Whether a leaf of the directory that goes, if one does, may not be changed.
+fn lacks_gone<S: Store + Drop>(
+    tree: &RankedTree<S>,
+    pins: &Pins,
+    rank: Rank,
+    request: &Request,
+    gone: Option<Ino>,
+) -> bool
+    requires there { IfSome gone (λ dir. is_directory (shown_tree (tree_state tree.now.tree)) dir.0 ≡ true) }
+    ensures { MatchBool result
+        (LacksOneOf (tree_state tree.now.tree) tree.now.subtrees.roots pins.now rank request.now.client request.now.tid (leaves_gone tree.now.tree.covers gone))
+        (MayTouchEach (tree_state tree.now.tree) tree.now.subtrees.roots pins.now rank request.now.client request.now.tid (leaves_gone tree.now.tree.covers gone)) }
+{
+    match gone {
+        Some(dir) => lacks_leaf(tree, pins, rank, request, dir),
+        None => false,
+    }
+}
+
+// Whether a leaf of a directory may not be changed. Each is located once, from the hash on where the one before it ends.
+fn lacks_leaf<S: Store + Drop>(
+    tree: &RankedTree<S>,
+    pins: &Pins,
+    rank: Rank,
+    request: &Request,
+    dir: Ino,
+) -> bool
+    requires there { is_directory (shown_tree (tree_state tree.now.tree)) dir.0 ≡ true }
+    ensures { MatchBool result
+        (LacksOneOf (tree_state tree.now.tree) tree.now.subtrees.roots pins.now rank request.now.client request.now.tid (leaves tree.now.tree.covers dir.0))
+        (MayTouchEach (tree_state tree.now.tree) tree.now.subtrees.roots pins.now rank request.now.client request.now.tid (leaves tree.now.tree.covers dir.0)) }
+{
+    // The contract of `dirs` is what says here that the leaves of each directory cover every hash once.
+    let _ = tree.dirs();
+    let mut hash = 0;
+    while hash < 1 << 24 {
+        let Some(at) = tree.locate(rank, dir, hash) else {
+            unreachable!()
+        };
+        if !may_touch(pins, rank, request, &at) {
+            return true;
+        }
+        hash = end_of(at.frag);
+    }
+    false
+}
+
+// Whether a rank may change a leaf for a request: it holds it, or the leaf is granted.
+fn may_touch(pins: &Pins, rank: Rank, request: &Request, at: &Dirfrag) -> bool
+    ensures { (tree : TreeState) (roots : Roots) → HoldsAt tree roots at.now → IsTrue result ↔ MayTouchIn tree roots pins.now rank request.now.client request.now.tid (leaf_of at.now) }
+{
+    at.rank == rank
+        || pins.is_granted(&Pin {
+            dir: at.dir,
+            frag: at.frag,
+            client: request.client,
+            tid: request.tid,
+        })
+}
