@@ -5,7 +5,6 @@ use Rattle.std.specs.FinMap as map
 use Rattle.std.specs.FinMap.{get-empty, len-empty}
 use Rattle.std.proofs.lemmas.Bool.{eq-eqb}
 use Rattle.std.proofs.lemmas.Option.{same_Some}
-use Rattle.mds_types.specs.Leaf.{Leaf}
 use Rattle.mds_types.proofs.LeafLaws.{get_beside, get_left, get_put}
 use Rattle.objstore.specs.Omap.{key_cmp}
 use Rattle.cached_frag.specs.declared.bases.Base.TheVariants.{Stored}
@@ -17,7 +16,7 @@ use Rattle.cached_frag.specs.Cached.{is_settled, unsettled}
 use Rattle.cached_frag.proofs.SettledLaws.{get-unsettled}
 use Rattle.dirfrag_codec.proofs.ByteKeys.{one_map}
 use Rattle.dentry_cache.specs.Cache.{Unsaved, with_unsaved}
-use Rattle.mdcache.specs.Commits.{Begins, BeginsWith, IsEnded, leaf_of, left_of, stored_with}
+use Rattle.mdcache.specs.Commits.{BeginsWith, leaf_of, left_of, stored_with}
 use Rattle.mdcache.specs.Flushed.{BegunAreAtHand, BegunLeaveAtHand, EndedAreClean, IsAtHand, OthersStayAtHand}
 use Rattle.mdcache.specs.State.{State}
 
@@ -40,13 +39,15 @@ begun_are_at_hand old new leaf job begun = go (map.get old.unsaved leaf) refl be
     go : (o : Option Unsaved) → map.get old.unsaved leaf ≡ o → BeginsWith old new leaf o (Some job) → IsAtHand new job × (leaf_of job ≡ leaf)
     go None is (none, same) = absurd cc
     go (Some u) is (made, lacks, left) =
-        let at : leaf_of job ≡ leaf = ap leaf_of made in
-        (record {
-          stands = ap (λ (t : State). map.get t.jobs (leaf_of job)) left ∙ get_put old.jobs (leaf_of job) job;
-          unsaved = u;
-          beside = ap (λ (t : State). map.get t.unsaved (leaf_of job)) left ∙ ap (map.get old.unsaved) at ∙ is;
-          names = ap (λ (j : Job). j.snapshot.names) made;
-        }, at)
+        let at : leaf_of job ≡ leaf = ap leaf_of made in (
+          record {
+            stands = ap (λ (t : State). map.get t.jobs (leaf_of job)) left ∙ get_put old.jobs (leaf_of job) job;
+            unsaved = u;
+            beside = ap (λ (t : State). map.get t.unsaved (leaf_of job)) left ∙ ap (map.get old.unsaved) at ∙ is;
+            names = ap (λ (j : Job). j.snapshot.names) made;
+          },
+          at,
+        )
 
 pub begun_leave_at_hand : BegunLeaveAtHand
 begun_leave_at_hand old new leaf job other begun apart hand = go (map.get old.unsaved leaf) begun.2
@@ -54,11 +55,11 @@ begun_leave_at_hand old new leaf job other begun apart hand = go (map.get old.un
     go : (o : Option Unsaved) → BeginsWith old new leaf o (Some job) → IsAtHand new other
     go None (none, same) = absurd cc
     go (Some u) (made, lacks, left) = record {
-        stands = ap (λ (t : State). map.get t.jobs (leaf_of other)) left ∙ get_beside old.jobs (leaf_of job) job (leaf_of other) (λ same. apart (same ∙ ap leaf_of made)) ∙ hand.stands;
-        unsaved = hand.unsaved;
-        beside = ap (λ (t : State). map.get t.unsaved (leaf_of other)) left ∙ hand.beside;
-        names = hand.names;
-      }
+      stands = ap (λ (t : State). map.get t.jobs (leaf_of other)) left ∙ get_beside old.jobs (leaf_of job) job (leaf_of other) (λ same. apart (same ∙ ap leaf_of made)) ∙ hand.stands;
+      unsaved = hand.unsaved;
+      beside = ap (λ (t : State). map.get t.unsaved (leaf_of other)) left ∙ hand.beside;
+      names = hand.names;
+    }
 
 pub ended_are_clean : EndedAreClean
 ended_are_clean old new job hand ended =

@@ -1,27 +1,22 @@
 -- The cold tree of a state of which all is saved is the shown tree, and once all is purged its objects are exact.
-use Rattle.std.proofs.Common.{◌≡◌, ◌⊎◌, inl, inr, ℕ, zero, suc, ◌+◌, ◌-◌, ◌<◌, ◌≤◌, ◌^◌, Bool, true, false, cond, length, nat_lt, List, [], ◌∷◌, Option, Some, None, refl, sym, ap, subst, ◌∙◌, arith}
-use Rattle.std.specs.Prelude.{◌==◌, ◌||◌, is_some}
+use Rattle.std.proofs.Common.{◌≡◌, ◌⊎◌, inl, inr, ℕ, zero, suc, ◌+◌, ◌-◌, ◌<◌, ◌^◌, Bool, true, false, cond, length, nat_lt, List, [], ◌∷◌, Option, Some, None, refl, sym, ap, subst, ◌∙◌, arith}
+use Rattle.std.specs.Prelude.{◌==◌, is_some}
 use Rattle.std.specs.FinMap as map
 use Rattle.std.specs.FinMap.{get-empty}
 use Rattle.std.proofs.lemmas.Bool.{eqb-true, lt-ltb, ltb-true, or_cases, or_right}
 use Rattle.std.proofs.Math.Pow.{pow-lt}
 use Rattle.sorted_map.proofs.NatKeys.{same_or_apart}
-use Rattle.std.proofs.lemmas.Bool.Decides.{nat_tests}
 use Rattle.std.proofs.lemmas.Option.{same_Some}
 use Rattle.mds_types.specs.Frag.{Fragment, IsFragment, root_fragment, span}
 use Rattle.mds_types.specs.Leaf.{Leaf}
-use Rattle.mds_types.specs.Tree.{Tree, dentry_of, is_dir_kind}
+use Rattle.mds_types.specs.Tree.{dentry_of}
 use Rattle.mds_types.specs.declared.ids.Ino.{Ino}
 use Rattle.mds_types.specs.declared.inodes.Inode.{Inode}
-use Rattle.mds_types.specs.declared.object_names.ObjName.{ObjName}
-use Rattle.mds_types.specs.declared.object_names.ObjName.TheVariants.{Frag as FragOf, Tree as TreeOf}
 use Rattle.objstore.specs.Omap.{Omap}
 use Rattle.namehash.specs.Rjenkins.{hash_of}
-use Rattle.objstore.specs.Objects.{Objects}
-use Rattle.fragtree.specs.FragTree.{HasLeaf, IsPick, IsTree, Tiles}
+use Rattle.fragtree.specs.FragTree.{HasLeaf, IsPick, IsTree}
 use Rattle.fragtree.proofs.TreeLaws.{one_pick, some_pick}
-use Rattle.dirfrag_codec.specs.FragmentObject.{SpellsTreeObject, SpellsFragment, Names, names_of}
-use Rattle.dirfrag_codec.specs.TreeObject.{SpellsTree}
+use Rattle.dirfrag_codec.specs.FragmentObject.{SpellsTreeObject, Names}
 use Rattle.dirfrag_codec.proofs.TreeLaws.{one_tree}
 use Rattle.dentry_cache.specs.Loading.{IsSaved, Loads, object_of}
 use Rattle.dentry_cache.specs.Ties.{names_at}
@@ -34,7 +29,7 @@ use Rattle.mdcache.specs.Sound.{IsOwned, IsSound}
 use Rattle.mdcache.specs.State.{IsLive, State, text_of, tree_text}
 use Rattle.mdcache.proofs.ShownLaws.{found_nowhere}
 use Rattle.mdcache.proofs.TreeLookups.{at_dentry}
-use Rattle.cold_store.specs.ColdTree.{HasNoFault, HasRecords, IsColdLeaf, IsColdTree, IsFaulty, IsReached, IsRecord, IsSamePlace, Record, SaysLeaves, tree_of}
+use Rattle.cold_store.specs.ColdTree.{HasNoFault, HasRecords, IsColdLeaf, IsFaulty, IsReached, IsRecord, IsSamePlace, Record, SaysLeaves, tree_of}
 use Rattle.mdcache.specs.Flushed.{AreExact, FlushedIsCold, IsFlushed, PurgedAreExact}
 
 -- a tree of fewer than two leaves is `*` alone
@@ -135,6 +130,7 @@ module _ (s : State) (sound : IsSound s) (saved : IsFlushed s) where
       by_home : (o : Option Home) → map.get s.homes d ≡ o → is_some o ≡ true → IsReached s.objects d
       by_home None is some = absurd cc
       by_home (Some home) is some = let w = sound.table.rooted.rooted d home is in reached_by w.0 d w.1
+
       go : ((d == 1) ≡ true) ⊎ (is_some (map.get s.homes d) ≡ true) → IsReached s.objects d
       go (inl root) = subst (λ k. IsReached s.objects k) (sym (eqb-true d 1 root)) IsReached.root
       go (inr some) = by_home (map.get s.homes d) refl some
