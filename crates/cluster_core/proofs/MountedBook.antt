@@ -6,24 +6,23 @@ use Rattle.std.specs.FinMap.{get-empty}
 use Rattle.std.proofs.lemmas.List.{length-replicate}
 use Rattle.mds_types.specs.declared.dentries.Dentry.{Dentry}
 use Rattle.mds_types.specs.declared.inodes.Inode.{Inode}
-use Rattle.mds_types.specs.History.{IsUsed}
 use Rattle.mds_types.specs.Tree.{Tree, dentry_cmp, numbers}
 use Rattle.mds_types.proofs.OrderLaws.{dentry-total}
 use Rattle.objstore.specs.Objects.{Objects}
 use Rattle.inode_table.specs.Dirs.{Covers}
-use Rattle.inode_table.specs.Numbers.{IsSupply, Supply, end_number, first_number}
+use Rattle.inode_table.specs.Numbers.{IsSupply, Supply, first_number}
 use Rattle.dentry_cache.specs.CacheMap.{AreCaches, CacheMap}
 use Rattle.cold_store.specs.Numbers.{IsNext, IsOfRank}
 use Rattle.cold_store.specs.Rows.{IsIn}
 use Rattle.cold_store.proofs.Members.{get_entry}
 use Rattle.mdcache.specs.Core.{Core as TreeCore, shown_in}
-use Rattle.mdcache.specs.Mounted.{AreNumbers, IsMounted, IsNew, Mounts}
+use Rattle.mdcache.specs.Mounted.{AreNumbers, Mounts}
 use Rattle.mdcache.specs.State.{State as TreeState}
 use Rattle.sessions.proofs.TableLaws.{table-none}
 use Rattle.subtree_map.specs.Authority.{Roots}
 use Rattle.ranked_tree.specs.Held.{IsOwned}
 use Rattle.ranked_tree.specs.Mounted.{AreTopRoots}
-use Rattle.ranked_tree.proofs.MountedRoots.{mounted_objects, top_of_none}
+use Rattle.ranked_tree.proofs.MountedRoots.{top_of_none}
 use Rattle.cluster_core.specs.Mounted.{MountsCore}
 use Rattle.cluster_core.specs.Sound.{IsFresh, IsSound, IsSupplied}
 use Rattle.cluster_core.specs.State.{Core, core_of, no_supply, whole_supplies}
@@ -111,16 +110,19 @@ module _ (objects : Objects) (ranks places : ℕ) (t : TreeCore) (roots : Roots)
           let first : roots ≡ _ = top_of_none roots (subst (λ (cs : Covers). AreTopRoots cs roots) (ap (λ (s : TreeState). s.covers) new.state) top) in
           let all : ss ≡ whole_supplies 0 ranks = whole_numbers ranks ss (subst (λ (tree : Tree). AreNumbers tree ranks ss) new.none its_numbers) in
           inl (none, new.none, record { state = λ i. record { tree = new.state i; roots = first i; numbers = all i; inboxes = replicate ranks []; pins = []; sessions = finmap.empty }; caches = new.caches })
-      go (inr (some, m)) = inr (some, record {
-        walked = m.walked;
-        tree = m.state;
-        roots = top;
-        numbers = its_numbers;
-        inboxes = refl;
-        pins = refl;
-        sessions = refl;
-        caches = m.caches;
-      })
+      go (inr (some, m)) = inr (
+        some,
+        record {
+          walked = m.walked;
+          tree = m.state;
+          roots = top;
+          numbers = its_numbers;
+          inboxes = refl;
+          pins = refl;
+          sessions = refl;
+          caches = m.caches;
+        },
+      )
 
   as_many : length t.caches.used ≡ ranks
   as_many = go is

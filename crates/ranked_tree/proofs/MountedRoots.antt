@@ -12,7 +12,7 @@ use Rattle.mds_types.proofs.LeafLaws.{get_beside, leaf-exact, leaf-total, same_o
 use Rattle.objstore.specs.Objects.{Objects}
 use Rattle.fragtree.specs.FragTree.{HasLeaf}
 use Rattle.inode_table.specs.Dirs.{Covers, is_known, leaves_of}
-use Rattle.dentry_cache.specs.CacheMap.{At, CacheMap, no_caches}
+use Rattle.dentry_cache.specs.CacheMap.{At, CacheMap}
 use Rattle.subtree_map.specs.Authority.{Roots}
 use Rattle.subtree_map.specs.Changes.{AreFilled, leaf_of}
 use Rattle.subtree_map.proofs.Options.{one_value}
@@ -93,8 +93,3 @@ module _ (objects : Objects) (ranks places : ℕ) (some : 0 < ranks) (tree : Tre
       held : Mounts objects ranks places tree c → AreHeld (state_of c) c.caches roots
       held (inl new) = made_held new.1
       held (inr walked) = walked_held walked.1
-
--- the objects are the store's
-pub mounted_objects : (objects : Objects) (ranks places : ℕ) (tree : Tree) (c : Core) → Mounts objects ranks places tree c → c.objects ≡ objects
-mounted_objects objects ranks places tree c (inl new) = ap (λ (s : State). s.objects) new.1.state ∙ sym new.0
-mounted_objects objects ranks places tree c (inr walked) = ap (λ (s : State). s.objects) walked.1.state

@@ -1,6 +1,5 @@
 //! A tree over a store as it is found, with its subtree roots.
 ghost use Rattle.std.specs.Prelude.{◌≡◌, ◌+◌, ◌<◌, ◌≤◌, IfOk, IfErr};
-ghost use Rattle.std.specs.FinMap as map;
 ghost use Rattle.sorted_map.specs.SortedMap.{contents};
 ghost use Rattle.mds_types.specs.Tree.{dentry_cmp};
 ghost use Rattle.objstore.specs.Objects.{faults_in};
