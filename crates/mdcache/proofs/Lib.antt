@@ -33,6 +33,7 @@ pub mod NumbersMade
 pub mod ObjectLaws
 pub mod PageLaws
 pub mod PrepareLaws
+pub mod PurgedLaws
 pub mod PutLaws
 pub mod RegroupLaws
 pub mod RegroupReady

@@ -31,7 +31,7 @@ use Rattle.mdcache.proofs.TextLaws.{no_tree_text}
 
 -- ---- the first name of a list
 
-first_stands : (names : Keys) (name : List ℕ) → first_name names ≡ Some name → is_some (map.get names name) ≡ true
+pub first_stands : (names : Keys) (name : List ℕ) → first_name names ≡ Some name → is_some (map.get names name) ≡ true
 first_stands names name is = ap (λ (o : Option (Unit {0})). is_some o) (get-entries names name) ∙ go (map.entries names) is
   where
     go : (es : List (List ℕ × Unit {0})) → option_map (λ (e : List ℕ × Unit {0}). e.0) (slice_get es 0) ≡ Some name → is_some (find key_cmp name es) ≡ true

@@ -33,6 +33,15 @@ pub record AreExact (s : State) : Type 0 where
 abbrev pub PurgedAreExact : Type 0
 PurgedAreExact = (s : State) → IsSound s → IsFlushed s → s.purge ≡ map.empty → AreExact s
 
+-- ---- purges
+
+-- objects that were to be removed are gone, and off the list; nothing else changed
+pub record ArePurged (old new : State) : Type 0 where
+  pub left : new ≡ record old { objects = new.objects; purge = new.purge }
+  pub tree : shown_tree new ≡ shown_tree old
+  pub others : (name : List ℕ) → map.get old.purge name ≡ None → (map.get new.objects name ≡ map.get old.objects name) × (map.get new.purge name ≡ None)
+  pub gone : (name : List ℕ) → map.get new.purge name ≡ None → (map.get old.purge name ≡ None) ⊎ (map.get new.objects name ≡ None)
+
 -- ---- commits of whole fragments
 
 -- the job stands, and has the fragment as it is still: its names are all dirty ones

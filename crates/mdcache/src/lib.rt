@@ -48,6 +48,7 @@ mod beginning;
 mod dropping;
 mod ending;
 mod evicting;
+mod flushing;
 mod purging;
 mod tree_objects;
 mod trees;

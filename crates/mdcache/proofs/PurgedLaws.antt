@@ -1,0 +1,77 @@
+-- Purges one after the other.
+use Rattle.std.proofs.Common.{◌≡◌, ◌⊎◌, inl, inr, ℕ, ◌-◌, ◌<◌, true, false, cond, nat_lt, List, [], ◌∷◌, length, Option, Some, None, Ok, refl, sym, ap, ◌∙◌, arith}
+use Rattle.std.specs.Prelude.{is_some, slice_get}
+use Rattle.std.specs.Option.{option_map}
+use Rattle.std.specs.FinMap as map
+use Rattle.std.specs.FinMap.{len-entries, len-remove}
+use Rattle.std.proofs.lemmas.Bool.{ltb-true}
+use Rattle.std.specs.Cmp.Lexicographic.{nat_list_cmp_total}
+use Rattle.objstore.specs.Omap.{Keys}
+use Rattle.objstore.specs.Objects.{Objects}
+use Rattle.dirfrag_codec.proofs.ByteKeys.{get_left, get_removed, same_or_apart}
+use Rattle.mdcache.specs.Flushed.{ArePurged}
+use Rattle.mdcache.specs.Objects.{PurgesName, purged}
+use Rattle.mdcache.specs.PurgeList.{first_name}
+use Rattle.mdcache.specs.Shown.{shown_tree}
+use Rattle.mdcache.specs.State.{State}
+use Rattle.mdcache.proofs.ObjectLaws.{first_stands}
+
+pub purged_none : (s : State) → ArePurged s s
+purged_none s = record { left = refl; tree = refl; others = λ name none. (refl, none); gone = λ name off. inl off }
+
+-- where a name waits there is a first one
+none_first : (names : Keys) → first_name names ≡ None → map.len names ≡ 0
+none_first names none = len-entries names ∙ go (map.entries names) none
+  where
+    go : (es : List (List ℕ × Unit {0})) → option_map (λ (e : List ℕ × Unit {0}). e.0) (slice_get es 0) ≡ None → length es ≡ 0
+    go [] h = refl
+    go (e ∷ es) h = let clash : Some e.0 ≡ None = h in absurd cc
+
+module _ (old now new : State) (so_far : ArePurged old now) (some : nat_lt 0 (map.len now.purge) ≡ true) (before after : ℕ) where
+  one_more : (name : List ℕ) → first_name now.purge ≡ Some name → new ≡ purged now name → shown_tree new ≡ shown_tree now → ArePurged old new × (map.len new.purge < map.len now.purge)
+  one_more name first left tree = (record { left = is; tree = tree ∙ so_far.tree; others = others; gone = gone }, fewer)
+    where
+      stands : is_some (map.get now.purge name) ≡ true
+      stands = first_stands now.purge name first
+
+      objects : new.objects ≡ map.remove now.objects name
+      objects = ap (λ (s : State). s.objects) left
+
+      list : new.purge ≡ map.remove now.purge name
+      list = ap (λ (s : State). s.purge) left
+
+      is : new ≡ record old { objects = new.objects; purge = new.purge }
+      is = left ∙ ap (λ (s : State). record s { objects = map.remove now.objects name; purge = map.remove now.purge name }) so_far.left ∙ (λ i. record old { objects = sym objects i; purge = sym list i })
+
+      apart : (q : List ℕ) → map.get now.purge q ≡ None → q ≡ name → ⊥
+      apart q none same = let clash : false ≡ true = ap is_some (sym none ∙ ap (map.get now.purge) same) ∙ stands in cc
+
+      others : (q : List ℕ) → map.get old.purge q ≡ None → (map.get new.objects q ≡ map.get old.objects q) × (map.get new.purge q ≡ None)
+      others q none =
+          let w = so_far.others q none in
+          (ap (λ (m : Objects). map.get m q) objects ∙ get_left now.objects name q (apart q w.1) ∙ w.0, ap (λ (m : Keys). map.get m q) list ∙ get_left now.purge name q (apart q w.1) ∙ w.1)
+
+      gone : (q : List ℕ) → map.get new.purge q ≡ None → (map.get old.purge q ≡ None) ⊎ (map.get new.objects q ≡ None)
+      gone q off = go (same_or_apart q name)
+        where
+          before_that : (map.get old.purge q ≡ None) ⊎ (map.get now.objects q ≡ None) → map.get new.objects q ≡ map.get now.objects q → (map.get old.purge q ≡ None) ⊎ (map.get new.objects q ≡ None)
+          before_that (inl none) still = inl none
+          before_that (inr none) still = inr (still ∙ none)
+
+          go : (q ≡ name) ⊎ (q ≡ name → ⊥) → (map.get old.purge q ≡ None) ⊎ (map.get new.objects q ≡ None)
+          go (inl same) = inr (ap (λ (m : Objects). map.get m q) objects ∙ ap (map.get (map.remove now.objects name)) same ∙ get_removed now.objects name)
+          go (inr other) =
+              before_that (so_far.gone q (sym (get_left now.purge name q other) ∙ ap (λ (m : Keys). map.get m q) (sym list) ∙ off)) (ap (λ (m : Objects). map.get m q) objects ∙ get_left now.objects name q other)
+
+      fewer : map.len new.purge < map.len now.purge
+      fewer =
+          let less : map.len new.purge ≡ map.len now.purge - 1 = ap (λ (m : Keys). map.len m) list ∙ len-remove nat_list_cmp_total now.purge name ∙ ap (λ b. cond {A = ℕ} b (map.len now.purge - 1) (map.len now.purge)) stands in
+          let one = ltb-true 0 (map.len now.purge) some in
+          omega (arith, less, one)
+
+  pub purged_more : PurgesName now new before after (first_name now.purge) (Ok tt) → ArePurged old new × (map.len new.purge < map.len now.purge)
+  purged_more is = go (first_name now.purge) refl is
+    where
+      go : (o : Option (List ℕ)) → first_name now.purge ≡ o → PurgesName now new before after o (Ok tt) → ArePurged old new × (map.len new.purge < map.len now.purge)
+      go None none done = let one = ltb-true 0 (map.len now.purge) some in let nothing = none_first now.purge none in absurd (omega (arith, one, nothing))
+      go (Some name) first (left, tree) = one_more name first left tree
