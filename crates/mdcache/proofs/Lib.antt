@@ -17,6 +17,7 @@ pub mod GatherLaws
 pub mod GoingLaws
 pub mod GoneLaws
 pub mod HomeLaws
+pub mod JoblessLaws
 pub mod JoinLaws
 pub mod JoinSteps
 pub mod KeepSteps

@@ -42,6 +42,10 @@ pub record ArePurged (old new : State) : Type 0 where
   pub others : (name : List ℕ) → map.get old.purge name ≡ None → (map.get new.objects name ≡ map.get old.objects name) × (map.get new.purge name ≡ None)
   pub gone : (name : List ℕ) → map.get new.purge name ≡ None → (map.get old.purge name ≡ None) ⊎ (map.get new.objects name ≡ None)
 
+-- where no tree object of a directory is to be removed, what was flushed stays so
+abbrev pub PurgesKeepFlushed : Type 0
+PurgesKeepFlushed = (old new : State) → IsFlushed old → ((dir : Ino) → is_known old.homes dir.0 ≡ true → map.get old.purge (tree_text dir) ≡ None) → ArePurged old new → IsFlushed new
+
 -- ---- commits of whole fragments
 
 -- the job stands, and has the fragment as it is still: its names are all dirty ones

@@ -1,11 +1,12 @@
 //! Laws of what a flush ends in, each the contract of a function that does nothing.
-ghost use Rattle.mdcache.specs.Flushed.{BegunAreAtHand, BegunLeaveAtHand, EndedAreClean, FlushedIsCold, OthersStayAtHand, PurgedAreExact};
+ghost use Rattle.mdcache.specs.Flushed.{BegunAreAtHand, BegunLeaveAtHand, EndedAreClean, FlushedIsCold, OthersStayAtHand, PurgedAreExact, PurgesKeepFlushed};
 
 /// Where nothing is unsaved, and the tree objects are as the leaves are, the store's cold tree is the shown tree; and once all is
-/// purged its objects are exactly those of the leaves and of the trees of several leaves.
+/// purged its objects are exactly those of the leaves and of the trees of several leaves. Purges leave it so.
 pub fn flushed_is_cold()
     ensures cold { FlushedIsCold }
     ensures exact { PurgedAreExact }
+    ensures purged { PurgesKeepFlushed }
 {}
 
 /// A commit of a fragment that wasn't changed since it began leaves the fragment clean, and other such commits as they are.
