@@ -21,6 +21,7 @@ pub mod JoblessLaws
 pub mod JoinLaws
 pub mod JoinSteps
 pub mod KeepSteps
+pub mod KeptTree
 pub mod ListedLaws
 pub mod MergeNames
 pub mod MergeSteps
@@ -39,6 +40,7 @@ pub mod PutLaws
 pub mod RegroupLaws
 pub mod RegroupReady
 pub mod RoomLaws
+pub mod SavedTreeLaws
 pub mod ShownLaws
 pub mod SoundLaws
 pub mod SplitLaws

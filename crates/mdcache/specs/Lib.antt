@@ -17,6 +17,7 @@ pub mod Reads
 pub mod Ready
 pub mod Regrouping
 pub mod Regroups
+pub mod SavedTrees
 pub mod Shown
 pub mod Sound
 pub mod Splits

@@ -5,11 +5,13 @@ ghost use Rattle.std.specs.Result.{result_err};
 ghost use Rattle.objstore.specs.Objects.{MayRefuse, faults_told};
 ghost use Rattle.mdcache.specs.Core.{IsSoundCore, state_of};
 ghost use Rattle.mdcache.specs.Flushed.{ArePurged};
+ghost use Rattle.mdcache.specs.SavedTrees.{HasTrees, SavesTrees};
 
 use crate::mdcache::MdCache;
 use crate::standing_jobs::StandingJobs;
 use mds_types::Refusal;
 use objstore::Store;
+use std::alloc::Global;
 
 impl<S: Store + Drop> MdCache<S> {
     /// Gives up all commits that were begun; all that they would have written stays dirty. Takes no memory.
@@ -38,6 +40,23 @@ impl<S: Store + Drop> MdCache<S> {
         purge_each(self)
     }
 
+    /// Makes the object of each directory's tree say what leaves the directory has: it is written, if there are several and the
+    /// object isn't so already, and removed, if there is one. Their names leave the purge list. Takes memory for one object
+    /// after the other.
+    ///
+    /// Refused as the store refuses, and `NoMemory`. Some directories' objects are up to date then, the others as they were.
+    pub fn save_trees(&mut self, alloc: Global) -> Result<(), Refusal>
+        requires { IsSoundCore self.old }
+        ensures all { OnOk result (HasTrees (state_of self.new)) }
+        ensures saved { SavesTrees (state_of self.old) (state_of self.new) }
+        ensures caches { self.new.caches ≡ self.old.caches }
+        ensures refused { IfErr result (MayRefuse self.old.faults self.new.faults) }
+        ensures counted { self.new.faults ≡ self.old.faults + faults_told (result_err result) }
+        ensures sound { IsSoundCore self.new }
+    {
+        save_each(self, alloc)
+    }
+
     // Whether an object is to be removed.
     fn has_purges(&self) -> bool
         ensures { result ≡ nat_lt 0 (map.len self.now.purge) }
@@ -60,6 +79,26 @@ fn purge_each<S: Store + Drop>(tree: &mut MdCache<S>) -> Result<(), Refusal>
         if let Err(refusal) = tree.purge() {
             return Err(refusal);
         }
+    }
+    Ok(())
+}
+
+// Brings the objects of directories' trees up to date, one directory after the other.
+fn save_each<S: Store + Drop>(tree: &mut MdCache<S>, alloc: Global) -> Result<(), Refusal>
+    requires { IsSoundCore tree.old }
+    ensures all { OnOk result (HasTrees (state_of tree.new)) }
+    ensures saved { SavesTrees (state_of tree.old) (state_of tree.new) }
+    ensures caches { tree.new.caches ≡ tree.old.caches }
+    ensures refused { IfErr result (MayRefuse tree.old.faults tree.new.faults) }
+    ensures counted { tree.new.faults ≡ tree.old.faults + faults_told (result_err result) }
+    ensures sound { IsSoundCore tree.new }
+{
+    let mut last = None;
+    while let Some(dir) = tree.dirs().next_dir(last) {
+        if let Err(refusal) = tree.commit_tree(alloc, dir) {
+            return Err(refusal);
+        }
+        last = Some(dir);
     }
     Ok(())
 }

@@ -1,0 +1,62 @@
+-- What each step of a flush keeps.
+use Rattle.std.proofs.Common.{◌≡◌, ◌⊎◌, inl, inr, ℕ, Bool, true, false, cond, ◌==◌, Option, Some, None, refl, sym, ap, subst, ◌∙◌}
+use Rattle.std.specs.FinMap as map
+use Rattle.std.proofs.lemmas.Bool.{eqb-true, eq-eqb}
+use Rattle.cached_frag.specs.Cached.{Cached}
+use Rattle.dentry_cache.specs.Cache.{IsThere, Leaf}
+use Rattle.dentry_cache.specs.CacheMap.{At, CacheMap, at_rank}
+use Rattle.dentry_cache.specs.Came.{Came, NoneEnds}
+use Rattle.dentry_cache.specs.Came.Came.{stays as it_stays}
+use Rattle.dentry_cache.proofs.FrameLaws.{came_held, came_then, came_weaker}
+use Rattle.mdcache.specs.Core.{Core, state_of}
+use Rattle.mdcache.specs.Flushed.{HasFragment, KeepsTree, StepsKeepTree}
+use Rattle.mdcache.specs.Shown.{shown_tree}
+use Rattle.mdcache.specs.State.{State}
+
+-- a fragment that is there is at its rank
+there_at : (r : ℕ) (o : Option At) → IsThere (at_rank r o) → (a : At) × (o ≡ Some a) × (a.rank ≡ r)
+there_at r None there = absurd there
+there_at r (Some a) there = go (a.rank == r) refl there
+  where
+    go : (b : Bool) → (a.rank == r) ≡ b → IsThere (cond b (Some a.frag) None) → (x : At) × (Some a ≡ Some x) × (x.rank ≡ r)
+    go true is there = (a, refl, eqb-true a.rank r is)
+    go false is there = absurd there
+
+at_its_rank : (r : ℕ) (a : At) → a.rank ≡ r → IsThere (at_rank r (Some a))
+at_its_rank r a is = subst (λ b. IsThere (cond b (Some a.frag) None)) (sym (eq-eqb a.rank r is)) tt
+
+-- a fragment that is there after such steps was there before
+module _ (old mid : CacheMap) (came : Came (HasFragment old) NoneEnds old mid) where
+  pub was_there : (r : ℕ) (q : Leaf) → HasFragment mid r q → HasFragment old r q
+  was_there r q there = go (there_at r (map.get mid.held q) there)
+    where
+      by : (a : At) → a.rank ≡ r → (map.get old.held q ≡ Some a) ⊎ HasFragment old a.rank q → HasFragment old r q
+      by a at (inl same) = subst (λ o. IsThere (at_rank r o)) (sym same) (at_its_rank r a at)
+      by a at (inr used) = subst (λ k. HasFragment old k q) at used
+
+      go : (a : At) × (map.get mid.held q ≡ Some a) × (a.rank ≡ r) → HasFragment old r q
+      go (a, is, at) = by a at (came_held (HasFragment old) NoneEnds old mid came q a is)
+
+  pub came_on : (new : CacheMap) → Came (HasFragment mid) NoneEnds mid new → Came (HasFragment old) NoneEnds old new
+  came_on new more = came_then (HasFragment old) NoneEnds old mid new came (came_weaker (HasFragment mid) NoneEnds (HasFragment old) NoneEnds was_there (λ r q ends. ends) mid new more)
+
+pub steps_keep_tree : StepsKeepTree
+steps_keep_tree old mid new first second = record {
+  homes = second.homes ∙ first.homes;
+  covers = second.covers ∙ first.covers;
+  tree = second.tree ∙ first.tree;
+  generation = second.generation ∙ first.generation;
+  version = second.version ∙ first.version;
+  caches = came_on old.caches mid.caches first.caches new.caches second.caches;
+}
+
+-- a step that leaves the caches, and of the state all but objects, jobs and purge list
+pub keeps_tree : (old new : Core) → state_of new ≡ record (state_of old) { objects = new.objects; jobs = new.jobs; purge = new.purge; next_job = new.next_job } → shown_tree (state_of new) ≡ shown_tree (state_of old) → new.caches ≡ old.caches → KeepsTree old new
+keeps_tree old new left tree caches = record {
+  homes = ap (λ (s : State). s.homes) left;
+  covers = ap (λ (s : State). s.covers) left;
+  tree = tree;
+  generation = ap (λ (s : State). s.next_generation) left;
+  version = ap (λ (s : State). s.next_version) left;
+  caches = subst (λ c. Came (HasFragment old.caches) NoneEnds old.caches c) (sym caches) it_stays;
+}
