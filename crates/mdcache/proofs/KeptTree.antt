@@ -9,7 +9,11 @@ use Rattle.dentry_cache.specs.Came.{Came, NoneEnds}
 use Rattle.dentry_cache.specs.Came.Came.{stays as it_stays}
 use Rattle.dentry_cache.proofs.FrameLaws.{came_held, came_then, came_weaker}
 use Rattle.mdcache.specs.Core.{Core, state_of}
-use Rattle.mdcache.specs.Flushed.{HasFragment, KeepsTree, StepsKeepTree}
+use Rattle.mdcache.specs.Flushed.{ArePurged, HasFragment, KeepsTree, StepsKeepTree}
+use Rattle.mdcache.specs.SavedTrees.{SavesTrees}
+use Rattle.mdcache.specs.StandingJobs.{Jobs}
+use Rattle.objstore.specs.Objects.{Objects}
+use Rattle.objstore.specs.Omap.{Keys}
 use Rattle.mdcache.specs.Shown.{shown_tree}
 use Rattle.mdcache.specs.State.{State}
 
@@ -50,13 +54,23 @@ steps_keep_tree old mid new first second = record {
   caches = came_on old.caches mid.caches first.caches new.caches second.caches;
 }
 
--- a step that leaves the caches, and of the state all but objects, jobs and purge list
-pub keeps_tree : (old new : Core) → state_of new ≡ record (state_of old) { objects = new.objects; jobs = new.jobs; purge = new.purge; next_job = new.next_job } → shown_tree (state_of new) ≡ shown_tree (state_of old) → new.caches ≡ old.caches → KeepsTree old new
-keeps_tree old new left tree caches = record {
-  homes = ap (λ (s : State). s.homes) left;
-  covers = ap (λ (s : State). s.covers) left;
-  tree = tree;
-  generation = ap (λ (s : State). s.next_generation) left;
-  version = ap (λ (s : State). s.next_version) left;
-  caches = subst (λ c. Came (HasFragment old.caches) NoneEnds old.caches c) (sym caches) it_stays;
-}
+-- a step that leaves the caches, and of the state all but objects, jobs, purge list and the next job's number
+module _ (old new : Core) (caches : new.caches ≡ old.caches) where
+  pub keeps_tree : (objects : Objects) (jobs : Jobs) (purge : Keys) (next : ℕ) → state_of new ≡ record (state_of old) { objects = objects; jobs = jobs; purge = purge; next_job = next } → shown_tree (state_of new) ≡ shown_tree (state_of old) → KeepsTree old new
+  keeps_tree objects jobs purge next left tree = record {
+    homes = ap (λ (s : State). s.homes) left;
+    covers = ap (λ (s : State). s.covers) left;
+    tree = tree;
+    generation = ap (λ (s : State). s.next_generation) left;
+    version = ap (λ (s : State). s.next_version) left;
+    caches = subst (λ c. Came (HasFragment old.caches) NoneEnds old.caches c) (sym caches) it_stays;
+  }
+
+  pub saved_keeps : SavesTrees (state_of old) (state_of new) → KeepsTree old new
+  saved_keeps saved = keeps_tree new.objects old.jobs new.purge old.next_job saved.left saved.tree
+
+  pub purged_keeps : ArePurged (state_of old) (state_of new) → KeepsTree old new
+  purged_keeps purged = keeps_tree new.objects old.jobs new.purge old.next_job purged.left purged.tree
+
+  pub jobless_keeps : state_of new ≡ record (state_of old) { jobs = map.empty } → KeepsTree old new
+  jobless_keeps left = keeps_tree old.objects map.empty old.purge old.next_job left (ap shown_tree left)

@@ -4,7 +4,7 @@ ghost use Rattle.std.specs.FinMap as map;
 ghost use Rattle.std.specs.Result.{result_err};
 ghost use Rattle.objstore.specs.Objects.{MayRefuse, faults_told};
 ghost use Rattle.mdcache.specs.Core.{IsSoundCore, state_of};
-ghost use Rattle.mdcache.specs.Flushed.{ArePurged};
+ghost use Rattle.mdcache.specs.Flushed.{ArePurged, KeepsTree};
 ghost use Rattle.mdcache.specs.SavedTrees.{HasTrees, SavesTrees};
 
 use crate::mdcache::MdCache;
@@ -18,6 +18,7 @@ impl<S: Store + Drop> MdCache<S> {
     pub fn drop_jobs(&mut self)
         requires { IsSoundCore self.old }
         ensures state { state_of self.new ≡ record (state_of self.old) { jobs = map.empty } }
+        ensures tree { KeepsTree self.old self.new }
         ensures caches { self.new.caches ≡ self.old.caches }
         ensures faults { self.new.faults ≡ self.old.faults }
         ensures sound { IsSoundCore self.new }
@@ -32,6 +33,7 @@ impl<S: Store + Drop> MdCache<S> {
         requires { IsSoundCore self.old }
         ensures all { OnOk result (self.new.purge ≡ map.empty) }
         ensures purged { ArePurged (state_of self.old) (state_of self.new) }
+        ensures tree { KeepsTree self.old self.new }
         ensures caches { self.new.caches ≡ self.old.caches }
         ensures refused { IfErr result (MayRefuse self.old.faults self.new.faults) }
         ensures counted { self.new.faults ≡ self.old.faults + faults_told (result_err result) }
@@ -49,6 +51,7 @@ impl<S: Store + Drop> MdCache<S> {
         requires { IsSoundCore self.old }
         ensures all { OnOk result (HasTrees (state_of self.new)) }
         ensures saved { SavesTrees (state_of self.old) (state_of self.new) }
+        ensures tree { KeepsTree self.old self.new }
         ensures caches { self.new.caches ≡ self.old.caches }
         ensures refused { IfErr result (MayRefuse self.old.faults self.new.faults) }
         ensures counted { self.new.faults ≡ self.old.faults + faults_told (result_err result) }
