@@ -26,7 +26,7 @@ there_at r (Some a) there = go (a.rank == r) refl there
     go true is there = (a, refl, eqb-true a.rank r is)
     go false is there = absurd there
 
-at_its_rank : (r : ℕ) (a : At) → a.rank ≡ r → IsThere (at_rank r (Some a))
+pub at_its_rank : (r : ℕ) (a : At) → a.rank ≡ r → IsThere (at_rank r (Some a))
 at_its_rank r a is = subst (λ b. IsThere (cond b (Some a.frag) None)) (sym (eq-eqb a.rank r is)) tt
 
 -- a fragment that is there after such steps was there before

@@ -1,4 +1,5 @@
 pub mod AtHandLaws
+pub mod BatchLaws
 pub mod BeginSteps
 pub mod BesideLaws
 pub mod ChangeLaws

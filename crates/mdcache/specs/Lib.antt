@@ -1,3 +1,4 @@
+pub mod Batches
 pub mod CacheReads
 pub mod Changes
 pub mod Commits

@@ -43,6 +43,7 @@ mod split_plan;
 mod splitting;
 
 // commits, evictions, and the store's objects
+mod batches;
 mod beginning;
 mod dropping;
 mod ending;

@@ -1,0 +1,58 @@
+//! Commits of several fragments at once, as a flush makes them.
+ghost use Rattle.std.specs.Prelude.{◌≡◌, ◌+◌, None, Some, Ok, OnOk, OnErr, IfOk, IfErr};
+ghost use Rattle.std.specs.FinMap as map;
+ghost use Rattle.std.specs.Result.{result_err};
+ghost use Rattle.objstore.specs.Objects.{MayRefuse, faults_told};
+ghost use Rattle.mds_types.specs.Leaf.{leaf_of};
+ghost use Rattle.mdcache.specs.Batches.{IsUncleanAt, MayNotBeginOne};
+ghost use Rattle.mdcache.specs.Commits.{Begins, IsEnded, leaf_of as job_leaf};
+ghost use Rattle.mdcache.specs.Core.{IsSoundCore, state_of};
+ghost use Rattle.mdcache.specs.Flushed.{IsAtHand, KeepsTree};
+ghost use Rattle.mdcache.specs.Ranks.{MayHold};
+
+use crate::mdcache::MdCache;
+use cached_frag::{Encoded, Job};
+use mds_types::{Dirfrag, Rank, Refusal};
+use objstore::Store;
+use std::alloc::Global;
+
+impl<S: Store + Drop> MdCache<S> {
+    // Begins a commit of a leaf that isn't clean and for which no job stands. Takes memory for the snapshot, twice.
+    pub(crate) fn begin_one(&mut self, at: &Dirfrag) -> Result<Job, Refusal>
+        requires sound { IsSoundCore self.old }
+        requires unclean { IsUncleanAt self.old.caches at.now }
+        requires free { map.get self.old.jobs (leaf_of at.now) ≡ None }
+        ensures begun { IfOk result (λ job. Begins (state_of self.old) (state_of self.new) (leaf_of at.now) (Ok (Some job))) }
+        ensures left { OnErr result (state_of self.new ≡ state_of self.old) }
+        ensures tree { KeepsTree self.old self.new }
+        ensures refused { IfErr result (MayNotBeginOne (state_of self.old) (leaf_of at.now)) }
+        ensures faults { self.new.faults ≡ self.old.faults }
+        ensures sound { IsSoundCore self.new }
+    {
+        match self.begin(at.rank, at.dir, at.frag) {
+            Ok(Some(job)) => Ok(job),
+            Ok(None) => unreachable!(),
+            Err(refusal) => Err(refusal),
+        }
+    }
+
+    // Ends a commit of a leaf whose fragment hasn't changed since it began: it is clean then. Takes memory before it writes.
+    pub(crate) fn end_one(
+        &mut self,
+        alloc: Global,
+        rank: Rank,
+        encoded: &Encoded,
+    ) -> Result<(), Refusal>
+        requires sound { IsSoundCore self.old }
+        requires holds { MayHold self.old.caches rank (job_leaf encoded.now.job) }
+        requires begun { IsAtHand (state_of self.old) encoded.now.job }
+        ensures ended { OnOk result (IsEnded (state_of self.old) (state_of self.new) encoded.now.job) }
+        ensures left { OnErr result (state_of self.new ≡ state_of self.old) }
+        ensures tree { KeepsTree self.old self.new }
+        ensures refused { IfErr result (MayRefuse self.old.faults self.new.faults) }
+        ensures counted { self.new.faults ≡ self.old.faults + faults_told (result_err result) }
+        ensures sound { IsSoundCore self.new }
+    {
+        self.end(alloc, rank, encoded)
+    }
+}
