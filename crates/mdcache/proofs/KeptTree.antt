@@ -18,7 +18,7 @@ use Rattle.mdcache.specs.Shown.{shown_tree}
 use Rattle.mdcache.specs.State.{State}
 
 -- a fragment that is there is at its rank
-there_at : (r : ℕ) (o : Option At) → IsThere (at_rank r o) → (a : At) × (o ≡ Some a) × (a.rank ≡ r)
+pub there_at : (r : ℕ) (o : Option At) → IsThere (at_rank r o) → (a : At) × (o ≡ Some a) × (a.rank ≡ r)
 there_at r None there = absurd there
 there_at r (Some a) there = go (a.rank == r) refl there
   where
@@ -43,6 +43,9 @@ module _ (old mid : CacheMap) (came : Came (HasFragment old) NoneEnds old mid) w
 
   pub came_on : (new : CacheMap) → Came (HasFragment mid) NoneEnds mid new → Came (HasFragment old) NoneEnds old new
   came_on new more = came_then (HasFragment old) NoneEnds old mid new came (came_weaker (HasFragment mid) NoneEnds (HasFragment old) NoneEnds was_there (λ r q ends. ends) mid new more)
+
+pub kept_itself : (c : Core) → KeepsTree c c
+kept_itself c = record { homes = refl; covers = refl; tree = refl; generation = refl; version = refl; caches = it_stays }
 
 pub steps_keep_tree : StepsKeepTree
 steps_keep_tree old mid new first second = record {

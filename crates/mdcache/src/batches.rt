@@ -1,10 +1,11 @@
 //! Commits of several fragments at once, as a flush makes them.
-ghost use Rattle.std.specs.Prelude.{◌≡◌, ◌+◌, None, Some, Ok, OnOk, OnErr, IfOk, IfErr};
+ghost use Rattle.std.specs.Prelude.{◌≡◌, ◌+◌, length, None, Some, Ok, OnOk, OnErr, IfOk, IfErr};
+ghost use Rattle.std.specs.List.{AllByRecursion};
 ghost use Rattle.std.specs.FinMap as map;
 ghost use Rattle.std.specs.Result.{result_err};
 ghost use Rattle.objstore.specs.Objects.{MayRefuse, faults_told};
 ghost use Rattle.mds_types.specs.Leaf.{leaf_of};
-ghost use Rattle.mdcache.specs.Batches.{IsUncleanAt, MayNotBeginOne};
+ghost use Rattle.mdcache.specs.Batches.{AreApart, IsBegunAt, IsUncleanAt, MayNotBeginAll, MayNotBeginOne, leaves_at, leaves_of_jobs};
 ghost use Rattle.mdcache.specs.Commits.{Begins, IsEnded, leaf_of as job_leaf};
 ghost use Rattle.mdcache.specs.Core.{IsSoundCore, state_of};
 ghost use Rattle.mdcache.specs.Flushed.{IsAtHand, KeepsTree};
@@ -16,7 +17,46 @@ use mds_types::{Dirfrag, Rank, Refusal};
 use objstore::Store;
 use std::alloc::Global;
 
+/// A job that was begun, and the rank that has its fragment.
+#[derive(Drop)]
+pub(crate) struct Begun {
+    pub rank: Rank,
+    pub job: Job,
+}
+
 impl<S: Store + Drop> MdCache<S> {
+    // Begins a commit of each of these leaves, none of which is clean. Takes memory for the jobs, and for each snapshot twice.
+    pub(crate) fn begin_each(
+        &mut self,
+        alloc: Global,
+        leaves: &[Dirfrag],
+    ) -> Result<Vec<Begun>, Refusal>
+        requires sound { IsSoundCore self.old }
+        requires none { self.old.jobs ≡ map.empty }
+        requires apart { AreApart (leaves_at leaves.now) }
+        requires unclean { AllByRecursion (IsUncleanAt self.old.caches) leaves.now }
+        ensures begun { IfOk result (λ begun. AllByRecursion (IsBegunAt self.new) begun.items) }
+        ensures leaves { IfOk result (λ begun. leaves_of_jobs begun.items ≡ leaves_at leaves.now) }
+        ensures left { state_of self.new ≡ record (state_of self.old) { jobs = self.new.jobs; next_job = self.new.next_job } }
+        ensures tree { KeepsTree self.old self.new }
+        ensures refused { IfErr result (MayNotBeginAll (length leaves.now) (state_of self.old)) }
+        ensures faults { self.new.faults ≡ self.old.faults }
+        ensures sound { IsSoundCore self.new }
+    {
+        let mut begun = Vec::with_capacity(alloc, leaves.len())?;
+        for at in leaves {
+            let job = match self.begin_one(at) {
+                Ok(job) => job,
+                Err(refusal) => return Err(refusal),
+            };
+            let one = Begun { rank: at.rank, job };
+            if begun.push(one).is_err() {
+                return Err(Refusal::NoMemory);
+            }
+        }
+        Ok(begun)
+    }
+
     // Begins a commit of a leaf that isn't clean and for which no job stands. Takes memory for the snapshot, twice.
     pub(crate) fn begin_one(&mut self, at: &Dirfrag) -> Result<Job, Refusal>
         requires sound { IsSoundCore self.old }
