@@ -6,6 +6,7 @@ pub mod ChangeLaws
 pub mod ChangeSteps
 pub mod ChangesMade
 pub mod ChildNames
+pub mod CommittedLaws
 pub mod CoreLaws
 pub mod CountLaws
 pub mod EmptyLaws

@@ -1,5 +1,5 @@
 -- Commits of whole fragments, several at once.
-use Rattle.std.specs.Prelude.{◌≡◌, ◌⊎◌, ℕ, true, is_some, Some, List, [], ◌∷◌, map as list_map}
+use Rattle.std.specs.Prelude.{◌≡◌, ◌⊎◌, ℕ, true, is_some, Some, None, List, [], ◌∷◌, map as list_map}
 use Rattle.std.specs.List.{AllByRecursion}
 use Rattle.std.specs.FinMap as map
 use Rattle.mds_types.specs.Leaf.{leaf_of}
@@ -8,14 +8,16 @@ use Rattle.mds_types.specs.declared.refusals.Refusal.{Refusal}
 use Rattle.mds_types.specs.declared.refusals.Refusal.TheVariants.{NoInodes, NoMemory}
 use Rattle.dentry_cache.specs.Cache.{Leaf, Unsaved}
 use Rattle.dentry_cache.specs.CacheMap.{CacheMap, unclean}
-use Rattle.mdcache.specs.Commits.{LacksNumber, leaf_of as job_leaf}
+use Rattle.mdcache.specs.Commits.{HasSpelled, LacksNumber, leaf_of as job_leaf}
 use Rattle.mdcache.specs.Core.{Core, state_of}
 use Rattle.mdcache.specs.Flushed.{IsAtHand}
 use Rattle.mdcache.specs.Ranks.{MayHold}
 use Rattle.mdcache.specs.Ready.{LacksNumbers}
-use Rattle.mdcache.specs.State.{State}
+use Rattle.mdcache.specs.State.{IsLive, State, text_of}
 use Rattle.mdcache.specs.declared.batches.Begun.{Begun}
-use Rattle.cached_frag.specs.Snap.{IsBelowEnd}
+use Rattle.cached_frag.specs.Snap.{IsBelowEnd, next_version}
+use Rattle.dentry_cache.specs.Loading.{object_of}
+use Rattle.mdcache.specs.Shown.{names_of, shown_tree}
 
 -- a fragment isn't clean, and no other rank than this has it
 pub record IsUncleanAt (caches : CacheMap) (at : Dirfrag) : Type 0 where
@@ -57,3 +59,23 @@ LacksForCommits count s = LacksNumbers count s.next_job ⊎ ((leaf : Leaf) × (u
 
 abbrev pub MayNotBeginAll : ℕ → State → Refusal → Type 0
 MayNotBeginAll count s reason = (reason ≡ NoMemory) ⊎ ((reason ≡ NoInodes) × LacksForCommits count s)
+
+-- ---- what commits of whole fragments leave
+
+-- a leaf is as it was, in what isn't clean and in the store
+abbrev pub IsAsItWas : (old new : State) → Leaf → Type 0
+IsAsItWas old new leaf = (map.get new.unsaved leaf ≡ map.get old.unsaved leaf) × (object_of new.objects leaf.0 leaf.1 ≡ object_of old.objects leaf.0 leaf.1)
+
+-- a leaf that wasn't clean is: its object spells what it showed, one version higher
+pub record IsWritten (old new : State) (leaf : Leaf) : Type 0 where
+  pub unsaved : Unsaved
+  pub was : map.get old.unsaved leaf ≡ Some unsaved
+  pub clean : map.get new.unsaved leaf ≡ None
+  pub spelled : HasSpelled (object_of new.objects leaf.0 leaf.1) (next_version unsaved.base) (names_of old.unsaved old.objects leaf)
+
+-- some leaves were committed whole, and each other is as it was; no objects but those of leaves changed, and beside the jobs nothing else
+pub record CommitsWhole (old new : State) : Type 0 where
+  pub left : new ≡ record old { unsaved = new.unsaved; objects = new.objects; jobs = new.jobs; next_job = new.next_job }
+  pub tree : shown_tree new ≡ shown_tree old
+  pub each : (leaf : Leaf) → IsLive old.homes old.covers leaf → IsAsItWas old new leaf ⊎ IsWritten old new leaf
+  pub others : (name : List ℕ) → ((leaf : Leaf) → IsLive old.homes old.covers leaf → name ≡ text_of leaf → ⊥) → map.get new.objects name ≡ map.get old.objects name

@@ -5,7 +5,7 @@ ghost use Rattle.std.specs.FinMap as map;
 ghost use Rattle.std.specs.Result.{result_err};
 ghost use Rattle.objstore.specs.Objects.{MayRefuse, faults_told};
 ghost use Rattle.mds_types.specs.Leaf.{leaf_of};
-ghost use Rattle.mdcache.specs.Batches.{AreApart, IsBegunAt, IsUncleanAt, MayNotBeginAll, MayNotBeginOne, leaves_at, leaves_of_jobs};
+ghost use Rattle.mdcache.specs.Batches.{AreApart, CommitsWhole, IsBegunAt, IsUncleanAt, MayNotBeginAll, MayNotBeginOne, leaves_at, leaves_of_jobs};
 ghost use Rattle.mdcache.specs.Commits.{Begins, IsEnded, leaf_of as job_leaf};
 ghost use Rattle.mdcache.specs.Core.{IsSoundCore, state_of};
 ghost use Rattle.mdcache.specs.Flushed.{IsAtHand, KeepsTree};
@@ -87,7 +87,7 @@ impl<S: Store + Drop> MdCache<S> {
         requires holds { MayHold self.old.caches rank (job_leaf encoded.now.job) }
         requires begun { IsAtHand (state_of self.old) encoded.now.job }
         ensures ended { OnOk result (IsEnded (state_of self.old) (state_of self.new) encoded.now.job) }
-        ensures left { OnErr result (state_of self.new ≡ state_of self.old) }
+        ensures whole { CommitsWhole (state_of self.old) (state_of self.new) }
         ensures tree { KeepsTree self.old self.new }
         ensures refused { IfErr result (MayRefuse self.old.faults self.new.faults) }
         ensures counted { self.new.faults ≡ self.old.faults + faults_told (result_err result) }
