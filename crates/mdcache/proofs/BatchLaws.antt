@@ -1,5 +1,5 @@
 -- Commits of whole fragments, several at once.
-use Rattle.std.proofs.Common.{◌≡◌, ◌⊎◌, inl, inr, ℕ, ◌+◌, ◌<◌, arith, true, false, List, [], ◌∷◌, ◌++◌, map as list_map, drop, get_or, ◌≤◌, Option, Some, None, Result, Ok, Err, refl, sym, ap, subst, ◌∙◌}
+use Rattle.std.proofs.Common.{◌≡◌, ◌⊎◌, inl, inr, ℕ, zero, suc, cond, ◌-◌, ◌+◌, ◌<◌, arith, true, false, List, [], ◌∷◌, ◌++◌, map as list_map, drop, get_or, ◌≤◌, Option, Some, None, Result, Ok, Err, refl, sym, ap, subst, ◌∙◌}
 use Rattle.std.specs.Prelude.{is_some, length}
 use Rattle.std.specs.List.{AllByRecursion}
 use Rattle.std.proofs.lemmas.List.{append-nil, drop_all, drop_more}
@@ -16,19 +16,21 @@ use Rattle.dentry_cache.specs.CacheMap.{At, CacheMap, IsFree, at_rank, unclean, 
 use Rattle.dentry_cache.specs.Came.{Came, IsThat, NoneEnds}
 use Rattle.dentry_cache.proofs.FrameLaws.{came_held, came_ranks, came_weaker}
 use Rattle.dentry_cache.proofs.UncleanLaws.{get_unclean}
-use Rattle.mdcache.specs.Batches.{AreApart, IsBegunAt, IsUncleanAt, LacksNumberFor, MayNotBeginAll, MayNotBeginOne, NotAmong, leaves_at, leaves_of_jobs}
+use Rattle.mdcache.specs.Batches.{AreApart, IsBegunAt, IsUncleanAt, LacksNumberFor, MayNotBeginAll, MayNotBeginOne, NotAmong, IsReadyAt, leaves_at, leaves_of_jobs, leaves_of_writes, ready_of}
 use Rattle.mdcache.specs.Commits.{Begins, BeginsWith, Ends, IsEnded, MayNotBegin, leaf_of, with_job}
 use Rattle.mdcache.specs.Core.{Core, IsSoundCore, state_of}
 use Rattle.mdcache.specs.Flushed.{HasFragment, IsAtHand, KeepsTree}
 use Rattle.mdcache.specs.Ranks.{MayHold}
 use Rattle.mdcache.specs.Shown.{shown_tree}
 use Rattle.mdcache.specs.Sound.{IsSound}
-use Rattle.mdcache.specs.State.{IsLive, State}
-use Rattle.mdcache.proofs.AtHandLaws.{begun_are_at_hand, begun_leave_at_hand}
+use Rattle.mdcache.specs.State.{IsLive, State, UnsavedLeaves}
+use Rattle.mdcache.proofs.AtHandLaws.{begun_are_at_hand, begun_leave_at_hand, ended_are_clean, others_stay_at_hand}
 use Rattle.mdcache.proofs.KeptTree.{at_its_rank, there_at}
 use Rattle.mdcache.specs.StandingJobs.{Jobs}
 use Rattle.mdcache.specs.declared.batches.Begun.{Begun}
-use Rattle.mds_types.proofs.LeafLaws.{get_beside}
+use Rattle.mdcache.specs.declared.batches.Ready.{Ready}
+use Rattle.mds_types.proofs.LeafLaws.{get_beside, leaf-total}
+use Rattle.std.specs.FinMap.{empty_of_len, get-empty, len-remove}
 
 -- the fragment of a leaf that isn't clean is at the one rank that may hold it
 has_fragment : (c : CacheMap) (rank : Rank) (leaf : Leaf) → MayHold c rank leaf → is_some (map.get (unclean c) leaf) ≡ true → HasFragment c rank.0 leaf
@@ -132,6 +134,10 @@ mapped_push : {A B : Type 0} (f : A → B) (xs : List A) (y : A) (rest : List B)
 mapped_push f [] y rest = refl
 mapped_push f (x ∷ xs) y rest = ap (λ l. f x ∷ l) (mapped_push f xs y rest)
 
+pub map_pushed : {A B : Type 0} (f : A → B) (xs : List A) (y : A) → list_map f (xs ++ y ∷ []) ≡ list_map f xs ++ f y ∷ []
+map_pushed f [] y = refl
+map_pushed f (x ∷ xs) y = ap (λ l. f x ∷ l) (map_pushed f xs y)
+
 -- a job stands only for a leaf among these
 abbrev pub StandAmong : Jobs → List Leaf → Type 0
 StandAmong jobs leaves = (q : Leaf) → NotAmong q leaves → map.get jobs q ≡ None
@@ -210,3 +216,46 @@ module _ (all : List Dirfrag) (i : ℕ) (at : Dirfrag) (within : i < length all)
 -- at the end all were begun
 pub all_listed : (all : List Dirfrag) (i : ℕ) (begun : List Begun) → length all ≤ i → leaves_of_jobs begun ++ leaves_at (drop i all) ≡ leaves_at all → leaves_of_jobs begun ≡ leaves_at all
 all_listed all i begun past listed = sym (append-nil (leaves_of_jobs begun)) ∙ ap (λ ds. leaves_of_jobs begun ++ leaves_at ds) (sym (drop_all i all past)) ∙ listed
+
+-- ---- others, while one ends
+
+-- a map that has a key isn't empty
+some_len : (m : UnsavedLeaves) (k : Leaf) → is_some (map.get m k) ≡ true → 0 < map.len m
+some_len m k some = go (map.len m) refl
+  where
+    go : (n : ℕ) → map.len m ≡ n → 0 < n
+    go zero none = let clash : false ≡ true = ap is_some (sym (ap (λ (w : UnsavedLeaves). map.get w k) (empty_of_len m none) ∙ get-empty _ k)) ∙ some in absurd cc
+    go (suc n) is = omega arith
+
+module _ (now new : Core) (one : Ready) (ready_at : IsReadyAt now one) (ended : IsEnded (state_of now) (state_of new) one.encoded.job) (keeps_it : KeepsTree now new) where
+  pub stay_ready : (rs : List Ready) → NotAmong (leaf_of one.encoded.job) (leaves_of_writes rs) → AllByRecursion (IsReadyAt now) rs → AllByRecursion (IsReadyAt new) rs
+  stay_ready [] others all = tt
+  stay_ready (r ∷ rs) (other, others) (it, all) = (
+      record {
+        holds = may_hold_on now.caches new.caches keeps_it.caches r.rank (leaf_of r.encoded.job) it.holds;
+        hand = others_stay_at_hand (state_of now) (state_of new) one.encoded.job r.encoded.job ended other ready_at.hand it.hand;
+      },
+      stay_ready rs others all,
+    )
+
+  pub one_less : map.len (unclean new.caches) + 1 ≡ map.len (unclean now.caches)
+  one_less =
+      let there : is_some (map.get (unclean now.caches) (leaf_of one.encoded.job)) ≡ true = ap is_some ready_at.hand.beside in
+      let less : map.len (unclean new.caches) ≡ map.len (unclean now.caches) - 1 =
+          ap (λ (m : UnsavedLeaves). map.len m) (ended_are_clean (state_of now) (state_of new) one.encoded.job ready_at.hand ended)
+          ∙ len-remove leaf-total (unclean now.caches) (leaf_of one.encoded.job) ∙ ap (λ b. cond {A = ℕ} b (map.len (unclean now.caches) - 1) (map.len (unclean now.caches))) there in
+      let some = some_len (unclean now.caches) (leaf_of one.encoded.job) there in
+      omega (arith, less, some)
+
+-- the writes of a slice
+pub writes_left : (all : List Ready) (i : ℕ) (one : Ready) → i < length all → one ≡ get_or all i one → drop i all ≡ one ∷ drop (i + 1) all
+writes_left all i one within is = drop_more all i one within ∙ ap (λ (r : Ready). r ∷ drop (i + 1) all) (sym is)
+
+-- jobs that were begun are those of their writes
+pub begun_ready : (core : Core) (begun : List Begun) → AllByRecursion (IsBegunAt core) begun → AllByRecursion (IsReadyAt core) (list_map ready_of begun)
+begun_ready core [] all = tt
+begun_ready core (b ∷ begun) (one, all) = (one, begun_ready core begun all)
+
+pub leaves_ready : (begun : List Begun) → leaves_of_writes (list_map ready_of begun) ≡ leaves_of_jobs begun
+leaves_ready [] = refl
+leaves_ready (b ∷ begun) = ap (λ ls. leaf_of b.job ∷ ls) (leaves_ready begun)

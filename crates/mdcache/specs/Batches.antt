@@ -15,7 +15,10 @@ use Rattle.mdcache.specs.Ranks.{MayHold}
 use Rattle.mdcache.specs.Ready.{LacksNumbers}
 use Rattle.mdcache.specs.State.{IsLive, State, text_of}
 use Rattle.mdcache.specs.declared.batches.Begun.{Begun}
+use Rattle.mdcache.specs.declared.batches.Ready.{Ready}
+use Rattle.cached_frag.specs.Commit.{carried}
 use Rattle.cached_frag.specs.Snap.{IsBelowEnd, next_version}
+use Rattle.objstore.specs.Objects.{MayRefuse}
 use Rattle.dentry_cache.specs.Loading.{object_of}
 use Rattle.mdcache.specs.Shown.{names_of, shown_tree}
 
@@ -44,6 +47,17 @@ pub record IsBegunAt (core : Core) (b : Begun) : Type 0 where
   pub holds : MayHold core.caches b.rank (job_leaf b.job)
   pub hand : IsAtHand (state_of core) b.job
 
+-- the write of a job that was begun
+abbrev pub ready_of : Begun → Ready
+ready_of b = record { rank = b.rank; encoded = carried b.job }
+
+abbrev pub leaves_of_writes : List Ready → List Leaf
+leaves_of_writes ready = list_map (λ (r : Ready). job_leaf r.encoded.job) ready
+
+-- so it is with the job of a write
+abbrev pub IsReadyAt : Core → Ready → Type 0
+IsReadyAt core r = IsBegunAt core (record { rank = r.rank; job = r.encoded.job })
+
 -- no number is left for a job of a leaf that isn't clean, or none for the version that its commit would write
 abbrev pub LacksNumberFor : State → Leaf → Type 0
 LacksNumberFor s leaf = (u : Unsaved) × (map.get s.unsaved leaf ≡ Some u) × LacksNumber s u
@@ -59,6 +73,10 @@ LacksForCommits count s = LacksNumbers count s.next_job ⊎ ((leaf : Leaf) × (u
 
 abbrev pub MayNotBeginAll : ℕ → State → Refusal → Type 0
 MayNotBeginAll count s reason = (reason ≡ NoMemory) ⊎ ((reason ≡ NoInodes) × LacksForCommits count s)
+
+-- why so many leaves aren't all committed: numbers lack, want of memory, or a fault
+abbrev pub MayNotCommit : ℕ → State → (before after : ℕ) → Refusal → Type 0
+MayNotCommit count s before after reason = MayRefuse before after reason ⊎ ((reason ≡ NoInodes) × LacksForCommits count s)
 
 -- ---- what commits of whole fragments leave
 

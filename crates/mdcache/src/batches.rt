@@ -1,11 +1,13 @@
 //! Commits of several fragments at once, as a flush makes them.
-ghost use Rattle.std.specs.Prelude.{◌≡◌, ◌+◌, length, None, Some, Ok, OnOk, OnErr, IfOk, IfErr};
+ghost use Rattle.std.specs.Prelude.{map as list_map, ◌≡◌, ◌+◌, length, None, Some, Ok, OnOk, OnErr, IfOk, IfErr};
 ghost use Rattle.std.specs.List.{AllByRecursion};
 ghost use Rattle.std.specs.FinMap as map;
 ghost use Rattle.std.specs.Result.{result_err};
 ghost use Rattle.objstore.specs.Objects.{MayRefuse, faults_told};
 ghost use Rattle.mds_types.specs.Leaf.{leaf_of};
-ghost use Rattle.mdcache.specs.Batches.{AreApart, CommitsWhole, IsBegunAt, IsUncleanAt, MayNotBeginAll, MayNotBeginOne, leaves_at, leaves_of_jobs};
+ghost use Rattle.mds_types.specs.declared.refusals.Refusal.TheVariants.{NoMemory};
+ghost use Rattle.dentry_cache.specs.CacheMap.{unclean};
+ghost use Rattle.mdcache.specs.Batches.{AreApart, CommitsWhole, IsBegunAt, IsReadyAt, IsUncleanAt, MayNotBeginAll, MayNotBeginOne, MayNotCommit, leaves_at, leaves_of_jobs, leaves_of_writes, ready_of};
 ghost use Rattle.mdcache.specs.Commits.{Begins, IsEnded, leaf_of as job_leaf};
 ghost use Rattle.mdcache.specs.Core.{IsSoundCore, state_of};
 ghost use Rattle.mdcache.specs.Flushed.{IsAtHand, KeepsTree};
@@ -24,7 +26,41 @@ pub(crate) struct Begun {
     pub job: Job,
 }
 
+/// The write of a job that was begun, and the rank that has its fragment.
+#[derive(Drop)]
+pub(crate) struct Ready {
+    pub rank: Rank,
+    pub encoded: Encoded,
+}
+
 impl<S: Store + Drop> MdCache<S> {
+    // Commits each of these leaves, none of which is clean: all begin, all are encoded, and all end. Takes memory for all of them at
+    // once. After a refusal some may be committed, and jobs stand.
+    pub(crate) fn commit_each(&mut self, alloc: Global, leaves: &[Dirfrag]) -> Result<(), Refusal>
+        requires sound { IsSoundCore self.old }
+        requires none { self.old.jobs ≡ map.empty }
+        requires apart { AreApart (leaves_at leaves.now) }
+        requires unclean { AllByRecursion (IsUncleanAt self.old.caches) leaves.now }
+        ensures whole { CommitsWhole (state_of self.old) (state_of self.new) }
+        ensures fewer { OnOk result (map.len (unclean self.new.caches) + length leaves.now ≡ map.len (unclean self.old.caches)) }
+        ensures tree { KeepsTree self.old self.new }
+        ensures refused { IfErr result (MayNotCommit (length leaves.now) (state_of self.old) self.old.faults self.new.faults) }
+        ensures counted { self.new.faults ≡ self.old.faults + faults_told (result_err result) }
+        ensures sound { IsSoundCore self.new }
+    {
+        let begun = match self.begin_each(alloc, leaves) {
+            Ok(begun) => begun,
+            Err(refusal) => return Err(refusal),
+        };
+        let ready = match encode_each(alloc, begun) {
+            Ok(ready) => ready,
+            Err(refusal) => return Err(refusal),
+        };
+        let ended = self.end_each(alloc, ready.as_slice());
+        drop(ready);
+        ended
+    }
+
     // Begins a commit of each of these leaves, none of which is clean. Takes memory for the jobs, and for each snapshot twice.
     pub(crate) fn begin_each(
         &mut self,
@@ -55,6 +91,26 @@ impl<S: Store + Drop> MdCache<S> {
             }
         }
         Ok(begun)
+    }
+
+    // Ends each of these commits, of fragments that haven't changed since: they are clean then. Takes memory before each write.
+    pub(crate) fn end_each(&mut self, alloc: Global, ready: &[Ready]) -> Result<(), Refusal>
+        requires sound { IsSoundCore self.old }
+        requires begun { AllByRecursion (IsReadyAt self.old) ready.now }
+        requires apart { AreApart (leaves_of_writes ready.now) }
+        ensures whole { CommitsWhole (state_of self.old) (state_of self.new) }
+        ensures fewer { OnOk result (map.len (unclean self.new.caches) + length ready.now ≡ map.len (unclean self.old.caches)) }
+        ensures tree { KeepsTree self.old self.new }
+        ensures refused { IfErr result (MayRefuse self.old.faults self.new.faults) }
+        ensures counted { self.new.faults ≡ self.old.faults + faults_told (result_err result) }
+        ensures sound { IsSoundCore self.new }
+    {
+        for one in ready {
+            if let Err(refusal) = self.end_one(alloc, one.rank, &one.encoded) {
+                return Err(refusal);
+            }
+        }
+        Ok(())
     }
 
     // Begins a commit of a leaf that isn't clean and for which no job stands. Takes memory for the snapshot, twice.
@@ -95,4 +151,20 @@ impl<S: Store + Drop> MdCache<S> {
     {
         self.end(alloc, rank, encoded)
     }
+}
+
+// The writes of jobs, in their order. Takes memory for them, and is refused for want of it alone.
+fn encode_each(alloc: Global, begun: Vec<Begun>) -> Result<Vec<Ready>, Refusal>
+    ensures encoded { IfOk result (λ ready. ready.items ≡ list_map ready_of begun.items) }
+    ensures refused { IfErr result (λ reason. reason ≡ NoMemory) }
+{
+    let mut ready = Vec::with_capacity(alloc, begun.len())?;
+    for one in begun {
+        let encoded = Encoded::of(alloc, one.job)?;
+        let rank = one.rank;
+        if ready.push(Ready { rank, encoded }).is_err() {
+            return Err(Refusal::NoMemory);
+        }
+    }
+    Ok(ready)
 }
