@@ -22,6 +22,7 @@ use Rattle.mdcache.specs.Commits.{Ends, HasSpelled, IsEnded, leaf_of, names_then
 use Rattle.mdcache.specs.Flushed.{IsAtHand}
 use Rattle.mdcache.specs.Shown.{names_of, shown_at, shown_tree}
 use Rattle.mdcache.specs.Sound.{IsSound}
+use Rattle.mdcache.specs.StandingJobs.{Jobs}
 use Rattle.mdcache.specs.State.{IsLive, State, text_of}
 use Rattle.mdcache.proofs.AtHandLaws.{ended_are_clean}
 use Rattle.mdcache.proofs.TextLaws.{one_text}
@@ -34,6 +35,10 @@ jobs_alone old new left = record {
   each = λ leaf live. inl (ap (λ (s : State). map.get s.unsaved leaf) left, ap (λ (s : State). object_of s.objects leaf.0 leaf.1) left);
   others = λ name none. ap (λ (s : State). map.get s.objects name) left;
 }
+
+-- jobs that are given up
+pub given_up_whole : (old new : State) (jobs : Jobs) (n : ℕ) → new ≡ record old { jobs = jobs; next_job = n } → CommitsWhole old new
+given_up_whole old new jobs n left = jobs_alone old new (left ∙ (λ i. record old { jobs = sym (ap (λ (s : State). s.jobs) left) i; next_job = sym (ap (λ (s : State). s.next_job) left) i }))
 
 -- what a leaf shows, where it is as it was
 shows_as : (old new : State) (leaf : Leaf) → IsAsItWas old new leaf → names_of new.unsaved new.objects leaf ≡ names_of old.unsaved old.objects leaf

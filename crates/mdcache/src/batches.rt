@@ -14,6 +14,7 @@ ghost use Rattle.mdcache.specs.Flushed.{IsAtHand, KeepsTree};
 ghost use Rattle.mdcache.specs.Ranks.{MayHold};
 
 use crate::mdcache::MdCache;
+use crate::standing_jobs::StandingJobs;
 use cached_frag::{Encoded, Job};
 use mds_types::{Dirfrag, Rank, Refusal};
 use objstore::Store;
@@ -34,6 +35,47 @@ pub(crate) struct Ready {
 }
 
 impl<S: Store + Drop> MdCache<S> {
+    // Commits each of these leaves, none of which is clean. Takes memory for all of them at once. Whatever it answers no job stands
+    // then, and the next one gets the number that it would have got before.
+    pub(crate) fn commit_batch(&mut self, alloc: Global, leaves: &[Dirfrag]) -> Result<(), Refusal>
+        requires sound { IsSoundCore self.old }
+        requires none { self.old.jobs ≡ map.empty }
+        requires apart { AreApart (leaves_at leaves.now) }
+        requires unclean { AllByRecursion (IsUncleanAt self.old.caches) leaves.now }
+        ensures whole { CommitsWhole (state_of self.old) (state_of self.new) }
+        ensures jobs { self.new.jobs ≡ map.empty }
+        ensures number { self.new.next_job ≡ self.old.next_job }
+        ensures fewer { OnOk result (map.len (unclean self.new.caches) + length leaves.now ≡ map.len (unclean self.old.caches)) }
+        ensures tree { KeepsTree self.old self.new }
+        ensures refused { IfErr result (MayNotCommit (length leaves.now) (state_of self.old) self.old.faults self.new.faults) }
+        ensures counted { self.new.faults ≡ self.old.faults + faults_told (result_err result) }
+        ensures sound { IsSoundCore self.new }
+    {
+        let number = self.next_job();
+        let done = self.commit_each(alloc, leaves);
+        self.give_up_from(number);
+        done
+    }
+
+    // The number that the next job gets.
+    fn next_job(&self) -> u64
+        ensures { result ≡ self.now.next_job }
+    {
+        self.next.job
+    }
+
+    // Gives up all jobs; the next one gets this number. Takes no memory.
+    fn give_up_from(&mut self, number: u64)
+        requires { IsSoundCore self.old }
+        ensures state { state_of self.new ≡ record (state_of self.old) { jobs = map.empty; next_job = number } }
+        ensures caches { self.new.caches ≡ self.old.caches }
+        ensures faults { self.new.faults ≡ self.old.faults }
+        ensures sound { IsSoundCore self.new }
+    {
+        self.jobs = StandingJobs::new(self.alloc);
+        self.next.job = number;
+    }
+
     // Commits each of these leaves, none of which is clean: all begin, all are encoded, and all end. Takes memory for all of them at
     // once. After a refusal some may be committed, and jobs stand.
     pub(crate) fn commit_each(&mut self, alloc: Global, leaves: &[Dirfrag]) -> Result<(), Refusal>
