@@ -13,6 +13,7 @@ pub mod EmptyLaws
 pub mod EndLaws
 pub mod EndSteps
 pub mod FetchSteps
+pub mod FlushSteps
 pub mod FlushedLaws
 pub mod FragsLaws
 pub mod GatherLaws

@@ -3,8 +3,10 @@ ghost use Rattle.std.specs.Prelude.{◌≡◌, ◌+◌, nat_lt, OnOk, IfErr};
 ghost use Rattle.std.specs.FinMap as map;
 ghost use Rattle.std.specs.Result.{result_err};
 ghost use Rattle.objstore.specs.Objects.{MayRefuse, faults_told};
-ghost use Rattle.mdcache.specs.Core.{IsSoundCore, state_of};
-ghost use Rattle.mdcache.specs.Flushed.{ArePurged, KeepsTree};
+ghost use Rattle.dentry_cache.specs.CacheMap.{unclean};
+ghost use Rattle.cold_store.specs.ColdTree.{IsColdTree};
+ghost use Rattle.mdcache.specs.Core.{IsSoundCore, shown_in, state_of};
+ghost use Rattle.mdcache.specs.Flushed.{AreExact, ArePurged, IsFlushed, KeepsTree};
 ghost use Rattle.mdcache.specs.SavedTrees.{HasTrees, SavesTrees};
 
 use crate::mdcache::MdCache;
@@ -58,6 +60,29 @@ impl<S: Store + Drop> MdCache<S> {
         ensures sound { IsSoundCore self.new }
     {
         save_each(self, alloc)
+    }
+
+    /// Brings the store's objects up to date where nothing is unsaved: those of directories' trees, and all that are to be
+    /// removed. The store's cold tree is the shown tree then, and it has no objects but those of leaves and of trees of several
+    /// leaves. Takes memory for one object after the other.
+    ///
+    /// Refused as the store refuses, and `NoMemory`. Part of it may be done then.
+    pub fn flush_objects(&mut self, alloc: Global) -> Result<(), Refusal>
+        requires sound { IsSoundCore self.old }
+        requires clean { unclean self.old.caches ≡ map.empty }
+        ensures flushed { OnOk result (IsFlushed (state_of self.new)) }
+        ensures cold { OnOk result (IsColdTree self.new.objects (shown_in self.old)) }
+        ensures exact { OnOk result (AreExact (state_of self.new)) }
+        ensures caches { self.new.caches ≡ self.old.caches }
+        ensures tree { KeepsTree self.old self.new }
+        ensures refused { IfErr result (MayRefuse self.old.faults self.new.faults) }
+        ensures counted { self.new.faults ≡ self.old.faults + faults_told (result_err result) }
+        ensures sound { IsSoundCore self.new }
+    {
+        if let Err(refusal) = self.save_trees(alloc) {
+            return Err(refusal);
+        }
+        self.purge_all()
     }
 
     // Whether an object is to be removed.
