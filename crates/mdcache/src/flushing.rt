@@ -79,10 +79,10 @@ impl<S: Store + Drop> MdCache<S> {
         ensures counted { self.new.faults ≡ self.old.faults + faults_told (result_err result) }
         ensures sound { IsSoundCore self.new }
     {
-        if let Err(refusal) = self.save_trees(alloc) {
-            return Err(refusal);
+        match self.save_trees(alloc) {
+            Ok(()) => self.purge_all(),
+            Err(refusal) => Err(refusal),
         }
-        self.purge_all()
     }
 
     // Whether an object is to be removed.
@@ -123,8 +123,8 @@ fn save_each<S: Store + Drop>(tree: &mut MdCache<S>, alloc: Global) -> Result<()
 {
     let mut last = None;
     while let Some(dir) = tree.dirs().next_dir(last) {
-        if let Err(refusal) = tree.commit_tree(alloc, dir) {
-            return Err(refusal);
+        if let Err(reason) = tree.commit_tree(alloc, dir) {
+            return Err(reason);
         }
         last = Some(dir);
     }

@@ -20,8 +20,8 @@ loop-dir-init g c = record {
 pub returns-in-Err-clause-refused : goal.returns-in-Err-clause-refused
 returns-in-Err-clause-refused g c =
     let first = ap (λ h. slice_get (dirs_after h c.loop-dir.last) 0) (sym c.dirs.ensures.homes) ∙ sym c.in-Some.ensures in
-    subst (λ n. MayRefuse n c.commit_tree.new.self.faults c.in-Err.refusal) c.loop-dir.invariant.faults
-    (turn_refused (state_of c.loop-dir.tree) c.loop-dir.invariant.sound.sound c.loop-dir.last c.in-Some.dir first (state_of c.commit_tree.new.self) c.loop-dir.tree.faults c.commit_tree.new.self.faults c.in-Err.refusal c.in-Err.ensures.saved)
+    subst (λ n. MayRefuse n c.commit_tree.new.self.faults c.in-Err.reason) c.loop-dir.invariant.faults
+    (turn_refused (state_of c.loop-dir.tree) c.loop-dir.invariant.sound.sound c.loop-dir.last c.in-Some.dir first (state_of c.commit_tree.new.self) c.loop-dir.tree.faults c.commit_tree.new.self.faults c.in-Err.reason c.in-Err.ensures.saved)
 
 pub loop-dir-smaller : goal.loop-dir-smaller
 loop-dir-smaller g c =
