@@ -1,10 +1,12 @@
 //! The leaves of fragments that aren't clean.
-ghost use Rattle.std.specs.Prelude.{◌≡◌, ◌≤◌, ◌++◌, length, take, OnOk};
-ghost use Rattle.dentry_cache.specs.Unclean.{is_unclean, unclean_in};
+ghost use Rattle.std.specs.Prelude.{◌≡◌, ◌≤◌, ◌++◌, length, take, OnOk, IfOk};
+ghost use Rattle.dentry_cache.specs.CacheMap.{AreCaches};
+ghost use Rattle.dentry_cache.specs.Unclean.{is_unclean, unclean_in, unclean_places};
 
 use crate::cache::{Cache, Place};
+use crate::caches::Caches;
 use mds_types::{Dirfrag, Rank};
-use std::alloc::AllocError;
+use std::alloc::{AllocError, Global};
 
 impl Place {
     // Whether it has a fragment that isn't clean.
@@ -38,5 +40,21 @@ impl Cache {
             }
         }
         Ok(())
+    }
+}
+
+impl Caches {
+    /// The leaves of fragments that aren't clean, each with the rank that has it: rank after rank, and of each the most recently used
+    /// first. No more than so many. Takes memory for them; each place is looked at.
+    pub fn unclean_leaves(&self, alloc: Global, most: usize) -> Result<Vec<Dirfrag>, AllocError>
+        requires { length self.now.used ≤ 256 }
+        ensures leaves { IfOk result (λ leaves. leaves.items ≡ take most (unclean_places self.now)) }
+        ensures valid { AreCaches self.now }
+    {
+        let mut leaves = Vec::new(alloc);
+        for index in 0..self.caches.len() {
+            self.caches[index].add_unclean(Rank(index as u8), most, &mut leaves)?;
+        }
+        Ok(leaves)
     }
 }
