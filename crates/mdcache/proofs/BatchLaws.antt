@@ -16,7 +16,7 @@ use Rattle.dentry_cache.specs.CacheMap.{At, CacheMap, IsFree, at_rank, unclean, 
 use Rattle.dentry_cache.specs.Came.{Came, IsThat, NoneEnds}
 use Rattle.dentry_cache.proofs.FrameLaws.{came_held, came_ranks, came_weaker}
 use Rattle.dentry_cache.proofs.UncleanLaws.{get_unclean}
-use Rattle.mdcache.specs.Batches.{AreApart, IsBegunAt, IsUncleanAt, LacksNumberFor, MayNotBeginAll, MayNotBeginOne, NotAmong, IsReadyAt, leaves_at, leaves_of_jobs, leaves_of_writes, ready_of}
+use Rattle.mdcache.specs.Batches.{AreApart, IsBegunAt, IsUncleanAt, LacksNumberFor, MayNotBeginAll, MayNotBeginOne, MayNotCommit, NotAmong, IsReadyAt, leaves_at, leaves_of_jobs, leaves_of_writes, ready_of}
 use Rattle.mdcache.specs.Commits.{Begins, BeginsWith, Ends, IsEnded, MayNotBegin, leaf_of, with_job}
 use Rattle.mdcache.specs.Core.{Core, IsSoundCore, state_of}
 use Rattle.mdcache.specs.Flushed.{HasFragment, IsAtHand, KeepsTree}
@@ -259,3 +259,9 @@ begun_ready core (b ∷ begun) (one, all) = (one, begun_ready core begun all)
 pub leaves_ready : (begun : List Begun) → leaves_of_writes (list_map ready_of begun) ≡ leaves_of_jobs begun
 leaves_ready [] = refl
 leaves_ready (b ∷ begun) = ap (λ ls. leaf_of b.job ∷ ls) (leaves_ready begun)
+
+-- more leaves may lack what fewer lack
+pub more_lack : (n m : ℕ) (s : State) (before after : ℕ) (reason : Refusal) → n ≤ m → MayNotCommit n s before after reason → MayNotCommit m s before after reason
+more_lack n m s before after reason less (inl may) = inl may
+more_lack n m s before after reason less (inr (no_number, inl lacks)) = inr (no_number, inl (omega (arith, less, lacks)))
+more_lack n m s before after reason less (inr (no_number, inr version)) = inr (no_number, inr version)

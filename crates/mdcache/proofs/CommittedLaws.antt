@@ -1,6 +1,7 @@
 -- Commits of whole fragments, one after the other.
-use Rattle.std.proofs.Common.{◌≡◌, ◌⊎◌, inl, inr, ℕ, true, false, List, Option, Some, None, Result, Ok, Err, refl, sym, ap, subst, ◌∙◌}
+use Rattle.std.proofs.Common.{◌≡◌, ◌⊎◌, inl, inr, ℕ, ◌+◌, ◌<◌, arith, Bool, cond, true, false, List, Option, Some, None, Result, Ok, Err, refl, sym, ap, subst, ◌∙◌}
 use Rattle.std.specs.FinMap as map
+use Rattle.std.specs.FinMap.{len-empty}
 use Rattle.std.proofs.lemmas.Option.{same_Some}
 use Rattle.mds_types.proofs.LeafLaws.{get_left, get_removed, same_or_apart}
 use Rattle.mds_types.specs.declared.refusals.Refusal.{Refusal}
@@ -14,16 +15,17 @@ use Rattle.cached_frag.specs.Marks.{Marks}
 use Rattle.cached_frag.specs.Snap.{next_version}
 use Rattle.dirfrag_codec.proofs.ByteKeys.{get_beside}
 use Rattle.dirfrag_codec.specs.FragmentObject.{Names}
-use Rattle.dentry_cache.specs.Cache.{Leaf, Unsaved}
+use Rattle.dentry_cache.specs.Cache.{Leaf, Unsaved, leaf_cmp}
 use Rattle.dentry_cache.specs.Loading.{object_of}
 use Rattle.dentry_cache.specs.Ties.{names_at}
-use Rattle.mdcache.specs.Batches.{CommitsWhole, IsAsItWas, IsWritten}
+use Rattle.mdcache.specs.Batches.{CommitsWhole, IsAsItWas, IsWritten, MayNotCommit}
+use Rattle.mdcache.specs.Ready.{LacksNumbers}
 use Rattle.mdcache.specs.Commits.{Ends, HasSpelled, IsEnded, leaf_of, names_then}
 use Rattle.mdcache.specs.Flushed.{IsAtHand}
 use Rattle.mdcache.specs.Shown.{names_of, shown_at, shown_tree}
 use Rattle.mdcache.specs.Sound.{IsSound}
 use Rattle.mdcache.specs.StandingJobs.{Jobs}
-use Rattle.mdcache.specs.State.{IsLive, State, text_of}
+use Rattle.mdcache.specs.State.{IsLive, State, UnsavedLeaves, text_of}
 use Rattle.mdcache.proofs.AtHandLaws.{ended_are_clean}
 use Rattle.mdcache.proofs.TextLaws.{one_text}
 
@@ -139,3 +141,20 @@ module _ (now new : State) (job : Job) (sound : IsSound now) (hand : IsAtHand no
 pub ends_whole : (now new : State) (before after : ℕ) (job : Job) → IsSound now → IsAtHand now job → (result : Result (Unit {0}) Refusal) → Ends now new before after job result → CommitsWhole now new
 ends_whole now new before after job sound hand (Ok done) ended = ended_whole now new job sound hand ended
 ends_whole now new before after job sound hand (Err reason) refused = subst (CommitsWhole now) (sym refused.1) (jobs_alone now now refl)
+
+-- ---- batch after batch
+
+-- what lacks later lacked before
+pub lacked_before : (n : ℕ) (old now : State) (before after : ℕ) (reason : Refusal) → CommitsWhole old now → IsSound now → now.next_job ≡ old.next_job → MayNotCommit n now before after reason → MayNotCommit n old before after reason
+lacked_before n old now before after reason whole sound number (inl may) = inl may
+lacked_before n old now before after reason whole sound number (inr (no_number, inl lacks)) = inr (no_number, inl (subst (LacksNumbers n) number lacks))
+lacked_before n old now before after reason whole sound number (inr (no_number, inr (leaf, u, is, above))) = go (whole.each leaf (subst (λ (s : State). IsLive s.homes s.covers leaf) whole.left (sound.unsaved leaf u is).live))
+  where
+    go : IsAsItWas old now leaf ⊎ IsWritten old now leaf → MayNotCommit n old before after reason
+    go (inl same) = inr (no_number, inr (leaf, u, sym same.0 ∙ is, above))
+    go (inr w) = let clash : None ≡ Some u = sym w.clean ∙ is in absurd cc
+
+-- each turn leaves less to do
+pub turn_ends : (some : Bool) (old new : UnsavedLeaves) → (some ≡ true → map.len new < map.len old) → (some ≡ false → new ≡ map.empty) → map.len new + cond some 1 0 < map.len old + 1
+turn_ends true old new fewer clean = let less = fewer refl in omega (arith, less)
+turn_ends false old new fewer clean = let none : map.len new ≡ 0 = ap (λ (m : UnsavedLeaves). map.len m) (clean refl) ∙ len-empty leaf_cmp Unsaved in omega (arith, none)

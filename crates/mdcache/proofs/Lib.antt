@@ -37,6 +37,7 @@ pub mod NoneLaws
 pub mod NumbersMade
 pub mod ObjectLaws
 pub mod PageLaws
+pub mod PlacesLaws
 pub mod PrepareLaws
 pub mod PurgedLaws
 pub mod PutLaws

@@ -1,5 +1,5 @@
 //! Commits of several fragments at once, as a flush makes them.
-ghost use Rattle.std.specs.Prelude.{map as list_map, ◌≡◌, ◌+◌, length, None, Some, Ok, OnOk, OnErr, IfOk, IfErr};
+ghost use Rattle.std.specs.Prelude.{map as list_map, ◌≤◌, ◌<◌, true, false, [], ◌≡◌, ◌+◌, length, None, Some, Ok, OnOk, OnErr, IfOk, IfErr};
 ghost use Rattle.std.specs.List.{AllByRecursion};
 ghost use Rattle.std.specs.FinMap as map;
 ghost use Rattle.std.specs.Result.{result_err};
@@ -35,6 +35,72 @@ pub(crate) struct Ready {
 }
 
 impl<S: Store + Drop> MdCache<S> {
+    /// Commits each fragment that isn't clean, while no job stands. No more than 1,024 of them are begun at once, and no job stands
+    /// afterwards; the next one gets the number that it would have got before. Takes memory for the snapshots and writes of so many.
+    ///
+    /// Refused `NoInodes` where a fragment's version is used up, or fewer than 1,024 numbers are left for jobs; otherwise as the store
+    /// refuses, and `NoMemory`. What was committed until then is so, and all else is as it was.
+    pub fn commit_all(&mut self, alloc: Global) -> Result<(), Refusal>
+        requires sound { IsSoundCore self.old }
+        requires none { self.old.jobs ≡ map.empty }
+        requires few { length self.old.caches.used ≤ 256 }
+        ensures clean { OnOk result (unclean self.new.caches ≡ map.empty) }
+        ensures whole { CommitsWhole (state_of self.old) (state_of self.new) }
+        ensures jobs { self.new.jobs ≡ map.empty }
+        ensures number { self.new.next_job ≡ self.old.next_job }
+        ensures tree { KeepsTree self.old self.new }
+        ensures refused { IfErr result (MayNotCommit 1024 (state_of self.old) self.old.faults self.new.faults) }
+        ensures counted { self.new.faults ≡ self.old.faults + faults_told (result_err result) }
+        ensures sound { IsSoundCore self.new }
+    {
+        commit_batches(self, alloc)
+    }
+
+    // Commits some leaves that aren't clean, no more than 1,024, and tells whether there were any. Takes memory for them at once.
+    fn commit_some(&mut self, alloc: Global) -> Result<bool, Refusal>
+        requires sound { IsSoundCore self.old }
+        requires none { self.old.jobs ≡ map.empty }
+        requires few { length self.old.caches.used ≤ 256 }
+        ensures fewer { IfOk result (λ some. some ≡ true → map.len (unclean self.new.caches) < map.len (unclean self.old.caches)) }
+        ensures clean { IfOk result (λ some. some ≡ false → unclean self.new.caches ≡ map.empty) }
+        ensures whole { CommitsWhole (state_of self.old) (state_of self.new) }
+        ensures jobs { self.new.jobs ≡ map.empty }
+        ensures number { self.new.next_job ≡ self.old.next_job }
+        ensures tree { KeepsTree self.old self.new }
+        ensures refused { IfErr result (MayNotCommit 1024 (state_of self.old) self.old.faults self.new.faults) }
+        ensures counted { self.new.faults ≡ self.old.faults + faults_told (result_err result) }
+        ensures sound { IsSoundCore self.new }
+    {
+        let leaves = match self.next_batch(alloc) {
+            Ok(leaves) => leaves,
+            Err(refusal) => return Err(refusal),
+        };
+        if leaves.is_empty() {
+            return Ok(false);
+        }
+        let done = self.commit_batch(alloc, leaves.as_slice());
+        drop(leaves);
+        match done {
+            Ok(()) => Ok(true),
+            Err(refusal) => Err(refusal),
+        }
+    }
+
+    // The next leaves to commit: some that aren't clean, where any is, and no more than 1,024. Takes memory for them.
+    fn next_batch(&self, alloc: Global) -> Result<Vec<Dirfrag>, Refusal>
+        requires { length self.now.caches.used ≤ 256 }
+        ensures unclean { IfOk result (λ leaves. AllByRecursion (IsUncleanAt self.now.caches) leaves.items) }
+        ensures apart { IfOk result (λ leaves. AreApart (leaves_at leaves.items)) }
+        ensures few { IfOk result (λ leaves. length leaves.items ≤ 1024) }
+        ensures none { IfOk result (λ leaves. leaves.items ≡ [] → unclean self.now.caches ≡ map.empty) }
+        ensures refused { IfErr result (λ reason. reason ≡ NoMemory) }
+    {
+        match self.caches.unclean_leaves(alloc, 1024) {
+            Ok(leaves) => Ok(leaves),
+            Err(_) => Err(Refusal::NoMemory),
+        }
+    }
+
     // Commits each of these leaves, none of which is clean. Takes memory for all of them at once. Whatever it answers no job stands
     // then, and the next one gets the number that it would have got before.
     pub(crate) fn commit_batch(&mut self, alloc: Global, leaves: &[Dirfrag]) -> Result<(), Refusal>
@@ -209,4 +275,28 @@ fn encode_each(alloc: Global, begun: Vec<Begun>) -> Result<Vec<Ready>, Refusal>
         }
     }
     Ok(ready)
+}
+
+// Commits batch after batch, until all is clean.
+fn commit_batches<S: Store + Drop>(tree: &mut MdCache<S>, alloc: Global) -> Result<(), Refusal>
+    requires sound { IsSoundCore tree.old }
+    requires none { tree.old.jobs ≡ map.empty }
+    requires few { length tree.old.caches.used ≤ 256 }
+    ensures clean { OnOk result (unclean tree.new.caches ≡ map.empty) }
+    ensures whole { CommitsWhole (state_of tree.old) (state_of tree.new) }
+    ensures jobs { tree.new.jobs ≡ map.empty }
+    ensures number { tree.new.next_job ≡ tree.old.next_job }
+    ensures tree { KeepsTree tree.old tree.new }
+    ensures refused { IfErr result (MayNotCommit 1024 (state_of tree.old) tree.old.faults tree.new.faults) }
+    ensures counted { tree.new.faults ≡ tree.old.faults + faults_told (result_err result) }
+    ensures sound { IsSoundCore tree.new }
+{
+    let mut more = true;
+    while more {
+        more = match tree.commit_some(alloc) {
+            Ok(some) => some,
+            Err(refusal) => return Err(refusal),
+        };
+    }
+    Ok(())
 }
