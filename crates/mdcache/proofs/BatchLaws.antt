@@ -157,9 +157,9 @@ module _ (now new : Core) (at : Dirfrag) (job : Job) (unclean_at : IsUncleanAt n
   stay_begun : (bs : List Begun) → AllByRecursion (λ (q : Leaf). q ≡ leaf_at at → ⊥) (leaves_of_jobs bs) → AllByRecursion (IsBegunAt now) bs → AllByRecursion (IsBegunAt new) bs
   stay_begun [] others all = tt
   stay_begun (b ∷ bs) (other, others) (one, all) = (
-      record { holds = may_hold_on now.caches new.caches keeps_it.caches b.rank (leaf_of b.job) one.holds; hand = begun_leave_at_hand (state_of now) (state_of new) (leaf_at at) job b.job begins other one.hand },
-      stay_begun bs others all,
-    )
+    record { holds = may_hold_on now.caches new.caches keeps_it.caches b.rank (leaf_of b.job) one.holds; hand = begun_leave_at_hand (state_of now) (state_of new) (leaf_at at) job b.job begins other one.hand },
+    stay_begun bs others all,
+  )
 
   pub turn_begun : AllByRecursion (IsBegunAt now) begun → AllByRecursion (IsBegunAt new) (begun ++ (record { rank = at.rank; job = job }) ∷ [])
   turn_begun all = all_push (IsBegunAt new) begun (record { rank = at.rank; job = job }) (stay_begun begun (apart_behind (leaves_of_jobs begun) (leaf_at at) (leaves_at rest) apart) all)
@@ -168,9 +168,9 @@ module _ (now new : Core) (at : Dirfrag) (job : Job) (unclean_at : IsUncleanAt n
   pub turn_rest : (places : List Dirfrag) → AllByRecursion (IsUncleanAt now.caches) places → AllByRecursion (IsUncleanAt new.caches) places
   turn_rest [] all = tt
   turn_rest (a ∷ places) (one, all) = (
-      record { holds = may_hold_on now.caches new.caches keeps_it.caches a.rank (leaf_at a) one.holds; dirty = ap (λ (s : State). is_some (map.get s.unsaved (leaf_at a))) left ∙ one.dirty },
-      turn_rest places all,
-    )
+    record { holds = may_hold_on now.caches new.caches keeps_it.caches a.rank (leaf_at a) one.holds; dirty = ap (λ (s : State). is_some (map.get s.unsaved (leaf_at a))) left ∙ one.dirty },
+    turn_rest places all,
+  )
 
   pub turn_listed : leaves_of_jobs (begun ++ (record { rank = at.rank; job = job }) ∷ []) ++ leaves_at rest ≡ leaves_of_jobs begun ++ leaf_at at ∷ leaves_at rest
   turn_listed = mapped_push (λ (b : Begun). leaf_of b.job) begun (record { rank = at.rank; job = job }) (leaves_at rest) ∙ ap (λ q. leaves_of_jobs begun ++ q ∷ leaves_at rest) its_leaf
@@ -231,19 +231,19 @@ module _ (now new : Core) (one : Ready) (ready_at : IsReadyAt now one) (ended : 
   pub stay_ready : (rs : List Ready) → NotAmong (leaf_of one.encoded.job) (leaves_of_writes rs) → AllByRecursion (IsReadyAt now) rs → AllByRecursion (IsReadyAt new) rs
   stay_ready [] others all = tt
   stay_ready (r ∷ rs) (other, others) (it, all) = (
-      record {
-        holds = may_hold_on now.caches new.caches keeps_it.caches r.rank (leaf_of r.encoded.job) it.holds;
-        hand = others_stay_at_hand (state_of now) (state_of new) one.encoded.job r.encoded.job ended other ready_at.hand it.hand;
-      },
-      stay_ready rs others all,
-    )
+    record {
+      holds = may_hold_on now.caches new.caches keeps_it.caches r.rank (leaf_of r.encoded.job) it.holds;
+      hand = others_stay_at_hand (state_of now) (state_of new) one.encoded.job r.encoded.job ended other ready_at.hand it.hand;
+    },
+    stay_ready rs others all,
+  )
 
   pub one_less : map.len (unclean new.caches) + 1 ≡ map.len (unclean now.caches)
   one_less =
       let there : is_some (map.get (unclean now.caches) (leaf_of one.encoded.job)) ≡ true = ap is_some ready_at.hand.beside in
       let less : map.len (unclean new.caches) ≡ map.len (unclean now.caches) - 1 =
-          ap (λ (m : UnsavedLeaves). map.len m) (ended_are_clean (state_of now) (state_of new) one.encoded.job ready_at.hand ended)
-          ∙ len-remove leaf-total (unclean now.caches) (leaf_of one.encoded.job) ∙ ap (λ b. cond {A = ℕ} b (map.len (unclean now.caches) - 1) (map.len (unclean now.caches))) there in
+      ap (λ (m : UnsavedLeaves). map.len m) (ended_are_clean (state_of now) (state_of new) one.encoded.job ready_at.hand ended)
+      ∙ len-remove leaf-total (unclean now.caches) (leaf_of one.encoded.job) ∙ ap (λ b. cond {A = ℕ} b (map.len (unclean now.caches) - 1) (map.len (unclean now.caches))) there in
       let some = some_len (unclean now.caches) (leaf_of one.encoded.job) there in
       omega (arith, less, some)
 

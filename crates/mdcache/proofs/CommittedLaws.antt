@@ -120,9 +120,9 @@ module _ (now new : State) (job : Job) (sound : IsSound now) (hand : IsAtHand no
 
   beside : (q : Leaf) → IsLive now.homes now.covers q → (q ≡ leaf → ⊥) → IsAsItWas now new q
   beside q it_lives apart = (
-      ap (λ m. map.get m q) removed ∙ get_left now.unsaved leaf q apart,
-      object_beside (text_of q) (λ same. apart (one_text now.homes now.covers sound.table sound.numbered q leaf it_lives live same)),
-    )
+    ap (λ m. map.get m q) removed ∙ get_left now.unsaved leaf q apart,
+    object_beside (text_of q) (λ same. apart (one_text now.homes now.covers sound.table sound.numbered q leaf it_lives live same)),
+  )
 
   pub ended_whole : CommitsWhole now new
   ended_whole = record {

@@ -19,4 +19,3 @@ invariant-loop-at g l = record {
   faults : l.self.faults ≡ l.fn.self.faults;
   sound : IsSoundCore l.self;
 }
-
