@@ -27,5 +27,6 @@ pub mod StepLaws
 pub mod StandingLaws
 pub mod TieLaws
 pub mod UncleanLaws
+pub mod UncleanPlaces
 pub mod UsedLaws
 pub mod WholeLaws

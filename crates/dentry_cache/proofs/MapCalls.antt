@@ -156,6 +156,9 @@ module _ (cs : List Held) (cap r : ℕ) (old : CacheMap) (view : cache_map cs ca
         ap (λ (o : CacheMap). has_place o r leaf) (sym view) ∙ ap (list_any (leaf_is leaf)) (order_is cs cap r sound there)
         ∙ any_key leaf (get_or cs r no_cache).entries ∙ ap (λ (h : Held). is_some (lookup (leaf_is leaf) h.entries)) (sym x_is)
 
+    pub keys_are : order old r ≡ keys_of x.entries
+    keys_are = ap (λ (o : CacheMap). order o r) (sym view) ∙ order_is cs cap r sound there ∙ ap (λ (h : Held). keys_of h.entries) (sym x_is)
+
     pub taken_is : length (order old r) ≡ length x.entries
     taken_is = ap (λ (o : CacheMap). length (order o r)) (sym view) ∙ ap (λ (ks : List Leaf). length ks) (order_is cs cap r sound there) ∙ length-keys_of (get_or cs r no_cache).entries ∙ ap (λ (h : Held). length h.entries) (sym x_is)
 

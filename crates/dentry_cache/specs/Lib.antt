@@ -14,3 +14,4 @@ pub mod Places
 pub mod Reads
 pub mod Standing
 pub mod Ties
+pub mod Unclean

@@ -19,6 +19,7 @@ pub mod laws;
 mod parts;
 mod reading;
 mod splitting;
+mod unclean;
 
 // the caches of all ranks, each with the same number of places, as one map of fragments
 mod caches;

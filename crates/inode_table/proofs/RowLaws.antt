@@ -4,7 +4,7 @@ use Rattle.std.proofs.lemmas.Bool.{or_left}
 use Rattle.std.specs.Ordering.{nat_cmp, is_lt, eq_by_cmp}
 use Rattle.std.specs.Cmp.{nat_cmp_total}
 use Rattle.std.specs.FinMap as map
-use Rattle.std.specs.FinMap.{find, is_sorted, nat_cmp-IsAntisymmetric, entries_sorted, get-entries, get-from_sorted, get-empty, get-retain_keys, same_map}
+use Rattle.std.specs.FinMap.{find, is_sorted, nat_cmp-IsAntisymmetric, entries-from_sorted, entries_sorted, get-entries, get-from_sorted, get-empty, get-retain_keys, same_map}
 use Rattle.std.specs.FinMap.Entries.{below_all}
 use Rattle.mds_types.specs.Frag.{Fragment, root_fragment}
 use Rattle.sorted_map.proofs.MapLaws.{contents-entries}
@@ -46,6 +46,17 @@ module _ {V X : Type 0} (f : V → X) where
 -- where the directory of a row stands
 abbrev pub home_in : Option Directory → Option Home
 home_in row = option_map (λ (r : Directory). r.home) row
+
+-- the numbers of directories are those of the rows
+numbers_taken : (es : List (ℕ × Directory)) → list_map (λ e. e.0) (taken (λ (r : Directory). r.home) es) ≡ list_map (λ e. e.0) es
+numbers_taken [] = refl
+numbers_taken (e ∷ es) = ap (λ ks. e.0 ∷ ks) (numbers_taken es)
+
+pub row_numbers : (rows : Rows) → map.keys (homes_of rows) ≡ list_map (λ e. e.0) (map.entries rows)
+unfolding homes_of
+row_numbers rows =
+    ap (list_map (λ e. e.0)) (entries-from_sorted nat_cmp _ (subst T (sym (sorted_taken (λ (r : Directory). r.home) (map.entries rows))) (entries_sorted rows)))
+    ∙ numbers_taken (map.entries rows)
 
 pub get_home : (rows : Rows) (d : ℕ) → map.get (homes_of rows) d ≡ home_in (map.get rows d)
 unfolding homes_of

@@ -1,5 +1,6 @@
 pub mod Dirs
 pub mod Numbers
+pub mod Order
 pub mod Rows
 pub mod TreeChanges
 pub mod TreeTable

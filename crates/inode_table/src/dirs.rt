@@ -1,10 +1,12 @@
 //! The directory table.
-ghost use Rattle.std.specs.Prelude.{◌≡◌, ◌≢◌, ◌+◌, ◌-◌, ◌<◌, ◌≤◌, ◌↔◌, ◌∷◌, [], length, true, IsOk, IsSome, IsTrue, IfOk, OnOk, OnErr, IfErr, MatchOption, false};
-ghost use Rattle.std.specs.Option.{option_copied};
+ghost use Rattle.std.specs.Prelude.{◌≡◌, ◌≢◌, ◌+◌, ◌-◌, ◌<◌, ◌≤◌, ◌↔◌, ◌∷◌, [], length, true, IsOk, IsSome, IsTrue, IfOk, OnOk, OnErr, IfErr, MatchOption, false, slice_get};
+ghost use Rattle.std.specs.Option.{option_copied, option_map};
 ghost use Rattle.std.specs.FinMap as map;
 ghost use Rattle.mds_types.specs.declared.refusals.Refusal.TheVariants.{NoMemory};
 ghost use Rattle.mds_types.specs.Frag.{root_fragment};
 ghost use Rattle.fragtree.specs.FragTree.{CanMerge, CanSplit, IsPick, RefusesMerge, RefusesSplit};
+ghost use Rattle.mds_types.specs.declared.ids.Ino.{Ino};
+ghost use Rattle.inode_table.specs.Order.{dirs_after};
 ghost use Rattle.inode_table.specs.Dirs.{IsAbove, IsLeafAt, IsLive, IsTable, MayCome, MayGo, MayMove, is_known, leaves_of, or_whole};
 
 use fragtree::FragTree;
@@ -147,6 +149,20 @@ impl Dirs {
             frag: picked(row.leaves.as_ref(), hash),
             home: Some(&row.home),
         })
+    }
+
+    /// The first directory after one, or of all, in order: the root, then the others by number. None after the last. Takes no
+    /// memory, and one search.
+    pub fn next_dir(&self, after: Option<Ino>) -> Option<Ino>
+        ensures { option_map (λ (d : Ino). d.0) result ≡ slice_get (dirs_after self.now.homes after) 0 }
+    {
+        let Some(last) = after else {
+            return Some(Ino::ROOT);
+        };
+        if last == Ino::ROOT {
+            return Some(Ino(self.below.first()?.0));
+        }
+        Some(Ino(self.below.iter_after(&last.0).next()?.0))
     }
 
     /// Whether there is such a directory, and it has this leaf. Takes no memory, and one search.

@@ -1,19 +1,20 @@
 -- Purges one after the other.
-use Rattle.std.proofs.Common.{◌≡◌, ◌⊎◌, inl, inr, ℕ, ◌-◌, ◌<◌, true, false, cond, nat_lt, List, [], ◌∷◌, length, Option, Some, None, Ok, refl, sym, ap, ◌∙◌, arith}
+use Rattle.std.proofs.Common.{◌≡◌, ◌⊎◌, inl, inr, ℕ, zero, suc, ◌-◌, ◌<◌, true, false, cond, nat_lt, List, [], ◌∷◌, length, Option, Some, None, Ok, refl, sym, ap, ◌∙◌, arith}
 use Rattle.std.specs.Prelude.{is_some, slice_get}
 use Rattle.std.specs.Option.{option_map}
 use Rattle.std.specs.FinMap as map
-use Rattle.std.specs.FinMap.{len-entries, len-remove}
-use Rattle.std.proofs.lemmas.Bool.{ltb-true}
+use Rattle.std.specs.FinMap.{empty_of_len, len-entries, len-remove}
+use Rattle.std.proofs.lemmas.Bool.{lt-ltb, ltb-true}
 use Rattle.std.specs.Cmp.Lexicographic.{nat_list_cmp_total}
 use Rattle.objstore.specs.Omap.{Keys}
 use Rattle.objstore.specs.Objects.{Objects}
 use Rattle.dirfrag_codec.proofs.ByteKeys.{get_left, get_removed, same_or_apart}
-use Rattle.mdcache.specs.Flushed.{ArePurged}
-use Rattle.mdcache.specs.Objects.{PurgesName, purged}
+use Rattle.inode_table.specs.Dirs.{is_known, leaves_of}
+use Rattle.mdcache.specs.Flushed.{ArePurged, PurgesKeepFlushed}
+use Rattle.mdcache.specs.Objects.{PurgesName, purged, tree_object}
 use Rattle.mdcache.specs.PurgeList.{first_name}
 use Rattle.mdcache.specs.Shown.{shown_tree}
-use Rattle.mdcache.specs.State.{State}
+use Rattle.mdcache.specs.State.{State, tree_text}
 use Rattle.mdcache.proofs.ObjectLaws.{first_stands}
 
 pub purged_none : (s : State) → ArePurged s s
@@ -26,6 +27,14 @@ none_first names none = len-entries names ∙ go (map.entries names) none
     go : (es : List (List ℕ × Unit {0})) → option_map (λ (e : List ℕ × Unit {0}). e.0) (slice_get es 0) ≡ None → length es ≡ 0
     go [] h = refl
     go (e ∷ es) h = let clash : Some e.0 ≡ None = h in absurd cc
+
+-- where none waits the list is empty
+pub no_names : (names : Keys) → nat_lt 0 (map.len names) ≡ false → names ≡ map.empty
+no_names names none = empty_of_len names (go (map.len names) none)
+  where
+    go : (n : ℕ) → nat_lt 0 n ≡ false → n ≡ 0
+    go zero h = refl
+    go (suc n) h = let clash : true ≡ false = sym (lt-ltb 0 (suc n) (omega arith)) ∙ h in absurd cc
 
 module _ (old now new : State) (so_far : ArePurged old now) (some : nat_lt 0 (map.len now.purge) ≡ true) (before after : ℕ) where
   one_more : (name : List ℕ) → first_name now.purge ≡ Some name → new ≡ purged now name → shown_tree new ≡ shown_tree now → ArePurged old new × (map.len new.purge < map.len now.purge)
@@ -75,3 +84,13 @@ module _ (old now new : State) (so_far : ArePurged old now) (some : nat_lt 0 (ma
       go : (o : Option (List ℕ)) → first_name now.purge ≡ o → PurgesName now new before after o (Ok tt) → ArePurged old new × (map.len new.purge < map.len now.purge)
       go None none done = let one = ltb-true 0 (map.len now.purge) some in let nothing = none_first now.purge none in absurd (omega (arith, one, nothing))
       go (Some name) first (left, tree) = one_more name first left tree
+
+-- what was flushed stays so
+pub purges_keep_flushed : PurgesKeepFlushed
+purges_keep_flushed old new flushed none purges = record {
+  clean = ap (λ (s : State). s.unsaved) purges.left ∙ flushed.clean;
+  trees = λ dir known.
+      let was : is_known old.homes dir.0 ≡ true = ap (λ (s : State). is_known s.homes dir.0) (sym purges.left) ∙ known in
+      (purges.others (tree_text dir) (none dir was)).0 ∙ flushed.trees dir was
+      ∙ ap (λ (s : State). cond (nat_lt 1 (length (leaves_of s.covers dir.0))) (Some (tree_object (leaves_of s.covers dir.0))) None) (sym purges.left);
+}

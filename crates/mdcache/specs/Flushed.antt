@@ -4,11 +4,14 @@ use Rattle.std.specs.FinMap as map
 use Rattle.mds_types.specs.declared.ids.Ino.{Ino}
 use Rattle.mds_types.specs.Leaf.{Leaf}
 use Rattle.cached_frag.specs.declared.jobs.Job.{Job}
-use Rattle.dentry_cache.specs.Cache.{Unsaved}
+use Rattle.dentry_cache.specs.Cache.{IsThere, Unsaved}
+use Rattle.dentry_cache.specs.CacheMap.{CacheMap, here}
+use Rattle.dentry_cache.specs.Came.{Came, NoneEnds}
 use Rattle.dentry_cache.specs.Loading.{object_of}
 use Rattle.inode_table.specs.Dirs.{is_known, leaves_of}
 use Rattle.cold_store.specs.ColdTree.{IsColdTree, tree_of}
 use Rattle.mdcache.specs.Commits.{Begins, IsEnded, leaf_of}
+use Rattle.mdcache.specs.Core.{Core, shown_in}
 use Rattle.mdcache.specs.Objects.{tree_object}
 use Rattle.mdcache.specs.Shown.{shown_tree}
 use Rattle.mdcache.specs.Sound.{IsSound}
@@ -33,6 +36,26 @@ pub record AreExact (s : State) : Type 0 where
 abbrev pub PurgedAreExact : Type 0
 PurgedAreExact = (s : State) → IsSound s → IsFlushed s → s.purge ≡ map.empty → AreExact s
 
+-- ---- what each step of a flush keeps
+
+-- the rank has the leaf's fragment
+abbrev pub HasFragment : CacheMap → ℕ → Leaf → Type 0
+HasFragment caches rank leaf = IsThere (here caches rank leaf)
+
+-- where each directory stands and its leaves, the shown tree, and the numbers of the next fragment and the next dirty name stay; only
+-- fragments that are there are used, each at its rank
+pub record KeepsTree (old new : Core) : Type 0 where
+  pub homes : new.homes ≡ old.homes
+  pub covers : new.covers ≡ old.covers
+  pub tree : shown_in new ≡ shown_in old
+  pub generation : new.next_generation ≡ old.next_generation
+  pub version : new.next_version ≡ old.next_version
+  pub caches : Came (HasFragment old.caches) NoneEnds old.caches new.caches
+
+-- so it is with two steps
+abbrev pub StepsKeepTree : Type 0
+StepsKeepTree = (old mid new : Core) → KeepsTree old mid → KeepsTree mid new → KeepsTree old new
+
 -- ---- purges
 
 -- objects that were to be removed are gone, and off the list; nothing else changed
@@ -41,6 +64,10 @@ pub record ArePurged (old new : State) : Type 0 where
   pub tree : shown_tree new ≡ shown_tree old
   pub others : (name : List ℕ) → map.get old.purge name ≡ None → (map.get new.objects name ≡ map.get old.objects name) × (map.get new.purge name ≡ None)
   pub gone : (name : List ℕ) → map.get new.purge name ≡ None → (map.get old.purge name ≡ None) ⊎ (map.get new.objects name ≡ None)
+
+-- where no tree object of a directory is to be removed, what was flushed stays so
+abbrev pub PurgesKeepFlushed : Type 0
+PurgesKeepFlushed = (old new : State) → IsFlushed old → ((dir : Ino) → is_known old.homes dir.0 ≡ true → map.get old.purge (tree_text dir) ≡ None) → ArePurged old new → IsFlushed new
 
 -- ---- commits of whole fragments
 

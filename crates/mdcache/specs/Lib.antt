@@ -1,3 +1,4 @@
+pub mod Batches
 pub mod CacheReads
 pub mod Changes
 pub mod Commits
@@ -17,6 +18,7 @@ pub mod Reads
 pub mod Ready
 pub mod Regrouping
 pub mod Regroups
+pub mod SavedTrees
 pub mod Shown
 pub mod Sound
 pub mod Splits

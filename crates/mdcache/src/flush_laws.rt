@@ -1,11 +1,12 @@
 //! Laws of what a flush ends in, each the contract of a function that does nothing.
-ghost use Rattle.mdcache.specs.Flushed.{BegunAreAtHand, BegunLeaveAtHand, EndedAreClean, FlushedIsCold, OthersStayAtHand, PurgedAreExact};
+ghost use Rattle.mdcache.specs.Flushed.{BegunAreAtHand, BegunLeaveAtHand, EndedAreClean, FlushedIsCold, OthersStayAtHand, PurgedAreExact, PurgesKeepFlushed, StepsKeepTree};
 
 /// Where nothing is unsaved, and the tree objects are as the leaves are, the store's cold tree is the shown tree; and once all is
-/// purged its objects are exactly those of the leaves and of the trees of several leaves.
+/// purged its objects are exactly those of the leaves and of the trees of several leaves. Purges leave it so.
 pub fn flushed_is_cold()
     ensures cold { FlushedIsCold }
     ensures exact { PurgedAreExact }
+    ensures purged { PurgesKeepFlushed }
 {}
 
 /// A commit of a fragment that wasn't changed since it began leaves the fragment clean, and other such commits as they are.
@@ -14,4 +15,9 @@ pub fn whole_commits_leave_nothing()
     ensures left { BegunLeaveAtHand }
     ensures ended { EndedAreClean }
     ensures others { OthersStayAtHand }
+{}
+
+/// What two steps of a flush each keep, both together keep.
+pub fn steps_keep_the_tree()
+    ensures { StepsKeepTree }
 {}

@@ -3,27 +3,86 @@ ghost use Rattle.std.specs.Prelude.{◌≡◌, ◌+◌, nat_lt, OnOk, IfErr};
 ghost use Rattle.std.specs.FinMap as map;
 ghost use Rattle.std.specs.Result.{result_err};
 ghost use Rattle.objstore.specs.Objects.{MayRefuse, faults_told};
-ghost use Rattle.mdcache.specs.Core.{IsSoundCore, state_of};
-ghost use Rattle.mdcache.specs.Flushed.{ArePurged};
+ghost use Rattle.dentry_cache.specs.CacheMap.{unclean};
+ghost use Rattle.cold_store.specs.ColdTree.{IsColdTree};
+ghost use Rattle.mdcache.specs.Core.{IsSoundCore, shown_in, state_of};
+ghost use Rattle.mdcache.specs.Flushed.{AreExact, ArePurged, IsFlushed, KeepsTree};
+ghost use Rattle.mdcache.specs.SavedTrees.{HasTrees, SavesTrees};
 
 use crate::mdcache::MdCache;
+use crate::standing_jobs::StandingJobs;
 use mds_types::Refusal;
 use objstore::Store;
+use std::alloc::Global;
 
 impl<S: Store + Drop> MdCache<S> {
+    /// Gives up all commits that were begun; all that they would have written stays dirty. Takes no memory.
+    pub fn drop_jobs(&mut self)
+        requires { IsSoundCore self.old }
+        ensures state { state_of self.new ≡ record (state_of self.old) { jobs = map.empty } }
+        ensures tree { KeepsTree self.old self.new }
+        ensures caches { self.new.caches ≡ self.old.caches }
+        ensures faults { self.new.faults ≡ self.old.faults }
+        ensures sound { IsSoundCore self.new }
+    {
+        self.jobs = StandingJobs::new(self.alloc);
+    }
+
     /// Removes all objects that are to be removed, one by one. Takes no memory of its own.
     ///
     /// Refused as the store refuses; what was removed until then is off the list.
     pub fn purge_all(&mut self) -> Result<(), Refusal>
         requires { IsSoundCore self.old }
-        ensures all { OnOk result (map.len self.new.purge ≡ 0) }
+        ensures all { OnOk result (self.new.purge ≡ map.empty) }
         ensures purged { ArePurged (state_of self.old) (state_of self.new) }
+        ensures tree { KeepsTree self.old self.new }
         ensures caches { self.new.caches ≡ self.old.caches }
         ensures refused { IfErr result (MayRefuse self.old.faults self.new.faults) }
         ensures counted { self.new.faults ≡ self.old.faults + faults_told (result_err result) }
         ensures sound { IsSoundCore self.new }
     {
         purge_each(self)
+    }
+
+    /// Makes the object of each directory's tree say what leaves the directory has: it is written, if there are several and the
+    /// object isn't so already, and removed, if there is one. Their names leave the purge list. Takes memory for one object
+    /// after the other.
+    ///
+    /// Refused as the store refuses, and `NoMemory`. Some directories' objects are up to date then, the others as they were.
+    pub fn save_trees(&mut self, alloc: Global) -> Result<(), Refusal>
+        requires { IsSoundCore self.old }
+        ensures all { OnOk result (HasTrees (state_of self.new)) }
+        ensures saved { SavesTrees (state_of self.old) (state_of self.new) }
+        ensures tree { KeepsTree self.old self.new }
+        ensures caches { self.new.caches ≡ self.old.caches }
+        ensures refused { IfErr result (MayRefuse self.old.faults self.new.faults) }
+        ensures counted { self.new.faults ≡ self.old.faults + faults_told (result_err result) }
+        ensures sound { IsSoundCore self.new }
+    {
+        save_each(self, alloc)
+    }
+
+    /// Brings the store's objects up to date where nothing is unsaved: those of directories' trees, and all that are to be
+    /// removed. The store's cold tree is the shown tree then, and it has no objects but those of leaves and of trees of several
+    /// leaves. Takes memory for one object after the other.
+    ///
+    /// Refused as the store refuses, and `NoMemory`. Part of it may be done then.
+    pub fn flush_objects(&mut self, alloc: Global) -> Result<(), Refusal>
+        requires sound { IsSoundCore self.old }
+        requires clean { unclean self.old.caches ≡ map.empty }
+        ensures flushed { OnOk result (IsFlushed (state_of self.new)) }
+        ensures cold { OnOk result (IsColdTree self.new.objects (shown_in self.old)) }
+        ensures exact { OnOk result (AreExact (state_of self.new)) }
+        ensures caches { self.new.caches ≡ self.old.caches }
+        ensures tree { KeepsTree self.old self.new }
+        ensures refused { IfErr result (MayRefuse self.old.faults self.new.faults) }
+        ensures counted { self.new.faults ≡ self.old.faults + faults_told (result_err result) }
+        ensures sound { IsSoundCore self.new }
+    {
+        match self.save_trees(alloc) {
+            Ok(()) => self.purge_all(),
+            Err(refusal) => Err(refusal),
+        }
     }
 
     // Whether an object is to be removed.
@@ -37,7 +96,7 @@ impl<S: Store + Drop> MdCache<S> {
 // Removes all objects that are to be removed.
 fn purge_each<S: Store + Drop>(tree: &mut MdCache<S>) -> Result<(), Refusal>
     requires { IsSoundCore tree.old }
-    ensures all { OnOk result (map.len tree.new.purge ≡ 0) }
+    ensures all { OnOk result (tree.new.purge ≡ map.empty) }
     ensures purged { ArePurged (state_of tree.old) (state_of tree.new) }
     ensures caches { tree.new.caches ≡ tree.old.caches }
     ensures refused { IfErr result (MayRefuse tree.old.faults tree.new.faults) }
@@ -48,6 +107,26 @@ fn purge_each<S: Store + Drop>(tree: &mut MdCache<S>) -> Result<(), Refusal>
         if let Err(refusal) = tree.purge() {
             return Err(refusal);
         }
+    }
+    Ok(())
+}
+
+// Brings the objects of directories' trees up to date, one directory after the other.
+fn save_each<S: Store + Drop>(tree: &mut MdCache<S>, alloc: Global) -> Result<(), Refusal>
+    requires { IsSoundCore tree.old }
+    ensures all { OnOk result (HasTrees (state_of tree.new)) }
+    ensures saved { SavesTrees (state_of tree.old) (state_of tree.new) }
+    ensures caches { tree.new.caches ≡ tree.old.caches }
+    ensures refused { IfErr result (MayRefuse tree.old.faults tree.new.faults) }
+    ensures counted { tree.new.faults ≡ tree.old.faults + faults_told (result_err result) }
+    ensures sound { IsSoundCore tree.new }
+{
+    let mut last = None;
+    while let Some(dir) = tree.dirs().next_dir(last) {
+        if let Err(reason) = tree.commit_tree(alloc, dir) {
+            return Err(reason);
+        }
+        last = Some(dir);
     }
     Ok(())
 }

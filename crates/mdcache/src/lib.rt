@@ -43,6 +43,7 @@ mod split_plan;
 mod splitting;
 
 // commits, evictions, and the store's objects
+mod batches;
 mod beginning;
 mod dropping;
 mod ending;
@@ -56,7 +57,7 @@ mod trees;
 mod flush_laws;
 mod laws;
 
-pub use flush_laws::{flushed_is_cold, whole_commits_leave_nothing};
+pub use flush_laws::{flushed_is_cold, steps_keep_the_tree, whole_commits_leave_nothing};
 pub use going::{Going, GoingLeaf};
 pub use laws::{changes_are_right, merges_are_right, splits_are_right};
 pub use mdcache::MdCache;

@@ -1,6 +1,6 @@
 use Rattle.std.proofs.Common.{sym, ◌∙◌, arith}
 use Rattle.mdcache.specs.Core.{state_of}
-use Rattle.mdcache.proofs.PurgedLaws.{purged_more}
+use Rattle.mdcache.proofs.PurgedLaws.{no_names, purged_more}
 use Rattle.mdcache.proofs.flushing.purge_each.Goals as goal
 
 pub loop-tree-smaller : goal.loop-tree-smaller
@@ -17,3 +17,6 @@ loop-tree-preserved g c =
       faults = omega (arith, counted, so_far);
       sound = c.in_default.ensures.sound;
     }
+
+pub returns-clause-all : goal.returns-clause-all
+returns-clause-all g c = no_names c.loop-tree.tree.purge (sym c.has_purges.ensures ∙ c.loop-tree-test.false)

@@ -1,0 +1,60 @@
+//! The leaves of fragments that aren't clean.
+ghost use Rattle.std.specs.Prelude.{◌≡◌, ◌≤◌, ◌++◌, length, take, OnOk, IfOk};
+ghost use Rattle.dentry_cache.specs.CacheMap.{AreCaches};
+ghost use Rattle.dentry_cache.specs.Unclean.{is_unclean, unclean_in, unclean_places};
+
+use crate::cache::{Cache, Place};
+use crate::caches::Caches;
+use mds_types::{Dirfrag, Rank};
+use std::alloc::{AllocError, Global};
+
+impl Place {
+    // Whether it has a fragment that isn't clean.
+    fn is_unclean(&self) -> bool
+        ensures { result ≡ is_unclean self.now }
+    {
+        !self.kept && !self.frag.is_clean()
+    }
+}
+
+impl Cache {
+    /// Puts the leaves of fragments that aren't clean behind others, each at this rank, the most recently used first, until there
+    /// are so many. Takes memory for them.
+    pub(crate) fn add_unclean(
+        &self,
+        rank: Rank,
+        most: usize,
+        leaves: &mut Vec<Dirfrag>,
+    ) -> Result<(), AllocError>
+        requires { length leaves.old.items ≤ most }
+        ensures added { OnOk result (leaves.new.items ≡ take most (leaves.old.items ++ unclean_in rank self.now.entries)) }
+    {
+        let mut rest = self.places.iter();
+        while let Some((leaf, place)) = rest.next() {
+            if leaves.len() < most && place.is_unclean() {
+                leaves.push(Dirfrag {
+                    dir: leaf.0,
+                    frag: leaf.1,
+                    rank,
+                })?;
+            }
+        }
+        Ok(())
+    }
+}
+
+impl Caches {
+    /// The leaves of fragments that aren't clean, each with the rank that has it: rank after rank, and of each the most recently used
+    /// first. No more than so many. Takes memory for them; each place is looked at.
+    pub fn unclean_leaves(&self, alloc: Global, most: usize) -> Result<Vec<Dirfrag>, AllocError>
+        requires { length self.now.used ≤ 256 }
+        ensures leaves { IfOk result (λ leaves. leaves.items ≡ take most (unclean_places self.now)) }
+        ensures valid { AreCaches self.now }
+    {
+        let mut leaves = Vec::new(alloc);
+        for index in 0..self.caches.len() {
+            self.caches[index].add_unclean(Rank(index as u8), most, &mut leaves)?;
+        }
+        Ok(leaves)
+    }
+}

@@ -1,0 +1,267 @@
+-- Commits of whole fragments, several at once.
+use Rattle.std.proofs.Common.{◌≡◌, ◌⊎◌, inl, inr, ℕ, zero, suc, cond, ◌-◌, ◌+◌, ◌<◌, arith, true, false, List, [], ◌∷◌, ◌++◌, map as list_map, drop, get_or, ◌≤◌, Option, Some, None, Result, Ok, Err, refl, sym, ap, subst, ◌∙◌}
+use Rattle.std.specs.Prelude.{is_some, length}
+use Rattle.std.specs.List.{AllByRecursion}
+use Rattle.std.proofs.lemmas.List.{append-nil, drop_all, drop_more}
+use Rattle.std.specs.FinMap as map
+use Rattle.mds_types.specs.Leaf.{leaf_of as leaf_at}
+use Rattle.mds_types.specs.declared.dirfrags.Dirfrag.{Dirfrag}
+use Rattle.mds_types.specs.declared.ids.Rank.{Rank}
+use Rattle.mds_types.specs.declared.refusals.Refusal.{Refusal}
+use Rattle.mds_types.specs.declared.refusals.Refusal.TheVariants.{NoInodes, NoMemory}
+use Rattle.objstore.specs.Objects.{MayRefuse}
+use Rattle.cached_frag.specs.declared.jobs.Job.{Job}
+use Rattle.dentry_cache.specs.Cache.{IsThere, Leaf, Unsaved}
+use Rattle.dentry_cache.specs.CacheMap.{At, CacheMap, IsFree, at_rank, unclean, unsaved_at}
+use Rattle.dentry_cache.specs.Came.{Came, IsThat, NoneEnds}
+use Rattle.dentry_cache.proofs.FrameLaws.{came_held, came_ranks, came_weaker}
+use Rattle.dentry_cache.proofs.UncleanLaws.{get_unclean}
+use Rattle.mdcache.specs.Batches.{AreApart, IsBegunAt, IsUncleanAt, LacksNumberFor, MayNotBeginAll, MayNotBeginOne, MayNotCommit, NotAmong, IsReadyAt, leaves_at, leaves_of_jobs, leaves_of_writes, ready_of}
+use Rattle.mdcache.specs.Commits.{Begins, BeginsWith, Ends, IsEnded, MayNotBegin, leaf_of, with_job}
+use Rattle.mdcache.specs.Core.{Core, IsSoundCore, state_of}
+use Rattle.mdcache.specs.Flushed.{HasFragment, IsAtHand, KeepsTree}
+use Rattle.mdcache.specs.Ranks.{MayHold}
+use Rattle.mdcache.specs.Shown.{shown_tree}
+use Rattle.mdcache.specs.Sound.{IsSound}
+use Rattle.mdcache.specs.State.{IsLive, State, UnsavedLeaves}
+use Rattle.mdcache.proofs.AtHandLaws.{begun_are_at_hand, begun_leave_at_hand, ended_are_clean, others_stay_at_hand}
+use Rattle.mdcache.proofs.KeptTree.{at_its_rank, there_at}
+use Rattle.mdcache.specs.StandingJobs.{Jobs}
+use Rattle.mdcache.specs.declared.batches.Begun.{Begun}
+use Rattle.mdcache.specs.declared.batches.Ready.{Ready}
+use Rattle.mds_types.proofs.LeafLaws.{get_beside, leaf-total}
+use Rattle.std.specs.FinMap.{empty_of_len, get-empty, len-remove}
+
+-- the fragment of a leaf that isn't clean is at the one rank that may hold it
+has_fragment : (c : CacheMap) (rank : Rank) (leaf : Leaf) → MayHold c rank leaf → is_some (map.get (unclean c) leaf) ≡ true → HasFragment c rank.0 leaf
+has_fragment c rank leaf may dirty = go (map.get c.held leaf) refl may.alone
+  where
+    go : (o : Option At) → map.get c.held leaf ≡ o → IsFree rank.0 o → HasFragment c rank.0 leaf
+    go None none free = let clash : false ≡ true = ap is_some (sym (get_unclean c leaf ∙ ap unsaved_at none)) ∙ dirty in absurd cc
+    go (Some a) is free = subst (λ o. IsThere (at_rank rank.0 o)) (sym is) (at_its_rank rank.0 a free)
+
+module _ (old new : Core) (rank : Rank) (leaf : Leaf) (may : MayHold old.caches rank leaf) (dirty : is_some (map.get (unclean old.caches) leaf) ≡ true) (came : Came (IsThat rank.0 leaf) NoneEnds old.caches new.caches) where
+  came_there : Came (HasFragment old.caches) NoneEnds old.caches new.caches
+  came_there = came_weaker (IsThat rank.0 leaf) NoneEnds (HasFragment old.caches) NoneEnds
+      (λ r q is. subst (λ k. HasFragment old.caches k q) (sym is.0) (subst (HasFragment old.caches rank.0) (sym is.1) (has_fragment old.caches rank leaf may dirty))) (λ r q ends. ends) old.caches new.caches came
+
+  -- what leaves all of the state but what isn't clean, objects, jobs and their numbers
+  keeps : new.homes ≡ old.homes → new.covers ≡ old.covers → shown_tree (state_of new) ≡ shown_tree (state_of old) → new.next_generation ≡ old.next_generation → new.next_version ≡ old.next_version → KeepsTree old new
+  keeps homes covers tree generation version = record { homes = homes; covers = covers; tree = tree; generation = generation; version = version; caches = came_there }
+
+  keeps_all : state_of new ≡ state_of old → KeepsTree old new
+  keeps_all same = keeps (ap (λ (s : State). s.homes) same) (ap (λ (s : State). s.covers) same) (ap shown_tree same) (ap (λ (s : State). s.next_generation) same) (ap (λ (s : State). s.next_version) same)
+
+  -- a commit begins, or doesn't
+  pub begin_keeps : (job : Job) → Begins (state_of old) (state_of new) leaf (Ok (Some job)) → KeepsTree old new
+  begin_keeps job begun = go (map.get (unclean old.caches) leaf) begun.2
+    where
+      go : (o : Option Unsaved) → BeginsWith (state_of old) (state_of new) leaf o (Some job) → KeepsTree old new
+      go None (none, same) = let clash : Some job ≡ None = none in absurd cc
+      go (Some u) (is, lacks, left) = keeps (ap (λ (s : State). s.homes) left) (ap (λ (s : State). s.covers) left) (ap shown_tree left) (ap (λ (s : State). s.next_generation) left) (ap (λ (s : State). s.next_version) left)
+
+  pub begins_some : Begins (state_of old) (state_of new) leaf (Ok None) → ⊥
+  begins_some begun = go (map.get (unclean old.caches) leaf) refl begun.2
+    where
+      go : (o : Option Unsaved) → map.get (unclean old.caches) leaf ≡ o → BeginsWith (state_of old) (state_of new) leaf o None → ⊥
+      go None none (is, same) = let clash : false ≡ true = ap is_some (sym none) ∙ dirty in cc
+      go (Some u) is none = none
+
+  pub refused_keeps : (reason : Refusal) → Begins (state_of old) (state_of new) leaf (Err reason) → KeepsTree old new
+  refused_keeps reason refused = keeps_all refused.1
+
+  -- a commit ends, or doesn't
+  end_keeps : (job : Job) → IsEnded (state_of old) (state_of new) job → KeepsTree old new
+  end_keeps job ended = keeps (ap (λ (s : State). s.homes) ended.left) (ap (λ (s : State). s.covers) ended.left) ended.tree (ap (λ (s : State). s.next_generation) ended.left) (ap (λ (s : State). s.next_version) ended.left)
+
+  pub ends_keeps : (before after : ℕ) (job : Job) (result : Result (Unit {0}) Refusal) → Ends (state_of old) (state_of new) before after job result → KeepsTree old new
+  ends_keeps before after job (Ok done) ended = end_keeps job ended
+  ends_keeps before after job (Err reason) refused = keeps_all refused.1
+
+-- a leaf that isn't clean is there, so it isn't refused as absent
+pub begin_refused : (s : State) (new : State) (leaf : Leaf) (reason : Refusal) → IsSound s → is_some (map.get s.unsaved leaf) ≡ true → map.get s.jobs leaf ≡ None → Begins s new leaf (Err reason) → MayNotBeginOne s leaf reason
+begin_refused s new leaf reason sound dirty free refused = go refused.0
+  where
+    live : (o : Option Unsaved) → map.get s.unsaved leaf ≡ o → is_some o ≡ true → IsLive s.homes s.covers leaf
+    live None is some = absurd cc
+    live (Some u) is some = (sound.unsaved leaf u is).live
+
+    go : MayNotBegin s leaf reason → MayNotBeginOne s leaf reason
+    go (inl (is, absent)) = absurd (absent (live (map.get s.unsaved leaf) refl dirty))
+    go (inr (inl (is, there, stands))) = let clash : false ≡ true = ap is_some (sym free) ∙ stands in absurd cc
+    go (inr (inr (there, none, u, is, inl (no_number, lacks)))) = inr (no_number, (u, is, lacks))
+    go (inr (inr (there, none, u, is, inr (no_memory, lacks)))) = inl no_memory
+
+-- a job at hand stands
+pub end_refused : (s new : State) (before after : ℕ) (job : Job) (reason : Refusal) → IsAtHand s job → Ends s new before after job (Err reason) → MayRefuse before after reason
+end_refused s new before after job reason hand (inl (is, off), same) = absurd (off hand.stands)
+end_refused s new before after job reason hand (inr (stands, may), same) = may
+
+-- ---- others, while one begins
+
+-- a leaf that a rank may hold it still may
+pub may_hold_on : (old new : CacheMap) → Came (HasFragment old) NoneEnds old new → (rank : Rank) (leaf : Leaf) → MayHold old rank leaf → MayHold new rank leaf
+may_hold_on old new came rank leaf may = record {
+  there = (let count : length new.used ≡ length old.used = came_ranks (HasFragment old) NoneEnds old new came in let there = may.there in omega (arith, count, there));
+  alone = go (map.get new.held leaf) refl;
+}
+  where
+    at_one : (x : At) → IsFree rank.0 (Some x) → x.rank ≡ rank.0
+    at_one x free = free
+
+    by : (a : At) → (map.get old.held leaf ≡ Some a) ⊎ HasFragment old a.rank leaf → a.rank ≡ rank.0
+    by a (inl same) = subst (IsFree rank.0) same may.alone
+    by a (inr there) = let w = there_at a.rank (map.get old.held leaf) there in sym w.2 ∙ at_one w.0 (subst (IsFree rank.0) w.1 may.alone)
+
+    go : (o : Option At) → map.get new.held leaf ≡ o → IsFree rank.0 o
+    go None none = tt
+    go (Some a) is = by a (came_held (HasFragment old) NoneEnds old new came leaf a is)
+
+-- a leaf apart from all others
+apart_behind : (xs : List Leaf) (y : Leaf) (ys : List Leaf) → AreApart (xs ++ y ∷ ys) → AllByRecursion (λ (q : Leaf). q ≡ y → ⊥) xs
+apart_behind [] y ys apart = tt
+apart_behind (x ∷ xs) y ys (others, apart) = (first_apart xs y ys others, apart_behind xs y ys apart)
+  where
+    first_apart : (xs : List Leaf) (y : Leaf) (ys : List Leaf) → AllByRecursion (λ (q : Leaf). q ≡ x → ⊥) (xs ++ y ∷ ys) → x ≡ y → ⊥
+    first_apart [] y ys (this, more) same = this (sym same)
+    first_apart (z ∷ xs) y ys (this, more) same = first_apart xs y ys more same
+
+all_push : {A : Type 0} (P : A → Type 0) (xs : List A) (y : A) → AllByRecursion P xs → P y → AllByRecursion P (xs ++ y ∷ [])
+all_push P [] y all one = (one, tt)
+all_push P (x ∷ xs) y (first, all) one = (first, all_push P xs y all one)
+
+mapped_push : {A B : Type 0} (f : A → B) (xs : List A) (y : A) (rest : List B) → list_map f (xs ++ y ∷ []) ++ rest ≡ list_map f xs ++ f y ∷ rest
+mapped_push f [] y rest = refl
+mapped_push f (x ∷ xs) y rest = ap (λ l. f x ∷ l) (mapped_push f xs y rest)
+
+pub map_pushed : {A B : Type 0} (f : A → B) (xs : List A) (y : A) → list_map f (xs ++ y ∷ []) ≡ list_map f xs ++ f y ∷ []
+map_pushed f [] y = refl
+map_pushed f (x ∷ xs) y = ap (λ l. f x ∷ l) (map_pushed f xs y)
+
+-- a job stands only for a leaf among these
+abbrev pub StandAmong : Jobs → List Leaf → Type 0
+StandAmong jobs leaves = (q : Leaf) → NotAmong q leaves → map.get jobs q ≡ None
+
+module _ (now new : Core) (at : Dirfrag) (job : Job) (unclean_at : IsUncleanAt now.caches at) (begins : Begins (state_of now) (state_of new) (leaf_at at) (Ok (Some job))) (keeps_it : KeepsTree now new) (begun : List Begun) (rest : List Dirfrag)
+    (apart : AreApart (leaves_of_jobs begun ++ leaf_at at ∷ leaves_at rest)) where
+  its_leaf : leaf_of job ≡ leaf_at at
+  its_leaf = (begun_are_at_hand (state_of now) (state_of new) (leaf_at at) job begins).1
+
+  left : state_of new ≡ with_job (state_of now) job
+  left = go (map.get (unclean now.caches) (leaf_at at)) begins.2
+    where
+      go : (o : Option Unsaved) → BeginsWith (state_of now) (state_of new) (leaf_at at) o (Some job) → state_of new ≡ with_job (state_of now) job
+      go None (none, same) = let clash : Some job ≡ None = none in absurd cc
+      go (Some u) (is, lacks, it) = it
+
+  stay_begun : (bs : List Begun) → AllByRecursion (λ (q : Leaf). q ≡ leaf_at at → ⊥) (leaves_of_jobs bs) → AllByRecursion (IsBegunAt now) bs → AllByRecursion (IsBegunAt new) bs
+  stay_begun [] others all = tt
+  stay_begun (b ∷ bs) (other, others) (one, all) = (
+    record { holds = may_hold_on now.caches new.caches keeps_it.caches b.rank (leaf_of b.job) one.holds; hand = begun_leave_at_hand (state_of now) (state_of new) (leaf_at at) job b.job begins other one.hand },
+    stay_begun bs others all,
+  )
+
+  pub turn_begun : AllByRecursion (IsBegunAt now) begun → AllByRecursion (IsBegunAt new) (begun ++ (record { rank = at.rank; job = job }) ∷ [])
+  turn_begun all = all_push (IsBegunAt new) begun (record { rank = at.rank; job = job }) (stay_begun begun (apart_behind (leaves_of_jobs begun) (leaf_at at) (leaves_at rest) apart) all)
+      (record { holds = subst (MayHold new.caches at.rank) (sym its_leaf) (may_hold_on now.caches new.caches keeps_it.caches at.rank (leaf_at at) unclean_at.holds); hand = (begun_are_at_hand (state_of now) (state_of new) (leaf_at at) job begins).0 })
+
+  pub turn_rest : (places : List Dirfrag) → AllByRecursion (IsUncleanAt now.caches) places → AllByRecursion (IsUncleanAt new.caches) places
+  turn_rest [] all = tt
+  turn_rest (a ∷ places) (one, all) = (
+    record { holds = may_hold_on now.caches new.caches keeps_it.caches a.rank (leaf_at a) one.holds; dirty = ap (λ (s : State). is_some (map.get s.unsaved (leaf_at a))) left ∙ one.dirty },
+    turn_rest places all,
+  )
+
+  pub turn_listed : leaves_of_jobs (begun ++ (record { rank = at.rank; job = job }) ∷ []) ++ leaves_at rest ≡ leaves_of_jobs begun ++ leaf_at at ∷ leaves_at rest
+  turn_listed = mapped_push (λ (b : Begun). leaf_of b.job) begun (record { rank = at.rank; job = job }) (leaves_at rest) ∙ ap (λ q. leaves_of_jobs begun ++ q ∷ leaves_at rest) its_leaf
+
+  pub turn_stand : StandAmong now.jobs (leaves_of_jobs begun) → StandAmong new.jobs (leaves_of_jobs (begun ++ (record { rank = at.rank; job = job }) ∷ []))
+  turn_stand so_far q others = go begun others
+    where
+      parts : (bs : List Begun) → NotAmong q (leaves_of_jobs (bs ++ (record { rank = at.rank; job = job }) ∷ [])) → NotAmong q (leaves_of_jobs bs) × (leaf_of job ≡ q → ⊥)
+      parts [] (other, done) = (tt, other)
+      parts (b ∷ bs) (other, more) = let w = parts bs more in ((other, w.0), w.1)
+
+      go : (bs : List Begun) → NotAmong q (leaves_of_jobs (begun ++ (record { rank = at.rank; job = job }) ∷ [])) → map.get new.jobs q ≡ None
+      go bs others = let w = parts begun others in ap (λ (s : State). map.get s.jobs q) left ∙ get_beside now.jobs (leaf_of job) job q (λ same. w.1 (sym same)) ∙ so_far q w.0
+
+  pub turn_left : (old : Core) → state_of now ≡ record (state_of old) { jobs = now.jobs; next_job = now.next_job } → state_of new ≡ record (state_of old) { jobs = new.jobs; next_job = new.next_job }
+  turn_left old so_far = left ∙ ap (λ (s : State). with_job s job) so_far ∙ (λ i. record (state_of old) { jobs = sym (ap (λ (s : State). s.jobs) left) i; next_job = sym (ap (λ (s : State). s.next_job) left) i })
+
+  pub turn_number : new.next_job ≡ now.next_job + 1
+  turn_number = ap (λ (s : State). s.next_job) left
+
+-- a leaf apart from those that were begun has no job
+pub none_stands : (jobs : Jobs) (begun : List Begun) (leaf : Leaf) (ys : List Leaf) → AreApart (leaves_of_jobs begun ++ leaf ∷ ys) → StandAmong jobs (leaves_of_jobs begun) → map.get jobs leaf ≡ None
+none_stands jobs begun leaf ys apart among = among leaf (apart_behind (leaves_of_jobs begun) leaf ys apart)
+
+-- why one doesn't begin, so many of them before
+pub begin_lacks : (old now : State) (leaf : Leaf) (count less : ℕ) (reason : Refusal) → now.unsaved ≡ old.unsaved → now.next_job ≡ old.next_job + less → less < count → MayNotBeginOne now leaf reason → MayNotBeginAll count old reason
+begin_lacks old now leaf count less reason same number few (inl no_memory) = inl no_memory
+begin_lacks old now leaf count less reason same number few (inr (no_number, (u, is, inl end))) = inr (no_number, inl (omega (arith, number, end, few)))
+begin_lacks old now leaf count less reason same number few (inr (no_number, (u, is, inr above))) = inr (no_number, inr (leaf, u, ap (λ m. map.get m leaf) (sym same) ∙ is, above))
+
+-- ---- places in a slice
+
+module _ (all : List Dirfrag) (i : ℕ) (at : Dirfrag) (within : i < length all) (is : at ≡ get_or all i at) where
+  pub rest_is : drop i all ≡ at ∷ drop (i + 1) all
+  rest_is = drop_more all i at within ∙ ap (λ (a : Dirfrag). a ∷ drop (i + 1) all) (sym is)
+
+  pub first_of_rest : (c : CacheMap) → AllByRecursion (IsUncleanAt c) (drop i all) → IsUncleanAt c at × AllByRecursion (IsUncleanAt c) (drop (i + 1) all)
+  first_of_rest c rest = subst (AllByRecursion (IsUncleanAt c)) rest_is rest
+
+  pub rest_listed : (begun : List Begun) → leaves_of_jobs begun ++ leaves_at (drop i all) ≡ leaves_at all → leaves_of_jobs begun ++ leaf_at at ∷ leaves_at (drop (i + 1) all) ≡ leaves_at all
+  rest_listed begun listed = ap (λ ds. leaves_of_jobs begun ++ leaves_at ds) (sym rest_is) ∙ listed
+
+-- at the end all were begun
+pub all_listed : (all : List Dirfrag) (i : ℕ) (begun : List Begun) → length all ≤ i → leaves_of_jobs begun ++ leaves_at (drop i all) ≡ leaves_at all → leaves_of_jobs begun ≡ leaves_at all
+all_listed all i begun past listed = sym (append-nil (leaves_of_jobs begun)) ∙ ap (λ ds. leaves_of_jobs begun ++ leaves_at ds) (sym (drop_all i all past)) ∙ listed
+
+-- ---- others, while one ends
+
+-- a map that has a key isn't empty
+some_len : (m : UnsavedLeaves) (k : Leaf) → is_some (map.get m k) ≡ true → 0 < map.len m
+some_len m k some = go (map.len m) refl
+  where
+    go : (n : ℕ) → map.len m ≡ n → 0 < n
+    go zero none = let clash : false ≡ true = ap is_some (sym (ap (λ (w : UnsavedLeaves). map.get w k) (empty_of_len m none) ∙ get-empty _ k)) ∙ some in absurd cc
+    go (suc n) is = omega arith
+
+module _ (now new : Core) (one : Ready) (ready_at : IsReadyAt now one) (ended : IsEnded (state_of now) (state_of new) one.encoded.job) (keeps_it : KeepsTree now new) where
+  pub stay_ready : (rs : List Ready) → NotAmong (leaf_of one.encoded.job) (leaves_of_writes rs) → AllByRecursion (IsReadyAt now) rs → AllByRecursion (IsReadyAt new) rs
+  stay_ready [] others all = tt
+  stay_ready (r ∷ rs) (other, others) (it, all) = (
+    record {
+      holds = may_hold_on now.caches new.caches keeps_it.caches r.rank (leaf_of r.encoded.job) it.holds;
+      hand = others_stay_at_hand (state_of now) (state_of new) one.encoded.job r.encoded.job ended other ready_at.hand it.hand;
+    },
+    stay_ready rs others all,
+  )
+
+  pub one_less : map.len (unclean new.caches) + 1 ≡ map.len (unclean now.caches)
+  one_less =
+      let there : is_some (map.get (unclean now.caches) (leaf_of one.encoded.job)) ≡ true = ap is_some ready_at.hand.beside in
+      let less : map.len (unclean new.caches) ≡ map.len (unclean now.caches) - 1 =
+      ap (λ (m : UnsavedLeaves). map.len m) (ended_are_clean (state_of now) (state_of new) one.encoded.job ready_at.hand ended)
+      ∙ len-remove leaf-total (unclean now.caches) (leaf_of one.encoded.job) ∙ ap (λ b. cond {A = ℕ} b (map.len (unclean now.caches) - 1) (map.len (unclean now.caches))) there in
+      let some = some_len (unclean now.caches) (leaf_of one.encoded.job) there in
+      omega (arith, less, some)
+
+-- the writes of a slice
+pub writes_left : (all : List Ready) (i : ℕ) (one : Ready) → i < length all → one ≡ get_or all i one → drop i all ≡ one ∷ drop (i + 1) all
+writes_left all i one within is = drop_more all i one within ∙ ap (λ (r : Ready). r ∷ drop (i + 1) all) (sym is)
+
+-- jobs that were begun are those of their writes
+pub begun_ready : (core : Core) (begun : List Begun) → AllByRecursion (IsBegunAt core) begun → AllByRecursion (IsReadyAt core) (list_map ready_of begun)
+begun_ready core [] all = tt
+begun_ready core (b ∷ begun) (one, all) = (one, begun_ready core begun all)
+
+pub leaves_ready : (begun : List Begun) → leaves_of_writes (list_map ready_of begun) ≡ leaves_of_jobs begun
+leaves_ready [] = refl
+leaves_ready (b ∷ begun) = ap (λ ls. leaf_of b.job ∷ ls) (leaves_ready begun)
+
+-- more leaves may lack what fewer lack
+pub more_lack : (n m : ℕ) (s : State) (before after : ℕ) (reason : Refusal) → n ≤ m → MayNotCommit n s before after reason → MayNotCommit m s before after reason
+more_lack n m s before after reason less (inl may) = inl may
+more_lack n m s before after reason less (inr (no_number, inl lacks)) = inr (no_number, inl (omega (arith, less, lacks)))
+more_lack n m s before after reason less (inr (no_number, inr version)) = inr (no_number, inr version)

@@ -1,0 +1,160 @@
+-- Commits of whole fragments, one after the other.
+use Rattle.std.proofs.Common.{◌≡◌, ◌⊎◌, inl, inr, ℕ, ◌+◌, ◌<◌, arith, Bool, cond, true, false, List, Option, Some, None, Result, Ok, Err, refl, sym, ap, subst, ◌∙◌}
+use Rattle.std.specs.FinMap as map
+use Rattle.std.specs.FinMap.{len-empty}
+use Rattle.std.proofs.lemmas.Option.{same_Some}
+use Rattle.mds_types.proofs.LeafLaws.{get_left, get_removed, same_or_apart}
+use Rattle.mds_types.specs.declared.refusals.Refusal.{Refusal}
+use Rattle.objstore.specs.Objects.{Objects, written}
+use Rattle.objstore.specs.Omap.{Omap}
+use Rattle.cached_frag.specs.declared.bases.Base.{Base}
+use Rattle.cached_frag.specs.declared.jobs.Job.{Job}
+use Rattle.cached_frag.specs.Cached.{shown_over}
+use Rattle.cached_frag.specs.Commit.{write_of}
+use Rattle.cached_frag.specs.Marks.{Marks}
+use Rattle.cached_frag.specs.Snap.{next_version}
+use Rattle.dirfrag_codec.proofs.ByteKeys.{get_beside}
+use Rattle.dirfrag_codec.specs.FragmentObject.{Names}
+use Rattle.dentry_cache.specs.Cache.{Leaf, Unsaved, leaf_cmp}
+use Rattle.dentry_cache.specs.Loading.{object_of}
+use Rattle.dentry_cache.specs.Ties.{names_at}
+use Rattle.mdcache.specs.Batches.{CommitsWhole, IsAsItWas, IsWritten, MayNotCommit}
+use Rattle.mdcache.specs.Ready.{LacksNumbers}
+use Rattle.mdcache.specs.Commits.{Ends, HasSpelled, IsEnded, leaf_of, names_then}
+use Rattle.mdcache.specs.Flushed.{IsAtHand}
+use Rattle.mdcache.specs.Shown.{names_of, shown_at, shown_tree}
+use Rattle.mdcache.specs.Sound.{IsSound}
+use Rattle.mdcache.specs.StandingJobs.{Jobs}
+use Rattle.mdcache.specs.State.{IsLive, State, UnsavedLeaves, text_of}
+use Rattle.mdcache.proofs.AtHandLaws.{ended_are_clean}
+use Rattle.mdcache.proofs.TextLaws.{one_text}
+
+-- what changes no leaf and no object
+pub jobs_alone : (old new : State) → new ≡ record old { jobs = new.jobs; next_job = new.next_job } → CommitsWhole old new
+jobs_alone old new left = record {
+  left = left ∙ (λ i. record old { unsaved = sym (ap (λ (s : State). s.unsaved) left) i; objects = sym (ap (λ (s : State). s.objects) left) i; jobs = new.jobs; next_job = new.next_job });
+  tree = ap shown_tree left;
+  each = λ leaf live. inl (ap (λ (s : State). map.get s.unsaved leaf) left, ap (λ (s : State). object_of s.objects leaf.0 leaf.1) left);
+  others = λ name none. ap (λ (s : State). map.get s.objects name) left;
+}
+
+-- jobs that are given up
+pub given_up_whole : (old new : State) (jobs : Jobs) (n : ℕ) → new ≡ record old { jobs = jobs; next_job = n } → CommitsWhole old new
+given_up_whole old new jobs n left = jobs_alone old new (left ∙ (λ i. record old { jobs = sym (ap (λ (s : State). s.jobs) left) i; next_job = sym (ap (λ (s : State). s.next_job) left) i }))
+
+-- what a leaf shows, where it is as it was
+shows_as : (old new : State) (leaf : Leaf) → IsAsItWas old new leaf → names_of new.unsaved new.objects leaf ≡ names_of old.unsaved old.objects leaf
+unfolding names_of
+shows_as old new leaf same = λ i. shown_at (same.0 i) (same.1 i)
+
+-- commits after others
+module _ (old mid new : State) (first : CommitsWhole old mid) (second : CommitsWhole mid new) where
+  live_still : (leaf : Leaf) → IsLive old.homes old.covers leaf → IsLive mid.homes mid.covers leaf
+  live_still leaf live = subst (λ (s : State). IsLive s.homes s.covers leaf) (sym first.left) live
+
+  live_before : (leaf : Leaf) → IsLive mid.homes mid.covers leaf → IsLive old.homes old.covers leaf
+  live_before leaf live = subst (λ (s : State). IsLive s.homes s.covers leaf) first.left live
+
+  each_of : (leaf : Leaf) → IsAsItWas old mid leaf ⊎ IsWritten old mid leaf → IsAsItWas mid new leaf ⊎ IsWritten mid new leaf → IsAsItWas old new leaf ⊎ IsWritten old new leaf
+  each_of leaf (inl a) (inl b) = inl (b.0 ∙ a.0, b.1 ∙ a.1)
+  each_of leaf (inl a) (inr w) = inr (record {
+    unsaved = w.unsaved;
+    was = sym a.0 ∙ w.was;
+    clean = w.clean;
+    spelled = subst (HasSpelled (object_of new.objects leaf.0 leaf.1) (next_version w.unsaved.base)) (shows_as old mid leaf a) w.spelled;
+  })
+  each_of leaf (inr w) (inl b) = inr (record {
+    unsaved = w.unsaved;
+    was = w.was;
+    clean = b.0 ∙ w.clean;
+    spelled = subst (λ o. HasSpelled o (next_version w.unsaved.base) (names_of old.unsaved old.objects leaf)) (sym b.1) w.spelled;
+  })
+  each_of leaf (inr w) (inr v) = let clash : None ≡ Some v.unsaved = sym w.clean ∙ v.was in absurd cc
+
+  pub whole_then : CommitsWhole old new
+  whole_then = record {
+    left = second.left ∙ (λ i. record (first.left i) { unsaved = new.unsaved; objects = new.objects; jobs = new.jobs; next_job = new.next_job });
+    tree = second.tree ∙ first.tree;
+    each = λ leaf live. each_of leaf (first.each leaf live) (second.each leaf (live_still leaf live));
+    others = λ name none. second.others name (λ leaf live. none leaf (live_before leaf live)) ∙ first.others name none;
+  }
+
+-- a commit of a fragment that hasn't changed since it began
+module _ (now new : State) (job : Job) (sound : IsSound now) (hand : IsAtHand now job) (ended : IsEnded now new job) where
+  abbrev leaf : Leaf
+  leaf = leaf_of job
+
+  removed : new.unsaved ≡ map.remove now.unsaved leaf
+  removed = ended_are_clean now new job hand ended
+
+  live : IsLive now.homes now.covers leaf
+  live = (sound.unsaved leaf hand.unsaved hand.beside).live
+
+  -- the snapshot has all that the fragment shows
+  base_is : job.snapshot.base ≡ hand.unsaved.base
+  base_is =
+      let stands = sound.standing leaf job hand.stands in
+      stands.taken.base ∙ ap (λ (u : Unsaved). u.base) (same_Some stands.unsaved hand.unsaved (sym stands.beside ∙ hand.beside))
+
+  shows_then : names_then job.snapshot (object_of now.objects job.ino job.frag) ≡ names_of now.unsaved now.objects leaf
+  unfolding names_of
+  shows_then =
+      (λ i. shown_over (base_is i) (names_at (object_of now.objects job.ino job.frag)) (hand.names i))
+      ∙ ap (λ o. shown_at o (object_of now.objects job.ino job.frag)) (sym hand.beside)
+
+  here_written : IsWritten now new leaf
+  here_written = record {
+    unsaved = hand.unsaved;
+    was = hand.beside;
+    clean = ap (λ m. map.get m leaf) removed ∙ get_removed now.unsaved leaf;
+    spelled = subst (λ (b : Base). HasSpelled (object_of new.objects job.ino job.frag) (next_version b) (names_of now.unsaved now.objects leaf)) base_is
+        (subst (HasSpelled (object_of new.objects job.ino job.frag) (next_version job.snapshot.base)) shows_then ended.spelled);
+  }
+
+  objects : new.objects ≡ written now.objects (text_of leaf) (write_of job.snapshot)
+  objects = ap (λ (s : State). s.objects) ended.left
+
+  object_beside : (name : List ℕ) → (name ≡ text_of leaf → ⊥) → map.get new.objects name ≡ map.get now.objects name
+  unfolding written
+  object_beside name apart = ap (λ (m : Objects). map.get m name) objects ∙ get_beside now.objects (text_of leaf) _ name apart
+
+  beside : (q : Leaf) → IsLive now.homes now.covers q → (q ≡ leaf → ⊥) → IsAsItWas now new q
+  beside q it_lives apart = (
+    ap (λ m. map.get m q) removed ∙ get_left now.unsaved leaf q apart,
+    object_beside (text_of q) (λ same. apart (one_text now.homes now.covers sound.table sound.numbered q leaf it_lives live same)),
+  )
+
+  pub ended_whole : CommitsWhole now new
+  ended_whole = record {
+    left = ended.left ∙ (λ i. record now { unsaved = sym (ap (λ (s : State). s.unsaved) ended.left) i; objects = sym objects i; jobs = sym (ap (λ (s : State). s.jobs) ended.left) i; next_job = now.next_job })
+        ∙ (λ i. record now { unsaved = new.unsaved; objects = new.objects; jobs = new.jobs; next_job = sym (ap (λ (s : State). s.next_job) ended.left) i });
+    tree = ended.tree;
+    each = λ q it_lives. go q it_lives (same_or_apart q leaf);
+    others = λ name none. object_beside name (none leaf live);
+  }
+    where
+      go : (q : Leaf) → IsLive now.homes now.covers q → (q ≡ leaf) ⊎ (q ≡ leaf → ⊥) → IsAsItWas now new q ⊎ IsWritten now new q
+      go q it_lives (inl same) = inr (subst (IsWritten now new) (sym same) here_written)
+      go q it_lives (inr apart) = inl (beside q it_lives apart)
+
+-- done or not
+pub ends_whole : (now new : State) (before after : ℕ) (job : Job) → IsSound now → IsAtHand now job → (result : Result (Unit {0}) Refusal) → Ends now new before after job result → CommitsWhole now new
+ends_whole now new before after job sound hand (Ok done) ended = ended_whole now new job sound hand ended
+ends_whole now new before after job sound hand (Err reason) refused = subst (CommitsWhole now) (sym refused.1) (jobs_alone now now refl)
+
+-- ---- batch after batch
+
+-- what lacks later lacked before
+pub lacked_before : (n : ℕ) (old now : State) (before after : ℕ) (reason : Refusal) → CommitsWhole old now → IsSound now → now.next_job ≡ old.next_job → MayNotCommit n now before after reason → MayNotCommit n old before after reason
+lacked_before n old now before after reason whole sound number (inl may) = inl may
+lacked_before n old now before after reason whole sound number (inr (no_number, inl lacks)) = inr (no_number, inl (subst (LacksNumbers n) number lacks))
+lacked_before n old now before after reason whole sound number (inr (no_number, inr (leaf, u, is, above))) = go (whole.each leaf (subst (λ (s : State). IsLive s.homes s.covers leaf) whole.left (sound.unsaved leaf u is).live))
+  where
+    go : IsAsItWas old now leaf ⊎ IsWritten old now leaf → MayNotCommit n old before after reason
+    go (inl same) = inr (no_number, inr (leaf, u, sym same.0 ∙ is, above))
+    go (inr w) = let clash : None ≡ Some u = sym w.clean ∙ is in absurd cc
+
+-- each turn leaves less to do
+pub turn_ends : (some : Bool) (old new : UnsavedLeaves) → (some ≡ true → map.len new < map.len old) → (some ≡ false → new ≡ map.empty) → map.len new + cond some 1 0 < map.len old + 1
+turn_ends true old new fewer clean = let less = fewer refl in omega (arith, less)
+turn_ends false old new fewer clean = let none : map.len new ≡ 0 = ap (λ (m : UnsavedLeaves). map.len m) (clean refl) ∙ len-empty leaf_cmp Unsaved in omega (arith, none)

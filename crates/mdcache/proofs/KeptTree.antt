@@ -1,0 +1,79 @@
+-- What each step of a flush keeps.
+use Rattle.std.proofs.Common.{◌≡◌, ◌⊎◌, inl, inr, ℕ, Bool, true, false, cond, ◌==◌, Option, Some, None, refl, sym, ap, subst, ◌∙◌}
+use Rattle.std.specs.FinMap as map
+use Rattle.std.proofs.lemmas.Bool.{eqb-true, eq-eqb}
+use Rattle.cached_frag.specs.Cached.{Cached}
+use Rattle.dentry_cache.specs.Cache.{IsThere, Leaf}
+use Rattle.dentry_cache.specs.CacheMap.{At, CacheMap, at_rank}
+use Rattle.dentry_cache.specs.Came.{Came, NoneEnds}
+use Rattle.dentry_cache.specs.Came.Came.{stays as it_stays}
+use Rattle.dentry_cache.proofs.FrameLaws.{came_held, came_then, came_weaker}
+use Rattle.mdcache.specs.Core.{Core, state_of}
+use Rattle.mdcache.specs.Flushed.{ArePurged, HasFragment, KeepsTree, StepsKeepTree}
+use Rattle.mdcache.specs.SavedTrees.{SavesTrees}
+use Rattle.mdcache.specs.StandingJobs.{Jobs}
+use Rattle.objstore.specs.Objects.{Objects}
+use Rattle.objstore.specs.Omap.{Keys}
+use Rattle.mdcache.specs.Shown.{shown_tree}
+use Rattle.mdcache.specs.State.{State}
+
+-- a fragment that is there is at its rank
+pub there_at : (r : ℕ) (o : Option At) → IsThere (at_rank r o) → (a : At) × (o ≡ Some a) × (a.rank ≡ r)
+there_at r None there = absurd there
+there_at r (Some a) there = go (a.rank == r) refl there
+  where
+    go : (b : Bool) → (a.rank == r) ≡ b → IsThere (cond b (Some a.frag) None) → (x : At) × (Some a ≡ Some x) × (x.rank ≡ r)
+    go true is there = (a, refl, eqb-true a.rank r is)
+    go false is there = absurd there
+
+pub at_its_rank : (r : ℕ) (a : At) → a.rank ≡ r → IsThere (at_rank r (Some a))
+at_its_rank r a is = subst (λ b. IsThere (cond b (Some a.frag) None)) (sym (eq-eqb a.rank r is)) tt
+
+-- a fragment that is there after such steps was there before
+module _ (old mid : CacheMap) (came : Came (HasFragment old) NoneEnds old mid) where
+  pub was_there : (r : ℕ) (q : Leaf) → HasFragment mid r q → HasFragment old r q
+  was_there r q there = go (there_at r (map.get mid.held q) there)
+    where
+      by : (a : At) → a.rank ≡ r → (map.get old.held q ≡ Some a) ⊎ HasFragment old a.rank q → HasFragment old r q
+      by a at (inl same) = subst (λ o. IsThere (at_rank r o)) (sym same) (at_its_rank r a at)
+      by a at (inr used) = subst (λ k. HasFragment old k q) at used
+
+      go : (a : At) × (map.get mid.held q ≡ Some a) × (a.rank ≡ r) → HasFragment old r q
+      go (a, is, at) = by a at (came_held (HasFragment old) NoneEnds old mid came q a is)
+
+  pub came_on : (new : CacheMap) → Came (HasFragment mid) NoneEnds mid new → Came (HasFragment old) NoneEnds old new
+  came_on new more = came_then (HasFragment old) NoneEnds old mid new came (came_weaker (HasFragment mid) NoneEnds (HasFragment old) NoneEnds was_there (λ r q ends. ends) mid new more)
+
+pub kept_itself : (c : Core) → KeepsTree c c
+kept_itself c = record { homes = refl; covers = refl; tree = refl; generation = refl; version = refl; caches = it_stays }
+
+pub steps_keep_tree : StepsKeepTree
+steps_keep_tree old mid new first second = record {
+  homes = second.homes ∙ first.homes;
+  covers = second.covers ∙ first.covers;
+  tree = second.tree ∙ first.tree;
+  generation = second.generation ∙ first.generation;
+  version = second.version ∙ first.version;
+  caches = came_on old.caches mid.caches first.caches new.caches second.caches;
+}
+
+-- a step that leaves the caches, and of the state all but objects, jobs, purge list and the next job's number
+module _ (old new : Core) (caches : new.caches ≡ old.caches) where
+  pub keeps_tree : (objects : Objects) (jobs : Jobs) (purge : Keys) (next : ℕ) → state_of new ≡ record (state_of old) { objects = objects; jobs = jobs; purge = purge; next_job = next } → shown_tree (state_of new) ≡ shown_tree (state_of old) → KeepsTree old new
+  keeps_tree objects jobs purge next left tree = record {
+    homes = ap (λ (s : State). s.homes) left;
+    covers = ap (λ (s : State). s.covers) left;
+    tree = tree;
+    generation = ap (λ (s : State). s.next_generation) left;
+    version = ap (λ (s : State). s.next_version) left;
+    caches = subst (λ c. Came (HasFragment old.caches) NoneEnds old.caches c) (sym caches) it_stays;
+  }
+
+  pub saved_keeps : SavesTrees (state_of old) (state_of new) → KeepsTree old new
+  saved_keeps saved = keeps_tree new.objects old.jobs new.purge old.next_job saved.left saved.tree
+
+  pub purged_keeps : ArePurged (state_of old) (state_of new) → KeepsTree old new
+  purged_keeps purged = keeps_tree new.objects old.jobs new.purge old.next_job purged.left purged.tree
+
+  pub jobless_keeps : state_of new ≡ record (state_of old) { jobs = map.empty } → KeepsTree old new
+  jobless_keeps left = keeps_tree old.objects map.empty old.purge old.next_job left (ap shown_tree left)

@@ -1,0 +1,166 @@
+-- The leaves that aren't clean, as they are listed: each is so at its rank, no two are one, and where none is listed all is clean.
+use Rattle.std.proofs.Common.{◌≡◌, ◌⊎◌, inl, inr, ℕ, zero, suc, ◌+◌, ◌<◌, ◌≤◌, ◌==◌, Bool, true, false, cond, List, [], ◌∷◌, ◌++◌, map as list_map, take, get_or, length, Option, Some, None, refl, sym, ap, subst, ◌∙◌, arith}
+use Rattle.std.specs.Prelude.{is_some}
+use Rattle.std.specs.List.{AllByRecursion, IsDistinct, list_any}
+use Rattle.std.specs.FinMap as map
+use Rattle.std.specs.FinMap.{get-empty, same_map}
+use Rattle.std.proofs.lemmas.Bool.{eq-eqb, eqb-true, or_cases}
+use Rattle.std.proofs.lemmas.List.{map-append}
+use Rattle.mds_types.proofs.LeafLaws.{leaf-exact, leaf-total, one_leaf, same_leaf}
+use Rattle.mds_types.specs.Leaf.{leaf_of}
+use Rattle.mds_types.specs.declared.dirfrags.Dirfrag.{Dirfrag}
+use Rattle.dentry_cache.specs.Cache.{Leaf, Unsaved, leaf_is, unsaved_in}
+use Rattle.dentry_cache.specs.CacheMap.{AreCaches, At, CacheMap, IsFree, at_rank, here, unclean, unsaved_at}
+use Rattle.dentry_cache.specs.Unclean.{unclean_among, unclean_from, unclean_places}
+use Rattle.dentry_cache.proofs.UncleanLaws.{get_unclean}
+use Rattle.mdcache.specs.Batches.{AreApart, IsUncleanAt, NotAmong, leaves_at}
+
+all_append : {A : Type 0} (P : A → Type 0) (xs ys : List A) → AllByRecursion P xs → AllByRecursion P ys → AllByRecursion P (xs ++ ys)
+all_append P [] ys all more = more
+all_append P (x ∷ xs) ys (one, all) more = (one, all_append P xs ys all more)
+
+all_weaker : {A : Type 0} (P Q : A → Type 0) → ((x : A) → P x → Q x) → (xs : List A) → AllByRecursion P xs → AllByRecursion Q xs
+all_weaker P Q so [] all = tt
+all_weaker P Q so (x ∷ xs) (one, all) = (so x one, all_weaker P Q so xs all)
+
+all_take : {A : Type 0} (P : A → Type 0) (n : ℕ) (xs : List A) → AllByRecursion P xs → AllByRecursion P (take n xs)
+all_take P zero xs all = tt
+all_take P (suc n) [] all = tt
+all_take P (suc n) (x ∷ xs) (one, all) = (one, all_take P n xs all)
+
+others_take : (leaf : Leaf) (n : ℕ) (xs : List Dirfrag) → NotAmong leaf (leaves_at xs) → NotAmong leaf (leaves_at (take n xs))
+others_take leaf zero xs others = tt
+others_take leaf (suc n) [] others = tt
+others_take leaf (suc n) (x ∷ xs) (other, others) = (other, others_take leaf n xs others)
+
+apart_take : (n : ℕ) (xs : List Dirfrag) → AreApart (leaves_at xs) → AreApart (leaves_at (take n xs))
+apart_take zero xs apart = tt
+apart_take (suc n) [] apart = tt
+apart_take (suc n) (x ∷ xs) (others, apart) = (others_take (leaf_of x) n xs others, apart_take n xs apart)
+
+apart_append : (xs ys : List Leaf) → AreApart xs → AreApart ys → AllByRecursion (λ (x : Leaf). NotAmong x ys) xs → AreApart (xs ++ ys)
+apart_append [] ys apart more none = more
+apart_append (x ∷ xs) ys (others, apart) more (other, none) = (all_append (λ (q : Leaf). q ≡ x → ⊥) xs ys others other, apart_append xs ys apart more none)
+
+-- a fragment with something unsaved is at its rank, and at no other
+free_there : (r : ℕ) (o : Option At) → is_some (unsaved_in (at_rank r o)) ≡ true → IsFree r o × (is_some (unsaved_at o) ≡ true)
+free_there r None dirty = let clash : false ≡ true = dirty in absurd cc
+free_there r (Some a) dirty = go (a.rank == r) refl dirty
+  where
+    go : (b : Bool) → (a.rank == r) ≡ b → is_some (unsaved_in (cond b (Some a.frag) None)) ≡ true → (a.rank ≡ r) × (is_some (unsaved_in (Some a.frag)) ≡ true)
+    go true is dirty = (eqb-true a.rank r is, dirty)
+    go false is dirty = let clash : false ≡ true = dirty in absurd cc
+
+module _ (c : CacheMap) where
+  unclean_at : (r : ℕ) (q : Leaf) → r < length c.used → is_some (unsaved_in (here c r q)) ≡ true → IsUncleanAt c (record { dir = q.0; frag = q.1; rank = record { 0 = r } })
+  unclean_at r q within dirty = let w = free_there r (map.get c.held q) dirty in record { holds = record { there = within; alone = w.0 }; dirty = ap is_some (get_unclean c q) ∙ w.1 }
+
+  among_all : (r : ℕ) → r < length c.used → (leaves : List Leaf) → AllByRecursion (λ (a : Dirfrag). IsUncleanAt c a × (a.rank.0 ≡ r)) (unclean_among c r leaves)
+  among_all r within [] = tt
+  among_all r within (q ∷ leaves) = go (is_some (unsaved_in (here c r q))) refl (among_all r within leaves)
+    where
+      go : (b : Bool) → is_some (unsaved_in (here c r q)) ≡ b → AllByRecursion (λ (a : Dirfrag). IsUncleanAt c a × (a.rank.0 ≡ r)) (unclean_among c r leaves)
+          → AllByRecursion (λ (a : Dirfrag). IsUncleanAt c a × (a.rank.0 ≡ r)) (cond b (record { dir = q.0; frag = q.1; rank = record { 0 = r } } ∷ unclean_among c r leaves) (unclean_among c r leaves))
+      go true dirty all = ((unclean_at r q within dirty, refl), all)
+      go false clean all = all
+
+  from_all : (r : ℕ) (used : List (List Leaf)) → r + length used ≤ length c.used → AllByRecursion (λ (a : Dirfrag). IsUncleanAt c a × (r ≤ a.rank.0)) (unclean_from c r used)
+  from_all r [] within = tt
+  from_all r (leaves ∷ used) within =
+      all_append (λ (a : Dirfrag). IsUncleanAt c a × (r ≤ a.rank.0)) (unclean_among c r leaves) (unclean_from c (r + 1) used)
+      (all_weaker (λ (a : Dirfrag). IsUncleanAt c a × (a.rank.0 ≡ r)) (λ (a : Dirfrag). IsUncleanAt c a × (r ≤ a.rank.0)) (λ a is. let at = is.1 in (is.0, omega (arith, at))) (unclean_among c r leaves) (among_all r (omega (arith, within)) leaves))
+      (all_weaker (λ (a : Dirfrag). IsUncleanAt c a × (r + 1 ≤ a.rank.0)) (λ (a : Dirfrag). IsUncleanAt c a × (r ≤ a.rank.0)) (λ a is. let at = is.1 in (is.0, omega (arith, at))) (unclean_from c (r + 1) used) (from_all (r + 1) used (omega (arith, within))))
+
+  pub listed_unclean : (n : ℕ) → AllByRecursion (IsUncleanAt c) (take n (unclean_places c))
+  listed_unclean n = all_take (IsUncleanAt c) n (unclean_places c) (all_weaker (λ (a : Dirfrag). IsUncleanAt c a × (0 ≤ a.rank.0)) (IsUncleanAt c) (λ a is. is.0) (unclean_places c) (from_all 0 c.used (omega arith)))
+
+  -- ---- no two are one
+
+  one_rank : (a b : Dirfrag) → IsUncleanAt c a → IsUncleanAt c b → leaf_of b ≡ leaf_of a → a.rank.0 ≡ b.rank.0
+  one_rank a b this that same = go (map.get c.held (leaf_of a)) refl this.holds.alone (subst (λ q. IsFree b.rank.0 (map.get c.held q)) same that.holds.alone)
+    where
+      go : (o : Option At) → map.get c.held (leaf_of a) ≡ o → IsFree a.rank.0 o → IsFree b.rank.0 o → a.rank.0 ≡ b.rank.0
+      go None none first second = let clash : false ≡ true = ap is_some (sym (get_unclean c (leaf_of a) ∙ ap unsaved_at none)) ∙ this.dirty in absurd cc
+      go (Some x) is first second = sym first ∙ second
+
+  not_in : (r : ℕ) (q : Leaf) (leaves : List Leaf) → AllByRecursion (λ y. leaf_is q y ≡ false) leaves → NotAmong q (leaves_at (unclean_among c r leaves))
+  not_in r q [] others = tt
+  not_in r q (y ∷ leaves) (other, others) = go (is_some (unsaved_in (here c r y))) (not_in r q leaves others)
+    where
+      go : (b : Bool) → NotAmong q (leaves_at (unclean_among c r leaves)) → NotAmong q (leaves_at (cond b (record { dir = y.0; frag = y.1; rank = record { 0 = r } } ∷ unclean_among c r leaves) (unclean_among c r leaves)))
+      go true more = ((λ same. let clash : true ≡ false = sym (same_leaf q y (sym same)) ∙ other in cc), more)
+      go false more = more
+
+  among_apart : (r : ℕ) (leaves : List Leaf) → IsDistinct leaf_is leaves → AreApart (leaves_at (unclean_among c r leaves))
+  unfolding IsDistinct
+  among_apart r [] distinct = tt
+  among_apart r (q ∷ leaves) (others, distinct) = go (is_some (unsaved_in (here c r q))) (among_apart r leaves distinct)
+    where
+      go : (b : Bool) → AreApart (leaves_at (unclean_among c r leaves)) → AreApart (leaves_at (cond b (record { dir = q.0; frag = q.1; rank = record { 0 = r } } ∷ unclean_among c r leaves) (unclean_among c r leaves)))
+      go true more = (not_in r q leaves others, more)
+      go false more = more
+
+  crosses : (r : ℕ) (a : Dirfrag) → IsUncleanAt c a → a.rank.0 ≡ r → (bs : List Dirfrag) → AllByRecursion (λ (b : Dirfrag). IsUncleanAt c b × (r + 1 ≤ b.rank.0)) bs → NotAmong (leaf_of a) (leaves_at bs)
+  crosses r a this at [] all = tt
+  crosses r a this at (b ∷ bs) ((that, later), all) = ((λ same. let one = one_rank a b this that same in absurd (omega (arith, one, at, later))), crosses r a this at bs all)
+
+  each_crosses : (r : ℕ) (these bs : List Dirfrag) → AllByRecursion (λ (a : Dirfrag). IsUncleanAt c a × (a.rank.0 ≡ r)) these → AllByRecursion (λ (b : Dirfrag). IsUncleanAt c b × (r + 1 ≤ b.rank.0)) bs → AllByRecursion (λ (x : Leaf). NotAmong x (leaves_at bs)) (leaves_at these)
+  each_crosses r [] bs all more = tt
+  each_crosses r (a ∷ these) bs ((this, at), all) more = (crosses r a this at bs more, each_crosses r these bs all more)
+
+  from_apart : (r : ℕ) (used : List (List Leaf)) → r + length used ≤ length c.used → AllByRecursion (IsDistinct leaf_is) used → AreApart (leaves_at (unclean_from c r used))
+  from_apart r [] within distinct = tt
+  from_apart r (leaves ∷ used) within (one, distinct) =
+      subst AreApart (sym (map-append (λ (a : Dirfrag). leaf_of a) (unclean_among c r leaves) (unclean_from c (r + 1) used)))
+      (apart_append (leaves_at (unclean_among c r leaves)) (leaves_at (unclean_from c (r + 1) used)) (among_apart r leaves one) (from_apart (r + 1) used (omega (arith, within)) distinct)
+      (each_crosses r (unclean_among c r leaves) (unclean_from c (r + 1) used) (among_all r (omega (arith, within)) leaves) (from_all (r + 1) used (omega (arith, within)))))
+
+  each_order : (used : List (List Leaf)) → ((r : ℕ) → IsDistinct leaf_is (get_or used r [])) → AllByRecursion (IsDistinct leaf_is) used
+  each_order [] distinct = tt
+  each_order (leaves ∷ used) distinct = (distinct 0, each_order used (λ r. distinct (suc r)))
+
+  pub listed_apart : AreCaches c → (n : ℕ) → AreApart (leaves_at (take n (unclean_places c)))
+  listed_apart valid n = apart_take n (unclean_places c) (from_apart 0 c.used (omega arith) (each_order c.used valid.distinct))
+
+  -- ---- where none is listed
+
+  among_some : (r : ℕ) (q : Leaf) (leaves : List Leaf) → list_any (leaf_is q) leaves ≡ true → is_some (unsaved_in (here c r q)) ≡ true → unclean_among c r leaves ≡ [] → ⊥
+  among_some r q [] has dirty none = let clash : false ≡ true = has in cc
+  among_some r q (x ∷ leaves) has dirty none = go (is_some (unsaved_in (here c r x))) refl (λ more rest. among_some r q leaves more dirty rest) none
+    where
+      go : (b : Bool) → is_some (unsaved_in (here c r x)) ≡ b → (list_any (leaf_is q) leaves ≡ true → unclean_among c r leaves ≡ [] → ⊥)
+          → cond b (record { dir = x.0; frag = x.1; rank = record { 0 = r } } ∷ unclean_among c r leaves) (unclean_among c r leaves) ≡ [] → ⊥
+      go true is rest none = let clash : (record { dir = x.0; frag = x.1; rank = record { 0 = r } } ∷ unclean_among c r leaves) ≡ [] = none in cc
+      go false clean rest none = by (or_cases (leaf_is q x) (list_any (leaf_is q) leaves) has)
+        where
+          by : (leaf_is q x ≡ true) ⊎ (list_any (leaf_is q) leaves ≡ true) → ⊥
+          by (inl same) = let clash : false ≡ true = sym clean ∙ ap (λ y. is_some (unsaved_in (here c r y))) (sym (one_leaf q x same)) ∙ dirty in cc
+          by (inr more) = rest more none
+
+  first_none : {A : Type 0} (xs ys : List A) → xs ++ ys ≡ [] → (xs ≡ []) × (ys ≡ [])
+  first_none [] ys none = (refl, none)
+  first_none (x ∷ xs) ys none = let clash : x ∷ (xs ++ ys) ≡ [] = none in absurd cc
+
+  from_some : (r : ℕ) (used : List (List Leaf)) (k : ℕ) (q : Leaf) → list_any (leaf_is q) (get_or used k []) ≡ true → is_some (unsaved_in (here c (r + k) q)) ≡ true → unclean_from c r used ≡ [] → ⊥
+  from_some r [] k q has dirty none = let clash : false ≡ true = has in cc
+  from_some r (leaves ∷ used) zero q has dirty none = among_some r q leaves has (subst (λ n. is_some (unsaved_in (here c n q)) ≡ true) (let at : r + 0 ≡ r = omega arith in at) dirty) (first_none (unclean_among c r leaves) (unclean_from c (r + 1) used) none).0
+  from_some r (leaves ∷ used) (suc k) q has dirty none =
+      from_some (r + 1) used k q has (subst (λ n. is_some (unsaved_in (here c n q)) ≡ true) (let at : r + suc k ≡ (r + 1) + k = omega arith in at) dirty) (first_none (unclean_among c r leaves) (unclean_from c (r + 1) used) none).1
+
+  none_listed : AreCaches c → unclean_places c ≡ [] → (q : Leaf) → (o : Option At) → map.get c.held q ≡ o → unsaved_at o ≡ None
+  none_listed valid none q None is = refl
+  none_listed valid none q (Some a) is = go (unsaved_in (Some a.frag)) refl
+    where
+      at : here c a.rank q ≡ Some a.frag
+      at = ap (at_rank a.rank) is ∙ ap (λ b. cond b (Some a.frag) None) (eq-eqb a.rank a.rank refl)
+
+      go : (u : Option Unsaved) → unsaved_in (Some a.frag) ≡ u → u ≡ None
+      go None clean = refl
+      go (Some u) dirty = absurd (from_some 0 c.used a.rank q (valid.placed a.rank q (ap is_some at)) (subst (λ n. is_some (unsaved_in (here c n q)) ≡ true) (let same : a.rank ≡ 0 + a.rank = omega arith in same) (ap (λ o. is_some (unsaved_in o)) at ∙ ap is_some dirty)) none)
+
+  pub nothing_listed : AreCaches c → (n : ℕ) → take (suc n) (unclean_places c) ≡ [] → unclean c ≡ map.empty
+  nothing_listed valid n none = same_map leaf-total leaf-exact (unclean c) map.empty (λ q. get_unclean c q ∙ none_listed valid (all_none (unclean_places c) none) q (map.get c.held q) refl ∙ sym (get-empty _ q))
+    where
+      all_none : (xs : List Dirfrag) → take (suc n) xs ≡ [] → xs ≡ []
+      all_none [] none = refl
+      all_none (x ∷ xs) none = let clash : x ∷ take n xs ≡ [] = none in absurd cc

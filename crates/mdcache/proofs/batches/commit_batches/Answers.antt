@@ -1,0 +1,56 @@
+-- Each turn commits some leaves, or finds that all is clean.
+use Rattle.std.proofs.Common.{◌≡◌, ℕ, ◌+◌, ◌<◌, cond, ◌≤◌, length, true, refl, sym, ap, subst, ◌∙◌, arith}
+use Rattle.std.specs.FinMap as map
+use Rattle.dentry_cache.specs.Came.{NoneEnds}
+use Rattle.dentry_cache.specs.CacheMap.{unclean}
+use Rattle.dentry_cache.proofs.FrameLaws.{came_ranks}
+use Rattle.mdcache.specs.Batches.{MayNotCommit}
+use Rattle.mdcache.specs.Core.{state_of}
+use Rattle.mdcache.specs.Flushed.{HasFragment}
+use Rattle.mdcache.proofs.CommittedLaws.{jobs_alone, lacked_before, turn_ends, whole_then}
+use Rattle.mdcache.proofs.KeptTree.{kept_itself, steps_keep_tree}
+use Rattle.mdcache.proofs.batches.commit_batches.Goals as goal
+
+pub loop-more-init : goal.loop-more-init
+loop-more-init g c = record {
+  clean = λ none. absurd cc;
+  whole = jobs_alone (state_of c.args.tree.now) (state_of c.args.tree.now) refl;
+  jobs = c.requires.none;
+  number = refl;
+  few = c.requires.few;
+  tree = kept_itself c.args.tree.now;
+  faults = refl;
+  sound = c.requires.sound;
+}
+
+pub returns-in-Err-clause-whole : goal.returns-in-Err-clause-whole
+returns-in-Err-clause-whole g c = whole_then (state_of c.args.tree.now) (state_of c.loop-more.tree) (state_of c.commit_some.new.self) c.loop-more.invariant.whole c.in-Err.ensures.whole
+
+pub returns-in-Err-clause-tree : goal.returns-in-Err-clause-tree
+returns-in-Err-clause-tree g c = steps_keep_tree c.args.tree.now c.loop-more.tree c.commit_some.new.self c.loop-more.invariant.tree c.in-Err.ensures.tree
+
+pub returns-in-Err-clause-refused : goal.returns-in-Err-clause-refused
+returns-in-Err-clause-refused g c =
+    subst (λ n. MayNotCommit 1024 (state_of c.args.tree.now) n c.commit_some.new.self.faults c.in-Err.refusal) c.loop-more.invariant.faults
+    (lacked_before 1024 (state_of c.args.tree.now) (state_of c.loop-more.tree) c.loop-more.tree.faults c.commit_some.new.self.faults c.in-Err.refusal c.loop-more.invariant.whole c.loop-more.invariant.sound.sound c.loop-more.invariant.number c.in-Err.ensures.refused)
+
+pub loop-more-smaller : goal.loop-more-smaller
+loop-more-smaller g c =
+    subst (λ b. map.len (unclean c.commit_some.new.self.caches) + cond {A = ℕ} c.in-Ok.some 1 0 < map.len (unclean c.loop-more.tree.caches) + cond {A = ℕ} b 1 0) (sym c.loop-more-test.true)
+    (turn_ends c.in-Ok.some (unclean c.loop-more.tree.caches) (unclean c.commit_some.new.self.caches) c.in-Ok.ensures.fewer c.in-Ok.ensures.clean)
+
+pub loop-more-preserved : goal.loop-more-preserved
+loop-more-preserved g c =
+    let inv = c.loop-more.invariant in
+    let counted = c.in-Ok.ensures.counted in
+    let so_far = inv.faults in
+    record {
+      clean = c.in-Ok.ensures.clean;
+      whole = whole_then (state_of c.args.tree.now) (state_of c.loop-more.tree) (state_of c.commit_some.new.self) inv.whole c.in-Ok.ensures.whole;
+      jobs = c.in-Ok.ensures.jobs;
+      number = c.in-Ok.ensures.number ∙ inv.number;
+      few = subst (λ n. n ≤ 256) (sym (came_ranks (HasFragment c.loop-more.tree.caches) NoneEnds c.loop-more.tree.caches c.commit_some.new.self.caches c.in-Ok.ensures.tree.caches)) inv.few;
+      tree = steps_keep_tree c.args.tree.now c.loop-more.tree c.commit_some.new.self inv.tree c.in-Ok.ensures.tree;
+      faults = omega (arith, counted, so_far);
+      sound = c.in-Ok.ensures.sound;
+    }

@@ -1,0 +1,19 @@
+use Rattle.std.proofs.Common.{Ok, subst}
+use Rattle.mds_types.specs.Leaf.{leaf_of}
+use Rattle.mdcache.specs.Commits.{Begins}
+use Rattle.mdcache.specs.Core.{state_of}
+use Rattle.mdcache.proofs.BatchLaws.{begin_keeps, begin_refused, refused_keeps}
+use Rattle.mdcache.proofs.mdcache.MdCache.begin_one.Goals as goal
+
+pub returns-in-Ok-Some-clause-tree : goal.returns-in-Ok-Some-clause-tree
+returns-in-Ok-Some-clause-tree g c =
+    begin_keeps c.args.self.now c.begin.new.self c.args.at.now.rank (leaf_of c.args.at.now) c.requires.unclean.holds c.requires.unclean.dirty c.in-Ok-Some.ensures.came c.in-Ok-Some.job
+    (subst (λ o. Begins (state_of c.args.self.now) (state_of c.begin.new.self) (leaf_of c.args.at.now) (Ok o)) c.in-Ok-Some.field-0-is c.in-Ok-Some.ensures.begun)
+
+pub returns-in-Err-clause-tree : goal.returns-in-Err-clause-tree
+returns-in-Err-clause-tree g c =
+    refused_keeps c.args.self.now c.begin.new.self c.args.at.now.rank (leaf_of c.args.at.now) c.requires.unclean.holds c.requires.unclean.dirty c.in-Err.ensures.came c.in-Err.refusal c.in-Err.ensures.begun
+
+pub returns-in-Err-clause-refused : goal.returns-in-Err-clause-refused
+returns-in-Err-clause-refused g c =
+    begin_refused (state_of c.args.self.now) (state_of c.begin.new.self) (leaf_of c.args.at.now) c.in-Err.refusal c.requires.sound.sound c.requires.unclean.dirty c.requires.free c.in-Err.ensures.begun

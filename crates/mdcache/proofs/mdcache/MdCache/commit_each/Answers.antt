@@ -1,0 +1,24 @@
+-- The jobs of all leaves begin, are encoded, and end.
+use Rattle.std.proofs.Common.{sym, ap, subst, ◌∙◌}
+use Rattle.std.specs.List.{AllByRecursion}
+use Rattle.mdcache.specs.Batches.{AreApart, IsReadyAt, leaves_of_writes}
+use Rattle.mdcache.specs.Core.{state_of}
+use Rattle.mdcache.proofs.BatchLaws.{begun_ready, leaves_ready}
+use Rattle.mdcache.proofs.CommittedLaws.{jobs_alone, whole_then}
+use Rattle.mdcache.proofs.KeptTree.{steps_keep_tree}
+use Rattle.mdcache.proofs.mdcache.MdCache.commit_each.Goals as goal
+
+pub end_each-ended-requires-clause-begun : goal.end_each-ended-requires-clause-begun
+end_each-ended-requires-clause-begun g c =
+    subst (AllByRecursion (IsReadyAt c.begin_each.new.self)) (sym (c.as_slice.ensures.value ∙ c.in-Ok-encode_each.ensures.encoded)) (begun_ready c.begin_each.new.self c.in-Ok.begun.items c.in-Ok.ensures.begun)
+
+pub end_each-ended-requires-clause-apart : goal.end_each-ended-requires-clause-apart
+end_each-ended-requires-clause-apart g c =
+    subst AreApart (sym (ap leaves_of_writes (c.as_slice.ensures.value ∙ c.in-Ok-encode_each.ensures.encoded) ∙ leaves_ready c.in-Ok.begun.items ∙ c.in-Ok.ensures.leaves)) c.requires.apart
+
+pub returns-clause-whole : goal.returns-clause-whole
+returns-clause-whole g c =
+    whole_then (state_of c.args.self.now) (state_of c.begin_each.new.self) (state_of c.end_each-ended.new.self) (jobs_alone (state_of c.args.self.now) (state_of c.begin_each.new.self) c.in-Ok.ensures.left) c.end_each-ended.ensures.whole
+
+pub returns-clause-tree : goal.returns-clause-tree
+returns-clause-tree g c = steps_keep_tree c.args.self.now c.begin_each.new.self c.end_each-ended.new.self c.in-Ok.ensures.tree c.end_each-ended.ensures.tree

@@ -1,0 +1,302 @@
+//! Commits of several fragments at once, as a flush makes them.
+ghost use Rattle.std.specs.Prelude.{map as list_map, ◌≤◌, ◌<◌, true, false, [], ◌≡◌, ◌+◌, length, None, Some, Ok, OnOk, OnErr, IfOk, IfErr};
+ghost use Rattle.std.specs.List.{AllByRecursion};
+ghost use Rattle.std.specs.FinMap as map;
+ghost use Rattle.std.specs.Result.{result_err};
+ghost use Rattle.objstore.specs.Objects.{MayRefuse, faults_told};
+ghost use Rattle.mds_types.specs.Leaf.{leaf_of};
+ghost use Rattle.mds_types.specs.declared.refusals.Refusal.TheVariants.{NoMemory};
+ghost use Rattle.dentry_cache.specs.CacheMap.{unclean};
+ghost use Rattle.mdcache.specs.Batches.{AreApart, CommitsWhole, IsBegunAt, IsReadyAt, IsUncleanAt, MayNotBeginAll, MayNotBeginOne, MayNotCommit, leaves_at, leaves_of_jobs, leaves_of_writes, ready_of};
+ghost use Rattle.mdcache.specs.Commits.{Begins, IsEnded, leaf_of as job_leaf};
+ghost use Rattle.mdcache.specs.Core.{IsSoundCore, state_of};
+ghost use Rattle.mdcache.specs.Flushed.{IsAtHand, KeepsTree};
+ghost use Rattle.mdcache.specs.Ranks.{MayHold};
+
+use crate::mdcache::MdCache;
+use crate::standing_jobs::StandingJobs;
+use cached_frag::{Encoded, Job};
+use mds_types::{Dirfrag, Rank, Refusal};
+use objstore::Store;
+use std::alloc::Global;
+
+/// A job that was begun, and the rank that has its fragment.
+#[derive(Drop)]
+pub(crate) struct Begun {
+    pub rank: Rank,
+    pub job: Job,
+}
+
+/// The write of a job that was begun, and the rank that has its fragment.
+#[derive(Drop)]
+pub(crate) struct Ready {
+    pub rank: Rank,
+    pub encoded: Encoded,
+}
+
+impl<S: Store + Drop> MdCache<S> {
+    /// Commits each fragment that isn't clean, while no job stands. No more than 1,024 of them are begun at once, and no job stands
+    /// afterwards; the next one gets the number that it would have got before. Takes memory for the snapshots and writes of so many.
+    ///
+    /// Refused `NoInodes` where a fragment's version is used up, or fewer than 1,024 numbers are left for jobs; otherwise as the store
+    /// refuses, and `NoMemory`. What was committed until then is so, and all else is as it was.
+    pub fn commit_all(&mut self, alloc: Global) -> Result<(), Refusal>
+        requires sound { IsSoundCore self.old }
+        requires none { self.old.jobs ≡ map.empty }
+        requires few { length self.old.caches.used ≤ 256 }
+        ensures clean { OnOk result (unclean self.new.caches ≡ map.empty) }
+        ensures whole { CommitsWhole (state_of self.old) (state_of self.new) }
+        ensures jobs { self.new.jobs ≡ map.empty }
+        ensures number { self.new.next_job ≡ self.old.next_job }
+        ensures tree { KeepsTree self.old self.new }
+        ensures refused { IfErr result (MayNotCommit 1024 (state_of self.old) self.old.faults self.new.faults) }
+        ensures counted { self.new.faults ≡ self.old.faults + faults_told (result_err result) }
+        ensures sound { IsSoundCore self.new }
+    {
+        commit_batches(self, alloc)
+    }
+
+    // Commits some leaves that aren't clean, no more than 1,024, and tells whether there were any. Takes memory for them at once.
+    fn commit_some(&mut self, alloc: Global) -> Result<bool, Refusal>
+        requires sound { IsSoundCore self.old }
+        requires none { self.old.jobs ≡ map.empty }
+        requires few { length self.old.caches.used ≤ 256 }
+        ensures fewer { IfOk result (λ some. some ≡ true → map.len (unclean self.new.caches) < map.len (unclean self.old.caches)) }
+        ensures clean { IfOk result (λ some. some ≡ false → unclean self.new.caches ≡ map.empty) }
+        ensures whole { CommitsWhole (state_of self.old) (state_of self.new) }
+        ensures jobs { self.new.jobs ≡ map.empty }
+        ensures number { self.new.next_job ≡ self.old.next_job }
+        ensures tree { KeepsTree self.old self.new }
+        ensures refused { IfErr result (MayNotCommit 1024 (state_of self.old) self.old.faults self.new.faults) }
+        ensures counted { self.new.faults ≡ self.old.faults + faults_told (result_err result) }
+        ensures sound { IsSoundCore self.new }
+    {
+        let leaves = match self.next_batch(alloc) {
+            Ok(leaves) => leaves,
+            Err(refusal) => return Err(refusal),
+        };
+        if leaves.is_empty() {
+            return Ok(false);
+        }
+        let done = self.commit_batch(alloc, leaves.as_slice());
+        drop(leaves);
+        match done {
+            Ok(()) => Ok(true),
+            Err(refusal) => Err(refusal),
+        }
+    }
+
+    // The next leaves to commit: some that aren't clean, where any is, and no more than 1,024. Takes memory for them.
+    fn next_batch(&self, alloc: Global) -> Result<Vec<Dirfrag>, Refusal>
+        requires { length self.now.caches.used ≤ 256 }
+        ensures unclean { IfOk result (λ leaves. AllByRecursion (IsUncleanAt self.now.caches) leaves.items) }
+        ensures apart { IfOk result (λ leaves. AreApart (leaves_at leaves.items)) }
+        ensures few { IfOk result (λ leaves. length leaves.items ≤ 1024) }
+        ensures none { IfOk result (λ leaves. leaves.items ≡ [] → unclean self.now.caches ≡ map.empty) }
+        ensures refused { IfErr result (λ reason. reason ≡ NoMemory) }
+    {
+        match self.caches.unclean_leaves(alloc, 1024) {
+            Ok(leaves) => Ok(leaves),
+            Err(_) => Err(Refusal::NoMemory),
+        }
+    }
+
+    // Commits each of these leaves, none of which is clean. Takes memory for all of them at once. Whatever it answers no job stands
+    // then, and the next one gets the number that it would have got before.
+    pub(crate) fn commit_batch(&mut self, alloc: Global, leaves: &[Dirfrag]) -> Result<(), Refusal>
+        requires sound { IsSoundCore self.old }
+        requires none { self.old.jobs ≡ map.empty }
+        requires apart { AreApart (leaves_at leaves.now) }
+        requires unclean { AllByRecursion (IsUncleanAt self.old.caches) leaves.now }
+        ensures whole { CommitsWhole (state_of self.old) (state_of self.new) }
+        ensures jobs { self.new.jobs ≡ map.empty }
+        ensures number { self.new.next_job ≡ self.old.next_job }
+        ensures fewer { OnOk result (map.len (unclean self.new.caches) + length leaves.now ≡ map.len (unclean self.old.caches)) }
+        ensures tree { KeepsTree self.old self.new }
+        ensures refused { IfErr result (MayNotCommit (length leaves.now) (state_of self.old) self.old.faults self.new.faults) }
+        ensures counted { self.new.faults ≡ self.old.faults + faults_told (result_err result) }
+        ensures sound { IsSoundCore self.new }
+    {
+        let number = self.next_job();
+        let done = self.commit_each(alloc, leaves);
+        self.give_up_from(number);
+        done
+    }
+
+    // The number that the next job gets.
+    fn next_job(&self) -> u64
+        ensures { result ≡ self.now.next_job }
+    {
+        self.next.job
+    }
+
+    // Gives up all jobs; the next one gets this number. Takes no memory.
+    fn give_up_from(&mut self, number: u64)
+        requires { IsSoundCore self.old }
+        ensures state { state_of self.new ≡ record (state_of self.old) { jobs = map.empty; next_job = number } }
+        ensures caches { self.new.caches ≡ self.old.caches }
+        ensures faults { self.new.faults ≡ self.old.faults }
+        ensures sound { IsSoundCore self.new }
+    {
+        self.jobs = StandingJobs::new(self.alloc);
+        self.next.job = number;
+    }
+
+    // Commits each of these leaves, none of which is clean: all begin, all are encoded, and all end. Takes memory for all of them at
+    // once. After a refusal some may be committed, and jobs stand.
+    pub(crate) fn commit_each(&mut self, alloc: Global, leaves: &[Dirfrag]) -> Result<(), Refusal>
+        requires sound { IsSoundCore self.old }
+        requires none { self.old.jobs ≡ map.empty }
+        requires apart { AreApart (leaves_at leaves.now) }
+        requires unclean { AllByRecursion (IsUncleanAt self.old.caches) leaves.now }
+        ensures whole { CommitsWhole (state_of self.old) (state_of self.new) }
+        ensures fewer { OnOk result (map.len (unclean self.new.caches) + length leaves.now ≡ map.len (unclean self.old.caches)) }
+        ensures tree { KeepsTree self.old self.new }
+        ensures refused { IfErr result (MayNotCommit (length leaves.now) (state_of self.old) self.old.faults self.new.faults) }
+        ensures counted { self.new.faults ≡ self.old.faults + faults_told (result_err result) }
+        ensures sound { IsSoundCore self.new }
+    {
+        let begun = match self.begin_each(alloc, leaves) {
+            Ok(begun) => begun,
+            Err(refusal) => return Err(refusal),
+        };
+        let ready = match encode_each(alloc, begun) {
+            Ok(ready) => ready,
+            Err(refusal) => return Err(refusal),
+        };
+        let ended = self.end_each(alloc, ready.as_slice());
+        drop(ready);
+        ended
+    }
+
+    // Begins a commit of each of these leaves, none of which is clean. Takes memory for the jobs, and for each snapshot twice.
+    pub(crate) fn begin_each(
+        &mut self,
+        alloc: Global,
+        leaves: &[Dirfrag],
+    ) -> Result<Vec<Begun>, Refusal>
+        requires sound { IsSoundCore self.old }
+        requires none { self.old.jobs ≡ map.empty }
+        requires apart { AreApart (leaves_at leaves.now) }
+        requires unclean { AllByRecursion (IsUncleanAt self.old.caches) leaves.now }
+        ensures begun { IfOk result (λ begun. AllByRecursion (IsBegunAt self.new) begun.items) }
+        ensures leaves { IfOk result (λ begun. leaves_of_jobs begun.items ≡ leaves_at leaves.now) }
+        ensures left { state_of self.new ≡ record (state_of self.old) { jobs = self.new.jobs; next_job = self.new.next_job } }
+        ensures tree { KeepsTree self.old self.new }
+        ensures refused { IfErr result (MayNotBeginAll (length leaves.now) (state_of self.old)) }
+        ensures faults { self.new.faults ≡ self.old.faults }
+        ensures sound { IsSoundCore self.new }
+    {
+        let mut begun = Vec::with_capacity(alloc, leaves.len())?;
+        for at in leaves {
+            let job = match self.begin_one(at) {
+                Ok(job) => job,
+                Err(refusal) => return Err(refusal),
+            };
+            let one = Begun { rank: at.rank, job };
+            if begun.push(one).is_err() {
+                return Err(Refusal::NoMemory);
+            }
+        }
+        Ok(begun)
+    }
+
+    // Ends each of these commits, of fragments that haven't changed since: they are clean then. Takes memory before each write.
+    pub(crate) fn end_each(&mut self, alloc: Global, ready: &[Ready]) -> Result<(), Refusal>
+        requires sound { IsSoundCore self.old }
+        requires begun { AllByRecursion (IsReadyAt self.old) ready.now }
+        requires apart { AreApart (leaves_of_writes ready.now) }
+        ensures whole { CommitsWhole (state_of self.old) (state_of self.new) }
+        ensures fewer { OnOk result (map.len (unclean self.new.caches) + length ready.now ≡ map.len (unclean self.old.caches)) }
+        ensures tree { KeepsTree self.old self.new }
+        ensures refused { IfErr result (MayRefuse self.old.faults self.new.faults) }
+        ensures counted { self.new.faults ≡ self.old.faults + faults_told (result_err result) }
+        ensures sound { IsSoundCore self.new }
+    {
+        for one in ready {
+            if let Err(refusal) = self.end_one(alloc, one.rank, &one.encoded) {
+                return Err(refusal);
+            }
+        }
+        Ok(())
+    }
+
+    // Begins a commit of a leaf that isn't clean and for which no job stands. Takes memory for the snapshot, twice.
+    pub(crate) fn begin_one(&mut self, at: &Dirfrag) -> Result<Job, Refusal>
+        requires sound { IsSoundCore self.old }
+        requires unclean { IsUncleanAt self.old.caches at.now }
+        requires free { map.get self.old.jobs (leaf_of at.now) ≡ None }
+        ensures begun { IfOk result (λ job. Begins (state_of self.old) (state_of self.new) (leaf_of at.now) (Ok (Some job))) }
+        ensures left { OnErr result (state_of self.new ≡ state_of self.old) }
+        ensures tree { KeepsTree self.old self.new }
+        ensures refused { IfErr result (MayNotBeginOne (state_of self.old) (leaf_of at.now)) }
+        ensures faults { self.new.faults ≡ self.old.faults }
+        ensures sound { IsSoundCore self.new }
+    {
+        match self.begin(at.rank, at.dir, at.frag) {
+            Ok(Some(job)) => Ok(job),
+            Ok(None) => unreachable!(),
+            Err(refusal) => Err(refusal),
+        }
+    }
+
+    // Ends a commit of a leaf whose fragment hasn't changed since it began: it is clean then. Takes memory before it writes.
+    pub(crate) fn end_one(
+        &mut self,
+        alloc: Global,
+        rank: Rank,
+        encoded: &Encoded,
+    ) -> Result<(), Refusal>
+        requires sound { IsSoundCore self.old }
+        requires holds { MayHold self.old.caches rank (job_leaf encoded.now.job) }
+        requires begun { IsAtHand (state_of self.old) encoded.now.job }
+        ensures ended { OnOk result (IsEnded (state_of self.old) (state_of self.new) encoded.now.job) }
+        ensures whole { CommitsWhole (state_of self.old) (state_of self.new) }
+        ensures tree { KeepsTree self.old self.new }
+        ensures refused { IfErr result (MayRefuse self.old.faults self.new.faults) }
+        ensures counted { self.new.faults ≡ self.old.faults + faults_told (result_err result) }
+        ensures sound { IsSoundCore self.new }
+    {
+        self.end(alloc, rank, encoded)
+    }
+}
+
+// The writes of jobs, in their order. Takes memory for them, and is refused for want of it alone.
+fn encode_each(alloc: Global, begun: Vec<Begun>) -> Result<Vec<Ready>, Refusal>
+    ensures encoded { IfOk result (λ ready. ready.items ≡ list_map ready_of begun.items) }
+    ensures refused { IfErr result (λ reason. reason ≡ NoMemory) }
+{
+    let mut ready = Vec::with_capacity(alloc, begun.len())?;
+    for one in begun {
+        let encoded = Encoded::of(alloc, one.job)?;
+        let rank = one.rank;
+        if ready.push(Ready { rank, encoded }).is_err() {
+            return Err(Refusal::NoMemory);
+        }
+    }
+    Ok(ready)
+}
+
+// Commits batch after batch, until all is clean.
+fn commit_batches<S: Store + Drop>(tree: &mut MdCache<S>, alloc: Global) -> Result<(), Refusal>
+    requires sound { IsSoundCore tree.old }
+    requires none { tree.old.jobs ≡ map.empty }
+    requires few { length tree.old.caches.used ≤ 256 }
+    ensures clean { OnOk result (unclean tree.new.caches ≡ map.empty) }
+    ensures whole { CommitsWhole (state_of tree.old) (state_of tree.new) }
+    ensures jobs { tree.new.jobs ≡ map.empty }
+    ensures number { tree.new.next_job ≡ tree.old.next_job }
+    ensures tree { KeepsTree tree.old tree.new }
+    ensures refused { IfErr result (MayNotCommit 1024 (state_of tree.old) tree.old.faults tree.new.faults) }
+    ensures counted { tree.new.faults ≡ tree.old.faults + faults_told (result_err result) }
+    ensures sound { IsSoundCore tree.new }
+{
+    let mut more = true;
+    while more {
+        more = match tree.commit_some(alloc) {
+            Ok(some) => some,
+            Err(refusal) => return Err(refusal),
+        };
+    }
+    Ok(())
+}
