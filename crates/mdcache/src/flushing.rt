@@ -1,10 +1,11 @@
 //! What a flush does, step by step.
-ghost use Rattle.std.specs.Prelude.{◌≡◌, ◌+◌, nat_lt, OnOk, IfErr};
+ghost use Rattle.std.specs.Prelude.{◌≡◌, ◌+◌, ◌≤◌, length, nat_lt, OnOk, IfErr};
 ghost use Rattle.std.specs.FinMap as map;
 ghost use Rattle.std.specs.Result.{result_err};
 ghost use Rattle.objstore.specs.Objects.{MayRefuse, faults_told};
 ghost use Rattle.dentry_cache.specs.CacheMap.{unclean};
 ghost use Rattle.cold_store.specs.ColdTree.{IsColdTree};
+ghost use Rattle.mdcache.specs.Batches.{MayNotCommit};
 ghost use Rattle.mdcache.specs.Core.{IsSoundCore, shown_in, state_of};
 ghost use Rattle.mdcache.specs.Flushed.{AreExact, ArePurged, IsFlushed, KeepsTree};
 ghost use Rattle.mdcache.specs.SavedTrees.{HasTrees, SavesTrees};
@@ -62,6 +63,33 @@ impl<S: Store + Drop> MdCache<S> {
         save_each(self, alloc)
     }
 
+    /// Writes all that isn't in the store: gives up the commits that were begun, commits each fragment that isn't clean, brings the
+    /// objects of directories' trees up to date and removes what is to be removed. The store's cold tree is the shown tree then, and
+    /// its objects are exactly those of live leaves and of trees of several leaves. Whatever it answers, the shown tree is as it
+    /// was, no commit is begun any more, and no next number is another. Takes memory for the snapshots and writes of 1,024 fragments.
+    ///
+    /// Refused `NoInodes` where a fragment's version is used up, or fewer than 1,024 numbers are left for jobs; otherwise as the store
+    /// refuses, and `NoMemory`. Part of it may be done then, and another flush goes on with the rest.
+    pub fn flush(&mut self, alloc: Global) -> Result<(), Refusal>
+        requires sound { IsSoundCore self.old }
+        requires few { length self.old.caches.used ≤ 256 }
+        ensures flushed { OnOk result (IsFlushed (state_of self.new)) }
+        ensures cold { OnOk result (IsColdTree self.new.objects (shown_in self.old)) }
+        ensures exact { OnOk result (AreExact (state_of self.new)) }
+        ensures jobs { self.new.jobs ≡ map.empty }
+        ensures number { self.new.next_job ≡ self.old.next_job }
+        ensures tree { KeepsTree self.old self.new }
+        ensures refused { IfErr result (MayNotCommit 1024 (record (state_of self.old) { jobs = map.empty }) self.old.faults self.new.faults) }
+        ensures counted { self.new.faults ≡ self.old.faults + faults_told (result_err result) }
+        ensures sound { IsSoundCore self.new }
+    {
+        self.drop_jobs();
+        match self.commit_all(alloc) {
+            Ok(()) => self.flush_objects(alloc),
+            Err(refusal) => Err(refusal),
+        }
+    }
+
     /// Brings the store's objects up to date where nothing is unsaved: those of directories' trees, and all that are to be
     /// removed. The store's cold tree is the shown tree then, and it has no objects but those of leaves and of trees of several
     /// leaves. Takes memory for one object after the other.
@@ -74,6 +102,8 @@ impl<S: Store + Drop> MdCache<S> {
         ensures cold { OnOk result (IsColdTree self.new.objects (shown_in self.old)) }
         ensures exact { OnOk result (AreExact (state_of self.new)) }
         ensures caches { self.new.caches ≡ self.old.caches }
+        ensures jobs { self.new.jobs ≡ self.old.jobs }
+        ensures number { self.new.next_job ≡ self.old.next_job }
         ensures tree { KeepsTree self.old self.new }
         ensures refused { IfErr result (MayRefuse self.old.faults self.new.faults) }
         ensures counted { self.new.faults ≡ self.old.faults + faults_told (result_err result) }

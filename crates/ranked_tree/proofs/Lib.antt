@@ -3,6 +3,7 @@ pub mod AuthorityLaws
 pub mod CameForLaws
 pub mod ChangedTables
 pub mod EvictLaws
+pub mod FlushedLaws
 pub mod FragsLaws
 pub mod HeldChanges
 pub mod HeldLaws

@@ -6,6 +6,7 @@ mod authorities;
 mod changing;
 mod commits;
 mod emptiness;
+mod flushing;
 mod formatting;
 mod frags;
 mod holding;
