@@ -1,21 +1,25 @@
 -- What a command on the store does, and the line that it prints.
-use Rattle.std.specs.Prelude.{◌≡◌, ◌⊎◌, ℕ, List, Option, Some, None, Result, Ok, Err}
+use Rattle.std.specs.Prelude.{◌≡◌, ◌⊎◌, ℕ, List, Option, Some, None, Result, Ok, Err, OnOk, IfErr}
 use Rattle.std.specs.FinMap as map
 use Rattle.mds_types.specs.declared.ids.Ino.{Ino}
 use Rattle.mds_types.specs.declared.ids.Rank.{Rank}
 use Rattle.mds_types.specs.declared.refusals.Refusal.{Refusal}
 use Rattle.mds_types.specs.declared.refusals.Refusal.TheVariants.{NoMemory, StaleJob}
 use Rattle.mds_types.specs.Frag.{Fragment}
+use Rattle.mds_types.specs.History.{after}
 use Rattle.objstore.specs.Objects.{Objects as Stored}
 use Rattle.cached_frag.specs.declared.jobs.Job.{Job as Begun}
 use Rattle.cached_frag.specs.Commit.{carried}
+use Rattle.cluster_core.specs.Flush.{AreExact, IsColdTree, KeepsBook, MayNotFlush}
+use Rattle.cluster_core.specs.Sound.{IsSoundBook}
+use Rattle.cluster_core.specs.State.{Kept}
 use Rattle.cluster_core.specs.declared.events.Answer.{Answer}
 use Rattle.cluster_core.specs.declared.events.Answer.TheVariants.{Deferred, Forwarded, Job, Nothing, Reply}
 use Rattle.cluster_core.specs.declared.events.Event.TheVariants.{CommitBegin as BeginEvent, CommitEnd as EndEvent, CommitDrop as DropEvent, CommitTree as TreeEvent, Purge as PurgeEvent, Evict as EvictEvent}
 use Rattle.script_text.specs.declared.store_commands.StoreCommand.{StoreCommand}
-use Rattle.script_text.specs.declared.store_commands.StoreCommand.TheVariants.{CommitBegin, CommitEnd, CommitDrop, Commit, CommitTree, Purge, Evict, Object, Objects}
+use Rattle.script_text.specs.declared.store_commands.StoreCommand.TheVariants.{CommitBegin, CommitEnd, CommitDrop, Commit, CommitTree, Purge, Flush, Evict, Object, Objects}
 use Rattle.script_output.specs.declared.lines.OutputLine.{OutputLine}
-use Rattle.script_output.specs.declared.lines.OutputLine.TheVariants.{Nothing as NothingLine, Job as JobLine, Object as ObjectLine, Objects as ObjectsLine, Refused}
+use Rattle.script_output.specs.declared.lines.OutputLine.TheVariants.{Nothing as NothingLine, Flushed, Job as JobLine, Object as ObjectLine, Objects as ObjectsLine, Refused}
 use Rattle.script_output.specs.declared.object_lines.ObjectLine.{ObjectLine as Shown}
 use Rattle.object_lines.specs.ObjectLines.{IsLineOf, MayTakeMemory}
 use Rattle.admin_cli.specs.declared.commands.Admin.{Admin}
@@ -103,6 +107,31 @@ pub record BeginsAlone (old new : Admin) (rank : Rank) (dir : Ino) (f : Fragment
 abbrev pub LacksForCommit : (old new : Admin) → Rank → Ino → Fragment → Type 0
 LacksForCommit old new rank dir f = LosesJob old new rank dir f ⊎ BeginsAlone old new rank dir f
 
+-- ---- flushes
+
+-- a flush led from a book to the next with this result, by all that its contract says; the store, which is in memory, tells no fault
+pub record IsFlush (old new : Kept) (result : Result (Unit {0}) Refusal) : Type 0 where
+  pub cold : OnOk result (IsColdTree new.core.state.tree.objects (after old.opening old.history))
+  pub exact : OnOk result (AreExact new.core.state.tree)
+  pub clean : OnOk result (new.core.state.tree.unsaved ≡ map.empty)
+  pub kept : KeepsBook old new
+  pub refused : IfErr result (MayNotFlush old.core new.core)
+  pub sound : IsSoundBook new
+  pub faults : new.core.faults ≡ 0
+
+-- the line of a flush
+abbrev pub flushed_line : Result (Unit {0}) Refusal → OutputLine
+flushed_line (Ok done) = Flushed
+flushed_line (Err refusal) = Refused refusal
+
+-- the book is flushed, and nothing else changes
+pub record FlushesLine (old new : Admin) (line : OutputLine) : Type 0 where
+  pub count : new.operations ≡ old.operations
+  pub jobs : new.jobs ≡ old.jobs
+  pub result : Result (Unit {0}) Refusal
+  pub flushed : IsFlush old.book new.book result
+  pub shown : line ≡ flushed_line result
+
 -- ---- looks at the store
 
 -- what the object of a name is, or want of memory, of an object whose line takes some
@@ -124,6 +153,7 @@ LacksForStore old new (CommitDrop number) = ⊥
 LacksForStore old new (Commit rank dir f) = LacksForCommit old new rank dir f
 LacksForStore old new (CommitTree dir) = ⊥
 LacksForStore old new Purge = ⊥
+LacksForStore old new Flush = ⊥
 LacksForStore old new (Evict rank) = ⊥
 LacksForStore old new (Object name) = ⊥
 LacksForStore old new Objects = ⊥
@@ -135,6 +165,7 @@ ExecutesStore old new (CommitDrop number) line = Does old new (DropEvent number)
 ExecutesStore old new (Commit rank dir f) line = CommitsLine old new rank dir f line
 ExecutesStore old new (CommitTree dir) line = Does old new (TreeEvent dir) line
 ExecutesStore old new Purge line = Does old new PurgeEvent line
+ExecutesStore old new Flush line = FlushesLine old new line
 ExecutesStore old new (Evict rank) line = Does old new (EvictEvent rank) line
 ExecutesStore old new (Object name) line = (new ≡ old) × LooksLine old.book.core.state.tree.objects name line
 ExecutesStore old new Objects line = (new ≡ old) × ListsObjects old.book.core.state.tree.objects line

@@ -93,8 +93,9 @@ Commits and the store:
   commit RANK INO FRAG              begin RANK INO FRAG
   end JOB                           drop JOB
   tree INO                          purge
-  evict RANK                        object NAME
-  objects                           history
+  flush                             evict RANK
+  object NAME                       objects
+  history
 
 In names and targets % and two hexadecimal digits stand for a byte.";
 

@@ -11,6 +11,7 @@ use objstore::MemStore;
 use script_output::{FragList, OutputLine};
 use script_text::Command;
 use std::alloc::{AllocError, Global};
+use std::thread::Threads;
 
 /// A book, how many lines with an operation alone were read for it, and the jobs that were begun.
 #[derive(Drop)]
@@ -39,14 +40,19 @@ impl Admin {
     /// Does what a command asks for, and answers the line to print. So many lines were read that one more fits 64 bits.
     /// An error is want of memory that the script itself needs: for a job that it keeps, once the step has given it; for
     /// a copy of a job that it kept; or for a list of the subtree map. No step's answer is lost by it but such a job.
-    pub fn execute(&mut self, alloc: Global, command: Command) -> Result<OutputLine, AllocError>
+    pub fn execute(
+        &mut self,
+        rt: &(impl Threads + Sync),
+        alloc: Global,
+        command: Command,
+    ) -> Result<OutputLine, AllocError>
         requires { self.old.operations + 1 < 2 ^ 64 }
         ensures line { IfOk result (Executes self.old self.new command) }
         ensures err { OnErr result (LacksFor self.old self.new command) }
         ensures count { self.new.operations ≤ self.old.operations + 1 }
     {
         match command {
-            Command::Store(command) => self.execute_store(alloc, command),
+            Command::Store(command) => self.execute_store(rt, alloc, command),
             Command::Operation(op) => Ok(self.operate(alloc, op)),
             Command::Request(rank, request) => Ok(self.arrive(alloc, rank, request)),
             Command::Serve(rank) => Ok(self.serve(alloc, rank)),

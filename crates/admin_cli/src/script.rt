@@ -14,11 +14,12 @@ use script_output::{OutputFault, OutputLine, write_line};
 use script_text::{Line, LineBuffer, LineFault, NextLine, next_line, read_line};
 use std::alloc::Global;
 use std::io::{BufRead, BufReader, Read, Write};
+use std::thread::Threads;
 
 /// Runs a script over a cluster with an empty tree: for each line of the reader that is a command, one line is written
 /// with what became of it. A fault ends the script: what the lines before it printed has been written, and after a write
 /// fault a beginning of its own line, nothing else. It returns wherever its reader ends.
-pub fn run_script<H: AllocGlobal, R: Read + Drop, W: Write>(
+pub fn run_script<H: AllocGlobal + Threads + Sync, R: Read + Drop, W: Write>(
     rt: &H,
     reader: R,
     writer: &mut W,
@@ -33,7 +34,7 @@ pub fn run_script<H: AllocGlobal, R: Read + Drop, W: Write>(
 {
     let alloc = rt.alloc();
     match new_book(alloc, ranks, cache) {
-        Some(book) => run_book(alloc, reader, writer, book),
+        Some(book) => run_book(rt, alloc, reader, writer, book),
         // (dropped by name, as what has many parts is: docs/PROVING.md)
         none => {
             drop(none);
@@ -58,6 +59,7 @@ fn new_book(alloc: Global, ranks: u8, cache: u32) -> Option<Book<MemStore>>
 
 // Runs the lines of a reader over a book, with no line read yet.
 fn run_book<R: Read + Drop, W: Write>(
+    rt: &(impl Threads + Sync),
     alloc: Global,
     reader: R,
     writer: &mut W,
@@ -66,13 +68,14 @@ fn run_book<R: Read + Drop, W: Write>(
     ensures { RunsOrNot (record { book = book; operations = 0; jobs = map.empty }) (R.remaining reader) (W.contents writer.old) (W.contents writer.new) result }
 {
     let mut admin = Admin::new(alloc, book);
-    let ended = run_input(alloc, reader, writer, &mut admin);
+    let ended = run_input(rt, alloc, reader, writer, &mut admin);
     drop(admin);
     ended
 }
 
 // Takes the memory that reading needs, and runs the lines of a reader.
 fn run_input<R: Read + Drop, W: Write>(
+    rt: &(impl Threads + Sync),
     alloc: Global,
     reader: R,
     writer: &mut W,
@@ -90,7 +93,15 @@ fn run_input<R: Read + Drop, W: Write>(
     let Ok(mut reader) = BufReader::new(alloc, reader) else {
         return Err(NO_MEMORY_AT_START);
     };
-    let ended = run_lines(alloc, &mut reader, &mut buffer, &mut waiting, writer, admin);
+    let ended = run_lines(
+        rt,
+        alloc,
+        &mut reader,
+        &mut buffer,
+        &mut waiting,
+        writer,
+        admin,
+    );
     waiting.flush(writer)?;
     ended
 }
@@ -116,6 +127,7 @@ impl<R: Read> ReadAhead for BufReader<R> {
 // Runs the lines of a reader, one after the other. What they print waits to be written together, but not while the reader
 // waits for more. More lines than 64 bits count are a read fault.
 fn run_lines<R: ReadAhead, W: Write>(
+    rt: &(impl Threads + Sync),
     alloc: Global,
     reader: &mut R,
     buffer: &mut LineBuffer,
@@ -144,7 +156,7 @@ fn run_lines<R: ReadAhead, W: Write>(
                 kind: FaultKind::ReadFault,
             }),
         }
-        let printed = match run_line(alloc, buffer.as_bytes(), admin) {
+        let printed = match run_line(rt, alloc, buffer.as_bytes(), admin) {
             Ok(printed) => printed,
             Err(kind) => return Err(ScriptFault { line, kind }),
         };
@@ -159,7 +171,12 @@ fn run_lines<R: ReadAhead, W: Write>(
 }
 
 // Runs one line, and answers the line to print, if it prints one.
-fn run_line(alloc: Global, bytes: &[u8], admin: &mut Admin) -> Result<Option<OutputLine>, FaultKind>
+fn run_line(
+    rt: &(impl Threads + Sync),
+    alloc: Global,
+    bytes: &[u8],
+    admin: &mut Admin,
+) -> Result<Option<OutputLine>, FaultKind>
     requires room { admin.old.operations + 1 < 2 ^ 64 }
     requires short { length bytes.now ≤ 16384 }
     ensures count { admin.new.operations ≤ admin.old.operations + 1 }
@@ -168,11 +185,16 @@ fn run_line(alloc: Global, bytes: &[u8], admin: &mut Admin) -> Result<Option<Out
     let Ok(line) = read_line(alloc, bytes) else {
         return Err(FaultKind::OutOfMemory);
     };
-    do_line(alloc, line, admin)
+    do_line(rt, alloc, line, admin)
 }
 
 // Does what one line asks for, and answers the line to print, if it prints one.
-fn do_line(alloc: Global, line: Line, admin: &mut Admin) -> Result<Option<OutputLine>, FaultKind>
+fn do_line(
+    rt: &(impl Threads + Sync),
+    alloc: Global,
+    line: Line,
+    admin: &mut Admin,
+) -> Result<Option<OutputLine>, FaultKind>
     requires { admin.old.operations + 1 < 2 ^ 64 }
     ensures count { admin.new.operations ≤ admin.old.operations + 1 }
     ensures answers { AnswersLine admin.old admin.new line result }
@@ -181,7 +203,7 @@ fn do_line(alloc: Global, line: Line, admin: &mut Admin) -> Result<Option<Output
         Line::Nothing => Ok(None),
         Line::NotCommand => Err(FaultKind::NotCommand),
         Line::BadWord(errno) => Ok(Some(OutputLine::Errno(errno))),
-        Line::Command(command) => match admin.execute(alloc, command) {
+        Line::Command(command) => match admin.execute(rt, alloc, command) {
             Ok(output) => Ok(Some(output)),
             Err(_) => Err(FaultKind::OutOfMemory),
         },

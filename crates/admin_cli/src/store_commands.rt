@@ -1,21 +1,22 @@
-//! Commands on the store: commits, fragment trees, the purge list, eviction, and looks at objects.
-ghost use Rattle.std.specs.Prelude.{◌≡◌, ℕ, IfOk, List, OnErr};
-ghost use Rattle.std.specs.Prelude.{Option, Result};
-ghost use Rattle.admin_cli.specs.StoreLines.{BeginsCommit, BeginsLine, CommitsLine, CopiesNone, EndsLine, ExecutesStore, LacksForCommit, LacksForStore, ListsObjects, LooksLine, LosesJob, begun_line as line_of};
+//! Commands on the store: commits, fragment trees, the purge list, flushes, eviction, and looks at objects.
+ghost use Rattle.std.specs.Prelude.{◌≡◌, ℕ, IfOk, List, OnErr, Option, Result};
+ghost use Rattle.admin_cli.specs.StoreLines.{BeginsCommit, BeginsLine, CommitsLine, CopiesNone, EndsLine, ExecutesStore, FlushesLine, LacksForCommit, LacksForStore, ListsObjects, LooksLine, LosesJob, begun_line as line_of};
 
 use crate::commands::Admin;
 use cached_frag::Encoded;
-use cluster_core::{Answer, Event};
+use cluster_core::{Answer, Event, flush};
 use mds_types::{Frag, Ino, Rank, Refusal};
 use object_lines::{object_line, objects_line};
 use script_output::OutputLine;
 use script_text::StoreCommand;
 use std::alloc::{AllocError, Global};
+use std::thread::Threads;
 
 impl Admin {
     // Does what a command on the store asks for.
     pub(crate) fn execute_store(
         &mut self,
+        rt: &(impl Threads + Sync),
         alloc: Global,
         command: StoreCommand,
     ) -> Result<OutputLine, AllocError>
@@ -32,6 +33,7 @@ impl Admin {
             StoreCommand::Commit { rank, ino, frag } => self.commit(alloc, rank, ino, frag),
             StoreCommand::CommitTree(ino) => Ok(self.step(alloc, Event::CommitTree { ino })),
             StoreCommand::Purge => Ok(self.step(alloc, Event::Purge)),
+            StoreCommand::Flush => Ok(self.flush(rt, alloc)),
             StoreCommand::Evict(rank) => Ok(self.step(alloc, Event::Evict { rank })),
             StoreCommand::Object(name) => Ok(self.object(alloc, name.as_str())),
             StoreCommand::Objects => Ok(self.objects(alloc)),
@@ -112,6 +114,19 @@ impl Admin {
             Ok(Some(number)) => self.end(alloc, number),
             Ok(None) => Ok(OutputLine::Nothing),
             Err(refusal) => Ok(OutputLine::Refused(refusal)),
+        }
+    }
+
+    // `flush`: all that isn't in the store is written.
+    fn flush(&mut self, rt: &(impl Threads + Sync), alloc: Global) -> OutputLine
+        ensures { FlushesLine self.old self.new result }
+    {
+        let flushed = flush(rt, alloc, &mut self.book);
+        // The contract of `store` is what says here that a store in memory tells no fault.
+        let _ = self.book.cluster().store();
+        match flushed {
+            Ok(()) => OutputLine::Flushed,
+            Err(refusal) => OutputLine::Refused(refusal),
         }
     }
 

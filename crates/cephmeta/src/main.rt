@@ -6,6 +6,7 @@ ghost use Rattle.std.specs.Prelude.{◌≤◌};
 use admin_cli::{Options, ServeFault, run_script, serve, settings};
 use std::io::{IsTerminal, Read};
 use std::process::ExitCode;
+use std::thread::Threads;
 use std::{env, io};
 
 /// The status of a command line that can't be read, for want of memory too.
@@ -46,7 +47,7 @@ fn no_memory_for_words(rt: &impl Eprint) -> io::Result<ExitCode> {
 }
 
 // Runs a script.
-fn script<H: AllocGlobal + Print + Eprint, I: Read + Drop>(
+fn script<H: AllocGlobal + Threads + Sync + Print + Eprint, I: Read + Drop>(
     rt: &H,
     input: I,
     ranks: u8,

@@ -2,6 +2,7 @@ pub mod AdminLaws
 pub mod Applied
 pub mod Carried
 pub mod Counted
+pub mod FlushedBook
 pub mod FragmentLaws
 pub mod GrantLaws
 pub mod HeldLaws

@@ -4,6 +4,7 @@ pub use Rattle.mds_types.specs.History
 pub use Rattle.inode_table.specs.Numbers
 pub mod Administers
 pub mod Commits
+pub mod Flush
 pub mod Fragments
 pub mod Grants
 pub mod Master

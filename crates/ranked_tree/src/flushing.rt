@@ -7,15 +7,18 @@ ghost use Rattle.mdcache.specs.Batches.{MayNotCommit};
 ghost use Rattle.mdcache.specs.Core.{shown_in, state_of};
 ghost use Rattle.mdcache.specs.Flushed.{AreExact, IsFlushed, KeepsTree};
 ghost use Rattle.mdcache.specs.Mounted.{IsColdTree};
+ghost use Rattle.dentry_cache.specs.CacheMap.{AreCaches};
+ghost use Rattle.ranked_tree.specs.Held.{IsOwned};
 
 use crate::ranked_tree::RankedTree;
 use mds_types::Refusal;
 use objstore::Store;
 use std::alloc::Global;
+use std::thread::Threads;
 
 impl<S: Store + Drop> RankedTree<S> {
     /// Writes all that isn't in the store, as `MdCache::flush` does and refuses. The roots stay, and so does whose each leaf is.
-    pub fn flush(&mut self, alloc: Global) -> Result<(), Refusal>
+    pub fn flush(&mut self, rt: &(impl Threads + Sync), alloc: Global) -> Result<(), Refusal>
         requires few { length self.old.tree.caches.used ≤ 256 }
         ensures flushed { OnOk result (IsFlushed (state_of self.new.tree)) }
         ensures cold { OnOk result (IsColdTree self.new.tree.objects (shown_in self.old.tree)) }
@@ -26,7 +29,12 @@ impl<S: Store + Drop> RankedTree<S> {
         ensures roots { self.new.subtrees ≡ self.old.subtrees }
         ensures refused { IfErr result (MayNotCommit 1024 (record (state_of self.old.tree) { jobs = map.empty }) self.old.tree.faults self.new.tree.faults) }
         ensures counted { self.new.tree.faults ≡ self.old.tree.faults + faults_told (result_err result) }
+        ensures owned { IsOwned self.new.tree self.new.subtrees.roots }
+        ensures orders { AreCaches self.new.tree.caches }
     {
-        self.tree.flush(alloc)
+        let done = self.tree.flush(alloc);
+        // The contract of `ranks` is what says it of the caches.
+        let _ = self.tree.ranks();
+        done
     }
 }

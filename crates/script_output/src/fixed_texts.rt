@@ -18,6 +18,7 @@ pub fn fixed_text(line: &OutputLine) -> Option<&'static str>
         OutputLine::Deferred => Some("deferred\n"),
         OutputLine::Queued => Some("queued\n"),
         OutputLine::Nothing => Some("nothing\n"),
+        OutputLine::Flushed => Some("flushed\n"),
         OutputLine::Refused(refusal) => refused_text(*refusal),
         OutputLine::Reply { .. } => None,
         OutputLine::Forwarded(_) => None,

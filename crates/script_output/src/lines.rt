@@ -35,6 +35,8 @@ pub enum OutputLine {
     Queued,
     /// `nothing`: a step was made that answers nothing.
     Nothing,
+    /// `flushed`: all that wasn't in the store is written.
+    Flushed,
     /// `frags K F ..`: the leaves of a directory.
     Frags(FragList),
     /// `subtrees K INO:FRAG:RANK ..`: the subtree map.
@@ -97,7 +99,8 @@ impl OutputLine {
                 out,
                 format!(in alloc; "forwarded {rank}\n"),
             ),
-            OutputLine::Deferred | OutputLine::Queued | OutputLine::Nothing => unreachable!(),
+            OutputLine::Deferred | OutputLine::Queued | OutputLine::Nothing | OutputLine::Flushed =>
+                unreachable!(),
             OutputLine::Frags(leaves) => push_text(out, format!(in alloc; "{leaves}\n")),
             OutputLine::Subtrees(roots) => push_text(out, format!(in alloc; "{roots}\n")),
             OutputLine::Authority(Rank(rank)) => push_text(out, format!(in alloc; "rank {rank}\n")),

@@ -1,11 +1,11 @@
--- The commands on the store: commits, fragment trees, the purge list, eviction, and looks at objects.
+-- The commands on the store: commits, fragment trees, the purge list, flushes, eviction, and looks at objects.
 use Rattle.std.specs.Prelude.{ℕ, Bool, ◌||◌, if◌then◌else◌, List, codes, Some, None, Result, Ok, Err}
 use Rattle.std.specs.Str.{is_utf8}
 use Rattle.mds_types.specs.declared.ids.Ino.{Ino}
 use Rattle.mds_types.specs.declared.ids.Rank.{Rank}
 use Rattle.mds_types.specs.Frag.{Fragment}
 use Rattle.script_text.specs.declared.store_commands.StoreCommand.{StoreCommand}
-use Rattle.script_text.specs.declared.store_commands.StoreCommand.TheVariants.{CommitBegin, CommitEnd, CommitDrop, Commit, CommitTree, Purge, Evict, Object, Objects}
+use Rattle.script_text.specs.declared.store_commands.StoreCommand.TheVariants.{CommitBegin, CommitEnd, CommitDrop, Commit, CommitTree, Purge, Flush, Evict, Object, Objects}
 use Rattle.script_words.specs.declared.faults.Fault.{Fault}
 use Rattle.script_words.specs.declared.faults.Fault.TheVariants.{NotCommand}
 use Rattle.script_words.specs.Words.{is_text}
@@ -61,6 +61,12 @@ purge_of args = do
   end ← none args
   Ok Purge
 
+-- `flush`, with no word after it
+unfoldable pub flush_of : List (List ℕ) → Result StoreCommand Fault
+flush_of args = do
+  end ← none args
+  Ok Flush
+
 -- `evict RANK`
 unfoldable pub evict_of : List (List ℕ) → Result StoreCommand Fault
 evict_of args = do
@@ -90,7 +96,7 @@ abbrev pub is_store_verb : List ℕ → Bool
 is_store_verb verb =
     is_text verb (codes "begin") || is_text verb (codes "end") || is_text verb (codes "drop")
     || is_text verb (codes "commit") || is_text verb (codes "tree") || is_text verb (codes "purge")
-    || is_text verb (codes "evict") || is_text verb (codes "object") || is_text verb (codes "objects")
+    || is_text verb (codes "flush") || is_text verb (codes "evict") || is_text verb (codes "object") || is_text verb (codes "objects")
 
 -- a command on the store, by its first word and the words after it
 unfoldable pub store_command_of : List ℕ → List (List ℕ) → Result StoreCommand Fault
@@ -101,6 +107,7 @@ store_command_of verb args =
     (if is_text verb (codes "commit") then commit_of args else
     (if is_text verb (codes "tree") then tree_of args else
     (if is_text verb (codes "purge") then purge_of args else
+    (if is_text verb (codes "flush") then flush_of args else
     (if is_text verb (codes "evict") then evict_of args else
     (if is_text verb (codes "object") then object_of args else
-    (if is_text verb (codes "objects") then objects_of args else Err NotCommand))))))))
+    (if is_text verb (codes "objects") then objects_of args else Err NotCommand)))))))))

@@ -1,8 +1,8 @@
-//! Commands on the store: commits, fragment trees, the purge list, eviction, and looks at objects.
+//! Commands on the store: commits, fragment trees, the purge list, flushes, eviction, and looks at objects.
 ghost use Rattle.std.specs.Prelude.{◌≡◌};
 ghost use Rattle.script_words.specs.Words.{words_of};
 ghost use Rattle.script_words.specs.Reading.{Gives, Reads};
-ghost use Rattle.script_text.specs.StoreCommands.{begin_of, commit_of, drop_of, end_of, evict_of, is_store_verb, leaf_of, object_of, objects_of, purge_of, store_command_of, text_name_of, tree_of};
+ghost use Rattle.script_text.specs.StoreCommands.{begin_of, commit_of, drop_of, end_of, evict_of, flush_of, is_store_verb, leaf_of, object_of, objects_of, purge_of, store_command_of, text_name_of, tree_of};
 
 use mds_types::{Frag, Ino, Rank, Text};
 use script_words::{NOT_COMMAND, ReadError, decimal, frag, ino, none, one, rank, three};
@@ -23,6 +23,8 @@ pub enum StoreCommand {
     CommitTree(Ino),
     /// The first object of the purge list is removed.
     Purge,
+    /// All that isn't in the store is written.
+    Flush,
     /// The clean fragment that a rank used least recently leaves its cache.
     Evict(Rank),
     /// What is the object of this name?
@@ -41,6 +43,7 @@ pub fn is_store_verb(verb: &[u8]) -> bool
         || verb == b"commit".as_slice()
         || verb == b"tree".as_slice()
         || verb == b"purge".as_slice()
+        || verb == b"flush".as_slice()
         || verb == b"evict".as_slice()
         || verb == b"object".as_slice()
         || verb == b"objects".as_slice()
@@ -72,6 +75,9 @@ pub fn read_store_command(
     }
     if verb == b"purge".as_slice() {
         return purge(args);
+    }
+    if verb == b"flush".as_slice() {
+        return flush(args);
     }
     if verb == b"evict".as_slice() {
         return evict(args);
@@ -149,6 +155,15 @@ fn purge(args: &[u8]) -> Result<StoreCommand, ReadError>
 {
     none(args)?;
     Ok(StoreCommand::Purge)
+}
+
+// `flush`
+#[tactic(auto, unfolding(crate::specs::StoreCommands::flush_of))]
+fn flush(args: &[u8]) -> Result<StoreCommand, ReadError>
+    ensures { Reads (λ command. command) result (flush_of (words_of args.now)) }
+{
+    none(args)?;
+    Ok(StoreCommand::Flush)
 }
 
 // `evict RANK`

@@ -1,0 +1,59 @@
+//! A flush: all that isn't in the store is written.
+ghost use Rattle.std.specs.Prelude.{◌≡◌, ◌+◌, ◌≤◌, length, OnOk, IfErr};
+ghost use Rattle.std.specs.FinMap as map;
+ghost use Rattle.std.specs.Result.{result_err};
+ghost use Rattle.mds_types.specs.History.{after};
+ghost use Rattle.objstore.specs.Objects.{faults_told};
+ghost use Rattle.cluster_core.specs.Flush.{AreExact, IsColdTree, KeepsBook, KeepsCore, MayNotFlush};
+ghost use Rattle.cluster_core.specs.Sound.{AreCached, IsKept, IsSoundBook};
+ghost use Rattle.cluster_core.specs.State.{shown};
+
+use crate::books::Book;
+use crate::clusters::Cluster;
+use mds_types::Refusal;
+use objstore::Store;
+use std::alloc::Global;
+use std::thread::Threads;
+
+impl<S: Store + Drop> Cluster<S> {
+    /// Writes all that isn't in the store, as `RankedTree::flush` does and refuses.
+    pub(crate) fn flush(&mut self, rt: &(impl Threads + Sync), alloc: Global) -> Result<(), Refusal>
+        requires few { length self.old.caches.used ≤ 256 }
+        ensures cold { OnOk result (IsColdTree self.new.state.tree.objects (shown self.old.state)) }
+        ensures exact { OnOk result (AreExact self.new.state.tree) }
+        ensures clean { OnOk result (self.new.state.tree.unsaved ≡ map.empty) }
+        ensures left { KeepsCore self.old self.new }
+        ensures refused { IfErr result (MayNotFlush self.old self.new) }
+        ensures counted { self.new.faults ≡ self.old.faults + faults_told (result_err result) }
+        ensures kept { IsKept self.new.state.tree self.new.caches }
+        ensures cached { AreCached self.new }
+    {
+        self.tree.flush(rt, alloc)
+    }
+}
+
+/// Writes all that isn't in the store, so that whoever opens the store with nothing else at hand finds the tree after the
+/// history: commits that were begun are given up, each fragment that isn't clean is committed, the objects of directories' trees
+/// are brought up to date, and all that was to be removed is. The store has no object then but those of the leaves and of the trees
+/// of several leaves. Fragments are encoded on several threads, no more than 1,024 of them at once, and memory is taken for so many.
+///
+/// Whatever it answers, the opening tree, the history and the shown tree are as they were, and so are directories and their leaves,
+/// next numbers, authorities, inboxes, grants and sessions; no commit is begun any more.
+///
+/// Refused `NoInodes` where a fragment's version is used up, or fewer than 1,024 numbers are left for jobs; otherwise as the store
+/// refuses, and `NoMemory`. Part of it may be written then, and another flush goes on with the rest.
+pub fn flush<S: Store + Drop>(
+    rt: &(impl Threads + Sync),
+    alloc: Global,
+    book: &mut Book<S>,
+) -> Result<(), Refusal>
+    ensures cold { OnOk result (IsColdTree book.new.core.state.tree.objects (after book.old.opening book.old.history)) }
+    ensures exact { OnOk result (AreExact book.new.core.state.tree) }
+    ensures clean { OnOk result (book.new.core.state.tree.unsaved ≡ map.empty) }
+    ensures kept { KeepsBook book.old book.new }
+    ensures refused { IfErr result (MayNotFlush book.old.core book.new.core) }
+    ensures counted { book.new.core.faults ≡ book.old.core.faults + faults_told (result_err result) }
+    ensures sound { IsSoundBook book.new }
+{
+    book.cluster.flush(rt, alloc)
+}
