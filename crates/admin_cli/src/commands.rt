@@ -174,7 +174,7 @@ impl Admin {
 }
 
 // The line that shows what a step came to.
-fn shown_line(came: Result<Answer, Refusal>) -> OutputLine
+pub(crate) fn shown_line(came: Result<Answer, Refusal>) -> OutputLine
     ensures { result ≡ line_of came }
 {
     match came {
