@@ -30,7 +30,11 @@ impl Admin {
                 self.begin_line(alloc, rank, ino, frag)
             }
             StoreCommand::CommitEnd(job) => self.end(alloc, job),
-            StoreCommand::CommitDrop(job) => Ok(self.end_job(alloc, job, Event::CommitDrop { job })),
+            StoreCommand::CommitDrop(job) => Ok(self.end_job(
+                alloc,
+                job,
+                Event::CommitDrop { job },
+            )),
             StoreCommand::Commit { rank, ino, frag } => self.commit(alloc, rank, ino, frag),
             StoreCommand::CommitTree(ino) => Ok(self.step(alloc, Event::CommitTree { ino })),
             StoreCommand::Purge => Ok(self.step(alloc, Event::Purge)),
