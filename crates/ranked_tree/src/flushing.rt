@@ -12,10 +12,11 @@ use crate::ranked_tree::RankedTree;
 use mds_types::Refusal;
 use objstore::Store;
 use std::alloc::Global;
+use std::thread::Threads;
 
 impl<S: Store + Drop> RankedTree<S> {
     /// Writes all that isn't in the store, as `MdCache::flush` does and refuses. The roots stay, and so does whose each leaf is.
-    pub fn flush(&mut self, alloc: Global) -> Result<(), Refusal>
+    pub fn flush(&mut self, rt: &(impl Threads + Sync), alloc: Global) -> Result<(), Refusal>
         requires few { length self.old.tree.caches.used ≤ 256 }
         ensures flushed { OnOk result (IsFlushed (state_of self.new.tree)) }
         ensures cold { OnOk result (IsColdTree self.new.tree.objects (shown_in self.old.tree)) }
@@ -27,6 +28,6 @@ impl<S: Store + Drop> RankedTree<S> {
         ensures refused { IfErr result (MayNotCommit 1024 (record (state_of self.old.tree) { jobs = map.empty }) self.old.tree.faults self.new.tree.faults) }
         ensures counted { self.new.tree.faults ≡ self.old.tree.faults + faults_told (result_err result) }
     {
-        self.tree.flush(alloc)
+        self.tree.flush(rt, alloc)
     }
 }
