@@ -4,3 +4,4 @@ pub mod OrderLaws
 pub mod RowLaws
 pub mod TableLaws
 pub mod Tables
+pub mod TreeOrder

@@ -6,7 +6,7 @@ ghost use Rattle.mds_types.specs.declared.refusals.Refusal.TheVariants.{NoMemory
 ghost use Rattle.mds_types.specs.Frag.{root_fragment};
 ghost use Rattle.fragtree.specs.FragTree.{CanMerge, CanSplit, IsPick, RefusesMerge, RefusesSplit};
 ghost use Rattle.mds_types.specs.declared.ids.Ino.{Ino};
-ghost use Rattle.inode_table.specs.Order.{dirs_after};
+ghost use Rattle.inode_table.specs.Order.{dirs_after, trees_after};
 ghost use Rattle.inode_table.specs.Dirs.{IsAbove, IsLeafAt, IsLive, IsTable, MayCome, MayGo, MayMove, is_known, leaves_of, or_whole};
 
 use fragtree::FragTree;
@@ -163,6 +163,21 @@ impl Dirs {
             return Some(Ino(self.below.first()?.0));
         }
         Some(Ino(self.below.iter_after(&last.0).next()?.0))
+    }
+
+    /// The first directory after one, or of all, in the same order, whose leaves were ever set. None after the last. Takes no memory,
+    /// and two searches for each directory on the way.
+    pub fn next_tree(&self, after: Option<Ino>) -> Option<Ino>
+        ensures { option_map (λ (d : Ino). d.0) result ≡ slice_get (trees_after self.now.homes self.now.trees after) 0 }
+    {
+        let mut last = after;
+        while let Some(dir) = self.next_dir(last) {
+            if self.leaves(dir).is_some() {
+                return Some(dir);
+            }
+            last = Some(dir);
+        }
+        None
     }
 
     /// Whether there is such a directory, and it has this leaf. Takes no memory, and one search.
