@@ -1,10 +1,11 @@
 -- What a command on the store does, and the line that it prints.
-use Rattle.std.specs.Prelude.{◌≡◌, ◌⊎◌, ℕ, List, Option, Some, None, Result, Ok, Err, OnOk, IfErr}
+use Rattle.std.specs.Prelude.{◌≡◌, ◌⊎◌, ◌==◌, ℕ, Bool, true, cond, List, Option, Some, None, Result, Ok, Err, OnOk, IfErr}
 use Rattle.std.specs.FinMap as map
 use Rattle.mds_types.specs.declared.ids.Ino.{Ino}
 use Rattle.mds_types.specs.declared.ids.Rank.{Rank}
 use Rattle.mds_types.specs.declared.refusals.Refusal.{Refusal}
 use Rattle.mds_types.specs.declared.refusals.Refusal.TheVariants.{NoMemory, StaleJob}
+use Rattle.mds_types.specs.Refusal.{refusal_number}
 use Rattle.mds_types.specs.Frag.{Fragment}
 use Rattle.mds_types.specs.History.{after}
 use Rattle.objstore.specs.Objects.{Objects as Stored}
@@ -15,6 +16,7 @@ use Rattle.cluster_core.specs.Sound.{IsSoundBook}
 use Rattle.cluster_core.specs.State.{Kept}
 use Rattle.cluster_core.specs.declared.events.Answer.{Answer}
 use Rattle.cluster_core.specs.declared.events.Answer.TheVariants.{Deferred, Forwarded, Job, Nothing, Reply}
+use Rattle.cluster_core.specs.declared.events.Event.{Event}
 use Rattle.cluster_core.specs.declared.events.Event.TheVariants.{CommitBegin as BeginEvent, CommitEnd as EndEvent, CommitDrop as DropEvent, CommitTree as TreeEvent, Purge as PurgeEvent, Evict as EvictEvent}
 use Rattle.script_text.specs.declared.store_commands.StoreCommand.{StoreCommand}
 use Rattle.script_text.specs.declared.store_commands.StoreCommand.TheVariants.{CommitBegin, CommitEnd, CommitDrop, Commit, CommitTree, Purge, Flush, Evict, Object, Objects}
@@ -24,7 +26,7 @@ use Rattle.script_output.specs.declared.object_lines.ObjectLine.{ObjectLine as S
 use Rattle.object_lines.specs.ObjectLines.{IsLineOf, MayTakeMemory}
 use Rattle.admin_cli.specs.declared.commands.Admin.{Admin}
 use Rattle.admin_cli.specs.Jobs.{Jobs}
-use Rattle.admin_cli.specs.StepLines.{Does, IsStep}
+use Rattle.admin_cli.specs.StepLines.{Does, IsStep, shown_line}
 
 -- ---- commits
 
@@ -63,14 +65,27 @@ begun_line (Err refusal) = Refused refusal
 abbrev pub BeginsLine : (old new : Admin) → Rank → Ino → Fragment → OutputLine → Type 0
 BeginsLine old new rank dir f line = (number : Result (Option ℕ) Refusal) × BeginsCommit old new rank dir f number × (line ≡ begun_line number)
 
+-- a commit is over with this result: it was ended or given up, or is stale (refusal 11)
+abbrev pub is_over : Result Answer Refusal → Bool
+is_over (Ok answer) = true
+is_over (Err refusal) = refusal_number refusal == 11
+
+-- a step that is to end the commit of this number, whose job is kept no longer once that is over
+pub record EndsJob (old new : Admin) (number : ℕ) (event : Event) (line : OutputLine) : Type 0 where
+  pub result : Result Answer Refusal
+  pub stepped : IsStep old.book new.book result event
+  pub jobs : new.jobs ≡ cond (is_over result) (map.remove old.jobs number) old.jobs
+  pub count : new.operations ≡ old.operations
+  pub shown : line ≡ shown_line result
+
 -- a kept job was encoded, and its commit ended; none of this number is told as a stale one, and want of memory for what is encoded as a
 -- refusal: both leave all
-abbrev pub EndsKept : (old new : Admin) → Option Begun → OutputLine → Type 0
-EndsKept old new None line = (new ≡ old) × (line ≡ Refused StaleJob)
-EndsKept old new (Some job) line = ((new ≡ old) × (line ≡ Refused NoMemory)) ⊎ Does old new (EndEvent (carried job)) line
+abbrev pub EndsKept : (old new : Admin) → ℕ → Option Begun → OutputLine → Type 0
+EndsKept old new number None line = (new ≡ old) × (line ≡ Refused StaleJob)
+EndsKept old new number (Some job) line = ((new ≡ old) × (line ≡ Refused NoMemory)) ⊎ EndsJob old new number (EndEvent (carried job)) line
 
 abbrev pub EndsLine : (old new : Admin) → ℕ → OutputLine → Type 0
-EndsLine old new number line = EndsKept old new (map.get old.jobs number) line
+EndsLine old new number line = EndsKept old new number (map.get old.jobs number) line
 
 -- a commit that began is ended at once; where nothing began, the line is that of the begin
 abbrev pub CommitsAfter : (middle new : Admin) → Result (Option ℕ) Refusal → OutputLine → Type 0
@@ -124,10 +139,10 @@ abbrev pub flushed_line : Result (Unit {0}) Refusal → OutputLine
 flushed_line (Ok done) = Flushed
 flushed_line (Err refusal) = Refused refusal
 
--- the book is flushed, and nothing else changes
+-- the book is flushed, and no job is kept any more
 pub record FlushesLine (old new : Admin) (line : OutputLine) : Type 0 where
   pub count : new.operations ≡ old.operations
-  pub jobs : new.jobs ≡ old.jobs
+  pub jobs : new.jobs ≡ map.empty
   pub result : Result (Unit {0}) Refusal
   pub flushed : IsFlush old.book new.book result
   pub shown : line ≡ flushed_line result
@@ -161,7 +176,7 @@ LacksForStore old new Objects = ⊥
 abbrev pub ExecutesStore : (old new : Admin) → StoreCommand → OutputLine → Type 0
 ExecutesStore old new (CommitBegin rank dir f) line = BeginsLine old new rank dir f line
 ExecutesStore old new (CommitEnd number) line = EndsLine old new number line
-ExecutesStore old new (CommitDrop number) line = Does old new (DropEvent number) line
+ExecutesStore old new (CommitDrop number) line = EndsJob old new number (DropEvent number) line
 ExecutesStore old new (Commit rank dir f) line = CommitsLine old new rank dir f line
 ExecutesStore old new (CommitTree dir) line = Does old new (TreeEvent dir) line
 ExecutesStore old new Purge line = Does old new PurgeEvent line

@@ -42,8 +42,7 @@ impl Admin {
     /// a copy of a job that it kept; or for a list of the subtree map. No step's answer is lost by it but such a job.
     pub fn execute(
         &mut self,
-        rt: &(impl Threads + Sync),
-        alloc: Global,
+        rt: &(impl AllocGlobal + Threads + Sync),
         command: Command,
     ) -> Result<OutputLine, AllocError>
         requires { self.old.operations + 1 < 2 ^ 64 }
@@ -51,6 +50,7 @@ impl Admin {
         ensures err { OnErr result (LacksFor self.old self.new command) }
         ensures count { self.new.operations ≤ self.old.operations + 1 }
     {
+        let alloc = rt.alloc();
         match command {
             Command::Store(command) => self.execute_store(rt, alloc, command),
             Command::Operation(op) => Ok(self.operate(alloc, op)),
@@ -174,7 +174,7 @@ impl Admin {
 }
 
 // The line that shows what a step came to.
-fn shown_line(came: Result<Answer, Refusal>) -> OutputLine
+pub(crate) fn shown_line(came: Result<Answer, Refusal>) -> OutputLine
     ensures { result ≡ line_of came }
 {
     match came {

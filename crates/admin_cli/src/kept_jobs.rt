@@ -1,4 +1,4 @@
-//! The jobs that a script has begun: each stays, for lines that end it.
+//! The jobs that a script has begun: each stays until it is over, for lines that end it.
 ghost use Rattle.std.specs.Prelude.{◌≡◌, OnOk, OnErr, option_copied};
 ghost use Rattle.std.specs.FinMap as map;
 
@@ -42,6 +42,13 @@ impl KeptJobs {
         ensures { option_copied result ≡ map.get self.now number }
     {
         self.jobs.get(&number)
+    }
+
+    /// Keeps the job of a number no longer. Takes no memory.
+    pub fn forget(&mut self, number: u64)
+        ensures { self.new ≡ map.remove self.old number }
+    {
+        let _ = self.jobs.remove(&number);
     }
 
     /// Keeps a job. Takes memory for it.

@@ -34,7 +34,7 @@ pub fn run_script<H: AllocGlobal + Threads + Sync, R: Read + Drop, W: Write>(
 {
     let alloc = rt.alloc();
     match new_book(alloc, ranks, cache) {
-        Some(book) => run_book(rt, alloc, reader, writer, book),
+        Some(book) => run_book(rt, reader, writer, book),
         // (dropped by name, as what has many parts is: docs/PROVING.md)
         none => {
             drop(none);
@@ -59,24 +59,22 @@ fn new_book(alloc: Global, ranks: u8, cache: u32) -> Option<Book<MemStore>>
 
 // Runs the lines of a reader over a book, with no line read yet.
 fn run_book<R: Read + Drop, W: Write>(
-    rt: &(impl Threads + Sync),
-    alloc: Global,
+    rt: &(impl AllocGlobal + Threads + Sync),
     reader: R,
     writer: &mut W,
     book: Book<MemStore>,
 ) -> Result<(), ScriptFault>
     ensures { RunsOrNot (record { book = book; operations = 0; jobs = map.empty }) (R.remaining reader) (W.contents writer.old) (W.contents writer.new) result }
 {
-    let mut admin = Admin::new(alloc, book);
-    let ended = run_input(rt, alloc, reader, writer, &mut admin);
+    let mut admin = Admin::new(rt.alloc(), book);
+    let ended = run_input(rt, reader, writer, &mut admin);
     drop(admin);
     ended
 }
 
 // Takes the memory that reading needs, and runs the lines of a reader.
 fn run_input<R: Read + Drop, W: Write>(
-    rt: &(impl Threads + Sync),
-    alloc: Global,
+    rt: &(impl AllocGlobal + Threads + Sync),
     reader: R,
     writer: &mut W,
     admin: &mut Admin,
@@ -84,6 +82,7 @@ fn run_input<R: Read + Drop, W: Write>(
     requires { admin.old.operations ≡ 0 }
     ensures { RunsOrNot admin.old (R.remaining reader) (W.contents writer.old) (W.contents writer.new) result }
 {
+    let alloc = rt.alloc();
     let Ok(mut buffer) = LineBuffer::new(alloc) else {
         return Err(NO_MEMORY_AT_START);
     };
@@ -93,15 +92,7 @@ fn run_input<R: Read + Drop, W: Write>(
     let Ok(mut reader) = BufReader::new(alloc, reader) else {
         return Err(NO_MEMORY_AT_START);
     };
-    let ended = run_lines(
-        rt,
-        alloc,
-        &mut reader,
-        &mut buffer,
-        &mut waiting,
-        writer,
-        admin,
-    );
+    let ended = run_lines(rt, &mut reader, &mut buffer, &mut waiting, writer, admin);
     waiting.flush(writer)?;
     ended
 }
@@ -127,8 +118,7 @@ impl<R: Read> ReadAhead for BufReader<R> {
 // Runs the lines of a reader, one after the other. What they print waits to be written together, but not while the reader
 // waits for more. More lines than 64 bits count are a read fault.
 fn run_lines<R: ReadAhead, W: Write>(
-    rt: &(impl Threads + Sync),
-    alloc: Global,
+    rt: &(impl AllocGlobal + Threads + Sync),
     reader: &mut R,
     buffer: &mut LineBuffer,
     waiting: &mut Waiting,
@@ -156,11 +146,11 @@ fn run_lines<R: ReadAhead, W: Write>(
                 kind: FaultKind::ReadFault,
             }),
         }
-        let printed = match run_line(rt, alloc, buffer.as_bytes(), admin) {
+        let printed = match run_line(rt, buffer.as_bytes(), admin) {
             Ok(printed) => printed,
             Err(kind) => return Err(ScriptFault { line, kind }),
         };
-        if let Err(fault) = print_any(alloc, line, printed, waiting, writer) {
+        if let Err(fault) = print_any(rt.alloc(), line, printed, waiting, writer) {
             return Err(fault);
         }
     }
@@ -172,8 +162,7 @@ fn run_lines<R: ReadAhead, W: Write>(
 
 // Runs one line, and answers the line to print, if it prints one.
 fn run_line(
-    rt: &(impl Threads + Sync),
-    alloc: Global,
+    rt: &(impl AllocGlobal + Threads + Sync),
     bytes: &[u8],
     admin: &mut Admin,
 ) -> Result<Option<OutputLine>, FaultKind>
@@ -182,16 +171,15 @@ fn run_line(
     ensures count { admin.new.operations ≤ admin.old.operations + 1 }
     ensures does { DoesBytes admin.old admin.new bytes.now result }
 {
-    let Ok(line) = read_line(alloc, bytes) else {
+    let Ok(line) = read_line(rt.alloc(), bytes) else {
         return Err(FaultKind::OutOfMemory);
     };
-    do_line(rt, alloc, line, admin)
+    do_line(rt, line, admin)
 }
 
 // Does what one line asks for, and answers the line to print, if it prints one.
 fn do_line(
-    rt: &(impl Threads + Sync),
-    alloc: Global,
+    rt: &(impl AllocGlobal + Threads + Sync),
     line: Line,
     admin: &mut Admin,
 ) -> Result<Option<OutputLine>, FaultKind>
@@ -203,7 +191,7 @@ fn do_line(
         Line::Nothing => Ok(None),
         Line::NotCommand => Err(FaultKind::NotCommand),
         Line::BadWord(errno) => Ok(Some(OutputLine::Errno(errno))),
-        Line::Command(command) => match admin.execute(rt, alloc, command) {
+        Line::Command(command) => match admin.execute(rt, command) {
             Ok(output) => Ok(Some(output)),
             Err(_) => Err(FaultKind::OutOfMemory),
         },

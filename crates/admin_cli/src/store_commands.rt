@@ -1,8 +1,9 @@
 //! Commands on the store: commits, fragment trees, the purge list, flushes, eviction, and looks at objects.
 ghost use Rattle.std.specs.Prelude.{◌≡◌, ℕ, IfOk, List, OnErr, Option, Result};
-ghost use Rattle.admin_cli.specs.StoreLines.{BeginsCommit, BeginsLine, CommitsLine, CopiesNone, EndsLine, ExecutesStore, FlushesLine, LacksForCommit, LacksForStore, ListsObjects, LooksLine, LosesJob, begun_line as line_of};
+ghost use Rattle.admin_cli.specs.StoreLines.{BeginsCommit, BeginsLine, CommitsLine, CopiesNone, EndsJob, EndsLine, ExecutesStore, FlushesLine, LacksForCommit, LacksForStore, ListsObjects, LooksLine, LosesJob, begun_line as line_of, is_over};
 
-use crate::commands::Admin;
+use crate::commands::{Admin, shown_line};
+use crate::kept_jobs::KeptJobs;
 use cached_frag::Encoded;
 use cluster_core::{Answer, Event, flush};
 use mds_types::{Frag, Ino, Rank, Refusal};
@@ -29,7 +30,11 @@ impl Admin {
                 self.begin_line(alloc, rank, ino, frag)
             }
             StoreCommand::CommitEnd(job) => self.end(alloc, job),
-            StoreCommand::CommitDrop(job) => Ok(self.step(alloc, Event::CommitDrop { job })),
+            StoreCommand::CommitDrop(job) => Ok(self.end_job(
+                alloc,
+                job,
+                Event::CommitDrop { job },
+            )),
             StoreCommand::Commit { rank, ino, frag } => self.commit(alloc, rank, ino, frag),
             StoreCommand::CommitTree(ino) => Ok(self.step(alloc, Event::CommitTree { ino })),
             StoreCommand::Purge => Ok(self.step(alloc, Event::Purge)),
@@ -93,9 +98,20 @@ impl Admin {
         };
         let copy = job.try_clone()?;
         match Encoded::of(alloc, copy) {
-            Ok(encoded) => Ok(self.step(alloc, Event::CommitEnd(encoded))),
+            Ok(encoded) => Ok(self.end_job(alloc, number, Event::CommitEnd(encoded))),
             Err(refusal) => Ok(OutputLine::Refused(refusal)),
         }
+    }
+
+    // A step that is to end a commit. Once that is over, its job is kept no longer.
+    fn end_job(&mut self, alloc: Global, number: u64, event: Event) -> OutputLine
+        ensures { EndsJob self.old self.new number event result }
+    {
+        let ended = self.step_book(alloc, event);
+        if is_over(&ended) {
+            self.jobs.forget(number);
+        }
+        shown_line(ended)
     }
 
     // `commit RANK INO FRAG`: a commit of a leaf begins, and is ended at once.
@@ -122,6 +138,7 @@ impl Admin {
         ensures { FlushesLine self.old self.new result }
     {
         let flushed = flush(rt, alloc, &mut self.book);
+        self.jobs = KeptJobs::new(alloc);
         // The contract of `store` is what says here that a store in memory tells no fault.
         let _ = self.book.cluster().store();
         match flushed {
@@ -148,6 +165,16 @@ impl Admin {
             Ok(line) => line,
             Err(refusal) => OutputLine::Refused(refusal),
         }
+    }
+}
+
+// Whether a commit is over that was to be ended, or given up.
+fn is_over(ended: &Result<Answer, Refusal>) -> bool
+    ensures { result ≡ is_over ended.now }
+{
+    match ended {
+        Ok(_) => true,
+        Err(refusal) => refusal.number() == Refusal::StaleJob.number(),
     }
 }
 

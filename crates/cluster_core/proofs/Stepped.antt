@@ -28,7 +28,7 @@ use Rattle.cluster_core.proofs.Offered.{there_of}
 module _ (opening : Tree) (past now : List Entry) (old new : Core) (sound : IsSound opening past old) (tree : IsKept new.state.tree new.caches) (cached : AreCached new) (count : length new.caches.used ≡ length old.caches.used)
     (kept : KeepsRoots old.state.tree new.state.tree old.state.roots new.state.roots) where
   -- the same history, and the same tree, numbers and sessions: what the inboxes have has no part in it
-  sound-same : now ≡ past → shown new.state ≡ shown old.state → new.state.numbers ≡ old.state.numbers → length new.state.inboxes ≡ length old.state.inboxes → new.state.sessions ≡ old.state.sessions → IsSound opening now new
+  pub sound-same : now ≡ past → shown new.state ≡ shown old.state → new.state.numbers ≡ old.state.numbers → length new.state.inboxes ≡ length old.state.inboxes → new.state.sessions ≡ old.state.sessions → IsSound opening now new
   sound-same same shown_same numbers_same inboxes_same sessions_same = record {
     legal = rw same sound.legal;
     replayed = shown_same ∙ rw same sound.replayed;

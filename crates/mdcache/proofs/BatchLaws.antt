@@ -134,10 +134,6 @@ mapped_push : {A B : Type 0} (f : A → B) (xs : List A) (y : A) (rest : List B)
 mapped_push f [] y rest = refl
 mapped_push f (x ∷ xs) y rest = ap (λ l. f x ∷ l) (mapped_push f xs y rest)
 
-pub map_pushed : {A B : Type 0} (f : A → B) (xs : List A) (y : A) → list_map f (xs ++ y ∷ []) ≡ list_map f xs ++ f y ∷ []
-map_pushed f [] y = refl
-map_pushed f (x ∷ xs) y = ap (λ l. f x ∷ l) (map_pushed f xs y)
-
 -- a job stands only for a leaf among these
 abbrev pub StandAmong : Jobs → List Leaf → Type 0
 StandAmong jobs leaves = (q : Leaf) → NotAmong q leaves → map.get jobs q ≡ None

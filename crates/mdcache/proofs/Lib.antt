@@ -10,6 +10,7 @@ pub mod CommittedLaws
 pub mod CoreLaws
 pub mod CountLaws
 pub mod EmptyLaws
+pub mod EncodingLaws
 pub mod EndLaws
 pub mod EndSteps
 pub mod FetchSteps

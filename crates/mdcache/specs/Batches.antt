@@ -1,5 +1,5 @@
 -- Commits of whole fragments, several at once.
-use Rattle.std.specs.Prelude.{◌≡◌, ◌⊎◌, ℕ, true, is_some, Some, None, List, [], ◌∷◌, map as list_map}
+use Rattle.std.specs.Prelude.{◌≡◌, ◌⊎◌, ℕ, true, is_some, Some, None, List, [], ◌∷◌, map as list_map, Result, MatchResult}
 use Rattle.std.specs.List.{AllByRecursion}
 use Rattle.std.specs.FinMap as map
 use Rattle.mds_types.specs.Leaf.{leaf_of}
@@ -50,6 +50,10 @@ pub record IsBegunAt (core : Core) (b : Begun) : Type 0 where
 -- the write of a job that was begun
 abbrev pub ready_of : Begun → Ready
 ready_of b = record { rank = b.rank; encoded = carried b.job }
+
+-- what was made of a job that was begun: its write, or nothing for want of memory
+abbrev pub IsReadied : Begun → Result Ready Refusal → Type 0
+IsReadied b result = MatchResult result (λ ready. ready ≡ ready_of b) (λ reason. reason ≡ NoMemory)
 
 abbrev pub leaves_of_writes : List Ready → List Leaf
 leaves_of_writes ready = list_map (λ (r : Ready). job_leaf r.encoded.job) ready

@@ -7,7 +7,8 @@ ghost use Rattle.objstore.specs.Objects.{MayRefuse, faults_told};
 ghost use Rattle.mds_types.specs.Leaf.{leaf_of};
 ghost use Rattle.mds_types.specs.declared.refusals.Refusal.TheVariants.{NoMemory};
 ghost use Rattle.dentry_cache.specs.CacheMap.{unclean};
-ghost use Rattle.mdcache.specs.Batches.{AreApart, CommitsWhole, IsBegunAt, IsReadyAt, IsUncleanAt, MayNotBeginAll, MayNotBeginOne, MayNotCommit, leaves_at, leaves_of_jobs, leaves_of_writes, ready_of};
+ghost use Rattle.mdcache.specs.Batches.{AreApart, CommitsWhole, IsBegunAt, IsReadied, IsReadyAt, IsUncleanAt, MayNotBeginAll};
+ghost use Rattle.mdcache.specs.Batches.{MayNotBeginOne, MayNotCommit, leaves_at, leaves_of_jobs, leaves_of_writes, ready_of};
 ghost use Rattle.mdcache.specs.Commits.{Begins, IsEnded, leaf_of as job_leaf};
 ghost use Rattle.mdcache.specs.Core.{IsSoundCore, state_of};
 ghost use Rattle.mdcache.specs.Flushed.{IsAtHand, KeepsTree};
@@ -18,7 +19,9 @@ use crate::standing_jobs::StandingJobs;
 use cached_frag::{Encoded, Job};
 use mds_types::{Dirfrag, Rank, Refusal};
 use objstore::Store;
+use rayon::prelude::*;
 use std::alloc::Global;
+use std::thread::Threads;
 
 /// A job that was begun, and the rank that has its fragment.
 #[derive(Drop)]
@@ -34,13 +37,26 @@ pub(crate) struct Ready {
     pub encoded: Encoded,
 }
 
+impl Begun {
+    // The write of the job. Takes memory for it, and is refused for want of it alone.
+    fn encode(self, alloc: Global) -> Result<Ready, Refusal>
+        ensures { IsReadied self result }
+    {
+        let encoded = Encoded::of(alloc, self.job)?;
+        Ok(Ready {
+            rank: self.rank,
+            encoded,
+        })
+    }
+}
+
 impl<S: Store + Drop> MdCache<S> {
     /// Commits each fragment that isn't clean, while no job stands. No more than 1,024 of them are begun at once, and no job stands
     /// afterwards; the next one gets the number that it would have got before. Takes memory for the snapshots and writes of so many.
     ///
     /// Refused `NoInodes` where a fragment's version is used up, or fewer than 1,024 numbers are left for jobs; otherwise as the store
     /// refuses, and `NoMemory`. What was committed until then is so, and all else is as it was.
-    pub fn commit_all(&mut self, alloc: Global) -> Result<(), Refusal>
+    pub fn commit_all(&mut self, rt: &(impl Threads + Sync), alloc: Global) -> Result<(), Refusal>
         requires sound { IsSoundCore self.old }
         requires none { self.old.jobs ≡ map.empty }
         requires few { length self.old.caches.used ≤ 256 }
@@ -53,11 +69,11 @@ impl<S: Store + Drop> MdCache<S> {
         ensures counted { self.new.faults ≡ self.old.faults + faults_told (result_err result) }
         ensures sound { IsSoundCore self.new }
     {
-        commit_batches(self, alloc)
+        commit_batches(self, rt, alloc)
     }
 
     // Commits some leaves that aren't clean, no more than 1,024, and tells whether there were any. Takes memory for them at once.
-    fn commit_some(&mut self, alloc: Global) -> Result<bool, Refusal>
+    fn commit_some(&mut self, rt: &(impl Threads + Sync), alloc: Global) -> Result<bool, Refusal>
         requires sound { IsSoundCore self.old }
         requires none { self.old.jobs ≡ map.empty }
         requires few { length self.old.caches.used ≤ 256 }
@@ -78,7 +94,7 @@ impl<S: Store + Drop> MdCache<S> {
         if leaves.is_empty() {
             return Ok(false);
         }
-        let done = self.commit_batch(alloc, leaves.as_slice());
+        let done = self.commit_batch(rt, alloc, leaves.as_slice());
         drop(leaves);
         match done {
             Ok(()) => Ok(true),
@@ -103,7 +119,12 @@ impl<S: Store + Drop> MdCache<S> {
 
     // Commits each of these leaves, none of which is clean. Takes memory for all of them at once. Whatever it answers no job stands
     // then, and the next one gets the number that it would have got before.
-    pub(crate) fn commit_batch(&mut self, alloc: Global, leaves: &[Dirfrag]) -> Result<(), Refusal>
+    pub(crate) fn commit_batch(
+        &mut self,
+        rt: &(impl Threads + Sync),
+        alloc: Global,
+        leaves: &[Dirfrag],
+    ) -> Result<(), Refusal>
         requires sound { IsSoundCore self.old }
         requires none { self.old.jobs ≡ map.empty }
         requires apart { AreApart (leaves_at leaves.now) }
@@ -118,7 +139,7 @@ impl<S: Store + Drop> MdCache<S> {
         ensures sound { IsSoundCore self.new }
     {
         let number = self.next_job();
-        let done = self.commit_each(alloc, leaves);
+        let done = self.commit_each(rt, alloc, leaves);
         self.give_up_from(number);
         done
     }
@@ -144,7 +165,12 @@ impl<S: Store + Drop> MdCache<S> {
 
     // Commits each of these leaves, none of which is clean: all begin, all are encoded, and all end. Takes memory for all of them at
     // once. After a refusal some may be committed, and jobs stand.
-    pub(crate) fn commit_each(&mut self, alloc: Global, leaves: &[Dirfrag]) -> Result<(), Refusal>
+    pub(crate) fn commit_each(
+        &mut self,
+        rt: &(impl Threads + Sync),
+        alloc: Global,
+        leaves: &[Dirfrag],
+    ) -> Result<(), Refusal>
         requires sound { IsSoundCore self.old }
         requires none { self.old.jobs ≡ map.empty }
         requires apart { AreApart (leaves_at leaves.now) }
@@ -160,7 +186,7 @@ impl<S: Store + Drop> MdCache<S> {
             Ok(begun) => begun,
             Err(refusal) => return Err(refusal),
         };
-        let ready = match encode_each(alloc, begun) {
+        let ready = match encode_each(rt, alloc, begun) {
             Ok(ready) => ready,
             Err(refusal) => return Err(refusal),
         };
@@ -261,24 +287,33 @@ impl<S: Store + Drop> MdCache<S> {
     }
 }
 
-// The writes of jobs, in their order. Takes memory for them, and is refused for want of it alone.
-fn encode_each(alloc: Global, begun: Vec<Begun>) -> Result<Vec<Ready>, Refusal>
+// The writes of jobs, in their order, made side by side by as many threads as there are processors: each job is heavy, so that a
+// thread may take even a single one. Takes memory for them, and is refused for want of it alone.
+fn encode_each(
+    rt: &(impl Threads + Sync),
+    alloc: Global,
+    begun: Vec<Begun>,
+) -> Result<Vec<Ready>, Refusal>
     ensures encoded { IfOk result (λ ready. ready.items ≡ list_map ready_of begun.items) }
     ensures refused { IfErr result (λ reason. reason ≡ NoMemory) }
 {
-    let mut ready = Vec::with_capacity(alloc, begun.len())?;
-    for one in begun {
-        let encoded = Encoded::of(alloc, one.job)?;
-        let rank = one.rank;
-        if ready.push(Ready { rank, encoded }).is_err() {
-            return Err(Refusal::NoMemory);
-        }
-    }
-    Ok(ready)
+    begun
+        .into_par_iter()
+        .with_min_len(1)
+        .map(
+            |one: Begun| -> Result<Ready, Refusal>
+                ensures { IsReadied one result }
+            { one.encode(alloc) },
+        )
+        .collect::<Result<Vec<Ready>, Refusal>>(rt, alloc)?
 }
 
 // Commits batch after batch, until all is clean.
-fn commit_batches<S: Store + Drop>(tree: &mut MdCache<S>, alloc: Global) -> Result<(), Refusal>
+fn commit_batches<S: Store + Drop>(
+    tree: &mut MdCache<S>,
+    rt: &(impl Threads + Sync),
+    alloc: Global,
+) -> Result<(), Refusal>
     requires sound { IsSoundCore tree.old }
     requires none { tree.old.jobs ≡ map.empty }
     requires few { length tree.old.caches.used ≤ 256 }
@@ -293,7 +328,7 @@ fn commit_batches<S: Store + Drop>(tree: &mut MdCache<S>, alloc: Global) -> Resu
 {
     let mut more = true;
     while more {
-        more = match tree.commit_some(alloc) {
+        more = match tree.commit_some(rt, alloc) {
             Ok(some) => some,
             Err(refusal) => return Err(refusal),
         };

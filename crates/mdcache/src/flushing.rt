@@ -15,6 +15,7 @@ use crate::standing_jobs::StandingJobs;
 use mds_types::Refusal;
 use objstore::Store;
 use std::alloc::Global;
+use std::thread::Threads;
 
 impl<S: Store + Drop> MdCache<S> {
     /// Gives up all commits that were begun; all that they would have written stays dirty. Takes no memory.
@@ -70,7 +71,7 @@ impl<S: Store + Drop> MdCache<S> {
     ///
     /// Refused `NoInodes` where a fragment's version is used up, or fewer than 1,024 numbers are left for jobs; otherwise as the store
     /// refuses, and `NoMemory`. Part of it may be done then, and another flush goes on with the rest.
-    pub fn flush(&mut self, alloc: Global) -> Result<(), Refusal>
+    pub fn flush(&mut self, rt: &(impl Threads + Sync), alloc: Global) -> Result<(), Refusal>
         requires sound { IsSoundCore self.old }
         requires few { length self.old.caches.used ≤ 256 }
         ensures flushed { OnOk result (IsFlushed (state_of self.new)) }
@@ -84,7 +85,7 @@ impl<S: Store + Drop> MdCache<S> {
         ensures sound { IsSoundCore self.new }
     {
         self.drop_jobs();
-        match self.commit_all(alloc) {
+        match self.commit_all(rt, alloc) {
             Ok(()) => self.flush_objects(alloc),
             Err(refusal) => Err(refusal),
         }

@@ -32,7 +32,7 @@ impl<S: Store + Drop> RankedTree<S> {
         ensures owned { IsOwned self.new.tree self.new.subtrees.roots }
         ensures orders { AreCaches self.new.tree.caches }
     {
-        let done = self.tree.flush(alloc);
+        let done = self.tree.flush(rt, alloc);
         // The contract of `ranks` is what says it of the caches.
         let _ = self.tree.ranks();
         done

@@ -1,11 +1,23 @@
-use Rattle.std.proofs.Common.{rules, ◌≡◌, ◌++◌, [], ◌∷◌, map as list_map, sym, ap, ◌∙◌}
-use Rattle.mdcache.specs.Batches.{ready_of}
-use Rattle.mdcache.specs.declared.batches.Ready.{Ready}
-use Rattle.mdcache.proofs.BatchLaws.{map_pushed}
+-- What is collected of all jobs' encodings.
+use Rattle.std.proofs.Common.{◌≡◌, ap, subst, ◌∙◌}
+use Rattle.std.specs.List.{AllZip}
+use Rattle.rayon.specs.Lists.{min_len_base, vec_items}
+use Rattle.mdcache.specs.Batches.{IsReadied}
+use Rattle.mdcache.proofs.EncodingLaws.{all_encoded, refused_for_memory}
 use Rattle.mdcache.proofs.batches.encode_each.Goals as goal
 
-pub loop-one-preserved : goal.loop-one-preserved
-loop-one-preserved c =
-    let one : Ready = record { rank = c.in-Some.one.rank; encoded = c.in_ok-encoded.encoded } in
-    let pushed : c.push.new.self.items ≡ c.loop-one.ready.items ++ one ∷ [] = search rules in
-    pushed ∙ ap (λ l. l ++ one ∷ []) c.loop-one.invariant ∙ (λ i. list_map ready_of c.loop-one.yielded ++ (record { rank = c.in-Some.one.rank; encoded = c.in_ok-encoded.ensures.ok i }) ∷ []) ∙ sym (map_pushed ready_of c.loop-one.yielded c.in-Some.one)
+pub returns-clause-encoded : goal.returns-clause-encoded
+returns-clause-encoded g c =
+    let collected = c.in_ok-collect.ensures in
+    let base = ap (λ it. vec_items (min_len_base it)) c.map.ensures.base ∙ ap (λ it. vec_items it) c.with_min_len.ensures.base in
+    let jobs = collected.1.1 ∙ base ∙ c.into_par_iter.ensures in
+    let each = subst (λ bs. AllZip IsReadied bs collected.0) jobs collected.1.2 in
+    all_encoded c.args.begun.items collected.0 c.in_ok-collect.field-0 each collected.2
+
+pub returns-clause-refused : goal.returns-clause-refused
+returns-clause-refused g c =
+    let collected = c.in_ok-collect.ensures in
+    let base = ap (λ it. vec_items (min_len_base it)) c.map.ensures.base ∙ ap (λ it. vec_items it) c.with_min_len.ensures.base in
+    let jobs = collected.1.1 ∙ base ∙ c.into_par_iter.ensures in
+    let each = subst (λ bs. AllZip IsReadied bs collected.0) jobs collected.1.2 in
+    refused_for_memory c.args.begun.items collected.0 c.in_ok-collect.field-0 each collected.2
