@@ -27,6 +27,7 @@ use Rattle.mdcache.specs.Objects.{tree_object}
 use Rattle.mdcache.specs.Shown.{names_of as shown_names, shown_at, shown_tree}
 use Rattle.mdcache.specs.Sound.{IsOwned, IsSound}
 use Rattle.mdcache.specs.State.{IsLive, State, text_of, tree_text}
+use Rattle.mdcache.proofs.CoverRows.{known_by_row}
 use Rattle.mdcache.proofs.ShownLaws.{found_nowhere}
 use Rattle.mdcache.proofs.TreeLookups.{at_dentry}
 use Rattle.cold_store.specs.ColdTree.{HasNoFault, HasRecords, IsColdLeaf, IsFaulty, IsReached, IsRecord, IsSamePlace, Record, SaysLeaves, tree_of}
@@ -205,7 +206,7 @@ module _ (s : State) (sound : IsSound s) (saved : IsFlushed s) (purged : s.purge
     where
       go : (name : List ℕ) → is_some (map.get s.objects name) ≡ true → IsOwned s name → ((leaf : Leaf) × IsLive s.homes s.covers leaf × (name ≡ text_of leaf)) ⊎ ((dir : Ino) × (is_known s.homes dir.0 ≡ true) × (1 < length (leaves_of s.covers dir.0)) × (name ≡ tree_text dir))
       go name some (inl leaf) = inl leaf
-      go name some (inr (inl (dir, known, is))) = inr (dir, known, several dir known (subst (λ n. is_some (map.get s.objects n) ≡ true) is some), is)
+      go name some (inr (inl (dir, row, is))) = let known = known_by_row s.homes s.covers sound.table dir.0 row in inr (dir, known, several dir known (subst (λ n. is_some (map.get s.objects n) ≡ true) is some), is)
       go name some (inr (inr listed)) = let clash : false ≡ true = ap is_some (sym (ap (λ p. map.get p name) purged ∙ get-empty _ name)) ∙ listed in absurd cc
 
 pub purged_are_exact : PurgedAreExact

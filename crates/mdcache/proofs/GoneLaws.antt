@@ -30,6 +30,7 @@ use Rattle.mdcache.specs.Changes.{objects_of, with_objects, without_directory, w
 use Rattle.mdcache.specs.Shown.{names_of, shown_tree}
 use Rattle.mdcache.specs.Sound.{IsOwned, IsStanding}
 use Rattle.mdcache.specs.State.{IsLive, State, text_of, tree_text}
+use Rattle.mdcache.proofs.CoverRows.{row_left}
 use Rattle.mdcache.proofs.NamedLaws.{HasSoundLeaves, known_or_not, pick_at, stands_at, stands_nowhere}
 use Rattle.mdcache.proofs.SoundLaws.{names_alike}
 use Rattle.mdcache.proofs.TextLaws.{no_tree_text, one_text}
@@ -176,7 +177,7 @@ module _ (s : State) (sound : HasSoundLeaves s) (dir : Ino) (may : MayGo s.homes
       go (inl same) =
           let its : d.0 ≡ dir = λ i. record { 0 = same i } in
           inr (inr (ap (λ (n : List ℕ). is_some (map.get left.purge n)) (d.2 ∙ ap tree_text its) ∙ first_listed s.purge (tree_text dir) (each text_of ls)))
-      go (inr apart) = inr (inl (d.0, known_on d.0.0 apart ∙ d.1, d.2))
+      go (inr apart) = inr (inl (d.0, row_left s.covers dir.0 d.0.0 apart d.1, d.2))
   owned_left name (inr (inr listed)) = inr (inr (stays_listed s.purge (objects_of s dir) name listed))
 
   listed_left : (leaf : Leaf) → IsLive left.homes left.covers leaf → map.get left.purge (text_of leaf) ≡ None

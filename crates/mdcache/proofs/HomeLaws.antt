@@ -50,7 +50,7 @@ module _ (s : State) (homes : Homes) (sound : HasSoundLeaves s) (table : IsTable
 
   owned_by : (name : List ℕ) → IsOwned s name → IsOwned rehomed name
   owned_by name (inl leaf) = inl (leaf.0, rehomed_live leaf.0 leaf.1, leaf.2)
-  owned_by name (inr (inl dir)) = inr (inl (dir.0, same dir.0.0 ∙ dir.1, dir.2))
+  owned_by name (inr (inl dir)) = inr (inl dir)
   owned_by name (inr (inr listed)) = inr (inr listed)
 
   pub rehomed_leaves : HasSoundLeaves rehomed
@@ -213,7 +213,7 @@ module _ (s : State) (sound : HasSoundLeaves s) (dentry : Dentry) (dir : Ino) (c
 
   owned_new : (name : List ℕ) → IsOwned s name → IsOwned grown name
   owned_new name (inl leaf) = inl (leaf.0, grown_live leaf.0 leaf.1, leaf.2)
-  owned_new name (inr (inl d)) = inr (inl (d.0, still_known s.homes dir.0 (home_at dentry) d.0.0 d.1, d.2))
+  owned_new name (inr (inl d)) = inr (inl d)
   owned_new name (inr (inr listed)) = go (key_or_apart name (text_of first))
     where
       go : (name ≡ text_of first) ⊎ (name ≡ text_of first → ⊥) → IsOwned grown name

@@ -9,6 +9,7 @@ pub mod ChildNames
 pub mod CommittedLaws
 pub mod CoreLaws
 pub mod CountLaws
+pub mod CoverRows
 pub mod EmptyLaws
 pub mod EncodingLaws
 pub mod EndLaws

@@ -40,6 +40,7 @@ use Rattle.mdcache.specs.Mounted.{IsMounted, IsNew, mounted}
 use Rattle.mdcache.specs.Shown.{names_of as shown_names, shown_at, shown_tree}
 use Rattle.mdcache.specs.Sound.{IsOwned, IsSound}
 use Rattle.mdcache.specs.State.{IsLive, State, text_of}
+use Rattle.mdcache.proofs.CoverRows.{several_in_row}
 use Rattle.mdcache.proofs.NewLaws.{new_tree, none_held, none_kept, none_unclean}
 use Rattle.mdcache.proofs.NoneLaws.{none_coming, none_only}
 use Rattle.mdcache.proofs.ShownLaws.{found_at, found_nowhere}
@@ -168,12 +169,20 @@ module _ (objects : Objects) (tree : Tree) (homes : Homes) (covers : Covers) (pu
 
   -- ---- all together
 
+  -- a directory whose tree object is there has several leaves, so they were set
+  has_row : (dir : Ino) → is_known homes dir.0 ≡ true → is_some (tree_of objects dir) ≡ true → is_some (map.get covers dir.0) ≡ true
+  has_row dir known = go (tree_of objects dir) (w.leaves dir known)
+    where
+      go : (o : Option Omap) → SaysLeaves o (leaves_of covers dir.0) → is_some o ≡ true → is_some (map.get covers dir.0) ≡ true
+      go None said some = absurd cc
+      go (Some object) said some = several_in_row covers dir.0 said.several
+
   owned : (name : List ℕ) → is_some (map.get objects name) ≡ true → IsOwned s name
   owned name some = go (w.reached_or_left name some)
     where
       go : IsReachedObject objects name ⊎ (is_some (map.get purge name) ≡ true) → IsOwned s name
       go (inl (inl (leaf, above, of, is))) = inl (leaf, live_leaf leaf above of, is)
-      go (inl (inr (dir, above, is))) = inr (inl (dir, known_there dir.0 above, is))
+      go (inl (inr (dir, above, is))) = inr (inl (dir, has_row dir (known_there dir.0 above) (subst (λ n. is_some (map.get objects n) ≡ true) is some), is))
       go (inr listed) = inr (inr listed)
 
   not_listed : (leaf : Leaf) → IsLive homes covers leaf → map.get purge (text_of leaf) ≡ None

@@ -1,11 +1,12 @@
 -- A purge and a commit of a directory's tree change no object of a live leaf.
-use Rattle.std.proofs.Common.{◌≡◌, ◌⊎◌, inl, inr, ℕ, Bool, true, false, cond, List, [], ◌∷◌, Option, Some, None, refl, sym, ap, ◌∙◌}
+use Rattle.std.proofs.Common.{◌≡◌, ◌⊎◌, inl, inr, ℕ, ◌<◌, Bool, true, false, cond, List, [], ◌∷◌, Option, Some, None, refl, sym, ap, subst, ◌∙◌}
 use Rattle.std.specs.Prelude.{is_some, length, nat_lt, slice_get}
 use Rattle.std.specs.Option.{option_map, unwrap_or}
 use Rattle.std.specs.Ordering.{eq_by_cmp}
 use Rattle.std.specs.FinMap as map
 use Rattle.std.specs.FinMap.{find, get-empty, get-entries, same_map}
 use Rattle.std.specs.Cmp.Lexicographic.{nat_list_cmp_total}
+use Rattle.std.proofs.lemmas.Bool.{ltb-true}
 use Rattle.std.proofs.lemmas.Map.Lookups.{exact_bytes}
 use Rattle.mds_types.specs.Frag.{Fragment}
 use Rattle.mds_types.specs.declared.ids.Ino.{Ino}
@@ -26,6 +27,7 @@ use Rattle.mdcache.specs.Objects.{purged, tree_object, tree_saved, with_tree_at}
 use Rattle.mdcache.specs.Shown.{shown_tree}
 use Rattle.mdcache.specs.Sound.{IsOwned, IsSound}
 use Rattle.mdcache.specs.State.{IsLive, State, text_of, tree_text}
+use Rattle.mdcache.proofs.CoverRows.{several_in_row}
 use Rattle.mdcache.proofs.SoundLaws.{other_objects, other_objects_kept, other_objects_tree}
 use Rattle.mdcache.proofs.TextLaws.{no_tree_text}
 
@@ -103,12 +105,20 @@ module _ (s : State) (dir : Ino) (sound : IsSound s) (known : is_known s.homes d
   pub tree_saved_tree : shown_tree (tree_saved s dir) ≡ shown_tree s
   tree_saved_tree = other_objects_tree s objects (map.remove s.purge (tree_text dir)) sound tree_saved_objects
 
+  -- where the object is there afterwards the directory has several leaves
+  several : is_some (map.get objects (tree_text dir)) ≡ true → 1 < length leaves
+  several = go (nat_lt 1 (length leaves)) refl
+    where
+      go : (b : Bool) → nat_lt 1 (length leaves) ≡ b → is_some (map.get (cond b (map.insert s.objects (tree_text dir) (tree_object leaves)) (map.remove s.objects (tree_text dir))) (tree_text dir)) ≡ true → 1 < length leaves
+      go true more some = ltb-true 1 (length leaves) more
+      go false few some = let clash : false ≡ true = sym (ap (λ (o : Option Omap). is_some o) (get_removed s.objects (tree_text dir))) ∙ some in absurd cc
+
   pub tree_saved_sound : IsSound (tree_saved s dir)
   tree_saved_sound = other_objects s objects (map.remove s.purge (tree_text dir)) sound tree_saved_objects
       (λ q has. go q has (name_or_other (tree_text dir) q)) (λ leaf live. get_left s.purge (tree_text dir) (text_of leaf) (no_tree_text s.homes s.covers sound.table sound.numbered leaf dir live known) ∙ sound.listed leaf live)
     where
       go : (q : List ℕ) → is_some (map.get objects q) ≡ true → (q ≡ tree_text dir) ⊎ (q ≡ tree_text dir → ⊥) → IsOwned (tree_saved s dir) q
-      go q has (inl same) = inr (inl (dir, known, same))
+      go q has (inl same) = inr (inl (dir, several_in_row s.covers dir.0 (several (subst (λ n. is_some (map.get objects n) ≡ true) same has)), same))
       go q has (inr apart) = owned_beside s objects (tree_text dir) q apart (sound.owned q (ap (λ (o : Option Omap). is_some o) (sym (beside q apart)) ∙ has))
 
   pub tree_saved_cached : (caches : CacheMap) → AreCached s caches → AreCached (tree_saved s dir) caches

@@ -9,12 +9,11 @@ use Rattle.std.specs.Cmp.Lexicographic.{nat_list_cmp_total}
 use Rattle.objstore.specs.Omap.{Keys}
 use Rattle.objstore.specs.Objects.{Objects}
 use Rattle.dirfrag_codec.proofs.ByteKeys.{get_left, get_removed, same_or_apart}
-use Rattle.inode_table.specs.Dirs.{is_known, leaves_of}
-use Rattle.mdcache.specs.Flushed.{ArePurged, PurgesKeepFlushed}
-use Rattle.mdcache.specs.Objects.{PurgesName, purged, tree_object}
+use Rattle.mdcache.specs.Flushed.{ArePurged}
+use Rattle.mdcache.specs.Objects.{PurgesName, purged}
 use Rattle.mdcache.specs.PurgeList.{first_name}
 use Rattle.mdcache.specs.Shown.{shown_tree}
-use Rattle.mdcache.specs.State.{State, tree_text}
+use Rattle.mdcache.specs.State.{State}
 use Rattle.mdcache.proofs.ObjectLaws.{first_stands}
 
 pub purged_none : (s : State) → ArePurged s s
@@ -84,13 +83,3 @@ module _ (old now new : State) (so_far : ArePurged old now) (some : nat_lt 0 (ma
       go : (o : Option (List ℕ)) → first_name now.purge ≡ o → PurgesName now new before after o (Ok tt) → ArePurged old new × (map.len new.purge < map.len now.purge)
       go None none done = let one = ltb-true 0 (map.len now.purge) some in let nothing = none_first now.purge none in absurd (omega (arith, one, nothing))
       go (Some name) first (left, tree) = one_more name first left tree
-
--- what was flushed stays so
-pub purges_keep_flushed : PurgesKeepFlushed
-purges_keep_flushed old new flushed none purges = record {
-  clean = ap (λ (s : State). s.unsaved) purges.left ∙ flushed.clean;
-  trees = λ dir known.
-      let was : is_known old.homes dir.0 ≡ true = ap (λ (s : State). is_known s.homes dir.0) (sym purges.left) ∙ known in
-      (purges.others (tree_text dir) (none dir was)).0 ∙ flushed.trees dir was
-      ∙ ap (λ (s : State). cond (nat_lt 1 (length (leaves_of s.covers dir.0))) (Some (tree_object (leaves_of s.covers dir.0))) None) (sym purges.left);
-}

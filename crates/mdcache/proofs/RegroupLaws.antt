@@ -44,6 +44,7 @@ use Rattle.mdcache.specs.Shown.{names_of, shown_at, shown_tree}
 use Rattle.mdcache.specs.Sound.{AreYoung, IsOwned, IsSound, IsStanding, IsUnsaved}
 use Rattle.mdcache.specs.Splits.{Comes, HasUnsaved, IsConcerned, IsNewLeaf, IsRegrouped, KeepsTree, are_empty, regrouped}
 use Rattle.mdcache.specs.State.{IsLive, State, text_of}
+use Rattle.mdcache.proofs.CoverRows.{row_stays}
 use Rattle.mdcache.proofs.GoneLaws.{get_without, among}
 use Rattle.mdcache.proofs.NamedLaws.{HasSoundLeaves, known_or_not, pick_at, sound_again, sound_leaves, stands_at, stands_nowhere}
 use Rattle.mdcache.proofs.SoundLaws.{names_alike}
@@ -323,7 +324,7 @@ module _ (s : State) (sound : IsSound s) (dir : Ino) (gone cover : List Fragment
       go (inl ended) = inr (inr (is_some_of (map.get r.purge name) (ap (map.get r.purge) (leaf.2 ∙ ap text_of (sym (its leaf.0 ended.0))) ∙ r.listed.ended leaf.0.1 ended.1)))
       go (inr (inl came)) = inl (leaf.0, came_live leaf.0 came.0 came.1.0, leaf.2)
       go (inr (inr apart)) = inl (leaf.0, apart_live leaf.0 apart leaf.1, leaf.2)
-  owned_now name (inr (inl d)) = inr (inl (d.0, d.1, d.2))
+  owned_now name (inr (inl d)) = inr (inl (d.0, row_stays s.covers dir.0 cover d.0.0 d.1, d.2))
   owned_now name (inr (inr listed)) = go (text_or_not dir cover name) (text_or_not dir gone name)
     where
       go : ((f : Fragment) × HasLeaf cover f × (name ≡ text_of (dir, f))) ⊎ ((f : Fragment) → HasLeaf cover f → name ≡ text_of (dir, f) → ⊥)

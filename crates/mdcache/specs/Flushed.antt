@@ -13,6 +13,7 @@ use Rattle.cold_store.specs.ColdTree.{IsColdTree, tree_of}
 use Rattle.mdcache.specs.Commits.{Begins, IsEnded, leaf_of}
 use Rattle.mdcache.specs.Core.{Core, shown_in}
 use Rattle.mdcache.specs.Objects.{tree_object}
+use Rattle.mdcache.specs.SavedTrees.{HasTrees}
 use Rattle.mdcache.specs.Shown.{shown_tree}
 use Rattle.mdcache.specs.Sound.{IsSound}
 use Rattle.mdcache.specs.State.{IsLive, State, text_of, tree_text}
@@ -65,9 +66,10 @@ pub record ArePurged (old new : State) : Type 0 where
   pub others : (name : List ℕ) → map.get old.purge name ≡ None → (map.get new.objects name ≡ map.get old.objects name) × (map.get new.purge name ≡ None)
   pub gone : (name : List ℕ) → map.get new.purge name ≡ None → (map.get old.purge name ≡ None) ⊎ (map.get new.objects name ≡ None)
 
--- where no tree object of a directory is to be removed, what was flushed stays so
-abbrev pub PurgesKeepFlushed : Type 0
-PurgesKeepFlushed = (old new : State) → IsFlushed old → ((dir : Ino) → is_known old.homes dir.0 ≡ true → map.get old.purge (tree_text dir) ≡ None) → ArePurged old new → IsFlushed new
+-- where nothing was unsaved and each directory's tree was saved whose leaves were ever set, all is flushed once nothing is left to be
+-- removed
+abbrev pub PurgedAreFlushed : Type 0
+PurgedAreFlushed = (old new : State) → old.unsaved ≡ map.empty → HasTrees old → ArePurged old new → IsSound new → new.purge ≡ map.empty → IsFlushed new
 
 -- ---- commits of whole fragments
 

@@ -47,11 +47,11 @@ pub record IsStanding (s : State) (leaf : Leaf) (job : Job) : Type 0 where
   pub beside : map.get s.unsaved leaf ≡ Some unsaved
   pub taken : IsOf job unsaved (object_of s.objects leaf.0 leaf.1)
 
--- an object is that of a live leaf, or the tree object of a directory, or is to be removed
+-- an object is that of a live leaf, or the tree object of a directory whose leaves were set, or is to be removed
 abbrev pub IsOwned : State → List ℕ → Type 0
 IsOwned s name =
     ((leaf : Leaf) × IsLive s.homes s.covers leaf × (name ≡ text_of leaf))
-    ⊎ ((dir : Ino) × (is_known s.homes dir.0 ≡ true) × (name ≡ tree_text dir))
+    ⊎ ((dir : Ino) × (is_some (map.get s.covers dir.0) ≡ true) × (name ≡ tree_text dir))
     ⊎ (is_some (map.get s.purge name) ≡ true)
 
 pub record IsSound (s : State) : Type 0 where

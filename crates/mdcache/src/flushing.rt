@@ -1,5 +1,5 @@
 //! What a flush does, step by step.
-ghost use Rattle.std.specs.Prelude.{◌≡◌, ◌+◌, ◌≤◌, length, nat_lt, OnOk, IfErr};
+ghost use Rattle.std.specs.Prelude.{◌≡◌, ◌+◌, ◌≤◌, length, nat_lt, Ok, OnOk, IfErr};
 ghost use Rattle.std.specs.FinMap as map;
 ghost use Rattle.std.specs.Result.{result_err};
 ghost use Rattle.objstore.specs.Objects.{MayRefuse, faults_told};
@@ -46,15 +46,17 @@ impl<S: Store + Drop> MdCache<S> {
         purge_each(self)
     }
 
-    /// Makes the object of each directory's tree say what leaves the directory has: it is written, if there are several and the
-    /// object isn't so already, and removed, if there is one. Their names leave the purge list. Takes memory for one object
-    /// after the other.
+    /// Makes the object of each directory's tree say what leaves the directory has, of those directories whose leaves were ever set:
+    /// it is written, if there are several and the object isn't so already, and removed, if there is one. Their names leave the purge
+    /// list. Others have no tree object but one that is to be removed, and take no call of the store: where there are no such
+    /// directories nothing is done, and nothing refused. Takes memory for one object after the other.
     ///
     /// Refused as the store refuses, and `NoMemory`. Some directories' objects are up to date then, the others as they were.
     pub fn save_trees(&mut self, alloc: Global) -> Result<(), Refusal>
         requires { IsSoundCore self.old }
         ensures all { OnOk result (HasTrees (state_of self.new)) }
         ensures saved { SavesTrees (state_of self.old) (state_of self.new) }
+        ensures idle { self.old.covers ≡ map.empty → (result ≡ Ok tt) × (self.new ≡ self.old) }
         ensures tree { KeepsTree self.old self.new }
         ensures caches { self.new.caches ≡ self.old.caches }
         ensures refused { IfErr result (MayRefuse self.old.faults self.new.faults) }
@@ -142,18 +144,19 @@ fn purge_each<S: Store + Drop>(tree: &mut MdCache<S>) -> Result<(), Refusal>
     Ok(())
 }
 
-// Brings the objects of directories' trees up to date, one directory after the other.
+// Brings the objects of directories' trees up to date, one directory after the other, of those whose leaves were ever set.
 fn save_each<S: Store + Drop>(tree: &mut MdCache<S>, alloc: Global) -> Result<(), Refusal>
     requires { IsSoundCore tree.old }
     ensures all { OnOk result (HasTrees (state_of tree.new)) }
     ensures saved { SavesTrees (state_of tree.old) (state_of tree.new) }
+    ensures idle { tree.old.covers ≡ map.empty → (result ≡ Ok tt) × (tree.new ≡ tree.old) }
     ensures caches { tree.new.caches ≡ tree.old.caches }
     ensures refused { IfErr result (MayRefuse tree.old.faults tree.new.faults) }
     ensures counted { tree.new.faults ≡ tree.old.faults + faults_told (result_err result) }
     ensures sound { IsSoundCore tree.new }
 {
     let mut last = None;
-    while let Some(dir) = tree.dirs().next_dir(last) {
+    while let Some(dir) = tree.dirs().next_tree(last) {
         if let Err(reason) = tree.commit_tree(alloc, dir) {
             return Err(reason);
         }

@@ -1,5 +1,5 @@
 -- What is collected of all jobs' encodings.
-use Rattle.std.proofs.Common.{◌≡◌, ap, subst, ◌∙◌}
+use Rattle.std.proofs.Common.{ap, subst, ◌∙◌}
 use Rattle.std.specs.List.{AllZip}
 use Rattle.rayon.specs.Lists.{min_len_base, vec_items}
 use Rattle.mdcache.specs.Batches.{IsReadied}

@@ -2,35 +2,45 @@
 use Rattle.std.proofs.Common.{inl, sym, ap, refl, subst, ◌∙◌, arith}
 use Rattle.std.specs.Prelude.{slice_get}
 use Rattle.objstore.specs.Objects.{MayRefuse}
-use Rattle.inode_table.specs.Order.{dirs_after}
-use Rattle.inode_table.proofs.OrderLaws.{all_dirs}
-use Rattle.mdcache.specs.Core.{state_of}
-use Rattle.mdcache.proofs.SavedTreeLaws.{all_saved, saved_none, turn_done, turn_fewer, turn_refused, turn_saved}
+use Rattle.inode_table.specs.Order.{trees_after}
+use Rattle.inode_table.proofs.TreeOrder.{all_trees}
+use Rattle.mdcache.specs.Core.{Core, state_of}
+use Rattle.mdcache.proofs.CoverRows.{known_by_row}
+use Rattle.mdcache.proofs.SavedTreeLaws.{all_saved, no_first, saved_none, turn_done, turn_fewer, turn_refused, turn_saved}
 use Rattle.mdcache.proofs.flushing.save_each.Goals as goal
 
 pub loop-dir-init : goal.loop-dir-init
 loop-dir-init g c = record {
   saved = saved_none (state_of c.args.tree.now);
-  done = λ d known. inl (all_dirs c.args.tree.now.homes d.0 known);
+  done = λ d row. inl (all_trees c.args.tree.now.homes c.args.tree.now.covers d.0 (known_by_row c.args.tree.now.homes c.args.tree.now.covers c.requires.sound.table d.0 row) row);
   caches = refl;
   faults = refl;
+  idle = λ none. refl;
   sound = c.requires;
 }
 
 pub returns-in-Err-clause-refused : goal.returns-in-Err-clause-refused
 returns-in-Err-clause-refused g c =
-    let first = ap (λ h. slice_get (dirs_after h c.loop-dir.last) 0) (sym c.dirs.ensures.homes) ∙ sym c.in-Some.ensures in
+    let first = (λ i. slice_get (trees_after (sym c.dirs.ensures.homes i) (sym c.dirs.ensures.trees i) c.loop-dir.last) 0) ∙ sym c.in-Some.ensures in
     subst (λ n. MayRefuse n c.commit_tree.new.self.faults c.in-Err.reason) c.loop-dir.invariant.faults
     (turn_refused (state_of c.loop-dir.tree) c.loop-dir.invariant.sound.sound c.loop-dir.last c.in-Some.dir first (state_of c.commit_tree.new.self) c.loop-dir.tree.faults c.commit_tree.new.self.faults c.in-Err.reason c.in-Err.ensures.saved)
 
+pub returns-in-Err-clause-idle : goal.returns-in-Err-clause-idle
+returns-in-Err-clause-idle g c = λ none.
+    let first = (λ i. slice_get (trees_after (sym c.dirs.ensures.homes i) (sym c.dirs.ensures.trees i) c.loop-dir.last) 0) ∙ sym c.in-Some.ensures in
+    absurd (no_first (state_of c.loop-dir.tree) c.loop-dir.last c.in-Some.dir first (ap (λ (t : Core). t.covers) (c.loop-dir.invariant.idle none) ∙ none))
+
+pub returns-clause-idle : goal.returns-clause-idle
+returns-clause-idle g c = λ none. (refl, c.loop-dir.invariant.idle none)
+
 pub loop-dir-smaller : goal.loop-dir-smaller
 loop-dir-smaller g c =
-    let first = ap (λ h. slice_get (dirs_after h c.loop-dir.last) 0) (sym c.dirs.ensures.homes) ∙ sym c.in-Some.ensures in
+    let first = (λ i. slice_get (trees_after (sym c.dirs.ensures.homes i) (sym c.dirs.ensures.trees i) c.loop-dir.last) 0) ∙ sym c.in-Some.ensures in
     turn_fewer (state_of c.loop-dir.tree) c.loop-dir.invariant.sound.sound c.loop-dir.last c.in-Some.dir first (state_of c.commit_tree.new.self) c.loop-dir.tree.faults c.commit_tree.new.self.faults c.in_default-commit_tree.ensures.saved
 
 pub loop-dir-preserved : goal.loop-dir-preserved
 loop-dir-preserved g c =
-    let first = ap (λ h. slice_get (dirs_after h c.loop-dir.last) 0) (sym c.dirs.ensures.homes) ∙ sym c.in-Some.ensures in
+    let first = (λ i. slice_get (trees_after (sym c.dirs.ensures.homes i) (sym c.dirs.ensures.trees i) c.loop-dir.last) 0) ∙ sym c.in-Some.ensures in
     let counted = c.in_default-commit_tree.ensures.counted in
     let so_far = c.loop-dir.invariant.faults in
     record {
@@ -40,9 +50,10 @@ loop-dir-preserved g c =
           c.loop-dir.invariant.done;
       caches = c.in_default-commit_tree.ensures.caches ∙ c.loop-dir.invariant.caches;
       faults = omega (arith, counted, so_far);
+      idle = λ none. absurd (no_first (state_of c.loop-dir.tree) c.loop-dir.last c.in-Some.dir first (ap (λ (t : Core). t.covers) (c.loop-dir.invariant.idle none) ∙ none));
       sound = c.in_default-commit_tree.ensures.sound;
     }
 
 pub returns-clause-all : goal.returns-clause-all
 returns-clause-all g c =
-    all_saved (state_of c.loop-dir.tree) c.loop-dir.last (ap (λ h. slice_get (dirs_after h c.loop-dir.last) 0) (sym c.dirs.ensures.homes) ∙ sym c.in_default.ensures) c.loop-dir.invariant.done
+    all_saved (state_of c.loop-dir.tree) c.loop-dir.last ((λ i. slice_get (trees_after (sym c.dirs.ensures.homes i) (sym c.dirs.ensures.trees i) c.loop-dir.last) 0) ∙ sym c.in_default.ensures) c.loop-dir.invariant.done

@@ -7,11 +7,11 @@ use Rattle.mdcache.proofs.mdcache.MdCache.flush_objects.Goals as goal
 
 pub returns-in-Ok-clause-flushed : goal.returns-in-Ok-clause-flushed
 returns-in-Ok-clause-flushed g c =
-    told_flushed (state_of c.save_trees.new.self) (state_of c.purge_all.new.self) (state_of c.args.self.now) (ap unclean c.in-Ok.ensures.caches ∙ c.requires.clean) c.in-Ok.ensures.all c.purge_all.ensures.purged c.purge_all.ensures.sound.sound c.purge_all.result
+    told_flushed (state_of c.save_trees.new.self) (state_of c.purge_all.new.self) (state_of c.args.self.now) (ap unclean c.in-Ok.ensures.caches ∙ c.requires.clean) c.in-Ok.ensures.all c.purge_all.ensures.purged c.purge_all.ensures.sound.sound c.purge_all.result c.purge_all.ensures.all
 
 pub returns-in-Ok-clause-cold : goal.returns-in-Ok-clause-cold
 returns-in-Ok-clause-cold g c =
-    told_cold (state_of c.save_trees.new.self) (state_of c.purge_all.new.self) (state_of c.args.self.now) (ap unclean c.in-Ok.ensures.caches ∙ c.requires.clean) c.in-Ok.ensures.all c.purge_all.ensures.purged c.purge_all.ensures.sound.sound c.purge_all.result
+    told_cold (state_of c.save_trees.new.self) (state_of c.purge_all.new.self) (state_of c.args.self.now) (ap unclean c.in-Ok.ensures.caches ∙ c.requires.clean) c.in-Ok.ensures.all c.purge_all.ensures.purged c.purge_all.ensures.sound.sound c.purge_all.result c.purge_all.ensures.all
     (c.purge_all.ensures.tree.tree ∙ c.in-Ok.ensures.tree.tree)
 
 pub returns-in-Ok-clause-exact : goal.returns-in-Ok-clause-exact
