@@ -11,6 +11,7 @@ pub mod laws;
 mod masters;
 mod missing_grants;
 mod mounting;
+mod parts;
 mod pinned;
 mod plain_trees;
 mod runs;
