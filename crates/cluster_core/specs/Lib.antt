@@ -3,6 +3,7 @@ pub use Rattle.mds_types.specs.Step
 pub use Rattle.mds_types.specs.History
 pub use Rattle.inode_table.specs.Numbers
 pub mod Administers
+pub mod Asked
 pub mod Commits
 pub mod Flush
 pub mod Fragments

@@ -15,7 +15,7 @@ use Rattle.mds_types.specs.Tree.{Tree, is_directory}
 use Rattle.mds_types.specs.History.{IsTrimmed, IsKeptAt, IsNew}
 use Rattle.inode_table.specs.Dirs.{Covers, leaves_of}
 use Rattle.inboxes.specs.declared.pins.Pin.{Pin}
-use Rattle.inboxes.specs.Inboxes.{Inboxes, waiting_at, with_last, with_waiting}
+use Rattle.inboxes.specs.Inboxes.{Inboxes, waiting_at, with_first, with_last, with_waiting}
 use Rattle.inboxes.specs.Pins.{is_for, is_in, left_without}
 use Rattle.inode_table.specs.Numbers.{offer}
 use Rattle.subtree_map.specs.Authority.{Roots}
@@ -204,27 +204,13 @@ ServesInbox old new past now MayRefuse rank result (request ∷ rest) = ServesRe
 
 -- ---- words of this crate's own contracts
 
--- the front of a rank's inbox is taken out, and its grants end
-abbrev pub EndsFront : (old new : Inboxes) → (before after : List Pin) → Rank → List Request → Type 0
-EndsFront old new before after rank [] = (new ≡ old) × (after ≡ before)
-EndsFront old new before after rank (request ∷ rest) = (new ≡ with_waiting old rank rest) × (after ≡ without_request before request)
+-- a request that was taken out is answered again with the reply that it got at this place; for want of memory it is put back
+abbrev pub Repeats : (old new : Inboxes) → (before after : List Pin) → Rank → Request → ℕ → Replied → Result Answer Refusal → Type 0
+Repeats old new before after rank request at said (Ok answer) =
+    (answer ≡ Reply request.client request.tid at false said) × (new ≡ old) × (after ≡ without_request before request)
+Repeats old new before after rank request at said (Err reason) = (reason ≡ NoMemory) × (new ≡ with_first old rank request) × (after ≡ before)
 
--- the front is answered again with the reply that it got at this place; for want of memory it stays
-abbrev pub RepeatsOne : (old new : Inboxes) → (before after : List Pin) → Rank → ℕ → Replied → Result Answer Refusal → Request → List Request → Type 0
-RepeatsOne old new before after rank at said (Ok answer) request rest =
-    (answer ≡ Reply request.client request.tid at false said) × (new ≡ with_waiting old rank rest) × (after ≡ without_request before request)
-RepeatsOne old new before after rank at said (Err reason) request rest = (reason ≡ NoMemory) × (new ≡ old) × (after ≡ before)
-
-abbrev pub RepeatsFront : (old new : Inboxes) → (before after : List Pin) → Rank → ℕ → Replied → Result Answer Refusal → List Request → Type 0
-RepeatsFront old new before after rank at said result [] = (new ≡ old) × (after ≡ before)
-RepeatsFront old new before after rank at said result (request ∷ rest) = RepeatsOne old new before after rank at said result request rest
-
--- the front goes to the back of another inbox, unless that is full
-abbrev pub ForwardsOneTo : (old new : Inboxes) → (rank master : Rank) → Result Answer Refusal → Request → List Request → Type 0
-ForwardsOneTo old new rank master (Ok answer) request rest =
-    (answer ≡ Forwarded master) × (length (waiting_at old master) < 1024) × (new ≡ with_last (with_waiting old rank rest) master request)
-ForwardsOneTo old new rank master (Err reason) request rest = (reason ≡ InboxFull) × (length (waiting_at old master) ≡ 1024) × (new ≡ old)
-
-abbrev pub ForwardsFront : (old new : Inboxes) → (rank master : Rank) → Result Answer Refusal → List Request → Type 0
-ForwardsFront old new rank master result [] = (result ≡ Err InboxEmpty) × (new ≡ old)
-ForwardsFront old new rank master result (request ∷ rest) = ForwardsOneTo old new rank master result request rest
+-- a request that was taken out goes to the back of another inbox; where that is full it is put back
+abbrev pub ForwardsTo : (old new : Inboxes) → (rank master : Rank) → Request → Result Answer Refusal → Type 0
+ForwardsTo old new rank master request (Ok answer) = (answer ≡ Forwarded master) × (length (waiting_at old master) < 1024) × (new ≡ with_last old master request)
+ForwardsTo old new rank master request (Err reason) = (reason ≡ InboxFull) × (length (waiting_at old master) ≡ 1024) × (new ≡ with_first old rank request)

@@ -43,7 +43,15 @@ impl<S: Store + Drop> Cluster<S> {
         if !self.is_rank(rank) {
             return Err(Refusal::NotAuthority);
         }
-        split_at(alloc, &mut self.tree, &self.pins, rank, ino, frag, bits)
+        split_at(
+            alloc,
+            &mut self.tree,
+            &self.waiting.pins,
+            rank,
+            ino,
+            frag,
+            bits,
+        )
     }
 
     // Leaves of a directory are merged.
@@ -64,7 +72,7 @@ impl<S: Store + Drop> Cluster<S> {
         if !self.is_rank(rank) {
             return Err(Refusal::NotAuthority);
         }
-        merge_at(alloc, &mut self.tree, &self.pins, rank, ino, frag)
+        merge_at(alloc, &mut self.tree, &self.waiting.pins, rank, ino, frag)
     }
 
     // A commit of a leaf begins; of a clean one there is nothing to commit.
@@ -105,9 +113,7 @@ impl<S: Store + Drop> Cluster<S> {
         ensures cap { self.new.caches.cap ≡ self.old.caches.cap }
         ensures counted { self.new.faults ≡ self.old.faults + faults_told (result_err result) }
     {
-        if let Err(refusal) = self.tree.drop_job(job) {
-            return Err(refusal);
-        }
+        self.tree.drop_job(job)?;
         Ok(Answer::Nothing)
     }
 
@@ -118,9 +124,7 @@ impl<S: Store + Drop> Cluster<S> {
         ensures cap { self.new.caches.cap ≡ self.old.caches.cap }
         ensures counted { self.new.faults ≡ self.old.faults + faults_told (result_err result) }
     {
-        if let Err(refusal) = self.tree.commit_tree(alloc, ino) {
-            return Err(refusal);
-        }
+        self.tree.commit_tree(alloc, ino)?;
         Ok(Answer::Nothing)
     }
 
@@ -131,9 +135,7 @@ impl<S: Store + Drop> Cluster<S> {
         ensures cap { self.new.caches.cap ≡ self.old.caches.cap }
         ensures counted { self.new.faults ≡ self.old.faults + faults_told (result_err result) }
     {
-        if let Err(refusal) = self.tree.purge() {
-            return Err(refusal);
-        }
+        self.tree.purge()?;
         Ok(Answer::Nothing)
     }
 
@@ -148,9 +150,7 @@ impl<S: Store + Drop> Cluster<S> {
         if !self.is_rank(rank) {
             return Err(Refusal::NotAuthority);
         }
-        if let Err(refusal) = self.tree.evict(rank) {
-            return Err(refusal);
-        }
+        self.tree.evict(rank)?;
         Ok(Answer::Nothing)
     }
 }

@@ -17,19 +17,20 @@ ghost use Rattle.mdcache.specs.Core.{state_of as tree_state};
 ghost use Rattle.mdcache.specs.Made.{IsUntouched};
 ghost use Rattle.mdcache.specs.Shown.{shown_tree};
 ghost use Rattle.cluster_core.specs.Serve.{CarryLeaves, FollowPlanned, MakesPlanned, without_gone, went_with};
+ghost use Rattle.cluster_core.specs.Asked.{IsSessionOf};
 ghost use Rattle.cluster_core.specs.Prepared.{IsPrepared};
 ghost use Rattle.cluster_core.specs.Uses.{CamePlanned};
 ghost use Rattle.ranked_tree.specs.Ranked.{IsReady as IsReadyIn};
 ghost use Rattle.ranked_tree.specs.Subtrees.{KeepsRoots};
 
 use crate::events::Answer;
+use crate::parts::{Asked, Given};
 use inboxes::Pins;
 use inode_table::Numbers;
-use mds_types::{Entry, Ino, Rank, Refusal, Reply, Request};
+use mds_types::{Entry, Ino, Refusal, Reply, Request};
 use namespace_ops::{Change, Checked, Frags, Plan, plan_checked};
 use objstore::Store;
 use ranked_tree::RankedTree;
-use sessions::Sessions;
 use std::alloc::{AllocError, Global};
 
 /// All that applying a request needs, made before its first change.
@@ -53,36 +54,35 @@ impl Prepared {
     }
 }
 
-/// Makes everything that applying a request needs of which this was found: room for its entry in the history and for its reply in
-/// the sessions, its plan, the copies of its reply.
-pub fn prepare<F: Frags>(
+/// Makes everything that applying a request needs of which this was found: room for its entry in the history and for
+/// its reply in the sessions, its plan, the copies of its reply.
+pub(crate) fn prepare<F: Frags>(
     alloc: Global,
     frags: &mut F,
-    numbers: Numbers,
-    sessions: &mut Sessions,
+    given: &mut Given,
     history: &mut Vec<Entry>,
-    request: &Request,
+    asked: &Asked,
     checked: Checked,
 ) -> Result<Prepared, Refusal>
-    requires offered { IsOffered (F.content frags.old) F.IsNumber (offer numbers) }
-    requires checked { Checks (F.content frags.old) (F.covers frags.old) (F.Holds frags.old) request.now.op (number_or (offer numbers)) (step (F.content frags.old) request.now.op (number_or (offer numbers))) checked }
-    ensures prepared { let outcome = step (F.content frags.old) request.now.op (number_or (offer numbers)) in
+    requires session { IsSessionOf given.old.sessions asked.now.request.client asked.now.session }
+    requires offered { IsOffered (F.content frags.old) F.IsNumber (offer asked.now.supply) }
+    requires checked { Checks (F.content frags.old) (F.covers frags.old) (F.Holds frags.old) asked.now.request.op (number_or (offer asked.now.supply)) (step (F.content frags.old) asked.now.request.op (number_or (offer asked.now.supply))) checked }
+    ensures prepared { let outcome = step (F.content frags.old) asked.now.request.op (number_or (offer asked.now.supply)) in
         MatchResult result
-        (IsPrepared (F.content frags.old) (F.covers frags.old) (F.IsReady frags.new) request.now.op outcome numbers)
-        (IsRefused (F.content frags.old) (F.content frags.new) (F.MayRefuse frags.old frags.new request.now.op) outcome (offer numbers)) }
+        (IsPrepared (F.content frags.old) (F.covers frags.old) (F.IsReady frags.new) asked.now.request.op outcome asked.now.supply)
+        (IsRefused (F.content frags.old) (F.content frags.new) (F.MayRefuse frags.old frags.new asked.now.request.op) outcome (offer asked.now.supply)) }
     ensures room { OnOk result (vec_len history.new < vec_capacity history.new) }
-    ensures reserved { OnOk result (IsReady sessions.new request.now.client) }
+    ensures reserved { OnOk result (IsReady given.new.sessions asked.now.request.client) }
+    ensures session { IsSessionOf given.new.sessions asked.now.request.client asked.now.session }
+    ensures numbers { given.new.numbers.items ≡ given.old.numbers.items }
     ensures past { history.new.items ≡ history.old.items }
-    ensures known { table sessions.new ≡ table sessions.old }
-    ensures kept { KeepsAll (F.content frags.old) (F.content frags.new) (F.covers frags.old) (F.covers frags.new) (F.Follows frags.old frags.new request.now.op (result_err result)) }
+    ensures known { table given.new.sessions ≡ table given.old.sessions }
+    ensures kept { KeepsAll (F.content frags.old) (F.content frags.new) (F.covers frags.old) (F.covers frags.new) (F.Follows frags.old frags.new asked.now.request.op (result_err result)) }
 {
     history.reserve(1)?;
-    sessions.reserve(alloc, request.client)?;
-    let plan = plan_checked(frags, &request.op, checked, numbers.peek())?;
-    match with_copies(plan, numbers) {
-        Ok(prepared) => Ok(prepared),
-        Err(_) => Err(Refusal::NoMemory),
-    }
+    given.sessions.reserve(alloc, &asked.session)?;
+    let plan = plan_checked(frags, &asked.request.op, checked, asked.supply.peek())?;
+    with_copies(plan, asked.supply)
 }
 
 // A plan with two more copies of its reply, and the numbers that it leaves.
@@ -125,21 +125,20 @@ fn copies_of(reply: &Reply) -> Result<(Reply, Reply), AllocError>
     }
 }
 
-/// Applies a request of this rank for which everything was prepared. It can't fail.
-pub fn commit<S: Store + Drop>(
+/// Applies a request for which everything was prepared. It can't fail.
+pub(crate) fn commit<S: Store + Drop>(
     tree: &mut RankedTree<S>,
-    numbers: &mut Vec<Numbers>,
     pins: &mut Pins,
-    sessions: &mut Sessions,
+    given: &mut Given,
     history: &mut Vec<Entry>,
-    rank: Rank,
-    request: Request,
+    asked: Asked,
     prepared: Prepared,
 ) -> Answer
+    requires session { IsSessionOf given.old.sessions asked.request.client asked.session }
     requires ready { IsReadyToChange (shown_tree (tree_state tree.old.tree)) tree.old.tree.covers (IsReadyIn tree.old) prepared.plan.change }
     requires room { vec_len history.old < vec_capacity history.old }
-    requires reserved { IsReady sessions.old request.client }
-    requires there { rank.0 < length numbers.old.items }
+    requires reserved { IsReady given.old.sessions asked.request.client }
+    requires there { asked.rank.0 < length given.old.numbers.items }
     ensures tree { shown_tree (tree_state tree.new.tree) ≡ after_plan (shown_tree (tree_state tree.old.tree)) prepared.plan.change }
     ensures made { MakesPlanned prepared.plan.change (tree_state tree.old.tree) (tree_state tree.new.tree) }
     ensures leaves { CarryLeaves (shown_tree (tree_state tree.old.tree)) (shown_tree (tree_state tree.new.tree)) tree.old.tree.covers tree.new.tree.covers }
@@ -150,20 +149,26 @@ pub fn commit<S: Store + Drop>(
     ensures came { CamePlanned tree.old.subtrees.roots prepared.plan.change tree.old.tree tree.new.tree }
     ensures followed { FollowPlanned prepared.plan.change (tree_state tree.old.tree) tree.old.subtrees.roots tree.new.subtrees.roots }
     ensures kept { KeepsRoots (tree_state tree.old.tree) (tree_state tree.new.tree) tree.old.subtrees.roots tree.new.subtrees.roots }
-    ensures pins { pins.new ≡ without_gone (left_without (is_for request.client request.tid) pins.old) (went_with prepared.plan.change) }
+    ensures pins { pins.new ≡ without_gone (left_without (is_for asked.request.client asked.request.tid) pins.old) (went_with prepared.plan.change) }
     ensures appended { history.new.items ≡ history.old.items ++ record {
-      client = request.client;
-      tid = request.tid;
-      oldest = request.oldest;
-      op = request.op;
+      client = asked.request.client;
+      tid = asked.request.tid;
+      oldest = asked.request.oldest;
+      op = asked.request.op;
       number = prepared.plan.number;
       reply = prepared.plan.reply;
     } ∷ [] }
-    ensures drawn { numbers.new.items ≡ set numbers.old.items rank.0 prepared.numbers }
-    ensures known { table sessions.new ≡ trimmed (noted (table sessions.old) request.client request.tid request.oldest (length history.old.items) prepared.kept) request.client }
-    ensures answer { result ≡ Answer.Reply request.client request.tid (length history.old.items) true prepared.answer }
+    ensures drawn { given.new.numbers.items ≡ set given.old.numbers.items asked.rank.0 prepared.numbers }
+    ensures known { table given.new.sessions ≡ trimmed (noted (table given.old.sessions) asked.request.client asked.request.tid asked.request.oldest (length history.old.items) prepared.kept) asked.request.client }
+    ensures answer { result ≡ Answer.Reply asked.request.client asked.request.tid (length history.old.items) true prepared.answer }
 {
     let place = history.len();
+    let Asked {
+        rank,
+        request,
+        session,
+        ..
+    } = asked;
     let Request {
         client,
         tid,
@@ -177,10 +182,12 @@ pub fn commit<S: Store + Drop>(
     } = prepared.plan;
     pins.end_pair(client, tid);
     carry_out(tree, pins, change);
-    numbers[usize::from(rank.0)] = prepared.numbers;
-    sessions.keep(client, tid, oldest, place, prepared.kept);
-    sessions.trim(client);
-    let _ = history.push(Entry {
+    given.numbers[usize::from(rank.0)] = prepared.numbers;
+    let session = given
+        .sessions
+        .keep(session, tid, oldest, place, prepared.kept);
+    given.sessions.trim(session);
+    history.push_reserved(Entry {
         client,
         tid,
         oldest,

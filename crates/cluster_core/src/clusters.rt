@@ -5,6 +5,7 @@ ghost use Rattle.std.specs.Result.{result_err};
 ghost use Rattle.std.specs.FinMap as map;
 ghost use Rattle.mds_types.specs.declared.entries.Entry.{Entry as Applied};
 ghost use Rattle.mds_types.specs.Tree.{Tree};
+ghost use Rattle.sessions.specs.Rooms.{table};
 ghost use Rattle.mdcache.specs.New.{MayNotFormat, new_caches};
 ghost use Rattle.cluster_core.specs.State.{new_state, whole_supplies};
 ghost use Rattle.cluster_core.specs.Steps.{ArrivesAt, AtRank, MayRefuse, ServesRank, Steps, UsesGranted, UsesInbox};
@@ -15,14 +16,13 @@ ghost use Rattle.cluster_core.specs.Administers.{AsksNone, ListsLeaves, TellsAut
 
 use crate::events::{Answer, Event};
 use crate::granting::grant_first;
+use crate::parts::{Given, Waiting};
 use crate::serving::serve_front;
-use inboxes::{Inboxes, Pins};
 use inode_table::Numbers;
 use mds_types::{Entry, Frag, Ino, Rank, Refusal, Request};
 use namespace_ops::Frags;
 use objstore::Store;
 use ranked_tree::RankedTree;
-use sessions::Sessions;
 use std::alloc::{AllocError, Global};
 use std::marker::Model;
 use subtree_map::Subtrees;
@@ -32,13 +32,10 @@ use subtree_map::Subtrees;
 pub struct Cluster<S: Store + Drop> {
     /// The tree, and whose each leaf is.
     pub(crate) tree: RankedTree<S>,
-    /// What waits at each rank.
-    pub(crate) inboxes: Inboxes,
-    /// The grants that stand.
-    pub(crate) pins: Pins,
-    /// The inode numbers of each rank.
-    pub(crate) numbers: Vec<Numbers>,
-    pub(crate) sessions: Sessions,
+    /// What waits at each rank, and the grants that stand.
+    pub(crate) waiting: Waiting,
+    /// The inode numbers of each rank, and what each client got.
+    pub(crate) given: Given,
 }
 
 impl<S: Store + Drop> Model for Cluster<S> {
@@ -51,7 +48,7 @@ impl<S: Store + Drop> Model for Cluster<S> {
 
     ghost coded = { Prim.hlevel (codes, map.code) };
 
-    ghost view = { λ c. core_of c.tree.tree c.tree.subtrees.roots c.numbers.items c.inboxes c.pins (table c.sessions) };
+    ghost view = { λ c. core_of c.tree.tree c.tree.subtrees.roots c.given.numbers.items c.waiting.inboxes c.waiting.pins (table c.given.sessions) };
 }
 
 impl<S: Store + Drop> Cluster<S> {
@@ -87,13 +84,11 @@ impl<S: Store + Drop> Cluster<S> {
                 Ok(tree) => {
                     // The contract of `store` is what says here that the tree is sound.
                     let _ = tree.store();
-                    let Parts { inboxes, numbers } = parts;
+                    let Parts { waiting, given } = parts;
                     Ok(Cluster {
                         tree,
-                        inboxes,
-                        pins: Pins::new(alloc),
-                        numbers,
-                        sessions: Sessions::new(alloc),
+                        waiting,
+                        given,
                     })
                 }
             },
@@ -166,7 +161,7 @@ impl<S: Store + Drop> Cluster<S> {
             drop(request);
             return Err(Refusal::NotAuthority);
         }
-        if let Err(refusal) = self.inboxes.arrive(rank, request) {
+        if let Err(refusal) = self.waiting.inboxes.arrive(rank, request) {
             return Err(refusal);
         }
         Ok(Answer::Nothing)
@@ -192,10 +187,8 @@ impl<S: Store + Drop> Cluster<S> {
         serve_front(
             alloc,
             &mut self.tree,
-            &mut self.inboxes,
-            &mut self.pins,
-            &mut self.numbers,
-            &mut self.sessions,
+            &mut self.waiting,
+            &mut self.given,
             history,
             rank,
         )
@@ -213,15 +206,7 @@ impl<S: Store + Drop> Cluster<S> {
         if !self.is_rank(rank) {
             return Err(Refusal::NotAuthority);
         }
-        grant_first(
-            alloc,
-            &mut self.tree,
-            &self.inboxes,
-            &mut self.pins,
-            rank,
-            client,
-            tid,
-        )
+        grant_first(alloc, &mut self.tree, &mut self.waiting, rank, client, tid)
     }
 
     /// The store, to read.
@@ -265,26 +250,28 @@ impl<S: Store + Drop> Cluster<S> {
     pub(crate) fn is_rank(&self, rank: Rank) -> bool
         ensures { result ≡ nat_lt rank.0 (length self.now.state.inboxes) }
     {
-        usize::from(rank.0) < self.inboxes.ranks()
+        usize::from(rank.0) < self.waiting.inboxes.ranks()
     }
 }
 
-// What a cluster has beside its tree and what comes empty.
+// What a cluster has beside its tree.
 #[derive(Drop)]
 struct Parts {
-    inboxes: Inboxes,
-    numbers: Vec<Numbers>,
+    waiting: Waiting,
+    given: Given,
 }
 
-// For each of so many ranks an inbox where nothing waits, and all its numbers.
+// Nothing waits and nothing was given: for each of so many ranks an inbox, and all its numbers.
 fn parts_of(alloc: Global, ranks: u8) -> Result<Parts, AllocError>
     requires { ranks ≤ 16 }
-    ensures inboxes { IfOk result (λ parts. parts.inboxes ≡ replicate ranks []) }
-    ensures numbers { IfOk result (λ parts. parts.numbers.items ≡ whole_supplies 0 ranks) }
+    ensures inboxes { IfOk result (λ parts. parts.waiting.inboxes ≡ replicate ranks []) }
+    ensures pins { IfOk result (λ parts. parts.waiting.pins ≡ []) }
+    ensures numbers { IfOk result (λ parts. parts.given.numbers.items ≡ whole_supplies 0 ranks) }
+    ensures sessions { IfOk result (λ parts. table parts.given.sessions ≡ map.empty) }
 {
     Ok(Parts {
-        inboxes: Inboxes::new(alloc, ranks)?,
-        numbers: whole_supplies(alloc, ranks)?,
+        waiting: Waiting::new(alloc, ranks)?,
+        given: Given::of(alloc, whole_supplies(alloc, ranks)?),
     })
 }
 

@@ -13,7 +13,8 @@ ghost use Rattle.ranked_tree.specs.Ranked.{MayRefuse};
 ghost use Rattle.cluster_core.specs.Grants.{AreHeldAmong, FindsNone, GrantsWaiting, HoldsOne, with_grants};
 
 use crate::events::Answer;
-use inboxes::{Inboxes, Pin, Pins};
+use crate::parts::Waiting;
+use inboxes::{Pin, Pins};
 use mds_types::{Frag, Ino, Rank, Refusal};
 use namespace_ops::{changes, locate};
 use objstore::Store;
@@ -22,36 +23,32 @@ use std::alloc::{AllocError, Global};
 
 /// A rank grants the first waiting copy of a request all its own fragments that the request would change now. Takes memory for
 /// the list of these, and for the grants, which are made on a copy: a refusal leaves all.
-pub fn grant_first<S: Store + Drop>(
+pub(crate) fn grant_first<S: Store + Drop>(
     alloc: Global,
     tree: &mut RankedTree<S>,
-    inboxes: &Inboxes,
-    pins: &mut Pins,
+    waiting: &mut Waiting,
     rank: Rank,
     client: u64,
     tid: u64,
 ) -> Result<Answer, Refusal>
-    ensures granted { (numbers : List Supply) (sessions : Table) (past : List Applied) → GrantsWaiting (state_of (tree_state tree.old.tree) tree.old.subtrees.roots numbers inboxes.now pins.old sessions) (state_of (tree_state tree.new.tree) tree.new.subtrees.roots numbers inboxes.now pins.new sessions) past past (MayRefuse tree.old tree.new) rank client tid result }
-    ensures uses { UsesWaiting (tree_state tree.old.tree) tree.old.subtrees.roots tree.old.tree.caches tree.new.tree.caches (first_waiting client tid inboxes.now) }
+    ensures granted { (numbers : List Supply) (sessions : Table) (past : List Applied) → GrantsWaiting (state_of (tree_state tree.old.tree) tree.old.subtrees.roots numbers waiting.old.inboxes waiting.old.pins sessions) (state_of (tree_state tree.new.tree) tree.new.subtrees.roots numbers waiting.new.inboxes waiting.new.pins sessions) past past (MayRefuse tree.old tree.new) rank client tid result }
+    ensures uses { UsesWaiting (tree_state tree.old.tree) tree.old.subtrees.roots tree.old.tree.caches tree.new.tree.caches (first_waiting client tid waiting.old.inboxes) }
     ensures same { tree_state tree.new.tree ≡ tree_state tree.old.tree }
     ensures roots { tree.new.subtrees.roots ≡ tree.old.subtrees.roots }
     ensures count { length tree.new.tree.caches.used ≡ length tree.old.tree.caches.used }
     ensures cap { tree.new.tree.caches.cap ≡ tree.old.tree.caches.cap }
     ensures counted { tree.new.tree.faults ≡ tree.old.tree.faults + faults_told (result_err result) }
 {
-    let Some(request) = inboxes.find(client, tid) else {
+    let Some(request) = waiting.inboxes.find(client, tid) else {
         return Err(Refusal::InboxEmpty)
     };
     let places = locate(tree, rank, &request.op);
-    let changed = match changes(alloc, tree, &request.op, places) {
-        Ok(changed) => changed,
-        Err(refusal) => return Err(refusal),
-    };
+    let changed = changes(alloc, tree, &request.op, places)?;
     let mine = match some_held(alloc, tree, rank, &changed) {
         Ok(mine) => mine,
         Err(refusal) => return Err(refusal),
     };
-    match pin_all(pins, client, tid, &mine) {
+    match pin_all(&mut waiting.pins, client, tid, &mine) {
         Ok(()) => Ok(Answer::Nothing),
         Err(_) => Err(Refusal::NoMemory),
     }

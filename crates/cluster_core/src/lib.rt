@@ -12,6 +12,7 @@ pub mod laws;
 mod masters;
 mod missing_grants;
 mod mounting;
+mod parts;
 mod pinned;
 mod plain_trees;
 mod runs;

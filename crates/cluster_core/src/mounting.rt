@@ -13,13 +13,12 @@ ghost use Rattle.cluster_core.specs.State.{core_of, shown};
 
 use crate::books::Book;
 use crate::clusters::Cluster;
+use crate::parts::{Given, Waiting};
 use crate::plain_trees::PlainTree;
-use inboxes::{Inboxes, Pins};
 use mdcache::Opening;
 use mds_types::Refusal;
 use objstore::Store;
 use ranked_tree::RankedTree;
-use sessions::Sessions;
 use std::alloc::Global;
 
 impl<S: Store + Drop> Cluster<S> {
@@ -45,26 +44,26 @@ impl<S: Store + Drop> Cluster<S> {
         ensures left { IfErr result (λ back. S.objects back.1 ≡ S.objects store) }
         ensures counted { IfErr result (λ back. S.faults back.1 ≡ S.faults store + faults_in back.0) }
     {
-        match Inboxes::new(alloc, ranks) {
+        match Waiting::new(alloc, ranks) {
             Err(_) => Err((Refusal::NoMemory, store)),
-            Ok(inboxes) => match RankedTree::mount(alloc, store, ranks, places) {
-                Ok((tree, opening)) => Ok(Cluster::of_mounted(alloc, tree, opening, inboxes)),
+            Ok(waiting) => match RankedTree::mount(alloc, store, ranks, places) {
+                Ok((tree, opening)) => Ok(Cluster::of_mounted(alloc, tree, opening, waiting)),
                 Err(back) => {
-                    drop(inboxes);
+                    drop(waiting);
                     Err(back)
                 }
             },
         }
     }
 
-    // A cluster over a tree that was mounted, with these inboxes; and the tree that it opens with.
+    // A cluster over a tree that was mounted, with what waits; and the tree that it opens with.
     fn of_mounted(
         alloc: Global,
         tree: RankedTree<S>,
         opening: Opening,
-        inboxes: Inboxes,
+        waiting: Waiting,
     ) -> (Cluster<S>, PlainTree)
-        ensures core { result.0 ≡ core_of tree.tree tree.subtrees.roots opening.numbers.items inboxes [] map.empty }
+        ensures core { result.0 ≡ core_of tree.tree tree.subtrees.roots opening.numbers.items waiting.inboxes waiting.pins map.empty }
         ensures opening { result.1 ≡ contents dentry_cmp opening.entries }
         ensures owned { IsOwned tree.tree tree.subtrees.roots }
         ensures caches { AreCaches tree.tree.caches }
@@ -74,10 +73,8 @@ impl<S: Store + Drop> Cluster<S> {
         let Opening { entries, numbers } = opening;
         let cluster = Cluster {
             tree,
-            inboxes,
-            pins: Pins::new(alloc),
-            numbers,
-            sessions: Sessions::new(alloc),
+            waiting,
+            given: Given::of(alloc, numbers),
         };
         (cluster, PlainTree::of(entries))
     }

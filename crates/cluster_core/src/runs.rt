@@ -36,5 +36,5 @@ fn put(results: &mut Vec<Result<Answer, Refusal>>, newest: Result<Answer, Refusa
     ensures len { vec_len results.new ≡ vec_len results.old + 1 }
     ensures capacity { vec_capacity results.old ≤ vec_capacity results.new }
 {
-    let _ = results.push(newest);
+    results.push_reserved(newest);
 }

@@ -1,8 +1,8 @@
 //! The inboxes of all ranks.
-ghost use Rattle.std.specs.Prelude.{◌≡◌, ◌<◌, [], length, replicate, slice_get, IfOk, OnOk, IfErr};
+ghost use Rattle.std.specs.Prelude.{◌≡◌, ◌<◌, [], length, replicate, slice_get, IfOk, IfSome, OnOk, IfErr};
 ghost use Rattle.std.specs.Option.{option_copied};
 ghost use Rattle.inboxes.specs.Inbox.{rotated};
-ghost use Rattle.inboxes.specs.Inboxes.{Arrives, Forwards, TakesAt, TakesNoMore, first_waiting, waiting_at, with_last, with_waiting};
+ghost use Rattle.inboxes.specs.Inboxes.{Arrives, Forwards, IsOut, TakesAt, TakesNoMore, first_waiting, waiting_at, with_first, with_last, with_waiting};
 
 use crate::inbox::Inbox;
 use mds_types::{Rank, Refusal, Request};
@@ -48,6 +48,7 @@ impl Inboxes {
         ensures { Arrives self.old self.new rank request result }
     {
         if let Err(refusal) = self.check_room(rank) {
+            drop(request);
             return Err(refusal);
         }
         self.put(rank, request);
@@ -61,11 +62,43 @@ impl Inboxes {
         self.inboxes.get(usize::from(rank.0))?.front()
     }
 
-    /// Takes the request at the front of a rank's inbox out.
+    /// Takes the request at the front of a rank's inbox out. It can be put back there.
     pub fn take(&mut self, rank: Rank) -> Option<Request>
-        ensures { TakesAt self.old self.new rank result (waiting_at self.old rank) }
+        ensures taken { TakesAt self.old self.new rank result (waiting_at self.old rank) }
+        ensures out { IfSome result (λ request. IsOut self.old self.new rank request) }
     {
         self.inboxes.get_mut(usize::from(rank.0))?.take()
+    }
+
+    /// Puts a request at the front of a rank's inbox, where there is room, as one that was taken out there.
+    pub fn put_back(&mut self, rank: Rank, request: Request)
+        requires there { rank.0 < length self.old }
+        requires room { length (waiting_at self.old rank) < 1024 }
+        ensures { self.new ≡ with_first self.old rank request }
+    {
+        self.inboxes[usize::from(rank.0)].put_back(request);
+    }
+
+    /// Puts a request at the back of the inbox of a rank that is there, where there is room.
+    pub fn put(&mut self, rank: Rank, request: Request)
+        requires there { rank.0 < length self.old }
+        requires room { length (waiting_at self.old rank) < 1024 }
+        ensures { self.new ≡ with_last self.old rank request }
+    {
+        self.inboxes[usize::from(rank.0)].put(request);
+    }
+
+    /// Refused where a rank's inbox takes no more: `NotAuthority` where there is no such rank, `InboxFull` where as many
+    /// as may are waiting.
+    pub fn check_room(&self, rank: Rank) -> Result<(), Refusal>
+        ensures ok { OnOk result ((rank.0 < length self.now) × (length (waiting_at self.now rank) < 1024)) }
+        ensures err { IfErr result (TakesNoMore self.now rank) }
+    {
+        match self.inboxes.get(usize::from(rank.0)) {
+            None => Err(Refusal::NotAuthority),
+            Some(inbox) if inbox.has_room() => Ok(()),
+            Some(_) => Err(Refusal::InboxFull),
+        }
     }
 
     /// Puts the request at the front of a rank's inbox behind all others there.
@@ -86,9 +119,7 @@ impl Inboxes {
         if self.front(from).is_none() {
             return Err(Refusal::InboxEmpty);
         }
-        if let Err(refusal) = self.check_room(to) {
-            return Err(refusal);
-        }
+        self.check_room(to)?;
         if let Some(request) = self.take(from) {
             self.put(to, request);
         }
@@ -101,27 +132,6 @@ impl Inboxes {
         ensures { option_copied result ≡ first_waiting client tid self.now }
     {
         first_in(&self.inboxes, client, tid)
-    }
-
-    // Refused where a rank's inbox takes no more.
-    fn check_room(&self, rank: Rank) -> Result<(), Refusal>
-        ensures ok { OnOk result ((rank.0 < length self.now) × (length (waiting_at self.now rank) < 1024)) }
-        ensures err { IfErr result (TakesNoMore self.now rank) }
-    {
-        match self.inboxes.get(usize::from(rank.0)) {
-            None => Err(Refusal::NotAuthority),
-            Some(inbox) if inbox.has_room() => Ok(()),
-            Some(_) => Err(Refusal::InboxFull),
-        }
-    }
-
-    // Puts a request at the back of the inbox of a rank that is there, where there is room.
-    fn put(&mut self, rank: Rank, request: Request)
-        requires there { rank.0 < length self.old }
-        requires room { length (waiting_at self.old rank) < 1024 }
-        ensures { self.new ≡ with_last self.old rank request }
-    {
-        self.inboxes[usize::from(rank.0)].put(request);
     }
 }
 

@@ -1,117 +1,168 @@
 -- What the table without its rooms says of the sessions with them.
-use Rattle.std.proofs.Common.{◌≡◌, ℕ, ◌==◌, Bool, true, false, cond, ◌&&◌, T, List, [], ◌∷◌, map as list_map, Some, None, option_map, refl, sym, ap, ap₂, ◌∙◌, subst, eqb-true, eq-eqb}
+use Rattle.std.proofs.Common.{◌≡◌, ◌≢◌, ℕ, ◌<◌, ◌==◌, ◌++◌, Bool, true, false, cond, ◌&&◌, T, List, [], ◌∷◌, length, set, get_or, map as list_map, Option, Some, None, option_map, refl, sym, ap, ap₂, ◌∙◌, subst, eqb-true, eq-eqb, arith}
+use Rattle.std.proofs.lemmas.Bool.{false≢true}
+use Rattle.std.proofs.lemmas.Option.{same_Some, none-some}
+use Rattle.std.proofs.lemmas.List.{length-append, length-set, get_or-set_other, get_or_append_left, get_or_default}
+use Rattle.std.proofs.lemmas.Grind.{get_or-set_at}
+use Rattle.std.proofs.Math.Seq.{get_or-append_seam}
 use Rattle.std.specs.Ordering.{nat_cmp, is_lt, eq_by_cmp}
 use Rattle.std.specs.Cmp.{nat_cmp_total, unsigned_tied}
 use Rattle.std.specs.FinMap as map
 use Rattle.std.specs.FinMap.{find, is_sorted, nat_cmp-IsAntisymmetric, entries_sorted, get-entries, get-from_sorted, get-empty, get-insert, same_map}
 use Rattle.std.specs.FinMap.Entries.{below_all}
-use Rattle.sorted_map.proofs.MapLaws.{contents-entries}
 use Rattle.mds_types.specs.declared.replies.Reply.{Reply}
 use Rattle.sessions.specs.Table.{Row, no_row, row_or_none, row_in, noted_row, trimmed_row, noted, trimmed, trimmed_found}
-use Rattle.sessions.specs.Rooms.{Session, rows}
+use Rattle.sessions.specs.Rooms.{AreIndexed, Session, no_session, row_at, rows}
 
--- the pairs without their rooms
-abbrev bare : List (ℕ × Session) → List (ℕ × Row)
-bare es = list_map (λ e. (e.0, e.1.row)) es
+-- the rows by client
+abbrev bare : List Session → List (ℕ × ℕ) → List (ℕ × Row)
+bare ss es = list_map (λ e. (e.0, row_at ss e.1)) es
 
-below_bare : (x : ℕ) (es : List (ℕ × Session)) → below_all nat_cmp x (bare es) ≡ below_all nat_cmp x es
-below_bare x [] = refl
-below_bare x (e ∷ es) = ap (λ b. is_lt (nat_cmp x e.0) && b) (below_bare x es)
+below_bare : (ss : List Session) (x : ℕ) (es : List (ℕ × ℕ)) → below_all nat_cmp x (bare ss es) ≡ below_all nat_cmp x es
+below_bare ss x [] = refl
+below_bare ss x (e ∷ es) = ap (λ b. is_lt (nat_cmp x e.0) && b) (below_bare ss x es)
 
-sorted_bare : (es : List (ℕ × Session)) → is_sorted nat_cmp (bare es) ≡ is_sorted nat_cmp es
-sorted_bare [] = refl
-sorted_bare (e ∷ es) = ap₂ (λ a b. a && b) (below_bare e.0 es) (sorted_bare es)
+sorted_bare : (ss : List Session) (es : List (ℕ × ℕ)) → is_sorted nat_cmp (bare ss es) ≡ is_sorted nat_cmp es
+sorted_bare ss [] = refl
+sorted_bare ss (e ∷ es) = ap₂ (λ a b. a && b) (below_bare ss e.0 es) (sorted_bare ss es)
 
-find_bare : (q : ℕ) (es : List (ℕ × Session)) → find nat_cmp q (bare es) ≡ option_map (λ (s : Session). s.row) (find nat_cmp q es)
-find_bare q [] = refl
-find_bare q (e ∷ es) = go (eq_by_cmp nat_cmp q e.0) (find_bare q es)
+find_bare : (ss : List Session) (q : ℕ) (es : List (ℕ × ℕ)) → find nat_cmp q (bare ss es) ≡ option_map (row_at ss) (find nat_cmp q es)
+find_bare ss q [] = refl
+find_bare ss q (e ∷ es) = go (eq_by_cmp nat_cmp q e.0) (find_bare ss q es)
   where
-    go : (b : Bool) → find nat_cmp q (bare es) ≡ option_map (λ (s : Session). s.row) (find nat_cmp q es) → cond b (Some e.1.row) (find nat_cmp q (bare es)) ≡ option_map (λ (s : Session). s.row) (cond b (Some e.1) (find nat_cmp q es))
+    go : (b : Bool) → find nat_cmp q (bare ss es) ≡ option_map (row_at ss) (find nat_cmp q es) → cond b (Some (row_at ss e.1)) (find nat_cmp q (bare ss es)) ≡ option_map (row_at ss) (cond b (Some e.1) (find nat_cmp q es))
     go true more = refl
     go false more = more
 
 -- a client's row is that of its session
-pub get-rows : (m : map.FinMap nat_cmp Session) (client : ℕ) → map.get (rows m) client ≡ option_map (λ (s : Session). s.row) (map.get m client)
+pub get-rows : (m : map.FinMap nat_cmp ℕ) (ss : List Session) (client : ℕ) → map.get (rows m ss) client ≡ option_map (row_at ss) (map.get m client)
 unfolding rows
-get-rows m client =
-    get-from_sorted nat_cmp _ client (subst T (sym (sorted_bare (map.entries m))) (entries_sorted m))
-    ∙ find_bare client (map.entries m)
-    ∙ ap (option_map (λ (s : Session). s.row)) (sym (get-entries m client))
+get-rows m ss client =
+    get-from_sorted nat_cmp _ client (subst T (sym (sorted_bare ss (map.entries m))) (entries_sorted m))
+    ∙ find_bare ss client (map.entries m)
+    ∙ ap (option_map (row_at ss)) (sym (get-entries m client))
 
--- no sessions have no rows
-pub rows-empty : rows map.empty ≡ map.empty
+-- no sessions have no rows, and each a place of its own
+pub rows-empty : rows map.empty [] ≡ map.empty
 rows-empty = same_map nat_cmp_total nat_cmp-IsAntisymmetric _ _ (λ q.
-    get-rows map.empty q ∙ ap (option_map (λ (s : Session). s.row)) (get-empty nat_cmp q) ∙ sym (get-empty nat_cmp q))
+    get-rows map.empty [] q ∙ ap (option_map (row_at [])) (get-empty nat_cmp q) ∙ sym (get-empty nat_cmp q))
 
--- with a session its row comes in
-pub rows-insert : (m : map.FinMap nat_cmp Session) (client : ℕ) (s : Session) → rows (map.insert m client s) ≡ map.insert (rows m) client s.row
-rows-insert m client s = same_map nat_cmp_total nat_cmp-IsAntisymmetric _ _ (λ q.
-    get-rows _ q
-    ∙ ap (option_map (λ (s : Session). s.row)) (get-insert nat_cmp_total m client s q)
-    ∙ go (eq_by_cmp nat_cmp q client) q
-    ∙ sym (get-insert nat_cmp_total (rows m) client s.row q))
-  where
-    go : (b : Bool) (q : ℕ) → option_map (λ (s : Session). s.row) (cond b (Some s) (map.get m q)) ≡ cond b (Some s.row) (map.get (rows m) q)
-    go true q = refl
-    go false q = sym (get-rows m q)
+pub indexed_none : AreIndexed map.empty []
+indexed_none = record {
+  in_range = λ client i is. absurd (none-some i (sym (get-empty nat_cmp client) ∙ is));
+  apart = λ one other i is _. absurd (none-some i (sym (get-empty nat_cmp one) ∙ is));
+}
 
-module _ (m : map.FinMap nat_cmp Session) (client : ℕ) where
+-- with a client more
+pub get_with : (m : map.FinMap nat_cmp ℕ) (client n q : ℕ) → map.get (map.insert m client n) q ≡ cond (q == client) (Some n) (map.get m q)
+get_with m client n q = get-insert nat_cmp_total m client n q ∙ ap (λ b. cond b (Some n) (map.get m q)) (unsigned_tied q client)
+
+module _ (m : map.FinMap nat_cmp ℕ) (ss : List Session) (client : ℕ) where
   -- a client that has a session, and one that has none
-  pub row_known : (s : Session) → Some s ≡ map.get m client → row_in (rows m) client ≡ s.row
-  row_known s is = ap row_or_none (get-rows m client ∙ ap (option_map (λ (t : Session). t.row)) (sym is))
+  pub row_known : (i : ℕ) → map.get m client ≡ Some i → row_in (rows m ss) client ≡ row_at ss i
+  row_known i is = ap row_or_none (get-rows m ss client ∙ ap (option_map (row_at ss)) is)
 
-  pub row_unknown : None ≡ map.get m client → row_in (rows m) client ≡ no_row
-  row_unknown is = ap row_or_none (get-rows m client ∙ ap (option_map (λ (t : Session). t.row)) (sym is))
+  pub row_unknown : map.get m client ≡ None → row_in (rows m ss) client ≡ no_row
+  row_unknown is = ap row_or_none (get-rows m ss client ∙ ap (option_map (row_at ss)) is)
 
-  -- the session of a client once it was written to
-  written : (w : Session) → rows (map.from_sorted (map.entries (map.insert m client w))) ≡ map.insert (rows m) client w.row
-  written w = ap rows (contents-entries (map.insert m client w)) ∙ rows-insert m client w
+  -- a session of a client was written to
+  pub still_indexed : AreIndexed m ss → (i : ℕ) (w : Session) → AreIndexed m (set ss i w)
+  still_indexed h i w = record {
+    in_range = λ c j is. subst (λ n. j < n) (sym (length-set ss i w)) (h.in_range c j is);
+    apart = h.apart;
+  }
 
-  -- a session with another room
-  pub same_rows : (s w : Session) → Some s ≡ map.get m client → w.row ≡ s.row → rows (map.from_sorted (map.entries (map.insert m client w))) ≡ rows m
-  same_rows s w is same = written w ∙ same_map nat_cmp_total nat_cmp-IsAntisymmetric _ _ (λ q.
-      get-insert nat_cmp_total (rows m) client w.row q
-      ∙ ap (λ b. cond b (Some w.row) (map.get (rows m) q)) (unsigned_tied q client)
-      ∙ go q (q == client) refl)
-    where
-      go : (q : ℕ) (b : Bool) → (q == client) ≡ b → cond b (Some w.row) (map.get (rows m) q) ≡ map.get (rows m) q
-      go q true one = ap Some same ∙ ap (option_map (λ (t : Session). t.row)) is ∙ sym (get-rows m client) ∙ ap (map.get (rows m)) (sym (eqb-true q client one))
-      go q false apart = refl
+  module _ (h : AreIndexed m ss) (i : ℕ) (its : map.get m client ≡ Some i) (w : Session) where
+    here : (j : ℕ) → j ≡ i → row_at (set ss i w) j ≡ w.row
+    here j e = ap (λ (s : Session). s.row) (get_or-set_at ss i j w no_session e (h.in_range client i its))
 
-  -- a session that was written as it was
-  pub same_sessions : (s w : Session) → Some s ≡ map.get m client → w ≡ s → map.from_sorted (map.entries (map.insert m client w)) ≡ m
-  same_sessions s w is same = contents-entries (map.insert m client w) ∙ same_map nat_cmp_total nat_cmp-IsAntisymmetric _ _ (λ q.
-      get-insert nat_cmp_total m client w q
-      ∙ ap (λ b. cond b (Some w) (map.get m q)) (unsigned_tied q client)
-      ∙ go q (q == client) refl)
-    where
-      go : (q : ℕ) (b : Bool) → (q == client) ≡ b → cond b (Some w) (map.get m q) ≡ map.get m q
-      go q true one = ap Some same ∙ is ∙ ap (map.get m) (sym (eqb-true q client one))
-      go q false apart = refl
+    elsewhere : (j : ℕ) → j ≢ i → row_at (set ss i w) j ≡ row_at ss j
+    elsewhere j other = ap (λ (s : Session). s.row) (get_or-set_other ss i j w no_session other)
 
-  -- a session is found as it was written
-  pub found_written : (w : Session) → map.get {R = nat_cmp} (map.from_sorted (map.entries (map.insert m client w))) client ≡ Some w
-  found_written w =
-      ap (λ (n : map.FinMap nat_cmp Session). map.get {R = nat_cmp} n client) (contents-entries (map.insert m client w))
-      ∙ get-insert nat_cmp_total m client w client
-      ∙ ap (λ b. cond b (Some w) (map.get m client)) (unsigned_tied client client ∙ eq-eqb client client refl)
+    pub written : rows m (set ss i w) ≡ map.insert (rows m ss) client w.row
+    written = same_map nat_cmp_total nat_cmp-IsAntisymmetric _ _ (λ q.
+        get-rows m (set ss i w) q
+        ∙ go q (q == client) refl (map.get m q) refl
+        ∙ sym (get-insert nat_cmp_total (rows m ss) client w.row q
+        ∙ ap (λ b. cond b (Some w.row) (map.get (rows m ss) q)) (unsigned_tied q client)
+        ∙ ap (cond (q == client) (Some w.row)) (get-rows m ss q)))
+      where
+        go : (q : ℕ) (b : Bool) → (q == client) ≡ b → (o : Option ℕ) → map.get m q ≡ o → option_map (row_at (set ss i w)) o ≡ cond b (Some w.row) (option_map (row_at ss) o)
+        go q true one None is = absurd (none-some i (sym is ∙ ap (map.get m) (eqb-true q client one) ∙ its))
+        go q true one (Some j) is = ap Some (here j (same_Some j i (sym is ∙ ap (map.get m) (eqb-true q client one) ∙ its)))
+        go q false apart None is = refl
+        go q false apart (Some j) is =
+            ap Some (elsewhere j (λ same. false≢true (sym apart ∙ eq-eqb q client (h.apart q client i (is ∙ ap Some same) its))))
 
-  -- one more reply in a session, and in the first one of a client
-  pub noted_known : (s w : Session) (tid oldest place : ℕ) (reply : Reply) → Some s ≡ map.get m client → w.row ≡ noted_row s.row tid oldest place reply
-      → rows (map.from_sorted (map.entries (map.insert m client w))) ≡ noted (rows m) client tid oldest place reply
-  noted_known s w tid oldest place reply is noted =
-      written w ∙ ap (map.insert (rows m) client) (noted ∙ ap (λ row. noted_row row tid oldest place reply) (sym (row_known s is)))
+    -- the session that was read there
+    pub read : (s : Session) → s ≡ get_or ss i s → s.row ≡ row_at ss i
+    read s is = ap (λ (t : Session). t.row) (is ∙ get_or_default ss i s no_session (h.in_range client i its))
 
-  pub noted_first : (fresh : Row) (w : Session) (tid oldest place : ℕ) (reply : Reply) → None ≡ map.get m client → fresh ≡ no_row → w.row ≡ noted_row fresh tid oldest place reply
-      → rows (map.insert m client w) ≡ noted (rows m) client tid oldest place reply
-  noted_first fresh w tid oldest place reply is none noted =
-      rows-insert m client w ∙ ap (map.insert (rows m) client) (noted ∙ ap (λ row. noted_row row tid oldest place reply) (none ∙ sym (row_unknown is)))
+    -- with another room
+    pub same_rows : (s : Session) → s ≡ get_or ss i s → w.row ≡ s.row → rows m (set ss i w) ≡ rows m ss
+    same_rows s found equal = same_map nat_cmp_total nat_cmp-IsAntisymmetric _ _ (λ q.
+        get-rows m (set ss i w) q ∙ go (map.get m q) ∙ sym (get-rows m ss q))
+      where
+        same : w.row ≡ row_at ss i
+        same = equal ∙ read s found
 
-  -- a session without the replies below its mark, and no session
-  pub trimmed_known : (s w : Session) → Some s ≡ map.get m client → w.row ≡ trimmed_row s.row → rows (map.from_sorted (map.entries (map.insert m client w))) ≡ trimmed (rows m) client
-  trimmed_known s w is less =
-      written w ∙ ap (map.insert (rows m) client) less
-      ∙ ap (trimmed_found (rows m) client) (sym (get-rows m client ∙ ap (option_map (λ (t : Session). t.row)) (sym is)))
+        at : (j : ℕ) (b : Bool) → (j == i) ≡ b → row_at (set ss i w) j ≡ row_at ss j
+        at j true one = let e = eqb-true j i one in here j e ∙ same ∙ ap (row_at ss) (sym e)
+        at j false apart = elsewhere j (λ e. false≢true (sym apart ∙ eq-eqb j i e))
 
-  pub trimmed_unknown : None ≡ map.get m client → rows m ≡ trimmed (rows m) client
-  trimmed_unknown is = ap (trimmed_found (rows m) client) (sym (get-rows m client ∙ ap (option_map (λ (t : Session). t.row)) (sym is)))
+        go : (o : Option ℕ) → option_map (row_at (set ss i w)) o ≡ option_map (row_at ss) o
+        go None = refl
+        go (Some j) = ap Some (at j (j == i) refl)
+
+    -- with one more reply, and without the replies below its mark
+    pub noted_known : (s : Session) → s ≡ get_or ss i s → (tid oldest place : ℕ) (reply : Reply) → w.row ≡ noted_row s.row tid oldest place reply
+        → rows m (set ss i w) ≡ noted (rows m ss) client tid oldest place reply
+    noted_known s found tid oldest place reply is =
+        written ∙ ap (map.insert (rows m ss) client) (is ∙ ap (λ row. noted_row row tid oldest place reply) (read s found ∙ sym (row_known i its)))
+
+    pub trimmed_known : (s : Session) → s ≡ get_or ss i s → w.row ≡ trimmed_row s.row → rows m (set ss i w) ≡ trimmed (rows m ss) client
+    trimmed_known s found less =
+        written ∙ ap (map.insert (rows m ss) client) (less ∙ ap trimmed_row (read s found))
+        ∙ ap (trimmed_found (rows m ss) client) (sym (get-rows m ss client ∙ ap (option_map (row_at ss)) its))
+
+  -- no session
+  pub trimmed_unknown : map.get m client ≡ None → rows m ss ≡ trimmed (rows m ss) client
+  trimmed_unknown is = ap (trimmed_found (rows m ss) client) (sym (get-rows m ss client ∙ ap (option_map (row_at ss)) is))
+
+  -- the first session of a client comes
+  module _ (h : AreIndexed m ss) (w : Session) where
+    pub indexed_more : map.get m client ≡ None → AreIndexed (map.insert m client (length ss)) (ss ++ w ∷ [])
+    indexed_more none = record {
+      in_range = λ c i is. range c i (c == client) (sym (get_with m client (length ss) c) ∙ is);
+      apart = λ one other i a b. only one other i (one == client) refl (other == client) refl (sym (get_with m client (length ss) one) ∙ a) (sym (get_with m client (length ss) other) ∙ b);
+    }
+      where
+        range : (c i : ℕ) (b : Bool) → cond b (Some (length ss)) (map.get m c) ≡ Some i → i < length (ss ++ w ∷ [])
+        range c i true is = omega (arith, length-append ss (w ∷ []), same_Some (length ss) i is)
+        range c i false is = omega (arith, length-append ss (w ∷ []), h.in_range c i is)
+
+        only : (one other i : ℕ) (b : Bool) → (one == client) ≡ b → (d : Bool) → (other == client) ≡ d
+            → cond b (Some (length ss)) (map.get m one) ≡ Some i → cond d (Some (length ss)) (map.get m other) ≡ Some i → one ≡ other
+        only one other i true e true f a b = eqb-true one client e ∙ sym (eqb-true other client f)
+        only one other i true e false f a b = let low = h.in_range other i b in absurd (omega (arith, low, same_Some (length ss) i a))
+        only one other i false e true f a b = let low = h.in_range one i a in absurd (omega (arith, low, same_Some (length ss) i b))
+        only one other i false e false f a b = h.apart one other i a b
+
+    rows_more : rows (map.insert m client (length ss)) (ss ++ w ∷ []) ≡ map.insert (rows m ss) client w.row
+    rows_more = same_map nat_cmp_total nat_cmp-IsAntisymmetric _ _ (λ q.
+        get-rows (map.insert m client (length ss)) (ss ++ w ∷ []) q
+        ∙ ap (option_map (row_at (ss ++ w ∷ []))) (get_with m client (length ss) q)
+        ∙ go q (q == client) (map.get m q) refl
+        ∙ sym (get-insert nat_cmp_total (rows m ss) client w.row q
+        ∙ ap (λ b. cond b (Some w.row) (map.get (rows m ss) q)) (unsigned_tied q client)
+        ∙ ap (cond (q == client) (Some w.row)) (get-rows m ss q)))
+      where
+        go : (q : ℕ) (b : Bool) (o : Option ℕ) → map.get m q ≡ o → option_map (row_at (ss ++ w ∷ [])) (cond b (Some (length ss)) o) ≡ cond b (Some w.row) (option_map (row_at ss) o)
+        go q true o is = ap (λ (s : Session). Some s.row) (get_or-append_seam ss w [] no_session)
+        go q false None is = refl
+        go q false (Some j) is = ap (λ (s : Session). Some s.row) (get_or_append_left ss (w ∷ []) no_session j (h.in_range q j is))
+
+    pub noted_first : (fresh : Row) (tid oldest place : ℕ) (reply : Reply) → map.get m client ≡ None → fresh ≡ no_row → w.row ≡ noted_row fresh tid oldest place reply
+        → rows (map.insert m client (length ss)) (ss ++ w ∷ []) ≡ noted (rows m ss) client tid oldest place reply
+    noted_first fresh tid oldest place reply is none more =
+        rows_more ∙ ap (map.insert (rows m ss) client) (more ∙ ap (λ row. noted_row row tid oldest place reply) (none ∙ sym (row_unknown is)))

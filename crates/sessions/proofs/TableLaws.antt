@@ -60,7 +60,7 @@ sees history table client tid oldest Trimmed h s = ⊎_elim (λ below. inl (subs
 sees history table client tid oldest (Kept place reply) h (marked, own, is) =
     let kept = subst (IsKeptFor history client tid) is (h.replies client tid) in
     (record { marked = kept.0; own = own; at = kept.1.at }, kept.1.same)
-sees history table client tid oldest New h (marked, own, is) =
+sees history table client tid oldest (New at) h (marked, own, is) =
     let above = subst (λ m. m ≤ tid) (h.marks client) marked in
     record { marked = above; own = own; absent = subst (IsKeptFor history client tid) is (h.replies client tid) above }
 

@@ -1,33 +1,63 @@
--- The session table with the room that was reserved in it.
-use Rattle.std.specs.Prelude.{ℕ, ◌<◌, Option, Some, None, IsSome, map}
+-- The session table as it is kept, with the room that was reserved in it.
+use Rattle.std.specs.Prelude.{◌≡◌, ℕ, ◌<◌, List, length, get_or, Option, Some, None, IsSome, map}
 use Rattle.std.specs.Ordering.{nat_cmp}
 use Rattle.std.specs.FinMap as map
-use Rattle.sessions.specs.Table.{Row, Table}
+use Rattle.sessions.specs.declared.found.SessionAt.{SessionAt}
+use Rattle.sessions.specs.declared.clients.Seen.{Seen}
+use Rattle.sessions.specs.declared.clients.Seen.TheVariants.{New, Kept, Trimmed}
+use Rattle.sessions.specs.Table.{Row, Table, no_row}
 
 -- a client's row, and how many more replies fit with no growth
 pub record Session : Type 0 where
   pub row : Row
   pub room : ℕ
 
--- the sessions by client, how many more clients fit, and the session that was set aside for the next
+-- the index of each client's session, the sessions, how many more clients fit, and the session that was set aside for the next
 pub record Held : Type 0 where
-  pub clients : map.FinMap nat_cmp Session
+  pub indices : map.FinMap nat_cmp ℕ
+  pub sessions : List Session
   pub room : ℕ
   pub spare : Option Session
 
--- the sessions without their rooms
-unfoldable pub rows : map.FinMap nat_cmp Session → Table
-rows clients = map.from_sorted (map (λ e. (e.0, e.1.row)) (map.entries clients))
+-- the session of a client of which nothing is known
+abbrev pub no_session : Session
+no_session = record { row = no_row; room = 0 }
+
+-- the session at an index, and its row
+abbrev pub session_at : List Session → ℕ → Session
+session_at sessions i = get_or sessions i no_session
+
+abbrev pub row_at : List Session → ℕ → Row
+row_at sessions i = (session_at sessions i).row
+
+-- the sessions without their rooms, by client
+unfoldable pub rows : map.FinMap nat_cmp ℕ → List Session → Table
+rows indices sessions = map.from_sorted (map (λ e. (e.0, row_at sessions e.1)) (map.entries indices))
 
 -- the table alone
 abbrev pub table : Held → Table
-table held = rows held.clients
+table held = rows held.indices held.sessions
+
+-- each client has a session of its own
+pub record AreIndexed (indices : map.FinMap nat_cmp ℕ) (sessions : List Session) : Type 0 where
+  pub in_range : (client i : ℕ) → map.get indices client ≡ Some i → i < length sessions
+  pub apart : (one other i : ℕ) → map.get indices one ≡ Some i → map.get indices other ≡ Some i → one ≡ other
 
 -- room for one more reply: in the session that was found, or for a client more and its session, set aside
-abbrev pub HasRoom : Held → Option Session → Type 0
-HasRoom held (Some session) = 0 < session.room
+abbrev pub HasRoom : Held → Option ℕ → Type 0
+HasRoom held (Some i) = 0 < (session_at held.sessions i).room
 HasRoom held None = (0 < held.room) × IsSome held.spare
 
 -- one more reply to the client can be kept with no growth
 abbrev pub IsReady : Held → ℕ → Type 0
-IsReady held client = HasRoom held (map.get held.clients client)
+IsReady held client = HasRoom held (map.get held.indices client)
+
+-- a client's session is there, or nowhere, since nothing is known of the client
+abbrev pub IsSessionAt : Held → SessionAt → Type 0
+IsSessionAt held at = map.get held.indices at.client ≡ at.session
+
+-- with a request that is new comes where its client's session is
+abbrev pub TellsSession : Held → ℕ → Seen → Type 0
+TellsSession held client Trimmed = Unit {0}
+TellsSession held client (Kept place reply) = Unit {0}
+TellsSession held client (New at) = (at.client ≡ client) × IsSessionAt held at

@@ -12,7 +12,7 @@ use Rattle.sessions.specs.Table.{Row, Table, row_in}
 abbrev pub SeesInRow : Row → ℕ → ℕ → Seen → Type 0
 SeesInRow row tid oldest Trimmed = (tid < row.mark) ⊎ (tid < oldest)
 SeesInRow row tid oldest (Kept place reply) = (row.mark ≤ tid) × (oldest ≤ tid) × (map.get row.kept tid ≡ Some (record { place = place; reply = reply.now }))
-SeesInRow row tid oldest New = (row.mark ≤ tid) × (oldest ≤ tid) × (map.get row.kept tid ≡ None)
+SeesInRow row tid oldest (New at) = (row.mark ≤ tid) × (oldest ≤ tid) × (map.get row.kept tid ≡ None)
 
 -- the same of a client in a table
 abbrev pub SeesInTable : Table → ℕ → ℕ → ℕ → Seen → Type 0
@@ -22,4 +22,4 @@ SeesInTable table client tid oldest seen = SeesInRow (row_in table client) tid o
 abbrev pub IsSeen : List Entry → ℕ → ℕ → ℕ → Seen → Type 0
 IsSeen history client tid oldest Trimmed = IsTrimmed history client tid oldest
 IsSeen history client tid oldest (Kept place reply) = IsKeptAt history client tid oldest place × ((e : Entry) → reply.now ≡ (slice_index_or history place e).reply)
-IsSeen history client tid oldest New = IsNew history client tid oldest
+IsSeen history client tid oldest (New at) = IsNew history client tid oldest

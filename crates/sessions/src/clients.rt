@@ -2,7 +2,9 @@
 ghost use Rattle.std.specs.Prelude.{◌≡◌, ◌<◌, IsOk, OnOk};
 ghost use Rattle.sessions.specs.Table.{no_row, noted_row, trimmed_row};
 ghost use Rattle.sessions.specs.Seen.{SeesInRow};
+ghost use Rattle.sessions.specs.Rooms.{Held as Table, IsSessionAt, TellsSession};
 
+use crate::found::SessionAt;
 use mds_types::Reply;
 use sorted_map::SortedMap;
 use std::alloc::{AllocError, Global};
@@ -11,8 +13,8 @@ use std::marker::Model;
 /// What a request is to the history of applied requests.
 #[derive(Clone, Copy, Debug, PartialEq, Eq)]
 pub enum Seen<'a> {
-    /// It has not been applied.
-    New,
+    /// It has not been applied. Its client's session is there.
+    New(SessionAt),
     /// It was applied at this place of the history, and answered so.
     Kept(usize, &'a Reply),
     /// Its transaction number is below its client's mark or below its own oldest.
@@ -83,16 +85,17 @@ impl Client {
         self.kept.remove_below(&self.mark);
     }
 
-    /// What a request of the client is to the applied ones.
-    pub(crate) fn seen(&self, tid: u64, oldest: u64) -> Seen<'_>
-        ensures { SeesInRow self.now.row tid oldest result }
+    /// What a request of the client, whose session is there, is to the applied ones.
+    pub(crate) fn seen(&self, at: SessionAt, tid: u64, oldest: u64) -> Seen<'_>
+        ensures standing { SeesInRow self.now.row tid oldest result }
+        ensures session { (held : Table) → IsSessionAt held at → TellsSession held at.client result }
     {
         if tid < self.mark || tid < oldest {
             return Seen::Trimmed;
         }
         match self.kept.get(&tid) {
             Some(kept) => Seen::Kept(kept.place, &kept.reply),
-            None => Seen::New,
+            None => Seen::New(at),
         }
     }
 }

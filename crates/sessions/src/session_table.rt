@@ -1,44 +1,47 @@
 //! The session table and its calls.
-ghost use Rattle.std.specs.Prelude.{◌≡◌, ◌<◌, List, IsOk, OnOk, IfErr};
+ghost use Rattle.std.specs.Prelude.{◌≡◌, ◌<◌, ◌++◌, ◌∷◌, [], List, length, vec_len, vec_capacity, IsOk, IfOk, OnOk, IfErr};
 ghost use Rattle.std.specs.Ordering.{nat_cmp};
 ghost use Rattle.std.specs.FinMap as map;
 ghost use Rattle.sorted_map.specs.SortedMap.{contents};
 ghost use Rattle.mds_types.specs.declared.entries.Entry.{Entry};
-ghost use Rattle.sessions.specs.Table.{noted, trimmed, IsTableOf};
-ghost use Rattle.sessions.specs.Rooms.{Held, IsReady, table};
+ghost use Rattle.sessions.specs.Table.{no_row, noted, trimmed, IsTableOf};
+ghost use Rattle.sessions.specs.Rooms.{Held, IsReady, IsSessionAt, TellsSession, table};
 ghost use Rattle.sessions.specs.Seen.{SeesInTable, IsSeen};
 
 use crate::clients::{Client, Seen};
+use crate::found::SessionAt;
 use mds_types::{Refusal, Reply};
 use sorted_map::SortedMap;
-use std::alloc::Global;
+use std::alloc::{AllocError, Global};
 use std::fmt;
 use std::marker::Model;
 
 /// What is known of every client: its mark, and its kept replies at or above it.
 #[derive(Drop)]
 pub struct Sessions {
-    clients: SortedMap<u64, Client>,
-    /// A client of which nothing is known, set aside with room for one reply.
+    /// Where each client's session is, which it keeps for ever.
+    indices: SortedMap<u64, usize>,
+    sessions: Vec<Client>,
+    /// A client of which nothing is known, set aside with room for one reply; `sessions` has room for it.
     spare: Option<Client>,
 }
 
 impl Model for Sessions {
-    ghost use Rattle.std.specs.Prelude.{◌≡◌, ◌<◌, IfSome};
+    ghost use Rattle.std.specs.Prelude.{◌≡◌, ◌<◌, IfSome, vec_len, vec_capacity};
     ghost use Rattle.std.specs.Ordering.{nat_cmp};
     ghost use Rattle.std.specs.Coded.{codes};
     ghost use Rattle.std.specs.FinMap as map;
     ghost use Rattle.sorted_map.specs.SortedMap.{contents};
     ghost use Rattle.sessions.specs.Table.{no_row};
-    ghost use Rattle.sessions.specs.Rooms.{Held};
+    ghost use Rattle.sessions.specs.Rooms.{AreIndexed, Held};
 
     ghost Value = { Held };
 
     ghost coded = { Prim.hlevel (codes, map.code) };
 
-    ghost view = { λ s. record { clients = contents nat_cmp s.clients; room = s.clients.room; spare = s.spare } };
+    ghost view = { λ s. record { indices = contents nat_cmp s.indices; sessions = s.sessions.items; room = s.indices.room; spare = s.spare } };
 
-    ghost invariant = { λ s. IfSome s.spare (λ spare. (spare.row ≡ no_row) × (0 < spare.room)) };
+    ghost invariant = { λ s. AreIndexed (contents nat_cmp s.indices) s.sessions.items × IfSome s.spare (λ spare. (spare.row ≡ no_row) × (0 < spare.room) × (vec_len s.sessions < vec_capacity s.sessions)) };
 }
 
 impl Sessions {
@@ -47,85 +50,134 @@ impl Sessions {
         ensures { table result ≡ map.empty }
     {
         Sessions {
-            clients: SortedMap::new(alloc),
+            indices: SortedMap::new(alloc),
+            sessions: Vec::new(alloc),
             spare: None,
         }
     }
 
-    /// What a request of the client is to the applied ones. Takes no memory, and two look-ups by binary search.
+    /// What a request of the client is to the applied ones, and of a new one where the client's session is. Takes no
+    /// memory, and two look-ups by binary search.
     pub fn seen(&self, client: u64, tid: u64, oldest: u64) -> Seen<'_>
         ensures standing { SeesInTable (table self.now) client tid oldest result }
         ensures history { (history : List Entry) → IsTableOf history (table self.now) → IsSeen history client tid oldest result }
+        ensures session { TellsSession self.now client result }
     {
-        match self.clients.get(&client) {
-            Some(known) => known.seen(tid, oldest),
+        let at = self.find(client);
+        match at.session {
+            Some(i) => self.sessions[i].seen(at, tid, oldest),
             None if tid < oldest => Seen::Trimmed,
-            None => Seen::New,
+            None => Seen::New(at),
         }
     }
 
-    /// Makes room for one more reply to the client, so that keeping it can't fail. Where the room is there already
-    /// nothing is done. May be refused for want of memory alone; the table stays as it was in either case.
-    pub fn reserve(&mut self, alloc: Global, client: u64) -> Result<(), Refusal>
-        ensures ready { OnOk result (IsReady self.new client) }
+    // Where the session of a client is.
+    fn find(&self, client: u64) -> SessionAt
+        ensures named { result.client ≡ client }
+        ensures found { IsSessionAt self.now result }
+    {
+        SessionAt {
+            client,
+            session: self.indices.get(&client).copied(),
+        }
+    }
+
+    /// Makes room for one more reply to the client whose session is there, so that keeping it can't fail. Where the
+    /// room is there already nothing is done. May be refused for want of memory alone; the table stays as it was in
+    /// either case, and the session where it is.
+    pub fn reserve(&mut self, alloc: Global, at: &SessionAt) -> Result<(), Refusal>
+        requires { IsSessionAt self.old at.now }
+        ensures ready { OnOk result (IsReady self.new at.now.client) }
+        ensures session { IsSessionAt self.new at.now }
         ensures same { table self.new ≡ table self.old }
-        ensures there { IsReady self.old client → IsOk result × (self.new ≡ self.old) }
+        ensures there { IsReady self.old at.now.client → IsOk result × (self.new ≡ self.old) }
         ensures err { IfErr result (λ e. e ≡ Refusal.NoMemory) }
     {
-        if let Some(known) = self.clients.get_mut(&client) {
-            known.reserve()?;
+        if let Some(i) = at.session {
+            self.sessions[i].reserve()?;
             return Ok(());
         }
-        self.clients.reserve(1)?;
+        self.indices.reserve(1)?;
         if self.spare.is_none() {
-            let mut fresh = Client::new(alloc);
-            fresh.reserve()?;
-            self.spare = Some(fresh);
+            self.sessions.reserve(1)?;
+            self.spare = Some(roomy(alloc)?);
         }
         Ok(())
     }
 
-    /// Keeps the reply to a request that was applied at this place of the history, for which room was made. It can't
-    /// fail. The client's mark rises to the request's `oldest`.
-    pub fn keep(&mut self, client: u64, tid: u64, oldest: u64, place: usize, reply: Reply)
-        requires { IsReady self.old client }
-        ensures { table self.new ≡ noted (table self.old) client tid oldest place reply }
+    /// Keeps the reply to a request that was applied at this place of the history, for which room was made, and tells
+    /// where the client's session is then. It can't fail. The client's mark rises to the request's `oldest`.
+    pub fn keep(
+        &mut self,
+        at: SessionAt,
+        tid: u64,
+        oldest: u64,
+        place: usize,
+        reply: Reply,
+    ) -> SessionAt
+        requires there { IsSessionAt self.old at }
+        requires ready { IsReady self.old at.client }
+        ensures kept { table self.new ≡ noted (table self.old) at.client tid oldest place reply }
+        ensures named { result.client ≡ at.client }
+        ensures session { IsSessionAt self.new result }
     {
-        match self.clients.get_mut(&client) {
-            Some(known) => known.keep(tid, oldest, place, reply),
+        match at.session {
+            Some(i) => {
+                self.sessions[i].keep(tid, oldest, place, reply);
+                at
+            }
             None => {
                 let Some(mut fresh) = self.spare.take() else {
                     unreachable!()
                 };
                 fresh.keep(tid, oldest, place, reply);
-                add(&mut self.clients, client, fresh);
+                let i = self.sessions.len();
+                self.sessions.push_reserved(fresh);
+                add(&mut self.indices, at.client, i);
+                SessionAt {
+                    client: at.client,
+                    session: Some(i),
+                }
             }
         }
     }
 
-    /// Forgets the client's replies below its mark.
-    pub fn trim(&mut self, client: u64)
-        ensures { table self.new ≡ trimmed (table self.old) client }
+    /// Forgets the replies below its mark of the client whose session is there.
+    pub fn trim(&mut self, at: SessionAt)
+        requires { IsSessionAt self.old at }
+        ensures { table self.new ≡ trimmed (table self.old) at.client }
     {
-        let Some(known) = self.clients.get_mut(&client) else {
-            return
-        };
-        known.trim();
+        if let Some(i) = at.session {
+            self.sessions[i].trim();
+        }
     }
 }
 
 impl fmt::Debug for Sessions {
     /// The clients. The session that is set aside is room, and no part of the table.
     fn fmt<W: fmt::Write>(&self, f: &mut fmt::Formatter<W>) -> fmt::Result {
-        let clients = &self.clients;
-        write!(f, "Sessions({clients:?})")
+        let Sessions {
+            indices,
+            sessions,
+            ..
+        } = self;
+        write!(f, "Sessions({indices:?}, {sessions:?})")
     }
 }
 
-// Adds a client that isn't there yet, for which there is room.
-fn add(clients: &mut SortedMap<u64, Client>, client: u64, fresh: Client)
-    requires { 0 < clients.old.room }
-    ensures { contents nat_cmp clients.new ≡ map.insert (contents nat_cmp clients.old) client fresh }
+// A client of which nothing is known, with room for one reply.
+fn roomy(alloc: Global) -> Result<Client, AllocError>
+    ensures { IfOk result (λ client. (client.row ≡ no_row) × (0 < client.room)) }
 {
-    let _ = clients.insert(client, fresh);
+    let mut fresh = Client::new(alloc);
+    fresh.reserve()?;
+    Ok(fresh)
+}
+
+// Adds a client that isn't there yet, for which there is room.
+fn add(indices: &mut SortedMap<u64, usize>, client: u64, i: usize)
+    requires { 0 < indices.old.room }
+    ensures { contents nat_cmp indices.new ≡ map.insert (contents nat_cmp indices.old) client i }
+{
+    let _ = indices.insert(client, i);
 }

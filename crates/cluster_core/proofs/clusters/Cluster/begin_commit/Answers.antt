@@ -6,4 +6,4 @@ use Rattle.cluster_core.proofs.clusters.Cluster.begin_commit.Goals as goal
 pub returns-clause-begun : goal.returns-clause-begun
 returns-clause-begun g c past =
     at_rank _ _ _ (sym c.is_rank.ensures ∙ c.if-not-is_rank.false)
-    (rw (← c.self.view_is) (c.begin_at.ensures.begun c.self.inside.numbers.items c.self.inside.inboxes c.self.inside.pins (table c.self.inside.sessions) past))
+    (rw (← c.self.view_is) (c.begin_at.ensures.begun c.self.inside.given.numbers.items c.self.inside.waiting.inboxes c.self.inside.waiting.pins (table c.self.inside.given.sessions) past))

@@ -13,7 +13,7 @@ evict-requires g c =
 
 pub returns-clause-evicted : goal.returns-clause-evicted
 returns-clause-evicted g c past =
-    let e = c.in_default.ensures in
+    let e = c.in_ok-evict.ensures in
     at_rank _ _ _ (sym c.is_rank.ensures ∙ c.if-not-is_rank.false)
     (rw (← c.self.view_is) (
       (
@@ -21,7 +21,7 @@ returns-clause-evicted g c past =
         refl,
         (
           e.evicted,
-          (λ i. state_of (e.kept.state i) (e.roots i).roots c.self.inside.numbers.items c.self.inside.inboxes c.self.inside.pins (table c.self.inside.sessions)),
+          (λ i. state_of (e.kept.state i) (e.roots i).roots c.self.inside.given.numbers.items c.self.inside.waiting.inboxes c.self.inside.waiting.pins (table c.self.inside.given.sessions)),
         ),
         worked _ _ _ _ _ _ _ _ past (ap shown_tree e.kept.state),
       ),

@@ -6,4 +6,4 @@ use Rattle.cluster_core.proofs.clusters.Cluster.merge.Goals as goal
 pub returns-clause-merged : goal.returns-clause-merged
 returns-clause-merged g c past =
     at_rank _ _ _ (sym c.is_rank.ensures ∙ c.if-not-is_rank.false)
-    (rw (← c.self.view_is) (c.merge_at.ensures.merged c.self.inside.numbers.items c.self.inside.inboxes (table c.self.inside.sessions) past))
+    (rw (← c.self.view_is) (c.merge_at.ensures.merged c.self.inside.given.numbers.items c.self.inside.waiting.inboxes (table c.self.inside.given.sessions) past))

@@ -1,9 +1,10 @@
 -- The cluster is put together of what the mount of the tree found.
-use Rattle.std.proofs.Common.{[], ap, ◌∙◌}
+use Rattle.std.proofs.Common.{List, ap₂, ◌∙◌}
 use Rattle.std.specs.FinMap as map
 use Rattle.sorted_map.specs.SortedMap.{contents}
 use Rattle.mds_types.specs.Tree.{dentry_cmp}
 use Rattle.inboxes.specs.Inboxes.{Inboxes}
+use Rattle.inboxes.specs.declared.pins.Pin.{Pin}
 use Rattle.cluster_core.specs.State.{core_of}
 use Rattle.cluster_core.proofs.MountedBook.{mounted_sound, mounts_core}
 use Rattle.cluster_core.proofs.clusters.Cluster.mount.Goals as goal
@@ -11,11 +12,11 @@ use Rattle.cluster_core.proofs.clusters.Cluster.mount.Goals as goal
 pub returns-in-Ok-mount-clause-mounted : goal.returns-in-Ok-mount-clause-mounted
 returns-in-Ok-mount-clause-mounted g c =
     let m = c.in-Ok-mount in
-    let is = c.of_mounted.ensures.core ∙ ap (λ (i : Inboxes). core_of m.tree.tree m.tree.subtrees.roots m.opening.numbers.items i [] map.empty) c.in-Ok.ensures in
+    let is = c.of_mounted.ensures.core ∙ ap₂ (λ (i : Inboxes) (p : List Pin). core_of m.tree.tree m.tree.subtrees.roots m.opening.numbers.items i p map.empty) c.in-Ok.ensures.inboxes c.in-Ok.ensures.pins in
     rw (is, c.of_mounted.ensures.opening) (mounts_core _ c.args.ranks c.args.places m.tree.tree m.tree.subtrees.roots (contents dentry_cmp m.opening.entries) m.opening.numbers.items m.ensures.mounted m.ensures.opening m.ensures.numbers m.ensures.roots)
 
 pub returns-in-Ok-mount-clause-sound : goal.returns-in-Ok-mount-clause-sound
 returns-in-Ok-mount-clause-sound g c =
     let m = c.in-Ok-mount in
-    let is = c.of_mounted.ensures.core ∙ ap (λ (i : Inboxes). core_of m.tree.tree m.tree.subtrees.roots m.opening.numbers.items i [] map.empty) c.in-Ok.ensures in
+    let is = c.of_mounted.ensures.core ∙ ap₂ (λ (i : Inboxes) (p : List Pin). core_of m.tree.tree m.tree.subtrees.roots m.opening.numbers.items i p map.empty) c.in-Ok.ensures.inboxes c.in-Ok.ensures.pins in
     rw (is, c.of_mounted.ensures.opening) (mounted_sound _ c.args.ranks c.args.places m.tree.tree m.tree.subtrees.roots (contents dentry_cmp m.opening.entries) m.opening.numbers.items m.ensures.mounted m.ensures.opening m.ensures.numbers m.ensures.roots c.requires.some c.requires.ranked c.of_mounted.ensures.owned c.of_mounted.ensures.caches)

@@ -1,14 +1,32 @@
-use Rattle.std.proofs.Common.{◌≡◌, ◌<◌, Option, IfSome, sym, subst, ◌∙◌}
+use Rattle.std.proofs.Common.{◌≡◌, Option, Some, None, sym, ap, ◌∙◌, subst}
+use Rattle.std.specs.Ordering.{nat_cmp}
+use Rattle.std.specs.FinMap as map
+use Rattle.sorted_map.specs.SortedMap.{contents}
+use Rattle.sessions.specs.Rooms.{Held}
+use Rattle.std.proofs.Common.{◌<◌, IfSome, vec_len, vec_capacity, eq-eqb, cond, refl}
 use Rattle.sessions.specs.Table.{no_row}
 use Rattle.sessions.specs.Rooms.{Session}
-use Rattle.sessions.proofs.RowLaws.{noted_known, noted_first}
+use Rattle.sessions.proofs.RowLaws.{get_with, indexed_more, noted_known, noted_first}
 use Rattle.sessions.proofs.session_table.Sessions.keep.Goals as goal
 
-pub returns-in-Some : goal.returns-in-Some
-returns-in-Some c = rw (← c.self.view_is) (noted_known _ _ _ _ _ _ _ _ c.in-Some.ensures.value c.keep.ensures)
+pub invariant_of-self-in-None : goal.invariant_of-self-in-None
+invariant_of-self-in-None c =
+    let none : map.get (contents nat_cmp c.self.inside.indices) c.args.at.client ≡ None = ap (λ (h : Held). map.get h.indices c.args.at.client) c.self.view_is ∙ c.requires.there ∙ c.in-None.is in
+    (rw (c.add.ensures, c.push_reserved.ensures.items, c.len-i.ensures, c.self.inside.sessions.ok.0) (indexed_more (contents nat_cmp c.self.inside.indices) c.self.inside.sessions.items c.args.at.client c.self.invariant.0 c.keep-in-None.new.self none), rw c.take.ensures.after tt)
+
+pub returns-in-Some-clause-kept : goal.returns-in-Some-clause-kept
+returns-in-Some-clause-kept c =
+    let its : map.get (contents nat_cmp c.self.inside.indices) c.args.at.client ≡ Some c.in-Some.i = ap (λ (h : Held). map.get h.indices c.args.at.client) c.self.view_is ∙ c.requires.there ∙ c.in-Some.is in
+    rw (← c.self.view_is) (noted_known (contents nat_cmp c.self.inside.indices) c.self.inside.sessions.items c.args.at.client c.self.invariant.0 c.in-Some.i its c.keep.new.self c.index_mut.result.now c.index_mut.ensures.value _ _ _ _ c.keep.ensures)
 
 -- the session that was set aside knows nothing yet
-pub returns-in-Some-take : goal.returns-in-Some-take
-returns-in-Some-take c =
-    let spare = subst (λ (o : Option Session). IfSome o (λ s. (s.row ≡ no_row) × (0 < s.room))) (sym c.take.ensures.value ∙ c.in-Some-take.is) c.self.invariant in
-    rw (← c.self.view_is, c.add.ensures) (noted_first _ _ _ _ _ _ _ _ c.in-None.ensures.value spare.0 c.keep-in-None.ensures)
+pub returns-in-Some-take-clause-kept : goal.returns-in-Some-take-clause-kept
+returns-in-Some-take-clause-kept c =
+    let none : map.get (contents nat_cmp c.self.inside.indices) c.args.at.client ≡ None = ap (λ (h : Held). map.get h.indices c.args.at.client) c.self.view_is ∙ c.requires.there ∙ c.in-None.is in
+    let spare = subst (λ (o : Option Session). IfSome o (λ s. (s.row ≡ no_row) × (0 < s.room) × (vec_len c.self.inside.sessions < vec_capacity c.self.inside.sessions))) (sym c.take.ensures.value ∙ c.in-Some-take.is) c.self.invariant.1 in
+    rw (← c.self.view_is, c.add.ensures, c.push_reserved.ensures.items, c.len-i.ensures, c.self.inside.sessions.ok.0)
+    (noted_first (contents nat_cmp c.self.inside.indices) c.self.inside.sessions.items c.args.at.client c.self.invariant.0 c.keep-in-None.new.self c.in-Some-take.fresh.row _ _ _ _ none spare.0 c.keep-in-None.ensures)
+
+pub returns-in-Some-take-clause-session : goal.returns-in-Some-take-clause-session
+returns-in-Some-take-clause-session c =
+    rw c.add.ensures (get_with _ c.args.at.client c.len-i.result c.args.at.client ∙ ap (λ b. cond b (Some c.len-i.result) (map.get (contents nat_cmp c.self.inside.indices) c.args.at.client)) (eq-eqb c.args.at.client c.args.at.client refl))

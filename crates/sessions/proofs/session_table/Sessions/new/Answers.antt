@@ -1,7 +1,10 @@
-use Rattle.std.proofs.Common.{ap, ◌∙◌}
+use Rattle.std.proofs.Common.{ap₂, ◌∙◌}
 use Rattle.sessions.specs.Rooms.{rows}
-use Rattle.sessions.proofs.RowLaws.{rows-empty}
+use Rattle.sessions.proofs.RowLaws.{indexed_none, rows-empty}
 use Rattle.sessions.proofs.session_table.Sessions.new.Goals as goal
 
+pub invariant_of-result : goal.invariant_of-result
+invariant_of-result c = (rw (c.new.ensures.empty, c.new-2.ensures.items) indexed_none, tt)
+
 pub returns : goal.returns
-returns c = ap rows c.new.ensures.empty ∙ rows-empty
+returns c = ap₂ rows c.new.ensures.empty c.new-2.ensures.items ∙ rows-empty

@@ -1,16 +1,22 @@
-use Rattle.std.proofs.Common.{sym, subst, arith}
+use Rattle.std.proofs.Common.{◌≡◌, Some, None, sym, ap, ◌∙◌, subst, arith}
 use Rattle.std.specs.Ordering.{nat_cmp}
+use Rattle.std.specs.FinMap as map
 use Rattle.std.specs.FinMap.{get-empty}
+use Rattle.sorted_map.specs.SortedMap.{contents}
 use Rattle.sessions.specs.Table.{Row}
+use Rattle.sessions.specs.Rooms.{Held}
+use Rattle.sessions.specs.Seen.{SeesInRow}
 use Rattle.sessions.specs.declared.clients.Seen.TheVariants.{New}
 use Rattle.sessions.proofs.TableLaws.{sees}
-use Rattle.sessions.specs.Seen.{SeesInRow}
-use Rattle.sessions.proofs.RowLaws.{row_known, row_unknown}
+use Rattle.sessions.proofs.RowLaws.{read, row_known, row_unknown}
 use Rattle.sessions.proofs.session_table.Sessions.seen.Goals as goal
 
 pub returns-in-Some-clause-standing : goal.returns-in-Some-clause-standing
 returns-in-Some-clause-standing c =
-    rw (← c.self.view_is) (subst (λ (row : Row). SeesInRow row c.args.tid c.args.oldest c.seen.result) (sym (row_known _ _ _ c.in-Some.ensures)) c.seen.ensures)
+    let its : map.get (contents nat_cmp c.self.inside.indices) c.args.client ≡ Some c.in-Some.i =
+    rw (← c.find-at.ensures.named) (ap (λ (h : Held). map.get h.indices c.find-at.result.client) c.self.view_is ∙ c.find-at.ensures.found ∙ c.in-Some.is) in
+    let row = read (contents nat_cmp c.self.inside.indices) c.self.inside.sessions.items c.args.client c.self.invariant.0 c.in-Some.i its c.index.result.now c.index.result.now c.index.ensures in
+    rw (← c.self.view_is) (subst (λ (r : Row). SeesInRow r c.args.tid c.args.oldest c.seen.result) (row ∙ sym (row_known _ c.self.inside.sessions.items _ _ its)) c.seen.ensures.standing)
 
 pub returns-in-Some-clause-history : goal.returns-in-Some-clause-history
 returns-in-Some-clause-history c = λ history h. sees history _ _ _ _ _ h (returns-in-Some-clause-standing c)
@@ -18,7 +24,9 @@ returns-in-Some-clause-history c = λ history h. sees history _ _ _ _ _ h (retur
 -- nothing is known of the client
 pub returns-in-None-2-clause-standing : goal.returns-in-None-2-clause-standing
 returns-in-None-2-clause-standing c =
-    rw (← c.self.view_is, row_unknown _ _ c.in-None-2.ensures) (omega arith, c.if-tid-oldest.false, get-empty nat_cmp c.args.tid)
+    let none : map.get (contents nat_cmp c.self.inside.indices) c.args.client ≡ None =
+    rw (← c.find-at.ensures.named) (ap (λ (h : Held). map.get h.indices c.find-at.result.client) c.self.view_is ∙ c.find-at.ensures.found ∙ c.in-None-2.is) in
+    rw (← c.self.view_is, row_unknown _ c.self.inside.sessions.items _ none) (omega arith, c.if-tid-oldest.false, get-empty nat_cmp c.args.tid)
 
 pub returns-in-None-2-clause-history : goal.returns-in-None-2-clause-history
-returns-in-None-2-clause-history c = λ history h. sees history _ c.args.client c.args.tid c.args.oldest New h (returns-in-None-2-clause-standing c)
+returns-in-None-2-clause-history c = λ history h. sees history _ c.args.client c.args.tid c.args.oldest (New c.find-at.result) h (returns-in-None-2-clause-standing c)

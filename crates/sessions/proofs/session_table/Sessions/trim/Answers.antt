@@ -1,8 +1,17 @@
+use Rattle.std.proofs.Common.{◌≡◌, Some, None, ap, ◌∙◌}
+use Rattle.std.specs.Ordering.{nat_cmp}
+use Rattle.std.specs.FinMap as map
+use Rattle.sorted_map.specs.SortedMap.{contents}
+use Rattle.sessions.specs.Rooms.{Held}
 use Rattle.sessions.proofs.RowLaws.{trimmed_known, trimmed_unknown}
 use Rattle.sessions.proofs.session_table.Sessions.trim.Goals as goal
 
-pub returns-in_default : goal.returns-in_default
-returns-in_default c = rw (← c.self.view_is) (trimmed_unknown _ _ c.in_default.ensures.value)
+pub returns-in-Some : goal.returns-in-Some
+returns-in-Some c =
+    let its : map.get (contents nat_cmp c.self.inside.indices) c.args.at.client ≡ Some c.in-Some.i = ap (λ (h : Held). map.get h.indices c.args.at.client) c.self.view_is ∙ c.requires ∙ c.in-Some.is in
+    rw (← c.self.view_is) (trimmed_known (contents nat_cmp c.self.inside.indices) c.self.inside.sessions.items c.args.at.client c.self.invariant.0 c.in-Some.i its c.trim.new.self c.index_mut.result.now c.index_mut.ensures.value c.trim.ensures)
 
-pub returns : goal.returns
-returns c = rw (← c.self.view_is) (trimmed_known _ _ _ _ c.in-Some.ensures.value c.trim.ensures)
+pub returns-in_default : goal.returns-in_default
+returns-in_default c =
+    let none : map.get (contents nat_cmp c.self.inside.indices) c.args.at.client ≡ None = ap (λ (h : Held). map.get h.indices c.args.at.client) c.self.view_is ∙ c.requires ∙ c.in_default.is in
+    rw (← c.self.view_is) (trimmed_unknown (contents nat_cmp c.self.inside.indices) c.self.inside.sessions.items c.args.at.client none)

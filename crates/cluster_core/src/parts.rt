@@ -1,0 +1,71 @@
+//! What a cluster has beside its tree.
+ghost use Rattle.std.specs.Prelude.{◌≡◌, ◌<◌, [], length, get_or, replicate, IfOk};
+ghost use Rattle.std.specs.FinMap as map;
+ghost use Rattle.sessions.specs.Rooms.{table};
+ghost use Rattle.cluster_core.specs.State.{no_supply};
+
+use inboxes::{Inboxes, Pins};
+use inode_table::Numbers;
+use mds_types::{Rank, Request};
+use namespace_ops::Places;
+use sessions::{SessionAt, Sessions};
+use std::alloc::{AllocError, Global};
+
+/// The requests that wait at each rank, and the grants for them that stand.
+#[derive(Drop)]
+pub(crate) struct Waiting {
+    pub(crate) inboxes: Inboxes,
+    pub(crate) pins: Pins,
+}
+
+impl Waiting {
+    /// Nothing waits at any of so many ranks. Takes all memory that requests which wait will need.
+    pub(crate) fn new(alloc: Global, ranks: u8) -> Result<Waiting, AllocError>
+        ensures inboxes { IfOk result (λ waiting. waiting.inboxes ≡ replicate ranks []) }
+        ensures pins { IfOk result (λ waiting. waiting.pins ≡ []) }
+    {
+        Ok(Waiting {
+            inboxes: Inboxes::new(alloc, ranks)?,
+            pins: Pins::new(alloc),
+        })
+    }
+}
+
+/// What was given out: of each rank's inode numbers those that are left, and for each client the replies that it got.
+#[derive(Drop)]
+pub(crate) struct Given {
+    pub(crate) numbers: Vec<Numbers>,
+    pub(crate) sessions: Sessions,
+}
+
+impl Given {
+    /// No reply was given, and these numbers are left.
+    pub(crate) fn of(alloc: Global, numbers: Vec<Numbers>) -> Given
+        ensures numbers { result.numbers.items ≡ numbers.items }
+        ensures sessions { table result.sessions ≡ map.empty }
+    {
+        Given {
+            numbers,
+            sessions: Sessions::new(alloc),
+        }
+    }
+
+    /// The inode numbers that a rank has left, which is there.
+    pub(crate) fn supply_of(&self, rank: Rank) -> Numbers
+        requires { rank.0 < length self.now.numbers.items }
+        ensures { result ≡ get_or self.now.numbers.items rank.0 no_supply }
+    {
+        self.numbers[usize::from(rank.0)]
+    }
+}
+
+/// A new request at its master, taken out of the master's inbox, with what was found of it: the numbers that the master has left,
+/// where its client's session is, and where its names lie.
+#[derive(Drop)]
+pub(crate) struct Asked {
+    pub(crate) rank: Rank,
+    pub(crate) supply: Numbers,
+    pub(crate) request: Request,
+    pub(crate) session: SessionAt,
+    pub(crate) places: Places,
+}
