@@ -1,5 +1,6 @@
 -- The directories in order whose leaves were set.
-use Rattle.std.proofs.Common.{◌≡◌, ◌⊎◌, inl, inr, ℕ, zero, suc, ◌<◌, arith, Bool, true, false, cond, is_some, Bor, List, [], ◌∷◌, length, Option, Some, None, refl, sym, ap, subst, ◌∙◌}
+use Rattle.std.proofs.Common.{◌≡◌, ◌⊎◌, inl, inr, ℕ, zero, suc, ◌<◌, arith, Bool, true, false, cond, is_some, Bor}
+use Rattle.std.proofs.Common.{List, [], ◌∷◌, length, Option, Some, None, refl, sym, ap, subst, ◌∙◌}
 use Rattle.std.specs.Prelude.{filter, slice_get}
 use Rattle.std.specs.Option.{option_copied}
 use Rattle.std.specs.Ordering.{eq_by_cmp, nat_cmp}
@@ -22,11 +23,13 @@ module _ (homes : Homes) (covers : Covers) where
   abbrev has_tree : ℕ → Bool
   has_tree d = is_some (map.get covers d)
 
-  first_of : (d : ℕ) (ds : List ℕ) (b : Bool) → has_tree d ≡ b → filter has_tree (d ∷ ds) ≡ cond b (d ∷ filter has_tree ds) (filter has_tree ds)
+  first_of : (d : ℕ) (ds : List ℕ) (b : Bool) → has_tree d ≡ b
+      → filter has_tree (d ∷ ds) ≡ cond b (d ∷ filter has_tree ds) (filter has_tree ds)
   first_of d ds b is = ap (λ c. cond c (d ∷ filter has_tree ds) (filter has_tree ds)) is
 
   -- after the last directory there is none
-  pub no_tree : (after : Option Ino) → slice_get (dirs_after homes after) 0 ≡ None → slice_get (trees_after homes covers after) 0 ≡ None
+  pub no_tree : (after : Option Ino) → slice_get (dirs_after homes after) 0 ≡ None
+      → slice_get (trees_after homes covers after) 0 ≡ None
   no_tree after none = go (dirs_after homes after) none
     where
       go : (ds : List ℕ) → slice_get ds 0 ≡ None → slice_get (filter has_tree ds) 0 ≡ None
@@ -42,11 +45,13 @@ module _ (homes : Homes) (covers : Covers) where
       go false is more here = more here
 
   -- the first of them has a tree
-  pub first_has_tree : (after : Option Ino) (x : ℕ) → slice_get (trees_after homes covers after) 0 ≡ Some x → has_tree x ≡ true
+  pub first_has_tree : (after : Option Ino) (x : ℕ) → slice_get (trees_after homes covers after) 0 ≡ Some x
+      → has_tree x ≡ true
   first_has_tree after x first = among has_tree (dirs_after homes after) x first
 
   -- a directory with a tree is among all of them
-  pub all_trees : (d : ℕ) → is_known homes d ≡ true → has_tree d ≡ true → list_any (eq_by_cmp nat_cmp d) (trees_after homes covers None) ≡ true
+  pub all_trees : (d : ℕ) → is_known homes d ≡ true → has_tree d ≡ true
+      → list_any (eq_by_cmp nat_cmp d) (trees_after homes covers None) ≡ true
   all_trees d known has = go (dirs_after homes None) (all_dirs homes d known)
     where
       go : (ds : List ℕ) → list_any (eq_by_cmp nat_cmp d) ds ≡ true → list_any (eq_by_cmp nat_cmp d) (filter has_tree ds) ≡ true
@@ -73,7 +78,10 @@ module _ (homes : Homes) (covers : Covers) where
       passed_over none = ap (filter has_tree) (next_after homes rootless after x first) ∙ first_of x.0 (dirs_after homes (Some x)) false none
 
       pub fewer_dirs : length (dirs_after homes (Some x)) < length (dirs_after homes after)
-      fewer_dirs = let all : length (dirs_after homes after) ≡ length (x.0 ∷ dirs_after homes (Some x)) = ap length (next_after homes rootless after x first) in omega (arith, all)
+      fewer_dirs =
+          let all = ap length (next_after homes rootless after x first) in
+          let one : length (dirs_after homes after) ≡ length (x.0 ∷ dirs_after homes (Some x)) = all in
+          omega (arith, one)
 
     -- directories without a tree are passed over until the first with one comes
     record IsFound (after : Option Ino) (x : ℕ) : Type 0 where
@@ -81,7 +89,8 @@ module _ (homes : Homes) (covers : Covers) where
       dir : slice_get (dirs_after homes at) 0 ≡ Some x
       trees : trees_after homes covers after ≡ trees_after homes covers at
 
-    found_within : (n : ℕ) (after : Option Ino) (x : ℕ) → length (dirs_after homes after) < n → slice_get (trees_after homes covers after) 0 ≡ Some x → IsFound after x
+    found_within : (n : ℕ) (after : Option Ino) (x : ℕ) → length (dirs_after homes after) < n
+        → slice_get (trees_after homes covers after) 0 ≡ Some x → IsFound after x
     found_within zero after x few first = absurd (omega (arith, few))
     found_within (suc n) after x few first = go (dirs_after homes after) refl (λ y. found_within n (Some y) x)
       where
@@ -109,9 +118,13 @@ module _ (homes : Homes) (covers : Covers) where
     found after x first = found_within (suc (length (dirs_after homes after))) after x (omega arith) first
 
     -- the first of them is a directory
-    pub first_tree_known : (after : Option Ino) (x : ℕ) → slice_get (trees_after homes covers after) 0 ≡ Some x → is_known homes x ≡ true
+    pub first_tree_known : (after : Option Ino) (x : ℕ) → slice_get (trees_after homes covers after) 0 ≡ Some x
+        → is_known homes x ≡ true
     first_tree_known after x first = let w = found after x first in first_known homes rootless w.at x w.dir
 
     -- the first of them, and what comes after that
-    pub next_tree_after : (after : Option Ino) (x : Ino) → slice_get (trees_after homes covers after) 0 ≡ Some x.0 → trees_after homes covers after ≡ x.0 ∷ trees_after homes covers (Some x)
-    next_tree_after after x first = let w = found after x.0 first in w.trees ∙ here_a_tree w.at x w.dir (first_has_tree after x.0 first)
+    pub next_tree_after : (after : Option Ino) (x : Ino) → slice_get (trees_after homes covers after) 0 ≡ Some x.0
+        → trees_after homes covers after ≡ x.0 ∷ trees_after homes covers (Some x)
+    next_tree_after after x first =
+        let w = found after x.0 first in
+        w.trees ∙ here_a_tree w.at x w.dir (first_has_tree after x.0 first)

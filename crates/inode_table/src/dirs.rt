@@ -165,8 +165,8 @@ impl Dirs {
         Some(Ino(self.below.iter_after(&last.0).next()?.0))
     }
 
-    /// The first directory after one, or of all, in the same order, whose leaves were ever set. None after the last. Takes no memory,
-    /// and two searches for each directory on the way.
+    /// The first directory after one, or of all, in the same order, whose leaves were ever set. None after the last.
+    /// Takes no memory, and two searches for each directory on the way.
     pub fn next_tree(&self, after: Option<Ino>) -> Option<Ino>
         ensures { option_map (λ (d : Ino). d.0) result ≡ slice_get (trees_after self.now.homes self.now.trees after) 0 }
     {

@@ -1,5 +1,6 @@
 -- Writes that are made side by side: what the results are of each job, and what is collected of them.
-use Rattle.std.proofs.Common.{arith, ◌≡◌, ◌<◌, ℕ, zero, suc, length, slice_index_or, List, [], ◌∷◌, map as list_map, Ok, Err, refl, subst, ◌∙◌}
+use Rattle.std.proofs.Common.{arith, ◌≡◌, ◌<◌, ℕ, zero, suc, length, slice_index_or, List, [], ◌∷◌, map as list_map, Ok, Err}
+use Rattle.std.proofs.Common.{refl, subst, ◌∙◌}
 use Rattle.std.specs.Prelude.{Result, IfOk, IfErr, MatchResult}
 use Rattle.std.specs.List.{AllZip, Contains}
 use Rattle.std.specs.declared.vec.Vec.{Vec}
@@ -30,7 +31,8 @@ refused_at [] [] reason each k within is = absurd (omega (arith, within))
 refused_at [] (r ∷ rs) reason each k within is = absurd each
 refused_at (b ∷ bs) [] reason each k within is = absurd each
 refused_at (b ∷ bs) (r ∷ rs) reason (here, rest) zero within is = subst (IsReadied b) is here
-refused_at (b ∷ bs) (r ∷ rs) reason (here, rest) (suc k) within is = refused_at bs rs reason rest k (omega (arith, within)) is
+refused_at (b ∷ bs) (r ∷ rs) reason (here, rest) (suc k) within is =
+    refused_at bs rs reason rest k (omega (arith, within)) is
 
 -- what is collected of them: all writes in their order, or why there is none of some job
 abbrev pub IsCollected : {Z : Type 0} → Results → Result (Vec Ready Z) Refusal → Type 0
@@ -42,7 +44,8 @@ pub all_encoded : {Z : Type 0} (begun : List Begun) (results : Results) (collect
     → AllZip IsReadied begun results
     → IsCollected results collected
     → IfOk collected (λ v. v.items ≡ list_map ready_of begun)
-all_encoded begun results (Ok v) each (made, are, has) = has ∙ all_made begun made (subst (AllZip IsReadied begun) are each)
+all_encoded begun results (Ok v) each (made, are, has) =
+    has ∙ all_made begun made (subst (AllZip IsReadied begun) are each)
 all_encoded begun results (Err reason) each among = tt
 
 pub refused_for_memory : {Z : Type 0} (begun : List Begun) (results : Results) (collected : Result (Vec Ready Z) Refusal)

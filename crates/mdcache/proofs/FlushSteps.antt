@@ -31,14 +31,19 @@ abbrev its_object : Option (List Fragment) → Option Omap
 its_object row = cond (nat_lt 1 (length (or_whole row))) (Some (tree_object (or_whole row))) None
 
 -- where nothing is left to be removed, a directory whose leaves were never set has no tree object
-module _ (s : State) (sound : IsSound s) (none : s.purge ≡ map.empty) (dir : Ino) (known : is_known s.homes dir.0 ≡ true) (unset : map.get s.covers dir.0 ≡ None) where
+module _ (s : State) (sound : IsSound s) (none : s.purge ≡ map.empty) (dir : Ino) (known : is_known s.homes dir.0 ≡ true)
+    (unset : map.get s.covers dir.0 ≡ None) where
   not_owned : IsOwned s (tree_text dir) → ⊥
   not_owned (inl (leaf, live, same)) = no_tree_text s.homes s.covers sound.table sound.numbered leaf dir live known (sym same)
   not_owned (inr (inl (d, row, same))) =
-      let one : dir.0 ≡ d.0 = ap number_of (texts_differ (Tree dir) (Tree d) (sound.numbered dir.0 known) (sound.numbered d.0 (known_by_row s.homes s.covers sound.table d.0 row)) same) in
+      let there = known_by_row s.homes s.covers sound.table d.0 row in
+      let one : dir.0 ≡ d.0 = ap number_of (texts_differ (Tree dir) (Tree d) (sound.numbered dir.0 known) (sound.numbered d.0 there) same) in
       let clash : false ≡ true = ap is_some (sym unset ∙ ap (map.get s.covers) one) ∙ row in
       cc
-  not_owned (inr (inr listed)) = let clash : false ≡ true = ap is_some (sym (ap (λ p. map.get p (tree_text dir)) none ∙ get-empty _ (tree_text dir))) ∙ listed in cc
+  not_owned (inr (inr listed)) =
+      let off : map.get s.purge (tree_text dir) ≡ None = ap (λ p. map.get p (tree_text dir)) none ∙ get-empty _ (tree_text dir) in
+      let clash : false ≡ true = ap is_some (sym off) ∙ listed in
+      cc
 
   pub no_object : map.get s.objects (tree_text dir) ≡ None
   no_object = go (map.get s.objects (tree_text dir)) refl
@@ -47,14 +52,17 @@ module _ (s : State) (sound : IsSound s) (none : s.purge ≡ map.empty) (dir : I
       go None is = refl
       go (Some object) is = absurd (not_owned (sound.owned (tree_text dir) (ap is_some is)))
 
-module _ (mid new : State) (clean : mid.unsaved ≡ map.empty) (trees : HasTrees mid) (purged : ArePurged mid new) (sound : IsSound new) (none : new.purge ≡ map.empty) where
+module _ (mid new : State) (clean : mid.unsaved ≡ map.empty) (trees : HasTrees mid) (purged : ArePurged mid new)
+    (sound : IsSound new) (none : new.purge ≡ map.empty) where
   covers : new.covers ≡ mid.covers
   covers = ap (λ (s : State). s.covers) purged.left
 
-  tree_there : (dir : Ino) → is_known new.homes dir.0 ≡ true → map.get new.objects (tree_text dir) ≡ its_object (map.get new.covers dir.0)
+  tree_there : (dir : Ino) → is_known new.homes dir.0 ≡ true
+      → map.get new.objects (tree_text dir) ≡ its_object (map.get new.covers dir.0)
   tree_there dir known = go (map.get new.covers dir.0) refl
     where
-      go : (row : Option (List Fragment)) → map.get new.covers dir.0 ≡ row → map.get new.objects (tree_text dir) ≡ its_object row
+      go : (row : Option (List Fragment)) → map.get new.covers dir.0 ≡ row
+          → map.get new.objects (tree_text dir) ≡ its_object row
       go None unset = no_object new sound none dir known unset
       go (Some leaves) set =
           let was : map.get mid.covers dir.0 ≡ Some leaves = ap (λ c. map.get c dir.0) (sym covers) ∙ set in
@@ -79,7 +87,8 @@ module _ (mid new old : State) (clean : mid.unsaved ≡ map.empty) (trees : HasT
   told_flushed (Ok done) none = flushed mid new clean trees purged sound none
   told_flushed (Err reason) none = tt
 
-  pub told_cold : (result : Result (Unit {0}) Refusal) → OnOk result (new.purge ≡ map.empty) → shown_tree new ≡ shown_tree old → OnOk result (IsColdTree new.objects (shown_tree old))
+  pub told_cold : (result : Result (Unit {0}) Refusal) → OnOk result (new.purge ≡ map.empty)
+      → shown_tree new ≡ shown_tree old → OnOk result (IsColdTree new.objects (shown_tree old))
   told_cold (Ok done) none same = cold mid new clean trees purged sound none old same
   told_cold (Err reason) none same = tt
 

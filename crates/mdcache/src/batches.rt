@@ -287,8 +287,8 @@ impl<S: Store + Drop> MdCache<S> {
     }
 }
 
-// The writes of jobs, in their order, made side by side by as many threads as there are processors: each job is heavy, so that a
-// thread may take even a single one. Takes memory for them, and is refused for want of it alone.
+// The writes of jobs, in their order, made side by side by as many threads as there are processors. A job is heavy, so a
+// thread may take a single one. Takes memory for them, and is refused for want of it alone.
 fn encode_each(
     rt: &(impl Threads + Sync),
     alloc: Global,

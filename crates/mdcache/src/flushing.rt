@@ -46,10 +46,11 @@ impl<S: Store + Drop> MdCache<S> {
         purge_each(self)
     }
 
-    /// Makes the object of each directory's tree say what leaves the directory has, of those directories whose leaves were ever set:
-    /// it is written, if there are several and the object isn't so already, and removed, if there is one. Their names leave the purge
-    /// list. Others have no tree object but one that is to be removed, and take no call of the store: where there are no such
-    /// directories nothing is done, and nothing refused. Takes memory for one object after the other.
+    /// Makes the object of each directory's tree say what leaves the directory has, of those directories whose leaves were
+    /// ever set: it is written, if there are several and the object isn't so already, and removed, if there is one. Their
+    /// names leave the purge list. Other directories have no tree object but one that is to be removed, and take no call of
+    /// the store: where no directory's leaves were ever set nothing is done, and nothing refused. Takes memory for one object
+    /// after the other.
     ///
     /// Refused as the store refuses, and `NoMemory`. Some directories' objects are up to date then, the others as they were.
     pub fn save_trees(&mut self, alloc: Global) -> Result<(), Refusal>
@@ -144,7 +145,7 @@ fn purge_each<S: Store + Drop>(tree: &mut MdCache<S>) -> Result<(), Refusal>
     Ok(())
 }
 
-// Brings the objects of directories' trees up to date, one directory after the other, of those whose leaves were ever set.
+// Brings the objects of directories' trees up to date, one after the other: of those whose leaves were ever set.
 fn save_each<S: Store + Drop>(tree: &mut MdCache<S>, alloc: Global) -> Result<(), Refusal>
     requires { IsSoundCore tree.old }
     ensures all { OnOk result (HasTrees (state_of tree.new)) }
