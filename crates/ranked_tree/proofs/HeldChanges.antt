@@ -2,7 +2,6 @@
 use Rattle.std.specs.Prelude.{◌≡◌, ◌==◌, ◌||◌, true, false, is_some, ℕ, List, [], ◌∷◌, Option, Some, None, IsSome, IfSome}
 use Rattle.std.proofs.Common.{◌⊎◌, inl, inr, Bool, refl, sym, ap, subst, ◌∙◌}
 use Rattle.std.specs.FinMap as map
-use Rattle.mds_types.specs.declared.dentries.Dentry.{Dentry}
 use Rattle.mds_types.specs.declared.ids.Ino.{Ino}
 use Rattle.mds_types.specs.declared.ids.Rank.{Rank}
 use Rattle.mds_types.specs.declared.inodes.Inode.{Inode}
@@ -22,7 +21,7 @@ use Rattle.inode_table.proofs.TableLaws.{may_come}
 use Rattle.dentry_cache.specs.CacheMap.{At}
 use Rattle.dentry_cache.specs.Came.{Came, IsThat}
 use Rattle.dentry_cache.proofs.FrameLaws.{came_held, came_ranks}
-use Rattle.namespace_ops.specs.Changes.{MayChange, adds, dentry_at, moves, removes, sets}
+use Rattle.namespace_ops.specs.Changes.{MayChange, adds, dentry_at}
 use Rattle.namespace_ops.proofs.Shapes.{Shape, shape_of}
 use Rattle.namespace_ops.proofs.Shapes.Shape.{add, move, remove, set}
 use Rattle.namespace_ops.specs.declared.plans.Change.{Change}

@@ -10,7 +10,7 @@ use Rattle.mds_types.specs.Tree.{is_dir_kind}
 use Rattle.inode_table.specs.Dirs.{Covers, Homes, IsTable, MayGo, MayMove}
 use Rattle.inode_table.specs.TreeTable.{home_at, with_home}
 use Rattle.inode_table.proofs.TableLaws.{may_come, may_drop, with_dir, with_file}
-use Rattle.namespace_ops.specs.Changes.{MayChange, adds, dentry_at, directory_at, removes, sets}
+use Rattle.namespace_ops.specs.Changes.{MayChange, dentry_at, directory_at, removes}
 use Rattle.namespace_ops.proofs.Shapes.{Shape, shape_of}
 use Rattle.namespace_ops.proofs.Shapes.Shape.{add, move, remove, set}
 use Rattle.namespace_ops.specs.declared.plans.Change.{Change}
@@ -159,7 +159,7 @@ module _ (tree : State) where
       go : (takes : Option Spot) (puts : Option (Spot × Inode)) → puts ≡ Some put → IfSome (dir_moved takes puts) (λ (dir : Ino). HasRoomToMove roots room tree.homes tree.covers dir.0 (home_at (dentry_at put.0))) → HasRoomBy takes puts tree roots room
       go None puts same has = tt
       go (Some spot) None same has = tt
-      go (Some spot) (Some to) same has kinded =
+      go (Some spot) (Some to) same has = λ kinded.
           subst (λ (p : Spot × Inode). HasRoomToMove roots room tree.homes tree.covers to.1.ino.0 (home_at (dentry_at p.0))) (sym (same_Some to put same))
           (subst (λ (d : Option Ino). IfSome d (λ (dir : Ino). HasRoomToMove roots room tree.homes tree.covers dir.0 (home_at (dentry_at put.0)))) (ap (λ (b : Bool). cond {A = Option Ino} b (Some to.1.ino) None) kinded) has)
 

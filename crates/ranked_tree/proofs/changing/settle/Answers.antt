@@ -7,7 +7,7 @@ use Rattle.namespace_ops.specs.Changes.{dentry_at}
 use Rattle.subtree_map.specs.Moves.{HasRoomToMove, IsSettled}
 use Rattle.mdcache.specs.Core.{state_of}
 use Rattle.mdcache.specs.Frags.{dir_moving}
-use Rattle.ranked_tree.proofs.SubtreeLaws.{moves_there, over, room_at, settled_at, settled_none}
+use Rattle.ranked_tree.proofs.SubtreeLaws.{moves_there, over, room_at, settled_at}
 use Rattle.ranked_tree.proofs.changing.settle.Goals as goal
 
 pub settle_move-requires-clause-may : goal.settle_move-requires-clause-may
