@@ -4,6 +4,7 @@ pub mod Directories
 pub mod Elsewhere
 pub mod Handover
 pub mod Holders
+pub mod Holding
 pub mod Merges
 pub mod Moves
 pub mod Outcomes

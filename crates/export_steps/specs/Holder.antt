@@ -1,5 +1,5 @@
 -- Which leaves are frozen, and which rank holds a leaf: both by the nearest subtree root.
-use Rattle.std.specs.Prelude.{◌≡◌, Bool, true, false, cond, Option, Some, None}
+use Rattle.std.specs.Prelude.{◌≡◌, Bool, true, false, cond, List, [], ◌∷◌, Option, Some, None}
 use Rattle.std.specs.FinMap as map
 use Rattle.mds_types.specs.declared.ids.Rank.{Rank}
 use Rattle.inode_table.specs.Dirs.{Homes, Covers}
@@ -36,3 +36,16 @@ pub record HasHolder (standing : Standing) (roots : Roots) (homes : Homes) (cove
   pub root : Leaf
   pub nearest : NearestRoot roots homes covers leaf root
   pub holds : region_holder (map.get standing root) (map.get roots root) ≡ Some rank
+
+-- the rank that holds the region of a root of this rank
+abbrev pub holder_or : Option StandingExport → Rank → Rank
+holder_or None rank = rank
+holder_or (Some export) rank = cond (is_imported export.state) export.importer rank
+
+abbrev pub held_by : Standing → List (Leaf × Rank) → List (Leaf × Rank)
+held_by standing [] = []
+held_by standing (e ∷ es) = (e.0, holder_or (map.get standing e.0) e.1) ∷ held_by standing es
+
+-- the roots, each with the rank that holds its region
+unfoldable pub holding : Standing → Roots → Roots
+holding standing roots = map.from_entries (held_by standing (map.entries roots))

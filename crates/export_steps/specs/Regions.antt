@@ -82,3 +82,17 @@ pub record IsRemovalElsewhere (standing : Standing) (was now : Subtrees) (homes 
   pub leaves_gone : later_covers ≡ map.remove covers dir
   pub roots : AreGone was.roots now.roots dir
   pub promises : AreGone was.promises now.promises dir
+
+-- once a directory has moved another one goes, which it replaces: none of its leaves was frozen before the move. What the move leaves is a table, whose leaves are those of before
+pub record IsReplacedElsewhere (standing : Standing) (was mid now : Subtrees) (homes later later_homes : Homes) (covers later_covers : Covers) : Type 0 where
+  pub dir : ℕ
+  pub table : IsTable later covers
+  pub valid : IsSubtrees mid.roots later covers
+  pub lived : (leaf : Leaf) → IsLive later covers leaf → IsLive homes covers leaf
+  pub below : dir ≢ 1
+  pub childless : IsChildless later dir
+  pub thawed : (leaf : Leaf) → leaf.0.0 ≡ dir → IsLive homes covers leaf → IsFrozen standing was.roots homes covers leaf → ⊥
+  pub home_gone : later_homes ≡ map.remove later dir
+  pub leaves_gone : later_covers ≡ map.remove covers dir
+  pub roots : AreGone mid.roots now.roots dir
+  pub promises : AreGone mid.promises now.promises dir

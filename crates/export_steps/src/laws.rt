@@ -8,8 +8,8 @@ ghost use Rattle.subtree_map.specs.Changes.{Subtrees as SubtreesSeen};
 ghost use Rattle.export_steps.specs.Standing.{ArePlaced, ComesTo, IsCancel, IsFinish, IsFreeze, Standing};
 ghost use Rattle.export_steps.specs.declared.exports.ExportState.TheVariants as state;
 ghost use Rattle.export_steps.specs.Handover.{CancelsSoundly, FinishesSoundly, FreezesSoundly, HandsOver};
-ghost use Rattle.export_steps.specs.Holder.{HasHolder, IsFrozen};
-ghost use Rattle.export_steps.specs.Regions.{AreFrozenRegionsKept, IsMakingElsewhere, IsMergeElsewhere, IsMoveElsewhere, IsRemovalElsewhere, IsSplitElsewhere, StandsOver};
+ghost use Rattle.export_steps.specs.Holder.{HasHolder, IsFrozen, holding};
+ghost use Rattle.export_steps.specs.Regions.{AreFrozenRegionsKept, IsMakingElsewhere, IsMergeElsewhere, IsMoveElsewhere, IsRemovalElsewhere, IsReplacedElsewhere, IsSplitElsewhere, StandsOver};
 
 /// Each leaf has a holder, and no other.
 pub fn each_leaf_has_one_holder()
@@ -78,4 +78,29 @@ pub fn finish_keeps_holders()
 /// Cancel thaws the region; every leaf keeps its holder, and its authority too, since the roots stay.
 pub fn cancel_keeps_holders()
     ensures { (old new : Standing) (was now : SubtreesSeen) (root : Leaf) → IsCancel old new was now root → (homes : Homes) (covers : Covers) → CancelsSoundly old new was.roots homes covers root }
+{}
+
+/// The holder of a leaf is its authority among the roots with the ranks that hold their regions. These are subtrees as the roots are.
+pub fn holders_are_authorities()
+    ensures same { (standing : Standing) (roots : Roots) (homes : Homes) (covers : Covers) (leaf : Leaf) (rank : Rank) → HasHolder standing roots homes covers leaf rank ↔ HasAuthority (holding standing roots) homes covers leaf rank }
+    ensures valid { (standing : Standing) (roots : Roots) (homes : Homes) (covers : Covers) → IsSubtrees roots homes covers ↔ IsSubtrees (holding standing roots) homes covers }
+{}
+
+/// Where each frozen region has the leaves that it had, and each leaf that stays its authority, each such leaf has its holder, and is frozen as it was.
+pub fn regions_and_authorities_keep_holders()
+    ensures holders { (standing : Standing) (was now : SubtreesSeen) (homes later_homes : Homes) (covers later_covers : Covers) → AreFrozenRegionsKept standing was now homes later_homes covers later_covers
+        → ((leaf : Leaf) (rank : Rank) → IsLive homes covers leaf → IsLive later_homes later_covers leaf → HasAuthority was.roots homes covers leaf rank → HasAuthority now.roots later_homes later_covers leaf rank)
+        → (leaf : Leaf) (rank : Rank) → IsLive homes covers leaf → IsLive later_homes later_covers leaf → HasHolder standing was.roots homes covers leaf rank → HasHolder standing now.roots later_homes later_covers leaf rank }
+    ensures frozen { (standing : Standing) (was now : SubtreesSeen) (homes later_homes : Homes) (covers later_covers : Covers) → AreFrozenRegionsKept standing was now homes later_homes covers later_covers
+        → (leaf : Leaf) → IsLive homes covers leaf → IsLive later_homes later_covers leaf → IsFrozen standing was.roots homes covers leaf ↔ IsFrozen standing now.roots later_homes later_covers leaf }
+{}
+
+/// Finish changes nothing of who holds which region.
+pub fn finish_keeps_holding()
+    ensures { (old new : Standing) (was now : SubtreesSeen) (root : Leaf) → IsFinish old new was now root → ArePlaced old was → holding new now.roots ≡ holding old was.roots }
+{}
+
+/// A directory's move elsewhere that replaces another one leaves each frozen region as it is.
+pub fn replacements_elsewhere_keep_frozen_regions()
+    ensures { (standing : Standing) (was mid now : SubtreesSeen) (homes later later_homes : Homes) (covers later_covers : Covers) → StandsOver standing was homes covers → IsMoveElsewhere standing was mid homes later covers → IsReplacedElsewhere standing was mid now homes later later_homes covers later_covers → AreFrozenRegionsKept standing was now homes later_homes covers later_covers }
 {}
