@@ -43,6 +43,14 @@ impl<S: Store + Drop> Model for Book<S> {
 }
 
 impl<S: Store + Drop> Book<S> {
+    /// Tells what every book keeps: its history is legal from the tree that it opened with, and what it shows is the tree
+    /// after that.
+    pub fn is_sound(&self)
+        ensures { IsSoundBook self.now }
+    {
+        let _ = &self.history;
+    }
+
     /// The history so far.
     pub fn history(&self) -> &[Entry]
         ensures history { result.now ≡ self.now.history }

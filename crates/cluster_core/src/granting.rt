@@ -48,10 +48,8 @@ pub(crate) fn grant_first<S: Store + Drop>(
         Ok(mine) => mine,
         Err(refusal) => return Err(refusal),
     };
-    match pin_all(&mut waiting.pins, client, tid, &mine) {
-        Ok(()) => Ok(Answer::Nothing),
-        Err(_) => Err(Refusal::NoMemory),
-    }
+    pin_all(&mut waiting.pins, client, tid, &mine)?;
+    Ok(Answer::Nothing)
 }
 
 // Those of some leaves of which a rank is the authority, of which there are some. Refused `NotAuthority` exactly where there is
@@ -66,11 +64,11 @@ fn some_held<S: Store + Drop>(
     ensures some { IfOk result (λ held. 0 < length held.items) }
     ensures refused { IfErr result (FindsNone (tree_state tree.now.tree) tree.now.subtrees.roots rank leaves.now.items) }
 {
-    match held_among(alloc, tree, rank, leaves) {
-        Ok(held) if held.is_empty() => Err(Refusal::NotAuthority),
-        Ok(held) => Ok(held),
-        Err(_) => Err(Refusal::NoMemory),
+    let held = held_among(alloc, tree, rank, leaves)?;
+    if held.is_empty() {
+        return Err(Refusal::NotAuthority);
     }
+    Ok(held)
 }
 
 // Those of some leaves of which a rank is the authority; memory can lack only where there is one.

@@ -20,7 +20,7 @@ pub fn run<S: Store + Drop>(
     ensures ran { MatchResult result (λ results. IsRun book.old events.items results.items book.new) (λ reason. (reason ≡ Refusal.NoMemory) × (book.new ≡ book.old)) }
     ensures sound { IsSoundBook book.new }
 {
-    let _ = book.history();
+    book.is_sound();
     let mut results = Vec::with_capacity(alloc, events.len())?;
     let mut events = events.into_iter();
     while let Some(event) = events.next() {
