@@ -1,5 +1,5 @@
 -- Whether a rank lacks a grant for the leaves of a change, from leaf to leaf.
-use Rattle.std.proofs.Common.{◌≡◌, ◌↔◌, ◌⊎◌, inl, inr, ℕ, ◌+◌, ◌%◌, ◌^◌, ◌<◌, ◌≤◌, Bool, true, false, cond, not, List, [], ◌∷◌, map, Option, Some, None, IfSome, IsTrue, MatchBool, refl, sym, ◌∙◌, subst, arith}
+use Rattle.std.proofs.Common.{◌≡◌, ◌↔◌, ◌⊎◌, inl, inr, ℕ, ◌+◌, ◌%◌, ◌^◌, ◌<◌, ◌≤◌, Bool, true, false, cond, List, [], ◌∷◌, ◌++◌, map, Option, Some, None, IfSome, IsTrue, MatchBool, refl, sym, ◌∙◌, subst, arith}
 use Rattle.std.specs.List.{Contains, list_any}
 use Rattle.std.specs.FinMap as map_of
 use Rattle.std.proofs.lemmas.Bool.{cases_lt}
@@ -17,10 +17,9 @@ use Rattle.inboxes.specs.Pins.{is_pin}
 use Rattle.fragtree.specs.FragTree.{HasLeaf, IsPick, IsTree}
 use Rattle.fragtree.proofs.Ranges.{Contains-from_range, ends_low, range_from_Contains}
 use Rattle.inode_table.specs.Dirs.{Covers}
-use Rattle.namespace_ops.specs.Changes.{Carries, dentry_at, directory_at, in_directory}
-use Rattle.namespace_ops.specs.ChangedFragments.{gone_with}
+use Rattle.namespace_ops.specs.Changes.{Carries, dentry_at, directory_at, directory_gone, in_directory}
 use Rattle.namespace_ops.specs.declared.plans.Change.{Change}
-use Rattle.namespace_ops.specs.declared.plans.Change.TheVariants.{Add, Set, Remove, Move}
+use Rattle.namespace_ops.specs.declared.plans.Spot.{Spot}
 use Rattle.namespace_ops.proofs.Members.{first, first_or_later, later, none_in}
 use Rattle.subtree_map.specs.Authority.{Leaf, Roots}
 use Rattle.subtree_map.proofs.Covers.{contains_start, is_fragment, one_leaf}
@@ -30,8 +29,8 @@ use Rattle.ranked_tree.specs.Subtrees.{HoldsAt}
 use Rattle.cluster_core.specs.Master.{LacksOneOf, MayTouchEach, MayTouchIn, grant_of}
 
 -- the directory that goes with a change stands
-pub gone_stands : (tree : Tree) (covers : Covers) (change : Change) → Carries tree covers change → IfSome (gone_with change) (λ dir. is_directory tree dir.0 ≡ true)
-gone_stands tree covers change carries = go change carries
+pub gone_stands : (tree : Tree) (covers : Covers) (change : Change) → Carries tree covers change → IfSome change.gone (λ dir. is_directory tree dir.0 ≡ true)
+gone_stands tree covers change carries = subst (λ (g : Option Ino). IfSome g (λ dir. is_directory tree dir.0 ≡ true)) (sym carries.gone) (go change.takes change.puts)
   where
     at : (dentry : Dentry) (found : Option Inode) → map_of.get tree dentry ≡ found → IfSome (directory_at found) (λ dir. is_directory tree dir.0 ≡ true)
     at dentry None is = tt
@@ -41,11 +40,32 @@ gone_stands tree covers change carries = go change carries
         kinded true dir = entry_stands tree dentry inode is dir
         kinded false dir = tt
 
-    go : (c : Change) → Carries tree covers c → IfSome (gone_with c) (λ dir. is_directory tree dir.0 ≡ true)
-    go (Add spot inode) h = tt
-    go (Set spot inode) h = tt
-    go (Remove spot went) h = subst (λ (g : Option Ino). IfSome g (λ dir. is_directory tree dir.0 ≡ true)) (sym h.1) (at (dentry_at spot) (map_of.get tree (dentry_at spot)) refl)
-    go (Move from to went) h = subst (λ (g : Option Ino). IfSome g (λ dir. is_directory tree dir.0 ≡ true)) (sym h.2) (at (dentry_at to) (map_of.get tree (dentry_at to)) refl)
+    go : (takes : Option Spot) (puts : Option (Spot × Inode)) → IfSome (directory_gone tree takes puts) (λ dir. is_directory tree dir.0 ≡ true)
+    go None puts = tt
+    go (Some spot) None = at (dentry_at spot) (map_of.get tree (dentry_at spot)) refl
+    go (Some spot) (Some put) = at (dentry_at put.0) (map_of.get tree (dentry_at put.0)) refl
+
+-- a member of one of two lists that follow one another
+in_left : (xs ys : List Leaf) (leaf : Leaf) → Contains xs leaf → Contains (xs ++ ys) leaf
+in_left [] ys leaf has = absurd (none_in leaf has)
+in_left (x ∷ xs) ys leaf has = elim (first_or_later x leaf xs has) [
+  | inl same ↦ subst (λ (l : Leaf). Contains (x ∷ (xs ++ ys)) l) same (first x (xs ++ ys))
+  | inr more ↦ later x leaf (xs ++ ys) (in_left xs ys leaf more)
+]
+
+in_right : (xs ys : List Leaf) (leaf : Leaf) → Contains ys leaf → Contains (xs ++ ys) leaf
+in_right [] ys leaf has = has
+in_right (x ∷ xs) ys leaf has = later x leaf (xs ++ ys) (in_right xs ys leaf has)
+
+in_either : (xs ys : List Leaf) (leaf : Leaf) → Contains (xs ++ ys) leaf → Contains xs leaf ⊎ Contains ys leaf
+in_either [] ys leaf has = inr has
+in_either (x ∷ xs) ys leaf has = elim (first_or_later x leaf (xs ++ ys) has) [
+  | inl same ↦ inl (subst (λ (l : Leaf). Contains (x ∷ xs) l) same (first x xs))
+  | inr more ↦ elim (in_either xs ys leaf more) [
+    | inl here ↦ inl (later x leaf xs here)
+    | inr there ↦ inr there
+  ]
+]
 
 module _ (tree : TreeState) (roots : Roots) (pins : List Pin) (rank : Rank) (client tid : ℕ) where
   -- a rank may change a leaf that it holds,
@@ -60,26 +80,39 @@ module _ (tree : TreeState) (roots : Roots) (pins : List Pin) (rank : Rank) (cli
       go (inl rules) = absurd (other (one_authority roots tree.homes tree.covers (leaf_of at) at.rank rank held rules))
       go (inr pinned) = is ∙ pinned
 
-  -- the first of some leaves decides where it may not be changed, and the others where it may
-  pub first_lacks : (leaf : Leaf) (leaves : List Leaf) → (MayTouchIn tree roots pins rank client tid leaf → ⊥) → LacksOneOf tree roots pins rank client tid (leaf ∷ leaves)
-  first_lacks leaf leaves foreign = record { leaf = leaf; changes = first leaf leaves; foreign = foreign }
+  -- the first of two lists decides where one of its leaves may not be changed, and the other where each may
+  pub lacks_left : (xs ys : List Leaf) → LacksOneOf tree roots pins rank client tid xs → LacksOneOf tree roots pins rank client tid (xs ++ ys)
+  lacks_left xs ys one = record { leaf = one.leaf; changes = in_left xs ys one.leaf one.changes; foreign = one.foreign }
 
-  pub others_decide : (leaf : Leaf) (leaves : List Leaf) (lacks : Bool) → MayTouchIn tree roots pins rank client tid leaf
-      → MatchBool lacks (LacksOneOf tree roots pins rank client tid leaves) (MayTouchEach tree roots pins rank client tid leaves)
-      → MatchBool lacks (LacksOneOf tree roots pins rank client tid (leaf ∷ leaves)) (MayTouchEach tree roots pins rank client tid (leaf ∷ leaves))
-  others_decide leaf leaves true may one = record { leaf = one.leaf; changes = later leaf one.leaf leaves one.changes; foreign = one.foreign }
-  others_decide leaf leaves false may each = λ other has. elim (first_or_later leaf other leaves has) [
-    | inl same ↦ subst (MayTouchIn tree roots pins rank client tid) same may
-    | inr more ↦ each other more
+  pub lacks_right : (xs ys : List Leaf) → LacksOneOf tree roots pins rank client tid ys → LacksOneOf tree roots pins rank client tid (xs ++ ys)
+  lacks_right xs ys one = record { leaf = one.leaf; changes = in_right xs ys one.leaf one.changes; foreign = one.foreign }
+
+  pub others_decide : (xs ys : List Leaf) (lacks : Bool) → MayTouchEach tree roots pins rank client tid xs
+      → MatchBool lacks (LacksOneOf tree roots pins rank client tid ys) (MayTouchEach tree roots pins rank client tid ys)
+      → MatchBool lacks (LacksOneOf tree roots pins rank client tid (xs ++ ys)) (MayTouchEach tree roots pins rank client tid (xs ++ ys))
+  others_decide xs ys true may one = lacks_right xs ys one
+  others_decide xs ys false may each = λ leaf has. elim (in_either xs ys leaf has) [
+    | inl here ↦ may leaf here
+    | inr there ↦ each leaf there
   ]
 
   pub none_lacks : MayTouchEach tree roots pins rank client tid []
   none_lacks leaf has = absurd (none_in leaf has)
 
   pub only_one : (leaf : Leaf) (may : Bool) → (IsTrue may ↔ MayTouchIn tree roots pins rank client tid leaf)
-      → MatchBool (not may) (LacksOneOf tree roots pins rank client tid (leaf ∷ [])) (MayTouchEach tree roots pins rank client tid (leaf ∷ []))
-  only_one leaf true told = others_decide leaf [] false (told.0 refl) none_lacks
-  only_one leaf false told = first_lacks leaf [] (λ may. let clash : false ≡ true = told.1 may in cc)
+      → MatchBool may (MayTouchEach tree roots pins rank client tid (leaf ∷ [])) (LacksOneOf tree roots pins rank client tid (leaf ∷ []))
+  only_one leaf true told = λ other has. elim (first_or_later leaf other [] has) [
+    | inl same ↦ subst (MayTouchIn tree roots pins rank client tid) same (told.0 refl)
+    | inr more ↦ absurd (none_in other more)
+  ]
+  only_one leaf false told = record { leaf = leaf; changes = first leaf []; foreign = λ may. let clash : false ≡ true = told.1 may in cc }
+
+-- what was told of two outcomes
+pub told_no : (P Q : Type 0) (b : Bool) → b ≡ false → MatchBool b P Q → Q
+told_no P Q b is told = subst (λ (x : Bool). MatchBool x P Q) is told
+
+pub told_yes : (P Q : Type 0) (b : Bool) → b ≡ true → MatchBool b P Q → P
+told_yes P Q b is told = subst (λ (x : Bool). MatchBool x P Q) is told
 
 -- what may not be changed, as was told
 pub denied : {P : Type 0} (may : Bool) → (IsTrue may ↔ P) → may ≡ false → P → ⊥

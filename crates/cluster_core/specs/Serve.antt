@@ -20,7 +20,6 @@ use Rattle.inboxes.specs.Pins.{is_for, is_in, left_without}
 use Rattle.inode_table.specs.Numbers.{offer}
 use Rattle.subtree_map.specs.Authority.{Roots}
 use Rattle.sessions.specs.Table.{Table, noted, trimmed}
-use Rattle.namespace_ops.specs.ChangedFragments.{gone_with}
 use Rattle.namespace_ops.specs.Changes.{fragments_in}
 use Rattle.namespace_ops.specs.Kept.{ChangesOnly}
 use Rattle.namespace_ops.specs.Planned.{IsOneOf, after_plan}
@@ -80,7 +79,7 @@ without_gone pins (Some dir) = left_without (is_in dir) pins
 -- the directory that went with a planned change, if one did
 abbrev pub went_with : Option Change → Option Ino
 went_with None = None
-went_with (Some change) = gone_with change
+went_with (Some change) = change.gone
 
 -- the request has left the rank's inbox, with its grants, and nothing else happened
 pub record IsTakenOut (old new : State) (past now : List Entry) (rank : Rank) (request : Request) (rest : List Request) : Type 0 where

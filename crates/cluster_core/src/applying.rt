@@ -28,7 +28,7 @@ use inode_table::Numbers;
 use mds_types::{Entry, Ino, Rank, Refusal, Reply, Request};
 use namespace_ops::{Change, Checked, Frags, Plan, plan_checked};
 use objstore::Store;
-use ranked_tree::{RankedTree, went_with};
+use ranked_tree::RankedTree;
 use sessions::Sessions;
 use std::alloc::{AllocError, Global};
 
@@ -216,7 +216,7 @@ fn carry_out<S: Store + Drop>(tree: &mut RankedTree<S>, pins: &mut Pins, change:
     let _ = tree.store();
     match change {
         Some(change) => {
-            forget_gone(pins, went_with(&change));
+            forget_gone(pins, change.gone);
             tree.apply(change);
         }
         None => {}

@@ -5,8 +5,7 @@ ghost use Rattle.mds_types.specs.Leaf.{leaf_of};
 ghost use Rattle.mds_types.specs.Tree.{is_directory};
 ghost use Rattle.inboxes.specs.Pins.{is_pin};
 ghost use Rattle.subtree_map.specs.Authority.{Roots};
-ghost use Rattle.namespace_ops.specs.Changes.{AreHeld, fragments_of, leaves, leaves_gone};
-ghost use Rattle.namespace_ops.specs.ChangedFragments.{gone_with};
+ghost use Rattle.namespace_ops.specs.Changes.{LieHeld, fragments_of, leaf_put, leaf_taken, leaves, leaves_gone};
 ghost use Rattle.mdcache.specs.Core.{state_of as tree_state};
 ghost use Rattle.mdcache.specs.Shown.{shown_tree};
 ghost use Rattle.mdcache.specs.State.{State as TreeState};
@@ -46,31 +45,42 @@ fn lacks_one<S: Store + Drop>(
     request: &Request,
     change: &Change,
 ) -> bool
-    requires held { AreHeld (HoldsAt (tree_state tree.now.tree) tree.now.subtrees.roots) change.now }
-    requires gone { IfSome (gone_with change.now) (λ dir. is_directory (shown_tree (tree_state tree.now.tree)) dir.0 ≡ true) }
+    requires held { LieHeld (HoldsAt (tree_state tree.now.tree) tree.now.subtrees.roots) change.now }
+    requires gone { IfSome change.now.gone (λ dir. is_directory (shown_tree (tree_state tree.now.tree)) dir.0 ≡ true) }
     ensures { MatchBool result
         (LacksOneOf (tree_state tree.now.tree) tree.now.subtrees.roots pins.now rank request.now.client request.now.tid (fragments_of tree.now.tree.covers change.now))
         (MayTouchEach (tree_state tree.now.tree) tree.now.subtrees.roots pins.now rank request.now.client request.now.tid (fragments_of tree.now.tree.covers change.now)) }
 {
-    match change {
-        Change::Add { spot, .. } | Change::Set { spot, .. } => {
-            !may_touch(pins, rank, request, &spot.at)
-        }
-        Change::Remove { spot, gone } => {
-            if !may_touch(pins, rank, request, &spot.at) {
-                return true;
-            }
-            lacks_gone(tree, pins, rank, request, *gone)
-        }
-        Change::Move { from, to, gone } => {
-            if !may_touch(pins, rank, request, &from.at) {
-                return true;
-            }
-            if !may_touch(pins, rank, request, &to.at) {
-                return true;
-            }
-            lacks_gone(tree, pins, rank, request, *gone)
-        }
+    if !may_take(pins, rank, request, change) {
+        return true;
+    }
+    if !may_put(pins, rank, request, change) {
+        return true;
+    }
+    lacks_gone(tree, pins, rank, request, change.gone)
+}
+
+// Whether the leaf of the name that loses its inode, if one does, may be changed.
+fn may_take(pins: &Pins, rank: Rank, request: &Request, change: &Change) -> bool
+    ensures { (tree : TreeState) (roots : Roots) → LieHeld (HoldsAt tree roots) change.now → MatchBool result
+        (MayTouchEach tree roots pins.now rank request.now.client request.now.tid (leaf_taken change.now.takes))
+        (LacksOneOf tree roots pins.now rank request.now.client request.now.tid (leaf_taken change.now.takes)) }
+{
+    match &change.takes {
+        Some(spot) => may_touch(pins, rank, request, &spot.at),
+        None => true,
+    }
+}
+
+// Whether that of the name that gets an inode may be.
+fn may_put(pins: &Pins, rank: Rank, request: &Request, change: &Change) -> bool
+    ensures { (tree : TreeState) (roots : Roots) → LieHeld (HoldsAt tree roots) change.now → MatchBool result
+        (MayTouchEach tree roots pins.now rank request.now.client request.now.tid (leaf_put change.now.puts))
+        (LacksOneOf tree roots pins.now rank request.now.client request.now.tid (leaf_put change.now.puts)) }
+{
+    match &change.puts {
+        Some(put) => may_touch(pins, rank, request, &put.0.at),
+        None => true,
     }
 }
 

@@ -8,7 +8,6 @@ use Rattle.mds_types.specs.Leaf.{leaf_of as leaf_at}
 use Rattle.mds_types.specs.declared.dirfrags.Dirfrag.{Dirfrag}
 use Rattle.mds_types.specs.declared.ids.Rank.{Rank}
 use Rattle.mds_types.specs.declared.refusals.Refusal.{Refusal}
-use Rattle.mds_types.specs.declared.refusals.Refusal.TheVariants.{NoInodes, NoMemory}
 use Rattle.objstore.specs.Objects.{MayRefuse}
 use Rattle.cached_frag.specs.declared.jobs.Job.{Job}
 use Rattle.dentry_cache.specs.Cache.{IsThere, Leaf, Unsaved}
@@ -16,9 +15,9 @@ use Rattle.dentry_cache.specs.CacheMap.{At, CacheMap, IsFree, at_rank, unclean, 
 use Rattle.dentry_cache.specs.Came.{Came, IsThat, NoneEnds}
 use Rattle.dentry_cache.proofs.FrameLaws.{came_held, came_ranks, came_weaker}
 use Rattle.dentry_cache.proofs.UncleanLaws.{get_unclean}
-use Rattle.mdcache.specs.Batches.{AreApart, IsBegunAt, IsUncleanAt, LacksNumberFor, MayNotBeginAll, MayNotBeginOne, MayNotCommit, NotAmong, IsReadyAt, leaves_at, leaves_of_jobs, leaves_of_writes, ready_of}
+use Rattle.mdcache.specs.Batches.{AreApart, IsBegunAt, IsUncleanAt, MayNotBeginAll, MayNotBeginOne, MayNotCommit, NotAmong, IsReadyAt, leaves_at, leaves_of_jobs, leaves_of_writes, ready_of}
 use Rattle.mdcache.specs.Commits.{Begins, BeginsWith, Ends, IsEnded, MayNotBegin, leaf_of, with_job}
-use Rattle.mdcache.specs.Core.{Core, IsSoundCore, state_of}
+use Rattle.mdcache.specs.Core.{Core, state_of}
 use Rattle.mdcache.specs.Flushed.{HasFragment, IsAtHand, KeepsTree}
 use Rattle.mdcache.specs.Ranks.{MayHold}
 use Rattle.mdcache.specs.Shown.{shown_tree}

@@ -21,11 +21,13 @@ use Rattle.inode_table.proofs.TableLaws.{added_tabled, dir_or_not, known_is, lea
 use Rattle.inode_table.proofs.MoveLaws.{may_relocate, may_replace, moved_tabled, replaced_empty}
 use Rattle.fragtree.specs.FragTree.{HasLeaf}
 use Rattle.fragtree.proofs.TreeLaws.{first_or_later}
-use Rattle.namespace_ops.specs.Changes.{IsLeafAt, MayChange, dentry_at, directory_at, fragments_of, in_directory, leaves, leaves_gone, moved}
+use Rattle.namespace_ops.specs.Changes.{IsLeafAt, MayChange, adds, dentry_at, directory_at, fragments_of, in_directory, leaves, leaves_gone, moves, removes, sets}
 use Rattle.namespace_ops.specs.declared.plans.Spot.{Spot}
-use Rattle.namespace_ops.specs.declared.plans.Change.TheVariants.{Add, Set, Remove, Move}
+use Rattle.namespace_ops.specs.declared.plans.Change.{Change}
 use Rattle.mdcache.specs.Changes.{IsNamed, Makes, with_directory, with_home_at, without, without_directory}
-use Rattle.mdcache.specs.Made.{ChangesAreRight, IsRight, StaysAsItIs}
+use Rattle.namespace_ops.proofs.Shapes.{Shape, shape_of}
+use Rattle.namespace_ops.proofs.Shapes.Shape.{add, move, remove, set}
+use Rattle.mdcache.specs.Made.{ChangesAreRight, HasNumber, IsRight, StaysAsItIs}
 use Rattle.mdcache.specs.Shown.{shown_tree}
 use Rattle.mdcache.specs.Sound.{IsSound}
 use Rattle.mdcache.specs.State.{IsLive, State}
@@ -86,24 +88,24 @@ tabled_as old new homes now tree same tabled = subst (λ (h : Homes). IsTabled n
 
 -- ---- other attributes
 
-set_right : (spot : Spot) (inode : Inode) (old new : State) → IsSound old → MayChange (shown_tree old) old.covers (Set spot inode) → Makes (Set spot inode) old new → IsRight (Set spot inode) old new
+set_right : (spot : Spot) (inode : Inode) (old new : State) → IsSound old → MayChange (shown_tree old) old.covers (sets spot inode) → Makes (sets spot inode) old new → IsRight (sets spot inode) old new
 set_right spot inode old new sound may makes =
-    let so = named_so old new (dentry_at spot) spot.at.frag (Some inode) (sound_leaves old sound) (entry_known old (dentry_at spot) may.takes.before sound may.takes.stands) may.carries makes in
-    record {
-      sound = sound_again new so.leaves (tabled_as (map.insert (shown_tree old) (dentry_at spot) inode) (shown_tree new) old.homes new.homes so.tree so.homes (set_tabled (shown_tree old) old.homes (dentry_at spot) inode sound.tabled may.takes));
+    let so = named_so old makes.0 (dentry_at spot) spot.at.frag (Some inode) (sound_leaves old sound) (entry_known old (dentry_at spot) may.takes.before sound may.takes.stands) may.carries.put makes.1 in
+    subst (IsRight (sets spot inode) old) (sym makes.2) (record {
+      sound = sound_again makes.0 so.leaves (tabled_as (map.insert (shown_tree old) (dentry_at spot) inode) (shown_tree makes.0) old.homes makes.0.homes so.tree so.homes (set_tabled (shown_tree old) old.homes (dentry_at spot) inode sound.tabled may.takes));
       tree = so.tree;
       leaves = λ d is. ap (λ (c : Covers). leaves_of c d) so.covers;
       frame = λ leaf none live. so.stays leaf (not_first leaf (leaf_of spot.at) [] none) live;
-    }
+    })
 
 -- ---- a new inode
 
-module _ (spot : Spot) (inode : Inode) (old named : State) (sound : IsSound old) (fits : inode.ino.0 < 2 ^ 64) (may : MayChange (shown_tree old) old.covers (Add spot inode))
+module _ (spot : Spot) (inode : Inode) (old named : State) (sound : IsSound old) (fits : inode.ino.0 < 2 ^ 64) (may : MayChange (shown_tree old) old.covers (adds spot inode))
     (so : IsNamedSo old named (dentry_at spot) spot.at.frag (Some inode)) where
   grown_tabled : IsTabled (map.insert (shown_tree old) (dentry_at spot) inode) (with_home old.homes (dentry_at spot) inode)
   grown_tabled = added_tabled (shown_tree old) old.homes (dentry_at spot) inode sound.tabled may.takes
 
-  added_file : is_dir_kind inode.kind ≡ false → IsRight (Add spot inode) old named
+  added_file : is_dir_kind inode.kind ≡ false → IsRight (adds spot inode) old named
   added_file kinded = record {
     sound = sound_again named so.leaves (tabled_as (map.insert (shown_tree old) (dentry_at spot) inode) (shown_tree named) (with_home old.homes (dentry_at spot) inode) named.homes so.tree (so.homes ∙ sym (with_file old.homes (dentry_at spot) inode kinded)) grown_tabled);
     tree = so.tree;
@@ -111,7 +113,7 @@ module _ (spot : Spot) (inode : Inode) (old named : State) (sound : IsSound old)
     frame = λ leaf none live. so.stays leaf (not_first leaf (leaf_of spot.at) [] none) live;
   }
 
-  added_dir : is_dir_kind inode.kind ≡ true → IsRight (Add spot inode) old (with_directory named (dentry_at spot) inode.ino)
+  added_dir : is_dir_kind inode.kind ≡ true → IsRight (adds spot inode) old (with_directory named (dentry_at spot) inode.ino)
   added_dir kinded = record {
     sound = sound_again grown (grown_leaves named so.leaves (dentry_at spot) inode.ino come fits) (tabled_as (map.insert (shown_tree old) (dentry_at spot) inode) (shown_tree grown) (with_home old.homes (dentry_at spot) inode) grown.homes tree homes grown_tabled);
     tree = tree;
@@ -133,19 +135,19 @@ module _ (spot : Spot) (inode : Inode) (old named : State) (sound : IsSound old)
       homes : grown.homes ≡ with_home old.homes (dentry_at spot) inode
       homes = ap (λ (h : Homes). map.insert h inode.ino.0 (home_at (dentry_at spot))) so.homes ∙ sym (with_dir old.homes (dentry_at spot) inode kinded)
 
-add_right : (spot : Spot) (inode : Inode) (old new : State) → IsSound old → inode.ino.0 < 2 ^ 64 → MayChange (shown_tree old) old.covers (Add spot inode) → Makes (Add spot inode) old new
-    → IsRight (Add spot inode) old new
+add_right : (spot : Spot) (inode : Inode) (old new : State) → IsSound old → inode.ino.0 < 2 ^ 64 → MayChange (shown_tree old) old.covers (adds spot inode) → Makes (adds spot inode) old new
+    → IsRight (adds spot inode) old new
 add_right spot inode old new sound fits may makes = go (dir_or_not inode)
   where
     so : IsNamedSo old makes.0 (dentry_at spot) spot.at.frag (Some inode)
-    so = named_so old makes.0 (dentry_at spot) spot.at.frag (Some inode) (sound_leaves old sound) (dir_known old (dentry_at spot) sound may.takes.parent) may.carries makes.1
+    so = named_so old makes.0 (dentry_at spot) spot.at.frag (Some inode) (sound_leaves old sound) (dir_known old (dentry_at spot) sound may.takes.parent) may.carries.put makes.1
 
     is_with : (b : Bool) → is_dir_kind inode.kind ≡ b → new ≡ cond b (with_directory makes.0 (dentry_at spot) inode.ino) makes.0
     is_with b is = makes.2 ∙ ap (λ (c : Bool). cond c (with_directory makes.0 (dentry_at spot) inode.ino) makes.0) is
 
-    go : (is_dir_kind inode.kind ≡ true) ⊎ (is_dir_kind inode.kind ≡ false) → IsRight (Add spot inode) old new
-    go (inl kinded) = subst (IsRight (Add spot inode) old) (sym (is_with true kinded)) (added_dir spot inode old makes.0 sound fits may so kinded)
-    go (inr kinded) = subst (IsRight (Add spot inode) old) (sym (is_with false kinded)) (added_file spot inode old makes.0 sound fits may so kinded)
+    go : (is_dir_kind inode.kind ≡ true) ⊎ (is_dir_kind inode.kind ≡ false) → IsRight (adds spot inode) old new
+    go (inl kinded) = subst (IsRight (adds spot inode) old) (sym (is_with true kinded)) (added_dir spot inode old makes.0 sound fits may so kinded)
+    go (inr kinded) = subst (IsRight (adds spot inode) old) (sym (is_with false kinded)) (added_file spot inode old makes.0 sound fits may so kinded)
 
 -- ---- what goes
 
@@ -218,7 +220,7 @@ stands_known s dentry inode sound stands kinded = known_is (shown_tree s) s.home
 removed_empty : (tree : Tree) (dentry : Dentry) → IsWellFormed tree → (may : MayRemove tree dentry) → NothingIn (map.remove tree dentry) may.inode.ino.0
 removed_empty tree dentry whole may q x stands same = nothing_in tree dentry may.inode whole may.stands may.empty q x (stands_after_removal tree dentry q x stands).1 same
 
-remove_right : (spot : Spot) (gone : Option Ino) (old new : State) → IsSound old → MayChange (shown_tree old) old.covers (Remove spot gone) → Makes (Remove spot gone) old new → IsRight (Remove spot gone) old new
+remove_right : (spot : Spot) (gone : Option Ino) (old new : State) → IsSound old → MayChange (shown_tree old) old.covers (removes spot gone) → Makes (removes spot gone) old new → IsRight (removes spot gone) old new
 remove_right spot gone old new sound may makes = record {
   sound = sound_again new its.leaves (tabled_as (map.remove (shown_tree old) (dentry_at spot)) (shown_tree new) (without_home old.homes found) new.homes tree homes tabled);
   tree = tree;
@@ -236,10 +238,10 @@ remove_right spot gone old new sound may makes = record {
     found = map.get (shown_tree old) (dentry_at spot)
 
     so : IsNamedSo old named (dentry_at spot) spot.at.frag None
-    so = named_so old named (dentry_at spot) spot.at.frag None (sound_leaves old sound) (entry_known old (dentry_at spot) may.takes.inode sound may.takes.stands) may.carries.0 makes.1
+    so = named_so old named (dentry_at spot) spot.at.frag None (sound_leaves old sound) (entry_known old (dentry_at spot) may.takes.inode sound may.takes.stands) may.carries.taken makes.1
 
     is : new ≡ without named (directory_at found)
-    is = makes.2 ∙ ap (without named) may.carries.1
+    is = makes.2 ∙ ap (without named) may.carries.gone
 
     may_leave : (inode : Inode) → found ≡ Some inode → is_dir_kind inode.kind ≡ true → MayGo named.homes inode.ino.0 × (is_known named.homes inode.ino.0 ≡ true) × NothingIn (shown_tree named) inode.ino.0
     may_leave inode there kinded =
@@ -251,7 +253,7 @@ remove_right spot gone old new sound may makes = record {
         )
 
     its : IsLeftSo named new gone
-    its = subst (λ (g : Option Ino). IsLeftSo named new g) (sym may.carries.1) (subst (λ (t : State). IsLeftSo named t (directory_at found)) (sym is) (left_so named found so.leaves may_leave))
+    its = subst (λ (g : Option Ino). IsLeftSo named new g) (sym may.carries.gone) (subst (λ (t : State). IsLeftSo named t (directory_at found)) (sym is) (left_so named found so.leaves may_leave))
 
     tree : shown_tree new ≡ map.remove (shown_tree old) (dentry_at spot)
     tree = its.tree ∙ so.tree
@@ -267,40 +269,30 @@ remove_right spot gone old new sound may makes = record {
 
 -- ---- a move
 
--- the entry that stands there is the one that moves
-pub moving : (tree : Tree) (from to : Dentry) (inode : Inode) → map.get tree from ≡ Some inode → (i : Inode) × IsMove tree from to i → IsMove tree from to inode
-moving tree from to inode stands may =
-    let inodes : Some may.0 ≡ Some inode = sym may.1.stands ∙ stands in
-    let alike : may.0 ≡ inode = cc in
-    subst (λ (i : Inode). IsMove tree from to i) alike may.1
-
-module _ (source target : Spot) (gone : Option Ino) (old new : State) (sound : IsSound old) (may : MayChange (shown_tree old) old.covers (Move source target gone))
-    (makes : Makes (Move source target gone) old new) where
-  abbrev inode : Inode
-  inode = makes.0
-
+module _ (source target : Spot) (inode : Inode) (gone : Option Ino) (old new : State) (sound : IsSound old) (may : MayChange (shown_tree old) old.covers (moves source target inode gone))
+    (makes : Makes (moves source target inode gone) old new) where
   abbrev out : State
-  out = makes.2
+  out = makes.0
 
   abbrev in_place : State
-  in_place = makes.4
+  in_place = makes.2.0
 
-  abbrev housed : State
-  housed = with_home_at in_place (dentry_at target) inode
+  abbrev there : State
+  there = with_home_at in_place (dentry_at target) inode
 
   abbrev found : Option Inode
   found = map.get (shown_tree old) (dentry_at target)
 
-  move : IsMove (shown_tree old) (dentry_at source) (dentry_at target) inode
-  move = moving (shown_tree old) (dentry_at source) (dentry_at target) inode makes.1 may.takes
+  moved_so : IsMove (shown_tree old) (dentry_at source) (dentry_at target) inode
+  moved_so = may.takes
 
   first : IsNamedSo old out (dentry_at source) source.at.frag None
-  first = named_so old out (dentry_at source) source.at.frag None (sound_leaves old sound) (entry_known old (dentry_at source) inode sound makes.1) may.carries.0 makes.3
+  first = named_so old out (dentry_at source) source.at.frag None (sound_leaves old sound) (entry_known old (dentry_at source) inode sound moved_so.stands) may.carries.taken makes.1
 
   second : IsNamedSo out in_place (dentry_at target) target.at.frag (Some inode)
   second =
-      named_so out in_place (dentry_at target) target.at.frag (Some inode) first.leaves (ap (λ (h : Homes). is_known h (dentry_at target).dir.0) first.homes ∙ dir_known old (dentry_at target) sound move.parent)
-      (subst (λ (c : Covers). IsLeafAt c (dentry_at target) target.at.frag) (sym first.covers) may.carries.1) makes.5
+      named_so out in_place (dentry_at target) target.at.frag (Some inode) first.leaves (ap (λ (h : Homes). is_known h (dentry_at target).dir.0) first.homes ∙ dir_known old (dentry_at target) sound moved_so.parent)
+      (subst (λ (c : Covers). IsLeafAt c (dentry_at target) target.at.frag) (sym first.covers) may.carries.put) makes.2.1
 
   same_homes : in_place.homes ≡ old.homes
   same_homes = second.homes ∙ first.homes
@@ -312,50 +304,50 @@ module _ (source target : Spot) (gone : Option Ino) (old new : State) (sound : I
   named_tree_is = second.tree ∙ ap (λ (t : Tree). map.insert t (dentry_at target) inode) first.tree
 
   relocates : is_dir_kind inode.kind ≡ true → MayRelocate in_place.homes inode.ino.0 (home_at (dentry_at target))
-  relocates kinded = subst (λ (h : Homes). MayRelocate h inode.ino.0 (home_at (dentry_at target))) (sym same_homes) (may_relocate (shown_tree old) old.homes (dentry_at source) (dentry_at target) inode sound.tabled move kinded)
+  relocates kinded = subst (λ (h : Homes). MayRelocate h inode.ino.0 (home_at (dentry_at target))) (sym same_homes) (may_relocate (shown_tree old) old.homes (dentry_at source) (dentry_at target) inode sound.tabled moved_so kinded)
 
-  known_still : (d : ℕ) → is_known housed.homes d ≡ is_known in_place.homes d
+  known_still : (d : ℕ) → is_known there.homes d ≡ is_known in_place.homes d
   known_still = moved_known in_place.homes in_place.covers second.leaves.table (dentry_at target) inode relocates
 
-  table_still : IsTable housed.homes in_place.covers
+  table_still : IsTable there.homes in_place.covers
   table_still = moved_home in_place.homes in_place.covers second.leaves.table (dentry_at target) inode relocates
 
-  housed_leaves : HasSoundLeaves housed
-  housed_leaves = rehomed_leaves in_place housed.homes second.leaves table_still known_still
+  housed_leaves : HasSoundLeaves there
+  housed_leaves = rehomed_leaves in_place there.homes second.leaves table_still known_still
 
-  housed_tree : shown_tree housed ≡ with_moved (shown_tree old) (dentry_at source) (dentry_at target) inode
-  housed_tree = rehomed_tree in_place housed.homes second.leaves table_still known_still ∙ named_tree_is
+  housed_tree : shown_tree there ≡ with_moved (shown_tree old) (dentry_at source) (dentry_at target) inode
+  housed_tree = rehomed_tree in_place there.homes second.leaves table_still known_still ∙ named_tree_is
 
-  housed_homes : housed.homes ≡ with_home old.homes (dentry_at target) inode
+  housed_homes : there.homes ≡ with_home old.homes (dentry_at target) inode
   housed_homes = ap (λ (h : Homes). with_home h (dentry_at target) inode) same_homes
 
-  is : new ≡ without housed (directory_at found)
-  is = makes.6 ∙ ap (without housed) may.carries.2
+  is : new ≡ without there (directory_at found)
+  is = makes.2.2 ∙ ap (without there) may.carries.gone
 
-  may_leave : (i : Inode) → found ≡ Some i → is_dir_kind i.kind ≡ true → MayGo housed.homes i.ino.0 × (is_known housed.homes i.ino.0 ≡ true) × NothingIn (shown_tree housed) i.ino.0
-  may_leave i there kinded = (
-    subst (λ (h : Homes). MayGo h i.ino.0) (sym housed_homes) (may_replace (shown_tree old) old.homes (dentry_at source) (dentry_at target) inode sound.tabled move i there),
-    known_still i.ino.0 ∙ ap (λ (h : Homes). is_known h i.ino.0) same_homes ∙ stands_known old (dentry_at target) i sound there kinded,
-    subst (λ (t : Tree). NothingIn t i.ino.0) (sym housed_tree) (replaced_empty (shown_tree old) (dentry_at source) (dentry_at target) inode sound.tabled.whole move i there),
+  may_leave : (i : Inode) → found ≡ Some i → is_dir_kind i.kind ≡ true → MayGo there.homes i.ino.0 × (is_known there.homes i.ino.0 ≡ true) × NothingIn (shown_tree there) i.ino.0
+  may_leave i stood kinded = (
+    subst (λ (h : Homes). MayGo h i.ino.0) (sym housed_homes) (may_replace (shown_tree old) old.homes (dentry_at source) (dentry_at target) inode sound.tabled moved_so i stood),
+    known_still i.ino.0 ∙ ap (λ (h : Homes). is_known h i.ino.0) same_homes ∙ stands_known old (dentry_at target) i sound stood kinded,
+    subst (λ (t : Tree). NothingIn t i.ino.0) (sym housed_tree) (replaced_empty (shown_tree old) (dentry_at source) (dentry_at target) inode sound.tabled.whole moved_so i stood),
   )
 
-  its : IsLeftSo housed new gone
-  its = subst (λ (g : Option Ino). IsLeftSo housed new g) (sym may.carries.2) (subst (λ (t : State). IsLeftSo housed t (directory_at found)) (sym is) (left_so housed found housed_leaves may_leave))
+  its : IsLeftSo there new gone
+  its = subst (λ (g : Option Ino). IsLeftSo there new g) (sym may.carries.gone) (subst (λ (t : State). IsLeftSo there t (directory_at found)) (sym is) (left_so there found housed_leaves may_leave))
 
   tree_is : shown_tree new ≡ with_moved (shown_tree old) (dentry_at source) (dentry_at target) inode
   tree_is = its.tree ∙ housed_tree
 
   homes_are : new.homes ≡ without_home (with_home old.homes (dentry_at target) inode) found
-  homes_are = ap (λ (t : State). t.homes) is ∙ homes_without housed found ∙ ap (λ (h : Homes). without_home h found) housed_homes
+  homes_are = ap (λ (t : State). t.homes) is ∙ homes_without there found ∙ ap (λ (h : Homes). without_home h found) housed_homes
 
   covers_are : new.covers ≡ without_cover old.covers found
-  covers_are = ap (λ (t : State). t.covers) is ∙ covers_without housed found ∙ ap (λ (c : Covers). without_cover c found) same_covers
+  covers_are = ap (λ (t : State). t.covers) is ∙ covers_without there found ∙ ap (λ (c : Covers). without_cover c found) same_covers
 
   tabled_now : IsTabled (shown_tree new) new.homes
-  tabled_now = tabled_as (with_moved (shown_tree old) (dentry_at source) (dentry_at target) inode) (shown_tree new) (without_home (with_home old.homes (dentry_at target) inode) found) new.homes tree_is homes_are (moved_tabled (shown_tree old) old.homes (dentry_at source) (dentry_at target) inode sound.tabled move)
+  tabled_now = tabled_as (with_moved (shown_tree old) (dentry_at source) (dentry_at target) inode) (shown_tree new) (without_home (with_home old.homes (dentry_at target) inode) found) new.homes tree_is homes_are (moved_tabled (shown_tree old) old.homes (dentry_at source) (dentry_at target) inode sound.tabled moved_so)
 
-  untouched : (leaf : Leaf) → (Contains (fragments_of old.covers (Move source target gone)) leaf → ⊥) → IsLive old.homes old.covers leaf → StaysAsItIs old new leaf
-  untouched leaf none live = stays_on old in_place new leaf at_second (stays_on in_place housed new leaf at_third (its.stays leaf others at_third.live))
+  untouched : (leaf : Leaf) → (Contains (fragments_of old.covers (moves source target inode gone)) leaf → ⊥) → IsLive old.homes old.covers leaf → StaysAsItIs old new leaf
+  untouched leaf none live = stays_on old in_place new leaf at_second (stays_on in_place there new leaf at_third (its.stays leaf others at_third.live))
     where
       rest : List Leaf
       rest = leaves_gone old.covers gone
@@ -369,24 +361,27 @@ module _ (source target : Spot) (gone : Option Ino) (old new : State) (sound : I
       at_second : StaysAsItIs old in_place leaf
       at_second = stays_on old out in_place leaf at_first (second.stays leaf (not_first leaf (leaf_of target.at) rest not_from) at_first.live)
 
-      at_third : StaysAsItIs in_place housed leaf
-      at_third = record { live = rehomed_live in_place housed.homes second.leaves table_still known_still leaf at_second.live; names = refl }
+      at_third : StaysAsItIs in_place there leaf
+      at_third = record { live = rehomed_live in_place there.homes second.leaves table_still known_still leaf at_second.live; names = refl }
 
-      others : Contains (leaves_gone housed.covers gone) leaf → ⊥
+      others : Contains (leaves_gone there.covers gone) leaf → ⊥
       others has = not_later leaf (leaf_of target.at) rest not_from (subst (λ (c : Covers). Contains (leaves_gone c gone) leaf) same_covers has)
 
-  move_right : IsRight (Move source target gone) old new
+  move_right : IsRight (moves source target inode gone) old new
   move_right = record {
     sound = sound_again new its.leaves tabled_now;
-    tree = tree_is ∙ sym (ap (moved (shown_tree old) (dentry_at source) (dentry_at target)) makes.1);
+    tree = tree_is;
     leaves = leaves_kept (shown_tree old) (shown_tree new) new.homes (with_home old.homes (dentry_at target) inode) old.covers new.covers (dentry_at target) found tabled_now sound.tabled.whole refl homes_are covers_are;
     frame = untouched;
   }
 
 -- ---- every change
 
+right_by : (change : Change) → Shape change → (old new : State) → IsSound old → HasNumber change → MayChange (shown_tree old) old.covers change → Makes change old new → IsRight change old new
+right_by _ (add spot inode) old new sound fits may makes = add_right spot inode old new sound (fits refl) may makes
+right_by _ (set spot inode) old new sound fits may makes = set_right spot inode old new sound may makes
+right_by _ (remove spot gone) old new sound fits may makes = remove_right spot gone old new sound may makes
+right_by _ (move from to inode gone) old new sound fits may makes = move_right from to inode gone old new sound may makes
+
 pub changes_are_right : ChangesAreRight
-changes_are_right (Add spot inode) old new sound fits may makes = add_right spot inode old new sound fits may makes
-changes_are_right (Set spot inode) old new sound fits may makes = set_right spot inode old new sound may makes
-changes_are_right (Remove spot gone) old new sound fits may makes = remove_right spot gone old new sound may makes
-changes_are_right (Move from to gone) old new sound fits may makes = move_right from to gone old new sound may makes
+changes_are_right change old new sound fits may makes = right_by change (shape_of (shown_tree old) old.covers change may) old new sound fits may makes

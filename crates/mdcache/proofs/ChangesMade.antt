@@ -2,14 +2,13 @@
 use Rattle.std.proofs.Common.{◌≡◌, ◌<◌, ◌^◌, ℕ, Bool, true, false, cond, length, Option, Some, None, inl, inr, refl, sym, ap, subst, ◌∙◌, arith}
 use Rattle.std.specs.Prelude.{IfSome, List, string_bytes, ◌≤◌}
 use Rattle.std.specs.FinMap as map
-use Rattle.mds_types.specs.Frag.{Fragment, root_fragment}
+use Rattle.mds_types.specs.Frag.{root_fragment}
 use Rattle.mds_types.specs.Tree.{is_dir_kind}
 use Rattle.mds_types.specs.declared.dentries.Dentry.{Dentry}
 use Rattle.mds_types.specs.declared.ids.Ino.{Ino}
 use Rattle.mds_types.specs.declared.inodes.Inode.{Inode}
 use Rattle.mds_types.specs.Step.{IsMove}
 use Rattle.mds_types.specs.Leaf.{leaf_of}
-use Rattle.dirfrag_codec.specs.EntryRecord.{IsRecordable}
 use Rattle.cached_frag.specs.Cached.{Cached}
 use Rattle.dentry_cache.specs.Cache.{HasCached, HasRoom, IsThere, Leaf}
 use Rattle.dentry_cache.specs.CacheCalls.{KeepsNone}
@@ -21,13 +20,12 @@ use Rattle.inode_table.specs.Dirs.{MayCome, MayGo, MayMove}
 use Rattle.inode_table.specs.TreeTable.{home_at, with_home}
 use Rattle.inode_table.proofs.MoveLaws.{may_relocate, may_replace}
 use Rattle.inode_table.proofs.TableLaws.{may_come, may_drop}
-use Rattle.namespace_ops.specs.Changes.{MayChange, dentry_at, directory_at}
+use Rattle.namespace_ops.specs.Changes.{MayChange, adds, dentry_at, directory_at, moves, removes, sets}
 use Rattle.namespace_ops.specs.declared.plans.Spot.{Spot}
 use Rattle.namespace_ops.specs.declared.plans.Change.{Change}
-use Rattle.namespace_ops.specs.declared.plans.Change.TheVariants.{Add, Move, Remove, Set}
 use Rattle.mdcache.specs.Changes.{IsNamed, Makes, first_leaf, with_directory, with_new}
 use Rattle.mdcache.specs.Core.{Core, IsSoundCore, Rooms, made_frag, moved, named, shown_in, state_of, with_dir, without_dir}
-use Rattle.mdcache.specs.Frags.{IsForDirectory, IsForRemoval, IsMovingIn, IsReady}
+use Rattle.mdcache.specs.Frags.{IsForDirectory, IsForMove, IsForRemoval, IsReady}
 use Rattle.mdcache.specs.Going.{IsGoingOrNone, count_going, dir_going, leaves_going, texts_going}
 use Rattle.mdcache.specs.Made.{HasNumber, IsRight}
 use Rattle.mdcache.specs.Ranks.{EndsWith, IsNamedIn, KeepsOnlyAt}
@@ -37,7 +35,7 @@ use Rattle.mdcache.specs.declared.prepared.MovingEntry.{MovingEntry}
 use Rattle.mdcache.specs.declared.prepared.NewDirectory.{NewDirectory}
 use Rattle.mdcache.specs.declared.prepared.Prepared.{Prepared}
 use Rattle.mdcache.specs.declared.prepared.Prepared.TheVariants.{Directory, Move as Moving, Removal}
-use Rattle.mdcache.proofs.ChangeLaws.{changes_are_right, moving}
+use Rattle.mdcache.proofs.ChangeLaws.{changes_are_right}
 use Rattle.mdcache.proofs.ChangeSteps.{HasMade, cached_there, is_gone, is_named, kept_named, left, made_beside, made_dir, made_first, made_gone, made_home, made_named, roomy_there, sound_made, there_left}
 use Rattle.mdcache.proofs.HomeLaws.{first_live, grown_live, moved_known}
 use Rattle.mdcache.proofs.NamedLaws.{sound_leaves}
@@ -61,6 +59,10 @@ changed change old new sound number may made has begun =
       sound = sound_made (IsNamedIn change) (EndsWith change) old new has right.sound begun;
     }
 
+-- nothing comes
+not_new : {P : Type 0} → false ≡ true → P
+not_new clash = cc
+
 -- what a directory was made ready with
 pub for_directory : (dentry : Dentry) (dir : Ino) (prepared : Prepared) (made : NewDirectory) → prepared ≡ Directory made → IsForDirectory dentry dir prepared → (made.name ≡ dentry.name) × (string_bytes made.object ≡ text_of (first_leaf dir))
 for_directory dentry dir prepared made was ready = subst (IsForDirectory dentry dir) was ready
@@ -77,34 +79,34 @@ module _ (old new : Core) (sound : IsSoundCore old) (spot : Spot) where
     there : HasRoom (here old.caches place.rank.0 (leaf_of place)) → IsThere (here old.caches place.rank.0 (leaf_of place))
     there = roomy_there (here old.caches place.rank.0 (leaf_of place))
 
-    module _ (ready : IsReady old (Set spot inode)) where
+    module _ (ready : IsReady old (sets spot inode)) where
       abbrev SetUses : ℕ → Leaf → Type 0
-      SetUses = IsNamedIn (Set spot inode)
+      SetUses = IsNamedIn (sets spot inode)
 
       abbrev SetEnds : ℕ → Leaf → Type 0
-      SetEnds = EndsWith (Set spot inode)
+      SetEnds = EndsWith (sets spot inode)
 
       before_set : HasMade SetUses SetEnds None old old
       before_set = made_first SetUses SetEnds None old sound ready.kept
 
-      pub set_changed : MayChange (shown_in old) old.covers (Set spot inode) → new ≡ now → IsChanged (Set spot inode) old new
-      set_changed may is = subst (IsChanged (Set spot inode) old) (sym is)
-          (changed (Set spot inode) old now sound tt may (is_named SetUses SetEnds None old old before_set place spot.name (Some inode) (there ready.ready.0.room))
+      pub set_changed : MayChange (shown_in old) old.covers (sets spot inode) → new ≡ now → IsChanged (sets spot inode) old new
+      set_changed may is = subst (IsChanged (sets spot inode) old) (sym is)
+          (changed (sets spot inode) old now sound not_new may (state_of now, is_named SetUses SetEnds None old old before_set place spot.name (Some inode) (there ready.ready.0.room), refl)
           (made_named SetUses SetEnds None old old before_set place spot.name (Some inode) (there ready.ready.0.room) (refl, refl)) sound.begun)
 
-    module _ (ready : IsReady old (Add spot inode)) where
+    module _ (ready : IsReady old (adds spot inode)) where
       abbrev AddUses : ℕ → Leaf → Type 0
-      AddUses = IsNamedIn (Add spot inode)
+      AddUses = IsNamedIn (adds spot inode)
 
       abbrev AddEnds : ℕ → Leaf → Type 0
-      AddEnds = EndsWith (Add spot inode)
+      AddEnds = EndsWith (adds spot inode)
 
       before_file : is_dir_kind inode.kind ≡ false → HasMade AddUses AddEnds None old old
       before_file file = made_first AddUses AddEnds None old sound (subst (λ (b : Bool). KeepsOnlyAt (cond b (Some (spot.at.rank, first_leaf inode.ino)) None) old.caches) file ready.kept)
 
-      pub file_changed : is_dir_kind inode.kind ≡ false → inode.ino.0 < 2 ^ 64 → MayChange (shown_in old) old.covers (Add spot inode) → new ≡ now → IsChanged (Add spot inode) old new
-      file_changed file number may is = subst (IsChanged (Add spot inode) old) (sym is)
-          (changed (Add spot inode) old now sound number may (
+      pub file_changed : is_dir_kind inode.kind ≡ false → inode.ino.0 < 2 ^ 64 → MayChange (shown_in old) old.covers (adds spot inode) → new ≡ now → IsChanged (adds spot inode) old new
+      file_changed file number may is = subst (IsChanged (adds spot inode) old) (sym is)
+          (changed (adds spot inode) old now sound (λ new. number) may (
             state_of now,
             is_named AddUses AddEnds None old old (before_file file) place spot.name (Some inode) (there ready.ready.0.room),
             sym (ap (λ (b : Bool). cond b (with_directory (state_of now) (dentry_at spot) inode.ino) (state_of now)) file),
@@ -115,7 +117,7 @@ module _ (old new : Core) (sound : IsSoundCore old) (spot : Spot) where
       first = record { dir = inode.ino; frag = root_fragment; rank = spot.at.rank }
 
       -- a directory has its home, and its leaf
-      module _ (kinded : is_dir_kind inode.kind ≡ true) (fits : inode.ino.0 < 2 ^ 64) (rank : spot.at.rank.0 < length old.caches.used) (may : MayChange (shown_in old) old.covers (Add spot inode)) (prepared : Prepared) (room : Rooms) where
+      module _ (kinded : is_dir_kind inode.kind ≡ true) (fits : inode.ino.0 < 2 ^ 64) (rank : spot.at.rank.0 < length old.caches.used) (may : MayChange (shown_in old) old.covers (adds spot inode)) (prepared : Prepared) (room : Rooms) where
         abbrev grown : Core
         grown = with_dir now first (home_at (dentry_at spot)) (text_of (first_leaf inode.ino)) room
 
@@ -139,15 +141,15 @@ module _ (old new : Core) (sound : IsSoundCore old) (spot : Spot) where
             (λ i. record (with_directory (state_of now) (dentry_at spot) inode.ino) { unsaved = unclean_with now.caches spot.at.rank.0 (first_leaf inode.ino) (made_frag now.next_generation) i })
             ∙ sym (ap (λ (b : Bool). cond b (with_directory (state_of now) (dentry_at spot) inode.ino) (state_of now)) kinded)
 
-        dir_changed : new ≡ record grown { prepared = prepared; kept = None } → IsChanged (Add spot inode) old new
-        dir_changed is = subst (IsChanged (Add spot inode) old) (sym is)
-            (changed (Add spot inode) old (record grown { prepared = prepared; kept = None }) sound fits may
+        dir_changed : new ≡ record grown { prepared = prepared; kept = None } → IsChanged (adds spot inode) old new
+        dir_changed is = subst (IsChanged (adds spot inode) old) (sym is)
+            (changed (adds spot inode) old (record grown { prepared = prepared; kept = None }) sound (λ new. fits) may
             (state_of now, is_named AddUses AddEnds (Some (spot.at.rank, first_leaf inode.ino)) old old before_dir place spot.name (Some inode) (there ready.ready.0.room), is_grown)
             (made_beside AddUses AddEnds None None old grown prepared dir_grown) (let begun = sound.begun in omega (arith, begun)))
 
         pub directory_changed : (view : Core) → view ≡ old → (made : NewDirectory) → old.prepared ≡ Directory made
             → new ≡ record (with_dir (named (record view { prepared = prepared }) place spot.name (Some inode)) first (record { parent = spot.at.dir; name = made.name }) (string_bytes made.object) room) { kept = None }
-            → IsChanged (Add spot inode) old new
+            → IsChanged (adds spot inode) old new
         directory_changed view same made was is =
             let for = for_directory (dentry_at spot) inode.ino old.prepared made was (ready.ready.2 kinded).prepared in
             dir_changed (is
@@ -156,12 +158,12 @@ module _ (old new : Core) (sound : IsSoundCore old) (spot : Spot) where
 
   -- a name went, and the directory that stood there, if one did
   module _ (going : Option Going) (room : HasRoom (here old.caches spot.at.rank.0 (leaf_of place))) (only : KeepsOnlyAt None old.caches) (stands : IsGoingOrNone old.covers going)
-      (may : MayChange (shown_in old) old.covers (Remove spot (dir_going going))) (prepared : Prepared) (rooms : Rooms) where
+      (may : MayChange (shown_in old) old.covers (removes spot (dir_going going))) (prepared : Prepared) (rooms : Rooms) where
     abbrev RemoveUses : ℕ → Leaf → Type 0
-    RemoveUses = IsNamedIn (Remove spot (dir_going going))
+    RemoveUses = IsNamedIn (removes spot (dir_going going))
 
     abbrev RemoveEnds : ℕ → Leaf → Type 0
-    RemoveEnds = EndsWith (Remove spot (dir_going going))
+    RemoveEnds = EndsWith (removes spot (dir_going going))
 
     abbrev erased : Core
     erased = named old place spot.name None
@@ -175,22 +177,22 @@ module _ (old new : Core) (sound : IsSoundCore old) (spot : Spot) where
     is_there : IsThere (here old.caches place.rank.0 (leaf_of place))
     is_there = roomy_there (here old.caches place.rank.0 (leaf_of place)) room
 
-    removal_changed : new ≡ record gone { prepared = prepared; kept = old.kept } → (KeepsNone old.caches → KeepsNone new.caches) → IsChanged (Remove spot (dir_going going)) old new
-    removal_changed is none = subst (IsChanged (Remove spot (dir_going going)) old) (sym is)
-        (changed (Remove spot (dir_going going)) old (record gone { prepared = prepared; kept = old.kept }) sound tt may
+    removal_changed : new ≡ record gone { prepared = prepared; kept = old.kept } → (KeepsNone old.caches → KeepsNone new.caches) → IsChanged (removes spot (dir_going going)) old new
+    removal_changed is none = subst (IsChanged (removes spot (dir_going going)) old) (sym is)
+        (changed (removes spot (dir_going going)) old (record gone { prepared = prepared; kept = old.kept }) sound not_new may
         (state_of erased, is_named RemoveUses RemoveEnds None old old before_removal place spot.name None is_there, is_gone erased going stands rooms)
         (made_beside RemoveUses RemoveEnds None old.kept old gone prepared (made_gone erased going stands rooms RemoveUses RemoveEnds old (λ r q is. is)
         (made_named RemoveUses RemoveEnds None old old before_removal place spot.name None is_there (refl, refl)) (λ was. subst (λ (k : Core). KeepsNone k.caches) is (none (only_none old.caches only))))) sound.begun)
 
     pub entry_gone : (view : Core) → view ≡ old → new ≡ without_dir (named (record view { prepared = prepared }) place spot.name None) (dir_going going) (leaves_going going) (texts_going going) rooms → (KeepsNone view.caches → KeepsNone new.caches)
-        → IsChanged (Remove spot (dir_going going)) old new
+        → IsChanged (removes spot (dir_going going)) old new
     entry_gone view same is none =
         removal_changed (is ∙ ap (λ (k : Core). without_dir (named (record k { prepared = prepared }) place spot.name None) (dir_going going) (leaves_going going) (texts_going going) rooms) same)
         (subst (λ (k : Core). KeepsNone k.caches → KeepsNone new.caches) same none)
 
 -- a directory that goes with an entry may go
-pub may_go : (c : Core) → IsSoundCore c → (spot : Spot) (went : Option Ino) → MayChange (shown_in c) c.covers (Remove spot went) → IfSome went (λ (dir : Ino). MayGo c.homes dir.0)
-may_go c sound spot went may = subst (λ (d : Option Ino). IfSome d (λ (dir : Ino). MayGo c.homes dir.0)) (sym may.carries.1) (go (map.get (shown_in c) (dentry_at spot)) refl)
+pub may_go : (c : Core) → IsSoundCore c → (spot : Spot) (went : Option Ino) → MayChange (shown_in c) c.covers (removes spot went) → IfSome went (λ (dir : Ino). MayGo c.homes dir.0)
+may_go c sound spot went may = subst (λ (d : Option Ino). IfSome d (λ (dir : Ino). MayGo c.homes dir.0)) (sym may.carries.gone) (go (map.get (shown_in c) (dentry_at spot)) refl)
   where
     by : (inode : Inode) (b : Bool) → map.get (shown_in c) (dentry_at spot) ≡ Some inode → is_dir_kind inode.kind ≡ b → IfSome (cond b (Some inode.ino) None) (λ (dir : Ino). MayGo c.homes dir.0)
     by inode true is kinded = may_drop (shown_in c) c.homes (dentry_at spot) (Some inode) is sound.sound.tabled may.takes inode refl kinded
@@ -206,19 +208,18 @@ pub removal_of : (old : Core) (went : Option Ino) (going : Option Going) → old
 removal_of old went going was ready = subst (IsForRemoval old.covers old.room.purge went) was ready
 
 -- what a move was made ready with
-pub move_of : (old : Core) (stands : Option Inode) (name : List ℕ) (went : Option Ino) (moving : MovingEntry) → old.prepared ≡ Moving moving → IsMovingIn stands old.covers old.room.purge name went old.prepared
-    → (stands ≡ Some moving.inode) × IsRecordable moving.inode × (moving.name ≡ name) × (dir_going moving.going ≡ went) × IsGoingOrNone old.covers moving.going × (count_going moving.going ≤ old.room.purge)
-move_of old stands name went moving was ready = subst (IsMovingIn stands old.covers old.room.purge name went) was ready
+pub move_of : (old : Core) (name : List ℕ) (went : Option Ino) (moving : MovingEntry) → old.prepared ≡ Moving moving → IsForMove old.covers old.room.purge name went old.prepared
+    → (moving.name ≡ name) × (dir_going moving.going ≡ went) × IsGoingOrNone old.covers moving.going × (count_going moving.going ≤ old.room.purge)
+move_of old name went moving was ready = subst (IsForMove old.covers old.room.purge name went) was ready
 
 -- ---- an entry moves
 
-module _ (old new : Core) (sound : IsSoundCore old) (source target : Spot) (inode : Inode) (going : Option Going) (may : MayChange (shown_in old) old.covers (Move source target (dir_going going)))
-    (stands : map.get (shown_in old) (dentry_at source) ≡ Some inode) where
+module _ (old new : Core) (sound : IsSoundCore old) (source target : Spot) (inode : Inode) (going : Option Going) (may : MayChange (shown_in old) old.covers (moves source target inode (dir_going going))) where
   abbrev change : Change
-  change = Move source target (dir_going going)
+  change = moves source target inode (dir_going going)
 
   is_move : IsMove (shown_in old) (dentry_at source) (dentry_at target) inode
-  is_move = moving (shown_in old) (dentry_at source) (dentry_at target) inode stands may.takes
+  is_move = may.takes
 
   -- a directory may have its home there,
   pub relocates : is_dir_kind inode.kind ≡ true → MayMove old.homes inode.ino.0 (home_at (dentry_at target))
@@ -226,7 +227,7 @@ module _ (old new : Core) (sound : IsSoundCore old) (source target : Spot) (inod
 
   -- and one that is replaced may go then
   pub replaces : IfSome (dir_going going) (λ (dir : Ino). MayGo (with_home old.homes (dentry_at target) inode) dir.0)
-  replaces = subst (λ (d : Option Ino). IfSome d (λ (dir : Ino). MayGo (with_home old.homes (dentry_at target) inode) dir.0)) (sym may.carries.2) (go (map.get (shown_in old) (dentry_at target)) refl)
+  replaces = subst (λ (d : Option Ino). IfSome d (λ (dir : Ino). MayGo (with_home old.homes (dentry_at target) inode) dir.0)) (sym may.carries.gone) (go (map.get (shown_in old) (dentry_at target)) refl)
     where
       by : (i : Inode) (b : Bool) → map.get (shown_in old) (dentry_at target) ≡ Some i → IfSome (cond b (Some i.ino) None) (λ (dir : Ino). MayGo (with_home old.homes (dentry_at target) inode) dir.0)
       by i true is = may_replace (shown_in old) old.homes (dentry_at source) (dentry_at target) inode sound.sound.tabled is_move i is
@@ -287,14 +288,10 @@ module _ (old new : Core) (sound : IsSoundCore old) (source target : Spot) (inod
 
     move_changed : new ≡ record all_gone { prepared = prepared; kept = old.kept } → (KeepsNone old.caches → KeepsNone new.caches) → IsChanged change old new
     move_changed is none = subst (IsChanged change old) (sym is)
-        (changed change old (record all_gone { prepared = prepared; kept = old.kept }) sound tt may (
-          inode,
-          stands,
+        (changed change old (record all_gone { prepared = prepared; kept = old.kept }) sound not_new may (
           state_of left_name,
           is_named MoveUses MoveEnds None old old before_move first_place source.name None there_first,
-          record (state_of came_name) { homes = old.homes },
-          named_twice,
-          is_gone came_name going leaves_stand rooms,
+          (record (state_of came_name) { homes = old.homes }, named_twice, is_gone came_name going leaves_stand rooms),
         )
         (made_beside MoveUses MoveEnds None old.kept old all_gone prepared (made_gone came_name going leaves_stand rooms MoveUses MoveEnds old (λ r q is. is) came_made (λ was. subst (λ (k : Core). KeepsNone k.caches) is (none (only_none old.caches only))))) sound.begun)
 

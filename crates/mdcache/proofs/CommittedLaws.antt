@@ -1,20 +1,17 @@
 -- Commits of whole fragments, one after the other.
-use Rattle.std.proofs.Common.{◌≡◌, ◌⊎◌, inl, inr, ℕ, ◌+◌, ◌<◌, arith, Bool, cond, true, false, List, Option, Some, None, Result, Ok, Err, refl, sym, ap, subst, ◌∙◌}
+use Rattle.std.proofs.Common.{◌≡◌, ◌⊎◌, inl, inr, ℕ, ◌+◌, ◌<◌, arith, Bool, cond, true, false, List, Some, None, Result, Ok, Err, refl, sym, ap, subst, ◌∙◌}
 use Rattle.std.specs.FinMap as map
 use Rattle.std.specs.FinMap.{len-empty}
 use Rattle.std.proofs.lemmas.Option.{same_Some}
 use Rattle.mds_types.proofs.LeafLaws.{get_left, get_removed, same_or_apart}
 use Rattle.mds_types.specs.declared.refusals.Refusal.{Refusal}
 use Rattle.objstore.specs.Objects.{Objects, written}
-use Rattle.objstore.specs.Omap.{Omap}
 use Rattle.cached_frag.specs.declared.bases.Base.{Base}
 use Rattle.cached_frag.specs.declared.jobs.Job.{Job}
 use Rattle.cached_frag.specs.Cached.{shown_over}
 use Rattle.cached_frag.specs.Commit.{write_of}
-use Rattle.cached_frag.specs.Marks.{Marks}
 use Rattle.cached_frag.specs.Snap.{next_version}
 use Rattle.dirfrag_codec.proofs.ByteKeys.{get_beside}
-use Rattle.dirfrag_codec.specs.FragmentObject.{Names}
 use Rattle.dentry_cache.specs.Cache.{Leaf, Unsaved, leaf_cmp}
 use Rattle.dentry_cache.specs.Loading.{object_of}
 use Rattle.dentry_cache.specs.Ties.{names_at}

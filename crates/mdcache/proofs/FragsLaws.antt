@@ -1,5 +1,5 @@
 -- The laws of what reads keep of the tree over caches and a store, and of why their calls are refused.
-use Rattle.std.specs.Prelude.{◌≡◌, ℕ, ◌<◌, Option, None, Some, refl}
+use Rattle.std.specs.Prelude.{◌≡◌, ℕ, Option, None, Some, refl}
 use Rattle.std.proofs.Common.{inl, inr, sym, ap, subst, ◌∙◌, arith}
 use Rattle.std.specs.FinMap as map
 use Rattle.mds_types.specs.declared.operations.Op.{Op}

@@ -29,7 +29,6 @@ pub mod ListedLaws
 pub mod MergeNames
 pub mod MergeSteps
 pub mod MountLaws
-pub mod MovingAlong
 pub mod NamedLaws
 pub mod NewLaws
 pub mod NoNames

@@ -1,5 +1,5 @@
 -- The trees of directories are saved, one after the other.
-use Rattle.std.proofs.Common.{◌≡◌, ◌⊎◌, inl, inr, ℕ, ◌<◌, ◌^◌, ◌==◌, ◌||◌, Bool, true, false, cond, List, [], ◌∷◌, Option, Some, None, Ok, Err, refl, sym, ap, subst, ◌∙◌, arith}
+use Rattle.std.proofs.Common.{◌≡◌, ◌⊎◌, inl, inr, ℕ, ◌<◌, ◌^◌, Bool, true, false, cond, List, [], ◌∷◌, Option, Some, None, Ok, Err, refl, sym, ap, subst, ◌∙◌, arith}
 use Rattle.std.specs.Prelude.{length, nat_lt, slice_get}
 use Rattle.std.specs.Cmp.{unsigned_tied}
 use Rattle.std.specs.Ordering.{eq_by_cmp, nat_cmp}
@@ -12,10 +12,9 @@ use Rattle.mds_types.specs.declared.ids.Ino.{Ino}
 use Rattle.mds_types.specs.declared.object_names.ObjName.{ObjName}
 use Rattle.mds_types.specs.declared.object_names.ObjName.TheVariants.{Frag, Tree}
 use Rattle.mds_types.specs.declared.refusals.Refusal.{Refusal}
-use Rattle.objstore.specs.Omap.{Omap}
 use Rattle.objstore.specs.Objects.{MayRefuse}
 use Rattle.dirfrag_codec.proofs.ByteKeys.{get_beside, get_left, get_put, get_removed}
-use Rattle.inode_table.specs.Dirs.{Homes, is_known, leaves_of}
+use Rattle.inode_table.specs.Dirs.{is_known, leaves_of}
 use Rattle.inode_table.specs.Order.{dirs_after}
 use Rattle.inode_table.proofs.OrderLaws.{first_known, next_after}
 use Rattle.mdcache.specs.Objects.{SavesTree, tree_object, tree_saved}

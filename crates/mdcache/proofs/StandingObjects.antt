@@ -1,6 +1,6 @@
 -- No call touches the object of a fragment while a job stands for it.
 use Rattle.std.specs.Prelude.{◌≡◌, ℕ, Bool, true, false, cond, List, Option, Some, None, Result, Ok, Err}
-use Rattle.std.proofs.Common.{◌⊎◌, inl, inr, refl, sym, ap, subst, ◌∙◌}
+use Rattle.std.proofs.Common.{◌⊎◌, inl, inr, refl, sym, ap, ◌∙◌}
 use Rattle.std.specs.FinMap as map
 use Rattle.mds_types.specs.declared.dentries.Dentry.{Dentry}
 use Rattle.mds_types.specs.declared.ids.Ino.{Ino}
@@ -9,7 +9,7 @@ use Rattle.mds_types.specs.declared.refusals.Refusal.{Refusal}
 use Rattle.mds_types.specs.Frag.{Fragment}
 use Rattle.mds_types.specs.Tree.{is_dir_kind}
 use Rattle.mds_types.proofs.LeafLaws.{get_removed, same_or_apart}
-use Rattle.objstore.specs.Objects.{Objects, written}
+use Rattle.objstore.specs.Objects.{written}
 use Rattle.cached_frag.specs.declared.jobs.Job.{Job}
 use Rattle.cached_frag.specs.Commit.{write_of}
 use Rattle.dirfrag_codec.proofs.ByteKeys.{get_beside}
@@ -18,8 +18,8 @@ use Rattle.dentry_cache.specs.Loading.{object_of}
 use Rattle.inode_table.specs.Dirs.{IsLive}
 use Rattle.namespace_ops.specs.Changes.{dentry_at}
 use Rattle.namespace_ops.specs.declared.plans.Change.{Change}
-use Rattle.namespace_ops.specs.declared.plans.Change.TheVariants.{Add, Set, Remove, Move}
-use Rattle.mdcache.specs.Changes.{Makes, with_directory, with_home_at, with_new, without}
+use Rattle.namespace_ops.specs.declared.plans.Spot.{Spot}
+use Rattle.mdcache.specs.Changes.{Makes, PutsThen, TakesThen, housed, with_directory, with_new, without}
 use Rattle.mdcache.specs.Commits.{BeginsWith, Drops, Ends, leaf_of}
 use Rattle.mdcache.specs.Objects.{PurgesName, SavesTree}
 use Rattle.mdcache.specs.PurgeList.{first_name}
@@ -49,12 +49,26 @@ without_objects : (s : State) (went : Option Ino) → (without s went).objects �
 without_objects s None = refl
 without_objects s (Some dir) = refl
 
+housed_objects : (s : State) (takes : Option Spot) (puts : Option (Spot × Inode)) (comes : Bool) → (housed s takes puts comes).objects ≡ s.objects
+housed_objects s None None comes = refl
+housed_objects s (Some spot) None comes = refl
+housed_objects s None (Some put) true = new_objects s (dentry_at put.0) put.1
+housed_objects s None (Some put) false = refl
+housed_objects s (Some spot) (Some put) comes = refl
+
 pub made_objects : (change : Change) (old new : State) → Makes change old new → ObjectsStay old new
-made_objects (Set spot inode) old new makes = ap (λ (s : State). s.objects) makes.left
-made_objects (Add spot inode) old new makes = ap (λ (s : State). s.objects) makes.2 ∙ new_objects makes.0 (dentry_at spot) inode ∙ ap (λ (s : State). s.objects) makes.1.left
-made_objects (Remove spot went) old new makes = ap (λ (s : State). s.objects) makes.2 ∙ without_objects makes.0 went ∙ ap (λ (s : State). s.objects) makes.1.left
-made_objects (Move from to went) old new makes =
-    ap (λ (s : State). s.objects) makes.6 ∙ without_objects (with_home_at makes.4 (dentry_at to) makes.0) went ∙ ap (λ (s : State). s.objects) makes.5.left ∙ ap (λ (s : State). s.objects) makes.3.left
+made_objects change old new = first change.takes
+  where
+    ends : (left : State) (takes : Option Spot) (puts : Option (Spot × Inode)) → new ≡ without (housed left takes puts change.comes) change.gone → new.objects ≡ left.objects
+    ends left takes puts is = ap (λ (s : State). s.objects) is ∙ without_objects (housed left takes puts change.comes) change.gone ∙ housed_objects left takes puts change.comes
+
+    second : (left : State) (takes : Option Spot) (puts : Option (Spot × Inode)) → PutsThen left puts (λ named. new ≡ without (housed named takes puts change.comes) change.gone) → new.objects ≡ left.objects
+    second left takes None is = ends left takes None is
+    second left takes (Some put) (named, is_named, is) = ends named takes (Some put) is ∙ ap (λ (s : State). s.objects) is_named.left
+
+    first : (takes : Option Spot) → TakesThen old takes (λ left. PutsThen left change.puts (λ named. new ≡ without (housed named takes change.puts change.comes) change.gone)) → new.objects ≡ old.objects
+    first None makes = second old None change.puts makes
+    first (Some spot) (left, is_named, makes) = second left (Some spot) change.puts makes ∙ ap (λ (s : State). s.objects) is_named.left
 
 -- nor do a split and a merge
 pub regrouped_objects : (old new : State) (dir : Ino) (gone cover : List Fragment) (count : ℕ) → IsRegrouped old new dir gone cover count → ObjectsStay old new

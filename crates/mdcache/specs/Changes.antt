@@ -1,5 +1,5 @@
 -- What each change of the tree makes of the state.
-use Rattle.std.specs.Prelude.{◌≡◌, ℕ, ◌<◌, ◌+◌, cond, List, [], ◌∷◌, map as each, Option, Some, None}
+use Rattle.std.specs.Prelude.{◌≡◌, ℕ, ◌<◌, ◌+◌, Bool, true, false, cond, List, [], ◌∷◌, map as each, Option, Some, None}
 use Rattle.std.specs.FinMap as map
 use Rattle.mds_types.specs.Frag.{root_fragment}
 use Rattle.mds_types.specs.Leaf.{leaf_of}
@@ -16,9 +16,8 @@ use Rattle.dentry_cache.specs.Ties.{names_at}
 use Rattle.inode_table.specs.TreeTable.{home_at, with_home}
 use Rattle.namespace_ops.specs.Changes.{dentry_at, leaves}
 use Rattle.namespace_ops.specs.declared.plans.Change.{Change}
-use Rattle.namespace_ops.specs.declared.plans.Change.TheVariants.{Add, Set, Remove, Move}
+use Rattle.namespace_ops.specs.declared.plans.Spot.{Spot}
 use Rattle.mdcache.specs.Commits.{HasSpelled}
-use Rattle.mdcache.specs.Shown.{shown_tree}
 use Rattle.mdcache.specs.State.{State, text_of, tree_text}
 
 -- ---- one name
@@ -104,14 +103,26 @@ without s (Some dir) = without_directory s dir
 abbrev pub with_home_at : State → Dentry → Inode → State
 with_home_at s to inode = record s { homes = with_home s.homes to inode }
 
--- ---- the four changes
+-- ---- a change
 
--- other attributes: the name is dirty, whatever it had before. A new inode: its name is, and a directory has its leaf. A removal: the name
--- is dirty, and of a directory all goes. A rename: first the name that is left is dirty, then the other one; what was replaced goes
+-- a name loses its inode, if one does, and the rest is of the state then
+abbrev pub TakesThen : State → Option Spot → (State → Type 0) → Type 0
+TakesThen s None Rest = Rest s
+TakesThen s (Some spot) Rest = (left : State) × IsNamed s left (leaf_of spot.at) spot.name None × Rest left
+
+-- a name gets an inode, if one does
+abbrev pub PutsThen : State → Option (Spot × Inode) → (State → Type 0) → Type 0
+PutsThen s None Rest = Rest s
+PutsThen s (Some put) Rest = (named : State) × IsNamed s named (leaf_of put.0.at) put.0.name (Some put.1) × Rest named
+
+-- a directory that comes has its home and a leaf, and one that moved its home there; one with other attributes stays where it is
+abbrev pub housed : State → Option Spot → Option (Spot × Inode) → Bool → State
+housed s takes None comes = s
+housed s None (Some put) true = with_new s (dentry_at put.0) put.1
+housed s None (Some put) false = s
+housed s (Some spot) (Some put) comes = with_home_at s (dentry_at put.0) put.1
+
+-- first the name that loses its inode is dirty, then the one that gets it; the directory that is put is housed, and the one that is taken or
+-- replaced goes
 abbrev pub Makes : Change → State → State → Type 0
-Makes (Set spot inode) old new = IsNamed old new (leaf_of spot.at) spot.name (Some inode)
-Makes (Add spot inode) old new = (named : State) × IsNamed old named (leaf_of spot.at) spot.name (Some inode) × (new ≡ with_new named (dentry_at spot) inode)
-Makes (Remove spot went) old new = (named : State) × IsNamed old named (leaf_of spot.at) spot.name None × (new ≡ without named went)
-Makes (Move from to went) old new =
-    (inode : Inode) × (map.get (shown_tree old) (dentry_at from) ≡ Some inode) × (left : State) × IsNamed old left (leaf_of from.at) from.name None × (named : State)
-    × IsNamed left named (leaf_of to.at) to.name (Some inode) × (new ≡ without (with_home_at named (dentry_at to) inode) went)
+Makes change old new = TakesThen old change.takes (λ left. PutsThen left change.puts (λ named. new ≡ without (housed named change.takes change.puts change.comes) change.gone))

@@ -1,6 +1,5 @@
 -- The tree over caches and a store as operations see it: what reads keep, why a call is refused, and what is ready for a change.
-use Rattle.std.specs.Prelude.{◌≡◌, ◌⊎◌, ℕ, ◌+◌, ◌-◌, ◌<◌, ◌≤◌, ◌^◌, true, cond, List, Option, Some, None, IfSome, length, string_bytes}
-use Rattle.std.specs.FinMap as map
+use Rattle.std.specs.Prelude.{◌≡◌, ◌⊎◌, ℕ, ◌+◌, ◌-◌, ◌<◌, ◌≤◌, ◌^◌, Bool, true, false, cond, List, Option, Some, None, length, string_bytes}
 use Rattle.mds_types.specs.declared.dentries.Dentry.{Dentry}
 use Rattle.mds_types.specs.declared.ids.Ino.{Ino}
 use Rattle.mds_types.specs.declared.ids.Rank.{Rank}
@@ -17,15 +16,13 @@ use Rattle.cached_frag.specs.Cached.{Cached}
 use Rattle.dentry_cache.specs.Cache.{HasCached, HasRoom, Leaf}
 use Rattle.dentry_cache.specs.CacheMap.{here, unclean_of}
 use Rattle.dentry_cache.specs.CacheSplits.{IsKeptFor}
-use Rattle.inode_table.specs.Dirs.{Covers, MayMove}
-use Rattle.inode_table.specs.TreeTable.{home_at}
-use Rattle.namespace_ops.specs.Changes.{MayChange, dentry_at, directory_at}
+use Rattle.inode_table.specs.Dirs.{Covers}
+use Rattle.namespace_ops.specs.Changes.{dentry_at, directory_at}
 use Rattle.namespace_ops.specs.declared.plans.Spot.{Spot}
 use Rattle.namespace_ops.specs.declared.plans.Change.{Change}
-use Rattle.namespace_ops.specs.declared.plans.Change.TheVariants.{Add, Set, Remove, Move}
 use Rattle.mdcache.specs.declared.prepared.Prepared.{Prepared}
 use Rattle.mdcache.specs.declared.prepared.Prepared.TheVariants.{Nothing, Directory, Removal, Move as Moving}
-use Rattle.mdcache.specs.Core.{Core, LacksPlacesAt, shown_in, state_of}
+use Rattle.mdcache.specs.Core.{Core, LacksPlacesAt, state_of}
 use Rattle.mdcache.specs.Changes.{first_leaf}
 use Rattle.mdcache.specs.Ranks.{KeepsOnlyAt}
 use Rattle.mdcache.specs.Going.{IsGoingOrNone, count_going, dir_going}
@@ -57,12 +54,16 @@ LacksFor (Unlink dentry) s = LacksNumbers 1 s.next_version
 LacksFor (Rmdir dentry) s = LacksNumbers 1 s.next_version
 LacksFor (Rename from to) s = LacksNumbers 2 s.next_version
 
--- the numbers that lack for a change
+-- the numbers that lack for a change: a version for each name, and a generation for the leaf of a directory that comes
+abbrev pub LacksBy : Option Spot → Option (Spot × Inode) → Bool → State → Type 0
+LacksBy None None comes s = ⊥
+LacksBy None (Some put) true s = LacksNumbers 1 s.next_version ⊎ ((is_dir_kind put.1.kind ≡ true) × LacksNumbers 1 s.next_generation)
+LacksBy None (Some put) false s = LacksNumbers 1 s.next_version
+LacksBy (Some spot) None comes s = LacksNumbers 1 s.next_version
+LacksBy (Some spot) (Some put) comes s = LacksNumbers 2 s.next_version
+
 abbrev pub LacksToMake : Change → State → Type 0
-LacksToMake (Add spot inode) s = LacksNumbers 1 s.next_version ⊎ ((is_dir_kind inode.kind ≡ true) × LacksNumbers 1 s.next_generation)
-LacksToMake (Set spot inode) s = LacksNumbers 1 s.next_version
-LacksToMake (Remove spot went) s = LacksNumbers 1 s.next_version
-LacksToMake (Move from to went) s = LacksNumbers 2 s.next_version
+LacksToMake change s = LacksBy change.takes change.puts change.comes s
 
 -- a call for an operation is refused for want of memory, by a store whose count of faults rose, for places that lack, or where a counter is at
 -- its end
@@ -71,11 +72,14 @@ MayRefuse NoPlace old new op reason =
     (reason ≡ NoMemory) ⊎ ((reason ≡ StoreFault) × (old.faults < new.faults)) ⊎ ((reason ≡ NothingToEvict) × NoPlace) ⊎ ((reason ≡ NoInodes) × LacksFor op (state_of old))
 
 -- fewer than two places are free, or can become so, at one of the ranks that hold the leaves which a change names
+abbrev pub LacksPlacesBy : Core → Option Spot → Option (Spot × Inode) → Type 0
+LacksPlacesBy core None None = ⊥
+LacksPlacesBy core None (Some put) = LacksPlacesAt 2 core put.0.at.rank
+LacksPlacesBy core (Some spot) None = LacksPlacesAt 2 core spot.at.rank
+LacksPlacesBy core (Some spot) (Some put) = LacksPlacesAt 2 core spot.at.rank ⊎ LacksPlacesAt 2 core put.0.at.rank
+
 abbrev pub LacksPlacesOf : Core → Change → Type 0
-LacksPlacesOf core (Add spot inode) = LacksPlacesAt 2 core spot.at.rank
-LacksPlacesOf core (Set spot inode) = LacksPlacesAt 2 core spot.at.rank
-LacksPlacesOf core (Remove spot went) = LacksPlacesAt 2 core spot.at.rank
-LacksPlacesOf core (Move from to went) = LacksPlacesAt 2 core from.at.rank ⊎ LacksPlacesAt 2 core to.at.rank
+LacksPlacesOf core change = LacksPlacesBy core change.takes change.puts
 
 -- ---- what is ready
 
@@ -105,50 +109,51 @@ IsForRemoval covers room went (Directory made) = ⊥
 IsForRemoval covers room went (Removal going) = (dir_going going ≡ went) × IsGoingOrNone covers going × (count_going going ≤ room)
 IsForRemoval covers room went (Moving moving) = ⊥
 
--- this was prepared for an entry that moves: the inode that stands there, its new name, and what what it replaces takes
-abbrev pub IsMovingIn : Option Inode → Covers → ℕ → List ℕ → Option Ino → Prepared → Type 0
-IsMovingIn stands covers room name went Nothing = ⊥
-IsMovingIn stands covers room name went (Directory made) = ⊥
-IsMovingIn stands covers room name went (Removal going) = ⊥
-IsMovingIn stands covers room name went (Moving moving) =
-    (stands ≡ Some moving.inode) × IsRecordable moving.inode × (moving.name ≡ name) × (dir_going moving.going ≡ went) × IsGoingOrNone covers moving.going × (count_going moving.going ≤ room)
+-- this was prepared for an entry that moves: its new name, and what what it replaces takes
+abbrev pub IsForMove : Covers → ℕ → List ℕ → Option Ino → Prepared → Type 0
+IsForMove covers room name went Nothing = ⊥
+IsForMove covers room name went (Directory made) = ⊥
+IsForMove covers room name went (Removal going) = ⊥
+IsForMove covers room name went (Moving moving) = (moving.name ≡ name) × (dir_going moving.going ≡ went) × IsGoingOrNone covers moving.going × (count_going moving.going ≤ room)
 
 -- both leaves of an entry that moves are cached, each at its rank, the first with room for two changes, and two versions are left
-pub record IsMoveReady (core : Core) (from to : Spot) (went : Option Ino) : Type 0 where
+pub record IsMoveReady (core : Core) (from to : Spot) (inode : Inode) (went : Option Ino) : Type 0 where
   pub source_room : HasCached (here core.caches from.at.rank.0 (leaf_of from.at)) (λ (f : Cached). 1 < f.room)
   pub target_room : HasRoom (here core.caches to.at.rank.0 (leaf_of to.at))
   pub number : core.next_version < 2 ^ 64 - 2
-  pub prepared : IsMovingIn (map.get (shown_in core) (dentry_at from)) core.covers core.room.purge to.name went core.prepared
+  pub recordable : IsRecordable inode
+  pub prepared : IsForMove core.covers core.room.purge to.name went core.prepared
 
 -- the place that is kept for a change: that of a directory that comes
+abbrev pub kept_by : Option (Spot × Inode) → Bool → Option (Rank × Leaf)
+kept_by None comes = None
+kept_by (Some put) true = cond (is_dir_kind put.1.kind) (Some (put.0.at.rank, first_leaf put.1.ino)) None
+kept_by (Some put) false = None
+
 abbrev pub kept_for : Change → Option (Rank × Leaf)
-kept_for (Add spot inode) = cond (is_dir_kind inode.kind) (Some (spot.at.rank, first_leaf inode.ino)) None
-kept_for (Set spot inode) = None
-kept_for (Remove spot went) = None
-kept_for (Move from to went) = None
+kept_for change = kept_by change.puts change.comes
+
+abbrev pub IsReadyBy : Core → Option Spot → Option (Spot × Inode) → Bool → Option Ino → Type 0
+IsReadyBy core None None comes went = ⊥
+IsReadyBy core None (Some put) true went =
+    IsNameReady core put.0.at.rank (leaf_of put.0.at) × IsRecordable put.1 × (is_dir_kind put.1.kind ≡ true → IsDirectoryReady core put.0.at.rank (dentry_at put.0) put.1.ino)
+IsReadyBy core None (Some put) false went = IsNameReady core put.0.at.rank (leaf_of put.0.at) × IsRecordable put.1
+IsReadyBy core (Some spot) None comes went = IsNameReady core spot.at.rank (leaf_of spot.at) × IsForRemoval core.covers core.room.purge went core.prepared
+IsReadyBy core (Some spot) (Some put) comes went = IsMoveReady core spot put.0 put.1 went
 
 abbrev pub IsReadyFor : Core → Change → Type 0
-IsReadyFor core (Add spot inode) =
-    IsNameReady core spot.at.rank (leaf_of spot.at) × IsRecordable inode × (is_dir_kind inode.kind ≡ true → IsDirectoryReady core spot.at.rank (dentry_at spot) inode.ino)
-IsReadyFor core (Set spot inode) = IsNameReady core spot.at.rank (leaf_of spot.at) × IsRecordable inode
-IsReadyFor core (Remove spot went) = IsNameReady core spot.at.rank (leaf_of spot.at) × IsForRemoval core.covers core.room.purge went core.prepared
-IsReadyFor core (Move from to went) = IsMoveReady core from to went
+IsReadyFor core change = IsReadyBy core change.takes change.puts change.comes change.gone
 
 -- a change can be made in the caches of its ranks with no growth
 pub record IsReady (core : Core) (change : Change) : Type 0 where
   pub ready : IsReadyFor core change
   pub kept : KeepsOnlyAt (kept_for change) core.caches
 
--- the directory that moves, by what was prepared: what is taken along, where that is one
-abbrev pub dir_moving : Prepared → Option Ino
-dir_moving Nothing = None
-dir_moving (Directory made) = None
-dir_moving (Removal going) = None
-dir_moving (Moving moving) = directory_at (Some moving.inode)
+-- the directory that a change moves, if it moves one
+abbrev pub dir_moved : Option Spot → Option (Spot × Inode) → Option Ino
+dir_moved None puts = None
+dir_moved (Some spot) None = None
+dir_moved (Some spot) (Some put) = directory_at (Some put.1)
 
--- of a rename that was made ready this is the directory that moves, where it is one; it may move there, where the rename may be made
-abbrev pub IsTakenAlong : Core → Option Ino → Type 0
-IsTakenAlong core moving =
-    (from to : Spot) (went : Option Ino) → IsReady core (Move from to went)
-    → (moving ≡ directory_at (map.get (shown_in core) (dentry_at from)))
-    × (MayChange (shown_in core) core.covers (Move from to went) → IfSome moving (λ (dir : Ino). MayMove core.homes dir.0 (home_at (dentry_at to))))
+abbrev pub dir_moving : Change → Option Ino
+dir_moving change = dir_moved change.takes change.puts

@@ -2,10 +2,9 @@
 use Rattle.std.specs.Prelude.{◌≡◌, ◌<◌, ◌^◌}
 use Rattle.dentry_cache.specs.Cache.{Leaf}
 use Rattle.inode_table.specs.TreeChanges.{KeepLeaves}
-use Rattle.namespace_ops.specs.Changes.{MayChange, changed, fragments_of}
+use Rattle.namespace_ops.specs.Changes.{IsNumbered, MayChange, changed, fragments_of}
 use Rattle.namespace_ops.specs.Kept.{ChangesOnly}
 use Rattle.namespace_ops.specs.declared.plans.Change.{Change}
-use Rattle.namespace_ops.specs.declared.plans.Change.TheVariants.{Add, Set, Remove, Move}
 use Rattle.mdcache.specs.Changes.{Makes}
 use Rattle.mdcache.specs.Shown.{names_of, shown_tree}
 use Rattle.mdcache.specs.Sound.{IsSound}
@@ -29,10 +28,7 @@ pub record IsRight (change : Change) (old new : State) : Type 0 where
 
 -- the number of a new inode has 64 bits
 abbrev pub HasNumber : Change → Type 0
-HasNumber (Add spot inode) = inode.ino.0 < 2 ^ 64
-HasNumber (Set spot inode) = Unit {0}
-HasNumber (Remove spot went) = Unit {0}
-HasNumber (Move from to went) = Unit {0}
+HasNumber change = IsNumbered (λ n. n < 2 ^ 64) change
 
 -- every change that may be made is right
 abbrev pub ChangesAreRight : Type 0

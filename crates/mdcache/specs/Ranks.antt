@@ -1,5 +1,5 @@
 -- The ranks that hold the leaves of a call, and the places that are kept.
-use Rattle.std.specs.Prelude.{◌≡◌, ◌<◌, ◌⊎◌, ℕ, true, false, length, Option, Some, None}
+use Rattle.std.specs.Prelude.{◌≡◌, ◌<◌, ◌⊎◌, ℕ, Bool, true, false, length, Option, Some, None, IfSome}
 use Rattle.std.specs.FinMap as map
 use Rattle.mds_types.specs.declared.ids.Rank.{Rank}
 use Rattle.mds_types.specs.Leaf.{leaf_of}
@@ -8,9 +8,9 @@ use Rattle.dentry_cache.specs.CacheMap.{CacheMap, IsFreeFor, has_place, here}
 use Rattle.dentry_cache.specs.CacheSplits.{IsKeptFor}
 use Rattle.dentry_cache.specs.Came.{IsThat}
 use Rattle.inode_table.specs.Dirs.{Homes, is_known}
-use Rattle.namespace_ops.specs.ChangedFragments.{gone_with}
+use Rattle.mds_types.specs.declared.inodes.Inode.{Inode}
 use Rattle.namespace_ops.specs.declared.plans.Change.{Change}
-use Rattle.namespace_ops.specs.declared.plans.Change.TheVariants.{Add, Set, Remove, Move}
+use Rattle.namespace_ops.specs.declared.plans.Spot.{Spot}
 use Rattle.mdcache.specs.Changes.{first_leaf}
 
 -- there is such a rank, and no other has the leaf's fragment
@@ -36,21 +36,30 @@ NoneUsed r leaf = ⊥
 
 -- ---- the ranks of a change
 
--- the ranks may hold the leaves that a change names; where these are one leaf, they are one rank
-abbrev pub MayHoldEach : CacheMap → Change → Type 0
-MayHoldEach caches (Add spot inode) = MayHold caches spot.at.rank (leaf_of spot.at)
-MayHoldEach caches (Set spot inode) = MayHold caches spot.at.rank (leaf_of spot.at)
-MayHoldEach caches (Remove spot went) = MayHold caches spot.at.rank (leaf_of spot.at)
-MayHoldEach caches (Move from to went) =
-    MayHold caches from.at.rank (leaf_of from.at) × MayHold caches to.at.rank (leaf_of to.at) × (◌≡◌ {A = Leaf} (leaf_of from.at) (leaf_of to.at) → from.at.rank ≡ to.at.rank)
+-- the leaf of a name that loses its inode and that of the one that gets it are at one rank, where they are one
+abbrev pub AreOneRank : Option Spot → Option (Spot × Inode) → Type 0
+AreOneRank None puts = Unit {0}
+AreOneRank (Some spot) None = Unit {0}
+AreOneRank (Some spot) (Some put) = ◌≡◌ {A = Leaf} (leaf_of spot.at) (leaf_of put.0.at) → spot.at.rank ≡ put.0.at.rank
 
--- the leaves that a change names, each at its rank, and that of a new directory beside its name's
+-- the ranks may hold the leaves that a change names
+pub record MayHoldEach (caches : CacheMap) (change : Change) : Type 0 where
+  pub taken : IfSome change.takes (λ spot. MayHold caches spot.at.rank (leaf_of spot.at))
+  pub put : IfSome change.puts (λ put. MayHold caches put.0.at.rank (leaf_of put.0.at))
+  pub one : AreOneRank change.takes change.puts
+
+-- the leaves of these names, each at its rank, and that of a new directory beside its name's
+abbrev pub IsNamedBy : Option Spot → Option (Spot × Inode) → Bool → ℕ → Leaf → Type 0
+IsNamedBy None None comes r q = ⊥
+IsNamedBy None (Some put) true r q = IsThat put.0.at.rank.0 (leaf_of put.0.at) r q ⊎ IsThat put.0.at.rank.0 (first_leaf put.1.ino) r q
+IsNamedBy None (Some put) false r q = IsThat put.0.at.rank.0 (leaf_of put.0.at) r q
+IsNamedBy (Some spot) None comes r q = IsThat spot.at.rank.0 (leaf_of spot.at) r q
+IsNamedBy (Some spot) (Some put) comes r q = IsThat spot.at.rank.0 (leaf_of spot.at) r q ⊎ IsThat put.0.at.rank.0 (leaf_of put.0.at) r q
+
+-- the leaves that a change names
 abbrev pub IsNamedIn : Change → ℕ → Leaf → Type 0
-IsNamedIn (Add spot inode) r q = IsThat spot.at.rank.0 (leaf_of spot.at) r q ⊎ IsThat spot.at.rank.0 (first_leaf inode.ino) r q
-IsNamedIn (Set spot inode) r q = IsThat spot.at.rank.0 (leaf_of spot.at) r q
-IsNamedIn (Remove spot went) r q = IsThat spot.at.rank.0 (leaf_of spot.at) r q
-IsNamedIn (Move from to went) r q = IsThat from.at.rank.0 (leaf_of from.at) r q ⊎ IsThat to.at.rank.0 (leaf_of to.at) r q
+IsNamedIn change r q = IsNamedBy change.takes change.puts change.comes r q
 
 -- a leaf of the directory that goes with a change, whichever rank has it
 abbrev pub EndsWith : Change → ℕ → Leaf → Type 0
-EndsWith change r q = gone_with change ≡ Some q.0
+EndsWith change r q = change.gone ≡ Some q.0

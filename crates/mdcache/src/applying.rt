@@ -13,8 +13,7 @@ ghost use Rattle.dentry_cache.specs.CacheSplits.{IsKeptFor};
 ghost use Rattle.dentry_cache.specs.Came.{Came};
 ghost use Rattle.inode_table.specs.Dirs.{MayCome, MayGo, MayMove};
 ghost use Rattle.inode_table.specs.TreeTable.{with_home};
-ghost use Rattle.namespace_ops.specs.Changes.{MayChange};
-ghost use Rattle.namespace_ops.specs.declared.plans.Change.TheVariants.{Add, Move, Remove, Set};
+ghost use Rattle.namespace_ops.specs.Changes.{MayChange, adds, moves, removes, sets};
 ghost use Rattle.mdcache.specs.Changes.{Makes, first_leaf};
 ghost use Rattle.mdcache.specs.Core.{IsSoundCore, moved, named, shown_in, state_of, with_dir, without_dir};
 ghost use Rattle.mdcache.specs.Going.{count_going, dir_going, leaves_going, texts_going};
@@ -44,23 +43,35 @@ impl<S: Store + Drop> MdCache<S> {
         ensures faults { self.new.faults ≡ self.old.faults }
         ensures sound { IsSoundCore self.new }
     {
-        match change {
-            Change::Add { spot, inode } => self.apply_new(spot, inode),
-            Change::Set { spot, inode } => self.apply_set(spot, inode),
-            Change::Remove { spot, gone } => self.apply_removal(spot, gone),
-            Change::Move { from, to, gone } => self.apply_move(from, to, gone),
+        let Change {
+            takes,
+            puts,
+            comes,
+            gone,
+        } = change;
+        match (takes, puts) {
+            (None, Some((spot, inode))) => {
+                if comes {
+                    self.apply_new(spot, inode);
+                } else {
+                    self.apply_set(spot, inode);
+                }
+            }
+            (Some(spot), None) => self.apply_removal(spot, gone),
+            (Some(from), Some((to, inode))) => self.apply_move(from, to, inode, gone),
+            (None, None) => unreachable!(),
         }
     }
 
     // Puts a new inode at a dentry.
     fn apply_new(&mut self, spot: Spot, inode: Inode)
         requires sound { IsSoundCore self.old }
-        requires holds { MayHoldEach self.old.caches (Add spot inode) }
-        requires ready { IsReady self.old (Add spot inode) }
-        requires may { MayChange (shown_in self.old) self.old.covers (Add spot inode) }
-        ensures made { Makes (Add spot inode) (state_of self.old) (state_of self.new) }
-        ensures right { IsRight (Add spot inode) (state_of self.old) (state_of self.new) }
-        ensures came { Came (IsNamedIn (Add spot inode)) (EndsWith (Add spot inode)) self.old.caches self.new.caches }
+        requires holds { MayHoldEach self.old.caches (adds spot inode) }
+        requires ready { IsReady self.old (adds spot inode) }
+        requires may { MayChange (shown_in self.old) self.old.covers (adds spot inode) }
+        ensures made { Makes (adds spot inode) (state_of self.old) (state_of self.new) }
+        ensures right { IsRight (adds spot inode) (state_of self.old) (state_of self.new) }
+        ensures came { Came (IsNamedIn (adds spot inode)) (EndsWith (adds spot inode)) self.old.caches self.new.caches }
         ensures faults { self.new.faults ≡ self.old.faults }
         ensures sound { IsSoundCore self.new }
     {
@@ -74,13 +85,13 @@ impl<S: Store + Drop> MdCache<S> {
     // Puts a new inode at a dentry that is no directory.
     fn apply_file(&mut self, spot: Spot, inode: Inode)
         requires sound { IsSoundCore self.old }
-        requires holds { MayHoldEach self.old.caches (Add spot inode) }
-        requires ready { IsReady self.old (Add spot inode) }
-        requires may { MayChange (shown_in self.old) self.old.covers (Add spot inode) }
+        requires holds { MayHoldEach self.old.caches (adds spot inode) }
+        requires ready { IsReady self.old (adds spot inode) }
+        requires may { MayChange (shown_in self.old) self.old.covers (adds spot inode) }
         requires file { is_dir_kind inode.kind ≡ false }
-        ensures made { Makes (Add spot inode) (state_of self.old) (state_of self.new) }
-        ensures right { IsRight (Add spot inode) (state_of self.old) (state_of self.new) }
-        ensures came { Came (IsNamedIn (Add spot inode)) (EndsWith (Add spot inode)) self.old.caches self.new.caches }
+        ensures made { Makes (adds spot inode) (state_of self.old) (state_of self.new) }
+        ensures right { IsRight (adds spot inode) (state_of self.old) (state_of self.new) }
+        ensures came { Came (IsNamedIn (adds spot inode)) (EndsWith (adds spot inode)) self.old.caches self.new.caches }
         ensures faults { self.new.faults ≡ self.old.faults }
         ensures sound { IsSoundCore self.new }
     {
@@ -91,13 +102,13 @@ impl<S: Store + Drop> MdCache<S> {
     // Puts a new directory at a dentry.
     fn apply_directory(&mut self, spot: Spot, inode: Inode)
         requires sound { IsSoundCore self.old }
-        requires holds { MayHoldEach self.old.caches (Add spot inode) }
-        requires ready { IsReady self.old (Add spot inode) }
-        requires may { MayChange (shown_in self.old) self.old.covers (Add spot inode) }
+        requires holds { MayHoldEach self.old.caches (adds spot inode) }
+        requires ready { IsReady self.old (adds spot inode) }
+        requires may { MayChange (shown_in self.old) self.old.covers (adds spot inode) }
         requires directory { is_dir_kind inode.kind ≡ true }
-        ensures made { Makes (Add spot inode) (state_of self.old) (state_of self.new) }
-        ensures right { IsRight (Add spot inode) (state_of self.old) (state_of self.new) }
-        ensures came { Came (IsNamedIn (Add spot inode)) (EndsWith (Add spot inode)) self.old.caches self.new.caches }
+        ensures made { Makes (adds spot inode) (state_of self.old) (state_of self.new) }
+        ensures right { IsRight (adds spot inode) (state_of self.old) (state_of self.new) }
+        ensures came { Came (IsNamedIn (adds spot inode)) (EndsWith (adds spot inode)) self.old.caches self.new.caches }
         ensures faults { self.new.faults ≡ self.old.faults }
         ensures sound { IsSoundCore self.new }
     {
@@ -111,12 +122,12 @@ impl<S: Store + Drop> MdCache<S> {
     // Gives the inode at a dentry other attributes.
     fn apply_set(&mut self, spot: Spot, inode: Inode)
         requires sound { IsSoundCore self.old }
-        requires holds { MayHoldEach self.old.caches (Set spot inode) }
-        requires ready { IsReady self.old (Set spot inode) }
-        requires may { MayChange (shown_in self.old) self.old.covers (Set spot inode) }
-        ensures made { Makes (Set spot inode) (state_of self.old) (state_of self.new) }
-        ensures right { IsRight (Set spot inode) (state_of self.old) (state_of self.new) }
-        ensures came { Came (IsNamedIn (Set spot inode)) (EndsWith (Set spot inode)) self.old.caches self.new.caches }
+        requires holds { MayHoldEach self.old.caches (sets spot inode) }
+        requires ready { IsReady self.old (sets spot inode) }
+        requires may { MayChange (shown_in self.old) self.old.covers (sets spot inode) }
+        ensures made { Makes (sets spot inode) (state_of self.old) (state_of self.new) }
+        ensures right { IsRight (sets spot inode) (state_of self.old) (state_of self.new) }
+        ensures came { Came (IsNamedIn (sets spot inode)) (EndsWith (sets spot inode)) self.old.caches self.new.caches }
         ensures faults { self.new.faults ≡ self.old.faults }
         ensures sound { IsSoundCore self.new }
     {
@@ -126,12 +137,12 @@ impl<S: Store + Drop> MdCache<S> {
     // Takes the entry at a dentry away.
     fn apply_removal(&mut self, spot: Spot, gone: Option<Ino>)
         requires sound { IsSoundCore self.old }
-        requires holds { MayHoldEach self.old.caches (Remove spot gone) }
-        requires ready { IsReady self.old (Remove spot gone) }
-        requires may { MayChange (shown_in self.old) self.old.covers (Remove spot gone) }
-        ensures made { Makes (Remove spot gone) (state_of self.old) (state_of self.new) }
-        ensures right { IsRight (Remove spot gone) (state_of self.old) (state_of self.new) }
-        ensures came { Came (IsNamedIn (Remove spot gone)) (EndsWith (Remove spot gone)) self.old.caches self.new.caches }
+        requires holds { MayHoldEach self.old.caches (removes spot gone) }
+        requires ready { IsReady self.old (removes spot gone) }
+        requires may { MayChange (shown_in self.old) self.old.covers (removes spot gone) }
+        ensures made { Makes (removes spot gone) (state_of self.old) (state_of self.new) }
+        ensures right { IsRight (removes spot gone) (state_of self.old) (state_of self.new) }
+        ensures came { Came (IsNamedIn (removes spot gone)) (EndsWith (removes spot gone)) self.old.caches self.new.caches }
         ensures faults { self.new.faults ≡ self.old.faults }
         ensures sound { IsSoundCore self.new }
     {
@@ -142,19 +153,19 @@ impl<S: Store + Drop> MdCache<S> {
     }
 
     // Takes the entry at a dentry to another.
-    fn apply_move(&mut self, from: Spot, to: Spot, gone: Option<Ino>)
+    fn apply_move(&mut self, from: Spot, to: Spot, inode: Inode, gone: Option<Ino>)
         requires sound { IsSoundCore self.old }
-        requires holds { MayHoldEach self.old.caches (Move from to gone) }
-        requires ready { IsReady self.old (Move from to gone) }
-        requires may { MayChange (shown_in self.old) self.old.covers (Move from to gone) }
-        ensures made { Makes (Move from to gone) (state_of self.old) (state_of self.new) }
-        ensures right { IsRight (Move from to gone) (state_of self.old) (state_of self.new) }
-        ensures came { Came (IsNamedIn (Move from to gone)) (EndsWith (Move from to gone)) self.old.caches self.new.caches }
+        requires holds { MayHoldEach self.old.caches (moves from to inode gone) }
+        requires ready { IsReady self.old (moves from to inode gone) }
+        requires may { MayChange (shown_in self.old) self.old.covers (moves from to inode gone) }
+        ensures made { Makes (moves from to inode gone) (state_of self.old) (state_of self.new) }
+        ensures right { IsRight (moves from to inode gone) (state_of self.old) (state_of self.new) }
+        ensures came { Came (IsNamedIn (moves from to inode gone)) (EndsWith (moves from to inode gone)) self.old.caches self.new.caches }
         ensures faults { self.new.faults ≡ self.old.faults }
         ensures sound { IsSoundCore self.new }
     {
         match mem::replace(&mut self.prepared, Prepared::Nothing) {
-            Prepared::Move(moving) => self.move_entry(from, to, moving),
+            Prepared::Move(moving) => self.move_entry(from, to, inode, moving),
             _ => unreachable!(),
         }
     }
@@ -201,20 +212,20 @@ impl<S: Store + Drop> MdCache<S> {
     }
 
     // The name that is left is removed, then the inode comes to the other, and what stood there goes.
-    fn move_entry(&mut self, from: Spot, to: Spot, moving: MovingEntry)
+    fn move_entry(&mut self, from: Spot, to: Spot, inode: Inode, moving: MovingEntry)
         requires first { from.at.rank.0 < length self.old.caches.used }
         requires second { to.at.rank.0 < length self.old.caches.used }
-        requires recordable { IsRecordable moving.inode }
+        requires recordable { IsRecordable inode }
         requires source { HasCached (here self.old.caches from.at.rank.0 (leaf_of from.at)) (λ (f : Cached). 1 < f.room) }
         requires target { HasRoom (here self.old.caches to.at.rank.0 (leaf_of to.at)) }
         requires version { self.old.next_version < 2 ^ 64 - 2 }
-        requires home { is_dir_kind moving.inode.kind ≡ true → MayMove self.old.homes moving.inode.ino.0 (record { parent = to.at.dir; name = moving.name }) }
-        requires may { IfSome (dir_going moving.going) (λ dir. MayGo (with_home self.old.homes (record { dir = to.at.dir; name = moving.name }) moving.inode) dir.0) }
+        requires home { is_dir_kind inode.kind ≡ true → MayMove self.old.homes inode.ino.0 (record { parent = to.at.dir; name = moving.name }) }
+        requires may { IfSome (dir_going moving.going) (λ dir. MayGo (with_home self.old.homes (record { dir = to.at.dir; name = moving.name }) inode) dir.0) }
         requires purge { count_going moving.going ≤ self.old.room.purge }
         ensures none { KeepsNone self.old.caches → KeepsNone self.new.caches }
-        ensures moved { self.new ≡ without_dir (moved self.old from.at from.name to.at to.name moving.name moving.inode) (dir_going moving.going) (leaves_going moving.going) (texts_going moving.going) self.new.room }
+        ensures moved { self.new ≡ without_dir (moved self.old from.at from.name to.at to.name moving.name inode) (dir_going moving.going) (leaves_going moving.going) (texts_going moving.going) self.new.room }
     {
-        let MovingEntry { inode, name, going } = moving;
+        let MovingEntry { name, going } = moving;
         self.erase(from.at, from.name);
         let home = Home {
             parent: to.at.dir,

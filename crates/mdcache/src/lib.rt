@@ -28,7 +28,6 @@ mod reading;
 mod applying;
 mod changes;
 mod going;
-mod moving;
 mod prepared;
 mod preparing;
 mod readies;

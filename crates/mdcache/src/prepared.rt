@@ -1,7 +1,7 @@
 //! What was made ready for a change, beside room: it is kept until the change is made.
 
 use crate::going::Going;
-use mds_types::{Inode, Name};
+use mds_types::Name;
 
 /// What a change takes beside itself.
 #[derive(Debug, Drop)]
@@ -25,11 +25,9 @@ pub struct NewDirectory {
     pub object: String,
 }
 
-/// What an entry that moves takes beside its two dentries.
+/// What an entry that moves takes beside its two dentries and its inode.
 #[derive(Debug, Drop)]
 pub struct MovingEntry {
-    /// The inode that moves.
-    pub inode: Inode,
     /// The name that it gets, once more.
     pub name: Name,
     /// The directory that is replaced, if one is.

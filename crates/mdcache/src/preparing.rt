@@ -7,8 +7,7 @@ ghost use Rattle.mds_types.specs.Tree.{is_directory};
 ghost use Rattle.objstore.specs.Objects.{faults_told};
 ghost use Rattle.dirfrag_codec.specs.EntryRecord.{HasTarget, IsRankNumber};
 ghost use Rattle.dentry_cache.specs.CacheSplits.{IsKeptFor};
-ghost use Rattle.namespace_ops.specs.Changes.{IsNumbered, MayChange};
-ghost use Rattle.namespace_ops.specs.declared.plans.Change.TheVariants.{Add, Move, Remove, Set};
+ghost use Rattle.namespace_ops.specs.Changes.{IsNumbered, MayChange, adds, moves, removes, sets};
 ghost use Rattle.mdcache.specs.Core.{IsSoundCore, ReadsCore, shown_in, state_of};
 ghost use Rattle.mdcache.specs.Frags.{IsReady, LacksPlacesOf, LacksToMake};
 ghost use Rattle.mdcache.specs.Ranks.{IsNamedIn, MayHoldEach};
@@ -16,6 +15,7 @@ ghost use Rattle.mdcache.specs.Ready.{MayNotBeReady};
 
 use crate::mdcache::MdCache;
 use crate::prepared::Prepared;
+use crate::readying::is_recorded;
 use mds_types::{Ino, Inode, Kind, Refusal};
 use namespace_ops::{Change, Spot};
 use objstore::Store;
@@ -39,25 +39,33 @@ impl<S: Store + Drop> MdCache<S> {
         ensures counted { self.new.faults ≡ self.old.faults + faults_told (result_err result) }
         ensures refused { IfErr result (MayNotBeReady (LacksToMake change.now (state_of self.old)) (LacksPlacesOf self.old change.now) self.old.faults self.new.faults) }
     {
-        match change {
-            Change::Add { spot, inode } => self.prepare_new(alloc, spot, inode),
-            Change::Set { spot, inode } => self.prepare_set(alloc, spot, inode),
-            Change::Remove { spot, gone } => self.prepare_removal(alloc, spot, *gone),
-            Change::Move { from, to, gone } => self.prepare_move(alloc, from, to, *gone),
+        match (&change.takes, &change.puts) {
+            (None, Some((spot, inode))) => {
+                if change.comes {
+                    self.prepare_new(alloc, spot, inode)
+                } else {
+                    self.prepare_set(alloc, spot, inode)
+                }
+            }
+            (Some(spot), None) => self.prepare_removal(alloc, spot, change.gone),
+            (Some(from), Some(put)) => {
+                self.prepare_move(alloc, from, &put.0, &put.1, change.gone)
+            }
+            (None, None) => unreachable!(),
         }
     }
 
     // Makes ready that a new inode comes to a dentry.
     fn prepare_new(&mut self, alloc: Global, spot: &Spot, inode: &Inode) -> Result<(), Refusal>
         requires sound { IsSoundCore self.old }
-        requires holds { MayHoldEach self.old.caches (Add spot.now inode.now) }
-        requires may { MayChange (shown_in self.old) self.old.covers (Add spot.now inode.now) }
+        requires holds { MayHoldEach self.old.caches (adds spot.now inode.now) }
+        requires may { MayChange (shown_in self.old) self.old.covers (adds spot.now inode.now) }
         requires number { IsRankNumber inode.now.ino.0 }
-        ensures ready { OnOk result (IsReady self.new (Add spot.now inode.now)) }
-        ensures reads { ReadsCore (IsNamedIn (Add spot.now inode.now)) (IsKeptFor self.old.caches) self.old self.new }
+        ensures ready { OnOk result (IsReady self.new (adds spot.now inode.now)) }
+        ensures reads { ReadsCore (IsNamedIn (adds spot.now inode.now)) (IsKeptFor self.old.caches) self.old self.new }
         ensures sound { IsSoundCore self.new }
         ensures counted { self.new.faults ≡ self.old.faults + faults_told (result_err result) }
-        ensures refused { IfErr result (MayNotBeReady (LacksToMake (Add spot.now inode.now) (state_of self.old)) (LacksPlacesOf self.old (Add spot.now inode.now)) self.old.faults self.new.faults) }
+        ensures refused { IfErr result (MayNotBeReady (LacksToMake (adds spot.now inode.now) (state_of self.old)) (LacksPlacesOf self.old (adds spot.now inode.now)) self.old.faults self.new.faults) }
     {
         has_parts(inode);
         if inode.kind.is_dir() {
@@ -69,13 +77,13 @@ impl<S: Store + Drop> MdCache<S> {
     // Makes ready that an inode gets other attributes.
     fn prepare_set(&mut self, alloc: Global, spot: &Spot, inode: &Inode) -> Result<(), Refusal>
         requires sound { IsSoundCore self.old }
-        requires holds { MayHoldEach self.old.caches (Set spot.now inode.now) }
-        requires may { MayChange (shown_in self.old) self.old.covers (Set spot.now inode.now) }
-        ensures ready { OnOk result (IsReady self.new (Set spot.now inode.now)) }
-        ensures reads { ReadsCore (IsNamedIn (Set spot.now inode.now)) (IsKeptFor self.old.caches) self.old self.new }
+        requires holds { MayHoldEach self.old.caches (sets spot.now inode.now) }
+        requires may { MayChange (shown_in self.old) self.old.covers (sets spot.now inode.now) }
+        ensures ready { OnOk result (IsReady self.new (sets spot.now inode.now)) }
+        ensures reads { ReadsCore (IsNamedIn (sets spot.now inode.now)) (IsKeptFor self.old.caches) self.old self.new }
         ensures sound { IsSoundCore self.new }
         ensures counted { self.new.faults ≡ self.old.faults + faults_told (result_err result) }
-        ensures refused { IfErr result (MayNotBeReady (LacksToMake (Set spot.now inode.now) (state_of self.old)) (LacksPlacesOf self.old (Set spot.now inode.now)) self.old.faults self.new.faults) }
+        ensures refused { IfErr result (MayNotBeReady (LacksToMake (sets spot.now inode.now) (state_of self.old)) (LacksPlacesOf self.old (sets spot.now inode.now)) self.old.faults self.new.faults) }
     {
         has_parts(inode);
         self.ready_set(alloc, spot)
@@ -89,13 +97,13 @@ impl<S: Store + Drop> MdCache<S> {
         gone: Option<Ino>,
     ) -> Result<(), Refusal>
         requires sound { IsSoundCore self.old }
-        requires holds { MayHoldEach self.old.caches (Remove spot.now gone) }
-        requires may { MayChange (shown_in self.old) self.old.covers (Remove spot.now gone) }
-        ensures ready { OnOk result (IsReady self.new (Remove spot.now gone)) }
-        ensures reads { ReadsCore (IsNamedIn (Remove spot.now gone)) (IsKeptFor self.old.caches) self.old self.new }
+        requires holds { MayHoldEach self.old.caches (removes spot.now gone) }
+        requires may { MayChange (shown_in self.old) self.old.covers (removes spot.now gone) }
+        ensures ready { OnOk result (IsReady self.new (removes spot.now gone)) }
+        ensures reads { ReadsCore (IsNamedIn (removes spot.now gone)) (IsKeptFor self.old.caches) self.old self.new }
         ensures sound { IsSoundCore self.new }
         ensures counted { self.new.faults ≡ self.old.faults + faults_told (result_err result) }
-        ensures refused { IfErr result (MayNotBeReady (LacksToMake (Remove spot.now gone) (state_of self.old)) (LacksPlacesOf self.old (Remove spot.now gone)) self.old.faults self.new.faults) }
+        ensures refused { IfErr result (MayNotBeReady (LacksToMake (removes spot.now gone) (state_of self.old)) (LacksPlacesOf self.old (removes spot.now gone)) self.old.faults self.new.faults) }
     {
         self.ready_removal(alloc, &spot.at, gone)
     }
@@ -106,18 +114,23 @@ impl<S: Store + Drop> MdCache<S> {
         alloc: Global,
         from: &Spot,
         to: &Spot,
+        inode: &Inode,
         gone: Option<Ino>,
     ) -> Result<(), Refusal>
         requires sound { IsSoundCore self.old }
-        requires holds { MayHoldEach self.old.caches (Move from.now to.now gone) }
-        requires may { MayChange (shown_in self.old) self.old.covers (Move from.now to.now gone) }
-        ensures ready { OnOk result (IsReady self.new (Move from.now to.now gone)) }
-        ensures reads { ReadsCore (IsNamedIn (Move from.now to.now gone)) (IsKeptFor self.old.caches) self.old self.new }
+        requires holds { MayHoldEach self.old.caches (moves from.now to.now inode.now gone) }
+        requires may { MayChange (shown_in self.old) self.old.covers (moves from.now to.now inode.now gone) }
+        ensures ready { OnOk result (IsReady self.new (moves from.now to.now inode.now gone)) }
+        ensures reads { ReadsCore (IsNamedIn (moves from.now to.now inode.now gone)) (IsKeptFor self.old.caches) self.old self.new }
         ensures sound { IsSoundCore self.new }
         ensures counted { self.new.faults ≡ self.old.faults + faults_told (result_err result) }
-        ensures refused { IfErr result (MayNotBeReady (LacksToMake (Move from.now to.now gone) (state_of self.old)) (LacksPlacesOf self.old (Move from.now to.now gone)) self.old.faults self.new.faults) }
+        ensures refused { IfErr result (MayNotBeReady (LacksToMake (moves from.now to.now inode.now gone) (state_of self.old)) (LacksPlacesOf self.old (moves from.now to.now inode.now gone)) self.old.faults self.new.faults) }
     {
-        self.ready_move(alloc, from, to, gone)
+        if let Err(refusal) = self.ready_move(alloc, from, to, gone) {
+            return Err(refusal);
+        }
+        is_recorded(&self.caches, &from.at, &from.name);
+        Ok(())
     }
 }
 

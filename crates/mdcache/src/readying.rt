@@ -1,5 +1,5 @@
 //! What each kind of change needs is made ready: numbers, leaves, places and room.
-ghost use Rattle.std.specs.Prelude.{◌≡◌, ◌⊎◌, ◌+◌, ◌-◌, ◌<◌, ◌≤◌, ◌^◌, true, false, is_some, Some, None, string_bytes, length, OnOk, IfOk, IfErr, IfSome};
+ghost use Rattle.std.specs.Prelude.{◌≡◌, ◌⊎◌, ◌+◌, ◌-◌, ◌<◌, ◌≤◌, ◌^◌, true, false, Some, None, string_bytes, length, OnOk, IfOk, IfErr, IfSome};
 ghost use Rattle.std.specs.Result.{result_err};
 ghost use Rattle.std.specs.FinMap as map;
 ghost use Rattle.mds_types.specs.declared.refusals.Refusal.TheVariants.{NoInodes, NoMemory};
@@ -16,7 +16,7 @@ ghost use Rattle.inode_table.specs.Dirs.{is_known};
 ghost use Rattle.namespace_ops.specs.Changes.{dentry_at};
 ghost use Rattle.mdcache.specs.Changes.{first_leaf};
 ghost use Rattle.mdcache.specs.Core.{IsSoundCore, LacksPlacesAt, ReadsCore};
-ghost use Rattle.mdcache.specs.Frags.{IsDirectoryReady, IsForRemoval, IsMovingIn, IsNameReady};
+ghost use Rattle.mdcache.specs.Frags.{IsDirectoryReady, IsForMove, IsForRemoval, IsNameReady};
 ghost use Rattle.mdcache.specs.Going.{IsGoing, IsGoingOrNone, count_going, dir_going};
 ghost use Rattle.mdcache.specs.Ranks.{KeepsOnlyAt, MayHold};
 ghost use Rattle.mdcache.specs.Ready.{LacksNumbers, MayNotBeReady};
@@ -29,7 +29,7 @@ use crate::prepared::{MovingEntry, NewDirectory, Prepared};
 use crate::purge_list::PurgeList;
 use dentry_cache::Caches;
 use inode_table::Dirs;
-use mds_types::{Dirfrag, Frag, Ino, Inode, Name, ObjName, Refusal};
+use mds_types::{Dirfrag, Frag, Ino, Name, ObjName, Refusal};
 use namespace_ops::Spot;
 use objstore::Store;
 use std::alloc::{AllocError, Global};
@@ -160,9 +160,9 @@ impl<S: Store + Drop> MdCache<S> {
     }
 
     /// Makes ready that the inode of one name moves to another, in a leaf that may be the same: the first has room for two changes
-    /// then, and the second for one; a copy of the inode and one of its new name are kept. `gone` is the number of what is
-    /// replaced, if that is a directory: the names of its objects are kept, and the purge list has room for them. Takes memory for
-    /// leaves that are read, for the room, for the copies and for the names.
+    /// then, and the second for one; a copy of the new name is kept. `gone` is the number of what is replaced, if that is a
+    /// directory: the names of its objects are kept, and the purge list has room for them. Takes memory for leaves that are read,
+    /// for the room, for the copy and for the names.
     ///
     /// Refused `NoInodes` exactly where no two versions are left; otherwise `NothingToEvict` where no place of the cache is
     /// free and no fragment but the first can go, `StoreFault`, and `NoMemory`.
@@ -179,11 +179,10 @@ impl<S: Store + Drop> MdCache<S> {
         requires to_live { IsLive self.old.homes self.old.covers (leaf_of to.now.at) }
         requires to_holds { MayHold self.old.caches to.now.at.rank (leaf_of to.now.at) }
         requires one { ◌≡◌ {A = Leaf} (leaf_of from.now.at) (leaf_of to.now.at) → from.now.at.rank ≡ to.now.at.rank }
-        requires stands { is_some (map.get (names_of (unclean self.old.caches) self.old.objects (leaf_of from.now.at)) from.now.name) ≡ true }
         ensures source { OnOk result (HasCached (here self.new.caches from.now.at.rank.0 (leaf_of from.now.at)) (λ (f : Cached). 1 < f.room)) }
         ensures target { OnOk result (HasRoom (here self.new.caches to.now.at.rank.0 (leaf_of to.now.at))) }
         ensures number { OnOk result (self.new.next_version < 2 ^ 64 - 2) }
-        ensures moving { OnOk result (IsMovingIn (map.get (names_of (unclean self.old.caches) self.old.objects (leaf_of from.now.at)) from.now.name) self.new.covers self.new.room.purge to.now.name gone self.new.prepared) }
+        ensures moving { OnOk result (IsForMove self.new.covers self.new.room.purge to.now.name gone self.new.prepared) }
         ensures reads { ReadsCore (λ r q. IsThat from.now.at.rank.0 (leaf_of from.now.at) r q ⊎ IsThat to.now.at.rank.0 (leaf_of to.now.at) r q) (IsKeptFor self.old.caches) self.old self.new }
         ensures none { OnOk result (KeepsNone self.new.caches) }
         ensures sound { IsSoundCore self.new }
@@ -199,8 +198,7 @@ impl<S: Store + Drop> MdCache<S> {
         if let Err(refusal) = self.ready_pair(alloc, &from.at, &to.at) {
             return Err(refusal);
         }
-        let inode = inode_at(&self.caches, &from.at, &from.name)?;
-        self.prepared = Prepared::Move(MovingEntry { inode, name, going });
+        self.prepared = Prepared::Move(MovingEntry { name, going });
         Ok(())
     }
 }
@@ -239,8 +237,8 @@ fn new_directory(alloc: Global, name: &Name, dir: Ino) -> Result<NewDirectory, R
     Ok(NewDirectory { name, object })
 }
 
-// What a name of a cached fragment stands for, a record allows: a law of the type, so nothing is done with it.
-fn is_recorded(caches: &Caches, at: &Dirfrag, name: &Name)
+/// What a name of a cached fragment stands for, a record allows: a law of the type, so nothing is done with it.
+pub(crate) fn is_recorded(caches: &Caches, at: &Dirfrag, name: &Name)
     requires there { at.now.rank.0 < length caches.now.used }
     requires cached { IsThere (here caches.now at.now.rank.0 (leaf_of at.now)) }
     ensures { HasCached (here caches.now at.now.rank.0 (leaf_of at.now)) (λ (f : Cached). IfSome (map.get (shown f) name.now) IsRecordable) }
@@ -248,23 +246,6 @@ fn is_recorded(caches: &Caches, at: &Dirfrag, name: &Name)
     if let Some(fragment) = caches.get(*at) {
         let _ = fragment.look(name);
     }
-}
-
-// The inode that a name of a cached fragment stands for, copied. A record allows it, as each of a fragment's.
-fn inode_at(caches: &Caches, at: &Dirfrag, name: &Name) -> Result<Inode, Refusal>
-    requires there { at.now.rank.0 < length caches.now.used }
-    requires stands { HasCached (here caches.now at.now.rank.0 (leaf_of at.now)) (λ (f : Cached). is_some (map.get (shown f) name.now) ≡ true) }
-    ensures inode { IfOk result (λ inode. HasCached (here caches.now at.now.rank.0 (leaf_of at.now)) (λ (f : Cached). map.get (shown f) name.now ≡ Some inode)) }
-    ensures recordable { IfOk result (λ inode. IsRecordable inode) }
-    ensures refused { IfErr result (λ reason. reason ≡ NoMemory) }
-{
-    let Some(fragment) = caches.get(*at) else {
-        unreachable!()
-    };
-    let Some(inode) = fragment.look(name) else {
-        unreachable!()
-    };
-    Ok(inode.try_clone()?)
 }
 
 // Where a directory goes: the names of its objects, for which there is room on the purge list then. Takes memory for both.

@@ -1,5 +1,5 @@
 -- The fragments of a checked change are the operation's changed fragments, and each is named once.
-use Rattle.std.proofs.Common.{◌≡◌, ℕ, Bool, true, false, cond, ◌&&◌, ◌||◌, List, [], ◌∷◌, ◌++◌, Option, Some, None, Result, Ok, Err, IfOk, ⊎_elim, refl, sym, ap, subst, ◌∙◌, arith}
+use Rattle.std.proofs.Common.{◌≡◌, ℕ, Bool, true, false, cond, ◌&&◌, ◌||◌, List, [], ◌∷◌, ◌++◌, Option, Some, None, Result, Ok, Err, IfOk, IfSome, ⊎_elim, refl, sym, ap, subst, ◌∙◌, arith}
 use Rattle.std.specs.List.{Contains}
 use Rattle.std.specs.Ordering.{eq_by_cmp}
 use Rattle.std.specs.FinMap as map
@@ -7,7 +7,6 @@ use Rattle.mds_types.specs.declared.ids.Ino.{Ino}
 use Rattle.mds_types.specs.declared.dentries.Dentry.{Dentry}
 use Rattle.mds_types.specs.declared.dirfrags.Dirfrag.{Dirfrag}
 use Rattle.mds_types.specs.declared.inodes.Inode.{Inode}
-use Rattle.mds_types.specs.declared.inodes.Kind.{Kind}
 use Rattle.mds_types.specs.declared.operations.Op.{Op}
 use Rattle.mds_types.specs.declared.operations.Op.TheVariants.{Lookup, Readdir, Create, Mkdir, Readlink, Symlink, Setattr, Unlink, Rmdir, Rename}
 use Rattle.mds_types.specs.Frag.{Fragment}
@@ -19,10 +18,9 @@ use Rattle.mds_types.proofs.DirectoryLaws.{entries_there}
 use Rattle.inode_table.specs.Dirs.{Covers, leaves_of}
 use Rattle.namespace_ops.specs.declared.plans.Spot.{Spot}
 use Rattle.namespace_ops.specs.declared.plans.Change.{Change}
-use Rattle.namespace_ops.specs.declared.plans.Change.TheVariants.{Add, Set, Remove, Move}
 use Rattle.mds_types.specs.Leaf.{Leaf, leaf_of}
-use Rattle.namespace_ops.specs.Changes.{Carries, IsAddAt, IsChangeOf, IsLeafAt, IsMoveTo, IsRemovalAt, IsSetAt, IsSpot, IsUnlinkAt, Takes, dentry_at, directory_at, fragments_of, in_directory, is_idle, is_new, leaves, leaves_gone, named_once, reply_of, same_leaf, stays, unless_same}
-use Rattle.namespace_ops.specs.ChangedFragments.{AreApart, IsCovered, NamesOnce, changed_fragments, fragment_of, gone_with, leaves_at, touched}
+use Rattle.namespace_ops.specs.Changes.{Carries, IsChangeOf, IsLeafAt, IsMoveTo, IsRemovalAt, IsSpot, IsUnlinkAt, PutsAt, Takes, TakesAt, TakesBy, dentry_at, directory_at, directory_gone, fragments_of, in_directory, is_idle, leaf_put, leaf_taken, leaves, leaves_gone, named_once, other_put, reply_by, same_leaf, stays, unless_same}
+use Rattle.namespace_ops.specs.ChangedFragments.{AreApart, IsCovered, NamesOnce, changed_fragments, fragment_of, leaves_at, touched}
 use Rattle.mds_types.specs.declared.refusals.Refusal.{Refusal}
 use Rattle.namespace_ops.specs.declared.plans.Checked.{Checked}
 use Rattle.namespace_ops.specs.declared.plans.Checked.TheVariants.{Changes}
@@ -46,50 +44,50 @@ gone_leaves covers (Some inode) gone is = ap (leaves_gone covers) is ∙ go (is_
     go false = refl
 
 module _ (tree : Tree) (covers : Covers) where
-  of_add : (dentry : Dentry) (kind : Kind) (change : Change) → IsAddAt dentry kind change → Carries tree covers change → fragments_of covers change ≡ fragment_of covers dentry ∷ []
-  of_add dentry kind (Add spot inode) at_dentry carries = ap (λ l. l ∷ []) (leaf_at covers dentry spot at_dentry.0 carries)
-  of_add dentry kind (Set spot inode) at_dentry carries = absurd at_dentry
-  of_add dentry kind (Remove spot gone) at_dentry carries = absurd at_dentry
-  of_add dentry kind (Move from to gone) at_dentry carries = absurd at_dentry
+  taken_leaf : (dentry : Dentry) (takes : Option Spot) → TakesAt dentry takes → IfSome takes (IsSpot covers) → leaf_taken takes ≡ fragment_of covers dentry ∷ []
+  taken_leaf dentry None at_dentry spots = absurd at_dentry
+  taken_leaf dentry (Some spot) at_dentry spots = ap (λ l. l ∷ []) (leaf_at covers dentry spot at_dentry spots)
 
-  of_set : (dentry : Dentry) (change : Change) → IsSetAt dentry change → Carries tree covers change → fragments_of covers change ≡ fragment_of covers dentry ∷ []
-  of_set dentry (Add spot inode) at_dentry carries = absurd at_dentry
-  of_set dentry (Set spot inode) at_dentry carries = ap (λ l. l ∷ []) (leaf_at covers dentry spot at_dentry carries)
-  of_set dentry (Remove spot gone) at_dentry carries = absurd at_dentry
-  of_set dentry (Move from to gone) at_dentry carries = absurd at_dentry
+  put_leaf : (dentry : Dentry) (Is : Inode → Type 0) (puts : Option (Spot × Inode)) → PutsAt dentry Is puts → IfSome puts (λ put. IsSpot covers put.0) → leaf_put puts ≡ fragment_of covers dentry ∷ []
+  put_leaf dentry Is None at_dentry spots = absurd at_dentry
+  put_leaf dentry Is (Some put) at_dentry spots = ap (λ l. l ∷ []) (leaf_at covers dentry put.0 at_dentry.0 spots)
+
+  -- the directory that goes stood at the dentry that is taken, or, where that is put, at the other
+  gone_taken : (dentry : Dentry) (takes : Option Spot) (puts : Option (Spot × Inode)) → TakesAt dentry takes → puts ≡ None → directory_gone tree takes puts ≡ directory_at (map.get tree dentry)
+  gone_taken dentry None puts at_dentry none = absurd at_dentry
+  gone_taken dentry (Some spot) puts at_dentry none = ap (directory_gone tree (Some spot)) none ∙ ap (λ d. directory_at (map.get tree d)) at_dentry
+
+  gone_put : (here there : Dentry) (Is : Inode → Type 0) (takes : Option Spot) (puts : Option (Spot × Inode)) → TakesAt here takes → PutsAt there Is puts → directory_gone tree takes puts ≡ directory_at (map.get tree there)
+  gone_put here there Is None puts at_here at_there = absurd at_here
+  gone_put here there Is (Some spot) None at_here at_there = absurd at_there
+  gone_put here there Is (Some spot) (Some put) at_here at_there = ap (λ d. directory_at (map.get tree d)) at_there.0
+
+  of_put : (dentry : Dentry) (Is : Inode → Type 0) (change : Change) → change.takes ≡ None → PutsAt dentry Is change.puts → change.gone ≡ None → Carries tree covers change → fragments_of covers change ≡ fragment_of covers dentry ∷ []
+  of_put dentry Is change takes puts gone carries = λ i. leaf_taken (takes i) ++ (put_leaf dentry Is change.puts puts carries.put i ++ leaves_gone covers (gone i))
 
   of_unlink : (dentry : Dentry) (change : Change) → IsUnlinkAt dentry change → Carries tree covers change → fragments_of covers change ≡ fragment_of covers dentry ∷ []
-  of_unlink dentry (Add spot inode) at_dentry carries = absurd at_dentry
-  of_unlink dentry (Set spot inode) at_dentry carries = absurd at_dentry
-  of_unlink dentry (Remove spot gone) at_dentry carries = λ i. leaf_at covers dentry spot at_dentry.0 carries.0 i ∷ leaves_gone covers (at_dentry.1 i)
-  of_unlink dentry (Move from to gone) at_dentry carries = absurd at_dentry
+  of_unlink dentry change is carries = λ i. taken_leaf dentry change.takes is.removal.takes carries.taken i ++ (leaf_put (is.removal.puts i) ++ leaves_gone covers (is.gone i))
 
   of_removal : (dentry : Dentry) (change : Change) → IsRemovalAt dentry change → Carries tree covers change → fragments_of covers change ≡ fragment_of covers dentry ∷ leaves_at covers (map.get tree dentry)
-  of_removal dentry (Add spot inode) at_dentry carries = absurd at_dentry
-  of_removal dentry (Set spot inode) at_dentry carries = absurd at_dentry
-  of_removal dentry (Remove spot gone) at_dentry carries =
-      let there = gone_leaves covers (map.get tree dentry) gone (carries.1 ∙ ap (λ q. directory_at (map.get tree q)) at_dentry) in
-      λ i. leaf_at covers dentry spot at_dentry carries.0 i ∷ there i
-  of_removal dentry (Move from to gone) at_dentry carries = absurd at_dentry
+  of_removal dentry change is carries =
+      let there = gone_leaves covers (map.get tree dentry) change.gone (carries.gone ∙ gone_taken dentry change.takes change.puts is.takes is.puts) in
+      λ i. taken_leaf dentry change.takes is.takes carries.taken i ++ (leaf_put (is.puts i) ++ there i)
 
   of_move : (here there : Dentry) (change : Change) → IsMoveTo here there change → Carries tree covers change
       → fragments_of covers change ≡ fragment_of covers here ∷ fragment_of covers there ∷ leaves_at covers (map.get tree there)
-  of_move here there (Add spot inode) at_dentry carries = absurd at_dentry
-  of_move here there (Set spot inode) at_dentry carries = absurd at_dentry
-  of_move here there (Remove spot gone) at_dentry carries = absurd at_dentry
-  of_move here there (Move from to gone) at_dentry carries =
-      let rest = gone_leaves covers (map.get tree there) gone (carries.2 ∙ ap (λ q. directory_at (map.get tree q)) at_dentry.1) in
-      λ i. leaf_at covers here from at_dentry.0 carries.0 i ∷ leaf_at covers there to at_dentry.1 carries.1 i ∷ rest i
+  of_move here there change is carries =
+      let rest = gone_leaves covers (map.get tree there) change.gone (carries.gone ∙ gone_put here there (λ (inode : Inode). Unit {0}) change.takes change.puts is.takes is.puts) in
+      λ i. taken_leaf here change.takes is.takes carries.taken i ++ (put_leaf there (λ (inode : Inode). Unit {0}) change.puts is.puts carries.put i ++ rest i)
 
   -- the fragments of a change are those that its operation touches
   touched_by : (op : Op) (change : Change) → IsChangeOf op change → Carries tree covers change → stays op ≡ false → fragments_of covers change ≡ touched covers tree op
   touched_by (Lookup dentry) change one_of carries moves = absurd one_of
   touched_by (Readdir dir after max) change one_of carries moves = absurd one_of
   touched_by (Readlink dentry) change one_of carries moves = absurd one_of
-  touched_by (Create dentry mode mtime) change one_of carries moves = of_add dentry _ change one_of carries
-  touched_by (Mkdir dentry mode mtime) change one_of carries moves = of_add dentry _ change one_of carries
-  touched_by (Symlink dentry target mtime) change one_of carries moves = of_add dentry _ change one_of carries
-  touched_by (Setattr dentry given) change one_of carries moves = of_set dentry change one_of carries
+  touched_by (Create dentry mode mtime) change one_of carries moves = of_put dentry _ change one_of.takes one_of.puts one_of.gone carries
+  touched_by (Mkdir dentry mode mtime) change one_of carries moves = of_put dentry _ change one_of.takes one_of.puts one_of.gone carries
+  touched_by (Symlink dentry target mtime) change one_of carries moves = of_put dentry _ change one_of.takes one_of.puts one_of.gone carries
+  touched_by (Setattr dentry given) change one_of carries moves = of_put dentry _ change one_of.takes one_of.puts one_of.gone carries
   touched_by (Unlink dentry) change one_of carries moves = of_unlink dentry change one_of carries
   touched_by (Rmdir dentry) change one_of carries moves = of_removal dentry change one_of carries
   touched_by (Rename from to) change one_of carries moves =
@@ -97,19 +95,16 @@ module _ (tree : Tree) (covers : Covers) where
       ∙ sym (ap (λ b. cond b [] (fragment_of covers from ∷ fragment_of covers to ∷ leaves_at covers (map.get tree to))) moves)
 
   move_apart : (here there : Dentry) (change : Change) → IsMoveTo here there change → Takes tree change → eq_by_cmp dentry_cmp here there ≡ false
-  move_apart here there (Add spot inode) at_dentry takes = absurd at_dentry
-  move_apart here there (Set spot inode) at_dentry takes = absurd at_dentry
-  move_apart here there (Remove spot gone) at_dentry takes = absurd at_dentry
-  move_apart here there (Move from to gone) at_dentry takes = (λ i. eq_by_cmp dentry_cmp (sym at_dentry.0 i) (sym at_dentry.1 i)) ∙ takes.1.apart
-
-  new_or_not : (change : Change) → ((is_new change ≡ false) → Takes tree change) → (here there : Dentry) → IsMoveTo here there change → Takes tree change
-  new_or_not (Add spot inode) takes here there at_dentry = absurd at_dentry
-  new_or_not (Set spot inode) takes here there at_dentry = absurd at_dentry
-  new_or_not (Remove spot gone) takes here there at_dentry = absurd at_dentry
-  new_or_not (Move from to gone) takes here there at_dentry = takes refl
+  move_apart here there change is = go change.takes change.puts change.comes is.takes is.puts
+    where
+      go : (takes : Option Spot) (puts : Option (Spot × Inode)) (comes : Bool) → TakesAt here takes → PutsAt there (λ (inode : Inode). Unit {0}) puts → TakesBy tree takes puts comes → eq_by_cmp dentry_cmp here there ≡ false
+      go None puts comes at_here at_there may = absurd at_here
+      go (Some spot) None comes at_here at_there may = absurd at_there
+      go (Some spot) (Some put) true at_here at_there may = absurd may
+      go (Some spot) (Some put) false at_here at_there may = (λ i. eq_by_cmp dentry_cmp (sym at_here i) (sym at_there.0 i)) ∙ may.apart
 
   -- an operation that makes a change doesn't stay
-  moves_by : (op : Op) (change : Change) → IsChangeOf op change → ((is_new change ≡ false) → Takes tree change) → stays op ≡ false
+  moves_by : (op : Op) (change : Change) → IsChangeOf op change → ((change.comes ≡ false) → Takes tree change) → stays op ≡ false
   moves_by (Lookup dentry) change one_of takes = absurd one_of
   moves_by (Readdir dir after max) change one_of takes = absurd one_of
   moves_by (Readlink dentry) change one_of takes = absurd one_of
@@ -120,28 +115,43 @@ module _ (tree : Tree) (covers : Covers) where
   moves_by (Unlink dentry) change one_of takes = refl
   moves_by (Rmdir dentry) change one_of takes = refl
   moves_by (Rename from to) change one_of takes =
-      move_apart from to change one_of (new_or_not change takes from to one_of)
+      move_apart from to change one_of (takes one_of.comes)
 
-no_errno : (change : Change) → is_errno (reply_of change) ≡ false
-no_errno (Add spot inode) = refl
-no_errno (Set spot inode) = refl
-no_errno (Remove spot gone) = refl
-no_errno (Move from to gone) = refl
+not_new : (change : Change) → change.comes ≡ false → change.comes ≡ true → change.takes ≡ None
+not_new change old new = let clash : true ≡ false = sym new ∙ old in absurd cc
+
+-- where an inode comes no name loses one
+comes_alone : (op : Op) (change : Change) → IsChangeOf op change → change.comes ≡ true → change.takes ≡ None
+comes_alone (Lookup dentry) change one_of = absurd one_of
+comes_alone (Readdir dir after max) change one_of = absurd one_of
+comes_alone (Readlink dentry) change one_of = absurd one_of
+comes_alone (Create dentry mode mtime) change one_of = λ new. one_of.takes
+comes_alone (Mkdir dentry mode mtime) change one_of = λ new. one_of.takes
+comes_alone (Symlink dentry target mtime) change one_of = λ new. one_of.takes
+comes_alone (Setattr dentry given) change one_of = λ new. one_of.takes
+comes_alone (Unlink dentry) change one_of = not_new change one_of.removal.comes
+comes_alone (Rmdir dentry) change one_of = not_new change one_of.comes
+comes_alone (Rename from to) change one_of = not_new change one_of.comes
+
+no_errno : (takes : Option Spot) (puts : Option (Spot × Inode)) → is_errno (reply_by takes puts) ≡ false
+no_errno None None = refl
+no_errno None (Some put) = refl
+no_errno (Some spot) puts = refl
 
 module _ (tree : Tree) (covers : Covers) (Holds : Dirfrag → Type 0) (op : Op) (n : ℕ) (change : Change) (checked : IsChecked tree covers Holds op n (step tree op n) change) where
-  pub takes_old : is_new change ≡ false → Takes tree change
+  pub takes_old : change.comes ≡ false → Takes tree change
   takes_old old = checked.takes (λ taken. let clash : true ≡ false = sym taken ∙ checked.number ∙ old in absurd cc)
 
   pub moves : stays op ≡ false
   moves = moves_by tree covers op change checked.one_of takes_old
 
   pub busy : is_idle op (step tree op n).reply ≡ false
-  busy = ap (λ r. is_errno r || stays op) checked.replied ∙ ap (λ b. b || stays op) (no_errno change) ∙ moves
+  busy = ap (λ r. is_errno r || stays op) checked.replied ∙ ap (λ b. b || stays op) (no_errno change.takes change.puts) ∙ moves
 
   pub fragments_are : fragments_of covers change ≡ changed_fragments covers tree op
   fragments_are =
       touched_by tree covers op change checked.one_of checked.carries moves
-      ∙ sym (ap (λ b. cond b [] (touched covers tree op)) (errno_of_any_number tree op 0 n ∙ ap is_errno checked.replied ∙ no_errno change))
+      ∙ sym (ap (λ b. cond b [] (touched covers tree op)) (errno_of_any_number tree op 0 n ∙ ap is_errno checked.replied ∙ no_errno change.takes change.puts))
 
 -- the errno of a replacement, by three tests
 abbrev told : Bool → Bool → Bool → Option ℕ
@@ -213,36 +223,44 @@ module _ (tree : Tree) (covers : Covers) where
           front leaf e = (0, omega arith, e)
       go false is = itself (a ∷ b ∷ rest) (λ has. ⊎_elim (λ e. two_leaves a b is (sym e)) a_not (first_or_later b a rest has), (b_not, apart))
 
-  pub named_apart : (change : Change) → Carries tree covers change → (is_new change ≡ false → Takes tree change) → IsCovered covers (gone_with change) → NamesOnce (fragments_of covers change) (named_once covers change)
-  named_apart (Add spot inode) carries takes covered = itself _ (none_in _, tt)
-  named_apart (Set spot inode) carries takes covered = itself _ (none_in _, tt)
-  named_apart (Remove spot gone) carries takes covered =
-      let may = takes refl in
-      itself _ (beside_gone (dentry_at spot) may.inode spot.at.frag gone may.stands (bare_by (map.get tree (dentry_at spot)) gone carries.1 (λ inode is kinded. removed_bare may.inode inode (sym may.stands ∙ is) may.empty kinded)), gone_apart gone covered)
+  removed_bare : (there inode : Inode) → ◌≡◌ {A = Option Inode} (Some there) (Some inode) → (is_dir_kind there.kind && has_entries tree there.ino.0) ≡ false → is_dir_kind inode.kind ≡ true → has_entries tree inode.ino.0 ≡ false
+  removed_bare there inode is none kinded =
+      let alike : there ≡ inode = cc in
+      sym (ap (λ b. b && has_entries tree inode.ino.0) kinded) ∙ ap (λ (i : Inode). is_dir_kind i.kind && has_entries tree i.ino.0) (sym alike) ∙ none
+
+  beside_to : (to : Spot) (found : Option Inode) → map.get tree (dentry_at to) ≡ found → (g : Option Ino) → g ≡ directory_at (map.get tree (dentry_at to)) → IsBare tree g → Contains (leaves_gone covers g) (leaf_of to.at) → ⊥
+  beside_to to None at_to None is bare has = none_in _ has
+  beside_to to None at_to (Some dir) is bare has = let clash : Some dir ≡ None = is ∙ ap directory_at at_to in cc
+  beside_to to (Some inode) at_to g is bare has = beside_gone (dentry_at to) inode to.at.frag g at_to bare has
+
+  none_of : (spot : Spot) → Some spot ≡ None → ⊥
+  none_of spot same = cc
+
+  pub named_apart : (change : Change) → Carries tree covers change → (change.comes ≡ true → change.takes ≡ None) → (change.comes ≡ false → Takes tree change) → IsCovered covers change.gone → NamesOnce (fragments_of covers change) (named_once covers change)
+  named_apart change carries alone takes covered = go change.takes change.puts change.comes change.gone carries.gone alone takes covered
     where
-      removed_bare : (there inode : Inode) → ◌≡◌ {A = Option Inode} (Some there) (Some inode) → (is_dir_kind there.kind && has_entries tree there.ino.0) ≡ false → is_dir_kind inode.kind ≡ true → has_entries tree inode.ino.0 ≡ false
-      removed_bare there inode is none kinded =
-          let alike : there ≡ inode = cc in
-          sym (ap (λ b. b && has_entries tree inode.ino.0) kinded) ∙ ap (λ (i : Inode). is_dir_kind i.kind && has_entries tree i.ino.0) (sym alike) ∙ none
-  named_apart (Move from to gone) carries takes covered =
-      let move = takes refl in
-      let bare : IsBare tree gone = bare_by (map.get tree (dentry_at to)) gone carries.2 (replaced_bare move.0 (map.get tree (dentry_at to)) move.1.replaces) in
-      of_two (leaf_of from.at) (leaf_of to.at) (leaves_gone covers gone) (beside_gone (dentry_at from) move.0 from.at.frag gone move.1.stands bare) (beside_to (map.get tree (dentry_at to)) refl gone carries.2 bare) (gone_apart gone covered)
-    where
-      beside_to : (found : Option Inode) → map.get tree (dentry_at to) ≡ found → (g : Option Ino) → g ≡ directory_at (map.get tree (dentry_at to)) → IsBare tree g → Contains (leaves_gone covers g) (leaf_of to.at) → ⊥
-      beside_to None at_to None is bare has = none_in _ has
-      beside_to None at_to (Some dir) is bare has = let clash : Some dir ≡ None = is ∙ ap directory_at at_to in cc
-      beside_to (Some inode) at_to g is bare has = beside_gone (dentry_at to) inode to.at.frag g at_to bare has
+      go : (from : Option Spot) (to : Option (Spot × Inode)) (comes : Bool) (gone : Option Ino) → gone ≡ directory_gone tree from to → (comes ≡ true → from ≡ None) → (comes ≡ false → TakesBy tree from to comes) → IsCovered covers gone
+          → NamesOnce (leaf_taken from ++ (leaf_put to ++ leaves_gone covers gone)) (leaf_taken from ++ (other_put from to ++ leaves_gone covers gone))
+      go None None comes gone is alone may within = itself (leaves_gone covers gone) (gone_apart gone within)
+      go None (Some to) comes gone is alone may within = subst (λ (g : Option Ino). NamesOnce (leaf_of to.0.at ∷ leaves_gone covers g) (leaf_of to.0.at ∷ leaves_gone covers g)) (sym is) (itself (leaf_of to.0.at ∷ []) (none_in _, tt))
+      go (Some spot) to true gone is alone may within = absurd (none_of spot (alone refl))
+      go (Some spot) None false gone is alone may within =
+          let one = may refl in
+          itself _ (beside_gone (dentry_at spot) one.inode spot.at.frag gone one.stands (bare_by (map.get tree (dentry_at spot)) gone is (λ inode there kinded. removed_bare one.inode inode (sym one.stands ∙ there) one.empty kinded)), gone_apart gone within)
+      go (Some spot) (Some to) false gone is alone may within =
+          let move = may refl in
+          let bare : IsBare tree gone = bare_by (map.get tree (dentry_at to.0)) gone is (replaced_bare to.1 (map.get tree (dentry_at to.0)) move.replaces) in
+          of_two (leaf_of spot.at) (leaf_of to.0.at) (leaves_gone covers gone) (beside_gone (dentry_at spot) to.1 spot.at.frag gone move.stands bare) (beside_to to.0 (map.get tree (dentry_at to.0)) refl gone is bare) (gone_apart gone within)
 
 -- the list of the fragments of the change that the checks found names the changed fragments of its operation, each once
 pub named_by : {V : Type 0} (tree : Tree) (covers : Covers) (Holds : Dirfrag → Type 0) (change : Change) (found : Checked) (result : Result V Refusal) (items : V → List Leaf) → found ≡ Changes change
-    → IfOk result (λ list. items list ≡ named_once covers change) → IfOk result (λ list. IsCovered covers (gone_with change))
+    → IfOk result (λ list. items list ≡ named_once covers change) → IfOk result (λ list. IsCovered covers change.gone)
     → IfOk result (λ list. (op : Op) (n : ℕ) → Checks tree covers Holds op n (step tree op n) found → NamesOnce (changed_fragments covers tree op) (items list))
 named_by tree covers Holds change found (Err reason) items is listed covered = tt
 named_by tree covers Holds change found (Ok list) items is listed covered = λ op n checks.
     let checked : IsChecked tree covers Holds op n (step tree op n) change = subst (Checks tree covers Holds op n (step tree op n)) is checks in
     subst (λ k. NamesOnce k (items list)) (fragments_are tree covers Holds op n change checked)
-    (subst (NamesOnce (fragments_of covers change)) (sym listed) (named_apart tree covers change checked.carries (takes_old tree covers Holds op n change checked) covered))
+    (subst (NamesOnce (fragments_of covers change)) (sym listed) (named_apart tree covers change checked.carries (comes_alone op change checked.one_of) (takes_old tree covers Holds op n change checked) covered))
 
 -- so does one that was made after the checks
 pub named_from : {V : Type 0} (tree mid : Tree) (covers later : Covers) (Holds Held : Dirfrag → Type 0) (op : Op) (n : ℕ) (found : Checked) (result : Result V Refusal) (items : V → List Leaf) → mid ≡ tree → later ≡ covers → ((at : Dirfrag) → Holds at → Held at)

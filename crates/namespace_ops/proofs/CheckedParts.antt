@@ -1,5 +1,5 @@
 -- What the checks of each kind of operation find.
-use Rattle.std.proofs.Common.{◌≡◌, ℕ, Bool, true, false, not, cond, ◌&&◌, is_some, IfOk, Option, Some, None, Result, Ok, Err, refl, sym, ap, subst, ◌∙◌}
+use Rattle.std.proofs.Common.{◌≡◌, ℕ, Bool, true, false, not, cond, ◌&&◌, is_some, IfOk, IfSome, Option, Some, None, Result, Ok, Err, refl, sym, ap, subst, ◌∙◌}
 use Rattle.std.specs.Ordering.{eq_by_cmp}
 use Rattle.std.specs.FinMap as map
 use Rattle.mds_types.specs.declared.ids.Ino.{Ino}
@@ -22,11 +22,9 @@ use Rattle.inode_table.specs.Dirs.{Covers}
 use Rattle.inode_table.specs.TreeChanges.{MayAdd, MayRemove, MaySet}
 use Rattle.namespace_ops.specs.declared.locating.Places.{Places}
 use Rattle.namespace_ops.specs.declared.plans.Spot.{Spot}
-use Rattle.namespace_ops.specs.declared.plans.Change.{Change}
-use Rattle.namespace_ops.specs.declared.plans.Change.TheVariants.{Add, Set, Remove, Move}
 use Rattle.namespace_ops.specs.declared.plans.Checked.{Checked}
 use Rattle.namespace_ops.specs.declared.plans.Checked.TheVariants.{Answers, Changes}
-use Rattle.namespace_ops.specs.Changes.{AreHeld, Concerns, IsChangeOf, IsLeafAt, IsSpot, Reads, dentry_at, directory_at, moved}
+use Rattle.namespace_ops.specs.Changes.{Concerns, IsChangeOf, IsLeafAt, IsSpot, Reads, adds, dentry_at, directory_at, moves, removes, sets}
 use Rattle.namespace_ops.specs.Checked.{Checks, IsChecked}
 use Rattle.namespace_ops.specs.Places.{AreLocated, IsAt, LiesAt, Locates, LocatesAt, main_hash, source_of}
 
@@ -57,18 +55,18 @@ module _ (tree : Tree) (covers : Covers) (Holds : Dirfrag → Type 0) where
 
 module _ (tree : Tree) (covers : Covers) (Holds : Dirfrag → Type 0) (op : Op) (n : ℕ) where
   pub made_checked : (dentry : Dentry) (at : Dirfrag) (spot : Spot) (kind : Kind) (mode mtime : ℕ) (inode : Inode) → LiesAt tree covers Holds dentry at → spot ≡ record { at = at; name = dentry.name } → inode ≡ new_inode n kind mode mtime → map.get tree dentry ≡ None
-      → ((s : Spot) (i : Inode) → dentry_at s ≡ dentry → i.kind ≡ kind → IsChangeOf op (Add s i)) → IsChecked tree covers Holds op n (made tree dentry (new_inode n kind mode mtime) (map.get tree dentry)) (Add spot inode)
+      → ((s : Spot) (i : Inode) → dentry_at s ≡ dentry → i.kind ≡ kind → IsChangeOf op (adds s i)) → IsChecked tree covers Holds op n (made tree dentry (new_inode n kind mode mtime) (map.get tree dentry)) (adds spot inode)
   made_checked dentry at spot kind mode mtime inode lies same is free makes =
       let there = spot_of tree covers Holds dentry at lies spot same in
-      subst (λ (i : Inode). IsChecked tree covers Holds op n (made tree dentry new (map.get tree dentry)) (Add spot i)) (sym is)
-      (subst (λ o. IsChecked tree covers Holds op n (made tree dentry new o) (Add spot new)) (sym free) (record {
+      subst (λ (i : Inode). IsChecked tree covers Holds op n (made tree dentry new (map.get tree dentry)) (adds spot i)) (sym is)
+      (subst (λ o. IsChecked tree covers Holds op n (made tree dentry new o) (adds spot new)) (sym free) (record {
         one_of = makes spot new there.0 refl;
         replied = refl;
         leads = ap (λ (d : Dentry). map.insert tree d new) (sym there.0);
         number = refl;
-        numbered = refl;
-        carries = there.1;
-        held = there.2;
+        numbered = λ new. refl;
+        carries = record { taken = tt; put = there.1; gone = refl };
+        held = record { taken = tt; put = there.2 };
         takes = λ unused. subst (λ (d : Dentry). MayAdd tree d new) (sym there.0) (record { free = free; parent = lies.stands; unused = unused refl; sized = new_sized kind });
       }))
     where
@@ -76,19 +74,19 @@ module _ (tree : Tree) (covers : Covers) (Holds : Dirfrag → Type 0) (op : Op) 
       new = new_inode n kind mode mtime
 
   pub set_checked : (dentry : Dentry) (at : Dirfrag) (spot : Spot) (given : Attributes) (before inode : Inode) → LiesAt tree covers Holds dentry at → spot ≡ record { at = at; name = dentry.name } → inode ≡ with_attributes given before → map.get tree dentry ≡ Some before → size_errno before.kind given.size ≡ None
-      → ((s : Spot) (i : Inode) → dentry_at s ≡ dentry → IsChangeOf op (Set s i)) → IsChecked tree covers Holds op n (attributes_set tree dentry given (map.get tree dentry)) (Set spot inode)
-  set_checked dentry at spot given before inode lies same is stands allowed sets =
+      → ((s : Spot) (i : Inode) → dentry_at s ≡ dentry → IsChangeOf op (sets s i)) → IsChecked tree covers Holds op n (attributes_set tree dentry given (map.get tree dentry)) (sets spot inode)
+  set_checked dentry at spot given before inode lies same is stands allowed may_set =
       let there = spot_of tree covers Holds dentry at lies spot same in
-      subst (λ (i : Inode). IsChecked tree covers Holds op n (attributes_set tree dentry given (map.get tree dentry)) (Set spot i)) (sym is)
-      (subst (λ o. IsChecked tree covers Holds op n (attributes_set tree dentry given o) (Set spot later)) (sym stands)
-      (subst (λ e. IsChecked tree covers Holds op n (unless tree e (answers (map.insert tree dentry later) (Entry later))) (Set spot later)) (sym allowed) (record {
-        one_of = sets spot later there.0;
+      subst (λ (i : Inode). IsChecked tree covers Holds op n (attributes_set tree dentry given (map.get tree dentry)) (sets spot i)) (sym is)
+      (subst (λ o. IsChecked tree covers Holds op n (attributes_set tree dentry given o) (sets spot later)) (sym stands)
+      (subst (λ e. IsChecked tree covers Holds op n (unless tree e (answers (map.insert tree dentry later) (Entry later))) (sets spot later)) (sym allowed) (record {
+        one_of = may_set spot later there.0;
         replied = refl;
         leads = ap (λ (d : Dentry). map.insert tree d later) (sym there.0);
         number = refl;
-        numbered = tt;
-        carries = there.1;
-        held = there.2;
+        numbered = λ new. let clash : true ≡ false = sym new in absurd cc;
+        carries = record { taken = tt; put = there.1; gone = refl };
+        held = record { taken = tt; put = there.2 };
         takes = λ unused. subst (λ (d : Dentry). MaySet tree d later) (sym there.0) (record { before = before; given = given; stands = stands; allowed = allowed; is = refl });
       })))
     where
@@ -96,53 +94,51 @@ module _ (tree : Tree) (covers : Covers) (Holds : Dirfrag → Type 0) (op : Op) 
       later = with_attributes given before
 
   removed : (dentry : Dentry) (at : Dirfrag) (spot : Spot) (inode : Inode) (gone : Option Ino) (outcome : Outcome) → LiesAt tree covers Holds dentry at → spot ≡ record { at = at; name = dentry.name } → map.get tree dentry ≡ Some inode → (is_dir_kind inode.kind && has_entries tree inode.ino.0) ≡ false
-      → gone ≡ directory_at (Some inode) → ((s : Spot) → dentry_at s ≡ dentry → IsChangeOf op (Remove s gone)) → outcome ≡ answers (map.remove tree dentry) Done → IsChecked tree covers Holds op n outcome (Remove spot gone)
-  removed dentry at spot inode gone outcome lies same stands empty is removes comes =
+      → gone ≡ directory_at (Some inode) → ((s : Spot) → dentry_at s ≡ dentry → IsChangeOf op (removes s gone)) → outcome ≡ answers (map.remove tree dentry) Done → IsChecked tree covers Holds op n outcome (removes spot gone)
+  removed dentry at spot inode gone outcome lies same stands empty is may_remove comes =
       let there = spot_of tree covers Holds dentry at lies spot same in
-      subst (λ o. IsChecked tree covers Holds op n o (Remove spot gone)) (sym comes) (record {
-        one_of = removes spot there.0;
+      subst (λ o. IsChecked tree covers Holds op n o (removes spot gone)) (sym comes) (record {
+        one_of = may_remove spot there.0;
         replied = refl;
         leads = ap (map.remove tree) (sym there.0);
         number = refl;
-        numbered = tt;
-        carries = (there.1, is ∙ ap directory_at (sym stands) ∙ ap (λ (d : Dentry). directory_at (map.get tree d)) (sym there.0));
-        held = there.2;
+        numbered = λ new. tt;
+        carries = record { taken = there.1; put = tt; gone = is ∙ ap directory_at (sym stands) ∙ ap (λ (d : Dentry). directory_at (map.get tree d)) (sym there.0) };
+        held = record { taken = there.2; put = tt };
         takes = λ unused. subst (MayRemove tree) (sym there.0) (record { inode = inode; stands = stands; empty = empty });
       })
 
   pub unlinked_checked : (dentry : Dentry) (at : Dirfrag) (spot : Spot) (inode : Inode) → LiesAt tree covers Holds dentry at → spot ≡ record { at = at; name = dentry.name } → map.get tree dentry ≡ Some inode → is_dir_kind inode.kind ≡ false
-      → ((s : Spot) → dentry_at s ≡ dentry → IsChangeOf op (Remove s None)) → IsChecked tree covers Holds op n (unlinked tree dentry (map.get tree dentry)) (Remove spot None)
-  unlinked_checked dentry at spot inode lies same stands file removes =
-      removed dentry at spot inode None _ lies same stands (ap (λ b. b && has_entries tree inode.ino.0) file) (sym (ap (λ b. cond b (Some inode.ino) None) file)) removes
+      → ((s : Spot) → dentry_at s ≡ dentry → IsChangeOf op (removes s None)) → IsChecked tree covers Holds op n (unlinked tree dentry (map.get tree dentry)) (removes spot None)
+  unlinked_checked dentry at spot inode lies same stands file may_remove =
+      removed dentry at spot inode None _ lies same stands (ap (λ b. b && has_entries tree inode.ino.0) file) (sym (ap (λ b. cond b (Some inode.ino) None) file)) may_remove
       (ap (unlinked tree dentry) stands ∙ ap (λ b. cond b (answers tree (Errno 21)) (answers (map.remove tree dentry) Done)) file)
 
   pub dir_checked : (dentry : Dentry) (at : Dirfrag) (spot : Spot) (inode : Inode) → LiesAt tree covers Holds dentry at → spot ≡ record { at = at; name = dentry.name } → map.get tree dentry ≡ Some inode → removal_errno tree inode ≡ None
-      → ((s : Spot) (g : Option Ino) → dentry_at s ≡ dentry → IsChangeOf op (Remove s g)) → IsChecked tree covers Holds op n (dir_removed tree dentry (map.get tree dentry)) (Remove spot (Some inode.ino))
-  dir_checked dentry at spot inode lies same stands may removes =
+      → ((s : Spot) (g : Option Ino) → dentry_at s ≡ dentry → IsChangeOf op (removes s g)) → IsChecked tree covers Holds op n (dir_removed tree dentry (map.get tree dentry)) (removes spot (Some inode.ino))
+  dir_checked dentry at spot inode lies same stands may may_remove =
       let free = may_go (is_dir_kind inode.kind) (has_entries tree inode.ino.0) may in
-      removed dentry at spot inode (Some inode.ino) _ lies same stands (ap (λ b. b && has_entries tree inode.ino.0) free.0 ∙ free.1) (sym (ap (λ b. cond b (Some inode.ino) None) free.0)) (λ s is. removes s (Some inode.ino) is)
+      removed dentry at spot inode (Some inode.ino) _ lies same stands (ap (λ b. b && has_entries tree inode.ino.0) free.0 ∙ free.1) (sym (ap (λ b. cond b (Some inode.ino) None) free.0)) (λ s is. may_remove s (Some inode.ino) is)
       (ap (dir_removed tree dentry) stands ∙ ap (λ e. unless tree e (answers (map.remove tree dentry) Done)) may)
 
   pub moved_checked : (from to : Dentry) (at : Dirfrag × Dirfrag) (source target : Spot) (gone : Option Ino) (inode : Inode) → LiesAt tree covers Holds from at.0 → LiesAt tree covers Holds to at.1 → source ≡ record { at = at.0; name = from.name } → target ≡ record { at = at.1; name = to.name }
       → map.get tree from ≡ Some inode → eq_by_cmp dentry_cmp from to ≡ false → leads_to tree inode to.dir.0 ≡ false → replace_errno tree inode (map.get tree to) ≡ None → gone ≡ directory_at (map.get tree to)
-      → ((s t : Spot) (g : Option Ino) → dentry_at s ≡ from → dentry_at t ≡ to → IsChangeOf op (Move s t g))
-      → IsChecked tree covers Holds op n (unless tree (replace_errno tree inode (map.get tree to)) (answers (with_moved tree from to inode) Done)) (Move source target gone)
-  moved_checked from to at source target gone inode here there begins ends stands apart outside replaces is moves =
+      → ((s t : Spot) (i : Inode) (g : Option Ino) → dentry_at s ≡ from → dentry_at t ≡ to → IsChangeOf op (moves s t i g))
+      → IsChecked tree covers Holds op n (unless tree (replace_errno tree inode (map.get tree to)) (answers (with_moved tree from to inode) Done)) (moves source target inode gone)
+  moved_checked from to at source target gone inode here there begins ends stands apart outside replaces is may_move =
       let a = spot_of tree covers Holds from at.0 here source begins in
       let b = spot_of tree covers Holds to at.1 there target ends in
-      subst (λ e. IsChecked tree covers Holds op n (unless tree e (answers (with_moved tree from to inode) Done)) (Move source target gone)) (sym replaces) (record {
-        one_of = moves source target gone a.0 b.0;
+      subst (λ e. IsChecked tree covers Holds op n (unless tree e (answers (with_moved tree from to inode) Done)) (moves source target inode gone)) (sym replaces) (record {
+        one_of = may_move source target inode gone a.0 b.0;
         replied = refl;
-        leads = ap (moved tree from to) (sym stands) ∙ (λ i. moved tree (sym a.0 i) (sym b.0 i) (map.get tree (sym a.0 i)));
+        leads = λ i. with_moved tree (sym a.0 i) (sym b.0 i) inode;
         number = refl;
-        numbered = tt;
-        carries = (a.1, b.1, is ∙ ap (λ (d : Dentry). directory_at (map.get tree d)) (sym b.0));
-        held = (a.2, b.2);
-        takes = λ unused. (
-          inode,
-          subst (λ (d : Dentry). IsMove tree d (dentry_at target) inode) (sym a.0) (subst (λ (d : Dentry). IsMove tree from d inode) (sym b.0)
-              (record { stands = stands; apart = apart; parent = there.stands; outside = outside; replaces = replaces })),
-        );
+        numbered = λ new. let clash : true ≡ false = sym new in absurd cc;
+        carries = record { taken = a.1; put = b.1; gone = is ∙ ap (λ (d : Dentry). directory_at (map.get tree d)) (sym b.0) };
+        held = record { taken = a.2; put = b.2 };
+        takes = λ unused.
+            subst (λ (d : Dentry). IsMove tree d (dentry_at target) inode) (sym a.0) (subst (λ (d : Dentry). IsMove tree from d inode) (sym b.0)
+            (record { stands = stands; apart = apart; parent = there.stands; outside = outside; replaces = replaces }));
       })
 
 -- the errno of what stands at the target, asked of a later state at which the tree was the same
@@ -163,11 +159,13 @@ pub checks_from : (tree mid : Tree) (covers later : Covers) (Holds Held : Dirfra
 checks_from tree mid covers later Holds Held op n outcome here result same leaves holds is found =
     held_so (subst (λ t. IfOk result (Checks t covers Held op n here)) same (subst (λ k. IfOk result (Checks mid k Held op n here)) leaves (subst (λ o. IfOk result (Checks mid later Held op n o)) is found)))
   where
-    held_of : (change : Change) → AreHeld Held change → AreHeld Holds change
-    held_of (Add spot inode) h = holds spot.at h
-    held_of (Set spot inode) h = holds spot.at h
-    held_of (Remove spot went) h = holds spot.at h
-    held_of (Move from to went) h = (holds from.at h.0, holds to.at h.1)
+    taken_of : (takes : Option Spot) → IfSome takes (λ spot. Held spot.at) → IfSome takes (λ spot. Holds spot.at)
+    taken_of None h = tt
+    taken_of (Some spot) h = holds spot.at h
+
+    put_of : (puts : Option (Spot × Inode)) → IfSome puts (λ put. Held put.0.at) → IfSome puts (λ put. Holds put.0.at)
+    put_of None h = tt
+    put_of (Some put) h = holds put.0.at h
 
     held_so : IfOk result (Checks tree covers Held op n here) → IfOk result (Checks tree covers Holds op n here)
     held_so = go result
@@ -175,7 +173,7 @@ checks_from tree mid covers later Holds Held op n outcome here result same leave
         go : (r : Result Checked Refusal) → IfOk r (Checks tree covers Held op n here) → IfOk r (Checks tree covers Holds op n here)
         go (Err reason) h = tt
         go (Ok (Answers reply)) h = h
-        go (Ok (Changes change)) h = record { one_of = h.one_of; replied = h.replied; leads = h.leads; number = h.number; numbered = h.numbered; carries = h.carries; held = held_of change h.held; takes = h.takes }
+        go (Ok (Changes change)) h = record { one_of = h.one_of; replied = h.replied; leads = h.leads; number = h.number; numbered = h.numbered; carries = h.carries; held = record { taken = taken_of change.takes h.held.taken; put = put_of change.puts h.held.put }; takes = h.takes }
 
 -- a directory that an operation concerns by what stands at a dentry is read
 pub reads_inside : (tree : Tree) (op is : Op) (dentry : Dentry) (inode : Inode) → op ≡ is → Concerns tree is inode.ino.0 → map.get tree dentry ≡ Some inode → inode.kind ≡ Dir → Reads tree op inode.ino.0

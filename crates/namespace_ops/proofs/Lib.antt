@@ -5,3 +5,4 @@ pub mod OtherLeaves
 pub mod PickLaws
 pub mod PlanParts
 pub mod ReasonLaws
+pub mod Shapes

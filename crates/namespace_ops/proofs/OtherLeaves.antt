@@ -1,5 +1,5 @@
 -- A change leaves every leaf that is none of its fragments as it was.
-use Rattle.std.specs.Prelude.{◌≡◌, ℕ, true, ◌⊎◌, List, [], ◌∷◌, map as map_list, Option, Some, None, refl}
+use Rattle.std.specs.Prelude.{◌≡◌, ℕ, true, ◌⊎◌, ◌++◌, List, [], ◌∷◌, map as map_list, Option, Some, None, IfSome, refl}
 use Rattle.std.specs.List.{Contains as Among}
 use Rattle.std.proofs.Common.{sym, ap, subst, ◌∙◌, ⊎_elim, inl, inr, cond, arith}
 use Rattle.std.specs.FinMap as map
@@ -8,21 +8,22 @@ use Rattle.mds_types.specs.declared.dentries.Dentry.{Dentry}
 use Rattle.mds_types.specs.declared.inodes.Inode.{Inode}
 use Rattle.mds_types.specs.Frag.{Fragment, Contains}
 use Rattle.mds_types.specs.Tree.{Tree, at, dentry_of, is_directory, is_dir_kind, IsWellFormed}
-use Rattle.mds_types.specs.Step.{with_moved, IsMove}
 use Rattle.mds_types.proofs.EntryLaws.{get_put, get_beside, get_left, same_or_apart}
 use Rattle.mds_types.proofs.DirectoryLaws.{StandsAs, directory_stands, root_stands, entry_stands, one_dentry}
-use Rattle.mds_types.proofs.MovedLaws.{MayMove, may_move, still_directory as still_moved}
+use Rattle.mds_types.proofs.MovedLaws.{may_move, still_directory as still_moved}
 use Rattle.fragtree.specs.FragTree.{HasLeaf}
 use Rattle.namehash.specs.Rjenkins.{hash_of}
 use Rattle.inode_table.specs.Dirs.{Covers, leaves_of}
-use Rattle.inode_table.specs.TreeChanges.{KeepLeaves, MayAdd, MaySet, MayRemove}
+use Rattle.inode_table.specs.TreeChanges.{KeepLeaves}
 use Rattle.namespace_ops.specs.declared.plans.Change.{Change}
-use Rattle.namespace_ops.specs.declared.plans.Change.TheVariants.{Add, Set, Remove, Move}
+use Rattle.namespace_ops.specs.declared.plans.Spot.{Spot}
 use Rattle.mds_types.specs.Leaf.{Leaf, leaf_of}
 use Rattle.namespace_ops.specs.Kept.{IsStanding, ShowsTheSame, OthersShowTheSame}
-use Rattle.namespace_ops.specs.Changes.{IsLeafAt, MayChange, changed, dentry_at, directory_at, fragments_in, fragments_of, in_directory, leaves, leaves_gone, moved}
+use Rattle.namespace_ops.specs.Changes.{IsLeafAt, IsSpot, MayChange, changed, dentry_at, directory_at, fragments_in, fragments_of, in_directory, leaf_put, leaf_taken, leaves, leaves_gone, put, taken}
 use Rattle.namespace_ops.specs.Planned.{IsReadyToChange, after_plan}
 use Rattle.namespace_ops.proofs.Members.{first, first_or_later, later}
+use Rattle.namespace_ops.proofs.Shapes.{Shape, shape_of}
+use Rattle.namespace_ops.proofs.Shapes.Shape.{add, move, remove, set}
 
 -- a leaf of a directory is among its leaves
 among_leaves : (d : ℕ) (fs : List Fragment) (f : Fragment) → HasLeaf fs f → Among (map_list (in_directory d) fs) (in_directory d f)
@@ -57,11 +58,11 @@ module _ (tree : Tree) (covers : Covers) (whole : IsWellFormed tree) (leaf : Lea
   stands_as : (new : Tree) (w : StandsAs tree leaf.0.0) → map.get new w.dentry ≡ map.get tree w.dentry → is_directory new leaf.0.0 ≡ true
   stands_as new w same = ap (is_directory new) (sym w.numbered) ∙ entry_stands new w.dentry w.inode (same ∙ w.stands) w.kinded
 
-  directory_after : (change : Change) → MayChange tree covers change → (Among (fragments_of covers change) leaf → ⊥) → is_directory (changed tree change) leaf.0.0 ≡ true
-  directory_after (Add spot inode) may elsewhere =
+  directory_after : (change : Change) → Shape change → MayChange tree covers change → (Among (fragments_of covers change) leaf → ⊥) → is_directory (changed tree change) leaf.0.0 ≡ true
+  directory_after _ (add spot inode) may elsewhere =
       still (map.insert tree (dentry_at spot) inode) (λ w. stands_as (map.insert tree (dentry_at spot) inode) w (get_beside tree (dentry_at spot) inode w.dentry
       (λ same. let clash : None ≡ Some w.inode = sym may.takes.free ∙ ap (map.get tree) (sym same) ∙ w.stands in cc)))
-  directory_after (Set spot inode) may elsewhere = still (map.insert tree (dentry_at spot) inode) (λ w. go w (same_or_apart w.dentry (dentry_at spot)))
+  directory_after _ (set spot inode) may elsewhere = still (map.insert tree (dentry_at spot) inode) (λ w. go w (same_or_apart w.dentry (dentry_at spot)))
     where
       go : (w : StandsAs tree leaf.0.0) → (w.dentry ≡ (dentry_at spot)) ⊎ (w.dentry ≡ (dentry_at spot) → ⊥) → is_directory (map.insert tree (dentry_at spot) inode) leaf.0.0 ≡ true
       go w (inr not_there) = stands_as _ w (get_beside tree (dentry_at spot) inode w.dentry not_there)
@@ -70,12 +71,11 @@ module _ (tree : Tree) (covers : Covers) (whole : IsWellFormed tree) (leaf : Lea
           let alike : may.takes.before ≡ w.inode = cc in
           ap (is_directory (map.insert tree (dentry_at spot) inode)) (sym w.numbered ∙ ap (λ (i : Inode). i.ino.0) (sym alike) ∙ ap (λ (i : Inode). i.ino.0) (sym may.takes.is))
           ∙ entry_stands (map.insert tree (dentry_at spot) inode) (dentry_at spot) inode (get_put tree (dentry_at spot) inode) (ap (λ (i : Inode). is_dir_kind i.kind) may.takes.is ∙ ap (λ (i : Inode). is_dir_kind i.kind) alike ∙ w.kinded)
-  directory_after (Remove spot went) may elsewhere =
+  directory_after _ (remove spot went) may elsewhere =
       still (map.remove tree (dentry_at spot)) (λ w. stands_as (map.remove tree (dentry_at spot)) w (get_left tree (dentry_at spot) w.dentry
-      (λ same. not_gone went (map.get tree (dentry_at spot)) may.carries.1 (λ gone_one. elsewhere (later _ _ _ gone_one)) w.inode (ap (map.get tree) (sym same) ∙ w.stands) w.kinded w.numbered)))
-  directory_after (Move source target went) may elsewhere =
-      ap (λ found. is_directory (moved tree (dentry_at source) (dentry_at target) found) leaf.0.0) may.takes.1.stands
-      ∙ still_moved tree (dentry_at source) (dentry_at target) may.takes.0 whole (may_move tree (dentry_at source) (dentry_at target) may.takes.0 whole may.takes.1) leaf.0.0
+      (λ same. not_gone went (map.get tree (dentry_at spot)) may.carries.gone (λ gone_one. elsewhere (later _ _ _ gone_one)) w.inode (ap (map.get tree) (sym same) ∙ w.stands) w.kinded w.numbered)))
+  directory_after _ (move source target inode went) may elsewhere =
+      still_moved tree (dentry_at source) (dentry_at target) inode whole (may_move tree (dentry_at source) (dentry_at target) inode whole may.takes) leaf.0.0
       (λ t there same. still_there t there same (directory_stands tree leaf.0.0 stood.directory)) stood.directory
     where
       still_there : (t : Inode) → map.get tree (dentry_at target) ≡ Some t → t.ino.0 ≡ leaf.0.0 → (leaf.0.0 ≡ 1) ⊎ StandsAs tree leaf.0.0 → ⊥
@@ -84,25 +84,33 @@ module _ (tree : Tree) (covers : Covers) (whole : IsWellFormed tree) (leaf : Lea
           let dentries : w.dentry ≡ (dentry_at target) = one_dentry tree whole w.dentry (dentry_at target) w.inode t w.stands there (w.numbered ∙ sym same) in
           let both : Some w.inode ≡ Some t = sym w.stands ∙ ap (map.get tree) dentries ∙ there in
           let alike : w.inode ≡ t = cc in
-          not_gone went (map.get tree (dentry_at target)) may.carries.2 (λ gone_one. elsewhere (later (leaf_of source.at) leaf (leaf_of target.at ∷ leaves_gone covers went) (later (leaf_of target.at) leaf (leaves_gone covers went) gone_one))) t there (ap (λ (i : Inode). is_dir_kind i.kind) (sym alike) ∙ w.kinded) same
+          not_gone went (map.get tree (dentry_at target)) may.carries.gone (λ gone_one. elsewhere (later (leaf_of source.at) leaf (leaf_of target.at ∷ leaves_gone covers went) (later (leaf_of target.at) leaf (leaves_gone covers went) gone_one))) t there (ap (λ (i : Inode). is_dir_kind i.kind) (sym alike) ∙ w.kinded) same
+
+  -- the names of this leaf stay where one of another is taken, and where one gets an inode
+  names_taken : (takes : Option Spot) (rest : List Leaf) → IfSome takes (IsSpot covers) → (Among (leaf_taken takes ++ rest) leaf → ⊥) → (name : List ℕ) → Contains leaf.1 (hash_of name)
+      → map.get (taken tree takes) (dentry_of leaf.0.0 name) ≡ map.get tree (dentry_of leaf.0.0 name)
+  names_taken None rest spots elsewhere name inside = refl
+  names_taken (Some spot) rest spots elsewhere name inside = get_left tree (dentry_at spot) _ (apart (dentry_at spot) spot.at.frag spots (λ same. elsewhere (first_is _ _ rest same)) name inside)
+
+  names_put : (old : Tree) (puts : Option (Spot × Inode)) (rest : List Leaf) → IfSome puts (λ put. IsSpot covers put.0) → (Among (leaf_put puts ++ rest) leaf → ⊥) → (name : List ℕ) → Contains leaf.1 (hash_of name)
+      → map.get (put old puts) (dentry_of leaf.0.0 name) ≡ map.get old (dentry_of leaf.0.0 name)
+  names_put old None rest spots elsewhere name inside = refl
+  names_put old (Some one) rest spots elsewhere name inside = get_beside old (dentry_at one.0) one.1 _ (apart (dentry_at one.0) one.0.at.frag spots (λ same. elsewhere (first_is _ _ rest same)) name inside)
+
+  among_put : (takes : Option Spot) (rest : List Leaf) → Among rest leaf → Among (leaf_taken takes ++ rest) leaf
+  among_put None rest has = has
+  among_put (Some spot) rest has = later (leaf_of spot.at) leaf rest has
 
   names_after : (change : Change) → MayChange tree covers change → (Among (fragments_of covers change) leaf → ⊥) → (name : List ℕ) → Contains leaf.1 (hash_of name)
       → map.get (changed tree change) (dentry_of leaf.0.0 name) ≡ map.get tree (dentry_of leaf.0.0 name)
-  names_after (Add spot inode) may elsewhere name inside =
-      get_beside tree (dentry_at spot) inode _ (apart (dentry_at spot) spot.at.frag may.carries (λ same. elsewhere (first_is _ _ [] same)) name inside)
-  names_after (Set spot inode) may elsewhere name inside =
-      get_beside tree (dentry_at spot) inode _ (apart (dentry_at spot) spot.at.frag may.carries (λ same. elsewhere (first_is _ _ [] same)) name inside)
-  names_after (Remove spot went) may elsewhere name inside =
-      get_left tree (dentry_at spot) _ (apart (dentry_at spot) spot.at.frag may.carries.0 (λ same. elsewhere (first_is _ _ (leaves_gone covers went) same)) name inside)
-  names_after (Move source target went) may elsewhere name inside =
-      ap (λ found. map.get (moved tree (dentry_at source) (dentry_at target) found) (dentry_of leaf.0.0 name)) may.takes.1.stands
-      ∙ get_beside (map.remove tree (dentry_at source)) (dentry_at target) may.takes.0 _ (apart (dentry_at target) target.at.frag may.carries.1 (λ same. elsewhere (later (leaf_of source.at) leaf (leaf_of target.at ∷ leaves_gone covers went) (first_is _ _ (leaves_gone covers went) same))) name inside)
-      ∙ get_left tree (dentry_at source) _ (apart (dentry_at source) source.at.frag may.carries.0 (λ same. elsewhere (first_is _ _ (leaf_of target.at ∷ leaves_gone covers went) same)) name inside)
+  names_after change may elsewhere name inside =
+      names_put (taken tree change.takes) change.puts (leaves_gone covers change.gone) may.carries.put (λ has. elsewhere (among_put change.takes (leaf_put change.puts ++ leaves_gone covers change.gone) has)) name inside
+      ∙ names_taken change.takes (leaf_put change.puts ++ leaves_gone covers change.gone) may.carries.taken elsewhere name inside
 
 pub others_show_the_same : (tree : Tree) (covers now : Covers) (change : Change) → IsWellFormed tree → MayChange tree covers change → KeepLeaves (changed tree change) covers now
     → OthersShowTheSame tree (changed tree change) covers now (fragments_of covers change)
 others_show_the_same tree covers now change whole may keep leaf elsewhere stood =
-    let here = directory_after tree covers whole leaf stood change may elsewhere in
+    let here = directory_after tree covers whole leaf stood change (shape_of tree covers change may) may elsewhere in
     record {
       stands = record { directory = here; among = subst (λ fs. HasLeaf fs leaf.1) (sym (keep leaf.0.0 here)) stood.among };
       names = λ name inside. names_after tree covers whole leaf stood change may elsewhere name inside;

@@ -1,5 +1,5 @@
 -- A plan, part by part.
-use Rattle.std.proofs.Common.{◌≡◌, ℕ, true, false, cond, Option, Some, None, refl, sym, ap, subst, ◌∙◌}
+use Rattle.std.proofs.Common.{◌≡◌, ℕ, true, false, cond, IfSome, Option, Some, None, refl, sym, ap, subst, ◌∙◌}
 use Rattle.mds_types.specs.declared.ids.Ino.{Ino}
 use Rattle.mds_types.specs.declared.dirfrags.Dirfrag.{Dirfrag}
 use Rattle.mds_types.specs.declared.operations.Op.{Op}
@@ -7,9 +7,10 @@ use Rattle.mds_types.specs.declared.replies.Reply.{Reply}
 use Rattle.mds_types.specs.Tree.{Tree, IsUnused}
 use Rattle.mds_types.specs.Step.{step, number_or}
 use Rattle.inode_table.specs.Dirs.{Covers}
+use Rattle.mds_types.specs.declared.inodes.Inode.{Inode}
 use Rattle.namespace_ops.specs.declared.plans.Change.{Change}
-use Rattle.namespace_ops.specs.declared.plans.Change.TheVariants.{Add, Set, Remove, Move}
-use Rattle.namespace_ops.specs.Changes.{IsNumbered, IsOffered, MayChange, is_new, reply_of}
+use Rattle.namespace_ops.specs.declared.plans.Spot.{Spot}
+use Rattle.namespace_ops.specs.Changes.{IsNumbered, IsOffered, MayChange, reply_of}
 use Rattle.namespace_ops.specs.Checked.{IsChecked}
 use Rattle.namespace_ops.specs.Planned.{IsPlanned}
 use Rattle.namespace_ops.proofs.ChangedLaws.{busy, fragments_are}
@@ -25,22 +26,20 @@ offered_number tree IsNumber None offered some = absurd (some refl)
 offered_number tree IsNumber (Some ino) offered some = offered.1
 
 module _ (tree : Tree) (covers : Covers) (Holds : Dirfrag → Type 0) (op : Op) (number : Option Ino) (change : Change) (checked : IsChecked tree covers Holds op (number_or number) (step tree op (number_or number)) change) where
-  pub may_change : (IsNumber : ℕ → Type 0) → IsOffered tree IsNumber number → (is_new change ≡ true → number ≡ None → ⊥) → MayChange tree covers change
+  pub may_change : (IsNumber : ℕ → Type 0) → IsOffered tree IsNumber number → (change.comes ≡ true → number ≡ None → ⊥) → MayChange tree covers change
   may_change IsNumber offered given = record {
     carries = checked.carries;
     takes = checked.takes (λ taken. offered_unused tree IsNumber number offered (given (sym checked.number ∙ taken)));
   }
 
-  pub numbered_so : (IsNumber : ℕ → Type 0) → IsOffered tree IsNumber number → (is_new change ≡ true → number ≡ None → ⊥) → IsNumbered IsNumber change
-  numbered_so IsNumber offered given = go change checked.numbered given
+  pub numbered_so : (IsNumber : ℕ → Type 0) → IsOffered tree IsNumber number → (change.comes ≡ true → number ≡ None → ⊥) → IsNumbered IsNumber change
+  numbered_so IsNumber offered given comes = go change.puts (checked.numbered comes)
     where
-      go : (made : Change) → IsNumbered (λ m. m ≡ number_or number) made → (is_new made ≡ true → number ≡ None → ⊥) → IsNumbered IsNumber made
-      go (Add spot inode) is some = subst IsNumber (sym is) (offered_number tree IsNumber number offered (some refl))
-      go (Set spot inode) is some = tt
-      go (Remove spot went) is some = tt
-      go (Move from to went) is some = tt
+      go : (puts : Option (Spot × Inode)) → IfSome puts (λ put. put.1.ino.0 ≡ number_or number) → IfSome puts (λ put. IsNumber put.1.ino.0)
+      go None is = tt
+      go (Some put) is = subst IsNumber (sym is) (offered_number tree IsNumber number offered (given comes))
 
-  pub planned_change : (IsReady : Change → Type 0) (reply : Reply) (taken : Option Ino) → reply ≡ reply_of change → taken ≡ cond (is_new change) number None → (number ≡ None → is_new change ≡ false) → IsReady change → MayChange tree covers change
+  pub planned_change : (IsReady : Change → Type 0) (reply : Reply) (taken : Option Ino) → reply ≡ reply_of change → taken ≡ cond (change.comes) number None → (number ≡ None → change.comes ≡ false) → IsReady change → MayChange tree covers change
       → IsPlanned tree covers IsReady op (step tree op (number_or number)) number (record { reply = reply; change = Some change; number = taken })
   planned_change IsReady reply taken replied took numbered ready may = record {
     replied = replied ∙ sym checked.replied;

@@ -15,8 +15,6 @@ use Rattle.namehash.specs.Rjenkins.{hash_of}
 use Rattle.inode_table.specs.Dirs.{Covers, leaves_of}
 use Rattle.mds_types.specs.declared.ids.Ino.{Ino}
 use Rattle.fragtree.specs.FragTree.{IsTree}
-use Rattle.namespace_ops.specs.declared.plans.Change.{Change}
-use Rattle.namespace_ops.specs.declared.plans.Change.TheVariants.{Add, Set, Remove, Move}
 use Rattle.mds_types.specs.Leaf.{Leaf}
 use Rattle.namespace_ops.specs.Changes.{in_directory, leaves}
 use Rattle.namespace_ops.specs.Picks.{pick_of}
@@ -65,13 +63,6 @@ AreApart (leaf ∷ rest) = (Contains rest leaf → ⊥) × AreApart rest
 pub record NamesOnce (leaves list : List Leaf) : Type 0 where
   pub exactly : (leaf : Leaf) → Contains list leaf ↔ Contains leaves leaf
   pub once : AreApart list
-
--- the number of the directory that goes with a change, if one does
-abbrev pub gone_with : Change → Option Ino
-gone_with (Add spot inode) = None
-gone_with (Set spot inode) = None
-gone_with (Remove spot went) = went
-gone_with (Move from to went) = went
 
 -- the leaves of a directory that goes, if one does, cover every hash once
 abbrev pub IsCovered : Covers → Option Ino → Type 0

@@ -1,5 +1,5 @@
 -- Changes of the tree: which an operation makes, what they leave, which leaves they change, and where they may be made.
-use Rattle.std.specs.Prelude.{◌≡◌, ℕ, Bool, true, false, cond, ◌&&◌, ◌||◌, ◌==◌, ◌⊎◌, ◌++◌, ◌∷◌, [], List, map as map_list, Option, Some, None}
+use Rattle.std.specs.Prelude.{◌≡◌, ℕ, Bool, true, false, cond, ◌&&◌, ◌||◌, ◌==◌, ◌⊎◌, ◌++◌, ◌∷◌, [], List, map as map_list, Option, Some, None, IfSome}
 use Rattle.std.specs.Ordering.{eq_by_cmp}
 use Rattle.std.specs.FinMap as map
 use Rattle.mds_types.specs.declared.ids.Ino.{Ino}
@@ -14,7 +14,7 @@ use Rattle.mds_types.specs.declared.replies.Reply.{Reply}
 use Rattle.mds_types.specs.declared.replies.Reply.TheVariants.{Entry, Done}
 use Rattle.mds_types.specs.Frag.{Fragment}
 use Rattle.mds_types.specs.Tree.{Tree, dentry_cmp, is_dir_kind, is_directory, IsUnused}
-use Rattle.mds_types.specs.Step.{with_moved, IsMove}
+use Rattle.mds_types.specs.Step.{IsMove}
 use Rattle.mds_types.specs.Outcomes.{is_errno}
 use Rattle.fragtree.specs.FragTree.{IsPick}
 use Rattle.namehash.specs.Rjenkins.{hash_of}
@@ -23,46 +23,67 @@ use Rattle.inode_table.specs.TreeChanges.{MayAdd, MaySet, MayRemove}
 use Rattle.mds_types.specs.Leaf.{Leaf, leaf_of}
 use Rattle.namespace_ops.specs.declared.plans.Spot.{Spot}
 use Rattle.namespace_ops.specs.declared.plans.Change.{Change}
-use Rattle.namespace_ops.specs.declared.plans.Change.TheVariants.{Add, Set, Remove, Move}
 
 -- the dentry that lies at a spot
 abbrev pub dentry_at : Spot → Dentry
 dentry_at spot = record { dir = spot.at.dir; name = spot.name }
 
+-- a new inode comes to a spot
+abbrev pub adds : Spot → Inode → Change
+adds spot inode = record { takes = None; puts = Some (spot, inode); comes = true; gone = None }
+
+-- the inode at a spot gets other attributes
+abbrev pub sets : Spot → Inode → Change
+sets spot inode = record { takes = None; puts = Some (spot, inode); comes = false; gone = None }
+
+-- the entry at a spot goes, and with it the directory of this number, if it is one
+abbrev pub removes : Spot → Option Ino → Change
+removes spot went = record { takes = Some spot; puts = None; comes = false; gone = went }
+
+-- the inode at one spot moves to another, where the directory of this number is replaced, if one is
+abbrev pub moves : Spot → Spot → Inode → Option Ino → Change
+moves from to inode went = record { takes = Some from; puts = Some (to, inode); comes = false; gone = went }
+
+-- the name that loses its inode is this dentry
+abbrev pub TakesAt : Dentry → Option Spot → Type 0
+TakesAt dentry None = ⊥
+TakesAt dentry (Some spot) = dentry_at spot ≡ dentry
+
+-- the name that gets an inode is this dentry, and the inode is such a one
+abbrev pub PutsAt : Dentry → (Inode → Type 0) → Option (Spot × Inode) → Type 0
+PutsAt dentry Is None = ⊥
+PutsAt dentry Is (Some put) = (dentry_at put.0 ≡ dentry) × Is put.1
+
 -- a new inode of this kind at this dentry
-abbrev pub IsAddAt : Dentry → Kind → Change → Type 0
-IsAddAt dentry kind (Add spot inode) = (dentry_at spot ≡ dentry) × (inode.kind ≡ kind)
-IsAddAt dentry kind (Set spot inode) = ⊥
-IsAddAt dentry kind (Remove spot went) = ⊥
-IsAddAt dentry kind (Move from to went) = ⊥
+pub record IsAddAt (dentry : Dentry) (kind : Kind) (change : Change) : Type 0 where
+  pub takes : change.takes ≡ None
+  pub puts : PutsAt dentry (λ (inode : Inode). inode.kind ≡ kind) change.puts
+  pub comes : change.comes ≡ true
+  pub gone : change.gone ≡ None
 
 -- other attributes for the inode at this dentry
-abbrev pub IsSetAt : Dentry → Change → Type 0
-IsSetAt dentry (Add spot inode) = ⊥
-IsSetAt dentry (Set spot inode) = dentry_at spot ≡ dentry
-IsSetAt dentry (Remove spot went) = ⊥
-IsSetAt dentry (Move from to went) = ⊥
+pub record IsSetAt (dentry : Dentry) (change : Change) : Type 0 where
+  pub takes : change.takes ≡ None
+  pub puts : PutsAt dentry (λ (inode : Inode). Unit {0}) change.puts
+  pub comes : change.comes ≡ false
+  pub gone : change.gone ≡ None
 
 -- the entry at this dentry goes
-abbrev pub IsRemovalAt : Dentry → Change → Type 0
-IsRemovalAt dentry (Add spot inode) = ⊥
-IsRemovalAt dentry (Set spot inode) = ⊥
-IsRemovalAt dentry (Remove spot went) = dentry_at spot ≡ dentry
-IsRemovalAt dentry (Move from to went) = ⊥
+pub record IsRemovalAt (dentry : Dentry) (change : Change) : Type 0 where
+  pub takes : TakesAt dentry change.takes
+  pub puts : change.puts ≡ None
+  pub comes : change.comes ≡ false
 
 -- the entry at this dentry goes, and it is no directory
-abbrev pub IsUnlinkAt : Dentry → Change → Type 0
-IsUnlinkAt dentry (Add spot inode) = ⊥
-IsUnlinkAt dentry (Set spot inode) = ⊥
-IsUnlinkAt dentry (Remove spot went) = (dentry_at spot ≡ dentry) × (went ≡ None)
-IsUnlinkAt dentry (Move from to went) = ⊥
+pub record IsUnlinkAt (dentry : Dentry) (change : Change) : Type 0 where
+  pub removal : IsRemovalAt dentry change
+  pub gone : change.gone ≡ None
 
 -- the entry at one dentry moves to the other
-abbrev pub IsMoveTo : Dentry → Dentry → Change → Type 0
-IsMoveTo here there (Add spot inode) = ⊥
-IsMoveTo here there (Set spot inode) = ⊥
-IsMoveTo here there (Remove spot went) = ⊥
-IsMoveTo here there (Move from to went) = (dentry_at from ≡ here) × (dentry_at to ≡ there)
+pub record IsMoveTo (here there : Dentry) (change : Change) : Type 0 where
+  pub takes : TakesAt here change.takes
+  pub puts : PutsAt there (λ (inode : Inode). Unit {0}) change.puts
+  pub comes : change.comes ≡ false
 
 -- the operation makes this change, where it makes one
 abbrev pub IsChangeOf : Op → Change → Type 0
@@ -111,31 +132,29 @@ Concerns tree (Rename from to) d = (d ≡ from.dir.0) ⊎ (d ≡ to.dir.0) ⊎ (
 abbrev pub Reads : Tree → Op → ℕ → Type 0
 Reads tree op d = Concerns tree op d × (is_directory tree d ≡ true)
 
--- a new inode comes
-abbrev pub is_new : Change → Bool
-is_new (Add spot inode) = true
-is_new (Set spot inode) = false
-is_new (Remove spot went) = false
-is_new (Move from to went) = false
+-- the inode that an operation answers: one that comes, or has other attributes; of one that is taken or moves none
+abbrev pub reply_by : Option Spot → Option (Spot × Inode) → Reply
+reply_by None None = Done
+reply_by None (Some put) = Entry put.1
+reply_by (Some spot) puts = Done
 
 -- what an operation answers that makes a change
 abbrev pub reply_of : Change → Reply
-reply_of (Add spot inode) = Entry inode
-reply_of (Set spot inode) = Entry inode
-reply_of (Remove spot went) = Done
-reply_of (Move from to went) = Done
+reply_of change = reply_by change.takes change.puts
 
--- the tree once what stands at a dentry went to another
-abbrev pub moved : Tree → Dentry → Dentry → Option Inode → Tree
-moved tree from to None = tree
-moved tree from to (Some inode) = with_moved tree from to inode
+-- the tree once a name lost its inode, if one does
+abbrev pub taken : Tree → Option Spot → Tree
+taken tree None = tree
+taken tree (Some spot) = map.remove tree (dentry_at spot)
+
+-- the tree once a name got an inode, if one does
+abbrev pub put : Tree → Option (Spot × Inode) → Tree
+put tree None = tree
+put tree (Some one) = map.insert tree (dentry_at one.0) one.1
 
 -- the tree after a change
 abbrev pub changed : Tree → Change → Tree
-changed tree (Add spot inode) = map.insert tree (dentry_at spot) inode
-changed tree (Set spot inode) = map.insert tree (dentry_at spot) inode
-changed tree (Remove spot went) = map.remove tree (dentry_at spot)
-changed tree (Move from to went) = moved tree (dentry_at from) (dentry_at to) (map.get tree (dentry_at from))
+changed tree change = put (taken tree change.takes) change.puts
 
 -- the leaf of a dentry: the one that its name's hash picks
 abbrev pub IsLeafAt : Covers → Dentry → Fragment → Type 0
@@ -150,19 +169,31 @@ abbrev pub directory_at : Option Inode → Option Ino
 directory_at None = None
 directory_at (Some inode) = cond (is_dir_kind inode.kind) (Some inode.ino) None
 
+-- the number of the directory that goes: of what is taken, or, where that is put, of what stood there
+abbrev pub directory_gone : Tree → Option Spot → Option (Spot × Inode) → Option Ino
+directory_gone tree None puts = None
+directory_gone tree (Some spot) None = directory_at (map.get tree (dentry_at spot))
+directory_gone tree (Some spot) (Some put) = directory_at (map.get tree (dentry_at put.0))
+
 -- a change has the spot of each of its names, and the number of the directory that goes
-abbrev pub Carries : Tree → Covers → Change → Type 0
-Carries tree covers (Add spot inode) = IsSpot covers spot
-Carries tree covers (Set spot inode) = IsSpot covers spot
-Carries tree covers (Remove spot went) = IsSpot covers spot × (went ≡ directory_at (map.get tree (dentry_at spot)))
-Carries tree covers (Move from to went) = IsSpot covers from × IsSpot covers to × (went ≡ directory_at (map.get tree (dentry_at to)))
+pub record Carries (tree : Tree) (covers : Covers) (change : Change) : Type 0 where
+  pub taken : IfSome change.takes (IsSpot covers)
+  pub put : IfSome change.puts (λ put. IsSpot covers put.0)
+  pub gone : change.gone ≡ directory_gone tree change.takes change.puts
+
+-- an inode may come or get other attributes, an entry may go, or the inode at one dentry may move to the other
+abbrev pub TakesBy : Tree → Option Spot → Option (Spot × Inode) → Bool → Type 0
+TakesBy tree None None comes = ⊥
+TakesBy tree None (Some put) true = MayAdd tree (dentry_at put.0) put.1
+TakesBy tree None (Some put) false = MaySet tree (dentry_at put.0) put.1
+TakesBy tree (Some spot) None true = ⊥
+TakesBy tree (Some spot) None false = MayRemove tree (dentry_at spot)
+TakesBy tree (Some spot) (Some put) true = ⊥
+TakesBy tree (Some spot) (Some put) false = IsMove tree (dentry_at spot) (dentry_at put.0) put.1
 
 -- the tree can take a change
 abbrev pub Takes : Tree → Change → Type 0
-Takes tree (Add spot inode) = MayAdd tree (dentry_at spot) inode
-Takes tree (Set spot inode) = MaySet tree (dentry_at spot) inode
-Takes tree (Remove spot went) = MayRemove tree (dentry_at spot)
-Takes tree (Move from to went) = (inode : Inode) × IsMove tree (dentry_at from) (dentry_at to) inode
+Takes tree change = TakesBy tree change.takes change.puts change.comes
 
 -- a change may be made
 pub record MayChange (tree : Tree) (covers : Covers) (change : Change) : Type 0 where
@@ -170,11 +201,9 @@ pub record MayChange (tree : Tree) (covers : Covers) (change : Change) : Type 0 
   pub takes : Takes tree change
 
 -- each name of a change lies where its rank holds the leaf
-abbrev pub AreHeld : (Dirfrag → Type 0) → Change → Type 0
-AreHeld Holds (Add spot inode) = Holds spot.at
-AreHeld Holds (Set spot inode) = Holds spot.at
-AreHeld Holds (Remove spot went) = Holds spot.at
-AreHeld Holds (Move from to went) = Holds from.at × Holds to.at
+pub record LieHeld (Holds : Dirfrag → Type 0) (change : Change) : Type 0 where
+  pub taken : IfSome change.takes (λ spot. Holds spot.at)
+  pub put : IfSome change.puts (λ put. Holds put.0.at)
 
 -- a fragment with its directory
 abbrev pub in_directory : ℕ → Fragment → Leaf
@@ -189,12 +218,18 @@ abbrev pub leaves_gone : Covers → Option Ino → List Leaf
 leaves_gone covers None = []
 leaves_gone covers (Some dir) = leaves covers dir.0
 
+-- the leaf of a name that loses its inode, and of one that gets one
+abbrev pub leaf_taken : Option Spot → List Leaf
+leaf_taken None = []
+leaf_taken (Some spot) = leaf_of spot.at ∷ []
+
+abbrev pub leaf_put : Option (Spot × Inode) → List Leaf
+leaf_put None = []
+leaf_put (Some put) = leaf_of put.0.at ∷ []
+
 -- the fragments of a change: those of its names, and all of a directory that goes
 abbrev pub fragments_of : Covers → Change → List Leaf
-fragments_of covers (Add spot inode) = leaf_of spot.at ∷ []
-fragments_of covers (Set spot inode) = leaf_of spot.at ∷ []
-fragments_of covers (Remove spot went) = leaf_of spot.at ∷ leaves_gone covers went
-fragments_of covers (Move from to went) = leaf_of from.at ∷ leaf_of to.at ∷ leaves_gone covers went
+fragments_of covers change = leaf_taken change.takes ++ (leaf_put change.puts ++ leaves_gone covers change.gone)
 
 -- those of a planned change, if there is one
 abbrev pub fragments_in : Covers → Option Change → List Leaf
@@ -209,19 +244,19 @@ same_leaf a b = (a.0.0 == b.0.0) && ((a.1.value == b.1.value) && (a.1.bits == b.
 abbrev pub unless_same : Leaf → Leaf → List Leaf
 unless_same first other = cond (same_leaf first other) [] (other ∷ [])
 
+-- the leaf of the name that gets an inode, unless it is that of the one that loses it
+abbrev pub other_put : Option Spot → Option (Spot × Inode) → List Leaf
+other_put None puts = leaf_put puts
+other_put (Some spot) None = []
+other_put (Some spot) (Some put) = unless_same (leaf_of spot.at) (leaf_of put.0.at)
+
 -- the fragments of a change, each once
 abbrev pub named_once : Covers → Change → List Leaf
-named_once covers (Add spot inode) = leaf_of spot.at ∷ []
-named_once covers (Set spot inode) = leaf_of spot.at ∷ []
-named_once covers (Remove spot went) = leaf_of spot.at ∷ leaves_gone covers went
-named_once covers (Move from to went) = leaf_of from.at ∷ (unless_same (leaf_of from.at) (leaf_of to.at) ++ leaves_gone covers went)
+named_once covers change = leaf_taken change.takes ++ (other_put change.takes change.puts ++ leaves_gone covers change.gone)
 
 -- a new inode, where one comes, has such a number
 abbrev pub IsNumbered : (ℕ → Type 0) → Change → Type 0
-IsNumbered IsNumber (Add spot inode) = IsNumber inode.ino.0
-IsNumbered IsNumber (Set spot inode) = Unit {0}
-IsNumbered IsNumber (Remove spot went) = Unit {0}
-IsNumbered IsNumber (Move from to went) = Unit {0}
+IsNumbered IsNumber change = change.comes ≡ true → IfSome change.puts (λ put. IsNumber put.1.ino.0)
 
 -- a number that is offered for a new inode is unused, and one that a new inode may have
 abbrev pub IsOffered : Tree → (ℕ → Type 0) → Option Ino → Type 0

@@ -8,7 +8,7 @@ use Rattle.inode_table.specs.Dirs.{Covers}
 use Rattle.namespace_ops.specs.declared.plans.Change.{Change}
 use Rattle.namespace_ops.specs.declared.plans.Checked.{Checked}
 use Rattle.namespace_ops.specs.declared.plans.Checked.TheVariants.{Answers, Changes}
-use Rattle.namespace_ops.specs.Changes.{AreHeld, Carries, IsChangeOf, IsNumbered, Takes, changed, is_idle, is_new, reply_of}
+use Rattle.namespace_ops.specs.Changes.{Carries, IsChangeOf, IsNumbered, LieHeld, Takes, changed, is_idle, reply_of}
 
 -- the operation makes this change, offered the number n, which a new inode has: it is one of the operation, leads to the table's outcome,
 -- lies where its ranks hold its leaves, and may be made, where the number that it takes is unused
@@ -16,10 +16,10 @@ pub record IsChecked (tree : Tree) (covers : Covers) (Holds : Dirfrag → Type 0
   pub one_of : IsChangeOf op change
   pub replied : outcome.reply ≡ reply_of change
   pub leads : outcome.tree ≡ changed tree change
-  pub number : outcome.takes ≡ is_new change
+  pub number : outcome.takes ≡ change.comes
   pub numbered : IsNumbered (λ m. m ≡ n) change
   pub carries : Carries tree covers change
-  pub held : AreHeld Holds change
+  pub held : LieHeld Holds change
   pub takes : (outcome.takes ≡ true → IsUnused tree n) → Takes tree change
 
 -- what was found: a reply alone, of an operation that changes nothing, or a change

@@ -6,10 +6,9 @@ ghost use Rattle.mds_types.specs.declared.inodes.Inode.{Inode as Node};
 ghost use Rattle.std.specs.FinMap as map;
 ghost use Rattle.mds_types.specs.Step.{attributes_set, with_attributes};
 ghost use Rattle.mds_types.specs.Step.{size_errno as errno_of_size};
-ghost use Rattle.namespace_ops.specs.declared.plans.Change.TheVariants.{Set};
 ghost use Rattle.namespace_ops.specs.declared.plans.Spot.{Spot as Place};
 ghost use Rattle.namespace_ops.specs.Kept.{KeepsAll};
-ghost use Rattle.namespace_ops.specs.Changes.{IsChangeOf, Reads, dentry_at};
+ghost use Rattle.namespace_ops.specs.Changes.{IsChangeOf, Reads, dentry_at, sets as sets_to};
 ghost use Rattle.namespace_ops.specs.Checked.{Checks};
 ghost use Rattle.namespace_ops.specs.Places.{LiesAt};
 ghost use Rattle.namespace_ops.specs.Reasons.{Refuses};
@@ -30,7 +29,7 @@ pub fn set_attributes<F: Frags>(
 ) -> Result<Checked, Refusal>
     requires reads { Reads (F.content frags.old) op.now dentry.now.dir.0 }
     requires at { LiesAt (F.content frags.old) (F.covers frags.old) (F.Holds frags.old) dentry.now at.now }
-    requires sets { (spot : Place) (inode : Node) → dentry_at spot ≡ dentry.now → IsChangeOf op.now (Set spot inode) }
+    requires sets { (spot : Place) (inode : Node) → dentry_at spot ≡ dentry.now → IsChangeOf op.now (sets_to spot inode) }
     ensures checked { (n : ℕ) → IfOk result (Checks (F.content frags.old) (F.covers frags.old) (F.Holds frags.old) op.now n
         (attributes_set (F.content frags.old) dentry.now attributes (map.get (F.content frags.old) dentry.now))) }
     ensures kept { KeepsAll (F.content frags.old) (F.content frags.new) (F.covers frags.old) (F.covers frags.new) (F.Follows frags.old frags.new op.now (result_err result)) }
@@ -45,7 +44,12 @@ pub fn set_attributes<F: Frags>(
     }
     let spot = Spot::of(dentry, *at)?;
     let inode = altered(before, attributes);
-    Ok(Checked::Changes(Change::Set { spot, inode }))
+    Ok(Checked::Changes(Change {
+        takes: None,
+        puts: Some((spot, inode)),
+        comes: false,
+        gone: None,
+    }))
 }
 
 // The errno for a size that is given to what is no file.

@@ -1,12 +1,13 @@
 //! The fragments that an operation would change, found by its checks alone.
-ghost use Rattle.std.specs.Prelude.{◌≡◌, ◌≢◌, ℕ, ◌++◌, ◌∷◌, [], map, IfOk, IfErr, OnOk};
+ghost use Rattle.std.specs.Prelude.{◌≡◌, ◌≢◌, ℕ, ◌++◌, map, IfOk, IfErr, OnOk};
 ghost use Rattle.std.specs.Result.{result_err};
 ghost use Rattle.mds_types.specs.declared.operations.Op.{Op as Operation};
 ghost use Rattle.mds_types.specs.declared.refusals.Refusal.TheVariants.{NoInodes, NoMemory};
+ghost use Rattle.mds_types.specs.Leaf.{leaf_of};
 ghost use Rattle.mds_types.specs.Step.{step};
 ghost use Rattle.namespace_ops.specs.Kept.{KeepsAll};
-ghost use Rattle.namespace_ops.specs.Changes.{in_directory, leaves_gone, named_once, unless_same};
-ghost use Rattle.namespace_ops.specs.ChangedFragments.{IsCovered, NamesOnce, changed_fragments, gone_with};
+ghost use Rattle.namespace_ops.specs.Changes.{in_directory, leaf_taken, leaves_gone, named_once, other_put, unless_same};
+ghost use Rattle.namespace_ops.specs.ChangedFragments.{IsCovered, NamesOnce, changed_fragments};
 ghost use Rattle.namespace_ops.specs.Checked.{Checks};
 ghost use Rattle.namespace_ops.specs.Places.{AreLocated};
 ghost use Rattle.namespace_ops.specs.Reasons.{Refuses};
@@ -15,7 +16,7 @@ use crate::checking::check;
 use crate::frags::Frags;
 use crate::locating::Places;
 use crate::plans::{Change, Checked};
-use mds_types::{Frag, Ino, Op, Refusal};
+use mds_types::{Dirfrag, Frag, Ino, Op, Refusal};
 use std::alloc::{AllocError, Global};
 
 /// The fragments that an operation whose names lie there would change now, each once and with its directory: those of its dentries, and all
@@ -41,9 +42,9 @@ pub fn changes<F: Frags>(
     changed_by(alloc, frags, &checked)
 }
 
-/// The fragments that an operation would change of which this was found, each once and with its directory. Takes memory for the
-/// list, and for a copy of the leaves of what goes, and is refused for want of it alone.
-pub fn changed_by<F: Frags>(
+// The fragments that an operation would change of which this was found, each once and with its directory. Takes memory for the
+// list, and for a copy of the leaves of what goes, and is refused for want of it alone.
+fn changed_by<F: Frags>(
     alloc: Global,
     frags: &F,
     checked: &Checked,
@@ -64,53 +65,50 @@ fn fragments_of<F: Frags>(
     change: &Change,
 ) -> Result<Vec<(Ino, Frag)>, Refusal>
     ensures listed { IfOk result (λ list. list.items ≡ named_once (F.covers frags.now) change.now) }
-    ensures cover { IfOk result (λ list. IsCovered (F.covers frags.now) (gone_with change.now)) }
+    ensures cover { IfOk result (λ list. IsCovered (F.covers frags.now) change.now.gone) }
     ensures err { IfErr result (λ reason. reason ≡ NoMemory) }
 {
     let mut list = Vec::new(alloc);
-    match change {
-        Change::Add { spot, .. } | Change::Set { spot, .. } => {
-            note(&mut list, (spot.at.dir, spot.at.frag))?;
-        }
-        Change::Remove { spot, gone } => {
-            note(&mut list, (spot.at.dir, spot.at.frag))?;
-            note_gone(alloc, frags, &mut list, *gone)?;
-        }
-        Change::Move { from, to, gone } => {
-            note(&mut list, (from.at.dir, from.at.frag))?;
-            note_other(
-                &mut list,
-                (from.at.dir, from.at.frag),
-                to.at.dir,
-                to.at.frag,
-            )?;
-            note_gone(alloc, frags, &mut list, *gone)?;
-        }
-    }
+    note_taken(&mut list, change)?;
+    note_put(&mut list, change)?;
+    note_gone(alloc, frags, &mut list, change.gone)?;
     Ok(list)
 }
 
-// Notes a fragment.
-fn note(list: &mut Vec<(Ino, Frag)>, leaf: (Ino, Frag)) -> Result<(), AllocError>
-    ensures { OnOk result (list.new.items ≡ list.old.items ++ leaf ∷ []) }
+// Notes the fragment of a name that loses its inode, if one does.
+fn note_taken(list: &mut Vec<(Ino, Frag)>, change: &Change) -> Result<(), AllocError>
+    ensures { OnOk result (list.new.items ≡ list.old.items ++ leaf_taken change.now.takes) }
 {
-    list.push(leaf)?;
+    if let Some(spot) = &change.takes {
+        list.push((spot.at.dir, spot.at.frag))?;
+    }
+    Ok(())
+}
+
+// Notes the fragment of a name that gets an inode, if one does, unless it is that of the one that loses it.
+fn note_put(list: &mut Vec<(Ino, Frag)>, change: &Change) -> Result<(), AllocError>
+    ensures { OnOk result (list.new.items ≡ list.old.items ++ other_put change.now.takes change.now.puts) }
+{
+    match (&change.takes, &change.puts) {
+        (None, Some((spot, _))) => list.push((spot.at.dir, spot.at.frag))?,
+        (Some(first), Some((spot, _))) => note_other(list, &first.at, &spot.at)?,
+        (_, None) => {}
+    }
     Ok(())
 }
 
 // Notes a second fragment, unless it is the first.
 fn note_other(
     list: &mut Vec<(Ino, Frag)>,
-    first: (Ino, Frag),
-    dir: Ino,
-    leaf: Frag,
+    first: &Dirfrag,
+    other: &Dirfrag,
 ) -> Result<(), AllocError>
-    ensures { OnOk result (list.new.items ≡ list.old.items ++ unless_same first (dir, leaf)) }
+    ensures { OnOk result (list.new.items ≡ list.old.items ++ unless_same (leaf_of first.now) (leaf_of other.now)) }
 {
-    if first.0 == dir && first.1 == leaf {
+    if first.dir == other.dir && first.frag == other.frag {
         return Ok(());
     }
-    list.push((dir, leaf))?;
+    list.push((other.dir, other.frag))?;
     Ok(())
 }
 

@@ -15,7 +15,7 @@ ghost use Rattle.inode_table.specs.TreeChanges.{KeepLeaves};
 ghost use Rattle.namespace_ops.specs.declared.plans.Change.{Change as Alteration};
 ghost use Rattle.mds_types.specs.Leaf.{Leaf};
 ghost use Rattle.namespace_ops.specs.Kept.{KeepsAll, ChangesOnly};
-ghost use Rattle.namespace_ops.specs.Changes.{AreHeld, IsChangeOf, IsNumbered, MayChange, Reads, changed, fragments_of};
+ghost use Rattle.namespace_ops.specs.Changes.{IsChangeOf, IsNumbered, LieHeld, MayChange, Reads, changed, fragments_of};
 ghost use Rattle.namespace_ops.specs.Places.{LiesAt, Locates};
 ghost use Rattle.namespace_ops.specs.Reasons.{IsOfFragments};
 
@@ -112,7 +112,7 @@ pub trait Frags {
     fn ready(&mut self, op: &Op, change: &Change) -> Result<(), Refusal>
         requires may { MayChange (content self.old) (covers self.old) change.now }
         requires of_op { IsChangeOf op.now change.now }
-        requires held { AreHeld (Holds self.old) change.now }
+        requires held { LieHeld (Holds self.old) change.now }
         requires numbered { IsNumbered IsNumber change.now }
         ensures ready { OnOk result (IsReady self.new change.now) }
         ensures kept { KeepsAll (content self.old) (content self.new) (covers self.old) (covers self.new) (Follows self.old self.new op.now (result_err result)) }

@@ -16,7 +16,7 @@ mod removing;
 mod renaming;
 mod serving;
 
-pub use changing::{changed_by, changes};
+pub use changing::changes;
 pub use checking::check;
 pub use frags::Frags;
 pub use laws::{

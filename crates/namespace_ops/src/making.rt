@@ -6,10 +6,9 @@ ghost use Rattle.mds_types.specs.declared.inodes.Inode.{Inode as Node};
 ghost use Rattle.mds_types.specs.declared.inodes.Kind.TheVariants.{File, Dir, Symlink as Link};
 ghost use Rattle.std.specs.FinMap as map;
 ghost use Rattle.mds_types.specs.Step.{made, new_inode, new_size, link_mode};
-ghost use Rattle.namespace_ops.specs.declared.plans.Change.TheVariants.{Add};
 ghost use Rattle.namespace_ops.specs.declared.plans.Spot.{Spot as Place};
 ghost use Rattle.namespace_ops.specs.Kept.{KeepsAll};
-ghost use Rattle.namespace_ops.specs.Changes.{IsChangeOf, Reads, dentry_at};
+ghost use Rattle.namespace_ops.specs.Changes.{IsChangeOf, Reads, adds, dentry_at};
 ghost use Rattle.namespace_ops.specs.Checked.{Checks};
 ghost use Rattle.namespace_ops.specs.Places.{LiesAt};
 ghost use Rattle.namespace_ops.specs.Reasons.{Refuses};
@@ -69,7 +68,7 @@ pub fn make<F: Frags>(
 ) -> Result<Checked, Refusal>
     requires reads { Reads (F.content frags.old) op.now dentry.now.dir.0 }
     requires at { LiesAt (F.content frags.old) (F.covers frags.old) (F.Holds frags.old) dentry.now at.now }
-    requires makes { (spot : Place) (inode : Node) → dentry_at spot ≡ dentry.now → inode.kind ≡ new.kind → IsChangeOf op.now (Add spot inode) }
+    requires makes { (spot : Place) (inode : Node) → dentry_at spot ≡ dentry.now → inode.kind ≡ new.kind → IsChangeOf op.now (adds spot inode) }
     ensures checked { let inode = new_inode number.0 new.kind new.mode new.mtime in
         IfOk result (Checks (F.content frags.old) (F.covers frags.old) (F.Holds frags.old) op.now number.0 (made (F.content frags.old) dentry.now inode (map.get (F.content frags.old) dentry.now))) }
     ensures kept { KeepsAll (F.content frags.old) (F.content frags.new) (F.covers frags.old) (F.covers frags.new) (F.Follows frags.old frags.new op.now (result_err result)) }
@@ -81,7 +80,12 @@ pub fn make<F: Frags>(
     }
     let spot = Spot::of(dentry, *at)?;
     let inode = new.numbered(number);
-    Ok(Checked::Changes(Change::Add { spot, inode }))
+    Ok(Checked::Changes(Change {
+        takes: None,
+        puts: Some((spot, inode)),
+        comes: true,
+        gone: None,
+    }))
 }
 
 impl New {

@@ -1,49 +1,23 @@
-//! Planning one operation: its checks, and all growth for the change that they find.
+//! Planning one operation: all growth for the change that its checks found.
 ghost use Rattle.std.specs.Prelude.{◌≡◌, ◌&&◌, not, cond, is_some, None, IfOk, IfErr, MatchResult};
 ghost use Rattle.std.specs.Result.{result_err};
 ghost use Rattle.mds_types.specs.Step.{step, number_or};
 ghost use Rattle.namespace_ops.specs.Kept.{KeepsAll};
-ghost use Rattle.namespace_ops.specs.Changes.{AreHeld, IsChangeOf, IsNumbered, IsOffered, MayChange, is_new, reply_of};
+ghost use Rattle.namespace_ops.specs.Changes.{IsChangeOf, IsNumbered, IsOffered, LieHeld, MayChange, reply_of};
 ghost use Rattle.namespace_ops.specs.Checked.{Checks, IsChecked};
-ghost use Rattle.namespace_ops.specs.Places.{AreLocated};
 ghost use Rattle.namespace_ops.specs.Planned.{IsPlanned};
 ghost use Rattle.namespace_ops.specs.Reasons.{Refuses};
 ghost use Rattle.namespace_ops.specs.Served.{IsRefused};
 
-use crate::checking::check;
 use crate::frags::Frags;
-use crate::locating::Places;
 use crate::plans::{Change, Checked, Plan};
 use mds_types::{Ino, Op, Refusal, Reply};
-use std::alloc::Global;
 
-/// Plans an operation whose names lie there: answers the reply of the operation table, and the change that leads to the table's tree, for which
-/// all growth has been made. There is no change where the operation reads, answers an errno, or leads to where it is.
-/// The fragments show what they showed. A new inode takes the number given, which has to be unused and one
-/// that a new inode may have; where the table takes
-/// one and none is given, the operation is refused `NoInodes`. Any other refusal is one of the fragments', or want of
-/// memory.
-pub fn plan_op<F: Frags>(
-    alloc: Global,
-    frags: &mut F,
-    op: &Op,
-    places: Places,
-    number: Option<Ino>,
-) -> Result<Plan, Refusal>
-    requires located { AreLocated (F.content frags.old) (F.covers frags.old) (F.Holds frags.old) op.now places }
-    requires offered { IsOffered (F.content frags.old) F.IsNumber number }
-    ensures planned { let outcome = step (F.content frags.old) op.now (number_or number) in
-        MatchResult result
-        (IsPlanned (F.content frags.old) (F.covers frags.old) (F.IsReady frags.new) op.now outcome number)
-        (IsRefused (F.content frags.old) (F.content frags.new) (F.MayRefuse frags.old frags.new op.now) outcome number) }
-    ensures kept { KeepsAll (F.content frags.old) (F.content frags.new) (F.covers frags.old) (F.covers frags.new) (F.Follows frags.old frags.new op.now (result_err result)) }
-{
-    let checked = check(alloc, frags, op, places, number.unwrap_or(Ino(0)))?;
-    plan_checked(frags, op, checked, number)
-}
-
-/// Plans what the checks of an operation found, which were offered the same number: so it is where something has to be decided
-/// between them. Otherwise as `plan_op`.
+/// Plans what the checks of an operation found, which were offered the same number: answers the reply of the operation table, and
+/// the change that leads to the table's tree, for which all growth has been made. There is no change where the operation reads,
+/// answers an errno, or leads to where it is. The fragments show what they showed. A new inode takes the number given, which has to
+/// be unused and one that a new inode may have; where the table takes one and none is given, the operation is refused `NoInodes`.
+/// Any other refusal is one of the fragments', or want of memory.
 pub fn plan_checked<F: Frags>(
     frags: &mut F,
     op: &Op,
@@ -99,7 +73,7 @@ fn plan_change<F: Frags>(
 fn make_ready<F: Frags>(frags: &mut F, op: &Op, change: &Change) -> Result<Reply, Refusal>
     requires may { MayChange (F.content frags.old) (F.covers frags.old) change.now }
     requires of_op { IsChangeOf op.now change.now }
-    requires held { AreHeld (F.Holds frags.old) change.now }
+    requires held { LieHeld (F.Holds frags.old) change.now }
     requires numbered { IsNumbered F.IsNumber change.now }
     ensures reply { IfOk result (λ reply. reply ≡ reply_of change.now) }
     ensures ready { IfOk result (λ reply. F.IsReady frags.new change.now) }
@@ -113,14 +87,14 @@ fn make_ready<F: Frags>(frags: &mut F, op: &Op, change: &Change) -> Result<Reply
 
 // Whether a new inode comes for which no number is given.
 fn lacks_number(change: &Change, number: Option<Ino>) -> bool
-    ensures { result ≡ (is_new change.now && not (is_some number)) }
+    ensures { result ≡ (change.now.comes && not (is_some number)) }
 {
-    change.is_new() && number.is_none()
+    change.comes && number.is_none()
 }
 
 // The number that a change takes.
 fn number_for(change: &Change, number: Option<Ino>) -> Option<Ino>
-    ensures { result ≡ cond (is_new change.now) number None }
+    ensures { result ≡ cond change.now.comes number None }
 {
-    if change.is_new() { number } else { None }
+    if change.comes { number } else { None }
 }

@@ -2,7 +2,7 @@
 ghost use Rattle.std.specs.Prelude.{◌≡◌, None, IfOk};
 ghost use Rattle.inode_table.specs.TreeChanges.{KeepLeaves};
 ghost use Rattle.namespace_ops.specs.Kept.{ChangesOnly};
-ghost use Rattle.namespace_ops.specs.Changes.{dentry_at, fragments_in, is_new, reply_of};
+ghost use Rattle.namespace_ops.specs.Changes.{dentry_at, fragments_in, reply_of};
 ghost use Rattle.namespace_ops.specs.Planned.{after_plan, IsReadyToChange};
 
 use crate::frags::Frags;
@@ -36,54 +36,28 @@ impl Spot {
     }
 }
 
-/// A change of the tree. It has the spot of each of its names, and the number of the directory that goes with it, so that no
-/// step has to find them again.
+/// A change of the tree: a name loses its inode, or one gets an inode, or first the one and then the other. It has the spot of
+/// each of its names, and the number of the directory that goes with it, so that no step has to find them again.
 #[derive(Debug, Drop)]
-pub enum Change {
-    /// A new inode, at a dentry that is free.
-    Add {
-        spot: Spot,
-        inode: Inode,
-    },
-    /// Other attributes for the inode at a dentry.
-    Set {
-        spot: Spot,
-        inode: Inode,
-    },
-    /// The entry at a dentry goes; `gone` is its number, if it is a directory.
-    Remove {
-        spot: Spot,
-        gone: Option<Ino>,
-    },
-    /// The entry at one dentry moves to another; what stands there is replaced. `gone` is the number of that, if it is a
-    /// directory.
-    Move {
-        from: Spot,
-        to: Spot,
-        gone: Option<Ino>,
-    },
+pub struct Change {
+    /// The name that loses its inode.
+    pub takes: Option<Spot>,
+    /// The name that gets an inode, and that: a new one, the same with other attributes, or the one that the other name loses.
+    pub puts: Option<(Spot, Inode)>,
+    /// Whether what is put is new.
+    pub comes: bool,
+    /// The number of what is taken and not put, or of what is replaced, if that is a directory.
+    pub gone: Option<Ino>,
 }
 
 impl Change {
-    /// Whether a new inode comes.
-    pub fn is_new(&self) -> bool
-        ensures { result ≡ is_new self.now }
-    {
-        match self {
-            Change::Add { .. } => true,
-            Change::Set { .. } | Change::Remove { .. } | Change::Move { .. } => false,
-        }
-    }
-
     /// What an operation answers that makes this change. Takes memory for a copy of an inode.
     pub fn reply(&self) -> Result<Reply, AllocError>
         ensures { IfOk result (λ reply. reply ≡ reply_of self.now) }
     {
-        match self {
-            Change::Add { inode, .. } | Change::Set { inode, .. } => {
-                Ok(Reply::Entry(inode.try_clone()?))
-            }
-            Change::Remove { .. } | Change::Move { .. } => Ok(Reply::Done),
+        match (&self.takes, &self.puts) {
+            (None, Some((_, inode))) => Ok(Reply::Entry(inode.try_clone()?)),
+            _ => Ok(Reply::Done),
         }
     }
 }

@@ -8,10 +8,9 @@ ghost use Rattle.mds_types.specs.declared.inodes.Kind.TheVariants.{Dir};
 ghost use Rattle.std.specs.FinMap as map;
 ghost use Rattle.mds_types.specs.Step.{unlinked, dir_removed};
 ghost use Rattle.mds_types.specs.Step.{removal_errno as errno_of_removal};
-ghost use Rattle.namespace_ops.specs.declared.plans.Change.TheVariants.{Remove};
 ghost use Rattle.namespace_ops.specs.declared.plans.Spot.{Spot as Place};
 ghost use Rattle.namespace_ops.specs.Kept.{KeepsAll};
-ghost use Rattle.namespace_ops.specs.Changes.{IsChangeOf, Reads, dentry_at};
+ghost use Rattle.namespace_ops.specs.Changes.{IsChangeOf, Reads, dentry_at, removes as takes_away};
 ghost use Rattle.namespace_ops.specs.Checked.{Checks};
 ghost use Rattle.namespace_ops.specs.Places.{LiesAt};
 ghost use Rattle.namespace_ops.specs.Reasons.{Refuses};
@@ -29,7 +28,7 @@ pub fn unlink<F: Frags>(
 ) -> Result<Checked, Refusal>
     requires reads { Reads (F.content frags.old) op.now dentry.now.dir.0 }
     requires at { LiesAt (F.content frags.old) (F.covers frags.old) (F.Holds frags.old) dentry.now at.now }
-    requires removes { (spot : Place) → dentry_at spot ≡ dentry.now → IsChangeOf op.now (Remove spot None) }
+    requires removes { (spot : Place) → dentry_at spot ≡ dentry.now → IsChangeOf op.now (takes_away spot None) }
     ensures checked { (n : ℕ) → IfOk result (Checks (F.content frags.old) (F.covers frags.old) (F.Holds frags.old) op.now n
         (unlinked (F.content frags.old) dentry.now (map.get (F.content frags.old) dentry.now))) }
     ensures kept { KeepsAll (F.content frags.old) (F.content frags.new) (F.covers frags.old) (F.covers frags.new) (F.Follows frags.old frags.new op.now (result_err result)) }
@@ -43,7 +42,12 @@ pub fn unlink<F: Frags>(
         return Ok(Checked::Answers(Reply::Errno(EISDIR)));
     }
     let spot = Spot::of(dentry, *at)?;
-    Ok(Checked::Changes(Change::Remove { spot, gone: None }))
+    Ok(Checked::Changes(Change {
+        takes: Some(spot),
+        puts: None,
+        comes: false,
+        gone: None,
+    }))
 }
 
 /// Takes away a directory that has to be empty.
@@ -56,7 +60,7 @@ pub fn remove_dir<F: Frags>(
     requires reads { Reads (F.content frags.old) op.now dentry.now.dir.0 }
     requires inside { (inode : Node) → map.get (F.content frags.old) dentry.now ≡ Some inode → inode.kind ≡ Dir → Reads (F.content frags.old) op.now inode.ino.0 }
     requires at { LiesAt (F.content frags.old) (F.covers frags.old) (F.Holds frags.old) dentry.now at.now }
-    requires removes { (spot : Place) (gone : Option Number) → dentry_at spot ≡ dentry.now → IsChangeOf op.now (Remove spot gone) }
+    requires removes { (spot : Place) (gone : Option Number) → dentry_at spot ≡ dentry.now → IsChangeOf op.now (takes_away spot gone) }
     ensures checked { (n : ℕ) → IfOk result (Checks (F.content frags.old) (F.covers frags.old) (F.Holds frags.old) op.now n
         (dir_removed (F.content frags.old) dentry.now (map.get (F.content frags.old) dentry.now))) }
     ensures kept { KeepsAll (F.content frags.old) (F.content frags.new) (F.covers frags.old) (F.covers frags.new) (F.Follows frags.old frags.new op.now (result_err result)) }
@@ -70,8 +74,12 @@ pub fn remove_dir<F: Frags>(
         return Ok(Checked::Answers(Reply::Errno(errno)));
     }
     let spot = Spot::of(dentry, *at)?;
-    let gone = Some(inode.ino);
-    Ok(Checked::Changes(Change::Remove { spot, gone }))
+    Ok(Checked::Changes(Change {
+        takes: Some(spot),
+        puts: None,
+        comes: false,
+        gone: Some(inode.ino),
+    }))
 }
 
 // The errno for an inode that is no directory, or a full one.

@@ -12,10 +12,9 @@ ghost use Rattle.std.specs.Ordering.{eq_by_cmp};
 ghost use Rattle.mds_types.specs.Tree.{dentry_cmp, is_directory};
 ghost use Rattle.mds_types.specs.Step.{renamed, unless, answers, with_moved};
 ghost use Rattle.mds_types.specs.Step.{leads_to as leads_below, replace_errno as errno_of_replacing};
-ghost use Rattle.namespace_ops.specs.declared.plans.Change.TheVariants.{Move};
 ghost use Rattle.namespace_ops.specs.declared.plans.Spot.{Spot as Place};
 ghost use Rattle.namespace_ops.specs.Kept.{KeepsAll};
-ghost use Rattle.namespace_ops.specs.Changes.{IsChangeOf, Reads, dentry_at, directory_at, stays};
+ghost use Rattle.namespace_ops.specs.Changes.{IsChangeOf, Reads, dentry_at, directory_at, moves as moves_to, stays};
 ghost use Rattle.namespace_ops.specs.Checked.{Checks};
 ghost use Rattle.namespace_ops.specs.Places.{LiesAt};
 ghost use Rattle.namespace_ops.specs.Reasons.{Refuses};
@@ -40,7 +39,7 @@ pub fn rename<F: Frags>(
     requires leads { Reads (F.content frags.old) op.now to.now.dir.0 }
     requires inside { (inode : Node) → map.get (F.content frags.old) to.now ≡ Some inode → inode.kind ≡ Dir → Reads (F.content frags.old) op.now inode.ino.0 }
     requires idle { stays op.now ≡ eq_by_cmp dentry_cmp from.now to.now }
-    requires moves { (source target : Place) (gone : Option Number) → dentry_at source ≡ from.now → dentry_at target ≡ to.now → IsChangeOf op.now (Move source target gone) }
+    requires moves { (source target : Place) (inode : Node) (gone : Option Number) → dentry_at source ≡ from.now → dentry_at target ≡ to.now → IsChangeOf op.now (moves_to source target inode gone) }
     ensures checked { (n : ℕ) → let tree = F.content frags.old in IfOk result (Checks tree (F.covers frags.old) (F.Holds frags.old) op.now n
         (renamed tree from.now to.now (map.get tree from.now) (map.get tree to.now))) }
     ensures kept { KeepsAll (F.content frags.old) (F.content frags.new) (F.covers frags.old) (F.covers frags.new) (F.Follows frags.old frags.new op.now (result_err result)) }
@@ -56,40 +55,43 @@ pub fn rename<F: Frags>(
     if leads_to(frags, &inode, to.dir) {
         return Ok(Checked::Answers(Reply::Errno(EINVAL)));
     }
-    move_onto(frags, op, &inode, from, to, at)
+    move_onto(frags, op, inode, from, to, at)
 }
 
 // The move of an inode to a dentry that isn't below it, unless what stands there can't be replaced.
 fn move_onto<F: Frags>(
     frags: &mut F,
     op: &Op,
-    inode: &Inode,
+    inode: Inode,
     from: &Dentry,
     to: &Dentry,
     at: &(Dirfrag, Dirfrag),
 ) -> Result<Checked, Refusal>
-    requires stands { map.get (F.content frags.old) from.now ≡ Some inode.now }
+    requires stands { map.get (F.content frags.old) from.now ≡ Some inode }
     requires from { LiesAt (F.content frags.old) (F.covers frags.old) (F.Holds frags.old) from.now at.now.0 }
     requires to { LiesAt (F.content frags.old) (F.covers frags.old) (F.Holds frags.old) to.now at.now.1 }
     requires apart { eq_by_cmp dentry_cmp from.now to.now ≡ false }
-    requires outside { leads_below (F.content frags.old) inode.now to.now.dir.0 ≡ false }
+    requires outside { leads_below (F.content frags.old) inode to.now.dir.0 ≡ false }
     requires leads { Reads (F.content frags.old) op.now to.now.dir.0 }
     requires inside { (gone : Node) → map.get (F.content frags.old) to.now ≡ Some gone → gone.kind ≡ Dir → Reads (F.content frags.old) op.now gone.ino.0 }
-    requires moves { (source target : Place) (gone : Option Number) → dentry_at source ≡ from.now → dentry_at target ≡ to.now → IsChangeOf op.now (Move source target gone) }
+    requires moves { (source target : Place) (inode : Node) (gone : Option Number) → dentry_at source ≡ from.now → dentry_at target ≡ to.now → IsChangeOf op.now (moves_to source target inode gone) }
     ensures checked { (n : ℕ) → let tree = F.content frags.old in IfOk result (Checks tree (F.covers frags.old) (F.Holds frags.old) op.now n
-        (unless tree (errno_of_replacing tree inode.now (map.get tree to.now)) (answers (with_moved tree from.now to.now inode.now) Done))) }
+        (unless tree (errno_of_replacing tree inode (map.get tree to.now)) (answers (with_moved tree from.now to.now inode) Done))) }
     ensures kept { KeepsAll (F.content frags.old) (F.content frags.new) (F.covers frags.old) (F.covers frags.new) (F.Follows frags.old frags.new op.now (result_err result)) }
     ensures err { IfErr result (Refuses (F.MayRefuse frags.old frags.new op.now)) }
     ensures numbers { IfErr result (λ reason. reason ≢ NoInodes) }
 {
     let replaced = frags.look(op, to, &at.1)?;
-    if let Some(errno) = replace_errno(frags, op, inode, replaced.as_ref())? {
+    if let Some(errno) = replace_errno(frags, op, &inode, replaced.as_ref())? {
         return Ok(Checked::Answers(Reply::Errno(errno)));
     }
     let gone = directory_of(replaced.as_ref());
-    Ok(Checked::Changes(Change::Move {
-        from: Spot::of(from, at.0)?,
-        to: Spot::of(to, at.1)?,
+    let source = Spot::of(from, at.0)?;
+    let target = Spot::of(to, at.1)?;
+    Ok(Checked::Changes(Change {
+        takes: Some(source),
+        puts: Some((target, inode)),
+        comes: false,
         gone,
     }))
 }

@@ -9,9 +9,10 @@ ghost use Rattle.namespace_ops.specs.ChangedFragments.{changed_fragments};
 ghost use Rattle.namespace_ops.specs.Changes.{IsOffered};
 ghost use Rattle.namespace_ops.specs.Served.{IsServed, IsRefused};
 
+use crate::checking::check;
 use crate::frags::Frags;
 use crate::locating::locate;
-use crate::planning::plan_op;
+use crate::planning::plan_checked;
 use crate::plans::carry_out;
 use mds_types::{Ino, Op, Rank, Refusal, Reply};
 use std::alloc::Global;
@@ -38,7 +39,8 @@ pub fn serve_op<F: Frags>(
     ensures kept { OnErr result (KeepsAll (F.content frags.old) (F.content frags.new) (F.covers frags.old) (F.covers frags.new) (F.Follows frags.old frags.new op.now (result_err result))) }
 {
     let places = locate(frags, Rank(0), op);
-    let plan = plan_op(alloc, frags, op, places, number)?;
+    let checked = check(alloc, frags, op, places, number.unwrap_or(Ino(0)))?;
+    let plan = plan_checked(frags, op, checked, number)?;
     carry_out(frags, plan.change);
     Ok(plan.reply)
 }

@@ -9,7 +9,7 @@ ghost use Rattle.mds_types.specs.Step.{names_after};
 ghost use Rattle.plain_frags.specs.Run.{run};
 ghost use Rattle.plain_frags.specs.PlainFrags.{Kept, is_numbered};
 
-use super::changes::{add_entry, move_entry, remove_entry, set_entry};
+use super::changes::{move_entry, put_entry, remove_entry};
 use super::listing::{first_rows, next_in};
 use inode_table::Dirs;
 use mds_types::{Dentry, Dirfrag, Frag, Ino, Inode, Listing, Name, Op, PageSize, Rank, Refusal};
@@ -214,19 +214,21 @@ impl Frags for PlainFrags {
     }
 
     fn ready(&mut self, _op: &Op, change: &Change) -> Result<(), Refusal> {
-        match change {
-            Change::Add { spot, inode } => {
-                self.entries.reserve(1)?;
-                if inode.kind.is_dir() {
-                    self.spare = Some(spot.name.try_clone()?);
-                    return self.dirs.reserve();
+        match (&change.takes, &change.puts) {
+            (None, Some((spot, inode))) => {
+                if change.comes {
+                    self.entries.reserve(1)?;
+                    if inode.kind.is_dir() {
+                        self.spare = Some(spot.name.try_clone()?);
+                        return self.dirs.reserve();
+                    }
                 }
             }
-            Change::Move { to, .. } => {
+            (Some(_), Some((to, _))) => {
                 self.entries.reserve(1)?;
                 self.spare = Some(to.name.try_clone()?);
             }
-            Change::Set { .. } | Change::Remove { .. } => {}
+            (_, None) => {}
         }
         Ok(())
     }
@@ -237,15 +239,28 @@ impl Frags for PlainFrags {
             dirs,
             spare,
         } = self;
-        match change {
-            Change::Add { spot, inode } => {
-                add_entry(entries, dirs, spare, spot.into_dentry(), inode);
+        let Change {
+            takes,
+            puts,
+            comes,
+            ..
+        } = change;
+        match (takes, puts) {
+            (None, Some((spot, inode))) => {
+                put_entry(entries, dirs, spare, spot.into_dentry(), inode, comes);
             }
-            Change::Set { spot, inode } => set_entry(entries, dirs, &spot.into_dentry(), inode),
-            Change::Remove { spot, .. } => remove_entry(entries, dirs, &spot.into_dentry()),
-            Change::Move { from, to, .. } => {
-                move_entry(entries, dirs, spare, &from.into_dentry(), to.into_dentry());
+            (Some(spot), None) => remove_entry(entries, dirs, &spot.into_dentry()),
+            (Some(from), Some((to, inode))) => {
+                move_entry(
+                    entries,
+                    dirs,
+                    spare,
+                    &from.into_dentry(),
+                    to.into_dentry(),
+                    inode,
+                );
             }
+            (None, None) => {}
         }
     }
 }

@@ -1,5 +1,5 @@
 -- Why a read is refused, in the words of all ranks, and of a call that ends with the read.
-use Rattle.std.specs.Prelude.{◌≡◌, ℕ, true, List, None, Result, Ok, Err, IfErr, IfOk}
+use Rattle.std.specs.Prelude.{◌≡◌, ℕ, true, List, Option, Some, None, Result, Ok, Err, IfErr, IfOk, IfSome}
 use Rattle.std.proofs.Common.{inl, inr, refl, sym, subst, ◌∙◌, arith}
 use Rattle.mds_types.specs.declared.ids.Ino.{Ino}
 use Rattle.mds_types.specs.declared.ids.Rank.{Rank}
@@ -12,10 +12,11 @@ use Rattle.fragtree.specs.FragTree.{HasLeaf}
 use Rattle.inode_table.specs.Dirs.{IsLive, is_known, leaves_of}
 use Rattle.inode_table.proofs.TableLaws.{known_is}
 use Rattle.namespace_ops.specs.Changes.{Concerns}
+use Rattle.mds_types.specs.declared.inodes.Inode.{Inode}
 use Rattle.namespace_ops.specs.declared.plans.Change.{Change}
-use Rattle.namespace_ops.specs.declared.plans.Change.TheVariants.{Add, Set, Remove, Move}
+use Rattle.namespace_ops.specs.declared.plans.Spot.{Spot}
 use Rattle.mdcache.specs.Core.{Core, state_of}
-use Rattle.mdcache.specs.Frags.{KeepsState, LacksPlacesOf}
+use Rattle.mdcache.specs.Frags.{KeepsState, LacksPlacesBy, LacksPlacesOf}
 use Rattle.mdcache.specs.Core.{LacksPlacesAt}
 use Rattle.mdcache.specs.Reads.{MayNotFind}
 use Rattle.mdcache.specs.Ready.{MayNotBeReady}
@@ -24,9 +25,9 @@ use Rattle.mdcache.specs.Sound.{IsSound}
 use Rattle.mdcache.specs.State.{State as TreeState}
 use Rattle.mdcache.proofs.FragsLaws.{lacked_at, refused_later}
 use Rattle.subtree_map.specs.Authority.{Roots}
-use Rattle.ranked_tree.specs.Held.{AreHeldAt, LacksPlacesAsked, LacksPlacesDir, LacksPlacesFor, NamesDir}
+use Rattle.ranked_tree.specs.Held.{AreHeldAt, LacksPlacesAsked, LacksPlacesDir, LacksPlacesFor, NamesBy, NamesDir}
 use Rattle.ranked_tree.specs.Ranked.{KeepsRanked, MayRefuse, Ranked}
-use Rattle.ranked_tree.specs.Subtrees.{Rules}
+use Rattle.ranked_tree.specs.Subtrees.{HoldsAt, Rules}
 
 -- what lacks at the rank that holds a leaf
 pub told_for : (X : Type 0) (result : Result X Refusal) (old : Core) (roots : Roots) (leaf : Leaf) (after : ℕ) (rank : Rank) → Rules (state_of old) roots leaf rank
@@ -84,11 +85,14 @@ ranked_later a b c op reason kept because =
 
 -- what lacks at the ranks that hold the leaves of a change
 lacks_asked : (old : Core) (roots : Roots) (change : Change) → AreHeldAt (state_of old) roots change → LacksPlacesOf old change → LacksPlacesAsked 2 old roots (NamesDir change)
-lacks_asked old roots (Add spot inode) held lacks = (leaf_of spot.at, refl, (spot.at.rank, held, lacks))
-lacks_asked old roots (Set spot inode) held lacks = (leaf_of spot.at, refl, (spot.at.rank, held, lacks))
-lacks_asked old roots (Remove spot went) held lacks = (leaf_of spot.at, refl, (spot.at.rank, held, lacks))
-lacks_asked old roots (Move source target went) held (inl lacks) = (leaf_of source.at, inl refl, (source.at.rank, held.0, lacks))
-lacks_asked old roots (Move source target went) held (inr lacks) = (leaf_of target.at, inr refl, (target.at.rank, held.1, lacks))
+lacks_asked old roots change held = go change.takes change.puts held.taken held.put
+  where
+    go : (takes : Option Spot) (puts : Option (Spot × Inode)) → IfSome takes (λ spot. HoldsAt (state_of old) roots spot.at) → IfSome puts (λ put. HoldsAt (state_of old) roots put.0.at) → LacksPlacesBy old takes puts → LacksPlacesAsked 2 old roots (NamesBy takes puts)
+    go None None here there lacks = absurd lacks
+    go None (Some put) here there lacks = (leaf_of put.0.at, refl, (put.0.at.rank, there, lacks))
+    go (Some spot) None here there lacks = (leaf_of spot.at, refl, (spot.at.rank, here, lacks))
+    go (Some spot) (Some put) here there (inl lacks) = (leaf_of spot.at, inl refl, (spot.at.rank, here, lacks))
+    go (Some spot) (Some put) here there (inr lacks) = (leaf_of put.0.at, inr refl, (put.0.at.rank, there, lacks))
 
 pub told_change : (X Lacks : Type 0) (result : Result X Refusal) (old : Core) (roots : Roots) (change : Change) (after : ℕ) → AreHeldAt (state_of old) roots change → IfErr result (MayNotBeReady Lacks (LacksPlacesOf old change) old.faults after)
     → IfErr result (MayNotBeReady Lacks (LacksPlacesAsked 2 old roots (NamesDir change)) old.faults after)

@@ -9,10 +9,10 @@ use Rattle.inode_table.specs.TreeTable.{with_home}
 use Rattle.inode_table.proofs.TableLaws.{known_is}
 use Rattle.dentry_cache.specs.Came.{Came}
 use Rattle.dentry_cache.proofs.FrameLaws.{came_weaker}
-use Rattle.namespace_ops.specs.ChangedFragments.{gone_with}
 use Rattle.namespace_ops.specs.Changes.{MayChange, dentry_at}
+use Rattle.namespace_ops.proofs.Shapes.{Shape, shape_of}
+use Rattle.namespace_ops.proofs.Shapes.Shape.{add, move, remove, set}
 use Rattle.namespace_ops.specs.declared.plans.Change.{Change}
-use Rattle.namespace_ops.specs.declared.plans.Change.TheVariants.{Add, Set, Remove, Move}
 use Rattle.subtree_map.specs.Authority.{Leaf, Roots}
 use Rattle.mdcache.specs.Changes.{Makes}
 use Rattle.mdcache.specs.Core.{Core, state_of}
@@ -37,15 +37,15 @@ row_gone homes (Some d) dir may is =
     map_but d = rows_but homes (Some d)
 
 -- the directory that went with a change isn't known then
-gone_unknown : (change : Change) (old new : TreeState) → IsSound old → MayChange (shown_tree old) old.covers change → Makes change old new → (dir : Ino) → gone_with change ≡ Some dir → is_known new.homes dir.0 ≡ false
-gone_unknown (Add spot inode) old new sound may makes dir is = let clash : None ≡ Some dir = is in absurd cc
-gone_unknown (Set spot inode) old new sound may makes dir is = let clash : None ≡ Some dir = is in absurd cc
-gone_unknown (Remove spot went) old new sound may makes dir is =
+gone_unknown : (change : Change) → Shape change → (old new : TreeState) → IsSound old → MayChange (shown_tree old) old.covers change → Makes change old new → (dir : Ino) → change.gone ≡ Some dir → is_known new.homes dir.0 ≡ false
+gone_unknown _ (add spot inode) old new sound may makes dir is = let clash : None ≡ Some dir = is in absurd cc
+gone_unknown _ (set spot inode) old new sound may makes dir is = let clash : None ≡ Some dir = is in absurd cc
+gone_unknown _ (remove spot went) old new sound may makes dir is =
     let tables = removed_tables old new spot went makes in
     subst (λ (h : Homes). is_known h dir.0 ≡ false) (sym tables.0) (row_gone old.homes went dir (removable old spot went sound may) is)
-gone_unknown (Move source target went) old new sound may makes dir is =
-    let tables = moved_tables old new source target went makes in
-    subst (λ (h : Homes). is_known h dir.0 ≡ false) (sym tables.0) (row_gone (with_home old.homes (dentry_at target) makes.0) went dir (replaces old sound source target makes.0 went may makes.1) is)
+gone_unknown _ (move source target inode went) old new sound may makes dir is =
+    let tables = moved_tables old new source target inode went makes in
+    subst (λ (h : Homes). is_known h dir.0 ≡ false) (sym tables.0) (row_gone (with_home old.homes (dentry_at target) inode) went dir (replaces old sound source target inode went may) is)
 
 -- the leaves that a change names, each at its rank, and those of the directory that went
 pub came_for : (old new : Core) (roots : Roots) (change : Change) → IsSound (state_of old) → IsSound (state_of new) → MayChange (shown_tree (state_of old)) old.covers change → AreHeldAt (state_of old) roots change
@@ -54,4 +54,4 @@ came_for old new roots change sound now may holders makes came =
     came_weaker (IsNamedIn change) (EndsWith change) (AsksFor (state_of old) roots (NamesDir change)) (IsGone (shown_tree (state_of new))) (asks_change old roots change sound may holders) gone old.caches new.caches came
   where
     gone : (r : ℕ) (q : Leaf) → EndsWith change r q → IsGone (shown_tree (state_of new)) r q
-    gone r q ends = sym (known_is (shown_tree (state_of new)) new.homes now.tabled q.0.0) ∙ gone_unknown change (state_of old) (state_of new) sound may makes q.0 ends
+    gone r q ends = sym (known_is (shown_tree (state_of new)) new.homes now.tabled q.0.0) ∙ gone_unknown change (shape_of (shown_tree (state_of old)) old.covers change may) (state_of old) (state_of new) sound may makes q.0 ends

@@ -7,9 +7,8 @@ use Rattle.mds_types.specs.declared.inodes.Inode.{Inode}
 use Rattle.mds_types.specs.Tree.{is_dir_kind}
 use Rattle.inode_table.specs.Dirs.{Covers, Homes}
 use Rattle.inode_table.specs.TreeTable.{home_at, with_home}
-use Rattle.namespace_ops.specs.declared.plans.Change.TheVariants.{Add, Set, Remove, Move}
 use Rattle.namespace_ops.specs.declared.plans.Spot.{Spot}
-use Rattle.namespace_ops.specs.Changes.{dentry_at}
+use Rattle.namespace_ops.specs.Changes.{adds, dentry_at, moves, removes, sets}
 use Rattle.mdcache.specs.Changes.{Makes, with_directory, with_home_at, without}
 use Rattle.mdcache.specs.Going.{rows_but}
 use Rattle.mdcache.specs.State.{State}
@@ -27,11 +26,11 @@ covers_without s None = refl
 covers_without s (Some dir) = refl
 
 module _ (old new : State) where
-  pub set_tables : (spot : Spot) (inode : Inode) → Makes (Set spot inode) old new → TablesAre new old.homes old.covers
-  set_tables spot inode makes = (ap (λ (s : State). s.homes) makes.left, ap (λ (s : State). s.covers) makes.left)
+  pub set_tables : (spot : Spot) (inode : Inode) → Makes (sets spot inode) old new → TablesAre new old.homes old.covers
+  set_tables spot inode makes = (ap (λ (s : State). s.homes) makes.2 ∙ ap (λ (s : State). s.homes) makes.1.left, ap (λ (s : State). s.covers) makes.2 ∙ ap (λ (s : State). s.covers) makes.1.left)
 
   -- a directory comes
-  pub grown_tables : (spot : Spot) (inode : Inode) → is_dir_kind inode.kind ≡ true → Makes (Add spot inode) old new → TablesAre new (map.insert old.homes inode.ino.0 (home_at (dentry_at spot))) old.covers
+  pub grown_tables : (spot : Spot) (inode : Inode) → is_dir_kind inode.kind ≡ true → Makes (adds spot inode) old new → TablesAre new (map.insert old.homes inode.ino.0 (home_at (dentry_at spot))) old.covers
   grown_tables spot inode kinded makes =
       let is : new ≡ with_directory makes.0 (dentry_at spot) inode.ino = makes.2 ∙ ap (λ (b : Bool). cond b (with_directory makes.0 (dentry_at spot) inode.ino) makes.0) kinded in (
         ap (λ (s : State). s.homes) is ∙ ap (λ (s : State). map.insert s.homes inode.ino.0 (home_at (dentry_at spot))) makes.1.left,
@@ -39,21 +38,21 @@ module _ (old new : State) where
       )
 
   -- another inode comes
-  pub added_tables : (spot : Spot) (inode : Inode) → is_dir_kind inode.kind ≡ false → Makes (Add spot inode) old new → TablesAre new old.homes old.covers
+  pub added_tables : (spot : Spot) (inode : Inode) → is_dir_kind inode.kind ≡ false → Makes (adds spot inode) old new → TablesAre new old.homes old.covers
   added_tables spot inode kinded makes =
       let is : new ≡ makes.0 = makes.2 ∙ ap (λ (b : Bool). cond b (with_directory makes.0 (dentry_at spot) inode.ino) makes.0) kinded in
       (ap (λ (s : State). s.homes) is ∙ ap (λ (s : State). s.homes) makes.1.left, ap (λ (s : State). s.covers) is ∙ ap (λ (s : State). s.covers) makes.1.left)
 
-  pub removed_tables : (spot : Spot) (went : Option Ino) → Makes (Remove spot went) old new → TablesAre new (rows_but old.homes went) (rows_but old.covers went)
+  pub removed_tables : (spot : Spot) (went : Option Ino) → Makes (removes spot went) old new → TablesAre new (rows_but old.homes went) (rows_but old.covers went)
   removed_tables spot went makes = (
     ap (λ (s : State). s.homes) makes.2 ∙ homes_without makes.0 went ∙ ap (λ (s : State). rows_but s.homes went) makes.1.left,
     ap (λ (s : State). s.covers) makes.2 ∙ covers_without makes.0 went ∙ ap (λ (s : State). rows_but s.covers went) makes.1.left,
   )
 
-  pub moved_tables : (source target : Spot) (went : Option Ino) → (makes : Makes (Move source target went) old new) → TablesAre new (rows_but (with_home old.homes (dentry_at target) makes.0) went) (rows_but old.covers went)
-  moved_tables source target went makes =
-      let named : makes.4.homes ≡ old.homes = ap (λ (s : State). s.homes) makes.5.left ∙ ap (λ (s : State). s.homes) makes.3.left in
-      let covered : makes.4.covers ≡ old.covers = ap (λ (s : State). s.covers) makes.5.left ∙ ap (λ (s : State). s.covers) makes.3.left in (
-        ap (λ (s : State). s.homes) makes.6 ∙ homes_without (with_home_at makes.4 (dentry_at target) makes.0) went ∙ ap (λ (h : Homes). rows_but (with_home h (dentry_at target) makes.0) went) named,
-        ap (λ (s : State). s.covers) makes.6 ∙ covers_without (with_home_at makes.4 (dentry_at target) makes.0) went ∙ ap (λ (c : Covers). rows_but c went) covered,
+  pub moved_tables : (source target : Spot) (inode : Inode) (went : Option Ino) → Makes (moves source target inode went) old new → TablesAre new (rows_but (with_home old.homes (dentry_at target) inode) went) (rows_but old.covers went)
+  moved_tables source target inode went (left, is_left, (named, is_named, is)) =
+      let homed : named.homes ≡ old.homes = ap (λ (s : State). s.homes) is_named.left ∙ ap (λ (s : State). s.homes) is_left.left in
+      let covered : named.covers ≡ old.covers = ap (λ (s : State). s.covers) is_named.left ∙ ap (λ (s : State). s.covers) is_left.left in (
+        ap (λ (s : State). s.homes) is ∙ homes_without (with_home_at named (dentry_at target) inode) went ∙ ap (λ (h : Homes). rows_but (with_home h (dentry_at target) inode) went) homed,
+        ap (λ (s : State). s.covers) is ∙ covers_without (with_home_at named (dentry_at target) inode) went ∙ ap (λ (c : Covers). rows_but c went) covered,
       )

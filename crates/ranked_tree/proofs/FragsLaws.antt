@@ -1,5 +1,5 @@
 -- What calls for an operation keep, and why they are refused, in the words of the operation.
-use Rattle.std.specs.Prelude.{◌≡◌, ℕ, true, false, Option, None, Result, Ok, Err, IfErr}
+use Rattle.std.specs.Prelude.{◌≡◌, ◌⊎◌, ℕ, Bool, true, false, Option, Some, None, Result, Ok, Err, IfErr}
 use Rattle.std.proofs.Common.{inl, inr, refl, sym, ap, subst, ◌∙◌}
 use Rattle.std.specs.Result.{result_err}
 use Rattle.mds_types.specs.declared.ids.Ino.{Ino}
@@ -9,16 +9,19 @@ use Rattle.mds_types.specs.declared.refusals.Refusal.{Refusal}
 use Rattle.mds_types.specs.declared.refusals.Refusal.TheVariants.{NoMemory}
 use Rattle.mds_types.specs.Tree.{is_dir_kind}
 use Rattle.objstore.specs.Objects.{faults_in}
-use Rattle.namespace_ops.specs.Changes.{Concerns, IsChangeOf}
+use Rattle.namespace_ops.specs.Changes.{Concerns, IsChangeOf, PutsAt, TakesAt}
 use Rattle.namespace_ops.specs.Kept.{KeepsAll}
+use Rattle.mds_types.specs.declared.dentries.Dentry.{Dentry}
+use Rattle.mds_types.specs.declared.inodes.Inode.{Inode}
+use Rattle.mds_types.specs.declared.inodes.Kind.TheVariants.{File, Dir, Symlink as Link}
 use Rattle.namespace_ops.specs.declared.plans.Change.{Change}
-use Rattle.namespace_ops.specs.declared.plans.Change.TheVariants.{Add, Set, Remove, Move}
+use Rattle.namespace_ops.specs.declared.plans.Spot.{Spot}
 use Rattle.subtree_map.specs.Authority.{Leaf}
 use Rattle.subtree_map.specs.Changes.{Subtrees}
 use Rattle.mdcache.specs.Core.{Core, state_of}
-use Rattle.mdcache.specs.Frags.{KeepsState, LacksFor, LacksToMake}
+use Rattle.mdcache.specs.Frags.{KeepsState, LacksBy, LacksFor, LacksToMake}
 use Rattle.mdcache.specs.Reads.{MayNotFind}
-use Rattle.mdcache.specs.Ready.{MayNotBeReady}
+use Rattle.mdcache.specs.Ready.{LacksNumbers, MayNotBeReady}
 use Rattle.mdcache.specs.Shown.{shown_tree}
 use Rattle.mdcache.specs.State.{State as TreeState}
 use Rattle.mdcache.proofs.FragsLaws.{keeps_refused}
@@ -65,41 +68,52 @@ module _ (tree new : Core) (subtrees : Subtrees) (now : Ranked) (is : over tree 
       (asked_dir (over tree subtrees) (over new subtrees) op reason dir (subst (λ (n : Ranked). Concerns (shown_tree (state_of n.tree)) op dir.0) (sym is) concerns) h)
 
 -- the numbers that lack for a change lack for its operation
+module _ (s : TreeState) where
+  lack_put : (dentry : Dentry) (Is : Inode → Type 0) (takes : Option Spot) (puts : Option (Spot × Inode)) (comes : Bool) → takes ≡ None → PutsAt dentry Is puts → LacksBy takes puts comes s
+      → LacksNumbers 1 s.next_version ⊎ ((inode : Inode) × Is inode × (comes ≡ true) × (is_dir_kind inode.kind ≡ true) × LacksNumbers 1 s.next_generation)
+  lack_put dentry Is None None comes none at lacks = absurd lacks
+  lack_put dentry Is None (Some put) true none at (inl lacks) = inl lacks
+  lack_put dentry Is None (Some put) true none at (inr (kinded, lacks)) = inr (put.1, at.1, refl, kinded, lacks)
+  lack_put dentry Is None (Some put) false none at lacks = inl lacks
+  lack_put dentry Is (Some spot) puts comes none at lacks = let clash : Some spot ≡ None = none in cc
+
+  lack_taken : (dentry : Dentry) (takes : Option Spot) (puts : Option (Spot × Inode)) (comes : Bool) → TakesAt dentry takes → puts ≡ None → LacksBy takes puts comes s → LacksNumbers 1 s.next_version
+  lack_taken dentry None puts comes at none lacks = absurd at
+  lack_taken dentry (Some spot) None comes at none lacks = lacks
+  lack_taken dentry (Some spot) (Some put) comes at none lacks = let clash : Some put ≡ None = none in cc
+
+  lack_moved : (here there : Dentry) (Is : Inode → Type 0) (takes : Option Spot) (puts : Option (Spot × Inode)) (comes : Bool) → TakesAt here takes → PutsAt there Is puts → LacksBy takes puts comes s → LacksNumbers 2 s.next_version
+  lack_moved here there Is None puts comes at to lacks = absurd at
+  lack_moved here there Is (Some spot) None comes at to lacks = absurd to
+  lack_moved here there Is (Some spot) (Some put) comes at to lacks = lacks
+
 numbers_lack : (s : TreeState) (op : Op) (change : Change) → IsChangeOf op change → LacksToMake change s → LacksFor op s
 numbers_lack s (Lookup dentry) change of lacks = absurd of
 numbers_lack s (Readdir dir after max) change of lacks = absurd of
 numbers_lack s (Readlink dentry) change of lacks = absurd of
-numbers_lack s (Create dentry mode mtime) (Add spot inode) of (inl lacks) = lacks
-numbers_lack s (Create dentry mode mtime) (Add spot inode) of (inr (kinded, lacks)) = let clash : true ≡ false = sym kinded ∙ ap is_dir_kind of.1 in absurd cc
-numbers_lack s (Create dentry mode mtime) (Set spot inode) of lacks = absurd of
-numbers_lack s (Create dentry mode mtime) (Remove spot went) of lacks = absurd of
-numbers_lack s (Create dentry mode mtime) (Move here there went) of lacks = absurd of
-numbers_lack s (Mkdir dentry mode mtime) (Add spot inode) of (inl lacks) = inl lacks
-numbers_lack s (Mkdir dentry mode mtime) (Add spot inode) of (inr (kinded, lacks)) = inr lacks
-numbers_lack s (Mkdir dentry mode mtime) (Set spot inode) of lacks = absurd of
-numbers_lack s (Mkdir dentry mode mtime) (Remove spot went) of lacks = absurd of
-numbers_lack s (Mkdir dentry mode mtime) (Move here there went) of lacks = absurd of
-numbers_lack s (Symlink dentry text mtime) (Add spot inode) of (inl lacks) = lacks
-numbers_lack s (Symlink dentry text mtime) (Add spot inode) of (inr (kinded, lacks)) = let clash : true ≡ false = sym kinded ∙ ap is_dir_kind of.1 in absurd cc
-numbers_lack s (Symlink dentry text mtime) (Set spot inode) of lacks = absurd of
-numbers_lack s (Symlink dentry text mtime) (Remove spot went) of lacks = absurd of
-numbers_lack s (Symlink dentry text mtime) (Move here there went) of lacks = absurd of
-numbers_lack s (Setattr dentry given) (Add spot inode) of lacks = absurd of
-numbers_lack s (Setattr dentry given) (Set spot inode) of lacks = lacks
-numbers_lack s (Setattr dentry given) (Remove spot went) of lacks = absurd of
-numbers_lack s (Setattr dentry given) (Move here there went) of lacks = absurd of
-numbers_lack s (Unlink dentry) (Add spot inode) of lacks = absurd of
-numbers_lack s (Unlink dentry) (Set spot inode) of lacks = absurd of
-numbers_lack s (Unlink dentry) (Remove spot went) of lacks = lacks
-numbers_lack s (Unlink dentry) (Move here there went) of lacks = absurd of
-numbers_lack s (Rmdir dentry) (Add spot inode) of lacks = absurd of
-numbers_lack s (Rmdir dentry) (Set spot inode) of lacks = absurd of
-numbers_lack s (Rmdir dentry) (Remove spot went) of lacks = lacks
-numbers_lack s (Rmdir dentry) (Move here there went) of lacks = absurd of
-numbers_lack s (Rename from to) (Add spot inode) of lacks = absurd of
-numbers_lack s (Rename from to) (Set spot inode) of lacks = absurd of
-numbers_lack s (Rename from to) (Remove spot went) of lacks = absurd of
-numbers_lack s (Rename from to) (Move here there went) of lacks = lacks
+numbers_lack s (Create dentry mode mtime) change of lacks = file (lack_put s dentry _ change.takes change.puts change.comes of.takes of.puts lacks)
+  where
+    file : LacksNumbers 1 s.next_version ⊎ ((inode : Inode) × (inode.kind ≡ File) × (change.comes ≡ true) × (is_dir_kind inode.kind ≡ true) × LacksNumbers 1 s.next_generation) → LacksNumbers 1 s.next_version
+    file (inl one) = one
+    file (inr (inode, is, new, kinded, one)) = let clash : true ≡ false = sym kinded ∙ ap is_dir_kind is in absurd cc
+numbers_lack s (Mkdir dentry mode mtime) change of lacks = either (lack_put s dentry _ change.takes change.puts change.comes of.takes of.puts lacks)
+  where
+    either : LacksNumbers 1 s.next_version ⊎ ((inode : Inode) × (inode.kind ≡ Dir) × (change.comes ≡ true) × (is_dir_kind inode.kind ≡ true) × LacksNumbers 1 s.next_generation) → LacksNumbers 1 s.next_version ⊎ LacksNumbers 1 s.next_generation
+    either (inl one) = inl one
+    either (inr (inode, is, new, kinded, one)) = inr one
+numbers_lack s (Symlink dentry text mtime) change of lacks = link (lack_put s dentry _ change.takes change.puts change.comes of.takes of.puts lacks)
+  where
+    link : LacksNumbers 1 s.next_version ⊎ ((inode : Inode) × (inode.kind ≡ Link text) × (change.comes ≡ true) × (is_dir_kind inode.kind ≡ true) × LacksNumbers 1 s.next_generation) → LacksNumbers 1 s.next_version
+    link (inl one) = one
+    link (inr (inode, is, new, kinded, one)) = let clash : true ≡ false = sym kinded ∙ ap is_dir_kind is in absurd cc
+numbers_lack s (Setattr dentry given) change of lacks = old (lack_put s dentry _ change.takes change.puts change.comes of.takes of.puts lacks)
+  where
+    old : LacksNumbers 1 s.next_version ⊎ ((inode : Inode) × Unit {0} × (change.comes ≡ true) × (is_dir_kind inode.kind ≡ true) × LacksNumbers 1 s.next_generation) → LacksNumbers 1 s.next_version
+    old (inl one) = one
+    old (inr (inode, is, new, kinded, one)) = let clash : true ≡ false = sym new ∙ of.comes in absurd cc
+numbers_lack s (Unlink dentry) change of lacks = lack_taken s dentry change.takes change.puts change.comes of.removal.takes of.removal.puts lacks
+numbers_lack s (Rmdir dentry) change of lacks = lack_taken s dentry change.takes change.puts change.comes of.takes of.puts lacks
+numbers_lack s (Rename from to) change of lacks = lack_moved s from to _ change.takes change.puts change.comes of.takes of.puts lacks
 
 -- ---- a change is made ready
 

@@ -2,7 +2,6 @@
 use Rattle.std.specs.Prelude.{◌≡◌, ◌==◌, ◌||◌, true, false, is_some, ℕ, List, [], ◌∷◌, Option, Some, None, IsSome, IfSome}
 use Rattle.std.proofs.Common.{◌⊎◌, inl, inr, Bool, refl, sym, ap, subst, ◌∙◌}
 use Rattle.std.specs.FinMap as map
-use Rattle.mds_types.specs.declared.dentries.Dentry.{Dentry}
 use Rattle.mds_types.specs.declared.ids.Ino.{Ino}
 use Rattle.mds_types.specs.declared.ids.Rank.{Rank}
 use Rattle.mds_types.specs.declared.inodes.Inode.{Inode}
@@ -22,9 +21,10 @@ use Rattle.inode_table.proofs.TableLaws.{may_come}
 use Rattle.dentry_cache.specs.CacheMap.{At}
 use Rattle.dentry_cache.specs.Came.{Came, IsThat}
 use Rattle.dentry_cache.proofs.FrameLaws.{came_held, came_ranks}
-use Rattle.namespace_ops.specs.Changes.{MayChange, dentry_at}
+use Rattle.namespace_ops.specs.Changes.{MayChange, adds, dentry_at}
+use Rattle.namespace_ops.proofs.Shapes.{Shape, shape_of}
+use Rattle.namespace_ops.proofs.Shapes.Shape.{add, move, remove, set}
 use Rattle.namespace_ops.specs.declared.plans.Change.{Change}
-use Rattle.namespace_ops.specs.declared.plans.Change.TheVariants.{Add, Set, Remove, Move}
 use Rattle.namespace_ops.specs.declared.plans.Spot.{Spot}
 use Rattle.subtree_map.specs.Authority.{Leaf, Roots, inherited}
 use Rattle.mdcache.specs.Core.{Core, IsSoundCore, shown_in, state_of}
@@ -36,23 +36,25 @@ use Rattle.mdcache.specs.Sound.{IsSound}
 use Rattle.mdcache.specs.State.{State as TreeState}
 use Rattle.mdcache.proofs.CoreLaws.{keeps_place}
 use Rattle.mdcache.proofs.HomeLaws.{moved_known}
-use Rattle.ranked_tree.proofs.MoveLaws.{replaces}
+use Rattle.ranked_tree.proofs.MoveLaws.{relocates, replaces}
 use Rattle.ranked_tree.specs.Held.{AreHeld, AreHeldAt, IsOwned}
 use Rattle.ranked_tree.specs.Subtrees.{FollowChange, HoldsAt, KeepsAuthorities, NoNewRank, Rules}
 use Rattle.ranked_tree.proofs.ChangedTables.{TablesAre, added_tables, grown_tables, moved_tables, removed_tables, set_tables}
 use Rattle.ranked_tree.proofs.HeldLaws.{held_after, is_that}
 use Rattle.ranked_tree.proofs.HolderLaws.{added_live, new_is_not_live, removed_live, set_live, source_live, target_live, was_unknown}
 use Rattle.ranked_tree.proofs.RootLaws.{is_elsewhere}
-use Rattle.ranked_tree.proofs.SubtreeLaws.{may_settle, over, removable}
+use Rattle.ranked_tree.proofs.SubtreeLaws.{over, removable}
 
 -- ---- which leaves come
 
 -- the leaf of a directory that comes
+abbrev IsComingBy : Bool → Option (Spot × Inode) → Leaf → Type 0
+IsComingBy comes None q = ⊥
+IsComingBy true (Some put) q = (is_dir_kind put.1.kind ≡ true) × (q ≡ first_leaf put.1.ino)
+IsComingBy false (Some put) q = ⊥
+
 abbrev pub IsComing : Change → Leaf → Type 0
-IsComing (Add spot inode) q = (is_dir_kind inode.kind ≡ true) × (q ≡ first_leaf inode.ino)
-IsComing (Set spot inode) q = ⊥
-IsComing (Remove spot went) q = ⊥
-IsComing (Move source target went) q = ⊥
+IsComing change q = IsComingBy change.comes change.puts q
 
 -- a leaf of tables in which a directory came
 module _ (homes : Homes) (covers : Covers) (table : IsTable homes covers) (dir : Ino) (home : Home) (come : MayCome homes dir.0 home) where
@@ -91,17 +93,17 @@ live_before homes covers (Some dir) leaf may live =
     }
 
 -- a leaf that stands after a change stood before, or is that of the directory that came
-pub stood : (change : Change) (old new : TreeState) → IsSound old → MayChange (shown_tree old) old.covers change → Makes change old new → (leaf : Leaf) → IsLive new.homes new.covers leaf → IsLive old.homes old.covers leaf ⊎ IsComing change leaf
-stood (Set spot inode) old new sound may makes leaf live =
+stood_so : (change : Change) → Shape change → (old new : TreeState) → IsSound old → MayChange (shown_tree old) old.covers change → Makes change old new → (leaf : Leaf) → IsLive new.homes new.covers leaf → IsLive old.homes old.covers leaf ⊎ IsComing change leaf
+stood_so _ (set spot inode) old new sound may makes leaf live =
     let tables = set_tables old new spot inode makes in
     inl (over (λ (h : Homes) (cs : Covers). IsLive h cs leaf) old.homes new.homes old.covers new.covers (sym tables.0) (sym tables.1) live)
-stood (Add spot inode) old new sound may makes leaf live = go (is_dir_kind inode.kind) refl
+stood_so _ (add spot inode) old new sound may makes leaf live = go (is_dir_kind inode.kind) refl
   where
-    first_or : is_dir_kind inode.kind ≡ true → IsLive old.homes old.covers leaf ⊎ (leaf ≡ first_leaf inode.ino) → IsLive old.homes old.covers leaf ⊎ IsComing (Add spot inode) leaf
+    first_or : is_dir_kind inode.kind ≡ true → IsLive old.homes old.covers leaf ⊎ (leaf ≡ first_leaf inode.ino) → IsLive old.homes old.covers leaf ⊎ IsComing (adds spot inode) leaf
     first_or kinded (inl was) = inl was
     first_or kinded (inr same) = inr (kinded, same)
 
-    go : (b : Bool) → is_dir_kind inode.kind ≡ b → IsLive old.homes old.covers leaf ⊎ IsComing (Add spot inode) leaf
+    go : (b : Bool) → is_dir_kind inode.kind ≡ b → IsLive old.homes old.covers leaf ⊎ IsComing (adds spot inode) leaf
     go true kinded =
         let tables = grown_tables old new spot inode kinded makes in
         first_or kinded (live_or_first old.homes old.covers sound.table inode.ino (home_at (dentry_at spot)) (may_come (shown_tree old) old.homes (dentry_at spot) inode sound.tabled may.takes) leaf
@@ -109,15 +111,18 @@ stood (Add spot inode) old new sound may makes leaf live = go (is_dir_kind inode
     go false kinded =
         let tables = added_tables old new spot inode kinded makes in
         inl (over (λ (h : Homes) (cs : Covers). IsLive h cs leaf) old.homes new.homes old.covers new.covers (sym tables.0) (sym tables.1) live)
-stood (Remove spot went) old new sound may makes leaf live =
+stood_so _ (remove spot went) old new sound may makes leaf live =
     let tables = removed_tables old new spot went makes in
     inl (live_before old.homes old.covers went leaf (removable old spot went sound may)
     (over (λ (h : Homes) (cs : Covers). IsLive h cs leaf) (rows_but old.homes went) new.homes (rows_but old.covers went) new.covers (sym tables.0) (sym tables.1) live))
-stood (Move source target went) old new sound may makes leaf live =
-    let tables = moved_tables old new source target went makes in
-    let moved = live_before (with_home old.homes (dentry_at target) makes.0) old.covers went leaf (replaces old sound source target makes.0 went may makes.1)
-    (over (λ (h : Homes) (cs : Covers). IsLive h cs leaf) (rows_but (with_home old.homes (dentry_at target) makes.0) went) new.homes (rows_but old.covers went) new.covers (sym tables.0) (sym tables.1) live) in
-    inl (record { known = sym (moved_known old.homes old.covers sound.table (dentry_at target) makes.0 (may_settle old source target went sound may makes.0 makes.1) leaf.0.0) ∙ moved.known; stands = moved.stands })
+stood_so _ (move source target inode went) old new sound may makes leaf live =
+    let tables = moved_tables old new source target inode went makes in
+    let moved = live_before (with_home old.homes (dentry_at target) inode) old.covers went leaf (replaces old sound source target inode went may)
+    (over (λ (h : Homes) (cs : Covers). IsLive h cs leaf) (rows_but (with_home old.homes (dentry_at target) inode) went) new.homes (rows_but old.covers went) new.covers (sym tables.0) (sym tables.1) live) in
+    inl (record { known = sym (moved_known old.homes old.covers sound.table (dentry_at target) inode (relocates old sound source target inode went may) leaf.0.0) ∙ moved.known; stands = moved.stands })
+
+pub stood : (change : Change) (old new : TreeState) → IsSound old → MayChange (shown_tree old) old.covers change → Makes change old new → (leaf : Leaf) → IsLive new.homes new.covers leaf → IsLive old.homes old.covers leaf ⊎ IsComing change leaf
+stood change old new sound may makes leaf live = stood_so change (shape_of (shown_tree old) old.covers change may) old new sound may makes leaf live
 
 -- ---- whose it is
 
@@ -126,8 +131,8 @@ module _ (old new : Core) (before after : Roots) (owned : IsOwned old before) (n
   sound = owned.sound.sound
 
   -- the leaf of a directory that comes inherits from the leaf that its dentry is in
-  module _ (spot : Spot) (inode : Inode) (may : MayChange (shown_in old) old.covers (Add spot inode)) (makes : Makes (Add spot inode) (state_of old) (state_of new))
-      (follow : FollowChange (Add spot inode) (state_of old) before after) (rank : Rank) (rules : Rules (state_of old) before (leaf_of spot.at) rank) (kinded : is_dir_kind inode.kind ≡ true) where
+  module _ (spot : Spot) (inode : Inode) (may : MayChange (shown_in old) old.covers (adds spot inode)) (makes : Makes (adds spot inode) (state_of old) (state_of new))
+      (follow : FollowChange (adds spot inode) (state_of old) before after) (rank : Rank) (rules : Rules (state_of old) before (leaf_of spot.at) rank) (kinded : is_dir_kind inode.kind ≡ true) where
     abbrev first : Leaf
     first = first_leaf inode.ino
 
@@ -163,30 +168,30 @@ module _ (old new : Core) (before after : Roots) (owned : IsOwned old before) (n
         record {
           root = has.root;
           nearest = inherited first holder has.root (home_at (dentry_at spot)) no_root (ap (λ (h : Homes). map.get h inode.ino.0) tables.0 ∙ nat.get_put old.homes inode.ino.0 (home_at (dentry_at spot)))
-              (record { parent = refl; pick = subst (λ (cs : Covers). IsPick (leaves_of cs spot.at.dir.0) (hash_of spot.name) spot.at.frag) (sym tables.1) may.carries }) has.nearest;
+              (record { parent = refl; pick = subst (λ (cs : Covers). IsPick (leaves_of cs spot.at.dir.0) (hash_of spot.name) spot.at.frag) (sym tables.1) may.carries.put }) has.nearest;
           ranked = has.ranked;
         }
 
   -- a leaf that a change names is used at its authority
   named : (change : Change) → AreHeldAt (state_of old) before change → MayChange (shown_in old) old.covers change → Makes change (state_of old) (state_of new) → FollowChange change (state_of old) before after → (r : ℕ) (q : Leaf) → IsNamedIn change r q → IsLive new.homes new.covers q
       → Rules (state_of new) after q (record { 0 = r })
-  named change held may makes follow r q is live = go change held may makes follow is
+  named change held may makes follow r q is live = go change (shape_of (shown_in old) old.covers change may) held may makes follow is
     where
       -- one that was live
       old_leaf : (at : Dirfrag) → IsLive old.homes old.covers (leaf_of at) → HoldsAt (state_of old) before at → IsThat at.rank.0 (leaf_of at) r q → Rules (state_of new) after q (record { 0 = r })
       old_leaf at lived holds that = keeps q (record { 0 = r }) (subst (IsLive old.homes old.covers) (sym that.1) lived) live (is_that (state_of old) before (leaf_of at) at.rank holds r q that)
 
-      go : (change : Change) → AreHeldAt (state_of old) before change → MayChange (shown_in old) old.covers change → Makes change (state_of old) (state_of new) → FollowChange change (state_of old) before after → IsNamedIn change r q → Rules (state_of new) after q (record { 0 = r })
-      go (Add spot inode) held may makes follow (inl that) = old_leaf spot.at (added_live (state_of old) sound spot inode may) held that
-      go (Add spot inode) held may makes follow (inr that) = by (stood (Add spot inode) (state_of old) (state_of new) sound may makes q live)
+      go : (change : Change) → Shape change → AreHeldAt (state_of old) before change → MayChange (shown_in old) old.covers change → Makes change (state_of old) (state_of new) → FollowChange change (state_of old) before after → IsNamedIn change r q → Rules (state_of new) after q (record { 0 = r })
+      go _ (add spot inode) held may makes follow (inl that) = old_leaf spot.at (added_live (state_of old) sound spot inode may) held.put that
+      go _ (add spot inode) held may makes follow (inr that) = by (stood (adds spot inode) (state_of old) (state_of new) sound may makes q live)
         where
-          by : IsLive old.homes old.covers q ⊎ IsComing (Add spot inode) q → Rules (state_of new) after q (record { 0 = r })
+          by : IsLive old.homes old.covers q ⊎ IsComing (adds spot inode) q → Rules (state_of new) after q (record { 0 = r })
           by (inl lived) = absurd (new_is_not_live (state_of old) sound spot inode may (subst (IsLive old.homes old.covers) that.1 lived))
-          by (inr comes) = is_that (state_of new) after (first_leaf inode.ino) spot.at.rank (first_inherits spot inode may makes follow spot.at.rank held comes.0) r q that
-      go (Set spot inode) held may makes follow that = old_leaf spot.at (set_live (state_of old) sound spot inode may) held that
-      go (Remove spot went) held may makes follow that = old_leaf spot.at (removed_live (state_of old) sound spot went may) held that
-      go (Move source target went) held may makes follow (inl that) = old_leaf source.at (source_live (state_of old) sound source target went may) held.0 that
-      go (Move source target went) held may makes follow (inr that) = old_leaf target.at (target_live (state_of old) sound source target went may) held.1 that
+          by (inr comes) = is_that (state_of new) after (first_leaf inode.ino) spot.at.rank (first_inherits spot inode may makes follow spot.at.rank held.put comes.0) r q that
+      go _ (set spot inode) held may makes follow that = old_leaf spot.at (set_live (state_of old) sound spot inode may) held.put that
+      go _ (remove spot went) held may makes follow that = old_leaf spot.at (removed_live (state_of old) sound spot went may) held.taken that
+      go _ (move source target inode went) held may makes follow (inl that) = old_leaf source.at (source_live (state_of old) sound source target inode went may) held.taken that
+      go _ (move source target inode went) held may makes follow (inr that) = old_leaf target.at (target_live (state_of old) sound source target inode went may) held.put that
 
   -- a change leaves each cached fragment at its leaf's authority
   pub change_held : (change : Change) → AreHeldAt (state_of old) before change → MayChange (shown_in old) old.covers change → Makes change (state_of old) (state_of new) → FollowChange change (state_of old) before after → NoNewRank before after

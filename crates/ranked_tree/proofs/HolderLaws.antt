@@ -1,5 +1,5 @@
 -- The leaves that a change names, and the ranks that hold them.
-use Rattle.std.specs.Prelude.{◌≡◌, ◌||◌, ℕ, true, false, is_some, Option, Some}
+use Rattle.std.specs.Prelude.{◌≡◌, ◌||◌, ℕ, true, false, is_some, Option, Some, None, IfSome}
 use Rattle.std.proofs.Common.{inl, inr, sym, subst, ◌∙◌}
 use Rattle.std.specs.FinMap as map
 use Rattle.mds_types.specs.declared.dentries.Dentry.{Dentry}
@@ -14,16 +14,17 @@ use Rattle.mds_types.specs.Leaf.{leaf_of}
 use Rattle.inode_table.specs.declared.dirs.Home.{Home}
 use Rattle.inode_table.specs.Dirs.{Homes, IsLive, MayCome, is_known, leaves_of}
 use Rattle.inode_table.proofs.TableLaws.{known_is, may_come}
-use Rattle.namespace_ops.specs.Changes.{IsSpot, MayChange, dentry_at}
+use Rattle.namespace_ops.specs.Changes.{IsSpot, MayChange, adds, dentry_at, moves, removes, sets}
+use Rattle.namespace_ops.proofs.Shapes.{Shape, shape_of}
+use Rattle.namespace_ops.proofs.Shapes.Shape.{add, move, remove, set}
 use Rattle.namespace_ops.specs.declared.plans.Change.{Change}
-use Rattle.namespace_ops.specs.declared.plans.Change.TheVariants.{Add, Set, Remove, Move}
 use Rattle.dentry_cache.specs.CacheMap.{CacheMap}
 use Rattle.dentry_cache.specs.Came.{IsThat}
 use Rattle.namespace_ops.specs.declared.plans.Spot.{Spot}
 use Rattle.subtree_map.specs.Authority.{Leaf, Roots}
 use Rattle.subtree_map.proofs.Nearest.{one_authority}
 use Rattle.mdcache.specs.Changes.{first_leaf}
-use Rattle.mdcache.specs.Ranks.{IsNamedIn, MayHoldEach}
+use Rattle.mdcache.specs.Ranks.{AreOneRank, IsNamedIn, MayHold, MayHoldEach}
 use Rattle.mdcache.specs.Shown.{shown_tree}
 use Rattle.mdcache.specs.Sound.{IsSound}
 use Rattle.mdcache.specs.State.{State as TreeState}
@@ -51,23 +52,23 @@ module _ (s : TreeState) (sound : IsSound s) where
   spot_live spot is pick = pick_live spot.at.dir (hash_of spot.name) spot.at.frag is pick
 
   -- the leaves that a change names are live
-  pub added_live : (spot : Spot) (inode : Inode) → MayChange (shown_tree s) s.covers (Add spot inode) → IsLive s.homes s.covers (leaf_of spot.at)
-  added_live spot inode may = spot_live spot may.takes.parent may.carries
+  pub added_live : (spot : Spot) (inode : Inode) → MayChange (shown_tree s) s.covers (adds spot inode) → IsLive s.homes s.covers (leaf_of spot.at)
+  added_live spot inode may = spot_live spot may.takes.parent may.carries.put
 
-  pub set_live : (spot : Spot) (inode : Inode) → MayChange (shown_tree s) s.covers (Set spot inode) → IsLive s.homes s.covers (leaf_of spot.at)
-  set_live spot inode may = spot_live spot (parent (dentry_at spot) may.takes.before may.takes.stands) may.carries
+  pub set_live : (spot : Spot) (inode : Inode) → MayChange (shown_tree s) s.covers (sets spot inode) → IsLive s.homes s.covers (leaf_of spot.at)
+  set_live spot inode may = spot_live spot (parent (dentry_at spot) may.takes.before may.takes.stands) may.carries.put
 
-  pub removed_live : (spot : Spot) (went : Option Ino) → MayChange (shown_tree s) s.covers (Remove spot went) → IsLive s.homes s.covers (leaf_of spot.at)
-  removed_live spot went may = spot_live spot (parent (dentry_at spot) may.takes.inode may.takes.stands) may.carries.0
+  pub removed_live : (spot : Spot) (went : Option Ino) → MayChange (shown_tree s) s.covers (removes spot went) → IsLive s.homes s.covers (leaf_of spot.at)
+  removed_live spot went may = spot_live spot (parent (dentry_at spot) may.takes.inode may.takes.stands) may.carries.taken
 
-  pub source_live : (source target : Spot) (went : Option Ino) → MayChange (shown_tree s) s.covers (Move source target went) → IsLive s.homes s.covers (leaf_of source.at)
-  source_live source target went may = spot_live source (parent (dentry_at source) may.takes.0 may.takes.1.stands) may.carries.0
+  pub source_live : (source target : Spot) (inode : Inode) (went : Option Ino) → MayChange (shown_tree s) s.covers (moves source target inode went) → IsLive s.homes s.covers (leaf_of source.at)
+  source_live source target inode went may = spot_live source (parent (dentry_at source) inode may.takes.stands) may.carries.taken
 
-  pub target_live : (source target : Spot) (went : Option Ino) → MayChange (shown_tree s) s.covers (Move source target went) → IsLive s.homes s.covers (leaf_of target.at)
-  target_live source target went may = spot_live target may.takes.1.parent may.carries.1
+  pub target_live : (source target : Spot) (inode : Inode) (went : Option Ino) → MayChange (shown_tree s) s.covers (moves source target inode went) → IsLive s.homes s.covers (leaf_of target.at)
+  target_live source target inode went may = spot_live target may.takes.parent may.carries.put
 
   -- the leaf of a directory that comes isn't live
-  pub new_is_not_live : (spot : Spot) (inode : Inode) → MayChange (shown_tree s) s.covers (Add spot inode) → IsLive s.homes s.covers (first_leaf inode.ino) → ⊥
+  pub new_is_not_live : (spot : Spot) (inode : Inode) → MayChange (shown_tree s) s.covers (adds spot inode) → IsLive s.homes s.covers (first_leaf inode.ino) → ⊥
   new_is_not_live spot inode may live =
       let comes = may_come (shown_tree s) s.homes (dentry_at spot) inode sound.tabled may.takes in
       was_unknown s.homes inode.ino.0 _ comes live.known
@@ -78,20 +79,29 @@ module _ (s : TreeState) (sound : IsSound s) where
     at_spot spot holds r q that = is_that s roots (leaf_of spot.at) spot.at.rank holds r q that
 
     pub named_held : (change : Change) → MayChange (shown_tree s) s.covers change → AreHeldAt s roots change → (r : ℕ) (q : Leaf) → IsNamedIn change r q → IsLive s.homes s.covers q → Rules s roots q (record { 0 = r })
-    named_held (Add spot inode) may held r q (inl that) live = at_spot spot held r q that
-    named_held (Add spot inode) may held r q (inr that) live = absurd (new_is_not_live spot inode may (subst (λ (l : Leaf). IsLive s.homes s.covers l) that.1 live))
-    named_held (Set spot inode) may held r q that live = at_spot spot held r q that
-    named_held (Remove spot went) may held r q that live = at_spot spot held r q that
-    named_held (Move source target went) may held r q (inl that) live = at_spot source held.0 r q that
-    named_held (Move source target went) may held r q (inr that) live = at_spot target held.1 r q that
+    named_held change may held r q is live = go change (shape_of (shown_tree s) s.covers change may) may held is
+      where
+        go : (made : Change) → Shape made → MayChange (shown_tree s) s.covers made → AreHeldAt s roots made → IsNamedIn made r q → Rules s roots q (record { 0 = r })
+        go _ (add spot inode) able at (inl that) = at_spot spot at.put r q that
+        go _ (add spot inode) able at (inr that) = absurd (new_is_not_live spot inode able (subst (λ (l : Leaf). IsLive s.homes s.covers l) that.1 live))
+        go _ (set spot inode) able at that = at_spot spot at.put r q that
+        go _ (remove spot went) able at that = at_spot spot at.taken r q that
+        go _ (move source target inode went) able at (inl that) = at_spot source at.taken r q that
+        go _ (move source target inode went) able at (inr that) = at_spot target at.put r q that
 
     -- the ranks may hold the leaves; one leaf has one holder
     pub hold_each : (caches : CacheMap) → AreHeld s caches roots → (change : Change) → AreHeldAt s roots change → MayHoldEach caches change
-    hold_each caches held (Add spot inode) at = may_hold s caches roots held (leaf_of spot.at) spot.at.rank at
-    hold_each caches held (Set spot inode) at = may_hold s caches roots held (leaf_of spot.at) spot.at.rank at
-    hold_each caches held (Remove spot went) at = may_hold s caches roots held (leaf_of spot.at) spot.at.rank at
-    hold_each caches held (Move source target went) at = (
-      may_hold s caches roots held (leaf_of source.at) source.at.rank at.0,
-      may_hold s caches roots held (leaf_of target.at) target.at.rank at.1,
-      λ same. one_authority roots s.homes s.covers (leaf_of target.at) source.at.rank target.at.rank (subst (λ (l : Leaf). Rules s roots l source.at.rank) same at.0) at.1,
-    )
+    hold_each caches held change at = record { taken = taken change.takes at.taken; put = put change.puts at.put; one = one change.takes change.puts at.taken at.put }
+      where
+        taken : (takes : Option Spot) → IfSome takes (λ spot. HoldsAt s roots spot.at) → IfSome takes (λ spot. MayHold caches spot.at.rank (leaf_of spot.at))
+        taken None holds = tt
+        taken (Some spot) holds = may_hold s caches roots held (leaf_of spot.at) spot.at.rank holds
+
+        put : (puts : Option (Spot × Inode)) → IfSome puts (λ put. HoldsAt s roots put.0.at) → IfSome puts (λ put. MayHold caches put.0.at.rank (leaf_of put.0.at))
+        put None holds = tt
+        put (Some to) holds = may_hold s caches roots held (leaf_of to.0.at) to.0.at.rank holds
+
+        one : (takes : Option Spot) (puts : Option (Spot × Inode)) → IfSome takes (λ spot. HoldsAt s roots spot.at) → IfSome puts (λ put. HoldsAt s roots put.0.at) → AreOneRank takes puts
+        one None puts here there = tt
+        one (Some spot) None here there = tt
+        one (Some spot) (Some to) here there = λ same. one_authority roots s.homes s.covers (leaf_of to.0.at) spot.at.rank to.0.at.rank (subst (λ (l : Leaf). Rules s roots l spot.at.rank) same here) there

@@ -4,34 +4,28 @@ use Rattle.std.proofs.Common.{sym, subst}
 use Rattle.std.specs.FinMap as map
 use Rattle.mds_types.specs.declared.ids.Ino.{Ino}
 use Rattle.mds_types.specs.declared.inodes.Inode.{Inode}
-use Rattle.mds_types.specs.Step.{IsMove}
 use Rattle.mds_types.specs.Tree.{is_dir_kind}
 use Rattle.inode_table.specs.Dirs.{MayGo, MayMove as MayRelocate}
 use Rattle.inode_table.specs.TreeTable.{home_at, with_home}
 use Rattle.inode_table.proofs.MoveLaws.{may_relocate, may_replace}
-use Rattle.namespace_ops.specs.Changes.{MayChange, dentry_at, directory_at}
-use Rattle.namespace_ops.specs.declared.plans.Change.TheVariants.{Move}
+use Rattle.namespace_ops.specs.Changes.{MayChange, dentry_at, directory_at, moves}
 use Rattle.namespace_ops.specs.declared.plans.Spot.{Spot}
 use Rattle.mdcache.specs.Shown.{shown_tree}
 use Rattle.mdcache.specs.Sound.{IsSound}
 use Rattle.mdcache.specs.State.{State}
-use Rattle.mdcache.proofs.ChangeLaws.{moving}
 
 -- where a rename may be made
-module _ (s : State) (sound : IsSound s) (source target : Spot) (inode : Inode) (went : Option Ino) (may : MayChange (shown_tree s) s.covers (Move source target went)) (stands : map.get (shown_tree s) (dentry_at source) ≡ Some inode) where
-  move : IsMove (shown_tree s) (dentry_at source) (dentry_at target) inode
-  move = moving (shown_tree s) (dentry_at source) (dentry_at target) inode stands may.takes
-
+module _ (s : State) (sound : IsSound s) (source target : Spot) (inode : Inode) (went : Option Ino) (may : MayChange (shown_tree s) s.covers (moves source target inode went)) where
   -- a directory may have its home there,
   pub relocates : is_dir_kind inode.kind ≡ true → MayRelocate s.homes inode.ino.0 (home_at (dentry_at target))
-  relocates kinded = may_relocate (shown_tree s) s.homes (dentry_at source) (dentry_at target) inode sound.tabled move kinded
+  relocates kinded = may_relocate (shown_tree s) s.homes (dentry_at source) (dentry_at target) inode sound.tabled may.takes kinded
 
   -- and one that is replaced may go then
   pub replaces : IfSome went (λ (dir : Ino). MayGo (with_home s.homes (dentry_at target) inode) dir.0)
-  replaces = subst (λ (d : Option Ino). IfSome d (λ (dir : Ino). MayGo (with_home s.homes (dentry_at target) inode) dir.0)) (sym may.carries.2) (go (map.get (shown_tree s) (dentry_at target)) refl)
+  replaces = subst (λ (d : Option Ino). IfSome d (λ (dir : Ino). MayGo (with_home s.homes (dentry_at target) inode) dir.0)) (sym may.carries.gone) (go (map.get (shown_tree s) (dentry_at target)) refl)
     where
       at : (i : Inode) (b : Bool) → map.get (shown_tree s) (dentry_at target) ≡ Some i → IfSome (cond b (Some i.ino) None) (λ (dir : Ino). MayGo (with_home s.homes (dentry_at target) inode) dir.0)
-      at i true is = may_replace (shown_tree s) s.homes (dentry_at source) (dentry_at target) inode sound.tabled move i is
+      at i true is = may_replace (shown_tree s) s.homes (dentry_at source) (dentry_at target) inode sound.tabled may.takes i is
       at i false is = tt
 
       go : (o : Option Inode) → map.get (shown_tree s) (dentry_at target) ≡ o → IfSome (directory_at o) (λ (dir : Ino). MayGo (with_home s.homes (dentry_at target) inode) dir.0)

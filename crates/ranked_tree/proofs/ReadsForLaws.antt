@@ -1,10 +1,11 @@
 -- What reads of a directory's leaves make of the caches, one after the other.
-use Rattle.std.specs.Prelude.{◌≡◌, ℕ, Option, None, false}
+use Rattle.std.specs.Prelude.{◌≡◌, ◌⊎◌, ℕ, Option, Some, None, false}
 use Rattle.std.proofs.Common.{inl, inr, ap, subst, sym, ◌∙◌}
 use Rattle.mds_types.specs.declared.ids.Rank.{Rank}
 use Rattle.mds_types.specs.declared.dentries.Dentry.{Dentry}
 use Rattle.mds_types.specs.declared.operations.Op.{Op}
 use Rattle.mds_types.specs.declared.operations.Op.TheVariants.{Lookup, Readdir, Create, Mkdir, Readlink, Symlink, Setattr, Unlink, Rmdir, Rename}
+use Rattle.mds_types.specs.declared.inodes.Inode.{Inode}
 use Rattle.mds_types.specs.declared.refusals.Refusal.{Refusal}
 use Rattle.mds_types.specs.Tree.{Tree}
 use Rattle.mds_types.specs.Leaf.{leaf_of}
@@ -13,9 +14,10 @@ use Rattle.dentry_cache.specs.Reads.{Reads}
 use Rattle.dentry_cache.proofs.ReadsLaws.{reads_then, reads_weaker}
 use Rattle.inode_table.specs.Dirs.{is_known}
 use Rattle.inode_table.proofs.TableLaws.{may_come}
-use Rattle.namespace_ops.specs.Changes.{Concerns, IsChangeOf, MayChange, dentry_at}
+use Rattle.namespace_ops.specs.Changes.{Concerns, IsChangeOf, MayChange, PutsAt, TakesAt, dentry_at}
+use Rattle.namespace_ops.proofs.Shapes.{Shape, shape_of}
+use Rattle.namespace_ops.proofs.Shapes.Shape.{add, move, remove, set}
 use Rattle.namespace_ops.specs.declared.plans.Change.{Change}
-use Rattle.namespace_ops.specs.declared.plans.Change.TheVariants.{Add, Set, Remove, Move}
 use Rattle.namespace_ops.specs.declared.plans.Spot.{Spot}
 use Rattle.subtree_map.specs.Authority.{Leaf, Roots}
 use Rattle.mdcache.specs.Ranks.{IsNamedIn}
@@ -24,7 +26,7 @@ use Rattle.mdcache.specs.Sound.{IsSound}
 use Rattle.mdcache.specs.Core.{Core, ReadsCore, state_of}
 use Rattle.mdcache.specs.Frags.{KeepsState}
 use Rattle.mdcache.specs.State.{State as TreeState}
-use Rattle.ranked_tree.specs.Held.{AnyPlace, AreHeldAt, AsksFor, NamesDir, ReadsDir, ReadsFor}
+use Rattle.ranked_tree.specs.Held.{AnyPlace, AreHeldAt, AsksFor, NamesBy, NamesDir, ReadsDir, ReadsFor}
 use Rattle.mdcache.proofs.FragsLaws.{keeps_on}
 use Rattle.ranked_tree.specs.Ranked.{KeepsRanked, Ranked}
 use Rattle.ranked_tree.specs.Subtrees.{HoldsAt, Rules}
@@ -66,13 +68,16 @@ module _ (old : Core) (roots : Roots) where
   at_spot spot holds r q that = (ap (λ (l : Leaf). l.0.0) that.1, is_that (state_of old) roots (leaf_of spot.at) spot.at.rank holds r q that)
 
   pub asks_change : (change : Change) → IsSound (state_of old) → MayChange (shown_tree (state_of old)) old.covers change → AreHeldAt (state_of old) roots change → (r : ℕ) (q : Leaf) → IsNamedIn change r q → AsksFor (state_of old) roots (NamesDir change) r q
-  asks_change (Add spot inode) sound may held r q (inl that) = inl (at_spot spot held r q that)
-  asks_change (Add spot inode) sound may held r q (inr that) =
-      inr (subst (λ (l : Leaf). is_known old.homes l.0.0 ≡ false) (sym that.1) (is_unknown old.homes inode.ino.0 _ (may_come (shown_tree (state_of old)) old.homes (dentry_at spot) inode sound.tabled may.takes)), ap (λ (l : Leaf). l.1) that.1)
-  asks_change (Set spot inode) sound may held r q that = inl (at_spot spot held r q that)
-  asks_change (Remove spot went) sound may held r q that = inl (at_spot spot held r q that)
-  asks_change (Move source target went) sound may held r q (inl that) = let here = at_spot source held.0 r q that in inl (inl here.0, here.1)
-  asks_change (Move source target went) sound may held r q (inr that) = let there = at_spot target held.1 r q that in inl (inr there.0, there.1)
+  asks_change change sound may held r q is = go change (shape_of (shown_tree (state_of old)) old.covers change may) may held is
+    where
+      go : (made : Change) → Shape made → MayChange (shown_tree (state_of old)) old.covers made → AreHeldAt (state_of old) roots made → IsNamedIn made r q → AsksFor (state_of old) roots (NamesDir made) r q
+      go _ (add spot inode) able at (inl that) = inl (at_spot spot at.put r q that)
+      go _ (add spot inode) able at (inr that) =
+          inr (subst (λ (l : Leaf). is_known old.homes l.0.0 ≡ false) (sym that.1) (is_unknown old.homes inode.ino.0 _ (may_come (shown_tree (state_of old)) old.homes (dentry_at spot) inode sound.tabled able.takes)), ap (λ (l : Leaf). l.1) that.1)
+      go _ (set spot inode) able at that = inl (at_spot spot at.put r q that)
+      go _ (remove spot went) able at that = inl (at_spot spot at.taken r q that)
+      go _ (move source target inode went) able at (inl that) = let here = at_spot source at.taken r q that in inl (inl here.0, here.1)
+      go _ (move source target inode went) able at (inr that) = let there = at_spot target at.put r q that in inl (inr there.0, there.1)
 
 -- reads of them
 pub reads_change : (Ends : ℕ → Leaf → Type 0) (old new : Core) (roots : Roots) (change : Change) → IsSound (state_of old) → MayChange (shown_tree (state_of old)) old.covers change → AreHeldAt (state_of old) roots change → ReadsCore (IsNamedIn change) Ends old new
@@ -81,36 +86,34 @@ reads_change Ends old new roots change sound may held reads =
     reads_weaker (IsNamedIn change) Ends (AsksFor (state_of old) roots (NamesDir change)) AnyPlace (asks_change old roots change sound may held) (λ r q ends. tt) old.objects old.caches new.caches reads.caches
 
 -- the directories of a change are those that its operation concerns
+of_put : (dentry : Dentry) (Is : Inode → Type 0) (takes : Option Spot) (puts : Option (Spot × Inode)) → takes ≡ None → PutsAt dentry Is puts → (d : ℕ) → NamesBy takes puts d → d ≡ dentry.dir.0
+of_put dentry Is None None none at d is = absurd at
+of_put dentry Is None (Some put) none at d is = is ∙ ap (λ (e : Dentry). e.dir.0) at.0
+of_put dentry Is (Some spot) puts none at d is = let clash : Some spot ≡ None = none in cc
+
+of_taken : (dentry : Dentry) (takes : Option Spot) (puts : Option (Spot × Inode)) → TakesAt dentry takes → puts ≡ None → (d : ℕ) → NamesBy takes puts d → d ≡ dentry.dir.0
+of_taken dentry None puts at none d is = absurd at
+of_taken dentry (Some spot) None at none d is = is ∙ ap (λ (e : Dentry). e.dir.0) at
+of_taken dentry (Some spot) (Some put) at none d is = let clash : Some put ≡ None = none in cc
+
+of_move : (here there : Dentry) (Is : Inode → Type 0) (takes : Option Spot) (puts : Option (Spot × Inode)) → TakesAt here takes → PutsAt there Is puts → (d : ℕ) → NamesBy takes puts d → (d ≡ here.dir.0) ⊎ (d ≡ there.dir.0)
+of_move here there Is None puts at to d is = absurd at
+of_move here there Is (Some spot) None at to d is = absurd to
+of_move here there Is (Some spot) (Some put) at to d (inl is) = inl (is ∙ ap (λ (e : Dentry). e.dir.0) at)
+of_move here there Is (Some spot) (Some put) at to d (inr is) = inr (is ∙ ap (λ (e : Dentry). e.dir.0) to.0)
+
 pub change_concerns : (tree : Tree) (op : Op) (change : Change) → IsChangeOf op change → (d : ℕ) → NamesDir change d → Concerns tree op d
 change_concerns tree (Lookup dentry) change of d is = absurd of
 change_concerns tree (Readdir dir after max) change of d is = absurd of
 change_concerns tree (Readlink dentry) change of d is = absurd of
-change_concerns tree (Create dentry mode mtime) (Add spot inode) of d is = is ∙ ap (λ (e : Dentry). e.dir.0) of.0
-change_concerns tree (Create dentry mode mtime) (Set spot inode) of d is = absurd of
-change_concerns tree (Create dentry mode mtime) (Remove spot went) of d is = absurd of
-change_concerns tree (Create dentry mode mtime) (Move here there went) of d is = absurd of
-change_concerns tree (Mkdir dentry mode mtime) (Add spot inode) of d is = is ∙ ap (λ (e : Dentry). e.dir.0) of.0
-change_concerns tree (Mkdir dentry mode mtime) (Set spot inode) of d is = absurd of
-change_concerns tree (Mkdir dentry mode mtime) (Remove spot went) of d is = absurd of
-change_concerns tree (Mkdir dentry mode mtime) (Move here there went) of d is = absurd of
-change_concerns tree (Symlink dentry target mtime) (Add spot inode) of d is = is ∙ ap (λ (e : Dentry). e.dir.0) of.0
-change_concerns tree (Symlink dentry target mtime) (Set spot inode) of d is = absurd of
-change_concerns tree (Symlink dentry target mtime) (Remove spot went) of d is = absurd of
-change_concerns tree (Symlink dentry text mtime) (Move here there went) of d is = absurd of
-change_concerns tree (Setattr dentry given) (Add spot inode) of d is = absurd of
-change_concerns tree (Setattr dentry given) (Set spot inode) of d is = is ∙ ap (λ (e : Dentry). e.dir.0) of
-change_concerns tree (Setattr dentry given) (Remove spot went) of d is = absurd of
-change_concerns tree (Setattr dentry given) (Move here there went) of d is = absurd of
-change_concerns tree (Unlink dentry) (Add spot inode) of d is = absurd of
-change_concerns tree (Unlink dentry) (Set spot inode) of d is = absurd of
-change_concerns tree (Unlink dentry) (Remove spot went) of d is = is ∙ ap (λ (e : Dentry). e.dir.0) of.0
-change_concerns tree (Unlink dentry) (Move here there went) of d is = absurd of
-change_concerns tree (Rmdir dentry) (Add spot inode) of d is = absurd of
-change_concerns tree (Rmdir dentry) (Set spot inode) of d is = absurd of
-change_concerns tree (Rmdir dentry) (Remove spot went) of d is = inl (is ∙ ap (λ (e : Dentry). e.dir.0) of)
-change_concerns tree (Rmdir dentry) (Move here there went) of d is = absurd of
-change_concerns tree (Rename from to) (Add spot inode) of d is = absurd of
-change_concerns tree (Rename from to) (Set spot inode) of d is = absurd of
-change_concerns tree (Rename from to) (Remove spot went) of d is = absurd of
-change_concerns tree (Rename from to) (Move here there went) of d (inl is) = inl (is ∙ ap (λ (e : Dentry). e.dir.0) of.0)
-change_concerns tree (Rename from to) (Move here there went) of d (inr is) = inr (inl (is ∙ ap (λ (e : Dentry). e.dir.0) of.1))
+change_concerns tree (Create dentry mode mtime) change of d is = of_put dentry _ change.takes change.puts of.takes of.puts d is
+change_concerns tree (Mkdir dentry mode mtime) change of d is = of_put dentry _ change.takes change.puts of.takes of.puts d is
+change_concerns tree (Symlink dentry target mtime) change of d is = of_put dentry _ change.takes change.puts of.takes of.puts d is
+change_concerns tree (Setattr dentry given) change of d is = of_put dentry _ change.takes change.puts of.takes of.puts d is
+change_concerns tree (Unlink dentry) change of d is = of_taken dentry change.takes change.puts of.removal.takes of.removal.puts d is
+change_concerns tree (Rmdir dentry) change of d is = inl (of_taken dentry change.takes change.puts of.takes of.puts d is)
+change_concerns tree (Rename from to) change of d is = go (of_move from to _ change.takes change.puts of.takes of.puts d is)
+  where
+    go : (d ≡ from.dir.0) ⊎ (d ≡ to.dir.0) → Concerns tree (Rename from to) d
+    go (inl here) = inl here
+    go (inr there) = inr (inl there)

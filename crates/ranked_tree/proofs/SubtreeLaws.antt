@@ -10,15 +10,17 @@ use Rattle.mds_types.specs.Tree.{is_dir_kind}
 use Rattle.inode_table.specs.Dirs.{Covers, Homes, IsTable, MayGo, MayMove}
 use Rattle.inode_table.specs.TreeTable.{home_at, with_home}
 use Rattle.inode_table.proofs.TableLaws.{may_come, may_drop, with_dir, with_file}
-use Rattle.namespace_ops.specs.Changes.{MayChange, dentry_at, directory_at}
+use Rattle.namespace_ops.specs.Changes.{MayChange, dentry_at, directory_at, removes}
+use Rattle.namespace_ops.proofs.Shapes.{Shape, shape_of}
+use Rattle.namespace_ops.proofs.Shapes.Shape.{add, move, remove, set}
 use Rattle.namespace_ops.specs.declared.plans.Change.{Change}
-use Rattle.namespace_ops.specs.declared.plans.Change.TheVariants.{Add, Set, Remove, Move}
 use Rattle.namespace_ops.specs.declared.plans.Spot.{Spot}
 use Rattle.subtree_map.specs.Authority.{HasAuthority, IsSubtrees, Roots}
 use Rattle.subtree_map.specs.Changes.{HaveOneAuthority, IsRootMerge, IsRootSplit}
 use Rattle.subtree_map.specs.Moves.{HasRoomToMove, IsSettled}
-use Rattle.subtree_map.proofs.Options.{one_value}
+use Rattle.std.proofs.lemmas.Option.{same_Some}
 use Rattle.mdcache.specs.Changes.{Makes}
+use Rattle.mdcache.specs.Frags.{dir_moved, dir_moving}
 use Rattle.mdcache.specs.Going.{rows_but}
 use Rattle.mdcache.specs.Shown.{shown_tree}
 use Rattle.mdcache.specs.Sound.{IsSound}
@@ -26,7 +28,7 @@ use Rattle.mdcache.specs.Splits.{IsMergedInto, IsSplitInto}
 use Rattle.mdcache.specs.State.{State}
 use Rattle.mdcache.proofs.HomeLaws.{moved_home, moved_known}
 use Rattle.ranked_tree.proofs.MoveLaws.{relocates, replaces}
-use Rattle.ranked_tree.specs.Subtrees.{AreRoots, FollowChange, GivesToChildren, HasRoomFor, LoseDirectory, SettleMove, SettleMoving, TakesOver}
+use Rattle.ranked_tree.specs.Subtrees.{AreRoots, FollowChange, GivesToChildren, HasRoomBy, HasRoomFor, LoseDirectory, SettleBy, SettleMove, SettleMoving, TakesOver}
 use Rattle.ranked_tree.proofs.ChangedTables.{TablesAre, added_tables, grown_tables, moved_tables, removed_tables, set_tables}
 use Rattle.ranked_tree.proofs.RootLaws.{IsSoundChange, child_authority, divided_soundly, grown, lost, merged_authority, merged_soundly, rehomed, sound_on, unchanged}
 
@@ -42,8 +44,8 @@ lose before after homes covers None table valid same may = unchanged before afte
 lose before after homes covers (Some dir) table valid gone may = lost before after homes covers table valid dir.0 gone may
 
 -- a directory that a removal takes away may go
-pub removable : (old : State) (spot : Spot) (went : Option Ino) → IsSound old → MayChange (shown_tree old) old.covers (Remove spot went) → IfSome went (λ (dir : Ino). MayGo old.homes dir.0)
-removable old spot went sound may = subst (λ (d : Option Ino). IfSome d (λ (dir : Ino). MayGo old.homes dir.0)) (sym may.carries.1) (go (map.get (shown_tree old) (dentry_at spot)) refl)
+pub removable : (old : State) (spot : Spot) (went : Option Ino) → IsSound old → MayChange (shown_tree old) old.covers (removes spot went) → IfSome went (λ (dir : Ino). MayGo old.homes dir.0)
+removable old spot went sound may = subst (λ (d : Option Ino). IfSome d (λ (dir : Ino). MayGo old.homes dir.0)) (sym may.carries.gone) (go (map.get (shown_tree old) (dentry_at spot)) refl)
   where
     at : (i : Inode) (b : Bool) → is_dir_kind i.kind ≡ b → map.get (shown_tree old) (dentry_at spot) ≡ Some i → IfSome (cond b (Some i.ino) None) (λ (dir : Ino). MayGo old.homes dir.0)
     at i true kinded is = may_drop (shown_tree old) old.homes (dentry_at spot) (Some i) is sound.tabled may.takes i refl kinded
@@ -66,18 +68,13 @@ module _ (old : State) (before settled : Roots) (to : Dentry) (inode : Inode) (s
           at_table before settled old.homes (with_home old.homes to inode) old.homes old.covers old.covers old.covers (with_file old.homes to inode kinded) refl
           (unchanged before settled old.homes old.covers sound.table valid same)
 
--- what moves may, where it is a directory
-pub may_settle : (old : State) (source target : Spot) (went : Option Ino) → IsSound old → (may : MayChange (shown_tree old) old.covers (Move source target went)) → (inode : Inode) → map.get (shown_tree old) (dentry_at source) ≡ Some inode
-    → is_dir_kind inode.kind ≡ true → MayMove old.homes inode.ino.0 (home_at (dentry_at target))
-may_settle old source target went sound may inode stands kinded = relocates old sound source target inode went may stands kinded
-
 -- every change keeps the authority of every leaf that stays
-pub changes_soundly : (change : Change) (old new : State) (before after : Roots) → IsSound old → MayChange (shown_tree old) old.covers change → Makes change old new → FollowChange change old before after → AreRoots old before
+soundly : (change : Change) → Shape change → (old new : State) (before after : Roots) → IsSound old → MayChange (shown_tree old) old.covers change → Makes change old new → FollowChange change old before after → AreRoots old before
     → IsSoundChange before after old.homes new.homes old.covers new.covers
-changes_soundly (Set spot inode) old new before after sound may makes follow valid =
+soundly _ (set spot inode) old new before after sound may makes follow valid =
     let tables = set_tables old new spot inode makes in
     at_table before after old.homes new.homes old.homes old.covers new.covers old.covers tables.0 tables.1 (unchanged before after old.homes old.covers sound.table valid (follow.2 ∙ follow.1))
-changes_soundly (Add spot inode) old new before after sound may makes follow valid = go (is_dir_kind inode.kind) refl
+soundly _ (add spot inode) old new before after sound may makes follow valid = go (is_dir_kind inode.kind) refl
   where
     go : (b : Bool) → is_dir_kind inode.kind ≡ b → IsSoundChange before after old.homes new.homes old.covers new.covers
     go true kinded =
@@ -87,20 +84,17 @@ changes_soundly (Add spot inode) old new before after sound may makes follow val
     go false kinded =
         let tables = added_tables old new spot inode kinded makes in
         at_table before after old.homes new.homes old.homes old.covers new.covers old.covers tables.0 tables.1 (unchanged before after old.homes old.covers sound.table valid (follow.2 ∙ follow.1))
-changes_soundly (Remove spot went) old new before after sound may makes follow valid =
+soundly _ (remove spot went) old new before after sound may makes follow valid =
     let tables = removed_tables old new spot went makes in
     at_table before after old.homes new.homes (rows_but old.homes went) old.covers new.covers (rows_but old.covers went) tables.0 tables.1
     (lose before after old.homes old.covers went sound.table valid (subst (λ (r : Roots). LoseDirectory r after went) follow.1 follow.2) (removable old spot went sound may))
-changes_soundly (Move source target went) old new before after sound may makes follow valid =
+soundly _ (move source target inode went) old new before after sound may makes follow valid =
     at_table before after old.homes new.homes (rows_but moved_homes went) old.covers new.covers (rows_but old.covers went) tables.0 tables.1 (
     sound_on before settled after old.homes moved_homes (rows_but moved_homes went) old.covers old.covers (rows_but old.covers went) first
-    (lose settled after moved_homes old.covers went table first.valid follow.2 (replaces old sound source target inode went may makes.1))
+    (lose settled after moved_homes old.covers went table first.valid follow.2 (replaces old sound source target inode went may))
     (λ leaf was is. record { known = moved_known old.homes old.covers sound.table (dentry_at target) inode settles_may leaf.0.0 ∙ was.known; stands = was.stands })
     )
   where
-    inode : Inode
-    inode = makes.0
-
     settled : Roots
     settled = follow.0
 
@@ -108,10 +102,10 @@ changes_soundly (Move source target went) old new before after sound may makes f
     moved_homes = with_home old.homes (dentry_at target) inode
 
     settles_may : is_dir_kind inode.kind ≡ true → MayMove old.homes inode.ino.0 (home_at (dentry_at target))
-    settles_may = may_settle old source target went sound may inode makes.1
+    settles_may = relocates old sound source target inode went may
 
     settles : SettleMove old before settled (dentry_at target) inode
-    settles = subst (λ (i : Inode). SettleMove old before settled (dentry_at target) i) (one_value _ follow.1.0 inode follow.1.1 makes.1) follow.1.2
+    settles = follow.1
 
     first : IsSoundChange before settled old.homes moved_homes old.covers old.covers
     first = moves old before settled (dentry_at target) inode sound valid settles_may settles
@@ -120,43 +114,87 @@ changes_soundly (Move source target went) old new before after sound may makes f
     table = moved_home old.homes old.covers sound.table (dentry_at target) inode settles_may
 
     tables : TablesAre new (rows_but moved_homes went) (rows_but old.covers went)
-    tables = moved_tables old new source target went makes
+    tables = moved_tables old new source target inode went makes
 
--- ---- what is about to move, as it was made ready
+pub changes_soundly : (change : Change) (old new : State) (before after : Roots) → IsSound old → MayChange (shown_tree old) old.covers change → Makes change old new → FollowChange change old before after → AreRoots old before
+    → IsSoundChange before after old.homes new.homes old.covers new.covers
+changes_soundly change old new before after sound may makes follow valid = soundly change (shape_of (shown_tree old) old.covers change may) old new before after sound may makes follow valid
 
-module _ (tree : State) (source target : Spot) (went moving : Option Ino) (may : MayChange (shown_tree tree) tree.covers (Move source target went))
-    (along : moving ≡ directory_at (map.get (shown_tree tree) (dentry_at source))) where
-  abbrev inode_at : Inode
-  inode_at = may.takes.0
+-- ---- what is about to move
 
-  is_it : moving ≡ directory_at (Some inode_at)
-  is_it = along ∙ ap directory_at may.takes.1.stands
+module _ (tree : State) where
+  -- a directory that moves may have its home there
+  pub moves_there : (change : Change) → IsSound tree → MayChange (shown_tree tree) tree.covers change → (put : Spot × Inode) → change.puts ≡ Some put → IfSome (dir_moving change) (λ (dir : Ino). MayMove tree.homes dir.0 (home_at (dentry_at put.0)))
+  moves_there change sound may = go change (shape_of (shown_tree tree) tree.covers change may) may
+    where
+      go : (made : Change) → Shape made → MayChange (shown_tree tree) tree.covers made → (put : Spot × Inode) → made.puts ≡ Some put → IfSome (dir_moving made) (λ (dir : Ino). MayMove tree.homes dir.0 (home_at (dentry_at put.0)))
+      go _ (add spot inode) able put is = tt
+      go _ (set spot inode) able put is = tt
+      go _ (remove spot went) able put is = tt
+      go _ (move source target inode went) able put is =
+          subst (λ (p : Spot × Inode). IfSome (directory_at (Some inode)) (λ (dir : Ino). MayMove tree.homes dir.0 (home_at (dentry_at p.0)))) (same_Some (target, inode) put is) (by (is_dir_kind inode.kind) refl)
+        where
+          by : (b : Bool) → is_dir_kind inode.kind ≡ b → IfSome (cond b (Some inode.ino) None) (λ (dir : Ino). MayMove tree.homes dir.0 (home_at (dentry_at target)))
+          by true kinded = relocates tree sound source target inode went able kinded
+          by false kinded = tt
 
   -- there is room for it, where there is for the change
-  pub room_at : (roots : Roots) (room : ℕ) → HasRoomFor (Move source target went) tree roots room → IfSome moving (λ (dir : Ino). HasRoomToMove roots room tree.homes tree.covers dir.0 (home_at (dentry_at target)))
-  room_at roots room has = subst (λ (d : Option Ino). IfSome d (λ (dir : Ino). HasRoomToMove roots room tree.homes tree.covers dir.0 (home_at (dentry_at target)))) (sym is_it) (go (is_dir_kind inode_at.kind) refl)
+  pub room_at : (change : Change) (put : Spot × Inode) → change.puts ≡ Some put → (roots : Roots) (room : ℕ) → HasRoomFor change tree roots room → IfSome (dir_moving change) (λ (dir : Ino). HasRoomToMove roots room tree.homes tree.covers dir.0 (home_at (dentry_at put.0)))
+  room_at change put is roots room = go change.takes change.puts is
     where
-      go : (b : Bool) → is_dir_kind inode_at.kind ≡ b → IfSome (cond b (Some inode_at.ino) None) (λ (dir : Ino). HasRoomToMove roots room tree.homes tree.covers dir.0 (home_at (dentry_at target)))
-      go true kinded = has inode_at may.takes.1.stands kinded
-      go false kinded = tt
+      go : (takes : Option Spot) (puts : Option (Spot × Inode)) → puts ≡ Some put → HasRoomBy takes puts tree roots room → IfSome (dir_moved takes puts) (λ (dir : Ino). HasRoomToMove roots room tree.homes tree.covers dir.0 (home_at (dentry_at put.0)))
+      go None puts same has = tt
+      go (Some spot) None same has = tt
+      go (Some spot) (Some to) same has =
+          subst (λ (p : Spot × Inode). IfSome (directory_at (Some to.1)) (λ (dir : Ino). HasRoomToMove roots room tree.homes tree.covers dir.0 (home_at (dentry_at p.0)))) (same_Some to put same) (by (is_dir_kind to.1.kind) refl)
+        where
+          by : (b : Bool) → is_dir_kind to.1.kind ≡ b → IfSome (cond b (Some to.1.ino) None) (λ (dir : Ino). HasRoomToMove roots room tree.homes tree.covers dir.0 (home_at (dentry_at to.0)))
+          by true kinded = has kinded
+          by false kinded = tt
 
   -- and there is for the change, where there is for it
-  pub room_for : (roots : Roots) (room : ℕ) → IfSome moving (λ (dir : Ino). HasRoomToMove roots room tree.homes tree.covers dir.0 (home_at (dentry_at target))) → HasRoomFor (Move source target went) tree roots room
-  room_for roots room has inode stands kinded = subst (λ (d : Option Ino). IfSome d (λ (dir : Ino). HasRoomToMove roots room tree.homes tree.covers dir.0 (home_at (dentry_at target)))) number has
+  pub room_for : (change : Change) (put : Spot × Inode) → change.puts ≡ Some put → (roots : Roots) (room : ℕ) → IfSome (dir_moving change) (λ (dir : Ino). HasRoomToMove roots room tree.homes tree.covers dir.0 (home_at (dentry_at put.0))) → HasRoomFor change tree roots room
+  room_for change put is roots room = go change.takes change.puts is
     where
-      number : moving ≡ Some inode.ino
-      number = along ∙ ap directory_at stands ∙ ap (λ (b : Bool). cond {A = Option Ino} b (Some inode.ino) None) kinded
+      go : (takes : Option Spot) (puts : Option (Spot × Inode)) → puts ≡ Some put → IfSome (dir_moved takes puts) (λ (dir : Ino). HasRoomToMove roots room tree.homes tree.covers dir.0 (home_at (dentry_at put.0))) → HasRoomBy takes puts tree roots room
+      go None puts same has = tt
+      go (Some spot) None same has = tt
+      go (Some spot) (Some to) same has = λ kinded.
+          subst (λ (p : Spot × Inode). HasRoomToMove roots room tree.homes tree.covers to.1.ino.0 (home_at (dentry_at p.0))) (sym (same_Some to put same))
+          (subst (λ (d : Option Ino). IfSome d (λ (dir : Ino). HasRoomToMove roots room tree.homes tree.covers dir.0 (home_at (dentry_at put.0)))) (ap (λ (b : Bool). cond {A = Option Ino} b (Some to.1.ino) None) kinded) has)
+
+  -- without a name that gets an inode nothing moves
+  pub room_for_none : (change : Change) → change.puts ≡ None → (roots : Roots) (room : ℕ) → HasRoomFor change tree roots room
+  room_for_none change is roots room = go change.takes change.puts is
+    where
+      go : (takes : Option Spot) (puts : Option (Spot × Inode)) → puts ≡ None → HasRoomBy takes puts tree roots room
+      go None puts same = tt
+      go (Some spot) None same = tt
+      go (Some spot) (Some to) same = let clash : Some to ≡ None = same in cc
 
   -- it is settled, where it is a directory
-  pub settled_at : (before after : Roots) → MatchOption moving (after ≡ before) (λ (dir : Ino). IsSettled before after tree.homes tree.covers dir.0 (home_at (dentry_at target))) → SettleMoving (Move source target went) tree before after
-  settled_at before after settled = (inode_at, may.takes.1.stands, go (is_dir_kind inode_at.kind) (subst Told is_it settled))
+  pub settled_at : (change : Change) (put : Spot × Inode) → change.puts ≡ Some put → (before after : Roots) → MatchOption (dir_moving change) (after ≡ before) (λ (dir : Ino). IsSettled before after tree.homes tree.covers dir.0 (home_at (dentry_at put.0))) → SettleMoving change tree before after
+  settled_at change put is before after = go change.takes change.puts is
     where
-      Told : Option Ino → Type 0
-      Told d = MatchOption d (after ≡ before) (λ (dir : Ino). IsSettled before after tree.homes tree.covers dir.0 (home_at (dentry_at target)))
+      Told : Spot → Option Ino → Type 0
+      Told to d = MatchOption d (after ≡ before) (λ (dir : Ino). IsSettled before after tree.homes tree.covers dir.0 (home_at (dentry_at to)))
 
-      go : (b : Bool) → Told (cond b (Some inode_at.ino) None) → MatchBool b (IsSettled before after tree.homes tree.covers inode_at.ino.0 (home_at (dentry_at target))) (after ≡ before)
-      go true its = its
-      go false same = same
+      go : (takes : Option Spot) (puts : Option (Spot × Inode)) → puts ≡ Some put → Told put.0 (dir_moved takes puts) → SettleBy takes puts tree before after
+      go None puts same told = told
+      go (Some spot) None same told = told
+      go (Some spot) (Some to) same told = by (is_dir_kind to.1.kind) (subst (λ (p : Spot × Inode). Told p.0 (directory_at (Some to.1))) (sym (same_Some to put same)) told)
+        where
+          by : (b : Bool) → Told to.0 (cond b (Some to.1.ino) None) → MatchBool b (IsSettled before after tree.homes tree.covers to.1.ino.0 (home_at (dentry_at to.0))) (after ≡ before)
+          by true its = its
+          by false its = its
+
+  pub settled_none : (change : Change) → change.puts ≡ None → (before after : Roots) → after ≡ before → SettleMoving change tree before after
+  settled_none change is before after = go change.takes change.puts is
+    where
+      go : (takes : Option Spot) (puts : Option (Spot × Inode)) → puts ≡ None → after ≡ before → SettleBy takes puts tree before after
+      go None puts same roots = roots
+      go (Some spot) None same roots = roots
+      go (Some spot) (Some to) same roots = let clash : Some to ≡ None = same in cc
 
 -- ---- splits and merges
 

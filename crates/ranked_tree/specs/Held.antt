@@ -1,6 +1,6 @@
 -- What the ranks' caches have: a rank caches only fragments that it is the authority of, and has places of no other live leaf (Weil et al.,
 -- OSDI 2006).
-use Rattle.std.specs.Prelude.{◌≡◌, ◌⊎◌, ◌<◌, ◌^◌, ℕ, true, false, length, map as each, Some}
+use Rattle.std.specs.Prelude.{◌≡◌, ◌⊎◌, ◌<◌, ◌^◌, ℕ, true, false, length, map as each, Option, Some, None}
 use Rattle.std.specs.List.{Contains}
 use Rattle.std.specs.FinMap as map
 use Rattle.mds_types.specs.declared.ids.Ino.{Ino}
@@ -9,9 +9,10 @@ use Rattle.mds_types.specs.Frag.{Fragment, child_of, root_fragment}
 use Rattle.mds_types.specs.Tree.{Tree, is_directory}
 use Rattle.fragtree.specs.FragTree.{leaves_inside}
 use Rattle.inode_table.specs.Dirs.{Covers, IsLive, is_known, leaves_of}
-use Rattle.namespace_ops.specs.Changes.{AreHeld as AreHeldBy, in_directory}
+use Rattle.namespace_ops.specs.Changes.{LieHeld, in_directory}
+use Rattle.mds_types.specs.declared.inodes.Inode.{Inode}
 use Rattle.namespace_ops.specs.declared.plans.Change.{Change}
-use Rattle.namespace_ops.specs.declared.plans.Change.TheVariants.{Add, Set, Remove, Move}
+use Rattle.namespace_ops.specs.declared.plans.Spot.{Spot}
 use Rattle.dentry_cache.specs.CacheMap.{At, CacheMap, has_place}
 use Rattle.dentry_cache.specs.CacheSplits.{IsKeptFor}
 use Rattle.dentry_cache.specs.Came.{Came, NoneEnds}
@@ -39,7 +40,7 @@ pub record IsOwned (core : Core) (roots : Roots) : Type 0 where
 
 -- each name of a change lies at its leaf's authority
 abbrev pub AreHeldAt : TreeState → Roots → Change → Type 0
-AreHeldAt tree roots change = AreHeldBy (HoldsAt tree roots) change
+AreHeldAt tree roots change = LieHeld (HoldsAt tree roots) change
 
 -- ---- what reads make of the caches
 
@@ -56,11 +57,14 @@ abbrev pub ReadsFor : Roots → (Asked : ℕ → Type 0) → (old new : Core) �
 ReadsFor roots Asked old new = Reads (AsksFor (state_of old) roots Asked) AnyPlace old.objects old.caches new.caches
 
 -- the directories of the dentries that a change names
+abbrev pub NamesBy : Option Spot → Option (Spot × Inode) → ℕ → Type 0
+NamesBy None None d = ⊥
+NamesBy None (Some put) d = d ≡ put.0.at.dir.0
+NamesBy (Some spot) None d = d ≡ spot.at.dir.0
+NamesBy (Some spot) (Some put) d = (d ≡ spot.at.dir.0) ⊎ (d ≡ put.0.at.dir.0)
+
 abbrev pub NamesDir : Change → ℕ → Type 0
-NamesDir (Add spot inode) d = d ≡ spot.at.dir.0
-NamesDir (Set spot inode) d = d ≡ spot.at.dir.0
-NamesDir (Remove spot went) d = d ≡ spot.at.dir.0
-NamesDir (Move from to went) d = (d ≡ from.at.dir.0) ⊎ (d ≡ to.at.dir.0)
+NamesDir change d = NamesBy change.takes change.puts d
 
 -- so of one directory
 abbrev pub ReadsDir : Roots → Ino → (old new : Core) → Type 0

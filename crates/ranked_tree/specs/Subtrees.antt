@@ -12,14 +12,12 @@ use Rattle.mds_types.specs.Leaf.{leaf_of}
 use Rattle.fragtree.specs.FragTree.{HasLeaf, IsChild, lies_inside}
 use Rattle.inode_table.specs.Dirs.{Covers, Homes, IsLive}
 use Rattle.inode_table.specs.TreeTable.{home_at}
-use Rattle.namespace_ops.specs.ChangedFragments.{gone_with}
 use Rattle.namespace_ops.specs.declared.plans.Change.{Change}
-use Rattle.namespace_ops.specs.declared.plans.Change.TheVariants.{Add, Set, Remove, Move}
+use Rattle.namespace_ops.specs.declared.plans.Spot.{Spot}
 use Rattle.namespace_ops.specs.Changes.{dentry_at}
 use Rattle.subtree_map.specs.Authority.{HasAuthority, IsSubtrees, Leaf, Roots}
 use Rattle.subtree_map.specs.Changes.{AreGone, is_inside}
 use Rattle.subtree_map.specs.Moves.{HasRoomToMove, IsSettled}
-use Rattle.mdcache.specs.Shown.{shown_tree}
 use Rattle.mdcache.specs.State.{State as TreeState}
 
 -- the authority of a leaf in a tree with these roots
@@ -52,23 +50,26 @@ abbrev pub SettleMove : TreeState → (before after : Roots) → Dentry → Inod
 SettleMove tree before after to inode = MatchBool (is_dir_kind inode.kind) (IsSettled before after tree.homes tree.covers inode.ino.0 (home_at to)) (after ≡ before)
 
 -- before a change the roots of a directory that it moves are settled
+abbrev pub SettleBy : Option Spot → Option (Spot × Inode) → TreeState → (before after : Roots) → Type 0
+SettleBy None puts tree before after = after ≡ before
+SettleBy (Some spot) None tree before after = after ≡ before
+SettleBy (Some spot) (Some put) tree before after = SettleMove tree before after (dentry_at put.0) put.1
+
 abbrev pub SettleMoving : Change → TreeState → (before after : Roots) → Type 0
-SettleMoving (Add spot inode) tree before after = after ≡ before
-SettleMoving (Set spot inode) tree before after = after ≡ before
-SettleMoving (Remove spot went) tree before after = after ≡ before
-SettleMoving (Move from to went) tree before after = (inode : Inode) × (map.get (shown_tree tree) (dentry_at from) ≡ Some inode) × SettleMove tree before after (dentry_at to) inode
+SettleMoving change tree before after = SettleBy change.takes change.puts tree before after
 
 -- what a change makes of the roots: those of a directory that moves are settled first, and a directory that goes loses its own
 abbrev pub FollowChange : Change → TreeState → (before after : Roots) → Type 0
-FollowChange change tree before after = (settled : Roots) × SettleMoving change tree before settled × LoseDirectory settled after (gone_with change)
+FollowChange change tree before after = (settled : Roots) × SettleMoving change tree before settled × LoseDirectory settled after change.gone
 
 -- there is room for the roots that a change makes: for those of a directory that moves
+abbrev pub HasRoomBy : Option Spot → Option (Spot × Inode) → TreeState → Roots → ℕ → Type 0
+HasRoomBy None puts tree roots room = Unit {0}
+HasRoomBy (Some spot) None tree roots room = Unit {0}
+HasRoomBy (Some spot) (Some put) tree roots room = is_dir_kind put.1.kind ≡ true → HasRoomToMove roots room tree.homes tree.covers put.1.ino.0 (home_at (dentry_at put.0))
+
 abbrev pub HasRoomFor : Change → TreeState → Roots → ℕ → Type 0
-HasRoomFor (Add spot inode) tree roots room = Unit {0}
-HasRoomFor (Set spot inode) tree roots room = Unit {0}
-HasRoomFor (Remove spot went) tree roots room = Unit {0}
-HasRoomFor (Move from to went) tree roots room =
-    (inode : Inode) → map.get (shown_tree tree) (dentry_at from) ≡ Some inode → is_dir_kind inode.kind ≡ true → HasRoomToMove roots room tree.homes tree.covers inode.ino.0 (home_at (dentry_at to))
+HasRoomFor change tree roots room = HasRoomBy change.takes change.puts tree roots room
 
 -- ---- splits and merges
 

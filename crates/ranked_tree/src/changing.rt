@@ -3,12 +3,12 @@ ghost use Rattle.std.specs.Prelude.{◌≡◌, MatchOption, IfSome, OnOk, OnErr,
 ghost use Rattle.mds_types.specs.declared.refusals.Refusal.TheVariants.{NoMemory};
 ghost use Rattle.inode_table.specs.Dirs.{MayMove};
 ghost use Rattle.inode_table.specs.TreeTable.{home_at};
-ghost use Rattle.namespace_ops.specs.ChangedFragments.{gone_with};
 ghost use Rattle.namespace_ops.specs.Changes.{MayChange, dentry_at};
 ghost use Rattle.subtree_map.specs.Authority.{IsSubtrees};
 ghost use Rattle.subtree_map.specs.Moves.{HasRoomToMove, IsSettled};
 ghost use Rattle.mdcache.specs.Changes.{Makes};
 ghost use Rattle.mdcache.specs.Core.{state_of};
+ghost use Rattle.mdcache.specs.Frags.{dir_moving};
 ghost use Rattle.mdcache.specs.Made.{IsRight};
 ghost use Rattle.mdcache.specs.Shown.{shown_tree};
 ghost use Rattle.ranked_tree.specs.Held.{CameFor, IsOwned};
@@ -37,7 +37,7 @@ impl<S: Store + Drop> RankedTree<S> {
         ensures faults { self.new.tree.faults ≡ self.old.tree.faults }
         ensures came { CameFor self.old.subtrees.roots change self.old.tree self.new.tree }
         ensures roots { FollowChange change (state_of self.old.tree) self.old.subtrees.roots self.new.subtrees.roots }
-        ensures promises { LoseDirectory self.old.subtrees.promises self.new.subtrees.promises (gone_with change) }
+        ensures promises { LoseDirectory self.old.subtrees.promises self.new.subtrees.promises change.gone }
         ensures kept { KeepsRoots (state_of self.old.tree) (state_of self.new.tree) self.old.subtrees.roots self.new.subtrees.roots }
     {
         change_tree(&mut self.tree, &mut self.roots, change);
@@ -60,9 +60,9 @@ pub(crate) fn reserve_roots<S: Store + Drop>(
     ensures refused { IfErr result (λ reason. reason ≡ NoMemory) }
     ensures left { OnErr result (roots.new ≡ roots.old) }
 {
-    match change {
-        Change::Move { to, .. } => reserve_move(tree.dirs(), roots, tree.moving(), to),
-        _ => Ok(()),
+    match &change.puts {
+        Some(put) => reserve_move(tree.dirs(), roots, moving(change), &put.0),
+        None => Ok(()),
     }
 }
 
@@ -81,13 +81,13 @@ fn change_tree<S: Store + Drop>(tree: &mut MdCache<S>, roots: &mut Subtrees, cha
     ensures faults { tree.new.faults ≡ tree.old.faults }
     ensures came { CameFor roots.old.roots change tree.old tree.new }
     ensures roots { FollowChange change (state_of tree.old) roots.old.roots roots.new.roots }
-    ensures promises { LoseDirectory roots.old.promises roots.new.promises (gone_with change) }
+    ensures promises { LoseDirectory roots.old.promises roots.new.promises change.gone }
     ensures authority { KeepsAuthorities (state_of tree.old) (state_of tree.new) roots.old.roots roots.new.roots }
     ensures ranks { NoNewRank roots.old.roots roots.new.roots }
     ensures owned { IsOwned tree.new roots.new.roots }
 {
     settle(tree, roots, &change);
-    let went = went_with(&change);
+    let went = change.gone;
     tree.apply(change);
     lose(roots, went);
 }
@@ -101,20 +101,24 @@ fn settle<S: Store + Drop>(tree: &MdCache<S>, roots: &mut Subtrees, change: &Cha
     ensures settled { SettleMoving change.now (state_of tree.now) roots.old.roots roots.new.roots }
     ensures promises { roots.new.promises ≡ roots.old.promises }
 {
-    let dirs = tree.dirs();
-    match change {
-        Change::Move { to, .. } => settle_move(dirs, roots, tree.moving(), to),
-        _ => {}
+    if let Some(put) = &change.puts {
+        settle_move(tree.dirs(), roots, moving(change), &put.0);
     }
 }
 
-/// The directory that goes with a change, if one does.
-pub fn went_with(change: &Change) -> Option<Ino>
-    ensures { result ≡ gone_with change.now }
+// The number of the directory that a change moves, if it moves one.
+fn moving(change: &Change) -> Option<Ino>
+    ensures { result ≡ dir_moving change.now }
 {
-    match change {
-        Change::Add { .. } | Change::Set { .. } => None,
-        Change::Remove { gone, .. } | Change::Move { gone, .. } => *gone,
+    match (&change.takes, &change.puts) {
+        (Some(_), Some((_, inode))) => {
+            if inode.kind.is_dir() {
+                Some(inode.ino)
+            } else {
+                None
+            }
+        }
+        _ => None,
     }
 }
 

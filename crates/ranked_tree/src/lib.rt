@@ -17,6 +17,5 @@ mod ranked_tree;
 mod reading;
 mod regrouping;
 
-pub use changing::went_with;
 pub use inside::leaf_inside;
 pub use ranked_tree::RankedTree;

@@ -1,5 +1,5 @@
 -- Each turn commits some leaves, or finds that all is clean.
-use Rattle.std.proofs.Common.{◌≡◌, ℕ, ◌+◌, ◌<◌, cond, ◌≤◌, length, true, refl, sym, ap, subst, ◌∙◌, arith}
+use Rattle.std.proofs.Common.{ℕ, ◌+◌, ◌<◌, cond, ◌≤◌, refl, sym, subst, ◌∙◌, arith}
 use Rattle.std.specs.FinMap as map
 use Rattle.dentry_cache.specs.Came.{NoneEnds}
 use Rattle.dentry_cache.specs.CacheMap.{unclean}

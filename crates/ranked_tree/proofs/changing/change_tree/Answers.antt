@@ -1,8 +1,5 @@
-use Rattle.std.proofs.Common.{Option, subst}
-use Rattle.mds_types.specs.declared.ids.Ino.{Ino}
 use Rattle.dentry_cache.proofs.FrameLaws.{came_cap, came_ranks}
 use Rattle.mdcache.specs.Ranks.{EndsWith, IsNamedIn}
-use Rattle.ranked_tree.specs.Subtrees.{LoseDirectory}
 use Rattle.ranked_tree.proofs.CameForLaws.{came_for}
 use Rattle.ranked_tree.proofs.HeldChanges.{change_held}
 use Rattle.ranked_tree.proofs.HolderLaws.{hold_each}
@@ -17,7 +14,7 @@ pub returns-clause-roots : goal.returns-clause-roots
 returns-clause-roots g c = (
   c.settle.new.roots.roots,
   c.settle.ensures.settled,
-  subst (λ (went : Option Ino). LoseDirectory c.settle.new.roots.roots c.lose.new.roots.roots went) c.went_with-went.ensures c.lose.ensures.roots,
+  c.lose.ensures.roots,
 )
 
 pub returns-clause-authority : goal.returns-clause-authority

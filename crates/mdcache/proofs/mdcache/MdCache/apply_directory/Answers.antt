@@ -15,17 +15,17 @@ add_directory-requires-clause-may g c =
     (may_come (shown_in c.args.self.now) c.args.self.now.homes (dentry_at c.args.spot) c.args.inode c.requires.sound.sound.tabled c.requires.may.takes))
 
 pub returns-clause-made : goal.returns-clause-made
-returns-clause-made g c = (directory_changed c.args.self.now c.add_directory.new.self c.requires.sound c.args.spot c.args.inode c.requires.ready c.requires.directory c.has_64_bits.ensures c.requires.holds.there c.requires.may c.replace.new.dest c.add_directory.new.self.room _ c.self.view_is c.in-Directory.made
+returns-clause-made g c = (directory_changed c.args.self.now c.add_directory.new.self c.requires.sound c.args.spot c.args.inode c.requires.ready c.requires.directory c.has_64_bits.ensures c.requires.holds.put.there c.requires.may c.replace.new.dest c.add_directory.new.self.room _ c.self.view_is c.in-Directory.made
     (sym (ap (λ (k : Core). k.prepared) c.self.view_is) ∙ sym c.replace.ensures.value ∙ c.in-Directory.is) c.add_directory.ensures).made
 
 pub returns-clause-right : goal.returns-clause-right
-returns-clause-right g c = (directory_changed c.args.self.now c.add_directory.new.self c.requires.sound c.args.spot c.args.inode c.requires.ready c.requires.directory c.has_64_bits.ensures c.requires.holds.there c.requires.may c.replace.new.dest c.add_directory.new.self.room _ c.self.view_is c.in-Directory.made
+returns-clause-right g c = (directory_changed c.args.self.now c.add_directory.new.self c.requires.sound c.args.spot c.args.inode c.requires.ready c.requires.directory c.has_64_bits.ensures c.requires.holds.put.there c.requires.may c.replace.new.dest c.add_directory.new.self.room _ c.self.view_is c.in-Directory.made
     (sym (ap (λ (k : Core). k.prepared) c.self.view_is) ∙ sym c.replace.ensures.value ∙ c.in-Directory.is) c.add_directory.ensures).right
 
 pub returns-clause-came : goal.returns-clause-came
-returns-clause-came g c = (directory_changed c.args.self.now c.add_directory.new.self c.requires.sound c.args.spot c.args.inode c.requires.ready c.requires.directory c.has_64_bits.ensures c.requires.holds.there c.requires.may c.replace.new.dest c.add_directory.new.self.room _ c.self.view_is c.in-Directory.made
+returns-clause-came g c = (directory_changed c.args.self.now c.add_directory.new.self c.requires.sound c.args.spot c.args.inode c.requires.ready c.requires.directory c.has_64_bits.ensures c.requires.holds.put.there c.requires.may c.replace.new.dest c.add_directory.new.self.room _ c.self.view_is c.in-Directory.made
     (sym (ap (λ (k : Core). k.prepared) c.self.view_is) ∙ sym c.replace.ensures.value ∙ c.in-Directory.is) c.add_directory.ensures).came
 
 pub returns-clause-sound : goal.returns-clause-sound
-returns-clause-sound g c = (directory_changed c.args.self.now c.add_directory.new.self c.requires.sound c.args.spot c.args.inode c.requires.ready c.requires.directory c.has_64_bits.ensures c.requires.holds.there c.requires.may c.replace.new.dest c.add_directory.new.self.room _ c.self.view_is c.in-Directory.made
+returns-clause-sound g c = (directory_changed c.args.self.now c.add_directory.new.self c.requires.sound c.args.spot c.args.inode c.requires.ready c.requires.directory c.has_64_bits.ensures c.requires.holds.put.there c.requires.may c.replace.new.dest c.add_directory.new.self.room _ c.self.view_is c.in-Directory.made
     (sym (ap (λ (k : Core). k.prepared) c.self.view_is) ∙ sym c.replace.ensures.value ∙ c.in-Directory.is) c.add_directory.ensures).sound

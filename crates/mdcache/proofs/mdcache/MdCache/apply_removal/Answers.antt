@@ -2,8 +2,7 @@ use Rattle.std.proofs.Common.{Option, ap, subst, sym, ◌∙◌}
 use Rattle.std.specs.Prelude.{IfSome}
 use Rattle.mds_types.specs.declared.ids.Ino.{Ino}
 use Rattle.inode_table.specs.Dirs.{MayGo}
-use Rattle.namespace_ops.specs.Changes.{MayChange}
-use Rattle.namespace_ops.specs.declared.plans.Change.TheVariants.{Remove}
+use Rattle.namespace_ops.specs.Changes.{MayChange, removes}
 use Rattle.mdcache.specs.Core.{Core, shown_in}
 use Rattle.mdcache.specs.Going.{dir_going}
 use Rattle.mdcache.proofs.ChangesMade.{IsChanged, entry_gone, may_go, removal_of}
@@ -18,31 +17,31 @@ remove_entry-requires-clause-may g c =
 pub returns-clause-made : goal.returns-clause-made
 returns-clause-made g c =
     let of = removal_of c.args.self.now c.args.gone c.in-Removal.going (sym (ap (λ (k : Core). k.prepared) c.self.view_is) ∙ sym c.replace.ensures.value ∙ c.in-Removal.is) c.requires.ready.ready.1 in
-    (subst (λ (d : Option Ino). IsChanged (Remove c.args.spot d) c.args.self.now c.remove_entry.new.self) of.0
+    (subst (λ (d : Option Ino). IsChanged (removes c.args.spot d) c.args.self.now c.remove_entry.new.self) of.0
     (entry_gone c.args.self.now c.remove_entry.new.self c.requires.sound c.args.spot c.in-Removal.going c.requires.ready.ready.0.room c.requires.ready.kept of.1
-    (subst (λ (d : Option Ino). MayChange (shown_in c.args.self.now) c.args.self.now.covers (Remove c.args.spot d)) (sym of.0) c.requires.may) c.replace.new.dest c.remove_entry.new.self.room _ c.self.view_is
+    (subst (λ (d : Option Ino). MayChange (shown_in c.args.self.now) c.args.self.now.covers (removes c.args.spot d)) (sym of.0) c.requires.may) c.replace.new.dest c.remove_entry.new.self.room _ c.self.view_is
     c.remove_entry.ensures.gone c.remove_entry.ensures.none)).made
 
 pub returns-clause-right : goal.returns-clause-right
 returns-clause-right g c =
     let of = removal_of c.args.self.now c.args.gone c.in-Removal.going (sym (ap (λ (k : Core). k.prepared) c.self.view_is) ∙ sym c.replace.ensures.value ∙ c.in-Removal.is) c.requires.ready.ready.1 in
-    (subst (λ (d : Option Ino). IsChanged (Remove c.args.spot d) c.args.self.now c.remove_entry.new.self) of.0
+    (subst (λ (d : Option Ino). IsChanged (removes c.args.spot d) c.args.self.now c.remove_entry.new.self) of.0
     (entry_gone c.args.self.now c.remove_entry.new.self c.requires.sound c.args.spot c.in-Removal.going c.requires.ready.ready.0.room c.requires.ready.kept of.1
-    (subst (λ (d : Option Ino). MayChange (shown_in c.args.self.now) c.args.self.now.covers (Remove c.args.spot d)) (sym of.0) c.requires.may) c.replace.new.dest c.remove_entry.new.self.room _ c.self.view_is
+    (subst (λ (d : Option Ino). MayChange (shown_in c.args.self.now) c.args.self.now.covers (removes c.args.spot d)) (sym of.0) c.requires.may) c.replace.new.dest c.remove_entry.new.self.room _ c.self.view_is
     c.remove_entry.ensures.gone c.remove_entry.ensures.none)).right
 
 pub returns-clause-came : goal.returns-clause-came
 returns-clause-came g c =
     let of = removal_of c.args.self.now c.args.gone c.in-Removal.going (sym (ap (λ (k : Core). k.prepared) c.self.view_is) ∙ sym c.replace.ensures.value ∙ c.in-Removal.is) c.requires.ready.ready.1 in
-    (subst (λ (d : Option Ino). IsChanged (Remove c.args.spot d) c.args.self.now c.remove_entry.new.self) of.0
+    (subst (λ (d : Option Ino). IsChanged (removes c.args.spot d) c.args.self.now c.remove_entry.new.self) of.0
     (entry_gone c.args.self.now c.remove_entry.new.self c.requires.sound c.args.spot c.in-Removal.going c.requires.ready.ready.0.room c.requires.ready.kept of.1
-    (subst (λ (d : Option Ino). MayChange (shown_in c.args.self.now) c.args.self.now.covers (Remove c.args.spot d)) (sym of.0) c.requires.may) c.replace.new.dest c.remove_entry.new.self.room _ c.self.view_is
+    (subst (λ (d : Option Ino). MayChange (shown_in c.args.self.now) c.args.self.now.covers (removes c.args.spot d)) (sym of.0) c.requires.may) c.replace.new.dest c.remove_entry.new.self.room _ c.self.view_is
     c.remove_entry.ensures.gone c.remove_entry.ensures.none)).came
 
 pub returns-clause-sound : goal.returns-clause-sound
 returns-clause-sound g c =
     let of = removal_of c.args.self.now c.args.gone c.in-Removal.going (sym (ap (λ (k : Core). k.prepared) c.self.view_is) ∙ sym c.replace.ensures.value ∙ c.in-Removal.is) c.requires.ready.ready.1 in
-    (subst (λ (d : Option Ino). IsChanged (Remove c.args.spot d) c.args.self.now c.remove_entry.new.self) of.0
+    (subst (λ (d : Option Ino). IsChanged (removes c.args.spot d) c.args.self.now c.remove_entry.new.self) of.0
     (entry_gone c.args.self.now c.remove_entry.new.self c.requires.sound c.args.spot c.in-Removal.going c.requires.ready.ready.0.room c.requires.ready.kept of.1
-    (subst (λ (d : Option Ino). MayChange (shown_in c.args.self.now) c.args.self.now.covers (Remove c.args.spot d)) (sym of.0) c.requires.may) c.replace.new.dest c.remove_entry.new.self.room _ c.self.view_is
+    (subst (λ (d : Option Ino). MayChange (shown_in c.args.self.now) c.args.self.now.covers (removes c.args.spot d)) (sym of.0) c.requires.may) c.replace.new.dest c.remove_entry.new.self.room _ c.self.view_is
     c.remove_entry.ensures.gone c.remove_entry.ensures.none)).sound

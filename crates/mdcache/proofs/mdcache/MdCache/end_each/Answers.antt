@@ -1,7 +1,6 @@
 -- Each turn ends the first commit that is left.
-use Rattle.std.proofs.Common.{◌≡◌, ◌+◌, ◌∷◌, drop, refl, sym, ap, subst, ◌∙◌, arith}
+use Rattle.std.proofs.Common.{◌+◌, drop, refl, subst, arith}
 use Rattle.std.specs.List.{AllByRecursion}
-use Rattle.objstore.specs.Objects.{MayRefuse}
 use Rattle.mdcache.specs.Batches.{AreApart, IsReadyAt, leaves_of_writes}
 use Rattle.mdcache.specs.Core.{state_of}
 use Rattle.mdcache.proofs.BatchLaws.{one_less, stay_ready, writes_left}

@@ -1,4 +1,4 @@
-use Rattle.std.proofs.Common.{sym, ap, ◌∙◌}
+use Rattle.std.proofs.Common.{ap, ◌∙◌}
 use Rattle.dentry_cache.specs.CacheMap.{unclean}
 use Rattle.mdcache.specs.Core.{state_of}
 use Rattle.mdcache.proofs.FlushSteps.{told_cold, told_exact, told_flushed}

@@ -16,7 +16,7 @@ put-requires-clause-room g c = subst (λ (k : Core). HasRoom (here k.caches c.ar
 
 pub returns-clause-none : goal.returns-clause-none
 returns-clause-none g c none = c.remove_dir.ensures.none
-    (none_with_mark c.relocate.new.self.caches c.put.new.self.caches c.args.to.at.rank.0 (leaf_of c.args.to.at) c.args.to.name (record { version = c.relocate.new.self.next_version; inode = Some c.args.moving.inode })
+    (none_with_mark c.relocate.new.self.caches c.put.new.self.caches c.args.to.at.rank.0 (leaf_of c.args.to.at) c.args.to.name (record { version = c.relocate.new.self.next_version; inode = Some c.args.inode })
     (subst KeepsNone (sym (ap (λ (k : Core). k.caches) c.relocate.ensures))
     (none_with_mark c.args.self.now.caches c.erase.new.self.caches c.args.from.at.rank.0 (leaf_of c.args.from.at) c.args.from.name (record { version = c.args.self.now.next_version; inode = None }) none (ap (λ (k : Core). k.caches) c.erase.ensures)))
     (ap (λ (k : Core). k.caches) c.put.ensures))

@@ -1,5 +1,5 @@
 -- The first 1,024 of the leaves that aren't clean.
-use Rattle.std.proofs.Common.{◌≡◌, ◌≤◌, length, take, sym, ap, subst, ◌∙◌}
+use Rattle.std.proofs.Common.{◌≤◌, length, take, sym, ap, subst, ◌∙◌}
 use Rattle.std.specs.List.{AllByRecursion}
 use Rattle.dentry_cache.specs.CacheMap.{AreCaches}
 use Rattle.dentry_cache.specs.Unclean.{unclean_places}

@@ -10,7 +10,7 @@ use Rattle.mdcache.proofs.PrepareLaws.{entry_live, ok_two, set_recordable, shows
 use Rattle.mdcache.proofs.mdcache.MdCache.prepare_set.Goals as goal
 
 pub ready_set-requires-clause-live : goal.ready_set-requires-clause-live
-ready_set-requires-clause-live g c = entry_live c.args.self.now c.requires.sound (dentry_at c.args.spot.now) c.args.spot.now.at.frag c.requires.may.takes.before c.requires.may.takes.stands c.requires.may.carries
+ready_set-requires-clause-live g c = entry_live c.args.self.now c.requires.sound (dentry_at c.args.spot.now) c.args.spot.now.at.frag c.requires.may.takes.before c.requires.may.takes.stands c.requires.may.carries.put
 
 pub returns-clause-ready : goal.returns-clause-ready
 returns-clause-ready g c =
@@ -18,7 +18,7 @@ returns-clause-ready g c =
       ready = (
         is.0,
         set_recordable (shown_in c.args.self.now) (dentry_at c.args.spot.now) c.args.inode.now c.requires.may.takes
-            (subst (λ (o : Option Inode). IfSome o IsRecordable) (sym (shows_entry c.args.self.now c.requires.sound (dentry_at c.args.spot.now) c.args.spot.now.at.frag c.requires.may.takes.before c.requires.may.takes.stands c.requires.may.carries)) is.1.0) c.has_parts.ensures.mode c.has_parts.ensures.target,
+            (subst (λ (o : Option Inode). IfSome o IsRecordable) (sym (shows_entry c.args.self.now c.requires.sound (dentry_at c.args.spot.now) c.args.spot.now.at.frag c.requires.may.takes.before c.requires.may.takes.stands c.requires.may.carries.put)) is.1.0) c.has_parts.ensures.mode c.has_parts.ensures.target,
       );
       kept = none_only None c.ready_set.new.self.caches is.1.1;
     }) (ok_two _ _ c.ready_set.result c.ready_set.ensures.ready (ok_two _ _ c.ready_set.result c.ready_set.ensures.recorded c.ready_set.ensures.none))

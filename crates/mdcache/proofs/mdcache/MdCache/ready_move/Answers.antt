@@ -1,20 +1,15 @@
-use Rattle.std.proofs.Common.{rules, ◌≡◌, ◌⊎◌, ◌<◌, ℕ, true, is_some, Some, length, arith, ap, sym, subst, ◌∙◌}
-use Rattle.std.specs.FinMap as map
+use Rattle.std.proofs.Common.{rules, ◌≡◌, ◌⊎◌, ◌<◌, ℕ, arith, ap, sym, subst, ◌∙◌}
 use Rattle.mds_types.specs.Leaf.{leaf_of}
-use Rattle.cached_frag.specs.Cached.{Cached, shown}
-use Rattle.dirfrag_codec.specs.FragmentObject.{Names}
-use Rattle.dentry_cache.specs.Cache.{HasCached, Leaf}
+use Rattle.dentry_cache.specs.Cache.{Leaf}
 use Rattle.dentry_cache.specs.CacheCalls.{KeepsNone}
-use Rattle.dentry_cache.specs.CacheMap.{here}
 use Rattle.dentry_cache.specs.CacheSplits.{IsKeptFor}
 use Rattle.dentry_cache.specs.Came.{IsThat}
 use Rattle.inode_table.specs.Dirs.{Covers}
 use Rattle.mdcache.specs.Core.{Core}
 use Rattle.mdcache.specs.Going.{IsGoingOrNone}
 use Rattle.mdcache.specs.Ranks.{NoneUsed}
-use Rattle.mdcache.specs.Shown.{names_of}
 use Rattle.mdcache.specs.State.{State}
-use Rattle.mdcache.proofs.CoreLaws.{cached_of_names, of_names, reads_state, grown_given, grown_may, grown_reads, keeps_place, may_fetch, not_found_pair, not_ready, purge_grown, reads_itself, reads_sound, remembered, there_after, two_live, two_ranks}
+use Rattle.mdcache.proofs.CoreLaws.{reads_state, grown_given, grown_may, grown_reads, keeps_place, may_fetch, not_found_pair, not_ready, purge_grown, reads_itself, reads_sound, remembered, two_live, two_ranks}
 use Rattle.mdcache.proofs.NoneLaws.{KeepsPlace, none_places}
 use Rattle.mdcache.proofs.mdcache.MdCache.ready_move.Goals as goal
 
@@ -57,29 +52,8 @@ returns-in-Err-ready_pair-clause-refused g c =
     (grown_given (λ (r : ℕ) (q : Leaf). IsThat c.args.from.now.at.rank.0 (leaf_of c.args.from.now.at) r q ⊎ IsThat c.args.to.now.at.rank.0 (leaf_of c.args.to.now.at) r q) c.args.self.now _ c.give_up.new.self c.ready_pair.new.self (purge_grown (λ (r : ℕ) (q : Leaf). IsThat c.args.from.now.at.rank.0 (leaf_of c.args.from.now.at) r q ⊎ IsThat c.args.to.now.at.rank.0 (leaf_of c.args.to.now.at) r q) (IsKeptFor c.args.self.now.caches) c.args.self.now _ c.self.view_is c.ready_going.new.purge.names c.ready_going.new.purge.room c.ready_going.ensures.same c.ready_going.ensures.grows) (ap (λ (k : Core). k.caches) c.self.view_is) c.give_up.ensures.reads c.ready_pair.ensures.reads (purge_grown NoneUsed (IsKeptFor c.args.self.now.caches) c.args.self.now _ c.self.view_is c.ready_going.new.purge.names c.ready_going.new.purge.room c.ready_going.ensures.same c.ready_going.ensures.grows))
     2 c.args.from.now.at.rank.0 c.args.to.now.at.rank.0 c.ready_pair.new.self.faults c.in-Err-ready_pair.refusal faults c.in-Err-ready_pair.ensures.refused)
 
-pub inode_at-requires-clause-there : goal.inode_at-requires-clause-there
-inode_at-requires-clause-there g c =
-    subst (λ (k : Core). c.args.from.now.at.rank.0 < length k.caches.used) (sym c.self-2.view_is) (there_after (λ (r : ℕ) (q : Leaf). IsThat c.args.from.now.at.rank.0 (leaf_of c.args.from.now.at) r q ⊎ IsThat c.args.to.now.at.rank.0 (leaf_of c.args.to.now.at) r q) (IsKeptFor c.args.self.now.caches) c.args.self.now c.ready_pair.new.self c.args.from.now.at.rank.0 (grown_reads (λ (r : ℕ) (q : Leaf). IsThat c.args.from.now.at.rank.0 (leaf_of c.args.from.now.at) r q ⊎ IsThat c.args.to.now.at.rank.0 (leaf_of c.args.to.now.at) r q) c.args.self.now _ c.give_up.new.self c.ready_pair.new.self (purge_grown (λ (r : ℕ) (q : Leaf). IsThat c.args.from.now.at.rank.0 (leaf_of c.args.from.now.at) r q ⊎ IsThat c.args.to.now.at.rank.0 (leaf_of c.args.to.now.at) r q) (IsKeptFor c.args.self.now.caches) c.args.self.now _ c.self.view_is c.ready_going.new.purge.names c.ready_going.new.purge.room c.ready_going.ensures.same c.ready_going.ensures.grows) (ap (λ (k : Core). k.caches) c.self.view_is) c.give_up.ensures.reads c.ready_pair.ensures.reads) c.requires.from_holds.there)
-
-pub inode_at-requires-clause-stands : goal.inode_at-requires-clause-stands
-inode_at-requires-clause-stands g c =
-    subst (λ (k : Core). HasCached (here k.caches c.args.from.now.at.rank.0 (leaf_of c.args.from.now.at)) (λ (f : Cached). is_some (map.get (shown f) c.args.from.now.name) ≡ true)) (sym c.self-2.view_is)
-    (cached_of_names c.ready_pair.new.self (reads_sound (λ (r : ℕ) (q : Leaf). IsThat c.args.from.now.at.rank.0 (leaf_of c.args.from.now.at) r q ⊎ IsThat c.args.to.now.at.rank.0 (leaf_of c.args.to.now.at) r q) (IsKeptFor c.args.self.now.caches) c.args.self.now c.ready_pair.new.self (grown_reads (λ (r : ℕ) (q : Leaf). IsThat c.args.from.now.at.rank.0 (leaf_of c.args.from.now.at) r q ⊎ IsThat c.args.to.now.at.rank.0 (leaf_of c.args.to.now.at) r q) c.args.self.now _ c.give_up.new.self c.ready_pair.new.self (purge_grown (λ (r : ℕ) (q : Leaf). IsThat c.args.from.now.at.rank.0 (leaf_of c.args.from.now.at) r q ⊎ IsThat c.args.to.now.at.rank.0 (leaf_of c.args.to.now.at) r q) (IsKeptFor c.args.self.now.caches) c.args.self.now _ c.self.view_is c.ready_going.new.purge.names c.ready_going.new.purge.room c.ready_going.ensures.same c.ready_going.ensures.grows) (ap (λ (k : Core). k.caches) c.self.view_is) c.give_up.ensures.reads c.ready_pair.ensures.reads) c.requires.sound (two_live c.args.self.now c.args.from.now.at.rank.0 c.args.to.now.at.rank.0 (leaf_of c.args.from.now.at) (leaf_of c.args.to.now.at) c.requires.from_live c.requires.to_live) (none_places c.ready_pair.new.self.kept c.ready_pair.new.self.caches c.ready_pair.ensures.none))
-    (λ (names : Names). is_some (map.get names c.args.from.now.name) ≡ true) (λ (f : Cached). 1 < f.room) c.args.from.now.at.rank.0 (leaf_of c.args.from.now.at) (c.in_default-ready_pair.ensures).source
-    (subst (λ (s : State). is_some (map.get (names_of s.unsaved s.objects (leaf_of c.args.from.now.at)) c.args.from.now.name) ≡ true) (sym (reads_state (λ (r : ℕ) (q : Leaf). IsThat c.args.from.now.at.rank.0 (leaf_of c.args.from.now.at) r q ⊎ IsThat c.args.to.now.at.rank.0 (leaf_of c.args.to.now.at) r q) (IsKeptFor c.args.self.now.caches) c.args.self.now c.ready_pair.new.self (grown_reads (λ (r : ℕ) (q : Leaf). IsThat c.args.from.now.at.rank.0 (leaf_of c.args.from.now.at) r q ⊎ IsThat c.args.to.now.at.rank.0 (leaf_of c.args.to.now.at) r q) c.args.self.now _ c.give_up.new.self c.ready_pair.new.self (purge_grown (λ (r : ℕ) (q : Leaf). IsThat c.args.from.now.at.rank.0 (leaf_of c.args.from.now.at) r q ⊎ IsThat c.args.to.now.at.rank.0 (leaf_of c.args.to.now.at) r q) (IsKeptFor c.args.self.now.caches) c.args.self.now _ c.self.view_is c.ready_going.new.purge.names c.ready_going.new.purge.room c.ready_going.ensures.same c.ready_going.ensures.grows) (ap (λ (k : Core). k.caches) c.self.view_is) c.give_up.ensures.reads c.ready_pair.ensures.reads))) c.requires.stands))
-
-pub returns-in_err-inode-clause-reads : goal.returns-in_err-inode-clause-reads
-returns-in_err-inode-clause-reads g c = grown_reads (λ (r : ℕ) (q : Leaf). IsThat c.args.from.now.at.rank.0 (leaf_of c.args.from.now.at) r q ⊎ IsThat c.args.to.now.at.rank.0 (leaf_of c.args.to.now.at) r q) c.args.self.now _ c.give_up.new.self c.ready_pair.new.self (purge_grown (λ (r : ℕ) (q : Leaf). IsThat c.args.from.now.at.rank.0 (leaf_of c.args.from.now.at) r q ⊎ IsThat c.args.to.now.at.rank.0 (leaf_of c.args.to.now.at) r q) (IsKeptFor c.args.self.now.caches) c.args.self.now _ c.self.view_is c.ready_going.new.purge.names c.ready_going.new.purge.room c.ready_going.ensures.same c.ready_going.ensures.grows) (ap (λ (k : Core). k.caches) c.self.view_is) c.give_up.ensures.reads c.ready_pair.ensures.reads
-
-pub returns-in_err-inode-clause-sound : goal.returns-in_err-inode-clause-sound
-returns-in_err-inode-clause-sound g c = reads_sound (λ (r : ℕ) (q : Leaf). IsThat c.args.from.now.at.rank.0 (leaf_of c.args.from.now.at) r q ⊎ IsThat c.args.to.now.at.rank.0 (leaf_of c.args.to.now.at) r q) (IsKeptFor c.args.self.now.caches) c.args.self.now c.ready_pair.new.self (grown_reads (λ (r : ℕ) (q : Leaf). IsThat c.args.from.now.at.rank.0 (leaf_of c.args.from.now.at) r q ⊎ IsThat c.args.to.now.at.rank.0 (leaf_of c.args.to.now.at) r q) c.args.self.now _ c.give_up.new.self c.ready_pair.new.self (purge_grown (λ (r : ℕ) (q : Leaf). IsThat c.args.from.now.at.rank.0 (leaf_of c.args.from.now.at) r q ⊎ IsThat c.args.to.now.at.rank.0 (leaf_of c.args.to.now.at) r q) (IsKeptFor c.args.self.now.caches) c.args.self.now _ c.self.view_is c.ready_going.new.purge.names c.ready_going.new.purge.room c.ready_going.ensures.same c.ready_going.ensures.grows) (ap (λ (k : Core). k.caches) c.self.view_is) c.give_up.ensures.reads c.ready_pair.ensures.reads) c.requires.sound (two_live c.args.self.now c.args.from.now.at.rank.0 c.args.to.now.at.rank.0 (leaf_of c.args.from.now.at) (leaf_of c.args.to.now.at) c.requires.from_live c.requires.to_live) (none_places c.ready_pair.new.self.kept c.ready_pair.new.self.caches c.ready_pair.ensures.none)
-
 pub returns-clause-moving : goal.returns-clause-moving
 returns-clause-moving g c = (
-  subst (λ (s : State). map.get (names_of s.unsaved s.objects (leaf_of c.args.from.now.at)) c.args.from.now.name ≡ Some c.in_ok-inode.inode) (reads_state (λ (r : ℕ) (q : Leaf). IsThat c.args.from.now.at.rank.0 (leaf_of c.args.from.now.at) r q ⊎ IsThat c.args.to.now.at.rank.0 (leaf_of c.args.to.now.at) r q) (IsKeptFor c.args.self.now.caches) c.args.self.now c.ready_pair.new.self (grown_reads (λ (r : ℕ) (q : Leaf). IsThat c.args.from.now.at.rank.0 (leaf_of c.args.from.now.at) r q ⊎ IsThat c.args.to.now.at.rank.0 (leaf_of c.args.to.now.at) r q) c.args.self.now _ c.give_up.new.self c.ready_pair.new.self (purge_grown (λ (r : ℕ) (q : Leaf). IsThat c.args.from.now.at.rank.0 (leaf_of c.args.from.now.at) r q ⊎ IsThat c.args.to.now.at.rank.0 (leaf_of c.args.to.now.at) r q) (IsKeptFor c.args.self.now.caches) c.args.self.now _ c.self.view_is c.ready_going.new.purge.names c.ready_going.new.purge.room c.ready_going.ensures.same c.ready_going.ensures.grows) (ap (λ (k : Core). k.caches) c.self.view_is) c.give_up.ensures.reads c.ready_pair.ensures.reads))
-      (of_names c.ready_pair.new.self (reads_sound (λ (r : ℕ) (q : Leaf). IsThat c.args.from.now.at.rank.0 (leaf_of c.args.from.now.at) r q ⊎ IsThat c.args.to.now.at.rank.0 (leaf_of c.args.to.now.at) r q) (IsKeptFor c.args.self.now.caches) c.args.self.now c.ready_pair.new.self (grown_reads (λ (r : ℕ) (q : Leaf). IsThat c.args.from.now.at.rank.0 (leaf_of c.args.from.now.at) r q ⊎ IsThat c.args.to.now.at.rank.0 (leaf_of c.args.to.now.at) r q) c.args.self.now _ c.give_up.new.self c.ready_pair.new.self (purge_grown (λ (r : ℕ) (q : Leaf). IsThat c.args.from.now.at.rank.0 (leaf_of c.args.from.now.at) r q ⊎ IsThat c.args.to.now.at.rank.0 (leaf_of c.args.to.now.at) r q) (IsKeptFor c.args.self.now.caches) c.args.self.now _ c.self.view_is c.ready_going.new.purge.names c.ready_going.new.purge.room c.ready_going.ensures.same c.ready_going.ensures.grows) (ap (λ (k : Core). k.caches) c.self.view_is) c.give_up.ensures.reads c.ready_pair.ensures.reads) c.requires.sound (two_live c.args.self.now c.args.from.now.at.rank.0 c.args.to.now.at.rank.0 (leaf_of c.args.from.now.at) (leaf_of c.args.to.now.at) c.requires.from_live c.requires.to_live) (none_places c.ready_pair.new.self.kept c.ready_pair.new.self.caches c.ready_pair.ensures.none)) (λ (names : Names). map.get names c.args.from.now.name ≡ Some c.in_ok-inode.inode) c.args.from.now.at.rank.0 (leaf_of c.args.from.now.at)
-      (subst (λ (k : Core). HasCached (here k.caches c.args.from.now.at.rank.0 (leaf_of c.args.from.now.at)) (λ (f : Cached). map.get (shown f) c.args.from.now.name ≡ Some c.in_ok-inode.inode)) c.self-2.view_is c.in_ok-inode.ensures.inode)),
-  c.in_ok-inode.ensures.recordable,
   c.in_ok-name.ensures,
   c.in_ok-going.ensures.going.0,
   subst (λ (v : Covers). IsGoingOrNone v c.in_ok-going.going) (ap (λ (k : Core). k.covers) c.self.view_is ∙ sym (ap (λ (s : State). s.covers) (reads_state (λ (r : ℕ) (q : Leaf). IsThat c.args.from.now.at.rank.0 (leaf_of c.args.from.now.at) r q ⊎ IsThat c.args.to.now.at.rank.0 (leaf_of c.args.to.now.at) r q) (IsKeptFor c.args.self.now.caches) c.args.self.now c.ready_pair.new.self (grown_reads (λ (r : ℕ) (q : Leaf). IsThat c.args.from.now.at.rank.0 (leaf_of c.args.from.now.at) r q ⊎ IsThat c.args.to.now.at.rank.0 (leaf_of c.args.to.now.at) r q) c.args.self.now _ c.give_up.new.self c.ready_pair.new.self (purge_grown (λ (r : ℕ) (q : Leaf). IsThat c.args.from.now.at.rank.0 (leaf_of c.args.from.now.at) r q ⊎ IsThat c.args.to.now.at.rank.0 (leaf_of c.args.to.now.at) r q) (IsKeptFor c.args.self.now.caches) c.args.self.now _ c.self.view_is c.ready_going.new.purge.names c.ready_going.new.purge.room c.ready_going.ensures.same c.ready_going.ensures.grows) (ap (λ (k : Core). k.caches) c.self.view_is) c.give_up.ensures.reads c.ready_pair.ensures.reads))) ∙ sym (ap (λ (k : Core). k.covers) c.self-2.view_is)) c.in_ok-going.ensures.going.1,
