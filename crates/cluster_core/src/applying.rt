@@ -82,21 +82,10 @@ pub(crate) fn prepare<F: Frags>(
     history.reserve(1)?;
     given.sessions.reserve(alloc, &asked.session)?;
     let plan = plan_checked(frags, &asked.request.op, checked, asked.supply.peek())?;
-    with_copies(plan, asked.supply)
-}
-
-// A plan with two more copies of its reply, and the numbers that it leaves.
-fn with_copies(plan: Plan, numbers: Numbers) -> Result<Prepared, Refusal>
-    requires { IsSome plan.number → IsSome (offer numbers) }
-    ensures planned { IfOk result (λ prepared. prepared.plan ≡ plan) }
-    ensures copied { IfOk result (λ prepared. prepared.answer ≡ plan.reply) }
-    ensures kept { IfOk result (λ prepared. prepared.kept ≡ plan.reply) }
-    ensures drawn { IfOk result (λ prepared. prepared.numbers ≡ after_taking numbers plan.number) }
-    ensures refused { IfErr result (λ reason. reason ≡ Refusal.NoMemory) }
-{
+    // in place, since a plan is large and each call that it goes through copies it
     match copies_of(&plan.reply) {
         Ok((answer, kept)) => {
-            let numbers = supply_after(numbers, plan.number);
+            let numbers = supply_after(asked.supply, plan.number);
             Ok(Prepared {
                 plan,
                 answer,

@@ -28,3 +28,7 @@ pub record IsNextBelow (roots : Roots) (homes : Homes) (covers : Covers) (root l
   pub stands : map.get homes leaf.0.0 ≡ Some home
   pub holds : HoldsDentry covers home holder
   pub nearest : NearestRoot roots homes covers holder root
+
+-- the way up ends at a leaf: it is a root, or its directory stands nowhere
+abbrev pub IsTop : Roots → Homes → Leaf → Type 0
+IsTop roots homes leaf = map.get roots leaf ≡ None → map.get homes leaf.0.0 ≡ None

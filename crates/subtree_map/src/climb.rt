@@ -1,12 +1,12 @@
 //! The way up from a leaf: along the dentries of directories to the nearest root.
-ghost use Rattle.std.specs.Prelude.{◌≡◌, true, false, MatchOption};
+ghost use Rattle.std.specs.Prelude.{◌≡◌, ◌↔◌, true, false, None, Some, IsTrue, MatchOption};
 ghost use Rattle.std.specs.Option.{option_copied};
 ghost use Rattle.std.specs.FinMap as map;
 ghost use Rattle.mds_types.specs.Leaf.{Leaf};
 ghost use Rattle.inode_table.specs.Dirs.{IsLive, is_known};
-ghost use Rattle.subtree_map.specs.Authority.{HasAuthority, IsLocated, IsSubtrees, NearestRoot};
+ghost use Rattle.subtree_map.specs.Authority.{HasAuthority, HoldsDentry, IsLocated, IsSubtrees, NearestRoot};
 ghost use Rattle.mds_types.specs.declared.ids.Rank.{Rank as RankNumber};
-ghost use Rattle.subtree_map.specs.Climb.{FindsAbove, FindsRow};
+ghost use Rattle.subtree_map.specs.Climb.{FindsAbove, FindsRow, IsTop};
 
 use crate::subtrees::Subtrees;
 use inode_table::{Dirs, Home};
@@ -90,6 +90,44 @@ impl Subtrees {
         }
     }
 
+    /// Whether a leaf would be in the region of another, if that were a root: whether the way up from it comes to the other before it
+    /// comes to a root. Takes no memory, and a look-up and a hash for each directory on the way.
+    pub fn is_under(&self, dirs: &Dirs, root: &(Ino, Frag), leaf: &(Ino, Frag)) -> bool
+        ensures { (rank : RankNumber) → IsTrue result ↔ NearestRoot (map.insert self.now.roots root.now rank) dirs.now.homes dirs.now.trees leaf.now root.now }
+    {
+        dirs.is_table();
+        let mut at = *leaf;
+        while let Some(home) = self.above_but(dirs, root, &at) {
+            at = holder_of(dirs, home);
+        }
+        is_one(&at, root)
+    }
+
+    // Where the directory of a leaf stands that is no root, and not this one.
+    fn above_but<'a>(
+        &self,
+        dirs: &'a Dirs,
+        root: &(Ino, Frag),
+        leaf: &(Ino, Frag),
+    ) -> Option<&'a Home>
+        ensures { (rank : RankNumber) → MatchOption result (IsTop (map.insert self.now.roots root.now rank) dirs.entry.now.homes leaf.now) (λ home. (map.get (map.insert self.now.roots root.now rank) leaf.now ≡ None) × (map.get dirs.entry.now.homes leaf.now.0.0 ≡ Some home.now)) }
+    {
+        if is_one(leaf, root) {
+            return None;
+        }
+        self.above(dirs, leaf)
+    }
+
+    // Where the directory of a leaf that is no root stands.
+    fn above<'a>(&self, dirs: &'a Dirs, leaf: &(Ino, Frag)) -> Option<&'a Home>
+        ensures { MatchOption result (IsTop self.now.roots dirs.entry.now.homes leaf.now) (λ home. (map.get self.now.roots leaf.now ≡ None) × (map.get dirs.entry.now.homes leaf.now.0.0 ≡ Some home.now)) }
+    {
+        if self.roots.contains(leaf) {
+            return None;
+        }
+        dirs.get(leaf.0)
+    }
+
     /// The nearest root of the leaf that holds a dentry, and its rank: none where no root is on the way up. The dentry's
     /// directory stands.
     pub(crate) fn root_above(
@@ -133,4 +171,21 @@ impl Subtrees {
             home = at.home;
         }
     }
+}
+
+// The leaf that holds the dentry of a directory that stands there: the one of its parent's leaves that the hash of its name picks.
+fn holder_of(dirs: &Dirs, home: &Home) -> (Ino, Frag)
+    ensures { HoldsDentry dirs.now.trees home.now result }
+{
+    (
+        home.parent,
+        dirs.pick(home.parent, rjenkins(home.name.as_bytes())),
+    )
+}
+
+// Whether two leaves are one.
+fn is_one(one: &(Ino, Frag), other: &(Ino, Frag)) -> bool
+    ensures { IsTrue result ↔ (one.now ≡ other.now) }
+{
+    one.0 == other.0 && one.1 == other.1
 }
