@@ -1,6 +1,6 @@
 -- Why a read is refused, in the words of all ranks, and of a call that ends with the read.
 use Rattle.std.specs.Prelude.{◌≡◌, ℕ, true, List, Option, Some, None, Result, Ok, Err, IfErr, IfOk, IfSome}
-use Rattle.std.proofs.Common.{inl, inr, refl, sym, subst, ◌∙◌, arith}
+use Rattle.std.proofs.Common.{inl, inr, refl, sym, ap, subst, ◌∙◌, arith}
 use Rattle.mds_types.specs.declared.ids.Ino.{Ino}
 use Rattle.mds_types.specs.declared.ids.Rank.{Rank}
 use Rattle.mds_types.specs.declared.operations.Op.{Op}
@@ -9,6 +9,8 @@ use Rattle.mds_types.specs.Frag.{Fragment}
 use Rattle.mds_types.specs.Leaf.{Leaf, leaf_of}
 use Rattle.mds_types.specs.Tree.{is_directory}
 use Rattle.fragtree.specs.FragTree.{HasLeaf}
+use Rattle.export_steps.specs.Holder.{IsFrozen, holding}
+use Rattle.export_steps.specs.Standing.{Standing}
 use Rattle.inode_table.specs.Dirs.{IsLive, is_known, leaves_of}
 use Rattle.inode_table.proofs.TableLaws.{known_is}
 use Rattle.namespace_ops.specs.Changes.{Concerns}
@@ -26,7 +28,7 @@ use Rattle.mdcache.specs.State.{State as TreeState}
 use Rattle.mdcache.proofs.FragsLaws.{lacked_at, refused_later}
 use Rattle.subtree_map.specs.Authority.{Roots}
 use Rattle.ranked_tree.specs.Held.{AreHeldAt, LacksPlacesAsked, LacksPlacesDir, LacksPlacesFor, NamesBy, NamesDir}
-use Rattle.ranked_tree.specs.Ranked.{KeepsRanked, MayRefuse, Ranked}
+use Rattle.ranked_tree.specs.Ranked.{IsFrozenLeaf, KeepsRanked, MayRefuse, Ranked, held_roots}
 use Rattle.ranked_tree.specs.Subtrees.{HoldsAt, Rules}
 
 -- what lacks at the rank that holds a leaf
@@ -51,6 +53,18 @@ refused_before a b roots leaf after reason kept (inl memory) = inl memory
 refused_before a b roots leaf after reason kept (inr (inl (is, rose))) = let counted = kept.counted in inr (inl (is, omega (arith, counted, rose)))
 refused_before a b roots leaf after reason kept (inr (inr (is, lacks))) = inr (inr (is, (leaf, refl, lacks_still 1 a b roots leaf kept lacks)))
 
+-- ---- what reads for an operation and refusals keep of the exports
+
+-- the rank that holds each region,
+pub held_still : (a b : Ranked) (op : Op) (told : Option Refusal) → KeepsRanked a b op told → held_roots b ≡ held_roots a
+held_still a b op told kept = ap (λ (r : Roots). holding b.exports r) kept.roots ∙ ap (λ (e : Standing). holding e a.subtrees.roots) kept.exports
+
+-- and what isn't frozen
+pub thawed_still : (a b : Ranked) (op : Op) (told : Option Refusal) (leaf : Leaf) → KeepsRanked a b op told → (IsFrozenLeaf a leaf → ⊥) → IsFrozenLeaf b leaf → ⊥
+thawed_still a b op told leaf kept thawed frozen =
+    thawed (subst (λ (e : Standing). IsFrozen e a.subtrees.roots a.tree.homes a.tree.covers leaf) kept.exports
+    (subst (λ (r : Roots). IsFrozen b.exports r a.tree.homes a.tree.covers leaf) kept.roots (subst (λ (s : TreeState). IsFrozen b.exports b.subtrees.roots s.homes s.covers leaf) kept.tree.state frozen)))
+
 -- ---- why an operation is refused
 
 -- fewer places than two, where there is none
@@ -58,12 +72,12 @@ lacks_more : (core : Core) (rank : Rank) → LacksPlacesAt 1 core rank → Lacks
 lacks_more core rank lacks = omega (arith, lacks)
 
 module _ (old new : Ranked) (op : Op) where
-  pub asked_for : (reason : Refusal) (leaf : Leaf) → Concerns (shown_tree (state_of old.tree)) op leaf.0.0 → MayNotFind (LacksPlacesFor 1 old.tree old.subtrees.roots leaf) old.tree.faults new.tree.faults reason → MayRefuse old new op reason
+  pub asked_for : (reason : Refusal) (leaf : Leaf) → Concerns (shown_tree (state_of old.tree)) op leaf.0.0 → MayNotFind (LacksPlacesFor 1 old.tree (held_roots old) leaf) old.tree.faults new.tree.faults reason → MayRefuse old new op reason
   asked_for reason leaf concerns (inl memory) = inl memory
   asked_for reason leaf concerns (inr (inl fault)) = inr (inl fault)
   asked_for reason leaf concerns (inr (inr (is, (rank, rules, lacks)))) = inr (inr (inl (is, (leaf, concerns, (rank, rules, lacks_more old.tree rank lacks)))))
 
-  pub asked_dir : (reason : Refusal) (dir : Ino) → Concerns (shown_tree (state_of old.tree)) op dir.0 → MayNotFind (LacksPlacesDir 1 old.tree old.subtrees.roots dir) old.tree.faults new.tree.faults reason → MayRefuse old new op reason
+  pub asked_dir : (reason : Refusal) (dir : Ino) → Concerns (shown_tree (state_of old.tree)) op dir.0 → MayNotFind (LacksPlacesDir 1 old.tree (held_roots old) dir) old.tree.faults new.tree.faults reason → MayRefuse old new op reason
   asked_dir reason dir concerns (inl memory) = inl memory
   asked_dir reason dir concerns (inr (inl fault)) = inr (inl fault)
   asked_dir reason dir concerns (inr (inr (is, (leaf, here, (rank, rules, lacks))))) =
@@ -72,13 +86,13 @@ module _ (old new : Ranked) (op : Op) where
 -- after reads for it that were not refused
 pub ranked_later : (a b c : Ranked) (op : Op) (reason : Refusal) → KeepsRanked a b op None → MayRefuse b c op reason → MayRefuse a c op reason
 ranked_later a b c op reason kept because =
-    refused_later (LacksPlacesAsked 2 b.tree b.subtrees.roots (Concerns (shown_tree (state_of b.tree)) op)) (LacksPlacesAsked 2 a.tree a.subtrees.roots (Concerns (shown_tree (state_of a.tree)) op)) a.tree b.tree c.tree op reason so kept.tree because
+    refused_later (LacksPlacesAsked 2 b.tree (held_roots b) (Concerns (shown_tree (state_of b.tree)) op)) (LacksPlacesAsked 2 a.tree (held_roots a) (Concerns (shown_tree (state_of a.tree)) op)) a.tree b.tree c.tree op reason so kept.tree because
   where
-    so : LacksPlacesAsked 2 b.tree b.subtrees.roots (Concerns (shown_tree (state_of b.tree)) op) → LacksPlacesAsked 2 a.tree a.subtrees.roots (Concerns (shown_tree (state_of a.tree)) op)
+    so : LacksPlacesAsked 2 b.tree (held_roots b) (Concerns (shown_tree (state_of b.tree)) op) → LacksPlacesAsked 2 a.tree (held_roots a) (Concerns (shown_tree (state_of a.tree)) op)
     so (leaf, concerns, lacks) = (
       leaf,
       subst (λ (s : TreeState). Concerns (shown_tree s) op leaf.0.0) kept.tree.state concerns,
-      lacks_still 2 a.tree b.tree a.subtrees.roots leaf kept.tree (subst (λ (r : Roots). LacksPlacesFor 2 b.tree r leaf) kept.roots lacks),
+      lacks_still 2 a.tree b.tree (held_roots a) leaf kept.tree (subst (λ (r : Roots). LacksPlacesFor 2 b.tree r leaf) (held_still a b op None kept) lacks),
     )
 
 -- ---- why a change isn't made ready

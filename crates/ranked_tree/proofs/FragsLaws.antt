@@ -25,47 +25,50 @@ use Rattle.mdcache.specs.Ready.{LacksNumbers, MayNotBeReady}
 use Rattle.mdcache.specs.Shown.{shown_tree}
 use Rattle.mdcache.specs.State.{State as TreeState}
 use Rattle.mdcache.proofs.FragsLaws.{keeps_refused}
+use Rattle.ranked_tree.specs.declared.regions.Regions.{Regions}
+use Rattle.ranked_tree.specs.Exported.{held_in}
 use Rattle.ranked_tree.specs.Held.{LacksPlacesAsked, LacksPlacesDir, LacksPlacesFor, NamesDir, ReadsFor}
 use Rattle.ranked_tree.specs.Ranked.{KeepsRanked, MayRefuse, Ranked}
 use Rattle.ranked_tree.proofs.AskLaws.{asked_dir, asked_for}
 use Rattle.ranked_tree.proofs.ReadsForLaws.{change_concerns, reads_less}
 
--- a tree with its subtrees, seen so
-abbrev pub over : Core → Subtrees → Ranked
-over tree subtrees = record { tree = tree; subtrees = subtrees }
+-- a tree with its regions, seen so
+abbrev pub over : Core → Regions → Ranked
+over tree regions = record { tree = tree; subtrees = regions.roots; exports = regions.exports }
 
-module _ (tree new : Core) (subtrees : Subtrees) (now : Ranked) (is : over tree subtrees ≡ now) (op : Op) where
+module _ (tree new : Core) (regions : Regions) (now : Ranked) (is : over tree regions ≡ now) (op : Op) where
   -- reads of directories that the operation concerns
-  pub keeps_all : (Asked : ℕ → Type 0) (told : Option Refusal) → ((d : ℕ) → Asked d → Concerns (shown_tree (state_of now.tree)) op d) → KeepsState tree new told → ReadsFor subtrees.roots Asked tree new
-      → KeepsAll (shown_tree (state_of now.tree)) (shown_tree (state_of new)) now.tree.covers new.covers (KeepsRanked now (over new subtrees) op told)
-  keeps_all Asked told more kept reads = subst (λ (n : Ranked). KeepsAll (shown_tree (state_of n.tree)) (shown_tree (state_of new)) n.tree.covers new.covers (KeepsRanked n (over new subtrees) op told)) is (record {
+  pub keeps_all : (Asked : ℕ → Type 0) (told : Option Refusal) → ((d : ℕ) → Asked d → Concerns (shown_tree (state_of now.tree)) op d) → KeepsState tree new told → ReadsFor (held_in regions) Asked tree new
+      → KeepsAll (shown_tree (state_of now.tree)) (shown_tree (state_of new)) now.tree.covers new.covers (KeepsRanked now (over new regions) op told)
+  keeps_all Asked told more kept reads = subst (λ (n : Ranked). KeepsAll (shown_tree (state_of n.tree)) (shown_tree (state_of new)) n.tree.covers new.covers (KeepsRanked n (over new regions) op told)) is (record {
     tree = ap (λ (s : TreeState). shown_tree s) kept.state;
     leaves = ap (λ (s : TreeState). s.covers) kept.state;
     follows = record {
       tree = kept;
       roots = refl;
-      reads = reads_less subtrees.roots Asked (Concerns (shown_tree (state_of tree)) op) tree new (λ d asked. subst (λ (n : Ranked). Concerns (shown_tree (state_of n.tree)) op d) (sym is) (more d asked)) reads;
+      exports = refl;
+      reads = reads_less (held_in regions) Asked (Concerns (shown_tree (state_of tree)) op) tree new (λ d asked. subst (λ (n : Ranked). Concerns (shown_tree (state_of n.tree)) op d) (sym is) (more d asked)) reads;
     };
   })
 
   -- so of one directory
-  pub keeps_dir : (dir : Ino) (told : Option Refusal) → Concerns (shown_tree (state_of now.tree)) op dir.0 → KeepsState tree new told → ReadsFor subtrees.roots (λ (d : ℕ). d ≡ dir.0) tree new
-      → KeepsAll (shown_tree (state_of now.tree)) (shown_tree (state_of new)) now.tree.covers new.covers (KeepsRanked now (over new subtrees) op told)
+  pub keeps_dir : (dir : Ino) (told : Option Refusal) → Concerns (shown_tree (state_of now.tree)) op dir.0 → KeepsState tree new told → ReadsFor (held_in regions) (λ (d : ℕ). d ≡ dir.0) tree new
+      → KeepsAll (shown_tree (state_of now.tree)) (shown_tree (state_of new)) now.tree.covers new.covers (KeepsRanked now (over new regions) op told)
   keeps_dir dir told concerns kept reads = keeps_all (λ (d : ℕ). d ≡ dir.0) told (λ d same. subst (λ (x : ℕ). Concerns (shown_tree (state_of now.tree)) op x) (sym same) concerns) kept reads
 
   -- a look at one of their leaves was refused
-  pub look_refused : {X : Type 0} (result : Result X Refusal) (leaf : Leaf) → Concerns (shown_tree (state_of now.tree)) op leaf.0.0 → IfErr result (MayNotFind (LacksPlacesFor 1 tree subtrees.roots leaf) tree.faults new.faults) → IfErr result (MayRefuse now (over new subtrees) op)
+  pub look_refused : {X : Type 0} (result : Result X Refusal) (leaf : Leaf) → Concerns (shown_tree (state_of now.tree)) op leaf.0.0 → IfErr result (MayNotFind (LacksPlacesFor 1 tree (held_in regions) leaf) tree.faults new.faults) → IfErr result (MayRefuse now (over new regions) op)
   look_refused (Ok x) leaf concerns h = tt
   look_refused (Err reason) leaf concerns h =
-      subst (λ (n : Ranked). MayRefuse n (over new subtrees) op reason) is
-      (asked_for (over tree subtrees) (over new subtrees) op reason leaf (subst (λ (n : Ranked). Concerns (shown_tree (state_of n.tree)) op leaf.0.0) (sym is) concerns) h)
+      subst (λ (n : Ranked). MayRefuse n (over new regions) op reason) is
+      (asked_for (over tree regions) (over new regions) op reason leaf (subst (λ (n : Ranked). Concerns (shown_tree (state_of n.tree)) op leaf.0.0) (sym is) concerns) h)
 
   -- or at all leaves of one
-  pub walk_refused : {X : Type 0} (result : Result X Refusal) (dir : Ino) → Concerns (shown_tree (state_of now.tree)) op dir.0 → IfErr result (MayNotFind (LacksPlacesDir 1 tree subtrees.roots dir) tree.faults new.faults) → IfErr result (MayRefuse now (over new subtrees) op)
+  pub walk_refused : {X : Type 0} (result : Result X Refusal) (dir : Ino) → Concerns (shown_tree (state_of now.tree)) op dir.0 → IfErr result (MayNotFind (LacksPlacesDir 1 tree (held_in regions) dir) tree.faults new.faults) → IfErr result (MayRefuse now (over new regions) op)
   walk_refused (Ok x) dir concerns h = tt
   walk_refused (Err reason) dir concerns h =
-      subst (λ (n : Ranked). MayRefuse n (over new subtrees) op reason) is
-      (asked_dir (over tree subtrees) (over new subtrees) op reason dir (subst (λ (n : Ranked). Concerns (shown_tree (state_of n.tree)) op dir.0) (sym is) concerns) h)
+      subst (λ (n : Ranked). MayRefuse n (over new regions) op reason) is
+      (asked_dir (over tree regions) (over new regions) op reason dir (subst (λ (n : Ranked). Concerns (shown_tree (state_of n.tree)) op dir.0) (sym is) concerns) h)
 
 -- the numbers that lack for a change lack for its operation
 module _ (s : TreeState) where
@@ -117,29 +120,29 @@ numbers_lack s (Rename from to) change of lacks = lack_moved s from to _ change.
 
 -- ---- a change is made ready
 
-module _ (tree new : Core) (subtrees : Subtrees) (now : Ranked) (is : over tree subtrees ≡ now) (op : Op) (change : Change) (of : IsChangeOf op change) where
+module _ (tree new : Core) (regions : Regions) (now : Ranked) (is : over tree regions ≡ now) (op : Op) (change : Change) (of : IsChangeOf op change) where
   -- it reads what the change names
-  pub keeps_named : (told : Option Refusal) → KeepsState tree new told → ReadsFor subtrees.roots (NamesDir change) tree new
-      → KeepsAll (shown_tree (state_of now.tree)) (shown_tree (state_of new)) now.tree.covers new.covers (KeepsRanked now (over new subtrees) op told)
-  keeps_named told kept reads = keeps_all tree new subtrees now is op (NamesDir change) told (λ d named. change_concerns (shown_tree (state_of now.tree)) op change of d named) kept reads
+  pub keeps_named : (told : Option Refusal) → KeepsState tree new told → ReadsFor (held_in regions) (NamesDir change) tree new
+      → KeepsAll (shown_tree (state_of now.tree)) (shown_tree (state_of new)) now.tree.covers new.covers (KeepsRanked now (over new regions) op told)
+  keeps_named told kept reads = keeps_all tree new regions now is op (NamesDir change) told (λ d named. change_concerns (shown_tree (state_of now.tree)) op change of d named) kept reads
 
   -- and why it may not be
-  pub ready_refused : (reason : Refusal) → MayNotBeReady (LacksToMake change (state_of tree)) (LacksPlacesAsked 2 tree subtrees.roots (NamesDir change)) tree.faults new.faults reason → MayRefuse now (over new subtrees) op reason
-  ready_refused reason h = subst (λ (n : Ranked). MayRefuse n (over new subtrees) op reason) is (go h)
+  pub ready_refused : (reason : Refusal) → MayNotBeReady (LacksToMake change (state_of tree)) (LacksPlacesAsked 2 tree (held_in regions) (NamesDir change)) tree.faults new.faults reason → MayRefuse now (over new regions) op reason
+  ready_refused reason h = subst (λ (n : Ranked). MayRefuse n (over new regions) op reason) is (go h)
     where
-      go : MayNotBeReady (LacksToMake change (state_of tree)) (LacksPlacesAsked 2 tree subtrees.roots (NamesDir change)) tree.faults new.faults reason → MayRefuse (over tree subtrees) (over new subtrees) op reason
+      go : MayNotBeReady (LacksToMake change (state_of tree)) (LacksPlacesAsked 2 tree (held_in regions) (NamesDir change)) tree.faults new.faults reason → MayRefuse (over tree regions) (over new regions) op reason
       go (inl (told, numbers)) = inr (inr (inr (told, numbers_lack (state_of tree) op change of numbers)))
       go (inr (none, inl memory)) = inl memory
       go (inr (none, inr (inl fault))) = inr (inl fault)
       go (inr (none, inr (inr (told, (leaf, named, lacks))))) = inr (inr (inl (told, (leaf, change_concerns (shown_tree (state_of tree)) op change of leaf.0.0 named, lacks))))
 
 -- roots that were made ready with it, or for want of memory were not, are the same
-pub reserved_keeps : (now : Ranked) (new : Core) (subtrees after : Subtrees) (op : Op) (result : Result (Unit {0}) Refusal) → after.roots ≡ subtrees.roots → IfErr result (λ reason. reason ≡ NoMemory)
-    → KeepsAll (shown_tree (state_of now.tree)) (shown_tree (state_of new)) now.tree.covers new.covers (KeepsRanked now (over new subtrees) op None)
-    → KeepsAll (shown_tree (state_of now.tree)) (shown_tree (state_of new)) now.tree.covers new.covers (KeepsRanked now (over new after) op (result_err result))
-reserved_keeps now new subtrees after op (Ok done) same err kept = record { tree = kept.tree; leaves = kept.leaves; follows = record { tree = kept.follows.tree; roots = same ∙ kept.follows.roots; reads = kept.follows.reads } }
-reserved_keeps now new subtrees after op (Err reason) same err kept = record {
+pub reserved_keeps : (now : Ranked) (new : Core) (regions : Regions) (after : Subtrees) (op : Op) (result : Result (Unit {0}) Refusal) → after.roots ≡ regions.roots.roots → IfErr result (λ reason. reason ≡ NoMemory)
+    → KeepsAll (shown_tree (state_of now.tree)) (shown_tree (state_of new)) now.tree.covers new.covers (KeepsRanked now (over new regions) op None)
+    → KeepsAll (shown_tree (state_of now.tree)) (shown_tree (state_of new)) now.tree.covers new.covers (KeepsRanked now (over new (record { roots = after; exports = regions.exports })) op (result_err result))
+reserved_keeps now new regions after op (Ok done) same err kept = record { tree = kept.tree; leaves = kept.leaves; follows = record { tree = kept.follows.tree; roots = same ∙ kept.follows.roots; exports = kept.follows.exports; reads = kept.follows.reads } }
+reserved_keeps now new regions after op (Err reason) same err kept = record {
   tree = kept.tree;
   leaves = kept.leaves;
-  follows = record { tree = keeps_refused now.tree new reason (ap faults_in err) kept.follows.tree; roots = same ∙ kept.follows.roots; reads = kept.follows.reads };
+  follows = record { tree = keeps_refused now.tree new reason (ap faults_in err) kept.follows.tree; roots = same ∙ kept.follows.roots; exports = kept.follows.exports; reads = kept.follows.reads };
 }

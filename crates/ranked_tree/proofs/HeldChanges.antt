@@ -20,7 +20,7 @@ use Rattle.inode_table.proofs.Tables.{still_known}
 use Rattle.inode_table.proofs.TableLaws.{may_come}
 use Rattle.dentry_cache.specs.CacheMap.{At}
 use Rattle.dentry_cache.specs.Came.{Came, IsThat}
-use Rattle.dentry_cache.proofs.FrameLaws.{came_held, came_ranks}
+use Rattle.dentry_cache.proofs.FrameLaws.{came_held}
 use Rattle.namespace_ops.specs.Changes.{MayChange, adds, dentry_at}
 use Rattle.namespace_ops.proofs.Shapes.{Shape, shape_of}
 use Rattle.namespace_ops.proofs.Shapes.Shape.{add, move, remove, set}
@@ -38,9 +38,9 @@ use Rattle.mdcache.proofs.CoreLaws.{keeps_place}
 use Rattle.mdcache.proofs.HomeLaws.{moved_known}
 use Rattle.ranked_tree.proofs.MoveLaws.{relocates, replaces}
 use Rattle.ranked_tree.specs.Held.{AreHeld, AreHeldAt, IsOwned}
-use Rattle.ranked_tree.specs.Subtrees.{FollowChange, HoldsAt, KeepsAuthorities, NoNewRank, Rules}
+use Rattle.ranked_tree.specs.Subtrees.{HoldsAt, KeepsAuthorities, Rules}
 use Rattle.ranked_tree.proofs.ChangedTables.{TablesAre, added_tables, grown_tables, moved_tables, removed_tables, set_tables}
-use Rattle.ranked_tree.proofs.HeldLaws.{held_after, is_that}
+use Rattle.ranked_tree.proofs.HeldLaws.{HaveCaches, held_after, is_that}
 use Rattle.ranked_tree.proofs.HolderLaws.{added_live, new_is_not_live, removed_live, set_live, source_live, target_live, was_unknown}
 use Rattle.ranked_tree.proofs.RootLaws.{is_elsewhere}
 use Rattle.ranked_tree.proofs.SubtreeLaws.{over, removable}
@@ -132,7 +132,7 @@ module _ (old new : Core) (before after : Roots) (owned : IsOwned old before) (n
 
   -- the leaf of a directory that comes inherits from the leaf that its dentry is in
   module _ (spot : Spot) (inode : Inode) (may : MayChange (shown_in old) old.covers (adds spot inode)) (makes : Makes (adds spot inode) (state_of old) (state_of new))
-      (follow : FollowChange (adds spot inode) (state_of old) before after) (rank : Rank) (rules : Rules (state_of old) before (leaf_of spot.at) rank) (kinded : is_dir_kind inode.kind ≡ true) where
+      (follow : after ≡ before) (rank : Rank) (rules : Rules (state_of old) before (leaf_of spot.at) rank) (kinded : is_dir_kind inode.kind ≡ true) where
     abbrev first : Leaf
     first = first_leaf inode.ino
 
@@ -159,7 +159,7 @@ module _ (old new : Core) (before after : Roots) (owned : IsOwned old before) (n
         go : (o : Option Rank) → map.get after first ≡ o → map.get after first ≡ None
         go None is = is
         go (Some rank) is =
-            let was : IsSome (map.get before first) = ap is_some (sym (ap (λ (r : Roots). map.get r first) (follow.2 ∙ follow.1)) ∙ is) in
+            let was : IsSome (map.get before first) = ap is_some (sym (ap (λ (r : Roots). map.get r first) follow) ∙ is) in
             absurd (was_unknown old.homes inode.ino.0 (home_at (dentry_at spot)) comes (owned.valid.live first was).known)
 
     pub first_inherits : Rules (state_of new) after first rank
@@ -173,7 +173,7 @@ module _ (old new : Core) (before after : Roots) (owned : IsOwned old before) (n
         }
 
   -- a leaf that a change names is used at its authority
-  named : (change : Change) → AreHeldAt (state_of old) before change → MayChange (shown_in old) old.covers change → Makes change (state_of old) (state_of new) → FollowChange change (state_of old) before after → (r : ℕ) (q : Leaf) → IsNamedIn change r q → IsLive new.homes new.covers q
+  named : (change : Change) → AreHeldAt (state_of old) before change → MayChange (shown_in old) old.covers change → Makes change (state_of old) (state_of new) → (change.comes ≡ true → after ≡ before) → (r : ℕ) (q : Leaf) → IsNamedIn change r q → IsLive new.homes new.covers q
       → Rules (state_of new) after q (record { 0 = r })
   named change held may makes follow r q is live = go change (shape_of (shown_in old) old.covers change may) held may makes follow is
     where
@@ -181,23 +181,23 @@ module _ (old new : Core) (before after : Roots) (owned : IsOwned old before) (n
       old_leaf : (at : Dirfrag) → IsLive old.homes old.covers (leaf_of at) → HoldsAt (state_of old) before at → IsThat at.rank.0 (leaf_of at) r q → Rules (state_of new) after q (record { 0 = r })
       old_leaf at lived holds that = keeps q (record { 0 = r }) (subst (IsLive old.homes old.covers) (sym that.1) lived) live (is_that (state_of old) before (leaf_of at) at.rank holds r q that)
 
-      go : (change : Change) → Shape change → AreHeldAt (state_of old) before change → MayChange (shown_in old) old.covers change → Makes change (state_of old) (state_of new) → FollowChange change (state_of old) before after → IsNamedIn change r q → Rules (state_of new) after q (record { 0 = r })
+      go : (change : Change) → Shape change → AreHeldAt (state_of old) before change → MayChange (shown_in old) old.covers change → Makes change (state_of old) (state_of new) → (change.comes ≡ true → after ≡ before) → IsNamedIn change r q → Rules (state_of new) after q (record { 0 = r })
       go _ (add spot inode) held may makes follow (inl that) = old_leaf spot.at (added_live (state_of old) sound spot inode may) held.put that
       go _ (add spot inode) held may makes follow (inr that) = by (stood (adds spot inode) (state_of old) (state_of new) sound may makes q live)
         where
           by : IsLive old.homes old.covers q ⊎ IsComing (adds spot inode) q → Rules (state_of new) after q (record { 0 = r })
           by (inl lived) = absurd (new_is_not_live (state_of old) sound spot inode may (subst (IsLive old.homes old.covers) that.1 lived))
-          by (inr comes) = is_that (state_of new) after (first_leaf inode.ino) spot.at.rank (first_inherits spot inode may makes follow spot.at.rank held.put comes.0) r q that
+          by (inr comes) = is_that (state_of new) after (first_leaf inode.ino) spot.at.rank (first_inherits spot inode may makes (follow refl) spot.at.rank held.put comes.0) r q that
       go _ (set spot inode) held may makes follow that = old_leaf spot.at (set_live (state_of old) sound spot inode may) held.put that
       go _ (remove spot went) held may makes follow that = old_leaf spot.at (removed_live (state_of old) sound spot went may) held.taken that
       go _ (move source target inode went) held may makes follow (inl that) = old_leaf source.at (source_live (state_of old) sound source target inode went may) held.taken that
       go _ (move source target inode went) held may makes follow (inr that) = old_leaf target.at (target_live (state_of old) sound source target inode went may) held.put that
 
   -- a change leaves each cached fragment at its leaf's authority
-  pub change_held : (change : Change) → AreHeldAt (state_of old) before change → MayChange (shown_in old) old.covers change → Makes change (state_of old) (state_of new) → FollowChange change (state_of old) before after → NoNewRank before after
+  pub change_held : (change : Change) → AreHeldAt (state_of old) before change → MayChange (shown_in old) old.covers change → Makes change (state_of old) (state_of new) → (change.comes ≡ true → after ≡ before) → HaveCaches after new.caches
       → Came (IsNamedIn change) (EndsWith change) old.caches new.caches → AreHeld (state_of new) new.caches after
-  change_held change holders may makes follow none came =
-      held_after (state_of old) (state_of new) old.caches new.caches before after owned.held none (came_ranks (IsNamedIn change) (EndsWith change) old.caches new.caches came) (keeps_place new now_sound)
+  change_held change holders may makes follow have came =
+      held_after (state_of new) new.caches after have (keeps_place new now_sound)
       (λ leaf a is. go leaf a (now_sound.cached leaf a is).live (came_held (IsNamedIn change) (EndsWith change) old.caches new.caches came leaf a is))
     where
       go : (leaf : Leaf) (a : At) → IsLive new.homes new.covers leaf → (map.get old.caches.held leaf ≡ Some a) ⊎ IsNamedIn change a.rank leaf → Rules (state_of new) after leaf (record { 0 = a.rank })

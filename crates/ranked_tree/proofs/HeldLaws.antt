@@ -1,4 +1,4 @@
--- Each cached fragment stays at its leaf's authority.
+-- Each cached fragment stays at the rank that holds its leaf. Here the roots are those with the ranks that hold their regions.
 use Rattle.std.specs.Prelude.{◌≡◌, ◌<◌, ℕ, true, false, length, Option, Some, None}
 use Rattle.std.proofs.Common.{◌⊎◌, inl, inr, refl, sym, ap, subst, ◌∙◌}
 use Rattle.std.specs.FinMap as map
@@ -18,7 +18,7 @@ use Rattle.mdcache.specs.State.{State as TreeState}
 use Rattle.mdcache.proofs.CoreLaws.{keeps_place, reads_state}
 use Rattle.mdcache.proofs.NoneLaws.{KeepsPlace}
 use Rattle.ranked_tree.specs.Held.{AreHeld, IsOwned, UsedAt, UsesAt}
-use Rattle.ranked_tree.specs.Subtrees.{NoNewRank, Rules}
+use Rattle.ranked_tree.specs.Subtrees.{Rules}
 
 module _ (tree : TreeState) (caches : CacheMap) (roots : Roots) (held : AreHeld tree caches roots) (leaf : Leaf) (rank : Rank) (rules : Rules tree roots leaf rank) where
   -- there is a cache for the authority of a leaf,
@@ -46,14 +46,21 @@ placed_at tree caches roots kept places cached r leaf placed live = go (places.o
     go (inl there) = of_frag (here caches r leaf) refl there
     go (inr none) = let clash : true ≡ false = sym live.known ∙ places.coming r leaf (placed, none.0) in absurd cc
 
--- the ranks of roots have caches still
-pub held_after : (old new : TreeState) (caches later : CacheMap) (before after : Roots) → AreHeld old caches before → NoNewRank before after → length later.used ≡ length caches.used → {kept : Option (Rank × Leaf)} → KeepsPlace new.homes kept later
+-- the ranks of roots have caches
+abbrev pub HaveCaches : Roots → CacheMap → Type 0
+HaveCaches roots caches = (leaf : Leaf) (rank : Rank) → map.get roots leaf ≡ Some rank → rank.0 < length caches.used
+
+pub held_after : (new : TreeState) (later : CacheMap) (after : Roots) → HaveCaches after later → {kept : Option (Rank × Leaf)} → KeepsPlace new.homes kept later
     → ((leaf : Leaf) (a : At) → map.get later.held leaf ≡ Some a → Rules new after leaf (record { 0 = a.rank })) → AreHeld new later after
-held_after old new caches later before after held ranks count {kept} places cached = record {
+held_after new later after ranks {kept} places cached = record {
   cached = cached;
   placed = placed_at new later after kept places cached;
-  ranks = λ leaf rank is. let was = ranks leaf rank is in subst (λ (n : ℕ). rank.0 < n) (sym count) (held.ranks was.0 rank was.1);
+  ranks = ranks;
 }
+
+-- they have them still
+pub still_have : (tree : TreeState) (caches later : CacheMap) (roots : Roots) → AreHeld tree caches roots → length later.used ≡ length caches.used → HaveCaches roots later
+still_have tree caches later roots held count leaf rank is = subst (λ (n : ℕ). rank.0 < n) (sym count) (held.ranks leaf rank is)
 
 -- the authority of a leaf at a rank of this number
 pub is_that : (tree : TreeState) (roots : Roots) (leaf : Leaf) (rank : Rank) → Rules tree roots leaf rank → (r : ℕ) (q : Leaf) → IsThat rank.0 leaf r q → Rules tree roots q (record { 0 = r })
@@ -75,7 +82,7 @@ module _ (Uses Ends : ℕ → Leaf → Type 0) (old new : Core) (roots : Roots) 
   owned_came = record {
     sound = sound;
     valid = rw (homes, covers) owned.valid;
-    held = held_after (state_of old) (state_of new) old.caches new.caches roots roots owned.held (λ leaf rank is. (leaf, is)) (came_ranks Uses Ends old.caches new.caches came) (keeps_place new sound)
+    held = held_after (state_of new) new.caches roots (still_have (state_of old) old.caches new.caches roots owned.held (came_ranks Uses Ends old.caches new.caches came)) (keeps_place new sound)
         (λ leaf a is. rw (homes, covers) (at leaf a is (came_held Uses Ends old.caches new.caches came leaf a is)));
   }
 
@@ -96,6 +103,6 @@ pub owned_same : (old new : Core) (roots : Roots) → new.homes ≡ old.homes �
 owned_same old new roots homes covers caches sound owned = record {
   sound = sound;
   valid = rw (homes, covers) owned.valid;
-  held = held_after (state_of old) (state_of new) old.caches new.caches roots roots owned.held (λ leaf rank is. (leaf, is)) (ap (λ (k : CacheMap). length k.used) caches) (keeps_place new sound)
+  held = held_after (state_of new) new.caches roots (still_have (state_of old) old.caches new.caches roots owned.held (ap (λ (k : CacheMap). length k.used) caches)) (keeps_place new sound)
       (λ leaf a is. rw (homes, covers) (owned.held.cached leaf a (rw (← caches) is)));
 }

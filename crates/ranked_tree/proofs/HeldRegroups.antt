@@ -34,8 +34,8 @@ use Rattle.mdcache.proofs.JoinLaws.{from_mapped}
 use Rattle.mdcache.proofs.NoneLaws.{KeepsPlace}
 use Rattle.mdcache.proofs.SplitLaws.{has_inside}
 use Rattle.ranked_tree.specs.Held.{AreHeld, CameAt, EndsOf, IsFamilyOf, IsMergedHere, IsOwned, UsedAt}
-use Rattle.ranked_tree.specs.Subtrees.{AllHave, AreRoots, GivesToChildren, KeepsAuthorities, NoNewRank, Rules, TakesOver}
-use Rattle.ranked_tree.proofs.HeldLaws.{held_after, may_hold}
+use Rattle.ranked_tree.specs.Subtrees.{AllHave, AreRoots, GivesToChildren, KeepsAuthorities, Rules, TakesOver}
+use Rattle.ranked_tree.proofs.HeldLaws.{HaveCaches, held_after, may_hold, still_have}
 
 -- ---- why it was refused, in the words of whose places lack
 
@@ -44,7 +44,7 @@ pub not_begun : (Can : Type 0) (Refuses : Refusal → Type 0) (s : TreeState) (d
 not_begun Can Refuses s dir count NoPlace before after reason (inl none) = inl none
 not_begun Can Refuses s dir count NoPlace before after reason (inr their) = inr (inl their)
 
-regroup_on : (Can : Type 0) (Refuses : Refusal → Type 0) (s : TreeState) (dir : Ino) (count : ℕ) (NoPlace Fewer : Type 0) (before after : ℕ) (reason : Refusal) → (NoPlace → Fewer)
+pub regroup_on : (Can : Type 0) (Refuses : Refusal → Type 0) (s : TreeState) (dir : Ino) (count : ℕ) (NoPlace Fewer : Type 0) (before after : ℕ) (reason : Refusal) → (NoPlace → Fewer)
     → MayNotRegroup Can Refuses s dir count NoPlace before after reason → MayNotRegroup Can Refuses s dir count Fewer before after reason
 regroup_on Can Refuses s dir count NoPlace Fewer before after reason less (inl unknown) = inl unknown
 regroup_on Can Refuses s dir count NoPlace Fewer before after reason less (inr (inl refused)) = inr (inl refused)
@@ -135,8 +135,8 @@ module _ (old new : Core) (before after : Roots) (owned : IsOwned old before) (c
 
   -- a leaf was split
   module _ (nb : ℕ) (live : IsLive old.homes old.covers (dir, frag)) (came : CameAt (Rules (state_of old) before (dir, frag)) (IsFamilyOf dir frag nb) old.caches new.caches) where
-    pub split_held : KeepsAuthorities (state_of old) (state_of new) before after → NoNewRank before after → GivesToChildren (state_of old) (state_of new) before after dir frag nb → AreHeld (state_of new) new.caches after
-    split_held keeps none gives = held_after (state_of old) (state_of new) old.caches new.caches before after owned.held none count (keeps_place new now_sound) (λ leaf a is. go leaf a (now_sound.cached leaf a is).live (came_held (UsedAt (Rules (state_of old) before (dir, frag)) (IsFamilyOf dir frag nb)) (EndsOf old.caches (IsFamilyOf dir frag nb)) old.caches new.caches came leaf a is))
+    pub split_held : KeepsAuthorities (state_of old) (state_of new) before after → HaveCaches after new.caches → GivesToChildren (state_of old) (state_of new) before after dir frag nb → AreHeld (state_of new) new.caches after
+    split_held keeps have gives = held_after (state_of new) new.caches after have (keeps_place new now_sound) (λ leaf a is. go leaf a (now_sound.cached leaf a is).live (came_held (UsedAt (Rules (state_of old) before (dir, frag)) (IsFamilyOf dir frag nb)) (EndsOf old.caches (IsFamilyOf dir frag nb)) old.caches new.caches came leaf a is))
       where
         of_family : (rank : Rank) (leaf : Leaf) → IsLive new.homes new.covers leaf → Rules (state_of old) before (dir, frag) rank → IsFamilyOf dir frag nb leaf → Rules (state_of new) after leaf rank
         of_family rank leaf lives rules (inl same) = keeps leaf rank (subst (IsLive old.homes old.covers) (sym same) live) lives (subst (λ (l : Leaf). Rules (state_of old) before l rank) (sym same) rules)
@@ -150,7 +150,7 @@ module _ (old new : Core) (before after : Roots) (owned : IsOwned old before) (c
     pub unsplit_held : state_of new ≡ state_of old → after ≡ before → FitsSplit frag nb → AreHeld (state_of new) new.caches after
     unsplit_held same still fits =
         subst (λ (s : TreeState). AreHeld s new.caches after) (sym same) (subst (λ (r : Roots). AreHeld (state_of old) new.caches r) (sym still)
-        (held_after (state_of old) (state_of old) old.caches new.caches before before owned.held (λ leaf rank is. (leaf, is)) count (subst (λ (s : TreeState). KeepsPlace s.homes new.kept new.caches) same (keeps_place new now_sound))
+        (held_after (state_of old) new.caches before (still_have (state_of old) old.caches new.caches before owned.held count) (subst (λ (s : TreeState). KeepsPlace s.homes new.kept new.caches) same (keeps_place new now_sound))
         (λ leaf a is. go leaf a (subst (λ (s : TreeState). IsLive s.homes s.covers leaf) same (now_sound.cached leaf a is).live) (came_held (UsedAt (Rules (state_of old) before (dir, frag)) (IsFamilyOf dir frag nb)) (EndsOf old.caches (IsFamilyOf dir frag nb)) old.caches new.caches came leaf a is))))
       where
         of_family : (rank : Rank) (leaf : Leaf) → IsLive old.homes old.covers leaf → Rules (state_of old) before (dir, frag) rank → IsFamilyOf dir frag nb leaf → Rules (state_of old) before leaf rank
@@ -165,8 +165,8 @@ module _ (old new : Core) (before after : Roots) (owned : IsOwned old before) (c
 
   -- leaves were merged
   module _ (known : is_known old.homes dir.0 ≡ true) (can : CanMerge (leaves_of old.covers dir.0) frag) (came : CameAt (AllHave old.homes old.covers before dir frag) (IsMergedHere old.covers dir frag) old.caches new.caches) where
-    pub merge_held : KeepsAuthorities (state_of old) (state_of new) before after → NoNewRank before after → TakesOver (state_of old) (state_of new) before after dir frag → AreHeld (state_of new) new.caches after
-    merge_held keeps none takes = held_after (state_of old) (state_of new) old.caches new.caches before after owned.held none count (keeps_place new now_sound) (λ leaf a is. go leaf a (now_sound.cached leaf a is).live (came_held (UsedAt (AllHave old.homes old.covers before dir frag) (IsMergedHere old.covers dir frag)) (EndsOf old.caches (IsMergedHere old.covers dir frag)) old.caches new.caches came leaf a is))
+    pub merge_held : KeepsAuthorities (state_of old) (state_of new) before after → HaveCaches after new.caches → TakesOver (state_of old) (state_of new) before after dir frag → AreHeld (state_of new) new.caches after
+    merge_held keeps have takes = held_after (state_of new) new.caches after have (keeps_place new now_sound) (λ leaf a is. go leaf a (now_sound.cached leaf a is).live (came_held (UsedAt (AllHave old.homes old.covers before dir frag) (IsMergedHere old.covers dir frag)) (EndsOf old.caches (IsMergedHere old.covers dir frag)) old.caches new.caches came leaf a is))
       where
         of_merged : (rank : Rank) (leaf : Leaf) → IsLive new.homes new.covers leaf → AllHave old.homes old.covers before dir frag rank → IsMergedHere old.covers dir frag leaf → Rules (state_of new) after leaf rank
         of_merged rank leaf lives all (inl contains) = let its = inside_live (state_of old) dir frag known leaf contains in keeps leaf rank its.0 lives (all leaf its.0 its.1)
@@ -180,7 +180,7 @@ module _ (old new : Core) (before after : Roots) (owned : IsOwned old before) (c
     pub unmerged_held : state_of new ≡ state_of old → after ≡ before → AreHeld (state_of new) new.caches after
     unmerged_held same still =
         subst (λ (s : TreeState). AreHeld s new.caches after) (sym same) (subst (λ (r : Roots). AreHeld (state_of old) new.caches r) (sym still)
-        (held_after (state_of old) (state_of old) old.caches new.caches before before owned.held (λ leaf rank is. (leaf, is)) count (subst (λ (s : TreeState). KeepsPlace s.homes new.kept new.caches) same (keeps_place new now_sound))
+        (held_after (state_of old) new.caches before (still_have (state_of old) old.caches new.caches before owned.held count) (subst (λ (s : TreeState). KeepsPlace s.homes new.kept new.caches) same (keeps_place new now_sound))
         (λ leaf a is. go leaf a (subst (λ (s : TreeState). IsLive s.homes s.covers leaf) same (now_sound.cached leaf a is).live) (came_held (UsedAt (AllHave old.homes old.covers before dir frag) (IsMergedHere old.covers dir frag)) (EndsOf old.caches (IsMergedHere old.covers dir frag)) old.caches new.caches came leaf a is))))
       where
         of_merged : (rank : Rank) (leaf : Leaf) → IsLive old.homes old.covers leaf → AllHave old.homes old.covers before dir frag rank → IsMergedHere old.covers dir frag leaf → Rules (state_of old) before leaf rank

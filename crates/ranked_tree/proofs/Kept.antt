@@ -1,22 +1,25 @@
 -- Where the tree and its roots stay, each leaf keeps its authority.
 use Rattle.std.proofs.Common.{◌≡◌, sym, ap, ◌∙◌}
 use Rattle.std.specs.FinMap as map
+use Rattle.export_steps.specs.Standing.{Standing}
 use Rattle.subtree_map.specs.Authority.{Roots}
 use Rattle.mdcache.specs.State.{State as TreeState}
 use Rattle.ranked_tree.specs.Subtrees.{AreRoots, KeepsRoots}
 
 -- where directories, leaves and roots stay
-pub keeps_tables : (old new : TreeState) (before after : Roots) → new.homes ≡ old.homes → new.covers ≡ old.covers → after ≡ before → AreRoots old before → KeepsRoots old new before after
-keeps_tables old new before after homes covers still valid = record {
+pub keeps_tables : (old new : TreeState) (before after : Roots) (exports later : Standing) → new.homes ≡ old.homes → new.covers ≡ old.covers → after ≡ before → later ≡ exports → AreRoots old before → KeepsRoots old new before after exports later
+keeps_tables old new before after exports later homes covers still stand valid = record {
   authorities = λ leaf rank was is rules. rw (still, homes, covers) rules;
+  holders = λ leaf rank was is rules. rw (still, homes, covers) rules;
   ranks = λ leaf rank is. (leaf, ap (λ m. map.get m leaf) (sym still) ∙ is);
   valid = rw (still, homes, covers) valid;
+  stand = stand;
 }
 
 -- where the tree and its roots stay
-pub keeps_same : (old new : TreeState) (before after : Roots) → new ≡ old → after ≡ before → AreRoots old before → KeepsRoots old new before after
-keeps_same old new before after same still valid = keeps_tables old new before after (ap (λ (s : TreeState). s.homes) same) (ap (λ (s : TreeState). s.covers) same) still valid
+pub keeps_same : (old new : TreeState) (before after : Roots) (exports later : Standing) → new ≡ old → after ≡ before → later ≡ exports → AreRoots old before → KeepsRoots old new before after exports later
+keeps_same old new before after exports later same still stand valid = keeps_tables old new before after exports later (ap (λ (s : TreeState). s.homes) same) (ap (λ (s : TreeState). s.covers) same) still stand valid
 
 -- so it is where one step keeps all before another
-pub keeps_after : (old middle new : TreeState) (before between after : Roots) → middle ≡ old → between ≡ before → KeepsRoots middle new between after → KeepsRoots old new before after
-keeps_after old middle new before between after same still keeps = rw (← same, ← still) keeps
+pub keeps_after : (old middle new : TreeState) (before between after : Roots) (exports later : Standing) → middle ≡ old → between ≡ before → KeepsRoots middle new between after exports later → KeepsRoots old new before after exports later
+keeps_after old middle new before between after exports later same still keeps = rw (← same, ← still) keeps

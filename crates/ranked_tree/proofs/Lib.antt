@@ -2,7 +2,9 @@ pub mod AskLaws
 pub mod AuthorityLaws
 pub mod CameForLaws
 pub mod ChangedTables
+pub mod DividedLaws
 pub mod EvictLaws
+pub mod ExportLaws
 pub mod FlushedLaws
 pub mod FragsLaws
 pub mod HeldChanges
@@ -16,6 +18,7 @@ pub mod MoveLaws
 pub mod NewLaws
 pub mod ReadsForLaws
 pub mod RootLaws
+pub mod StandLaws
 pub mod Stays
 pub mod SubtreeLaws
 pub mod WalkLaws

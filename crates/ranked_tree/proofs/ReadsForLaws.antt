@@ -28,7 +28,8 @@ use Rattle.mdcache.specs.Frags.{KeepsState}
 use Rattle.mdcache.specs.State.{State as TreeState}
 use Rattle.ranked_tree.specs.Held.{AnyPlace, AreHeldAt, AsksFor, NamesBy, NamesDir, ReadsDir, ReadsFor}
 use Rattle.mdcache.proofs.FragsLaws.{keeps_on}
-use Rattle.ranked_tree.specs.Ranked.{KeepsRanked, Ranked}
+use Rattle.ranked_tree.specs.Ranked.{KeepsRanked, Ranked, held_roots}
+use Rattle.ranked_tree.proofs.AskLaws.{held_still}
 use Rattle.ranked_tree.specs.Subtrees.{HoldsAt, Rules}
 use Rattle.ranked_tree.proofs.HeldLaws.{is_that}
 use Rattle.ranked_tree.proofs.HolderLaws.{is_unknown}
@@ -58,8 +59,9 @@ pub keeps_ranked_on : (a b c : Ranked) (op : Op) (told : Option Refusal) → Kee
 keeps_ranked_on a b c op told first second = record {
   tree = keeps_on a.tree b.tree c.tree told first.tree second.tree;
   roots = second.roots ∙ first.roots;
-  reads = reads_on a.subtrees.roots (Concerns (shown_tree (state_of a.tree)) op) a.tree b.tree c.tree first.tree first.reads
-      (subst (λ (s : TreeState). ReadsFor a.subtrees.roots (Concerns (shown_tree s) op) b.tree c.tree) first.tree.state (subst (λ (r : Roots). ReadsFor r (Concerns (shown_tree (state_of b.tree)) op) b.tree c.tree) first.roots second.reads));
+  exports = second.exports ∙ first.exports;
+  reads = reads_on (held_roots a) (Concerns (shown_tree (state_of a.tree)) op) a.tree b.tree c.tree first.tree first.reads
+      (subst (λ (s : TreeState). ReadsFor (held_roots a) (Concerns (shown_tree s) op) b.tree c.tree) first.tree.state (subst (λ (r : Roots). ReadsFor r (Concerns (shown_tree (state_of b.tree)) op) b.tree c.tree) (held_still a b op None first) second.reads));
 }
 
 -- the leaves that a change names lie in directories that it names, each at its rank, or it is that of a directory that comes

@@ -15,6 +15,13 @@ use Rattle.mdcache.specs.State.{State as TreeState}
 abbrev pub TablesStay : (old new : TreeState) → Type 0
 TablesStay old new = (new.homes ≡ old.homes) × (new.covers ≡ old.covers)
 
+-- and so do jobs
+abbrev pub AllStay : (old new : TreeState) → Type 0
+AllStay old new = (new.homes ≡ old.homes) × (new.covers ≡ old.covers) × (new.jobs ≡ old.jobs)
+
+same_all : (old new : TreeState) → new ≡ old → AllStay old new
+same_all old new same = (ap (λ (s : TreeState). s.homes) same, ap (λ (s : TreeState). s.covers) same, ap (λ (s : TreeState). s.jobs) same)
+
 pub same_tables : (old new : TreeState) → new ≡ old → TablesStay old new
 same_tables old new same = (ap (λ (s : TreeState). s.homes) same, ap (λ (s : TreeState). s.covers) same)
 
@@ -37,14 +44,14 @@ module _ (old new : TreeState) where
   dropped number (Ok done) h = (ap (λ (s : TreeState). s.homes) h.left, ap (λ (s : TreeState). s.covers) h.left)
   dropped number (Err reason) h = same_tables old new h.2
 
-  pub saved : (before after : ℕ) (dir : Ino) (result : Result (Unit {0}) Refusal) → SavesTree old new before after dir result → TablesStay old new
-  saved before after dir (Ok done) h = (ap (λ (s : TreeState). s.homes) h.1, ap (λ (s : TreeState). s.covers) h.1)
-  saved before after dir (Err reason) h = same_tables old new h.1
+  pub saved : (before after : ℕ) (dir : Ino) (result : Result (Unit {0}) Refusal) → SavesTree old new before after dir result → AllStay old new
+  saved before after dir (Ok done) h = (ap (λ (s : TreeState). s.homes) h.1, ap (λ (s : TreeState). s.covers) h.1, ap (λ (s : TreeState). s.jobs) h.1)
+  saved before after dir (Err reason) h = same_all old new h.1
 
-  pub purged : (before after : ℕ) (name : Option (List ℕ)) (result : Result (Unit {0}) Refusal) → PurgesName old new before after name result → TablesStay old new
-  purged before after None result h = same_tables old new h.1
-  purged before after (Some name) (Ok done) h = (ap (λ (s : TreeState). s.homes) h.0, ap (λ (s : TreeState). s.covers) h.0)
-  purged before after (Some name) (Err reason) h = same_tables old new h.1
+  pub purged : (before after : ℕ) (name : Option (List ℕ)) (result : Result (Unit {0}) Refusal) → PurgesName old new before after name result → AllStay old new
+  purged before after None result h = same_all old new h.1
+  purged before after (Some name) (Ok done) h = (ap (λ (s : TreeState). s.homes) h.0, ap (λ (s : TreeState). s.covers) h.0, ap (λ (s : TreeState). s.jobs) h.0)
+  purged before after (Some name) (Err reason) h = same_all old new h.1
 
 -- where a leaf isn't live no job stands for it
 pub none_stands : (s : TreeState) (leaf : Leaf) (job : Begun) → IsSound s → (IsLive s.homes s.covers leaf → ⊥) → map.get s.jobs leaf ≡ Some job → ⊥

@@ -1,5 +1,5 @@
--- What the ranks' caches have: a rank caches only fragments that it is the authority of, and has places of no other live leaf (Weil et al.,
--- OSDI 2006).
+-- What the ranks' caches have: a rank caches only fragments that it holds, and has places of no other live leaf (Weil et al., OSDI 2006).
+-- Here the roots are those with the ranks that hold their regions.
 use Rattle.std.specs.Prelude.{◌≡◌, ◌⊎◌, ◌<◌, ◌^◌, ℕ, true, false, length, map as each, Option, Some, None}
 use Rattle.std.specs.List.{Contains}
 use Rattle.std.specs.FinMap as map

@@ -1,3 +1,4 @@
+pub mod Exported
 pub mod Held
 pub mod Mounted
 pub mod Ranked

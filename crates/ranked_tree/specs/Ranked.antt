@@ -1,11 +1,14 @@
 -- The tree with its subtrees as contracts see it, what reads keep of it, and what is ready for a change.
 use Rattle.std.specs.Prelude.{◌≡◌, Option}
+use Rattle.std.specs.List.{Contains}
 use Rattle.std.specs.FinMap as map
 use Rattle.mds_types.specs.declared.refusals.Refusal.{Refusal}
 use Rattle.mds_types.specs.declared.operations.Op.{Op}
-use Rattle.namespace_ops.specs.Changes.{Concerns}
+use Rattle.export_steps.specs.Holder.{IsFrozen, holding}
+use Rattle.export_steps.specs.Standing.{Standing}
+use Rattle.namespace_ops.specs.Changes.{Concerns, fragments_of}
 use Rattle.namespace_ops.specs.declared.plans.Change.{Change}
-use Rattle.subtree_map.specs.Authority.{Roots}
+use Rattle.subtree_map.specs.Authority.{Leaf, Roots}
 use Rattle.subtree_map.specs.Changes.{Subtrees}
 use Rattle.mdcache.specs.Core.{Core, state_of}
 use Rattle.mdcache.specs.Frags.{KeepsState, IsReady as IsReadyIn, MayRefuse as MayRefuseIn}
@@ -14,32 +17,44 @@ use Rattle.mdcache.specs.Shown.{shown_tree}
 use Rattle.ranked_tree.specs.Held.{AreHeldAt, LacksPlacesAsked, ReadsFor}
 use Rattle.ranked_tree.specs.Subtrees.{HasRoomFor}
 
--- the tree over its caches and store, and its subtree roots
+-- the tree over its caches and store, its subtree roots, and the exports that stand
 pub record Ranked : Type 0 where
   pub tree : Core
   pub subtrees : Subtrees
+  pub exports : Standing
 
--- reads for an operation and refusals keep the state, the number of ranks and places and the roots; the store's count of faults rises
+-- the roots, each with the rank that holds its region
+abbrev pub held_roots : Ranked → Roots
+held_roots ranked = holding ranked.exports ranked.subtrees.roots
+
+-- a leaf changes no more until the export of its region ends
+abbrev pub IsFrozenLeaf : Ranked → Leaf → Type 0
+IsFrozenLeaf ranked leaf = IsFrozen ranked.exports ranked.subtrees.roots ranked.tree.homes ranked.tree.covers leaf
+
+-- reads for an operation and refusals keep the state, the number of ranks and places, the roots and the exports; the store's count of faults rises
 -- by one where a fault is told, and not otherwise; and of the caches leaves of directories that the operation concerns are used at
 -- most, at the ranks that hold them, and the first leaf of a directory that comes
 pub record KeepsRanked (old new : Ranked) (op : Op) (told : Option Refusal) : Type 0 where
   pub tree : KeepsState old.tree new.tree told
   pub roots : new.subtrees.roots ≡ old.subtrees.roots
-  pub reads : ReadsFor old.subtrees.roots (Concerns (shown_tree (state_of old.tree)) op) old.tree new.tree
+  pub exports : new.exports ≡ old.exports
+  pub reads : ReadsFor (held_roots old) (Concerns (shown_tree (state_of old.tree)) op) old.tree new.tree
 
 -- a call for an operation is refused for want of memory, by a store whose count of faults rose, where fewer than two places are free, or can
 -- become so, at a rank that holds a leaf of a directory which the operation concerns, or where a counter is at its end
 abbrev pub MayRefuse : (old new : Ranked) → Op → Refusal → Type 0
-MayRefuse old new op reason = MayRefuseIn (LacksPlacesAsked 2 old.tree old.subtrees.roots (Concerns (shown_tree (state_of old.tree)) op)) old.tree new.tree op reason
+MayRefuse old new op reason = MayRefuseIn (LacksPlacesAsked 2 old.tree (held_roots old) (Concerns (shown_tree (state_of old.tree)) op)) old.tree new.tree op reason
 
 -- the tree is ready for a change in the caches of the ranks that hold its leaves
 pub record IsReadyHeld (core : Core) (roots : Roots) (change : Change) : Type 0 where
   pub held : AreHeldAt (state_of core) roots change
   pub ready : IsReadyIn core change
 
--- a change can be made with no growth: the tree is ready for it, and there is room for the roots that it makes
+-- a change can be made with no growth: the tree is ready for it, no leaf that it changes is frozen, and there is room for the roots that
+-- it makes
 pub record IsReady (ranked : Ranked) (change : Change) : Type 0 where
-  pub tree : IsReadyHeld ranked.tree ranked.subtrees.roots change
+  pub tree : IsReadyHeld ranked.tree (held_roots ranked) change
+  pub thawed : (leaf : Leaf) → Contains (fragments_of ranked.tree.covers change) leaf → IsFrozenLeaf ranked leaf → ⊥
   pub roots : HasRoomFor change (state_of ranked.tree) ranked.subtrees.roots ranked.subtrees.room
 
 -- the one subtree root of a new tree: the root directory's leaf is rank 0's

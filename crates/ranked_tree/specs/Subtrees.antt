@@ -15,6 +15,8 @@ use Rattle.inode_table.specs.TreeTable.{home_at}
 use Rattle.namespace_ops.specs.declared.plans.Change.{Change}
 use Rattle.namespace_ops.specs.declared.plans.Spot.{Spot}
 use Rattle.namespace_ops.specs.Changes.{dentry_at}
+use Rattle.export_steps.specs.Holder.{holding}
+use Rattle.export_steps.specs.Standing.{Standing}
 use Rattle.subtree_map.specs.Authority.{HasAuthority, IsSubtrees, Leaf, Roots}
 use Rattle.subtree_map.specs.Changes.{AreGone, is_inside}
 use Rattle.subtree_map.specs.Moves.{HasRoomToMove, IsSettled}
@@ -90,8 +92,15 @@ abbrev pub IsInsideAt : List Fragment → Fragment → ℕ → Option Fragment �
 IsInsideAt leaves frag hash None = (leaf : Fragment) → HasLeaf leaves leaf → lies_inside frag leaf ≡ true → leaf.value < hash
 IsInsideAt leaves frag hash (Some leaf) = HasLeaf leaves leaf × (lies_inside frag leaf ≡ true) × (leaf.value ≤ hash) × (hash < leaf.value + span leaf.bits)
 
--- what a step leaves of the roots: each leaf that stays has the authority that it had, no rank has its first one, and they are roots still
-pub record KeepsRoots (old new : TreeState) (before after : Roots) : Type 0 where
+-- each leaf that stood and still stands has the holder that it had
+abbrev pub KeepsHolders : (old new : TreeState) → (before after : Roots) → Standing → Type 0
+KeepsHolders old new before after exports = KeepsAuthorities old new (holding exports before) (holding exports after)
+
+-- what a step leaves of the roots: each leaf that stays has the authority and the holder that it had, no rank has its first root, and they
+-- are roots still; the exports stand as they stood
+pub record KeepsRoots (old new : TreeState) (before after : Roots) (exports later : Standing) : Type 0 where
   pub authorities : KeepsAuthorities old new before after
+  pub holders : KeepsHolders old new before after exports
   pub ranks : NoNewRank before after
   pub valid : AreRoots new after
+  pub stand : later ≡ exports

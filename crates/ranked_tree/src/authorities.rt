@@ -4,11 +4,14 @@ ghost use Rattle.inode_table.specs.Dirs.{IsLive};
 ghost use Rattle.namespace_ops.specs.Places.{Locates};
 ghost use Rattle.mdcache.specs.Core.{state_of};
 ghost use Rattle.mdcache.specs.Shown.{shown_tree};
+ghost use Rattle.ranked_tree.specs.Exported.{IsFrozenIn, held_in};
+ghost use Rattle.ranked_tree.specs.Ranked.{IsFrozenLeaf};
 ghost use Rattle.ranked_tree.specs.Held.{IsOwned};
 ghost use Rattle.ranked_tree.specs.Subtrees.{AllHave, AreRoots, HoldsAt, Rules};
 
 use crate::inside::all_have;
 use crate::ranked_tree::RankedTree;
+use crate::regions::Regions;
 use mdcache::MdCache;
 use mds_types::{Dirfrag, Frag, Ino, Rank};
 use objstore::Store;
@@ -19,21 +22,28 @@ impl<S: Store + Drop> RankedTree<S> {
     pub fn authority(&self, dir: Ino, frag: Frag) -> Option<Rank>
         ensures { MatchOption result (IsLive self.now.tree.homes self.now.tree.covers (dir, frag) → ⊥) (λ rank. IsLive self.now.tree.homes self.now.tree.covers (dir, frag) × Rules (state_of self.now.tree) self.now.subtrees.roots (dir, frag) rank) }
     {
-        authority_of(&self.tree, &self.roots, dir, frag)
+        authority_of(&self.tree, &self.regions.roots, dir, frag)
     }
 
     /// Whether a rank is the authority of a leaf. Takes no memory.
     pub fn is_authority(&self, rank: Rank, dir: Ino, frag: Frag) -> bool
         ensures { IsTrue result ↔ Rules (state_of self.now.tree) self.now.subtrees.roots (dir, frag) rank }
     {
-        is_authority(&self.tree, &self.roots, rank, dir, frag)
+        is_authority(&self.tree, &self.regions.roots, rank, dir, frag)
+    }
+
+    /// Whether a leaf is frozen: it changes no more until the export of its region ends. Takes no memory.
+    pub fn is_frozen(&self, dir: Ino, frag: Frag) -> bool
+        ensures { IsTrue result ↔ IsFrozenLeaf self.now (dir, frag) }
+    {
+        is_frozen(&self.tree, &self.regions, dir, frag)
     }
 
     /// Whether each leaf of a directory that lies properly inside a fragment has this rank as its authority. Takes no memory.
     pub fn is_all_of(&self, dir: Ino, frag: Frag, rank: Rank) -> bool
         ensures { IsTrue result ↔ AllHave self.now.tree.homes self.now.tree.covers self.now.subtrees.roots dir frag rank }
     {
-        is_all_of(&self.tree, &self.roots, dir, frag, rank)
+        is_all_of(&self.tree, &self.regions.roots, dir, frag, rank)
     }
 }
 
@@ -59,13 +69,13 @@ fn authority_of<S: Store + Drop>(
 /// and for a leaf that the rank doesn't cache one more for each directory up to the nearest root.
 pub(crate) fn locate<S: Store + Drop>(
     tree: &MdCache<S>,
-    roots: &Subtrees,
+    regions: &Regions,
     rank: Rank,
     dir: Ino,
     hash: u32,
 ) -> Option<Dirfrag>
-    requires { IsOwned tree.now roots.now.roots }
-    ensures { Locates (shown_tree (state_of tree.now)) tree.now.covers (HoldsAt (state_of tree.now) roots.now.roots) dir.0 hash result }
+    requires { IsOwned tree.now (held_in regions.now) }
+    ensures { Locates (shown_tree (state_of tree.now)) tree.now.covers (HoldsAt (state_of tree.now) (held_in regions.now)) dir.0 hash result }
 {
     let dirs = tree.dirs();
     let Some(at) = dirs.leaf_at(dir, hash) else {
@@ -76,7 +86,7 @@ pub(crate) fn locate<S: Store + Drop>(
     if tree.has_place(&here) {
         return Some(here);
     }
-    let rank = roots.authority_from(dirs, (dir, frag), at.home);
+    let rank = regions.holder_from(dirs, (dir, frag), at.home);
     Some(Dirfrag { dir, frag, rank })
 }
 
@@ -91,6 +101,13 @@ fn is_authority<S: Store + Drop>(
     ensures { IsTrue result ↔ Rules (state_of tree.now) roots.now.roots (dir, frag) rank }
 {
     roots.find_authority(tree.dirs(), dir, frag) == Some(rank)
+}
+
+// Whether a leaf is frozen.
+fn is_frozen<S: Store + Drop>(tree: &MdCache<S>, regions: &Regions, dir: Ino, frag: Frag) -> bool
+    ensures { IsTrue result ↔ IsFrozenIn (state_of tree.now) regions.now (dir, frag) }
+{
+    regions.exports.is_frozen(&regions.roots, tree.dirs(), dir, frag)
 }
 
 // Whether each leaf of a directory that lies properly inside a fragment has this rank as its authority.

@@ -1,4 +1,4 @@
-//! Commits, objects and places: none of it changes what leaves there are, nor whose.
+//! Commits, objects and places: none of it changes what leaves there are, nor whose, nor which are frozen.
 ghost use Rattle.std.specs.Prelude.{◌≡◌, ◌+◌, ◌<◌, None, Some, OnOk, OnErr, IfErr, length};
 ghost use Rattle.objstore.specs.Objects.{faults_told};
 ghost use Rattle.std.specs.Result.{result_err};
@@ -9,40 +9,45 @@ ghost use Rattle.mdcache.specs.Commits.{Begins, Drops, Ends, leaf_of};
 ghost use Rattle.mdcache.specs.Frags.{KeepsState};
 ghost use Rattle.mdcache.specs.Objects.{Purges, SavesTree};
 ghost use Rattle.ranked_tree.specs.Subtrees.{Rules};
-ghost use Rattle.ranked_tree.specs.Held.{IsOwned, UsesAt};
+ghost use Rattle.ranked_tree.specs.Held.{UsesAt};
+ghost use Rattle.ranked_tree.specs.Exported.{IsDivided, IsFrozenIn, held_in};
+ghost use Rattle.ranked_tree.specs.Ranked.{IsFrozenLeaf, held_roots};
 
 use crate::holding::holder_of;
 use crate::ranked_tree::RankedTree;
+use crate::regions::Regions;
 use cached_frag::{Encoded, Job};
 use mdcache::MdCache;
 use mds_types::{Frag, Ino, Rank, Refusal};
 use objstore::Store;
 use std::alloc::Global;
-use subtree_map::Subtrees;
 
 impl<S: Store + Drop> RankedTree<S> {
-    /// Begins a commit of a leaf, as `MdCache::begin` does and refuses.
+    /// Begins a commit of a leaf that isn't frozen, as `MdCache::begin` does and refuses.
     pub fn begin(&mut self, dir: Ino, frag: Frag) -> Result<Option<Job>, Refusal>
+        requires thawed { IsFrozenLeaf self.old (dir, frag) → ⊥ }
         ensures begun { Begins (state_of self.old.tree) (state_of self.new.tree) (dir, frag) result }
-        ensures came { UsesAt (Rules (state_of self.old.tree) self.old.subtrees.roots (dir, frag)) (dir, frag) self.old.tree.caches self.new.tree.caches }
+        ensures came { UsesAt (Rules (state_of self.old.tree) (held_roots self.old) (dir, frag)) (dir, frag) self.old.tree.caches self.new.tree.caches }
         ensures roots { self.new.subtrees ≡ self.old.subtrees }
+        ensures exports { self.new.exports ≡ self.old.exports }
         ensures count { length self.new.tree.caches.used ≡ length self.old.tree.caches.used }
         ensures cap { self.new.tree.caches.cap ≡ self.old.tree.caches.cap }
         ensures faults { self.new.tree.faults ≡ self.old.tree.faults }
     {
-        begin(&mut self.tree, &self.roots, dir, frag)
+        begin(&mut self.tree, &self.regions, dir, frag)
     }
 
     /// Ends a commit, as `MdCache::end` does and refuses.
     pub fn end(&mut self, alloc: Global, encoded: &Encoded) -> Result<(), Refusal>
         ensures ended { Ends (state_of self.old.tree) (state_of self.new.tree) self.old.tree.faults self.new.tree.faults encoded.now.job result }
-        ensures came { UsesAt (Rules (state_of self.old.tree) self.old.subtrees.roots (leaf_of encoded.now.job)) (leaf_of encoded.now.job) self.old.tree.caches self.new.tree.caches }
+        ensures came { UsesAt (Rules (state_of self.old.tree) (held_roots self.old) (leaf_of encoded.now.job)) (leaf_of encoded.now.job) self.old.tree.caches self.new.tree.caches }
         ensures roots { self.new.subtrees ≡ self.old.subtrees }
+        ensures exports { self.new.exports ≡ self.old.exports }
         ensures count { length self.new.tree.caches.used ≡ length self.old.tree.caches.used }
         ensures cap { self.new.tree.caches.cap ≡ self.old.tree.caches.cap }
         ensures counted { self.new.tree.faults ≡ self.old.tree.faults + faults_told (result_err result) }
     {
-        end(alloc, &mut self.tree, &self.roots, encoded)
+        end(alloc, &mut self.tree, &self.regions, encoded)
     }
 
     /// Gives a commit up, as `MdCache::drop_job` does and refuses.
@@ -50,6 +55,7 @@ impl<S: Store + Drop> RankedTree<S> {
         ensures dropped { Drops (state_of self.old.tree) (state_of self.new.tree) number result }
         ensures places { self.new.tree.caches ≡ self.old.tree.caches }
         ensures roots { self.new.subtrees ≡ self.old.subtrees }
+        ensures exports { self.new.exports ≡ self.old.exports }
         ensures count { length self.new.tree.caches.used ≡ length self.old.tree.caches.used }
         ensures cap { self.new.tree.caches.cap ≡ self.old.tree.caches.cap }
         ensures faults { self.new.tree.faults ≡ self.old.tree.faults }
@@ -62,6 +68,7 @@ impl<S: Store + Drop> RankedTree<S> {
         ensures saved { SavesTree (state_of self.old.tree) (state_of self.new.tree) self.old.tree.faults self.new.tree.faults dir result }
         ensures places { self.new.tree.caches ≡ self.old.tree.caches }
         ensures roots { self.new.subtrees ≡ self.old.subtrees }
+        ensures exports { self.new.exports ≡ self.old.exports }
         ensures count { length self.new.tree.caches.used ≡ length self.old.tree.caches.used }
         ensures cap { self.new.tree.caches.cap ≡ self.old.tree.caches.cap }
         ensures counted { self.new.tree.faults ≡ self.old.tree.faults + faults_told (result_err result) }
@@ -74,6 +81,7 @@ impl<S: Store + Drop> RankedTree<S> {
         ensures purged { Purges (state_of self.old.tree) (state_of self.new.tree) self.old.tree.faults self.new.tree.faults result }
         ensures places { self.new.tree.caches ≡ self.old.tree.caches }
         ensures roots { self.new.subtrees ≡ self.old.subtrees }
+        ensures exports { self.new.exports ≡ self.old.exports }
         ensures count { length self.new.tree.caches.used ≡ length self.old.tree.caches.used }
         ensures cap { self.new.tree.caches.cap ≡ self.old.tree.caches.cap }
         ensures counted { self.new.tree.faults ≡ self.old.tree.faults + faults_told (result_err result) }
@@ -88,6 +96,7 @@ impl<S: Store + Drop> RankedTree<S> {
         ensures none { OnErr result (evicted self.old.tree.caches rank.0 None ≡ None) }
         ensures kept { KeepsState self.old.tree self.new.tree (result_err result) }
         ensures roots { self.new.subtrees ≡ self.old.subtrees }
+        ensures exports { self.new.exports ≡ self.old.exports }
         ensures refused { IfErr result (λ reason. reason ≡ NothingToEvict) }
         ensures left { OnErr result (self.new.tree ≡ self.old.tree) }
     {
@@ -98,22 +107,23 @@ impl<S: Store + Drop> RankedTree<S> {
 // Begins a commit of a leaf at the rank that holds it.
 fn begin<S: Store + Drop>(
     tree: &mut MdCache<S>,
-    roots: &Subtrees,
+    regions: &Regions,
     dir: Ino,
     frag: Frag,
 ) -> Result<Option<Job>, Refusal>
-    requires owned { IsOwned tree.old roots.now.roots }
+    requires divided { IsDivided tree.old regions.now }
+    requires thawed { IsFrozenIn (state_of tree.old) regions.now (dir, frag) → ⊥ }
     ensures begun { Begins (state_of tree.old) (state_of tree.new) (dir, frag) result }
-    ensures came { UsesAt (Rules (state_of tree.old) roots.now.roots (dir, frag)) (dir, frag) tree.old.caches tree.new.caches }
+    ensures came { UsesAt (Rules (state_of tree.old) (held_in regions.now) (dir, frag)) (dir, frag) tree.old.caches tree.new.caches }
     ensures count { length tree.new.caches.used ≡ length tree.old.caches.used }
     ensures cap { tree.new.caches.cap ≡ tree.old.caches.cap }
     ensures faults { tree.new.faults ≡ tree.old.faults }
-    ensures owned { IsOwned tree.new roots.now.roots }
+    ensures divided { IsDivided tree.new regions.now }
 {
     if !tree.has_leaf(dir, frag) {
         return Err(Refusal::NoSuchFrag);
     }
-    let rank = holder_of(tree, roots, dir, frag);
+    let rank = holder_of(tree, regions, dir, frag);
     tree.begin(rank, dir, frag)
 }
 
@@ -121,21 +131,21 @@ fn begin<S: Store + Drop>(
 fn end<S: Store + Drop>(
     alloc: Global,
     tree: &mut MdCache<S>,
-    roots: &Subtrees,
+    regions: &Regions,
     encoded: &Encoded,
 ) -> Result<(), Refusal>
-    requires owned { IsOwned tree.old roots.now.roots }
+    requires divided { IsDivided tree.old regions.now }
     ensures ended { Ends (state_of tree.old) (state_of tree.new) tree.old.faults tree.new.faults encoded.now.job result }
-    ensures came { UsesAt (Rules (state_of tree.old) roots.now.roots (leaf_of encoded.now.job)) (leaf_of encoded.now.job) tree.old.caches tree.new.caches }
+    ensures came { UsesAt (Rules (state_of tree.old) (held_in regions.now) (leaf_of encoded.now.job)) (leaf_of encoded.now.job) tree.old.caches tree.new.caches }
     ensures count { length tree.new.caches.used ≡ length tree.old.caches.used }
     ensures cap { tree.new.caches.cap ≡ tree.old.caches.cap }
     ensures counted { tree.new.faults ≡ tree.old.faults + faults_told (result_err result) }
-    ensures owned { IsOwned tree.new roots.now.roots }
+    ensures divided { IsDivided tree.new regions.now }
 {
     let job = encoded.job();
     if !tree.has_leaf(job.ino, job.frag) {
         return Err(Refusal::StaleJob);
     }
-    let rank = holder_of(tree, roots, job.ino, job.frag);
+    let rank = holder_of(tree, regions, job.ino, job.frag);
     tree.end(alloc, rank, encoded)
 }

@@ -9,6 +9,7 @@ ghost use Rattle.mdcache.specs.Flushed.{AreExact, IsFlushed, KeepsTree};
 ghost use Rattle.mdcache.specs.Mounted.{IsColdTree};
 ghost use Rattle.dentry_cache.specs.CacheMap.{AreCaches};
 ghost use Rattle.ranked_tree.specs.Held.{IsOwned};
+ghost use Rattle.ranked_tree.specs.Ranked.{held_roots};
 
 use crate::ranked_tree::RankedTree;
 use mds_types::Refusal;
@@ -27,9 +28,10 @@ impl<S: Store + Drop> RankedTree<S> {
         ensures number { self.new.tree.next_job ≡ self.old.tree.next_job }
         ensures tree { KeepsTree self.old.tree self.new.tree }
         ensures roots { self.new.subtrees ≡ self.old.subtrees }
+        ensures exports { self.new.exports ≡ self.old.exports }
         ensures refused { IfErr result (MayNotCommit 1024 (record (state_of self.old.tree) { jobs = map.empty }) self.old.tree.faults self.new.tree.faults) }
         ensures counted { self.new.tree.faults ≡ self.old.tree.faults + faults_told (result_err result) }
-        ensures owned { IsOwned self.new.tree self.new.subtrees.roots }
+        ensures owned { IsOwned self.new.tree (held_roots self.new) }
         ensures orders { AreCaches self.new.tree.caches }
     {
         let done = self.tree.flush(rt, alloc);

@@ -7,6 +7,7 @@ ghost use Rattle.mdcache.specs.New.{MayNotFormat, new_caches, new_state};
 ghost use Rattle.ranked_tree.specs.Ranked.{new_roots};
 
 use crate::ranked_tree::RankedTree;
+use crate::regions::Regions;
 use mdcache::MdCache;
 use mds_types::{Frag, Ino, Rank, Refusal};
 use objstore::Store;
@@ -28,6 +29,7 @@ impl<S: Store + Drop> RankedTree<S> {
         ensures empty { OnOk result (S.objects store ≡ map.empty) }
         ensures state { IfOk result (λ t. state_of t.tree ≡ new_state) }
         ensures roots { IfOk result (λ t. t.subtrees.roots ≡ new_roots) }
+        ensures exports { IfOk result (λ t. t.exports ≡ map.empty) }
         ensures caches { IfOk result (λ t. t.tree.caches ≡ new_caches ranks places) }
         ensures refused { IfErr result (λ back. MayNotFormat (S.objects store) (S.faults store) (S.faults back.1) back.0) }
         ensures left { IfErr result (λ back. S.objects back.1 ≡ S.objects store) }
@@ -37,7 +39,11 @@ impl<S: Store + Drop> RankedTree<S> {
         match first_roots(alloc) {
             Err(_) => Err((Refusal::NoMemory, store)),
             Ok(roots) => match MdCache::format(alloc, store, ranks, places) {
-                Ok(tree) => Ok(RankedTree { tree, roots, alloc }),
+                Ok(tree) => Ok(RankedTree {
+                    tree,
+                    regions: Regions::new(alloc, roots),
+                    alloc,
+                }),
                 Err(back) => Err(back),
             },
         }

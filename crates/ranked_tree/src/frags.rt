@@ -13,6 +13,7 @@ ghost use Rattle.mdcache.specs.Reads.{MayNotFind};
 ghost use Rattle.mdcache.specs.Ready.{MayNotBeReady};
 ghost use Rattle.mdcache.specs.Shown.{shown_tree};
 ghost use Rattle.ranked_tree.specs.Held.{AreHeldAt, IsNewestHeld, IsOwned, LacksPlacesAsked, LacksPlacesFor, NamesDir, ReadsDir, ReadsFor};
+ghost use Rattle.ranked_tree.specs.Exported.{held_in};
 ghost use Rattle.ranked_tree.specs.Ranked.{IsReadyHeld};
 ghost use Rattle.ranked_tree.specs.Subtrees.{HoldsAt};
 
@@ -21,12 +22,12 @@ use crate::changing::reserve_roots;
 use crate::emptiness::is_dir_empty;
 use crate::listing::list_dir;
 use crate::ranked_tree::RankedTree;
+use crate::regions::Regions;
 use mdcache::MdCache;
 use mds_types::{Dentry, Dirfrag, Frag, Ino, Inode, Listing, Name, Op, PageSize, Rank, Refusal};
 use namespace_ops::{Change, Frags};
 use objstore::Store;
 use std::alloc::Global;
-use subtree_map::Subtrees;
 
 impl<S: Store + Drop> Frags for RankedTree<S> {
     ghost use Rattle.std.specs.Prelude.{refl};
@@ -46,7 +47,8 @@ impl<S: Store + Drop> Frags for RankedTree<S> {
     ghost use Rattle.mds_types.specs.declared.refusals.Refusal.TheVariants.{NoInodes, NoMemory};
     ghost use Rattle.mdcache.specs.Made.{IsUntouched};
     ghost use Rattle.mdcache.specs.Shown.{shown_tree};
-    ghost use Rattle.ranked_tree.specs.Ranked.{IsReady as IsRankedReady, KeepsRanked, MayRefuse};
+    ghost use Rattle.ranked_tree.specs.Ranked.{IsFrozenLeaf, IsReady as IsRankedReady, KeepsRanked, MayRefuse, held_roots};
+    ghost use Rattle.ranked_tree.proofs.AskLaws.{held_still, thawed_still};
 
     ghost content = { λ t. shown_tree (state_of t.tree) };
 
@@ -54,7 +56,9 @@ impl<S: Store + Drop> Frags for RankedTree<S> {
 
     ghost IsNumber = { λ n. IsRankNumber n };
 
-    ghost Holds = { λ t at. HoldsAt (state_of t.tree) t.subtrees.roots at };
+    ghost Holds = { λ t at. HoldsAt (state_of t.tree) (held_roots t) at };
+
+    ghost MayTouch = { λ t leaf. (IsFrozenLeaf t leaf → ⊥) };
 
     ghost IsReady = { λ t change. IsRankedReady t change };
 
@@ -64,24 +68,27 @@ impl<S: Store + Drop> Frags for RankedTree<S> {
 
     ghost MayRefuse = { λ a b op reason. MayRefuse a b op reason };
 
-    ghost follows_self = { λ a op. record { tree = keeps_itself a.tree; roots = refl; reads = stays } };
+    ghost follows_self = { λ a op. record { tree = keeps_itself a.tree; roots = refl; exports = refl; reads = stays } };
 
     ghost follows_on = { λ a b c op told p q. record {
       tree = keeps_on a.tree b.tree c.tree told p.tree q.tree;
       roots = q.roots ∙ p.roots;
-      reads = reads_then (AsksFor (state_of a.tree) a.subtrees.roots (Concerns (shown_tree (state_of a.tree)) op)) AnyPlace a.tree.objects a.tree.caches b.tree.caches c.tree.caches p.reads
-          (subst (λ (s : TreeState). Reads (AsksFor s a.subtrees.roots (Concerns (shown_tree s) op)) AnyPlace s.objects b.tree.caches c.tree.caches) p.tree.state
-          (subst (λ (r : Roots). ReadsFor r (Concerns (shown_tree (state_of b.tree)) op) b.tree c.tree) p.roots q.reads));
+      exports = q.exports ∙ p.exports;
+      reads = reads_then (AsksFor (state_of a.tree) (held_roots a) (Concerns (shown_tree (state_of a.tree)) op)) AnyPlace a.tree.objects a.tree.caches b.tree.caches c.tree.caches p.reads
+          (subst (λ (s : TreeState). Reads (AsksFor s (held_roots a) (Concerns (shown_tree s) op)) AnyPlace s.objects b.tree.caches c.tree.caches) p.tree.state
+          (subst (λ (r : Roots). ReadsFor r (Concerns (shown_tree (state_of b.tree)) op) b.tree c.tree) (held_still a b op None p) q.reads));
     } };
 
     ghost held_on = { λ a b op told at kept. (
-      λ holds. subst (λ (r : Roots). HoldsAt (state_of b.tree) r at) (sym kept.roots) (subst (λ (s : TreeState). HoldsAt s a.subtrees.roots at) (sym kept.tree.state) holds),
-      λ holds. subst (λ (r : Roots). HoldsAt (state_of a.tree) r at) kept.roots (subst (λ (s : TreeState). HoldsAt s b.subtrees.roots at) kept.tree.state holds),
+      λ holds. subst (λ (r : Roots). HoldsAt (state_of b.tree) r at) (sym (held_still a b op told kept)) (subst (λ (s : TreeState). HoldsAt s (held_roots a) at) (sym kept.tree.state) holds),
+      λ holds. subst (λ (r : Roots). HoldsAt (state_of a.tree) r at) (held_still a b op told kept) (subst (λ (s : TreeState). HoldsAt s (held_roots b) at) kept.tree.state holds),
     ) };
 
-    ghost follows_memory = { λ a b op p. record { tree = keeps_refused a.tree b.tree NoMemory refl p.tree; roots = p.roots; reads = p.reads } };
+    ghost touch_on = { λ a b op told leaf kept may. thawed_still a b op told leaf kept may };
 
-    ghost follows_number = { λ a b op p. record { tree = keeps_refused a.tree b.tree NoInodes refl p.tree; roots = p.roots; reads = p.reads } };
+    ghost follows_memory = { λ a b op p. record { tree = keeps_refused a.tree b.tree NoMemory refl p.tree; roots = p.roots; exports = p.exports; reads = p.reads } };
+
+    ghost follows_number = { λ a b op p. record { tree = keeps_refused a.tree b.tree NoInodes refl p.tree; roots = p.roots; exports = p.exports; reads = p.reads } };
 
     ghost unchanged_by = { λ a b op leaf told kept. untouched_by a.tree b.tree leaf told kept.tree };
 
@@ -90,16 +97,16 @@ impl<S: Store + Drop> Frags for RankedTree<S> {
     ghost unchanged_on = { λ a b c leaf p q. untouched_on a.tree b.tree c.tree leaf p q };
 
     ghost refused_on = { λ a b c op reason kept because. refused_later
-        (LacksPlacesAsked 2 b.tree b.subtrees.roots (Concerns (shown_tree (state_of b.tree)) op))
-        (LacksPlacesAsked 2 a.tree a.subtrees.roots (Concerns (shown_tree (state_of a.tree)) op))
+        (LacksPlacesAsked 2 b.tree (held_roots b) (Concerns (shown_tree (state_of b.tree)) op))
+        (LacksPlacesAsked 2 a.tree (held_roots a) (Concerns (shown_tree (state_of a.tree)) op))
         a.tree b.tree c.tree op reason
         (λ lacks.
-        let now = subst (λ (r : Roots). LacksPlacesAsked 2 b.tree r (Concerns (shown_tree (state_of b.tree)) op)) kept.roots lacks in
-        let before = lacked_asked 2 (λ (s : TreeState) (d : ℕ). Concerns (shown_tree s) op d) (λ (s : TreeState) (leaf : Leaf) (rank : RankNumber). Rules s a.subtrees.roots leaf rank) a.tree b.tree kept.tree (now.0, now.1, now.2.0, now.2.1, now.2.2) in
+        let now = subst (λ (r : Roots). LacksPlacesAsked 2 b.tree r (Concerns (shown_tree (state_of b.tree)) op)) (held_still a b op None kept) lacks in
+        let before = lacked_asked 2 (λ (s : TreeState) (d : ℕ). Concerns (shown_tree s) op d) (λ (s : TreeState) (leaf : Leaf) (rank : RankNumber). Rules s (held_roots a) leaf rank) a.tree b.tree kept.tree (now.0, now.1, now.2.0, now.2.1, now.2.2) in
         (before.0, before.1, (before.2, before.3, before.4)))
         kept.tree because };
 
-    ghost refused_for = { λ a b op reason because. refused_so (LacksPlacesAsked 2 a.tree a.subtrees.roots (Concerns (shown_tree (state_of a.tree)) op)) a.tree b.tree op reason because };
+    ghost refused_for = { λ a b op reason because. refused_so (LacksPlacesAsked 2 a.tree (held_roots a) (Concerns (shown_tree (state_of a.tree)) op)) a.tree b.tree op reason because };
 
     fn is_dir(&self, dir: Ino) -> bool {
         self.tree.is_dir(dir)
@@ -110,7 +117,7 @@ impl<S: Store + Drop> Frags for RankedTree<S> {
     }
 
     fn locate(&self, rank: Rank, dir: Ino, hash: u32) -> Option<Dirfrag> {
-        locate(&self.tree, &self.roots, rank, dir, hash)
+        locate(&self.tree, &self.regions, rank, dir, hash)
     }
 
     fn leaves(&self, alloc: Global, dir: Ino) -> Result<Vec<Frag>, Refusal> {
@@ -118,7 +125,7 @@ impl<S: Store + Drop> Frags for RankedTree<S> {
     }
 
     fn look(&mut self, _op: &Op, dentry: &Dentry, at: &Dirfrag) -> Result<Option<Inode>, Refusal> {
-        look(self.alloc, &mut self.tree, &self.roots, dentry, at)
+        look(self.alloc, &mut self.tree, &self.regions, dentry, at)
     }
 
     fn list_after(
@@ -129,18 +136,18 @@ impl<S: Store + Drop> Frags for RankedTree<S> {
         after: Option<&Name>,
         max: PageSize,
     ) -> Result<(Listing, bool), Refusal> {
-        list_dir(alloc, &mut self.tree, &self.roots, dir, after, max)
+        list_dir(alloc, &mut self.tree, &self.regions, dir, after, max)
     }
 
     fn is_empty(&mut self, _op: &Op, dir: Ino) -> Result<bool, Refusal> {
-        is_dir_empty(self.alloc, &mut self.tree, &self.roots, dir)
+        is_dir_empty(self.alloc, &mut self.tree, &self.regions, dir)
     }
 
     fn ready(&mut self, _op: &Op, change: &Change) -> Result<(), Refusal> {
-        if let Err(refusal) = prepare(self.alloc, &mut self.tree, &self.roots, change) {
+        if let Err(refusal) = prepare(self.alloc, &mut self.tree, &self.regions, change) {
             return Err(refusal);
         }
-        reserve_roots(&self.tree, &mut self.roots, change)
+        reserve_roots(&self.tree, &mut self.regions.roots, change)
     }
 
     fn change(&mut self, change: Change) {
@@ -152,18 +159,18 @@ impl<S: Store + Drop> Frags for RankedTree<S> {
 fn look<S: Store + Drop>(
     alloc: Global,
     tree: &mut MdCache<S>,
-    roots: &Subtrees,
+    regions: &Regions,
     dentry: &Dentry,
     at: &Dirfrag,
 ) -> Result<Option<Inode>, Refusal>
-    requires at { LiesAt (shown_tree (state_of tree.old)) tree.old.covers (HoldsAt (state_of tree.old) roots.now.roots) dentry.now at.now }
-    requires owned { IsOwned tree.old roots.now.roots }
+    requires at { LiesAt (shown_tree (state_of tree.old)) tree.old.covers (HoldsAt (state_of tree.old) (held_in regions.now)) dentry.now at.now }
+    requires owned { IsOwned tree.old (held_in regions.now) }
     ensures found { IfOk result (λ found. found ≡ map.get (shown_tree (state_of tree.old)) dentry.now) }
     ensures kept { KeepsState tree.old tree.new (result_err result) }
-    ensures newest { OnOk result (IsNewestHeld (state_of tree.old) roots.now.roots tree.new.caches (leaf_of at.now)) }
-    ensures reads { ReadsDir roots.now.roots dentry.now.dir tree.old tree.new }
-    ensures owned { IsOwned tree.new roots.now.roots }
-    ensures refused { IfErr result (MayNotFind (LacksPlacesFor 1 tree.old roots.now.roots (leaf_of at.now)) tree.old.faults tree.new.faults) }
+    ensures newest { OnOk result (IsNewestHeld (state_of tree.old) (held_in regions.now) tree.new.caches (leaf_of at.now)) }
+    ensures reads { ReadsDir (held_in regions.now) dentry.now.dir tree.old tree.new }
+    ensures owned { IsOwned tree.new (held_in regions.now) }
+    ensures refused { IfErr result (MayNotFind (LacksPlacesFor 1 tree.old (held_in regions.now) (leaf_of at.now)) tree.old.faults tree.new.faults) }
 {
     tree.look(alloc, at, &dentry.name)
 }
@@ -172,18 +179,18 @@ fn look<S: Store + Drop>(
 fn prepare<S: Store + Drop>(
     alloc: Global,
     tree: &mut MdCache<S>,
-    roots: &Subtrees,
+    regions: &Regions,
     change: &Change,
 ) -> Result<(), Refusal>
     requires may { MayChange (shown_tree (state_of tree.old)) tree.old.covers change.now }
-    requires held { AreHeldAt (state_of tree.old) roots.now.roots change.now }
+    requires held { AreHeldAt (state_of tree.old) (held_in regions.now) change.now }
     requires numbered { IsNumbered IsRankNumber change.now }
-    requires owned { IsOwned tree.old roots.now.roots }
-    ensures ready { OnOk result (IsReadyHeld tree.new roots.now.roots change.now) }
+    requires owned { IsOwned tree.old (held_in regions.now) }
+    ensures ready { OnOk result (IsReadyHeld tree.new (held_in regions.now) change.now) }
     ensures kept { KeepsState tree.old tree.new (result_err result) }
-    ensures reads { ReadsFor roots.now.roots (NamesDir change.now) tree.old tree.new }
-    ensures owned { IsOwned tree.new roots.now.roots }
-    ensures refused { IfErr result (MayNotBeReady (LacksToMake change.now (state_of tree.old)) (LacksPlacesAsked 2 tree.old roots.now.roots (NamesDir change.now)) tree.old.faults tree.new.faults) }
+    ensures reads { ReadsFor (held_in regions.now) (NamesDir change.now) tree.old tree.new }
+    ensures owned { IsOwned tree.new (held_in regions.now) }
+    ensures refused { IfErr result (MayNotBeReady (LacksToMake change.now (state_of tree.old)) (LacksPlacesAsked 2 tree.old (held_in regions.now) (NamesDir change.now)) tree.old.faults tree.new.faults) }
 {
     tree.prepare(alloc, change)
 }

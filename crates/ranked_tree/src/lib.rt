@@ -1,5 +1,6 @@
 //! The tree with its subtrees: whose each leaf is (CephFS's subtree map), kept together with the directories and leaves that it
-//! speaks of. No change of the tree gives a leaf that stays another authority. Each leaf is cached by its authority alone.
+//! speaks of, and with the exports that stand (CephFS's Migrator). No change of the tree gives a leaf that stays another
+//! authority or another holder. Each leaf is cached by the rank that holds it alone.
 #![tactic(auto)]
 
 mod authorities;
@@ -15,6 +16,7 @@ mod listing;
 mod mounting;
 mod ranked_tree;
 mod reading;
+mod regions;
 mod regrouping;
 
 pub use inside::leaf_inside;

@@ -18,14 +18,15 @@ ghost use Rattle.mdcache.specs.Core.{state_of};
 ghost use Rattle.mdcache.specs.Reads.{MayNotFind};
 ghost use Rattle.mdcache.specs.Shown.{names_of, shown_tree};
 ghost use Rattle.ranked_tree.specs.Held.{IsOwned, LacksPlacesDir, LacksPlacesFor, ReadsDir};
+ghost use Rattle.ranked_tree.specs.Exported.{held_in};
 
 use crate::holding::holder_of;
+use crate::regions::Regions;
 use fragtree::FragTree;
 use mdcache::{MdCache, Page};
 use mds_types::{Frag, Ino, Listing, Name, PageSize, Refusal};
 use objstore::Store;
 use std::alloc::Global;
-use subtree_map::Subtrees;
 
 /// The first `max` names of a directory greater than `after`, or of all where none is given, in order, with their inodes, and
 /// whether more follow. Its leaves are fetched one after the other, and each is left at its first name that can't be in the
@@ -35,22 +36,22 @@ use subtree_map::Subtrees;
 pub(crate) fn list_dir<S: Store + Drop>(
     alloc: Global,
     tree: &mut MdCache<S>,
-    roots: &Subtrees,
+    regions: &Regions,
     dir: Ino,
     after: Option<&Name>,
     max: PageSize,
 ) -> Result<(Listing, bool), Refusal>
     requires known { is_directory (shown_tree (state_of tree.old)) dir.0 ≡ true }
-    requires owned { IsOwned tree.old roots.now.roots }
+    requires owned { IsOwned tree.old (held_in regions.now) }
     ensures listed { IfOk result (λ page. page.0 ≡ take max (names_after (shown_tree (state_of tree.old)) dir.0 (option_copied after.entry))) }
     ensures more { IfOk result (λ page. page.1 ≡ nat_lt max (length (names_after (shown_tree (state_of tree.old)) dir.0 (option_copied after.entry)))) }
     ensures kept { KeepsState tree.old tree.new (result_err result) }
-    ensures reads { ReadsDir roots.now.roots dir tree.old tree.new }
-    ensures owned { IsOwned tree.new roots.now.roots }
-    ensures refused { IfErr result (MayNotFind (LacksPlacesDir 1 tree.old roots.now.roots dir) tree.old.faults tree.new.faults) }
+    ensures reads { ReadsDir (held_in regions.now) dir tree.old tree.new }
+    ensures owned { IsOwned tree.new (held_in regions.now) }
+    ensures refused { IfErr result (MayNotFind (LacksPlacesDir 1 tree.old (held_in regions.now) dir) tree.old.faults tree.new.faults) }
 {
     match tree.dirs().tree(alloc, dir) {
-        Ok(leaves) => list_leaves(alloc, tree, roots, dir, &leaves, after, max),
+        Ok(leaves) => list_leaves(alloc, tree, regions, dir, &leaves, after, max),
         Err(_) => Err(Refusal::NoMemory),
     }
 }
@@ -59,23 +60,23 @@ pub(crate) fn list_dir<S: Store + Drop>(
 fn list_leaves<S: Store + Drop>(
     alloc: Global,
     tree: &mut MdCache<S>,
-    roots: &Subtrees,
+    regions: &Regions,
     dir: Ino,
     leaves: &FragTree,
     after: Option<&Name>,
     max: PageSize,
 ) -> Result<(Listing, bool), Refusal>
     requires live { (f : Fragment) → HasLeaf leaves.now f → IsLive tree.old.homes tree.old.covers (dir, f) }
-    requires owned { IsOwned tree.old roots.now.roots }
+    requires owned { IsOwned tree.old (held_in regions.now) }
     ensures listed { IfOk result (λ page. page.0 ≡ take max (gathered (λ (f : Fragment). names_of (unclean tree.old.caches) tree.old.objects (dir, f)) (option_copied after.entry) [] leaves.now)) }
     ensures more { IfOk result (λ page. page.1 ≡ nat_lt max (length (gathered (λ (f : Fragment). names_of (unclean tree.old.caches) tree.old.objects (dir, f)) (option_copied after.entry) [] leaves.now))) }
     ensures kept { KeepsState tree.old tree.new (result_err result) }
-    ensures reads { ReadsDir roots.now.roots dir tree.old tree.new }
-    ensures owned { IsOwned tree.new roots.now.roots }
-    ensures refused { IfErr result (MayNotFind (LacksPlacesDir 1 tree.old roots.now.roots dir) tree.old.faults tree.new.faults) }
+    ensures reads { ReadsDir (held_in regions.now) dir tree.old tree.new }
+    ensures owned { IsOwned tree.new (held_in regions.now) }
+    ensures refused { IfErr result (MayNotFind (LacksPlacesDir 1 tree.old (held_in regions.now) dir) tree.old.faults tree.new.faults) }
 {
     let mut page = Page::new(alloc, max);
-    if let Err(refusal) = gather_leaves(alloc, tree, roots, dir, leaves, after, &mut page) {
+    if let Err(refusal) = gather_leaves(alloc, tree, regions, dir, leaves, after, &mut page) {
         return Err(refusal);
     }
     Ok(page.into_listing())
@@ -85,23 +86,23 @@ fn list_leaves<S: Store + Drop>(
 fn gather_leaves<S: Store + Drop>(
     alloc: Global,
     tree: &mut MdCache<S>,
-    roots: &Subtrees,
+    regions: &Regions,
     dir: Ino,
     leaves: &FragTree,
     after: Option<&Name>,
     page: &mut Page,
 ) -> Result<(), Refusal>
     requires live { (f : Fragment) → HasLeaf leaves.now f → IsLive tree.old.homes tree.old.covers (dir, f) }
-    requires owned { IsOwned tree.old roots.now.roots }
+    requires owned { IsOwned tree.old (held_in regions.now) }
     ensures page { (whole : List Row) → IsPageOf whole page.old → OnOk result (IsPageOf (gathered (λ (f : Fragment). names_of (unclean tree.old.caches) tree.old.objects (dir, f)) (option_copied after.entry) whole leaves.now) page.new) }
     ensures most { page.new.most ≡ page.old.most }
     ensures kept { KeepsState tree.old tree.new (result_err result) }
-    ensures reads { ReadsDir roots.now.roots dir tree.old tree.new }
-    ensures owned { IsOwned tree.new roots.now.roots }
-    ensures refused { IfErr result (MayNotFind (LacksPlacesDir 1 tree.old roots.now.roots dir) tree.old.faults tree.new.faults) }
+    ensures reads { ReadsDir (held_in regions.now) dir tree.old tree.new }
+    ensures owned { IsOwned tree.new (held_in regions.now) }
+    ensures refused { IfErr result (MayNotFind (LacksPlacesDir 1 tree.old (held_in regions.now) dir) tree.old.faults tree.new.faults) }
 {
     for leaf in leaves {
-        match gather_leaf(alloc, tree, roots, dir, leaf, after, page) {
+        match gather_leaf(alloc, tree, regions, dir, leaf, after, page) {
             Ok(()) => {}
             Err(refusal) => return Err(refusal),
         }
@@ -113,21 +114,21 @@ fn gather_leaves<S: Store + Drop>(
 fn gather_leaf<S: Store + Drop>(
     alloc: Global,
     tree: &mut MdCache<S>,
-    roots: &Subtrees,
+    regions: &Regions,
     dir: Ino,
     frag: Frag,
     after: Option<&Name>,
     page: &mut Page,
 ) -> Result<(), Refusal>
     requires live { IsLive tree.old.homes tree.old.covers (dir, frag) }
-    requires owned { IsOwned tree.old roots.now.roots }
+    requires owned { IsOwned tree.old (held_in regions.now) }
     ensures page { (whole : List Row) → IsPageOf whole page.old → OnOk result (IsPageOf (puts key_cmp whole (rows_after (option_copied after.entry) (map.entries (names_of (unclean tree.old.caches) tree.old.objects (dir, frag))))) page.new) }
     ensures most { page.new.most ≡ page.old.most }
     ensures kept { KeepsState tree.old tree.new (result_err result) }
-    ensures reads { ReadsDir roots.now.roots dir tree.old tree.new }
-    ensures owned { IsOwned tree.new roots.now.roots }
-    ensures refused { IfErr result (MayNotFind (LacksPlacesFor 1 tree.old roots.now.roots (dir, frag)) tree.old.faults tree.new.faults) }
+    ensures reads { ReadsDir (held_in regions.now) dir tree.old tree.new }
+    ensures owned { IsOwned tree.new (held_in regions.now) }
+    ensures refused { IfErr result (MayNotFind (LacksPlacesFor 1 tree.old (held_in regions.now) (dir, frag)) tree.old.faults tree.new.faults) }
 {
-    let rank = holder_of(tree, roots, dir, frag);
+    let rank = holder_of(tree, regions, dir, frag);
     tree.gather(alloc, rank, dir, frag, after, page)
 }

@@ -1,5 +1,6 @@
 //! A tree over a store as it is found, with its subtree roots.
 ghost use Rattle.std.specs.Prelude.{◌≡◌, ◌+◌, ◌<◌, ◌≤◌, IfOk, IfErr};
+ghost use Rattle.std.specs.FinMap as map;
 ghost use Rattle.sorted_map.specs.SortedMap.{contents};
 ghost use Rattle.mds_types.specs.Tree.{dentry_cmp};
 ghost use Rattle.objstore.specs.Objects.{faults_in};
@@ -8,6 +9,7 @@ ghost use Rattle.mdcache.specs.Mounted.{AreNumbers, IsColdTree, MayNotMount, Mou
 ghost use Rattle.ranked_tree.specs.Mounted.{AreTopRoots};
 
 use crate::ranked_tree::RankedTree;
+use crate::regions::Regions;
 use inode_table::Dirs;
 use mdcache::{MdCache, Opening};
 use mds_types::{Ino, Rank, Refusal};
@@ -33,6 +35,7 @@ impl<S: Store + Drop> RankedTree<S> {
         ensures opening { IfOk result (λ m. contents dentry_cmp m.1.entries ≡ shown_in m.0.tree) }
         ensures numbers { IfOk result (λ m. AreNumbers (shown_in m.0.tree) ranks m.1.numbers.items) }
         ensures roots { IfOk result (λ m. AreTopRoots m.0.tree.covers m.0.subtrees.roots) }
+        ensures exports { IfOk result (λ m. m.0.exports ≡ map.empty) }
         ensures faults { IfOk result (λ m. m.0.tree.faults ≡ S.faults store) }
         ensures refused { IfErr result (λ back. MayNotMount (S.objects store) (S.faults store) (S.faults back.1) back.0) }
         ensures left { IfErr result (λ back. S.objects back.1 ≡ S.objects store) }
@@ -41,7 +44,17 @@ impl<S: Store + Drop> RankedTree<S> {
         match MdCache::mount(alloc, store, ranks, places) {
             Err(back) => Err(back),
             Ok((tree, opening)) => match top_roots(alloc, tree.dirs()) {
-                Ok(roots) => Ok((RankedTree { tree, roots, alloc }, opening)),
+                Ok(roots) => {
+                    let regions = Regions::new(alloc, roots);
+                    Ok((
+                        RankedTree {
+                            tree,
+                            regions,
+                            alloc,
+                        },
+                        opening,
+                    ))
+                }
                 Err(_) => {
                     drop(opening);
                     Err((Refusal::NoMemory, tree.into_store()))

@@ -1,5 +1,5 @@
 //! Reads that ask the tree alone, and no fragment. None takes memory.
-ghost use Rattle.std.specs.Prelude.{◌≡◌, true, IsTrue, ◌↔◌, OnOk, IfErr};
+ghost use Rattle.std.specs.Prelude.{◌≡◌, true, IsTrue, ◌↔◌, OnOk, IfErr, length};
 ghost use Rattle.mds_types.specs.Tree.{is_directory};
 ghost use Rattle.fragtree.specs.FragTree.{CanMerge, CanSplit, RefusesMerge, RefusesSplit};
 ghost use Rattle.inode_table.specs.Dirs.{IsLive, is_known, leaves_of};
@@ -8,7 +8,9 @@ ghost use Rattle.mdcache.specs.Core.{state_of};
 ghost use Rattle.mdcache.specs.Regroups.{RefusesLeaves};
 ghost use Rattle.mdcache.specs.Shown.{shown_tree};
 ghost use Rattle.mdcache.specs.Sound.{IsSound};
+ghost use Rattle.ranked_tree.specs.Exported.{StandSoundly};
 ghost use Rattle.ranked_tree.specs.Held.{IsOwned};
+ghost use Rattle.ranked_tree.specs.Ranked.{held_roots};
 
 use crate::ranked_tree::RankedTree;
 use inode_table::Dirs;
@@ -17,12 +19,13 @@ use objstore::Store;
 
 impl<S: Store + Drop> RankedTree<S> {
     /// The store. A caller also learns from it that the tree is sound, that the roots are its own, that a rank caches only leaves
-    /// that it is the authority of and has places of no other live leaf, and that each rank caches at most as many as it has
-    /// places.
+    /// that it holds and has places of no other live leaf, that the exports stand soundly, and that each rank caches at most as
+    /// many as it has places.
     pub fn store(&self) -> &S
         ensures objects { S.objects result.now ≡ self.now.tree.objects }
         ensures faults { S.faults result.now ≡ self.now.tree.faults }
-        ensures owned { IsOwned self.now.tree self.now.subtrees.roots }
+        ensures owned { IsOwned self.now.tree (held_roots self.now) }
+        ensures stand { StandSoundly (state_of self.now.tree) (length self.now.tree.caches.used) self.now.subtrees self.now.exports }
         ensures caches { AreCaches self.now.tree.caches }
     {
         // The contract of `ranks` is what says it of the caches.

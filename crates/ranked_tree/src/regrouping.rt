@@ -11,12 +11,15 @@ ghost use Rattle.subtree_map.specs.Changes.{HaveOneAuthority, IsRootMerge, IsRoo
 ghost use Rattle.mdcache.specs.Core.{IsSoundCore, state_of};
 ghost use Rattle.mdcache.specs.Ranks.{MayHold};
 ghost use Rattle.mdcache.specs.SplitsAndMerges.{MayNotMerge, MayNotSplit, MergesLeaves, SplitsLeaf};
+ghost use Rattle.ranked_tree.specs.Exported.{AreThawed, IsDivided, IsFrozenIn, held_in};
 ghost use Rattle.ranked_tree.specs.Held.{CameAt, IsFamilyOf, IsMergedHere, IsOwned, LacksPlacesFor, LacksPlacesInside};
-ghost use Rattle.ranked_tree.specs.Subtrees.{AllHave, GivesToChildren, KeepsAuthorities, KeepsRoots, NoNewRank, Rules, TakesOver};
+ghost use Rattle.ranked_tree.specs.Ranked.{IsFrozenLeaf, held_roots};
+ghost use Rattle.ranked_tree.specs.Subtrees.{AllHave, GivesToChildren, KeepsRoots, Rules, TakesOver};
 
 use crate::holding::holder_of;
 use crate::inside::leaf_inside;
 use crate::ranked_tree::RankedTree;
+use crate::regions::Regions;
 use mdcache::MdCache;
 use mds_types::{Frag, Ino, Rank, Refusal};
 use objstore::Store;
@@ -24,12 +27,13 @@ use std::alloc::Global;
 use subtree_map::Subtrees;
 
 impl<S: Store + Drop> RankedTree<S> {
-    /// Splits a leaf of a directory by so many bits, as `MdCache::split` does and refuses; where it is a root its children are
+    /// Splits a leaf of a directory that isn't frozen by so many bits, as `MdCache::split` does and refuses; where it is a root its children are
     /// roots of its rank then, and where it inherits they do. Takes memory for those roots first. Of the caches only places of
     /// the leaf and of its children are used, at the rank that holds it.
     pub fn split(&mut self, alloc: Global, dir: Ino, frag: Frag, bits: u8) -> Result<(), Refusal>
-        ensures split { SplitsLeaf (LacksPlacesFor (2 ^ bits + 1) self.old.tree self.old.subtrees.roots (dir, frag)) self.old.tree self.new.tree dir frag bits result }
-        ensures came { CameAt (Rules (state_of self.old.tree) self.old.subtrees.roots (dir, frag)) (IsFamilyOf dir frag bits) self.old.tree.caches self.new.tree.caches }
+        requires thawed { IsFrozenLeaf self.old (dir, frag) → ⊥ }
+        ensures split { SplitsLeaf (LacksPlacesFor (2 ^ bits + 1) self.old.tree (held_roots self.old) (dir, frag)) self.old.tree self.new.tree dir frag bits result }
+        ensures came { CameAt (Rules (state_of self.old.tree) (held_roots self.old) (dir, frag)) (IsFamilyOf dir frag bits) self.old.tree.caches self.new.tree.caches }
         ensures roots { OnOk result (IsRootSplit self.old.subtrees.roots self.new.subtrees.roots dir.0 frag bits) }
         ensures left { OnErr result (self.new.subtrees.roots ≡ self.old.subtrees.roots) }
         ensures promises { self.new.subtrees.promises ≡ self.old.subtrees.promises }
@@ -37,18 +41,19 @@ impl<S: Store + Drop> RankedTree<S> {
         ensures cap { self.new.tree.caches.cap ≡ self.old.tree.caches.cap }
         ensures counted { self.new.tree.faults ≡ self.old.tree.faults + faults_told (result_err result) }
         ensures children { OnOk result (GivesToChildren (state_of self.old.tree) (state_of self.new.tree) self.old.subtrees.roots self.new.subtrees.roots dir frag bits) }
-        ensures kept { KeepsRoots (state_of self.old.tree) (state_of self.new.tree) self.old.subtrees.roots self.new.subtrees.roots }
+        ensures kept { KeepsRoots (state_of self.old.tree) (state_of self.new.tree) self.old.subtrees.roots self.new.subtrees.roots self.old.exports self.new.exports }
     {
-        split_with_roots(alloc, &mut self.tree, &mut self.roots, dir, frag, bits)
+        split_with_roots(alloc, &mut self.tree, &mut self.regions, dir, frag, bits)
     }
 
-    /// Merges the leaves of a directory properly inside a fragment, which have one authority, as `MdCache::merge` does and
+    /// Merges the leaves of a directory properly inside a fragment, which have one authority and aren't frozen, as `MdCache::merge` does and
     /// refuses; where one of them is a root the merged leaf is a root of that rank then. Takes memory for that root first. Of the
     /// caches only places of those leaves and of the merged one are used, at the rank that holds them.
     pub fn merge(&mut self, alloc: Global, dir: Ino, frag: Frag) -> Result<(), Refusal>
         requires one { HaveOneAuthority self.old.subtrees.roots self.old.tree.homes self.old.tree.covers dir.0 frag }
-        ensures merged { MergesLeaves (LacksPlacesInside 1 self.old.tree self.old.subtrees.roots dir frag) self.old.tree self.new.tree dir frag result }
-        ensures came { CameAt (AllHave self.old.tree.homes self.old.tree.covers self.old.subtrees.roots dir frag) (IsMergedHere self.old.tree.covers dir frag) self.old.tree.caches self.new.tree.caches }
+        requires thawed { AreThawed self.old.exports self.old.subtrees.roots self.old.tree.homes self.old.tree.covers dir frag }
+        ensures merged { MergesLeaves (LacksPlacesInside 1 self.old.tree (held_roots self.old) dir frag) self.old.tree self.new.tree dir frag result }
+        ensures came { CameAt (AllHave self.old.tree.homes self.old.tree.covers (held_roots self.old) dir frag) (IsMergedHere self.old.tree.covers dir frag) self.old.tree.caches self.new.tree.caches }
         ensures roots { OnOk result (IsRootMerge self.old.subtrees.roots self.new.subtrees.roots dir.0 frag) }
         ensures left { OnErr result (self.new.subtrees.roots ≡ self.old.subtrees.roots) }
         ensures promises { self.new.subtrees.promises ≡ self.old.subtrees.promises }
@@ -56,9 +61,9 @@ impl<S: Store + Drop> RankedTree<S> {
         ensures cap { self.new.tree.caches.cap ≡ self.old.tree.caches.cap }
         ensures counted { self.new.tree.faults ≡ self.old.tree.faults + faults_told (result_err result) }
         ensures one { OnOk result (TakesOver (state_of self.old.tree) (state_of self.new.tree) self.old.subtrees.roots self.new.subtrees.roots dir frag) }
-        ensures kept { KeepsRoots (state_of self.old.tree) (state_of self.new.tree) self.old.subtrees.roots self.new.subtrees.roots }
+        ensures kept { KeepsRoots (state_of self.old.tree) (state_of self.new.tree) self.old.subtrees.roots self.new.subtrees.roots self.old.exports self.new.exports }
     {
-        merge_with_roots(alloc, &mut self.tree, &mut self.roots, dir, frag)
+        merge_with_roots(alloc, &mut self.tree, &mut self.regions, dir, frag)
     }
 }
 
@@ -67,32 +72,32 @@ impl<S: Store + Drop> RankedTree<S> {
 fn split_with_roots<S: Store + Drop>(
     alloc: Global,
     tree: &mut MdCache<S>,
-    roots: &mut Subtrees,
+    regions: &mut Regions,
     dir: Ino,
     frag: Frag,
     bits: u8,
 ) -> Result<(), Refusal>
-    requires owned { IsOwned tree.old roots.old.roots }
-    ensures split { SplitsLeaf (LacksPlacesFor (2 ^ bits + 1) tree.old roots.old.roots (dir, frag)) tree.old tree.new dir frag bits result }
-    ensures came { CameAt (Rules (state_of tree.old) roots.old.roots (dir, frag)) (IsFamilyOf dir frag bits) tree.old.caches tree.new.caches }
-    ensures roots { OnOk result (IsRootSplit roots.old.roots roots.new.roots dir.0 frag bits) }
-    ensures left { OnErr result (roots.new.roots ≡ roots.old.roots) }
-    ensures promises { roots.new.promises ≡ roots.old.promises }
+    requires divided { IsDivided tree.old regions.old }
+    requires thawed { IsFrozenIn (state_of tree.old) regions.old (dir, frag) → ⊥ }
+    ensures split { SplitsLeaf (LacksPlacesFor (2 ^ bits + 1) tree.old (held_in regions.old) (dir, frag)) tree.old tree.new dir frag bits result }
+    ensures came { CameAt (Rules (state_of tree.old) (held_in regions.old) (dir, frag)) (IsFamilyOf dir frag bits) tree.old.caches tree.new.caches }
+    ensures roots { OnOk result (IsRootSplit regions.old.roots.roots regions.new.roots.roots dir.0 frag bits) }
+    ensures left { OnErr result (regions.new.roots.roots ≡ regions.old.roots.roots) }
+    ensures promises { regions.new.roots.promises ≡ regions.old.roots.promises }
     ensures count { length tree.new.caches.used ≡ length tree.old.caches.used }
     ensures cap { tree.new.caches.cap ≡ tree.old.caches.cap }
     ensures counted { tree.new.faults ≡ tree.old.faults + faults_told (result_err result) }
-    ensures authority { KeepsAuthorities (state_of tree.old) (state_of tree.new) roots.old.roots roots.new.roots }
-    ensures children { OnOk result (GivesToChildren (state_of tree.old) (state_of tree.new) roots.old.roots roots.new.roots dir frag bits) }
-    ensures ranks { NoNewRank roots.old.roots roots.new.roots }
-    ensures owned { IsOwned tree.new roots.new.roots }
+    ensures children { OnOk result (GivesToChildren (state_of tree.old) (state_of tree.new) regions.old.roots.roots regions.new.roots.roots dir frag bits) }
+    ensures kept { KeepsRoots (state_of tree.old) (state_of tree.new) regions.old.roots.roots regions.new.roots.roots regions.old.exports regions.new.exports }
+    ensures divided { IsDivided tree.new regions.new }
 {
-    if let Err(refusal) = reserve_split(tree, roots, dir, frag, bits) {
+    if let Err(refusal) = reserve_split(tree, &mut regions.roots, dir, frag, bits) {
         return Err(refusal);
     }
-    if let Err(refusal) = split_held(alloc, tree, roots, dir, frag, bits) {
+    if let Err(refusal) = split_held(alloc, tree, regions, dir, frag, bits) {
         return Err(refusal);
     }
-    roots.split_root(dir, frag, bits);
+    regions.roots.split_root(dir, frag, bits);
     Ok(())
 }
 
@@ -101,32 +106,32 @@ fn split_with_roots<S: Store + Drop>(
 fn merge_with_roots<S: Store + Drop>(
     alloc: Global,
     tree: &mut MdCache<S>,
-    roots: &mut Subtrees,
+    regions: &mut Regions,
     dir: Ino,
     frag: Frag,
 ) -> Result<(), Refusal>
-    requires owned { IsOwned tree.old roots.old.roots }
-    requires one { HaveOneAuthority roots.old.roots tree.old.homes tree.old.covers dir.0 frag }
-    ensures merged { MergesLeaves (LacksPlacesInside 1 tree.old roots.old.roots dir frag) tree.old tree.new dir frag result }
-    ensures came { CameAt (AllHave tree.old.homes tree.old.covers roots.old.roots dir frag) (IsMergedHere tree.old.covers dir frag) tree.old.caches tree.new.caches }
-    ensures roots { OnOk result (IsRootMerge roots.old.roots roots.new.roots dir.0 frag) }
-    ensures left { OnErr result (roots.new.roots ≡ roots.old.roots) }
-    ensures promises { roots.new.promises ≡ roots.old.promises }
+    requires divided { IsDivided tree.old regions.old }
+    requires one { HaveOneAuthority regions.old.roots.roots tree.old.homes tree.old.covers dir.0 frag }
+    requires thawed { AreThawed regions.old.exports regions.old.roots.roots tree.old.homes tree.old.covers dir frag }
+    ensures merged { MergesLeaves (LacksPlacesInside 1 tree.old (held_in regions.old) dir frag) tree.old tree.new dir frag result }
+    ensures came { CameAt (AllHave tree.old.homes tree.old.covers (held_in regions.old) dir frag) (IsMergedHere tree.old.covers dir frag) tree.old.caches tree.new.caches }
+    ensures roots { OnOk result (IsRootMerge regions.old.roots.roots regions.new.roots.roots dir.0 frag) }
+    ensures left { OnErr result (regions.new.roots.roots ≡ regions.old.roots.roots) }
+    ensures promises { regions.new.roots.promises ≡ regions.old.roots.promises }
     ensures count { length tree.new.caches.used ≡ length tree.old.caches.used }
     ensures cap { tree.new.caches.cap ≡ tree.old.caches.cap }
     ensures counted { tree.new.faults ≡ tree.old.faults + faults_told (result_err result) }
-    ensures authority { KeepsAuthorities (state_of tree.old) (state_of tree.new) roots.old.roots roots.new.roots }
-    ensures one { OnOk result (TakesOver (state_of tree.old) (state_of tree.new) roots.old.roots roots.new.roots dir frag) }
-    ensures ranks { NoNewRank roots.old.roots roots.new.roots }
-    ensures owned { IsOwned tree.new roots.new.roots }
+    ensures one { OnOk result (TakesOver (state_of tree.old) (state_of tree.new) regions.old.roots.roots regions.new.roots.roots dir frag) }
+    ensures kept { KeepsRoots (state_of tree.old) (state_of tree.new) regions.old.roots.roots regions.new.roots.roots regions.old.exports regions.new.exports }
+    ensures divided { IsDivided tree.new regions.new }
 {
-    if let Err(refusal) = reserve_merge(tree, roots, dir, frag) {
+    if let Err(refusal) = reserve_merge(tree, &mut regions.roots, dir, frag) {
         return Err(refusal);
     }
-    if let Err(refusal) = merge_held(alloc, tree, roots, dir, frag) {
+    if let Err(refusal) = merge_held(alloc, tree, regions, dir, frag) {
         return Err(refusal);
     }
-    roots.merge_roots(dir, frag);
+    regions.roots.merge_roots(dir, frag);
     Ok(())
 }
 
@@ -134,21 +139,21 @@ fn merge_with_roots<S: Store + Drop>(
 fn split_held<S: Store + Drop>(
     alloc: Global,
     tree: &mut MdCache<S>,
-    roots: &Subtrees,
+    regions: &Regions,
     dir: Ino,
     frag: Frag,
     bits: u8,
 ) -> Result<(), Refusal>
     requires live { IsLive tree.old.homes tree.old.covers (dir, frag) }
-    requires owned { IsOwned tree.old roots.now.roots }
-    ensures split { SplitsLeaf (LacksPlacesFor (2 ^ bits + 1) tree.old roots.now.roots (dir, frag)) tree.old tree.new dir frag bits result }
+    requires owned { IsOwned tree.old (held_in regions.now) }
+    ensures split { SplitsLeaf (LacksPlacesFor (2 ^ bits + 1) tree.old (held_in regions.now) (dir, frag)) tree.old tree.new dir frag bits result }
     ensures count { length tree.new.caches.used ≡ length tree.old.caches.used }
     ensures cap { tree.new.caches.cap ≡ tree.old.caches.cap }
     ensures counted { tree.new.faults ≡ tree.old.faults + faults_told (result_err result) }
-    ensures came { CameAt (Rules (state_of tree.old) roots.now.roots (dir, frag)) (IsFamilyOf dir frag bits) tree.old.caches tree.new.caches }
+    ensures came { CameAt (Rules (state_of tree.old) (held_in regions.now) (dir, frag)) (IsFamilyOf dir frag bits) tree.old.caches tree.new.caches }
     ensures sound { IsSoundCore tree.new }
 {
-    let rank = holder_of(tree, roots, dir, frag);
+    let rank = holder_of(tree, regions, dir, frag);
     tree.split(alloc, rank, dir, frag, bits)
 }
 
@@ -156,38 +161,38 @@ fn split_held<S: Store + Drop>(
 fn merge_held<S: Store + Drop>(
     alloc: Global,
     tree: &mut MdCache<S>,
-    roots: &Subtrees,
+    regions: &Regions,
     dir: Ino,
     frag: Frag,
 ) -> Result<(), Refusal>
     requires known { is_known tree.old.homes dir.0 ≡ true }
     requires can { CanMerge (leaves_of tree.old.covers dir.0) frag }
-    requires one { HaveOneAuthority roots.now.roots tree.old.homes tree.old.covers dir.0 frag }
-    requires owned { IsOwned tree.old roots.now.roots }
-    ensures merged { MergesLeaves (LacksPlacesInside 1 tree.old roots.now.roots dir frag) tree.old tree.new dir frag result }
+    requires one { HaveOneAuthority (held_in regions.now) tree.old.homes tree.old.covers dir.0 frag }
+    requires owned { IsOwned tree.old (held_in regions.now) }
+    ensures merged { MergesLeaves (LacksPlacesInside 1 tree.old (held_in regions.now) dir frag) tree.old tree.new dir frag result }
     ensures count { length tree.new.caches.used ≡ length tree.old.caches.used }
     ensures cap { tree.new.caches.cap ≡ tree.old.caches.cap }
     ensures counted { tree.new.faults ≡ tree.old.faults + faults_told (result_err result) }
-    ensures came { CameAt (AllHave tree.old.homes tree.old.covers roots.now.roots dir frag) (IsMergedHere tree.old.covers dir frag) tree.old.caches tree.new.caches }
+    ensures came { CameAt (AllHave tree.old.homes tree.old.covers (held_in regions.now) dir frag) (IsMergedHere tree.old.covers dir frag) tree.old.caches tree.new.caches }
     ensures sound { IsSoundCore tree.new }
 {
-    let rank = holder_of_all(tree, roots, dir, frag);
+    let rank = holder_of_all(tree, regions, dir, frag);
     tree.merge(alloc, rank, dir, frag)
 }
 
 // The rank that holds the leaves of a directory properly inside a fragment, which have one authority.
-fn holder_of_all<S: Store + Drop>(tree: &MdCache<S>, roots: &Subtrees, dir: Ino, frag: Frag) -> Rank
+fn holder_of_all<S: Store + Drop>(tree: &MdCache<S>, regions: &Regions, dir: Ino, frag: Frag) -> Rank
     requires known { is_known tree.now.homes dir.0 ≡ true }
     requires can { CanMerge (leaves_of tree.now.covers dir.0) frag }
-    requires one { HaveOneAuthority roots.now.roots tree.now.homes tree.now.covers dir.0 frag }
-    requires owned { IsOwned tree.now roots.now.roots }
-    ensures all { AllHave tree.now.homes tree.now.covers roots.now.roots dir frag result }
+    requires one { HaveOneAuthority (held_in regions.now) tree.now.homes tree.now.covers dir.0 frag }
+    requires owned { IsOwned tree.now (held_in regions.now) }
+    ensures all { AllHave tree.now.homes tree.now.covers (held_in regions.now) dir frag result }
     ensures inside { (leaf : Leaf) × IsLive tree.now.homes tree.now.covers leaf × (is_inside dir.0 frag leaf ≡ true) }
     ensures there { result.0 < length tree.now.caches.used }
     ensures holds { (q : Leaf) → Contains (each (in_directory dir.0) (leaves_inside frag (leaves_of tree.now.covers dir.0))) q → MayHold tree.now.caches result q }
 {
     match leaf_inside(tree.dirs(), dir, frag, frag.value()) {
-        Some(leaf) => holder_of(tree, roots, dir, leaf),
+        Some(leaf) => holder_of(tree, regions, dir, leaf),
         None => unreachable!(),
     }
 }
@@ -203,7 +208,7 @@ fn reserve_split<S: Store + Drop>(
     ensures live { OnOk result (IsLive tree.now.homes tree.now.covers (dir, frag)) }
     ensures fits { OnOk result (FitsSplit frag bits) }
     ensures room { OnOk result (2 ^ bits ≤ roots.new.room) }
-    ensures refused { IfErr result (MayNotSplit (LacksPlacesFor (2 ^ bits + 1) tree.now roots.old.roots (dir, frag)) tree.now tree.now dir frag bits) }
+    ensures refused { IfErr result (MayNotSplit ⊥ tree.now tree.now dir frag bits) }
     ensures same { roots.new.roots ≡ roots.old.roots }
     ensures promises { roots.new.promises ≡ roots.old.promises }
 {
@@ -230,7 +235,7 @@ fn reserve_merge<S: Store + Drop>(
     ensures known { OnOk result (is_known tree.now.homes dir.0 ≡ true) }
     ensures can { OnOk result (CanMerge (leaves_of tree.now.covers dir.0) frag) }
     ensures room { OnOk result (1 ≤ roots.new.room) }
-    ensures refused { IfErr result (MayNotMerge (LacksPlacesInside 1 tree.now roots.old.roots dir frag) tree.now tree.now dir frag) }
+    ensures refused { IfErr result (MayNotMerge ⊥ tree.now tree.now dir frag) }
     ensures same { roots.new.roots ≡ roots.old.roots }
     ensures promises { roots.new.promises ≡ roots.old.promises }
 {

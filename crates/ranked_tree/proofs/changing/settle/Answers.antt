@@ -14,7 +14,7 @@ pub settle_move-requires-clause-may : goal.settle_move-requires-clause-may
 settle_move-requires-clause-may g c =
     subst (λ (d : Option Ino). IfSome d (λ (dir : Ino). MayMove c.dirs.result.now.homes dir.0 (home_at (dentry_at c.in-Some.put.0)))) (sym c.moving.ensures)
     (subst (λ (h : Homes). IfSome (dir_moving c.args.change.now) (λ (dir : Ino). MayMove h dir.0 (home_at (dentry_at c.in-Some.put.0)))) (sym c.dirs.ensures.homes)
-    (moves_there (state_of c.args.tree.now) c.args.change.now c.requires.owned.sound.sound c.requires.may c.in-Some.put c.in-Some.is))
+    (moves_there (state_of c.args.tree.now) c.args.change.now c.requires.sound c.requires.may c.in-Some.put c.in-Some.is))
 
 pub settle_move-requires-clause-room : goal.settle_move-requires-clause-room
 settle_move-requires-clause-room g c =

@@ -3,6 +3,7 @@ use Rattle.mdcache.specs.Reads.{has_none}
 use Rattle.mdcache.specs.Shown.{names_of}
 use Rattle.mdcache.specs.State.{State as TreeState}
 use Rattle.mdcache.proofs.FragsLaws.{keeps_itself, keeps_on}
+use Rattle.ranked_tree.specs.Exported.{held_in}
 use Rattle.ranked_tree.proofs.WalkLaws.{first_within, passed, rest_within}
 use Rattle.ranked_tree.proofs.AskLaws.{live_still}
 use Rattle.dentry_cache.specs.CacheMap.{unclean}
@@ -21,17 +22,17 @@ loop-leaf-preserved g c =
     let told : has_none (names_of (unclean c.loop-leaf.tree.caches) c.loop-leaf.tree.objects (c.args.dir, c.in-Some.leaf)) ≡ has_none (names_of (unclean c.args.tree.now.caches) c.args.tree.now.objects (c.args.dir, c.in-Some.leaf)) = ap (λ (s : TreeState). has_none (names_of s.unsaved s.objects (c.args.dir, c.in-Some.leaf))) inv.kept.state in
     record {
       kept = keeps_on c.args.tree.now c.loop-leaf.tree c.is_leaf_empty.new.tree None inv.kept c.in-Ok-true.ensures.kept;
-      reads = reads_on c.args.roots.now.roots (λ (d : ℕ). d ≡ c.args.dir.0) c.args.tree.now c.loop-leaf.tree c.is_leaf_empty.new.tree inv.kept inv.reads c.in-Ok-true.ensures.reads;
+      reads = reads_on (held_in c.args.regions.now) (λ (d : ℕ). d ≡ c.args.dir.0) c.args.tree.now c.loop-leaf.tree c.is_leaf_empty.new.tree inv.kept inv.reads c.in-Ok-true.ensures.reads;
       owned = c.in-Ok-true.ensures.owned;
       within = rest_within c.in-Some.leaf c.next.new.self c.loop-leaf.leaf-iterator c.args.leaves.now steps inv.within;
       left = passed (λ f. has_none (names_of (unclean c.args.tree.now.caches) c.args.tree.now.objects (c.args.dir, f))) c.in-Some.leaf c.next.new.self c.loop-leaf.leaf-iterator c.args.leaves.now steps (sym c.in-Ok-true.field-0-test ∙ c.in-Ok-true.ensures.found ∙ told) inv.left;
     }
 
 pub returns-in-Err-clause-reads : goal.returns-in-Err-clause-reads
-returns-in-Err-clause-reads g c = reads_on c.args.roots.now.roots (λ (d : ℕ). d ≡ c.args.dir.0) c.args.tree.now c.loop-leaf.tree c.is_leaf_empty.new.tree c.loop-leaf.invariant.kept c.loop-leaf.invariant.reads c.is_leaf_empty.ensures.reads
+returns-in-Err-clause-reads g c = reads_on (held_in c.args.regions.now) (λ (d : ℕ). d ≡ c.args.dir.0) c.args.tree.now c.loop-leaf.tree c.is_leaf_empty.new.tree c.loop-leaf.invariant.kept c.loop-leaf.invariant.reads c.is_leaf_empty.ensures.reads
 
 pub returns-in-Ok-false-clause-reads : goal.returns-in-Ok-false-clause-reads
-returns-in-Ok-false-clause-reads g c = reads_on c.args.roots.now.roots (λ (d : ℕ). d ≡ c.args.dir.0) c.args.tree.now c.loop-leaf.tree c.is_leaf_empty.new.tree c.loop-leaf.invariant.kept c.loop-leaf.invariant.reads c.is_leaf_empty.ensures.reads
+returns-in-Ok-false-clause-reads g c = reads_on (held_in c.args.regions.now) (λ (d : ℕ). d ≡ c.args.dir.0) c.args.tree.now c.loop-leaf.tree c.is_leaf_empty.new.tree c.loop-leaf.invariant.kept c.loop-leaf.invariant.reads c.is_leaf_empty.ensures.reads
 
 pub loop-leaf-init : goal.loop-leaf-init
 loop-leaf-init g c = record { kept = keeps_itself c.args.tree.now; reads = stays; owned = c.requires.owned; within = search rules; left = search rules }

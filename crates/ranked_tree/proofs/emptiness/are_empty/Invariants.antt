@@ -4,6 +4,7 @@ use Rattle.std.specs.List.{list_all}
 use Rattle.mdcache.specs.Frags.{KeepsState}
 use Rattle.mdcache.specs.Reads.{has_none}
 use Rattle.mdcache.specs.Shown.{names_of}
+use Rattle.ranked_tree.specs.Exported.{held_in}
 use Rattle.ranked_tree.proofs.WalkLaws.{AreWithin}
 use Rattle.ranked_tree.specs.Held.{IsOwned, ReadsDir}
 use Rattle.dentry_cache.specs.CacheMap.{unclean}
@@ -12,8 +13,8 @@ use Rattle.ranked_tree.proofs.emptiness.are_empty.Given as goal
 abbrev pub invariant-loop-leaf : goal.invariant-loop-leaf
 invariant-loop-leaf g l = record {
   kept : KeepsState l.fn.tree l.tree None;
-  reads : ReadsDir l.roots.roots l.dir l.fn.tree l.tree;
-  owned : IsOwned l.tree l.roots.roots;
+  reads : ReadsDir (held_in l.regions) l.dir l.fn.tree l.tree;
+  owned : IsOwned l.tree (held_in l.regions);
   within : AreWithin l.leaf-iterator l.leaves;
   left : list_all (λ f. has_none (names_of (unclean l.fn.tree.caches) l.fn.tree.objects (l.dir, f))) l.leaf-iterator ≡ list_all (λ f. has_none (names_of (unclean l.fn.tree.caches) l.fn.tree.objects (l.dir, f))) l.leaves;
 }

@@ -1,6 +1,7 @@
 use Rattle.mdcache.proofs.CoreLaws.{reads_keeps}
 use Rattle.dentry_cache.specs.CacheSplits.{IsKeptFor}
 use Rattle.dentry_cache.specs.Came.{IsThat}
+use Rattle.ranked_tree.specs.Exported.{held_in}
 use Rattle.ranked_tree.proofs.AskLaws.{told_for}
 use Rattle.ranked_tree.proofs.HeldLaws.{owned_read}
 use Rattle.std.specs.Result.{result_err}
@@ -11,10 +12,10 @@ pub returns-clause-kept : goal.returns-clause-kept
 returns-clause-kept g c = reads_keeps (IsThat c.holder_of-rank.result.0 (c.args.dir, c.args.frag)) (IsKeptFor c.args.tree.now.caches) c.args.tree.now c.is_leaf_empty.new.self c.is_leaf_empty.ensures.reads (result_err c.is_leaf_empty.result) c.is_leaf_empty.ensures.counted
 
 pub returns-clause-owned : goal.returns-clause-owned
-returns-clause-owned g c = owned_read (IsKeptFor c.args.tree.now.caches) c.args.tree.now c.is_leaf_empty.new.self c.args.roots.now.roots (c.args.dir, c.args.frag) c.holder_of-rank.result c.holder_of-rank.ensures.rules c.is_leaf_empty.ensures.reads c.is_leaf_empty.ensures.sound c.requires.owned
+returns-clause-owned g c = owned_read (IsKeptFor c.args.tree.now.caches) c.args.tree.now c.is_leaf_empty.new.self (held_in c.args.regions.now) (c.args.dir, c.args.frag) c.holder_of-rank.result c.holder_of-rank.ensures.rules c.is_leaf_empty.ensures.reads c.is_leaf_empty.ensures.sound c.requires.owned
 
 pub returns-clause-refused : goal.returns-clause-refused
-returns-clause-refused g c = told_for _ c.is_leaf_empty.result c.args.tree.now c.args.roots.now.roots (c.args.dir, c.args.frag) c.is_leaf_empty.new.self.faults c.holder_of-rank.result c.holder_of-rank.ensures.rules c.is_leaf_empty.ensures.refused
+returns-clause-refused g c = told_for _ c.is_leaf_empty.result c.args.tree.now (held_in c.args.regions.now) (c.args.dir, c.args.frag) c.is_leaf_empty.new.self.faults c.holder_of-rank.result c.holder_of-rank.ensures.rules c.is_leaf_empty.ensures.refused
 
 pub returns-clause-reads : goal.returns-clause-reads
-returns-clause-reads g c = reads_one (IsKeptFor c.args.tree.now.caches) c.args.tree.now c.is_leaf_empty.new.self c.args.roots.now.roots (c.args.dir, c.args.frag) c.holder_of-rank.result c.holder_of-rank.ensures.rules c.is_leaf_empty.ensures.reads
+returns-clause-reads g c = reads_one (IsKeptFor c.args.tree.now.caches) c.args.tree.now c.is_leaf_empty.new.self (held_in c.args.regions.now) (c.args.dir, c.args.frag) c.holder_of-rank.result c.holder_of-rank.ensures.rules c.is_leaf_empty.ensures.reads

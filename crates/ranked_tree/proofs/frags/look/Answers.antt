@@ -15,6 +15,7 @@ use Rattle.inode_table.specs.Dirs.{leaves_of}
 use Rattle.mdcache.specs.Core.{state_of}
 use Rattle.mdcache.specs.Shown.{shown_tree}
 use Rattle.mdcache.proofs.CoreLaws.{reads_keeps}
+use Rattle.ranked_tree.specs.Exported.{held_in}
 use Rattle.ranked_tree.specs.Held.{ReadsDir}
 use Rattle.ranked_tree.proofs.AskLaws.{told_for}
 use Rattle.ranked_tree.proofs.HeldLaws.{may_hold, owned_read}
@@ -22,7 +23,7 @@ use Rattle.ranked_tree.proofs.ReadsForLaws.{reads_one}
 use Rattle.ranked_tree.proofs.frags.look.Goals as goal
 
 pub look-requires-clause-holds : goal.look-requires-clause-holds
-look-requires-clause-holds g c = may_hold (state_of c.args.tree.now) c.args.tree.now.caches c.args.roots.now.roots c.requires.owned.held (leaf_of c.args.at.now) c.args.at.now.rank c.requires.at.held
+look-requires-clause-holds g c = may_hold (state_of c.args.tree.now) c.args.tree.now.caches (held_in c.args.regions.now) c.requires.owned.held (leaf_of c.args.at.now) c.args.at.now.rank c.requires.at.held
 
 pub look-requires-clause-known : goal.look-requires-clause-known
 look-requires-clause-known g c = ap (is_directory (shown_tree (state_of c.args.tree.now))) c.requires.at.dir ∙ c.requires.at.stands
@@ -38,15 +39,15 @@ pub returns-clause-kept : goal.returns-clause-kept
 returns-clause-kept g c = reads_keeps (IsThat c.args.at.now.rank.0 (leaf_of c.args.at.now)) (IsKeptFor c.args.tree.now.caches) c.args.tree.now c.look.new.self c.look.ensures.reads (result_err c.look.result) c.look.ensures.counted
 
 pub returns-clause-owned : goal.returns-clause-owned
-returns-clause-owned g c = owned_read (IsKeptFor c.args.tree.now.caches) c.args.tree.now c.look.new.self c.args.roots.now.roots (leaf_of c.args.at.now) c.args.at.now.rank c.requires.at.held c.look.ensures.reads c.look.ensures.sound c.requires.owned
+returns-clause-owned g c = owned_read (IsKeptFor c.args.tree.now.caches) c.args.tree.now c.look.new.self (held_in c.args.regions.now) (leaf_of c.args.at.now) c.args.at.now.rank c.requires.at.held c.look.ensures.reads c.look.ensures.sound c.requires.owned
 
 pub returns-clause-refused : goal.returns-clause-refused
-returns-clause-refused g c = told_for _ c.look.result c.args.tree.now c.args.roots.now.roots (leaf_of c.args.at.now) c.look.new.self.faults c.args.at.now.rank c.requires.at.held c.look.ensures.refused
+returns-clause-refused g c = told_for _ c.look.result c.args.tree.now (held_in c.args.regions.now) (leaf_of c.args.at.now) c.look.new.self.faults c.args.at.now.rank c.requires.at.held c.look.ensures.refused
 
 pub returns-clause-reads : goal.returns-clause-reads
 returns-clause-reads g c =
-    subst (λ (d : Ino). ReadsDir c.args.roots.now.roots d c.args.tree.now c.look.new.self) (λ i. record { 0 = c.requires.at.dir i })
-    (reads_one (IsKeptFor c.args.tree.now.caches) c.args.tree.now c.look.new.self c.args.roots.now.roots (leaf_of c.args.at.now) c.args.at.now.rank c.requires.at.held c.look.ensures.reads)
+    subst (λ (d : Ino). ReadsDir (held_in c.args.regions.now) d c.args.tree.now c.look.new.self) (λ i. record { 0 = c.requires.at.dir i })
+    (reads_one (IsKeptFor c.args.tree.now.caches) c.args.tree.now c.look.new.self (held_in c.args.regions.now) (leaf_of c.args.at.now) c.args.at.now.rank c.requires.at.held c.look.ensures.reads)
 
 pub returns-clause-newest : goal.returns-clause-newest
 returns-clause-newest g c = on_ok_weaker c.look.result (λ newest. (c.args.at.now.rank, c.requires.at.held, newest)) c.look.ensures.newest

@@ -6,6 +6,7 @@ use Rattle.cached_frag.specs.Rows.{Row}
 use Rattle.mdcache.specs.Frags.{KeepsState}
 use Rattle.mdcache.specs.Pages.{IsPageOf, gathered}
 use Rattle.mdcache.specs.Shown.{names_of}
+use Rattle.ranked_tree.specs.Exported.{held_in}
 use Rattle.ranked_tree.proofs.WalkLaws.{AreWithin}
 use Rattle.ranked_tree.specs.Held.{IsOwned, ReadsDir}
 use Rattle.dentry_cache.specs.CacheMap.{unclean}
@@ -14,8 +15,8 @@ use Rattle.ranked_tree.proofs.listing.gather_leaves.Given as goal
 abbrev pub invariant-loop-leaf : goal.invariant-loop-leaf
 invariant-loop-leaf g l = record {
   kept : KeepsState l.fn.tree l.tree None;
-  reads : ReadsDir l.roots.roots l.dir l.fn.tree l.tree;
-  owned : IsOwned l.tree l.roots.roots;
+  reads : ReadsDir (held_in l.regions) l.dir l.fn.tree l.tree;
+  owned : IsOwned l.tree (held_in l.regions);
   within : AreWithin l.leaf-iterator l.leaves;
   most : l.page.most ≡ l.fn.page.most;
   page : (whole : List Row) → IsPageOf whole l.fn.page

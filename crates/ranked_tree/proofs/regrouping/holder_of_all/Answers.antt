@@ -2,6 +2,7 @@ use Rattle.std.proofs.Common.{ℕ, Option, None, subst}
 use Rattle.mds_types.specs.Frag.{Fragment}
 use Rattle.fragtree.specs.FragTree.{HasLeaf}
 use Rattle.inode_table.specs.Dirs.{Covers, leaves_of}
+use Rattle.ranked_tree.specs.Exported.{held_in}
 use Rattle.ranked_tree.specs.Subtrees.{IsInsideAt}
 use Rattle.ranked_tree.proofs.HeldRegroups.{all_as_one, may_hold_all, none_before}
 use Rattle.ranked_tree.proofs.InsideLaws.{is_within}
@@ -18,7 +19,7 @@ unreachable-requires g c =
 pub returns-clause-all : goal.returns-clause-all
 returns-clause-all g c =
     let told = subst (λ (o : Option Fragment). IsInsideAt (leaves_of c.dirs.result.now.trees c.args.dir.0) c.args.frag c.value.result o) c.in-Some.is c.leaf_inside.ensures in
-    all_as_one (state_of c.args.tree.now) c.args.roots.now.roots c.args.dir c.args.frag c.holder_of.result (c.args.dir, c.in-Some.leaf) c.requires.owned.sound.sound c.requires.owned.valid c.requires.one (is_within c.args.dir c.args.frag c.in-Some.leaf told.1)
+    all_as_one (state_of c.args.tree.now) (held_in c.args.regions.now) c.args.dir c.args.frag c.holder_of.result (c.args.dir, c.in-Some.leaf) c.requires.owned.sound.sound c.requires.owned.valid c.requires.one (is_within c.args.dir c.args.frag c.in-Some.leaf told.1)
     (record { known = c.requires.known; stands = subst (λ (cs : Covers). HasLeaf (leaves_of cs c.args.dir.0) c.in-Some.leaf) c.dirs.ensures.trees told.0 }) c.holder_of.ensures.rules
 
 pub returns-clause-inside : goal.returns-clause-inside
@@ -30,4 +31,4 @@ returns-clause-inside g c =
     )
 
 pub returns-clause-holds : goal.returns-clause-holds
-returns-clause-holds g c = may_hold_all c.args.tree.now c.args.roots.now.roots c.args.dir c.args.frag c.holder_of.result c.requires.known c.requires.owned (returns-clause-all g c)
+returns-clause-holds g c = may_hold_all c.args.tree.now (held_in c.args.regions.now) c.args.dir c.args.frag c.holder_of.result c.requires.known c.requires.owned (returns-clause-all g c)

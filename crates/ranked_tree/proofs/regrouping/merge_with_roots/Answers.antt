@@ -1,91 +1,98 @@
-use Rattle.std.proofs.Common.{Err, refl, sym, subst, arith}
+use Rattle.std.specs.Prelude.{◌+◌, ◌^◌, Err}
+use Rattle.std.proofs.Common.{ap, refl, sym, subst, arith, ◌∙◌}
+use Rattle.fragtree.specs.FragTree.{CanMerge, RefusesMerge}
+use Rattle.dentry_cache.specs.Came.Came.{stays}
+use Rattle.export_steps.specs.Holder.{holding}
+use Rattle.inode_table.specs.Dirs.{leaves_of}
 use Rattle.subtree_map.specs.Authority.{Roots}
 use Rattle.subtree_map.specs.Changes.{HaveOneAuthority, IsRootMerge}
+use Rattle.mdcache.specs.Core.{state_of}
 use Rattle.mdcache.specs.SplitsAndMerges.{MergesLeaves}
-use Rattle.dentry_cache.specs.Came.Came.{stays}
+use Rattle.mdcache.proofs.CountLaws.{regroup_free}
+use Rattle.ranked_tree.specs.Exported.{held_in}
 use Rattle.ranked_tree.specs.Held.{CameAt, IsMergedHere, IsOwned, LacksPlacesInside}
 use Rattle.ranked_tree.specs.Subtrees.{AllHave}
-use Rattle.ranked_tree.proofs.HeldRegroups.{merge_held, unmerged_held}
-use Rattle.ranked_tree.proofs.SubtreeLaws.{takes_over, merge_soundly, undone_soundly}
-use Rattle.fragtree.specs.FragTree.{CanMerge, RefusesMerge}
-use Rattle.inode_table.specs.Dirs.{leaves_of}
-use Rattle.mdcache.proofs.CountLaws.{regroup_free}
-use Rattle.mdcache.specs.Core.{state_of}
+use Rattle.ranked_tree.proofs.DividedLaws.{merge_keeps_roots, merge_owned, merge_stands, one_holds}
+use Rattle.ranked_tree.proofs.HeldRegroups.{regroup_on, unmerged_held}
+use Rattle.ranked_tree.proofs.Kept.{keeps_same}
+use Rattle.ranked_tree.proofs.StandLaws.{stand_undone}
+use Rattle.ranked_tree.proofs.SubtreeLaws.{takes_over}
 use Rattle.ranked_tree.proofs.regrouping.merge_with_roots.Goals as goal
 
 pub returns-in-Err-clause-merged : goal.returns-in-Err-clause-merged
-returns-in-Err-clause-merged g c = (c.in-Err.ensures.refused, (refl, λ r leaf kept. kept))
-
-pub returns-in-Err-clause-authority : goal.returns-in-Err-clause-authority
-returns-in-Err-clause-authority g c = (undone_soundly (state_of c.args.tree.now) (state_of c.args.tree.now) c.args.roots.now.roots c.reserve_merge.new.roots.roots c.requires.owned.sound.sound c.requires.owned.valid refl c.reserve_merge.ensures.same).keeps
-
-pub returns-in-Err-clause-ranks : goal.returns-in-Err-clause-ranks
-returns-in-Err-clause-ranks g c = (undone_soundly (state_of c.args.tree.now) (state_of c.args.tree.now) c.args.roots.now.roots c.reserve_merge.new.roots.roots c.requires.owned.sound.sound c.requires.owned.valid refl c.reserve_merge.ensures.same).ranks
-
-pub returns-in-Err-merge_held-clause-merged : goal.returns-in-Err-merge_held-clause-merged
-returns-in-Err-merge_held-clause-merged g c =
-    subst (λ (r : Roots). MergesLeaves (LacksPlacesInside 1 c.args.tree.now r c.args.dir c.args.frag) c.args.tree.now c.merge_held.new.tree c.args.dir c.args.frag (Err c.in-Err-merge_held.refusal))
-    c.reserve_merge.ensures.same c.in-Err-merge_held.ensures.merged
-
-pub returns-in-Err-merge_held-clause-authority : goal.returns-in-Err-merge_held-clause-authority
-returns-in-Err-merge_held-clause-authority g c =
-    (undone_soundly (state_of c.args.tree.now) (state_of c.merge_held.new.tree) c.args.roots.now.roots c.reserve_merge.new.roots.roots c.requires.owned.sound.sound c.requires.owned.valid c.in-Err-merge_held.ensures.merged.1.0 c.reserve_merge.ensures.same).keeps
-
-pub returns-in-Err-merge_held-clause-ranks : goal.returns-in-Err-merge_held-clause-ranks
-returns-in-Err-merge_held-clause-ranks g c =
-    (undone_soundly (state_of c.args.tree.now) (state_of c.merge_held.new.tree) c.args.roots.now.roots c.reserve_merge.new.roots.roots c.requires.owned.sound.sound c.requires.owned.valid c.in-Err-merge_held.ensures.merged.1.0 c.reserve_merge.ensures.same).ranks
-
-pub returns-clause-roots : goal.returns-clause-roots
-returns-clause-roots g c = subst (λ (r : Roots). IsRootMerge r c.merge_roots.new.self.roots c.args.dir.0 c.args.frag) c.reserve_merge.ensures.same c.merge_roots.ensures.roots
-
-pub returns-clause-authority : goal.returns-clause-authority
-returns-clause-authority g c =
-    (merge_soundly (state_of c.args.tree.now) (state_of c.merge_held.new.tree) c.args.roots.now.roots c.merge_roots.new.self.roots c.requires.owned.sound.sound c.requires.owned.valid c.args.dir c.args.frag c.in_default-merge_held.ensures.merged.0 (returns-clause-roots g c) c.requires.one).keeps
-
-pub returns-clause-one : goal.returns-clause-one
-returns-clause-one g c =
-    takes_over (state_of c.args.tree.now) (state_of c.merge_held.new.tree) c.args.roots.now.roots c.merge_roots.new.self.roots c.requires.owned.sound.sound c.requires.owned.valid c.args.dir c.args.frag c.in_default-merge_held.ensures.merged.0 (returns-clause-roots g c) c.requires.one
-
-pub returns-clause-ranks : goal.returns-clause-ranks
-returns-clause-ranks g c =
-    (merge_soundly (state_of c.args.tree.now) (state_of c.merge_held.new.tree) c.args.roots.now.roots c.merge_roots.new.self.roots c.requires.owned.sound.sound c.requires.owned.valid c.args.dir c.args.frag c.in_default-merge_held.ensures.merged.0 (returns-clause-roots g c) c.requires.one).ranks
-
-pub merge_held-requires-clause-one : goal.merge_held-requires-clause-one
-merge_held-requires-clause-one g c = subst (λ (r : Roots). HaveOneAuthority r c.args.tree.now.homes c.args.tree.now.covers c.args.dir.0 c.args.frag) (sym c.reserve_merge.ensures.same) c.requires.one
+returns-in-Err-clause-merged g c = (
+  regroup_on (CanMerge (leaves_of c.args.tree.now.covers c.args.dir.0) c.args.frag) (RefusesMerge (leaves_of c.args.tree.now.covers c.args.dir.0) c.args.frag) (state_of c.args.tree.now) c.args.dir 1 ⊥ (LacksPlacesInside 1 c.args.tree.now (held_in c.args.regions.now) c.args.dir c.args.frag) c.args.tree.now.faults c.args.tree.now.faults c.in-Err.refusal (λ never. absurd never) c.in-Err.ensures.refused,
+  (refl, λ r leaf kept. kept),
+)
 
 pub returns-in-Err-clause-counted : goal.returns-in-Err-clause-counted
 returns-in-Err-clause-counted g c =
-    let leaves = leaves_of c.args.tree.now.covers c.args.dir.0 in
-    omega (
-      arith,
-      regroup_free (CanMerge leaves c.args.frag) (RefusesMerge leaves c.args.frag) (λ never. never) (state_of c.args.tree.now) c.args.dir 1
-          (LacksPlacesInside 1 c.args.tree.now c.args.roots.now.roots c.args.dir c.args.frag) c.args.tree.now.faults c.in-Err.refusal c.in-Err.ensures.refused,
-    )
-
-pub returns-in-Err-clause-owned : goal.returns-in-Err-clause-owned
-returns-in-Err-clause-owned g c = subst (IsOwned c.args.tree.now) (sym c.reserve_merge.ensures.same) c.requires.owned
-
-pub returns-in-Err-merge_held-clause-owned : goal.returns-in-Err-merge_held-clause-owned
-returns-in-Err-merge_held-clause-owned g c = record {
-  sound = c.in-Err-merge_held.ensures.sound;
-  valid = (undone_soundly (state_of c.args.tree.now) (state_of c.merge_held.new.tree) c.args.roots.now.roots c.reserve_merge.new.roots.roots c.requires.owned.sound.sound c.requires.owned.valid c.in-Err-merge_held.ensures.merged.1.0 c.reserve_merge.ensures.same).valid;
-  held = unmerged_held c.args.tree.now c.merge_held.new.tree c.args.roots.now.roots c.reserve_merge.new.roots.roots c.requires.owned c.in-Err-merge_held.ensures.count c.in-Err-merge_held.ensures.sound c.args.dir c.args.frag c.in_default.ensures.known c.in_default.ensures.can
-      (subst (λ (r : Roots). CameAt (AllHave c.args.tree.now.homes c.args.tree.now.covers r c.args.dir c.args.frag) (IsMergedHere c.args.tree.now.covers c.args.dir c.args.frag) c.args.tree.now.caches c.merge_held.new.tree.caches) c.reserve_merge.ensures.same c.in-Err-merge_held.ensures.came) c.in-Err-merge_held.ensures.merged.1.0 c.reserve_merge.ensures.same;
-}
-
-pub returns-clause-owned : goal.returns-clause-owned
-returns-clause-owned g c = record {
-  sound = c.in_default-merge_held.ensures.sound;
-  valid = (merge_soundly (state_of c.args.tree.now) (state_of c.merge_held.new.tree) c.args.roots.now.roots c.merge_roots.new.self.roots c.requires.owned.sound.sound c.requires.owned.valid c.args.dir c.args.frag c.in_default-merge_held.ensures.merged.0 (returns-clause-roots g c) c.requires.one).valid;
-  held = merge_held c.args.tree.now c.merge_held.new.tree c.args.roots.now.roots c.merge_roots.new.self.roots c.requires.owned c.in_default-merge_held.ensures.count c.in_default-merge_held.ensures.sound c.args.dir c.args.frag c.in_default.ensures.known c.in_default.ensures.can
-      (subst (λ (r : Roots). CameAt (AllHave c.args.tree.now.homes c.args.tree.now.covers r c.args.dir c.args.frag) (IsMergedHere c.args.tree.now.covers c.args.dir c.args.frag) c.args.tree.now.caches c.merge_held.new.tree.caches) c.reserve_merge.ensures.same c.in_default-merge_held.ensures.came) (returns-clause-authority g c) (returns-clause-ranks g c) (returns-clause-one g c);
-}
+    omega (arith, regroup_free (CanMerge (leaves_of c.args.tree.now.covers c.args.dir.0) c.args.frag) (RefusesMerge (leaves_of c.args.tree.now.covers c.args.dir.0) c.args.frag) (λ never. never) (state_of c.args.tree.now) c.args.dir 1 ⊥ c.args.tree.now.faults c.in-Err.refusal c.in-Err.ensures.refused)
 
 pub returns-in-Err-clause-came : goal.returns-in-Err-clause-came
 returns-in-Err-clause-came g c = stays
 
+pub returns-in-Err-clause-kept : goal.returns-in-Err-clause-kept
+returns-in-Err-clause-kept g c = keeps_same (state_of c.args.tree.now) (state_of c.args.tree.now) c.args.regions.now.roots.roots c.reserve_merge.new.roots.roots c.args.regions.now.exports c.args.regions.now.exports refl c.reserve_merge.ensures.same refl c.requires.divided.stand.valid
+
+pub returns-in-Err-clause-divided : goal.returns-in-Err-clause-divided
+returns-in-Err-clause-divided g c = record {
+  owned = subst (IsOwned c.args.tree.now) (sym (ap (λ (r : Roots). holding c.args.regions.now.exports r) c.reserve_merge.ensures.same)) c.requires.divided.owned;
+  stand = stand_undone c.args.tree.now c.args.tree.now c.args.regions.now.roots c.reserve_merge.new.roots c.args.regions.now.exports c.requires.divided.stand refl refl c.reserve_merge.ensures.same c.reserve_merge.ensures.promises;
+}
+
+pub merge_held-requires-clause-owned : goal.merge_held-requires-clause-owned
+merge_held-requires-clause-owned g c = subst (IsOwned c.args.tree.now) (sym (ap (λ (r : Roots). holding c.args.regions.now.exports r) c.reserve_merge.ensures.same)) c.requires.divided.owned
+
+pub merge_held-requires-clause-one : goal.merge_held-requires-clause-one
+merge_held-requires-clause-one g c =
+    subst (λ (r : Roots). HaveOneAuthority r c.args.tree.now.homes c.args.tree.now.covers c.args.dir.0 c.args.frag) (sym (ap (λ (r : Roots). holding c.args.regions.now.exports r) c.reserve_merge.ensures.same))
+    (one_holds c.args.regions.now.exports c.args.regions.now.roots.roots c.args.tree.now.homes c.args.tree.now.covers c.args.dir c.args.frag c.requires.thawed c.requires.one)
+
+pub returns-in-Err-merge_held-clause-merged : goal.returns-in-Err-merge_held-clause-merged
+returns-in-Err-merge_held-clause-merged g c =
+    subst (λ (r : Roots). MergesLeaves (LacksPlacesInside 1 c.args.tree.now r c.args.dir c.args.frag) c.args.tree.now c.merge_held.new.tree c.args.dir c.args.frag (Err c.in-Err-merge_held.refusal))
+    (ap (λ (r : Roots). holding c.args.regions.now.exports r) c.reserve_merge.ensures.same) c.in-Err-merge_held.ensures.merged
+
 pub returns-in-Err-merge_held-clause-came : goal.returns-in-Err-merge_held-clause-came
-returns-in-Err-merge_held-clause-came g c = subst (λ (r : Roots). CameAt (AllHave c.args.tree.now.homes c.args.tree.now.covers r c.args.dir c.args.frag) (IsMergedHere c.args.tree.now.covers c.args.dir c.args.frag) c.args.tree.now.caches c.merge_held.new.tree.caches) c.reserve_merge.ensures.same c.in-Err-merge_held.ensures.came
+returns-in-Err-merge_held-clause-came g c = subst (λ (r : Roots). CameAt (AllHave c.args.tree.now.homes c.args.tree.now.covers r c.args.dir c.args.frag) (IsMergedHere c.args.tree.now.covers c.args.dir c.args.frag) c.args.tree.now.caches c.merge_held.new.tree.caches) (ap (λ (r : Roots). holding c.args.regions.now.exports r) c.reserve_merge.ensures.same) c.in-Err-merge_held.ensures.came
+
+pub returns-in-Err-merge_held-clause-kept : goal.returns-in-Err-merge_held-clause-kept
+returns-in-Err-merge_held-clause-kept g c =
+    keeps_same (state_of c.args.tree.now) (state_of c.merge_held.new.tree) c.args.regions.now.roots.roots c.reserve_merge.new.roots.roots c.args.regions.now.exports c.args.regions.now.exports c.in-Err-merge_held.ensures.merged.1.0 c.reserve_merge.ensures.same refl c.requires.divided.stand.valid
+
+pub returns-in-Err-merge_held-clause-divided : goal.returns-in-Err-merge_held-clause-divided
+returns-in-Err-merge_held-clause-divided g c = record {
+  owned = record {
+    sound = c.in-Err-merge_held.ensures.sound;
+    valid = rw ((ap (λ (r : Roots). holding c.args.regions.now.exports r) c.reserve_merge.ensures.same), c.in-Err-merge_held.ensures.merged.1.0) c.requires.divided.owned.valid;
+    held = unmerged_held c.args.tree.now c.merge_held.new.tree (held_in c.args.regions.now) (holding c.args.regions.now.exports c.reserve_merge.new.roots.roots) c.requires.divided.owned c.in-Err-merge_held.ensures.count c.in-Err-merge_held.ensures.sound c.args.dir c.args.frag c.in_default.ensures.known c.in_default.ensures.can
+      (returns-in-Err-merge_held-clause-came g c) c.in-Err-merge_held.ensures.merged.1.0 (ap (λ (r : Roots). holding c.args.regions.now.exports r) c.reserve_merge.ensures.same);
+  };
+  stand = stand_undone c.args.tree.now c.merge_held.new.tree c.args.regions.now.roots c.reserve_merge.new.roots c.args.regions.now.exports c.requires.divided.stand c.in-Err-merge_held.ensures.merged.1.0 c.in-Err-merge_held.ensures.count c.reserve_merge.ensures.same c.reserve_merge.ensures.promises;
+}
+
+pub returns-clause-merged : goal.returns-clause-merged
+returns-clause-merged g c = c.in_default-merge_held.ensures.merged
+
+pub returns-clause-roots : goal.returns-clause-roots
+returns-clause-roots g c = subst (λ (r : Roots). IsRootMerge r c.merge_roots.new.self.roots c.args.dir.0 c.args.frag) c.reserve_merge.ensures.same c.merge_roots.ensures.roots
+
+pub returns-clause-promises : goal.returns-clause-promises
+returns-clause-promises g c = c.merge_roots.ensures.promises ∙ c.reserve_merge.ensures.promises
 
 pub returns-clause-came : goal.returns-clause-came
-returns-clause-came g c = subst (λ (r : Roots). CameAt (AllHave c.args.tree.now.homes c.args.tree.now.covers r c.args.dir c.args.frag) (IsMergedHere c.args.tree.now.covers c.args.dir c.args.frag) c.args.tree.now.caches c.merge_held.new.tree.caches) c.reserve_merge.ensures.same c.in_default-merge_held.ensures.came
+returns-clause-came g c = subst (λ (r : Roots). CameAt (AllHave c.args.tree.now.homes c.args.tree.now.covers r c.args.dir c.args.frag) (IsMergedHere c.args.tree.now.covers c.args.dir c.args.frag) c.args.tree.now.caches c.merge_held.new.tree.caches) (ap (λ (r : Roots). holding c.args.regions.now.exports r) c.reserve_merge.ensures.same) c.in_default-merge_held.ensures.came
+
+pub returns-clause-one : goal.returns-clause-one
+returns-clause-one g c =
+    takes_over (state_of c.args.tree.now) (state_of c.merge_held.new.tree) c.args.regions.now.roots.roots c.merge_roots.new.self.roots c.requires.divided.owned.sound.sound c.requires.divided.stand.valid c.args.dir c.args.frag c.in_default-merge_held.ensures.merged.0 (returns-clause-roots g c) c.requires.one
+
+pub returns-clause-kept : goal.returns-clause-kept
+returns-clause-kept g c = merge_keeps_roots c.args.tree.now c.merge_held.new.tree c.args.regions.now.roots c.merge_roots.new.self c.args.regions.now.exports c.requires.divided.owned c.requires.divided.stand c.in_default-merge_held.ensures.sound c.in_default-merge_held.ensures.count c.args.dir c.args.frag c.in_default-merge_held.ensures.merged.0 (returns-clause-roots g c) (returns-clause-promises g c) c.requires.one c.requires.thawed c.in_default.ensures.known (returns-clause-came g c)
+
+pub returns-clause-divided : goal.returns-clause-divided
+returns-clause-divided g c = record {
+  owned = merge_owned c.args.tree.now c.merge_held.new.tree c.args.regions.now.roots c.merge_roots.new.self c.args.regions.now.exports c.requires.divided.owned c.requires.divided.stand c.in_default-merge_held.ensures.sound c.in_default-merge_held.ensures.count c.args.dir c.args.frag c.in_default-merge_held.ensures.merged.0 (returns-clause-roots g c) (returns-clause-promises g c) c.requires.one c.requires.thawed c.in_default.ensures.known (returns-clause-came g c);
+  stand = merge_stands c.args.tree.now c.merge_held.new.tree c.args.regions.now.roots c.merge_roots.new.self c.args.regions.now.exports c.requires.divided.owned c.requires.divided.stand c.in_default-merge_held.ensures.sound c.in_default-merge_held.ensures.count c.args.dir c.args.frag c.in_default-merge_held.ensures.merged.0 (returns-clause-roots g c) (returns-clause-promises g c) c.requires.one c.requires.thawed c.in_default.ensures.known (returns-clause-came g c);
+}

@@ -1,88 +1,93 @@
-use Rattle.std.proofs.Common.{◌+◌, ◌^◌, Err, refl, sym, subst, arith}
+use Rattle.std.specs.Prelude.{◌+◌, ◌^◌, Err}
+use Rattle.std.proofs.Common.{ap, refl, sym, subst, arith, ◌∙◌}
+use Rattle.fragtree.specs.FragTree.{CanSplit, RefusesSplit}
+use Rattle.dentry_cache.specs.Came.Came.{stays}
+use Rattle.export_steps.specs.Holder.{holding}
+use Rattle.inode_table.specs.Dirs.{leaves_of}
 use Rattle.subtree_map.specs.Authority.{Roots}
 use Rattle.subtree_map.specs.Changes.{IsRootSplit}
+use Rattle.mdcache.specs.Core.{state_of}
 use Rattle.mdcache.specs.SplitsAndMerges.{SplitsLeaf}
-use Rattle.dentry_cache.specs.Came.Came.{stays}
+use Rattle.mdcache.proofs.CountLaws.{regroup_free}
+use Rattle.ranked_tree.specs.Exported.{held_in}
 use Rattle.ranked_tree.specs.Held.{CameAt, IsFamilyOf, IsOwned, LacksPlacesFor}
 use Rattle.ranked_tree.specs.Subtrees.{Rules}
-use Rattle.ranked_tree.proofs.HeldRegroups.{split_held, unsplit_held}
-use Rattle.ranked_tree.proofs.SubtreeLaws.{children_have, split_soundly, undone_soundly}
-use Rattle.fragtree.specs.FragTree.{CanSplit, RefusesSplit}
-use Rattle.inode_table.specs.Dirs.{leaves_of}
-use Rattle.mdcache.proofs.CountLaws.{regroup_free}
-use Rattle.mdcache.specs.Core.{state_of}
+use Rattle.ranked_tree.proofs.DividedLaws.{split_keeps_roots, split_owned, split_stands}
+use Rattle.ranked_tree.proofs.HeldRegroups.{regroup_on, unsplit_held}
+use Rattle.ranked_tree.proofs.Kept.{keeps_same}
+use Rattle.ranked_tree.proofs.StandLaws.{stand_undone}
+use Rattle.ranked_tree.proofs.SubtreeLaws.{children_have}
 use Rattle.ranked_tree.proofs.regrouping.split_with_roots.Goals as goal
 
 pub returns-in-Err-clause-split : goal.returns-in-Err-clause-split
-returns-in-Err-clause-split g c = (c.in-Err.ensures.refused, (refl, λ r leaf kept. kept))
-
-pub returns-in-Err-clause-authority : goal.returns-in-Err-clause-authority
-returns-in-Err-clause-authority g c = (undone_soundly (state_of c.args.tree.now) (state_of c.args.tree.now) c.args.roots.now.roots c.reserve_split.new.roots.roots c.requires.owned.sound.sound c.requires.owned.valid refl c.reserve_split.ensures.same).keeps
-
-pub returns-in-Err-clause-ranks : goal.returns-in-Err-clause-ranks
-returns-in-Err-clause-ranks g c = (undone_soundly (state_of c.args.tree.now) (state_of c.args.tree.now) c.args.roots.now.roots c.reserve_split.new.roots.roots c.requires.owned.sound.sound c.requires.owned.valid refl c.reserve_split.ensures.same).ranks
-
-pub returns-in-Err-split_held-clause-split : goal.returns-in-Err-split_held-clause-split
-returns-in-Err-split_held-clause-split g c =
-    subst (λ (r : Roots). SplitsLeaf (LacksPlacesFor (2 ^ c.args.bits + 1) c.args.tree.now r (c.args.dir, c.args.frag)) c.args.tree.now c.split_held.new.tree c.args.dir c.args.frag c.args.bits (Err c.in-Err-split_held.refusal))
-    c.reserve_split.ensures.same c.in-Err-split_held.ensures.split
-
-pub returns-in-Err-split_held-clause-authority : goal.returns-in-Err-split_held-clause-authority
-returns-in-Err-split_held-clause-authority g c =
-    (undone_soundly (state_of c.args.tree.now) (state_of c.split_held.new.tree) c.args.roots.now.roots c.reserve_split.new.roots.roots c.requires.owned.sound.sound c.requires.owned.valid c.in-Err-split_held.ensures.split.1.0 c.reserve_split.ensures.same).keeps
-
-pub returns-in-Err-split_held-clause-ranks : goal.returns-in-Err-split_held-clause-ranks
-returns-in-Err-split_held-clause-ranks g c =
-    (undone_soundly (state_of c.args.tree.now) (state_of c.split_held.new.tree) c.args.roots.now.roots c.reserve_split.new.roots.roots c.requires.owned.sound.sound c.requires.owned.valid c.in-Err-split_held.ensures.split.1.0 c.reserve_split.ensures.same).ranks
-
-pub returns-clause-roots : goal.returns-clause-roots
-returns-clause-roots g c = subst (λ (r : Roots). IsRootSplit r c.split_root.new.self.roots c.args.dir.0 c.args.frag c.args.bits) c.reserve_split.ensures.same c.split_root.ensures.roots
-
-pub returns-clause-authority : goal.returns-clause-authority
-returns-clause-authority g c =
-    (split_soundly (state_of c.args.tree.now) (state_of c.split_held.new.tree) c.args.roots.now.roots c.split_root.new.self.roots c.requires.owned.sound.sound c.requires.owned.valid c.args.dir c.args.frag c.args.bits c.in_default-split_held.ensures.split.0 (returns-clause-roots g c)).keeps
-
-pub returns-clause-children : goal.returns-clause-children
-returns-clause-children g c =
-    children_have (state_of c.args.tree.now) (state_of c.split_held.new.tree) c.args.roots.now.roots c.split_root.new.self.roots c.requires.owned.sound.sound c.requires.owned.valid c.args.dir c.args.frag c.args.bits c.in_default-split_held.ensures.split.0 (returns-clause-roots g c)
-
-pub returns-clause-ranks : goal.returns-clause-ranks
-returns-clause-ranks g c =
-    (split_soundly (state_of c.args.tree.now) (state_of c.split_held.new.tree) c.args.roots.now.roots c.split_root.new.self.roots c.requires.owned.sound.sound c.requires.owned.valid c.args.dir c.args.frag c.args.bits c.in_default-split_held.ensures.split.0 (returns-clause-roots g c)).ranks
+returns-in-Err-clause-split g c = (
+  regroup_on (CanSplit (leaves_of c.args.tree.now.covers c.args.dir.0) c.args.frag c.args.bits) (RefusesSplit (leaves_of c.args.tree.now.covers c.args.dir.0) c.args.frag c.args.bits) (state_of c.args.tree.now) c.args.dir (2 ^ c.args.bits) ⊥ (LacksPlacesFor (2 ^ c.args.bits + 1) c.args.tree.now (held_in c.args.regions.now) (c.args.dir, c.args.frag)) c.args.tree.now.faults c.args.tree.now.faults c.in-Err.refusal (λ never. absurd never) c.in-Err.ensures.refused,
+  (refl, λ r leaf kept. kept),
+)
 
 pub returns-in-Err-clause-counted : goal.returns-in-Err-clause-counted
 returns-in-Err-clause-counted g c =
-    let leaves = leaves_of c.args.tree.now.covers c.args.dir.0 in
-    omega (
-      arith,
-      regroup_free (CanSplit leaves c.args.frag c.args.bits) (RefusesSplit leaves c.args.frag c.args.bits) (λ never. never) (state_of c.args.tree.now) c.args.dir (2 ^ c.args.bits)
-          (LacksPlacesFor (2 ^ c.args.bits + 1) c.args.tree.now c.args.roots.now.roots (c.args.dir, c.args.frag)) c.args.tree.now.faults c.in-Err.refusal c.in-Err.ensures.refused,
-    )
-
-pub returns-in-Err-clause-owned : goal.returns-in-Err-clause-owned
-returns-in-Err-clause-owned g c = subst (IsOwned c.args.tree.now) (sym c.reserve_split.ensures.same) c.requires.owned
-
-pub returns-in-Err-split_held-clause-owned : goal.returns-in-Err-split_held-clause-owned
-returns-in-Err-split_held-clause-owned g c = record {
-  sound = c.in-Err-split_held.ensures.sound;
-  valid = (undone_soundly (state_of c.args.tree.now) (state_of c.split_held.new.tree) c.args.roots.now.roots c.reserve_split.new.roots.roots c.requires.owned.sound.sound c.requires.owned.valid c.in-Err-split_held.ensures.split.1.0 c.reserve_split.ensures.same).valid;
-  held = unsplit_held c.args.tree.now c.split_held.new.tree c.args.roots.now.roots c.reserve_split.new.roots.roots c.requires.owned c.in-Err-split_held.ensures.count c.in-Err-split_held.ensures.sound c.args.dir c.args.frag c.args.bits c.in_default.ensures.live
-      (subst (λ (r : Roots). CameAt (Rules (state_of c.args.tree.now) r (c.args.dir, c.args.frag)) (IsFamilyOf c.args.dir c.args.frag c.args.bits) c.args.tree.now.caches c.split_held.new.tree.caches) c.reserve_split.ensures.same c.in-Err-split_held.ensures.came) c.in-Err-split_held.ensures.split.1.0 c.reserve_split.ensures.same c.in_default.ensures.fits;
-}
-
-pub returns-clause-owned : goal.returns-clause-owned
-returns-clause-owned g c = record {
-  sound = c.in_default-split_held.ensures.sound;
-  valid = (split_soundly (state_of c.args.tree.now) (state_of c.split_held.new.tree) c.args.roots.now.roots c.split_root.new.self.roots c.requires.owned.sound.sound c.requires.owned.valid c.args.dir c.args.frag c.args.bits c.in_default-split_held.ensures.split.0 (returns-clause-roots g c)).valid;
-  held = split_held c.args.tree.now c.split_held.new.tree c.args.roots.now.roots c.split_root.new.self.roots c.requires.owned c.in_default-split_held.ensures.count c.in_default-split_held.ensures.sound c.args.dir c.args.frag c.args.bits c.in_default.ensures.live
-      (subst (λ (r : Roots). CameAt (Rules (state_of c.args.tree.now) r (c.args.dir, c.args.frag)) (IsFamilyOf c.args.dir c.args.frag c.args.bits) c.args.tree.now.caches c.split_held.new.tree.caches) c.reserve_split.ensures.same c.in_default-split_held.ensures.came) (returns-clause-authority g c) (returns-clause-ranks g c) (returns-clause-children g c);
-}
+    omega (arith, regroup_free (CanSplit (leaves_of c.args.tree.now.covers c.args.dir.0) c.args.frag c.args.bits) (RefusesSplit (leaves_of c.args.tree.now.covers c.args.dir.0) c.args.frag c.args.bits) (λ never. never) (state_of c.args.tree.now) c.args.dir (2 ^ c.args.bits) ⊥ c.args.tree.now.faults c.in-Err.refusal c.in-Err.ensures.refused)
 
 pub returns-in-Err-clause-came : goal.returns-in-Err-clause-came
 returns-in-Err-clause-came g c = stays
 
+pub returns-in-Err-clause-kept : goal.returns-in-Err-clause-kept
+returns-in-Err-clause-kept g c = keeps_same (state_of c.args.tree.now) (state_of c.args.tree.now) c.args.regions.now.roots.roots c.reserve_split.new.roots.roots c.args.regions.now.exports c.args.regions.now.exports refl c.reserve_split.ensures.same refl c.requires.divided.stand.valid
+
+pub returns-in-Err-clause-divided : goal.returns-in-Err-clause-divided
+returns-in-Err-clause-divided g c = record {
+  owned = subst (IsOwned c.args.tree.now) (sym (ap (λ (r : Roots). holding c.args.regions.now.exports r) c.reserve_split.ensures.same)) c.requires.divided.owned;
+  stand = stand_undone c.args.tree.now c.args.tree.now c.args.regions.now.roots c.reserve_split.new.roots c.args.regions.now.exports c.requires.divided.stand refl refl c.reserve_split.ensures.same c.reserve_split.ensures.promises;
+}
+
+pub split_held-requires-clause-owned : goal.split_held-requires-clause-owned
+split_held-requires-clause-owned g c = subst (IsOwned c.args.tree.now) (sym (ap (λ (r : Roots). holding c.args.regions.now.exports r) c.reserve_split.ensures.same)) c.requires.divided.owned
+
+pub returns-in-Err-split_held-clause-split : goal.returns-in-Err-split_held-clause-split
+returns-in-Err-split_held-clause-split g c =
+    subst (λ (r : Roots). SplitsLeaf (LacksPlacesFor (2 ^ c.args.bits + 1) c.args.tree.now r (c.args.dir, c.args.frag)) c.args.tree.now c.split_held.new.tree c.args.dir c.args.frag c.args.bits (Err c.in-Err-split_held.refusal))
+    (ap (λ (r : Roots). holding c.args.regions.now.exports r) c.reserve_split.ensures.same) c.in-Err-split_held.ensures.split
+
 pub returns-in-Err-split_held-clause-came : goal.returns-in-Err-split_held-clause-came
-returns-in-Err-split_held-clause-came g c = subst (λ (r : Roots). CameAt (Rules (state_of c.args.tree.now) r (c.args.dir, c.args.frag)) (IsFamilyOf c.args.dir c.args.frag c.args.bits) c.args.tree.now.caches c.split_held.new.tree.caches) c.reserve_split.ensures.same c.in-Err-split_held.ensures.came
+returns-in-Err-split_held-clause-came g c = subst (λ (r : Roots). CameAt (Rules (state_of c.args.tree.now) r (c.args.dir, c.args.frag)) (IsFamilyOf c.args.dir c.args.frag c.args.bits) c.args.tree.now.caches c.split_held.new.tree.caches) (ap (λ (r : Roots). holding c.args.regions.now.exports r) c.reserve_split.ensures.same) c.in-Err-split_held.ensures.came
+
+pub returns-in-Err-split_held-clause-kept : goal.returns-in-Err-split_held-clause-kept
+returns-in-Err-split_held-clause-kept g c =
+    keeps_same (state_of c.args.tree.now) (state_of c.split_held.new.tree) c.args.regions.now.roots.roots c.reserve_split.new.roots.roots c.args.regions.now.exports c.args.regions.now.exports c.in-Err-split_held.ensures.split.1.0 c.reserve_split.ensures.same refl c.requires.divided.stand.valid
+
+pub returns-in-Err-split_held-clause-divided : goal.returns-in-Err-split_held-clause-divided
+returns-in-Err-split_held-clause-divided g c = record {
+  owned = record {
+    sound = c.in-Err-split_held.ensures.sound;
+    valid = rw ((ap (λ (r : Roots). holding c.args.regions.now.exports r) c.reserve_split.ensures.same), c.in-Err-split_held.ensures.split.1.0) c.requires.divided.owned.valid;
+    held = unsplit_held c.args.tree.now c.split_held.new.tree (held_in c.args.regions.now) (holding c.args.regions.now.exports c.reserve_split.new.roots.roots) c.requires.divided.owned c.in-Err-split_held.ensures.count c.in-Err-split_held.ensures.sound c.args.dir c.args.frag c.args.bits c.in_default.ensures.live
+      (returns-in-Err-split_held-clause-came g c) c.in-Err-split_held.ensures.split.1.0 (ap (λ (r : Roots). holding c.args.regions.now.exports r) c.reserve_split.ensures.same) c.in_default.ensures.fits;
+  };
+  stand = stand_undone c.args.tree.now c.split_held.new.tree c.args.regions.now.roots c.reserve_split.new.roots c.args.regions.now.exports c.requires.divided.stand c.in-Err-split_held.ensures.split.1.0 c.in-Err-split_held.ensures.count c.reserve_split.ensures.same c.reserve_split.ensures.promises;
+}
+
+pub returns-clause-split : goal.returns-clause-split
+returns-clause-split g c = c.in_default-split_held.ensures.split
+
+pub returns-clause-roots : goal.returns-clause-roots
+returns-clause-roots g c = subst (λ (r : Roots). IsRootSplit r c.split_root.new.self.roots c.args.dir.0 c.args.frag c.args.bits) c.reserve_split.ensures.same c.split_root.ensures.roots
+
+pub returns-clause-promises : goal.returns-clause-promises
+returns-clause-promises g c = c.split_root.ensures.promises ∙ c.reserve_split.ensures.promises
 
 pub returns-clause-came : goal.returns-clause-came
-returns-clause-came g c = subst (λ (r : Roots). CameAt (Rules (state_of c.args.tree.now) r (c.args.dir, c.args.frag)) (IsFamilyOf c.args.dir c.args.frag c.args.bits) c.args.tree.now.caches c.split_held.new.tree.caches) c.reserve_split.ensures.same c.in_default-split_held.ensures.came
+returns-clause-came g c = subst (λ (r : Roots). CameAt (Rules (state_of c.args.tree.now) r (c.args.dir, c.args.frag)) (IsFamilyOf c.args.dir c.args.frag c.args.bits) c.args.tree.now.caches c.split_held.new.tree.caches) (ap (λ (r : Roots). holding c.args.regions.now.exports r) c.reserve_split.ensures.same) c.in_default-split_held.ensures.came
+
+pub returns-clause-children : goal.returns-clause-children
+returns-clause-children g c =
+    children_have (state_of c.args.tree.now) (state_of c.split_held.new.tree) c.args.regions.now.roots.roots c.split_root.new.self.roots c.requires.divided.owned.sound.sound c.requires.divided.stand.valid c.args.dir c.args.frag c.args.bits c.in_default-split_held.ensures.split.0 (returns-clause-roots g c)
+
+pub returns-clause-kept : goal.returns-clause-kept
+returns-clause-kept g c = split_keeps_roots c.args.tree.now c.split_held.new.tree c.args.regions.now.roots c.split_root.new.self c.args.regions.now.exports c.requires.divided.owned c.requires.divided.stand c.in_default-split_held.ensures.sound c.in_default-split_held.ensures.count c.args.dir c.args.frag c.args.bits c.in_default-split_held.ensures.split.0 (returns-clause-roots g c) (returns-clause-promises g c) c.requires.thawed c.in_default.ensures.live (returns-clause-came g c)
+
+pub returns-clause-divided : goal.returns-clause-divided
+returns-clause-divided g c = record {
+  owned = split_owned c.args.tree.now c.split_held.new.tree c.args.regions.now.roots c.split_root.new.self c.args.regions.now.exports c.requires.divided.owned c.requires.divided.stand c.in_default-split_held.ensures.sound c.in_default-split_held.ensures.count c.args.dir c.args.frag c.args.bits c.in_default-split_held.ensures.split.0 (returns-clause-roots g c) (returns-clause-promises g c) c.requires.thawed c.in_default.ensures.live (returns-clause-came g c);
+  stand = split_stands c.args.tree.now c.split_held.new.tree c.args.regions.now.roots c.split_root.new.self c.args.regions.now.exports c.requires.divided.owned c.requires.divided.stand c.in_default-split_held.ensures.sound c.in_default-split_held.ensures.count c.args.dir c.args.frag c.args.bits c.in_default-split_held.ensures.split.0 (returns-clause-roots g c) (returns-clause-promises g c) c.requires.thawed c.in_default.ensures.live (returns-clause-came g c);
+}

@@ -4,4 +4,4 @@ pub returns-clause-roots : goal.returns-clause-roots
 returns-clause-roots g c = rw (← c.self.view_is) c.change_tree.ensures.roots
 
 pub returns-clause-kept : goal.returns-clause-kept
-returns-clause-kept g c = rw (← c.self.view_is) (record { authorities = c.change_tree.ensures.authority; ranks = c.change_tree.ensures.ranks; valid = c.change_tree.ensures.owned.valid })
+returns-clause-kept g c = rw (← c.self.view_is) c.change_tree.ensures.kept

@@ -1,10 +1,16 @@
 use Rattle.std.proofs.Common.{ap}
-use Rattle.mdcache.specs.Core.{Core}
+use Rattle.mdcache.specs.Core.{Core, state_of}
+use Rattle.mdcache.specs.State.{State}
+use Rattle.ranked_tree.specs.Exported.{held_in}
+use Rattle.ranked_tree.proofs.StandLaws.{divided_still, same_jobs}
 use Rattle.ranked_tree.proofs.EvictLaws.{evict_keeps, evict_owned}
 use Rattle.ranked_tree.proofs.ranked_tree.RankedTree.evict.Goals as goal
 
 pub invariant_of-self : goal.invariant_of-self
-invariant_of-self g c = evict_owned c.self.inside.tree c.evict.new.self c.args.rank.0 c.evict.result c.evict.ensures.evicted c.evict.ensures.left c.evict.ensures.state c.self.inside.roots.roots c.evict.ensures.sound c.self.invariant
+invariant_of-self g c =
+    divided_still c.self.inside.tree c.evict.new.self c.self.inside.regions c.self.invariant
+    (evict_owned c.self.inside.tree c.evict.new.self c.args.rank.0 c.evict.result c.evict.ensures.evicted c.evict.ensures.left c.evict.ensures.state (held_in c.self.inside.regions) c.evict.ensures.sound c.self.invariant.owned)
+    (evict_keeps c.self.inside.tree c.evict.new.self c.args.rank.0 c.evict.result c.evict.ensures.evicted c.evict.ensures.left c.evict.ensures.state c.evict.ensures.refused (ap (λ (k : Core). k.faults) c.evict.ensures.beside)).count (same_jobs (state_of c.self.inside.tree) (state_of c.evict.new.self) (ap (λ (s : State). s.jobs) c.evict.ensures.state)) (ap (λ (s : State). s.homes) c.evict.ensures.state) (ap (λ (s : State). s.covers) c.evict.ensures.state)
 
 pub returns-clause-evicted : goal.returns-clause-evicted
 returns-clause-evicted g c = rw (← c.self.view_is) c.evict.ensures.evicted

@@ -1,15 +1,25 @@
+use Rattle.std.proofs.Common.{None, ap, sym, ◌∙◌}
+use Rattle.std.specs.FinMap as map
+use Rattle.std.specs.FinMap.{get-empty}
 use Rattle.dentry_cache.specs.Came.{NoneEnds}
+use Rattle.dentry_cache.proofs.FrameLaws.{came_ranks}
+use Rattle.mds_types.specs.Leaf.{leaf_cmp}
 use Rattle.mdcache.specs.Flushed.{HasFragment}
-use Rattle.ranked_tree.proofs.HeldLaws.{owned_came}
+use Rattle.mdcache.specs.StandingJobs.{Jobs}
+use Rattle.ranked_tree.specs.Exported.{held_in}
 use Rattle.ranked_tree.proofs.FlushedLaws.{holds_what_it_has}
+use Rattle.ranked_tree.proofs.HeldLaws.{owned_came}
+use Rattle.ranked_tree.proofs.StandLaws.{divided_still, no_jobs}
 use Rattle.ranked_tree.proofs.ranked_tree.RankedTree.flush.Goals as goal
 
 pub invariant_of-self : goal.invariant_of-self
 invariant_of-self g c =
     let done = c.flush-done in
     let kept = done.ensures.tree in
-    owned_came (HasFragment c.self.inside.tree.caches) NoneEnds c.self.inside.tree done.new.self c.self.inside.roots.roots kept.caches done.ensures.sound kept.homes kept.covers
-    (holds_what_it_has c.self.inside.tree c.self.inside.roots.roots c.self.invariant) c.self.invariant
+    divided_still c.self.inside.tree done.new.self c.self.inside.regions c.self.invariant
+    (owned_came (HasFragment c.self.inside.tree.caches) NoneEnds c.self.inside.tree done.new.self (held_in c.self.inside.regions) kept.caches done.ensures.sound kept.homes kept.covers
+    (holds_what_it_has c.self.inside.tree (held_in c.self.inside.regions) c.self.invariant.owned) c.self.invariant.owned)
+    (came_ranks (HasFragment c.self.inside.tree.caches) NoneEnds c.self.inside.tree.caches done.new.self.caches kept.caches) (no_jobs c.self.inside.tree done.new.self done.ensures.jobs) kept.homes kept.covers
 
 pub returns-clause-owned : goal.returns-clause-owned
-returns-clause-owned g c = invariant_of-self g c
+returns-clause-owned g c = (invariant_of-self g c).owned

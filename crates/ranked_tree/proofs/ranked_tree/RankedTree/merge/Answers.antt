@@ -1,13 +1,17 @@
 use Rattle.std.proofs.Common.{sym, subst}
 use Rattle.subtree_map.specs.Changes.{HaveOneAuthority}
+use Rattle.ranked_tree.specs.Exported.{AreThawed}
 use Rattle.ranked_tree.specs.Ranked.{Ranked}
 use Rattle.ranked_tree.proofs.ranked_tree.RankedTree.merge.Goals as goal
 
 pub merge_with_roots-requires-clause-one : goal.merge_with_roots-requires-clause-one
 merge_with_roots-requires-clause-one g c = subst (λ (r : Ranked). HaveOneAuthority r.subtrees.roots r.tree.homes r.tree.covers c.args.dir.0 c.args.frag) (sym c.self.view_is) c.requires.one
 
+pub merge_with_roots-requires-clause-thawed : goal.merge_with_roots-requires-clause-thawed
+merge_with_roots-requires-clause-thawed g c = subst (λ (r : Ranked). AreThawed r.exports r.subtrees.roots r.tree.homes r.tree.covers c.args.dir c.args.frag) (sym c.self.view_is) c.requires.thawed
+
 pub returns-clause-one : goal.returns-clause-one
 returns-clause-one g c = rw (← c.self.view_is) c.merge_with_roots.ensures.one
 
 pub returns-clause-kept : goal.returns-clause-kept
-returns-clause-kept g c = rw (← c.self.view_is) (record { authorities = c.merge_with_roots.ensures.authority; ranks = c.merge_with_roots.ensures.ranks; valid = c.merge_with_roots.ensures.owned.valid })
+returns-clause-kept g c = rw (← c.self.view_is) c.merge_with_roots.ensures.kept

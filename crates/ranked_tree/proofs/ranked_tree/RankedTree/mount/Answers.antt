@@ -1,13 +1,17 @@
 -- The roots are those of the tree that was found.
-use Rattle.std.proofs.Common.{subst}
+use Rattle.std.proofs.Common.{ap, subst, sym}
+use Rattle.subtree_map.specs.Changes.{Subtrees}
 use Rattle.sorted_map.specs.SortedMap.{contents}
 use Rattle.mds_types.specs.Tree.{dentry_cmp}
 use Rattle.inode_table.specs.Dirs.{Covers}
 use Rattle.ranked_tree.specs.Mounted.{AreTopRoots}
+use Rattle.ranked_tree.specs.Held.{IsOwned}
+use Rattle.ranked_tree.proofs.StandLaws.{stand_none}
 use Rattle.ranked_tree.proofs.MountedRoots.{mounted_owned}
 use Rattle.ranked_tree.proofs.ranked_tree.RankedTree.mount.Goals as goal
 
 pub invariant_of-result : goal.invariant_of-result
 invariant_of-result g c =
     let top = subst (λ (cs : Covers). AreTopRoots cs c.in-Ok-top_roots.roots.roots) c.dirs.ensures.trees c.in-Ok-top_roots.ensures in
-    mounted_owned _ c.args.ranks c.args.places c.requires.some (contents dentry_cmp c.in-Ok.opening.entries) c.in-Ok.tree c.in-Ok-top_roots.roots.roots c.in-Ok.ensures.sound top c.in-Ok.ensures.mounted
+    stand_none c.in-Ok.tree c.new-regions.result c.new-regions.ensures.exports (subst (IsOwned c.in-Ok.tree) (ap (λ (s : Subtrees). s.roots) (sym c.new-regions.ensures.roots))
+    (mounted_owned _ c.args.ranks c.args.places c.requires.some (contents dentry_cmp c.in-Ok.opening.entries) c.in-Ok.tree c.in-Ok-top_roots.roots.roots c.in-Ok.ensures.sound top c.in-Ok.ensures.mounted))

@@ -1,5 +1,10 @@
 use Rattle.mdcache.specs.Core.{state_of}
 use Rattle.mdcache.specs.PurgeList.{first_name}
+use Rattle.std.specs.Prelude.{length}
+use Rattle.std.proofs.Common.{ap}
+use Rattle.dentry_cache.specs.CacheMap.{CacheMap}
+use Rattle.ranked_tree.specs.Exported.{held_in}
+use Rattle.ranked_tree.proofs.StandLaws.{divided_still, same_jobs}
 use Rattle.ranked_tree.proofs.HeldLaws.{owned_same}
 use Rattle.ranked_tree.proofs.Stays.{purged}
 use Rattle.ranked_tree.proofs.ranked_tree.RankedTree.purge.Goals as goal
@@ -7,4 +12,6 @@ use Rattle.ranked_tree.proofs.ranked_tree.RankedTree.purge.Goals as goal
 pub invariant_of-self : goal.invariant_of-self
 invariant_of-self g c =
     let stay = purged (state_of c.self.inside.tree) (state_of c.purge.new.self) c.self.inside.tree.faults c.purge.new.self.faults (first_name c.self.inside.tree.purge) c.purge.result c.purge.ensures.purged in
-    owned_same c.self.inside.tree c.purge.new.self c.self.inside.roots.roots stay.0 stay.1 c.purge.ensures.caches c.purge.ensures.sound c.self.invariant
+    divided_still c.self.inside.tree c.purge.new.self c.self.inside.regions c.self.invariant
+    (owned_same c.self.inside.tree c.purge.new.self (held_in c.self.inside.regions) stay.0 stay.1 c.purge.ensures.caches c.purge.ensures.sound c.self.invariant.owned)
+    (ap (λ (k : CacheMap). length k.used) c.purge.ensures.caches) (same_jobs (state_of c.self.inside.tree) (state_of c.purge.new.self) stay.2) stay.0 stay.1

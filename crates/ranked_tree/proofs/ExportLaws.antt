@@ -1,0 +1,213 @@
+-- What a change of the tree leaves of frozen regions, where it changes no frozen leaf: each of their leaves.
+use Rattle.std.proofs.Common.{◌≡◌, ◌↔◌, ℕ, zero, suc, arith, Bool, true, false, MatchBool, List, [], ◌∷◌, Option, Some, None, refl, sym, ap, subst, ◌∙◌, map as each}
+use Rattle.std.specs.Prelude.{IfSome}
+use Rattle.std.specs.List.{Contains}
+use Rattle.std.specs.FinMap as map
+use Rattle.mds_types.specs.declared.ids.Ino.{Ino}
+use Rattle.mds_types.specs.declared.inodes.Inode.{Inode}
+use Rattle.mds_types.specs.Frag.{Fragment}
+use Rattle.mds_types.specs.Leaf.{leaf_of}
+use Rattle.mds_types.specs.Tree.{is_dir_kind}
+use Rattle.fragtree.specs.FragTree.{HasLeaf}
+use Rattle.inode_table.specs.declared.dirs.Home.{Home}
+use Rattle.inode_table.specs.Dirs.{Covers, Homes, IsLive, MayGo, MayMove, leaves_of}
+use Rattle.inode_table.specs.TreeTable.{home_at, with_home}
+use Rattle.inode_table.proofs.TableLaws.{home_of, may_come, with_dir, with_file}
+use Rattle.namespace_ops.specs.Changes.{MayChange, adds, dentry_at, fragments_of, in_directory, leaves, leaves_gone, moves}
+use Rattle.namespace_ops.specs.declared.plans.Change.{Change}
+use Rattle.namespace_ops.specs.declared.plans.Spot.{Spot}
+use Rattle.namespace_ops.proofs.Members.{first, later}
+use Rattle.namespace_ops.proofs.Shapes.{Shape, shape_of}
+use Rattle.namespace_ops.proofs.Shapes.Shape.{add, move, remove, set}
+use Rattle.subtree_map.specs.Authority.{HoldsDentry, IsInRegion, Leaf, Roots}
+use Rattle.subtree_map.specs.Changes.{Subtrees}
+use Rattle.subtree_map.specs.Moves.{IsSettled}
+use Rattle.subtree_map.proofs.Nearest.{one_holder}
+use Rattle.subtree_map.proofs.Options.{one_value}
+use Rattle.export_steps.specs.Holder.{IsFrozen}
+use Rattle.export_steps.specs.Standing.{ArePlaced, Standing}
+use Rattle.export_steps.specs.Regions.{AreFrozenRegionsKept, StandsOver}
+use Rattle.export_steps.proofs.Elsewhere.{after_making, after_move, after_removal}
+use Rattle.export_steps.proofs.Holding.{keep_frozen}
+use Rattle.mdcache.specs.Changes.{Makes}
+use Rattle.mdcache.specs.Going.{rows_but}
+use Rattle.mdcache.specs.Shown.{shown_tree}
+use Rattle.mdcache.specs.Sound.{IsSound}
+use Rattle.mdcache.specs.State.{State as TreeState}
+use Rattle.mdcache.proofs.HomeLaws.{moved_home, moved_known}
+use Rattle.ranked_tree.specs.Subtrees.{AreRoots, FollowChange, LoseDirectory, SettleMove}
+use Rattle.ranked_tree.proofs.ChangedTables.{added_tables, grown_tables, moved_tables, removed_tables, set_tables}
+use Rattle.ranked_tree.proofs.MoveLaws.{relocates, replaces}
+use Rattle.ranked_tree.proofs.SubtreeLaws.{moves as rehomes, removable}
+
+-- a live leaf of a directory is among all of them
+among : (d : ℕ) (fs : List Fragment) (f : Fragment) → HasLeaf fs f → Contains (each (in_directory d) fs) (in_directory d f)
+among d [] f (k, within, is) = absurd (omega (arith, within))
+among d (g ∷ fs) f (zero, within, is) = subst (λ (x : Fragment). Contains (each (in_directory d) (g ∷ fs)) (in_directory d x)) is (first (in_directory d g) (each (in_directory d) fs))
+among d (g ∷ fs) f (suc k, within, is) = later (in_directory d g) (in_directory d f) (each (in_directory d) fs) (among d fs f (k, omega (arith, within), is))
+
+among_gone : (covers : Covers) (dir : Ino) (leaf : Leaf) → leaf.0.0 ≡ dir.0 → HasLeaf (leaves_of covers leaf.0.0) leaf.1 → Contains (leaves_gone covers (Some dir)) leaf
+among_gone covers dir leaf at has =
+    let here : ◌≡◌ {A = Leaf} (in_directory dir.0 leaf.1) leaf = λ i. (record { 0 = sym at i }, leaf.1) in
+    subst (λ (l : Leaf). Contains (leaves covers dir.0) l) here (among dir.0 (leaves_of covers dir.0) leaf.1 (subst (λ (d : ℕ). HasLeaf (leaves_of covers d) leaf.1) at has))
+
+module _ (standing : Standing) where
+  abbrev Kept : Subtrees → Subtrees → Homes → Homes → Covers → Covers → Type 0
+  Kept was now homes later covers later_covers = AreFrozenRegionsKept standing was now homes later covers later_covers
+
+  -- nothing changed
+  pub still : (was now : Subtrees) (homes : Homes) (covers : Covers) → now.roots ≡ was.roots → now.promises ≡ was.promises → ArePlaced standing was → Kept was now homes homes covers covers
+  still was now homes covers roots promises placed = record {
+    regions = λ root export stands freezing leaf. subst (λ (r : Roots). IsInRegion was.roots homes covers root leaf ↔ IsInRegion r homes covers root leaf) (sym roots) (λ its. its, λ its. its);
+    placed = record {
+      ranked = λ root export stands freezing. ap (λ (r : Roots). map.get r root) roots ∙ placed.ranked root export stands freezing;
+      promised = λ root export stands freezing. ap (λ (r : Roots). map.get r root) promises ∙ placed.promised root export stands freezing;
+    };
+  }
+
+  -- one step after another
+  both : (a b c : Subtrees) (homes middle last : Homes) (covers between end : Covers) → Kept a b homes middle covers between → Kept b c middle last between end → Kept a c homes last covers end
+  both a b c homes middle last covers between end one two = record {
+    regions = λ root export stands freezing leaf. (
+      λ its. (two.regions root export stands freezing leaf).0 ((one.regions root export stands freezing leaf).0 its),
+      λ its. (one.regions root export stands freezing leaf).1 ((two.regions root export stands freezing leaf).1 its),
+    );
+    placed = two.placed;
+  }
+
+  at_tables : (was now : Subtrees) (homes later there : Homes) (covers later_covers under : Covers) → later ≡ there → later_covers ≡ under → Kept was now homes there covers under → Kept was now homes later covers later_covers
+  at_tables was now homes later there covers later_covers under same alike kept =
+      subst (λ (h : Homes). Kept was now homes h covers later_covers) (sym same) (subst (λ (c : Covers). Kept was now homes there covers c) (sym alike) kept)
+
+  -- a directory goes, or none does
+  loses : (was now : Subtrees) (homes : Homes) (covers : Covers) (went : Option Ino) → StandsOver standing was homes covers → IfSome went (λ (dir : Ino). MayGo homes dir.0)
+      → ((leaf : Leaf) → IsLive homes covers leaf → Contains (leaves_gone covers went) leaf → IsFrozen standing was.roots homes covers leaf → ⊥)
+      → LoseDirectory was.roots now.roots went → LoseDirectory was.promises now.promises went → Kept was now homes (rows_but homes went) covers (rows_but covers went)
+  loses was now homes covers None over may thawed roots promises = still was now homes covers roots promises over.placed
+  loses was now homes covers (Some dir) over may thawed roots promises =
+      after_removal standing was now homes (map.remove homes dir.0) covers (map.remove covers dir.0) over (record {
+        dir = dir.0;
+        below = may.other;
+        childless = may.childless;
+        thawed = λ leaf at live frozen. thawed leaf live (among_gone covers dir leaf at live.stands) frozen;
+        home_gone = refl;
+        leaves_gone = refl;
+        roots = roots;
+        promises = promises;
+      })
+
+  module _ (old new : TreeState) (was now : Subtrees) (sound : IsSound old) (valid : AreRoots old was.roots) (placed : ArePlaced standing was) where
+    over : StandsOver standing was old.homes old.covers
+    over = record { table = sound.table; valid = valid; placed = placed }
+
+    abbrev pub IsThawed : Change → Type 0
+    IsThawed change = (leaf : Leaf) → Contains (fragments_of old.covers change) leaf → IsFrozen standing was.roots old.homes old.covers leaf → ⊥
+
+    abbrev AllKept : Type 0
+    AllKept = Kept was now old.homes new.homes old.covers new.covers
+
+    -- a rename: what moves has its home there, and what it replaces goes
+    module _ (from to : Spot) (inode : Inode) (went : Option Ino) (may : MayChange (shown_tree old) old.covers (moves from to inode went)) (makes : Makes (moves from to inode went) old new)
+        (follow : FollowChange (moves from to inode went) old was.roots now.roots) (promises : LoseDirectory was.promises now.promises went) (thawed : IsThawed (moves from to inode went)) where
+      abbrev mid : Subtrees
+      mid = record { roots = follow.0; promises = was.promises; room = 0 }
+
+      abbrev moved : Homes
+      moved = with_home old.homes (dentry_at to) inode
+
+      abbrev source : Leaf
+      source = leaf_of from.at
+
+      abbrev target : Leaf
+      target = leaf_of to.at
+
+      settles_may : is_dir_kind inode.kind ≡ true → MayMove old.homes inode.ino.0 (home_at (dentry_at to))
+      settles_may = relocates old sound from to inode went may
+
+      settles : SettleMove old was.roots follow.0 (dentry_at to) inode
+      settles = follow.1
+
+      at_source : (holder : Leaf) → HoldsDentry old.covers (home_at (dentry_at from)) holder → IsFrozen standing was.roots old.homes old.covers holder → ⊥
+      at_source holder holds frozen =
+          thawed source (first source (target ∷ leaves_gone old.covers went))
+          (subst (λ (l : Leaf). IsFrozen standing was.roots old.homes old.covers l) (one_holder old.covers (home_at (dentry_at from)) holder source holds (record { parent = refl; pick = may.carries.taken })) frozen)
+
+      at_target : (holder : Leaf) → HoldsDentry old.covers (home_at (dentry_at to)) holder → IsFrozen standing was.roots old.homes old.covers holder → ⊥
+      at_target holder holds frozen =
+          thawed target (later source target (target ∷ leaves_gone old.covers went) (first target (leaves_gone old.covers went)))
+          (subst (λ (l : Leaf). IsFrozen standing was.roots old.homes old.covers l) (one_holder old.covers (home_at (dentry_at to)) holder target holds (record { parent = refl; pick = may.carries.put })) frozen)
+
+      moving : (b : Bool) → is_dir_kind inode.kind ≡ b → MatchBool b (IsSettled was.roots follow.0 old.homes old.covers inode.ino.0 (home_at (dentry_at to))) (follow.0 ≡ was.roots) → Kept was mid old.homes moved old.covers old.covers
+      moving true kinded its = after_move standing was mid old.homes moved old.covers over (record {
+        dir = inode.ino.0;
+        home = home_at (dentry_at to);
+        may = settles_may kinded;
+        from_thawed = λ home holder stands holds.
+            let there = home_of (shown_tree old) old.homes sound.tabled (dentry_at from) inode inode.ino.0 may.takes.stands refl kinded in
+            at_source holder (subst (λ (h : Home). HoldsDentry old.covers h holder) (one_value _ home (home_at (dentry_at from)) stands there) holds);
+        to_thawed = at_target;
+        changed = with_dir old.homes (dentry_at to) inode kinded;
+        roots = its;
+        promises = refl;
+      })
+      moving false kinded same = at_tables was mid old.homes moved old.homes old.covers old.covers old.covers (with_file old.homes (dentry_at to) inode kinded) refl (still was mid old.homes old.covers same refl placed)
+
+      one : Kept was mid old.homes moved old.covers old.covers
+      one = moving (is_dir_kind inode.kind) refl settles
+
+      lived : (leaf : Leaf) → IsLive moved old.covers leaf → IsLive old.homes old.covers leaf
+      lived leaf live = record { known = sym (moved_known old.homes old.covers sound.table (dentry_at to) inode settles_may leaf.0.0) ∙ live.known; stands = live.stands }
+
+      two : Kept mid now moved (rows_but moved went) old.covers (rows_but old.covers went)
+      two = loses mid now moved old.covers went
+          (record { table = moved_home old.homes old.covers sound.table (dentry_at to) inode settles_may; valid = (rehomes old was.roots follow.0 (dentry_at to) inode sound valid settles_may settles).valid; placed = one.placed })
+          (replaces old sound from to inode went may)
+          (λ leaf live has frozen.
+          thawed leaf (later source leaf (target ∷ leaves_gone old.covers went) (later target leaf (leaves_gone old.covers went) has))
+          ((keep_frozen standing was mid old.homes moved old.covers old.covers one leaf (lived leaf live) live).1 frozen))
+          follow.2 promises
+
+      rename_keeps : AllKept
+      rename_keeps =
+          let tables = moved_tables old new from to inode went makes in
+          at_tables was now old.homes new.homes (rows_but moved went) old.covers new.covers (rows_but old.covers went) tables.0 tables.1
+          (both was mid now old.homes moved (rows_but moved went) old.covers old.covers (rows_but old.covers went) one two)
+
+    -- a new directory, whose dentry's leaf is thawed
+    comes : (spot : Spot) (inode : Inode) → MayChange (shown_tree old) old.covers (adds spot inode) → IsThawed (adds spot inode)
+        → Kept was was old.homes (map.insert old.homes inode.ino.0 (home_at (dentry_at spot))) old.covers old.covers
+    comes spot inode may thawed = after_making standing was old.homes (map.insert old.homes inode.ino.0 (home_at (dentry_at spot))) old.covers over (record {
+      dir = inode.ino.0;
+      home = home_at (dentry_at spot);
+      may = may_come (shown_tree old) old.homes (dentry_at spot) inode sound.tabled may.takes;
+      thawed = λ holder holds frozen.
+          thawed (leaf_of spot.at) (first (leaf_of spot.at) [])
+          (subst (λ (l : Leaf). IsFrozen standing was.roots old.homes old.covers l) (one_holder old.covers (home_at (dentry_at spot)) holder (leaf_of spot.at) holds (record { parent = refl; pick = may.carries.put })) frozen);
+      changed = refl;
+    })
+
+    by_shape : (change : Change) → Shape change → MayChange (shown_tree old) old.covers change → Makes change old new → FollowChange change old was.roots now.roots → LoseDirectory was.promises now.promises change.gone → IsThawed change → AllKept
+    by_shape _ (set spot inode) may makes follow promises thawed =
+        let tables = set_tables old new spot inode makes in
+        at_tables was now old.homes new.homes old.homes old.covers new.covers old.covers tables.0 tables.1 (still was now old.homes old.covers (follow.2 ∙ follow.1) promises placed)
+    by_shape _ (add spot inode) may makes follow promises thawed = go (is_dir_kind inode.kind) refl
+      where
+        go : (b : Bool) → is_dir_kind inode.kind ≡ b → AllKept
+        go true kinded =
+            let tables = grown_tables old new spot inode kinded makes in
+            let grown = map.insert old.homes inode.ino.0 (home_at (dentry_at spot)) in
+            let come = comes spot inode may thawed in
+            at_tables was now old.homes new.homes grown old.covers new.covers old.covers tables.0 tables.1
+            (both was was now old.homes grown grown old.covers old.covers old.covers come (still was now grown old.covers (follow.2 ∙ follow.1) promises come.placed))
+        go false kinded =
+            let tables = added_tables old new spot inode kinded makes in
+            at_tables was now old.homes new.homes old.homes old.covers new.covers old.covers tables.0 tables.1 (still was now old.homes old.covers (follow.2 ∙ follow.1) promises placed)
+    by_shape _ (remove spot went) may makes follow promises thawed =
+        let tables = removed_tables old new spot went makes in
+        at_tables was now old.homes new.homes (rows_but old.homes went) old.covers new.covers (rows_but old.covers went) tables.0 tables.1
+        (loses was now old.homes old.covers went over (removable old spot went sound may) (λ leaf live has frozen. thawed leaf (later (leaf_of spot.at) leaf (leaves_gone old.covers went) has) frozen)
+        (subst (λ (r : Roots). LoseDirectory r now.roots went) follow.1 follow.2) promises)
+    by_shape _ (move from to inode went) may makes follow promises thawed = rename_keeps from to inode went may makes follow promises thawed
+
+    pub change_keeps : (change : Change) → MayChange (shown_tree old) old.covers change → Makes change old new → FollowChange change old was.roots now.roots → LoseDirectory was.promises now.promises change.gone → IsThawed change → AllKept
+    change_keeps change may makes follow promises thawed = by_shape change (shape_of (shown_tree old) old.covers change may) may makes follow promises thawed
