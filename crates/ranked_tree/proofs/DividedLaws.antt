@@ -36,7 +36,7 @@ use Rattle.ranked_tree.proofs.HeldChanges.{change_held}
 use Rattle.ranked_tree.proofs.HeldLaws.{HaveCaches}
 use Rattle.ranked_tree.proofs.HeldRegroups.{merge_held, split_held}
 use Rattle.ranked_tree.proofs.RootLaws.{IsSoundChange}
-use Rattle.ranked_tree.proofs.StandLaws.{FewerJobs, change_jobs, held_bound, jobs_without, keeps_held, stand_kept, thawed_held, thawed_rules}
+use Rattle.ranked_tree.proofs.StandLaws.{FewerJobs, change_jobs, family_held, held_bound, jobs_without, keeps_held, merged_held, stand_kept, thawed_held, thawed_rules}
 use Rattle.ranked_tree.proofs.SubtreeLaws.{changes_soundly, children_have, merge_soundly, split_soundly, takes_over}
 
 -- where a directory comes the roots stay
@@ -98,7 +98,7 @@ module _ (old new : Core) (was now : Subtrees) (exports : Standing) (owned : IsO
   -- a split of a leaf
   module _ (dir : Ino) (frag : Fragment) (nb : ℕ) (split : IsSplitInto (state_of old) (state_of new) dir frag nb) (roots : IsRootSplit was.roots now.roots dir.0 frag nb) (promises : now.promises ≡ was.promises)
       (thawed : IsFrozen exports was.roots old.homes old.covers (dir, frag) → ⊥) (live : IsLive old.homes old.covers (dir, frag))
-      (came : CameAt (Rules (state_of old) (holding exports was.roots) (dir, frag)) (IsFamilyOf dir frag nb) old.caches new.caches) where
+      (came : CameAt (Rules (state_of old) was.roots (dir, frag)) (IsFamilyOf dir frag nb) old.caches new.caches) where
     covers_split : new.covers ≡ map.insert old.covers dir.0 split.cover
     covers_split = ap (λ (s : TreeState). s.covers) split.regrouped.left
 
@@ -151,13 +151,13 @@ module _ (old new : Core) (was now : Subtrees) (exports : Standing) (owned : IsO
     split_owned = record {
       sound = later;
       valid = (valid_so exports now.roots new.homes new.covers).0 splits.valid;
-      held = split_held old new (holding exports was.roots) (holding exports now.roots) owned count later dir frag nb live came split_keeps_roots.holders (have split_jobs divided splits) gives;
+      held = split_held old new (holding exports was.roots) (holding exports now.roots) owned count later dir frag nb live (family_held exports was.roots old dir frag nb new.caches thawed came) split_keeps_roots.holders (have split_jobs divided splits) gives;
     }
 
   -- a merge of leaves of one authority
   module _ (dir : Ino) (frag : Fragment) (merge : IsMergedInto (state_of old) (state_of new) dir frag) (roots : IsRootMerge was.roots now.roots dir.0 frag) (promises : now.promises ≡ was.promises)
       (one : HaveOneAuthority was.roots old.homes old.covers dir.0 frag) (thawed : AreThawed exports was.roots old.homes old.covers dir frag) (known : is_known old.homes dir.0 ≡ true)
-      (came : CameAt (AllHave old.homes old.covers (holding exports was.roots) dir frag) (IsMergedHere old.covers dir frag) old.caches new.caches) where
+      (came : CameAt (AllHave old.homes old.covers was.roots dir frag) (IsMergedHere old.covers dir frag) old.caches new.caches) where
     covers_merged : new.covers ≡ map.insert old.covers dir.0 merge.cover
     covers_merged = ap (λ (s : TreeState). s.covers) merge.regrouped.left
 
@@ -208,10 +208,5 @@ module _ (old new : Core) (was now : Subtrees) (exports : Standing) (owned : IsO
     merge_owned = record {
       sound = later;
       valid = (valid_so exports now.roots new.homes new.covers).0 merges.valid;
-      held = merge_held old new (holding exports was.roots) (holding exports now.roots) owned count later dir frag known merge.can came merge_keeps_roots.holders (have merge_jobs joined merges) takes;
+      held = merge_held old new (holding exports was.roots) (holding exports now.roots) owned count later dir frag known merge.can (merged_held exports was.roots old dir frag new.caches thawed came) merge_keeps_roots.holders (have merge_jobs joined merges) takes;
     }
-
--- the leaves inside a fragment have one holder, where they have one authority and none is frozen
-pub one_holds : (exports : Standing) (roots : Roots) (homes : Homes) (covers : Covers) (dir : Ino) (frag : Fragment) → AreThawed exports roots homes covers dir frag → HaveOneAuthority roots homes covers dir.0 frag → HaveOneAuthority (holding exports roots) homes covers dir.0 frag
-one_holds exports roots homes covers dir frag thawed one a b r s in_a in_b live_a live_b has_a has_b =
-    one a b r s in_a in_b live_a live_b (thawed_rules exports roots homes covers a r (thawed a in_a live_a) has_a) (thawed_rules exports roots homes covers b s (thawed b in_b live_b) has_b)

@@ -9,12 +9,14 @@ use Rattle.mds_types.specs.declared.ids.Ino.{Ino}
 use Rattle.mds_types.specs.declared.ids.Rank.{Rank}
 use Rattle.mds_types.specs.declared.inodes.Inode.{Inode}
 use Rattle.mds_types.specs.declared.refusals.Refusal.{Refusal}
+use Rattle.mds_types.specs.Frag.{Fragment}
 use Rattle.mds_types.specs.Tree.{is_dir_kind}
 use Rattle.cached_frag.specs.declared.jobs.Job.{Job}
 use Rattle.mds_types.specs.Leaf.{leaf_cmp}
 use Rattle.mds_types.proofs.LeafLaws.{get_beside, get_left, get_removed, leaf-exact, leaf-total, same_or_apart}
 use Rattle.dentry_cache.specs.Cache.{Unsaved, leaf_is}
-use Rattle.dentry_cache.specs.CacheMap.{unclean}
+use Rattle.dentry_cache.specs.CacheMap.{CacheMap, unclean}
+use Rattle.dentry_cache.proofs.FrameLaws.{came_weaker}
 use Rattle.export_steps.specs.declared.exports.StandingExport.{StandingExport}
 use Rattle.export_steps.specs.Holder.{HasHolder, IsFrozen, holder_or, holding, is_imported, region_holder}
 use Rattle.export_steps.specs.Regions.{AreFrozenRegionsKept}
@@ -26,7 +28,7 @@ use Rattle.namespace_ops.proofs.Shapes.{Shape, shape_of}
 use Rattle.namespace_ops.proofs.Shapes.Shape.{add, move, remove, set}
 use Rattle.namespace_ops.specs.declared.plans.Change.{Change}
 use Rattle.subtree_map.specs.Authority.{HasAuthority, Leaf, Roots}
-use Rattle.subtree_map.specs.Changes.{Subtrees}
+use Rattle.subtree_map.specs.Changes.{HaveOneAuthority, Subtrees}
 use Rattle.mdcache.specs.Changes.{Makes, with_directory, without, without_leaves}
 use Rattle.mdcache.specs.Commits.{Begins, BeginsWith, Drops, Ends, leaf_of}
 use Rattle.mdcache.specs.Core.{Core, state_of}
@@ -36,9 +38,9 @@ use Rattle.mdcache.specs.State.{State as TreeState}
 use Rattle.mdcache.specs.StandingJobs.{Jobs}
 use Rattle.mdcache.proofs.GoneLaws.{get_without}
 use Rattle.ranked_tree.specs.declared.regions.Regions.{Regions}
-use Rattle.ranked_tree.specs.Exported.{IsDivided, IsFrozenIn, StandSoundly, held_in}
-use Rattle.ranked_tree.specs.Held.{IsOwned}
-use Rattle.ranked_tree.specs.Subtrees.{AreRoots, KeepsAuthorities, KeepsHolders, NoNewRank}
+use Rattle.ranked_tree.specs.Exported.{AreThawed, IsDivided, IsFrozenIn, StandSoundly, held_in}
+use Rattle.ranked_tree.specs.Held.{CameAt, EndsOf, IsFamilyOf, IsMergedHere, IsOwned, UsedAt}
+use Rattle.ranked_tree.specs.Subtrees.{AllHave, AreRoots, KeepsAuthorities, KeepsHolders, NoNewRank, Rules}
 
 -- ---- jobs
 
@@ -258,3 +260,28 @@ thawed_rules exports roots homes covers leaf rank thawed has = at ((holder_is ex
             by : (b : Bool) → is_imported e.state ≡ b → cond b (Some e.importer) (map.get roots h.root) ≡ Some rank → map.get roots h.root ≡ Some rank
             by true imported its = absurd (thawed (record { root = h.root; export = e; nearest = h.nearest; stands = stands; freezing = imported_freezes e.state imported }))
             by false other its = its
+
+-- the leaves inside a fragment have one holder, where they have one authority and none is frozen
+pub one_holds : (exports : Standing) (roots : Roots) (homes : Homes) (covers : Covers) (dir : Ino) (frag : Fragment) → AreThawed exports roots homes covers dir frag → HaveOneAuthority roots homes covers dir.0 frag → HaveOneAuthority (holding exports roots) homes covers dir.0 frag
+one_holds exports roots homes covers dir frag thawed one a b r s in_a in_b live_a live_b has_a has_b =
+    one a b r s in_a in_b live_a live_b (thawed_rules exports roots homes covers a r (thawed a in_a live_a) has_a) (thawed_rules exports roots homes covers b s (thawed b in_b live_b) has_b)
+
+-- the one that holds them is the authority of each,
+pub all_rule : (exports : Standing) (roots : Roots) (homes : Homes) (covers : Covers) (dir : Ino) (frag : Fragment) (rank : Rank) → AreThawed exports roots homes covers dir frag → AllHave homes covers (holding exports roots) dir frag rank → AllHave homes covers roots dir frag rank
+all_rule exports roots homes covers dir frag rank thawed all leaf live inside = thawed_rules exports roots homes covers leaf rank (thawed leaf inside live) (all leaf live inside)
+
+-- and that holds each
+all_held : (exports : Standing) (roots : Roots) (homes : Homes) (covers : Covers) (dir : Ino) (frag : Fragment) (rank : Rank) → AreThawed exports roots homes covers dir frag → AllHave homes covers roots dir frag rank → AllHave homes covers (holding exports roots) dir frag rank
+all_held exports roots homes covers dir frag rank thawed all leaf live inside = thawed_held exports roots homes covers leaf rank (thawed leaf inside live) (all leaf live inside)
+
+-- what was used at the authority of a leaf that isn't frozen was used at the rank that holds it
+module _ (exports : Standing) (roots : Roots) (old : Core) (dir : Ino) (frag : Fragment) where
+  pub family_held : (nb : ℕ) (new : CacheMap) → (IsFrozen exports roots old.homes old.covers (dir, frag) → ⊥) → CameAt (Rules (state_of old) roots (dir, frag)) (IsFamilyOf dir frag nb) old.caches new → CameAt (Rules (state_of old) (holding exports roots) (dir, frag)) (IsFamilyOf dir frag nb) old.caches new
+  family_held nb new thawed came =
+      came_weaker (UsedAt (Rules (state_of old) roots (dir, frag)) (IsFamilyOf dir frag nb)) (EndsOf old.caches (IsFamilyOf dir frag nb)) (UsedAt (Rules (state_of old) (holding exports roots) (dir, frag)) (IsFamilyOf dir frag nb)) (EndsOf old.caches (IsFamilyOf dir frag nb))
+      (λ r q used. (thawed_held exports roots old.homes old.covers (dir, frag) (record { 0 = r }) thawed used.0, used.1)) (λ r q ends. ends) old.caches new came
+
+  pub merged_held : (new : CacheMap) → AreThawed exports roots old.homes old.covers dir frag → CameAt (AllHave old.homes old.covers roots dir frag) (IsMergedHere old.covers dir frag) old.caches new → CameAt (AllHave old.homes old.covers (holding exports roots) dir frag) (IsMergedHere old.covers dir frag) old.caches new
+  merged_held new thawed came =
+      came_weaker (UsedAt (AllHave old.homes old.covers roots dir frag) (IsMergedHere old.covers dir frag)) (EndsOf old.caches (IsMergedHere old.covers dir frag)) (UsedAt (AllHave old.homes old.covers (holding exports roots) dir frag) (IsMergedHere old.covers dir frag)) (EndsOf old.caches (IsMergedHere old.covers dir frag))
+      (λ r q used. (all_held exports roots old.homes old.covers dir frag (record { 0 = r }) thawed used.0, used.1)) (λ r q ends. ends) old.caches new came

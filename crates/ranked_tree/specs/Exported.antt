@@ -25,6 +25,10 @@ held_in regions = holding regions.exports regions.roots.roots
 abbrev pub IsFrozenIn : TreeState → Regions → Leaf → Type 0
 IsFrozenIn tree regions leaf = IsFrozen regions.exports regions.roots.roots tree.homes tree.covers leaf
 
+-- a leaf of a directory that lies properly inside a fragment is frozen
+abbrev pub IsAnyFrozen : Standing → Roots → Homes → Covers → Ino → Fragment → Type 0
+IsAnyFrozen exports roots homes covers dir frag = (leaf : Leaf) × IsLive homes covers leaf × (is_inside dir.0 frag leaf ≡ true) × IsFrozen exports roots homes covers leaf
+
 -- no leaf of a directory that lies properly inside a fragment is frozen
 abbrev pub AreThawed : Standing → Roots → Homes → Covers → Ino → Fragment → Type 0
 AreThawed exports roots homes covers dir frag = (leaf : Leaf) → is_inside dir.0 frag leaf ≡ true → IsLive homes covers leaf → IsFrozen exports roots homes covers leaf → ⊥

@@ -1,15 +1,16 @@
 //! Whose a leaf is.
 ghost use Rattle.std.specs.Prelude.{◌≡◌, ◌↔◌, false, IsTrue, MatchOption};
+ghost use Rattle.mds_types.specs.Leaf.{leaf_of};
 ghost use Rattle.inode_table.specs.Dirs.{IsLive};
 ghost use Rattle.namespace_ops.specs.Places.{Locates};
 ghost use Rattle.mdcache.specs.Core.{state_of};
 ghost use Rattle.mdcache.specs.Shown.{shown_tree};
-ghost use Rattle.ranked_tree.specs.Exported.{IsFrozenIn, held_in};
-ghost use Rattle.ranked_tree.specs.Ranked.{IsFrozenLeaf};
+ghost use Rattle.ranked_tree.specs.Exported.{IsAnyFrozen, IsFrozenIn, held_in};
+ghost use Rattle.ranked_tree.specs.Ranked.{IsFrozenLeaf, held_roots};
 ghost use Rattle.ranked_tree.specs.Held.{IsOwned};
 ghost use Rattle.ranked_tree.specs.Subtrees.{AllHave, AreRoots, HoldsAt, Rules};
 
-use crate::inside::all_have;
+use crate::inside::{all_have, some_frozen};
 use crate::ranked_tree::RankedTree;
 use crate::regions::Regions;
 use mdcache::MdCache;
@@ -37,6 +38,22 @@ impl<S: Store + Drop> RankedTree<S> {
         ensures { IsTrue result ↔ IsFrozenLeaf self.now (dir, frag) }
     {
         is_frozen(&self.tree, &self.regions, dir, frag)
+    }
+
+    /// Whether a leaf of a directory that lies properly inside a fragment is frozen. Takes no memory.
+    pub fn is_any_frozen(&self, dir: Ino, frag: Frag) -> bool
+        ensures { IsTrue result ↔ IsAnyFrozen self.now.exports self.now.subtrees.roots self.now.tree.homes self.now.tree.covers dir frag }
+    {
+        is_any_frozen(&self.tree, &self.regions, dir, frag)
+    }
+
+    /// The authority of a leaf that lies here: the rank that holds it, unless an export stands. Takes no memory.
+    pub fn authority_at(&self, at: &Dirfrag) -> Rank
+        requires live { IsLive self.now.tree.homes self.now.tree.covers (leaf_of at.now) }
+        requires held { HoldsAt (state_of self.now.tree) (held_roots self.now) at.now }
+        ensures { Rules (state_of self.now.tree) self.now.subtrees.roots (leaf_of at.now) result }
+    {
+        authority_at(&self.tree, &self.regions, at)
     }
 
     /// Whether each leaf of a directory that lies properly inside a fragment has this rank as its authority. Takes no memory.
@@ -108,6 +125,31 @@ fn is_frozen<S: Store + Drop>(tree: &MdCache<S>, regions: &Regions, dir: Ino, fr
     ensures { IsTrue result ↔ IsFrozenIn (state_of tree.now) regions.now (dir, frag) }
 {
     regions.exports.is_frozen(&regions.roots, tree.dirs(), dir, frag)
+}
+
+// Whether a leaf of a directory that lies properly inside a fragment is frozen.
+fn is_any_frozen<S: Store + Drop>(
+    tree: &MdCache<S>,
+    regions: &Regions,
+    dir: Ino,
+    frag: Frag,
+) -> bool
+    ensures { IsTrue result ↔ IsAnyFrozen regions.now.exports regions.now.roots.roots tree.now.homes tree.now.covers dir frag }
+{
+    some_frozen(tree.dirs(), regions, dir, frag)
+}
+
+// The authority of a leaf that lies here.
+fn authority_at<S: Store + Drop>(tree: &MdCache<S>, regions: &Regions, at: &Dirfrag) -> Rank
+    requires live { IsLive tree.now.homes tree.now.covers (leaf_of at.now) }
+    requires valid { AreRoots (state_of tree.now) regions.now.roots.roots }
+    requires held { HoldsAt (state_of tree.now) (held_in regions.now) at.now }
+    ensures { Rules (state_of tree.now) regions.now.roots.roots (leaf_of at.now) result }
+{
+    if regions.exports.len() == 0 {
+        return at.rank;
+    }
+    regions.roots.authority(tree.dirs(), at.dir, at.frag)
 }
 
 // Whether each leaf of a directory that lies properly inside a fragment has this rank as its authority.

@@ -32,7 +32,7 @@ use std::alloc::Global;
 impl<S: Store + Drop> Frags for RankedTree<S> {
     ghost use Rattle.std.specs.Prelude.{refl};
     ghost use Rattle.dirfrag_codec.specs.EntryRecord.{IsRankNumber};
-    ghost use Rattle.std.proofs.Common.{◌∙◌, subst, sym};
+    ghost use Rattle.std.proofs.Common.{◌∙◌, ap, subst, sym};
     ghost use Rattle.dentry_cache.specs.Reads.{Reads};
     ghost use Rattle.dentry_cache.specs.Reads.Reads.{stays};
     ghost use Rattle.dentry_cache.proofs.ReadsLaws.{reads_then};
@@ -48,7 +48,8 @@ impl<S: Store + Drop> Frags for RankedTree<S> {
     ghost use Rattle.mdcache.specs.Made.{IsUntouched};
     ghost use Rattle.mdcache.specs.Shown.{shown_tree};
     ghost use Rattle.ranked_tree.specs.Ranked.{IsFrozenLeaf, IsReady as IsRankedReady, KeepsRanked, MayRefuse, held_roots};
-    ghost use Rattle.ranked_tree.proofs.AskLaws.{held_still, thawed_still};
+    ghost use Rattle.export_steps.specs.Holder.{IsFrozen, holding};
+    ghost use Rattle.export_steps.specs.Standing.{Standing};
 
     ghost content = { λ t. shown_tree (state_of t.tree) };
 
@@ -76,15 +77,18 @@ impl<S: Store + Drop> Frags for RankedTree<S> {
       exports = q.exports ∙ p.exports;
       reads = reads_then (AsksFor (state_of a.tree) (held_roots a) (Concerns (shown_tree (state_of a.tree)) op)) AnyPlace a.tree.objects a.tree.caches b.tree.caches c.tree.caches p.reads
           (subst (λ (s : TreeState). Reads (AsksFor s (held_roots a) (Concerns (shown_tree s) op)) AnyPlace s.objects b.tree.caches c.tree.caches) p.tree.state
-          (subst (λ (r : Roots). ReadsFor r (Concerns (shown_tree (state_of b.tree)) op) b.tree c.tree) (held_still a b op None p) q.reads));
+          (subst (λ (r : Roots). ReadsFor r (Concerns (shown_tree (state_of b.tree)) op) b.tree c.tree) (ap (λ (r : Roots). holding b.exports r) p.roots ∙ ap (λ (e : Standing). holding e a.subtrees.roots) p.exports) q.reads));
     } };
 
     ghost held_on = { λ a b op told at kept. (
-      λ holds. subst (λ (r : Roots). HoldsAt (state_of b.tree) r at) (sym (held_still a b op told kept)) (subst (λ (s : TreeState). HoldsAt s (held_roots a) at) (sym kept.tree.state) holds),
-      λ holds. subst (λ (r : Roots). HoldsAt (state_of a.tree) r at) (held_still a b op told kept) (subst (λ (s : TreeState). HoldsAt s (held_roots b) at) kept.tree.state holds),
+      λ holds. subst (λ (r : Roots). HoldsAt (state_of b.tree) r at) (sym (ap (λ (r : Roots). holding b.exports r) kept.roots ∙ ap (λ (e : Standing). holding e a.subtrees.roots) kept.exports)) (subst (λ (s : TreeState). HoldsAt s (held_roots a) at) (sym kept.tree.state) holds),
+      λ holds. subst (λ (r : Roots). HoldsAt (state_of a.tree) r at) (ap (λ (r : Roots). holding b.exports r) kept.roots ∙ ap (λ (e : Standing). holding e a.subtrees.roots) kept.exports) (subst (λ (s : TreeState). HoldsAt s (held_roots b) at) kept.tree.state holds),
     ) };
 
-    ghost touch_on = { λ a b op told leaf kept may. thawed_still a b op told leaf kept may };
+    ghost touch_on = { λ a b op told leaf kept may frozen. may
+        (subst (λ (e : Standing). IsFrozen e a.subtrees.roots a.tree.homes a.tree.covers leaf) kept.exports
+        (subst (λ (r : Roots). IsFrozen b.exports r a.tree.homes a.tree.covers leaf) kept.roots
+        (subst (λ (s : TreeState). IsFrozen b.exports b.subtrees.roots s.homes s.covers leaf) kept.tree.state frozen))) };
 
     ghost follows_memory = { λ a b op p. record { tree = keeps_refused a.tree b.tree NoMemory refl p.tree; roots = p.roots; exports = p.exports; reads = p.reads } };
 
@@ -101,7 +105,7 @@ impl<S: Store + Drop> Frags for RankedTree<S> {
         (LacksPlacesAsked 2 a.tree (held_roots a) (Concerns (shown_tree (state_of a.tree)) op))
         a.tree b.tree c.tree op reason
         (λ lacks.
-        let now = subst (λ (r : Roots). LacksPlacesAsked 2 b.tree r (Concerns (shown_tree (state_of b.tree)) op)) (held_still a b op None kept) lacks in
+        let now = subst (λ (r : Roots). LacksPlacesAsked 2 b.tree r (Concerns (shown_tree (state_of b.tree)) op)) (ap (λ (r : Roots). holding b.exports r) kept.roots ∙ ap (λ (e : Standing). holding e a.subtrees.roots) kept.exports) lacks in
         let before = lacked_asked 2 (λ (s : TreeState) (d : ℕ). Concerns (shown_tree s) op d) (λ (s : TreeState) (leaf : Leaf) (rank : RankNumber). Rules s (held_roots a) leaf rank) a.tree b.tree kept.tree (now.0, now.1, now.2.0, now.2.1, now.2.2) in
         (before.0, before.1, (before.2, before.3, before.4)))
         kept.tree because };

@@ -3,8 +3,10 @@ ghost use Rattle.std.specs.Prelude.{◌≡◌, ◌↔◌, ◌≤◌, IsTrue};
 ghost use Rattle.fragtree.specs.FragTree.{lies_inside};
 ghost use Rattle.inode_table.specs.Dirs.{leaves_of};
 ghost use Rattle.subtree_map.specs.Authority.{IsSubtrees};
+ghost use Rattle.ranked_tree.specs.Exported.{IsAnyFrozen};
 ghost use Rattle.ranked_tree.specs.Subtrees.{AllHave, IsInsideAt};
 
+use crate::regions::Regions;
 use inode_table::Dirs;
 use mds_types::{Frag, Ino, Rank};
 use subtree_map::{Subtrees, end_of};
@@ -25,6 +27,23 @@ pub(crate) fn all_have(dirs: &Dirs, roots: &Subtrees, dir: Ino, frag: Frag, rank
         hash = end_of(leaf);
     }
     true
+}
+
+/// Whether a leaf inside a fragment is frozen.
+pub(crate) fn some_frozen(dirs: &Dirs, regions: &Regions, dir: Ino, frag: Frag) -> bool
+    ensures { IsTrue result ↔ IsAnyFrozen regions.now.exports regions.now.roots.roots dirs.now.homes dirs.now.trees dir frag }
+{
+    if !dirs.contains(dir) {
+        return false;
+    }
+    let mut hash = frag.value();
+    while let Some(leaf) = leaf_inside(dirs, dir, frag, hash) {
+        if regions.exports.is_frozen(&regions.roots, dirs, dir, leaf) {
+            return true;
+        }
+        hash = end_of(leaf);
+    }
+    false
 }
 
 /// The leaf properly inside a fragment that contains a hash from its first one on, if one does; otherwise each of those inside

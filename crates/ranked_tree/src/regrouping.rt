@@ -13,7 +13,7 @@ ghost use Rattle.mdcache.specs.Ranks.{MayHold};
 ghost use Rattle.mdcache.specs.SplitsAndMerges.{MayNotMerge, MayNotSplit, MergesLeaves, SplitsLeaf};
 ghost use Rattle.ranked_tree.specs.Exported.{AreThawed, IsDivided, IsFrozenIn, held_in};
 ghost use Rattle.ranked_tree.specs.Held.{CameAt, IsFamilyOf, IsMergedHere, IsOwned, LacksPlacesFor, LacksPlacesInside};
-ghost use Rattle.ranked_tree.specs.Ranked.{IsFrozenLeaf, held_roots};
+ghost use Rattle.ranked_tree.specs.Ranked.{IsFrozenLeaf};
 ghost use Rattle.ranked_tree.specs.Subtrees.{AllHave, GivesToChildren, KeepsRoots, Rules, TakesOver};
 
 use crate::holding::holder_of;
@@ -32,8 +32,8 @@ impl<S: Store + Drop> RankedTree<S> {
     /// the leaf and of its children are used, at the rank that holds it.
     pub fn split(&mut self, alloc: Global, dir: Ino, frag: Frag, bits: u8) -> Result<(), Refusal>
         requires thawed { IsFrozenLeaf self.old (dir, frag) → ⊥ }
-        ensures split { SplitsLeaf (LacksPlacesFor (2 ^ bits + 1) self.old.tree (held_roots self.old) (dir, frag)) self.old.tree self.new.tree dir frag bits result }
-        ensures came { CameAt (Rules (state_of self.old.tree) (held_roots self.old) (dir, frag)) (IsFamilyOf dir frag bits) self.old.tree.caches self.new.tree.caches }
+        ensures split { SplitsLeaf (LacksPlacesFor (2 ^ bits + 1) self.old.tree self.old.subtrees.roots (dir, frag)) self.old.tree self.new.tree dir frag bits result }
+        ensures came { CameAt (Rules (state_of self.old.tree) self.old.subtrees.roots (dir, frag)) (IsFamilyOf dir frag bits) self.old.tree.caches self.new.tree.caches }
         ensures roots { OnOk result (IsRootSplit self.old.subtrees.roots self.new.subtrees.roots dir.0 frag bits) }
         ensures left { OnErr result (self.new.subtrees.roots ≡ self.old.subtrees.roots) }
         ensures promises { self.new.subtrees.promises ≡ self.old.subtrees.promises }
@@ -52,8 +52,8 @@ impl<S: Store + Drop> RankedTree<S> {
     pub fn merge(&mut self, alloc: Global, dir: Ino, frag: Frag) -> Result<(), Refusal>
         requires one { HaveOneAuthority self.old.subtrees.roots self.old.tree.homes self.old.tree.covers dir.0 frag }
         requires thawed { AreThawed self.old.exports self.old.subtrees.roots self.old.tree.homes self.old.tree.covers dir frag }
-        ensures merged { MergesLeaves (LacksPlacesInside 1 self.old.tree (held_roots self.old) dir frag) self.old.tree self.new.tree dir frag result }
-        ensures came { CameAt (AllHave self.old.tree.homes self.old.tree.covers (held_roots self.old) dir frag) (IsMergedHere self.old.tree.covers dir frag) self.old.tree.caches self.new.tree.caches }
+        ensures merged { MergesLeaves (LacksPlacesInside 1 self.old.tree self.old.subtrees.roots dir frag) self.old.tree self.new.tree dir frag result }
+        ensures came { CameAt (AllHave self.old.tree.homes self.old.tree.covers self.old.subtrees.roots dir frag) (IsMergedHere self.old.tree.covers dir frag) self.old.tree.caches self.new.tree.caches }
         ensures roots { OnOk result (IsRootMerge self.old.subtrees.roots self.new.subtrees.roots dir.0 frag) }
         ensures left { OnErr result (self.new.subtrees.roots ≡ self.old.subtrees.roots) }
         ensures promises { self.new.subtrees.promises ≡ self.old.subtrees.promises }
@@ -79,8 +79,8 @@ fn split_with_roots<S: Store + Drop>(
 ) -> Result<(), Refusal>
     requires divided { IsDivided tree.old regions.old }
     requires thawed { IsFrozenIn (state_of tree.old) regions.old (dir, frag) → ⊥ }
-    ensures split { SplitsLeaf (LacksPlacesFor (2 ^ bits + 1) tree.old (held_in regions.old) (dir, frag)) tree.old tree.new dir frag bits result }
-    ensures came { CameAt (Rules (state_of tree.old) (held_in regions.old) (dir, frag)) (IsFamilyOf dir frag bits) tree.old.caches tree.new.caches }
+    ensures split { SplitsLeaf (LacksPlacesFor (2 ^ bits + 1) tree.old regions.old.roots.roots (dir, frag)) tree.old tree.new dir frag bits result }
+    ensures came { CameAt (Rules (state_of tree.old) regions.old.roots.roots (dir, frag)) (IsFamilyOf dir frag bits) tree.old.caches tree.new.caches }
     ensures roots { OnOk result (IsRootSplit regions.old.roots.roots regions.new.roots.roots dir.0 frag bits) }
     ensures left { OnErr result (regions.new.roots.roots ≡ regions.old.roots.roots) }
     ensures promises { regions.new.roots.promises ≡ regions.old.roots.promises }
@@ -113,8 +113,8 @@ fn merge_with_roots<S: Store + Drop>(
     requires divided { IsDivided tree.old regions.old }
     requires one { HaveOneAuthority regions.old.roots.roots tree.old.homes tree.old.covers dir.0 frag }
     requires thawed { AreThawed regions.old.exports regions.old.roots.roots tree.old.homes tree.old.covers dir frag }
-    ensures merged { MergesLeaves (LacksPlacesInside 1 tree.old (held_in regions.old) dir frag) tree.old tree.new dir frag result }
-    ensures came { CameAt (AllHave tree.old.homes tree.old.covers (held_in regions.old) dir frag) (IsMergedHere tree.old.covers dir frag) tree.old.caches tree.new.caches }
+    ensures merged { MergesLeaves (LacksPlacesInside 1 tree.old regions.old.roots.roots dir frag) tree.old tree.new dir frag result }
+    ensures came { CameAt (AllHave tree.old.homes tree.old.covers regions.old.roots.roots dir frag) (IsMergedHere tree.old.covers dir frag) tree.old.caches tree.new.caches }
     ensures roots { OnOk result (IsRootMerge regions.old.roots.roots regions.new.roots.roots dir.0 frag) }
     ensures left { OnErr result (regions.new.roots.roots ≡ regions.old.roots.roots) }
     ensures promises { regions.new.roots.promises ≡ regions.old.roots.promises }
@@ -146,11 +146,12 @@ fn split_held<S: Store + Drop>(
 ) -> Result<(), Refusal>
     requires live { IsLive tree.old.homes tree.old.covers (dir, frag) }
     requires owned { IsOwned tree.old (held_in regions.now) }
-    ensures split { SplitsLeaf (LacksPlacesFor (2 ^ bits + 1) tree.old (held_in regions.now) (dir, frag)) tree.old tree.new dir frag bits result }
+    requires thawed { IsFrozenIn (state_of tree.old) regions.now (dir, frag) → ⊥ }
+    ensures split { SplitsLeaf (LacksPlacesFor (2 ^ bits + 1) tree.old regions.now.roots.roots (dir, frag)) tree.old tree.new dir frag bits result }
     ensures count { length tree.new.caches.used ≡ length tree.old.caches.used }
     ensures cap { tree.new.caches.cap ≡ tree.old.caches.cap }
     ensures counted { tree.new.faults ≡ tree.old.faults + faults_told (result_err result) }
-    ensures came { CameAt (Rules (state_of tree.old) (held_in regions.now) (dir, frag)) (IsFamilyOf dir frag bits) tree.old.caches tree.new.caches }
+    ensures came { CameAt (Rules (state_of tree.old) regions.now.roots.roots (dir, frag)) (IsFamilyOf dir frag bits) tree.old.caches tree.new.caches }
     ensures sound { IsSoundCore tree.new }
 {
     let rank = holder_of(tree, regions, dir, frag);
@@ -167,13 +168,14 @@ fn merge_held<S: Store + Drop>(
 ) -> Result<(), Refusal>
     requires known { is_known tree.old.homes dir.0 ≡ true }
     requires can { CanMerge (leaves_of tree.old.covers dir.0) frag }
-    requires one { HaveOneAuthority (held_in regions.now) tree.old.homes tree.old.covers dir.0 frag }
+    requires one { HaveOneAuthority regions.now.roots.roots tree.old.homes tree.old.covers dir.0 frag }
     requires owned { IsOwned tree.old (held_in regions.now) }
-    ensures merged { MergesLeaves (LacksPlacesInside 1 tree.old (held_in regions.now) dir frag) tree.old tree.new dir frag result }
+    requires thawed { AreThawed regions.now.exports regions.now.roots.roots tree.old.homes tree.old.covers dir frag }
+    ensures merged { MergesLeaves (LacksPlacesInside 1 tree.old regions.now.roots.roots dir frag) tree.old tree.new dir frag result }
     ensures count { length tree.new.caches.used ≡ length tree.old.caches.used }
     ensures cap { tree.new.caches.cap ≡ tree.old.caches.cap }
     ensures counted { tree.new.faults ≡ tree.old.faults + faults_told (result_err result) }
-    ensures came { CameAt (AllHave tree.old.homes tree.old.covers (held_in regions.now) dir frag) (IsMergedHere tree.old.covers dir frag) tree.old.caches tree.new.caches }
+    ensures came { CameAt (AllHave tree.old.homes tree.old.covers regions.now.roots.roots dir frag) (IsMergedHere tree.old.covers dir frag) tree.old.caches tree.new.caches }
     ensures sound { IsSoundCore tree.new }
 {
     let rank = holder_of_all(tree, regions, dir, frag);

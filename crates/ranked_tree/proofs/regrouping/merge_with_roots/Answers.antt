@@ -9,19 +9,19 @@ use Rattle.subtree_map.specs.Changes.{HaveOneAuthority, IsRootMerge}
 use Rattle.mdcache.specs.Core.{state_of}
 use Rattle.mdcache.specs.SplitsAndMerges.{MergesLeaves}
 use Rattle.mdcache.proofs.CountLaws.{regroup_free}
-use Rattle.ranked_tree.specs.Exported.{held_in}
+use Rattle.ranked_tree.specs.Exported.{AreThawed, held_in}
 use Rattle.ranked_tree.specs.Held.{CameAt, IsMergedHere, IsOwned, LacksPlacesInside}
 use Rattle.ranked_tree.specs.Subtrees.{AllHave}
-use Rattle.ranked_tree.proofs.DividedLaws.{merge_keeps_roots, merge_owned, merge_stands, one_holds}
+use Rattle.ranked_tree.proofs.DividedLaws.{merge_keeps_roots, merge_owned, merge_stands}
 use Rattle.ranked_tree.proofs.HeldRegroups.{regroup_on, unmerged_held}
 use Rattle.ranked_tree.proofs.Kept.{keeps_same}
-use Rattle.ranked_tree.proofs.StandLaws.{stand_undone}
+use Rattle.ranked_tree.proofs.StandLaws.{merged_held, stand_undone}
 use Rattle.ranked_tree.proofs.SubtreeLaws.{takes_over}
 use Rattle.ranked_tree.proofs.regrouping.merge_with_roots.Goals as goal
 
 pub returns-in-Err-clause-merged : goal.returns-in-Err-clause-merged
 returns-in-Err-clause-merged g c = (
-  regroup_on (CanMerge (leaves_of c.args.tree.now.covers c.args.dir.0) c.args.frag) (RefusesMerge (leaves_of c.args.tree.now.covers c.args.dir.0) c.args.frag) (state_of c.args.tree.now) c.args.dir 1 ⊥ (LacksPlacesInside 1 c.args.tree.now (held_in c.args.regions.now) c.args.dir c.args.frag) c.args.tree.now.faults c.args.tree.now.faults c.in-Err.refusal (λ never. absurd never) c.in-Err.ensures.refused,
+  regroup_on (CanMerge (leaves_of c.args.tree.now.covers c.args.dir.0) c.args.frag) (RefusesMerge (leaves_of c.args.tree.now.covers c.args.dir.0) c.args.frag) (state_of c.args.tree.now) c.args.dir 1 ⊥ (LacksPlacesInside 1 c.args.tree.now c.args.regions.now.roots.roots c.args.dir c.args.frag) c.args.tree.now.faults c.args.tree.now.faults c.in-Err.refusal (λ never. absurd never) c.in-Err.ensures.refused,
   (refl, λ r leaf kept. kept),
 )
 
@@ -45,17 +45,18 @@ pub merge_held-requires-clause-owned : goal.merge_held-requires-clause-owned
 merge_held-requires-clause-owned g c = subst (IsOwned c.args.tree.now) (sym (ap (λ (r : Roots). holding c.args.regions.now.exports r) c.reserve_merge.ensures.same)) c.requires.divided.owned
 
 pub merge_held-requires-clause-one : goal.merge_held-requires-clause-one
-merge_held-requires-clause-one g c =
-    subst (λ (r : Roots). HaveOneAuthority r c.args.tree.now.homes c.args.tree.now.covers c.args.dir.0 c.args.frag) (sym (ap (λ (r : Roots). holding c.args.regions.now.exports r) c.reserve_merge.ensures.same))
-    (one_holds c.args.regions.now.exports c.args.regions.now.roots.roots c.args.tree.now.homes c.args.tree.now.covers c.args.dir c.args.frag c.requires.thawed c.requires.one)
+merge_held-requires-clause-one g c = subst (λ (r : Roots). HaveOneAuthority r c.args.tree.now.homes c.args.tree.now.covers c.args.dir.0 c.args.frag) (sym c.reserve_merge.ensures.same) c.requires.one
+
+pub merge_held-requires-clause-thawed : goal.merge_held-requires-clause-thawed
+merge_held-requires-clause-thawed g c = subst (λ (r : Roots). AreThawed c.args.regions.now.exports r c.args.tree.now.homes c.args.tree.now.covers c.args.dir c.args.frag) (sym c.reserve_merge.ensures.same) c.requires.thawed
 
 pub returns-in-Err-merge_held-clause-merged : goal.returns-in-Err-merge_held-clause-merged
 returns-in-Err-merge_held-clause-merged g c =
     subst (λ (r : Roots). MergesLeaves (LacksPlacesInside 1 c.args.tree.now r c.args.dir c.args.frag) c.args.tree.now c.merge_held.new.tree c.args.dir c.args.frag (Err c.in-Err-merge_held.refusal))
-    (ap (λ (r : Roots). holding c.args.regions.now.exports r) c.reserve_merge.ensures.same) c.in-Err-merge_held.ensures.merged
+    c.reserve_merge.ensures.same c.in-Err-merge_held.ensures.merged
 
 pub returns-in-Err-merge_held-clause-came : goal.returns-in-Err-merge_held-clause-came
-returns-in-Err-merge_held-clause-came g c = subst (λ (r : Roots). CameAt (AllHave c.args.tree.now.homes c.args.tree.now.covers r c.args.dir c.args.frag) (IsMergedHere c.args.tree.now.covers c.args.dir c.args.frag) c.args.tree.now.caches c.merge_held.new.tree.caches) (ap (λ (r : Roots). holding c.args.regions.now.exports r) c.reserve_merge.ensures.same) c.in-Err-merge_held.ensures.came
+returns-in-Err-merge_held-clause-came g c = subst (λ (r : Roots). CameAt (AllHave c.args.tree.now.homes c.args.tree.now.covers r c.args.dir c.args.frag) (IsMergedHere c.args.tree.now.covers c.args.dir c.args.frag) c.args.tree.now.caches c.merge_held.new.tree.caches) c.reserve_merge.ensures.same c.in-Err-merge_held.ensures.came
 
 pub returns-in-Err-merge_held-clause-kept : goal.returns-in-Err-merge_held-clause-kept
 returns-in-Err-merge_held-clause-kept g c =
@@ -67,7 +68,7 @@ returns-in-Err-merge_held-clause-divided g c = record {
     sound = c.in-Err-merge_held.ensures.sound;
     valid = rw ((ap (λ (r : Roots). holding c.args.regions.now.exports r) c.reserve_merge.ensures.same), c.in-Err-merge_held.ensures.merged.1.0) c.requires.divided.owned.valid;
     held = unmerged_held c.args.tree.now c.merge_held.new.tree (held_in c.args.regions.now) (holding c.args.regions.now.exports c.reserve_merge.new.roots.roots) c.requires.divided.owned c.in-Err-merge_held.ensures.count c.in-Err-merge_held.ensures.sound c.args.dir c.args.frag c.in_default.ensures.known c.in_default.ensures.can
-      (returns-in-Err-merge_held-clause-came g c) c.in-Err-merge_held.ensures.merged.1.0 (ap (λ (r : Roots). holding c.args.regions.now.exports r) c.reserve_merge.ensures.same);
+      (merged_held c.args.regions.now.exports c.args.regions.now.roots.roots c.args.tree.now c.args.dir c.args.frag c.merge_held.new.tree.caches c.requires.thawed (returns-in-Err-merge_held-clause-came g c)) c.in-Err-merge_held.ensures.merged.1.0 (ap (λ (r : Roots). holding c.args.regions.now.exports r) c.reserve_merge.ensures.same);
   };
   stand = stand_undone c.args.tree.now c.merge_held.new.tree c.args.regions.now.roots c.reserve_merge.new.roots c.args.regions.now.exports c.requires.divided.stand c.in-Err-merge_held.ensures.merged.1.0 c.in-Err-merge_held.ensures.count c.reserve_merge.ensures.same c.reserve_merge.ensures.promises;
 }
@@ -82,7 +83,7 @@ pub returns-clause-promises : goal.returns-clause-promises
 returns-clause-promises g c = c.merge_roots.ensures.promises ∙ c.reserve_merge.ensures.promises
 
 pub returns-clause-came : goal.returns-clause-came
-returns-clause-came g c = subst (λ (r : Roots). CameAt (AllHave c.args.tree.now.homes c.args.tree.now.covers r c.args.dir c.args.frag) (IsMergedHere c.args.tree.now.covers c.args.dir c.args.frag) c.args.tree.now.caches c.merge_held.new.tree.caches) (ap (λ (r : Roots). holding c.args.regions.now.exports r) c.reserve_merge.ensures.same) c.in_default-merge_held.ensures.came
+returns-clause-came g c = subst (λ (r : Roots). CameAt (AllHave c.args.tree.now.homes c.args.tree.now.covers r c.args.dir c.args.frag) (IsMergedHere c.args.tree.now.covers c.args.dir c.args.frag) c.args.tree.now.caches c.merge_held.new.tree.caches) c.reserve_merge.ensures.same c.in_default-merge_held.ensures.came
 
 pub returns-clause-one : goal.returns-clause-one
 returns-clause-one g c =

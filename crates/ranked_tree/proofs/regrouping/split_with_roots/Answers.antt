@@ -2,7 +2,7 @@ use Rattle.std.specs.Prelude.{◌+◌, ◌^◌, Err}
 use Rattle.std.proofs.Common.{ap, refl, sym, subst, arith, ◌∙◌}
 use Rattle.fragtree.specs.FragTree.{CanSplit, RefusesSplit}
 use Rattle.dentry_cache.specs.Came.Came.{stays}
-use Rattle.export_steps.specs.Holder.{holding}
+use Rattle.export_steps.specs.Holder.{IsFrozen, holding}
 use Rattle.inode_table.specs.Dirs.{leaves_of}
 use Rattle.subtree_map.specs.Authority.{Roots}
 use Rattle.subtree_map.specs.Changes.{IsRootSplit}
@@ -15,13 +15,13 @@ use Rattle.ranked_tree.specs.Subtrees.{Rules}
 use Rattle.ranked_tree.proofs.DividedLaws.{split_keeps_roots, split_owned, split_stands}
 use Rattle.ranked_tree.proofs.HeldRegroups.{regroup_on, unsplit_held}
 use Rattle.ranked_tree.proofs.Kept.{keeps_same}
-use Rattle.ranked_tree.proofs.StandLaws.{stand_undone}
+use Rattle.ranked_tree.proofs.StandLaws.{family_held, stand_undone}
 use Rattle.ranked_tree.proofs.SubtreeLaws.{children_have}
 use Rattle.ranked_tree.proofs.regrouping.split_with_roots.Goals as goal
 
 pub returns-in-Err-clause-split : goal.returns-in-Err-clause-split
 returns-in-Err-clause-split g c = (
-  regroup_on (CanSplit (leaves_of c.args.tree.now.covers c.args.dir.0) c.args.frag c.args.bits) (RefusesSplit (leaves_of c.args.tree.now.covers c.args.dir.0) c.args.frag c.args.bits) (state_of c.args.tree.now) c.args.dir (2 ^ c.args.bits) ⊥ (LacksPlacesFor (2 ^ c.args.bits + 1) c.args.tree.now (held_in c.args.regions.now) (c.args.dir, c.args.frag)) c.args.tree.now.faults c.args.tree.now.faults c.in-Err.refusal (λ never. absurd never) c.in-Err.ensures.refused,
+  regroup_on (CanSplit (leaves_of c.args.tree.now.covers c.args.dir.0) c.args.frag c.args.bits) (RefusesSplit (leaves_of c.args.tree.now.covers c.args.dir.0) c.args.frag c.args.bits) (state_of c.args.tree.now) c.args.dir (2 ^ c.args.bits) ⊥ (LacksPlacesFor (2 ^ c.args.bits + 1) c.args.tree.now c.args.regions.now.roots.roots (c.args.dir, c.args.frag)) c.args.tree.now.faults c.args.tree.now.faults c.in-Err.refusal (λ never. absurd never) c.in-Err.ensures.refused,
   (refl, λ r leaf kept. kept),
 )
 
@@ -44,13 +44,16 @@ returns-in-Err-clause-divided g c = record {
 pub split_held-requires-clause-owned : goal.split_held-requires-clause-owned
 split_held-requires-clause-owned g c = subst (IsOwned c.args.tree.now) (sym (ap (λ (r : Roots). holding c.args.regions.now.exports r) c.reserve_split.ensures.same)) c.requires.divided.owned
 
+pub split_held-requires-clause-thawed : goal.split_held-requires-clause-thawed
+split_held-requires-clause-thawed g c = subst (λ (r : Roots). IsFrozen c.args.regions.now.exports r c.args.tree.now.homes c.args.tree.now.covers (c.args.dir, c.args.frag) → ⊥) (sym c.reserve_split.ensures.same) c.requires.thawed
+
 pub returns-in-Err-split_held-clause-split : goal.returns-in-Err-split_held-clause-split
 returns-in-Err-split_held-clause-split g c =
     subst (λ (r : Roots). SplitsLeaf (LacksPlacesFor (2 ^ c.args.bits + 1) c.args.tree.now r (c.args.dir, c.args.frag)) c.args.tree.now c.split_held.new.tree c.args.dir c.args.frag c.args.bits (Err c.in-Err-split_held.refusal))
-    (ap (λ (r : Roots). holding c.args.regions.now.exports r) c.reserve_split.ensures.same) c.in-Err-split_held.ensures.split
+    c.reserve_split.ensures.same c.in-Err-split_held.ensures.split
 
 pub returns-in-Err-split_held-clause-came : goal.returns-in-Err-split_held-clause-came
-returns-in-Err-split_held-clause-came g c = subst (λ (r : Roots). CameAt (Rules (state_of c.args.tree.now) r (c.args.dir, c.args.frag)) (IsFamilyOf c.args.dir c.args.frag c.args.bits) c.args.tree.now.caches c.split_held.new.tree.caches) (ap (λ (r : Roots). holding c.args.regions.now.exports r) c.reserve_split.ensures.same) c.in-Err-split_held.ensures.came
+returns-in-Err-split_held-clause-came g c = subst (λ (r : Roots). CameAt (Rules (state_of c.args.tree.now) r (c.args.dir, c.args.frag)) (IsFamilyOf c.args.dir c.args.frag c.args.bits) c.args.tree.now.caches c.split_held.new.tree.caches) c.reserve_split.ensures.same c.in-Err-split_held.ensures.came
 
 pub returns-in-Err-split_held-clause-kept : goal.returns-in-Err-split_held-clause-kept
 returns-in-Err-split_held-clause-kept g c =
@@ -62,7 +65,7 @@ returns-in-Err-split_held-clause-divided g c = record {
     sound = c.in-Err-split_held.ensures.sound;
     valid = rw ((ap (λ (r : Roots). holding c.args.regions.now.exports r) c.reserve_split.ensures.same), c.in-Err-split_held.ensures.split.1.0) c.requires.divided.owned.valid;
     held = unsplit_held c.args.tree.now c.split_held.new.tree (held_in c.args.regions.now) (holding c.args.regions.now.exports c.reserve_split.new.roots.roots) c.requires.divided.owned c.in-Err-split_held.ensures.count c.in-Err-split_held.ensures.sound c.args.dir c.args.frag c.args.bits c.in_default.ensures.live
-      (returns-in-Err-split_held-clause-came g c) c.in-Err-split_held.ensures.split.1.0 (ap (λ (r : Roots). holding c.args.regions.now.exports r) c.reserve_split.ensures.same) c.in_default.ensures.fits;
+      (family_held c.args.regions.now.exports c.args.regions.now.roots.roots c.args.tree.now c.args.dir c.args.frag c.args.bits c.split_held.new.tree.caches c.requires.thawed (returns-in-Err-split_held-clause-came g c)) c.in-Err-split_held.ensures.split.1.0 (ap (λ (r : Roots). holding c.args.regions.now.exports r) c.reserve_split.ensures.same) c.in_default.ensures.fits;
   };
   stand = stand_undone c.args.tree.now c.split_held.new.tree c.args.regions.now.roots c.reserve_split.new.roots c.args.regions.now.exports c.requires.divided.stand c.in-Err-split_held.ensures.split.1.0 c.in-Err-split_held.ensures.count c.reserve_split.ensures.same c.reserve_split.ensures.promises;
 }
@@ -77,7 +80,7 @@ pub returns-clause-promises : goal.returns-clause-promises
 returns-clause-promises g c = c.split_root.ensures.promises ∙ c.reserve_split.ensures.promises
 
 pub returns-clause-came : goal.returns-clause-came
-returns-clause-came g c = subst (λ (r : Roots). CameAt (Rules (state_of c.args.tree.now) r (c.args.dir, c.args.frag)) (IsFamilyOf c.args.dir c.args.frag c.args.bits) c.args.tree.now.caches c.split_held.new.tree.caches) (ap (λ (r : Roots). holding c.args.regions.now.exports r) c.reserve_split.ensures.same) c.in_default-split_held.ensures.came
+returns-clause-came g c = subst (λ (r : Roots). CameAt (Rules (state_of c.args.tree.now) r (c.args.dir, c.args.frag)) (IsFamilyOf c.args.dir c.args.frag c.args.bits) c.args.tree.now.caches c.split_held.new.tree.caches) c.reserve_split.ensures.same c.in_default-split_held.ensures.came
 
 pub returns-clause-children : goal.returns-clause-children
 returns-clause-children g c =

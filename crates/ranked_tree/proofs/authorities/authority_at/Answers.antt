@@ -1,0 +1,20 @@
+use Rattle.std.proofs.Common.{subst, sym}
+use Rattle.std.specs.FinMap.{empty_of_len}
+use Rattle.inode_table.specs.Dirs.{Covers, Homes}
+use Rattle.mdcache.specs.Core.{state_of}
+use Rattle.mds_types.specs.Leaf.{leaf_of}
+use Rattle.subtree_map.specs.Authority.{HasAuthority, IsSubtrees, Roots}
+use Rattle.ranked_tree.specs.Subtrees.{Rules}
+use Rattle.ranked_tree.proofs.StandLaws.{none_stand}
+use Rattle.ranked_tree.proofs.SubtreeLaws.{over}
+use Rattle.ranked_tree.proofs.authorities.authority_at.Goals as goal
+
+pub returns : goal.returns
+returns g c =
+    over (λ (h : Homes) (cs : Covers). HasAuthority c.args.regions.now.roots.roots h cs (leaf_of c.args.at.now) c.authority.result)
+    c.args.tree.now.homes c.dirs.result.now.homes c.args.tree.now.covers c.dirs.result.now.trees (sym c.dirs.ensures.homes) (sym c.dirs.ensures.trees) c.authority.ensures
+
+pub authority-requires-clause-valid : goal.authority-requires-clause-valid
+authority-requires-clause-valid g c =
+    over (λ (h : Homes) (cs : Covers). IsSubtrees c.args.regions.now.roots.roots h cs)
+    c.dirs.result.now.homes c.args.tree.now.homes c.dirs.result.now.trees c.args.tree.now.covers c.dirs.ensures.homes c.dirs.ensures.trees c.requires.valid

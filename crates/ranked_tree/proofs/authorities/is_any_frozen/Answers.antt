@@ -1,0 +1,10 @@
+use Rattle.std.proofs.Common.{◌↔◌, IsTrue, sym}
+use Rattle.inode_table.specs.Dirs.{Covers, Homes}
+use Rattle.ranked_tree.specs.Exported.{IsAnyFrozen}
+use Rattle.ranked_tree.proofs.SubtreeLaws.{over}
+use Rattle.ranked_tree.proofs.authorities.is_any_frozen.Goals as goal
+
+pub returns : goal.returns
+returns g c =
+    over (λ (h : Homes) (cs : Covers). IsTrue c.some_frozen.result ↔ IsAnyFrozen c.args.regions.now.exports c.args.regions.now.roots.roots h cs c.args.dir c.args.frag)
+    c.args.tree.now.homes c.dirs.result.now.homes c.args.tree.now.covers c.dirs.result.now.trees (sym c.dirs.ensures.homes) (sym c.dirs.ensures.trees) c.some_frozen.ensures

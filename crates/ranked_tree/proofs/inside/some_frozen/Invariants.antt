@@ -1,0 +1,15 @@
+-- The leaves inside that begin before the hash are not frozen.
+use Rattle.std.specs.Prelude.{◌-◌, ◌^◌, ◌≤◌}
+use Rattle.export_steps.specs.Holder.{IsFrozen}
+use Rattle.inode_table.specs.Dirs.{leaves_of}
+use Rattle.ranked_tree.proofs.InsideLaws.{Done}
+use Rattle.ranked_tree.proofs.inside.some_frozen.Given as goal
+
+abbrev pub invariant-loop-leaf : goal.invariant-loop-leaf
+invariant-loop-leaf l = record {
+  from : l.frag.value ≤ l.hash;
+  done : Done (leaves_of l.dirs.trees l.dir.0) l.frag (λ g. IsFrozen l.regions.exports l.regions.roots.roots l.dirs.homes l.dirs.trees (l.dir, g) → ⊥) l.hash;
+}
+
+abbrev pub decreases-loop-leaf : goal.decreases-loop-leaf
+decreases-loop-leaf l = 2 ^ 24 - l.hash
