@@ -5,7 +5,7 @@ use Rattle.mds_types.specs.declared.ids.Ino.{Ino}
 use Rattle.mds_types.specs.declared.ids.Rank.{Rank}
 use Rattle.mds_types.specs.declared.entries.Entry.{Entry}
 use Rattle.mds_types.specs.declared.refusals.Refusal.{Refusal}
-use Rattle.mds_types.specs.declared.refusals.Refusal.TheVariants.{NoMemory, NoSuchFrag, NotAuthority, NothingToEvict, Pinned}
+use Rattle.mds_types.specs.declared.refusals.Refusal.TheVariants.{Frozen, NoMemory, NoSuchFrag, NotAuthority, NothingToEvict, Pinned}
 use Rattle.mds_types.specs.Frag.{Fragment}
 use Rattle.mds_types.specs.Tree.{is_directory}
 use Rattle.fragtree.specs.FragTree.{CanMerge, CanSplit, RefusesMerge, RefusesSplit}
@@ -23,8 +23,9 @@ use Rattle.mdcache.specs.Splits.{IsMergedInto, IsSplitInto}
 use Rattle.cluster_core.specs.declared.events.Answer.{Answer}
 use Rattle.cluster_core.specs.declared.events.Answer.TheVariants.{Job, Nothing}
 use Rattle.cluster_core.specs.State.{Core, LacksPlacesAt, State, shown}
-use Rattle.cluster_core.specs.Master.{IsAuthority}
+use Rattle.cluster_core.specs.Master.{IsAuthority, IsFrozenAt, IsHolder}
 use Rattle.cluster_core.specs.Serve.{IsLeft}
+use Rattle.ranked_tree.specs.Exported.{IsAnyFrozen}
 use Rattle.ranked_tree.specs.Held.{CameAt, IsFamilyOf, IsMergedHere, UsesAt}
 use Rattle.ranked_tree.specs.Subtrees.{AllHave}
 
@@ -53,9 +54,9 @@ HoldsInside state rank dir f = AllHave state.tree.homes state.tree.covers state.
 
 -- ---- what a step makes of the caches
 
--- of the caches a leaf was used at most, at its authority
+-- of the caches a leaf was used at most, at the rank that holds it
 abbrev pub UsesLeaf : (old new : Core) → Leaf → Type 0
-UsesLeaf old new leaf = UsesAt (IsAuthority old.state leaf) leaf old.caches new.caches
+UsesLeaf old new leaf = UsesAt (IsHolder old.state leaf) leaf old.caches new.caches
 
 -- a leaf and its children were used at most, and ended, at its authority, and a place that was kept was given up
 abbrev pub UsesFamily : (old new : Core) → Leaf → ℕ → Type 0
@@ -72,14 +73,15 @@ AsksNone old new = new.caches ≡ old.caches
 -- ---- leaves
 
 -- why leaves of a directory stay: there is no such directory, or its leaves refuse it; the rank isn't the authority of all that are concerned;
--- one of them is pinned; or for another reason
-abbrev pub RefusesRegroup : (known : Bool) → (Refuses : Refusal → Type 0) → (Can Mine IsPinned : Type 0) → (Else : Refusal → Type 0) → Refusal → Type 0
-RefusesRegroup known Refuses Can Mine IsPinned Else reason =
+-- one of them is frozen; one is pinned; or for another reason
+abbrev pub RefusesRegroup : (known : Bool) → (Refuses : Refusal → Type 0) → (Can Mine Frozen Pinned : Type 0) → (Else : Refusal → Type 0) → Refusal → Type 0
+RefusesRegroup known Refuses Can Mine IsFrozen IsPinned Else reason =
     ((reason ≡ NoSuchFrag) × (known ≡ false))
     ⊎ ((known ≡ true) × (reason ≢ NoMemory) × Refuses reason)
     ⊎ ((known ≡ true) × Can × (reason ≡ NotAuthority) × (Mine → ⊥))
-    ⊎ ((known ≡ true) × Can × Mine × (reason ≡ Pinned) × IsPinned)
-    ⊎ ((known ≡ true) × Can × Mine × (IsPinned → ⊥) × Else reason)
+    ⊎ ((known ≡ true) × Can × Mine × (reason ≡ Frozen) × IsFrozen)
+    ⊎ ((known ≡ true) × Can × Mine × (IsFrozen → ⊥) × (reason ≡ Pinned) × IsPinned)
+    ⊎ ((known ≡ true) × Can × Mine × (IsFrozen → ⊥) × (IsPinned → ⊥) × Else reason)
 
 -- a grant stands on a leaf
 abbrev pub IsPinned : State → Leaf → Type 0
@@ -89,28 +91,32 @@ IsPinned state leaf = list_any (is_on leaf.0 leaf.1) state.pins ≡ true
 abbrev pub IsAnyPinned : Homes → Covers → List Pin → Ino → Fragment → Type 0
 IsAnyPinned homes covers pins dir frag = (leaf : Leaf) × IsLive homes covers leaf × (is_inside dir.0 frag leaf ≡ true) × (list_any (is_on leaf.0 leaf.1) pins ≡ true)
 
--- a leaf of the rank's, not pinned, was split by so many bits, and its children are roots if it was one; where it wasn't, the leaves refuse it, or
--- the rank isn't its authority, or it is pinned, or numbers lack, or the rank lacks as many places as there would be children and one, or the store
+-- a leaf of the rank's, neither frozen nor pinned, was split by so many bits, and its children are roots if it was one; where it wasn't, the leaves refuse it, or
+-- the rank isn't its authority, or it is frozen or pinned, or numbers lack, or the rank lacks as many places as there would be children and one, or the store
 -- or memory refused
 abbrev pub SplitsLeaf : (old new : Core) → Rank → Ino → Fragment → ℕ → Result (Unit {0}) Refusal → Type 0
 SplitsLeaf old new rank dir f nb (Ok done) =
-    IsAuthority old.state (dir, f) rank × (IsPinned old.state (dir, f) → ⊥) × IsSplitInto old.state.tree new.state.tree dir f nb × IsRootSplit old.state.roots new.state.roots dir.0 f nb
+    IsAuthority old.state (dir, f) rank × (IsFrozenAt old.state (dir, f) → ⊥) × (IsPinned old.state (dir, f) → ⊥) × IsSplitInto old.state.tree new.state.tree dir f nb × IsRootSplit old.state.roots new.state.roots dir.0 f nb
 SplitsLeaf old new rank dir f nb (Err reason) =
-    RefusesRegroup (is_known old.state.tree.homes dir.0) (RefusesSplit (leaves_of old.state.tree.covers dir.0) f nb) (CanSplit (leaves_of old.state.tree.covers dir.0) f nb) (IsAuthority old.state (dir, f) rank) (IsPinned old.state (dir, f))
+    RefusesRegroup (is_known old.state.tree.homes dir.0) (RefusesSplit (leaves_of old.state.tree.covers dir.0) f nb) (CanSplit (leaves_of old.state.tree.covers dir.0) f nb) (IsAuthority old.state (dir, f) rank) (IsFrozenAt old.state (dir, f)) (IsPinned old.state (dir, f))
     (λ why. MayNotRegroup (CanSplit (leaves_of old.state.tree.covers dir.0) f nb) (RefusesSplit (leaves_of old.state.tree.covers dir.0) f nb) old.state.tree dir (2 ^ nb) (LacksPlacesAt (2 ^ nb + 1) old rank) old.faults new.faults why)
     reason
 
--- one of these is pinned
+-- a leaf of a directory that lies properly inside a fragment is frozen,
+abbrev pub HasFrozenInside : State → Ino → Fragment → Type 0
+HasFrozenInside state dir f = IsAnyFrozen state.exports state.roots state.tree.homes state.tree.covers dir f
+
+-- or pinned
 abbrev pub HasPinnedInside : State → Ino → Fragment → Type 0
 HasPinnedInside state dir f = IsAnyPinned state.tree.homes state.tree.covers state.pins dir f
 
--- the leaves inside a fragment, all the rank's and none pinned, were merged, and it is a root if one of them was; where they weren't, it was
+-- the leaves inside a fragment, all the rank's and none frozen or pinned, were merged, and it is a root if one of them was; where they weren't, it was
 -- refused so too, and for places where the rank has none
 abbrev pub MergesLeaves : (old new : Core) → Rank → Ino → Fragment → Result (Unit {0}) Refusal → Type 0
 MergesLeaves old new rank dir f (Ok done) =
-    HoldsInside old.state rank dir f × (HasPinnedInside old.state dir f → ⊥) × IsMergedInto old.state.tree new.state.tree dir f × IsRootMerge old.state.roots new.state.roots dir.0 f
+    HoldsInside old.state rank dir f × (HasFrozenInside old.state dir f → ⊥) × (HasPinnedInside old.state dir f → ⊥) × IsMergedInto old.state.tree new.state.tree dir f × IsRootMerge old.state.roots new.state.roots dir.0 f
 MergesLeaves old new rank dir f (Err reason) =
-    RefusesRegroup (is_known old.state.tree.homes dir.0) (RefusesMerge (leaves_of old.state.tree.covers dir.0) f) (CanMerge (leaves_of old.state.tree.covers dir.0) f) (HoldsInside old.state rank dir f) (HasPinnedInside old.state dir f)
+    RefusesRegroup (is_known old.state.tree.homes dir.0) (RefusesMerge (leaves_of old.state.tree.covers dir.0) f) (CanMerge (leaves_of old.state.tree.covers dir.0) f) (HoldsInside old.state rank dir f) (HasFrozenInside old.state dir f) (HasPinnedInside old.state dir f)
     (λ why. MayNotRegroup (CanMerge (leaves_of old.state.tree.covers dir.0) f) (RefusesMerge (leaves_of old.state.tree.covers dir.0) f) old.state.tree dir 1 (LacksPlacesAt 1 old rank) old.faults new.faults why)
     reason
 
@@ -137,12 +143,13 @@ abbrev pub told_job : Option Begun → Answer
 told_job None = Nothing
 told_job (Some job) = Job job
 
--- a commit of a leaf begins at its authority; a rank that isn't is refused NotAuthority
+-- a commit of a leaf that isn't frozen begins at its authority; a rank that isn't is refused NotAuthority, and then a frozen leaf Frozen
 abbrev pub BeginsAt : (old new : State) → Rank → Leaf → Result (Option Begun) Refusal → Type 0
-BeginsAt old new rank leaf (Ok job) = IsAuthority old leaf rank × Begins old.tree new.tree leaf (Ok job)
+BeginsAt old new rank leaf (Ok job) = IsAuthority old leaf rank × (IsFrozenAt old leaf → ⊥) × Begins old.tree new.tree leaf (Ok job)
 BeginsAt old new rank leaf (Err reason) =
     ((reason ≡ NotAuthority) × IsLive old.tree.homes old.tree.covers leaf × (IsAuthority old leaf rank → ⊥) × (new.tree ≡ old.tree))
-    ⊎ ((IsLive old.tree.homes old.tree.covers leaf → IsAuthority old leaf rank) × Begins old.tree new.tree leaf (Err reason))
+    ⊎ ((reason ≡ Frozen) × IsLive old.tree.homes old.tree.covers leaf × IsAuthority old leaf rank × IsFrozenAt old leaf × (new.tree ≡ old.tree))
+    ⊎ ((IsLive old.tree.homes old.tree.covers leaf → IsAuthority old leaf rank × (IsFrozenAt old leaf → ⊥)) × Begins old.tree new.tree leaf (Err reason))
 
 abbrev pub BeginsCommit : (old new : Core) → (past now : List Entry) → Rank → Leaf → Result Answer Refusal → Type 0
 BeginsCommit old new past now rank leaf result = AdministersTree old.state new.state past now told_job (BeginsAt old.state new.state rank leaf) result × UsesLeaf old new leaf

@@ -2,6 +2,8 @@
 use Rattle.std.specs.Prelude.{◌≡◌, ℕ, ◌<◌, List, length, get_or}
 use Rattle.mds_types.specs.declared.entries.Entry.{Entry}
 use Rattle.mds_types.specs.History.{IsNew}
+use Rattle.export_steps.specs.Holder.{holding}
+use Rattle.export_steps.specs.Standing.{Standing}
 use Rattle.inboxes.specs.Inboxes.{Inboxes, waiting_at}
 use Rattle.inode_table.specs.Numbers.{Supply}
 use Rattle.mds_types.specs.declared.ids.Rank.{Rank}
@@ -22,10 +24,10 @@ pub record IsSessionOf (sessions : Held) (client : ℕ) (at : SessionAt) : Type 
   pub found : IsSessionAt sessions at
 
 -- the request is new, the rank is its master, and its names lie there; the rank has these numbers left, and the client's session is there
-pub record IsAsked (tree : TreeState) (roots : Roots) (numbers : List Supply) (sessions : Held) (past : List Entry) (asked : Asked) : Type 0 where
+pub record IsAsked (tree : TreeState) (roots : Roots) (exports : Standing) (numbers : List Supply) (sessions : Held) (past : List Entry) (asked : Asked) : Type 0 where
   pub is_new : IsNew past asked.request.client asked.request.tid asked.request.oldest
   pub master : IsMasterIn tree roots asked.rank asked.request.op asked.rank
-  pub located : AreLocated (shown_tree tree) tree.covers (HoldsAt tree roots) asked.request.op asked.places
+  pub located : AreLocated (shown_tree tree) tree.covers (HoldsAt tree (holding exports roots)) asked.request.op asked.places
   pub left : asked.supply ≡ get_or numbers asked.rank.0 no_supply
   pub session : IsSessionOf sessions asked.request.client asked.session
 

@@ -6,7 +6,9 @@ use Rattle.mds_types.specs.declared.ids.Rank.{Rank}
 use Rattle.mds_types.specs.declared.operations.Op.{Op}
 use Rattle.mds_types.specs.declared.requests.Request.{Request}
 use Rattle.mds_types.specs.declared.refusals.Refusal.{Refusal}
-use Rattle.mds_types.specs.declared.refusals.Refusal.TheVariants.{InboxEmpty, NoInodes, NoMemory, NotAuthority}
+use Rattle.mds_types.specs.declared.refusals.Refusal.TheVariants.{Frozen, InboxEmpty, NoInodes, NoMemory, NotAuthority}
+use Rattle.export_steps.specs.Holder.{IsFrozen}
+use Rattle.export_steps.specs.Standing.{Standing}
 use Rattle.inboxes.specs.declared.pins.Pin.{Pin}
 use Rattle.inboxes.specs.Inboxes.{first_waiting}
 use Rattle.inboxes.specs.Pins.{with_pin}
@@ -14,7 +16,7 @@ use Rattle.subtree_map.specs.Authority.{Leaf, Roots}
 use Rattle.mdcache.specs.State.{State as TreeState}
 use Rattle.cluster_core.specs.declared.events.Answer.{Answer}
 use Rattle.cluster_core.specs.declared.events.Answer.TheVariants.{Nothing}
-use Rattle.cluster_core.specs.Master.{IsAuthority, grant_of, would_change}
+use Rattle.cluster_core.specs.Master.{IsAuthority, IsFrozenAt, grant_of, would_change}
 use Rattle.cluster_core.specs.Serve.{IsLeft}
 use Rattle.cluster_core.specs.State.{State}
 use Rattle.ranked_tree.specs.Subtrees.{Rules}
@@ -29,20 +31,22 @@ abbrev pub with_grants : List Pin → List Leaf → (client tid : ℕ) → List 
 with_grants pins [] client tid = pins
 with_grants pins (leaf ∷ leaves) client tid = with_grants (with_pin pins (grant_of leaf client tid)) leaves client tid
 
--- the rank granted the request all of its leaves that it would change, of which there are some; nothing else changes
+-- the rank granted the request all of its leaves that it would change, of which there are some, and none is frozen; nothing else changes
 pub record Grants (old new : State) (past now : List Entry) (rank : Rank) (client tid : ℕ) (op : Op) (answer : Answer) : Type 0 where
   pub answered : answer ≡ Nothing
   pub leaves : List Leaf
   pub exactly : (leaf : Leaf) → Contains leaves leaf ↔ IsGranted old rank op leaf
   pub some : 0 < length leaves
+  pub thawed : (leaf : Leaf) → IsGranted old rank op leaf → IsFrozenAt old leaf → ⊥
   pub same : now ≡ past
   pub left : new ≡ record old { pins = with_grants old.pins leaves client tid }
 
--- refused NotAuthority exactly where there is no such leaf, unless the tree refused to tell, and for want of memory; never for want of a number,
--- since a grant takes none; all is left
+-- refused NotAuthority exactly where there is no such leaf, and Frozen exactly where one of them is frozen, unless the tree refused to tell, and for
+-- want of memory; never for want of a number, since a grant takes none; all is left
 abbrev pub RefusesGrant : (old new : State) → (past now : List Entry) → (MayRefuse : Op → Refusal → Type 0) → Rank → Op → Refusal → Type 0
 RefusesGrant old new past now MayRefuse rank op reason =
-    (((reason ≡ NotAuthority) × ((leaf : Leaf) → IsGranted old rank op leaf → ⊥)) ⊎ (reason ≡ NoMemory) ⊎ ((reason ≢ NoInodes) × MayRefuse op reason)) × IsLeft old new past now
+    (((reason ≡ NotAuthority) × ((leaf : Leaf) → IsGranted old rank op leaf → ⊥))
+    ⊎ ((reason ≡ Frozen) × ((leaf : Leaf) × IsGranted old rank op leaf × IsFrozenAt old leaf)) ⊎ (reason ≡ NoMemory) ⊎ ((reason ≢ NoInodes) × MayRefuse op reason)) × IsLeft old new past now
 
 abbrev pub GrantsRequest : (old new : State) → (past now : List Entry) → (MayRefuse : Op → Refusal → Type 0) → Rank → (client tid : ℕ) → Op → Result Answer Refusal → Type 0
 GrantsRequest old new past now MayRefuse rank client tid op (Ok answer) = Grants old new past now rank client tid op answer
@@ -68,6 +72,17 @@ AreHeldAmong tree roots rank (leaf ∷ leaves) held =
 abbrev pub HoldsOne : TreeState → Roots → Rank → List Leaf → Type 0
 HoldsOne tree roots rank leaves = (leaf : Leaf) × Contains leaves leaf × Rules tree roots leaf rank
 
--- why none of some leaves are found that it is the authority of: it is of none, or for want of memory, where it is of one
-abbrev pub FindsNone : TreeState → Roots → Rank → List Leaf → Refusal → Type 0
-FindsNone tree roots rank leaves reason = ((reason ≡ NotAuthority) × AreHeldAmong tree roots rank leaves []) ⊎ ((reason ≡ NoMemory) × HoldsOne tree roots rank leaves)
+-- one of these leaves is frozen,
+abbrev pub IsOneFrozen : TreeState → Roots → Standing → List Leaf → Type 0
+IsOneFrozen tree roots exports leaves = (leaf : Leaf) × Contains leaves leaf × IsFrozen exports roots tree.homes tree.covers leaf
+
+-- or none is
+abbrev pub AreThawedEach : TreeState → Roots → Standing → List Leaf → Type 0
+AreThawedEach tree roots exports leaves = (leaf : Leaf) → Contains leaves leaf → IsFrozen exports roots tree.homes tree.covers leaf → ⊥
+
+-- why none of some leaves are found that it is the authority of and may grant: it is of none, or for want of memory, where it is of one; or one of
+-- those is frozen
+abbrev pub FindsNone : TreeState → Roots → Standing → Rank → List Leaf → Refusal → Type 0
+FindsNone tree roots exports rank leaves reason =
+    ((reason ≡ NotAuthority) × AreHeldAmong tree roots rank leaves []) ⊎ ((reason ≡ NoMemory) × HoldsOne tree roots rank leaves)
+    ⊎ ((reason ≡ Frozen) × ((held : List Leaf) × AreHeldAmong tree roots rank leaves held × IsOneFrozen tree roots exports held))

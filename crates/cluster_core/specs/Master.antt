@@ -2,12 +2,13 @@
 use Rattle.std.specs.Prelude.{◌≡◌, ◌⊎◌, ℕ, ◌<◌, true, MatchBool, List, Option, Some, None}
 use Rattle.std.specs.List.{Contains, list_any}
 use Rattle.mds_types.specs.declared.dentries.Dentry.{Dentry}
-use Rattle.mds_types.specs.declared.dirfrags.Dirfrag.{Dirfrag}
 use Rattle.mds_types.specs.declared.ids.Rank.{Rank}
 use Rattle.mds_types.specs.declared.operations.Op.{Op}
 use Rattle.mds_types.specs.declared.requests.Request.{Request}
 use Rattle.mds_types.specs.Step.{destination_of, step}
 use Rattle.mds_types.specs.Tree.{is_directory}
+use Rattle.export_steps.specs.Holder.{IsFrozen}
+use Rattle.export_steps.specs.Standing.{Standing}
 use Rattle.inboxes.specs.declared.pins.Pin.{Pin}
 use Rattle.inboxes.specs.Pins.{is_pin}
 use Rattle.inode_table.specs.Dirs.{Covers, leaves_of}
@@ -20,7 +21,7 @@ use Rattle.namespace_ops.specs.declared.plans.Checked.{Checked}
 use Rattle.subtree_map.specs.Authority.{Leaf, Roots}
 use Rattle.mdcache.specs.Shown.{shown_tree}
 use Rattle.mdcache.specs.State.{State as TreeState}
-use Rattle.cluster_core.specs.State.{State}
+use Rattle.cluster_core.specs.State.{State, held_roots}
 use Rattle.ranked_tree.specs.Subtrees.{HoldsAt, Rules}
 
 -- the leaf of a dentry; where there is none, the first leaf of a directory, that of the hash 0
@@ -44,13 +45,22 @@ IsMaster state rank op master = IsMasterIn state.tree state.roots rank op master
 abbrev pub IsAuthority : State → Leaf → Rank → Type 0
 IsAuthority state leaf rank = Rules state.tree state.roots leaf rank
 
+-- the rank that holds a leaf in a cluster's state, and caches it: its authority, but from Import to Finish the importer of its region
+abbrev pub IsHolder : State → Leaf → Rank → Type 0
+IsHolder state leaf rank = Rules state.tree (held_roots state) leaf rank
+
+-- a leaf changes no more until the export of its region ends
+abbrev pub IsFrozenAt : State → Leaf → Type 0
+IsFrozenAt state leaf = IsFrozen state.exports state.roots state.tree.homes state.tree.covers leaf
+
 -- the grant of a leaf for a request
 abbrev pub grant_of : Leaf → (client tid : ℕ) → Pin
 grant_of leaf client tid = record { dir = leaf.0; frag = leaf.1; client = client; tid = tid }
 
--- a rank may change a leaf for a request: it is its authority, or the leaf is granted for that request
-abbrev pub MayTouchIn : TreeState → Roots → List Pin → Rank → (client tid : ℕ) → Leaf → Type 0
-MayTouchIn tree roots pins rank client tid leaf = Rules tree roots leaf rank ⊎ (list_any (is_pin (grant_of leaf client tid)) pins ≡ true)
+-- a rank may change a leaf for a request: the leaf isn't frozen, and the rank is its authority, or it is granted for that request
+abbrev pub MayTouchIn : TreeState → Roots → Standing → List Pin → Rank → (client tid : ℕ) → Leaf → Type 0
+MayTouchIn tree roots exports pins rank client tid leaf =
+    (IsFrozen exports roots tree.homes tree.covers leaf → ⊥) × (Rules tree roots leaf rank ⊎ (list_any (is_pin (grant_of leaf client tid)) pins ≡ true))
 
 -- the leaves that an operation would change now
 abbrev pub would_change_in : TreeState → Op → List Leaf
@@ -60,40 +70,35 @@ abbrev pub would_change : State → Op → List Leaf
 would_change state op = would_change_in state.tree op
 
 -- a rank may change each of these leaves for a request
-abbrev pub MayTouchEach : TreeState → Roots → List Pin → Rank → (client tid : ℕ) → List Leaf → Type 0
-MayTouchEach tree roots pins rank client tid leaves = (leaf : Leaf) → Contains leaves leaf → MayTouchIn tree roots pins rank client tid leaf
+abbrev pub MayTouchEach : TreeState → Roots → Standing → List Pin → Rank → (client tid : ℕ) → List Leaf → Type 0
+MayTouchEach tree roots exports pins rank client tid leaves = (leaf : Leaf) → Contains leaves leaf → MayTouchIn tree roots exports pins rank client tid leaf
 
 -- a rank may change all that a request would change
-abbrev pub MayTouchAllIn : TreeState → Roots → List Pin → Rank → (client tid : ℕ) → Op → Type 0
-MayTouchAllIn tree roots pins rank client tid op = MayTouchEach tree roots pins rank client tid (would_change_in tree op)
+abbrev pub MayTouchAllIn : TreeState → Roots → Standing → List Pin → Rank → (client tid : ℕ) → Op → Type 0
+MayTouchAllIn tree roots exports pins rank client tid op = MayTouchEach tree roots exports pins rank client tid (would_change_in tree op)
 
 abbrev pub MayTouchAll : State → Rank → Request → Type 0
-MayTouchAll state rank request = MayTouchAllIn state.tree state.roots state.pins rank request.client request.tid request.op
+MayTouchAll state rank request = MayTouchAllIn state.tree state.roots state.exports state.pins rank request.client request.tid request.op
 
 -- a rank may not change one of these leaves for a request
-pub record LacksOneOf (tree : TreeState) (roots : Roots) (pins : List Pin) (rank : Rank) (client tid : ℕ) (leaves : List Leaf) : Type 0 where
+pub record LacksOneOf (tree : TreeState) (roots : Roots) (exports : Standing) (pins : List Pin) (rank : Rank) (client tid : ℕ) (leaves : List Leaf) : Type 0 where
   pub leaf : Leaf
   pub changes : Contains leaves leaf
-  pub foreign : MayTouchIn tree roots pins rank client tid leaf → ⊥
+  pub barred : MayTouchIn tree roots exports pins rank client tid leaf → ⊥
 
--- an operation would change a leaf of another authority, which hasn't granted it
-abbrev pub LacksGrantIn : TreeState → Roots → List Pin → Rank → (client tid : ℕ) → Op → Type 0
-LacksGrantIn tree roots pins rank client tid op = LacksOneOf tree roots pins rank client tid (would_change_in tree op)
+-- an operation would change a leaf that is frozen, or one of another authority, which hasn't granted it
+abbrev pub MustWaitIn : TreeState → Roots → Standing → List Pin → Rank → (client tid : ℕ) → Op → Type 0
+MustWaitIn tree roots exports pins rank client tid op = LacksOneOf tree roots exports pins rank client tid (would_change_in tree op)
 
-abbrev pub LacksGrant : State → Rank → Request → Type 0
-LacksGrant state rank request = LacksGrantIn state.tree state.roots state.pins rank request.client request.tid request.op
+abbrev pub MustWait : State → Rank → Request → Type 0
+MustWait state rank request = MustWaitIn state.tree state.roots state.exports state.pins rank request.client request.tid request.op
 
 -- ---- words of this crate's own contracts
-
--- the rank that holds the leaf which was found, or the one that serves
-abbrev pub master_at : Rank → Option Dirfrag → Rank
-master_at rank None = rank
-master_at rank (Some at) = at.rank
 
 -- each master of an operation at a rank is one of so many ranks
 abbrev pub AreMastersThere : TreeState → Roots → Rank → ℕ → Type 0
 AreMastersThere tree roots rank count = (op : Op) (master : Rank) → IsMasterIn tree roots rank op master → master.0 < count
 
--- the checks of an operation found this, offered some number
+-- the checks of an operation found this, offered some number, where leaves lie at the ranks that hold them
 abbrev pub IsCheckedIn : TreeState → Roots → Op → Checked → Type 0
 IsCheckedIn tree roots op checked = (n : ℕ) × Checks (shown_tree tree) tree.covers (HoldsAt tree roots) op n (step (shown_tree tree) op n) checked

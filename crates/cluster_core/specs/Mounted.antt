@@ -15,12 +15,13 @@ pub record IsNewCore (ranks places : ℕ) (core : Core) : Type 0 where
   pub caches : core.caches ≡ new_caches ranks places
 
 -- the cluster over a store that was walked: the tree has what the walk found, and the objects that weren't reached are to be removed; the leaves
--- of the root directory are rank 0's; each rank has the numbers after the greatest of its range; nothing waits, is granted or is kept; and
+-- of the root directory are rank 0's; no export stands; each rank has the numbers after the greatest of its range; nothing waits, is granted or is kept; and
 -- nothing is cached
 pub record IsMountedCore (objects : Objects) (ranks places : ℕ) (opening : Tree) (core : Core) : Type 0 where
   pub walked : IsWalked objects opening core.state.tree.homes core.state.tree.covers core.state.tree.purge
   pub tree : core.state.tree ≡ mounted objects core.state.tree.homes core.state.tree.covers core.state.tree.purge
   pub roots : AreTopRoots core.state.tree.covers core.state.roots
+  pub exports : core.state.exports ≡ map.empty
   pub numbers : AreNumbers opening ranks core.state.numbers
   pub inboxes : core.state.inboxes ≡ replicate ranks []
   pub pins : core.state.pins ≡ []

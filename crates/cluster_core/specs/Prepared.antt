@@ -8,6 +8,7 @@ use Rattle.mds_types.specs.declared.refusals.Refusal.TheVariants.{NoInodes, NoMe
 use Rattle.mds_types.specs.declared.requests.Request.{Request}
 use Rattle.mds_types.specs.Tree.{Tree}
 use Rattle.mds_types.specs.Step.{Outcome, number_or, step}
+use Rattle.export_steps.specs.Standing.{Standing}
 use Rattle.inboxes.specs.declared.pins.Pin.{Pin}
 use Rattle.inode_table.specs.Dirs.{Covers}
 use Rattle.inode_table.specs.Numbers.{Supply, offer}
@@ -17,7 +18,7 @@ use Rattle.namespace_ops.specs.Served.{LacksNumber}
 use Rattle.subtree_map.specs.Authority.{Roots}
 use Rattle.mdcache.specs.Shown.{shown_tree}
 use Rattle.mdcache.specs.State.{State as TreeState}
-use Rattle.cluster_core.specs.Master.{LacksGrantIn, MayTouchAllIn}
+use Rattle.cluster_core.specs.Master.{MayTouchAllIn, MustWaitIn}
 use Rattle.cluster_core.specs.Offer.{after_taking}
 use Rattle.cluster_core.specs.declared.applying.Prepared.{Prepared}
 
@@ -31,16 +32,16 @@ pub record IsPrepared (tree : Tree) (covers : Covers) (IsReady : Change → Type
 abbrev pub outcome_with : TreeState → Supply → Op → Outcome
 outcome_with tree supply op = step (shown_tree tree) op (number_or (offer supply))
 
--- why nothing was made ready: for want of memory; or as the tree refuses it; for want of a number only where the request lacks no grant
+-- why nothing was made ready: for want of memory; or as the tree refuses it; for want of a number only where the request may change all that it would
 abbrev pub IsUnready : (MayTouch : Type 0) → (MayRefuse : Refusal → Type 0) → Outcome → Option Ino → Refusal → Type 0
 IsUnready MayTouch MayRefuse outcome offered reason =
     (reason ≡ NoMemory) ⊎ ((reason ≢ NoInodes) × MayRefuse reason) ⊎ (MayTouch × (LacksNumber outcome offered reason ⊎ MayRefuse reason))
 
--- what was made ready for a request: all; or nothing, since it lacks a grant; or it is refused
-abbrev pub IsMadeReady : TreeState → Roots → List Pin → Supply → Rank → Request → (IsReady : Change → Type 0) → (MayRefuse : Refusal → Type 0) → Result (Option Prepared) Refusal → Type 0
-IsMadeReady tree roots pins supply rank request IsReady MayRefuse (Ok None) = LacksGrantIn tree roots pins rank request.client request.tid request.op
-IsMadeReady tree roots pins supply rank request IsReady MayRefuse (Ok (Some prepared)) =
-    MayTouchAllIn tree roots pins rank request.client request.tid request.op
+-- what was made ready for a request: all; or nothing, since it has to wait; or it is refused
+abbrev pub IsMadeReady : TreeState → Roots → Standing → List Pin → Supply → Rank → Request → (IsReady : Change → Type 0) → (MayRefuse : Refusal → Type 0) → Result (Option Prepared) Refusal → Type 0
+IsMadeReady tree roots exports pins supply rank request IsReady MayRefuse (Ok None) = MustWaitIn tree roots exports pins rank request.client request.tid request.op
+IsMadeReady tree roots exports pins supply rank request IsReady MayRefuse (Ok (Some prepared)) =
+    MayTouchAllIn tree roots exports pins rank request.client request.tid request.op
     × IsPrepared (shown_tree tree) tree.covers IsReady request.op (outcome_with tree supply request.op) supply prepared
-IsMadeReady tree roots pins supply rank request IsReady MayRefuse (Err reason) =
-    IsUnready (MayTouchAllIn tree roots pins rank request.client request.tid request.op) MayRefuse (outcome_with tree supply request.op) (offer supply) reason
+IsMadeReady tree roots exports pins supply rank request IsReady MayRefuse (Err reason) =
+    IsUnready (MayTouchAllIn tree roots exports pins rank request.client request.tid request.op) MayRefuse (outcome_with tree supply request.op) (offer supply) reason

@@ -31,7 +31,7 @@ use Rattle.mdcache.specs.State.{State as TreeState}
 use Rattle.cluster_core.specs.declared.events.Answer.{Answer}
 use Rattle.cluster_core.specs.declared.events.Answer.TheVariants.{Deferred, Forwarded, Reply}
 use Rattle.cluster_core.specs.State.{State, shown, supply_of}
-use Rattle.cluster_core.specs.Master.{IsMaster, LacksGrant, MayTouchAll, would_change}
+use Rattle.cluster_core.specs.Master.{IsMaster, MayTouchAll, MustWait, would_change}
 use Rattle.ranked_tree.specs.Subtrees.{FollowChange}
 use Rattle.cluster_core.specs.Offer.{after_taking}
 
@@ -148,11 +148,11 @@ pub record IsForwarded (old new : State) (past now : List Entry) (rank : Rank) (
   pub same : now ≡ past
   pub left : new ≡ record old { inboxes = with_last (with_waiting old.inboxes rank rest) master request }
 
--- a new request that lacks a grant at its master goes to the back of the same inbox
+-- a new request at its master that would change what is frozen, or lacks a grant, goes to the back of the same inbox
 pub record IsDeferred (old new : State) (past now : List Entry) (rank : Rank) (request : Request) (rest : List Request) (answer : Answer) : Type 0 where
   pub is_new : IsNew past request.client request.tid request.oldest
   pub master : IsMaster old rank request.op rank
-  pub lacks : LacksGrant old rank request
+  pub waits : MustWait old rank request
   pub answered : answer ≡ Deferred
   pub same : now ≡ past
   pub left : new ≡ record old { inboxes = with_waiting old.inboxes rank (rest ++ request ∷ []) }
@@ -174,7 +174,7 @@ pub record IsAtMaster (old : State) (past : List Entry) (rank : Rank) (request :
 abbrev pub TakesMemory : State → List Entry → Rank → Request → Type 0
 TakesMemory old past rank request = ((place : ℕ) × IsKeptAt past request.client request.tid request.oldest place) ⊎ IsAtMaster old past rank request
 
--- why a request lacks a number: it lacks no grant, and the table takes a number and the rank has none left, or a counter of the tree's is at
+-- why a request lacks a number: it may change all that it would, and the table takes a number and the rank has none left, or a counter of the tree's is at
 -- its end
 abbrev pub LacksAny : State → (MayRefuse : Op → Refusal → Type 0) → Rank → Request → Type 0
 LacksAny old MayRefuse rank request =

@@ -1,18 +1,23 @@
 -- What every book keeps.
-use Rattle.std.specs.Prelude.{◌≡◌, ℕ, ◌<◌, ◌≤◌, List, Option, get_or, length}
+use Rattle.std.specs.Prelude.{◌≡◌, ℕ, ◌<◌, ◌≤◌, true, List, Option, Some, get_or, length}
+use Rattle.std.specs.FinMap as map
 use Rattle.mds_types.specs.declared.entries.Entry.{Entry}
 use Rattle.mds_types.specs.declared.ids.Rank.{Rank}
 use Rattle.mds_types.specs.Tree.{Tree}
 use Rattle.mds_types.specs.History.{after, IsLegal, IsUsed}
 use Rattle.inode_table.specs.Numbers.{Supply, IsSupply, first_number, end_number}
+use Rattle.cached_frag.specs.declared.jobs.Job.{Job}
 use Rattle.dentry_cache.specs.Cache.{Leaf}
 use Rattle.dentry_cache.specs.CacheMap.{AreCaches, CacheMap, unclean}
+use Rattle.export_steps.specs.declared.exports.StandingExport.{StandingExport}
+use Rattle.export_steps.specs.Standing.{is_freezing}
 use Rattle.mdcache.specs.Core.{AreCached as AreCachedIn}
 use Rattle.mdcache.specs.Ranks.{KeepsOnlyAt}
 use Rattle.mdcache.specs.Sound.{IsSound as IsSoundTree}
 use Rattle.mdcache.specs.State.{State as TreeState}
 use Rattle.sessions.specs.Table.{IsTableOf}
-use Rattle.cluster_core.specs.State.{Core, Kept, no_supply, shown}
+use Rattle.cluster_core.specs.Master.{IsFrozenAt}
+use Rattle.cluster_core.specs.State.{Core, Kept, held_roots, no_supply, shown}
 use Rattle.ranked_tree.specs.Held.{AreHeld}
 use Rattle.ranked_tree.specs.Subtrees.{AreRoots}
 
@@ -43,24 +48,32 @@ pub record IsKept (tree : TreeState) (caches : CacheMap) : Type 0 where
   pub cached : AreCachedIn tree caches
 
 -- what isn't clean is what the ranks' fragments have beyond their objects; each place is that of a fragment which the rank has, but for one
--- that may be kept for a fragment which will be made, so no leaf has places at two ranks; a rank caches only what it is the authority of, and
--- has a place of no other live leaf; and a fragment that a rank has stands in its order of use, where no leaf stands twice, and no more than
+-- that may be kept for a fragment which will be made, so no leaf has places at two ranks; a rank caches only what it holds, and has a place
+-- of no other live leaf; and a fragment that a rank has stands in its order of use, where no leaf stands twice, and no more than
 -- the rank has places
 pub record AreCached (core : Core) : Type 0 where
   pub unsaved : core.state.tree.unsaved ≡ unclean core.caches
   pub places : (kept : Option (Rank × Leaf)) × KeepsOnlyAt kept core.caches
-  pub held : AreHeld core.state.tree core.caches core.state.roots
+  pub held : AreHeld core.state.tree core.caches (held_roots core.state)
   pub orders : AreCaches core.caches
 
+-- the exports that stand: while one is frozen to imported its root is a subtree root of the exporter; both its ranks are there; and no commit of a
+-- frozen leaf is begun
+pub record AreExported (core : Core) : Type 0 where
+  pub placed : (root : Leaf) (export : StandingExport) → map.get core.state.exports root ≡ Some export → is_freezing export.state ≡ true → map.get core.state.roots root ≡ Some export.exporter
+  pub there : (root : Leaf) (export : StandingExport) → map.get core.state.exports root ≡ Some export → (export.exporter.0 < length core.caches.used) × (export.importer.0 < length core.caches.used)
+  pub unbegun : (leaf : Leaf) (job : Job) → map.get core.state.tree.jobs leaf ≡ Some job → IsFrozenAt core.state leaf → ⊥
+
 -- the history is legal from the opening tree, and the shown tree is the tree after it; the tree is sound, and each cached fragment is a
--- live leaf, tied to its object; each leaf of the root directory is a subtree root, and only leaves are; each rank caches what it holds; no
--- number is given twice, and the sessions are those of the history
+-- live leaf, tied to its object; each leaf of the root directory is a subtree root, and only leaves are; each rank caches what it holds; what
+-- the exports need has its place; no number is given twice, and the sessions are those of the history
 pub record IsSound (opening : Tree) (history : List Entry) (core : Core) : Type 0 where
   pub legal : IsLegal opening history
   pub replayed : shown core.state ≡ after opening history
   pub tree : IsKept core.state.tree core.caches
   pub subtrees : AreRoots core.state.tree core.state.roots
   pub cached : AreCached core
+  pub exported : AreExported core
   pub ranks : AreRanks core
   pub supplied : AreSupplied opening history core.state.numbers
   pub kept : IsTableOf history core.state.sessions

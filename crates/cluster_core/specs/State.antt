@@ -5,6 +5,8 @@ use Rattle.mds_types.specs.declared.entries.Entry.{Entry}
 use Rattle.mds_types.specs.declared.ids.Rank.{Rank}
 use Rattle.mds_types.specs.Tree.{Tree}
 use Rattle.dentry_cache.specs.CacheMap.{CacheMap, unclean_of}
+use Rattle.export_steps.specs.Holder.{holding}
+use Rattle.export_steps.specs.Standing.{Standing}
 use Rattle.inboxes.specs.Inboxes.{Inboxes}
 use Rattle.inboxes.specs.declared.pins.Pin.{Pin}
 use Rattle.inode_table.specs.Numbers.{Supply, first_number}
@@ -18,11 +20,12 @@ use Rattle.sessions.specs.Table.{Table}
 use Rattle.subtree_map.specs.Authority.{Roots}
 
 -- all that a refused step leaves as it was: the tree with its directories and their leaves, what of it isn't clean, the objects of the
--- store, the commits that were begun, the purge list and the next numbers; the subtree roots with their ranks; for each rank the inode
--- numbers left and the requests that wait; the grants; and what is known of each client
+-- store, the commits that were begun, the purge list and the next numbers; the subtree roots with their ranks; the exports that stand; for
+-- each rank the inode numbers left and the requests that wait; the grants; and what is known of each client
 pub record State : Type 0 where
   pub tree : TreeState
   pub roots : Roots
+  pub exports : Standing
   pub numbers : List Supply
   pub inboxes : Inboxes
   pub pins : List Pin
@@ -41,6 +44,10 @@ pub record Kept : Type 0 where
   pub history : List Entry
   pub core : Core
 
+-- the roots, each with the rank that holds its region
+abbrev pub held_roots : State → Roots
+held_roots state = holding state.exports state.roots
+
 -- the shown tree: the objects of the store, overlaid with what isn't clean
 abbrev pub shown : State → Tree
 shown state = shown_tree state.tree
@@ -58,23 +65,24 @@ abbrev pub supply_of : State → Rank → Supply
 supply_of state rank = get_or state.numbers rank.0 no_supply
 
 -- the state of a cluster over this tree, and the cluster
-abbrev pub state_of : TreeState → Roots → List Supply → Inboxes → List Pin → Table → State
-state_of tree roots numbers inboxes pins sessions = record { tree = tree; roots = roots; numbers = numbers; inboxes = inboxes; pins = pins; sessions = sessions }
+abbrev pub state_of : TreeState → Roots → Standing → List Supply → Inboxes → List Pin → Table → State
+state_of tree roots exports numbers inboxes pins sessions = record { tree = tree; roots = roots; exports = exports; numbers = numbers; inboxes = inboxes; pins = pins; sessions = sessions }
 
-abbrev pub core_of : TreeCore → Roots → List Supply → Inboxes → List Pin → Table → Core
-core_of tree roots numbers inboxes pins sessions = record { state = state_of (tree_state tree) roots numbers inboxes pins sessions; caches = tree.caches; faults = tree.faults }
+abbrev pub core_of : TreeCore → Roots → Standing → List Supply → Inboxes → List Pin → Table → Core
+core_of tree roots exports numbers inboxes pins sessions = record { state = state_of (tree_state tree) roots exports numbers inboxes pins sessions; caches = tree.caches; faults = tree.faults }
 
 -- the whole range of numbers for each of so many ranks, from this one on
 abbrev pub whole_supplies : ℕ → ℕ → List Supply
 whole_supplies first zero = []
 whole_supplies first (suc more) = record { rank = first; next = first_number first } ∷ whole_supplies (suc first) more
 
--- the state of a new book of so many ranks: no directory but the root, whose leaf is rank 0's, no name, no object, nothing that waits, is granted or is kept, and
--- for each rank all its numbers
+-- the state of a new book of so many ranks: no directory but the root, whose leaf is rank 0's, no name, no object, no export,
+-- nothing that waits, is granted or is kept, and for each rank all its numbers
 abbrev pub new_state : ℕ → State
 new_state ranks = record {
   tree = new_tree;
   roots = new_roots;
+  exports = map.empty;
   numbers = whole_supplies 0 ranks;
   inboxes = replicate ranks [];
   pins = [];

@@ -18,20 +18,20 @@ use Rattle.cluster_core.specs.declared.events.Event.TheVariants.{Arrive, Grant, 
 use Rattle.cluster_core.specs.Administers.{AsksNone, BeginsCommit, CommitsTree, DropsCommit, EndsCommit, EvictsFragment, Merges, PurgesObject, Splits}
 use Rattle.inboxes.specs.Inboxes.{first_waiting, waiting_at, with_last}
 use Rattle.cluster_core.specs.Grants.{GrantsWaiting}
-use Rattle.cluster_core.specs.Master.{IsAuthority}
-use Rattle.cluster_core.specs.State.{Core, LacksPlacesAt, State, shown}
+use Rattle.cluster_core.specs.Master.{IsHolder}
+use Rattle.cluster_core.specs.State.{Core, LacksPlacesAt, State, held_roots, shown}
 use Rattle.cluster_core.specs.Serve.{IsLeft, ServesInbox}
 use Rattle.cluster_core.specs.Uses.{UsesFront, UsesWaiting}
-use Rattle.ranked_tree.specs.Subtrees.{KeepsAuthorities}
+use Rattle.ranked_tree.specs.Subtrees.{KeepsAuthorities, KeepsHolders}
 
 -- an arriving request goes to the back of the rank's inbox; refused InboxFull exactly where 1024 requests wait there
 abbrev pub ArrivesAt : (old new : State) → (past now : List Entry) → Rank → Request → Result Answer Refusal → Type 0
 ArrivesAt old new past now rank request (Ok answer) = (answer ≡ Nothing) × (length (waiting_at old.inboxes rank) < 1024) × (new ≡ record old { inboxes = with_last old.inboxes rank request }) × (now ≡ past)
 ArrivesAt old new past now rank request (Err reason) = (reason ≡ InboxFull) × (length (waiting_at old.inboxes rank) ≡ 1024) × IsLeft old new past now
 
--- fewer than two places are free, or can become so, at the authority of a leaf of a directory that the operation concerns
+-- fewer than two places are free, or can become so, at the rank that holds a leaf of a directory that the operation concerns
 abbrev pub LacksPlaces : Core → Op → Type 0
-LacksPlaces core op = (leaf : Leaf) × Concerns (shown core.state) op leaf.0.0 × ((rank : Rank) × IsAuthority core.state leaf rank × LacksPlacesAt 2 core rank)
+LacksPlaces core op = (leaf : Leaf) × Concerns (shown core.state) op leaf.0.0 × ((rank : Rank) × IsHolder core.state leaf rank × LacksPlacesAt 2 core rank)
 
 -- why the tree refuses an operation in a step: want of memory, a store whose count of faults rose in it, places that lack, or a counter at its
 -- end
@@ -45,11 +45,11 @@ ServesRank old new past now rank result = ServesInbox old.state new.state past n
 
 -- what serving it makes of the caches
 abbrev pub UsesInbox : (old new : Core) → Rank → Result Answer Refusal → Type 0
-UsesInbox old new rank result = UsesFront old.state.tree new.state.tree old.state.roots old.caches new.caches result (waiting_at old.state.inboxes rank)
+UsesInbox old new rank result = UsesFront old.state.tree new.state.tree (held_roots old.state) old.caches new.caches result (waiting_at old.state.inboxes rank)
 
 -- so it is with a grant for a request of this client and number
 abbrev pub UsesGranted : (old new : Core) → (client tid : ℕ) → Type 0
-UsesGranted old new client tid = UsesWaiting old.state.tree old.state.roots old.caches new.caches (first_waiting client tid old.state.inboxes)
+UsesGranted old new client tid = UsesWaiting old.state.tree (held_roots old.state) old.caches new.caches (first_waiting client tid old.state.inboxes)
 
 -- an event names a rank, and a rank that isn't there is refused NotAuthority before all else
 abbrev pub AtRank : (old new : Core) → (past now : List Entry) → Rank → Result Answer Refusal → Type 0 → Type 0
@@ -69,12 +69,13 @@ Does old new past now result (CommitTree dir) = CommitsTree old new past now dir
 Does old new past now result Purge = PurgesObject old new past now result
 Does old new past now result (Evict rank) = AtRank old new past now rank result (EvictsFragment old new past now rank result)
 
--- one step: what its event does. Each leaf that stays keeps its authority, there are as many ranks, with as many places
+-- one step: what its event does. Each leaf that stays keeps its authority and its holder, there are as many ranks, with as many places
 -- each, and the store's count of faults rises by one where the event is refused by a fault, and not otherwise: so no fault
 -- is hidden, tried again, or told as anything else
 pub record Steps (old new : Core) (past now : List Entry) (result : Result Answer Refusal) (event : Event) : Type 0 where
   pub does : Does old new past now result event
   pub authorities : KeepsAuthorities old.state.tree new.state.tree old.state.roots new.state.roots
+  pub holders : KeepsHolders old.state.tree new.state.tree old.state.roots new.state.roots old.state.exports
   pub ranks : length new.caches.used ≡ length old.caches.used
   pub capacity : new.caches.cap ≡ old.caches.cap
   pub counted : new.faults ≡ old.faults + faults_told (result_err result)

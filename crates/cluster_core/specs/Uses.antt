@@ -18,7 +18,7 @@ use Rattle.cluster_core.specs.declared.events.Answer.{Answer}
 use Rattle.cluster_core.specs.declared.events.Answer.TheVariants.{Deferred, Forwarded, Job, Nothing, Reply}
 use Rattle.ranked_tree.specs.Held.{AnyPlace, AsksFor, CameFor, IsGone}
 
--- a leaf that an operation asks for at a rank: one of a directory that it concerns, at its authority, or the first leaf of a directory that comes
+-- a leaf that an operation asks for at a rank: one of a directory that it concerns, at the rank that holds it, or the first leaf of a directory that comes
 abbrev pub Asks : TreeState → Roots → Op → ℕ → Leaf → Type 0
 Asks tree roots op = AsksFor tree roots (Concerns (shown_tree tree) op)
 

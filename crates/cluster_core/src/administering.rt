@@ -35,7 +35,7 @@ impl<S: Store + Drop> Cluster<S> {
     ) -> Result<Answer, Refusal>
         requires { AreRoots self.old.state.tree self.old.state.roots }
         ensures split { (past : List Applied) → AtRank self.old self.new past past rank result (Splits self.old self.new past past rank ino frag bits result) }
-        ensures kept { KeepsRoots self.old.state.tree self.new.state.tree self.old.state.roots self.new.state.roots }
+        ensures kept { KeepsRoots self.old.state.tree self.new.state.tree self.old.state.roots self.new.state.roots self.old.state.exports self.new.state.exports }
         ensures count { length self.new.caches.used ≡ length self.old.caches.used }
         ensures cap { self.new.caches.cap ≡ self.old.caches.cap }
         ensures counted { self.new.faults ≡ self.old.faults + faults_told (result_err result) }
@@ -64,7 +64,7 @@ impl<S: Store + Drop> Cluster<S> {
     ) -> Result<Answer, Refusal>
         requires { AreRoots self.old.state.tree self.old.state.roots }
         ensures merged { (past : List Applied) → AtRank self.old self.new past past rank result (Merges self.old self.new past past rank ino frag result) }
-        ensures kept { KeepsRoots self.old.state.tree self.new.state.tree self.old.state.roots self.new.state.roots }
+        ensures kept { KeepsRoots self.old.state.tree self.new.state.tree self.old.state.roots self.new.state.roots self.old.state.exports self.new.state.exports }
         ensures count { length self.new.caches.used ≡ length self.old.caches.used }
         ensures cap { self.new.caches.cap ≡ self.old.caches.cap }
         ensures counted { self.new.faults ≡ self.old.faults + faults_told (result_err result) }
@@ -155,7 +155,7 @@ impl<S: Store + Drop> Cluster<S> {
     }
 }
 
-// A leaf of a rank's is split, unless a grant stands on it.
+// A leaf of a rank's is split, unless it is frozen or a grant stands on it.
 fn split_at<S: Store + Drop>(
     alloc: Global,
     tree: &mut RankedTree<S>,
@@ -166,8 +166,8 @@ fn split_at<S: Store + Drop>(
     bits: u8,
 ) -> Result<Answer, Refusal>
     requires { AreRoots (tree_state tree.old.tree) tree.old.subtrees.roots }
-    ensures split { (numbers : List Supply) (inboxes : Waiting) (sessions : Table) (past : List Applied) → Splits (core_of tree.old.tree tree.old.subtrees.roots numbers inboxes pins.now sessions) (core_of tree.new.tree tree.new.subtrees.roots numbers inboxes pins.now sessions) past past rank ino frag bits result }
-    ensures kept { KeepsRoots (tree_state tree.old.tree) (tree_state tree.new.tree) tree.old.subtrees.roots tree.new.subtrees.roots }
+    ensures split { (numbers : List Supply) (inboxes : Waiting) (sessions : Table) (past : List Applied) → Splits (core_of tree.old.tree tree.old.subtrees.roots tree.old.exports numbers inboxes pins.now sessions) (core_of tree.new.tree tree.new.subtrees.roots tree.new.exports numbers inboxes pins.now sessions) past past rank ino frag bits result }
+    ensures kept { KeepsRoots (tree_state tree.old.tree) (tree_state tree.new.tree) tree.old.subtrees.roots tree.new.subtrees.roots tree.old.exports tree.new.exports }
     ensures count { length tree.new.tree.caches.used ≡ length tree.old.tree.caches.used }
     ensures cap { tree.new.tree.caches.cap ≡ tree.old.tree.caches.cap }
     ensures counted { tree.new.tree.faults ≡ tree.old.tree.faults + faults_told (result_err result) }
@@ -178,6 +178,9 @@ fn split_at<S: Store + Drop>(
     if !tree.is_authority(rank, ino, frag) {
         return Err(Refusal::NotAuthority);
     }
+    if tree.is_frozen(ino, frag) {
+        return Err(Refusal::Frozen);
+    }
     if pins.is_pinned(ino, frag) {
         return Err(Refusal::Pinned);
     }
@@ -187,7 +190,7 @@ fn split_at<S: Store + Drop>(
     Ok(Answer::Nothing)
 }
 
-// Leaves inside a fragment, all of a rank's, are merged, unless a grant stands on one of them.
+// Leaves inside a fragment, all of a rank's, are merged, unless one of them is frozen or a grant stands on one.
 fn merge_at<S: Store + Drop>(
     alloc: Global,
     tree: &mut RankedTree<S>,
@@ -197,8 +200,8 @@ fn merge_at<S: Store + Drop>(
     frag: Frag,
 ) -> Result<Answer, Refusal>
     requires { AreRoots (tree_state tree.old.tree) tree.old.subtrees.roots }
-    ensures merged { (numbers : List Supply) (inboxes : Waiting) (sessions : Table) (past : List Applied) → Merges (core_of tree.old.tree tree.old.subtrees.roots numbers inboxes pins.now sessions) (core_of tree.new.tree tree.new.subtrees.roots numbers inboxes pins.now sessions) past past rank ino frag result }
-    ensures kept { KeepsRoots (tree_state tree.old.tree) (tree_state tree.new.tree) tree.old.subtrees.roots tree.new.subtrees.roots }
+    ensures merged { (numbers : List Supply) (inboxes : Waiting) (sessions : Table) (past : List Applied) → Merges (core_of tree.old.tree tree.old.subtrees.roots tree.old.exports numbers inboxes pins.now sessions) (core_of tree.new.tree tree.new.subtrees.roots tree.new.exports numbers inboxes pins.now sessions) past past rank ino frag result }
+    ensures kept { KeepsRoots (tree_state tree.old.tree) (tree_state tree.new.tree) tree.old.subtrees.roots tree.new.subtrees.roots tree.old.exports tree.new.exports }
     ensures count { length tree.new.tree.caches.used ≡ length tree.old.tree.caches.used }
     ensures cap { tree.new.tree.caches.cap ≡ tree.old.tree.caches.cap }
     ensures counted { tree.new.tree.faults ≡ tree.old.tree.faults + faults_told (result_err result) }
@@ -209,6 +212,9 @@ fn merge_at<S: Store + Drop>(
     if !tree.is_all_of(ino, frag, rank) {
         return Err(Refusal::NotAuthority);
     }
+    if tree.is_any_frozen(ino, frag) {
+        return Err(Refusal::Frozen);
+    }
     if is_any_pinned(tree, pins, ino, frag) {
         return Err(Refusal::Pinned);
     }
@@ -218,21 +224,27 @@ fn merge_at<S: Store + Drop>(
     Ok(Answer::Nothing)
 }
 
-// A commit of a leaf of a rank's begins.
+// A commit of a leaf of a rank's begins, unless it is frozen.
 fn begin_at<S: Store + Drop>(
     tree: &mut RankedTree<S>,
     rank: Rank,
     ino: Ino,
     frag: Frag,
 ) -> Result<Answer, Refusal>
-    ensures begun { (numbers : List Supply) (inboxes : Waiting) (pins : List Granted) (sessions : Table) (past : List Applied) → BeginsCommit (core_of tree.old.tree tree.old.subtrees.roots numbers inboxes pins sessions) (core_of tree.new.tree tree.new.subtrees.roots numbers inboxes pins sessions) past past rank (ino, frag) result }
+    ensures begun { (numbers : List Supply) (inboxes : Waiting) (pins : List Granted) (sessions : Table) (past : List Applied) → BeginsCommit (core_of tree.old.tree tree.old.subtrees.roots tree.old.exports numbers inboxes pins sessions) (core_of tree.new.tree tree.new.subtrees.roots tree.new.exports numbers inboxes pins sessions) past past rank (ino, frag) result }
     ensures count { length tree.new.tree.caches.used ≡ length tree.old.tree.caches.used }
     ensures cap { tree.new.tree.caches.cap ≡ tree.old.tree.caches.cap }
     ensures faults { tree.new.tree.faults ≡ tree.old.tree.faults }
     ensures counted { tree.new.tree.faults ≡ tree.old.tree.faults + faults_told (result_err result) }
 {
-    if tree.has_leaf(ino, frag) && !tree.is_authority(rank, ino, frag) {
+    if !tree.has_leaf(ino, frag) {
+        return Err(Refusal::NoSuchFrag);
+    }
+    if !tree.is_authority(rank, ino, frag) {
         return Err(Refusal::NotAuthority);
+    }
+    if tree.is_frozen(ino, frag) {
+        return Err(Refusal::Frozen);
     }
     let job = match tree.begin(ino, frag) {
         Ok(job) => job,

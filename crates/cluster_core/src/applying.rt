@@ -1,11 +1,14 @@
 //! Applying a request: everything that may be refused is made first, and then it is done, which can't fail.
 ghost use Rattle.std.specs.Prelude.{◌≡◌, ◌<◌, ◌++◌, ◌∷◌, [], true, length, set, vec_len, vec_capacity, IfErr, IfOk, IsSome, MatchResult, OnOk};
+ghost use Rattle.std.specs.List.{Contains};
 ghost use Rattle.std.specs.Result.{result_err};
 ghost use Rattle.std.specs.Option.{option_copied};
+ghost use Rattle.mds_types.specs.Leaf.{Leaf};
 ghost use Rattle.mds_types.specs.Step.{step, number_or};
 ghost use Rattle.inode_table.specs.Numbers.{offer};
 ghost use Rattle.cluster_core.specs.Offer.{after_taking};
 ghost use Rattle.inboxes.specs.Pins.{is_for, left_without};
+ghost use Rattle.namespace_ops.specs.ChangedFragments.{changed_fragments};
 ghost use Rattle.namespace_ops.specs.Changes.{IsOffered, fragments_in};
 ghost use Rattle.namespace_ops.specs.Kept.{ChangesOnly, KeepsAll};
 ghost use Rattle.namespace_ops.specs.Checked.{Checks};
@@ -67,6 +70,7 @@ pub(crate) fn prepare<F: Frags>(
     requires session { IsSessionOf given.old.sessions asked.now.request.client asked.now.session }
     requires offered { IsOffered (F.content frags.old) F.IsNumber (offer asked.now.supply) }
     requires checked { Checks (F.content frags.old) (F.covers frags.old) (F.Holds frags.old) asked.now.request.op (number_or (offer asked.now.supply)) (step (F.content frags.old) asked.now.request.op (number_or (offer asked.now.supply))) checked }
+    requires touch { (leaf : Leaf) → Contains (changed_fragments (F.covers frags.old) (F.content frags.old) asked.now.request.op) leaf → F.MayTouch frags.old leaf }
     ensures prepared { let outcome = step (F.content frags.old) asked.now.request.op (number_or (offer asked.now.supply)) in
         MatchResult result
         (IsPrepared (F.content frags.old) (F.covers frags.old) (F.IsReady frags.new) asked.now.request.op outcome asked.now.supply)
@@ -135,9 +139,9 @@ pub(crate) fn commit<S: Store + Drop>(
     ensures count { length tree.new.tree.caches.used ≡ length tree.old.tree.caches.used }
     ensures cap { tree.new.tree.caches.cap ≡ tree.old.tree.caches.cap }
     ensures faults { tree.new.tree.faults ≡ tree.old.tree.faults }
-    ensures came { CamePlanned tree.old.subtrees.roots prepared.plan.change tree.old.tree tree.new.tree }
+    ensures came { CamePlanned (held_roots tree.old) prepared.plan.change tree.old.tree tree.new.tree }
     ensures followed { FollowPlanned prepared.plan.change (tree_state tree.old.tree) tree.old.subtrees.roots tree.new.subtrees.roots }
-    ensures kept { KeepsRoots (tree_state tree.old.tree) (tree_state tree.new.tree) tree.old.subtrees.roots tree.new.subtrees.roots }
+    ensures kept { KeepsRoots (tree_state tree.old.tree) (tree_state tree.new.tree) tree.old.subtrees.roots tree.new.subtrees.roots tree.old.exports tree.new.exports }
     ensures pins { pins.new ≡ without_gone (left_without (is_for asked.request.client asked.request.tid) pins.old) (went_with prepared.plan.change) }
     ensures appended { history.new.items ≡ history.old.items ++ record {
       client = asked.request.client;
@@ -203,9 +207,9 @@ fn carry_out<S: Store + Drop>(tree: &mut RankedTree<S>, pins: &mut Pins, change:
     ensures count { length tree.new.tree.caches.used ≡ length tree.old.tree.caches.used }
     ensures cap { tree.new.tree.caches.cap ≡ tree.old.tree.caches.cap }
     ensures faults { tree.new.tree.faults ≡ tree.old.tree.faults }
-    ensures came { CamePlanned tree.old.subtrees.roots change tree.old.tree tree.new.tree }
+    ensures came { CamePlanned (held_roots tree.old) change tree.old.tree tree.new.tree }
     ensures followed { FollowPlanned change (tree_state tree.old.tree) tree.old.subtrees.roots tree.new.subtrees.roots }
-    ensures kept { KeepsRoots (tree_state tree.old.tree) (tree_state tree.new.tree) tree.old.subtrees.roots tree.new.subtrees.roots }
+    ensures kept { KeepsRoots (tree_state tree.old.tree) (tree_state tree.new.tree) tree.old.subtrees.roots tree.new.subtrees.roots tree.old.exports tree.new.exports }
     ensures pins { pins.new ≡ without_gone pins.old (went_with change) }
 {
     // The contract of `store` is what says here that the state is sound.

@@ -3,7 +3,7 @@ ghost use Rattle.std.specs.Prelude.{◌≡◌, ◌+◌, ◌≤◌, [], IfOk, IfE
 ghost use Rattle.std.specs.FinMap as map;
 ghost use Rattle.objstore.specs.Objects.{faults_in};
 ghost use Rattle.mdcache.specs.New.{MayNotFormat, new_caches};
-ghost use Rattle.cluster_core.specs.Fragments.{LieAtAuthority};
+ghost use Rattle.cluster_core.specs.Fragments.{LieAtHolder};
 ghost use Rattle.cluster_core.specs.Runs.{Records};
 ghost use Rattle.cluster_core.specs.State.{new_state};
 ghost use Rattle.cluster_core.specs.Steps.{Steps};
@@ -66,11 +66,11 @@ impl<S: Store + Drop> Book<S> {
         &self.opening
     }
 
-    /// The cluster, to read. A caller also learns from it that each fragment which a rank caches is one of its own, and that one
-    /// which isn't clean lies in the cache of its authority.
+    /// The cluster, to read. A caller also learns from it that each fragment which a rank caches is one that it holds, and that one
+    /// which isn't clean lies in the cache of the rank that holds it.
     pub fn cluster(&self) -> &Cluster<S>
         ensures cluster { result.now ≡ self.now.core }
-        ensures lie { LieAtAuthority self.now.core }
+        ensures lie { LieAtHolder self.now.core }
     {
         &self.cluster
     }

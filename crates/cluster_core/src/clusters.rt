@@ -48,7 +48,7 @@ impl<S: Store + Drop> Model for Cluster<S> {
 
     ghost coded = { Prim.hlevel (codes, map.code) };
 
-    ghost view = { λ c. core_of c.tree.tree c.tree.subtrees.roots c.given.numbers.items c.waiting.inboxes c.waiting.pins (table c.given.sessions) };
+    ghost view = { λ c. core_of c.tree.tree c.tree.subtrees.roots c.tree.exports c.given.numbers.items c.waiting.inboxes c.waiting.pins (table c.given.sessions) };
 }
 
 impl<S: Store + Drop> Cluster<S> {
@@ -122,7 +122,7 @@ impl<S: Store + Drop> Cluster<S> {
     ) -> Result<Answer, Refusal>
         requires { (opening : Tree) × IsSound opening history.old.items self.old }
         ensures stepped { Steps self.old self.new history.old.items history.new.items result event }
-        ensures kept { KeepsRoots self.old.state.tree self.new.state.tree self.old.state.roots self.new.state.roots }
+        ensures kept { KeepsRoots self.old.state.tree self.new.state.tree self.old.state.roots self.new.state.roots self.old.state.exports self.new.state.exports }
     {
         match event {
             Event::Arrive { rank, request } => self.arrive(rank, request),
@@ -153,6 +153,7 @@ impl<S: Store + Drop> Cluster<S> {
         ensures arrived { (past : List Applied) → AtRank self.old self.new past past rank result (ArrivesAt self.old.state self.new.state past past rank request result × AsksNone self.old self.new) }
         ensures tree { self.new.state.tree ≡ self.old.state.tree }
         ensures roots { self.new.state.roots ≡ self.old.state.roots }
+        ensures exports { self.new.state.exports ≡ self.old.state.exports }
         ensures caches { self.new.caches ≡ self.old.caches }
         ensures faults { self.new.faults ≡ self.old.faults }
         ensures counted { self.new.faults ≡ self.old.faults + faults_told (result_err result) }
@@ -176,7 +177,7 @@ impl<S: Store + Drop> Cluster<S> {
     ) -> Result<Answer, Refusal>
         requires { (opening : Tree) × IsSound opening history.old.items self.old }
         ensures served { AtRank self.old self.new history.old.items history.new.items rank result (ServesRank self.old self.new history.old.items history.new.items rank result × UsesInbox self.old self.new rank result) }
-        ensures kept { KeepsRoots self.old.state.tree self.new.state.tree self.old.state.roots self.new.state.roots }
+        ensures kept { KeepsRoots self.old.state.tree self.new.state.tree self.old.state.roots self.new.state.roots self.old.state.exports self.new.state.exports }
         ensures count { length self.new.caches.used ≡ length self.old.caches.used }
         ensures cap { self.new.caches.cap ≡ self.old.caches.cap }
         ensures counted { self.new.faults ≡ self.old.faults + faults_told (result_err result) }
@@ -199,6 +200,7 @@ impl<S: Store + Drop> Cluster<S> {
         ensures granted { (past : List Applied) → AtRank self.old self.new past past rank result (GrantsWaiting self.old.state self.new.state past past (MayRefuse self.old self.new) rank client tid result × UsesGranted self.old self.new client tid) }
         ensures tree { self.new.state.tree ≡ self.old.state.tree }
         ensures roots { self.new.state.roots ≡ self.old.state.roots }
+        ensures exports { self.new.state.exports ≡ self.old.state.exports }
         ensures count { length self.new.caches.used ≡ length self.old.caches.used }
         ensures cap { self.new.caches.cap ≡ self.old.caches.cap }
         ensures counted { self.new.faults ≡ self.old.faults + faults_told (result_err result) }

@@ -1,5 +1,5 @@
 //! Grants: a rank lets a request that waits somewhere change its fragments.
-ghost use Rattle.std.specs.Prelude.{◌≡◌, ◌+◌, ◌<◌, List, IfErr, IfOk, OnErr, OnOk, length};
+ghost use Rattle.std.specs.Prelude.{◌≡◌, ◌+◌, ◌<◌, List, IfErr, IfOk, MatchBool, OnErr, OnOk, length};
 ghost use Rattle.objstore.specs.Objects.{faults_told};
 ghost use Rattle.std.specs.Result.{result_err};
 ghost use Rattle.mds_types.specs.declared.entries.Entry.{Entry as Applied};
@@ -9,8 +9,8 @@ ghost use Rattle.inode_table.specs.Numbers.{Supply};
 ghost use Rattle.inboxes.specs.Inboxes.{first_waiting};
 ghost use Rattle.cluster_core.specs.State.{state_of};
 ghost use Rattle.cluster_core.specs.Uses.{UsesWaiting};
-ghost use Rattle.ranked_tree.specs.Ranked.{MayRefuse};
-ghost use Rattle.cluster_core.specs.Grants.{AreHeldAmong, FindsNone, GrantsWaiting, HoldsOne, with_grants};
+ghost use Rattle.ranked_tree.specs.Ranked.{MayRefuse, held_roots};
+ghost use Rattle.cluster_core.specs.Grants.{AreHeldAmong, AreThawedEach, FindsNone, GrantsWaiting, HoldsOne, IsOneFrozen, with_grants};
 
 use crate::events::Answer;
 use crate::parts::Waiting;
@@ -21,7 +21,8 @@ use objstore::Store;
 use ranked_tree::RankedTree;
 use std::alloc::{AllocError, Global};
 
-/// A rank grants the first waiting copy of a request all its own fragments that the request would change now. Takes memory for
+/// A rank grants the first waiting copy of a request all its own fragments that the request would change now, where none of them is
+/// frozen. Takes memory for
 /// the list of these, and for the grants, which are made on a copy: a refusal leaves all.
 pub(crate) fn grant_first<S: Store + Drop>(
     alloc: Global,
@@ -31,10 +32,11 @@ pub(crate) fn grant_first<S: Store + Drop>(
     client: u64,
     tid: u64,
 ) -> Result<Answer, Refusal>
-    ensures granted { (numbers : List Supply) (sessions : Table) (past : List Applied) → GrantsWaiting (state_of (tree_state tree.old.tree) tree.old.subtrees.roots numbers waiting.old.inboxes waiting.old.pins sessions) (state_of (tree_state tree.new.tree) tree.new.subtrees.roots numbers waiting.new.inboxes waiting.new.pins sessions) past past (MayRefuse tree.old tree.new) rank client tid result }
-    ensures uses { UsesWaiting (tree_state tree.old.tree) tree.old.subtrees.roots tree.old.tree.caches tree.new.tree.caches (first_waiting client tid waiting.old.inboxes) }
+    ensures granted { (numbers : List Supply) (sessions : Table) (past : List Applied) → GrantsWaiting (state_of (tree_state tree.old.tree) tree.old.subtrees.roots tree.old.exports numbers waiting.old.inboxes waiting.old.pins sessions) (state_of (tree_state tree.new.tree) tree.new.subtrees.roots tree.new.exports numbers waiting.new.inboxes waiting.new.pins sessions) past past (MayRefuse tree.old tree.new) rank client tid result }
+    ensures uses { UsesWaiting (tree_state tree.old.tree) (held_roots tree.old) tree.old.tree.caches tree.new.tree.caches (first_waiting client tid waiting.old.inboxes) }
     ensures same { tree_state tree.new.tree ≡ tree_state tree.old.tree }
     ensures roots { tree.new.subtrees.roots ≡ tree.old.subtrees.roots }
+    ensures exports { tree.new.exports ≡ tree.old.exports }
     ensures count { length tree.new.tree.caches.used ≡ length tree.old.tree.caches.used }
     ensures cap { tree.new.tree.caches.cap ≡ tree.old.tree.caches.cap }
     ensures counted { tree.new.tree.faults ≡ tree.old.tree.faults + faults_told (result_err result) }
@@ -52,8 +54,8 @@ pub(crate) fn grant_first<S: Store + Drop>(
     Ok(Answer::Nothing)
 }
 
-// Those of some leaves of which a rank is the authority, of which there are some. Refused `NotAuthority` exactly where there is
-// none, and `NoMemory` only where there is one.
+// Those of some leaves of which a rank is the authority, of which there are some, and none is frozen. Refused `NotAuthority` exactly
+// where there is none, `NoMemory` only where there is one, and `Frozen` where one of them is frozen.
 fn some_held<S: Store + Drop>(
     alloc: Global,
     tree: &RankedTree<S>,
@@ -62,13 +64,31 @@ fn some_held<S: Store + Drop>(
 ) -> Result<Vec<(Ino, Frag)>, Refusal>
     ensures held { IfOk result (λ held. AreHeldAmong (tree_state tree.now.tree) tree.now.subtrees.roots rank leaves.now.items held.items) }
     ensures some { IfOk result (λ held. 0 < length held.items) }
-    ensures refused { IfErr result (FindsNone (tree_state tree.now.tree) tree.now.subtrees.roots rank leaves.now.items) }
+    ensures thawed { IfOk result (λ held. AreThawedEach (tree_state tree.now.tree) tree.now.subtrees.roots tree.now.exports held.items) }
+    ensures refused { IfErr result (FindsNone (tree_state tree.now.tree) tree.now.subtrees.roots tree.now.exports rank leaves.now.items) }
 {
     let held = held_among(alloc, tree, rank, leaves)?;
     if held.is_empty() {
         return Err(Refusal::NotAuthority);
     }
+    if is_one_frozen(tree, &held) {
+        return Err(Refusal::Frozen);
+    }
     Ok(held)
+}
+
+// Whether one of some leaves is frozen.
+fn is_one_frozen<S: Store + Drop>(tree: &RankedTree<S>, leaves: &Vec<(Ino, Frag)>) -> bool
+    ensures { MatchBool result
+        (IsOneFrozen (tree_state tree.now.tree) tree.now.subtrees.roots tree.now.exports leaves.now.items)
+        (AreThawedEach (tree_state tree.now.tree) tree.now.subtrees.roots tree.now.exports leaves.now.items) }
+{
+    for leaf in leaves {
+        if tree.is_frozen(leaf.0, leaf.1) {
+            return true;
+        }
+    }
+    false
 }
 
 // Those of some leaves of which a rank is the authority; memory can lack only where there is one.

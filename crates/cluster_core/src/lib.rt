@@ -10,7 +10,7 @@ mod flushing;
 mod granting;
 pub mod laws;
 mod masters;
-mod missing_grants;
+mod barred;
 mod mounting;
 mod parts;
 mod pinned;

@@ -1,32 +1,35 @@
 //! Which rank answers a request.
-ghost use Rattle.std.specs.Prelude.{◌≡◌};
-ghost use Rattle.namespace_ops.specs.Places.{AreLocated};
+ghost use Rattle.std.specs.Prelude.{◌≡◌, ℕ, IfSome, MatchOption};
+ghost use Rattle.mds_types.specs.Leaf.{leaf_of};
+ghost use Rattle.namespace_ops.specs.Places.{AreLocated, IsAt};
 ghost use Rattle.mdcache.specs.Core.{state_of as tree_state};
 ghost use Rattle.mdcache.specs.Shown.{shown_tree};
-ghost use Rattle.ranked_tree.specs.Subtrees.{HoldsAt};
-ghost use Rattle.cluster_core.specs.Master.{IsMasterIn, master_at};
+ghost use Rattle.ranked_tree.specs.Ranked.{held_roots};
+ghost use Rattle.ranked_tree.specs.Subtrees.{HoldsAt, Rules};
+ghost use Rattle.cluster_core.specs.Master.{IsMasterIn};
 
 use mds_types::{Dirfrag, Op, Rank};
 use namespace_ops::{Places, locate};
 use objstore::Store;
 use ranked_tree::RankedTree;
 
-/// Where the names of an operation lie that a rank serves, and its master: the rank that holds its dentry's leaf, of a rename the
+/// Where the names of an operation lie that a rank serves, and its master: the authority of its dentry's leaf, of a rename the
 /// destination's, of a readdir the directory's first. Where the directory isn't there, the rank itself. Takes no memory.
 pub fn locate_master<S: Store + Drop>(tree: &RankedTree<S>, rank: Rank, op: &Op) -> (Places, Rank)
-    ensures located { AreLocated (shown_tree (tree_state tree.now.tree)) tree.now.tree.covers (HoldsAt (tree_state tree.now.tree) tree.now.subtrees.roots) op.now result.0 }
+    ensures located { AreLocated (shown_tree (tree_state tree.now.tree)) tree.now.tree.covers (HoldsAt (tree_state tree.now.tree) (held_roots tree.now)) op.now result.0 }
     ensures master { IsMasterIn (tree_state tree.now.tree) tree.now.subtrees.roots rank op.now result.1 }
 {
     let places = locate(tree, rank, op);
-    (places, master_at(rank, places.main))
+    (places, master_of(tree, rank, places.main))
 }
 
-// The rank that holds the leaf which was found, or the one that serves.
-fn master_at(rank: Rank, found: Option<Dirfrag>) -> Rank
-    ensures { result ≡ master_at rank found }
+// The authority of the leaf which was found, or the rank that serves.
+fn master_of<S: Store + Drop>(tree: &RankedTree<S>, rank: Rank, found: Option<Dirfrag>) -> Rank
+    requires { IfSome found (λ at. (dir hash : ℕ) × IsAt (shown_tree (tree_state tree.now.tree)) tree.now.tree.covers (HoldsAt (tree_state tree.now.tree) (held_roots tree.now)) dir hash at) }
+    ensures { MatchOption found (result ≡ rank) (λ at. Rules (tree_state tree.now.tree) tree.now.subtrees.roots (leaf_of at) result) }
 {
     match found {
-        Some(at) => at.rank,
+        Some(at) => tree.authority_at(&at),
         None => rank,
     }
 }

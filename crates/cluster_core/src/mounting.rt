@@ -1,12 +1,15 @@
 //! A cluster and a book over a store as it is found.
-ghost use Rattle.std.specs.Prelude.{◌≡◌, ◌+◌, ◌≤◌, [], IfOk, IfErr};
+ghost use Rattle.std.specs.Prelude.{◌≡◌, ◌+◌, ◌≤◌, [], length, IfOk, IfErr};
 ghost use Rattle.std.specs.FinMap as map;
 ghost use Rattle.sorted_map.specs.SortedMap.{contents};
 ghost use Rattle.mds_types.specs.Tree.{dentry_cmp};
 ghost use Rattle.objstore.specs.Objects.{faults_in};
 ghost use Rattle.dentry_cache.specs.CacheMap.{AreCaches};
 ghost use Rattle.mdcache.specs.Mounted.{IsColdTree, MayNotMount};
+ghost use Rattle.mdcache.specs.Core.{state_of as tree_state};
+ghost use Rattle.ranked_tree.specs.Exported.{StandSoundly};
 ghost use Rattle.ranked_tree.specs.Held.{IsOwned};
+ghost use Rattle.ranked_tree.specs.Ranked.{held_roots};
 ghost use Rattle.cluster_core.specs.Mounted.{MountsCore};
 ghost use Rattle.cluster_core.specs.Sound.{IsSound, IsSoundBook};
 ghost use Rattle.cluster_core.specs.State.{core_of, shown};
@@ -63,9 +66,10 @@ impl<S: Store + Drop> Cluster<S> {
         opening: Opening,
         waiting: Waiting,
     ) -> (Cluster<S>, PlainTree)
-        ensures core { result.0 ≡ core_of tree.tree tree.subtrees.roots opening.numbers.items waiting.inboxes waiting.pins map.empty }
+        ensures core { result.0 ≡ core_of tree.tree tree.subtrees.roots tree.exports opening.numbers.items waiting.inboxes waiting.pins map.empty }
         ensures opening { result.1 ≡ contents dentry_cmp opening.entries }
-        ensures owned { IsOwned tree.tree tree.subtrees.roots }
+        ensures owned { IsOwned tree.tree (held_roots tree) }
+        ensures stand { StandSoundly (tree_state tree.tree) (length tree.tree.caches.used) tree.subtrees tree.exports }
         ensures caches { AreCaches tree.tree.caches }
     {
         // The contract of `store` is what says here that the tree is sound.

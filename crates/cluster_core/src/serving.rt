@@ -16,13 +16,13 @@ ghost use Rattle.cluster_core.specs.Asked.{HasRoomFor, IsAsked, IsSessionOf};
 ghost use Rattle.cluster_core.specs.Master.{AreMastersThere};
 ghost use Rattle.cluster_core.specs.Prepared.{IsMadeReady};
 ghost use Rattle.cluster_core.specs.Uses.{ReadsOp, UsesFront};
-ghost use Rattle.ranked_tree.specs.Ranked.{IsReady as IsReadyIn, MayRefuse};
+ghost use Rattle.ranked_tree.specs.Ranked.{IsReady as IsReadyIn, MayRefuse, held_roots};
 ghost use Rattle.ranked_tree.specs.Subtrees.{AreRoots, KeepsRoots};
 
 use crate::applying::{Prepared, commit, prepare};
 use crate::events::Answer;
 use crate::masters::locate_master;
-use crate::missing_grants::lacks_grant;
+use crate::barred::must_wait;
 use crate::parts::{Asked, Given, Waiting};
 use inboxes::{Inboxes, Pins};
 use mds_types::{Entry, Ino, Rank, Refusal, Reply, Request};
@@ -33,7 +33,7 @@ use sessions::Seen;
 use std::alloc::Global;
 
 /// Serves the request at the front of a rank's inbox, which is taken out once and put back where it is refused. One that
-/// was applied before is answered again; a new one goes to its master, or waits where it lacks a grant, or is applied.
+/// was applied before is answered again; a new one goes to its master, or waits where it may not change what it would, or is applied.
 pub(crate) fn serve_front<S: Store + Drop>(
     alloc: Global,
     tree: &mut RankedTree<S>,
@@ -47,11 +47,11 @@ pub(crate) fn serve_front<S: Store + Drop>(
     requires there { rank.0 < length given.old.numbers.items }
     requires masters { AreMastersThere (tree_state tree.old.tree) tree.old.subtrees.roots rank (length waiting.old.inboxes) }
     requires valid { AreRoots (tree_state tree.old.tree) tree.old.subtrees.roots }
-    ensures served { ServesInbox (state_of (tree_state tree.old.tree) tree.old.subtrees.roots given.old.numbers.items waiting.old.inboxes waiting.old.pins (table given.old.sessions))
-        (state_of (tree_state tree.new.tree) tree.new.subtrees.roots given.new.numbers.items waiting.new.inboxes waiting.new.pins (table given.new.sessions))
+    ensures served { ServesInbox (state_of (tree_state tree.old.tree) tree.old.subtrees.roots tree.old.exports given.old.numbers.items waiting.old.inboxes waiting.old.pins (table given.old.sessions))
+        (state_of (tree_state tree.new.tree) tree.new.subtrees.roots tree.new.exports given.new.numbers.items waiting.new.inboxes waiting.new.pins (table given.new.sessions))
         history.old.items history.new.items (MayRefuse tree.old tree.new) rank result (waiting_at waiting.old.inboxes rank) }
-    ensures uses { UsesFront (tree_state tree.old.tree) (tree_state tree.new.tree) tree.old.subtrees.roots tree.old.tree.caches tree.new.tree.caches result (waiting_at waiting.old.inboxes rank) }
-    ensures kept { KeepsRoots (tree_state tree.old.tree) (tree_state tree.new.tree) tree.old.subtrees.roots tree.new.subtrees.roots }
+    ensures uses { UsesFront (tree_state tree.old.tree) (tree_state tree.new.tree) (held_roots tree.old) tree.old.tree.caches tree.new.tree.caches result (waiting_at waiting.old.inboxes rank) }
+    ensures kept { KeepsRoots (tree_state tree.old.tree) (tree_state tree.new.tree) tree.old.subtrees.roots tree.new.subtrees.roots tree.old.exports tree.new.exports }
     ensures count { length tree.new.tree.caches.used ≡ length tree.old.tree.caches.used }
     ensures cap { tree.new.tree.caches.cap ≡ tree.old.tree.caches.cap }
     ensures counted { tree.new.tree.faults ≡ tree.old.tree.faults + faults_told (result_err result) }
@@ -94,16 +94,16 @@ fn serve_new<S: Store + Drop>(
     history: &mut Vec<Entry>,
     asked: Asked,
 ) -> Result<Answer, Refusal>
-    requires asked { IsAsked (tree_state tree.old.tree) tree.old.subtrees.roots given.old.numbers.items given.old.sessions history.old.items asked }
+    requires asked { IsAsked (tree_state tree.old.tree) tree.old.subtrees.roots tree.old.exports given.old.numbers.items given.old.sessions history.old.items asked }
     requires offered { IsOffered (shown_tree (tree_state tree.old.tree)) (λ n. IsRankNumber n) (offer asked.supply) }
     requires there { asked.rank.0 < length given.old.numbers.items }
     requires back { HasRoomFor waiting.old.inboxes asked.rank }
     requires valid { AreRoots (tree_state tree.old.tree) tree.old.subtrees.roots }
-    ensures served { ServesInbox (state_of (tree_state tree.old.tree) tree.old.subtrees.roots given.old.numbers.items (with_first waiting.old.inboxes asked.rank asked.request) waiting.old.pins (table given.old.sessions))
-        (state_of (tree_state tree.new.tree) tree.new.subtrees.roots given.new.numbers.items waiting.new.inboxes waiting.new.pins (table given.new.sessions))
+    ensures served { ServesInbox (state_of (tree_state tree.old.tree) tree.old.subtrees.roots tree.old.exports given.old.numbers.items (with_first waiting.old.inboxes asked.rank asked.request) waiting.old.pins (table given.old.sessions))
+        (state_of (tree_state tree.new.tree) tree.new.subtrees.roots tree.new.exports given.new.numbers.items waiting.new.inboxes waiting.new.pins (table given.new.sessions))
         history.old.items history.new.items (MayRefuse tree.old tree.new) asked.rank result (asked.request ∷ waiting_at waiting.old.inboxes asked.rank) }
-    ensures uses { UsesFront (tree_state tree.old.tree) (tree_state tree.new.tree) tree.old.subtrees.roots tree.old.tree.caches tree.new.tree.caches result (asked.request ∷ waiting_at waiting.old.inboxes asked.rank) }
-    ensures kept { KeepsRoots (tree_state tree.old.tree) (tree_state tree.new.tree) tree.old.subtrees.roots tree.new.subtrees.roots }
+    ensures uses { UsesFront (tree_state tree.old.tree) (tree_state tree.new.tree) (held_roots tree.old) tree.old.tree.caches tree.new.tree.caches result (asked.request ∷ waiting_at waiting.old.inboxes asked.rank) }
+    ensures kept { KeepsRoots (tree_state tree.old.tree) (tree_state tree.new.tree) tree.old.subtrees.roots tree.new.subtrees.roots tree.old.exports tree.new.exports }
     ensures count { length tree.new.tree.caches.used ≡ length tree.old.tree.caches.used }
     ensures cap { tree.new.tree.caches.cap ≡ tree.old.tree.caches.cap }
     ensures counted { tree.new.tree.faults ≡ tree.old.tree.faults + faults_told (result_err result) }
@@ -125,7 +125,7 @@ fn serve_new<S: Store + Drop>(
     }
 }
 
-// Makes everything that applying a request at its master needs; nothing where it lacks a grant.
+// Makes everything that applying a request at its master needs; nothing where it has to wait.
 fn make_ready<S: Store + Drop>(
     alloc: Global,
     tree: &mut RankedTree<S>,
@@ -134,15 +134,16 @@ fn make_ready<S: Store + Drop>(
     history: &mut Vec<Entry>,
     asked: &Asked,
 ) -> Result<Option<Prepared>, Refusal>
-    requires asked { IsAsked (tree_state tree.old.tree) tree.old.subtrees.roots given.old.numbers.items given.old.sessions history.old.items asked.now }
+    requires asked { IsAsked (tree_state tree.old.tree) tree.old.subtrees.roots tree.old.exports given.old.numbers.items given.old.sessions history.old.items asked.now }
     requires offered { IsOffered (shown_tree (tree_state tree.old.tree)) (λ n. IsRankNumber n) (offer asked.now.supply) }
-    ensures ready { IsMadeReady (tree_state tree.old.tree) tree.old.subtrees.roots pins.now asked.now.supply asked.now.rank asked.now.request (IsReadyIn tree.new) (MayRefuse tree.old tree.new asked.now.request.op) result }
+    ensures ready { IsMadeReady (tree_state tree.old.tree) tree.old.subtrees.roots tree.old.exports pins.now asked.now.supply asked.now.rank asked.now.request (IsReadyIn tree.new) (MayRefuse tree.old tree.new asked.now.request.op) result }
     ensures room { IfOk result (λ made. IfSome made (λ prepared. vec_len history.new < vec_capacity history.new)) }
     ensures reserved { IfOk result (λ made. IfSome made (λ prepared. IsReady given.new.sessions asked.now.request.client)) }
     ensures session { IsSessionOf given.new.sessions asked.now.request.client asked.now.session }
-    ensures reads { ReadsOp (tree_state tree.old.tree) tree.old.subtrees.roots asked.now.request.op tree.old.tree.caches tree.new.tree.caches }
+    ensures reads { ReadsOp (tree_state tree.old.tree) (held_roots tree.old) asked.now.request.op tree.old.tree.caches tree.new.tree.caches }
     ensures same { tree_state tree.new.tree ≡ tree_state tree.old.tree }
     ensures roots { tree.new.subtrees.roots ≡ tree.old.subtrees.roots }
+    ensures exports { tree.new.exports ≡ tree.old.exports }
     ensures past { history.new.items ≡ history.old.items }
     ensures known { table given.new.sessions ≡ table given.old.sessions }
     ensures numbers { given.new.numbers.items ≡ given.old.numbers.items }
@@ -152,7 +153,7 @@ fn make_ready<S: Store + Drop>(
 {
     let number = asked.supply.peek().unwrap_or(Ino(0));
     let checked = check(alloc, tree, &asked.request.op, asked.places, number)?;
-    if lacks_grant(tree, pins, asked.rank, &asked.request, &checked) {
+    if must_wait(tree, pins, asked.rank, &asked.request, &checked) {
         return Ok(None);
     }
     match prepare(alloc, tree, given, history, asked, checked) {

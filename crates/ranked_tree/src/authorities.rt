@@ -1,8 +1,8 @@
 //! Whose a leaf is.
-ghost use Rattle.std.specs.Prelude.{◌≡◌, ◌↔◌, false, IsTrue, MatchOption};
+ghost use Rattle.std.specs.Prelude.{◌≡◌, ◌↔◌, ℕ, false, IsTrue, MatchOption};
 ghost use Rattle.mds_types.specs.Leaf.{leaf_of};
 ghost use Rattle.inode_table.specs.Dirs.{IsLive};
-ghost use Rattle.namespace_ops.specs.Places.{Locates};
+ghost use Rattle.namespace_ops.specs.Places.{IsAt, Locates};
 ghost use Rattle.mdcache.specs.Core.{state_of};
 ghost use Rattle.mdcache.specs.Shown.{shown_tree};
 ghost use Rattle.ranked_tree.specs.Exported.{IsAnyFrozen, IsFrozenIn, held_in};
@@ -49,8 +49,7 @@ impl<S: Store + Drop> RankedTree<S> {
 
     /// The authority of a leaf that lies here: the rank that holds it, unless an export stands. Takes no memory.
     pub fn authority_at(&self, at: &Dirfrag) -> Rank
-        requires live { IsLive self.now.tree.homes self.now.tree.covers (leaf_of at.now) }
-        requires held { HoldsAt (state_of self.now.tree) (held_roots self.now) at.now }
+        requires at { (dir hash : ℕ) × IsAt (shown_tree (state_of self.now.tree)) self.now.tree.covers (HoldsAt (state_of self.now.tree) (held_roots self.now)) dir hash at.now }
         ensures { Rules (state_of self.now.tree) self.now.subtrees.roots (leaf_of at.now) result }
     {
         authority_at(&self.tree, &self.regions, at)
