@@ -19,7 +19,7 @@ use Rattle.cluster_core.specs.State.{Core, State, no_supply, shown, supply_of}
 use Rattle.cluster_core.specs.declared.events.Answer.{Answer}
 use Rattle.cluster_core.specs.Offer.{after_taking}
 use Rattle.cluster_core.specs.Serve.{IsApplied, entry_of, number_of, outcome_of, with_entry}
-use Rattle.cluster_core.specs.Sound.{AreCached, AreSupplied, IsFresh, IsKept, IsSound, IsSupplied}
+use Rattle.cluster_core.specs.Sound.{AreCached, AreExported, AreSupplied, IsFresh, IsKept, IsSound, IsSupplied}
 use Rattle.ranked_tree.specs.Subtrees.{KeepsRoots}
 
 -- what an offer of a number comes to: the table took it, or it took none and the outcome is that of any number
@@ -132,9 +132,9 @@ module _ (opening : Tree) (past : List Entry) (numbers : List Supply) (rank : �
 
 -- a book stays sound where a request is applied
 pub sound-applied : (opening : Tree) (past now : List Entry) (old new : Core) (rank : Rank) (request : Request) (rest : List Request) (answer : Answer)
-    → rank.0 < length old.state.numbers → IsSound opening past old → IsKept new.state.tree new.caches → AreCached new → length new.caches.used ≡ length old.caches.used → KeepsRoots old.state.tree new.state.tree old.state.roots new.state.roots
+    → rank.0 < length old.state.numbers → IsSound opening past old → IsKept new.state.tree new.caches → AreCached new → AreExported new → length new.caches.used ≡ length old.caches.used → KeepsRoots old.state.tree new.state.tree old.state.roots new.state.roots old.state.exports new.state.exports
     → IsApplied old.state new.state past now rank request rest answer → IsSound opening now new
-sound-applied opening past now old new rank request rest answer there sound tree cached count kept done =
+sound-applied opening past now old new rank request rest answer there sound tree cached exported count kept done =
     let before = old.state in
     let e = entry_of before rank request in
     let t = taking_of before rank request done.numbered in
@@ -158,6 +158,7 @@ sound-applied opening past now old new rank request rest answer there sound tree
       tree = tree;
       subtrees = kept.valid;
       cached = cached;
+      exported = exported;
       ranks = rw (numbers, inboxes) (record {
         some = omega (arith, sound.ranks.some, length-set before.numbers rank.0 (after_taking (supply_of before rank) e.number));
         inboxes = length-set before.inboxes rank.0 rest ∙ sound.ranks.inboxes ∙ sym (length-set before.numbers rank.0 (after_taking (supply_of before rank) e.number));

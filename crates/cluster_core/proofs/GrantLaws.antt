@@ -1,4 +1,4 @@
--- Whether a rank lacks a grant for the leaves of a change, from leaf to leaf.
+-- Whether a rank may change the leaves of a change, from leaf to leaf.
 use Rattle.std.proofs.Common.{◌≡◌, ◌↔◌, ◌⊎◌, inl, inr, ℕ, ◌+◌, ◌%◌, ◌^◌, ◌<◌, ◌≤◌, Bool, true, false, cond, List, [], ◌∷◌, ◌++◌, map, Option, Some, None, IfSome, IsTrue, MatchBool, refl, sym, ◌∙◌, subst, arith}
 use Rattle.std.specs.List.{Contains, list_any}
 use Rattle.std.specs.FinMap as map_of
@@ -14,6 +14,8 @@ use Rattle.mds_types.specs.declared.dentries.Dentry.{Dentry}
 use Rattle.mds_types.proofs.DirectoryLaws.{entry_stands}
 use Rattle.inboxes.specs.declared.pins.Pin.{Pin}
 use Rattle.inboxes.specs.Pins.{is_pin}
+use Rattle.export_steps.specs.Holder.{IsFrozen, holding}
+use Rattle.export_steps.specs.Standing.{Standing}
 use Rattle.fragtree.specs.FragTree.{HasLeaf, IsPick, IsTree}
 use Rattle.fragtree.proofs.Ranges.{Contains-from_range, ends_low, range_from_Contains}
 use Rattle.inode_table.specs.Dirs.{Covers}
@@ -26,6 +28,7 @@ use Rattle.subtree_map.proofs.Covers.{contains_start, is_fragment, one_leaf}
 use Rattle.subtree_map.proofs.Nearest.{one_authority}
 use Rattle.mdcache.specs.State.{State as TreeState}
 use Rattle.ranked_tree.specs.Subtrees.{HoldsAt}
+use Rattle.ranked_tree.proofs.StandLaws.{thawed_rules}
 use Rattle.cluster_core.specs.Master.{LacksOneOf, MayTouchEach, MayTouchIn, grant_of}
 
 -- the directory that goes with a change stands
@@ -67,45 +70,57 @@ in_either (x ∷ xs) ys leaf has = elim (first_or_later x leaf (xs ++ ys) has) [
   ]
 ]
 
-module _ (tree : TreeState) (roots : Roots) (pins : List Pin) (rank : Rank) (client tid : ℕ) where
-  -- a rank may change a leaf that it holds,
-  pub by_holding : (at : Dirfrag) → HoldsAt tree roots at → at.rank ≡ rank → MayTouchIn tree roots pins rank client tid (leaf_of at)
-  by_holding at held same = inl (subst (λ (r : Rank). HoldsAt tree roots (record { dir = at.dir; frag = at.frag; rank = r })) same held)
+module _ (tree : TreeState) (roots : Roots) (exports : Standing) (pins : List Pin) (rank : Rank) (client tid : ℕ) where
+  abbrev IsFrozenHere : Dirfrag → Type 0
+  IsFrozenHere at = IsFrozen exports roots tree.homes tree.covers (leaf_of at)
+
+  -- a leaf that isn't frozen is held by its authority
+  rules_at : (at : Dirfrag) → (IsFrozenHere at → ⊥) → HoldsAt tree (holding exports roots) at → HoldsAt tree roots at
+  rules_at at thawed held = thawed_rules exports roots tree.homes tree.covers (leaf_of at) at.rank thawed held
+
+  -- a rank may change one that it holds,
+  pub by_holding : (at : Dirfrag) → (IsFrozenHere at → ⊥) → HoldsAt tree (holding exports roots) at → at.rank ≡ rank → MayTouchIn tree roots exports pins rank client tid (leaf_of at)
+  by_holding at thawed held same = (thawed, inl (subst (λ (r : Rank). HoldsAt tree roots (record { dir = at.dir; frag = at.frag; rank = r })) same (rules_at at thawed held)))
 
   -- and otherwise one that is granted
-  pub by_grant : (at : Dirfrag) (granted : Bool) → HoldsAt tree roots at → (at.rank ≡ rank → ⊥) → granted ≡ list_any (is_pin (grant_of (leaf_of at) client tid)) pins → IsTrue granted ↔ MayTouchIn tree roots pins rank client tid (leaf_of at)
-  by_grant at granted held other is = (λ told. inr (sym is ∙ told), λ may. go may)
+  pub by_grant : (at : Dirfrag) (granted : Bool) → (IsFrozenHere at → ⊥) → HoldsAt tree (holding exports roots) at → (at.rank ≡ rank → ⊥) → granted ≡ list_any (is_pin (grant_of (leaf_of at) client tid)) pins
+      → IsTrue granted ↔ MayTouchIn tree roots exports pins rank client tid (leaf_of at)
+  by_grant at granted thawed held other is = (λ told. (thawed, inr (sym is ∙ told)), λ may. go may.1)
     where
-      go : MayTouchIn tree roots pins rank client tid (leaf_of at) → IsTrue granted
-      go (inl rules) = absurd (other (one_authority roots tree.homes tree.covers (leaf_of at) at.rank rank held rules))
+      go : HoldsAt tree roots (record { dir = at.dir; frag = at.frag; rank = rank }) ⊎ (list_any (is_pin (grant_of (leaf_of at) client tid)) pins ≡ true) → IsTrue granted
+      go (inl rules) = absurd (other (one_authority roots tree.homes tree.covers (leaf_of at) at.rank rank (rules_at at thawed held) rules))
       go (inr pinned) = is ∙ pinned
 
+  -- one that is frozen it may not
+  pub by_frozen : (at : Dirfrag) → IsFrozenHere at → IsTrue false ↔ MayTouchIn tree roots exports pins rank client tid (leaf_of at)
+  by_frozen at frozen = (λ told. let clash : false ≡ true = told in cc, λ may. absurd (may.0 frozen))
+
   -- the first of two lists decides where one of its leaves may not be changed, and the other where each may
-  pub lacks_left : (xs ys : List Leaf) → LacksOneOf tree roots pins rank client tid xs → LacksOneOf tree roots pins rank client tid (xs ++ ys)
-  lacks_left xs ys one = record { leaf = one.leaf; changes = in_left xs ys one.leaf one.changes; foreign = one.foreign }
+  pub lacks_left : (xs ys : List Leaf) → LacksOneOf tree roots exports pins rank client tid xs → LacksOneOf tree roots exports pins rank client tid (xs ++ ys)
+  lacks_left xs ys one = record { leaf = one.leaf; changes = in_left xs ys one.leaf one.changes; barred = one.barred }
 
-  pub lacks_right : (xs ys : List Leaf) → LacksOneOf tree roots pins rank client tid ys → LacksOneOf tree roots pins rank client tid (xs ++ ys)
-  lacks_right xs ys one = record { leaf = one.leaf; changes = in_right xs ys one.leaf one.changes; foreign = one.foreign }
+  pub lacks_right : (xs ys : List Leaf) → LacksOneOf tree roots exports pins rank client tid ys → LacksOneOf tree roots exports pins rank client tid (xs ++ ys)
+  lacks_right xs ys one = record { leaf = one.leaf; changes = in_right xs ys one.leaf one.changes; barred = one.barred }
 
-  pub others_decide : (xs ys : List Leaf) (lacks : Bool) → MayTouchEach tree roots pins rank client tid xs
-      → MatchBool lacks (LacksOneOf tree roots pins rank client tid ys) (MayTouchEach tree roots pins rank client tid ys)
-      → MatchBool lacks (LacksOneOf tree roots pins rank client tid (xs ++ ys)) (MayTouchEach tree roots pins rank client tid (xs ++ ys))
+  pub others_decide : (xs ys : List Leaf) (lacks : Bool) → MayTouchEach tree roots exports pins rank client tid xs
+      → MatchBool lacks (LacksOneOf tree roots exports pins rank client tid ys) (MayTouchEach tree roots exports pins rank client tid ys)
+      → MatchBool lacks (LacksOneOf tree roots exports pins rank client tid (xs ++ ys)) (MayTouchEach tree roots exports pins rank client tid (xs ++ ys))
   others_decide xs ys true may one = lacks_right xs ys one
   others_decide xs ys false may each = λ leaf has. elim (in_either xs ys leaf has) [
     | inl here ↦ may leaf here
     | inr there ↦ each leaf there
   ]
 
-  pub none_lacks : MayTouchEach tree roots pins rank client tid []
+  pub none_lacks : MayTouchEach tree roots exports pins rank client tid []
   none_lacks leaf has = absurd (none_in leaf has)
 
-  pub only_one : (leaf : Leaf) (may : Bool) → (IsTrue may ↔ MayTouchIn tree roots pins rank client tid leaf)
-      → MatchBool may (MayTouchEach tree roots pins rank client tid (leaf ∷ [])) (LacksOneOf tree roots pins rank client tid (leaf ∷ []))
+  pub only_one : (leaf : Leaf) (may : Bool) → (IsTrue may ↔ MayTouchIn tree roots exports pins rank client tid leaf)
+      → MatchBool may (MayTouchEach tree roots exports pins rank client tid (leaf ∷ [])) (LacksOneOf tree roots exports pins rank client tid (leaf ∷ []))
   only_one leaf true told = λ other has. elim (first_or_later leaf other [] has) [
-    | inl same ↦ subst (MayTouchIn tree roots pins rank client tid) same (told.0 refl)
+    | inl same ↦ subst (MayTouchIn tree roots exports pins rank client tid) same (told.0 refl)
     | inr more ↦ absurd (none_in other more)
   ]
-  only_one leaf false told = record { leaf = leaf; changes = first leaf []; foreign = λ may. let clash : false ≡ true = told.1 may in cc }
+  only_one leaf false told = record { leaf = leaf; changes = first leaf []; barred = λ may. let clash : false ≡ true = told.1 may in cc }
 
 -- what was told of two outcomes
 pub told_no : (P Q : Type 0) (b : Bool) → b ≡ false → MatchBool b P Q → Q

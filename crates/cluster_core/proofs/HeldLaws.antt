@@ -9,7 +9,9 @@ use Rattle.mds_types.specs.declared.ids.Rank.{Rank}
 use Rattle.mds_types.specs.declared.operations.Op.{Op}
 use Rattle.mds_types.specs.declared.requests.Request.{Request}
 use Rattle.mds_types.specs.declared.refusals.Refusal.{Refusal}
-use Rattle.mds_types.specs.declared.refusals.Refusal.TheVariants.{NoMemory, NotAuthority}
+use Rattle.mds_types.specs.declared.refusals.Refusal.TheVariants.{Frozen, NoMemory, NotAuthority}
+use Rattle.export_steps.specs.Holder.{IsFrozen}
+use Rattle.export_steps.specs.Standing.{Standing}
 use Rattle.inboxes.specs.declared.pins.Pin.{Pin}
 use Rattle.inboxes.specs.Inboxes.{Inboxes, first_waiting}
 use Rattle.inode_table.specs.Numbers.{Supply}
@@ -19,7 +21,8 @@ use Rattle.subtree_map.specs.Authority.{Leaf, Roots}
 use Rattle.mdcache.specs.Shown.{shown_tree}
 use Rattle.mdcache.specs.State.{State as TreeState}
 use Rattle.cluster_core.specs.declared.events.Answer.TheVariants.{Nothing}
-use Rattle.cluster_core.specs.Grants.{AreHeldAmong, FindsNone, GrantsFirst, GrantsWaiting, HoldsOne, IsGranted, with_grants}
+use Rattle.cluster_core.specs.Grants.{AreHeldAmong, AreThawedEach, FindsNone, GrantsFirst, GrantsWaiting, HoldsOne, IsGranted, IsOneFrozen, with_grants}
+use Rattle.cluster_core.specs.Master.{IsFrozenAt}
 use Rattle.cluster_core.specs.State.{State, state_of}
 use Rattle.ranked_tree.specs.Subtrees.{Rules}
 use Rattle.cluster_core.proofs.MasterLaws.{held_exactly, not_in_none}
@@ -52,13 +55,13 @@ holds_one (Err e) tree roots rank all leaves at leaf same there is rules = (leaf
 
 -- ---- a grant
 
-module _ (tree now : TreeState) (roots still : Roots) (numbers : List Supply) (inboxes : Inboxes) (pins after : List Pin) (sessions : Table) (past : List Entry) (MayRefuse : Op → Refusal → Type 0) (rank : Rank) (client tid : ℕ)
-    (request : Request) (waits : Some request ≡ first_waiting client tid inboxes) (changed mine : List Leaf) (names : NamesOnce (changed_fragments tree.covers (shown_tree tree) request.op) changed) (held : AreHeldAmong now still rank changed mine) (same : now ≡ tree) (rooted : still ≡ roots) where
+module _ (tree now : TreeState) (roots still : Roots) (exports stands : Standing) (numbers : List Supply) (inboxes : Inboxes) (pins after : List Pin) (sessions : Table) (past : List Entry) (MayRefuse : Op → Refusal → Type 0) (rank : Rank) (client tid : ℕ)
+    (request : Request) (waits : Some request ≡ first_waiting client tid inboxes) (changed mine : List Leaf) (names : NamesOnce (changed_fragments tree.covers (shown_tree tree) request.op) changed) (held : AreHeldAmong now still rank changed mine) (same : now ≡ tree) (rooted : still ≡ roots) (stood : stands ≡ exports) where
   abbrev before : State
-  before = state_of tree roots numbers inboxes pins sessions
+  before = state_of tree roots exports numbers inboxes pins sessions
 
   abbrev later : State
-  later = state_of now still numbers inboxes after sessions
+  later = state_of now still stands numbers inboxes after sessions
 
   exactly : (leaf : Leaf) → Contains mine leaf ↔ IsGranted before rank request.op leaf
   exactly leaf =
@@ -67,36 +70,55 @@ module _ (tree now : TreeState) (roots still : Roots) (numbers : List Supply) (i
         λ granted. its.1 ((names.exactly leaf).1 granted.changes, granted.mine),
       )
 
+  frozen_later : (leaf : Leaf) → IsFrozenAt before leaf → IsFrozen stands still now.homes now.covers leaf
+  frozen_later leaf frozen =
+      subst (λ (e : Standing). IsFrozen e still now.homes now.covers leaf) (sym stood)
+      (subst (λ (r : Roots). IsFrozen exports r now.homes now.covers leaf) (sym rooted) (subst (λ (t : TreeState). IsFrozen exports roots t.homes t.covers leaf) (sym same) frozen))
+
+  frozen_before : (leaf : Leaf) → IsFrozen stands still now.homes now.covers leaf → IsFrozenAt before leaf
+  frozen_before leaf frozen =
+      subst (λ (t : TreeState). IsFrozen exports roots t.homes t.covers leaf) same
+      (subst (λ (r : Roots). IsFrozen exports r now.homes now.covers leaf) rooted (subst (λ (e : Standing). IsFrozen e still now.homes now.covers leaf) stood frozen))
+
+  -- one of what it holds is frozen
+  pub frozen_granted : IsOneFrozen now still stands mine → after ≡ pins → GrantsWaiting before later past past MayRefuse rank client tid (Err Frozen)
+  frozen_granted (leaf, has, frozen) left = subst (GrantsFirst before later past past MayRefuse rank client tid (Err Frozen)) waits (
+    inr (inl (refl, (leaf, (exactly leaf).0 has, frozen_before leaf frozen))),
+    record { same = refl; left = λ i. record { tree = same i; roots = rooted i; exports = stood i; numbers = numbers; inboxes = inboxes; pins = left i; sessions = sessions } },
+  )
+
   -- the rank holds nothing of what would change
   pub none_granted : mine ≡ [] → after ≡ pins → GrantsWaiting before later past past MayRefuse rank client tid (Err NotAuthority)
   none_granted none left = subst (GrantsFirst before later past past MayRefuse rank client tid (Err NotAuthority)) waits (
     inl (refl, λ leaf granted. absurd (not_in_none leaf (subst (λ (ls : List Leaf). Contains ls leaf) none ((exactly leaf).1 granted)))),
-    record { same = refl; left = λ i. record { tree = same i; roots = rooted i; numbers = numbers; inboxes = inboxes; pins = left i; sessions = sessions } },
+    record { same = refl; left = λ i. record { tree = same i; roots = rooted i; exports = stood i; numbers = numbers; inboxes = inboxes; pins = left i; sessions = sessions } },
   )
 
-  -- all that it holds of it is granted
-  pub all_granted : 0 < length mine → after ≡ with_grants pins mine client tid → GrantsWaiting before later past past MayRefuse rank client tid (Ok Nothing)
-  all_granted some pinned = subst (GrantsFirst before later past past MayRefuse rank client tid (Ok Nothing)) waits (record {
+  -- all that it holds of it is granted, as none of it is frozen
+  pub all_granted : 0 < length mine → AreThawedEach now still stands mine → after ≡ with_grants pins mine client tid → GrantsWaiting before later past past MayRefuse rank client tid (Ok Nothing)
+  all_granted some thawed pinned = subst (GrantsFirst before later past past MayRefuse rank client tid (Ok Nothing)) waits (record {
     answered = refl;
     leaves = mine;
     exactly = exactly;
     some = some;
+    thawed = λ leaf granted frozen. thawed leaf ((exactly leaf).1 granted) (frozen_later leaf frozen);
     same = refl;
-    left = λ i. record { tree = same i; roots = rooted i; numbers = numbers; inboxes = inboxes; pins = pinned i; sessions = sessions };
+    left = λ i. record { tree = same i; roots = rooted i; exports = stood i; numbers = numbers; inboxes = inboxes; pins = pinned i; sessions = sessions };
   })
 
--- none was found that the rank holds: there is none, or memory lacked
-module _ (tree now : TreeState) (roots still : Roots) (numbers : List Supply) (inboxes : Inboxes) (pins after : List Pin) (sessions : Table) (past : List Entry) (MayRefuse : Op → Refusal → Type 0) (rank : Rank) (client tid : ℕ)
-    (request : Request) (waits : Some request ≡ first_waiting client tid inboxes) (changed : List Leaf) (names : NamesOnce (changed_fragments tree.covers (shown_tree tree) request.op) changed) (same : now ≡ tree) (rooted : still ≡ roots) (left : after ≡ pins) where
+-- none was found that the rank holds and may grant: there is none, or one is frozen, or memory lacked
+module _ (tree now : TreeState) (roots still : Roots) (exports stands : Standing) (numbers : List Supply) (inboxes : Inboxes) (pins after : List Pin) (sessions : Table) (past : List Entry) (MayRefuse : Op → Refusal → Type 0) (rank : Rank) (client tid : ℕ)
+    (request : Request) (waits : Some request ≡ first_waiting client tid inboxes) (changed : List Leaf) (names : NamesOnce (changed_fragments tree.covers (shown_tree tree) request.op) changed) (same : now ≡ tree) (rooted : still ≡ roots) (stood : stands ≡ exports) (left : after ≡ pins) where
   abbrev Refused : Refusal → Type 0
-  Refused reason = GrantsWaiting (state_of tree roots numbers inboxes pins sessions) (state_of now still numbers inboxes after sessions) past past MayRefuse rank client tid (Err reason)
+  Refused reason = GrantsWaiting (state_of tree roots exports numbers inboxes pins sessions) (state_of now still stands numbers inboxes after sessions) past past MayRefuse rank client tid (Err reason)
 
   pub memory_lacked : Refused NoMemory
-  memory_lacked = subst (GrantsFirst (state_of tree roots numbers inboxes pins sessions) (state_of now still numbers inboxes after sessions) past past MayRefuse rank client tid (Err NoMemory)) waits (
-    inr (inl refl),
-    record { same = refl; left = λ i. record { tree = same i; roots = rooted i; numbers = numbers; inboxes = inboxes; pins = left i; sessions = sessions } },
+  memory_lacked = subst (GrantsFirst (state_of tree roots exports numbers inboxes pins sessions) (state_of now still stands numbers inboxes after sessions) past past MayRefuse rank client tid (Err NoMemory)) waits (
+    inr (inr (inl refl)),
+    record { same = refl; left = λ i. record { tree = same i; roots = rooted i; exports = stood i; numbers = numbers; inboxes = inboxes; pins = left i; sessions = sessions } },
   )
 
-  pub none_found : (reason : Refusal) → FindsNone now still rank changed reason → Refused reason
-  none_found reason (inl (is, held)) = subst Refused (sym is) (none_granted tree now roots still numbers inboxes pins after sessions past MayRefuse rank client tid request waits changed [] names held same rooted refl left)
-  none_found reason (inr (is, one)) = subst Refused (sym is) memory_lacked
+  pub none_found : (reason : Refusal) → FindsNone now still stands rank changed reason → Refused reason
+  none_found reason (inl (is, held)) = subst Refused (sym is) (none_granted tree now roots still exports stands numbers inboxes pins after sessions past MayRefuse rank client tid request waits changed [] names held same rooted stood refl left)
+  none_found reason (inr (inl (is, one))) = subst Refused (sym is) memory_lacked
+  none_found reason (inr (inr (is, (mine, held, frozen)))) = subst Refused (sym is) (frozen_granted tree now roots still exports stands numbers inboxes pins after sessions past MayRefuse rank client tid request waits changed mine names held same rooted stood frozen left)

@@ -5,6 +5,7 @@ use Rattle.mds_types.specs.declared.operations.Op.{Op}
 use Rattle.mds_types.specs.declared.refusals.Refusal.{Refusal}
 use Rattle.mds_types.specs.declared.refusals.Refusal.TheVariants.{NoMemory}
 use Rattle.mds_types.specs.Step.{number_or, step}
+use Rattle.export_steps.specs.Standing.{Standing}
 use Rattle.inboxes.specs.declared.pins.Pin.{Pin}
 use Rattle.inode_table.specs.Numbers.{Supply, offer}
 use Rattle.namespace_ops.specs.Checked.{Checks}
@@ -15,9 +16,9 @@ use Rattle.mdcache.specs.Core.{state_of as tree_state}
 use Rattle.mdcache.specs.Shown.{shown_tree}
 use Rattle.mdcache.specs.State.{State}
 use Rattle.ranked_tree.specs.Subtrees.{HoldsAt}
-use Rattle.ranked_tree.specs.Ranked.{KeepsRanked, MayRefuse, Ranked}
-use Rattle.ranked_tree.proofs.AskLaws.{ranked_later}
-use Rattle.cluster_core.specs.Master.{LacksGrantIn, MayTouchAllIn}
+use Rattle.ranked_tree.specs.Ranked.{KeepsRanked, MayRefuse, Ranked, held_roots}
+use Rattle.ranked_tree.proofs.AskLaws.{held_still, ranked_later}
+use Rattle.cluster_core.specs.Master.{MayTouchAllIn, MustWaitIn}
 use Rattle.cluster_core.specs.Prepared.{IsUnready}
 
 pub still_refused : (old mid new : Ranked) (op : Op) (Touch : Type 0) (supply : Supply) (reason : Refusal) → KeepsRanked old mid op None → Touch
@@ -33,17 +34,18 @@ still_refused old mid new op Touch supply reason kept touch refused = go refused
 
 -- the checks find the same after reads
 pub checked_later : (old mid : Ranked) (op : Op) (n m : ℕ) (found : Checked) → KeepsRanked old mid op None → n ≡ m
-    → Checks (shown_tree (tree_state old.tree)) old.tree.covers (HoldsAt (tree_state old.tree) old.subtrees.roots) op n (step (shown_tree (tree_state old.tree)) op n) found
-    → Checks (shown_tree (tree_state mid.tree)) mid.tree.covers (HoldsAt (tree_state mid.tree) mid.subtrees.roots) op m (step (shown_tree (tree_state mid.tree)) op m) found
+    → Checks (shown_tree (tree_state old.tree)) old.tree.covers (HoldsAt (tree_state old.tree) (held_roots old)) op n (step (shown_tree (tree_state old.tree)) op n) found
+    → Checks (shown_tree (tree_state mid.tree)) mid.tree.covers (HoldsAt (tree_state mid.tree) (held_roots mid)) op m (step (shown_tree (tree_state mid.tree)) op m) found
 checked_later old mid op n m found kept number checks =
-    subst (λ (r : Roots). Checks (shown_tree (tree_state mid.tree)) mid.tree.covers (HoldsAt (tree_state mid.tree) r) op m (step (shown_tree (tree_state mid.tree)) op m) found) (sym kept.roots)
-    (subst (λ (s : State). Checks (shown_tree s) s.covers (HoldsAt s old.subtrees.roots) op m (step (shown_tree s) op m) found) (sym kept.tree.state)
-    (subst (λ k. Checks (shown_tree (tree_state old.tree)) old.tree.covers (HoldsAt (tree_state old.tree) old.subtrees.roots) op k (step (shown_tree (tree_state old.tree)) op k) found) number checks))
+    subst (λ (r : Roots). Checks (shown_tree (tree_state mid.tree)) mid.tree.covers (HoldsAt (tree_state mid.tree) r) op m (step (shown_tree (tree_state mid.tree)) op m) found) (sym (held_still old mid op None kept))
+    (subst (λ (s : State). Checks (shown_tree s) s.covers (HoldsAt s (held_roots old)) op m (step (shown_tree s) op m) found) (sym kept.tree.state)
+    (subst (λ k. Checks (shown_tree (tree_state old.tree)) old.tree.covers (HoldsAt (tree_state old.tree) (held_roots old)) op k (step (shown_tree (tree_state old.tree)) op k) found) number checks))
 
--- a rank lacks a grant after reads exactly where it did before
-pub lacks_before : (old mid : Ranked) (pins : List Pin) (rank : Rank) (client tid : ℕ) (op : Op) (lacks : Bool) → KeepsRanked old mid op None
-    → MatchBool lacks (LacksGrantIn (tree_state mid.tree) mid.subtrees.roots pins rank client tid op) (MayTouchAllIn (tree_state mid.tree) mid.subtrees.roots pins rank client tid op)
-    → MatchBool lacks (LacksGrantIn (tree_state old.tree) old.subtrees.roots pins rank client tid op) (MayTouchAllIn (tree_state old.tree) old.subtrees.roots pins rank client tid op)
-lacks_before old mid pins rank client tid op lacks kept found =
-    subst (λ (r : Roots). MatchBool lacks (LacksGrantIn (tree_state old.tree) r pins rank client tid op) (MayTouchAllIn (tree_state old.tree) r pins rank client tid op)) kept.roots
-    (subst (λ (s : State). MatchBool lacks (LacksGrantIn s mid.subtrees.roots pins rank client tid op) (MayTouchAllIn s mid.subtrees.roots pins rank client tid op)) kept.tree.state found)
+-- a request has to wait after reads exactly where it had to before
+pub waits_before : (old mid : Ranked) (pins : List Pin) (rank : Rank) (client tid : ℕ) (op : Op) (waits : Bool) → KeepsRanked old mid op None
+    → MatchBool waits (MustWaitIn (tree_state mid.tree) mid.subtrees.roots mid.exports pins rank client tid op) (MayTouchAllIn (tree_state mid.tree) mid.subtrees.roots mid.exports pins rank client tid op)
+    → MatchBool waits (MustWaitIn (tree_state old.tree) old.subtrees.roots old.exports pins rank client tid op) (MayTouchAllIn (tree_state old.tree) old.subtrees.roots old.exports pins rank client tid op)
+waits_before old mid pins rank client tid op waits kept found =
+    subst (λ (e : Standing). MatchBool waits (MustWaitIn (tree_state old.tree) old.subtrees.roots e pins rank client tid op) (MayTouchAllIn (tree_state old.tree) old.subtrees.roots e pins rank client tid op)) kept.exports
+    (subst (λ (r : Roots). MatchBool waits (MustWaitIn (tree_state old.tree) r mid.exports pins rank client tid op) (MayTouchAllIn (tree_state old.tree) r mid.exports pins rank client tid op)) kept.roots
+    (subst (λ (s : State). MatchBool waits (MustWaitIn s mid.subtrees.roots mid.exports pins rank client tid op) (MayTouchAllIn s mid.subtrees.roots mid.exports pins rank client tid op)) kept.tree.state found))

@@ -1,25 +1,28 @@
 -- Which leaves an operation changes, and which of them a rank may change.
-use Rattle.std.proofs.Common.{◌≡◌, ◌↔◌, inl, inr, ℕ, Bool, List, [], ◌∷◌, Option, Some, None, refl, sym, ap, ◌∙◌, subst, MatchBool, arith}
+use Rattle.std.proofs.Common.{◌≡◌, ◌↔◌, inl, inr, ℕ, Bool, List, [], ◌∷◌, Option, Some, None, refl, sym, ap, ◌∙◌, subst, MatchBool, MatchOption, arith}
 use Rattle.std.specs.List.{Contains}
+use Rattle.std.specs.Prelude.{IfSome}
 use Rattle.mds_types.specs.declared.dirfrags.Dirfrag.{Dirfrag}
 use Rattle.mds_types.specs.declared.ids.Ino.{Ino}
 use Rattle.mds_types.specs.declared.ids.Rank.{Rank}
 use Rattle.mds_types.specs.Frag.{Fragment}
 use Rattle.mds_types.specs.declared.operations.Op.{Op}
 use Rattle.mds_types.specs.declared.operations.Op.TheVariants.{Lookup, Readdir, Readlink, Create, Mkdir, Symlink, Setattr, Unlink, Rmdir, Rename}
+use Rattle.mds_types.specs.Leaf.{leaf_of}
 use Rattle.mds_types.specs.Step.{destination_of}
+use Rattle.mds_types.specs.Tree.{Tree}
 use Rattle.fragtree.specs.FragTree.{IsPick}
 use Rattle.inode_table.specs.Dirs.{Covers, leaves_of}
 use Rattle.namespace_ops.specs.Changes.{in_directory}
 use Rattle.namespace_ops.specs.Picks.{pick_of}
-use Rattle.namespace_ops.specs.Places.{Locates, main_hash}
+use Rattle.namespace_ops.specs.Places.{IsAt, Locates, main_hash}
 use Rattle.namespace_ops.proofs.PickLaws.{picked}
 use Rattle.namespace_ops.proofs.Members.{first, first_or_later, later}
 use Rattle.subtree_map.specs.Authority.{Leaf, Roots}
 use Rattle.mdcache.specs.Shown.{shown_tree}
 use Rattle.mdcache.specs.State.{State as TreeState}
 use Rattle.cluster_core.specs.Grants.{AreHeldAmong}
-use Rattle.cluster_core.specs.Master.{IsMasterIn, main_leaf, master_at}
+use Rattle.cluster_core.specs.Master.{IsMasterIn, main_leaf}
 use Rattle.ranked_tree.specs.Subtrees.{HoldsAt, Rules}
 
 -- nothing is in an empty list
@@ -43,12 +46,18 @@ pub main_located : (covers : Covers) (op : Op) (dir : Ino) (f : Fragment) → di
 main_located covers op dir f there pick =
     ap (λ (g : Fragment). (dir, g)) (sym (picked (leaves_of covers dir.0) (main_hash op) f pick)) ∙ ap (λ (d : ℕ). in_directory d (pick_of (leaves_of covers d) (main_hash op))) there ∙ sym (main_picked covers op)
 
--- the rank that holds the leaf in which that hash falls is the master; where there is no such directory the rank itself is
-pub master_located : (tree : TreeState) (roots : Roots) (rank : Rank) (op : Op) (found : Option Dirfrag) → Locates (shown_tree tree) tree.covers (HoldsAt tree roots) (destination_of op) (main_hash op) found → IsMasterIn tree roots rank op (master_at rank found)
-master_located tree roots rank op None h = subst (λ (b : Bool). MatchBool b (Rules tree roots (main_leaf tree.covers op) rank) (rank ≡ rank)) (sym h) refl
-master_located tree roots rank op (Some at) h =
-    subst (λ (b : Bool). MatchBool b (Rules tree roots (main_leaf tree.covers op) at.rank) (at.rank ≡ rank)) (sym h.stands)
-    (subst (λ (l : Leaf). Rules tree roots l at.rank) (main_located tree.covers op at.dir at.frag h.dir (subst (λ (d : ℕ). IsPick (leaves_of tree.covers d) (main_hash op) at.frag) (sym h.dir) h.leaf)) h.held)
+-- the authority of the leaf in which that hash falls is the master; where there is no such directory the rank itself is
+pub master_located : (tree : TreeState) (roots held : Roots) (rank : Rank) (op : Op) (found : Option Dirfrag) (master : Rank) → Locates (shown_tree tree) tree.covers (HoldsAt tree held) (destination_of op) (main_hash op) found
+    → MatchOption found (master ≡ rank) (λ at. Rules tree roots (leaf_of at) master) → IsMasterIn tree roots rank op master
+master_located tree roots held rank op None master h is = subst (λ (b : Bool). MatchBool b (Rules tree roots (main_leaf tree.covers op) master) (master ≡ rank)) (sym h) is
+master_located tree roots held rank op (Some at) master h is =
+    subst (λ (b : Bool). MatchBool b (Rules tree roots (main_leaf tree.covers op) master) (master ≡ rank)) (sym h.stands)
+    (subst (λ (l : Leaf). Rules tree roots l master) (main_located tree.covers op at.dir at.frag h.dir (subst (λ (d : ℕ). IsPick (leaves_of tree.covers d) (main_hash op) at.frag) (sym h.dir) h.leaf)) is)
+
+-- a leaf that was found is where a hash falls
+pub where_found : (tree : Tree) (covers : Covers) (Holds : Dirfrag → Type 0) (dir hash : ℕ) (found : Option Dirfrag) → Locates tree covers Holds dir hash found → IfSome found (λ at. (d h : ℕ) × IsAt tree covers Holds d h at)
+where_found tree covers Holds dir hash None h = tt
+where_found tree covers Holds dir hash (Some at) h = (dir, hash, h)
 
 -- those that are held among some leaves
 pub held_exactly : (tree : TreeState) (roots : Roots) (rank : Rank) (leaves held : List Leaf) → AreHeldAmong tree roots rank leaves held → (leaf : Leaf) → Contains held leaf ↔ (Contains leaves leaf × Rules tree roots leaf rank)

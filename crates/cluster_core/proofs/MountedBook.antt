@@ -12,19 +12,20 @@ use Rattle.objstore.specs.Objects.{Objects}
 use Rattle.inode_table.specs.Dirs.{Covers}
 use Rattle.inode_table.specs.Numbers.{IsSupply, Supply, first_number}
 use Rattle.dentry_cache.specs.CacheMap.{AreCaches, CacheMap}
-use Rattle.mdcache.specs.Core.{Core as TreeCore, shown_in}
+use Rattle.mdcache.specs.Core.{Core as TreeCore, shown_in, state_of}
 use Rattle.mdcache.specs.Mounted.{AreNumbers, IsNext, IsOfRank, Mounts}
 use Rattle.mdcache.specs.State.{State as TreeState}
 use Rattle.mdcache.proofs.MountLaws.{IsIn, get_entry}
 use Rattle.sessions.proofs.TableLaws.{table-none}
 use Rattle.subtree_map.specs.Authority.{Roots}
-use Rattle.ranked_tree.specs.Held.{IsOwned}
+use Rattle.ranked_tree.specs.Held.{AreHeld, IsOwned}
+use Rattle.ranked_tree.proofs.StandLaws.{none_stand}
 use Rattle.ranked_tree.specs.Mounted.{AreTopRoots}
 use Rattle.ranked_tree.proofs.MountedRoots.{top_of_none}
 use Rattle.cluster_core.specs.Mounted.{MountsCore}
 use Rattle.cluster_core.specs.Sound.{IsFresh, IsSound, IsSupplied}
 use Rattle.cluster_core.specs.State.{Core, core_of, no_supply, whole_supplies}
-use Rattle.cluster_core.proofs.NewBook.{new_count}
+use Rattle.cluster_core.proofs.NewBook.{new_count, stand_alone}
 
 -- ---- numbers
 
@@ -95,7 +96,7 @@ whole_numbers ranks ss a = whole_from 0 ss ranks a.count (λ k s is. let of = a.
 
 module _ (objects : Objects) (ranks places : ℕ) (t : TreeCore) (roots : Roots) (opening : Tree) (ss : List Supply) (is : Mounts objects ranks places opening t) (opens : opening ≡ shown_in t) (given : AreNumbers (shown_in t) ranks ss) (top : AreTopRoots t.covers roots) where
   abbrev core : Core
-  core = core_of t roots ss (replicate ranks []) [] finmap.empty
+  core = core_of t roots finmap.empty ss (replicate ranks []) [] finmap.empty
 
   its_numbers : AreNumbers opening ranks ss
   its_numbers = subst (λ (tree : Tree). AreNumbers tree ranks ss) (sym opens) given
@@ -107,13 +108,14 @@ module _ (objects : Objects) (ranks places : ℕ) (t : TreeCore) (roots : Roots)
       go (inl (none, new)) =
           let first : roots ≡ _ = top_of_none roots (subst (λ (cs : Covers). AreTopRoots cs roots) (ap (λ (s : TreeState). s.covers) new.state) top) in
           let all : ss ≡ whole_supplies 0 ranks = whole_numbers ranks ss (subst (λ (tree : Tree). AreNumbers tree ranks ss) new.none its_numbers) in
-          inl (none, new.none, record { state = λ i. record { tree = new.state i; roots = first i; numbers = all i; inboxes = replicate ranks []; pins = []; sessions = finmap.empty }; caches = new.caches })
+          inl (none, new.none, record { state = λ i. record { tree = new.state i; roots = first i; exports = finmap.empty; numbers = all i; inboxes = replicate ranks []; pins = []; sessions = finmap.empty }; caches = new.caches })
       go (inr (some, m)) = inr (
         some,
         record {
           walked = m.walked;
           tree = m.state;
           roots = top;
+          exports = refl;
           numbers = its_numbers;
           inboxes = refl;
           pins = refl;
@@ -135,7 +137,8 @@ module _ (objects : Objects) (ranks places : ℕ) (t : TreeCore) (roots : Roots)
     replayed = sym opens;
     tree = record { sound = owned.sound.sound; begun = owned.sound.begun; cached = owned.sound.cached };
     subtrees = owned.valid;
-    cached = record { unsaved = refl; places = (t.kept, owned.sound.kept); held = owned.held; orders = caches };
+    cached = record { unsaved = refl; places = (t.kept, owned.sound.kept); held = subst (AreHeld (state_of t) t.caches) (sym (none_stand finmap.empty roots refl)) owned.held; orders = caches };
+    exported = stand_alone core refl owned.held.ranks;
     ranks = record {
       some = let count = given.count in omega (arith, count, some);
       inboxes = length-replicate ranks [] ∙ sym given.count;

@@ -1,18 +1,25 @@
 -- A book begins sound.
-use Rattle.std.proofs.Common.{◌≡◌, ℕ, zero, suc, ◌+◌, ◌^◌, ◌<◌, ◌≤◌, inl, inr, [], replicate, map, length, get_or, refl, sym, ap, subst, ◌∙◌, arith}
+use Rattle.std.proofs.Common.{◌≡◌, ℕ, zero, suc, ◌+◌, ◌^◌, ◌<◌, ◌≤◌, inl, inr, None, Some, [], replicate, map, length, get_or, refl, sym, ap, subst, ◌∙◌, arith}
 use Rattle.std.specs.FinMap as finmap
+use Rattle.std.specs.FinMap.{get-empty}
 use Rattle.std.proofs.lemmas.List.{length-replicate, length-set}
 use Rattle.mds_types.specs.Tree.{numbers}
 use Rattle.mds_types.proofs.TreeLaws.{entries-empty}
 use Rattle.mds_types.specs.History.{IsUsed}
+use Rattle.mds_types.specs.Leaf.{Leaf, leaf_cmp}
+use Rattle.mds_types.specs.declared.ids.Rank.{Rank}
+use Rattle.export_steps.specs.declared.exports.StandingExport.{StandingExport}
+use Rattle.export_steps.specs.Standing.{Standing}
 use Rattle.inode_table.specs.Numbers.{Supply, first_number}
 use Rattle.dentry_cache.specs.CacheMap.{first, no_caches, order}
 use Rattle.mdcache.specs.New.{new_caches, root_leaf}
 use Rattle.mdcache.proofs.NewLaws.{new_tree}
 use Rattle.ranked_tree.proofs.NewLaws.{new_are_roots}
+use Rattle.ranked_tree.proofs.StandLaws.{none_stand}
+use Rattle.subtree_map.specs.Authority.{Roots}
 use Rattle.sessions.proofs.TableLaws.{table-none}
-use Rattle.cluster_core.specs.State.{Core, new_state, no_supply, shown, whole_supplies}
-use Rattle.cluster_core.specs.Sound.{AreCached, AreSupplied, IsKept, IsSound, IsSupplied}
+use Rattle.cluster_core.specs.State.{Core, State, new_state, no_supply, shown, whole_supplies}
+use Rattle.cluster_core.specs.Sound.{AreCached, AreExported, AreSupplied, IsKept, IsSound, IsSupplied}
 
 -- no number of a rank is used in an empty book
 unused-empty : (n : ℕ) → 2 ^ 40 ≤ n → IsUsed finmap.empty [] n → ⊥
@@ -47,6 +54,18 @@ all_supplied ranks most k below =
       fresh = λ n low high used. absurd (unused-empty n (omega (arith, low)) used);
     })
 
+-- no export stands
+pub stand_alone : (core : Core) → core.state.exports ≡ finmap.empty → ((leaf : Leaf) (rank : Rank) → finmap.get core.state.roots leaf ≡ Some rank → rank.0 < length core.caches.used) → AreExported core
+stand_alone core none ranked = record {
+  placed = λ root export stands freezing. absurd (gone root export stands);
+  ranked = ranked;
+  there = λ root export stands. absurd (gone root export stands);
+  unbegun = λ leaf job is frozen. gone frozen.root frozen.export frozen.stands;
+}
+  where
+    gone : (root : Leaf) (export : StandingExport) → finmap.get core.state.exports root ≡ Some export → ⊥
+    gone root export stands = let clash : None ≡ Some export = sym (get-empty leaf_cmp root) ∙ ap (λ (e : Standing). finmap.get e root) (sym none) ∙ stands in cc
+
 -- a new book is sound
 pub sound-empty : (core : Core) (ranks : ℕ) → 1 ≤ ranks → ranks ≤ 16 → core.state ≡ new_state ranks → IsKept core.state.tree core.caches → AreCached core → length core.caches.used ≡ ranks → IsSound finmap.empty [] core
 sound-empty core ranks some most is tree cached count = record {
@@ -55,6 +74,7 @@ sound-empty core ranks some most is tree cached count = record {
   tree = tree;
   subtrees = rw is new_are_roots;
   cached = cached;
+  exported = stand_alone core (ap (λ (s : State). s.exports) is) (λ leaf rank has. cached.held.ranks leaf rank (ap (λ (r : Roots). finmap.get r leaf) (none_stand core.state.exports core.state.roots (ap (λ (s : State). s.exports) is)) ∙ has));
   ranks = record {
     some = rw is (omega (arith, some, as_many 0 ranks));
     inboxes = rw is (length-replicate ranks [] ∙ sym (as_many 0 ranks));

@@ -53,5 +53,5 @@ module _ (opening : Tree) (past : List Entry) (core : Core) (sound : IsSound ope
   masters_there op master h = go (is_directory (shown core.state) (destination_of op)) h
     where
       go : (b : Bool) → MatchBool b (Rules core.state.tree core.state.roots (main_leaf core.state.tree.covers op) master) (master ≡ rank) → master.0 < length core.state.inboxes
-      go true rules = omega (arith, sound.cached.held.ranks rules.root master rules.ranked, sound.ranks.caches, sound.ranks.inboxes)
+      go true rules = omega (arith, sound.exported.ranked rules.root master rules.ranked, sound.ranks.caches, sound.ranks.inboxes)
       go false same = omega (arith, ap (λ (r : Rank). r.0) same, there, sound.ranks.inboxes)

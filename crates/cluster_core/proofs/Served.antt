@@ -11,6 +11,7 @@ use Rattle.mds_types.specs.declared.refusals.Refusal.{Refusal}
 use Rattle.mds_types.specs.declared.refusals.Refusal.TheVariants.{InboxEmpty, NoMemory, NoInodes, Trimmed}
 use Rattle.mds_types.specs.History.{IsKeptAt, IsNew, IsTrimmed}
 use Rattle.dentry_cache.specs.Cache.{Leaf}
+use Rattle.export_steps.specs.Standing.{Standing}
 use Rattle.inboxes.specs.declared.pins.Pin.{Pin}
 use Rattle.inboxes.specs.Inboxes.{Inboxes, IsOut, TakesAt, waiting_at, with_first, with_last}
 use Rattle.inboxes.proofs.OutLaws.{goes_behind, out_again, waits_elsewhere, waits_first}
@@ -29,7 +30,7 @@ use Rattle.cluster_core.specs.declared.events.Answer.{Answer}
 use Rattle.cluster_core.specs.declared.events.Answer.TheVariants.{Deferred, Reply}
 use Rattle.cluster_core.specs.declared.applying.Prepared.{Prepared}
 use Rattle.cluster_core.specs.State.{State, state_of, supply_of}
-use Rattle.cluster_core.specs.Master.{IsMasterIn, LacksGrantIn, MayTouchAllIn}
+use Rattle.cluster_core.specs.Master.{IsMasterIn, MayTouchAllIn, MustWaitIn}
 use Rattle.cluster_core.specs.Offer.{after_taking}
 use Rattle.cluster_core.specs.Prepared.{IsPrepared, IsUnready, outcome_with}
 use Rattle.cluster_core.specs.Serve.{CarryLeaves, FollowPlanned, ForwardsTo, IsLeft, IsTakenOut, MakesPlanned, Repeats, ServesInbox, entry_of, number_of, went_with, with_entry, without_gone, without_request}
@@ -44,10 +45,10 @@ pub before_taking : (P : Inboxes → List Request → Type 0) (old mid : Inboxes
 before_taking P old mid rank request out h =
     subst (λ (o : Inboxes). P o (waiting_at o rank)) out.back (subst (P (with_first mid rank request)) (sym (waits_first mid rank request out.there)) h)
 
-module _ (f : TreeState) (roots : Roots) (numbers : List Supply) (mid : Inboxes) (pins : List Pin) (sessions : Table) (past : List Entry) (rank : Rank) (MayRefuse : Op → Refusal → Type 0) where
+module _ (f : TreeState) (roots : Roots) (exports : Standing) (numbers : List Supply) (mid : Inboxes) (pins : List Pin) (sessions : Table) (past : List Entry) (rank : Rank) (MayRefuse : Op → Refusal → Type 0) where
   -- nothing waits
-  pub nothing_waits : (now : Inboxes) (w : List Request) (front : Option Request) → front ≡ None → TakesAt mid now rank front w → ServesInbox (state_of f roots numbers mid pins sessions) (state_of f roots numbers now pins sessions) past past MayRefuse rank (Err InboxEmpty) w
-  nothing_waits now [] front none taken = (refl, record { same = refl; left = λ i. record { tree = f; roots = roots; numbers = numbers; inboxes = taken.1 i; pins = pins; sessions = sessions } })
+  pub nothing_waits : (now : Inboxes) (w : List Request) (front : Option Request) → front ≡ None → TakesAt mid now rank front w → ServesInbox (state_of f roots exports numbers mid pins sessions) (state_of f roots exports numbers now pins sessions) past past MayRefuse rank (Err InboxEmpty) w
+  nothing_waits now [] front none taken = (refl, record { same = refl; left = λ i. record { tree = f; roots = roots; exports = exports; numbers = numbers; inboxes = taken.1 i; pins = pins; sessions = sessions } })
   nothing_waits now (request ∷ rest) front none taken = let clash : None ≡ Some request = sym none ∙ taken.0 in absurd cc
 
   -- one request was taken out
@@ -59,7 +60,7 @@ module _ (f : TreeState) (roots : Roots) (numbers : List Supply) (mid : Inboxes)
     rest = waiting_at mid rank
 
     abbrev old : State
-    old = state_of f roots numbers before pins sessions
+    old = state_of f roots exports numbers before pins sessions
 
     -- another rank's inbox is as it was before
     elsewhere : (master : Rank) → master ≢ rank → waiting_at before master ≡ waiting_at mid master
@@ -68,36 +69,36 @@ module _ (f : TreeState) (roots : Roots) (numbers : List Supply) (mid : Inboxes)
     -- ---- before it is told whether the request is new
 
     pub trimmed_out : (pins_now : List Pin) → IsTrimmed past request.client request.tid request.oldest → pins_now ≡ without_request pins request
-        → ServesInbox old (state_of f roots numbers mid pins_now sessions) past past MayRefuse rank (Err Trimmed) (request ∷ rest)
+        → ServesInbox old (state_of f roots exports numbers mid pins_now sessions) past past MayRefuse rank (Err Trimmed) (request ∷ rest)
     trimmed_out pins_now late ends = inl (
       refl,
       late,
       record {
         same = refl;
-        left = λ i. record { tree = f; roots = roots; numbers = numbers; inboxes = sym (out_again mid rank request) i; pins = ends i; sessions = sessions };
+        left = λ i. record { tree = f; roots = roots; exports = exports; numbers = numbers; inboxes = sym (out_again mid rank request) i; pins = ends i; sessions = sessions };
       },
     )
 
     pub answered_again : (inboxes_now : Inboxes) (pins_now : List Pin) (place : ℕ) (said : Replied) (result : Result Answer Refusal)
         → IsKeptAt past request.client request.tid request.oldest place → ((e : Entry) → said ≡ (slice_index_or past place e).reply)
-        → Repeats mid inboxes_now pins pins_now rank request place said result → ServesInbox old (state_of f roots numbers inboxes_now pins_now sessions) past past MayRefuse rank result (request ∷ rest)
+        → Repeats mid inboxes_now pins pins_now rank request place said result → ServesInbox old (state_of f roots exports numbers inboxes_now pins_now sessions) past past MayRefuse rank result (request ∷ rest)
     answered_again inboxes_now pins_now place said (Ok answer) kept is h = inr (inl (record {
       place = place;
       kept = kept;
       answered = λ e. h.0 ∙ ap (λ (r : Replied). Reply request.client request.tid place false r) (is e);
       out = record {
         same = refl;
-        left = λ i. record { tree = f; roots = roots; numbers = numbers; inboxes = (h.1 ∙ sym (out_again mid rank request)) i; pins = h.2 i; sessions = sessions };
+        left = λ i. record { tree = f; roots = roots; exports = exports; numbers = numbers; inboxes = (h.1 ∙ sym (out_again mid rank request)) i; pins = h.2 i; sessions = sessions };
       };
     }))
     answered_again inboxes_now pins_now place said (Err reason) kept is h =
-        inr (inr (inr (inl (h.0, inl (place, kept), record { same = refl; left = λ i. record { tree = f; roots = roots; numbers = numbers; inboxes = h.1 i; pins = h.2 i; sessions = sessions } }))))
+        inr (inr (inr (inl (h.0, inl (place, kept), record { same = refl; left = λ i. record { tree = f; roots = roots; exports = exports; numbers = numbers; inboxes = h.1 i; pins = h.2 i; sessions = sessions } }))))
 
     -- ---- a new request
 
     pub goes_on : (inboxes_now : Inboxes) (master : Rank) (result : Result Answer Refusal)
         → IsNew past request.client request.tid request.oldest → IsMasterIn f roots rank request.op master → master ≢ rank
-        → ForwardsTo mid inboxes_now rank master request result → ServesInbox old (state_of f roots numbers inboxes_now pins sessions) past past MayRefuse rank result (request ∷ rest)
+        → ForwardsTo mid inboxes_now rank master request result → ServesInbox old (state_of f roots exports numbers inboxes_now pins sessions) past past MayRefuse rank result (request ∷ rest)
     goes_on inboxes_now master (Ok answer) new is other h = inr (inr (inl (record {
       is_new = new;
       master = master;
@@ -106,65 +107,65 @@ module _ (f : TreeState) (roots : Roots) (numbers : List Supply) (mid : Inboxes)
       answered = h.0;
       room = subst (λ (l : List Request). length l < 1024) (sym (elsewhere master other)) h.1;
       same = refl;
-      left = λ i. record { tree = f; roots = roots; numbers = numbers; inboxes = (h.2 ∙ ap (λ (x : Inboxes). with_last x master request) (sym (out_again mid rank request))) i; pins = pins; sessions = sessions };
+      left = λ i. record { tree = f; roots = roots; exports = exports; numbers = numbers; inboxes = (h.2 ∙ ap (λ (x : Inboxes). with_last x master request) (sym (out_again mid rank request))) i; pins = pins; sessions = sessions };
     })))
     goes_on inboxes_now master (Err reason) new is other h = inr (inr (inl (
       h.0,
       record { is_new = new; master = master; is_master = is; other = other; full = ap (λ (l : List Request). length l) (elsewhere master other) ∙ h.1 },
-      record { same = refl; left = λ i. record { tree = f; roots = roots; numbers = numbers; inboxes = h.2 i; pins = pins; sessions = sessions } },
+      record { same = refl; left = λ i. record { tree = f; roots = roots; exports = exports; numbers = numbers; inboxes = h.2 i; pins = pins; sessions = sessions } },
     )))
 
     -- at its master, after reads that keep all
-    module _ (g : TreeState) (between_roots : Roots) (between : Table) (middle : List Entry) (numbers_now : List Supply) (follows : g ≡ f) (rooted : between_roots ≡ roots) (known : between ≡ sessions) (past_is : middle ≡ past) (unused : numbers_now ≡ numbers)
+    module _ (g : TreeState) (between_roots : Roots) (between_exports : Standing) (between : Table) (middle : List Entry) (numbers_now : List Supply) (follows : g ≡ f) (rooted : between_roots ≡ roots) (stood : between_exports ≡ exports) (known : between ≡ sessions) (past_is : middle ≡ past) (unused : numbers_now ≡ numbers)
         (new : IsNew past request.client request.tid request.oldest) (master : IsMasterIn f roots rank request.op rank) where
       pub refused_there : (inboxes_now : Inboxes) (reason : Refusal) → inboxes_now ≡ before → reason ≢ NoInodes
-          → IsUnready (MayTouchAllIn f roots pins rank request.client request.tid request.op) (MayRefuse request.op) (outcome_with f (supply_of old rank) request.op) (offer (supply_of old rank)) reason
-          → ServesInbox old (state_of g between_roots numbers_now inboxes_now pins between) past middle MayRefuse rank (Err reason) (request ∷ rest)
+          → IsUnready (MayTouchAllIn f roots exports pins rank request.client request.tid request.op) (MayRefuse request.op) (outcome_with f (supply_of old rank) request.op) (offer (supply_of old rank)) reason
+          → ServesInbox old (state_of g between_roots between_exports numbers_now inboxes_now pins between) past middle MayRefuse rank (Err reason) (request ∷ rest)
       refused_there inboxes_now reason back other why = go why
         where
-          all_left : IsLeft old (state_of g between_roots numbers_now inboxes_now pins between) past middle
-          all_left = record { same = past_is; left = λ i. record { tree = follows i; roots = rooted i; numbers = unused i; inboxes = back i; pins = pins; sessions = known i } }
+          all_left : IsLeft old (state_of g between_roots between_exports numbers_now inboxes_now pins between) past middle
+          all_left = record { same = past_is; left = λ i. record { tree = follows i; roots = rooted i; exports = stood i; numbers = unused i; inboxes = back i; pins = pins; sessions = known i } }
 
-          go : IsUnready (MayTouchAllIn f roots pins rank request.client request.tid request.op) (MayRefuse request.op) (outcome_with f (supply_of old rank) request.op) (offer (supply_of old rank)) reason
-              → ServesInbox old (state_of g between_roots numbers_now inboxes_now pins between) past middle MayRefuse rank (Err reason) (request ∷ rest)
+          go : IsUnready (MayTouchAllIn f roots exports pins rank request.client request.tid request.op) (MayRefuse request.op) (outcome_with f (supply_of old rank) request.op) (offer (supply_of old rank)) reason
+              → ServesInbox old (state_of g between_roots between_exports numbers_now inboxes_now pins between) past middle MayRefuse rank (Err reason) (request ∷ rest)
           go (inl memory) = inr (inr (inr (inl (memory, inr (record { is_new = new; master = master }), all_left))))
           go (inr (inl (isnt, may))) = inr (inr (inr (inr (other, record { is_new = new; master = master }, may, all_left))))
           go (inr (inr (touch, inl lacks))) = absurd (other lacks.named)
           go (inr (inr (touch, inr may))) = inr (inr (inr (inr (other, record { is_new = new; master = master }, may, all_left))))
 
       pub lacks_number : (reason : Refusal) (pins_now : List Pin) → reason ≡ NoInodes
-          → IsUnready (MayTouchAllIn f roots pins rank request.client request.tid request.op) (MayRefuse request.op) (outcome_with f (supply_of old rank) request.op) (offer (supply_of old rank)) reason
+          → IsUnready (MayTouchAllIn f roots exports pins rank request.client request.tid request.op) (MayRefuse request.op) (outcome_with f (supply_of old rank) request.op) (offer (supply_of old rank)) reason
           → pins_now ≡ without_request pins request
-          → ServesInbox old (state_of g between_roots numbers_now mid pins_now between) past middle MayRefuse rank (Err NoInodes) (request ∷ rest)
+          → ServesInbox old (state_of g between_roots between_exports numbers_now mid pins_now between) past middle MayRefuse rank (Err NoInodes) (request ∷ rest)
       lacks_number reason pins_now named why ends = inr (inl (refl, record { is_new = new; master = master }, go why, out))
         where
-          out : IsTakenOut old (state_of g between_roots numbers_now mid pins_now between) past middle rank request rest
+          out : IsTakenOut old (state_of g between_roots between_exports numbers_now mid pins_now between) past middle rank request rest
           out = record {
             same = past_is;
-            left = λ i. record { tree = follows i; roots = rooted i; numbers = unused i; inboxes = sym (out_again mid rank request) i; pins = ends i; sessions = known i };
+            left = λ i. record { tree = follows i; roots = rooted i; exports = stood i; numbers = unused i; inboxes = sym (out_again mid rank request) i; pins = ends i; sessions = known i };
           }
 
-          go : IsUnready (MayTouchAllIn f roots pins rank request.client request.tid request.op) (MayRefuse request.op) (outcome_with f (supply_of old rank) request.op) (offer (supply_of old rank)) reason
-              → MayTouchAllIn f roots pins rank request.client request.tid request.op × (LacksNumber (outcome_with f (supply_of old rank) request.op) (offer (supply_of old rank)) NoInodes ⊎ MayRefuse request.op NoInodes)
+          go : IsUnready (MayTouchAllIn f roots exports pins rank request.client request.tid request.op) (MayRefuse request.op) (outcome_with f (supply_of old rank) request.op) (offer (supply_of old rank)) reason
+              → MayTouchAllIn f roots exports pins rank request.client request.tid request.op × (LacksNumber (outcome_with f (supply_of old rank) request.op) (offer (supply_of old rank)) NoInodes ⊎ MayRefuse request.op NoInodes)
           go (inl memory) = let clash : NoInodes ≡ NoMemory = sym named ∙ memory in absurd cc
           go (inr (inl (isnt, may))) = absurd (isnt named)
           go (inr (inr (touch, inl lacks))) = (touch, inl (subst (LacksNumber (outcome_with f (supply_of old rank) request.op) (offer (supply_of old rank))) named lacks))
           go (inr (inr (touch, inr may))) = (touch, inr (subst (MayRefuse request.op) named may))
 
-      pub deferred : (inboxes_now : Inboxes) → LacksGrantIn f roots pins rank request.client request.tid request.op → inboxes_now ≡ with_last mid rank request
-          → ServesInbox old (state_of g between_roots numbers_now inboxes_now pins between) past middle MayRefuse rank (Ok Deferred) (request ∷ rest)
+      pub deferred : (inboxes_now : Inboxes) → MustWaitIn f roots exports pins rank request.client request.tid request.op → inboxes_now ≡ with_last mid rank request
+          → ServesInbox old (state_of g between_roots between_exports numbers_now inboxes_now pins between) past middle MayRefuse rank (Ok Deferred) (request ∷ rest)
       deferred inboxes_now lacks turned = inr (inr (inr (record {
         is_new = new;
         master = master;
-        lacks = lacks;
+        waits = lacks;
         answered = refl;
         same = past_is;
-        left = λ i. record { tree = follows i; roots = rooted i; numbers = unused i; inboxes = (turned ∙ goes_behind mid rank request) i; pins = pins; sessions = known i };
+        left = λ i. record { tree = follows i; roots = rooted i; exports = stood i; numbers = unused i; inboxes = (turned ∙ goes_behind mid rank request) i; pins = pins; sessions = known i };
       })))
 
       -- a request that was prepared, and then applied
-      module _ (h : TreeState) (roots_now : Roots) (numbers_after : List Supply) (pins_now : List Pin) (sessions_now : Table) (now : List Entry) (IsReady : Change → Type 0) (prepared : Prepared) (answer : Answer)
-          (may : MayTouchAllIn f roots pins rank request.client request.tid request.op)
+      module _ (h : TreeState) (roots_now : Roots) (exports_now : Standing) (stand : exports_now ≡ between_exports) (numbers_after : List Supply) (pins_now : List Pin) (sessions_now : Table) (now : List Entry) (IsReady : Change → Type 0) (prepared : Prepared) (answer : Answer)
+          (may : MayTouchAllIn f roots exports pins rank request.client request.tid request.op)
           (planned : IsPrepared (shown_tree f) f.covers IsReady request.op (outcome_with f (supply_of old rank) request.op) (supply_of old rank) prepared)
           (tree : shown_tree h ≡ after_plan (shown_tree g) prepared.plan.change)
           (made : MakesPlanned prepared.plan.change g h)
@@ -191,7 +192,7 @@ module _ (f : TreeState) (roots : Roots) (numbers : List Supply) (mid : Inboxes)
             ∙ ap (λ m. trimmed (noted sessions request.client request.tid request.oldest (length m) prepared.kept) request.client) past_is
             ∙ ap (λ r. trimmed (noted sessions request.client request.tid request.oldest (length past) r) request.client) (planned.kept ∙ planned.planned.replied)
 
-        pub served_new : ServesInbox old (state_of h roots_now numbers_after mid pins_now sessions_now) past now MayRefuse rank (Ok answer) (request ∷ rest)
+        pub served_new : ServesInbox old (state_of h roots_now exports_now numbers_after mid pins_now sessions_now) past now MayRefuse rank (Ok answer) (request ∷ rest)
         served_new = inl (record {
           is_new = new;
           master = master;
@@ -217,5 +218,5 @@ module _ (f : TreeState) (roots : Roots) (numbers : List Supply) (mid : Inboxes)
           frame =
               subst (λ (leaves : List Leaf). ChangesOnly (IsUntouched f h) leaves) planned.planned.fragments
               (subst (λ (s : TreeState). ChangesOnly (IsUntouched s h) (fragments_in s.covers prepared.plan.change)) follows frame);
-          left = λ i. record { tree = h; roots = roots_now; numbers = num i; inboxes = sym (out_again mid rank request) i; pins = pins_now; sessions = ses i };
+          left = λ i. record { tree = h; roots = roots_now; exports = (stand ∙ stood) i; numbers = num i; inboxes = sym (out_again mid rank request) i; pins = pins_now; sessions = ses i };
         })

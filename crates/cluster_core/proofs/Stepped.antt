@@ -20,13 +20,13 @@ use Rattle.cluster_core.specs.Administers.{Administers, BeginsAt, EvictsOne, IsU
 use Rattle.cluster_core.specs.State.{Core, State, shown}
 use Rattle.cluster_core.specs.Serve.{IsForwarded, IsLeft, IsTakenOut, ServesRequest, ServesInbox}
 use Rattle.cluster_core.specs.Steps.{ArrivesAt, Does, MayRefuse}
-use Rattle.cluster_core.specs.Sound.{AreCached, IsKept, IsSound}
+use Rattle.cluster_core.specs.Sound.{AreCached, AreExported, IsKept, IsSound}
 use Rattle.ranked_tree.specs.Subtrees.{KeepsRoots}
 use Rattle.cluster_core.proofs.Applied.{sound-applied}
 use Rattle.cluster_core.proofs.Offered.{there_of}
 
-module _ (opening : Tree) (past now : List Entry) (old new : Core) (sound : IsSound opening past old) (tree : IsKept new.state.tree new.caches) (cached : AreCached new) (count : length new.caches.used ≡ length old.caches.used)
-    (kept : KeepsRoots old.state.tree new.state.tree old.state.roots new.state.roots) where
+module _ (opening : Tree) (past now : List Entry) (old new : Core) (sound : IsSound opening past old) (tree : IsKept new.state.tree new.caches) (cached : AreCached new) (exported : AreExported new) (count : length new.caches.used ≡ length old.caches.used)
+    (kept : KeepsRoots old.state.tree new.state.tree old.state.roots new.state.roots old.state.exports new.state.exports) where
   -- the same history, and the same tree, numbers and sessions: what the inboxes have has no part in it
   pub sound-same : now ≡ past → shown new.state ≡ shown old.state → new.state.numbers ≡ old.state.numbers → length new.state.inboxes ≡ length old.state.inboxes → new.state.sessions ≡ old.state.sessions → IsSound opening now new
   sound-same same shown_same numbers_same inboxes_same sessions_same = record {
@@ -35,6 +35,7 @@ module _ (opening : Tree) (past now : List Entry) (old new : Core) (sound : IsSo
     tree = tree;
     subtrees = kept.valid;
     cached = cached;
+    exported = exported;
     ranks = record { some = rw numbers_same sound.ranks.some; inboxes = inboxes_same ∙ rw numbers_same sound.ranks.inboxes; caches = count ∙ rw numbers_same sound.ranks.caches };
     supplied = rw (numbers_same, same) sound.supplied;
     kept = rw (sessions_same, same) sound.kept;
@@ -66,7 +67,7 @@ module _ (opening : Tree) (past now : List Entry) (old new : Core) (sound : IsSo
 
   module _ (MayRefuse : Op → Refusal → Type 0) (rank : Rank) (there : rank.0 < length old.state.numbers) where
     served : (request : Request) (rest : List Request) (result : Result Answer Refusal) → ServesRequest old.state new.state past now MayRefuse rank request rest result → IsSound opening now new
-    served request rest (Ok answer) (inl h) = sound-applied opening past now old new rank request rest answer there sound tree cached count kept h
+    served request rest (Ok answer) (inl h) = sound-applied opening past now old new rank request rest answer there sound tree cached exported count kept h
     served request rest (Ok answer) (inr (inl h)) = sound-out rank request rest h.out
     served request rest (Ok answer) (inr (inr (inl h))) = forwarded rank request rest answer h
     served request rest (Ok answer) (inr (inr (inr h))) = sound-but h.same _ old.state.pins (length-set old.state.inboxes rank.0 (rest ++ request ∷ [])) h.left

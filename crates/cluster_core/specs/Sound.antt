@@ -57,10 +57,11 @@ pub record AreCached (core : Core) : Type 0 where
   pub held : AreHeld core.state.tree core.caches (held_roots core.state)
   pub orders : AreCaches core.caches
 
--- the exports that stand: while one is frozen to imported its root is a subtree root of the exporter; both its ranks are there; and no commit of a
--- frozen leaf is begun
+-- the exports that stand: while one is frozen to imported its root is a subtree root of the exporter; its ranks are there, as are those of all
+-- roots; and no commit of a frozen leaf is begun
 pub record AreExported (core : Core) : Type 0 where
   pub placed : (root : Leaf) (export : StandingExport) → map.get core.state.exports root ≡ Some export → is_freezing export.state ≡ true → map.get core.state.roots root ≡ Some export.exporter
+  pub ranked : (leaf : Leaf) (rank : Rank) → map.get core.state.roots leaf ≡ Some rank → rank.0 < length core.caches.used
   pub there : (root : Leaf) (export : StandingExport) → map.get core.state.exports root ≡ Some export → (export.exporter.0 < length core.caches.used) × (export.importer.0 < length core.caches.used)
   pub unbegun : (leaf : Leaf) (job : Job) → map.get core.state.tree.jobs leaf ≡ Some job → IsFrozenAt core.state leaf → ⊥
 

@@ -13,3 +13,9 @@ returns-in-Err-clause-counted g c =
 
 pub returns-then-not-is_authority-clause-begun : goal.returns-then-not-is_authority-clause-begun
 returns-then-not-is_authority-clause-begun g c numbers inboxes pins sessions past = (search rules, stays)
+
+pub returns-then-not-has_leaf-clause-begun : goal.returns-then-not-has_leaf-clause-begun
+returns-then-not-has_leaf-clause-begun g c numbers inboxes pins sessions past = (search rules, stays)
+
+pub returns-then-is_frozen-clause-begun : goal.returns-then-is_frozen-clause-begun
+returns-then-is_frozen-clause-begun g c numbers inboxes pins sessions past = (search rules, stays)

@@ -6,7 +6,7 @@ use Rattle.namespace_ops.specs.Changes.{in_directory}
 use Rattle.mdcache.specs.Core.{state_of as tree_state}
 use Rattle.cluster_core.specs.Master.{MayTouchIn}
 use Rattle.cluster_core.proofs.GrantLaws.{denied, ends_all, goes_on, is_among, nearer, of_each}
-use Rattle.cluster_core.proofs.missing_grants.lacks_leaf.Goals as goal
+use Rattle.cluster_core.proofs.barred.lacks_leaf.Goals as goal
 
 pub loop-hash-init : goal.loop-hash-init
 loop-hash-init g c = λ f has before. absurd (omega (arith, before))
@@ -17,23 +17,23 @@ returns-then-not-may_touch g c =
     record {
       leaf = in_directory c.args.dir.0 c.in-Some.at.frag;
       changes = is_among c.args.dir.0 (leaves_of c.args.tree.now.tree.covers c.args.dir.0) c.in-Some.at.frag c.in-Some.ensures.leaf.stands;
-      foreign = λ may. denied c.may_touch.result (c.may_touch.ensures (tree_state c.args.tree.now.tree) c.args.tree.now.subtrees.roots c.in-Some.ensures.held) c.if-not-may_touch.true (subst (MayTouchIn (tree_state c.args.tree.now.tree) c.args.tree.now.subtrees.roots c.args.pins.now c.args.rank c.args.request.now.client c.args.request.now.tid) (sym there) may);
+      barred = λ may. denied c.may_touch.result c.may_touch.ensures c.if-not-may_touch.true (subst (MayTouchIn (tree_state c.args.tree.now.tree) c.args.tree.now.subtrees.roots c.args.tree.now.exports c.args.pins.now c.args.rank c.args.request.now.client c.args.request.now.tid) (sym there) may);
     }
 
 pub loop-hash-smaller : goal.loop-hash-smaller
 loop-hash-smaller g c =
     let cover = tree_of_row c.args.tree.now.tree.homes c.args.tree.now.tree.covers c.dirs.ensures.sound.table c.args.dir.0 in
-    let on = nearer (leaves_of c.args.tree.now.tree.covers c.args.dir.0) cover (λ f. MayTouchIn (tree_state c.args.tree.now.tree) c.args.tree.now.subtrees.roots c.args.pins.now c.args.rank c.args.request.now.client c.args.request.now.tid (in_directory c.args.dir.0 f)) c.loop-hash.hash c.in-Some.at.frag c.end_of-hash.result (omega (arith, c.loop-hash-test.true)) c.in-Some.ensures.leaf c.end_of-hash.ensures.end in
+    let on = nearer (leaves_of c.args.tree.now.tree.covers c.args.dir.0) cover (λ f. MayTouchIn (tree_state c.args.tree.now.tree) c.args.tree.now.subtrees.roots c.args.tree.now.exports c.args.pins.now c.args.rank c.args.request.now.client c.args.request.now.tid (in_directory c.args.dir.0 f)) c.loop-hash.hash c.in-Some.at.frag c.end_of-hash.result (omega (arith, c.loop-hash-test.true)) c.in-Some.ensures.leaf c.end_of-hash.ensures.end in
     omega (arith, on.0, on.1)
 
 pub loop-hash-preserved : goal.loop-hash-preserved
 loop-hash-preserved g c =
     let cover = tree_of_row c.args.tree.now.tree.homes c.args.tree.now.tree.covers c.dirs.ensures.sound.table c.args.dir.0 in
     let there : leaf_of c.in-Some.at ≡ in_directory c.args.dir.0 c.in-Some.at.frag = λ i. (record { 0 = c.in-Some.ensures.dir i }, c.in-Some.at.frag) in
-    goes_on (leaves_of c.args.tree.now.tree.covers c.args.dir.0) cover (λ f. MayTouchIn (tree_state c.args.tree.now.tree) c.args.tree.now.subtrees.roots c.args.pins.now c.args.rank c.args.request.now.client c.args.request.now.tid (in_directory c.args.dir.0 f)) c.loop-hash.hash c.in-Some.at.frag c.end_of-hash.result (omega (arith, c.loop-hash-test.true)) c.loop-hash.invariant c.in-Some.ensures.leaf
-    (subst (MayTouchIn (tree_state c.args.tree.now.tree) c.args.tree.now.subtrees.roots c.args.pins.now c.args.rank c.args.request.now.client c.args.request.now.tid) there ((c.may_touch.ensures (tree_state c.args.tree.now.tree) c.args.tree.now.subtrees.roots c.in-Some.ensures.held).0 c.if-not-may_touch.false)) c.end_of-hash.ensures.end
+    goes_on (leaves_of c.args.tree.now.tree.covers c.args.dir.0) cover (λ f. MayTouchIn (tree_state c.args.tree.now.tree) c.args.tree.now.subtrees.roots c.args.tree.now.exports c.args.pins.now c.args.rank c.args.request.now.client c.args.request.now.tid (in_directory c.args.dir.0 f)) c.loop-hash.hash c.in-Some.at.frag c.end_of-hash.result (omega (arith, c.loop-hash-test.true)) c.loop-hash.invariant c.in-Some.ensures.leaf
+    (subst (MayTouchIn (tree_state c.args.tree.now.tree) c.args.tree.now.subtrees.roots c.args.tree.now.exports c.args.pins.now c.args.rank c.args.request.now.client c.args.request.now.tid) there (c.may_touch.ensures.0 c.if-not-may_touch.false)) c.end_of-hash.ensures.end
 
 pub returns : goal.returns
 returns g c =
     let cover = tree_of_row c.args.tree.now.tree.homes c.args.tree.now.tree.covers c.dirs.ensures.sound.table c.args.dir.0 in
-    of_each c.args.dir.0 (MayTouchIn (tree_state c.args.tree.now.tree) c.args.tree.now.subtrees.roots c.args.pins.now c.args.rank c.args.request.now.client c.args.request.now.tid) (leaves_of c.args.tree.now.tree.covers c.args.dir.0) (ends_all (leaves_of c.args.tree.now.tree.covers c.args.dir.0) cover (λ f. MayTouchIn (tree_state c.args.tree.now.tree) c.args.tree.now.subtrees.roots c.args.pins.now c.args.rank c.args.request.now.client c.args.request.now.tid (in_directory c.args.dir.0 f)) c.loop-hash.hash (omega (arith, c.loop-hash-test.false)) c.loop-hash.invariant)
+    of_each c.args.dir.0 (MayTouchIn (tree_state c.args.tree.now.tree) c.args.tree.now.subtrees.roots c.args.tree.now.exports c.args.pins.now c.args.rank c.args.request.now.client c.args.request.now.tid) (leaves_of c.args.tree.now.tree.covers c.args.dir.0) (ends_all (leaves_of c.args.tree.now.tree.covers c.args.dir.0) cover (λ f. MayTouchIn (tree_state c.args.tree.now.tree) c.args.tree.now.subtrees.roots c.args.tree.now.exports c.args.pins.now c.args.rank c.args.request.now.client c.args.request.now.tid (in_directory c.args.dir.0 f)) c.loop-hash.hash (omega (arith, c.loop-hash-test.false)) c.loop-hash.invariant)

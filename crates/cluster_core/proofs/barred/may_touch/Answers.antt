@@ -1,8 +1,16 @@
-use Rattle.std.proofs.Common.{◌≡◌, rules}
-use Rattle.cluster_core.proofs.GrantLaws.{by_grant}
-use Rattle.cluster_core.proofs.missing_grants.may_touch.Goals as goal
+use Rattle.std.proofs.Common.{◌≡◌, false, true, rules, sym, ◌∙◌}
+use Rattle.mdcache.specs.Core.{state_of as tree_state}
+use Rattle.cluster_core.proofs.GrantLaws.{by_frozen, by_grant, by_holding}
+use Rattle.cluster_core.proofs.barred.may_touch.Goals as goal
+
+pub returns-then-is_frozen : goal.returns-then-is_frozen
+returns-then-is_frozen g c =
+    let frozen : c.is_frozen.result ≡ true = search rules in
+    by_frozen (tree_state c.args.tree.now.tree) c.args.tree.now.subtrees.roots c.args.tree.now.exports c.args.pins.now c.args.rank c.args.request.now.client c.args.request.now.tid c.args.at.now (c.is_frozen.ensures.0 frozen)
 
 pub returns-else-eq : goal.returns-else-eq
-returns-else-eq c = λ tree roots held.
+returns-else-eq g c =
     let other : c.args.at.now.rank ≡ c.args.rank → ⊥ = search rules in
-    by_grant tree roots c.args.pins.now c.args.rank c.args.request.now.client c.args.request.now.tid c.args.at.now c.is_granted.result held other c.is_granted.ensures
+    let thawed : c.is_frozen.result ≡ false = search rules in
+    by_grant (tree_state c.args.tree.now.tree) c.args.tree.now.subtrees.roots c.args.tree.now.exports c.args.pins.now c.args.rank c.args.request.now.client c.args.request.now.tid c.args.at.now c.is_granted.result
+    (λ frozen. let clash : true ≡ false = sym (c.is_frozen.ensures.1 frozen) ∙ thawed in cc) c.requires other c.is_granted.ensures

@@ -6,20 +6,21 @@ use Rattle.namespace_ops.proofs.ChangedLaws.{fragments_are}
 use Rattle.subtree_map.specs.Authority.{Leaf}
 use Rattle.mdcache.specs.Core.{state_of as tree_state}
 use Rattle.mdcache.specs.Shown.{shown_tree}
+use Rattle.ranked_tree.specs.Ranked.{held_roots}
 use Rattle.ranked_tree.specs.Subtrees.{HoldsAt}
 use Rattle.cluster_core.specs.Master.{LacksOneOf, MayTouchEach}
 use Rattle.cluster_core.proofs.GrantLaws.{gone_stands}
-use Rattle.cluster_core.proofs.missing_grants.lacks_grant.Goals as goal
+use Rattle.cluster_core.proofs.barred.must_wait.Goals as goal
 
 pub lacks_one-requires-clause-gone : goal.lacks_one-requires-clause-gone
 lacks_one-requires-clause-gone g c =
     let s = (tree_state c.args.tree.now.tree) in
-    let found = subst (λ (k : Checked). Checks (shown_tree s) s.covers (HoldsAt s c.args.tree.now.subtrees.roots) c.args.request.now.op c.requires.0 (step (shown_tree s) c.args.request.now.op c.requires.0) k) c.in-Changes.is c.requires.1 in
+    let found = subst (λ (k : Checked). Checks (shown_tree s) s.covers (HoldsAt s (held_roots c.args.tree.now)) c.args.request.now.op c.requires.0 (step (shown_tree s) c.args.request.now.op c.requires.0) k) c.in-Changes.is c.requires.1 in
     gone_stands (shown_tree s) s.covers c.in-Changes.change found.carries
 
 pub returns-in-Changes : goal.returns-in-Changes
 returns-in-Changes g c =
     let s = (tree_state c.args.tree.now.tree) in
-    let found = subst (λ (k : Checked). Checks (shown_tree s) s.covers (HoldsAt s c.args.tree.now.subtrees.roots) c.args.request.now.op c.requires.0 (step (shown_tree s) c.args.request.now.op c.requires.0) k) c.in-Changes.is c.requires.1 in
-    subst (λ (ls : List Leaf). MatchBool c.lacks_one.result (LacksOneOf (tree_state c.args.tree.now.tree) c.args.tree.now.subtrees.roots c.args.pins.now c.args.rank c.args.request.now.client c.args.request.now.tid ls) (MayTouchEach (tree_state c.args.tree.now.tree) c.args.tree.now.subtrees.roots c.args.pins.now c.args.rank c.args.request.now.client c.args.request.now.tid ls))
-    (fragments_are (shown_tree s) s.covers (HoldsAt s c.args.tree.now.subtrees.roots) c.args.request.now.op c.requires.0 c.in-Changes.change found) c.lacks_one.ensures
+    let found = subst (λ (k : Checked). Checks (shown_tree s) s.covers (HoldsAt s (held_roots c.args.tree.now)) c.args.request.now.op c.requires.0 (step (shown_tree s) c.args.request.now.op c.requires.0) k) c.in-Changes.is c.requires.1 in
+    subst (λ (ls : List Leaf). MatchBool c.lacks_one.result (LacksOneOf (tree_state c.args.tree.now.tree) c.args.tree.now.subtrees.roots c.args.tree.now.exports c.args.pins.now c.args.rank c.args.request.now.client c.args.request.now.tid ls) (MayTouchEach (tree_state c.args.tree.now.tree) c.args.tree.now.subtrees.roots c.args.tree.now.exports c.args.pins.now c.args.rank c.args.request.now.client c.args.request.now.tid ls))
+    (fragments_are (shown_tree s) s.covers (HoldsAt s (held_roots c.args.tree.now)) c.args.request.now.op c.requires.0 c.in-Changes.change found) c.lacks_one.ensures

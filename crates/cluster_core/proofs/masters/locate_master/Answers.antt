@@ -1,11 +1,16 @@
-use Rattle.std.proofs.Common.{sym, subst}
-use Rattle.mds_types.specs.declared.ids.Rank.{Rank}
+use Rattle.mds_types.specs.Step.{destination_of}
+use Rattle.namespace_ops.specs.Places.{main_hash}
 use Rattle.mdcache.specs.Core.{state_of as tree_state}
-use Rattle.cluster_core.specs.Master.{IsMasterIn}
-use Rattle.cluster_core.proofs.MasterLaws.{master_located}
+use Rattle.mdcache.specs.Shown.{shown_tree}
+use Rattle.ranked_tree.specs.Ranked.{held_roots}
+use Rattle.ranked_tree.specs.Subtrees.{HoldsAt}
+use Rattle.cluster_core.proofs.MasterLaws.{master_located, where_found}
 use Rattle.cluster_core.proofs.masters.locate_master.Goals as goal
+
+pub master_of-requires : goal.master_of-requires
+master_of-requires g c =
+    where_found (shown_tree (tree_state c.args.tree.now.tree)) c.args.tree.now.tree.covers (HoldsAt (tree_state c.args.tree.now.tree) (held_roots c.args.tree.now)) (destination_of c.args.op.now) (main_hash c.args.op.now) c.locate-places.result.main c.locate-places.ensures.main
 
 pub returns-clause-master : goal.returns-clause-master
 returns-clause-master g c =
-    subst (λ (m : Rank). IsMasterIn (tree_state c.args.tree.now.tree) c.args.tree.now.subtrees.roots c.args.rank c.args.op.now m) (sym c.master_at.ensures)
-    (master_located (tree_state c.args.tree.now.tree) c.args.tree.now.subtrees.roots c.args.rank c.args.op.now c.locate-places.result.main c.locate-places.ensures.main)
+    master_located (tree_state c.args.tree.now.tree) c.args.tree.now.subtrees.roots (held_roots c.args.tree.now) c.args.rank c.args.op.now c.locate-places.result.main c.master_of.result c.locate-places.ensures.main c.master_of.ensures

@@ -1,8 +1,8 @@
 use Rattle.std.proofs.Common.{subst}
-use Rattle.cluster_core.specs.Fragments.{LieAtAuthority}
+use Rattle.cluster_core.specs.Fragments.{LieAtHolder}
 use Rattle.cluster_core.specs.State.{Kept}
-use Rattle.cluster_core.proofs.FragmentLaws.{lie_at_authority}
+use Rattle.cluster_core.proofs.FragmentLaws.{lie_at_holder}
 use Rattle.cluster_core.proofs.books.Book.cluster.Goals as goal
 
 pub returns-clause-lie : goal.returns-clause-lie
-returns-clause-lie g c = subst (λ (k : Kept). LieAtAuthority k.core) c.self.view_is (lie_at_authority c.self.inside.cluster c.self.invariant.cached)
+returns-clause-lie g c = subst (λ (k : Kept). LieAtHolder k.core) c.self.view_is (lie_at_holder c.self.inside.cluster c.self.invariant.cached)

@@ -9,42 +9,42 @@ use Rattle.cluster_core.proofs.clusters.Cluster.choose.Goals as goal
 pub returns-in-Split : goal.returns-in-Split
 returns-in-Split g c =
     let kept = c.split.ensures.kept in
-    record { stepped = rw c.in-Split.is (record { does = c.split.ensures.split _; authorities = kept.authorities; ranks = c.split.ensures.count; capacity = c.split.ensures.cap; counted = c.split.ensures.counted }); kept = kept }
+    record { stepped = rw c.in-Split.is (record { does = c.split.ensures.split _; authorities = kept.authorities; holders = kept.holders; ranks = c.split.ensures.count; capacity = c.split.ensures.cap; counted = c.split.ensures.counted }); kept = kept }
 
 pub returns-in-Merge : goal.returns-in-Merge
 returns-in-Merge g c =
     let kept = c.merge.ensures.kept in
-    record { stepped = rw c.in-Merge.is (record { does = c.merge.ensures.merged _; authorities = kept.authorities; ranks = c.merge.ensures.count; capacity = c.merge.ensures.cap; counted = c.merge.ensures.counted }); kept = kept }
+    record { stepped = rw c.in-Merge.is (record { does = c.merge.ensures.merged _; authorities = kept.authorities; holders = kept.holders; ranks = c.merge.ensures.count; capacity = c.merge.ensures.cap; counted = c.merge.ensures.counted }); kept = kept }
 
 pub returns-in-CommitBegin : goal.returns-in-CommitBegin
 returns-in-CommitBegin g c =
     let kept = at_rank_keeps c.args.self.now c.begin_commit.new.self c.args.history.now.items c.args.history.now.items (nat_lt c.in-CommitBegin.rank.0 (length c.args.self.now.state.inboxes)) c.begin_commit.result {done = BeginsCommit c.args.self.now c.begin_commit.new.self c.args.history.now.items c.args.history.now.items c.in-CommitBegin.rank (c.in-CommitBegin.ino, c.in-CommitBegin.frag) c.begin_commit.result} c.requires.1.subtrees (λ h. begun_keeps c.args.self.now.state c.begin_commit.new.self.state c.args.history.now.items c.args.history.now.items c.requires.1.subtrees c.in-CommitBegin.rank (c.in-CommitBegin.ino, c.in-CommitBegin.frag) c.begin_commit.result h.0) (c.begin_commit.ensures.begun c.args.history.now.items) in
-    record { stepped = rw c.in-CommitBegin.is (record { does = c.begin_commit.ensures.begun _; authorities = kept.authorities; ranks = c.begin_commit.ensures.count; capacity = c.begin_commit.ensures.cap; counted = c.begin_commit.ensures.counted }); kept = kept }
+    record { stepped = rw c.in-CommitBegin.is (record { does = c.begin_commit.ensures.begun _; authorities = kept.authorities; holders = kept.holders; ranks = c.begin_commit.ensures.count; capacity = c.begin_commit.ensures.cap; counted = c.begin_commit.ensures.counted }); kept = kept }
 
 pub returns-in-CommitEnd : goal.returns-in-CommitEnd
 returns-in-CommitEnd g c =
     let kept = ended_keeps c.args.self.now.state c.end_commit-ended.new.self.state c.args.history.now.items c.args.history.now.items c.requires.1.subtrees _ _ _ _ (c.end_commit-ended.ensures.ended _).0 in
-    record { stepped = rw c.in-CommitEnd.is (record { does = c.end_commit-ended.ensures.ended _; authorities = kept.authorities; ranks = c.end_commit-ended.ensures.count; capacity = c.end_commit-ended.ensures.cap; counted = c.end_commit-ended.ensures.counted }); kept = kept }
+    record { stepped = rw c.in-CommitEnd.is (record { does = c.end_commit-ended.ensures.ended _; authorities = kept.authorities; holders = kept.holders; ranks = c.end_commit-ended.ensures.count; capacity = c.end_commit-ended.ensures.cap; counted = c.end_commit-ended.ensures.counted }); kept = kept }
 
 pub returns-in-CommitDrop : goal.returns-in-CommitDrop
 returns-in-CommitDrop g c =
     let kept = dropped_keeps c.args.self.now.state c.drop_commit.new.self.state c.args.history.now.items c.args.history.now.items c.requires.1.subtrees _ _ (c.drop_commit.ensures.dropped _).0 in
-    record { stepped = rw c.in-CommitDrop.is (record { does = c.drop_commit.ensures.dropped _; authorities = kept.authorities; ranks = c.drop_commit.ensures.count; capacity = c.drop_commit.ensures.cap; counted = c.drop_commit.ensures.counted }); kept = kept }
+    record { stepped = rw c.in-CommitDrop.is (record { does = c.drop_commit.ensures.dropped _; authorities = kept.authorities; holders = kept.holders; ranks = c.drop_commit.ensures.count; capacity = c.drop_commit.ensures.cap; counted = c.drop_commit.ensures.counted }); kept = kept }
 
 pub returns-in-CommitTree : goal.returns-in-CommitTree
 returns-in-CommitTree g c =
     let kept = saved_keeps c.args.self.now.state c.commit_tree.new.self.state c.args.history.now.items c.args.history.now.items c.requires.1.subtrees _ _ _ _ (c.commit_tree.ensures.saved _).0 in
-    record { stepped = rw c.in-CommitTree.is (record { does = c.commit_tree.ensures.saved _; authorities = kept.authorities; ranks = c.commit_tree.ensures.count; capacity = c.commit_tree.ensures.cap; counted = c.commit_tree.ensures.counted }); kept = kept }
+    record { stepped = rw c.in-CommitTree.is (record { does = c.commit_tree.ensures.saved _; authorities = kept.authorities; holders = kept.holders; ranks = c.commit_tree.ensures.count; capacity = c.commit_tree.ensures.cap; counted = c.commit_tree.ensures.counted }); kept = kept }
 
 pub returns-in-Purge : goal.returns-in-Purge
 returns-in-Purge g c =
     let kept = purged_keeps c.args.self.now.state c.purge.new.self.state c.args.history.now.items c.args.history.now.items c.requires.1.subtrees _ _ _ (c.purge.ensures.purged _).0 in
-    record { stepped = rw c.in-Purge.is (record { does = c.purge.ensures.purged _; authorities = kept.authorities; ranks = c.purge.ensures.count; capacity = c.purge.ensures.cap; counted = c.purge.ensures.counted }); kept = kept }
+    record { stepped = rw c.in-Purge.is (record { does = c.purge.ensures.purged _; authorities = kept.authorities; holders = kept.holders; ranks = c.purge.ensures.count; capacity = c.purge.ensures.cap; counted = c.purge.ensures.counted }); kept = kept }
 
 pub returns-in-Evict : goal.returns-in-Evict
 returns-in-Evict g c =
     let kept = at_rank_keeps c.args.self.now c.evict.new.self c.args.history.now.items c.args.history.now.items (nat_lt c.in-Evict.rank.0 (length c.args.self.now.state.inboxes)) c.evict.result {done = AdministersTree c.args.self.now.state c.evict.new.self.state c.args.history.now.items c.args.history.now.items nothing (EvictsOne c.args.self.now c.evict.new.self c.in-Evict.rank) c.evict.result} c.requires.1.subtrees (λ h. evicted_keeps c.args.self.now c.evict.new.self c.args.history.now.items c.args.history.now.items c.in-Evict.rank c.evict.result c.requires.1.subtrees h) (c.evict.ensures.evicted c.args.history.now.items) in
-    record { stepped = rw c.in-Evict.is (record { does = c.evict.ensures.evicted _; authorities = kept.authorities; ranks = c.evict.ensures.count; capacity = c.evict.ensures.cap; counted = c.evict.ensures.counted }); kept = kept }
+    record { stepped = rw c.in-Evict.is (record { does = c.evict.ensures.evicted _; authorities = kept.authorities; holders = kept.holders; ranks = c.evict.ensures.count; capacity = c.evict.ensures.cap; counted = c.evict.ensures.counted }); kept = kept }
 
 pub evict-requires : goal.evict-requires
 evict-requires g c = c.requires.1.ranks.caches ∙ sym c.requires.1.ranks.inboxes
@@ -53,7 +53,8 @@ pub returns-in-Arrive-clause-stepped : goal.returns-in-Arrive-clause-stepped
 returns-in-Arrive-clause-stepped g c =
     rw c.in-Arrive.is (record {
       does = c.arrive.ensures.arrived c.args.history.now.items;
-      authorities = (keeps_same c.args.self.now.state.tree c.arrive.new.self.state.tree c.args.self.now.state.roots c.arrive.new.self.state.roots c.arrive.ensures.tree c.arrive.ensures.roots c.requires.1.subtrees).authorities;
+      authorities = (keeps_same c.args.self.now.state.tree c.arrive.new.self.state.tree c.args.self.now.state.roots c.arrive.new.self.state.roots c.args.self.now.state.exports c.arrive.new.self.state.exports c.arrive.ensures.tree c.arrive.ensures.roots c.arrive.ensures.exports c.requires.1.subtrees).authorities;
+      holders = (keeps_same c.args.self.now.state.tree c.arrive.new.self.state.tree c.args.self.now.state.roots c.arrive.new.self.state.roots c.args.self.now.state.exports c.arrive.new.self.state.exports c.arrive.ensures.tree c.arrive.ensures.roots c.arrive.ensures.exports c.requires.1.subtrees).holders;
       ranks = ap (λ (k : CacheMap). length k.used) c.arrive.ensures.caches;
       capacity = ap (λ (k : CacheMap). k.cap) c.arrive.ensures.caches;
       counted = c.arrive.ensures.counted;

@@ -21,9 +21,9 @@ returns-clause-evicted g c past =
         refl,
         (
           e.evicted,
-          (λ i. state_of (e.kept.state i) (e.roots i).roots c.self.inside.given.numbers.items c.self.inside.waiting.inboxes c.self.inside.waiting.pins (table c.self.inside.given.sessions)),
+          (λ i. state_of (e.kept.state i) (e.roots i).roots (e.exports i) c.self.inside.given.numbers.items c.self.inside.waiting.inboxes c.self.inside.waiting.pins (table c.self.inside.given.sessions)),
         ),
-        worked _ _ _ _ _ _ _ _ past (ap shown_tree e.kept.state),
+        worked _ _ _ _ _ _ e.exports _ _ _ _ past (ap shown_tree e.kept.state),
       ),
       ap (λ s. s.roots) e.roots,
     ))

@@ -1,10 +1,13 @@
 -- The cluster is put together of what the mount of the tree found.
-use Rattle.std.proofs.Common.{List, ap₂, ◌∙◌}
+use Rattle.std.proofs.Common.{List, [], replicate, ap, ap₂, subst, ◌∙◌}
 use Rattle.std.specs.FinMap as map
 use Rattle.sorted_map.specs.SortedMap.{contents}
 use Rattle.mds_types.specs.Tree.{dentry_cmp}
+use Rattle.export_steps.specs.Standing.{Standing}
 use Rattle.inboxes.specs.Inboxes.{Inboxes}
 use Rattle.inboxes.specs.declared.pins.Pin.{Pin}
+use Rattle.ranked_tree.specs.Held.{IsOwned}
+use Rattle.ranked_tree.proofs.StandLaws.{none_stand}
 use Rattle.cluster_core.specs.State.{core_of}
 use Rattle.cluster_core.proofs.MountedBook.{mounted_sound, mounts_core}
 use Rattle.cluster_core.proofs.clusters.Cluster.mount.Goals as goal
@@ -12,11 +15,11 @@ use Rattle.cluster_core.proofs.clusters.Cluster.mount.Goals as goal
 pub returns-in-Ok-mount-clause-mounted : goal.returns-in-Ok-mount-clause-mounted
 returns-in-Ok-mount-clause-mounted g c =
     let m = c.in-Ok-mount in
-    let is = c.of_mounted.ensures.core ∙ ap₂ (λ (i : Inboxes) (p : List Pin). core_of m.tree.tree m.tree.subtrees.roots m.opening.numbers.items i p map.empty) c.in-Ok.ensures.inboxes c.in-Ok.ensures.pins in
+    let is = c.of_mounted.ensures.core ∙ ap₂ (λ (i : Inboxes) (p : List Pin). core_of m.tree.tree m.tree.subtrees.roots m.tree.exports m.opening.numbers.items i p map.empty) c.in-Ok.ensures.inboxes c.in-Ok.ensures.pins ∙ ap (λ (e : Standing). core_of m.tree.tree m.tree.subtrees.roots e m.opening.numbers.items (replicate c.args.ranks []) [] map.empty) m.ensures.exports in
     rw (is, c.of_mounted.ensures.opening) (mounts_core _ c.args.ranks c.args.places m.tree.tree m.tree.subtrees.roots (contents dentry_cmp m.opening.entries) m.opening.numbers.items m.ensures.mounted m.ensures.opening m.ensures.numbers m.ensures.roots)
 
 pub returns-in-Ok-mount-clause-sound : goal.returns-in-Ok-mount-clause-sound
 returns-in-Ok-mount-clause-sound g c =
     let m = c.in-Ok-mount in
-    let is = c.of_mounted.ensures.core ∙ ap₂ (λ (i : Inboxes) (p : List Pin). core_of m.tree.tree m.tree.subtrees.roots m.opening.numbers.items i p map.empty) c.in-Ok.ensures.inboxes c.in-Ok.ensures.pins in
-    rw (is, c.of_mounted.ensures.opening) (mounted_sound _ c.args.ranks c.args.places m.tree.tree m.tree.subtrees.roots (contents dentry_cmp m.opening.entries) m.opening.numbers.items m.ensures.mounted m.ensures.opening m.ensures.numbers m.ensures.roots c.requires.some c.requires.ranked c.of_mounted.ensures.owned c.of_mounted.ensures.caches)
+    let is = c.of_mounted.ensures.core ∙ ap₂ (λ (i : Inboxes) (p : List Pin). core_of m.tree.tree m.tree.subtrees.roots m.tree.exports m.opening.numbers.items i p map.empty) c.in-Ok.ensures.inboxes c.in-Ok.ensures.pins ∙ ap (λ (e : Standing). core_of m.tree.tree m.tree.subtrees.roots e m.opening.numbers.items (replicate c.args.ranks []) [] map.empty) m.ensures.exports in
+    rw (is, c.of_mounted.ensures.opening) (mounted_sound _ c.args.ranks c.args.places m.tree.tree m.tree.subtrees.roots (contents dentry_cmp m.opening.entries) m.opening.numbers.items m.ensures.mounted m.ensures.opening m.ensures.numbers m.ensures.roots c.requires.some c.requires.ranked (subst (IsOwned m.tree.tree) (none_stand m.tree.exports m.tree.subtrees.roots m.ensures.exports) c.of_mounted.ensures.owned) c.of_mounted.ensures.caches)
