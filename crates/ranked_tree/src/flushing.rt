@@ -8,6 +8,7 @@ ghost use Rattle.mdcache.specs.Core.{shown_in, state_of};
 ghost use Rattle.mdcache.specs.Flushed.{AreExact, IsFlushed, KeepsTree};
 ghost use Rattle.mdcache.specs.Mounted.{IsColdTree};
 ghost use Rattle.dentry_cache.specs.CacheMap.{AreCaches};
+ghost use Rattle.ranked_tree.specs.Exported.{StandSoundly};
 ghost use Rattle.ranked_tree.specs.Held.{IsOwned};
 ghost use Rattle.ranked_tree.specs.Ranked.{held_roots};
 
@@ -32,6 +33,7 @@ impl<S: Store + Drop> RankedTree<S> {
         ensures refused { IfErr result (MayNotCommit 1024 (record (state_of self.old.tree) { jobs = map.empty }) self.old.tree.faults self.new.tree.faults) }
         ensures counted { self.new.tree.faults ≡ self.old.tree.faults + faults_told (result_err result) }
         ensures owned { IsOwned self.new.tree (held_roots self.new) }
+        ensures stand { StandSoundly (state_of self.new.tree) (length self.new.tree.caches.used) self.new.subtrees self.new.exports }
         ensures orders { AreCaches self.new.tree.caches }
     {
         let done = self.tree.flush(rt, alloc);

@@ -5,7 +5,7 @@ use Rattle.cluster_core.proofs.flushing.flush.Goals as goal
 pub invariant_of-book : goal.invariant_of-book
 invariant_of-book g c =
     let b = c.book.inside in
-    flushed_sound (record { opening = b.opening; history = b.history.items; core = b.cluster }) c.flush.new.self c.book.invariant c.flush.ensures.left c.flush.ensures.kept c.flush.ensures.cached
+    flushed_sound (record { opening = b.opening; history = b.history.items; core = b.cluster }) c.flush.new.self c.book.invariant c.flush.ensures.left c.flush.ensures.kept c.flush.ensures.cached c.flush.ensures.exported
 
 pub returns-clause-sound : goal.returns-clause-sound
 returns-clause-sound g c = invariant_of-book g c

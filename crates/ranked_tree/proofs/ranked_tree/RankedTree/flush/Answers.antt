@@ -23,3 +23,6 @@ invariant_of-self g c =
 
 pub returns-clause-owned : goal.returns-clause-owned
 returns-clause-owned g c = (invariant_of-self g c).owned
+
+pub returns-clause-stand : goal.returns-clause-stand
+returns-clause-stand g c = (invariant_of-self g c).stand
