@@ -1,11 +1,14 @@
 //! Applying a request: everything that may be refused is made first, and then it is done, which can't fail.
 ghost use Rattle.std.specs.Prelude.{◌≡◌, ◌<◌, ◌++◌, ◌∷◌, [], true, length, set, vec_len, vec_capacity, IfErr, IfOk, IsSome, MatchResult, OnOk};
+ghost use Rattle.std.specs.List.{Contains};
 ghost use Rattle.std.specs.Result.{result_err};
 ghost use Rattle.std.specs.Option.{option_copied};
+ghost use Rattle.mds_types.specs.Leaf.{Leaf};
 ghost use Rattle.mds_types.specs.Step.{step, number_or};
 ghost use Rattle.inode_table.specs.Numbers.{offer};
 ghost use Rattle.cluster_core.specs.Offer.{after_taking};
 ghost use Rattle.inboxes.specs.Pins.{is_for, left_without};
+ghost use Rattle.namespace_ops.specs.ChangedFragments.{changed_fragments};
 ghost use Rattle.namespace_ops.specs.Changes.{IsOffered, fragments_in};
 ghost use Rattle.namespace_ops.specs.Kept.{ChangesOnly, KeepsAll};
 ghost use Rattle.namespace_ops.specs.Checked.{Checks};
@@ -67,6 +70,7 @@ pub(crate) fn prepare<F: Frags>(
     requires session { IsSessionOf given.old.sessions asked.now.request.client asked.now.session }
     requires offered { IsOffered (F.content frags.old) F.IsNumber (offer asked.now.supply) }
     requires checked { Checks (F.content frags.old) (F.covers frags.old) (F.Holds frags.old) asked.now.request.op (number_or (offer asked.now.supply)) (step (F.content frags.old) asked.now.request.op (number_or (offer asked.now.supply))) checked }
+    requires touch { (leaf : Leaf) → Contains (changed_fragments (F.covers frags.old) (F.content frags.old) asked.now.request.op) leaf → F.MayTouch frags.old leaf }
     ensures prepared { let outcome = step (F.content frags.old) asked.now.request.op (number_or (offer asked.now.supply)) in
         MatchResult result
         (IsPrepared (F.content frags.old) (F.covers frags.old) (F.IsReady frags.new) asked.now.request.op outcome asked.now.supply)

@@ -7,6 +7,7 @@ ghost use Rattle.mds_types.specs.declared.refusals.Refusal.TheVariants.{NoInodes
 ghost use Rattle.mds_types.specs.declared.dirfrags.Dirfrag.{Dirfrag as At};
 ghost use Rattle.mds_types.specs.declared.operations.Op.{Op as Operation};
 ghost use Rattle.std.specs.FinMap as map;
+ghost use Rattle.std.specs.List.{Contains};
 ghost use Rattle.fragtree.specs.FragTree.{IsTree};
 ghost use Rattle.inode_table.specs.Dirs.{Covers, leaves_of};
 ghost use Rattle.mds_types.specs.Tree.{Tree, is_directory, is_above, has_entries};
@@ -28,7 +29,8 @@ use std::alloc::Global;
 /// A read may have to fetch what it reads, and can then be refused; it keeps all, and so does a refusal. Which leaves a
 /// directory has, and where they lie, is told with no fetch. A read is told for which operation it is asked, and asks of a directory of that. It takes
 /// no number, and is never refused for want of one.
-/// All growth that a change needs is made by `ready`; the change that follows can't fail.
+/// All growth that a change needs is made by `ready`, which is asked of a change of leaves that may be touched; the change that follows
+/// can't fail.
 pub trait Frags {
     /// The plain tree that the fragments show.
     ghost content: { Self → Tree };
@@ -41,6 +43,9 @@ pub trait Frags {
 
     /// A leaf lies at the rank that holds it: that rank is asked for it, and changes it.
     ghost Holds: { Self → At → Type 0 };
+
+    /// A change may touch this leaf now.
+    ghost MayTouch: { Self → Leaf → Type 0 };
 
     /// The change can be made with no further growth.
     ghost IsReady: { Self → Alteration → Type 0 };
@@ -114,6 +119,7 @@ pub trait Frags {
         requires of_op { IsChangeOf op.now change.now }
         requires held { LieHeld (Holds self.old) change.now }
         requires numbered { IsNumbered IsNumber change.now }
+        requires touch { (leaf : Leaf) → Contains (fragments_of (covers self.old) change.now) leaf → MayTouch self.old leaf }
         ensures ready { OnOk result (IsReady self.new change.now) }
         ensures kept { KeepsAll (content self.old) (content self.new) (covers self.old) (covers self.new) (Follows self.old self.new op.now (result_err result)) }
         ensures err { IfErr result (MayRefuse self.old self.new op.now) };
@@ -138,6 +144,9 @@ pub trait Frags {
 
     /// Reads and refusals leave each leaf to the rank that holds it.
     ghost held_on: { (a b : Self) (op : Operation) (told : Option Reason) (at : At) → Follows a b op told → Holds a at ↔ Holds b at };
+
+    /// What a change may touch it may touch after a read.
+    ghost touch_on: { (a b : Self) (op : Operation) (told : Option Reason) (leaf : Leaf) → Follows a b op told → MayTouch a leaf → MayTouch b leaf };
 
     /// Want of memory, and of a number for a new inode, that an operation finds itself is no refusal of the fragments.
     ghost follows_memory: { (a b : Self) (op : Operation) → Follows a b op None → Follows a b op (Some NoMemory) };

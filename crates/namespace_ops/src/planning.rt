@@ -1,9 +1,12 @@
 //! Planning one operation: all growth for the change that its checks found.
 ghost use Rattle.std.specs.Prelude.{◌≡◌, ◌&&◌, not, cond, is_some, None, IfOk, IfErr, MatchResult};
+ghost use Rattle.std.specs.List.{Contains};
 ghost use Rattle.std.specs.Result.{result_err};
+ghost use Rattle.mds_types.specs.Leaf.{Leaf};
 ghost use Rattle.mds_types.specs.Step.{step, number_or};
 ghost use Rattle.namespace_ops.specs.Kept.{KeepsAll};
-ghost use Rattle.namespace_ops.specs.Changes.{IsChangeOf, IsNumbered, IsOffered, LieHeld, MayChange, reply_of};
+ghost use Rattle.namespace_ops.specs.ChangedFragments.{changed_fragments};
+ghost use Rattle.namespace_ops.specs.Changes.{IsChangeOf, IsNumbered, IsOffered, LieHeld, MayChange, fragments_of, reply_of};
 ghost use Rattle.namespace_ops.specs.Checked.{Checks, IsChecked};
 ghost use Rattle.namespace_ops.specs.Planned.{IsPlanned};
 ghost use Rattle.namespace_ops.specs.Reasons.{Refuses};
@@ -15,7 +18,8 @@ use mds_types::{Ino, Op, Refusal, Reply};
 
 /// Plans what the checks of an operation found, which were offered the same number: answers the reply of the operation table, and
 /// the change that leads to the table's tree, for which all growth has been made. There is no change where the operation reads,
-/// answers an errno, or leads to where it is. The fragments show what they showed. A new inode takes the number given, which has to
+/// answers an errno, or leads to where it is. The fragments show what they showed; those that the operation changes have to be ones that
+/// may be touched. A new inode takes the number given, which has to
 /// be unused and one that a new inode may have; where the table takes one and none is given, the operation is refused `NoInodes`.
 /// Any other refusal is one of the fragments', or want of memory.
 pub fn plan_checked<F: Frags>(
@@ -26,6 +30,7 @@ pub fn plan_checked<F: Frags>(
 ) -> Result<Plan, Refusal>
     requires offered { IsOffered (F.content frags.old) F.IsNumber number }
     requires checked { Checks (F.content frags.old) (F.covers frags.old) (F.Holds frags.old) op.now (number_or number) (step (F.content frags.old) op.now (number_or number)) checked }
+    requires touch { (leaf : Leaf) → Contains (changed_fragments (F.covers frags.old) (F.content frags.old) op.now) leaf → F.MayTouch frags.old leaf }
     ensures planned { let outcome = step (F.content frags.old) op.now (number_or number) in
         MatchResult result
         (IsPlanned (F.content frags.old) (F.covers frags.old) (F.IsReady frags.new) op.now outcome number)
@@ -51,6 +56,7 @@ fn plan_change<F: Frags>(
 ) -> Result<Plan, Refusal>
     requires offered { IsOffered (F.content frags.old) F.IsNumber number }
     requires checked { IsChecked (F.content frags.old) (F.covers frags.old) (F.Holds frags.old) op.now (number_or number) (step (F.content frags.old) op.now (number_or number)) change }
+    requires touch { (leaf : Leaf) → Contains (changed_fragments (F.covers frags.old) (F.content frags.old) op.now) leaf → F.MayTouch frags.old leaf }
     ensures planned { let outcome = step (F.content frags.old) op.now (number_or number) in
         MatchResult result
         (IsPlanned (F.content frags.old) (F.covers frags.old) (F.IsReady frags.new) op.now outcome number)
@@ -75,6 +81,7 @@ fn make_ready<F: Frags>(frags: &mut F, op: &Op, change: &Change) -> Result<Reply
     requires of_op { IsChangeOf op.now change.now }
     requires held { LieHeld (F.Holds frags.old) change.now }
     requires numbered { IsNumbered F.IsNumber change.now }
+    requires touch { (leaf : Leaf) → Contains (fragments_of (F.covers frags.old) change.now) leaf → F.MayTouch frags.old leaf }
     ensures reply { IfOk result (λ reply. reply ≡ reply_of change.now) }
     ensures ready { IfOk result (λ reply. F.IsReady frags.new change.now) }
     ensures kept { KeepsAll (F.content frags.old) (F.content frags.new) (F.covers frags.old) (F.covers frags.new) (F.Follows frags.old frags.new op.now (result_err result)) }

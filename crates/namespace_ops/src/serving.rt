@@ -1,6 +1,8 @@
 //! Serving one operation.
 ghost use Rattle.std.specs.Prelude.{MatchResult, OnErr};
+ghost use Rattle.std.specs.List.{Contains};
 ghost use Rattle.std.specs.Result.{result_err};
+ghost use Rattle.mds_types.specs.Leaf.{Leaf};
 ghost use Rattle.mds_types.specs.Step.{step, number_or};
 ghost use Rattle.mds_types.specs.Tree.{IsWellFormed};
 ghost use Rattle.inode_table.specs.TreeChanges.{KeepLeaves};
@@ -18,8 +20,8 @@ use mds_types::{Ino, Op, Rank, Refusal, Reply};
 use std::alloc::Global;
 
 /// Serves an operation: answers the reply of the operation table, and leaves the tree that the table leaves. Of the leaves
-/// only the operation's changed fragments show anything else afterwards: `frame` says so in the fragments' own words, and
-/// `others` in those of the tree and the leaves of each directory. Each directory that stands keeps its leaves. A
+/// only the operation's changed fragments, which have to be ones that may be touched, show anything else afterwards: `frame` says so in
+/// the fragments' own words, and `others` in those of the tree and the leaves of each directory. Each directory that stands keeps its leaves. A
 /// new inode takes the number given, which has to be unused and one that a new inode may have; where the table takes one and none is given, the operation is
 /// refused `NoInodes`. Any other refusal is one of the fragments', or want of memory. A refusal keeps all as a read does.
 pub fn serve_op<F: Frags>(
@@ -28,7 +30,8 @@ pub fn serve_op<F: Frags>(
     op: &Op,
     number: Option<Ino>,
 ) -> Result<Reply, Refusal>
-    requires { IsOffered (F.content frags.old) F.IsNumber number }
+    requires offered { IsOffered (F.content frags.old) F.IsNumber number }
+    requires touch { (leaf : Leaf) → Contains (changed_fragments (F.covers frags.old) (F.content frags.old) op.now) leaf → F.MayTouch frags.old leaf }
     ensures served { let outcome = step (F.content frags.old) op.now (number_or number) in
         MatchResult result
         (IsServed (F.content frags.new) outcome number)

@@ -56,6 +56,8 @@ impl<S: Store + Drop> Frags for RankedTree<S> {
 
     ghost Holds = { λ t at. HoldsAt (state_of t.tree) t.subtrees.roots at };
 
+    ghost MayTouch = { λ t leaf. Unit {0} };
+
     ghost IsReady = { λ t change. IsRankedReady t change };
 
     ghost Follows = { λ a b op told. KeepsRanked a b op told };
@@ -78,6 +80,8 @@ impl<S: Store + Drop> Frags for RankedTree<S> {
       λ holds. subst (λ (r : Roots). HoldsAt (state_of b.tree) r at) (sym kept.roots) (subst (λ (s : TreeState). HoldsAt s a.subtrees.roots at) (sym kept.tree.state) holds),
       λ holds. subst (λ (r : Roots). HoldsAt (state_of a.tree) r at) kept.roots (subst (λ (s : TreeState). HoldsAt s b.subtrees.roots at) kept.tree.state holds),
     ) };
+
+    ghost touch_on = { λ a b op told leaf p may. may };
 
     ghost follows_memory = { λ a b op p. record { tree = keeps_refused a.tree b.tree NoMemory refl p.tree; roots = p.roots; reads = p.reads } };
 

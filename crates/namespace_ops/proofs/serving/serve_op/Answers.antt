@@ -1,4 +1,6 @@
-use Rattle.std.proofs.Common.{None, ap, rules, subst, sym, ◌∙◌}
+use Rattle.std.proofs.Common.{List, None, ap, rules, subst, sym, ◌∙◌}
+use Rattle.std.specs.List.{Contains}
+use Rattle.mds_types.specs.Leaf.{Leaf}
 use Rattle.inode_table.specs.Dirs.{Covers}
 use Rattle.inode_table.specs.TreeChanges.{KeepLeaves}
 use Rattle.namespace_ops.specs.Kept.{ChangesOnly, OthersShowTheSame}
@@ -15,6 +17,12 @@ plan_checked-requires-clause-checked g c =
     checks_on (g.F.Frags.content c.args.frags.now) _ (g.F.Frags.covers c.args.frags.now) _ (g.F.Frags.Holds c.args.frags.now) _ c.args.op.now _ _ _ c.in_ok-checked.ensures.kept.tree c.in_ok-checked.ensures.kept.leaves
     (λ at. (g.met.F.Frags.held_on _ _ c.args.op.now None at c.in_ok-checked.ensures.kept.follows).0)
     (search rules) c.in_ok-checked.ensures.checked
+
+pub plan_checked-requires-clause-touch : goal.plan_checked-requires-clause-touch
+plan_checked-requires-clause-touch g c leaf has =
+    let kept = c.in_ok-checked.ensures.kept in
+    g.met.F.Frags.touch_on _ _ c.args.op.now None leaf kept.follows
+    (c.requires.touch leaf (subst (λ (k : List Leaf). Contains k leaf) (λ i. changed_fragments (kept.leaves i) (kept.tree i) c.args.op.now) has))
 
 pub returns-in_err-plan-clause-frame : goal.returns-in_err-plan-clause-frame
 returns-in_err-plan-clause-frame g c leaf others =
