@@ -26,7 +26,7 @@ unfrozen_holds Prepared is = cc
 unfrozen_holds Sent is = cc
 unfrozen_holds Imported is = cc
 
-early_holds : (state : ExportState) → is_before_send state ≡ true → is_imported state ≡ false
+pub early_holds : (state : ExportState) → is_before_send state ≡ true → is_imported state ≡ false
 early_holds Started is = refl
 early_holds Frozen is = refl
 early_holds Prepared is = refl

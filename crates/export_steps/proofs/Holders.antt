@@ -2,10 +2,11 @@
 use Rattle.std.specs.Prelude.{◌≡◌, ◌↔◌, IsTrue, Bool, true, false, cond, Option, Some, None, MatchOption, refl}
 use Rattle.std.proofs.Common.{sym, ap, ◌∙◌}
 use Rattle.std.specs.FinMap as map
+use Rattle.std.specs.FinMap.{get-empty}
 use Rattle.mds_types.specs.declared.ids.Rank.{Rank}
 use Rattle.inode_table.specs.Dirs.{Homes, Covers, IsLive, IsTable}
 use Rattle.mds_types.specs.Leaf.{Leaf}
-use Rattle.subtree_map.specs.Authority.{Roots, IsSubtrees, NearestRoot, itself}
+use Rattle.subtree_map.specs.Authority.{HasAuthority, Roots, IsSubtrees, NearestRoot, itself}
 use Rattle.subtree_map.proofs.Options.{not_none, one_value}
 use Rattle.subtree_map.proofs.Nearest.{one_root, is_ranked, some_root}
 use Rattle.export_steps.specs.declared.exports.StandingExport.{StandingExport}
@@ -76,3 +77,25 @@ module _ (standing : Standing) (roots : Roots) (homes : Homes) (covers : Covers)
             let same : frozen.root ≡ root = one_root roots homes covers root frozen.root root frozen.nearest own in
             record { root = root; export = frozen.export; nearest = near; stands = ap (map.get standing) (sym same) ∙ frozen.stands; freezing = frozen.freezing },
       )
+
+-- no export stands: no leaf is frozen, and the authority of each is its holder
+module _ (standing : Standing) (roots : Roots) (homes : Homes) (covers : Covers) (leaf : Leaf) (empty : standing ≡ map.empty) where
+  none_at : (root : Leaf) → map.get standing root ≡ None
+  none_at root = ap (λ (m : Standing). map.get m root) empty ∙ get-empty _ root
+
+  pub none_frozen : IsTrue false ↔ IsFrozen standing roots homes covers leaf
+  none_frozen = (
+    λ never. let clash : false ≡ true = never in cc,
+    λ frozen. absurd (not_none _ frozen.export (none_at frozen.root) frozen.stands),
+  )
+
+  pub own_holder : (rank : Rank) → HasAuthority roots homes covers leaf rank → HasHolder standing roots homes covers leaf rank
+  own_holder rank has = record { root = has.root; nearest = has.nearest; holds = ap (λ (o : Option StandingExport). region_holder o (map.get roots has.root)) (none_at has.root) ∙ has.ranked }
+
+  own_authority : (rank : Rank) → HasHolder standing roots homes covers leaf rank → HasAuthority roots homes covers leaf rank
+  own_authority rank h = record { root = h.root; nearest = h.nearest; ranked = sym (ap (λ (o : Option StandingExport). region_holder o (map.get roots h.root)) (none_at h.root)) ∙ h.holds }
+
+  pub told_own : (told : Option Rank) → MatchOption told ((rank : Rank) → HasAuthority roots homes covers leaf rank → ⊥) (HasAuthority roots homes covers leaf)
+      → MatchOption told ((rank : Rank) → HasHolder standing roots homes covers leaf rank → ⊥) (HasHolder standing roots homes covers leaf)
+  told_own None none = λ rank holds. none rank (own_authority rank holds)
+  told_own (Some rank) has = own_holder rank has

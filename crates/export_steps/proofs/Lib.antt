@@ -5,6 +5,7 @@ pub mod Elsewhere
 pub mod Handover
 pub mod Holders
 pub mod Holding
+pub mod HoldingSteps
 pub mod Merges
 pub mod Moves
 pub mod Outcomes

@@ -27,6 +27,11 @@ ThawsRegion old new was now homes covers root = (leaf : Leaf) → IsFrozen new n
 abbrev pub KeepFrozen : Standing → Standing → Roots → Homes → Covers → Type 0
 KeepFrozen old new roots homes covers = (leaf : Leaf) → IsFrozen new roots homes covers leaf ↔ IsFrozen old roots homes covers leaf
 
+-- Start, Prep, Send: every leaf keeps its holder, and is frozen exactly if it was
+pub record StepsSoundly (old new : Standing) (roots : Roots) (homes : Homes) (covers : Covers) : Type 0 where
+  pub holders : KeepHolders old new roots roots homes covers
+  pub frozen : KeepFrozen old new roots homes covers
+
 -- Freeze, of a leaf whose authority is the exporter and which isn't frozen: its region freezes, and every leaf keeps its holder and its authority
 pub record FreezesSoundly (old new : Standing) (was now : Roots) (homes : Homes) (covers : Covers) (root : Leaf) : Type 0 where
   pub holders : KeepHolders old new was now homes covers

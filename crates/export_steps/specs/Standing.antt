@@ -59,9 +59,13 @@ abbrev pub Steps : Standing → Standing → Leaf → ExportState → ExportStat
 Steps old new root from to (Ok done) = ComesTo old new root from to
 Steps old new root from to (Err reason) = (reason ≡ WrongExportState) × (state_at old root ≢ Some from) × (new ≡ old)
 
+-- Start: no export of the root stood, and one does now, from exporter to importer
+abbrev pub IsStart : Standing → Standing → Leaf → Rank → Rank → Type 0
+IsStart old new root exporter importer = (map.get old root ≡ None) × (new ≡ map.insert old root (record { exporter = exporter; importer = importer; state = Started }))
+
 -- Start records exporter and importer; it is refused where an export of the root stands, or else for want of memory, and nothing changes
 abbrev pub Starts : Standing → Standing → Leaf → Rank → Rank → Result (Unit {0}) Refusal → Type 0
-Starts old new root exporter importer (Ok done) = (map.get old root ≡ None) × (new ≡ map.insert old root (record { exporter = exporter; importer = importer; state = Started }))
+Starts old new root exporter importer (Ok done) = IsStart old new root exporter importer
 Starts old new root exporter importer (Err reason) = (((reason ≡ WrongExportState) × IsSome (map.get old root)) ⊎ ((reason ≡ NoMemory) × (map.get old root ≡ None))) × (new ≡ old)
 
 -- the roots and the promises of a map of subtrees stay; its room may grow

@@ -1,13 +1,14 @@
 //! Laws of exports, for the crates that hold them. A law is its contract: its body does nothing.
 ghost use Rattle.std.specs.Prelude.{◌≡◌, ◌↔◌};
+ghost use Rattle.std.specs.FinMap as map;
 ghost use Rattle.mds_types.specs.declared.ids.Rank.{Rank};
 ghost use Rattle.inode_table.specs.Dirs.{Homes, Covers, IsLive, IsTable};
 ghost use Rattle.mds_types.specs.Leaf.{Leaf};
 ghost use Rattle.subtree_map.specs.Authority.{HasAuthority, IsInRegion, IsSubtrees, Roots};
 ghost use Rattle.subtree_map.specs.Changes.{Subtrees as SubtreesSeen};
-ghost use Rattle.export_steps.specs.Standing.{ArePlaced, ComesTo, IsCancel, IsFinish, IsFreeze, Standing};
+ghost use Rattle.export_steps.specs.Standing.{ArePlaced, ComesTo, IsCancel, IsFinish, IsFreeze, IsStart, Standing};
 ghost use Rattle.export_steps.specs.declared.exports.ExportState.TheVariants as state;
-ghost use Rattle.export_steps.specs.Handover.{CancelsSoundly, FinishesSoundly, FreezesSoundly, HandsOver};
+ghost use Rattle.export_steps.specs.Handover.{CancelsSoundly, FinishesSoundly, FreezesSoundly, HandsOver, StepsSoundly};
 ghost use Rattle.export_steps.specs.Holder.{HasHolder, IsFrozen, holding};
 ghost use Rattle.export_steps.specs.Regions.{AreFrozenRegionsKept, IsMakingElsewhere, IsMergeElsewhere, IsMoveElsewhere, IsRemovalElsewhere, IsReplacedElsewhere, IsSplitElsewhere, StandsOver};
 
@@ -59,10 +60,29 @@ pub fn finishes_elsewhere_keep_frozen_regions()
     ensures { (old new : Standing) (was now : SubtreesSeen) (root : Leaf) → IsFinish old new was now root → ArePlaced old was → (homes : Homes) (covers : Covers) → AreFrozenRegionsKept new was now homes homes covers covers }
 {}
 
+/// Start leaves every leaf its holder and its authority, since the roots stay, and no other leaf is frozen. What Finish changes
+/// keeps its place.
+pub fn start_keeps_holders()
+    ensures kept { (old new : Standing) (root : Leaf) (exporter importer : Rank) → IsStart old new root exporter importer → (roots : Roots) (homes : Homes) (covers : Covers) → StepsSoundly old new roots homes covers }
+    ensures placed { (old new : Standing) (root : Leaf) (exporter importer : Rank) → IsStart old new root exporter importer → (subtrees : SubtreesSeen) → ArePlaced old subtrees → ArePlaced new subtrees }
+{}
+
 /// Freeze of a leaf whose authority is the exporter, and which isn't frozen: its region freezes, and every leaf keeps its holder
 /// and its authority.
 pub fn freeze_keeps_holders()
     ensures { (old new : Standing) (was now : SubtreesSeen) (root : Leaf) (is : IsFreeze old new was now root) (homes : Homes) (covers : Covers) → (IsFrozen old was.roots homes covers root → ⊥) → HasAuthority was.roots homes covers root is.step.export.exporter → FreezesSoundly old new was.roots now.roots homes covers root }
+{}
+
+/// Prep leaves holders, authorities and frozen leaves as Start does.
+pub fn prep_keeps_holders()
+    ensures kept { (old new : Standing) (root : Leaf) → ComesTo old new root state.Frozen state.Prepared → (roots : Roots) (homes : Homes) (covers : Covers) → StepsSoundly old new roots homes covers }
+    ensures placed { (old new : Standing) (root : Leaf) → ComesTo old new root state.Frozen state.Prepared → (subtrees : SubtreesSeen) → ArePlaced old subtrees → ArePlaced new subtrees }
+{}
+
+/// And so does Send.
+pub fn send_keeps_holders()
+    ensures kept { (old new : Standing) (root : Leaf) → ComesTo old new root state.Prepared state.Sent → (roots : Roots) (homes : Homes) (covers : Covers) → StepsSoundly old new roots homes covers }
+    ensures placed { (old new : Standing) (root : Leaf) → ComesTo old new root state.Prepared state.Sent → (subtrees : SubtreesSeen) → ArePlaced old subtrees → ArePlaced new subtrees }
 {}
 
 /// Import makes the importer the holder of the region, and of no other leaf.
@@ -93,6 +113,17 @@ pub fn regions_and_authorities_keep_holders()
         → (leaf : Leaf) (rank : Rank) → IsLive homes covers leaf → IsLive later_homes later_covers leaf → HasHolder standing was.roots homes covers leaf rank → HasHolder standing now.roots later_homes later_covers leaf rank }
     ensures frozen { (standing : Standing) (was now : SubtreesSeen) (homes later_homes : Homes) (covers later_covers : Covers) → AreFrozenRegionsKept standing was now homes later_homes covers later_covers
         → (leaf : Leaf) → IsLive homes covers leaf → IsLive later_homes later_covers leaf → IsFrozen standing was.roots homes covers leaf ↔ IsFrozen standing now.roots later_homes later_covers leaf }
+{}
+
+/// What a step before Finish makes of the roots with the ranks that hold their regions: Freeze puts its root there with the exporter,
+/// Import gives it to the importer, and the others change nothing.
+pub fn steps_and_holding()
+    ensures start { (old new : Standing) (root : Leaf) (exporter importer : Rank) → IsStart old new root exporter importer → (roots : Roots) → holding new roots ≡ holding old roots }
+    ensures freeze { (old new : Standing) (was now : SubtreesSeen) (root : Leaf) (is : IsFreeze old new was now root) → holding new now.roots ≡ map.insert (holding old was.roots) root is.step.export.exporter }
+    ensures prep { (old new : Standing) (root : Leaf) → ComesTo old new root state.Frozen state.Prepared → (roots : Roots) → holding new roots ≡ holding old roots }
+    ensures send { (old new : Standing) (root : Leaf) → ComesTo old new root state.Prepared state.Sent → (roots : Roots) → holding new roots ≡ holding old roots }
+    ensures import { (old new : Standing) (root : Leaf) (is : ComesTo old new root state.Sent state.Imported) (subtrees : SubtreesSeen) → ArePlaced old subtrees → holding new subtrees.roots ≡ map.insert (holding old subtrees.roots) root is.export.importer }
+    ensures cancel { (old new : Standing) (was now : SubtreesSeen) (root : Leaf) → IsCancel old new was now root → holding new now.roots ≡ holding old was.roots }
 {}
 
 /// Finish changes nothing of who holds which region.

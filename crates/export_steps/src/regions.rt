@@ -13,10 +13,13 @@ use subtree_map::Subtrees;
 
 impl Exports {
     /// Whether a leaf is frozen: the export of its nearest root is frozen, prepared, sent or imported. Takes no memory, and
-    /// asks for that root alone.
+    /// asks for that root alone; where no export stands, for nothing.
     pub fn is_frozen(&self, subtrees: &Subtrees, dirs: &Dirs, dir: Ino, frag: Frag) -> bool
         ensures { IsTrue result ↔ IsFrozen self.now subtrees.now.roots dirs.now.homes dirs.now.trees (dir, frag) }
     {
+        if self.rows.is_empty() {
+            return false;
+        }
         let Some(root) = subtrees.find_root(dirs, dir, frag) else {
             return false;
         };
@@ -33,6 +36,9 @@ impl Exports {
         requires valid { IsSubtrees subtrees.now.roots dirs.now.homes dirs.now.trees }
         ensures { HasHolder self.now subtrees.now.roots dirs.now.homes dirs.now.trees (dir, frag) result }
     {
+        if self.rows.is_empty() {
+            return subtrees.authority(dirs, dir, frag);
+        }
         let root = subtrees.root_of(dirs, dir, frag);
         match self.region_holder(subtrees, root.0, root.1) {
             Some(rank) => rank,
@@ -50,6 +56,9 @@ impl Exports {
     ) -> Option<Rank>
         ensures { MatchOption result ((rank : RankNumber) → HasHolder self.now subtrees.now.roots dirs.now.homes dirs.now.trees (dir, frag) rank → ⊥) (HasHolder self.now subtrees.now.roots dirs.now.homes dirs.now.trees (dir, frag)) }
     {
+        if self.rows.is_empty() {
+            return subtrees.find_authority(dirs, dir, frag);
+        }
         let Some(root) = subtrees.find_root(dirs, dir, frag) else {
             return None;
         };

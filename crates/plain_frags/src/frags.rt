@@ -138,6 +138,8 @@ impl Frags for PlainFrags {
 
     ghost Holds = { λ f at. Unit {0} };
 
+    ghost MayTouch = { λ f leaf. Unit {0} };
+
     ghost IsReady = { λ f change. IsReadyFor f change };
 
     ghost Follows = { λ a b op told. KeepsShown a b };
@@ -157,6 +159,8 @@ impl Frags for PlainFrags {
     ghost follows_on = { λ a b c op told p q. (q.0 ∙ p.0, q.1 ∙ p.1) };
 
     ghost held_on = { λ a b op told at p. (λ h. h, λ h. h) };
+
+    ghost touch_on = { λ a b op told leaf p may. may };
 
     ghost follows_memory = { λ a b op p. p };
 

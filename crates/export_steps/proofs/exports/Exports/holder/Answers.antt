@@ -1,10 +1,13 @@
-use Rattle.std.proofs.Common.{ap, ◌∙◌}
+use Rattle.std.proofs.Common.{ap, sym, ◌∙◌}
 use Rattle.std.specs.FinMap as map
 use Rattle.subtree_map.proofs.Options.{not_none}
 use Rattle.subtree_map.proofs.Nearest.{is_ranked}
-use Rattle.export_steps.proofs.Holders.{some_holder_of_root}
+use Rattle.export_steps.proofs.Holders.{own_holder, some_holder_of_root}
 use Rattle.export_steps.specs.Holder.{region_holder}
 use Rattle.export_steps.proofs.exports.Exports.holder.Goals as goal
+
+pub returns-then-is_empty : goal.returns-then-is_empty
+returns-then-is_empty c = own_holder c.args.self.now c.args.subtrees.now.roots c.args.dirs.now.homes c.args.dirs.now.trees (c.args.dir, c.args.frag) (sym c.self.view_is ∙ c.is_empty.ensures.0 c.if-is_empty.true) c.authority.result c.authority.ensures
 
 pub unreachable-requires : goal.unreachable-requires
 unreachable-requires c =

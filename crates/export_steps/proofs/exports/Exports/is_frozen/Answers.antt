@@ -1,6 +1,9 @@
 use Rattle.std.proofs.Common.{sym, ◌∙◌}
-use Rattle.export_steps.proofs.Holders.{told_frozen, told_thawed}
+use Rattle.export_steps.proofs.Holders.{none_frozen, told_frozen, told_thawed}
 use Rattle.export_steps.proofs.exports.Exports.is_frozen.Goals as goal
+
+pub returns-then-is_empty : goal.returns-then-is_empty
+returns-then-is_empty c = none_frozen c.args.self.now c.args.subtrees.now.roots c.args.dirs.now.homes c.args.dirs.now.trees (c.args.dir, c.args.frag) (sym c.self.view_is ∙ c.is_empty.ensures.0 c.if-is_empty.true)
 
 pub returns-in-Some-get : goal.returns-in-Some-get
 returns-in-Some-get c =
