@@ -88,11 +88,11 @@ module _ (opening : Tree) (past now : List Entry) (old new : Core) (sound : IsSo
   step result (Serve rank) h = at_rank (nat_lt rank.0 (length old.state.inboxes)) result (λ w. kept (served_inbox old.state new.state past now (MayRefuse old new) rank result (waiting_at old.state.inboxes rank) w.0)) h
   step result (Grant rank client tid) h = at_rank (nat_lt rank.0 (length old.state.inboxes)) result (λ w. kept (granted old.state new.state past now (MayRefuse old new) rank client tid result (first_waiting client tid old.state.inboxes) w.0)) h
   step result (Split rank dir f nb) h =
-      at_rank (nat_lt rank.0 (length old.state.inboxes)) result (λ w. worked nothing (SplitsLeaf old new rank dir f nb) (λ done did. kept (regrouped_objects old.state.tree new.state.tree dir _ _ _ did.2.regrouped)) result w.0) h
+      at_rank (nat_lt rank.0 (length old.state.inboxes)) result (λ w. worked nothing (SplitsLeaf old new rank dir f nb) (λ done did. kept (regrouped_objects old.state.tree new.state.tree dir _ _ _ did.3.regrouped)) result w.0) h
   step result (Merge rank dir f) h =
-      at_rank (nat_lt rank.0 (length old.state.inboxes)) result (λ w. worked nothing (MergesLeaves old new rank dir f) (λ done did. kept (regrouped_objects old.state.tree new.state.tree dir _ _ _ did.2.regrouped)) result w.0) h
+      at_rank (nat_lt rank.0 (length old.state.inboxes)) result (λ w. worked nothing (MergesLeaves old new rank dir f) (λ done did. kept (regrouped_objects old.state.tree new.state.tree dir _ _ _ did.3.regrouped)) result w.0) h
   step result (CommitBegin rank dir f) h =
-      at_rank (nat_lt rank.0 (length old.state.inboxes)) result (λ w. worked told_job (BeginsAt old.state new.state rank (dir, f)) (λ given did. kept (begun_objects old.state.tree new.state.tree _ (dir, f) given did.1.2)) result w.0.0) h
+      at_rank (nat_lt rank.0 (length old.state.inboxes)) result (λ w. worked told_job (BeginsAt old.state new.state rank (dir, f)) (λ given did. kept (begun_objects old.state.tree new.state.tree _ (dir, f) given did.2.2)) result w.0.0) h
   step result (CommitEnd encoded) h =
       worked nothing (Ends old.state.tree new.state.tree old.faults new.faults encoded.job) (λ done did. ended_object old.state.tree new.state.tree sound.tree.sound leaf job stood stands old.faults new.faults encoded.job (Ok done) did) result h.0.0
   step result (CommitDrop number) h = worked nothing (Drops old.state.tree new.state.tree number) (λ done did. kept (dropped_objects old.state.tree new.state.tree number (Ok done) did)) result h.0.0
