@@ -85,6 +85,7 @@ fn may_put(pins: &Pins, rank: Rank, request: &Request, change: &Change) -> bool
 }
 
 // Whether a leaf of the directory that goes, if one does, may not be changed.
+#[inline(never)]
 fn lacks_gone<S: Store + Drop>(
     tree: &RankedTree<S>,
     pins: &Pins,
