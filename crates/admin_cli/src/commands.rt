@@ -50,6 +50,25 @@ impl Admin {
         ensures err { OnErr result (LacksFor self.old self.new command) }
         ensures count { self.new.operations ≤ self.old.operations + 1 }
     {
+        match command {
+            Command::Operation(op) => Ok(self.operate(rt.alloc(), op)),
+            other => self.execute_any(rt, other),
+        }
+    }
+
+    // Does what any command asks for. It is a function of its own, so that an operation, as most lines are, has no room to clear that
+    // only other commands need.
+    #[inline(never)]
+    fn execute_any(
+        &mut self,
+        rt: &(impl AllocGlobal + Threads + Sync),
+        command: Command,
+    ) -> Result<OutputLine, AllocError>
+        requires { self.old.operations + 1 < 2 ^ 64 }
+        ensures line { IfOk result (Executes self.old self.new command) }
+        ensures err { OnErr result (LacksFor self.old self.new command) }
+        ensures count { self.new.operations ≤ self.old.operations + 1 }
+    {
         let alloc = rt.alloc();
         match command {
             Command::Store(command) => self.execute_store(rt, alloc, command),
@@ -182,6 +201,7 @@ impl Admin {
 }
 
 // The line that shows what a step came to.
+#[inline(always)]
 pub(crate) fn shown_line(came: Result<Answer, Refusal>) -> OutputLine
     ensures { result ≡ line_of came }
 {
