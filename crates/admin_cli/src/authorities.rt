@@ -13,6 +13,7 @@ use subtree_map::Subtrees;
 
 impl Admin {
     // A rank lets a waiting request change fragments that are the rank's.
+    #[inline(never)]
     pub(crate) fn grant(&mut self, alloc: Global, rank: Rank, client: u64, tid: u64) -> OutputLine
         ensures { Does self.old self.new (Grant rank client tid) result }
     {
@@ -21,6 +22,7 @@ impl Admin {
 
     // Which leaves have a rank of their own? Takes memory for the list of them, which is the script's own: nothing is
     // refused.
+    #[inline(never)]
     pub(crate) fn subtrees(&self, alloc: Global) -> Result<OutputLine, AllocError>
         ensures { IfOk result (ListsSubtrees self.now.book.core.state) }
     {
@@ -29,6 +31,7 @@ impl Admin {
     }
 
     // Which rank is the authority of a leaf?
+    #[inline(never)]
     pub(crate) fn authority(&self, ino: Ino, frag: Frag) -> OutputLine
         ensures { TellsLine self.now.book.core.state ino frag result }
     {

@@ -50,6 +50,25 @@ impl Admin {
         ensures err { OnErr result (LacksFor self.old self.new command) }
         ensures count { self.new.operations ≤ self.old.operations + 1 }
     {
+        match command {
+            Command::Operation(op) => Ok(self.operate(rt.alloc(), op)),
+            other => self.execute_any(rt, other),
+        }
+    }
+
+    // Does what any command asks for. It is a function of its own, so that an operation, as most lines are, has no room to clear that
+    // only other commands need.
+    #[inline(never)]
+    fn execute_any(
+        &mut self,
+        rt: &(impl AllocGlobal + Threads + Sync),
+        command: Command,
+    ) -> Result<OutputLine, AllocError>
+        requires { self.old.operations + 1 < 2 ^ 64 }
+        ensures line { IfOk result (Executes self.old self.new command) }
+        ensures err { OnErr result (LacksFor self.old self.new command) }
+        ensures count { self.new.operations ≤ self.old.operations + 1 }
+    {
         let alloc = rt.alloc();
         match command {
             Command::Store(command) => self.execute_store(rt, alloc, command),
@@ -72,7 +91,9 @@ impl Admin {
     }
 
     // An operation alone arrives at rank 0 as client 0, with the number of such lines so far as its transaction number and
-    // its oldest, and is served there.
+    // its oldest, and is served there. This and the next four are functions of their own, since `execute`, through which each line
+    // goes, would clear the room for all that any of them needs.
+    #[inline(never)]
     fn operate(&mut self, alloc: Global, op: Op) -> OutputLine
         requires { self.old.operations + 1 < 2 ^ 64 }
         ensures count { self.new.operations ≡ self.old.operations + 1 }
@@ -101,6 +122,7 @@ impl Admin {
     }
 
     // A request comes in at a rank.
+    #[inline(never)]
     fn arrive(&mut self, alloc: Global, rank: Rank, request: Request) -> OutputLine
         ensures count { self.new.operations ≡ self.old.operations }
         ensures jobs { self.new.jobs ≡ self.old.jobs }
@@ -113,8 +135,8 @@ impl Admin {
         OutputLine::Queued
     }
 
-    // A rank serves. This and the next two are functions of their own, since an event is large, and `execute`, through which
-    // each line goes, would clear the room for one event after another.
+    // A rank serves.
+    #[inline(never)]
     fn serve(&mut self, alloc: Global, rank: Rank) -> OutputLine
         ensures { Does self.old self.new (Serve rank) result }
     {
@@ -122,6 +144,7 @@ impl Admin {
     }
 
     // A leaf of a directory is split.
+    #[inline(never)]
     fn split(&mut self, alloc: Global, rank: Rank, ino: Ino, frag: Frag, bits: u8) -> OutputLine
         ensures { Does self.old self.new (Split rank ino frag bits) result }
     {
@@ -137,13 +160,15 @@ impl Admin {
     }
 
     // Leaves of a directory are merged.
+    #[inline(never)]
     fn merge(&mut self, alloc: Global, rank: Rank, ino: Ino, frag: Frag) -> OutputLine
         ensures { Does self.old self.new (Merge rank ino frag) result }
     {
         self.step(alloc, Event::Merge { rank, ino, frag })
     }
 
-    // One event.
+    // One event. It is put into its callers, as the step of a book is: an event is large, and none is moved then.
+    #[inline(always)]
     pub(crate) fn step(&mut self, alloc: Global, event: Event) -> OutputLine
         ensures { Does self.old self.new event result }
     {
@@ -151,6 +176,7 @@ impl Admin {
     }
 
     // One event, and what it came to.
+    #[inline(always)]
     pub(crate) fn step_book(&mut self, alloc: Global, event: Event) -> Result<Answer, Refusal>
         ensures count { self.new.operations ≡ self.old.operations }
         ensures jobs { self.new.jobs ≡ self.old.jobs }
@@ -163,6 +189,7 @@ impl Admin {
     }
 
     // The leaves of a directory.
+    #[inline(never)]
     fn leaves(&self, alloc: Global, ino: Ino) -> OutputLine
         ensures { ListsLine self.now.book ino result }
     {
@@ -174,6 +201,7 @@ impl Admin {
 }
 
 // The line that shows what a step came to.
+#[inline(always)]
 pub(crate) fn shown_line(came: Result<Answer, Refusal>) -> OutputLine
     ensures { result ≡ line_of came }
 {

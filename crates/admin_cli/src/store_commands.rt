@@ -14,7 +14,8 @@ use std::alloc::{AllocError, Global};
 use std::thread::Threads;
 
 impl Admin {
-    // Does what a command on the store asks for.
+    // Does what a command on the store asks for. Each part is a function of its own: a line that asks for none of it pays for none.
+    #[inline(never)]
     pub(crate) fn execute_store(
         &mut self,
         rt: &(impl Threads + Sync),
@@ -47,6 +48,7 @@ impl Admin {
 
     // A commit of a leaf begins, and its job is kept; its number, if there is one. An error says that a job came, and
     // that there was no memory to keep it.
+    #[inline(never)]
     fn begin(
         &mut self,
         alloc: Global,
@@ -73,6 +75,7 @@ impl Admin {
     }
 
     // `begin RANK INO FRAG`
+    #[inline(never)]
     fn begin_line(
         &mut self,
         alloc: Global,
@@ -88,6 +91,7 @@ impl Admin {
     }
 
     // `end J`: the kept job is encoded, and its commit ended. An error says that there was no memory to copy it.
+    #[inline(never)]
     fn end(&mut self, alloc: Global, number: u64) -> Result<OutputLine, AllocError>
         ensures line { IfOk result (EndsLine self.old self.new number) }
         ensures err { OnErr result (CopiesNone self.old self.new number) }
@@ -104,6 +108,7 @@ impl Admin {
     }
 
     // A step that is to end a commit. Once that is over, its job is kept no longer.
+    #[inline(never)]
     fn end_job(&mut self, alloc: Global, number: u64, event: Event) -> OutputLine
         ensures { EndsJob self.old self.new number event result }
     {
@@ -115,6 +120,7 @@ impl Admin {
     }
 
     // `commit RANK INO FRAG`: a commit of a leaf begins, and is ended at once.
+    #[inline(never)]
     fn commit(
         &mut self,
         alloc: Global,
@@ -134,6 +140,7 @@ impl Admin {
     }
 
     // `flush`: all that isn't in the store is written.
+    #[inline(never)]
     fn flush(&mut self, rt: &(impl Threads + Sync), alloc: Global) -> OutputLine
         ensures { FlushesLine self.old self.new result }
     {
@@ -148,6 +155,7 @@ impl Admin {
     }
 
     // What is the object of this name?
+    #[inline(never)]
     fn object(&self, alloc: Global, name: &str) -> OutputLine
         ensures { LooksLine self.now.book.core.state.tree.objects name.now result }
     {
@@ -158,6 +166,7 @@ impl Admin {
     }
 
     // Which objects has the store?
+    #[inline(never)]
     fn objects(&self, alloc: Global) -> OutputLine
         ensures { ListsObjects self.now.book.core.state.tree.objects result }
     {

@@ -25,6 +25,7 @@ use std::alloc::Global;
 
 impl<S: Store + Drop> Cluster<S> {
     // A leaf of a directory is split.
+    #[inline(never)]
     pub(crate) fn split(
         &mut self,
         alloc: Global,
@@ -55,6 +56,7 @@ impl<S: Store + Drop> Cluster<S> {
     }
 
     // Leaves of a directory are merged.
+    #[inline(never)]
     pub(crate) fn merge(
         &mut self,
         alloc: Global,
@@ -76,6 +78,7 @@ impl<S: Store + Drop> Cluster<S> {
     }
 
     // A commit of a leaf begins; of a clean one there is nothing to commit.
+    #[inline(never)]
     pub(crate) fn begin_commit(
         &mut self,
         rank: Rank,
@@ -94,6 +97,7 @@ impl<S: Store + Drop> Cluster<S> {
     }
 
     // A commit ends: what was encoded is written.
+    #[inline(never)]
     pub(crate) fn end_commit(&mut self, alloc: Global, encoded: &Encoded) -> Result<Answer, Refusal>
         ensures ended { (past : List Applied) → EndsCommit self.old self.new past past encoded.now.job result }
         ensures count { length self.new.caches.used ≡ length self.old.caches.used }
@@ -107,6 +111,7 @@ impl<S: Store + Drop> Cluster<S> {
     }
 
     // A commit is given up.
+    #[inline(never)]
     pub(crate) fn drop_commit(&mut self, job: u64) -> Result<Answer, Refusal>
         ensures dropped { (past : List Applied) → DropsCommit self.old self.new past past job result }
         ensures count { length self.new.caches.used ≡ length self.old.caches.used }
@@ -118,6 +123,7 @@ impl<S: Store + Drop> Cluster<S> {
     }
 
     // The object of a directory's tree is written, or removed.
+    #[inline(never)]
     pub(crate) fn commit_tree(&mut self, alloc: Global, ino: Ino) -> Result<Answer, Refusal>
         ensures saved { (past : List Applied) → CommitsTree self.old self.new past past ino result }
         ensures count { length self.new.caches.used ≡ length self.old.caches.used }
@@ -129,6 +135,7 @@ impl<S: Store + Drop> Cluster<S> {
     }
 
     // The first object of the purge list is removed.
+    #[inline(never)]
     pub(crate) fn purge(&mut self) -> Result<Answer, Refusal>
         ensures purged { (past : List Applied) → PurgesObject self.old self.new past past result }
         ensures count { length self.new.caches.used ≡ length self.old.caches.used }
@@ -140,6 +147,7 @@ impl<S: Store + Drop> Cluster<S> {
     }
 
     // The least recently used clean fragment of a rank's cache goes.
+    #[inline(never)]
     pub(crate) fn evict(&mut self, rank: Rank) -> Result<Answer, Refusal>
         requires { length self.old.caches.used ≡ length self.old.state.inboxes }
         ensures evicted { (past : List Applied) → AtRank self.old self.new past past rank result (EvictsFragment self.old self.new past past rank result) }

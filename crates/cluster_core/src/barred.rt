@@ -98,6 +98,7 @@ fn may_put<S: Store + Drop>(
 }
 
 // Whether a leaf of the directory that goes, if one does, may not be changed.
+#[inline(never)]
 fn lacks_gone<S: Store + Drop>(
     tree: &RankedTree<S>,
     pins: &Pins,

@@ -76,6 +76,7 @@ impl<S: Store + Drop> Book<S> {
     }
 
     #[tactic(auto, using(crate::proofs::Recorded::records_of))]
+    #[inline(always)]
     /// One event, one atomic step: what it answers, or why it is refused. The opening tree stays. The history grows by one entry
     /// where a request is applied, and each reply that is handed out stands in it.
     pub fn step(&mut self, alloc: Global, event: Event) -> Result<Answer, Refusal>

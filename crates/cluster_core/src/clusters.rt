@@ -97,6 +97,7 @@ impl<S: Store + Drop> Cluster<S> {
 
     /// One event, one atomic step. Cluster and history are as a book keeps them from some opening tree; from whichever they
     /// were, they are so afterwards.
+    #[inline(always)]
     pub fn step(
         &mut self,
         alloc: Global,
@@ -113,7 +114,9 @@ impl<S: Store + Drop> Cluster<S> {
         answer
     }
 
-    // Chooses what an event does.
+    // Chooses what an event does. It is put into its callers, who know which event it is, so an event is moved nowhere; what is
+    // rare stands in functions of its own, each with its own frame.
+    #[inline(always)]
     fn choose(
         &mut self,
         alloc: Global,
@@ -196,6 +199,7 @@ impl<S: Store + Drop> Cluster<S> {
     }
 
     // The rank grants a waiting request what it would change of the rank's.
+    #[inline(never)]
     fn grant(&mut self, alloc: Global, rank: Rank, client: u64, tid: u64) -> Result<Answer, Refusal>
         ensures granted { (past : List Applied) → AtRank self.old self.new past past rank result (GrantsWaiting self.old.state self.new.state past past (MayRefuse self.old self.new) rank client tid result × UsesGranted self.old self.new client tid) }
         ensures tree { self.new.state.tree ≡ self.old.state.tree }

@@ -34,6 +34,7 @@ use std::alloc::Global;
 
 /// Serves the request at the front of a rank's inbox, which is taken out once and put back where it is refused. One that
 /// was applied before is answered again; a new one goes to its master, or waits where it may not change what it would, or is applied.
+#[inline(never)]
 pub(crate) fn serve_front<S: Store + Drop>(
     alloc: Global,
     tree: &mut RankedTree<S>,
@@ -170,6 +171,7 @@ fn end_request(pins: &mut Pins, request: Request)
 }
 
 // Answers a request, which was taken out at a rank, with the reply of its entry at this place.
+#[inline(never)]
 fn answer_again(
     waiting: &mut Waiting,
     rank: Rank,
@@ -202,6 +204,7 @@ fn answer_again(
 }
 
 // A request that was taken out at a rank goes to the back of its master's inbox.
+#[inline(never)]
 fn forward(
     inboxes: &mut Inboxes,
     rank: Rank,

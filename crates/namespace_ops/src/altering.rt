@@ -20,6 +20,7 @@ use mds_types::{
 };
 
 /// Other attributes for the inode at a dentry.
+#[inline(never)]
 pub fn set_attributes<F: Frags>(
     frags: &mut F,
     op: &Op,

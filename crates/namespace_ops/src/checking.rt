@@ -20,7 +20,8 @@ use mds_types::{ESTALE, Ino, Op, Refusal, Reply};
 use std::alloc::Global;
 
 /// Checks an operation whose names lie there: finds the reply, or the one change that it makes. A new inode takes the number
-/// given. It reads alone, and is refused as a read is, or for want of memory.
+/// given. It reads alone, and is refused as a read is, or for want of memory. What checks a change is a function of its own, so that
+/// a look-up has no room to clear that only changes need.
 pub fn check<F: Frags>(
     alloc: Global,
     frags: &mut F,

@@ -58,6 +58,7 @@ impl New {
 }
 
 /// A new inode with this number, at a dentry that has to be free.
+#[inline(never)]
 pub fn make<F: Frags>(
     frags: &mut F,
     op: &Op,

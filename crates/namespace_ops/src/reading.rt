@@ -39,6 +39,7 @@ pub fn lookup<F: Frags>(
 }
 
 /// The first `max` names after a given one.
+#[inline(never)]
 pub fn read_dir<F: Frags>(
     alloc: Global,
     frags: &mut F,
@@ -59,6 +60,7 @@ pub fn read_dir<F: Frags>(
 }
 
 /// What the link at a dentry points to.
+#[inline(never)]
 pub fn read_link<F: Frags>(
     frags: &mut F,
     op: &Op,

@@ -20,6 +20,7 @@ use crate::plans::{Change, Checked, Spot};
 use mds_types::{Dentry, Dirfrag, EISDIR, ENOENT, ENOTDIR, ENOTEMPTY, Inode, Op, Refusal, Reply};
 
 /// Takes away an entry that has to be no directory.
+#[inline(never)]
 pub fn unlink<F: Frags>(
     frags: &mut F,
     op: &Op,
@@ -51,6 +52,7 @@ pub fn unlink<F: Frags>(
 }
 
 /// Takes away a directory that has to be empty.
+#[inline(never)]
 pub fn remove_dir<F: Frags>(
     frags: &mut F,
     op: &Op,

@@ -26,6 +26,7 @@ use mds_types::{
 };
 
 /// Moves the entry at one dentry to another.
+#[inline(never)]
 pub fn rename<F: Frags>(
     frags: &mut F,
     op: &Op,
