@@ -3,6 +3,7 @@
 
 mod administering;
 mod applying;
+mod barred;
 mod books;
 mod clusters;
 mod events;
@@ -10,7 +11,6 @@ mod flushing;
 mod granting;
 pub mod laws;
 mod masters;
-mod barred;
 mod mounting;
 mod parts;
 mod pinned;

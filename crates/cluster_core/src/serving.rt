@@ -20,9 +20,9 @@ ghost use Rattle.ranked_tree.specs.Ranked.{IsReady as IsReadyIn, MayRefuse, held
 ghost use Rattle.ranked_tree.specs.Subtrees.{AreRoots, KeepsRoots};
 
 use crate::applying::{Prepared, commit, prepare};
+use crate::barred::must_wait;
 use crate::events::Answer;
 use crate::masters::locate_master;
-use crate::barred::must_wait;
 use crate::parts::{Asked, Given, Waiting};
 use inboxes::{Inboxes, Pins};
 use mds_types::{Entry, Ino, Rank, Refusal, Reply, Request};

@@ -161,7 +161,7 @@ module _ (old new : TreeState) (n m : ℕ) (was now : Subtrees) (exports : Stand
     where
       frozen_before : (leaf : Leaf) → IsFrozen exports now.roots new.homes new.covers leaf → IsFrozen exports was.roots old.homes old.covers leaf
       frozen_before leaf frozen =
-        (subst (λ (h : Homes). IsFrozen exports was.roots h old.covers leaf) homes (subst (λ (cs : Covers). IsFrozen exports was.roots new.homes cs leaf) covers (subst (λ (r : Roots). IsFrozen exports r new.homes new.covers leaf) roots frozen)))
+          (subst (λ (h : Homes). IsFrozen exports was.roots h old.covers leaf) homes (subst (λ (cs : Covers). IsFrozen exports was.roots new.homes cs leaf) covers (subst (λ (r : Roots). IsFrozen exports r new.homes new.covers leaf) roots frozen)))
 
 -- no frozen leaf changed
 module _ (old new : TreeState) (n m : ℕ) (was now : Subtrees) (exports : Standing) (stand : StandSoundly old n was exports) (count : m ≡ n) (fewer : FewerJobs old new) where

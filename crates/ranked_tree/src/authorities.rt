@@ -123,7 +123,9 @@ fn is_authority<S: Store + Drop>(
 fn is_frozen<S: Store + Drop>(tree: &MdCache<S>, regions: &Regions, dir: Ino, frag: Frag) -> bool
     ensures { IsTrue result ↔ IsFrozenIn (state_of tree.now) regions.now (dir, frag) }
 {
-    regions.exports.is_frozen(&regions.roots, tree.dirs(), dir, frag)
+    regions
+        .exports
+        .is_frozen(&regions.roots, tree.dirs(), dir, frag)
 }
 
 // Whether a leaf of a directory that lies properly inside a fragment is frozen.

@@ -2,11 +2,11 @@
 ghost use Rattle.std.specs.Prelude.{◌≡◌};
 
 use crate::regions::Regions;
+use export_steps::Exports;
 use mdcache::MdCache;
 use objstore::Store;
 use std::alloc::Global;
 use std::marker::Model;
-use export_steps::Exports;
 use subtree_map::Subtrees;
 
 /// A tree over caches and a store, its subtree roots with their ranks, and the exports that stand.

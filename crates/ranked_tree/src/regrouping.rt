@@ -183,7 +183,12 @@ fn merge_held<S: Store + Drop>(
 }
 
 // The rank that holds the leaves of a directory properly inside a fragment, which have one authority.
-fn holder_of_all<S: Store + Drop>(tree: &MdCache<S>, regions: &Regions, dir: Ino, frag: Frag) -> Rank
+fn holder_of_all<S: Store + Drop>(
+    tree: &MdCache<S>,
+    regions: &Regions,
+    dir: Ino,
+    frag: Frag,
+) -> Rank
     requires known { is_known tree.now.homes dir.0 ≡ true }
     requires can { CanMerge (leaves_of tree.now.covers dir.0) frag }
     requires one { HaveOneAuthority (held_in regions.now) tree.now.homes tree.now.covers dir.0 frag }

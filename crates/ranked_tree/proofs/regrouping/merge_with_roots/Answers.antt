@@ -68,7 +68,7 @@ returns-in-Err-merge_held-clause-divided g c = record {
     sound = c.in-Err-merge_held.ensures.sound;
     valid = rw ((ap (λ (r : Roots). holding c.args.regions.now.exports r) c.reserve_merge.ensures.same), c.in-Err-merge_held.ensures.merged.1.0) c.requires.divided.owned.valid;
     held = unmerged_held c.args.tree.now c.merge_held.new.tree (held_in c.args.regions.now) (holding c.args.regions.now.exports c.reserve_merge.new.roots.roots) c.requires.divided.owned c.in-Err-merge_held.ensures.count c.in-Err-merge_held.ensures.sound c.args.dir c.args.frag c.in_default.ensures.known c.in_default.ensures.can
-      (merged_held c.args.regions.now.exports c.args.regions.now.roots.roots c.args.tree.now c.args.dir c.args.frag c.merge_held.new.tree.caches c.requires.thawed (returns-in-Err-merge_held-clause-came g c)) c.in-Err-merge_held.ensures.merged.1.0 (ap (λ (r : Roots). holding c.args.regions.now.exports r) c.reserve_merge.ensures.same);
+        (merged_held c.args.regions.now.exports c.args.regions.now.roots.roots c.args.tree.now c.args.dir c.args.frag c.merge_held.new.tree.caches c.requires.thawed (returns-in-Err-merge_held-clause-came g c)) c.in-Err-merge_held.ensures.merged.1.0 (ap (λ (r : Roots). holding c.args.regions.now.exports r) c.reserve_merge.ensures.same);
   };
   stand = stand_undone c.args.tree.now c.merge_held.new.tree c.args.regions.now.roots c.reserve_merge.new.roots c.args.regions.now.exports c.requires.divided.stand c.in-Err-merge_held.ensures.merged.1.0 c.in-Err-merge_held.ensures.count c.reserve_merge.ensures.same c.reserve_merge.ensures.promises;
 }

@@ -65,7 +65,7 @@ returns-in-Err-split_held-clause-divided g c = record {
     sound = c.in-Err-split_held.ensures.sound;
     valid = rw ((ap (λ (r : Roots). holding c.args.regions.now.exports r) c.reserve_split.ensures.same), c.in-Err-split_held.ensures.split.1.0) c.requires.divided.owned.valid;
     held = unsplit_held c.args.tree.now c.split_held.new.tree (held_in c.args.regions.now) (holding c.args.regions.now.exports c.reserve_split.new.roots.roots) c.requires.divided.owned c.in-Err-split_held.ensures.count c.in-Err-split_held.ensures.sound c.args.dir c.args.frag c.args.bits c.in_default.ensures.live
-      (family_held c.args.regions.now.exports c.args.regions.now.roots.roots c.args.tree.now c.args.dir c.args.frag c.args.bits c.split_held.new.tree.caches c.requires.thawed (returns-in-Err-split_held-clause-came g c)) c.in-Err-split_held.ensures.split.1.0 (ap (λ (r : Roots). holding c.args.regions.now.exports r) c.reserve_split.ensures.same) c.in_default.ensures.fits;
+        (family_held c.args.regions.now.exports c.args.regions.now.roots.roots c.args.tree.now c.args.dir c.args.frag c.args.bits c.split_held.new.tree.caches c.requires.thawed (returns-in-Err-split_held-clause-came g c)) c.in-Err-split_held.ensures.split.1.0 (ap (λ (r : Roots). holding c.args.regions.now.exports r) c.reserve_split.ensures.same) c.in_default.ensures.fits;
   };
   stand = stand_undone c.args.tree.now c.split_held.new.tree c.args.regions.now.roots c.reserve_split.new.roots c.args.regions.now.exports c.requires.divided.stand c.in-Err-split_held.ensures.split.1.0 c.in-Err-split_held.ensures.count c.reserve_split.ensures.same c.reserve_split.ensures.promises;
 }
