@@ -67,7 +67,7 @@ pub enum Answer {
     Nothing,
     /// Another rank is the request's master, and it waits there now.
     Forwarded(Rank),
-    /// The request would change fragments of another rank that hasn't granted it, and waits behind all others.
+    /// The request would change fragments that are frozen, or those of another rank that hasn't granted it, and waits behind all others.
     Deferred,
     /// The commit that was begun, to be encoded.
     Job(Job),
