@@ -1,11 +1,11 @@
 -- What a change, a split and a merge leave of a tree that is divided among ranks, where they change no frozen leaf.
-use Rattle.std.specs.Prelude.{◌≡◌, ◌^◌, ℕ, true, false, length, List, Option, Some, None}
+use Rattle.std.specs.Prelude.{◌≡◌, ◌^◌, ℕ, true, false, length, List, [], ◌∷◌, map as each, Option, Some, None}
 use Rattle.std.proofs.Common.{inl, inr, refl, sym, ap, subst, ◌∙◌}
 use Rattle.std.specs.FinMap as map
 use Rattle.mds_types.specs.declared.ids.Ino.{Ino}
 use Rattle.mds_types.specs.declared.ids.Rank.{Rank}
 use Rattle.mds_types.specs.Frag.{Fragment}
-use Rattle.fragtree.specs.FragTree.{HasLeaf, IsChild}
+use Rattle.fragtree.specs.FragTree.{HasLeaf, IsChild, leaves_inside}
 use Rattle.sorted_map.proofs.NatKeys as nat
 use Rattle.inode_table.specs.Dirs.{Covers, Homes, IsLive, is_known, leaves_of, or_whole}
 use Rattle.inode_table.proofs.Tables.{tree_of_row}
@@ -15,7 +15,7 @@ use Rattle.export_steps.specs.Regions.{AreFrozenRegionsKept, StandsOver}
 use Rattle.export_steps.specs.Standing.{Standing}
 use Rattle.export_steps.proofs.Elsewhere.{after_merge, after_split}
 use Rattle.export_steps.proofs.Holding.{valid_so}
-use Rattle.namespace_ops.specs.Changes.{MayChange, fragments_of}
+use Rattle.namespace_ops.specs.Changes.{MayChange, fragments_of, in_directory}
 use Rattle.namespace_ops.proofs.Shapes.{Shape, shape_of}
 use Rattle.namespace_ops.proofs.Shapes.Shape.{add, move, remove, set}
 use Rattle.namespace_ops.specs.declared.plans.Change.{Change}
@@ -125,7 +125,7 @@ module _ (old new : Core) (was now : Subtrees) (exports : Standing) (owned : IsO
     splits = split_soundly (state_of old) (state_of new) was.roots now.roots owned.sound.sound stand.valid dir frag nb split roots
 
     split_jobs : FewerJobs (state_of old) (state_of new)
-    split_jobs leaf job is = jobs_without old.jobs _ leaf job (ap (λ (s : TreeState). map.get s.jobs leaf) (sym split.regrouped.left) ∙ is)
+    split_jobs leaf job is = jobs_without old.jobs (each (in_directory dir.0) (frag ∷ [])) leaf job (ap (λ (s : TreeState). map.get s.jobs leaf) (sym split.regrouped.left) ∙ is)
 
     -- a child of a leaf that wasn't frozen isn't
     child_thawed : (child : Fragment) → IsChild frag nb child → IsFrozen exports now.roots new.homes new.covers (dir, child) → ⊥
@@ -182,7 +182,7 @@ module _ (old new : Core) (was now : Subtrees) (exports : Standing) (owned : IsO
     merges = merge_soundly (state_of old) (state_of new) was.roots now.roots owned.sound.sound stand.valid dir frag merge roots one
 
     merge_jobs : FewerJobs (state_of old) (state_of new)
-    merge_jobs leaf job is = jobs_without old.jobs _ leaf job (ap (λ (s : TreeState). map.get s.jobs leaf) (sym merge.regrouped.left) ∙ is)
+    merge_jobs leaf job is = jobs_without old.jobs (each (in_directory dir.0) (leaves_inside frag (leaves_of old.covers dir.0))) leaf job (ap (λ (s : TreeState). map.get s.jobs leaf) (sym merge.regrouped.left) ∙ is)
 
     -- the leaf that comes of leaves that weren't frozen isn't
     merged_thawed : IsFrozen exports now.roots new.homes new.covers (dir, frag) → ⊥

@@ -201,7 +201,7 @@ divided_still old new regions divided owned count fewer homes covers = record {
 module _ (old new : Core) (regions : Regions) (divided : IsDivided old regions) (owned : IsOwned new (held_in regions)) (count : length new.caches.used ≡ length old.caches.used) (at : Leaf) (thawed : IsFrozenIn (state_of old) regions at → ⊥) where
   begun_jobs : (result : Result (Option Job) Refusal) → Begins (state_of old) (state_of new) at result → FewerFrozen (state_of old) (state_of new) regions.roots.roots regions.exports
   begun_jobs (Err reason) h leaf job is frozen = same_jobs (state_of old) (state_of new) (ap (λ (s : TreeState). s.jobs) h.1) leaf job is
-  begun_jobs (Ok begun) h leaf job is frozen = go (map.get (unclean old.caches) at) begun h.2.1
+  begun_jobs (Ok begun) h leaf job is frozen = go (map.get (unclean old.caches) at) begun h.2
     where
       go : (u : Option Unsaved) (made : Option Job) → BeginsWith (state_of old) (state_of new) at u made → map.get old.jobs leaf ≡ Some job
       go None made b = same_jobs (state_of old) (state_of new) (ap (λ (s : TreeState). s.jobs) b.1) leaf job is
@@ -225,11 +225,11 @@ no_jobs old new none leaf job is = let clash : None ≡ Some job = sym (get-empt
 -- other calls about commits end jobs at most
 module _ (old new : TreeState) where
   pub jobs_ended : (before after : ℕ) (job : Job) (result : Result (Unit {0}) Refusal) → Ends old new before after job result → FewerJobs old new
-  jobs_ended before after job (Ok done) h leaf other is = removed old.jobs (leaf_of job) leaf other (ap (λ (s : TreeState). map.get s.jobs leaf) (sym h.left) ∙ is)
+  jobs_ended before after job (Ok done) h = λ leaf other is. removed old.jobs (leaf_of job) leaf other (ap (λ (s : TreeState). map.get s.jobs leaf) (sym h.left) ∙ is)
   jobs_ended before after job (Err reason) h = same_jobs old new (ap (λ (s : TreeState). s.jobs) h.1)
 
   pub jobs_dropped : (number : ℕ) (result : Result (Unit {0}) Refusal) → Drops old new number result → FewerJobs old new
-  jobs_dropped number (Ok done) h leaf other is = removed old.jobs h.leaf leaf other (ap (λ (s : TreeState). map.get s.jobs leaf) (sym h.left) ∙ is)
+  jobs_dropped number (Ok done) h = λ leaf other is. removed old.jobs h.leaf leaf other (ap (λ (s : TreeState). map.get s.jobs leaf) (sym h.left) ∙ is)
   jobs_dropped number (Err reason) h = same_jobs old new (ap (λ (s : TreeState). s.jobs) h.2)
 
 -- ---- a leaf that isn't frozen

@@ -57,7 +57,7 @@ removable old spot went sound may = subst (λ (d : Option Ino). IfSome d (λ (di
 
 -- what moves has its home there
 module _ (old : State) (before settled : Roots) (to : Dentry) (inode : Inode) (sound : IsSound old) (valid : AreRoots old before) (may : is_dir_kind inode.kind ≡ true → MayMove old.homes inode.ino.0 (home_at to)) where
-  moves : SettleMove old before settled to inode → IsSoundChange before settled old.homes (with_home old.homes to inode) old.covers old.covers
+  pub moves : SettleMove old before settled to inode → IsSoundChange before settled old.homes (with_home old.homes to inode) old.covers old.covers
   moves settles = go (is_dir_kind inode.kind) refl settles
     where
       go : (b : Bool) → is_dir_kind inode.kind ≡ b → MatchBool b (IsSettled before settled old.homes old.covers inode.ino.0 (home_at to)) (settled ≡ before) → IsSoundChange before settled old.homes (with_home old.homes to inode) old.covers old.covers

@@ -7,11 +7,12 @@ use Rattle.inode_table.specs.Dirs.{leaves_of}
 use Rattle.subtree_map.specs.Authority.{Roots}
 use Rattle.subtree_map.specs.Changes.{HaveOneAuthority, IsRootMerge}
 use Rattle.mdcache.specs.Core.{state_of}
+use Rattle.mdcache.specs.State.{State}
 use Rattle.mdcache.specs.SplitsAndMerges.{MergesLeaves}
 use Rattle.mdcache.proofs.CountLaws.{regroup_free}
 use Rattle.ranked_tree.specs.Exported.{AreThawed, held_in}
 use Rattle.ranked_tree.specs.Held.{CameAt, IsMergedHere, IsOwned, LacksPlacesInside}
-use Rattle.ranked_tree.specs.Subtrees.{AllHave}
+use Rattle.ranked_tree.specs.Subtrees.{AllHave, AreRoots}
 use Rattle.ranked_tree.proofs.DividedLaws.{merge_keeps_roots, merge_owned, merge_stands}
 use Rattle.ranked_tree.proofs.HeldRegroups.{regroup_on, unmerged_held}
 use Rattle.ranked_tree.proofs.Kept.{keeps_same}
@@ -66,7 +67,7 @@ pub returns-in-Err-merge_held-clause-divided : goal.returns-in-Err-merge_held-cl
 returns-in-Err-merge_held-clause-divided g c = record {
   owned = record {
     sound = c.in-Err-merge_held.ensures.sound;
-    valid = rw ((ap (λ (r : Roots). holding c.args.regions.now.exports r) c.reserve_merge.ensures.same), c.in-Err-merge_held.ensures.merged.1.0) c.requires.divided.owned.valid;
+    valid = subst (AreRoots (state_of c.merge_held.new.tree)) (sym (ap (λ (r : Roots). holding c.args.regions.now.exports r) c.reserve_merge.ensures.same)) (subst (λ (s : State). AreRoots s (held_in c.args.regions.now)) (sym c.in-Err-merge_held.ensures.merged.1.0) c.requires.divided.owned.valid);
     held = unmerged_held c.args.tree.now c.merge_held.new.tree (held_in c.args.regions.now) (holding c.args.regions.now.exports c.reserve_merge.new.roots.roots) c.requires.divided.owned c.in-Err-merge_held.ensures.count c.in-Err-merge_held.ensures.sound c.args.dir c.args.frag c.in_default.ensures.known c.in_default.ensures.can
         (merged_held c.args.regions.now.exports c.args.regions.now.roots.roots c.args.tree.now c.args.dir c.args.frag c.merge_held.new.tree.caches c.requires.thawed (returns-in-Err-merge_held-clause-came g c)) c.in-Err-merge_held.ensures.merged.1.0 (ap (λ (r : Roots). holding c.args.regions.now.exports r) c.reserve_merge.ensures.same);
   };

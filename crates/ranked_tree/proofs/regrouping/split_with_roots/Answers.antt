@@ -7,11 +7,12 @@ use Rattle.inode_table.specs.Dirs.{leaves_of}
 use Rattle.subtree_map.specs.Authority.{Roots}
 use Rattle.subtree_map.specs.Changes.{IsRootSplit}
 use Rattle.mdcache.specs.Core.{state_of}
+use Rattle.mdcache.specs.State.{State}
 use Rattle.mdcache.specs.SplitsAndMerges.{SplitsLeaf}
 use Rattle.mdcache.proofs.CountLaws.{regroup_free}
 use Rattle.ranked_tree.specs.Exported.{held_in}
 use Rattle.ranked_tree.specs.Held.{CameAt, IsFamilyOf, IsOwned, LacksPlacesFor}
-use Rattle.ranked_tree.specs.Subtrees.{Rules}
+use Rattle.ranked_tree.specs.Subtrees.{AreRoots, Rules}
 use Rattle.ranked_tree.proofs.DividedLaws.{split_keeps_roots, split_owned, split_stands}
 use Rattle.ranked_tree.proofs.HeldRegroups.{regroup_on, unsplit_held}
 use Rattle.ranked_tree.proofs.Kept.{keeps_same}
@@ -63,7 +64,7 @@ pub returns-in-Err-split_held-clause-divided : goal.returns-in-Err-split_held-cl
 returns-in-Err-split_held-clause-divided g c = record {
   owned = record {
     sound = c.in-Err-split_held.ensures.sound;
-    valid = rw ((ap (λ (r : Roots). holding c.args.regions.now.exports r) c.reserve_split.ensures.same), c.in-Err-split_held.ensures.split.1.0) c.requires.divided.owned.valid;
+    valid = subst (AreRoots (state_of c.split_held.new.tree)) (sym (ap (λ (r : Roots). holding c.args.regions.now.exports r) c.reserve_split.ensures.same)) (subst (λ (s : State). AreRoots s (held_in c.args.regions.now)) (sym c.in-Err-split_held.ensures.split.1.0) c.requires.divided.owned.valid);
     held = unsplit_held c.args.tree.now c.split_held.new.tree (held_in c.args.regions.now) (holding c.args.regions.now.exports c.reserve_split.new.roots.roots) c.requires.divided.owned c.in-Err-split_held.ensures.count c.in-Err-split_held.ensures.sound c.args.dir c.args.frag c.args.bits c.in_default.ensures.live
         (family_held c.args.regions.now.exports c.args.regions.now.roots.roots c.args.tree.now c.args.dir c.args.frag c.args.bits c.split_held.new.tree.caches c.requires.thawed (returns-in-Err-split_held-clause-came g c)) c.in-Err-split_held.ensures.split.1.0 (ap (λ (r : Roots). holding c.args.regions.now.exports r) c.reserve_split.ensures.same) c.in_default.ensures.fits;
   };
