@@ -69,6 +69,13 @@ impl Pins {
         }
     }
 
+    /// All pins, in the order in which they were set.
+    pub fn as_slice(&self) -> &[Pin]
+        ensures { result.now ≡ self.now }
+    {
+        &self.pins
+    }
+
     /// Whether a fragment is pinned, for whatever request.
     pub fn is_pinned(&self, dir: Ino, frag: Frag) -> bool
         ensures { result ≡ list_any (is_on dir frag) self.now }

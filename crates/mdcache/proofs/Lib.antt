@@ -33,6 +33,7 @@ pub mod MergeSteps
 pub mod MountLaws
 pub mod NamedLaws
 pub mod NewLaws
+pub mod NextLaws
 pub mod NoNames
 pub mod NoneLaws
 pub mod NumbersMade

@@ -1,13 +1,14 @@
 //! `StandingJobs`, what a contract sees of it, and its calls.
 ghost use Rattle.std.specs.Prelude.{◌≡◌, ◌≤◌, ◌<◌, ◌+◌, IsOk, OnOk, OnErr, option_copied};
 ghost use Rattle.std.specs.FinMap as map;
+ghost use Rattle.std.specs.FinMap.Entries.{where_key};
 ghost use Rattle.sorted_map.specs.SortedMap.{contents};
 ghost use Rattle.mds_types.specs.Leaf.{leaf_cmp};
-ghost use Rattle.mdcache.specs.StandingJobs.{Finds};
+ghost use Rattle.mdcache.specs.StandingJobs.{Finds, IsNext, is_behind};
 
 use cached_frag::Job;
 use mds_types::{Frag, Ino};
-use sorted_map::SortedMap;
+use sorted_map::{Iter, SortedMap};
 use std::alloc::{AllocError, Global};
 use std::marker::Model;
 
@@ -62,6 +63,13 @@ impl StandingJobs {
         find(&self.jobs, number)
     }
 
+    /// The first leaf behind another for which a job stands; behind none, the first of all. Takes no memory.
+    pub fn next(&self, after: Option<(Ino, Frag)>) -> Option<(Ino, Frag)>
+        ensures { IsNext self.now.jobs after result }
+    {
+        first_after(&self.jobs, after)
+    }
+
     /// Makes room for so many jobs. Where the room is there already nothing is done, and there is no error.
     pub fn reserve(&mut self, jobs: usize) -> Result<(), AllocError>
         ensures ok { OnOk result (jobs ≤ self.new.room) }
@@ -102,4 +110,27 @@ fn find(jobs: &SortedMap<(Ino, Frag), Job>, number: u64) -> Option<(Ino, Frag)>
         }
     }
     None
+}
+
+// The first leaf behind another for which there is a job.
+fn first_after(
+    jobs: &SortedMap<(Ino, Frag), Job>,
+    after: Option<(Ino, Frag)>,
+) -> Option<(Ino, Frag)>
+    ensures { IsNext (contents leaf_cmp jobs.now) after result }
+{
+    Some(rest_after(jobs, after).next()?.0)
+}
+
+// The jobs of the leaves behind one.
+fn rest_after(
+    jobs: &SortedMap<(Ino, Frag), Job>,
+    after: Option<(Ino, Frag)>,
+) -> Iter<'_, (Ino, Frag), Job>
+    ensures { result ≡ where_key leaf_cmp (is_behind after) (map.entries (contents leaf_cmp jobs.now)) }
+{
+    match after {
+        Some(leaf) => jobs.iter_after(&leaf),
+        None => jobs.iter(),
+    }
 }

@@ -1,0 +1,60 @@
+-- The first leaf behind another for which a job stands, by the rows behind it.
+use Rattle.std.specs.Prelude.{◌≡◌, ◌⊎◌, Bool, true, false, cond, T, List, [], ◌∷◌, Option, Some, None, IsSome, is_some, refl}
+use Rattle.std.proofs.Common.{inl, inr, sym, ap, subst, ◌∙◌}
+use Rattle.std.specs.declared.cmp.Ordering.TheVariants.{Less}
+use Rattle.std.specs.Ordering.{eq_by_cmp, is_eq}
+use Rattle.std.specs.Cmp.{tied_itself}
+use Rattle.std.specs.FinMap as map
+use Rattle.std.specs.FinMap.{entries_sorted, find, get-entries, is_sorted}
+use Rattle.std.specs.FinMap.Entries.{below_all, find-where_key, is_sorted-where_key, where_key}
+use Rattle.sorted_map.proofs.Bools.{left_of, right_of}
+use Rattle.sorted_map.proofs.MapLaws.{tie}
+use Rattle.sorted_map.proofs.PlaceLaws.{less as less_of}
+use Rattle.cached_frag.specs.declared.jobs.Job.{Job}
+use Rattle.mds_types.specs.Leaf.{Leaf, leaf_cmp}
+use Rattle.mds_types.proofs.LeafLaws.{leaf-exact, leaf-total}
+use Rattle.mdcache.specs.StandingJobs.{IsNext, Jobs, is_behind}
+
+-- a row that is found behind the first has a greater leaf
+greater : (first : Leaf) (rows : List (Leaf × Job)) (leaf : Leaf) → T (below_all leaf_cmp first rows) → IsSome (find leaf_cmp leaf rows) → leaf_cmp first leaf ≡ Less
+greater first [] leaf below some = let clash : false ≡ true = some in cc
+greater first (e ∷ rows) leaf below some = go (eq_by_cmp leaf_cmp leaf e.0) refl some (greater first rows leaf (right_of _ _ below))
+  where
+    go : (b : Bool) → eq_by_cmp leaf_cmp leaf e.0 ≡ b → IsSome (cond b (Some e.1) (find leaf_cmp leaf rows)) → (IsSome (find leaf_cmp leaf rows) → leaf_cmp first leaf ≡ Less) → leaf_cmp first leaf ≡ Less
+    go true tied its more = ap (leaf_cmp first) (leaf-exact leaf e.0 (tie _ tied)) ∙ less_of _ (left_of _ _ below)
+    go false apart its more = more its
+
+-- the leaf of the first row
+abbrev pub leaf_of_first : List (Leaf × Job) → Option Leaf
+leaf_of_first [] = None
+leaf_of_first (e ∷ rows) = Some e.0
+
+module _ (jobs : Jobs) (after : Option Leaf) where
+  -- these rows have just the jobs of the leaves behind
+  abbrev HasThose : List (Leaf × Job) → Type 0
+  HasThose rows = (leaf : Leaf) → find leaf_cmp leaf rows ≡ cond (is_behind after leaf) (map.get jobs leaf) None
+
+  there : (rows : List (Leaf × Job)) → HasThose rows → (leaf : Leaf) → is_behind after leaf ≡ true → map.get jobs leaf ≡ find leaf_cmp leaf rows
+  there rows has leaf on = sym (has leaf ∙ ap (λ (b : Bool). cond b (map.get jobs leaf) None) on)
+
+  own : (e : Leaf × Job) (b : Bool) → is_behind after e.0 ≡ b → Some e.1 ≡ cond b (map.get jobs e.0) None → (is_behind after e.0 ≡ true) × IsSome (map.get jobs e.0)
+  own e true on gets = (on, ap is_some (sym gets))
+  own e false off gets = cc
+
+  first_is : (rows : List (Leaf × Job)) → T (is_sorted leaf_cmp rows) → HasThose rows → IsNext jobs after (leaf_of_first rows)
+  first_is [] sorted has = λ leaf on. there [] has leaf on
+  first_is (e ∷ rows) sorted has =
+      let itself : find leaf_cmp e.0 (e ∷ rows) ≡ Some e.1 = ap (λ r. cond (is_eq r) (Some e.1) (find leaf_cmp e.0 rows)) (tied_itself leaf-total e.0) in
+      let mine = own e (is_behind after e.0) refl (sym itself ∙ has e.0) in
+      (mine.0, mine.1, λ leaf on some. later leaf (eq_by_cmp leaf_cmp leaf e.0) refl (ap is_some (sym (there (e ∷ rows) has leaf on)) ∙ some))
+    where
+      later : (leaf : Leaf) (b : Bool) → eq_by_cmp leaf_cmp leaf e.0 ≡ b → IsSome (cond b (Some e.1) (find leaf_cmp leaf rows)) → (leaf ≡ e.0) ⊎ (leaf_cmp e.0 leaf ≡ Less)
+      later leaf true tied some = inl (leaf-exact leaf e.0 (tie _ tied))
+      later leaf false apart some = inr (greater e.0 rows leaf (left_of _ _ sorted) some)
+
+  pub next_is : (rows : List (Leaf × Job)) → rows ≡ where_key leaf_cmp (is_behind after) (map.entries jobs) → IsNext jobs after (leaf_of_first rows)
+  next_is rows is = first_is rows
+      (subst (λ (l : List (Leaf × Job)). T (is_sorted leaf_cmp l)) (sym is) (is_sorted-where_key leaf_cmp (is_behind after) (map.entries jobs) (entries_sorted jobs)))
+      (λ leaf. ap (find leaf_cmp leaf) is
+      ∙ find-where_key leaf_cmp (is_behind after) leaf (λ x tied. ap (is_behind after) (sym (leaf-exact leaf x tied))) (map.entries jobs)
+      ∙ ap (λ (o : Option Job). cond (is_behind after leaf) o None) (sym (get-entries jobs leaf)))
