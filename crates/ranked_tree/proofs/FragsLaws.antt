@@ -1,34 +1,44 @@
 -- What calls for an operation keep, and why they are refused, in the words of the operation.
 use Rattle.std.specs.Prelude.{◌≡◌, ◌⊎◌, ℕ, Bool, true, false, Option, Some, None, Result, Ok, Err, IfErr}
 use Rattle.std.proofs.Common.{inl, inr, refl, sym, ap, subst, ◌∙◌}
+use Rattle.std.specs.List.{Contains}
 use Rattle.std.specs.Result.{result_err}
 use Rattle.mds_types.specs.declared.ids.Ino.{Ino}
 use Rattle.mds_types.specs.declared.operations.Op.{Op}
 use Rattle.mds_types.specs.declared.operations.Op.TheVariants.{Lookup, Readdir, Create, Mkdir, Readlink, Symlink, Setattr, Unlink, Rmdir, Rename}
 use Rattle.mds_types.specs.declared.refusals.Refusal.{Refusal}
 use Rattle.mds_types.specs.declared.refusals.Refusal.TheVariants.{NoMemory}
-use Rattle.mds_types.specs.Tree.{is_dir_kind}
+use Rattle.mds_types.specs.Leaf.{leaf_of}
+use Rattle.mds_types.specs.Tree.{is_dir_kind, is_directory}
+use Rattle.mds_types.specs.declared.dirfrags.Dirfrag.{Dirfrag}
 use Rattle.objstore.specs.Objects.{faults_in}
-use Rattle.namespace_ops.specs.Changes.{Concerns, IsChangeOf, PutsAt, TakesAt}
+use Rattle.export_steps.specs.Holder.{IsFrozen, holding}
+use Rattle.fragtree.specs.FragTree.{IsPick}
+use Rattle.inode_table.specs.Dirs.{IsLive, leaves_of}
+use Rattle.namespace_ops.specs.Places.{IsAt}
+use Rattle.namespace_ops.specs.Changes.{Concerns, IsChangeOf, PutsAt, TakesAt, fragments_of}
 use Rattle.namespace_ops.specs.Kept.{KeepsAll}
 use Rattle.mds_types.specs.declared.dentries.Dentry.{Dentry}
 use Rattle.mds_types.specs.declared.inodes.Inode.{Inode}
 use Rattle.mds_types.specs.declared.inodes.Kind.TheVariants.{File, Dir, Symlink as Link}
 use Rattle.namespace_ops.specs.declared.plans.Change.{Change}
 use Rattle.namespace_ops.specs.declared.plans.Spot.{Spot}
-use Rattle.subtree_map.specs.Authority.{Leaf}
+use Rattle.subtree_map.specs.Authority.{Leaf, Roots}
 use Rattle.subtree_map.specs.Changes.{Subtrees}
 use Rattle.mdcache.specs.Core.{Core, state_of}
 use Rattle.mdcache.specs.Frags.{KeepsState, LacksBy, LacksFor, LacksToMake}
 use Rattle.mdcache.specs.Reads.{MayNotFind}
 use Rattle.mdcache.specs.Ready.{LacksNumbers, MayNotBeReady}
 use Rattle.mdcache.specs.Shown.{shown_tree}
+use Rattle.mdcache.specs.Sound.{IsSound}
 use Rattle.mdcache.specs.State.{State as TreeState}
 use Rattle.mdcache.proofs.FragsLaws.{keeps_refused}
 use Rattle.ranked_tree.specs.declared.regions.Regions.{Regions}
 use Rattle.ranked_tree.specs.Exported.{held_in}
 use Rattle.ranked_tree.specs.Held.{LacksPlacesAsked, LacksPlacesDir, LacksPlacesFor, NamesDir, ReadsFor}
-use Rattle.ranked_tree.specs.Ranked.{KeepsRanked, MayRefuse, Ranked}
+use Rattle.ranked_tree.specs.Ranked.{IsFrozenLeaf, IsReady, IsReadyHeld, KeepsRanked, MayRefuse, Ranked, held_roots}
+use Rattle.ranked_tree.specs.Subtrees.{HasRoomFor, HoldsAt}
+use Rattle.ranked_tree.proofs.HolderLaws.{pick_live}
 use Rattle.ranked_tree.proofs.AskLaws.{asked_dir, asked_for}
 use Rattle.ranked_tree.proofs.ReadsForLaws.{change_concerns, reads_less}
 
@@ -146,3 +156,26 @@ reserved_keeps now new regions after op (Err reason) same err kept = record {
   leaves = kept.leaves;
   follows = record { tree = keeps_refused now.tree new reason (ap faults_in err) kept.follows.tree; roots = same ∙ kept.follows.roots; exports = kept.follows.exports; reads = kept.follows.reads };
 }
+
+-- no leaf that a change names is frozen, where none was before it was made ready
+pub ready_held : (tree new : Core) (regions : Regions) (after : Subtrees) (now : Ranked) (is : over tree regions ≡ now) (change : Change) → after.roots ≡ regions.roots.roots → KeepsState tree new None → IsReadyHeld new (held_in regions) change
+    → ((leaf : Leaf) → Contains (fragments_of now.tree.covers change) leaf → IsFrozenLeaf now leaf → ⊥) → HasRoomFor change (state_of new) after.roots after.room → IsReady (over new (record { roots = after; exports = regions.exports })) change
+ready_held tree new regions after now is change same kept ready touch room = record {
+  tree = subst (λ (r : Roots). IsReadyHeld new (holding regions.exports r) change) (sym same) ready;
+  thawed = λ leaf has frozen.
+      before leaf (subst (λ (s : TreeState). Contains (fragments_of s.covers change) leaf) kept.state has)
+      (subst (λ (s : TreeState). IsFrozen regions.exports regions.roots.roots s.homes s.covers leaf) kept.state (subst (λ (r : Roots). IsFrozen regions.exports r new.homes new.covers leaf) same frozen));
+  roots = room;
+}
+  where
+    before : (leaf : Leaf) → Contains (fragments_of tree.covers change) leaf → IsFrozen regions.exports regions.roots.roots tree.homes tree.covers leaf → ⊥
+    before = subst (λ (n : Ranked). (leaf : Leaf) → Contains (fragments_of n.tree.covers change) leaf → IsFrozenLeaf n leaf → ⊥) (sym is) touch
+
+-- a leaf where a hash falls is live
+pub found_live : (tree : Core) (regions : Regions) (now : Ranked) → over tree regions ≡ now → IsSound (state_of tree) → (at : Dirfrag) → (dir hash : ℕ) × IsAt (shown_tree (state_of now.tree)) now.tree.covers (HoldsAt (state_of now.tree) (held_roots now)) dir hash at
+    → IsLive tree.homes tree.covers (leaf_of at)
+found_live tree regions now is sound at found = go (subst (λ (n : Ranked). (dir hash : ℕ) × IsAt (shown_tree (state_of n.tree)) n.tree.covers (HoldsAt (state_of n.tree) (held_roots n)) dir hash at) (sym is) found)
+  where
+    go : (dir hash : ℕ) × IsAt (shown_tree (state_of tree)) tree.covers (HoldsAt (state_of tree) (held_in regions)) dir hash at → IsLive tree.homes tree.covers (leaf_of at)
+    go (dir, hash, there) =
+        pick_live (state_of tree) sound at.dir hash at.frag (ap (is_directory (shown_tree (state_of tree))) there.dir ∙ there.stands) (subst (λ (d : ℕ). IsPick (leaves_of tree.covers d) hash at.frag) (sym there.dir) there.leaf)

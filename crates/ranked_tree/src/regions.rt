@@ -1,4 +1,5 @@
 //! The subtree roots with the exports that stand: from both it is told which rank holds a leaf.
+ghost use Rattle.std.specs.Prelude.{◌≡◌};
 ghost use Rattle.std.specs.Option.{option_copied};
 ghost use Rattle.std.specs.FinMap as map;
 ghost use Rattle.inode_table.specs.Dirs.{IsLive};

@@ -1,4 +1,5 @@
-use Rattle.std.proofs.Common.{subst, sym}
+use Rattle.std.proofs.Common.{◌≡◌, rules, subst, sym}
+use Rattle.std.specs.FinMap as map
 use Rattle.std.specs.FinMap.{empty_of_len}
 use Rattle.inode_table.specs.Dirs.{Covers, Homes}
 use Rattle.mdcache.specs.Core.{state_of}
@@ -13,6 +14,11 @@ pub returns : goal.returns
 returns g c =
     over (λ (h : Homes) (cs : Covers). HasAuthority c.args.regions.now.roots.roots h cs (leaf_of c.args.at.now) c.authority.result)
     c.args.tree.now.homes c.dirs.result.now.homes c.args.tree.now.covers c.dirs.result.now.trees (sym c.dirs.ensures.homes) (sym c.dirs.ensures.trees) c.authority.ensures
+
+pub returns-then-len-eq0 : goal.returns-then-len-eq0
+returns-then-len-eq0 g c =
+    let none : map.len c.args.regions.now.exports ≡ 0 = search rules in
+    subst (λ (r : Roots). Rules (state_of c.args.tree.now) r (leaf_of c.args.at.now) c.args.at.now.rank) (none_stand c.args.regions.now.exports c.args.regions.now.roots.roots (empty_of_len c.args.regions.now.exports none)) c.requires.held
 
 pub authority-requires-clause-valid : goal.authority-requires-clause-valid
 authority-requires-clause-valid g c =

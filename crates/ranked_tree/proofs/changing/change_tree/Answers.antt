@@ -1,3 +1,6 @@
+use Rattle.std.proofs.Common.{subst}
+use Rattle.subtree_map.specs.Authority.{Roots}
+use Rattle.ranked_tree.specs.Subtrees.{LoseDirectory}
 use Rattle.dentry_cache.proofs.FrameLaws.{came_cap, came_ranks}
 use Rattle.mdcache.specs.Core.{state_of}
 use Rattle.mdcache.specs.Ranks.{EndsWith, IsNamedIn}
@@ -18,7 +21,7 @@ returns-clause-roots g c = (
 )
 
 pub returns-clause-promises : goal.returns-clause-promises
-returns-clause-promises g c = search
+returns-clause-promises g c = subst (λ (p : Roots). LoseDirectory p c.lose.new.roots.promises c.args.change.gone) c.settle.ensures.promises c.lose.ensures.promises
 
 pub returns-clause-count : goal.returns-clause-count
 returns-clause-count g c = came_ranks (IsNamedIn c.args.change) (EndsWith c.args.change) c.args.tree.now.caches c.apply.new.self.caches c.apply.ensures.came

@@ -5,3 +5,6 @@ returns-clause-children g c = rw (← c.self.view_is) c.split_with_roots.ensures
 
 pub returns-clause-kept : goal.returns-clause-kept
 returns-clause-kept g c = rw (← c.self.view_is) c.split_with_roots.ensures.kept
+
+pub returns-clause-split : goal.returns-clause-split
+returns-clause-split g c = rw (← c.self.view_is) c.split_with_roots.ensures.split

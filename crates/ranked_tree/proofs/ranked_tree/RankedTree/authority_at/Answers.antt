@@ -1,0 +1,9 @@
+use Rattle.std.proofs.Common.{sym, subst}
+use Rattle.mds_types.specs.Leaf.{leaf_of}
+use Rattle.inode_table.specs.Dirs.{IsLive}
+use Rattle.ranked_tree.specs.Ranked.{Ranked}
+use Rattle.ranked_tree.proofs.FragsLaws.{found_live}
+use Rattle.ranked_tree.proofs.ranked_tree.RankedTree.authority_at.Goals as goal
+
+pub authority_at-requires-clause-live : goal.authority_at-requires-clause-live
+authority_at-requires-clause-live g c = found_live c.self.inside.tree c.self.inside.regions c.args.self.now c.self.view_is c.self.invariant.owned.sound.sound c.args.at.now c.requires
