@@ -129,6 +129,7 @@ pub record IsFlush (old new : Kept) (result : Result (Unit {0}) Refusal) : Type 
   pub cold : OnOk result (IsColdTree new.core.state.tree.objects (after old.opening old.history))
   pub exact : OnOk result (AreExact new.core.state.tree)
   pub clean : OnOk result (new.core.state.tree.unsaved ≡ map.empty)
+  pub purged : OnOk result (new.core.state.tree.purge ≡ map.empty)
   pub kept : KeepsBook old new
   pub refused : IfErr result (MayNotFlush old.core new.core)
   pub sound : IsSoundBook new

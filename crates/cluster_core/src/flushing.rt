@@ -22,6 +22,7 @@ impl<S: Store + Drop> Cluster<S> {
         ensures cold { OnOk result (IsColdTree self.new.state.tree.objects (shown self.old.state)) }
         ensures exact { OnOk result (AreExact self.new.state.tree) }
         ensures clean { OnOk result (self.new.state.tree.unsaved ≡ map.empty) }
+        ensures purged { OnOk result (self.new.state.tree.purge ≡ map.empty) }
         ensures left { KeepsCore self.old self.new }
         ensures refused { IfErr result (MayNotFlush self.old self.new) }
         ensures counted { self.new.faults ≡ self.old.faults + faults_told (result_err result) }
@@ -50,6 +51,7 @@ pub fn flush<S: Store + Drop>(
     ensures cold { OnOk result (IsColdTree book.new.core.state.tree.objects (after book.old.opening book.old.history)) }
     ensures exact { OnOk result (AreExact book.new.core.state.tree) }
     ensures clean { OnOk result (book.new.core.state.tree.unsaved ≡ map.empty) }
+    ensures purged { OnOk result (book.new.core.state.tree.purge ≡ map.empty) }
     ensures kept { KeepsBook book.old book.new }
     ensures refused { IfErr result (MayNotFlush book.old.core book.new.core) }
     ensures counted { book.new.core.faults ≡ book.old.core.faults + faults_told (result_err result) }

@@ -80,6 +80,7 @@ impl<S: Store + Drop> MdCache<S> {
         ensures flushed { OnOk result (IsFlushed (state_of self.new)) }
         ensures cold { OnOk result (IsColdTree self.new.objects (shown_in self.old)) }
         ensures exact { OnOk result (AreExact (state_of self.new)) }
+        ensures purged { OnOk result (self.new.purge ≡ map.empty) }
         ensures jobs { self.new.jobs ≡ map.empty }
         ensures number { self.new.next_job ≡ self.old.next_job }
         ensures tree { KeepsTree self.old self.new }
@@ -105,6 +106,7 @@ impl<S: Store + Drop> MdCache<S> {
         ensures flushed { OnOk result (IsFlushed (state_of self.new)) }
         ensures cold { OnOk result (IsColdTree self.new.objects (shown_in self.old)) }
         ensures exact { OnOk result (AreExact (state_of self.new)) }
+        ensures purged { OnOk result (self.new.purge ≡ map.empty) }
         ensures caches { self.new.caches ≡ self.old.caches }
         ensures jobs { self.new.jobs ≡ self.old.jobs }
         ensures number { self.new.next_job ≡ self.old.next_job }

@@ -23,6 +23,7 @@ impl<S: Store + Drop> RankedTree<S> {
         ensures flushed { OnOk result (IsFlushed (state_of self.new.tree)) }
         ensures cold { OnOk result (IsColdTree self.new.tree.objects (shown_in self.old.tree)) }
         ensures exact { OnOk result (AreExact (state_of self.new.tree)) }
+        ensures purged { OnOk result (self.new.tree.purge ≡ map.empty) }
         ensures jobs { self.new.tree.jobs ≡ map.empty }
         ensures number { self.new.tree.next_job ≡ self.old.tree.next_job }
         ensures tree { KeepsTree self.old.tree self.new.tree }
