@@ -23,7 +23,7 @@ ghost use Rattle.cluster_core.specs.Serve.{CarryLeaves, FollowPlanned, MakesPlan
 ghost use Rattle.cluster_core.specs.Asked.{IsSessionOf};
 ghost use Rattle.cluster_core.specs.Prepared.{IsPrepared};
 ghost use Rattle.cluster_core.specs.Uses.{CamePlanned};
-ghost use Rattle.ranked_tree.specs.Ranked.{IsReady as IsReadyIn};
+ghost use Rattle.ranked_tree.specs.Ranked.{IsReady as IsReadyIn, held_roots};
 ghost use Rattle.ranked_tree.specs.Subtrees.{KeepsRoots};
 
 use crate::events::Answer;

@@ -8,6 +8,15 @@ returns-then-is_frozen g c =
     let frozen : c.is_frozen.result ≡ true = search rules in
     by_frozen (tree_state c.args.tree.now.tree) c.args.tree.now.subtrees.roots c.args.tree.now.exports c.args.pins.now c.args.rank c.args.request.now.client c.args.request.now.tid c.args.at.now (c.is_frozen.ensures.0 frozen)
 
+pub returns-then-eq : goal.returns-then-eq
+returns-then-eq g c =
+    let thawed : c.is_frozen.result ≡ false = search rules in
+    let mine : c.args.at.now.rank ≡ c.args.rank = search rules in (
+      λ told. by_holding (tree_state c.args.tree.now.tree) c.args.tree.now.subtrees.roots c.args.tree.now.exports c.args.pins.now c.args.rank c.args.request.now.client c.args.request.now.tid c.args.at.now
+          (λ frozen. let clash : true ≡ false = sym (c.is_frozen.ensures.1 frozen) ∙ thawed in cc) c.requires mine,
+      λ may. search rules,
+    )
+
 pub returns-else-eq : goal.returns-else-eq
 returns-else-eq g c =
     let other : c.args.at.now.rank ≡ c.args.rank → ⊥ = search rules in

@@ -1,0 +1,38 @@
+use Rattle.std.proofs.Common.{◌≡◌, ◌⊎◌, inl, inr, ◌+◌, ◌∷◌, [], true, false, List, drop, rules, sym, ap, ◌∙◌, subst}
+use Rattle.std.specs.List.{Contains}
+use Rattle.std.proofs.lemmas.List.{drop_all, drop_more}
+use Rattle.std.proofs.lemmas.List.Elements.{Contains-get_or}
+use Rattle.mds_types.specs.Leaf.{Leaf}
+use Rattle.export_steps.specs.Holder.{IsFrozen}
+use Rattle.namespace_ops.proofs.Members.{first_or_later}
+use Rattle.cluster_core.proofs.MasterLaws.{not_in_none}
+use Rattle.cluster_core.proofs.granting.is_one_frozen.Goals as goal
+
+pub loop-leaf-init : goal.loop-leaf-init
+loop-leaf-init g c = λ q has. inl has
+
+pub returns-then-is_frozen : goal.returns-then-is_frozen
+returns-then-is_frozen g c = (
+  c.leaf-item.result,
+  subst (λ (ls : List Leaf). Contains ls c.leaf-item.result) c.deref-leaf-items.ensures.value (subst (Contains c.deref-leaf-items.result.now) (sym c.leaf-item.is) (Contains-get_or c.deref-leaf-items.result.now c.loop-leaf.leaf-index c.leaf-item.result (search rules))),
+  c.is_frozen.ensures.0 (search rules),
+)
+
+pub loop-leaf-preserved : goal.loop-leaf-preserved
+loop-leaf-preserved g c = λ q has. step q (c.loop-leaf.invariant q has)
+  where
+    step : (q : Leaf) → Contains (drop c.loop-leaf.leaf-index c.deref-leaf-items.result.now) q ⊎ (IsFrozen c.args.tree.now.exports c.args.tree.now.subtrees.roots c.args.tree.now.tree.homes c.args.tree.now.tree.covers q → ⊥) → Contains (drop (c.loop-leaf.leaf-index + 1) c.deref-leaf-items.result.now) q ⊎ (IsFrozen c.args.tree.now.exports c.args.tree.now.subtrees.roots c.args.tree.now.tree.homes c.args.tree.now.tree.covers q → ⊥)
+    step q (inr thawed) = inr thawed
+    step q (inl left) =
+        let more = drop_more c.deref-leaf-items.result.now c.loop-leaf.leaf-index c.leaf-item.result c.loop-leaf-test.true ∙ ap (λ (l : Leaf). l ∷ drop (c.loop-leaf.leaf-index + 1) c.deref-leaf-items.result.now) (sym c.leaf-item.is) in
+        elim (first_or_later c.leaf-item.result q (drop (c.loop-leaf.leaf-index + 1) c.deref-leaf-items.result.now) (subst (λ (ls : List Leaf). Contains ls q) more left)) [
+          | inl same ↦ inr (λ frozen. let is : c.is_frozen.result ≡ true = c.is_frozen.ensures.1 (subst (λ (l : Leaf). IsFrozen c.args.tree.now.exports c.args.tree.now.subtrees.roots c.args.tree.now.tree.homes c.args.tree.now.tree.covers l) (sym same) frozen) in let isnt : c.is_frozen.result ≡ false = search rules in let clash : true ≡ false = sym is ∙ isnt in cc)
+          | inr later ↦ inl later
+        ]
+
+pub returns : goal.returns
+returns g c = λ q has frozen. done q frozen (c.loop-leaf.invariant q (subst (λ (ls : List Leaf). Contains ls q) (sym c.deref-leaf-items.ensures.value) has))
+  where
+    done : (q : Leaf) → IsFrozen c.args.tree.now.exports c.args.tree.now.subtrees.roots c.args.tree.now.tree.homes c.args.tree.now.tree.covers q → Contains (drop c.loop-leaf.leaf-index c.deref-leaf-items.result.now) q ⊎ (IsFrozen c.args.tree.now.exports c.args.tree.now.subtrees.roots c.args.tree.now.tree.homes c.args.tree.now.tree.covers q → ⊥) → ⊥
+    done q frozen (inr thawed) = thawed frozen
+    done q frozen (inl left) = not_in_none q (subst (λ (ls : List Leaf). Contains ls q) (drop_all c.loop-leaf.leaf-index c.deref-leaf-items.result.now (search rules)) left)
