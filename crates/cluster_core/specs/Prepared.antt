@@ -1,24 +1,18 @@
 -- All that applying a request needs, made before its first change. Only this crate's own contracts use these words.
-use Rattle.std.specs.Prelude.{◌≡◌, ◌≢◌, ◌⊎◌, List, Option, Some, None, Result, Ok, Err}
+use Rattle.std.specs.Prelude.{◌≡◌, ◌≢◌, ◌⊎◌, Option}
 use Rattle.mds_types.specs.declared.ids.Ino.{Ino}
-use Rattle.mds_types.specs.declared.ids.Rank.{Rank}
 use Rattle.mds_types.specs.declared.operations.Op.{Op}
 use Rattle.mds_types.specs.declared.refusals.Refusal.{Refusal}
 use Rattle.mds_types.specs.declared.refusals.Refusal.TheVariants.{NoInodes, NoMemory}
-use Rattle.mds_types.specs.declared.requests.Request.{Request}
 use Rattle.mds_types.specs.Tree.{Tree}
 use Rattle.mds_types.specs.Step.{Outcome, number_or, step}
-use Rattle.export_steps.specs.Standing.{Standing}
-use Rattle.inboxes.specs.declared.pins.Pin.{Pin}
 use Rattle.inode_table.specs.Dirs.{Covers}
 use Rattle.inode_table.specs.Numbers.{Supply, offer}
 use Rattle.namespace_ops.specs.declared.plans.Change.{Change}
 use Rattle.namespace_ops.specs.Planned.{IsPlanned}
 use Rattle.namespace_ops.specs.Served.{LacksNumber}
-use Rattle.subtree_map.specs.Authority.{Roots}
 use Rattle.mdcache.specs.Shown.{shown_tree}
 use Rattle.mdcache.specs.State.{State as TreeState}
-use Rattle.cluster_core.specs.Master.{MayTouchAllIn, MustWaitIn}
 use Rattle.cluster_core.specs.Offer.{after_taking}
 use Rattle.cluster_core.specs.declared.applying.Prepared.{Prepared}
 
@@ -36,12 +30,3 @@ outcome_with tree supply op = step (shown_tree tree) op (number_or (offer supply
 abbrev pub IsUnready : (MayTouch : Type 0) → (MayRefuse : Refusal → Type 0) → Outcome → Option Ino → Refusal → Type 0
 IsUnready MayTouch MayRefuse outcome offered reason =
     (reason ≡ NoMemory) ⊎ ((reason ≢ NoInodes) × MayRefuse reason) ⊎ (MayTouch × (LacksNumber outcome offered reason ⊎ MayRefuse reason))
-
--- what was made ready for a request: all; or nothing, since it has to wait; or it is refused
-abbrev pub IsMadeReady : TreeState → Roots → Standing → List Pin → Supply → Rank → Request → (IsReady : Change → Type 0) → (MayRefuse : Refusal → Type 0) → Result (Option Prepared) Refusal → Type 0
-IsMadeReady tree roots exports pins supply rank request IsReady MayRefuse (Ok None) = MustWaitIn tree roots exports pins rank request.client request.tid request.op
-IsMadeReady tree roots exports pins supply rank request IsReady MayRefuse (Ok (Some prepared)) =
-    MayTouchAllIn tree roots exports pins rank request.client request.tid request.op
-    × IsPrepared (shown_tree tree) tree.covers IsReady request.op (outcome_with tree supply request.op) supply prepared
-IsMadeReady tree roots exports pins supply rank request IsReady MayRefuse (Err reason) =
-    IsUnready (MayTouchAllIn tree roots exports pins rank request.client request.tid request.op) MayRefuse (outcome_with tree supply request.op) (offer supply) reason

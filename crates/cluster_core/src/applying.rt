@@ -1,5 +1,5 @@
 //! Applying a request: everything that may be refused is made first, and then it is done, which can't fail.
-ghost use Rattle.std.specs.Prelude.{◌≡◌, ◌<◌, ◌++◌, ◌∷◌, [], true, length, set, vec_len, vec_capacity, IfErr, IfOk, IsSome, MatchResult, OnOk};
+ghost use Rattle.std.specs.Prelude.{◌≡◌, ◌<◌, ◌++◌, ◌∷◌, [], true, length, set, vec_len, vec_capacity, IsSome, MatchResult, OnOk};
 ghost use Rattle.std.specs.List.{Contains};
 ghost use Rattle.std.specs.Result.{result_err};
 ghost use Rattle.std.specs.Option.{option_copied};
@@ -34,7 +34,7 @@ use mds_types::{Entry, Ino, Refusal, Reply, Request};
 use namespace_ops::{Change, Checked, Frags, Plan, plan_checked};
 use objstore::Store;
 use ranked_tree::RankedTree;
-use std::alloc::{AllocError, Global};
+use std::alloc::Global;
 
 /// All that applying a request needs, made before its first change.
 #[derive(Debug, Drop)]
@@ -87,35 +87,22 @@ pub(crate) fn prepare<F: Frags>(
     given.sessions.reserve(alloc, &asked.session)?;
     let plan = plan_checked(frags, &asked.request.op, checked, asked.supply.peek())?;
     // in place, since a plan is large and each call that it goes through copies it
-    match copies_of(&plan.reply) {
-        Ok((answer, kept)) => {
-            let numbers = supply_after(asked.supply, plan.number);
-            Ok(Prepared {
-                plan,
-                answer,
-                kept,
-                numbers,
-            })
-        }
-        Err(_) => {
-            drop(plan);
-            Err(Refusal::NoMemory)
-        }
-    }
-}
-
-// Two copies of a reply.
-fn copies_of(reply: &Reply) -> Result<(Reply, Reply), AllocError>
-    ensures { IfOk result (λ copies. (copies.0 ≡ reply.now) × (copies.1 ≡ reply.now)) }
-{
-    let one = reply.try_clone()?;
-    match reply.try_clone() {
-        Ok(other) => Ok((one, other)),
-        Err(refused) => {
-            drop(one);
-            Err(refused)
-        }
-    }
+    let Ok(answer) = plan.reply.try_clone() else {
+        drop(plan);
+        return Err(Refusal::NoMemory);
+    };
+    let Ok(kept) = plan.reply.try_clone() else {
+        drop(answer);
+        drop(plan);
+        return Err(Refusal::NoMemory);
+    };
+    let numbers = supply_after(asked.supply, plan.number);
+    Ok(Prepared {
+        plan,
+        answer,
+        kept,
+        numbers,
+    })
 }
 
 /// Applies a request for which everything was prepared. It can't fail.

@@ -1,25 +1,24 @@
 //! Serving the request at the front of a rank's inbox.
-ghost use Rattle.std.specs.Prelude.{◌≡◌, ◌+◌, ◌↔◌, ◌<◌, ◌∷◌, IsTrue, length, get_or, vec_capacity, vec_len, IfOk, IfSome};
+ghost use Rattle.std.specs.Prelude.{◌≡◌, ◌+◌, ◌↔◌, ◌<◌, ◌∷◌, IsTrue, length, get_or};
 ghost use Rattle.objstore.specs.Objects.{faults_told};
 ghost use Rattle.std.specs.Result.{result_err};
 ghost use Rattle.inboxes.specs.Inboxes.{waiting_at, with_first};
 ghost use Rattle.inode_table.specs.Numbers.{offer};
 ghost use Rattle.namespace_ops.specs.Changes.{IsOffered};
 ghost use Rattle.sessions.specs.Table.{IsTableOf};
-ghost use Rattle.sessions.specs.Rooms.{IsReady, table};
+ghost use Rattle.sessions.specs.Rooms.{table};
 ghost use Rattle.dirfrag_codec.specs.EntryRecord.{IsRankNumber};
 ghost use Rattle.mdcache.specs.Core.{state_of as tree_state};
 ghost use Rattle.mdcache.specs.Shown.{shown_tree};
 ghost use Rattle.cluster_core.specs.State.{no_supply, state_of};
 ghost use Rattle.cluster_core.specs.Serve.{ForwardsTo, Repeats, ServesInbox, without_request};
-ghost use Rattle.cluster_core.specs.Asked.{HasRoomFor, IsAsked, IsSessionOf};
+ghost use Rattle.cluster_core.specs.Asked.{HasRoomFor, IsAsked};
 ghost use Rattle.cluster_core.specs.Master.{AreMastersThere};
-ghost use Rattle.cluster_core.specs.Prepared.{IsMadeReady};
-ghost use Rattle.cluster_core.specs.Uses.{ReadsOp, UsesFront};
-ghost use Rattle.ranked_tree.specs.Ranked.{IsReady as IsReadyIn, MayRefuse, held_roots};
+ghost use Rattle.cluster_core.specs.Uses.{UsesFront};
+ghost use Rattle.ranked_tree.specs.Ranked.{held_roots, MayRefuse};
 ghost use Rattle.ranked_tree.specs.Subtrees.{AreRoots, KeepsRoots};
 
-use crate::applying::{Prepared, commit, prepare};
+use crate::applying::{commit, prepare};
 use crate::barred::must_wait;
 use crate::events::Answer;
 use crate::masters::locate_master;
@@ -109,12 +108,21 @@ fn serve_new<S: Store + Drop>(
     ensures cap { tree.new.tree.caches.cap ≡ tree.old.tree.caches.cap }
     ensures counted { tree.new.tree.faults ≡ tree.old.tree.faults + faults_told (result_err result) }
 {
-    match make_ready(alloc, tree, &waiting.pins, given, history, &asked) {
-        Ok(Some(prepared)) => Ok(commit(tree, &mut waiting.pins, given, history, asked, prepared)),
-        Ok(None) => {
-            waiting.inboxes.put(asked.rank, asked.request);
-            Ok(Answer::Deferred)
+    let number = asked.supply.peek().unwrap_or(Ino(0));
+    let checked = match check(alloc, tree, &asked.request.op, asked.places, number) {
+        Ok(checked) => checked,
+        Err(refusal) => {
+            waiting.inboxes.put_back(asked.rank, asked.request);
+            return Err(refusal);
         }
+    };
+    if must_wait(tree, &waiting.pins, asked.rank, &asked.request, &checked) {
+        drop(checked);
+        waiting.inboxes.put(asked.rank, asked.request);
+        return Ok(Answer::Deferred);
+    }
+    match prepare(alloc, tree, given, history, &asked, checked) {
+        Ok(prepared) => Ok(commit(tree, &mut waiting.pins, given, history, asked, prepared)),
         Err(Refusal::NoInodes) => {
             end_request(&mut waiting.pins, asked.request);
             Err(Refusal::NoInodes)
@@ -123,43 +131,6 @@ fn serve_new<S: Store + Drop>(
             waiting.inboxes.put_back(asked.rank, asked.request);
             Err(refusal)
         }
-    }
-}
-
-// Makes everything that applying a request at its master needs; nothing where it has to wait.
-fn make_ready<S: Store + Drop>(
-    alloc: Global,
-    tree: &mut RankedTree<S>,
-    pins: &Pins,
-    given: &mut Given,
-    history: &mut Vec<Entry>,
-    asked: &Asked,
-) -> Result<Option<Prepared>, Refusal>
-    requires asked { IsAsked (tree_state tree.old.tree) tree.old.subtrees.roots tree.old.exports given.old.numbers.items given.old.sessions history.old.items asked.now }
-    requires offered { IsOffered (shown_tree (tree_state tree.old.tree)) (λ n. IsRankNumber n) (offer asked.now.supply) }
-    ensures ready { IsMadeReady (tree_state tree.old.tree) tree.old.subtrees.roots tree.old.exports pins.now asked.now.supply asked.now.rank asked.now.request (IsReadyIn tree.new) (MayRefuse tree.old tree.new asked.now.request.op) result }
-    ensures room { IfOk result (λ made. IfSome made (λ prepared. vec_len history.new < vec_capacity history.new)) }
-    ensures reserved { IfOk result (λ made. IfSome made (λ prepared. IsReady given.new.sessions asked.now.request.client)) }
-    ensures session { IsSessionOf given.new.sessions asked.now.request.client asked.now.session }
-    ensures reads { ReadsOp (tree_state tree.old.tree) (held_roots tree.old) asked.now.request.op tree.old.tree.caches tree.new.tree.caches }
-    ensures same { tree_state tree.new.tree ≡ tree_state tree.old.tree }
-    ensures roots { tree.new.subtrees.roots ≡ tree.old.subtrees.roots }
-    ensures exports { tree.new.exports ≡ tree.old.exports }
-    ensures past { history.new.items ≡ history.old.items }
-    ensures known { table given.new.sessions ≡ table given.old.sessions }
-    ensures numbers { given.new.numbers.items ≡ given.old.numbers.items }
-    ensures count { length tree.new.tree.caches.used ≡ length tree.old.tree.caches.used }
-    ensures cap { tree.new.tree.caches.cap ≡ tree.old.tree.caches.cap }
-    ensures counted { tree.new.tree.faults ≡ tree.old.tree.faults + faults_told (result_err result) }
-{
-    let number = asked.supply.peek().unwrap_or(Ino(0));
-    let checked = check(alloc, tree, &asked.request.op, asked.places, number)?;
-    if must_wait(tree, pins, asked.rank, &asked.request, &checked) {
-        return Ok(None);
-    }
-    match prepare(alloc, tree, given, history, asked, checked) {
-        Err(refusal) => Err(refusal),
-        Ok(prepared) => Ok(Some(prepared)),
     }
 }
 
