@@ -2,6 +2,7 @@ pub mod AdminLaws
 pub mod Applied
 pub mod Carried
 pub mod Counted
+pub mod Exported
 pub mod FlushedBook
 pub mod FragmentLaws
 pub mod GrantLaws
@@ -18,5 +19,5 @@ pub mod Served
 pub mod Stays
 pub mod Stepped
 pub mod Supplies
-pub mod Worked
 pub mod UsesLaws
+pub mod Worked

@@ -15,13 +15,14 @@ use Rattle.cluster_core.specs.declared.events.Answer.{Answer}
 use Rattle.cached_frag.specs.declared.jobs.Job.{Job as Begun}
 use Rattle.cluster_core.specs.declared.events.Answer.TheVariants.{Deferred, Forwarded, Job, Nothing, Reply}
 use Rattle.cluster_core.specs.declared.events.Event.{Event}
-use Rattle.cluster_core.specs.declared.events.Event.TheVariants.{Arrive, Grant, Serve, Split, Merge, CommitBegin, CommitEnd, CommitDrop, CommitTree, Purge, Evict}
+use Rattle.cluster_core.specs.declared.events.Event.TheVariants.{Arrive, Grant, Serve, Split, Merge, CommitBegin, CommitEnd, CommitDrop, CommitTree, Purge, Evict, Start, Prep, Cancel}
 use Rattle.cluster_core.specs.State.{Core, Kept, State}
 use Rattle.cluster_core.specs.Serve.{IsApplied, IsRepeated, IsLeft, ServesRequest, ServesInbox, entry_of}
 use Rattle.cluster_core.specs.Grants.{GrantsFirst}
 use Rattle.inboxes.specs.Inboxes.{first_waiting, waiting_at}
 use Rattle.mdcache.specs.Commits.{Drops, Ends}
 use Rattle.mdcache.specs.Objects.{Purges, SavesTree}
+use Rattle.cluster_core.specs.Exporting.{CancelsAt, Exports, Preps, Starts}
 use Rattle.cluster_core.specs.Administers.{Administers, BeginsAt, EvictsOne, MergesLeaves, SplitsLeaf, nothing, told_job}
 use Rattle.cluster_core.specs.Steps.{ArrivesAt, Does, MayRefuse}
 use Rattle.cluster_core.specs.Sound.{IsSoundBook}
@@ -120,6 +121,11 @@ module _ (old new : State) (past now : List Entry) where
   done : (Did : Result (Unit {0}) Refusal → Type 0) (result : Result Answer Refusal) → Administers old new past now nothing Did result → IsStepOf past now result
   done Did result h = administered nothing Did (λ given same. (same, tt)) result h
 
+  -- so does a step of an export
+  export_done : (old_core new_core : Core) → new_core.state ≡ new → old_core.state ≡ old → (Did : Result (Unit {0}) Refusal → Type 0) (result : Result Answer Refusal) → Exports old_core new_core past now Did result → IsStepOf past now result
+  export_done old_core new_core is was Did (Ok answer) h = quiet answer Nothing h.0 h.2.same tt h.2.same
+  export_done old_core new_core is was Did (Err reason) h = left reason (record { same = h.1.same; left = sym is ∙ h.1.left ∙ was })
+
   job_is_no_reply : (job : Option Begun) → now ≡ past → AddsTo past now (Ok (told_job job)) × IsOfHistory now (Ok (told_job job))
   job_is_no_reply None same = (same, tt)
   job_is_no_reply (Some job) same = (same, tt)
@@ -150,6 +156,11 @@ step_of old new past now result (CommitDrop number) h = done old.state new.state
 step_of old new past now result (CommitTree dir) h = done old.state new.state past now (SavesTree old.state.tree new.state.tree old.faults new.faults dir) result h.0.0
 step_of old new past now result Purge h = done old.state new.state past now (Purges old.state.tree new.state.tree old.faults new.faults) result h.0.0
 step_of old new past now result (Evict rank) h = at_rank old.state new.state past now (nat_lt rank.0 (length old.state.inboxes)) result (state_stays old new) (λ w. done old.state new.state past now (EvictsOne old new rank) result w.0) h
+step_of old new past now result (Start from dir f to) h =
+    at_rank old.state new.state past now (nat_lt from.0 (length old.state.inboxes)) result (state_stays old new)
+    (λ w. at_rank old.state new.state past now (nat_lt to.0 (length old.state.inboxes)) result (state_stays old new) (λ d. export_done old.state new.state past now old new refl refl (Starts old.state new.state from (dir, f) to) result d) w) h
+step_of old new past now result (Prep dir f) h = export_done old.state new.state past now old new refl refl (Preps old.state new.state (dir, f)) result h
+step_of old new past now result (Cancel dir f) h = export_done old.state new.state past now old new refl refl (CancelsAt old.state new.state (dir, f)) result h
 
 -- what stands in a history stands in each that begins with it
 still_stands : (past now : List Entry) (client tid place : ℕ) (reply : Replied) → BeginsWith now past → StandsAt past client tid place reply → StandsAt now client tid place reply

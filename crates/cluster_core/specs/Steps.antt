@@ -14,8 +14,9 @@ use Rattle.mdcache.specs.Frags.{LacksFor}
 use Rattle.cluster_core.specs.declared.events.Answer.{Answer}
 use Rattle.cluster_core.specs.declared.events.Answer.TheVariants.{Nothing}
 use Rattle.cluster_core.specs.declared.events.Event.{Event}
-use Rattle.cluster_core.specs.declared.events.Event.TheVariants.{Arrive, Grant, Serve, Split, Merge, CommitBegin, CommitEnd, CommitDrop, CommitTree, Purge, Evict}
+use Rattle.cluster_core.specs.declared.events.Event.TheVariants.{Arrive, Grant, Serve, Split, Merge, CommitBegin, CommitEnd, CommitDrop, CommitTree, Purge, Evict, Start, Prep, Cancel}
 use Rattle.cluster_core.specs.Administers.{AsksNone, BeginsCommit, CommitsTree, DropsCommit, EndsCommit, EvictsFragment, Merges, PurgesObject, Splits}
+use Rattle.cluster_core.specs.Exporting.{CancelsExport, PrepsExport, StartsExport}
 use Rattle.inboxes.specs.Inboxes.{first_waiting, waiting_at, with_last}
 use Rattle.cluster_core.specs.Grants.{GrantsWaiting}
 use Rattle.cluster_core.specs.Master.{IsHolder}
@@ -67,6 +68,9 @@ Does old new past now result (CommitEnd encoded) = EndsCommit old new past now e
 Does old new past now result (CommitDrop number) = DropsCommit old new past now number result
 Does old new past now result (CommitTree dir) = CommitsTree old new past now dir result
 Does old new past now result Purge = PurgesObject old new past now result
+Does old new past now result (Start from dir f to) = AtRank old new past now from result (AtRank old new past now to result (StartsExport old new past now from (dir, f) to result))
+Does old new past now result (Prep dir f) = PrepsExport old new past now (dir, f) result
+Does old new past now result (Cancel dir f) = CancelsExport old new past now (dir, f) result
 Does old new past now result (Evict rank) = AtRank old new past now rank result (EvictsFragment old new past now rank result)
 
 -- one step: what its event does. Each leaf that stays keeps its authority and its holder, there are as many ranks, with as many places
@@ -75,7 +79,7 @@ Does old new past now result (Evict rank) = AtRank old new past now rank result 
 pub record Steps (old new : Core) (past now : List Entry) (result : Result Answer Refusal) (event : Event) : Type 0 where
   pub does : Does old new past now result event
   pub authorities : KeepsAuthorities old.state.tree new.state.tree old.state.roots new.state.roots
-  pub holders : KeepsHolders old.state.tree new.state.tree old.state.roots new.state.roots old.state.exports
+  pub holders : KeepsHolders old.state.tree new.state.tree old.state.roots new.state.roots old.state.exports new.state.exports
   pub ranks : length new.caches.used ≡ length old.caches.used
   pub capacity : new.caches.cap ≡ old.caches.cap
   pub counted : new.faults ≡ old.faults + faults_told (result_err result)

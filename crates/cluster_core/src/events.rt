@@ -58,6 +58,23 @@ pub enum Event {
     Evict {
         rank: Rank,
     },
+    /// An export of the region of a leaf starts, from its authority to another rank.
+    Start {
+        from: Rank,
+        ino: Ino,
+        frag: Frag,
+        to: Rank,
+    },
+    /// The importer of a frozen region gets to know its bounds.
+    Prep {
+        ino: Ino,
+        frag: Frag,
+    },
+    /// An export that isn't sent yet ends.
+    Cancel {
+        ino: Ino,
+        frag: Frag,
+    },
 }
 
 /// The answer of a step that isn't refused.
@@ -124,6 +141,25 @@ impl Event {
             Event::CommitTree { ino } => Ok(Event::CommitTree { ino: *ino }),
             Event::Purge => Ok(Event::Purge),
             Event::Evict { rank } => Ok(Event::Evict { rank: *rank }),
+            Event::Start {
+                from,
+                ino,
+                frag,
+                to,
+            } => Ok(Event::Start {
+                from: *from,
+                ino: *ino,
+                frag: *frag,
+                to: *to,
+            }),
+            Event::Prep { ino, frag } => Ok(Event::Prep {
+                ino: *ino,
+                frag: *frag,
+            }),
+            Event::Cancel { ino, frag } => Ok(Event::Cancel {
+                ino: *ino,
+                frag: *frag,
+            }),
         }
     }
 }

@@ -93,14 +93,14 @@ IsInsideAt leaves frag hash None = (leaf : Fragment) → HasLeaf leaves leaf →
 IsInsideAt leaves frag hash (Some leaf) = HasLeaf leaves leaf × (lies_inside frag leaf ≡ true) × (leaf.value ≤ hash) × (hash < leaf.value + span leaf.bits)
 
 -- each leaf that stood and still stands has the holder that it had
-abbrev pub KeepsHolders : (old new : TreeState) → (before after : Roots) → Standing → Type 0
-KeepsHolders old new before after exports = KeepsAuthorities old new (holding exports before) (holding exports after)
+abbrev pub KeepsHolders : (old new : TreeState) → (before after : Roots) → (exports later : Standing) → Type 0
+KeepsHolders old new before after exports later = KeepsAuthorities old new (holding exports before) (holding later after)
 
 -- what a step leaves of the roots: each leaf that stays has the authority and the holder that it had, no rank has its first root, and they
 -- are roots still; the exports stand as they stood
 pub record KeepsRoots (old new : TreeState) (before after : Roots) (exports later : Standing) : Type 0 where
   pub authorities : KeepsAuthorities old new before after
-  pub holders : KeepsHolders old new before after exports
+  pub holders : KeepsHolders old new before after exports later
   pub ranks : NoNewRank before after
   pub valid : AreRoots new after
   pub stand : later ≡ exports

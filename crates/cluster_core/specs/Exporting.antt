@@ -1,0 +1,97 @@
+-- What the steps of an export do to a cluster (CephFS's Migrator, with this project's own table of steps).
+use Rattle.std.specs.Prelude.{◌≡◌, ◌≢◌, ◌⊎◌, true, List, None, Some, IsSome, Result, Ok, Err}
+use Rattle.std.specs.FinMap as map
+use Rattle.mds_types.specs.declared.entries.Entry.{Entry}
+use Rattle.mds_types.specs.declared.ids.Rank.{Rank}
+use Rattle.mds_types.specs.declared.refusals.Refusal.{Refusal}
+use Rattle.mds_types.specs.declared.refusals.Refusal.TheVariants as why
+use Rattle.mds_types.specs.Leaf.{Leaf}
+use Rattle.export_steps.specs.declared.exports.ExportState.TheVariants as state
+use Rattle.export_steps.specs.declared.exports.StandingExport.{StandingExport}
+use Rattle.export_steps.specs.Standing.{ComesTo, is_before_send, state_at}
+use Rattle.inode_table.specs.Dirs.{IsLive}
+use Rattle.cluster_core.specs.declared.events.Answer.{Answer}
+use Rattle.cluster_core.specs.declared.events.Answer.TheVariants.{Nothing}
+use Rattle.cluster_core.specs.Administers.{AsksNone}
+use Rattle.cluster_core.specs.Master.{IsAuthority, IsFrozenAt}
+use Rattle.cluster_core.specs.Serve.{IsLeft}
+use Rattle.cluster_core.specs.State.{Core, State, shown}
+
+-- ---- refusals, the first whose check holds
+
+-- refused with this number exactly where this holds; else it goes on
+abbrev pub Check : Refusal → (Holds : Type 0) → (Else : Refusal → Type 0) → Refusal → Type 0
+Check number Holds Else reason = ((reason ≡ number) × Holds) ⊎ ((Holds → ⊥) × Else reason)
+
+-- nothing but want of memory is left,
+abbrev pub ForMemory : Refusal → Type 0
+ForMemory reason = reason ≡ why.NoMemory
+
+-- or nothing at all
+abbrev pub Never : Refusal → Type 0
+Never reason = ⊥
+
+-- ---- a step of an export
+
+-- what such a step leaves unseen: the shown tree, and all but the tree's own state, the subtree roots and the exports
+pub record IsUnseenStep (old new : State) (past now : List Entry) : Type 0 where
+  pub same : now ≡ past
+  pub tree : shown new ≡ shown old
+  pub left : new ≡ record old { tree = new.tree; roots = new.roots; exports = new.exports }
+
+-- a step that answers has done its work, unseen, and says no more; a refused one has left all, and was refused as the work was. No fragment is
+-- asked for
+abbrev pub Exports : (old new : Core) → (past now : List Entry) → (Did : Result (Unit {0}) Refusal → Type 0) → Result Answer Refusal → Type 0
+Exports old new past now Did (Ok answer) = (answer ≡ Nothing) × Did (Ok tt) × IsUnseenStep old.state new.state past now × AsksNone old new
+Exports old new past now Did (Err reason) = Did (Err reason) × IsLeft old.state new.state past now × AsksNone old new
+
+-- the tree and the subtree roots stay
+pub record KeepsTree (old new : State) : Type 0 where
+  pub tree : new.tree ≡ old.tree
+  pub roots : new.roots ≡ old.roots
+
+-- ---- Start
+
+-- an export of a leaf's region may start from its authority to another rank: none of this root stands, and the leaf isn't frozen
+pub record MayStart (old : State) (from : Rank) (leaf : Leaf) (to : Rank) : Type 0 where
+  pub none : map.get old.exports leaf ≡ None
+  pub live : IsLive old.tree.homes old.tree.covers leaf
+  pub apart : from ≡ to → ⊥
+  pub mine : IsAuthority old leaf from
+  pub thawed : IsFrozenAt old leaf → ⊥
+
+-- it is recorded as started
+abbrev pub Starts : (old new : State) → Rank → Leaf → Rank → Result (Unit {0}) Refusal → Type 0
+Starts old new from leaf to (Ok done) =
+    MayStart old from leaf to × (new.exports ≡ map.insert old.exports leaf (record { exporter = from; importer = to; state = state.Started })) × KeepsTree old new
+Starts old new from leaf to (Err reason) =
+    Check why.WrongExportState (IsSome (map.get old.exports leaf))
+    (Check why.NoSuchFrag (IsLive old.tree.homes old.tree.covers leaf → ⊥)
+    (Check why.NotAuthority ((from ≡ to) ⊎ (IsAuthority old leaf from → ⊥)) (Check why.Frozen (IsFrozenAt old leaf) ForMemory))) reason
+
+abbrev pub StartsExport : (old new : Core) → (past now : List Entry) → Rank → Leaf → Rank → Result Answer Refusal → Type 0
+StartsExport old new past now from leaf to result = Exports old new past now (Starts old.state new.state from leaf to) result
+
+-- ---- Prep
+
+-- a frozen export is prepared; refused exactly where none of this root stands frozen
+abbrev pub Preps : (old new : State) → Leaf → Result (Unit {0}) Refusal → Type 0
+Preps old new leaf (Ok done) = ComesTo old.exports new.exports leaf state.Frozen state.Prepared × KeepsTree old new
+Preps old new leaf (Err reason) = Check why.WrongExportState (state_at old.exports leaf ≢ Some state.Frozen) Never reason
+
+abbrev pub PrepsExport : (old new : Core) → (past now : List Entry) → Leaf → Result Answer Refusal → Type 0
+PrepsExport old new past now leaf result = Exports old new past now (Preps old.state new.state leaf) result
+
+-- ---- Cancel
+
+-- the export of a root isn't sent yet
+abbrev pub IsUnsent : State → Leaf → Type 0
+IsUnsent old leaf = (export : StandingExport) × (map.get old.exports leaf ≡ Some export) × (is_before_send export.state ≡ true)
+
+-- an export that isn't sent yet ends; a subtree root stays one. Refused exactly where there is none
+abbrev pub CancelsAt : (old new : State) → Leaf → Result (Unit {0}) Refusal → Type 0
+CancelsAt old new leaf (Ok done) = IsUnsent old leaf × (new.exports ≡ map.remove old.exports leaf) × KeepsTree old new
+CancelsAt old new leaf (Err reason) = Check why.WrongExportState (IsUnsent old leaf → ⊥) Never reason
+
+abbrev pub CancelsExport : (old new : Core) → (past now : List Entry) → Leaf → Result Answer Refusal → Type 0
+CancelsExport old new past now leaf result = Exports old new past now (CancelsAt old.state new.state leaf) result

@@ -1,0 +1,106 @@
+//! The steps of an export of a subtree, from one rank to another: what each does is unseen, but for the answer.
+ghost use Rattle.std.specs.Prelude.{◌≡◌, ◌+◌, ◌<◌, ◌≤◌, List, length};
+ghost use Rattle.std.specs.Result.{result_err};
+ghost use Rattle.objstore.specs.Objects.{faults_told};
+ghost use Rattle.mds_types.specs.declared.entries.Entry.{Entry as Applied};
+ghost use Rattle.inboxes.specs.Inboxes.{Inboxes as Waiting};
+ghost use Rattle.inboxes.specs.declared.pins.Pin.{Pin as Granted};
+ghost use Rattle.inode_table.specs.Numbers.{Supply};
+ghost use Rattle.sessions.specs.Table.{Table};
+ghost use Rattle.ranked_tree.specs.Ranked.{held_roots};
+ghost use Rattle.cluster_core.specs.Exporting.{CancelsExport, PrepsExport, StartsExport};
+ghost use Rattle.cluster_core.specs.State.{core_of, held_roots as holders_of};
+ghost use Rattle.cluster_core.specs.Steps.{AtRank};
+
+use crate::clusters::Cluster;
+use crate::events::Answer;
+use mds_types::{Frag, Ino, Rank, Refusal};
+use objstore::Store;
+use ranked_tree::RankedTree;
+
+impl<S: Store + Drop> Cluster<S> {
+    // An export starts.
+    pub(crate) fn start(
+        &mut self,
+        from: Rank,
+        ino: Ino,
+        frag: Frag,
+        to: Rank,
+    ) -> Result<Answer, Refusal>
+        requires ranks { length self.old.caches.used ≡ length self.old.state.inboxes }
+        requires few { length self.old.caches.used ≤ 16 }
+        ensures started { (past : List Applied) → AtRank self.old self.new past past from result (AtRank self.old self.new past past to result (StartsExport self.old self.new past past from (ino, frag) to result)) }
+        ensures tree { self.new.state.tree ≡ self.old.state.tree }
+        ensures roots { self.new.state.roots ≡ self.old.state.roots }
+        ensures holders { holders_of self.new.state ≡ holders_of self.old.state }
+        ensures caches { self.new.caches ≡ self.old.caches }
+        ensures counted { self.new.faults ≡ self.old.faults + faults_told (result_err result) }
+    {
+        if !self.is_rank(from) {
+            return Err(Refusal::NotAuthority);
+        }
+        if !self.is_rank(to) {
+            return Err(Refusal::NotAuthority);
+        }
+        start_at(&mut self.tree, from, ino, frag, to)
+    }
+
+    // The importer of a frozen region gets to know its bounds.
+    pub(crate) fn prep(&mut self, ino: Ino, frag: Frag) -> Result<Answer, Refusal>
+        ensures prepared { (past : List Applied) → PrepsExport self.old self.new past past (ino, frag) result }
+        ensures tree { self.new.state.tree ≡ self.old.state.tree }
+        ensures roots { self.new.state.roots ≡ self.old.state.roots }
+        ensures holders { holders_of self.new.state ≡ holders_of self.old.state }
+        ensures caches { self.new.caches ≡ self.old.caches }
+        ensures counted { self.new.faults ≡ self.old.faults + faults_told (result_err result) }
+    {
+        self.tree.prep(ino, frag)?;
+        Ok(Answer::Nothing)
+    }
+
+    // An export that isn't sent yet ends.
+    pub(crate) fn cancel(&mut self, ino: Ino, frag: Frag) -> Result<Answer, Refusal>
+        ensures cancelled { (past : List Applied) → CancelsExport self.old self.new past past (ino, frag) result }
+        ensures tree { self.new.state.tree ≡ self.old.state.tree }
+        ensures roots { self.new.state.roots ≡ self.old.state.roots }
+        ensures holders { holders_of self.new.state ≡ holders_of self.old.state }
+        ensures caches { self.new.caches ≡ self.old.caches }
+        ensures counted { self.new.faults ≡ self.old.faults + faults_told (result_err result) }
+    {
+        self.tree.cancel(ino, frag)?;
+        Ok(Answer::Nothing)
+    }
+}
+
+// An export starts of the region of a leaf, from its authority to another rank.
+fn start_at<S: Store + Drop>(
+    tree: &mut RankedTree<S>,
+    from: Rank,
+    ino: Ino,
+    frag: Frag,
+    to: Rank,
+) -> Result<Answer, Refusal>
+    requires exporter { from.0 < length tree.old.tree.caches.used }
+    requires importer { to.0 < length tree.old.tree.caches.used }
+    requires few { length tree.old.tree.caches.used ≤ 16 }
+    ensures started { (numbers : List Supply) (inboxes : Waiting) (pins : List Granted) (sessions : Table) (past : List Applied) → StartsExport (core_of tree.old.tree tree.old.subtrees.roots tree.old.exports numbers inboxes pins sessions) (core_of tree.new.tree tree.new.subtrees.roots tree.new.exports numbers inboxes pins sessions) past past from (ino, frag) to result }
+    ensures tree { tree.new.tree ≡ tree.old.tree }
+    ensures roots { tree.new.subtrees ≡ tree.old.subtrees }
+    ensures holders { held_roots tree.new ≡ held_roots tree.old }
+    ensures counted { faults_told (result_err result) ≡ 0 }
+{
+    if tree.exports().get(ino, frag).is_some() {
+        return Err(Refusal::WrongExportState);
+    }
+    if !tree.has_leaf(ino, frag) {
+        return Err(Refusal::NoSuchFrag);
+    }
+    if from == to || !tree.is_authority(from, ino, frag) {
+        return Err(Refusal::NotAuthority);
+    }
+    if tree.is_frozen(ino, frag) {
+        return Err(Refusal::Frozen);
+    }
+    tree.start(ino, frag, from, to)?;
+    Ok(Answer::Nothing)
+}
