@@ -1,0 +1,31 @@
+//! The steps of an export before Send: each leaves every leaf its holder.
+ghost use Rattle.std.specs.Prelude.{◌≡◌, ◌≢◌, ◌<◌, ◌≤◌, length};
+ghost use Rattle.export_steps.specs.Standing.{Starts};
+ghost use Rattle.ranked_tree.specs.Ranked.{held_roots};
+
+use crate::ranked_tree::RankedTree;
+use mds_types::{Frag, Ino, Rank, Refusal};
+use objstore::Store;
+
+impl<S: Store + Drop> RankedTree<S> {
+    /// Start: records the exporter and the importer of a root's region, which are two ranks that there are, as `Exports::start`
+    /// does and refuses. The tree and the roots stay, and so does which rank holds each region.
+    pub fn start(
+        &mut self,
+        dir: Ino,
+        frag: Frag,
+        exporter: Rank,
+        importer: Rank,
+    ) -> Result<(), Refusal>
+        requires exporter { exporter.0 < length self.old.tree.caches.used }
+        requires importer { importer.0 < length self.old.tree.caches.used }
+        requires few { length self.old.tree.caches.used ≤ 16 }
+        requires apart { exporter.0 ≢ importer.0 }
+        ensures started { Starts self.old.exports self.new.exports (dir, frag) exporter importer result }
+        ensures tree { self.new.tree ≡ self.old.tree }
+        ensures roots { self.new.subtrees ≡ self.old.subtrees }
+        ensures holders { held_roots self.new ≡ held_roots self.old }
+    {
+        self.regions.exports.start(dir, frag, exporter, importer)
+    }
+}
