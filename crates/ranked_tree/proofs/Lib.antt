@@ -20,5 +20,6 @@ pub mod ReadsForLaws
 pub mod RootLaws
 pub mod StandLaws
 pub mod Stays
+pub mod StepLaws
 pub mod SubtreeLaws
 pub mod WalkLaws

@@ -7,6 +7,7 @@ mod authorities;
 mod changing;
 mod commits;
 mod emptiness;
+mod exporting;
 mod flushing;
 mod formatting;
 mod frags;

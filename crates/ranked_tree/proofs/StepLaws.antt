@@ -1,0 +1,133 @@
+-- What the steps of an export leave of a tree that is divided among ranks.
+use Rattle.std.proofs.Common.{◌≡◌, ◌<◌, ◌⊎◌, inl, inr, ℕ, length, Option, Some, None, Result, Ok, Err, refl, sym, ap, subst, ◌∙◌}
+use Rattle.std.specs.Prelude.{◌≢◌}
+use Rattle.std.specs.FinMap as map
+use Rattle.mds_types.specs.declared.ids.Rank.{Rank}
+use Rattle.mds_types.specs.declared.refusals.Refusal.{Refusal}
+use Rattle.mds_types.proofs.LeafLaws.{get_beside, get_left, get_put, get_removed, same_or_apart}
+use Rattle.export_steps.specs.declared.exports.StandingExport.{StandingExport}
+use Rattle.export_steps.specs.declared.exports.ExportState.TheVariants.{Started, Frozen, Prepared}
+use Rattle.export_steps.specs.declared.exports.ExportState.{ExportState}
+use Rattle.export_steps.specs.Holder.{IsFrozen, holding}
+use Rattle.export_steps.specs.Standing.{ArePlaced, Cancels, Standing, Starts, Steps, come_to}
+use Rattle.export_steps.proofs.HoldingSteps.{cancel_holding, prep_holding, prep_soundly, start_holding, start_soundly}
+use Rattle.export_steps.proofs.Handover.{cancels_soundly}
+use Rattle.inode_table.specs.Dirs.{Covers, Homes}
+use Rattle.subtree_map.specs.Authority.{Leaf, Roots}
+use Rattle.subtree_map.specs.Changes.{Subtrees}
+use Rattle.subtree_map.proofs.Options.{one_value}
+use Rattle.mdcache.specs.Core.{Core, state_of}
+use Rattle.ranked_tree.specs.declared.regions.Regions.{Regions}
+use Rattle.ranked_tree.specs.Exported.{IsDivided, IsFrozenIn, held_in}
+use Rattle.ranked_tree.specs.Held.{IsOwned}
+
+-- the ranks of each export have caches
+abbrev AreThere : ℕ → Standing → Type 0
+AreThere count exports = (root : Leaf) (export : StandingExport) → map.get exports root ≡ Some export → (export.exporter.0 < count) × (export.importer.0 < count)
+
+-- so it is still where one is put there
+put_there : (count : ℕ) (old new : Standing) (at : Leaf) (put : StandingExport) → new ≡ map.insert old at put → (put.exporter.0 < count) × (put.importer.0 < count) → AreThere count old → AreThere count new
+put_there count old new at put is its there root export stands = go (same_or_apart root at)
+  where
+    found : map.get (map.insert old at put) root ≡ Some export
+    found = ap (λ (m : Standing). map.get m root) (sym is) ∙ stands
+
+    go : (root ≡ at) ⊎ (root ≢ at) → (export.exporter.0 < count) × (export.importer.0 < count)
+    go (inl same) =
+        let that : put ≡ export = one_value _ put export (get_put old at put) (ap (map.get (map.insert old at put)) (sym same) ∙ found) in
+        subst (λ (e : StandingExport). (e.exporter.0 < count) × (e.importer.0 < count)) that its
+    go (inr apart) = there root export (sym (get_beside old at put root apart) ∙ found)
+
+-- and where one is taken out
+taken_there : (count : ℕ) (old new : Standing) (at : Leaf) → new ≡ map.remove old at → AreThere count old → AreThere count new
+taken_there count old new at is there root export stands = go (same_or_apart root at)
+  where
+    found : map.get (map.remove old at) root ≡ Some export
+    found = ap (λ (m : Standing). map.get m root) (sym is) ∙ stands
+
+    go : (root ≡ at) ⊎ (root ≢ at) → (export.exporter.0 < count) × (export.importer.0 < count)
+    go (inl same) = let clash : None ≡ Some export = sym (get_removed old at) ∙ ap (map.get (map.remove old at)) (sym same) ∙ found in absurd cc
+    go (inr apart) = there root export (sym (get_left old at root apart) ∙ found)
+
+-- of the exports alone some changed: the same ranks hold the regions, and no leaf froze
+module _ (core : Core) (was now : Regions) (divided : IsDivided core was) (roots : now.roots.roots ≡ was.roots.roots) (holds : held_in now ≡ held_in was) where
+  pub step_divided : ArePlaced now.exports now.roots → AreThere (length core.caches.used) now.exports → ((leaf : Leaf) → IsFrozenIn (state_of core) now leaf → IsFrozenIn (state_of core) was leaf) → IsDivided core now
+  step_divided placed there froze = record {
+    owned = subst (IsOwned core) (sym holds) divided.owned;
+    stand = record {
+      valid = rw roots divided.stand.valid;
+      placed = placed;
+      ranked = λ leaf rank is. divided.stand.ranked leaf rank (ap (λ (r : Roots). map.get r leaf) (sym roots) ∙ is);
+      there = there;
+      unbegun = λ leaf job is frozen. divided.stand.unbegun leaf job is (froze leaf frozen);
+    };
+  }
+
+-- ---- Start
+
+module _ (old new : Standing) (root : Leaf) (exporter importer : Rank) where
+  pub start_holds : (result : Result (Unit {0}) Refusal) → Starts old new root exporter importer result → (roots : Roots) → holding new roots ≡ holding old roots
+  start_holds (Ok done) is roots = start_holding old new root exporter importer is roots
+  start_holds (Err reason) is roots = ap (λ (s : Standing). holding s roots) is.1
+
+  start_there : (count : ℕ) → exporter.0 < count → importer.0 < count → (result : Result (Unit {0}) Refusal) → Starts old new root exporter importer result → AreThere count old → AreThere count new
+  start_there count first second (Ok done) is there = put_there count old new root (record { exporter = exporter; importer = importer; state = Started }) is.1 (first, second) there
+  start_there count first second (Err reason) is there = subst (AreThere count) (sym is.1) there
+
+  start_froze : (roots : Roots) (homes : Homes) (covers : Covers) (result : Result (Unit {0}) Refusal) → Starts old new root exporter importer result → (leaf : Leaf) → IsFrozen new roots homes covers leaf → IsFrozen old roots homes covers leaf
+  start_froze roots homes covers (Ok done) is leaf frozen = ((start_soundly old new root exporter importer is roots homes covers).frozen leaf).0 frozen
+  start_froze roots homes covers (Err reason) is leaf frozen = subst (λ (s : Standing). IsFrozen s roots homes covers leaf) is.1 frozen
+
+pub start_divided : (core : Core) (was : Regions) (new : Standing) (root : Leaf) (exporter importer : Rank) (result : Result (Unit {0}) Refusal) → Starts was.exports new root exporter importer result → IsDivided core was → ArePlaced new was.roots
+    → exporter.0 < length core.caches.used → importer.0 < length core.caches.used → IsDivided core (record { roots = was.roots; exports = new })
+start_divided core was new root exporter importer result is divided placed first second =
+    step_divided core was (record { roots = was.roots; exports = new }) divided refl (start_holds was.exports new root exporter importer result is was.roots.roots) placed
+    (start_there was.exports new root exporter importer (length core.caches.used) first second result is divided.stand.there)
+    (start_froze was.exports new root exporter importer was.roots.roots core.homes core.covers result is)
+
+-- ---- Prep
+
+module _ (old new : Standing) (root : Leaf) where
+  pub prep_holds : (result : Result (Unit {0}) Refusal) → Steps old new root Frozen Prepared result → (roots : Roots) → holding new roots ≡ holding old roots
+  prep_holds (Ok done) is roots = prep_holding old new root is roots
+  prep_holds (Err reason) is roots = ap (λ (s : Standing). holding s roots) is.2
+
+  step_there : (from to : ExportState) (count : ℕ) (result : Result (Unit {0}) Refusal) → Steps old new root from to result → AreThere count old → AreThere count new
+  step_there from to count (Ok done) is there = put_there count old new root (come_to to is.export) is.changed (there root is.export is.stood) there
+  step_there from to count (Err reason) is there = subst (AreThere count) (sym is.2) there
+
+  prep_froze : (roots : Roots) (homes : Homes) (covers : Covers) (result : Result (Unit {0}) Refusal) → Steps old new root Frozen Prepared result → (leaf : Leaf) → IsFrozen new roots homes covers leaf → IsFrozen old roots homes covers leaf
+  prep_froze roots homes covers (Ok done) is leaf frozen = ((prep_soundly old new root is roots homes covers).frozen leaf).0 frozen
+  prep_froze roots homes covers (Err reason) is leaf frozen = subst (λ (s : Standing). IsFrozen s roots homes covers leaf) is.2 frozen
+
+pub prep_divided : (core : Core) (was : Regions) (new : Standing) (root : Leaf) (result : Result (Unit {0}) Refusal) → Steps was.exports new root Frozen Prepared result → IsDivided core was → ArePlaced new was.roots → IsDivided core (record { roots = was.roots; exports = new })
+prep_divided core was new root result is divided placed =
+    step_divided core was (record { roots = was.roots; exports = new }) divided refl (prep_holds was.exports new root result is was.roots.roots) placed
+    (step_there was.exports new root Frozen Prepared (length core.caches.used) result is divided.stand.there)
+    (prep_froze was.exports new root was.roots.roots core.homes core.covers result is)
+
+-- ---- Cancel
+
+module _ (old new : Standing) (was now : Subtrees) (root : Leaf) where
+  pub cancel_roots : (result : Result (Unit {0}) Refusal) → Cancels old new was now root result → now.roots ≡ was.roots
+  cancel_roots (Ok done) is = is.roots
+  cancel_roots (Err reason) is = ap (λ (s : Subtrees). s.roots) is.3
+
+  pub cancel_holds : (result : Result (Unit {0}) Refusal) → Cancels old new was now root result → holding new now.roots ≡ holding old was.roots
+  cancel_holds (Ok done) is = cancel_holding old new was now root is
+  cancel_holds (Err reason) is = ap (λ (s : Standing). holding s now.roots) is.2 ∙ ap (λ (s : Subtrees). holding old s.roots) is.3
+
+  cancel_there : (count : ℕ) (result : Result (Unit {0}) Refusal) → Cancels old new was now root result → AreThere count old → AreThere count new
+  cancel_there count (Ok done) is there = taken_there count old new root is.ended there
+  cancel_there count (Err reason) is there = subst (AreThere count) (sym is.2) there
+
+  cancel_froze : (homes : Homes) (covers : Covers) (result : Result (Unit {0}) Refusal) → Cancels old new was now root result → (leaf : Leaf) → IsFrozen new now.roots homes covers leaf → IsFrozen old was.roots homes covers leaf
+  cancel_froze homes covers (Ok done) is leaf frozen =
+      (((cancels_soundly old new was now root is homes covers).frozen leaf).0 (subst (λ (r : Roots). IsFrozen new r homes covers leaf) is.roots frozen)).1
+  cancel_froze homes covers (Err reason) is leaf frozen = subst (λ (s : Standing). IsFrozen s was.roots homes covers leaf) is.2 (subst (λ (s : Subtrees). IsFrozen new s.roots homes covers leaf) is.3 frozen)
+
+pub cancel_divided : (core : Core) (was now : Regions) (root : Leaf) (result : Result (Unit {0}) Refusal) → Cancels was.exports now.exports was.roots now.roots root result → IsDivided core was → ArePlaced now.exports now.roots → IsDivided core now
+cancel_divided core was now root result is divided placed =
+    step_divided core was now divided (cancel_roots was.exports now.exports was.roots now.roots root result is) (cancel_holds was.exports now.exports was.roots now.roots root result is) placed
+    (cancel_there was.exports now.exports was.roots now.roots root (length core.caches.used) result is divided.stand.there)
+    (cancel_froze was.exports now.exports was.roots now.roots root core.homes core.covers result is)
