@@ -1,5 +1,5 @@
 -- What a command on the store does, and the line that it prints.
-use Rattle.std.specs.Prelude.{◌≡◌, ◌⊎◌, ◌==◌, ℕ, Bool, true, cond, List, Option, Some, None, Result, Ok, Err, OnOk, IfErr}
+use Rattle.std.specs.Prelude.{◌≡◌, ◌⊎◌, ◌==◌, ℕ, Bool, true, false, cond, List, Option, Some, None, Result, Ok, Err, OnOk, IfErr}
 use Rattle.std.specs.FinMap as map
 use Rattle.mds_types.specs.declared.ids.Ino.{Ino}
 use Rattle.mds_types.specs.declared.ids.Rank.{Rank}
@@ -11,7 +11,7 @@ use Rattle.mds_types.specs.History.{after}
 use Rattle.objstore.specs.Objects.{Objects as Stored}
 use Rattle.cached_frag.specs.declared.jobs.Job.{Job as Begun}
 use Rattle.cached_frag.specs.Commit.{carried}
-use Rattle.cluster_core.specs.Flush.{AreExact, IsColdTree, KeepsBook, MayNotFlush}
+use Rattle.cluster_core.specs.Flush.{AreExact, Flushes, IsColdTree}
 use Rattle.cluster_core.specs.Sound.{IsSoundBook}
 use Rattle.cluster_core.specs.State.{Kept}
 use Rattle.cluster_core.specs.declared.events.Answer.{Answer}
@@ -130,8 +130,7 @@ pub record IsFlush (old new : Kept) (result : Result (Unit {0}) Refusal) : Type 
   pub exact : OnOk result (AreExact new.core.state.tree)
   pub clean : OnOk result (new.core.state.tree.unsaved ≡ map.empty)
   pub purged : OnOk result (new.core.state.tree.purge ≡ map.empty)
-  pub kept : KeepsBook old new
-  pub refused : IfErr result (MayNotFlush old.core new.core)
+  pub outcome : Flushes old new result
   pub sound : IsSoundBook new
   pub faults : new.core.faults ≡ 0
 
@@ -140,11 +139,16 @@ abbrev pub flushed_line : Result (Unit {0}) Refusal → OutputLine
 flushed_line (Ok done) = Flushed
 flushed_line (Err refusal) = Refused refusal
 
--- the book is flushed, and no job is kept any more
+-- a flush was refused since an export stands (refusal 18)
+abbrev pub is_hindered : Result (Unit {0}) Refusal → Bool
+is_hindered (Ok done) = false
+is_hindered (Err refusal) = refusal_number refusal == 18
+
+-- the book is flushed, and no job is kept any more, unless an export stands
 pub record FlushesLine (old new : Admin) (line : OutputLine) : Type 0 where
   pub count : new.operations ≡ old.operations
-  pub jobs : new.jobs ≡ map.empty
   pub result : Result (Unit {0}) Refusal
+  pub jobs : new.jobs ≡ cond (is_hindered result) old.jobs map.empty
   pub flushed : IsFlush old.book new.book result
   pub shown : line ≡ flushed_line result
 

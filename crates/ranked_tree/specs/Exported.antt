@@ -9,7 +9,7 @@ use Rattle.inode_table.specs.Dirs.{Covers, Homes, IsLive}
 use Rattle.export_steps.specs.declared.exports.StandingExport.{StandingExport}
 use Rattle.export_steps.specs.Holder.{IsFrozen, holding}
 use Rattle.export_steps.specs.Standing.{ArePlaced, Standing}
-use Rattle.subtree_map.specs.Authority.{Leaf, Roots}
+use Rattle.subtree_map.specs.Authority.{Leaf, NearestRoot, Roots}
 use Rattle.subtree_map.specs.Changes.{Subtrees, is_inside}
 use Rattle.mdcache.specs.Core.{Core, state_of}
 use Rattle.mdcache.specs.State.{State as TreeState}
@@ -24,6 +24,10 @@ held_in regions = holding regions.exports regions.roots.roots
 -- a leaf changes no more until the export of its region ends
 abbrev pub IsFrozenIn : TreeState → Regions → Leaf → Type 0
 IsFrozenIn tree regions leaf = IsFrozen regions.exports regions.roots.roots tree.homes tree.covers leaf
+
+-- a leaf lies in the region of another, once that is a subtree root
+abbrev pub IsUnder : Roots → Homes → Covers → (root leaf : Leaf) → Type 0
+IsUnder roots homes covers root leaf = (rank : Rank) → NearestRoot (map.insert roots root rank) homes covers leaf root
 
 -- a leaf of a directory that lies properly inside a fragment is frozen
 abbrev pub IsAnyFrozen : Standing → Roots → Homes → Covers → Ino → Fragment → Type 0
