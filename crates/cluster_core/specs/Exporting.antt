@@ -1,6 +1,7 @@
 -- What the steps of an export do to a cluster (CephFS's Migrator, with this project's own table of steps).
 use Rattle.std.specs.Prelude.{◌≡◌, ◌≢◌, ◌⊎◌, true, List, None, Some, IsSome, Result, Ok, Err}
 use Rattle.std.specs.FinMap as map
+use Rattle.std.specs.List.{Contains}
 use Rattle.mds_types.specs.declared.entries.Entry.{Entry}
 use Rattle.mds_types.specs.declared.ids.Rank.{Rank}
 use Rattle.mds_types.specs.declared.refusals.Refusal.{Refusal}
@@ -9,7 +10,10 @@ use Rattle.mds_types.specs.Leaf.{Leaf}
 use Rattle.export_steps.specs.declared.exports.ExportState.TheVariants as state
 use Rattle.export_steps.specs.declared.exports.StandingExport.{StandingExport}
 use Rattle.export_steps.specs.Standing.{ComesTo, is_before_send, state_at}
-use Rattle.inode_table.specs.Dirs.{IsLive}
+use Rattle.inboxes.specs.declared.pins.Pin.{Pin}
+use Rattle.inode_table.specs.Dirs.{Covers, Homes, IsLive}
+use Rattle.subtree_map.specs.Authority.{Roots}
+use Rattle.ranked_tree.specs.Exported.{EndsRegion, IsUnder}
 use Rattle.cluster_core.specs.declared.events.Answer.{Answer}
 use Rattle.cluster_core.specs.declared.events.Answer.TheVariants.{Nothing}
 use Rattle.cluster_core.specs.Administers.{AsksNone}
@@ -71,6 +75,43 @@ Starts old new from leaf to (Err reason) =
 
 abbrev pub StartsExport : (old new : Core) → (past now : List Entry) → Rank → Leaf → Rank → Result Answer Refusal → Type 0
 StartsExport old new past now from leaf to result = Exports old new past now (Starts old.state new.state from leaf to) result
+
+-- ---- Freeze
+
+-- a grant stands on a leaf of the region that a leaf has as a subtree root
+abbrev pub HasPinnedUnder : Roots → Homes → Covers → List Pin → Leaf → Type 0
+HasPinnedUnder roots homes covers pins root = (pin : Pin) × Contains pins pin × IsUnder roots homes covers root (pin.dir, pin.frag)
+
+abbrev pub IsRegionPinned : State → Leaf → Type 0
+IsRegionPinned old leaf = HasPinnedUnder old.roots old.tree.homes old.tree.covers old.pins leaf
+
+-- a leaf is its exporter's still
+abbrev pub IsExporters : State → Leaf → Type 0
+IsExporters old leaf = (export : StandingExport) × (map.get old.exports leaf ≡ Some export) × IsAuthority old leaf export.exporter
+
+-- the region of a started export may freeze: its root is a leaf still, and its exporter's, and no part of it is frozen or granted
+pub record MayFreeze (old : State) (leaf : Leaf) : Type 0 where
+  pub started : state_at old.exports leaf ≡ Some state.Started
+  pub live : IsLive old.tree.homes old.tree.covers leaf
+  pub mine : IsExporters old leaf
+  pub thawed : IsFrozenAt old leaf → ⊥
+  pub free : IsRegionPinned old leaf → ⊥
+
+-- it freezes: its root is a subtree root of the exporter, and the jobs of its leaves end
+pub record IsFreeze (old new : State) (leaf : Leaf) : Type 0 where
+  pub step : ComesTo old.exports new.exports leaf state.Started state.Frozen
+  pub roots : new.roots ≡ map.insert old.roots leaf step.export.exporter
+  pub ended : EndsRegion old.tree new.tree new.roots leaf
+
+abbrev pub Freezes : (old new : State) → Leaf → Result (Unit {0}) Refusal → Type 0
+Freezes old new leaf (Ok done) = MayFreeze old leaf × IsFreeze old new leaf
+Freezes old new leaf (Err reason) =
+    Check why.WrongExportState (state_at old.exports leaf ≢ Some state.Started)
+    (Check why.NoSuchFrag (IsLive old.tree.homes old.tree.covers leaf → ⊥)
+    (Check why.NotAuthority (IsExporters old leaf → ⊥) (Check why.Frozen (IsFrozenAt old leaf) (Check why.Pinned (IsRegionPinned old leaf) ForMemory)))) reason
+
+abbrev pub FreezesExport : (old new : Core) → (past now : List Entry) → Leaf → Result Answer Refusal → Type 0
+FreezesExport old new past now leaf result = Exports old new past now (Freezes old.state new.state leaf) result
 
 -- ---- Prep
 
