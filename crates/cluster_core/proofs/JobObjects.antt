@@ -22,8 +22,8 @@ use Rattle.mdcache.specs.State.{State as TreeState}
 use Rattle.mdcache.proofs.StandingObjects.{ObjectsStay, begun_objects, dropped_objects, ended_object, made_objects, purged_object, regrouped_objects, same_state, saved_object}
 use Rattle.cluster_core.specs.declared.events.Answer.{Answer}
 use Rattle.cluster_core.specs.declared.events.Event.{Event}
-use Rattle.cluster_core.specs.declared.events.Event.TheVariants.{Arrive, Grant, Serve, Split, Merge, CommitBegin, CommitEnd, CommitDrop, CommitTree, Purge, Evict, Start, Prep, Cancel}
-use Rattle.cluster_core.specs.Exporting.{CancelsAt, Exports, KeepsTree, Preps, Starts}
+use Rattle.cluster_core.specs.declared.events.Event.TheVariants.{Arrive, Grant, Serve, Split, Merge, CommitBegin, CommitEnd, CommitDrop, CommitTree, Purge, Evict, Start, Freeze, Prep, Cancel}
+use Rattle.cluster_core.specs.Exporting.{CancelsAt, Exports, Freezes, KeepsTree, Preps, Starts}
 use Rattle.cluster_core.specs.Administers.{Administers, BeginsAt, EvictsOne, MergesLeaves, SplitsLeaf, nothing, told_job}
 use Rattle.cluster_core.specs.Commits.{JobsKeepObjects, JobsTakeWhatIsShown}
 use Rattle.cluster_core.specs.Grants.{GrantsFirst}
@@ -84,8 +84,8 @@ module _ (opening : Tree) (past now : List Entry) (old new : Core) (sound : IsSo
   worked told Did so (Ok answer) h = so h.0 h.2
   worked told Did so (Err reason) h = kept (left old.state new.state h.1.left)
 
-  exported : (Did : Result (Unit {0}) Refusal → Type 0) → (Did (Ok tt) → KeepsTree old.state new.state) → (result : Result Answer Refusal) → Exports old new past now Did result → Kept
-  exported Did stays (Ok answer) h = kept (ap (λ (t : TreeState). t.objects) (stays h.1).tree)
+  exported : (Did : Result (Unit {0}) Refusal → Type 0) → (Did (Ok tt) → ObjectsStay old.state.tree new.state.tree) → (result : Result Answer Refusal) → Exports old new past now Did result → Kept
+  exported Did stays (Ok answer) h = kept (stays h.1)
   exported Did stays (Err reason) h = kept (left old.state new.state h.1.left)
 
   step : (result : Result Answer Refusal) (event : Event) → Does old new past now result event → Kept
@@ -109,9 +109,10 @@ module _ (opening : Tree) (past now : List Entry) (old new : Core) (sound : IsSo
   step result (Evict rank) h =
       at_rank (nat_lt rank.0 (length old.state.inboxes)) result (λ w. worked nothing (EvictsOne old new rank) (λ done did. kept (ap (λ (s : State). s.tree.objects) did.1)) result w.0) h
   step result (Start from dir f to) h =
-      at_rank (nat_lt from.0 (length old.state.inboxes)) result (λ w. at_rank (nat_lt to.0 (length old.state.inboxes)) result (λ done. exported (Starts old.state new.state from (dir, f) to) (λ did. did.2) result done) w) h
-  step result (Prep dir f) h = exported (Preps old.state new.state (dir, f)) (λ did. did.1) result h
-  step result (Cancel dir f) h = exported (CancelsAt old.state new.state (dir, f)) (λ did. did.2) result h
+      at_rank (nat_lt from.0 (length old.state.inboxes)) result (λ w. at_rank (nat_lt to.0 (length old.state.inboxes)) result (λ done. exported (Starts old.state new.state from (dir, f) to) (λ did. ap (λ (t : TreeState). t.objects) did.2.tree) result done) w) h
+  step result (Freeze dir f) h = exported (Freezes old.state new.state (dir, f)) (λ did. ap (λ (t : TreeState). t.objects) did.1.ended.left) result h
+  step result (Prep dir f) h = exported (Preps old.state new.state (dir, f)) (λ did. ap (λ (t : TreeState). t.objects) did.1.tree) result h
+  step result (Cancel dir f) h = exported (CancelsAt old.state new.state (dir, f)) (λ did. ap (λ (t : TreeState). t.objects) did.2.tree) result h
 
 pub jobs_keep : JobsKeepObjects
 jobs_keep opening past now old new result event sound stepped leaf job stood stands = step opening past now old new sound leaf job stood stands result event stepped.does

@@ -7,7 +7,7 @@ use Rattle.mds_types.specs.declared.refusals.Refusal.{Refusal}
 use Rattle.cluster_core.specs.declared.events.Answer.{Answer}
 use Rattle.cluster_core.specs.declared.events.Answer.TheVariants.{Deferred, Forwarded, Job, Nothing, Reply}
 use Rattle.cluster_core.specs.declared.events.Event.{Event}
-use Rattle.cluster_core.specs.declared.events.Event.TheVariants.{Arrive, Grant, Serve, Split, Merge, CommitBegin, CommitEnd, CommitDrop, CommitTree, Purge, Evict, Start, Prep, Cancel}
+use Rattle.cluster_core.specs.declared.events.Event.TheVariants.{Arrive, Grant, Serve, Split, Merge, CommitBegin, CommitEnd, CommitDrop, CommitTree, Purge, Evict, Start, Freeze, Prep, Cancel}
 use Rattle.cluster_core.specs.Sound.{IsSoundBook}
 use Rattle.cluster_core.specs.State.{Kept}
 use Rattle.cluster_core.specs.Steps.{Steps}
@@ -68,6 +68,7 @@ AddsAtServe (CommitTree dir) past now = now ≡ past
 AddsAtServe Purge past now = now ≡ past
 AddsAtServe (Evict rank) past now = now ≡ past
 AddsAtServe (Start from dir f to) past now = now ≡ past
+AddsAtServe (Freeze dir f) past now = now ≡ past
 AddsAtServe (Prep dir f) past now = now ≡ past
 AddsAtServe (Cancel dir f) past now = now ≡ past
 

@@ -154,6 +154,7 @@ impl<S: Store + Drop> Cluster<S> {
                 frag,
                 to,
             } => self.start(from, ino, frag, to),
+            Event::Freeze { ino, frag } => self.freeze(ino, frag),
             Event::Prep { ino, frag } => self.prep(ino, frag),
             Event::Cancel { ino, frag } => self.cancel(ino, frag),
         }

@@ -65,6 +65,11 @@ pub enum Event {
         frag: Frag,
         to: Rank,
     },
+    /// The region of a started export freezes, and the commits that were begun in it are given up.
+    Freeze {
+        ino: Ino,
+        frag: Frag,
+    },
     /// The importer of a frozen region gets to know its bounds.
     Prep {
         ino: Ino,
@@ -151,6 +156,10 @@ impl Event {
                 ino: *ino,
                 frag: *frag,
                 to: *to,
+            }),
+            Event::Freeze { ino, frag } => Ok(Event::Freeze {
+                ino: *ino,
+                frag: *frag,
             }),
             Event::Prep { ino, frag } => Ok(Event::Prep {
                 ino: *ino,

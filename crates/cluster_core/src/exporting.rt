@@ -1,5 +1,6 @@
 //! The steps of an export of a subtree, from one rank to another: what each does is unseen, but for the answer.
-ghost use Rattle.std.specs.Prelude.{◌≡◌, ◌+◌, ◌<◌, ◌≤◌, List, length};
+ghost use Rattle.std.specs.Prelude.{◌≡◌, ◌≢◌, ◌+◌, ◌<◌, ◌≤◌, List, Some, MatchOption, length};
+ghost use Rattle.std.specs.FinMap as map;
 ghost use Rattle.std.specs.Result.{result_err};
 ghost use Rattle.objstore.specs.Objects.{faults_told};
 ghost use Rattle.mds_types.specs.declared.entries.Entry.{Entry as Applied};
@@ -7,13 +8,21 @@ ghost use Rattle.inboxes.specs.Inboxes.{Inboxes as Waiting};
 ghost use Rattle.inboxes.specs.declared.pins.Pin.{Pin as Granted};
 ghost use Rattle.inode_table.specs.Numbers.{Supply};
 ghost use Rattle.sessions.specs.Table.{Table};
+ghost use Rattle.export_steps.specs.declared.exports.ExportState.TheVariants as state;
+ghost use Rattle.export_steps.specs.declared.exports.StandingExport.{StandingExport};
+ghost use Rattle.export_steps.specs.Standing.{state_at};
+ghost use Rattle.mdcache.specs.Core.{state_of as tree_state};
 ghost use Rattle.ranked_tree.specs.Ranked.{held_roots};
-ghost use Rattle.cluster_core.specs.Exporting.{CancelsExport, PrepsExport, StartsExport};
+ghost use Rattle.ranked_tree.specs.Subtrees.{KeepsRoots};
+ghost use Rattle.cluster_core.specs.Exporting.{CancelsExport, FreezesExport, PrepsExport, StartsExport};
 ghost use Rattle.cluster_core.specs.State.{core_of, held_roots as holders_of};
 ghost use Rattle.cluster_core.specs.Steps.{AtRank};
 
 use crate::clusters::Cluster;
 use crate::events::Answer;
+use crate::pinned::is_region_pinned;
+use export_steps::{ExportState, Exports};
+use inboxes::Pins;
 use mds_types::{Frag, Ino, Rank, Refusal};
 use objstore::Store;
 use ranked_tree::RankedTree;
@@ -43,6 +52,16 @@ impl<S: Store + Drop> Cluster<S> {
             return Err(Refusal::NotAuthority);
         }
         start_at(&mut self.tree, from, ino, frag, to)
+    }
+
+    // The region of a started export freezes.
+    pub(crate) fn freeze(&mut self, ino: Ino, frag: Frag) -> Result<Answer, Refusal>
+        ensures frozen { (past : List Applied) → FreezesExport self.old self.new past past (ino, frag) result }
+        ensures kept { KeepsRoots self.old.state.tree self.new.state.tree self.old.state.roots self.new.state.roots self.old.state.exports self.new.state.exports }
+        ensures caches { self.new.caches ≡ self.old.caches }
+        ensures counted { self.new.faults ≡ self.old.faults + faults_told (result_err result) }
+    {
+        freeze_at(&mut self.tree, &self.waiting.pins, ino, frag)
     }
 
     // The importer of a frozen region gets to know its bounds.
@@ -103,4 +122,51 @@ fn start_at<S: Store + Drop>(
     }
     tree.start(ino, frag, from, to)?;
     Ok(Answer::Nothing)
+}
+
+// The region of a started export freezes, unless its exporter isn't its authority any more, or a part of it is frozen or granted.
+fn freeze_at<S: Store + Drop>(
+    tree: &mut RankedTree<S>,
+    pins: &Pins,
+    ino: Ino,
+    frag: Frag,
+) -> Result<Answer, Refusal>
+    ensures frozen { (numbers : List Supply) (inboxes : Waiting) (sessions : Table) (past : List Applied) → FreezesExport (core_of tree.old.tree tree.old.subtrees.roots tree.old.exports numbers inboxes pins.now sessions) (core_of tree.new.tree tree.new.subtrees.roots tree.new.exports numbers inboxes pins.now sessions) past past (ino, frag) result }
+    ensures kept { KeepsRoots (tree_state tree.old.tree) (tree_state tree.new.tree) tree.old.subtrees.roots tree.new.subtrees.roots tree.old.exports tree.new.exports }
+    ensures caches { tree.new.tree.caches ≡ tree.old.tree.caches }
+    ensures counted { tree.new.tree.faults ≡ tree.old.tree.faults + faults_told (result_err result) }
+{
+    let Some(exporter) = started(tree.exports(), ino, frag) else {
+        return Err(Refusal::WrongExportState);
+    };
+    if !tree.has_leaf(ino, frag) {
+        return Err(Refusal::NoSuchFrag);
+    }
+    if !tree.is_authority(exporter, ino, frag) {
+        return Err(Refusal::NotAuthority);
+    }
+    if tree.is_frozen(ino, frag) {
+        return Err(Refusal::Frozen);
+    }
+    if is_region_pinned(tree, pins, ino, frag) {
+        return Err(Refusal::Pinned);
+    }
+    tree.freeze(ino, frag)?;
+    Ok(Answer::Nothing)
+}
+
+// The exporter of a root whose export is started.
+fn started(exports: &Exports, ino: Ino, frag: Frag) -> Option<Rank>
+    ensures { MatchOption result
+        (state_at exports.now (ino, frag) ≢ Some state.Started)
+        (λ exporter. (export : StandingExport) × (map.get exports.now (ino, frag) ≡ Some export) × (export.state ≡ state.Started) × (exporter ≡ export.exporter)) }
+{
+    let export = exports.get(ino, frag)?;
+    match export.state {
+        ExportState::Started => Some(export.exporter),
+        ExportState::Frozen => None,
+        ExportState::Prepared => None,
+        ExportState::Sent => None,
+        ExportState::Imported => None,
+    }
 }
