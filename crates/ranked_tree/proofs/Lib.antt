@@ -3,6 +3,7 @@ pub mod AuthorityLaws
 pub mod CameForLaws
 pub mod ChangedTables
 pub mod DividedLaws
+pub mod EndedLaws
 pub mod EvictLaws
 pub mod ExportLaws
 pub mod FlushedLaws

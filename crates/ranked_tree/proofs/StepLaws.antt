@@ -1,6 +1,6 @@
 -- What the steps of an export leave of a tree that is divided among ranks.
 use Rattle.std.proofs.Common.{◌≡◌, ◌<◌, ◌⊎◌, inl, inr, ℕ, length, Option, Some, None, Result, Ok, Err, refl, sym, ap, subst, ◌∙◌}
-use Rattle.std.specs.Prelude.{◌≢◌}
+use Rattle.std.specs.Prelude.{◌≢◌, IsSome}
 use Rattle.std.specs.FinMap as map
 use Rattle.mds_types.specs.declared.ids.Rank.{Rank}
 use Rattle.mds_types.specs.declared.refusals.Refusal.{Refusal}
@@ -9,17 +9,26 @@ use Rattle.export_steps.specs.declared.exports.StandingExport.{StandingExport}
 use Rattle.export_steps.specs.declared.exports.ExportState.TheVariants.{Started, Frozen, Prepared}
 use Rattle.export_steps.specs.declared.exports.ExportState.{ExportState}
 use Rattle.export_steps.specs.Holder.{IsFrozen, holding}
-use Rattle.export_steps.specs.Standing.{ArePlaced, Cancels, Standing, Starts, Steps, come_to}
+use Rattle.export_steps.specs.Standing.{ArePlaced, Cancels, IsFreeze, Standing, Starts, Steps, come_to}
 use Rattle.export_steps.proofs.HoldingSteps.{cancel_holding, prep_holding, prep_soundly, start_holding, start_soundly}
-use Rattle.export_steps.proofs.Handover.{cancels_soundly}
-use Rattle.inode_table.specs.Dirs.{Covers, Homes}
-use Rattle.subtree_map.specs.Authority.{Leaf, Roots}
+use Rattle.export_steps.proofs.Handover.{cancels_soundly, freezes_soundly}
+use Rattle.export_steps.specs.Handover.{FreezesSoundly}
+use Rattle.export_steps.proofs.Holding.{holder_is, valid_so}
+use Rattle.cached_frag.specs.declared.jobs.Job.{Job}
+use Rattle.dentry_cache.specs.CacheMap.{CacheMap}
+use Rattle.inode_table.specs.Dirs.{Covers, Homes, IsLive}
+use Rattle.subtree_map.specs.Authority.{Leaf, NearestRoot, Roots}
 use Rattle.subtree_map.specs.Changes.{Subtrees}
-use Rattle.subtree_map.proofs.Options.{one_value}
-use Rattle.mdcache.specs.Core.{Core, state_of}
+use Rattle.subtree_map.proofs.Options.{not_none, one_value}
+use Rattle.mdcache.specs.Core.{Core, IsSoundCore, state_of}
+use Rattle.mdcache.specs.State.{State as TreeState}
+use Rattle.mdcache.proofs.CoreLaws.{keeps_place}
 use Rattle.ranked_tree.specs.declared.regions.Regions.{Regions}
-use Rattle.ranked_tree.specs.Exported.{IsDivided, IsFrozenIn, held_in}
+use Rattle.ranked_tree.specs.Exported.{EndsRegion, IsDivided, IsFrozenIn, StandSoundly, held_in}
 use Rattle.ranked_tree.specs.Held.{IsOwned}
+use Rattle.ranked_tree.specs.Subtrees.{AreRoots, KeepsAuthorities, Rules}
+use Rattle.ranked_tree.proofs.HeldLaws.{held_after}
+use Rattle.ranked_tree.proofs.StandLaws.{held_bound}
 
 -- the ranks of each export have caches
 abbrev AreThere : ℕ → Standing → Type 0
@@ -105,6 +114,87 @@ prep_divided core was new root result is divided placed =
     step_divided core was (record { roots = was.roots; exports = new }) divided refl (prep_holds was.exports new root result is was.roots.roots) placed
     (step_there was.exports new root Frozen Prepared (length core.caches.used) result is divided.stand.there)
     (prep_froze was.exports new root was.roots.roots core.homes core.covers result is)
+
+-- ---- Freeze
+
+module _ (old new : Core) (was now : Regions) (root : Leaf) (divided : IsDivided old was) (is : IsFreeze was.exports now.exports was.roots now.roots root) (live : IsLive old.homes old.covers root) (thawed : IsFrozenIn (state_of old) was root → ⊥)
+    (mine : Rules (state_of old) was.roots.roots root is.step.export.exporter) (ends : EndsRegion (state_of old) (state_of new) now.roots.roots root) where
+  homes_stay : new.homes ≡ old.homes
+  homes_stay = ap (λ (s : TreeState). s.homes) ends.left
+
+  covers_stay : new.covers ≡ old.covers
+  covers_stay = ap (λ (s : TreeState). s.covers) ends.left
+
+  soundly : FreezesSoundly was.exports now.exports was.roots.roots now.roots.roots old.homes old.covers root
+  soundly = freezes_soundly was.exports now.exports was.roots now.roots root is old.homes old.covers thawed mine
+
+  root_here : map.get now.roots.roots root ≡ Some is.step.export.exporter
+  root_here = ap (λ (r : Roots). map.get r root) is.roots ∙ get_put was.roots.roots root is.step.export.exporter
+
+  root_beside : (leaf : Leaf) → leaf ≢ root → map.get now.roots.roots leaf ≡ map.get was.roots.roots leaf
+  root_beside leaf apart = ap (λ (r : Roots). map.get r leaf) is.roots ∙ get_beside was.roots.roots root is.step.export.exporter leaf apart
+
+  pub freeze_authorities : KeepsAuthorities (state_of old) (state_of new) was.roots.roots now.roots.roots
+  freeze_authorities leaf rank stood stands rules = rw (homes_stay, covers_stay) (soundly.authorities leaf rank rules)
+
+  -- live or not
+  held_still : (leaf : Leaf) (rank : Rank) → Rules (state_of old) (held_in was) leaf rank → Rules (state_of new) (held_in now) leaf rank
+  held_still leaf rank rules =
+      rw (homes_stay, covers_stay) ((holder_is now.exports now.roots.roots old.homes old.covers leaf rank).0 (soundly.holders leaf rank ((holder_is was.exports was.roots.roots old.homes old.covers leaf rank).1 rules)))
+
+  pub freeze_holders : KeepsAuthorities (state_of old) (state_of new) (held_in was) (held_in now)
+  freeze_holders leaf rank stood stands rules = held_still leaf rank rules
+
+  roots_still : AreRoots (state_of old) now.roots.roots
+  roots_still = record {
+    top = λ f here. top (record { 0 = 1 }, f) (divided.stand.valid.top f here) (same_or_apart (record { 0 = 1 }, f) root);
+    live = λ q some. alive q some (same_or_apart q root);
+  }
+    where
+      top : (q : Leaf) → IsSome (map.get was.roots.roots q) → (q ≡ root) ⊎ (q ≢ root) → IsSome (map.get now.roots.roots q)
+      top q some (inl same) = subst (λ (l : Leaf). IsSome (map.get now.roots.roots l)) (sym same) (subst IsSome (sym root_here) refl)
+      top q some (inr apart) = subst IsSome (sym (root_beside q apart)) some
+
+      alive : (q : Leaf) → IsSome (map.get now.roots.roots q) → (q ≡ root) ⊎ (q ≢ root) → IsLive old.homes old.covers q
+      alive q some (inl same) = subst (IsLive old.homes old.covers) (sym same) live
+      alive q some (inr apart) = divided.stand.valid.live q (subst IsSome (root_beside q apart) some)
+
+  module _ (caches : new.caches ≡ old.caches) (sound : IsSoundCore new) (placed : ArePlaced now.exports now.roots) where
+    count_stays : length new.caches.used ≡ length old.caches.used
+    count_stays = ap (λ (k : CacheMap). length k.used) caches
+
+    exports_there : AreThere (length old.caches.used) now.exports
+    exports_there = put_there (length old.caches.used) was.exports now.exports root (come_to Frozen is.step.export) is.step.changed (divided.stand.there root is.step.export is.step.stood) divided.stand.there
+
+    freeze_stands : StandSoundly (state_of new) (length new.caches.used) now.roots now.exports
+    freeze_stands = record {
+      valid = rw (homes_stay, covers_stay) roots_still;
+      placed = placed;
+      ranked = λ leaf rank at. subst (λ (n : ℕ). rank.0 < n) (sym count_stays) (ranked leaf rank at (same_or_apart leaf root));
+      there = subst (λ (n : ℕ). AreThere n now.exports) (sym count_stays) exports_there;
+      unbegun = λ leaf job stands frozen. unbegun leaf job stands ((soundly.frozen leaf).0 (subst (λ (h : Homes). IsFrozen now.exports now.roots.roots h old.covers leaf) homes_stay (subst (λ (cs : Covers). IsFrozen now.exports now.roots.roots new.homes cs leaf) covers_stay frozen)));
+    }
+      where
+        ranked : (leaf : Leaf) (rank : Rank) → map.get now.roots.roots leaf ≡ Some rank → (leaf ≡ root) ⊎ (leaf ≢ root) → rank.0 < length old.caches.used
+        ranked leaf rank at (inl same) =
+            subst (λ (r : Rank). r.0 < length old.caches.used) (one_value _ is.step.export.exporter rank root_here (ap (map.get now.roots.roots) (sym same) ∙ at)) (divided.stand.there root is.step.export is.step.stood).0
+        ranked leaf rank at (inr apart) = divided.stand.ranked leaf rank (sym (root_beside leaf apart) ∙ at)
+
+        -- a job that stands stood, and its leaf isn't in the region
+        unbegun : (leaf : Leaf) (job : Job) → map.get new.jobs leaf ≡ Some job → NearestRoot now.roots.roots old.homes old.covers leaf root ⊎ IsFrozenIn (state_of old) was leaf → ⊥
+        unbegun leaf job stands (inl inside) = not_none _ job (ends.ended leaf inside) stands
+        unbegun leaf job stands (inr frozen) = divided.stand.unbegun leaf job (sym (ends.others leaf (λ inside. not_none _ job (ends.ended leaf inside) stands)) ∙ stands) frozen
+
+    pub freeze_divided : IsDivided new now
+    freeze_divided = record {
+      owned = record {
+        sound = sound;
+        valid = (valid_so now.exports now.roots.roots new.homes new.covers).0 freeze_stands.valid;
+        held = held_after (state_of new) new.caches (held_in now) (held_bound (state_of new) (length new.caches.used) now.roots now.exports freeze_stands) (keeps_place new sound)
+            (λ leaf a at. held_still leaf (record { 0 = a.rank }) (divided.owned.held.cached leaf a (ap (λ (k : CacheMap). map.get k.held leaf) (sym caches) ∙ at)));
+      };
+      stand = freeze_stands;
+    }
 
 -- ---- Cancel
 

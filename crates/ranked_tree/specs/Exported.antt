@@ -1,5 +1,5 @@
 -- The exports that stand over a tree: whose each region is, and what is kept of those that stand.
-use Rattle.std.specs.Prelude.{◌≡◌, ℕ, ◌<◌, true, None, Some, length}
+use Rattle.std.specs.Prelude.{◌≡◌, ◌⊎◌, ℕ, ◌<◌, true, None, Some, length}
 use Rattle.std.specs.FinMap as map
 use Rattle.mds_types.specs.declared.ids.Ino.{Ino}
 use Rattle.mds_types.specs.declared.ids.Rank.{Rank}
@@ -56,3 +56,8 @@ pub record EndsRegion (old new : TreeState) (roots : Roots) (root : Leaf) : Type
   pub ended : (leaf : Leaf) → NearestRoot roots old.homes old.covers leaf root → map.get new.jobs leaf ≡ None
   pub others : (leaf : Leaf) → (NearestRoot roots old.homes old.covers leaf root → ⊥) → map.get new.jobs leaf ≡ map.get old.jobs leaf
   pub left : new ≡ record old { jobs = new.jobs }
+
+-- so it is with one leaf: its job has ended where it is in the region, and otherwise nothing changed
+abbrev pub EndsInside : Roots → Leaf → (old new : TreeState) → Leaf → Type 0
+EndsInside roots root old new leaf =
+    (NearestRoot roots old.homes old.covers leaf root × (new ≡ record old { jobs = map.remove old.jobs leaf })) ⊎ ((NearestRoot roots old.homes old.covers leaf root → ⊥) × (new ≡ old))

@@ -1,9 +1,16 @@
 //! The steps of an export before Send: each leaves every leaf its holder.
-ghost use Rattle.std.specs.Prelude.{◌≡◌, ◌≢◌, ◌<◌, ◌≤◌, length};
+ghost use Rattle.std.specs.Prelude.{◌≡◌, ◌≢◌, ◌<◌, ◌≤◌, Some, OnOk, OnErr, length};
+ghost use Rattle.std.specs.FinMap as map;
+ghost use Rattle.inode_table.specs.Dirs.{IsLive};
 ghost use Rattle.export_steps.specs.declared.exports.ExportState.TheVariants as state;
-ghost use Rattle.export_steps.specs.Standing.{Cancels, Starts, Steps};
-ghost use Rattle.ranked_tree.specs.Ranked.{held_roots};
+ghost use Rattle.export_steps.specs.declared.exports.StandingExport.{StandingExport};
+ghost use Rattle.export_steps.specs.Standing.{Cancels, Freezes, Starts, Steps};
+ghost use Rattle.mdcache.specs.Core.{state_of};
+ghost use Rattle.ranked_tree.specs.Exported.{EndsRegion};
+ghost use Rattle.ranked_tree.specs.Ranked.{IsFrozenLeaf, held_roots};
+ghost use Rattle.ranked_tree.specs.Subtrees.{KeepsRoots, Rules};
 
+use crate::ending_jobs::end_region;
 use crate::ranked_tree::RankedTree;
 use mds_types::{Frag, Ino, Rank, Refusal};
 use objstore::Store;
@@ -39,6 +46,27 @@ impl<S: Store + Drop> RankedTree<S> {
         ensures holders { held_roots self.new ≡ held_roots self.old }
     {
         self.regions.exports.prep(dir, frag)
+    }
+
+    /// Freeze: a leaf of a started export, whose authority is the exporter and which isn't frozen, is a subtree root of the exporter, as
+    /// `Exports::freeze` makes it and refuses. Its region changes no more from now on: the jobs of its leaves end. No leaf gets another
+    /// authority, nor another rank that holds it.
+    pub fn freeze(&mut self, dir: Ino, frag: Frag) -> Result<(), Refusal>
+        requires live { IsLive self.old.tree.homes self.old.tree.covers (dir, frag) }
+        requires thawed { IsFrozenLeaf self.old (dir, frag) → ⊥ }
+        requires mine { (export : StandingExport) → map.get self.old.exports (dir, frag) ≡ Some export → Rules (state_of self.old.tree) self.old.subtrees.roots (dir, frag) export.exporter }
+        ensures frozen { Freezes self.old.exports self.new.exports self.old.subtrees self.new.subtrees (dir, frag) result }
+        ensures ended { OnOk result (EndsRegion (state_of self.old.tree) (state_of self.new.tree) self.new.subtrees.roots (dir, frag)) }
+        ensures left { OnErr result (self.new.tree ≡ self.old.tree) }
+        ensures caches { self.new.tree.caches ≡ self.old.tree.caches }
+        ensures faults { self.new.tree.faults ≡ self.old.tree.faults }
+        ensures kept { KeepsRoots (state_of self.old.tree) (state_of self.new.tree) self.old.subtrees.roots self.new.subtrees.roots self.old.exports self.new.exports }
+    {
+        self.regions
+            .exports
+            .freeze(&mut self.regions.roots, dir, frag)?;
+        end_region(&mut self.tree, &self.regions.roots, &(dir, frag));
+        Ok(())
     }
 
     /// Cancel: an export that isn't sent yet is over, and its region thaws, as `Exports::cancel` does and refuses. The tree and the

@@ -7,6 +7,7 @@ mod authorities;
 mod changing;
 mod commits;
 mod emptiness;
+mod ending_jobs;
 mod exporting;
 mod flushing;
 mod formatting;
