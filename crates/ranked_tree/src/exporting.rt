@@ -8,7 +8,7 @@ ghost use Rattle.export_steps.specs.Standing.{Cancels, Freezes, Starts, Steps};
 ghost use Rattle.mdcache.specs.Core.{state_of};
 ghost use Rattle.ranked_tree.specs.Exported.{EndsRegion};
 ghost use Rattle.ranked_tree.specs.Ranked.{IsFrozenLeaf, held_roots};
-ghost use Rattle.ranked_tree.specs.Subtrees.{KeepsRoots, Rules};
+ghost use Rattle.ranked_tree.specs.Subtrees.{AreRoots, KeepsAuthorities, Rules};
 
 use crate::ending_jobs::end_region;
 use crate::ranked_tree::RankedTree;
@@ -60,7 +60,9 @@ impl<S: Store + Drop> RankedTree<S> {
         ensures left { OnErr result (self.new.tree ≡ self.old.tree) }
         ensures caches { self.new.tree.caches ≡ self.old.tree.caches }
         ensures faults { self.new.tree.faults ≡ self.old.tree.faults }
-        ensures kept { KeepsRoots (state_of self.old.tree) (state_of self.new.tree) self.old.subtrees.roots self.new.subtrees.roots self.old.exports self.new.exports }
+        ensures authorities { KeepsAuthorities (state_of self.old.tree) (state_of self.new.tree) self.old.subtrees.roots self.new.subtrees.roots }
+        ensures holders { KeepsAuthorities (state_of self.old.tree) (state_of self.new.tree) (held_roots self.old) (held_roots self.new) }
+        ensures valid { AreRoots (state_of self.new.tree) self.new.subtrees.roots }
     {
         self.regions
             .exports

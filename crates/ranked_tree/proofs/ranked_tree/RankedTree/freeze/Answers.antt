@@ -37,3 +37,6 @@ returns-clause-holders g c =
     (subst (λ (r : Ranked). IsFrozenLeaf r (c.args.dir, c.args.frag) → ⊥) (sym c.self.view_is) c.requires.thawed)
     (subst (λ (r : Ranked). (export : StandingExport) → map.get r.exports (c.args.dir, c.args.frag) ≡ Some export → Rules (state_of r.tree) r.subtrees.roots (c.args.dir, c.args.frag) export.exporter) (sym c.self.view_is) c.requires.mine is.step.export is.step.stood)
     c.end_region.ensures.ended)
+
+pub returns-clause-valid : goal.returns-clause-valid
+returns-clause-valid g c = (invariant_of-self-2 g c).stand.valid
