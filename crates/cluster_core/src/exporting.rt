@@ -13,7 +13,7 @@ ghost use Rattle.export_steps.specs.declared.exports.StandingExport.{StandingExp
 ghost use Rattle.export_steps.specs.Standing.{state_at};
 ghost use Rattle.mdcache.specs.Core.{state_of as tree_state};
 ghost use Rattle.ranked_tree.specs.Ranked.{held_roots};
-ghost use Rattle.ranked_tree.specs.Subtrees.{KeepsRoots};
+ghost use Rattle.ranked_tree.specs.Subtrees.{AreRoots, KeepsAuthorities, KeepsHolders};
 ghost use Rattle.cluster_core.specs.Exporting.{CancelsExport, FreezesExport, PrepsExport, StartsExport};
 ghost use Rattle.cluster_core.specs.State.{core_of, held_roots as holders_of};
 ghost use Rattle.cluster_core.specs.Steps.{AtRank};
@@ -57,7 +57,9 @@ impl<S: Store + Drop> Cluster<S> {
     // The region of a started export freezes.
     pub(crate) fn freeze(&mut self, ino: Ino, frag: Frag) -> Result<Answer, Refusal>
         ensures frozen { (past : List Applied) → FreezesExport self.old self.new past past (ino, frag) result }
-        ensures kept { KeepsRoots self.old.state.tree self.new.state.tree self.old.state.roots self.new.state.roots self.old.state.exports self.new.state.exports }
+        ensures authorities { KeepsAuthorities self.old.state.tree self.new.state.tree self.old.state.roots self.new.state.roots }
+        ensures holders { KeepsHolders self.old.state.tree self.new.state.tree self.old.state.roots self.new.state.roots self.old.state.exports self.new.state.exports }
+        ensures valid { AreRoots self.old.state.tree self.old.state.roots → AreRoots self.new.state.tree self.new.state.roots }
         ensures caches { self.new.caches ≡ self.old.caches }
         ensures counted { self.new.faults ≡ self.old.faults + faults_told (result_err result) }
     {
@@ -132,7 +134,9 @@ fn freeze_at<S: Store + Drop>(
     frag: Frag,
 ) -> Result<Answer, Refusal>
     ensures frozen { (numbers : List Supply) (inboxes : Waiting) (sessions : Table) (past : List Applied) → FreezesExport (core_of tree.old.tree tree.old.subtrees.roots tree.old.exports numbers inboxes pins.now sessions) (core_of tree.new.tree tree.new.subtrees.roots tree.new.exports numbers inboxes pins.now sessions) past past (ino, frag) result }
-    ensures kept { KeepsRoots (tree_state tree.old.tree) (tree_state tree.new.tree) tree.old.subtrees.roots tree.new.subtrees.roots tree.old.exports tree.new.exports }
+    ensures authorities { KeepsAuthorities (tree_state tree.old.tree) (tree_state tree.new.tree) tree.old.subtrees.roots tree.new.subtrees.roots }
+    ensures holders { KeepsHolders (tree_state tree.old.tree) (tree_state tree.new.tree) tree.old.subtrees.roots tree.new.subtrees.roots tree.old.exports tree.new.exports }
+    ensures valid { AreRoots (tree_state tree.old.tree) tree.old.subtrees.roots → AreRoots (tree_state tree.new.tree) tree.new.subtrees.roots }
     ensures caches { tree.new.tree.caches ≡ tree.old.tree.caches }
     ensures counted { tree.new.tree.faults ≡ tree.old.tree.faults + faults_told (result_err result) }
 {

@@ -1,5 +1,5 @@
 -- What the steps of an export leave of a tree that is divided among ranks.
-use Rattle.std.proofs.Common.{◌≡◌, ◌<◌, ◌⊎◌, inl, inr, ℕ, length, Option, Some, None, Result, Ok, Err, refl, sym, ap, subst, ◌∙◌}
+use Rattle.std.proofs.Common.{◌≡◌, ◌<◌, ◌⊎◌, inl, inr, ℕ, length, Some, None, Result, Ok, Err, refl, sym, ap, subst, ◌∙◌}
 use Rattle.std.specs.Prelude.{◌≢◌, IsSome}
 use Rattle.std.specs.FinMap as map
 use Rattle.mds_types.specs.declared.ids.Rank.{Rank}
@@ -26,6 +26,7 @@ use Rattle.mdcache.proofs.CoreLaws.{keeps_place}
 use Rattle.ranked_tree.specs.declared.regions.Regions.{Regions}
 use Rattle.ranked_tree.specs.Exported.{EndsRegion, IsDivided, IsFrozenIn, StandSoundly, held_in}
 use Rattle.ranked_tree.specs.Held.{IsOwned}
+use Rattle.ranked_tree.specs.Ranked.{IsFrozenLeaf, Ranked}
 use Rattle.ranked_tree.specs.Subtrees.{AreRoots, KeepsAuthorities, Rules}
 use Rattle.ranked_tree.proofs.HeldLaws.{held_after}
 use Rattle.ranked_tree.proofs.StandLaws.{held_bound}
@@ -117,8 +118,14 @@ prep_divided core was new root result is divided placed =
 
 -- ---- Freeze
 
-module _ (old new : Core) (was now : Regions) (root : Leaf) (divided : IsDivided old was) (is : IsFreeze was.exports now.exports was.roots now.roots root) (live : IsLive old.homes old.covers root) (thawed : IsFrozenIn (state_of old) was root → ⊥)
-    (mine : Rules (state_of old) was.roots.roots root is.step.export.exporter) (ends : EndsRegion (state_of old) (state_of new) now.roots.roots root) where
+-- what Freeze asks of a leaf
+pub record MayFreeze (ranked : Ranked) (leaf : Leaf) : Type 0 where
+  pub live : IsLive ranked.tree.homes ranked.tree.covers leaf
+  pub thawed : IsFrozenLeaf ranked leaf → ⊥
+  pub mine : (export : StandingExport) → map.get ranked.exports leaf ≡ Some export → Rules (state_of ranked.tree) ranked.subtrees.roots leaf export.exporter
+
+module _ (old new : Core) (was now : Regions) (root : Leaf) (divided : IsDivided old was) (may : MayFreeze (record { tree = old; subtrees = was.roots; exports = was.exports }) root) (is : IsFreeze was.exports now.exports was.roots now.roots root)
+    (ends : EndsRegion (state_of old) (state_of new) now.roots.roots root) where
   homes_stay : new.homes ≡ old.homes
   homes_stay = ap (λ (s : TreeState). s.homes) ends.left
 
@@ -126,7 +133,7 @@ module _ (old new : Core) (was now : Regions) (root : Leaf) (divided : IsDivided
   covers_stay = ap (λ (s : TreeState). s.covers) ends.left
 
   soundly : FreezesSoundly was.exports now.exports was.roots.roots now.roots.roots old.homes old.covers root
-  soundly = freezes_soundly was.exports now.exports was.roots now.roots root is old.homes old.covers thawed mine
+  soundly = freezes_soundly was.exports now.exports was.roots now.roots root is old.homes old.covers may.thawed (may.mine is.step.export is.step.stood)
 
   root_here : map.get now.roots.roots root ≡ Some is.step.export.exporter
   root_here = ap (λ (r : Roots). map.get r root) is.roots ∙ get_put was.roots.roots root is.step.export.exporter
@@ -156,7 +163,7 @@ module _ (old new : Core) (was now : Regions) (root : Leaf) (divided : IsDivided
       top q some (inr apart) = subst IsSome (sym (root_beside q apart)) some
 
       alive : (q : Leaf) → IsSome (map.get now.roots.roots q) → (q ≡ root) ⊎ (q ≢ root) → IsLive old.homes old.covers q
-      alive q some (inl same) = subst (IsLive old.homes old.covers) (sym same) live
+      alive q some (inl same) = subst (IsLive old.homes old.covers) (sym same) may.live
       alive q some (inr apart) = divided.stand.valid.live q (subst IsSome (root_beside q apart) some)
 
   module _ (caches : new.caches ≡ old.caches) (sound : IsSoundCore new) (placed : ArePlaced now.exports now.roots) where

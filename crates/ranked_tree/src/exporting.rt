@@ -16,8 +16,8 @@ use mds_types::{Frag, Ino, Rank, Refusal};
 use objstore::Store;
 
 impl<S: Store + Drop> RankedTree<S> {
-    /// Start: records the exporter and the importer of a root's region, which are two ranks that there are, as `Exports::start`
-    /// does and refuses. The tree and the roots stay, and so does which rank holds each region.
+    /// Start: records the exporter and the importer of a root's region, which are two ranks that there are, as
+    /// `Exports::start` does and refuses. The tree and the roots stay, and so does which rank holds each region.
     pub fn start(
         &mut self,
         dir: Ino,
@@ -37,20 +37,9 @@ impl<S: Store + Drop> RankedTree<S> {
         self.regions.exports.start(dir, frag, exporter, importer)
     }
 
-    /// Prep: the importer gets to know the bounds of a frozen region, as `Exports::prep` does and refuses. The tree and the roots
-    /// stay, and so does which rank holds each region. Takes no memory.
-    pub fn prep(&mut self, dir: Ino, frag: Frag) -> Result<(), Refusal>
-        ensures prepared { Steps self.old.exports self.new.exports (dir, frag) state.Frozen state.Prepared result }
-        ensures tree { self.new.tree ≡ self.old.tree }
-        ensures roots { self.new.subtrees ≡ self.old.subtrees }
-        ensures holders { held_roots self.new ≡ held_roots self.old }
-    {
-        self.regions.exports.prep(dir, frag)
-    }
-
-    /// Freeze: a leaf of a started export, whose authority is the exporter and which isn't frozen, is a subtree root of the exporter, as
-    /// `Exports::freeze` makes it and refuses. Its region changes no more from now on: the jobs of its leaves end. No leaf gets another
-    /// authority, nor another rank that holds it.
+    /// Freeze: a leaf of a started export, whose authority is the exporter and which isn't frozen, is a subtree root of the
+    /// exporter, as `Exports::freeze` makes it and refuses. Its region changes no more from now on: the jobs of its leaves end.
+    /// No leaf gets another authority, nor another rank that holds it.
     pub fn freeze(&mut self, dir: Ino, frag: Frag) -> Result<(), Refusal>
         requires live { IsLive self.old.tree.homes self.old.tree.covers (dir, frag) }
         requires thawed { IsFrozenLeaf self.old (dir, frag) → ⊥ }
@@ -71,8 +60,19 @@ impl<S: Store + Drop> RankedTree<S> {
         Ok(())
     }
 
-    /// Cancel: an export that isn't sent yet is over, and its region thaws, as `Exports::cancel` does and refuses. The tree and the
+    /// Prep: the importer gets to know the bounds of a frozen region, as `Exports::prep` does and refuses. The tree and the
     /// roots stay, and so does which rank holds each region. Takes no memory.
+    pub fn prep(&mut self, dir: Ino, frag: Frag) -> Result<(), Refusal>
+        ensures prepared { Steps self.old.exports self.new.exports (dir, frag) state.Frozen state.Prepared result }
+        ensures tree { self.new.tree ≡ self.old.tree }
+        ensures roots { self.new.subtrees ≡ self.old.subtrees }
+        ensures holders { held_roots self.new ≡ held_roots self.old }
+    {
+        self.regions.exports.prep(dir, frag)
+    }
+
+    /// Cancel: an export that isn't sent yet is over, and its region thaws, as `Exports::cancel` does and refuses. The tree and
+    /// the roots stay, and so does which rank holds each region. Takes no memory.
     pub fn cancel(&mut self, dir: Ino, frag: Frag) -> Result<(), Refusal>
         ensures cancelled { Cancels self.old.exports self.new.exports self.old.subtrees self.new.subtrees (dir, frag) result }
         ensures tree { self.new.tree ≡ self.old.tree }

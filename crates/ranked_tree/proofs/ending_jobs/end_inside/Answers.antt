@@ -1,4 +1,4 @@
-use Rattle.std.proofs.Common.{rules, ◌≡◌, true, Some, inl, inr, refl, sym, subst, ◌∙◌}
+use Rattle.std.proofs.Common.{rules, ◌≡◌, Some, inl, inr, refl, sym}
 use Rattle.inode_table.specs.Dirs.{Covers, Homes}
 use Rattle.subtree_map.specs.Authority.{NearestRoot}
 use Rattle.ranked_tree.proofs.SubtreeLaws.{over}

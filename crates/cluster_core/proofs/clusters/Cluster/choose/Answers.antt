@@ -75,19 +75,17 @@ returns-in-Start g c = record {
 }
 
 pub returns-in-Freeze : goal.returns-in-Freeze
-returns-in-Freeze g c =
-    let kept = c.freeze.ensures.kept in
-    record {
-      stepped = rw c.in-Freeze.is (record {
-        does = c.freeze.ensures.frozen c.args.history.now.items;
-        authorities = kept.authorities;
-        holders = kept.holders;
-        ranks = ap (λ (k : CacheMap). length k.used) c.freeze.ensures.caches;
-        capacity = ap (λ (k : CacheMap). k.cap) c.freeze.ensures.caches;
-        counted = c.freeze.ensures.counted;
-      });
-      valid = kept.valid;
-    }
+returns-in-Freeze g c = record {
+  stepped = rw c.in-Freeze.is (record {
+    does = c.freeze.ensures.frozen c.args.history.now.items;
+    authorities = c.freeze.ensures.authorities;
+    holders = c.freeze.ensures.holders;
+    ranks = ap (λ (k : CacheMap). length k.used) c.freeze.ensures.caches;
+    capacity = ap (λ (k : CacheMap). k.cap) c.freeze.ensures.caches;
+    counted = c.freeze.ensures.counted;
+  });
+  valid = c.freeze.ensures.valid c.requires.1.subtrees;
+}
 
 pub returns-in-Prep : goal.returns-in-Prep
 returns-in-Prep g c = record {
