@@ -32,7 +32,7 @@ use Rattle.ranked_tree.proofs.HeldLaws.{held_after}
 use Rattle.ranked_tree.proofs.StandLaws.{held_bound}
 
 -- the ranks of each export have caches
-abbrev AreThere : ℕ → Standing → Type 0
+abbrev pub AreThere : ℕ → Standing → Type 0
 AreThere count exports = (root : Leaf) (export : StandingExport) → map.get exports root ≡ Some export → (export.exporter.0 < count) × (export.importer.0 < count)
 
 -- so it is still where one is put there
@@ -49,7 +49,7 @@ put_there count old new at put is its there root export stands = go (same_or_apa
     go (inr apart) = there root export (sym (get_beside old at put root apart) ∙ found)
 
 -- and where one is taken out
-taken_there : (count : ℕ) (old new : Standing) (at : Leaf) → new ≡ map.remove old at → AreThere count old → AreThere count new
+pub taken_there : (count : ℕ) (old new : Standing) (at : Leaf) → new ≡ map.remove old at → AreThere count old → AreThere count new
 taken_there count old new at is there root export stands = go (same_or_apart root at)
   where
     found : map.get (map.remove old at) root ≡ Some export

@@ -13,6 +13,7 @@ mod flushing;
 mod formatting;
 mod frags;
 mod holding;
+mod importing;
 mod inside;
 mod listing;
 mod mounting;
