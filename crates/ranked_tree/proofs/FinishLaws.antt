@@ -17,7 +17,7 @@ use Rattle.mdcache.specs.Core.{Core, state_of}
 use Rattle.ranked_tree.specs.declared.regions.Regions.{Regions}
 use Rattle.ranked_tree.specs.Exported.{IsDivided, held_in}
 use Rattle.ranked_tree.specs.Held.{IsOwned}
-use Rattle.ranked_tree.specs.Subtrees.{AreRoots}
+use Rattle.ranked_tree.specs.Subtrees.{AreRoots, KeepsOutside, Rules}
 use Rattle.ranked_tree.proofs.StepLaws.{taken_there}
 
 pub finish_holds : (old new : Standing) (was now : Subtrees) (root : Leaf) (result : Result (Unit {0}) Refusal) → Finishes old new was now root result → ArePlaced old was → holding new now.roots ≡ holding old was.roots
@@ -69,3 +69,8 @@ module _ (core : Core) (was now : Regions) (root : Leaf) (divided : IsDivided co
 pub finish_divided : (core : Core) (was now : Regions) (root : Leaf) (result : Result (Unit {0}) Refusal) → Finishes was.exports now.exports was.roots now.roots root result → IsDivided core was → ArePlaced now.exports now.roots → IsDivided core now
 finish_divided core was now root (Ok done) is divided placed = finished core was now root divided is placed
 finish_divided core was now root (Err reason) is divided placed = subst (IsDivided core) (λ i. record { roots = sym is.3 i; exports = sym is.2 i }) divided
+
+pub finish_others : (core : Core) (was now : Regions) (root : Leaf) (result : Result (Unit {0}) Refusal) → Finishes was.exports now.exports was.roots now.roots root result → ArePlaced was.exports was.roots
+    → KeepsOutside (Some root) (state_of core) (state_of core) was.roots.roots now.roots.roots
+finish_others core was now root (Ok done) is placed leaf rank stood stands outside rules = (finishes_soundly was.exports now.exports was.roots now.roots root is placed core.homes core.covers).others leaf rank outside rules
+finish_others core was now root (Err reason) is placed leaf rank stood stands outside rules = subst (λ (s : Subtrees). Rules (state_of core) s.roots leaf rank) (sym is.3) rules

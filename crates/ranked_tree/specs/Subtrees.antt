@@ -17,7 +17,7 @@ use Rattle.namespace_ops.specs.declared.plans.Spot.{Spot}
 use Rattle.namespace_ops.specs.Changes.{dentry_at}
 use Rattle.export_steps.specs.Holder.{holding}
 use Rattle.export_steps.specs.Standing.{Standing}
-use Rattle.subtree_map.specs.Authority.{HasAuthority, IsSubtrees, Leaf, Roots}
+use Rattle.subtree_map.specs.Authority.{HasAuthority, IsSubtrees, Leaf, NearestRoot, Roots}
 use Rattle.subtree_map.specs.Changes.{AreGone, is_inside}
 use Rattle.subtree_map.specs.Moves.{HasRoomToMove, IsSettled}
 use Rattle.mdcache.specs.State.{State as TreeState}
@@ -37,6 +37,12 @@ AreRoots tree roots = IsSubtrees roots tree.homes tree.covers
 -- each leaf that stood and still stands has the authority that it had
 abbrev pub KeepsAuthorities : (old new : TreeState) → (before after : Roots) → Type 0
 KeepsAuthorities old new before after = (leaf : Leaf) (rank : Rank) → IsLive old.homes old.covers leaf → IsLive new.homes new.covers leaf → Rules old before leaf rank → Rules new after leaf rank
+
+-- so do the leaves outside the region of a root, if one is named
+abbrev pub KeepsOutside : Option Leaf → (old new : TreeState) → (before after : Roots) → Type 0
+KeepsOutside None old new before after = KeepsAuthorities old new before after
+KeepsOutside (Some root) old new before after =
+    (leaf : Leaf) (rank : Rank) → IsLive old.homes old.covers leaf → IsLive new.homes new.covers leaf → (NearestRoot before old.homes old.covers leaf root → ⊥) → Rules old before leaf rank → Rules new after leaf rank
 
 -- no root is of a rank that none was of
 abbrev pub NoNewRank : (before after : Roots) → Type 0

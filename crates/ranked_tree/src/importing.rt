@@ -1,9 +1,9 @@
 //! The end of an export: the importer, which holds the region, is its authority.
-ghost use Rattle.std.specs.Prelude.{◌≡◌};
+ghost use Rattle.std.specs.Prelude.{◌≡◌, Some};
 ghost use Rattle.export_steps.specs.Standing.{Finishes};
 ghost use Rattle.mdcache.specs.Core.{state_of};
 ghost use Rattle.ranked_tree.specs.Ranked.{held_roots};
-ghost use Rattle.ranked_tree.specs.Subtrees.{AreRoots};
+ghost use Rattle.ranked_tree.specs.Subtrees.{AreRoots, KeepsOutside};
 
 use crate::ranked_tree::RankedTree;
 use mds_types::{Frag, Ino, Refusal};
@@ -16,6 +16,7 @@ impl<S: Store + Drop> RankedTree<S> {
         ensures finished { Finishes self.old.exports self.new.exports self.old.subtrees self.new.subtrees (dir, frag) result }
         ensures tree { self.new.tree ≡ self.old.tree }
         ensures holders { held_roots self.new ≡ held_roots self.old }
+        ensures others { KeepsOutside (Some (dir, frag)) (state_of self.old.tree) (state_of self.new.tree) self.old.subtrees.roots self.new.subtrees.roots }
         ensures valid { AreRoots (state_of self.new.tree) self.new.subtrees.roots }
     {
         self.regions

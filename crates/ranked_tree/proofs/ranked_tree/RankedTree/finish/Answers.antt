@@ -1,4 +1,4 @@
-use Rattle.ranked_tree.proofs.FinishLaws.{finish_divided, finish_holds}
+use Rattle.ranked_tree.proofs.FinishLaws.{finish_divided, finish_holds, finish_others}
 use Rattle.ranked_tree.proofs.ranked_tree.RankedTree.finish.Goals as goal
 
 pub finish-requires : goal.finish-requires
@@ -14,3 +14,7 @@ returns-clause-holders g c =
 
 pub returns-clause-valid : goal.returns-clause-valid
 returns-clause-valid g c = (invariant_of-self g c).stand.valid
+
+pub returns-clause-others : goal.returns-clause-others
+returns-clause-others g c =
+    rw (← c.self.view_is) (finish_others c.self.inside.tree c.self.inside.regions (record { roots = c.finish.new.subtrees; exports = c.finish.new.self }) (c.args.dir, c.args.frag) c.finish.result c.finish.ensures.outcome c.self.invariant.stand.placed)
