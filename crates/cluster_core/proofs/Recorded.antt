@@ -11,10 +11,10 @@ use Rattle.mdcache.specs.Commits.{Drops, Ends}
 use Rattle.mdcache.specs.Objects.{Purges, SavesTree}
 use Rattle.cluster_core.specs.declared.events.Answer.{Answer}
 use Rattle.cluster_core.specs.declared.events.Event.{Event}
-use Rattle.cluster_core.specs.declared.events.Event.TheVariants.{Arrive, Grant, Serve, Split, Merge, CommitBegin, CommitEnd, CommitDrop, CommitTree, Purge, Evict, Start, Freeze, Prep, Cancel}
+use Rattle.cluster_core.specs.declared.events.Event.TheVariants.{Arrive, Grant, Serve, Split, Merge, CommitBegin, CommitEnd, CommitDrop, CommitTree, Purge, Evict, Start, Freeze, Prep, Finish, Cancel}
 use Rattle.cluster_core.specs.State.{Core, State}
 use Rattle.cluster_core.specs.Grants.{GrantsFirst}
-use Rattle.cluster_core.specs.Exporting.{CancelsAt, Exports, Freezes, Preps, Starts}
+use Rattle.cluster_core.specs.Exporting.{CancelsAt, Exports, Finishes, Freezes, Preps, Starts}
 use Rattle.cluster_core.specs.Administers.{Administers, BeginsAt, EvictsOne, MergesLeaves, SplitsLeaf, nothing, told_job}
 use Rattle.cluster_core.specs.Steps.{ArrivesAt, Does, MayRefuse, Steps}
 use Rattle.cluster_core.specs.Runs.{AddsAtServe, Records}
@@ -67,6 +67,7 @@ adds_at_serve old new past now result (Start from dir f to) h =
     (λ w. at_rank old.state new.state past now (nat_lt to.0 (length old.state.inboxes)) result (state_stays old new) (λ d. exported old.state new.state past now old new (Starts old.state new.state from (dir, f) to) result d) w) h
 adds_at_serve old new past now result (Freeze dir f) h = exported old.state new.state past now old new (Freezes old.state new.state (dir, f)) result h
 adds_at_serve old new past now result (Prep dir f) h = exported old.state new.state past now old new (Preps old.state new.state (dir, f)) result h
+adds_at_serve old new past now result (Finish dir f) h = exported old.state new.state past now old new (Finishes old.state new.state (dir, f)) result h
 adds_at_serve old new past now result (Cancel dir f) h = exported old.state new.state past now old new (CancelsAt old.state new.state (dir, f)) result h
 
 -- what one step makes of the history

@@ -15,14 +15,14 @@ use Rattle.cluster_core.specs.declared.events.Answer.{Answer}
 use Rattle.cached_frag.specs.declared.jobs.Job.{Job as Begun}
 use Rattle.cluster_core.specs.declared.events.Answer.TheVariants.{Deferred, Forwarded, Job, Nothing, Reply}
 use Rattle.cluster_core.specs.declared.events.Event.{Event}
-use Rattle.cluster_core.specs.declared.events.Event.TheVariants.{Arrive, Grant, Serve, Split, Merge, CommitBegin, CommitEnd, CommitDrop, CommitTree, Purge, Evict, Start, Freeze, Prep, Cancel}
+use Rattle.cluster_core.specs.declared.events.Event.TheVariants.{Arrive, Grant, Serve, Split, Merge, CommitBegin, CommitEnd, CommitDrop, CommitTree, Purge, Evict, Start, Freeze, Prep, Finish, Cancel}
 use Rattle.cluster_core.specs.State.{Core, Kept, State}
 use Rattle.cluster_core.specs.Serve.{IsApplied, IsRepeated, IsLeft, ServesRequest, ServesInbox, entry_of}
 use Rattle.cluster_core.specs.Grants.{GrantsFirst}
 use Rattle.inboxes.specs.Inboxes.{first_waiting, waiting_at}
 use Rattle.mdcache.specs.Commits.{Drops, Ends}
 use Rattle.mdcache.specs.Objects.{Purges, SavesTree}
-use Rattle.cluster_core.specs.Exporting.{CancelsAt, Exports, Freezes, Preps, Starts}
+use Rattle.cluster_core.specs.Exporting.{CancelsAt, Exports, Finishes, Freezes, Preps, Starts}
 use Rattle.cluster_core.specs.Administers.{Administers, BeginsAt, EvictsOne, MergesLeaves, SplitsLeaf, nothing, told_job}
 use Rattle.cluster_core.specs.Steps.{ArrivesAt, Does, MayRefuse}
 use Rattle.cluster_core.specs.Sound.{IsSoundBook}
@@ -161,6 +161,7 @@ step_of old new past now result (Start from dir f to) h =
     (λ w. at_rank old.state new.state past now (nat_lt to.0 (length old.state.inboxes)) result (state_stays old new) (λ d. export_done old.state new.state past now old new refl refl (Starts old.state new.state from (dir, f) to) result d) w) h
 step_of old new past now result (Freeze dir f) h = export_done old.state new.state past now old new refl refl (Freezes old.state new.state (dir, f)) result h
 step_of old new past now result (Prep dir f) h = export_done old.state new.state past now old new refl refl (Preps old.state new.state (dir, f)) result h
+step_of old new past now result (Finish dir f) h = export_done old.state new.state past now old new refl refl (Finishes old.state new.state (dir, f)) result h
 step_of old new past now result (Cancel dir f) h = export_done old.state new.state past now old new refl refl (CancelsAt old.state new.state (dir, f)) result h
 
 -- what stands in a history stands in each that begins with it

@@ -12,10 +12,10 @@ use Rattle.inboxes.specs.declared.pins.Pin.{Pin}
 use Rattle.inboxes.specs.Inboxes.{Inboxes, first_waiting, waiting_at, with_waiting}
 use Rattle.cluster_core.specs.declared.events.Answer.{Answer}
 use Rattle.cluster_core.specs.declared.events.Event.{Event}
-use Rattle.cluster_core.specs.declared.events.Event.TheVariants.{Arrive, Grant, Serve, Split, Merge, CommitBegin, CommitEnd, CommitDrop, CommitTree, Purge, Evict, Start, Freeze, Prep, Cancel}
+use Rattle.cluster_core.specs.declared.events.Event.TheVariants.{Arrive, Grant, Serve, Split, Merge, CommitBegin, CommitEnd, CommitDrop, CommitTree, Purge, Evict, Start, Freeze, Prep, Finish, Cancel}
 use Rattle.mdcache.specs.Commits.{Drops, Ends}
 use Rattle.mdcache.specs.Objects.{Purges, SavesTree}
-use Rattle.cluster_core.specs.Exporting.{CancelsAt, Exports, Freezes, Preps, Starts}
+use Rattle.cluster_core.specs.Exporting.{CancelsAt, Exports, Finishes, Freezes, Preps, Starts}
 use Rattle.cluster_core.specs.Grants.{GrantsFirst}
 use Rattle.cluster_core.specs.Administers.{Administers, BeginsAt, EvictsOne, IsUnseen, MergesLeaves, SplitsLeaf, nothing, told_job}
 use Rattle.cluster_core.specs.State.{Core, State, shown}
@@ -117,4 +117,5 @@ module _ (opening : Tree) (past now : List Entry) (old new : Core) (sound : IsSo
       at_rank (nat_lt from.0 (length old.state.inboxes)) result (λ here w. at_rank (nat_lt to.0 (length old.state.inboxes)) result (λ there done. stepped (Starts old.state new.state from (dir, f) to) result done) w) h
   sound-step result (Freeze dir f) h = stepped (Freezes old.state new.state (dir, f)) result h
   sound-step result (Prep dir f) h = stepped (Preps old.state new.state (dir, f)) result h
+  sound-step result (Finish dir f) h = stepped (Finishes old.state new.state (dir, f)) result h
   sound-step result (Cancel dir f) h = stepped (CancelsAt old.state new.state (dir, f)) result h

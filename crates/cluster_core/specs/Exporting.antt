@@ -123,6 +123,25 @@ Preps old new leaf (Err reason) = Check why.WrongExportState (state_at old.expor
 abbrev pub PrepsExport : (old new : Core) → (past now : List Entry) → Leaf → Result Answer Refusal → Type 0
 PrepsExport old new past now leaf result = Exports old new past now (Preps old.state new.state leaf) result
 
+-- ---- Finish
+
+-- the importer of an imported region, which holds it, is its authority, and the export is over
+pub record IsFinish (old new : State) (leaf : Leaf) : Type 0 where
+  pub export : StandingExport
+  pub stood : map.get old.exports leaf ≡ Some export
+  pub imported : export.state ≡ state.Imported
+  pub ended : new.exports ≡ map.remove old.exports leaf
+  pub roots : new.roots ≡ map.insert old.roots leaf export.importer
+  pub tree : new.tree ≡ old.tree
+
+-- refused exactly where no imported export of this root stands
+abbrev pub Finishes : (old new : State) → Leaf → Result (Unit {0}) Refusal → Type 0
+Finishes old new leaf (Ok done) = IsFinish old new leaf
+Finishes old new leaf (Err reason) = Check why.WrongExportState (state_at old.exports leaf ≢ Some state.Imported) Never reason
+
+abbrev pub FinishesExport : (old new : Core) → (past now : List Entry) → Leaf → Result Answer Refusal → Type 0
+FinishesExport old new past now leaf result = Exports old new past now (Finishes old.state new.state leaf) result
+
 -- ---- Cancel
 
 -- the export of a root isn't sent yet

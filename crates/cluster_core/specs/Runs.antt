@@ -7,7 +7,7 @@ use Rattle.mds_types.specs.declared.refusals.Refusal.{Refusal}
 use Rattle.cluster_core.specs.declared.events.Answer.{Answer}
 use Rattle.cluster_core.specs.declared.events.Answer.TheVariants.{Deferred, Forwarded, Job, Nothing, Reply}
 use Rattle.cluster_core.specs.declared.events.Event.{Event}
-use Rattle.cluster_core.specs.declared.events.Event.TheVariants.{Arrive, Grant, Serve, Split, Merge, CommitBegin, CommitEnd, CommitDrop, CommitTree, Purge, Evict, Start, Freeze, Prep, Cancel}
+use Rattle.cluster_core.specs.declared.events.Event.TheVariants.{Arrive, Grant, Serve, Split, Merge, CommitBegin, CommitEnd, CommitDrop, CommitTree, Purge, Evict, Start, Freeze, Prep, Finish, Cancel}
 use Rattle.cluster_core.specs.Sound.{IsSoundBook}
 use Rattle.cluster_core.specs.State.{Kept}
 use Rattle.cluster_core.specs.Steps.{Steps}
@@ -70,6 +70,7 @@ AddsAtServe (Evict rank) past now = now ≡ past
 AddsAtServe (Start from dir f to) past now = now ≡ past
 AddsAtServe (Freeze dir f) past now = now ≡ past
 AddsAtServe (Prep dir f) past now = now ≡ past
+AddsAtServe (Finish dir f) past now = now ≡ past
 AddsAtServe (Cancel dir f) past now = now ≡ past
 
 -- what a step makes of the history: it adds to it alone, and a reply that it hands out stands there

@@ -1,5 +1,5 @@
 -- What each event does to a cluster and its history.
-use Rattle.std.specs.Prelude.{◌≡◌, ◌⊎◌, ◌+◌, ℕ, nat_lt, MatchBool, ◌<◌, List, length, Result, Ok, Err}
+use Rattle.std.specs.Prelude.{◌≡◌, ◌⊎◌, ◌+◌, ℕ, nat_lt, MatchBool, ◌<◌, List, length, Option, Some, None, Result, Ok, Err}
 use Rattle.std.specs.Result.{result_err}
 use Rattle.objstore.specs.Objects.{faults_told}
 use Rattle.mds_types.specs.declared.ids.Rank.{Rank}
@@ -14,16 +14,16 @@ use Rattle.mdcache.specs.Frags.{LacksFor}
 use Rattle.cluster_core.specs.declared.events.Answer.{Answer}
 use Rattle.cluster_core.specs.declared.events.Answer.TheVariants.{Nothing}
 use Rattle.cluster_core.specs.declared.events.Event.{Event}
-use Rattle.cluster_core.specs.declared.events.Event.TheVariants.{Arrive, Grant, Serve, Split, Merge, CommitBegin, CommitEnd, CommitDrop, CommitTree, Purge, Evict, Start, Freeze, Prep, Cancel}
+use Rattle.cluster_core.specs.declared.events.Event.TheVariants.{Arrive, Grant, Serve, Split, Merge, CommitBegin, CommitEnd, CommitDrop, CommitTree, Purge, Evict, Start, Freeze, Prep, Finish, Cancel}
 use Rattle.cluster_core.specs.Administers.{AsksNone, BeginsCommit, CommitsTree, DropsCommit, EndsCommit, EvictsFragment, Merges, PurgesObject, Splits}
-use Rattle.cluster_core.specs.Exporting.{CancelsExport, FreezesExport, PrepsExport, StartsExport}
+use Rattle.cluster_core.specs.Exporting.{CancelsExport, FinishesExport, FreezesExport, PrepsExport, StartsExport}
 use Rattle.inboxes.specs.Inboxes.{first_waiting, waiting_at, with_last}
 use Rattle.cluster_core.specs.Grants.{GrantsWaiting}
 use Rattle.cluster_core.specs.Master.{IsHolder}
 use Rattle.cluster_core.specs.State.{Core, LacksPlacesAt, State, held_roots, shown}
 use Rattle.cluster_core.specs.Serve.{IsLeft, ServesInbox}
 use Rattle.cluster_core.specs.Uses.{UsesFront, UsesWaiting}
-use Rattle.ranked_tree.specs.Subtrees.{KeepsAuthorities, KeepsHolders}
+use Rattle.ranked_tree.specs.Subtrees.{KeepsHolders, KeepsOutside}
 
 -- an arriving request goes to the back of the rank's inbox; refused InboxFull exactly where 1024 requests wait there
 abbrev pub ArrivesAt : (old new : State) → (past now : List Entry) → Rank → Request → Result Answer Refusal → Type 0
@@ -71,15 +71,35 @@ Does old new past now result Purge = PurgesObject old new past now result
 Does old new past now result (Start from dir f to) = AtRank old new past now from result (AtRank old new past now to result (StartsExport old new past now from (dir, f) to result))
 Does old new past now result (Freeze dir f) = FreezesExport old new past now (dir, f) result
 Does old new past now result (Prep dir f) = PrepsExport old new past now (dir, f) result
+Does old new past now result (Finish dir f) = FinishesExport old new past now (dir, f) result
 Does old new past now result (Cancel dir f) = CancelsExport old new past now (dir, f) result
 Does old new past now result (Evict rank) = AtRank old new past now rank result (EvictsFragment old new past now rank result)
 
--- one step: what its event does. Each leaf that stays keeps its authority and its holder, there are as many ranks, with as many places
--- each, and the store's count of faults rises by one where the event is refused by a fault, and not otherwise: so no fault
+-- the root whose region a step may give another authority: that of an export that ends
+abbrev pub handed_root : Event → Option Leaf
+handed_root (Arrive rank request) = None
+handed_root (Serve rank) = None
+handed_root (Grant rank client tid) = None
+handed_root (Split rank dir f nb) = None
+handed_root (Merge rank dir f) = None
+handed_root (CommitBegin rank dir f) = None
+handed_root (CommitEnd encoded) = None
+handed_root (CommitDrop number) = None
+handed_root (CommitTree dir) = None
+handed_root Purge = None
+handed_root (Evict rank) = None
+handed_root (Start from dir f to) = None
+handed_root (Freeze dir f) = None
+handed_root (Prep dir f) = None
+handed_root (Finish dir f) = Some (dir, f)
+handed_root (Cancel dir f) = None
+
+-- one step: what its event does. Each leaf that stays keeps its authority, but in a region that is handed on, and its holder; there are as many
+-- ranks, with as many places each, and the store's count of faults rises by one where the event is refused by a fault, and not otherwise: so no fault
 -- is hidden, tried again, or told as anything else
 pub record Steps (old new : Core) (past now : List Entry) (result : Result Answer Refusal) (event : Event) : Type 0 where
   pub does : Does old new past now result event
-  pub authorities : KeepsAuthorities old.state.tree new.state.tree old.state.roots new.state.roots
+  pub authorities : KeepsOutside (handed_root event) old.state.tree new.state.tree old.state.roots new.state.roots
   pub holders : KeepsHolders old.state.tree new.state.tree old.state.roots new.state.roots old.state.exports new.state.exports
   pub ranks : length new.caches.used ≡ length old.caches.used
   pub capacity : new.caches.cap ≡ old.caches.cap

@@ -75,6 +75,11 @@ pub enum Event {
         ino: Ino,
         frag: Frag,
     },
+    /// The importer of an imported region is its authority, and the export ends.
+    Finish {
+        ino: Ino,
+        frag: Frag,
+    },
     /// An export that isn't sent yet ends.
     Cancel {
         ino: Ino,
@@ -162,6 +167,10 @@ impl Event {
                 frag: *frag,
             }),
             Event::Prep { ino, frag } => Ok(Event::Prep {
+                ino: *ino,
+                frag: *frag,
+            }),
+            Event::Finish { ino, frag } => Ok(Event::Finish {
                 ino: *ino,
                 frag: *frag,
             }),

@@ -13,8 +13,8 @@ ghost use Rattle.export_steps.specs.declared.exports.StandingExport.{StandingExp
 ghost use Rattle.export_steps.specs.Standing.{state_at};
 ghost use Rattle.mdcache.specs.Core.{state_of as tree_state};
 ghost use Rattle.ranked_tree.specs.Ranked.{held_roots};
-ghost use Rattle.ranked_tree.specs.Subtrees.{AreRoots, KeepsAuthorities, KeepsHolders};
-ghost use Rattle.cluster_core.specs.Exporting.{CancelsExport, FreezesExport, PrepsExport, StartsExport};
+ghost use Rattle.ranked_tree.specs.Subtrees.{AreRoots, KeepsAuthorities, KeepsHolders, KeepsOutside};
+ghost use Rattle.cluster_core.specs.Exporting.{CancelsExport, FinishesExport, FreezesExport, PrepsExport, StartsExport};
 ghost use Rattle.cluster_core.specs.State.{core_of, held_roots as holders_of};
 ghost use Rattle.cluster_core.specs.Steps.{AtRank};
 
@@ -76,6 +76,20 @@ impl<S: Store + Drop> Cluster<S> {
         ensures counted { self.new.faults ≡ self.old.faults + faults_told (result_err result) }
     {
         self.tree.prep(ino, frag)?;
+        Ok(Answer::Nothing)
+    }
+
+    // The importer of an imported region is its authority, and the export ends.
+    pub(crate) fn finish(&mut self, ino: Ino, frag: Frag) -> Result<Answer, Refusal>
+        ensures finished { (past : List Applied) → FinishesExport self.old self.new past past (ino, frag) result }
+        ensures tree { self.new.state.tree ≡ self.old.state.tree }
+        ensures others { KeepsOutside (Some (ino, frag)) self.old.state.tree self.new.state.tree self.old.state.roots self.new.state.roots }
+        ensures holders { holders_of self.new.state ≡ holders_of self.old.state }
+        ensures valid { AreRoots self.new.state.tree self.new.state.roots }
+        ensures caches { self.new.caches ≡ self.old.caches }
+        ensures counted { self.new.faults ≡ self.old.faults + faults_told (result_err result) }
+    {
+        self.tree.finish(ino, frag)?;
         Ok(Answer::Nothing)
     }
 

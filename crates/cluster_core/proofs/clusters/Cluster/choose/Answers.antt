@@ -100,6 +100,19 @@ returns-in-Prep g c = record {
   valid = valid_still c.args.self.now c.prep.new.self c.prep.ensures.tree c.prep.ensures.roots c.requires.1.subtrees;
 }
 
+pub returns-in-Finish : goal.returns-in-Finish
+returns-in-Finish g c = record {
+  stepped = rw c.in-Finish.is (record {
+    does = c.finish.ensures.finished c.args.history.now.items;
+    authorities = c.finish.ensures.others;
+    holders = holders_stay c.args.self.now c.finish.new.self c.finish.ensures.tree c.finish.ensures.holders;
+    ranks = ap (λ (k : CacheMap). length k.used) c.finish.ensures.caches;
+    capacity = ap (λ (k : CacheMap). k.cap) c.finish.ensures.caches;
+    counted = c.finish.ensures.counted;
+  });
+  valid = c.finish.ensures.valid;
+}
+
 pub returns-in-Cancel : goal.returns-in-Cancel
 returns-in-Cancel g c = record {
   stepped = rw c.in-Cancel.is (record {
