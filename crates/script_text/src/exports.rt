@@ -97,10 +97,10 @@ fn export_step(verb: &[u8], args: &[u8]) -> Result<ExportCommand, ReadError>
 fn dir(args: &[u8]) -> Result<ExportCommand, ReadError>
     ensures { Reads (λ command. command) result (dir_of (words_of args.now)) }
 {
-    let (exporter, dir, root, importer) = four(args)?;
+    let (exporter, dir, leaf, importer) = four(args)?;
     let from = rank(exporter)?;
     let ino = ino(dir)?;
-    let frag = frag(root)?;
+    let frag = frag(leaf)?;
     let to = rank(importer)?;
     Ok(ExportCommand::Dir {
         from,
