@@ -15,7 +15,7 @@ use Rattle.cluster_core.specs.Flush.{AreExact, Flushes, IsColdTree}
 use Rattle.cluster_core.specs.Sound.{IsSoundBook}
 use Rattle.cluster_core.specs.State.{Kept}
 use Rattle.cluster_core.specs.declared.events.Answer.{Answer}
-use Rattle.cluster_core.specs.declared.events.Answer.TheVariants.{Deferred, Forwarded, Job, Nothing, Reply}
+use Rattle.cluster_core.specs.declared.events.Answer.TheVariants.{Deferred, Forwarded, Job, Nothing, Reply, Sent}
 use Rattle.cluster_core.specs.declared.events.Event.{Event}
 use Rattle.cluster_core.specs.declared.events.Event.TheVariants.{CommitBegin as BeginEvent, CommitEnd as EndEvent, CommitDrop as DropEvent, CommitTree as TreeEvent, Purge as PurgeEvent, Evict as EvictEvent}
 use Rattle.script_text.specs.declared.store_commands.StoreCommand.{StoreCommand}
@@ -37,6 +37,7 @@ number_in (Ok Nothing) = Ok None
 number_in (Ok (Reply client tid place first reply)) = Ok None
 number_in (Ok (Forwarded rank)) = Ok None
 number_in (Ok Deferred) = Ok None
+number_in (Ok (Sent bytes)) = Ok None
 number_in (Err refusal) = Err refusal
 
 -- the job is kept, by its number
@@ -46,6 +47,7 @@ with_begun jobs (Ok Nothing) = jobs
 with_begun jobs (Ok (Reply client tid place first reply)) = jobs
 with_begun jobs (Ok (Forwarded rank)) = jobs
 with_begun jobs (Ok Deferred) = jobs
+with_begun jobs (Ok (Sent bytes)) = jobs
 with_begun jobs (Err refusal) = jobs
 
 -- a commit of a leaf began, which gave a job of this number, or nothing, or was refused
@@ -53,6 +55,7 @@ pub record BeginsCommit (old new : Admin) (rank : Rank) (dir : Ino) (f : Fragmen
   pub result : Result Answer Refusal
   pub stepped : IsStep old.book new.book result (BeginEvent rank dir f)
   pub kept : new.jobs ≡ with_begun old.jobs result
+  pub sent : new.sent ≡ old.sent
   pub numbered : number ≡ number_in result
   pub count : new.operations ≡ old.operations
 
@@ -75,6 +78,7 @@ pub record EndsJob (old new : Admin) (number : ℕ) (event : Event) (line : Outp
   pub result : Result Answer Refusal
   pub stepped : IsStep old.book new.book result event
   pub jobs : new.jobs ≡ cond (is_over result) (map.remove old.jobs number) old.jobs
+  pub sent : new.sent ≡ old.sent
   pub count : new.operations ≡ old.operations
   pub shown : line ≡ shown_line result
 
@@ -106,6 +110,7 @@ pub record LosesJob (old new : Admin) (rank : Rank) (dir : Ino) (f : Fragment) :
   pub job : Begun
   pub stepped : IsStep old.book new.book (Ok (Job job)) (BeginEvent rank dir f)
   pub jobs : new.jobs ≡ old.jobs
+  pub sent : new.sent ≡ old.sent
   pub count : new.operations ≡ old.operations
 
 -- there was no memory to copy the kept job of a number; all is left
@@ -149,6 +154,7 @@ pub record FlushesLine (old new : Admin) (line : OutputLine) : Type 0 where
   pub count : new.operations ≡ old.operations
   pub result : Result (Unit {0}) Refusal
   pub jobs : new.jobs ≡ cond (is_hindered result) old.jobs map.empty
+  pub sent : new.sent ≡ old.sent
   pub flushed : IsFlush old.book new.book result
   pub shown : line ≡ flushed_line result
 
