@@ -19,6 +19,7 @@ pub mod PageSteps
 pub mod PairLaws
 pub mod PartLaws
 pub mod PartsLaws
+pub mod PlaceLaws
 pub mod ReadsLaws
 pub mod RoomLaws
 pub mod SplitLaws

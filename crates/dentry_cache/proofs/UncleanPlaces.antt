@@ -29,7 +29,7 @@ apart_from : (e : Leaf × Place) (es all : Places) → AllByRecursion (λ q. lea
 apart_from e [] all others found = tt
 apart_from e (d ∷ es) all (other, others) (one, found) = (ap (λ b. cond b (Some e.1) (lookup (leaf_is d.0) all)) (flips d.0 e.0 ∙ other) ∙ one, apart_from e es all others found)
 
-each_found : (es : Places) → IsDistinct leaf_is (keys_of es) → AllByRecursion (λ (d : Leaf × Place). lookup (leaf_is d.0) es ≡ Some d.1) es
+pub each_found : (es : Places) → IsDistinct leaf_is (keys_of es) → AllByRecursion (λ (d : Leaf × Place). lookup (leaf_is d.0) es ≡ Some d.1) es
 unfolding IsDistinct
 each_found [] distinct = tt
 each_found (e ∷ es) (others, distinct) = (ap (λ b. cond b (Some e.1) (lookup (leaf_is e.0) es)) (leaf_itself e.0), apart_from e es es others (each_found es distinct))

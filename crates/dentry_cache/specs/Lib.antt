@@ -11,6 +11,7 @@ pub mod Loading
 pub mod Pairs
 pub mod Parting
 pub mod Places
+pub mod PlacesByUse
 pub mod Reads
 pub mod Standing
 pub mod Ties

@@ -25,7 +25,9 @@ mod unclean;
 mod caches;
 mod ending;
 mod splits;
+mod walking;
 
 pub use caches::Caches;
 pub use loading::load;
 pub use parts::{Part, Parts};
+pub use walking::PlacesByUse;
