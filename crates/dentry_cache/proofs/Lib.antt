@@ -6,6 +6,7 @@ pub mod CountLaws
 pub mod EditLaws
 pub mod EndedLaws
 pub mod FrameLaws
+pub mod KeepingLaws
 pub mod KeptLaws
 pub mod LacksLaws
 pub mod LeafLaws
@@ -13,6 +14,7 @@ pub mod LoadLaws
 pub mod MapCalls
 pub mod MapLaws
 pub mod MapNew
+pub mod MoveLaws
 pub mod NameParts
 pub mod OneCache
 pub mod PageSteps

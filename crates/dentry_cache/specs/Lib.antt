@@ -7,6 +7,7 @@ pub mod Commits
 pub mod Divided
 pub mod Ended
 pub mod Fetches
+pub mod Handing
 pub mod Loading
 pub mod Pairs
 pub mod Parting

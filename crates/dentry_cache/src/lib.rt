@@ -24,6 +24,7 @@ mod unclean;
 // the caches of all ranks, each with the same number of places, as one map of fragments
 mod caches;
 mod ending;
+mod handing;
 mod splits;
 mod walking;
 
