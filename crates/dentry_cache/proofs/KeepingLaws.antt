@@ -15,7 +15,7 @@ use Rattle.dentry_cache.specs.Handing.{HaveNoPlace, and_kept, kept_all, without_
 use Rattle.dentry_cache.proofs.KeptLaws.{first_distinct, order_given_up, order_used, roomy_distinct}
 use Rattle.dentry_cache.proofs.LeafLaws.{flips, leaf_itself, one_leaf}
 use Rattle.dentry_cache.proofs.RoomLaws.{CanKeepOn, first_can, kept_left, room_left}
-use Rattle.dentry_cache.proofs.StepLaws.{by_room, any_less, get_beside, has_used, placed_roomy, ranks_given_up, ranks_roomy, ranks_used}
+use Rattle.dentry_cache.proofs.StepLaws.{by_room, any_less, get_beside, has_used, held_roomy, placed_roomy, ranks_given_up, ranks_roomy, ranks_used}
 use Rattle.dentry_cache.proofs.UncleanLaws.{unclean_alike, unclean_roomy}
 
 -- ---- lists of leaves
@@ -86,6 +86,14 @@ one_more c r leaf leaves new is = go (kept_all c r leaves) refl is
     go None kept is = let clash : None ≡ Some new = is in absurd cc
     go (Some before) kept is = then before kept (roomy before r None) refl is
 
+-- a leaf that a rank hasn't is where it was, where a place of the rank became free
+pub room_held : (r : ℕ) (q : Leaf) (before mid : CacheMap) → roomy before r None ≡ Some mid → here before r q ≡ None → finmap.get mid.held q ≡ finmap.get before.held q
+room_held r q before mid made none = by_room before mid r None made (λ (k : CacheMap). finmap.get k.held q ≡ finmap.get before.held q) refl (λ v passes. get_beside before r v q (apart v passes (leaf_is q v) refl))
+  where
+    apart : (v : Leaf) → goes before r None v ≡ true → (b : Bool) → leaf_is q v ≡ b → b ≡ false
+    apart v passes false one = refl
+    apart v passes true one = let clash : false ≡ true = ap (λ (o : Option Cached). clean_in o && true) (sym (sym (ap (here before r) (one_leaf q v one)) ∙ none)) ∙ passes in absurd cc
+
 module _ (c : CacheMap) (r : ℕ) where
   -- how a statement of the caches before and after is proved
   pub by_keeping : (Q : Leaf → Type 0) (P : CacheMap → Type 0) → P c → ((before mid : CacheMap) → roomy before r None ≡ Some mid → P before → P mid) → ((mid : CacheMap) (leaf : Leaf) → Q leaf → P mid → P (used_at mid r leaf))
@@ -109,16 +117,12 @@ module _ (c : CacheMap) (r : ℕ) where
 
     -- a leaf that the rank hasn't is where it was, as it was
     pub kept_held : (q : Leaf) → here c r q ≡ None → finmap.get new.held q ≡ finmap.get c.held q
-    kept_held q none = by_keeping (λ (leaf : Leaf). Unit {0}) (λ (k : CacheMap). finmap.get k.held q ≡ finmap.get c.held q) refl (λ before mid made so. room before mid made so) (λ mid leaf any so. so) leaves (any_leaves leaves) new kept
-      where
-        room : (before mid : CacheMap) → roomy before r None ≡ Some mid → finmap.get before.held q ≡ finmap.get c.held q → finmap.get mid.held q ≡ finmap.get c.held q
-        room before mid made so = by_room before mid r None made (λ (k : CacheMap). finmap.get k.held q ≡ finmap.get c.held q) so (λ v passes. get_beside before r v q (apart v passes (leaf_is q v) refl) ∙ so)
-          where
-            apart : (v : Leaf) → goes before r None v ≡ true → (b : Bool) → leaf_is q v ≡ b → b ≡ false
-            apart v passes false one = refl
-            apart v passes true one =
-                let clash : false ≡ true = ap (λ (o : Option Cached). clean_in o && true) (sym (sym (ap (here before r) (one_leaf q v one)) ∙ ap (at_rank r) so ∙ none)) ∙ passes in
-                absurd cc
+    kept_held q none = by_keeping (λ (leaf : Leaf). Unit {0}) (λ (k : CacheMap). finmap.get k.held q ≡ finmap.get c.held q) refl (λ before mid made so. room_held r q before mid made (ap (at_rank r) so ∙ none) ∙ so) (λ mid leaf any so. so) leaves (any_leaves leaves) new kept
+
+    -- each fragment was there before
+    pub kept_from : (q : Leaf) (a : At) → finmap.get new.held q ≡ Some a → finmap.get c.held q ≡ Some a
+    kept_from q a =
+        by_keeping (λ (leaf : Leaf). Unit {0}) (λ (k : CacheMap). finmap.get k.held q ≡ Some a → finmap.get c.held q ≡ Some a) (λ is. is) (λ before mid made so is. so (held_roomy before mid r None q a made is)) (λ mid leaf any so is. so is) leaves (any_leaves leaves) new kept
 
   module _ (there : r < length c.used) where
     -- its order has no leaf twice

@@ -1,19 +1,24 @@
 -- Fragments that go from the cache of one rank to that of another.
-use Rattle.std.specs.Prelude.{◌≡◌, ◌⊎◌, ℕ, ◌+◌, ◌<◌, true, false, List, [], ◌∷◌, drop, length, Option, Some, None}
+use Rattle.std.specs.Prelude.{◌≡◌, ◌⊎◌, ℕ, ◌+◌, ◌<◌, true, false, cond, List, [], ◌∷◌, drop, length, Option, Some, None}
 use Rattle.std.specs.Option.{option_map}
-use Rattle.std.specs.List.{AllByRecursion}
+use Rattle.std.specs.List.{AllByRecursion, list_any}
+use Rattle.std.specs.FinMap as map
 use Rattle.mds_types.specs.declared.refusals.Refusal.{Refusal}
 use Rattle.mds_types.specs.declared.refusals.Refusal.TheVariants.{NoMemory, NothingToEvict}
 use Rattle.cached_frag.specs.Cached.{Cached, imported}
-use Rattle.dentry_cache.specs.Cache.{Leaf}
+use Rattle.dentry_cache.specs.Cache.{Leaf, Unsaved, leaf_cmp, leaf_is}
 use Rattle.dentry_cache.specs.CacheCalls.{CanKeep, CanNotKeep, unclean_in}
-use Rattle.dentry_cache.specs.CacheMap.{CacheMap, given_up, has_place, here, roomy, used_at, with_frag}
+use Rattle.dentry_cache.specs.CacheMap.{CacheMap, clean_in, given_up, has_place, here, roomy, used_at, with_frag}
 
 -- ---- what is asked of the leaves
 
 -- a rank has each of these leaves' fragments, and it isn't clean
 abbrev pub AreUncleanAt : CacheMap → ℕ → List Leaf → Type 0
 AreUncleanAt c r leaves = AllByRecursion (λ (leaf : Leaf). unclean_in (here c r leaf) ≡ true) leaves
+
+-- it has each of these, and it is clean
+abbrev pub AreCleanAt : CacheMap → ℕ → List Leaf → Type 0
+AreCleanAt c r leaves = AllByRecursion (λ (leaf : Leaf). clean_in (here c r leaf) ≡ true) leaves
 
 -- none of these leaves has a place at a rank
 abbrev pub HaveNoPlace : CacheMap → ℕ → List Leaf → Type 0
@@ -70,3 +75,12 @@ abbrev pub MayNotHandOver : ℕ → List Leaf → (old new : CacheMap) → Refus
 MayNotHandOver to leaves old new reason =
     ((reason ≡ NothingToEvict) × CanNotKeep (length leaves) old to None × (new ≡ old))
     ⊎ ((reason ≡ NoMemory) × CanKeep (length leaves) old to None × WantsPlace to leaves old new)
+
+-- ---- what isn't clean
+
+-- what isn't clean of these leaves is of generation 0, and of any other as it was
+abbrev pub handed : List Leaf → Leaf → Option Unsaved → Option Unsaved
+handed leaves leaf u = cond (list_any (leaf_is leaf) leaves) (option_map (λ (v : Unsaved). record v { generation = 0 }) u) u
+
+abbrev pub AreHanded : List Leaf → (old new : map.FinMap leaf_cmp Unsaved) → Type 0
+AreHanded leaves old new = (leaf : Leaf) → map.get new leaf ≡ handed leaves leaf (map.get old leaf)

@@ -4,8 +4,8 @@ ghost use Rattle.std.specs.List.{AllByRecursion, IsDistinct};
 ghost use Rattle.mds_types.specs.declared.refusals.Refusal.TheVariants.{NoMemory};
 ghost use Rattle.mds_types.specs.Leaf.{leaf_is, leaf_of};
 ghost use Rattle.dentry_cache.specs.CacheCalls.{CanKeep, CanNotKeep};
-ghost use Rattle.dentry_cache.specs.CacheMap.{AreCaches, has_place};
-ghost use Rattle.dentry_cache.specs.Handing.{AreUncleanAt, HandsOver, HaveNoPlace, MayNotHandOver, WantsPlace, kept_all, moved, moved_all, without_all};
+ghost use Rattle.dentry_cache.specs.CacheMap.{AreCaches, has_place, unclean as unclean_leaves};
+ghost use Rattle.dentry_cache.specs.Handing.{AreCleanAt, AreHanded, AreUncleanAt, HandsOver, HaveNoPlace, MayNotHandOver, WantsPlace, kept_all, moved, moved_all, without_all};
 
 use crate::caches::Caches;
 use mds_types::{Dirfrag, Frag, Ino, Rank, Refusal};
@@ -35,6 +35,8 @@ impl Caches {
         requires once { IsDistinct leaf_is unclean.now }
         ensures handed { OnOk result (HandsOver from.0 to.0 unclean.now clean.now self.old self.new) }
         ensures refused { IfErr result (MayNotHandOver to.0 unclean.now self.old self.new) }
+        ensures unsaved { AreCleanAt self.old from.0 clean.now → OnOk result (AreHanded unclean.now (unclean_leaves self.old) (unclean_leaves self.new)) }
+        ensures left { OnErr result (unclean_leaves self.new ≡ unclean_leaves self.old) }
         ensures valid { AreCaches self.old }
     {
         if !self.has_room_for(to, unclean.len()) {
@@ -61,12 +63,7 @@ impl Caches {
     }
 
     // Keeps a place of a rank for each of these leaves. There are as many that are free or can become so.
-    fn keep_all(
-        &mut self,
-        alloc: Global,
-        rank: Rank,
-        leaves: &[(Ino, Frag)],
-    ) -> Result<(), Refusal>
+    fn keep_all(&mut self, alloc: Global, rank: Rank, leaves: &[(Ino, Frag)]) -> Result<(), Refusal>
         requires there { rank.0 < length self.old.used }
         requires absent { HaveNoPlace self.old rank.0 leaves.now }
         requires once { IsDistinct leaf_is leaves.now }
