@@ -128,9 +128,7 @@ given_right old new leaves sound jobless given =
 
 -- ---- the tree with its caches
 
-module _ (c : Core) (sound : IsSoundCore c) (from to : ℕ) (apart : from ≢ to) (there : from < length c.caches.used) (other : to < length c.caches.used) (leaves clean : List Leaf) (cached : AreUncleanAt c.caches from leaves) (caches : CacheMap) (valid : AreCaches c.caches) where
-  abbrev after : Core
-  after = record c { caches = caches }
+module _ (c : Core) (sound : IsSoundCore c) (from to : ℕ) (apart : from ≢ to) (there : from < length c.caches.used) (other : to < length c.caches.used) (leaves clean : List Leaf) (cached : AreUncleanAt c.caches from leaves) where
 
   -- a place that was kept
   abbrev Kept : ℕ → Leaf → Type 0
@@ -162,56 +160,106 @@ module _ (c : Core) (sound : IsSoundCore c) (from to : ℕ) (apart : from ≢ to
       none q dirty false seen = refl
       none q dirty true seen = absurd (on q dirty (whole_first to q seen))
 
-  module _ (each : (q : Leaf) (a : At) → map.get caches.held q ≡ Some a → IsFrom (map.get c.caches.held q) a) (whole : IsWholeBut Kept caches) where
-    still_none : (q : Leaf) → map.get c.caches.held q ≡ None → (o : Option At) → map.get caches.held q ≡ o → o ≡ None
-    still_none q none None seen = refl
-    still_none q none (Some a) seen = let f = each q a seen in let clash : None ≡ Some f.was = sym none ∙ f.held in absurd cc
+  module _ (caches : CacheMap) (valid : AreCaches c.caches) where
+    abbrev after : Core
+    after = record c { caches = caches }
 
-    cached_so : (q : Leaf) (a : At) → map.get caches.held q ≡ Some a → IsCachedIn (state_of c) q a.frag
-    cached_so q a seen = let f = each q a seen in go f.was.frag (sound.cached q f.was f.held) f.frag
-      where
-        go : (g : Cached) → IsCachedIn (state_of c) q g → (a.frag ≡ g) ⊎ (a.frag ≡ imported g) → IsCachedIn (state_of c) q a.frag
-        go g was (inl same) = subst (IsCachedIn (state_of c) q) (sym same) was
-        go g was (inr same) = subst (IsCachedIn (state_of c) q) (sym same) (record { live = was.live; tied = was.tied; made = sound.begun })
+    module _ (each : (q : Leaf) (a : At) → map.get caches.held q ≡ Some a → IsFrom (map.get c.caches.held q) a) (whole : IsWholeBut Kept caches) where
+      still_none : (q : Leaf) → map.get c.caches.held q ≡ None → (o : Option At) → map.get caches.held q ≡ o → o ≡ None
+      still_none q none None seen = refl
+      still_none q none (Some a) seen = let f = each q a seen in let clash : None ≡ Some f.was = sym none ∙ f.held in absurd cc
 
-    kept_so : KeepsOnlyAt c.kept caches
-    kept_so r q placed = go (whole r q placed)
-      where
-        go : IsThere (here caches r q) ⊎ Kept r q → IsThere (here caches r q) ⊎ ((map.get caches.held q ≡ None) × (c.kept ≡ Some (record { 0 = r }, q)))
-        go (inl is) = inl is
-        go (inr kept) = inr (still_none q kept.1 (map.get caches.held q) refl, kept.2)
+      cached_so : (q : Leaf) (a : At) → map.get caches.held q ≡ Some a → IsCachedIn (state_of c) q a.frag
+      cached_so q a seen = let f = each q a seen in go f.was.frag (sound.cached q f.was f.held) f.frag
+        where
+          go : (g : Cached) → IsCachedIn (state_of c) q g → (a.frag ≡ g) ⊎ (a.frag ≡ imported g) → IsCachedIn (state_of c) q a.frag
+          go g was (inl same) = subst (IsCachedIn (state_of c) q) (sym same) was
+          go g was (inr same) = subst (IsCachedIn (state_of c) q) (sym same) (record { live = was.live; tied = was.tied; made = sound.begun })
 
-    coming_so : KeepsComing c.homes caches
-    coming_so r q kept = go (whole r q kept.0)
-      where
-        go : IsThere (here caches r q) ⊎ Kept r q → is_known c.homes q.0.0 ≡ false
-        go (inl is) = absurd (subst IsThere (ap (at_rank r) kept.1) is)
-        go (inr was) = sound.coming r q (was.0, was.1)
+      kept_so : KeepsOnlyAt c.kept caches
+      kept_so r q placed = go (whole r q placed)
+        where
+          go : IsThere (here caches r q) ⊎ Kept r q → IsThere (here caches r q) ⊎ ((map.get caches.held q ≡ None) × (c.kept ≡ Some (record { 0 = r }, q)))
+          go (inl is) = inl is
+          go (inr kept) = inr (still_none q kept.1 (map.get caches.held q) refl, kept.2)
 
-    core_sound : IsSound (state_of after) → IsSoundCore after
-    core_sound state = record { sound = state; begun = sound.begun; cached = λ q a seen. let w = cached_so q a seen in record { live = w.live; tied = w.tied; made = w.made }; kept = kept_so; coming = coming_so }
+      coming_so : KeepsComing c.homes caches
+      coming_so r q kept = go (whole r q kept.0)
+        where
+          go : IsThere (here caches r q) ⊎ Kept r q → is_known c.homes q.0.0 ≡ false
+          go (inl is) = absurd (subst IsThere (ap (at_rank r) kept.1) is)
+          go (inr was) = sound.coming r q (was.0, was.1)
 
-  -- handed over
-  module _ (jobless : HaveNoJobs c.jobs leaves) (h : HandsOver from to leaves clean c.caches caches) (given : AreHanded leaves (unclean c.caches) (unclean caches)) where
-    pub handed_sound : IsSoundCore after
-    handed_sound = core_sound (handed_from from to apart leaves clean c.caches caches cached h) (whole_handed from to apart leaves clean c.caches caches cached h valid there other Kept whole_first) (sound_now (state_of c) (unclean caches) leaves sound.sound jobless given)
+      core_sound : IsSound (state_of after) → IsSoundCore after
+      core_sound state = record { sound = state; begun = sound.begun; cached = λ q a seen. let w = cached_so q a seen in record { live = w.live; tied = w.tied; made = w.made }; kept = kept_so; coming = coming_so }
 
-    pub handed_shown : shown_in after ≡ shown_in c
-    handed_shown = tree_now (state_of c) (unclean caches) leaves sound.sound jobless given
+    -- handed over
+    module _ (jobless : HaveNoJobs c.jobs leaves) (h : HandsOver from to leaves clean c.caches caches) (given : AreHanded leaves (unclean c.caches) (unclean caches)) where
+      pub handed_sound : IsSoundCore after
+      handed_sound = core_sound (handed_from from to apart leaves clean c.caches caches cached h) (whole_handed from to apart leaves clean c.caches caches cached h valid there other Kept whole_first) (sound_now (state_of c) (unclean caches) leaves sound.sound jobless given)
 
-    pub handed_given : IsGivenOver leaves (state_of c) (state_of after)
-    handed_given = record { unsaved = given; beside = refl }
+      pub handed_shown : shown_in after ≡ shown_in c
+      handed_shown = tree_now (state_of c) (unclean caches) leaves sound.sound jobless given
 
-  -- refused
-  module _ (left : unclean caches ≡ unclean c.caches) where
-    pub left_state : state_of after ≡ state_of c
-    left_state = λ i. record (state_of c) { unsaved = left i }
+      pub handed_given : IsGivenOver leaves (state_of c) (state_of after)
+      handed_given = record { unsaved = given; beside = refl }
 
-    pub left_shown : shown_in after ≡ shown_in c
-    left_shown = ap shown_tree left_state
+    -- refused
+    module _ (left : unclean caches ≡ unclean c.caches) where
+      pub left_state : state_of after ≡ state_of c
+      left_state = λ i. record (state_of c) { unsaved = left i }
 
-    pub left_sound : (reason : Refusal) → MayNotHandOver to leaves c.caches caches reason → IsSoundCore after
-    left_sound reason (inl none) = subst (λ (k : CacheMap). IsSoundCore (record c { caches = k })) (sym none.2) sound
-    left_sound reason (inr wants) =
-        core_sound (λ q a seen. record { was = a; held = wants_from from to apart leaves c.caches caches cached wants.2 q a seen; frag = inl refl }) (whole_wants from to apart leaves c.caches caches cached wants.2 valid other Kept whole_first)
-        (subst IsSound (sym left_state) sound.sound)
+      pub left_shown : shown_in after ≡ shown_in c
+      left_shown = ap shown_tree left_state
+
+      pub left_sound : (reason : Refusal) → MayNotHandOver to leaves c.caches caches reason → IsSoundCore after
+      left_sound reason (inl none) = subst (λ (k : CacheMap). IsSoundCore (record c { caches = k })) (sym none.2) sound
+      left_sound reason (inr wants) =
+          core_sound (λ q a seen. record { was = a; held = wants_from from to apart leaves c.caches caches cached wants.2 q a seen; frag = inl refl }) (whole_wants from to apart leaves c.caches caches cached wants.2 valid other Kept whole_first)
+          (subst IsSound (sym left_state) sound.sound)
+
+-- ---- a call
+
+module _ (old view : Core) (is : view ≡ old) (sound : IsSoundCore old) (from to : ℕ) (apart : from ≢ to) (there : from < length old.caches.used) (other : to < length old.caches.used) (leaves clean : List Leaf) (cached : AreUncleanAt old.caches from leaves) where
+  sound_view : IsSoundCore view
+  sound_view = subst IsSoundCore (sym is) sound
+
+  there_view : from < length view.caches.used
+  there_view = subst (λ (k : Core). from < length k.caches.used) (sym is) there
+
+  other_view : to < length view.caches.used
+  other_view = subst (λ (k : Core). to < length k.caches.used) (sym is) other
+
+  cached_view : AreUncleanAt view.caches from leaves
+  cached_view = subst (λ (k : Core). AreUncleanAt k.caches from leaves) (sym is) cached
+
+  -- the leaves have no places at the other rank
+  pub call_absent : HaveNoPlace view.caches to leaves
+  call_absent = no_places view sound_view from to apart there_view other_view leaves clean cached_view
+
+  module _ (caches : CacheMap) (valid : AreCaches view.caches) where
+    abbrev then : Core
+    then = record view { caches = caches }
+
+    module _ {A : Type 0} (saved : AreCleanAt old.caches from clean) (jobless : HaveNoJobs old.jobs leaves) where
+      jobless_view : HaveNoJobs view.jobs leaves
+      jobless_view = subst (λ (k : Core). HaveNoJobs k.jobs leaves) (sym is) jobless
+
+      saved_view : AreCleanAt view.caches from clean
+      saved_view = subst (λ (k : Core). AreCleanAt k.caches from clean) (sym is) saved
+
+      pub call_sound : (res : Result A Refusal) → OnOk res (HandsOver from to leaves clean view.caches caches) → IfErr res (MayNotHandOver to leaves view.caches caches) → (AreCleanAt view.caches from clean → OnOk res (AreHanded leaves (unclean view.caches) (unclean caches))) → OnErr res (unclean caches ≡ unclean view.caches) → IsSoundCore then
+      call_sound (Ok a) handed refused unsaved left = handed_sound view sound_view from to apart there_view other_view leaves clean cached_view caches valid jobless_view handed (unsaved saved_view)
+      call_sound (Err e) handed refused unsaved left = left_sound view sound_view from to apart there_view other_view leaves clean cached_view caches valid left e refused
+
+      pub call_shown : (res : Result A Refusal) → OnOk res (HandsOver from to leaves clean view.caches caches) → (AreCleanAt view.caches from clean → OnOk res (AreHanded leaves (unclean view.caches) (unclean caches))) → OnErr res (unclean caches ≡ unclean view.caches) → shown_in then ≡ shown_in old
+      call_shown (Ok a) handed unsaved left = handed_shown view sound_view from to apart there_view other_view leaves clean cached_view caches valid jobless_view handed (unsaved saved_view) ∙ ap shown_in is
+      call_shown (Err e) handed unsaved left = left_shown view sound_view from to apart there_view other_view leaves clean cached_view caches valid left ∙ ap shown_in is
+
+      pub call_given : (res : Result A Refusal) → OnOk res (HandsOver from to leaves clean view.caches caches) → (AreCleanAt view.caches from clean → OnOk res (AreHanded leaves (unclean view.caches) (unclean caches))) → OnOk res (IsGivenOver leaves (state_of old) (state_of then))
+      call_given (Ok a) handed unsaved = subst (λ (k : Core). IsGivenOver leaves (state_of k) (state_of then)) is (handed_given view sound_view from to apart there_view other_view leaves clean cached_view caches valid jobless_view handed (unsaved saved_view))
+      call_given (Err e) handed unsaved = tt
+
+    pub call_left : {A : Type 0} (res : Result A Refusal) → OnErr res (unclean caches ≡ unclean view.caches) → OnErr res (state_of then ≡ state_of old)
+    call_left (Ok a) left = tt
+    call_left (Err e) left = left_state view sound_view from to apart there_view other_view leaves clean cached_view caches valid left ∙ ap state_of is
