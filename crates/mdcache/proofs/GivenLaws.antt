@@ -8,6 +8,8 @@ use Rattle.mds_types.specs.declared.refusals.Refusal.{Refusal}
 use Rattle.mds_types.specs.Tree.{Tree}
 use Rattle.objstore.specs.Omap.{Omap}
 use Rattle.dirfrag_codec.specs.FragmentObject.{Names}
+use Rattle.cached_frag.specs.declared.bases.Base.{Base}
+use Rattle.cached_frag.specs.declared.bases.Base.TheVariants.{Fresh, Stored}
 use Rattle.cached_frag.specs.declared.jobs.Job.{Job}
 use Rattle.cached_frag.specs.Cached.{Cached, imported}
 use Rattle.dentry_cache.specs.Cache.{IsThere, Leaf, Unsaved, leaf_is}
@@ -16,7 +18,7 @@ use Rattle.dentry_cache.specs.CacheMap.{AreCaches, At, CacheMap, has_place, here
 use Rattle.dentry_cache.specs.CacheSplits.{IsKeptFor}
 use Rattle.dentry_cache.specs.Handing.{AreCleanAt, AreHanded, AreUncleanAt, HandsOver, HaveNoPlace, MayNotHandOver, WantsPlace, handed}
 use Rattle.dentry_cache.specs.Loading.{object_of}
-use Rattle.dentry_cache.specs.Ties.{IsTied, names_at}
+use Rattle.dentry_cache.specs.Ties.{IsTied, IsTiedAt}
 use Rattle.dentry_cache.proofs.HandedLaws.{IsFrom, IsWholeBut, handed_from, handed_unclean, wants_from, wants_unclean, whole_handed, whole_wants}
 use Rattle.dentry_cache.proofs.KeepingLaws.{all_from, all_of}
 use Rattle.dentry_cache.proofs.MoveLaws.{none_beside}
@@ -128,6 +130,15 @@ given_right old new leaves sound jobless given =
 
 -- ---- the tree with its caches
 
+-- a fragment that was taken over is tied as it was
+tied_imported : (g : Cached) (object : Option Omap) → IsTied g object → IsTied (imported g) object
+tied_imported g object is = go g.base object is
+  where
+    go : (b : Base) (o : Option Omap) → IsTiedAt b g o → IsTiedAt b (imported g) o
+    go Fresh o is = tt
+    go (Stored version) None is = absurd is
+    go (Stored version) (Some x) is = is
+
 module _ (c : Core) (sound : IsSoundCore c) (from to : ℕ) (apart : from ≢ to) (there : from < length c.caches.used) (other : to < length c.caches.used) (leaves clean : List Leaf) (cached : AreUncleanAt c.caches from leaves) where
 
   -- a place that was kept
@@ -174,7 +185,7 @@ module _ (c : Core) (sound : IsSoundCore c) (from to : ℕ) (apart : from ≢ to
         where
           go : (g : Cached) → IsCachedIn (state_of c) q g → (a.frag ≡ g) ⊎ (a.frag ≡ imported g) → IsCachedIn (state_of c) q a.frag
           go g was (inl same) = subst (IsCachedIn (state_of c) q) (sym same) was
-          go g was (inr same) = subst (IsCachedIn (state_of c) q) (sym same) (record { live = was.live; tied = was.tied; made = sound.begun })
+          go g was (inr same) = subst (IsCachedIn (state_of c) q) (sym same) (record { live = was.live; tied = tied_imported g (object_of c.objects q.0 q.1) was.tied; made = sound.begun })
 
       kept_so : KeepsOnlyAt c.kept caches
       kept_so r q placed = go (whole r q placed)
@@ -241,22 +252,22 @@ module _ (old view : Core) (is : view ≡ old) (sound : IsSoundCore old) (from t
     abbrev then : Core
     then = record view { caches = caches }
 
-    module _ {A : Type 0} (saved : AreCleanAt old.caches from clean) (jobless : HaveNoJobs old.jobs leaves) where
+    module _ (saved : AreCleanAt old.caches from clean) (jobless : HaveNoJobs old.jobs leaves) where
       jobless_view : HaveNoJobs view.jobs leaves
       jobless_view = subst (λ (k : Core). HaveNoJobs k.jobs leaves) (sym is) jobless
 
       saved_view : AreCleanAt view.caches from clean
       saved_view = subst (λ (k : Core). AreCleanAt k.caches from clean) (sym is) saved
 
-      pub call_sound : (res : Result A Refusal) → OnOk res (HandsOver from to leaves clean view.caches caches) → IfErr res (MayNotHandOver to leaves view.caches caches) → (AreCleanAt view.caches from clean → OnOk res (AreHanded leaves (unclean view.caches) (unclean caches))) → OnErr res (unclean caches ≡ unclean view.caches) → IsSoundCore then
+      pub call_sound : {A : Type 0} (res : Result A Refusal) → OnOk res (HandsOver from to leaves clean view.caches caches) → IfErr res (MayNotHandOver to leaves view.caches caches) → (AreCleanAt view.caches from clean → OnOk res (AreHanded leaves (unclean view.caches) (unclean caches))) → OnErr res (unclean caches ≡ unclean view.caches) → IsSoundCore then
       call_sound (Ok a) handed refused unsaved left = handed_sound view sound_view from to apart there_view other_view leaves clean cached_view caches valid jobless_view handed (unsaved saved_view)
       call_sound (Err e) handed refused unsaved left = left_sound view sound_view from to apart there_view other_view leaves clean cached_view caches valid left e refused
 
-      pub call_shown : (res : Result A Refusal) → OnOk res (HandsOver from to leaves clean view.caches caches) → (AreCleanAt view.caches from clean → OnOk res (AreHanded leaves (unclean view.caches) (unclean caches))) → OnErr res (unclean caches ≡ unclean view.caches) → shown_in then ≡ shown_in old
+      pub call_shown : {A : Type 0} (res : Result A Refusal) → OnOk res (HandsOver from to leaves clean view.caches caches) → (AreCleanAt view.caches from clean → OnOk res (AreHanded leaves (unclean view.caches) (unclean caches))) → OnErr res (unclean caches ≡ unclean view.caches) → shown_in then ≡ shown_in old
       call_shown (Ok a) handed unsaved left = handed_shown view sound_view from to apart there_view other_view leaves clean cached_view caches valid jobless_view handed (unsaved saved_view) ∙ ap shown_in is
       call_shown (Err e) handed unsaved left = left_shown view sound_view from to apart there_view other_view leaves clean cached_view caches valid left ∙ ap shown_in is
 
-      pub call_given : (res : Result A Refusal) → OnOk res (HandsOver from to leaves clean view.caches caches) → (AreCleanAt view.caches from clean → OnOk res (AreHanded leaves (unclean view.caches) (unclean caches))) → OnOk res (IsGivenOver leaves (state_of old) (state_of then))
+      pub call_given : {A : Type 0} (res : Result A Refusal) → OnOk res (HandsOver from to leaves clean view.caches caches) → (AreCleanAt view.caches from clean → OnOk res (AreHanded leaves (unclean view.caches) (unclean caches))) → OnOk res (IsGivenOver leaves (state_of old) (state_of then))
       call_given (Ok a) handed unsaved = subst (λ (k : Core). IsGivenOver leaves (state_of k) (state_of then)) is (handed_given view sound_view from to apart there_view other_view leaves clean cached_view caches valid jobless_view handed (unsaved saved_view))
       call_given (Err e) handed unsaved = tt
 

@@ -1,7 +1,11 @@
-use Rattle.std.proofs.Common.{subst, sym}
+use Rattle.std.proofs.Common.{OnOk, subst}
+use Rattle.dentry_cache.specs.Handing.{HandsOver}
 use Rattle.mdcache.specs.Core.{Core}
 use Rattle.mdcache.proofs.GivenLaws.{call_absent, call_given, call_left, call_shown, call_sound}
 use Rattle.mdcache.proofs.mdcache.MdCache.hand_over.Goals as goal
+
+pub returns-clause-handed : goal.returns-clause-handed
+returns-clause-handed g c = subst (λ (k : Core). OnOk c.hand_over.result (HandsOver c.args.from.0 c.args.to.0 c.args.unclean.now c.args.clean.now k.caches c.hand_over.new.self)) c.self.view_is c.hand_over.ensures.handed
 
 pub returns-clause-given : goal.returns-clause-given
 returns-clause-given g c =
