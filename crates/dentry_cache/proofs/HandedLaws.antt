@@ -1,21 +1,21 @@
 -- What holds once leaves were handed over from one rank to another, and where they weren't.
-use Rattle.std.proofs.Common.{◌≡◌, ◌≢◌, ℕ, zero, suc, ◌+◌, ◌<◌, Bool, true, false, cond, not, ◌&&◌, ◌||◌, ◌⊎◌, inl, inr, List, [], ◌∷◌, drop, length, is_some, option_map, Option, Some, None, refl, sym, ap, subst, ◌∙◌}
+use Rattle.std.proofs.Common.{◌≡◌, ◌≢◌, ℕ, zero, suc, ◌+◌, ◌<◌, Bool, true, false, cond, ◌&&◌, ◌||◌, ◌⊎◌, inl, inr, List, [], ◌∷◌, drop, length, option_map, Option, Some, None, refl, sym, ap, subst, ◌∙◌}
 use Rattle.std.specs.Prelude.{◌==◌}
 use Rattle.std.specs.List.{AllByRecursion, list_any}
 use Rattle.std.specs.FinMap as finmap
 use Rattle.std.proofs.lemmas.Option.{same_Some}
-use Rattle.sorted_map.proofs.NatKeys.{is_apart, is_same, same_or_apart}
+use Rattle.sorted_map.proofs.NatKeys.{is_apart, is_same}
 use Rattle.cached_frag.specs.Cached.{Cached, imported, is_clean}
 use Rattle.dentry_cache.specs.Cache.{IsThere, Leaf, Unsaved, leaf_is, unsaved_of}
 use Rattle.dentry_cache.specs.CacheCalls.{unclean_in}
-use Rattle.dentry_cache.specs.CacheMap.{AreCaches, At, CacheMap, at, at_rank, clean_in, given_up, goes, has_place, here, roomy, unclean, unsaved_at, used_at, with_frag}
+use Rattle.dentry_cache.specs.CacheMap.{AreCaches, At, CacheMap, at, at_rank, clean_in, given_up, has_place, here, roomy, unclean, unsaved_at, used_at, with_frag}
 use Rattle.dentry_cache.specs.Handing.{AreCleanAt, AreHanded, AreUncleanAt, HandsOver, WantsPlace, handed, kept_all, moved, moved_all, moved_as, without_all}
 use Rattle.dentry_cache.proofs.KeepingLaws.{all_from, all_of, by_keeping, kept_from, kept_held, kept_unclean, room_held}
 use Rattle.dentry_cache.proofs.LacksLaws.{IsPlaced, caches_placed, placed_by_end, placed_by_frag, placed_by_use}
-use Rattle.dentry_cache.proofs.LeafLaws.{leaf_itself, one_leaf}
-use Rattle.dentry_cache.proofs.MoveLaws.{all_left_at, all_moved_at, left_by, moved_none, moved_some, none_beside, none_left, ranks_moved, sent}
+use Rattle.dentry_cache.proofs.LeafLaws.{one_leaf}
+use Rattle.dentry_cache.proofs.MoveLaws.{all_left_at, all_moved_at, left_by, moved_none, moved_some, none_beside, none_left, sent}
 use Rattle.dentry_cache.proofs.ReadsLaws.{here_is}
-use Rattle.dentry_cache.proofs.StepLaws.{by_room, get_beside, has_given_up, held_roomy, here_given_up, here_put, here_with_frag, placed_used, ranks_given_up, ranks_roomy, ranks_used, ranks_with_frag}
+use Rattle.dentry_cache.proofs.StepLaws.{by_room, has_given_up, held_roomy, here_given_up, here_put, here_with_frag, placed_given_up, placed_roomy, placed_used, ranks_given_up, ranks_used, ranks_with_frag}
 use Rattle.dentry_cache.proofs.UncleanLaws.{get_unclean, unclean_alike, unclean_roomy}
 
 dirty_there : (o : Option Cached) → unclean_in o ≡ true → (f : Cached) × (o ≡ Some f)
@@ -96,32 +96,69 @@ module _ (from to : ℕ) (apart : from ≢ to) (leaves clean : List Leaf) (old n
 
   -- ---- each fragment was there before
 
-  pub handed_from : (q : Leaf) (a : At) → finmap.get new.held q ≡ Some a → IsFrom (finmap.get old.held q) a
-  handed_from q a is = in_went (left (list_any (leaf_is q) clean) (went q) (sym (held_is q) ∙ is))
+  left_some : (b : Bool) (o : Option At) (a : At) → cond b (left_by from o) o ≡ Some a → o ≡ Some a
+  left_some false o a is = is
+  left_some true None a is = let clash : None ≡ Some a = is in absurd cc
+  left_some true (Some x) a is = on (x.rank == from) is
     where
-      left : (b : Bool) (o : Option At) → cond b (left_by from o) o ≡ Some a → o ≡ Some a
-      left false o is = is
-      left true None is = let clash : None ≡ Some a = is in absurd cc
-      left true (Some x) is = on (x.rank == from) is
-        where
-          on : (b : Bool) → cond b None (Some x) ≡ Some a → Some x ≡ Some a
-          on true is = let clash : None ≡ Some a = is in absurd cc
-          on false is = is
+      on : (b : Bool) → cond b None (Some x) ≡ Some a → Some x ≡ Some a
+      on true is = let clash : None ≡ Some a = is in absurd cc
+      on false is = is
 
-      here_now : (o : Option At) → finmap.get mid.held q ≡ o → sent from to o ≡ Some a → IsFrom (finmap.get old.held q) a
-      here_now None seen is = let clash : None ≡ Some a = is in absurd cc
-      here_now (Some x) seen is = on (x.rank == from) is
-        where
-          on : (b : Bool) → cond b (Some (at to (imported x.frag))) (Some x) ≡ Some a → IsFrom (finmap.get old.held q) a
-          on true is = record { was = x; held = kept_from old to leaves mid h.1 q x seen; frag = inr (ap (λ (y : At). y.frag) (sym (same_Some (at to (imported x.frag)) a is))) }
-          on false is = record { was = x; held = kept_from old to leaves mid h.1 q x seen; frag = inl (ap (λ (y : At). y.frag) (sym (same_Some x a is))) }
+  -- a fragment that is there is at the other rank, if its leaf was handed over, and otherwise was there as it is
+  pub handed_where : (q : Leaf) (a : At) → finmap.get new.held q ≡ Some a → ((list_any (leaf_is q) leaves ≡ true) × (a.rank ≡ to)) ⊎ ((list_any (leaf_is q) leaves ≡ false) × (finmap.get old.held q ≡ Some a))
+  handed_where q a is = go (list_any (leaf_is q) leaves) refl
+    where
+      go : (b : Bool) → list_any (leaf_is q) leaves ≡ b → ((list_any (leaf_is q) leaves ≡ true) × (a.rank ≡ to)) ⊎ ((list_any (leaf_is q) leaves ≡ false) × (finmap.get old.held q ≡ Some a))
+      go true among =
+          let d = dirty_there (here old from q) (all_of (λ (l : Leaf). unclean_in (here old from l) ≡ true) q leaves cached among) in
+          inl (among, ap (λ (y : At). y.rank) (sym (same_Some (at to (imported d.0)) a (sym (handed_held q among d.0 d.1) ∙ is))))
+      go false among =
+          inr (among, kept_from old to leaves mid h.1 q a (ap (λ (b : Bool). cond b (sent from to (finmap.get mid.held q)) (finmap.get mid.held q)) (sym among) ∙ left_some (list_any (leaf_is q) clean) (went q) a (sym (held_is q) ∙ is)))
 
-      in_went : went q ≡ Some a → IsFrom (finmap.get old.held q) a
-      in_went is = go (list_any (leaf_is q) leaves) is
-        where
-          go : (b : Bool) → cond b (sent from to (finmap.get mid.held q)) (finmap.get mid.held q) ≡ Some a → IsFrom (finmap.get old.held q) a
-          go true is = here_now (finmap.get mid.held q) refl is
-          go false is = record { was = a; held = kept_from old to leaves mid h.1 q a is; frag = inl refl }
+  pub handed_from : (q : Leaf) (a : At) → finmap.get new.held q ≡ Some a → IsFrom (finmap.get old.held q) a
+  handed_from q a is = go (handed_where q a is)
+    where
+      go : ((list_any (leaf_is q) leaves ≡ true) × (a.rank ≡ to)) ⊎ ((list_any (leaf_is q) leaves ≡ false) × (finmap.get old.held q ≡ Some a)) → IsFrom (finmap.get old.held q) a
+      go (inr same) = record { was = a; held = same.1; frag = inl refl }
+      go (inl gone) =
+          let d = dirty_there (here old from q) (all_of (λ (l : Leaf). unclean_in (here old from l) ≡ true) q leaves cached gone.0) in
+          record { was = at from d.0; held = here_is from (finmap.get old.held q) d.0 d.1; frag = inr (ap (λ (y : At). y.frag) (sym (same_Some (at to (imported d.0)) a (sym (handed_held q gone.0 d.0 d.1) ∙ is)))) }
+
+  -- each place was there before, or is that of a leaf that was handed over
+  abbrev WasPlaced : CacheMap → Type 0
+  WasPlaced k = (r : ℕ) (q : Leaf) → has_place k r q ≡ true → (has_place old r q ≡ true) ⊎ ((r ≡ to) × (list_any (leaf_is q) leaves ≡ true))
+
+  use_placed : (k : CacheMap) (leaf : Leaf) → list_any (leaf_is leaf) leaves ≡ true → WasPlaced k → WasPlaced (used_at k to leaf)
+  use_placed k leaf named so r q is = go (placed_used k to leaf r q is)
+    where
+      go : (has_place k r q ≡ true) ⊎ ((r ≡ to) × (q ≡ leaf)) → (has_place old r q ≡ true) ⊎ ((r ≡ to) × (list_any (leaf_is q) leaves ≡ true))
+      go (inl before) = so r q before
+      go (inr same) = inr (same.0, subst (λ (l : Leaf). list_any (leaf_is l) leaves ≡ true) (sym same.1) named)
+
+  end_placed : (k : CacheMap) (r : ℕ) (leaf : Leaf) → WasPlaced k → WasPlaced (given_up k r leaf)
+  end_placed k r leaf so s q is = so s q (placed_given_up k r leaf s q is)
+
+  move_placed : (k : CacheMap) (leaf : Leaf) → list_any (leaf_is leaf) leaves ≡ true → WasPlaced k → WasPlaced (moved k from to leaf)
+  move_placed k leaf named so = go (here k from leaf)
+    where
+      go : (o : Option Cached) → WasPlaced (moved_as (given_up k from leaf) to leaf o)
+      go None = end_placed k from leaf so
+      go (Some f) = λ r q is. use_placed (given_up k from leaf) leaf named (end_placed k from leaf so) r q is
+
+  moves_placed : (k : CacheMap) → WasPlaced k → (ls : List Leaf) → AllByRecursion (λ (leaf : Leaf). list_any (leaf_is leaf) leaves ≡ true) ls → WasPlaced (moved_all k from to ls)
+  moves_placed k so [] named = so
+  moves_placed k so (leaf ∷ ls) named = move_placed (moved_all k from to ls) leaf named.0 (moves_placed k so ls named.1)
+
+  ends_placed : (k : CacheMap) → WasPlaced k → (ls : List Leaf) → WasPlaced (without_all k from ls)
+  ends_placed k so [] = so
+  ends_placed k so (leaf ∷ ls) = end_placed (without_all k from ls) from leaf (ends_placed k so ls)
+
+  pub handed_placed : WasPlaced new
+  handed_placed =
+      subst WasPlaced (sym h.2) (ends_placed (moved_all mid from to leaves) (moves_placed mid
+      (by_keeping old to (λ (leaf : Leaf). list_any (leaf_is leaf) leaves ≡ true) WasPlaced (λ r q is. inl is) (λ before then made so r q is. so r q (placed_roomy before then to None r q made is)) (λ then leaf named so. use_placed then leaf named so)
+      leaves (all_from (λ (leaf : Leaf). list_any (leaf_is leaf) leaves ≡ true) leaves (λ q among. among)) mid h.1) leaves (all_from (λ (leaf : Leaf). list_any (leaf_is leaf) leaves ≡ true) leaves (λ q among. among))) clean)
 
 -- ---- places in which there is a fragment
 

@@ -1,5 +1,5 @@
 -- Places that a rank keeps for several leaves, one after the other.
-use Rattle.std.proofs.Common.{◌≡◌, ◌≢◌, ℕ, zero, suc, ◌+◌, ◌-◌, ◌<◌, ◌≤◌, Bool, true, false, cond, not, ◌&&◌, ◌||◌, ◌⊎◌, inl, inr, List, [], ◌∷◌, drop, get_or, length, option_map, is_some, Option, Some, None, refl, sym, ap, subst, ◌∙◌, arith, drop-cons}
+use Rattle.std.proofs.Common.{◌≡◌, ℕ, zero, suc, ◌-◌, ◌<◌, ◌≤◌, Bool, true, false, cond, ◌&&◌, ◌||◌, inl, inr, List, [], ◌∷◌, drop, get_or, length, option_map, Option, Some, None, refl, sym, ap, subst, ◌∙◌, arith, drop-cons}
 use Rattle.std.specs.Prelude.{◌==◌}
 use Rattle.std.specs.List.{AllByRecursion, IsDistinct, list_any}
 use Rattle.std.specs.FinMap as finmap
@@ -8,12 +8,12 @@ use Rattle.std.proofs.lemmas.Map.Keys.{IsDistinct-head, IsDistinct-tail}
 use Rattle.std.proofs.lemmas.Option.{same_Some}
 use Rattle.sorted_map.proofs.NatKeys.{is_same}
 use Rattle.cached_frag.specs.Cached.{Cached}
-use Rattle.dentry_cache.specs.Cache.{Leaf, leaf_is, stays}
+use Rattle.dentry_cache.specs.Cache.{Leaf, leaf_is}
 use Rattle.dentry_cache.specs.CacheCalls.{CanKeep, KeepsAt, MakesRoomAt}
-use Rattle.dentry_cache.specs.CacheMap.{At, CacheMap, at_rank, clean_in, given_up, goes, has_place, here, order, roomy, unclean, used_at}
-use Rattle.dentry_cache.specs.Handing.{HaveNoPlace, and_kept, kept_all, without_all}
+use Rattle.dentry_cache.specs.CacheMap.{At, CacheMap, at_rank, clean_in, goes, has_place, here, order, roomy, unclean, used_at}
+use Rattle.dentry_cache.specs.Handing.{and_kept, kept_all, without_all}
 use Rattle.dentry_cache.proofs.KeptLaws.{first_distinct, order_given_up, order_used, roomy_distinct}
-use Rattle.dentry_cache.proofs.LeafLaws.{flips, leaf_itself, one_leaf}
+use Rattle.dentry_cache.proofs.LeafLaws.{leaf_itself, one_leaf}
 use Rattle.dentry_cache.proofs.RoomLaws.{CanKeepOn, first_can, kept_left, room_left}
 use Rattle.dentry_cache.proofs.StepLaws.{by_room, any_less, get_beside, has_used, held_roomy, placed_roomy, ranks_given_up, ranks_roomy, ranks_used}
 use Rattle.dentry_cache.proofs.UncleanLaws.{unclean_alike, unclean_roomy}

@@ -1,12 +1,12 @@
 -- The fragments that aren't clean, of one cache and of all.
-use Rattle.std.proofs.Common.{◌≡◌, ℕ, zero, suc, ◌+◌, ◌<◌, ◌≤◌, arith, append_assoc, length, Bool, true, false, cond, not, ◌&&◌, List, [], ◌∷◌, ◌++◌, take, drop, Option, Some, None, refl, sym, ap, subst, ◌∙◌}
+use Rattle.std.proofs.Common.{◌≡◌, ℕ, zero, suc, ◌+◌, ◌<◌, ◌≤◌, arith, append_assoc, length, Bool, true, false, cond, not, ◌&&◌, List, [], ◌∷◌, ◌++◌, take, drop, Option, Some, None, refl, sym, ap, ◌∙◌}
 use Rattle.std.specs.Prelude.{is_some}
 use Rattle.std.specs.List.{AllByRecursion, IsDistinct}
 use Rattle.std.specs.Map.{keys_of, lookup}
 use Rattle.std.proofs.lemmas.List.{drop_more}
 use Rattle.mds_types.specs.declared.ids.Rank.{Rank}
 use Rattle.mds_types.specs.declared.dirfrags.Dirfrag.{Dirfrag}
-use Rattle.cached_frag.specs.Cached.{Cached, is_clean}
+use Rattle.cached_frag.specs.Cached.{is_clean}
 use Rattle.dentry_cache.specs.Cache.{Leaf, Places, Unsaved, cached, fragment_in, leaf_is, unsaved_in}
 use Rattle.dentry_cache.specs.CacheMap.{CacheMap, here, order}
 use Rattle.dentry_cache.specs.Unclean.{is_unclean, unclean_among, unclean_from, unclean_in}

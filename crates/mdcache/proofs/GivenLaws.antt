@@ -1,9 +1,8 @@
 -- A state once leaves were handed over: sound, and of the same tree.
-use Rattle.std.proofs.Common.{◌≡◌, ◌≢◌, ℕ, ◌<◌, ◌≤◌, Bool, true, false, cond, ◌⊎◌, inl, inr, List, length, option_map, Option, Some, None, Result, Ok, Err, IfErr, OnErr, OnOk, refl, sym, ap, subst, ◌∙◌, arith}
-use Rattle.std.specs.List.{AllByRecursion, IsDistinct, list_any}
+use Rattle.std.proofs.Common.{◌≡◌, ◌≢◌, ℕ, ◌<◌, Bool, true, false, cond, ◌⊎◌, inl, inr, List, length, option_map, Option, Some, None, Result, Ok, Err, IfErr, OnErr, OnOk, refl, sym, ap, subst, ◌∙◌, arith}
+use Rattle.std.specs.List.{list_any}
 use Rattle.std.specs.FinMap as map
 use Rattle.std.proofs.lemmas.Option.{same_Some}
-use Rattle.mds_types.specs.declared.ids.Rank.{Rank}
 use Rattle.mds_types.specs.declared.refusals.Refusal.{Refusal}
 use Rattle.mds_types.specs.Tree.{Tree}
 use Rattle.objstore.specs.Omap.{Omap}
@@ -15,21 +14,19 @@ use Rattle.cached_frag.specs.Cached.{Cached, imported}
 use Rattle.dentry_cache.specs.Cache.{IsThere, Leaf, Unsaved, leaf_is}
 use Rattle.dentry_cache.specs.CacheCalls.{unclean_in}
 use Rattle.dentry_cache.specs.CacheMap.{AreCaches, At, CacheMap, has_place, here, at_rank, unclean}
-use Rattle.dentry_cache.specs.CacheSplits.{IsKeptFor}
-use Rattle.dentry_cache.specs.Handing.{AreCleanAt, AreHanded, AreUncleanAt, HandsOver, HaveNoPlace, MayNotHandOver, WantsPlace, handed}
+use Rattle.dentry_cache.specs.Handing.{AreCleanAt, AreHanded, AreUncleanAt, HandsOver, HaveNoPlace, MayNotHandOver, handed}
 use Rattle.dentry_cache.specs.Loading.{object_of}
 use Rattle.dentry_cache.specs.Ties.{IsTied, IsTiedAt}
-use Rattle.dentry_cache.proofs.HandedLaws.{IsFrom, IsWholeBut, handed_from, handed_unclean, wants_from, wants_unclean, whole_handed, whole_wants}
+use Rattle.dentry_cache.proofs.HandedLaws.{IsFrom, IsWholeBut, handed_from, wants_from, whole_handed, whole_wants}
 use Rattle.dentry_cache.proofs.KeepingLaws.{all_from, all_of}
 use Rattle.dentry_cache.proofs.MoveLaws.{none_beside}
-use Rattle.dentry_cache.proofs.ReadsLaws.{here_is}
 use Rattle.inode_table.specs.Dirs.{is_known}
 use Rattle.inode_table.specs.TreeTable.{IsTabled}
-use Rattle.mdcache.specs.Core.{AreCached, Core, IsCachedIn, IsSoundCore, shown_in, state_of}
+use Rattle.mdcache.specs.Core.{Core, IsCachedIn, IsSoundCore, shown_in, state_of}
 use Rattle.mdcache.specs.Given.{GivenOverIsRight, HaveNoJobs, IsGivenOver}
 use Rattle.mdcache.specs.Made.{IsUntouched}
 use Rattle.mdcache.specs.Ranks.{KeepsComing, KeepsOnlyAt}
-use Rattle.mdcache.specs.Shown.{names_of, shown_at, shown_tree, tree_of}
+use Rattle.mdcache.specs.Shown.{names_of, shown_at, shown_tree}
 use Rattle.mdcache.specs.Sound.{IsSound, IsStanding, IsUnsaved}
 use Rattle.mdcache.specs.State.{State, UnsavedLeaves}
 use Rattle.mdcache.proofs.TreeLaws.{tree_alike}
@@ -140,7 +137,6 @@ tied_imported g object is = go g.base object is
     go (Stored version) (Some x) is = is
 
 module _ (c : Core) (sound : IsSoundCore c) (from to : ℕ) (apart : from ≢ to) (there : from < length c.caches.used) (other : to < length c.caches.used) (leaves clean : List Leaf) (cached : AreUncleanAt c.caches from leaves) where
-
   -- a place that was kept
   abbrev Kept : ℕ → Leaf → Type 0
   Kept r q = (has_place c.caches r q ≡ true) × (map.get c.caches.held q ≡ None) × (c.kept ≡ Some (record { 0 = r }, q))

@@ -1,10 +1,7 @@
-use Rattle.std.proofs.Common.{◌≡◌, ◌-◌, ◌<◌, ◌∙◌, ℕ, List, drop, length, ap, subst, sym, arith}
+use Rattle.std.proofs.Common.{◌<◌, ◌∙◌, ℕ, drop, length, ap, subst, sym}
 use Rattle.mds_types.specs.declared.dirfrags.Dirfrag.{Dirfrag}
-use Rattle.mds_types.specs.Leaf.{leaf_of}
-use Rattle.dentry_cache.specs.Cache.{Leaf}
-use Rattle.dentry_cache.specs.CacheMap.{CacheMap, given_up}
-use Rattle.dentry_cache.specs.Handing.{without_all}
-use Rattle.dentry_cache.proofs.KeepingLaws.{ranks_without_all, this_drop}
+use Rattle.dentry_cache.specs.CacheMap.{CacheMap}
+use Rattle.dentry_cache.proofs.KeepingLaws.{ranks_without_all}
 use Rattle.dentry_cache.proofs.caches.Caches.forget_all.Goals as goal
 
 pub forget-requires : goal.forget-requires
