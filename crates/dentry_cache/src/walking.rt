@@ -1,7 +1,7 @@
 //! The places of a rank one by one.
-ghost use Rattle.std.specs.Prelude.{◌≡◌, ◌<◌, ◌∷◌, [], length, map, MatchOption, Some, option_copied};
+ghost use Rattle.std.specs.Prelude.{◌≡◌, ◌<◌, ◌≤◌, ◌∷◌, [], length, map, MatchOption, Some, option_copied};
 ghost use Rattle.dentry_cache.specs.Cache.{fragment_in};
-ghost use Rattle.dentry_cache.specs.CacheMap.{AreCaches};
+ghost use Rattle.dentry_cache.specs.CacheMap.{AreCaches, order};
 ghost use Rattle.dentry_cache.specs.PlacesByUse.{in_place, places_at};
 
 use crate::cache::{Cache, Place};
@@ -69,6 +69,7 @@ impl Caches {
     pub fn places_of(&self, rank: Rank) -> PlacesByUse<'_>
         requires { rank.0 < length self.now.used }
         ensures places { result ≡ places_at self.now rank.0 }
+        ensures few { length (order self.now rank.0) ≤ 65536 }
         ensures valid { AreCaches self.now }
     {
         self.caches[rank.0 as usize].places_by_use()

@@ -1,8 +1,8 @@
 //! The leaves of a region, as a rank caches them.
-ghost use Rattle.std.specs.Prelude.{◌≡◌, ◌↔◌, ◌<◌, length, IfOk, IsTrue};
+ghost use Rattle.std.specs.Prelude.{◌≡◌, ◌↔◌, ◌<◌, ◌≤◌, length, IfOk, IsTrue};
 ghost use Rattle.mds_types.specs.Leaf.{leaf_of};
 ghost use Rattle.subtree_map.specs.Authority.{NearestRoot};
-ghost use Rattle.dentry_cache.specs.CacheMap.{AreCaches};
+ghost use Rattle.dentry_cache.specs.CacheMap.{AreCaches, order};
 ghost use Rattle.export_regions.specs.Regions.{AreCachedOf, IsIn};
 
 use crate::leaves::RegionLeaves;
@@ -23,6 +23,7 @@ pub fn leaves_of(
 ) -> Result<RegionLeaves, AllocError>
     requires { root.rank.0 < length caches.now.used }
     ensures leaves { IfOk result (AreCachedOf (IsIn subtrees.now.roots dirs.now.homes dirs.now.trees (leaf_of root)) caches.now root.rank.0) }
+    ensures few { length (order caches.now root.rank.0) ≤ 65536 }
     ensures valid { AreCaches caches.now }
 {
     let mut leaves = RegionLeaves::new(alloc);

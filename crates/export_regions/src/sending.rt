@@ -31,7 +31,6 @@ pub fn export_of(
     importer: Rank,
 ) -> Result<Export, Refusal>
     requires there { root.rank.0 < length caches.now.used }
-    requires few { caches.now.cap ≤ 65536 }
     requires between { AreBetween root.rank importer }
     requires held { AreAtTheirRank (IsIn subtrees.now.roots dirs.now.homes dirs.now.trees (leaf_of root)) caches.now root.rank.0 }
     requires live { AreLive dirs.now.homes dirs.now.trees (unclean caches.now) }

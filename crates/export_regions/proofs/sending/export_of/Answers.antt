@@ -12,8 +12,7 @@ pub export-requires-clause-few : goal.export-requires-clause-few
 export-requires-clause-few c =
     let picked : length c.in_ok-leaves.leaves.unclean ≤ length (order c.args.caches.now c.args.root.rank.0) =
     few_picked (IsIn c.args.subtrees.now.roots c.args.dirs.now.homes c.args.dirs.now.trees (leaf_of c.args.root)) unclean_in c.args.caches.now c.args.root.rank.0 (order c.args.caches.now c.args.root.rank.0) c.in_ok-leaves.leaves.unclean c.in_ok-leaves.ensures.leaves.unclean in
-    let taken : length (order c.args.caches.now c.args.root.rank.0) ≤ c.args.caches.now.cap = c.leaves_of.ensures.valid.few c.args.root.rank.0 in
-    omega (arith, picked, taken, c.requires.few)
+    omega (arith, picked, c.leaves_of.ensures.few)
 
 pub export-requires-clause-may : goal.export-requires-clause-may
 export-requires-clause-may c =

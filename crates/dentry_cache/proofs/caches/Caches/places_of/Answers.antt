@@ -1,6 +1,6 @@
-use Rattle.std.proofs.Common.{map, sym, ap, ◌∙◌}
+use Rattle.std.proofs.Common.{◌≡◌, ◌≤◌, length, map, sym, ap, ◌∙◌, arith}
 use Rattle.dentry_cache.specs.Cache.{Leaf}
-use Rattle.dentry_cache.specs.CacheMap.{here}
+use Rattle.dentry_cache.specs.CacheMap.{CacheMap, here, order}
 use Rattle.dentry_cache.proofs.MapCalls.{all_caches, cached_is, keys_are, valid_at}
 use Rattle.dentry_cache.proofs.PlaceLaws.{places_are}
 use Rattle.dentry_cache.proofs.caches.Caches.places_of.Goals as goal
@@ -14,3 +14,9 @@ returns-clause-places c =
 
 pub returns-clause-valid : goal.returns-clause-valid
 returns-clause-valid c = all_caches c.self.inside.caches.items c.self.inside.places c.args.self.now c.self.view_is c.self.invariant
+
+pub returns-clause-few : goal.returns-clause-few
+returns-clause-few c =
+    let taken : length (order c.args.self.now c.args.rank.0) ≤ c.args.self.now.cap = (returns-clause-valid c).few c.args.rank.0 in
+    let cap : c.self.inside.places ≡ c.args.self.now.cap = ap (λ (k : CacheMap). k.cap) c.self.view_is in
+    omega (arith, taken, cap, c.self.invariant.most)
