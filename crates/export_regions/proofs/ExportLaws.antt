@@ -1,6 +1,6 @@
 -- What an export hands over of the leaves that were picked, and that it may be sent.
-use Rattle.std.proofs.Common.{◌≡◌, ℕ, zero, suc, ◌+◌, ◌<◌, ◌≤◌, ◌^◌, ◌⊎◌, inl, inr, Bool, true, false, cond, not, ◌&&◌, ◌||◌, List, [], ◌∷◌, length, map as list_map, nat_lt, option_map, Option, Some, None, is_some, refl, sym, ap, subst, ◌∙◌, arith}
-use Rattle.std.specs.Prelude.{T, ◌==◌}
+use Rattle.std.proofs.Common.{◌≡◌, ℕ, suc, ◌+◌, ◌<◌, ◌≤◌, ◌^◌, ◌⊎◌, inl, inr, Bool, true, false, cond, not, ◌&&◌, ◌||◌, List, [], ◌∷◌, length, nat_lt, option_map, Option, Some, None, is_some, refl, sym, ap, subst, ◌∙◌, arith}
+use Rattle.std.specs.Prelude.{T}
 use Rattle.std.specs.List.{AllByRecursion, list_all, list_any}
 use Rattle.std.specs.FinMap as map
 use Rattle.std.specs.FinMap.{entries_sorted, find, get-entries, is_sorted, len-empty, len-entries, len-insert, same_map}
@@ -16,16 +16,15 @@ use Rattle.sorted_map.proofs.Bools.{left_of, right_of}
 use Rattle.sorted_map.proofs.NatKeys.{is_apart}
 use Rattle.mds_types.specs.declared.dirfrags.Dirfrag.{Dirfrag}
 use Rattle.mds_types.specs.declared.ids.Rank.{Rank}
-use Rattle.mds_types.specs.Leaf.{Leaf, leaf_cmp, leaf_is, leaf_of}
+use Rattle.mds_types.specs.Leaf.{Leaf, leaf_cmp, leaf_is}
 use Rattle.mds_types.proofs.LeafLaws.{key_itself, leaf-exact, leaf-total, one_leaf, tied_apart, same_or_apart}
 use Rattle.dirfrag_codec.specs.Values.{is_fragment}
 use Rattle.cached_frag.specs.Cached.{Cached, is_clean}
 use Rattle.dentry_cache.specs.Cache.{HasCached, Unsaved}
 use Rattle.dentry_cache.specs.CacheCalls.{unclean_in}
-use Rattle.dentry_cache.specs.CacheMap.{AreCaches, At, CacheMap, IsFree, at_rank, here, order, tabulate, unclean, unsaved_at, with_some}
+use Rattle.dentry_cache.specs.CacheMap.{AreCaches, CacheMap, here, order, tabulate, unclean, with_some}
 use Rattle.dentry_cache.specs.PlacesByUse.{places_at}
 use Rattle.dentry_cache.proofs.MapLaws.{get_tabulate}
-use Rattle.dentry_cache.proofs.UncleanLaws.{get_unclean}
 use Rattle.export_bytes.specs.Export.{is_frag_before, is_sendable, is_sent_frag, rise}
 use Rattle.export_bytes.specs.declared.exports.Export.{Export}
 use Rattle.export_bytes.specs.declared.exports.SentFrag.{SentFrag}
@@ -34,7 +33,7 @@ use Rattle.export_regions.specs.Regions.{AreSent, IsExportOf, Picks, UncleanLeav
 use Rattle.export_regions.specs.Sending.{AreAtTheirRank, AreBetween, AreLive, IsExportFrom, MaySend, MaySendAll, gathered, sent_from}
 use Rattle.export_regions.proofs.PickLaws.{passing_picked, picked_passes}
 use Rattle.export_regions.proofs.RiseLaws.{IsOfLeaf, all_rise}
-use Rattle.export_regions.proofs.WhereLaws.{IsHere, here_of, unsaved_here, unsaved_so}
+use Rattle.export_regions.proofs.WhereLaws.{IsHere, here_of, unsaved_here}
 
 get_gathered : (c : CacheMap) (r : ℕ) (leaves : List Leaf) (q : Leaf) → map.get (gathered c r leaves) q ≡ cond (list_any (leaf_is q) leaves) (option_map (sent_from q) (here c r q)) None
 get_gathered c r leaves q = get_tabulate (λ (leaf : Leaf). option_map (sent_from leaf) (here c r leaf)) leaves q

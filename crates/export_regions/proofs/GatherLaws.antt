@@ -1,20 +1,19 @@
 -- Fragments gathered by their leaves.
-use Rattle.std.proofs.Common.{◌≡◌, ℕ, zero, suc, ◌+◌, ◌-◌, ◌<◌, ◌≤◌, Bool, true, false, cond, ◌&&◌, ◌||◌, List, [], ◌∷◌, ◌++◌, drop, get_or, length, map as list_map, Option, Some, None, is_some, refl, sym, ap, subst, ◌∙◌, arith, drop-cons, append_assoc}
-use Rattle.std.specs.Prelude.{T, IfSome}
+use Rattle.std.proofs.Common.{◌≡◌, ℕ, zero, suc, ◌-◌, ◌<◌, ◌≤◌, Bool, true, false, cond, List, [], ◌∷◌, ◌++◌, drop, get_or, length, map as list_map, Option, Some, None, refl, sym, ap, subst, ◌∙◌, arith, drop-cons, append_assoc}
 use Rattle.std.specs.Option.{option_map}
-use Rattle.std.specs.List.{AllByRecursion, list_all, list_any}
+use Rattle.std.specs.List.{AllByRecursion, list_all}
 use Rattle.std.specs.FinMap as map
-use Rattle.std.specs.FinMap.{entries_sorted, find, get-empty, get-entries, get-insert, get-remove, is_sorted, len-entries, len-empty, len-insert, same_entries_map}
+use Rattle.std.specs.FinMap.{find, get-empty, get-entries, get-insert, get-remove}
 use Rattle.std.specs.Prelude.{slice_get}
 use Rattle.std.specs.Ordering.{eq_by_cmp}
 use Rattle.std.proofs.lemmas.Bool.{and_from, and_parts}
 use Rattle.std.proofs.lemmas.List.{drop_all}
 use Rattle.std.proofs.lemmas.Option.{same_Some}
 use Rattle.mds_types.specs.Leaf.{Leaf, leaf_cmp, leaf_is}
-use Rattle.mds_types.proofs.LeafLaws.{key_itself, leaf-total, one_leaf, tied_leaf}
+use Rattle.mds_types.proofs.LeafLaws.{key_itself, leaf-total, tied_leaf}
 use Rattle.cached_frag.specs.Cached.{Cached}
 use Rattle.dentry_cache.specs.Cache.{HasCached}
-use Rattle.dentry_cache.specs.CacheMap.{CacheMap, here, tabulate, with_some}
+use Rattle.dentry_cache.specs.CacheMap.{CacheMap, here, with_some}
 use Rattle.export_bytes.specs.Export.{is_sent_frag}
 use Rattle.export_bytes.specs.declared.exports.SentFrag.{SentFrag}
 use Rattle.export_regions.specs.Regions.{values}

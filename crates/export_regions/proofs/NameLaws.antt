@@ -1,15 +1,13 @@
 -- Dirty names as they are sent: they rise, and each may be sent.
-use Rattle.std.proofs.Common.{◌≡◌, ℕ, ◌<◌, ◌^◌, Bool, true, false, cond, not, ◌&&◌, List, [], ◌∷◌, length, map as list_map, nat_lt, Option, Some, None, refl, sym, ap, subst, ◌∙◌, arith}
+use Rattle.std.proofs.Common.{◌≡◌, ℕ, ◌<◌, ◌^◌, Bool, true, false, ◌&&◌, List, [], ◌∷◌, length, map as list_map, nat_lt, Option, Some, None, refl, sym, ap, subst, ◌∙◌, arith}
 use Rattle.std.specs.Prelude.{IfSome, T, ◌==◌}
 use Rattle.std.specs.List.{AllByRecursion, list_all}
-use Rattle.std.specs.Ordering.{is_lt}
 use Rattle.std.specs.FinMap as map
 use Rattle.std.specs.FinMap.{entries_sorted, is_sorted, len-entries}
 use Rattle.std.proofs.lemmas.Bool.{and_from}
 use Rattle.std.proofs.lemmas.Bool.Decides.{nat_tests}
 use Rattle.std.proofs.lemmas.List.{length-map}
 use Rattle.sorted_map.proofs.Bools.{left_of, right_of}
-use Rattle.sorted_map.proofs.NatKeys.{is_apart}
 use Rattle.mds_types.specs.Leaf.{Leaf}
 use Rattle.mds_types.specs.declared.inodes.Inode.{Inode}
 use Rattle.objstore.specs.Omap.{key_cmp}
@@ -19,7 +17,7 @@ use Rattle.dirfrag_codec.proofs.ValueLaws.{name_decides, record_decides}
 use Rattle.cached_frag.specs.declared.bases.Base.{Base}
 use Rattle.cached_frag.specs.declared.bases.Base.TheVariants.{Fresh, Stored}
 use Rattle.cached_frag.specs.declared.marks.Mark.{Mark}
-use Rattle.cached_frag.specs.Cached.{Cached, is_clean, is_clean_over}
+use Rattle.cached_frag.specs.Cached.{Cached, is_clean_over}
 use Rattle.cached_frag.specs.Marks.{AreDirtyNames, IsDirtyName, Marks}
 use Rattle.cached_frag.proofs.MarkLaws.{all_dirty}
 use Rattle.export_bytes.specs.Export.{SentName, has_record, is_base_of, is_name_before, is_sent_frag, is_sent_name, rise}

@@ -1,17 +1,16 @@
 -- Fragments in the order of their leaves rise by inode and then by value, where no two leaves of a directory begin at one value.
-use Rattle.std.proofs.Common.{◌≡◌, ℕ, ◌<◌, ◌≤◌, ◌^◌, Bool, true, false, cond, ◌&&◌, ◌||◌, List, [], ◌∷◌, map as list_map, nat_lt, Option, Some, None, refl, sym, ap, subst, ◌∙◌, arith}
+use Rattle.std.proofs.Common.{◌≡◌, ℕ, ◌^◌, Bool, true, false, cond, ◌&&◌, ◌||◌, List, [], ◌∷◌, map as list_map, nat_lt, Some, None, refl, sym, ap, subst, ◌∙◌, arith}
 use Rattle.std.specs.Prelude.{T, ◌==◌}
 use Rattle.std.specs.List.{AllByRecursion}
 use Rattle.std.specs.declared.cmp.Ordering.{Ordering}
 use Rattle.std.specs.declared.cmp.Ordering.TheVariants.{Less, Equal, Greater}
 use Rattle.std.specs.Ordering.{is_lt, nat_cmp, ordering_then}
-use Rattle.std.specs.FinMap as map
 use Rattle.std.specs.FinMap.{is_sorted}
 use Rattle.std.proofs.lemmas.Bool.{and_from, eqb-true}
 use Rattle.std.proofs.lemmas.Bool.Decides.{nat_tests}
 use Rattle.sorted_map.proofs.Bools.{left_of, right_of}
 use Rattle.sorted_map.proofs.NatKeys.{is_same}
-use Rattle.mds_types.specs.Frag.{Contains, Fragment, IsFragment, frag_cmp}
+use Rattle.mds_types.specs.Frag.{Contains, Fragment, frag_cmp}
 use Rattle.mds_types.specs.Leaf.{Leaf, leaf_cmp}
 use Rattle.fragtree.specs.FragTree.{HasLeaf, IsTree}
 use Rattle.fragtree.proofs.Tilings.{between}

@@ -1,6 +1,6 @@
 -- Where what isn't clean of a region lies, and what of it can be sent.
-use Rattle.std.proofs.Common.{◌≡◌, ℕ, ◌<◌, ◌≤◌, ◌^◌, ◌⊎◌, inl, inr, Bool, true, false, cond, not, ◌&&◌, ◌||◌, List, [], ◌∷◌, length, map, nat_lt, is_some, Option, Some, None, refl, sym, ap, subst, ◌∙◌, arith}
-use Rattle.std.specs.Prelude.{◌==◌, ◌↔◌}
+use Rattle.std.proofs.Common.{◌≡◌, ℕ, ◌<◌, ◌≤◌, ◌^◌, inl, inr, Bool, true, false, cond, not, ◌&&◌, ◌||◌, List, [], ◌∷◌, map, nat_lt, is_some, Option, Some, None, refl, sym, ap, subst, ◌∙◌, arith}
+use Rattle.std.specs.Prelude.{◌↔◌}
 use Rattle.std.specs.List.{AllByRecursion, list_any}
 use Rattle.std.specs.FinMap as finmap
 use Rattle.std.proofs.lemmas.Bool.Decides.{nat_tests}
@@ -10,9 +10,9 @@ use Rattle.mds_types.specs.Leaf.{Leaf, leaf_is}
 use Rattle.mds_types.proofs.LeafLaws.{one_leaf}
 use Rattle.cached_frag.specs.Cached.{Cached, is_clean}
 use Rattle.cached_frag.specs.Snap.{is_fresh}
-use Rattle.dentry_cache.specs.Cache.{HasCached, Unsaved, unsaved_in}
+use Rattle.dentry_cache.specs.Cache.{HasCached, Unsaved}
 use Rattle.dentry_cache.specs.CacheCalls.{unclean_in}
-use Rattle.dentry_cache.specs.CacheMap.{AreCaches, At, CacheMap, IsFree, at, at_rank, here, order, unclean, unsaved_at}
+use Rattle.dentry_cache.specs.CacheMap.{AreCaches, At, CacheMap, IsFree, at_rank, here, order, unclean, unsaved_at}
 use Rattle.dentry_cache.specs.PlacesByUse.{places_at}
 use Rattle.dentry_cache.proofs.ReadsLaws.{here_is}
 use Rattle.dentry_cache.proofs.UncleanLaws.{get_unclean}

@@ -1,4 +1,4 @@
-use Rattle.std.proofs.Common.{◌≡◌, ◌-◌, ◌∷◌, drop, sym, ap, ◌∙◌, arith}
+use Rattle.std.proofs.Common.{◌-◌, ◌∷◌, drop, sym, ap, ◌∙◌, arith}
 use Rattle.mds_types.specs.Leaf.{Leaf, leaf_cmp}
 use Rattle.sorted_map.specs.SortedMap.{contents}
 use Rattle.export_regions.specs.Sending.{gathered}
