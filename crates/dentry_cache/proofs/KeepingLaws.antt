@@ -68,14 +68,14 @@ pub one_kept : (r : ℕ) (leaf : Leaf) (old new : CacheMap) → KeepsAt r leaf N
 one_kept r leaf old new k = ap (option_map (λ (mid : CacheMap). used_at mid r leaf)) k.1 ∙ ap Some (sym k.2)
 
 -- the caches before it, and those with the place free
-record IsOneMore (c : CacheMap) (r : ℕ) (leaf : Leaf) (leaves : List Leaf) (new : CacheMap) : Type 0 where
-  before : CacheMap
-  mid : CacheMap
-  kept : kept_all c r leaves ≡ Some before
-  room : roomy before r None ≡ Some mid
-  used : new ≡ used_at mid r leaf
+pub record IsOneMore (c : CacheMap) (r : ℕ) (leaf : Leaf) (leaves : List Leaf) (new : CacheMap) : Type 0 where
+  pub before : CacheMap
+  pub mid : CacheMap
+  pub kept : kept_all c r leaves ≡ Some before
+  pub room : roomy before r None ≡ Some mid
+  pub used : new ≡ used_at mid r leaf
 
-one_more : (c : CacheMap) (r : ℕ) (leaf : Leaf) (leaves : List Leaf) (new : CacheMap) → kept_all c r (leaf ∷ leaves) ≡ Some new → IsOneMore c r leaf leaves new
+pub one_more : (c : CacheMap) (r : ℕ) (leaf : Leaf) (leaves : List Leaf) (new : CacheMap) → kept_all c r (leaf ∷ leaves) ≡ Some new → IsOneMore c r leaf leaves new
 one_more c r leaf leaves new is = go (kept_all c r leaves) refl is
   where
     then : (before : CacheMap) → kept_all c r leaves ≡ Some before → (o : Option CacheMap) → roomy before r None ≡ o → option_map (λ (mid : CacheMap). used_at mid r leaf) o ≡ Some new → IsOneMore c r leaf leaves new

@@ -6,6 +6,7 @@ pub mod CountLaws
 pub mod EditLaws
 pub mod EndedLaws
 pub mod FrameLaws
+pub mod HandedCame
 pub mod HandedLaws
 pub mod KeepingLaws
 pub mod KeptLaws

@@ -4,7 +4,7 @@ use Rattle.std.specs.Option.{option_map}
 use Rattle.std.specs.FinMap as map
 use Rattle.mds_types.specs.declared.dirfrags.Dirfrag.{Dirfrag}
 use Rattle.mds_types.specs.declared.ids.Rank.{Rank}
-use Rattle.mds_types.specs.Leaf.{Leaf, leaf_cmp}
+use Rattle.mds_types.specs.Leaf.{Leaf, leaf_cmp, leaf_of}
 use Rattle.cached_frag.specs.Cached.{Cached}
 use Rattle.cached_frag.specs.Marks.{Marks}
 use Rattle.dentry_cache.specs.Cache.{Unsaved}
@@ -87,3 +87,9 @@ pub record HasTooMany (In : Leaf → Type 0) (unclean : UncleanLeaves) : Type 0 
   pub unsaved : Unsaved
   pub beside : map.get unclean leaf ≡ Some unsaved
   pub many : 2 ^ 32 ≤ map.len unsaved.dirty
+
+-- one export alone is that of a region
+abbrev pub HasOneExport : Type 0
+HasOneExport =
+    (roots : Roots) (homes : Homes) (covers : Covers) (unclean : UncleanLeaves) (root : Dirfrag) (to : Rank) (a b : Export)
+    → IsExportOf (IsIn roots homes covers (leaf_of root)) unclean root to a → IsExportOf (IsIn roots homes covers (leaf_of root)) unclean root to b → a ≡ b

@@ -3,6 +3,7 @@
 
 mod counts;
 mod gathering;
+pub mod laws;
 mod leaves;
 mod regions;
 mod sending;
