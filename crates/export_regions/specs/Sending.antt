@@ -1,10 +1,12 @@
 -- What holds of fragments that can be sent, and of where they lie.
-use Rattle.std.specs.Prelude.{◌≡◌, ◌≢◌, ℕ, ◌<◌, ◌^◌, true, false, is_some, List, Some}
+use Rattle.std.specs.Prelude.{◌≡◌, ◌≢◌, ◌⊎◌, ℕ, ◌<◌, ◌^◌, true, false, is_some, List, Some}
 use Rattle.std.specs.Option.{option_map}
 use Rattle.std.specs.List.{AllByRecursion}
 use Rattle.std.specs.FinMap as map
 use Rattle.mds_types.specs.declared.ids.Rank.{Rank}
 use Rattle.mds_types.specs.declared.dirfrags.Dirfrag.{Dirfrag}
+use Rattle.mds_types.specs.declared.refusals.Refusal.{Refusal}
+use Rattle.mds_types.specs.declared.refusals.Refusal.TheVariants.{NoMemory, TooManyFrags}
 use Rattle.mds_types.specs.Leaf.{Leaf, leaf_cmp}
 use Rattle.cached_frag.specs.declared.bases.Base.{Base}
 use Rattle.cached_frag.specs.declared.bases.Base.TheVariants.{Fresh, Stored}
@@ -15,7 +17,7 @@ use Rattle.export_bytes.specs.declared.exports.Export.{Export}
 use Rattle.export_bytes.specs.declared.exports.SentFrag.{SentFrag}
 use Rattle.export_bytes.specs.Export.{is_sent_frag}
 use Rattle.inode_table.specs.Dirs.{Covers, Homes, IsLive}
-use Rattle.export_regions.specs.Regions.{UncleanLeaves, sent_of, values}
+use Rattle.export_regions.specs.Regions.{HasTooMany, UncleanLeaves, sent_of, values}
 
 -- two ranks of 16
 pub record AreBetween (from to : Rank) : Type 0 where
@@ -78,3 +80,7 @@ pub record IsExportFrom (c : CacheMap) (leaves : List Leaf) (root : Dirfrag) (to
   pub exporter : export.exporter ≡ root.rank
   pub importer : export.importer ≡ to
   pub frags : export.frags ≡ values (gathered c root.rank.0 leaves)
+
+-- why a region isn't sent: a fragment of it has too many dirty names, or, where none has, want of memory
+abbrev pub MayNotSend : (Leaf → Type 0) → UncleanLeaves → Refusal → Type 0
+MayNotSend In m reason = ((reason ≡ TooManyFrags) × HasTooMany In m) ⊎ ((reason ≡ NoMemory) × (HasTooMany In m → ⊥))

@@ -1,11 +1,10 @@
 //! The value of an export: what isn't clean of a region.
-ghost use Rattle.std.specs.Prelude.{◌≡◌, ◌<◌, ◌≤◌, ◌⊎◌, ◌↔◌, true, length, IfErr, IfOk, IsTrue, OnOk};
-ghost use Rattle.mds_types.specs.declared.refusals.Refusal.TheVariants.{NoMemory, TooManyFrags};
+ghost use Rattle.std.specs.Prelude.{◌≡◌, ◌<◌, ◌≤◌, true, length, IfErr, IfOk, OnOk};
 ghost use Rattle.mds_types.specs.Leaf.{leaf_of};
 ghost use Rattle.dentry_cache.specs.CacheMap.{unclean};
 ghost use Rattle.export_bytes.specs.Export.{is_sendable};
 ghost use Rattle.export_regions.specs.Regions.{HasTooMany, IsExportOf, IsIn};
-ghost use Rattle.export_regions.specs.Sending.{AreAtTheirRank, AreBetween, AreLive, HaveVersions, IsExportFrom, MaySendAll};
+ghost use Rattle.export_regions.specs.Sending.{AreAtTheirRank, AreBetween, AreLive, HaveVersions, IsExportFrom, MayNotSend, MaySendAll};
 
 use crate::counts::has_too_many;
 use crate::gathering::{knows_leaf, sent_frags};
@@ -38,7 +37,7 @@ pub fn export_of(
     ensures sent { IfOk result (IsExportOf (IsIn subtrees.now.roots dirs.now.homes dirs.now.trees (leaf_of root)) (unclean caches.now) root importer) }
     ensures sendable { IfOk result (λ export. is_sendable export ≡ true) }
     ensures counted { OnOk result (HasTooMany (IsIn subtrees.now.roots dirs.now.homes dirs.now.trees (leaf_of root)) (unclean caches.now) → ⊥) }
-    ensures refused { IfErr result (λ reason. ((reason ≡ TooManyFrags) × HasTooMany (IsIn subtrees.now.roots dirs.now.homes dirs.now.trees (leaf_of root)) (unclean caches.now)) ⊎ ((reason ≡ NoMemory) × (HasTooMany (IsIn subtrees.now.roots dirs.now.homes dirs.now.trees (leaf_of root)) (unclean caches.now) → ⊥))) }
+    ensures refused { IfErr result (MayNotSend (IsIn subtrees.now.roots dirs.now.homes dirs.now.trees (leaf_of root)) (unclean caches.now)) }
 {
     if has_too_many(caches, subtrees, dirs, root) {
         return Err(Refusal::TooManyFrags);
