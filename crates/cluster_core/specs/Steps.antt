@@ -14,9 +14,9 @@ use Rattle.mdcache.specs.Frags.{LacksFor}
 use Rattle.cluster_core.specs.declared.events.Answer.{Answer}
 use Rattle.cluster_core.specs.declared.events.Answer.TheVariants.{Nothing}
 use Rattle.cluster_core.specs.declared.events.Event.{Event}
-use Rattle.cluster_core.specs.declared.events.Event.TheVariants.{Arrive, Grant, Serve, Split, Merge, CommitBegin, CommitEnd, CommitDrop, CommitTree, Purge, Evict, Start, Prep, Cancel}
+use Rattle.cluster_core.specs.declared.events.Event.TheVariants.{Arrive, Grant, Serve, Split, Merge, CommitBegin, CommitEnd, CommitDrop, CommitTree, Purge, Evict, Start, Prep, Send, Cancel}
 use Rattle.cluster_core.specs.Administers.{AsksNone, BeginsCommit, CommitsTree, DropsCommit, EndsCommit, EvictsFragment, Merges, PurgesObject, Splits}
-use Rattle.cluster_core.specs.Exporting.{CancelsExport, PrepsExport, StartsExport}
+use Rattle.cluster_core.specs.Exporting.{CancelsExport, PrepsExport, SendsExport, StartsExport}
 use Rattle.inboxes.specs.Inboxes.{first_waiting, waiting_at, with_last}
 use Rattle.cluster_core.specs.Grants.{GrantsWaiting}
 use Rattle.cluster_core.specs.Master.{IsHolder}
@@ -70,6 +70,7 @@ Does old new past now result (CommitTree dir) = CommitsTree old new past now dir
 Does old new past now result Purge = PurgesObject old new past now result
 Does old new past now result (Start from dir f to) = AtRank old new past now from result (AtRank old new past now to result (StartsExport old new past now from (dir, f) to result))
 Does old new past now result (Prep dir f) = PrepsExport old new past now (dir, f) result
+Does old new past now result (Send dir f) = SendsExport old new past now (dir, f) result
 Does old new past now result (Cancel dir f) = CancelsExport old new past now (dir, f) result
 Does old new past now result (Evict rank) = AtRank old new past now rank result (EvictsFragment old new past now rank result)
 

@@ -155,6 +155,7 @@ impl<S: Store + Drop> Cluster<S> {
                 to,
             } => self.start(from, ino, frag, to),
             Event::Prep { ino, frag } => self.prep(ino, frag),
+            Event::Send { ino, frag } => self.send(alloc, ino, frag),
             Event::Cancel { ino, frag } => self.cancel(ino, frag),
         }
     }
