@@ -1,8 +1,7 @@
 -- What a step of an export leaves where the tree and the roots stay: whose each leaf is, and which rank holds it.
-use Rattle.std.proofs.Common.{◌≡◌, ◌≤◌, ◌<◌, ℕ, zero, suc, List, length, ap, ◌∙◌, arith}
+use Rattle.std.proofs.Common.{◌≡◌, ◌≤◌, ◌<◌, ℕ, zero, suc, List, length, arith}
 use Rattle.mds_types.specs.declared.entries.Entry.{Entry}
 use Rattle.mds_types.specs.Tree.{Tree}
-use Rattle.mdcache.specs.State.{State as TreeState}
 use Rattle.cluster_core.specs.Sound.{IsSound}
 use Rattle.cluster_core.specs.State.{Core, held_roots}
 use Rattle.ranked_tree.specs.Subtrees.{AreRoots, KeepsAuthorities, KeepsHolders}

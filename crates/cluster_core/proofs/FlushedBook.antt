@@ -1,5 +1,5 @@
 -- A flush leaves a sound book.
-use Rattle.std.proofs.Common.{◌≡◌, ℕ, zero, suc, ◌<◌, ◌≤◌, List, length, refl, ap, ◌∙◌, arith}
+use Rattle.std.proofs.Common.{◌≡◌, ℕ, zero, suc, ◌<◌, ◌≤◌, List, length, refl, ap, arith}
 use Rattle.std.specs.FinMap as map
 use Rattle.export_steps.specs.Standing.{Standing}
 use Rattle.inboxes.specs.declared.pins.Pin.{Pin}

@@ -1,5 +1,4 @@
 -- A flush leaves a sound book.
-use Rattle.std.proofs.Common.{refl}
 use Rattle.cluster_core.proofs.FlushedBook.{flushed_sound}
 use Rattle.cluster_core.proofs.flushing.flush.Goals as goal
 

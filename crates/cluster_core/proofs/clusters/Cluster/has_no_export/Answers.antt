@@ -1,7 +1,6 @@
 use Rattle.std.proofs.Common.{◌≡◌, sym, ap, ◌∙◌, eqb-true, eq-eqb}
 use Rattle.std.specs.FinMap as map
 use Rattle.std.specs.FinMap.{empty_of_len, len-empty}
-use Rattle.export_steps.specs.Standing.{Standing}
 use Rattle.cluster_core.specs.State.{Core}
 use Rattle.cluster_core.proofs.clusters.Cluster.has_no_export.Goals as goal
 
