@@ -15,7 +15,7 @@ use Rattle.cluster_core.specs.Flush.{AreExact, Flushes, IsColdTree}
 use Rattle.cluster_core.specs.Sound.{IsSoundBook}
 use Rattle.cluster_core.specs.State.{Kept}
 use Rattle.cluster_core.specs.declared.events.Answer.{Answer}
-use Rattle.cluster_core.specs.declared.events.Answer.TheVariants.{Deferred, Forwarded, Job, Nothing, Reply}
+use Rattle.cluster_core.specs.declared.events.Answer.TheVariants.{Deferred, Forwarded, Job, Nothing, Reply, Sent}
 use Rattle.cluster_core.specs.declared.events.Event.{Event}
 use Rattle.cluster_core.specs.declared.events.Event.TheVariants.{CommitBegin as BeginEvent, CommitEnd as EndEvent, CommitDrop as DropEvent, CommitTree as TreeEvent, Purge as PurgeEvent, Evict as EvictEvent}
 use Rattle.script_text.specs.declared.store_commands.StoreCommand.{StoreCommand}
@@ -35,6 +35,7 @@ abbrev pub number_in : Result Answer Refusal → Result (Option ℕ) Refusal
 number_in (Ok (Job job)) = Ok (Some job.number)
 number_in (Ok Nothing) = Ok None
 number_in (Ok (Reply client tid place first reply)) = Ok None
+number_in (Ok (Sent bytes)) = Ok None
 number_in (Ok (Forwarded rank)) = Ok None
 number_in (Ok Deferred) = Ok None
 number_in (Err refusal) = Err refusal
@@ -44,6 +45,7 @@ abbrev pub with_begun : Jobs → Result Answer Refusal → Jobs
 with_begun jobs (Ok (Job job)) = map.insert jobs job.number job
 with_begun jobs (Ok Nothing) = jobs
 with_begun jobs (Ok (Reply client tid place first reply)) = jobs
+with_begun jobs (Ok (Sent bytes)) = jobs
 with_begun jobs (Ok (Forwarded rank)) = jobs
 with_begun jobs (Ok Deferred) = jobs
 with_begun jobs (Err refusal) = jobs

@@ -223,6 +223,7 @@ pub(crate) fn shown_line(came: Result<Answer, Refusal>) -> OutputLine
             first,
             reply,
         },
+        Ok(Answer::Sent(bytes)) => OutputLine::Sent(bytes.as_slice().len() as u64),
         Ok(Answer::Forwarded(rank)) => OutputLine::Forwarded(rank),
         Ok(Answer::Deferred) => OutputLine::Deferred,
         Err(refusal) => OutputLine::Refused(refusal),

@@ -68,6 +68,7 @@ impl Admin {
             }
             Ok(Answer::Nothing) => Ok(Ok(None)),
             Ok(Answer::Reply { .. }) => Ok(Ok(None)),
+            Ok(Answer::Sent(_)) => Ok(Ok(None)),
             Ok(Answer::Forwarded(_)) => Ok(Ok(None)),
             Ok(Answer::Deferred) => Ok(Ok(None)),
             Err(refusal) => Ok(Err(refusal)),

@@ -29,6 +29,7 @@ pub fn fixed_text(line: &OutputLine) -> Option<&'static str>
         OutputLine::Object(_) => None,
         OutputLine::Objects(_) => None,
         OutputLine::History(_) => None,
+        OutputLine::Sent(_) => None,
         OutputLine::Errno(_) => None,
     }
 }

@@ -51,6 +51,8 @@ pub enum OutputLine {
     Objects(WordList),
     /// `history LENGTH`: how many entries the history has.
     History(u64),
+    /// `sent LENGTH`: a region was sent, in so many bytes.
+    Sent(u64),
     /// `refused N`: a step was refused; `refused 17 OBJECT`, where an object is damaged.
     Refused(Refusal),
     /// `errno N`: a name or a target outside its rules, of which no request was made.
@@ -111,6 +113,7 @@ impl OutputLine {
                 push_text(out, format!(in alloc; "{names}\n"))
             }
             OutputLine::History(length) => push_text(out, format!(in alloc; "history {length}\n")),
+            OutputLine::Sent(length) => push_text(out, format!(in alloc; "sent {length}\n")),
             OutputLine::Refused(refusal) => {
                 let number = refusal.number();
                 let object = DamagedText(*refusal);
