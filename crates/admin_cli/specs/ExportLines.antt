@@ -18,7 +18,7 @@ use Rattle.admin_cli.specs.StepLines.{Does, IsStep, shown_line}
 
 -- what was sent is kept under its root, in place of what was kept there
 abbrev pub with_sent : SentBytes → Leaf → Result Answer Refusal → SentBytes
-with_sent sent root (Ok (Sent bytes)) = map.insert sent root bytes.items
+with_sent sent root (Ok (Sent bytes)) = map.insert sent root bytes
 with_sent sent root (Ok Nothing) = sent
 with_sent sent root (Ok (Job job)) = sent
 with_sent sent root (Ok (Reply client tid place first reply)) = sent

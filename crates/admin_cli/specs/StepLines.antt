@@ -22,7 +22,7 @@ pub record IsStep (old new : Kept) (result : Result Answer Refusal) (event : Eve
 abbrev pub shown_line : Result Answer Refusal → OutputLine
 shown_line (Ok Nothing) = NothingLine
 shown_line (Ok (Job job)) = JobLine job.number
-shown_line (Ok (Sent bytes)) = SentLine (length bytes.items)
+shown_line (Ok (Sent bytes)) = SentLine (length bytes)
 shown_line (Ok (Reply client tid place first reply)) = ReplyLine client tid place first reply
 shown_line (Ok (Forwarded rank)) = ForwardedLine rank
 shown_line (Ok Deferred) = DeferredLine

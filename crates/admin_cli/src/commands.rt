@@ -216,7 +216,7 @@ pub(crate) fn shown_line(came: Result<Answer, Refusal>) -> OutputLine
     match came {
         Ok(Answer::Nothing) => OutputLine::Nothing,
         Ok(Answer::Job(job)) => OutputLine::Job(job.number),
-        Ok(Answer::Sent(bytes)) => OutputLine::Sent(bytes.len() as u64),
+        Ok(Answer::Sent(bytes)) => OutputLine::Sent(bytes.as_slice().len() as u64),
         Ok(
             Answer::Reply {
                 client,

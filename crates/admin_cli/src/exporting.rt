@@ -61,8 +61,8 @@ impl Admin {
     {
         match self.step_book(alloc, Event::Send { ino, frag }) {
             Ok(Answer::Sent(bytes)) => {
-                let length = bytes.len() as u64;
-                self.sent.keep(ino, frag, Bytes::from_vec(bytes))?;
+                let length = bytes.as_slice().len() as u64;
+                self.sent.keep(ino, frag, bytes)?;
                 Ok(OutputLine::Sent(length))
             }
             other => Ok(shown_line(other)),

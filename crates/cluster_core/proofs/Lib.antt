@@ -15,6 +15,7 @@ pub mod NewBook
 pub mod Offered
 pub mod Recorded
 pub mod RunLaws
+pub mod SendLaws
 pub mod Served
 pub mod Stays
 pub mod Stepped

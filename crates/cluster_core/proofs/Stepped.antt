@@ -10,12 +10,13 @@ use Rattle.mds_types.specs.declared.operations.Op.{Op}
 use Rattle.mds_types.specs.Tree.{Tree}
 use Rattle.inboxes.specs.declared.pins.Pin.{Pin}
 use Rattle.inboxes.specs.Inboxes.{Inboxes, first_waiting, waiting_at, with_waiting}
+use Rattle.mds_types.specs.Leaf.{Leaf}
 use Rattle.cluster_core.specs.declared.events.Answer.{Answer}
 use Rattle.cluster_core.specs.declared.events.Event.{Event}
-use Rattle.cluster_core.specs.declared.events.Event.TheVariants.{Arrive, Grant, Serve, Split, Merge, CommitBegin, CommitEnd, CommitDrop, CommitTree, Purge, Evict, Start, Freeze, Prep, Finish, Cancel}
+use Rattle.cluster_core.specs.declared.events.Event.TheVariants.{Arrive, Grant, Serve, Split, Merge, CommitBegin, CommitEnd, CommitDrop, CommitTree, Purge, Evict, Start, Freeze, Prep, Send, Finish, Cancel}
 use Rattle.mdcache.specs.Commits.{Drops, Ends}
 use Rattle.mdcache.specs.Objects.{Purges, SavesTree}
-use Rattle.cluster_core.specs.Exporting.{CancelsAt, Exports, Finishes, Freezes, Preps, Starts}
+use Rattle.cluster_core.specs.Exporting.{CancelsAt, Exports, Finishes, Freezes, Preps, SendsExport, Starts}
 use Rattle.cluster_core.specs.Grants.{GrantsFirst}
 use Rattle.cluster_core.specs.Administers.{Administers, BeginsAt, EvictsOne, IsUnseen, MergesLeaves, SplitsLeaf, nothing, told_job}
 use Rattle.cluster_core.specs.State.{Core, State, shown}
@@ -96,6 +97,10 @@ module _ (opening : Tree) (past now : List Entry) (old new : Core) (sound : IsSo
   stepped Did (Ok answer) h = sound-same h.2.same h.2.tree (ap (λ (s : State). s.numbers) h.2.left) (ap (λ (s : State). length s.inboxes) h.2.left) (ap (λ (s : State). s.sessions) h.2.left)
   stepped Did (Err reason) h = sound-left h.1
 
+  sent : (leaf : Leaf) (result : Result Answer Refusal) → SendsExport old new past now leaf result → IsSound opening now new
+  sent leaf (Ok answer) h = sound-same h.3.same h.3.tree (ap (λ (s : State). s.numbers) h.3.left) (ap (λ (s : State). length s.inboxes) h.3.left) (ap (λ (s : State). s.sessions) h.3.left)
+  sent leaf (Err reason) h = sound-left h.1
+
   at_rank : (here : Bool) (result : Result Answer Refusal) {done : Type 0} → (here ≡ true → done → IsSound opening now new) → MatchBool here done ((result ≡ Err NotAuthority) × (new ≡ old) × (now ≡ past)) → IsSound opening now new
   at_rank true result go h = go refl h
   at_rank false result go h = sound-left (record { same = h.2; left = ap (λ (c : Core). c.state) h.1 })
@@ -117,5 +122,6 @@ module _ (opening : Tree) (past now : List Entry) (old new : Core) (sound : IsSo
       at_rank (nat_lt from.0 (length old.state.inboxes)) result (λ here w. at_rank (nat_lt to.0 (length old.state.inboxes)) result (λ there done. stepped (Starts old.state new.state from (dir, f) to) result done) w) h
   sound-step result (Freeze dir f) h = stepped (Freezes old.state new.state (dir, f)) result h
   sound-step result (Prep dir f) h = stepped (Preps old.state new.state (dir, f)) result h
+  sound-step result (Send dir f) h = sent (dir, f) result h
   sound-step result (Finish dir f) h = stepped (Finishes old.state new.state (dir, f)) result h
   sound-step result (Cancel dir f) h = stepped (CancelsAt old.state new.state (dir, f)) result h

@@ -1,5 +1,5 @@
 -- What the steps of an export do to a cluster (CephFS's Migrator, with this project's own table of steps).
-use Rattle.std.specs.Prelude.{◌≡◌, ◌≢◌, ◌⊎◌, true, List, None, Some, IsSome, Result, Ok, Err}
+use Rattle.std.specs.Prelude.{◌≡◌, ◌≢◌, ◌⊎◌, ℕ, true, List, None, Some, IsSome, Result, Ok, Err}
 use Rattle.std.specs.FinMap as map
 use Rattle.std.specs.List.{Contains}
 use Rattle.mds_types.specs.declared.entries.Entry.{Entry}
@@ -7,6 +7,7 @@ use Rattle.mds_types.specs.declared.ids.Rank.{Rank}
 use Rattle.mds_types.specs.declared.refusals.Refusal.{Refusal}
 use Rattle.mds_types.specs.declared.refusals.Refusal.TheVariants as why
 use Rattle.mds_types.specs.Leaf.{Leaf}
+use Rattle.export_regions.specs.Regions.{HasTooMany}
 use Rattle.export_steps.specs.declared.exports.ExportState.TheVariants as state
 use Rattle.export_steps.specs.declared.exports.StandingExport.{StandingExport}
 use Rattle.export_steps.specs.Standing.{ComesTo, is_before_send, state_at}
@@ -14,8 +15,9 @@ use Rattle.inboxes.specs.declared.pins.Pin.{Pin}
 use Rattle.inode_table.specs.Dirs.{Covers, Homes, IsLive}
 use Rattle.subtree_map.specs.Authority.{Roots}
 use Rattle.ranked_tree.specs.Exported.{EndsRegion, IsUnder}
+use Rattle.ranked_tree.specs.Sending.{IsInRegionOf, SpellsRegion}
 use Rattle.cluster_core.specs.declared.events.Answer.{Answer}
-use Rattle.cluster_core.specs.declared.events.Answer.TheVariants.{Nothing}
+use Rattle.cluster_core.specs.declared.events.Answer.TheVariants.{Nothing, Sent}
 use Rattle.cluster_core.specs.Administers.{AsksNone}
 use Rattle.cluster_core.specs.Master.{IsAuthority, IsFrozenAt}
 use Rattle.cluster_core.specs.Serve.{IsLeft}
@@ -122,6 +124,21 @@ Preps old new leaf (Err reason) = Check why.WrongExportState (state_at old.expor
 
 abbrev pub PrepsExport : (old new : Core) → (past now : List Entry) → Leaf → Result Answer Refusal → Type 0
 PrepsExport old new past now leaf result = Exports old new past now (Preps old.state new.state leaf) result
+
+-- ---- Send
+
+-- a prepared export is sent, and these bytes spell what isn't clean of its region; refused where none of this root stands prepared, or a fragment
+-- of the region has too many dirty names
+abbrev pub SendsAt : (old new : State) → Leaf → Result (List ℕ) Refusal → Type 0
+SendsAt old new leaf (Ok bytes) = (step : ComesTo old.exports new.exports leaf state.Prepared state.Sent) × SpellsRegion old.tree old.roots leaf step.export bytes × KeepsTree old new
+SendsAt old new leaf (Err reason) =
+    Check why.WrongExportState (state_at old.exports leaf ≢ Some state.Prepared)
+    (Check why.TooManyFrags (HasTooMany (IsInRegionOf old.tree old.roots leaf) old.tree.unsaved) ForMemory) reason
+
+-- its answer is those bytes
+abbrev pub SendsExport : (old new : Core) → (past now : List Entry) → Leaf → Result Answer Refusal → Type 0
+SendsExport old new past now leaf (Ok answer) = (bytes : List ℕ) × (answer ≡ Sent bytes) × SendsAt old.state new.state leaf (Ok bytes) × IsUnseenStep old.state new.state past now × AsksNone old new
+SendsExport old new past now leaf (Err reason) = SendsAt old.state new.state leaf (Err reason) × IsLeft old.state new.state past now × AsksNone old new
 
 -- ---- Finish
 

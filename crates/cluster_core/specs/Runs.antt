@@ -5,9 +5,9 @@ use Rattle.mds_types.specs.declared.entries.Entry.{Entry}
 use Rattle.mds_types.specs.declared.replies.Reply.{Reply as Replied}
 use Rattle.mds_types.specs.declared.refusals.Refusal.{Refusal}
 use Rattle.cluster_core.specs.declared.events.Answer.{Answer}
-use Rattle.cluster_core.specs.declared.events.Answer.TheVariants.{Deferred, Forwarded, Job, Nothing, Reply}
+use Rattle.cluster_core.specs.declared.events.Answer.TheVariants.{Deferred, Forwarded, Job, Nothing, Reply, Sent}
 use Rattle.cluster_core.specs.declared.events.Event.{Event}
-use Rattle.cluster_core.specs.declared.events.Event.TheVariants.{Arrive, Grant, Serve, Split, Merge, CommitBegin, CommitEnd, CommitDrop, CommitTree, Purge, Evict, Start, Freeze, Prep, Finish, Cancel}
+use Rattle.cluster_core.specs.declared.events.Event.TheVariants.{Arrive, Grant, Serve, Split, Merge, CommitBegin, CommitEnd, CommitDrop, CommitTree, Purge, Evict, Start, Freeze, Prep, Send, Finish, Cancel}
 use Rattle.cluster_core.specs.Sound.{IsSoundBook}
 use Rattle.cluster_core.specs.State.{Kept}
 use Rattle.cluster_core.specs.Steps.{Steps}
@@ -37,6 +37,7 @@ abbrev pub IsOfHistory : List Entry → Result Answer Refusal → Type 0
 IsOfHistory history (Ok Nothing) = Unit {0}
 IsOfHistory history (Ok (Reply client tid place first reply)) = StandsAt history client tid place reply
 IsOfHistory history (Ok (Job job)) = Unit {0}
+IsOfHistory history (Ok (Sent bytes)) = Unit {0}
 IsOfHistory history (Ok (Forwarded rank)) = Unit {0}
 IsOfHistory history (Ok Deferred) = Unit {0}
 IsOfHistory history (Err reason) = Unit {0}
@@ -50,6 +51,7 @@ abbrev pub AddsTo : (past now : List Entry) → Result Answer Refusal → Type 0
 AddsTo past now (Ok Nothing) = now ≡ past
 AddsTo past now (Ok (Reply client tid place first reply)) = MatchBool first (AppendsOne past now place) (now ≡ past)
 AddsTo past now (Ok (Job job)) = now ≡ past
+AddsTo past now (Ok (Sent bytes)) = now ≡ past
 AddsTo past now (Ok (Forwarded rank)) = now ≡ past
 AddsTo past now (Ok Deferred) = now ≡ past
 AddsTo past now (Err reason) = now ≡ past
@@ -70,6 +72,7 @@ AddsAtServe (Evict rank) past now = now ≡ past
 AddsAtServe (Start from dir f to) past now = now ≡ past
 AddsAtServe (Freeze dir f) past now = now ≡ past
 AddsAtServe (Prep dir f) past now = now ≡ past
+AddsAtServe (Send dir f) past now = now ≡ past
 AddsAtServe (Finish dir f) past now = now ≡ past
 AddsAtServe (Cancel dir f) past now = now ≡ past
 

@@ -14,9 +14,9 @@ use Rattle.mdcache.specs.Frags.{LacksFor}
 use Rattle.cluster_core.specs.declared.events.Answer.{Answer}
 use Rattle.cluster_core.specs.declared.events.Answer.TheVariants.{Nothing}
 use Rattle.cluster_core.specs.declared.events.Event.{Event}
-use Rattle.cluster_core.specs.declared.events.Event.TheVariants.{Arrive, Grant, Serve, Split, Merge, CommitBegin, CommitEnd, CommitDrop, CommitTree, Purge, Evict, Start, Freeze, Prep, Finish, Cancel}
+use Rattle.cluster_core.specs.declared.events.Event.TheVariants.{Arrive, Grant, Serve, Split, Merge, CommitBegin, CommitEnd, CommitDrop, CommitTree, Purge, Evict, Start, Freeze, Prep, Send, Finish, Cancel}
 use Rattle.cluster_core.specs.Administers.{AsksNone, BeginsCommit, CommitsTree, DropsCommit, EndsCommit, EvictsFragment, Merges, PurgesObject, Splits}
-use Rattle.cluster_core.specs.Exporting.{CancelsExport, FinishesExport, FreezesExport, PrepsExport, StartsExport}
+use Rattle.cluster_core.specs.Exporting.{CancelsExport, FinishesExport, FreezesExport, PrepsExport, SendsExport, StartsExport}
 use Rattle.inboxes.specs.Inboxes.{first_waiting, waiting_at, with_last}
 use Rattle.cluster_core.specs.Grants.{GrantsWaiting}
 use Rattle.cluster_core.specs.Master.{IsHolder}
@@ -71,6 +71,7 @@ Does old new past now result Purge = PurgesObject old new past now result
 Does old new past now result (Start from dir f to) = AtRank old new past now from result (AtRank old new past now to result (StartsExport old new past now from (dir, f) to result))
 Does old new past now result (Freeze dir f) = FreezesExport old new past now (dir, f) result
 Does old new past now result (Prep dir f) = PrepsExport old new past now (dir, f) result
+Does old new past now result (Send dir f) = SendsExport old new past now (dir, f) result
 Does old new past now result (Finish dir f) = FinishesExport old new past now (dir, f) result
 Does old new past now result (Cancel dir f) = CancelsExport old new past now (dir, f) result
 Does old new past now result (Evict rank) = AtRank old new past now rank result (EvictsFragment old new past now rank result)
@@ -91,6 +92,7 @@ handed_root (Evict rank) = None
 handed_root (Start from dir f to) = None
 handed_root (Freeze dir f) = None
 handed_root (Prep dir f) = None
+handed_root (Send dir f) = None
 handed_root (Finish dir f) = Some (dir, f)
 handed_root (Cancel dir f) = None
 

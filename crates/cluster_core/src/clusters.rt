@@ -156,6 +156,7 @@ impl<S: Store + Drop> Cluster<S> {
             } => self.start(from, ino, frag, to),
             Event::Freeze { ino, frag } => self.freeze(ino, frag),
             Event::Prep { ino, frag } => self.prep(ino, frag),
+            Event::Send { ino, frag } => self.send(alloc, ino, frag),
             Event::Finish { ino, frag } => self.finish(ino, frag),
             Event::Cancel { ino, frag } => self.cancel(ino, frag),
         }

@@ -2,7 +2,7 @@
 ghost use Rattle.std.specs.Prelude.{◌≡◌, IfOk};
 
 use cached_frag::{Encoded, Job};
-use mds_types::{Frag, Ino, Rank, Reply, Request};
+use mds_types::{Bytes, Frag, Ino, Rank, Reply, Request};
 use std::alloc::AllocError;
 
 /// One event of the cluster, one atomic step.
@@ -75,6 +75,11 @@ pub enum Event {
         ino: Ino,
         frag: Frag,
     },
+    /// What isn't clean of a prepared region is handed out.
+    Send {
+        ino: Ino,
+        frag: Frag,
+    },
     /// The importer of an imported region is its authority, and the export ends.
     Finish {
         ino: Ino,
@@ -98,6 +103,8 @@ pub enum Answer {
     Deferred,
     /// The commit that was begun, to be encoded.
     Job(Job),
+    /// The bytes of a region that was sent.
+    Sent(Bytes),
     /// The reply to a request, with its place in the history; `first` tells a request that was applied now from one that
     /// had been applied before.
     Reply {
@@ -167,6 +174,10 @@ impl Event {
                 frag: *frag,
             }),
             Event::Prep { ino, frag } => Ok(Event::Prep {
+                ino: *ino,
+                frag: *frag,
+            }),
+            Event::Send { ino, frag } => Ok(Event::Send {
                 ino: *ino,
                 frag: *frag,
             }),

@@ -14,7 +14,7 @@ ghost use Rattle.export_steps.specs.Standing.{state_at};
 ghost use Rattle.mdcache.specs.Core.{state_of as tree_state};
 ghost use Rattle.ranked_tree.specs.Ranked.{held_roots};
 ghost use Rattle.ranked_tree.specs.Subtrees.{AreRoots, KeepsAuthorities, KeepsHolders, KeepsOutside};
-ghost use Rattle.cluster_core.specs.Exporting.{CancelsExport, FinishesExport, FreezesExport, PrepsExport, StartsExport};
+ghost use Rattle.cluster_core.specs.Exporting.{CancelsExport, FinishesExport, FreezesExport, PrepsExport, SendsExport, StartsExport};
 ghost use Rattle.cluster_core.specs.State.{core_of, held_roots as holders_of};
 ghost use Rattle.cluster_core.specs.Steps.{AtRank};
 
@@ -23,9 +23,10 @@ use crate::events::Answer;
 use crate::pinned::is_region_pinned;
 use export_steps::{ExportState, Exports};
 use inboxes::Pins;
-use mds_types::{Frag, Ino, Rank, Refusal};
+use mds_types::{Bytes, Frag, Ino, Rank, Refusal};
 use objstore::Store;
 use ranked_tree::RankedTree;
+use std::alloc::Global;
 
 impl<S: Store + Drop> Cluster<S> {
     // An export starts.
@@ -77,6 +78,19 @@ impl<S: Store + Drop> Cluster<S> {
     {
         self.tree.prep(ino, frag)?;
         Ok(Answer::Nothing)
+    }
+
+    // What isn't clean of a prepared region is handed out.
+    pub(crate) fn send(&mut self, alloc: Global, ino: Ino, frag: Frag) -> Result<Answer, Refusal>
+        ensures sent { (past : List Applied) → SendsExport self.old self.new past past (ino, frag) result }
+        ensures tree { self.new.state.tree ≡ self.old.state.tree }
+        ensures roots { self.new.state.roots ≡ self.old.state.roots }
+        ensures holders { holders_of self.new.state ≡ holders_of self.old.state }
+        ensures caches { self.new.caches ≡ self.old.caches }
+        ensures counted { self.new.faults ≡ self.old.faults + faults_told (result_err result) }
+    {
+        let bytes = self.tree.send(alloc, ino, frag)?;
+        Ok(Answer::Sent(Bytes::from_vec(bytes)))
     }
 
     // The importer of an imported region is its authority, and the export ends.

@@ -20,6 +20,7 @@ pub mod MoveLaws
 pub mod NewLaws
 pub mod ReadsForLaws
 pub mod RootLaws
+pub mod SendLaws
 pub mod StandLaws
 pub mod Stays
 pub mod StepLaws

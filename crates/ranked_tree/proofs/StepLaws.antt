@@ -6,11 +6,11 @@ use Rattle.mds_types.specs.declared.ids.Rank.{Rank}
 use Rattle.mds_types.specs.declared.refusals.Refusal.{Refusal}
 use Rattle.mds_types.proofs.LeafLaws.{get_beside, get_left, get_put, get_removed, same_or_apart}
 use Rattle.export_steps.specs.declared.exports.StandingExport.{StandingExport}
-use Rattle.export_steps.specs.declared.exports.ExportState.TheVariants.{Started, Frozen, Prepared}
+use Rattle.export_steps.specs.declared.exports.ExportState.TheVariants.{Started, Frozen, Prepared, Sent}
 use Rattle.export_steps.specs.declared.exports.ExportState.{ExportState}
 use Rattle.export_steps.specs.Holder.{IsFrozen, holding}
 use Rattle.export_steps.specs.Standing.{ArePlaced, Cancels, IsFreeze, Standing, Starts, Steps, come_to}
-use Rattle.export_steps.proofs.HoldingSteps.{cancel_holding, prep_holding, prep_soundly, start_holding, start_soundly}
+use Rattle.export_steps.proofs.HoldingSteps.{cancel_holding, prep_holding, prep_soundly, send_holding, send_soundly, start_holding, start_soundly}
 use Rattle.export_steps.proofs.Handover.{cancels_soundly, freezes_soundly}
 use Rattle.export_steps.specs.Handover.{FreezesSoundly}
 use Rattle.export_steps.proofs.Holding.{holder_is, valid_so}
@@ -115,6 +115,23 @@ prep_divided core was new root result is divided placed =
     step_divided core was (record { roots = was.roots; exports = new }) divided refl (prep_holds was.exports new root result is was.roots.roots) placed
     (step_there was.exports new root Frozen Prepared (length core.caches.used) result is divided.stand.there)
     (prep_froze was.exports new root was.roots.roots core.homes core.covers result is)
+
+-- ---- Send
+
+module _ (old new : Standing) (root : Leaf) where
+  pub send_holds : (result : Result (Unit {0}) Refusal) → Steps old new root Prepared Sent result → (roots : Roots) → holding new roots ≡ holding old roots
+  send_holds (Ok done) is roots = send_holding old new root is roots
+  send_holds (Err reason) is roots = ap (λ (s : Standing). holding s roots) is.2
+
+  send_froze : (roots : Roots) (homes : Homes) (covers : Covers) (result : Result (Unit {0}) Refusal) → Steps old new root Prepared Sent result → (leaf : Leaf) → IsFrozen new roots homes covers leaf → IsFrozen old roots homes covers leaf
+  send_froze roots homes covers (Ok done) is leaf frozen = ((send_soundly old new root is roots homes covers).frozen leaf).0 frozen
+  send_froze roots homes covers (Err reason) is leaf frozen = subst (λ (s : Standing). IsFrozen s roots homes covers leaf) is.2 frozen
+
+pub send_divided : (core : Core) (was : Regions) (new : Standing) (root : Leaf) (result : Result (Unit {0}) Refusal) → Steps was.exports new root Prepared Sent result → IsDivided core was → ArePlaced new was.roots → IsDivided core (record { roots = was.roots; exports = new })
+send_divided core was new root result is divided placed =
+    step_divided core was (record { roots = was.roots; exports = new }) divided refl (send_holds was.exports new root result is was.roots.roots) placed
+    (step_there was.exports new root Prepared Sent (length core.caches.used) result is divided.stand.there)
+    (send_froze was.exports new root was.roots.roots core.homes core.covers result is)
 
 -- ---- Freeze
 

@@ -2,4 +2,5 @@ pub mod Exported
 pub mod Held
 pub mod Mounted
 pub mod Ranked
+pub mod Sending
 pub mod Subtrees

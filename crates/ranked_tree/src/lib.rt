@@ -21,6 +21,7 @@ mod ranked_tree;
 mod reading;
 mod regions;
 mod regrouping;
+mod sending;
 
 pub use inside::leaf_inside;
 pub use ranked_tree::RankedTree;

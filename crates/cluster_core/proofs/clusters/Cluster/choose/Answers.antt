@@ -100,6 +100,19 @@ returns-in-Prep g c = record {
   valid = valid_still c.args.self.now c.prep.new.self c.prep.ensures.tree c.prep.ensures.roots c.requires.1.subtrees;
 }
 
+pub returns-in-Send : goal.returns-in-Send
+returns-in-Send g c = record {
+  stepped = rw c.in-Send.is (record {
+    does = c.send.ensures.sent c.args.history.now.items;
+    authorities = roots_stay c.args.self.now c.send.new.self c.send.ensures.tree c.send.ensures.roots;
+    holders = holders_stay c.args.self.now c.send.new.self c.send.ensures.tree c.send.ensures.holders;
+    ranks = ap (λ (k : CacheMap). length k.used) c.send.ensures.caches;
+    capacity = ap (λ (k : CacheMap). k.cap) c.send.ensures.caches;
+    counted = c.send.ensures.counted;
+  });
+  valid = valid_still c.args.self.now c.send.new.self c.send.ensures.tree c.send.ensures.roots c.requires.1.subtrees;
+}
+
 pub returns-in-Finish : goal.returns-in-Finish
 returns-in-Finish g c = record {
   stepped = rw c.in-Finish.is (record {

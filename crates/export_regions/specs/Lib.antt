@@ -1,0 +1,3 @@
+pub mod Counts
+pub mod Regions
+pub mod Sending
