@@ -4,7 +4,7 @@ ghost use Rattle.admin_cli.specs.ExportLines.{CopiesNoBytes, ExecutesExport, Imp
 
 use crate::commands::{Admin, shown_line};
 use cluster_core::{Answer, Event};
-use mds_types::{Bytes, Frag, Ino, Refusal};
+use mds_types::{Frag, Ino, Refusal};
 use script_output::OutputLine;
 use script_text::ExportCommand;
 use std::alloc::{AllocError, Global};
