@@ -15,13 +15,14 @@ use Rattle.inboxes.specs.declared.pins.Pin.{Pin}
 use Rattle.inode_table.specs.Dirs.{Covers, Homes, IsLive}
 use Rattle.subtree_map.specs.Authority.{Roots}
 use Rattle.ranked_tree.specs.Exported.{EndsRegion, IsUnder}
+use Rattle.ranked_tree.specs.Importing.{HandsRegion, IsRenewed, LeavesCaches, RefusesImport}
 use Rattle.ranked_tree.specs.Sending.{IsInRegionOf, SpellsRegion}
 use Rattle.cluster_core.specs.declared.events.Answer.{Answer}
 use Rattle.cluster_core.specs.declared.events.Answer.TheVariants.{Nothing, Sent}
 use Rattle.cluster_core.specs.Administers.{AsksNone}
 use Rattle.cluster_core.specs.Master.{IsAuthority, IsFrozenAt}
 use Rattle.cluster_core.specs.Serve.{IsLeft}
-use Rattle.cluster_core.specs.State.{Core, State, shown}
+use Rattle.cluster_core.specs.State.{Core, LacksPlacesAt, State, shown}
 
 -- ---- refusals, the first whose check holds
 
@@ -139,6 +140,23 @@ SendsAt old new leaf (Err reason) =
 abbrev pub SendsExport : (old new : Core) → (past now : List Entry) → Leaf → Result Answer Refusal → Type 0
 SendsExport old new past now leaf (Ok answer) = (bytes : List ℕ) × (answer ≡ Sent bytes) × SendsAt old.state new.state leaf (Ok bytes) × IsUnseenStep old.state new.state past now × AsksNone old new
 SendsExport old new past now leaf (Err reason) = SendsAt old.state new.state leaf (Err reason) × IsLeft old.state new.state past now × AsksNone old new
+
+-- ---- Import
+
+-- a sent export is imported: the bytes are those of its region, and its importer has what isn't clean of it, of generation 0; the exporter caches none of it
+pub record IsImport (old new : Core) (leaf : Leaf) (bytes : List ℕ) : Type 0 where
+  pub step : ComesTo old.state.exports new.state.exports leaf state.Sent state.Imported
+  pub region : SpellsRegion old.state.tree old.state.roots leaf step.export bytes
+  pub renewed : IsRenewed (IsInRegionOf old.state.tree old.state.roots leaf) old.state.tree new.state.tree
+  pub roots : new.state.roots ≡ old.state.roots
+  pub caches : HandsRegion (IsInRegionOf old.state.tree old.state.roots leaf) old.state.tree.objects step.export old.caches new.caches
+
+-- refused where none of this root stands sent; where one does, for other bytes, for want of places of the importer, or of memory
+abbrev pub ImportsExport : (old new : Core) → (past now : List Entry) → Leaf → (bytes : List ℕ) → Result Answer Refusal → Type 0
+ImportsExport old new past now leaf bytes (Ok answer) = (answer ≡ Nothing) × IsImport old new leaf bytes × IsUnseenStep old.state new.state past now
+ImportsExport old new past now leaf bytes (Err reason) =
+    RefusesImport (λ count rank. LacksPlacesAt count old rank) old.state.tree old.state.roots old.state.exports leaf bytes reason
+    × IsLeft old.state new.state past now × LeavesCaches old.state.tree.objects old.state.exports leaf old.caches new.caches reason
 
 -- ---- Finish
 

@@ -7,7 +7,7 @@ use Rattle.mds_types.specs.declared.refusals.Refusal.{Refusal}
 use Rattle.cluster_core.specs.declared.events.Answer.{Answer}
 use Rattle.cluster_core.specs.declared.events.Answer.TheVariants.{Deferred, Forwarded, Job, Nothing, Reply, Sent}
 use Rattle.cluster_core.specs.declared.events.Event.{Event}
-use Rattle.cluster_core.specs.declared.events.Event.TheVariants.{Arrive, Grant, Serve, Split, Merge, CommitBegin, CommitEnd, CommitDrop, CommitTree, Purge, Evict, Start, Freeze, Prep, Send, Finish, Cancel}
+use Rattle.cluster_core.specs.declared.events.Event.TheVariants.{Arrive, Grant, Serve, Split, Merge, CommitBegin, CommitEnd, CommitDrop, CommitTree, Purge, Evict, Start, Freeze, Prep, Send, Import, Finish, Cancel}
 use Rattle.cluster_core.specs.Sound.{IsSoundBook}
 use Rattle.cluster_core.specs.State.{Kept}
 use Rattle.cluster_core.specs.Steps.{Steps}
@@ -73,6 +73,7 @@ AddsAtServe (Start from dir f to) past now = now ≡ past
 AddsAtServe (Freeze dir f) past now = now ≡ past
 AddsAtServe (Prep dir f) past now = now ≡ past
 AddsAtServe (Send dir f) past now = now ≡ past
+AddsAtServe (Import dir f bytes) past now = now ≡ past
 AddsAtServe (Finish dir f) past now = now ≡ past
 AddsAtServe (Cancel dir f) past now = now ≡ past
 

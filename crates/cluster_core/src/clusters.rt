@@ -157,6 +157,11 @@ impl<S: Store + Drop> Cluster<S> {
             Event::Freeze { ino, frag } => self.freeze(ino, frag),
             Event::Prep { ino, frag } => self.prep(ino, frag),
             Event::Send { ino, frag } => self.send(alloc, ino, frag),
+            Event::Import { ino, frag, bytes } => {
+                let imported = self.import(alloc, ino, frag, bytes.as_slice());
+                drop(bytes);
+                imported
+            }
             Event::Finish { ino, frag } => self.finish(ino, frag),
             Event::Cancel { ino, frag } => self.cancel(ino, frag),
         }

@@ -80,6 +80,12 @@ pub enum Event {
         ino: Ino,
         frag: Frag,
     },
+    /// What was sent of a region goes to its importer, which holds the region from then on.
+    Import {
+        ino: Ino,
+        frag: Frag,
+        bytes: Bytes,
+    },
     /// The importer of an imported region is its authority, and the export ends.
     Finish {
         ino: Ino,
@@ -117,7 +123,7 @@ pub enum Answer {
 }
 
 impl Event {
-    /// A copy. Takes memory for a request's names, and for what was encoded.
+    /// A copy. Takes memory for a request's names, for what was encoded, and for what was sent.
     pub fn try_clone(&self) -> Result<Event, AllocError>
         ensures { IfOk result (λ copy. copy ≡ self.now) }
     {
@@ -180,6 +186,11 @@ impl Event {
             Event::Send { ino, frag } => Ok(Event::Send {
                 ino: *ino,
                 frag: *frag,
+            }),
+            Event::Import { ino, frag, bytes } => Ok(Event::Import {
+                ino: *ino,
+                frag: *frag,
+                bytes: bytes.try_clone()?,
             }),
             Event::Finish { ino, frag } => Ok(Event::Finish {
                 ino: *ino,

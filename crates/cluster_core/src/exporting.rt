@@ -14,7 +14,7 @@ ghost use Rattle.export_steps.specs.Standing.{state_at};
 ghost use Rattle.mdcache.specs.Core.{state_of as tree_state};
 ghost use Rattle.ranked_tree.specs.Ranked.{held_roots};
 ghost use Rattle.ranked_tree.specs.Subtrees.{AreRoots, KeepsAuthorities, KeepsHolders, KeepsOutside};
-ghost use Rattle.cluster_core.specs.Exporting.{CancelsExport, FinishesExport, FreezesExport, PrepsExport, SendsExport, StartsExport};
+ghost use Rattle.cluster_core.specs.Exporting.{CancelsExport, FinishesExport, FreezesExport, ImportsExport, PrepsExport, SendsExport, StartsExport};
 ghost use Rattle.cluster_core.specs.State.{core_of, held_roots as holders_of};
 ghost use Rattle.cluster_core.specs.Steps.{AtRank};
 
@@ -91,6 +91,26 @@ impl<S: Store + Drop> Cluster<S> {
     {
         let bytes = self.tree.send(alloc, ino, frag)?;
         Ok(Answer::Sent(Bytes::from_vec(bytes)))
+    }
+
+    // What was sent of a region goes to its importer, which holds the region from then on.
+    pub(crate) fn import(
+        &mut self,
+        alloc: Global,
+        ino: Ino,
+        frag: Frag,
+        bytes: &[u8],
+    ) -> Result<Answer, Refusal>
+        ensures imported { (past : List Applied) → ImportsExport self.old self.new past past (ino, frag) bytes.now result }
+        ensures authorities { KeepsAuthorities self.old.state.tree self.new.state.tree self.old.state.roots self.new.state.roots }
+        ensures others { KeepsOutside (Some (ino, frag)) self.old.state.tree self.new.state.tree (holders_of self.old.state) (holders_of self.new.state) }
+        ensures valid { AreRoots self.old.state.tree self.old.state.roots → AreRoots self.new.state.tree self.new.state.roots }
+        ensures count { length self.new.caches.used ≡ length self.old.caches.used }
+        ensures cap { self.new.caches.cap ≡ self.old.caches.cap }
+        ensures counted { self.new.faults ≡ self.old.faults + faults_told (result_err result) }
+    {
+        self.tree.import(alloc, ino, frag, bytes)?;
+        Ok(Answer::Nothing)
     }
 
     // The importer of an imported region is its authority, and the export ends.

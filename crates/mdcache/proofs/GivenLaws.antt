@@ -1,5 +1,5 @@
 -- A state once leaves were handed over: sound, and of the same tree.
-use Rattle.std.proofs.Common.{◌≡◌, ◌≢◌, ℕ, ◌<◌, Bool, true, false, cond, ◌⊎◌, inl, inr, List, length, option_map, Option, Some, None, Result, Ok, Err, IfErr, OnErr, OnOk, refl, sym, ap, subst, ◌∙◌, arith}
+use Rattle.std.proofs.Common.{◌≡◌, ◌≢◌, ℕ, ◌<◌, Bool, true, false, cond, ◌⊎◌, inl, inr, List, length, option_map, Option, Some, None, Result, Ok, Err, IfErr, OnErr, OnOk, ◌+◌, drop, [], ◌∷◌, refl, sym, ap, subst, ◌∙◌, arith}
 use Rattle.std.specs.List.{list_any}
 use Rattle.std.specs.FinMap as map
 use Rattle.std.proofs.lemmas.Option.{same_Some}
@@ -13,13 +13,14 @@ use Rattle.cached_frag.specs.declared.jobs.Job.{Job}
 use Rattle.cached_frag.specs.Cached.{Cached, imported}
 use Rattle.dentry_cache.specs.Cache.{IsThere, Leaf, Unsaved, leaf_is}
 use Rattle.dentry_cache.specs.CacheCalls.{unclean_in}
-use Rattle.dentry_cache.specs.CacheMap.{AreCaches, At, CacheMap, has_place, here, at_rank, unclean}
-use Rattle.dentry_cache.specs.Handing.{AreCleanAt, AreHanded, AreUncleanAt, HandsOver, HaveNoPlace, MayNotHandOver, handed}
+use Rattle.dentry_cache.specs.CacheMap.{AreCaches, At, CacheMap, given_up, has_place, here, at_rank, unclean}
+use Rattle.dentry_cache.specs.Handing.{AreCleanAt, AreHanded, AreUncleanAt, HandsOver, HaveNoPlace, MayNotHandOver, WantsPlace, handed, kept_all, moved, moved_all, moved_as, without_all}
 use Rattle.dentry_cache.specs.Loading.{object_of}
 use Rattle.dentry_cache.specs.Ties.{IsTied, IsTiedAt}
-use Rattle.dentry_cache.proofs.HandedLaws.{IsFrom, IsWholeBut, handed_from, wants_from, whole_handed, whole_wants}
-use Rattle.dentry_cache.proofs.KeepingLaws.{all_from, all_of}
+use Rattle.dentry_cache.proofs.HandedLaws.{IsFrom, IsWholeBut, handed_from, ranks_handed, ranks_wants, wants_from, whole_handed, whole_wants}
+use Rattle.dentry_cache.proofs.KeepingLaws.{all_from, all_of, by_keeping}
 use Rattle.dentry_cache.proofs.MoveLaws.{none_beside}
+use Rattle.dentry_cache.proofs.StepLaws.{cap_roomy}
 use Rattle.inode_table.specs.Dirs.{is_known}
 use Rattle.inode_table.specs.TreeTable.{IsTabled}
 use Rattle.mdcache.specs.Core.{Core, IsCachedIn, IsSoundCore, shown_in, state_of}
@@ -124,6 +125,35 @@ given_right old new leaves sound jobless given =
       tree_now old new.unsaved leaves sound jobless given.unsaved,
       λ leaf live. record { live = live; names = same_names old new.unsaved leaves sound jobless given.unsaved leaf },
     )
+
+-- ---- each rank has as many places as before
+
+cap_moved : (c : CacheMap) (from to : ℕ) (leaf : Leaf) → (moved c from to leaf).cap ≡ c.cap
+cap_moved c from to leaf = go (here c from leaf)
+  where
+    go : (o : Option Cached) → (moved_as (given_up c from leaf) to leaf o).cap ≡ c.cap
+    go None = refl
+    go (Some f) = refl
+
+cap_moved_all : (c : CacheMap) (from to : ℕ) (leaves : List Leaf) → (moved_all c from to leaves).cap ≡ c.cap
+cap_moved_all c from to [] = refl
+cap_moved_all c from to (leaf ∷ leaves) = cap_moved (moved_all c from to leaves) from to leaf ∙ cap_moved_all c from to leaves
+
+cap_without_all : (c : CacheMap) (r : ℕ) (leaves : List Leaf) → (without_all c r leaves).cap ≡ c.cap
+cap_without_all c r [] = refl
+cap_without_all c r (leaf ∷ leaves) = cap_without_all c r leaves
+
+cap_kept : (c : CacheMap) (r : ℕ) (leaves : List Leaf) (new : CacheMap) → kept_all c r leaves ≡ Some new → new.cap ≡ c.cap
+cap_kept c r leaves new kept =
+    by_keeping c r (λ (leaf : Leaf). Unit {0}) (λ (k : CacheMap). k.cap ≡ c.cap) refl (λ before mid made so. cap_roomy before mid r None made ∙ so) (λ mid leaf named so. so) leaves (all_from (λ (leaf : Leaf). Unit {0}) leaves (λ q among. tt)) new kept
+
+cap_handed : (from to : ℕ) (leaves clean : List Leaf) (old new : CacheMap) → HandsOver from to leaves clean old new → new.cap ≡ old.cap
+cap_handed from to leaves clean old new h =
+    ap (λ (k : CacheMap). k.cap) h.2 ∙ cap_without_all (moved_all h.0 from to leaves) from clean ∙ cap_moved_all h.0 from to leaves ∙ cap_kept old to leaves h.0 h.1
+
+cap_wants : (r : ℕ) (leaves : List Leaf) (old new : CacheMap) → WantsPlace r leaves old new → new.cap ≡ old.cap
+cap_wants r leaves old new w =
+    ap (λ (k : CacheMap). k.cap) w.6 ∙ cap_without_all w.4 r (drop (w.0 + 1) leaves) ∙ cap_roomy w.2 w.4 r None w.5 ∙ cap_kept old r (drop (w.0 + 1) leaves) w.2 w.3
 
 -- ---- the tree with its caches
 
@@ -270,3 +300,19 @@ module _ (old view : Core) (is : view ≡ old) (sound : IsSoundCore old) (from t
     pub call_left : {A : Type 0} (res : Result A Refusal) → OnErr res (unclean caches ≡ unclean view.caches) → OnErr res (state_of then ≡ state_of old)
     call_left (Ok a) left = tt
     call_left (Err e) left = left_state view sound_view from to apart there_view other_view leaves clean cached_view caches valid left ∙ ap state_of is
+
+    -- there are as many ranks, with as many places each
+    module _ {A : Type 0} where
+      pub call_count : (res : Result A Refusal) → OnOk res (HandsOver from to leaves clean view.caches caches) → IfErr res (MayNotHandOver to leaves view.caches caches) → length caches.used ≡ length old.caches.used
+      call_count (Ok a) handed refused =
+          ranks_handed from to apart leaves clean view.caches caches cached_view handed valid there_view other_view (Kept view sound_view from to apart there_view other_view leaves clean cached_view)
+          (whole_first view sound_view from to apart there_view other_view leaves clean cached_view) ∙ ap (λ (k : Core). length k.caches.used) is
+      call_count (Err e) handed (inl none) = ap (λ (k : CacheMap). length k.used) none.2 ∙ ap (λ (k : Core). length k.caches.used) is
+      call_count (Err e) handed (inr wants) =
+          ranks_wants from to apart leaves view.caches caches cached_view wants.2 valid other_view (Kept view sound_view from to apart there_view other_view leaves clean cached_view)
+          (whole_first view sound_view from to apart there_view other_view leaves clean cached_view) ∙ ap (λ (k : Core). length k.caches.used) is
+
+      pub call_cap : (res : Result A Refusal) → OnOk res (HandsOver from to leaves clean view.caches caches) → IfErr res (MayNotHandOver to leaves view.caches caches) → caches.cap ≡ old.caches.cap
+      call_cap (Ok a) handed refused = cap_handed from to leaves clean view.caches caches handed ∙ ap (λ (k : Core). k.caches.cap) is
+      call_cap (Err e) handed (inl none) = ap (λ (k : CacheMap). k.cap) none.2 ∙ ap (λ (k : Core). k.caches.cap) is
+      call_cap (Err e) handed (inr wants) = cap_wants to leaves view.caches caches wants.2 ∙ ap (λ (k : Core). k.caches.cap) is

@@ -39,6 +39,8 @@ impl<S: Store + Drop> MdCache<S> {
         ensures refused { IfErr result (MayNotHandOver to.0 unclean.now self.old.caches self.new.caches) }
         ensures left { OnErr result (state_of self.new ≡ state_of self.old) }
         ensures beside { self.new ≡ record self.old { caches = self.new.caches } }
+        ensures count { length self.new.caches.used ≡ length self.old.caches.used }
+        ensures cap { self.new.caches.cap ≡ self.old.caches.cap }
         ensures sound { IsSoundCore self.new }
     {
         self.caches.hand_over(self.alloc, from, to, unclean, clean)

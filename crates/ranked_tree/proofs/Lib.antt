@@ -13,6 +13,7 @@ pub mod HeldChanges
 pub mod HeldLaws
 pub mod HeldRegroups
 pub mod HolderLaws
+pub mod ImportLaws
 pub mod InsideLaws
 pub mod Kept
 pub mod MountedRoots

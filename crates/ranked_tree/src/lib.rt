@@ -9,6 +9,7 @@ mod commits;
 mod emptiness;
 mod ending_jobs;
 mod exporting;
+mod finishing;
 mod flushing;
 mod formatting;
 mod frags;

@@ -1,8 +1,5 @@
 //! Send: what isn't clean of the region of a prepared export is handed out as bytes.
-ghost use Rattle.std.specs.Prelude.{◌≡◌, ◌≢◌, Some, IfErr, IfOk, IfSome, MatchOption, OnErr};
-ghost use Rattle.std.specs.FinMap as map;
-ghost use Rattle.export_steps.specs.declared.exports.ExportState.TheVariants as state;
-ghost use Rattle.export_steps.specs.Standing.{IsBetweenRanks, state_at};
+ghost use Rattle.std.specs.Prelude.{◌≡◌, IfErr, IfOk, OnErr};
 ghost use Rattle.mdcache.specs.Core.{state_of};
 ghost use Rattle.ranked_tree.specs.Exported.{IsDivided};
 ghost use Rattle.ranked_tree.specs.Ranked.{held_roots};
@@ -12,7 +9,7 @@ use crate::ranked_tree::RankedTree;
 use crate::regions::Regions;
 use export_bytes::encode_export;
 use export_regions::export_of;
-use export_steps::{ExportState, Exports, StandingExport};
+use export_steps::ExportState;
 use mdcache::MdCache;
 use mds_types::{Dirfrag, Frag, Ino, Refusal};
 use objstore::Store;
@@ -54,7 +51,7 @@ fn region_bytes<S: Store + Drop>(
     ensures sent { IfOk result (λ bytes. SpellsPrepared (state_of tree.now) regions.now.roots.roots regions.now.exports (dir, frag) bytes.items) }
     ensures refused { IfErr result (RefusesSend (state_of tree.now) regions.now.roots.roots regions.now.exports (dir, frag)) }
 {
-    let Some(export) = find_prepared(&regions.exports, dir, frag) else {
+    let Some(export) = regions.export_in(dir, frag, ExportState::Prepared) else {
         return Err(Refusal::WrongExportState);
     };
     let root = Dirfrag {
@@ -65,18 +62,4 @@ fn region_bytes<S: Store + Drop>(
     let (caches, dirs) = (tree.caches(), tree.dirs());
     let sent = export_of(alloc, caches, &regions.roots, dirs, root, export.importer)?;
     Ok(encode_export(alloc, &sent)?)
-}
-
-// The export of a root, if it is prepared.
-fn find_prepared(exports: &Exports, dir: Ino, frag: Frag) -> Option<StandingExport>
-    ensures export { MatchOption result (state_at exports.now (dir, frag) ≢ Some state.Prepared) (λ export. (map.get exports.now (dir, frag) ≡ Some export) × (export.state ≡ state.Prepared)) }
-    ensures ranks { IfSome result IsBetweenRanks }
-{
-    let Some(export) = exports.get(dir, frag) else {
-        return None;
-    };
-    if export.state != ExportState::Prepared {
-        return None;
-    }
-    Some(export)
 }
