@@ -7,6 +7,7 @@ pub mod FlushedBook
 pub mod FragmentLaws
 pub mod GrantLaws
 pub mod HeldLaws
+pub mod ImportLaws
 pub mod JobObjects
 pub mod MadeReady
 pub mod MasterLaws

@@ -12,10 +12,10 @@ use Rattle.mdcache.specs.Objects.{Purges, SavesTree}
 use Rattle.mds_types.specs.Leaf.{Leaf}
 use Rattle.cluster_core.specs.declared.events.Answer.{Answer}
 use Rattle.cluster_core.specs.declared.events.Event.{Event}
-use Rattle.cluster_core.specs.declared.events.Event.TheVariants.{Arrive, Grant, Serve, Split, Merge, CommitBegin, CommitEnd, CommitDrop, CommitTree, Purge, Evict, Start, Freeze, Prep, Send, Finish, Cancel}
+use Rattle.cluster_core.specs.declared.events.Event.TheVariants.{Arrive, Grant, Serve, Split, Merge, CommitBegin, CommitEnd, CommitDrop, CommitTree, Purge, Evict, Start, Freeze, Prep, Send, Import, Finish, Cancel}
 use Rattle.cluster_core.specs.State.{Core, State}
 use Rattle.cluster_core.specs.Grants.{GrantsFirst}
-use Rattle.cluster_core.specs.Exporting.{CancelsAt, Exports, Finishes, Freezes, Preps, SendsExport, Starts}
+use Rattle.cluster_core.specs.Exporting.{CancelsAt, Exports, Finishes, Freezes, ImportsExport, Preps, SendsExport, Starts}
 use Rattle.cluster_core.specs.Administers.{Administers, BeginsAt, EvictsOne, MergesLeaves, SplitsLeaf, nothing, told_job}
 use Rattle.cluster_core.specs.Steps.{ArrivesAt, Does, MayRefuse, Steps}
 use Rattle.cluster_core.specs.Runs.{AddsAtServe, Records}
@@ -42,6 +42,10 @@ module _ (old new : State) (past now : List Entry) where
   sent : (was is : Core) (leaf : Leaf) (result : Result Answer Refusal) → SendsExport was is past now leaf result → now ≡ past
   sent was is leaf (Ok answer) h = h.3.same
   sent was is leaf (Err reason) h = h.1.same
+
+  imported : (was is : Core) (leaf : Leaf) (bytes : List ℕ) (result : Result Answer Refusal) → ImportsExport was is past now leaf bytes result → now ≡ past
+  imported was is leaf bytes (Ok answer) h = h.2.same
+  imported was is leaf bytes (Err reason) h = h.1.same
 
   at_rank : (here : Bool) (result : Result Answer Refusal) {done Same : Type 0} → (Same → new ≡ old) → (done → now ≡ past) → MatchBool here done ((result ≡ Err NotAuthority) × Same × (now ≡ past)) → now ≡ past
   at_rank true result still go h = go h
@@ -73,6 +77,7 @@ adds_at_serve old new past now result (Start from dir f to) h =
 adds_at_serve old new past now result (Freeze dir f) h = exported old.state new.state past now old new (Freezes old.state new.state (dir, f)) result h
 adds_at_serve old new past now result (Prep dir f) h = exported old.state new.state past now old new (Preps old.state new.state (dir, f)) result h
 adds_at_serve old new past now result (Send dir f) h = sent old.state new.state past now old new (dir, f) result h
+adds_at_serve old new past now result (Import dir f bytes) h = imported old.state new.state past now old new (dir, f) bytes result h
 adds_at_serve old new past now result (Finish dir f) h = exported old.state new.state past now old new (Finishes old.state new.state (dir, f)) result h
 adds_at_serve old new past now result (Cancel dir f) h = exported old.state new.state past now old new (CancelsAt old.state new.state (dir, f)) result h
 

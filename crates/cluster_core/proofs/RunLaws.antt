@@ -16,14 +16,14 @@ use Rattle.cluster_core.specs.declared.events.Answer.{Answer}
 use Rattle.cached_frag.specs.declared.jobs.Job.{Job as Begun}
 use Rattle.cluster_core.specs.declared.events.Answer.TheVariants.{Deferred, Forwarded, Job, Nothing, Reply, Sent}
 use Rattle.cluster_core.specs.declared.events.Event.{Event}
-use Rattle.cluster_core.specs.declared.events.Event.TheVariants.{Arrive, Grant, Serve, Split, Merge, CommitBegin, CommitEnd, CommitDrop, CommitTree, Purge, Evict, Start, Freeze, Prep, Send, Finish, Cancel}
+use Rattle.cluster_core.specs.declared.events.Event.TheVariants.{Arrive, Grant, Serve, Split, Merge, CommitBegin, CommitEnd, CommitDrop, CommitTree, Purge, Evict, Start, Freeze, Prep, Send, Import, Finish, Cancel}
 use Rattle.cluster_core.specs.State.{Core, Kept, State}
 use Rattle.cluster_core.specs.Serve.{IsApplied, IsRepeated, IsLeft, ServesRequest, ServesInbox, entry_of}
 use Rattle.cluster_core.specs.Grants.{GrantsFirst}
 use Rattle.inboxes.specs.Inboxes.{first_waiting, waiting_at}
 use Rattle.mdcache.specs.Commits.{Drops, Ends}
 use Rattle.mdcache.specs.Objects.{Purges, SavesTree}
-use Rattle.cluster_core.specs.Exporting.{CancelsAt, Exports, Finishes, Freezes, Preps, SendsExport, Starts}
+use Rattle.cluster_core.specs.Exporting.{CancelsAt, Exports, Finishes, Freezes, ImportsExport, Preps, SendsExport, Starts}
 use Rattle.cluster_core.specs.Administers.{Administers, BeginsAt, EvictsOne, MergesLeaves, SplitsLeaf, nothing, told_job}
 use Rattle.cluster_core.specs.Steps.{ArrivesAt, Does, MayRefuse}
 use Rattle.cluster_core.specs.Sound.{IsSoundBook}
@@ -131,6 +131,10 @@ module _ (old new : State) (past now : List Entry) where
   sent_done old_core new_core is was leaf (Ok answer) h = quiet answer (Sent h.0) h.1 h.3.same tt h.3.same
   sent_done old_core new_core is was leaf (Err reason) h = left reason (record { same = h.1.same; left = sym is ∙ h.1.left ∙ was })
 
+  imported_done : (old_core new_core : Core) → new_core.state ≡ new → old_core.state ≡ old → (leaf : Leaf) (bytes : List ℕ) (result : Result Answer Refusal) → ImportsExport old_core new_core past now leaf bytes result → IsStepOf past now result
+  imported_done old_core new_core is was leaf bytes (Ok answer) h = quiet answer Nothing h.0 h.2.same tt h.2.same
+  imported_done old_core new_core is was leaf bytes (Err reason) h = left reason (record { same = h.1.same; left = sym is ∙ h.1.left ∙ was })
+
   job_is_no_reply : (job : Option Begun) → now ≡ past → AddsTo past now (Ok (told_job job)) × IsOfHistory now (Ok (told_job job))
   job_is_no_reply None same = (same, tt)
   job_is_no_reply (Some job) same = (same, tt)
@@ -167,6 +171,7 @@ step_of old new past now result (Start from dir f to) h =
 step_of old new past now result (Freeze dir f) h = export_done old.state new.state past now old new refl refl (Freezes old.state new.state (dir, f)) result h
 step_of old new past now result (Prep dir f) h = export_done old.state new.state past now old new refl refl (Preps old.state new.state (dir, f)) result h
 step_of old new past now result (Send dir f) h = sent_done old.state new.state past now old new refl refl (dir, f) result h
+step_of old new past now result (Import dir f bytes) h = imported_done old.state new.state past now old new refl refl (dir, f) bytes result h
 step_of old new past now result (Finish dir f) h = export_done old.state new.state past now old new refl refl (Finishes old.state new.state (dir, f)) result h
 step_of old new past now result (Cancel dir f) h = export_done old.state new.state past now old new refl refl (CancelsAt old.state new.state (dir, f)) result h
 

@@ -13,10 +13,10 @@ use Rattle.inboxes.specs.Inboxes.{Inboxes, first_waiting, waiting_at, with_waiti
 use Rattle.mds_types.specs.Leaf.{Leaf}
 use Rattle.cluster_core.specs.declared.events.Answer.{Answer}
 use Rattle.cluster_core.specs.declared.events.Event.{Event}
-use Rattle.cluster_core.specs.declared.events.Event.TheVariants.{Arrive, Grant, Serve, Split, Merge, CommitBegin, CommitEnd, CommitDrop, CommitTree, Purge, Evict, Start, Freeze, Prep, Send, Finish, Cancel}
+use Rattle.cluster_core.specs.declared.events.Event.TheVariants.{Arrive, Grant, Serve, Split, Merge, CommitBegin, CommitEnd, CommitDrop, CommitTree, Purge, Evict, Start, Freeze, Prep, Send, Import, Finish, Cancel}
 use Rattle.mdcache.specs.Commits.{Drops, Ends}
 use Rattle.mdcache.specs.Objects.{Purges, SavesTree}
-use Rattle.cluster_core.specs.Exporting.{CancelsAt, Exports, Finishes, Freezes, Preps, SendsExport, Starts}
+use Rattle.cluster_core.specs.Exporting.{CancelsAt, Exports, Finishes, Freezes, ImportsExport, Preps, SendsExport, Starts}
 use Rattle.cluster_core.specs.Grants.{GrantsFirst}
 use Rattle.cluster_core.specs.Administers.{Administers, BeginsAt, EvictsOne, IsUnseen, MergesLeaves, SplitsLeaf, nothing, told_job}
 use Rattle.cluster_core.specs.State.{Core, State, shown}
@@ -101,6 +101,10 @@ module _ (opening : Tree) (past now : List Entry) (old new : Core) (sound : IsSo
   sent leaf (Ok answer) h = sound-same h.3.same h.3.tree (ap (λ (s : State). s.numbers) h.3.left) (ap (λ (s : State). length s.inboxes) h.3.left) (ap (λ (s : State). s.sessions) h.3.left)
   sent leaf (Err reason) h = sound-left h.1
 
+  imported : (leaf : Leaf) (bytes : List ℕ) (result : Result Answer Refusal) → ImportsExport old new past now leaf bytes result → IsSound opening now new
+  imported leaf bytes (Ok answer) h = sound-same h.2.same h.2.tree (ap (λ (s : State). s.numbers) h.2.left) (ap (λ (s : State). length s.inboxes) h.2.left) (ap (λ (s : State). s.sessions) h.2.left)
+  imported leaf bytes (Err reason) h = sound-left h.1
+
   at_rank : (here : Bool) (result : Result Answer Refusal) {done : Type 0} → (here ≡ true → done → IsSound opening now new) → MatchBool here done ((result ≡ Err NotAuthority) × (new ≡ old) × (now ≡ past)) → IsSound opening now new
   at_rank true result go h = go refl h
   at_rank false result go h = sound-left (record { same = h.2; left = ap (λ (c : Core). c.state) h.1 })
@@ -123,5 +127,6 @@ module _ (opening : Tree) (past now : List Entry) (old new : Core) (sound : IsSo
   sound-step result (Freeze dir f) h = stepped (Freezes old.state new.state (dir, f)) result h
   sound-step result (Prep dir f) h = stepped (Preps old.state new.state (dir, f)) result h
   sound-step result (Send dir f) h = sent (dir, f) result h
+  sound-step result (Import dir f bytes) h = imported (dir, f) bytes result h
   sound-step result (Finish dir f) h = stepped (Finishes old.state new.state (dir, f)) result h
   sound-step result (Cancel dir f) h = stepped (CancelsAt old.state new.state (dir, f)) result h

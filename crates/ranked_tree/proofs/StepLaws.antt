@@ -102,7 +102,7 @@ module _ (old new : Standing) (root : Leaf) where
   prep_holds (Ok done) is roots = prep_holding old new root is roots
   prep_holds (Err reason) is roots = ap (λ (s : Standing). holding s roots) is.2
 
-  step_there : (from to : ExportState) (count : ℕ) (result : Result (Unit {0}) Refusal) → Steps old new root from to result → AreThere count old → AreThere count new
+  pub step_there : (from to : ExportState) (count : ℕ) (result : Result (Unit {0}) Refusal) → Steps old new root from to result → AreThere count old → AreThere count new
   step_there from to count (Ok done) is there = put_there count old new root (come_to to is.export) is.changed (there root is.export is.stood) there
   step_there from to count (Err reason) is there = subst (AreThere count) (sym is.2) there
 

@@ -8,8 +8,9 @@ use Rattle.mds_types.specs.declared.object_names.ObjName.TheVariants.{Frag as Fr
 use Rattle.mds_types.specs.declared.refusals.Refusal.{Refusal}
 use Rattle.mds_types.specs.declared.refusals.Refusal.TheVariants.{Damaged, NoMemory, NothingToEvict, WrongExportState}
 use Rattle.objstore.specs.Objects.{Objects}
+use Rattle.cached_frag.specs.Cached.{Cached}
 use Rattle.dentry_cache.specs.Cache.{Unsaved}
-use Rattle.dentry_cache.specs.CacheMap.{CacheMap}
+use Rattle.dentry_cache.specs.CacheMap.{At, CacheMap, at}
 use Rattle.dentry_cache.specs.CacheSplits.{IsKeptFor}
 use Rattle.dentry_cache.specs.Handing.{HandsOver, WantsPlace}
 use Rattle.dentry_cache.specs.Reads.{Reads}
@@ -39,6 +40,11 @@ pub record IsRenewed (In : Leaf → Type 0) (old new : TreeState) : Type 0 where
 abbrev pub GivesUp : Objects → (old new : CacheMap) → Type 0
 GivesUp objects old new = Reads NoneUsed (IsKeptFor old) objects old new
 
+-- each cached fragment of a region is at its importer, and each other one is at the rank where it was
+abbrev pub ComeToImporter : (In : Leaf → Type 0) → Rank → (old new : CacheMap) → Type 0
+ComeToImporter In importer old new =
+    (leaf : Leaf) (a : At) → map.get new.held leaf ≡ Some a → (In leaf × (a.rank ≡ importer.0)) ⊎ ((In leaf → ⊥) × (f : Cached) × (map.get old.held leaf ≡ Some (at a.rank f)))
+
 -- what the exporter caches of a region goes to the importer: each fragment that isn't clean is there, and those that are clean are cached no more
 pub record HandsRegion (In : Leaf → Type 0) (objects : Objects) (export : StandingExport) (old new : CacheMap) : Type 0 where
   pub mid : CacheMap
@@ -46,6 +52,7 @@ pub record HandsRegion (In : Leaf → Type 0) (objects : Objects) (export : Stan
   pub leaves : RegionLeaves
   pub cached : AreCachedOf In mid export.exporter.0 leaves
   pub handed : HandsOver export.exporter.0 export.importer.0 leaves.unclean leaves.clean mid new
+  pub came : ComeToImporter In export.importer old new
 
 -- where a region isn't taken the caches stay, but that for want of memory clean fragments of the importer may have gone
 pub record KeepsRegion (objects : Objects) (importer : Rank) (old new : CacheMap) (reason : Refusal) : Type 0 where
@@ -94,6 +101,7 @@ pub record TakesAtOnce (old new : Core) (regions : Regions) (root : Leaf) (expor
   pub leaves : RegionLeaves
   pub cached : AreCachedOf (IsInRegionOf (state_of old) regions.roots.roots root) old.caches export.exporter.0 leaves
   pub handed : HandsOver export.exporter.0 export.importer.0 leaves.unclean leaves.clean old.caches new.caches
+  pub came : ComeToImporter (IsInRegionOf (state_of old) regions.roots.roots root) export.importer old.caches new.caches
 
 -- and where it wasn't
 abbrev pub StaysAtOnce : Rank → (old new : CacheMap) → Refusal → Type 0

@@ -2,6 +2,7 @@
 ghost use Rattle.std.specs.Prelude.{◌≡◌, Some, IfErr, IfOk, OnErr, OnOk, length};
 ghost use Rattle.std.specs.FinMap as map;
 ghost use Rattle.dentry_cache.specs.CacheCalls.{KeepsNone};
+ghost use Rattle.dentry_cache.specs.CacheMap.{AreCaches};
 ghost use Rattle.export_regions.specs.Regions.{AreCachedOf};
 ghost use Rattle.export_steps.specs.declared.exports.ExportState.TheVariants as state;
 ghost use Rattle.export_steps.specs.Standing.{IsBetweenRanks};
@@ -153,6 +154,7 @@ fn sent_leaves<S: Store + Drop>(
     ensures cached { IfOk result (AreCachedOf (IsInRegionOf (state_of tree.now) regions.now.roots.roots root.now) tree.now.caches export.exporter.0) }
     ensures spelled { IfOk result (λ leaves. IsSpelledBy (state_of tree.now) regions.now.roots.roots root.now export bytes.now (length leaves.unclean)) }
     ensures refused { IfErr result (IsWrong (state_of tree.now) regions.now.roots.roots root.now export bytes.now) }
+    ensures valid { OnOk result (AreCaches tree.now.caches) }
 {
     let other = Refusal::Damaged(ObjName::Frag(root.0, root.1));
     let at = Dirfrag {

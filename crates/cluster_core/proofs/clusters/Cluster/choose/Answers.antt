@@ -1,8 +1,9 @@
 -- Each event does what its function does, and leaves each leaf its authority.
-use Rattle.std.proofs.Common.{nat_lt, length, sym, ◌∙◌, ap}
+use Rattle.std.proofs.Common.{ℕ, nat_lt, length, List, sym, ◌∙◌, ap, subst}
 use Rattle.dentry_cache.specs.CacheMap.{CacheMap}
 use Rattle.ranked_tree.proofs.Kept.{keeps_same}
 use Rattle.cluster_core.specs.Administers.{AdministersTree, BeginsCommit, EvictsOne, nothing}
+use Rattle.cluster_core.specs.Exporting.{ImportsExport}
 use Rattle.cluster_core.proofs.Exported.{few_ranks, holders_stay, roots_stay, valid_still}
 use Rattle.cluster_core.proofs.Stays.{at_rank_keeps, begun_keeps, dropped_keeps, ended_keeps, evicted_keeps, purged_keeps, saved_keeps}
 use Rattle.cluster_core.proofs.clusters.Cluster.choose.Goals as goal
@@ -111,6 +112,19 @@ returns-in-Send g c = record {
     counted = c.send.ensures.counted;
   });
   valid = valid_still c.args.self.now c.send.new.self c.send.ensures.tree c.send.ensures.roots c.requires.1.subtrees;
+}
+
+pub returns-in-Import : goal.returns-in-Import
+returns-in-Import g c = record {
+  stepped = rw c.in-Import.is (record {
+    does = subst (λ (bytes : List ℕ). ImportsExport c.args.self.now c.import-imported.new.self c.args.history.now.items c.args.history.now.items (c.in-Import.ino, c.in-Import.frag) bytes c.import-imported.result) c.as_slice.ensures (c.import-imported.ensures.imported c.args.history.now.items);
+    authorities = c.import-imported.ensures.authorities;
+    holders = c.import-imported.ensures.others;
+    ranks = c.import-imported.ensures.count;
+    capacity = c.import-imported.ensures.cap;
+    counted = c.import-imported.ensures.counted;
+  });
+  valid = c.import-imported.ensures.valid c.requires.1.subtrees;
 }
 
 pub returns-in-Finish : goal.returns-in-Finish
