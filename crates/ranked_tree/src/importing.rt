@@ -128,11 +128,11 @@ fn take_at_once<S: Store + Drop>(
     ensures sound { IsSoundCore tree.new }
 {
     match sent_leaves(alloc, tree, regions, root, export, bytes) {
-        Ok(leaves) => tree.hand_over(
+        Ok(region) => tree.hand_over(
             export.exporter,
             export.importer,
-            leaves.unclean(),
-            leaves.clean(),
+            region.unclean(),
+            region.clean(),
         ),
         Err(refusal) => Err(refusal),
     }
