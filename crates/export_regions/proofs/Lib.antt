@@ -1,5 +1,6 @@
 pub mod ExportLaws
 pub mod GatherLaws
+pub mod ManyLaws
 pub mod NameLaws
 pub mod PickLaws
 pub mod RiseLaws

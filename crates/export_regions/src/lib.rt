@@ -7,8 +7,10 @@ pub mod laws;
 mod leaves;
 mod regions;
 mod sending;
+mod spelling;
 
 pub use counts::has_too_many;
 pub use leaves::RegionLeaves;
 pub use regions::leaves_of;
 pub use sending::export_of;
+pub use spelling::{Spelled, spell_region};

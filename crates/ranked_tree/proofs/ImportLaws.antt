@@ -1,11 +1,12 @@
 -- What Import makes of a tree that is divided among ranks: the importer of a sent region holds it, and has what isn't clean of it.
+use Rattle.export_regions.proofs.ManyLaws.{all_so}
 use Rattle.export_regions.proofs.NameLaws.{how_many}
 use Rattle.dentry_cache.specs.Reads.{IsReadOf}
 use Rattle.std.proofs.lemmas.Bool.Decides.{nat_tests}
 use Rattle.std.proofs.lemmas.Bool.{and_parts}
 use Rattle.std.proofs.lemmas.Option.{same_Some}
 use Rattle.std.specs.Ordering.{eq_by_cmp}
-use Rattle.std.proofs.Common.{◌≡◌, ◌≢◌, ◌<◌, ◌≤◌, ◌+◌, ◌⊎◌, inl, inr, ℕ, suc, Bool, true, false, cond, not, length, List, [], ◌∷◌, is_some, option_map, Option, Some, None, Result, Ok, Err, refl, sym, ap, subst, ◌∙◌, arith, ◌^◌, nat_lt, map as list_map}
+use Rattle.std.proofs.Common.{◌≡◌, ◌≢◌, ◌<◌, ◌≤◌, ◌+◌, ◌⊎◌, inl, inr, ℕ, suc, Bool, true, false, cond, not, ◌&&◌, length, List, [], ◌∷◌, is_some, option_map, Option, Some, None, Result, Ok, Err, refl, sym, ap, subst, ◌∙◌, arith, ◌^◌, nat_lt, map as list_map}
 use Rattle.std.specs.Prelude.{◌==◌, IfErr, OnOk, OnErr}
 use Rattle.std.specs.List.{AllByRecursion, IsDistinct, list_any, list_all}
 use Rattle.std.specs.FinMap as map
@@ -33,7 +34,8 @@ use Rattle.dentry_cache.proofs.MoveLaws.{all_left_at, left_by}
 use Rattle.dentry_cache.proofs.ReadsLaws.{reads_held}
 use Rattle.export_bytes.specs.declared.exports.Export.{Export}
 use Rattle.export_bytes.specs.declared.exports.SentFrag.{SentFrag}
-use Rattle.export_bytes.specs.Export.{SpellsExport, export_bytes, is_sendable, is_sent_frag}
+use Rattle.export_bytes.specs.Export.{SpellsExport, export_bytes, is_base_of, is_frag_before, is_name_before, is_sendable, is_sent_frag, is_sent_name, rise}
+use Rattle.dirfrag_codec.specs.Values.{is_fragment}
 use Rattle.export_regions.specs.Regions.{AreCachedOf, HasTooMany, IsExportOf, IsIn, Picks, RegionLeaves, values, UncleanLeaves, sent_names, sent_of}
 use Rattle.export_regions.specs.Sending.{AreAtTheirRank, IsExportFrom, MaySend, MaySendAll, gathered, sent_from, HaveVersions}
 use Rattle.export_regions.proofs.ExportLaws.{one_export}
@@ -71,41 +73,6 @@ use Rattle.ranked_tree.proofs.SendLaws.{region_held, region_here, have_versions}
 use Rattle.ranked_tree.proofs.StandLaws.{divided_still, held_bound, same_jobs}
 use Rattle.ranked_tree.proofs.StepLaws.{AreThere, step_there}
 use Rattle.ranked_tree.proofs.SubtreeLaws.{over}
-
--- ---- lists of leaves
-
-all_so : (P Q : Leaf → Type 0) → ((q : Leaf) → P q → Q q) → (xs : List Leaf) → AllByRecursion P xs → AllByRecursion Q xs
-all_so P Q so [] all = tt
-all_so P Q so (x ∷ xs) all = (so x all.0, all_so P Q so xs all.1)
-
--- a map of as many leaves as are named, where each has a value
-many_tabulated : {X : Type 0} (f : Leaf → Option X) (ks : List Leaf) → IsDistinct leaf_is ks → AllByRecursion (λ (k : Leaf). is_some (f k) ≡ true) ks → map.len (tabulate f ks) ≡ length ks
-many_tabulated {X} f [] distinct all = len-empty leaf_cmp X
-many_tabulated {X} f (k ∷ ks) distinct all = go (f k) refl all.0
-  where
-    none_of : (xs : List Leaf) → AllByRecursion (λ (y : Leaf). leaf_is k y ≡ false) xs → list_any (leaf_is k) xs ≡ false
-    none_of [] none = refl
-    none_of (y ∷ ys) none = rw none.0 (none_of ys none.1)
-
-    absent : map.contains_key (tabulate f ks) k ≡ false
-    absent = ap (λ (o : Option X). is_some o) (get_tabulate f ks k) ∙ ap (λ (b : Bool). is_some (cond b (f k) None)) (none_of ks (IsDistinct-head leaf_is k ks distinct))
-
-    go : (o : Option X) → f k ≡ o → is_some o ≡ true → map.len (with_some (tabulate f ks) k o) ≡ suc (length ks)
-    go None seen some = let clash : false ≡ true = some in absurd cc
-    go (Some x) seen some =
-        let more : map.len (map.insert (tabulate f ks) k x) ≡ map.len (tabulate f ks) + 1 = len-insert leaf-total (tabulate f ks) k x ∙ ap (λ (b : Bool). cond b (map.len (tabulate f ks)) (map.len (tabulate f ks) + 1)) absent in
-        let rest : map.len (tabulate f ks) ≡ length ks = many_tabulated f ks (IsDistinct-tail leaf_is k ks distinct) all.1 in
-        omega (arith, more, rest)
-
--- as many fragments are sent as leaves were found
-pub as_many : (c : CacheMap) (leaves : List Leaf) (root : Dirfrag) (to : Rank) (export : Export) → IsDistinct leaf_is leaves → AreUncleanAt c root.rank.0 leaves → IsExportFrom c leaves root to export → length export.frags ≡ length leaves
-as_many c leaves root to export distinct dirty is =
-    ap (λ (xs : List SentFrag). length xs) is.frags ∙ length-map (map.entries (gathered c root.rank.0 leaves)) (λ (e : Leaf × SentFrag). e.1) ∙ sym (len-entries (gathered c root.rank.0 leaves))
-    ∙ many_tabulated (λ (leaf : Leaf). option_map (sent_from leaf) (here c root.rank.0 leaf)) leaves distinct (all_so (λ (leaf : Leaf). unclean_in (here c root.rank.0 leaf) ≡ true) (λ (leaf : Leaf). is_some (option_map (sent_from leaf) (here c root.rank.0 leaf)) ≡ true) (λ q is. some q (here c root.rank.0 q) is) leaves dirty)
-  where
-    some : (q : Leaf) (o : Option Cached) → unclean_in o ≡ true → is_some (option_map (sent_from q) o) ≡ true
-    some q None is = let clash : false ≡ true = is in absurd cc
-    some q (Some f) is = refl
 
 -- ---- the region of a sent export, where no place is kept
 
@@ -228,28 +195,43 @@ module _ (core : Core) (regions : Regions) (divided : IsDivided core regions) (r
 -- what holds of each value of a map holds of the one that is found
 of_values : {X : Type 0} (p : X → Bool) (es : List (Leaf × X)) (q : Leaf) (x : X) → list_all p (list_map (λ (e : Leaf × X). e.1) es) ≡ true → find leaf_cmp q es ≡ Some x → p x ≡ true
 of_values {X} p [] q x all found = let clash : None ≡ Some x = found in absurd cc
-of_values {X} p (e ∷ es) q x all found = go (eq_by_cmp leaf_cmp q e.0) found (and_parts (p e.1) (list_all p (list_map (λ (e : Leaf × X). e.1) es)) all)
+of_values {X} p (e ∷ es) q x all found =
+    let both : (p e.1 ≡ true) × (list_all p (list_map (λ (e : Leaf × X). e.1) es) ≡ true) = and_parts (p e.1) (list_all p (list_map (λ (e : Leaf × X). e.1) es)) all in
+    go (eq_by_cmp leaf_cmp q e.0) found both.0 (λ is. of_values p es q x both.1 is)
   where
-    go : (b : Bool) → cond b (Some e.1) (find leaf_cmp q es) ≡ Some x → (p e.1 ≡ true) × (list_all p (list_map (λ (e : Leaf × X). e.1) es) ≡ true) → p x ≡ true
-    go true is both = subst (λ (y : X). p y ≡ true) (same_Some e.1 x is) both.0
-    go false is both = of_values p es q x both.1 is
+    go : (b : Bool) → cond b (Some e.1) (find leaf_cmp q es) ≡ Some x → p e.1 ≡ true → (find leaf_cmp q es ≡ Some x → p x ≡ true) → p x ≡ true
+    go true is here_so rest = subst (λ (y : X). p y ≡ true) (same_Some e.1 x is) here_so
+    go false is here_so rest = rest is
+
+-- the last of five tests, and the fourth
+last_test : (a b c d e : Bool) → (a && (b && (c && (d && e)))) ≡ true → e ≡ true
+last_test a b c d e is =
+    let w = (and_parts a (b && (c && (d && e))) is).1 in
+    let x = (and_parts b (c && (d && e)) w).1 in
+    let y = (and_parts c (d && e) x).1 in
+    (and_parts d e y).1
+
+fourth_test : (a b c d e : Bool) → (a && (b && (c && (d && e)))) ≡ true → c ≡ true
+fourth_test a b c d e is =
+    let w = (and_parts a (b && (c && (d && e))) is).1 in
+    let x = (and_parts b (c && (d && e)) w).1 in
+    (and_parts c (d && e) x).0
+
+over_many : (n : ℕ) → nat_lt n (2 ^ 32) ≡ true → 2 ^ 32 ≤ n → ⊥
+over_many n less many = grind (arith, nat_tests, less, many)
 
 -- an export that may be sent has no fragment with too many dirty names
-few_sent : (In : Leaf → Type 0) (m : UncleanLeaves) (root : Dirfrag) (to : Rank) (export : Export) → IsExportOf In m root to export → is_sendable export ≡ true → HasTooMany In m → ⊥
-few_sent In m root to export is sendable has =
+few_sent : (Within : Leaf → Type 0) (m : UncleanLeaves) (root : Dirfrag) (to : Rank) (export : Export) → IsExportOf Within m root to export → is_sendable export ≡ true → HasTooMany Within m → ⊥
+few_sent Within m root to export is sendable has =
     let here_sent : map.get is.sent has.leaf ≡ Some (sent_of has.leaf has.unsaved) = is.are.all has.leaf has.within ∙ ap (option_map (sent_of has.leaf)) has.beside in
-    let all : list_all is_sent_frag (values is.sent) ≡ true = ap (list_all is_sent_frag) (sym is.frags) ∙ each sendable in
-    let one : is_sent_frag (sent_of has.leaf has.unsaved) ≡ true = of_values is_sent_frag (map.entries is.sent) has.leaf (sent_of has.leaf has.unsaved) all (sym (get-entries is.sent has.leaf) ∙ here_sent) in
-    over_many (length (sent_names has.unsaved.dirty)) (counted one) (subst (λ (n : ℕ). 2 ^ 32 ≤ n) (sym (how_many has.unsaved.dirty)) has.many)
-  where
-    each : is_sendable export ≡ true → list_all is_sent_frag export.frags ≡ true
-    each so = (and_parts _ _ (and_parts _ _ (and_parts _ _ (and_parts _ _ so).1).1).1).1
-
-    counted : is_sent_frag (sent_of has.leaf has.unsaved) ≡ true → nat_lt (length (sent_names has.unsaved.dirty)) (2 ^ 32) ≡ true
-    counted so = (and_parts _ _ (and_parts _ _ (and_parts _ _ so).1).1).0
-
-    over_many : (n : ℕ) → nat_lt n (2 ^ 32) ≡ true → 2 ^ 32 ≤ n → ⊥
-    over_many n less many = grind (arith, nat_tests, less, many)
+    let each : list_all is_sent_frag export.frags ≡ true =
+    last_test (nat_lt export.ino.0 (2 ^ 64) && is_fragment export.frag) (nat_lt export.exporter.0 16 && (nat_lt export.importer.0 16 && not (export.exporter.0 == export.importer.0))) (nat_lt (length export.frags) (2 ^ 32)) (rise is_frag_before None export.frags) (list_all is_sent_frag export.frags) sendable in
+    let all : list_all is_sent_frag (values is.sent) ≡ true = ap (list_all is_sent_frag) (sym is.frags) ∙ each in
+    let sent : SentFrag = sent_of has.leaf has.unsaved in
+    let one : is_sent_frag sent ≡ true = of_values is_sent_frag (map.entries is.sent) has.leaf sent all (sym (get-entries is.sent has.leaf) ∙ here_sent) in
+    let counted : nat_lt (length sent.names) (2 ^ 32) ≡ true =
+    fourth_test (nat_lt sent.ino.0 (2 ^ 64) && is_fragment sent.frag) (is_base_of sent.base (length sent.names)) (nat_lt (length sent.names) (2 ^ 32)) (rise is_name_before None sent.names) (list_all is_sent_name sent.names) one in
+    over_many (length (sent_names has.unsaved.dirty)) counted (subst (λ (n : ℕ). 2 ^ 32 ≤ n) (sym (how_many has.unsaved.dirty)) has.many)
 
 module _ (core : Core) (regions : Regions) (root : Leaf) (export : StandingExport) (caches : CacheMap) (homes : Homes) (covers : Covers) (these : caches ≡ core.caches) (same : homes ≡ core.homes) (alike : covers ≡ core.covers) where
   abbrev InAt : Homes → Covers → Leaf → Type 0
@@ -348,17 +330,21 @@ module _ (core new : Core) (regions : Regions) (divided : IsDivided core regions
 
 -- ---- once a place that was kept is given up
 
+pub where_err : {A E P Q : Type 0} (result : Result A E) → (P → Q) → OnErr result P → OnErr result Q
+where_err (Ok x) so is = tt
+where_err (Err e) so is = so is
+
 module _ (old mid : Core) (regions : Regions) (reads : ReadsCore NoneUsed (IsKeptFor old.caches) old mid) where
   same_state : state_of mid ≡ state_of old
   same_state = reads_state NoneUsed (IsKeptFor old.caches) old mid reads
 
-  pub freed_divided : IsDivided old regions → mid.faults ≡ old.faults → IsSoundCore mid → IsDivided mid regions
-  freed_divided divided faults sound =
-      divided_still old mid regions divided (owned_reads NoneUsed (IsKeptFor old.caches) old mid (held_in regions) reads sound (λ r q no live. absurd no) divided.owned) (keeps faults).count
-      (same_jobs (state_of old) (state_of mid) (ap (λ (s : TreeState). s.jobs) same_state)) (ap (λ (s : TreeState). s.homes) same_state) (ap (λ (s : TreeState). s.covers) same_state)
-
   pub keeps : mid.faults ≡ old.faults → KeepsState old mid None
   keeps faults = reads_keeps NoneUsed (IsKeptFor old.caches) old mid reads None (let none : mid.faults ≡ old.faults = faults in omega (arith, none))
+
+  pub freed_divided : IsDivided old regions → mid.faults ≡ old.faults → IsSoundCore mid → IsDivided mid regions
+  freed_divided divided faults sound =
+      divided_still old mid regions divided (owned_reads NoneUsed (IsKeptFor old.caches) old mid (held_in regions) reads sound (λ r q none live. absurd none) divided.owned) (keeps faults).count
+      (same_jobs (state_of old) (state_of mid) (ap (λ (s : TreeState). s.jobs) same_state)) (ap (λ (s : TreeState). s.homes) same_state) (ap (λ (s : TreeState). s.covers) same_state)
 
   pub freed_takes : (new : Core) (root : Leaf) (export : StandingExport) (bytes : List ℕ) → TakesAtOnce mid new regions root export bytes → Takes old new regions root export bytes
   freed_takes new root export bytes t = record {
@@ -376,7 +362,7 @@ module _ (old mid : Core) (regions : Regions) (reads : ReadsCore NoneUsed (IsKep
     where
       back : (leaf : Leaf) (rank : ℕ) (f : Cached) → IsReadOf NoneUsed old.objects leaf (map.get old.caches.held leaf) (at rank f) → (g : Cached) × (map.get old.caches.held leaf ≡ Some (at rank g))
       back leaf rank f (inl was) = (was.0, was.1)
-      back leaf rank f (inr no) = absurd no.0
+      back leaf rank f (inr other) = absurd other.0
 
       go : (leaf : Leaf) (a : At) → (IsInRegionOf (state_of mid) regions.roots.roots root leaf × (a.rank ≡ export.importer.0)) ⊎ ((IsInRegionOf (state_of mid) regions.roots.roots root leaf → ⊥) × (f : Cached) × (map.get mid.caches.held leaf ≡ Some (at a.rank f)))
           → (IsInRegionOf (state_of mid) regions.roots.roots root leaf × (a.rank ≡ export.importer.0)) ⊎ ((IsInRegionOf (state_of mid) regions.roots.roots root leaf → ⊥) × (f : Cached) × (map.get old.caches.held leaf ≡ Some (at a.rank f)))

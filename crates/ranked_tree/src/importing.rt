@@ -1,6 +1,8 @@
 //! Import: what isn't clean of a sent region goes to its importer, which holds the region from then on.
-ghost use Rattle.std.specs.Prelude.{◌≡◌, Some, IfErr, IfOk, OnErr, OnOk, length};
+ghost use Rattle.std.specs.Prelude.{◌≡◌, ◌↔◌, Some, IfErr, IfOk, IsTrue, OnErr, OnOk, length};
 ghost use Rattle.std.specs.FinMap as map;
+ghost use Rattle.mds_types.specs.declared.object_names.ObjName.TheVariants.{Frag as FragOf};
+ghost use Rattle.mds_types.specs.declared.refusals.Refusal.TheVariants.{Damaged};
 ghost use Rattle.dentry_cache.specs.CacheCalls.{KeepsNone};
 ghost use Rattle.dentry_cache.specs.CacheMap.{AreCaches};
 ghost use Rattle.export_regions.specs.Regions.{AreCachedOf};
@@ -15,8 +17,7 @@ ghost use Rattle.ranked_tree.specs.Subtrees.{KeepsOutside};
 
 use crate::ranked_tree::RankedTree;
 use crate::regions::Regions;
-use export_bytes::encode_export;
-use export_regions::{RegionLeaves, has_too_many, leaves_of};
+use export_regions::{RegionLeaves, Spelled, spell_region};
 use export_steps::{ExportState, StandingExport};
 use mdcache::MdCache;
 use mds_types::{Dirfrag, Frag, Ino, ObjName, Refusal};
@@ -121,6 +122,7 @@ fn take_at_once<S: Store + Drop>(
     ensures refused { IfErr result (MayNotImport (λ count rank. LacksPlacesAt count tree.old rank) (state_of tree.old) regions.now.roots.roots root.now export bytes.now) }
     ensures left { OnErr result (state_of tree.new ≡ state_of tree.old) }
     ensures caches { IfErr result (StaysAtOnce export.importer tree.old.caches tree.new.caches) }
+    ensures still { OnErr result (IsDivided tree.new regions.now) }
     ensures shown { shown_in tree.new ≡ shown_in tree.old }
     ensures beside { tree.new ≡ record tree.old { caches = tree.new.caches } }
     ensures count { length tree.new.caches.used ≡ length tree.old.caches.used }
@@ -156,21 +158,32 @@ fn sent_leaves<S: Store + Drop>(
     ensures refused { IfErr result (IsWrong (state_of tree.now) regions.now.roots.roots root.now export bytes.now) }
     ensures valid { OnOk result (AreCaches tree.now.caches) }
 {
-    let other = Refusal::Damaged(ObjName::Frag(root.0, root.1));
     let at = Dirfrag {
         dir: root.0,
         frag: root.1,
         rank: export.exporter,
     };
     let (caches, dirs) = (tree.caches(), tree.dirs());
-    if has_too_many(caches, &regions.roots, dirs, at) {
-        return Err(other);
-    }
-    let leaves = leaves_of(alloc, caches, &regions.roots, dirs, at)?;
-    let sent = leaves.export(alloc, caches, dirs, at, export.importer)?;
-    let spelled = encode_export(alloc, &sent)?;
-    if spelled.as_slice() != bytes {
-        return Err(other);
+    let found = spell_region(alloc, caches, &regions.roots, dirs, &at, export.importer)?;
+    let Some(Spelled { leaves, bytes: right }) = found else {
+        return Err(not_sent(root));
+    };
+    if !are_same(right.as_slice(), bytes) {
+        return Err(not_sent(root));
     }
     Ok(leaves)
+}
+
+// Whether bytes are these.
+fn are_same(bytes: &[u8], others: &[u8]) -> bool
+    ensures { IsTrue result ↔ (bytes.now ≡ others.now) }
+{
+    bytes == others
+}
+
+// Other bytes than were sent: told with the root's object.
+fn not_sent(root: &(Ino, Frag)) -> Refusal
+    ensures { result ≡ Damaged (FragOf root.now.0 root.now.1) }
+{
+    Refusal::Damaged(ObjName::Frag(root.0, root.1))
 }
