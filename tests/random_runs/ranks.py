@@ -82,7 +82,11 @@ class Ranks:
 
     def changed(self, operation):
         """The leaves that an operation would change now."""
-        if operation is None or not changes(operation, copy.deepcopy(self.table).answer(operation)):
+        if operation is None or operation.split()[0] in READS:
+            return []
+        trial = copy.copy(self.table)
+        trial.rows = [copy.copy(row) for row in trial.rows]
+        if not changes(operation, trial.answer(operation)):
             return []
         word, places = places_of(operation)
         gone = self.table.find(*places[-1]) if word in ('rmdir', 'rename') else None
