@@ -1,5 +1,6 @@
 -- What Import of the tree with its ranks is to the cluster.
-use Rattle.std.proofs.Common.{◌≡◌, ◌⊎◌, inl, inr, ℕ, List, Option, Some, Ok, Err, refl, ap, sym, subst}
+use Rattle.std.proofs.Common.{◌≡◌, ◌⊎◌, inl, inr, ℕ, List, Option, Some, Result, Ok, Err, refl, ap, sym, subst}
+use Rattle.std.specs.Prelude.{IsErr, IsErrAnd}
 use Rattle.mds_types.specs.declared.entries.Entry.{Entry}
 use Rattle.mds_types.specs.declared.refusals.Refusal.{Refusal}
 use Rattle.mds_types.specs.Leaf.{Leaf}
@@ -17,6 +18,7 @@ use Rattle.mdcache.specs.State.{State as TreeState}
 use Rattle.ranked_tree.specs.Importing.{Imports, LeavesCaches, MayNotImport, RefusesImport}
 use Rattle.ranked_tree.specs.Ranked.{Ranked}
 use Rattle.ranked_tree.specs.Subtrees.{AreRoots, KeepsAuthorities}
+use Rattle.cluster_core.specs.declared.events.Answer.{Answer}
 use Rattle.cluster_core.specs.declared.events.Answer.TheVariants.{Nothing}
 use Rattle.cluster_core.specs.Exporting.{ImportsExport}
 use Rattle.cluster_core.specs.State.{Core, State, core_of, state_of}
@@ -51,3 +53,8 @@ module _ (old new : Ranked) (subtrees : new.subtrees ≡ old.subtrees) where
     refused_so reason refuses tree exports caches =
         (refuses, record { same = refl; left = λ i. state_of (tree i) (roots_same i) (exports i) numbers inboxes pins sessions }, caches)
 
+    -- so it is with a result that is an error for this reason
+    pub refused_by : (result : Result Answer Refusal) (why : Refusal) → IsErr result → IsErrAnd result (λ e. e ≡ why) → RefusesImport (λ count rank. LacksPlacesIn count old.tree rank) (tree_state old.tree) old.subtrees.roots old.exports leaf bytes why
+        → tree_state new.tree ≡ tree_state old.tree → new.exports ≡ old.exports → LeavesCaches old.tree.objects old.exports leaf old.tree.caches new.tree.caches why → ImportsExport was is past past leaf bytes result
+    refused_by (Ok answer) why error that refuses tree exports caches = absurd that
+    refused_by (Err reason) why error that refuses tree exports caches = subst (λ (r : Refusal). ImportsExport was is past past leaf bytes (Err r)) (sym that) (refused_so why refuses tree exports caches)
