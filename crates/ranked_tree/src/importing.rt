@@ -165,7 +165,13 @@ fn sent_leaves<S: Store + Drop>(
     };
     let (caches, dirs) = (tree.caches(), tree.dirs());
     let found = spell_region(alloc, caches, &regions.roots, dirs, &at, export.importer)?;
-    let Some(Spelled { leaves, bytes: right }) = found else {
+    let Some(
+        Spelled {
+            leaves,
+            bytes: right,
+        },
+    ) = found
+    else {
         return Err(not_sent(root));
     };
     if !are_same(right.as_slice(), bytes) {

@@ -60,12 +60,7 @@ fn new_book(alloc: Global, ranks: u8) -> Option<Book<MemStore>>
 }
 
 // A directory for each client, one after the other, and each at the next rank.
-fn make_homes(
-    alloc: Global,
-    book: &mut Book<MemStore>,
-    ranks: u8,
-    clients: u8,
-) -> Option<Vec<Home>>
+fn make_homes(alloc: Global, book: &mut Book<MemStore>, ranks: u8, clients: u8) -> Option<Vec<Home>>
     requires { 1 ≤ ranks }
     ensures { book.new.opening ≡ book.old.opening }
 {

@@ -12,8 +12,7 @@ use Rattle.cluster_core.proofs.exporting.freeze_at.Goals as goal
 pub returns-clause-frozen : goal.returns-clause-frozen
 returns-clause-frozen g c = λ numbers inboxes sessions past.
     let w = c.in-Some.ensures in
-    let stood : map.get c.args.tree.now.exports (c.args.ino, c.args.frag) ≡ Some w.0 = ap (λ (s : Standing). map.get s (c.args.ino, c.args.frag)) (sym c.exports.ensures) ∙ w.1 in
-    (
+    let stood : map.get c.args.tree.now.exports (c.args.ino, c.args.frag) ≡ Some w.0 = ap (λ (s : Standing). map.get s (c.args.ino, c.args.frag)) (sym c.exports.ensures) ∙ w.1 in (
       refl,
       (
         record {

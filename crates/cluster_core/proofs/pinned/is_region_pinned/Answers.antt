@@ -26,6 +26,7 @@ loop-pin-preserved g c = λ q has. step q (c.loop-pin.invariant q has)
   where
     Free : Pin → Type 0
     Free q = IsUnder c.args.tree.now.subtrees.roots c.args.tree.now.tree.homes c.args.tree.now.tree.covers (c.args.dir, c.args.frag) (q.dir, q.frag) → ⊥
+
     step : (q : Pin) → Contains (drop c.loop-pin.pin-index c.as_slice-pin-items.result.now) q ⊎ Free q → Contains (drop (c.loop-pin.pin-index + 1) c.as_slice-pin-items.result.now) q ⊎ Free q
     step q (inr free) = inr free
     step q (inl left) =
