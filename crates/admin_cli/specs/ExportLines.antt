@@ -1,7 +1,6 @@
 -- What a command on an export does, and the line that it prints.
-use Rattle.std.specs.Prelude.{◌≡◌, ℕ, Bool, true, false, cond, IsSome, Result, Ok, Err}
+use Rattle.std.specs.Prelude.{◌≡◌, ℕ, List, Bool, true, false, cond, IsSome, Result, Ok, Err}
 use Rattle.std.specs.FinMap as map
-use Rattle.std.specs.Global.{Vec}
 use Rattle.mds_types.specs.declared.ids.Ino.{Ino}
 use Rattle.mds_types.specs.declared.refusals.Refusal.{Refusal}
 use Rattle.mds_types.specs.Frag.{Fragment}
@@ -51,7 +50,7 @@ pub record ImportsLine (old new : Admin) (dir : Ino) (f : Fragment) (line : Outp
 
 -- an export was sent, and there was no memory to keep its bytes
 pub record LosesBytes (old new : Admin) (dir : Ino) (f : Fragment) : Type 0 where
-  pub bytes : Vec ℕ
+  pub bytes : List ℕ
   pub stepped : IsStep old.book new.book (Ok (Sent bytes)) (SendEvent dir f)
   pub sent : new.sent ≡ old.sent
   pub jobs : new.jobs ≡ old.jobs
