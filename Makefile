@@ -13,10 +13,10 @@ all:
 run: all
 	@./cephmeta script
 
-# `rt ci` proves and builds the program; nothing is proved again for what follows it. With RT_JOBS each check has one job, and as many
-# run side by side as there are processors, which takes fewer processor minutes (docs/PROVING.md, Times)
+# `rt ci` proves and builds the program; nothing is proved again for what follows it. A check gets the processors that no other task
+# waits for: the chain of crates is long, so that is faster by the clock than one job each (docs/PROVING.md, Times)
 test:
-	@RT_JOBS=$$(nproc) rt ci
+	@rt ci
 	@tests/claims/run
 	@tests/units/run
 	@cp crates/cephmeta/out/cephmeta cephmeta

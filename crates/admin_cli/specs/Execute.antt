@@ -9,12 +9,13 @@ use Rattle.cluster_core.specs.declared.events.Event.TheVariants.{Arrive, Serve a
 use Rattle.cluster_core.specs.Administers.{ListsLeaves}
 use Rattle.cluster_core.specs.State.{Kept}
 use Rattle.script_text.specs.declared.commands.Command.{Command}
-use Rattle.script_text.specs.declared.commands.Command.TheVariants.{Operation, Request, Serve, History, Split, Merge, Leaves, Grant, Subtrees, Authority, Store}
+use Rattle.script_text.specs.declared.commands.Command.TheVariants.{Operation, Request, Serve, History, Split, Merge, Leaves, Grant, Subtrees, Authority, Export, Store}
 use Rattle.script_output.specs.declared.lines.OutputLine.{OutputLine}
 use Rattle.script_output.specs.declared.lines.OutputLine.TheVariants.{Frags, History as HistoryLine, Refused}
 use Rattle.admin_cli.specs.declared.commands.Admin.{Admin}
 use Rattle.admin_cli.specs.StepLines.{Does, IsStep, StepsLine, arrived_line, shown_line}
 use Rattle.admin_cli.specs.Authorities.{ListsSubtrees, TellsLine}
+use Rattle.admin_cli.specs.ExportLines.{ExecutesExport, LacksForExport}
 use Rattle.admin_cli.specs.StoreLines.{ExecutesStore, LacksForStore}
 
 -- an operation alone: it arrives at rank 0 as client 0 with this transaction number, and is served there if it wasn't refused
@@ -35,9 +36,9 @@ ListsLine book dir line =
 
 -- a command, with the count of lines that were an operation alone
 abbrev pub Executes : (old new : Admin) → Command → OutputLine → Type 0
-Executes old new (Operation op) line = (new.operations ≡ old.operations + 1) × (new.jobs ≡ old.jobs) × OperatesLine old.book new.book new.operations op line
+Executes old new (Operation op) line = (new.operations ≡ old.operations + 1) × (new.jobs ≡ old.jobs) × (new.sent ≡ old.sent) × OperatesLine old.book new.book new.operations op line
 Executes old new (Serve rank) line = Does old new (ServeEvent rank) line
-Executes old new (Request rank request) line = (new.operations ≡ old.operations) × (new.jobs ≡ old.jobs) × StepsLine old.book new.book (Arrive rank request) arrived_line line
+Executes old new (Request rank request) line = (new.operations ≡ old.operations) × (new.jobs ≡ old.jobs) × (new.sent ≡ old.sent) × StepsLine old.book new.book (Arrive rank request) arrived_line line
 Executes old new History line = (new ≡ old) × (line ≡ HistoryLine (length old.book.history))
 Executes old new (Split rank dir f nb) line = Does old new (SplitEvent rank dir f nb) line
 Executes old new (Merge rank dir f) line = Does old new (MergeEvent rank dir f) line
@@ -45,9 +46,10 @@ Executes old new (Leaves dir) line = (new ≡ old) × ListsLine old.book dir lin
 Executes old new (Grant rank client tid) line = Does old new (GrantEvent rank client tid) line
 Executes old new Subtrees line = (new ≡ old) × ListsSubtrees old.book.core.state line
 Executes old new (Authority dir f) line = (new ≡ old) × TellsLine old.book.core.state dir f line
+Executes old new (Export command) line = ExecutesExport old new command line
 Executes old new (Store command) line = ExecutesStore old new command line
 
--- memory that the script itself needs for a command was refused: for a list of the subtree map, or for a job
+-- memory that the script itself needs for a command was refused: for a list of the subtree map, for a job, or for the bytes of an export
 abbrev pub LacksFor : (old new : Admin) → Command → Type 0
 LacksFor old new (Operation op) = ⊥
 LacksFor old new (Serve rank) = ⊥
@@ -59,4 +61,5 @@ LacksFor old new (Leaves dir) = ⊥
 LacksFor old new (Grant rank client tid) = ⊥
 LacksFor old new Subtrees = new ≡ old
 LacksFor old new (Authority dir f) = ⊥
+LacksFor old new (Export command) = LacksForExport old new command
 LacksFor old new (Store command) = LacksForStore old new command

@@ -1,9 +1,11 @@
 pub mod Authorities
 pub mod Execute
+pub mod ExportLines
 pub mod FaultText
 pub mod Jobs
 pub mod OneLine
 pub mod Scripts
+pub mod SentBytes
 pub mod Settings
 pub mod StepLines
 pub mod StoreLines

@@ -126,7 +126,7 @@ pub record IsFormatted (ranks cache : ℕ) (book : Kept) : Type 0 where
 pub record RunsFormatted (ranks cache : ℕ) (known before after : Option (List ℕ)) (result : Result (Unit {0}) ScriptFault) : Type 0 where
   pub book : Kept
   pub formatted : IsFormatted ranks cache book
-  pub runs : RunsInput (record { book = book; operations = 0; jobs = map.empty }) known before after result
+  pub runs : RunsInput (record { book = book; operations = 0; jobs = map.empty; sent = map.empty }) known before after result
 
 -- memory for a book, or to read lines, was refused before the first line: nothing was written
 pub record NeverStarts (before after : Option (List ℕ)) (result : Result (Unit {0}) ScriptFault) : Type 0 where

@@ -1,14 +1,14 @@
 -- One step of a book, and the line that shows what it came to.
-use Rattle.std.specs.Prelude.{◌≡◌, Result, Ok, Err}
+use Rattle.std.specs.Prelude.{◌≡◌, length, Result, Ok, Err}
 use Rattle.mds_types.specs.declared.refusals.Refusal.{Refusal}
 use Rattle.cluster_core.specs.declared.events.Answer.{Answer}
-use Rattle.cluster_core.specs.declared.events.Answer.TheVariants.{Deferred, Forwarded, Job, Nothing, Reply}
+use Rattle.cluster_core.specs.declared.events.Answer.TheVariants.{Deferred, Forwarded, Job, Nothing, Reply, Sent}
 use Rattle.cluster_core.specs.declared.events.Event.{Event}
 use Rattle.cluster_core.specs.State.{Kept}
 use Rattle.cluster_core.specs.Runs.{StepsBook}
 use Rattle.cluster_core.specs.Sound.{IsSoundBook}
 use Rattle.script_output.specs.declared.lines.OutputLine.{OutputLine}
-use Rattle.script_output.specs.declared.lines.OutputLine.TheVariants.{Reply as ReplyLine, Forwarded as ForwardedLine, Deferred as DeferredLine, Queued, Nothing as NothingLine, Job as JobLine, Refused}
+use Rattle.script_output.specs.declared.lines.OutputLine.TheVariants.{Reply as ReplyLine, Forwarded as ForwardedLine, Deferred as DeferredLine, Queued, Nothing as NothingLine, Job as JobLine, Sent as SentLine, Refused}
 use Rattle.admin_cli.specs.declared.commands.Admin.{Admin}
 
 -- one event led from a book to the next with this result, by all that the contract of a book's step says; its store, which
@@ -22,6 +22,7 @@ pub record IsStep (old new : Kept) (result : Result Answer Refusal) (event : Eve
 abbrev pub shown_line : Result Answer Refusal → OutputLine
 shown_line (Ok Nothing) = NothingLine
 shown_line (Ok (Job job)) = JobLine job.number
+shown_line (Ok (Sent bytes)) = SentLine (length bytes)
 shown_line (Ok (Reply client tid place first reply)) = ReplyLine client tid place first reply
 shown_line (Ok (Forwarded rank)) = ForwardedLine rank
 shown_line (Ok Deferred) = DeferredLine
@@ -40,4 +41,4 @@ pub record StepsLine (old new : Kept) (event : Event) (line_of : Result Answer R
 
 -- a command that is one event: nothing else changes
 abbrev pub Does : (old new : Admin) → Event → OutputLine → Type 0
-Does old new event line = (new.operations ≡ old.operations) × (new.jobs ≡ old.jobs) × StepsLine old.book new.book event shown_line line
+Does old new event line = (new.operations ≡ old.operations) × (new.jobs ≡ old.jobs) × (new.sent ≡ old.sent) × StepsLine old.book new.book event shown_line line

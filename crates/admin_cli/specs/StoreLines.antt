@@ -1,5 +1,5 @@
 -- What a command on the store does, and the line that it prints.
-use Rattle.std.specs.Prelude.{◌≡◌, ◌⊎◌, ◌==◌, ℕ, Bool, true, cond, List, Option, Some, None, Result, Ok, Err, OnOk, IfErr}
+use Rattle.std.specs.Prelude.{◌≡◌, ◌⊎◌, ◌==◌, ℕ, Bool, true, false, cond, List, Option, Some, None, Result, Ok, Err, OnOk, IfErr}
 use Rattle.std.specs.FinMap as map
 use Rattle.mds_types.specs.declared.ids.Ino.{Ino}
 use Rattle.mds_types.specs.declared.ids.Rank.{Rank}
@@ -11,11 +11,11 @@ use Rattle.mds_types.specs.History.{after}
 use Rattle.objstore.specs.Objects.{Objects as Stored}
 use Rattle.cached_frag.specs.declared.jobs.Job.{Job as Begun}
 use Rattle.cached_frag.specs.Commit.{carried}
-use Rattle.cluster_core.specs.Flush.{AreExact, IsColdTree, KeepsBook, MayNotFlush}
+use Rattle.cluster_core.specs.Flush.{AreExact, Flushes, IsColdTree}
 use Rattle.cluster_core.specs.Sound.{IsSoundBook}
 use Rattle.cluster_core.specs.State.{Kept}
 use Rattle.cluster_core.specs.declared.events.Answer.{Answer}
-use Rattle.cluster_core.specs.declared.events.Answer.TheVariants.{Deferred, Forwarded, Job, Nothing, Reply}
+use Rattle.cluster_core.specs.declared.events.Answer.TheVariants.{Deferred, Forwarded, Job, Nothing, Reply, Sent}
 use Rattle.cluster_core.specs.declared.events.Event.{Event}
 use Rattle.cluster_core.specs.declared.events.Event.TheVariants.{CommitBegin as BeginEvent, CommitEnd as EndEvent, CommitDrop as DropEvent, CommitTree as TreeEvent, Purge as PurgeEvent, Evict as EvictEvent}
 use Rattle.script_text.specs.declared.store_commands.StoreCommand.{StoreCommand}
@@ -37,6 +37,7 @@ number_in (Ok Nothing) = Ok None
 number_in (Ok (Reply client tid place first reply)) = Ok None
 number_in (Ok (Forwarded rank)) = Ok None
 number_in (Ok Deferred) = Ok None
+number_in (Ok (Sent bytes)) = Ok None
 number_in (Err refusal) = Err refusal
 
 -- the job is kept, by its number
@@ -46,6 +47,7 @@ with_begun jobs (Ok Nothing) = jobs
 with_begun jobs (Ok (Reply client tid place first reply)) = jobs
 with_begun jobs (Ok (Forwarded rank)) = jobs
 with_begun jobs (Ok Deferred) = jobs
+with_begun jobs (Ok (Sent bytes)) = jobs
 with_begun jobs (Err refusal) = jobs
 
 -- a commit of a leaf began, which gave a job of this number, or nothing, or was refused
@@ -53,6 +55,7 @@ pub record BeginsCommit (old new : Admin) (rank : Rank) (dir : Ino) (f : Fragmen
   pub result : Result Answer Refusal
   pub stepped : IsStep old.book new.book result (BeginEvent rank dir f)
   pub kept : new.jobs ≡ with_begun old.jobs result
+  pub sent : new.sent ≡ old.sent
   pub numbered : number ≡ number_in result
   pub count : new.operations ≡ old.operations
 
@@ -75,6 +78,7 @@ pub record EndsJob (old new : Admin) (number : ℕ) (event : Event) (line : Outp
   pub result : Result Answer Refusal
   pub stepped : IsStep old.book new.book result event
   pub jobs : new.jobs ≡ cond (is_over result) (map.remove old.jobs number) old.jobs
+  pub sent : new.sent ≡ old.sent
   pub count : new.operations ≡ old.operations
   pub shown : line ≡ shown_line result
 
@@ -106,6 +110,7 @@ pub record LosesJob (old new : Admin) (rank : Rank) (dir : Ino) (f : Fragment) :
   pub job : Begun
   pub stepped : IsStep old.book new.book (Ok (Job job)) (BeginEvent rank dir f)
   pub jobs : new.jobs ≡ old.jobs
+  pub sent : new.sent ≡ old.sent
   pub count : new.operations ≡ old.operations
 
 -- there was no memory to copy the kept job of a number; all is left
@@ -130,8 +135,7 @@ pub record IsFlush (old new : Kept) (result : Result (Unit {0}) Refusal) : Type 
   pub exact : OnOk result (AreExact new.core.state.tree)
   pub clean : OnOk result (new.core.state.tree.unsaved ≡ map.empty)
   pub purged : OnOk result (new.core.state.tree.purge ≡ map.empty)
-  pub kept : KeepsBook old new
-  pub refused : IfErr result (MayNotFlush old.core new.core)
+  pub outcome : Flushes old new result
   pub sound : IsSoundBook new
   pub faults : new.core.faults ≡ 0
 
@@ -140,11 +144,17 @@ abbrev pub flushed_line : Result (Unit {0}) Refusal → OutputLine
 flushed_line (Ok done) = Flushed
 flushed_line (Err refusal) = Refused refusal
 
--- the book is flushed, and no job is kept any more
+-- a flush was refused since an export stands (refusal 18)
+abbrev pub is_hindered : Result (Unit {0}) Refusal → Bool
+is_hindered (Ok done) = false
+is_hindered (Err refusal) = refusal_number refusal == 18
+
+-- the book is flushed, and no job is kept any more, unless an export stands
 pub record FlushesLine (old new : Admin) (line : OutputLine) : Type 0 where
   pub count : new.operations ≡ old.operations
-  pub jobs : new.jobs ≡ map.empty
   pub result : Result (Unit {0}) Refusal
+  pub jobs : new.jobs ≡ cond (is_hindered result) old.jobs map.empty
+  pub sent : new.sent ≡ old.sent
   pub flushed : IsFlush old.book new.book result
   pub shown : line ≡ flushed_line result
 

@@ -4,6 +4,7 @@ ghost use Rattle.std.specs.Prelude.{◌≡◌, ◌+◌, ◌<◌, ◌≤◌, ◌^
 ghost use Rattle.std.specs.FinMap as map;
 ghost use Rattle.admin_cli.specs.StepLines.{shown_line as line_of};
 
+use crate::kept_bytes::KeptBytes;
 use crate::kept_jobs::KeptJobs;
 use cluster_core::{Answer, Book, Event};
 use mds_types::{Frag, Ino, Op, Rank, Refusal, Request};
@@ -13,12 +14,13 @@ use script_text::Command;
 use std::alloc::{AllocError, Global};
 use std::thread::Threads;
 
-/// A book, how many lines with an operation alone were read for it, and the jobs that were begun.
+/// A book, how many lines with an operation alone were read for it, the jobs that were begun, and the bytes that exports sent.
 #[derive(Drop)]
 pub struct Admin {
     pub(crate) book: Book<MemStore>,
     operations: u64,
     pub(crate) jobs: KeptJobs,
+    pub(crate) sent: KeptBytes,
 }
 
 impl Admin {
@@ -28,18 +30,20 @@ impl Admin {
 
     /// An administrator of this book, who has read no line yet.
     pub fn new(alloc: Global, book: Book<MemStore>) -> Admin
-        ensures { result ≡ record { book = book; operations = 0; jobs = map.empty } }
+        ensures { result ≡ record { book = book; operations = 0; jobs = map.empty; sent = map.empty } }
     {
         Admin {
             book,
             operations: 0,
             jobs: KeptJobs::new(alloc),
+            sent: KeptBytes::new(alloc),
         }
     }
 
     /// Does what a command asks for, and answers the line to print. So many lines were read that one more fits 64 bits.
-    /// An error is want of memory that the script itself needs: for a job that it keeps, once the step has given it; for
-    /// a copy of a job that it kept; or for a list of the subtree map. No step's answer is lost by it but such a job.
+    /// An error is want of memory that the script itself needs: for a job or the bytes of an export that it keeps, once the step
+    /// has given them; for a copy of what it kept; or for a list of the subtree map. No step's answer is lost by it but what it was
+    /// to keep.
     pub fn execute(
         &mut self,
         rt: &(impl AllocGlobal + Threads + Sync),
@@ -72,6 +76,7 @@ impl Admin {
         let alloc = rt.alloc();
         match command {
             Command::Store(command) => self.execute_store(rt, alloc, command),
+            Command::Export(command) => self.execute_export(alloc, command),
             Command::Operation(op) => Ok(self.operate(alloc, op)),
             Command::Request(rank, request) => Ok(self.arrive(alloc, rank, request)),
             Command::Serve(rank) => Ok(self.serve(alloc, rank)),
@@ -98,6 +103,7 @@ impl Admin {
         requires { self.old.operations + 1 < 2 ^ 64 }
         ensures count { self.new.operations ≡ self.old.operations + 1 }
         ensures jobs { self.new.jobs ≡ self.old.jobs }
+        ensures sent { self.new.sent ≡ self.old.sent }
         ensures operated { OperatesLine self.old.book self.new.book self.new.operations op result }
     {
         self.operations += 1;
@@ -126,6 +132,7 @@ impl Admin {
     fn arrive(&mut self, alloc: Global, rank: Rank, request: Request) -> OutputLine
         ensures count { self.new.operations ≡ self.old.operations }
         ensures jobs { self.new.jobs ≡ self.old.jobs }
+        ensures sent { self.new.sent ≡ self.old.sent }
         ensures arrived { StepsLine self.old.book self.new.book (Arrive rank request) arrived_line result }
     {
         let arrived = self.step_book(alloc, Event::Arrive { rank, request });
@@ -180,6 +187,7 @@ impl Admin {
     pub(crate) fn step_book(&mut self, alloc: Global, event: Event) -> Result<Answer, Refusal>
         ensures count { self.new.operations ≡ self.old.operations }
         ensures jobs { self.new.jobs ≡ self.old.jobs }
+        ensures sent { self.new.sent ≡ self.old.sent }
         ensures stepped { IsStep self.old.book self.new.book result event }
     {
         let came = self.book.step(alloc, event);
@@ -208,6 +216,7 @@ pub(crate) fn shown_line(came: Result<Answer, Refusal>) -> OutputLine
     match came {
         Ok(Answer::Nothing) => OutputLine::Nothing,
         Ok(Answer::Job(job)) => OutputLine::Job(job.number),
+        Ok(Answer::Sent(bytes)) => OutputLine::Sent(bytes.as_slice().len() as u64),
         Ok(
             Answer::Reply {
                 client,

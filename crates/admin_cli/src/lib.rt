@@ -4,7 +4,9 @@
 mod authorities;
 mod command_line;
 mod commands;
+mod exporting;
 mod faults;
+mod kept_bytes;
 mod kept_jobs;
 mod script;
 mod serving;

@@ -64,7 +64,7 @@ fn run_book<R: Read + Drop, W: Write>(
     writer: &mut W,
     book: Book<MemStore>,
 ) -> Result<(), ScriptFault>
-    ensures { RunsOrNot (record { book = book; operations = 0; jobs = map.empty }) (R.remaining reader) (W.contents writer.old) (W.contents writer.new) result }
+    ensures { RunsOrNot (record { book = book; operations = 0; jobs = map.empty; sent = map.empty }) (R.remaining reader) (W.contents writer.old) (W.contents writer.new) result }
 {
     let mut admin = Admin::new(rt.alloc(), book);
     let ended = run_input(rt, reader, writer, &mut admin);

@@ -1,6 +1,6 @@
 //! Commands on the store: commits, fragment trees, the purge list, flushes, eviction, and looks at objects.
 ghost use Rattle.std.specs.Prelude.{◌≡◌, ℕ, IfOk, List, OnErr, Option, Result};
-ghost use Rattle.admin_cli.specs.StoreLines.{BeginsCommit, BeginsLine, CommitsLine, CopiesNone, EndsJob, EndsLine, ExecutesStore, FlushesLine, LacksForCommit, LacksForStore, ListsObjects, LooksLine, LosesJob, begun_line as line_of, is_over};
+ghost use Rattle.admin_cli.specs.StoreLines.{BeginsCommit, BeginsLine, CommitsLine, CopiesNone, EndsJob, EndsLine, ExecutesStore, FlushesLine, LacksForCommit, LacksForStore, ListsObjects, LooksLine, LosesJob, begun_line as line_of, is_hindered, is_over};
 
 use crate::commands::{Admin, shown_line};
 use crate::kept_jobs::KeptJobs;
@@ -70,6 +70,7 @@ impl Admin {
             Ok(Answer::Reply { .. }) => Ok(Ok(None)),
             Ok(Answer::Forwarded(_)) => Ok(Ok(None)),
             Ok(Answer::Deferred) => Ok(Ok(None)),
+            Ok(Answer::Sent(_)) => Ok(Ok(None)),
             Err(refusal) => Ok(Err(refusal)),
         }
     }
@@ -139,13 +140,15 @@ impl Admin {
         }
     }
 
-    // `flush`: all that isn't in the store is written.
+    // `flush`: all that isn't in the store is written, and no job is kept any more. While an export stands it is refused, and all is left.
     #[inline(never)]
     fn flush(&mut self, rt: &(impl Threads + Sync), alloc: Global) -> OutputLine
         ensures { FlushesLine self.old self.new result }
     {
         let flushed = flush(rt, alloc, &mut self.book);
-        self.jobs = KeptJobs::new(alloc);
+        if !is_hindered(&flushed) {
+            self.jobs = KeptJobs::new(alloc);
+        }
         // The contract of `store` is what says here that a store in memory tells no fault.
         let _ = self.book.cluster().store();
         match flushed {
@@ -184,6 +187,16 @@ fn is_over(ended: &Result<Answer, Refusal>) -> bool
     match ended {
         Ok(_) => true,
         Err(refusal) => refusal.number() == Refusal::StaleJob.number(),
+    }
+}
+
+// Whether a flush was refused since an export stands.
+fn is_hindered(flushed: &Result<(), Refusal>) -> bool
+    ensures { result ≡ is_hindered flushed.now }
+{
+    match flushed {
+        Ok(()) => false,
+        Err(refusal) => refusal.number() == Refusal::NotClean.number(),
     }
 }
 

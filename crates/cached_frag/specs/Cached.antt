@@ -58,6 +58,10 @@ IsBased (Stored version) clean = Unit {0}
 abbrev pub marked : Cached → List ℕ → Mark → Cached
 marked f name mark = record f { dirty = map.insert f.dirty name mark; room = f.room - 1 }
 
+-- a fragment that a rank took over from another
+abbrev pub imported : Cached → Cached
+imported f = record f { generation = 0 }
+
 -- what a commit's job takes of a fragment
 abbrev pub snapshot_of : Cached → Snap
 snapshot_of f = record { base = f.base; names = f.dirty; counts = counts_of (shown f) }

@@ -6,7 +6,7 @@ ghost use Rattle.sorted_map.specs.SortedMap.{contents};
 ghost use Rattle.dirfrag_codec.specs.EntryRecord.{HasRecord};
 ghost use Rattle.cached_frag.specs.Snap.{counts_of};
 ghost use Rattle.cached_frag.specs.Marks.{inode_or};
-ghost use Rattle.cached_frag.specs.Cached.{is_clean, shown};
+ghost use Rattle.cached_frag.specs.Cached.{imported, is_clean, shown};
 
 use crate::bases::{Base, EntryCounts};
 use crate::marks::Mark;
@@ -74,6 +74,17 @@ impl CachedFrag {
         ensures { result ≡ self.now.generation }
     {
         self.generation
+    }
+
+    /// The same fragment, as a rank has it that took it over from another: of generation 0, so no commit that the other began ends
+    /// it. Takes no memory.
+    pub fn imported(self) -> CachedFrag
+        ensures { result ≡ imported self }
+    {
+        CachedFrag {
+            generation: 0,
+            ..self
+        }
     }
 
     /// Whether its object spells what it shows.

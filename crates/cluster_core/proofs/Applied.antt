@@ -20,7 +20,7 @@ use Rattle.cluster_core.specs.declared.events.Answer.{Answer}
 use Rattle.cluster_core.specs.Offer.{after_taking}
 use Rattle.cluster_core.specs.Serve.{IsApplied, entry_of, number_of, outcome_of, with_entry}
 use Rattle.cluster_core.specs.Sound.{AreCached, AreExported, AreSupplied, IsFresh, IsKept, IsSound, IsSupplied}
-use Rattle.ranked_tree.specs.Subtrees.{KeepsRoots}
+use Rattle.ranked_tree.specs.Subtrees.{AreRoots}
 
 -- what an offer of a number comes to: the table took it, or it took none and the outcome is that of any number
 pub record IsTaking (tree : Tree) (request : Request) (s : Supply) (number : Option Ino) (outcome : Outcome) : Type 0 where
@@ -132,9 +132,9 @@ module _ (opening : Tree) (past : List Entry) (numbers : List Supply) (rank : �
 
 -- a book stays sound where a request is applied
 pub sound-applied : (opening : Tree) (past now : List Entry) (old new : Core) (rank : Rank) (request : Request) (rest : List Request) (answer : Answer)
-    → rank.0 < length old.state.numbers → IsSound opening past old → IsKept new.state.tree new.caches → AreCached new → AreExported new → length new.caches.used ≡ length old.caches.used → KeepsRoots old.state.tree new.state.tree old.state.roots new.state.roots old.state.exports new.state.exports
+    → rank.0 < length old.state.numbers → IsSound opening past old → IsKept new.state.tree new.caches → AreCached new → AreExported new → length new.caches.used ≡ length old.caches.used → AreRoots new.state.tree new.state.roots
     → IsApplied old.state new.state past now rank request rest answer → IsSound opening now new
-sound-applied opening past now old new rank request rest answer there sound tree cached exported count kept done =
+sound-applied opening past now old new rank request rest answer there sound tree cached exported count valid done =
     let before = old.state in
     let e = entry_of before rank request in
     let t = taking_of before rank request done.numbered in
@@ -156,7 +156,7 @@ sound-applied opening past now old new rank request rest answer there sound tree
       legal = rw done.appended (legal-push opening past e sound.legal next);
       replayed = done.tree ∙ ap (λ (o : Outcome). o.tree) (sym same) ∙ sym (after-push opening past e) ∙ ap (after opening) (sym done.appended);
       tree = tree;
-      subtrees = kept.valid;
+      subtrees = valid;
       cached = cached;
       exported = exported;
       ranks = rw (numbers, inboxes) (record {

@@ -1,5 +1,5 @@
 -- A flush leaves a sound book.
-use Rattle.std.proofs.Common.{◌≡◌, ℕ, zero, suc, ◌<◌, ◌≤◌, List, length, refl, ap, ◌∙◌, arith}
+use Rattle.std.proofs.Common.{◌≡◌, ℕ, zero, suc, ◌<◌, ◌≤◌, List, length, refl, ap, arith}
 use Rattle.std.specs.FinMap as map
 use Rattle.export_steps.specs.Standing.{Standing}
 use Rattle.inboxes.specs.declared.pins.Pin.{Pin}
@@ -53,5 +53,5 @@ few_caches book sound =
 pub flushed_sound : (book : Kept) (new : Core) → IsSoundBook book → KeepsCore book.core new → IsKept new.state.tree new.caches → AreCached new → AreExported new → IsSoundBook (record book { core = new })
 flushed_sound book new sound keeps kept cached exported =
     let roots = keeps_tables book.core.state.tree new.state.tree book.core.state.roots new.state.roots book.core.state.exports new.state.exports (ap (λ (s : State). s.tree.homes) keeps.left) (ap (λ (s : State). s.tree.covers) keeps.left) (ap (λ (s : State). s.roots) keeps.left) (ap (λ (s : State). s.exports) keeps.left) sound.subtrees in
-    sound-same book.opening book.history book.history book.core new sound kept cached exported (came_ranks (HasFragment book.core.caches) NoneEnds book.core.caches new.caches keeps.caches) roots
+    sound-same book.opening book.history book.history book.core new sound kept cached exported (came_ranks (HasFragment book.core.caches) NoneEnds book.core.caches new.caches keeps.caches) roots.valid
     refl keeps.tree (ap (λ (s : State). s.numbers) keeps.left) (ap (λ (s : State). length s.inboxes) keeps.left) (ap (λ (s : State). s.sessions) keeps.left)

@@ -22,7 +22,8 @@ use Rattle.mdcache.specs.State.{State as TreeState}
 use Rattle.mdcache.proofs.StandingObjects.{ObjectsStay, begun_objects, dropped_objects, ended_object, made_objects, purged_object, regrouped_objects, same_state, saved_object}
 use Rattle.cluster_core.specs.declared.events.Answer.{Answer}
 use Rattle.cluster_core.specs.declared.events.Event.{Event}
-use Rattle.cluster_core.specs.declared.events.Event.TheVariants.{Arrive, Grant, Serve, Split, Merge, CommitBegin, CommitEnd, CommitDrop, CommitTree, Purge, Evict}
+use Rattle.cluster_core.specs.declared.events.Event.TheVariants.{Arrive, Grant, Serve, Split, Merge, CommitBegin, CommitEnd, CommitDrop, CommitTree, Purge, Evict, Start, Freeze, Prep, Send, Import, Finish, Cancel}
+use Rattle.cluster_core.specs.Exporting.{CancelsAt, Exports, Finishes, Freezes, ImportsExport, KeepsTree, Preps, SendsExport, Starts}
 use Rattle.cluster_core.specs.Administers.{Administers, BeginsAt, EvictsOne, MergesLeaves, SplitsLeaf, nothing, told_job}
 use Rattle.cluster_core.specs.Commits.{JobsKeepObjects, JobsTakeWhatIsShown}
 use Rattle.cluster_core.specs.Grants.{GrantsFirst}
@@ -83,6 +84,18 @@ module _ (opening : Tree) (past now : List Entry) (old new : Core) (sound : IsSo
   worked told Did so (Ok answer) h = so h.0 h.2
   worked told Did so (Err reason) h = kept (left old.state new.state h.1.left)
 
+  exported : (Did : Result (Unit {0}) Refusal → Type 0) → (Did (Ok tt) → ObjectsStay old.state.tree new.state.tree) → (result : Result Answer Refusal) → Exports old new past now Did result → Kept
+  exported Did stays (Ok answer) h = kept (stays h.1)
+  exported Did stays (Err reason) h = kept (left old.state new.state h.1.left)
+
+  sent : (at : Leaf) (result : Result Answer Refusal) → SendsExport old new past now at result → Kept
+  sent at (Ok answer) h = kept (ap (λ (t : TreeState). t.objects) h.2.2.tree)
+  sent at (Err reason) h = kept (left old.state new.state h.1.left)
+
+  imported : (at : Leaf) (bytes : List ℕ) (result : Result Answer Refusal) → ImportsExport old new past now at bytes result → Kept
+  imported at bytes (Ok answer) h = kept (ap (λ (t : TreeState). t.objects) h.1.renewed.left)
+  imported at bytes (Err reason) h = kept (left old.state new.state h.1.left)
+
   step : (result : Result Answer Refusal) (event : Event) → Does old new past now result event → Kept
   step result (Arrive rank request) h = at_rank (nat_lt rank.0 (length old.state.inboxes)) result (λ w. kept (arrived old.state new.state past now rank request result w.0)) h
   step result (Serve rank) h = at_rank (nat_lt rank.0 (length old.state.inboxes)) result (λ w. kept (served_inbox old.state new.state past now (MayRefuse old new) rank result (waiting_at old.state.inboxes rank) w.0)) h
@@ -103,6 +116,14 @@ module _ (opening : Tree) (past now : List Entry) (old new : Core) (sound : IsSo
       (λ done did. purged_object old.state.tree new.state.tree sound.tree.sound leaf job stood old.faults new.faults (first_name old.state.tree.purge) refl (Ok done) did) result h.0.0
   step result (Evict rank) h =
       at_rank (nat_lt rank.0 (length old.state.inboxes)) result (λ w. worked nothing (EvictsOne old new rank) (λ done did. kept (ap (λ (s : State). s.tree.objects) did.1)) result w.0) h
+  step result (Start from dir f to) h =
+      at_rank (nat_lt from.0 (length old.state.inboxes)) result (λ w. at_rank (nat_lt to.0 (length old.state.inboxes)) result (λ done. exported (Starts old.state new.state from (dir, f) to) (λ did. ap (λ (t : TreeState). t.objects) did.2.tree) result done) w) h
+  step result (Freeze dir f) h = exported (Freezes old.state new.state (dir, f)) (λ did. ap (λ (t : TreeState). t.objects) did.1.ended.left) result h
+  step result (Prep dir f) h = exported (Preps old.state new.state (dir, f)) (λ did. ap (λ (t : TreeState). t.objects) did.1.tree) result h
+  step result (Send dir f) h = sent (dir, f) result h
+  step result (Import dir f bytes) h = imported (dir, f) bytes result h
+  step result (Finish dir f) h = exported (Finishes old.state new.state (dir, f)) (λ did. ap (λ (t : TreeState). t.objects) did.tree) result h
+  step result (Cancel dir f) h = exported (CancelsAt old.state new.state (dir, f)) (λ did. ap (λ (t : TreeState). t.objects) did.2.tree) result h
 
 pub jobs_keep : JobsKeepObjects
 jobs_keep opening past now old new result event sound stepped leaf job stood stands = step opening past now old new sound leaf job stood stands result event stepped.does

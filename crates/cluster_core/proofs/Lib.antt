@@ -2,10 +2,12 @@ pub mod AdminLaws
 pub mod Applied
 pub mod Carried
 pub mod Counted
+pub mod Exported
 pub mod FlushedBook
 pub mod FragmentLaws
 pub mod GrantLaws
 pub mod HeldLaws
+pub mod ImportLaws
 pub mod JobObjects
 pub mod MadeReady
 pub mod MasterLaws
@@ -14,9 +16,10 @@ pub mod NewBook
 pub mod Offered
 pub mod Recorded
 pub mod RunLaws
+pub mod SendLaws
 pub mod Served
 pub mod Stays
 pub mod Stepped
 pub mod Supplies
-pub mod Worked
 pub mod UsesLaws
+pub mod Worked

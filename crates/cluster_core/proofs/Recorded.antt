@@ -9,11 +9,13 @@ use Rattle.mds_types.specs.declared.refusals.Refusal.TheVariants.{NotAuthority}
 use Rattle.inboxes.specs.Inboxes.{first_waiting}
 use Rattle.mdcache.specs.Commits.{Drops, Ends}
 use Rattle.mdcache.specs.Objects.{Purges, SavesTree}
+use Rattle.mds_types.specs.Leaf.{Leaf}
 use Rattle.cluster_core.specs.declared.events.Answer.{Answer}
 use Rattle.cluster_core.specs.declared.events.Event.{Event}
-use Rattle.cluster_core.specs.declared.events.Event.TheVariants.{Arrive, Grant, Serve, Split, Merge, CommitBegin, CommitEnd, CommitDrop, CommitTree, Purge, Evict}
+use Rattle.cluster_core.specs.declared.events.Event.TheVariants.{Arrive, Grant, Serve, Split, Merge, CommitBegin, CommitEnd, CommitDrop, CommitTree, Purge, Evict, Start, Freeze, Prep, Send, Import, Finish, Cancel}
 use Rattle.cluster_core.specs.State.{Core, State}
 use Rattle.cluster_core.specs.Grants.{GrantsFirst}
+use Rattle.cluster_core.specs.Exporting.{CancelsAt, Exports, Finishes, Freezes, ImportsExport, Preps, SendsExport, Starts}
 use Rattle.cluster_core.specs.Administers.{Administers, BeginsAt, EvictsOne, MergesLeaves, SplitsLeaf, nothing, told_job}
 use Rattle.cluster_core.specs.Steps.{ArrivesAt, Does, MayRefuse, Steps}
 use Rattle.cluster_core.specs.Runs.{AddsAtServe, Records}
@@ -32,6 +34,18 @@ module _ (old new : State) (past now : List Entry) where
   administered : {X : Type 0} (told : X → Answer) (Did : Result X Refusal → Type 0) (result : Result Answer Refusal) → Administers old new past now told Did result → now ≡ past
   administered told Did (Ok answer) h = h.3.same
   administered told Did (Err reason) h = h.1.same
+
+  exported : (was is : Core) (Did : Result (Unit {0}) Refusal → Type 0) (result : Result Answer Refusal) → Exports was is past now Did result → now ≡ past
+  exported was is Did (Ok answer) h = h.2.same
+  exported was is Did (Err reason) h = h.1.same
+
+  sent : (was is : Core) (leaf : Leaf) (result : Result Answer Refusal) → SendsExport was is past now leaf result → now ≡ past
+  sent was is leaf (Ok answer) h = h.3.same
+  sent was is leaf (Err reason) h = h.1.same
+
+  imported : (was is : Core) (leaf : Leaf) (bytes : List ℕ) (result : Result Answer Refusal) → ImportsExport was is past now leaf bytes result → now ≡ past
+  imported was is leaf bytes (Ok answer) h = h.2.same
+  imported was is leaf bytes (Err reason) h = h.1.same
 
   at_rank : (here : Bool) (result : Result Answer Refusal) {done Same : Type 0} → (Same → new ≡ old) → (done → now ≡ past) → MatchBool here done ((result ≡ Err NotAuthority) × Same × (now ≡ past)) → now ≡ past
   at_rank true result still go h = go h
@@ -57,6 +71,15 @@ adds_at_serve old new past now result (CommitTree dir) h = administered old.stat
 adds_at_serve old new past now result Purge h = administered old.state new.state past now nothing (Purges old.state.tree new.state.tree old.faults new.faults) result h.0.0
 adds_at_serve old new past now result (Evict rank) h =
     at_rank old.state new.state past now (nat_lt rank.0 (length old.state.inboxes)) result (state_stays old new) (λ w. administered old.state new.state past now nothing (EvictsOne old new rank) result w.0) h
+adds_at_serve old new past now result (Start from dir f to) h =
+    at_rank old.state new.state past now (nat_lt from.0 (length old.state.inboxes)) result (state_stays old new)
+    (λ w. at_rank old.state new.state past now (nat_lt to.0 (length old.state.inboxes)) result (state_stays old new) (λ d. exported old.state new.state past now old new (Starts old.state new.state from (dir, f) to) result d) w) h
+adds_at_serve old new past now result (Freeze dir f) h = exported old.state new.state past now old new (Freezes old.state new.state (dir, f)) result h
+adds_at_serve old new past now result (Prep dir f) h = exported old.state new.state past now old new (Preps old.state new.state (dir, f)) result h
+adds_at_serve old new past now result (Send dir f) h = sent old.state new.state past now old new (dir, f) result h
+adds_at_serve old new past now result (Import dir f bytes) h = imported old.state new.state past now old new (dir, f) bytes result h
+adds_at_serve old new past now result (Finish dir f) h = exported old.state new.state past now old new (Finishes old.state new.state (dir, f)) result h
+adds_at_serve old new past now result (Cancel dir f) h = exported old.state new.state past now old new (CancelsAt old.state new.state (dir, f)) result h
 
 -- what one step makes of the history
 pub records_of : (old new : Core) (past now : List Entry) (result : Result Answer Refusal) (event : Event) → Steps old new past now result event → Records event past now result

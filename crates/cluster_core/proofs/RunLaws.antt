@@ -11,17 +11,19 @@ use Rattle.mds_types.specs.declared.replies.Reply.{Reply as Replied}
 use Rattle.mds_types.specs.declared.operations.Op.{Op}
 use Rattle.mds_types.specs.declared.refusals.Refusal.{Refusal}
 use Rattle.mds_types.specs.declared.refusals.Refusal.TheVariants.{NotAuthority, InboxEmpty}
+use Rattle.mds_types.specs.Leaf.{Leaf}
 use Rattle.cluster_core.specs.declared.events.Answer.{Answer}
 use Rattle.cached_frag.specs.declared.jobs.Job.{Job as Begun}
-use Rattle.cluster_core.specs.declared.events.Answer.TheVariants.{Deferred, Forwarded, Job, Nothing, Reply}
+use Rattle.cluster_core.specs.declared.events.Answer.TheVariants.{Deferred, Forwarded, Job, Nothing, Reply, Sent}
 use Rattle.cluster_core.specs.declared.events.Event.{Event}
-use Rattle.cluster_core.specs.declared.events.Event.TheVariants.{Arrive, Grant, Serve, Split, Merge, CommitBegin, CommitEnd, CommitDrop, CommitTree, Purge, Evict}
+use Rattle.cluster_core.specs.declared.events.Event.TheVariants.{Arrive, Grant, Serve, Split, Merge, CommitBegin, CommitEnd, CommitDrop, CommitTree, Purge, Evict, Start, Freeze, Prep, Send, Import, Finish, Cancel}
 use Rattle.cluster_core.specs.State.{Core, Kept, State}
 use Rattle.cluster_core.specs.Serve.{IsApplied, IsRepeated, IsLeft, ServesRequest, ServesInbox, entry_of}
 use Rattle.cluster_core.specs.Grants.{GrantsFirst}
 use Rattle.inboxes.specs.Inboxes.{first_waiting, waiting_at}
 use Rattle.mdcache.specs.Commits.{Drops, Ends}
 use Rattle.mdcache.specs.Objects.{Purges, SavesTree}
+use Rattle.cluster_core.specs.Exporting.{CancelsAt, Exports, Finishes, Freezes, ImportsExport, Preps, SendsExport, Starts}
 use Rattle.cluster_core.specs.Administers.{Administers, BeginsAt, EvictsOne, MergesLeaves, SplitsLeaf, nothing, told_job}
 use Rattle.cluster_core.specs.Steps.{ArrivesAt, Does, MayRefuse}
 use Rattle.cluster_core.specs.Sound.{IsSoundBook}
@@ -120,6 +122,19 @@ module _ (old new : State) (past now : List Entry) where
   done : (Did : Result (Unit {0}) Refusal → Type 0) (result : Result Answer Refusal) → Administers old new past now nothing Did result → IsStepOf past now result
   done Did result h = administered nothing Did (λ given same. (same, tt)) result h
 
+  -- so does a step of an export
+  export_done : (old_core new_core : Core) → new_core.state ≡ new → old_core.state ≡ old → (Did : Result (Unit {0}) Refusal → Type 0) (result : Result Answer Refusal) → Exports old_core new_core past now Did result → IsStepOf past now result
+  export_done old_core new_core is was Did (Ok answer) h = quiet answer Nothing h.0 h.2.same tt h.2.same
+  export_done old_core new_core is was Did (Err reason) h = left reason (record { same = h.1.same; left = sym is ∙ h.1.left ∙ was })
+
+  sent_done : (old_core new_core : Core) → new_core.state ≡ new → old_core.state ≡ old → (leaf : Leaf) (result : Result Answer Refusal) → SendsExport old_core new_core past now leaf result → IsStepOf past now result
+  sent_done old_core new_core is was leaf (Ok answer) h = quiet answer (Sent h.0) h.1 h.3.same tt h.3.same
+  sent_done old_core new_core is was leaf (Err reason) h = left reason (record { same = h.1.same; left = sym is ∙ h.1.left ∙ was })
+
+  imported_done : (old_core new_core : Core) → new_core.state ≡ new → old_core.state ≡ old → (leaf : Leaf) (bytes : List ℕ) (result : Result Answer Refusal) → ImportsExport old_core new_core past now leaf bytes result → IsStepOf past now result
+  imported_done old_core new_core is was leaf bytes (Ok answer) h = quiet answer Nothing h.0 h.2.same tt h.2.same
+  imported_done old_core new_core is was leaf bytes (Err reason) h = left reason (record { same = h.1.same; left = sym is ∙ h.1.left ∙ was })
+
   job_is_no_reply : (job : Option Begun) → now ≡ past → AddsTo past now (Ok (told_job job)) × IsOfHistory now (Ok (told_job job))
   job_is_no_reply None same = (same, tt)
   job_is_no_reply (Some job) same = (same, tt)
@@ -150,6 +165,15 @@ step_of old new past now result (CommitDrop number) h = done old.state new.state
 step_of old new past now result (CommitTree dir) h = done old.state new.state past now (SavesTree old.state.tree new.state.tree old.faults new.faults dir) result h.0.0
 step_of old new past now result Purge h = done old.state new.state past now (Purges old.state.tree new.state.tree old.faults new.faults) result h.0.0
 step_of old new past now result (Evict rank) h = at_rank old.state new.state past now (nat_lt rank.0 (length old.state.inboxes)) result (state_stays old new) (λ w. done old.state new.state past now (EvictsOne old new rank) result w.0) h
+step_of old new past now result (Start from dir f to) h =
+    at_rank old.state new.state past now (nat_lt from.0 (length old.state.inboxes)) result (state_stays old new)
+    (λ w. at_rank old.state new.state past now (nat_lt to.0 (length old.state.inboxes)) result (state_stays old new) (λ d. export_done old.state new.state past now old new refl refl (Starts old.state new.state from (dir, f) to) result d) w) h
+step_of old new past now result (Freeze dir f) h = export_done old.state new.state past now old new refl refl (Freezes old.state new.state (dir, f)) result h
+step_of old new past now result (Prep dir f) h = export_done old.state new.state past now old new refl refl (Preps old.state new.state (dir, f)) result h
+step_of old new past now result (Send dir f) h = sent_done old.state new.state past now old new refl refl (dir, f) result h
+step_of old new past now result (Import dir f bytes) h = imported_done old.state new.state past now old new refl refl (dir, f) bytes result h
+step_of old new past now result (Finish dir f) h = export_done old.state new.state past now old new refl refl (Finishes old.state new.state (dir, f)) result h
+step_of old new past now result (Cancel dir f) h = export_done old.state new.state past now old new refl refl (CancelsAt old.state new.state (dir, f)) result h
 
 -- what stands in a history stands in each that begins with it
 still_stands : (past now : List Entry) (client tid place : ℕ) (reply : Replied) → BeginsWith now past → StandsAt past client tid place reply → StandsAt now client tid place reply
@@ -165,6 +189,7 @@ still_stands past now client tid place reply (rest, grown) h =
 still_told : (past now : List Entry) (result : Result Answer Refusal) → BeginsWith now past → IsOfHistory past result → IsOfHistory now result
 still_told past now (Ok Nothing) grown h = tt
 still_told past now (Ok (Job job)) grown h = tt
+still_told past now (Ok (Sent bytes)) grown h = tt
 still_told past now (Ok (Forwarded rank)) grown h = tt
 still_told past now (Ok Deferred) grown h = tt
 still_told past now (Ok (Reply client tid place first reply)) grown h = still_stands past now client tid place reply grown h

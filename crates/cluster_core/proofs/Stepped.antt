@@ -10,30 +10,32 @@ use Rattle.mds_types.specs.declared.operations.Op.{Op}
 use Rattle.mds_types.specs.Tree.{Tree}
 use Rattle.inboxes.specs.declared.pins.Pin.{Pin}
 use Rattle.inboxes.specs.Inboxes.{Inboxes, first_waiting, waiting_at, with_waiting}
+use Rattle.mds_types.specs.Leaf.{Leaf}
 use Rattle.cluster_core.specs.declared.events.Answer.{Answer}
 use Rattle.cluster_core.specs.declared.events.Event.{Event}
-use Rattle.cluster_core.specs.declared.events.Event.TheVariants.{Arrive, Grant, Serve, Split, Merge, CommitBegin, CommitEnd, CommitDrop, CommitTree, Purge, Evict}
+use Rattle.cluster_core.specs.declared.events.Event.TheVariants.{Arrive, Grant, Serve, Split, Merge, CommitBegin, CommitEnd, CommitDrop, CommitTree, Purge, Evict, Start, Freeze, Prep, Send, Import, Finish, Cancel}
 use Rattle.mdcache.specs.Commits.{Drops, Ends}
 use Rattle.mdcache.specs.Objects.{Purges, SavesTree}
+use Rattle.cluster_core.specs.Exporting.{CancelsAt, Exports, Finishes, Freezes, ImportsExport, Preps, SendsExport, Starts}
 use Rattle.cluster_core.specs.Grants.{GrantsFirst}
 use Rattle.cluster_core.specs.Administers.{Administers, BeginsAt, EvictsOne, IsUnseen, MergesLeaves, SplitsLeaf, nothing, told_job}
 use Rattle.cluster_core.specs.State.{Core, State, shown}
 use Rattle.cluster_core.specs.Serve.{IsForwarded, IsLeft, IsTakenOut, ServesRequest, ServesInbox}
 use Rattle.cluster_core.specs.Steps.{ArrivesAt, Does, MayRefuse}
 use Rattle.cluster_core.specs.Sound.{AreCached, AreExported, IsKept, IsSound}
-use Rattle.ranked_tree.specs.Subtrees.{KeepsRoots}
+use Rattle.ranked_tree.specs.Subtrees.{AreRoots}
 use Rattle.cluster_core.proofs.Applied.{sound-applied}
 use Rattle.cluster_core.proofs.Offered.{there_of}
 
 module _ (opening : Tree) (past now : List Entry) (old new : Core) (sound : IsSound opening past old) (tree : IsKept new.state.tree new.caches) (cached : AreCached new) (exported : AreExported new) (count : length new.caches.used ≡ length old.caches.used)
-    (kept : KeepsRoots old.state.tree new.state.tree old.state.roots new.state.roots old.state.exports new.state.exports) where
+    (valid : AreRoots new.state.tree new.state.roots) where
   -- the same history, and the same tree, numbers and sessions: what the inboxes have has no part in it
   pub sound-same : now ≡ past → shown new.state ≡ shown old.state → new.state.numbers ≡ old.state.numbers → length new.state.inboxes ≡ length old.state.inboxes → new.state.sessions ≡ old.state.sessions → IsSound opening now new
   sound-same same shown_same numbers_same inboxes_same sessions_same = record {
     legal = rw same sound.legal;
     replayed = shown_same ∙ rw same sound.replayed;
     tree = tree;
-    subtrees = kept.valid;
+    subtrees = valid;
     cached = cached;
     exported = exported;
     ranks = record { some = rw numbers_same sound.ranks.some; inboxes = inboxes_same ∙ rw numbers_same sound.ranks.inboxes; caches = count ∙ rw numbers_same sound.ranks.caches };
@@ -67,7 +69,7 @@ module _ (opening : Tree) (past now : List Entry) (old new : Core) (sound : IsSo
 
   module _ (MayRefuse : Op → Refusal → Type 0) (rank : Rank) (there : rank.0 < length old.state.numbers) where
     served : (request : Request) (rest : List Request) (result : Result Answer Refusal) → ServesRequest old.state new.state past now MayRefuse rank request rest result → IsSound opening now new
-    served request rest (Ok answer) (inl h) = sound-applied opening past now old new rank request rest answer there sound tree cached exported count kept h
+    served request rest (Ok answer) (inl h) = sound-applied opening past now old new rank request rest answer there sound tree cached exported count valid h
     served request rest (Ok answer) (inr (inl h)) = sound-out rank request rest h.out
     served request rest (Ok answer) (inr (inr (inl h))) = forwarded rank request rest answer h
     served request rest (Ok answer) (inr (inr (inr h))) = sound-but h.same _ old.state.pins (length-set old.state.inboxes rank.0 (rest ++ request ∷ [])) h.left
@@ -90,6 +92,19 @@ module _ (opening : Tree) (past now : List Entry) (old new : Core) (sound : IsSo
   administered told Did (Ok answer) h = unseen h.3
   administered told Did (Err reason) h = sound-left h.1
 
+  -- so is what the steps of an export do
+  stepped : (Did : Result (Unit {0}) Refusal → Type 0) (result : Result Answer Refusal) → Exports old new past now Did result → IsSound opening now new
+  stepped Did (Ok answer) h = sound-same h.2.same h.2.tree (ap (λ (s : State). s.numbers) h.2.left) (ap (λ (s : State). length s.inboxes) h.2.left) (ap (λ (s : State). s.sessions) h.2.left)
+  stepped Did (Err reason) h = sound-left h.1
+
+  sent : (leaf : Leaf) (result : Result Answer Refusal) → SendsExport old new past now leaf result → IsSound opening now new
+  sent leaf (Ok answer) h = sound-same h.3.same h.3.tree (ap (λ (s : State). s.numbers) h.3.left) (ap (λ (s : State). length s.inboxes) h.3.left) (ap (λ (s : State). s.sessions) h.3.left)
+  sent leaf (Err reason) h = sound-left h.1
+
+  imported : (leaf : Leaf) (bytes : List ℕ) (result : Result Answer Refusal) → ImportsExport old new past now leaf bytes result → IsSound opening now new
+  imported leaf bytes (Ok answer) h = sound-same h.2.same h.2.tree (ap (λ (s : State). s.numbers) h.2.left) (ap (λ (s : State). length s.inboxes) h.2.left) (ap (λ (s : State). s.sessions) h.2.left)
+  imported leaf bytes (Err reason) h = sound-left h.1
+
   at_rank : (here : Bool) (result : Result Answer Refusal) {done : Type 0} → (here ≡ true → done → IsSound opening now new) → MatchBool here done ((result ≡ Err NotAuthority) × (new ≡ old) × (now ≡ past)) → IsSound opening now new
   at_rank true result go h = go refl h
   at_rank false result go h = sound-left (record { same = h.2; left = ap (λ (c : Core). c.state) h.1 })
@@ -107,3 +122,11 @@ module _ (opening : Tree) (past now : List Entry) (old new : Core) (sound : IsSo
   sound-step result (CommitTree dir) h = administered nothing (SavesTree old.state.tree new.state.tree old.faults new.faults dir) result h.0.0
   sound-step result Purge h = administered nothing (Purges old.state.tree new.state.tree old.faults new.faults) result h.0.0
   sound-step result (Evict rank) h = at_rank (nat_lt rank.0 (length old.state.inboxes)) result (λ here done. administered nothing (EvictsOne old new rank) result done.0) h
+  sound-step result (Start from dir f to) h =
+      at_rank (nat_lt from.0 (length old.state.inboxes)) result (λ here w. at_rank (nat_lt to.0 (length old.state.inboxes)) result (λ there done. stepped (Starts old.state new.state from (dir, f) to) result done) w) h
+  sound-step result (Freeze dir f) h = stepped (Freezes old.state new.state (dir, f)) result h
+  sound-step result (Prep dir f) h = stepped (Preps old.state new.state (dir, f)) result h
+  sound-step result (Send dir f) h = sent (dir, f) result h
+  sound-step result (Import dir f bytes) h = imported (dir, f) bytes result h
+  sound-step result (Finish dir f) h = stepped (Finishes old.state new.state (dir, f)) result h
+  sound-step result (Cancel dir f) h = stepped (CancelsAt old.state new.state (dir, f)) result h

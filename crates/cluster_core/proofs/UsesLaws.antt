@@ -25,7 +25,7 @@ use Rattle.mdcache.specs.State.{State as TreeState}
 use Rattle.ranked_tree.specs.Held.{AsksFor, IsGone, NamesDir}
 use Rattle.ranked_tree.proofs.ReadsForLaws.{change_concerns}
 use Rattle.cluster_core.specs.declared.events.Answer.{Answer}
-use Rattle.cluster_core.specs.declared.events.Answer.TheVariants.{Deferred, Forwarded, Job, Nothing, Reply}
+use Rattle.cluster_core.specs.declared.events.Answer.TheVariants.{Deferred, Forwarded, Job, Nothing, Reply, Sent}
 use Rattle.cluster_core.specs.Prepared.{IsUnready}
 use Rattle.cluster_core.specs.Uses.{Asks, CamePlanned, ChangesOp, ReadsOp, UsesFront, UsesRequest}
 
@@ -38,6 +38,7 @@ module _ (tree new : TreeState) (roots : Roots) where
   same_request op caches (Ok (Forwarded master)) = refl
   same_request op caches (Ok Nothing) = refl
   same_request op caches (Ok (Job job)) = refl
+  same_request op caches (Ok (Sent bytes)) = refl
   same_request op caches (Err reason) = (nothing_read, λ late. refl)
 
   pub same_caches : (caches : CacheMap) (result : Result Answer Refusal) (waiting : List Request) → UsesFront tree new roots caches caches result waiting

@@ -1,7 +1,8 @@
 -- A flush: what it leaves of a book, whatever it answers, and why it is refused.
-use Rattle.std.specs.Prelude.{◌≡◌, ℕ}
+use Rattle.std.specs.Prelude.{◌≡◌, ◌≢◌, ◌⊎◌, Result, Err, IfErr}
 use Rattle.std.specs.FinMap as map
 use Rattle.mds_types.specs.declared.refusals.Refusal.{Refusal}
+use Rattle.mds_types.specs.declared.refusals.Refusal.TheVariants.{NotClean}
 use Rattle.dentry_cache.specs.Came.{Came, NoneEnds}
 use Rattle.mdcache.specs.Batches.{MayNotCommit}
 use Rattle.mdcache.specs.Flushed.{HasFragment}
@@ -31,3 +32,18 @@ pub record KeepsBook (old new : Kept) : Type 0 where
 -- want of memory, or a fault of the store
 abbrev pub MayNotFlush : (old new : Core) → Refusal → Type 0
 MayNotFlush old new reason = MayNotCommit 1024 (record old.state.tree { jobs = map.empty }) old.faults new.faults reason
+
+-- while an export stands nothing is flushed, and all is left
+pub record IsHindered (old new : Kept) (result : Result (Unit {0}) Refusal) : Type 0 where
+  pub stands : old.core.state.exports ≢ map.empty
+  pub refused : result ≡ Err NotClean
+  pub left : new ≡ old
+
+-- where none stands the book is kept, whatever is answered, and a refusal has its reason
+pub record IsTried (old new : Kept) (result : Result (Unit {0}) Refusal) : Type 0 where
+  pub none : old.core.state.exports ≡ map.empty
+  pub kept : KeepsBook old new
+  pub refused : IfErr result (MayNotFlush old.core new.core)
+
+abbrev pub Flushes : (old new : Kept) → Result (Unit {0}) Refusal → Type 0
+Flushes old new result = IsHindered old new result ⊎ IsTried old new result

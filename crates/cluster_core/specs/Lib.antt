@@ -5,6 +5,7 @@ pub use Rattle.inode_table.specs.Numbers
 pub mod Administers
 pub mod Asked
 pub mod Commits
+pub mod Exporting
 pub mod Flush
 pub mod Fragments
 pub mod Grants

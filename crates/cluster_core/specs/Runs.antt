@@ -5,9 +5,9 @@ use Rattle.mds_types.specs.declared.entries.Entry.{Entry}
 use Rattle.mds_types.specs.declared.replies.Reply.{Reply as Replied}
 use Rattle.mds_types.specs.declared.refusals.Refusal.{Refusal}
 use Rattle.cluster_core.specs.declared.events.Answer.{Answer}
-use Rattle.cluster_core.specs.declared.events.Answer.TheVariants.{Deferred, Forwarded, Job, Nothing, Reply}
+use Rattle.cluster_core.specs.declared.events.Answer.TheVariants.{Deferred, Forwarded, Job, Nothing, Reply, Sent}
 use Rattle.cluster_core.specs.declared.events.Event.{Event}
-use Rattle.cluster_core.specs.declared.events.Event.TheVariants.{Arrive, Grant, Serve, Split, Merge, CommitBegin, CommitEnd, CommitDrop, CommitTree, Purge, Evict}
+use Rattle.cluster_core.specs.declared.events.Event.TheVariants.{Arrive, Grant, Serve, Split, Merge, CommitBegin, CommitEnd, CommitDrop, CommitTree, Purge, Evict, Start, Freeze, Prep, Send, Import, Finish, Cancel}
 use Rattle.cluster_core.specs.Sound.{IsSoundBook}
 use Rattle.cluster_core.specs.State.{Kept}
 use Rattle.cluster_core.specs.Steps.{Steps}
@@ -37,6 +37,7 @@ abbrev pub IsOfHistory : List Entry → Result Answer Refusal → Type 0
 IsOfHistory history (Ok Nothing) = Unit {0}
 IsOfHistory history (Ok (Reply client tid place first reply)) = StandsAt history client tid place reply
 IsOfHistory history (Ok (Job job)) = Unit {0}
+IsOfHistory history (Ok (Sent bytes)) = Unit {0}
 IsOfHistory history (Ok (Forwarded rank)) = Unit {0}
 IsOfHistory history (Ok Deferred) = Unit {0}
 IsOfHistory history (Err reason) = Unit {0}
@@ -50,6 +51,7 @@ abbrev pub AddsTo : (past now : List Entry) → Result Answer Refusal → Type 0
 AddsTo past now (Ok Nothing) = now ≡ past
 AddsTo past now (Ok (Reply client tid place first reply)) = MatchBool first (AppendsOne past now place) (now ≡ past)
 AddsTo past now (Ok (Job job)) = now ≡ past
+AddsTo past now (Ok (Sent bytes)) = now ≡ past
 AddsTo past now (Ok (Forwarded rank)) = now ≡ past
 AddsTo past now (Ok Deferred) = now ≡ past
 AddsTo past now (Err reason) = now ≡ past
@@ -67,6 +69,13 @@ AddsAtServe (CommitDrop number) past now = now ≡ past
 AddsAtServe (CommitTree dir) past now = now ≡ past
 AddsAtServe Purge past now = now ≡ past
 AddsAtServe (Evict rank) past now = now ≡ past
+AddsAtServe (Start from dir f to) past now = now ≡ past
+AddsAtServe (Freeze dir f) past now = now ≡ past
+AddsAtServe (Prep dir f) past now = now ≡ past
+AddsAtServe (Send dir f) past now = now ≡ past
+AddsAtServe (Import dir f bytes) past now = now ≡ past
+AddsAtServe (Finish dir f) past now = now ≡ past
+AddsAtServe (Cancel dir f) past now = now ≡ past
 
 -- what a step makes of the history: it adds to it alone, and a reply that it hands out stands there
 pub record Records (event : Event) (past now : List Entry) (result : Result Answer Refusal) : Type 0 where

@@ -1,5 +1,5 @@
 -- What each event does to a cluster and its history.
-use Rattle.std.specs.Prelude.{◌≡◌, ◌⊎◌, ◌+◌, ℕ, nat_lt, MatchBool, ◌<◌, List, length, Result, Ok, Err}
+use Rattle.std.specs.Prelude.{◌≡◌, ◌⊎◌, ◌+◌, ℕ, nat_lt, MatchBool, ◌<◌, List, length, Option, Some, None, Result, Ok, Err}
 use Rattle.std.specs.Result.{result_err}
 use Rattle.objstore.specs.Objects.{faults_told}
 use Rattle.mds_types.specs.declared.ids.Rank.{Rank}
@@ -14,15 +14,16 @@ use Rattle.mdcache.specs.Frags.{LacksFor}
 use Rattle.cluster_core.specs.declared.events.Answer.{Answer}
 use Rattle.cluster_core.specs.declared.events.Answer.TheVariants.{Nothing}
 use Rattle.cluster_core.specs.declared.events.Event.{Event}
-use Rattle.cluster_core.specs.declared.events.Event.TheVariants.{Arrive, Grant, Serve, Split, Merge, CommitBegin, CommitEnd, CommitDrop, CommitTree, Purge, Evict}
+use Rattle.cluster_core.specs.declared.events.Event.TheVariants.{Arrive, Grant, Serve, Split, Merge, CommitBegin, CommitEnd, CommitDrop, CommitTree, Purge, Evict, Start, Freeze, Prep, Send, Import, Finish, Cancel}
 use Rattle.cluster_core.specs.Administers.{AsksNone, BeginsCommit, CommitsTree, DropsCommit, EndsCommit, EvictsFragment, Merges, PurgesObject, Splits}
+use Rattle.cluster_core.specs.Exporting.{CancelsExport, FinishesExport, FreezesExport, ImportsExport, PrepsExport, SendsExport, StartsExport}
 use Rattle.inboxes.specs.Inboxes.{first_waiting, waiting_at, with_last}
 use Rattle.cluster_core.specs.Grants.{GrantsWaiting}
 use Rattle.cluster_core.specs.Master.{IsHolder}
 use Rattle.cluster_core.specs.State.{Core, LacksPlacesAt, State, held_roots, shown}
 use Rattle.cluster_core.specs.Serve.{IsLeft, ServesInbox}
 use Rattle.cluster_core.specs.Uses.{UsesFront, UsesWaiting}
-use Rattle.ranked_tree.specs.Subtrees.{KeepsAuthorities, KeepsHolders}
+use Rattle.ranked_tree.specs.Subtrees.{KeepsOutside}
 
 -- an arriving request goes to the back of the rank's inbox; refused InboxFull exactly where 1024 requests wait there
 abbrev pub ArrivesAt : (old new : State) → (past now : List Entry) → Rank → Request → Result Answer Refusal → Type 0
@@ -67,15 +68,51 @@ Does old new past now result (CommitEnd encoded) = EndsCommit old new past now e
 Does old new past now result (CommitDrop number) = DropsCommit old new past now number result
 Does old new past now result (CommitTree dir) = CommitsTree old new past now dir result
 Does old new past now result Purge = PurgesObject old new past now result
+Does old new past now result (Start from dir f to) = AtRank old new past now from result (AtRank old new past now to result (StartsExport old new past now from (dir, f) to result))
+Does old new past now result (Freeze dir f) = FreezesExport old new past now (dir, f) result
+Does old new past now result (Prep dir f) = PrepsExport old new past now (dir, f) result
+Does old new past now result (Send dir f) = SendsExport old new past now (dir, f) result
+Does old new past now result (Import dir f bytes) = ImportsExport old new past now (dir, f) bytes result
+Does old new past now result (Finish dir f) = FinishesExport old new past now (dir, f) result
+Does old new past now result (Cancel dir f) = CancelsExport old new past now (dir, f) result
 Does old new past now result (Evict rank) = AtRank old new past now rank result (EvictsFragment old new past now rank result)
 
--- one step: what its event does. Each leaf that stays keeps its authority and its holder, there are as many ranks, with as many places
--- each, and the store's count of faults rises by one where the event is refused by a fault, and not otherwise: so no fault
+-- the roots whose regions a step hands on, if it does: one gets another authority, or another rank that holds it
+pub record HandsOn : Type 0 where
+  pub authority : Option Leaf
+  pub holder : Option Leaf
+
+abbrev pub hands_none : HandsOn
+hands_none = record { authority = None; holder = None }
+
+-- Finish hands the authority on, Import what is held
+abbrev pub handed : Event → HandsOn
+handed (Arrive rank request) = hands_none
+handed (Serve rank) = hands_none
+handed (Grant rank client tid) = hands_none
+handed (Split rank dir f nb) = hands_none
+handed (Merge rank dir f) = hands_none
+handed (CommitBegin rank dir f) = hands_none
+handed (CommitEnd encoded) = hands_none
+handed (CommitDrop number) = hands_none
+handed (CommitTree dir) = hands_none
+handed Purge = hands_none
+handed (Evict rank) = hands_none
+handed (Start from dir f to) = hands_none
+handed (Freeze dir f) = hands_none
+handed (Prep dir f) = hands_none
+handed (Send dir f) = hands_none
+handed (Import dir f bytes) = record { authority = None; holder = Some (dir, f) }
+handed (Finish dir f) = record { authority = Some (dir, f); holder = None }
+handed (Cancel dir f) = hands_none
+
+-- one step: what its event does. Each leaf that stays keeps its authority and its holder, but in a region that is handed on; there are as many
+-- ranks, with as many places each, and the store's count of faults rises by one where the event is refused by a fault, and not otherwise: so no fault
 -- is hidden, tried again, or told as anything else
 pub record Steps (old new : Core) (past now : List Entry) (result : Result Answer Refusal) (event : Event) : Type 0 where
   pub does : Does old new past now result event
-  pub authorities : KeepsAuthorities old.state.tree new.state.tree old.state.roots new.state.roots
-  pub holders : KeepsHolders old.state.tree new.state.tree old.state.roots new.state.roots old.state.exports
+  pub authorities : KeepsOutside (handed event).authority old.state.tree new.state.tree old.state.roots new.state.roots
+  pub holders : KeepsOutside (handed event).holder old.state.tree new.state.tree (held_roots old.state) (held_roots new.state)
   pub ranks : length new.caches.used ≡ length old.caches.used
   pub capacity : new.caches.cap ≡ old.caches.cap
   pub counted : new.faults ≡ old.faults + faults_told (result_err result)

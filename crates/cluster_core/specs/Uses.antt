@@ -15,7 +15,7 @@ use Rattle.mdcache.specs.Core.{Core as TreeCore}
 use Rattle.mdcache.specs.Shown.{shown_tree}
 use Rattle.mdcache.specs.State.{State as TreeState}
 use Rattle.cluster_core.specs.declared.events.Answer.{Answer}
-use Rattle.cluster_core.specs.declared.events.Answer.TheVariants.{Deferred, Forwarded, Job, Nothing, Reply}
+use Rattle.cluster_core.specs.declared.events.Answer.TheVariants.{Deferred, Forwarded, Job, Nothing, Reply, Sent}
 use Rattle.ranked_tree.specs.Held.{AnyPlace, AsksFor, CameFor, IsGone}
 
 -- a leaf that an operation asks for at a rank: one of a directory that it concerns, at the rank that holds it, or the first leaf of a directory that comes
@@ -39,6 +39,7 @@ UsesRequest tree new roots op before after (Ok Deferred) = ReadsOp tree roots op
 UsesRequest tree new roots op before after (Ok (Forwarded master)) = after ≡ before
 UsesRequest tree new roots op before after (Ok Nothing) = after ≡ before
 UsesRequest tree new roots op before after (Ok (Job job)) = after ≡ before
+UsesRequest tree new roots op before after (Ok (Sent bytes)) = after ≡ before
 UsesRequest tree new roots op before after (Err reason) = ReadsOp tree roots op before after × ((reason ≡ Trimmed) ⊎ (reason ≡ InboxFull) → after ≡ before)
 
 -- that at the front; where none waits, nothing

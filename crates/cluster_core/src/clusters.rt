@@ -10,7 +10,7 @@ ghost use Rattle.mdcache.specs.New.{MayNotFormat, new_caches};
 ghost use Rattle.cluster_core.specs.State.{new_state, whole_supplies};
 ghost use Rattle.cluster_core.specs.Steps.{ArrivesAt, AtRank, MayRefuse, ServesRank, Steps, UsesGranted, UsesInbox};
 ghost use Rattle.cluster_core.specs.Grants.{GrantsWaiting};
-ghost use Rattle.ranked_tree.specs.Subtrees.{KeepsRoots};
+ghost use Rattle.ranked_tree.specs.Subtrees.{AreRoots, KeepsRoots};
 ghost use Rattle.cluster_core.specs.Sound.{AreCached, IsKept, IsSound};
 ghost use Rattle.cluster_core.specs.Administers.{AsksNone, ListsLeaves, TellsAuthority};
 
@@ -125,7 +125,7 @@ impl<S: Store + Drop> Cluster<S> {
     ) -> Result<Answer, Refusal>
         requires { (opening : Tree) × IsSound opening history.old.items self.old }
         ensures stepped { Steps self.old self.new history.old.items history.new.items result event }
-        ensures kept { KeepsRoots self.old.state.tree self.new.state.tree self.old.state.roots self.new.state.roots self.old.state.exports self.new.state.exports }
+        ensures valid { AreRoots self.new.state.tree self.new.state.roots }
     {
         match event {
             Event::Arrive { rank, request } => self.arrive(rank, request),
@@ -148,6 +148,22 @@ impl<S: Store + Drop> Cluster<S> {
             Event::CommitTree { ino } => self.commit_tree(alloc, ino),
             Event::Purge => self.purge(),
             Event::Evict { rank } => self.evict(rank),
+            Event::Start {
+                from,
+                ino,
+                frag,
+                to,
+            } => self.start(from, ino, frag, to),
+            Event::Freeze { ino, frag } => self.freeze(ino, frag),
+            Event::Prep { ino, frag } => self.prep(ino, frag),
+            Event::Send { ino, frag } => self.send(alloc, ino, frag),
+            Event::Import { ino, frag, bytes } => {
+                let imported = self.import(alloc, ino, frag, bytes.as_slice());
+                drop(bytes);
+                imported
+            }
+            Event::Finish { ino, frag } => self.finish(ino, frag),
+            Event::Cancel { ino, frag } => self.cancel(ino, frag),
         }
     }
 

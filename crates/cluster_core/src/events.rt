@@ -2,7 +2,7 @@
 ghost use Rattle.std.specs.Prelude.{◌≡◌, IfOk};
 
 use cached_frag::{Encoded, Job};
-use mds_types::{Frag, Ino, Rank, Reply, Request};
+use mds_types::{Bytes, Frag, Ino, Rank, Reply, Request};
 use std::alloc::AllocError;
 
 /// One event of the cluster, one atomic step.
@@ -58,6 +58,44 @@ pub enum Event {
     Evict {
         rank: Rank,
     },
+    /// An export of the region of a leaf starts, from its authority to another rank.
+    Start {
+        from: Rank,
+        ino: Ino,
+        frag: Frag,
+        to: Rank,
+    },
+    /// The region of a started export freezes, and the commits that were begun in it are given up.
+    Freeze {
+        ino: Ino,
+        frag: Frag,
+    },
+    /// The importer of a frozen region gets to know its bounds.
+    Prep {
+        ino: Ino,
+        frag: Frag,
+    },
+    /// What isn't clean of a prepared region is handed out.
+    Send {
+        ino: Ino,
+        frag: Frag,
+    },
+    /// What was sent of a region goes to its importer, which holds the region from then on.
+    Import {
+        ino: Ino,
+        frag: Frag,
+        bytes: Bytes,
+    },
+    /// The importer of an imported region is its authority, and the export ends.
+    Finish {
+        ino: Ino,
+        frag: Frag,
+    },
+    /// An export that isn't sent yet ends.
+    Cancel {
+        ino: Ino,
+        frag: Frag,
+    },
 }
 
 /// The answer of a step that isn't refused.
@@ -71,6 +109,8 @@ pub enum Answer {
     Deferred,
     /// The commit that was begun, to be encoded.
     Job(Job),
+    /// The bytes of a region that was sent.
+    Sent(Bytes),
     /// The reply to a request, with its place in the history; `first` tells a request that was applied now from one that
     /// had been applied before.
     Reply {
@@ -83,7 +123,7 @@ pub enum Answer {
 }
 
 impl Event {
-    /// A copy. Takes memory for a request's names, and for what was encoded.
+    /// A copy. Takes memory for a request's names, for what was encoded, and for what was sent.
     pub fn try_clone(&self) -> Result<Event, AllocError>
         ensures { IfOk result (λ copy. copy ≡ self.now) }
     {
@@ -124,6 +164,42 @@ impl Event {
             Event::CommitTree { ino } => Ok(Event::CommitTree { ino: *ino }),
             Event::Purge => Ok(Event::Purge),
             Event::Evict { rank } => Ok(Event::Evict { rank: *rank }),
+            Event::Start {
+                from,
+                ino,
+                frag,
+                to,
+            } => Ok(Event::Start {
+                from: *from,
+                ino: *ino,
+                frag: *frag,
+                to: *to,
+            }),
+            Event::Freeze { ino, frag } => Ok(Event::Freeze {
+                ino: *ino,
+                frag: *frag,
+            }),
+            Event::Prep { ino, frag } => Ok(Event::Prep {
+                ino: *ino,
+                frag: *frag,
+            }),
+            Event::Send { ino, frag } => Ok(Event::Send {
+                ino: *ino,
+                frag: *frag,
+            }),
+            Event::Import { ino, frag, bytes } => Ok(Event::Import {
+                ino: *ino,
+                frag: *frag,
+                bytes: bytes.try_clone()?,
+            }),
+            Event::Finish { ino, frag } => Ok(Event::Finish {
+                ino: *ino,
+                frag: *frag,
+            }),
+            Event::Cancel { ino, frag } => Ok(Event::Cancel {
+                ino: *ino,
+                frag: *frag,
+            }),
         }
     }
 }

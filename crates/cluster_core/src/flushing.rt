@@ -1,10 +1,10 @@
 //! A flush: all that isn't in the store is written.
-ghost use Rattle.std.specs.Prelude.{◌≡◌, ◌+◌, ◌≤◌, length, OnOk, IfErr};
+ghost use Rattle.std.specs.Prelude.{◌≡◌, ◌+◌, ◌≤◌, ◌↔◌, IsTrue, length, OnOk, IfErr};
 ghost use Rattle.std.specs.FinMap as map;
 ghost use Rattle.std.specs.Result.{result_err};
 ghost use Rattle.mds_types.specs.History.{after};
 ghost use Rattle.objstore.specs.Objects.{faults_told};
-ghost use Rattle.cluster_core.specs.Flush.{AreExact, IsColdTree, KeepsBook, KeepsCore, MayNotFlush};
+ghost use Rattle.cluster_core.specs.Flush.{AreExact, Flushes, IsColdTree, KeepsCore, MayNotFlush};
 ghost use Rattle.cluster_core.specs.Sound.{AreCached, AreExported, IsKept, IsSoundBook};
 ghost use Rattle.cluster_core.specs.State.{shown};
 
@@ -16,6 +16,13 @@ use std::alloc::Global;
 use std::thread::Threads;
 
 impl<S: Store + Drop> Cluster<S> {
+    // Whether no export stands.
+    fn has_no_export(&self) -> bool
+        ensures { IsTrue result ↔ (self.now.state.exports ≡ map.empty) }
+    {
+        self.tree.exports().len() == 0
+    }
+
     /// Writes all that isn't in the store, as `RankedTree::flush` does and refuses.
     pub(crate) fn flush(&mut self, rt: &(impl Threads + Sync), alloc: Global) -> Result<(), Refusal>
         requires few { length self.old.caches.used ≤ 256 }
@@ -42,7 +49,7 @@ impl<S: Store + Drop> Cluster<S> {
 /// Whatever it answers, the opening tree, the history and the shown tree are as they were, and so are directories and their leaves,
 /// next numbers, authorities, inboxes, grants and sessions; no commit is begun any more.
 ///
-/// Refused `NoInodes` where a fragment's version is used up, or fewer than 1,024 numbers are left for jobs; otherwise as the store
+/// Refused `NotClean` while an export stands, and then all is left, commits that were begun too. Refused `NoInodes` where a fragment's version is used up, or fewer than 1,024 numbers are left for jobs; otherwise as the store
 /// refuses, and `NoMemory`. Part of it may be written then, and another flush goes on with the rest.
 pub fn flush<S: Store + Drop>(
     rt: &(impl Threads + Sync),
@@ -53,10 +60,12 @@ pub fn flush<S: Store + Drop>(
     ensures exact { OnOk result (AreExact book.new.core.state.tree) }
     ensures clean { OnOk result (book.new.core.state.tree.unsaved ≡ map.empty) }
     ensures purged { OnOk result (book.new.core.state.tree.purge ≡ map.empty) }
-    ensures kept { KeepsBook book.old book.new }
-    ensures refused { IfErr result (MayNotFlush book.old.core book.new.core) }
+    ensures outcome { Flushes book.old book.new result }
     ensures counted { book.new.core.faults ≡ book.old.core.faults + faults_told (result_err result) }
     ensures sound { IsSoundBook book.new }
 {
+    if !book.cluster.has_no_export() {
+        return Err(Refusal::NotClean);
+    }
     book.cluster.flush(rt, alloc)
 }

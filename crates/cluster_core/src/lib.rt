@@ -7,6 +7,7 @@ mod barred;
 mod books;
 mod clusters;
 mod events;
+mod exporting;
 mod flushing;
 mod granting;
 pub mod laws;

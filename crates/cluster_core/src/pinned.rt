@@ -1,6 +1,7 @@
-//! Whether grants stand on leaves of a directory. Each leaf is asked once, and no memory is taken.
+//! Whether grants stand on leaves of a directory, or of a region. No memory is taken.
 ghost use Rattle.std.specs.Prelude.{◌↔◌, IsTrue};
 ghost use Rattle.cluster_core.specs.Administers.{IsAnyPinned};
+ghost use Rattle.cluster_core.specs.Exporting.{HasPinnedUnder};
 
 use inboxes::Pins;
 use inode_table::Dirs;
@@ -8,6 +9,24 @@ use mds_types::{Frag, Ino};
 use objstore::Store;
 use ranked_tree::{RankedTree, leaf_inside};
 use subtree_map::end_of;
+
+/// Whether a leaf is pinned of the region that a leaf has once it is a subtree root. The way up is climbed for each pin.
+pub fn is_region_pinned<S: Store + Drop>(
+    tree: &RankedTree<S>,
+    pins: &Pins,
+    dir: Ino,
+    frag: Frag,
+) -> bool
+    ensures { IsTrue result ↔ HasPinnedUnder tree.now.subtrees.roots tree.now.tree.homes tree.now.tree.covers pins.now (dir, frag) }
+{
+    let root = (dir, frag);
+    for pin in pins.as_slice() {
+        if tree.is_under(&root, &(pin.dir, pin.frag)) {
+            return true;
+        }
+    }
+    false
+}
 
 /// Whether a leaf of a directory that lies properly inside a fragment is pinned. Takes no memory.
 pub fn is_any_pinned<S: Store + Drop>(

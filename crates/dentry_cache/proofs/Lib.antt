@@ -6,6 +6,9 @@ pub mod CountLaws
 pub mod EditLaws
 pub mod EndedLaws
 pub mod FrameLaws
+pub mod HandedCame
+pub mod HandedLaws
+pub mod KeepingLaws
 pub mod KeptLaws
 pub mod LacksLaws
 pub mod LeafLaws
@@ -13,12 +16,14 @@ pub mod LoadLaws
 pub mod MapCalls
 pub mod MapLaws
 pub mod MapNew
+pub mod MoveLaws
 pub mod NameParts
 pub mod OneCache
 pub mod PageSteps
 pub mod PairLaws
 pub mod PartLaws
 pub mod PartsLaws
+pub mod PlaceLaws
 pub mod ReadsLaws
 pub mod RoomLaws
 pub mod SplitLaws

@@ -154,7 +154,7 @@ module _ (cs : List Held) (cap r : ℕ) (sound : AreAtOneRank cap cs) (there : r
         → (held_of then ≡ m) × AreAtOneRank cap then
     raised m fits size mine others = (
       same_map leaf-total leaf-exact (held_of then) m (λ q. get_held then q ∙ found_then q),
-      record { one = λ b q. each b q ∙ ap (at_rank b) (sym (found_then q)); each = λ b lt. caps b lt (same_or_apart b r); valid = λ b lt. valids b lt (same_or_apart b r) },
+      record { most = sound.most; one = λ b q. each b q ∙ ap (at_rank b) (sym (found_then q)); each = λ b lt. caps b lt (same_or_apart b r); valid = λ b lt. valids b lt (same_or_apart b r) },
     )
       where
         each_so : (b : ℕ) (q : Leaf) → (b ≡ r) ⊎ (b ≡ r → ⊥) → frag_at then b q ≡ at_rank b (finmap.get m q)

@@ -1,5 +1,5 @@
 -- Caches with no place taken.
-use Rattle.std.proofs.Common.{◌≡◌, ℕ, zero, suc, ◌<◌, List, [], ◌∷◌, get_or, length, replicate, None, refl, sym, ap, subst, ◌∙◌, arith}
+use Rattle.std.proofs.Common.{◌≡◌, ℕ, zero, suc, ◌<◌, ◌≤◌, List, [], ◌∷◌, get_or, length, replicate, None, refl, sym, ap, subst, ◌∙◌, arith}
 use Rattle.std.specs.FinMap as finmap
 use Rattle.std.specs.FinMap.{get-empty, same_map}
 use Rattle.lru.specs.LruCache.{lru_cache}
@@ -38,8 +38,9 @@ no_orders : (n places : ℕ) → orders (empties n places) ≡ replicate n []
 no_orders zero places = refl
 no_orders (suc n) places = ap (λ (xs : List (List Leaf)). [] ∷ xs) (no_orders n places)
 
-pub new_sound : (n places : ℕ) (cs : List Held) → cs ≡ empties n places → AreAtOneRank places cs
-new_sound n places cs is = subst (AreAtOneRank places) (sym is) (record {
+pub new_sound : (n places : ℕ) (cs : List Held) → places ≤ 65536 → cs ≡ empties n places → AreAtOneRank places cs
+new_sound n places cs most is = subst (AreAtOneRank places) (sym is) (record {
+  most = most;
   one = λ r q. none_at n r places q ∙ sym (ap (at_rank r) (found_none n 0 places q));
   each = λ r lt. cap_at n r places lt;
   valid = λ r lt. valid_at n r places lt;

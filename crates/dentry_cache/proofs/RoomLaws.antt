@@ -3,7 +3,6 @@ use Rattle.std.proofs.Common.{◌≡◌, ℕ, suc, ◌+◌, ◌<◌, ◌≤◌, 
 use Rattle.std.proofs.lemmas.Bool.Decides.{nat_tests}
 use Rattle.std.proofs.lemmas.Option.{same_Some}
 use Rattle.std.specs.List.{AllByRecursion, IsDistinct, list_any}
-use Rattle.std.specs.FinMap as finmap
 use Rattle.mds_types.specs.declared.refusals.Refusal.{Refusal}
 use Rattle.mds_types.specs.declared.refusals.Refusal.TheVariants.{NoMemory, NothingToEvict}
 use Rattle.cached_frag.specs.Cached.{Cached, is_clean}
@@ -146,8 +145,8 @@ module _ (c : CacheMap) (r : ℕ) (stay : Option Leaf) (there : r < length c.use
       go false (Some v) seen is = subst (λ (k : CacheMap). CanKeepOn n count k r stay) (same_Some (given_up c r v) mid is) (one v seen)
 
   -- where one is kept, one less is to be
-  pub kept_left : (leaf : Leaf) → finmap.get c.held leaf ≡ None → CanKeepOn (suc n) count (used_at c r leaf) r stay
-  kept_left leaf none =
+  pub kept_left : (leaf : Leaf) → CanKeepOn (suc n) count (used_at c r leaf) r stay
+  kept_left leaf =
       let few = few_less leaf (order c r) in
       let size : length (order (used_at c r leaf) r) ≡ suc (length (less leaf (order c r))) = ap (λ (xs : List Leaf). length xs) (order_used c r there leaf) in
       let going : length (going_at (used_at c r leaf) r stay) ≡ length (filter (goes c r stay) (first leaf (order c r))) = ap (λ (xs : List Leaf). length (filter (goes c r stay) xs)) (order_used c r there leaf) in

@@ -1,12 +1,12 @@
 -- The fragments that aren't clean, of one cache and of all.
-use Rattle.std.proofs.Common.{◌≡◌, ℕ, zero, suc, ◌+◌, ◌<◌, ◌≤◌, arith, append_assoc, length, Bool, true, false, cond, not, ◌&&◌, List, [], ◌∷◌, ◌++◌, take, drop, Option, Some, None, refl, sym, ap, subst, ◌∙◌}
+use Rattle.std.proofs.Common.{◌≡◌, ℕ, zero, suc, ◌+◌, ◌<◌, ◌≤◌, arith, append_assoc, length, Bool, true, false, cond, not, ◌&&◌, List, [], ◌∷◌, ◌++◌, take, drop, Option, Some, None, refl, sym, ap, ◌∙◌}
 use Rattle.std.specs.Prelude.{is_some}
 use Rattle.std.specs.List.{AllByRecursion, IsDistinct}
 use Rattle.std.specs.Map.{keys_of, lookup}
 use Rattle.std.proofs.lemmas.List.{drop_more}
 use Rattle.mds_types.specs.declared.ids.Rank.{Rank}
 use Rattle.mds_types.specs.declared.dirfrags.Dirfrag.{Dirfrag}
-use Rattle.cached_frag.specs.Cached.{Cached, is_clean}
+use Rattle.cached_frag.specs.Cached.{is_clean}
 use Rattle.dentry_cache.specs.Cache.{Leaf, Places, Unsaved, cached, fragment_in, leaf_is, unsaved_in}
 use Rattle.dentry_cache.specs.CacheMap.{CacheMap, here, order}
 use Rattle.dentry_cache.specs.Unclean.{is_unclean, unclean_among, unclean_from, unclean_in}
@@ -29,7 +29,7 @@ apart_from : (e : Leaf × Place) (es all : Places) → AllByRecursion (λ q. lea
 apart_from e [] all others found = tt
 apart_from e (d ∷ es) all (other, others) (one, found) = (ap (λ b. cond b (Some e.1) (lookup (leaf_is d.0) all)) (flips d.0 e.0 ∙ other) ∙ one, apart_from e es all others found)
 
-each_found : (es : Places) → IsDistinct leaf_is (keys_of es) → AllByRecursion (λ (d : Leaf × Place). lookup (leaf_is d.0) es ≡ Some d.1) es
+pub each_found : (es : Places) → IsDistinct leaf_is (keys_of es) → AllByRecursion (λ (d : Leaf × Place). lookup (leaf_is d.0) es ≡ Some d.1) es
 unfolding IsDistinct
 each_found [] distinct = tt
 each_found (e ∷ es) (others, distinct) = (ap (λ b. cond b (Some e.1) (lookup (leaf_is e.0) es)) (leaf_itself e.0), apart_from e es es others (each_found es distinct))

@@ -181,8 +181,9 @@ held_of cs = tabulate (found 0 cs) (flat (orders cs))
 abbrev pub cache_map : List Held → ℕ → CacheMap
 cache_map cs cap = record { held = held_of cs; used = orders cs; cap = cap }
 
--- no leaf's fragment is at two ranks, each rank has as many places, and no leaf has two of them
+-- no leaf's fragment is at two ranks, each rank has as many places, 65,536 at most, and no leaf has two of them
 pub record AreAtOneRank (cap : ℕ) (cs : List Held) : Type 0 where
+  pub most : cap ≤ 65536
   pub one : (r : ℕ) (leaf : Leaf) → frag_at cs r leaf ≡ at_rank r (found 0 cs leaf)
   pub each : (r : ℕ) → r < length cs → (get_or cs r no_cache).cap ≡ cap
   pub valid : (r : ℕ) → r < length cs → IsCache (get_or cs r no_cache)

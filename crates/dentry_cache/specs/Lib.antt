@@ -7,10 +7,12 @@ pub mod Commits
 pub mod Divided
 pub mod Ended
 pub mod Fetches
+pub mod Handing
 pub mod Loading
 pub mod Pairs
 pub mod Parting
 pub mod Places
+pub mod PlacesByUse
 pub mod Reads
 pub mod Standing
 pub mod Ties

@@ -24,8 +24,11 @@ mod unclean;
 // the caches of all ranks, each with the same number of places, as one map of fragments
 mod caches;
 mod ending;
+mod handing;
 mod splits;
+mod walking;
 
 pub use caches::Caches;
 pub use loading::load;
 pub use parts::{Part, Parts};
+pub use walking::PlacesByUse;

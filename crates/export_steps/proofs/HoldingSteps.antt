@@ -1,4 +1,4 @@
--- What each step before Finish makes of the roots with the ranks that hold their regions, and what Start, Prep and Send leave of holders and frozen leaves.
+-- What each step makes of the roots with the ranks that hold their regions, and what Start, Prep and Send leave of holders and frozen leaves.
 use Rattle.std.specs.Prelude.{◌≡◌, ◌≢◌, ◌⊎◌, Bool, true, false, cond, Option, Some, None, option_map, refl}
 use Rattle.std.proofs.Common.{inl, inr, sym, ap, subst, ◌∙◌}
 use Rattle.std.specs.FinMap as map
@@ -13,7 +13,7 @@ use Rattle.subtree_map.proofs.Options.{not_none, one_value}
 use Rattle.export_steps.specs.declared.exports.ExportState.{ExportState}
 use Rattle.export_steps.specs.declared.exports.ExportState.TheVariants.{Started, Frozen, Prepared, Sent, Imported}
 use Rattle.export_steps.specs.declared.exports.StandingExport.{StandingExport}
-use Rattle.export_steps.specs.Standing.{ArePlaced, ComesTo, IsCancel, IsFreeze, IsStart, Standing, come_to, is_before_send, is_freezing}
+use Rattle.export_steps.specs.Standing.{ArePlaced, ComesTo, IsCancel, IsFinish, IsFreeze, IsStart, Standing, come_to, is_before_send, is_freezing}
 use Rattle.export_steps.specs.Holder.{IsFrozen, holder_or, holding, is_imported}
 use Rattle.export_steps.specs.Handover.{KeepFrozen, KeepHolders, StepsSoundly}
 use Rattle.export_steps.proofs.Handover.{early_holds}
@@ -166,3 +166,25 @@ cancel_holding old new was now root is = ap (holding new) is.roots ∙ own_holdi
     (λ leaf apart. ap (λ (m : Standing). map.get m leaf) is.ended ∙ get_left old root leaf apart)
     (λ export stands. early_holds export.state (ap (λ (e : StandingExport). is_before_send e.state) (one_value _ export is.export stands is.stood) ∙ is.before_send))
     (λ export stands. absurd (not_none _ export (ap (λ (m : Standing). map.get m root) is.ended ∙ get_removed old root) stands)) was.roots
+
+-- ---- Finish
+
+module _ (old new : Standing) (was now : Subtrees) (root : Leaf) (is : IsFinish old new was now root) (placed : ArePlaced old was) where
+  finish_was : map.get (holding old was.roots) root ≡ Some is.export.importer
+  finish_was = get_holding old was.roots root ∙ ap (λ (o : Option StandingExport). option_map (holder_or o) (map.get was.roots root)) is.stood
+      ∙ ap (option_map (holder_or (Some is.export))) (placed.ranked root is.export is.stood (ap is_freezing is.imported))
+      ∙ ap (λ (s : ExportState). Some (cond (is_imported s) is.export.importer is.export.exporter)) is.imported
+
+  finish_here : map.get (holding new now.roots) root ≡ Some is.export.importer
+  finish_here = get_holding new now.roots root ∙ ap (λ (o : Option StandingExport). option_map (holder_or o) (map.get now.roots root)) (ap (λ (m : Standing). map.get m root) is.ended ∙ get_removed old root)
+      ∙ ap (option_map (holder_or None)) (ap (λ (m : Roots). map.get m root) is.roots ∙ get_put was.roots root is.export.importer)
+
+  -- the importer, which held the region, holds it as its authority
+  pub finish_holding : holding new now.roots ≡ holding old was.roots
+  finish_holding = same_map leaf-total leaf-exact (holding new now.roots) (holding old was.roots) (λ q. at q (same_or_apart q root))
+    where
+      at : (q : Leaf) → (q ≡ root) ⊎ (q ≢ root) → map.get (holding new now.roots) q ≡ map.get (holding old was.roots) q
+      at q (inl same) = ap (map.get (holding new now.roots)) same ∙ finish_here ∙ sym finish_was ∙ ap (map.get (holding old was.roots)) (sym same)
+      at q (inr apart) =
+          get_holding new now.roots q ∙ ap (λ (o : Option StandingExport). option_map (holder_or o) (map.get now.roots q)) (ap (λ (m : Standing). map.get m q) is.ended ∙ get_left old root q apart)
+          ∙ ap (option_map (holder_or (map.get old q))) (ap (λ (m : Roots). map.get m q) is.roots ∙ get_beside was.roots root is.export.importer q apart) ∙ sym (get_holding old was.roots q)

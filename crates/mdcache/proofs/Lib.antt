@@ -19,6 +19,7 @@ pub mod FlushSteps
 pub mod FlushedLaws
 pub mod FragsLaws
 pub mod GatherLaws
+pub mod GivenLaws
 pub mod GoingLaws
 pub mod GoneLaws
 pub mod HomeLaws

@@ -1,5 +1,5 @@
 -- What isn't clean of one rank, after reads and preparations; and where places lack.
-use Rattle.std.proofs.Common.{◌≡◌, inl, inr, ℕ, zero, suc, ◌+◌, ◌-◌, ◌<◌, ◌≤◌, ◌||◌, Bool, true, false, cond, not, List, [], ◌∷◌, length, filter, is_some, Option, Some, None, refl, sym, ap, subst, ◌∙◌, arith}
+use Rattle.std.proofs.Common.{◌≡◌, inl, inr, ℕ, zero, suc, ◌+◌, ◌-◌, ◌<◌, ◌≤◌, ◌||◌, Bool, true, false, cond, not, ◌&&◌, ◌⊎◌, List, [], ◌∷◌, length, filter, is_some, Option, Some, None, refl, sym, ap, subst, ◌∙◌, arith}
 use Rattle.std.specs.Prelude.{◌==◌}
 use Rattle.std.specs.List.{AllByRecursion, IsDistinct, list_any}
 use Rattle.std.proofs.lemmas.Map.Keys.{IsDistinct-cons, IsDistinct-head, IsDistinct-tail}
@@ -8,13 +8,14 @@ use Rattle.std.specs.FinMap.{contains_key-keys, empty_of_len, get-empty, get-rem
 use Rattle.objstore.specs.Objects.{Objects}
 use Rattle.cached_frag.specs.Cached.{Cached, is_clean}
 use Rattle.dentry_cache.specs.Cache.{IsThere, Leaf, Unsaved, leaf_cmp, leaf_is, unsaved_in}
-use Rattle.dentry_cache.specs.CacheCalls.{KeepsNone, kept_at, unclean_at, unclean_in}
-use Rattle.dentry_cache.specs.CacheMap.{AreCaches, At, CacheMap, at, at_rank, has_place, here, order, removed, roomy, unclean_of, unsaved_at, with_frag}
+use Rattle.dentry_cache.specs.CacheCalls.{CanNotKeep, KeepsNone, going_at, kept_at, unclean_at, unclean_in}
+use Rattle.dentry_cache.specs.CacheMap.{AreCaches, At, CacheMap, at, at_rank, clean_in, goes, has_place, here, order, removed, roomy, unclean_of, unsaved_at, with_frag}
 use Rattle.dentry_cache.specs.Loading.{object_of}
 use Rattle.dentry_cache.specs.Reads.{IsButRoom, Reads}
 use Rattle.dentry_cache.specs.Reads.Reads.{stays as it_stays, uses, grows, room, loads, frees}
 use Rattle.dentry_cache.proofs.CountLaws.{full_counts, staying}
 use Rattle.dentry_cache.proofs.FrameLaws.{IsLeft, roomy_left}
+use Rattle.dentry_cache.proofs.KeepingLaws.{all_from}
 use Rattle.dentry_cache.proofs.LeafLaws.{flips, leaf-exact, leaf-total, leaf_itself, one_leaf, tied_leaf}
 use Rattle.dentry_cache.proofs.MapLaws.{get_tabulate}
 use Rattle.dentry_cache.proofs.ReadsLaws.{here_is, room_unsaved}
@@ -191,3 +192,31 @@ full_lacks c r stay valid none full =
     let kept : length (kept_at c r) ≡ 0 = ap (λ (xs : List Leaf). length xs) (kept_none c r none) in
     let few : length (unclean_at c r) ≤ finmap.len (unclean_of c r) = unclean_few c r (valid.distinct r) in
     omega (arith, all, kept, few)
+
+-- each passes one of two tests
+two : (g t : Leaf → Bool) (xs : List Leaf) → AllByRecursion (λ (x : Leaf). (g x ≡ true) ⊎ (t x ≡ true)) xs → length xs ≤ length (filter g xs) + length (filter t xs)
+two g t [] all = omega arith
+two g t (x ∷ xs) all = go (g x) refl (t x) refl all.0 (two g t xs all.1)
+  where
+    go : (a : Bool) → g x ≡ a → (b : Bool) → t x ≡ b → (g x ≡ true) ⊎ (t x ≡ true) → length xs ≤ length (filter g xs) + length (filter t xs) → suc (length xs) ≤ length (cond a (x ∷ filter g xs) (filter g xs)) + length (cond b (x ∷ filter t xs) (filter t xs))
+    go true is true also one le = omega (arith, le)
+    go true is false also one le = omega (arith, le)
+    go false is true also one le = omega (arith, le)
+    go false is false also (inl first) le = let clash : false ≡ true = sym is ∙ first in absurd cc
+    go false is false also (inr second) le = let clash : false ≡ true = sym also ∙ second in absurd cc
+
+-- where fewer places than so many are free or can become so, and none is kept, they lack
+pub few_lack : (count : ℕ) (c : CacheMap) (r : ℕ) → AreCaches c → KeepsNone c → CanNotKeep count c r None → c.cap < finmap.len (unclean_of c r) + count
+few_lack count c r valid none lacks =
+    let all : length (order c r) ≤ length (going_at c r None) + length (unclean_at c r) =
+    two (goes c r None) (λ (x : Leaf). unclean_in (here c r x)) (order c r) (all_from (λ (x : Leaf). (goes c r None x ≡ true) ⊎ (unclean_in (here c r x) ≡ true)) (order c r) (λ q among. on (here c r q) (none r q among))) in
+    let few : length (unclean_at c r) ≤ finmap.len (unclean_of c r) = unclean_few c r (valid.distinct r) in
+    omega (arith, lacks, all, few)
+  where
+    clean : (b : Bool) → ((b && not false) ≡ true) ⊎ (not b ≡ true)
+    clean true = inl refl
+    clean false = inr refl
+
+    on : (o : Option Cached) → IsThere o → ((clean_in o && not false) ≡ true) ⊎ (unclean_in o ≡ true)
+    on None h = absurd h
+    on (Some f) h = clean (is_clean f)

@@ -5,6 +5,7 @@ pub mod Commits
 pub mod Core
 pub mod Flushed
 pub mod Frags
+pub mod Given
 pub mod Going
 pub mod Joining
 pub mod Made

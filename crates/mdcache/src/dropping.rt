@@ -1,10 +1,12 @@
 //! Commits that are given up.
 ghost use Rattle.std.specs.Prelude.{◌≡◌};
+ghost use Rattle.std.specs.FinMap as map;
 ghost use Rattle.mdcache.specs.Commits.{Drops};
 ghost use Rattle.mdcache.specs.Core.{IsSoundCore, state_of};
+ghost use Rattle.mdcache.specs.StandingJobs.{IsNext};
 
 use crate::mdcache::MdCache;
-use mds_types::Refusal;
+use mds_types::{Frag, Ino, Refusal};
 use objstore::Store;
 
 impl<S: Store + Drop> MdCache<S> {
@@ -26,5 +28,24 @@ impl<S: Store + Drop> MdCache<S> {
             }
             None => Err(Refusal::StaleJob),
         }
+    }
+
+    /// The first leaf behind another for which a job stands; behind none, the first of all. Takes no memory.
+    pub fn next_job_leaf(&self, after: Option<(Ino, Frag)>) -> Option<(Ino, Frag)>
+        ensures { IsNext self.now.jobs after result }
+    {
+        self.jobs.next(after)
+    }
+
+    /// Gives up the job of a leaf, as `drop_job` does that of a number. A leaf for which none stands changes nothing. Takes no
+    /// memory.
+    pub fn end_job(&mut self, dir: Ino, frag: Frag)
+        requires { IsSoundCore self.old }
+        ensures state { state_of self.new ≡ record (state_of self.old) { jobs = map.remove self.old.jobs (dir, frag) } }
+        ensures caches { self.new.caches ≡ self.old.caches }
+        ensures faults { self.new.faults ≡ self.old.faults }
+        ensures sound { IsSoundCore self.new }
+    {
+        self.jobs.end(dir, frag);
     }
 }

@@ -1,4 +1,5 @@
 //! Laws of the definitions of changes, each the contract of a function that does nothing.
+ghost use Rattle.mdcache.specs.Given.{GivenOverIsRight};
 ghost use Rattle.mdcache.specs.Made.{ChangesAreRight};
 ghost use Rattle.mdcache.specs.Splits.{MergesAreRight, SplitsAreRight};
 
@@ -18,4 +19,10 @@ pub fn splits_are_right()
 /// showed.
 pub fn merges_are_right()
     ensures { MergesAreRight }
+{}
+
+/// Whatever leaves go from one rank to another for which no job stands: the state is sound then, its shown tree is the same, and
+/// every leaf shows what it showed.
+pub fn given_over_is_right()
+    ensures { GivenOverIsRight }
 {}

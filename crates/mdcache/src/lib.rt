@@ -41,13 +41,14 @@ mod regrouping;
 mod split_plan;
 mod splitting;
 
-// commits, evictions, and the store's objects
+// commits, evictions, leaves that go to another rank, and the store's objects
 mod batches;
 mod beginning;
 mod dropping;
 mod ending;
 mod evicting;
 mod flushing;
+mod handing;
 mod purging;
 mod tree_objects;
 mod trees;

@@ -61,6 +61,13 @@ impl<S: Store + Drop> MdCache<S> {
         self.caches.ranks()
     }
 
+    /// The ranks' caches, to read.
+    pub fn caches(&self) -> &Caches
+        ensures { result.now ≡ self.now.caches }
+    {
+        &self.caches
+    }
+
     /// Which directories there are, and the leaves of each, to read.
     pub fn dirs(&self) -> &Dirs
         ensures homes { result.now.homes ≡ self.now.homes }

@@ -12,7 +12,7 @@ ghost use Rattle.dentry_cache.specs.CacheSplits.{IsKeptFor};
 ghost use Rattle.dentry_cache.specs.Came.{IsThat, NoneEnds};
 ghost use Rattle.dentry_cache.specs.Reads.{Reads};
 ghost use Rattle.mdcache.specs.CacheReads.{LacksPlacesIn};
-ghost use Rattle.mdcache.specs.Core.{MayFetch, ReadsCore};
+ghost use Rattle.mdcache.specs.Core.{IsSoundCore, MayFetch, ReadsCore};
 ghost use Rattle.mdcache.specs.Ranks.{KeepsOnlyAt, NoneUsed};
 ghost use Rattle.mdcache.specs.Reads.{MayNotFind};
 
@@ -126,12 +126,13 @@ impl<S: Store + Drop> MdCache<S> {
     }
 
     /// Gives up the place that is kept for a leaf that didn't come, if one is. What is cached stays. Takes no memory.
-    pub(crate) fn give_up(&mut self)
+    pub fn give_up(&mut self)
         requires { KeepsOnlyAt self.old.kept self.old.caches }
         ensures none { KeepsNone self.new.caches }
         ensures reads { ReadsCore NoneUsed (IsKeptFor self.old.caches) self.old self.new }
         ensures faults { self.new.faults ≡ self.old.faults }
         ensures kept { self.new.kept ≡ None }
+        ensures sound { IsSoundCore self.old → IsSoundCore self.new }
     {
         if let Some((rank, (dir, frag))) = self.kept {
             self.free(&Dirfrag { dir, frag, rank });

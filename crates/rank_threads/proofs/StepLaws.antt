@@ -5,7 +5,7 @@ use Rattle.mds_types.specs.declared.entries.Entry.{Entry}
 use Rattle.mds_types.specs.Tree.{Tree}
 use Rattle.mds_types.specs.declared.refusals.Refusal.{Refusal}
 use Rattle.cluster_core.specs.declared.events.Answer.{Answer}
-use Rattle.cluster_core.specs.declared.events.Answer.TheVariants.{Deferred, Forwarded, Job, Nothing, Reply}
+use Rattle.cluster_core.specs.declared.events.Answer.TheVariants.{Deferred, Forwarded, Job, Nothing, Reply, Sent}
 use Rattle.cluster_core.specs.declared.events.Event.{Event}
 use Rattle.cluster_core.specs.Runs.{AddsTo, AppendsOne, Records}
 use Rattle.cluster_core.specs.Sound.{IsSoundBook}
@@ -31,6 +31,7 @@ goes_on : (past now : List Entry) (result : Result Answer Refusal) → AddsTo pa
 goes_on past now (Ok Nothing) h = stays past now h
 goes_on past now (Ok (Reply client tid place first reply)) h = replied past now place first h (cond first (place ∷ []) []) refl
 goes_on past now (Ok (Job job)) h = stays past now h
+goes_on past now (Ok (Sent bytes)) h = stays past now h
 goes_on past now (Ok (Forwarded rank)) h = stays past now h
 goes_on past now (Ok Deferred) h = stays past now h
 goes_on past now (Err reason) h = stays past now h

@@ -3,7 +3,7 @@ use Rattle.std.specs.Prelude.{◌≡◌, ◌+◌, ℕ, List, [], ◌∷◌, ◌+
 use Rattle.std.specs.Global.{Vec}
 use Rattle.mds_types.specs.declared.refusals.Refusal.{Refusal}
 use Rattle.cluster_core.specs.declared.events.Answer.{Answer}
-use Rattle.cluster_core.specs.declared.events.Answer.TheVariants.{Deferred, Forwarded, Job, Nothing, Reply}
+use Rattle.cluster_core.specs.declared.events.Answer.TheVariants.{Deferred, Forwarded, Job, Nothing, Reply, Sent}
 use Rattle.rank_threads.specs.declared.plans.Turn.{Turn}
 use Rattle.rank_threads.specs.declared.plans.Turn.TheVariants.{Step, Commit}
 use Rattle.rank_threads.specs.declared.receipts.Receipt.{Receipt}
@@ -38,6 +38,7 @@ abbrev pub receipt_of : Result Answer Refusal → List Receipt
 receipt_of (Ok (Reply client tid place first reply)) = record { client = client; tid = tid; place = place; first = first; reply = reply } ∷ []
 receipt_of (Ok Nothing) = []
 receipt_of (Ok (Job job)) = []
+receipt_of (Ok (Sent bytes)) = []
 receipt_of (Ok (Forwarded rank)) = []
 receipt_of (Ok Deferred) = []
 receipt_of (Err reason) = []

@@ -10,7 +10,7 @@ use Rattle.ranked_tree.specs.Subtrees.{AreRoots, KeepsRoots}
 pub keeps_tables : (old new : TreeState) (before after : Roots) (exports later : Standing) → new.homes ≡ old.homes → new.covers ≡ old.covers → after ≡ before → later ≡ exports → AreRoots old before → KeepsRoots old new before after exports later
 keeps_tables old new before after exports later homes covers still stand valid = record {
   authorities = λ leaf rank was is rules. rw (still, homes, covers) rules;
-  holders = λ leaf rank was is rules. rw (still, homes, covers) rules;
+  holders = λ leaf rank was is rules. rw (stand, still, homes, covers) rules;
   ranks = λ leaf rank is. (leaf, ap (λ m. map.get m leaf) (sym still) ∙ is);
   valid = rw (still, homes, covers) valid;
   stand = stand;

@@ -3,14 +3,17 @@ pub mod AuthorityLaws
 pub mod CameForLaws
 pub mod ChangedTables
 pub mod DividedLaws
+pub mod EndedLaws
 pub mod EvictLaws
 pub mod ExportLaws
+pub mod FinishLaws
 pub mod FlushedLaws
 pub mod FragsLaws
 pub mod HeldChanges
 pub mod HeldLaws
 pub mod HeldRegroups
 pub mod HolderLaws
+pub mod ImportLaws
 pub mod InsideLaws
 pub mod Kept
 pub mod MountedRoots
@@ -18,7 +21,9 @@ pub mod MoveLaws
 pub mod NewLaws
 pub mod ReadsForLaws
 pub mod RootLaws
+pub mod SendLaws
 pub mod StandLaws
 pub mod Stays
+pub mod StepLaws
 pub mod SubtreeLaws
 pub mod WalkLaws

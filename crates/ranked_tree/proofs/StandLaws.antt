@@ -179,7 +179,7 @@ module _ (old new : TreeState) (n m : ℕ) (was now : Subtrees) (exports : Stand
           stand.unbegun leaf job stood ((keep_frozen exports was now old.homes new.homes old.covers new.covers kept leaf (job_live old sound leaf job stood) (job_live new later leaf job is)).1 frozen);
     }
 
-    pub keeps_held : KeepsAuthorities old new was.roots now.roots → KeepsHolders old new was.roots now.roots exports
+    pub keeps_held : KeepsAuthorities old new was.roots now.roots → KeepsHolders old new was.roots now.roots exports exports
     keeps_held keeps leaf rank live still rules =
         (holder_is exports now.roots new.homes new.covers leaf rank).0
         (keep_holders exports was now old.homes new.homes old.covers new.covers kept keeps leaf rank live still ((holder_is exports was.roots old.homes old.covers leaf rank).1 rules))

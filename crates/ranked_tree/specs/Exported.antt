@@ -1,5 +1,5 @@
 -- The exports that stand over a tree: whose each region is, and what is kept of those that stand.
-use Rattle.std.specs.Prelude.{◌≡◌, ℕ, ◌<◌, true, Some, length}
+use Rattle.std.specs.Prelude.{◌≡◌, ◌⊎◌, ℕ, ◌<◌, true, None, Some, length}
 use Rattle.std.specs.FinMap as map
 use Rattle.mds_types.specs.declared.ids.Ino.{Ino}
 use Rattle.mds_types.specs.declared.ids.Rank.{Rank}
@@ -9,7 +9,7 @@ use Rattle.inode_table.specs.Dirs.{Covers, Homes, IsLive}
 use Rattle.export_steps.specs.declared.exports.StandingExport.{StandingExport}
 use Rattle.export_steps.specs.Holder.{IsFrozen, holding}
 use Rattle.export_steps.specs.Standing.{ArePlaced, Standing}
-use Rattle.subtree_map.specs.Authority.{Leaf, Roots}
+use Rattle.subtree_map.specs.Authority.{Leaf, NearestRoot, Roots}
 use Rattle.subtree_map.specs.Changes.{Subtrees, is_inside}
 use Rattle.mdcache.specs.Core.{Core, state_of}
 use Rattle.mdcache.specs.State.{State as TreeState}
@@ -24,6 +24,10 @@ held_in regions = holding regions.exports regions.roots.roots
 -- a leaf changes no more until the export of its region ends
 abbrev pub IsFrozenIn : TreeState → Regions → Leaf → Type 0
 IsFrozenIn tree regions leaf = IsFrozen regions.exports regions.roots.roots tree.homes tree.covers leaf
+
+-- a leaf lies in the region of another, once that is a subtree root
+abbrev pub IsUnder : Roots → Homes → Covers → (root leaf : Leaf) → Type 0
+IsUnder roots homes covers root leaf = (rank : Rank) → NearestRoot (map.insert roots root rank) homes covers leaf root
 
 -- a leaf of a directory that lies properly inside a fragment is frozen
 abbrev pub IsAnyFrozen : Standing → Roots → Homes → Covers → Ino → Fragment → Type 0
@@ -46,3 +50,14 @@ pub record StandSoundly (tree : TreeState) (count : ℕ) (subtrees : Subtrees) (
 pub record IsDivided (core : Core) (regions : Regions) : Type 0 where
   pub owned : IsOwned core (held_in regions)
   pub stand : StandSoundly (state_of core) (length core.caches.used) regions.roots regions.exports
+
+-- the jobs of the region of a root have ended, and nothing else of the state changed
+pub record EndsRegion (old new : TreeState) (roots : Roots) (root : Leaf) : Type 0 where
+  pub ended : (leaf : Leaf) → NearestRoot roots old.homes old.covers leaf root → map.get new.jobs leaf ≡ None
+  pub others : (leaf : Leaf) → (NearestRoot roots old.homes old.covers leaf root → ⊥) → map.get new.jobs leaf ≡ map.get old.jobs leaf
+  pub left : new ≡ record old { jobs = new.jobs }
+
+-- so it is with one leaf: its job has ended where it is in the region, and otherwise nothing changed
+abbrev pub EndsInside : Roots → Leaf → (old new : TreeState) → Leaf → Type 0
+EndsInside roots root old new leaf =
+    (NearestRoot roots old.homes old.covers leaf root × (new ≡ record old { jobs = map.remove old.jobs leaf })) ⊎ ((NearestRoot roots old.homes old.covers leaf root → ⊥) × (new ≡ old))

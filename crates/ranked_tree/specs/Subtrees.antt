@@ -17,7 +17,7 @@ use Rattle.namespace_ops.specs.declared.plans.Spot.{Spot}
 use Rattle.namespace_ops.specs.Changes.{dentry_at}
 use Rattle.export_steps.specs.Holder.{holding}
 use Rattle.export_steps.specs.Standing.{Standing}
-use Rattle.subtree_map.specs.Authority.{HasAuthority, IsSubtrees, Leaf, Roots}
+use Rattle.subtree_map.specs.Authority.{HasAuthority, IsSubtrees, Leaf, NearestRoot, Roots}
 use Rattle.subtree_map.specs.Changes.{AreGone, is_inside}
 use Rattle.subtree_map.specs.Moves.{HasRoomToMove, IsSettled}
 use Rattle.mdcache.specs.State.{State as TreeState}
@@ -37,6 +37,12 @@ AreRoots tree roots = IsSubtrees roots tree.homes tree.covers
 -- each leaf that stood and still stands has the authority that it had
 abbrev pub KeepsAuthorities : (old new : TreeState) → (before after : Roots) → Type 0
 KeepsAuthorities old new before after = (leaf : Leaf) (rank : Rank) → IsLive old.homes old.covers leaf → IsLive new.homes new.covers leaf → Rules old before leaf rank → Rules new after leaf rank
+
+-- so do the leaves outside the region of a root, if one is named
+abbrev pub KeepsOutside : Option Leaf → (old new : TreeState) → (before after : Roots) → Type 0
+KeepsOutside None old new before after = KeepsAuthorities old new before after
+KeepsOutside (Some root) old new before after =
+    (leaf : Leaf) (rank : Rank) → IsLive old.homes old.covers leaf → IsLive new.homes new.covers leaf → (NearestRoot before old.homes old.covers leaf root → ⊥) → Rules old before leaf rank → Rules new after leaf rank
 
 -- no root is of a rank that none was of
 abbrev pub NoNewRank : (before after : Roots) → Type 0
@@ -93,14 +99,14 @@ IsInsideAt leaves frag hash None = (leaf : Fragment) → HasLeaf leaves leaf →
 IsInsideAt leaves frag hash (Some leaf) = HasLeaf leaves leaf × (lies_inside frag leaf ≡ true) × (leaf.value ≤ hash) × (hash < leaf.value + span leaf.bits)
 
 -- each leaf that stood and still stands has the holder that it had
-abbrev pub KeepsHolders : (old new : TreeState) → (before after : Roots) → Standing → Type 0
-KeepsHolders old new before after exports = KeepsAuthorities old new (holding exports before) (holding exports after)
+abbrev pub KeepsHolders : (old new : TreeState) → (before after : Roots) → (exports later : Standing) → Type 0
+KeepsHolders old new before after exports later = KeepsAuthorities old new (holding exports before) (holding later after)
 
 -- what a step leaves of the roots: each leaf that stays has the authority and the holder that it had, no rank has its first root, and they
 -- are roots still; the exports stand as they stood
 pub record KeepsRoots (old new : TreeState) (before after : Roots) (exports later : Standing) : Type 0 where
   pub authorities : KeepsAuthorities old new before after
-  pub holders : KeepsHolders old new before after exports
+  pub holders : KeepsHolders old new before after exports later
   pub ranks : NoNewRank before after
   pub valid : AreRoots new after
   pub stand : later ≡ exports

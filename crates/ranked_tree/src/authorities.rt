@@ -5,7 +5,7 @@ ghost use Rattle.inode_table.specs.Dirs.{IsLive};
 ghost use Rattle.namespace_ops.specs.Places.{IsAt, Locates};
 ghost use Rattle.mdcache.specs.Core.{state_of};
 ghost use Rattle.mdcache.specs.Shown.{shown_tree};
-ghost use Rattle.ranked_tree.specs.Exported.{IsAnyFrozen, IsFrozenIn, held_in};
+ghost use Rattle.ranked_tree.specs.Exported.{IsAnyFrozen, IsFrozenIn, IsUnder, held_in};
 ghost use Rattle.ranked_tree.specs.Ranked.{IsFrozenLeaf, held_roots};
 ghost use Rattle.ranked_tree.specs.Held.{IsOwned};
 ghost use Rattle.ranked_tree.specs.Subtrees.{AllHave, AreRoots, HoldsAt, Rules};
@@ -45,6 +45,13 @@ impl<S: Store + Drop> RankedTree<S> {
         ensures { IsTrue result ↔ IsAnyFrozen self.now.exports self.now.subtrees.roots self.now.tree.homes self.now.tree.covers dir frag }
     {
         is_any_frozen(&self.tree, &self.regions, dir, frag)
+    }
+
+    /// Whether a leaf lies in the region that another has once it is a subtree root. Takes no memory.
+    pub fn is_under(&self, root: &(Ino, Frag), leaf: &(Ino, Frag)) -> bool
+        ensures { IsTrue result ↔ IsUnder self.now.subtrees.roots self.now.tree.homes self.now.tree.covers root.now leaf.now }
+    {
+        is_under(&self.tree, &self.regions.roots, root, leaf)
     }
 
     /// The authority of a leaf that lies here: the rank that holds it, unless an export stands. Takes no memory.
@@ -117,6 +124,18 @@ fn is_authority<S: Store + Drop>(
     ensures { IsTrue result ↔ Rules (state_of tree.now) roots.now.roots (dir, frag) rank }
 {
     roots.find_authority(tree.dirs(), dir, frag) == Some(rank)
+}
+
+// Whether a leaf lies in the region that another has once it is a root.
+fn is_under<S: Store + Drop>(
+    tree: &MdCache<S>,
+    roots: &Subtrees,
+    root: &(Ino, Frag),
+    leaf: &(Ino, Frag),
+) -> bool
+    ensures { IsTrue result ↔ IsUnder roots.now.roots tree.now.homes tree.now.covers root.now leaf.now }
+{
+    roots.is_under(tree.dirs(), root, leaf)
 }
 
 // Whether a leaf is frozen.

@@ -1,12 +1,13 @@
 //! The subtree roots with the exports that stand: from both it is told which rank holds a leaf.
-ghost use Rattle.std.specs.Prelude.{◌≡◌};
+ghost use Rattle.std.specs.Prelude.{◌≡◌, ◌≢◌, Some, IfSome, MatchOption};
 ghost use Rattle.std.specs.Option.{option_copied};
 ghost use Rattle.std.specs.FinMap as map;
+ghost use Rattle.export_steps.specs.Standing.{IsBetweenRanks, state_at};
 ghost use Rattle.inode_table.specs.Dirs.{IsLive};
 ghost use Rattle.subtree_map.specs.Authority.{HasAuthority, IsSubtrees};
 ghost use Rattle.ranked_tree.specs.Exported.{held_in};
 
-use export_steps::Exports;
+use export_steps::{ExportState, Exports, StandingExport};
 use inode_table::{Dirs, Home};
 use mds_types::{Frag, Ino, Rank};
 use std::alloc::Global;
@@ -56,5 +57,24 @@ impl Regions {
             return self.roots.authority_from(dirs, leaf, home);
         }
         self.holder(dirs, leaf.0, leaf.1)
+    }
+
+    // The export of a root, if it is in this state.
+    pub(crate) fn export_in(
+        &self,
+        dir: Ino,
+        frag: Frag,
+        state: ExportState,
+    ) -> Option<StandingExport>
+        ensures export { MatchOption result (state_at self.now.exports (dir, frag) ≢ Some state) (λ export. (map.get self.now.exports (dir, frag) ≡ Some export) × (export.state ≡ state)) }
+        ensures ranks { IfSome result IsBetweenRanks }
+    {
+        let Some(export) = self.exports.get(dir, frag) else {
+            return None;
+        };
+        if export.state != state {
+            return None;
+        }
+        Some(export)
     }
 }

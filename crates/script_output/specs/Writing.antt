@@ -5,7 +5,7 @@ use Rattle.mds_types.specs.declared.object_names.ObjName.{ObjName}
 use Rattle.mds_types.specs.declared.refusals.Refusal.{Refusal}
 use Rattle.mds_types.specs.declared.refusals.Refusal.TheVariants.{Damaged}
 use Rattle.script_output.specs.declared.lines.OutputLine.{OutputLine}
-use Rattle.script_output.specs.declared.lines.OutputLine.TheVariants.{Reply, Forwarded, Deferred, Queued, Nothing, Flushed, Frags, Subtrees, Authority, Job, Object, Objects, History, Refused, Errno}
+use Rattle.script_output.specs.declared.lines.OutputLine.TheVariants.{Reply, Forwarded, Deferred, Queued, Nothing, Flushed, Frags, Subtrees, Authority, Job, Sent, Object, Objects, History, Refused, Errno}
 use Rattle.script_output.specs.declared.writing.OutputFault.{OutputFault}
 use Rattle.script_output.specs.declared.writing.OutputFault.TheVariants.{NoMemory, Write}
 
@@ -50,6 +50,7 @@ TakesText (Frags leaves) = Unit {0}
 TakesText (Subtrees roots) = Unit {0}
 TakesText (Authority rank) = Unit {0}
 TakesText (Job number) = Unit {0}
+TakesText (Sent length) = Unit {0}
 TakesText (Object object) = Unit {0}
 TakesText (Objects names) = Unit {0}
 TakesText (History length) = Unit {0}

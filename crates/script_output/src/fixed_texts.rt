@@ -26,6 +26,7 @@ pub fn fixed_text(line: &OutputLine) -> Option<&'static str>
         OutputLine::Subtrees(_) => None,
         OutputLine::Authority(_) => None,
         OutputLine::Job(_) => None,
+        OutputLine::Sent(_) => None,
         OutputLine::Object(_) => None,
         OutputLine::Objects(_) => None,
         OutputLine::History(_) => None,

@@ -45,6 +45,8 @@ pub enum OutputLine {
     Authority(Rank),
     /// `job J`: a commit was begun, with a job of this number.
     Job(u64),
+    /// `sent LENGTH`: how many bytes an export handed over.
+    Sent(u64),
     /// `frag ..`, `tree ..`, `absent` or `damaged`: what an object is.
     Object(ObjectLine),
     /// `objects K NAME ..`: the names of objects.
@@ -105,6 +107,7 @@ impl OutputLine {
             OutputLine::Subtrees(roots) => push_text(out, format!(in alloc; "{roots}\n")),
             OutputLine::Authority(Rank(rank)) => push_text(out, format!(in alloc; "rank {rank}\n")),
             OutputLine::Job(number) => push_text(out, format!(in alloc; "job {number}\n")),
+            OutputLine::Sent(length) => push_text(out, format!(in alloc; "sent {length}\n")),
             OutputLine::Object(object) => push_text(out, format!(in alloc; "{object}\n")),
             OutputLine::Objects(names) => {
                 let names = ObjectsText(names);

@@ -3,8 +3,7 @@ use Rattle.std.proofs.Common.{◌≡◌, ℕ, List, Option, Result, Ok, Err, sym
 use Rattle.std.specs.Result.{IsErr, IsErrAnd}
 use Rattle.script_words.specs.declared.faults.Fault.{Fault}
 use Rattle.script_words.specs.declared.faults.ReadError.{ReadError}
-use Rattle.script_words.specs.declared.faults.ReadError.TheVariants as errors
-use Rattle.script_words.specs.Reading.{Fails, Gives, HasForm, ◌>>=◌}
+use Rattle.script_words.specs.Reading.{Fails, Gives, ◌>>=◌}
 use Rattle.script_words.specs.Arguments.{after_name_of, after_text_of, name_of, target_of, text_of, two_texts_of}
 use Rattle.script_words.proofs.FormLemmas.{fails_on, form_of_after, form_of_name, form_of_target, form_on}
 

@@ -1,6 +1,7 @@
 pub mod Attributes
 pub mod Authorities
 pub mod Dirfrags
+pub mod Exports
 pub mod Operations
 pub mod Script
 pub mod Input

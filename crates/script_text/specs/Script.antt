@@ -2,7 +2,7 @@
 use Rattle.std.specs.Prelude.{ℕ, if◌then◌else◌, List, [], ◌∷◌, codes, Result, Ok, Err}
 use Rattle.std.specs.List.{list_all}
 use Rattle.script_text.specs.declared.commands.Command.{Command}
-use Rattle.script_text.specs.declared.commands.Command.TheVariants.{Operation, Request, Serve, History, Store}
+use Rattle.script_text.specs.declared.commands.Command.TheVariants.{Operation, Request, Serve, History, Export, Store}
 use Rattle.script_text.specs.declared.lines.Line.{Line}
 use Rattle.script_text.specs.declared.lines.Line.TheVariants as line
 use Rattle.script_words.specs.declared.faults.Fault.{Fault}
@@ -13,6 +13,7 @@ use Rattle.script_words.specs.Arguments.{rank_of, client_of, decimal_of}
 use Rattle.script_text.specs.Operations.{operation_of}
 use Rattle.script_text.specs.Authorities.{grant_of, get_of, authority_of}
 use Rattle.script_text.specs.Dirfrags.{dirfrag_of}
+use Rattle.script_text.specs.Exports.{export_of}
 use Rattle.script_text.specs.StoreCommands.{is_store_verb, store_command_of}
 
 -- `serve RANK`
@@ -52,8 +53,9 @@ command_of verb args =
     (if is_text verb (codes "grant") then grant_of args else
     (if is_text verb (codes "get") then get_of args else
     (if is_text verb (codes "authority") then authority_of args else
+    (if is_text verb (codes "export") then (export_of args >>= λ command. Ok (Export command)) else
     (if is_store_verb verb then (store_command_of verb args >>= λ command. Ok (Store command)) else
-    (operation_of verb args >>= λ op. Ok (Operation op)))))))))
+    (operation_of verb args >>= λ op. Ok (Operation op))))))))))
 
 -- the line of a command, or of its fault
 abbrev pub line_from : Result Command Fault → Line

@@ -5,6 +5,7 @@ ghost use Rattle.script_text.specs.Script.{command_of, history_of, req_of, serve
 
 use crate::authorities::{authority, get, grant};
 use crate::dirfrags::dirfrag;
+use crate::exports::{ExportCommand, read_export};
 use crate::operations::read_operation;
 use crate::store_commands::{StoreCommand, is_store_verb, read_store_command};
 use mds_types::{Frag, Ino, Op, Rank, Request};
@@ -50,6 +51,8 @@ pub enum Command {
         ino: Ino,
         frag: Frag,
     },
+    /// What is asked of the export of a subtree.
+    Export(ExportCommand),
     /// What is asked of commits and of the store.
     Store(StoreCommand),
 }
@@ -79,6 +82,9 @@ pub fn read_command(alloc: Global, verb: &[u8], args: &[u8]) -> Result<Command, 
     }
     if verb == b"authority".as_slice() {
         return authority(args);
+    }
+    if verb == b"export".as_slice() {
+        return Ok(Command::Export(read_export(args)?));
     }
     if is_store_verb(verb) {
         return Ok(Command::Store(read_store_command(alloc, verb, args)?));

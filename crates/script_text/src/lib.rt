@@ -6,12 +6,14 @@ mod attributes;
 mod authorities;
 mod commands;
 mod dirfrags;
+mod exports;
 mod lines;
 mod operations;
 mod reading;
 mod store_commands;
 
 pub use commands::Command;
+pub use exports::{ExportCommand, read_export};
 pub use lines::{Line, read_line};
 pub use reading::buffer::{LineBuffer, MAX_LINE_LEN};
 pub use reading::input::{LineFault, NextLine, next_line};

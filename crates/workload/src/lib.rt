@@ -3,6 +3,7 @@
 #![tactic(auto)]
 
 mod asking;
+mod handing;
 mod listing;
 mod loads;
 mod plans;

@@ -3,6 +3,7 @@ ghost use Rattle.std.specs.Prelude.{◌≡◌, ◌≤◌, IfSome};
 ghost use Rattle.std.specs.FinMap as map;
 
 use crate::asking::ask;
+use crate::handing::hand;
 use cluster_core::{Book, format};
 use mds_types::{Dentry, Ino, Mode, Name, Op, Rank, Reply, Request};
 use objstore::MemStore;
@@ -26,14 +27,15 @@ pub(crate) struct Start {
     pub(crate) homes: Vec<Home>,
 }
 
-/// Makes a directory in the root for each of so many clients, in a new book of so many ranks.
+/// Makes a directory in the root for each of so many clients, in a new book of so many ranks, and hands them to the ranks in turn:
+/// the first to rank 0, the next to rank 1, ..
 pub(crate) fn set_up(alloc: Global, ranks: u8, clients: u8) -> Option<Start>
     requires some { 1 ≤ ranks }
     requires ranked { ranks ≤ 16 }
     ensures { IfSome result (λ start. start.book.opening ≡ map.empty) }
 {
     let mut book = new_book(alloc, ranks)?;
-    match make_homes(alloc, &mut book, clients) {
+    match make_homes(alloc, &mut book, ranks, clients) {
         Some(homes) => Some(Start { book, homes }),
         None => {
             drop(book);
@@ -57,13 +59,14 @@ fn new_book(alloc: Global, ranks: u8) -> Option<Book<MemStore>>
     }
 }
 
-// A directory for each client, one after the other.
-fn make_homes(alloc: Global, book: &mut Book<MemStore>, clients: u8) -> Option<Vec<Home>>
+// A directory for each client, one after the other, and each at the next rank.
+fn make_homes(alloc: Global, book: &mut Book<MemStore>, ranks: u8, clients: u8) -> Option<Vec<Home>>
+    requires { 1 ≤ ranks }
     ensures { book.new.opening ≡ book.old.opening }
 {
     let mut homes = Vec::new(alloc);
     for number in 0..clients {
-        let home = make_home(alloc, book, number)?;
+        let home = make_home(alloc, book, number, Rank(number % ranks))?;
         if homes.push(home).is_err() {
             return None;
         }
@@ -71,24 +74,39 @@ fn make_homes(alloc: Global, book: &mut Book<MemStore>, clients: u8) -> Option<V
     Some(homes)
 }
 
-// Makes the directory of the client after so many others.
-fn make_home(alloc: Global, book: &mut Book<MemStore>, number: u8) -> Option<Home>
+// Makes the directory of the client after so many others, at a rank.
+fn make_home(alloc: Global, book: &mut Book<MemStore>, number: u8, rank: Rank) -> Option<Home>
     ensures { book.new.opening ≡ book.old.opening }
 {
-    let client = u64::from(number) + 1;
+    let dir = make_dir(alloc, book, number)?;
+    // a new directory is that of the rank that has the root
+    if rank != Rank(0) {
+        hand(alloc, book, dir, rank)?;
+    }
+    Some(Home {
+        client: client_of(number),
+        dir,
+        rank,
+    })
+}
+
+// The client after so many others.
+fn client_of(number: u8) -> u64 {
+    u64::from(number) + 1
+}
+
+// Makes the directory of that client in the root.
+fn make_dir(alloc: Global, book: &mut Book<MemStore>, number: u8) -> Option<Ino>
+    ensures { book.new.opening ≡ book.old.opening }
+{
     let request = Request {
-        client,
+        client: client_of(number),
         tid: 1,
         oldest: 1,
         op: mkdir(alloc, number)?,
     };
     match ask(alloc, book, request)? {
-        // Only an export hands a directory to another rank, and the cluster has none: each directory stays rank 0's.
-        Reply::Entry(inode) => Some(Home {
-            client,
-            dir: inode.ino,
-            rank: Rank(0),
-        }),
+        Reply::Entry(inode) => Some(inode.ino),
         other => {
             drop(other);
             None

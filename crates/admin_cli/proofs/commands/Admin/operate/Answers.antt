@@ -16,5 +16,5 @@ returns-clause-operated c = rw (c.step.ensures.0, c.step_book-arrived.ensures.co
   middle = c.step_book-arrived.new.self.book;
   arrived = c.step_book-arrived.result;
   stepped = c.step_book-arrived.ensures.stepped;
-  rest = served_after _ _ c.step_book-arrived.result _ c.in_default.not-Err c.step.ensures.2;
+  rest = served_after _ _ c.step_book-arrived.result _ c.in_default.not-Err c.step.ensures.3;
 })

@@ -11,4 +11,4 @@ returns-clause-sound g c opening sound =
     let cached = subst AreCached c.self.view_is (record { unsaved = refl; places = (_, s.sound.kept); held = s.held; orders = c.store.ensures.caches }) in
     let stand = c.store.ensures.stand in
     let exported = subst AreExported c.self.view_is (record { placed = stand.placed.ranked; ranked = stand.ranked; there = stand.there; unbegun = stand.unbegun }) in
-    sound-step opening _ _ _ _ sound kept cached exported c.choose-answer.ensures.stepped.ranks c.choose-answer.ensures.kept c.choose-answer.result c.args.event c.choose-answer.ensures.stepped.does
+    sound-step opening _ _ _ _ sound kept cached exported c.choose-answer.ensures.stepped.ranks c.choose-answer.ensures.valid c.choose-answer.result c.args.event c.choose-answer.ensures.stepped.does

@@ -45,7 +45,7 @@ loop-i-preserved c =
       keeps = subst (λ (n : ℕ). KeepsChildren c.args.at.now.rank.0 c.args.at.now.dir c.args.at.now.frag c.args.bits n c.args.self.now c.keep.new.self) more (c.loop-i.self, c.loop-i.invariant.keeps, kept);
       can = subst (λ (n : ℕ). CanKeepOn n (2 ^ c.args.bits) c.keep.new.self c.args.at.now.rank.0 stay) more
           (subst (λ (k : CacheMap). CanKeepOn (suc c.loop-i.i) (2 ^ c.args.bits) k c.args.at.now.rank.0 stay) (sym kept.2) (kept_left kept.0 c.args.at.now.rank.0 stay roomed.there c.loop-i.i (2 ^ c.args.bits)
-          (room_left c.loop-i.self c.args.at.now.rank.0 stay c.loop-i.invariant.keeping.there c.loop-i.i (2 ^ c.args.bits) c.loop-i.invariant.can c.loop-i.invariant.keeping.distinct kept.0 kept.1) (c.args.at.now.dir, child_of c.args.at.now.frag c.loop-i.i c.args.bits) (roomed.absent c.loop-i.i (omega arith) below).1));
+          (room_left c.loop-i.self c.args.at.now.rank.0 stay c.loop-i.invariant.keeping.there c.loop-i.i (2 ^ c.args.bits) c.loop-i.invariant.can c.loop-i.invariant.keeping.distinct kept.0 kept.1) (c.args.at.now.dir, child_of c.args.at.now.frag c.loop-i.i c.args.bits)));
     }
 
 pub returns-clause-reads : goal.returns-clause-reads

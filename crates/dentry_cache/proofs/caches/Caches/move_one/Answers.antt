@@ -1,0 +1,11 @@
+use Rattle.std.proofs.Common.{◌≡◌, None, sym, subst, ◌∙◌}
+use Rattle.std.specs.FinMap as map
+use Rattle.mds_types.specs.Leaf.{leaf_of}
+use Rattle.dentry_cache.specs.CacheMap.{CacheMap}
+use Rattle.dentry_cache.proofs.MoveLaws.{none_left}
+use Rattle.dentry_cache.proofs.caches.Caches.move_one.Goals as goal
+
+pub fill-requires-clause-absent : goal.fill-requires-clause-absent
+fill-requires-clause-absent c =
+    subst (λ (k : CacheMap). map.get k.held (leaf_of c.args.at.now) ≡ None) (sym c.take.ensures.without)
+    (none_left c.args.self.now c.args.at.now.rank.0 c.args.to.0 (leaf_of c.args.at.now) c.in-Some.fragment (sym c.take.ensures.taken ∙ c.in-Some.is))

@@ -1,0 +1,7 @@
+use Rattle.mds_types.specs.Leaf.{leaf_of}
+use Rattle.export_regions.specs.Regions.{IsIn}
+use Rattle.export_regions.proofs.ExportLaws.{one_export}
+use Rattle.export_regions.proofs.laws.a_region_has_one_export.Goals as goal
+
+pub returns : goal.returns
+returns c roots homes covers unclean root to a b = one_export (IsIn roots homes covers (leaf_of root)) unclean root to a b

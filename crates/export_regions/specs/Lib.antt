@@ -1,0 +1,4 @@
+pub mod Counts
+pub mod Regions
+pub mod Sending
+pub mod Spelling

@@ -1,0 +1,128 @@
+-- What is known of fragments that aren't clean where a tree is divided among ranks: each has a base that a fragment may have, and lies at the
+-- rank that holds its region. What follows for Send.
+use Rattle.std.proofs.Common.{◌≡◌, ◌≤◌, inr, ℕ, Bool, true, false, cond, List, option_map, Option, Some, None, Result, Ok, Err, refl, sym, ap, subst, ◌∙◌, arith}
+use Rattle.std.specs.Prelude.{IfErr, IsErr, IsErrAnd}
+use Rattle.std.proofs.lemmas.Option.{same_Some}
+use Rattle.std.specs.FinMap as map
+use Rattle.mds_types.specs.declared.refusals.Refusal.{Refusal}
+use Rattle.objstore.specs.Omap.{Omap}
+use Rattle.cached_frag.specs.declared.bases.Base.{Base}
+use Rattle.cached_frag.specs.declared.bases.Base.TheVariants.{Fresh, Stored}
+use Rattle.cached_frag.specs.Cached.{Cached, is_clean}
+use Rattle.dentry_cache.specs.Cache.{Unsaved}
+use Rattle.dentry_cache.specs.CacheMap.{At, CacheMap, unclean, unsaved_at}
+use Rattle.dentry_cache.specs.Loading.{object_of}
+use Rattle.dentry_cache.specs.Ties.{IsTiedAt}
+use Rattle.dentry_cache.proofs.UncleanLaws.{get_unclean}
+use Rattle.export_bytes.specs.declared.exports.Export.{Export}
+use Rattle.export_bytes.specs.Export.{SpellsExport}
+use Rattle.export_regions.specs.Regions.{IsExportOf, IsIn}
+use Rattle.export_regions.specs.Sending.{AreAtTheirRank, HasVersion, HaveVersions, MayNotSend}
+use Rattle.export_steps.specs.declared.exports.ExportState.{ExportState}
+use Rattle.export_steps.specs.declared.exports.ExportState.TheVariants.{Prepared, Sent}
+use Rattle.export_steps.specs.declared.exports.StandingExport.{StandingExport}
+use Rattle.export_steps.specs.Holder.{is_imported, region_holder}
+use Rattle.export_steps.specs.Standing.{ComesTo, Standing, is_freezing}
+use Rattle.export_steps.proofs.Holding.{holder_is}
+use Rattle.inode_table.specs.Dirs.{Covers, Homes}
+use Rattle.subtree_map.specs.Authority.{Leaf, NearestRoot}
+use Rattle.subtree_map.specs.Changes.{Subtrees}
+use Rattle.subtree_map.proofs.Options.{one_value}
+use Rattle.mdcache.specs.Core.{Core, IsSoundCore, state_of}
+use Rattle.ranked_tree.specs.declared.regions.Regions.{Regions}
+use Rattle.ranked_tree.specs.Exported.{IsDivided, held_in}
+use Rattle.ranked_tree.specs.Sending.{RefusesSend, Sends, SpellsPrepared, SpellsRegion}
+use Rattle.ranked_tree.specs.Subtrees.{Rules}
+use Rattle.ranked_tree.proofs.HeldLaws.{may_hold}
+use Rattle.ranked_tree.proofs.SubtreeLaws.{over}
+
+-- ---- what is known of each fragment that isn't clean
+
+-- an object that counts spells a fragment, at a commit version of 1 at least
+based : (base : Base) (f : Cached) (object : Option Omap) → IsTiedAt base f object → HasVersion base
+based Fresh f object tied = tt
+based (Stored version) f None tied = absurd tied
+based (Stored version) f (Some o) tied = let least : 1 ≤ version = tied.0.header.committed in omega (arith, least)
+
+module _ (core : Core) (sound : IsSoundCore core) where
+  pub have_versions : HaveVersions (unclean core.caches)
+  have_versions leaf u is = go (map.get core.caches.held leaf) refl (sym (get_unclean core.caches leaf) ∙ is)
+    where
+      base_is : (f : Cached) (b : Bool) → cond b None (Some (record { base = f.base; generation = f.generation; dirty = f.dirty })) ≡ Some u → f.base ≡ u.base
+      base_is f true is = let clash : None ≡ Some u = is in absurd cc
+      base_is f false is = ap (λ (v : Unsaved). v.base) (same_Some (record { base = f.base; generation = f.generation; dirty = f.dirty }) u is)
+
+      go : (o : Option At) → map.get core.caches.held leaf ≡ o → unsaved_at o ≡ Some u → HasVersion u.base
+      go None held is = let clash : None ≡ Some u = is in absurd cc
+      go (Some a) held is = subst HasVersion (base_is a.frag (is_clean a.frag) is) (based a.frag.base a.frag (object_of core.objects leaf.0 leaf.1) (sound.cached leaf a held).tied)
+
+-- ---- the region of an export that is frozen and not imported
+
+module _ (core : Core) (regions : Regions) (divided : IsDivided core regions) (root : Leaf) (export : StandingExport) (stands : map.get regions.exports root ≡ Some export) (freezing : is_freezing export.state ≡ true) (own : is_imported export.state ≡ false) where
+  -- the exporter holds it,
+  pub region_held : (leaf : Leaf) → NearestRoot regions.roots.roots core.homes core.covers leaf root → Rules (state_of core) (held_in regions) leaf export.exporter
+  region_held leaf near = (holder_is regions.exports regions.roots.roots core.homes core.covers leaf export.exporter).0 (record {
+    root = root;
+    nearest = near;
+    holds = ap (λ (o : Option StandingExport). region_holder o (map.get regions.roots.roots root)) stands
+        ∙ ap (region_holder (Some export)) (divided.stand.placed.ranked root export stands freezing)
+        ∙ ap (λ (b : Bool). cond b (Some export.importer) (Some export.exporter)) own;
+  })
+
+  -- and no other rank caches a leaf of it
+  pub region_here : AreAtTheirRank (IsIn regions.roots.roots core.homes core.covers root) core.caches export.exporter.0
+  region_here leaf some near = (may_hold (state_of core) core.caches (held_in regions) divided.owned.held leaf export.exporter (region_held leaf near)).alone
+
+-- ---- a prepared export, over the caches and tables that a call is given
+
+module _ (core : Core) (regions : Regions) (root : Leaf) (export : StandingExport) (stands : map.get regions.exports root ≡ Some export) (prepared : export.state ≡ Prepared)
+    (caches : CacheMap) (homes : Homes) (covers : Covers) (these : caches ≡ core.caches) (same : homes ≡ core.homes) (alike : covers ≡ core.covers) where
+  abbrev AllIn : Homes → Covers → Leaf → Type 0
+  AllIn h cs leaf = IsIn regions.roots.roots h cs root leaf
+
+  -- what isn't clean of its region lies at the exporter
+  pub held_here : IsDivided core regions → AreAtTheirRank (AllIn homes covers) caches export.exporter.0
+  held_here divided = over (λ (h : Homes) (cs : Covers). AreAtTheirRank (AllIn h cs) caches export.exporter.0) homes core.homes covers core.covers same alike
+      (subst (λ (k : CacheMap). AreAtTheirRank (AllIn core.homes core.covers) k export.exporter.0) (sym these)
+      (region_here core regions divided root export stands (ap is_freezing prepared) (ap is_imported prepared)))
+
+  pub versions_here : IsSoundCore core → HaveVersions (unclean caches)
+  versions_here sound = subst (λ (k : CacheMap). HaveVersions (unclean k)) (sym these) (have_versions core sound)
+
+  -- it is refused as its value is
+  pub refused_so : (reason : Refusal) → MayNotSend (AllIn homes covers) (unclean caches) reason → RefusesSend (state_of core) regions.roots.roots regions.exports root reason
+  refused_so reason may = inr (
+    ap (option_map (λ (e : StandingExport). e.state)) stands ∙ ap (λ (s : ExportState). Some s) prepared,
+    subst (λ (k : CacheMap). MayNotSend (AllIn core.homes core.covers) (unclean k) reason) these
+        (over (λ (h : Homes) (cs : Covers). MayNotSend (AllIn h cs) (unclean caches) reason) core.homes homes core.covers covers (sym same) (sym alike) may),
+  )
+
+  -- and its bytes are those of the region
+  pub sent_so : (bytes : List ℕ) (sent : Export) → SpellsExport bytes sent → IsExportOf (AllIn homes covers) (unclean caches) (record { dir = root.0; frag = root.1; rank = export.exporter }) export.importer sent
+      → SpellsPrepared (state_of core) regions.roots.roots regions.exports root bytes
+  sent_so bytes sent spelled is = record {
+    export = export;
+    stands = stands;
+    prepared = prepared;
+    region = record {
+      export = sent;
+      spelled = spelled;
+      handed = subst (λ (k : CacheMap). IsExportOf (AllIn core.homes core.covers) (unclean k) (record { dir = root.0; frag = root.1; rank = export.exporter }) export.importer sent) these
+          (over (λ (h : Homes) (cs : Covers). IsExportOf (AllIn h cs) (unclean caches) (record { dir = root.0; frag = root.1; rank = export.exporter }) export.importer sent) core.homes homes core.covers covers (sym same) (sym alike) is);
+    };
+  }
+
+-- ---- Send
+
+-- what is refused with a reason for which this holds
+pub refuses : {A : Type 0} (P : Refusal → Type 0) (result : Result A Refusal) (why : Refusal) → IsErr result → IsErrAnd result (λ e. e ≡ why) → P why → IfErr result P
+refuses P (Ok x) why is and holds = tt
+refuses P (Err e) why is and holds = subst P (sym and) holds
+
+-- the export that was found steps, and no other
+pub sends : (core : Core) (subtrees : Subtrees) (old new : Standing) (root : Leaf) (bytes : List ℕ) → SpellsPrepared (state_of core) subtrees.roots old root bytes → ComesTo old new root Prepared Sent
+    → Sends (record { tree = core; subtrees = subtrees; exports = old }) (record { tree = core; subtrees = subtrees; exports = new }) root bytes
+sends core subtrees old new root bytes sent step = record {
+  step = step;
+  region = subst (λ (e : StandingExport). SpellsRegion (state_of core) subtrees.roots root e bytes) (one_value _ sent.export step.export sent.stands step.stood) sent.region;
+}

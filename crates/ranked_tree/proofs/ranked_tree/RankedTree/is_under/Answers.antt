@@ -1,0 +1,4 @@
+use Rattle.ranked_tree.proofs.ranked_tree.RankedTree.is_under.Goals as goal
+
+pub returns : goal.returns
+returns g c = rw (← c.self.view_is) c.is_under.ensures

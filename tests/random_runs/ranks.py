@@ -1,0 +1,234 @@
+"""Whose each leaf of a plain tree is, and what is frozen, granted, begun or not yet stored there: by the definitions, plainly and slowly.
+It shares nothing with the code that it is compared with.
+
+A leaf is a directory and a fragment, such as `01*`. What an administrator's step gives is the number of its refusal, or 0.
+"""
+import copy
+
+from hashes import bits_of
+from table import ROOT
+from unclean import Unclean
+
+READS = ('lookup', 'readdir', 'readlink')
+# which state a step of an export needs, and which it leaves
+STEPS = {'freeze': ('started', 'frozen'), 'prep': ('frozen', 'prepared'), 'send': ('prepared', 'sent'), 'import': ('sent', 'imported'),
+         'finish': ('imported', None)}
+
+
+class Export:
+    def __init__(self, exporter, importer):
+        self.exporter, self.importer, self.state = exporter, importer, 'started'
+
+
+def places_of(operation):
+    """The directories and names of an operation's dentries; the last is its destination. A listing has no name."""
+    word, directory, name, *rest = operation.split()
+    there = [(rest[0], rest[1])] if word == 'rename' else []
+    return word, [(int(ino, 16), at) for ino, at in [(directory, name), *there]]
+
+
+def changes(operation, answer):
+    """Whether an operation with this answer changes anything: it doesn't read, and isn't a rename of a name to itself."""
+    word, places = places_of(operation)
+    return not (word in READS or answer.startswith('errno') or word == 'rename' and places[0] == places[1])
+
+
+class Ranks:
+    def __init__(self, table, count):
+        self.table, self.count = table, count
+        self.leaves, self.roots = {ROOT: ['*']}, {(ROOT, '*'): 0}
+        self.exports, self.grants, self.jobs, self.unclean = {}, set(), {}, Unclean((ROOT, '*'))
+
+    # ---- what is there
+
+    def all_leaves(self):
+        return [(directory, frag) for directory, frags in self.leaves.items() for frag in frags]
+
+    def is_leaf(self, leaf):
+        return leaf[1] in self.leaves.get(leaf[0], [])
+
+    def leaf_of(self, directory, name):
+        return directory, next(frag for frag in self.leaves[directory] if bits_of(name).startswith(frag[:-1]))
+
+    def names_in(self, leaf):
+        return sorted(row.name for row in self.table.inside(leaf[0]) if self.leaf_of(leaf[0], row.name) == leaf)
+
+    def climbs_to(self, leaf, root=None):
+        """The nearest subtree root of a leaf, itself first and then along dentries upwards, were this one a root too."""
+        while leaf != root and leaf not in self.roots:
+            row = next(row for row in self.table.rows if row.ino == leaf[0])
+            leaf = self.leaf_of(row.directory, row.name)
+        return leaf
+
+    def authority(self, leaf):
+        return self.roots[self.climbs_to(leaf)]
+
+    def is_frozen(self, leaf):
+        export = self.exports.get(self.climbs_to(leaf))
+        return export is not None and export.state != 'started'
+
+    def is_pinned(self, leaf):
+        return any(pinned == leaf for pinned, _ in self.grants)
+
+    # ---- requests
+
+    def master(self, operation):
+        """The rank that has to answer an operation; none where its directory isn't there."""
+        word, places = places_of(operation)
+        directory, name = places[-1]
+        if directory not in self.leaves:
+            return None
+        return self.authority((directory, self.leaves[directory][0]) if word == 'readdir' else self.leaf_of(directory, name))
+
+    def changed(self, operation):
+        """The leaves that an operation would change now."""
+        if operation is None or operation.split()[0] in READS:
+            return []
+        trial = copy.copy(self.table)
+        trial.rows = [copy.copy(row) for row in trial.rows]
+        if not changes(operation, trial.answer(operation)):
+            return []
+        word, places = places_of(operation)
+        gone = self.table.find(*places[-1]) if word in ('rmdir', 'rename') else None
+        return [self.leaf_of(*place) for place in places] + [
+            (gone.ino, frag) for frag in (self.leaves[gone.ino] if gone and gone.kind == 'dir' else [])]
+
+    def waits(self, rank, pair, operation):
+        """Whether an operation would change what is frozen, or another rank's and not granted."""
+        return any(self.is_frozen(leaf) or self.authority(leaf) != rank and (leaf, pair) not in self.grants
+                   for leaf in self.changed(operation))
+
+    def applied(self, operation):
+        """The answer of an operation. A new directory has one leaf; what hangs below one that moves stays its rank's."""
+        word, places = places_of(operation)
+        row = self.table.find(*places[0]) if word == 'rename' else None
+        moved = [(row.ino, frag) for frag in self.leaves[row.ino]] if row and row.kind == 'dir' else []
+        whose = {leaf: self.authority(leaf) for leaf in moved}
+        answer = self.table.answer(operation)
+        there = {ROOT} | {row.ino for row in self.table.rows if row.kind == 'dir'}
+        for new in there - self.leaves.keys():
+            self.leaves[new] = ['*']
+            self.unclean.make((new, '*'), [])
+        for leaf in self.all_leaves():
+            if leaf[0] not in there:
+                self.forget(leaf)
+        self.leaves = {directory: frags for directory, frags in self.leaves.items() if directory in there}
+        self.roots.update({leaf: rank for leaf, rank in whose.items() if self.authority(leaf) != rank})
+        for place in places if changes(operation, answer) else []:
+            self.unclean.change(self.leaf_of(*place), place[1])
+        return answer
+
+    def end_pair(self, pair):
+        self.grants = {(leaf, granted) for leaf, granted in self.grants if granted != pair}
+
+    # ---- an administrator's steps
+
+    def forget(self, leaf):
+        """A leaf goes."""
+        self.roots.pop(leaf, None)
+        self.jobs.pop(leaf, None)
+        self.unclean.forget(leaf)
+        self.grants = {(pinned, pair) for pinned, pair in self.grants if pinned != leaf}
+
+    def barred(self, rank, leaves):
+        return (5 if any(self.authority(leaf) != rank for leaf in leaves) else 6 if any(map(self.is_frozen, leaves)) else
+                7 if any(map(self.is_pinned, leaves)) else 0)
+
+    def replace(self, old, new):
+        """Leaves of a directory become others; where one was a root, these are."""
+        directory = old[0][0]
+        whose = [self.roots[leaf] for leaf in old if leaf in self.roots]
+        for leaf in old:
+            self.forget(leaf)
+        self.leaves[directory] = sorted({*self.leaves[directory], *new} - {frag for _, frag in old})
+        for leaf in [(directory, frag) for frag in new]:
+            self.unclean.make(leaf, self.names_in(leaf))
+            self.roots.update({leaf: rank for rank in whose})
+        return 0
+
+    def split(self, rank, leaf, bits):
+        if rank >= self.count:
+            return 5
+        if not self.is_leaf(leaf):
+            return 8
+        if not 1 <= bits <= 8 or len(leaf[1]) - 1 + bits > 24:
+            return 9
+        return self.barred(rank, [leaf]) or self.replace([leaf], [f'{leaf[1][:-1]}{child:0{bits}b}*' for child in range(1 << bits)])
+
+    def merge(self, rank, leaf):
+        if rank >= self.count:
+            return 5
+        directory, frag = leaf
+        inside = [(directory, other) for other in self.leaves.get(directory, []) if other != frag and other.startswith(frag[:-1])]
+        if not inside:
+            return 8
+        return self.barred(rank, inside) or self.replace(inside, [frag])
+
+    def begin(self, rank, leaf):
+        if rank >= self.count:
+            return 5
+        if not self.is_leaf(leaf):
+            return 8
+        barred = self.barred(rank, [leaf])
+        return barred if barred in (5, 6) else 12 if leaf in self.jobs else 0
+
+    def grant(self, rank, pair, operation):
+        """A rank grants what a request would change of its leaves; the operation is none where no such request waits."""
+        if rank >= self.count:
+            return 5
+        if operation is None:
+            return 14
+        mine = [leaf for leaf in self.changed(operation) if self.authority(leaf) == rank]
+        if not mine:
+            return 5
+        if any(map(self.is_frozen, mine)):
+            return 6
+        self.grants |= {(leaf, pair) for leaf in mine}
+        return 0
+
+    # ---- exports
+
+    def start(self, exporter, leaf, importer):
+        if max(exporter, importer) >= self.count:
+            return 5
+        if leaf in self.exports:
+            return 13
+        if not self.is_leaf(leaf):
+            return 8
+        if exporter == importer or self.authority(leaf) != exporter:
+            return 5
+        if self.is_frozen(leaf):
+            return 6
+        self.exports[leaf] = Export(exporter, importer)
+        return 0
+
+    def sent(self, root):
+        """How many bytes a send gives."""
+        return 20 + sum(self.unclean.sent(leaf, self.table) for leaf in self.all_leaves() if self.climbs_to(leaf) == root)
+
+    def step(self, word, root):
+        """A step of an export but its start."""
+        export = self.exports.get(root)
+        needed = ('started', 'frozen', 'prepared') if word == 'cancel' else STEPS[word][:1]
+        if export is None or export.state not in needed:
+            return 13
+        if word == 'freeze' and (refused := self.freeze(root, export.exporter)):
+            return refused
+        if word == 'finish':
+            self.roots[root] = export.importer
+        if word in ('finish', 'cancel'):
+            del self.exports[root]
+        else:
+            export.state = STEPS[word][1]
+        return 0
+
+    def freeze(self, root, exporter):
+        if not self.is_leaf(root):
+            return 8
+        if barred := self.barred(exporter, [root]):
+            return barred
+        if any(self.climbs_to(leaf, root) == root for leaf, _ in self.grants):
+            return 7
+        self.roots[root] = exporter
+        self.jobs = {leaf: job for leaf, job in self.jobs.items() if self.climbs_to(leaf) != root}
+        return 0
