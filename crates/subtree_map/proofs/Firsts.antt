@@ -18,27 +18,27 @@ use Rattle.fragtree.proofs.FirstKeys.{frag_le}
 use Rattle.mds_types.specs.Leaf.{Leaf, leaf_cmp}
 use Rattle.subtree_map.specs.Authority.{Roots}
 use Rattle.subtree_map.specs.Changes.{is_inside, leaf_of}
-use Rattle.subtree_map.specs.Rows.{IsFirst}
+use Rattle.subtree_map.specs.Rows.{IsFirst, IsFirstRow}
 use Rattle.mds_types.proofs.LeafLaws.{leaf-exact, leaf-total}
 use Rattle.subtree_map.proofs.Merged.{inside_at, inside_of, is_within}
 use Rattle.sorted_map.proofs.PlaceLaws.{less as less_of}
 
 -- a row that is found behind another has a greater key
-behind : (first : Leaf) (es : List (Leaf × Rank)) (leaf : Leaf) → T (below_all leaf_cmp first es) → IsSome (find leaf_cmp leaf es) → leaf_cmp first leaf ≡ Less
-behind first [] leaf below some = let clash : false ≡ true = some in cc
-behind first (e ∷ es) leaf below some = go (eq_by_cmp leaf_cmp leaf e.0) refl some (behind first es leaf (right_of _ _ below))
+pub behind : {X : Type 0} (first : Leaf) (es : List (Leaf × X)) (leaf : Leaf) → T (below_all leaf_cmp first es) → IsSome (find leaf_cmp leaf es) → leaf_cmp first leaf ≡ Less
+behind {X} first [] leaf below some = let clash : false ≡ true = some in cc
+behind {X} first (e ∷ es) leaf below some = go (eq_by_cmp leaf_cmp leaf e.0) refl some (behind first es leaf (right_of _ _ below))
   where
     go : (b : Bool) → eq_by_cmp leaf_cmp leaf e.0 ≡ b → IsSome (cond b (Some e.1) (find leaf_cmp leaf es)) → (IsSome (find leaf_cmp leaf es) → leaf_cmp first leaf ≡ Less) → leaf_cmp first leaf ≡ Less
     go true tied its more = ap (leaf_cmp first) (leaf-exact leaf e.0 (tie _ tied)) ∙ less_of _ (left_of _ _ below)
     go false apart its more = more its
 
 -- the key of the first row
-abbrev pub key_of_first : List (Leaf × Rank) → Option Leaf
+abbrev pub key_of_first : {X : Type 0} → List (Leaf × X) → Option Leaf
 key_of_first [] = None
 key_of_first (e ∷ es) = Some e.0
 
-pub first_row : (rows : Roots) (passes : Leaf → Bool) (left : List (Leaf × Rank)) → left ≡ where_key leaf_cmp passes (map.entries rows) → IsFirst rows passes (key_of_first left)
-first_row rows passes left is = go left sorted found
+pub first_row : {X : Type 0} (rows : map.FinMap leaf_cmp X) (passes : Leaf → Bool) (left : List (Leaf × X)) → left ≡ where_key leaf_cmp passes (map.entries rows) → IsFirstRow rows passes (key_of_first left)
+first_row {X} rows passes left is = go left sorted found
   where
     sorted : T (is_sorted leaf_cmp left)
     sorted = subst (λ es. T (is_sorted leaf_cmp es)) (sym is) (is_sorted-where_key leaf_cmp passes (map.entries rows) (entries_sorted rows))
@@ -49,14 +49,14 @@ first_row rows passes left is = go left sorted found
         ∙ find-where_key leaf_cmp passes leaf (λ x tied. ap passes (sym (leaf-exact leaf x tied))) (map.entries rows)
         ∙ ap (λ o. cond (passes leaf) o None) (sym (get-entries rows leaf))
 
-    there : (es : List (Leaf × Rank)) → ((leaf : Leaf) → find leaf_cmp leaf es ≡ cond (passes leaf) (map.get rows leaf) None) → (leaf : Leaf) → passes leaf ≡ true → map.get rows leaf ≡ find leaf_cmp leaf es
+    there : (es : List (Leaf × X)) → ((leaf : Leaf) → find leaf_cmp leaf es ≡ cond (passes leaf) (map.get rows leaf) None) → (leaf : Leaf) → passes leaf ≡ true → map.get rows leaf ≡ find leaf_cmp leaf es
     there es each leaf on = sym (each leaf ∙ ap (λ b. cond b (map.get rows leaf) None) on)
 
-    own : (e : Leaf × Rank) (b : Bool) → passes e.0 ≡ b → Some e.1 ≡ cond b (map.get rows e.0) None → (passes e.0 ≡ true) × IsSome (map.get rows e.0)
+    own : (e : Leaf × X) (b : Bool) → passes e.0 ≡ b → Some e.1 ≡ cond b (map.get rows e.0) None → (passes e.0 ≡ true) × IsSome (map.get rows e.0)
     own e true on gets = (on, ap is_some (sym gets))
     own e false off gets = cc
 
-    go : (es : List (Leaf × Rank)) → T (is_sorted leaf_cmp es) → ((leaf : Leaf) → find leaf_cmp leaf es ≡ cond (passes leaf) (map.get rows leaf) None) → IsFirst rows passes (key_of_first es)
+    go : (es : List (Leaf × X)) → T (is_sorted leaf_cmp es) → ((leaf : Leaf) → find leaf_cmp leaf es ≡ cond (passes leaf) (map.get rows leaf) None) → IsFirstRow rows passes (key_of_first es)
     go [] ordered each = λ leaf on. there [] each leaf on
     go (e ∷ es) ordered each =
         let itself : find leaf_cmp e.0 (e ∷ es) ≡ Some e.1 = ap (λ r. cond (is_eq r) (Some e.1) (find leaf_cmp e.0 es)) (tied_itself leaf-total e.0) in

@@ -8,12 +8,17 @@ pub mod Divided
 pub mod Dropped
 pub mod Filled
 pub mod Firsts
+pub mod Heard
+pub mod ListFirsts
 pub mod Listed
+pub mod ListsLaws
 pub mod Merged
 pub mod Moved
 pub mod Nearest
 pub mod Options
 pub mod Rising
+pub mod RowLaws
 pub mod Settled
 pub mod Split
 pub mod TakenOut
+pub mod ToldLaws

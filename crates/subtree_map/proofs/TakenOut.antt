@@ -22,15 +22,15 @@ Found old now d f None = now ≡ old
 Found old now d f (Some rank) = ((leaf : Leaf) × (is_inside d f leaf ≡ true) × (map.get (contents leaf_cmp old) leaf ≡ Some rank)) × (old.room ≤ now.room)
 
 -- a map that loses a key gets shorter
-pub shorter : (rows now : Roots) (leaf : Leaf) → IsSome (map.get rows leaf) → now ≡ map.remove rows leaf → map.len now < map.len rows
-shorter rows now leaf there is = go (map.len rows) refl
+pub shorter : {X : Type 0} (rows now : map.FinMap leaf_cmp X) (leaf : Leaf) → IsSome (map.get rows leaf) → now ≡ map.remove rows leaf → map.len now < map.len rows
+shorter {X} rows now leaf there is = go (map.len rows) refl
   where
     less : map.len now ≡ map.len rows - 1
     less = ap map.len is ∙ len-remove leaf-total rows leaf ∙ ap (λ b. cond b (map.len rows - 1) (map.len rows)) there
 
     go : (n : ℕ) → map.len rows ≡ n → map.len now < map.len rows
     go zero none =
-        let clash : true ≡ false = sym there ∙ ap (λ (m : Roots). is_some (map.get m leaf)) (empty_of_len rows none) ∙ ap is_some (get-empty _ leaf) in
+        let clash : true ≡ false = sym there ∙ ap (λ (m : map.FinMap leaf_cmp X). is_some (map.get m leaf)) (empty_of_len rows none) ∙ ap is_some (get-empty _ leaf) in
         cc
     go (suc n) some = omega (arith, less, some)
 

@@ -1,6 +1,7 @@
 -- Changes of the rows that a map of subtrees keeps. Only this crate's own contracts use these words.
-use Rattle.std.specs.Prelude.{◌≡◌, ◌≢◌, ◌⊎◌, ℕ, ◌<◌, Bool, true, false, Option, Some, None, IsSome}
+use Rattle.std.specs.Prelude.{◌≡◌, ◌≢◌, ◌⊎◌, ℕ, ◌<◌, Bool, true, false, cond, Option, Some, None, IsSome}
 use Rattle.std.specs.declared.cmp.Ordering.TheVariants.{Less}
+use Rattle.std.specs.Ordering.{is_lt}
 use Rattle.std.specs.FinMap as map
 use Rattle.mds_types.specs.declared.ids.Rank.{Rank}
 use Rattle.mds_types.specs.Frag.{Fragment, child_of}
@@ -8,11 +9,29 @@ use Rattle.mds_types.specs.Leaf.{Leaf, leaf_cmp}
 use Rattle.subtree_map.specs.Authority.{Roots}
 use Rattle.subtree_map.specs.Changes.{leaf_of, is_inside}
 
+-- the first leaf that passes a test of those that have a rank
+abbrev pub IsFirstBy : (Leaf → Option Rank) → (Leaf → Bool) → Option Leaf → Type 0
+IsFirstBy look passes None = (leaf : Leaf) → passes leaf ≡ true → look leaf ≡ None
+IsFirstBy look passes (Some first) =
+    (passes first ≡ true) × IsSome (look first) × ((leaf : Leaf) → passes leaf ≡ true → IsSome (look leaf) → (leaf ≡ first) ⊎ (leaf_cmp first leaf ≡ Less))
+
 -- the first leaf of the rows that passes a test
 abbrev pub IsFirst : Roots → (Leaf → Bool) → Option Leaf → Type 0
-IsFirst rows passes None = (leaf : Leaf) → passes leaf ≡ true → map.get rows leaf ≡ None
-IsFirst rows passes (Some first) =
+IsFirst rows passes first = IsFirstBy (map.get rows) passes first
+
+-- the first leaf of a list that passes a test
+abbrev pub IsFirstRow : {X : Type 0} → map.FinMap leaf_cmp X → (Leaf → Bool) → Option Leaf → Type 0
+IsFirstRow rows passes None = (leaf : Leaf) → passes leaf ≡ true → map.get rows leaf ≡ None
+IsFirstRow rows passes (Some first) =
     (passes first ≡ true) × IsSome (map.get rows first) × ((leaf : Leaf) → passes leaf ≡ true → IsSome (map.get rows leaf) → (leaf ≡ first) ⊎ (leaf_cmp first leaf ≡ Less))
+
+-- the lesser of two leaves
+abbrev pub lesser_leaf : Leaf → Leaf → Leaf
+lesser_leaf one other = cond (is_lt (leaf_cmp other one)) other one
+
+abbrev pub lesser_of : Leaf → Option Leaf → Leaf
+lesser_of leaf None = leaf
+lesser_of leaf (Some other) = lesser_leaf leaf other
 
 -- the first so many children of f by nb bits have this rank, and each other leaf what it had
 pub record AreChildrenSet (old new : Roots) (d : ℕ) (f : Fragment) (nb count : ℕ) (rank : Rank) : Type 0 where

@@ -4,8 +4,13 @@
 
 mod bounds;
 mod climb;
+mod entries;
 mod filling;
 pub mod laws;
+mod list_changes;
+mod list_firsts;
+mod list_rows;
+mod lists;
 mod merges;
 mod moves;
 mod promises;

@@ -1,0 +1,123 @@
+-- One row of one list, and the turns over all lists.
+use Rattle.std.specs.Prelude.{◌≡◌, ◌≢◌, ◌⊎◌, ℕ, zero, suc, ◌+◌, ◌-◌, ◌<◌, ◌≤◌, ◌==◌, if◌then◌else◌, true, false, List, [], ◌∷◌, Option, Some, None, is_some, length, get_or, set, refl}
+use Rattle.std.proofs.Common.{inl, inr, sym, ap, subst, ◌∙◌, arith, length-set, get_or-set_same, get_or-set_other}
+use Rattle.std.proofs.lemmas.Bool.{cases_lt}
+use Rattle.std.specs.FinMap as map
+use Rattle.sorted_map.specs.SortedMap.{contents}
+use Rattle.mds_types.specs.Leaf.{Leaf, leaf_cmp}
+use Rattle.mds_types.proofs.LeafLaws.{get_put, get_beside, get_removed, get_left, same_or_apart}
+use Rattle.subtree_map.specs.declared.entries.Entry.{Entry}
+use Rattle.subtree_map.specs.declared.entries.News.{News}
+use Rattle.subtree_map.specs.Lists.{AreEach, HasGrown, HasHints, HasSame, HaveRoom, Hears, IsPut, Rows, claimed, entry_at, heard, makes, no_rows, promised, rows_at, said}
+use Rattle.subtree_map.proofs.ChildRows.{room_left}
+
+there : (was : Option Entry) (e : Entry) (room left : ℕ) → (if is_some was then room else room - 1) ≤ left → makes was (Some e) ≡ false → room ≤ left
+there None e room left is made = let clash : true ≡ false = made in cc
+there (Some w) e room left is made = is
+
+pub put_in : (old new : Rows) (leaf : Leaf) (e : Entry) (was : Option Entry) → was ≡ entry_at old leaf → contents leaf_cmp new ≡ map.insert (contents leaf_cmp old) leaf e → (if is_some was then old.room else old.room - 1) ≤ new.room → IsPut leaf (Some e) old new
+put_in old new leaf e was has is room = record {
+  here = ap (λ m. map.get m leaf) is ∙ get_put (contents leaf_cmp old) leaf e;
+  others = λ other apart. ap (λ m. map.get m other) is ∙ get_beside (contents leaf_cmp old) leaf e other apart;
+  room = room_left was old.room new.room room;
+  kept = λ made. there was e old.room new.room room (ap (λ o. makes o (Some e)) has ∙ made);
+}
+
+pub put_out : (old new : Rows) (leaf : Leaf) → contents leaf_cmp new ≡ map.remove (contents leaf_cmp old) leaf → old.room ≤ new.room → IsPut leaf None old new
+put_out old new leaf is room = record {
+  here = ap (λ m. map.get m leaf) is ∙ get_removed (contents leaf_cmp old) leaf;
+  others = λ other apart. ap (λ m. map.get m other) is ∙ get_left (contents leaf_cmp old) leaf other apart;
+  room = omega (arith, room);
+  kept = λ made. room;
+}
+
+-- the lists before a place became what they may, the others not yet
+pub record IsTurn (Becomes : ℕ → Rows → Rows → Type 0) (old now : List Rows) (at : ℕ) : Type 0 where
+  pub many : length now ≡ length old
+  pub done : (i : ℕ) → i < at → Becomes i (rows_at old i) (rows_at now i)
+  pub rest : (i : ℕ) → at ≤ i → rows_at now i ≡ rows_at old i
+
+module _ (Becomes : ℕ → Rows → Rows → Type 0) where
+  pub turn_starts : (old : List Rows) → IsTurn Becomes old old 0
+  turn_starts old = record { many = refl; done = λ i low. absurd (omega (arith, low)); rest = λ i high. refl }
+
+  pub turn_goes : (old now next : List Rows) (at : ℕ) (rows : Rows) → at < length now → IsTurn Becomes old now at → Becomes at (rows_at now at) rows → next ≡ set now at rows → IsTurn Becomes old next (at + 1)
+  turn_goes old now next at rows within so_far become is = record { many = ap length is ∙ length-set now at rows ∙ so_far.many; done = done; rest = rest }
+    where
+      mine : Becomes at (rows_at old at) (rows_at next at)
+      mine =
+          subst (λ (x : Rows). Becomes at (rows_at old at) x) (sym (ap (λ (ls : List Rows). rows_at ls at) is ∙ get_or-set_same now at rows no_rows within))
+          (subst (λ (x : Rows). Becomes at x rows) (so_far.rest at (omega arith)) become)
+
+      beside : (i : ℕ) → i ≢ at → rows_at next i ≡ rows_at now i
+      beside i apart = ap (λ (ls : List Rows). rows_at ls i) is ∙ get_or-set_other now at i rows no_rows apart
+
+      rest : (i : ℕ) → at + 1 ≤ i → rows_at next i ≡ rows_at old i
+      rest i high = beside i (λ (e : i ≡ at). omega (arith, e, high)) ∙ so_far.rest i (omega (arith, high))
+
+      done : (i : ℕ) → i < at + 1 → Becomes i (rows_at old i) (rows_at next i)
+      done i low = go (cases_lt i at)
+        where
+          go : (i < at) ⊎ (at ≤ i) → Becomes i (rows_at old i) (rows_at next i)
+          go (inl less) = subst (λ (x : Rows). Becomes i (rows_at old i) x) (sym (beside i (λ (e : i ≡ at). omega (arith, e, less)))) (so_far.done i less)
+          go (inr more) =
+              let here : at ≡ i = omega (arith, low, more) in
+              subst (λ (k : ℕ). Becomes k (rows_at old k) (rows_at next k)) here mine
+
+  pub turn_ends : (old now : List Rows) (at : ℕ) → length old ≤ at → IsTurn Becomes old now at → AreEach Becomes old now
+  turn_ends old now at all so_far = record { many = so_far.many; each = λ i low. so_far.done i (omega (arith, all, low)) }
+
+-- the list at a place that there is
+pub at_index : (lists : List Rows) (i : ℕ) (rows : Rows) → i < length lists → rows ≡ get_or lists i rows → rows ≡ rows_at lists i
+at_index lists i rows within is = is ∙ any lists i within
+  where
+    any : (ls : List Rows) (k : ℕ) → k < length ls → get_or ls k rows ≡ get_or ls k no_rows
+    any [] k low = absurd (omega (arith, low))
+    any (x ∷ more) zero low = refl
+    any (x ∷ more) (suc k) low = any more k (omega (arith, low))
+
+-- in each turn there is room for the row, if one comes in
+pub telling_room : (leaf : Leaf) (home : ℕ) (news : News) (old now : List Rows) (at : ℕ) (rows : Rows) (row : Option Entry) → at < length now → IsTurn (Hears leaf home news) old now at → rows ≡ rows_at now at
+    → row ≡ heard (entry_at rows leaf) (at == home) news → HaveRoom leaf home news old → makes (entry_at rows leaf) row ≡ true → 0 < rows.room
+telling_room leaf home news old now at rows row within so_far here is room made =
+    let same : rows ≡ rows_at old at = here ∙ so_far.rest at (omega arith) in
+    subst (λ (x : Rows). 0 < x.room) (sym same)
+    (room at (subst (λ n. at < n) so_far.many within)
+    (subst (λ (x : Rows). makes (entry_at x leaf) (heard (entry_at x leaf) (at == home) news) ≡ true) same (ap (makes (entry_at rows leaf)) (sym is) ∙ made)))
+
+-- ---- hints
+
+pub hinted : (old new : Rows) (leaf : Leaf) (was now : Entry) → entry_at old leaf ≡ Some was → claimed was ≡ None → claimed now ≡ None → now.promised ≡ was.promised → contents leaf_cmp new ≡ map.insert (contents leaf_cmp old) leaf now → old.room ≤ new.room → HasHints old new
+hinted old new leaf was now there none also promise is room = record {
+  claims = λ q. elim (same_or_apart q leaf) [
+    | inl same ↦ ap (λ (l : Leaf). said claimed (entry_at new l)) same ∙ ap (said claimed) here ∙ also ∙ sym none ∙ sym (ap (said claimed) there) ∙ ap (λ (l : Leaf). said claimed (entry_at old l)) (sym same)
+    | inr apart ↦ ap (said claimed) (beside q apart)
+  ];
+  promises = λ q. elim (same_or_apart q leaf) [
+    | inl same ↦ ap (λ (l : Leaf). said promised (entry_at new l)) same ∙ ap (said promised) here ∙ promise ∙ sym (ap (said promised) there) ∙ ap (λ (l : Leaf). said promised (entry_at old l)) (sym same)
+    | inr apart ↦ ap (said promised) (beside q apart)
+  ];
+  more = room;
+}
+  where
+    here : entry_at new leaf ≡ Some now
+    here = ap (λ m. map.get m leaf) is ∙ get_put (contents leaf_cmp old) leaf now
+
+    beside : (q : Leaf) → (q ≡ leaf → ⊥) → entry_at new q ≡ entry_at old q
+    beside q apart = ap (λ m. map.get m q) is ∙ get_beside (contents leaf_cmp old) leaf now q apart
+
+pub hints_same : (rows : Rows) → HasHints rows rows
+hints_same rows = record { claims = λ q. refl; promises = λ q. refl; more = omega arith }
+
+pub hints_then : (a b c : Rows) → HasHints a b → HasHints b c → HasHints a c
+hints_then a b c one two = record { claims = λ q. two.claims q ∙ one.claims q; promises = λ q. two.promises q ∙ one.promises q; more = omega (arith, one.more, two.more) }
+
+-- ---- room
+
+-- lists that have room for more, up to a place, have what they had
+pub grown_same : (additional : ℕ) (old now : List Rows) (at : ℕ) → IsTurn (λ i. HasGrown additional) old now at → AreEach (λ i. HasSame) old now
+grown_same additional old now at so_far = record { many = so_far.many; each = λ i low. go i (cases_lt i at) }
+  where
+    go : (i : ℕ) → (i < at) ⊎ (at ≤ i) → HasSame (rows_at old i) (rows_at now i)
+    go i (inl less) = let done = so_far.done i less in record { same = done.same; more = done.more }
+    go i (inr more) = subst (λ (x : Rows). HasSame (rows_at old i) x) (sym (so_far.rest i more)) (record { same = refl; more = omega arith })

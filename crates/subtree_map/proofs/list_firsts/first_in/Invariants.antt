@@ -1,0 +1,15 @@
+-- What was passed claims nothing.
+use Rattle.std.specs.Prelude.{◌≡◌, T, length}
+use Rattle.std.specs.FinMap.{find, is_sorted}
+use Rattle.mds_types.specs.Leaf.{Leaf, leaf_cmp}
+use Rattle.subtree_map.specs.Lists.{claimed, said}
+use Rattle.subtree_map.proofs.list_firsts.first_in.Given as goal
+
+abbrev pub invariant-loop-row : goal.invariant-loop-row
+invariant-loop-row l = record {
+  sorted : T (is_sorted leaf_cmp l.rows);
+  each : (leaf : Leaf) → said claimed (find leaf_cmp leaf l.rows) ≡ said claimed (find leaf_cmp leaf l.fn.rows);
+}
+
+abbrev pub decreases-loop-row : goal.decreases-loop-row
+decreases-loop-row l = length l.rows

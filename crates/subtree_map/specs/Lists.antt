@@ -1,0 +1,195 @@
+-- For each rank a list of what it knows of leaves: what it claims, what it last heard of other ranks, and what is promised to it (CephFS's subtree
+-- map of each metadata server). Only this crate's own contracts use these words.
+use Rattle.std.specs.Prelude.{◌≡◌, ◌≢◌, ℕ, ◌+◌, ◌-◌, ◌<◌, ◌≤◌, ◌==◌, nat_lt, Bool, true, false, cond, List, [], ◌∷◌, ◌++◌, Option, Some, None, length, get_or}
+use Rattle.std.specs.Option.{option_or}
+use Rattle.std.specs.Ordering.{is_lt}
+use Rattle.std.specs.FinMap as map
+use Rattle.sorted_map.specs.SortedMap.{Shown, contents}
+use Rattle.mds_types.specs.declared.ids.Rank.{Rank}
+use Rattle.mds_types.specs.Leaf.{Leaf, leaf_cmp}
+use Rattle.subtree_map.specs.declared.entries.Known.{Known}
+use Rattle.subtree_map.specs.declared.entries.Known.TheVariants.{Nothing, Claim, Hint}
+use Rattle.subtree_map.specs.declared.entries.Entry.{Entry}
+use Rattle.subtree_map.specs.declared.entries.News.{News}
+use Rattle.subtree_map.specs.declared.entries.News.TheVariants.{Claimed, Ended, Handed, Promised, Withdrawn}
+use Rattle.subtree_map.specs.Authority.{Roots}
+
+-- ---- one row
+
+-- the rank that a row claims a leaf for, and the rank that it holds a promise for
+abbrev pub claim_of : Known → Option Rank
+claim_of (Claim rank) = Some rank
+claim_of Nothing = None
+claim_of (Hint rank) = None
+
+abbrev pub claimed : Entry → Option Rank
+claimed e = claim_of e.known
+
+abbrev pub promised : Entry → Option Rank
+promised e = e.promised
+
+-- what a list says of a leaf that may have no row
+abbrev pub said : (Entry → Option Rank) → Option Entry → Option Rank
+said says None = None
+said says (Some e) = says e
+
+-- ---- news of a leaf
+
+-- another rank's claim is a hint from then on
+abbrev pub demoted : Known → Rank → Known
+demoted (Claim was) rank = Hint rank
+demoted Nothing rank = Nothing
+demoted (Hint was) rank = Hint was
+
+-- what a list knows after the news, where it is that of the rank named, and where it is another's
+abbrev pub known_after : Known → Bool → News → Known
+known_after known own (Claimed rank) = cond own (Claim rank) (demoted known rank)
+known_after known own (Handed rank) = cond own (Claim rank) (demoted known rank)
+known_after known own Ended = Nothing
+known_after known own (Promised rank) = known
+known_after known own Withdrawn = known
+
+abbrev pub promised_after : Option Rank → Bool → News → Option Rank
+promised_after was own (Claimed rank) = was
+promised_after was own (Handed rank) = None
+promised_after was own Ended = was
+promised_after was own (Promised rank) = cond own (Some rank) None
+promised_after was own Withdrawn = None
+
+-- a row that says nothing isn't kept
+abbrev pub row_by : Entry → Known → Option Rank → Option Entry
+row_by e Nothing None = None
+row_by e Nothing (Some rank) = Some e
+row_by e (Claim rank) was = Some e
+row_by e (Hint rank) was = Some e
+
+abbrev pub row_of : Entry → Option Entry
+row_of e = row_by e e.known e.promised
+
+abbrev pub entry_of : Option Entry → Entry
+entry_of (Some e) = e
+entry_of None = record { known = Nothing; promised = None }
+
+abbrev pub heard : Option Entry → Bool → News → Option Entry
+heard was own news = row_of (record { known = known_after (entry_of was).known own news; promised = promised_after (entry_of was).promised own news })
+
+-- ---- one list
+
+abbrev pub Rows : Type 0
+Rows = Shown Leaf Entry
+
+abbrev pub no_rows : Rows
+no_rows = record { entries = []; room = 0 }
+
+abbrev pub entry_at : Rows → Leaf → Option Entry
+entry_at rows leaf = map.get (contents leaf_cmp rows) leaf
+
+-- whether a row comes in that wasn't there
+abbrev pub makes : Option Entry → Option Entry → Bool
+makes None (Some e) = true
+makes None None = false
+makes (Some was) now = false
+
+-- a leaf's row is this one, each other leaf has the row that it had; a row that comes in takes one place at most
+pub record IsPut (leaf : Leaf) (row : Option Entry) (old new : Rows) : Type 0 where
+  pub here : entry_at new leaf ≡ row
+  pub others : (other : Leaf) → other ≢ leaf → entry_at new other ≡ entry_at old other
+  pub room : old.room ≤ new.room + 1
+  pub kept : makes (entry_at old leaf) row ≡ false → old.room ≤ new.room
+
+-- ---- the lists of all ranks, rank 0 first. Ranks that have no list of their own share the last one
+
+abbrev pub home_of : ℕ → ℕ → ℕ
+home_of lists rank = cond (nat_lt rank lists) rank (lists - 1)
+
+abbrev pub rows_at : List Rows → ℕ → Rows
+rows_at lists i = get_or lists i no_rows
+
+-- what the list of a place says of a leaf
+abbrev pub says_at : (Entry → Option Rank) → List Rows → ℕ → Leaf → Option Rank
+says_at says lists i leaf = said says (entry_at (rows_at lists i) leaf)
+
+-- what the first list says that says anything
+abbrev pub found : (Entry → Option Rank) → List Rows → Leaf → Option Rank
+found says [] leaf = None
+found says (rows ∷ more) leaf = option_or (said says (entry_at rows leaf)) (found says more leaf)
+
+abbrev pub leaves_in : List Rows → List Leaf
+leaves_in [] = []
+leaves_in (rows ∷ more) = map.keys (contents leaf_cmp rows) ++ leaves_in more
+
+abbrev pub with_some : Roots → Leaf → Option Rank → Roots
+with_some m leaf (Some rank) = map.insert m leaf rank
+with_some m leaf None = m
+
+-- the map of a function on these leaves
+abbrev pub tabulate : (Leaf → Option Rank) → List Leaf → Roots
+tabulate f [] = map.empty
+tabulate f (leaf ∷ leaves) = with_some (tabulate f leaves) leaf (f leaf)
+
+-- what the lists say, as one map
+unfoldable pub told : (Entry → Option Rank) → List Rows → Roots
+told says lists = tabulate (found says lists) (leaves_in lists)
+
+-- a rank's word on a leaf stands in its own list, and no two lists say different ones
+pub record AreOnce (says : Entry → Option Rank) (lists : List Rows) : Type 0 where
+  pub home : (i : ℕ) (leaf : Leaf) (rank : Rank) → says_at says lists i leaf ≡ Some rank → i ≡ home_of (length lists) rank.0
+  pub one : (i j : ℕ) (leaf : Leaf) (a b : Rank) → says_at says lists i leaf ≡ Some a → says_at says lists j leaf ≡ Some b → a ≡ b
+
+-- each root is claimed in one list, that of its rank, and so is each promise; each list has room for so many more rows
+pub record AreLists (room : ℕ) (lists : List Rows) : Type 0 where
+  pub some : 0 < length lists
+  pub claims : AreOnce claimed lists
+  pub promises : AreOnce promised lists
+  pub roomy : (i : ℕ) → i < length lists → room ≤ (rows_at lists i).room
+
+-- there are as many lists as before, and each became what it may
+pub record AreEach (Becomes : ℕ → Rows → Rows → Type 0) (old new : List Rows) : Type 0 where
+  pub many : length new ≡ length old
+  pub each : (i : ℕ) → i < length old → Becomes i (rows_at old i) (rows_at new i)
+
+-- so many lists, none of which has a row
+pub record HaveNone (count : ℕ) (lists : List Rows) : Type 0 where
+  pub many : length lists ≡ count
+  pub each : (i : ℕ) (leaf : Leaf) → entry_at (rows_at lists i) leaf ≡ None
+
+-- one of the lists claims a leaf for this rank
+pub record IsClaimed (lists : List Rows) (leaf : Leaf) (rank : Rank) : Type 0 where
+  pub at : ℕ
+  pub claims : says_at claimed lists at leaf ≡ Some rank
+
+-- each list has heard the news of a leaf; it names the rank whose list has this place
+abbrev pub Hears : Leaf → ℕ → News → ℕ → Rows → Rows → Type 0
+Hears leaf home news i was now = IsPut leaf (heard (entry_at was leaf) (i == home) news) was now
+
+-- where the news makes a row there is a place for it
+abbrev pub HaveRoom : Leaf → ℕ → News → List Rows → Type 0
+HaveRoom leaf home news lists = (i : ℕ) → i < length lists → makes (entry_at (rows_at lists i) leaf) (heard (entry_at (rows_at lists i) leaf) (i == home) news) ≡ true → 0 < (rows_at lists i).room
+
+-- a list has the rows that it had, and no less room
+pub record HasSame (was now : Rows) : Type 0 where
+  pub same : contents leaf_cmp now ≡ contents leaf_cmp was
+  pub more : was.room ≤ now.room
+
+-- and room for so many
+pub record HasGrown (additional : ℕ) (was now : Rows) : Type 0 where
+  pub same : contents leaf_cmp now ≡ contents leaf_cmp was
+  pub more : was.room ≤ now.room
+  pub enough : additional ≤ now.room
+
+-- a list has no row of a directory, and each other one as it was
+pub record HasDropped (d : ℕ) (was now : Rows) : Type 0 where
+  pub gone : (leaf : Leaf) → leaf.0.0 ≡ d → entry_at now leaf ≡ None
+  pub others : (leaf : Leaf) → leaf.0.0 ≢ d → entry_at now leaf ≡ entry_at was leaf
+  pub more : was.room ≤ now.room
+
+-- a list claims what it claimed, and has the promises that it had, whatever its hints are
+pub record HasHints (was now : Rows) : Type 0 where
+  pub claims : (leaf : Leaf) → said claimed (entry_at now leaf) ≡ said claimed (entry_at was leaf)
+  pub promises : (leaf : Leaf) → said promised (entry_at now leaf) ≡ said promised (entry_at was leaf)
+  pub more : was.room ≤ now.room
+
+-- a leaf behind another, or any where there is no other
+abbrev pub is_after : Option Leaf → Leaf → Bool
+is_after None leaf = true
+is_after (Some other) leaf = is_lt (leaf_cmp other leaf)
