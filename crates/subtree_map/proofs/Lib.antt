@@ -17,6 +17,7 @@ pub mod Moved
 pub mod Nearest
 pub mod Options
 pub mod Rising
+pub mod RootRows
 pub mod RowLaws
 pub mod Settled
 pub mod Split

@@ -4,22 +4,21 @@ use Rattle.std.proofs.Common.{inl, inr, sym, ap, ◌∙◌, arith}
 use Rattle.std.proofs.lemmas.Bool.Decides.{nat_tests}
 use Rattle.std.specs.FinMap as map
 use Rattle.std.specs.FinMap.{get-empty, len-remove, empty_of_len}
-use Rattle.sorted_map.specs.SortedMap.{Shown, contents}
 use Rattle.mds_types.specs.declared.ids.Rank.{Rank}
 use Rattle.mds_types.specs.Frag.{Fragment}
 use Rattle.mds_types.specs.Leaf.{Leaf, leaf_cmp}
 use Rattle.subtree_map.specs.Authority.{Roots}
 use Rattle.fragtree.specs.FragTree.{lies_inside}
-use Rattle.subtree_map.specs.Changes.{IsRootMerge, is_inside, leaf_of}
+use Rattle.subtree_map.specs.Changes.{IsRootMerge, Subtrees, is_inside, leaf_of}
 use Rattle.subtree_map.specs.Rows.{AreTakenOut}
 use Rattle.mds_types.proofs.LeafLaws.{leaf-total, same_or_apart, get_put, get_beside, get_removed, get_left}
 use Rattle.subtree_map.proofs.Options.{not_none, value_of}
 use Rattle.subtree_map.proofs.Merged.{inside_of}
 
 -- what has been taken out so far: nothing, or the root of a rank, which took no room
-abbrev pub Found : Shown Leaf Rank → Shown Leaf Rank → ℕ → Fragment → Option Rank → Type 0
+abbrev pub Found : Subtrees → Subtrees → ℕ → Fragment → Option Rank → Type 0
 Found old now d f None = now ≡ old
-Found old now d f (Some rank) = ((leaf : Leaf) × (is_inside d f leaf ≡ true) × (map.get (contents leaf_cmp old) leaf ≡ Some rank)) × (old.room ≤ now.room)
+Found old now d f (Some rank) = ((leaf : Leaf) × (is_inside d f leaf ≡ true) × (map.get old.roots leaf ≡ Some rank)) × (old.room ≤ now.room)
 
 -- a map that loses a key gets shorter
 pub shorter : {X : Type 0} (rows now : map.FinMap leaf_cmp X) (leaf : Leaf) → IsSome (map.get rows leaf) → now ≡ map.remove rows leaf → map.len now < map.len rows
@@ -46,16 +45,16 @@ stays_there rows now gone leaf rank is has = elim (same_or_apart leaf gone) [
 ]
 
 -- the next root inside is found
-pub found_next : (old now next : Shown Leaf Rank) (d : ℕ) (f : Fragment) (root : Leaf) (before after : Option Rank) → Found old now d f before → is_inside d f root ≡ true → IsSome (map.get (contents leaf_cmp now) root)
-    → ((leaf : Leaf) (rank : Rank) → map.get (contents leaf_cmp now) leaf ≡ Some rank → map.get (contents leaf_cmp old) leaf ≡ Some rank) → after ≡ map.get (contents leaf_cmp now) root → now.room ≤ next.room → Found old next d f after
+pub found_next : (old now next : Subtrees) (d : ℕ) (f : Fragment) (root : Leaf) (before after : Option Rank) → Found old now d f before → is_inside d f root ≡ true → IsSome (map.get now.roots root)
+    → ((leaf : Leaf) (rank : Rank) → map.get now.roots leaf ≡ Some rank → map.get old.roots leaf ≡ Some rank) → after ≡ map.get now.roots root → now.room ≤ next.room → Found old next d f after
 found_next old now next d f root before after found inside there fewer is room = go after is before found
   where
-    some : (rank : Rank) → Some rank ≡ map.get (contents leaf_cmp now) root → (leaf : Leaf) × (is_inside d f leaf ≡ true) × (map.get (contents leaf_cmp old) leaf ≡ Some rank)
+    some : (rank : Rank) → Some rank ≡ map.get now.roots root → (leaf : Leaf) × (is_inside d f leaf ≡ true) × (map.get old.roots leaf ≡ Some rank)
     some rank gets = (root, inside, fewer root rank (sym gets))
 
-    go : (o : Option Rank) → o ≡ map.get (contents leaf_cmp now) root → (b : Option Rank) → Found old now d f b → Found old next d f o
+    go : (o : Option Rank) → o ≡ map.get now.roots root → (b : Option Rank) → Found old now d f b → Found old next d f o
     go None none b so_far = let value = value_of _ there in absurd (not_none _ value.0 (sym none) value.1)
-    go (Some rank) gets None same = (some rank gets, let rooms : now.room ≡ old.room = ap (λ (s : Shown Leaf Rank). s.room) same in omega (arith, rooms, room))
+    go (Some rank) gets None same = (some rank gets, let rooms : now.room ≡ old.room = ap (λ (s : Subtrees). s.room) same in omega (arith, rooms, room))
     go (Some rank) gets (Some had) so_far = (some rank gets, omega (arith, so_far.1, room))
 
 -- the fragment is put in the place of what was taken out

@@ -1,8 +1,10 @@
 -- Changes of the rows that a map of subtrees keeps. Only this crate's own contracts use these words.
-use Rattle.std.specs.Prelude.{◌≡◌, ◌≢◌, ◌⊎◌, ℕ, ◌<◌, Bool, true, false, cond, Option, Some, None, IsSome}
+use Rattle.std.specs.Prelude.{◌≡◌, ◌≢◌, ◌⊎◌, ℕ, ◌<◌, Bool, true, false, cond, List, [], Option, Some, None, IsSome}
 use Rattle.std.specs.declared.cmp.Ordering.TheVariants.{Less}
 use Rattle.std.specs.Ordering.{is_lt}
 use Rattle.std.specs.FinMap as map
+use Rattle.std.specs.FinMap.Entries.{where_key}
+use Rattle.sorted_map.specs.SortedMap.{is_from}
 use Rattle.mds_types.specs.declared.ids.Rank.{Rank}
 use Rattle.mds_types.specs.Frag.{Fragment, child_of}
 use Rattle.mds_types.specs.Leaf.{Leaf, leaf_cmp}
@@ -24,6 +26,15 @@ abbrev pub IsFirstRow : {X : Type 0} → map.FinMap leaf_cmp X → (Leaf → Boo
 IsFirstRow rows passes None = (leaf : Leaf) → passes leaf ≡ true → map.get rows leaf ≡ None
 IsFirstRow rows passes (Some first) =
     (passes first ≡ true) × IsSome (map.get rows first) × ((leaf : Leaf) → passes leaf ≡ true → IsSome (map.get rows leaf) → (leaf ≡ first) ⊎ (leaf_cmp first leaf ≡ Less))
+
+-- the rows from a leaf on, which is one of them; none where there is no leaf
+abbrev pub rows_from : Roots → Option Leaf → List (Leaf × Rank)
+rows_from rows None = []
+rows_from rows (Some leaf) = where_key leaf_cmp (is_from leaf_cmp leaf) (map.entries rows)
+
+abbrev pub IsRootIfSome : Roots → Option Leaf → Type 0
+IsRootIfSome rows None = Unit {0}
+IsRootIfSome rows (Some leaf) = IsSome (map.get rows leaf)
 
 -- the lesser of two leaves
 abbrev pub lesser_leaf : Leaf → Leaf → Leaf

@@ -27,7 +27,7 @@ impl Subtrees {
         ensures order { IfOk result (λ bounds. IsStrictlySortedBy leaf_cmp bounds.items) }
     {
         let mut bounds = Vec::new(alloc);
-        for row in &self.roots {
+        for row in self.iter() {
             if self.is_next_below(dirs, &(dir, frag), &row.0) {
                 bounds.push(row.0)?;
             }

@@ -122,7 +122,7 @@ impl Subtrees {
     fn above<'a>(&self, dirs: &'a Dirs, leaf: &(Ino, Frag)) -> Option<&'a Home>
         ensures { MatchOption result (IsTop self.now.roots dirs.entry.now.homes leaf.now) (λ home. (map.get self.now.roots leaf.now ≡ None) × (map.get dirs.entry.now.homes leaf.now.0.0 ≡ Some home.now)) }
     {
-        if self.roots.contains(leaf) {
+        if self.lists.contains(leaf.0, leaf.1) {
             return None;
         }
         dirs.get(leaf.0)

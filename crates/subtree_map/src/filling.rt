@@ -16,6 +16,6 @@ impl Subtrees {
         ensures filled { AreFilled self.old.roots self.new.roots dir.0 (leaves_of dirs.now.trees dir.0) rank }
         ensures promises { self.new.promises ≡ self.old.promises }
     {
-        fill(&mut self.roots, dirs, dir, rank);
+        fill(&mut self.lists, dirs, dir, rank);
     }
 }

@@ -15,9 +15,10 @@ mod merges;
 mod moves;
 mod promises;
 mod removals;
-mod rows;
+mod roots;
 mod splits;
 mod subtrees;
 
 pub use moves::end_of;
+pub use roots::Roots;
 pub use subtrees::Subtrees;

@@ -1,5 +1,5 @@
 //! `Lists`: for each rank a list of what it knows of leaves. A contract sees the roots, which are what all of them claim.
-ghost use Rattle.std.specs.Prelude.{◌≡◌, ◌+◌, ◌<◌, ◌≤◌, None, Some, IsOk, IsSome, IfErr, IfOk, IfSome, OnErr, OnOk, length};
+ghost use Rattle.std.specs.Prelude.{◌≡◌, ◌+◌, ◌<◌, ◌≤◌, None, Some, IsOk, IsSome, IfErr, IfOk, IfSome, OnErr, OnOk, is_some, length};
 ghost use Rattle.std.specs.FinMap as map;
 ghost use Rattle.mds_types.specs.declared.refusals.Refusal.TheVariants.{NoMemory};
 ghost use Rattle.subtree_map.specs.Changes.{AreGone};
@@ -65,6 +65,13 @@ impl Lists {
         }
     }
 
+    /// Whether a leaf is a root.
+    pub(crate) fn contains(&self, dir: Ino, frag: Frag) -> bool
+        ensures { result ≡ is_some (map.get self.now.roots (dir, frag)) }
+    {
+        self.get(dir, frag).is_some()
+    }
+
     /// The rank that a root is promised to.
     pub(crate) fn promised(&self, dir: Ino, frag: Frag) -> Option<Rank>
         ensures { result ≡ map.get self.now.promises (dir, frag) }
@@ -72,11 +79,18 @@ impl Lists {
         promise_in(&self.lists, &(dir, frag))
     }
 
-    /// The first root behind a leaf, or of all.
-    pub(crate) fn first_after(&self, after: &Option<(Ino, Frag)>) -> Option<(Ino, Frag)>
-        ensures { IsFirst self.now.roots (is_after after.now) result }
+    /// The first root.
+    pub(crate) fn first(&self) -> Option<(Ino, Frag)>
+        ensures { IsFirst self.now.roots (is_after None) result }
     {
-        first_claim(&self.lists, after)
+        first_claim(&self.lists, &None)
+    }
+
+    /// The first root behind a leaf.
+    pub(crate) fn first_after(&self, dir: Ino, frag: Frag) -> Option<(Ino, Frag)>
+        ensures { IsFirst self.now.roots (is_after (Some (dir, frag))) result }
+    {
+        first_claim(&self.lists, &Some((dir, frag)))
     }
 
     /// Makes room for so many more roots. Where it is there already nothing is done. Refused for want of memory alone, and then
@@ -117,7 +131,7 @@ impl Lists {
         ensures removed { self.new.roots ≡ map.remove self.old.roots (dir, frag) }
         ensures promises { self.new.promises ≡ self.old.promises }
         ensures absent { map.get self.old.roots (dir, frag) ≡ None → self.new ≡ self.old }
-        ensures room { self.new.room ≡ self.old.room }
+        ensures room { self.old.room ≤ self.new.room }
     {
         let rank = self.get(dir, frag)?;
         tell(&mut self.lists, (dir, frag), 0, News::Ended);

@@ -1,16 +1,14 @@
 //! The roots where leaves are merged.
 ghost use Rattle.std.specs.Prelude.{◌≡◌, ◌+◌, ◌<◌, ◌≤◌, true, None, IsSome, MatchOption};
 ghost use Rattle.std.specs.FinMap as map;
-ghost use Rattle.sorted_map.specs.SortedMap.{contents};
 ghost use Rattle.mds_types.specs.Frag.{IsFragment};
-ghost use Rattle.mds_types.specs.Leaf.{Leaf, leaf_cmp};
+ghost use Rattle.mds_types.specs.Leaf.{Leaf};
 ghost use Rattle.subtree_map.specs.Changes.{IsRootMerge, MergesSoundly, is_inside};
 ghost use Rattle.subtree_map.specs.Rows.{AreTakenOut};
 
-use crate::rows::{first_after, take_row};
+use crate::lists::Lists;
 use crate::subtrees::Subtrees;
 use mds_types::{Frag, Ino, Rank};
-use sorted_map::SortedMap;
 
 impl Subtrees {
     /// The leaves of a directory properly inside a fragment are merged: if one of them is a root, the merged leaf is a root of
@@ -23,39 +21,41 @@ impl Subtrees {
         ensures promises { self.new.promises ≡ self.old.promises }
         ensures room { self.old.room ≤ self.new.room + 1 }
     {
-        merge_rows(&mut self.roots, dir, frag);
+        merge_rows(&mut self.lists, dir, frag);
     }
 }
 
 // Puts the fragment in the place of the roots inside it, if there are any.
-fn merge_rows(roots: &mut SortedMap<(Ino, Frag), Rank>, dir: Ino, frag: Frag)
+fn merge_rows(roots: &mut Lists, dir: Ino, frag: Frag)
     requires room { 0 < roots.old.room }
-    ensures roots { IsRootMerge (contents leaf_cmp roots.old) (contents leaf_cmp roots.new) dir.0 frag }
+    ensures roots { IsRootMerge roots.old.roots roots.new.roots dir.0 frag }
     ensures room { roots.old.room ≤ roots.new.room + 1 }
+    ensures promises { roots.new.promises ≡ roots.old.promises }
 {
     if let Some(rank) = take_inside(roots, dir, frag) {
-        let _ = roots.insert((dir, frag), rank);
+        roots.insert(dir, frag, rank);
     }
 }
 
 // Takes out the roots inside a fragment, and returns the rank of the last of them.
-fn take_inside(roots: &mut SortedMap<(Ino, Frag), Rank>, dir: Ino, frag: Frag) -> Option<Rank>
-    ensures taken { AreTakenOut (contents leaf_cmp roots.old) (contents leaf_cmp roots.new) dir.0 frag result }
+fn take_inside(roots: &mut Lists, dir: Ino, frag: Frag) -> Option<Rank>
+    ensures taken { AreTakenOut roots.old.roots roots.new.roots dir.0 frag result }
     ensures room { MatchOption result (roots.new ≡ roots.old) (λ rank. roots.old.room ≤ roots.new.room) }
+    ensures promises { roots.new.promises ≡ roots.old.promises }
 {
     let mut found = None;
     while let Some(root) = root_inside(roots, dir, frag) {
-        found = take_row(roots, root.0, root.1);
+        found = roots.take(root.0, root.1);
     }
     found
 }
 
 // The first root inside a fragment.
-fn root_inside(roots: &SortedMap<(Ino, Frag), Rank>, dir: Ino, frag: Frag) -> Option<(Ino, Frag)>
-    ensures { MatchOption result ((leaf : Leaf) → is_inside dir.0 frag leaf ≡ true → map.get (contents leaf_cmp roots.now) leaf ≡ None) (λ root. (is_inside dir.0 frag root ≡ true) × IsSome (map.get (contents leaf_cmp roots.now) root)) }
+fn root_inside(roots: &Lists, dir: Ino, frag: Frag) -> Option<(Ino, Frag)>
+    ensures { MatchOption result ((leaf : Leaf) → is_inside dir.0 frag leaf ≡ true → map.get roots.now.roots leaf ≡ None) (λ root. (is_inside dir.0 frag root ≡ true) × IsSome (map.get roots.now.roots root)) }
 {
     let _ = frag.bits();
-    let root = first_after(roots, dir, frag)?;
+    let root = roots.first_after(dir, frag)?;
     if !is_inside(dir, frag, root.0, root.1) {
         return None;
     }

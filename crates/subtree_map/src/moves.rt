@@ -1,21 +1,19 @@
 //! The roots where a directory moves.
 ghost use Rattle.std.specs.Prelude.{◌≡◌, ◌≢◌, ◌+◌, ◌^◌, ◌<◌, ◌≤◌, ◌⊎◌, Some, None, IsOk, IsSome, IfSome, IfNone, OnOk, OnErr, IfErr, length};
 ghost use Rattle.std.specs.FinMap as map;
-ghost use Rattle.sorted_map.specs.SortedMap.{contents};
 ghost use Rattle.mds_types.specs.declared.ids.Rank.{Rank as RankNumber};
 ghost use Rattle.mds_types.specs.declared.refusals.Refusal.TheVariants.{NoMemory};
 ghost use Rattle.mds_types.specs.Frag.{IsFragment, span};
 ghost use Rattle.inode_table.specs.Dirs.{MayMove, leaves_of};
-ghost use Rattle.mds_types.specs.Leaf.{leaf_cmp};
 ghost use Rattle.subtree_map.specs.Authority.{IsSubtrees};
 ghost use Rattle.subtree_map.specs.Changes.{AreFilled};
 ghost use Rattle.subtree_map.specs.Moves.{HasRoomToMove, IsLostRank, IsSettled, MovesSoundly};
 ghost use Rattle.subtree_map.specs.Rows.{IsFilled};
 
+use crate::lists::Lists;
 use crate::subtrees::Subtrees;
 use inode_table::Dirs;
 use mds_types::{Frag, Ino, Name, Rank, Refusal};
-use sorted_map::SortedMap;
 
 impl Subtrees {
     /// Makes room for what a directory's move to another place makes, so that `after_rename` can't fail. Where the room
@@ -58,7 +56,7 @@ impl Subtrees {
     {
         dirs.is_table();
         if let Some(rank) = self.lost_rank(dirs, dir, parent, name) {
-            fill(&mut self.roots, dirs, dir, rank);
+            fill(&mut self.lists, dirs, dir, rank);
         }
     }
 
@@ -83,10 +81,11 @@ impl Subtrees {
 }
 
 // Makes each leaf of a directory that is no root one of this rank.
-pub(crate) fn fill(roots: &mut SortedMap<(Ino, Frag), Rank>, dirs: &Dirs, dir: Ino, rank: Rank)
+pub(crate) fn fill(roots: &mut Lists, dirs: &Dirs, dir: Ino, rank: Rank)
     requires room { length (leaves_of dirs.now.trees dir.0) ≤ roots.old.room }
-    ensures filled { AreFilled (contents leaf_cmp roots.old) (contents leaf_cmp roots.new) dir.0 (leaves_of dirs.now.trees dir.0) rank }
+    ensures filled { AreFilled roots.old.roots roots.new.roots dir.0 (leaves_of dirs.now.trees dir.0) rank }
     ensures room { roots.old.room ≤ roots.new.room + length (leaves_of dirs.now.trees dir.0) }
+    ensures promises { roots.new.promises ≡ roots.old.promises }
 {
     dirs.is_table();
     let mut hash = 0;
@@ -98,13 +97,14 @@ pub(crate) fn fill(roots: &mut SortedMap<(Ino, Frag), Rank>, dirs: &Dirs, dir: I
 }
 
 // Makes a leaf that is no root one of this rank.
-fn put_absent(roots: &mut SortedMap<(Ino, Frag), Rank>, dir: Ino, leaf: Frag, rank: Rank)
+fn put_absent(roots: &mut Lists, dir: Ino, leaf: Frag, rank: Rank)
     requires { 0 < roots.old.room }
-    ensures filled { IsFilled (contents leaf_cmp roots.old) (contents leaf_cmp roots.new) (dir, leaf) rank }
+    ensures filled { IsFilled roots.old.roots roots.new.roots (dir, leaf) rank }
     ensures room { roots.old.room ≤ roots.new.room + 1 }
+    ensures promises { roots.new.promises ≡ roots.old.promises }
 {
-    if !roots.contains(&(dir, leaf)) {
-        let _ = roots.insert((dir, leaf), rank);
+    if !roots.contains(dir, leaf) {
+        roots.insert(dir, leaf, rank);
     }
 }
 

@@ -5,7 +5,6 @@ ghost use Rattle.mds_types.specs.declared.ids.Rank.{Rank as RankNumber};
 ghost use Rattle.mds_types.specs.declared.refusals.Refusal.TheVariants.{NoMemory};
 ghost use Rattle.subtree_map.specs.Changes.{IsHanded};
 
-use crate::rows::take_row;
 use crate::subtrees::Subtrees;
 use mds_types::{Frag, Ino, Rank, Refusal};
 
@@ -19,16 +18,14 @@ impl Subtrees {
         ensures err { IfErr result (λ reason. reason ≡ NoMemory) }
         ensures left { OnErr result (self.new ≡ self.old) }
     {
-        self.promises.reserve(1)?;
-        let _ = self.promises.insert((dir, frag), rank);
-        Ok(())
+        self.lists.promise(dir, frag, rank)
     }
 
     /// The rank that a root is promised to.
     pub fn promised(&self, dir: Ino, frag: Frag) -> Option<Rank>
         ensures { result ≡ map.get self.now.promises (dir, frag) }
     {
-        self.promises.get(&(dir, frag)).copied()
+        self.lists.promised(dir, frag)
     }
 
     /// Takes up the promise of a root: the root has the rank that it was promised to, and with it the leaves of its region. All
@@ -41,8 +38,8 @@ impl Subtrees {
         ensures promises { self.new.promises ≡ map.remove self.old.promises (dir, frag) }
         ensures room { self.new.room ≡ self.old.room }
     {
-        if let Some(rank) = take_row(&mut self.promises, dir, frag) {
-            let _ = self.roots.replace(&(dir, frag), rank);
+        if let Some(rank) = self.lists.promised(dir, frag) {
+            self.lists.keep_promise(dir, frag, rank);
         }
     }
 
@@ -52,6 +49,6 @@ impl Subtrees {
         ensures roots { self.new.roots ≡ self.old.roots }
         ensures room { self.new.room ≡ self.old.room }
     {
-        let _ = self.promises.remove(&(dir, frag));
+        self.lists.withdraw(dir, frag);
     }
 }

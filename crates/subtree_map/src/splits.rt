@@ -1,17 +1,14 @@
 //! The roots where a leaf is split.
 ghost use Rattle.std.specs.Prelude.{◌≡◌, ◌≢◌, ◌+◌, ◌^◌, ◌<◌, ◌≤◌, ℕ, Some};
 ghost use Rattle.std.specs.FinMap as map;
-ghost use Rattle.sorted_map.specs.SortedMap.{contents};
 ghost use Rattle.mds_types.specs.Frag.{child_of};
 ghost use Rattle.fragtree.specs.FragTree.{FitsSplit};
-ghost use Rattle.mds_types.specs.Leaf.{leaf_cmp};
 ghost use Rattle.subtree_map.specs.Changes.{IsRootSplit, SplitsSoundly};
 ghost use Rattle.subtree_map.specs.Rows.{AreChildrenSet};
 
-use crate::rows::take_row;
+use crate::lists::Lists;
 use crate::subtrees::Subtrees;
 use mds_types::{Frag, Ino, Rank};
-use sorted_map::SortedMap;
 
 impl Subtrees {
     /// A leaf is split by so many bits: where it is a root, its children are roots of its rank, for which there has to be
@@ -24,37 +21,33 @@ impl Subtrees {
         ensures promises { self.new.promises ≡ self.old.promises }
         ensures room { self.old.room ≤ self.new.room + 2 ^ bits }
     {
-        split_row(&mut self.roots, dir, frag, bits);
+        split_row(&mut self.lists, dir, frag, bits);
     }
 }
 
 // Puts the children of a root in its place, if it is one.
-fn split_row(roots: &mut SortedMap<(Ino, Frag), Rank>, dir: Ino, frag: Frag, bits: u8)
+fn split_row(roots: &mut Lists, dir: Ino, frag: Frag, bits: u8)
     requires fits { FitsSplit frag bits }
     requires room { 2 ^ bits ≤ roots.old.room }
-    ensures roots { IsRootSplit (contents leaf_cmp roots.old) (contents leaf_cmp roots.new) dir.0 frag bits }
+    ensures roots { IsRootSplit roots.old.roots roots.new.roots dir.0 frag bits }
     ensures room { roots.old.room ≤ roots.new.room + 2 ^ bits }
+    ensures promises { roots.new.promises ≡ roots.old.promises }
 {
-    if let Some(rank) = take_row(roots, dir, frag) {
+    if let Some(rank) = roots.take(dir, frag) {
         put_children(roots, dir, frag, bits, rank);
     }
 }
 
 // Makes the children of a leaf roots of a rank.
-fn put_children(
-    roots: &mut SortedMap<(Ino, Frag), Rank>,
-    dir: Ino,
-    frag: Frag,
-    bits: u8,
-    rank: Rank,
-)
+fn put_children(roots: &mut Lists, dir: Ino, frag: Frag, bits: u8, rank: Rank)
     requires fits { FitsSplit frag bits }
     requires room { 2 ^ bits ≤ roots.old.room }
-    ensures children { AreChildrenSet (contents leaf_cmp roots.old) (contents leaf_cmp roots.new) dir.0 frag bits (2 ^ bits) rank }
+    ensures children { AreChildrenSet roots.old.roots roots.new.roots dir.0 frag bits (2 ^ bits) rank }
     ensures room { roots.old.room ≤ roots.new.room + 2 ^ bits }
+    ensures promises { roots.new.promises ≡ roots.old.promises }
 {
     for i in 0..1 << bits {
-        let _ = roots.insert((dir, child(frag, i, bits)), rank);
+        roots.insert(dir, child(frag, i, bits), rank);
     }
 }
 

@@ -1,71 +1,67 @@
 //! The subtree roots, and the calls that read and change single ones.
-ghost use Rattle.std.specs.Prelude.{◌≡◌, ◌+◌, ◌-◌, ◌<◌, ◌≤◌, if◌then◌else◌, is_some, None, IsOk, OnOk, OnErr, IsTrue, IfErr};
+ghost use Rattle.std.specs.Prelude.{◌≡◌, ◌+◌, ◌-◌, ◌<◌, ◌≤◌, if◌then◌else◌, is_some, None, IsOk, OnOk, OnErr, IsTrue, IfErr, IfOk};
 ghost use Rattle.std.specs.FinMap as map;
 ghost use Rattle.mds_types.specs.declared.refusals.Refusal.TheVariants.{NoMemory};
 ghost use Rattle.inode_table.specs.Dirs.{Homes, Covers, IsLive};
-ghost use Rattle.mds_types.specs.Leaf.{leaf_cmp};
 ghost use Rattle.subtree_map.specs.Authority.{IsSubtrees};
 ghost use Rattle.subtree_map.specs.Changes.{IsCutOff};
 
+use crate::lists::Lists;
+use crate::roots::Roots;
 use mds_types::{Frag, Ino, Rank, Refusal};
-use sorted_map::{Iter, SortedMap};
-use std::alloc::Global;
+use std::alloc::{AllocError, Global};
 use std::marker::Model;
 
 /// The subtree roots: leaves that have a rank of their own. Every other leaf has the rank of the leaf that holds the
-/// dentry of its directory.
+/// dentry of its directory. Each rank has a list of its own: the roots that are its own, what it last heard of others, and
+/// what is promised to it.
 #[derive(Debug, Drop)]
 pub struct Subtrees {
-    pub(crate) roots: SortedMap<(Ino, Frag), Rank>,
-    pub(crate) promises: SortedMap<(Ino, Frag), Rank>,
+    pub(crate) lists: Lists,
 }
 
 impl Model for Subtrees {
     ghost use Rattle.std.specs.Coded.{codes};
     ghost use Rattle.std.specs.FinMap as map;
-    ghost use Rattle.sorted_map.specs.SortedMap.{contents};
-    ghost use Rattle.mds_types.specs.Leaf.{leaf_cmp};
     ghost use Rattle.subtree_map.specs.Changes.{Subtrees};
 
     ghost Value = { Subtrees };
 
     ghost coded = { Prim.hlevel (codes, map.code) };
 
-    ghost view = { λ s. record { roots = contents leaf_cmp s.roots; promises = contents leaf_cmp s.promises; room = s.roots.room } };
+    ghost view = { λ s. s.lists };
 }
 
 impl Subtrees {
-    /// No roots.
-    pub fn new(alloc: Global) -> Subtrees
-        ensures roots { result.roots ≡ map.empty }
-        ensures promises { result.promises ≡ map.empty }
-        ensures room { result.room ≡ 0 }
+    /// No roots, and a list for each of so many ranks. Takes memory for the lists.
+    pub fn new(alloc: Global, ranks: u8) -> Result<Subtrees, AllocError>
+        ensures roots { IfOk result (λ subtrees. subtrees.roots ≡ map.empty) }
+        ensures promises { IfOk result (λ subtrees. subtrees.promises ≡ map.empty) }
+        ensures room { IfOk result (λ subtrees. subtrees.room ≡ 0) }
     {
-        Subtrees {
-            roots: SortedMap::new(alloc),
-            promises: SortedMap::new(alloc),
-        }
+        let lists = Lists::new(alloc, ranks)?;
+        Ok(Subtrees { lists })
     }
 
     /// The rank of a root; none for a leaf that is no root.
     pub fn get(&self, dir: Ino, frag: Frag) -> Option<Rank>
         ensures { result ≡ map.get self.now.roots (dir, frag) }
     {
-        self.roots.get(&(dir, frag)).copied()
+        self.lists.get(dir, frag)
     }
 
     /// Whether a leaf is a root.
     pub fn is_root(&self, dir: Ino, frag: Frag) -> bool
         ensures { result ≡ is_some (map.get self.now.roots (dir, frag)) }
     {
-        self.roots.contains(&(dir, frag))
+        self.lists.contains(dir, frag)
     }
 
     /// The roots with their ranks, by directory and then as fragments. Takes no memory.
-    pub fn iter(&self) -> Iter<'_, (Ino, Frag), Rank>
+    pub fn iter(&self) -> Roots<'_>
         ensures { result ≡ map.entries self.now.roots }
     {
-        self.roots.iter()
+        self.lists.iter()
     }
 
     /// Makes room for so many more roots, so that changes that make no more of them can't fail. Where the room is there
@@ -79,8 +75,7 @@ impl Subtrees {
         ensures err { IfErr result (λ reason. reason ≡ NoMemory) }
         ensures left { OnErr result (self.new ≡ self.old) }
     {
-        self.roots.reserve(additional)?;
-        Ok(())
+        self.lists.reserve(additional)
     }
 
     /// Makes a leaf a root of a rank, or gives a root another rank. There has to be room. Takes no memory.
@@ -92,6 +87,6 @@ impl Subtrees {
         ensures promises { self.new.promises ≡ self.old.promises }
         ensures room { self.old.room ≤ self.new.room + 1 }
     {
-        let _ = self.roots.insert((dir, frag), rank);
+        self.lists.insert(dir, frag, rank);
     }
 }

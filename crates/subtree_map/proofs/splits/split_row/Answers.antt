@@ -1,14 +1,13 @@
 use Rattle.std.proofs.Common.{sym, ap, ◌∙◌}
-use Rattle.sorted_map.specs.SortedMap.{contents}
-use Rattle.mds_types.specs.Leaf.{leaf_cmp}
+use Rattle.subtree_map.specs.Changes.{Subtrees}
 use Rattle.subtree_map.proofs.ChildRows.{no_split, root_split}
 use Rattle.subtree_map.proofs.splits.split_row.Goals as goal
 
 pub returns-in-Some-clause-roots : goal.returns-in-Some-clause-roots
 returns-in-Some-clause-roots c =
-    root_split c.args.dir.0 c.args.frag c.args.bits c.in-Some.rank (contents leaf_cmp c.args.roots.now) _ _ c.requires.fits (sym c.in-Some.ensures.value) c.in-Some.ensures.removed c.put_children.ensures.children
+    root_split c.args.dir.0 c.args.frag c.args.bits c.in-Some.rank c.args.roots.now.roots _ _ c.requires.fits (sym c.in-Some.ensures.value) c.in-Some.ensures.removed c.put_children.ensures.children
 
 pub returns-in_default-clause-roots : goal.returns-in_default-clause-roots
 returns-in_default-clause-roots c =
-    let none = sym c.take_row.ensures.value ∙ c.in_default.is in
-    no_split c.args.dir.0 c.args.frag c.args.bits (contents leaf_cmp c.args.roots.now) _ none (ap (contents leaf_cmp) (c.take_row.ensures.absent none))
+    let none = sym c.take.ensures.value ∙ c.in_default.is in
+    no_split c.args.dir.0 c.args.frag c.args.bits c.args.roots.now.roots _ none (ap (λ (s : Subtrees). s.roots) (c.take.ensures.absent none))

@@ -1,4 +1,4 @@
-use Rattle.std.proofs.Common.{List, subst}
+use Rattle.std.proofs.Common.{List, Some, subst}
 use Rattle.std.specs.FinMap as map
 use Rattle.subtree_map.specs.Changes.{Subtrees}
 use Rattle.subtree_map.specs.Lists.{Rows, claimed, found, is_after, told}
@@ -9,6 +9,6 @@ use Rattle.subtree_map.proofs.lists.Lists.first_after.Goals as goal
 
 pub returns : goal.returns
 returns c =
-    subst (λ (s : Subtrees). IsFirst s.roots (is_after c.args.after.now) c.first_claim.result) c.self.view_is
-    (first_as (found claimed c.self.inside.lists.items) (map.get (told claimed c.self.inside.lists.items)) (is_after c.args.after.now) c.first_claim.result (get_told claimed c.self.inside.lists.items)
-    (subst (λ (ls : List Rows). IsFirstBy (found claimed ls) (is_after c.args.after.now) c.first_claim.result) c.deref.ensures.value c.first_claim.ensures))
+    subst (λ (s : Subtrees). IsFirst s.roots (is_after (Some (c.args.dir, c.args.frag))) c.first_claim.result) c.self.view_is
+    (first_as (found claimed c.self.inside.lists.items) (map.get (told claimed c.self.inside.lists.items)) (is_after (Some (c.args.dir, c.args.frag))) c.first_claim.result (get_told claimed c.self.inside.lists.items)
+    (subst (λ (ls : List Rows). IsFirstBy (found claimed ls) (is_after (Some (c.args.dir, c.args.frag))) c.first_claim.result) c.deref.ensures.value c.first_claim.ensures))

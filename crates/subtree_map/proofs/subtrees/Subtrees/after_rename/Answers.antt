@@ -1,7 +1,5 @@
 use Rattle.std.proofs.Common.{◌≤◌, length, refl, sym, subst}
-use Rattle.sorted_map.specs.SortedMap.{contents}
 use Rattle.inode_table.specs.Dirs.{leaves_of}
-use Rattle.mds_types.specs.Leaf.{leaf_cmp}
 use Rattle.subtree_map.specs.Changes.{AreFilled, Subtrees}
 use Rattle.subtree_map.proofs.Moved.{moves_soundly}
 use Rattle.subtree_map.proofs.Settled.{settled_filled, settled_none}
@@ -13,7 +11,7 @@ fill-requires c = record { room = subst (λ (s : Subtrees). length (leaves_of c.
 pub returns-in-Some-clause-roots : goal.returns-in-Some-clause-roots
 returns-in-Some-clause-roots c valid =
     settled_filled c.args.self.now.roots c.args.dirs.now.homes c.args.dirs.now.trees c.args.dir.0 (record { parent = c.args.parent; name = c.args.name.now }) _ c.in-Some.rank c.requires.may c.in-Some.ensures.lost
-    (subst (λ (s : Subtrees). AreFilled s.roots (contents leaf_cmp c.fill.new.roots) c.args.dir.0 (leaves_of c.args.dirs.now.trees c.args.dir.0) c.in-Some.rank) c.self.view_is c.fill.ensures.filled)
+    (subst (λ (s : Subtrees). AreFilled s.roots c.fill.new.roots.roots c.args.dir.0 (leaves_of c.args.dirs.now.trees c.args.dir.0) c.in-Some.rank) c.self.view_is c.fill.ensures.filled)
 
 pub returns-in-Some-clause-authority : goal.returns-in-Some-clause-authority
 returns-in-Some-clause-authority c valid =

@@ -1,13 +1,11 @@
-use Rattle.std.proofs.Common.{◌≡◌, true, false, sym, ap, ◌∙◌}
-use Rattle.std.specs.FinMap as map
-use Rattle.subtree_map.specs.Changes.{Subtrees}
+use Rattle.std.proofs.Common.{◌≡◌, true, false, sym, ◌∙◌}
 use Rattle.subtree_map.proofs.Listed.{listed_all, listed_first, listed_push, listed_skip}
 use Rattle.subtree_map.proofs.Rising.{rise_all, rise_first, rise_push, rise_skip}
 use Rattle.subtree_map.proofs.subtrees.Subtrees.bounds.Goals as goal
 
 pub loop-row-init : goal.loop-row-init
 loop-row-init c =
-    let all = c.into_iter-row-iterator.ensures.into_iter_gives ∙ ap (λ (s : Subtrees). map.entries s.roots) c.self.view_is in
+    let all = c.into_iter-row-iterator.ensures.into_iter_gives ∙ c.iter-row-items.ensures in
     record {
       listed = listed_first c.args.self.now.roots c.args.dirs.now.homes c.args.dirs.now.trees (c.args.dir, c.args.frag) _ _ all c.new-bounds.ensures.items;
       rise = rise_first c.args.self.now.roots _ _ all c.new-bounds.ensures.items;
@@ -15,16 +13,16 @@ loop-row-init c =
 
 pub loop-row-preserved-in-Continue-1 : goal.loop-row-preserved-in-Continue-1
 loop-row-preserved-in-Continue-1 c = record {
-  listed = listed_push c.args.self.now.roots c.args.dirs.now.homes c.args.dirs.now.trees (c.args.dir, c.args.frag) c.loop-row.row-iterator c.next.new.self c.in-Some.row.now c.loop-row.bounds.items c.in-Some.ensures.steps c.loop-row.invariant.listed
+  listed = listed_push c.args.self.now.roots c.args.dirs.now.homes c.args.dirs.now.trees (c.args.dir, c.args.frag) c.loop-row.row-iterator c.next.new.self c.in-Some.row c.loop-row.bounds.items c.in-Some.ensures.steps c.loop-row.invariant.listed
       _ c.in_ok-push.ensures.items (c.is_next_below.ensures.0 c.if-is_next_below.true);
-  rise = rise_push c.loop-row.row-iterator c.next.new.self c.in-Some.row.now c.loop-row.bounds.items c.in-Some.ensures.steps c.loop-row.invariant.rise _ c.in_ok-push.ensures.items;
+  rise = rise_push c.loop-row.row-iterator c.next.new.self c.in-Some.row c.loop-row.bounds.items c.in-Some.ensures.steps c.loop-row.invariant.rise _ c.in_ok-push.ensures.items;
 }
 
 pub loop-row-preserved : goal.loop-row-preserved
 loop-row-preserved c = record {
-  listed = listed_skip c.args.self.now.roots c.args.dirs.now.homes c.args.dirs.now.trees (c.args.dir, c.args.frag) c.loop-row.row-iterator c.next.new.self c.in-Some.row.now c.loop-row.bounds.items c.in-Some.ensures.steps c.loop-row.invariant.listed
+  listed = listed_skip c.args.self.now.roots c.args.dirs.now.homes c.args.dirs.now.trees (c.args.dir, c.args.frag) c.loop-row.row-iterator c.next.new.self c.in-Some.row c.loop-row.bounds.items c.in-Some.ensures.steps c.loop-row.invariant.listed
       (λ below. let clash : true ≡ false = sym (c.is_next_below.ensures.1 below) ∙ c.if-is_next_below.false in cc);
-  rise = rise_skip c.loop-row.row-iterator c.next.new.self c.in-Some.row.now c.loop-row.bounds.items c.in-Some.ensures.steps c.loop-row.invariant.rise;
+  rise = rise_skip c.loop-row.row-iterator c.next.new.self c.in-Some.row c.loop-row.bounds.items c.in-Some.ensures.steps c.loop-row.invariant.rise;
 }
 
 pub returns : goal.returns

@@ -1,11 +1,9 @@
 use Rattle.std.proofs.Common.{subst}
-use Rattle.sorted_map.specs.SortedMap.{contents}
-use Rattle.mds_types.specs.Leaf.{leaf_cmp}
 use Rattle.subtree_map.specs.Changes.{DropsSoundly, Subtrees}
 use Rattle.subtree_map.proofs.Dropped.{drops_soundly}
 use Rattle.subtree_map.proofs.subtrees.Subtrees.drop.Goals as goal
 
 pub returns-clause-authority : goal.returns-clause-authority
 returns-clause-authority c =
-    subst (λ (s : Subtrees). DropsSoundly s.roots (contents leaf_cmp c.drop_rows.new.rows) c.args.dir.0) c.self.view_is
-    (drops_soundly _ _ c.args.dir.0 c.drop_rows.ensures.rows)
+    subst (λ (s : Subtrees). DropsSoundly s.roots c.drop_dir.new.self.roots c.args.dir.0) c.self.view_is
+    (drops_soundly _ _ c.args.dir.0 c.drop_dir.ensures.roots)

@@ -1,11 +1,9 @@
 use Rattle.std.proofs.Common.{subst}
-use Rattle.sorted_map.specs.SortedMap.{contents}
-use Rattle.mds_types.specs.Leaf.{leaf_cmp}
 use Rattle.subtree_map.specs.Changes.{SplitsSoundly, Subtrees}
 use Rattle.subtree_map.proofs.Split.{splits_soundly}
 use Rattle.subtree_map.proofs.subtrees.Subtrees.split_root.Goals as goal
 
 pub returns-clause-authority : goal.returns-clause-authority
 returns-clause-authority c =
-    subst (λ (s : Subtrees). SplitsSoundly s.roots (contents leaf_cmp c.split_row.new.roots) c.args.dir.0 c.args.frag c.args.bits) c.self.view_is
+    subst (λ (s : Subtrees). SplitsSoundly s.roots c.split_row.new.roots.roots c.args.dir.0 c.args.frag c.args.bits) c.self.view_is
     (splits_soundly _ _ c.args.dir.0 c.args.frag c.args.bits c.split_row.ensures.roots)
