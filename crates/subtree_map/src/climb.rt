@@ -46,7 +46,7 @@ impl Subtrees {
     pub fn find_authority(&self, dirs: &Dirs, dir: Ino, frag: Frag) -> Option<Rank>
         ensures { MatchOption result ((rank : RankNumber) → HasAuthority self.now.roots dirs.now.homes dirs.now.trees (dir, frag) rank → ⊥) (HasAuthority self.now.roots dirs.now.homes dirs.now.trees (dir, frag)) }
     {
-        let (_, rank) = self.climb(dirs, (dir, frag), dirs.get(dir))?;
+        let (_, rank) = self.climb(dirs, (dir, frag), dirs.get(dir), &None)?;
         Some(rank)
     }
 
@@ -54,8 +54,37 @@ impl Subtrees {
     pub fn find_root(&self, dirs: &Dirs, dir: Ino, frag: Frag) -> Option<(Ino, Frag)>
         ensures { MatchOption result ((root : Leaf) → NearestRoot self.now.roots dirs.now.homes dirs.now.trees (dir, frag) root → ⊥) (NearestRoot self.now.roots dirs.now.homes dirs.now.trees (dir, frag)) }
     {
-        let (root, _) = self.climb(dirs, (dir, frag), dirs.get(dir))?;
+        let (root, _) = self.climb(dirs, (dir, frag), dirs.get(dir), &None)?;
         Some(root)
+    }
+
+    /// The same as `find_root`, where a rank asks: it looks into its own list first, and takes a hint of it where the rank that
+    /// the hint names has that root. Takes no memory.
+    pub fn find_root_by(&self, rank: Rank, dirs: &Dirs, dir: Ino, frag: Frag) -> Option<(Ino, Frag)>
+        ensures { MatchOption result ((root : Leaf) → NearestRoot self.now.roots dirs.now.homes dirs.now.trees (dir, frag) root → ⊥) (NearestRoot self.now.roots dirs.now.homes dirs.now.trees (dir, frag)) }
+    {
+        let (root, _) = self.climb(dirs, (dir, frag), dirs.get(dir), &Some(rank))?;
+        Some(root)
+    }
+
+    /// The same as `authority_from`, where a rank asks: it looks into its own list first. Takes no memory.
+    pub fn authority_by<'a>(
+        &self,
+        rank: Rank,
+        dirs: &'a Dirs,
+        leaf: (Ino, Frag),
+        home: Option<&'a Home>,
+    ) -> Rank
+        requires leaf { IsLive dirs.now.homes dirs.now.trees leaf }
+        requires home { option_copied home ≡ map.get dirs.now.homes leaf.0.0 }
+        requires valid { IsSubtrees self.now.roots dirs.now.homes dirs.now.trees }
+        ensures { HasAuthority self.now.roots dirs.entry.now.homes dirs.entry.now.trees leaf result }
+    {
+        dirs.is_table();
+        match self.climb(dirs, leaf, home, &Some(rank)) {
+            Some((_, rank)) => rank,
+            None => unreachable!(),
+        }
     }
 
     /// The leaf of a directory that a hash picks, and the leaf's authority; none exactly where there is no such directory.
@@ -84,7 +113,7 @@ impl Subtrees {
         ensures { HasAuthority self.now.roots dirs.entry.now.homes dirs.entry.now.trees leaf result }
     {
         dirs.is_table();
-        match self.climb(dirs, leaf, home) {
+        match self.climb(dirs, leaf, home, &None) {
             Some((_, rank)) => rank,
             None => unreachable!(),
         }
@@ -142,16 +171,27 @@ impl Subtrees {
         let Some(at) = dirs.leaf_at(parent, rjenkins(name.as_bytes())) else {
             unreachable!()
         };
-        self.climb(dirs, (parent, at.frag), at.home)
+        self.climb(dirs, (parent, at.frag), at.home, &None)
+    }
+
+    // The rank of a root, where a rank asks or none does.
+    fn rank_for(&self, by: &Option<Rank>, dir: Ino, frag: Frag) -> Option<Rank>
+        ensures { result ≡ map.get self.now.roots (dir, frag) }
+    {
+        match by {
+            Some(rank) => self.lists.get_by(*rank, dir, frag),
+            None => self.lists.get(dir, frag),
+        }
     }
 
     // The nearest root of a leaf whose directory stands there, and its rank: one search of the table and one of the roots
-    // for each directory on the way.
+    // for each directory on the way. A rank that asks looks into its own list first.
     fn climb<'a>(
         &self,
         dirs: &'a Dirs,
         leaf: (Ino, Frag),
         home: Option<&'a Home>,
+        by: &Option<Rank>,
     ) -> Option<((Ino, Frag), Rank)>
         requires home { option_copied home ≡ map.get dirs.now.homes leaf.0.0 }
         ensures { FindsRow self.now.roots dirs.entry.now.homes dirs.entry.now.trees leaf result }
@@ -160,7 +200,7 @@ impl Subtrees {
         let mut leaf = leaf;
         let mut home = home;
         loop {
-            if let Some(rank) = self.get(leaf.0, leaf.1) {
+            if let Some(rank) = self.rank_for(by, leaf.0, leaf.1) {
                 return Some((leaf, rank));
             }
             let above = home?;

@@ -6,6 +6,7 @@ mod bounds;
 mod climb;
 mod entries;
 mod filling;
+mod hints;
 pub mod laws;
 mod list_changes;
 mod list_firsts;

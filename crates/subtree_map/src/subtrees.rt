@@ -50,6 +50,14 @@ impl Subtrees {
         self.lists.get(dir, frag)
     }
 
+    /// The same as `get`, where a rank asks: it looks into its own list first, and takes a hint of it where the rank that the
+    /// hint names has that root.
+    pub fn get_by(&self, rank: Rank, dir: Ino, frag: Frag) -> Option<Rank>
+        ensures { result ≡ map.get self.now.roots (dir, frag) }
+    {
+        self.lists.get_by(rank, dir, frag)
+    }
+
     /// Whether a leaf is a root.
     pub fn is_root(&self, dir: Ino, frag: Frag) -> bool
         ensures { result ≡ is_some (map.get self.now.roots (dir, frag)) }

@@ -20,7 +20,7 @@ returns-in-Some c = record {
 pub returns-in_err-above : goal.returns-in_err-above
 returns-in_err-above c =
     rw c.from_residual.ensures (λ root near.
-    none_from_top c.args.self.now.roots c.args.dirs.now.homes c.args.dirs.now.trees c.loop-rank.leaf root (sym c.get.ensures ∙ c.in_default.is)
+    none_from_top c.args.self.now.roots c.args.dirs.now.homes c.args.dirs.now.trees c.loop-rank.leaf root (sym c.rank_for.ensures ∙ c.in_default.is)
     (sym c.loop-rank.invariant.stands ∙ ap option_copied c.in_err-above.was) ((c.loop-rank.invariant.way root).1 near))
 
 pub returns-in_default-leaf_at : goal.returns-in_default-leaf_at
@@ -34,7 +34,7 @@ loop-rank-smaller c =
 
 pub loop-rank-preserved : goal.loop-rank-preserved
 loop-rank-preserved c =
-    let none = sym c.get.ensures ∙ c.in_default.is in
+    let none = sym c.rank_for.ensures ∙ c.in_default.is in
     let stands = sym c.loop-rank.invariant.stands ∙ ap option_copied c.in_ok-above.was in
     let at = c.in-Some-leaf_at.ensures in
     let holds = holds_at c.args.dirs.now.homes c.args.dirs.now.trees c.in_ok-above.above.now c.rjenkins.result c.in-Some-leaf_at.at.frag _ (c.rjenkins.ensures ∙ ap hash_of c.as_bytes.ensures.bytes) at in
