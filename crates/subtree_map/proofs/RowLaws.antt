@@ -1,14 +1,17 @@
 -- One row of one list, and the turns over all lists.
 use Rattle.std.specs.Prelude.{◌≡◌, ◌≢◌, ◌⊎◌, ℕ, zero, suc, ◌+◌, ◌-◌, ◌<◌, ◌≤◌, ◌==◌, if◌then◌else◌, true, false, List, [], ◌∷◌, Option, Some, None, is_some, length, get_or, set, refl}
 use Rattle.std.proofs.Common.{inl, inr, sym, ap, subst, ◌∙◌, arith, length-set, get_or-set_same, get_or-set_other}
-use Rattle.std.proofs.lemmas.Bool.{cases_lt}
+use Rattle.std.proofs.lemmas.Bool.{cases_eq, cases_lt}
 use Rattle.std.specs.FinMap as map
 use Rattle.sorted_map.specs.SortedMap.{contents}
 use Rattle.mds_types.specs.Leaf.{Leaf, leaf_cmp}
 use Rattle.mds_types.proofs.LeafLaws.{get_put, get_beside, get_removed, get_left, same_or_apart}
+use Rattle.mds_types.specs.declared.ids.Rank.{Rank}
+use Rattle.subtree_map.specs.declared.entries.Known.{Known}
+use Rattle.subtree_map.specs.declared.entries.Known.TheVariants.{Nothing, Claim, Hint}
 use Rattle.subtree_map.specs.declared.entries.Entry.{Entry}
 use Rattle.subtree_map.specs.declared.entries.News.{News}
-use Rattle.subtree_map.specs.Lists.{AreEach, HasGrown, HasHints, HasSame, HaveRoom, Hears, IsPut, Rows, claimed, entry_at, heard, makes, no_rows, promised, rows_at, said}
+use Rattle.subtree_map.specs.Lists.{AreEach, Corrects, HasGrown, HasHints, HasSame, HaveRoom, Hears, IsCorrected, IsPut, Rows, claim_of, claimed, corrected, entry_at, heard, hinted, makes, no_rows, promised, rows_at, said}
 use Rattle.subtree_map.proofs.ChildRows.{room_left}
 
 there : (was : Option Entry) (e : Entry) (room left : ℕ) → (if is_some was then room else room - 1) ≤ left → makes was (Some e) ≡ false → room ≤ left
@@ -87,27 +90,66 @@ telling_room leaf home news old now at rows row within so_far here is room made 
 
 -- ---- hints
 
-pub hinted : (old new : Rows) (leaf : Leaf) (was now : Entry) → entry_at old leaf ≡ Some was → claimed was ≡ None → claimed now ≡ None → now.promised ≡ was.promised → contents leaf_cmp new ≡ map.insert (contents leaf_cmp old) leaf now → old.room ≤ new.room → HasHints old new
-hinted old new leaf was now there none also promise is room = record {
-  claims = λ q. elim (same_or_apart q leaf) [
-    | inl same ↦ ap (λ (l : Leaf). said claimed (entry_at new l)) same ∙ ap (said claimed) here ∙ also ∙ sym none ∙ sym (ap (said claimed) there) ∙ ap (λ (l : Leaf). said claimed (entry_at old l)) (sym same)
-    | inr apart ↦ ap (said claimed) (beside q apart)
-  ];
-  promises = λ q. elim (same_or_apart q leaf) [
-    | inl same ↦ ap (λ (l : Leaf). said promised (entry_at new l)) same ∙ ap (said promised) here ∙ promise ∙ sym (ap (said promised) there) ∙ ap (λ (l : Leaf). said promised (entry_at old l)) (sym same)
-    | inr apart ↦ ap (said promised) (beside q apart)
-  ];
-  more = room;
-}
-  where
-    here : entry_at new leaf ≡ Some now
-    here = ap (λ m. map.get m leaf) is ∙ get_put (contents leaf_cmp old) leaf now
-
-    beside : (q : Leaf) → (q ≡ leaf → ⊥) → entry_at new q ≡ entry_at old q
-    beside q apart = ap (λ m. map.get m q) is ∙ get_beside (contents leaf_cmp old) leaf now q apart
-
 pub hints_same : (rows : Rows) → HasHints rows rows
 hints_same rows = record { claims = λ q. refl; promises = λ q. refl; more = omega arith }
+
+-- whatever a hint says, claims and promises stay
+corrected_claims : (o : Option Entry) (rank : Rank) → said claimed (corrected o rank) ≡ said claimed o
+corrected_claims None rank = refl
+corrected_claims (Some e) rank = go e.known
+  where
+    go : (known : Known) → claim_of (hinted known rank) ≡ claim_of known
+    go Nothing = refl
+    go (Claim was) = refl
+    go (Hint was) = refl
+
+corrected_promises : (o : Option Entry) (rank : Rank) → said promised (corrected o rank) ≡ said promised o
+corrected_promises None rank = refl
+corrected_promises (Some e) rank = refl
+
+pub hinted_row : (old new : Rows) (leaf : Leaf) (rank : Rank) (was now : Entry) → entry_at old leaf ≡ Some was → corrected (Some was) rank ≡ Some now → contents leaf_cmp new ≡ map.insert (contents leaf_cmp old) leaf now → old.room ≤ new.room → IsCorrected leaf rank old new
+hinted_row old new leaf rank was now there turns is room = record {
+  here = ap (λ m. map.get m leaf) is ∙ get_put (contents leaf_cmp old) leaf now ∙ sym turns ∙ ap (λ o. corrected o rank) (sym there);
+  others = λ q apart. ap (λ m. map.get m q) is ∙ get_beside (contents leaf_cmp old) leaf now q apart;
+  more = room;
+}
+
+pub no_hint : (rows : Rows) (leaf : Leaf) (rank : Rank) → corrected (entry_at rows leaf) rank ≡ entry_at rows leaf → IsCorrected leaf rank rows rows
+no_hint rows leaf rank same = record { here = sym same; others = λ q apart. refl; more = omega arith }
+
+pub corrected_hints : (old new : Rows) (leaf : Leaf) (rank : Rank) → IsCorrected leaf rank old new → HasHints old new
+corrected_hints old new leaf rank is = record {
+  claims = λ q. elim (same_or_apart q leaf) [
+    | inl same ↦ subst (λ (l : Leaf). said claimed (entry_at new l) ≡ said claimed (entry_at old l)) (sym same) (ap (said claimed) is.here ∙ corrected_claims (entry_at old leaf) rank)
+    | inr apart ↦ ap (said claimed) (is.others q apart)
+  ];
+  promises = λ q. elim (same_or_apart q leaf) [
+    | inl same ↦ subst (λ (l : Leaf). said promised (entry_at new l) ≡ said promised (entry_at old l)) (sym same) (ap (said promised) is.here ∙ corrected_promises (entry_at old leaf) rank)
+    | inr apart ↦ ap (said promised) (is.others q apart)
+  ];
+  more = is.more;
+}
+
+-- one list is another, and the rest stay
+pub one_list : (Becomes : ℕ → Rows → Rows → Type 0) (old now : List Rows) (at : ℕ) (rows : Rows) → at < length old → Becomes at (rows_at old at) rows → ((i : ℕ) (x : Rows) → i ≢ at → Becomes i x x) → now ≡ set old at rows → AreEach Becomes old now
+one_list Becomes old now at rows within become same is = record { many = ap length is ∙ length-set old at rows; each = λ i low. go i (cases_eq i at) }
+  where
+    go : (i : ℕ) → (i ≡ at) ⊎ (i ≢ at) → Becomes i (rows_at old i) (rows_at now i)
+    go i (inl here) =
+        subst (λ (k : ℕ). Becomes k (rows_at old k) (rows_at now k)) (sym here)
+        (subst (λ (x : Rows). Becomes at (rows_at old at) x) (sym (ap (λ (ls : List Rows). rows_at ls at) is ∙ get_or-set_same old at rows no_rows within)) become)
+    go i (inr apart) = subst (λ (x : Rows). Becomes i (rows_at old i) x) (sym (ap (λ (ls : List Rows). rows_at ls i) is ∙ get_or-set_other old at i rows no_rows apart)) (same i (rows_at old i) apart)
+
+pub corrects_one : (leaf : Leaf) (rank : Rank) (old now : List Rows) (at : ℕ) (rows : Rows) → at < length old → IsCorrected leaf rank (rows_at old at) rows → now ≡ set old at rows → AreEach (Corrects leaf rank at) old now
+corrects_one leaf rank old now at rows within is set_is =
+    one_list (Corrects leaf rank at) old now at rows within (λ here. is, λ apart. absurd (apart refl)) (λ i x apart. (λ here. absurd (apart here), λ other. refl)) set_is
+
+pub corrects_hints : (leaf : Leaf) (rank : Rank) (home : ℕ) (old now : List Rows) → AreEach (Corrects leaf rank home) old now → AreEach (λ i. HasHints) old now
+corrects_hints leaf rank home old now is = record { many = is.many; each = λ i low. go i low (cases_eq i home) }
+  where
+    go : (i : ℕ) → i < length old → (i ≡ home) ⊎ (i ≢ home) → HasHints (rows_at old i) (rows_at now i)
+    go i low (inl here) = corrected_hints (rows_at old i) (rows_at now i) leaf rank ((is.each i low).0 here)
+    go i low (inr apart) = subst (λ (x : Rows). HasHints (rows_at old i) x) (sym ((is.each i low).1 apart)) (hints_same (rows_at old i))
 
 pub hints_then : (a b c : Rows) → HasHints a b → HasHints b c → HasHints a c
 hints_then a b c one two = record { claims = λ q. two.claims q ∙ one.claims q; promises = λ q. two.promises q ∙ one.promises q; more = omega (arith, one.more, two.more) }

@@ -189,6 +189,41 @@ pub record HasHints (was now : Rows) : Type 0 where
   pub promises : (leaf : Leaf) → said promised (entry_at now leaf) ≡ said promised (entry_at was leaf)
   pub more : was.room ≤ now.room
 
+-- a hint names this rank, and what else a row says stays
+abbrev pub hinted : Known → Rank → Known
+hinted Nothing rank = Nothing
+hinted (Claim was) rank = Claim was
+hinted (Hint was) rank = Hint rank
+
+abbrev pub corrected : Option Entry → Rank → Option Entry
+corrected None rank = None
+corrected (Some e) rank = Some (record { known = hinted e.known rank; promised = e.promised })
+
+-- where a list has a hint on a leaf, it names this rank; each other row is as it was
+pub record IsCorrected (leaf : Leaf) (rank : Rank) (was now : Rows) : Type 0 where
+  pub here : entry_at now leaf ≡ corrected (entry_at was leaf) rank
+  pub others : (other : Leaf) → other ≢ leaf → entry_at now other ≡ entry_at was other
+  pub more : was.room ≤ now.room
+
+-- one list is corrected, and each other one is as it was
+abbrev pub Corrects : Leaf → Rank → ℕ → ℕ → Rows → Rows → Type 0
+Corrects leaf rank home i was now = (i ≡ home → IsCorrected leaf rank was now) × (i ≢ home → now ≡ was)
+
+-- a rank hears whose a leaf is: where it doesn't claim it, it has a hint on it
+abbrev pub knows : Known → Rank → Known
+knows Nothing rank = Hint rank
+knows (Claim was) rank = Claim was
+knows (Hint was) rank = Hint rank
+
+abbrev pub learnt : Option Entry → Rank → Entry
+learnt was rank = record { known = knows (entry_of was).known rank; promised = (entry_of was).promised }
+
+-- a list claims what it claimed, and has the promises that it had, and so many places less at most
+pub record HasLearnt (count : ℕ) (was now : Rows) : Type 0 where
+  pub claims : (leaf : Leaf) → said claimed (entry_at now leaf) ≡ said claimed (entry_at was leaf)
+  pub promises : (leaf : Leaf) → said promised (entry_at now leaf) ≡ said promised (entry_at was leaf)
+  pub less : was.room ≤ now.room + count
+
 -- a leaf behind another, or any where there is no other
 abbrev pub is_after : Option Leaf → Leaf → Bool
 is_after None leaf = true

@@ -1,12 +1,14 @@
 //! Changes of all ranks' lists that no news of one leaf makes: room, the rows of a directory, hints.
-ghost use Rattle.std.specs.Prelude.{◌≡◌, None, Some, OnOk, OnErr, IfSome, MatchOption, IsSome};
+ghost use Rattle.std.specs.Prelude.{◌≡◌, ◌<◌, length, None, Some, OnOk, OnErr, IfSome, MatchOption, IsSome};
 ghost use Rattle.sorted_map.specs.SortedMap.{contents, is_from};
 ghost use Rattle.mds_types.specs.Leaf.{Leaf, leaf_cmp};
-ghost use Rattle.subtree_map.specs.Lists.{AreEach, HasDropped, HasGrown, HasHints, HasSame, claimed, entry_at};
+ghost use Rattle.subtree_map.specs.Lists.{AreEach, Corrects, IsCorrected, HasDropped, HasGrown, HasHints, HasSame, claimed, corrected, entry_at, home_of};
+ghost use Rattle.mds_types.specs.declared.ids.Rank.{Rank as RankNumber};
+ghost use Rattle.subtree_map.specs.declared.entries.Known.TheVariants.{Hint};
 ghost use Rattle.subtree_map.specs.Rows.{IsFirstRow};
 
 use crate::entries::{Entry, Known};
-use crate::list_rows::Rows;
+use crate::list_rows::{Rows, home_of};
 use mds_types::{Frag, Ino, Rank};
 use std::alloc::AllocError;
 
@@ -69,6 +71,16 @@ pub(crate) fn hint_each(lists: &mut [Rows], rank: Rank)
     }
 }
 
+/// Where a rank has a hint on a leaf, it names another from then on: a row of that rank's own list.
+pub(crate) fn correct(lists: &mut [Rows], rank: Rank, leaf: &(Ino, Frag), of: Rank)
+    requires { 0 < length lists.old }
+    ensures { AreEach (Corrects leaf.now of (home_of (length lists.old) rank.0)) lists.old lists.new }
+{
+    let home = home_of(lists.len(), rank);
+    let rows = &mut lists[home];
+    hint(rows, leaf, of);
+}
+
 // Each hint of a list names this rank.
 fn hint_all(rows: &mut Rows, rank: Rank)
     ensures { HasHints rows.old rows.new }
@@ -92,9 +104,9 @@ fn first_after(rows: &Rows, leaf: &(Ino, Frag)) -> Option<(Ino, Frag)> {
     Some(rows.iter_after(leaf).next()?.0)
 }
 
-/// Where a list has a hint on a leaf, it names this rank.
-pub(crate) fn hint(rows: &mut Rows, leaf: &(Ino, Frag), rank: Rank)
-    ensures { HasHints rows.old rows.new }
+// Where a list has a hint on a leaf, it names this rank.
+fn hint(rows: &mut Rows, leaf: &(Ino, Frag), rank: Rank)
+    ensures { IsCorrected leaf.now rank rows.old rows.new }
 {
     if let Some(entry) = hint_in(rows, leaf) {
         let _ = rows.replace(
@@ -109,7 +121,7 @@ pub(crate) fn hint(rows: &mut Rows, leaf: &(Ino, Frag), rank: Rank)
 
 // The row of a leaf, if it is a hint.
 fn hint_in(rows: &Rows, leaf: &(Ino, Frag)) -> Option<Entry>
-    ensures { IfSome result (λ entry. (entry_at rows.now leaf.now ≡ Some entry) × (claimed entry ≡ None)) }
+    ensures { MatchOption result ((rank : RankNumber) → corrected (entry_at rows.now leaf.now) rank ≡ entry_at rows.now leaf.now) (λ entry. (entry_at rows.now leaf.now ≡ Some entry) × ((rank : RankNumber) → corrected (Some entry) rank ≡ Some (record { known = Hint rank; promised = entry.promised }))) }
 {
     let entry = *rows.get(leaf)?;
     match entry.known {

@@ -1,6 +1,6 @@
 //! The rows of one rank's list, and of the lists of all ranks.
 ghost use Rattle.std.specs.Prelude.{◌≡◌, ◌<◌, true, length};
-ghost use Rattle.subtree_map.specs.Lists.{AreEach, HaveRoom, Hears, IsPut, claimed, entry_at, found, heard, makes, promised, said};
+ghost use Rattle.subtree_map.specs.Lists.{AreEach, HaveRoom, Hears, IsPut, claimed, entry_at, found, heard, home_of, makes, promised, said};
 
 use crate::entries::{Entry, News, claimed, heard};
 use mds_types::{Frag, Ino, Rank};
@@ -78,4 +78,14 @@ fn put_row(rows: &mut Rows, leaf: (Ino, Frag), row: Option<Entry>)
             let _ = rows.remove(&leaf);
         }
     }
+}
+
+/// The place of the list of a rank: its own, or the last one where it has none.
+pub(crate) fn home_of(lists: usize, rank: Rank) -> usize
+    requires { 0 < lists }
+    ensures home { result ≡ home_of lists rank.0 }
+    ensures within { result < lists }
+{
+    let index = usize::from(rank.0);
+    if index < lists { index } else { lists - 1 }
 }

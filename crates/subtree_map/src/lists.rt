@@ -7,9 +7,9 @@ ghost use Rattle.subtree_map.specs.Lists.{AreEach, HasGrown, HasHints, HasSame, 
 ghost use Rattle.subtree_map.specs.Rows.{IsFirst};
 
 use crate::entries::{Known, News};
-use crate::list_changes::{drop_each, hint, hint_each, reserve_each};
+use crate::list_changes::{correct, drop_each, hint_each, reserve_each};
 use crate::list_firsts::first_claim;
-use crate::list_rows::{Rows, claim_by, claim_in, promise_in, tell};
+use crate::list_rows::{Rows, claim_by, claim_in, home_of, promise_in, tell};
 use mds_types::{Frag, Ino, Rank, Refusal};
 use sorted_map::SortedMap;
 use std::alloc::{AllocError, Global};
@@ -189,8 +189,7 @@ impl Lists {
         let Some(of) = self.get(dir, frag) else {
             return;
         };
-        let home = home_of(self.lists.len(), rank);
-        hint_at(&mut self.lists, home, &(dir, frag), of);
+        correct(&mut self.lists, rank, &(dir, frag), of);
     }
 
     /// Each hint of each list names this rank.
@@ -221,16 +220,6 @@ fn empty_lists(alloc: Global, count: u8) -> Result<Vec<Rows>, AllocError>
     Ok(lists)
 }
 
-// The list of a rank: its own, or the last one where it has none.
-fn home_of(lists: usize, rank: Rank) -> usize
-    requires { 0 < lists }
-    ensures home { result ≡ home_of lists rank.0 }
-    ensures within { result < lists }
-{
-    let index = usize::from(rank.0);
-    if index < lists { index } else { lists - 1 }
-}
-
 // The rank of a root, where the list of a rank claims it or has a hint that is right.
 fn known_by(lists: &[Rows], rank: Rank, leaf: &(Ino, Frag)) -> Option<Rank>
     requires { 0 < length lists.now }
@@ -242,13 +231,4 @@ fn known_by(lists: &[Rows], rank: Rank, leaf: &(Ino, Frag)) -> Option<Rank>
         Known::Hint(rank) => claim_by(&lists[home_of(lists.len(), rank)], leaf),
         Known::Nothing => None,
     }
-}
-
-// Where the list at a place has a hint on a leaf, it names this rank.
-fn hint_at(lists: &mut [Rows], at: usize, leaf: &(Ino, Frag), rank: Rank)
-    requires { at < length lists.old }
-    ensures { AreEach (λ i. HasHints) lists.old lists.new }
-{
-    let rows = &mut lists[at];
-    hint(rows, leaf, rank);
 }

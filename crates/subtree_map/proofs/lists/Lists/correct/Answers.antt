@@ -2,15 +2,16 @@ use Rattle.std.proofs.Common.{List, length, ap, subst, ◌∙◌}
 use Rattle.subtree_map.specs.Authority.{Roots}
 use Rattle.subtree_map.specs.Lists.{AreEach, HasHints, Rows}
 use Rattle.subtree_map.proofs.ListsLaws.{closing, same_value, say_hints}
+use Rattle.subtree_map.proofs.RowLaws.{corrects_hints}
 use Rattle.subtree_map.proofs.lists.Lists.correct.Goals as goal
 
 pub invariant_of-self : goal.invariant_of-self
 invariant_of-self c =
-    (closing c.self.inside.lists c.self.inside.room c.args.self.now c.self.view_is c.hint_at.new.lists c.self.inside.room (λ (m : Roots). m) (λ (m : Roots). m) (c.hint_at.ensures.many ∙ ap length c.deref_mut.ensures.value)
-    (say_hints c.self.inside.lists.items c.hint_at.new.lists c.self.inside.room c.self.invariant (subst (λ (ls : List Rows). AreEach (λ i. HasHints) ls c.hint_at.new.lists) c.deref_mut.ensures.value c.hint_at.ensures))).valid
+    (closing c.self.inside.lists c.self.inside.room c.args.self.now c.self.view_is c.correct.new.lists c.self.inside.room (λ (m : Roots). m) (λ (m : Roots). m) (c.correct.ensures.many ∙ ap length c.deref_mut.ensures.value)
+    (say_hints c.self.inside.lists.items c.correct.new.lists c.self.inside.room c.self.invariant (subst (λ (ls : List Rows). AreEach (λ i. HasHints) ls c.correct.new.lists) c.deref_mut.ensures.value (corrects_hints _ _ _ c.deref_mut.result.now c.correct.new.lists c.correct.ensures)))).valid
 
 pub returns : goal.returns
 returns c =
     same_value c.self.inside.lists c.self.inside.room c.args.self.now c.self.view_is _ c.self.inside.room
-    (closing c.self.inside.lists c.self.inside.room c.args.self.now c.self.view_is c.hint_at.new.lists c.self.inside.room (λ (m : Roots). m) (λ (m : Roots). m) (c.hint_at.ensures.many ∙ ap length c.deref_mut.ensures.value)
-    (say_hints c.self.inside.lists.items c.hint_at.new.lists c.self.inside.room c.self.invariant (subst (λ (ls : List Rows). AreEach (λ i. HasHints) ls c.hint_at.new.lists) c.deref_mut.ensures.value c.hint_at.ensures)))
+    (closing c.self.inside.lists c.self.inside.room c.args.self.now c.self.view_is c.correct.new.lists c.self.inside.room (λ (m : Roots). m) (λ (m : Roots). m) (c.correct.ensures.many ∙ ap length c.deref_mut.ensures.value)
+    (say_hints c.self.inside.lists.items c.correct.new.lists c.self.inside.room c.self.invariant (subst (λ (ls : List Rows). AreEach (λ i. HasHints) ls c.correct.new.lists) c.deref_mut.ensures.value (corrects_hints _ _ _ c.deref_mut.result.now c.correct.new.lists c.correct.ensures))))
