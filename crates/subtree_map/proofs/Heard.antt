@@ -22,11 +22,11 @@ promises_row e (Claim rank) p is = refl
 promises_row e (Hint rank) p is = refl
 
 -- a list without a row says nothing
-claims_entry : (o : Option Entry) → claim_of (entry_of o).known ≡ said claimed o
+pub claims_entry : (o : Option Entry) → claim_of (entry_of o).known ≡ said claimed o
 claims_entry None = refl
 claims_entry (Some e) = refl
 
-promises_entry : (o : Option Entry) → (entry_of o).promised ≡ said promised o
+pub promises_entry : (o : Option Entry) → (entry_of o).promised ≡ said promised o
 promises_entry None = refl
 promises_entry (Some e) = refl
 

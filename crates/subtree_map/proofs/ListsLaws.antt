@@ -16,7 +16,7 @@ use Rattle.subtree_map.specs.declared.entries.News.{News}
 use Rattle.subtree_map.specs.declared.entries.News.TheVariants.{Claimed, Ended, Handed, Promised, Withdrawn}
 use Rattle.subtree_map.specs.Authority.{Roots}
 use Rattle.subtree_map.specs.Changes.{AreGone, Subtrees}
-use Rattle.subtree_map.specs.Lists.{AreEach, AreLists, HasDropped, HasGrown, HasHints, HasSame, HaveNone, HaveRoom, Hears, IsClaimed, Rows, claimed, entry_at, found, heard, home_of, makes, no_rows, promised, rows_at, said, says_at, told}
+use Rattle.subtree_map.specs.Lists.{AreEach, AreLists, HasDropped, HasGrown, HasHints, HasLearnt, HasSame, HaveNone, HaveRoom, Hears, IsClaimed, Rows, claimed, entry_at, found, heard, home_of, makes, no_rows, promised, rows_at, said, says_at, told}
 use Rattle.subtree_map.proofs.Heard.{claims_claimed, claims_ended, claims_handed, claims_promised, claims_withdrawn, ended_makes, handed_makes, promises_claimed, promises_ended, promises_handed, promises_promised, promises_withdrawn, withdrawn_makes}
 use Rattle.subtree_map.proofs.ToldLaws.{found_at, get_told, none_there, nowhere, once_fewer, once_set, some_at, told_cleared, told_gone, told_same, told_set}
 
@@ -262,6 +262,11 @@ pub say_hints : (old now : List Rows) (room : ℕ) → AreLists room old → Are
 say_hints old now room valid is =
     say_same old now room room is.many valid (λ i q. at_each (λ k. HasHints) old now is claimed q (λ k a b has. has.claims q) i) (λ i q. at_each (λ k. HasHints) old now is promised q (λ k a b has. has.promises q) i)
     (λ i low. let within : i < length old = subst (λ n. i < n) is.many low in omega (arith, valid.roomy i within, (is.each i within).more))
+
+pub say_learnt : (old now : List Rows) (room left count : ℕ) → left + count ≤ room → AreLists room old → AreEach (λ i. HasLearnt count) old now → Say left now (told claimed old) (told promised old)
+say_learnt old now room left count enough valid is =
+    say_same old now room left is.many valid (λ i q. at_each (λ k. HasLearnt count) old now is claimed q (λ k a b has. has.claims q) i) (λ i q. at_each (λ k. HasLearnt count) old now is promised q (λ k a b has. has.promises q) i)
+    (λ i low. let within : i < length old = subst (λ n. i < n) is.many low in omega (arith, enough, valid.roomy i within, (is.each i within).less))
 
 -- a directory that goes
 module _ (d : ℕ) (old now : List Rows) (is : AreEach (λ i. HasDropped d) old now) where

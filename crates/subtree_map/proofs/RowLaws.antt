@@ -11,8 +11,9 @@ use Rattle.subtree_map.specs.declared.entries.Known.{Known}
 use Rattle.subtree_map.specs.declared.entries.Known.TheVariants.{Nothing, Claim, Hint}
 use Rattle.subtree_map.specs.declared.entries.Entry.{Entry}
 use Rattle.subtree_map.specs.declared.entries.News.{News}
-use Rattle.subtree_map.specs.Lists.{AreEach, Corrects, HasGrown, HasHints, HasSame, HaveRoom, Hears, IsCorrected, IsPut, Rows, claim_of, claimed, corrected, entry_at, heard, hinted, makes, no_rows, promised, rows_at, said}
+use Rattle.subtree_map.specs.Lists.{AreEach, Corrects, HasGrown, HasHints, HasLearnt, HasSame, HaveRoom, Hears, IsCorrected, IsPut, Rows, claim_of, claimed, corrected, entry_at, entry_of, heard, hinted, knows, learnt, makes, no_rows, promised, rows_at, said}
 use Rattle.subtree_map.proofs.ChildRows.{room_left}
+use Rattle.subtree_map.proofs.Heard.{claims_entry, promises_entry}
 
 there : (was : Option Entry) (e : Entry) (room left : ℕ) → (if is_some was then room else room - 1) ≤ left → makes was (Some e) ≡ false → room ≤ left
 there None e room left is made = let clash : true ≡ false = made in cc
@@ -163,3 +164,47 @@ grown_same additional old now at so_far = record { many = so_far.many; each = λ
     go : (i : ℕ) → (i < at) ⊎ (at ≤ i) → HasSame (rows_at old i) (rows_at now i)
     go i (inl less) = let done = so_far.done i less in record { same = done.same; more = done.more }
     go i (inr more) = subst (λ (x : Rows). HasSame (rows_at old i) x) (sym (so_far.rest i more)) (record { same = refl; more = omega arith })
+
+-- ---- what a rank is told
+
+learnt_claims : (o : Option Entry) (rank : Rank) → claimed (learnt o rank) ≡ said claimed o
+learnt_claims o rank = go (entry_of o).known ∙ claims_entry o
+  where
+    go : (known : Known) → claim_of (knows known rank) ≡ claim_of known
+    go Nothing = refl
+    go (Claim was) = refl
+    go (Hint was) = refl
+
+pub learnt_row : (old new : Rows) (leaf : Leaf) (rank : Rank) (was : Option Entry) → was ≡ entry_at old leaf → contents leaf_cmp new ≡ map.insert (contents leaf_cmp old) leaf (learnt (entry_at old leaf) rank) → (if is_some was then old.room else old.room - 1) ≤ new.room → HasLearnt 1 old new
+learnt_row old new leaf rank was has is room = record {
+  claims = λ q. elim (same_or_apart q leaf) [
+    | inl same ↦ subst (λ (l : Leaf). said claimed (entry_at new l) ≡ said claimed (entry_at old l)) (sym same) (ap (said claimed) here ∙ learnt_claims (entry_at old leaf) rank)
+    | inr apart ↦ ap (said claimed) (beside q apart)
+  ];
+  promises = λ q. elim (same_or_apart q leaf) [
+    | inl same ↦ subst (λ (l : Leaf). said promised (entry_at new l) ≡ said promised (entry_at old l)) (sym same) (ap (said promised) here ∙ promises_entry (entry_at old leaf))
+    | inr apart ↦ ap (said promised) (beside q apart)
+  ];
+  less = room_left was old.room new.room room;
+}
+  where
+    here : entry_at new leaf ≡ Some (learnt (entry_at old leaf) rank)
+    here = ap (λ m. map.get m leaf) is ∙ get_put (contents leaf_cmp old) leaf (learnt (entry_at old leaf) rank)
+
+    beside : (q : Leaf) → (q ≡ leaf → ⊥) → entry_at new q ≡ entry_at old q
+    beside q apart = ap (λ m. map.get m q) is ∙ get_beside (contents leaf_cmp old) leaf (learnt (entry_at old leaf) rank) q apart
+
+pub learnt_none : (count : ℕ) (rows : Rows) → HasLearnt count rows rows
+learnt_none count rows = record { claims = λ q. refl; promises = λ q. refl; less = omega arith }
+
+pub none_learnt : (count : ℕ) (lists : List Rows) → AreEach (λ i. HasLearnt count) lists lists
+none_learnt count lists = record { many = refl; each = λ i low. learnt_none count (rows_at lists i) }
+
+pub learnt_one : (old now : List Rows) (at : ℕ) (rows : Rows) → at < length old → HasLearnt 1 (rows_at old at) rows → now ≡ set old at rows → AreEach (λ i. HasLearnt 1) old now
+learnt_one old now at rows within has is = one_list (λ i. HasLearnt 1) old now at rows within has (λ i x apart. learnt_none 1 x) is
+
+pub learnt_more : (count : ℕ) (a b c : List Rows) → AreEach (λ i. HasLearnt count) a b → AreEach (λ i. HasLearnt 1) b c → AreEach (λ i. HasLearnt (count + 1)) a c
+learnt_more count a b c one two = record { many = two.many ∙ one.many; each = λ i low. joined i (one.each i low) (two.each i (subst (λ n. i < n) (sym one.many) low)) }
+  where
+    joined : (i : ℕ) → HasLearnt count (rows_at a i) (rows_at b i) → HasLearnt 1 (rows_at b i) (rows_at c i) → HasLearnt (count + 1) (rows_at a i) (rows_at c i)
+    joined i first next = record { claims = λ q. next.claims q ∙ first.claims q; promises = λ q. next.promises q ∙ first.promises q; less = omega (arith, first.less, next.less) }

@@ -1,6 +1,6 @@
 //! What a rank's list says of a leaf, and what it says once it has heard news of it.
 ghost use Rattle.std.specs.Prelude.{◌≡◌};
-ghost use Rattle.subtree_map.specs.Lists.{claimed, demoted, entry_of, heard, known_after, promised_after, row_of};
+ghost use Rattle.subtree_map.specs.Lists.{claimed, demoted, entry_of, heard, known_after, knows, learnt, promised_after, row_of};
 
 use mds_types::Rank;
 
@@ -46,6 +46,27 @@ pub(crate) fn heard(was: Option<Entry>, own: bool, news: News) -> Option<Entry>
         known: known_after(was.known, own, news),
         promised: promised_after(was.promised, own, news),
     })
+}
+
+/// What a list says of a leaf that has heard whose it is: where it doesn't claim it, it has a hint on it.
+pub(crate) fn learnt(was: Option<Entry>, rank: Rank) -> Entry
+    ensures { result ≡ learnt was rank }
+{
+    let was = entry_of(was);
+    Entry {
+        known: knows(was.known, rank),
+        promised: was.promised,
+    }
+}
+
+fn knows(known: Known, rank: Rank) -> Known
+    ensures { result ≡ knows known rank }
+{
+    match known {
+        Known::Nothing => Known::Hint(rank),
+        Known::Claim(was) => Known::Claim(was),
+        Known::Hint(_) => Known::Hint(rank),
+    }
 }
 
 /// The rank that a row claims a leaf for.

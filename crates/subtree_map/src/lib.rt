@@ -10,6 +10,7 @@ mod hints;
 pub mod laws;
 mod list_changes;
 mod list_firsts;
+mod list_learning;
 mod list_rows;
 mod lists;
 mod merges;

@@ -9,6 +9,7 @@ ghost use Rattle.subtree_map.specs.Rows.{IsFirst};
 use crate::entries::{Known, News};
 use crate::list_changes::{correct, drop_each, hint_each, reserve_each};
 use crate::list_firsts::first_claim;
+use crate::list_learning::learn_all;
 use crate::list_rows::{Rows, claim_by, claim_in, home_of, promise_in, tell};
 use mds_types::{Frag, Ino, Rank, Refusal};
 use sorted_map::SortedMap;
@@ -147,7 +148,7 @@ impl Lists {
         ensures err { IfErr result (λ reason. reason ≡ NoMemory) }
         ensures left { OnErr result (self.new ≡ self.old) }
     {
-        reserve_more(&mut self.lists, self.room)?;
+        reserve_more(&mut self.lists, self.room, 1)?;
         let home = home_of(self.lists.len(), rank);
         tell(&mut self.lists, (dir, frag), home, News::Promised(rank));
         Ok(())
@@ -192,6 +193,23 @@ impl Lists {
         correct(&mut self.lists, rank, &(dir, frag), of);
     }
 
+    /// A rank hears whose these leaves are: it has a hint on each that is a root of another. Refused for want of memory alone.
+    pub(crate) fn learn(&mut self, rank: Rank, leaves: &[(Ino, Frag)]) -> Result<(), Refusal>
+        ensures same { self.new ≡ self.old }
+        ensures err { IfErr result (λ reason. reason ≡ NoMemory) }
+    {
+        reserve_more(&mut self.lists, self.room, leaves.len())?;
+        let home = home_of(self.lists.len(), rank);
+        learn_all(&mut self.lists, home, leaves);
+        Ok(())
+    }
+
+    /// The rank that a rank's hint on a leaf names.
+    pub(crate) fn hint(&self, rank: Rank, dir: Ino, frag: Frag) -> Option<Rank> {
+        let _ = self.room;
+        hint_by(&self.lists, rank, &(dir, frag))
+    }
+
     /// Each hint of each list names this rank.
     pub(crate) fn set_hints(&mut self, rank: Rank)
         ensures { self.new ≡ self.old }
@@ -200,13 +218,13 @@ impl Lists {
     }
 }
 
-// Makes room for so many more rows in each list, and one.
-fn reserve_more(lists: &mut [Rows], room: usize) -> Result<(), AllocError>
-    ensures ok { OnOk result (AreEach (λ i. HasGrown (room + 1)) lists.old lists.new) }
+// Makes room for so many more rows in each list, and so many besides.
+fn reserve_more(lists: &mut [Rows], room: usize, more: usize) -> Result<(), AllocError>
+    ensures ok { OnOk result (AreEach (λ i. HasGrown (room + more)) lists.old lists.new) }
     ensures left { OnErr result (AreEach (λ i. HasSame) lists.old lists.new) }
 {
-    let more = room.checked_add(1).ok_or(AllocError)?;
-    reserve_each(lists, more)
+    let all = room.checked_add(more).ok_or(AllocError)?;
+    reserve_each(lists, all)
 }
 
 // So many lists with no row.
@@ -218,6 +236,18 @@ fn empty_lists(alloc: Global, count: u8) -> Result<Vec<Rows>, AllocError>
         lists.push(SortedMap::new(alloc))?;
     }
     Ok(lists)
+}
+
+// The rank that the hint of a rank's list on a leaf names.
+fn hint_by(lists: &[Rows], rank: Rank, leaf: &(Ino, Frag)) -> Option<Rank>
+    requires { 0 < length lists.now }
+{
+    let entry = *lists[home_of(lists.len(), rank)].get(leaf)?;
+    match entry.known {
+        Known::Hint(of) => Some(of),
+        Known::Nothing => None,
+        Known::Claim(_) => None,
+    }
 }
 
 // The rank of a root, where the list of a rank claims it or has a hint that is right.

@@ -1,0 +1,9 @@
+use Rattle.std.proofs.Common.{subst, sym, refl, ◌∙◌}
+use Rattle.subtree_map.specs.Lists.{HasLearnt, Rows}
+use Rattle.subtree_map.proofs.RowLaws.{at_index, learnt_one, none_learnt}
+use Rattle.subtree_map.proofs.list_learning.learn_one.Goals as goal
+
+pub returns-in-Some : goal.returns-in-Some
+returns-in-Some c =
+    learnt_one c.args.lists.now _ c.args.home c.learn.new.rows c.requires.there
+    (subst (λ (rows : Rows). HasLearnt 1 rows c.learn.new.rows) (sym c.index-lists-home.is ∙ at_index c.args.lists.now c.args.home c.index-lists-home.result c.requires.there c.index-lists-home.is) c.learn.ensures) refl
