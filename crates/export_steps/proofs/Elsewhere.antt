@@ -11,7 +11,7 @@ use Rattle.export_steps.specs.Standing.{Standing, ArePlaced, IsFinish, IsFreeze,
 use Rattle.export_steps.specs.Holder.{IsFrozen}
 use Rattle.export_steps.specs.Regions.{AreFrozenRegionsKept, IsMakingElsewhere, IsMergeElsewhere, IsMoveElsewhere, IsRemovalElsewhere, IsSplitElsewhere, StandsOver}
 use Rattle.export_steps.proofs.Handover.{back, beside, cut, onto, uncut}
-use Rattle.export_steps.proofs.Placed.{finishes_placed}
+use Rattle.export_steps.proofs.Placed.{finishes_placed, prepared_freezing}
 use Rattle.subtree_map.proofs.Options.{one_value}
 use Rattle.export_steps.proofs.Directories as directories
 use Rattle.export_steps.proofs.Merges as merges
@@ -27,7 +27,7 @@ keeps_place : (standing : Standing) (was now : Subtrees) → now.promises ≡ wa
     → ArePlaced standing was → ArePlaced standing now
 keeps_place standing was now promises same placed = record {
   ranked = λ root export stands freezing. same root export stands freezing ∙ placed.ranked root export stands freezing;
-  promised = λ root export stands freezing. ap (λ (m : Roots). map.get m root) promises ∙ placed.promised root export stands freezing;
+  promised = λ root export stands prepared. ap (λ (m : Roots). map.get m root) promises ∙ placed.promised root export stands prepared;
 }
 
 pub after_split : (standing : Standing) (was now : Subtrees) (homes : Homes) (covers later : Covers) → StandsOver standing was homes covers → IsSplitElsewhere standing was now homes covers later → AreFrozenRegionsKept standing was now homes homes covers later
@@ -89,8 +89,7 @@ after_freeze old new was now root is placed homes covers thawed = record {
   placed = record {
     ranked = λ other export stands freezing.
         beside was.roots now.roots root is.step.export.exporter is.roots homes covers other (other_root other export stands freezing) ∙ placed.ranked other export stands freezing;
-    promised = λ other export stands freezing.
-        beside was.promises now.promises root is.step.export.importer is.promises homes covers other (other_root other export stands freezing) ∙ placed.promised other export stands freezing;
+    promised = λ other export stands prepared. ap (λ (m : Roots). map.get m other) is.promises ∙ placed.promised other export stands prepared;
   };
 }
   where
@@ -134,7 +133,7 @@ after_removal standing was now homes later_homes covers later_covers over is = r
       root was.roots now.roots is.dir is.roots homes covers over.table over.valid is.childless (freezing_root standing was root export over.placed stands freezing) (thawed root export stands freezing) leaf));
   placed = record {
     ranked = λ root export stands freezing. is.roots.others root (apart root export stands freezing) ∙ over.placed.ranked root export stands freezing;
-    promised = λ root export stands freezing. is.promises.others root (apart root export stands freezing) ∙ over.placed.promised root export stands freezing;
+    promised = λ root export stands prepared. is.promises.others root (apart root export stands (prepared_freezing export.state prepared)) ∙ over.placed.promised root export stands prepared;
   };
 }
   where

@@ -7,9 +7,9 @@ use Rattle.mds_types.specs.declared.refusals.Refusal.{Refusal}
 use Rattle.mds_types.specs.declared.refusals.Refusal.TheVariants.{NoMemory, WrongExportState}
 use Rattle.mds_types.specs.Leaf.{Leaf}
 use Rattle.subtree_map.specs.Changes.{Subtrees}
-use Rattle.export_steps.specs.declared.exports.ExportState.TheVariants.{Started, Frozen, Imported}
+use Rattle.export_steps.specs.declared.exports.ExportState.TheVariants.{Started, Frozen, Prepared, Imported}
 use Rattle.export_steps.specs.declared.exports.StandingExport.{StandingExport}
-use Rattle.export_steps.specs.Standing.{Standing, ArePlaced, IsFinish, IsFreeze, Starts, come_to, is_freezing}
+use Rattle.export_steps.specs.Standing.{Standing, ArePlaced, IsFinish, IsFreeze, IsPrep, Starts, come_to, is_freezing, is_prepared}
 
 is_none : {A : Type 0} (o : Option A) → is_some o ≡ false → o ≡ None
 is_none None absent = refl
@@ -27,8 +27,16 @@ module _ (old new : Standing) (root : Leaf) where
   started exporter importer (Err reason) absent changed why left = (inr (why, is_none _ absent), left)
 
   pub frozen : (was now : Subtrees) (export : StandingExport) → map.get old root ≡ Some export → export.state ≡ Started → new ≡ map.insert old root (come_to Frozen export) → now.roots ≡ map.insert was.roots root export.exporter
-      → now.promises ≡ map.insert was.promises root export.importer → IsFreeze old new was now root
+      → now.promises ≡ was.promises → IsFreeze old new was now root
   frozen was now export stood state changed roots promises = record {
+    step = record { export = export; stood = stood; was = state; changed = changed };
+    roots = roots;
+    promises = promises;
+  }
+
+  pub prepared : (was now : Subtrees) (export : StandingExport) → map.get old root ≡ Some export → export.state ≡ Frozen → new ≡ map.insert old root (come_to Prepared export) → now.roots ≡ was.roots
+      → now.promises ≡ map.insert was.promises root export.importer → IsPrep old new was now root
+  prepared was now export stood state changed roots promises = record {
     step = record { export = export; stood = stood; was = state; changed = changed };
     roots = roots;
     promises = promises;
@@ -39,7 +47,7 @@ module _ (old new : Standing) (root : Leaf) where
   is_root was export stood state placed = ap is_some (placed.ranked root export stood (ap is_freezing state))
 
   pub is_promised : (was : Subtrees) (export : StandingExport) → map.get old root ≡ Some export → export.state ≡ Imported → ArePlaced old was → map.get was.promises root ≡ Some export.importer
-  is_promised was export stood state placed = placed.promised root export stood (ap is_freezing state)
+  is_promised was export stood state placed = placed.promised root export stood (ap is_prepared state)
 
   pub finished : (was now : Subtrees) (export : StandingExport) → map.get old root ≡ Some export → export.state ≡ Imported → ArePlaced old was
       → ((rank : Rank) → map.get was.promises root ≡ Some rank → now.roots ≡ map.insert was.roots root rank) → now.promises ≡ map.remove was.promises root → new ≡ map.remove old root → IsFinish old new was now root

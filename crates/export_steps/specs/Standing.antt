@@ -39,6 +39,14 @@ is_freezing Prepared = true
 is_freezing Sent = true
 is_freezing Imported = true
 
+-- from Prep to the end of the export its region is promised to the importer
+abbrev pub is_prepared : ExportState → Bool
+is_prepared Started = false
+is_prepared Frozen = false
+is_prepared Prepared = true
+is_prepared Sent = true
+is_prepared Imported = true
+
 -- an export can be cancelled before Send
 abbrev pub is_before_send : ExportState → Bool
 is_before_send Started = true
@@ -73,15 +81,25 @@ pub record AreKept (old new : Subtrees) : Type 0 where
   pub roots : new.roots ≡ old.roots
   pub promises : new.promises ≡ old.promises
 
--- Freeze: the export goes from started to frozen, and its root is a subtree root of the exporter, promised to the importer
+-- Freeze: the export goes from started to frozen, and its root is a subtree root of the exporter
 pub record IsFreeze (old new : Standing) (was now : Subtrees) (root : Leaf) : Type 0 where
   pub step : ComesTo old new root Started Frozen
   pub roots : now.roots ≡ map.insert was.roots root step.export.exporter
-  pub promises : now.promises ≡ map.insert was.promises root step.export.importer
+  pub promises : now.promises ≡ was.promises
 
 abbrev pub Freezes : Standing → Standing → Subtrees → Subtrees → Leaf → Result (Unit {0}) Refusal → Type 0
 Freezes old new was now root (Ok done) = IsFreeze old new was now root
 Freezes old new was now root (Err reason) = (((reason ≡ WrongExportState) × (state_at old root ≢ Some Started)) ⊎ ((reason ≡ NoMemory) × (state_at old root ≡ Some Started))) × (new ≡ old) × AreKept was now
+
+-- Prep: the export goes from frozen to prepared, and its root is promised to the importer
+pub record IsPrep (old new : Standing) (was now : Subtrees) (root : Leaf) : Type 0 where
+  pub step : ComesTo old new root Frozen Prepared
+  pub roots : now.roots ≡ was.roots
+  pub promises : now.promises ≡ map.insert was.promises root step.export.importer
+
+abbrev pub Preps : Standing → Standing → Subtrees → Subtrees → Leaf → Result (Unit {0}) Refusal → Type 0
+Preps old new was now root (Ok done) = IsPrep old new was now root
+Preps old new was now root (Err reason) = (((reason ≡ WrongExportState) × (state_at old root ≢ Some Frozen)) ⊎ ((reason ≡ NoMemory) × (state_at old root ≡ Some Frozen))) × (new ≡ old) × AreKept was now
 
 -- Finish: an imported export ends, and its root is a subtree root of the importer, promised to no one
 pub record IsFinish (old new : Standing) (was now : Subtrees) (root : Leaf) : Type 0 where
@@ -109,7 +127,8 @@ abbrev pub Cancels : Standing → Standing → Subtrees → Subtrees → Leaf �
 Cancels old new was now root (Ok done) = IsCancel old new was now root
 Cancels old new was now root (Err reason) = (reason ≡ WrongExportState) × ((export : StandingExport) → map.get old root ≡ Some export → is_before_send export.state ≡ false) × (new ≡ old) × (now ≡ was)
 
--- what Finish changes has its place: the root of each export that is frozen to imported is a subtree root of the exporter, promised to the importer
+-- what Finish changes has its place: the root of each export that is frozen to imported is a subtree root of the exporter, and promised to the
+-- importer once that is prepared
 pub record ArePlaced (standing : Standing) (subtrees : Subtrees) : Type 0 where
   pub ranked : (root : Leaf) (export : StandingExport) → map.get standing root ≡ Some export → is_freezing export.state ≡ true → map.get subtrees.roots root ≡ Some export.exporter
-  pub promised : (root : Leaf) (export : StandingExport) → map.get standing root ≡ Some export → is_freezing export.state ≡ true → map.get subtrees.promises root ≡ Some export.importer
+  pub promised : (root : Leaf) (export : StandingExport) → map.get standing root ≡ Some export → is_prepared export.state ≡ true → map.get subtrees.promises root ≡ Some export.importer

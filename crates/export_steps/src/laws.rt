@@ -6,7 +6,7 @@ ghost use Rattle.inode_table.specs.Dirs.{Homes, Covers, IsLive, IsTable};
 ghost use Rattle.mds_types.specs.Leaf.{Leaf};
 ghost use Rattle.subtree_map.specs.Authority.{HasAuthority, IsInRegion, IsSubtrees, Roots};
 ghost use Rattle.subtree_map.specs.Changes.{Subtrees as SubtreesSeen};
-ghost use Rattle.export_steps.specs.Standing.{ArePlaced, ComesTo, IsCancel, IsFinish, IsFreeze, IsStart, Standing};
+ghost use Rattle.export_steps.specs.Standing.{ArePlaced, ComesTo, IsCancel, IsFinish, IsFreeze, IsPrep, IsStart, Standing};
 ghost use Rattle.export_steps.specs.declared.exports.ExportState.TheVariants as state;
 ghost use Rattle.export_steps.specs.Handover.{CancelsSoundly, FinishesSoundly, FreezesSoundly, HandsOver, StepsSoundly};
 ghost use Rattle.export_steps.specs.Holder.{HasHolder, IsFrozen, holding};
@@ -76,7 +76,7 @@ pub fn freeze_keeps_holders()
 /// Prep leaves holders, authorities and frozen leaves as Start does.
 pub fn prep_keeps_holders()
     ensures kept { (old new : Standing) (root : Leaf) → ComesTo old new root state.Frozen state.Prepared → (roots : Roots) (homes : Homes) (covers : Covers) → StepsSoundly old new roots homes covers }
-    ensures placed { (old new : Standing) (root : Leaf) → ComesTo old new root state.Frozen state.Prepared → (subtrees : SubtreesSeen) → ArePlaced old subtrees → ArePlaced new subtrees }
+    ensures placed { (old new : Standing) (was now : SubtreesSeen) (root : Leaf) → IsPrep old new was now root → ArePlaced old was → ArePlaced new now }
 {}
 
 /// And so does Send.

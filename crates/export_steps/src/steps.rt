@@ -6,11 +6,13 @@ ghost use Rattle.mds_types.specs.declared.refusals.Refusal.TheVariants.{NoMemory
 ghost use Rattle.mds_types.specs.Leaf.{leaf_cmp};
 ghost use Rattle.subtree_map.specs.Changes.{Subtrees as SubtreesSeen};
 ghost use Rattle.export_steps.specs.declared.exports.ExportState.TheVariants as state;
-ghost use Rattle.export_steps.specs.Standing.{AreBetweenRanks, AreKept, IsBetweenRanks, ArePlaced, Cancels, Finishes, Freezes, Starts, Steps, come_to, is_before_send, is_freezing, state_at};
+ghost use Rattle.export_steps.specs.Standing.{AreBetweenRanks, AreKept, IsBetweenRanks, ArePlaced, Cancels, Finishes, Freezes, Preps, Starts, Steps, come_to, is_before_send, is_freezing, state_at};
 
 use crate::exports::{ExportState, Exports, StandingExport};
+use inode_table::Dirs;
 use mds_types::{Frag, Ino, Rank, Refusal};
 use sorted_map::SortedMap;
+use std::alloc::Global;
 use subtree_map::Subtrees;
 
 impl ExportState {
@@ -67,8 +69,7 @@ impl Exports {
         put_new(&mut self.rows, dir, frag, export)
     }
 
-    /// Freeze: makes the root of a started export a subtree root of the exporter, and promises it to the importer, so that
-    /// `finish` takes no memory. From now on its region is frozen.
+    /// Freeze: makes the root of a started export a subtree root of the exporter. From now on its region is frozen.
     ///
     /// # Errors
     /// `WrongExportState` where no started export of this root stands, `NoMemory`; then all is left as it was, though the
@@ -85,16 +86,28 @@ impl Exports {
         Ok(())
     }
 
-    /// Prep: the importer gets to know the bounds of a frozen region. Takes no memory.
+    /// Prep: the importer of a frozen region gets to know its bounds, and the root is promised to it, so that `finish` takes no
+    /// memory.
     ///
     /// # Errors
-    /// `WrongExportState` where no frozen export of this root stands; then all is left as it was.
-    pub fn prep(&mut self, dir: Ino, frag: Frag) -> Result<(), Refusal>
-        ensures outcome { Steps self.old self.new (dir, frag) state.Frozen state.Prepared result }
-        ensures placed { (subtrees : SubtreesSeen) → ArePlaced self.old subtrees → ArePlaced self.new subtrees }
+    /// `WrongExportState` where no frozen export of this root stands, `NoMemory`; then all is left as it was.
+    pub fn prep(
+        &mut self,
+        subtrees: &mut Subtrees,
+        alloc: Global,
+        dirs: &Dirs,
+        dir: Ino,
+        frag: Frag,
+    ) -> Result<(), Refusal>
+        ensures outcome { Preps self.old self.new subtrees.old subtrees.new (dir, frag) result }
+        ensures placed { ArePlaced self.old subtrees.old → ArePlaced self.new subtrees.new }
     {
-        let (from, to) = (ExportState::Frozen, ExportState::Prepared);
-        advance(&mut self.rows, dir, frag, from, to)
+        let Some(export) = find_in(&self.rows, dir, frag, ExportState::Frozen) else {
+            return Err(Refusal::WrongExportState);
+        };
+        promise(subtrees, alloc, dirs, (dir, frag), export.importer)?;
+        put_state(&mut self.rows, dir, frag, export, ExportState::Prepared);
+        Ok(())
     }
 
     /// Send: the bytes of a region whose importer is prepared are handed out. Takes no memory.
@@ -122,7 +135,7 @@ impl Exports {
     }
 
     /// Finish: the importer of an imported region is its authority, and the export is over. Takes no memory: what it changes
-    /// was placed by `freeze`.
+    /// was placed by `freeze` and `prep`.
     ///
     /// # Errors
     /// `WrongExportState` where no imported export of this root stands; then all is left as it was.
@@ -177,7 +190,7 @@ fn put_new(
     Ok(())
 }
 
-// Makes the root of an export a subtree root of the exporter, promised to the importer.
+// Makes the root of an export a subtree root of the exporter.
 fn place(
     subtrees: &mut Subtrees,
     dir: Ino,
@@ -185,17 +198,36 @@ fn place(
     export: StandingExport,
 ) -> Result<(), Refusal>
     ensures roots { OnOk result (subtrees.new.roots ≡ map.insert subtrees.old.roots (dir, frag) export.exporter) }
-    ensures promises { OnOk result (subtrees.new.promises ≡ map.insert subtrees.old.promises (dir, frag) export.importer) }
+    ensures promises { subtrees.new.promises ≡ subtrees.old.promises }
     ensures err { IfErr result (λ reason. reason ≡ NoMemory) }
     ensures left { OnErr result (AreKept subtrees.old subtrees.new) }
 {
     if let Err(refusal) = subtrees.reserve(1) {
         return Err(refusal);
     }
-    if let Err(refusal) = subtrees.promise(dir, frag, export.importer) {
+    subtrees.set(dir, frag, export.exporter);
+    Ok(())
+}
+
+// Tells the importer of a region its bounds, and promises it the root.
+fn promise(
+    subtrees: &mut Subtrees,
+    alloc: Global,
+    dirs: &Dirs,
+    root: (Ino, Frag),
+    importer: Rank,
+) -> Result<(), Refusal>
+    ensures roots { subtrees.new.roots ≡ subtrees.old.roots }
+    ensures promises { OnOk result (subtrees.new.promises ≡ map.insert subtrees.old.promises root importer) }
+    ensures err { IfErr result (λ reason. reason ≡ NoMemory) }
+    ensures left { OnErr result (AreKept subtrees.old subtrees.new) }
+{
+    if let Err(refusal) = subtrees.tell_bounds(alloc, dirs, root.0, root.1, importer) {
         return Err(refusal);
     }
-    subtrees.set(dir, frag, export.exporter);
+    if let Err(refusal) = subtrees.promise(root.0, root.1, importer) {
+        return Err(refusal);
+    }
     Ok(())
 }
 

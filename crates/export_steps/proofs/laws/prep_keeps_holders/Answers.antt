@@ -1,11 +1,10 @@
-use Rattle.std.specs.Prelude.{Ok, refl}
-use Rattle.export_steps.specs.declared.exports.ExportState.TheVariants as state
+use Rattle.std.specs.Prelude.{Ok}
 use Rattle.export_steps.proofs.HoldingSteps.{prep_soundly}
-use Rattle.export_steps.proofs.Placed.{steps_placed}
+use Rattle.export_steps.proofs.Placed.{preps_placed}
 use Rattle.export_steps.proofs.laws.prep_keeps_holders.Goals as goal
 
 pub returns-clause-kept : goal.returns-clause-kept
 returns-clause-kept c = prep_soundly
 
 pub returns-clause-placed : goal.returns-clause-placed
-returns-clause-placed c old new root is = steps_placed old new root state.Frozen state.Prepared (Ok tt) refl is
+returns-clause-placed c old new was now root is = preps_placed old new root was now (Ok tt) is

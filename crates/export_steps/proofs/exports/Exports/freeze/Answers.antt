@@ -18,7 +18,7 @@ pub returns-clause-outcome : goal.returns-clause-outcome
 returns-clause-outcome c =
     subst (λ m. IsFreeze m (contents leaf_cmp c.put_state.new.rows) c.args.subtrees.now c.place.new.subtrees (c.args.dir, c.args.frag)) c.self.view_is (frozen
     (contents leaf_cmp c.self.inside.rows) (contents leaf_cmp c.put_state.new.rows) (c.args.dir, c.args.frag) c.args.subtrees.now c.place.new.subtrees c.in-Some.export
-    c.in-Some.ensures.0 c.in-Some.ensures.1 c.put_state.ensures.come c.in_ok-place.ensures.roots c.in_ok-place.ensures.promises)
+    c.in-Some.ensures.0 c.in-Some.ensures.1 c.put_state.ensures.come c.in_ok-place.ensures.roots c.place.ensures.promises)
 
 pub returns-clause-placed : goal.returns-clause-placed
 returns-clause-placed c =

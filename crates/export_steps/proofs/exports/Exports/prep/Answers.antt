@@ -1,13 +1,25 @@
-use Rattle.std.proofs.Common.{refl, sym, subst}
+use Rattle.std.specs.Prelude.{Ok}
+use Rattle.std.proofs.Common.{rules, subst}
 use Rattle.sorted_map.specs.SortedMap.{contents}
 use Rattle.mds_types.specs.Leaf.{leaf_cmp}
-use Rattle.export_steps.specs.declared.exports.ExportState.TheVariants as state
-use Rattle.export_steps.specs.Standing.{ArePlaced}
-use Rattle.export_steps.proofs.Placed.{steps_placed}
+use Rattle.export_steps.specs.Standing.{IsPrep}
+use Rattle.export_steps.proofs.Outcomes.{prepared}
+use Rattle.export_steps.proofs.Placed.{preps_placed}
 use Rattle.export_steps.proofs.exports.Exports.prep.Goals as goal
 
+pub returns-in_err-promise-clause-outcome : goal.returns-in_err-promise-clause-outcome
+returns-in_err-promise-clause-outcome c = search rules
+
+pub returns-in_err-promise-clause-placed : goal.returns-in_err-promise-clause-placed
+returns-in_err-promise-clause-placed c =
+    preps_placed c.args.self.now c.args.self.now (c.args.dir, c.args.frag) c.args.subtrees.now c.promise.new.subtrees c.from_residual.result (returns-in_err-promise-clause-outcome c)
+
+pub returns-clause-outcome : goal.returns-clause-outcome
+returns-clause-outcome c =
+    subst (λ m. IsPrep m (contents leaf_cmp c.put_state.new.rows) c.args.subtrees.now c.promise.new.subtrees (c.args.dir, c.args.frag)) c.self.view_is (prepared
+    (contents leaf_cmp c.self.inside.rows) (contents leaf_cmp c.put_state.new.rows) (c.args.dir, c.args.frag) c.args.subtrees.now c.promise.new.subtrees c.in-Some.export
+    c.in-Some.ensures.0 c.in-Some.ensures.1 c.put_state.ensures.come c.promise.ensures.roots c.in_ok-promise.ensures.promises)
+
 pub returns-clause-placed : goal.returns-clause-placed
-returns-clause-placed c subtrees placed =
-    steps_placed
-    (contents leaf_cmp c.self.inside.rows) (contents leaf_cmp c.advance.new.rows) (c.args.dir, c.args.frag) state.Frozen state.Prepared c.advance.result
-    refl c.advance.ensures.outcome subtrees (subst (λ m. ArePlaced m subtrees) (sym c.self.view_is) placed)
+returns-clause-placed c =
+    preps_placed c.args.self.now (contents leaf_cmp c.put_state.new.rows) (c.args.dir, c.args.frag) c.args.subtrees.now c.promise.new.subtrees (Ok tt) (returns-clause-outcome c)
