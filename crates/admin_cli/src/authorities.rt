@@ -46,9 +46,8 @@ impl Admin {
 fn root_list(alloc: Global, subtrees: &Subtrees) -> Result<RootList, AllocError>
     ensures { IfOk result (λ roots. roots ≡ roots_in subtrees.now.roots) }
 {
-    let mut roots = Vec::with_capacity(alloc, subtrees.iter().len())?;
-    for row in subtrees.iter() {
-        let ((ino, frag), rank) = *row;
+    let mut roots = Vec::new(alloc);
+    for ((ino, frag), rank) in subtrees.iter() {
         roots.push(Root { ino, frag, rank })?;
     }
     Ok(RootList::from_vec(roots))

@@ -118,10 +118,10 @@ FreezesExport old new past now leaf result = Exports old new past now (Freezes o
 
 -- ---- Prep
 
--- a frozen export is prepared; refused exactly where none of this root stands frozen
+-- a frozen export is prepared; refused where none of this root stands frozen, or for want of memory
 abbrev pub Preps : (old new : State) → Leaf → Result (Unit {0}) Refusal → Type 0
 Preps old new leaf (Ok done) = ComesTo old.exports new.exports leaf state.Frozen state.Prepared × KeepsTree old new
-Preps old new leaf (Err reason) = Check why.WrongExportState (state_at old.exports leaf ≢ Some state.Frozen) Never reason
+Preps old new leaf (Err reason) = Check why.WrongExportState (state_at old.exports leaf ≢ Some state.Frozen) ForMemory reason
 
 abbrev pub PrepsExport : (old new : Core) → (past now : List Entry) → Leaf → Result Answer Refusal → Type 0
 PrepsExport old new past now leaf result = Exports old new past now (Preps old.state new.state leaf) result

@@ -12,7 +12,7 @@ ghost use Rattle.cluster_core.specs.Sound.{IsSoundBook};
 use crate::clusters::Cluster;
 use crate::events::{Answer, Event};
 use crate::plain_trees::PlainTree;
-use mds_types::{Entry, Refusal};
+use mds_types::{Entry, Rank, Refusal};
 use objstore::Store;
 use std::alloc::Global;
 use std::marker::Model;
@@ -86,6 +86,14 @@ impl<S: Store + Drop> Book<S> {
         ensures recorded { Records event self.old.history self.new.history result }
     {
         self.cluster.step(alloc, &mut self.history, event)
+    }
+
+    /// Each rank's hint on each subtree root of another names this rank, be it right or wrong: no answer depends on hints. Takes no
+    /// memory.
+    pub fn set_hints(&mut self, rank: Rank)
+        ensures { self.new ≡ self.old }
+    {
+        self.cluster.set_hints(rank);
     }
 }
 

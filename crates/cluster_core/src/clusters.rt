@@ -155,7 +155,7 @@ impl<S: Store + Drop> Cluster<S> {
                 to,
             } => self.start(from, ino, frag, to),
             Event::Freeze { ino, frag } => self.freeze(ino, frag),
-            Event::Prep { ino, frag } => self.prep(ino, frag),
+            Event::Prep { ino, frag } => self.prep(alloc, ino, frag),
             Event::Send { ino, frag } => self.send(alloc, ino, frag),
             Event::Import { ino, frag, bytes } => {
                 let imported = self.import(alloc, ino, frag, bytes.as_slice());
@@ -266,6 +266,14 @@ impl<S: Store + Drop> Cluster<S> {
         ensures { result.now.roots ≡ self.now.state.roots }
     {
         self.tree.roots()
+    }
+
+    /// Each rank's hint on each subtree root of another names this rank, be it right or wrong: no answer depends on hints. Takes no
+    /// memory.
+    pub fn set_hints(&mut self, rank: Rank)
+        ensures { self.new ≡ self.old }
+    {
+        self.tree.set_hints(rank);
     }
 
     // Whether a rank is one of the cluster's.

@@ -68,7 +68,7 @@ impl<S: Store + Drop> Cluster<S> {
     }
 
     // The importer of a frozen region gets to know its bounds.
-    pub(crate) fn prep(&mut self, ino: Ino, frag: Frag) -> Result<Answer, Refusal>
+    pub(crate) fn prep(&mut self, alloc: Global, ino: Ino, frag: Frag) -> Result<Answer, Refusal>
         ensures prepared { (past : List Applied) → PrepsExport self.old self.new past past (ino, frag) result }
         ensures tree { self.new.state.tree ≡ self.old.state.tree }
         ensures roots { self.new.state.roots ≡ self.old.state.roots }
@@ -76,7 +76,7 @@ impl<S: Store + Drop> Cluster<S> {
         ensures caches { self.new.caches ≡ self.old.caches }
         ensures counted { self.new.faults ≡ self.old.faults + faults_told (result_err result) }
     {
-        self.tree.prep(ino, frag)?;
+        self.tree.prep(alloc, ino, frag)?;
         Ok(Answer::Nothing)
     }
 

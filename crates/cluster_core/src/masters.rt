@@ -23,6 +23,15 @@ pub fn locate_master<S: Store + Drop>(tree: &RankedTree<S>, rank: Rank, op: &Op)
     (places, master_of(tree, rank, places.main))
 }
 
+/// A rank's hint on the subtree root that led it to another as the master names the root's rank from then on. Takes no memory.
+pub fn correct_hint<S: Store + Drop>(tree: &mut RankedTree<S>, rank: Rank, places: &Places)
+    ensures { tree.new ≡ tree.old }
+{
+    if let Some(at) = places.main {
+        tree.correct_hint(rank, &at);
+    }
+}
+
 // The authority of the leaf which was found, or the rank that serves.
 fn master_of<S: Store + Drop>(tree: &RankedTree<S>, rank: Rank, found: Option<Dirfrag>) -> Rank
     requires { IfSome found (λ at. (dir hash : ℕ) × IsAt (shown_tree (tree_state tree.now.tree)) tree.now.tree.covers (HoldsAt (tree_state tree.now.tree) (held_roots tree.now)) dir hash at) }

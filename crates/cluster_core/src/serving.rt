@@ -21,7 +21,7 @@ ghost use Rattle.ranked_tree.specs.Subtrees.{AreRoots, KeepsRoots};
 use crate::applying::{commit, prepare};
 use crate::barred::must_wait;
 use crate::events::Answer;
-use crate::masters::locate_master;
+use crate::masters::{correct_hint, locate_master};
 use crate::parts::{Asked, Given, Waiting};
 use inboxes::{Inboxes, Pins};
 use mds_types::{Entry, Ino, Rank, Refusal, Reply, Request};
@@ -71,6 +71,7 @@ pub(crate) fn serve_front<S: Store + Drop>(
         Seen::New(session) => {
             let (places, master) = locate_master(tree, rank, &request.op);
             if !is_same(master, rank) {
+                correct_hint(tree, rank, &places);
                 return forward(&mut waiting.inboxes, rank, master, request);
             }
             let asked = Asked {

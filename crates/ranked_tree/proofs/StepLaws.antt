@@ -9,7 +9,7 @@ use Rattle.export_steps.specs.declared.exports.StandingExport.{StandingExport}
 use Rattle.export_steps.specs.declared.exports.ExportState.TheVariants.{Started, Frozen, Prepared, Sent}
 use Rattle.export_steps.specs.declared.exports.ExportState.{ExportState}
 use Rattle.export_steps.specs.Holder.{IsFrozen, holding}
-use Rattle.export_steps.specs.Standing.{ArePlaced, Cancels, IsFreeze, Standing, Starts, Steps, come_to}
+use Rattle.export_steps.specs.Standing.{ArePlaced, Cancels, IsFreeze, Preps, Standing, Starts, Steps, come_to}
 use Rattle.export_steps.proofs.HoldingSteps.{cancel_holding, prep_holding, prep_soundly, send_holding, send_soundly, start_holding, start_soundly}
 use Rattle.export_steps.proofs.Handover.{cancels_soundly, freezes_soundly}
 use Rattle.export_steps.specs.Handover.{FreezesSoundly}
@@ -97,28 +97,37 @@ start_divided core was new root exporter importer result is divided placed first
 
 -- ---- Prep
 
-module _ (old new : Standing) (root : Leaf) where
-  pub prep_holds : (result : Result (Unit {0}) Refusal) → Steps old new root Frozen Prepared result → (roots : Roots) → holding new roots ≡ holding old roots
-  prep_holds (Ok done) is roots = prep_holding old new root is roots
-  prep_holds (Err reason) is roots = ap (λ (s : Standing). holding s roots) is.2
+module _ (old new : Standing) (was now : Subtrees) (root : Leaf) where
+  pub prep_roots : (result : Result (Unit {0}) Refusal) → Preps old new was now root result → now.roots ≡ was.roots
+  prep_roots (Ok done) is = is.roots
+  prep_roots (Err reason) is = is.2.roots
 
-  pub step_there : (from to : ExportState) (count : ℕ) (result : Result (Unit {0}) Refusal) → Steps old new root from to result → AreThere count old → AreThere count new
-  step_there from to count (Ok done) is there = put_there count old new root (come_to to is.export) is.changed (there root is.export is.stood) there
-  step_there from to count (Err reason) is there = subst (AreThere count) (sym is.2) there
+  pub prep_holds : (result : Result (Unit {0}) Refusal) → Preps old new was now root result → holding new now.roots ≡ holding old was.roots
+  prep_holds (Ok done) is = ap (holding new) is.roots ∙ prep_holding old new root is.step was.roots
+  prep_holds (Err reason) is = ap (λ (s : Standing). holding s now.roots) is.1 ∙ ap (holding old) is.2.roots
 
-  prep_froze : (roots : Roots) (homes : Homes) (covers : Covers) (result : Result (Unit {0}) Refusal) → Steps old new root Frozen Prepared result → (leaf : Leaf) → IsFrozen new roots homes covers leaf → IsFrozen old roots homes covers leaf
-  prep_froze roots homes covers (Ok done) is leaf frozen = ((prep_soundly old new root is roots homes covers).frozen leaf).0 frozen
-  prep_froze roots homes covers (Err reason) is leaf frozen = subst (λ (s : Standing). IsFrozen s roots homes covers leaf) is.2 frozen
+  prep_there : (count : ℕ) (result : Result (Unit {0}) Refusal) → Preps old new was now root result → AreThere count old → AreThere count new
+  prep_there count (Ok done) is there = put_there count old new root (come_to Prepared is.step.export) is.step.changed (there root is.step.export is.step.stood) there
+  prep_there count (Err reason) is there = subst (AreThere count) (sym is.1) there
 
-pub prep_divided : (core : Core) (was : Regions) (new : Standing) (root : Leaf) (result : Result (Unit {0}) Refusal) → Steps was.exports new root Frozen Prepared result → IsDivided core was → ArePlaced new was.roots → IsDivided core (record { roots = was.roots; exports = new })
-prep_divided core was new root result is divided placed =
-    step_divided core was (record { roots = was.roots; exports = new }) divided refl (prep_holds was.exports new root result is was.roots.roots) placed
-    (step_there was.exports new root Frozen Prepared (length core.caches.used) result is divided.stand.there)
-    (prep_froze was.exports new root was.roots.roots core.homes core.covers result is)
+  prep_froze : (homes : Homes) (covers : Covers) (result : Result (Unit {0}) Refusal) → Preps old new was now root result → (leaf : Leaf) → IsFrozen new now.roots homes covers leaf → IsFrozen old was.roots homes covers leaf
+  prep_froze homes covers (Ok done) is leaf frozen = ((prep_soundly old new root is.step was.roots homes covers).frozen leaf).0 (subst (λ (r : Roots). IsFrozen new r homes covers leaf) is.roots frozen)
+  prep_froze homes covers (Err reason) is leaf frozen =
+      subst (λ (s : Standing). IsFrozen s was.roots homes covers leaf) is.1 (subst (λ (r : Roots). IsFrozen new r homes covers leaf) is.2.roots frozen)
+
+pub prep_divided : (core : Core) (was now : Regions) (root : Leaf) (result : Result (Unit {0}) Refusal) → Preps was.exports now.exports was.roots now.roots root result → IsDivided core was → ArePlaced now.exports now.roots → IsDivided core now
+prep_divided core was now root result is divided placed =
+    step_divided core was now divided (prep_roots was.exports now.exports was.roots now.roots root result is) (prep_holds was.exports now.exports was.roots now.roots root result is) placed
+    (prep_there was.exports now.exports was.roots now.roots root (length core.caches.used) result is divided.stand.there)
+    (prep_froze was.exports now.exports was.roots now.roots root core.homes core.covers result is)
 
 -- ---- Send
 
 module _ (old new : Standing) (root : Leaf) where
+  pub step_there : (from to : ExportState) (count : ℕ) (result : Result (Unit {0}) Refusal) → Steps old new root from to result → AreThere count old → AreThere count new
+  step_there from to count (Ok done) is there = put_there count old new root (come_to to is.export) is.changed (there root is.export is.stood) there
+  step_there from to count (Err reason) is there = subst (AreThere count) (sym is.2) there
+
   pub send_holds : (result : Result (Unit {0}) Refusal) → Steps old new root Prepared Sent result → (roots : Roots) → holding new roots ≡ holding old roots
   send_holds (Ok done) is roots = send_holding old new root is roots
   send_holds (Err reason) is roots = ap (λ (s : Standing). holding s roots) is.2

@@ -109,7 +109,7 @@ pub(crate) fn locate<S: Store + Drop>(
     if tree.has_place(&here) {
         return Some(here);
     }
-    let rank = regions.holder_from(dirs, (dir, frag), at.home);
+    let rank = regions.holder_by(rank, dirs, (dir, frag), at.home);
     Some(Dirfrag { dir, frag, rank })
 }
 

@@ -2,9 +2,8 @@
 ghost use Rattle.std.specs.Prelude.{◌≡◌, ◌≢◌, ◌<◌, ◌≤◌, Some, OnOk, OnErr, length};
 ghost use Rattle.std.specs.FinMap as map;
 ghost use Rattle.inode_table.specs.Dirs.{IsLive};
-ghost use Rattle.export_steps.specs.declared.exports.ExportState.TheVariants as state;
 ghost use Rattle.export_steps.specs.declared.exports.StandingExport.{StandingExport};
-ghost use Rattle.export_steps.specs.Standing.{Cancels, Freezes, Starts, Steps};
+ghost use Rattle.export_steps.specs.Standing.{Cancels, Freezes, Preps, Starts};
 ghost use Rattle.mdcache.specs.Core.{state_of};
 ghost use Rattle.ranked_tree.specs.Exported.{EndsRegion};
 ghost use Rattle.ranked_tree.specs.Ranked.{IsFrozenLeaf, held_roots};
@@ -14,6 +13,7 @@ use crate::ending_jobs::end_region;
 use crate::ranked_tree::RankedTree;
 use mds_types::{Frag, Ino, Rank, Refusal};
 use objstore::Store;
+use std::alloc::Global;
 
 impl<S: Store + Drop> RankedTree<S> {
     /// Start: records the exporter and the importer of a root's region, which are two ranks that there are, as
@@ -60,15 +60,17 @@ impl<S: Store + Drop> RankedTree<S> {
         Ok(())
     }
 
-    /// Prep: the importer gets to know the bounds of a frozen region, as `Exports::prep` does and refuses. The tree and the
-    /// roots stay, and so does which rank holds each region. Takes no memory.
-    pub fn prep(&mut self, dir: Ino, frag: Frag) -> Result<(), Refusal>
-        ensures prepared { Steps self.old.exports self.new.exports (dir, frag) state.Frozen state.Prepared result }
+    /// Prep: the importer of a frozen region gets to know its bounds, and its root is promised to it, as `Exports::prep` does and
+    /// refuses. The tree and the roots stay, and so does which rank holds each region.
+    pub fn prep(&mut self, alloc: Global, dir: Ino, frag: Frag) -> Result<(), Refusal>
+        ensures prepared { Preps self.old.exports self.new.exports self.old.subtrees self.new.subtrees (dir, frag) result }
         ensures tree { self.new.tree ≡ self.old.tree }
-        ensures roots { self.new.subtrees ≡ self.old.subtrees }
+        ensures roots { self.new.subtrees.roots ≡ self.old.subtrees.roots }
         ensures holders { held_roots self.new ≡ held_roots self.old }
     {
-        self.regions.exports.prep(dir, frag)
+        self.regions
+            .exports
+            .prep(&mut self.regions.roots, alloc, self.tree.dirs(), dir, frag)
     }
 
     /// Cancel: an export that isn't sent yet is over, and its region thaws, as `Exports::cancel` does and refuses. The tree and

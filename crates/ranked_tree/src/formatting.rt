@@ -36,7 +36,7 @@ impl<S: Store + Drop> RankedTree<S> {
         ensures faults { IfOk result (λ t. t.tree.faults ≡ S.faults store) }
         ensures counted { IfErr result (λ back. S.faults back.1 ≡ S.faults store + faults_in back.0) }
     {
-        match first_roots(alloc) {
+        match first_roots(alloc, ranks) {
             Err(_) => Err((Refusal::NoMemory, store)),
             Ok(roots) => match MdCache::format(alloc, store, ranks, places) {
                 Ok(tree) => Ok(RankedTree {
@@ -50,11 +50,11 @@ impl<S: Store + Drop> RankedTree<S> {
     }
 }
 
-// The root directory's leaf as the one subtree root, rank 0's.
-fn first_roots(alloc: Global) -> Result<Subtrees, AllocError>
+// The root directory's leaf as the one subtree root, rank 0's, in the lists of so many ranks.
+fn first_roots(alloc: Global, ranks: u8) -> Result<Subtrees, AllocError>
     ensures { IfOk result (λ roots. roots.roots ≡ new_roots) }
 {
-    let mut roots = Subtrees::new(alloc);
+    let mut roots = Subtrees::new(alloc, ranks)?;
     if roots.reserve(1).is_err() {
         return Err(AllocError);
     }

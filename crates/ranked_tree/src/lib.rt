@@ -13,6 +13,7 @@ mod finishing;
 mod flushing;
 mod formatting;
 mod frags;
+mod hints;
 mod holding;
 mod importing;
 mod inside;

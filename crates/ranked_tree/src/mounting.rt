@@ -43,7 +43,7 @@ impl<S: Store + Drop> RankedTree<S> {
     {
         match MdCache::mount(alloc, store, ranks, places) {
             Err(back) => Err(back),
-            Ok((tree, opening)) => match top_roots(alloc, tree.dirs()) {
+            Ok((tree, opening)) => match top_roots(alloc, ranks, tree.dirs()) {
                 Ok(roots) => {
                     let regions = Regions::new(alloc, roots);
                     Ok((
@@ -64,11 +64,11 @@ impl<S: Store + Drop> RankedTree<S> {
     }
 }
 
-// The leaves of the root directory as the subtree roots, rank 0's.
-fn top_roots(alloc: Global, dirs: &Dirs) -> Result<Subtrees, AllocError>
+// The leaves of the root directory as the subtree roots, rank 0's, in the lists of so many ranks.
+fn top_roots(alloc: Global, ranks: u8, dirs: &Dirs) -> Result<Subtrees, AllocError>
     ensures { IfOk result (λ roots. AreTopRoots dirs.now.trees roots.roots) }
 {
-    let mut roots = Subtrees::new(alloc);
+    let mut roots = Subtrees::new(alloc, ranks)?;
     if roots.reserve(dirs.leaf_count(Ino::ROOT)).is_err() {
         return Err(AllocError);
     }

@@ -41,9 +41,11 @@ impl Regions {
         self.exports.holder(&self.roots, dirs, dir, frag)
     }
 
-    // So of a leaf whose directory stands there: without exports one search less.
-    pub(crate) fn holder_from<'a>(
+    // So of a leaf whose directory stands there, where a rank asks: without exports one search less, and the rank looks into its
+    // own list of roots first.
+    pub(crate) fn holder_by<'a>(
         &self,
+        rank: Rank,
         dirs: &'a Dirs,
         leaf: (Ino, Frag),
         home: Option<&'a Home>,
@@ -54,7 +56,7 @@ impl Regions {
         ensures { HasAuthority (held_in self.now) dirs.entry.now.homes dirs.entry.now.trees leaf result }
     {
         if self.exports.len() == 0 {
-            return self.roots.authority_from(dirs, leaf, home);
+            return self.roots.authority_by(rank, dirs, leaf, home);
         }
         self.holder(dirs, leaf.0, leaf.1)
     }

@@ -6,11 +6,11 @@ use Rattle.ranked_tree.proofs.AuthorityLaws.{located, nowhere}
 use Rattle.ranked_tree.proofs.SubtreeLaws.{over}
 use Rattle.ranked_tree.proofs.authorities.locate.Goals as goal
 
-pub holder_from-rank-requires-clause-leaf : goal.holder_from-rank-requires-clause-leaf
-holder_from-rank-requires-clause-leaf g c = record { known = c.in-Some.ensures.known; stands = c.in-Some.ensures.pick.stands }
+pub holder_by-rank-requires-clause-leaf : goal.holder_by-rank-requires-clause-leaf
+holder_by-rank-requires-clause-leaf g c = record { known = c.in-Some.ensures.known; stands = c.in-Some.ensures.pick.stands }
 
-pub holder_from-rank-requires-clause-valid : goal.holder_from-rank-requires-clause-valid
-holder_from-rank-requires-clause-valid g c =
+pub holder_by-rank-requires-clause-valid : goal.holder_by-rank-requires-clause-valid
+holder_by-rank-requires-clause-valid g c =
     over (λ (h : Homes) (cs : Covers). IsSubtrees (held_in c.args.regions.now) h cs)
     c.dirs-dirs.result.now.homes c.args.tree.now.homes c.dirs-dirs.result.now.trees c.args.tree.now.covers c.dirs-dirs.ensures.homes c.dirs-dirs.ensures.trees c.requires.valid
 
@@ -24,7 +24,7 @@ returns-then-has_place g c =
 
 pub returns : goal.returns
 returns g c =
-    located c.args.tree.now (held_in c.args.regions.now) c.requires c.args.dir c.args.hash c.dirs-dirs.result.now.homes c.dirs-dirs.result.now.trees c.dirs-dirs.ensures.homes c.dirs-dirs.ensures.trees c.in-Some.at.frag c.holder_from-rank.result _ c.in-Some.ensures
+    located c.args.tree.now (held_in c.args.regions.now) c.requires c.args.dir c.args.hash c.dirs-dirs.result.now.homes c.dirs-dirs.result.now.trees c.dirs-dirs.ensures.homes c.dirs-dirs.ensures.trees c.in-Some.at.frag c.holder_by-rank.result _ c.in-Some.ensures
     (λ live.
-    over (λ (h : Homes) (cs : Covers). HasAuthority (held_in c.args.regions.now) h cs (c.args.dir, c.in-Some.at.frag) c.holder_from-rank.result)
-    c.args.tree.now.homes c.dirs-dirs.result.now.homes c.args.tree.now.covers c.dirs-dirs.result.now.trees (sym c.dirs-dirs.ensures.homes) (sym c.dirs-dirs.ensures.trees) c.holder_from-rank.ensures)
+    over (λ (h : Homes) (cs : Covers). HasAuthority (held_in c.args.regions.now) h cs (c.args.dir, c.in-Some.at.frag) c.holder_by-rank.result)
+    c.args.tree.now.homes c.dirs-dirs.result.now.homes c.args.tree.now.covers c.dirs-dirs.result.now.trees (sym c.dirs-dirs.ensures.homes) (sym c.dirs-dirs.ensures.trees) c.holder_by-rank.ensures)

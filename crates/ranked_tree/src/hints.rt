@@ -1,0 +1,25 @@
+//! What ranks last heard of each other's subtree roots. No answer depends on it.
+ghost use Rattle.std.specs.Prelude.{◌≡◌};
+
+use crate::ranked_tree::RankedTree;
+use mds_types::{Dirfrag, Rank};
+use objstore::Store;
+
+impl<S: Store + Drop> RankedTree<S> {
+    /// Where a rank has a hint on the nearest root of a leaf, it names that root's rank from then on. Takes no memory.
+    pub fn correct_hint(&mut self, rank: Rank, at: &Dirfrag)
+        ensures { self.new ≡ self.old }
+    {
+        let roots = &mut self.regions.roots;
+        if let Some(root) = roots.find_root_by(rank, self.tree.dirs(), at.dir, at.frag) {
+            roots.correct(rank, root.0, root.1);
+        }
+    }
+
+    /// Each hint of each rank names this rank, be it right or wrong. Takes no memory.
+    pub fn set_hints(&mut self, rank: Rank)
+        ensures { self.new ≡ self.old }
+    {
+        self.regions.roots.set_hints(rank);
+    }
+}
