@@ -1,6 +1,6 @@
 use Rattle.std.proofs.Common.{arith}
 use Rattle.subtree_map.specs.declared.entries.Known.TheVariants.{Hint}
-use Rattle.subtree_map.proofs.RowLaws.{hinted_row, no_hint}
+use Rattle.subtree_map.proofs.RowLaws.{hinted_row}
 use Rattle.subtree_map.proofs.list_changes.hint.Goals as goal
 
 pub returns-in-Some : goal.returns-in-Some

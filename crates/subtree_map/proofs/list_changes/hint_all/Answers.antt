@@ -1,4 +1,4 @@
-use Rattle.subtree_map.proofs.RowLaws.{corrected_hints, hints_same, hints_then}
+use Rattle.subtree_map.proofs.RowLaws.{hints_same}
 use Rattle.subtree_map.proofs.list_changes.hint_all.Goals as goal
 
 pub loop-init : goal.loop-init

@@ -1,6 +1,6 @@
 use Rattle.std.proofs.Common.{subst, sym, refl, ◌∙◌}
 use Rattle.subtree_map.specs.Lists.{HasLearnt, Rows}
-use Rattle.subtree_map.proofs.RowLaws.{at_index, learnt_one, none_learnt}
+use Rattle.subtree_map.proofs.RowLaws.{at_index, learnt_one}
 use Rattle.subtree_map.proofs.list_learning.learn_one.Goals as goal
 
 pub returns-in-Some : goal.returns-in-Some

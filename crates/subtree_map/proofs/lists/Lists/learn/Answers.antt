@@ -1,14 +1,8 @@
-use Rattle.std.proofs.Common.{◌≡◌, ◌+◌, ◌-◌, ◌<◌, ◌≤◌, ℕ, List, OnErr, OnOk, length, arith, sym, ap, subst, refl, ◌∙◌}
+use Rattle.std.proofs.Common.{◌+◌, List, length, arith, ap, subst, ◌∙◌}
 use Rattle.std.specs.Vec.{with_items}
-use Rattle.std.specs.FinMap as map
-use Rattle.mds_types.specs.declared.ids.Rank.{Rank}
-use Rattle.mds_types.specs.Leaf.{Leaf}
-use Rattle.subtree_map.specs.declared.entries.News.TheVariants.{Claimed, Ended, Promised, Withdrawn}
 use Rattle.subtree_map.specs.Authority.{Roots}
-use Rattle.subtree_map.specs.Changes.{AreGone, Subtrees}
-use Rattle.subtree_map.specs.Lists.{AreEach, AreLists, HasDropped, HasGrown, HasHints, HasLearnt, HasSame, Hears, IsClaimed, Rows, claimed, found, home_of, promised, rows_at, told}
-use Rattle.subtree_map.proofs.ListsLaws.{claim_is, closing, dropped_lists, ended_room, gone_from, kept_room, nothing_made, nothing_removed, refilled, room_for, room_kept, room_less, same_value, say_claimed, say_ended, say_grown, say_hints, say_kept, say_learnt, say_nothing, say_promised, say_withdrawn, withdrawn_room}
-use Rattle.subtree_map.proofs.ToldLaws.{get_told}
+use Rattle.subtree_map.specs.Lists.{AreEach, HasGrown, HasLearnt, HasSame, Rows}
+use Rattle.subtree_map.proofs.ListsLaws.{closing, same_value, say_grown, say_kept, say_learnt}
 use Rattle.subtree_map.proofs.lists.Lists.learn.Goals as goal
 
 pub invariant_of-self : goal.invariant_of-self
