@@ -255,6 +255,10 @@ fn known_by(lists: &[Rows], rank: Rank, leaf: &(Ino, Frag)) -> Option<Rank>
     requires { 0 < length lists.now }
     ensures { IfSome result (IsClaimed lists.now leaf.now) }
 {
+    // one list is all that there is to ask
+    if lists.len() == 1 {
+        return None;
+    }
     let entry = *lists[home_of(lists.len(), rank)].get(leaf)?;
     match entry.known {
         Known::Claim(rank) => Some(rank),
