@@ -199,8 +199,7 @@ fn carry_out<S: Store + Drop>(tree: &mut RankedTree<S>, pins: &mut Pins, change:
     ensures kept { KeepsRoots (tree_state tree.old.tree) (tree_state tree.new.tree) tree.old.subtrees.roots tree.new.subtrees.roots tree.old.exports tree.new.exports }
     ensures pins { pins.new ≡ without_gone pins.old (went_with change) }
 {
-    // The contract of `store` is what says here that the state is sound.
-    let _ = tree.store();
+    tree.is_sound();
     match change {
         Some(change) => {
             forget_gone(pins, change.gone);

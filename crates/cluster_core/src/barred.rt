@@ -130,8 +130,7 @@ fn lacks_leaf<S: Store + Drop>(
         (LacksOneOf (tree_state tree.now.tree) tree.now.subtrees.roots tree.now.exports pins.now rank request.now.client request.now.tid (leaves tree.now.tree.covers dir.0))
         (MayTouchEach (tree_state tree.now.tree) tree.now.subtrees.roots tree.now.exports pins.now rank request.now.client request.now.tid (leaves tree.now.tree.covers dir.0)) }
 {
-    // The contract of `dirs` is what says here that the leaves of each directory cover every hash once.
-    let _ = tree.dirs();
+    tree.is_sound();
     let mut hash = 0;
     while hash < 1 << 24 {
         let Some(at) = tree.locate(rank, dir, hash) else {

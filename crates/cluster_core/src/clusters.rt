@@ -82,8 +82,7 @@ impl<S: Store + Drop> Cluster<S> {
             Ok(parts) => match RankedTree::format(alloc, store, ranks, places) {
                 Err(back) => Err(back),
                 Ok(tree) => {
-                    // The contract of `store` is what says here that the tree is sound.
-                    let _ = tree.store();
+                    tree.is_sound();
                     let Parts { waiting, given } = parts;
                     Ok(Cluster {
                         tree,
@@ -109,8 +108,7 @@ impl<S: Store + Drop> Cluster<S> {
         ensures sound { (opening : Tree) → IsSound opening history.old.items self.old → IsSound opening history.new.items self.new }
     {
         let answer = self.choose(alloc, history, event);
-        // The contract of `store` is what says here that the tree is sound.
-        let _ = self.tree.store();
+        self.tree.is_sound();
         answer
     }
 

@@ -72,8 +72,7 @@ impl<S: Store + Drop> Cluster<S> {
         ensures stand { StandSoundly (tree_state tree.tree) (length tree.tree.caches.used) tree.subtrees tree.exports }
         ensures caches { AreCaches tree.tree.caches }
     {
-        // The contract of `store` is what says here that the tree is sound.
-        let _ = tree.store();
+        tree.is_sound();
         let Opening { entries, numbers } = opening;
         let cluster = Cluster {
             tree,

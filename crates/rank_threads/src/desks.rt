@@ -96,7 +96,7 @@ impl<S: Store + Drop, L: Handed> Desk<S, L> {
         ensures { Continues L.opened L.begun result }
     {
         let Desk { book, .. } = self;
-        let _ = book.history();
+        book.is_sound();
         book
     }
 
@@ -113,7 +113,7 @@ impl<S: Store + Drop, L: Handed> Desk<S, L> {
             ..
         } = self;
         total.audit(all);
-        let _ = book.history();
+        book.is_sound();
         book
     }
 }

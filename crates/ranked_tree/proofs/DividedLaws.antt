@@ -1,9 +1,8 @@
 -- What a change, a split and a merge leave of a tree that is divided among ranks, where they change no frozen leaf.
-use Rattle.std.specs.Prelude.{◌≡◌, ◌^◌, ℕ, true, false, length, List, [], ◌∷◌, map as each, Option, Some, None}
-use Rattle.std.proofs.Common.{inl, inr, refl, sym, ap, subst, ◌∙◌}
+use Rattle.std.specs.Prelude.{◌≡◌, ℕ, true, false, length, List, [], ◌∷◌, map as each}
+use Rattle.std.proofs.Common.{inr, refl, sym, ap, subst, ◌∙◌}
 use Rattle.std.specs.FinMap as map
 use Rattle.mds_types.specs.declared.ids.Ino.{Ino}
-use Rattle.mds_types.specs.declared.ids.Rank.{Rank}
 use Rattle.mds_types.specs.Frag.{Fragment}
 use Rattle.fragtree.specs.FragTree.{HasLeaf, IsChild, leaves_inside}
 use Rattle.sorted_map.proofs.NatKeys as nat
@@ -21,7 +20,7 @@ use Rattle.namespace_ops.proofs.Shapes.Shape.{add, move, remove, set}
 use Rattle.namespace_ops.specs.declared.plans.Change.{Change}
 use Rattle.std.specs.List.{Contains}
 use Rattle.subtree_map.specs.Authority.{Leaf, Roots}
-use Rattle.subtree_map.specs.Changes.{HaveOneAuthority, IsRootMerge, IsRootSplit, Subtrees, is_inside}
+use Rattle.subtree_map.specs.Changes.{HaveOneAuthority, IsRootMerge, IsRootSplit, Subtrees}
 use Rattle.subtree_map.proofs.Covers.{child_is_new, merged_is_new}
 use Rattle.mdcache.specs.Changes.{Makes}
 use Rattle.mdcache.specs.Core.{Core, IsSoundCore, shown_in, state_of}

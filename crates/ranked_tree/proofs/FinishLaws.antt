@@ -5,17 +5,16 @@ use Rattle.std.specs.FinMap as map
 use Rattle.mds_types.specs.declared.ids.Rank.{Rank}
 use Rattle.mds_types.specs.declared.refusals.Refusal.{Refusal}
 use Rattle.mds_types.proofs.LeafLaws.{get_beside, get_put, same_or_apart}
-use Rattle.export_steps.specs.Holder.{IsFrozen, holding}
+use Rattle.export_steps.specs.Holder.{holding}
 use Rattle.export_steps.specs.Standing.{ArePlaced, Finishes, IsFinish, Standing, is_freezing}
 use Rattle.export_steps.proofs.HoldingSteps.{finish_holding}
 use Rattle.export_steps.proofs.Handover.{finishes_soundly}
-use Rattle.cached_frag.specs.declared.jobs.Job.{Job}
 use Rattle.subtree_map.specs.Authority.{Leaf, Roots}
 use Rattle.subtree_map.specs.Changes.{Subtrees}
 use Rattle.subtree_map.proofs.Options.{one_value}
 use Rattle.mdcache.specs.Core.{Core, state_of}
 use Rattle.ranked_tree.specs.declared.regions.Regions.{Regions}
-use Rattle.ranked_tree.specs.Exported.{IsDivided, held_in}
+use Rattle.ranked_tree.specs.Exported.{IsDivided}
 use Rattle.ranked_tree.specs.Held.{IsOwned}
 use Rattle.ranked_tree.specs.Subtrees.{AreRoots, KeepsOutside, Rules}
 use Rattle.ranked_tree.proofs.StepLaws.{taken_there}

@@ -6,50 +6,45 @@ use Rattle.std.proofs.lemmas.Bool.Decides.{nat_tests}
 use Rattle.std.proofs.lemmas.Bool.{and_parts}
 use Rattle.std.proofs.lemmas.Option.{same_Some}
 use Rattle.std.specs.Ordering.{eq_by_cmp}
-use Rattle.std.proofs.Common.{◌≡◌, ◌≢◌, ◌<◌, ◌≤◌, ◌+◌, ◌⊎◌, inl, inr, ℕ, suc, Bool, true, false, cond, not, ◌&&◌, length, List, [], ◌∷◌, is_some, option_map, Option, Some, None, Result, Ok, Err, refl, sym, ap, subst, ◌∙◌, arith, ◌^◌, nat_lt, map as list_map}
+use Rattle.std.proofs.Common.{◌≡◌, ◌≢◌, ◌<◌, ◌≤◌, ◌⊎◌, inl, inr, ℕ, Bool, true, false, cond, not, ◌&&◌, length, List, [], ◌∷◌, is_some, option_map, Option, Some, None, Result, Ok, Err, refl, sym, ap, subst, ◌∙◌, arith, ◌^◌, nat_lt, map as list_map}
 use Rattle.std.specs.Prelude.{◌==◌, IfErr, OnOk, OnErr}
-use Rattle.std.specs.List.{AllByRecursion, IsDistinct, list_any, list_all}
+use Rattle.std.specs.List.{IsDistinct, list_any, list_all}
 use Rattle.std.specs.FinMap as map
-use Rattle.std.specs.FinMap.{len-empty, len-entries, len-insert, find, get-entries}
-use Rattle.std.proofs.lemmas.List.{length-map}
-use Rattle.std.proofs.lemmas.Map.Keys.{IsDistinct-head, IsDistinct-tail}
+use Rattle.std.specs.FinMap.{find, get-entries}
 use Rattle.sorted_map.proofs.NatKeys.{is_same}
 use Rattle.mds_types.specs.declared.dirfrags.Dirfrag.{Dirfrag}
 use Rattle.mds_types.specs.declared.ids.Rank.{Rank}
-use Rattle.mds_types.specs.declared.object_names.ObjName.TheVariants.{Frag as FragOf}
 use Rattle.mds_types.specs.declared.refusals.Refusal.{Refusal}
-use Rattle.mds_types.specs.declared.refusals.Refusal.TheVariants.{Damaged, NoMemory, NothingToEvict}
 use Rattle.mds_types.specs.Leaf.{leaf_cmp}
-use Rattle.mds_types.proofs.LeafLaws.{leaf-total, same_or_apart}
+use Rattle.mds_types.proofs.LeafLaws.{same_or_apart}
 use Rattle.cached_frag.specs.declared.jobs.Job.{Job}
 use Rattle.cached_frag.specs.Cached.{Cached, is_clean}
-use Rattle.dentry_cache.specs.Cache.{HasCached, Unsaved, leaf_is}
+use Rattle.dentry_cache.specs.Cache.{Unsaved, leaf_is}
 use Rattle.dentry_cache.specs.CacheCalls.{KeepsNone, unclean_in}
-use Rattle.dentry_cache.specs.CacheMap.{AreCaches, At, CacheMap, at, at_rank, clean_in, here, order, tabulate, unclean, with_some}
+use Rattle.dentry_cache.specs.CacheMap.{AreCaches, At, CacheMap, at, at_rank, clean_in, here, order, unclean}
 use Rattle.dentry_cache.specs.CacheSplits.{IsKeptFor}
 use Rattle.dentry_cache.specs.Handing.{AreCleanAt, AreUncleanAt, HandsOver, MayNotHandOver, handed, moved_all}
 use Rattle.dentry_cache.proofs.HandedLaws.{handed_where, wants_from}
-use Rattle.dentry_cache.proofs.MapLaws.{get_tabulate}
 use Rattle.dentry_cache.proofs.MoveLaws.{all_left_at, left_by}
 use Rattle.dentry_cache.proofs.ReadsLaws.{reads_held}
 use Rattle.export_bytes.specs.declared.exports.Export.{Export}
 use Rattle.export_bytes.specs.declared.exports.SentFrag.{SentFrag}
 use Rattle.export_bytes.specs.Export.{SpellsExport, export_bytes, is_base_of, is_frag_before, is_name_before, is_sendable, is_sent_frag, is_sent_name, rise}
 use Rattle.dirfrag_codec.specs.Values.{is_fragment}
-use Rattle.export_regions.specs.Regions.{AreCachedOf, HasTooMany, IsExportOf, IsIn, Picks, RegionLeaves, values, UncleanLeaves, sent_names, sent_of}
-use Rattle.export_regions.specs.Sending.{AreAtTheirRank, IsExportFrom, MaySend, MaySendAll, gathered, sent_from, HaveVersions}
+use Rattle.export_regions.specs.Regions.{AreCachedOf, HasTooMany, IsExportOf, IsIn, RegionLeaves, values, UncleanLeaves, sent_names, sent_of}
+use Rattle.export_regions.specs.Sending.{AreAtTheirRank, HaveVersions}
 use Rattle.export_regions.proofs.ExportLaws.{one_export}
 use Rattle.export_regions.proofs.PickLaws.{each_passes, passing_picked, picked_distinct, picked_passes}
 use Rattle.export_regions.proofs.WhereLaws.{IsHere, here_of}
 use Rattle.export_steps.specs.declared.exports.ExportState.TheVariants.{Imported, Sent}
 use Rattle.export_steps.specs.declared.exports.StandingExport.{StandingExport}
 use Rattle.export_steps.specs.Handover.{HandsOver as HandsRegionOver}
-use Rattle.export_steps.specs.Holder.{HasHolder, IsFrozen, holding, is_imported}
-use Rattle.export_steps.specs.Standing.{ArePlaced, ComesTo, Standing, come_to, is_freezing}
+use Rattle.export_steps.specs.Holder.{HasHolder, IsFrozen, is_imported}
+use Rattle.export_steps.specs.Standing.{ArePlaced, ComesTo, Standing, is_freezing}
 use Rattle.export_steps.proofs.Handover.{hands_over}
 use Rattle.export_steps.proofs.Holding.{holder_is, near_to, valid_so}
-use Rattle.inode_table.specs.Dirs.{Covers, Homes, IsLive}
-use Rattle.subtree_map.specs.Authority.{Leaf, NearestRoot, Roots}
+use Rattle.inode_table.specs.Dirs.{Covers, Homes}
+use Rattle.subtree_map.specs.Authority.{Leaf, NearestRoot}
 use Rattle.subtree_map.specs.Changes.{Subtrees}
 use Rattle.subtree_map.proofs.Nearest.{one_authority, one_root}
 use Rattle.subtree_map.proofs.Options.{one_value}
@@ -58,16 +53,14 @@ use Rattle.mdcache.specs.Frags.{KeepsState}
 use Rattle.mdcache.specs.Given.{HaveNoJobs, IsGivenOver}
 use Rattle.mdcache.specs.Ranks.{NoneUsed}
 use Rattle.mdcache.specs.State.{State as TreeState}
-use Rattle.mdcache.specs.StandingJobs.{Jobs}
 use Rattle.mdcache.proofs.CoreLaws.{keeps_place, reads_keeps, reads_state}
 use Rattle.mdcache.proofs.FragsLaws.{lacked_at}
 use Rattle.mdcache.proofs.UncleanOf.{few_lack}
 use Rattle.ranked_tree.specs.declared.regions.Regions.{Regions}
-use Rattle.ranked_tree.specs.Exported.{IsDivided, IsFrozenIn, StandSoundly, held_in}
-use Rattle.ranked_tree.specs.Held.{IsOwned}
-use Rattle.ranked_tree.specs.Importing.{ComeToImporter, GivesUp, HandsRegion, Imports, IsRenewed, IsSpelledBy, IsWrong, KeepsRegion, MayNotImport, RefusesImport, StaysAtOnce, Takes, TakesAtOnce, imported_unsaved}
+use Rattle.ranked_tree.specs.Exported.{IsDivided, StandSoundly, held_in}
+use Rattle.ranked_tree.specs.Importing.{ComeToImporter, HandsRegion, Imports, IsRenewed, IsSpelledBy, KeepsRegion, MayNotImport, StaysAtOnce, Takes, TakesAtOnce, imported_unsaved}
 use Rattle.ranked_tree.specs.Sending.{IsInRegionOf, SpellsRegion}
-use Rattle.ranked_tree.specs.Subtrees.{KeepsOutside, Rules}
+use Rattle.ranked_tree.specs.Subtrees.{KeepsOutside}
 use Rattle.ranked_tree.proofs.HeldLaws.{held_after, owned_reads}
 use Rattle.ranked_tree.proofs.SendLaws.{region_held, region_here, have_versions}
 use Rattle.ranked_tree.proofs.StandLaws.{divided_still, held_bound, same_jobs}

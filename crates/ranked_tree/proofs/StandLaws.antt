@@ -7,7 +7,6 @@ use Rattle.std.specs.FinMap as map
 use Rattle.std.specs.FinMap.{get-empty, same_map}
 use Rattle.mds_types.specs.declared.ids.Ino.{Ino}
 use Rattle.mds_types.specs.declared.ids.Rank.{Rank}
-use Rattle.mds_types.specs.declared.inodes.Inode.{Inode}
 use Rattle.mds_types.specs.declared.refusals.Refusal.{Refusal}
 use Rattle.mds_types.specs.Frag.{Fragment}
 use Rattle.mds_types.specs.Tree.{is_dir_kind}
@@ -23,7 +22,7 @@ use Rattle.export_steps.specs.Regions.{AreFrozenRegionsKept}
 use Rattle.export_steps.specs.Standing.{Standing}
 use Rattle.export_steps.proofs.Holding.{get_holding, holder_is, imported_freezes, keep_frozen, keep_holders}
 use Rattle.inode_table.specs.Dirs.{Covers, Homes, IsLive}
-use Rattle.namespace_ops.specs.Changes.{MayChange, adds, dentry_at, leaves}
+use Rattle.namespace_ops.specs.Changes.{MayChange, dentry_at, leaves}
 use Rattle.namespace_ops.proofs.Shapes.{Shape, shape_of}
 use Rattle.namespace_ops.proofs.Shapes.Shape.{add, move, remove, set}
 use Rattle.namespace_ops.specs.declared.plans.Change.{Change}

@@ -68,9 +68,7 @@ impl<S: Store + Drop> RankedTree<S> {
         ensures roots { self.new.subtrees.roots ≡ self.old.subtrees.roots }
         ensures holders { held_roots self.new ≡ held_roots self.old }
     {
-        self.regions
-            .exports
-            .prep(&mut self.regions.roots, alloc, self.tree.dirs(), dir, frag)
+        self.regions.exports.prep(&mut self.regions.roots, alloc, self.tree.dirs(), dir, frag)
     }
 
     /// Cancel: an export that isn't sent yet is over, and its region thaws, as `Exports::cancel` does and refuses. The tree and

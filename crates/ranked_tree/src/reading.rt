@@ -18,26 +18,29 @@ use mds_types::{Frag, Ino, Refusal};
 use objstore::Store;
 
 impl<S: Store + Drop> RankedTree<S> {
-    /// The store. A caller also learns from it that the tree is sound, that the roots are its own, that a rank caches only leaves
-    /// that it holds and has places of no other live leaf, that the exports stand soundly, and that each rank caches at most as
-    /// many as it has places.
-    pub fn store(&self) -> &S
-        ensures objects { S.objects result.now ≡ self.now.tree.objects }
-        ensures faults { S.faults result.now ≡ self.now.tree.faults }
+    /// Tells what every tree keeps: it is sound, the roots are its own, a rank caches only leaves that it holds and has places of no
+    /// other live leaf, the exports stand soundly, and each rank caches at most as many as it has places.
+    pub fn is_sound(&self)
         ensures owned { IsOwned self.now.tree (held_roots self.now) }
         ensures stand { StandSoundly (state_of self.now.tree) (length self.now.tree.caches.used) self.now.subtrees self.now.exports }
         ensures caches { AreCaches self.now.tree.caches }
     {
         // The contract of `ranks` is what says it of the caches.
         let _ = self.tree.ranks();
+    }
+
+    /// The store.
+    pub fn store(&self) -> &S
+        ensures objects { S.objects result.now ≡ self.now.tree.objects }
+        ensures faults { S.faults result.now ≡ self.now.tree.faults }
+    {
         self.tree.store()
     }
 
-    /// Which directories there are, and the leaves of each. A caller also learns from it that the state is sound.
+    /// Which directories there are, and the leaves of each.
     pub fn dirs(&self) -> &Dirs
         ensures homes { result.now.homes ≡ self.now.tree.homes }
         ensures trees { result.now.trees ≡ self.now.tree.covers }
-        ensures sound { IsSound (state_of self.now.tree) }
     {
         self.tree.dirs()
     }

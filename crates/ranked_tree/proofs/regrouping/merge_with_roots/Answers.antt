@@ -1,4 +1,4 @@
-use Rattle.std.specs.Prelude.{◌+◌, ◌^◌, Err}
+use Rattle.std.specs.Prelude.{Err}
 use Rattle.std.proofs.Common.{ap, refl, sym, subst, arith, ◌∙◌}
 use Rattle.fragtree.specs.FragTree.{CanMerge, RefusesMerge}
 use Rattle.dentry_cache.specs.Came.Came.{stays}

@@ -1,7 +1,3 @@
-use Rattle.std.proofs.Common.{sym, subst}
-use Rattle.mds_types.specs.Leaf.{leaf_of}
-use Rattle.inode_table.specs.Dirs.{IsLive}
-use Rattle.ranked_tree.specs.Ranked.{Ranked}
 use Rattle.ranked_tree.proofs.FragsLaws.{found_live}
 use Rattle.ranked_tree.proofs.ranked_tree.RankedTree.authority_at.Goals as goal
 

@@ -1,11 +1,6 @@
-use Rattle.std.proofs.Common.{None, ap, sym, ◌∙◌}
-use Rattle.std.specs.FinMap as map
-use Rattle.std.specs.FinMap.{get-empty}
 use Rattle.dentry_cache.specs.Came.{NoneEnds}
 use Rattle.dentry_cache.proofs.FrameLaws.{came_ranks}
-use Rattle.mds_types.specs.Leaf.{leaf_cmp}
 use Rattle.mdcache.specs.Flushed.{HasFragment}
-use Rattle.mdcache.specs.StandingJobs.{Jobs}
 use Rattle.ranked_tree.specs.Exported.{held_in}
 use Rattle.ranked_tree.proofs.FlushedLaws.{holds_what_it_has}
 use Rattle.ranked_tree.proofs.HeldLaws.{owned_came}
