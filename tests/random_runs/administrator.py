@@ -24,7 +24,7 @@ def next_step(export):
 class Administrator(Player):
     def __init__(self, seed, ranks):
         super().__init__(seed, ranks)
-        # of each job the names that its leaf had when it was begun, and those that had changed
+        # of each job the names that its leaf had when it was begun, with whether they are directories, and those that had changed
         self.begun = {}
 
     # ---- what is picked
@@ -89,7 +89,7 @@ class Administrator(Player):
             return 0, refused
         number = len(self.begun) + 1
         self.ranks.jobs[leaf] = number
-        self.begun[number] = self.ranks.names_in(leaf), self.ranks.unclean.snapshot(leaf)
+        self.begun[number] = self.ranks.rows_in(leaf), self.ranks.unclean.snapshot(leaf)
         return number, 0
 
     def begin(self):
@@ -163,15 +163,16 @@ class Administrator(Player):
         self.expect('history', f'history {len(self.replies)}')
 
     def is_object(self, leaf, names):
-        name = object_of(leaf)
+        """The leaf's object has these names, and counts those of them that are directories, and the others."""
+        name, dirs = object_of(leaf), sum(is_dir for _, is_dir in names)
         said = self.say(f'object {name}').split()
-        if said[:1] != ['frag'] or int(said[2]) + int(said[3]) != len(names) or said[4:] != [name + '_head' for name in names]:
+        if said[:1] + said[2:] != ['frag', str(len(names) - dirs), str(dirs), *(text + '_head' for text, _ in names)]:
             raise Broken(f'object {name}\n  prints {" ".join(said)}\n  and its names are {names}')
 
     def is_stored(self):
         """Each leaf's object is there with its names, and no object but these and those of directories with more leaves than one."""
         for leaf in self.ranks.all_leaves():
-            self.is_object(leaf, self.ranks.names_in(leaf))
+            self.is_object(leaf, self.ranks.rows_in(leaf))
         wanted = {object_of(leaf) for leaf in self.ranks.all_leaves()}
         wanted |= {f'{directory:x}.fragtree' for directory, frags in self.ranks.leaves.items() if len(frags) > 1}
         said = self.say('objects').split()

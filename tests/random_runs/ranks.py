@@ -50,8 +50,12 @@ class Ranks:
     def leaf_of(self, directory, name):
         return directory, next(frag for frag in self.leaves[directory] if bits_of(name).startswith(frag[:-1]))
 
+    def rows_in(self, leaf):
+        """The names in a leaf, each with whether it is a directory."""
+        return sorted((row.name, row.kind == 'dir') for row in self.table.inside(leaf[0]) if self.leaf_of(leaf[0], row.name) == leaf)
+
     def names_in(self, leaf):
-        return sorted(row.name for row in self.table.inside(leaf[0]) if self.leaf_of(leaf[0], row.name) == leaf)
+        return [name for name, _ in self.rows_in(leaf)]
 
     def climbs_to(self, leaf, root=None):
         """The nearest subtree root of a leaf, itself first and then along dentries upwards, were this one a root too."""
