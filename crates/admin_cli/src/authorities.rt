@@ -47,7 +47,8 @@ fn root_list(alloc: Global, subtrees: &Subtrees) -> Result<RootList, AllocError>
     ensures { IfOk result (λ roots. roots ≡ roots_in subtrees.now.roots) }
 {
     let mut roots = Vec::new(alloc);
-    for ((ino, frag), rank) in subtrees.iter() {
+    for row in subtrees.iter() {
+        let ((ino, frag), rank) = row;
         roots.push(Root { ino, frag, rank })?;
     }
     Ok(RootList::from_vec(roots))
