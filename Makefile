@@ -1,10 +1,13 @@
 # make                    proves every crate that the program stands on and builds it as ./cephmeta
 # make run                does so, and runs a script from standard input
 # make test               is the gate: every proof from nothing, the edits that must fail, the tests and the programs
+# make install            puts the program with its man page and completions below PREFIX, /usr/local if none is given
 # make units [NAME..]     runs the tests of these files of tests/units or of all
 # make strength [CRATE..] tries the edits that the gate leaves out, of these crates or of all
 
-.PHONY: all run test units strength
+.PHONY: all run install test units strength
+
+PREFIX ?= /usr/local
 
 all:
 	@cd crates/cephmeta && rt run -- script < /dev/null >&2
@@ -12,6 +15,10 @@ all:
 
 run: all
 	@./cephmeta script
+
+install: $(if $(wildcard cephmeta),,all)
+	@install -D cephmeta $(DESTDIR)$(PREFIX)/bin/cephmeta
+	@install/make_pages ./cephmeta $(DESTDIR)$(PREFIX)/share
 
 # `rt ci` proves and builds the program; nothing is proved again for what follows it. A check gets the processors that no other task
 # waits for: the chain of crates is long, so that is faster by the clock than one job each (docs/PROVING.md, Times)
@@ -21,6 +28,8 @@ test:
 	@tests/units/run
 	@cp crates/cephmeta/out/cephmeta cephmeta
 	@examples/check
+	@examples/library/run
+	@tests/install/run
 	@tests/rows/run
 	@tests/operation_table/run
 	@tests/many_names/run
