@@ -4,6 +4,7 @@ use Rattle.std.proofs.Math.Seq.{get_or-append_seam}
 use Rattle.std.proofs.lemmas.List.{length-append}
 use Rattle.std.proofs.lemmas.Option.{same_Some}
 use Rattle.byteorder.specs.Endian.{little_bytes}
+use Rattle.byteorder.specs.Numbers.{length-bytes_low_first}
 use Rattle.dirfrag_codec.specs.EntryRecord.{fields_bytes}
 use Rattle.dirfrag_codec.specs.Reading.{◌>>=◌, number_at, numbers_at}
 use Rattle.dirfrag_codec.proofs.Front.{IsBytes, IsWidth, bind_some, number_again, number_takes}
@@ -52,6 +53,18 @@ numbers_take (width ∷ widths) bytes numbers rest (known, more_known) fits e =
       parts = t.0.parts ∙ ap (λ (x : List ℕ). little_bytes width a.0.0 ++ x) others.parts ∙ sym (append_assoc (little_bytes width a.0.0) (fields_bytes widths b.0.0) b.0.1);
       rest_fits = others.rest_fits;
     })
+
+-- how many bytes numbers of these widths have
+abbrev pub total : List ℕ → ℕ
+total [] = 0
+total (width ∷ widths) = width + total widths
+
+pub length_fields : (widths numbers : List ℕ) → Fit widths numbers → length (fields_bytes widths numbers) ≡ total widths
+length_fields [] [] fit = refl
+length_fields [] (n ∷ numbers) fit = absurd fit
+length_fields (width ∷ widths) [] fit = absurd fit
+length_fields (width ∷ widths) (n ∷ numbers) fit =
+    omega (arith, length-append (little_bytes width n) (fields_bytes widths numbers), length-bytes_low_first 0 width n, length_fields widths numbers fit.1)
 
 -- the numbers of a list from a place on, so many of them
 abbrev pub picked : List ℕ → ℕ → ℕ → List ℕ

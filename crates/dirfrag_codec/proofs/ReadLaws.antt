@@ -10,7 +10,7 @@ use Rattle.mds_types.specs.declared.ids.Rank.{Rank}
 use Rattle.mds_types.specs.declared.inodes.Inode.{Inode}
 use Rattle.mds_types.specs.declared.inodes.Kind.{Kind}
 use Rattle.mds_types.specs.declared.inodes.Kind.TheVariants.{File, Dir, Symlink}
-use Rattle.dirfrag_codec.specs.EntryRecord.{IsRecordable, IsRecordV1, IsRecordV2, SpellsEntry, SpellsLink, WritesEntry, fields_bytes, kind_byte, numbers_v1, numbers_v2, pin_byte, target_of, widths_v1, widths_v2}
+use Rattle.dirfrag_codec.specs.EntryRecord.{IsRecordable, IsRecordV1, IsRecordV2, SpellsEntry, SpellsLink, WritesEntry, WritesLink, fields_bytes, kind_byte, numbers_v1, numbers_v2, pin_byte, target_of, widths_v1, widths_v2}
 use Rattle.dirfrag_codec.specs.Grammar.{Decodes}
 use Rattle.dirfrag_codec.specs.Reading.{◌>>=◌, IsFieldsOfLink, IsInodeOf, IsPinOf, RecordFields, fields_at, fields_of_inode, fields_of_version, fields_v1, fields_v2, fits_kind, numbers_at, version_at, where_whole}
 use Rattle.dirfrag_codec.proofs.FieldLaws.{AreWidths, Fit, numbers_again, numbers_are, numbers_take}
@@ -227,6 +227,10 @@ written_answered bytes version rest (Ok (Some inode)) read second (inr s) = s
 written_answered bytes version rest (Ok (Some inode)) read second (inl s) =
     let found = same_Some (version, rest) (1, fields_bytes widths_v1 (numbers_v1 inode) ++ target_of inode.kind) (sym read ∙ ap (version_at 73) s.spelled) in
     absurd (omega (arith, second, ap (λ (p : ℕ × List ℕ). p.0) found))
+
+pub written_link : {A E : Type 0} (bytes : List ℕ) (version : ℕ) (rest : List ℕ) (answer : Result A E) → version_at 73 bytes ≡ Some (version, rest) → version ≡ 2 → OnErr answer (SpellsLink bytes) → OnErr answer (WritesLink bytes)
+written_link bytes version rest (Ok found) read second h = tt
+written_link bytes version rest (Err e) read second (inode, spelled, link) = (inode, written_answered {E = ℕ} bytes version rest (Ok (Some inode)) read second spelled, link)
 
 pub written_unless : (bytes : List ℕ) → version_at 73 bytes ≡ None → Decodes WritesEntry bytes None
 written_unless bytes none = λ inode s.

@@ -11,7 +11,7 @@ use Rattle.mds_types.specs.declared.inodes.Kind.{Kind}
 use Rattle.mds_types.specs.declared.inodes.Kind.TheVariants.{File, Dir, Symlink}
 use Rattle.dirfrag_codec.specs.EntryRecord.{HasItsSpellings, HasRecord, HasTarget, HasWidths, IsPlain, IsRankNumber, IsRecordable, IsRecordV1, IsRecordV2, SpellsEntry, WritesEntry, fields_bytes, kind_byte, numbers_v1, numbers_v2, pin_byte, record_v1, record_v2, target_of, widths_v1, widths_v2}
 use Rattle.dirfrag_codec.specs.Reading.{numbers_at}
-use Rattle.dirfrag_codec.proofs.FieldLaws.{Fit, numbers_again}
+use Rattle.dirfrag_codec.proofs.FieldLaws.{Fit, length_fields, numbers_again}
 
 -- whether a number is one that ranks give
 pub number_decides : (n : ℕ) → Decides (leb (2 ^ 40) n && ltb n (17 * 2 ^ 40)) (IsRankNumber n)
@@ -175,6 +175,20 @@ allowed bytes inode (inr s) = s.allowed
 pub recorded : (bytes : List ℕ) (inode : Inode) → SpellsEntry bytes inode → HasRecord inode
 recorded bytes inode (inl s) = its_spellings.written inode s.allowed s.widths
 recorded bytes inode (inr s) = its_spellings.written inode s.allowed s.widths
+
+-- what is written has 40 bytes and the target
+pub written_short : (bytes : List ℕ) (inode : Inode) → WritesEntry bytes inode → length bytes < 256 ^ 2
+written_short bytes inode s =
+    let many : length (fields_bytes widths_v2 (numbers_v2 inode)) ≡ 38 = length_fields widths_v2 (numbers_v2 inode) (fit_v2 inode s.allowed s.widths) in
+    rw s.spelled (all_short (fields_bytes widths_v2 (numbers_v2 inode)) (target_of inode.kind) many (target_few inode.kind s.allowed.target))
+  where
+    target_few : (kind : Kind) → HasTarget kind → length (target_of kind) ≤ 4095
+    target_few File h = omega arith
+    target_few Dir h = omega arith
+    target_few (Symlink target) h = h.short
+
+    all_short : (fields target : List ℕ) → length fields ≡ 38 → length target ≤ 4095 → length (73 ∷ 2 ∷ (fields ++ target)) < 256 ^ 2
+    all_short fields target many few = omega (arith, many, few, length-append fields target)
 
 -- what is written has one meaning
 pub one_written : (bytes : List ℕ) (a b : Inode) → WritesEntry bytes a → WritesEntry bytes b → a ≡ b

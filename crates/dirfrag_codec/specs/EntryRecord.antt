@@ -126,6 +126,10 @@ SpellsLink bytes = (inode : Inode) × SpellsEntry bytes inode × IsLink inode.ki
 abbrev pub WritesEntry : List ℕ → Inode → Type 0
 WritesEntry bytes inode = IsRecordV2 bytes inode
 
+-- the bytes are the record of a link in the version that is written
+abbrev pub WritesLink : List ℕ → Type 0
+WritesLink bytes = (inode : Inode) × WritesEntry bytes inode × IsLink inode.kind
+
 -- the bytes that are written for an inode
 abbrev pub entry_bytes : Inode → List ℕ
 entry_bytes inode = record_v2 inode

@@ -1,7 +1,7 @@
 //! The record of a directory entry.
 ghost use Rattle.std.specs.Prelude.{◌≡◌, ◌≤◌, ◌∷◌, [], IfOk, OnErr, length};
 ghost use Rattle.mds_types.specs.Name.{IsTarget};
-ghost use Rattle.dirfrag_codec.specs.EntryRecord.{IsRecordable, SpellsEntry, SpellsLink, WritesEntry, kind_byte, pin_byte, target_of, widths_front};
+ghost use Rattle.dirfrag_codec.specs.EntryRecord.{IsRecordable, SpellsEntry, SpellsLink, WritesEntry, WritesLink, kind_byte, pin_byte, target_of, widths_front};
 ghost use Rattle.dirfrag_codec.specs.Grammar.{Decodes};
 ghost use Rattle.dirfrag_codec.specs.Reading.{Gives, IsFieldsOfLink, IsInodeOf, IsKindOf, IsPinOf, RecordFields, fields_at, fields_at_v1, fields_at_v2, fits_kind, numbers_at};
 ghost use Rattle.dirfrag_codec.specs.Values.{entry_of, written_of};
@@ -65,10 +65,11 @@ pub fn decode_entry(alloc: Global, bytes: &[u8]) -> Result<Option<Inode>, AllocE
 }
 
 /// The inode whose record these bytes are in the version that is written; none, where they are another version's or no record.
+/// Takes memory for a link's target alone.
 pub fn decode_written(alloc: Global, bytes: &[u8]) -> Result<Option<Inode>, AllocError>
     ensures spelled { IfOk result (Decodes WritesEntry bytes.now) }
     ensures value { IfOk result (λ answer. answer ≡ written_of bytes.now) }
-    ensures memory { OnErr result (SpellsLink bytes.now) }
+    ensures memory { OnErr result (WritesLink bytes.now) }
 {
     let Some((version, _)) = version_at(bytes, LETTER) else {
         return Ok(None);
@@ -136,8 +137,8 @@ fn first_fields_of(bytes: &[u8]) -> Option<Fields<'_>>
     ensures { Gives (λ f. record { kind = f.front.kind; ino = f.front.ino; mode = f.front.mode; size = f.front.size; mtime = f.front.mtime; uid = f.uid; gid = f.gid; pin = f.pin; target = f.target.now }) result (fields_at_v1 bytes.now) }
 {
     let (front, rest) = front_of(bytes)?;
-    let (len, target) = u16_at(rest)?;
-    if target.len() != usize::from(len) {
+    let (stated, target) = u16_at(rest)?;
+    if target.len() != usize::from(stated) {
         return None;
     }
     Some(Fields {

@@ -3,10 +3,11 @@ use Rattle.std.specs.Prelude.{◌≡◌, ℕ, Option, Some, None, unwrap_or, ref
 use Rattle.std.proofs.Common.{arith}
 use Rattle.std.proofs.lemmas.Bool.Decides.{nat_tests}
 use Rattle.mds_types.specs.declared.ids.Rank.{Rank}
+use Rattle.mds_types.specs.declared.inodes.Alteration.{Alteration}
+use Rattle.mds_types.specs.declared.inodes.Alteration.TheVariants.{Attributed, Pinned}
 use Rattle.mds_types.specs.declared.inodes.Inode.{Inode}
 use Rattle.mds_types.specs.declared.inodes.Kind.{Kind}
 use Rattle.mds_types.specs.declared.inodes.Kind.TheVariants.{File, Dir, Symlink}
-use Rattle.mds_types.specs.Shape.{Alteration, Attributed, Pinned}
 use Rattle.mds_types.specs.Step.{altered, alteration_errno, pin_errno, size_errno}
 use Rattle.mds_types.specs.Tree.{HasPinOf, HasSize}
 

@@ -4,12 +4,13 @@ use Rattle.std.proofs.Common.{sym, ap, ◌∙◌, ⊎_elim, inl, inr}
 use Rattle.std.specs.Ordering.{eq_by_cmp}
 use Rattle.std.specs.FinMap as map
 use Rattle.mds_types.specs.declared.dentries.Dentry.{Dentry}
+use Rattle.mds_types.specs.declared.inodes.Alteration.{Alteration}
 use Rattle.mds_types.specs.declared.inodes.Inode.{Inode}
 use Rattle.mds_types.specs.declared.replies.Reply.{Reply}
 use Rattle.mds_types.specs.declared.replies.Reply.TheVariants.{Entry, Done, Errno}
 use Rattle.mds_types.specs.declared.operations.Op.{Op}
 use Rattle.mds_types.specs.Tree.{Tree, dentry_cmp, is_directory, is_dir_kind}
-use Rattle.mds_types.specs.Shape.{Alteration, Shape, Looks, Lists, Makes, Sets, Unlinks, Removes, Moves, destination_in, directory_in, shape}
+use Rattle.mds_types.specs.Shape.{Shape, Looks, Lists, Makes, Sets, Unlinks, Removes, Moves, destination_in, directory_in, shape}
 use Rattle.mds_types.specs.Step.{Outcome, answers, with_moved, altered, altered_at, alteration_errno, looked, made, new_inode, unless, unlinked, dir_removed, removal_errno, leads_to, replace_errno, renamed, done_in, step}
 use Rattle.mds_types.proofs.AlterationLaws.{altered_number}
 use Rattle.mds_types.proofs.EntryLaws.{stands_after_put, stands_after_removal}

@@ -2,6 +2,7 @@
 use Rattle.std.specs.Prelude.{◌≡◌, ℕ, Bool, true, false, cond, not, ◌&&◌, Option, Some, None, refl}
 use Rattle.std.proofs.Common.{sym}
 use Rattle.mds_types.specs.declared.dentries.Dentry.{Dentry}
+use Rattle.mds_types.specs.declared.inodes.Alteration.{Alteration}
 use Rattle.mds_types.specs.declared.inodes.Inode.{Inode}
 use Rattle.mds_types.specs.declared.operations.Op.{Op}
 use Rattle.mds_types.specs.declared.replies.Reply.{Reply}
@@ -9,7 +10,7 @@ use Rattle.mds_types.specs.declared.replies.Reply.TheVariants.{Entry, Done, Errn
 use Rattle.std.specs.FinMap as map
 use Rattle.std.specs.Ordering.{eq_by_cmp}
 use Rattle.mds_types.specs.Tree.{Tree, dentry_cmp, is_directory, is_dir_kind}
-use Rattle.mds_types.specs.Shape.{Alteration, Shape, Looks, Lists, Makes, Sets, Unlinks, Removes, Moves, destination_in, directory_in, makes_in, shape}
+use Rattle.mds_types.specs.Shape.{Shape, Looks, Lists, Makes, Sets, Unlinks, Removes, Moves, destination_in, directory_in, makes_in, shape}
 use Rattle.mds_types.specs.Step.{Outcome, answers, unless, altered, altered_at, alteration_errno, looked, done_in, step, made, unlinked, dir_removed, removal_errno, leads_to, replace_errno, renamed}
 use Rattle.mds_types.specs.Outcomes.{ErrnoLeaves, TakesWhereMade, is_errno}
 

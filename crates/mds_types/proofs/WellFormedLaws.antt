@@ -7,12 +7,13 @@ use Rattle.std.specs.FinMap as map
 use Rattle.std.specs.FinMap.{get-insert}
 use Rattle.mds_types.specs.declared.replies.Reply.TheVariants.{Errno}
 use Rattle.mds_types.specs.declared.dentries.Dentry.{Dentry}
+use Rattle.mds_types.specs.declared.inodes.Alteration.{Alteration}
 use Rattle.mds_types.specs.declared.inodes.Inode.{Inode}
 use Rattle.mds_types.specs.declared.inodes.Kind.{Kind}
 use Rattle.mds_types.specs.declared.inodes.Kind.TheVariants.{File, Dir, Symlink}
 use Rattle.mds_types.specs.declared.operations.Op.{Op}
 use Rattle.mds_types.specs.declared.replies.Reply.{Reply}
-use Rattle.mds_types.specs.Shape.{Alteration, Shape, Looks, Lists, Makes, Sets, Unlinks, Removes, Moves, destination_in, directory_in, shape}
+use Rattle.mds_types.specs.Shape.{Shape, Looks, Lists, Makes, Sets, Unlinks, Removes, Moves, destination_in, directory_in, shape}
 use Rattle.mds_types.specs.Step.{Outcome, answers, altered, altered_at, alteration_errno, new_size, looked, made, new_inode, unless, unlinked, dir_removed, removal_errno, leads_to, replace_errno, renamed, done_in, step, step_in}
 use Rattle.mds_types.specs.Tree.{Tree, dentry_cmp, dentry_of, at, is_directory, is_dir_kind, has_entries, IsAbove, child, further, HasPinOf, HasSize, IsWellFormed, IsUnused}
 use Rattle.mds_types.proofs.TreeLaws.{is_directory-insert}

@@ -1,9 +1,9 @@
 -- The shape of each operation: which names it reads, makes, sets, takes away or moves, whatever it is called.
 -- What operations do when they succeed is POSIX.1's; that a directory is pinned to a rank is the CephFS documentation's (`ceph.dir.pin`).
 use Rattle.std.specs.Prelude.{ℕ, Bool, true, false, List, Option, Some, None}
-use Rattle.mds_types.specs.declared.ids.Rank.{Rank}
 use Rattle.mds_types.specs.declared.dentries.Dentry.{Dentry}
-use Rattle.mds_types.specs.declared.inodes.Attributes.{Attributes}
+use Rattle.mds_types.specs.declared.inodes.Alteration.{Alteration}
+use Rattle.mds_types.specs.declared.inodes.Alteration.TheVariants.{Attributed, Pinned}
 use Rattle.mds_types.specs.declared.inodes.Birth.{Birth}
 use Rattle.mds_types.specs.declared.inodes.Inode.{Inode}
 use Rattle.mds_types.specs.declared.inodes.Kind.{Kind}
@@ -12,11 +12,6 @@ use Rattle.mds_types.specs.declared.operations.Op.{Op}
 use Rattle.mds_types.specs.declared.operations.Op.TheVariants.{Lookup, Readdir, Create, Mkdir, Readlink, Symlink, Setattr, SetPin, Unlink, Rmdir, Rename}
 use Rattle.mds_types.specs.declared.replies.Reply.{Reply}
 use Rattle.mds_types.specs.declared.replies.Reply.TheVariants.{Entry, Target, Errno}
-
--- what the inode at a dentry is given: attributes, or another pin or none
-pub data Alteration : Type 0 where
-  Attributed : Attributes → Alteration
-  Pinned : Option Rank → Alteration
 
 pub data Shape : Type 0 where
   -- it reads what stands at a dentry, and answers this of it

@@ -41,6 +41,15 @@ pub struct Birth {
     pub gid: u32,
 }
 
+impl Birth {
+    /// At time 0, with owner and group 0.
+    pub const OF_ROOT: Birth = Birth {
+        mtime: 0,
+        uid: 0,
+        gid: 0,
+    };
+}
+
 /// The attributes that an operation gives to an inode; those that aren't given stay as they are.
 #[derive(Clone, Copy, Debug, PartialEq, Eq)]
 pub struct Attributes {
@@ -49,6 +58,13 @@ pub struct Attributes {
     pub mtime: Option<u64>,
     pub uid: Option<u32>,
     pub gid: Option<u32>,
+}
+
+/// What the inode at a dentry is given: attributes, or another pin or none.
+#[derive(Clone, Copy, Debug)]
+pub enum Alteration {
+    Attributed(Attributes),
+    Pinned(Option<Rank>),
 }
 
 impl Kind {

@@ -2,7 +2,7 @@
 use Rattle.std.proofs.Common.{None}
 use Rattle.dirfrag_codec.specs.EntryRecord.{WritesEntry}
 use Rattle.dirfrag_codec.specs.Values.{written_of}
-use Rattle.dirfrag_codec.proofs.ReadLaws.{written_answered, written_other, written_unless}
+use Rattle.dirfrag_codec.proofs.ReadLaws.{written_answered, written_link, written_other, written_unless}
 use Rattle.dirfrag_codec.proofs.RecordLaws.{one_written}
 use Rattle.dirfrag_codec.proofs.ValueLaws.{one_reading, reading_answered, reads_written}
 use Rattle.dirfrag_codec.proofs.records.decode_written.Goals as goal
@@ -20,3 +20,7 @@ pub returns-clause-value : goal.returns-clause-value
 returns-clause-value c =
     reading_answered WritesEntry written_of one_written reads_written c.args.bytes.now c.decode_entry.result
     (written_answered c.args.bytes.now c.in-Some.version _ c.decode_entry.result c.in-Some.ensures c.if-version-ne-SECOND.false c.decode_entry.ensures.spelled)
+
+pub returns-clause-memory : goal.returns-clause-memory
+returns-clause-memory c =
+    written_link c.args.bytes.now c.in-Some.version _ c.decode_entry.result c.in-Some.ensures c.if-version-ne-SECOND.false c.decode_entry.ensures.memory
