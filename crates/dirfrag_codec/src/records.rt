@@ -103,7 +103,17 @@ struct Fields<'a> {
 // The fields that stand in the bytes, and nothing after them.
 #[tactic(auto, unfolding(crate::specs::Reading::fields_at))]
 fn fields_of(bytes: &[u8]) -> Option<Fields<'_>>
-    ensures { Gives (λ f. record { kind = f.front.kind; ino = f.front.ino; mode = f.front.mode; size = f.front.size; mtime = f.front.mtime; uid = f.uid; gid = f.gid; pin = f.pin; target = f.target.now }) result (fields_at bytes.now) }
+    ensures { Gives (λ f. record {
+      kind = f.front.kind;
+      ino = f.front.ino;
+      mode = f.front.mode;
+      size = f.front.size;
+      mtime = f.front.mtime;
+      uid = f.uid;
+      gid = f.gid;
+      pin = f.pin;
+      target = f.target.now;
+    }) result (fields_at bytes.now) }
 {
     let (version, rest) = version_at(bytes, LETTER)?;
     match version {
@@ -134,7 +144,17 @@ fn front_of(bytes: &[u8]) -> Option<(Front, &[u8])>
 
 // The fields behind the letter and version 1.
 fn first_fields_of(bytes: &[u8]) -> Option<Fields<'_>>
-    ensures { Gives (λ f. record { kind = f.front.kind; ino = f.front.ino; mode = f.front.mode; size = f.front.size; mtime = f.front.mtime; uid = f.uid; gid = f.gid; pin = f.pin; target = f.target.now }) result (fields_at_v1 bytes.now) }
+    ensures { Gives (λ f. record {
+      kind = f.front.kind;
+      ino = f.front.ino;
+      mode = f.front.mode;
+      size = f.front.size;
+      mtime = f.front.mtime;
+      uid = f.uid;
+      gid = f.gid;
+      pin = f.pin;
+      target = f.target.now;
+    }) result (fields_at_v1 bytes.now) }
 {
     let (front, rest) = front_of(bytes)?;
     let (stated, target) = u16_at(rest)?;
@@ -152,7 +172,17 @@ fn first_fields_of(bytes: &[u8]) -> Option<Fields<'_>>
 
 // The fields behind the letter and version 2.
 fn second_fields_of(bytes: &[u8]) -> Option<Fields<'_>>
-    ensures { Gives (λ f. record { kind = f.front.kind; ino = f.front.ino; mode = f.front.mode; size = f.front.size; mtime = f.front.mtime; uid = f.uid; gid = f.gid; pin = f.pin; target = f.target.now }) result (fields_at_v2 bytes.now) }
+    ensures { Gives (λ f. record {
+      kind = f.front.kind;
+      ino = f.front.ino;
+      mode = f.front.mode;
+      size = f.front.size;
+      mtime = f.front.mtime;
+      uid = f.uid;
+      gid = f.gid;
+      pin = f.pin;
+      target = f.target.now;
+    }) result (fields_at_v2 bytes.now) }
 {
     let (front, rest) = front_of(bytes)?;
     let (uid, rest) = u32_at(rest)?;
@@ -173,8 +203,28 @@ fn second_fields_of(bytes: &[u8]) -> Option<Fields<'_>>
 
 // The inode of these fields, if a record allows it. Takes memory only where it does.
 fn inode_of(alloc: Global, fields: Fields<'_>) -> Result<Option<Inode>, AllocError>
-    ensures ok { IfOk result (IsInodeOf (record { kind = fields.entry.front.kind; ino = fields.entry.front.ino; mode = fields.entry.front.mode; size = fields.entry.front.size; mtime = fields.entry.front.mtime; uid = fields.entry.uid; gid = fields.entry.gid; pin = fields.entry.pin; target = fields.entry.target.now })) }
-    ensures memory { OnErr result (IsFieldsOfLink (record { kind = fields.entry.front.kind; ino = fields.entry.front.ino; mode = fields.entry.front.mode; size = fields.entry.front.size; mtime = fields.entry.front.mtime; uid = fields.entry.uid; gid = fields.entry.gid; pin = fields.entry.pin; target = fields.entry.target.now })) }
+    ensures ok { IfOk result (IsInodeOf (record {
+      kind = fields.entry.front.kind;
+      ino = fields.entry.front.ino;
+      mode = fields.entry.front.mode;
+      size = fields.entry.front.size;
+      mtime = fields.entry.front.mtime;
+      uid = fields.entry.uid;
+      gid = fields.entry.gid;
+      pin = fields.entry.pin;
+      target = fields.entry.target.now;
+    })) }
+    ensures memory { OnErr result (IsFieldsOfLink (record {
+      kind = fields.entry.front.kind;
+      ino = fields.entry.front.ino;
+      mode = fields.entry.front.mode;
+      size = fields.entry.front.size;
+      mtime = fields.entry.front.mtime;
+      uid = fields.entry.uid;
+      gid = fields.entry.gid;
+      pin = fields.entry.pin;
+      target = fields.entry.target.now;
+    })) }
 {
     let Some(mode) = Mode::new(fields.front.mode) else {
         return Ok(None);
@@ -202,7 +252,17 @@ fn inode_of(alloc: Global, fields: Fields<'_>) -> Result<Option<Inode>, AllocErr
 
 // Whether a record allows the number, and the size for the kind.
 fn fits_kind(fields: &Fields<'_>) -> bool
-    ensures { result ≡ fits_kind (record { kind = fields.now.front.kind; ino = fields.now.front.ino; mode = fields.now.front.mode; size = fields.now.front.size; mtime = fields.now.front.mtime; uid = fields.now.uid; gid = fields.now.gid; pin = fields.now.pin; target = fields.now.target.now }) }
+    ensures { result ≡ fits_kind (record {
+      kind = fields.now.front.kind;
+      ino = fields.now.front.ino;
+      mode = fields.now.front.mode;
+      size = fields.now.front.size;
+      mtime = fields.now.front.mtime;
+      uid = fields.now.uid;
+      gid = fields.now.gid;
+      pin = fields.now.pin;
+      target = fields.now.target.now;
+    }) }
 {
     let has_size = match fields.front.kind {
         DIR => fields.front.size == 0,

@@ -100,6 +100,7 @@ empty_tabled = record {
     parents = λ d name inode h. absurd (nothing (dentry_of d name) inode h);
     rooted = λ d name inode h. absurd (nothing (dentry_of d name) inode h);
     sizes = λ d name inode h. absurd (nothing (dentry_of d name) inode h);
+    pins = λ d name inode h. absurd (nothing (dentry_of d name) inode h);
   };
   holds = record {
     listed = λ dentry inode h kinded. absurd (nothing dentry inode h);

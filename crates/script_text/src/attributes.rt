@@ -40,8 +40,8 @@ pub fn given_birth(words: &[u8]) -> Result<Birth, ReadError>
     ensures { Reads (λ birth. birth) result (birth_of (words_of words.now)) }
 {
     let (uid, rest) = keyed(b"uid", words)?;
-    let (gid, rest) = keyed(b"gid", rest)?;
-    none(rest)?;
+    let (gid, left) = keyed(b"gid", rest)?;
+    none(left)?;
     let uid = id_given(uid)?;
     let gid = id_given(gid)?;
     Ok(Birth {
