@@ -185,7 +185,7 @@ module _ (frag : Fragment) (pairs : PairMap) (names : Names) (good : are_good fr
   pub names_entries : AreEntries names
   names_entries q inode is =
       let p = holds_all q inode is in
-      record { named = p.named; recorded = spelled_recorded p.bytes p.inode p.spelled }
+      record { named = p.named; recorded = spelled_recorded p.bytes inode p.spelled }
 
 -- of an object that spells names of the fragment each pair is good
 module _ (frag : Fragment) (object : Omap) (version : ℕ) (names : Names) (w : IsWhole frag object version names) where

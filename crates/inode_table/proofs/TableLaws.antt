@@ -204,9 +204,12 @@ set_tabled tree homes dentry inode tabled may = record {
     go d home is (inl same) =
         let before = tabled.holds.stands d home is in
         let inodes : Some may.before ≡ Some before.0 = sym may.stands ∙ ap (λ p. map.get tree p) (sym same) ∙ before.1 in
-        let alike : may.before ≡ before.0 = cc in
-        (inode, ap (λ p. map.get (map.insert tree dentry inode) p) same ∙ get_put tree dentry inode, ap (λ (n : _). n.0) may.number ∙ ap (λ (i : Inode). i.ino.0) alike ∙ before.2,
-          same_dir ∙ ap (λ (i : Inode). is_dir_kind i.kind) alike ∙ before.3)
+        let alike : may.before ≡ before.0 = cc in (
+          inode,
+          ap (λ p. map.get (map.insert tree dentry inode) p) same ∙ get_put tree dentry inode,
+          ap (λ (n : _). n.0) may.number ∙ ap (λ (i : Inode). i.ino.0) alike ∙ before.2,
+          same_dir ∙ ap (λ (i : Inode). is_dir_kind i.kind) alike ∙ before.3,
+        )
     go d home is (inr apart) = let before = tabled.holds.stands d home is in (before.0, get_beside tree dentry inode (dentry_at home) apart ∙ before.1, before.2, before.3)
 
 -- nothing is in an inode that may go

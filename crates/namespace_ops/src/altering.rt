@@ -16,8 +16,8 @@ ghost use Rattle.namespace_ops.specs.Reasons.{Refuses};
 use crate::frags::Frags;
 use crate::plans::{Change, Checked, Spot};
 use mds_types::{
-    Alteration, Attributes, Dentry, Dirfrag, EINVAL, EISDIR, ENOENT, ENOTDIR, Inode, Kind, Op, Rank,
-    Refusal, Reply,
+    Alteration, Attributes, Dentry, Dirfrag, EINVAL, EISDIR, ENOENT, ENOTDIR, Inode, Kind, Op,
+    Rank, Refusal, Reply,
 };
 
 // How many ranks there are at most.

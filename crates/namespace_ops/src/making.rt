@@ -16,7 +16,9 @@ ghost use Rattle.namespace_ops.specs.Reasons.{Refuses};
 
 use crate::frags::Frags;
 use crate::plans::{Change, Checked, Spot};
-use mds_types::{Birth, Dentry, Dirfrag, EEXIST, Ino, Inode, Kind, Mode, Op, Refusal, Reply, Target};
+use mds_types::{
+    Birth, Dentry, Dirfrag, EEXIST, Ino, Inode, Kind, Mode, Op, Refusal, Reply, Target,
+};
 
 /// What a new inode is, beside its number and size.
 #[derive(Drop)]

@@ -21,7 +21,7 @@ pub returns-in-Setattr-clause-checked : goal.returns-in-Setattr-clause-checked
 returns-in-Setattr-clause-checked g c = step_at _ _ _ _ (Setattr c.in-Setattr.dentry c.in-Setattr.attributes) c.in-Setattr.is c.args.number.0 _ c.args.places c.in-Some.at c.requires c.in-Some.is refl (c.alter.ensures.checked c.args.number.0)
 
 pub returns-in-SetPin-clause-checked : goal.returns-in-SetPin-clause-checked
-returns-in-SetPin-clause-checked g c = step_at _ _ _ _ (SetPin c.in-SetPin.dentry c.in-SetPin.pin) c.in-SetPin.is c.args.number.0 _ c.args.places c.in-Some.at c.requires c.in-Some.is refl (c.alter-2.ensures.checked c.args.number.0)
+returns-in-SetPin-clause-checked g c = step_at _ _ _ _ (SetPin c.in-SetPin.dentry c.in-SetPin.pin) c.in-SetPin.is c.args.number.0 _ c.args.places c.in-Some.at c.requires c.in-Some.is refl (c.alter-in-SetPin.ensures.checked c.args.number.0)
 
 pub returns-in-Unlink-clause-checked : goal.returns-in-Unlink-clause-checked
 returns-in-Unlink-clause-checked g c = step_at _ _ _ _ (Unlink c.in-Unlink.dentry) c.in-Unlink.is c.args.number.0 _ c.args.places c.in-Some.at c.requires c.in-Some.is refl (c.unlink.ensures.checked c.args.number.0)
