@@ -3,7 +3,6 @@ pub mod FieldLaws
 pub mod FragmentLaws
 pub mod Front
 pub mod HeaderLaws
-pub mod ReadLaws
 pub mod RecordLaws
 pub mod TileLaws
 pub mod TreeLaws

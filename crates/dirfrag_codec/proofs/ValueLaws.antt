@@ -22,16 +22,15 @@ use Rattle.mds_types.specs.declared.inodes.Kind.TheVariants.{File, Dir, Symlink}
 use Rattle.fragtree.specs.FragTree.{Tiles}
 use Rattle.objstore.specs.EntryKeys.{entry_key}
 use Rattle.dirfrag_codec.specs.declared.headers.FragHeader.{FragHeader}
-use Rattle.dirfrag_codec.specs.EntryRecord.{HasTarget, HasWidths, IsPlain, IsRecordable, IsRecordV1, IsRecordV2, SpellsEntry, WritesEntry, kind_byte, pin_byte, record_v1, record_v2, target_of}
+use Rattle.dirfrag_codec.specs.EntryRecord.{HasTarget, IsRecordable, IsRecordV1, IsRecordV2, SpellsEntry, WritesEntry, kind_byte, pin_byte, record_v1, record_v2, target_of}
 use Rattle.dirfrag_codec.specs.FragHeader.{SpellsHeader, header_bytes}
 use Rattle.dirfrag_codec.specs.FragmentObject.{SpellsKey}
 use Rattle.dirfrag_codec.specs.Grammar.{Decodes, HasOneMeaning, Reads}
-use Rattle.dirfrag_codec.specs.Reading.{◌>>=◌, RecordFields, fields_of_inode, header_at}
+use Rattle.dirfrag_codec.specs.Reading.{◌>>=◌, RecordFields, fields_of_inode, header_at, inode_with, pin_of_byte}
 use Rattle.dirfrag_codec.specs.TreeObject.{SpellsTree, leaf_bytes, tree_bytes}
-use Rattle.dirfrag_codec.specs.Values.{all_leaves_at, allows, do_tile, entry_of, fragment_of, front_of, has_no_pin, has_pin, has_size, has_target, has_widths, header_of, inode_at, inode_with, is_fragment, is_header, is_name, is_plain, is_record_v1, is_record_v2, is_tree, is_written, kind_of, leaves_at, name_of, pin_of_byte, tree_of, written_of}
+use Rattle.dirfrag_codec.specs.Values.{all_leaves_at, allows, do_tile, entry_of, fragment_of, front_of, has_pin, has_size, has_target, header_of, inode_at, is_fragment, is_header, is_name, is_record_v1, is_record_v2, is_tree, is_written, kind_of, leaves_at, name_of, tree_of, written_of}
 use Rattle.dirfrag_codec.proofs.HeaderLaws.{header_again}
-use Rattle.dirfrag_codec.proofs.ReadLaws.{fields_of_record}
-use Rattle.dirfrag_codec.proofs.RecordLaws.{allowed, number_decides}
+use Rattle.dirfrag_codec.proofs.RecordLaws.{allowed, fields_of_record, number_decides, plain_decides, widths_decides}
 use Rattle.dirfrag_codec.proofs.TreeLaws.{four_each, fragments_of, words_of_tree, word_low}
 
 -- what is read first and then asked for is read exactly, where each spelled value is read first
@@ -100,24 +99,10 @@ has_pin_decides File (Some rank) = (λ e. cc, λ h. absurd h)
 has_pin_decides Dir (Some rank) = Decides-ltb rank.0 16
 has_pin_decides (Symlink target) (Some rank) = (λ e. cc, λ h. absurd h)
 
-no_pin_decides : (pin : Option Rank) → Decides (has_no_pin pin) (pin ≡ None)
-no_pin_decides None = (λ _. refl, λ _. refl)
-no_pin_decides (Some rank) = (λ e. absurd cc, λ e. absurd cc)
-
 allows_decides : (inode : Inode) → Decides (allows inode) (IsRecordable inode)
 allows_decides inode =
     Decides-like _ (λ p. record { number = p.0; mode = p.1.0; size = p.1.1.0; target = p.1.1.1.0; pin = p.1.1.1.1 }) (λ h. (h.number, (h.mode, (h.size, (h.target, h.pin)))))
     (Decides-and _ _ (number_decides inode.ino.0) (Decides-and _ _ (le_decides inode.mode 4095) (Decides-and _ _ (has_size_decides inode.kind inode.size) (Decides-and _ _ (has_target_decides inode.kind) (has_pin_decides inode.kind inode.pin)))))
-
-widths_decides : (inode : Inode) → Decides (has_widths inode) (HasWidths inode)
-widths_decides inode =
-    Decides-like _ (λ p. record { size = p.0; mtime = p.1.0; uid = p.1.1.0; gid = p.1.1.1 }) (λ h. (h.size, (h.mtime, (h.uid, h.gid))))
-    (Decides-and _ _ (Decides-ltb inode.size (2 ^ 64)) (Decides-and _ _ (Decides-ltb inode.mtime (2 ^ 64)) (Decides-and _ _ (Decides-ltb inode.uid (2 ^ 32)) (Decides-ltb inode.gid (2 ^ 32)))))
-
-plain_decides : (inode : Inode) → Decides (is_plain inode) (IsPlain inode)
-plain_decides inode =
-    Decides-like _ (λ p. record { uid = p.0; gid = p.1.0; pin = p.1.1 }) (λ h. (h.uid, (h.gid, h.pin)))
-    (Decides-and _ _ (Decides-eqb inode.uid 0) (Decides-and _ _ (Decides-eqb inode.gid 0) (no_pin_decides inode.pin)))
 
 pub first_decides : (bytes : List ℕ) (inode : Inode) → Decides (is_record_v1 bytes inode) (IsRecordV1 bytes inode)
 first_decides bytes inode =

@@ -1,5 +1,5 @@
 -- Reading fields from the front of bytes. Contracts of this crate and of crates that read formats of their own use these words.
-use Rattle.std.specs.Prelude.{◌≡◌, get_or, ℕ, ◌*◌, ◌^◌, Bool, true, ◌&&◌, ◌==◌, nat_lt, nat_le, if◌then◌else◌, List, [], ◌∷◌, length, drop, Option, Some, None}
+use Rattle.std.specs.Prelude.{◌≡◌, get_or, ℕ, ◌*◌, ◌^◌, Bool, true, false, ◌&&◌, ◌==◌, nat_lt, nat_le, if◌then◌else◌, List, [], ◌∷◌, length, drop, Option, Some, None}
 use Rattle.byteorder.specs.Endian.{little_number}
 use Rattle.mds_types.specs.Tree.{HasPinOf}
 use Rattle.mds_types.specs.declared.ids.Rank.{Rank}
@@ -115,6 +115,27 @@ fields_of_inode inode =
       pin = pin_byte inode.pin;
       target = target_of inode.kind;
     }
+
+-- the pin of a byte
+abbrev pub pin_of_byte : ℕ → Option Rank
+pin_of_byte byte = if byte == 255 then None else Some (record { 0 = byte })
+
+-- the inode of these fields, be it allowed or not
+abbrev pub inode_with : RecordFields → Kind → Inode
+inode_with f kind =
+    record { ino = record { 0 = f.ino }; kind = kind; mode = f.mode; size = f.size; mtime = f.mtime; uid = f.uid; gid = f.gid; pin = pin_of_byte f.pin }
+
+-- whether its numbers have their bits
+abbrev pub has_widths : Inode → Bool
+has_widths inode = nat_lt inode.size (2 ^ 64) && (nat_lt inode.mtime (2 ^ 64) && (nat_lt inode.uid (2 ^ 32) && nat_lt inode.gid (2 ^ 32)))
+
+-- whether version 1 can say it
+abbrev pub has_no_pin : Option Rank → Bool
+has_no_pin None = true
+has_no_pin (Some rank) = false
+
+abbrev pub is_plain : Inode → Bool
+is_plain inode = (inode.uid == 0) && ((inode.gid == 0) && has_no_pin inode.pin)
 
 -- the inode that a record allows and that has these fields; none if there is none
 abbrev pub IsInodeOf : RecordFields → Option Inode → Type 0

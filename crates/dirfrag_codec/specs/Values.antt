@@ -15,22 +15,13 @@ use Rattle.dirfrag_codec.specs.declared.headers.FragHeader.{FragHeader}
 use Rattle.dirfrag_codec.specs.EntryRecord.{record_v1, record_v2}
 use Rattle.dirfrag_codec.specs.FragHeader.{header_bytes}
 use Rattle.dirfrag_codec.specs.TreeObject.{tree_bytes}
-use Rattle.dirfrag_codec.specs.Reading.{◌>>=◌, RecordFields, fields_at, header_at, words_at}
+use Rattle.dirfrag_codec.specs.Reading.{◌>>=◌, fields_at, has_widths, header_at, inode_with, is_plain, words_at}
 
 -- ---- records
 
 -- the kind of a byte, with this target if it is a link
 abbrev pub kind_of : ℕ → List ℕ → Option Kind
 kind_of byte target = if byte == 1 then Some File else if byte == 2 then Some Dir else if byte == 3 then Some (Symlink target) else None
-
--- the pin of a byte
-abbrev pub pin_of_byte : ℕ → Option Rank
-pin_of_byte byte = if byte == 255 then None else Some (record { 0 = byte })
-
--- the inode of these fields, be it allowed or not
-abbrev pub inode_with : RecordFields → Kind → Inode
-inode_with f kind =
-    record { ino = record { 0 = f.ino }; kind = kind; mode = f.mode; size = f.size; mtime = f.mtime; uid = f.uid; gid = f.gid; pin = pin_of_byte f.pin }
 
 -- whether the kind prescribes this size
 abbrev pub has_size : Kind → ℕ → Bool
@@ -51,23 +42,11 @@ has_pin File (Some rank) = false
 has_pin Dir (Some rank) = nat_lt rank.0 16
 has_pin (Symlink target) (Some rank) = false
 
-abbrev pub has_no_pin : Option Rank → Bool
-has_no_pin None = true
-has_no_pin (Some rank) = false
-
 -- whether a record allows the inode
 abbrev pub allows : Inode → Bool
 allows inode =
     (nat_le (2 ^ 40) inode.ino.0 && nat_lt inode.ino.0 (17 * 2 ^ 40))
     && (nat_le inode.mode 4095 && (has_size inode.kind inode.size && (has_target inode.kind && has_pin inode.kind inode.pin)))
-
--- whether its numbers have their bits
-abbrev pub has_widths : Inode → Bool
-has_widths inode = nat_lt inode.size (2 ^ 64) && (nat_lt inode.mtime (2 ^ 64) && (nat_lt inode.uid (2 ^ 32) && nat_lt inode.gid (2 ^ 32)))
-
--- whether version 1 can say it
-abbrev pub is_plain : Inode → Bool
-is_plain inode = (inode.uid == 0) && ((inode.gid == 0) && has_no_pin inode.pin)
 
 -- whether the bytes are the record of the inode in a version
 abbrev pub is_record_v1 : List ℕ → Inode → Bool

@@ -1,7 +1,7 @@
 //! Which inodes a record allows.
-ghost use Rattle.std.specs.Prelude.{◌≡◌, ◌<◌, ◌*◌, ◌^◌, ◌&&◌, ◌↔◌, IsTrue, nat_le, nat_lt};
+ghost use Rattle.std.specs.Prelude.{◌≡◌, ◌*◌, ◌^◌, ◌&&◌, ◌↔◌, IsTrue, nat_le, nat_lt};
 ghost use Rattle.mds_types.specs.Tree.{HasPinOf, HasSize};
-ghost use Rattle.dirfrag_codec.specs.EntryRecord.{HasTarget, HasWidths, IsRankNumber, IsRecordable};
+ghost use Rattle.dirfrag_codec.specs.EntryRecord.{HasTarget, IsRankNumber, IsRecordable};
 
 use mds_types::{Inode, Kind, Rank};
 
@@ -23,30 +23,6 @@ pub fn is_recordable(inode: &Inode) -> bool
     is_rank_number(inode.ino.0)
         && has_size(&inode.kind, inode.size)
         && has_pin(&inode.kind, inode.pin)
-}
-
-/// What holds of an inode's numbers: a law of the types, so there is nothing to do.
-pub fn has_widths(inode: &Inode)
-    ensures { HasWidths inode.now }
-{
-    have_64_bits(inode.size, inode.mtime);
-    have_32_bits(inode.uid, inode.gid);
-}
-
-fn have_64_bits(size: u64, mtime: u64)
-    ensures size { size < 2 ^ 64 }
-    ensures mtime { mtime < 2 ^ 64 }
-{
-    let _ = size;
-    let _ = mtime;
-}
-
-fn have_32_bits(uid: u32, gid: u32)
-    ensures uid { uid < 2 ^ 32 }
-    ensures gid { gid < 2 ^ 32 }
-{
-    let _ = uid;
-    let _ = gid;
 }
 
 /// Whether this is a number that a rank hands out.

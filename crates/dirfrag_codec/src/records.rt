@@ -1,7 +1,7 @@
 //! The record of a directory entry.
-ghost use Rattle.std.specs.Prelude.{◌≡◌, ◌≤◌, ◌∷◌, [], IfOk, OnErr, length};
+ghost use Rattle.std.specs.Prelude.{◌≡◌, ◌<◌, ◌≤◌, ◌^◌, ◌∷◌, [], IfOk, OnErr, length};
 ghost use Rattle.mds_types.specs.Name.{IsTarget};
-ghost use Rattle.dirfrag_codec.specs.EntryRecord.{IsRecordable, SpellsEntry, SpellsLink, WritesEntry, WritesLink, kind_byte, pin_byte, target_of, widths_front};
+ghost use Rattle.dirfrag_codec.specs.EntryRecord.{HasWidths, IsRecordable, SpellsEntry, SpellsLink, WritesEntry, WritesLink, kind_byte, pin_byte, target_of, widths_front};
 ghost use Rattle.dirfrag_codec.specs.Grammar.{Decodes};
 ghost use Rattle.dirfrag_codec.specs.Reading.{Gives, IsFieldsOfLink, IsInodeOf, IsKindOf, IsPinOf, RecordFields, fields_at, fields_at_v1, fields_at_v2, fits_kind, numbers_at};
 ghost use Rattle.dirfrag_codec.specs.Values.{entry_of, written_of};
@@ -78,6 +78,30 @@ pub fn decode_written(alloc: Global, bytes: &[u8]) -> Result<Option<Inode>, Allo
         return Ok(None);
     }
     decode_entry(alloc, bytes)
+}
+
+/// What holds of an inode's numbers: a law of the types, so there is nothing to do.
+pub fn has_widths(inode: &Inode)
+    ensures { HasWidths inode.now }
+{
+    have_64_bits(inode.size, inode.mtime);
+    have_32_bits(inode.uid, inode.gid);
+}
+
+fn have_64_bits(size: u64, mtime: u64)
+    ensures size { size < 2 ^ 64 }
+    ensures mtime { mtime < 2 ^ 64 }
+{
+    let _ = size;
+    let _ = mtime;
+}
+
+fn have_32_bits(uid: u32, gid: u32)
+    ensures uid { uid < 2 ^ 32 }
+    ensures gid { gid < 2 ^ 32 }
+{
+    let _ = uid;
+    let _ = gid;
 }
 
 // What records of every version begin with.

@@ -2,7 +2,7 @@
 use Rattle.std.proofs.Common.{arith, None, rules}
 use Rattle.dirfrag_codec.specs.TreeObject.{SpellsTree}
 use Rattle.dirfrag_codec.specs.Values.{tree_of}
-use Rattle.dirfrag_codec.proofs.ReadLaws.{on_err}
+use Rattle.dirfrag_codec.proofs.RecordLaws.{on_err}
 use Rattle.dirfrag_codec.proofs.TileLaws.{no_tree, some_tree}
 use Rattle.dirfrag_codec.proofs.TreeLaws.{leaves_refused, one_tree, tree_made, tree_refused, words_takes}
 use Rattle.dirfrag_codec.proofs.ValueLaws.{one_reading, reading_answered, reads_tree}

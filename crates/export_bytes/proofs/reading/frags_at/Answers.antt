@@ -1,7 +1,7 @@
 -- One item more is read.
 use Rattle.std.proofs.Common.{◌≡◌, ◌<◌, ◌≤◌, ◌∷◌, ◌++◌, [], length, Some, arith, rules}
 use Rattle.std.proofs.lemmas.List.{length-append}
-use Rattle.dirfrag_codec.proofs.ReadLaws.{on_err}
+use Rattle.dirfrag_codec.proofs.RecordLaws.{on_err}
 use Rattle.export_bytes.specs.Reading.{sent_frag_at}
 use Rattle.export_bytes.proofs.Items.{one_more}
 use Rattle.export_bytes.proofs.Taken.{head_of_frag}
