@@ -1,15 +1,12 @@
 -- What is written of an export is read again.
-use Rattle.std.proofs.Common.{◌≡◌, ℕ, ◌^◌, ◌<◌, ◌≤◌, Bool, true, false, not, ◌&&◌, cond, eqb, ltb, List, [], ◌∷◌, ◌++◌, length, Option, Some, None, refl, sym, ap, ◌∙◌, append_assoc, arith}
+use Rattle.std.proofs.Common.{◌≡◌, ℕ, ◌^◌, ◌<◌, Bool, true, false, not, ◌&&◌, cond, eqb, ltb, List, [], ◌∷◌, ◌++◌, length, Option, Some, None, refl, sym, ap, ◌∙◌, append_assoc, arith}
 use Rattle.std.proofs.lemmas.Bool.{le-ltb, ltb-true, and_parts}
 use Rattle.std.proofs.lemmas.List.{append-nil, take_at, drop_at, length-append}
 use Rattle.std.specs.List.{flat_map, list_all}
 use Rattle.byteorder.specs.Endian.{little_bytes}
-use Rattle.byteorder.specs.Numbers.{length-bytes_low_first}
 use Rattle.mds_types.specs.Frag.{Fragment, word_of}
 use Rattle.mds_types.specs.declared.inodes.Inode.{Inode}
-use Rattle.mds_types.specs.declared.inodes.Kind.{Kind}
-use Rattle.mds_types.specs.declared.inodes.Kind.TheVariants.{File, Dir, Symlink}
-use Rattle.dirfrag_codec.specs.EntryRecord.{HasTarget, WritesEntry, entry_bytes, kind_byte, target_of}
+use Rattle.dirfrag_codec.specs.EntryRecord.{WritesEntry, entry_bytes}
 use Rattle.dirfrag_codec.specs.Reading.{◌>>=◌, byte_at, number_at}
 use Rattle.dirfrag_codec.specs.Values.{written_of, is_fragment, is_name, is_written}
 use Rattle.dirfrag_codec.proofs.Front.{number_again}

@@ -6,8 +6,8 @@ ghost use Rattle.script_text.specs.Operations.{dentry_of, made_of, readdir_of, s
 use crate::attributes::{given_attributes, given_birth};
 use mds_types::{Birth, Dentry, Mode, Op};
 use script_words::{
-    NOT_COMMAND, ReadError, after_name, after_text, first, four, ino, mode, name, page_size,
-    pin, target, text, three, two, two_texts,
+    NOT_COMMAND, ReadError, after_name, after_text, first, four, ino, mode, name, page_size, pin,
+    target, text, three, two, two_texts,
 };
 use std::alloc::Global;
 
