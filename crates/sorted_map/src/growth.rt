@@ -1,11 +1,12 @@
 //! The calls that take memory for more pairs.
-ghost use Rattle.std.specs.Prelude.{◌≡◌, ◌+◌, ◌^◌, ◌<◌, ◌≤◌, IsOk, OnOk, OnErr, IfOk};
+ghost use Rattle.std.specs.Prelude.{◌≡◌, ◌+◌, ◌^◌, ◌<◌, ◌≤◌, IsOk, OnOk, OnErr, IfOk, length};
 ghost use Rattle.std.specs.FinMap as map;
 ghost use Rattle.sorted_map.specs.SortedMap.{contents};
-ghost use Rattle.sorted_map.specs.Overlay.{overlaid};
+ghost use Rattle.sorted_map.specs.Chunks.{flat};
+ghost use Rattle.sorted_map.specs.Overlay.{overlaid, with_pairs};
 
 use crate::chunked::map::ChunkMap;
-use crate::chunks::MOST;
+use crate::chunks::{Chunk, MOST};
 use crate::keys::ExactOrd;
 use crate::map::{SortedMap, Store};
 use std::alloc::{AllocError, Global};
@@ -67,12 +68,37 @@ impl<K: ExactOrd + Drop, V: Drop> SortedMap<K, V> {
     }
 
     // Puts all pairs of another map in, for which there is room.
-    fn put_all(&mut self, mut over: SortedMap<K, V>)
+    fn put_all(&mut self, over: SortedMap<K, V>)
         requires { map.len (contents K.cmp over) ≤ self.old.room }
         ensures laid { contents K.cmp self.new ≡ overlaid (contents K.cmp self.old) (contents K.cmp over) }
         ensures room { self.old.room ≤ self.new.room + map.len (contents K.cmp over) }
     {
-        while let Some(pair) = over.pop_first() {
+        // The contract of `len` is what says here that the keys of a map rise.
+        let _ = over.len();
+        match over.store {
+            Store::Flat(flat) => self.put_pairs(flat.into_pairs()),
+            Store::Chunked(chunked) => self.put_chunks(chunked.into_chunks()),
+        }
+    }
+
+    // Puts the pairs of chunks in, for which there is room.
+    fn put_chunks(&mut self, chunks: Vec<Chunk<K, V>>)
+        requires { length (flat chunks.items) ≤ self.old.room }
+        ensures laid { contents K.cmp self.new ≡ with_pairs (contents K.cmp self.old) (flat chunks.items) }
+        ensures room { self.old.room ≤ self.new.room + length (flat chunks.items) }
+    {
+        for chunk in chunks {
+            self.put_pairs(chunk.into_pairs());
+        }
+    }
+
+    // Puts pairs in, for which there is room.
+    fn put_pairs(&mut self, pairs: Vec<(K, V)>)
+        requires { length pairs.items ≤ self.old.room }
+        ensures laid { contents K.cmp self.new ≡ with_pairs (contents K.cmp self.old) pairs.items }
+        ensures room { self.old.room ≤ self.new.room + length pairs.items }
+    {
+        for pair in pairs {
             self.put(pair);
         }
     }

@@ -1,5 +1,6 @@
 //! Where a key stands among pairs in chunks.
-ghost use Rattle.std.specs.Prelude.{◌≡◌, ◌<◌, [], T, OnOk, length, slice_index_or};
+ghost use Rattle.std.specs.Prelude.{◌≡◌, ◌-◌, ◌<◌, [], T, OnOk, length, slice_index_or};
+ghost use Rattle.std.specs.Ordering.{is_gt};
 ghost use Rattle.std.specs.List.Sorted.{IsSearchInRange};
 ghost use Rattle.std.specs.FinMap.{is_sorted};
 ghost use Rattle.sorted_map.specs.Places.{IsPlace};
@@ -27,6 +28,37 @@ pub(crate) fn spot<K: Ord, V, Q: Probe<K>>(
     }
     let home = home(chunks, q);
     (home, place(chunks[home].pairs(), q))
+}
+
+/// The same, but the end is tried first: keys often come in their order.
+pub(crate) fn spot_from_end<K: Ord, V, Q: Probe<K>>(
+    chunks: &[Chunk<K, V>],
+    q: &Q,
+) -> (usize, Result<usize, usize>)
+    requires sorted { T (is_sorted K.cmp (flat chunks.now)) }
+    requires some { AllSome chunks.now }
+    ensures found { OnOk result.1 (result.0 < length chunks.now) }
+    ensures home { 0 < length chunks.now → result.0 < length chunks.now }
+    ensures within { IsSearchInRange result.1 (length (slice_index_or chunks.now result.0 [])) }
+    ensures place { IsPlace K.cmp (Q.key q.now) (flat chunks.now) (place_in chunks.now result.0 result.1) }
+{
+    let count = chunks.len();
+    if count == 0 {
+        return (0, Err(0));
+    }
+    let last = chunks[count - 1].pairs();
+    if ends_below(last, q) {
+        return (count - 1, Err(last.len()));
+    }
+    spot(chunks, q)
+}
+
+// Whether the last key of a chunk is less than the probe's.
+fn ends_below<K: Ord, V, Q: Probe<K>>(pairs: &[(K, V)], q: &Q) -> bool
+    requires { 0 < length pairs.now }
+    ensures { (d : K × V) → result ≡ is_gt (K.cmp (Q.key q.now) (slice_index_or pairs.now (length pairs.now - 1) d).0) }
+{
+    q.order(&pairs[pairs.len() - 1].0).is_gt()
 }
 
 // The chunk where the probe's key stands or would go.

@@ -47,6 +47,13 @@ impl<K, V> Chunk<K, V> {
         &self.pairs
     }
 
+    /// The pairs, given away.
+    pub(crate) fn into_pairs(self) -> Vec<(K, V)>
+        ensures { result.items ≡ self }
+    {
+        self.pairs
+    }
+
     /// How many pairs there are.
     pub(crate) fn len(&self) -> usize
         ensures len { result ≡ length self.now }

@@ -77,7 +77,8 @@ impl<K, V> Chunks<K, V> {
 
     /// How many pairs the chunks have beyond their halves of 32, added up.
     pub fn extra(&self) -> usize
-        ensures { result ≡ over self.now.lists }
+        ensures extra { result ≡ over self.now.lists }
+        ensures few { result ≤ 70368744177664 }
     {
         self.extra
     }
@@ -158,6 +159,13 @@ impl<K, V> Chunks<K, V> {
 }
 
 impl<K: Drop, V: Drop> Chunks<K, V> {
+    /// The chunks in their order, given away.
+    pub(crate) fn into_row(self) -> Vec<Chunk<K, V>>
+        ensures { result.items ≡ self.lists }
+    {
+        self.row
+    }
+
     /// Puts a pair in at a place of a chunk that isn't full.
     pub(crate) fn put_at(&mut self, home: usize, at: usize, pair: (K, V))
         requires home { home < length self.old.lists }

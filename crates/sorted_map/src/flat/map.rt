@@ -85,6 +85,13 @@ impl<K: ExactOrd, V> FlatMap<K, V> {
         *self.pairs.allocator()
     }
 
+    /// The pairs in the order of their keys.
+    pub(crate) fn into_pairs(self) -> Vec<(K, V)>
+        ensures { result.items ≡ self.entries }
+    {
+        self.pairs
+    }
+
     /// Makes room for `additional` more keys, so that as many insertions cannot fail.
     ///
     /// An error says that memory ran out. Where the room is there already nothing is done, and there is no error.
