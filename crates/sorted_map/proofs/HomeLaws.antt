@@ -1,14 +1,14 @@
 -- The chunk of a key, and what a place in it is among all the pairs.
-use Rattle.std.proofs.Common.{◌≡◌, ◌⊎◌, inl, inr, ℕ, zero, suc, ◌+◌, ◌-◌, ◌<◌, true, false, T, List, [], ◌∷◌, ◌++◌, length, get_or, Result, Ok, Err, Ordering, Less, Equal, Greater, is_lt, is_gt, refl, sym, ap, ◌∙◌, subst, arith}
+use Rattle.std.proofs.Common.{◌≡◌, ◌⊎◌, inl, inr, ℕ, zero, suc, ◌+◌, ◌<◌, true, false, T, List, [], ◌∷◌, ◌++◌, length, get_or, Result, Ok, Err, Ordering, Less, Equal, Greater, is_lt, refl, sym, ap, ◌∙◌, subst, arith}
 use Rattle.std.proofs.lemmas.Bool.{false≢true}
 use Rattle.std.specs.Cmp.{IsTotalOrder, alike_right}
 use Rattle.std.specs.FinMap.Entries.{is_sorted, below_all}
 use Rattle.sorted_map.proofs.Bools.{left_of, right_of, both_of}
 use Rattle.sorted_map.specs.Places.{IsAt, IsGap, IsPlace}
 use Rattle.sorted_map.specs.Chunks.{flat, start, AllSome}
-use Rattle.sorted_map.proofs.FlatLaws.{some_at, start_end, flat_get}
+use Rattle.sorted_map.proofs.FlatLaws.{some_at}
 use Rattle.sorted_map.specs.Homes.{IsAbove, IsHome, starts_above, place_in}
-use Rattle.sorted_map.proofs.PlaceLaws.{less, turned, past_end}
+use Rattle.sorted_map.proofs.PlaceLaws.{less, turned}
 
 -- ---- a place in the chunk of a key is its place among all
 
@@ -48,6 +48,11 @@ module _ {K V : Type 0} (R : K → K → Ordering) (k : K) where
   gap_home (c ∷ cs) zero at home h = subst (IsGap R k (c ++ flat cs)) (omega arith) (gap_front c (flat cs) at h home)
   gap_home (c ∷ cs) (suc i) at home h = gap_behind c (flat cs) (start cs i + at) (start (c ∷ cs) (suc i) + at) (omega arith) home.0 (gap_home cs i at home.1 h)
 
+  -- a place among the first pairs, where the key is less than the others
+  pub place_front : (c fs : List (K × V)) (r : Result ℕ ℕ) → IsPlace R k c r → IsGap R k fs zero → IsPlace R k (c ++ fs) r
+  place_front c fs (Ok at) h rest = at_front c fs at h rest
+  place_front c fs (Err at) h rest = gap_front c fs at h rest
+
   pub place_home : (cs : List (List (K × V))) (i : ℕ) (r : Result ℕ ℕ) → IsHome R k cs i → IsPlace R k (get_or cs i []) r → IsPlace R k (flat cs) (place_in cs i r)
   place_home cs i (Ok at) home h = at_home cs i at home h
   place_home cs i (Err at) home h = gap_home cs i at home h
@@ -85,19 +90,6 @@ module _ {K V : Type 0} (R : K → K → Ordering) where
   below_part x [] i h = tt
   below_part x (c ∷ cs) zero h = below_front x c (flat cs) h
   below_part x (c ∷ cs) (suc i) h = below_part x cs i (below_back x c (flat cs) h)
-
--- ---- a key above all others goes behind them
-
--- the last item of the last chunk is the last of all
-last_get : {A : Type 0} (cs : List (List A)) (i n : ℕ) (d : A) → i + 1 ≡ length cs → n ≡ length (get_or cs i []) → 0 < n → get_or (flat cs) (length (flat cs) - 1) d ≡ get_or (get_or cs i []) (n - 1) d
-last_get cs i n d last is some =
-    ap (λ m. get_or (flat cs) m d) {y = start cs i + (n - 1)} (omega (arith, start_end cs i last, is, some)) ∙ flat_get cs i (n - 1) d (omega (arith, is, some))
-
-pub place_end : {K V : Type 0} {R : K → K → Ordering} (o : IsTotalOrder R) (k : K) (cs : List (List (K × V))) (i n : ℕ) (d : K × V) → T (is_sorted R (flat cs)) → i + 1 ≡ length cs → n ≡ length (get_or cs i []) → 0 < n
-    → is_gt (R k (get_or (get_or cs i []) (n - 1) d).0) ≡ true → IsPlace R k (flat cs) (place_in cs i (Err n))
-place_end {R = R} o k cs i n d s last is some above =
-    let highest = past_end o k (flat cs) d s (ap (λ (x : _). is_gt (R k x.0)) (last_get cs i n d last is some) ∙ above) in
-    subst (IsGap R k (flat cs)) {y = start cs i + n} (omega (arith, start_end cs i last, is)) highest
 
 -- ---- where the search for a chunk ends
 

@@ -1,5 +1,5 @@
 -- What loops over pairs do that put them into a map, or take their keys out of one.
-use Rattle.std.proofs.Common.{◌<◌, Bool, true, false, cond, Option, Some, None, is_some, slice_get, length, Less, Equal, is_gt, arith, ◌≡◌, not, T, List, [], ◌∷◌, ◌++◌, drop, Ordering, Greater, refl, sym, ap, ◌∙◌}
+use Rattle.std.proofs.Common.{◌<◌, Bool, true, false, cond, Option, Some, None, is_some, slice_get, length, Less, Equal, is_gt, arith, ◌≡◌, not, T, List, [], ◌∷◌, drop, Ordering, Greater, refl, sym, ap, ◌∙◌}
 use Rattle.std.specs.Cmp.{IsTotalOrder}
 use Rattle.std.proofs.lemmas.Bool.{false≢true}
 use Rattle.std.specs.Ordering.{ordering_reverse, is_le, eq_by_cmp}
@@ -124,11 +124,6 @@ module _ {K V : Type 0} {R : K → K → Ordering} (o : IsTotalOrder R) where
   pub below_some : (k : K) (es : List (K × V)) → starts_below R k es ≡ true → 0 < length es
   below_some k [] below = absurd (false≢true below)
   below_some k (e ∷ es) below = omega arith
-
--- pairs that are put in after others
-pub with_pairs_then : {K V : Type 0} {R : K → K → Ordering} (m : map.FinMap R V) (es fs : List (K × V)) → with_pairs m (es ++ fs) ≡ with_pairs (with_pairs m es) fs
-with_pairs_then m [] fs = refl
-with_pairs_then m (e ∷ es) fs = with_pairs_then (map.insert m e.0 e.1) es fs
 
 pub overlaid_is : {K V : Type 0} {R : K → K → Ordering} (m over : map.FinMap R V) → with_pairs m (map.entries over) ≡ overlaid m over
 unfolding overlaid

@@ -1,12 +1,11 @@
 //! The calls that take memory for more pairs.
-ghost use Rattle.std.specs.Prelude.{◌≡◌, ◌+◌, ◌^◌, ◌<◌, ◌≤◌, IsOk, OnOk, OnErr, IfOk, length};
+ghost use Rattle.std.specs.Prelude.{◌≡◌, ◌+◌, ◌^◌, ◌<◌, ◌≤◌, IsOk, OnOk, OnErr, IfOk};
 ghost use Rattle.std.specs.FinMap as map;
 ghost use Rattle.sorted_map.specs.SortedMap.{contents};
-ghost use Rattle.sorted_map.specs.Chunks.{flat};
-ghost use Rattle.sorted_map.specs.Overlay.{overlaid, with_pairs};
+ghost use Rattle.sorted_map.specs.Overlay.{overlaid};
 
 use crate::chunked::map::ChunkMap;
-use crate::chunks::{Chunk, MOST};
+use crate::chunks::MOST;
 use crate::keys::ExactOrd;
 use crate::map::{SortedMap, Store};
 use std::alloc::{AllocError, Global};
@@ -73,32 +72,7 @@ impl<K: ExactOrd + Drop, V: Drop> SortedMap<K, V> {
         ensures laid { contents K.cmp self.new ≡ overlaid (contents K.cmp self.old) (contents K.cmp over) }
         ensures room { self.old.room ≤ self.new.room + map.len (contents K.cmp over) }
     {
-        // The contract of `len` is what says here that the keys of a map rise.
-        let _ = over.len();
-        match over.store {
-            Store::Flat(flat) => self.put_pairs(flat.into_pairs()),
-            Store::Chunked(chunked) => self.put_chunks(chunked.into_chunks()),
-        }
-    }
-
-    // Puts the pairs of chunks in, for which there is room.
-    fn put_chunks(&mut self, chunks: Vec<Chunk<K, V>>)
-        requires { length (flat chunks.items) ≤ self.old.room }
-        ensures laid { contents K.cmp self.new ≡ with_pairs (contents K.cmp self.old) (flat chunks.items) }
-        ensures room { self.old.room ≤ self.new.room + length (flat chunks.items) }
-    {
-        for chunk in chunks {
-            self.put_pairs(chunk.into_pairs());
-        }
-    }
-
-    // Puts pairs in, for which there is room.
-    fn put_pairs(&mut self, pairs: Vec<(K, V)>)
-        requires { length pairs.items ≤ self.old.room }
-        ensures laid { contents K.cmp self.new ≡ with_pairs (contents K.cmp self.old) pairs.items }
-        ensures room { self.old.room ≤ self.new.room + length pairs.items }
-    {
-        for pair in pairs {
+        for pair in over {
             self.put(pair);
         }
     }

@@ -3,10 +3,10 @@ ghost use Rattle.std.specs.Prelude.{◌≡◌, ◌-◌, ◌≤◌, ◌↔◌, T,
 ghost use Rattle.std.specs.FinMap as map;
 ghost use Rattle.std.specs.FinMap.{is_sorted};
 ghost use Rattle.sorted_map.specs.SortedMap.{contents, first_pair, last_pair};
-ghost use Rattle.sorted_map.specs.Chunks.{flat, load, room_in};
+ghost use Rattle.sorted_map.specs.Chunks.{load, room_in};
 
 use crate::chunked::places::spot;
-use crate::chunks::{Chunk, Chunks, HALF};
+use crate::chunks::{Chunks, HALF, IntoIter};
 use crate::keys::{ExactOrd, Probe};
 use std::alloc::{AllocError, Global};
 use std::marker::Model;
@@ -117,11 +117,12 @@ impl<K: ExactOrd, V> ChunkMap<K, V> {
 }
 
 impl<K: ExactOrd + Drop, V: Drop> ChunkMap<K, V> {
-    /// The chunks of pairs, in the order of their keys.
-    pub(crate) fn into_chunks(self) -> Vec<Chunk<K, V>>
-        ensures { flat result.items ≡ self.entries }
+    /// The pairs in the order of their keys, given away.
+    pub(crate) fn into_iter(self) -> IntoIter<K, V>
+        ensures { result ≡ self.entries }
     {
-        self.chunks.into_row()
+        let none = Vec::new(self.chunks.allocator());
+        IntoIter::new(none, self.chunks.into_row())
     }
 }
 

@@ -1,6 +1,5 @@
 //! Where a key stands among pairs in chunks.
-ghost use Rattle.std.specs.Prelude.{◌≡◌, ◌-◌, ◌<◌, [], T, OnOk, length, slice_index_or};
-ghost use Rattle.std.specs.Ordering.{is_gt};
+ghost use Rattle.std.specs.Prelude.{◌≡◌, ◌<◌, [], T, OnOk, length, slice_index_or};
 ghost use Rattle.std.specs.List.Sorted.{IsSearchInRange};
 ghost use Rattle.std.specs.FinMap.{is_sorted};
 ghost use Rattle.sorted_map.specs.Places.{IsPlace};
@@ -9,7 +8,7 @@ ghost use Rattle.sorted_map.specs.Homes.{place_in, starts_above, IsHome};
 
 use crate::chunks::Chunk;
 use crate::keys::Probe;
-use crate::places::place;
+use crate::places::{place, place_from_end};
 
 /// The chunk of the probe's key, and its place there, or that where it would go.
 pub(crate) fn spot<K: Ord, V, Q: Probe<K>>(
@@ -30,7 +29,7 @@ pub(crate) fn spot<K: Ord, V, Q: Probe<K>>(
     (home, place(chunks[home].pairs(), q))
 }
 
-/// The same, but the end is tried first: keys often come in their order.
+/// The same, but the end is tried first: keys often come in their order, or nearly so.
 pub(crate) fn spot_from_end<K: Ord, V, Q: Probe<K>>(
     chunks: &[Chunk<K, V>],
     q: &Q,
@@ -42,23 +41,14 @@ pub(crate) fn spot_from_end<K: Ord, V, Q: Probe<K>>(
     ensures within { IsSearchInRange result.1 (length (slice_index_or chunks.now result.0 [])) }
     ensures place { IsPlace K.cmp (Q.key q.now) (flat chunks.now) (place_in chunks.now result.0 result.1) }
 {
-    let count = chunks.len();
-    if count == 0 {
+    if chunks.is_empty() {
         return (0, Err(0));
     }
-    let last = chunks[count - 1].pairs();
-    if ends_below(last, q) {
-        return (count - 1, Err(last.len()));
+    let last = chunks.len() - 1;
+    if starts_above(&chunks[last], q) {
+        return spot(chunks, q);
     }
-    spot(chunks, q)
-}
-
-// Whether the last key of a chunk is less than the probe's.
-fn ends_below<K: Ord, V, Q: Probe<K>>(pairs: &[(K, V)], q: &Q) -> bool
-    requires { 0 < length pairs.now }
-    ensures { (d : K × V) → result ≡ is_gt (K.cmp (Q.key q.now) (slice_index_or pairs.now (length pairs.now - 1) d).0) }
-{
-    q.order(&pairs[pairs.len() - 1].0).is_gt()
+    (last, place_from_end(chunks[last].pairs(), q))
 }
 
 // The chunk where the probe's key stands or would go.

@@ -1,6 +1,8 @@
 //! Chunks in a row, with empty ones beside them that are kept as room.
 ghost use Rattle.std.specs.Prelude.{◌≡◌, ◌+◌, ◌-◌, ◌<◌, ◌≤◌, ◌^◌, ◌++◌, ◌∷◌, [], length, take, drop, OnOk, OnErr, slice_set, slice_index_or, insert, remove, vec_len, vec_capacity};
-ghost use Rattle.sorted_map.specs.Chunks.{AllFew, total, over};
+ghost use Rattle.std.specs.List.{AllZip};
+ghost use Rattle.sorted_map.specs.Chunks.{AllFew, AllSome, flat, total, over};
+ghost use Rattle.sorted_map.specs.Clones.{ClonePair};
 ghost use Rattle.std.specs.Borrow.{sem};
 
 use crate::chunks::chunk::{Chunk, HALF};
@@ -232,6 +234,23 @@ impl<K: Drop, V: Drop> Chunks<K, V> {
         self.row[home].take_all(&mut next);
         self.spare.push_reserved(next);
         self.ready += 1;
+    }
+}
+
+impl<K: Clone, V: Clone> Clone for Chunks<K, V> {
+    ghost is_clone = { λ old new. AllZip (ClonePair K.is_clone V.is_clone) (flat old.lists) (flat new.lists) × (AllSome old.lists → AllSome new.lists) };
+
+    /// Clones of the pairs, in as many chunks, and no room.
+    fn clone(&self) -> Result<Self, AllocError> {
+        let row = self.row.clone()?;
+        let spare = Vec::with_capacity(*self.row.allocator(), row.len())?;
+        Ok(Chunks {
+            row,
+            spare,
+            ready: 0,
+            len: self.len,
+            extra: self.extra,
+        })
     }
 }
 

@@ -1,44 +1,33 @@
 use Rattle.std.proofs.Common.{length, sym, ap, ◌∙◌, arith}
 use Rattle.std.specs.FinMap.{len-entries}
 use Rattle.sorted_map.specs.SortedMap.{contents}
-use Rattle.sorted_map.specs.Stores.{shown_by}
 use Rattle.sorted_map.specs.Overlay.{with_pairs}
-use Rattle.sorted_map.proofs.MapLaws.{entries-contents}
 use Rattle.sorted_map.proofs.OverlayLaws.{overlaid_is}
 use Rattle.sorted_map.proofs.map.SortedMap.put_all.Goals as goal
 
-pub put_pairs-requires : goal.put_pairs-requires
-put_pairs-requires g c =
-    let R = g.K.Ord.cmp in
-    let is = c.into_pairs.ensures ∙ ap (λ s. s.entries) c.in-Flat.flat-is ∙ ap (λ s. s.entries) (sym (ap shown_by c.in-Flat.is) ∙ c.over.view_is) ∙ sym (entries-contents R c.args.over c.len.ensures.valid) in
-    omega (arith, c.requires, ap length is, len-entries (contents R c.args.over))
+pub loop-pair-init : goal.loop-pair-init
+loop-pair-init g c =
+    let is = c.into_iter-pair-iterator.ensures.into_iter_gives in
+    let over = contents g.K.Ord.cmp c.args.over in
+    record {
+      whole = ap (with_pairs (contents g.K.Ord.cmp c.args.self.now)) is;
+      few = omega (arith, c.requires, ap length is, len-entries over);
+      room = omega (arith, ap length is, len-entries over);
+    }
 
-pub put_chunks-requires : goal.put_chunks-requires
-put_chunks-requires g c =
-    let R = g.K.Ord.cmp in
-    let is = c.into_chunks.ensures ∙ ap (λ s. s.entries) c.in-Chunked.chunked-is ∙ ap (λ s. s.entries) (sym (ap shown_by c.in-Chunked.is) ∙ c.over.view_is) ∙ sym (entries-contents R c.args.over c.len.ensures.valid) in
-    omega (arith, c.requires, ap length is, len-entries (contents R c.args.over))
+pub put-requires : goal.put-requires
+put-requires g c = omega (arith, c.loop-pair.invariant.few, ap length c.in-Some.ensures.steps)
 
-pub returns-in-Flat-clause-laid : goal.returns-in-Flat-clause-laid
-returns-in-Flat-clause-laid g c =
-    let R = g.K.Ord.cmp in
-    let is = c.into_pairs.ensures ∙ ap (λ s. s.entries) c.in-Flat.flat-is ∙ ap (λ s. s.entries) (sym (ap shown_by c.in-Flat.is) ∙ c.over.view_is) ∙ sym (entries-contents R c.args.over c.len.ensures.valid) in
-    c.put_pairs.ensures.laid ∙ ap (with_pairs (contents R c.args.self.now)) is ∙ overlaid_is _ _
+pub loop-pair-preserved : goal.loop-pair-preserved
+loop-pair-preserved g c =
+    let inv = c.loop-pair.invariant in
+    let steps = c.in-Some.ensures.steps in
+    record {
+      whole = ap (λ m. with_pairs m c.next.new.self) c.put.ensures.put ∙ sym (ap (with_pairs (contents g.K.Ord.cmp c.loop-pair.self)) steps) ∙ inv.whole;
+      few = omega (arith, inv.few, ap length steps, c.put.ensures.room);
+      room = omega (arith, inv.room, ap length steps, c.put.ensures.room);
+    }
 
-pub returns-in-Flat-clause-room : goal.returns-in-Flat-clause-room
-returns-in-Flat-clause-room g c =
-    let R = g.K.Ord.cmp in
-    let is = c.into_pairs.ensures ∙ ap (λ s. s.entries) c.in-Flat.flat-is ∙ ap (λ s. s.entries) (sym (ap shown_by c.in-Flat.is) ∙ c.over.view_is) ∙ sym (entries-contents R c.args.over c.len.ensures.valid) in
-    omega (arith, c.put_pairs.ensures.room, ap length is, len-entries (contents R c.args.over))
-
-pub returns-in-Chunked-clause-laid : goal.returns-in-Chunked-clause-laid
-returns-in-Chunked-clause-laid g c =
-    let R = g.K.Ord.cmp in
-    let is = c.into_chunks.ensures ∙ ap (λ s. s.entries) c.in-Chunked.chunked-is ∙ ap (λ s. s.entries) (sym (ap shown_by c.in-Chunked.is) ∙ c.over.view_is) ∙ sym (entries-contents R c.args.over c.len.ensures.valid) in
-    c.put_chunks.ensures.laid ∙ ap (with_pairs (contents R c.args.self.now)) is ∙ overlaid_is _ _
-
-pub returns-in-Chunked-clause-room : goal.returns-in-Chunked-clause-room
-returns-in-Chunked-clause-room g c =
-    let R = g.K.Ord.cmp in
-    let is = c.into_chunks.ensures ∙ ap (λ s. s.entries) c.in-Chunked.chunked-is ∙ ap (λ s. s.entries) (sym (ap shown_by c.in-Chunked.is) ∙ c.over.view_is) ∙ sym (entries-contents R c.args.over c.len.ensures.valid) in
-    omega (arith, c.put_chunks.ensures.room, ap length is, len-entries (contents R c.args.over))
+pub returns-clause-laid : goal.returns-clause-laid
+returns-clause-laid g c =
+    sym (ap (with_pairs (contents g.K.Ord.cmp c.loop-pair.self)) c.in-None.ensures.steps.0) ∙ c.loop-pair.invariant.whole ∙ overlaid_is _ _
