@@ -6,7 +6,7 @@ use Rattle.sorted_map.specs.SortedMap.{contents}
 use Rattle.cached_frag.specs.Marks.{AreDirtyNames, patched}
 use Rattle.cached_frag.specs.Cached.{AreEntries}
 use Rattle.cached_frag.specs.Settling.{settled_in}
-use Rattle.cached_frag.proofs.settling.settle_all.Given as goal
+use Rattle.cached_frag.proofs.settling.settle_each.Given as goal
 
 abbrev pub invariant-loop-name : goal.invariant-loop-name
 invariant-loop-name l = record {
