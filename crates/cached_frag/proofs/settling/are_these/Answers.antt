@@ -1,5 +1,5 @@
-use Rattle.std.proofs.Common.{rules}
+use Rattle.cached_frag.specs.SameMarks.{mark_decides}
 use Rattle.cached_frag.proofs.settling.are_these.Goals as goal
 
 pub returns : goal.returns
-returns c = rw (← c.as_map-names.ensures.names) (c.eq.ensures.exact (λ a b. search rules))
+returns c = rw (← c.as_map-names.ensures.names) (c.eq.ensures.exact mark_decides)
