@@ -40,7 +40,7 @@ returns-then-not-is_same-clause-served g c =
     let master = c.locate_master-places.result.1 in
     let other : master ≢ rank = search rules in
     subst (λ (t : Ranked). ServesInbox (state_of f r e numbers c.args.waiting.now.inboxes pins sessions) (state_of (tree_state t.tree) t.subtrees.roots t.exports numbers c.forward.new.inboxes pins sessions)
-        past past (MayRefuse c.args.tree.now t) rank c.forward.result (waiting_at c.args.waiting.now.inboxes rank)) (sym c.correct_hint.ensures)
+    past past (MayRefuse c.args.tree.now t) rank c.forward.result (waiting_at c.args.waiting.now.inboxes rank)) (sym c.correct_hint.ensures)
     (before_taking (λ (o : Inboxes) (w : List Request). ServesInbox (state_of f r e numbers o pins sessions) (state_of f r e numbers c.forward.new.inboxes pins sessions) past past (MayRefuse c.args.tree.now c.args.tree.now) rank c.forward.result w)
     c.args.waiting.now.inboxes c.take.new.self rank c.in-Some.request c.in-Some.ensures.out
     (goes_on f r e numbers c.take.new.self pins sessions past rank (MayRefuse c.args.tree.now c.args.tree.now) c.in-Some.request c.forward.new.inboxes master c.forward.result
