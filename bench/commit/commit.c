@@ -8,8 +8,9 @@
 
 struct inode {
     uint64_t ino, size, mtime;
+    uint32_t uid, gid;
     uint16_t mode, target_len;
-    uint8_t kind;
+    uint8_t kind, pin;
     const unsigned char *target;
 };
 
@@ -34,7 +35,7 @@ struct op {
     size_t len, room;
 };
 
-enum { FRONT = 31, HEADER = 26, FILE_KIND = 1, DIR_KIND = 2 };
+enum { FRONT = 40, HEADER = 26, FILE_KIND = 1, DIR_KIND = 2, NO_PIN = 255 };
 
 /* numbers in the machine's own order, which is that of the records */
 static void put(unsigned char *p, int n, uint64_t x)
@@ -53,13 +54,16 @@ __attribute__((noipa)) static struct bytes record_of(const struct inode *in)
 {
     struct bytes b = {need(malloc(FRONT + in->target_len)), FRONT + in->target_len};
     b.at[0] = 'I';
-    b.at[1] = 1;
+    b.at[1] = 2;
     b.at[2] = in->kind;
     put(b.at + 3, 8, in->ino);
     put(b.at + 11, 2, in->mode);
     put(b.at + 13, 8, in->size);
     put(b.at + 21, 8, in->mtime);
-    put(b.at + 29, 2, in->target_len);
+    put(b.at + 29, 4, in->uid);
+    put(b.at + 33, 4, in->gid);
+    b.at[37] = in->pin;
+    put(b.at + 38, 2, in->target_len);
     if (in->target_len)
         memcpy(b.at + FRONT, in->target, in->target_len);
     return b;
@@ -132,7 +136,7 @@ int main(int argc, char **argv)
     size_t count = strtoul(argv[2], NULL, 10);
     struct dirty *names = (struct dirty *)need(malloc(count * sizeof *names + 1));
     for (size_t i = 0; i < count; i++) {
-        names[i] = (struct dirty){need(malloc(8)), 8, 1, {(1ull << 40) + i, i, 7, 0644, 0, FILE_KIND, NULL}};
+        names[i] = (struct dirty){need(malloc(8)), 8, 1, {(1ull << 40) + i, i, 7, 0, 0, 0644, 0, FILE_KIND, NO_PIN, NULL}};
         for (int k = 0; k < 8; k++)
             names[i].name[k] = (unsigned char)('a' + (i >> (4 * (7 - k))) % 16);
     }

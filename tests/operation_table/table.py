@@ -9,12 +9,15 @@ FIRST = 1 << 40
 class Entry:
     """A row of the tree: a directory and a name, and the inode that stands there."""
 
-    def __init__(self, directory, name, ino, kind, mode, size=0, target=None):
+    def __init__(self, directory, name, ino, owners, kind, mode, size=0, target=None):
         self.directory, self.name, self.ino, self.kind, self.mode = directory, name, ino, kind, mode
         self.size, self.mtime, self.target = size, 0, target
+        self.uid, self.gid, self.pin = int(owners.get('uid', 0)), int(owners.get('gid', 0)), None
 
     def __str__(self):
-        return f'entry {self.ino:x} {self.kind} {self.mode:o} {self.size} {self.mtime}'
+        owner = f' owner {self.uid} {self.gid}' if self.uid or self.gid else ''
+        pin = f' pin {self.pin}' if self.pin is not None else ''
+        return f'entry {self.ino:x} {self.kind} {self.mode:o} {self.size} {self.mtime}{owner}{pin}'
 
 
 class Table:
@@ -58,28 +61,37 @@ class Table:
         row = self.find(directory, name)
         return 'errno 2' if not row else 'errno 22' if row.kind != 'link' else f'target {row.target}'
 
-    def create(self, directory, name, mode):
-        return self.make(directory, name, 'file', int(mode, 8))
+    def create(self, directory, name, mode, *owners):
+        return self.make(directory, name, owners, 'file', int(mode, 8))
 
-    def mkdir(self, directory, name, mode):
-        return self.make(directory, name, 'dir', int(mode, 8))
+    def mkdir(self, directory, name, mode, *owners):
+        return self.make(directory, name, owners, 'dir', int(mode, 8))
 
-    def symlink(self, directory, name, target):
-        return self.make(directory, name, 'link', 0o777, len(target.replace('%20', ' ')), target)
+    def symlink(self, directory, name, target, *owners):
+        return self.make(directory, name, owners, 'link', 0o777, len(target.replace('%20', ' ')), target)
 
-    def make(self, directory, name, *inode):
+    def make(self, directory, name, owners, *inode):
         if self.find(directory, name):
             return 'errno 17'
-        self.rows.append(Entry(directory, name, self.next_ino, *inode))
+        self.rows.append(Entry(directory, name, self.next_ino, dict(zip(owners[::2], owners[1::2])), *inode))
         self.next_ino += 1
         return str(self.rows[-1])
 
     def setattr(self, directory, name, *attributes):
         row = self.find(directory, name)
-        if not row or row.kind != 'file':
+        if not row or (row.kind != 'file' and 'size' in attributes):
             return 'errno 2' if not row else 'errno 21' if row.kind == 'dir' else 'errno 22'
         for attribute, value in zip(attributes[::2], attributes[1::2]):
             setattr(row, attribute, int(value, 8 if attribute == 'mode' else 10))
+        return str(row)
+
+    def setpin(self, directory, name, rank):
+        row = self.find(directory, name)
+        if not row or row.kind != 'dir':
+            return 'errno 20' if row else 'errno 2'
+        if int(rank) > 15:
+            return 'errno 22'
+        row.pin = None if rank == '-1' else int(rank)
         return str(row)
 
     def unlink(self, directory, name):

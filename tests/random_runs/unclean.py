@@ -34,4 +34,4 @@ class Unclean:
         """How many bytes are sent of a leaf: of a name that stands its inode too, with a link's target."""
         rows = [(name, table.find(leaf[0], name)) for name in self.snapshot(leaf)]
         return 0 if self.is_clean(leaf) else 25 + sum(
-            2 + len(name) + (33 + (row.size if row.kind == 'link' else 0) if row else 0) for name, row in rows)
+            2 + len(name) + (42 + (row.size if row.kind == 'link' else 0) if row else 0) for name, row in rows)

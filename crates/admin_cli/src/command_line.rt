@@ -76,9 +76,11 @@ Empty lines, lines of spaces and lines that begin with # print nothing.
 
 Operations (OP), served at rank 0:
   lookup INO NAME                   readdir INO AFTER MAX (AFTER - for none)
-  create INO NAME MODE              mkdir INO NAME MODE
-  symlink INO NAME TARGET           readlink INO NAME
-  setattr INO NAME [mode MODE] [size N] [mtime N]
+  create INO NAME MODE [uid N] [gid N]
+  mkdir INO NAME MODE [uid N] [gid N]
+  symlink INO NAME TARGET [uid N] [gid N]
+  setattr INO NAME [mode MODE] [size N] [mtime N] [uid N] [gid N]
+  readlink INO NAME                 setpin INO NAME RANK (RANK -1 for none)
   unlink INO NAME                   rmdir INO NAME
   rename INO NAME INO NAME
 Clients:

@@ -67,7 +67,7 @@ module _ (base after : PairMap) (names : Names) (marks : Marks) (dirty : AreDirt
         inode = inode;
         named = (dirty name mark marked).named;
         keyed = is;
-        spelled = subst (λ (b : List ℕ). SpellsEntry b inode) spelling (recorded name mark inode marked present);
+        spelled = subst (λ (b : List ℕ). SpellsEntry b inode) spelling (inr (recorded name mark inode marked present));
         held = shown name (Some mark) (Some inode) marked present;
       }
   of_mark key name bytes mark None is marked present found = absurd cc
@@ -93,7 +93,7 @@ module _ (base after : PairMap) (names : Names) (marks : Marks) (dirty : AreDirt
         named = (dirty name mark marked).named;
         bytes = entry_bytes inode;
         stands = at_each name ∙ ap (λ (r : Option Mark). after_mark r (map.get base (entry_key name))) marked ∙ ap (λ (o : Option Inode). bytes_or o None) present;
-        spelled = recorded name mark inode marked present;
+        spelled = inr (recorded name mark inode marked present);
       }
 
   held_after : (name : List ℕ) (inode : Inode) → map.get (patched names marks) name ≡ Some inode → HasPair after name inode

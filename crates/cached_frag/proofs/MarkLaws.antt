@@ -35,6 +35,10 @@ get-with_marks names (e ∷ es) q sorted = get-with_marks (with_mark names e.0 e
         ap (inode_or (find key_cmp q es)) (marked_beside names e.0 e.1.inode q apart)
         ∙ sym (ap (λ (b : Bool). inode_or (cond b (Some e.1) (find key_cmp q es)) (map.get names q)) (key_apart q e.0 apart))
 
+pub patched_is : (names : Names) (marks : Marks) → with_marks names (map.entries marks) ≡ patched names marks
+unfolding patched
+patched_is names marks = refl
+
 pub get-patched : (names : Names) (marks : Marks) (q : List ℕ) → map.get (patched names marks) q ≡ inode_or (map.get marks q) (map.get names q)
 unfolding patched
 get-patched names marks q = get-with_marks names (map.entries marks) q (entries_sorted marks) ∙ ap (λ (r : Option Mark). inode_or r (map.get names q)) (sym (get-entries marks q))

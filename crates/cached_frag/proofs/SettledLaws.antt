@@ -1,9 +1,10 @@
 -- Names that become clean: what is dirty then, and what is shown.
 use Rattle.std.proofs.Common.{◌≡◌, ℕ, Bool, true, false, cond, not, ◌⊎◌, inl, inr, List, [], ◌∷◌, Option, Some, None, refl, sym, ap, subst, ◌∙◌}
+use Rattle.std.proofs.lemmas.Bool.{eq-eqb}
 use Rattle.std.specs.Prelude.{T, IfSome}
 use Rattle.std.specs.Ordering.{eq_by_cmp}
 use Rattle.std.specs.FinMap as map
-use Rattle.std.specs.FinMap.{find, is_sorted, entries_sorted, get-entries, get-retain_keys}
+use Rattle.std.specs.FinMap.{find, is_sorted, entries_sorted, get-empty, get-entries, get-retain_keys}
 use Rattle.std.proofs.lemmas.Map.Lookups.{exact_bytes}
 use Rattle.sorted_map.proofs.Bools.{left_of, right_of}
 use Rattle.sorted_map.proofs.MapLaws.{swapped}
@@ -70,6 +71,18 @@ pub settled_is : (dirty snap : Marks) → settled_in dirty (map.entries snap) �
 settled_is dirty snap = one_map _ _ (λ q.
     get-settled_in dirty (map.entries snap) q (entries_sorted snap) ∙ ap (λ (r : Option Mark). cond (is_settled (map.get dirty q) r) None (map.get dirty q)) (sym (get-entries snap q))
     ∙ sym (swapped (is_settled (map.get dirty q) (map.get snap q)) (map.get dirty q) None) ∙ sym (get-unsettled dirty snap q))
+
+-- where no name has changed since, none stays dirty
+pub all_settled : (dirty snap : Marks) → dirty ≡ snap → unsettled dirty snap ≡ map.empty
+all_settled dirty snap same = one_map _ _ (λ q.
+    get-unsettled dirty snap q ∙ ap (λ (m : Marks). cond (not (is_settled (map.get dirty q) (map.get m q))) (map.get dirty q) None) (sym same) ∙ go (map.get dirty q) ∙ sym (get-empty key_cmp q))
+  where
+    go : (mark : Option Mark) → cond (not (is_settled mark mark)) mark None ≡ None
+    go (Some mark) = ap (λ (b : Bool). cond (not b) (Some mark) None) (eq-eqb mark.version mark.version refl)
+    go None = refl
+
+pub none_dirty : (marks : Marks) → marks ≡ map.empty → AreDirtyNames marks
+none_dirty marks none name mark is = let clash : None ≡ Some mark = sym (get-empty key_cmp name) ∙ sym (ap (λ (m : Marks). map.get m name) none) ∙ is in absurd cc
 
 -- ---- what a taken name leaves
 

@@ -6,5 +6,6 @@ pub mod Kept
 pub mod Marks
 pub mod Moving
 pub mod Rows
+pub mod SameMarks
 pub mod Settling
 pub mod Snap

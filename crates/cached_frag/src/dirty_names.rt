@@ -1,5 +1,4 @@
 //! The dirty names of a fragment.
-ghost use Rattle.std.proofs.Common.{rules};
 ghost use Rattle.std.specs.Cmp.{on_per, on_equiv, partial_equiv_from_equiv, decided};
 ghost use Rattle.std.specs.Cmp.Lexicographic.{pointwise, lists_equiv};
 ghost use Rattle.std.proofs.lemmas.Slice.Eq.{bytes_eq-Decides};
@@ -12,10 +11,11 @@ ghost use Rattle.dirfrag_codec.specs.EntryRecord.{HasRecord, IsRecordable};
 ghost use Rattle.cached_frag.specs.Marks.{AreDirtyNames, IsDirtyName, patched};
 ghost use Rattle.cached_frag.specs.Snap.{counts_of};
 ghost use Rattle.cached_frag.specs.Counting.{is_dir, is_file};
-ghost use Rattle.cached_frag.specs.declared.marks.Mark as MarkValue;
+ghost use Rattle.cached_frag.specs.SameMarks.{mark_decides};
 
-use crate::bases::{EntryCounts, has_64_bits};
+use crate::bases::EntryCounts;
 use crate::marks::Mark;
+use dirfrag_codec::has_widths;
 use mds_types::{Inode, Name};
 use sorted_map::SortedMap;
 use std::alloc::{AllocError, Global};
@@ -113,7 +113,7 @@ impl DirtyNames {
 impl PartialEq for DirtyNames {
     ghost eq = { λ a b. pointwise (pairs_eq (pointwise ◌==◌) ⟦<Mark as PartialEq>⟧.eq) (map.entries a) (map.entries b) };
 
-    ghost laws = { on_per (λ d. map.entries d) (partial_equiv_from_equiv (lists_equiv (decided (pairs_eq (pointwise ◌==◌) ⟦<Mark as PartialEq>⟧.eq) (pair_decides (pointwise ◌==◌) ⟦<Mark as PartialEq>⟧.eq bytes_eq-Decides (λ (a b : MarkValue.Mark). Prim.search rules))))) };
+    ghost laws = { on_per (λ d. map.entries d) (partial_equiv_from_equiv (lists_equiv (decided (pairs_eq (pointwise ◌==◌) ⟦<Mark as PartialEq>⟧.eq) (pair_decides (pointwise ◌==◌) ⟦<Mark as PartialEq>⟧.eq bytes_eq-Decides mark_decides)))) };
 
     /// Whether both have the same names, and the same became of each.
     fn eq(&self, other: &DirtyNames) -> bool
@@ -128,7 +128,7 @@ impl PartialEq for DirtyNames {
 }
 
 impl Eq for DirtyNames {
-    ghost laws = { on_equiv (λ d. map.entries d) (lists_equiv (decided (pairs_eq (pointwise ◌==◌) ⟦<Mark as PartialEq>⟧.eq) (pair_decides (pointwise ◌==◌) ⟦<Mark as PartialEq>⟧.eq bytes_eq-Decides (λ (a b : MarkValue.Mark). Prim.search rules)))) };
+    ghost laws = { on_equiv (λ d. map.entries d) (lists_equiv (decided (pairs_eq (pointwise ◌==◌) ⟦<Mark as PartialEq>⟧.eq) (pair_decides (pointwise ◌==◌) ⟦<Mark as PartialEq>⟧.eq bytes_eq-Decides mark_decides))) };
 }
 
 // A copy of the names.
@@ -171,13 +171,12 @@ pub(crate) fn is_dirty(name: &Name, mark: &Mark)
     }
 }
 
-// What holds of each inode that a record allows: its numbers have 64 bits.
+// What holds of each inode that a record allows.
 fn has_record(inode: &Inode)
     requires { IsRecordable inode.now }
     ensures { HasRecord inode.now }
 {
-    has_64_bits(inode.size);
-    has_64_bits(inode.mtime);
+    has_widths(inode);
 }
 
 // How many entries the present names are.

@@ -9,7 +9,7 @@ ghost use Rattle.cached_frag.specs.Moving.{Joins};
 
 use crate::fragments::CachedFrag;
 use crate::marks::Mark;
-use crate::settling::put_clean;
+use crate::settling::make_clean;
 use mds_types::{Inode, Name};
 use sorted_map::SortedMap;
 
@@ -40,13 +40,11 @@ impl CachedFrag {
 // The names of a base, once each of these is what it became.
 pub(crate) fn all_shown(
     mut names: SortedMap<Name, Inode>,
-    mut dirty: SortedMap<Name, Mark>,
+    dirty: SortedMap<Name, Mark>,
 ) -> SortedMap<Name, Inode>
     requires { map.len (contents key_cmp dirty) ≤ names.room }
     ensures { contents key_cmp result ≡ patched (contents key_cmp names) (contents key_cmp dirty) }
 {
-    while let Some(pair) = dirty.pop_first() {
-        put_clean(&mut names, pair.0, pair.1.inode);
-    }
+    make_clean(&mut names, dirty);
     names
 }

@@ -1,5 +1,5 @@
 //! What a commit leaves of a fragment.
-ghost use Rattle.std.specs.Prelude.{◌≡◌, ◌≤◌, ◌<◌, ◌+◌, IsOk, MatchOption, Option, OnOk, OnErr, Some, None, is_some};
+ghost use Rattle.std.specs.Prelude.{◌≡◌, ◌≤◌, ◌<◌, ◌+◌, ◌↔◌, IsTrue, IsOk, MatchOption, Option, OnOk, OnErr, Some, None, is_some};
 ghost use Rattle.std.specs.FinMap as map;
 ghost use Rattle.objstore.specs.Omap.{key_cmp};
 ghost use Rattle.sorted_map.specs.SortedMap.{contents};
@@ -54,6 +54,38 @@ fn settle_all(
     ensures entries { AreEntries (contents key_cmp clean.new) }
     ensures marks { AreDirtyNames (contents key_cmp dirty.new) }
 {
+    if are_these(dirty, names) {
+        make_clean(clean, dirty.take());
+        return;
+    }
+    settle_each(clean, dirty, names);
+}
+
+// Whether the dirty names are just these: none has changed since.
+fn are_these(dirty: &SortedMap<Name, Mark>, names: &DirtyNames) -> bool
+    ensures { IsTrue result ↔ (contents key_cmp dirty.now ≡ names.now) }
+{
+    // The contract of `len` is what says here that the names of a map rise.
+    let _ = dirty.len();
+    let names = names.as_map();
+    let _ = names.len();
+    *dirty == *names
+}
+
+// Makes each of these names clean that hasn't changed since, one after the other.
+fn settle_each(
+    clean: &mut SortedMap<Name, Inode>,
+    dirty: &mut SortedMap<Name, Mark>,
+    names: &DirtyNames,
+)
+    requires room { map.len names.now ≤ clean.old.room }
+    requires entries { AreEntries (contents key_cmp clean.old) }
+    requires marks { AreDirtyNames (contents key_cmp dirty.old) }
+    ensures dirty { contents key_cmp dirty.new ≡ unsettled (contents key_cmp dirty.old) names.now }
+    ensures shown { patched (contents key_cmp clean.new) (contents key_cmp dirty.new) ≡ patched (contents key_cmp clean.old) (contents key_cmp dirty.old) }
+    ensures entries { AreEntries (contents key_cmp clean.new) }
+    ensures marks { AreDirtyNames (contents key_cmp dirty.new) }
+{
     for (name, mark) in names.as_map() {
         settle_one(clean, dirty, name, mark.version);
     }
@@ -95,8 +127,18 @@ fn take_settled(
     dirty.remove(name)
 }
 
+// What became of each of these names is what is clean now.
+pub(crate) fn make_clean(clean: &mut SortedMap<Name, Inode>, dirty: SortedMap<Name, Mark>)
+    requires { map.len (contents key_cmp dirty) ≤ clean.old.room }
+    ensures { contents key_cmp clean.new ≡ patched (contents key_cmp clean.old) (contents key_cmp dirty) }
+{
+    for (name, mark) in dirty {
+        put_clean(clean, name, mark.inode);
+    }
+}
+
 // What became of a name is what is clean now.
-pub(crate) fn put_clean(clean: &mut SortedMap<Name, Inode>, name: Name, inode: Option<Inode>)
+fn put_clean(clean: &mut SortedMap<Name, Inode>, name: Name, inode: Option<Inode>)
     requires { 0 < clean.old.room }
     ensures put { contents key_cmp clean.new ≡ with_mark (contents key_cmp clean.old) name inode }
     ensures room { clean.old.room ≤ clean.new.room + 1 }

@@ -7,44 +7,40 @@ use Rattle.mds_types.specs.declared.ids.Ino.{Ino}
 use Rattle.mds_types.specs.declared.ids.Rank.{Rank}
 use Rattle.mds_types.specs.Frag.{Fragment}
 use Rattle.mds_types.specs.declared.operations.Op.{Op}
-use Rattle.mds_types.specs.declared.operations.Op.TheVariants.{Lookup, Readdir, Readlink, Create, Mkdir, Symlink, Setattr, Unlink, Rmdir, Rename}
 use Rattle.mds_types.specs.Leaf.{leaf_of}
-use Rattle.mds_types.specs.Step.{destination_of}
+use Rattle.mds_types.specs.Shape.{Shape, Looks, Lists, Makes, Sets, Unlinks, Removes, Moves, destination_in, destination_of, main_in, shape}
 use Rattle.mds_types.specs.Tree.{Tree}
 use Rattle.fragtree.specs.FragTree.{IsPick}
 use Rattle.inode_table.specs.Dirs.{Covers, leaves_of}
 use Rattle.namespace_ops.specs.Changes.{in_directory}
 use Rattle.namespace_ops.specs.Picks.{pick_of}
-use Rattle.namespace_ops.specs.Places.{IsAt, Locates, main_hash}
+use Rattle.namespace_ops.specs.Places.{IsAt, Locates, hash_at, main_hash}
 use Rattle.namespace_ops.proofs.PickLaws.{picked}
 use Rattle.namespace_ops.proofs.Members.{first, first_or_later, later}
 use Rattle.subtree_map.specs.Authority.{Leaf, Roots}
 use Rattle.mdcache.specs.Shown.{shown_tree}
 use Rattle.mdcache.specs.State.{State as TreeState}
 use Rattle.cluster_core.specs.Grants.{AreHeldAmong}
-use Rattle.cluster_core.specs.Master.{IsMasterIn, main_leaf}
+use Rattle.cluster_core.specs.Master.{IsMasterIn, leaf_at, main_leaf}
 use Rattle.ranked_tree.specs.Subtrees.{HoldsAt, Rules}
 
 -- nothing is in an empty list
 pub not_in_none : {A : Type 0} (x : A) → Contains {X = A} [] x → ⊥
 not_in_none x (k, below, is) = omega (arith, below)
 
--- it is the leaf of that directory which the operation's hash picks
-main_picked : (covers : Covers) (op : Op) → main_leaf covers op ≡ in_directory (destination_of op) (pick_of (leaves_of covers (destination_of op)) (main_hash op))
-main_picked covers (Lookup dentry) = refl
-main_picked covers (Readdir dir after max) = refl
-main_picked covers (Readlink dentry) = refl
-main_picked covers (Create dentry mode mtime) = refl
-main_picked covers (Mkdir dentry mode mtime) = refl
-main_picked covers (Symlink dentry target mtime) = refl
-main_picked covers (Setattr dentry given) = refl
-main_picked covers (Unlink dentry) = refl
-main_picked covers (Rmdir dentry) = refl
-main_picked covers (Rename from to) = refl
+-- it is the leaf of that directory which the hash picks
+main_picked : (covers : Covers) (s : Shape) → leaf_at covers (destination_in s) (main_in s) ≡ in_directory (destination_in s) (pick_of (leaves_of covers (destination_in s)) (hash_at (main_in s)))
+main_picked covers (Looks dentry answer) = refl
+main_picked covers (Lists dir after max) = refl
+main_picked covers (Makes dentry kind mode birth) = refl
+main_picked covers (Sets dentry alteration) = refl
+main_picked covers (Unlinks dentry) = refl
+main_picked covers (Removes dentry) = refl
+main_picked covers (Moves from to) = refl
 
 pub main_located : (covers : Covers) (op : Op) (dir : Ino) (f : Fragment) → dir.0 ≡ destination_of op → IsPick (leaves_of covers dir.0) (main_hash op) f → (dir, f) ≡ main_leaf covers op
 main_located covers op dir f there pick =
-    ap (λ (g : Fragment). (dir, g)) (sym (picked (leaves_of covers dir.0) (main_hash op) f pick)) ∙ ap (λ (d : ℕ). in_directory d (pick_of (leaves_of covers d) (main_hash op))) there ∙ sym (main_picked covers op)
+    ap (λ (g : Fragment). (dir, g)) (sym (picked (leaves_of covers dir.0) (main_hash op) f pick)) ∙ ap (λ (d : ℕ). in_directory d (pick_of (leaves_of covers d) (main_hash op))) there ∙ sym (main_picked covers (shape op))
 
 -- the authority of the leaf in which that hash falls is the master; where there is no such directory the rank itself is
 pub master_located : (tree : TreeState) (roots held : Roots) (rank : Rank) (op : Op) (found : Option Dirfrag) (master : Rank) → Locates (shown_tree tree) tree.covers (HoldsAt tree held) (destination_of op) (main_hash op) found

@@ -6,7 +6,7 @@ use Rattle.std.specs.FinMap as map
 use Rattle.mds_types.specs.declared.ids.Ino.{Ino}
 use Rattle.mds_types.specs.declared.ids.Rank.{Rank}
 use Rattle.mds_types.specs.declared.entries.Entry.{Entry}
-use Rattle.mds_types.specs.Step.{destination_of}
+use Rattle.mds_types.specs.Shape.{destination_of}
 use Rattle.mds_types.specs.Tree.{Tree, dentry_of, is_directory, IsUnused}
 use Rattle.mds_types.proofs.UsedLaws.{numbers_used}
 use Rattle.dirfrag_codec.specs.EntryRecord.{IsRankNumber}

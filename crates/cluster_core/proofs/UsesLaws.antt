@@ -8,6 +8,7 @@ use Rattle.mds_types.specs.declared.replies.Reply.{Reply as Replied}
 use Rattle.mds_types.specs.declared.requests.Request.{Request}
 use Rattle.mds_types.specs.declared.refusals.Refusal.{Refusal}
 use Rattle.mds_types.specs.declared.refusals.Refusal.TheVariants.{InboxFull, Trimmed}
+use Rattle.mds_types.specs.Shape.{shape}
 use Rattle.mds_types.specs.Step.{Outcome}
 use Rattle.dentry_cache.specs.Cache.{Leaf}
 use Rattle.dentry_cache.specs.CacheMap.{CacheMap}
@@ -79,5 +80,5 @@ planned_came old mid new roots between op (Some change) same rooted one came =
     (came_weaker (AsksFor (tree_state mid) between (NamesDir change)) (IsGone (shown_tree (tree_state new))) (Asks (tree_state mid) between op) (IsGone (shown_tree (tree_state new))) asks (λ r q gone. gone) mid.caches new.caches came))
   where
     asks : (r : ℕ) (q : Leaf) → AsksFor (tree_state mid) between (NamesDir change) r q → Asks (tree_state mid) between op r q
-    asks r q (inl held) = inl (change_concerns (shown_tree (tree_state mid)) op change one q.0.0 held.0, held.1)
+    asks r q (inl held) = inl (change_concerns (shown_tree (tree_state mid)) (shape op) change one q.0.0 held.0, held.1)
     asks r q (inr comes) = inr comes

@@ -5,7 +5,8 @@ use Rattle.mds_types.specs.declared.dentries.Dentry.{Dentry}
 use Rattle.mds_types.specs.declared.ids.Rank.{Rank}
 use Rattle.mds_types.specs.declared.operations.Op.{Op}
 use Rattle.mds_types.specs.declared.requests.Request.{Request}
-use Rattle.mds_types.specs.Step.{destination_of, step}
+use Rattle.mds_types.specs.Shape.{destination_of, main_dentry}
+use Rattle.mds_types.specs.Step.{step}
 use Rattle.mds_types.specs.Tree.{is_directory}
 use Rattle.export_steps.specs.Holder.{IsFrozen}
 use Rattle.export_steps.specs.Standing.{Standing}
@@ -16,7 +17,6 @@ use Rattle.namespace_ops.specs.Picks.{pick_of}
 use Rattle.namespace_ops.specs.ChangedFragments.{changed_fragments, fragment_of}
 use Rattle.namespace_ops.specs.Changes.{in_directory}
 use Rattle.namespace_ops.specs.Checked.{Checks}
-use Rattle.namespace_ops.specs.Places.{main_dentry}
 use Rattle.namespace_ops.specs.declared.plans.Checked.{Checked}
 use Rattle.subtree_map.specs.Authority.{Leaf, Roots}
 use Rattle.mdcache.specs.Shown.{shown_tree}

@@ -6,7 +6,7 @@ ghost use Rattle.std.specs.FinMap as map;
 ghost use Rattle.std.proofs.Common.{rules};
 ghost use Rattle.sorted_map.proofs.Decided.{pair_decides};
 ghost use Rattle.mds_types.specs.declared.dentries.Dentry as DentryValue;
-ghost use Rattle.mds_types.specs.declared.inodes.Inode as InodeValue;
+ghost use Rattle.mds_types.specs.InodeLaws.{inode_decides};
 ghost use Rattle.sorted_map.specs.SortedMap.{contents, pairs_eq};
 ghost use Rattle.mds_types.specs.Tree.{dentry_cmp};
 
@@ -64,7 +64,7 @@ impl PlainTree {
 impl PartialEq for PlainTree {
     ghost eq = { λ a b. pointwise (pairs_eq ⟦<Dentry as PartialEq>⟧.eq ⟦<Inode as PartialEq>⟧.eq) (map.entries a) (map.entries b) };
 
-    ghost laws = { on_per (λ t. map.entries t) (partial_equiv_from_equiv (lists_equiv (decided (pairs_eq ⟦<Dentry as PartialEq>⟧.eq ⟦<Inode as PartialEq>⟧.eq) (pair_decides ⟦<Dentry as PartialEq>⟧.eq ⟦<Inode as PartialEq>⟧.eq (λ (a b : DentryValue.Dentry). Prim.search rules) (λ (a b : InodeValue.Inode). Prim.search rules))))) };
+    ghost laws = { on_per (λ t. map.entries t) (partial_equiv_from_equiv (lists_equiv (decided (pairs_eq ⟦<Dentry as PartialEq>⟧.eq ⟦<Inode as PartialEq>⟧.eq) (pair_decides ⟦<Dentry as PartialEq>⟧.eq ⟦<Inode as PartialEq>⟧.eq (λ (a b : DentryValue.Dentry). Prim.search rules) inode_decides)))) };
 
     /// Whether both are the same tree.
     fn eq(&self, other: &PlainTree) -> bool
@@ -79,5 +79,5 @@ impl PartialEq for PlainTree {
 }
 
 impl Eq for PlainTree {
-    ghost laws = { on_equiv (λ t. map.entries t) (lists_equiv (decided (pairs_eq ⟦<Dentry as PartialEq>⟧.eq ⟦<Inode as PartialEq>⟧.eq) (pair_decides ⟦<Dentry as PartialEq>⟧.eq ⟦<Inode as PartialEq>⟧.eq (λ (a b : DentryValue.Dentry). Prim.search rules) (λ (a b : InodeValue.Inode). Prim.search rules)))) };
+    ghost laws = { on_equiv (λ t. map.entries t) (lists_equiv (decided (pairs_eq ⟦<Dentry as PartialEq>⟧.eq ⟦<Inode as PartialEq>⟧.eq) (pair_decides ⟦<Dentry as PartialEq>⟧.eq ⟦<Inode as PartialEq>⟧.eq (λ (a b : DentryValue.Dentry). Prim.search rules) inode_decides))) };
 }

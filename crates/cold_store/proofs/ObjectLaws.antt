@@ -18,6 +18,7 @@ use Rattle.dirfrag_codec.specs.TreeObject.{SpellsTree}
 use Rattle.dirfrag_codec.specs.Values.{entry_of, is_name, tree_of as leaves_spelled}
 use Rattle.dirfrag_codec.proofs.FragmentLaws.{shows_at_each, spells_what_it_shows}
 use Rattle.dirfrag_codec.proofs.TreeLaws.{one_tree}
+use Rattle.dirfrag_codec.proofs.RecordLaws.{allowed as record_allowed}
 use Rattle.dirfrag_codec.proofs.ValueLaws.{read_as, reads_entry, reads_tree, spelled_as}
 use Rattle.dentry_cache.specs.Loading.{IsSaved, Loads}
 use Rattle.dentry_cache.specs.Ties.{names_at}
@@ -32,7 +33,7 @@ pub recordable : (pairs : PairMap) (name : List ℕ) (inode : Inode) → map.get
 recordable pairs name inode is = go (is_name name) (map.get pairs (entry_key name)) (sym (shows_at_each pairs name) ∙ is)
   where
     go : (b : Bool) (r : Option (List ℕ)) → cond b (r >>= entry_of) None ≡ Some inode → IsRecordable inode
-    go true (Some bytes) e = (spelled_as SpellsEntry entry_of reads_entry bytes inode e).allowed
+    go true (Some bytes) e = record_allowed bytes inode (spelled_as SpellsEntry entry_of reads_entry bytes inode e)
     go true None e = absurd cc
     go false r e = absurd cc
 

@@ -52,6 +52,7 @@ module _ (objects : Objects) (tree : Tree) (homes : Homes) (covers : Covers) (le
     parents = λ d name inode stands. dir_stands d (w.records.only d name inode stands).1;
     rooted = λ d name inode stands. below_root d (w.records.only d name inode stands).1;
     sizes = λ d name inode stands. (entry_allowed d name inode stands).size;
+    pins = λ d name inode stands. (entry_allowed d name inode stands).pin;
   }
 
   -- ---- the table

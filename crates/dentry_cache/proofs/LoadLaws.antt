@@ -22,7 +22,7 @@ use Rattle.dirfrag_codec.specs.Values.{entry_of, name_of}
 use Rattle.dirfrag_codec.proofs.ByteKeys.{get_beside, get_put, key_apart, key_same, not_found, same_or_apart}
 use Rattle.dirfrag_codec.proofs.FragmentLaws.{names_shown, one_name, spells_what_it_shows}
 use Rattle.dirfrag_codec.proofs.HeaderLaws.{one_header}
-use Rattle.dirfrag_codec.proofs.RecordLaws.{one_entry}
+use Rattle.dirfrag_codec.proofs.RecordLaws.{one_entry, recorded as spelled_recorded}
 use Rattle.dirfrag_codec.proofs.ValueLaws.{one_key, read_as, reads_entry, reads_key, spelled_as}
 use Rattle.cached_frag.specs.declared.bases.Base.TheVariants.{Stored}
 use Rattle.cached_frag.specs.Snap.{counts_of}
@@ -185,7 +185,7 @@ module _ (frag : Fragment) (pairs : PairMap) (names : Names) (good : are_good fr
   pub names_entries : AreEntries names
   names_entries q inode is =
       let p = holds_all q inode is in
-      record { named = p.named; recorded = record { allowed = p.spelled.allowed; size = p.spelled.size; mtime = p.spelled.mtime; spelled = refl } }
+      record { named = p.named; recorded = spelled_recorded p.bytes inode p.spelled }
 
 -- of an object that spells names of the fragment each pair is good
 module _ (frag : Fragment) (object : Omap) (version : ℕ) (names : Names) (w : IsWhole frag object version names) where

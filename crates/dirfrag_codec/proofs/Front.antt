@@ -6,7 +6,7 @@ use Rattle.std.proofs.lemmas.Nat.{le_bytes_2, le_bytes_4, le_bytes_8}
 use Rattle.std.proofs.lemmas.Option.{cond_some, same_Some}
 use Rattle.byteorder.specs.Endian.{little_bytes, little_number}
 use Rattle.byteorder.specs.Numbers.{length-bytes_low_first, little_from-lt, little_from-take, little_number-reads_back}
-use Rattle.dirfrag_codec.specs.Reading.{◌>>=◌, after_tag, byte_at, number_at}
+use Rattle.dirfrag_codec.specs.Reading.{◌>>=◌, after_tag, byte_at, number_at, version_at}
 
 abbrev pub IsBytes : List ℕ → Type 0
 IsBytes bytes = (i : ℕ) → get_or bytes i 0 < 256
@@ -49,6 +49,16 @@ tag_takes letter version (a ∷ b ∷ bytes) rest fits e =
     let second : b ≡ version = eqb-true _ _ w.1 in
     record { parts = rw (first, second, g.1) refl; rest_fits = rw (← g.1) (λ i. fits (suc (suc i))) }
 
+-- what stands behind a letter and a version
+pub version_takes : (letter : ℕ) (bytes : List ℕ) (version : ℕ) (rest : List ℕ) → IsBytes bytes → version_at letter bytes ≡ Some (version, rest) → Takes bytes (letter ∷ version ∷ []) rest
+version_takes letter [] version rest fits e = absurd cc
+version_takes letter (a ∷ []) version rest fits e = absurd cc
+version_takes letter (a ∷ b ∷ bytes) version rest fits e =
+    let g = cond_some (eqb a letter) (b, bytes) (version, rest) e in
+    let first : a ≡ letter = eqb-true _ _ g.0 in
+    subst (λ (p : ℕ × List ℕ). Takes (a ∷ b ∷ bytes) (letter ∷ p.0 ∷ []) p.1) g.1
+    (record { parts = ap (λ (x : ℕ). x ∷ b ∷ bytes) first; rest_fits = λ i. fits (suc (suc i)) })
+
 pub byte_takes : (bytes : List ℕ) (b : ℕ) (rest : List ℕ) → IsBytes bytes → byte_at bytes ≡ Some (b, rest) → Takes bytes (b ∷ []) rest
 byte_takes [] b rest fits e = absurd cc
 byte_takes (c ∷ bytes) b rest fits e =
@@ -58,6 +68,11 @@ byte_takes (c ∷ bytes) b rest fits e =
 -- widths at which the bytes of a number that was read are those that were there
 abbrev pub IsWidth : ℕ → Type 0
 IsWidth n = (bytes : List ℕ) → length bytes ≡ n → IsBytes bytes → little_bytes n (little_number n bytes) ≡ bytes
+
+pub width_1 : IsWidth 1
+width_1 [] len fits = absurd (omega (arith, len))
+width_1 (b ∷ []) len fits = ap (λ (n : ℕ). n ∷ []) (omega (arith, fits 0))
+width_1 (b ∷ c ∷ rest) len fits = absurd (omega (arith, len))
 
 pub width_2 : IsWidth 2
 width_2 bytes len fits = le_bytes_2 bytes _ len fits (omega arith)

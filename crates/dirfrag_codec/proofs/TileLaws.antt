@@ -6,7 +6,7 @@ use Rattle.std.proofs.lemmas.Option.{none-some, same_Some}
 use Rattle.std.specs.List.{flat_map}
 use Rattle.byteorder.specs.Endian.{little_bytes}
 use Rattle.mds_types.specs.Frag.{Fragment, IsFragment, span, word_of}
-use Rattle.fragtree.specs.FragTree.{IsTree, Tiles}
+use Rattle.fragtree.specs.FragTree.{Tiles}
 use Rattle.dirfrag_codec.specs.Grammar.{Decodes}
 use Rattle.dirfrag_codec.specs.Leaves.{AreTilesFrom, AreTreeOf, BeginsWith, BeginsWithNone, EndsAt}
 use Rattle.dirfrag_codec.specs.Reading.{number_at, words_at}

@@ -1,5 +1,5 @@
 -- The functions that read give a value exactly where the bytes spell it.
-use Rattle.std.proofs.Common.{◌≡◌, ℕ, ◌+◌, ◌-◌, ◌/◌, ◌%◌, ◌^◌, ◌≤◌, Bool, true, false, ◌&&◌, cond, not, ltb, leb, List, [], ◌∷◌, ◌++◌, length, drop, Option, Some, None, refl, sym, ap, subst, ◌∙◌, arith}
+use Rattle.std.proofs.Common.{◌≡◌, ◌⊎◌, inl, inr, ℕ, ◌+◌, ◌-◌, ◌/◌, ◌%◌, ◌^◌, ◌≤◌, Bool, true, false, ◌&&◌, ◌||◌, cond, not, eqb, ltb, leb, List, [], ◌∷◌, ◌++◌, length, drop, Option, Some, None, refl, sym, ap, subst, ◌∙◌, arith}
 use Rattle.std.proofs.lemmas.Bool.Decides.{nat_tests, Decides-and, Decides-like, Decides-eqb, Decides-ltb}
 use Rattle.std.proofs.lemmas.List.{take_at, drop_at, length-append}
 use Rattle.std.proofs.lemmas.List.Concat.{flat_map-cons}
@@ -14,22 +14,23 @@ use Rattle.byteorder.specs.Endian.{little_number}
 use Rattle.byteorder.specs.Numbers.{length-bytes_low_first, little_number-reads_back}
 use Rattle.mds_types.specs.Frag.{Fragment, IsFragment, word_of, span}
 use Rattle.mds_types.specs.Name.{IsName, IsTarget, fits_name, fits_target, is_dots}
-use Rattle.mds_types.specs.Tree.{HasSize}
+use Rattle.mds_types.specs.Tree.{HasPinOf, HasSize}
+use Rattle.mds_types.specs.declared.ids.Rank.{Rank}
 use Rattle.mds_types.specs.declared.inodes.Inode.{Inode}
 use Rattle.mds_types.specs.declared.inodes.Kind.{Kind}
 use Rattle.mds_types.specs.declared.inodes.Kind.TheVariants.{File, Dir, Symlink}
 use Rattle.fragtree.specs.FragTree.{Tiles}
 use Rattle.objstore.specs.EntryKeys.{entry_key}
 use Rattle.dirfrag_codec.specs.declared.headers.FragHeader.{FragHeader}
-use Rattle.dirfrag_codec.specs.EntryRecord.{HasTarget, IsRecordable, IsRecordV1, SpellsEntry, kind_byte, record_v1, target_of}
+use Rattle.dirfrag_codec.specs.EntryRecord.{HasTarget, IsRecordable, IsRecordV1, IsRecordV2, SpellsEntry, WritesEntry, kind_byte, pin_byte, record_v1, record_v2, target_of}
 use Rattle.dirfrag_codec.specs.FragHeader.{SpellsHeader, header_bytes}
 use Rattle.dirfrag_codec.specs.FragmentObject.{SpellsKey}
 use Rattle.dirfrag_codec.specs.Grammar.{Decodes, HasOneMeaning, Reads}
-use Rattle.dirfrag_codec.specs.Reading.{◌>>=◌, RecordFields, fields_of_inode, header_at}
+use Rattle.dirfrag_codec.specs.Reading.{◌>>=◌, RecordFields, fields_of_inode, header_at, inode_with, pin_of_byte}
 use Rattle.dirfrag_codec.specs.TreeObject.{SpellsTree, leaf_bytes, tree_bytes}
-use Rattle.dirfrag_codec.specs.Values.{all_leaves_at, allows, do_tile, entry_of, fragment_of, front_of, has_size, has_target, header_of, inode_at, inode_with, is_fragment, is_header, is_name, is_record_v1, is_tree, kind_of, leaves_at, name_of, tree_of}
+use Rattle.dirfrag_codec.specs.Values.{all_leaves_at, allows, do_tile, entry_of, fragment_of, front_of, has_pin, has_size, has_target, header_of, inode_at, is_fragment, is_header, is_name, is_record_v1, is_record_v2, is_tree, is_written, kind_of, leaves_at, name_of, tree_of, written_of}
 use Rattle.dirfrag_codec.proofs.HeaderLaws.{header_again}
-use Rattle.dirfrag_codec.proofs.RecordLaws.{fields_of_record, number_decides}
+use Rattle.dirfrag_codec.proofs.RecordLaws.{allowed, fields_of_record, number_decides, plain_decides, widths_decides}
 use Rattle.dirfrag_codec.proofs.TreeLaws.{four_each, fragments_of, words_of_tree, word_low}
 
 -- what is read first and then asked for is read exactly, where each spelled value is read first
@@ -92,15 +93,39 @@ has_size_decides File size = (λ _. tt, λ _. refl)
 has_size_decides Dir size = Decides-eqb size 0
 has_size_decides (Symlink target) size = Decides-eqb size (length target)
 
+has_pin_decides : (kind : Kind) (pin : Option Rank) → Decides (has_pin kind pin) (HasPinOf kind pin)
+has_pin_decides kind None = (λ _. tt, λ _. refl)
+has_pin_decides File (Some rank) = (λ e. cc, λ h. absurd h)
+has_pin_decides Dir (Some rank) = Decides-ltb rank.0 16
+has_pin_decides (Symlink target) (Some rank) = (λ e. cc, λ h. absurd h)
+
 allows_decides : (inode : Inode) → Decides (allows inode) (IsRecordable inode)
 allows_decides inode =
-    Decides-like _ (λ p. record { number = p.0; mode = p.1.0; size = p.1.1.0; target = p.1.1.1 }) (λ h. (h.number, (h.mode, (h.size, h.target))))
-    (Decides-and _ _ (number_decides inode.ino.0) (Decides-and _ _ (le_decides inode.mode 4095) (Decides-and _ _ (has_size_decides inode.kind inode.size) (has_target_decides inode.kind))))
+    Decides-like _ (λ p. record { number = p.0; mode = p.1.0; size = p.1.1.0; target = p.1.1.1.0; pin = p.1.1.1.1 }) (λ h. (h.number, (h.mode, (h.size, (h.target, h.pin)))))
+    (Decides-and _ _ (number_decides inode.ino.0) (Decides-and _ _ (le_decides inode.mode 4095) (Decides-and _ _ (has_size_decides inode.kind inode.size) (Decides-and _ _ (has_target_decides inode.kind) (has_pin_decides inode.kind inode.pin)))))
 
-pub record_decides : (bytes : List ℕ) (inode : Inode) → Decides (is_record_v1 bytes inode) (IsRecordV1 bytes inode)
-record_decides bytes inode =
-    Decides-like _ (λ p. record { allowed = p.0; size = p.1.0; mtime = p.1.1.0; spelled = p.1.1.1 }) (λ h. (h.allowed, (h.size, (h.mtime, h.spelled))))
-    (Decides-and _ _ (allows_decides inode) (Decides-and _ _ (Decides-ltb inode.size (2 ^ 64)) (Decides-and _ _ (Decides-ltb inode.mtime (2 ^ 64)) (bytes_eq-Decides bytes (record_v1 inode)))))
+pub first_decides : (bytes : List ℕ) (inode : Inode) → Decides (is_record_v1 bytes inode) (IsRecordV1 bytes inode)
+first_decides bytes inode =
+    Decides-like _ (λ p. record { allowed = p.0; widths = p.1.0; plain = p.1.1.0; spelled = p.1.1.1 }) (λ h. (h.allowed, (h.widths, (h.plain, h.spelled))))
+    (Decides-and _ _ (allows_decides inode) (Decides-and _ _ (widths_decides inode) (Decides-and _ _ (plain_decides inode) (bytes_eq-Decides bytes (record_v1 inode)))))
+
+pub written_decides : (bytes : List ℕ) (inode : Inode) → Decides (is_record_v2 bytes inode) (IsRecordV2 bytes inode)
+written_decides bytes inode =
+    Decides-like _ (λ p. record { allowed = p.0; widths = p.1.0; spelled = p.1.1 }) (λ h. (h.allowed, (h.widths, h.spelled)))
+    (Decides-and _ _ (allows_decides inode) (Decides-and _ _ (widths_decides inode) (bytes_eq-Decides bytes (record_v2 inode))))
+
+either : {P Q : Type 0} (a b : Bool) → Decides a P → Decides b Q → Decides (a || b) (P ⊎ Q)
+either true b p q = (λ e. inl (p.0 refl), λ h. refl)
+either false true p q = (λ e. inr (q.0 refl), λ h. refl)
+either {P} {Q} false false p q = (λ e. absurd cc, no)
+  where
+    no : P ⊎ Q → false ≡ true
+    no (inl x) = p.1 x
+    no (inr y) = q.1 y
+
+-- whether the bytes are a record of the inode in a version that is read
+entry_decides : (bytes : List ℕ) (inode : Inode) → Decides (is_record_v1 bytes inode || is_record_v2 bytes inode) (SpellsEntry bytes inode)
+entry_decides bytes inode = either _ _ (first_decides bytes inode) (written_decides bytes inode)
 
 header_decides : (bytes : List ℕ) (header : FragHeader) → Decides (is_header bytes header) (SpellsHeader bytes header)
 header_decides bytes header =
@@ -136,11 +161,18 @@ kind_again File = refl
 kind_again Dir = refl
 kind_again (Symlink target) = refl
 
+pin_again : (kind : Kind) (pin : Option Rank) → HasPinOf kind pin → pin_of_byte (pin_byte pin) ≡ pin
+pin_again kind None h = refl
+pin_again File (Some rank) h = absurd h
+pin_again Dir (Some rank) h = let other : eqb rank.0 255 ≡ false = grind (arith, nat_tests, h) in ap (λ (b : Bool). cond b None (Some rank)) other
+pin_again (Symlink target) (Some rank) h = absurd h
+
 entry_first : (bytes : List ℕ) (inode : Inode) → SpellsEntry bytes inode → inode_at bytes ≡ Some inode
 unfolding inode_at
 entry_first bytes inode s =
     ap (λ (r : Option RecordFields). r >>= λ f. kind_of f.kind f.target >>= λ kind. Some (inode_with f kind)) (fields_of_record bytes inode s)
     ∙ ap (λ (r : Option Kind). r >>= λ kind. Some (inode_with (fields_of_inode inode) kind)) (kind_again inode.kind)
+    ∙ ap (λ (pin : Option Rank). Some (record inode { pin = pin })) (pin_again inode.kind inode.pin (allowed bytes inode s).pin)
 
 header_first : (bytes : List ℕ) (header : FragHeader) → SpellsHeader bytes header → header_at bytes ≡ Some header
 header_first bytes header s = ap header_at s.spelled ∙ header_again header s.committed s.version s.files s.dirs
@@ -181,7 +213,11 @@ key_first key name s = ap (λ (k : List ℕ). Some (front_of k)) s.1 ∙ ap (λ 
 
 pub reads_entry : Reads SpellsEntry entry_of
 unfolding entry_of
-reads_entry bytes = guarded SpellsEntry bytes (inode_at bytes) (is_record_v1 bytes) (record_decides bytes) (entry_first bytes)
+reads_entry bytes = guarded SpellsEntry bytes (inode_at bytes) (λ inode. is_record_v1 bytes inode || is_record_v2 bytes inode) (entry_decides bytes) (entry_first bytes)
+
+pub reads_written : Reads WritesEntry written_of
+unfolding written_of
+reads_written bytes = guarded WritesEntry bytes (inode_at bytes) (is_written bytes) (written_decides bytes) (λ inode s. entry_first bytes inode (inr s))
 
 pub reads_header : Reads SpellsHeader header_of
 unfolding header_of

@@ -1,30 +1,27 @@
 -- What bytes say, as functions: the value that they spell, none where they spell none. Each reads the fields, and then asks whether
 -- the value of these fields is spelled by these bytes.
-use Rattle.std.specs.Prelude.{ℕ, zero, suc, ◌-◌, ◌+◌, ◌*◌, ◌/◌, ◌%◌, ◌^◌, Bool, true, not, ◌&&◌, ◌==◌, nat_lt, nat_le, if◌then◌else◌, List, [], ◌∷◌, length, take, drop, Option, Some, None}
+use Rattle.std.specs.Prelude.{ℕ, zero, suc, ◌-◌, ◌+◌, ◌*◌, ◌/◌, ◌%◌, ◌^◌, Bool, true, false, not, ◌&&◌, ◌||◌, ◌==◌, nat_lt, nat_le, if◌then◌else◌, List, [], ◌∷◌, length, take, drop, Option, Some, None}
 use Rattle.std.specs.Str.{bytes_eq}
 use Rattle.std.specs.List.{list_all}
 use Rattle.byteorder.specs.Endian.{little_number}
 use Rattle.mds_types.specs.Frag.{Fragment, span}
 use Rattle.mds_types.specs.Name.{fits_name, fits_target, is_dots}
+use Rattle.mds_types.specs.declared.ids.Rank.{Rank}
 use Rattle.mds_types.specs.declared.inodes.Inode.{Inode}
 use Rattle.mds_types.specs.declared.inodes.Kind.{Kind}
 use Rattle.mds_types.specs.declared.inodes.Kind.TheVariants.{File, Dir, Symlink}
 use Rattle.objstore.specs.EntryKeys.{entry_key}
 use Rattle.dirfrag_codec.specs.declared.headers.FragHeader.{FragHeader}
-use Rattle.dirfrag_codec.specs.EntryRecord.{record_v1}
+use Rattle.dirfrag_codec.specs.EntryRecord.{record_v1, record_v2}
 use Rattle.dirfrag_codec.specs.FragHeader.{header_bytes}
 use Rattle.dirfrag_codec.specs.TreeObject.{tree_bytes}
-use Rattle.dirfrag_codec.specs.Reading.{◌>>=◌, RecordFields, fields_at, header_at, words_at}
+use Rattle.dirfrag_codec.specs.Reading.{◌>>=◌, fields_at, has_widths, header_at, inode_with, is_plain, words_at}
 
 -- ---- records
 
 -- the kind of a byte, with this target if it is a link
 abbrev pub kind_of : ℕ → List ℕ → Option Kind
 kind_of byte target = if byte == 1 then Some File else if byte == 2 then Some Dir else if byte == 3 then Some (Symlink target) else None
-
--- the inode of these fields, be it allowed or not
-abbrev pub inode_with : RecordFields → Kind → Inode
-inode_with f kind = record { ino = record { 0 = f.ino }; kind = kind; mode = f.mode; size = f.size; mtime = f.mtime }
 
 -- whether the kind prescribes this size
 abbrev pub has_size : Kind → ℕ → Bool
@@ -38,13 +35,29 @@ has_target File = true
 has_target Dir = true
 has_target (Symlink target) = nat_lt 0 (length target) && (nat_le (length target) 4095 && list_all fits_target target)
 
+-- whether the kind may have the pin
+abbrev pub has_pin : Kind → Option Rank → Bool
+has_pin kind None = true
+has_pin File (Some rank) = false
+has_pin Dir (Some rank) = nat_lt rank.0 16
+has_pin (Symlink target) (Some rank) = false
+
 -- whether a record allows the inode
 abbrev pub allows : Inode → Bool
-allows inode = (nat_le (2 ^ 40) inode.ino.0 && nat_lt inode.ino.0 (17 * 2 ^ 40)) && (nat_le inode.mode 4095 && (has_size inode.kind inode.size && has_target inode.kind))
+allows inode =
+    (nat_le (2 ^ 40) inode.ino.0 && nat_lt inode.ino.0 (17 * 2 ^ 40))
+    && (nat_le inode.mode 4095 && (has_size inode.kind inode.size && (has_target inode.kind && has_pin inode.kind inode.pin)))
 
--- whether the bytes are the record of the inode in version 1
+-- whether the bytes are the record of the inode in a version
 abbrev pub is_record_v1 : List ℕ → Inode → Bool
-is_record_v1 bytes inode = allows inode && (nat_lt inode.size (2 ^ 64) && (nat_lt inode.mtime (2 ^ 64) && bytes_eq bytes (record_v1 inode)))
+is_record_v1 bytes inode = allows inode && (has_widths inode && (is_plain inode && bytes_eq bytes (record_v1 inode)))
+
+abbrev pub is_record_v2 : List ℕ → Inode → Bool
+is_record_v2 bytes inode = allows inode && (has_widths inode && bytes_eq bytes (record_v2 inode))
+
+-- whether the bytes are what is written for the inode
+abbrev pub is_written : List ℕ → Inode → Bool
+is_written bytes inode = is_record_v2 bytes inode
 
 -- the inode whose fields the bytes begin with, be it allowed or not
 unfoldable pub inode_at : List ℕ → Option Inode
@@ -57,7 +70,13 @@ inode_at bytes = do
 unfoldable pub entry_of : List ℕ → Option Inode
 entry_of bytes = do
   inode ← inode_at bytes
-  if is_record_v1 bytes inode then Some inode else None
+  if is_record_v1 bytes inode || is_record_v2 bytes inode then Some inode else None
+
+-- the inode whose written record the bytes are
+unfoldable pub written_of : List ℕ → Option Inode
+written_of bytes = do
+  inode ← inode_at bytes
+  if is_written bytes inode then Some inode else None
 
 -- ---- headers
 

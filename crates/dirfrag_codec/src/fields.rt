@@ -1,7 +1,7 @@
 //! Fields at the front of bytes, and at their end.
 ghost use Rattle.std.specs.Prelude.{◌≡◌, ◌++◌, OnOk};
 ghost use Rattle.byteorder.specs.Endian.{little_bytes};
-ghost use Rattle.dirfrag_codec.specs.Reading.{Gives, after_tag, byte_at, number_at};
+ghost use Rattle.dirfrag_codec.specs.Reading.{Gives, after_tag, byte_at, number_at, version_at};
 
 use byteorder::{ByteOrder, LittleEndian};
 use std::alloc::AllocError;
@@ -16,9 +16,20 @@ pub fn after_tag(bytes: &[u8], letter: u8, version: u8) -> Option<&[u8]>
     }
 }
 
+/// The version behind the letter of a format, and the bytes after it.
+pub fn version_at(bytes: &[u8], letter: u8) -> Option<(u8, &[u8])>
+    ensures { Gives (λ x. (x.0, x.1.now)) result (version_at letter bytes.now) }
+{
+    match bytes {
+        [a, version, rest @ ..] if *a == letter => Some((*version, rest)),
+        _ => None,
+    }
+}
+
 /// The byte at the front, and the bytes after it.
 pub fn u8_at(bytes: &[u8]) -> Option<(u8, &[u8])>
-    ensures { Gives (λ x. (x.0, x.1.now)) result (byte_at bytes.now) }
+    ensures byte { Gives (λ x. (x.0, x.1.now)) result (byte_at bytes.now) }
+    ensures number { Gives (λ x. (x.0, x.1.now)) result (number_at 1 bytes.now) }
 {
     match bytes {
         [byte, rest @ ..] => Some((*byte, rest)),

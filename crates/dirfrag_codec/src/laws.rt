@@ -1,19 +1,22 @@
 //! Laws of the formats. A law is its contract: its body does nothing.
-ghost use Rattle.dirfrag_codec.specs.EntryRecord.{SpellsEntry, WritesEntry};
+ghost use Rattle.dirfrag_codec.specs.EntryRecord.{HasItsSpellings, SpellsEntry, WritesEntry};
 ghost use Rattle.dirfrag_codec.specs.FragHeader.{SpellsHeader};
 ghost use Rattle.dirfrag_codec.specs.FragmentObject.{HasOneFragment, HasOneTree, ShowsAtEach, SpellsKey, SpellsWhatItShows};
 ghost use Rattle.dirfrag_codec.specs.Grammar.{HasOneMeaning, HasOneSpelling, IsReadAgain, NothingFollows, Reads};
 ghost use Rattle.dirfrag_codec.specs.TreeObject.{SpellsTree};
-ghost use Rattle.dirfrag_codec.specs.Values.{entry_of, header_of, name_of, tree_of};
+ghost use Rattle.dirfrag_codec.specs.Values.{entry_of, header_of, name_of, tree_of, written_of};
 
 /// Bytes are the record of one inode alone, an inode's record is written in one way and read as that inode, and no record
-/// begins another. `entry_of` is the inode whose record bytes are.
+/// begins another. `entry_of` is the inode whose record bytes are, and `written_of` that whose written record they are. What
+/// version 1 can say has one spelling in each version, any other inode one in version 2.
 pub fn entries_are_spelled_once()
     ensures meaning { HasOneMeaning SpellsEntry }
     ensures spelling { HasOneSpelling WritesEntry }
     ensures again { IsReadAgain WritesEntry SpellsEntry }
     ensures ended { NothingFollows SpellsEntry }
     ensures value { Reads SpellsEntry entry_of }
+    ensures written { Reads WritesEntry written_of }
+    ensures versions { HasItsSpellings }
 {}
 
 /// Bytes are one header alone, a header has one spelling, and no header begins another. `header_of` is the header that

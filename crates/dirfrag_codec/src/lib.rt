@@ -11,5 +11,5 @@ mod trees;
 
 pub use headers::{FragHeader, decode_header, encode_header};
 pub use recordable::is_recordable;
-pub use records::{decode_entry, encode_entry};
+pub use records::{decode_entry, decode_written, encode_entry, has_widths};
 pub use trees::{decode_tree, encode_tree};

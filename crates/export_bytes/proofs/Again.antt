@@ -1,21 +1,18 @@
 -- What is written of an export is read again.
-use Rattle.std.proofs.Common.{◌≡◌, ℕ, ◌^◌, ◌<◌, ◌≤◌, Bool, true, false, not, ◌&&◌, cond, eqb, ltb, List, [], ◌∷◌, ◌++◌, length, Option, Some, None, refl, sym, ap, ◌∙◌, append_assoc, arith}
+use Rattle.std.proofs.Common.{◌≡◌, ℕ, ◌^◌, ◌<◌, Bool, true, false, not, ◌&&◌, cond, eqb, ltb, List, [], ◌∷◌, ◌++◌, length, Option, Some, None, refl, sym, ap, ◌∙◌, append_assoc, arith}
 use Rattle.std.proofs.lemmas.Bool.{le-ltb, ltb-true, and_parts}
 use Rattle.std.proofs.lemmas.List.{append-nil, take_at, drop_at, length-append}
 use Rattle.std.specs.List.{flat_map, list_all}
 use Rattle.byteorder.specs.Endian.{little_bytes}
-use Rattle.byteorder.specs.Numbers.{length-bytes_low_first}
 use Rattle.mds_types.specs.Frag.{Fragment, word_of}
 use Rattle.mds_types.specs.declared.inodes.Inode.{Inode}
-use Rattle.mds_types.specs.declared.inodes.Kind.{Kind}
-use Rattle.mds_types.specs.declared.inodes.Kind.TheVariants.{File, Dir, Symlink}
-use Rattle.dirfrag_codec.specs.EntryRecord.{HasTarget, SpellsEntry, entry_bytes, kind_byte, target_of}
+use Rattle.dirfrag_codec.specs.EntryRecord.{WritesEntry, entry_bytes}
 use Rattle.dirfrag_codec.specs.Reading.{◌>>=◌, byte_at, number_at}
-use Rattle.dirfrag_codec.specs.Values.{entry_of, is_fragment, is_name, is_record_v1}
+use Rattle.dirfrag_codec.specs.Values.{written_of, is_fragment, is_name, is_written}
 use Rattle.dirfrag_codec.proofs.Front.{number_again}
-use Rattle.dirfrag_codec.proofs.RecordLaws.{one_entry}
+use Rattle.dirfrag_codec.proofs.RecordLaws.{one_written, written_short}
 use Rattle.dirfrag_codec.proofs.TreeLaws.{word_low}
-use Rattle.dirfrag_codec.proofs.ValueLaws.{fragment_again, fragment_decides, read_as, reads_entry, record_decides}
+use Rattle.dirfrag_codec.proofs.ValueLaws.{fragment_again, fragment_decides, read_as, reads_written, written_decides}
 use Rattle.cached_frag.specs.declared.bases.Base.{Base}
 use Rattle.cached_frag.specs.declared.bases.Base.TheVariants.{Fresh, Stored}
 use Rattle.export_bytes.specs.declared.exports.Export.{Export}
@@ -37,32 +34,19 @@ name_again name rest named =
 
 -- ---- records
 
-record_chain : (x rest : List ℕ) (inode : Inode) → length x < 256 ^ 2 → entry_of x ≡ Some inode → record_at (little_bytes 2 (length x) ++ (x ++ rest)) ≡ Some (inode, rest)
+record_chain : (x rest : List ℕ) (inode : Inode) → length x < 256 ^ 2 → written_of x ≡ Some inode → record_at (little_bytes 2 (length x) ++ (x ++ rest)) ≡ Some (inode, rest)
 unfolding record_at
 record_chain x rest inode short read =
-    ap (λ (r : Option (ℕ × List ℕ)). (r >>= λ len. part_at len.0 len.1) >>= λ part. entry_of part.0 >>= λ i. Some (i, part.1)) (number_again 2 (length x) (x ++ rest) short)
-    ∙ ap (λ (r : Option (List ℕ × List ℕ)). r >>= λ part. entry_of part.0 >>= λ i. Some (i, part.1)) (part_again x rest)
+    ap (λ (r : Option (ℕ × List ℕ)). (r >>= λ len. part_at len.0 len.1) >>= λ part. written_of part.0 >>= λ i. Some (i, part.1)) (number_again 2 (length x) (x ++ rest) short)
+    ∙ ap (λ (r : Option (List ℕ × List ℕ)). r >>= λ part. written_of part.0 >>= λ i. Some (i, part.1)) (part_again x rest)
     ∙ ap (λ (r : Option Inode). r >>= λ i. Some (i, rest)) read
 
-target_short : (kind : Kind) → HasTarget kind → length (target_of kind) ≤ 4095
-target_short File h = omega arith
-target_short Dir h = omega arith
-target_short (Symlink target) h = h.short
+record_short : (inode : Inode) → is_written (entry_bytes inode) inode ≡ true → length (entry_bytes inode) < 256 ^ 2
+record_short inode has = written_short (entry_bytes inode) inode ((written_decides (entry_bytes inode) inode).0 has)
 
-parts_short : (a b c d e t : List ℕ) (k : ℕ) → length a ≡ 8 → length b ≡ 2 → length c ≡ 8 → length d ≡ 8 → length e ≡ 2 → length t ≤ 4095 → length (73 ∷ 1 ∷ k ∷ (a ++ (b ++ (c ++ (d ++ (e ++ t)))))) < 256 ^ 2
-parts_short a b c d e t k ha hb hc hd he ht =
-    omega (arith, length-append a (b ++ (c ++ (d ++ (e ++ t)))), length-append b (c ++ (d ++ (e ++ t))), length-append c (d ++ (e ++ t)), length-append d (e ++ t), length-append e t)
-
-record_short : (inode : Inode) → is_record_v1 (entry_bytes inode) inode ≡ true → length (entry_bytes inode) < 256 ^ 2
-record_short inode has =
-    let r = (record_decides (entry_bytes inode) inode).0 has in
-    parts_short (little_bytes 8 inode.ino.0) (little_bytes 2 inode.mode) (little_bytes 8 inode.size) (little_bytes 8 inode.mtime) (little_bytes 2 (length (target_of inode.kind))) (target_of inode.kind) (kind_byte inode.kind)
-    (length-bytes_low_first 0 8 inode.ino.0) (length-bytes_low_first 0 2 inode.mode) (length-bytes_low_first 0 8 inode.size) (length-bytes_low_first 0 8 inode.mtime) (length-bytes_low_first 0 2 (length (target_of inode.kind)))
-    (target_short inode.kind r.allowed.target)
-
-record_again : (inode : Inode) (rest : List ℕ) → is_record_v1 (entry_bytes inode) inode ≡ true → record_at (little_bytes 2 (length (entry_bytes inode)) ++ (entry_bytes inode ++ rest)) ≡ Some (inode, rest)
+record_again : (inode : Inode) (rest : List ℕ) → is_written (entry_bytes inode) inode ≡ true → record_at (little_bytes 2 (length (entry_bytes inode)) ++ (entry_bytes inode ++ rest)) ≡ Some (inode, rest)
 record_again inode rest has =
-    record_chain (entry_bytes inode) rest inode (record_short inode has) (read_as SpellsEntry entry_of one_entry reads_entry (entry_bytes inode) inode ((record_decides (entry_bytes inode) inode).0 has))
+    record_chain (entry_bytes inode) rest inode (record_short inode has) (read_as WritesEntry written_of one_written reads_written (entry_bytes inode) inode ((written_decides (entry_bytes inode) inode).0 has))
 
 inode_again : (o : Option Inode) (rest : List ℕ) → has_record o ≡ true → inode_at (inode_bytes o ++ rest) ≡ Some (o, rest)
 inode_again None rest has = refl
@@ -168,7 +152,7 @@ sent_frag_again f rest is =
 -- ---- the whole
 
 front_chain : (f : Front) (word : ℕ) (t0 t1 t2 t3 t4 t5 : List ℕ) → number_at 8 t0 ≡ Some (f.ino, t1) → number_at 4 t1 ≡ Some (word, t2) → frag_of word ≡ Some f.frag → byte_at t2 ≡ Some (f.exporter, t3)
-    → byte_at t3 ≡ Some (f.importer, t4) → number_at 4 t4 ≡ Some (f.count, t5) → (ltb f.exporter 16 && (ltb f.importer 16 && not (eqb f.exporter f.importer))) ≡ true → front_at (88 ∷ 1 ∷ t0) ≡ Some (f, t5)
+    → byte_at t3 ≡ Some (f.importer, t4) → number_at 4 t4 ≡ Some (f.count, t5) → (ltb f.exporter 16 && (ltb f.importer 16 && not (eqb f.exporter f.importer))) ≡ true → front_at (88 ∷ 2 ∷ t0) ≡ Some (f, t5)
 unfolding front_at
 front_chain f word t0 t1 t2 t3 t4 t5 e0 e1 e2 e3 e4 e5 e6 = rw (e0, e1, e2, e3, e4, e5, e6) refl
 
@@ -205,7 +189,7 @@ front_again e rest is =
     let t4 = little_bytes 4 (length e.frags) ++ n in
     let t2 = e.exporter.0 ∷ e.importer.0 ∷ t4 in
     let t1 = little_bytes 4 (word_of e.frag) ++ t2 in
-    ap (λ (t : List ℕ). front_at (88 ∷ 1 ∷ t)) (front_parts (little_bytes 8 e.ino.0) (little_bytes 4 (word_of e.frag)) (little_bytes 4 (length e.frags)) (flat_map frag_bytes e.frags) rest e.exporter.0 e.importer.0)
+    ap (λ (t : List ℕ). front_at (88 ∷ 2 ∷ t)) (front_parts (little_bytes 8 e.ino.0) (little_bytes 4 (word_of e.frag)) (little_bytes 4 (length e.frags)) (flat_map frag_bytes e.frags) rest e.exporter.0 e.importer.0)
     ∙ front_chain (front_of e) (word_of e.frag) (little_bytes 8 e.ino.0 ++ t1) t1 t2 (e.importer.0 ∷ t4) t4 n
     (number_again 8 e.ino.0 t1 (omega (arith, s.ino))) (number_again 4 (word_of e.frag) t2 (word_fits e.frag s.frag)) (frag_again e.frag s.frag) refl refl (number_again 4 (length e.frags) n (omega (arith, s.few))) s.ranks
 

@@ -1,15 +1,20 @@
 -- Whether an inode has a record, as it is told.
-use Rattle.std.specs.Prelude.{◌≡◌, ◌^◌, ◌<◌, ◌↔◌, Bool, true, false, IsTrue, refl}
-use Rattle.std.proofs.Common.{sym, ◌∙◌}
+use Rattle.std.specs.Prelude.{◌≡◌, ◌↔◌, Bool, true, false, IsTrue, Option, Some, refl}
+use Rattle.std.proofs.Common.{sym, ap, ◌∙◌}
 use Rattle.mds_types.specs.declared.inodes.Inode.{Inode}
-use Rattle.dirfrag_codec.specs.EntryRecord.{IsRecordable, entry_bytes}
-use Rattle.dirfrag_codec.specs.Values.{is_record_v1}
-use Rattle.dirfrag_codec.proofs.ValueLaws.{record_decides}
+use Rattle.dirfrag_codec.specs.EntryRecord.{HasWidths, IsRecordable, entry_bytes}
+use Rattle.dirfrag_codec.specs.Values.{is_written}
+use Rattle.dirfrag_codec.proofs.ValueLaws.{written_decides}
+use Rattle.export_bytes.specs.Export.{has_record}
 
-pub told_recorded : (inode : Inode) (told : Bool) → inode.size < 2 ^ 64 → inode.mtime < 2 ^ 64 → IsTrue told ↔ IsRecordable inode → told ≡ is_record_v1 (entry_bytes inode) inode
-told_recorded inode told size mtime is = go told refl (is_record_v1 (entry_bytes inode) inode) refl
+pub told_recorded : (inode : Inode) (told : Bool) → HasWidths inode → IsTrue told ↔ IsRecordable inode → told ≡ is_written (entry_bytes inode) inode
+told_recorded inode told widths is = go told refl (is_written (entry_bytes inode) inode) refl
   where
-    go : (t : Bool) → told ≡ t → (r : Bool) → is_record_v1 (entry_bytes inode) inode ≡ r → told ≡ is_record_v1 (entry_bytes inode) inode
-    go true it r _ = it ∙ sym ((record_decides (entry_bytes inode) inode).1 (record { allowed = is.0 it; size = size; mtime = mtime; spelled = refl }))
-    go false it true has = is.1 ((record_decides (entry_bytes inode) inode).0 has).allowed ∙ sym has
+    go : (t : Bool) → told ≡ t → (r : Bool) → is_written (entry_bytes inode) inode ≡ r → told ≡ is_written (entry_bytes inode) inode
+    go true it r _ = it ∙ sym ((written_decides (entry_bytes inode) inode).1 (record { allowed = is.0 it; widths = widths; spelled = refl }))
+    go false it true has = is.1 ((written_decides (entry_bytes inode) inode).0 has).allowed ∙ sym has
     go false it false has = it ∙ sym has
+
+-- an inode that has a record is one that a record allows
+pub recordable : (found : Option Inode) (inode : Inode) → found ≡ Some inode → has_record found ≡ true → IsRecordable inode
+recordable found inode is has = ((written_decides (entry_bytes inode) inode).0 (ap has_record (sym is) ∙ has)).allowed

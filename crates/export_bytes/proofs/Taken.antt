@@ -7,11 +7,11 @@ use Rattle.std.specs.List.{flat_map, list_all}
 use Rattle.byteorder.specs.Endian.{little_bytes}
 use Rattle.mds_types.specs.Frag.{Fragment, word_of}
 use Rattle.mds_types.specs.declared.inodes.Inode.{Inode}
-use Rattle.dirfrag_codec.specs.EntryRecord.{SpellsEntry, entry_bytes}
+use Rattle.dirfrag_codec.specs.EntryRecord.{WritesEntry, entry_bytes}
 use Rattle.dirfrag_codec.specs.Reading.{◌>>=◌, after_tag, byte_at, number_at}
-use Rattle.dirfrag_codec.specs.Values.{entry_of, fragment_of, is_fragment, is_name, is_record_v1}
+use Rattle.dirfrag_codec.specs.Values.{written_of, fragment_of, is_fragment, is_name, is_written}
 use Rattle.dirfrag_codec.proofs.Front.{IsBytes, IsBytes-drop, Takes, Takes-then, bind_some, byte_takes, guard_not, number_takes, tag_takes, width_2, width_4, width_8}
-use Rattle.dirfrag_codec.proofs.ValueLaws.{reads_entry, record_decides, spelled_as}
+use Rattle.dirfrag_codec.proofs.ValueLaws.{reads_written, written_decides, spelled_as}
 use Rattle.cached_frag.specs.declared.bases.Base.{Base}
 use Rattle.cached_frag.specs.declared.bases.Base.TheVariants.{Fresh, Stored}
 use Rattle.export_bytes.specs.declared.exports.Export.{Export}
@@ -40,21 +40,21 @@ name_takes bytes x rest fits read =
     subst P g.1 (g.0, subst (λ (k : ℕ). Takes bytes (k ∷ a.0.0) a.0.1) (sym p.0) whole)
 
 record_takes : (bytes : List ℕ) (inode : Inode) (rest : List ℕ) → IsBytes bytes → record_at bytes ≡ Some (inode, rest)
-    → (is_record_v1 (entry_bytes inode) inode ≡ true) × Takes bytes (little_bytes 2 (length (entry_bytes inode)) ++ entry_bytes inode) rest
+    → (is_written (entry_bytes inode) inode ≡ true) × Takes bytes (little_bytes 2 (length (entry_bytes inode)) ++ entry_bytes inode) rest
 unfolding record_at
 record_takes bytes inode rest fits read =
-    let a = bind_some (number_at 2 bytes >>= λ len. part_at len.0 len.1) (λ part. entry_of part.0 >>= λ i. Some (i, part.1)) (inode, rest) read in
+    let a = bind_some (number_at 2 bytes >>= λ len. part_at len.0 len.1) (λ part. written_of part.0 >>= λ i. Some (i, part.1)) (inode, rest) read in
     let b = bind_some (number_at 2 bytes) (λ len. part_at len.0 len.1) a.0 a.1 in
-    let d = bind_some (entry_of a.0.0) (λ i. Some (i, a.0.1)) (inode, rest) a.2 in
+    let d = bind_some (written_of a.0.0) (λ i. Some (i, a.0.1)) (inode, rest) a.2 in
     let t = number_takes 2 width_2 bytes b.0.0 b.0.1 fits b.1 in
     let p = part_takes b.0.0 b.0.1 a.0.0 a.0.1 t.0.rest_fits b.2 in
-    let s = spelled_as SpellsEntry entry_of reads_entry a.0.0 d.0 d.1 in
+    let s = spelled_as WritesEntry written_of reads_written a.0.0 d.0 d.1 in
     let whole = Takes-then bytes (little_bytes 2 b.0.0) b.0.1 a.0.0 a.0.1 t.0 p.1 in
     let own = subst (λ (k : ℕ). Takes bytes (little_bytes 2 k ++ a.0.0) a.0.1) (sym p.0) whole in
     let spelled = subst (λ (x : List ℕ). Takes bytes (little_bytes 2 (length x) ++ x) a.0.1) s.spelled own in
-    let P : Inode × List ℕ → Type 0 = λ q. (is_record_v1 (entry_bytes q.0) q.0 ≡ true) × Takes bytes (little_bytes 2 (length (entry_bytes q.0)) ++ entry_bytes q.0) q.1 in
+    let P : Inode × List ℕ → Type 0 = λ q. (is_written (entry_bytes q.0) q.0 ≡ true) × Takes bytes (little_bytes 2 (length (entry_bytes q.0)) ++ entry_bytes q.0) q.1 in
     subst P (same_Some (d.0, a.0.1) (inode, rest) d.2)
-    ((record_decides (entry_bytes d.0) d.0).1 (record { allowed = s.allowed; size = s.size; mtime = s.mtime; spelled = refl }), spelled)
+    ((written_decides (entry_bytes d.0) d.0).1 (record { allowed = s.allowed; widths = s.widths; spelled = refl }), spelled)
 
 inode_takes : (bytes : List ℕ) (o : Option Inode) (rest : List ℕ) → IsBytes bytes → inode_at bytes ≡ Some (o, rest) → (has_record o ≡ true) × Takes bytes (inode_bytes o) rest
 inode_takes [] o rest fits read = absurd cc
@@ -232,7 +232,7 @@ record FrontTaken (bytes : List ℕ) (f : Front) (rest : List ℕ) : Type 0 wher
   frag : is_fragment f.frag ≡ true
   ranks : (ltb f.exporter 16 && (ltb f.importer 16 && not (eqb f.exporter f.importer))) ≡ true
   few : f.count < 2 ^ 32
-  taken : Takes bytes (88 ∷ 1 ∷ (little_bytes 8 f.ino ++ (little_bytes 4 (word_of f.frag) ++ (f.exporter ∷ f.importer ∷ little_bytes 4 f.count)))) rest
+  taken : Takes bytes (88 ∷ 2 ∷ (little_bytes 8 f.ino ++ (little_bytes 4 (word_of f.frag) ++ (f.exporter ∷ f.importer ∷ little_bytes 4 f.count)))) rest
 
 abbrev front_6 : ℕ → Fragment → ℕ → ℕ → ℕ × List ℕ → Option (Front × List ℕ)
 front_6 ino frag exporter importer count =
@@ -256,21 +256,21 @@ front_1 ino = number_at 4 ino.1 >>= front_2 ino.0
 abbrev front_0 : List ℕ → Option (Front × List ℕ)
 front_0 tagged = number_at 8 tagged >>= front_1
 
-front_joined : (bytes t a b c d rest : List ℕ) (f : Front) (word : ℕ) → word_of f.frag ≡ word → Takes bytes (88 ∷ 1 ∷ []) t → Takes t (little_bytes 8 f.ino) a → Takes a (little_bytes 4 word) b
+front_joined : (bytes t a b c d rest : List ℕ) (f : Front) (word : ℕ) → word_of f.frag ≡ word → Takes bytes (88 ∷ 2 ∷ []) t → Takes t (little_bytes 8 f.ino) a → Takes a (little_bytes 4 word) b
     → Takes b (f.exporter ∷ []) c → Takes c (f.importer ∷ []) d → Takes d (little_bytes 4 f.count) rest
-    → Takes bytes (88 ∷ 1 ∷ (little_bytes 8 f.ino ++ (little_bytes 4 (word_of f.frag) ++ (f.exporter ∷ f.importer ∷ little_bytes 4 f.count)))) rest
+    → Takes bytes (88 ∷ 2 ∷ (little_bytes 8 f.ino ++ (little_bytes 4 (word_of f.frag) ++ (f.exporter ∷ f.importer ∷ little_bytes 4 f.count)))) rest
 front_joined bytes t a b c d rest f word worded t0 t1 t2 t3 t4 t5 =
     let of_word = subst (λ (w : ℕ). Takes a (little_bytes 4 w) b) (sym worded) t2 in
     let last : Takes c (f.importer ∷ little_bytes 4 f.count) rest = Takes-then c (f.importer ∷ []) d (little_bytes 4 f.count) rest t4 t5 in
     let ranks : Takes b (f.exporter ∷ f.importer ∷ little_bytes 4 f.count) rest = Takes-then b (f.exporter ∷ []) c (f.importer ∷ little_bytes 4 f.count) rest t3 last in
-    Takes-then bytes (88 ∷ 1 ∷ []) t (little_bytes 8 f.ino ++ (little_bytes 4 (word_of f.frag) ++ (f.exporter ∷ f.importer ∷ little_bytes 4 f.count))) rest t0
+    Takes-then bytes (88 ∷ 2 ∷ []) t (little_bytes 8 f.ino ++ (little_bytes 4 (word_of f.frag) ++ (f.exporter ∷ f.importer ∷ little_bytes 4 f.count))) rest t0
     (Takes-then t (little_bytes 8 f.ino) a (little_bytes 4 (word_of f.frag) ++ (f.exporter ∷ f.importer ∷ little_bytes 4 f.count)) rest t1
     (Takes-then a (little_bytes 4 (word_of f.frag)) b (f.exporter ∷ f.importer ∷ little_bytes 4 f.count) rest of_word ranks))
 
 front_takes : (bytes : List ℕ) (f : Front) (rest : List ℕ) → IsBytes bytes → front_at bytes ≡ Some (f, rest) → FrontTaken bytes f rest
 unfolding front_at
 front_takes bytes f rest fits read =
-    let t = bind_some (after_tag 88 1 bytes) front_0 (f, rest) read in
+    let t = bind_some (after_tag 88 2 bytes) front_0 (f, rest) read in
     let a = bind_some (number_at 8 t.0) front_1 (f, rest) t.2 in
     let b = bind_some (number_at 4 a.0.1) (front_2 a.0.0) (f, rest) a.2 in
     let w = bind_some (frag_of b.0.0) (front_3 a.0.0 b.0.1) (f, rest) b.2 in
@@ -279,7 +279,7 @@ front_takes bytes f rest fits read =
     let n = bind_some (number_at 4 d.0.1) (front_6 a.0.0 w.0 c.0.0 d.0.0) (f, rest) d.2 in
     let made : Front = record { ino = a.0.0; frag = w.0; exporter = c.0.0; importer = d.0.0; count = n.0.0 } in
     let g = cond_some (ltb c.0.0 16 && (ltb d.0.0 16 && not (eqb c.0.0 d.0.0))) (made, n.0.1) (f, rest) n.2 in
-    let t0 = tag_takes 88 1 bytes t.0 fits t.1 in
+    let t0 = tag_takes 88 2 bytes t.0 fits t.1 in
     let t1 = number_takes 8 width_8 t.0 a.0.0 a.0.1 t0.rest_fits a.1 in
     let t2 = number_takes 4 width_4 a.0.1 b.0.0 b.0.1 t1.0.rest_fits b.1 in
     let of_word = frag_takes b.0.0 w.0 w.1 in
@@ -313,15 +313,15 @@ export_2 f frags = cond (rise is_frag_before None frags.0 && eqb (length frags.1
 abbrev export_1 : Front × List ℕ → Option Export
 export_1 front = items_at sent_frag_at front.0.count front.1 >>= export_2 front.0
 
-front_parts : (a b n : List ℕ) (x y : ℕ) (d : List ℕ) → (88 ∷ 1 ∷ (a ++ (b ++ (x ∷ y ∷ d)))) ++ n ≡ 88 ∷ 1 ∷ (a ++ (b ++ (x ∷ y ∷ (d ++ n))))
-front_parts a b n x y d = ap (λ (t : List ℕ). 88 ∷ 1 ∷ t) (append_assoc a (b ++ (x ∷ y ∷ d)) n ∙ ap (λ (t : List ℕ). a ++ t) (append_assoc b (x ∷ y ∷ d) n))
+front_parts : (a b n : List ℕ) (x y : ℕ) (d : List ℕ) → (88 ∷ 2 ∷ (a ++ (b ++ (x ∷ y ∷ d)))) ++ n ≡ 88 ∷ 2 ∷ (a ++ (b ++ (x ∷ y ∷ (d ++ n))))
+front_parts a b n x y d = ap (λ (t : List ℕ). 88 ∷ 2 ∷ t) (append_assoc a (b ++ (x ∷ y ∷ d)) n ∙ ap (λ (t : List ℕ). a ++ t) (append_assoc b (x ∷ y ∷ d) n))
 
 export_joined : (bytes behind rest : List ℕ) (f : Front) (frags : List SentFrag) → length frags ≡ f.count → FrontTaken bytes f behind → Takes behind (flat_map frag_bytes frags) rest → rest ≡ []
     → rise is_frag_before None frags ≡ true → list_all is_sent_frag frags ≡ true → SpellsExport bytes (export_with f frags)
 export_joined bytes behind rest f frags count front t nothing rises sent =
     let few : length frags < 2 ^ 32 = omega (arith, count, front.few) in
-    let counted = subst (λ (k : ℕ). Takes bytes (88 ∷ 1 ∷ (little_bytes 8 f.ino ++ (little_bytes 4 (word_of f.frag) ++ (f.exporter ∷ f.importer ∷ little_bytes 4 k)))) behind) (sym count) front.taken in
-    let front_bytes = 88 ∷ 1 ∷ (little_bytes 8 f.ino ++ (little_bytes 4 (word_of f.frag) ++ (f.exporter ∷ f.importer ∷ little_bytes 4 (length frags)))) in
+    let counted = subst (λ (k : ℕ). Takes bytes (88 ∷ 2 ∷ (little_bytes 8 f.ino ++ (little_bytes 4 (word_of f.frag) ++ (f.exporter ∷ f.importer ∷ little_bytes 4 k)))) behind) (sym count) front.taken in
+    let front_bytes = 88 ∷ 2 ∷ (little_bytes 8 f.ino ++ (little_bytes 4 (word_of f.frag) ++ (f.exporter ∷ f.importer ∷ little_bytes 4 (length frags)))) in
     let parts : bytes ≡ front_bytes ++ flat_map frag_bytes frags = counted.parts ∙ ap (λ (x : List ℕ). front_bytes ++ x) (t.parts ∙ ap (λ (x : List ℕ). flat_map frag_bytes frags ++ x) nothing ∙ append-nil (flat_map frag_bytes frags)) in
     record {
       sendable = export_sendable (export_with f frags) front.ino front.frag front.ranks few rises sent;

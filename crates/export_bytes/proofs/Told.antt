@@ -3,11 +3,11 @@ use Rattle.std.proofs.Common.{◌≡◌, ℕ, true, List, Option, Some, None, is
 use Rattle.std.specs.Prelude.{Result, Ok, Err, IfOk, OnErr}
 use Rattle.std.proofs.lemmas.Option.{none-some}
 use Rattle.mds_types.specs.declared.inodes.Inode.{Inode}
-use Rattle.dirfrag_codec.specs.EntryRecord.{SpellsEntry, SpellsLink}
+use Rattle.dirfrag_codec.specs.EntryRecord.{WritesEntry, WritesLink}
 use Rattle.dirfrag_codec.specs.Grammar.{Decodes}
-use Rattle.dirfrag_codec.specs.Values.{entry_of}
+use Rattle.dirfrag_codec.specs.Values.{written_of}
 use Rattle.dirfrag_codec.proofs.Front.{IsBytes}
-use Rattle.dirfrag_codec.proofs.ValueLaws.{reads_entry}
+use Rattle.dirfrag_codec.proofs.ValueLaws.{reads_written}
 use Rattle.export_bytes.specs.declared.exports.Export.{Export}
 use Rattle.export_bytes.specs.Export.{SpellsExport}
 use Rattle.export_bytes.specs.Reading.{export_of, parts_at}
@@ -15,10 +15,10 @@ use Rattle.export_bytes.proofs.ExportLaws.{export_first, reads_export}
 use Rattle.export_bytes.proofs.Taken.{parts_taken}
 
 -- the record of a link is one
-pub link_read : (bytes : List ℕ) → SpellsLink bytes → true ≡ is_some (entry_of bytes)
-link_read bytes (inode, spelled, link) = go (entry_of bytes) (reads_entry bytes)
+pub link_read : (bytes : List ℕ) → WritesLink bytes → true ≡ is_some (written_of bytes)
+link_read bytes (inode, spelled, link) = go (written_of bytes) (reads_written bytes)
   where
-    go : (o : Option Inode) → Decodes SpellsEntry bytes o → true ≡ is_some o
+    go : (o : Option Inode) → Decodes WritesEntry bytes o → true ≡ is_some o
     go (Some found) d = refl
     go None d = absurd (d inode spelled)
 

@@ -7,7 +7,7 @@ use Rattle.mds_types.specs.Frag.{word_of}
 use Rattle.mds_types.specs.declared.inodes.Inode.{Inode}
 use Rattle.objstore.specs.Omap.{key_cmp}
 use Rattle.dirfrag_codec.specs.EntryRecord.{entry_bytes}
-use Rattle.dirfrag_codec.specs.Values.{is_fragment, is_name, is_record_v1}
+use Rattle.dirfrag_codec.specs.Values.{is_fragment, is_name, is_written}
 use Rattle.cached_frag.specs.declared.bases.Base.{Base}
 use Rattle.cached_frag.specs.declared.bases.Base.TheVariants.{Fresh, Stored}
 use Rattle.export_bytes.specs.declared.exports.Export.{Export}
@@ -36,7 +36,7 @@ is_frag_before a b = nat_lt a.ino.0 b.ino.0 || ((a.ino.0 == b.ino.0) && nat_lt a
 -- whether an inode, if there is one, has a record
 abbrev pub has_record : Option Inode → Bool
 has_record None = true
-has_record (Some inode) = is_record_v1 (entry_bytes inode) inode
+has_record (Some inode) = is_written (entry_bytes inode) inode
 
 abbrev pub is_sent_name : SentName → Bool
 is_sent_name sent = is_name sent.0 && has_record sent.1
@@ -79,7 +79,7 @@ frag_bytes sent = little_bytes 8 sent.ino.0 ++ (little_bytes 4 (word_of sent.fra
 
 -- the letter X, the version of the format, the root's inode and word, exporter and importer, the number of fragments, and each of them
 abbrev pub export_bytes : Export → List ℕ
-export_bytes export = codes "X" ++ 1 ∷ (little_bytes 8 export.ino.0 ++ (little_bytes 4 (word_of export.frag) ++ (export.exporter.0 ∷ export.importer.0 ∷ (little_bytes 4 (length export.frags) ++ flat_map frag_bytes export.frags))))
+export_bytes export = codes "X" ++ 2 ∷ (little_bytes 8 export.ino.0 ++ (little_bytes 4 (word_of export.frag) ++ (export.exporter.0 ∷ export.importer.0 ∷ (little_bytes 4 (length export.frags) ++ flat_map frag_bytes export.frags))))
 
 -- the grammar of exports
 pub record SpellsExport (bytes : List ℕ) (export : Export) : Type 0 where

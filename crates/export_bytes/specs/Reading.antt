@@ -4,7 +4,7 @@ use Rattle.std.specs.Str.{bytes_eq}
 use Rattle.mds_types.specs.Frag.{Fragment}
 use Rattle.mds_types.specs.declared.inodes.Inode.{Inode}
 use Rattle.dirfrag_codec.specs.Reading.{◌>>=◌, after_tag, byte_at, number_at}
-use Rattle.dirfrag_codec.specs.Values.{entry_of, fragment_of, is_fragment, is_name}
+use Rattle.dirfrag_codec.specs.Values.{written_of, fragment_of, is_fragment, is_name}
 use Rattle.cached_frag.specs.declared.bases.Base.{Base}
 use Rattle.cached_frag.specs.declared.bases.Base.TheVariants.{Fresh, Stored}
 use Rattle.export_bytes.specs.declared.exports.Export.{Export}
@@ -58,7 +58,7 @@ name_at bytes = do
 unfoldable pub record_at : List ℕ → Option (Inode × List ℕ)
 record_at bytes = do
   part ← long_part_at bytes
-  inode ← entry_of part.0
+  inode ← written_of part.0
   Some (inode, part.1)
 
 -- what became of a name: it is there, or it was removed
@@ -97,7 +97,7 @@ pub record Front : Type 0 where
 
 unfoldable pub front_at : List ℕ → Option (Front × List ℕ)
 front_at bytes = do
-  tagged ← after_tag 88 1 bytes
+  tagged ← after_tag 88 2 bytes
   ino ← number_at 8 tagged
   word ← number_at 4 ino.1
   frag ← frag_of word.0

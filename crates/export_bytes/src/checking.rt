@@ -2,14 +2,14 @@
 ghost use Rattle.std.specs.Prelude.{◌≡◌, None, is_some, option_map};
 ghost use Rattle.std.specs.Option.{option_copied};
 ghost use Rattle.dirfrag_codec.specs.Reading.{Gives};
-ghost use Rattle.dirfrag_codec.specs.Values.{entry_of, is_name};
+ghost use Rattle.dirfrag_codec.specs.Values.{written_of, is_name};
 ghost use Rattle.export_bytes.specs.Export.{is_frag_before, is_name_before};
 ghost use Rattle.export_bytes.specs.Checking.{after_rising, follows, named_as, place_of, seen_by, sent_as, text_of};
 ghost use Rattle.export_bytes.specs.Reading.{inode_at, parts_at, record_at, sent_frag_at, sent_name_at};
 
 use crate::reading::{front_at, head_at, long_part_at, short_part_at};
 use crate::writing::{PRESENT, REMOVED};
-use dirfrag_codec::decode_entry;
+use dirfrag_codec::decode_written;
 use mds_types::{Frag, Name, NameFault};
 use std::alloc::Global;
 
@@ -154,9 +154,9 @@ fn after_record(alloc: Global, bytes: &[u8]) -> Option<&[u8]>
 
 // Whether bytes are an inode's record, be there memory for it or not.
 fn is_record(alloc: Global, bytes: &[u8]) -> bool
-    ensures { result ≡ is_some (entry_of bytes.now) }
+    ensures { result ≡ is_some (written_of bytes.now) }
 {
-    match decode_entry(alloc, bytes) {
+    match decode_written(alloc, bytes) {
         Ok(inode) => inode.is_some(),
         Err(_) => true,
     }

@@ -10,7 +10,7 @@ use crate::exports::{Export, SentFrag, SentFrags, SentNames};
 use crate::rising::{frags_rise, names_rise};
 use crate::writing::{FRESH, LETTER, PRESENT, REMOVED, STORED, VERSION};
 use cached_frag::Base;
-use dirfrag_codec::decode_entry;
+use dirfrag_codec::decode_written;
 use dirfrag_codec::fields::{after_tag, u8_at, u16_at, u32_at, u64_at};
 use mds_types::{Frag, Ino, Inode, Name, NameFault, Rank};
 use std::alloc::{AllocError, Global};
@@ -304,7 +304,7 @@ fn record_at(alloc: Global, bytes: &[u8]) -> Result<Option<(Inode, &[u8])>, Allo
     let Some((record, rest)) = long_part_at(bytes) else {
         return Ok(None);
     };
-    match decode_entry(alloc, record)? {
+    match decode_written(alloc, record)? {
         Some(inode) => Ok(Some((inode, rest))),
         None => Ok(None),
     }

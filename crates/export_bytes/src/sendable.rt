@@ -2,13 +2,13 @@
 ghost use Rattle.std.specs.Prelude.{◌≡◌, ◌<◌, ◌==◌, ◌^◌, ◌&&◌, nat_lt, not, true};
 ghost use Rattle.std.specs.List.{list_all};
 ghost use Rattle.dirfrag_codec.specs.EntryRecord.{entry_bytes};
-ghost use Rattle.dirfrag_codec.specs.Values.{is_fragment, is_record_v1};
+ghost use Rattle.dirfrag_codec.specs.Values.{is_fragment, is_written};
 ghost use Rattle.export_bytes.specs.Export.{has_record, is_base_of, is_sendable, is_sent_frag, is_sent_name};
 
 use crate::exports::{Export, SentFrag};
 use crate::rising::{frags_rise, names_rise};
 use cached_frag::Base;
-use dirfrag_codec::is_recordable;
+use dirfrag_codec::{has_widths, is_recordable};
 use mds_types::{Frag, Ino, Inode, Name, Rank};
 
 /// Whether an export may be encoded: exporter and importer are two ranks of 16, and the fragments rise by inode and value, each
@@ -108,17 +108,8 @@ fn has_record(inode: &Option<Inode>) -> bool
 }
 
 fn is_recorded(inode: &Inode) -> bool
-    ensures { result ≡ is_record_v1 (entry_bytes inode.now) inode.now }
+    ensures { result ≡ is_written (entry_bytes inode.now) inode.now }
 {
-    have_64_bits(inode.size, inode.mtime);
+    has_widths(inode);
     is_recordable(inode)
-}
-
-// What holds of numbers, by their type.
-fn have_64_bits(size: u64, mtime: u64)
-    ensures size { size < 2 ^ 64 }
-    ensures mtime { mtime < 2 ^ 64 }
-{
-    let _ = size;
-    let _ = mtime;
 }

@@ -14,7 +14,7 @@ use std::alloc::{AllocError, Global};
 // How an export begins: its letter, and the version of the format.
 pub(crate) const LETTER: u8 = b'X';
 
-pub(crate) const VERSION: u8 = 1;
+pub(crate) const VERSION: u8 = 2;
 
 // The bytes of what became of a name.
 pub(crate) const REMOVED: u8 = 0;

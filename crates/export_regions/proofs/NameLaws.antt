@@ -13,7 +13,7 @@ use Rattle.mds_types.specs.declared.inodes.Inode.{Inode}
 use Rattle.objstore.specs.Omap.{key_cmp}
 use Rattle.dirfrag_codec.specs.EntryRecord.{HasRecord, entry_bytes}
 use Rattle.dirfrag_codec.specs.Values.{is_fragment}
-use Rattle.dirfrag_codec.proofs.ValueLaws.{name_decides, record_decides}
+use Rattle.dirfrag_codec.proofs.ValueLaws.{name_decides, written_decides}
 use Rattle.cached_frag.specs.declared.bases.Base.{Base}
 use Rattle.cached_frag.specs.declared.bases.Base.TheVariants.{Fresh, Stored}
 use Rattle.cached_frag.specs.declared.marks.Mark.{Mark}
@@ -47,7 +47,7 @@ rise_all (e ∷ es) sorted = rise_behind e es sorted
 -- each may be sent
 has_record_so : (o : Option Inode) → IfSome o HasRecord → has_record o ≡ true
 has_record_so None is = refl
-has_record_so (Some inode) is = (record_decides (entry_bytes inode) inode).1 is
+has_record_so (Some inode) is = (written_decides (entry_bytes inode) inode).1 is
 
 one_sent : (e : Row) → IsDirtyName e.0 e.1 → is_sent_name (sent_row e) ≡ true
 one_sent e is = and_from _ _ ((name_decides e.0).1 is.named) (has_record_so e.1.inode is.recorded)

@@ -7,11 +7,10 @@ use Rattle.std.proofs.lemmas.Bool.{eqb-true, or_cases, or_left, or_right}
 use Rattle.mds_types.specs.declared.dentries.Dentry.{Dentry}
 use Rattle.mds_types.specs.declared.inodes.Inode.{Inode}
 use Rattle.mds_types.specs.Tree.{Tree, dentry_cmp, dentry_of, at, is_directory, is_dir_kind, is_above, has_entries, IsAbove as IsAboveIn, child, further as further_down, IsWellFormed, NothingIn}
-use Rattle.mds_types.specs.Step.{with_attributes}
 use Rattle.mds_types.proofs.AboveLaws.{above_exact}
 use Rattle.mds_types.proofs.AttributeLaws.{well-formed-changed}
 use Rattle.mds_types.proofs.RemovedLaws.{well-formed-removed}
-use Rattle.mds_types.proofs.WellFormedLaws.{well-formed-grown, sized_still}
+use Rattle.mds_types.proofs.WellFormedLaws.{well-formed-grown}
 use Rattle.mds_types.proofs.EntryLaws.{get_put, get_beside, get_left, stands_after_put, stands_after_removal, same_or_apart}
 use Rattle.mds_types.proofs.DirectoryLaws.{StandsAs, directory_stands, root_stands, entry_stands, one_dentry, nothing_in_empty, nothing_in_file}
 use Rattle.sorted_map.proofs.NatKeys.{is_same, after_put, after_removal, get_put as get_put_home, get_beside as get_beside_home, get_left as get_left_home, get_removed as get_removed_home, same_or_apart as same_number}
@@ -101,6 +100,7 @@ empty_tabled = record {
     parents = λ d name inode h. absurd (nothing (dentry_of d name) inode h);
     rooted = λ d name inode h. absurd (nothing (dentry_of d name) inode h);
     sizes = λ d name inode h. absurd (nothing (dentry_of d name) inode h);
+    pins = λ d name inode h. absurd (nothing (dentry_of d name) inode h);
   };
   holds = record {
     listed = λ dentry inode h kinded. absurd (nothing dentry inode h);
@@ -140,7 +140,7 @@ with_file homes dentry inode kinded = ap (λ b. cond b (map.insert homes inode.i
 -- a new inode comes in
 pub added_tabled : (tree : Tree) (homes : Homes) (dentry : Dentry) (inode : Inode) → IsTabled tree homes → MayAdd tree dentry inode → IsTabled (map.insert tree dentry inode) (with_home homes dentry inode)
 added_tabled tree homes dentry inode tabled may = record {
-  whole = well-formed-grown tree dentry.dir.0 dentry.name inode may.free tabled.whole may.parent may.unused.not_root may.unused.not_there may.sized;
+  whole = well-formed-grown tree dentry.dir.0 dentry.name inode may.free tabled.whole may.parent may.unused.not_root may.unused.not_there may.sized may.pinned;
   holds = ⊎_elim of_dir of_file (dir_or_not inode);
 }
   where
@@ -180,32 +180,37 @@ added_tabled tree homes dentry inode tabled may = record {
       stands = λ d home is. let before = tabled.holds.stands d home is in (before.0, still (dentry_at home) before.0 before.1, before.2, before.3);
     })
 
--- an inode gets other attributes
+-- an inode is altered
 pub set_tabled : (tree : Tree) (homes : Homes) (dentry : Dentry) (inode : Inode) → IsTabled tree homes → MaySet tree dentry inode → IsTabled (map.insert tree dentry inode) homes
-set_tabled tree homes dentry inode tabled may = subst (λ i. IsTabled (map.insert tree dentry i) homes) (sym may.is) (record {
-  whole = well-formed-changed tree dentry may.before later may.stands refl refl tabled.whole
-      (sized_still may.before.kind may.given.size may.before.size may.allowed (tabled.whole.sizes dentry.dir.0 dentry.name may.before may.stands));
+set_tabled tree homes dentry inode tabled may = record {
+  whole = well-formed-changed tree dentry may.before inode may.stands may.number may.kind tabled.whole
+      (may.sized (tabled.whole.sizes dentry.dir.0 dentry.name may.before may.stands)) (may.pinned (tabled.whole.pins dentry.dir.0 dentry.name may.before may.stands));
   holds = record {
     listed = λ q x h dir.
         ⊎_elim
-        (λ w. ap (λ (i : Inode). map.get homes i.ino.0) (sym w.1) ∙ tabled.holds.listed dentry may.before may.stands (ap (λ (i : Inode). is_dir_kind i.kind) w.1 ∙ dir) ∙ ap (λ p. Some (home_at p)) (sym w.0))
+        (λ w. ap (λ (i : Inode). map.get homes i.ino.0) (sym w.1) ∙ ap (λ (n : _). map.get homes n.0) may.number
+        ∙ tabled.holds.listed dentry may.before may.stands (sym same_dir ∙ ap (λ (i : Inode). is_dir_kind i.kind) w.1 ∙ dir) ∙ ap (λ p. Some (home_at p)) (sym w.0))
         (λ w. tabled.holds.listed q x w.1 dir)
-        (stands_after_put tree dentry later q x h);
+        (stands_after_put tree dentry inode q x h);
     stands = λ d home is. go d home is (same_or_apart (dentry_at home) dentry);
   };
-})
+}
   where
-    later : Inode
-    later = with_attributes may.given may.before
+    same_dir : is_dir_kind inode.kind ≡ is_dir_kind may.before.kind
+    same_dir = ap is_dir_kind may.kind
 
     go : (d : ℕ) (home : Home) → map.get homes d ≡ Some home → (dentry_at home ≡ dentry) ⊎ (dentry_at home ≡ dentry → ⊥)
-        → (i : Inode) × (map.get (map.insert tree dentry later) (dentry_at home) ≡ Some i) × (i.ino.0 ≡ d) × (is_dir_kind i.kind ≡ true)
+        → (i : Inode) × (map.get (map.insert tree dentry inode) (dentry_at home) ≡ Some i) × (i.ino.0 ≡ d) × (is_dir_kind i.kind ≡ true)
     go d home is (inl same) =
         let before = tabled.holds.stands d home is in
         let inodes : Some may.before ≡ Some before.0 = sym may.stands ∙ ap (λ p. map.get tree p) (sym same) ∙ before.1 in
-        let alike : may.before ≡ before.0 = cc in
-        (later, ap (λ p. map.get (map.insert tree dentry later) p) same ∙ get_put tree dentry later, ap (λ (i : Inode). i.ino.0) alike ∙ before.2, ap (λ (i : Inode). is_dir_kind i.kind) alike ∙ before.3)
-    go d home is (inr apart) = let before = tabled.holds.stands d home is in (before.0, get_beside tree dentry later (dentry_at home) apart ∙ before.1, before.2, before.3)
+        let alike : may.before ≡ before.0 = cc in (
+          inode,
+          ap (λ p. map.get (map.insert tree dentry inode) p) same ∙ get_put tree dentry inode,
+          ap (λ (n : _). n.0) may.number ∙ ap (λ (i : Inode). i.ino.0) alike ∙ before.2,
+          same_dir ∙ ap (λ (i : Inode). is_dir_kind i.kind) alike ∙ before.3,
+        )
+    go d home is (inr apart) = let before = tabled.holds.stands d home is in (before.0, get_beside tree dentry inode (dentry_at home) apart ∙ before.1, before.2, before.3)
 
 -- nothing is in an inode that may go
 pub nothing_in : (tree : Tree) (dentry : Dentry) (inode : Inode) → IsWellFormed tree → map.get tree dentry ≡ Some inode → (is_dir_kind inode.kind && has_entries tree inode.ino.0) ≡ false → NothingIn tree inode.ino.0

@@ -2,26 +2,26 @@
 use Rattle.std.specs.Prelude.{◌≡◌, ℕ, true, false, ◌&&◌, Some, None}
 use Rattle.std.specs.FinMap as map
 use Rattle.mds_types.specs.declared.dentries.Dentry.{Dentry}
-use Rattle.mds_types.specs.declared.inodes.Attributes.{Attributes}
 use Rattle.mds_types.specs.declared.inodes.Inode.{Inode}
-use Rattle.mds_types.specs.Tree.{Tree, is_directory, is_dir_kind, has_entries, HasSize, IsUnused}
-use Rattle.mds_types.specs.Step.{size_errno, with_attributes}
+use Rattle.mds_types.specs.Tree.{Tree, is_directory, is_dir_kind, has_entries, HasPinOf, HasSize, IsUnused}
 use Rattle.inode_table.specs.Dirs.{Covers, leaves_of}
 
--- a new inode may come: to a free dentry of a directory, with a number that is unused and the size that its kind prescribes
+-- a new inode may come: to a free dentry of a directory, with a number that is unused, and the size and the pin that its kind allows
 pub record MayAdd (tree : Tree) (dentry : Dentry) (inode : Inode) : Type 0 where
   pub free : map.get tree dentry ≡ None
   pub parent : is_directory tree dentry.dir.0 ≡ true
   pub unused : IsUnused tree inode.ino.0
   pub sized : HasSize inode.kind inode.size
+  pub pinned : HasPinOf inode.kind inode.pin
 
--- an inode may get other attributes: it is the one that stands there with attributes that its kind allows to give
+-- an inode may be altered: it has the number and the kind of the one that stands there, and a size and a pin that its kind allows, where that had them
 pub record MaySet (tree : Tree) (dentry : Dentry) (inode : Inode) : Type 0 where
   pub before : Inode
-  pub given : Attributes
   pub stands : map.get tree dentry ≡ Some before
-  pub allowed : size_errno before.kind given.size ≡ None
-  pub is : inode ≡ with_attributes given before
+  pub number : inode.ino ≡ before.ino
+  pub kind : inode.kind ≡ before.kind
+  pub sized : HasSize before.kind before.size → HasSize inode.kind inode.size
+  pub pinned : HasPinOf before.kind before.pin → HasPinOf inode.kind inode.pin
 
 -- an entry may go: it is no directory that has entries
 pub record MayRemove (tree : Tree) (dentry : Dentry) : Type 0 where

@@ -1,15 +1,12 @@
 -- What a change that may be made tells of its leaves and inodes.
 use Rattle.std.proofs.Common.{◌≡◌, ◌⊎◌, inl, inr, ℕ, ◌+◌, ◌<◌, ◌≤◌, true, false, Option, Some, None, Result, Ok, Err, OnOk, refl, sym, ap, subst, ◌∙◌, arith}
-use Rattle.std.specs.Prelude.{IfSome, unwrap_or}
+use Rattle.std.specs.Prelude.{IfSome}
 use Rattle.std.specs.FinMap as map
 use Rattle.mds_types.specs.declared.dentries.Dentry.{Dentry}
 use Rattle.mds_types.specs.declared.ids.Ino.{Ino}
 use Rattle.mds_types.specs.declared.inodes.Inode.{Inode}
-use Rattle.mds_types.specs.declared.inodes.Kind.{Kind}
-use Rattle.mds_types.specs.declared.inodes.Kind.TheVariants.{File, Dir, Symlink as Link}
 use Rattle.mds_types.specs.Frag.{Fragment}
-use Rattle.mds_types.specs.Step.{size_errno}
-use Rattle.mds_types.specs.Tree.{HasSize, Tree, is_directory}
+use Rattle.mds_types.specs.Tree.{Tree, is_directory}
 use Rattle.namehash.specs.Rjenkins.{hash_of}
 use Rattle.dirfrag_codec.specs.EntryRecord.{HasTarget, IsRankNumber, IsRecordable}
 use Rattle.dentry_cache.specs.CacheMap.{At, CacheMap, unclean}
@@ -27,31 +24,15 @@ use Rattle.mdcache.proofs.TreeLookups.{at_dentry}
 
 -- ---- inodes that a record allows
 
--- a new inode has the size of its kind
+-- a new inode has a size and a pin of its kind
 pub new_recordable : (tree : Tree) (dentry : Dentry) (inode : Inode) → MayAdd tree dentry inode → IsRankNumber inode.ino.0 → inode.mode ≤ 4095 → HasTarget inode.kind → IsRecordable inode
-new_recordable tree dentry inode may number mode target = record { number = number; mode = mode; size = may.sized; target = target }
+new_recordable tree dentry inode may number mode target = record { number = number; mode = mode; size = may.sized; target = target; pin = may.pinned }
 
-no_errno : (errno : ℕ) → Some errno ≡ None → ⊥
-no_errno errno h = cc
-
--- a size that may be given is one of the kind
-size_stays : (kind : Kind) (given : Option ℕ) (size : ℕ) → size_errno kind given ≡ None → HasSize kind size → HasSize kind (unwrap_or given size)
-size_stays File given size allowed has = tt
-size_stays Dir None size allowed has = has
-size_stays Dir (Some other) size allowed has = absurd (no_errno 21 allowed)
-size_stays (Link target) None size allowed has = has
-size_stays (Link target) (Some other) size allowed has = absurd (no_errno 22 allowed)
-
--- an inode with other attributes is allowed where it was before
+-- an altered inode is allowed where it was before
 pub set_recordable : (tree : Tree) (dentry : Dentry) (inode : Inode) → MaySet tree dentry inode → IfSome (map.get tree dentry) IsRecordable → inode.mode ≤ 4095 → HasTarget inode.kind → IsRecordable inode
 set_recordable tree dentry inode may recorded mode target =
     let before : IsRecordable may.before = subst (λ (o : Option Inode). IfSome o IsRecordable) may.stands recorded in
-    record {
-      number = subst (λ (i : Inode). IsRankNumber i.ino.0) (sym may.is) before.number;
-      mode = mode;
-      size = subst (λ (i : Inode). HasSize i.kind i.size) (sym may.is) (size_stays may.before.kind may.given.size may.before.size may.allowed before.size);
-      target = target;
-    }
+    record { number = subst (λ (n : _). IsRankNumber n.0) (sym may.number) before.number; mode = mode; size = may.sized before.size; target = target; pin = may.pinned before.pin }
 
 -- ---- leaves
 

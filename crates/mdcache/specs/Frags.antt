@@ -4,11 +4,11 @@ use Rattle.mds_types.specs.declared.dentries.Dentry.{Dentry}
 use Rattle.mds_types.specs.declared.ids.Ino.{Ino}
 use Rattle.mds_types.specs.declared.ids.Rank.{Rank}
 use Rattle.mds_types.specs.declared.operations.Op.{Op}
-use Rattle.mds_types.specs.declared.operations.Op.TheVariants.{Lookup, Readdir, Create, Mkdir, Readlink, Symlink, Setattr, Unlink, Rmdir, Rename}
 use Rattle.mds_types.specs.declared.refusals.Refusal.{Refusal}
 use Rattle.mds_types.specs.declared.refusals.Refusal.TheVariants.{NoInodes, NoMemory, NothingToEvict, StoreFault}
 use Rattle.mds_types.specs.declared.inodes.Inode.{Inode}
 use Rattle.mds_types.specs.Leaf.{leaf_of}
+use Rattle.mds_types.specs.Shape.{Shape, Looks, Lists, Makes, Sets, Unlinks, Removes, Moves, shape}
 use Rattle.mds_types.specs.Tree.{is_dir_kind}
 use Rattle.dirfrag_codec.specs.EntryRecord.{IsRecordable}
 use Rattle.objstore.specs.Objects.{faults_told}
@@ -40,19 +40,18 @@ pub record KeepsState (old new : Core) (told : Option Refusal) : Type 0 where
   pub cap : new.caches.cap ≡ old.caches.cap
   pub counted : new.faults ≡ old.faults + faults_told told
 
--- the numbers that lack for an operation: a version for the name that it changes, two for a rename, and a generation for the leaf of a new
--- directory
+-- the numbers that lack: a version for the name that is changed, two for a move, and a generation for the leaf of a new directory
+abbrev pub LacksForIn : Shape → State → Type 0
+LacksForIn (Looks dentry answer) s = ⊥
+LacksForIn (Lists dir after max) s = ⊥
+LacksForIn (Makes dentry kind mode birth) s = LacksNumbers 1 s.next_version ⊎ ((is_dir_kind kind ≡ true) × LacksNumbers 1 s.next_generation)
+LacksForIn (Sets dentry alteration) s = LacksNumbers 1 s.next_version
+LacksForIn (Unlinks dentry) s = LacksNumbers 1 s.next_version
+LacksForIn (Removes dentry) s = LacksNumbers 1 s.next_version
+LacksForIn (Moves from to) s = LacksNumbers 2 s.next_version
+
 abbrev pub LacksFor : Op → State → Type 0
-LacksFor (Lookup dentry) s = ⊥
-LacksFor (Readdir dir after max) s = ⊥
-LacksFor (Readlink dentry) s = ⊥
-LacksFor (Create dentry mode mtime) s = LacksNumbers 1 s.next_version
-LacksFor (Mkdir dentry mode mtime) s = LacksNumbers 1 s.next_version ⊎ LacksNumbers 1 s.next_generation
-LacksFor (Symlink dentry target mtime) s = LacksNumbers 1 s.next_version
-LacksFor (Setattr dentry given) s = LacksNumbers 1 s.next_version
-LacksFor (Unlink dentry) s = LacksNumbers 1 s.next_version
-LacksFor (Rmdir dentry) s = LacksNumbers 1 s.next_version
-LacksFor (Rename from to) s = LacksNumbers 2 s.next_version
+LacksFor op s = LacksForIn (shape op) s
 
 -- the numbers that lack for a change: a version for each name, and a generation for the leaf of a directory that comes
 abbrev pub LacksBy : Option Spot → Option (Spot × Inode) → Bool → State → Type 0

@@ -4,7 +4,7 @@ use Rattle.std.proofs.Common.{sym, ap, subst, ◌∙◌, ⊎_elim, inl, inr}
 use Rattle.std.specs.FinMap as map
 use Rattle.mds_types.specs.declared.dentries.Dentry.{Dentry}
 use Rattle.mds_types.specs.declared.inodes.Inode.{Inode}
-use Rattle.mds_types.specs.Tree.{Tree, dentry_of, is_directory, is_dir_kind, IsAbove, child, further, HasSize, IsWellFormed}
+use Rattle.mds_types.specs.Tree.{Tree, dentry_of, is_directory, is_dir_kind, IsAbove, child, further, HasPinOf, HasSize, IsWellFormed}
 use Rattle.mds_types.proofs.EntryLaws.{get_put, get_beside, stands_after_put, same_or_apart}
 use Rattle.mds_types.proofs.DirectoryLaws.{StandsAs, directory_stands, root_stands, entry_stands}
 
@@ -61,8 +61,8 @@ module _ (tree : Tree) (dentry : Dentry) (before later : Inode) (stood : map.get
       let now = is (dentry_of m name) inode stands in
       subst (λ (i : _). IsAbove changed 1 i.0) now.number (further m name now.inode (still_above m above) now.stands)
 
-  pub well-formed-changed : IsWellFormed tree → HasSize later.kind later.size → IsWellFormed changed
-  well-formed-changed whole sized = record {
+  pub well-formed-changed : IsWellFormed tree → HasSize later.kind later.size → HasPinOf later.kind later.pin → IsWellFormed changed
+  well-formed-changed whole sized pinned = record {
     rootless = λ d name inode h one. let w = was (dentry_of d name) inode h in whole.rootless d name w.inode w.stands (ap (λ (i : _). i.0) w.number ∙ one);
     once = λ d d' name name' inode inode' h h' same.
         let w = was (dentry_of d name) inode h in
@@ -72,4 +72,6 @@ module _ (tree : Tree) (dentry : Dentry) (before later : Inode) (stood : map.get
     rooted = λ d name inode h. let w = was (dentry_of d name) inode h in ⊎_elim inl (λ above. inr (still_above d above)) (whole.rooted d name w.inode w.stands);
     sizes = λ d name inode h.
         ⊎_elim (λ w. subst (λ (i : Inode). HasSize i.kind i.size) w.1 sized) (λ w. whole.sizes d name inode w.1) (stands_after_put tree dentry later (dentry_of d name) inode h);
+    pins = λ d name inode h.
+        ⊎_elim (λ w. subst (λ (i : Inode). HasPinOf i.kind i.pin) w.1 pinned) (λ w. whole.pins d name inode w.1) (stands_after_put tree dentry later (dentry_of d name) inode h);
   }

@@ -1,4 +1,5 @@
 pub mod AboveLaws
+pub mod AlterationLaws
 pub mod AttributeLaws
 pub mod DirectoryLaws
 pub mod EntryLaws

@@ -6,7 +6,7 @@ use Rattle.std.proofs.lemmas.Bool.{or_parts}
 use Rattle.std.specs.FinMap as map
 use Rattle.mds_types.specs.declared.dentries.Dentry.{Dentry}
 use Rattle.mds_types.specs.declared.inodes.Inode.{Inode}
-use Rattle.mds_types.specs.Tree.{Tree, at, dentry_of, is_directory, is_dir_kind, is_above, has_entries, IsAbove, child, further, HasSize, IsWellFormed, NothingIn}
+use Rattle.mds_types.specs.Tree.{Tree, at, dentry_of, is_directory, is_dir_kind, is_above, has_entries, IsAbove, child, further, HasPinOf, HasSize, IsWellFormed, NothingIn}
 use Rattle.mds_types.specs.Step.{with_moved, replace_errno, IsMove}
 use Rattle.mds_types.proofs.AboveLaws.{above_exact}
 use Rattle.sorted_map.proofs.NatKeys.{is_same}
@@ -146,4 +146,6 @@ module _ (tree : Tree) (from to : Dentry) (inode : Inode) (whole : IsWellFormed 
         (λ w. ⊎_elim inl (λ above. inr (still_above d (parent_stays (dentry_of d name) i w.2) above)) (whole.rooted d name i w.2)) (stands_moved (dentry_of d name) i h);
     sizes = λ d name i h.
         ⊎_elim (λ w. subst (λ (j : Inode). HasSize j.kind j.size) w.1 (whole.sizes from.dir.0 from.name inode may.stands)) (λ w. whole.sizes d name i w.2) (stands_moved (dentry_of d name) i h);
+    pins = λ d name i h.
+        ⊎_elim (λ w. subst (λ (j : Inode). HasPinOf j.kind j.pin) w.1 (whole.pins from.dir.0 from.name inode may.stands)) (λ w. whole.pins d name i w.2) (stands_moved (dentry_of d name) i h);
   }

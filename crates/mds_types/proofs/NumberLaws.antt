@@ -1,18 +1,18 @@
 -- Which numbers stand in the tree that a step leaves.
-use Rattle.std.specs.Prelude.{◌≡◌, ℕ, Bool, true, false, cond, ◌&&◌, ◌⊎◌, Option, Some, None, refl}
+use Rattle.std.specs.Prelude.{◌≡◌, ℕ, Bool, true, false, cond, ◌&&◌, Option, Some, None, refl}
 use Rattle.std.proofs.Common.{sym, ap, ◌∙◌, ⊎_elim, inl, inr}
 use Rattle.std.specs.Ordering.{eq_by_cmp}
 use Rattle.std.specs.FinMap as map
 use Rattle.mds_types.specs.declared.dentries.Dentry.{Dentry}
-use Rattle.mds_types.specs.declared.inodes.Attributes.{Attributes}
+use Rattle.mds_types.specs.declared.inodes.Alteration.{Alteration}
 use Rattle.mds_types.specs.declared.inodes.Inode.{Inode}
-use Rattle.mds_types.specs.declared.inodes.Kind.TheVariants.{File, Dir, Symlink as Link}
 use Rattle.mds_types.specs.declared.replies.Reply.{Reply}
 use Rattle.mds_types.specs.declared.replies.Reply.TheVariants.{Entry, Done, Errno}
 use Rattle.mds_types.specs.declared.operations.Op.{Op}
-use Rattle.mds_types.specs.declared.operations.Op.TheVariants.{Lookup, Readdir, Create, Mkdir, Readlink, Symlink, Setattr, Unlink, Rmdir, Rename}
 use Rattle.mds_types.specs.Tree.{Tree, dentry_cmp, is_directory, is_dir_kind}
-use Rattle.mds_types.specs.Step.{Outcome, answers, with_moved, directory_of, destination_of, found, made, new_inode, link_mode, read_link, size_errno, with_attributes, attributes_set, unless, unlinked, dir_removed, removal_errno, leads_to, replace_errno, renamed, within, step}
+use Rattle.mds_types.specs.Shape.{Shape, Looks, Lists, Makes, Sets, Unlinks, Removes, Moves, destination_in, directory_in, shape}
+use Rattle.mds_types.specs.Step.{Outcome, answers, with_moved, altered, altered_at, alteration_errno, looked, made, new_inode, unless, unlinked, dir_removed, removal_errno, leads_to, replace_errno, renamed, done_in, step}
+use Rattle.mds_types.proofs.AlterationLaws.{altered_number}
 use Rattle.mds_types.proofs.EntryLaws.{stands_after_put, stands_after_removal}
 use Rattle.mds_types.specs.Outcomes.{IsOld}
 
@@ -32,21 +32,18 @@ made_old tree dentry new None q inode stands =
     ⊎_elim (λ w. inr (refl, ap (λ (i : Inode). i.ino.0) (sym w.1))) (λ w. inl (q, inode, w.1, refl)) (stands_after_put tree dentry new q inode stands)
 made_old tree dentry new (Some other) q inode stands = inl (q, inode, stands, refl)
 
-found_old : (tree : Tree) (n : ℕ) (other : Option Inode) → IsOld tree n (found tree other)
-found_old tree n None = same_old tree n (found tree None) refl
-found_old tree n (Some inode) = same_old tree n (found tree (Some inode)) refl
+looked_old : (tree : Tree) (n : ℕ) (answer : Inode → Reply) (other : Option Inode) → IsOld tree n (looked tree answer other)
+looked_old tree n answer None = same_old tree n (looked tree answer None) refl
+looked_old tree n answer (Some inode) = same_old tree n (looked tree answer (Some inode)) refl
 
-read_link_old : (tree : Tree) (n : ℕ) (other : Option Inode) → IsOld tree n (read_link tree other)
-read_link_old tree n None = same_old tree n (read_link tree None) refl
-read_link_old tree n (Some inode) = same_old tree n (read_link tree (Some inode)) refl
-
-attributes_old : (tree : Tree) (n : ℕ) (dentry : Dentry) (given : Attributes) (other : Option Inode) → map.get tree dentry ≡ other → IsOld tree n (attributes_set tree dentry given other)
-attributes_old tree n dentry given None is = same_old tree n (attributes_set tree dentry given None) refl
-attributes_old tree n dentry given (Some before) is =
-    unless_old (size_errno before.kind given.size) tree n
-    (answers (map.insert tree dentry (with_attributes given before)) (Entry (with_attributes given before)))
+altered_old : (tree : Tree) (n : ℕ) (dentry : Dentry) (alteration : Alteration) (other : Option Inode) → map.get tree dentry ≡ other → IsOld tree n (altered_at tree dentry alteration other)
+altered_old tree n dentry alteration None is = same_old tree n (altered_at tree dentry alteration None) refl
+altered_old tree n dentry alteration (Some before) is =
+    unless_old (alteration_errno before.kind alteration) tree n
+    (answers (map.insert tree dentry (altered alteration before)) (Entry (altered alteration before)))
     (λ q inode stands.
-    ⊎_elim (λ w. inl (dentry, before, is, ap (λ (i : Inode). i.ino.0) w.1)) (λ w. inl (q, inode, w.1, refl)) (stands_after_put tree dentry (with_attributes given before) q inode stands))
+    ⊎_elim (λ w. inl (dentry, before, is, ap (λ (i : _). i.0) (sym (altered_number alteration before)) ∙ ap (λ (i : Inode). i.ino.0) w.1)) (λ w. inl (q, inode, w.1, refl))
+    (stands_after_put tree dentry (altered alteration before) q inode stands))
 
 removed_old : (tree : Tree) (n : ℕ) (dentry : Dentry) → IsOld tree n (answers (map.remove tree dentry) Done)
 removed_old tree n dentry q inode stands = let before = stands_after_removal tree dentry q inode stands in inl (q, inode, before.1, refl)
@@ -75,19 +72,17 @@ renamed_old tree n from to (Some moved) target is =
     ⊎_elim (λ w. inl (from, moved, is, ap (λ (i : Inode). i.ino.0) w.1)) (λ w. let before = stands_after_removal tree from q inode w.1 in inl (q, inode, before.1, refl))
     (stands_after_put (map.remove tree from) to moved q inode stands))))
 
-within_old : (tree : Tree) (op : Op) (n : ℕ) → IsOld tree n (within tree op n)
-within_old tree (Lookup dentry) n = found_old tree n (map.get tree dentry)
-within_old tree (Readdir dir after max) n = same_old tree n (within tree (Readdir dir after max) n) refl
-within_old tree (Create dentry mode mtime) n = made_old tree dentry (new_inode n File mode mtime) (map.get tree dentry)
-within_old tree (Mkdir dentry mode mtime) n = made_old tree dentry (new_inode n Dir mode mtime) (map.get tree dentry)
-within_old tree (Readlink dentry) n = read_link_old tree n (map.get tree dentry)
-within_old tree (Symlink dentry target mtime) n = made_old tree dentry (new_inode n (Link target) link_mode mtime) (map.get tree dentry)
-within_old tree (Setattr dentry given) n = attributes_old tree n dentry given (map.get tree dentry) refl
-within_old tree (Unlink dentry) n = unlinked_old tree n dentry (map.get tree dentry)
-within_old tree (Rmdir dentry) n = dir_removed_old tree n dentry (map.get tree dentry)
-within_old tree (Rename from to) n = renamed_old tree n from to (map.get tree from) (map.get tree to) refl
+done_old : (tree : Tree) (s : Shape) (n : ℕ) → IsOld tree n (done_in tree s n)
+done_old tree (Looks dentry answer) n = looked_old tree n answer (map.get tree dentry)
+done_old tree (Lists dir after max) n = same_old tree n (done_in tree (Lists dir after max) n) refl
+done_old tree (Makes dentry kind mode birth) n = made_old tree dentry (new_inode n kind mode birth) (map.get tree dentry)
+done_old tree (Sets dentry alteration) n = altered_old tree n dentry alteration (map.get tree dentry) refl
+done_old tree (Unlinks dentry) n = unlinked_old tree n dentry (map.get tree dentry)
+done_old tree (Removes dentry) n = dir_removed_old tree n dentry (map.get tree dentry)
+done_old tree (Moves from to) n = renamed_old tree n from to (map.get tree from) (map.get tree to) refl
 
 -- an inode of the tree that a step leaves stood before, or has the number that the step took
 pub old_or_taken : (tree : Tree) (op : Op) (n : ℕ) → IsOld tree n (step tree op n)
 old_or_taken tree op n =
-    either_old (is_directory tree (directory_of op) && is_directory tree (destination_of op)) tree n (within tree op n) (answers tree (Errno 116)) (within_old tree op n) (kept_old tree n (Errno 116))
+    either_old (is_directory tree (directory_in (shape op)) && is_directory tree (destination_in (shape op))) tree n (done_in tree (shape op) n) (answers tree (Errno 116))
+    (done_old tree (shape op) n) (kept_old tree n (Errno 116))

@@ -46,6 +46,7 @@ module _ (tree : Tree) (dentry : Dentry) (gone : Inode) (stood : map.get tree de
     rooted = λ d name inode h.
         ⊎_elim inl (λ above. inr (still_above d (not_gone (dentry_of d name) inode (before d name inode h)) above)) (whole.rooted d name inode (before d name inode h));
     sizes = λ d name inode h. whole.sizes d name inode (before d name inode h);
+    pins = λ d name inode h. whole.pins d name inode (before d name inode h);
   }
     where
       before : (d : ℕ) (name : _) (inode : Inode) → at left d name ≡ Some inode → at tree d name ≡ Some inode

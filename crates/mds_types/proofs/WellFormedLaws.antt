@@ -1,5 +1,5 @@
 -- Every step of the operation table keeps the tree well formed.
-use Rattle.std.specs.Prelude.{◌≡◌, ℕ, Bool, true, false, cond, ◌&&◌, List, Option, Some, None, unwrap_or, refl}
+use Rattle.std.specs.Prelude.{◌≡◌, ℕ, Bool, true, false, cond, ◌&&◌, List, Option, Some, None, refl}
 use Rattle.std.proofs.Common.{sym, ap, subst, ◌∙◌, ⊎_elim, ◌⊎◌, inl, inr}
 use Rattle.std.proofs.lemmas.Bool.{or_right}
 use Rattle.std.specs.Ordering.{eq_by_cmp}
@@ -7,19 +7,21 @@ use Rattle.std.specs.FinMap as map
 use Rattle.std.specs.FinMap.{get-insert}
 use Rattle.mds_types.specs.declared.replies.Reply.TheVariants.{Errno}
 use Rattle.mds_types.specs.declared.dentries.Dentry.{Dentry}
-use Rattle.mds_types.specs.declared.inodes.Attributes.{Attributes}
+use Rattle.mds_types.specs.declared.inodes.Alteration.{Alteration}
 use Rattle.mds_types.specs.declared.inodes.Inode.{Inode}
 use Rattle.mds_types.specs.declared.inodes.Kind.{Kind}
 use Rattle.mds_types.specs.declared.inodes.Kind.TheVariants.{File, Dir, Symlink}
 use Rattle.mds_types.specs.declared.operations.Op.{Op}
-use Rattle.mds_types.specs.declared.operations.Op.TheVariants.{Lookup, Readdir, Create, Mkdir, Readlink, Symlink as MakeLink, Setattr, Unlink, Rmdir, Rename}
-use Rattle.mds_types.specs.Step.{Outcome, answers, new_size, directory_of, destination_of, found, made, new_inode, link_mode, read_link, size_errno, with_attributes, attributes_set, unless, unlinked, dir_removed, removal_errno, leads_to, replace_errno, renamed, within, step}
-use Rattle.mds_types.specs.Tree.{Tree, dentry_cmp, dentry_of, at, is_directory, is_dir_kind, has_entries, IsAbove, child, further, HasSize, IsWellFormed, IsUnused}
+use Rattle.mds_types.specs.declared.replies.Reply.{Reply}
+use Rattle.mds_types.specs.Shape.{Shape, Looks, Lists, Makes, Sets, Unlinks, Removes, Moves, destination_in, directory_in, shape}
+use Rattle.mds_types.specs.Step.{Outcome, answers, altered, altered_at, alteration_errno, new_size, looked, made, new_inode, unless, unlinked, dir_removed, removal_errno, leads_to, replace_errno, renamed, done_in, step, step_in}
+use Rattle.mds_types.specs.Tree.{Tree, dentry_cmp, dentry_of, at, is_directory, is_dir_kind, has_entries, IsAbove, child, further, HasPinOf, HasSize, IsWellFormed, IsUnused}
 use Rattle.mds_types.proofs.TreeLaws.{is_directory-insert}
 use Rattle.sorted_map.proofs.MapLaws.{tie}
 use Rattle.mds_types.proofs.OrderLaws.{dentry-total}
 use Rattle.mds_types.specs.OrderLaws.{dentry-exact}
 use Rattle.mds_types.proofs.DirectoryLaws.{reaches_root, nothing_in_file, nothing_in_empty}
+use Rattle.mds_types.proofs.AlterationLaws.{altered_kind, altered_number, altered_pin, altered_size}
 use Rattle.mds_types.proofs.AttributeLaws.{well-formed-changed}
 use Rattle.mds_types.proofs.RemovedLaws.{well-formed-removed}
 use Rattle.mds_types.proofs.MovedLaws.{well-formed-moved, may_move}
@@ -69,8 +71,8 @@ module _ (tree : Tree) (dir : ℕ) (new_name : List ℕ) (new : Inode) (free : a
 
   -- the tree stays well formed where the number is neither the root's nor one that stands
   pub well-formed-grown : IsWellFormed tree → is_directory tree dir ≡ true → (new.ino.0 ≡ 1 → ⊥)
-      → ((d : ℕ) (name : List ℕ) (inode : Inode) → at tree d name ≡ Some inode → inode.ino.0 ≡ new.ino.0 → ⊥) → HasSize new.kind new.size → IsWellFormed grown
-  well-formed-grown whole here rootless unused sized = record {
+      → ((d : ℕ) (name : List ℕ) (inode : Inode) → at tree d name ≡ Some inode → inode.ino.0 ≡ new.ino.0 → ⊥) → HasSize new.kind new.size → HasPinOf new.kind new.pin → IsWellFormed grown
+  well-formed-grown whole here rootless unused sized pinned = record {
     rootless = λ d name inode h one. ⊎_elim (λ w. rootless (ap (λ (i : Inode). i.ino.0) w.1 ∙ one)) (λ before. whole.rootless d name inode before one) (stands d name inode h);
     once = λ d d' name name' inode inode' h h' same.
         ⊎_elim
@@ -88,36 +90,27 @@ module _ (tree : Tree) (dir : ℕ) (new_name : List ℕ) (new : Inode) (free : a
         ⊎_elim (λ w. lifted d (subst (λ x. (x ≡ 1) ⊎ IsAbove tree 1 x) (sym (dir_is d name w.0)) (reaches_root tree dir whole here)))
         (λ before. lifted d (whole.rooted d name inode before)) (stands d name inode h);
     sizes = λ d name inode h. ⊎_elim (λ w. subst (λ (i : Inode). HasSize i.kind i.size) w.1 sized) (λ before. whole.sizes d name inode before) (stands d name inode h);
+    pins = λ d name inode h. ⊎_elim (λ w. subst (λ (i : Inode). HasPinOf i.kind i.pin) w.1 pinned) (λ before. whole.pins d name inode before) (stands d name inode h);
   }
     where
       lifted : (d : ℕ) → (d ≡ 1) ⊎ IsAbove tree 1 d → (d ≡ 1) ⊎ IsAbove grown 1 d
       lifted d h = ⊎_elim inl (λ above. inr (still_above 1 d above)) h
 
 made-well-formed : (tree : Tree) (dir : ℕ) (name : List ℕ) (inode : Inode) (other : Option Inode) → at tree dir name ≡ other → IsWellFormed tree → is_directory tree dir ≡ true
-    → ((made tree (dentry_of dir name) inode other).takes ≡ true → IsUnused tree inode.ino.0) → HasSize inode.kind inode.size → IsWellFormed (made tree (dentry_of dir name) inode other).tree
-made-well-formed tree dir name inode None free whole here unused sized = well-formed-grown tree dir name inode free whole here (unused refl).not_root (unused refl).not_there sized
-made-well-formed tree dir name inode (Some other) taken whole here unused sized = whole
+    → ((made tree (dentry_of dir name) inode other).takes ≡ true → IsUnused tree inode.ino.0) → HasSize inode.kind inode.size → HasPinOf inode.kind inode.pin → IsWellFormed (made tree (dentry_of dir name) inode other).tree
+made-well-formed tree dir name inode None free whole here unused sized pinned =
+    well-formed-grown tree dir name inode free whole here (unused refl).not_root (unused refl).not_there sized pinned
+made-well-formed tree dir name inode (Some other) taken whole here unused sized pinned = whole
 
-found-well-formed : (tree : Tree) (other : Option Inode) → IsWellFormed tree → IsWellFormed (found tree other).tree
-found-well-formed tree None whole = whole
-found-well-formed tree (Some inode) whole = whole
-
-read_link-well-formed : (tree : Tree) (other : Option Inode) → IsWellFormed tree → IsWellFormed (read_link tree other).tree
-read_link-well-formed tree None whole = whole
-read_link-well-formed tree (Some inode) whole = whole
+looked-well-formed : (tree : Tree) (answer : Inode → Reply) (other : Option Inode) → IsWellFormed tree → IsWellFormed (looked tree answer other).tree
+looked-well-formed tree answer None whole = whole
+looked-well-formed tree answer (Some inode) whole = whole
 
 -- a new inode has the size that its kind prescribes
 pub new_sized : (kind : Kind) → HasSize kind (new_size kind)
 new_sized File = tt
 new_sized Dir = refl
 new_sized (Symlink target) = refl
-
--- a size that may be given keeps what the kind prescribes
-pub sized_still : (kind : Kind) (size : Option ℕ) (before : ℕ) → size_errno kind size ≡ None → HasSize kind before → HasSize kind (unwrap_or size before)
-sized_still kind None before may sized = sized
-sized_still File (Some size) before may sized = tt
-sized_still Dir (Some size) before may sized = cc
-sized_still (Symlink target) (Some size) before may sized = cc
 
 unless-well-formed : (tree : Tree) (errno : Option ℕ) (outcome : Outcome) → IsWellFormed tree → (errno ≡ None → IsWellFormed outcome.tree) → IsWellFormed (unless tree errno outcome).tree
 unless-well-formed tree None outcome whole h = h refl
@@ -127,13 +120,22 @@ either-well-formed : (b : Bool) (x y : Outcome) → (b ≡ true → IsWellFormed
 either-well-formed true x y h k = h refl
 either-well-formed false x y h k = k refl
 
-attributes-well-formed : (tree : Tree) (dentry : Dentry) (given : Attributes) (other : Option Inode) → map.get tree dentry ≡ other → IsWellFormed tree
-    → IsWellFormed (attributes_set tree dentry given other).tree
-attributes-well-formed tree dentry given None is whole = whole
-attributes-well-formed tree dentry given (Some inode) is whole =
-    unless-well-formed tree (size_errno inode.kind given.size) _ whole
-    (λ may. well-formed-changed tree dentry inode (with_attributes given inode) is refl refl whole
-    (sized_still inode.kind given.size inode.size may (whole.sizes dentry.dir.0 dentry.name inode is)))
+-- an inode that is altered as it may be leaves the tree well formed
+pub well-formed-altered : (tree : Tree) (dentry : Dentry) (alteration : Alteration) (inode : Inode) → map.get tree dentry ≡ Some inode → alteration_errno inode.kind alteration ≡ None → IsWellFormed tree
+    → IsWellFormed (map.insert tree dentry (altered alteration inode))
+well-formed-altered tree dentry alteration inode is may whole =
+    well-formed-changed tree dentry inode (altered alteration inode) is (altered_number alteration inode) kind whole
+    (subst (λ k. HasSize k (altered alteration inode).size) (sym kind) (altered_size alteration inode may (whole.sizes dentry.dir.0 dentry.name inode is)))
+    (subst (λ k. HasPinOf k (altered alteration inode).pin) (sym kind) (altered_pin alteration inode may (whole.pins dentry.dir.0 dentry.name inode is)))
+  where
+    kind : (altered alteration inode).kind ≡ inode.kind
+    kind = altered_kind alteration inode
+
+altered_at-well-formed : (tree : Tree) (dentry : Dentry) (alteration : Alteration) (other : Option Inode) → map.get tree dentry ≡ other → IsWellFormed tree
+    → IsWellFormed (altered_at tree dentry alteration other).tree
+altered_at-well-formed tree dentry alteration None is whole = whole
+altered_at-well-formed tree dentry alteration (Some inode) is whole =
+    unless-well-formed tree (alteration_errno inode.kind alteration) _ whole (λ may. well-formed-altered tree dentry alteration inode is may whole)
 
 unlinked-well-formed : (tree : Tree) (dentry : Dentry) (other : Option Inode) → map.get tree dentry ≡ other → IsWellFormed tree → IsWellFormed (unlinked tree dentry other).tree
 unlinked-well-formed tree dentry None is whole = whole
@@ -162,26 +164,27 @@ renamed-well-formed tree from to (Some inode) target is there whole parent =
     (λ replaces. well-formed-moved tree from to inode whole
     (may_move tree from to inode whole (record { stands = is; apart = apart; parent = parent; outside = outside; replaces = ap (replace_errno tree inode) there ∙ replaces })))))
 
-within-well-formed : (tree : Tree) (op : Op) (n : ℕ) → IsWellFormed tree → ((within tree op n).takes ≡ true → IsUnused tree n) → is_directory tree (directory_of op) ≡ true → is_directory tree (destination_of op) ≡ true → IsWellFormed (within tree op n).tree
-within-well-formed tree (Lookup dentry) n whole unused here there = found-well-formed tree (map.get tree dentry) whole
-within-well-formed tree (Readdir dir after max) n whole unused here there = whole
-within-well-formed tree (Create dentry mode mtime) n whole unused here there = made-well-formed tree dentry.dir.0 dentry.name (new_inode n File mode mtime) (map.get tree dentry) refl whole here unused tt
-within-well-formed tree (Mkdir dentry mode mtime) n whole unused here there = made-well-formed tree dentry.dir.0 dentry.name (new_inode n Dir mode mtime) (map.get tree dentry) refl whole here unused refl
-within-well-formed tree (Readlink dentry) n whole unused here there = read_link-well-formed tree (map.get tree dentry) whole
-within-well-formed tree (MakeLink dentry target mtime) n whole unused here there =
-    made-well-formed tree dentry.dir.0 dentry.name (new_inode n (Symlink target) link_mode mtime) (map.get tree dentry) refl whole here unused refl
-within-well-formed tree (Setattr dentry given) n whole unused here there = attributes-well-formed tree dentry given (map.get tree dentry) refl whole
-within-well-formed tree (Unlink dentry) n whole unused here there = unlinked-well-formed tree dentry (map.get tree dentry) refl whole
-within-well-formed tree (Rmdir dentry) n whole unused here there = dir_removed-well-formed tree dentry (map.get tree dentry) refl whole
-within-well-formed tree (Rename from to) n whole unused here there =
+done-well-formed : (tree : Tree) (s : Shape) (n : ℕ) → IsWellFormed tree → ((done_in tree s n).takes ≡ true → IsUnused tree n) → is_directory tree (directory_in s) ≡ true → is_directory tree (destination_in s) ≡ true
+    → IsWellFormed (done_in tree s n).tree
+done-well-formed tree (Looks dentry answer) n whole unused here there = looked-well-formed tree answer (map.get tree dentry) whole
+done-well-formed tree (Lists dir after max) n whole unused here there = whole
+done-well-formed tree (Makes dentry kind mode birth) n whole unused here there =
+    made-well-formed tree dentry.dir.0 dentry.name (new_inode n kind mode birth) (map.get tree dentry) refl whole here unused (new_sized kind) tt
+done-well-formed tree (Sets dentry alteration) n whole unused here there = altered_at-well-formed tree dentry alteration (map.get tree dentry) refl whole
+done-well-formed tree (Unlinks dentry) n whole unused here there = unlinked-well-formed tree dentry (map.get tree dentry) refl whole
+done-well-formed tree (Removes dentry) n whole unused here there = dir_removed-well-formed tree dentry (map.get tree dentry) refl whole
+done-well-formed tree (Moves from to) n whole unused here there =
     renamed-well-formed tree from to (map.get tree from) (map.get tree to) refl refl whole there
+
+keeps_in : (tree : Tree) (s : Shape) (n : ℕ) → IsWellFormed tree → ((step_in tree s n).takes ≡ true → IsUnused tree n) → IsWellFormed (step_in tree s n).tree
+keeps_in tree s n whole unused = go (is_directory tree (directory_in s)) (is_directory tree (destination_in s)) refl refl unused
+  where
+    go : (a b : Bool) → is_directory tree (directory_in s) ≡ a → is_directory tree (destination_in s) ≡ b
+        → ((cond (a && b) (done_in tree s n) (answers tree (Errno 116))).takes ≡ true → IsUnused tree n) → IsWellFormed (cond (a && b) (done_in tree s n) (answers tree (Errno 116))).tree
+    go true true here there takes = done-well-formed tree s n whole takes here there
+    go true false here there takes = whole
+    go false b here there takes = whole
 
 -- a step keeps the tree well formed, if the number that it takes, where it takes one, is unused
 pub step_keeps_well_formed : (tree : Tree) (op : Op) (n : ℕ) → IsWellFormed tree → ((step tree op n).takes ≡ true → IsUnused tree n) → IsWellFormed (step tree op n).tree
-step_keeps_well_formed tree op n whole unused = go (is_directory tree (directory_of op)) (is_directory tree (destination_of op)) refl refl unused
-  where
-    go : (a b : Bool) → is_directory tree (directory_of op) ≡ a → is_directory tree (destination_of op) ≡ b
-        → ((cond (a && b) (within tree op n) (answers tree (Errno 116))).takes ≡ true → IsUnused tree n) → IsWellFormed (cond (a && b) (within tree op n) (answers tree (Errno 116))).tree
-    go true true here there takes = within-well-formed tree op n whole takes here there
-    go true false here there takes = whole
-    go false b here there takes = whole
+step_keeps_well_formed tree op n whole unused = keeps_in tree (shape op) n whole unused

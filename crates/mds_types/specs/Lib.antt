@@ -1,5 +1,6 @@
 pub mod Frag
 pub mod History
+pub mod InodeLaws
 pub mod Leaf
 pub mod Name
 pub mod NameFault
@@ -7,6 +8,7 @@ pub mod ObjectText
 pub mod OrderLaws
 pub mod Outcomes
 pub mod Refusal
+pub mod Shape
 pub mod Step
 pub mod TargetFault
 pub mod Tree

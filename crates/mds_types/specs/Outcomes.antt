@@ -7,24 +7,11 @@ use Rattle.std.specs.FinMap.{find, is_sorted}
 use Rattle.mds_types.specs.declared.dentries.Dentry.{Dentry}
 use Rattle.mds_types.specs.declared.inodes.Inode.{Inode}
 use Rattle.mds_types.specs.declared.operations.Op.{Op}
-use Rattle.mds_types.specs.declared.operations.Op.TheVariants.{Lookup, Readdir, Create, Mkdir, Readlink, Symlink, Setattr, Unlink, Rmdir, Rename}
 use Rattle.mds_types.specs.declared.replies.Reply.{Reply}
 use Rattle.mds_types.specs.declared.replies.Reply.TheVariants.{Entry, Entries, Target, Done, Errno}
+use Rattle.mds_types.specs.Shape.{makes}
 use Rattle.mds_types.specs.Tree.{Tree, at}
 use Rattle.mds_types.specs.Step.{Outcome, is_after}
-
--- whether an operation makes an inode where it succeeds
-abbrev pub makes : Op → Bool
-makes (Lookup dentry) = false
-makes (Readdir dir after max) = false
-makes (Create dentry mode mtime) = true
-makes (Mkdir dentry mode mtime) = true
-makes (Readlink dentry) = false
-makes (Symlink dentry target mtime) = true
-makes (Setattr dentry given) = false
-makes (Unlink dentry) = false
-makes (Rmdir dentry) = false
-makes (Rename from to) = false
 
 -- whether a reply is an error number
 abbrev pub is_errno : Reply → Bool

@@ -7,15 +7,19 @@ use Rattle.std.specs.Cmp.Lexicographic.{slice_cmp}
 use Rattle.std.specs.Ordering.{nat_cmp, eq_by_cmp}
 use Rattle.std.specs.FinMap as map
 use Rattle.mds_types.specs.declared.ids.Ino.{Ino}
+use Rattle.mds_types.specs.declared.ids.Rank.{Rank}
 use Rattle.mds_types.specs.declared.dentries.Dentry.{Dentry}
+use Rattle.mds_types.specs.declared.inodes.Alteration.{Alteration}
+use Rattle.mds_types.specs.declared.inodes.Alteration.TheVariants.{Attributed, Pinned}
 use Rattle.mds_types.specs.declared.inodes.Attributes.{Attributes}
+use Rattle.mds_types.specs.declared.inodes.Birth.{Birth}
 use Rattle.mds_types.specs.declared.inodes.Inode.{Inode}
 use Rattle.mds_types.specs.declared.inodes.Kind.{Kind}
 use Rattle.mds_types.specs.declared.inodes.Kind.TheVariants.{File, Dir, Symlink as Link}
 use Rattle.mds_types.specs.declared.operations.Op.{Op}
-use Rattle.mds_types.specs.declared.operations.Op.TheVariants.{Lookup, Readdir, Create, Mkdir, Readlink, Symlink, Setattr, Unlink, Rmdir, Rename}
 use Rattle.mds_types.specs.declared.replies.Reply.{Reply}
-use Rattle.mds_types.specs.declared.replies.Reply.TheVariants.{Entry, Entries, Target, Done, Errno}
+use Rattle.mds_types.specs.declared.replies.Reply.TheVariants.{Entry, Entries, Done, Errno}
+use Rattle.mds_types.specs.Shape.{Shape, Looks, Lists, Makes, Sets, Unlinks, Removes, Moves, destination_in, directory_in, shape}
 use Rattle.mds_types.specs.Tree.{Tree, dentry_cmp, is_directory, is_dir_kind, is_above, has_entries}
 
 -- what one step of the table gives: the reply, the tree that it leaves, and whether it took the number that it was offered
@@ -33,24 +37,6 @@ abbrev pub unless : Tree → Option ℕ → Outcome → Outcome
 unless tree None outcome = outcome
 unless tree (Some errno) outcome = answers tree (Errno errno)
 
--- the directory that an operation works in; of a rename, that of the source
-abbrev pub directory_of : Op → ℕ
-directory_of (Lookup dentry) = dentry.dir.0
-directory_of (Readdir dir after max) = dir.0
-directory_of (Create dentry mode mtime) = dentry.dir.0
-directory_of (Mkdir dentry mode mtime) = dentry.dir.0
-directory_of (Readlink dentry) = dentry.dir.0
-directory_of (Symlink dentry target mtime) = dentry.dir.0
-directory_of (Setattr dentry given) = dentry.dir.0
-directory_of (Unlink dentry) = dentry.dir.0
-directory_of (Rmdir dentry) = dentry.dir.0
-directory_of (Rename from to) = from.dir.0
-
--- the directory that an operation leads to: of a rename that of the target, otherwise the one that it works in
-abbrev pub destination_of : Op → ℕ
-destination_of (Rename from to) = to.dir.0
-destination_of other = directory_of other
-
 -- the name is greater than `after`; every name is, if none is given
 abbrev pub is_after : Option (List ℕ) → List ℕ → Bool
 is_after None name = true
@@ -61,10 +47,10 @@ unfoldable pub names_after : Tree → ℕ → Option (List ℕ) → List (List �
 names_after tree dir after =
     map (λ e. (e.0.name, e.1)) (filter (λ e. (e.0.dir.0 == dir) && is_after after e.0.name) (map.entries tree))
 
--- lookup: absent ENOENT
-abbrev pub found : Tree → Option Inode → Outcome
-found tree None = answers tree (Errno 2)
-found tree (Some inode) = answers tree (Entry inode)
+-- lookup, readlink: absent ENOENT
+abbrev pub looked : Tree → (Inode → Reply) → Option Inode → Outcome
+looked tree answer None = answers tree (Errno 2)
+looked tree answer (Some inode) = answers tree (answer inode)
 
 -- the first `max` of these names, and whether further ones follow
 abbrev pub page : Tree → ℕ → List (List ℕ × Inode) → Outcome
@@ -81,23 +67,10 @@ new_size File = 0
 new_size Dir = 0
 new_size (Link target) = length target
 
-abbrev pub new_inode : ℕ → Kind → ℕ → ℕ → Inode
-new_inode number kind mode mtime = record { ino = record { 0 = number }; kind = kind; mode = mode; size = new_size kind; mtime = mtime }
-
--- the mode of every link: octal 777
-abbrev pub link_mode : ℕ
-link_mode = 511
-
--- what a link points to: of what is no link EINVAL
-abbrev pub target_of : Kind → Reply
-target_of File = Errno 22
-target_of Dir = Errno 22
-target_of (Link target) = Target target
-
--- readlink: absent ENOENT
-abbrev pub read_link : Tree → Option Inode → Outcome
-read_link tree None = answers tree (Errno 2)
-read_link tree (Some inode) = answers tree (target_of inode.kind)
+-- a new inode has no pin
+abbrev pub new_inode : ℕ → Kind → ℕ → Birth → Inode
+new_inode number kind mode birth =
+    record { ino = record { 0 = number }; kind = kind; mode = mode; size = new_size kind; mtime = birth.mtime; uid = birth.uid; gid = birth.gid; pin = None }
 
 -- a size may be given to a file alone: to a directory EISDIR, to a link EINVAL
 abbrev pub size_errno : Kind → Option ℕ → Option ℕ
@@ -106,16 +79,46 @@ size_errno File (Some size) = None
 size_errno Dir (Some size) = Some 21
 size_errno (Link target) (Some size) = Some 22
 
+-- one of the 16 ranks, or none
+abbrev pub is_pin : Option Rank → Bool
+is_pin None = true
+is_pin (Some rank) = nat_lt rank.0 16
+
+-- what is no directory can't be pinned, ENOTDIR; then a rank that is none of the 16, EINVAL
+abbrev pub pin_errno : Kind → Option Rank → Option ℕ
+pin_errno kind pin = cond (is_dir_kind kind) (cond (is_pin pin) None (Some 22)) (Some 20)
+
+-- why an inode of a kind can't be altered so, if it can't
+abbrev pub alteration_errno : Kind → Alteration → Option ℕ
+alteration_errno kind (Attributed given) = size_errno kind given.size
+alteration_errno kind (Pinned pin) = pin_errno kind pin
+
 -- the inode with the attributes that are given; the others stay
 abbrev pub with_attributes : Attributes → Inode → Inode
-with_attributes given inode = record inode { mode = unwrap_or given.mode inode.mode; size = unwrap_or given.size inode.size; mtime = unwrap_or given.mtime inode.mtime }
+with_attributes given inode =
+    record inode {
+      mode = unwrap_or given.mode inode.mode;
+      size = unwrap_or given.size inode.size;
+      mtime = unwrap_or given.mtime inode.mtime;
+      uid = unwrap_or given.uid inode.uid;
+      gid = unwrap_or given.gid inode.gid;
+    }
 
--- setattr: absent ENOENT, then a size for what is no file
-abbrev pub attributes_set : Tree → Dentry → Attributes → Option Inode → Outcome
-attributes_set tree dentry given None = answers tree (Errno 2)
-attributes_set tree dentry given (Some inode) =
-    let changed = with_attributes given inode in
-    unless tree (size_errno inode.kind given.size) (answers (map.insert tree dentry changed) (Entry changed))
+-- the inode with this pin, or with none
+abbrev pub with_pin : Option Rank → Inode → Inode
+with_pin pin inode = record inode { pin = pin }
+
+-- the inode altered so
+abbrev pub altered : Alteration → Inode → Inode
+altered (Attributed given) inode = with_attributes given inode
+altered (Pinned pin) inode = with_pin pin inode
+
+-- setattr, setpin: absent ENOENT, then what can't be altered so
+abbrev pub altered_at : Tree → Dentry → Alteration → Option Inode → Outcome
+altered_at tree dentry alteration None = answers tree (Errno 2)
+altered_at tree dentry alteration (Some inode) =
+    let changed = altered alteration inode in
+    unless tree (alteration_errno inode.kind alteration) (answers (map.insert tree dentry changed) (Entry changed))
 
 -- unlink: absent ENOENT, a directory EISDIR (where POSIX.1 names EPERM)
 abbrev pub unlinked : Tree → Dentry → Option Inode → Outcome
@@ -155,23 +158,23 @@ renamed tree from to (Some inode) target =
     (cond (leads_to tree inode to.dir.0) (answers tree (Errno 22))
     (unless tree (replace_errno tree inode target) (answers (with_moved tree from to inode) Done)))
 
--- an operation in directories that stand, offered the number n
-abbrev pub within : Tree → Op → ℕ → Outcome
-within tree (Lookup dentry) n = found tree (map.get tree dentry)
-within tree (Readdir dir after max) n = page tree max (names_after tree dir.0 after)
-within tree (Create dentry mode mtime) n = made tree dentry (new_inode n File mode mtime) (map.get tree dentry)
-within tree (Mkdir dentry mode mtime) n = made tree dentry (new_inode n Dir mode mtime) (map.get tree dentry)
-within tree (Readlink dentry) n = read_link tree (map.get tree dentry)
-within tree (Symlink dentry target mtime) n = made tree dentry (new_inode n (Link target) link_mode mtime) (map.get tree dentry)
-within tree (Setattr dentry given) n = attributes_set tree dentry given (map.get tree dentry)
-within tree (Unlink dentry) n = unlinked tree dentry (map.get tree dentry)
-within tree (Rmdir dentry) n = dir_removed tree dentry (map.get tree dentry)
-within tree (Rename from to) n =
-    renamed tree from to (map.get tree from) (map.get tree to)
+-- what is done in directories that stand, by its shape, offered the number n
+abbrev pub done_in : Tree → Shape → ℕ → Outcome
+done_in tree (Looks dentry answer) n = looked tree answer (map.get tree dentry)
+done_in tree (Lists dir after max) n = page tree max (names_after tree dir after)
+done_in tree (Makes dentry kind mode birth) n = made tree dentry (new_inode n kind mode birth) (map.get tree dentry)
+done_in tree (Sets dentry alteration) n = altered_at tree dentry alteration (map.get tree dentry)
+done_in tree (Unlinks dentry) n = unlinked tree dentry (map.get tree dentry)
+done_in tree (Removes dentry) n = dir_removed tree dentry (map.get tree dentry)
+done_in tree (Moves from to) n = renamed tree from to (map.get tree from) (map.get tree to)
 
--- the table: first of all, a number that is no directory of the tree now is ESTALE
+-- one step by its shape: first of all, a number that is no directory of the tree now is ESTALE
+abbrev pub step_in : Tree → Shape → ℕ → Outcome
+step_in tree s n = cond (is_directory tree (directory_in s) && is_directory tree (destination_in s)) (done_in tree s n) (answers tree (Errno 116))
+
+-- the table: what an operation does is told by its shape
 abbrev pub step : Tree → Op → ℕ → Outcome
-step tree op n = cond (is_directory tree (directory_of op) && is_directory tree (destination_of op)) (within tree op n) (answers tree (Errno 116))
+step tree op n = step_in tree (shape op) n
 
 -- the number in an option, if it counts
 abbrev pub number_or : Option Ino → ℕ

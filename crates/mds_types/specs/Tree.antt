@@ -1,10 +1,11 @@
 -- The plain tree: what the fragments, caches and objects of all ranks together mean.
-use Rattle.std.specs.Prelude.{◌≡◌, ℕ, zero, suc, Bool, true, false, ◌||◌, ◌&&◌, ◌==◌, ◌⊎◌, List, map, length, Option, Some}
+use Rattle.std.specs.Prelude.{◌≡◌, ℕ, zero, suc, ◌<◌, Bool, true, false, ◌||◌, ◌&&◌, ◌==◌, ◌⊎◌, List, map, length, Option, Some, None}
 use Rattle.std.specs.List.{list_any}
 use Rattle.std.specs.declared.cmp.Ordering.{Ordering}
 use Rattle.std.specs.Ordering.{nat_cmp, ordering_then}
 use Rattle.std.specs.Cmp.Lexicographic.{slice_cmp}
 use Rattle.std.specs.FinMap as map
+use Rattle.mds_types.specs.declared.ids.Rank.{Rank}
 use Rattle.mds_types.specs.declared.dentries.Dentry.{Dentry}
 use Rattle.mds_types.specs.declared.inodes.Inode.{Inode}
 use Rattle.mds_types.specs.declared.inodes.Kind.{Kind}
@@ -70,6 +71,13 @@ HasSize File size = Unit {0}
 HasSize Dir size = size ≡ 0
 HasSize (Symlink target) size = size ≡ length target
 
+-- a pin stands on a directory alone, and names one of 16 ranks
+abbrev pub HasPinOf : Kind → Option Rank → Type 0
+HasPinOf kind None = Unit {0}
+HasPinOf File (Some rank) = ⊥
+HasPinOf Dir (Some rank) = rank.0 < 16
+HasPinOf (Symlink target) (Some rank) = ⊥
+
 -- what holds of every tree that operations lead to
 pub record IsWellFormed (tree : Tree) : Type 0 where
   -- the root has no entry
@@ -81,6 +89,7 @@ pub record IsWellFormed (tree : Tree) : Type 0 where
   -- each entry's directory reaches the root by finitely many parents
   pub rooted : (d : ℕ) (name : List ℕ) (inode : Inode) → at tree d name ≡ Some inode → (d ≡ 1) ⊎ IsAbove tree 1 d
   pub sizes : (d : ℕ) (name : List ℕ) (inode : Inode) → at tree d name ≡ Some inode → HasSize inode.kind inode.size
+  pub pins : (d : ℕ) (name : List ℕ) (inode : Inode) → at tree d name ≡ Some inode → HasPinOf inode.kind inode.pin
 
 -- no entry is in what has this number
 abbrev pub NothingIn : Tree → ℕ → Type 0

@@ -1,7 +1,7 @@
 //! Inodes, which a directory's entries hold embedded, as CephFS keeps them.
 ghost use Rattle.std.specs.Prelude.{◌≡◌, ◌↔◌, IfOk, IsTrue};
 
-use crate::ids::Ino;
+use crate::ids::{Ino, Rank};
 use crate::modes::Mode;
 use crate::targets::Target;
 use std::alloc::AllocError;
@@ -25,6 +25,29 @@ pub struct Inode {
     pub size: u64,
     /// The time of the last change, in the clients' unit.
     pub mtime: u64,
+    /// The owner.
+    pub uid: u32,
+    /// The group.
+    pub gid: u32,
+    /// The rank that an administrator pins a directory to; nothing else has one.
+    pub pin: Option<Rank>,
+}
+
+/// What a new inode gets beside its kind and mode.
+#[derive(Clone, Copy, Debug, PartialEq, Eq)]
+pub struct Birth {
+    pub mtime: u64,
+    pub uid: u32,
+    pub gid: u32,
+}
+
+impl Birth {
+    /// At time 0, with owner and group 0.
+    pub const OF_ROOT: Birth = Birth {
+        mtime: 0,
+        uid: 0,
+        gid: 0,
+    };
 }
 
 /// The attributes that an operation gives to an inode; those that aren't given stay as they are.
@@ -33,6 +56,15 @@ pub struct Attributes {
     pub mode: Option<Mode>,
     pub size: Option<u64>,
     pub mtime: Option<u64>,
+    pub uid: Option<u32>,
+    pub gid: Option<u32>,
+}
+
+/// What the inode at a dentry is given: attributes, or another pin or none.
+#[derive(Clone, Copy, Debug)]
+pub enum Alteration {
+    Attributed(Attributes),
+    Pinned(Option<Rank>),
 }
 
 impl Kind {

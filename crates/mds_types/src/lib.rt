@@ -32,7 +32,7 @@ pub use entries::Entry;
 pub use errno::{EEXIST, EINVAL, EISDIR, ENAMETOOLONG, ENOENT, ENOTDIR, ENOTEMPTY, ESTALE};
 pub use frags::Frag;
 pub use ids::{Ino, Rank};
-pub use inodes::{Attributes, Inode, Kind};
+pub use inodes::{Alteration, Attributes, Birth, Inode, Kind};
 pub use listings::Listing;
 pub use modes::Mode;
 pub use names::{Name, NameFault};

@@ -5,6 +5,7 @@ ghost use Rattle.std.specs.Prelude.{◌≡◌, ◌==◌, ◌&&◌, List, ℕ, If
 ghost use Rattle.std.proofs.Common.{rules};
 ghost use Rattle.std.proofs.lemmas.Slice.Eq.{bytes_eq-Decides, slice_eq-Decides};
 ghost use Rattle.sorted_map.proofs.Decided.{pair_decides};
+ghost use Rattle.mds_types.specs.InodeLaws.{inode_decides};
 ghost use Rattle.mds_types.specs.declared.inodes.Inode.{Inode};
 
 use crate::inodes::Inode;
@@ -60,7 +61,7 @@ impl Listing {
 impl PartialEq for Listing {
     ghost eq = { pointwise (λ (a b : List ℕ × Inode). pointwise ◌==◌ a.0 b.0 && ⟦<Inode as PartialEq>⟧.eq a.1 b.1) };
 
-    ghost laws = { partial_equiv_from_equiv (lists_equiv (decided _ (pair_decides _ _ bytes_eq-Decides (λ a b. Prim.search rules)))) };
+    ghost laws = { partial_equiv_from_equiv (lists_equiv (decided _ (pair_decides _ _ bytes_eq-Decides inode_decides))) };
 
     fn eq(&self, other: &Listing) -> bool {
         self.items == other.items
@@ -68,5 +69,5 @@ impl PartialEq for Listing {
 }
 
 impl Eq for Listing {
-    ghost laws = { lists_equiv (decided _ (pair_decides _ _ bytes_eq-Decides (λ a b. Prim.search rules))) };
+    ghost laws = { lists_equiv (decided _ (pair_decides _ _ bytes_eq-Decides inode_decides)) };
 }

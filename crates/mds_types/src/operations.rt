@@ -1,9 +1,10 @@
 //! What a client asks for.
 ghost use Rattle.std.specs.Prelude.{◌≡◌, IfOk};
+ghost use Rattle.std.specs.Option.{option_copied};
 
 use crate::dentries::Dentry;
-use crate::ids::Ino;
-use crate::inodes::Attributes;
+use crate::ids::{Ino, Rank};
+use crate::inodes::{Attributes, Birth};
 use crate::modes::Mode;
 use crate::names::Name;
 use crate::page_sizes::PageSize;
@@ -26,13 +27,13 @@ pub enum Op {
     Create {
         dentry: Dentry,
         mode: Mode,
-        mtime: u64,
+        birth: Birth,
     },
     /// A new directory.
     Mkdir {
         dentry: Dentry,
         mode: Mode,
-        mtime: u64,
+        birth: Birth,
     },
     /// What the link at a dentry points to.
     Readlink(Dentry),
@@ -40,12 +41,17 @@ pub enum Op {
     Symlink {
         dentry: Dentry,
         target: Target,
-        mtime: u64,
+        birth: Birth,
     },
     /// Gives the inode at a dentry these attributes; what is not given stays. A size can be given to a file alone.
     Setattr {
         dentry: Dentry,
         attributes: Attributes,
+    },
+    /// Pins the directory at a dentry to a rank, or takes its pin away.
+    SetPin {
+        dentry: Dentry,
+        pin: Option<Rank>,
     },
     /// Takes away an entry that is no directory.
     Unlink(Dentry),
@@ -60,23 +66,44 @@ pub enum Op {
 }
 
 impl Op {
-    ghost use Rattle.mds_types.specs.Step.{directory_of, destination_of};
+    ghost use Rattle.mds_types.specs.Shape.{main_dentry, source_of, directory_of, destination_of};
 
-    /// The number of the directory that the operation works in; of a rename, that of the source.
-    pub fn dir(&self) -> Ino
-        ensures { result.0 ≡ directory_of self.now }
+    /// The main dentry of the operation: its own, of a rename the destination; a readdir has none.
+    pub fn main_dentry(&self) -> Option<&Dentry>
+        ensures { option_copied result ≡ main_dentry self.now }
     {
         match self {
-            Op::Readdir { dir, .. } => *dir,
+            Op::Readdir { .. } => None,
             Op::Lookup(dentry)
             | Op::Create { dentry, .. }
             | Op::Mkdir { dentry, .. }
             | Op::Readlink(dentry)
             | Op::Symlink { dentry, .. }
             | Op::Setattr { dentry, .. }
+            | Op::SetPin { dentry, .. }
             | Op::Unlink(dentry)
             | Op::Rmdir(dentry)
-            | Op::Rename { from: dentry, .. } => dentry.dir,
+            | Op::Rename { to: dentry, .. } => Some(dentry),
+        }
+    }
+
+    /// The dentry that a rename takes away.
+    pub fn source(&self) -> Option<&Dentry>
+        ensures { option_copied result ≡ source_of self.now }
+    {
+        match self {
+            Op::Rename { from, .. } => Some(from),
+            _ => None,
+        }
+    }
+
+    /// The number of the directory that the operation works in; of a rename, that of the source.
+    pub fn dir(&self) -> Ino
+        ensures { result.0 ≡ directory_of self.now }
+    {
+        match self {
+            Op::Rename { from, .. } => from.dir,
+            other => other.destination(),
         }
     }
 
@@ -86,8 +113,17 @@ impl Op {
         ensures { result.0 ≡ destination_of self.now }
     {
         match self {
-            Op::Rename { to, .. } => to.dir,
-            other => other.dir(),
+            Op::Readdir { dir, .. } => *dir,
+            Op::Lookup(dentry)
+            | Op::Create { dentry, .. }
+            | Op::Mkdir { dentry, .. }
+            | Op::Readlink(dentry)
+            | Op::Symlink { dentry, .. }
+            | Op::Setattr { dentry, .. }
+            | Op::SetPin { dentry, .. }
+            | Op::Unlink(dentry)
+            | Op::Rmdir(dentry)
+            | Op::Rename { to: dentry, .. } => dentry.dir,
         }
     }
 
@@ -105,30 +141,34 @@ impl Op {
             Op::Create {
                 dentry,
                 mode,
-                mtime,
+                birth,
             } => Ok(Op::Create {
                 dentry: dentry.try_clone()?,
                 mode: *mode,
-                mtime: *mtime,
+                birth: *birth,
             }),
             Op::Mkdir {
                 dentry,
                 mode,
-                mtime,
+                birth,
             } => Ok(Op::Mkdir {
                 dentry: dentry.try_clone()?,
                 mode: *mode,
-                mtime: *mtime,
+                birth: *birth,
             }),
             Op::Readlink(dentry) => Ok(Op::Readlink(dentry.try_clone()?)),
             Op::Symlink {
                 dentry,
                 target,
-                mtime,
-            } => copy_of_symlink(dentry, target, *mtime),
+                birth,
+            } => copy_of_symlink(dentry, target, birth),
             Op::Setattr { dentry, attributes } => Ok(Op::Setattr {
                 dentry: dentry.try_clone()?,
                 attributes: *attributes,
+            }),
+            Op::SetPin { dentry, pin } => Ok(Op::SetPin {
+                dentry: dentry.try_clone()?,
+                pin: *pin,
             }),
             Op::Unlink(dentry) => Ok(Op::Unlink(dentry.try_clone()?)),
             Op::Rmdir(dentry) => Ok(Op::Rmdir(dentry.try_clone()?)),
@@ -138,15 +178,15 @@ impl Op {
 }
 
 // A copy of a symbolic link's making.
-fn copy_of_symlink(dentry: &Dentry, target: &Target, mtime: u64) -> Result<Op, AllocError>
-    ensures { IfOk result (λ copy. copy ≡ Op.Symlink dentry.now target.now mtime) }
+fn copy_of_symlink(dentry: &Dentry, target: &Target, birth: &Birth) -> Result<Op, AllocError>
+    ensures { IfOk result (λ copy. copy ≡ Op.Symlink dentry.now target.now birth.now) }
 {
     let dentry = dentry.try_clone()?;
     match target.try_clone() {
         Ok(target) => Ok(Op::Symlink {
             dentry,
             target,
-            mtime,
+            birth: *birth,
         }),
         Err(refused) => {
             drop(dentry);

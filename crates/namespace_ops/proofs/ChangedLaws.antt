@@ -8,8 +8,8 @@ use Rattle.mds_types.specs.declared.dentries.Dentry.{Dentry}
 use Rattle.mds_types.specs.declared.dirfrags.Dirfrag.{Dirfrag}
 use Rattle.mds_types.specs.declared.inodes.Inode.{Inode}
 use Rattle.mds_types.specs.declared.operations.Op.{Op}
-use Rattle.mds_types.specs.declared.operations.Op.TheVariants.{Lookup, Readdir, Create, Mkdir, Readlink, Symlink, Setattr, Unlink, Rmdir, Rename}
 use Rattle.mds_types.specs.Frag.{Fragment}
+use Rattle.mds_types.specs.Shape.{Shape, Looks, Lists, Makes, Sets, Unlinks, Removes, Moves, shape}
 use Rattle.mds_types.specs.Tree.{Tree, dentry_cmp, is_dir_kind, has_entries}
 use Rattle.mds_types.specs.Step.{step, replace_errno}
 use Rattle.mds_types.specs.Outcomes.{is_errno}
@@ -19,8 +19,8 @@ use Rattle.inode_table.specs.Dirs.{Covers, leaves_of}
 use Rattle.namespace_ops.specs.declared.plans.Spot.{Spot}
 use Rattle.namespace_ops.specs.declared.plans.Change.{Change}
 use Rattle.mds_types.specs.Leaf.{Leaf, leaf_of}
-use Rattle.namespace_ops.specs.Changes.{Carries, IsChangeOf, IsLeafAt, IsMoveTo, IsRemovalAt, IsSpot, IsUnlinkAt, PutsAt, Takes, TakesAt, TakesBy, dentry_at, directory_at, directory_gone, fragments_of, in_directory, is_idle, leaf_put, leaf_taken, leaves, leaves_gone, named_once, other_put, reply_by, same_leaf, stays, unless_same}
-use Rattle.namespace_ops.specs.ChangedFragments.{AreApart, IsCovered, NamesOnce, changed_fragments, fragment_of, leaves_at, touched}
+use Rattle.namespace_ops.specs.Changes.{Carries, IsChangeIn, IsLeafAt, IsMoveTo, IsRemovalAt, IsSpot, IsUnlinkAt, PutsAt, Takes, TakesAt, TakesBy, dentry_at, directory_at, directory_gone, fragments_of, in_directory, is_idle, leaf_put, leaf_taken, leaves, leaves_gone, named_once, other_put, reply_by, same_leaf, stays, stays_in, unless_same}
+use Rattle.namespace_ops.specs.ChangedFragments.{AreApart, IsCovered, NamesOnce, changed_fragments, fragment_of, leaves_at, touched, touched_in}
 use Rattle.mds_types.specs.declared.refusals.Refusal.{Refusal}
 use Rattle.namespace_ops.specs.declared.plans.Checked.{Checked}
 use Rattle.namespace_ops.specs.declared.plans.Checked.TheVariants.{Changes}
@@ -79,18 +79,15 @@ module _ (tree : Tree) (covers : Covers) where
       let rest = gone_leaves covers (map.get tree there) change.gone (carries.gone ∙ gone_put here there (λ (inode : Inode). Unit {0}) change.takes change.puts is.takes is.puts) in
       λ i. taken_leaf here change.takes is.takes carries.taken i ++ (put_leaf there (λ (inode : Inode). Unit {0}) change.puts is.puts carries.put i ++ rest i)
 
-  -- the fragments of a change are those that its operation touches
-  touched_by : (op : Op) (change : Change) → IsChangeOf op change → Carries tree covers change → stays op ≡ false → fragments_of covers change ≡ touched covers tree op
-  touched_by (Lookup dentry) change one_of carries moves = absurd one_of
-  touched_by (Readdir dir after max) change one_of carries moves = absurd one_of
-  touched_by (Readlink dentry) change one_of carries moves = absurd one_of
-  touched_by (Create dentry mode mtime) change one_of carries moves = of_put dentry _ change one_of.takes one_of.puts one_of.gone carries
-  touched_by (Mkdir dentry mode mtime) change one_of carries moves = of_put dentry _ change one_of.takes one_of.puts one_of.gone carries
-  touched_by (Symlink dentry target mtime) change one_of carries moves = of_put dentry _ change one_of.takes one_of.puts one_of.gone carries
-  touched_by (Setattr dentry given) change one_of carries moves = of_put dentry _ change one_of.takes one_of.puts one_of.gone carries
-  touched_by (Unlink dentry) change one_of carries moves = of_unlink dentry change one_of carries
-  touched_by (Rmdir dentry) change one_of carries moves = of_removal dentry change one_of carries
-  touched_by (Rename from to) change one_of carries moves =
+  -- the fragments of a change are those that are touched where it is one of this shape
+  touched_by : (s : Shape) (change : Change) → IsChangeIn s change → Carries tree covers change → stays_in s ≡ false → fragments_of covers change ≡ touched_in covers tree s
+  touched_by (Looks dentry answer) change one_of carries moves = absurd one_of
+  touched_by (Lists dir after max) change one_of carries moves = absurd one_of
+  touched_by (Makes dentry kind mode birth) change one_of carries moves = of_put dentry _ change one_of.takes one_of.puts one_of.gone carries
+  touched_by (Sets dentry alteration) change one_of carries moves = of_put dentry _ change one_of.takes one_of.puts one_of.gone carries
+  touched_by (Unlinks dentry) change one_of carries moves = of_unlink dentry change one_of carries
+  touched_by (Removes dentry) change one_of carries moves = of_removal dentry change one_of carries
+  touched_by (Moves from to) change one_of carries moves =
       of_move from to change one_of carries
       ∙ sym (ap (λ b. cond b [] (fragment_of covers from ∷ fragment_of covers to ∷ leaves_at covers (map.get tree to))) moves)
 
@@ -103,35 +100,28 @@ module _ (tree : Tree) (covers : Covers) where
       go (Some spot) (Some put) true at_here at_there may = absurd may
       go (Some spot) (Some put) false at_here at_there may = (λ i. eq_by_cmp dentry_cmp (sym at_here i) (sym at_there.0 i)) ∙ may.apart
 
-  -- an operation that makes a change doesn't stay
-  moves_by : (op : Op) (change : Change) → IsChangeOf op change → ((change.comes ≡ false) → Takes tree change) → stays op ≡ false
-  moves_by (Lookup dentry) change one_of takes = absurd one_of
-  moves_by (Readdir dir after max) change one_of takes = absurd one_of
-  moves_by (Readlink dentry) change one_of takes = absurd one_of
-  moves_by (Create dentry mode mtime) change one_of takes = refl
-  moves_by (Mkdir dentry mode mtime) change one_of takes = refl
-  moves_by (Symlink dentry target mtime) change one_of takes = refl
-  moves_by (Setattr dentry given) change one_of takes = refl
-  moves_by (Unlink dentry) change one_of takes = refl
-  moves_by (Rmdir dentry) change one_of takes = refl
-  moves_by (Rename from to) change one_of takes =
-      move_apart from to change one_of (takes one_of.comes)
+  -- what makes a change doesn't stay
+  moves_by : (s : Shape) (change : Change) → IsChangeIn s change → ((change.comes ≡ false) → Takes tree change) → stays_in s ≡ false
+  moves_by (Looks dentry answer) change one_of takes = absurd one_of
+  moves_by (Lists dir after max) change one_of takes = absurd one_of
+  moves_by (Makes dentry kind mode birth) change one_of takes = refl
+  moves_by (Sets dentry alteration) change one_of takes = refl
+  moves_by (Unlinks dentry) change one_of takes = refl
+  moves_by (Removes dentry) change one_of takes = refl
+  moves_by (Moves from to) change one_of takes = move_apart from to change one_of (takes one_of.comes)
 
 not_new : (change : Change) → change.comes ≡ false → change.comes ≡ true → change.takes ≡ None
 not_new change old new = let clash : true ≡ false = sym new ∙ old in absurd cc
 
 -- where an inode comes no name loses one
-comes_alone : (op : Op) (change : Change) → IsChangeOf op change → change.comes ≡ true → change.takes ≡ None
-comes_alone (Lookup dentry) change one_of = absurd one_of
-comes_alone (Readdir dir after max) change one_of = absurd one_of
-comes_alone (Readlink dentry) change one_of = absurd one_of
-comes_alone (Create dentry mode mtime) change one_of = λ new. one_of.takes
-comes_alone (Mkdir dentry mode mtime) change one_of = λ new. one_of.takes
-comes_alone (Symlink dentry target mtime) change one_of = λ new. one_of.takes
-comes_alone (Setattr dentry given) change one_of = λ new. one_of.takes
-comes_alone (Unlink dentry) change one_of = not_new change one_of.removal.comes
-comes_alone (Rmdir dentry) change one_of = not_new change one_of.comes
-comes_alone (Rename from to) change one_of = not_new change one_of.comes
+comes_alone : (s : Shape) (change : Change) → IsChangeIn s change → change.comes ≡ true → change.takes ≡ None
+comes_alone (Looks dentry answer) change one_of = absurd one_of
+comes_alone (Lists dir after max) change one_of = absurd one_of
+comes_alone (Makes dentry kind mode birth) change one_of = λ new. one_of.takes
+comes_alone (Sets dentry alteration) change one_of = λ new. one_of.takes
+comes_alone (Unlinks dentry) change one_of = not_new change one_of.removal.comes
+comes_alone (Removes dentry) change one_of = not_new change one_of.comes
+comes_alone (Moves from to) change one_of = not_new change one_of.comes
 
 no_errno : (takes : Option Spot) (puts : Option (Spot × Inode)) → is_errno (reply_by takes puts) ≡ false
 no_errno None None = refl
@@ -143,14 +133,14 @@ module _ (tree : Tree) (covers : Covers) (Holds : Dirfrag → Type 0) (op : Op) 
   takes_old old = checked.takes (λ taken. let clash : true ≡ false = sym taken ∙ checked.number ∙ old in absurd cc)
 
   pub moves : stays op ≡ false
-  moves = moves_by tree covers op change checked.one_of takes_old
+  moves = moves_by tree covers (shape op) change checked.one_of takes_old
 
   pub busy : is_idle op (step tree op n).reply ≡ false
   busy = ap (λ r. is_errno r || stays op) checked.replied ∙ ap (λ b. b || stays op) (no_errno change.takes change.puts) ∙ moves
 
   pub fragments_are : fragments_of covers change ≡ changed_fragments covers tree op
   fragments_are =
-      touched_by tree covers op change checked.one_of checked.carries moves
+      touched_by tree covers (shape op) change checked.one_of checked.carries moves
       ∙ sym (ap (λ b. cond b [] (touched covers tree op)) (errno_of_any_number tree op 0 n ∙ ap is_errno checked.replied ∙ no_errno change.takes change.puts))
 
 -- the errno of a replacement, by three tests
@@ -260,7 +250,7 @@ named_by tree covers Holds change found (Err reason) items is listed covered = t
 named_by tree covers Holds change found (Ok list) items is listed covered = λ op n checks.
     let checked : IsChecked tree covers Holds op n (step tree op n) change = subst (Checks tree covers Holds op n (step tree op n)) is checks in
     subst (λ k. NamesOnce k (items list)) (fragments_are tree covers Holds op n change checked)
-    (subst (NamesOnce (fragments_of covers change)) (sym listed) (named_apart tree covers change checked.carries (comes_alone op change checked.one_of) (takes_old tree covers Holds op n change checked) covered))
+    (subst (NamesOnce (fragments_of covers change)) (sym listed) (named_apart tree covers change checked.carries (comes_alone (shape op) change checked.one_of) (takes_old tree covers Holds op n change checked) covered))
 
 -- so does one that was made after the checks
 pub named_from : {V : Type 0} (tree mid : Tree) (covers later : Covers) (Holds Held : Dirfrag → Type 0) (op : Op) (n : ℕ) (found : Checked) (result : Result V Refusal) (items : V → List Leaf) → mid ≡ tree → later ≡ covers → ((at : Dirfrag) → Holds at → Held at)

@@ -5,7 +5,8 @@ use Rattle.std.specs.FinMap as map
 use Rattle.mds_types.specs.declared.ids.Ino.{Ino}
 use Rattle.mds_types.specs.declared.dentries.Dentry.{Dentry}
 use Rattle.mds_types.specs.declared.dirfrags.Dirfrag.{Dirfrag}
-use Rattle.mds_types.specs.declared.inodes.Attributes.{Attributes}
+use Rattle.mds_types.specs.declared.inodes.Alteration.{Alteration}
+use Rattle.mds_types.specs.declared.inodes.Birth.{Birth}
 use Rattle.mds_types.specs.declared.inodes.Inode.{Inode}
 use Rattle.mds_types.specs.declared.inodes.Kind.{Kind}
 use Rattle.mds_types.specs.declared.inodes.Kind.TheVariants.{File, Dir, Symlink as Link}
@@ -13,8 +14,10 @@ use Rattle.mds_types.specs.declared.operations.Op.{Op}
 use Rattle.mds_types.specs.declared.operations.Op.TheVariants.{Rename}
 use Rattle.mds_types.specs.declared.refusals.Refusal.{Refusal}
 use Rattle.mds_types.specs.declared.replies.Reply.TheVariants.{Done, Entry, Errno}
-use Rattle.mds_types.specs.Tree.{Tree, dentry_cmp, is_directory, is_dir_kind, has_entries}
-use Rattle.mds_types.specs.Step.{IsMove, Outcome, answers, attributes_set, destination_of, dir_removed, directory_of, removal_errno, leads_to, made, new_inode, renamed, replace_errno, size_errno, step, unless, unlinked, with_attributes, with_moved, within}
+use Rattle.mds_types.specs.Shape.{destination_of, directory_of, shape, source_of}
+use Rattle.mds_types.specs.Tree.{HasPinOf, HasSize, Tree, dentry_cmp, is_directory, is_dir_kind, has_entries}
+use Rattle.mds_types.specs.Step.{IsMove, Outcome, altered, altered_at, alteration_errno, answers, dir_removed, done_in, removal_errno, leads_to, made, new_inode, renamed, replace_errno, step, unless, unlinked, with_moved}
+use Rattle.mds_types.proofs.AlterationLaws.{altered_kind, altered_number, altered_pin, altered_size}
 use Rattle.mds_types.proofs.DirectoryLaws.{entry_stands}
 use Rattle.mds_types.proofs.WellFormedLaws.{new_sized, may_go}
 use Rattle.namehash.specs.Rjenkins.{hash_of}
@@ -26,7 +29,7 @@ use Rattle.namespace_ops.specs.declared.plans.Checked.{Checked}
 use Rattle.namespace_ops.specs.declared.plans.Checked.TheVariants.{Answers, Changes}
 use Rattle.namespace_ops.specs.Changes.{Concerns, IsChangeOf, IsLeafAt, IsSpot, Reads, adds, dentry_at, directory_at, moves, removes, sets}
 use Rattle.namespace_ops.specs.Checked.{Checks, IsChecked}
-use Rattle.namespace_ops.specs.Places.{AreLocated, IsAt, LiesAt, Locates, LocatesAt, main_hash, source_of}
+use Rattle.namespace_ops.specs.Places.{AreLocated, IsAt, LiesAt, Locates, LocatesAt, main_hash}
 
 -- what the test of a kind told
 pub no_dir : (kind : Kind) (told : Bool) → (kind ≡ Dir → told ≡ true) → told ≡ false → is_dir_kind kind ≡ false
@@ -54,9 +57,9 @@ module _ (tree : Tree) (covers : Covers) (Holds : Dirfrag → Type 0) where
       (same, subst (λ (d : Dentry). IsLeafAt covers d spot.at.frag) (sym same) (subst (λ (s : Spot). IsLeafAt covers dentry s.at.frag) (sym is) lies.leaf), subst (λ (s : Spot). Holds s.at) (sym is) lies.held)
 
 module _ (tree : Tree) (covers : Covers) (Holds : Dirfrag → Type 0) (op : Op) (n : ℕ) where
-  pub made_checked : (dentry : Dentry) (at : Dirfrag) (spot : Spot) (kind : Kind) (mode mtime : ℕ) (inode : Inode) → LiesAt tree covers Holds dentry at → spot ≡ record { at = at; name = dentry.name } → inode ≡ new_inode n kind mode mtime → map.get tree dentry ≡ None
-      → ((s : Spot) (i : Inode) → dentry_at s ≡ dentry → i.kind ≡ kind → IsChangeOf op (adds s i)) → IsChecked tree covers Holds op n (made tree dentry (new_inode n kind mode mtime) (map.get tree dentry)) (adds spot inode)
-  made_checked dentry at spot kind mode mtime inode lies same is free makes =
+  pub made_checked : (dentry : Dentry) (at : Dirfrag) (spot : Spot) (kind : Kind) (mode : ℕ) (birth : Birth) (inode : Inode) → LiesAt tree covers Holds dentry at → spot ≡ record { at = at; name = dentry.name } → inode ≡ new_inode n kind mode birth → map.get tree dentry ≡ None
+      → ((s : Spot) (i : Inode) → dentry_at s ≡ dentry → i.kind ≡ kind → IsChangeOf op (adds s i)) → IsChecked tree covers Holds op n (made tree dentry (new_inode n kind mode birth) (map.get tree dentry)) (adds spot inode)
+  made_checked dentry at spot kind mode birth inode lies same is free makes =
       let there = spot_of tree covers Holds dentry at lies spot same in
       subst (λ (i : Inode). IsChecked tree covers Holds op n (made tree dentry new (map.get tree dentry)) (adds spot i)) (sym is)
       (subst (λ o. IsChecked tree covers Holds op n (made tree dentry new o) (adds spot new)) (sym free) (record {
@@ -67,18 +70,18 @@ module _ (tree : Tree) (covers : Covers) (Holds : Dirfrag → Type 0) (op : Op) 
         numbered = λ new. refl;
         carries = record { taken = tt; put = there.1; gone = refl };
         held = record { taken = tt; put = there.2 };
-        takes = λ unused. subst (λ (d : Dentry). MayAdd tree d new) (sym there.0) (record { free = free; parent = lies.stands; unused = unused refl; sized = new_sized kind });
+        takes = λ unused. subst (λ (d : Dentry). MayAdd tree d new) (sym there.0) (record { free = free; parent = lies.stands; unused = unused refl; sized = new_sized kind; pinned = tt });
       }))
     where
       new : Inode
-      new = new_inode n kind mode mtime
+      new = new_inode n kind mode birth
 
-  pub set_checked : (dentry : Dentry) (at : Dirfrag) (spot : Spot) (given : Attributes) (before inode : Inode) → LiesAt tree covers Holds dentry at → spot ≡ record { at = at; name = dentry.name } → inode ≡ with_attributes given before → map.get tree dentry ≡ Some before → size_errno before.kind given.size ≡ None
-      → ((s : Spot) (i : Inode) → dentry_at s ≡ dentry → IsChangeOf op (sets s i)) → IsChecked tree covers Holds op n (attributes_set tree dentry given (map.get tree dentry)) (sets spot inode)
-  set_checked dentry at spot given before inode lies same is stands allowed may_set =
+  pub set_checked : (dentry : Dentry) (at : Dirfrag) (spot : Spot) (alteration : Alteration) (before inode : Inode) → LiesAt tree covers Holds dentry at → spot ≡ record { at = at; name = dentry.name } → inode ≡ altered alteration before → map.get tree dentry ≡ Some before → alteration_errno before.kind alteration ≡ None
+      → ((s : Spot) (i : Inode) → dentry_at s ≡ dentry → IsChangeOf op (sets s i)) → IsChecked tree covers Holds op n (altered_at tree dentry alteration (map.get tree dentry)) (sets spot inode)
+  set_checked dentry at spot alteration before inode lies same is stands allowed may_set =
       let there = spot_of tree covers Holds dentry at lies spot same in
-      subst (λ (i : Inode). IsChecked tree covers Holds op n (attributes_set tree dentry given (map.get tree dentry)) (sets spot i)) (sym is)
-      (subst (λ o. IsChecked tree covers Holds op n (attributes_set tree dentry given o) (sets spot later)) (sym stands)
+      subst (λ (i : Inode). IsChecked tree covers Holds op n (altered_at tree dentry alteration (map.get tree dentry)) (sets spot i)) (sym is)
+      (subst (λ o. IsChecked tree covers Holds op n (altered_at tree dentry alteration o) (sets spot later)) (sym stands)
       (subst (λ e. IsChecked tree covers Holds op n (unless tree e (answers (map.insert tree dentry later) (Entry later))) (sets spot later)) (sym allowed) (record {
         one_of = may_set spot later there.0;
         replied = refl;
@@ -87,11 +90,24 @@ module _ (tree : Tree) (covers : Covers) (Holds : Dirfrag → Type 0) (op : Op) 
         numbered = λ new. let clash : true ≡ false = sym new in absurd cc;
         carries = record { taken = tt; put = there.1; gone = refl };
         held = record { taken = tt; put = there.2 };
-        takes = λ unused. subst (λ (d : Dentry). MaySet tree d later) (sym there.0) (record { before = before; given = given; stands = stands; allowed = allowed; is = refl });
+        takes = λ unused. subst (λ (d : Dentry). MaySet tree d later) (sym there.0) may;
       })))
     where
       later : Inode
-      later = with_attributes given before
+      later = altered alteration before
+
+      kind : later.kind ≡ before.kind
+      kind = altered_kind alteration before
+
+      may : MaySet tree dentry later
+      may = record {
+        before = before;
+        stands = stands;
+        number = altered_number alteration before;
+        kind = kind;
+        sized = λ sized. subst (λ k. HasSize k later.size) (sym kind) (altered_size alteration before allowed sized);
+        pinned = λ pinned. subst (λ k. HasPinOf k later.pin) (sym kind) (altered_pin alteration before allowed pinned);
+      }
 
   removed : (dentry : Dentry) (at : Dirfrag) (spot : Spot) (inode : Inode) (gone : Option Ino) (outcome : Outcome) → LiesAt tree covers Holds dentry at → spot ≡ record { at = at; name = dentry.name } → map.get tree dentry ≡ Some inode → (is_dir_kind inode.kind && has_entries tree inode.ino.0) ≡ false
       → gone ≡ directory_at (Some inode) → ((s : Spot) → dentry_at s ≡ dentry → IsChangeOf op (removes s gone)) → outcome ≡ answers (map.remove tree dentry) Done → IsChecked tree covers Holds op n outcome (removes spot gone)
@@ -181,16 +197,16 @@ reads_inside tree op is dentry inode same concerns stands kind = (subst (λ (o :
 
 module _ (tree : Tree) (covers : Covers) (Holds : Dirfrag → Type 0) (op is : Op) (same : op ≡ is) where
   -- what was found of an operation whose directories stand, by which it is
-  pub step_from : (n : ℕ) (result : Result Checked Refusal) → is_directory tree (directory_of is) ≡ true → is_directory tree (destination_of is) ≡ true → IfOk result (Checks tree covers Holds op n (within tree is n)) → IfOk result (Checks tree covers Holds op n (step tree op n))
+  pub step_from : (n : ℕ) (result : Result Checked Refusal) → is_directory tree (directory_of is) ≡ true → is_directory tree (destination_of is) ≡ true → IfOk result (Checks tree covers Holds op n (done_in tree (shape is) n)) → IfOk result (Checks tree covers Holds op n (step tree op n))
   step_from n result here there found =
       subst (λ (o : Op). IfOk result (Checks tree covers Holds op n (step tree o n))) (sym same)
-      (subst (λ b. IfOk result (Checks tree covers Holds op n (cond b (within tree is n) (answers tree (Errno 116))))) (sym ((λ i. here i && there i))) found)
+      (subst (λ b. IfOk result (Checks tree covers Holds op n (cond b (done_in tree (shape is) n) (answers tree (Errno 116))))) (sym ((λ i. here i && there i))) found)
 
   -- where its main name lies
   pub main_at : (places : Places) (at : Dirfrag) → AreLocated tree covers Holds op places → places.main ≡ Some at → IsAt tree covers Holds (destination_of is) (main_hash is) at
   main_at places at located stands = subst (λ (o : Op). IsAt tree covers Holds (destination_of o) (main_hash o) at) same (subst (Locates tree covers Holds (destination_of op) (main_hash op)) stands located.main)
 
-  pub step_at : (n : ℕ) (result : Result Checked Refusal) (places : Places) (at : Dirfrag) → AreLocated tree covers Holds op places → places.main ≡ Some at → directory_of is ≡ destination_of is → IfOk result (Checks tree covers Holds op n (within tree is n)) → IfOk result (Checks tree covers Holds op n (step tree op n))
+  pub step_at : (n : ℕ) (result : Result Checked Refusal) (places : Places) (at : Dirfrag) → AreLocated tree covers Holds op places → places.main ≡ Some at → directory_of is ≡ destination_of is → IfOk result (Checks tree covers Holds op n (done_in tree (shape is) n)) → IfOk result (Checks tree covers Holds op n (step tree op n))
   step_at n result places at located stands one found = let there = main_at places at located stands in step_from n result (ap (is_directory tree) one ∙ there.stands) there.stands found
 
 -- where the source of a rename lies

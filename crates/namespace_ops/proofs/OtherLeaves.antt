@@ -69,8 +69,8 @@ module _ (tree : Tree) (covers : Covers) (whole : IsWellFormed tree) (leaf : Lea
       go w (inl same) =
           let both : Some may.takes.before ≡ Some w.inode = sym may.takes.stands ∙ ap (map.get tree) (sym same) ∙ w.stands in
           let alike : may.takes.before ≡ w.inode = cc in
-          ap (is_directory (map.insert tree (dentry_at spot) inode)) (sym w.numbered ∙ ap (λ (i : Inode). i.ino.0) (sym alike) ∙ ap (λ (i : Inode). i.ino.0) (sym may.takes.is))
-          ∙ entry_stands (map.insert tree (dentry_at spot) inode) (dentry_at spot) inode (get_put tree (dentry_at spot) inode) (ap (λ (i : Inode). is_dir_kind i.kind) may.takes.is ∙ ap (λ (i : Inode). is_dir_kind i.kind) alike ∙ w.kinded)
+          ap (is_directory (map.insert tree (dentry_at spot) inode)) (sym w.numbered ∙ ap (λ (i : Inode). i.ino.0) (sym alike) ∙ ap (λ (i : _). i.0) (sym may.takes.number))
+          ∙ entry_stands (map.insert tree (dentry_at spot) inode) (dentry_at spot) inode (get_put tree (dentry_at spot) inode) (ap is_dir_kind may.takes.kind ∙ ap (λ (i : Inode). is_dir_kind i.kind) alike ∙ w.kinded)
   directory_after _ (remove spot went) may elsewhere =
       still (map.remove tree (dentry_at spot)) (λ w. stands_as (map.remove tree (dentry_at spot)) w (get_left tree (dentry_at spot) w.dentry
       (λ same. not_gone went (map.get tree (dentry_at spot)) may.carries.gone (λ gone_one. elsewhere (later _ _ _ gone_one)) w.inode (ap (map.get tree) (sym same) ∙ w.stands) w.kinded w.numbered)))

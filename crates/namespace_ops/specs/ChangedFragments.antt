@@ -6,8 +6,8 @@ use Rattle.std.specs.FinMap as map
 use Rattle.mds_types.specs.declared.dentries.Dentry.{Dentry}
 use Rattle.mds_types.specs.declared.inodes.Inode.{Inode}
 use Rattle.mds_types.specs.declared.operations.Op.{Op}
-use Rattle.mds_types.specs.declared.operations.Op.TheVariants.{Lookup, Readdir, Create, Mkdir, Readlink, Symlink, Setattr, Unlink, Rmdir, Rename}
 use Rattle.mds_types.specs.declared.replies.Reply.{Reply}
+use Rattle.mds_types.specs.Shape.{Shape, Looks, Lists, Makes, Sets, Unlinks, Removes, Moves, shape}
 use Rattle.mds_types.specs.Tree.{Tree, dentry_cmp, is_dir_kind}
 use Rattle.mds_types.specs.Step.{step}
 use Rattle.mds_types.specs.Outcomes.{is_errno}
@@ -33,18 +33,18 @@ abbrev pub moved_fragments : Covers → Tree → Dentry → Dentry → List Leaf
 moved_fragments covers tree from to =
     cond (eq_by_cmp dentry_cmp from to) [] (fragment_of covers from ∷ fragment_of covers to ∷ leaves_at covers (map.get tree to))
 
--- the fragments that an operation changes where it succeeds: those of its dentries, and all of a directory that goes
+-- the fragments that are changed where it succeeds: those of its dentries, and all of a directory that goes
+abbrev pub touched_in : Covers → Tree → Shape → List Leaf
+touched_in covers tree (Looks dentry answer) = []
+touched_in covers tree (Lists dir after max) = []
+touched_in covers tree (Makes dentry kind mode birth) = fragment_of covers dentry ∷ []
+touched_in covers tree (Sets dentry alteration) = fragment_of covers dentry ∷ []
+touched_in covers tree (Unlinks dentry) = fragment_of covers dentry ∷ []
+touched_in covers tree (Removes dentry) = fragment_of covers dentry ∷ leaves_at covers (map.get tree dentry)
+touched_in covers tree (Moves from to) = moved_fragments covers tree from to
+
 abbrev pub touched : Covers → Tree → Op → List Leaf
-touched covers tree (Lookup dentry) = []
-touched covers tree (Readdir dir after max) = []
-touched covers tree (Readlink dentry) = []
-touched covers tree (Create dentry mode mtime) = fragment_of covers dentry ∷ []
-touched covers tree (Mkdir dentry mode mtime) = fragment_of covers dentry ∷ []
-touched covers tree (Symlink dentry target mtime) = fragment_of covers dentry ∷ []
-touched covers tree (Setattr dentry given) = fragment_of covers dentry ∷ []
-touched covers tree (Unlink dentry) = fragment_of covers dentry ∷ []
-touched covers tree (Rmdir dentry) = fragment_of covers dentry ∷ leaves_at covers (map.get tree dentry)
-touched covers tree (Rename from to) = moved_fragments covers tree from to
+touched covers tree op = touched_in covers tree (shape op)
 
 -- an errno changes none
 abbrev pub unless_errno : Reply → List Leaf → List Leaf

@@ -7,12 +7,11 @@ use Rattle.mds_types.specs.declared.dentries.Dentry.{Dentry}
 use Rattle.mds_types.specs.declared.dirfrags.Dirfrag.{Dirfrag}
 use Rattle.mds_types.specs.declared.inodes.Inode.{Inode}
 use Rattle.mds_types.specs.declared.inodes.Kind.{Kind}
-use Rattle.mds_types.specs.declared.inodes.Kind.TheVariants.{File, Dir, Symlink as Link}
 use Rattle.mds_types.specs.declared.operations.Op.{Op}
-use Rattle.mds_types.specs.declared.operations.Op.TheVariants.{Lookup, Readdir, Create, Mkdir, Readlink, Symlink, Setattr, Unlink, Rmdir, Rename}
 use Rattle.mds_types.specs.declared.replies.Reply.{Reply}
 use Rattle.mds_types.specs.declared.replies.Reply.TheVariants.{Entry, Done}
 use Rattle.mds_types.specs.Frag.{Fragment}
+use Rattle.mds_types.specs.Shape.{Shape, Looks, Lists, Makes, Sets, Unlinks, Removes, Moves, shape}
 use Rattle.mds_types.specs.Tree.{Tree, dentry_cmp, is_dir_kind, is_directory, IsUnused}
 use Rattle.mds_types.specs.Step.{IsMove}
 use Rattle.mds_types.specs.Outcomes.{is_errno}
@@ -85,48 +84,48 @@ pub record IsMoveTo (here there : Dentry) (change : Change) : Type 0 where
   pub puts : PutsAt there (λ (inode : Inode). Unit {0}) change.puts
   pub comes : change.comes ≡ false
 
--- the operation makes this change, where it makes one
-abbrev pub IsChangeOf : Op → Change → Type 0
-IsChangeOf (Lookup dentry) change = ⊥
-IsChangeOf (Readdir dir after max) change = ⊥
-IsChangeOf (Readlink dentry) change = ⊥
-IsChangeOf (Create dentry mode mtime) change = IsAddAt dentry File change
-IsChangeOf (Mkdir dentry mode mtime) change = IsAddAt dentry Dir change
-IsChangeOf (Symlink dentry target mtime) change = IsAddAt dentry (Link target) change
-IsChangeOf (Setattr dentry given) change = IsSetAt dentry change
-IsChangeOf (Unlink dentry) change = IsUnlinkAt dentry change
-IsChangeOf (Rmdir dentry) change = IsRemovalAt dentry change
-IsChangeOf (Rename from to) change = IsMoveTo from to change
+-- what is done makes this change, where it makes one
+abbrev pub IsChangeIn : Shape → Change → Type 0
+IsChangeIn (Looks dentry answer) change = ⊥
+IsChangeIn (Lists dir after max) change = ⊥
+IsChangeIn (Makes dentry kind mode birth) change = IsAddAt dentry kind change
+IsChangeIn (Sets dentry alteration) change = IsSetAt dentry change
+IsChangeIn (Unlinks dentry) change = IsUnlinkAt dentry change
+IsChangeIn (Removes dentry) change = IsRemovalAt dentry change
+IsChangeIn (Moves from to) change = IsMoveTo from to change
 
--- an operation changes nothing whatever it answers: it reads, or renames onto itself
+abbrev pub IsChangeOf : Op → Change → Type 0
+IsChangeOf op change = IsChangeIn (shape op) change
+
+-- it changes nothing whatever it answers: it reads, or moves to where it is
+abbrev pub stays_in : Shape → Bool
+stays_in (Looks dentry answer) = true
+stays_in (Lists dir after max) = true
+stays_in (Makes dentry kind mode birth) = false
+stays_in (Sets dentry alteration) = false
+stays_in (Unlinks dentry) = false
+stays_in (Removes dentry) = false
+stays_in (Moves from to) = eq_by_cmp dentry_cmp from to
+
 abbrev pub stays : Op → Bool
-stays (Lookup dentry) = true
-stays (Readdir dir after max) = true
-stays (Readlink dentry) = true
-stays (Create dentry mode mtime) = false
-stays (Mkdir dentry mode mtime) = false
-stays (Symlink dentry target mtime) = false
-stays (Setattr dentry given) = false
-stays (Unlink dentry) = false
-stays (Rmdir dentry) = false
-stays (Rename from to) = eq_by_cmp dentry_cmp from to
+stays op = stays_in (shape op)
 
 -- an operation changes nothing with this reply: an errno, a read, a rename onto itself
 abbrev pub is_idle : Op → Reply → Bool
 is_idle op reply = is_errno reply || stays op
 
--- an operation concerns the directory d: one that it names, or one that stands at the name of what it takes away or replaces
+-- it concerns the directory d: one that it names, or one that stands at the name of what it takes away or replaces
+abbrev pub ConcernsIn : Tree → Shape → ℕ → Type 0
+ConcernsIn tree (Looks dentry answer) d = d ≡ dentry.dir.0
+ConcernsIn tree (Lists dir after max) d = d ≡ dir
+ConcernsIn tree (Makes dentry kind mode birth) d = d ≡ dentry.dir.0
+ConcernsIn tree (Sets dentry alteration) d = d ≡ dentry.dir.0
+ConcernsIn tree (Unlinks dentry) d = d ≡ dentry.dir.0
+ConcernsIn tree (Removes dentry) d = (d ≡ dentry.dir.0) ⊎ ((inode : Inode) × (map.get tree dentry ≡ Some inode) × (d ≡ inode.ino.0))
+ConcernsIn tree (Moves from to) d = (d ≡ from.dir.0) ⊎ (d ≡ to.dir.0) ⊎ ((inode : Inode) × (map.get tree to ≡ Some inode) × (d ≡ inode.ino.0))
+
 abbrev pub Concerns : Tree → Op → ℕ → Type 0
-Concerns tree (Lookup dentry) d = d ≡ dentry.dir.0
-Concerns tree (Readdir dir after max) d = d ≡ dir.0
-Concerns tree (Readlink dentry) d = d ≡ dentry.dir.0
-Concerns tree (Create dentry mode mtime) d = d ≡ dentry.dir.0
-Concerns tree (Mkdir dentry mode mtime) d = d ≡ dentry.dir.0
-Concerns tree (Symlink dentry target mtime) d = d ≡ dentry.dir.0
-Concerns tree (Setattr dentry given) d = d ≡ dentry.dir.0
-Concerns tree (Unlink dentry) d = d ≡ dentry.dir.0
-Concerns tree (Rmdir dentry) d = (d ≡ dentry.dir.0) ⊎ ((inode : Inode) × (map.get tree dentry ≡ Some inode) × (d ≡ inode.ino.0))
-Concerns tree (Rename from to) d = (d ≡ from.dir.0) ⊎ (d ≡ to.dir.0) ⊎ ((inode : Inode) × (map.get tree to ≡ Some inode) × (d ≡ inode.ino.0))
+Concerns tree op d = ConcernsIn tree (shape op) d
 
 -- an operation reads the directory d: a directory that it concerns
 abbrev pub Reads : Tree → Op → ℕ → Type 0

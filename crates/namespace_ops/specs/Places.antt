@@ -3,9 +3,8 @@ use Rattle.std.specs.Prelude.{◌≡◌, ℕ, false, true, MatchOption, Option, 
 use Rattle.mds_types.specs.declared.dentries.Dentry.{Dentry}
 use Rattle.mds_types.specs.declared.dirfrags.Dirfrag.{Dirfrag}
 use Rattle.mds_types.specs.declared.operations.Op.{Op}
-use Rattle.mds_types.specs.declared.operations.Op.TheVariants.{Lookup, Readdir, Create, Mkdir, Readlink, Symlink, Setattr, Unlink, Rmdir, Rename}
+use Rattle.mds_types.specs.Shape.{destination_of, main_dentry, source_of}
 use Rattle.mds_types.specs.Tree.{Tree, is_directory}
-use Rattle.mds_types.specs.Step.{destination_of}
 use Rattle.fragtree.specs.FragTree.{IsPick}
 use Rattle.namehash.specs.Rjenkins.{hash_of}
 use Rattle.inode_table.specs.Dirs.{Covers, leaves_of}
@@ -26,19 +25,6 @@ LiesAt tree covers Holds dentry at = IsAt tree covers Holds dentry.dir.0 (hash_o
 abbrev pub Locates : Tree → Covers → (Dirfrag → Type 0) → (dir hash : ℕ) → Option Dirfrag → Type 0
 Locates tree covers Holds dir hash found = MatchOption found (is_directory tree dir ≡ false) (IsAt tree covers Holds dir hash)
 
--- the main dentry of an operation: its own, of a rename the destination; a readdir has none
-abbrev pub main_dentry : Op → Option Dentry
-main_dentry (Lookup dentry) = Some dentry
-main_dentry (Readdir dir after max) = None
-main_dentry (Readlink dentry) = Some dentry
-main_dentry (Create dentry mode mtime) = Some dentry
-main_dentry (Mkdir dentry mode mtime) = Some dentry
-main_dentry (Symlink dentry target mtime) = Some dentry
-main_dentry (Setattr dentry given) = Some dentry
-main_dentry (Unlink dentry) = Some dentry
-main_dentry (Rmdir dentry) = Some dentry
-main_dentry (Rename from to) = Some to
-
 -- the hash of a dentry's name; where there is none, the first one
 abbrev pub hash_at : Option Dentry → ℕ
 hash_at None = 0
@@ -47,19 +33,6 @@ hash_at (Some dentry) = hash_of dentry.name
 -- a hash that falls in the main leaf of an operation
 abbrev pub main_hash : Op → ℕ
 main_hash op = hash_at (main_dentry op)
-
--- the dentry that a rename takes away
-abbrev pub source_of : Op → Option Dentry
-source_of (Lookup dentry) = None
-source_of (Readdir dir after max) = None
-source_of (Readlink dentry) = None
-source_of (Create dentry mode mtime) = None
-source_of (Mkdir dentry mode mtime) = None
-source_of (Symlink dentry target mtime) = None
-source_of (Setattr dentry given) = None
-source_of (Unlink dentry) = None
-source_of (Rmdir dentry) = None
-source_of (Rename from to) = Some from
 
 -- where a dentry lies, if there is one
 abbrev pub LocatesAt : Tree → Covers → (Dirfrag → Type 0) → Option Dentry → Option Dirfrag → Type 0

@@ -8,7 +8,7 @@ ghost use Rattle.namespace_ops.specs.Checked.{Checks};
 ghost use Rattle.namespace_ops.specs.Places.{AreLocated};
 ghost use Rattle.namespace_ops.specs.Reasons.{Refuses};
 
-use crate::altering::set_attributes;
+use crate::altering::alter;
 use crate::frags::Frags;
 use crate::locating::Places;
 use crate::making::{New, make};
@@ -16,7 +16,7 @@ use crate::plans::Checked;
 use crate::reading::{lookup, read_dir, read_link};
 use crate::removing::{remove_dir, unlink};
 use crate::renaming::rename;
-use mds_types::{ESTALE, Ino, Op, Refusal, Reply};
+use mds_types::{Alteration, ESTALE, Ino, Op, Refusal, Reply};
 use std::alloc::Global;
 
 /// Checks an operation whose names lie there: finds the reply, or the one change that it makes. A new inode takes the number
@@ -47,29 +47,36 @@ pub fn check<F: Frags>(
         Op::Create {
             dentry,
             mode,
-            mtime,
-        } => make(frags, op, dentry, &at, New::file(*mode, *mtime), number),
+            birth,
+        } => make(frags, op, dentry, &at, New::file(*mode, *birth), number),
         Op::Mkdir {
             dentry,
             mode,
-            mtime,
+            birth,
         } => make(
             frags,
             op,
             dentry,
             &at,
-            New::directory(*mode, *mtime),
+            New::directory(*mode, *birth),
             number,
         ),
         Op::Symlink {
             dentry,
             target,
-            mtime,
+            birth,
         } => {
-            let new = New::link(target.try_clone()?, *mtime);
+            let new = New::link(target.try_clone()?, *birth);
             make(frags, op, dentry, &at, new, number)
         }
-        Op::Setattr { dentry, attributes } => set_attributes(frags, op, dentry, &at, *attributes),
+        Op::Setattr { dentry, attributes } => {
+            let alteration = Alteration::Attributed(*attributes);
+            alter(frags, op, dentry, &at, &alteration)
+        }
+        Op::SetPin { dentry, pin } => {
+            let alteration = Alteration::Pinned(*pin);
+            alter(frags, op, dentry, &at, &alteration)
+        }
         Op::Unlink(dentry) => unlink(frags, op, dentry, &at),
         Op::Rmdir(dentry) => remove_dir(frags, op, dentry, &at),
         Op::Rename { from, to } => match source {

@@ -1,10 +1,10 @@
 //! Where the names of an operation lie.
 ghost use Rattle.std.specs.Prelude.{◌≡◌};
-ghost use Rattle.std.specs.Option.{option_copied};
-ghost use Rattle.namespace_ops.specs.Places.{AreLocated, LocatesAt, main_dentry, main_hash, source_of};
+ghost use Rattle.mds_types.specs.Shape.{source_of};
+ghost use Rattle.namespace_ops.specs.Places.{AreLocated, LocatesAt, main_hash};
 
 use crate::frags::Frags;
-use mds_types::{Dentry, Dirfrag, Op, Rank};
+use mds_types::{Dirfrag, Op, Rank};
 use namehash::rjenkins;
 
 /// Where the names of an operation lie: its own, of a rename the destination, of a readdir the first leaf of its directory; and of
@@ -29,44 +29,16 @@ pub fn locate<F: Frags>(frags: &F, rank: Rank, op: &Op) -> Places
 fn locate_source<F: Frags>(frags: &F, rank: Rank, op: &Op) -> Option<Dirfrag>
     ensures { LocatesAt (F.content frags.now) (F.covers frags.now) (F.Holds frags.now) (source_of op.now) result }
 {
-    match op {
-        Op::Rename { from, .. } => frags.locate(rank, from.dir, rjenkins(from.name.as_bytes())),
-        Op::Lookup(_)
-        | Op::Readdir { .. }
-        | Op::Create { .. }
-        | Op::Mkdir { .. }
-        | Op::Readlink(_)
-        | Op::Symlink { .. }
-        | Op::Setattr { .. }
-        | Op::Unlink(_)
-        | Op::Rmdir(_) => None,
-    }
+    let from = op.source()?;
+    frags.locate(rank, from.dir, rjenkins(from.name.as_bytes()))
 }
 
 // A hash that falls in the main leaf of an operation: that of its dentry's name, and the first one of a readdir's directory.
 fn main_hash(op: &Op) -> u32
     ensures { result ≡ main_hash op.now }
 {
-    match main_dentry(op) {
+    match op.main_dentry() {
         Some(dentry) => rjenkins(dentry.name.as_bytes()),
         None => 0,
-    }
-}
-
-// The main dentry of an operation: its own, of a rename the destination; a readdir has none.
-fn main_dentry(op: &Op) -> Option<&Dentry>
-    ensures { option_copied result ≡ main_dentry op.now }
-{
-    match op {
-        Op::Readdir { .. } => None,
-        Op::Lookup(dentry)
-        | Op::Readlink(dentry)
-        | Op::Create { dentry, .. }
-        | Op::Mkdir { dentry, .. }
-        | Op::Symlink { dentry, .. }
-        | Op::Setattr { dentry, .. }
-        | Op::Unlink(dentry)
-        | Op::Rmdir(dentry)
-        | Op::Rename { to: dentry, .. } => Some(dentry),
     }
 }

@@ -5,7 +5,8 @@ ghost use Rattle.mds_types.specs.declared.refusals.Refusal.TheVariants.{NoInodes
 ghost use Rattle.mds_types.specs.declared.inodes.Inode.{Inode as Node};
 ghost use Rattle.mds_types.specs.declared.inodes.Kind.TheVariants.{File, Dir, Symlink as Link};
 ghost use Rattle.std.specs.FinMap as map;
-ghost use Rattle.mds_types.specs.Step.{made, new_inode, new_size, link_mode};
+ghost use Rattle.mds_types.specs.Shape.{link_mode};
+ghost use Rattle.mds_types.specs.Step.{made, new_inode, new_size};
 ghost use Rattle.namespace_ops.specs.declared.plans.Spot.{Spot as Place};
 ghost use Rattle.namespace_ops.specs.Kept.{KeepsAll};
 ghost use Rattle.namespace_ops.specs.Changes.{IsChangeOf, Reads, adds, dentry_at};
@@ -15,44 +16,46 @@ ghost use Rattle.namespace_ops.specs.Reasons.{Refuses};
 
 use crate::frags::Frags;
 use crate::plans::{Change, Checked, Spot};
-use mds_types::{Dentry, Dirfrag, EEXIST, Ino, Inode, Kind, Mode, Op, Refusal, Reply, Target};
+use mds_types::{
+    Birth, Dentry, Dirfrag, EEXIST, Ino, Inode, Kind, Mode, Op, Refusal, Reply, Target,
+};
 
 /// What a new inode is, beside its number and size.
 #[derive(Drop)]
 pub struct New {
     kind: Kind,
     mode: Mode,
-    mtime: u64,
+    birth: Birth,
 }
 
 impl New {
-    pub fn file(mode: Mode, mtime: u64) -> New
-        ensures { result ≡ record { kind = File; mode = mode; mtime = mtime } }
+    pub fn file(mode: Mode, birth: Birth) -> New
+        ensures { result ≡ record { kind = File; mode = mode; birth = birth } }
     {
         New {
             kind: Kind::File,
             mode,
-            mtime,
+            birth,
         }
     }
 
-    pub fn directory(mode: Mode, mtime: u64) -> New
-        ensures { result ≡ record { kind = Dir; mode = mode; mtime = mtime } }
+    pub fn directory(mode: Mode, birth: Birth) -> New
+        ensures { result ≡ record { kind = Dir; mode = mode; birth = birth } }
     {
         New {
             kind: Kind::Dir,
             mode,
-            mtime,
+            birth,
         }
     }
 
-    pub fn link(target: Target, mtime: u64) -> New
-        ensures { result ≡ record { kind = Link target; mode = link_mode; mtime = mtime } }
+    pub fn link(target: Target, birth: Birth) -> New
+        ensures { result ≡ record { kind = Link target; mode = link_mode; birth = birth } }
     {
         New {
             kind: Kind::Symlink(target),
             mode: Mode::LINK,
-            mtime,
+            birth,
         }
     }
 }
@@ -70,7 +73,7 @@ pub fn make<F: Frags>(
     requires reads { Reads (F.content frags.old) op.now dentry.now.dir.0 }
     requires at { LiesAt (F.content frags.old) (F.covers frags.old) (F.Holds frags.old) dentry.now at.now }
     requires makes { (spot : Place) (inode : Node) → dentry_at spot ≡ dentry.now → inode.kind ≡ new.kind → IsChangeOf op.now (adds spot inode) }
-    ensures checked { let inode = new_inode number.0 new.kind new.mode new.mtime in
+    ensures checked { let inode = new_inode number.0 new.kind new.mode new.birth in
         IfOk result (Checks (F.content frags.old) (F.covers frags.old) (F.Holds frags.old) op.now number.0 (made (F.content frags.old) dentry.now inode (map.get (F.content frags.old) dentry.now))) }
     ensures kept { KeepsAll (F.content frags.old) (F.content frags.new) (F.covers frags.old) (F.covers frags.new) (F.Follows frags.old frags.new op.now (result_err result)) }
     ensures err { IfErr result (Refuses (F.MayRefuse frags.old frags.new op.now)) }
@@ -92,14 +95,17 @@ pub fn make<F: Frags>(
 impl New {
     // The new inode with its number. A link has the size of its target.
     fn numbered(self, ino: Ino) -> Inode
-        ensures { result ≡ new_inode ino.0 self.kind self.mode self.mtime }
+        ensures { result ≡ new_inode ino.0 self.kind self.mode self.birth }
     {
         Inode {
             ino,
             size: first_size(&self.kind),
             kind: self.kind,
             mode: self.mode,
-            mtime: self.mtime,
+            mtime: self.birth.mtime,
+            uid: self.birth.uid,
+            gid: self.birth.gid,
+            pin: None,
         }
     }
 }

@@ -2,10 +2,11 @@
 ghost use Rattle.std.specs.Prelude.{◌≡◌, ◌≢◌, ℕ, true, IfOk, IfErr};
 ghost use Rattle.std.specs.Result.{result_err};
 ghost use Rattle.mds_types.specs.declared.refusals.Refusal.TheVariants.{NoInodes};
+ghost use Rattle.mds_types.specs.declared.replies.Reply.TheVariants.{Entry};
 ghost use Rattle.std.specs.Option.{option_copied};
 ghost use Rattle.std.specs.FinMap as map;
-ghost use Rattle.mds_types.specs.Step.{found, page, names_after, target_of};
-ghost use Rattle.mds_types.specs.Step.{read_link as link_read};
+ghost use Rattle.mds_types.specs.Shape.{target_of};
+ghost use Rattle.mds_types.specs.Step.{looked, page, names_after};
 ghost use Rattle.namespace_ops.specs.Kept.{KeepsAll};
 ghost use Rattle.namespace_ops.specs.Changes.{Reads, stays};
 ghost use Rattle.namespace_ops.specs.Checked.{Checks};
@@ -27,7 +28,7 @@ pub fn lookup<F: Frags>(
     requires reads { Reads (F.content frags.old) op.now dentry.now.dir.0 }
     requires at { LiesAt (F.content frags.old) (F.covers frags.old) (F.Holds frags.old) dentry.now at.now }
     requires idle { stays op.now ≡ true }
-    ensures checked { (n : ℕ) → IfOk result (Checks (F.content frags.old) (F.covers frags.old) (F.Holds frags.old) op.now n (found (F.content frags.old) (map.get (F.content frags.old) dentry.now))) }
+    ensures checked { (n : ℕ) → IfOk result (Checks (F.content frags.old) (F.covers frags.old) (F.Holds frags.old) op.now n (looked (F.content frags.old) Entry (map.get (F.content frags.old) dentry.now))) }
     ensures kept { KeepsAll (F.content frags.old) (F.content frags.new) (F.covers frags.old) (F.covers frags.new) (F.Follows frags.old frags.new op.now (result_err result)) }
     ensures err { IfErr result (Refuses (F.MayRefuse frags.old frags.new op.now)) }
     ensures numbers { IfErr result (λ reason. reason ≢ NoInodes) }
@@ -70,7 +71,7 @@ pub fn read_link<F: Frags>(
     requires reads { Reads (F.content frags.old) op.now dentry.now.dir.0 }
     requires at { LiesAt (F.content frags.old) (F.covers frags.old) (F.Holds frags.old) dentry.now at.now }
     requires idle { stays op.now ≡ true }
-    ensures checked { (n : ℕ) → IfOk result (Checks (F.content frags.old) (F.covers frags.old) (F.Holds frags.old) op.now n (link_read (F.content frags.old) (map.get (F.content frags.old) dentry.now))) }
+    ensures checked { (n : ℕ) → IfOk result (Checks (F.content frags.old) (F.covers frags.old) (F.Holds frags.old) op.now n (looked (F.content frags.old) (λ inode. target_of inode.kind) (map.get (F.content frags.old) dentry.now))) }
     ensures kept { KeepsAll (F.content frags.old) (F.content frags.new) (F.covers frags.old) (F.covers frags.new) (F.Follows frags.old frags.new op.now (result_err result)) }
     ensures err { IfErr result (Refuses (F.MayRefuse frags.old frags.new op.now)) }
     ensures numbers { IfErr result (λ reason. reason ≢ NoInodes) }

@@ -5,10 +5,10 @@ use Rattle.std.specs.List.{Contains}
 use Rattle.std.specs.Result.{result_err}
 use Rattle.mds_types.specs.declared.ids.Ino.{Ino}
 use Rattle.mds_types.specs.declared.operations.Op.{Op}
-use Rattle.mds_types.specs.declared.operations.Op.TheVariants.{Lookup, Readdir, Create, Mkdir, Readlink, Symlink, Setattr, Unlink, Rmdir, Rename}
 use Rattle.mds_types.specs.declared.refusals.Refusal.{Refusal}
 use Rattle.mds_types.specs.declared.refusals.Refusal.TheVariants.{NoMemory}
 use Rattle.mds_types.specs.Leaf.{leaf_of}
+use Rattle.mds_types.specs.Shape.{Shape, Looks, Lists, Makes, Sets, Unlinks, Removes, Moves, shape}
 use Rattle.mds_types.specs.Tree.{is_dir_kind, is_directory}
 use Rattle.mds_types.specs.declared.dirfrags.Dirfrag.{Dirfrag}
 use Rattle.objstore.specs.Objects.{faults_in}
@@ -16,17 +16,16 @@ use Rattle.export_steps.specs.Holder.{IsFrozen, holding}
 use Rattle.fragtree.specs.FragTree.{IsPick}
 use Rattle.inode_table.specs.Dirs.{IsLive, leaves_of}
 use Rattle.namespace_ops.specs.Places.{IsAt}
-use Rattle.namespace_ops.specs.Changes.{Concerns, IsChangeOf, PutsAt, TakesAt, fragments_of}
+use Rattle.namespace_ops.specs.Changes.{Concerns, IsChangeIn, IsChangeOf, PutsAt, TakesAt, fragments_of}
 use Rattle.namespace_ops.specs.Kept.{KeepsAll}
 use Rattle.mds_types.specs.declared.dentries.Dentry.{Dentry}
 use Rattle.mds_types.specs.declared.inodes.Inode.{Inode}
-use Rattle.mds_types.specs.declared.inodes.Kind.TheVariants.{File, Dir, Symlink as Link}
 use Rattle.namespace_ops.specs.declared.plans.Change.{Change}
 use Rattle.namespace_ops.specs.declared.plans.Spot.{Spot}
 use Rattle.subtree_map.specs.Authority.{Leaf, Roots}
 use Rattle.subtree_map.specs.Changes.{Subtrees}
 use Rattle.mdcache.specs.Core.{Core, state_of}
-use Rattle.mdcache.specs.Frags.{KeepsState, LacksBy, LacksFor, LacksToMake}
+use Rattle.mdcache.specs.Frags.{KeepsState, LacksBy, LacksForIn, LacksToMake}
 use Rattle.mdcache.specs.Reads.{MayNotFind}
 use Rattle.mdcache.specs.Ready.{LacksNumbers, MayNotBeReady}
 use Rattle.mdcache.specs.Shown.{shown_tree}
@@ -100,33 +99,23 @@ module _ (s : TreeState) where
   lack_moved here there Is (Some spot) None comes at to lacks = absurd to
   lack_moved here there Is (Some spot) (Some put) comes at to lacks = lacks
 
-numbers_lack : (s : TreeState) (op : Op) (change : Change) → IsChangeOf op change → LacksToMake change s → LacksFor op s
-numbers_lack s (Lookup dentry) change of lacks = absurd of
-numbers_lack s (Readdir dir after max) change of lacks = absurd of
-numbers_lack s (Readlink dentry) change of lacks = absurd of
-numbers_lack s (Create dentry mode mtime) change of lacks = file (lack_put s dentry _ change.takes change.puts change.comes of.takes of.puts lacks)
+numbers_lack : (s : TreeState) (sort : Shape) (change : Change) → IsChangeIn sort change → LacksToMake change s → LacksForIn sort s
+numbers_lack s (Looks dentry answer) change of lacks = absurd of
+numbers_lack s (Lists dir after max) change of lacks = absurd of
+numbers_lack s (Makes dentry kind mode birth) change of lacks = new (lack_put s dentry _ change.takes change.puts change.comes of.takes of.puts lacks)
   where
-    file : LacksNumbers 1 s.next_version ⊎ ((inode : Inode) × (inode.kind ≡ File) × (change.comes ≡ true) × (is_dir_kind inode.kind ≡ true) × LacksNumbers 1 s.next_generation) → LacksNumbers 1 s.next_version
-    file (inl one) = one
-    file (inr (inode, is, new, kinded, one)) = let clash : true ≡ false = sym kinded ∙ ap is_dir_kind is in absurd cc
-numbers_lack s (Mkdir dentry mode mtime) change of lacks = either (lack_put s dentry _ change.takes change.puts change.comes of.takes of.puts lacks)
-  where
-    either : LacksNumbers 1 s.next_version ⊎ ((inode : Inode) × (inode.kind ≡ Dir) × (change.comes ≡ true) × (is_dir_kind inode.kind ≡ true) × LacksNumbers 1 s.next_generation) → LacksNumbers 1 s.next_version ⊎ LacksNumbers 1 s.next_generation
-    either (inl one) = inl one
-    either (inr (inode, is, new, kinded, one)) = inr one
-numbers_lack s (Symlink dentry text mtime) change of lacks = link (lack_put s dentry _ change.takes change.puts change.comes of.takes of.puts lacks)
-  where
-    link : LacksNumbers 1 s.next_version ⊎ ((inode : Inode) × (inode.kind ≡ Link text) × (change.comes ≡ true) × (is_dir_kind inode.kind ≡ true) × LacksNumbers 1 s.next_generation) → LacksNumbers 1 s.next_version
-    link (inl one) = one
-    link (inr (inode, is, new, kinded, one)) = let clash : true ≡ false = sym kinded ∙ ap is_dir_kind is in absurd cc
-numbers_lack s (Setattr dentry given) change of lacks = old (lack_put s dentry _ change.takes change.puts change.comes of.takes of.puts lacks)
+    new : LacksNumbers 1 s.next_version ⊎ ((inode : Inode) × (inode.kind ≡ kind) × (change.comes ≡ true) × (is_dir_kind inode.kind ≡ true) × LacksNumbers 1 s.next_generation)
+        → LacksNumbers 1 s.next_version ⊎ ((is_dir_kind kind ≡ true) × LacksNumbers 1 s.next_generation)
+    new (inl one) = inl one
+    new (inr (inode, is, comes, kinded, one)) = inr (ap is_dir_kind (sym is) ∙ kinded, one)
+numbers_lack s (Sets dentry alteration) change of lacks = old (lack_put s dentry _ change.takes change.puts change.comes of.takes of.puts lacks)
   where
     old : LacksNumbers 1 s.next_version ⊎ ((inode : Inode) × Unit {0} × (change.comes ≡ true) × (is_dir_kind inode.kind ≡ true) × LacksNumbers 1 s.next_generation) → LacksNumbers 1 s.next_version
     old (inl one) = one
     old (inr (inode, is, new, kinded, one)) = let clash : true ≡ false = sym new ∙ of.comes in absurd cc
-numbers_lack s (Unlink dentry) change of lacks = lack_taken s dentry change.takes change.puts change.comes of.removal.takes of.removal.puts lacks
-numbers_lack s (Rmdir dentry) change of lacks = lack_taken s dentry change.takes change.puts change.comes of.takes of.puts lacks
-numbers_lack s (Rename from to) change of lacks = lack_moved s from to _ change.takes change.puts change.comes of.takes of.puts lacks
+numbers_lack s (Unlinks dentry) change of lacks = lack_taken s dentry change.takes change.puts change.comes of.removal.takes of.removal.puts lacks
+numbers_lack s (Removes dentry) change of lacks = lack_taken s dentry change.takes change.puts change.comes of.takes of.puts lacks
+numbers_lack s (Moves from to) change of lacks = lack_moved s from to _ change.takes change.puts change.comes of.takes of.puts lacks
 
 -- ---- a change is made ready
 
@@ -134,17 +123,17 @@ module _ (tree new : Core) (regions : Regions) (now : Ranked) (is : over tree re
   -- it reads what the change names
   pub keeps_named : (told : Option Refusal) → KeepsState tree new told → ReadsFor (held_in regions) (NamesDir change) tree new
       → KeepsAll (shown_tree (state_of now.tree)) (shown_tree (state_of new)) now.tree.covers new.covers (KeepsRanked now (over new regions) op told)
-  keeps_named told kept reads = keeps_all tree new regions now is op (NamesDir change) told (λ d named. change_concerns (shown_tree (state_of now.tree)) op change of d named) kept reads
+  keeps_named told kept reads = keeps_all tree new regions now is op (NamesDir change) told (λ d named. change_concerns (shown_tree (state_of now.tree)) (shape op) change of d named) kept reads
 
   -- and why it may not be
   pub ready_refused : (reason : Refusal) → MayNotBeReady (LacksToMake change (state_of tree)) (LacksPlacesAsked 2 tree (held_in regions) (NamesDir change)) tree.faults new.faults reason → MayRefuse now (over new regions) op reason
   ready_refused reason h = subst (λ (n : Ranked). MayRefuse n (over new regions) op reason) is (go h)
     where
       go : MayNotBeReady (LacksToMake change (state_of tree)) (LacksPlacesAsked 2 tree (held_in regions) (NamesDir change)) tree.faults new.faults reason → MayRefuse (over tree regions) (over new regions) op reason
-      go (inl (told, numbers)) = inr (inr (inr (told, numbers_lack (state_of tree) op change of numbers)))
+      go (inl (told, numbers)) = inr (inr (inr (told, numbers_lack (state_of tree) (shape op) change of numbers)))
       go (inr (none, inl memory)) = inl memory
       go (inr (none, inr (inl fault))) = inr (inl fault)
-      go (inr (none, inr (inr (told, (leaf, named, lacks))))) = inr (inr (inl (told, (leaf, change_concerns (shown_tree (state_of tree)) op change of leaf.0.0 named, lacks))))
+      go (inr (none, inr (inr (told, (leaf, named, lacks))))) = inr (inr (inl (told, (leaf, change_concerns (shown_tree (state_of tree)) (shape op) change of leaf.0.0 named, lacks))))
 
 -- roots that were made ready with it, or for want of memory were not, are the same
 pub reserved_keeps : (now : Ranked) (new : Core) (regions : Regions) (after : Subtrees) (op : Op) (result : Result (Unit {0}) Refusal) → after.roots ≡ regions.roots.roots → IfErr result (λ reason. reason ≡ NoMemory)

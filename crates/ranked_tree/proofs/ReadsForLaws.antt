@@ -4,9 +4,9 @@ use Rattle.std.proofs.Common.{inl, inr, ap, subst, sym, ◌∙◌}
 use Rattle.mds_types.specs.declared.ids.Rank.{Rank}
 use Rattle.mds_types.specs.declared.dentries.Dentry.{Dentry}
 use Rattle.mds_types.specs.declared.operations.Op.{Op}
-use Rattle.mds_types.specs.declared.operations.Op.TheVariants.{Lookup, Readdir, Create, Mkdir, Readlink, Symlink, Setattr, Unlink, Rmdir, Rename}
 use Rattle.mds_types.specs.declared.inodes.Inode.{Inode}
 use Rattle.mds_types.specs.declared.refusals.Refusal.{Refusal}
+use Rattle.mds_types.specs.Shape.{Shape as OpShape, Looks, Lists, Makes, Sets, Unlinks, Removes, Moves}
 use Rattle.mds_types.specs.Tree.{Tree}
 use Rattle.mds_types.specs.Leaf.{leaf_of}
 use Rattle.dentry_cache.specs.Came.{IsThat}
@@ -14,7 +14,7 @@ use Rattle.dentry_cache.specs.Reads.{Reads}
 use Rattle.dentry_cache.proofs.ReadsLaws.{reads_then, reads_weaker}
 use Rattle.inode_table.specs.Dirs.{is_known}
 use Rattle.inode_table.proofs.TableLaws.{may_come}
-use Rattle.namespace_ops.specs.Changes.{Concerns, IsChangeOf, MayChange, PutsAt, TakesAt, dentry_at}
+use Rattle.namespace_ops.specs.Changes.{Concerns, ConcernsIn, IsChangeIn, IsChangeOf, MayChange, PutsAt, TakesAt, dentry_at}
 use Rattle.namespace_ops.proofs.Shapes.{Shape, shape_of}
 use Rattle.namespace_ops.proofs.Shapes.Shape.{add, move, remove, set}
 use Rattle.namespace_ops.specs.declared.plans.Change.{Change}
@@ -104,18 +104,15 @@ of_move here there Is (Some spot) None at to d is = absurd to
 of_move here there Is (Some spot) (Some put) at to d (inl is) = inl (is ∙ ap (λ (e : Dentry). e.dir.0) at)
 of_move here there Is (Some spot) (Some put) at to d (inr is) = inr (is ∙ ap (λ (e : Dentry). e.dir.0) to.0)
 
-pub change_concerns : (tree : Tree) (op : Op) (change : Change) → IsChangeOf op change → (d : ℕ) → NamesDir change d → Concerns tree op d
-change_concerns tree (Lookup dentry) change of d is = absurd of
-change_concerns tree (Readdir dir after max) change of d is = absurd of
-change_concerns tree (Readlink dentry) change of d is = absurd of
-change_concerns tree (Create dentry mode mtime) change of d is = of_put dentry _ change.takes change.puts of.takes of.puts d is
-change_concerns tree (Mkdir dentry mode mtime) change of d is = of_put dentry _ change.takes change.puts of.takes of.puts d is
-change_concerns tree (Symlink dentry target mtime) change of d is = of_put dentry _ change.takes change.puts of.takes of.puts d is
-change_concerns tree (Setattr dentry given) change of d is = of_put dentry _ change.takes change.puts of.takes of.puts d is
-change_concerns tree (Unlink dentry) change of d is = of_taken dentry change.takes change.puts of.removal.takes of.removal.puts d is
-change_concerns tree (Rmdir dentry) change of d is = inl (of_taken dentry change.takes change.puts of.takes of.puts d is)
-change_concerns tree (Rename from to) change of d is = go (of_move from to _ change.takes change.puts of.takes of.puts d is)
+pub change_concerns : (tree : Tree) (sort : OpShape) (change : Change) → IsChangeIn sort change → (d : ℕ) → NamesDir change d → ConcernsIn tree sort d
+change_concerns tree (Looks dentry answer) change of d is = absurd of
+change_concerns tree (Lists dir after max) change of d is = absurd of
+change_concerns tree (Makes dentry kind mode birth) change of d is = of_put dentry _ change.takes change.puts of.takes of.puts d is
+change_concerns tree (Sets dentry alteration) change of d is = of_put dentry _ change.takes change.puts of.takes of.puts d is
+change_concerns tree (Unlinks dentry) change of d is = of_taken dentry change.takes change.puts of.removal.takes of.removal.puts d is
+change_concerns tree (Removes dentry) change of d is = inl (of_taken dentry change.takes change.puts of.takes of.puts d is)
+change_concerns tree (Moves from to) change of d is = go (of_move from to _ change.takes change.puts of.takes of.puts d is)
   where
-    go : (d ≡ from.dir.0) ⊎ (d ≡ to.dir.0) → Concerns tree (Rename from to) d
+    go : (d ≡ from.dir.0) ⊎ (d ≡ to.dir.0) → ConcernsIn tree (Moves from to) d
     go (inl here) = inl here
     go (inr there) = inr (inl there)

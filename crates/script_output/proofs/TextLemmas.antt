@@ -5,7 +5,7 @@ use Rattle.std.specs.Fmt.{decimal, digits}
 use Rattle.script_output.proofs.PrintedNumbers.{few_digits}
 
 -- there is room for so many bytes before a text
-pub roomy : (few start : ℕ) (bytes : List ℕ) (view : List ℕ) → length bytes ≡ 160 → start ≤ 160 → drop start bytes ≡ view → few + length view ≤ 160 → few ≤ start
+pub roomy : (few start : ℕ) (bytes : List ℕ) (view : List ℕ) → length bytes ≡ 256 → start ≤ 256 → drop start bytes ≡ view → few + length view ≤ 256 → few ≤ start
 roomy few start bytes view len within is room = omega (arith, length-drop start bytes, ap length is)
 
 -- one more text stands before it

@@ -1,7 +1,8 @@
 -- What is printed for each result: one line each, here without its LF.
-use Rattle.std.specs.Prelude.{ℕ, Bool, true, false, List, [], ◌++◌, codes, length}
+use Rattle.std.specs.Prelude.{ℕ, Bool, true, false, ◌&&◌, ◌==◌, if◌then◌else◌, List, [], ◌++◌, codes, length, Option, Some, None}
 use Rattle.std.specs.Fmt.{decimal, digits}
 use Rattle.std.specs.List.{flat_map}
+use Rattle.mds_types.specs.declared.ids.Rank.{Rank}
 use Rattle.mds_types.specs.declared.inodes.Inode.{Inode}
 use Rattle.mds_types.specs.declared.inodes.Kind.{Kind}
 use Rattle.mds_types.specs.declared.inodes.Kind.TheVariants.{File, Dir, Symlink}
@@ -28,9 +29,18 @@ kind_text File = codes "file"
 kind_text Dir = codes "dir"
 kind_text (Symlink target) = codes "link"
 
--- `entry INO KIND MODE SIZE MTIME`
+-- ` owner UID GID`, where one of them isn't 0
+abbrev pub owner_text : ℕ → ℕ → List ℕ
+owner_text uid gid = if (uid == 0) && (gid == 0) then [] else (codes " owner " ++ (decimal uid ++ (codes " " ++ decimal gid)))
+
+-- ` pin RANK`, where one is set
+abbrev pub pin_text : Option Rank → List ℕ
+pin_text None = []
+pin_text (Some rank) = codes " pin " ++ decimal rank.0
+
+-- `entry INO KIND MODE SIZE MTIME`, then owner and pin
 abbrev pub entry_text : Inode → List ℕ
-entry_text inode = codes "entry " ++ (hexadecimal inode.ino.0 ++ (codes " " ++ (kind_text inode.kind ++ (codes " " ++ (octal inode.mode ++ (codes " " ++ (decimal inode.size ++ (codes " " ++ decimal inode.mtime))))))))
+entry_text inode = codes "entry " ++ (hexadecimal inode.ino.0 ++ (codes " " ++ (kind_text inode.kind ++ (codes " " ++ (octal inode.mode ++ (codes " " ++ (decimal inode.size ++ (codes " " ++ (decimal inode.mtime ++ (owner_text inode.uid inode.gid ++ pin_text inode.pin))))))))))
 
 -- a space and `NAME:INO`
 abbrev pub listed_text : List ℕ × Inode → List ℕ

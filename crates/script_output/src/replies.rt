@@ -1,13 +1,13 @@
 //! The line of a reply. Most of what a script prints are such lines, so they are put together by hand.
 ghost use Rattle.std.specs.Prelude.{◌≡◌, ◌+◌, ◌≤◌, ◌++◌, codes, length};
 ghost use Rattle.std.specs.List.{flat_map};
-ghost use Rattle.script_output.specs.Texts.{entry_text, kind_text, listed_text, more_text};
+ghost use Rattle.script_output.specs.Texts.{entry_text, kind_text, listed_text, more_text, owner_text, pin_text};
 ghost use Rattle.script_output.specs.ReplyLines.{PushesHeaded, PushesReply, entries_front};
 ghost use Rattle.script_output.specs.Writing.{Pushes};
 
 use crate::escapes::push_escaped;
 use crate::text_ends::TextEnd;
-use mds_types::{Inode, Kind, Listing, Name, Reply, Target};
+use mds_types::{Inode, Kind, Listing, Name, Rank, Reply, Target};
 use std::alloc::AllocError;
 
 /// What stands before a reply on its line.
@@ -32,7 +32,7 @@ pub fn push_reply(out: &mut Vec<u8>, heading: Heading, reply: &Reply) -> Result<
     }
 }
 
-// `entry INO KIND MODE SIZE MTIME`
+// `entry INO KIND MODE SIZE MTIME`, ` owner UID GID` and ` pin RANK`
 fn push_entry(out: &mut Vec<u8>, heading: Heading, inode: &Inode) -> Result<(), AllocError>
     ensures { PushesReply out.old.items out.new.items heading (Reply.Entry inode.now) result }
 {
@@ -42,12 +42,14 @@ fn push_entry(out: &mut Vec<u8>, heading: Heading, inode: &Inode) -> Result<(), 
     push_headed(out, heading, &mut end)
 }
 
-// Puts `entry INO KIND MODE SIZE MTIME` before a text.
+// Puts `entry INO KIND MODE SIZE MTIME`, ` owner UID GID` and ` pin RANK` before a text.
 fn put_inode(end: &mut TextEnd, inode: &Inode)
-    requires { 74 + length end.old ≤ 160 }
+    requires { 147 + length end.old ≤ 256 }
     ensures text { end.new ≡ entry_text inode.now ++ end.old }
-    ensures long { length end.new ≤ 74 + length end.old }
+    ensures long { length end.new ≤ 147 + length end.old }
 {
+    put_pin(end, inode.pin);
+    put_owner(end, inode.uid, inode.gid);
     end.put_decimal(inode.mtime);
     end.put(b" ");
     end.put_decimal(inode.size);
@@ -60,9 +62,36 @@ fn put_inode(end: &mut TextEnd, inode: &Inode)
     end.put(b"entry ");
 }
 
+// Puts ` owner UID GID` before a text, where one of them isn't 0.
+fn put_owner(end: &mut TextEnd, uid: u32, gid: u32)
+    requires { 48 + length end.old ≤ 256 }
+    ensures text { end.new ≡ owner_text uid gid ++ end.old }
+    ensures long { length end.new ≤ 48 + length end.old }
+{
+    if uid == 0 && gid == 0 {
+        return;
+    }
+    end.put_decimal(u64::from(gid));
+    end.put(b" ");
+    end.put_decimal(u64::from(uid));
+    end.put(b" owner ");
+}
+
+// Puts ` pin RANK` before a text, where one is set.
+fn put_pin(end: &mut TextEnd, pin: Option<Rank>)
+    requires { 25 + length end.old ≤ 256 }
+    ensures text { end.new ≡ pin_text pin ++ end.old }
+    ensures long { length end.new ≤ 25 + length end.old }
+{
+    if let Some(rank) = pin {
+        end.put_decimal(u64::from(rank.0));
+        end.put(b" pin ");
+    }
+}
+
 // Puts `file`, `dir` or `link` before a text.
 fn put_kind(end: &mut TextEnd, kind: &Kind)
-    requires { 4 + length end.old ≤ 160 }
+    requires { 4 + length end.old ≤ 256 }
     ensures text { end.new ≡ kind_text kind.now ++ end.old }
     ensures long { length end.new ≤ 4 + length end.old }
 {
@@ -106,7 +135,7 @@ fn push_entries_heading(
 
 // Puts `more` or `end` before a text.
 fn put_more(end: &mut TextEnd, more: bool)
-    requires { 4 + length end.old ≤ 160 }
+    requires { 4 + length end.old ≤ 256 }
     ensures text { end.new ≡ more_text more ++ end.old }
     ensures long { length end.new ≤ 4 + length end.old }
 {
@@ -172,7 +201,7 @@ fn push_errno(out: &mut Vec<u8>, heading: Heading, errno: u16) -> Result<(), All
 
 // Puts what stands before a reply, and then the end of its line, at the end of a text.
 fn push_headed(out: &mut Vec<u8>, heading: Heading, end: &mut TextEnd) -> Result<(), AllocError>
-    requires { 75 + length end.old ≤ 160 }
+    requires { 75 + length end.old ≤ 256 }
     ensures { PushesHeaded out.old.items out.new.items heading end.old result }
 {
     if heading.first {

@@ -9,7 +9,7 @@ use mds_types::Mode;
 use std::marker::Model;
 
 // The most bytes of such a text: those of an entry's line and its LF, with the longest numbers, are fewer.
-const ROOM: usize = 160;
+const ROOM: usize = 256;
 
 /// The end of a text. It grows at its front, since the digits of a number come from the last to the first, so nothing is
 /// moved, and no memory is taken.
@@ -26,7 +26,7 @@ impl Model for TextEnd {
 
     ghost view = { λ text. drop text.start text.bytes };
 
-    ghost invariant = { λ text. text.start ≤ 160 };
+    ghost invariant = { λ text. text.start ≤ 256 };
 }
 
 impl TextEnd {
@@ -50,7 +50,7 @@ impl TextEnd {
     /// Puts bytes before the text.
     #[inline(always)]
     pub fn put(&mut self, bytes: &[u8])
-        requires { length bytes.now + length self.old ≤ 160 }
+        requires { length bytes.now + length self.old ≤ 256 }
         ensures text { self.new ≡ bytes.now ++ self.old }
         ensures long { length self.new ≡ length bytes.now + length self.old }
     {
@@ -61,7 +61,7 @@ impl TextEnd {
 
     /// Puts a number before the text, in decimal.
     pub fn put_decimal(&mut self, n: u64)
-        requires { 20 + length self.old ≤ 160 }
+        requires { 20 + length self.old ≤ 256 }
         ensures text { self.new ≡ decimal n ++ self.old }
         ensures long { length self.new ≤ 20 + length self.old }
     {
@@ -70,7 +70,7 @@ impl TextEnd {
 
     /// Puts a number before the text, in lower hexadecimal.
     pub fn put_hexadecimal(&mut self, n: u64)
-        requires { 16 + length self.old ≤ 160 }
+        requires { 16 + length self.old ≤ 256 }
         ensures text { self.new ≡ hexadecimal n ++ self.old }
         ensures long { length self.new ≤ 16 + length self.old }
     {
@@ -79,7 +79,7 @@ impl TextEnd {
 
     /// Puts a mode before the text, in octal.
     pub fn put_mode(&mut self, mode: Mode)
-        requires { 4 + length self.old ≤ 160 }
+        requires { 4 + length self.old ≤ 256 }
         ensures text { self.new ≡ octal mode ++ self.old }
         ensures long { length self.new ≤ 4 + length self.old }
     {

@@ -1,14 +1,15 @@
 -- The operations of a script's line: the words of each, and what they ask for.
 use Rattle.std.specs.Prelude.{ℕ, if◌then◌else◌, List, codes, Result, Ok, Err}
 use Rattle.mds_types.specs.declared.dentries.Dentry.{Dentry}
+use Rattle.mds_types.specs.declared.inodes.Birth.{Birth}
 use Rattle.mds_types.specs.declared.operations.Op.{Op}
-use Rattle.mds_types.specs.declared.operations.Op.TheVariants.{Lookup, Readdir, Create, Mkdir, Readlink, Symlink, Setattr, Unlink, Rmdir, Rename}
+use Rattle.mds_types.specs.declared.operations.Op.TheVariants.{Lookup, Readdir, Create, Mkdir, Readlink, Symlink, Setattr, SetPin, Unlink, Rmdir, Rename}
 use Rattle.script_words.specs.declared.faults.Fault.{Fault}
 use Rattle.script_words.specs.declared.faults.Fault.TheVariants.{NotCommand}
 use Rattle.script_words.specs.Words.{is_text}
 use Rattle.script_words.specs.Reading.{◌>>=◌, first, two, three, four}
-use Rattle.script_words.specs.Arguments.{ino_of, mode_of, page_size_of, text_of, two_texts_of, after_text_of, name_of, after_name_of, target_of}
-use Rattle.script_text.specs.Attributes.{attributes_of}
+use Rattle.script_words.specs.Arguments.{ino_of, mode_of, pin_of, page_size_of, text_of, two_texts_of, after_text_of, name_of, after_name_of, target_of}
+use Rattle.script_text.specs.Attributes.{attributes_of, birth_of}
 
 -- In each form below that of all its words comes before the rules of names and targets; of two words outside those rules the first decides.
 
@@ -21,15 +22,18 @@ dentry_of args = do
   name ← name_of bytes
   Ok (record { dir = dir; name = name })
 
--- `INO NAME MODE`: a dentry, and the mode of what is made there
-unfoldable pub made_of : List (List ℕ) → Result (Dentry × ℕ) Fault
+-- `INO NAME MODE [uid N] [gid N]`: a dentry, and what is made there
+unfoldable pub made_of : List (List ℕ) → Result (Dentry × ℕ × Birth) Fault
 made_of args = do
-  words ← three args
-  dir ← ino_of words.0
-  mode ← mode_of words.2
-  bytes ← text_of words.1
+  dir ← first args
+  name ← first dir.1
+  mode ← first name.1
+  ino ← ino_of dir.0
+  bits ← mode_of mode.0
+  birth ← birth_of mode.1
+  bytes ← text_of name.0
   name ← name_of bytes
-  Ok (record { dir = dir; name = name }, mode)
+  Ok (record { dir = ino; name = name }, bits, birth)
 
 -- `INO AFTER MAX`
 unfoldable pub readdir_of : List (List ℕ) → Result Op Fault
@@ -41,17 +45,20 @@ readdir_of args = do
   after ← after_name_of bytes
   Ok (Readdir dir after max)
 
--- `INO NAME TARGET`
+-- `INO NAME TARGET [uid N] [gid N]`
 unfoldable pub symlink_of : List (List ℕ) → Result Op Fault
 symlink_of args = do
-  words ← three args
-  dir ← ino_of words.0
-  both ← two_texts_of words.1 words.2
+  dir ← first args
+  name ← first dir.1
+  to ← first name.1
+  ino ← ino_of dir.0
+  birth ← birth_of to.1
+  both ← two_texts_of name.0 to.0
   name ← name_of both.0
   target ← target_of both.1
-  Ok (Symlink (record { dir = dir; name = name }) target 0)
+  Ok (Symlink (record { dir = ino; name = name }) target birth)
 
--- `INO NAME [mode MODE] [size N] [mtime N]`
+-- `INO NAME [mode MODE] [size N] [mtime N] [uid N] [gid N]`
 unfoldable pub setattr_of : List (List ℕ) → Result Op Fault
 setattr_of args = do
   dir ← first args
@@ -61,6 +68,16 @@ setattr_of args = do
   bytes ← text_of name.0
   name ← name_of bytes
   Ok (Setattr (record { dir = ino; name = name }) given)
+
+-- `INO NAME RANK`, or `-1` in place of RANK
+unfoldable pub setpin_of : List (List ℕ) → Result Op Fault
+setpin_of args = do
+  words ← three args
+  dir ← ino_of words.0
+  pin ← pin_of words.2
+  bytes ← text_of words.1
+  name ← name_of bytes
+  Ok (SetPin (record { dir = dir; name = name }) pin)
 
 -- `INO NAME INO NAME`, from the first dentry to the second
 unfoldable pub rename_of : List (List ℕ) → Result Op Fault
@@ -73,16 +90,17 @@ rename_of args = do
   to_name ← name_of both.1
   Ok (Rename (record { dir = dir; name = name }) (record { dir = to_dir; name = to_name }))
 
--- an operation, by its first word and the words after it; what is made has mtime 0
+-- an operation, by its first word and the words after it
 unfoldable pub operation_of : List ℕ → List (List ℕ) → Result Op Fault
 operation_of verb args =
     if is_text verb (codes "lookup") then (dentry_of args >>= λ dentry. Ok (Lookup dentry)) else
     (if is_text verb (codes "readdir") then readdir_of args else
-    (if is_text verb (codes "create") then (made_of args >>= λ made. Ok (Create made.0 made.1 0)) else
-    (if is_text verb (codes "mkdir") then (made_of args >>= λ made. Ok (Mkdir made.0 made.1 0)) else
+    (if is_text verb (codes "create") then (made_of args >>= λ made. Ok (Create made.0 made.1 made.2)) else
+    (if is_text verb (codes "mkdir") then (made_of args >>= λ made. Ok (Mkdir made.0 made.1 made.2)) else
     (if is_text verb (codes "readlink") then (dentry_of args >>= λ dentry. Ok (Readlink dentry)) else
     (if is_text verb (codes "symlink") then symlink_of args else
     (if is_text verb (codes "setattr") then setattr_of args else
+    (if is_text verb (codes "setpin") then setpin_of args else
     (if is_text verb (codes "unlink") then (dentry_of args >>= λ dentry. Ok (Unlink dentry)) else
     (if is_text verb (codes "rmdir") then (dentry_of args >>= λ dentry. Ok (Rmdir dentry)) else
-    (if is_text verb (codes "rename") then rename_of args else Err NotCommand)))))))))
+    (if is_text verb (codes "rename") then rename_of args else Err NotCommand))))))))))

@@ -2,13 +2,13 @@
 ghost use Rattle.std.specs.Prelude.{option_map};
 ghost use Rattle.script_words.specs.Words.{words_of};
 ghost use Rattle.script_words.specs.Reading.{Reads};
-ghost use Rattle.script_words.specs.Arguments.{mode_of, decimal_of};
-ghost use Rattle.script_text.specs.Attributes.{attributes_of, if_given, keyed};
+ghost use Rattle.script_words.specs.Arguments.{mode_of, decimal_of, id_of};
+ghost use Rattle.script_text.specs.Attributes.{attributes_of, birth_of, if_given, keyed};
 
-use mds_types::{Attributes, Mode};
-use script_words::{ReadError, decimal, first, mode, next_word, none};
+use mds_types::{Attributes, Birth, Mode};
+use script_words::{ReadError, decimal, first, id, mode, next_word, none};
 
-/// `[mode MODE] [size N] [mtime N]`: in this order, and at least one of them.
+/// `[mode MODE] [size N] [mtime N] [uid N] [gid N]`: in this order, and at least one of them.
 #[tactic(auto, unfolding(crate::specs::Attributes::attributes_of))]
 pub fn given_attributes(words: &[u8]) -> Result<Attributes, ReadError>
     ensures { Reads (λ given. given) result (attributes_of (words_of words.now)) }
@@ -17,11 +17,38 @@ pub fn given_attributes(words: &[u8]) -> Result<Attributes, ReadError>
     let (mode, rest) = keyed(b"mode", words)?;
     let (size, rest) = keyed(b"size", rest)?;
     let (mtime, rest) = keyed(b"mtime", rest)?;
+    let (uid, rest) = keyed(b"uid", rest)?;
+    let (gid, rest) = keyed(b"gid", rest)?;
     none(rest)?;
     let mode = mode_given(mode)?;
     let size = number_given(size)?;
     let mtime = number_given(mtime)?;
-    Ok(Attributes { mode, size, mtime })
+    let uid = id_given(uid)?;
+    let gid = id_given(gid)?;
+    Ok(Attributes {
+        mode,
+        size,
+        mtime,
+        uid,
+        gid,
+    })
+}
+
+/// `[uid N] [gid N]`: in this order, and 0 where it isn't given. What is made has mtime 0.
+#[tactic(auto, unfolding(crate::specs::Attributes::birth_of))]
+pub fn given_birth(words: &[u8]) -> Result<Birth, ReadError>
+    ensures { Reads (λ birth. birth) result (birth_of (words_of words.now)) }
+{
+    let (uid, rest) = keyed(b"uid", words)?;
+    let (gid, left) = keyed(b"gid", rest)?;
+    none(left)?;
+    let uid = id_given(uid)?;
+    let gid = id_given(gid)?;
+    Ok(Birth {
+        mtime: 0,
+        uid: uid.unwrap_or(0),
+        gid: gid.unwrap_or(0),
+    })
 }
 
 // The word behind the key, where the words begin with the key, and the words that are left.
@@ -55,5 +82,15 @@ fn number_given(word: Option<&[u8]>) -> Result<Option<u64>, ReadError>
     match word {
         None => Ok(None),
         Some(word) => Ok(Some(decimal(word)?)),
+    }
+}
+
+// The owner or the group that the word writes, where there is one.
+fn id_given(word: Option<&[u8]>) -> Result<Option<u32>, ReadError>
+    ensures { Reads (λ n. n) result (if_given id_of (option_map (λ w. w.now) word.entry)) }
+{
+    match word {
+        None => Ok(None),
+        Some(word) => Ok(Some(id(word)?)),
     }
 }

@@ -1,12 +1,12 @@
 //! Operations, by the words after the first.
 ghost use Rattle.script_words.specs.Words.{words_of};
 ghost use Rattle.script_words.specs.Reading.{Gives};
-ghost use Rattle.script_text.specs.Operations.{dentry_of, made_of, readdir_of, symlink_of, setattr_of, rename_of, operation_of};
+ghost use Rattle.script_text.specs.Operations.{dentry_of, made_of, readdir_of, symlink_of, setattr_of, setpin_of, rename_of, operation_of};
 
-use crate::attributes::given_attributes;
-use mds_types::{Dentry, Mode, Op};
+use crate::attributes::{given_attributes, given_birth};
+use mds_types::{Birth, Dentry, Mode, Op};
 use script_words::{
-    NOT_COMMAND, ReadError, after_name, after_text, first, four, ino, mode, name, page_size,
+    NOT_COMMAND, ReadError, after_name, after_text, first, four, ino, mode, name, page_size, pin,
     target, text, three, two, two_texts,
 };
 use std::alloc::Global;
@@ -23,19 +23,19 @@ pub fn read_operation(alloc: Global, verb: &[u8], args: &[u8]) -> Result<Op, Rea
         return readdir(alloc, args);
     }
     if verb == b"create".as_slice() {
-        let (dentry, mode) = made(alloc, args)?;
+        let (dentry, mode, birth) = made(alloc, args)?;
         return Ok(Op::Create {
             dentry,
             mode,
-            mtime: 0,
+            birth,
         });
     }
     if verb == b"mkdir".as_slice() {
-        let (dentry, mode) = made(alloc, args)?;
+        let (dentry, mode, birth) = made(alloc, args)?;
         return Ok(Op::Mkdir {
             dentry,
             mode,
-            mtime: 0,
+            birth,
         });
     }
     if verb == b"readlink".as_slice() {
@@ -46,6 +46,9 @@ pub fn read_operation(alloc: Global, verb: &[u8], args: &[u8]) -> Result<Op, Rea
     }
     if verb == b"setattr".as_slice() {
         return setattr(alloc, args);
+    }
+    if verb == b"setpin".as_slice() {
+        return setpin(alloc, args);
     }
     if verb == b"unlink".as_slice() {
         return Ok(Op::Unlink(dentry(alloc, args)?));
@@ -71,17 +74,20 @@ fn dentry(alloc: Global, args: &[u8]) -> Result<Dentry, ReadError>
     Ok(Dentry { dir, name })
 }
 
-// `INO NAME MODE`: a dentry, and the mode of what is made there.
+// `INO NAME MODE [uid N] [gid N]`: a dentry, and what is made there.
 #[tactic(auto, unfolding(crate::specs::Operations::made_of))]
-fn made(alloc: Global, args: &[u8]) -> Result<(Dentry, Mode), ReadError>
+fn made(alloc: Global, args: &[u8]) -> Result<(Dentry, Mode, Birth), ReadError>
     ensures { Gives (λ made. made) result (made_of (words_of args.now)) }
 {
-    let (dir, word, digits) = three(args)?;
+    let (dir, rest) = first(args)?;
+    let (word, rest) = first(rest)?;
+    let (digits, rest) = first(rest)?;
     let dir = ino(dir)?;
     let mode = mode(digits)?;
+    let birth = given_birth(rest)?;
     let bytes = text(alloc, word)?;
     let name = name(bytes)?;
-    Ok((Dentry { dir, name }, mode))
+    Ok((Dentry { dir, name }, mode, birth))
 }
 
 // `readdir INO AFTER MAX`
@@ -97,24 +103,27 @@ fn readdir(alloc: Global, args: &[u8]) -> Result<Op, ReadError>
     Ok(Op::Readdir { dir, after, max })
 }
 
-// `symlink INO NAME TARGET`
+// `symlink INO NAME TARGET [uid N] [gid N]`
 #[tactic(auto, unfolding(crate::specs::Operations::symlink_of))]
 fn symlink(alloc: Global, args: &[u8]) -> Result<Op, ReadError>
     ensures { Gives (λ op. op) result (symlink_of (words_of args.now)) }
 {
-    let (dir, word, to) = three(args)?;
+    let (dir, rest) = first(args)?;
+    let (word, rest) = first(rest)?;
+    let (to, rest) = first(rest)?;
     let dir = ino(dir)?;
+    let birth = given_birth(rest)?;
     let (bytes, to_bytes) = two_texts(alloc, word, to)?;
     let name = name(bytes)?;
     let target = target(alloc, &to_bytes)?;
     Ok(Op::Symlink {
         dentry: Dentry { dir, name },
         target,
-        mtime: 0,
+        birth,
     })
 }
 
-// `setattr INO NAME [mode MODE] [size N] [mtime N]`
+// `setattr INO NAME [mode MODE] [size N] [mtime N] [uid N] [gid N]`
 #[tactic(auto, unfolding(crate::specs::Operations::setattr_of))]
 fn setattr(alloc: Global, args: &[u8]) -> Result<Op, ReadError>
     ensures { Gives (λ op. op) result (setattr_of (words_of args.now)) }
@@ -128,6 +137,22 @@ fn setattr(alloc: Global, args: &[u8]) -> Result<Op, ReadError>
     Ok(Op::Setattr {
         dentry: Dentry { dir, name },
         attributes,
+    })
+}
+
+// `setpin INO NAME RANK`, or `-1` in place of RANK
+#[tactic(auto, unfolding(crate::specs::Operations::setpin_of))]
+fn setpin(alloc: Global, args: &[u8]) -> Result<Op, ReadError>
+    ensures { Gives (λ op. op) result (setpin_of (words_of args.now)) }
+{
+    let (dir, word, pinned) = three(args)?;
+    let dir = ino(dir)?;
+    let pin = pin(pinned)?;
+    let bytes = text(alloc, word)?;
+    let name = name(bytes)?;
+    Ok(Op::SetPin {
+        dentry: Dentry { dir, name },
+        pin,
     })
 }
 

@@ -1,5 +1,5 @@
 -- The words after a command's first: what each kind of them stands for.
-use Rattle.std.specs.Prelude.{ℕ, Bool, false, not, ◌&&◌, ◌==◌, nat_lt, nat_le, if◌then◌else◌, List, [], ◌∷◌, length, Option, Some, None, option_map, option_and_then, Result, Ok, Err}
+use Rattle.std.specs.Prelude.{ℕ, Bool, false, not, ◌&&◌, ◌==◌, nat_lt, nat_le, if◌then◌else◌, List, [], ◌∷◌, codes, length, Option, Some, None, option_map, option_and_then, Result, Ok, Err}
 use Rattle.std.specs.List.{list_all}
 use Rattle.mds_types.specs.declared.ids.Ino.{Ino}
 use Rattle.mds_types.specs.declared.ids.Rank.{Rank}
@@ -9,6 +9,7 @@ use Rattle.script_words.specs.declared.faults.Fault.TheVariants.{BadWord}
 use Rattle.script_words.specs.Numbers.{number_of, octal_mode_of}
 use Rattle.script_words.specs.Escapes.{bytes_of}
 use Rattle.script_words.specs.Reading.{wanted, ◌>>=◌}
+use Rattle.script_words.specs.Words.{is_text}
 
 -- n, if it is low to high
 abbrev pub within : ℕ → ℕ → ℕ → Option ℕ
@@ -25,6 +26,14 @@ rank_of word = wanted (option_map (λ n. record { 0 = n }) (option_and_then (wit
 -- TID, OLDEST and the N of an attribute: decimal
 unfoldable pub decimal_of : List ℕ → Result ℕ Fault
 decimal_of word = wanted (number_of 10 word)
+
+-- the N of an owner or a group: decimal, of 32 bits
+unfoldable pub id_of : List ℕ → Result ℕ Fault
+id_of word = wanted (option_and_then (within 0 4294967295) (number_of 10 word))
+
+-- RANK, or `-1` for no pin
+unfoldable pub pin_of : List ℕ → Result (Option Rank) Fault
+pin_of word = if is_text word (codes "-1") then Ok None else (rank_of word >>= λ rank. Ok (Some rank))
 
 -- n, if it is at least low
 abbrev pub at_least : ℕ → ℕ → Option ℕ

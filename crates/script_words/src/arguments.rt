@@ -1,7 +1,7 @@
 //! The words after a command's first.
 ghost use Rattle.std.specs.Prelude.{◌≡◌, option_map};
 ghost use Rattle.script_words.specs.Reading.{Gives, Reads};
-ghost use Rattle.script_words.specs.Arguments.{ino_of, rank_of, client_of, decimal_of, mode_of, page_size_of, text_of, two_texts_of, after_text_of, name_of, after_name_of, target_of, is_dash};
+ghost use Rattle.script_words.specs.Arguments.{ino_of, rank_of, pin_of, client_of, decimal_of, id_of, mode_of, page_size_of, text_of, two_texts_of, after_text_of, name_of, after_name_of, target_of, is_dash};
 
 use crate::escapes::{is_escaped, unescaped};
 use crate::faults::{Fault, NOT_COMMAND, ReadError};
@@ -33,6 +33,17 @@ pub fn rank(word: &[u8]) -> Result<Rank, ReadError>
     }
 }
 
+/// RANK, or `-1` for no pin.
+#[tactic(auto, unfolding(crate::specs::Arguments::pin_of))]
+pub fn pin(word: &[u8]) -> Result<Option<Rank>, ReadError>
+    ensures { Reads (λ pin. pin) result (pin_of word.now) }
+{
+    if word == b"-1".as_slice() {
+        return Ok(None);
+    }
+    Ok(Some(rank(word)?))
+}
+
 /// CLIENT: decimal, at least 1.
 #[tactic(auto, unfolding(crate::specs::Arguments::client_of))]
 pub fn client(word: &[u8]) -> Result<u64, ReadError>
@@ -52,6 +63,17 @@ pub fn decimal(word: &[u8]) -> Result<u64, ReadError>
     match number(word, 10) {
         Some(n) => Ok(n),
         None => Err(NOT_COMMAND),
+    }
+}
+
+/// The N of an owner or a group: decimal, of 32 bits.
+#[tactic(auto, unfolding(crate::specs::Arguments::id_of))]
+pub fn id(word: &[u8]) -> Result<u32, ReadError>
+    ensures { Reads (λ n. n) result (id_of word.now) }
+{
+    match number(word, 10) {
+        Some(n) if n <= 4_294_967_295 => Ok(n as u32),
+        _ => Err(NOT_COMMAND),
     }
 }
 

@@ -1,24 +1,13 @@
--- What a loop that copies pairs in order leaves.
-use Rattle.std.proofs.Common.{◌≡◌, ◌-◌, suc, true, T, List, [], ◌∷◌, ◌++◌, length, slice_get, Some, None, Ordering, Less, Greater, is_lt, refl, sym, ap, ◌∙◌, subst, arith}
-use Rattle.std.proofs.lemmas.Option.{none-some, same_Some}
+-- What copies of pairs in order are.
+use Rattle.std.proofs.Common.{◌≡◌, ℕ, suc, Bool, true, false, T, List, [], ◌∷◌, ◌++◌, length, Ordering, is_lt, refl, sym, ap, subst, arith}
 use Rattle.std.specs.Cmp.{IsTotalOrder}
 use Rattle.std.specs.List.{AllZip}
-use Rattle.std.specs.Ordering.{ordering_reverse}
-use Rattle.std.specs.FinMap.Entries.{put, is_sorted}
-use Rattle.sorted_map.proofs.Bools.{left_of, right_of}
+use Rattle.std.specs.FinMap.Entries.{is_sorted}
+use Rattle.sorted_map.proofs.Bools.{left_of, right_of, both_of, true_of, false_of}
 use Rattle.sorted_map.specs.SortedMap.{Shown, IsClone}
-use Rattle.sorted_map.specs.Clones.{ClonePair, ends_below}
-use Rattle.sorted_map.proofs.PlaceLaws.{less}
-
-pub zip_end : {A B : Type 0} (P : A → B → Type 0) (xs : List A) (ys : List B) (x : A) (y : B) → AllZip P xs ys → P x y → AllZip P (xs ++ x ∷ []) (ys ++ y ∷ [])
-zip_end P [] [] x y all p = (p, tt)
-zip_end P [] (z ∷ ys) x y all p = absurd all
-zip_end P (w ∷ xs) [] x y all p = absurd all
-zip_end P (w ∷ xs) (z ∷ ys) x y all p = (all.0, zip_end P xs ys x y all.1 p)
-
-pub moved_end : {A : Type 0} (xs : List A) (x : A) (rest : List A) → (xs ++ x ∷ []) ++ rest ≡ xs ++ x ∷ rest
-moved_end [] x rest = refl
-moved_end (w ∷ xs) x rest = ap (λ t. w ∷ t) (moved_end xs x rest)
+use Rattle.sorted_map.specs.Chunks.{flat, total, over, AllSome, AllFew, IsCounted}
+use Rattle.sorted_map.specs.Clones.{ClonePair}
+use Rattle.sorted_map.proofs.PlaceLaws.{less, below_less}
 
 module _ {K V : Type 0} (C : K → K → Type 0) (D : V → V → Type 0) where
   same_pairs : (xs ys : List (K × V)) → AllZip (ClonePair C D) xs ys → ((x y : K) → C x y → y ≡ x) → ((x y : V) → D x y → y ≡ x) → ys ≡ xs
@@ -30,28 +19,71 @@ module _ {K V : Type 0} (C : K → K → Type 0) (D : V → V → Type 0) where
   pub is_clone_of : (old new : Shown K V) → AllZip (ClonePair C D) old.entries new.entries → IsClone C D old new
   is_clone_of old new all = record { pairs = all; exact = same_pairs old.entries new.entries all }
 
+module _ {A B : Type 0} (P : A → B → Type 0) where
+  pub zip_length : (xs : List A) (ys : List B) → AllZip P xs ys → length ys ≡ length xs
+  zip_length [] [] all = refl
+  zip_length [] (y ∷ ys) all = absurd all
+  zip_length (x ∷ xs) [] all = absurd all
+  zip_length (x ∷ xs) (y ∷ ys) all = ap suc (zip_length xs ys all.1)
+
+  zip_append : (xs us : List A) (ys vs : List B) → AllZip P xs ys → AllZip P us vs → AllZip P (xs ++ us) (ys ++ vs)
+  zip_append [] us [] vs all more = more
+  zip_append [] us (y ∷ ys) vs all more = absurd all
+  zip_append (x ∷ xs) us [] vs all more = absurd all
+  zip_append (x ∷ xs) us (y ∷ ys) vs all more = (all.0, zip_append xs us ys vs all.1 more)
+
+  -- ---- chunks whose items are copied one by one
+
+  pub zip_flat : (cs : List (List A)) (ds : List (List B)) → AllZip (AllZip P) cs ds → AllZip P (flat cs) (flat ds)
+  zip_flat [] [] all = tt
+  zip_flat [] (d ∷ ds) all = absurd all
+  zip_flat (c ∷ cs) [] all = absurd all
+  zip_flat (c ∷ cs) (d ∷ ds) all = zip_append c (flat cs) d (flat ds) all.0 (zip_flat cs ds all.1)
+
+  pub zip_some : (cs : List (List A)) (ds : List (List B)) → AllZip (AllZip P) cs ds → AllSome cs → AllSome ds
+  zip_some [] [] all some = tt
+  zip_some [] (d ∷ ds) all some = absurd all
+  zip_some (c ∷ cs) [] all some = tt
+  zip_some (c ∷ cs) (d ∷ ds) all some = (omega (arith, zip_length c d all.0, some.0), zip_some cs ds all.1 some.1)
+
+  zip_few : (cs : List (List A)) (ds : List (List B)) → AllZip (AllZip P) cs ds → AllFew cs → AllFew ds
+  zip_few [] [] all few = tt
+  zip_few [] (d ∷ ds) all few = absurd all
+  zip_few (c ∷ cs) [] all few = tt
+  zip_few (c ∷ cs) (d ∷ ds) all few = (omega (arith, zip_length c d all.0, few.0), zip_few cs ds all.1 few.1)
+
+  zip_total : (cs : List (List A)) (ds : List (List B)) → AllZip (AllZip P) cs ds → total length ds ≡ total length cs
+  zip_total [] [] all = refl
+  zip_total [] (d ∷ ds) all = absurd all
+  zip_total (c ∷ cs) [] all = absurd all
+  zip_total (c ∷ cs) (d ∷ ds) all = omega (arith, zip_length c d all.0, zip_total cs ds all.1)
+
+  zip_over : (cs : List (List A)) (ds : List (List B)) → AllZip (AllZip P) cs ds → over ds ≡ over cs
+  zip_over [] [] all = refl
+  zip_over [] (d ∷ ds) all = absurd all
+  zip_over (c ∷ cs) [] all = absurd all
+  zip_over (c ∷ cs) (d ∷ ds) all = omega (arith, zip_length c d all.0, zip_over cs ds all.1)
+
+  pub zip_counted : {len extra : ℕ} (cs : List (List A)) (ds : List (List B)) → AllZip (AllZip P) cs ds → IsCounted cs len extra → IsCounted ds len extra
+  zip_counted cs ds all counted = record {
+    whole = omega (arith, counted.whole, zip_total cs ds all);
+    beyond = omega (arith, counted.beyond, zip_over cs ds all);
+    few = zip_few cs ds all counted.few;
+  }
+
+-- ---- whether neighbours rise
+
 module _ {K V : Type 0} {R : K → K → Ordering} (o : IsTotalOrder R) where
-  below_last : (k : K) (e : K × V) (es : List (K × V)) → T (is_sorted R (e ∷ es)) → ends_below R k (e ∷ es) ≡ true → R e.0 k ≡ Less
-  below_last k e [] s ends = less _ (subst T (sym ends) tt)
-  below_last k e (f ∷ es) s ends = o.trans e.0 f.0 k (less _ (left_of _ _ (left_of _ _ s))) (below_last k f es (right_of _ _ s) ends)
-
-  -- a key above all others goes behind them
-  pub put_end : (k : K) (v : V) (es : List (K × V)) → T (is_sorted R es) → ends_below R k es ≡ true → put R k v es ≡ es ++ (k, v) ∷ []
-  put_end k v [] s ends = refl
-  put_end k v (e ∷ es) s ends =
-      let above : R k e.0 ≡ Greater = o.antisymm k e.0 ∙ ap ordering_reverse (below_last k e es s ends) in
-      rw above (ap (λ t. e ∷ t) (put_end k v es (right_of _ _ s) (rest es ends)))
+  -- a key that is less than the first of the others is less than all where these rise
+  pub rises_on : (x y : K × V) (es : List (K × V)) → is_lt (R x.0 y.0) ≡ true → is_sorted R (y ∷ es) ≡ is_sorted R (x ∷ y ∷ es)
+  rises_on x y es lower = go (is_sorted R (y ∷ es)) refl
     where
-      rest : (es : List (K × V)) → ends_below R k (e ∷ es) ≡ true → ends_below R k es ≡ true
-      rest [] ends = refl
-      rest (f ∷ es) ends = ends
+      go : (b : Bool) → is_sorted R (y ∷ es) ≡ b → b ≡ is_sorted R (x ∷ y ∷ es)
+      go true is =
+          let rest : T (is_sorted R (y ∷ es)) = subst T (sym is) tt in
+          let first : T (is_lt (R x.0 y.0)) = subst T (sym lower) tt in
+          sym (true_of _ (both_of _ _ (both_of _ _ first (below_less o x.0 y.0 es (less _ first) (left_of _ _ rest))) rest))
+      go false is = sym (false_of _ (λ all. subst T is (right_of _ _ all)))
 
-pub last_below : {K V : Type 0} (R : K → K → Ordering) (k : K) (es : List (K × V)) (x : K × V) → Some x ≡ slice_get es (length es - 1) → is_lt (R x.0 k) ≡ ends_below R k es
-last_below R k [] x is = absurd (none-some x (sym is))
-last_below R k (e ∷ []) x is = ap (λ y. is_lt (R y.0 k)) (same_Some x e is)
-last_below R k (e ∷ f ∷ es) x is = last_below R k (f ∷ es) x (is ∙ ap (slice_get (e ∷ f ∷ es)) {y = suc (length (f ∷ es) - 1)} (omega arith))
-
-pub none_below : {K V : Type 0} (R : K → K → Ordering) (k : K) (es : List (K × V)) → None ≡ slice_get es (length es - 1) → true ≡ ends_below R k es
-none_below R k [] is = refl
-none_below R k (e ∷ []) is = absurd (none-some e is)
-none_below R k (e ∷ f ∷ es) is = none_below R k (f ∷ es) (is ∙ ap (slice_get (e ∷ f ∷ es)) {y = suc (length (f ∷ es) - 1)} (omega arith))
+  pub rises_not : (x y : K × V) (es : List (K × V)) → is_lt (R x.0 y.0) ≡ false → false ≡ is_sorted R (x ∷ y ∷ es)
+  rises_not x y es not_lower = sym (false_of _ (λ all. subst T not_lower (left_of _ _ (left_of _ _ all))))

@@ -1,9 +1,9 @@
 -- What an edit in one chunk is among all the items.
-use Rattle.std.proofs.Common.{◌≡◌, ℕ, zero, suc, ◌+◌, ◌-◌, ◌<◌, ◌≤◌, List, [], ◌∷◌, ◌++◌, length, drop, get_or, slice_get, set, insert, remove, refl, sym, ap, ◌∙◌, arith, length-append, append_assoc}
+use Rattle.std.proofs.Common.{◌≡◌, ℕ, zero, suc, ◌+◌, ◌-◌, ◌<◌, ◌≤◌, List, [], ◌∷◌, ◌++◌, length, drop, get_or, slice_get, set, insert, remove, refl, sym, ap, subst, ◌∙◌, arith, length-append, append_assoc}
 use Rattle.std.specs.Prelude.{◌==◌, false}
 use Rattle.std.proofs.lemmas.Bool.{false≢true}
 use Rattle.std.proofs.lemmas.List.{append-nil}
-use Rattle.sorted_map.specs.Chunks.{flat, start, AllSome, over, load, with_value}
+use Rattle.sorted_map.specs.Chunks.{flat, start, AllSome, with_value}
 use Rattle.sorted_map.proofs.ChunkLaws.{got, got_default}
 
 module _ {A : Type 0} where
@@ -189,15 +189,51 @@ module _ {A : Type 0} where
   flat_none [] none = refl
   flat_none (c ∷ cs) none = absurd (omega (arith, none))
 
-  -- ---- room
+  -- ---- the last chunk
 
-  pub load_some : (cs : List (List A)) → 0 < length cs → load cs ≡ over cs
-  load_some [] some = absurd (omega (arith, some))
-  load_some (c ∷ cs) some = refl
+  pub start_end : (cs : List (List A)) (i : ℕ) → i + 1 ≡ length cs → start cs i + length (get_or cs i []) ≡ length (flat cs)
+  start_end [] i last = absurd (omega (arith, last))
+  start_end (c ∷ []) zero last = omega (arith, length-append c [])
+  start_end (c ∷ d ∷ cs) zero last = absurd (omega (arith, last))
+  start_end (c ∷ cs) (suc i) last = omega (arith, start_end cs i (omega (arith, last)), length-append c (flat cs))
 
-  pub load_most : (cs : List (List A)) → load cs ≤ over cs + 32
-  load_most [] = omega arith
-  load_most (c ∷ cs) = omega arith
+  insert_end : (xs : List A) (n : ℕ) (x : A) → n ≡ length xs → insert xs n x ≡ xs ++ x ∷ []
+  insert_end [] zero x is = refl
+  insert_end [] (suc n) x is = absurd (omega (arith, is))
+  insert_end (y ∷ xs) zero x is = absurd (omega (arith, is))
+  insert_end (y ∷ xs) (suc n) x is = ap (λ t. y ∷ t) (insert_end xs n x (omega (arith, is)))
+
+  pub get_end : (cs : List (List A)) (n : ℕ) (c : List A) → n ≡ length cs → get_or (cs ++ c ∷ []) n [] ≡ c
+  get_end [] zero c is = refl
+  get_end [] (suc n) c is = absurd (omega (arith, is))
+  get_end (d ∷ cs) zero c is = absurd (omega (arith, is))
+  get_end (d ∷ cs) (suc n) c is = get_end cs n c (omega (arith, is))
+
+  set_end : (cs : List (List A)) (n : ℕ) (c d : List A) → n ≡ length cs → set (cs ++ c ∷ []) n d ≡ cs ++ d ∷ []
+  set_end [] zero c d is = refl
+  set_end [] (suc n) c d is = absurd (omega (arith, is))
+  set_end (e ∷ cs) zero c d is = absurd (omega (arith, is))
+  set_end (e ∷ cs) (suc n) c d is = ap (λ t. e ∷ t) (set_end cs n c d (omega (arith, is)))
+
+  flat_end : (cs : List (List A)) (c : List A) → flat (cs ++ c ∷ []) ≡ flat cs ++ c
+  flat_end [] c = append-nil c
+  flat_end (d ∷ cs) c = ap (λ t. d ++ t) (flat_end cs c) ∙ sym (append_assoc d (flat cs) c)
+
+  some_end : (cs : List (List A)) (c : List A) → AllSome cs → 0 < length c → AllSome (cs ++ c ∷ [])
+  some_end [] c all some = (some, tt)
+  some_end (d ∷ cs) c all some = (all.0, some_end cs c all.1 some)
+
+  -- an item that is put into a new chunk behind the others
+  pub put_in_new : (cs opened new : List (List A)) (n : ℕ) (x : A) → n ≡ length cs → opened ≡ cs ++ [] ∷ [] → new ≡ set opened n (insert (get_or opened n []) 0 x) → new ≡ cs ++ (x ∷ []) ∷ []
+  put_in_new cs opened new n x len is put =
+      put ∙ ap (λ l. set l n (insert (get_or l n []) 0 x)) is ∙ ap (λ c. set (cs ++ [] ∷ []) n (insert c 0 x)) (get_end cs n [] len) ∙ set_end cs n [] (x ∷ []) len
+
+  pub flat_in_new : (cs new : List (List A)) (i : ℕ) (x : A) → i + 1 ≡ length cs → length (get_or cs i []) ≡ 64 → new ≡ cs ++ (x ∷ []) ∷ [] → flat new ≡ insert (flat cs) (start cs i + 64) x
+  flat_in_new cs new i x last full is =
+      ap flat is ∙ flat_end cs (x ∷ []) ∙ sym (insert_end (flat cs) (start cs i + 64) x (omega (arith, start_end cs i last, full)))
+
+  pub some_in_new : (cs new : List (List A)) (x : A) → AllSome cs → new ≡ cs ++ (x ∷ []) ∷ [] → AllSome new
+  some_in_new cs new x all is = subst AllSome (sym is) (some_end cs (x ∷ []) all (omega arith))
 
 -- what is read at a place of a chunk
 pub there : {A : Type 0} (row cs : List (List A)) (i at : ℕ) (c pairs : List A) (d : A) → row ≡ cs → i < length row → at < length (get_or row i []) → c ≡ get_or row i c → pairs ≡ c → get_or pairs at d ≡ get_or (flat cs) (start cs i + at) d

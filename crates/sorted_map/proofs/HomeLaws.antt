@@ -48,6 +48,11 @@ module _ {K V : Type 0} (R : K → K → Ordering) (k : K) where
   gap_home (c ∷ cs) zero at home h = subst (IsGap R k (c ++ flat cs)) (omega arith) (gap_front c (flat cs) at h home)
   gap_home (c ∷ cs) (suc i) at home h = gap_behind c (flat cs) (start cs i + at) (start (c ∷ cs) (suc i) + at) (omega arith) home.0 (gap_home cs i at home.1 h)
 
+  -- a place among the first pairs, where the key is less than the others
+  pub place_front : (c fs : List (K × V)) (r : Result ℕ ℕ) → IsPlace R k c r → IsGap R k fs zero → IsPlace R k (c ++ fs) r
+  place_front c fs (Ok at) h rest = at_front c fs at h rest
+  place_front c fs (Err at) h rest = gap_front c fs at h rest
+
   pub place_home : (cs : List (List (K × V))) (i : ℕ) (r : Result ℕ ℕ) → IsHome R k cs i → IsPlace R k (get_or cs i []) r → IsPlace R k (flat cs) (place_in cs i r)
   place_home cs i (Ok at) home h = at_home cs i at home h
   place_home cs i (Err at) home h = gap_home cs i at home h

@@ -1,5 +1,5 @@
 -- What the place of a key says of look-ups and edits of pairs in order.
-use Rattle.std.proofs.Common.{◌≡◌, ℕ, zero, suc, ◌<◌, ◌≤◌, ◌-◌, add-one, Bool, true, false, not, T, List, [], ◌∷◌, length, get_or, set, drop, insert, remove, Some, None, Result, Ok, Err, Ordering, Less, Equal, Greater, is_lt, is_gt, refl, sym, ap, ◌∙◌, subst, arith}
+use Rattle.std.proofs.Common.{◌≡◌, ℕ, zero, suc, ◌<◌, ◌≤◌, add-one, Bool, true, false, not, T, List, [], ◌∷◌, length, get_or, set, drop, insert, remove, Some, None, Result, Ok, Err, Ordering, Less, Equal, Greater, is_lt, is_gt, refl, sym, ap, ◌∙◌, subst, arith}
 use Rattle.std.proofs.lemmas.Bool.{false≢true}
 use Rattle.std.specs.List.{IsAllAdjacentAnswer}
 use Rattle.std.specs.Cmp.{IsTotalOrder, tied_itself, tied_back, alike_right}
@@ -81,9 +81,17 @@ module _ {K V : Type 0} (R : K → K → Ordering) (k : K) where
   from_at (e ∷ es) zero h = rw h.0 (ap (λ t. e ∷ t) (from_gap es zero h.1))
   from_at (e ∷ es) (suc i) h = rw h.0 (from_at es i h.1)
 
-  pub past_none : (es : List (K × V)) → length es ≡ 0 → IsGap R k es (length es)
-  past_none [] none = tt
-  past_none (e ∷ es) none = absurd (omega (arith, none))
+  -- the pairs from one on that are above the key, and that one is too
+  pub gap_more : (es : List (K × V)) (i : ℕ) (d : K × V) → i < length es → R k (get_or es i d).0 ≡ Less → IsGap R k (drop (suc i) es) zero → IsGap R k (drop i es) zero
+  gap_more [] i d lt above rest = absurd (omega (arith, lt))
+  gap_more (e ∷ es) zero d lt above rest = (above, rest)
+  gap_more (e ∷ es) (suc i) d lt above rest = gap_more es i d (omega (arith, lt)) above rest
+
+  pub gap_none : (es : List (K × V)) (i : ℕ) → length es ≤ i → IsGap R k (drop i es) zero
+  gap_none [] zero le = tt
+  gap_none [] (suc i) le = tt
+  gap_none (e ∷ es) zero le = absurd (omega (arith, le))
+  gap_none (e ∷ es) (suc i) le = gap_none es i (omega (arith, le))
 
 -- ---- where a binary search ends, in a total order
 
@@ -104,21 +112,23 @@ module _ {K V : Type 0} {R : K → K → Ordering} (o : IsTotalOrder R) where
   below_at x (e ∷ es) zero d h lt = less _ (left_of _ _ h)
   below_at x (e ∷ es) (suc i) d h lt = below_at x es i d (right_of _ _ h) (omega arith)
 
-  -- a key above the last of a list would go behind it
-  pub past_last : (k : K) (es : List (K × V)) (i : ℕ) (d : K × V) → T (is_sorted R es) → suc i ≡ length es → R k (get_or es i d).0 ≡ Greater → IsGap R k es (suc i)
-  past_last k [] i d s len above = absurd (omega (arith, len))
-  past_last k (x ∷ []) zero d s len above = (above, tt)
-  past_last k (x ∷ y ∷ es) zero d s len above = absurd (omega (arith, len))
-  past_last k (x ∷ es) (suc i) d s len above =
-      let highest = get_or es i d in
-      let below : R x.0 highest.0 ≡ Less = below_at x.0 es i d (left_of _ _ s) (omega (arith, len)) in
-      (turned o x.0 k Less (o.trans x.0 highest.0 k below (turned o k highest.0 Greater above)), past_last k es i d (right_of _ _ s) (omega (arith, len)) above)
+  -- a key above one of a list, where the pairs behind that one are above the key
+  pub gap_behind : (k : K) (es : List (K × V)) (i : ℕ) (d : K × V) → T (is_sorted R es) → i < length es → R k (get_or es i d).0 ≡ Greater → IsGap R k (drop (suc i) es) zero → IsGap R k es (suc i)
+  gap_behind k [] i d s lt above rest = absurd (omega (arith, lt))
+  gap_behind k (x ∷ es) zero d s lt above rest = (above, rest)
+  gap_behind k (x ∷ es) (suc i) d s lt above rest =
+      let next = get_or es i d in
+      let below : R x.0 next.0 ≡ Less = below_at x.0 es i d (left_of _ _ s) (omega (arith, lt)) in
+      (turned o x.0 k Less (o.trans x.0 next.0 k below (turned o k next.0 Greater above)), gap_behind k es i d (right_of _ _ s) (omega (arith, lt)) above rest)
 
-  pub past_end : (k : K) (es : List (K × V)) (d : K × V) → T (is_sorted R es) → is_gt (R k (get_or es (length es - 1) d).0) ≡ true → IsGap R k es (length es)
-  past_end k [] d s above = tt
-  past_end k (e ∷ es) d s above =
-      let is : length (e ∷ es) - 1 ≡ length es = omega arith in
-      past_last k (e ∷ es) (length es) d s refl (greater _ (subst (λ n. is_gt (R k (get_or (e ∷ es) n d).0) ≡ true) is above))
+  -- a key that ties with one of a list
+  pub at_tied : (k : K) (es : List (K × V)) (i : ℕ) (d : K × V) → T (is_sorted R es) → i < length es → R k (get_or es i d).0 ≡ Equal → IsGap R k (drop (suc i) es) zero → IsAt R k es i
+  at_tied k [] i d s lt tied rest = absurd (omega (arith, lt))
+  at_tied k (x ∷ es) zero d s lt tied rest = (tied, rest)
+  at_tied k (x ∷ es) (suc i) d s lt tied rest =
+      let next = get_or es i d in
+      let below : R x.0 next.0 ≡ Less = below_at x.0 es i d (left_of _ _ s) (omega (arith, lt)) in
+      (turned o x.0 k Less (sym (alike_right o next.0 k x.0 (tied_back o k next.0 tied)) ∙ below), at_tied k es i d (right_of _ _ s) (omega (arith, lt)) tied rest)
 
   -- a key that ties with one that is below all of a list would go before it
   pub gap_tied : (x k : K) (es : List (K × V)) → R x k ≡ Equal → T (below_all R x es) → IsGap R k es zero

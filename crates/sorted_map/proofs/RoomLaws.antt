@@ -1,10 +1,9 @@
 -- What an edit of a row of chunks does to its room.
-use Rattle.std.proofs.Common.{◌≡◌, ℕ, ◌+◌, ◌-◌, ◌<◌, ◌≤◌, List, [], ◌++◌, length, take, drop, get_or, set, insert, remove, sym, ap, ◌∙◌, subst, arith, length-append, length-set, length-take-le, length-drop}
+use Rattle.std.proofs.Common.{◌≡◌, ℕ, zero, suc, ◌+◌, ◌-◌, ◌<◌, ◌≤◌, List, [], ◌∷◌, ◌++◌, length, take, drop, get_or, set, insert, remove, refl, sym, ap, ◌∙◌, subst, arith, length-append, length-set, length-take-le, length-drop}
 use Rattle.std.proofs.lemmas.List.Edits.{length-insert, length-remove}
-use Rattle.sorted_map.specs.Chunks.{flat, start, AllSome, load, room_by}
-use Rattle.sorted_map.proofs.ChunkLaws.{total_set, total_insert, total_remove, total_part, part_removed}
+use Rattle.sorted_map.specs.Chunks.{flat, start, AllSome, load, over, room_by}
 use Rattle.std.proofs.lemmas.List.{take-append-drop}
-use Rattle.sorted_map.proofs.FlatLaws.{load_some, load_most, flat_split, start_split, start_split_next, get_split, get_split_next, some_set, some_insert}
+use Rattle.sorted_map.proofs.FlatLaws.{flat_split, start_split, start_split_next, get_split, get_split_next, some_set, some_insert}
 
 -- what is lost by so much more load, and by so many spare chunks less
 pub room_less : (s t a b : ℕ) → s ≡ t → b ≤ a + 1 → room_by s a ≤ room_by t b + 1
@@ -21,25 +20,67 @@ pub room_apart : (s t a b : ℕ) → t + 1 ≡ s → b + 32 ≤ a + 1 → room_b
 room_apart s t a b less loads = omega (arith, less, loads)
 
 module _ {A : Type 0} where
-  -- a row with some chunk has no load but what is beyond the halves
-  pub set_load : (cs : List (List A)) (i : ℕ) (c : List A) → i < length cs → load (set cs i c) + (length (get_or cs i []) - 32) ≡ load cs + (length c - 32)
-  set_load cs i c lt =
-      let new = load_some (set cs i c) (omega (arith, length-set cs i c, lt)) in
-      let old = load_some cs (omega (arith, lt)) in
-      omega (arith, new, old, total_set (λ c. length c - 32) cs i c lt)
+  load_more : (c : List A) (cs : List (List A)) → 0 < length cs → load (c ∷ cs) ≡ (length c - 32) + load cs
+  load_more c [] some = absurd (omega (arith, some))
+  load_more c (d ∷ cs) some = refl
+
+  -- what a row tells of itself: what it has beyond its halves, and what the half of its last chunk has
+  pub load_is : (cs : List (List A)) (i : ℕ) → i + 1 ≡ length cs → load cs ≡ over cs + (length (get_or cs i []) - (length (get_or cs i []) - 32))
+  load_is [] i last = absurd (omega (arith, last))
+  load_is (c ∷ []) zero last = omega arith
+  load_is (c ∷ []) (suc i) last = absurd (omega (arith, last))
+  load_is (c ∷ d ∷ cs) zero last = absurd (omega (arith, last))
+  load_is (c ∷ d ∷ cs) (suc i) last = omega (arith, load_is (d ∷ cs) i (omega (arith, last)))
+
+  pub none_load : (cs : List (List A)) → length cs ≡ 0 → load cs ≡ 32
+  none_load [] none = refl
+  none_load (c ∷ cs) none = absurd (omega (arith, none))
+
+  -- a chunk becomes one with so many items more
+  set_load : (cs : List (List A)) (i : ℕ) (c : List A) (n : ℕ) → length c ≤ length (get_or cs i []) + n → load (set cs i c) ≤ load cs + n
+  set_load [] i c n more = omega arith
+  set_load (x ∷ []) zero c n more = more
+  set_load (x ∷ []) (suc i) c n more = omega arith
+  set_load (x ∷ y ∷ cs) zero c n more = omega (arith, more)
+  set_load (x ∷ y ∷ cs) (suc i) c n more =
+      omega (arith, load_more x (set (y ∷ cs) i c) (omega (arith, length-set (y ∷ cs) i c)), set_load (y ∷ cs) i c n more)
+
+  pub same_load : (cs : List (List A)) (i : ℕ) (c : List A) → length c ≡ length (get_or cs i []) → load (set cs i c) ≡ load cs
+  same_load [] i c same = refl
+  same_load (x ∷ []) zero c same = same
+  same_load (x ∷ []) (suc i) c same = refl
+  same_load (x ∷ y ∷ cs) zero c same = ap (λ n. (n - 32) + load (y ∷ cs)) same
+  same_load (x ∷ y ∷ cs) (suc i) c same =
+      load_more x (set (y ∷ cs) i c) (omega (arith, length-set (y ∷ cs) i c)) ∙ ap (λ n. (length x - 32) + n) (same_load (y ∷ cs) i c same)
 
   pub put_load : (cs : List (List A)) (i at : ℕ) (x : A) → i < length cs → at ≤ length (get_or cs i []) → load (set cs i (insert (get_or cs i []) at x)) ≤ load cs + 1
-  put_load cs i at x lt within = omega (arith, set_load cs i (insert (get_or cs i []) at x) lt, length-insert (get_or cs i []) at x within)
+  put_load cs i at x lt within = set_load cs i (insert (get_or cs i []) at x) 1 (omega (arith, length-insert (get_or cs i []) at x within))
 
   pub take_load : (cs : List (List A)) (i at : ℕ) → i < length cs → at < length (get_or cs i []) → load (set cs i (remove (get_or cs i []) at)) ≤ load cs
-  take_load cs i at lt within = omega (arith, set_load cs i (remove (get_or cs i []) at) lt, length-remove (get_or cs i []) at within)
+  take_load cs i at lt within = omega (arith, set_load cs i (remove (get_or cs i []) at) 0 (omega (arith, length-remove (get_or cs i []) at within)))
 
   pub full_load : (cs : List (List A)) (i : ℕ) → i < length cs → length (get_or cs i []) ≡ 64 → 32 ≤ load cs
-  full_load cs i lt full = omega (arith, load_some cs (omega (arith, lt)), total_part (λ c. length c - 32) cs i lt, full)
+  full_load [] i lt full = absurd (omega (arith, lt))
+  full_load (x ∷ []) zero lt full = omega (arith, full)
+  full_load (x ∷ []) (suc i) lt full = absurd (omega (arith, lt))
+  full_load (x ∷ y ∷ cs) zero lt full = omega (arith, full)
+  full_load (x ∷ y ∷ cs) (suc i) lt full = omega (arith, full_load (y ∷ cs) i (omega (arith, lt)) full)
 
   -- where a chunk is full there is room only by a spare one
   pub full_spare : (s : ℕ) (cs : List (List A)) (i : ℕ) → i < length cs → length (get_or cs i []) ≡ 64 → 0 < room_by s (load cs) → 0 < s
   full_spare s cs i lt full some = omega (arith, full_load cs i lt full, some)
+
+  halved_load : (cs : List (List A)) (i j : ℕ) (a b : List A) → j ≡ i + 1 → i < length cs → length (get_or cs i []) ≡ 64 → length a ≡ 32 → length b ≡ 32 → load (insert (set cs i a) j b) + 32 ≡ load cs
+  halved_load [] i j a b next lt full la lb = absurd (omega (arith, lt))
+  halved_load cs i zero a b next lt full la lb = absurd (omega (arith, next))
+  halved_load (x ∷ cs) zero (suc (suc j)) a b next lt full la lb = absurd (omega (arith, next))
+  halved_load (x ∷ []) zero (suc zero) a b next lt full la lb = omega (arith, full, la, lb)
+  halved_load (x ∷ y ∷ cs) zero (suc zero) a b next lt full la lb = omega (arith, full, la, lb)
+  halved_load (x ∷ []) (suc i) (suc j) a b next lt full la lb = absurd (omega (arith, lt))
+  halved_load (x ∷ y ∷ cs) (suc i) (suc j) a b next lt full la lb =
+      let within : j ≤ length (set (y ∷ cs) i a) = omega (arith, next, lt, length-set (y ∷ cs) i a) in
+      let some : 0 < length (insert (set (y ∷ cs) i a) j b) = omega (arith, length-insert (set (y ∷ cs) i a) j b within) in
+      omega (arith, load_more x (insert (set (y ∷ cs) i a) j b) some, halved_load (y ∷ cs) i j a b (omega (arith, next)) (omega (arith, lt)) full la lb)
 
   pub split_load : (cs : List (List A)) (i : ℕ) → i < length cs → length (get_or cs i []) ≡ 64 → load (insert (set cs i (take 32 (get_or cs i []))) (i + 1) (drop 32 (get_or cs i []))) + 32 ≡ load cs
   split_load cs i lt full =
@@ -47,26 +88,51 @@ module _ {A : Type 0} where
       let b = drop 32 (get_or cs i []) in
       let la : length a ≡ 32 = length-take-le 32 (get_or cs i []) (omega (arith, full)) in
       let lb : length b ≡ 32 = length-drop 32 (get_or cs i []) ∙ omega (arith, full) in
-      let count : length (set cs i a) ≡ length cs = length-set cs i a in
-      let next : i + 1 ≤ length (set cs i a) = omega (arith, count, lt) in
-      let new = load_some (insert (set cs i a) (i + 1) b) (omega (arith, length-insert (set cs i a) (i + 1) b next)) in
-      let old = load_some cs (omega (arith, lt)) in
-      omega (arith, new, old, la, lb, full, total_set (λ c. length c - 32) cs i a lt, total_insert (λ c. length c - 32) (set cs i a) (i + 1) b next)
+      halved_load cs i (i + 1) a b refl lt full la lb
 
-  pub join_load : (cs : List (List A)) (i : ℕ) → i + 1 < length cs → length (get_or cs i []) + length (get_or cs (i + 1) []) ≤ 64 → load (set (remove cs (i + 1)) i (get_or cs i [] ++ get_or cs (i + 1) [])) ≤ load cs + 32
-  join_load cs i lt few =
-      let rest = remove cs (i + 1) in
-      let c = get_or cs i [] ++ get_or cs (i + 1) [] in
-      let count : length rest + 1 ≡ length cs = length-remove cs (i + 1) lt in
-      let here : i < length rest = omega (arith, count, lt) in
-      let lc : length c ≡ length (get_or cs i []) + length (get_or cs (i + 1) []) = length-append (get_or cs i []) (get_or cs (i + 1) []) in
-      let lp : length (get_or rest i []) ≡ length (get_or cs i []) = ap length (part_removed cs i lt) in
-      let old = load_some cs (omega (arith, lt)) in
-      let new = load_some (set rest i c) (omega (arith, length-set rest i c, here)) in
-      omega (arith, old, new, lc, lp, few, total_set (λ c. length c - 32) rest i c here, total_remove (λ c. length c - 32) cs (i + 1) lt)
+  joined_load : (cs : List (List A)) (i j : ℕ) (c : List A) → j ≡ i + 1 → j < length cs → length c ≡ length (get_or cs i []) + length (get_or cs j []) → load (set (remove cs j) i c) ≤ load cs + 32
+  joined_load [] i j c next lt both = absurd (omega (arith, lt))
+  joined_load cs i zero c next lt both = absurd (omega (arith, next))
+  joined_load (x ∷ []) i (suc j) c next lt both = absurd (omega (arith, lt))
+  joined_load (x ∷ y ∷ cs) zero (suc (suc j)) c next lt both = absurd (omega (arith, next))
+  joined_load (x ∷ y ∷ []) zero (suc zero) c next lt both = omega (arith, both)
+  joined_load (x ∷ y ∷ z ∷ cs) zero (suc zero) c next lt both = omega (arith, both)
+  joined_load (x ∷ y ∷ cs) (suc i) (suc j) c next lt both =
+      let rest = remove (y ∷ cs) j in
+      let within : j < length (y ∷ cs) = omega (arith, lt) in
+      let some : 0 < length (set rest i c) = omega (arith, next, lt, length-set rest i c, length-remove (y ∷ cs) j within) in
+      omega (arith, load_more x (set rest i c) some, joined_load (y ∷ cs) i j c (omega (arith, next)) within both)
+
+  pub join_load : (cs : List (List A)) (i : ℕ) → i + 1 < length cs → load (set (remove cs (i + 1)) i (get_or cs i [] ++ get_or cs (i + 1) [])) ≤ load cs + 32
+  join_load cs i lt =
+      joined_load cs i (i + 1) (get_or cs i [] ++ get_or cs (i + 1) []) refl lt (length-append (get_or cs i []) (get_or cs (i + 1) []))
 
   pub aside_load : (cs : List (List A)) (i : ℕ) → i < length cs → load (remove cs i) ≤ load cs + 32
-  aside_load cs i lt = omega (arith, load_most (remove cs i), load_some cs (omega (arith, lt)), total_remove (λ c. length c - 32) cs i lt)
+  aside_load [] i lt = absurd (omega (arith, lt))
+  aside_load (x ∷ []) zero lt = omega arith
+  aside_load (x ∷ []) (suc i) lt = absurd (omega (arith, lt))
+  aside_load (x ∷ y ∷ cs) zero lt = omega arith
+  aside_load (x ∷ y ∷ []) (suc zero) lt = omega arith
+  aside_load (x ∷ y ∷ []) (suc (suc i)) lt = absurd (omega (arith, lt))
+  aside_load (x ∷ y ∷ z ∷ cs) (suc i) lt =
+      let within : i < length (y ∷ z ∷ cs) = omega (arith, lt) in
+      omega (arith, load_more x (remove (y ∷ z ∷ cs) i) (omega (arith, length-remove (y ∷ z ∷ cs) i within)), aside_load (y ∷ z ∷ cs) i within)
+
+  -- an item in a new chunk, behind a full one
+  behind_load : (cs : List (List A)) (i : ℕ) (x : A) → i + 1 ≡ length cs → length (get_or cs i []) ≡ 64 → load (cs ++ (x ∷ []) ∷ []) + 31 ≡ load cs
+  behind_load [] i x last full = absurd (omega (arith, last))
+  behind_load (c ∷ []) zero x last full = omega (arith, full)
+  behind_load (c ∷ []) (suc i) x last full = absurd (omega (arith, last))
+  behind_load (c ∷ d ∷ cs) zero x last full = absurd (omega (arith, last))
+  behind_load (c ∷ d ∷ cs) (suc i) x last full = omega (arith, behind_load (d ∷ cs) i x (omega (arith, last)) full)
+
+  pub new_load : (cs new : List (List A)) (i : ℕ) (x : A) → i + 1 ≡ length cs → length (get_or cs i []) ≡ 64 → new ≡ cs ++ (x ∷ []) ∷ [] → load new + 31 ≡ load cs
+  new_load cs new i x last full is = ap (λ l. load l + 31) is ∙ behind_load cs i x last full
+
+  -- and in the first chunk
+  pub first_load : (cs new : List (List A)) (x : A) → length cs ≡ 0 → new ≡ cs ++ (x ∷ []) ∷ [] → load new + 31 ≡ load cs
+  first_load [] new x none is = ap (λ l. load l + 31) is
+  first_load (c ∷ cs) new x none is = absurd (omega (arith, none))
 
 -- what a split leaves
 pub record SplitFacts {A : Type 0} (cs new : List (List A)) (i : ℕ) : Type 0 where

@@ -47,13 +47,15 @@ module _ {A : Type 0} where
     pub beyond : extra ≡ over cs
     pub few : AllFew cs
 
-  -- how many items the chunks have beyond their halves, and where there is no chunk yet, one half more for the first
+  -- how many places of all halves are taken: beyond its own half each chunk takes from those that are still to come, and of the last
+  -- each item counts, since it may be left full where another chunk is opened behind it; where there is no chunk yet, one half for the first
   abbrev pub load : List (List A) → ℕ
   load [] = 32
-  load (c ∷ cs) = over (c ∷ cs)
+  load (c ∷ []) = length c
+  load (c ∷ d ∷ cs) = (length c - 32) + load (d ∷ cs)
 
 -- how many insertions surely fit: one for each spare chunk, and where chunks are not much more than half full, one for each place
--- that is left in their halves and in the two halves of the spare ones, since each chunk that is split leaves two halves
+-- that is left in a half for each spare one and one more, since each chunk that is split leaves two halves
 abbrev pub room_by : ℕ → ℕ → ℕ
 room_by spare load = spare + (((32 * spare + 32) - load) - spare)
 

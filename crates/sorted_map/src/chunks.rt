@@ -6,11 +6,13 @@
 
 mod chunk;
 mod edits;
+mod into_iters;
 mod iters;
 mod row;
 pub mod vectors;
 
 pub use chunk::{Chunk, HALF, MOST};
 pub use edits::{put_new, put_value, take_out};
+pub use into_iters::IntoIter;
 pub use iters::Iter;
 pub use row::Chunks;

@@ -67,12 +67,12 @@ impl<K: ExactOrd + Drop, V: Drop> SortedMap<K, V> {
     }
 
     // Puts all pairs of another map in, for which there is room.
-    fn put_all(&mut self, mut over: SortedMap<K, V>)
+    fn put_all(&mut self, over: SortedMap<K, V>)
         requires { map.len (contents K.cmp over) ≤ self.old.room }
         ensures laid { contents K.cmp self.new ≡ overlaid (contents K.cmp self.old) (contents K.cmp over) }
         ensures room { self.old.room ≤ self.new.room + map.len (contents K.cmp over) }
     {
-        while let Some(pair) = over.pop_first() {
+        for pair in over {
             self.put(pair);
         }
     }

@@ -18,6 +18,6 @@ mod places;
 mod ranges;
 mod removals;
 
-pub use chunks::Iter;
+pub use chunks::{IntoIter, Iter};
 pub use keys::{ExactOrd, Probe};
 pub use map::SortedMap;

@@ -47,6 +47,14 @@ impl<K: ExactOrd, V> SortedMap<K, V> {
         }
     }
 
+    // The allocator that the pairs are kept by.
+    pub(crate) fn allocator(&self) -> Global {
+        match &self.store {
+            Store::Flat(flat) => flat.allocator(),
+            Store::Chunked(chunked) => chunked.allocator(),
+        }
+    }
+
     /// How many pairs there are.
     pub fn len(&self) -> usize
         ensures len { result ≡ map.len (contents K.cmp self.now) }

@@ -7,6 +7,10 @@ ghost use Rattle.sorted_map.specs.SortedMap.{after, is_from};
 ghost use Rattle.sorted_map.specs.Places.{IsPlace};
 
 use crate::keys::Probe;
+use std::cmp::Ordering;
+
+/// How many of the last pairs are tried one by one.
+const TRIES: usize = 4;
 
 // The place of the probe's key, or that where it would go.
 pub(crate) fn place<K: Ord, V, Q: Probe<K>>(pairs: &[(K, V)], q: &Q) -> Result<usize, usize>
@@ -17,7 +21,7 @@ pub(crate) fn place<K: Ord, V, Q: Probe<K>>(pairs: &[(K, V)], q: &Q) -> Result<u
     pairs.binary_search_by(|pair| q.order(&pair.0).reverse())
 }
 
-// The same, but the end is tried first: keys often come in their order.
+// The same, but the last pairs are tried first, one after the other: keys often come in their order, or nearly so.
 pub(crate) fn place_from_end<K: Ord, V, Q: Probe<K>>(
     pairs: &[(K, V)],
     q: &Q,
@@ -26,11 +30,16 @@ pub(crate) fn place_from_end<K: Ord, V, Q: Probe<K>>(
     ensures within { IsSearchInRange result (length pairs.now) }
     ensures place { IsPlace K.cmp (Q.key q.now) pairs.now result }
 {
-    let len = pairs.len();
-    if len == 0 || q.order(&pairs[len - 1].0).is_gt() {
-        return Err(len);
+    let mut high = pairs.len();
+    let least = high.saturating_sub(TRIES);
+    while least < high {
+        match q.order(&pairs[high - 1].0) {
+            Ordering::Greater => return Err(high),
+            Ordering::Equal => return Ok(high - 1),
+            Ordering::Less => high -= 1,
+        }
     }
-    place(pairs, q)
+    place(&pairs[..high], q)
 }
 
 // The place from which on no key is less than the probe's.

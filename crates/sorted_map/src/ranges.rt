@@ -4,7 +4,7 @@ ghost use Rattle.std.specs.FinMap as map;
 ghost use Rattle.std.specs.FinMap.Entries.{where_key};
 ghost use Rattle.sorted_map.specs.SortedMap.{contents, after, is_from};
 
-use crate::chunks::Iter;
+use crate::chunks::{IntoIter, Iter};
 use crate::keys::{ExactOrd, Probe};
 use crate::map::{SortedMap, Store};
 
@@ -51,5 +51,23 @@ impl<'a, K: ExactOrd, V> IntoIterator for &'a SortedMap<K, V> {
 
     fn into_iter(self) -> Iter<'a, K, V> {
         self.iter()
+    }
+}
+
+impl<K: ExactOrd + Drop, V: Drop> IntoIterator for SortedMap<K, V> {
+    type Item = (K, V);
+
+    type IntoIter = IntoIter<K, V>;
+
+    ghost into_iter_gives = { λ m r. r ≡ map.entries (contents K.cmp m) };
+
+    /// The pairs in the order of their keys, given away.
+    fn into_iter(self) -> IntoIter<K, V> {
+        // The contract of `len` is what says here that the keys of a map rise.
+        let _ = self.len();
+        match self.store {
+            Store::Flat(flat) => flat.into_iter(),
+            Store::Chunked(chunked) => chunked.into_iter(),
+        }
     }
 }

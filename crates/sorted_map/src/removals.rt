@@ -6,6 +6,7 @@ ghost use Rattle.sorted_map.specs.Overlay.{without_keys};
 
 use crate::keys::{ExactOrd, Probe};
 use crate::map::{SortedMap, Store};
+use std::mem;
 
 impl<K: ExactOrd + Drop, V: Drop> SortedMap<K, V> {
     /// Forgets each pair whose key is less than the probe's.
@@ -17,6 +18,16 @@ impl<K: ExactOrd + Drop, V: Drop> SortedMap<K, V> {
             Store::Flat(flat) => flat.remove_below(q),
             Store::Chunked(chunked) => chunked.remove_below(q),
         }
+    }
+
+    /// Takes all pairs out, with their places: the map is empty then, and has no room.
+    pub fn take(&mut self) -> SortedMap<K, V>
+        ensures taken { result ≡ self.old }
+        ensures empty { contents K.cmp self.new ≡ map.empty }
+        ensures room { self.new.room ≡ 0 }
+    {
+        let empty = SortedMap::new(self.allocator());
+        mem::replace(self, empty)
     }
 
     /// Takes out each pair whose key the other map has.

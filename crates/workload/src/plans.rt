@@ -3,7 +3,7 @@ ghost use Rattle.std.specs.Prelude.{◌≡◌, IfSome, vec_len};
 
 use crate::setup::Home;
 use cluster_core::Event;
-use mds_types::{Dentry, Frag, Mode, Name, Op, Rank, Request};
+use mds_types::{Birth, Dentry, Frag, Mode, Name, Op, Rank, Request};
 use rank_threads::Turn;
 use std::alloc::Global;
 
@@ -86,6 +86,6 @@ fn create(alloc: Global, home: Home, number: u16) -> Option<Op> {
             name,
         },
         mode,
-        mtime: 0,
+        birth: Birth::OF_ROOT,
     })
 }

@@ -5,7 +5,7 @@ ghost use Rattle.std.specs.FinMap as map;
 use crate::asking::ask;
 use crate::handing::hand;
 use cluster_core::{Book, format};
-use mds_types::{Dentry, Ino, Mode, Name, Op, Rank, Reply, Request};
+use mds_types::{Birth, Dentry, Ino, Mode, Name, Op, Rank, Reply, Request};
 use objstore::MemStore;
 use std::alloc::Global;
 
@@ -125,6 +125,6 @@ fn mkdir(alloc: Global, number: u8) -> Option<Op> {
             name,
         },
         mode,
-        mtime: 0,
+        birth: Birth::OF_ROOT,
     })
 }

@@ -4,7 +4,7 @@ ghost use Rattle.std.specs.FinMap as map;
 ghost use Rattle.sorted_map.specs.SortedMap.{contents, first_pair};
 
 use crate::chunked::map::ChunkMap;
-use crate::chunked::places::spot;
+use crate::chunked::places::{spot, spot_from_end};
 use crate::chunks::{put_new, put_value, take_out};
 use crate::keys::{ExactOrd, Probe};
 
@@ -16,7 +16,7 @@ impl<K: ExactOrd + Drop, V: Drop> ChunkMap<K, V> {
         ensures inserted { contents K.cmp self.new ≡ map.insert (contents K.cmp self.old) key value }
         ensures room { (if is_some result then self.old.room else self.old.room - 1) ≤ self.new.room }
     {
-        match spot(self.chunks.row(), &key) {
+        match spot_from_end(self.chunks.row(), &key) {
             (home, Ok(at)) => Some(put_value(&mut self.chunks, home, at, value)),
             (home, Err(at)) => {
                 put_new(&mut self.chunks, home, at, (key, value));

@@ -1,12 +1,12 @@
 //! A map in chunks: what a contract sees of it, and the calls that read it or make room.
-ghost use Rattle.std.specs.Prelude.{◌≡◌, ◌≤◌, ◌↔◌, T, IsTrue, IsOk, OnOk, OnErr, option_copied};
+ghost use Rattle.std.specs.Prelude.{◌≡◌, ◌-◌, ◌≤◌, ◌↔◌, T, IsTrue, IsOk, OnOk, OnErr, option_copied};
 ghost use Rattle.std.specs.FinMap as map;
 ghost use Rattle.std.specs.FinMap.{is_sorted};
 ghost use Rattle.sorted_map.specs.SortedMap.{contents, first_pair, last_pair};
-ghost use Rattle.sorted_map.specs.Chunks.{room_in};
+ghost use Rattle.sorted_map.specs.Chunks.{load, room_in};
 
 use crate::chunked::places::spot;
-use crate::chunks::{Chunks, HALF};
+use crate::chunks::{Chunks, HALF, IntoIter};
 use crate::keys::{ExactOrd, Probe};
 use std::alloc::{AllocError, Global};
 use std::marker::Model;
@@ -116,18 +116,43 @@ impl<K: ExactOrd, V> ChunkMap<K, V> {
     }
 }
 
+impl<K: ExactOrd + Drop, V: Drop> ChunkMap<K, V> {
+    /// The pairs in the order of their keys, given away.
+    pub(crate) fn into_iter(self) -> IntoIter<K, V>
+        ensures { result ≡ self.entries }
+    {
+        let none = Vec::new(self.chunks.allocator());
+        IntoIter::new(none, self.chunks.into_row())
+    }
+}
+
 // How many insertions surely fit.
 fn room_of<K, V>(chunks: &Chunks<K, V>) -> usize
     ensures { result ≡ room_in chunks.now }
 {
     let spare = chunks.spare();
-    let load = if chunks.row().is_empty() {
-        HALF
-    } else {
-        chunks.extra()
-    };
+    let load = load_of(chunks);
     let halves = (HALF * spare + HALF).saturating_sub(load);
     spare + halves.saturating_sub(spare)
+}
+
+// How many places of the halves are taken.
+fn load_of<K, V>(chunks: &Chunks<K, V>) -> usize
+    ensures { result ≡ load chunks.now.lists }
+{
+    let row = chunks.row();
+    if row.is_empty() {
+        return HALF;
+    }
+    chunks.extra() + within_half(row[row.len() - 1].len())
+}
+
+// How many pairs of a chunk of such a length its half has.
+fn within_half(len: usize) -> usize
+    ensures within { result ≡ len - (len - 32) }
+    ensures few { result ≤ 32 }
+{
+    len - len.saturating_sub(HALF)
 }
 
 // Keeps empty chunks until so many insertions fit.

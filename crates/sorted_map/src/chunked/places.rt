@@ -8,7 +8,7 @@ ghost use Rattle.sorted_map.specs.Homes.{place_in, starts_above, IsHome};
 
 use crate::chunks::Chunk;
 use crate::keys::Probe;
-use crate::places::place;
+use crate::places::{place, place_from_end};
 
 /// The chunk of the probe's key, and its place there, or that where it would go.
 pub(crate) fn spot<K: Ord, V, Q: Probe<K>>(
@@ -27,6 +27,28 @@ pub(crate) fn spot<K: Ord, V, Q: Probe<K>>(
     }
     let home = home(chunks, q);
     (home, place(chunks[home].pairs(), q))
+}
+
+/// The same, but the end is tried first: keys often come in their order, or nearly so.
+pub(crate) fn spot_from_end<K: Ord, V, Q: Probe<K>>(
+    chunks: &[Chunk<K, V>],
+    q: &Q,
+) -> (usize, Result<usize, usize>)
+    requires sorted { T (is_sorted K.cmp (flat chunks.now)) }
+    requires some { AllSome chunks.now }
+    ensures found { OnOk result.1 (result.0 < length chunks.now) }
+    ensures home { 0 < length chunks.now → result.0 < length chunks.now }
+    ensures within { IsSearchInRange result.1 (length (slice_index_or chunks.now result.0 [])) }
+    ensures place { IsPlace K.cmp (Q.key q.now) (flat chunks.now) (place_in chunks.now result.0 result.1) }
+{
+    if chunks.is_empty() {
+        return (0, Err(0));
+    }
+    let last = chunks.len() - 1;
+    if starts_above(&chunks[last], q) {
+        return spot(chunks, q);
+    }
+    (last, place_from_end(chunks[last].pairs(), q))
 }
 
 // The chunk where the probe's key stands or would go.

@@ -1,6 +1,8 @@
 //! A chunk: some pairs, in memory for 64 of them.
 ghost use Rattle.std.specs.Prelude.{◌≡◌, ◌+◌, ◌<◌, ◌≤◌, ◌++◌, [], length, take, drop, IfOk, slice_set, slice_index_or, insert, remove};
 ghost use Rattle.std.specs.Borrow.{sem};
+ghost use Rattle.std.specs.List.{AllZip};
+ghost use Rattle.sorted_map.specs.Clones.{ClonePair};
 
 use crate::chunks::vectors::{move_back, put_at, replaced};
 use std::alloc::{AllocError, Global};
@@ -45,6 +47,13 @@ impl<K, V> Chunk<K, V> {
         ensures few { length self.now ≤ 64 }
     {
         &self.pairs
+    }
+
+    /// The pairs, given away.
+    pub(crate) fn into_pairs(self) -> Vec<(K, V)>
+        ensures { result.items ≡ self }
+    {
+        self.pairs
     }
 
     /// How many pairs there are.
@@ -118,5 +127,16 @@ impl<K: Drop, V: Drop> Chunk<K, V> {
         ensures empty { other.new ≡ [] }
     {
         let _ = self.pairs.append(&mut other.pairs);
+    }
+}
+
+impl<K: Clone, V: Clone> Clone for Chunk<K, V> {
+    ghost is_clone = { AllZip (ClonePair K.is_clone V.is_clone) };
+
+    /// A chunk of clones of the pairs.
+    fn clone(&self) -> Result<Self, AllocError> {
+        let mut pairs = Vec::with_capacity(*self.pairs.allocator(), MOST)?;
+        pairs.extend_with_clones(&self.pairs)?;
+        Ok(Chunk { pairs })
     }
 }

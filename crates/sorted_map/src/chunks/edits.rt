@@ -23,6 +23,10 @@ pub fn put_new<K: Drop, V: Drop>(chunks: &mut Chunks<K, V>, home: usize, at: usi
         put_within(chunks, home, at, pair);
         return;
     }
+    if at == MOST && home + 1 == chunks.row().len() {
+        put_behind(chunks, home, pair);
+        return;
+    }
     put_apart(chunks, home, at, pair);
     join(chunks, home + 1);
     if 0 < home {
@@ -40,6 +44,21 @@ fn put_first<K: Drop, V: Drop>(chunks: &mut Chunks<K, V>, pair: (K, V))
 {
     chunks.open();
     chunks.put_at(0, 0, pair);
+}
+
+// Puts a pair behind all others, in a chunk of its own. The last chunk is full, and stays so.
+fn put_behind<K: Drop, V: Drop>(chunks: &mut Chunks<K, V>, home: usize, pair: (K, V))
+    requires some { AllSome chunks.old.lists }
+    requires last { home + 1 ≡ length chunks.old.lists }
+    requires full { length (slice_index_or chunks.old.lists home []) ≡ 64 }
+    requires room { 0 < room_in chunks.old }
+    ensures items { flat chunks.new.lists ≡ insert (flat chunks.old.lists) (start chunks.old.lists home + 64) pair }
+    ensures some { AllSome chunks.new.lists }
+    ensures room { room_in chunks.old ≤ room_in chunks.new + 1 }
+{
+    let next = chunks.row().len();
+    chunks.open();
+    chunks.put_at(next, 0, pair);
 }
 
 // Puts a pair into a chunk that isn't full.

@@ -1,6 +1,8 @@
 //! Chunks in a row, with empty ones beside them that are kept as room.
 ghost use Rattle.std.specs.Prelude.{◌≡◌, ◌+◌, ◌-◌, ◌<◌, ◌≤◌, ◌^◌, ◌++◌, ◌∷◌, [], length, take, drop, OnOk, OnErr, slice_set, slice_index_or, insert, remove, vec_len, vec_capacity};
-ghost use Rattle.sorted_map.specs.Chunks.{AllFew, total, over};
+ghost use Rattle.std.specs.List.{AllZip};
+ghost use Rattle.sorted_map.specs.Chunks.{AllFew, AllSome, flat, total, over};
+ghost use Rattle.sorted_map.specs.Clones.{ClonePair};
 ghost use Rattle.std.specs.Borrow.{sem};
 
 use crate::chunks::chunk::{Chunk, HALF};
@@ -77,7 +79,8 @@ impl<K, V> Chunks<K, V> {
 
     /// How many pairs the chunks have beyond their halves of 32, added up.
     pub fn extra(&self) -> usize
-        ensures { result ≡ over self.now.lists }
+        ensures extra { result ≡ over self.now.lists }
+        ensures few { result ≤ 70368744177664 }
     {
         self.extra
     }
@@ -158,6 +161,13 @@ impl<K, V> Chunks<K, V> {
 }
 
 impl<K: Drop, V: Drop> Chunks<K, V> {
+    /// The chunks in their order, given away.
+    pub(crate) fn into_row(self) -> Vec<Chunk<K, V>>
+        ensures { result.items ≡ self.lists }
+    {
+        self.row
+    }
+
     /// Puts a pair in at a place of a chunk that isn't full.
     pub(crate) fn put_at(&mut self, home: usize, at: usize, pair: (K, V))
         requires home { home < length self.old.lists }
@@ -224,6 +234,23 @@ impl<K: Drop, V: Drop> Chunks<K, V> {
         self.row[home].take_all(&mut next);
         self.spare.push_reserved(next);
         self.ready += 1;
+    }
+}
+
+impl<K: Clone, V: Clone> Clone for Chunks<K, V> {
+    ghost is_clone = { λ old new. AllZip (ClonePair K.is_clone V.is_clone) (flat old.lists) (flat new.lists) × (AllSome old.lists → AllSome new.lists) };
+
+    /// Clones of the pairs, in as many chunks, and no room.
+    fn clone(&self) -> Result<Self, AllocError> {
+        let row = self.row.clone()?;
+        let spare = Vec::with_capacity(*self.row.allocator(), row.len())?;
+        Ok(Chunks {
+            row,
+            spare,
+            ready: 0,
+            len: self.len,
+            extra: self.extra,
+        })
     }
 }
 

@@ -48,8 +48,6 @@ pub(crate) fn move_back<T: Drop>(from: &mut Vec<T>, to: &mut Vec<T>, count: usiz
     ensures to_capacity { vec_capacity to.new ≡ vec_capacity to.old }
 {
     for _ in 0..count {
-        if let Some(item) = from.pop() {
-            to.push_reserved(item);
-        }
+        to.push_reserved(from.take_last());
     }
 }

@@ -4,6 +4,7 @@ ghost use Rattle.std.specs.FinMap as map;
 ghost use Rattle.std.specs.FinMap.{is_sorted};
 ghost use Rattle.sorted_map.specs.SortedMap.{contents, first_pair, last_pair};
 
+use crate::chunks::IntoIter;
 use crate::keys::{ExactOrd, Probe};
 use crate::places::place;
 use std::alloc::{AllocError, Global};
@@ -83,6 +84,14 @@ impl<K: ExactOrd, V> FlatMap<K, V> {
     /// The allocator.
     pub fn allocator(&self) -> Global {
         *self.pairs.allocator()
+    }
+
+    /// The pairs in the order of their keys, given away.
+    pub(crate) fn into_iter(self) -> IntoIter<K, V>
+        ensures { result ≡ self.entries }
+    {
+        let none = Vec::new(*self.pairs.allocator());
+        IntoIter::new(self.pairs, none)
     }
 
     /// Makes room for `additional` more keys, so that as many insertions cannot fail.

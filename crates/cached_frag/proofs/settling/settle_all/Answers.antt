@@ -1,25 +1,31 @@
--- All names are to come at first.
-use Rattle.std.proofs.Common.{◌≡◌, ◌∙◌, List, ℕ, length, ap, sym, refl, arith}
+use Rattle.std.proofs.Common.{◌≡◌, sym, ap, subst, ◌∙◌, arith}
 use Rattle.std.specs.FinMap as map
-use Rattle.std.specs.FinMap.{len-entries}
 use Rattle.objstore.specs.Omap.{key_cmp}
 use Rattle.sorted_map.specs.SortedMap.{contents}
-use Rattle.cached_frag.specs.declared.marks.Mark.{Mark}
-use Rattle.cached_frag.specs.Settling.{settled_in}
-use Rattle.cached_frag.proofs.SettledLaws.{settled_is}
+use Rattle.cached_frag.specs.declared.bases.Base.TheVariants.{Stored}
+use Rattle.cached_frag.specs.Marks.{patched}
+use Rattle.cached_frag.specs.Cached.{AreEntries}
+use Rattle.cached_frag.proofs.SettledLaws.{all_settled, none_dirty}
+use Rattle.cached_frag.proofs.ShownLaws.{only_below, shown_entries}
 use Rattle.cached_frag.proofs.settling.settle_all.Goals as goal
 
-pub loop-name-init : goal.loop-name-init
-loop-name-init c =
-    let rows : c.into_iter-name-iterator.result ≡ map.entries c.args.names.now = c.into_iter-name-iterator.ensures.into_iter_gives ∙ ap map.entries c.as_map-name-items.ensures.names in
-    let count : length c.into_iter-name-iterator.result ≡ length (map.entries c.args.names.now) = ap (length {A = List ℕ × Mark}) rows in
-    record {
-      dirty = ap (settled_in (contents key_cmp c.args.dirty.now)) rows;
-      shown = refl;
-      entries = c.requires.entries;
-      marks = c.requires.marks;
-      room = omega (arith, count, len-entries c.args.names.now, c.requires.room);
-    }
+pub make_clean-requires : goal.make_clean-requires
+make_clean-requires c =
+    let same : map.len (contents key_cmp c.take.result) ≡ map.len c.args.names.now = ap (λ s. map.len (contents key_cmp s)) c.take.ensures.taken ∙ ap map.len (c.are_these.ensures.0 c.if-are_these.true) in
+    omega (arith, same, c.requires.room)
 
-pub returns-clause-dirty : goal.returns-clause-dirty
-returns-clause-dirty c = sym (ap (settled_in (contents key_cmp c.loop-name.dirty)) c.in-None.ensures.steps.0) ∙ c.loop-name.invariant.dirty ∙ settled_is (contents key_cmp c.args.dirty.now) c.args.names.now
+pub returns-then-are_these-clause-dirty : goal.returns-then-are_these-clause-dirty
+returns-then-are_these-clause-dirty c = c.take.ensures.empty ∙ sym (all_settled (contents key_cmp c.args.dirty.now) c.args.names.now (c.are_these.ensures.0 c.if-are_these.true))
+
+pub returns-then-are_these-clause-shown : goal.returns-then-are_these-clause-shown
+returns-then-are_these-clause-shown c =
+    only_below (contents key_cmp c.make_clean.new.clean) (contents key_cmp c.take.new.self) c.take.ensures.empty
+    ∙ c.make_clean.ensures ∙ ap (λ s. patched (contents key_cmp c.args.clean.now) (contents key_cmp s)) c.take.ensures.taken
+
+pub returns-then-are_these-clause-entries : goal.returns-then-are_these-clause-entries
+returns-then-are_these-clause-entries c =
+    let is = c.make_clean.ensures ∙ ap (λ s. patched (contents key_cmp c.args.clean.now) (contents key_cmp s)) c.take.ensures.taken in
+    subst AreEntries (sym is) (shown_entries (Stored 0) (contents key_cmp c.args.clean.now) (contents key_cmp c.args.dirty.now) tt c.requires.entries c.requires.marks)
+
+pub returns-then-are_these-clause-marks : goal.returns-then-are_these-clause-marks
+returns-then-are_these-clause-marks c = none_dirty _ c.take.ensures.empty

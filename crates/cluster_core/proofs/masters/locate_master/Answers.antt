@@ -1,4 +1,4 @@
-use Rattle.mds_types.specs.Step.{destination_of}
+use Rattle.mds_types.specs.Shape.{destination_of}
 use Rattle.namespace_ops.specs.Places.{main_hash}
 use Rattle.mdcache.specs.Core.{state_of as tree_state}
 use Rattle.mdcache.specs.Shown.{shown_tree}

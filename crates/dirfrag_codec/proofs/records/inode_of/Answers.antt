@@ -6,5 +6,4 @@ use Rattle.dirfrag_codec.proofs.records.inode_of.Goals as goal
 pub returns-in_err-kind-clause-memory : goal.returns-in_err-kind-clause-memory
 returns-in_err-kind-clause-memory c =
     on_err c.from_residual.result
-    (link_fields (record { kind = c.args.fields.kind; ino = c.args.fields.ino; mode = c.args.fields.mode; size = c.args.fields.size; mtime = c.args.fields.mtime; target = c.args.fields.target.now })
-    c.in-Some.ensures.0 (sym c.if-not-fits_kind.ensures) c.in_err-kind.ensures.memory)
+    (link_fields _ c.in-Some-pin_of.pin c.in-Some.ensures.0 (sym c.if-not-fits_kind.ensures) c.in-Some-pin_of.ensures c.in_err-kind.ensures.memory)

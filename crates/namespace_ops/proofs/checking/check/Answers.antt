@@ -1,5 +1,5 @@
 use Rattle.std.proofs.Common.{IfOk, inr, refl, subst}
-use Rattle.mds_types.specs.declared.operations.Op.TheVariants.{Lookup, Readdir, Readlink, Setattr, Unlink, Rmdir, Rename}
+use Rattle.mds_types.specs.declared.operations.Op.TheVariants.{Lookup, Readdir, Readlink, SetPin, Setattr, Unlink, Rmdir, Rename}
 use Rattle.mds_types.specs.Step.{names_after, page}
 use Rattle.namespace_ops.specs.Checked.{Checks}
 use Rattle.namespace_ops.proofs.CheckedParts.{main_at, reads_inside, source_at, step_at, step_from}
@@ -18,7 +18,10 @@ pub returns-in-Readlink-clause-checked : goal.returns-in-Readlink-clause-checked
 returns-in-Readlink-clause-checked g c = step_at _ _ _ _ (Readlink c.in-Readlink.dentry) c.in-Readlink.is c.args.number.0 _ c.args.places c.in-Some.at c.requires c.in-Some.is refl (c.read_link.ensures.checked c.args.number.0)
 
 pub returns-in-Setattr-clause-checked : goal.returns-in-Setattr-clause-checked
-returns-in-Setattr-clause-checked g c = step_at _ _ _ _ (Setattr c.in-Setattr.dentry c.in-Setattr.attributes) c.in-Setattr.is c.args.number.0 _ c.args.places c.in-Some.at c.requires c.in-Some.is refl (c.set_attributes.ensures.checked c.args.number.0)
+returns-in-Setattr-clause-checked g c = step_at _ _ _ _ (Setattr c.in-Setattr.dentry c.in-Setattr.attributes) c.in-Setattr.is c.args.number.0 _ c.args.places c.in-Some.at c.requires c.in-Some.is refl (c.alter.ensures.checked c.args.number.0)
+
+pub returns-in-SetPin-clause-checked : goal.returns-in-SetPin-clause-checked
+returns-in-SetPin-clause-checked g c = step_at _ _ _ _ (SetPin c.in-SetPin.dentry c.in-SetPin.pin) c.in-SetPin.is c.args.number.0 _ c.args.places c.in-Some.at c.requires c.in-Some.is refl (c.alter-in-SetPin.ensures.checked c.args.number.0)
 
 pub returns-in-Unlink-clause-checked : goal.returns-in-Unlink-clause-checked
 returns-in-Unlink-clause-checked g c = step_at _ _ _ _ (Unlink c.in-Unlink.dentry) c.in-Unlink.is c.args.number.0 _ c.args.places c.in-Some.at c.requires c.in-Some.is refl (c.unlink.ensures.checked c.args.number.0)

@@ -6,4 +6,4 @@ pub returns-in_err-bytes : goal.returns-in_err-bytes
 unfolding symlink_of
 returns-in_err-bytes c =
     let from = c.from_residual-in_err-bytes.ensures in
-    gives_fault _ c.from_residual-in_err-bytes.result c.in_err-bytes.field-0.0 _ from.0 from.1 (rw (c.in_ok-dir.ensures, c.in_ok-dir-2.ensures) (target_fails _ _ _ _ c.in_err-bytes.ensures))
+    gives_fault _ c.from_residual-in_err-bytes.result c.in_err-bytes.field-0.0 _ from.0 from.1 (rw (c.in_ok-dir.ensures, c.in_ok-word.ensures, c.in_ok-to.ensures, c.in_ok-dir-2.ensures, c.in_ok-birth.ensures) (target_fails _ _ _ _ c.in_err-bytes.ensures))

@@ -1,7 +1,7 @@
 -- The pairs of the maps are the entries that the contract compares.
-use Rattle.std.proofs.Common.{rules}
 use Rattle.objstore.specs.Omap.{key_cmp}
 use Rattle.sorted_map.proofs.MapLaws.{entries-contents}
+use Rattle.cached_frag.specs.SameMarks.{mark_decides}
 use Rattle.cached_frag.proofs.dirty_names.DirtyNamesPartialEq.eq.Goals as goal
 
 pub returns-clause-value : goal.returns-clause-value
@@ -11,4 +11,4 @@ returns-clause-value c =
 
 -- two are the same where their maps are
 pub returns-clause-same : goal.returns-clause-same
-returns-clause-same c = rw (← c.self.view_is, ← c.other.view_is) (c.eq.ensures.exact (λ a b. search rules))
+returns-clause-same c = rw (← c.self.view_is, ← c.other.view_is) (c.eq.ensures.exact mark_decides)

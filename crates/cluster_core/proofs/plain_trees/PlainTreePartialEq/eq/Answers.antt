@@ -1,5 +1,5 @@
 -- The pairs of the maps are the entries of the trees.
-use Rattle.std.proofs.Common.{rules}
+use Rattle.mds_types.specs.InodeLaws.{inode_decides}
 use Rattle.mds_types.specs.Tree.{dentry_cmp}
 use Rattle.sorted_map.proofs.MapLaws.{entries-contents}
 use Rattle.cluster_core.proofs.plain_trees.PlainTreePartialEq.eq.Goals as goal
@@ -11,4 +11,4 @@ returns-clause-value c =
 
 -- two trees are the same where their maps are
 pub returns-clause-same : goal.returns-clause-same
-returns-clause-same c = rw (← c.self.view_is, ← c.other.view_is) (c.eq.ensures.exact (λ a b. search rules))
+returns-clause-same c = rw (← c.self.view_is, ← c.other.view_is) (c.eq.ensures.exact inode_decides)

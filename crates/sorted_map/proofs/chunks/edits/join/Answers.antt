@@ -1,6 +1,6 @@
 use Rattle.std.proofs.Common.{◌+◌, ◌<◌, [], length, get_or, subst, sym, ap, ◌∙◌, arith, length-append}
 use Rattle.sorted_map.specs.Chunks.{flat, load, AllSome}
-use Rattle.sorted_map.proofs.FlatLaws.{flat_joined, read_len, some_at, some_set, some_remove}
+use Rattle.sorted_map.proofs.FlatLaws.{flat_joined, some_at, some_set, some_remove}
 use Rattle.sorted_map.proofs.RoomLaws.{room_joined, join_load}
 use Rattle.sorted_map.proofs.chunks.edits.join.Goals as goal
 
@@ -23,7 +23,5 @@ returns-then-len-le-MOST-clause-room g c =
     let row = c.row-row.result.now in
     let same = c.row-row.ensures.row in
     let next : c.args.home + 1 < length row = omega (arith, c.if-home-saturating_sub.true, c.saturating_sub.ensures) in
-    let first = read_len row old.lists c.args.home c.len.result c.index-row-home.result same (omega (arith, next)) c.index-row-home.is c.len.ensures.len in
-    let second = read_len row old.lists (c.args.home + 1) c.len-then-home-saturating_sub.result c.index-row-home-then-home-saturating_sub.result same next c.index-row-home-then-home-saturating_sub.is c.len-then-home-saturating_sub.ensures.len in
-    let load_is = join_load old.lists c.args.home (omega (arith, next, ap length same)) (omega (arith, first, second, c.if-len-le-MOST.true)) in
+    let load_is = join_load old.lists c.args.home (omega (arith, next, ap length same)) in
     room_joined old.spare new.spare (load old.lists) (load new.lists) c.move_down.ensures.spare (omega (arith, ap load c.move_down.ensures.lists, load_is))

@@ -2,7 +2,7 @@ use Rattle.std.proofs.Common.{◌≡◌, ◌+◌, [], length, get_or, set, subst
 use Rattle.sorted_map.specs.Chunks.{flat, start, load, room_by, AllSome}
 use Rattle.sorted_map.proofs.ChunkLaws.{one_of}
 use Rattle.sorted_map.proofs.FlatLaws.{flat_set, flat_get, some_set}
-use Rattle.sorted_map.proofs.RoomLaws.{set_load}
+use Rattle.sorted_map.proofs.RoomLaws.{same_load}
 use Rattle.sorted_map.proofs.chunks.edits.put_value.Goals as goal
 
 pub returns-clause-items : goal.returns-clause-items
@@ -29,5 +29,5 @@ returns-clause-room g c =
     let d = one_of chunk c.args.at c.requires.within in
     let new = set chunk c.args.at ((get_or chunk c.args.at d).0, c.args.value) in
     let len : length new ≡ length chunk = length-set chunk c.args.at ((get_or chunk c.args.at d).0, c.args.value) in
-    let loads : load c.replaced.new.self.lists ≡ load cs = omega (arith, ap load (c.replaced.ensures.lists d), set_load cs c.args.home new c.requires.home, len) in
+    let loads : load c.replaced.new.self.lists ≡ load cs = ap load (c.replaced.ensures.lists d) ∙ same_load cs c.args.home new len in
     (λ i. room_by (c.replaced.ensures.spare i) (loads i))

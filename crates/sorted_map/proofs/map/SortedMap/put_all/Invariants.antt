@@ -1,4 +1,4 @@
-use Rattle.std.proofs.Common.{◌≡◌, ◌+◌, ◌≤◌}
+use Rattle.std.proofs.Common.{◌≡◌, ◌+◌, ◌≤◌, length}
 use Rattle.std.specs.FinMap as map
 use Rattle.sorted_map.specs.SortedMap.{contents}
 use Rattle.sorted_map.specs.Overlay.{with_pairs}
@@ -7,10 +7,7 @@ use Rattle.sorted_map.proofs.map.SortedMap.put_all.Given as goal
 -- what is left to put in, put in, makes the whole
 abbrev pub invariant-loop-pair : goal.invariant-loop-pair
 invariant-loop-pair g l = record {
-  whole : with_pairs (contents g.K.Ord.cmp l.self) (map.entries (contents g.K.Ord.cmp l.over)) ≡ with_pairs (contents g.K.Ord.cmp l.fn.self) (map.entries (contents g.K.Ord.cmp l.fn.over));
-  few : map.len (contents g.K.Ord.cmp l.over) ≤ l.self.room;
-  room : l.fn.self.room + map.len (contents g.K.Ord.cmp l.over) ≤ l.self.room + map.len (contents g.K.Ord.cmp l.fn.over);
+  whole : with_pairs (contents g.K.Ord.cmp l.self) l.pair-iterator ≡ with_pairs (contents g.K.Ord.cmp l.fn.self) (map.entries (contents g.K.Ord.cmp l.fn.over));
+  few : length l.pair-iterator ≤ l.self.room;
+  room : l.fn.self.room + length l.pair-iterator ≤ l.self.room + map.len (contents g.K.Ord.cmp l.fn.over);
 }
-
-abbrev pub decreases-loop-pair : goal.decreases-loop-pair
-decreases-loop-pair g l = map.len (contents g.K.Ord.cmp l.over)

@@ -3,11 +3,11 @@ use Rattle.std.specs.FinMap as map
 use Rattle.std.specs.Cmp.{IsTotalOrder}
 use Rattle.std.specs.FinMap.Entries.{is_sorted}
 use Rattle.sorted_map.specs.Places.{IsAt}
-use Rattle.sorted_map.specs.Chunks.{flat, start, load, room_by, with_value}
+use Rattle.sorted_map.specs.Chunks.{flat, start, room_by, with_value}
 use Rattle.sorted_map.proofs.ChunkLaws.{one_of}
 use Rattle.sorted_map.proofs.ContentLaws.{put_in_place, same_loan, value_at, got_gap}
 use Rattle.sorted_map.proofs.FlatLaws.{flat_get, some_at, some_set, value_flat, value_length}
-use Rattle.sorted_map.proofs.RoomLaws.{set_load}
+use Rattle.sorted_map.proofs.RoomLaws.{same_load}
 use Rattle.std.specs.FinMap.{entries-from_sorted}
 use Rattle.sorted_map.proofs.chunked.map.ChunkMap.get_mut.Goals as goal
 
@@ -17,9 +17,6 @@ written : {K V : Type 0} {R : K → K → Ordering} (o : IsTotalOrder R) (k : K)
 written {R = R} o k w cs i at s place lt within =
     let new = put_in_place o k w (flat cs) _ _ s place (λ d. value_flat cs i at d w lt within) in
     sym (entries-from_sorted R _ new.0) ∙ ap map.entries new.1
-
-same_load : {K V : Type 0} (cs : List (List (K × V))) (i at : ℕ) (w : V) → i < length cs → load (set cs i (with_value (get_or cs i []) at w)) ≡ load cs
-same_load cs i at w lt = omega (arith, set_load cs i (with_value (get_or cs i []) at w) lt, value_length (get_or cs i []) at w)
 
 -- the order does not read the values
 pub invariant_of-self-lent : goal.invariant_of-self-lent
@@ -45,7 +42,7 @@ returns-in_default-Ok g c =
     rw (← c.self.view_is) (
       same_loan _ _ _ (λ w i. record {
         entries = written g.met.K.Ord.total key w cs home at c.self.invariant.0 found.place found.found found.within i;
-        room = room_by c.self.inside.chunks.spare (same_load cs home at w found.found i);
+        room = room_by c.self.inside.chunks.spare (same_load cs home (with_value (get_or cs home []) at w) (value_length (get_or cs home []) at w) i);
       }),
       record { writes_back = tt; value = ap Some value ∙ value_at _ _ c.self.invariant.0 _ _ d found.place },
     )

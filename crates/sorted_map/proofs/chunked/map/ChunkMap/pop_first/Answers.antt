@@ -12,6 +12,15 @@ pub returns-then-is_empty-clause-rest : goal.returns-then-is_empty-clause-rest
 returns-then-is_empty-clause-rest g c =
     rw (← c.self.view_is) (none_rest _ _ c.self.invariant.0 (flat_none _ (ap length (sym c.row.ensures.row) ∙ eqb-true _ 0 (sym c.is_empty.ensures ∙ c.if-is_empty.true))))
 
+pub invariant_of-self : goal.invariant_of-self
+invariant_of-self g c =
+    let cs = c.self.inside.chunks.lists in
+    let any = not_none c.row.result.now (sym c.is_empty.ensures ∙ c.if-is_empty.false) in
+    let some = flat_some cs c.self.invariant.1 (omega (arith, any, ap length c.row.ensures.row)) in
+    let value = c.take_out.ensures.value c.take_out.result ∙ ap (λ n. get_or (flat cs) n c.take_out.result) (start_none cs) in
+    let items = c.take_out.ensures.items ∙ ap (remove (flat cs)) (start_none cs) in
+    ((first_taken g.met.K.Ord.total g.met.K.ExactOrd.exact _ _ _ c.self.invariant.0 some value items).0, c.take_out.ensures.some)
+
 pub returns-clause-value : goal.returns-clause-value
 returns-clause-value g c =
     let cs = c.self.inside.chunks.lists in
