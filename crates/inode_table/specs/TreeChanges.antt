@@ -1,15 +1,17 @@
 -- Which changes a tree with directories can take, and what they leave of each directory's leaves.
-use Rattle.std.specs.Prelude.{◌≡◌, ℕ, true, false, ◌&&◌, Some, None}
+use Rattle.std.specs.Prelude.{◌≡◌, ℕ, ◌<◌, ◌^◌, true, false, ◌&&◌, Some, None}
 use Rattle.std.specs.FinMap as map
 use Rattle.mds_types.specs.declared.dentries.Dentry.{Dentry}
 use Rattle.mds_types.specs.declared.inodes.Inode.{Inode}
-use Rattle.mds_types.specs.Tree.{Tree, is_directory, is_dir_kind, has_entries, HasPinOf, HasSize, IsUnused}
+use Rattle.mds_types.specs.Tree.{Tree, is_directory, is_dir_kind, entries_in, has_entries, HasPinOf, HasSize, IsUnused}
 use Rattle.inode_table.specs.Dirs.{Covers, leaves_of}
 
--- a new inode may come: to a free dentry of a directory, with a number that is unused, and the size and the pin that its kind allows
+-- a new inode may come: to a free dentry of a directory with fewer entries than the largest limit, with a number that is unused, and the size
+-- and the pin that its kind allows
 pub record MayAdd (tree : Tree) (dentry : Dentry) (inode : Inode) : Type 0 where
   pub free : map.get tree dentry ≡ None
   pub parent : is_directory tree dentry.dir.0 ≡ true
+  pub spaced : entries_in tree dentry.dir.0 < 2 ^ 20
   pub unused : IsUnused tree inode.ino.0
   pub sized : HasSize inode.kind inode.size
   pub pinned : HasPinOf inode.kind inode.pin

@@ -1,7 +1,7 @@
 -- The operation table: what each operation answers on the plain tree, and what it leaves. Each operation's checks come in
 -- the order in which they stand here; an errno changes nothing.
 -- What operations do when they succeed is POSIX.1's; the order of the checks and the errno numbers are this project's own profile.
-use Rattle.std.specs.Prelude.{ℕ, Bool, true, false, cond, ◌&&◌, ◌||◌, ◌==◌, nat_lt, List, map, filter, take, length, Option, Some, None, unwrap_or, ◌≡◌}
+use Rattle.std.specs.Prelude.{ℕ, Bool, true, false, cond, ◌&&◌, ◌||◌, ◌==◌, nat_lt, List, map, filter, take, length, Option, Some, None, unwrap_or, Unit, ◌≡◌, ◌<◌, ◌^◌}
 use Rattle.std.specs.Ordering.{is_lt, eq_by_cmp}
 use Rattle.std.specs.Cmp.Lexicographic.{slice_cmp}
 use Rattle.std.specs.Ordering.{nat_cmp, eq_by_cmp}
@@ -20,7 +20,7 @@ use Rattle.mds_types.specs.declared.operations.Op.{Op}
 use Rattle.mds_types.specs.declared.replies.Reply.{Reply}
 use Rattle.mds_types.specs.declared.replies.Reply.TheVariants.{Entry, Entries, Done, Errno}
 use Rattle.mds_types.specs.Shape.{Shape, Looks, Lists, Makes, Sets, Unlinks, Removes, Moves, destination_in, directory_in, shape}
-use Rattle.mds_types.specs.Tree.{Tree, dentry_cmp, is_directory, is_dir_kind, is_above, has_entries}
+use Rattle.mds_types.specs.Tree.{Tree, dentry_cmp, is_directory, is_dir_kind, is_above, entries_in, has_entries}
 
 -- what one step of the table gives: the reply, the tree that it leaves, and whether it took the number that it was offered
 pub record Outcome : Type 0 where
@@ -181,6 +181,11 @@ abbrev pub number_or : Option Ino → ℕ
 number_or None = 0
 number_or (Some ino) = ino.0
 
+-- what comes to an absent name of another directory finds fewer entries there than the largest limit
+abbrev pub HasSpace : Tree → (from to : Dentry) → Option Inode → Type 0
+HasSpace tree from to None = (from.dir.0 == to.dir.0) ≡ false → entries_in tree to.dir.0 < 2 ^ 20
+HasSpace tree from to (Some target) = Unit {0}
+
 -- the table moves this inode from one dentry to another
 pub record IsMove (tree : Tree) (from to : Dentry) (inode : Inode) : Type 0 where
   pub stands : map.get tree from ≡ Some inode
@@ -188,3 +193,4 @@ pub record IsMove (tree : Tree) (from to : Dentry) (inode : Inode) : Type 0 wher
   pub parent : is_directory tree to.dir.0 ≡ true
   pub outside : leads_to tree inode to.dir.0 ≡ false
   pub replaces : replace_errno tree inode (map.get tree to) ≡ None
+  pub spaced : HasSpace tree from to (map.get tree to)

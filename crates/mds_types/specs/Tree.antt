@@ -61,6 +61,14 @@ is_above_within (suc n) tree d x = list_any (λ e. (e.1.ino.0 == x) && ((e.0.dir
 unfoldable pub is_above : Tree → ℕ → ℕ → Bool
 is_above tree d x = is_above_within (map.len tree) tree d x
 
+-- a dentry is in the directory of this number
+abbrev pub is_in : ℕ → Dentry → Bool
+is_in d dentry = dentry.dir.0 == d
+
+-- how many entries a directory has
+unfoldable pub entries_in : Tree → ℕ → ℕ
+entries_in tree d = map.len (map.retain_keys tree (is_in d))
+
 -- whether a directory has an entry
 unfoldable pub has_entries : Tree → ℕ → Bool
 has_entries tree d = list_any (λ e. e.0.dir.0 == d) (map.entries tree)
