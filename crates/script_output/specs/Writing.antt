@@ -5,7 +5,7 @@ use Rattle.mds_types.specs.declared.object_names.ObjName.{ObjName}
 use Rattle.mds_types.specs.declared.refusals.Refusal.{Refusal}
 use Rattle.mds_types.specs.declared.refusals.Refusal.TheVariants.{Damaged}
 use Rattle.script_output.specs.declared.lines.OutputLine.{OutputLine}
-use Rattle.script_output.specs.declared.lines.OutputLine.TheVariants.{Reply, Forwarded, Deferred, Queued, Nothing, Flushed, Frags, Subtrees, Authority, Job, Sent, Object, Objects, History, Refused, Errno}
+use Rattle.script_output.specs.declared.lines.OutputLine.TheVariants.{Reply, Forwarded, Deferred, Queued, Nothing, Flushed, Frags, Subtrees, Authority, Job, Sent, Object, Objects, Idle, Own, History, Refused, Errno}
 use Rattle.script_output.specs.declared.writing.OutputFault.{OutputFault}
 use Rattle.script_output.specs.declared.writing.OutputFault.TheVariants.{NoMemory, Write}
 
@@ -53,6 +53,8 @@ TakesText (Job number) = Unit {0}
 TakesText (Sent length) = Unit {0}
 TakesText (Object object) = Unit {0}
 TakesText (Objects names) = Unit {0}
+TakesText Idle = ⊥
+TakesText (Own turn) = Unit {0}
 TakesText (History length) = Unit {0}
 TakesText (Refused refusal) = NamesObject refusal
 TakesText (Errno errno) = Unit {0}

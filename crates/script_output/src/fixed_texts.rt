@@ -19,6 +19,7 @@ pub fn fixed_text(line: &OutputLine) -> Option<&'static str>
         OutputLine::Queued => Some("queued\n"),
         OutputLine::Nothing => Some("nothing\n"),
         OutputLine::Flushed => Some("flushed\n"),
+        OutputLine::Idle => Some("none\n"),
         OutputLine::Refused(refusal) => refused_text(*refusal),
         OutputLine::Reply { .. } => None,
         OutputLine::Forwarded(_) => None,
@@ -29,6 +30,7 @@ pub fn fixed_text(line: &OutputLine) -> Option<&'static str>
         OutputLine::Sent(_) => None,
         OutputLine::Object(_) => None,
         OutputLine::Objects(_) => None,
+        OutputLine::Own(_) => None,
         OutputLine::History(_) => None,
         OutputLine::Errno(_) => None,
     }

@@ -7,6 +7,7 @@ ghost use Rattle.script_output.specs.Writing.{Pushes, PushesMade};
 use crate::fixed_texts::fixed_text;
 use crate::frag_lists::FragList;
 use crate::object_lines::ObjectLine;
+use crate::own_turns::OwnTurn;
 use crate::replies::{Heading, push_reply};
 use crate::root_lists::RootList;
 use crate::word_lists::{ObjectsText, WordList};
@@ -51,6 +52,10 @@ pub enum OutputLine {
     Object(ObjectLine),
     /// `objects K NAME ..`: the names of objects.
     Objects(WordList),
+    /// `none`: a rank had no step of its own to make.
+    Idle,
+    /// `own WHAT INO FRAG RESULT`: the step that a rank made of its own, and what came of it.
+    Own(OwnTurn),
     /// `history LENGTH`: how many entries the history has.
     History(u64),
     /// `refused N`: a step was refused; `refused 17 OBJECT`, where an object is damaged.
@@ -101,8 +106,11 @@ impl OutputLine {
                 out,
                 format!(in alloc; "forwarded {rank}\n"),
             ),
-            OutputLine::Deferred | OutputLine::Queued | OutputLine::Nothing | OutputLine::Flushed =>
-                unreachable!(),
+            OutputLine::Deferred
+            | OutputLine::Queued
+            | OutputLine::Nothing
+            | OutputLine::Flushed
+            | OutputLine::Idle => unreachable!(),
             OutputLine::Frags(leaves) => push_text(out, format!(in alloc; "{leaves}\n")),
             OutputLine::Subtrees(roots) => push_text(out, format!(in alloc; "{roots}\n")),
             OutputLine::Authority(Rank(rank)) => push_text(out, format!(in alloc; "rank {rank}\n")),
@@ -113,6 +121,7 @@ impl OutputLine {
                 let names = ObjectsText(names);
                 push_text(out, format!(in alloc; "{names}\n"))
             }
+            OutputLine::Own(turn) => push_text(out, format!(in alloc; "{turn}\n")),
             OutputLine::History(length) => push_text(out, format!(in alloc; "history {length}\n")),
             OutputLine::Refused(refusal) => {
                 let number = refusal.number();

@@ -2,7 +2,7 @@
 use Rattle.std.specs.Prelude.{ℕ, if◌then◌else◌, List, [], ◌∷◌, codes, Result, Ok, Err}
 use Rattle.std.specs.List.{list_all}
 use Rattle.script_text.specs.declared.commands.Command.{Command}
-use Rattle.script_text.specs.declared.commands.Command.TheVariants.{Operation, Request, Serve, History, Export, Store}
+use Rattle.script_text.specs.declared.commands.Command.TheVariants.{Operation, Request, Serve, Own, History, Export, Store}
 use Rattle.script_text.specs.declared.lines.Line.{Line}
 use Rattle.script_text.specs.declared.lines.Line.TheVariants as line
 use Rattle.script_words.specs.declared.faults.Fault.{Fault}
@@ -22,6 +22,13 @@ serve_of args = do
   word ← one args
   rank ← rank_of word
   Ok (Serve rank)
+
+-- `own RANK`
+unfoldable pub own_of : List (List ℕ) → Result Command Fault
+own_of args = do
+  word ← one args
+  rank ← rank_of word
+  Ok (Own rank)
 
 -- `req RANK CLIENT TID OLDEST OP`
 unfoldable pub req_of : List (List ℕ) → Result Command Fault
@@ -47,6 +54,7 @@ history_of (word ∷ words) = Err NotCommand
 unfoldable pub command_of : List ℕ → List (List ℕ) → Result Command Fault
 command_of verb args =
     if is_text verb (codes "serve") then serve_of args else
+    (if is_text verb (codes "own") then own_of args else
     (if is_text verb (codes "req") then req_of args else
     (if is_text verb (codes "history") then history_of args else
     (if is_text verb (codes "dirfrag") then dirfrag_of args else
@@ -55,7 +63,7 @@ command_of verb args =
     (if is_text verb (codes "authority") then authority_of args else
     (if is_text verb (codes "export") then (export_of args >>= λ command. Ok (Export command)) else
     (if is_store_verb verb then (store_command_of verb args >>= λ command. Ok (Store command)) else
-    (operation_of verb args >>= λ op. Ok (Operation op))))))))))
+    (operation_of verb args >>= λ op. Ok (Operation op)))))))))))
 
 -- the line of a command, or of its fault
 abbrev pub line_from : Result Command Fault → Line

@@ -1,7 +1,7 @@
 //! Commands, by their first word.
 ghost use Rattle.script_words.specs.Words.{words_of};
 ghost use Rattle.script_words.specs.Reading.{Gives, Reads};
-ghost use Rattle.script_text.specs.Script.{command_of, history_of, req_of, serve_of};
+ghost use Rattle.script_text.specs.Script.{command_of, history_of, own_of, req_of, serve_of};
 
 use crate::authorities::{authority, get, grant};
 use crate::dirfrags::dirfrag;
@@ -21,6 +21,8 @@ pub enum Command {
     Request(Rank, Request),
     /// The front of a rank's inbox is served.
     Serve(Rank),
+    /// A rank takes a turn of its own: it makes the step that it proposes.
+    Own(Rank),
     /// How long is the history?
     History,
     /// A leaf of a directory is split by so many bits.
@@ -65,6 +67,9 @@ pub fn read_command(alloc: Global, verb: &[u8], args: &[u8]) -> Result<Command, 
     if verb == b"serve".as_slice() {
         return serve(args);
     }
+    if verb == b"own".as_slice() {
+        return own(args);
+    }
     if verb == b"req".as_slice() {
         return req(alloc, args);
     }
@@ -99,6 +104,15 @@ fn serve(args: &[u8]) -> Result<Command, ReadError>
 {
     let word = one(args)?;
     Ok(Command::Serve(rank(word)?))
+}
+
+// `own RANK`
+#[tactic(auto, unfolding(crate::specs::Script::own_of))]
+fn own(args: &[u8]) -> Result<Command, ReadError>
+    ensures { Reads (λ command. command) result (own_of (words_of args.now)) }
+{
+    let word = one(args)?;
+    Ok(Command::Own(rank(word)?))
 }
 
 // `req RANK CLIENT TID OLDEST OP`
