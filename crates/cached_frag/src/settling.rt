@@ -61,15 +61,18 @@ fn settle_all(
     settle_each(clean, dirty, names);
 }
 
-// Whether the dirty names are just these: none has changed since.
+// So many names are made clean one by one, and their places kept for those that come next.
+const FEW: usize = 32;
+
+// Whether the dirty names are more than a few, and just these: none has changed since.
 fn are_these(dirty: &SortedMap<Name, Mark>, names: &DirtyNames) -> bool
-    ensures { IsTrue result ↔ (contents key_cmp dirty.now ≡ names.now) }
+    ensures { IsTrue result → contents key_cmp dirty.now ≡ names.now }
 {
     // The contract of `len` is what says here that the names of a map rise.
-    let _ = dirty.len();
+    let few = dirty.len() <= FEW;
     let names = names.as_map();
     let _ = names.len();
-    *dirty == *names
+    !few && *dirty == *names
 }
 
 // Makes each of these names clean that hasn't changed since, one after the other.

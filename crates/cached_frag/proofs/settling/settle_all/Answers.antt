@@ -11,11 +11,11 @@ use Rattle.cached_frag.proofs.settling.settle_all.Goals as goal
 
 pub make_clean-requires : goal.make_clean-requires
 make_clean-requires c =
-    let same : map.len (contents key_cmp c.take.result) ≡ map.len c.args.names.now = ap (λ s. map.len (contents key_cmp s)) c.take.ensures.taken ∙ ap map.len (c.are_these.ensures.0 c.if-are_these.true) in
+    let same : map.len (contents key_cmp c.take.result) ≡ map.len c.args.names.now = ap (λ s. map.len (contents key_cmp s)) c.take.ensures.taken ∙ ap map.len (c.are_these.ensures c.if-are_these.true) in
     omega (arith, same, c.requires.room)
 
 pub returns-then-are_these-clause-dirty : goal.returns-then-are_these-clause-dirty
-returns-then-are_these-clause-dirty c = c.take.ensures.empty ∙ sym (all_settled (contents key_cmp c.args.dirty.now) c.args.names.now (c.are_these.ensures.0 c.if-are_these.true))
+returns-then-are_these-clause-dirty c = c.take.ensures.empty ∙ sym (all_settled (contents key_cmp c.args.dirty.now) c.args.names.now (c.are_these.ensures c.if-are_these.true))
 
 pub returns-then-are_these-clause-shown : goal.returns-then-are_these-clause-shown
 returns-then-are_these-clause-shown c =
