@@ -1,5 +1,5 @@
 -- How many entries a directory has once an entry came, was set or went.
-use Rattle.std.specs.Prelude.{◌≡◌, ℕ, ◌<◌, ◌+◌, ◌-◌, Bool, true, false, cond, ◌==◌, List, [], ◌∷◌, length, Option, Some, None, is_some, refl}
+use Rattle.std.specs.Prelude.{◌≡◌, ℕ, ◌<◌, ◌+◌, ◌-◌, Bool, true, false, cond, List, [], ◌∷◌, length, Option, Some, None, is_some, refl}
 use Rattle.std.proofs.Common.{sym, ap, ◌∙◌, arith}
 use Rattle.std.proofs.lemmas.Bool.{eqb-true}
 use Rattle.std.specs.declared.cmp.Ordering.TheVariants.{Equal}
